@@ -1,0 +1,2 @@
+//! Definitions of public standards, for contracts to cite. There is no code here.
+#![tactic(auto)]
