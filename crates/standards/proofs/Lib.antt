@@ -1,1 +1,4 @@
 pub mod ListFacts
+mod AesVectors
+mod HashVectors
+mod ModeVectors

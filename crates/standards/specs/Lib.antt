@@ -1,6 +1,14 @@
 pub mod Lists
 pub mod Aes
 pub mod AesKeys
+pub mod AesInverse
 pub mod Counter
 pub mod Hmac
 pub mod Hkdf
+pub mod Blocks
+pub mod Cmac
+pub mod Ghash
+pub mod Gcm
+pub mod Polyval
+pub mod GcmSiv
+pub mod Siv
