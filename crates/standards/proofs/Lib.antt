@@ -1,4 +1,8 @@
 pub mod ListFacts
-mod AesVectors
-mod HashVectors
-mod ModeVectors
+pub mod Bytes
+pub mod Keystream
+pub mod Lengths
+pub mod AesLengths
+pub mod AesVectors
+pub mod HashVectors
+pub mod ModeVectors
