@@ -3,6 +3,7 @@ pub mod Bytes
 pub mod Keystream
 pub mod Lengths
 pub mod AesLengths
+pub mod AesUndo
 pub mod AesVectors
 pub mod HashVectors
 pub mod ModeVectors
