@@ -16,6 +16,7 @@ push_place xs y d P n i l h before here =
       | inr low ↦ subst P (sym (get_or_append_left xs (y ∷ []) d i (rw l low))) (before i low)
     ]
 
+-- there are m of them
 pub length-key_words : (key : List ℕ) (m : ℕ) → length (key_words key m) ≡ m
 unfolding key_words
 length-key_words key zero = refl
@@ -54,6 +55,7 @@ schedule_word n key (suc m) i pos h =
     push_place (schedule n key m) (word_after n (schedule n key m) (n + m)) [] IsWord (n + m) i (length-schedule n key m) (omega arith) (λ j k. schedule_word n key m j pos k)
     (xor_is_word _ _ (schedule_word n key m (n + m - n) pos (omega arith)) (mixed_is_word n _ (n + m) (schedule_word n key m (n + m - 1) pos (omega arith))))
 
+-- there are r of them
 pub length-round_keys : (ws : List (List ℕ)) (r : ℕ) → length (round_keys ws r) ≡ r
 unfolding round_keys
 length-round_keys ws zero = refl
@@ -87,7 +89,8 @@ length-key_at key i long h =
     let word = λ (j : ℕ) (k : j < n + m). schedule_word n key m j pos k in
     rw (get_or-round_keys (schedule n key m) (n + 7) i h) (four_words _ _ _ _ (word (4 * i) (omega arith)) (word (4 * i + 1) (omega arith)) (word (4 * i + 2) (omega arith)) (word (4 * i + 3) (omega arith)))
 
-length-add : (s k : List ℕ) → IsBlock s → IsBlock k → IsBlock (add_round_key s k)
+-- AddRoundKey of a block and a key of its size
+pub length-add : (s k : List ℕ) → IsBlock s → IsBlock k → IsBlock (add_round_key s k)
 length-add s k p q = length-zip2 bit_xor s k (p ∙ sym q) ∙ p
 
 -- AES gives a block, for a key of a word or more

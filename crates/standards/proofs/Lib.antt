@@ -4,6 +4,9 @@ pub mod Keystream
 pub mod Lengths
 pub mod AesLengths
 pub mod AesUndo
+pub mod AreBytes
+pub mod AesBytes
+pub mod AesRoundTrip
 pub mod AesVectors
 pub mod HashVectors
 pub mod ModeVectors
