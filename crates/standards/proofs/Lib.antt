@@ -1,6 +1,7 @@
 pub mod ListFacts
 pub mod Bytes
 pub mod Keystream
+pub mod BlockFacts
 pub mod Lengths
 pub mod AesLengths
 pub mod AesUndo

@@ -1,8 +1,8 @@
 -- CMAC (SP 800-38B, 2005), over a one-block map E on 16 bytes.
-use Rattle.std.specs.Prelude.{ℕ, zero, suc, ◌-◌, ◌*◌, ◌/◌, ◌%◌, ◌^◌, List, length, drop, replicate, bit_xor, nat_eq, if◌then◌else◌}
+use Rattle.std.specs.Prelude.{ℕ, ◌-◌, ◌*◌, ◌/◌, ◌%◌, ◌^◌, List, length, drop, replicate, bit_xor, nat_eq, if◌then◌else◌}
 use Rattle.std.specs.Int.{w128, from_be_bytes, to_be_bytes}
 use Rattle.standards.specs.Lists.{xor_bytes}
-use Rattle.standards.specs.Blocks.{bit_padded, block_at}
+use Rattle.standards.specs.Blocks.{bit_padded, over_blocks}
 
 -- a number of 128 bits shifted left by one, xor 0x87 where a bit goes out (5.3, 6.1)
 abbrev pub doubled : ℕ → ℕ
@@ -20,10 +20,13 @@ subkey_1 E = double_block (E (replicate 16 0))
 abbrev pub subkey_2 : (List ℕ → List ℕ) → List ℕ
 subkey_2 E = double_block (subkey_1 E)
 
+-- one block more of the chain (6.2, step 6)
+abbrev pub chain_step : (List ℕ → List ℕ) → List ℕ → List ℕ → List ℕ
+chain_step E c block = E (xor_bytes c block)
+
 -- C n: the chain over the first n blocks, all of them whole, from the zero block on (6.2, steps 5 and 6)
-unfoldable pub chain_after : (List ℕ → List ℕ) → List ℕ → ℕ → List ℕ
-chain_after E text zero = replicate 16 0
-chain_after E text (suc n) = E (xor_bytes (chain_after E text n) (block_at text n))
+abbrev pub chain_after : (List ℕ → List ℕ) → List ℕ → ℕ → List ℕ
+chain_after E text n = over_blocks (chain_step E) (replicate 16 0) text n
 
 -- M n: a whole last block xor K1; another, or an empty one, padded and xor K2 (6.2, step 4)
 abbrev pub last_block : (List ℕ → List ℕ) → List ℕ → List ℕ

@@ -1,7 +1,7 @@
 -- GHASH (SP 800-38D, 2007). A block is the number of its 16 bytes, high byte first: its highest bit is the coefficient of x ^ 0.
 use Rattle.std.specs.Prelude.{ℕ, zero, suc, ◌*◌, ◌/◌, ◌%◌, ◌^◌, List, ◌++◌, length, bit_xor}
 use Rattle.std.specs.Int.{w64, w128, from_be_bytes, to_be_bytes}
-use Rattle.standards.specs.Blocks.{block_at, zero_padded}
+use Rattle.standards.specs.Blocks.{over_blocks, zero_padded}
 
 -- the product with x, modulo x^128 + x^7 + x^2 + x + 1 (6.3, V i + 1 from V i)
 unfoldable pub times_x : ℕ → ℕ
@@ -16,14 +16,13 @@ product_low y x (suc m) = bit_xor (times_x (product_low y x m)) (x / 2 ^ m % 2 *
 abbrev pub product : ℕ → ℕ → ℕ
 product x y = product_low y x 128
 
--- one block x more after y, under the hash subkey h (6.4, step 3)
-abbrev pub absorb : ℕ → ℕ → ℕ → ℕ
-absorb h y x = product (bit_xor y x) h
+-- one block more after Y, under the hash subkey h (6.4, step 3)
+abbrev pub absorb : ℕ → ℕ → List ℕ → ℕ
+absorb h y block = product (bit_xor y (from_be_bytes w128 block)) h
 
 -- Y n: the first n blocks of m (6.4)
-unfoldable pub ghash_after : ℕ → List ℕ → ℕ → ℕ
-ghash_after h m zero = 0
-ghash_after h m (suc n) = absorb h (ghash_after h m n) (from_be_bytes w128 (block_at m n))
+abbrev pub ghash_after : ℕ → List ℕ → ℕ → ℕ
+ghash_after h m n = over_blocks (absorb h) 0 m n
 
 -- the lengths of data and text in bits, 64 bits each, high byte first, modulo 2 ^ 64
 abbrev pub length_block : List ℕ → List ℕ → List ℕ

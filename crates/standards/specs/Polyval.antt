@@ -1,7 +1,7 @@
 -- POLYVAL (RFC 8452, 3). A block is the number of its 16 bytes, low byte first: bit i is the coefficient of x ^ i.
 use Rattle.std.specs.Prelude.{ℕ, zero, suc, ◌+◌, ◌*◌, ◌/◌, ◌%◌, ◌^◌, List, ◌++◌, length, bit_xor}
 use Rattle.std.specs.Int.{w64, w128, from_le_bytes, to_le_bytes}
-use Rattle.standards.specs.Blocks.{block_at, zero_padded}
+use Rattle.standards.specs.Blocks.{over_blocks, zero_padded}
 
 -- the product with x ^ -1, modulo x^128 + x^127 + x^126 + x^121 + 1: an odd polynomial is first made even by the modulus
 unfoldable pub over_x : ℕ → ℕ
@@ -16,10 +16,13 @@ dot_low b a (suc m) = over_x (bit_xor (dot_low b a m) (a / 2 ^ m % 2 * b))
 abbrev pub dot : ℕ → ℕ → ℕ
 dot a b = dot_low b a 128
 
+-- one block more after S, under h (3)
+abbrev pub absorb : ℕ → ℕ → List ℕ → ℕ
+absorb h s block = dot (bit_xor s (from_le_bytes w128 block)) h
+
 -- S n: the first n blocks of m under h (3)
-unfoldable pub polyval_after : ℕ → List ℕ → ℕ → ℕ
-polyval_after h m zero = 0
-polyval_after h m (suc n) = dot (bit_xor (polyval_after h m n) (from_le_bytes w128 (block_at m n))) h
+abbrev pub polyval_after : ℕ → List ℕ → ℕ → ℕ
+polyval_after h m n = over_blocks (absorb h) 0 m n
 
 -- the lengths of data and text in bits, 64 bits each, low byte first, modulo 2 ^ 64 (4)
 abbrev pub length_block_le : List ℕ → List ℕ → List ℕ
