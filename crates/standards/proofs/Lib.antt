@@ -2,6 +2,7 @@ pub mod ListFacts
 pub mod Bytes
 pub mod Keystream
 pub mod BlockFacts
+pub mod ByteOrder
 pub mod Lengths
 pub mod AesLengths
 pub mod AesUndo
