@@ -8,30 +8,8 @@ use Rattle.standards.specs.Lists.{AreBytes, xor_bytes}
 use Rattle.standards.specs.Aes.{add_round_key, mix_byte, mix_column, mix_columns, shift_rows, sub_byte, sub_bytes, times, times_terms, xtime}
 use Rattle.standards.specs.AesInverse.{inv_mix_byte, inv_mix_column, inv_mix_columns, inv_shift_rows, inv_sub_byte, inv_sub_bytes}
 use Rattle.standards.proofs.Bytes.{agree, inv_sub_byte-sub_byte, sub_byte-inv_sub_byte}
+use Rattle.standards.proofs.Xor.{bits_times, exchange}
 use Rattle.standards.proofs.ListFacts.{xor_bytes_twice, zip2-xor_bytes}
-
-exchange : (a b c d : ℕ) → bit_xor (bit_xor a b) (bit_xor c d) ≡ bit_xor (bit_xor a c) (bit_xor b d)
-exchange a b c d =
-    xor_assoc a b (bit_xor c d)
-    ∙ ap (λ v. bit_xor a v) (sym (xor_assoc b c d) ∙ ap (λ v. bit_xor v d) (xor_comm b c) ∙ xor_assoc c b d)
-    ∙ sym (xor_assoc a c (bit_xor b d))
-
-bits_times : (p q y : ℕ) → p < 2 → q < 2 → bit_xor p q * y ≡ bit_xor (p * y) (q * y)
-bits_times zero zero y h k =
-    let e : 0 * y ≡ 0 = omega arith in
-    e ∙ sym (ap (λ v. bit_xor v v) e)
-bits_times zero (suc zero) y h k =
-    let e : 0 * y ≡ 0 = omega arith in
-    sym (ap (λ v. bit_xor v (1 * y)) e ∙ xor_zero_l (1 * y))
-bits_times (suc zero) zero y h k =
-    let e : 0 * y ≡ 0 = omega arith in
-    sym (ap (λ v. bit_xor (1 * y) v) e ∙ xor_zero_r (1 * y))
-bits_times (suc zero) (suc zero) y h k =
-    let e : 0 * y ≡ 0 = omega arith in
-    e ∙ sym (xor_self (1 * y))
-bits_times (suc (suc p)) q y h k = absurd (omega arith)
-bits_times zero (suc (suc q)) y h k = absurd (omega arith)
-bits_times (suc zero) (suc (suc q)) y h k = absurd (omega arith)
 
 terms_linear : (n a u v : ℕ) → times_terms n a (bit_xor u v) ≡ bit_xor (times_terms n a u) (times_terms n a v)
 unfolding times_terms

@@ -3,6 +3,10 @@ pub mod Bytes
 pub mod Keystream
 pub mod BlockFacts
 pub mod ByteOrder
+pub mod CounterFacts
+pub mod Xor
+pub mod Products
+pub mod ModesUndo
 pub mod Lengths
 pub mod AesLengths
 pub mod AesUndo

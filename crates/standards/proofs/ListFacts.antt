@@ -72,3 +72,10 @@ pub zip2-xor_bytes : (xs ys : List ℕ) → length xs ≤ length ys → zip2 bit
 zip2-xor_bytes [] ys h = refl
 zip2-xor_bytes (x ∷ xs) [] h = absurd (omega arith)
 zip2-xor_bytes (x ∷ xs) (y ∷ ys) h = ap (λ zs. bit_xor x y ∷ zs) (zip2-xor_bytes xs ys (omega arith))
+
+-- xor of two parts, each with its own
+pub xor_bytes-append : (xs ys ks ls : List ℕ) → length xs ≡ length ks → xor_bytes (xs ++ ys) (ks ++ ls) ≡ xor_bytes xs ks ++ xor_bytes ys ls
+xor_bytes-append [] ys [] ls e = refl
+xor_bytes-append [] ys (k ∷ ks) ls e = absurd (omega arith)
+xor_bytes-append (x ∷ xs) ys [] ls e = absurd (omega arith)
+xor_bytes-append (x ∷ xs) ys (k ∷ ks) ls e = ap (λ zs. bit_xor x k ∷ zs) (xor_bytes-append xs ys ks ls (omega arith))
