@@ -3,6 +3,7 @@ use Rattle.std.proofs.Common.{◌≡◌, ◌≤◌, ◌<◌, ◌+◌, ◌-◌, �
 use Rattle.std.proofs.lemmas.List.{length-take-le, length-take, length-set}
 use Rattle.std.proofs.lemmas.Nat.{div-add-mod'}
 use Rattle.std.specs.Int.{w32, w128, from_be_bytes, to_be_bytes, to_le_bytes}
+use Rattle.sha1.specs.Sha1.{digest_bytes, sha1}
 use Rattle.standards.specs.Hmac.{hmac}
 use Rattle.standards.specs.Hkdf.{expand, expand_block, hkdf}
 use Rattle.standards.specs.Counter.{ctr, plus_be, plus_le}
@@ -14,6 +15,11 @@ use Rattle.standards.specs.GcmSiv.{counter_block, derived, encryption_key, gcm_s
 use Rattle.standards.specs.Siv.{siv, siv_counter, s2v}
 use Rattle.standards.proofs.ListFacts.{length-xor_bytes}
 use Rattle.standards.proofs.Keystream.{length-ctr}
+
+-- a digest of SHA-1 has 20 bytes
+pub length-sha1 : (m : List ℕ) → length (sha1 m) ≡ 20
+unfolding sha1 digest_bytes
+length-sha1 m = refl
 
 -- HMAC is as long as its hash
 pub length-hmac : (H : List ℕ → List ℕ) (B D : ℕ) (key text : List ℕ) → ((m : List ℕ) → length (H m) ≡ D) → length (hmac H B key text) ≡ D

@@ -1,4 +1,4 @@
--- The inverse cipher of AES (FIPS 197, 5.3), the straightforward one, which takes the round keys of the cipher from the last to the first.
+-- The inverse cipher of AES (FIPS 197, 2001, 5.3), the straightforward one, which takes the round keys of the cipher from the last to the first.
 use Rattle.std.specs.Prelude.{ℕ, zero, suc, ◌+◌, ◌-◌, ◌*◌, ◌/◌, ◌%◌, ◌^◌, List, [], ◌∷◌, ◌++◌, map, bit_xor, length, slice_index}
 use Rattle.standards.specs.Aes.{bit_at, inverse, times, add_round_key, key_at}
 use Rattle.standards.specs.AesKeys.{keys_of}
@@ -48,6 +48,6 @@ inv_state_after r ks s (suc n) = inv_mix_columns (add_round_key (inv_sub_bytes (
 abbrev pub inv_cipher : ℕ → List (List ℕ) → List ℕ → List ℕ
 inv_cipher r ks s = add_round_key (inv_sub_bytes (inv_shift_rows (inv_state_after r ks s (r - 1)))) (key_at ks 0)
 
--- the block deciphered under the key
+-- the block deciphered under the key, of 16, 24 or 32 bytes (5.3)
 unfoldable pub aes_inverse : List ℕ → List ℕ → List ℕ
 aes_inverse key block = inv_cipher (length key / 4 + 6) (keys_of key) block

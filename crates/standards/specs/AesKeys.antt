@@ -1,9 +1,9 @@
--- The key expansion of AES (FIPS 197, 5.2). A word is a list of four bytes, and n is the number of words in the key.
+-- The key expansion of AES (FIPS 197, 2001, 5.2). A word is a list of four bytes, and n is the number of words in the key.
 use Rattle.std.specs.Prelude.{◌≡◌, ℕ, zero, suc, ◌+◌, ◌-◌, ◌*◌, ◌/◌, ◌%◌, ◌⊎◌, ◌&&◌, cond, eqb, List, [], ◌∷◌, ◌++◌, map, bit_xor, get_or, slice_index, length}
 use lib.Lanes.{zip2}
 use Rattle.standards.specs.Aes.{sub_byte, times, cipher}
 
--- x to the power k
+-- x to the power k: Rcon [k + 1] (5.2)
 unfoldable pub power_of_x : ℕ → ℕ
 power_of_x zero = 1
 power_of_x (suc k) = times 2 (power_of_x k)
@@ -56,10 +56,10 @@ unfoldable pub round_keys : List (List ℕ) → ℕ → List (List ℕ)
 round_keys ws zero = []
 round_keys ws (suc r) = round_keys ws r ++ round_key ws r ∷ []
 
--- the round keys of a key of n words: one for each of its n + 6 rounds, and one before them (5, table 4)
+-- the round keys of a key of n words: one for each of its n + 6 rounds, and one before them (5, figure 4)
 unfoldable pub keys_of : List ℕ → List (List ℕ)
 keys_of key = let n = length key / 4 in round_keys (schedule n key (4 * (n + 7) - n)) (n + 7)
 
--- the block enciphered under the key
+-- the block enciphered under the key, of 16, 24 or 32 bytes (5.1)
 unfoldable pub aes : List ℕ → List ℕ → List ℕ
 aes key block = cipher (length key / 4 + 6) (keys_of key) block

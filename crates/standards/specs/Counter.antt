@@ -1,4 +1,4 @@
--- Counter mode (SP 800-38A, 6.5), over a one-block map E on 16 bytes and an incrementing function (B.1).
+-- Counter mode (SP 800-38A, 2001, 6.5), over a one-block map E on 16 bytes and an incrementing function (B.1).
 use Rattle.std.specs.Prelude.{ℕ, zero, suc, ◌+◌, ◌-◌, ◌*◌, ◌/◌, ◌%◌, ◌^◌, List, [], ◌++◌, length, take, drop}
 use Rattle.std.specs.Int.{Width, byte_len, to_be_bytes, from_be_bytes, to_le_bytes, from_le_bytes}
 use Rattle.standards.specs.Lists.{xor_bytes}

@@ -1,4 +1,4 @@
--- GCM-SIV (RFC 8452, 4), over a cipher that makes a one-block map on 16 bytes of a key of 16 or 32 bytes; the nonce has 12 bytes, the tag 16.
+-- GCM-SIV (RFC 8452, 2019, 4), over a cipher that makes a one-block map on 16 bytes of a key of 16 or 32 bytes; the nonce has 12 bytes, the tag 16.
 use Rattle.std.specs.Prelude.{ℕ, zero, suc, ◌+◌, ◌/◌, List, [], ◌++◌, length, take, set, slice_index, bit_and, bit_or}
 use Rattle.std.specs.Int.{w32, to_le_bytes}
 use Rattle.standards.specs.Lists.{xor_bytes}

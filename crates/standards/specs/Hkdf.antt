@@ -1,8 +1,8 @@
--- HKDF (RFC 5869), over a hash H with blocks of B bytes and digests of D bytes.
+-- HKDF (RFC 5869, 2010), over a hash H with blocks of B bytes and digests of D bytes.
 use Rattle.std.specs.Prelude.{ℕ, zero, suc, ◌+◌, ◌-◌, ◌/◌, List, [], ◌∷◌, ◌++◌, take}
 use Rattle.standards.specs.Hmac.{hmac}
 
--- T (i) = HMAC (PRK, T (i - 1) ++ info ++ i), T (0) being empty (2.3)
+-- T (i) = HMAC (PRK, T (i - 1) ++ info ++ i), T (0) being empty; the document has no block past 255 (2.3)
 unfoldable pub expand_block : (List ℕ → List ℕ) → ℕ → List ℕ → List ℕ → ℕ → List ℕ
 expand_block H B prk info zero = []
 expand_block H B prk info (suc i) = hmac H B prk (expand_block H B prk info i ++ info ++ (i + 1) ∷ [])

@@ -1,4 +1,4 @@
--- POLYVAL (RFC 8452, 3). A block is the number of its 16 bytes, low byte first: bit i is the coefficient of x ^ i.
+-- POLYVAL (RFC 8452, 2019, 3). A block is the number of its 16 bytes, low byte first: bit i is the coefficient of x ^ i.
 use Rattle.std.specs.Prelude.{ℕ, zero, suc, ◌+◌, ◌*◌, ◌/◌, ◌%◌, ◌^◌, List, ◌++◌, length, bit_xor}
 use Rattle.std.specs.Int.{w64, w128, from_le_bytes, to_le_bytes}
 use Rattle.standards.specs.Blocks.{over_blocks, zero_padded}

@@ -1,4 +1,4 @@
--- SIV (RFC 5297), over one-block maps on 16 bytes, with one component of associated data, which may be empty.
+-- SIV (RFC 5297, 2008), over one-block maps on 16 bytes, with one component of associated data, which may be empty.
 use Rattle.std.specs.Prelude.{ℕ, ◌-◌, List, ◌++◌, length, take, drop, set, replicate, slice_index, bit_and, nat_lt, if◌then◌else◌}
 use Rattle.std.specs.Int.{w128}
 use Rattle.standards.specs.Lists.{xor_bytes}
