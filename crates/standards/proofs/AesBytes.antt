@@ -1,13 +1,12 @@
 -- AES and its inverse stay within bytes.
-use Rattle.std.proofs.Common.{◌≡◌, ◌≤◌, ◌<◌, ◌+◌, ◌-◌, ◌*◌, ◌/◌, ◌%◌, ℕ, zero, suc, cond, eqb, ◌&&◌, Bool, true, false, T, ltb, List, [], ◌∷◌, ◌++◌, length, get_or, bit_xor, sym, subst, arith, ltb→lt, inl, inr, ◌⊎◌}
-use Rattle.std.specs.Prelude.{nat_le, slice_index}
-use Rattle.std.proofs.lemmas.List.{get_or_past}
+use Rattle.std.proofs.Common.{◌≡◌, ◌≤◌, ◌<◌, ◌+◌, ◌-◌, ◌*◌, ◌/◌, ◌%◌, ℕ, zero, suc, cond, eqb, ◌&&◌, Bool, true, false, T, ltb, List, [], ◌∷◌, ◌++◌, length, get_or, bit_xor, sym, subst, arith, ltb→lt}
+use Rattle.std.specs.Prelude.{slice_index}
 use Rattle.std.proofs.lemmas.Nat.{xor_of_8}
 use Rattle.standards.specs.Lists.{AreBytes}
 use Rattle.standards.specs.Aes.{add_round_key, key_at, mix_at, mix_byte, mix_column, mix_columns, shift_rows, state_after, sub_bytes, times, times_terms, sub_byte}
-use Rattle.standards.specs.AesKeys.{key_words, keys_of, mixed, power_of_x, round_key, round_keys, rot_word, schedule, sub_word, word_after, word_at, xor_word}
+use Rattle.standards.specs.AesKeys.{key_words, keys_of, mixed, power_of_x, rot_word, schedule, sub_word, word_after, word_at, xor_word}
 use Rattle.standards.specs.AesInverse.{inv_mix_at, inv_mix_byte, inv_mix_column, inv_mix_columns, inv_shift_rows, inv_state_after, inv_sub_byte, inv_sub_bytes}
-use Rattle.standards.proofs.AesLengths.{get_or-round_keys, length-key_words, length-round_keys, length-schedule, push_place}
+use Rattle.standards.proofs.AesLengths.{get_or-round_keys, length-key_words, length-schedule, push_place}
 use Rattle.standards.proofs.AreBytes.{AreBytes-append, AreBytes-cons, AreBytes-map, AreBytes-nil, AreBytes-places, AreBytes-zip2}
 use Rattle.standards.proofs.Bytes.{all_below, every_below, inv_sub_byte_below, sub_byte_below}
 

@@ -1,9 +1,9 @@
 -- The lengths of AES's words, round keys and blocks.
-use Rattle.std.proofs.Common.{◌≡◌, ◌≤◌, ◌<◌, ◌+◌, ◌-◌, ◌*◌, ◌/◌, ◌%◌, ℕ, zero, suc, cond, eqb, ◌&&◌, Bool, true, false, List, [], ◌∷◌, ◌++◌, map, length, get_or, bit_xor, refl, ap, sym, ◌∙◌, subst, arith, length-append, inl, inr, ◌⊎◌}
+use Rattle.std.proofs.Common.{◌≡◌, ◌≤◌, ◌<◌, ◌+◌, ◌-◌, ◌*◌, ◌/◌, ◌%◌, ℕ, zero, suc, cond, eqb, ◌&&◌, Bool, true, false, List, [], ◌∷◌, ◌++◌, length, get_or, bit_xor, refl, ap, sym, ◌∙◌, subst, arith, length-append, inl, inr}
 use Rattle.std.proofs.lemmas.List.{get_or_append_left, get_or_push, length-map}
 use Rattle.std.proofs.lemmas.Simd.{length-zip2}
 use Rattle.std.proofs.Math.Nat.{eq-or-lt_of_le}
-use Rattle.standards.specs.Aes.{cipher, mix_columns, shift_rows, sub_bytes, state_after, add_round_key, key_at}
+use Rattle.standards.specs.Aes.{shift_rows, sub_bytes, state_after, add_round_key, key_at}
 use Rattle.standards.specs.AesKeys.{aes, keys_of, key_words, mixed, round_key, round_keys, schedule, sub_word, rot_word, word_after, word_at, xor_word, power_of_x}
 use Rattle.standards.specs.AesInverse.{aes_inverse, inv_shift_rows, inv_sub_bytes, inv_state_after}
 

@@ -1,5 +1,5 @@
 -- AES and its inverse undo each other, on blocks of 16 bytes under any key of a word or more.
-use Rattle.std.proofs.Common.{◌≡◌, ◌≤◌, ◌<◌, ◌+◌, ◌-◌, ◌*◌, ◌/◌, ℕ, zero, suc, List, [], ◌∷◌, ◌++◌, map, length, bit_xor, refl, sym, ap, ◌∙◌, arith}
+use Rattle.std.proofs.Common.{◌≡◌, ◌≤◌, ◌+◌, ◌-◌, ◌/◌, ℕ, zero, suc, List, length, refl, sym, ap, ◌∙◌, arith}
 use Rattle.std.proofs.lemmas.List.{length-map}
 use Rattle.standards.specs.Lists.{AreBytes}
 use Rattle.standards.specs.Aes.{add_round_key, cipher, key_at, mix_columns, shift_rows, state_after, sub_byte, sub_bytes}

@@ -1,12 +1,12 @@
 -- The steps of AES and of its inverse undo each other.
-use Rattle.std.proofs.Common.{◌≡◌, ℕ, zero, suc, ◌*◌, ◌/◌, ◌%◌, ◌<◌, ◌≤◌, List, [], ◌∷◌, ◌++◌, map, length, get_or, bit_xor, refl, sym, ap, ap₂, ◌∙◌, arith}
+use Rattle.std.proofs.Common.{◌≡◌, ℕ, zero, suc, ◌*◌, ◌/◌, ◌%◌, ◌<◌, List, [], ◌∷◌, ◌++◌, map, length, bit_xor, refl, sym, ap, ap₂, ◌∙◌, arith}
 use Rattle.std.proofs.lemmas.Nat.{xor_comm, xor_mod, xor_shr}
 use Rattle.std.proofs.lemmas.Simd.{pick_l_whole, length-zip2}
-use Rattle.std.specs.Int.Bits.{xor_assoc, xor_self, xor_zero_l, xor_zero_r}
+use Rattle.std.specs.Int.Bits.{xor_assoc, xor_zero_r}
 use Rattle.std.specs.Prelude.{slice_index}
 use Rattle.standards.specs.Lists.{AreBytes, xor_bytes}
-use Rattle.standards.specs.Aes.{add_round_key, mix_byte, mix_column, mix_columns, shift_rows, sub_byte, sub_bytes, times, times_terms, xtime}
-use Rattle.standards.specs.AesInverse.{inv_mix_byte, inv_mix_column, inv_mix_columns, inv_shift_rows, inv_sub_byte, inv_sub_bytes}
+use Rattle.standards.specs.Aes.{add_round_key, mix_byte, mix_column, mix_columns, shift_rows, sub_bytes, times, times_terms, xtime}
+use Rattle.standards.specs.AesInverse.{inv_mix_byte, inv_mix_column, inv_mix_columns, inv_shift_rows, inv_sub_bytes}
 use Rattle.standards.proofs.Bytes.{agree, inv_sub_byte-sub_byte, sub_byte-inv_sub_byte}
 use Rattle.standards.proofs.Xor.{bits_times, exchange}
 use Rattle.standards.proofs.ListFacts.{xor_bytes_twice, zip2-xor_bytes}

@@ -1,5 +1,5 @@
 -- Lists whose elements are all bytes.
-use Rattle.std.proofs.Common.{◌≡◌, ℕ, zero, suc, ◌+◌, ◌-◌, ◌*◌, ◌/◌, ◌%◌, ◌^◌, ◌<◌, ◌≤◌, cond, Bool, true, false, List, [], ◌∷◌, ◌++◌, map, length, get_or, bit_xor, arith, w8, Fits}
+use Rattle.std.proofs.Common.{ℕ, zero, suc, ◌<◌, List, [], ◌∷◌, ◌++◌, map, get_or, bit_xor, arith, w8, Fits}
 use Rattle.std.proofs.lemmas.Nat.{xor_of_8}
 use lib.Lanes.{Each1, zip2}
 use Rattle.standards.specs.Lists.{AreBytes, xor_bytes}

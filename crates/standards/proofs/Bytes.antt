@@ -1,5 +1,5 @@
 -- Facts of all bytes, each computed at 0 to 255.
-use Rattle.std.proofs.Common.{◌≡◌, ℕ, zero, suc, ◌+◌, ◌-◌, ◌*◌, ◌%◌, ◌<◌, Bool, true, ◌&&◌, T, eqb, ltb, List, length, get_or, bit_xor, sym, ap, ◌∙◌, subst, inl, inr, arith, eq-zero-or-pos, eqb→eq, ltb→lt}
+use Rattle.std.proofs.Common.{◌≡◌, ℕ, zero, suc, ◌+◌, ◌-◌, ◌<◌, Bool, true, ◌&&◌, T, eqb, ltb, List, get_or, subst, inl, inr, arith, eq-zero-or-pos, eqb→eq, ltb→lt}
 use lib.Ieee.Fits.{and_l, and_r}
 use Rattle.standards.specs.Aes.{affine_bit, affine_bits, inverse, power, sub_byte, times, times_terms}
 use Rattle.standards.specs.AesInverse.{inv_affine_bit, inv_affine_bits, inv_sub_byte}

@@ -1,7 +1,6 @@
 -- HMAC and HKDF at the vectors of their documents, computed.
-use Rattle.std.proofs.Common.{◌≡◌, ℕ, List, [], ◌∷◌, refl}
+use Rattle.std.proofs.Common.{◌≡◌, [], ◌∷◌, refl}
 use Rattle.std.specs.Prelude.{codes, replicate}
-use Rattle.std.specs.Int.{w128}
 use Rattle.sha1.specs.Sha1.{sha1}
 use Rattle.sha1.specs.Sha1
 use Rattle.sha2.specs.Sha256.{sha256}

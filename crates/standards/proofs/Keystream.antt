@@ -1,8 +1,8 @@
 -- The keystream and counter mode by their places. E gives 16 bytes at each counter block.
-use Rattle.std.proofs.Common.{◌≡◌, ◌≤◌, ◌<◌, ◌+◌, ◌-◌, ◌*◌, ◌/◌, ◌%◌, ℕ, zero, suc, List, [], ◌∷◌, ◌++◌, length, get_or, bit_xor, refl, ap, sym, ◌∙◌, arith, length-append, inl, inr, ◌⊎◌}
+use Rattle.std.proofs.Common.{◌≡◌, ◌≤◌, ◌<◌, ◌+◌, ◌-◌, ◌*◌, ◌/◌, ◌%◌, ℕ, zero, suc, List, length, get_or, bit_xor, refl, ap, sym, ◌∙◌, arith, length-append, inl, inr, ◌⊎◌}
 use Rattle.std.proofs.lemmas.List.{get_or_append_left, get_or-append_right}
 use Rattle.std.proofs.Math.Nat.{eq-or-lt_of_le}
-use Rattle.standards.proofs.ListFacts.{get_or-xor_bytes, length-xor_bytes, xor_bytes_same, xor_bytes_twice}
+use Rattle.standards.proofs.ListFacts.{get_or-xor_bytes, length-xor_bytes, xor_bytes_twice}
 use Rattle.standards.specs.Counter.{ctr, keystream}
 use Rattle.standards.specs.Lists.{xor_bytes}
 

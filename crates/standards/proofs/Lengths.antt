@@ -1,8 +1,8 @@
 -- The lengths of hashes' and modes' results.
-use Rattle.std.proofs.Common.{◌≡◌, ◌≤◌, ◌<◌, ◌+◌, ◌-◌, ◌*◌, ◌/◌, ◌%◌, ℕ, zero, suc, List, [], ◌∷◌, ◌++◌, length, take, refl, ap, ap₂, sym, ◌∙◌, arith, length-append}
-use Rattle.std.proofs.lemmas.List.{length-take-le, length-take, length-set}
+use Rattle.std.proofs.Common.{◌≡◌, ◌<◌, ◌+◌, ◌-◌, ◌*◌, ◌/◌, ◌%◌, ℕ, zero, suc, List, ◌++◌, length, take, refl, ap, ap₂, ◌∙◌, arith, length-append}
+use Rattle.std.proofs.lemmas.List.{length-take-le}
 use Rattle.std.proofs.lemmas.Nat.{div-add-mod'}
-use Rattle.std.specs.Int.{w32, w128, from_be_bytes, to_be_bytes, to_le_bytes}
+use Rattle.std.specs.Int.{w32, w128, to_le_bytes}
 use Rattle.sha1.specs.Sha1.{digest_bytes, sha1}
 use Rattle.standards.specs.Hmac.{hmac}
 use Rattle.standards.specs.Hkdf.{expand, expand_block, hkdf}

@@ -1,7 +1,6 @@
 -- CMAC, GCM, GCM-SIV and SIV with AES at the vectors of their documents, computed.
-use Rattle.std.proofs.Common.{◌≡◌, ℕ, List, [], ◌∷◌, refl}
-use Rattle.std.specs.Prelude.{codes, replicate}
-use Rattle.std.specs.Int.{w128}
+use Rattle.std.proofs.Common.{◌≡◌, [], ◌∷◌, refl}
+use Rattle.std.specs.Prelude.{replicate}
 use Rattle.standards.specs.Aes.{state_after, sub_byte, affine_bits, affine_bit, inverse, power, times, times_terms}
 use Rattle.standards.specs.AesKeys.{aes, keys_of, round_keys, schedule, key_words, power_of_x}
 use Rattle.standards.specs.Counter.{ctr, keystream}

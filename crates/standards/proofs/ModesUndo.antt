@@ -1,5 +1,5 @@
 -- What a mode sealed, its key stream opens: the text is had back from the ciphertext, and no two texts are sealed alike.
-use Rattle.std.proofs.Common.{◌≡◌, ℕ, ◌+◌, ◌-◌, List, ◌++◌, length, take, drop, replicate, refl, ap, sym, ◌∙◌, arith}
+use Rattle.std.proofs.Common.{◌≡◌, ℕ, List, length, take, drop, ap, sym, ◌∙◌, arith}
 use Rattle.std.proofs.lemmas.List.{drop_at, take_at}
 use Rattle.std.specs.Int.{w32, w128}
 use Rattle.standards.specs.Counter.{ctr, plus_be, plus_le}

@@ -1,7 +1,6 @@
 -- The products of GHASH and POLYVAL: linear, and one in the other's terms.
-use Rattle.std.proofs.Common.{◌≡◌, ℕ, zero, suc, ◌+◌, ◌*◌, ◌/◌, ◌%◌, ◌^◌, ◌<◌, bit_xor, refl, sym, ap, ◌∙◌, arith}
-use Rattle.std.proofs.lemmas.Nat.{xor_comm, xor_lt, xor_mod, xor_shr}
-use Rattle.std.specs.Int.Bits.{xor_assoc, xor_self, xor_zero_l, xor_zero_r}
+use Rattle.std.proofs.Common.{◌≡◌, ℕ, zero, suc, ◌*◌, ◌/◌, ◌%◌, ◌^◌, ◌<◌, bit_xor, refl, sym, ap, ◌∙◌, arith}
+use Rattle.std.proofs.lemmas.Nat.{xor_lt, xor_mod, xor_shr}
 use Rattle.standards.specs.Ghash.{product, product_low, times_x}
 use Rattle.standards.specs.Polyval.{dot, dot_low, over_x}
 use Rattle.standards.proofs.Xor.{bits_times, exchange}

@@ -1,5 +1,5 @@
 -- Messages in blocks of 16 bytes.
-use Rattle.std.specs.Prelude.{ℕ, zero, suc, ◌+◌, ◌-◌, ◌*◌, ◌%◌, List, [], ◌∷◌, ◌++◌, length, take, drop, replicate}
+use Rattle.std.specs.Prelude.{ℕ, zero, suc, ◌-◌, ◌*◌, ◌%◌, List, ◌∷◌, ◌++◌, length, take, drop, replicate}
 
 -- block n of a message, counted from 0
 abbrev pub block_at : List ℕ → ℕ → List ℕ
