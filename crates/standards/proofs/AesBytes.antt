@@ -4,8 +4,8 @@ use Rattle.std.specs.Prelude.{slice_index}
 use Rattle.std.proofs.lemmas.Nat.{xor_of_8}
 use Rattle.standards.specs.Lists.{AreBytes}
 use Rattle.standards.specs.Aes.{add_round_key, key_at, mix_at, mix_byte, mix_column, mix_columns, shift_rows, state_after, sub_bytes, times, times_terms, sub_byte}
-use Rattle.standards.specs.AesKeys.{key_words, keys_of, mixed, power_of_x, rot_word, schedule, sub_word, word_after, word_at, xor_word}
-use Rattle.standards.specs.AesInverse.{inv_mix_at, inv_mix_byte, inv_mix_column, inv_mix_columns, inv_shift_rows, inv_state_after, inv_sub_byte, inv_sub_bytes}
+use Rattle.standards.specs.AesKeys.{aes, key_words, keys_of, mixed, power_of_x, rot_word, schedule, sub_word, word_after, word_at, xor_word}
+use Rattle.standards.specs.AesInverse.{aes_inverse, inv_mix_at, inv_mix_byte, inv_mix_column, inv_mix_columns, inv_shift_rows, inv_state_after, inv_sub_byte, inv_sub_bytes}
 use Rattle.standards.proofs.AesLengths.{get_or-round_keys, length-key_words, length-schedule, push_place}
 use Rattle.standards.proofs.AreBytes.{AreBytes-append, AreBytes-cons, AreBytes-map, AreBytes-nil, AreBytes-places, AreBytes-zip2}
 use Rattle.standards.proofs.Bytes.{all_below, every_below, inv_sub_byte_below, sub_byte_below}
@@ -157,3 +157,25 @@ AreBytes-inv_state_after r ks s (suc n) h k =
     let u = inv_sub_bytes (inv_shift_rows t) in
     AreBytes-inv_mix_columns (add_round_key u (key_at ks (r - suc n)))
     (AreBytes-zip2 u (key_at ks (r - suc n)) (AreBytes-map inv_sub_byte (inv_shift_rows t) inv_sub_byte_below (AreBytes-inv_shift_rows t before)) (k (r - suc n) (omega arith)))
+
+-- AES gives bytes
+pub AreBytes-aes : (key block : List ℕ) → 4 ≤ length key → AreBytes key → AreBytes block → AreBytes (aes key block)
+unfolding aes
+AreBytes-aes key block long h b =
+    let r = length key / 4 + 6 in
+    let ks = keys_of key in
+    let t = state_after ks block (r - 1) in
+    AreBytes-zip2 (shift_rows (sub_bytes t)) (key_at ks r)
+    (AreBytes-shift_rows (sub_bytes t) (AreBytes-map sub_byte t sub_byte_below (AreBytes-state_after ks block (r - 1) b (λ i l. AreBytes-key_at key i h long (omega arith)))))
+    (AreBytes-key_at key r h long (omega arith))
+
+-- so does its inverse
+pub AreBytes-aes_inverse : (key block : List ℕ) → 4 ≤ length key → AreBytes key → AreBytes block → AreBytes (aes_inverse key block)
+unfolding aes_inverse
+AreBytes-aes_inverse key block long h b =
+    let r = length key / 4 + 6 in
+    let ks = keys_of key in
+    let t = inv_state_after r ks block (r - 1) in
+    AreBytes-zip2 (inv_sub_bytes (inv_shift_rows t)) (key_at ks 0)
+    (AreBytes-map inv_sub_byte (inv_shift_rows t) inv_sub_byte_below (AreBytes-inv_shift_rows t (AreBytes-inv_state_after r ks block (r - 1) b (λ i l. AreBytes-key_at key i h long (omega arith)))))
+    (AreBytes-key_at key 0 h long (omega arith))

@@ -36,7 +36,7 @@ pub aes_inverse_256 : aes_inverse (0 ∷ 1 ∷ 2 ∷ 3 ∷ 4 ∷ 5 ∷ 6 ∷ 7 �
 unfolding aes_inverse inv_state_after inv_sub_byte inv_affine_bits inv_affine_bit keys_of round_keys schedule key_words power_of_x state_after sub_byte affine_bits affine_bit inverse power times times_terms
 aes_inverse_256 = refl
 
--- SP 800-38A, F.5.1, the first block
-pub aes_ctr : ctr (aes (43 ∷ 126 ∷ 21 ∷ 22 ∷ 40 ∷ 174 ∷ 210 ∷ 166 ∷ 171 ∷ 247 ∷ 21 ∷ 136 ∷ 9 ∷ 207 ∷ 79 ∷ 60 ∷ [])) (plus_be w128) (240 ∷ 241 ∷ 242 ∷ 243 ∷ 244 ∷ 245 ∷ 246 ∷ 247 ∷ 248 ∷ 249 ∷ 250 ∷ 251 ∷ 252 ∷ 253 ∷ 254 ∷ 255 ∷ []) (107 ∷ 193 ∷ 190 ∷ 226 ∷ 46 ∷ 64 ∷ 159 ∷ 150 ∷ 233 ∷ 61 ∷ 126 ∷ 17 ∷ 115 ∷ 147 ∷ 23 ∷ 42 ∷ []) ≡ 135 ∷ 77 ∷ 97 ∷ 145 ∷ 182 ∷ 32 ∷ 227 ∷ 38 ∷ 27 ∷ 239 ∷ 104 ∷ 100 ∷ 153 ∷ 13 ∷ 182 ∷ 206 ∷ []
+-- SP 800-38A, F.5.1, the first two blocks
+pub aes_ctr : ctr (aes (43 ∷ 126 ∷ 21 ∷ 22 ∷ 40 ∷ 174 ∷ 210 ∷ 166 ∷ 171 ∷ 247 ∷ 21 ∷ 136 ∷ 9 ∷ 207 ∷ 79 ∷ 60 ∷ [])) (plus_be w128) (240 ∷ 241 ∷ 242 ∷ 243 ∷ 244 ∷ 245 ∷ 246 ∷ 247 ∷ 248 ∷ 249 ∷ 250 ∷ 251 ∷ 252 ∷ 253 ∷ 254 ∷ 255 ∷ []) (107 ∷ 193 ∷ 190 ∷ 226 ∷ 46 ∷ 64 ∷ 159 ∷ 150 ∷ 233 ∷ 61 ∷ 126 ∷ 17 ∷ 115 ∷ 147 ∷ 23 ∷ 42 ∷ 174 ∷ 45 ∷ 138 ∷ 87 ∷ 30 ∷ 3 ∷ 172 ∷ 156 ∷ 158 ∷ 183 ∷ 111 ∷ 172 ∷ 69 ∷ 175 ∷ 142 ∷ 81 ∷ []) ≡ 135 ∷ 77 ∷ 97 ∷ 145 ∷ 182 ∷ 32 ∷ 227 ∷ 38 ∷ 27 ∷ 239 ∷ 104 ∷ 100 ∷ 153 ∷ 13 ∷ 182 ∷ 206 ∷ 152 ∷ 6 ∷ 246 ∷ 107 ∷ 121 ∷ 112 ∷ 253 ∷ 255 ∷ 134 ∷ 23 ∷ 24 ∷ 123 ∷ 185 ∷ 255 ∷ 253 ∷ 255 ∷ []
 unfolding ctr keystream aes keys_of round_keys schedule key_words power_of_x state_after sub_byte affine_bits affine_bit inverse power times times_terms
 aes_ctr = refl

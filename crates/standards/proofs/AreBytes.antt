@@ -1,5 +1,7 @@
 -- Lists whose elements are all bytes.
-use Rattle.std.proofs.Common.{ℕ, zero, suc, ◌<◌, List, [], ◌∷◌, ◌++◌, map, get_or, bit_xor, arith, w8, Fits}
+use Rattle.std.proofs.Common.{ℕ, zero, suc, ◌<◌, List, [], ◌∷◌, ◌++◌, map, get_or, bit_xor, arith, w8, Fits, ◌-◌, ◌≤◌, length, eq-zero-or-pos, inl, inr}
+use Rattle.std.specs.Prelude.{All}
+use Rattle.std.proofs.lemmas.List.{get_or_past}
 use Rattle.std.proofs.lemmas.Nat.{xor_of_8}
 use lib.Lanes.{Each1, zip2}
 use Rattle.standards.specs.Lists.{AreBytes, xor_bytes}
@@ -44,3 +46,10 @@ AreBytes-xor_bytes (x ∷ xs) (y ∷ ys) p q = AreBytes-cons (bit_xor x y) (xor_
 pub AreBytes-from_fits : (xs : List ℕ) → Each1 (Fits w8) xs → AreBytes xs
 AreBytes-from_fits [] h = AreBytes-nil
 AreBytes-from_fits (x ∷ xs) h = AreBytes-cons x xs (h.0.fits) (AreBytes-from_fits xs h.1)
+
+-- what a clause by `All` says of them
+pub AreBytes-from_all : (xs : List ℕ) → All (λ x. x < 256) xs → AreBytes xs
+AreBytes-from_all xs h i = elim (eq-zero-or-pos (length xs - i)) [
+  | inr some ↦ h i 0 (omega arith)
+  | inl none ↦ let past : length xs ≤ i = omega arith in rw (get_or_past xs i 0 past) (omega arith)
+]
