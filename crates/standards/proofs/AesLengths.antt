@@ -28,6 +28,7 @@ unfolding schedule
 length-schedule n key zero = omega (arith, length-key_words key n)
 length-schedule n key (suc m) = omega (arith, length-schedule n key m, length-append (schedule n key m) (word_after n (schedule n key m) (n + m) ∷ []))
 
+-- four bytes
 abbrev pub IsWord : List ℕ → Type 0
 IsWord w = length w ≡ 4
 
@@ -72,6 +73,7 @@ get_or-round_keys ws (suc r) i h =
       | inr low ↦ get_or_append_left (round_keys ws r) (round_key ws r ∷ []) [] i (rw length-round_keys low) ∙ get_or-round_keys ws r i low
     ]
 
+-- sixteen bytes
 abbrev pub IsBlock : List ℕ → Type 0
 IsBlock s = length s ≡ 16
 

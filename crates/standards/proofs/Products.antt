@@ -52,7 +52,7 @@ pub over_x_is : (v : ℕ) → over_x v ≡ times_x v
 unfolding over_x times_x
 over_x_is v = refl
 
--- dot is GHASH's product with x times the second factor (RFC 8452, appendix A)
+-- the first m bits of a dot are those of GHASH's product with x times b
 pub dot_low_is : (b a m : ℕ) → dot_low b a m ≡ product_low (times_x b) a m
 unfolding dot_low product_low
 dot_low_is b a zero = refl
@@ -63,6 +63,7 @@ dot_low_is b a (suc m) =
     ∙ ap (λ v. bit_xor (times_x v) (times_x (bit * b))) (dot_low_is b a m)
     ∙ ap (λ v. bit_xor (times_x (product_low (times_x b) a m)) v) (times_x_bit bit b (omega arith))
 
+-- dot is GHASH's product with x times the second factor (RFC 8452, appendix A)
 pub dot_is_product : (a b : ℕ) → dot a b ≡ product a (times_x b)
 dot_is_product a b = dot_low_is b a 128
 

@@ -32,6 +32,7 @@ inv_mix_byte a b c d = bit_xor (bit_xor (bit_xor (times 14 a) (times 11 b)) (tim
 abbrev pub inv_mix_column : ℕ → ℕ → ℕ → ℕ → List ℕ
 inv_mix_column a b c d = inv_mix_byte a b c d ∷ inv_mix_byte b c d a ∷ inv_mix_byte c d a b ∷ inv_mix_byte d a b c ∷ []
 
+-- the column that begins at place i
 abbrev pub inv_mix_at : List ℕ → ℕ → List ℕ
 inv_mix_at s i = inv_mix_column (slice_index s i) (slice_index s (i + 1)) (slice_index s (i + 2)) (slice_index s (i + 3))
 

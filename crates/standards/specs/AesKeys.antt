@@ -8,12 +8,15 @@ unfoldable pub power_of_x : ℕ → ℕ
 power_of_x zero = 1
 power_of_x (suc k) = times 2 (power_of_x k)
 
+-- SubWord (5.2)
 abbrev pub sub_word : List ℕ → List ℕ
 sub_word w = map sub_byte w
 
+-- RotWord (5.2)
 abbrev pub rot_word : List ℕ → List ℕ
 rot_word w = slice_index w 1 ∷ slice_index w 2 ∷ slice_index w 3 ∷ slice_index w 0 ∷ []
 
+-- the sum of two words
 abbrev pub xor_word : List ℕ → List ℕ → List ℕ
 xor_word v w = zip2 bit_xor v w
 
@@ -27,6 +30,7 @@ mixed n w i =
 abbrev pub next_word : ℕ → List ℕ → List ℕ → ℕ → List ℕ
 next_word n far near i = xor_word far (mixed n near i)
 
+-- the word of the key that begins at byte i
 abbrev pub word_at : List ℕ → ℕ → List ℕ
 word_at key i = slice_index key i ∷ slice_index key (i + 1) ∷ slice_index key (i + 2) ∷ slice_index key (i + 3) ∷ []
 
@@ -44,6 +48,7 @@ unfoldable pub schedule : ℕ → List ℕ → ℕ → List (List ℕ)
 schedule n key zero = key_words key n
 schedule n key (suc m) = schedule n key m ++ word_after n (schedule n key m) (n + m) ∷ []
 
+-- the numbers of words in a key (5, figure 4)
 abbrev pub IsSize : ℕ → Type 0
 IsSize n = (n ≡ 4) ⊎ (n ≡ 6) ⊎ (n ≡ 8)
 
