@@ -1,5 +1,5 @@
 -- How long digests, HMAC and HKDF are.
-use Rattle.std.proofs.Common.{◌≡◌, ◌≤◌, ◌<◌, ◌+◌, ◌-◌, ◌*◌, ◌/◌, ℕ, zero, suc, List, [], ◌∷◌, ◌++◌, length, take, refl, sym, ◌∙◌, lit≤, arith, length-append}
+use Rattle.std.proofs.Common.{◌≡◌, ◌≤◌, ◌<◌, ◌+◌, ◌-◌, ◌*◌, ◌/◌, ℕ, zero, suc, List, length, refl, lit≤, arith, length-append}
 use Rattle.std.proofs.lemmas.List.{length-take-le}
 use Rattle.std.proofs.Math.Nat.{lt_of_mul-lt-mul_left}
 use Rattle.std.specs.Prelude.{slice_index}
@@ -24,19 +24,13 @@ pub length-sha1 : (m : List ℕ) → length (sha1 m) ≡ 20
 unfolding sha1
 length-sha1 m = length-digest_bytes _ 5
 
-pub at_least_digest_size : (h : Hash) → 20 ≤ digest_size h
-at_least_digest_size Sha1 = lit≤ tt
-at_least_digest_size Sha224 = lit≤ tt
-at_least_digest_size Sha256 = lit≤ tt
-at_least_digest_size Sha384 = lit≤ tt
-at_least_digest_size Sha512 = lit≤ tt
-
-pub at_most_digest_size : (h : Hash) → digest_size h ≤ 64
-at_most_digest_size Sha1 = lit≤ tt
-at_most_digest_size Sha224 = lit≤ tt
-at_most_digest_size Sha256 = lit≤ tt
-at_most_digest_size Sha384 = lit≤ tt
-at_most_digest_size Sha512 = lit≤ tt
+-- a digest has 20 to 64 bytes
+pub digest_size-within : (h : Hash) → (20 ≤ digest_size h) × (digest_size h ≤ 64)
+digest_size-within Sha1 = (lit≤ tt, lit≤ tt)
+digest_size-within Sha224 = (lit≤ tt, lit≤ tt)
+digest_size-within Sha256 = (lit≤ tt, lit≤ tt)
+digest_size-within Sha384 = (lit≤ tt, lit≤ tt)
+digest_size-within Sha512 = (lit≤ tt, lit≤ tt)
 
 pub length-hash_of : (h : Hash) (m : List ℕ) → length (hash_of h m) ≡ digest_size h
 length-hash_of Sha1 m = length-sha1 m
@@ -76,5 +70,5 @@ just_enough_blocks size len n some enough just =
 pub length-hkdf_of : (h : Hash) (ikm salt info : List ℕ) (len : ℕ) → length (hkdf_of h ikm salt info len) ≡ len
 unfolding hkdf
 length-hkdf_of h ikm salt info len =
-    let some : 0 < digest_size h = omega (arith, at_least_digest_size h) in
+    let some : 0 < digest_size h = omega (arith, digest_size-within h) in
     length-take-le len _ (omega (arith, length-expand h (hmac_of h salt ikm) info ((len + digest_size h - 1) / digest_size h), enough_blocks (digest_size h) len some))

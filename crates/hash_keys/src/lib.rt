@@ -8,7 +8,7 @@
 //! ```
 #![tactic(auto)]
 
-ghost use Rattle.std.specs.Prelude.{◌≡◌, ◌≤◌, ◌<◌, ◌+◌, ◌*◌, ◌/◌, ◌-◌, ◌↔◌, ◌++◌, length, take, IsOk, OnOk, OnErr};
+ghost use Rattle.std.specs.Prelude.{◌≡◌, ◌≤◌, ◌<◌, ◌+◌, ◌*◌, ◌/◌, ◌-◌, ◌↔◌, ◌++◌, length, take, codes, Some, IsOk, OnOk, OnErr};
 ghost use Rattle.standards.specs.Hmac.{block_key, pad};
 ghost use Rattle.standards.specs.Hkdf.{expand};
 ghost use Rattle.hash_keys.specs.Hash.{hash_of, block_size, digest_size, hmac_of, hkdf_of};
@@ -18,6 +18,8 @@ use sha2::{Digest, Sha224, Sha256, Sha384, Sha512};
 use std::error::Error;
 use std::fmt;
 
+#[cfg(test)]
+mod tests;
 
 // The bytes of the largest digest and of the largest block.
 const MAX_DIGEST: usize = 64;
@@ -75,7 +77,7 @@ impl Hash {
     /// Fills `out`, of at most a digest's bytes, with the front of the digest of `message`.
     pub fn hash_into(self, message: &[u8], out: &mut [u8])
         requires { length out.old ≤ digest_size self }
-        ensures digest { out.new ≡ take (length out.old) (hash_of self message.now) }
+        ensures written { out.new ≡ take (length out.old) (hash_of self message.now) }
     {
         let digest = digest_of_parts(self, message, &[], &[], &[]);
         out.copy_from_slice(&digest[..out.len()]);
@@ -155,7 +157,13 @@ fn hmac_of_parts(h: Hash, key: &[u8], a: &[u8], b: &[u8], c: &[u8]) -> [u8; MAX_
     let inner_pad = padded(&block, INNER_PAD);
     let inner = digest_of_parts(h, &inner_pad[..h.block_size()], a, b, c);
     let outer_pad = padded(&block, OUTER_PAD);
-    digest_of_parts(h, &outer_pad[..h.block_size()], &inner[..h.digest_size()], &[], &[])
+    digest_of_parts(
+        h,
+        &outer_pad[..h.block_size()],
+        &inner[..h.digest_size()],
+        &[],
+        &[],
+    )
 }
 
 /// Fills `out`, of at most a digest's bytes, with the front of HMAC (FIPS 198-1) under `key` of the
@@ -164,7 +172,7 @@ fn hmac_of_parts(h: Hash, key: &[u8], a: &[u8], b: &[u8], c: &[u8]) -> [u8; MAX_
 /// Each part goes to the hash as it is, so that no part is copied.
 pub fn hmac_into(h: Hash, key: &[u8], a: &[u8], b: &[u8], c: &[u8], out: &mut [u8])
     requires { length out.old ≤ digest_size h }
-    ensures code { out.new ≡ take (length out.old) (hmac_of h key.now (a.now ++ b.now ++ c.now)) }
+    ensures written { out.new ≡ take (length out.old) (hmac_of h key.now (a.now ++ b.now ++ c.now)) }
 {
     let code = hmac_of_parts(h, key, a, b, c);
     out.copy_from_slice(&code[..out.len()]);
@@ -175,6 +183,8 @@ pub fn hmac_into(h: Hash, key: &[u8], a: &[u8], b: &[u8], c: &[u8], out: &mut [u
 pub struct OutputTooLong;
 
 impl fmt::Display for OutputTooLong {
+    ghost output = { λ _. Some (codes "more output was asked for than 255 digests") };
+
     fn fmt<W: fmt::Write>(&self, f: &mut fmt::Formatter<W>) -> fmt::Result {
         f.write_str("more output was asked for than 255 digests")
     }
@@ -195,7 +205,7 @@ pub fn hkdf_into(
     out: &mut [u8],
 ) -> Result<(), OutputTooLong>
     ensures succeeds { IsOk result ↔ (length out.old ≤ 255 * digest_size h) }
-    ensures output { OnOk result (out.new ≡ hkdf_of h ikm.now salt.now info.now (length out.old)) }
+    ensures ok { OnOk result (out.new ≡ hkdf_of h ikm.now salt.now info.now (length out.old)) }
     ensures err { OnErr result (out.new ≡ out.old) }
 {
     if out.len() > 255 * h.digest_size() {

@@ -1,4 +1,4 @@
-use Rattle.std.proofs.Common.{◌≡◌, ◌≤◌, ◌<◌, ◌+◌, ◌-◌, ◌*◌, ◌/◌, min, ℕ, List, [], ◌∷◌, ◌++◌, length, take, refl, sym, ◌∙◌, ap, add-one, arith}
+use Rattle.std.proofs.Common.{◌≡◌, ◌≤◌, ◌<◌, ◌+◌, ◌-◌, ◌*◌, ℕ, List, [], ◌∷◌, ◌++◌, length, take, refl, sym, ◌∙◌, ap, add-one, arith}
 use Rattle.std.proofs.lemmas.List.{length-take-le, take_all, take-take}
 use Rattle.std.proofs.lemmas.Slice.{take-put_mid}
 use Rattle.std.proofs.Math.Seq.{take-append-add, take-length}
@@ -44,7 +44,7 @@ loop-done-preserved c =
     let block = next_block h c.args.key.now c.args.info.now c.loop-done.last (take (digest_size h) c.hmac_of_parts-next.result) c.loop-done.have c.loop-done.number so_far.block c.hmac_of_parts-next.ensures in
     let same_length = same_len_mid c.loop-done.done (c.loop-done.done + c.min-n.result - c.loop-done.done) c.loop-done.out c.copy_from_slice.new.self c.copy_from_slice.ensures.len in
     let at_end : c.loop-done.done ≡ length (expand (hash_of h) (block_size h) c.args.key.now c.args.info.now c.loop-done.number) =
-        omega (arith, length-expand h c.args.key.now c.args.info.now c.loop-done.number) in
+    omega (arith, length-expand h c.args.key.now c.args.info.now c.loop-done.number) in
     let block_length = ap length (sym block) ∙ ap length c.hmac_of_parts-next.ensures ∙ length-hmac_of h c.args.key.now _ in
     let in_block : c.min-n.result ≤ digest_size h = omega arith in
     record {

@@ -1,4 +1,4 @@
-use Rattle.std.proofs.Common.{◌≡◌, ◌<◌, ◌≤◌, ◌+◌, ◌*◌, ◌-◌, min, ℕ, length, take}
+use Rattle.std.proofs.Common.{◌≡◌, ◌<◌, ◌≤◌, ◌+◌, ◌*◌, ◌-◌, min, length, take}
 use Rattle.standards.specs.Hkdf.{expand, expand_block}
 use Rattle.hash_keys.specs.Hash.{hash_of, block_size, digest_size}
 use Rattle.hash_keys.proofs.expand_into.Given as goal

@@ -15,7 +15,7 @@ expanded h ikm salt info code out size len size_is code_is out_is =
     out_is ∙ ap (λ key. take len (expand (hash_of h) (block_size h) key info ((len + digest_size h - 1) / digest_size h)))
     (ap (λ n. take n code) size_is ∙ code_is ∙ ap (hmac_of h salt) (simp append-nil))
 
-pub returns-clause-output : goal.returns-clause-output
-returns-clause-output c =
+pub returns-clause-ok : goal.returns-clause-ok
+returns-clause-ok c =
     expanded c.args.h c.args.ikm.now c.args.salt.now c.args.info.now c.hmac_of_parts-key.result c.expand_into.new.out c.digest_size-2.result (length c.args.out.now)
     c.digest_size-2.ensures.value c.hmac_of_parts-key.ensures c.expand_into.ensures

@@ -1,7 +1,7 @@
-use Rattle.std.proofs.Common.{◌≡◌, ap, ◌∙◌, ℕ, List, [], ◌++◌, take, map, append_assoc}
+use Rattle.std.proofs.Common.{◌≡◌, ap, ◌∙◌, ℕ, List, [], ◌++◌, take, append_assoc}
 use Rattle.std.proofs.lemmas.List.{append-nil, take-map}
 use Rattle.standards.specs.Hmac.{hmac, pad, block_key}
-use Rattle.hash_keys.specs.Hash.{hash_of, block_size, digest_size, hmac_of}
+use Rattle.hash_keys.specs.Hash.{hash_of, block_size, hmac_of}
 use Rattle.hash_keys.specs.declared.Hash.{Hash}
 use Rattle.hash_keys.proofs.hmac_of_parts.Goals as goal
 
@@ -33,5 +33,5 @@ returns c =
     let inner_pad : take c.block_size.result c.padded-inner_pad.result ≡ pad key 0x36 = front_padded _ size _ key _ _ c.block_size.ensures.value c.padded-inner_pad.ensures c.key_block-block.ensures in
     let outer_pad : take c.block_size-2.result c.padded-outer_pad.result ≡ pad key 0x5c = front_padded _ size _ key _ _ c.block_size-2.ensures.value c.padded-outer_pad.ensures c.key_block-block.ensures in
     let inner : take c.digest_size.result c.digest_of_parts-inner.result ≡ hash_of h (take c.block_size.result c.padded-inner_pad.result ++ c.args.a.now ++ c.args.b.now ++ c.args.c.now) =
-        ap (λ n. take n c.digest_of_parts-inner.result) c.digest_size.ensures.value ∙ c.digest_of_parts-inner.ensures in
+    ap (λ n. take n c.digest_of_parts-inner.result) c.digest_size.ensures.value ∙ c.digest_of_parts-inner.ensures in
     outer_of_inner h c.args.key.now c.args.a.now c.args.b.now c.args.c.now _ _ _ _ c.digest_of_parts.ensures inner outer_pad inner_pad
