@@ -153,17 +153,13 @@ fn padded(block: &[u8; MAX_BLOCK], byte: u8) -> [u8; MAX_BLOCK]
 fn hmac_of_parts(h: Hash, key: &[u8], a: &[u8], b: &[u8], c: &[u8]) -> [u8; MAX_DIGEST]
     ensures { take (digest_size h) result ≡ hmac_of h key.now (a.now ++ b.now ++ c.now) }
 {
+    let size = h.block_size();
     let block = key_block(h, key);
     let inner_pad = padded(&block, INNER_PAD);
-    let inner = digest_of_parts(h, &inner_pad[..h.block_size()], a, b, c);
     let outer_pad = padded(&block, OUTER_PAD);
-    digest_of_parts(
-        h,
-        &outer_pad[..h.block_size()],
-        &inner[..h.digest_size()],
-        &[],
-        &[],
-    )
+    let inner = digest_of_parts(h, &inner_pad[..size], a, b, c);
+    let inner = &inner[..h.digest_size()];
+    digest_of_parts(h, &outer_pad[..size], inner, &[], &[])
 }
 
 /// Fills `out`, of at most a digest's bytes, with the front of HMAC (FIPS 198-1) under `key` of the

@@ -21,17 +21,16 @@ outer_of_inner : (h : Hash) (key a b c inner_pad outer_pad inner outer : List �
 unfolding hmac
 outer_of_inner h key a b c inner_pad outer_pad inner outer outer_is inner_is outer_pad_is inner_pad_is =
     let joined : inner ≡ hash_of h (inner_pad ++ (a ++ b ++ c)) = inner_is ∙ ap (hash_of h) (simp append_assoc) in
-    outer_is ∙ ap (hash_of h) (simp append-nil) ∙ ap (λ xs. hash_of h (outer_pad ++ xs)) joined
-    ∙ ap (λ xs. hash_of h (xs ++ hash_of h (inner_pad ++ (a ++ b ++ c)))) outer_pad_is
-    ∙ ap (λ xs. hash_of h (pad (block_key (hash_of h) (block_size h) key) 0x5c ++ hash_of h (xs ++ (a ++ b ++ c)))) inner_pad_is
+    let whole : outer ≡ hash_of h (outer_pad ++ inner) = outer_is ∙ ap (hash_of h) (simp append-nil) in
+    cc
 
 pub returns : goal.returns
 returns c =
     let h = c.args.h in
     let size = block_size h in
     let key = block_key (hash_of h) size c.args.key.now in
-    let inner_pad : take c.block_size.result c.padded-inner_pad.result ≡ pad key 0x36 = front_padded _ size _ key _ _ c.block_size.ensures.value c.padded-inner_pad.ensures c.key_block-block.ensures in
-    let outer_pad : take c.block_size-2.result c.padded-outer_pad.result ≡ pad key 0x5c = front_padded _ size _ key _ _ c.block_size-2.ensures.value c.padded-outer_pad.ensures c.key_block-block.ensures in
-    let inner : take c.digest_size.result c.digest_of_parts-inner.result ≡ hash_of h (take c.block_size.result c.padded-inner_pad.result ++ c.args.a.now ++ c.args.b.now ++ c.args.c.now) =
+    let inner_pad : take c.block_size-size.result c.padded-inner_pad.result ≡ pad key 0x36 = front_padded _ size _ key _ _ c.block_size-size.ensures.value c.padded-inner_pad.ensures c.key_block-block.ensures in
+    let outer_pad : take c.block_size-size.result c.padded-outer_pad.result ≡ pad key 0x5c = front_padded _ size _ key _ _ c.block_size-size.ensures.value c.padded-outer_pad.ensures c.key_block-block.ensures in
+    let inner : take c.digest_size.result c.digest_of_parts-inner.result ≡ hash_of h (take c.block_size-size.result c.padded-inner_pad.result ++ c.args.a.now ++ c.args.b.now ++ c.args.c.now) =
     ap (λ n. take n c.digest_of_parts-inner.result) c.digest_size.ensures.value ∙ c.digest_of_parts-inner.ensures in
     outer_of_inner h c.args.key.now c.args.a.now c.args.b.now c.args.c.now _ _ _ _ c.digest_of_parts.ensures inner outer_pad inner_pad
