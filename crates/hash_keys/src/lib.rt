@@ -26,7 +26,7 @@ const MAX_DIGEST: usize = 64;
 
 const MAX_BLOCK: usize = 128;
 
-// The bytes of HMAC's inner and outer pads (FIPS 198-1, table 1).
+// The bytes of HMAC's inner and outer pads (FIPS 198-1, section 2.3).
 const INNER_PAD: u8 = 0x36;
 
 const OUTER_PAD: u8 = 0x5c;
