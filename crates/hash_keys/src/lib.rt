@@ -1,0 +1,234 @@
+//! Hashes, HMAC and HKDF over whole texts, without memory.
+//!
+//! ```rust
+//! use hash_keys::{hmac_into, Hash};
+//!
+//! let mut tag = [0u8; 16];
+//! hmac_into(Hash::Sha256, key, nonce, text, &[], &mut tag);
+//! ```
+#![tactic(auto)]
+
+ghost use Rattle.std.specs.Prelude.{◌≡◌, ◌≤◌, ◌<◌, ◌+◌, ◌*◌, ◌/◌, ◌-◌, ◌↔◌, ◌++◌, length, take, codes, Some, IsOk, OnOk, OnErr};
+ghost use Rattle.standards.specs.Hmac.{block_key, pad};
+ghost use Rattle.standards.specs.Hkdf.{expand};
+ghost use Rattle.hash_keys.specs.Hash.{hash_of, block_size, digest_size, hmac_of, hkdf_of};
+
+use sha1::Sha1;
+use sha2::{Digest, Sha224, Sha256, Sha384, Sha512};
+use std::error::Error;
+use std::fmt;
+
+#[cfg(test)]
+mod tests;
+
+// The bytes of the largest digest and of the largest block.
+const MAX_DIGEST: usize = 64;
+
+const MAX_BLOCK: usize = 128;
+
+// The bytes of HMAC's inner and outer pads (FIPS 198-1, section 2.3).
+const INNER_PAD: u8 = 0x36;
+
+const OUTER_PAD: u8 = 0x5c;
+
+/// A hash function by name (FIPS 180-4).
+#[derive(Clone, Copy, Debug, PartialEq, Eq)]
+pub enum Hash {
+    /// SHA-1, which is broken as a cryptographic hash.
+    Sha1,
+    /// SHA-224.
+    Sha224,
+    /// SHA-256.
+    Sha256,
+    /// SHA-384.
+    Sha384,
+    /// SHA-512.
+    Sha512,
+}
+
+impl Hash {
+    /// The bytes of a digest, from 20 to 64.
+    pub fn digest_size(self) -> usize
+        ensures value { result ≡ digest_size self }
+        ensures at_least { 20 ≤ result }
+        ensures at_most { result ≤ 64 }
+    {
+        match self {
+            Hash::Sha1 => 20,
+            Hash::Sha224 => 28,
+            Hash::Sha256 => 32,
+            Hash::Sha384 => 48,
+            Hash::Sha512 => 64,
+        }
+    }
+
+    /// The bytes of a block, 64 or 128.
+    pub fn block_size(self) -> usize
+        ensures value { result ≡ block_size self }
+        ensures at_most { result ≤ 128 }
+        ensures holds_digest { digest_size self ≤ result }
+    {
+        match self {
+            Hash::Sha1 | Hash::Sha224 | Hash::Sha256 => 64,
+            Hash::Sha384 | Hash::Sha512 => 128,
+        }
+    }
+
+    /// Fills `out`, of at most a digest's bytes, with the front of the digest of `message`.
+    pub fn hash_into(self, message: &[u8], out: &mut [u8])
+        requires { length out.old ≤ digest_size self }
+        ensures written { out.new ≡ take (length out.old) (hash_of self message.now) }
+    {
+        let digest = digest_of_parts(self, message, &[], &[], &[]);
+        out.copy_from_slice(&digest[..out.len()]);
+    }
+}
+
+// The digest of the joined parts, by a hasher of the SHA-2 family.
+fn sha2_of_parts<D: Digest>(a: &[u8], b: &[u8], c: &[u8], d: &[u8]) -> D::Output
+    ensures { D.digest_of (a.now ++ b.now ++ c.now ++ d.now) result }
+{
+    let mut hasher = D::new();
+    hasher.update(a);
+    hasher.update(b);
+    hasher.update(c);
+    hasher.update(d);
+    hasher.finalize()
+}
+
+// The digest of the joined parts, by SHA-1.
+fn sha1_of_parts(a: &[u8], b: &[u8], c: &[u8], d: &[u8]) -> [u8; 20]
+    ensures { result ≡ hash_of Hash.Sha1 (a.now ++ b.now ++ c.now ++ d.now) }
+{
+    let mut hasher = Sha1::new();
+    hasher.update(a);
+    hasher.update(b);
+    hasher.update(c);
+    hasher.update(d);
+    hasher.finalize()
+}
+
+// The digest of the joined parts, in the front of the result.
+fn digest_of_parts(h: Hash, a: &[u8], b: &[u8], c: &[u8], d: &[u8]) -> [u8; MAX_DIGEST]
+    ensures { take (digest_size h) result ≡ hash_of h (a.now ++ b.now ++ c.now ++ d.now) }
+{
+    let mut out = [0u8; MAX_DIGEST];
+    match h {
+        Hash::Sha1 => out[..20].copy_from_slice(&sha1_of_parts(a, b, c, d)),
+        Hash::Sha224 => out[..28].copy_from_slice(&sha2_of_parts::<Sha224>(a, b, c, d)),
+        Hash::Sha256 => out[..32].copy_from_slice(&sha2_of_parts::<Sha256>(a, b, c, d)),
+        Hash::Sha384 => out[..48].copy_from_slice(&sha2_of_parts::<Sha384>(a, b, c, d)),
+        Hash::Sha512 => out.copy_from_slice(&sha2_of_parts::<Sha512>(a, b, c, d)),
+    }
+    out
+}
+
+// The key as one block, in the front of the result.
+fn key_block(h: Hash, key: &[u8]) -> [u8; MAX_BLOCK]
+    ensures { take (block_size h) result ≡ block_key (hash_of h) (block_size h) key.now }
+{
+    let mut block = [0u8; MAX_BLOCK];
+    if key.len() > h.block_size() {
+        let size = h.digest_size();
+        let digest = digest_of_parts(h, key, &[], &[], &[]);
+        block[..size].copy_from_slice(&digest[..size]);
+    } else {
+        block[..key.len()].copy_from_slice(key);
+    }
+    block
+}
+
+// Each byte xor one byte.
+fn padded(block: &[u8; MAX_BLOCK], byte: u8) -> [u8; MAX_BLOCK]
+    ensures { result ≡ pad block.now byte }
+{
+    let mut out = [0u8; MAX_BLOCK];
+    for i in 0..MAX_BLOCK {
+        out[i] = block[i] ^ byte;
+    }
+    out
+}
+
+// HMAC of the joined parts, in the front of the result.
+fn hmac_of_parts(h: Hash, key: &[u8], a: &[u8], b: &[u8], c: &[u8]) -> [u8; MAX_DIGEST]
+    ensures { take (digest_size h) result ≡ hmac_of h key.now (a.now ++ b.now ++ c.now) }
+{
+    let size = h.block_size();
+    let block = key_block(h, key);
+    let inner_pad = padded(&block, INNER_PAD);
+    let outer_pad = padded(&block, OUTER_PAD);
+    let inner = digest_of_parts(h, &inner_pad[..size], a, b, c);
+    let inner = &inner[..h.digest_size()];
+    digest_of_parts(h, &outer_pad[..size], inner, &[], &[])
+}
+
+/// Fills `out`, of at most a digest's bytes, with the front of HMAC (FIPS 198-1) under `key` of the
+/// text that `a`, `b` and `c` make joined.
+///
+/// Each part goes to the hash as it is, so that no part is copied.
+pub fn hmac_into(h: Hash, key: &[u8], a: &[u8], b: &[u8], c: &[u8], out: &mut [u8])
+    requires { length out.old ≤ digest_size h }
+    ensures written { out.new ≡ take (length out.old) (hmac_of h key.now (a.now ++ b.now ++ c.now)) }
+{
+    let code = hmac_of_parts(h, key, a, b, c);
+    out.copy_from_slice(&code[..out.len()]);
+}
+
+/// More bytes were asked of HKDF than 255 digests have.
+#[derive(Clone, Copy, Debug, PartialEq, Eq)]
+pub struct OutputTooLong;
+
+impl fmt::Display for OutputTooLong {
+    ghost output = { λ _. Some (codes "more output was asked for than 255 digests") };
+
+    fn fmt<W: fmt::Write>(&self, f: &mut fmt::Formatter<W>) -> fmt::Result {
+        f.write_str("more output was asked for than 255 digests")
+    }
+}
+
+impl Error for OutputTooLong {}
+
+/// Fills `out` with the front of HKDF's output (RFC 5869) from the input key material `ikm`, under
+/// `salt` and `info`.
+///
+/// # Errors
+/// `OutputTooLong` exactly where `out` has more bytes than 255 digests; `out` is then as before.
+pub fn hkdf_into(
+    h: Hash,
+    ikm: &[u8],
+    salt: &[u8],
+    info: &[u8],
+    out: &mut [u8],
+) -> Result<(), OutputTooLong>
+    ensures succeeds { IsOk result ↔ (length out.old ≤ 255 * digest_size h) }
+    ensures ok { OnOk result (out.new ≡ hkdf_of h ikm.now salt.now info.now (length out.old)) }
+    ensures err { OnErr result (out.new ≡ out.old) }
+{
+    if out.len() > 255 * h.digest_size() {
+        return Err(OutputTooLong);
+    }
+    let key = hmac_of_parts(h, salt, ikm, &[], &[]);
+    expand_into(h, &key[..h.digest_size()], info, out);
+    Ok(())
+}
+
+// T (1) ++ T (2) ++ .., as far as `out` goes (RFC 5869, section 2.3).
+fn expand_into(h: Hash, key: &[u8], info: &[u8], out: &mut [u8])
+    requires { length out.old ≤ 255 * digest_size h }
+    ensures { out.new ≡ take (length out.old) (expand (hash_of h) (block_size h) key.now info.now ((length out.old + digest_size h - 1) / digest_size h)) }
+{
+    let size = h.digest_size();
+    let mut last = [0u8; MAX_DIGEST];
+    let mut have = 0;
+    let mut done = 0;
+    let mut number: u8 = 0;
+    while done < out.len() {
+        number += 1;
+        let next = hmac_of_parts(h, key, &last[..have], info, &[number]);
+        last = next;
+        have = size;
+        let n = (out.len() - done).min(size);
+        out[done..done + n].copy_from_slice(&last[..n]);
+        done += n;
+    }
+}
