@@ -17,4 +17,4 @@ WritesOrFaults old new before now bs = Appends old new bs ⊎ (AppendsFront old 
 -- what a call that writes bs answers
 abbrev pub Writes : Option (List ℕ) → Option (List ℕ) → ℕ → ℕ → Result (Unit {0}) TinkError → List ℕ → Type 0
 Writes old new before now (Ok _) bs = Appends old new bs × (before ≤ now)
-Writes old new before now (Err e) bs = AppendsFront old new bs × Rose before now × (e ≡ record { kind = WriteFault })
+Writes old new before now (Err e) bs = AppendsFront old new bs × (before ≤ now) × Rose before now × (e ≡ record { kind = WriteFault })

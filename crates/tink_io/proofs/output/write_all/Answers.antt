@@ -12,7 +12,7 @@ pub loop-done-preserved : goal.loop-done-preserved
 loop-done-preserved g c =
     let bytes = rw whole_rest at c.in-Ok.ensures.bytes in
     record {
-      within = omega (arith, c.in-Ok.ensures.bound, length-drop {A = ℕ}, whole_rest c.loop-done.done c.args.bytes.now);
+      within = omega (arith, c.in-Ok.ensures.bound, length-drop {A = ℕ});
       written = rw take-add (Appends-trans _ _ _ _ _ c.loop-done.invariant.written bytes);
       later = omega (arith, c.in-Ok.ensures.cause.later);
       same = g.met.K.Sink.same_trans _ _ _ c.loop-done.invariant.same c.in-Ok.ensures.same;
