@@ -29,5 +29,5 @@ SameSink-trans s t u p q = record {
   room = q.room ∙ p.room;
   goes_on = (p.goes_on.0 ++ q.goes_on.0, q.goes_on.1 ∙ ap (λ xs. xs ++ q.goes_on.0) p.goes_on.1 ∙ append_assoc s.got p.goes_on.0 q.goes_on.0);
   count = λ none. no_rise s.faults t.faults u.faults s.room t.got u.got q.goes_on.0 q.goes_on.1 (p.count none)
-    (elim (q.count (p.fails ∙ none)) [ inl same ↦ inl same | inr full ↦ inr (omega (arith, p.room)) ]);
+      (elim (q.count (p.fails ∙ none)) [ inl same ↦ inl same | inr full ↦ inr (omega (arith, p.room)) ]);
 }
