@@ -1,5 +1,5 @@
 -- What a caller over memory learns from what stays.
-use Rattle.std.proofs.Common.{◌≡◌, ◌⊎◌, inl, inr, ℕ, ◌<◌, ◌≤◌, List, [], length, arith}
+use Rattle.std.proofs.Common.{◌≡◌, inl, inr, ◌<◌, [], length, arith}
 use Rattle.tink_io.specs.Memory.{MemoryLeft, MemoryTaken, SameSource, SameSink}
 
 -- a source without failing calls does not fail

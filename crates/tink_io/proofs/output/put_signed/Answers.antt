@@ -1,4 +1,4 @@
-use Rattle.std.proofs.Common.{◌≡◌, ◌∷◌, ◌++◌, [], ℕ, List, refl, ap, ℤ, pos, negsuc, ◌<ℤ◌, rules, arith, decimal}
+use Rattle.std.proofs.Common.{◌≡◌, ◌∷◌, ◌++◌, [], refl, ℤ, pos, negsuc, ◌<ℤ◌, rules, decimal}
 use Rattle.std.specs.Fmt.{signed_decimal}
 use Rattle.std.specs.Prelude.{unsigned_abs}
 use Rattle.tink_io.proofs.WrittenLemmas.{Writes-then}
