@@ -1,0 +1,24 @@
+-- How the answer of a call is told, and what it leaves of the draws. The told answer is a value or a kind.
+use Rattle.std.specs.Prelude.{◌≡◌, ◌⊎◌, ◌++◌, ℕ, nat_le, if◌then◌else◌, List, length, drop, Result, Ok, Err}
+use Rattle.tink_io.specs.declared.error.Kind.{Kind}
+use Rattle.tink_io.specs.declared.error.Kind.TheVariants.{OutOfMemory, RandomFault}
+use Rattle.tink_io.specs.declared.error.TinkError.{TinkError}
+
+-- a call that draws nothing gives the told value, or refuses by the told kind, or there is no memory
+abbrev pub Answers : {T : Type 0} → Result T TinkError → Result T Kind → Type 0
+Answers (Ok v) told = told ≡ Ok v
+Answers (Err e) told = (e.kind ≡ OutOfMemory) ⊎ (told ≡ Err e.kind)
+
+-- there is no memory, and the draws that are left are an end of what there was
+pub record IsShort (k : Kind) (before now : List ℕ) : Type 0 where
+  pub kind : k ≡ OutOfMemory
+  pub ends : (taken : List ℕ) × (before ≡ taken ++ now)
+
+-- a call that draws gives the told answer and leaves the told draws, or there is no memory
+abbrev pub Replies : {T : Type 0} → Result T TinkError → Result T Kind × List ℕ → List ℕ → List ℕ → Type 0
+Replies (Ok v) told before now = (told.0 ≡ Ok v) × (now ≡ told.1)
+Replies (Err e) told before now = IsShort e.kind before now ⊎ ((told.0 ≡ Err e.kind) × (now ≡ told.1))
+
+-- what a take of n bytes tells: it is whole or nothing
+abbrev pub takes : ℕ → List ℕ → Result (Unit {0}) Kind × List ℕ
+takes n draws = if nat_le n (length draws) then (Ok tt, drop n draws) else (Err RandomFault, draws)
