@@ -1,0 +1,4 @@
+use Rattle.tink_proto.proofs.wire.writing.+put_within.Given as goal
+
+abbrev pub decreases-put_within : goal.decreases-put_within
+decreases-put_within l = l.k

@@ -1,0 +1,4 @@
+pub mod Enums
+pub mod Outcome
+pub mod View
+pub mod Messages

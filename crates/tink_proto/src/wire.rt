@@ -1,0 +1,109 @@
+//! Messages in the wire format: the trait that each message has, and the fields that its methods read and write.
+
+ghost use Rattle.std.specs.Prelude.{IsTrue, List, ◌≡◌, ◌++◌, Some, IfOk, IfErr, OnOk};
+ghost use Rattle.wire_format.specs.Grammar.{Field as Spelled, AreFields};
+ghost use Rattle.wire_format.specs.Writing.{spelling};
+ghost use Rattle.wire_format.specs.Message.{decoded, encoded};
+ghost use Rattle.wire_format.specs.Columns.{Column, read_into};
+ghost use Rattle.tink_proto.specs.View.{field_of};
+ghost use Rattle.tink_proto.specs.Outcome.{Reads, Becomes};
+
+mod laws;
+mod nested;
+mod reading;
+mod writing;
+
+use crate::{Bytes, ProtoError};
+pub use laws::{law_fields, law_read_again, law_rising};
+pub use nested::{clone_list, clone_option, merge_body, push_body};
+pub use reading::{Content, Field, next_field};
+use std::alloc::{AllocError, Global};
+pub use writing::{put_bytes, put_enum, put_list, put_message, put_number, put_text};
+
+/// A message: a table of fields, and what the table says in code.
+///
+/// `new`, `read_field`, `write_fields` and `try_clone` are written for each message; `decode` and `encode` follow.
+pub trait Message: Drop {
+    // The number and kind of each field.
+    ghost table: { Column Self };
+
+    /// The message with no field.
+    fn new(alloc: Global) -> Self
+        ensures { result ≡ table.start };
+
+    /// Reads one more field; one of another number changes nothing. After an `Err` nothing is said of the message.
+    fn read_field(&mut self, alloc: Global, field: &Field) -> Result<(), ProtoError>
+        ensures { Becomes result self.new (table.step self.old (field_of field.now)) };
+
+    /// Writes the fields at the end of `out`. After an `Err` nothing is said of `out`.
+    fn write_fields(&self, alloc: Global, out: &mut Vec<u8>) -> Result<(), AllocError>
+        ensures bytes { OnOk result (out.new.items ≡ out.old.items ++ spelling (table.write self.now)) }
+
+        // What is written is a message that is read again.
+        ensures fits { OnOk result (IsTrue (table.fits self.now)) };
+
+    /// Reads each field that the bytes spell into the message. After an `Err` nothing is said of it.
+    final fn merge(&mut self, alloc: Global, bytes: &[u8]) -> Result<(), ProtoError>
+        ensures { Becomes result self.new (read_into table.step self.old bytes.now) }
+    {
+        let mut rest = bytes;
+        while !rest.is_empty() {
+            let Some((field, after)) = next_field(rest) else {
+                return Err(ProtoError::BadMessage);
+            };
+            self.read_field(alloc, &field)?;
+            rest = after;
+        }
+        Ok(())
+    }
+
+    /// The same message again.
+    ///
+    /// # Errors
+    /// `OutOfMemory` alone.
+    fn try_clone(&self, alloc: Global) -> Result<Self, ProtoError>
+        ensures same { IfOk result (λ m. m ≡ self.now) }
+        ensures err { IfErr result (λ e. e ≡ ProtoError.OutOfMemory) };
+
+    /// The message that the bytes spell. Unknown fields are skipped.
+    ///
+    /// # Errors
+    /// `BadMessage` exactly where the bytes spell no fields, or where the message has one of them with another type, a
+    /// text of it is not UTF-8, or a body of it is not such a message; and `OutOfMemory`.
+    final fn decode(alloc: Global, bytes: &[u8]) -> Result<Self, ProtoError>
+        ensures exact { Reads result (decoded table.read bytes.now) }
+
+        // The same in the words of the grammar. What is read is what the fields say that the bytes spell.
+        ensures found { IfOk result (λ m. (fs : List Spelled) × AreFields bytes.now fs × (table.read fs ≡ Some m)) }
+
+        // What the fields say is read, unless memory runs out.
+        ensures only { (fs : List Spelled) → AreFields bytes.now fs → Reads result (table.read fs) }
+    {
+        from_bytes(alloc, bytes)
+    }
+
+    /// The bytes of the message: rising numbers, shortest varints, no defaults.
+    ///
+    /// # Errors
+    /// `OutOfMemory` alone.
+    final fn encode(&self, alloc: Global) -> Result<Bytes, ProtoError>
+        ensures bytes { IfOk result (λ b. b ≡ encoded table.write self.now) }
+
+        // They are read as this message.
+        ensures again { IfOk result (λ b. decoded table.read b ≡ Some self.now) }
+        ensures fits { OnOk result (IsTrue (table.fits self.now)) }
+        ensures err { IfErr result (λ e. e ≡ ProtoError.OutOfMemory) }
+    {
+        let mut out = Vec::new(alloc);
+        self.write_fields(alloc, &mut out)?;
+        Ok(Bytes::from_vec(out))
+    }
+}
+
+fn from_bytes<M: Message>(alloc: Global, bytes: &[u8]) -> Result<M, ProtoError>
+    ensures { Reads result (decoded (M.table).read bytes.now) }
+{
+    let mut message = M::new(alloc);
+    message.merge(alloc, bytes)?;
+    Ok(message)
+}

@@ -1,0 +1,6 @@
+pub mod Streaming
+pub mod Aead
+pub mod AesCtrHmac
+pub mod Mac
+pub mod Prf
+pub mod Envelope

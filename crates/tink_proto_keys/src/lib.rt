@@ -1,0 +1,28 @@
+//! The messages of keys and of their formats, by `tink_proto`'s trait `Message`: `AesGcmKey::decode(alloc, bytes)`,
+//! `encode` and `try_clone`. Each reads and writes what its table in `specs/` says.
+#![tactic(auto)]
+
+mod aead;
+mod aes_ctr_hmac;
+mod envelope;
+mod mac;
+mod prf;
+mod streaming;
+
+pub use aead::{AesGcmKey, AesGcmKeyFormat, AesGcmSivKey, AesGcmSivKeyFormat};
+pub use aes_ctr_hmac::{
+    AesCtrHmacAeadKey, AesCtrHmacAeadKeyFormat, AesCtrKey, AesCtrKeyFormat, AesCtrParams,
+};
+pub use envelope::KmsEnvelopeAeadKeyFormat;
+pub use mac::{AesCmacKey, AesCmacKeyFormat, AesCmacParams, HmacKey, HmacKeyFormat, HmacParams};
+pub use prf::{
+    AesCmacPrfKey, AesCmacPrfKeyFormat, HkdfPrfKey, HkdfPrfKeyFormat, HkdfPrfParams, HmacPrfKey,
+    HmacPrfKeyFormat, HmacPrfParams,
+};
+pub use streaming::{
+    AesCtrHmacStreamingKey, AesCtrHmacStreamingKeyFormat, AesCtrHmacStreamingParams,
+    AesGcmHkdfStreamingKey, AesGcmHkdfStreamingKeyFormat, AesGcmHkdfStreamingParams,
+};
+
+#[cfg(test)]
+mod tests;

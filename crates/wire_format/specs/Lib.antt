@@ -1,0 +1,11 @@
+pub mod Grammar
+pub mod Reading
+pub mod Writing
+pub mod Message
+pub mod Columns
+pub mod Table
+pub mod Values
+pub mod Kinds
+pub mod GrammarLaws
+pub mod ColumnLaws
+pub mod ValueLaws
