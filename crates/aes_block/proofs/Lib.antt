@@ -1,0 +1,5 @@
+pub mod TableRules
+pub mod Rounds
+pub mod KeyWords
+pub mod RoundKeys
+pub mod KeyedBlocks

@@ -1,0 +1,31 @@
+//! AES (FIPS 197): the block ciphers with keys of 16, 24 and 32 bytes, by tables of bytes.
+#![tactic(auto)]
+
+ghost use Rattle.std.specs.Prelude.{◌≡◌, ℕ, List, length};
+ghost use Rattle.standards.specs.Lists.{AreBytes};
+ghost use Rattle.aes_block.specs.Ciphers.{IsKeySize, decrypted, encrypted};
+
+mod aes128;
+mod aes192;
+mod aes256;
+mod decryption;
+mod encryption;
+mod key_expansion;
+mod schedule;
+mod tables;
+
+pub use aes128::Aes128;
+pub use aes192::Aes192;
+pub use aes256::Aes256;
+
+/// Under each key of 16, 24 or 32 bytes, decryption undoes encryption, and encryption undoes decryption, at every
+/// block of 16 bytes.
+pub fn law_round_trip()
+    ensures decryption_undoes { (n : ℕ) (key block : List ℕ) → IsKeySize n → length block ≡ 16 → AreBytes key → AreBytes block
+        → decrypted n key (encrypted n key block) ≡ block }
+    ensures encryption_undoes { (n : ℕ) (key block : List ℕ) → IsKeySize n → length block ≡ 16 → AreBytes key → AreBytes block
+        → encrypted n key (decrypted n key block) ≡ block }
+{}
+
+#[cfg(test)]
+mod tests;

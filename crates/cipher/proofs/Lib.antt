@@ -1,0 +1,6 @@
+pub mod Led
+pub mod Parts
+pub mod XorBytes
+pub mod Chunks
+pub mod UnderTweak
+pub mod Alike

@@ -1,0 +1,5 @@
+pub mod Buffers
+pub mod Transcript
+pub mod Contexts
+pub mod TweakContexts
+pub mod BlockVectors

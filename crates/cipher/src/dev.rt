@@ -1,0 +1,3 @@
+//! Tests of ciphers by vectors.
+
+pub mod block_cipher;

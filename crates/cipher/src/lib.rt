@@ -1,0 +1,28 @@
+//! Traits of block ciphers and tweakable block ciphers, and the buffers that their calls work on.
+#![tactic(auto)]
+
+mod blocks;
+mod buffers;
+pub mod dev;
+mod init;
+mod tweaks;
+
+pub use blocks::backends::{
+    BlockCipherDecBackend, BlockCipherDecClosure, BlockCipherEncBackend, BlockCipherEncClosure,
+};
+pub use blocks::{BlockCipherDecrypt, BlockCipherEncrypt};
+pub use buffers::{InOut, InOutBuf, InOutBufReserved, NotEqualError, OutIsTooSmallError, part_of};
+pub use init::{
+    AlgorithmName, InnerIvInit, InvalidLength, IvState, KeyInit, KeyIvInit, SetIvState,
+};
+pub use tweaks::zero::ZeroTweak;
+pub use tweaks::{
+    Tweak, TweakBlockCipherDecBackend, TweakBlockCipherDecClosure, TweakBlockCipherDecrypt,
+    TweakBlockCipherEncBackend, TweakBlockCipherEncClosure, TweakBlockCipherEncrypt, TweakSizeUser,
+};
+
+/// A block of B bytes.
+pub type Block<const B: usize> = [u8; B];
+
+#[cfg(test)]
+mod tests;
