@@ -1,0 +1,2 @@
+pub mod LoadingFacts
+mod StandardFacts

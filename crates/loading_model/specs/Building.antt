@@ -1,0 +1,70 @@
+-- From a key's data to a streaming key.
+use Rattle.std.specs.Prelude.{ℕ, ◌+◌, ◌^◌, ℤ, pos, List, [], length, codes, Bool, ◌&&◌, ◌||◌, if◌then◌else◌, nat_eq, nat_le, nat_lt, Option, Some, None, Result, Ok, Err}
+use Rattle.std.specs.Ordering.{int_eq}
+use Rattle.std.specs.Str.{bytes_eq}
+use Rattle.hash_keys.specs.declared.Hash.{Hash}
+use Rattle.hash_keys.specs.declared.Hash.TheVariants.{Sha1, Sha224, Sha256, Sha384, Sha512}
+use Rattle.hash_keys.specs.Hash.{digest_size}
+use Rattle.tink_io.specs.declared.error.Kind.{Kind}
+use Rattle.tink_io.specs.declared.error.Kind.TheVariants.{UnsupportedKeyType, InvalidKey}
+use Rattle.tink_proto.specs.declared.enums.HashType.{HashType}
+use Rattle.tink_proto.specs.declared.enums.HashType.TheVariants as types
+use Rattle.tink_proto.specs.declared.messages.keys.KeyData.{KeyData}
+use Rattle.tink_proto.specs.Enums.{hash_number}
+use Rattle.tink_proto_keys.specs.declared.streaming.AesCtrHmacStreamingKey.{AesCtrHmacStreamingKey}
+use Rattle.tink_proto_keys.specs.Streaming.{aes_ctr_hmac_streaming_key}
+use Rattle.wire_format.specs.Message.{decoded}
+use Rattle.wire_format.specs.Reading.{◌>>=◌}
+use Rattle.stream_model.specs.Key.{StreamKey}
+use Rattle.stream_model.specs.Key.SegmentKind.{CtrHmac}
+
+-- the URL of keys of streaming AEAD by AES-CTR and HMAC
+abbrev pub aes_ctr_hmac_url : List ℕ
+aes_ctr_hmac_url = codes "type.googleapis.com/google.crypto.tink.AesCtrHmacStreamingKey"
+
+-- the hash of a number, where one has it
+abbrev pub hash_numbered : ℤ → Option Hash
+hash_numbered n =
+    if int_eq n (hash_number types.Sha1) then Some Sha1
+    else if int_eq n (hash_number types.Sha384) then Some Sha384
+    else if int_eq n (hash_number types.Sha256) then Some Sha256
+    else if int_eq n (hash_number types.Sha512) then Some Sha512
+    else if int_eq n (hash_number types.Sha224) then Some Sha224
+    else None
+
+-- 16 or 32 bytes
+abbrev pub is_aes_size : ℕ → Bool
+is_aes_size n = nat_eq n 16 || nat_eq n 32
+
+-- The key has 16 or 32 bytes, and so has a derived one, which is no longer. The tag has from ten bytes to a digest. The
+-- first segment has room for a header, a tag and some text.
+abbrev pub is_streaming : ℕ → ℕ → Hash → ℕ → ℕ → Bool
+is_streaming main derived tag_hash tag segment =
+    is_aes_size main && is_aes_size derived && nat_le derived main && nat_le 10 tag && nat_le tag (digest_size tag_hash)
+    && nat_le (derived + 7 + tag + 2) segment && nat_lt segment (2 ^ 32)
+
+abbrev pub streaming_key : List ℕ → ℕ → Hash → Hash → ℕ → ℕ → Option StreamKey
+streaming_key main derived hkdf_hash tag_hash tag segment =
+    if is_streaming (length main) derived tag_hash tag segment
+    then Some (record { main = main; hkdf_hash = hkdf_hash; derived = derived; segment = segment; kind = CtrHmac tag_hash tag; out = [] })
+    else None
+
+-- the streaming key of a message of version 0, which has its parameters and those of its HMAC
+unfoldable pub streaming_of : AesCtrHmacStreamingKey → Option StreamKey
+streaming_of m = do
+  params ← m.params
+  hmac ← params.hmac_params
+  hkdf_hash ← hash_numbered params.hkdf_hash_type
+  tag_hash ← hash_numbered hmac.hash
+  if nat_eq m.version 0 then streaming_key m.key_value params.derived_key_size hkdf_hash tag_hash hmac.tag_size params.ciphertext_segment_size else None
+
+abbrev pub or_refused : {A : Type 0} → Kind → Option A → Result A Kind
+or_refused kind None = Err kind
+or_refused kind (Some a) = Ok a
+
+-- An empty value is refused before the URL is looked at.
+abbrev pub build : KeyData → Result StreamKey Kind
+build d =
+    if nat_eq (length d.value) 0 then Err InvalidKey
+    else if bytes_eq d.type_url aes_ctr_hmac_url then or_refused InvalidKey (decoded aes_ctr_hmac_streaming_key.read d.value >>= streaming_of)
+    else Err UnsupportedKeyType

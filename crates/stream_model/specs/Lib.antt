@@ -1,0 +1,5 @@
+pub mod Cut
+pub mod Agree
+pub mod Key
+pub mod Sealing
+pub mod Opening

@@ -1,0 +1,2 @@
+//! Definitions of streams: how a text is cut, sealed and opened. There is no code here.
+#![tactic(auto)]

@@ -1,0 +1,15 @@
+pub mod WriterSteps
+pub mod WritingFacts
+pub mod HeldFacts
+pub mod FrontFacts
+pub mod TrialFacts
+pub mod ChoosingSteps
+pub mod ReadingFacts
+pub mod ChosenFacts
+mod AesBytes
+mod KeyWords
+mod RoundKeys
+mod CounterSteps
+mod SegmentSteps
+mod DerivedKeys
+pub mod WholeSteps

@@ -1,0 +1,14 @@
+-- Segments at the front of bytes that are held.
+use Rattle.std.specs.Prelude.{◌≡◌, ℕ, ◌<◌, ◌≤◌, Bool, List, length, take, nat_le}
+use Rattle.std.specs.declared.option.Option.{Option}
+use Rattle.std.specs.Io.KnownBytes.{Keeps, IsAtEnd, prepend_known}
+
+-- the text's segment is the chunk at the front of the held bytes, and is marked where nothing follows it
+pub record OpensTo (seg : ℕ → Bool → List ℕ → List ℕ) (number size : ℕ) (held text : List ℕ) : Type 0 where
+  pub some : 0 < length held
+  pub segment : seg number (nat_le (length held) size) text ≡ take size held
+
+-- the held bytes and those that are left make the rest, and more than a chunk is held unless nothing is left
+pub record IsHeld (size : ℕ) (rest : Option (List ℕ)) (held : List ℕ) (left : Option (List ℕ)) : Type 0 where
+  pub all : Keeps rest (prepend_known held left)
+  pub end : length held ≤ size → IsAtEnd left

@@ -1,0 +1,37 @@
+//! Streams that are sealed and opened segment by segment.
+#![tactic(auto)]
+
+pub use buffers::Buffers;
+pub use choosing::choose;
+pub use ctr_hmac_segment::CtrHmacSegment;
+pub use kept::Kept;
+pub use nonce::generate_segment_nonce;
+pub use opening::{Opener, open_front, open_held};
+pub use progress::Progress;
+pub use reading::SegmentReader;
+pub use segment_traits::{SegmentDecrypter, SegmentEncrypter};
+pub use starting::{Trial, start};
+pub use streaming_key::StreamingKey;
+pub use trying::OpensStreams;
+pub use whole::open_rest;
+pub use writing::{Mode, Sealer, SegmentWriter};
+
+mod aes;
+mod buffers;
+mod choosing;
+mod counter;
+mod ctr_hmac_segment;
+mod held;
+mod kept;
+mod nonce;
+mod opening;
+mod progress;
+mod reading;
+#[cfg(test)]
+mod segment_tests;
+mod segment_traits;
+mod starting;
+mod streaming_key;
+mod trying;
+mod whole;
+mod writing;
