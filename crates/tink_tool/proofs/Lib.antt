@@ -1,0 +1,12 @@
+pub mod RunLemmas
+pub mod OpenLemmas
+pub mod Promises
+pub mod PourSteps
+pub mod SealSteps
+pub mod LoadLemmas
+pub mod WordLemmas
+pub mod ProgramLemmas
+pub mod StatusLemmas
+pub mod ReadOut
+pub mod OpenSteps
+pub mod RunSteps

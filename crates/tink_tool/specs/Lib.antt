@@ -1,0 +1,9 @@
+pub mod Outside
+pub mod SealAnswers
+pub mod OpenAnswers
+pub mod Run
+pub mod SealSteps
+pub mod Draws
+pub mod Words
+pub mod Program
+pub mod OpenSteps

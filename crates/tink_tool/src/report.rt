@@ -1,0 +1,15 @@
+/// How much was sealed or opened.
+#[derive(Clone, Copy, Debug, PartialEq, Eq)]
+pub struct Report {
+    /// Segments written, or accepted.
+    pub segments: u64,
+    /// Bytes of text.
+    pub bytes: u64,
+}
+
+/// What is done with a stream.
+#[derive(Clone, Copy, Debug, PartialEq, Eq)]
+pub enum Command {
+    Seal,
+    Open,
+}
