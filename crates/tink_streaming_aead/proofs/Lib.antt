@@ -13,3 +13,4 @@ mod CounterSteps
 mod SegmentSteps
 mod DerivedKeys
 pub mod WholeSteps
+pub mod FullFacts

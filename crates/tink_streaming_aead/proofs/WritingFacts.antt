@@ -7,6 +7,7 @@ use Rattle.std.specs.Prelude.{Result, Ok, Err, OnOk}
 use Rattle.std.specs.Io.KnownBytes.{Appends}
 use Rattle.std.proofs.KnownBytes.{Appends-trans, Appends-nil}
 use Rattle.stream_model.specs.Cut.{cut, but_last, or_one, chunks, full_chunks, open_chunk, room_at, unmarked, sealed}
+use Rattle.stream_model.proofs.SealingFacts.{length-chunks}
 use Rattle.stream_model.proofs.CutFacts.{full_chunks_fits, open_chunk_fits, full_chunks_more, room_at_next, unmarked-append, full_chunks-append, open_chunk-append, sealed_split}
 use Rattle.tink_io.specs.Written.{AppendsFront}
 use Rattle.tink_io.specs.declared.error.Kind.{Kind}
@@ -148,15 +149,6 @@ wrote_nothing seg a b m f =
       counted = omega (arith, ap length none);
       few = omega (arith, f.number);
     }
-
-length-or_one : (ts : List (List ℕ)) → length (or_one ts) ≡ length (but_last ts) + 1
-length-or_one [] = refl
-length-or_one (t ∷ []) = refl
-length-or_one (t ∷ u ∷ ts) = omega (arith, length-or_one (u ∷ ts))
-
-pub length-chunks : (a b : ℕ) (R : List ℕ) → length (chunks a b R) ≡ length (full_chunks a b R) + 1
-unfolding chunks full_chunks
-length-chunks a b R = length-or_one (cut a b R)
 
 -- what a fresh writer's text and its marked segment are
 whole : (seg : ℕ → Bool → List ℕ → List ℕ) (a b : ℕ) (m n : Moment) (R : List ℕ) → IsFresh m → Wrote seg a b m n R

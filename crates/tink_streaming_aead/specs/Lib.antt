@@ -6,3 +6,4 @@ pub mod Schedule
 pub mod SegmentKeys
 pub mod StreamingKeys
 pub mod Whole
+pub mod Full

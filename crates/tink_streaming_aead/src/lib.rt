@@ -5,6 +5,7 @@ pub use buffers::Buffers;
 pub use choosing::choose;
 pub use ctr_hmac_segment::CtrHmacSegment;
 pub use kept::Kept;
+pub use laws::{law_any_cutting, law_full_segments};
 pub use nonce::generate_segment_nonce;
 pub use opening::{Opener, open_front, open_held};
 pub use progress::Progress;
@@ -18,11 +19,14 @@ pub use writing::{Mode, Sealer, SegmentWriter};
 
 mod aes;
 mod buffers;
+#[cfg(test)]
+mod caller_tests;
 mod choosing;
 mod counter;
 mod ctr_hmac_segment;
 mod held;
 mod kept;
+mod laws;
 mod nonce;
 mod opening;
 mod progress;
