@@ -1,12 +1,12 @@
 -- Laws of a writer's calls, for callers that give a text in pieces.
-use Rattle.std.proofs.Common.{◌≡◌, ◌<◌, ◌≤◌, ◌+◌, ◌-◌, ◌*◌, ◌^◌, ℕ, zero, suc, Bool, true, List, [], ◌∷◌, ◌++◌, length, length-drop, take, drop, inl, inr, refl, sym, ap, subst, ◌∙◌, arith, length-append, append_assoc, add-zero}
+use Rattle.std.proofs.Common.{◌≡◌, ◌<◌, ◌≤◌, ◌+◌, ◌-◌, ◌*◌, ◌^◌, ℕ, zero, suc, Bool, true, List, [], ◌∷◌, ◌++◌, length, length-drop, take, drop, inl, inr, sym, ap, subst, ◌∙◌, arith, length-append, append_assoc, add-zero}
 use Rattle.std.proofs.Math.Seq.{take-append-add}
 use Rattle.std.proofs.Math.Nat.{mul-le-mul_right}
 use Rattle.std.specs.declared.option.Option.{Option}
 use Rattle.std.specs.Prelude.{Result, Ok, Err, OnOk}
 use Rattle.std.specs.Io.KnownBytes.{Appends}
 use Rattle.std.proofs.KnownBytes.{Appends-trans, Appends-nil}
-use Rattle.stream_model.specs.Cut.{cut, but_last, or_one, chunks, full_chunks, open_chunk, room_at, unmarked, sealed}
+use Rattle.stream_model.specs.Cut.{chunks, full_chunks, open_chunk, room_at, unmarked, sealed}
 use Rattle.stream_model.proofs.SealingFacts.{length-chunks}
 use Rattle.stream_model.proofs.CutFacts.{full_chunks_fits, open_chunk_fits, full_chunks_more, room_at_next, unmarked-append, full_chunks-append, open_chunk-append, sealed_split}
 use Rattle.tink_io.specs.Written.{AppendsFront}

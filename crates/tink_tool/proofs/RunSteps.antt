@@ -12,7 +12,7 @@ use Rattle.tink_io.specs.declared.error.TinkError.{TinkError}
 use Rattle.tink_proto.specs.declared.messages.keys.Key.{Key}
 use Rattle.tink_proto.specs.declared.messages.keys.KeyData.{KeyData}
 use Rattle.tink_proto.specs.declared.messages.keys.Keyset.{Keyset}
-use Rattle.tink_proto.specs.Messages.{keyset}
+use Rattle.tink_proto.specs.Messages as messages
 use Rattle.wire_format.specs.Message.{decoded}
 use Rattle.keyset_model.specs.Keys.{enabled}
 use Rattle.keyset_model.specs.Validity.{is_valid}
@@ -80,7 +80,7 @@ with_primary_refuses keys (Some key) = none _
 
 load_refuses : (bytes : List ℕ) → Refuses (load bytes)
 unfolding load
-load_refuses bytes = go (decoded keyset.read bytes)
+load_refuses bytes = go (decoded messages.keyset.read bytes)
   where
     go : (o : Option Keyset) → Refuses (load_decoded o)
     go None = refusal BadKeyset tt
