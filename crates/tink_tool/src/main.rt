@@ -1,12 +1,16 @@
 //! Seals and opens streams under Tink keysets.
 #![tactic(auto)]
 
+#[cfg(test)]
+mod fault_tests;
 mod load;
 #[cfg(test)]
 mod load_tests;
 mod open;
 mod program;
 mod report;
+#[cfg(test)]
+mod row_tests;
 mod run;
 mod seal;
 #[cfg(test)]

@@ -7,16 +7,16 @@ use tink_io::{SureSink, SureSource};
 
 // A raw key of id 01020304: main key 00 to 0f, SHA-256 twice, derived keys of 16 bytes, tags of 32,
 // segments of 4,096.
-const KEYSET: &str =
+pub(crate) const KEYSET: &str =
     "0884868808126f0a640a3d747970652e676f6f676c65617069732e636f6d2f676f6f676c652e63727970746f2e74696e6b2e416573437472486d616353747265616d696e674b65791221120d088020101018032204080310201a10000102030405060708090a0b0c0d0e0f1801100118848688082003";
 
-const SEED: &str = "0000000000000000000000000000000000000000000000000000000000000000";
+pub(crate) const SEED: &str = "0000000000000000000000000000000000000000000000000000000000000000";
 
 // The stream of "ten bytes." with the associated data 00ff.
 const TEN_BYTES: &str =
     "1876b8e0ada0f13d90405d6ae55386bd28bdd219b8a08ded2f087473280bfcb781da1d2067921873485fc9ded98aeb6a87dbc842f20ff403c825d41bdad241efede7";
 
-fn words(alloc: Global, texts: &[&str]) -> Result<Vec<String>, Fail> {
+pub(crate) fn words(alloc: Global, texts: &[&str]) -> Result<Vec<String>, Fail> {
     let mut words = Vec::new(alloc);
     for text in texts {
         words.push(String::from_str(alloc, text)?)?;
@@ -24,16 +24,26 @@ fn words(alloc: Global, texts: &[&str]) -> Result<Vec<String>, Fail> {
     Ok(words)
 }
 
-// The status, and what was written.
-fn run(alloc: Global, texts: &[&str], input: Vec<u8>) -> Result<(u8, Vec<u8>), Fail> {
+/// The status, and what was written.
+pub(crate) fn run(alloc: Global, texts: &[&str], input: Vec<u8>) -> Result<(u8, Vec<u8>), Fail> {
+    let (status, written, _) = told(alloc, texts, input)?;
+    Ok((status, written))
+}
+
+/// The status, what was written, and what was told.
+pub(crate) fn told(
+    alloc: Global,
+    texts: &[&str],
+    input: Vec<u8>,
+) -> Result<(u8, Vec<u8>, Vec<u8>), Fail> {
     let words = words(alloc, texts)?;
     let mut source = SureSource::new(input);
     let mut sink = SureSink::new(alloc);
-    sink.reserve(alloc, 10000)?;
+    sink.reserve(alloc, 20000)?;
     let mut faults = SureSink::new(alloc);
     faults.reserve(alloc, 100)?;
     let status = program(alloc, &words, &mut source, &mut sink, &mut faults);
-    Ok((status, sink.into_bytes()))
+    Ok((status, sink.into_bytes(), faults.into_bytes()))
 }
 
 fn sealed(alloc: Global, text: Vec<u8>) -> Result<Vec<u8>, Fail> {
@@ -56,7 +66,7 @@ fn letters(alloc: Global, count: usize) -> Result<Vec<u8>, Fail> {
     Ok(text)
 }
 
-fn front(alloc: Global, bytes: &[u8], count: usize) -> Result<Vec<u8>, Fail> {
+pub(crate) fn front(alloc: Global, bytes: &[u8], count: usize) -> Result<Vec<u8>, Fail> {
     let mut front = Vec::new(alloc);
     for byte in bytes.iter().take(count) {
         front.push(*byte)?;
