@@ -53,7 +53,7 @@ const A: &str = "1876b8e0ada0f13d90405d6ae55386bd28bdd219b8a08ded1730564f8d3f16a
 const AB: &str =
     "1876b8e0ada0f13d90405d6ae55386bd28bdd219b8a08ded41d3fd03010cd7de192dc15ae13cb3e75d9d898047ec";
 
-// The segments of 1, of 25 and of 0 bytes of text under the small key.
+// A stream of segments of 1, of 25 and of no bytes of text under the small key.
 const EMPTY_LAST: &str =
     "1876b8e0ada0f13d90405d6ae55386bd28bdd219b8a08ded0020e287e63e3496cabbf8443f81c3d4f204e7821789d8d86004b95e81b4618e23bb1bbffc6d4133a219589197f2789d1f169d81638ea862";
 
