@@ -1,0 +1,6 @@
+pub mod RunLemmas
+pub mod LedOnLemmas
+pub mod EndLemmas
+pub mod Unpadding
+pub mod BytesRun
+pub mod MessageLemmas

@@ -1,0 +1,64 @@
+-- A message with its padding in the front of a buffer.
+use Rattle.std.proofs.Common.{◌≡◌, ℕ, ◌+◌, ◌-◌, ◌≤◌, true, false, List, [], ◌∷◌, ◌++◌, Option, None, Some, length, take, drop, ap, sym, ◌∙◌, refl, arith, append_assoc, length-append, length-take}
+use Rattle.std.proofs.lemmas.List.{take_at, drop_at, drop-drop}
+use Rattle.std.specs.Prelude.{option_map, Result, Ok, Err, IsOk, OnErr, ◌↔◌}
+use Rattle.cipher.specs.Buffers.{pick}
+use Rattle.cipher.specs.Transcript.{Block}
+use Rattle.cipher.proofs.Parts.{pick-same, length-pick}
+use Rattle.cipher_modes.specs.Paddings.{Fits, IsPadded, padded}
+use Rattle.cipher_modes.specs.Padded.{bytes_run, IsEncrypted}
+
+-- behind a message in front of a buffer the buffer is as it was
+drop-behind : (message old : List ℕ) (len n : ℕ) → length message ≡ len → len ≤ n → drop n (message ++ drop len old) ≡ drop n old
+drop-behind message old len n size order =
+    let k : ℕ = n - len in
+    let split : n ≡ len + k = omega arith in
+    ap (λ m. drop m (message ++ drop len old)) split
+    ∙ (sym (drop-drop k len (message ++ drop len old)) ∙ (ap (drop k) (drop_at message (drop len old) len size) ∙ (drop-drop k len old ∙ ap (λ m. drop m old) (sym split))))
+
+pub fits-room : (o : Option (List ℕ)) (len room : ℕ) → Fits o len room → len ≤ room
+fits-room None len room h = absurd h
+fits-room (Some tail) len room h = omega arith
+
+-- the input is copied before the padding
+pub padded-copied : (o : Option (List ℕ)) (len n : ℕ) (input old mid new : List ℕ) → length input ≡ len → len ≤ length old → IsPadded o len n old mid → new ≡ input ++ drop (length input) mid
+    → IsPadded o len n (pick input (take len old) ++ drop len old) new
+padded-copied None len n input old mid new size room h e = h
+padded-copied (Some tail) len n input old mid new size room h e =
+    let front : length (take len old) ≡ len = simp length-take (omega arith) in
+    let read : pick input (take len old) ≡ input = pick-same input (take len old) (size ∙ sym front) in
+    let behind : drop (length input) mid ≡ tail ++ drop n old =
+    ap (λ k. drop k mid) size ∙ (ap (drop len) (h.1 ∙ append_assoc (take len old) tail (drop n old)) ∙ drop_at (take len old) (tail ++ drop n old) len front) in
+    let is : new ≡ (input ++ tail) ++ drop n old = e ∙ (ap (λ zs. input ++ zs) behind ∙ sym (append_assoc input tail (drop n old))) in
+    let n_is : n ≡ len + length tail = h.0 in
+    let first : take len (input ++ drop len old) ≡ input = take_at input (drop len old) len size in
+    let last : drop n (input ++ drop len old) ≡ drop n old = drop-behind input old len n size (omega arith) in
+    (h.0, rw (read, first, last) is)
+
+encrypted : {S : Type 0} (step : S → Block → Block × S) (s : S) (B : ℕ) (o : Option (List ℕ)) (len n : ℕ) (message old mid new : List ℕ) → length message ≡ len
+    → IsPadded o len n (message ++ drop len old) mid → new ≡ bytes_run step s B (take n mid) ++ drop n mid → IsEncrypted step s B (option_map (λ tail. message ++ tail) o) n old new
+encrypted step s B None len n message old mid new size h e = h
+encrypted step s B (Some tail) len n message old mid new size h e =
+    let n_is : n ≡ len + length tail = h.0 in
+    let first : take len (message ++ drop len old) ≡ message = take_at message (drop len old) len size in
+    let last : drop n (message ++ drop len old) ≡ drop n old = drop-behind message old len n size (omega arith) in
+    let is : mid ≡ (message ++ tail) ++ drop n old = h.1 ∙ (ap (λ zs. (zs ++ tail) ++ drop n (message ++ drop len old)) first ∙ ap (λ zs. (message ++ tail) ++ zs) last) in
+    let whole : length (message ++ tail) ≡ n = length-append message tail ∙ omega arith in
+    let front : take n mid ≡ message ++ tail = ap (take n) is ∙ take_at (message ++ tail) (drop n old) n whole in
+    let rest : drop n mid ≡ drop n old = ap (drop n) is ∙ drop_at (message ++ tail) (drop n old) n whole in
+    (sym whole, e ∙ (ap (λ zs. bytes_run step s B zs ++ drop n mid) front ∙ ap (λ zs. bytes_run step s B (message ++ tail) ++ zs) rest))
+
+-- and what a mode makes of it
+pub message-encrypted : {S : Type 0} (step : S → Block → Block × S) (s : S) (B : ℕ) (padding : ℕ → ℕ → Option (List ℕ)) (len n : ℕ) (input old mid new : List ℕ) → len ≤ length old
+    → IsPadded (padding B len) len n (pick input (take len old) ++ drop len old) mid → new ≡ bytes_run step s B (take n mid) ++ drop n mid
+    → IsEncrypted step s B (padded padding B (pick input (take len old))) n old new
+message-encrypted step s B padding len n input old mid new room h e =
+    let size : length (pick input (take len old)) ≡ len = length-pick input (take len old) ∙ simp length-take (omega arith) in
+    rw size (encrypted step s B (padding B len) len n (pick input (take len old)) old mid new size h e)
+
+-- where the room is enough for any padding, a refusal says that there is none
+pub cannot-pad : {E : Type 0} (f : List ℕ → List ℕ) (r : Result ℕ E) (o : Option (List ℕ)) (len room : ℕ) → (IsOk r ↔ Fits o len room) → ((tail : List ℕ) → o ≡ Some tail → len + length tail ≤ room)
+    → OnErr r (option_map f o ≡ None)
+cannot-pad f (Ok n) o len room iff fits = tt
+cannot-pad f (Err e) None len room iff fits = refl
+cannot-pad f (Err e) (Some tail) len room iff fits = let no : false ≡ true = iff.1 (fits tail refl) in cc

@@ -1,0 +1,7 @@
+pub mod Steps
+pub mod Contexts
+pub mod Paddings
+pub mod PaddingLaws
+pub mod Padded
+pub mod PaddedVec
+pub mod ModeVectors

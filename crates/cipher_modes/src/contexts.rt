@@ -1,0 +1,179 @@
+//! The closures behind the calls on one block and on a slice of blocks.
+
+ghost use Rattle.std.specs.Prelude.{◌≡◌, ℕ, List, [], ◌∷◌, ◌+◌, ◌≤◌, ◌<◌, length, slice_index_or};
+ghost use Rattle.cipher.specs.Buffers.{read_of, read_all, pick};
+ghost use Rattle.cipher_modes.specs.Steps.{run_of, state_after, LedOn};
+ghost use Rattle.cipher_modes.specs.Contexts.{OneBlock, EachBlock};
+
+use crate::backends::{
+    BlockModeDecBackend, BlockModeDecClosure, BlockModeEncBackend, BlockModeEncClosure,
+};
+use cipher::{InOut, InOutBuf, part_of};
+
+#[derive(Drop)]
+pub(crate) struct BlockCtx<'i, 'o, const B: usize> {
+    pub(crate) output: &'o mut [u8; B],
+    pub(crate) input: &'i [[u8; B]],
+}
+
+#[derive(Drop)]
+pub(crate) struct BlocksCtx<'i, 'o, const B: usize> {
+    pub(crate) output: &'o mut [[u8; B]],
+    pub(crate) input: &'i [[u8; B]],
+}
+
+impl<const B: usize> BlockModeEncClosure<B> for BlockCtx<'_, '_, B> {
+    ghost keeps = { λ a b. b.output.ghost_name ≡ a.output.ghost_name };
+
+    ghost leads = { OneBlock };
+
+    fn call<K: BlockModeEncBackend<B>>(&mut self, backend: &mut K) {
+        encrypt_one(&mut *self.output, self.input, backend);
+    }
+}
+
+impl<const B: usize> BlockModeEncClosure<B> for BlocksCtx<'_, '_, B> {
+    ghost keeps = { λ a b. b.output.ghost_name ≡ a.output.ghost_name };
+
+    ghost leads = { EachBlock };
+
+    fn call<K: BlockModeEncBackend<B>>(&mut self, backend: &mut K) {
+        encrypt_in_parts(&mut *self.output, self.input, backend);
+    }
+}
+
+// `width` blocks at a time, and then the rest
+fn encrypt_in_parts<const B: usize, K: BlockModeEncBackend<B>>(
+    output: &mut [[u8; B]],
+    input: &[[u8; B]],
+    backend: &mut K,
+)
+    ensures value { output.new ≡ run_of K.step backend.old (pick input.now output.old) }
+    ensures stepped { backend.new ≡ state_after K.step backend.old (pick input.now output.old) }
+{
+    let width = backend.width();
+    let n = output.len();
+    let mut at = 0;
+    while n - at >= width {
+        encrypt_par(
+            &mut output[at..at + width],
+            part_of(input, n, at, at + width),
+            backend,
+        );
+        at += width;
+    }
+    encrypt_tail(&mut output[at..], part_of(input, n, at, n), backend);
+}
+
+fn encrypt_par<const B: usize, K: BlockModeEncBackend<B>>(
+    output: &mut [[u8; B]],
+    input: &[[u8; B]],
+    backend: &mut K,
+)
+    requires { length output.old ≡ K.lanes backend.old }
+    ensures value { output.new ≡ run_of K.step backend.old (pick input.now output.old) }
+    ensures stepped { backend.new ≡ state_after K.step backend.old (pick input.now output.old) }
+{
+    backend.encrypt_par_blocks(&mut InOutBuf { output, input });
+}
+
+fn encrypt_tail<const B: usize, K: BlockModeEncBackend<B>>(
+    output: &mut [[u8; B]],
+    input: &[[u8; B]],
+    backend: &mut K,
+)
+    requires { length output.old < K.lanes backend.old }
+    ensures value { output.new ≡ run_of K.step backend.old (pick input.now output.old) }
+    ensures stepped { backend.new ≡ state_after K.step backend.old (pick input.now output.old) }
+{
+    backend.encrypt_tail_blocks(&mut InOutBuf { output, input });
+}
+
+fn encrypt_one<const B: usize, K: BlockModeEncBackend<B>>(
+    output: &mut [u8; B],
+    input: &[[u8; B]],
+    backend: &mut K,
+)
+    ensures value { output.new ≡ (K.step backend.old (slice_index_or input.now 0 output.old)).0 }
+    ensures stepped { backend.new ≡ (K.step backend.old (slice_index_or input.now 0 output.old)).1 }
+{
+    backend.encrypt_block(&mut InOut { output, input });
+}
+
+impl<const B: usize> BlockModeDecClosure<B> for BlockCtx<'_, '_, B> {
+    ghost keeps = { λ a b. b.output.ghost_name ≡ a.output.ghost_name };
+
+    ghost leads = { OneBlock };
+
+    fn call<K: BlockModeDecBackend<B>>(&mut self, backend: &mut K) {
+        decrypt_one(&mut *self.output, self.input, backend);
+    }
+}
+
+impl<const B: usize> BlockModeDecClosure<B> for BlocksCtx<'_, '_, B> {
+    ghost keeps = { λ a b. b.output.ghost_name ≡ a.output.ghost_name };
+
+    ghost leads = { EachBlock };
+
+    fn call<K: BlockModeDecBackend<B>>(&mut self, backend: &mut K) {
+        decrypt_in_parts(&mut *self.output, self.input, backend);
+    }
+}
+
+// `width` blocks at a time, and then the rest
+fn decrypt_in_parts<const B: usize, K: BlockModeDecBackend<B>>(
+    output: &mut [[u8; B]],
+    input: &[[u8; B]],
+    backend: &mut K,
+)
+    ensures value { output.new ≡ run_of K.step backend.old (pick input.now output.old) }
+    ensures stepped { backend.new ≡ state_after K.step backend.old (pick input.now output.old) }
+{
+    let width = backend.width();
+    let n = output.len();
+    let mut at = 0;
+    while n - at >= width {
+        decrypt_par(
+            &mut output[at..at + width],
+            part_of(input, n, at, at + width),
+            backend,
+        );
+        at += width;
+    }
+    decrypt_tail(&mut output[at..], part_of(input, n, at, n), backend);
+}
+
+fn decrypt_par<const B: usize, K: BlockModeDecBackend<B>>(
+    output: &mut [[u8; B]],
+    input: &[[u8; B]],
+    backend: &mut K,
+)
+    requires { length output.old ≡ K.lanes backend.old }
+    ensures value { output.new ≡ run_of K.step backend.old (pick input.now output.old) }
+    ensures stepped { backend.new ≡ state_after K.step backend.old (pick input.now output.old) }
+{
+    backend.decrypt_par_blocks(&mut InOutBuf { output, input });
+}
+
+fn decrypt_tail<const B: usize, K: BlockModeDecBackend<B>>(
+    output: &mut [[u8; B]],
+    input: &[[u8; B]],
+    backend: &mut K,
+)
+    requires { length output.old < K.lanes backend.old }
+    ensures value { output.new ≡ run_of K.step backend.old (pick input.now output.old) }
+    ensures stepped { backend.new ≡ state_after K.step backend.old (pick input.now output.old) }
+{
+    backend.decrypt_tail_blocks(&mut InOutBuf { output, input });
+}
+
+fn decrypt_one<const B: usize, K: BlockModeDecBackend<B>>(
+    output: &mut [u8; B],
+    input: &[[u8; B]],
+    backend: &mut K,
+)
+    ensures value { output.new ≡ (K.step backend.old (slice_index_or input.now 0 output.old)).0 }
+    ensures stepped { backend.new ≡ (K.step backend.old (slice_index_or input.now 0 output.old)).1 }
+{
+    backend.decrypt_block(&mut InOut { output, input });
+}

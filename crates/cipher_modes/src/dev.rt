@@ -1,0 +1,3 @@
+//! Tests of block modes by vectors.
+
+pub mod block_mode;

@@ -1,0 +1,123 @@
+//! Tests of block modes by vectors.
+
+ghost use Rattle.std.specs.Prelude.{◌≡◌, ℕ, ◌+◌, ◌-◌, ◌*◌, ◌/◌, ◌%◌, ◌<◌, ◌≤◌, List, length, take, drop, IsTrue, codes, bytes_eq};
+ghost use Rattle.cipher.specs.BlockVectors.{Tells};
+ghost use Rattle.cipher_modes.specs.Padded.{bytes_run};
+ghost use Rattle.cipher_modes.specs.ModeVectors.{encrypt_fault, decrypt_fault};
+
+use crate::modes::{BlockModeDecrypt, BlockModeEncrypt};
+use crate::padded::{decrypt_bytes, encrypt_bytes};
+use cipher::KeyIvInit;
+
+const MAX_MSG_LEN: usize = 4096;
+
+/// A key, an initialization vector, a message of whole blocks and what it is encrypted to.
+#[derive(Clone, Copy, Debug)]
+pub struct TestVector {
+    /// The key.
+    pub key: &'static [u8],
+    /// The initialization vector.
+    pub iv: &'static [u8],
+    /// The message.
+    pub plaintext: &'static [u8],
+    /// The encrypted message.
+    pub ciphertext: &'static [u8],
+}
+
+/// Whether a mode encrypts as a vector says. The error is the first text whose case holds:
+/// `ciphertext is bigger than MAX_MSG_LEN bytes` (4,096), `plaintext/ciphertext length mismatch`,
+/// `plaintext/ciphertext length is not multiple of block size`, `cipher initialization failure` (the key's or the
+/// vector's length), `single block encryption failure`.
+pub fn encrypt<
+    C: KeyIvInit<K, I> + BlockModeEncrypt<B>,
+    const K: usize,
+    const I: usize,
+    const B: usize,
+>(tv: &TestVector) -> Result<(), &'static str>
+    ensures told { Tells result (encrypt_fault K I B C.keyed C.step tv.now) }
+{
+    let mut buffer = [0; MAX_MSG_LEN];
+    let n = tv.ciphertext.len();
+    if n > MAX_MSG_LEN {
+        return Err("ciphertext is bigger than MAX_MSG_LEN bytes");
+    }
+    if tv.plaintext.len() != n {
+        return Err("plaintext/ciphertext length mismatch");
+    }
+    if n % B != 0 {
+        return Err("plaintext/ciphertext length is not multiple of block size");
+    }
+    let mut mode = match C::new_from_slices(tv.key, tv.iv) {
+        Ok(mode) => mode,
+        Err(_) => return Err("cipher initialization failure"),
+    };
+    if !encrypts_to(&mut mode, &mut buffer[..n], tv.plaintext, tv.ciphertext) {
+        return Err("single block encryption failure");
+    }
+    Ok(())
+}
+
+// whether the blocks, one by one, are encrypted to these bytes
+fn encrypts_to<C: BlockModeEncrypt<B>, const B: usize>(
+    mode: &mut C,
+    buffer: &mut [u8],
+    plaintext: &[u8],
+    ciphertext: &[u8],
+) -> bool
+    requires size { length buffer.old ≡ length plaintext.now }
+    requires whole { length plaintext.now % B ≡ 0 }
+    ensures value { result ≡ bytes_eq (bytes_run C.step mode.old B plaintext.now) ciphertext.now }
+{
+    buffer.copy_from_slice(plaintext);
+    encrypt_bytes(mode, buffer);
+    *buffer == *ciphertext
+}
+
+/// Whether a mode decrypts as a vector says. The error is the first text whose case holds:
+/// `plaintext is bigger than MAX_MSG_LEN bytes` (4,096), `plaintext/ciphertext length mismatch`,
+/// `plaintext/ciphertext length is not multiple of block size`, `cipher initialization failure` (the key's or the
+/// vector's length), `single block decryption failure`.
+pub fn decrypt<
+    C: KeyIvInit<K, I> + BlockModeDecrypt<B>,
+    const K: usize,
+    const I: usize,
+    const B: usize,
+>(tv: &TestVector) -> Result<(), &'static str>
+    ensures told { Tells result (decrypt_fault K I B C.keyed C.step tv.now) }
+{
+    let mut buffer = [0; MAX_MSG_LEN];
+    let n = tv.plaintext.len();
+    if n > MAX_MSG_LEN {
+        return Err("plaintext is bigger than MAX_MSG_LEN bytes");
+    }
+    if tv.ciphertext.len() != n {
+        return Err("plaintext/ciphertext length mismatch");
+    }
+    if n % B != 0 {
+        return Err("plaintext/ciphertext length is not multiple of block size");
+    }
+    let mut mode = match C::new_from_slices(tv.key, tv.iv) {
+        Ok(mode) => mode,
+        Err(_) => return Err("cipher initialization failure"),
+    };
+    if !decrypts_to(&mut mode, &mut buffer[..n], tv.ciphertext, tv.plaintext) {
+        return Err("single block decryption failure");
+    }
+    Ok(())
+}
+
+// whether the blocks, one by one, are decrypted to these bytes
+fn decrypts_to<C: BlockModeDecrypt<B>, const B: usize>(
+    mode: &mut C,
+    buffer: &mut [u8],
+    ciphertext: &[u8],
+    plaintext: &[u8],
+) -> bool
+    requires size { length buffer.old ≡ length ciphertext.now }
+    requires whole { length ciphertext.now % B ≡ 0 }
+    ensures value { result ≡ bytes_eq (bytes_run C.step mode.old B ciphertext.now) plaintext.now }
+{
+    buffer.copy_from_slice(ciphertext);
+    decrypt_bytes(mode, buffer);
+    *buffer == *plaintext
+}

@@ -1,0 +1,373 @@
+//! Block modes.
+
+ghost use Rattle.std.specs.Prelude.{◌≡◌, ◌↔◌, ℕ, ◌<◌, ◌≤◌, ◌++◌, List, Some, None, IsOk, IsErr, IfOk, OnOk, OnErr, MatchResult, option_map, length, take, drop};
+ghost use Rattle.cipher.specs.Buffers.{read_of, read_all, pick, message_of};
+ghost use Rattle.cipher.specs.Transcript.{Block};
+ghost use Rattle.cipher_modes.specs.Steps.{run_of, state_after, LedOn};
+ghost use Rattle.cipher_modes.specs.Paddings.{Fits, padded};
+ghost use Rattle.cipher_modes.specs.Padded.{bytes_run, IsEncrypted, deciphered, left_by, message_in};
+ghost use Rattle.cipher_modes.specs.PaddedVec.{TellsPad, TellsUnpad};
+
+use crate::backends::{BlockModeDecClosure, BlockModeEncClosure};
+use crate::contexts::{BlockCtx, BlocksCtx};
+use crate::padded::{
+    PaddedVecError, decrypt_front, decrypt_message, decrypt_vec, encrypt_message, encrypt_vec,
+};
+use crate::padding::{PadError, Padding, UnpadError};
+use cipher::{InOut, InOutBuf, InOutBufReserved, NotEqualError};
+use std::alloc::Global;
+
+/// A block mode that encrypts blocks of B bytes in order, B being from 1 to 255.
+pub trait BlockModeEncrypt<const B: usize>: Sized + Drop {
+    // what it makes of a state and a block: the output and the next state
+    ghost step: { Self → Block → Block × Self };
+
+    /// Lends a backend to a closure: a transcript of the mode's steps alone leads it from its old state to its new one.
+    fn encrypt_with_backend<F: BlockModeEncClosure<B>>(&mut self, f: &mut F)
+        ensures kept { F.keeps f.old f.new }
+        ensures led { LedOn step F.leads f.old f.new self.old self.new };
+
+    ghost block_size: { (1 ≤ B) × (B < 256) };
+
+    // the outputs for blocks of B bytes have B bytes
+    ghost sized: { (s : Self) (x : Block) → length x ≡ B → length (step s x).0 ≡ B };
+
+    /// Encrypts the block that is read into the place that is written.
+    final fn encrypt_block_inout(&mut self, block: InOut<'_, '_, [u8; B]>)
+        ensures value { block.exit.0.now ≡ (step self.old (read_of block.entry)).0 }
+        ensures stepped { self.new ≡ (step self.old (read_of block.entry)).1 }
+    {
+        let InOut { output, input } = block;
+        let mut ctx = BlockCtx { output, input };
+        self.encrypt_with_backend(&mut ctx);
+    }
+
+    /// Encrypts the blocks that are read into the places that are written.
+    final fn encrypt_blocks_inout(&mut self, blocks: InOutBuf<'_, '_, [u8; B]>)
+        ensures value { blocks.exit.0.now ≡ run_of step self.old (read_all blocks.entry) }
+        ensures stepped { self.new ≡ state_after step self.old (read_all blocks.entry) }
+    {
+        let InOutBuf { output, input } = blocks;
+        let mut ctx = BlocksCtx { output, input };
+        self.encrypt_with_backend(&mut ctx);
+    }
+
+    /// Encrypts a block in its place.
+    final fn encrypt_block(&mut self, block: &mut [u8; B])
+        ensures value { block.new ≡ (step self.old block.old).0 }
+        ensures stepped { self.new ≡ (step self.old block.old).1 }
+    {
+        let mut ctx = BlockCtx {
+            output: block,
+            input: &[],
+        };
+        self.encrypt_with_backend(&mut ctx);
+    }
+
+    /// Encrypts one block into another place.
+    final fn encrypt_block_b2b(&mut self, in_block: &[u8; B], out_block: &mut [u8; B])
+        ensures value { out_block.new ≡ (step self.old in_block.now).0 }
+        ensures stepped { self.new ≡ (step self.old in_block.now).1 }
+    {
+        *out_block = *in_block;
+        self.encrypt_block(out_block);
+    }
+
+    /// Encrypts blocks in their places.
+    final fn encrypt_blocks(&mut self, blocks: &mut [[u8; B]])
+        ensures value { blocks.new ≡ run_of step self.old blocks.old }
+        ensures stepped { self.new ≡ state_after step self.old blocks.old }
+    {
+        let mut ctx = BlocksCtx {
+            output: blocks,
+            input: &[],
+        };
+        self.encrypt_with_backend(&mut ctx);
+    }
+
+    /// Encrypts blocks into other places, refused exactly where there are not as many: then nothing is written
+    /// and the state stays.
+    final fn encrypt_blocks_b2b(
+        &mut self,
+        in_blocks: &[[u8; B]],
+        out_blocks: &mut [[u8; B]],
+    ) -> Result<(), NotEqualError>
+        ensures ok { IsOk result ↔ (length in_blocks.now ≡ length out_blocks.old) }
+        ensures value { OnOk result (out_blocks.new ≡ run_of step self.old in_blocks.now) }
+        ensures stepped { OnOk result (self.new ≡ state_after step self.old in_blocks.now) }
+        ensures err { OnErr result ((out_blocks.new ≡ out_blocks.old) × (self.new ≡ self.old)) }
+    {
+        if in_blocks.len() != out_blocks.len() {
+            return Err(NotEqualError);
+        }
+        let mut ctx = BlocksCtx {
+            output: out_blocks,
+            input: in_blocks,
+        };
+        self.encrypt_with_backend(&mut ctx);
+        Ok(())
+    }
+
+    /// Pads a message and encrypts it in the output, and answers the length of the encrypted bytes, with which the
+    /// output then begins. It is refused exactly where the room is less than the padded length, the message is longer
+    /// than the output or it cannot be padded, and then nothing is written.
+    final fn encrypt_padded_len<P: Padding>(
+        mut self,
+        bytes: InOutBufReserved<'_, '_, u8>,
+    ) -> Result<usize, PadError>
+        ensures ok { IsOk result ↔ Fits (P.padding B bytes.entry.len) bytes.entry.len (length bytes.entry.output.now) }
+        ensures value { IfOk result (λ n. IsEncrypted step self B (padded P.padding B (message_of bytes.entry)) n
+            bytes.entry.output.now bytes.exit.0.now) }
+        ensures err { OnErr result (bytes.exit.0.now ≡ bytes.entry.output.now) }
+    {
+        let InOutBufReserved { output, input, len } = bytes;
+        encrypt_message::<P, Self, B>(&mut self, output, input, len)
+    }
+
+    /// Like `encrypt_padded_len`, and answers the encrypted bytes.
+    final fn encrypt_padded_inout<'out, P: Padding>(
+        mut self,
+        bytes: InOutBufReserved<'_, 'out, u8>,
+    ) -> Result<&'out [u8], PadError>
+        ensures ok { IsOk result ↔ Fits (P.padding B bytes.entry.len) bytes.entry.len (length bytes.entry.output.now) }
+        ensures value { IfOk result (λ made. option_map (bytes_run step self B) (padded P.padding B (message_of bytes.entry)) ≡ Some made.now) }
+    {
+        let InOutBufReserved { output, input, len } = bytes;
+        match encrypt_message::<P, Self, B>(&mut self, &mut *output, input, len) {
+            Ok(n) => Ok(&output[..n]),
+            Err(error) => Err(error),
+        }
+    }
+
+    /// Like `encrypt_padded_inout` of the message that is the first `len` bytes of a buffer.
+    final fn encrypt_padded<P: Padding>(
+        mut self,
+        buffer: &mut [u8],
+        len: usize,
+    ) -> Result<&[u8], PadError>
+        ensures ok { IsOk result ↔ Fits (P.padding B len) len (length buffer.old) }
+        ensures value { IfOk result (λ made. option_map (bytes_run step self B) (padded P.padding B (take len buffer.old)) ≡ Some made.now) }
+    {
+        match encrypt_message::<P, Self, B>(&mut self, &mut *buffer, &[], len) {
+            Ok(n) => Ok(&buffer[..n]),
+            Err(error) => Err(error),
+        }
+    }
+
+    /// Like `encrypt_padded_inout` of a message and another buffer.
+    final fn encrypt_padded_b2b<'out, P: Padding>(
+        mut self,
+        message: &[u8],
+        output: &'out mut [u8],
+    ) -> Result<&'out [u8], PadError>
+        ensures ok { IsOk result ↔ Fits (P.padding B (length message.now)) (length message.now) (length output.old) }
+        ensures value { IfOk result (λ made. option_map (bytes_run step self B) (padded P.padding B message.now) ≡ Some made.now) }
+    {
+        match encrypt_message::<P, Self, B>(&mut self, &mut *output, message, message.len()) {
+            Ok(n) => Ok(&output[..n]),
+            Err(error) => Err(error),
+        }
+    }
+
+    /// Pads a message and encrypts it in a vector. `Pad` comes exactly where the message cannot be padded,
+    /// `OutOfMemory` where there is no memory or the padded length is no usize, and `Unpad` never.
+    final fn encrypt_padded_vec<P: Padding>(
+        mut self,
+        alloc: Global,
+        message: &[u8],
+    ) -> Result<Vec<u8>, PaddedVecError>
+        ensures told { MatchResult result (λ made. option_map (bytes_run step self B) (padded P.padding B message.now) ≡ Some made.items)
+            (λ error. TellsPad error (option_map (bytes_run step self B) (padded P.padding B message.now))) }
+    {
+        encrypt_vec::<P, Self, B>(&mut self, alloc, message)
+    }
+}
+
+/// A block mode that decrypts blocks of B bytes in order, B being from 1 to 255.
+pub trait BlockModeDecrypt<const B: usize>: Sized + Drop {
+    // what it makes of a state and a block: the output and the next state
+    ghost step: { Self → Block → Block × Self };
+
+    /// Lends a backend to a closure: a transcript of the mode's steps alone leads it from its old state to its new one.
+    fn decrypt_with_backend<F: BlockModeDecClosure<B>>(&mut self, f: &mut F)
+        ensures kept { F.keeps f.old f.new }
+        ensures led { LedOn step F.leads f.old f.new self.old self.new };
+
+    ghost block_size: { (1 ≤ B) × (B < 256) };
+
+    // the outputs for blocks of B bytes have B bytes
+    ghost sized: { (s : Self) (x : Block) → length x ≡ B → length (step s x).0 ≡ B };
+
+    /// Decrypts the block that is read into the place that is written.
+    final fn decrypt_block_inout(&mut self, block: InOut<'_, '_, [u8; B]>)
+        ensures value { block.exit.0.now ≡ (step self.old (read_of block.entry)).0 }
+        ensures stepped { self.new ≡ (step self.old (read_of block.entry)).1 }
+    {
+        let InOut { output, input } = block;
+        let mut ctx = BlockCtx { output, input };
+        self.decrypt_with_backend(&mut ctx);
+    }
+
+    /// Decrypts the blocks that are read into the places that are written.
+    final fn decrypt_blocks_inout(&mut self, blocks: InOutBuf<'_, '_, [u8; B]>)
+        ensures value { blocks.exit.0.now ≡ run_of step self.old (read_all blocks.entry) }
+        ensures stepped { self.new ≡ state_after step self.old (read_all blocks.entry) }
+    {
+        let InOutBuf { output, input } = blocks;
+        let mut ctx = BlocksCtx { output, input };
+        self.decrypt_with_backend(&mut ctx);
+    }
+
+    /// Decrypts a block in its place.
+    final fn decrypt_block(&mut self, block: &mut [u8; B])
+        ensures value { block.new ≡ (step self.old block.old).0 }
+        ensures stepped { self.new ≡ (step self.old block.old).1 }
+    {
+        let mut ctx = BlockCtx {
+            output: block,
+            input: &[],
+        };
+        self.decrypt_with_backend(&mut ctx);
+    }
+
+    /// Decrypts one block into another place.
+    final fn decrypt_block_b2b(&mut self, in_block: &[u8; B], out_block: &mut [u8; B])
+        ensures value { out_block.new ≡ (step self.old in_block.now).0 }
+        ensures stepped { self.new ≡ (step self.old in_block.now).1 }
+    {
+        *out_block = *in_block;
+        self.decrypt_block(out_block);
+    }
+
+    /// Decrypts blocks in their places.
+    final fn decrypt_blocks(&mut self, blocks: &mut [[u8; B]])
+        ensures value { blocks.new ≡ run_of step self.old blocks.old }
+        ensures stepped { self.new ≡ state_after step self.old blocks.old }
+    {
+        let mut ctx = BlocksCtx {
+            output: blocks,
+            input: &[],
+        };
+        self.decrypt_with_backend(&mut ctx);
+    }
+
+    /// Decrypts blocks into other places, refused exactly where there are not as many: then nothing is written
+    /// and the state stays.
+    final fn decrypt_blocks_b2b(
+        &mut self,
+        in_blocks: &[[u8; B]],
+        out_blocks: &mut [[u8; B]],
+    ) -> Result<(), NotEqualError>
+        ensures ok { IsOk result ↔ (length in_blocks.now ≡ length out_blocks.old) }
+        ensures value { OnOk result (out_blocks.new ≡ run_of step self.old in_blocks.now) }
+        ensures stepped { OnOk result (self.new ≡ state_after step self.old in_blocks.now) }
+        ensures err { OnErr result ((out_blocks.new ≡ out_blocks.old) × (self.new ≡ self.old)) }
+    {
+        if in_blocks.len() != out_blocks.len() {
+            return Err(NotEqualError);
+        }
+        let mut ctx = BlocksCtx {
+            output: out_blocks,
+            input: in_blocks,
+        };
+        self.decrypt_with_backend(&mut ctx);
+        Ok(())
+    }
+
+    /// Decrypts a buffer in its output, and answers the length of the message, with which the output then begins.
+    /// It is refused exactly where the length isn't whole blocks, and then nothing is written, and where the padding is
+    /// malformed, and then the output is what was deciphered.
+    final fn decrypt_padded_len<P: Padding>(
+        mut self,
+        bytes: InOutBuf<'_, '_, u8>,
+    ) -> Result<usize, UnpadError>
+        ensures written { bytes.exit.0.now ≡ left_by (deciphered step self B (read_all bytes.entry)) bytes.entry.output.now }
+        ensures told { MatchResult result
+            (λ n. (n ≤ length bytes.exit.0.now) × (message_in P.unpadded B (deciphered step self B (read_all bytes.entry)) ≡ Some (take n bytes.exit.0.now)))
+            (λ _. message_in P.unpadded B (deciphered step self B (read_all bytes.entry)) ≡ None) }
+    {
+        let InOutBuf { output, input } = bytes;
+        decrypt_message::<P, Self, B>(&mut self, output, input)
+    }
+
+    /// Like `decrypt_padded_len`, and answers the message.
+    final fn decrypt_padded_inout<'out, P: Padding>(
+        mut self,
+        bytes: InOutBuf<'_, 'out, u8>,
+    ) -> Result<&'out [u8], UnpadError>
+        ensures told { MatchResult result
+            (λ message. message_in P.unpadded B (deciphered step self B (read_all bytes.entry)) ≡ Some message.now)
+            (λ _. message_in P.unpadded B (deciphered step self B (read_all bytes.entry)) ≡ None) }
+    {
+        let InOutBuf { output, input } = bytes;
+        match decrypt_message::<P, Self, B>(&mut self, &mut *output, input) {
+            Ok(n) => Ok(&output[..n]),
+            Err(error) => Err(error),
+        }
+    }
+
+    /// Like `decrypt_padded_inout` of a buffer in its place.
+    final fn decrypt_padded<P: Padding>(mut self, buffer: &mut [u8]) -> Result<&[u8], UnpadError>
+        ensures told { MatchResult result
+            (λ message. message_in P.unpadded B (deciphered step self B buffer.old) ≡ Some message.now)
+            (λ _. message_in P.unpadded B (deciphered step self B buffer.old) ≡ None) }
+    {
+        match decrypt_message::<P, Self, B>(&mut self, &mut *buffer, &[]) {
+            Ok(n) => Ok(&buffer[..n]),
+            Err(error) => Err(error),
+        }
+    }
+
+    /// Decrypts bytes in the front of another buffer, and answers the length of the message. It is refused as
+    /// `decrypt_padded_len` is, and exactly where the buffer is shorter than the bytes too: then nothing is written.
+    final fn decrypt_padded_b2b_len<P: Padding>(
+        mut self,
+        input: &[u8],
+        output: &mut [u8],
+    ) -> Result<usize, UnpadError>
+        ensures short { length output.old < length input.now → IsErr result × (output.new ≡ output.old) }
+        ensures written { length input.now ≤ length output.old → output.new
+            ≡ left_by (deciphered step self B input.now) (take (length input.now) output.old) ++ drop (length input.now) output.old }
+        ensures told { length input.now ≤ length output.old → MatchResult result
+            (λ n. (n ≤ length input.now) × (message_in P.unpadded B (deciphered step self B input.now) ≡ Some (take n output.new)))
+            (λ _. message_in P.unpadded B (deciphered step self B input.now) ≡ None) }
+    {
+        if output.len() < input.len() {
+            return Err(UnpadError);
+        }
+        decrypt_front::<P, Self, B>(&mut self, output, input)
+    }
+
+    /// Like `decrypt_padded_b2b_len`, and answers the message.
+    final fn decrypt_padded_b2b<'out, P: Padding>(
+        mut self,
+        input: &[u8],
+        output: &'out mut [u8],
+    ) -> Result<&'out [u8], UnpadError>
+        ensures short { length output.old < length input.now → IsErr result }
+        ensures told { length input.now ≤ length output.old → MatchResult result
+            (λ message. message_in P.unpadded B (deciphered step self B input.now) ≡ Some message.now)
+            (λ _. message_in P.unpadded B (deciphered step self B input.now) ≡ None) }
+    {
+        if output.len() < input.len() {
+            return Err(UnpadError);
+        }
+        match decrypt_front::<P, Self, B>(&mut self, &mut *output, input) {
+            Ok(n) => Ok(&output[..n]),
+            Err(error) => Err(error),
+        }
+    }
+
+    /// Decrypts bytes in a vector. `Unpad` comes exactly where they aren't whole blocks or the padding is malformed,
+    /// `OutOfMemory` where there is no memory, and `Pad` never.
+    final fn decrypt_padded_vec<P: Padding>(
+        mut self,
+        alloc: Global,
+        ciphertext: &[u8],
+    ) -> Result<Vec<u8>, PaddedVecError>
+        ensures told { MatchResult result (λ made. message_in P.unpadded B (deciphered step self B ciphertext.now) ≡ Some made.items)
+            (λ error. TellsUnpad error (message_in P.unpadded B (deciphered step self B ciphertext.now))) }
+    {
+        decrypt_vec::<P, Self, B>(&mut self, alloc, ciphertext)
+    }
+}

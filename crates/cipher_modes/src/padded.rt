@@ -1,0 +1,243 @@
+//! Messages that are padded and run through a mode, in bytes.
+
+ghost use Rattle.std.specs.Prelude.{◌≡◌, ◌↔◌, ℕ, ◌+◌, ◌-◌, ◌*◌, ◌/◌, ◌%◌, ◌<◌, ◌≤◌, ◌++◌, List, Some, None, Option, IsOk, IsSome, IfOk, OnOk, OnErr, MatchResult, length, take, drop};
+ghost use Rattle.std.specs.Prelude.{vec_len, option_map, IfErr};
+ghost use Rattle.cipher.specs.Buffers.{pick};
+ghost use Rattle.cipher_modes.specs.Steps.{run_of, state_after};
+ghost use Rattle.cipher_modes.specs.Paddings.{Fits, IsPadded, padded};
+ghost use Rattle.cipher_modes.specs.Padded.{blocks_of, bytes_run, IsEncrypted, deciphered, left_by, message_in};
+ghost use Rattle.cipher_modes.specs.PaddedVec.{TellsPad, TellsUnpad};
+
+use crate::modes::{BlockModeDecrypt, BlockModeEncrypt};
+use crate::padding::{PadError, Padding, UnpadError};
+use std::alloc::Global;
+
+// pads a message, which is an input of `len` bytes or the front of the output, and encrypts it in the output
+pub(crate) fn encrypt_message<P: Padding, M: BlockModeEncrypt<B>, const B: usize>(
+    mode: &mut M,
+    output: &mut [u8],
+    input: &[u8],
+    len: usize,
+) -> Result<usize, PadError>
+    ensures ok { IsOk result ↔ Fits (P.padding B len) len (length output.old) }
+    ensures value { IfOk result (λ n. IsEncrypted M.step mode.old B
+        (padded P.padding B (pick input.now (take len output.old))) n output.old output.new) }
+    ensures err { OnErr result (output.new ≡ output.old) }
+{
+    let n = match pad_input::<P>(output, input, len, B) {
+        Ok(n) => n,
+        Err(error) => return Err(error),
+    };
+    encrypt_front(mode, output, n);
+    Ok(n)
+}
+
+fn pad_input<P: Padding>(
+    output: &mut [u8],
+    input: &[u8],
+    len: usize,
+    block_size: usize,
+) -> Result<usize, PadError>
+    requires { (1 ≤ block_size) × (block_size < 256) }
+    ensures ok { IsOk result ↔ Fits (P.padding block_size len) len (length output.old) }
+    ensures room { OnOk result (len ≤ length output.old) }
+    ensures value { IfOk result (λ n. IsPadded (P.padding block_size len) len n
+        (pick input.now (take len output.old) ++ drop len output.old) output.new) }
+    ensures err { OnErr result (output.new ≡ output.old) }
+{
+    let n = match P::pad(output, len, block_size) {
+        Ok(n) => n,
+        Err(error) => return Err(error),
+    };
+    if input.len() == len {
+        copy_front(output, input);
+    }
+    Ok(n)
+}
+
+fn copy_front(output: &mut [u8], input: &[u8])
+    requires { length input.now ≤ length output.old }
+    ensures value { output.new ≡ input.now ++ drop (length input.now) output.old }
+{
+    output[..input.len()].copy_from_slice(input);
+}
+
+fn encrypt_front<M: BlockModeEncrypt<B>, const B: usize>(mode: &mut M, output: &mut [u8], n: usize)
+    requires within { n ≤ length output.old }
+    requires whole { n % B ≡ 0 }
+    ensures value { output.new ≡ bytes_run M.step mode.old B (take n output.old) ++ drop n output.old }
+{
+    encrypt_bytes(mode, &mut output[..n]);
+}
+
+// block by block
+pub(crate) fn encrypt_bytes<M: BlockModeEncrypt<B>, const B: usize>(mode: &mut M, bytes: &mut [u8])
+    requires { length bytes.old % B ≡ 0 }
+    ensures value { bytes.new ≡ bytes_run M.step mode.old B bytes.old }
+{
+    let mut at = 0;
+    while at < bytes.len() {
+        encrypt_first(mode, &mut bytes[at..]);
+        at += B;
+    }
+}
+
+fn encrypt_first<M: BlockModeEncrypt<B>, const B: usize>(mode: &mut M, bytes: &mut [u8])
+    requires { B ≤ length bytes.old }
+    ensures value { bytes.new ≡ (M.step mode.old (take B bytes.old)).0 ++ drop B bytes.old }
+    ensures stepped { mode.new ≡ (M.step mode.old (take B bytes.old)).1 }
+{
+    if let Some(block) = bytes.first_chunk_mut::<B>() {
+        mode.encrypt_block(block);
+    }
+}
+
+// decrypts an input of the output's length, or the output, in the output, and finds the length of the message
+pub(crate) fn decrypt_message<P: Padding, M: BlockModeDecrypt<B>, const B: usize>(
+    mode: &mut M,
+    output: &mut [u8],
+    input: &[u8],
+) -> Result<usize, UnpadError>
+    ensures written { output.new ≡ left_by (deciphered M.step mode.old B (pick input.now output.old)) output.old }
+    ensures told { MatchResult result
+        (λ n. (n ≤ length output.new) × (message_in P.unpadded B (deciphered M.step mode.old B (pick input.now output.old)) ≡ Some (take n output.new)))
+        (λ _. message_in P.unpadded B (deciphered M.step mode.old B (pick input.now output.old)) ≡ None) }
+{
+    if output.len() % B != 0 {
+        return Err(UnpadError);
+    }
+    if input.len() == output.len() {
+        output.copy_from_slice(input);
+    }
+    decrypt_bytes(mode, output);
+    match P::unpad(output, B) {
+        Ok(message) => Ok(message.len()),
+        Err(error) => Err(error),
+    }
+}
+
+// the same in the front of a longer output
+pub(crate) fn decrypt_front<P: Padding, M: BlockModeDecrypt<B>, const B: usize>(
+    mode: &mut M,
+    output: &mut [u8],
+    input: &[u8],
+) -> Result<usize, UnpadError>
+    requires { length input.now ≤ length output.old }
+    ensures written { output.new ≡ left_by (deciphered M.step mode.old B input.now) (take (length input.now) output.old) ++ drop (length input.now) output.old }
+    ensures told { MatchResult result
+        (λ n. (n ≤ length input.now) × (message_in P.unpadded B (deciphered M.step mode.old B input.now) ≡ Some (take n output.new)))
+        (λ _. message_in P.unpadded B (deciphered M.step mode.old B input.now) ≡ None) }
+{
+    decrypt_message::<P, M, B>(mode, &mut output[..input.len()], input)
+}
+
+// block by block
+pub(crate) fn decrypt_bytes<M: BlockModeDecrypt<B>, const B: usize>(mode: &mut M, bytes: &mut [u8])
+    requires { length bytes.old % B ≡ 0 }
+    ensures value { bytes.new ≡ bytes_run M.step mode.old B bytes.old }
+{
+    let mut at = 0;
+    while at < bytes.len() {
+        decrypt_first(mode, &mut bytes[at..]);
+        at += B;
+    }
+}
+
+fn decrypt_first<M: BlockModeDecrypt<B>, const B: usize>(mode: &mut M, bytes: &mut [u8])
+    requires { B ≤ length bytes.old }
+    ensures value { bytes.new ≡ (M.step mode.old (take B bytes.old)).0 ++ drop B bytes.old }
+    ensures stepped { mode.new ≡ (M.step mode.old (take B bytes.old)).1 }
+{
+    if let Some(block) = bytes.first_chunk_mut::<B>() {
+        mode.decrypt_block(block);
+    }
+}
+
+/// Why `encrypt_padded_vec` or `decrypt_padded_vec` made nothing.
+#[derive(Clone, Copy, Debug, PartialEq, Eq)]
+pub enum PaddedVecError {
+    /// The message cannot be padded.
+    Pad,
+    /// The deciphered bytes are no padded message.
+    Unpad,
+    /// There was no memory.
+    OutOfMemory,
+}
+
+pub(crate) fn encrypt_vec<P: Padding, M: BlockModeEncrypt<B>, const B: usize>(
+    mode: &mut M,
+    alloc: Global,
+    message: &[u8],
+) -> Result<Vec<u8>, PaddedVecError>
+    ensures told { MatchResult result (λ made. option_map (bytes_run M.step mode.old B) (padded P.padding B message.now) ≡ Some made.items)
+        (λ error. TellsPad error (option_map (bytes_run M.step mode.old B) (padded P.padding B message.now))) }
+{
+    let n = match P::padded_len(message.len(), B) {
+        Some(n) => n,
+        None => return Err(PaddedVecError::OutOfMemory),
+    };
+    let mut output = match zeros(alloc, n) {
+        Ok(output) => output,
+        Err(error) => return Err(error),
+    };
+    match encrypt_into::<P, M, B>(mode, &mut output, message) {
+        Ok(_) => Ok(output),
+        Err(_) => Err(PaddedVecError::Pad),
+    }
+}
+
+fn encrypt_into<P: Padding, M: BlockModeEncrypt<B>, const B: usize>(
+    mode: &mut M,
+    output: &mut Vec<u8>,
+    message: &[u8],
+) -> Result<usize, PadError>
+    requires { vec_len output.old ≡ P.padded_length B (length message.now) }
+    ensures none { OnErr result (padded P.padding B message.now ≡ None) }
+    ensures value { OnOk result (option_map (bytes_run M.step mode.old B) (padded P.padding B message.now) ≡ Some output.new.items) }
+{
+    encrypt_message::<P, M, B>(mode, output, message, message.len())
+}
+
+fn zeros(alloc: Global, n: usize) -> Result<Vec<u8>, PaddedVecError>
+    ensures value { IfOk result (λ bytes. vec_len bytes ≡ n) }
+    ensures err { IfErr result (λ error. error ≡ PaddedVecError.OutOfMemory) }
+{
+    match vec![in alloc; 0; n] {
+        Ok(bytes) => Ok(bytes),
+        Err(_) => Err(PaddedVecError::OutOfMemory),
+    }
+}
+
+pub(crate) fn decrypt_vec<P: Padding, M: BlockModeDecrypt<B>, const B: usize>(
+    mode: &mut M,
+    alloc: Global,
+    ciphertext: &[u8],
+) -> Result<Vec<u8>, PaddedVecError>
+    ensures told { MatchResult result (λ made. message_in P.unpadded B (deciphered M.step mode.old B ciphertext.now) ≡ Some made.items)
+        (λ error. TellsUnpad error (message_in P.unpadded B (deciphered M.step mode.old B ciphertext.now))) }
+{
+    let mut output = match zeros(alloc, ciphertext.len()) {
+        Ok(output) => output,
+        Err(error) => return Err(error),
+    };
+    match decrypt_into::<P, M, B>(mode, &mut output, ciphertext) {
+        Ok(n) => {
+            output.truncate(n);
+            Ok(output)
+        }
+        Err(_) => Err(PaddedVecError::Unpad),
+    }
+}
+
+fn decrypt_into<P: Padding, M: BlockModeDecrypt<B>, const B: usize>(
+    mode: &mut M,
+    output: &mut Vec<u8>,
+    ciphertext: &[u8],
+) -> Result<usize, UnpadError>
+    requires { vec_len output.old ≡ length ciphertext.now }
+    ensures told { MatchResult result
+        (λ n. (n ≤ vec_len output.new) × (message_in P.unpadded B (deciphered M.step mode.old B ciphertext.now) ≡ Some (take n output.new.items)))
+        (λ _. message_in P.unpadded B (deciphered M.step mode.old B ciphertext.now) ≡ None) }
+{
+    decrypt_message::<P, M, B>(mode, output, ciphertext)
+}
