@@ -154,6 +154,54 @@ impl TweakBlockCipherEncrypt<4, 3> for Tweaked {
     ghost sized = { λ _ _ _ _ _. refl };
 }
 
+impl TweakBlockCipherDecBackend<4, 3> for Tweaked {
+    ghost decrypts = { λ _ t xs. (slice_index xs 0 + (256 - slice_index t 0)) % 256 ∷ (slice_index xs 1 + (256 - slice_index t 1)) % 256
+        ∷ (slice_index xs 2 + (256 - slice_index t 2)) % 256 ∷ slice_index xs 3 ∷ [] };
+
+    fn decrypt_block_inout(&self, tweak: &[u8; 3], block: &mut InOut<'_, '_, [u8; 4]>) {
+        subtract_bytes(&mut *block.output, block.input, tweak);
+    }
+
+    ghost block_size = { (lit≤ tt, lit< tt) };
+
+    ghost tweak_size = { (lit≤ tt, lit< tt) };
+}
+
+impl TweakBlockCipherDecrypt<4, 3> for Tweaked {
+    ghost decrypts = { λ _ t xs. (slice_index xs 0 + (256 - slice_index t 0)) % 256 ∷ (slice_index xs 1 + (256 - slice_index t 1)) % 256
+        ∷ (slice_index xs 2 + (256 - slice_index t 2)) % 256 ∷ slice_index xs 3 ∷ [] };
+
+    fn decrypt_with_backend<F: TweakBlockCipherDecClosure<4, 3>>(&self, f: &mut F) {
+        f.call(self);
+    }
+
+    ghost block_size = { (lit≤ tt, lit< tt) };
+
+    ghost sized = { λ _ _ _ _ _. refl };
+}
+
+fn subtract_bytes(output: &mut [u8; 4], input: &[[u8; 4]], tweak: &[u8; 3])
+    ensures { let xs = slice_index_or input.now 0 output.old in
+        output.new ≡ (slice_index xs 0 + (256 - slice_index tweak.now 0)) % 256 ∷ (slice_index xs 1 + (256 - slice_index tweak.now 1)) % 256
+        ∷ (slice_index xs 2 + (256 - slice_index tweak.now 2)) % 256 ∷ slice_index xs 3 ∷ [] }
+{
+    if let Some(input) = input.first() {
+        *output = *input;
+    }
+    *output = [
+        less(output[0], tweak[0]),
+        less(output[1], tweak[1]),
+        less(output[2], tweak[2]),
+        output[3],
+    ];
+}
+
+fn less(x: u8, y: u8) -> u8
+    ensures { result ≡ (x + (256 - y)) % 256 }
+{
+    ((x as u16 + (256 - y as u16)) % 256) as u8
+}
+
 fn add_bytes(output: &mut [u8; 4], input: &[[u8; 4]], tweak: &[u8; 3])
     ensures { let xs = slice_index_or input.now 0 output.old in
         output.new ≡ (slice_index xs 0 + slice_index tweak.now 0) % 256 ∷ (slice_index xs 1 + slice_index tweak.now 1) % 256
@@ -231,14 +279,62 @@ fn shifts_one_block(rt: HostRuntime) -> Result<(), Fail> {
 }
 
 #[test]
-fn the_zero_tweak_adds_nothing(rt: HostRuntime) -> Result<(), Fail> {
-    let c: ZeroTweak<Tweaked, 3> = ZeroTweak(Tweaked);
+fn tweaks_are_added_and_subtracted(rt: HostRuntime) -> Result<(), Fail> {
+    let tweak: Tweak<3> = [7, 8, 255];
     let mut block = [1, 2, 3, 255];
-    TweakBlockCipherEncrypt::encrypt_block(&Tweaked, &[7, 8, 255], &mut block);
+    let mut other = [0; 4];
+    TweakBlockCipherEncrypt::encrypt_block(&Tweaked, &tweak, &mut block);
     assert_eq!(rt; block, [8, 10, 2, 255]);
-    let mut blocks = [block; 2];
+    TweakBlockCipherDecrypt::decrypt_block_b2b(&Tweaked, &tweak, &block, &mut other);
+    assert_eq!(rt; other, [1, 2, 3, 255]);
+    TweakBlockCipherEncrypt::encrypt_block_b2b(&Tweaked, &tweak, &other, &mut block);
+    assert_eq!(rt; block, [8, 10, 2, 255]);
+    TweakBlockCipherDecrypt::decrypt_block(&Tweaked, &tweak, &mut block);
+    assert_eq!(rt; block, [1, 2, 3, 255]);
+    TweakBlockCipherEncrypt::encrypt_block_inout(&Tweaked, &tweak, InOut::from(&mut block));
+    assert_eq!(rt; block, [8, 10, 2, 255]);
+    TweakBlockCipherDecrypt::decrypt_block_inout(&Tweaked, &tweak, InOut::new(&block, &mut other));
+    assert_eq!(rt; other, [1, 2, 3, 255]);
+    Ok(())
+}
+
+#[test]
+fn a_tweakable_backend_has_three_calls(rt: HostRuntime) -> Result<(), Fail> {
+    let tweak = [7, 8, 255];
+    let mut block = [1, 2, 3, 255];
+    let mut other = [0; 4];
+    TweakBlockCipherEncBackend::encrypt_block(&Tweaked, &tweak, &mut block);
+    TweakBlockCipherDecBackend::decrypt_block_b2b(&Tweaked, &tweak, &block, &mut other);
+    assert_eq!(rt; (block, other), ([8, 10, 2, 255], [1, 2, 3, 255]));
+    TweakBlockCipherDecBackend::decrypt_block(&Tweaked, &tweak, &mut block);
+    TweakBlockCipherEncBackend::encrypt_block_b2b(&Tweaked, &tweak, &block, &mut other);
+    assert_eq!(rt; (block, other), ([1, 2, 3, 255], [8, 10, 2, 255]));
+    Ok(())
+}
+
+#[test]
+fn the_zero_tweak_adds_nothing(rt: HostRuntime) -> Result<(), Fail> {
+    let c: ZeroTweak<Tweaked, 3> = ZeroTweak(Tweaked).clone()?;
+    let mut blocks = [[1, 2, 3, 255]; 2];
     c.encrypt_blocks(&mut blocks);
-    assert_eq!(rt; blocks, [block; 2]);
+    assert_eq!(rt; blocks, [[1, 2, 3, 255]; 2]);
+    c.decrypt_blocks(&mut blocks);
+    assert_eq!(rt; blocks, [[1, 2, 3, 255]; 2]);
+    assert_eq!(rt;
+        format!(in rt.alloc(); "{c:?}")?.as_str(),
+        "ZeroTweak(Tweaked)"
+    );
+    Ok(())
+}
+
+#[test]
+fn a_cipher_has_a_name(rt: HostRuntime) -> Result<(), Fail> {
+    let c = Shift::new(&[1]);
+    assert_eq!(rt; format!(in rt.alloc(); "{c}")?.as_str(), "Shift");
+    assert_eq!(rt;
+        format!(in rt.alloc(); "{InvalidLength}")?.as_str(),
+        "Invalid Length"
+    );
     Ok(())
 }
 
@@ -259,6 +355,16 @@ fn a_vector_is_told(rt: HostRuntime) -> Result<(), Fail> {
     assert_eq!(rt;
         decrypt_test::<Shift, 1, 5>(&bad),
         Err("single block decryption failure")
+    );
+    bad.ciphertext = &[1];
+    assert_eq!(rt;
+        decrypt_test::<Shift, 1, 5>(&bad),
+        Err("unexpected size of ciphertext block")
+    );
+    bad.plaintext = &[1];
+    assert_eq!(rt;
+        encrypt_test::<Shift, 1, 5>(&bad),
+        Err("unexpected size of plaintext block")
     );
     bad.key = &[];
     assert_eq!(rt;
@@ -282,6 +388,47 @@ fn buffers_read_and_write(rt: HostRuntime) -> Result<(), Fail> {
     let (chunks, rest) = front.into_chunks::<2>();
     assert_eq!(rt; (chunks.get_in()[0], rest.get_in()[0]), ([1, 2], 3));
     assert_eq!(rt; output, [0, 3, 2, 5, 4]);
+    Ok(())
+}
+
+#[test]
+fn places_read_and_write(rt: HostRuntime) -> Result<(), Fail> {
+    let input = [1, 2];
+    let mut output = [8, 9];
+    let mut place = InOut::new(&input, &mut output);
+    place.xor_in2out(&[1, 1]);
+    assert_eq!(rt; *place.get_in(), [1, 2]);
+    assert_eq!(rt; *place.get_out(), [0, 3]);
+    assert_eq!(rt; *place.reborrow().get_in(), [1, 2]);
+    *place.get(1).get_out() = 5;
+    assert_eq!(rt; *place.get(1).get_in(), 2);
+    assert_eq!(rt; output, [0, 5]);
+    assert_eq!(rt; *InOutBuf::from(&mut output[..]).get(1).get_in(), 5);
+    *InOutBuf::from(&mut output[..]).get(0).get_out() = 4;
+    InOutBuf::from(&mut output[..]).reborrow().get_out()[1] = 6;
+    assert_eq!(rt; InOutBuf::from(&mut output[..]).is_empty(), false);
+    assert_eq!(rt; output, [4, 6]);
+    Ok(())
+}
+
+#[test]
+fn a_message_has_room_behind_it(rt: HostRuntime) -> Result<(), Fail> {
+    let mut output = [1, 2, 3];
+    assert_eq!(rt;
+        InOutBufReserved::from_mut_slice(&mut output, 4).is_err(),
+        true
+    );
+    assert_eq!(rt;
+        InOutBufReserved::from_slices(&[7; 4], &mut output).is_err(),
+        true
+    );
+    let mut buffer = InOutBufReserved::from_mut_slice(&mut output, 2).unwrap();
+    assert_eq!(rt; (buffer.len(), buffer.is_empty()), (2, false));
+    assert_eq!(rt; buffer.get_in(), [1, 2].as_slice());
+    buffer.get_out()[2] = 9;
+    let buffer = InOutBufReserved::from_slices(&[7], &mut output).unwrap();
+    assert_eq!(rt; buffer.get_in(), [7].as_slice());
+    assert_eq!(rt; output, [1, 2, 9]);
     Ok(())
 }
 
