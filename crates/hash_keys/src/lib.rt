@@ -1,4 +1,4 @@
-//! Hashes, HMAC and HKDF over whole texts, without memory.
+//! Hashes, HMAC, HKDF and CMAC over whole texts, without memory.
 //!
 //! ```rust
 //! use hash_keys::{hmac_into, Hash};
@@ -17,6 +17,10 @@ use sha1::Sha1;
 use sha2::{Digest, Sha224, Sha256, Sha384, Sha512};
 use std::error::Error;
 use std::fmt;
+
+mod cmac;
+
+pub use cmac::cmac_into;
 
 #[cfg(test)]
 mod tests;
