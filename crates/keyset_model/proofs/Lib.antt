@@ -1,1 +1,4 @@
+pub mod EditLaws
+mod EditFacts
+pub mod FreshIds
 mod ValidityFacts

@@ -1,2 +1,7 @@
+pub mod Adding
+pub mod Edits
+pub mod Entries
 pub mod Keys
+pub mod Laws
+pub mod Secrets
 pub mod Validity

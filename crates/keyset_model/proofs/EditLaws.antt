@@ -1,0 +1,80 @@
+-- What edits keep.
+use Rattle.std.proofs.Common.{◌≡◌, ◌&&◌, ◌++◌, ℕ, ℤ, pos, List, [], ◌∷◌, Bool, true, false, Option, Some, None, Ok, Err, Result, cond, refl, sym, subst, ◌∙◌}
+use Rattle.std.specs.Prelude.{find}
+use Rattle.std.specs.Option.{option_map}
+use Rattle.std.specs.List.{list_all}
+use Rattle.std.specs.Ordering.{int_eq}
+use Rattle.std.proofs.lemmas.List.Folds.{list_all-append}
+use Rattle.std.proofs.lemmas.Bool.Decides.{Decides-int_eq}
+use Rattle.tink_io.specs.declared.error.Kind.{Kind}
+use Rattle.tink_proto.specs.declared.enums.KeyStatusType.{KeyStatusType}
+use Rattle.tink_proto.specs.declared.messages.keys.Key.{Key}
+use Rattle.tink_proto.specs.declared.messages.keys.KeyData.{KeyData}
+use Rattle.tink_proto.specs.declared.messages.keys.Keyset.{Keyset}
+use Rattle.tink_proto.specs.Enums.{status_number}
+use Rattle.keyset_model.specs.Keys.{has_id}
+use Rattle.keyset_model.specs.Validity.{is_held}
+use Rattle.keyset_model.specs.Edits.{as_destroyed, is_live, keyset_after, status_of, with_first, with_status, without_first}
+use Rattle.keyset_model.specs.Laws.{RefusedEditLeaves}
+
+left_by : (ks : Keyset) (r : Result Keyset Kind) (kind : Kind) → r ≡ Err kind → keyset_after ks r ≡ ks
+left_by ks (Ok new) kind e = absurd (cc)
+left_by ks (Err _) kind e = refl
+
+pub refused_edit_leaves : RefusedEditLeaves
+refused_edit_leaves ks command kind e = left_by ks _ kind e
+
+-- ---- keys that a handle may hold
+
+both : (a b : Bool) → (a && b) ≡ true → (a ≡ true) × (b ≡ true)
+both true b e = (refl, e)
+both false b e = absurd (cc)
+
+joined : (a b : Bool) → a ≡ true → b ≡ true → (a && b) ≡ true
+joined a b x y = rw (x, y) refl
+
+-- a change of a key, or of the keys behind it, by a test
+held_by : (here : Bool) (k x : Key) (s : ℤ) (ks after : List Key) (found : Option Key) → option_map (λ y. y.status) (cond here (Some k) found) ≡ Some s
+    → list_all is_held (k ∷ ks) ≡ true → (k.status ≡ s → is_held x ≡ true) → (option_map (λ y. y.status) found ≡ Some s → list_all is_held after ≡ true)
+    → list_all is_held (cond here (x ∷ ks) (k ∷ after)) ≡ true
+held_by true k x s ks after found e held changed later = joined (is_held x) (list_all is_held ks) (changed (cc)) (both (is_held k) (list_all is_held ks) held).1
+held_by false k x s ks after found e held changed later = joined (is_held k) (list_all is_held after) (both (is_held k) (list_all is_held ks) held).0 (later e)
+
+held_first : (change : Key → Key) (s : ℤ) → ((k : Key) → k.status ≡ s → is_held k ≡ true → is_held (change k) ≡ true) → (id : ℕ) (keys : List Key) → status_of id keys ≡ Some s
+    → list_all is_held keys ≡ true → list_all is_held (with_first id change keys) ≡ true
+held_first change s each id [] e held = refl
+held_first change s each id (k ∷ ks) e held =
+    let parts = both (is_held k) (list_all is_held ks) held in
+    held_by (has_id id k) k (change k) s ks (with_first id change ks) (find (has_id id) ks) e held (λ q. each k q parts.0) (λ q. held_first change s each id ks q parts.1)
+
+not_both : (s : ℤ) → is_live s ≡ true → int_eq s (pos 3) ≡ true → ⊥
+not_both s live gone =
+    let same : s ≡ pos 3 = (Decides-int_eq s (pos 3)).0 gone in
+    let no : is_live (pos 3) ≡ true = subst (λ x. is_live x ≡ true) same live in
+    absurd (cc)
+
+-- a key that is enabled or disabled has data, so it is held under every status
+live_held : (d : Option KeyData) (s t : ℤ) (id : ℕ) (prefix : ℤ) → is_live s ≡ true
+    → is_held (record { key_data = d; status = s; key_id = id; output_prefix_type = prefix }) ≡ true
+    → is_held (record { key_data = d; status = t; key_id = id; output_prefix_type = prefix }) ≡ true
+live_held (Some d) s t id prefix live held = held
+live_held None s t id prefix live held = absurd (not_both s live (both _ true held).0)
+
+pub held_with_status : (status : KeyStatusType) (id : ℕ) (keys : List Key) (s : ℤ) → status_of id keys ≡ Some s → is_live s ≡ true
+    → list_all is_held keys ≡ true → list_all is_held (with_first id (with_status status) keys) ≡ true
+held_with_status status id keys s e live held =
+    held_first (with_status status) s (λ k q h. live_held k.key_data k.status (status_number status) k.key_id k.output_prefix_type (subst (λ x. is_live x ≡ true) (sym q) live) h) id keys e held
+
+pub held_as_destroyed : (id : ℕ) (keys : List Key) (s : ℤ) → status_of id keys ≡ Some s → list_all is_held keys ≡ true → list_all is_held (with_first id as_destroyed keys) ≡ true
+held_as_destroyed id keys s e held = held_first as_destroyed s (λ k q h. refl) id keys e held
+
+without_by : (here : Bool) (k : Key) (ks after : List Key) → list_all is_held (k ∷ ks) ≡ true → list_all is_held after ≡ true → list_all is_held (cond here ks (k ∷ after)) ≡ true
+without_by true k ks after held later = (both (is_held k) (list_all is_held ks) held).1
+without_by false k ks after held later = joined (is_held k) (list_all is_held after) (both (is_held k) (list_all is_held ks) held).0 later
+
+pub held_without : (id : ℕ) (keys : List Key) → list_all is_held keys ≡ true → list_all is_held (without_first id keys) ≡ true
+held_without id [] held = refl
+held_without id (k ∷ ks) held = without_by (has_id id k) k ks (without_first id ks) held (held_without id ks (both (is_held k) (list_all is_held ks) held).1)
+
+pub held_more : (keys : List Key) (k : Key) → is_held k ≡ true → list_all is_held keys ≡ true → list_all is_held (keys ++ k ∷ []) ≡ true
+held_more keys k one held = list_all-append is_held keys (k ∷ []) ∙ joined (list_all is_held keys) (list_all is_held (k ∷ [])) held (joined (is_held k) true one refl)
