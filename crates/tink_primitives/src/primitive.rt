@@ -1,0 +1,132 @@
+//! A primitive of any sort.
+
+ghost use Rattle.tink_primitives.specs.Meaning.{Gives};
+ghost use Rattle.tink_primitives.specs.Sorts.{as_aead, as_deterministic_aead, as_hybrid_decrypt, as_hybrid_encrypt, as_mac, as_prf, as_signer, as_streaming_aead, as_verifier};
+
+use crate::{CloneIn, Kinds};
+use std::alloc::Global;
+use tink_io::{Kind, TinkError};
+
+/// A primitive of one of the nine sorts.
+#[derive(Drop)]
+pub enum Primitive<K: Kinds> {
+    Aead(K::Aead),
+    DeterministicAead(K::DeterministicAead),
+    HybridDecrypt(K::HybridDecrypt),
+    HybridEncrypt(K::HybridEncrypt),
+    Mac(K::Mac),
+    Prf(K::Prf),
+    Signer(K::Signer),
+    StreamingAead(K::StreamingAead),
+    Verifier(K::Verifier),
+}
+
+impl<K: Kinds> Primitive<K> {
+    /// The AEAD, or `WrongPrimitive` where it is of another sort.
+    pub fn into_aead(self) -> Result<K::Aead, TinkError>
+        ensures value { Gives result (as_aead self) }
+    {
+        match self {
+            Primitive::Aead(p) => Ok(p),
+            _ => Err(TinkError::new(Kind::WrongPrimitive)),
+        }
+    }
+
+    /// The deterministic AEAD, or `WrongPrimitive` where it is of another sort.
+    pub fn into_deterministic_aead(self) -> Result<K::DeterministicAead, TinkError>
+        ensures value { Gives result (as_deterministic_aead self) }
+    {
+        match self {
+            Primitive::DeterministicAead(p) => Ok(p),
+            _ => Err(TinkError::new(Kind::WrongPrimitive)),
+        }
+    }
+
+    /// The hybrid decryption, or `WrongPrimitive` where it is of another sort.
+    pub fn into_hybrid_decrypt(self) -> Result<K::HybridDecrypt, TinkError>
+        ensures value { Gives result (as_hybrid_decrypt self) }
+    {
+        match self {
+            Primitive::HybridDecrypt(p) => Ok(p),
+            _ => Err(TinkError::new(Kind::WrongPrimitive)),
+        }
+    }
+
+    /// The hybrid encryption, or `WrongPrimitive` where it is of another sort.
+    pub fn into_hybrid_encrypt(self) -> Result<K::HybridEncrypt, TinkError>
+        ensures value { Gives result (as_hybrid_encrypt self) }
+    {
+        match self {
+            Primitive::HybridEncrypt(p) => Ok(p),
+            _ => Err(TinkError::new(Kind::WrongPrimitive)),
+        }
+    }
+
+    /// The MAC, or `WrongPrimitive` where it is of another sort.
+    pub fn into_mac(self) -> Result<K::Mac, TinkError>
+        ensures value { Gives result (as_mac self) }
+    {
+        match self {
+            Primitive::Mac(p) => Ok(p),
+            _ => Err(TinkError::new(Kind::WrongPrimitive)),
+        }
+    }
+
+    /// The pseudorandom function, or `WrongPrimitive` where it is of another sort.
+    pub fn into_prf(self) -> Result<K::Prf, TinkError>
+        ensures value { Gives result (as_prf self) }
+    {
+        match self {
+            Primitive::Prf(p) => Ok(p),
+            _ => Err(TinkError::new(Kind::WrongPrimitive)),
+        }
+    }
+
+    /// The signer, or `WrongPrimitive` where it is of another sort.
+    pub fn into_signer(self) -> Result<K::Signer, TinkError>
+        ensures value { Gives result (as_signer self) }
+    {
+        match self {
+            Primitive::Signer(p) => Ok(p),
+            _ => Err(TinkError::new(Kind::WrongPrimitive)),
+        }
+    }
+
+    /// The streaming AEAD, or `WrongPrimitive` where it is of another sort.
+    pub fn into_streaming_aead(self) -> Result<K::StreamingAead, TinkError>
+        ensures value { Gives result (as_streaming_aead self) }
+    {
+        match self {
+            Primitive::StreamingAead(p) => Ok(p),
+            _ => Err(TinkError::new(Kind::WrongPrimitive)),
+        }
+    }
+
+    /// The verifier, or `WrongPrimitive` where it is of another sort.
+    pub fn into_verifier(self) -> Result<K::Verifier, TinkError>
+        ensures value { Gives result (as_verifier self) }
+    {
+        match self {
+            Primitive::Verifier(p) => Ok(p),
+            _ => Err(TinkError::new(Kind::WrongPrimitive)),
+        }
+    }
+}
+
+impl<K: Kinds> CloneIn for Primitive<K> {
+    fn try_clone(&self, alloc: Global) -> Result<Self, TinkError> {
+        match self {
+            Primitive::Aead(p) => Ok(Primitive::Aead(p.try_clone(alloc)?)),
+            Primitive::DeterministicAead(p) => Ok(Primitive::DeterministicAead(p.try_clone(
+                alloc,
+            )?)),
+            Primitive::HybridDecrypt(p) => Ok(Primitive::HybridDecrypt(p.try_clone(alloc)?)),
+            Primitive::HybridEncrypt(p) => Ok(Primitive::HybridEncrypt(p.try_clone(alloc)?)),
+            Primitive::Mac(p) => Ok(Primitive::Mac(p.try_clone(alloc)?)),
+            Primitive::Prf(p) => Ok(Primitive::Prf(p.try_clone(alloc)?)),
+            Primitive::Signer(p) => Ok(Primitive::Signer(p.try_clone(alloc)?)),
+            Primitive::StreamingAead(p) => Ok(Primitive::StreamingAead(p.try_clone(alloc)?)),
+            Primitive::Verifier(p) => Ok(Primitive::Verifier(p.try_clone(alloc)?)),
+        }
+    }
+}

@@ -1,0 +1,6 @@
+pub mod AddingFacts
+pub mod Converted
+pub mod ConvertingFacts
+pub mod PrefixFacts
+pub mod SortFacts
+pub mod VecKeys

@@ -1,0 +1,30 @@
+use Rattle.std.proofs.Common.{rules, ◌≡◌, ◌⊎◌, Ok, Err, ◌∷◌, inl, inr, ⊎_elim, subst, sym, ℕ, List, Some, cond, bytes_eq}
+use Rattle.tink_sets.specs.Groups.{group_at}
+use Rattle.tink_io.specs.declared.error.Kind.TheVariants.{OutOfMemory}
+use Rattle.tink_sets.specs.Converting.{converted}
+use Rattle.tink_sets.proofs.ConvertingFacts.{IsConverting, converting_none, converting_more, converting_refused}
+use Rattle.tink_sets.proofs.converting.convert_groups.Goals as goal
+
+pub loop-prefix-init : goal.loop-prefix-init
+loop-prefix-init g c =
+    let begun = c.into_iter-prefix-iterator.ensures.into_iter_gives in
+    subst (λ rest. IsConverting g.C.Convert.gives c.args.groups.now rest c.new-out.result) (sym begun.0)
+    (converting_none g.C.Convert.gives c.args.groups.now c.new-out.result begun.6 c.new-out.ensures.empty)
+
+pub loop-prefix-preserved : goal.loop-prefix-preserved
+loop-prefix-preserved g c =
+    let left : c.loop-prefix.prefix-iterator ≡ (c.in-Some.prefix.now, c.in-Some.group.now) ∷ c.next.new.self = search rules in
+    let one : converted g.C.Convert.gives c.in-Some.group.now ≡ Ok c.in-Ok.list = search rules in
+    let key : c.deref.result.now ≡ c.in-Some.prefix.now.items = search rules in
+    let before = subst (λ rest. IsConverting g.C.Convert.gives c.args.groups.now rest c.loop-prefix.out) left c.loop-prefix.invariant in
+    converting_more g.C.Convert.gives c.args.groups.now c.in-Some.prefix.now c.in-Some.group.now c.next.new.self c.loop-prefix.out before c.put_list.new.groups c.in-Ok.list one
+    (subst (λ l. (p : List ℕ) → group_at c.put_list.new.groups p ≡ cond (bytes_eq l p) (Some c.in-Ok.list) (group_at c.loop-prefix.out p)) key c.in_ok-put_list-in-Ok.ensures.ok)
+
+pub returns-in-Err-clause-cause : goal.returns-in-Err-clause-cause
+returns-in-Err-clause-cause g c =
+    let left : c.loop-prefix.prefix-iterator ≡ (c.in-Some.prefix.now, c.in-Some.group.now) ∷ c.next.new.self = search rules in
+    let one : (c.in-Err.e.kind ≡ OutOfMemory) ⊎ (converted g.C.Convert.gives c.in-Some.group.now ≡ Err c.in-Err.e.kind) = search rules in
+    let before = subst (λ rest. IsConverting g.C.Convert.gives c.args.groups.now rest c.loop-prefix.out) left c.loop-prefix.invariant in
+    ⊎_elim inl
+    (λ refused. inr (converting_refused g.C.Convert.gives c.args.groups.now c.in-Some.prefix.now c.in-Some.group.now c.next.new.self c.loop-prefix.out before c.in-Err.e.kind refused))
+    one

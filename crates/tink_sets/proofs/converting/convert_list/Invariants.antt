@@ -1,0 +1,7 @@
+use Rattle.std.proofs.Common.{◌≡◌, ◌++◌, drop}
+use Rattle.tink_sets.specs.Converting.{made_of, converted}
+use Rattle.tink_sets.proofs.converting.convert_list.Given as goal
+
+-- what was converted stands before what is left
+abbrev pub invariant-loop-entry : goal.invariant-loop-entry
+invariant-loop-entry g l = converted g.C.Convert.gives l.entries ≡ made_of (λ vs. l.out ++ vs) (converted g.C.Convert.gives (drop l.entry-index l.entries))

@@ -1,0 +1,16 @@
+//! Sets of primitives, one for each enabled key of a keyset, found by the prefix of what the key makes.
+#![tactic(auto)]
+
+pub use entry::{Entry, TypedEntry};
+pub use primitive_set::PrimitiveSet;
+pub use typed_set::TypedPrimitiveSet;
+
+mod converting;
+pub mod cryptofmt;
+mod entry;
+mod groups;
+mod primitive_set;
+mod sorts;
+#[cfg(test)]
+mod tests;
+mod typed_set;

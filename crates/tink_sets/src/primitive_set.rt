@@ -1,0 +1,116 @@
+//! Sets of primitives of any sorts.
+
+ghost use Rattle.std.specs.Prelude.{◌≡◌, ◌⊎◌, [], ℕ, List, None, Ok, Err, IfOk, IfErr, OnOk, OnErr};
+ghost use Rattle.tink_io.specs.declared.error.Kind.TheVariants.{OutOfMemory};
+ghost use Rattle.tink_io.specs.Told.{Answers};
+ghost use Rattle.tink_sets.specs.Groups.{group_at, group_of, Adds, AddsLast, AreGroupsOf, HaveSameGroups};
+ghost use Rattle.tink_sets.specs.Entries.{may_stand, own_prefix, standing_prefix, entry_of, prefix_of};
+
+use crate::Entry;
+use crate::converting::{clone_groups, clone_primary};
+use crate::cryptofmt::{RAW_PREFIX, known_type, output_prefix};
+use crate::groups::{group_of, put_and_lend, put_in_group};
+use std::alloc::Global;
+use std::collections::BTreeMap;
+use tink_io::{Kind, TinkError};
+use tink_primitives::{Kinds, Primitive};
+use tink_proto::{Bytes, Key, KeyStatusType, OutputPrefixType, Repeated};
+
+/// The primitives of a keyset by the prefixes of their keys.
+#[derive(Drop)]
+pub struct PrimitiveSet<K: Kinds> {
+    /// The entry of the primary key.
+    pub primary: Option<Entry<K>>,
+    /// The entries of each prefix, in the order in which they were added.
+    pub entries: BTreeMap<Vec<u8>, Repeated<Entry<K>>>,
+}
+
+impl<K: Kinds> PrimitiveSet<K> {
+    /// A set of nothing.
+    pub fn new(alloc: Global) -> Self
+        ensures primary { result.primary ≡ None }
+        ensures none { (prefix : List ℕ) → group_at result.entries prefix ≡ None }
+        ensures entries { AreGroupsOf prefix_of [] result.entries }
+    {
+        PrimitiveSet {
+            primary: None,
+            entries: BTreeMap::new(alloc),
+        }
+    }
+
+    /// The entries without a prefix, in the order in which they were added.
+    pub fn raw_entries(&self) -> &[Entry<K>]
+        ensures value { result.now ≡ group_of self.now.entries [] }
+    {
+        self.entries_for_prefix(&RAW_PREFIX)
+    }
+
+    /// The entries of a prefix, in the order in which they were added; none where it has none.
+    pub fn entries_for_prefix(&self, prefix: &[u8]) -> &[Entry<K>]
+        ensures value { result.now ≡ group_of self.now.entries prefix.now }
+    {
+        group_of(&self.entries, prefix)
+    }
+
+    /// Adds the entry of a key and its primitive behind those of its prefix, and lends it: `NotEnabled`, then
+    /// `UnknownPrefix`. After a refusal the set is as before.
+    pub fn add(&mut self, alloc: Global, p: Primitive<K>, key: &Key) -> Result<&Entry<K>, TinkError>
+        ensures entry { IfOk result (λ entry. entry.now ≡ entry_of p key.now) }
+        ensures stands { OnOk result (may_stand key.now ≡ Ok tt) }
+        ensures cause { IfErr result (λ e. (e.kind ≡ OutOfMemory) ⊎ (may_stand key.now ≡ Err e.kind)) }
+    {
+        let prefix = standing_prefix(alloc, key)?;
+        let entry = new_entry(p, key, prefix.try_clone(alloc)?);
+        put_and_lend(&mut self.entries, alloc, prefix.as_slice(), entry)
+    }
+
+    /// Adds the entry of a key and its primitive as `add` does, and lends nothing.
+    pub fn put(&mut self, alloc: Global, p: Primitive<K>, key: &Key) -> Result<(), TinkError>
+        ensures answer { Answers result (may_stand key.now) }
+        ensures ok { OnOk result (Adds (entry_of p key.now).prefix (entry_of p key.now) self.old.entries self.new.entries) }
+        ensures entries { OnOk result (AddsLast prefix_of (entry_of p key.now) self.old.entries self.new.entries) }
+        ensures err { OnErr result (HaveSameGroups self.old.entries self.new.entries) }
+        ensures primary { self.new.primary ≡ self.old.primary }
+    {
+        let prefix = standing_prefix(alloc, key)?;
+        let entry = new_entry(p, key, prefix.try_clone(alloc)?);
+        put_in_group(&mut self.entries, alloc, prefix.as_slice(), entry)
+    }
+
+    /// A set with the same primary entry and the same entries under each prefix.
+    pub fn try_clone(&self, alloc: Global) -> Result<Self, TinkError>
+        ensures primary { IfOk result (λ copy. copy.primary ≡ self.now.primary) }
+        ensures entries { IfOk result (λ copy. HaveSameGroups self.now.entries copy.entries) }
+        ensures cause { IfErr result (λ e. e.kind ≡ OutOfMemory) }
+    {
+        Ok(PrimitiveSet {
+            primary: clone_primary(alloc, &self.primary)?,
+            entries: clone_groups(alloc, &self.entries)?,
+        })
+    }
+}
+
+// The prefix of a key that may stand in a set.
+fn standing_prefix(alloc: Global, key: &Key) -> Result<Bytes, TinkError>
+    ensures answer { Answers result (standing_prefix key.now) }
+    ensures value { IfOk result (λ prefix. prefix ≡ own_prefix key.now) }
+{
+    if key.status != KeyStatusType::Enabled as i32 {
+        return Err(TinkError::new(Kind::NotEnabled));
+    }
+    output_prefix(alloc, key)
+}
+
+// The entry of a key and its primitive.
+fn new_entry<K: Kinds>(p: Primitive<K>, key: &Key, prefix: Bytes) -> Entry<K>
+    requires own { prefix ≡ own_prefix key.now }
+    ensures value { result ≡ entry_of p key.now }
+{
+    Entry {
+        key_id: key.key_id,
+        primitive: p,
+        prefix,
+        prefix_type: known_type(key.output_prefix_type).unwrap_or(OutputPrefixType::UnknownPrefix),
+        status: KeyStatusType::Enabled,
+    }
+}
