@@ -1,5 +1,5 @@
 -- The rounds of both ciphers, one after the other, and blocks by their bytes.
-use Rattle.std.proofs.Common.{◌≡◌, ℕ, zero, suc, ◌+◌, ◌-◌, ◌<◌, ◌≤◌, List, [], ◌++◌, length, take, bit_xor, ap, ◌∙◌, sym, arith}
+use Rattle.std.proofs.Common.{◌≡◌, ℕ, zero, suc, ◌+◌, ◌-◌, ◌<◌, ◌≤◌, List, [], ◌++◌, length, take, bit_xor, ap, ◌∙◌, sym, refl, arith}
 use Rattle.std.specs.List.{range_with_len}
 use Rattle.std.proofs.lemmas.List.{get_or-take}
 use Rattle.std.proofs.lemmas.Simd.{pick_l_whole}
@@ -25,6 +25,15 @@ joined_by_bytes v w x y e f g h =
     ∙ ap (λ l. v ++ l ++ by_bytes 4 x ++ by_bytes 4 y) (pick_l_whole 0 w 4 f)
     ∙ ap (λ l. v ++ w ++ l ++ by_bytes 4 y) (pick_l_whole 0 x 4 g)
     ∙ ap (λ l. v ++ w ++ x ++ l) (pick_l_whole 0 y 4 h)
+
+-- four words by their bytes, each equal to another
+pub same_words : (v w x y a b c d : List ℕ) → v ≡ a → w ≡ b → x ≡ c → y ≡ d
+    → by_bytes 4 v ++ by_bytes 4 w ++ by_bytes 4 x ++ by_bytes 4 y ≡ by_bytes 4 a ++ by_bytes 4 b ++ by_bytes 4 c ++ by_bytes 4 d
+same_words v w x y a b c d e f g h = rw (e, f, g, h) refl
+
+-- SubBytes, ShiftRows and MixColumns by bytes
+pub mixed_by_bytes : (s : List ℕ) → length s ≡ 16 → mix_columns (shift_rows (sub_bytes (by_bytes 16 s))) ≡ mix_columns (shift_rows (sub_bytes s))
+mixed_by_bytes s e = ap (λ v. mix_columns (shift_rows (sub_bytes v))) (pick_l_whole 0 s 16 e)
 
 -- one whole round more of the cipher
 pub state_step : (ks : List (List ℕ)) (s : List ℕ) (i : ℕ) → 1 ≤ i

@@ -4,7 +4,7 @@ use Rattle.standards.specs.Aes.{affine_bit, affine_bits, inverse, power, sub_byt
 use Rattle.standards.specs.AesInverse.{inv_affine_bit, inv_affine_bits, inv_sub_byte}
 use Rattle.standards.specs.AesKeys.{power_of_x}
 use Rattle.standards.proofs.Bytes.{every_below, table_entry}
-use Rattle.aes_block.specs.declared.tables.TheConstants.{INV_SUB_BYTES, POWERS, SUB_BYTES, TIMES_ELEVEN, TIMES_FOURTEEN, TIMES_NINE, TIMES_THIRTEEN, TIMES_THREE, TIMES_TWO}
+use Rattle.aes_block.specs.declared.tables.TheConstants.{INV_SUB_BYTES, POWERS, SUB_BYTES, SUB_TIMES_THREE, SUB_TIMES_TWO, TIMES_ELEVEN, TIMES_FOURTEEN, TIMES_NINE, TIMES_THIRTEEN}
 
 pub entry-SUB_BYTES : (x : ℕ) → x < 256 → get_or SUB_BYTES x 0 ≡ sub_byte x
 unfolding sub_byte affine_bits affine_bit inverse power times times_terms
@@ -14,13 +14,13 @@ pub entry-INV_SUB_BYTES : (x : ℕ) → x < 256 → get_or INV_SUB_BYTES x 0 ≡
 unfolding inv_sub_byte inv_affine_bits inv_affine_bit inverse power times times_terms
 entry-INV_SUB_BYTES = table_entry inv_sub_byte INV_SUB_BYTES tt
 
-pub entry-TIMES_TWO : (x : ℕ) → x < 256 → get_or TIMES_TWO x 0 ≡ times 2 x
-unfolding times times_terms
-entry-TIMES_TWO = table_entry (times 2) TIMES_TWO tt
+pub entry-SUB_TIMES_TWO : (x : ℕ) → x < 256 → get_or SUB_TIMES_TWO x 0 ≡ times 2 (sub_byte x)
+unfolding sub_byte affine_bits affine_bit inverse power times times_terms
+entry-SUB_TIMES_TWO = table_entry (λ x. times 2 (sub_byte x)) SUB_TIMES_TWO tt
 
-pub entry-TIMES_THREE : (x : ℕ) → x < 256 → get_or TIMES_THREE x 0 ≡ times 3 x
-unfolding times times_terms
-entry-TIMES_THREE = table_entry (times 3) TIMES_THREE tt
+pub entry-SUB_TIMES_THREE : (x : ℕ) → x < 256 → get_or SUB_TIMES_THREE x 0 ≡ times 3 (sub_byte x)
+unfolding sub_byte affine_bits affine_bit inverse power times times_terms
+entry-SUB_TIMES_THREE = table_entry (λ x. times 3 (sub_byte x)) SUB_TIMES_THREE tt
 
 pub entry-TIMES_NINE : (x : ℕ) → x < 256 → get_or TIMES_NINE x 0 ≡ times 9 x
 unfolding times times_terms

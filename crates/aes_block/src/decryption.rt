@@ -81,10 +81,10 @@ pub(crate) fn decipher(keys: &[[u8; 16]; 15], rounds: usize, block: &[u8; 16]) -
     requires few { rounds ≤ 14 }
     ensures { result ≡ inv_cipher rounds keys.now block.now }
 {
-    let mut state = add_round_key(block, &keys[rounds]);
+    let mut state = add_round_key(*block, keys[rounds]);
     'rounds: for i in 1..rounds {
-        let added = add_round_key(&inv_shift_and_sub(&state), &keys[rounds - i]);
+        let added = add_round_key(inv_shift_and_sub(&state), keys[rounds - i]);
         state = inv_mix_columns(&added);
     }
-    add_round_key(&inv_shift_and_sub(&state), &keys[0])
+    add_round_key(inv_shift_and_sub(&state), keys[0])
 }

@@ -1,11 +1,11 @@
 -- A mode over bytes, block by block.
-use Rattle.std.proofs.Common.{◌≡◌, ℕ, zero, suc, ◌+◌, ◌-◌, ◌/◌, ◌%◌, ◌≤◌, ◌<◌, List, [], ◌∷◌, ◌++◌, length, take, drop, ap, sym, ◌∙◌, refl, arith, append_assoc, length-append, length-take, length-drop, add-one, inl, inr}
-use Rattle.std.proofs.lemmas.List.{take_at, drop_at, drop_all, drop-drop, append-nil, take_all, take_rest}
+use Rattle.std.proofs.Common.{◌≡◌, ℕ, suc, ◌+◌, ◌-◌, ◌/◌, ◌%◌, ◌≤◌, ◌<◌, List, [], ◌∷◌, ◌++◌, length, take, drop, ap, sym, ◌∙◌, refl, arith, append_assoc, length-append, length-take, length-drop, add-one}
+use Rattle.std.proofs.lemmas.List.{take_at, drop_at, drop_all, append-nil, take_all}
 use Rattle.std.proofs.Math.Nat.{mod-eq-sub-mod, div-eq-sub-div, zero-div}
 use Rattle.std.specs.List.{concat}
 use Rattle.std.specs.Simd.{first_chunks}
 use Rattle.cipher.specs.Transcript.{Block}
-use Rattle.cipher_modes.specs.Steps.{run_of, state_after}
+use Rattle.cipher_modes.specs.Steps.{run_of}
 use Rattle.cipher_modes.specs.Padded.{blocks_of, bytes_run}
 use borrow.Rule.Slice.PartMut.{put_mid}
 

@@ -1,5 +1,5 @@
 -- Where the zeros begin that end a list.
-use Rattle.std.proofs.Common.{◌≡◌, ◌≢◌, ℕ, zero, suc, ◌+◌, ◌-◌, ◌≤◌, ◌<◌, List, [], ◌∷◌, ◌++◌, length, take, drop, replicate, get_or, ap, sym, subst, ◌∙◌, refl, arith, length-take, length-drop, drop-cons}
+use Rattle.std.proofs.Common.{◌≡◌, ◌≢◌, ℕ, zero, suc, ◌+◌, ◌-◌, ◌≤◌, ◌<◌, List, [], ◌∷◌, ◌++◌, length, take, drop, replicate, get_or, ap, sym, subst, ◌∙◌, arith, length-take, length-drop, drop-cons}
 use Rattle.std.proofs.lemmas.List.{take-append-drop, take-append-le, drop-append-le, drop_all, get_or-take, get_or-drop}
 use Rattle.cipher_modes.specs.Paddings.{without_zeros, EndsInNoZero}
 use Rattle.cipher_modes.specs.PaddingLaws.{without_zeros-behind}

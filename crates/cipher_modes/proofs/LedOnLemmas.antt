@@ -1,5 +1,5 @@
 -- What the steps of a mode leave behind the closures of this crate.
-use Rattle.std.proofs.Common.{◌≡◌, ℕ, List, [], ◌∷◌, get_or, length, ap, subst, sym, ◌∙◌, refl}
+use Rattle.std.proofs.Common.{◌≡◌, ℕ, List, [], ◌∷◌, get_or, ap, subst, sym, ◌∙◌, refl}
 use Rattle.cipher.specs.Buffers.{pick}
 use Rattle.cipher.specs.Transcript.{Transcript, Block, inputs, outputs}
 use Rattle.cipher_modes.specs.Steps.{run_of, state_after, Steps, LedOn}

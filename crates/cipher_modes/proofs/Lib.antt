@@ -4,3 +4,4 @@ pub mod EndLemmas
 pub mod Unpadding
 pub mod BytesRun
 pub mod MessageLemmas
+mod SinglyLemmas

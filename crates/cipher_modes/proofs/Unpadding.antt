@@ -1,5 +1,5 @@
 -- What the tests of PKCS #7 tell.
-use Rattle.std.proofs.Common.{◌≡◌, ℕ, ◌-◌, ◌+◌, ◌%◌, ◌≤◌, ◌<◌, ◌==◌, Bool, true, false, nat_lt, List, [], ◌∷◌, length, take, drop, get_or, Option, None, Some, refl, eq-eqb, arith, ◌≢◌}
+use Rattle.std.proofs.Common.{◌≡◌, ℕ, ◌-◌, ◌+◌, ◌%◌, ◌≤◌, ◌<◌, ◌==◌, true, nat_lt, List, [], ◌∷◌, length, take, drop, get_or, Some, refl, eq-eqb, arith, ◌≢◌}
 use Rattle.std.proofs.lemmas.Bool.Decides.{nat_tests}
 use Rattle.std.specs.List.{list_all}
 use Rattle.cipher_modes.specs.Paddings.{pkcs7_unpadded}

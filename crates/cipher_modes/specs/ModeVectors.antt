@@ -1,6 +1,5 @@
 -- What the tests of modes by vectors answer: the first text whose case holds.
-use Rattle.std.specs.Prelude.{◌≡◌, ℕ, ◌%◌, List, Option, None, Some, if◌then◌else◌, ◌==◌, ◌&&◌, nat_lt, length, codes, bytes_eq}
-use Rattle.std.specs.Borrow.{Bor}
+use Rattle.std.specs.Prelude.{ℕ, ◌%◌, List, Option, None, Some, if◌then◌else◌, ◌==◌, ◌&&◌, nat_lt, length, codes}
 use Rattle.cipher.specs.BlockVectors.{first, block_fault}
 use Rattle.cipher.specs.Transcript.{Block}
 use Rattle.cipher_modes.specs.Padded.{bytes_run}

@@ -1,5 +1,5 @@
 -- What a mode makes of bytes.
-use Rattle.std.specs.Prelude.{◌≡◌, ℕ, ◌/◌, ◌%◌, ◌==◌, ◌++◌, List, [], ◌∷◌, Option, None, Some, option_map, Result, Ok, Err, length, drop, if◌then◌else◌}
+use Rattle.std.specs.Prelude.{◌≡◌, ℕ, ◌/◌, ◌%◌, ◌==◌, ◌++◌, List, Option, None, Some, length, drop, if◌then◌else◌}
 use Rattle.std.specs.List.{concat}
 use Rattle.std.specs.Simd.{first_chunks}
 use Rattle.cipher.specs.Transcript.{Block}

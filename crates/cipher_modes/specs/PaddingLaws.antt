@@ -1,5 +1,5 @@
 -- The laws of the paddings: whole blocks, and the message back.
-use Rattle.std.proofs.Common.{◌≡◌, ◌≢◌, ℕ, zero, suc, ◌+◌, ◌-◌, ◌*◌, ◌/◌, ◌%◌, ◌≤◌, ◌<◌, Bool, true, false, ◌&&◌, ◌==◌, nat_lt, List, [], ◌∷◌, ◌++◌, Option, None, Some, length, take, drop, replicate, get_or, ap, sym, ◌∙◌, refl, arith, inl, inr, length-append, length-drop, eq-eqb}
+use Rattle.std.proofs.Common.{◌≡◌, ℕ, zero, suc, ◌+◌, ◌-◌, ◌*◌, ◌/◌, ◌%◌, ◌≤◌, ◌<◌, Bool, true, false, ◌&&◌, ◌==◌, nat_lt, List, [], ◌∷◌, ◌++◌, Some, length, take, drop, replicate, get_or, ap, sym, ◌∙◌, refl, arith, inl, inr, length-append, eq-eqb}
 use Rattle.std.proofs.lemmas.List.{append-nil, take_at, drop_at, get_or-replicate, get_or-append_right, length-replicate, take-append-drop, take-append-le, drop-append-le}
 use Rattle.std.proofs.lemmas.Bool.{cases_lt}
 use Rattle.std.proofs.lemmas.Bool.Decides.{eqb_tells, nat_tests}

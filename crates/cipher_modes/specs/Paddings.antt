@@ -1,5 +1,5 @@
 -- What fills a message up to whole blocks of B bytes, and how it comes off again.
-use Rattle.std.specs.Prelude.{◌≡◌, ◌≢◌, ℕ, ◌+◌, ◌-◌, ◌%◌, ◌≤◌, Bool, ◌&&◌, List, [], ◌∷◌, ◌++◌, Option, None, Some, option_map, length, take, drop, replicate, slice_index, ◌==◌, nat_lt, if◌then◌else◌}
+use Rattle.std.specs.Prelude.{◌≡◌, ◌≢◌, ℕ, ◌+◌, ◌-◌, ◌%◌, ◌≤◌, ◌&&◌, List, [], ◌∷◌, ◌++◌, Option, None, Some, option_map, length, take, drop, replicate, slice_index, ◌==◌, nat_lt, if◌then◌else◌}
 use Rattle.std.specs.List.{list_all}
 
 -- the bytes that a message of n is short of more blocks, from 1 to B

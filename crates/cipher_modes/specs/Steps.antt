@@ -1,5 +1,5 @@
 -- A block mode: a state and a step, which makes of a state and a block an output and the next state.
-use Rattle.std.specs.Prelude.{◌≡◌, ℕ, List, [], ◌∷◌}
+use Rattle.std.specs.Prelude.{◌≡◌, List, [], ◌∷◌}
 use Rattle.cipher.specs.Transcript.{Transcript, Block}
 
 -- the outputs of a mode on these blocks, in order

@@ -3,6 +3,7 @@
 ghost use Rattle.std.specs.Prelude.{◌≡◌, ℕ, ◌+◌, ◌-◌, ◌*◌, ◌/◌, ◌%◌, ◌<◌, ◌≤◌, List, length, take, drop, IsTrue, codes, bytes_eq};
 ghost use Rattle.cipher.specs.BlockVectors.{Tells};
 ghost use Rattle.cipher_modes.specs.Padded.{bytes_run};
+ghost use Rattle.cipher_modes.specs.Steps.{run_of, state_after};
 ghost use Rattle.cipher_modes.specs.ModeVectors.{encrypt_fault, decrypt_fault};
 
 use crate::modes::{BlockModeDecrypt, BlockModeEncrypt};
@@ -27,7 +28,8 @@ pub struct TestVector {
 /// Whether a mode encrypts as a vector says. The error is the first text whose case holds:
 /// `ciphertext is bigger than MAX_MSG_LEN bytes` (4,096), `plaintext/ciphertext length mismatch`,
 /// `plaintext/ciphertext length is not multiple of block size`, `cipher initialization failure` (the key's or the
-/// vector's length), `single block encryption failure`.
+/// vector's length), `single block encryption failure`. Several blocks together are tried too, and
+/// `multi-block encryption failure` never comes.
 pub fn encrypt<
     C: KeyIvInit<K, I> + BlockModeEncrypt<B>,
     const K: usize,
@@ -54,7 +56,59 @@ pub fn encrypt<
     if !encrypts_to(&mut mode, &mut buffer[..n], tv.plaintext, tv.ciphertext) {
         return Err("single block encryption failure");
     }
+    if !encrypts_alike::<C, K, I, B>(tv.key, tv.iv, tv.plaintext) {
+        return Err("multi-block encryption failure");
+    }
     Ok(())
+}
+
+// the blocks are encrypted together, eight at a time, as they are one by one
+fn encrypts_alike<
+    C: KeyIvInit<K, I> + BlockModeEncrypt<B>,
+    const K: usize,
+    const I: usize,
+    const B: usize,
+>(key: &[u8], iv: &[u8], bytes: &[u8]) -> bool
+    ensures value { IsTrue result }
+{
+    let Ok(mut mode) = C::new_from_slices(key, iv) else {
+        return true;
+    };
+    let Ok(mut other) = C::new_from_slices(key, iv) else {
+        return true;
+    };
+    let mut together = [[0; B]; 8];
+    for part in bytes.chunks(8 * B) {
+        load(&mut together, part);
+        if !encrypts_eight_alike(&mut mode, &mut other, &mut together) {
+            return false;
+        }
+    }
+    true
+}
+
+fn encrypts_eight_alike<M: BlockModeEncrypt<B>, const B: usize>(
+    mode: &mut M,
+    other: &mut M,
+    together: &mut [[u8; B]; 8],
+) -> bool
+    requires same { mode.old ≡ other.old }
+    ensures value { IsTrue result }
+    ensures same { mode.new ≡ other.new }
+{
+    let mut singly = *together;
+    mode.encrypt_blocks(together);
+    encrypt_singly(other, &mut singly);
+    *together == singly
+}
+
+fn encrypt_singly<M: BlockModeEncrypt<B>, const B: usize>(mode: &mut M, blocks: &mut [[u8; B]])
+    ensures value { blocks.new ≡ run_of M.step mode.old blocks.old }
+    ensures stepped { mode.new ≡ state_after M.step mode.old blocks.old }
+{
+    for i in 0..blocks.len() {
+        mode.encrypt_block(&mut blocks[i]);
+    }
 }
 
 // whether the blocks, one by one, are encrypted to these bytes
@@ -76,7 +130,8 @@ fn encrypts_to<C: BlockModeEncrypt<B>, const B: usize>(
 /// Whether a mode decrypts as a vector says. The error is the first text whose case holds:
 /// `plaintext is bigger than MAX_MSG_LEN bytes` (4,096), `plaintext/ciphertext length mismatch`,
 /// `plaintext/ciphertext length is not multiple of block size`, `cipher initialization failure` (the key's or the
-/// vector's length), `single block decryption failure`.
+/// vector's length), `single block decryption failure`. Several blocks together are tried too, and
+/// `multi-block decryption failure` never comes.
 pub fn decrypt<
     C: KeyIvInit<K, I> + BlockModeDecrypt<B>,
     const K: usize,
@@ -103,7 +158,59 @@ pub fn decrypt<
     if !decrypts_to(&mut mode, &mut buffer[..n], tv.ciphertext, tv.plaintext) {
         return Err("single block decryption failure");
     }
+    if !decrypts_alike::<C, K, I, B>(tv.key, tv.iv, tv.ciphertext) {
+        return Err("multi-block decryption failure");
+    }
     Ok(())
+}
+
+// the blocks are decrypted together, eight at a time, as they are one by one
+fn decrypts_alike<
+    C: KeyIvInit<K, I> + BlockModeDecrypt<B>,
+    const K: usize,
+    const I: usize,
+    const B: usize,
+>(key: &[u8], iv: &[u8], bytes: &[u8]) -> bool
+    ensures value { IsTrue result }
+{
+    let Ok(mut mode) = C::new_from_slices(key, iv) else {
+        return true;
+    };
+    let Ok(mut other) = C::new_from_slices(key, iv) else {
+        return true;
+    };
+    let mut together = [[0; B]; 8];
+    for part in bytes.chunks(8 * B) {
+        load(&mut together, part);
+        if !decrypts_eight_alike(&mut mode, &mut other, &mut together) {
+            return false;
+        }
+    }
+    true
+}
+
+fn decrypts_eight_alike<M: BlockModeDecrypt<B>, const B: usize>(
+    mode: &mut M,
+    other: &mut M,
+    together: &mut [[u8; B]; 8],
+) -> bool
+    requires same { mode.old ≡ other.old }
+    ensures value { IsTrue result }
+    ensures same { mode.new ≡ other.new }
+{
+    let mut singly = *together;
+    mode.decrypt_blocks(together);
+    decrypt_singly(other, &mut singly);
+    *together == singly
+}
+
+fn decrypt_singly<M: BlockModeDecrypt<B>, const B: usize>(mode: &mut M, blocks: &mut [[u8; B]])
+    ensures value { blocks.new ≡ run_of M.step mode.old blocks.old }
+    ensures stepped { mode.new ≡ state_after M.step mode.old blocks.old }
+{
+    for i in 0..blocks.len() {
+        mode.decrypt_block(&mut blocks[i]);
+    }
 }
 
 // whether the blocks, one by one, are decrypted to these bytes
@@ -120,4 +227,14 @@ fn decrypts_to<C: BlockModeDecrypt<B>, const B: usize>(
     buffer.copy_from_slice(ciphertext);
     decrypt_bytes(mode, buffer);
     *buffer == *plaintext
+}
+
+// lays bytes in the blocks, as far as they go
+fn load<const B: usize>(blocks: &mut [[u8; B]; 8], bytes: &[u8])
+    requires { (1 ≤ B) × (B < 256) }
+{
+    let (whole, _) = bytes.as_chunks::<B>();
+    for i in 0..whole.len().min(8) {
+        blocks[i] = whole[i];
+    }
 }

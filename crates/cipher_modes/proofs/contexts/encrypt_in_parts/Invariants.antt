@@ -1,4 +1,4 @@
-use Rattle.std.proofs.Common.{◌≡◌, ℕ, ◌++◌, length, take, drop, ◌≤◌, ◌-◌}
+use Rattle.std.proofs.Common.{◌≡◌, ◌++◌, length, take, drop, ◌≤◌, ◌-◌}
 use Rattle.cipher.specs.Buffers.{pick}
 use Rattle.cipher_modes.specs.Steps.{run_of, state_after}
 use Rattle.cipher_modes.proofs.contexts.encrypt_in_parts.Given as goal

@@ -1,4 +1,4 @@
-use Rattle.std.proofs.Common.{◌-◌, ◌≤◌, ◌<◌, length, arith}
+use Rattle.std.proofs.Common.{◌-◌, ◌≤◌, length, arith}
 use Rattle.std.proofs.lemmas.List.{take_rest}
 use Rattle.cipher_modes.specs.PaddingLaws.{whole_least}
 use Rattle.cipher_modes.proofs.BytesRun.{remains-first, remains-next, remains-none}

@@ -1,4 +1,4 @@
-use Rattle.std.proofs.Common.{◌≡◌, ℕ, ◌++◌, take, drop}
+use Rattle.std.proofs.Common.{◌≡◌, ◌++◌, take, drop}
 use Rattle.cipher.specs.Buffers.{pick}
 use Rattle.cipher_modes.specs.Steps.{run_of, state_after}
 use Rattle.cipher_modes.proofs.backends.BlockModeDecBackend.decrypt_tail_blocks.Given as goal

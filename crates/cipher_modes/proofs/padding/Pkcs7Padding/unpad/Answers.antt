@@ -1,4 +1,4 @@
-use Rattle.std.proofs.Common.{◌≡◌, ◌∙◌, ◌≤◌, length, arith, refl, sym}
+use Rattle.std.proofs.Common.{◌∙◌, ◌≤◌, length, arith, refl, sym}
 use Rattle.cipher_modes.specs.PaddingLaws.{whole_least}
 use Rattle.cipher_modes.proofs.Unpadding.{pkcs7-accepts, some_bytes}
 use Rattle.cipher_modes.proofs.padding.Pkcs7Padding.unpad.Goals as goal
