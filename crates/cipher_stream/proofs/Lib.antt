@@ -1,0 +1,11 @@
+pub mod Streams
+pub mod Led
+pub mod Applied
+pub mod Lanes
+pub mod BlockBytes
+pub mod Places
+pub mod Rests
+pub mod SoughtPlaces
+pub mod LawFacts
+pub mod VectorFacts
+pub mod TestFacts

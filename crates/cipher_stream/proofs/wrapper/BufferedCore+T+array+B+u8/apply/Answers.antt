@@ -1,0 +1,30 @@
+use Rattle.std.proofs.Common.{◌≡◌, ◌+◌, ◌-◌, refl, take, drop, length, arith, subst, length-take, length-drop}
+use Rattle.std.specs.Prelude.{bit_xor}
+use Rattle.cipher_stream.specs.ByteStream.{to_come, bytes_from, HasMoved}
+use Rattle.cipher_stream.proofs.Applied.{length_so_far}
+use Rattle.cipher_stream.proofs.Places.{moved_both}
+use Rattle.cipher_stream.proofs.Rests.{applied_then}
+use Rattle.cipher_stream.proofs.wrapper.BufferedCore+T+array+B+u8.apply.Goals as goal
+
+pub returns-then-at-bytes-clause-value : goal.returns-then-at-bytes-clause-value
+returns-then-at-bytes-clause-value g c =
+    let B = g.row.B in
+    let k = g.T.StreamCipherCore.keystream in
+    let s = bytes_from B (k c.args.self.now.0) c.args.self.now.1 in
+    let t = bytes_from B (k c.apply_rest-at.new.self.0) c.apply_rest-at.new.self.1 in
+    applied_then (to_come s) (to_come t) c.args.bytes.now c.apply_rest-at.new.bytes c.apply_fresh.new.bytes c.apply_rest-at.result _ c.apply_rest-at.ensures.within c.apply_rest-at.ensures.value refl c.apply_rest-at.ensures.moved.ahead c.apply_fresh.ensures.value
+
+pub returns-then-at-bytes-clause-moved : goal.returns-then-at-bytes-clause-moved
+returns-then-at-bytes-clause-moved g c =
+    let B = g.row.B in
+    let k = g.T.StreamCipherCore.keystream in
+    let old = c.args.bytes.now in
+    let at = c.apply_rest-at.result in
+    let s = bytes_from B (k c.args.self.now.0) c.args.self.now.1 in
+    let t = bytes_from B (k c.apply_rest-at.new.self.0) c.apply_rest-at.new.self.1 in
+    let u = bytes_from B (k c.apply_fresh.new.self.0) c.apply_fresh.new.self.1 in
+    let cur = c.apply_rest-at.new.bytes in
+    let size : length cur ≡ length old = length_so_far bit_xor (to_come s) old cur at c.apply_rest-at.ensures.value in
+    let left : length (take (length cur - at) (drop at cur)) ≡ length old - at = simp (length-take, length-drop) (omega arith) in
+    let all : at + (length old - at) ≡ length old = omega arith in
+    subst (λ m. HasMoved s m u) all (moved_both s t u at (length old - at) c.apply_rest-at.ensures.moved (subst (λ m. HasMoved t m u) left c.apply_fresh.ensures.moved))

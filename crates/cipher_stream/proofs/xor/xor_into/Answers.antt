@@ -1,0 +1,22 @@
+use Rattle.std.proofs.Common.{◌≡◌, ◌+◌, ◌*◌, ◌∙◌, ap, arith, bit_xor, get_or, set}
+use lib.Lanes.{chunk, put_chunk, zip2}
+use Rattle.cipher_stream.proofs.Lanes.{all_done, chunk_step, done, set_step, zip2-applied}
+use Rattle.cipher_stream.proofs.xor.xor_into.Goals as goal
+
+pub lanes-preserved : goal.lanes-preserved
+lanes-preserved c =
+    let n = 16 * c.lanes.i in
+    let ws = c.args.with.now in
+    let e : n + 16 ≡ 16 * (c.lanes.i + 1) = omega arith in
+    ap (λ l. put_chunk n l (zip2 bit_xor (chunk n 16 l) (chunk n 16 ws))) c.lanes.invariant
+    ∙ chunk_step bit_xor n 16 c.args.out.now ws c.requires (omega arith)
+    ∙ ap (λ m. done bit_xor m c.args.out.now ws) e
+
+pub rest-preserved : goal.rest-preserved
+rest-preserved c =
+    let n = c.rest.i in
+    let ws = c.args.with.now in
+    ap (λ l. set l n (bit_xor (get_or l n 0) (get_or ws n 0))) c.rest.invariant ∙ set_step bit_xor n c.args.out.now ws c.requires (omega arith)
+
+pub returns : goal.returns
+returns c = record { value = c.rest.invariant ∙ (all_done bit_xor c.rest.i c.args.out.now c.args.with.now c.requires (omega arith) ∙ zip2-applied bit_xor c.args.out.now c.args.with.now c.requires) }

@@ -1,0 +1,6 @@
+pub mod Keystream
+pub mod Contexts
+pub mod ByteStream
+pub mod StreamVectors
+pub mod Laws
+pub mod TestCores

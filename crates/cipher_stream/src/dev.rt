@@ -1,0 +1,3 @@
+//! Tests by vectors.
+
+pub mod stream;

@@ -1,0 +1,52 @@
+//! Positions of a buffered core.
+
+ghost use Rattle.std.specs.Prelude.{◌≡◌, ℕ, ◌+◌, ◌-◌, ◌*◌, ◌/◌, ◌%◌, ◌<◌, ◌≤◌, Some};
+ghost use Rattle.cipher_stream.specs.ByteStream.{bytes_from, to_come, position, IsSame, HasRoom};
+
+use crate::cores::seeking::StreamCipherSeekCore;
+use crate::counters::{StreamCipherCounter, told};
+use crate::errors::{OverflowError, StreamCipherError};
+use crate::positions::SeekNum;
+use crate::seek::StreamCipherSeek;
+use crate::wrapper::BufferedCore;
+
+impl<T: StreamCipherSeekCore<B>, const B: usize> BufferedCore<T, [u8; B]> {
+    // makes this byte of this block the next one
+    fn seek_to(&mut self, block: T::Counter, byte: u8)
+        requires part { byte < B }
+        requires further { 0 < byte → T.Counter.value block < T.Counter.most }
+        ensures further { 0 < byte → T.Counter.value block < T.Counter.most }
+        ensures same { IsSame (bytes_from B (T.keystream self.old.0) self.old.1) (bytes_from B (T.keystream self.new.0) self.new.1) }
+        ensures placed { position (bytes_from B (T.keystream self.new.0) self.new.1) ≡ Some (T.Counter.value block * B + byte) }
+        ensures ahead { (j : ℕ) → to_come (bytes_from B (T.keystream self.new.0) self.new.1) j ≡ (bytes_from B (T.keystream self.old.0) self.old.1).byte_at (T.Counter.value block * B + byte + j) }
+        ensures left { (m : ℕ) → HasRoom B (T.remaining_at (T.Counter.value block)) 0 (byte + m) → HasRoom B (T.remaining self.new.0) self.new.1 m }
+    {
+        self.core.set_block_pos(block);
+        self.used = B;
+        if byte > 0 {
+            self.core.write_keystream_block(&mut self.buffer);
+            self.used = byte as usize;
+            told(self.core.get_block_pos());
+        }
+    }
+}
+
+impl<T: StreamCipherSeekCore<B>, const B: usize> StreamCipherSeek for BufferedCore<T, [u8; B]> {
+    ghost end = { T.Counter.most * B };
+
+    ghost room_at = { λ n m. HasRoom B (T.remaining_at (n / B)) 0 (n % B + m) };
+
+    fn try_current_pos<N: SeekNum>(&self) -> Result<N, OverflowError> {
+        let block = told(self.core.get_block_pos());
+        N::from_block_byte(block, self.used as u8, B as u8)
+    }
+
+    fn try_seek<N: SeekNum>(&mut self, pos: N) -> Result<(), StreamCipherError> {
+        let (block, byte) = pos.into_block_byte::<T::Counter>(B as u8)?;
+        if byte != 0 && block.is_max() {
+            return Err(StreamCipherError);
+        }
+        self.seek_to(block, byte);
+        Ok(())
+    }
+}

@@ -1,0 +1,69 @@
+//! Bytes xor bytes, sixteen at a time.
+
+ghost use Rattle.std.specs.Prelude.{◌≡◌, ◌≤◌, ◌+◌, List, length, slice_index, slice_index_or};
+ghost use Rattle.cipher.specs.Buffers.{xor_bytes};
+ghost use Rattle.cipher_stream.specs.Keystream.{combined, xored};
+
+use std::simd::prelude::*;
+
+// writes bytes xor the first of others, which are no fewer
+#[inline(always)]
+pub(crate) fn xor_into(out: &mut [u8], with: &[u8])
+    requires { length out.old ≤ length with.now }
+    ensures value { out.new ≡ xored (slice_index with.now) out.old }
+{
+    let whole = out.len() / 16;
+    'lanes: for i in 0..whole {
+        let at = 16 * i;
+        let v = u8x16::from_slice(&out[at..]) ^ u8x16::from_slice(&with[at..]);
+        v.copy_to_slice(&mut out[at..]);
+    }
+    'rest: for i in 16 * whole..out.len() {
+        out[i] ^= with[i];
+    }
+}
+
+// writes at most B bytes xor a block
+#[inline(always)]
+pub(crate) fn xor_part<const B: usize>(out: &mut [u8], key: &[u8; B])
+    requires { length out.old ≤ B }
+    ensures value { out.new ≡ xored (slice_index key.now) out.old }
+{
+    xor_into(out, key);
+}
+
+// writes bytes xor those of a block from a place on
+pub(crate) fn xor_from<const B: usize>(out: &mut [u8], key: &[u8; B], at: usize)
+    requires { at + length out.old ≤ B }
+    ensures value { out.new ≡ xored (λ j. slice_index key.now (at + j)) out.old }
+{
+    let whole = &key[..];
+    xor_into(out, &whole[at..]);
+}
+
+// writes a block, or the one that is read in its stead, xor another
+pub(crate) fn xor_block<const B: usize>(output: &mut [u8; B], input: &[[u8; B]], key: &[u8; B])
+    ensures value { output.new ≡ xor_bytes (slice_index_or input.now 0 output.old) key.now }
+{
+    read_block(output, input);
+    xor_into(output, key);
+}
+
+// the block that is read, if there is one
+fn read_block<const B: usize>(output: &mut [u8; B], input: &[[u8; B]])
+    ensures value { output.new ≡ slice_index_or input.now 0 output.old }
+{
+    if let Some(input) = input.first() {
+        *output = *input;
+    }
+}
+
+// writes blocks xor as many others in their places
+pub(crate) fn xor_blocks<const B: usize>(output: &mut [[u8; B]], keys: &[[u8; B]])
+    requires { length output.old ≡ length keys.now }
+    ensures value { output.new ≡ combined xor_bytes output.old keys.now }
+{
+    for i in 0..output.len() {
+        xor_block(&mut output[i], &[], &keys[i]);
+    }
+}
