@@ -1,0 +1,3 @@
+pub mod Flavors
+pub mod FlavorLaws
+pub mod Counter
