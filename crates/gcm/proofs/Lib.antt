@@ -1,0 +1,6 @@
+pub mod Parts
+pub mod Counting
+pub mod Hashes
+pub mod GcmFacts
+pub mod SivFacts
+pub mod OpenedParts

@@ -1,0 +1,8 @@
+use Rattle.gcm.proofs.SivFacts.{sealed_in_place}
+use Rattle.gcm.proofs.siv.seal.Goals as goal
+
+pub returns : goal.returns
+returns g c =
+    sealed_in_place (g.C.BlockCipherEncrypt.encrypts c.args.keys.now.cipher) c.args.keys.now.authentication c.args.nonce.now c.args.aad.now c.args.text.now c.args.out.now
+    c.copy_from_slice.new.self c.apply_keystream.new.bytes c.polyval-sum.result c.tag_of-tag.result c.counter_block.result c.copy_from_slice-2.new.self
+    c.copy_from_slice.ensures.after c.polyval-sum.ensures.value c.tag_of-tag.ensures c.counter_block.ensures c.apply_keystream.ensures c.copy_from_slice-2.ensures.after

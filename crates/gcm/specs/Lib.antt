@@ -1,0 +1,6 @@
+pub mod Orders
+pub mod Answers
+pub mod Texts
+pub mod Limits
+pub mod Siv
+pub mod Laws

@@ -1,0 +1,31 @@
+-- Blocks by the order of their bytes: GCM has the high byte first (SP 800-38D, 6), GCM-SIV the low byte (RFC 8452, 3, 4).
+use Rattle.std.specs.Prelude.{ℕ, List, ◌++◌, bit_xor}
+use Rattle.std.specs.Int.{w32, w64, w128, from_be_bytes, from_le_bytes, to_be_bytes, to_le_bytes}
+use Rattle.standards.specs.Counter.{plus_be, plus_le}
+use Rattle.standards.specs.Ghash.{product}
+use Rattle.gcm.specs.declared.order.ByteOrder.{ByteOrder}
+use Rattle.gcm.specs.declared.order.ByteOrder.TheVariants.{BigEndian, LittleEndian}
+
+-- the number of a block
+abbrev pub number_of : ByteOrder → List ℕ → ℕ
+number_of BigEndian block = from_be_bytes w128 block
+number_of LittleEndian block = from_le_bytes w128 block
+
+-- the block of a number
+abbrev pub block_of : ByteOrder → ℕ → List ℕ
+block_of BigEndian n = to_be_bytes w128 n
+block_of LittleEndian n = to_le_bytes w128 n
+
+-- i added to the 32 bits that count: the last with the high byte first, the first with the low byte first
+abbrev pub counted : ByteOrder → List ℕ → ℕ → List ℕ
+counted BigEndian = plus_be w32
+counted LittleEndian = plus_le w32
+
+-- two numbers of 64 bits
+abbrev pub pair_of : ByteOrder → ℕ → ℕ → List ℕ
+pair_of BigEndian a b = to_be_bytes w64 a ++ to_be_bytes w64 b
+pair_of LittleEndian a b = to_le_bytes w64 a ++ to_le_bytes w64 b
+
+-- one block more after y, under the element h: the sum times h, GHASH's product
+abbrev pub absorb : ByteOrder → ℕ → ℕ → List ℕ → ℕ
+absorb order h y block = product (bit_xor y (number_of order block)) h

@@ -1,0 +1,25 @@
+// Blocks of 16 bytes.
+ghost use Rattle.std.specs.Prelude.{◌≡◌, ◌↔◌, ◌≤◌, length, IsTrue};
+ghost use Rattle.standards.specs.Lists.{xor_bytes};
+
+// A block with bytes added to its front.
+pub(crate) fn xored(block: &[u8; 16], bytes: &[u8]) -> [u8; 16]
+    requires { length bytes.now ≤ 16 }
+    ensures { result ≡ xor_bytes block.now bytes.now }
+{
+    let mut out = *block;
+    for i in 0..bytes.len() {
+        out[i] ^= bytes[i];
+    }
+    out
+}
+
+// Whether these are the same bytes, in a time that does not tell where they differ.
+pub(crate) fn is_same(tag: &[u8; 16], bytes: &[u8]) -> bool
+    requires { length bytes.now ≡ 16 }
+    ensures { IsTrue result ↔ (tag.now ≡ bytes.now) }
+{
+    let mut other = [0u8; 16];
+    other.copy_from_slice(bytes);
+    u128::from_be_bytes(*tag) ^ u128::from_be_bytes(other) == 0
+}

@@ -1,0 +1,76 @@
+// GHASH (SP 800-38D, 6.4) and POLYVAL (RFC 8452, 3) of data and text, each padded, and their lengths.
+ghost use Rattle.std.specs.Prelude.{◌≡◌, ◌≤◌, ◌<◌, ◌+◌, ◌*◌, ◌/◌, ◌^◌, length};
+ghost use Rattle.standards.specs.Blocks.{block_at, over_blocks, zero_padded};
+ghost use Rattle.standards.specs.Ghash.{ghash};
+ghost use Rattle.standards.specs.Polyval.{polyval};
+ghost use Rattle.gcm.specs.Orders.{absorb, pair_of};
+
+use crate::field::{product, times_x};
+use crate::order::{ByteOrder, number_of, pair_of};
+
+// Block i of the bytes, with zeros up to a whole block.
+fn padded_block(bytes: &[u8], i: usize) -> [u8; 16]
+    requires { 16 * i < length bytes.now }
+    ensures { result ≡ block_at (zero_padded bytes.now) i }
+{
+    let n = (bytes.len() - 16 * i).min(16);
+    let mut block = [0u8; 16];
+    block[..n].copy_from_slice(&bytes[16 * i..16 * i + n]);
+    block
+}
+
+// One block more after y, under h.
+pub(crate) fn absorb(order: ByteOrder, h: u128, y: u128, block: [u8; 16]) -> u128
+    ensures { result ≡ absorb order h y block }
+{
+    product(y ^ number_of(order, block), h)
+}
+
+// All bytes after y, padded, under h.
+pub(crate) fn absorb_padded(order: ByteOrder, h: u128, y: u128, bytes: &[u8]) -> u128
+    ensures { result ≡ over_blocks (absorb order h) y (zero_padded bytes.now) ((length bytes.now + 15) / 16) }
+{
+    let mut state = y;
+    for i in 0..bytes.len().div_ceil(16) {
+        let next = absorb(order, h, state, padded_block(bytes, i));
+        state = next;
+    }
+    state
+}
+
+// The lengths in bits after y, under h.
+pub(crate) fn absorb_lengths(order: ByteOrder, h: u128, y: u128, aad: usize, text: usize) -> u128
+    requires aad { 8 * aad < 2 ^ 64 }
+    requires text { 8 * text < 2 ^ 64 }
+    ensures { result ≡ absorb order h y (pair_of order (8 * aad) (8 * text)) }
+{
+    absorb(order, h, y, pair_of(order, 8 * aad as u64, 8 * text as u64))
+}
+
+/// GHASH under the key, of data and text, each with zeros up to whole blocks of 16 bytes, and of their lengths in bits
+/// (SP 800-38D, 7.1, step 5). Each length in bits fits 64 bits.
+pub fn ghash(key: &[u8; 16], aad: &[u8], text: &[u8]) -> [u8; 16]
+    requires aad { 8 * length aad.now < 2 ^ 64 }
+    requires text { 8 * length text.now < 2 ^ 64 }
+    ensures value { result ≡ ghash key.now aad.now text.now }
+{
+    let h = u128::from_be_bytes(*key);
+    let order = ByteOrder::BigEndian;
+    let data = absorb_padded(order, h, 0, aad);
+    let both = absorb_padded(order, h, data, text);
+    absorb_lengths(order, h, both, aad.len(), text.len()).to_be_bytes()
+}
+
+/// POLYVAL under the key, of data and text, each with zeros up to whole blocks of 16 bytes, and of their lengths in
+/// bits (RFC 8452, 3 and 4). Each length in bits fits 64 bits.
+pub fn polyval(key: &[u8; 16], aad: &[u8], text: &[u8]) -> [u8; 16]
+    requires aad { 8 * length aad.now < 2 ^ 64 }
+    requires text { 8 * length text.now < 2 ^ 64 }
+    ensures value { result ≡ polyval key.now aad.now text.now }
+{
+    let h = times_x(u128::from_le_bytes(*key));
+    let order = ByteOrder::LittleEndian;
+    let data = absorb_padded(order, h, 0, aad);
+    let both = absorb_padded(order, h, data, text);
+    absorb_lengths(order, h, both, aad.len(), text.len()).to_le_bytes()
+}

@@ -1,0 +1,37 @@
+//! GCM and GCM-SIV over block ciphers, without memory.
+#![tactic(auto)]
+
+ghost use Rattle.gcm.specs.Laws.{GcmGivesBack, GcmHasOneText, GcmSivGivesBack, GcmSivHasOneText};
+
+mod bytes;
+mod counter;
+mod errors;
+mod field;
+mod hashing;
+mod limits;
+mod opened;
+mod order;
+mod sealing;
+mod siv;
+
+pub use errors::GcmError;
+pub use hashing::{ghash, polyval};
+pub use sealing::Gcm;
+pub use siv::GcmSiv;
+
+/// Under each one-block map, nonce and data a list of bytes is GCM's encryption of at most one text, and encrypting the
+/// text that is had back from its ciphertext gives it again.
+pub fn law_gcm_has_one_text()
+    ensures one_text { GcmHasOneText }
+    ensures gives_back { GcmGivesBack }
+{}
+
+/// Under each cipher, key, nonce and data a list of bytes is GCM-SIV's encryption of at most one text, and encrypting
+/// the text that is had back from its ciphertext gives it again.
+pub fn law_gcm_siv_has_one_text()
+    ensures one_text { GcmSivHasOneText }
+    ensures gives_back { GcmSivGivesBack }
+{}
+
+#[cfg(test)]
+mod tests;

@@ -1,0 +1,155 @@
+//! GCM (SP 800-38D) with nonces of 12 bytes and tags of 16.
+
+ghost use Rattle.std.specs.Prelude.{◌≡◌, ◌≤◌, ◌<◌, ◌+◌, ◌-◌, ◌*◌, ◌^◌, length};
+ghost use Rattle.standards.specs.Gcm.{first_block, gcm, gcm_tag, gcm_text};
+ghost use Rattle.gcm.specs.Answers.{IsOpened, IsSealed, IsTried};
+ghost use Rattle.gcm.specs.Limits.{MOST_GCM};
+
+use crate::bytes::{is_same, xored};
+use crate::counter::apply_keystream;
+use crate::errors::GcmError;
+use crate::hashing::ghash;
+use crate::limits::check_lengths;
+use crate::order::{ByteOrder, counted};
+use cipher::BlockCipherEncrypt;
+
+// The most bytes of a text (5.2.1.1), two blocks less than the counter has.
+const MOST_TEXT: usize = (1 << 36) - 32;
+
+/// GCM (SP 800-38D) under a cipher with blocks of 16 bytes.
+#[derive(Drop)]
+pub struct Gcm<C> {
+    cipher: C,
+}
+
+// The first counter block, under which the tag is sealed (7.1, step 2).
+fn first_block(nonce: &[u8]) -> [u8; 16]
+    requires { length nonce.now ≡ 12 }
+    ensures { result ≡ first_block nonce.now }
+{
+    let mut block = [0u8; 16];
+    block[..12].copy_from_slice(nonce);
+    block[15] = 1;
+    block
+}
+
+// The text under the counter blocks from 2 on, in its place (7.1, step 3).
+fn apply_text<C: BlockCipherEncrypt<16>>(c: &C, nonce: &[u8], bytes: &mut [u8])
+    requires nonce { length nonce.now ≡ 12 }
+    requires text { length bytes.old ≤ 2 ^ 36 }
+    ensures { bytes.new ≡ gcm_text (C.encrypts c.now) nonce.now bytes.old }
+{
+    let block = counted(ByteOrder::BigEndian, &first_block(nonce), 1);
+    apply_keystream(c, ByteOrder::BigEndian, &block, bytes);
+}
+
+// The tag of data and ciphertext (7.1, steps 1 and 4 to 6).
+fn tag_of<C: BlockCipherEncrypt<16>>(c: &C, nonce: &[u8], aad: &[u8], ciphertext: &[u8]) -> [u8; 16]
+    requires nonce { length nonce.now ≡ 12 }
+    requires aad { 8 * length aad.now < 2 ^ 64 }
+    requires text { 8 * length ciphertext.now < 2 ^ 64 }
+    ensures { result ≡ gcm_tag (C.encrypts c.now) nonce.now aad.now ciphertext.now }
+{
+    let mut key = [0u8; 16];
+    c.encrypt_block(&mut key);
+    let mut mask = first_block(nonce);
+    c.encrypt_block(&mut mask);
+    xored(&ghash(&key, aad, ciphertext), &mask)
+}
+
+// Ciphertext and tag of a text whose blocks are counted.
+fn seal<C: BlockCipherEncrypt<16>>(c: &C, nonce: &[u8], aad: &[u8], text: &[u8], out: &mut [u8])
+    requires nonce { length nonce.now ≡ 12 }
+    requires aad { 8 * length aad.now < 2 ^ 64 }
+    requires text { length text.now ≤ 2 ^ 36 }
+    requires room { length out.old ≡ length text.now + 16 }
+    ensures { out.new ≡ gcm (C.encrypts c.now) nonce.now aad.now text.now }
+{
+    let n = text.len();
+    out[..n].copy_from_slice(text);
+    apply_text(c, nonce, &mut out[..n]);
+    let tag = tag_of(c, nonce, aad, &out[..n]);
+    out[n..].copy_from_slice(&tag);
+}
+
+// Opens what has no more blocks than are counted: false where no text is sealed so, and then nothing is written.
+fn open<C: BlockCipherEncrypt<16>>(
+    c: &C,
+    nonce: &[u8],
+    aad: &[u8],
+    sealed: &[u8],
+    out: &mut [u8],
+) -> bool
+    requires nonce { length nonce.now ≡ 12 }
+    requires aad { 8 * length aad.now < 2 ^ 64 }
+    requires sealed { length sealed.now ≤ 2 ^ 36 }
+    requires room { length out.old ≡ length sealed.now - 16 }
+    ensures { IsTried (gcm (C.encrypts c.now) nonce.now aad.now) sealed.now out.old out.new result }
+{
+    if sealed.len() < 16 {
+        return false;
+    }
+    let n = out.len();
+    let tag = tag_of(c, nonce, aad, &sealed[..n]);
+    if !is_same(&tag, &sealed[n..]) {
+        return false;
+    }
+    out.copy_from_slice(&sealed[..n]);
+    apply_text(c, nonce, out);
+    true
+}
+
+impl<C: BlockCipherEncrypt<16>> Gcm<C> {
+    /// GCM under this cipher.
+    pub fn new(c: C) -> Gcm<C>
+        ensures { result.cipher ≡ c }
+    {
+        Gcm { cipher: c }
+    }
+
+    /// Writes the ciphertext of `text` and its tag of 16 bytes into `out`, under a nonce of 12 bytes and with the
+    /// associated data `aad` (7.1). A nonce serves once under each key.
+    ///
+    /// # Errors
+    /// `DataTooLong` where `aad` has more than 2^36 bytes, and else `TextTooLong` where `text` has more than
+    /// 2^36 - 32. `out` is then as before.
+    pub fn seal_into(
+        &self,
+        nonce: &[u8],
+        aad: &[u8],
+        text: &[u8],
+        out: &mut [u8],
+    ) -> Result<(), GcmError>
+        requires nonce { length nonce.now ≡ 12 }
+        requires room { length out.old ≡ length text.now + 16 }
+        ensures { IsSealed (gcm (C.encrypts self.now.cipher) nonce.now aad.now) MOST_GCM aad.now text.now out.old out.new result }
+    {
+        check_lengths(aad.len(), text.len(), MOST_TEXT)?;
+        seal(&self.cipher, nonce, aad, text, out);
+        Ok(())
+    }
+
+    /// Writes the one text of which `sealed` is the encryption into `out`, which has 16 bytes less, or none where
+    /// `sealed` is shorter than 16 bytes (7.2). The tag is compared before anything is written.
+    ///
+    /// # Errors
+    /// `DataTooLong` where `aad` has more than 2^36 bytes, else `TextTooLong` where `sealed` has more than 2^36 - 16,
+    /// and else `DecryptFailed` where it is the encryption of no text. `out` is then as before.
+    pub fn open_into(
+        &self,
+        nonce: &[u8],
+        aad: &[u8],
+        sealed: &[u8],
+        out: &mut [u8],
+    ) -> Result<(), GcmError>
+        requires nonce { length nonce.now ≡ 12 }
+        requires room { length out.old ≡ length sealed.now - 16 }
+        ensures { IsOpened (gcm (C.encrypts self.now.cipher) nonce.now aad.now) MOST_GCM aad.now sealed.now out.old out.new result }
+    {
+        check_lengths(aad.len(), sealed.len().saturating_sub(16), MOST_TEXT)?;
+        if !open(&self.cipher, nonce, aad, sealed, out) {
+            return Err(GcmError::DecryptFailed);
+        }
+        Ok(())
+    }
+}
