@@ -180,6 +180,14 @@ pub(crate) fn add_round_key(s: [u8; 16], k: [u8; 16]) -> [u8; 16]
     ]
 }
 
+// The last round, which has no MixColumns.
+#[inline(always)]
+fn last_round(s: [u8; 16], key: [u8; 16]) -> [u8; 16]
+    ensures { result ≡ add_round_key (shift_rows (sub_bytes s)) key }
+{
+    add_round_key(sub_and_shift(s), key)
+}
+
 // The block by way of a number, so that its bytes come one by one and not as a vector, which is slower here.
 #[inline(always)]
 fn by_number(block: &[u8; 16]) -> [u8; 16]
@@ -199,5 +207,5 @@ pub(crate) fn encipher(keys: &[[u8; 16]; 15], rounds: usize, block: &[u8; 16]) -
         let mixed = sub_shift_and_mix(state);
         state = add_round_key(mixed, keys[i]);
     }
-    add_round_key(sub_and_shift(state), keys[rounds])
+    last_round(state, keys[rounds])
 }

@@ -19,6 +19,5 @@ pub returns : goal.returns
 returns c =
     let last : c.rounds.i ≡ c.args.rounds = omega arith in
     let ks = c.args.keys.now in
-    c.add_round_key.ensures
-    ∙ ap (λ v. add_round_key v (key_at ks c.args.rounds)) c.sub_and_shift.ensures
+    c.last_round.ensures
     ∙ ap (λ v. add_round_key (shift_rows (sub_bytes v)) (key_at ks c.args.rounds)) (c.rounds.invariant ∙ ap (λ i. state_after ks c.args.block.now (i - 1)) last)
