@@ -6,10 +6,6 @@ pub mod TrialFacts
 pub mod ChoosingSteps
 pub mod ReadingFacts
 pub mod ChosenFacts
-mod AesBytes
-mod KeyWords
-mod RoundKeys
-mod CounterSteps
 mod SegmentSteps
 mod DerivedKeys
 pub mod WholeSteps

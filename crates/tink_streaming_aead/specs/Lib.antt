@@ -2,8 +2,9 @@ pub mod Writing
 pub mod Opening
 pub mod Reading
 pub mod Choosing
-pub mod Schedule
+pub mod SegmentCiphers
 pub mod SegmentKeys
 pub mod StreamingKeys
 pub mod Whole
 pub mod Full
+pub mod AesVariants

@@ -2,12 +2,20 @@ ghost use Rattle.std.specs.Prelude.{◌≡◌, ◌⊎◌, ◌≤◌, ◌↔◌, 
 ghost use Rattle.hash_keys.specs.Hash.{digest_size, hmac_of};
 ghost use Rattle.tink_streaming_aead.specs.SegmentKeys.{segment_under, overhead_under};
 
-use crate::aes::Aes;
-use crate::counter::ctr_into;
+use crate::segment_cipher::SegmentCipher;
 use crate::segment_traits::{SegmentDecrypter, SegmentEncrypter};
 use hash_keys::{Hash, hmac_into};
 use std::marker::Model;
 use tink_io::{Kind, TinkError};
+
+/// The size of a nonce in bytes.
+pub const AES_CTR_HMAC_NONCE_SIZE_IN_BYTES: usize = 16;
+
+/// The size of the front of the nonces of one stream in bytes.
+pub const AES_CTR_HMAC_NONCE_PREFIX_SIZE_IN_BYTES: usize = 7;
+
+/// The size of an HMAC key in bytes.
+pub const AES_CTR_HMAC_KEY_SIZE_IN_BYTES: usize = 32;
 
 // The bytes of the largest tag.
 const MAX_TAG: usize = 64;
@@ -18,7 +26,7 @@ const MAX_TAG: usize = 64;
 /// A contract sees the two keys, the hash and the tag's bytes.
 #[derive(Drop)]
 pub struct CtrHmacSegment {
-    cipher: Aes,
+    cipher: SegmentCipher,
     hmac_key: [u8; 32],
     tag_hash: Hash,
     tag_size: usize,
@@ -27,13 +35,14 @@ pub struct CtrHmacSegment {
 impl Model for CtrHmacSegment {
     ghost use Rattle.std.specs.Prelude.{◌≤◌};
     ghost use Rattle.hash_keys.specs.Hash.{digest_size};
+    ghost use Rattle.tink_streaming_aead.specs.SegmentCiphers.{IsSized, key_of};
     ghost use Rattle.tink_streaming_aead.specs.SegmentKeys.{SegmentKeys};
 
     ghost Value = { SegmentKeys };
 
-    ghost view = { λ s. record { aes_key = s.cipher; hmac_key = s.hmac_key; hash = s.tag_hash; tag = s.tag_size } };
+    ghost view = { λ s. record { aes_key = key_of s.cipher; hmac_key = s.hmac_key; hash = s.tag_hash; tag = s.tag_size } };
 
-    ghost invariant = { λ s. s.tag_size ≤ digest_size s.tag_hash };
+    ghost invariant = { λ s. (s.tag_size ≤ digest_size s.tag_hash) × IsSized s.cipher };
 }
 
 impl CtrHmacSegment {
@@ -49,7 +58,7 @@ impl CtrHmacSegment {
         let mut key = [0u8; 32];
         key.copy_from_slice(hmac_key);
         CtrHmacSegment {
-            cipher: Aes::new(aes_key),
+            cipher: SegmentCipher::new(aes_key),
             hmac_key: key,
             tag_hash,
             tag_size,
@@ -74,7 +83,7 @@ impl SegmentEncrypter for CtrHmacSegment {
 
     fn encrypt_segment_into(&self, segment: &[u8], nonce: &[u8], out: &mut [u8]) {
         let n = segment.len();
-        ctr_into(&self.cipher, &block_of(nonce), segment, &mut out[..n]);
+        self.cipher.apply(&block_of(nonce), segment, &mut out[..n]);
         let tag = tag_of(
             self.tag_hash,
             self.tag_size,
@@ -124,7 +133,7 @@ impl SegmentDecrypter for CtrHmacSegment {
         if !is_same(&segment[n..], &tag[..self.tag_size]) {
             return Err(TinkError::new(Kind::DecryptFailed));
         }
-        ctr_into(&self.cipher, &block_of(nonce), &segment[..n], out);
+        self.cipher.apply(&block_of(nonce), &segment[..n], out);
         Ok(())
     }
 }

@@ -1,9 +1,13 @@
 //! Streams that are sealed and opened segment by segment.
 #![tactic(auto)]
 
+pub use aes_variant::{AesVariant, validate_aes_key_size};
 pub use buffers::Buffers;
 pub use choosing::choose;
-pub use ctr_hmac_segment::CtrHmacSegment;
+pub use ctr_hmac_segment::{
+    AES_CTR_HMAC_KEY_SIZE_IN_BYTES, AES_CTR_HMAC_NONCE_PREFIX_SIZE_IN_BYTES,
+    AES_CTR_HMAC_NONCE_SIZE_IN_BYTES, CtrHmacSegment,
+};
 pub use kept::Kept;
 pub use laws::{law_any_cutting, law_full_segments};
 pub use nonce::generate_segment_nonce;
@@ -17,12 +21,11 @@ pub use trying::OpensStreams;
 pub use whole::open_rest;
 pub use writing::{Mode, Sealer, SegmentWriter};
 
-mod aes;
+mod aes_variant;
 mod buffers;
 #[cfg(test)]
 mod caller_tests;
 mod choosing;
-mod counter;
 mod ctr_hmac_segment;
 mod held;
 mod kept;
@@ -31,6 +34,7 @@ mod nonce;
 mod opening;
 mod progress;
 mod reading;
+mod segment_cipher;
 #[cfg(test)]
 mod segment_tests;
 mod segment_traits;

@@ -1,8 +1,8 @@
-//! Outside vectors: FIPS 197 for AES, SP 800-38A for counter mode, and a segment that Python made.
+//! A segment that Python made, and the limits of keys and nonces.
 
-use crate::aes::Aes;
-use crate::counter::ctr_into;
-use crate::{CtrHmacSegment, SegmentDecrypter, SegmentEncrypter, StreamingKey};
+use crate::{
+    SegmentDecrypter, SegmentEncrypter, StreamingKey, generate_segment_nonce, validate_aes_key_size,
+};
 use hash_keys::Hash;
 use std::test::Fail;
 use tink_io::{Kind, TinkError};
@@ -25,45 +25,33 @@ fn counted<const N: usize>(first: u8) -> [u8; N] {
     out
 }
 
-// FIPS 197, C.1 and C.3.
 #[test]
-fn a_block_under_each_size_of_key(rt: HostRuntime) {
-    let block = *b"\x00\x11\x22\x33\x44\x55\x66\x77\x88\x99\xaa\xbb\xcc\xdd\xee\xff";
-    let short = Aes::new(&counted::<16>(0));
+fn keys_have_two_sizes(rt: HostRuntime) {
+    for n in 0..40usize {
+        let told = validate_aes_key_size(n);
+        assert_eq!(rt; told.is_ok(), n == 16 || n == 32);
+        if let Ok(variant) = told {
+            assert_eq!(rt; variant.key_size(), n);
+        }
+    }
     assert_eq!(rt;
-        short.encrypt_block(&block),
-        *b"\x69\xc4\xe0\xd8\x6a\x7b\x04\x30\xd8\xcd\xb7\x80\x70\xb4\xc5\x5a"
-    );
-    let long = Aes::new(&counted::<32>(0));
-    assert_eq!(rt;
-        long.encrypt_block(&block),
-        *b"\x8e\xa2\xb7\xca\x51\x67\x45\xbf\xea\xfc\x49\x90\x4b\x49\x60\x89"
+        validate_aes_key_size(24),
+        Err(TinkError::new(Kind::BadKeySize))
     );
 }
 
-// SP 800-38A, F.5.1, and a counter that wraps in its last eight bytes.
 #[test]
-fn counter_mode_of_the_standard(rt: HostRuntime) {
-    let cipher = Aes::new(b"\x2b\x7e\x15\x16\x28\xae\xd2\xa6\xab\xf7\x15\x88\x09\xcf\x4f\x3c");
-    let text: &[u8; 64] =
-        b"\x6b\xc1\xbe\xe2\x2e\x40\x9f\x96\xe9\x3d\x7e\x11\x73\x93\x17\x2a\xae\x2d\x8a\x57\x1e\x03\xac\x9c\x9e\xb7\x6f\xac\x45\xaf\x8e\x51\x30\xc8\x1c\x46\xa3\x5c\xe4\x11\xe5\xfb\xc1\x19\x1a\x0a\x52\xef\xf6\x9f\x24\x45\xdf\x4f\x9b\x17\xad\x2b\x41\x7b\xe6\x6c\x37\x10";
-    let want: &[u8; 64] =
-        b"\x87\x4d\x61\x91\xb6\x20\xe3\x26\x1b\xef\x68\x64\x99\x0d\xb6\xce\x98\x06\xf6\x6b\x79\x70\xfd\xff\x86\x17\x18\x7b\xb9\xff\xfd\xff\x5a\xe4\xdf\x3e\xdb\xd5\xd3\x5e\x5b\x4f\x09\x02\x0d\xb0\x3e\xab\x1e\x03\x1d\xda\x2f\xbe\x03\xd1\x79\x21\x70\xa0\xf3\x00\x9c\xee";
-    let block = counted::<16>(0xf0);
-    let mut out = [0u8; 64];
-    ctr_into(&cipher, &block, text, &mut out);
-    assert_eq!(rt; out, *want);
-    let mut front = [0u8; 50];
-    ctr_into(&cipher, &block, &text[..50], &mut front);
-    assert!(rt; front.as_slice() == &want[..50]);
-    let mut last = [0xff; 16];
-    last[..8].copy_from_slice(&block[..8]);
-    let mut wrapped = [0u8; 32];
-    ctr_into(&cipher, &last, &[0u8; 32], &mut wrapped);
+fn nonces_count_to_the_last_u32(rt: HostRuntime) {
+    let mut out = [0u8; 12];
+    let prefix = [1, 2, 3, 4, 5, 6, 7];
     assert_eq!(rt;
-        wrapped,
-        *b"\x71\x2e\x91\x13\x0a\x0e\xc6\xd8\xac\x7d\xb2\x97\x00\xe1\x26\x99\x0c\x2f\xbb\xb6\x5a\xd9\x67\x2a\x19\xfe\xfd\x35\x9b\xf3\x4b\x02"
+        generate_segment_nonce(&mut out, &prefix, 258, true),
+        Ok(())
     );
+    assert_eq!(rt; out, [1, 2, 3, 4, 5, 6, 7, 0, 0, 1, 2, 1]);
+    let refused = generate_segment_nonce(&mut out, &prefix, 4_294_967_296, false);
+    assert_eq!(rt; refused, Err(TinkError::new(Kind::TooManySegments)));
+    assert_eq!(rt; out, [1, 2, 3, 4, 5, 6, 7, 0, 0, 1, 2, 1]);
 }
 
 #[test]
@@ -75,6 +63,10 @@ fn a_segment_opens_unless_a_byte_is_changed(rt: HostRuntime) -> Result<(), Fail>
         unreachable!()
     };
     let nonce = counted::<16>(1);
+    let made = cipher.encrypt_segment(alloc, TEXT, &nonce)?;
+    assert_eq!(rt; made.as_slice(), SEGMENT.as_slice());
+    let back = cipher.decrypt_segment(alloc, SEGMENT, &nonce)?;
+    assert_eq!(rt; back.as_slice(), TEXT.as_slice());
     let mut segment = [0u8; 58];
     cipher.encrypt_segment_into(TEXT, &nonce, &mut segment);
     assert_eq!(rt; segment, *SEGMENT);

@@ -1,19 +1,25 @@
-ghost use Rattle.std.specs.Prelude.{◌≡◌, ◌≤◌, ◌<◌, ◌+◌, ◌-◌, ◌^◌, ℕ, List, length, OnOk, OnErr, IfErr};
-ghost use Rattle.tink_io.specs.declared.error.Kind.TheVariants.{DecryptFailed};
+ghost use Rattle.std.specs.Prelude.{◌≡◌, ◌⊎◌, ◌≤◌, ◌<◌, ◌+◌, ◌-◌, ◌^◌, ℕ, List, length, OnOk, OnErr, IfOk, IfErr, vec_len};
+ghost use Rattle.tink_io.specs.declared.error.Kind.TheVariants.{DecryptFailed, OutOfMemory};
 
-use tink_io::TinkError;
+use std::alloc::Global;
+use tink_io::{Kind, TinkError};
+use tink_proto::Bytes;
 
 /// A one-shot map from a nonce and a text to a segment.
 pub trait SegmentEncrypter {
+    // the segment of a text under a nonce
     ghost seg: { Self → List ℕ → List ℕ → List ℕ };
 
     ghost overhead_of: { Self → ℕ };
 
     ghost nonce_length: { Self → ℕ };
 
+    /// How many bytes a segment has more than its text.
     fn overhead(&self) -> usize
         ensures { result ≡ overhead_of self.now };
 
+    /// Writes the segment of a text under a nonce into `out`, which has its length. The nonce has the cipher's length,
+    /// and the text's length fits u32. Nothing is refused.
     fn encrypt_segment_into(&self, segment: &[u8], nonce: &[u8], out: &mut [u8])
         requires nonce { length nonce.now ≡ nonce_length self.now }
         requires size { length segment.now < 2 ^ 32 }
@@ -21,19 +27,56 @@ pub trait SegmentEncrypter {
         ensures { out.new ≡ seg self.now nonce.now segment.now };
 
     ghost longer: { (e : Self) (n t : List ℕ) → length (seg e n t) ≡ length t + overhead_of e };
+
+    /// The segment of a text under a nonce, in memory of its own, with the conditions of `encrypt_segment_into`.
+    /// `OutOfMemory` is the one refusal.
+    final fn encrypt_segment(
+        &self,
+        alloc: Global,
+        segment: &[u8],
+        nonce: &[u8],
+    ) -> Result<Bytes, TinkError>
+        requires nonce { length nonce.now ≡ nonce_length self.now }
+        requires size { length segment.now < 2 ^ 32 }
+        ensures value { IfOk result (λ made. made ≡ seg self.now nonce.now segment.now) }
+        ensures memory { IfErr result (λ e. e ≡ record { kind = OutOfMemory }) }
+    {
+        let Some(n) = segment.len().checked_add(self.overhead()) else {
+            return Err(TinkError::new(Kind::OutOfMemory));
+        };
+        let mut out = zeros(alloc, n)?;
+        self.encrypt_segment_into(segment, nonce, &mut out);
+        Ok(Bytes::from_vec(out))
+    }
+}
+
+// so many zeros
+fn zeros(alloc: Global, n: usize) -> Result<Vec<u8>, TinkError>
+    ensures value { IfOk result (λ bytes. vec_len bytes ≡ n) }
+    ensures memory { IfErr result (λ e. e ≡ record { kind = OutOfMemory }) }
+{
+    match vec![in alloc; 0u8; n] {
+        Ok(bytes) => Ok(bytes),
+        Err(_) => Err(TinkError::new(Kind::OutOfMemory)),
+    }
 }
 
 /// A one-shot map from a nonce and a text to a segment, by its inverse.
 pub trait SegmentDecrypter {
+    // the segment of a text under a nonce
     ghost seg: { Self → List ℕ → List ℕ → List ℕ };
 
     ghost overhead_of: { Self → ℕ };
 
     ghost nonce_length: { Self → ℕ };
 
+    /// How many bytes a segment has more than its text.
     fn overhead(&self) -> usize
         ensures { result ≡ overhead_of self.now };
 
+    /// Writes the text of a segment under a nonce into `out`, which has its length: no bytes where the segment is shorter
+    /// than the overhead. The nonce has the cipher's length, and the segment's length fits u32. `DecryptFailed` exactly
+    /// where it is the segment of no text, and nothing is written then.
     fn decrypt_segment_into(
         &self,
         segment: &[u8],
@@ -51,4 +94,23 @@ pub trait SegmentDecrypter {
     ghost longer: { (d : Self) (n t : List ℕ) → length (seg d n t) ≡ length t + overhead_of d };
 
     ghost one_text: { (d : Self) (n t u : List ℕ) → seg d n t ≡ seg d n u → t ≡ u };
+
+    /// The text of a segment under a nonce, in memory of its own, with the conditions of `decrypt_segment_into`.
+    /// `DecryptFailed` only where it is the segment of no text, and there it or `OutOfMemory`.
+    final fn decrypt_segment(
+        &self,
+        alloc: Global,
+        segment: &[u8],
+        nonce: &[u8],
+    ) -> Result<Bytes, TinkError>
+        requires nonce { length nonce.now ≡ nonce_length self.now }
+        requires size { length segment.now < 2 ^ 32 }
+        ensures ok { IfOk result (λ text. seg self.now nonce.now text ≡ segment.now) }
+        ensures refused { IfErr result (λ e. (e ≡ record { kind = OutOfMemory })
+            ⊎ ((e ≡ record { kind = DecryptFailed }) × ((t : List ℕ) → seg self.now nonce.now t ≡ segment.now → ⊥))) }
+    {
+        let mut out = zeros(alloc, segment.len().saturating_sub(self.overhead()))?;
+        self.decrypt_segment_into(segment, nonce, &mut out)?;
+        Ok(Bytes::from_vec(out))
+    }
 }
