@@ -1,0 +1,24 @@
+//! Keysets: what holds them, what edits them, and what reads and writes them.
+
+mod adding;
+mod building;
+mod copies;
+mod fresh_ids;
+mod handle_type;
+pub mod insecure;
+mod laws;
+mod manager_type;
+mod memory;
+mod places;
+mod public_parts;
+mod reading;
+mod validation;
+mod writing;
+
+pub use handle_type::Handle;
+pub use laws::{law_fresh_id, law_refused_adding, law_refused_command};
+pub use manager_type::Manager;
+pub use memory::MemReaderWriter;
+pub use reading::Reader;
+pub use validation::{validate, validate_key, validate_key_version};
+pub use writing::Writer;

@@ -1,0 +1,59 @@
+//! The parts of adding a key.
+
+ghost use Rattle.std.specs.Prelude.{◌≡◌, ◌<◌, ◌++◌, ◌∷◌, [], IfOk, IsTrue, vec_len, vec_capacity};
+ghost use Rattle.std.specs.List.{list_all};
+ghost use Rattle.tink_io.specs.Told.{Replies};
+ghost use Rattle.tink_registry.specs.Known.{IsOfKnownMaterial};
+ghost use Rattle.keyset_model.specs.Adding as adding;
+ghost use Rattle.keyset_model.specs.Entries as entries;
+ghost use Rattle.keyset_model.specs.Validity as validity;
+ghost use Rattle.tink_keysets.specs.Managed.{data_by};
+
+use std::alloc::Global;
+use tink_io::{Draws, Kind, TinkError};
+use tink_proto::{Key, KeyData, KeyStatusType, KeyTemplate};
+use tink_registry::{KeyManager, Registry};
+
+// A prefix type that there is.
+fn is_known_prefix(prefix: i32) -> bool
+    ensures { result ≡ entries.is_known_prefix prefix }
+{
+    1 <= prefix && prefix <= 4
+}
+
+// The data of a new key by a template.
+pub(crate) fn new_data<M: KeyManager>(
+    alloc: Global,
+    kt: &KeyTemplate,
+    registry: &Registry<M>,
+    draws: &mut Draws,
+) -> Result<KeyData, TinkError>
+    ensures replies { Replies result (data_by M.url M.makes_data registry.now.managers kt.now draws.old) draws.old draws.new }
+    ensures known { IfOk result IsOfKnownMaterial }
+{
+    let manager = registry.get_key_manager(kt.type_url.as_str())?;
+    if !is_known_prefix(kt.output_prefix_type) {
+        return Err(TinkError::new(Kind::UnknownPrefix));
+    }
+    manager.new_key_data(alloc, kt.value.as_slice(), draws)
+}
+
+// Puts an enabled key at the end, where there is room for it.
+#[tactic(auto, using(keyset_model::proofs::EditLaws::held_more))]
+pub(crate) fn put_key(keys: &mut Vec<Key>, kt: &KeyTemplate, key_data: KeyData, id: u32)
+    requires room { vec_len keys.old < vec_capacity keys.old }
+    requires known { IsOfKnownMaterial key_data }
+    ensures items { keys.new.items ≡ keys.old.items ++ adding.new_key kt.now key_data id ∷ [] }
+    ensures held { IsTrue (list_all validity.is_held keys.old.items) → IsTrue (list_all validity.is_held keys.new.items) }
+{
+    let key = Key {
+        key_data: Some(key_data),
+        status: KeyStatusType::Enabled as i32,
+        key_id: id,
+        output_prefix_type: kt.output_prefix_type,
+    };
+    match keys.push(key) {
+        Ok(()) => {}
+        Err(_) => unreachable!(),
+    }
+}

@@ -1,0 +1,254 @@
+//! A keyset whose keys are out of sight.
+
+ghost use Rattle.std.specs.Prelude.{◌≡◌, IfOk, IfErr, map, true, None, option_map};
+ghost use Rattle.tink_io.specs.declared.error.Kind.TheVariants.{HasSecrets, InvalidKeyset, OutOfMemory};
+ghost use Rattle.tink_io.specs.Told.{Answers, Replies};
+ghost use Rattle.tink_sets.specs.Entries.{entry_of, prefix_of};
+ghost use Rattle.keyset_model.specs.Adding.{keyset_reply};
+ghost use Rattle.keyset_model.specs.Secrets as secrets;
+ghost use Rattle.keyset_model.specs.Validity.{IsHeld};
+ghost use Rattle.tink_keysets.specs.Built.{built_entries, GivesSet, HasEntries};
+ghost use Rattle.tink_keysets.specs.Managed.{added_by, no_keys, public_data, public_keyset};
+ghost use Rattle.tink_keysets.specs.Told.{Tells};
+ghost use Rattle.tink_keysets.specs.Handles.{handle_of, handle_without_secrets};
+
+use crate::keyset::Manager;
+use crate::keyset::building::build_set;
+use crate::keyset::public_parts::public_keys;
+use crate::keyset::validation::{are_held, have_secrets, is_validated};
+use std::alloc::{AllocError, Global};
+use std::fmt;
+use std::marker::Model;
+use tink_io::{Draws, Kind, TinkError};
+use tink_proto::{
+    Key, KeyInfo, KeyStatusType, KeyTemplate, Keyset, KeysetInfo, OutputPrefixType, Repeated, Text,
+};
+use tink_registry::{KeyManager, Registry};
+use tink_sets::PrimitiveSet;
+
+/// A keyset whose keys are out of sight. Each of them has data unless it is destroyed, and data has a known
+/// material. A contract sees the keyset.
+#[derive(Drop)]
+pub struct Handle {
+    ks: Keyset,
+}
+
+impl Model for Handle {
+    ghost use Rattle.tink_proto.specs.declared.messages.keys.Keyset.{Keyset};
+    ghost use Rattle.keyset_model.specs.Validity.{IsHeld};
+
+    ghost Value = { Keyset };
+
+    ghost view = { λ h. h.ks };
+
+    ghost invariant = { λ h. IsHeld h.ks };
+}
+
+impl Handle {
+    /// A handle of one new key by a template, which is enabled and the primary one, as `Manager::rotate` makes it.
+    ///
+    /// # Errors
+    /// As `Manager::rotate` on a keyset without keys.
+    pub fn new<M: KeyManager>(
+        alloc: Global,
+        kt: &KeyTemplate,
+        registry: &Registry<M>,
+        draws: &mut Draws,
+    ) -> Result<Handle, TinkError>
+        ensures { Replies result (keyset_reply (added_by M.url M.makes_data registry.now.managers no_keys kt.now true draws.old)) draws.old draws.new }
+    {
+        let mut manager = Manager::new(alloc);
+        let _id = manager.rotate(alloc, kt, registry, draws)?;
+        Ok(manager.into_handle())
+    }
+
+    /// A handle of the public parts of the keys, which must all be private.
+    ///
+    /// # Errors
+    /// For the first key that gives none: `InvalidKeyset` where it has no data; `NotPrivate` where its material isn't
+    /// 2; `UnsupportedKeyType` where no manager has its URL; `NoPrivateKeys` where the manager has no private keys;
+    /// else the manager's. `OutOfMemory` may come in place of each.
+    pub fn public<M: KeyManager>(
+        &self,
+        alloc: Global,
+        registry: &Registry<M>,
+    ) -> Result<Handle, TinkError>
+        ensures { Answers result (public_keyset (public_data M.url M.has_public M.gives_public registry.now.managers) self.now) }
+    {
+        let key = public_keys(alloc, self.keys(), registry)?;
+        Ok(Handle::from_held(Keyset {
+            primary_key_id: self.ks.primary_key_id,
+            key,
+        }))
+    }
+
+    /// A handle of a keyset without secrets.
+    ///
+    /// # Errors
+    /// `InvalidKeyset` exactly where a key that isn't destroyed has no data, or data has a material outside 0
+    /// to 4; then `HasSecrets` exactly where some data has material 0, 1 or 2.
+    pub fn new_with_no_secrets(ks: Keyset) -> Result<Handle, TinkError>
+        ensures { Tells result (handle_without_secrets ks) }
+    {
+        let h = Handle::from_keyset(ks)?;
+        if have_secrets(h.keys()) {
+            return Err(TinkError::new(Kind::HasSecrets));
+        }
+        Ok(h)
+    }
+
+    /// The set of the enabled keys' primitives, each built by the registry's manager of its URL.
+    ///
+    /// # Errors
+    /// `InvalidKeyset` where the keyset isn't validated; then, for the first enabled key that doesn't build,
+    /// `InvalidKey` where its value is empty, `UnsupportedKeyType` where no manager has its URL, else the manager's.
+    /// `OutOfMemory` may come in place of each.
+    pub fn primitives<M: KeyManager>(
+        &self,
+        alloc: Global,
+        registry: &Registry<M>,
+    ) -> Result<PrimitiveSet<M::Family>, TinkError>
+        ensures { GivesSet (λ es set. HasEntries prefix_of (λ e. e.key_id) self.now.primary_key_id es set.primary set.entries) result (built_entries M.url M.supports M.builds entry_of registry.now.managers None self.now) }
+    {
+        self.primitives_with_key_manager(alloc, registry, no_manager(registry))
+    }
+
+    /// The set of the enabled keys' primitives. Where a manager is given, it alone decides each key for whose URL its
+    /// `does_support` says true, also on an empty value; the registry isn't asked for such a key.
+    ///
+    /// # Errors
+    /// As `primitives`, and the given manager's.
+    #[tactic(auto, using(crate::proofs::Building::well_formed_keys))]
+    pub fn primitives_with_key_manager<M: KeyManager>(
+        &self,
+        alloc: Global,
+        registry: &Registry<M>,
+        km: Option<&M>,
+    ) -> Result<PrimitiveSet<M::Family>, TinkError>
+        ensures { GivesSet (λ es set. HasEntries prefix_of (λ e. e.key_id) self.now.primary_key_id es set.primary set.entries) result (built_entries M.url M.supports M.builds entry_of registry.now.managers (option_map (λ m. m.now) km.entry) self.now) }
+    {
+        if !is_validated(&self.ks) {
+            return Err(TinkError::new(Kind::InvalidKeyset));
+        }
+        build_set(alloc, self.keys(), self.ks.primary_key_id, registry, km)
+    }
+
+    /// The primary id and, for each key, its status, id, prefix type and URL, which is empty where the key
+    /// has no data.
+    ///
+    /// # Errors
+    /// `OutOfMemory` alone.
+    pub fn keyset_info(&self, alloc: Global) -> Result<KeysetInfo, TinkError>
+        ensures info { IfOk result (λ i. i ≡ secrets.keyset_info self.now) }
+        ensures err { IfErr result (λ e. e ≡ record { kind = OutOfMemory }) }
+    {
+        let key_info = key_infos(alloc, self.ks.key.as_slice())?;
+        Ok(KeysetInfo {
+            primary_key_id: self.ks.primary_key_id,
+            key_info,
+        })
+    }
+
+    pub(crate) fn from_keyset(ks: Keyset) -> Result<Handle, TinkError>
+        ensures { Tells result (handle_of ks) }
+    {
+        if !are_held(ks.key.as_slice()) {
+            return Err(TinkError::new(Kind::InvalidKeyset));
+        }
+        Ok(Handle { ks })
+    }
+
+    // A handle of a keyset that is known to be held.
+    pub(crate) fn from_held(ks: Keyset) -> Handle
+        requires { IsHeld ks }
+        ensures { result ≡ ks }
+    {
+        Handle { ks }
+    }
+
+    pub(crate) fn into_keyset(self) -> Keyset
+        ensures keyset { result ≡ self }
+        ensures held { IsHeld result }
+    {
+        self.ks
+    }
+
+    pub(crate) fn keyset(&self) -> &Keyset
+        ensures keyset { result.now ≡ self.now }
+        ensures held { IsHeld result.now }
+    {
+        &self.ks
+    }
+
+    pub(crate) fn keys(&self) -> &[Key]
+        ensures { result.now ≡ self.now.key }
+    {
+        self.ks.key.as_slice()
+    }
+}
+
+// No manager, for as long as the registry's are lent.
+fn no_manager<'a, M>(_registry: &'a Registry<M>) -> Option<&'a M>
+    ensures { option_map (λ m. m.now) result ≡ None }
+{
+    None
+}
+
+fn key_infos(alloc: Global, keys: &[Key]) -> Result<Repeated<KeyInfo>, AllocError>
+    ensures { IfOk result (λ is. is ≡ map secrets.key_info keys.now) }
+{
+    let mut infos = Repeated::new(alloc);
+    for key in keys {
+        let info = key_info(alloc, key)?;
+        infos.push(info)?;
+    }
+    Ok(infos)
+}
+
+fn key_info(alloc: Global, key: &Key) -> Result<KeyInfo, AllocError>
+    ensures { IfOk result (λ i. i ≡ secrets.key_info key.now) }
+{
+    let type_url = match &key.key_data {
+        Some(data) => data.type_url.try_clone(alloc)?,
+        None => Text::new(alloc),
+    };
+    Ok(KeyInfo {
+        type_url,
+        status: key.status,
+        key_id: key.key_id,
+        output_prefix_type: key.output_prefix_type,
+    })
+}
+
+/// What `keyset_info` tells, and so no key material.
+impl fmt::Debug for Handle {
+    fn fmt<W: fmt::Write>(&self, f: &mut fmt::Formatter<W>) -> fmt::Result {
+        let primary = self.ks.primary_key_id;
+        write!(f, "KeysetInfo {{ primary_key_id: {primary}, key_info: [")?;
+        for (i, key) in self.keys().iter().enumerate() {
+            if i > 0 {
+                f.write_str(", ")?;
+            }
+            write_key(f, key)?;
+        }
+        f.write_str("] }")
+    }
+}
+
+fn write_key<W: fmt::Write>(f: &mut fmt::Formatter<W>, key: &Key) -> fmt::Result {
+    let url = match &key.key_data {
+        Some(data) => data.type_url.as_str(),
+        None => "",
+    };
+    write!(f, "KeyInfo {{ type_url: {url:?}, status: ")?;
+    match KeyStatusType::try_from(key.status) {
+        Ok(status) => write!(f, "{status:?}")?,
+        Err(_) => write!(f, "{}", key.status)?,
+    }
+    write!(f, ", key_id: {}, output_prefix_type: ", key.key_id)?;
+    match OutputPrefixType::try_from(key.output_prefix_type) {
+        Ok(prefix) => write!(f, "{prefix:?}")?,
+        Err(_) => write!(f, "{}", key.output_prefix_type)?,
+    }
+    f.write_str(" }")
+}

@@ -1,0 +1,39 @@
+//! Keysets with their keys in sight.
+
+ghost use Rattle.std.specs.Prelude.{◌≡◌, IfOk, IfErr};
+ghost use Rattle.tink_io.specs.declared.error.Kind.TheVariants.{OutOfMemory};
+ghost use Rattle.keyset_model.specs.Validity.{IsHeld};
+ghost use Rattle.tink_keysets.specs.Told.{Tells};
+ghost use Rattle.tink_keysets.specs.Handles.{handle_of_keys};
+
+use crate::keyset::Handle;
+use crate::keyset::copies::copy;
+use std::alloc::Global;
+use tink_io::{Kind, TinkError};
+use tink_proto::Keyset;
+
+/// A copy of a handle's keyset.
+///
+/// # Errors
+/// `OutOfMemory` alone.
+pub fn keyset_material(alloc: Global, h: &Handle) -> Result<Keyset, TinkError>
+    ensures keyset { IfOk result (λ ks. ks ≡ h.now) }
+    ensures held { IfOk result IsHeld }
+    ensures err { IfErr result (λ e. e ≡ record { kind = OutOfMemory }) }
+{
+    copy(alloc, h.keyset())
+}
+
+/// A handle of a keyset, whatever its keys are.
+///
+/// # Errors
+/// `InvalidKeyset` exactly where there is no key, a key that isn't destroyed has no data, or data has a
+/// material outside 0 to 4.
+pub fn new_handle(ks: Keyset) -> Result<Handle, TinkError>
+    ensures { Tells result (handle_of_keys ks) }
+{
+    if ks.key.as_slice().is_empty() {
+        return Err(TinkError::new(Kind::InvalidKeyset));
+    }
+    Handle::from_keyset(ks)
+}

@@ -1,0 +1,41 @@
+//! What reads keysets.
+
+ghost use Rattle.std.specs.Prelude.{◌≤◌, ℕ};
+ghost use Rattle.std.specs.declared.option.Option.{Option};
+ghost use Rattle.std.specs.declared.result.Result.{Result};
+ghost use Rattle.tink_io.specs.declared.error.Kind.{Kind};
+ghost use Rattle.tink_proto.specs.declared.messages.infos.EncryptedKeyset.{EncryptedKeyset};
+ghost use Rattle.tink_proto.specs.declared.messages.keys.Keyset.{Keyset};
+ghost use Rattle.tink_keysets.specs.Ends.{Gives};
+
+use std::alloc::Global;
+use tink_io::TinkError;
+use tink_proto::{EncryptedKeyset, Keyset};
+
+/// Reads keysets.
+pub trait Reader {
+    // How often it has failed. The count never falls, and stands still at the last value of u64.
+    ghost faults: { Self → ℕ };
+
+    // The one answer of the next `read`, where it is told, faults and want of memory aside.
+    ghost reads: { Self → Option (Result Keyset Kind) };
+
+    // The same of `read_encrypted`.
+    ghost reads_encrypted: { Self → Option (Result EncryptedKeyset Kind) };
+
+    /// The keyset that is read.
+    ///
+    /// # Errors
+    /// `ReadFault` only where the count of faults rose, `OutOfMemory`, and else the told kind.
+    fn read(&mut self, alloc: Global) -> Result<Keyset, TinkError>
+        ensures answer { Gives result (reads self.old) (faults self.old) (faults self.new) }
+        ensures count { faults self.old ≤ faults self.new };
+
+    /// The encrypted keyset that is read.
+    ///
+    /// # Errors
+    /// As `read`.
+    fn read_encrypted(&mut self, alloc: Global) -> Result<EncryptedKeyset, TinkError>
+        ensures answer { Gives result (reads_encrypted self.old) (faults self.old) (faults self.new) }
+        ensures count { faults self.old ≤ faults self.new };
+}

@@ -1,0 +1,49 @@
+//! What writes keysets.
+
+ghost use Rattle.std.specs.Prelude.{◌≤◌, ℕ, OnOk};
+ghost use Rattle.std.specs.declared.option.Option.{Option};
+ghost use Rattle.std.specs.declared.result.Result.{Result};
+ghost use Rattle.tink_io.specs.declared.error.Kind.{Kind};
+ghost use Rattle.tink_proto.specs.declared.messages.infos.EncryptedKeyset.{EncryptedKeyset};
+ghost use Rattle.tink_proto.specs.declared.messages.keys.Keyset.{Keyset};
+ghost use Rattle.tink_keysets.specs.Ends.{Gives};
+
+use std::alloc::Global;
+use tink_io::TinkError;
+use tink_proto::{EncryptedKeyset, Keyset};
+
+/// Writes keysets.
+pub trait Writer {
+    // How often it has failed. The count never falls, and stands still at the last value of u64.
+    ghost faults: { Self → ℕ };
+
+    // The one answer of the next `write` of a keyset, where it is told, faults and want of memory aside.
+    ghost answers: { Self → Keyset → Option (Result (Unit {0}) Kind) };
+
+    // The same of `write_encrypted`.
+    ghost answers_encrypted: { Self → EncryptedKeyset → Option (Result (Unit {0}) Kind) };
+
+    // What a `write` that was Ok made of the state, where it is told.
+    ghost writes: { Self → Keyset → Self → Type 0 };
+
+    // The same of `write_encrypted`.
+    ghost writes_encrypted: { Self → EncryptedKeyset → Self → Type 0 };
+
+    /// Writes a keyset.
+    ///
+    /// # Errors
+    /// `WriteFault` only where the count of faults rose, `OutOfMemory`, and else the told kind.
+    fn write(&mut self, alloc: Global, ks: &Keyset) -> Result<(), TinkError>
+        ensures answer { Gives result (answers self.old ks.now) (faults self.old) (faults self.new) }
+        ensures written { OnOk result (writes self.old ks.now self.new) }
+        ensures count { faults self.old ≤ faults self.new };
+
+    /// Writes an encrypted keyset.
+    ///
+    /// # Errors
+    /// As `write`.
+    fn write_encrypted(&mut self, alloc: Global, ks: &EncryptedKeyset) -> Result<(), TinkError>
+        ensures answer { Gives result (answers_encrypted self.old ks.now) (faults self.old) (faults self.new) }
+        ensures written { OnOk result (writes_encrypted self.old ks.now self.new) }
+        ensures count { faults self.old ≤ faults self.new };
+}

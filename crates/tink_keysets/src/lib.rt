@@ -1,0 +1,13 @@
+//! Keysets in use: handles, their manager, what validates them, and random bytes.
+#![tactic(auto)]
+
+pub mod keyset;
+#[cfg(test)]
+mod manager_tests;
+pub mod random;
+#[cfg(test)]
+mod set_tests;
+#[cfg(test)]
+mod test_manager;
+#[cfg(test)]
+mod tests;
