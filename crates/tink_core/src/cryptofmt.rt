@@ -1,0 +1,6 @@
+//! What stands before what a key makes.
+
+pub use tink_sets::cryptofmt::{
+    LEGACY_PREFIX_SIZE, LEGACY_START_BYTE, NON_RAW_PREFIX_SIZE, RAW_PREFIX, RAW_PREFIX_SIZE,
+    TINK_PREFIX_SIZE, TINK_START_BYTE, output_prefix,
+};

@@ -1,0 +1,3 @@
+//! Managers of keys, by their URLs.
+
+pub use tink_registry::{KeyManager, Registry};
