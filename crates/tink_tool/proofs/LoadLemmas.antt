@@ -1,5 +1,5 @@
 -- Steps of loading: a number without a hash, the enabled keys in order, the key of an id.
-use Rattle.std.proofs.Common.{◌≡◌, ◌<◌, ◌≤◌, ◌+◌, ℕ, ℤ, List, [], ◌∷◌, ◌++◌, true, false, length, get_or, drop, suc, inl, inr, refl, sym, ap, ◌∙◌, subst, add-one, drop-cons, append_assoc, Some, None}
+use Rattle.std.proofs.Common.{◌≡◌, ◌<◌, ◌≤◌, ◌+◌, ℕ, ℤ, List, [], ◌∷◌, ◌++◌, Bool, true, false, cond, length, get_or, drop, suc, inl, inr, refl, sym, ap, ◌∙◌, subst, add-one, drop-cons, append_assoc, Some, None}
 use Rattle.std.specs.declared.option.Option.{Option}
 use Rattle.std.specs.Prelude.{Result, Ok, Err, filter, nat_eq}
 use Rattle.std.specs.Ordering.{int_eq}
@@ -23,6 +23,7 @@ use Rattle.keyset_model.specs.Keys.{is_enabled, enabled}
 use Rattle.keyset_model.specs.Validity.{is_valid}
 use Rattle.stream_model.specs.Key.{StreamKey}
 use Rattle.loading_model.specs.Building.{hash_numbered, or_refused, streaming_of}
+use Rattle.tink_tool.specs.Valid.{valid_or_refused}
 use Rattle.loading_model.specs.Loading.{Loaded, LoadedKey, build_key, build_keys, key_of_id, load, load_decoded, load_keyset, load_keys, with_primary, ◌then◌}
 
 -- a number that no hash type has
@@ -145,8 +146,24 @@ answers_same {A} e told same is h = subst (λ (r : Result A Kind). Answers {T = 
 pub is_undecoded : (bytes : List ℕ) (e : TinkError) → Answers {T = Keyset} (Err e) (or_refused BadKeyset (decoded keyset.read bytes)) → Answers {T = Loaded} (Err e) (load bytes)
 is_undecoded bytes e h = answers_same e _ _ (load_then bytes) (stops e _ load_keyset h)
 
-pub is_invalid : (bytes : List ℕ) (ks : Keyset) (e : TinkError) → or_refused BadKeyset (decoded keyset.read bytes) ≡ Ok ks → is_valid ks ≡ false → e ≡ record { kind = InvalidKeyset } → Answers {T = Loaded} (Err e) (load bytes)
-is_invalid bytes ks e told invalid is = refused e InvalidKeyset (load bytes) is (load_at bytes ks told ∙ cond-false (is_valid ks) (load_keys ks) (Err InvalidKeyset) invalid)
+-- loading goes on where the keyset is valid
+valid_then : (ks : Keyset) → load_keyset ks ≡ (valid_or_refused ks then load_keys)
+valid_then ks = go (is_valid ks)
+  where
+    go : (b : Bool) → cond b (load_keys ks) (Err InvalidKeyset) ≡ (cond b (Ok ks) (Err InvalidKeyset) then load_keys)
+    go true = refl
+    go false = refl
+
+pub is_invalid : (bytes : List ℕ) (ks : Keyset) (e : TinkError) → or_refused BadKeyset (decoded keyset.read bytes) ≡ Ok ks → Answers {T = Keyset} (Err e) (valid_or_refused ks) → Answers {T = Loaded} (Err e) (load bytes)
+is_invalid bytes ks e told h = answers_same e _ _ (load_at bytes ks told ∙ valid_then ks) (stops e (valid_or_refused ks) load_keys h)
+
+-- a keyset that isn't refused is valid, and is the one that it was
+pub is_told_valid : (ks valid : Keyset) → valid_or_refused ks ≡ Ok valid → (is_valid ks ≡ true) × (ks ≡ valid)
+is_told_valid ks valid = go (is_valid ks)
+  where
+    go : (b : Bool) → cond b (Ok ks) (Err InvalidKeyset) ≡ Ok valid → (b ≡ true) × (ks ≡ valid)
+    go true e = (refl, cc e)
+    go false e = absurd (cc e)
 
 pub is_unbuilt : (bytes : List ℕ) (ks : Keyset) (e : TinkError) → or_refused BadKeyset (decoded keyset.read bytes) ≡ Ok ks → is_valid ks ≡ true → Answers {T = List LoadedKey} (Err e) (build_keys (enabled ks)) → Answers {T = Loaded} (Err e) (load bytes)
 is_unbuilt bytes ks e told valid h = answers_same e _ _ (load_valid bytes ks told valid) (stops e (build_keys (enabled ks)) _ h)

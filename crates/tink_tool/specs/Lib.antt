@@ -7,3 +7,4 @@ pub mod Draws
 pub mod Words
 pub mod Program
 pub mod OpenSteps
+pub mod Valid

@@ -1,23 +1,21 @@
 //! Loading: from the bytes of a keyset to its streaming keys.
 
-ghost use Rattle.std.specs.Prelude.{◌≡◌, filter, count_by};
-ghost use Rattle.std.specs.List.{list_all, list_any};
+ghost use Rattle.std.specs.Prelude.{◌≡◌, filter};
 ghost use Rattle.std.specs.Str.{bytes_eq};
 ghost use Rattle.tink_io.specs.Told.{Answers};
 ghost use Rattle.tink_proto.specs.Messages.{keyset};
 ghost use Rattle.wire_format.specs.Message.{decoded};
 ghost use Rattle.keyset_model.specs.Keys as key_words;
-ghost use Rattle.keyset_model.specs.Validity as validity;
 ghost use Rattle.loading_model.specs.Building as building;
 ghost use Rattle.loading_model.specs.Loading as loading;
+ghost use Rattle.tink_tool.specs.Valid.{valid_or_refused};
 
 use hash_keys::Hash;
 use std::alloc::Global;
 use std::marker::Model;
 use tink_io::{Kind, TinkError};
-use tink_proto::{
-    HashType, Key, KeyData, KeyMaterialType, KeyStatusType, Keyset, Message, ProtoError, Repeated,
-};
+use tink_keysets::keyset::{insecure, validate};
+use tink_proto::{HashType, Key, KeyData, KeyStatusType, Keyset, Message, ProtoError, Repeated};
 use tink_proto_keys::AesCtrHmacStreamingKey;
 use tink_streaming_aead::StreamingKey;
 
@@ -64,11 +62,9 @@ pub fn load(alloc: Global, bytes: &[u8]) -> Result<LoadedKeys, TinkError>
     ensures { Answers result (loading.load bytes.now) }
 {
     let keyset = decode(alloc, bytes)?;
-    if !is_valid(&keyset) {
-        return Err(TinkError::new(Kind::InvalidKeyset));
-    }
-    let keys = build_enabled(alloc, keyset.key.as_slice())?;
-    let primary = primary_key(alloc, keyset.primary_key_id, keys.as_slice())?;
+    let valid = validated(alloc, keyset)?;
+    let keys = build_enabled(alloc, valid.key.as_slice())?;
+    let primary = primary_key(alloc, valid.primary_key_id, keys.as_slice())?;
     Ok(LoadedKeys { keys, primary })
 }
 
@@ -80,6 +76,15 @@ fn decode(alloc: Global, bytes: &[u8]) -> Result<Keyset, TinkError>
         Err(ProtoError::OutOfMemory) => Err(TinkError::new(Kind::OutOfMemory)),
         Err(_) => Err(TinkError::new(Kind::BadKeyset)),
     }
+}
+
+// The keyset of a handle that is validated.
+fn validated(alloc: Global, keyset: Keyset) -> Result<Keyset, TinkError>
+    ensures { Answers result (valid_or_refused keyset) }
+{
+    validate(&keyset)?;
+    let handle = insecure::new_handle(keyset)?;
+    insecure::keyset_material(alloc, &handle)
 }
 
 // The enabled keys in order.
@@ -228,115 +233,8 @@ fn primary_key(alloc: Global, id: u32, keys: &[LoadedKey]) -> Result<StreamingKe
     Err(TinkError::new(Kind::NoPrimary))
 }
 
-// Whether the keyset is valid.
-fn is_valid(keyset: &Keyset) -> bool
-    ensures { result ≡ validity.is_valid keyset.now }
-{
-    let keys = keyset.key.as_slice();
-    are_held(keys) && is_validated(keyset.primary_key_id, keys)
-}
-
-// Whether a handle holds the keys.
-fn are_held(keys: &[Key]) -> bool
-    ensures { result ≡ list_all validity.is_held keys.now }
-{
-    keys.iter().all(|key| is_held(key))
-}
-
-fn is_validated(primary: u32, keys: &[Key]) -> bool
-    ensures { result ≡ validity.is_validated (record { primary_key_id = primary; key = keys.now }) }
-{
-    !keys.is_empty()
-        && are_well_formed(keys)
-        && enabled_of_id(primary, keys) <= 1
-        && some_is_enabled(keys)
-        && (some_enabled_has_id(primary, keys) || are_public(keys))
-}
-
-fn are_well_formed(keys: &[Key]) -> bool
-    ensures { result ≡ list_all validity.is_well_formed keys.now }
-{
-    keys.iter().all(|key| is_well_formed(key))
-}
-
-fn some_is_enabled(keys: &[Key]) -> bool
-    ensures { result ≡ list_any key_words.is_enabled keys.now }
-{
-    keys.iter().any(|key| is_enabled(key))
-}
-
 fn is_enabled(key: &Key) -> bool
     ensures { result ≡ key_words.is_enabled key.now }
 {
     key.status == KeyStatusType::Enabled as i32
-}
-
-fn is_held(key: &Key) -> bool
-    ensures { result ≡ validity.is_held key.now }
-{
-    has_its_data(key) && is_known_material(&key.key_data)
-}
-
-fn has_its_data(key: &Key) -> bool
-    ensures { result ≡ validity.has_its_data key.now }
-{
-    key.key_data.is_some() || key.status == KeyStatusType::Destroyed as i32
-}
-
-fn is_known_material(data: &Option<KeyData>) -> bool
-    ensures { result ≡ validity.is_known_material «data».now }
-{
-    match data {
-        Some(data) => 0 <= data.key_material_type && data.key_material_type <= 4,
-        None => true,
-    }
-}
-
-fn is_well_formed(key: &Key) -> bool
-    ensures { result ≡ validity.is_well_formed key.now }
-{
-    has_its_data(key)
-        && key.key_id != 0
-        && 1 <= key.output_prefix_type
-        && key.output_prefix_type <= 4
-        && 1 <= key.status
-        && key.status <= 3
-}
-
-// How many enabled keys have the id.
-fn enabled_of_id(id: u32, keys: &[Key]) -> usize
-    ensures { result ≡ count_by (key_words.is_enabled_with id) keys.now }
-{
-    keys.iter().filter(|key| is_enabled_with(key, id)).count()
-}
-
-// Whether an enabled key has the id.
-fn some_enabled_has_id(id: u32, keys: &[Key]) -> bool
-    ensures { result ≡ list_any (key_words.is_enabled_with id) keys.now }
-{
-    keys.iter().any(|key| is_enabled_with(key, id))
-}
-
-fn is_enabled_with(key: &Key, id: u32) -> bool
-    ensures { result ≡ key_words.is_enabled_with id key.now }
-{
-    is_enabled(key) && key.key_id == id
-}
-
-// Whether each enabled key is public.
-fn are_public(keys: &[Key]) -> bool
-    ensures { result ≡ list_all key_words.is_public (filter key_words.is_enabled keys.now) }
-{
-    keys.iter()
-        .filter(|key| is_enabled(key))
-        .all(|key| is_public(key))
-}
-
-fn is_public(key: &Key) -> bool
-    ensures { result ≡ key_words.is_public key.now }
-{
-    match &key.key_data {
-        Some(data) => data.key_material_type == KeyMaterialType::AsymmetricPublic as i32,
-        None => false,
-    }
 }
