@@ -1,24 +1,40 @@
 -- The place that a seek leaves.
-use Rattle.std.proofs.Common.{◌≡◌, ℕ, zero, suc, ◌+◌, ◌-◌, ◌*◌, ◌/◌, ◌%◌, ◌≤◌, ◌<◌, get_or, cond, Bool, true, false, ap, subst, sym, ◌∙◌, arith, inl, inr, Option, Some, None}
-use Rattle.std.proofs.Math.Nat.{mod-eq_of_lt, mod-add-div', mod-lt, mul-le-mul_right}
+use Rattle.std.proofs.Common.{◌≡◌, ℕ, ◌+◌, ◌-◌, ◌*◌, ◌/◌, ◌%◌, ◌≤◌, ◌<◌, get_or, cond, Bool, true, false, ap, subst, sym, ◌∙◌, arith, inl, inr, add-zero, Option, Some, None}
+use Rattle.std.proofs.Math.Nat.{mod-eq_of_lt, mod-add-div', mod-lt, mul-le-mul_right, mul-add-div_right, div-eq_of_lt}
+use Rattle.std.specs.Prelude.{◌↔◌}
 use Rattle.std.proofs.lemmas.Bool.{le-leb, cases_lt}
 use Rattle.std.specs.Option.{option_map}
-use Rattle.cipher_stream.specs.Keystream.{Keystream, IsMoved, IsPlaced, Spends}
-use Rattle.cipher_stream.specs.ByteStream.{to_come, position, bytes_from, IsAt, AtMost, HasRoom}
+use Rattle.cipher_stream.specs.Keystream.{Keystream, IsMoved, IsPlaced}
+use Rattle.cipher_stream.specs.ByteStream.{to_come, position, bytes_from, IsAt, AtMost, HasRoom, HasRoomAt, blocks_before, rest_at}
 use Rattle.cipher_stream.proofs.Places.{come_at, at_fresh, at_taken}
+
+-- after one block the next one is
+next_is : (k k' : Keystream) (b most : ℕ) → k.position ≡ b → k.period ≡ most + 1 → IsMoved k 1 k' → k'.position ≤ most → b < most → k'.position ≡ b + 1
+next_is k k' b most at turn m le lt =
+    let one : (k.position + 1) % (most + 1) ≡ b + 1 = ap (λ n. (n + 1) % (most + 1)) at ∙ mod-eq_of_lt (omega arith) in
+    let there : k'.position % (most + 1) ≡ k'.position = mod-eq_of_lt (omega arith) in
+    let moved : k'.position % (most + 1) ≡ (k.position + 1) % (most + 1) = subst (λ p. k'.position % p ≡ (k.position + 1) % p) turn m.moved in
+    sym there ∙ (moved ∙ one)
 
 -- a block that was just taken, of which y bytes are used
 pub placed_part : (size : ℕ) (k k' : Keystream) (b y most : ℕ) → k.position ≡ b → k.period ≡ most + 1 → IsMoved k 1 k' → k'.position ≤ most → b < most → y ≤ size
     → position (bytes_from size k' (size - y)) ≡ Some (b * size + y)
 placed_part size k k' b y most at turn m le lt h =
-    let one : (k.position + 1) % (most + 1) ≡ b + 1 = ap (λ n. (n + 1) % (most + 1)) at ∙ mod-eq_of_lt (omega arith) in
-    let there : k'.position % (most + 1) ≡ k'.position = mod-eq_of_lt (omega arith) in
-    let moved : k'.position % (most + 1) ≡ (k.position + 1) % (most + 1) = subst (λ p. k'.position % p ≡ (k.position + 1) % p) turn m.moved in
-    let next : k'.position ≡ b + 1 = sym there ∙ (moved ∙ one) in
-    let taken : k'.position * size ≡ b * size + size = ap (λ n. n * size) next ∙ omega arith in
+    let taken : k'.position * size ≡ b * size + size = ap (λ n. n * size) (next_is k k' b most at turn m le lt) ∙ omega arith in
     let room : size - y ≤ k'.position * size = omega arith in
     let less : k'.position * size - (size - y) ≡ b * size + y = omega arith in
     ap (λ t. cond t (Some (k'.position * size - (size - y))) None) (le-leb (size - y) (k'.position * size) room) ∙ ap Some less
+
+-- the blocks that the bytes before a place are in, inside a block and at its start
+blocks_part : (size b y : ℕ) → 0 < y → y < size → blocks_before size (b * size + y) ≡ b + 1
+blocks_part size b y some h =
+    let e : b * size + y + size - 1 ≡ (b + 1) * size + (y - 1) = omega arith in
+    ap (λ n. n / size) e ∙ (mul-add-div_right (omega arith) (b + 1) (y - 1) ∙ (ap (λ n. b + 1 + n) (div-eq_of_lt (omega arith)) ∙ add-zero (b + 1)))
+
+blocks_whole : (size b y : ℕ) → 0 < size → y ≡ 0 → blocks_before size (b * size + y) ≡ b
+blocks_whole size b y some first =
+    let e : b * size + y + size - 1 ≡ b * size + (size - 1) = omega arith in
+    ap (λ n. n / size) e ∙ (mul-add-div_right some b (size - 1) ∙ (ap (λ n. b + n) (div-eq_of_lt (omega arith)) ∙ add-zero b))
 
 -- the bytes from there on
 same_as : (size : ℕ) (k k' : Keystream) (r r' i : ℕ) → ((i : ℕ) → k'.block_at i ≡ k.block_at i) → k'.period ≡ k.period → (bytes_from size k' r').byte_at i ≡ (bytes_from size k r).byte_at i
@@ -90,24 +106,27 @@ false_is e = subst told e tt where
   told false = Unit {0}
   told true = ⊥
 
--- what remains after one block of which y bytes are used
-pub room_part : (size : ℕ) (r r' : Option ℕ) (y m : ℕ) → 0 < y → y ≤ size → Spends r 1 r' → HasRoom size r 0 (y + m) → HasRoom size r' (size - y) m
-room_part size None r' y m some h s room = subst (λ x. HasRoom size x (size - y) m) (sym s) tt
-room_part size (Some zero) r' y m some h s room = absurd (omega arith)
-room_part size (Some (suc a)) r' y m some h s room =
-    let one : 1 ≤ suc a = omega arith in
-    let e : suc a - 1 ≡ a = omega arith in
-    let w : suc a * size ≡ a * size + size = omega arith in
-    subst (λ x. HasRoom size x (size - y) m) (sym (s one ∙ ap Some e)) (omega arith)
+-- the next block and the rest, inside a block and at its start
+pub next_part : (size : ℕ) (k k' : Keystream) (b y most : ℕ) → k.position ≡ b → k.period ≡ most + 1 → IsMoved k 1 k' → k'.position ≤ most → b < most → 0 < y → y < size
+    → k'.position ≡ blocks_before size (b * size + y)
+next_part size k k' b y most at turn m le lt some h = next_is k k' b most at turn m le lt ∙ sym (blocks_part size b y some h)
 
-pub room_whole : (size : ℕ) (r r' : Option ℕ) (rest y m : ℕ) → r' ≡ r → rest ≡ 0 → y ≡ 0 → HasRoom size r 0 (y + m) → HasRoom size r' rest m
-room_whole size r r' rest y m e none first room =
-    let n : y + m ≡ m = omega arith in
-    subst (λ x. HasRoom size x rest m) (sym e) (subst (λ x. HasRoom size r x m) (sym none) (subst (HasRoom size r 0) n room))
+pub rest_part : (size b y : ℕ) → 0 < y → y < size → size - y ≡ rest_at size (b * size + y)
+rest_part size b y some h =
+    let e : size - y ≡ (b + 1) * size - (b * size + y) = omega arith in
+    e ∙ ap (λ n. n * size - (b * size + y)) (sym (blocks_part size b y some h))
 
-pub room_of : (size : ℕ) (at : ℕ → Option ℕ) (p : Option ℕ) (n b y m : ℕ) → p ≡ Some n → option_map (λ x. x / size) p ≡ Some b → option_map (λ x. x % size) p ≡ Some y
-    → HasRoom size (at (n / size)) 0 (n % size + m) → HasRoom size (at b) 0 (y + m)
-room_of size at p n b y m e q r room =
-    let q' : n / size ≡ b = some_is (ap (option_map (λ x. x / size)) (sym e) ∙ q) in
-    let r' : n % size ≡ y = some_is (ap (option_map (λ x. x % size)) (sym e) ∙ r) in
-    subst (λ x. HasRoom size (at x) 0 (y + m)) q' (subst (λ x. HasRoom size (at (n / size)) 0 (x + m)) r' room)
+pub next_whole : (size : ℕ) (k : Keystream) (b y : ℕ) → 0 < size → k.position ≡ b → y ≡ 0 → k.position ≡ blocks_before size (b * size + y)
+next_whole size k b y some at first = at ∙ sym (blocks_whole size b y some first)
+
+pub rest_whole : (size b y rest : ℕ) → 0 < size → y ≡ 0 → rest ≡ 0 → rest ≡ rest_at size (b * size + y)
+rest_whole size b y rest some first none =
+    let e : rest ≡ b * size - (b * size + y) = omega arith in
+    e ∙ ap (λ n. n * size - (b * size + y)) (sym (blocks_whole size b y some first))
+
+-- so many bytes are left as from there on
+pub room_of : (size : ℕ) (at : ℕ → Option ℕ) (r : Option ℕ) (rest p n m : ℕ) → p ≡ n → r ≡ at (blocks_before size p) → rest ≡ rest_at size p → HasRoom size r rest m ↔ HasRoomAt size at n m
+room_of size at r rest p n m there e f =
+    let same : HasRoom size (at (blocks_before size p)) (rest_at size p) m ↔ HasRoomAt size at p m = ((λ h. h), (λ h. h)) in
+    subst (λ x. HasRoom size r rest m ↔ HasRoomAt size at x m) there
+    (subst (λ x. HasRoom size x rest m ↔ HasRoomAt size at p m) (sym e) (subst (λ x. HasRoom size (at (blocks_before size p)) x m ↔ HasRoomAt size at p m) (sym f) same))

@@ -51,6 +51,19 @@ bytes_from size k rest = record {
 abbrev pub HasRoom : ℕ → Option ℕ → ℕ → ℕ → Type 0
 HasRoom size remaining rest n = MatchOption remaining ⊤ (λ m. n ≤ rest + m * size)
 
+-- how many blocks the bytes before the place n are in, the last of them maybe in part
+abbrev pub blocks_before : ℕ → ℕ → ℕ
+blocks_before size n = (n + size - 1) / size
+
+-- how many bytes of the last of them are from the place n on
+abbrev pub rest_at : ℕ → ℕ → ℕ
+rest_at size n = blocks_before size n * size - n
+
+-- m bytes are no more than there are from the place n on: the rest of the block that n is within, and the blocks that remain
+-- from the next one
+abbrev pub HasRoomAt : ℕ → (ℕ → Option ℕ) → ℕ → ℕ → Type 0
+HasRoomAt size remaining_at n = HasRoom size (remaining_at (blocks_before size n)) (rest_at size n)
+
 -- as many bytes fewer have room
 abbrev pub LeavesRoom : (ℕ → Type 0) → ℕ → (ℕ → Type 0) → Type 0
 LeavesRoom old n new = (m : ℕ) → new m ↔ old (n + m)

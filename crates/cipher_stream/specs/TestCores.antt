@@ -1,6 +1,6 @@
 -- The keystreams of the tests' cores.
 use Rattle.std.specs.Prelude.{ℕ, ◌-◌, ◌*◌, ◌%◌, ◌^◌, List, ◌++◌, Option, Some, None, cond, ◌==◌, replicate, bit_xor}
-use Rattle.std.specs.Int.{w64, rotate_left, to_le_bytes}
+use Rattle.std.specs.Int.{w32, w64, rotate_left, to_le_bytes}
 use Rattle.cipher_stream.specs.Keystream.{Keystream}
 
 -- two numbers that are mixed of a key and the block's number
@@ -17,6 +17,10 @@ mixed key number = record { block_at = mixed_block key; period = 2 ^ 64; positio
 -- five times one byte
 abbrev pub constant : ℕ → ℕ → Keystream
 constant byte number = record { block_at = λ _. replicate 5 byte; period = 2 ^ 64; position = number }
+
+-- the block's number, xor one word
+abbrev pub numbers : ℕ → Keystream
+numbers number = record { block_at = λ n. to_le_bytes w32 (bit_xor n 50462976); period = 2 ^ 32; position = number }
 
 -- none for 255, and else what is left of this number of blocks
 abbrev pub left_of : ℕ → ℕ → Option ℕ

@@ -12,7 +12,7 @@ pub trait StreamCipherSeek: StreamCipher {
     // the greatest position: the first byte of the greatest block
     ghost end: { ℕ };
 
-    // so many bytes are left from this position on
+    // whether so many bytes are left where this is the position
     ghost room_at: { ℕ → ℕ → Type 0 };
 
     /// The position. `OverflowError` exactly where it is below 0 (a rest of the greatest block) or no value of the type.
@@ -28,7 +28,7 @@ pub trait StreamCipherSeek: StreamCipher {
         ensures placed { OnOk result (position (Self.stream self.new) ≡ N.place pos) }
         ensures same { OnOk result (IsSame (Self.stream self.old) (Self.stream self.new)) }
         ensures ahead { OnOk result ((n j : ℕ) → N.place pos ≡ Some n → to_come (Self.stream self.new) j ≡ (Self.stream self.old).byte_at (n + j)) }
-        ensures left { OnOk result ((n m : ℕ) → N.place pos ≡ Some n → room_at n m → Self.has self.new m) }
+        ensures left { OnOk result ((n m : ℕ) → N.place pos ≡ Some n → (Self.has self.new m ↔ room_at n m)) }
         ensures err { OnErr result (self.new ≡ self.old) };
 
     /// The position, which is a value of the type.
@@ -48,7 +48,7 @@ pub trait StreamCipherSeek: StreamCipher {
         ensures placed { position (Self.stream self.new) ≡ N.place pos }
         ensures same { IsSame (Self.stream self.old) (Self.stream self.new) }
         ensures ahead { (n j : ℕ) → N.place pos ≡ Some n → to_come (Self.stream self.new) j ≡ (Self.stream self.old).byte_at (n + j) }
-        ensures left { (n m : ℕ) → N.place pos ≡ Some n → room_at n m → Self.has self.new m }
+        ensures left { (n m : ℕ) → N.place pos ≡ Some n → (Self.has self.new m ↔ room_at n m) }
     {
         match self.try_seek(pos) {
             Ok(()) => {}

@@ -7,7 +7,7 @@ mod cores;
 use crate::dev::stream::{TestVector, stream_cipher_test};
 use crate::*;
 use cipher::{InOut, InOutBuf, KeyIvInit};
-use cores::{Constant, Mixed};
+use cores::{Constant, Mixed, Numbers};
 use std::test::Fail;
 
 const KEY: [u8; 4] = [0, 1, 2, 3];
@@ -158,6 +158,52 @@ fn the_last_byte_is_there(rt: HostRuntime) -> Result<(), Fail> {
     assert_eq!(rt; cipher.check_remaining(2).is_err(), true);
     assert_eq!(rt; cipher.try_apply_keystream(&mut byte), Ok(()));
     assert_eq!(rt; byte, [9 ^ 60]);
+    Ok(())
+}
+
+// the keystream's last 20 bytes before the greatest block
+const LAST: [u8; 20] = [
+    0x3a, 0x1a, 0x6f, 0x17, 0x18, 0xdc, 0x6c, 0xab, 0xc3, 0x36, 0x9f, 0x76, 0x18, 0x75, 0x2c, 0xf0,
+    0xe3, 0x7f, 0xb3, 0x3c,
+];
+
+// from each of the last 20 places, and at the greatest block
+#[test]
+fn no_more_is_left_after_a_seek(rt: HostRuntime) -> Result<(), Fail> {
+    for at in 0..21 {
+        let room = 20 - at;
+        let place = END - room as u128;
+        let mut cipher = fresh();
+        let mut bytes = [0; 21];
+        assert_eq!(rt; cipher.try_seek(place), Ok(()));
+        let refused = cipher.try_apply_keystream(&mut bytes[..room + 1]);
+        assert_eq!(rt; refused, Err(StreamCipherError));
+        assert_eq!(rt; bytes, [0; 21]);
+        assert_eq!(rt; cipher.try_current_pos::<u128>(), Ok(place));
+        assert_eq!(rt; cipher.try_apply_keystream(&mut bytes[..room]), Ok(()));
+        assert_eq!(rt; bytes[..room], LAST[at..]);
+        assert_eq!(rt; cipher.check_remaining(1), Err(StreamCipherError));
+    }
+    Ok(())
+}
+
+const GREATEST: u64 = ((1 << 32) - 1) * 4;
+
+// a rest of the greatest block, with block 0 behind it
+#[test]
+fn a_place_below_0_is_told(rt: HostRuntime) -> Result<(), Fail> {
+    let mut cipher = StreamCipherCoreWrapper::<Numbers, 4>::from_core(Numbers { next: 7 });
+    let mut bytes = [0; 3];
+    assert_eq!(rt; cipher.try_seek(GREATEST + 1), Err(StreamCipherError));
+    assert_eq!(rt; cipher.try_seek(GREATEST), Ok(()));
+    assert_eq!(rt; cipher.try_apply_keystream(&mut bytes), Ok(()));
+    assert_eq!(rt; bytes, [0xff, 0xfe, 0xfd]);
+    assert_eq!(rt; cipher.try_current_pos::<u128>(), Err(OverflowError));
+    assert_eq!(rt; cipher.try_current_pos::<i32>(), Err(OverflowError));
+    let mut more = [0; 6];
+    assert_eq!(rt; cipher.try_apply_keystream(&mut more), Ok(()));
+    assert_eq!(rt; more, [0xfc, 0, 1, 2, 3, 1]);
+    assert_eq!(rt; cipher.try_current_pos::<u128>(), Ok(5));
     Ok(())
 }
 

@@ -3,7 +3,9 @@ use Rattle.std.proofs.Common.{◌≡◌, ℕ, ℤ, pos, List, [], ◌∷◌, Opt
 use Rattle.tink_io.specs.declared.error.Kind.TheVariants.{KeyNotFound, IsPrimary, WrongStatus, NotEnabled, RandomFault, NoFreshId}
 use Rattle.tink_proto.specs.declared.messages.keys.Key.{Key}
 use Rattle.tink_proto.specs.declared.messages.keys.KeyData.{KeyData}
+use Rattle.tink_proto.specs.declared.messages.keys.KeyTemplate.{KeyTemplate}
 use Rattle.tink_proto.specs.declared.messages.keys.Keyset.{Keyset}
+use Rattle.keyset_model.specs.Commands.{Add, Destroy, Disable, SetPrimary, after_all}
 use Rattle.keyset_model.specs.Edits.{enable, disable, destroy, delete, set_primary}
 use Rattle.keyset_model.specs.Adding.{fresh_id}
 use Rattle.keyset_model.specs.Entries.{output_prefix}
@@ -58,6 +60,21 @@ too_few = refl
 no_more_takes : fresh_id [] 2 (0 ∷ 0 ∷ 0 ∷ 0 ∷ 0 ∷ 0 ∷ 0 ∷ 0 ∷ 1 ∷ 1 ∷ 1 ∷ 1 ∷ []) ≡ (Err NoFreshId, 1 ∷ 1 ∷ 1 ∷ 1 ∷ [])
 unfolding fresh_id
 no_more_takes = refl
+
+-- ---- commands in order
+
+abbrev one_data : KeyData
+one_data = record { type_url = []; value = []; key_material_type = pos 1 }
+
+abbrev raw_template : KeyTemplate
+raw_template = record { type_url = []; value = []; output_prefix_type = pos 3 }
+
+-- a key of id 5 is added and made the primary one, which then isn't disabled, and the key of id 7 is destroyed
+in_order :
+    after_all (λ _ draws. (Ok one_data, draws)) (record { keyset = keyset_of (key (pos 1) 7 ∷ []); draws = 0 ∷ 0 ∷ 0 ∷ 5 ∷ 6 ∷ [] }) (Add raw_template ∷ SetPrimary 5 ∷ Disable 5 ∷ Destroy 7 ∷ [])
+    ≡ record { keyset = record { primary_key_id = 5; key = key_of None (pos 3) 7 (pos 3) ∷ key (pos 1) 5 ∷ [] }; draws = 6 ∷ [] }
+unfolding fresh_id
+in_order = refl
 
 -- Tink, Legacy, Raw, Crunchy, and another number
 tink : output_prefix (key_of None (pos 1) 0x01020304 (pos 1)) ≡ Some (1 ∷ 1 ∷ 2 ∷ 3 ∷ 4 ∷ [])

@@ -1,4 +1,9 @@
 pub mod EditLaws
 mod EditFacts
 pub mod FreshIds
+pub mod IdsLaw
+pub mod KeysLaw
+pub mod PrimaryLaw
+pub mod Steps
+pub mod ValidLaw
 mod ValidityFacts

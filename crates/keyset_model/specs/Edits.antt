@@ -73,23 +73,3 @@ delete ks id = unless_primary ks id (edited_if_there ks (without_first id ks.key
 
 abbrev pub set_primary : Keyset → ℕ → Result Keyset Kind
 set_primary ks id = primary_if_enabled ks id (status_of id ks.key)
-
--- a command on a key that is there
-pub data Command : Type 0 where
-  Enable : ℕ → Command
-  Disable : ℕ → Command
-  Destroy : ℕ → Command
-  Delete : ℕ → Command
-  SetPrimary : ℕ → Command
-
-abbrev pub edit : Keyset → Command → Result Keyset Kind
-edit ks (Enable id) = enable ks id
-edit ks (Disable id) = disable ks id
-edit ks (Destroy id) = destroy ks id
-edit ks (Delete id) = delete ks id
-edit ks (SetPrimary id) = set_primary ks id
-
--- the keyset after a command: a refused one leaves it
-abbrev pub keyset_after : Keyset → Result Keyset Kind → Keyset
-keyset_after ks (Ok edited) = edited
-keyset_after ks (Err _) = ks

@@ -1,5 +1,5 @@
 -- Words on the keys of a keyset. A status, a prefix type and a material are signed numbers, as the messages hold them.
-use Rattle.std.specs.Prelude.{ℕ, List, filter, Bool, true, false, Option, Some, None, nat_eq, ◌&&◌}
+use Rattle.std.specs.Prelude.{ℕ, List, map, filter, Bool, false, Option, Some, None, nat_eq, ◌&&◌}
 use Rattle.std.specs.Ordering.{int_eq}
 use Rattle.tink_proto.specs.declared.enums.KeyStatusType.{KeyStatusType}
 use Rattle.tink_proto.specs.declared.enums.KeyStatusType.TheVariants.{Enabled, Destroyed}
@@ -29,6 +29,10 @@ has_id id k = nat_eq k.key_id id
 -- the key is enabled and has the id
 abbrev pub is_enabled_with : ℕ → Key → Bool
 is_enabled_with id k = is_enabled k && has_id id k
+
+-- the ids of keys, in order
+abbrev pub ids_of : List Key → List ℕ
+ids_of keys = map (λ k. k.key_id) keys
 
 abbrev pub is_public_data : Option KeyData → Bool
 is_public_data None = false

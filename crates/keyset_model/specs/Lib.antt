@@ -1,4 +1,5 @@
 pub mod Adding
+pub mod Commands
 pub mod Edits
 pub mod Entries
 pub mod Keys

@@ -3,13 +3,14 @@ ghost use Rattle.tink_core.specs.Subtle.{derived, hash_named};
 ghost use Rattle.tink_io.specs.Told.{Answers};
 ghost use Rattle.tink_proto.specs.declared.enums.HashType.TheVariants as types;
 
+use crate::keyset::{Handle, MemReaderWriter, insecure};
 use crate::subtle::{
     compute_hash, compute_hkdf, constant_time_compare, get_hash_digest_size, get_hash_func, random,
 };
 use crate::{Draws, Kind, TinkError};
 use std::alloc::Global;
 use std::test::Fail;
-use tink_proto::{Bytes, HashType};
+use tink_proto::{Bytes, HashType, Key, Keyset, Repeated};
 
 // A key of 32 bytes, derived by SHA-256.
 fn subkey(alloc: Global, key: &[u8], info: &[u8]) -> Result<Bytes, TinkError>
@@ -84,5 +85,30 @@ fn random_numbers_are_draws(rt: HostRuntime) -> Result<(), Fail> {
         Err(TinkError::new(Kind::RandomFault))
     );
     assert_eq!(rt; draws.left(), 1);
+    Ok(())
+}
+
+#[test]
+fn keysets_are_written_and_read(rt: HostRuntime) -> Result<(), Fail> {
+    let alloc = rt.alloc();
+    let key = vec![in alloc;
+        Key {
+            key_data: None,
+            status: 3,
+            key_id: 7,
+            output_prefix_type: 1
+        },
+    ]?;
+    let h = insecure::new_handle(Keyset {
+        primary_key_id: 7,
+        key: Repeated::from_vec(key),
+    })?;
+    let mut memory = MemReaderWriter::default();
+    h.write_with_no_secrets(alloc, &mut memory)?;
+    let again = Handle::read_with_no_secrets(alloc, &mut memory)?;
+    insecure::write(alloc, &again, &mut memory)?;
+    let info = insecure::read(alloc, &mut memory)?.keyset_info(alloc)?;
+    assert_eq!(rt; info.primary_key_id, 7);
+    assert_eq!(rt; info.key_info.as_slice().len(), 1);
     Ok(())
 }

@@ -14,6 +14,10 @@ handle_of ks = if is_held_keyset ks then Ok ks else Err InvalidKeyset
 abbrev pub handle_of_keys : Keyset → Result Keyset Kind
 handle_of_keys ks = if has_a_key ks then handle_of ks else Err InvalidKeyset
 
+-- a keyset, where it has no secrets
+abbrev pub without_secrets : Keyset → Result Keyset Kind
+without_secrets ks = if has_secrets ks then Err HasSecrets else Ok ks
+
 -- a handle of a keyset without secrets
 abbrev pub handle_without_secrets : Keyset → Result Keyset Kind
-handle_without_secrets ks = if is_held_keyset ks then (if has_secrets ks then Err HasSecrets else Ok ks) else Err InvalidKeyset
+handle_without_secrets ks = if is_held_keyset ks then without_secrets ks else Err InvalidKeyset

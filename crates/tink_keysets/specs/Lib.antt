@@ -1,7 +1,10 @@
 pub mod Built
+pub mod Encrypted
 pub mod Ends
 pub mod Handles
 pub mod Managed
 pub mod Places
 pub mod TestKeys
+pub mod TestMaster
+pub mod Through
 pub mod Told

@@ -3,6 +3,8 @@
 mod adding;
 mod building;
 mod copies;
+mod encrypted;
+mod encrypted_laws;
 mod fresh_ids;
 mod handle_type;
 pub mod insecure;
@@ -10,13 +12,18 @@ mod laws;
 mod manager_type;
 mod memory;
 mod places;
+mod plain;
 mod public_parts;
 mod reading;
 mod validation;
 mod writing;
 
+pub use encrypted_laws::law_written_is_read;
 pub use handle_type::Handle;
-pub use laws::{law_fresh_id, law_refused_adding, law_refused_command};
+pub use laws::{
+    law_fresh_id, law_ids_stay_distinct, law_keys_stay, law_managers_give_held, law_primary_stays,
+    law_refused_adding, law_refused_command, law_valid_stays,
+};
 pub use manager_type::Manager;
 pub use memory::MemReaderWriter;
 pub use reading::Reader;

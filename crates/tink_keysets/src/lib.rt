@@ -1,6 +1,8 @@
 //! Keysets in use: handles, their manager, what validates them, and random bytes.
 #![tactic(auto)]
 
+#[cfg(test)]
+mod encrypted_tests;
 pub mod keyset;
 #[cfg(test)]
 mod manager_tests;

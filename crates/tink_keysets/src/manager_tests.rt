@@ -1,7 +1,7 @@
 //! Adding keys, and public parts, over a registry of test keys.
 
 use crate::keyset::insecure::{keyset_material, new_handle};
-use crate::keyset::{Handle, Manager};
+use crate::keyset::{Handle, Manager, law_managers_give_held};
 use crate::test_manager::{TestManager, URL};
 use crate::tests::{bare, key, keyset, kind_of};
 use std::alloc::Global;
@@ -119,6 +119,7 @@ fn a_refused_adding_names_its_cause(rt: HostRuntime) -> Result<(), Fail> {
 fn a_new_handle_has_one_primary_key(rt: HostRuntime) -> Result<(), Fail> {
     let alloc = rt.alloc();
     let registry = symmetric(alloc)?;
+    law_managers_give_held(&registry);
     let kt = template(alloc, URL, &[], 1)?;
     let mut draws = draws_with(alloc, b"\x01\x02\x03\x04")?;
     let mut manager = Manager::new_from_handle(Handle::new(alloc, &kt, &registry, &mut draws)?);
@@ -130,6 +131,32 @@ fn a_new_handle_has_one_primary_key(rt: HostRuntime) -> Result<(), Fail> {
         Ok(0x05060708)
     );
     assert_eq!(rt; ids_of(alloc, &manager)?, Some((0x05060708, 0x05060708)));
+    Ok(())
+}
+
+/// A call that is refused for want of memory leaves the keys and the primary id, and one that isn't adds a key.
+#[test]
+fn a_key_is_added_or_the_keyset_is_left(rt: HostRuntime) -> Result<(), Fail> {
+    let alloc = rt.alloc();
+    let registry = symmetric(alloc)?;
+    let kt = template(alloc, URL, &[], 3)?;
+    let mut manager = manager_of_one(alloc)?;
+    let mut want = (0x01020304, 0x01020304);
+    let mut count: usize = 1;
+    for (id, as_primary) in [(5, false), (6, true), (7, false), (8, true)] {
+        let mut draws = draws_with(alloc, &[0, 0, 0, id])?;
+        let id = id as u32;
+        if manager
+            .add(alloc, &kt, &registry, &mut draws, as_primary)
+            .is_ok()
+        {
+            count = count.wrapping_add(1);
+            want = (if as_primary { id } else { want.0 }, id);
+        }
+        assert_eq!(rt; manager.key_count(), count);
+        assert_eq!(rt; ids_of(alloc, &manager)?, Some(want));
+    }
+    assert!(rt; 4 <= count);
     Ok(())
 }
 

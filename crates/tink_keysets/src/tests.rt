@@ -5,8 +5,9 @@ ghost use Rattle.tink_keysets.specs.Told.{Edits};
 
 use crate::keyset::insecure::{keyset_material, new_handle};
 use crate::keyset::{
-    Handle, Manager, MemReaderWriter, Reader, Writer, law_fresh_id, law_refused_adding,
-    law_refused_command, validate, validate_key, validate_key_version,
+    Handle, Manager, MemReaderWriter, Reader, Writer, law_fresh_id, law_ids_stay_distinct,
+    law_keys_stay, law_primary_stays, law_refused_adding, law_refused_command, law_valid_stays,
+    validate, validate_key, validate_key_version,
 };
 use crate::random::{get_random_bytes, get_random_uint32};
 use std::alloc::Global;
@@ -236,6 +237,10 @@ fn keysets_and_versions_are_validated(rt: HostRuntime) -> Result<(), Fail> {
 #[test]
 fn laws_can_be_called(_rt: HostRuntime) -> Result<(), Fail> {
     law_fresh_id();
+    law_keys_stay();
+    law_ids_stay_distinct();
+    law_primary_stays();
+    law_valid_stays();
     law_refused_adding();
     law_refused_command();
     Ok(())

@@ -132,7 +132,7 @@ fn a_keyset_of_aes_gcm(rt: HostRuntime) -> Result<(), Fail> {
 }
 
 #[test]
-fn keys_of_streaming(rt: HostRuntime) -> Result<(), Fail> {
+fn keys_of_ctr_hmac_streaming(rt: HostRuntime) -> Result<(), Fail> {
     let alloc = rt.alloc();
     let message = AesCtrHmacStreamingParams {
         ciphertext_segment_size: 300,
@@ -159,6 +159,12 @@ fn keys_of_streaming(rt: HostRuntime) -> Result<(), Fail> {
         version: 1,
     };
     assert!(rt; is_spelled(alloc, &message, &[0x0a, 0, 0x10, 16, 0x18, 1])?);
+    Ok(())
+}
+
+#[test]
+fn keys_of_gcm_streaming(rt: HostRuntime) -> Result<(), Fail> {
+    let alloc = rt.alloc();
     let message = AesGcmHkdfStreamingParams {
         ciphertext_segment_size: 300,
         derived_key_size: 16,
@@ -279,7 +285,7 @@ fn keys_of_macs(rt: HostRuntime) -> Result<(), Fail> {
 }
 
 #[test]
-fn keys_of_prfs(rt: HostRuntime) -> Result<(), Fail> {
+fn keys_of_hkdf_prfs(rt: HostRuntime) -> Result<(), Fail> {
     let alloc = rt.alloc();
     let message = HkdfPrfParams {
         hash: 3,
@@ -298,6 +304,12 @@ fn keys_of_prfs(rt: HostRuntime) -> Result<(), Fail> {
         version: 1,
     };
     assert!(rt; is_spelled(alloc, &message, &[0x0a, 0, 0x10, 32, 0x18, 1])?);
+    Ok(())
+}
+
+#[test]
+fn keys_of_hmac_prfs(rt: HostRuntime) -> Result<(), Fail> {
+    let alloc = rt.alloc();
     let message = HmacPrfParams { hash: 3 };
     assert!(rt; is_spelled(alloc, &message, &[0x08, 3])?);
     let message = HmacPrfKey {
@@ -312,6 +324,12 @@ fn keys_of_prfs(rt: HostRuntime) -> Result<(), Fail> {
         version: 1,
     };
     assert!(rt; is_spelled(alloc, &message, &[0x0a, 0, 0x10, 32, 0x18, 1])?);
+    Ok(())
+}
+
+#[test]
+fn keys_of_cmac_prfs(rt: HostRuntime) -> Result<(), Fail> {
+    let alloc = rt.alloc();
     let message = AesCmacPrfKey {
         version: 1,
         key_value: seven(alloc)?,

@@ -169,3 +169,37 @@ fn all_are_registered_or_none(rt: HostRuntime) -> Result<(), Fail> {
     assert!(rt; registry.get_template_generator("n").is_some());
     Ok(())
 }
+
+// A name's template whose URL is the name.
+fn named(alloc: Global, name: &str) -> Result<(Text, KeyTemplate), TinkError> {
+    Ok((Text::from_str(alloc, name)?, template(alloc, name)?))
+}
+
+/// A call that is refused for want of memory registers nothing, and one that isn't registers all.
+#[test]
+fn a_registration_is_whole_or_nothing(rt: HostRuntime) -> Result<(), Fail> {
+    let alloc = rt.alloc();
+    let mut registry = registry_of(alloc, URL)?;
+    registry.register_template_generator(alloc, "a", template(alloc, URL)?)?;
+    let done = registry.register_key_manager(alloc, TestManager { url: "b" });
+    assert_eq!(rt; registry.get_key_manager("b").is_ok(), done.is_ok());
+    let kt = template(alloc, "b")?;
+    let done = registry.register_template_generator(alloc, "b", kt);
+    assert_eq!(rt;
+        registry.get_template_generator("b").is_some(),
+        done.is_ok()
+    );
+    let kms = vec![in alloc; TestManager { url: "c" }, TestManager { url: "d" }]?;
+    let kts = vec![in alloc; named(alloc, "c")?, named(alloc, "d")?]?;
+    let done = registry.register_all(alloc, kms, kts);
+    for name in ["c", "d"] {
+        assert_eq!(rt; registry.get_key_manager(name).is_ok(), done.is_ok());
+        assert_eq!(rt;
+            registry.get_template_generator(name).is_some(),
+            done.is_ok()
+        );
+    }
+    assert!(rt; registry.get_key_manager(URL).is_ok());
+    assert!(rt; registry.get_template_generator("a").is_some());
+    Ok(())
+}

@@ -1,5 +1,5 @@
 -- Lists of entries by their prefixes.
-use Rattle.std.specs.Prelude.{◌≡◌, ◌++◌, ◌∷◌, ℕ, List, [], Vec, Option, Some, filter, cond, unwrap_or}
+use Rattle.std.specs.Prelude.{◌≡◌, ◌++◌, ◌∷◌, ℕ, List, [], Vec, Option, Some, Result, Ok, Err, filter, cond, unwrap_or}
 use Rattle.std.specs.Str.{bytes_eq}
 use Rattle.std.specs.Ordering.{nat_cmp}
 use Rattle.std.specs.Cmp.Lexicographic.{slice_cmp}
@@ -28,3 +28,8 @@ AreGroupsOf prefix_of entries m = (prefix : List ℕ) → group_of m prefix ≡ 
 -- one entry more is behind the entries of a map
 abbrev pub AddsLast : {E A : Type 0} → (E → List ℕ) → E → BTreeMap (Vec ℕ A) (List E) → BTreeMap (Vec ℕ A) (List E) → Type 0
 AddsLast {E} prefix_of entry old new = (entries : List E) → AreGroupsOf prefix_of entries old → AreGroupsOf prefix_of (entries ++ entry ∷ []) new
+
+-- the lists after an entry was to be added: it stands behind those of its prefix and behind all others, or it was refused and they are as before
+abbrev pub AfterAdding : {E A T F : Type 0} → (E → List ℕ) → E → Result T F → BTreeMap (Vec ℕ A) (List E) → BTreeMap (Vec ℕ A) (List E) → Type 0
+AfterAdding prefix_of entry (Ok _) old new = Adds (prefix_of entry) entry old new × AddsLast prefix_of entry old new
+AfterAdding prefix_of entry (Err _) old new = HaveSameGroups old new

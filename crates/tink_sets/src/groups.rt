@@ -37,20 +37,6 @@ pub fn newest<E>(entries: &[E]) -> &E
     &entries[entries.len() - 1]
 }
 
-// Puts an entry behind those of its prefix, and lends it.
-pub fn put_and_lend<'a, E: Drop>(
-    groups: &'a mut BTreeMap<Vec<u8>, Repeated<E>>,
-    alloc: Global,
-    prefix: &[u8],
-    entry: E,
-) -> Result<&'a E, TinkError>
-    ensures value { IfOk result (λ e. e.now ≡ entry) }
-    ensures cause { IfErr result (λ e. e ≡ record { kind = OutOfMemory }) }
-{
-    put_in_group(groups, alloc, prefix, entry)?;
-    Ok(newest(group_of(groups, prefix)))
-}
-
 // Puts an entry behind those of its prefix.
 pub fn put_in_group<E: Drop>(
     groups: &mut BTreeMap<Vec<u8>, Repeated<E>>,

@@ -10,7 +10,7 @@ pub mod cryptofmt;
 mod entry;
 mod groups;
 mod primitive_set;
-mod sorts;
+pub mod sorts;
 #[cfg(test)]
 mod tests;
 mod typed_set;

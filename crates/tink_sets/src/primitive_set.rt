@@ -1,15 +1,17 @@
 //! Sets of primitives of any sorts.
 
-ghost use Rattle.std.specs.Prelude.{◌≡◌, ◌⊎◌, [], ℕ, List, None, Ok, Err, IfOk, IfErr, OnOk, OnErr};
+ghost use mathlib.Core.Option.{none};
+ghost use Rattle.std.specs.Prelude.{◌≡◌, ◌⊎◌, ◌++◌, ◌∷◌, ⊤, [], ℕ, List, None, Ok, Err, IfOk, IfErr, OnOk, OnErr};
+ghost use Rattle.std.specs.Borrow.{sem, follows_so};
 ghost use Rattle.tink_io.specs.declared.error.Kind.TheVariants.{OutOfMemory};
 ghost use Rattle.tink_io.specs.Told.{Answers};
-ghost use Rattle.tink_sets.specs.Groups.{group_at, group_of, Adds, AddsLast, AreGroupsOf, HaveSameGroups};
+ghost use Rattle.tink_sets.specs.Groups.{group_at, group_of, Adds, AddsLast, AfterAdding, AreGroupsOf, HaveSameGroups};
 ghost use Rattle.tink_sets.specs.Entries.{may_stand, own_prefix, standing_prefix, entry_of, prefix_of};
 
 use crate::Entry;
 use crate::converting::{clone_groups, clone_primary};
 use crate::cryptofmt::{RAW_PREFIX, known_type, output_prefix};
-use crate::groups::{group_of, put_and_lend, put_in_group};
+use crate::groups::{group_of, newest, put_in_group};
 use std::alloc::Global;
 use std::collections::BTreeMap;
 use tink_io::{Kind, TinkError};
@@ -26,6 +28,8 @@ pub struct PrimitiveSet<K: Kinds> {
 }
 
 impl<K: Kinds> PrimitiveSet<K> {
+    ghost use Rattle.tink_sets.specs.contracts.primitive_set.PrimitiveSet.{the_row};
+
     /// A set of nothing.
     pub fn new(alloc: Global) -> Self
         ensures primary { result.primary ≡ None }
@@ -58,10 +62,10 @@ impl<K: Kinds> PrimitiveSet<K> {
         ensures entry { IfOk result (λ entry. entry.now ≡ entry_of p key.now) }
         ensures stands { OnOk result (may_stand key.now ≡ Ok tt) }
         ensures cause { IfErr result (λ e. (e.kind ≡ OutOfMemory) ⊎ (may_stand key.now ≡ Err e.kind)) }
+        ensures* after { let row = the_row K.row K.Aead.row K.DeterministicAead.row K.HybridDecrypt.row K.HybridEncrypt.row K.Mac.row K.Prf.row K.Signer.row K.StreamingAead.row K.Verifier.row in sem 𝓛 (follows_so row row self.entry.ghost_name none (λ _ _. ⊤) (λ set. (set.primary ≡ self.old.primary) × AfterAdding prefix_of (entry_of p key.now) result self.old.entries set.entries)) }
     {
-        let prefix = standing_prefix(alloc, key)?;
-        let entry = new_entry(p, key, prefix.try_clone(alloc)?);
-        put_and_lend(&mut self.entries, alloc, prefix.as_slice(), entry)
+        let prefix = self.put_entry(alloc, p, key)?;
+        Ok(newest(self.entries_for_prefix(prefix.as_slice())))
     }
 
     /// Adds the entry of a key and its primitive as `add` does, and lends nothing.
@@ -72,9 +76,25 @@ impl<K: Kinds> PrimitiveSet<K> {
         ensures err { OnErr result (HaveSameGroups self.old.entries self.new.entries) }
         ensures primary { self.new.primary ≡ self.old.primary }
     {
+        self.put_entry(alloc, p, key)?;
+        Ok(())
+    }
+
+    // Puts the entry of a key behind those of its prefix, and answers the prefix.
+    #[tactic(auto, using(crate::proofs::AddingFacts::adds_last))]
+    fn put_entry(&mut self, alloc: Global, p: Primitive<K>, key: &Key) -> Result<Bytes, TinkError>
+        ensures answer { Answers result (standing_prefix key.now) }
+        ensures value { IfOk result (λ prefix. prefix ≡ own_prefix key.now) }
+        ensures ok { OnOk result (Adds (own_prefix key.now) (entry_of p key.now) self.old.entries self.new.entries) }
+        ensures entries { OnOk result (AddsLast prefix_of (entry_of p key.now) self.old.entries self.new.entries) }
+        ensures newest { OnOk result (group_of self.new.entries (own_prefix key.now) ≡ group_of self.old.entries (own_prefix key.now) ++ entry_of p key.now ∷ []) }
+        ensures err { OnErr result (HaveSameGroups self.old.entries self.new.entries) }
+        ensures primary { self.new.primary ≡ self.old.primary }
+    {
         let prefix = standing_prefix(alloc, key)?;
         let entry = new_entry(p, key, prefix.try_clone(alloc)?);
-        put_in_group(&mut self.entries, alloc, prefix.as_slice(), entry)
+        put_in_group(&mut self.entries, alloc, prefix.as_slice(), entry)?;
+        Ok(prefix)
     }
 
     /// A set with the same primary entry and the same entries under each prefix.

@@ -1,4 +1,4 @@
-//! Entries of one sort from entries of any.
+//! The nine sorts of primitives, as types by which a caller names one.
 
 ghost use Rattle.std.specs.Prelude.{◌≡◌, ◌⊎◌, Result, Ok, Err, IfOk, IfErr};
 ghost use Rattle.tink_io.specs.declared.error.Kind.{Kind};
@@ -16,12 +16,15 @@ use std::alloc::Global;
 use tink_io::TinkError;
 use tink_primitives::{CloneIn, Kinds, Primitive};
 
-// A sort of primitives.
+/// A sort of the primitives of a family.
 pub trait Sort<K: Kinds> {
+    /// The family's type of this sort.
     type Of: Drop;
 
+    // A primitive as one of the sort.
     ghost picks: { Primitive K K.Aead K.DeterministicAead K.HybridDecrypt K.HybridEncrypt K.Mac K.Prf K.Signer K.StreamingAead K.Verifier → Result Self.Of Kind };
 
+    /// The primitive as one of the sort, or `WrongPrimitive` exactly where it is of another.
     fn pick(p: Primitive<K>) -> Result<Self::Of, TinkError>
         ensures value { Gives result (picks p) };
 
@@ -30,7 +33,7 @@ pub trait Sort<K: Kinds> {
 }
 
 // Entries of a sort.
-pub struct Typed<S>(S);
+pub(crate) struct Typed<S>(S);
 
 impl<K: Kinds, S: Sort<K>> Convert<Entry<K>> for Typed<S> {
     type To = TypedEntry<S::Of>;
@@ -52,6 +55,7 @@ impl<K: Kinds, S: Sort<K>> Convert<Entry<K>> for Typed<S> {
     }
 }
 
+/// The sort of AEADs.
 pub struct Aeads;
 
 impl<K: Kinds> Sort<K> for Aeads {
@@ -68,6 +72,7 @@ impl<K: Kinds> Sort<K> for Aeads {
     ghost one_refusal = { aead_or_wrong };
 }
 
+/// The sort of deterministic AEADs.
 pub struct DeterministicAeads;
 
 impl<K: Kinds> Sort<K> for DeterministicAeads {
@@ -84,6 +89,7 @@ impl<K: Kinds> Sort<K> for DeterministicAeads {
     ghost one_refusal = { deterministic_aead_or_wrong };
 }
 
+/// The sort of hybrid decryptions.
 pub struct HybridDecrypters;
 
 impl<K: Kinds> Sort<K> for HybridDecrypters {
@@ -100,6 +106,7 @@ impl<K: Kinds> Sort<K> for HybridDecrypters {
     ghost one_refusal = { hybrid_decrypt_or_wrong };
 }
 
+/// The sort of hybrid encryptions.
 pub struct HybridEncrypters;
 
 impl<K: Kinds> Sort<K> for HybridEncrypters {
@@ -116,6 +123,7 @@ impl<K: Kinds> Sort<K> for HybridEncrypters {
     ghost one_refusal = { hybrid_encrypt_or_wrong };
 }
 
+/// The sort of MACs.
 pub struct Macs;
 
 impl<K: Kinds> Sort<K> for Macs {
@@ -132,6 +140,7 @@ impl<K: Kinds> Sort<K> for Macs {
     ghost one_refusal = { mac_or_wrong };
 }
 
+/// The sort of pseudorandom functions.
 pub struct Prfs;
 
 impl<K: Kinds> Sort<K> for Prfs {
@@ -148,6 +157,7 @@ impl<K: Kinds> Sort<K> for Prfs {
     ghost one_refusal = { prf_or_wrong };
 }
 
+/// The sort of signers.
 pub struct Signers;
 
 impl<K: Kinds> Sort<K> for Signers {
@@ -164,6 +174,7 @@ impl<K: Kinds> Sort<K> for Signers {
     ghost one_refusal = { signer_or_wrong };
 }
 
+/// The sort of streaming AEADs.
 pub struct StreamingAeads;
 
 impl<K: Kinds> Sort<K> for StreamingAeads {
@@ -180,6 +191,7 @@ impl<K: Kinds> Sort<K> for StreamingAeads {
     ghost one_refusal = { streaming_aead_or_wrong };
 }
 
+/// The sort of verifiers.
 pub struct Verifiers;
 
 impl<K: Kinds> Sort<K> for Verifiers {

@@ -1,7 +1,7 @@
 //! Sets of test primitives.
 
-ghost use Rattle.std.specs.Prelude.{◌∷◌, [], Ok, IfOk};
-ghost use Rattle.tink_sets.specs.Groups.{AreGroupsOf};
+ghost use Rattle.std.specs.Prelude.{◌≡◌, ◌∷◌, [], Ok, IfOk, OnOk, OnErr};
+ghost use Rattle.tink_sets.specs.Groups.{AddsLast, AreGroupsOf, HaveSameGroups};
 ghost use Rattle.tink_sets.specs.Entries.{entry_of, prefix_of};
 
 use crate::cryptofmt::{
@@ -11,7 +11,7 @@ use crate::{Entry, PrimitiveSet, TypedPrimitiveSet};
 use std::alloc::Global;
 use std::test::Fail;
 use tink_io::{Kind, TinkError};
-use tink_primitives::{CloneIn, Kinds, Never, Prf, Primitive};
+use tink_primitives::{CloneIn, KeyId, Kinds, Never, Prf, Primitive};
 use tink_proto::{Bytes, Key, KeyStatusType, OutputPrefixType};
 
 /// A primitive that is known by a number.
@@ -92,6 +92,21 @@ fn set_of_one<K: Kinds>(
     Ok(set)
 }
 
+/// The id of the entry that a key adds.
+fn added_id<K: Kinds>(
+    alloc: Global,
+    set: &mut PrimitiveSet<K>,
+    p: Primitive<K>,
+    key: &Key,
+) -> Result<KeyId, TinkError>
+    ensures ok { OnOk result (AddsLast prefix_of (entry_of p key.now) set.old.entries set.new.entries) }
+    ensures err { OnErr result (HaveSameGroups set.old.entries set.new.entries) }
+    ensures primary { set.new.primary ≡ set.old.primary }
+{
+    let entry = set.add(alloc, p, key)?;
+    Ok(entry.key_id)
+}
+
 fn kind_of<T: Drop>(answer: Result<T, TinkError>) -> Option<Kind> {
     match answer {
         Ok(_) => None,
@@ -134,7 +149,7 @@ fn entries_stand_in_the_order_of_adding(rt: HostRuntime) -> Result<(), Fail> {
     let raw = key_of(OutputPrefixType::Raw);
     assert_eq!(rt; number_of(set.add(alloc, prf(7), &raw)?), 7);
     set.put(alloc, prf(8), &key_of(OutputPrefixType::Tink))?;
-    set.put(alloc, prf(9), &raw)?;
+    assert_eq!(rt; added_id(alloc, &mut set, prf(9), &raw)?, 0x01020304);
     let entries = set.raw_entries();
     assert_eq!(rt; entries.len(), 2);
     assert_eq!(rt; number_of(&entries[0]), 7);
@@ -161,6 +176,29 @@ fn a_key_that_may_not_stand_is_refused(rt: HostRuntime) -> Result<(), Fail> {
         Some(Kind::NotEnabled)
     );
     assert_eq!(rt; set.raw_entries().len(), 0);
+    Ok(())
+}
+
+/// A call that is refused for want of memory adds nothing, and one that isn't adds one entry.
+#[test]
+fn an_entry_is_added_or_the_set_is_left(rt: HostRuntime) -> Result<(), Fail> {
+    let alloc = rt.alloc();
+    let mut set = PrimitiveSet::new(alloc);
+    let raw = key_of(OutputPrefixType::Raw);
+    let tink = key_of(OutputPrefixType::Tink);
+    let mut raws: usize = 0;
+    let mut tinks: usize = 0;
+    for number in 0..9 {
+        if set.put(alloc, prf(number), &raw).is_ok() {
+            raws = raws.wrapping_add(1);
+        }
+        if set.add(alloc, prf(number), &tink).is_ok() {
+            tinks = tinks.wrapping_add(1);
+        }
+        assert_eq!(rt; set.raw_entries().len(), raws);
+        assert_eq!(rt; set.entries_for_prefix(&[1, 1, 2, 3, 4]).len(), tinks);
+    }
+    assert!(rt; 17 <= raws.wrapping_add(tinks));
     Ok(())
 }
 

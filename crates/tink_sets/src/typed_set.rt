@@ -45,6 +45,20 @@ impl<P> TypedPrimitiveSet<P> {
         group_at(&self.entries, prefix)
     }
 
+    /// The set as one of the sort `S`, or `WrongPrimitive` exactly where an entry or the primary is of another sort.
+    pub fn from_set_of_sort<K: Kinds, S: Sort<K, Of = P>>(
+        alloc: Global,
+        set: &PrimitiveSet<K>,
+    ) -> Result<Self, TinkError>
+    where
+        P: Drop,
+        ensures primary { IfOk result (λ typed. IsTypedPrimary S.picks set.now.primary typed.primary) }
+        ensures entries { IfOk result (λ typed. AreConverted (typed_by S.picks) set.now.entries typed.entries) }
+        ensures cause { IfErr result (λ e. (e.kind ≡ OutOfMemory) ⊎ ((e.kind ≡ WrongPrimitive) × HasAnother S.picks set.now.primary set.now.entries)) }
+    {
+        from_set::<K, S>(alloc, set)
+    }
+
     /// The set as one of AEADs, or `WrongPrimitive` exactly where an entry or the primary is of another sort.
     pub fn from_set_aead<K: Kinds<Aead = P>>(
         alloc: Global,

@@ -1,9 +1,9 @@
 //! The cores of the tests.
 
 ghost use Rattle.std.proofs.Common.{lit<, lit≤, refl, ◌∙◌};
-ghost use Rattle.std.specs.Prelude.{◌≡◌, ℕ, ◌+◌, ◌-◌, ◌%◌, ◌^◌, ◌++◌, List, Some, replicate, slice_index};
+ghost use Rattle.std.specs.Prelude.{◌≡◌, ℕ, ◌+◌, ◌-◌, ◌%◌, ◌^◌, ◌++◌, List, Some, None, ⊤, replicate, slice_index};
 ghost use Rattle.std.specs.Int.{w64, from_le_bytes};
-ghost use Rattle.cipher_stream.specs.TestCores.{mixed_block, mixed, constant, left_of};
+ghost use Rattle.cipher_stream.specs.TestCores.{mixed_block, mixed, constant, numbers, left_of};
 
 use crate::*;
 use cipher::KeyIvInit;
@@ -173,4 +173,67 @@ impl StreamCipherCore<5> for Constant {
     }
 
     ghost block_size = { (lit≤ tt, lit< tt) };
+}
+
+// a core with a counter of which no number of blocks remains: a block is its number, xor one word
+#[derive(Drop)]
+pub(crate) struct Numbers {
+    pub(crate) next: u32,
+}
+
+impl StreamCipherBackend<4> for Numbers {
+    ghost keeps = { λ _ _. ⊤ };
+
+    ghost lanes = { λ _. 1 };
+
+    ghost keystream = { λ c. numbers c.next };
+
+    fn width(&self) -> usize {
+        1
+    }
+
+    fn gen_ks_block(&mut self, block: &mut [u8; 4]) {
+        *block = (self.next ^ 0x03020100).to_le_bytes();
+        self.next = self.next.wrapping_add(1);
+    }
+
+    ghost keeps_none = { λ s. tt };
+
+    ghost keeps_both = { λ s t u p q. tt };
+
+    ghost block_size = { (lit≤ tt, lit< tt) };
+}
+
+impl StreamCipherCore<4> for Numbers {
+    ghost keystream = { λ c. numbers c.next };
+
+    ghost remaining = { λ _. None };
+
+    fn remaining_blocks(&self) -> Option<usize> {
+        None
+    }
+
+    fn process_with_backend<F: StreamCipherClosure<4>>(&mut self, f: &mut F) {
+        f.call(self);
+    }
+
+    ghost block_size = { (lit≤ tt, lit< tt) };
+}
+
+impl StreamCipherSeekCore<4> for Numbers {
+    type Counter = u32;
+
+    ghost remaining_at = { λ _. None };
+
+    fn get_block_pos(&self) -> u32 {
+        self.next
+    }
+
+    fn set_block_pos(&mut self, pos: u32) {
+        self.next = pos;
+    }
+
+    ghost wraps = { λ c. refl };
+
+    ghost remains = { λ c. refl };
 }

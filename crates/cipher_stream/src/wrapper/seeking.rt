@@ -1,7 +1,7 @@
 //! Positions of a buffered core.
 
 ghost use Rattle.std.specs.Prelude.{◌≡◌, ℕ, ◌+◌, ◌-◌, ◌*◌, ◌/◌, ◌%◌, ◌<◌, ◌≤◌, Some};
-ghost use Rattle.cipher_stream.specs.ByteStream.{bytes_from, to_come, position, IsSame, HasRoom};
+ghost use Rattle.cipher_stream.specs.ByteStream.{bytes_from, to_come, position, IsSame, HasRoomAt, blocks_before, rest_at};
 
 use crate::cores::seeking::StreamCipherSeekCore;
 use crate::counters::{StreamCipherCounter, told};
@@ -19,11 +19,13 @@ impl<T: StreamCipherSeekCore<B>, const B: usize> BufferedCore<T, [u8; B]> {
         ensures same { IsSame (bytes_from B (T.keystream self.old.0) self.old.1) (bytes_from B (T.keystream self.new.0) self.new.1) }
         ensures placed { position (bytes_from B (T.keystream self.new.0) self.new.1) ≡ Some (T.Counter.value block * B + byte) }
         ensures ahead { (j : ℕ) → to_come (bytes_from B (T.keystream self.new.0) self.new.1) j ≡ (bytes_from B (T.keystream self.old.0) self.old.1).byte_at (T.Counter.value block * B + byte + j) }
-        ensures left { (m : ℕ) → HasRoom B (T.remaining_at (T.Counter.value block)) 0 (byte + m) → HasRoom B (T.remaining self.new.0) self.new.1 m }
+        ensures left { T.remaining self.new.0 ≡ T.remaining_at (blocks_before B (T.Counter.value block * B + byte)) }
+        ensures rest { self.new.1 ≡ rest_at B (T.Counter.value block * B + byte) }
     {
+        let inside = byte > 0;
         self.core.set_block_pos(block);
         self.used = B;
-        if byte > 0 {
+        if inside {
             self.core.write_keystream_block(&mut self.buffer);
             self.used = byte as usize;
             told(self.core.get_block_pos());
@@ -34,7 +36,7 @@ impl<T: StreamCipherSeekCore<B>, const B: usize> BufferedCore<T, [u8; B]> {
 impl<T: StreamCipherSeekCore<B>, const B: usize> StreamCipherSeek for BufferedCore<T, [u8; B]> {
     ghost end = { T.Counter.most * B };
 
-    ghost room_at = { λ n m. HasRoom B (T.remaining_at (n / B)) 0 (n % B + m) };
+    ghost room_at = { λ n m. HasRoomAt B T.remaining_at n m };
 
     fn try_current_pos<N: SeekNum>(&self) -> Result<N, OverflowError> {
         let block = told(self.core.get_block_pos());

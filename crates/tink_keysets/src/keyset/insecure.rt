@@ -1,13 +1,15 @@
 //! Keysets with their keys in sight.
 
-ghost use Rattle.std.specs.Prelude.{◌≡◌, IfOk, IfErr};
+ghost use Rattle.std.specs.Prelude.{◌≡◌, ◌≤◌, IfOk, IfErr, OnOk};
 ghost use Rattle.tink_io.specs.declared.error.Kind.TheVariants.{OutOfMemory};
 ghost use Rattle.keyset_model.specs.Validity.{IsHeld};
 ghost use Rattle.tink_keysets.specs.Told.{Tells};
+ghost use Rattle.tink_keysets.specs.Ends.{Gives};
 ghost use Rattle.tink_keysets.specs.Handles.{handle_of_keys};
+ghost use Rattle.tink_keysets.specs.Through.{GivesBy};
 
-use crate::keyset::Handle;
 use crate::keyset::copies::copy;
+use crate::keyset::{Handle, Reader, Writer};
 use std::alloc::Global;
 use tink_io::{Kind, TinkError};
 use tink_proto::Keyset;
@@ -36,4 +38,28 @@ pub fn new_handle(ks: Keyset) -> Result<Handle, TinkError>
         return Err(TinkError::new(Kind::InvalidKeyset));
     }
     Handle::from_keyset(ks)
+}
+
+/// A handle of the keyset that is read, whatever its keys are.
+///
+/// # Errors
+/// The reader's; then `InvalidKeyset` as `new_handle`.
+pub fn read<R: Reader>(alloc: Global, reader: &mut R) -> Result<Handle, TinkError>
+    ensures answer { GivesBy handle_of_keys result (R.reads reader.old) (R.faults reader.old) (R.faults reader.new) }
+    ensures count { R.faults reader.old ≤ R.faults reader.new }
+{
+    let ks = reader.read(alloc)?;
+    new_handle(ks)
+}
+
+/// Writes a handle's keyset, whatever its keys are.
+///
+/// # Errors
+/// The writer's.
+pub fn write<W: Writer>(alloc: Global, h: &Handle, writer: &mut W) -> Result<(), TinkError>
+    ensures answer { Gives result (W.answers writer.old h.now) (W.faults writer.old) (W.faults writer.new) }
+    ensures written { OnOk result (W.writes writer.old h.now writer.new) }
+    ensures count { W.faults writer.old ≤ W.faults writer.new }
+{
+    writer.write(alloc, h.keyset())
 }

@@ -28,6 +28,7 @@ returns-then-is_max-clause-ok g c =
     )
 
 pub returns-clause-left : goal.returns-clause-left
-returns-clause-left g c = λ n m e room.
+returns-clause-left g c = λ n m e.
     let told = c.in_ok-block.ensures in
-    c.seek_to.ensures.left m (room_of g.row.B g.T.StreamCipherSeekCore.remaining_at (g.N.SeekNum.place c.args.pos) n (g.T.Counter.StreamCipherCounter.value c.in_ok-block.block) c.in_ok-block.byte m e told.value.0 told.value.1 room)
+    room_of g.row.B g.T.StreamCipherSeekCore.remaining_at _ _ _ n m (place_joins (g.N.SeekNum.place c.args.pos) g.row.B n (g.T.Counter.StreamCipherCounter.value c.in_ok-block.block) c.in_ok-block.byte e told.value.0 told.value.1)
+    c.seek_to.ensures.left c.seek_to.ensures.rest

@@ -1,0 +1,172 @@
+-- What keys of AES in counter mode with HMAC build is whole.
+use Rattle.std.proofs.Common.{inl, inr, ⊎_elim, ◌⊎◌, ◌≡◌, ◌≤◌, ℕ, Bool, true, false, ◌||◌, ◌&&◌, List, Option, Some, None, Result, Ok, Err, cond, length, ap, refl, sym, subst, ◌∙◌}
+use Rattle.std.specs.Prelude.{nat_eq, nat_le, nat_lt}
+use Rattle.std.proofs.lemmas.Bool.{and_parts, leb-true, ltb-false, or_parts}
+use Rattle.hash_keys.specs.declared.Hash.{Hash}
+use Rattle.hash_keys.specs.Hash.{digest_size}
+use Rattle.hash_keys.proofs.Lengths.{length-hmac_of}
+use Rattle.std.proofs.lemmas.List.{length-take-le}
+use Rattle.std.proofs.lemmas.Slice.Eq.{bytes_eq-Decides}
+use Rattle.std.specs.Str.{bytes_eq}
+use Rattle.tink_io.specs.declared.error.Kind.{Kind}
+use Rattle.tink_io.specs.declared.error.Kind.TheVariants.{BadKeySize, BadTagSize, InvalidKey, MacMismatch}
+use Rattle.tink_proto_keys.specs.declared.aes_ctr_hmac.AesCtrHmacAeadKey.{AesCtrHmacAeadKey}
+use Rattle.tink_proto_keys.specs.declared.aes_ctr_hmac.AesCtrKey.{AesCtrKey}
+use Rattle.tink_proto_keys.specs.declared.aes_ctr_hmac.AesCtrParams.{AesCtrParams}
+use Rattle.tink_proto_keys.specs.declared.mac.HmacKey.{HmacKey}
+use Rattle.tink_proto_keys.specs.declared.mac.HmacParams.{HmacParams}
+use Rattle.tink_proto_keys.specs.declared.aes_ctr_hmac.AesCtrKeyFormat.{AesCtrKeyFormat}
+use Rattle.tink_proto_keys.specs.declared.mac.HmacKeyFormat.{HmacKeyFormat}
+use Rattle.tink_io.specs.declared.error.TinkError.{TinkError}
+use Rattle.tink_io.specs.Told.{IsShort, Replies}
+use Rattle.tink_primitives.specs.Meaning.{IsEndOf}
+use Rattle.tink_primitives.specs.MeaningLaws.{end_trans}
+use Rattle.tink_keysets.specs.Told.{takes_bytes}
+use Rattle.tink_key_types.specs.Manager.{of_draws}
+use Rattle.tink_aead.specs.ComposedKeyLaws.{taken_told}
+use Rattle.tink_sets.specs.Converting.{made_of}
+use Rattle.tink_mac.specs.KeyTypes.{hmac_built, hmac_by_params, or_invalid}
+use Rattle.tink_mac.specs.Tags.{hmac_tag, hmac_tags, is_outside, own_tag, HmacTags}
+use Rattle.tink_aead.specs.AeadKinds.{hmac_computes, hmac_verifies}
+use Rattle.tink_aead.specs.ComposedKeys.{are_ctr_params, composed_built, composed_of, ctr_built, ctr_by_params, joined, mac_built, new_composed_key, with_hmac_key}
+use Rattle.tink_aead.specs.ComposedLaws.{AcceptsWhole, IsWhole, UndoesWhole}
+use Rattle.tink_aead.specs.CounterMode.{ctr_decrypts, ctr_encrypts}
+use Rattle.tink_aead.specs.KeyTypes.{is_versioned_key}
+use Rattle.tink_aead.specs.Laws.{IsMac}
+use Rattle.tink_aead.specs.declared.subtle.aes_ctr.AesCtr.{AesCtr}
+use Rattle.tink_aead.specs.declared.subtle.encrypt_then_authenticate.EncryptThenAuthenticate.{EncryptThenAuthenticate}
+use Rattle.tink_aead.proofs.ComposedExact.{accepts_exactly, encrypted_is}
+use Rattle.tink_aead.proofs.Exact.{passed, passes}
+
+-- ---- the tags of an HMAC that was built
+abbrev HasFit : HmacTags → Type 0
+HasFit m = (10 ≤ m.tag_size) × (m.tag_size ≤ digest_size m.hmac.hash)
+
+tags_fit : (o : Option Hash) (key : List ℕ) (t : ℕ) (m : HmacTags) → hmac_tags o key t ≡ Ok m → HasFit m
+tags_fit None key t m e = absurd (cc)
+tags_fit (Some h) key t m e =
+    let made : HmacTags = record { hmac = record { hash = h; key = key }; tag_size = t } in
+    let first = passes (is_outside 10 (digest_size h) t) BadTagSize (cond (nat_lt (length key) 16) (Err BadKeySize) (Ok made)) m e in
+    let second = passes (nat_lt (length key) 16) BadKeySize (Ok made) m first.1 in
+    let within = or_parts (nat_lt t 10) (nat_lt (digest_size h) t) first.0 in
+    let same : made ≡ m = cc second.1 in
+    subst HasFit same (ltb-false t 10 within.0, ltb-false (digest_size h) t within.1)
+
+was_valid : {T : Type 0} (r : Result T Kind) (v : T) → or_invalid r ≡ Ok v → r ≡ Ok v
+was_valid (Ok x) v e = e
+was_valid (Err k) v e = absurd (cc)
+
+params_fit : (p : Option HmacParams) (key : List ℕ) (m : HmacTags) → hmac_by_params p key ≡ Ok m → HasFit m
+params_fit None key m e = absurd (cc)
+params_fit (Some p) key m e = tags_fit _ key p.tag_size m (was_valid _ m e)
+
+pub mac_fits : (k : Option HmacKey) (m : HmacTags) → mac_built k ≡ Ok m → HasFit m
+mac_fits None m e = absurd (cc)
+mac_fits (Some k) m e = params_fit k.params k.key_value m (passed (nat_eq k.version 0) InvalidKey (hmac_by_params k.params k.key_value) m e).1
+
+-- the MAC's part of a key, with its tag size
+abbrev with_size : HmacTags → HmacTags × ℕ
+with_size m = (m, m.tag_size)
+
+abbrev sized_mac : Option HmacKey → Result (HmacTags × ℕ) Kind
+sized_mac k = made_of with_size (mac_built k)
+
+sized_is : (r : Result HmacTags Kind) (p : HmacTags × ℕ) → made_of with_size r ≡ Ok p → (r ≡ Ok p.0) × (p.1 ≡ p.0.tag_size)
+sized_is (Ok m) p e =
+    let same : (m, m.tag_size) ≡ p = cc in
+    (ap (λ (x : HmacTags × ℕ). Ok x.0) same, subst (λ (x : HmacTags × ℕ). x.1 ≡ x.0.tag_size) same refl)
+sized_is (Err k) p e = absurd (cc)
+
+pub sized_fits : (k : Option HmacKey) (p : HmacTags × ℕ) → sized_mac k ≡ Ok p → 10 ≤ p.1
+sized_fits k p e =
+    let parts = sized_is (mac_built k) p e in
+    subst (λ n. 10 ≤ n) (sym parts.1) (mac_fits k p.0 parts.0).0
+
+-- the parts joined
+pub joined_ok : (cipher : Result AesCtr Kind) (mac : Result HmacTags Kind) (c : AesCtr) (p : HmacTags × ℕ) (a : EncryptThenAuthenticate AesCtr HmacTags) → cipher ≡ Ok c → made_of with_size mac ≡ Ok p
+    → a ≡ record { ind_cpa_cipher = c; mac = p.0; tag_size = p.1 } → joined cipher mac ≡ Ok a
+joined_ok cipher mac c p a of_cipher of_mac is =
+    let parts = sized_is mac p of_mac in
+    ap (λ (r : Result AesCtr Kind). joined r mac) of_cipher
+    ∙ ap (made_of (composed_of c)) parts.0
+    ∙ ap Ok (ap (λ (t : ℕ). record { ind_cpa_cipher = c; mac = p.0; tag_size = t }) (sym parts.1) ∙ sym is)
+
+pub joined_err : (cipher : Result AesCtr Kind) (mac : Result HmacTags Kind) (c : AesCtr) (k : Kind) → cipher ≡ Ok c → made_of with_size mac ≡ Err k → joined cipher mac ≡ Err k
+joined_err cipher (Ok m) c k of_cipher of_mac = absurd (cc)
+joined_err cipher (Err e) c k of_cipher of_mac =
+    let same : e ≡ k = cc in ap (λ (r : Result AesCtr Kind). joined r (Err e)) of_cipher ∙ ap Err same
+
+-- ---- the vectors of a cipher that was built
+ctr_params_fit : (p : Option AesCtrParams) (key : List ℕ) (c : AesCtr) → ctr_by_params p key ≡ Ok c → c.iv_size ≤ 16
+ctr_params_fit None key c e = absurd (cc)
+ctr_params_fit (Some p) key c e =
+    let made : AesCtr = record { key = key; iv_size = p.iv_size } in
+    let both = passed (are_ctr_params (Some p)) InvalidKey (Ok made) c e in
+    let same : made ≡ c = cc both.1 in
+    subst (λ (x : AesCtr). x.iv_size ≤ 16) same (leb-true p.iv_size 16 (and_parts (nat_le 12 p.iv_size) (nat_le p.iv_size 16) both.0).1)
+
+ctr_fits : (k : Option AesCtrKey) (c : AesCtr) → ctr_built k ≡ Ok c → c.iv_size ≤ 16
+ctr_fits None c e = absurd (cc)
+ctr_fits (Some k) c e = ctr_params_fit k.params k.key_value c (passed (is_versioned_key k.version k.key_value) InvalidKey (ctr_by_params k.params k.key_value) c e).1
+
+joined_whole : (cipher : Result AesCtr Kind) (mac : Result HmacTags Kind) (a : EncryptThenAuthenticate AesCtr HmacTags) → ((c : AesCtr) → cipher ≡ Ok c → c.iv_size ≤ 16) → ((m : HmacTags) → mac ≡ Ok m → HasFit m)
+    → joined cipher mac ≡ Ok a → IsWhole a
+joined_whole (Ok c) (Ok m) a of_cipher of_mac e =
+    let same : composed_of c m ≡ a = cc in
+    subst IsWhole same (record { iv = of_cipher c refl; tag = refl; digest = (of_mac m refl).1 })
+joined_whole (Ok c) (Err k) a of_cipher of_mac e = absurd (cc)
+joined_whole (Err k) mac a of_cipher of_mac e = absurd (cc)
+
+pub built_whole : (k : AesCtrHmacAeadKey) (a : EncryptThenAuthenticate AesCtr HmacTags) → composed_built k ≡ Ok a → IsWhole a
+built_whole k a e =
+    joined_whole (ctr_built k.aes_ctr_key) (mac_built k.hmac_key) a (ctr_fits k.aes_ctr_key) (mac_fits k.hmac_key)
+    (passed (nat_eq k.version 0) InvalidKey (joined (ctr_built k.aes_ctr_key) (mac_built k.hmac_key)) a e).1
+
+-- ---- HMAC accepts its own tag alone
+abbrev verdict : Bool → Result (Unit {0}) Kind
+verdict same = cond same (Ok tt) (Err MacMismatch)
+
+own_alone : (own tag : List ℕ) (b : Bool) → bytes_eq own tag ≡ b → verdict b ≡ Ok tt → tag ≡ own
+own_alone own tag true is e = sym ((bytes_eq-Decides own tag).0 is)
+own_alone own tag false is e = absurd (cc)
+
+own_accepted : (own tag : List ℕ) → tag ≡ own → own_tag own tag ≡ Ok tt
+own_accepted own tag same = ap verdict ((bytes_eq-Decides own tag).1 (sym same))
+
+hmac_is_mac : (m : HmacTags) → m.tag_size ≤ digest_size m.hmac.hash → IsMac (hmac_computes m) (hmac_verifies m) m.tag_size (hmac_tag m)
+hmac_is_mac m fits = record {
+  size = λ message. length-take-le m.tag_size _ (subst (λ n. m.tag_size ≤ n) (sym (length-hmac_of m.hmac.hash m.hmac.key message)) fits);
+  computed = λ message. refl;
+  verified = λ tag message. (own_alone (hmac_tag m message) tag (bytes_eq (hmac_tag m message) tag) refl, own_accepted (hmac_tag m message) tag);
+}
+
+module _ (a : EncryptThenAuthenticate AesCtr HmacTags) (whole : IsWhole a) where
+  own : IsMac (hmac_computes a.mac) (hmac_verifies a.mac) a.tag_size (hmac_tag a.mac)
+  own = subst (λ t. IsMac (hmac_computes a.mac) (hmac_verifies a.mac) t (hmac_tag a.mac)) (sym whole.tag) (hmac_is_mac a.mac whole.digest)
+
+  pub accepts_whole : AcceptsWhole a
+  accepts_whole = accepts_exactly a.ind_cpa_cipher.key a.ind_cpa_cipher.iv_size whole.iv a.tag_size (hmac_computes a.mac) (hmac_verifies a.mac) (hmac_tag a.mac) own
+
+  pub undoes_whole : UndoesWhole a
+  undoes_whole = λ text aad draws sealed e.
+      (accepts_whole sealed aad text).1 (encrypted_is a.ind_cpa_cipher.key a.ind_cpa_cipher.iv_size whole.iv a.tag_size (hmac_computes a.mac) (hmac_verifies a.mac) (hmac_tag a.mac) own text aad draws sealed e)
+
+-- ---- a key whose second take is refused
+module _ (a : AesCtrKeyFormat) (h : HmacKeyFormat) (draws rest new aes_key : List ℕ) (e : TinkError) (first : takes_bytes a.key_size draws ≡ (Ok aes_key, rest)) where
+  told_is : with_hmac_key a h (takes_bytes a.key_size draws) ≡ of_draws h.key_size (new_composed_key a h aes_key) rest
+  told_is = ap (with_hmac_key a h) first
+
+  short_ends : IsShort e.kind rest new → IsShort e.kind draws new
+  short_ends short =
+      let end : IsEndOf rest draws = subst (λ (t : Result (List ℕ) Kind × List ℕ). IsEndOf t.1 draws) first (taken_told a.key_size draws).ends in
+      record { kind = short.kind; ends = end_trans draws rest new end short.ends }
+
+  refused_is : (r : Result (List ℕ) Kind) → r ≡ Err e.kind → made_of (new_composed_key a h aes_key) r ≡ Err e.kind
+  refused_is r is = ap (made_of (new_composed_key a h aes_key)) is
+
+  pub second_refused : Replies {T = List ℕ} (Err e) (takes_bytes h.key_size rest) rest new → Replies {T = AesCtrHmacAeadKey} (Err e) (with_hmac_key a h (takes_bytes a.key_size draws)) draws new
+  second_refused = ⊎_elim (λ short. inl (short_ends short))
+      (λ told. inr (
+        ap (λ (t : Result AesCtrHmacAeadKey Kind × List ℕ). t.0) told_is ∙ refused_is (takes_bytes h.key_size rest).0 told.0,
+        told.1 ∙ sym (ap (λ (t : Result AesCtrHmacAeadKey Kind × List ℕ). t.1) told_is),
+      ))

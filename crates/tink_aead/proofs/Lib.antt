@@ -1,0 +1,10 @@
+pub mod Keyed
+pub mod Exact
+pub mod AesExact
+pub mod ComposedExact
+pub mod Blocks
+pub mod RotationFacts
+pub mod ComposedKeyFacts
+pub mod EnvelopeFacts
+pub mod Chained
+pub mod EnvelopeSteps

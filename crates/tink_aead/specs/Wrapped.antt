@@ -1,0 +1,49 @@
+-- The AEADs of a keyset as one.
+use Rattle.std.specs.Prelude.{◌≡◌, ◌++◌, ◌∷◌, ℕ, List, Option, Some, None, Result, Ok, Err, find, nat_eq}
+use Rattle.tink_io.specs.declared.error.Kind.{Kind}
+use Rattle.tink_io.specs.declared.error.Kind.TheVariants.{DecryptFailed, NoPrimary}
+use Rattle.tink_sets.specs.Converting.{made_of}
+use Rattle.tink_sets.specs.Entries.{typed_prefix_of}
+use Rattle.tink_sets.specs.Groups.{group_of}
+use Rattle.tink_sets.specs.declared.entry.TypedEntry.{TypedEntry}
+use Rattle.tink_keysets.specs.Built.{HasEntries}
+use Rattle.tink_sets.specs.declared.typed_set.TypedPrimitiveSet.{TypedPrimitiveSet}
+use Rattle.tink_factory.specs.Accepting.{accepted, entries_of}
+use Rattle.tink_aead.specs.declared.factory.WrappedAead.{WrappedAead}
+
+-- the set of a keyset's entries
+abbrev pub entries_in : {P : Type 0} → WrappedAead P → TypedPrimitiveSet P
+entries_in w = w.ps
+
+-- the first entry of an id
+abbrev pub entry_of_id : {P : Type 0} → ℕ → List (TypedEntry P) → Option (TypedEntry P)
+entry_of_id id es = find (λ e. nat_eq e.key_id id) es
+
+-- what was sealed, behind a prefix
+abbrev pub behind_prefix : List ℕ → Result (List ℕ) Kind × List ℕ → Result (List ℕ) Kind × List ℕ
+behind_prefix prefix told = (made_of (λ sealed. prefix ++ sealed) told.0, told.1)
+
+module _ {P : Type 0} (encrypts : P → List ℕ → List ℕ → List ℕ → Result (List ℕ) Kind × List ℕ) where
+  -- an entry's encryption of a text, behind its prefix
+  abbrev pub entry_encrypts : TypedEntry P → List ℕ → List ℕ → List ℕ → Result (List ℕ) Kind × List ℕ
+  entry_encrypts e text aad draws = behind_prefix e.prefix (encrypts e.primitive text aad draws)
+
+  -- the primary entry's encryption
+  abbrev pub primary_encrypts : Option (TypedEntry P) → List ℕ → List ℕ → List ℕ → Result (List ℕ) Kind × List ℕ
+  primary_encrypts None text aad draws = (Err NoPrimary, draws)
+  primary_encrypts (Some e) text aad draws = entry_encrypts e text aad draws
+
+module _ {P : Type 0} (decrypts : P → List ℕ → List ℕ → Result (List ℕ) Kind) where
+  -- what an entry answers on a ciphertext without its prefix
+  abbrev pub entry_decrypts : List ℕ → TypedEntry P → List ℕ → Result (List ℕ) Kind
+  entry_decrypts aad e input = decrypts e.primitive input aad
+
+  -- the text by the first entry that accepts
+  abbrev pub any_decrypts : (List ℕ → List (TypedEntry P)) → List ℕ → List ℕ → Result (List ℕ) Kind
+  any_decrypts group input aad = accepted (entry_decrypts aad) group DecryptFailed input
+
+-- A set is that of these entries: it encrypts by the first of the primary id, and decrypts by any of them.
+pub record IsAeadOf {P : Type 0} (encrypts : P → List ℕ → List ℕ → List ℕ → Result (List ℕ) Kind × List ℕ) (decrypts : P → List ℕ → List ℕ → Result (List ℕ) Kind) (id : ℕ) (es : List (TypedEntry P)) (set : TypedPrimitiveSet P) : Type 0 where
+  pub has : HasEntries typed_prefix_of (λ e. e.key_id) id es set.primary set.entries
+  pub encrypted : (text aad draws : List ℕ) → primary_encrypts encrypts set.primary text aad draws ≡ primary_encrypts encrypts (entry_of_id id es) text aad draws
+  pub decrypted : (input aad : List ℕ) → any_decrypts decrypts (group_of set.entries) input aad ≡ any_decrypts decrypts (entries_of es) input aad

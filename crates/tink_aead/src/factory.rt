@@ -1,0 +1,135 @@
+//! The AEADs of a keyset as one.
+
+ghost use Rattle.std.specs.Prelude.{◌≡◌, None};
+ghost use Rattle.tink_io.specs.Told.{Answers, Replies};
+ghost use Rattle.tink_primitives.specs.Sorts.{as_aead};
+ghost use Rattle.tink_sets.specs.Entries.{entry_of};
+ghost use Rattle.tink_sets.specs.Groups.{group_of};
+ghost use Rattle.tink_keysets.specs.Built.{built_entries, GivesSet};
+ghost use Rattle.tink_factory.specs.Typing.{typed_entries};
+ghost use Rattle.tink_aead.specs.Wrapped.{any_decrypts, entries_in, entry_decrypts, entry_encrypts, primary_encrypts, IsAeadOf};
+ghost use Rattle.tink_aead.specs.WrappedTold.{any_decrypts_told, primary_encrypts_told};
+
+use std::alloc::Global;
+use tink_core::keyset::Handle;
+use tink_core::registry::{KeyManager, Registry};
+use tink_core::{Aead, Draws, Kind, Kinds, TinkError};
+use tink_factory::{Question, ask_entries, typed_primitives};
+use tink_proto::Bytes;
+use tink_sets::sorts::Aeads;
+use tink_sets::{TypedEntry, TypedPrimitiveSet};
+
+/// The AEADs of a keyset as one: the primary key encrypts, and any key decrypts. A contract sees the
+/// set of the keys' entries.
+#[derive(Drop)]
+pub struct WrappedAead<P> {
+    ps: TypedPrimitiveSet<P>,
+}
+
+/// The AEADs of a handle's enabled keys as one.
+///
+/// # Errors
+/// As `Handle::primitives`; then `NoPrimary` exactly where no entry has the primary id; then
+/// `WrongPrimitive` exactly where an entry is no AEAD. `OutOfMemory` may come in place of each.
+pub fn new<M: KeyManager, P: Aead>(
+    alloc: Global,
+    h: &Handle,
+    registry: &Registry<M>,
+) -> Result<WrappedAead<P>, TinkError>
+where
+    M::Family: Kinds<Aead = P>,
+    ensures { GivesSet (λ es w. IsAeadOf P.encrypts P.decrypts h.now.primary_key_id es (entries_in w)) result (typed_entries as_aead h.now.primary_key_id (built_entries M.url M.supports M.builds entry_of registry.now.managers None h.now)) }
+{
+    match typed_primitives::<M, Aeads>(alloc, h, registry) {
+        Ok(ps) => Ok(WrappedAead { ps }),
+        Err(e) => Err(e),
+    }
+}
+
+impl<P: Aead> Aead for WrappedAead<P> {
+    ghost encrypts = { λ w text aad draws. primary_encrypts P.encrypts (entries_in w).primary text aad draws };
+
+    ghost decrypts = { λ w input aad. any_decrypts P.decrypts (group_of (entries_in w).entries) input aad };
+
+    /// The primary key's prefix and its encryption, or its refusal.
+    fn encrypt(
+        &self,
+        alloc: Global,
+        plaintext: &[u8],
+        additional_data: &[u8],
+        draws: &mut Draws,
+    ) -> Result<Bytes, TinkError> {
+        match &self.ps.primary {
+            Some(primary) => encrypt_behind_prefix(
+                alloc,
+                primary,
+                plaintext,
+                additional_data,
+                draws,
+            ),
+            None => Err(TinkError::new(Kind::NoPrimary)),
+        }
+    }
+
+    /// The text by the first entry that decrypts `ciphertext`: those of its first five bytes are asked
+    /// on the rest, where it is longer than that, then those without a prefix on the whole.
+    ///
+    /// # Errors
+    /// `DecryptFailed` exactly where no entry decrypts it; `OutOfMemory`.
+    fn decrypt(
+        &self,
+        alloc: Global,
+        ciphertext: &[u8],
+        additional_data: &[u8],
+    ) -> Result<Bytes, TinkError> {
+        let question = Decrypts { additional_data };
+        ask_entries(alloc, &self.ps, &question, ciphertext, Kind::DecryptFailed)
+    }
+
+    ghost encrypts_told = { λ w text aad draws. primary_encrypts_told P.encrypts P.encrypts_told (entries_in w).primary text aad draws };
+
+    ghost decrypts_told = { λ w input aad. any_decrypts_told P.decrypts (group_of (entries_in w).entries) input aad };
+}
+
+// What an entry opens a ciphertext to.
+#[derive(Drop)]
+struct Decrypts<'a> {
+    additional_data: &'a [u8],
+}
+
+impl<P: Aead> Question<P> for Decrypts<'_> {
+    type Answer = Bytes;
+
+    ghost answers = { λ q e input. entry_decrypts P.decrypts q.additional_data.now e input };
+
+    fn ask(
+        &self,
+        alloc: Global,
+        entry: &TypedEntry<P>,
+        ciphertext: &[u8],
+    ) -> Result<Bytes, TinkError> {
+        entry
+            .primitive
+            .decrypt(alloc, ciphertext, self.additional_data)
+    }
+
+    ghost answers_told = { λ q e input. P.decrypts_told e.primitive input q.additional_data.now };
+}
+
+// An entry's encryption of a text, behind its prefix.
+fn encrypt_behind_prefix<P: Aead>(
+    alloc: Global,
+    entry: &TypedEntry<P>,
+    plaintext: &[u8],
+    additional_data: &[u8],
+    draws: &mut Draws,
+) -> Result<Bytes, TinkError>
+    ensures { Replies result (entry_encrypts P.encrypts entry.now plaintext.now additional_data.now draws.old) draws.old draws.new }
+{
+    let mut out = entry.prefix.as_slice().to_vec(alloc)?;
+    let sealed = entry
+        .primitive
+        .encrypt(alloc, plaintext, additional_data, draws)?;
+    out.extend_from_slice(sealed.as_slice())?;
+    Ok(Bytes::from_vec(out))
+}

@@ -1,0 +1,152 @@
+//! Envelope encryption: each text by a new data key, which a remote key encrypts.
+
+ghost use Rattle.std.specs.Prelude.{◌≡◌, length};
+ghost use Rattle.std.specs.Int.{w32, from_be_bytes};
+ghost use Rattle.tink_io.specs.Told.{Answers};
+ghost use Rattle.tink_aead.specs.Envelope.{data_key_aead, enveloped};
+ghost use Rattle.tink_aead.specs.EnvelopeLaws.{EnvelopeUndoes};
+
+use std::alloc::Global;
+use tink_core::registry::{KeyManager, Registry};
+use tink_core::{Aead, Draws, Kind, Kinds, TinkError};
+use tink_proto::{Bytes, KeyTemplate};
+
+/// The version of keys of this type.
+pub const KMS_ENVELOPE_AEAD_KEY_VERSION: u32 = 0;
+
+/// The URL of keys of this type.
+pub const KMS_ENVELOPE_AEAD_TYPE_URL: &str =
+    "type.googleapis.com/google.crypto.tink.KmsEnvelopeAeadKey";
+
+// The bytes of the length of an encrypted data key.
+const LEN_DEK: usize = 4;
+
+// More bytes than a length of four bytes counts.
+const TOO_LONG: usize = 1 << 32;
+
+/// An AEAD by a remote one. What it makes of a text is the length of an encrypted data key in four
+/// bytes, high byte first, that key, and what the key encrypts the text to. Each text has a new
+/// data key, by a template of the registry's.
+#[derive(Drop)]
+pub struct KmsEnvelopeAead<'r, A, M> {
+    dek_template: KeyTemplate,
+    remote: A,
+    registry: &'r Registry<M>,
+}
+
+impl<'r, A: Aead + Drop, M: KeyManager> KmsEnvelopeAead<'r, A, M> {
+    /// The AEAD by a template of data keys, the remote AEAD that encrypts them, and the registry
+    /// that makes and builds them.
+    pub fn new(kt: KeyTemplate, remote: A, registry: &'r Registry<M>) -> KmsEnvelopeAead<'r, A, M>
+        ensures template { result.dek_template ≡ kt }
+        ensures remote { result.remote ≡ remote }
+        ensures registry { result.registry.now ≡ registry.entry.now }
+    {
+        KmsEnvelopeAead {
+            dek_template: kt,
+            remote,
+            registry,
+        }
+    }
+}
+
+// The AEAD of a data key's bytes.
+fn data_key_aead<M: KeyManager>(
+    alloc: Global,
+    registry: &Registry<M>,
+    kt: &KeyTemplate,
+    dek: &Bytes,
+) -> Result<<M::Family as Kinds>::Aead, TinkError>
+    ensures { Answers result (data_key_aead M.url M.builds registry.now.managers kt.now.type_url dek.now) }
+{
+    registry
+        .primitive(alloc, kt.type_url.as_str(), dek.as_slice())?
+        .into_aead()
+}
+
+// The length of an encrypted data key, that key, and what it encrypts.
+fn enveloped(alloc: Global, encrypted_dek: &Bytes, payload: &Bytes) -> Result<Bytes, TinkError>
+    ensures { Answers result (enveloped encrypted_dek.now payload.now) }
+{
+    let encrypted_dek = encrypted_dek.as_slice();
+    if encrypted_dek.len() >= TOO_LONG {
+        return Err(TinkError::new(Kind::LengthOverU32));
+    }
+    let size = encrypted_dek.len() as u32;
+    let mut out = size.to_be_bytes().to_vec(alloc)?;
+    out.extend_from_slice(encrypted_dek)?;
+    out.extend_from_slice(payload.as_slice())?;
+    Ok(Bytes::from_vec(out))
+}
+
+// The number that four bytes spell, high byte first.
+fn spelled_size(bytes: &[u8]) -> usize
+    requires { length bytes.now ≡ 4 }
+    ensures { result ≡ from_be_bytes w32 bytes.now }
+{
+    let mut size = [0; LEN_DEK];
+    size.copy_from_slice(bytes);
+    u32::from_be_bytes(size) as usize
+}
+
+impl<A: Aead, M: KeyManager> Aead for KmsEnvelopeAead<'_, A, M> {
+    ghost use Rattle.tink_registry.specs.Listed.{registry_makes};
+    ghost use Rattle.tink_aead.specs.Envelope.{data_key_aead, envelope_decrypts, envelope_encrypts};
+    ghost use Rattle.tink_aead.specs.EnvelopeTold.{data_key_aead_told, envelope_decrypts_told, envelope_encrypts_told, registry_makes_told};
+
+    ghost encrypts = { λ e text aad draws. envelope_encrypts (registry_makes M.url M.makes e.registry.now.managers e.dek_template) (A.encrypts e.remote) (data_key_aead M.url M.builds e.registry.now.managers e.dek_template.type_url) M.Family.Aead.encrypts text aad draws };
+
+    ghost decrypts = { λ e input aad. envelope_decrypts (A.decrypts e.remote) (data_key_aead M.url M.builds e.registry.now.managers e.dek_template.type_url) M.Family.Aead.decrypts input aad };
+
+    /// # Errors
+    /// The registry's refusals on the new key, else those of the remote key on encrypting it, else
+    /// the registry's on building it, else `WrongPrimitive` where it is no AEAD's key, else those of
+    /// its AEAD on the text, else `LengthOverU32` where the encrypted key has 2^32 bytes or more.
+    fn encrypt(
+        &self,
+        alloc: Global,
+        plaintext: &[u8],
+        additional_data: &[u8],
+        draws: &mut Draws,
+    ) -> Result<Bytes, TinkError> {
+        let dek = self.registry.new_key(alloc, &self.dek_template, draws)?;
+        let encrypted_dek = self.remote.encrypt(alloc, dek.as_slice(), &[], draws)?;
+        let primitive = data_key_aead(alloc, self.registry, &self.dek_template, &dek)?;
+        let payload = primitive.encrypt(alloc, plaintext, additional_data, draws)?;
+        enveloped(alloc, &encrypted_dek, &payload)
+    }
+
+    /// # Errors
+    /// `TooShort` where the ciphertext has four bytes or fewer, else `DecryptFailed` where the
+    /// length is 0 or more bytes than follow it, else the refusals of the remote key on the
+    /// encrypted key, else the registry's on building it, else `WrongPrimitive` where it is no AEAD's
+    /// key, else those of its AEAD on the rest.
+    fn decrypt(
+        &self,
+        alloc: Global,
+        ciphertext: &[u8],
+        additional_data: &[u8],
+    ) -> Result<Bytes, TinkError> {
+        if ciphertext.len() <= LEN_DEK {
+            return Err(TinkError::new(Kind::TooShort));
+        }
+        let size = spelled_size(&ciphertext[..LEN_DEK]);
+        let rest = &ciphertext[LEN_DEK..];
+        if size == 0 || rest.len() < size {
+            return Err(TinkError::new(Kind::DecryptFailed));
+        }
+        let dek = self.remote.decrypt(alloc, &rest[..size], &[])?;
+        let primitive = data_key_aead(alloc, self.registry, &self.dek_template, &dek)?;
+        primitive.decrypt(alloc, &rest[size..], additional_data)
+    }
+
+    ghost encrypts_told = { λ e. envelope_encrypts_told (data_key_aead M.url M.builds e.registry.now.managers e.dek_template.type_url) (data_key_aead_told M.url M.builds M.builds_told e.registry.now.managers e.dek_template.type_url) (registry_makes M.url M.makes e.registry.now.managers e.dek_template) (A.encrypts e.remote) M.Family.Aead.encrypts (registry_makes_told M.url M.makes M.makes_told e.registry.now.managers e.dek_template) (A.encrypts_told e.remote) M.Family.Aead.encrypts_told };
+
+    ghost decrypts_told = { λ e. envelope_decrypts_told (data_key_aead M.url M.builds e.registry.now.managers e.dek_template.type_url) (data_key_aead_told M.url M.builds M.builds_told e.registry.now.managers e.dek_template.type_url) (A.decrypts e.remote) M.Family.Aead.decrypts (A.decrypts_told e.remote) M.Family.Aead.decrypts_told };
+}
+
+/// What an envelope encrypts is decrypted again, where the remote key's decryption undoes its
+/// encryption, which never has no bytes, and the decryption of each data key's AEAD undoes its own.
+pub fn law_envelopes_open<P: Aead>()
+    ensures { EnvelopeUndoes P.encrypts P.decrypts }
+{}

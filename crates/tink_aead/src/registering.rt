@@ -1,0 +1,92 @@
+//! The managers and templates of AEAD keys, registered.
+
+ghost use Rattle.std.specs.Prelude.{◌≡◌, ◌∷◌, ◌++◌, [], IfErr, IfOk, OnErr, OnOk};
+ghost use Rattle.tink_io.specs.declared.error.Kind.TheVariants.{OutOfMemory};
+ghost use Rattle.tink_aead.specs.Registering.{AreMade, Registers};
+ghost use Rattle.tink_aead.specs.Templates.{aead_templates};
+
+use crate::{
+    AesCtrHmacAeadKeyManager, AesGcmKeyManager, AesGcmSivKeyManager,
+    aes128_ctr_hmac_sha256_key_template, aes128_gcm_key_template, aes128_gcm_siv_key_template,
+    aes256_ctr_hmac_sha256_key_template, aes256_gcm_key_template,
+    aes256_gcm_no_prefix_key_template, aes256_gcm_siv_key_template,
+    aes256_gcm_siv_no_prefix_key_template,
+};
+use std::alloc::Global;
+use tink_core::TinkError;
+use tink_core::registry::{KeyManager, Registry};
+use tink_proto::{KeyTemplate, Text};
+
+/// Registers the managers of AEAD keys and eight templates, or nothing.
+///
+/// # Errors
+/// `AlreadyRegistered` exactly where a manager's URL is registered already; `OutOfMemory`.
+pub fn init<M>(alloc: Global, registry: &mut Registry<M>) -> Result<(), TinkError>
+where
+    M: KeyManager
+        + Drop
+        + From<AesCtrHmacAeadKeyManager>
+        + From<AesGcmKeyManager>
+        + From<AesGcmSivKeyManager>,
+    ensures { Registers (AreMade M.From-1.from_gives M.From-2.from_gives M.From-3.from_gives) M.url aead_templates registry.old registry.new result }
+{
+    let managers = managers(alloc)?;
+    let templates = templates(alloc)?;
+    registry.register_all(alloc, managers, templates)
+}
+
+// The managers, in the order of registration.
+fn managers<M>(alloc: Global) -> Result<Vec<M>, TinkError>
+where
+    M: Drop + From<AesCtrHmacAeadKeyManager> + From<AesGcmKeyManager> + From<AesGcmSivKeyManager>,
+    ensures value { IfOk result (λ managers. AreMade M.From-1.from_gives M.From-2.from_gives M.From-3.from_gives managers.items) }
+    ensures cause { IfErr result (λ e. e.kind ≡ OutOfMemory) }
+{
+    let composed = M::from(AesCtrHmacAeadKeyManager::new());
+    let gcm = M::from(AesGcmKeyManager::new());
+    let gcm_siv = M::from(AesGcmSivKeyManager::new());
+    let mut managers = Vec::new(alloc);
+    managers.push(composed)?;
+    managers.push(gcm)?;
+    managers.push(gcm_siv)?;
+    Ok(managers)
+}
+
+// Adds a template under its name.
+fn add(
+    alloc: Global,
+    named: &mut Vec<(Text, KeyTemplate)>,
+    name: &str,
+    template: KeyTemplate,
+) -> Result<(), TinkError>
+    ensures ok { OnOk result (named.new.items ≡ named.old.items ++ (name.now, template) ∷ []) }
+    ensures cause { IfErr result (λ e. e.kind ≡ OutOfMemory) }
+{
+    named.push((Text::from_str(alloc, name)?, template))?;
+    Ok(())
+}
+
+// The templates by their names.
+fn templates(alloc: Global) -> Result<Vec<(Text, KeyTemplate)>, TinkError>
+    ensures value { IfOk result (λ named. named.items ≡ aead_templates) }
+    ensures cause { IfErr result (λ e. e.kind ≡ OutOfMemory) }
+{
+    let mut named = Vec::new(alloc);
+    let template = aes128_gcm_key_template(alloc)?;
+    add(alloc, &mut named, "AES128_GCM", template)?;
+    let template = aes256_gcm_key_template(alloc)?;
+    add(alloc, &mut named, "AES256_GCM", template)?;
+    let template = aes256_gcm_no_prefix_key_template(alloc)?;
+    add(alloc, &mut named, "AES256_GCM_NO_PREFIX", template)?;
+    let template = aes128_gcm_siv_key_template(alloc)?;
+    add(alloc, &mut named, "AES128_GCM_SIV", template)?;
+    let template = aes256_gcm_siv_key_template(alloc)?;
+    add(alloc, &mut named, "AES256_GCM_SIV", template)?;
+    let template = aes256_gcm_siv_no_prefix_key_template(alloc)?;
+    add(alloc, &mut named, "AES256_GCM_SIV_NO_PREFIX", template)?;
+    let template = aes128_ctr_hmac_sha256_key_template(alloc)?;
+    add(alloc, &mut named, "AES128_CTR_HMAC_SHA256", template)?;
+    let template = aes256_ctr_hmac_sha256_key_template(alloc)?;
+    add(alloc, &mut named, "AES256_CTR_HMAC_SHA256", template)?;
+    Ok(named)
+}

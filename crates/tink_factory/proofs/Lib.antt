@@ -1,0 +1,3 @@
+pub mod AcceptingFacts
+pub mod TypedSets
+pub mod TypingFacts

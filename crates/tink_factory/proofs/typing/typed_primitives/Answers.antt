@@ -1,0 +1,14 @@
+use Rattle.std.proofs.Common.{rules, ◌≡◌, None, true, is_some}
+use Rattle.tink_sets.specs.Entries.{entry_of}
+use Rattle.tink_keysets.specs.Built.{built_entries}
+use Rattle.tink_factory.proofs.TypedSets.{typed-given}
+use Rattle.tink_factory.proofs.typing.typed_primitives.Goals as goal
+
+pub returns-clause-set : goal.returns-clause-set
+returns-clause-set g c =
+    let there : is_some c.in-Ok.built.primary ≡ true = search rules in
+    typed-given g.S.Sort.picks c.args.h.now.primary_key_id
+    (built_entries g.M.KeyManager.url g.M.KeyManager.supports g.M.KeyManager.builds entry_of c.args.registry.now.managers None c.args.h.now)
+    (λ set. set.primary) (λ set. set.entries) (λ set. set.primary) (λ set. set.entries)
+    c.in-Ok.built c.in-Ok.ensures there g.met.S.Sort.one_refusal c.from_set_of_sort.result
+    c.from_set_of_sort.ensures.primary c.from_set_of_sort.ensures.entries c.from_set_of_sort.ensures.cause

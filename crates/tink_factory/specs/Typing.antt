@@ -1,0 +1,17 @@
+-- The entries of a set of one sort.
+use Rattle.std.specs.Prelude.{ℕ, List, Result, Ok, Err, find, is_some, nat_eq, if◌then◌else◌}
+use Rattle.tink_io.specs.declared.error.Kind.{Kind}
+use Rattle.tink_io.specs.declared.error.Kind.TheVariants.{NoPrimary}
+use Rattle.tink_primitives.specs.declared.primitive.Primitive.{Primitive}
+use Rattle.tink_sets.specs.Converting.{converted}
+use Rattle.tink_sets.specs.Entries.{typed_by}
+use Rattle.tink_sets.specs.declared.entry.Entry.{Entry}
+use Rattle.tink_sets.specs.declared.entry.TypedEntry.{TypedEntry}
+
+module _ {K A D HD HE M P S St V Q : Type 0} (pick : Primitive K A D HD HE M P S St V → Result Q Kind) (id : ℕ) where
+  -- The entries that were built as entries of one sort: `NoPrimary` where none has the primary id, then the refusal of
+  -- the first that is of another sort.
+  abbrev pub typed_entries : Result (List (Entry K A D HD HE M P S St V)) Kind → Result (List (TypedEntry Q)) Kind
+  typed_entries (Err k) = Err k
+  typed_entries (Ok es) =
+      if is_some (find (λ e. nat_eq e.key_id id) es) then converted (typed_by pick) es else Err NoPrimary

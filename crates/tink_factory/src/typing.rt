@@ -1,0 +1,36 @@
+//! The set of one sort from a handle.
+
+ghost use Rattle.std.specs.Prelude.{◌≡◌, true, is_some, None, IfOk};
+ghost use Rattle.tink_sets.specs.Entries.{entry_of, typed_prefix_of};
+ghost use Rattle.tink_keysets.specs.Built.{built_entries, GivesSet, HasEntries};
+ghost use Rattle.tink_factory.specs.Typing.{typed_entries};
+
+use std::alloc::Global;
+use tink_io::{Kind, TinkError};
+use tink_keysets::keyset::Handle;
+use tink_registry::{KeyManager, Registry};
+use tink_sets::TypedPrimitiveSet;
+use tink_sets::sorts::Sort;
+
+/// The set of the enabled keys' primitives as one of the sort `S`. It has a primary entry.
+///
+/// # Errors
+/// As `Handle::primitives`; then `NoPrimary` exactly where no entry has the primary id; then `WrongPrimitive` exactly
+/// where an entry is of another sort. `OutOfMemory` may come in place of each.
+pub fn typed_primitives<M: KeyManager, S: Sort<M::Family>>(
+    alloc: Global,
+    h: &Handle,
+    registry: &Registry<M>,
+) -> Result<TypedPrimitiveSet<S::Of>, TinkError>
+    ensures set { GivesSet (λ es set. HasEntries typed_prefix_of (λ e. e.key_id) h.now.primary_key_id es set.primary set.entries) result (typed_entries S.picks h.now.primary_key_id (built_entries M.url M.supports M.builds entry_of registry.now.managers None h.now)) }
+    ensures primary { IfOk result (λ set. is_some set.primary ≡ true) }
+{
+    let built = match h.primitives(alloc, registry) {
+        Ok(built) => built,
+        Err(e) => return Err(e),
+    };
+    if built.primary.is_none() {
+        return Err(TinkError::new(Kind::NoPrimary));
+    }
+    TypedPrimitiveSet::from_set_of_sort::<M::Family, S>(alloc, &built)
+}

@@ -1,0 +1,6 @@
+pub mod ItemLemmas
+pub mod FloatLemmas
+pub mod NumberLemmas
+pub mod TextLemmas
+pub mod BytesLemmas
+pub mod PutLemmas

@@ -1,0 +1,6 @@
+pub mod Names
+pub mod Fields
+pub mod Messages
+pub mod Written
+pub mod Outcome
+pub mod Plain

@@ -1,0 +1,5 @@
+pub mod HashTypes
+pub mod Manager
+pub mod ManagerLaws
+pub mod TestKeys
+pub mod Templates

@@ -1,0 +1,16 @@
+//! Key managers by the types of their keys.
+#![tactic(auto)]
+
+mod hashes;
+mod key_type;
+mod manager;
+mod templates;
+#[cfg(test)]
+mod test_keys;
+#[cfg(test)]
+mod tests;
+
+pub use hashes::hash_type_of;
+pub use key_type::KeyType;
+pub use manager::SymmetricKeyManager;
+pub use templates::new_template;

@@ -1,0 +1,38 @@
+-- What a reader of keysets has of a source.
+use Rattle.std.specs.Prelude.{◌≡◌, ◌⊎◌, ℕ, ◌^◌, ◌<◌, ◌≤◌, nat_lt, if◌then◌else◌, List, ◌++◌, length, take, Option, Some, None, option_map, IfSome, Result, Ok, Err}
+use Rattle.std.specs.Io.KnownBytes.{Consumes, IsAtEnd}
+use Rattle.tink_io.specs.Faults.{Rose}
+use Rattle.tink_io.specs.declared.error.Kind.{Kind}
+use Rattle.tink_io.specs.declared.error.Kind.TheVariants.{OutOfMemory, ReadFault, KeysetTooLong}
+
+-- the message, or the refusal where there is none
+abbrev pub or_refused : {M : Type 0} → Kind → Option M → Result M Kind
+or_refused refusal None = Err refusal
+or_refused refusal (Some m) = Ok m
+
+-- what a text is read as
+abbrev pub reading : {M : Type 0} → Kind → (List ℕ → Option M) → List ℕ → Result M Kind
+reading refusal message text = if nat_lt (2 ^ 26) (length text) then Err KeysetTooLong else or_refused refusal (message text)
+
+-- the answer of a read of the bytes left, where they are told
+abbrev pub told : {M : Type 0} → Kind → (List ℕ → Option M) → Option (List ℕ) → Option (Result M Kind)
+told refusal message left = option_map (reading refusal message) left
+
+-- why a piece could not be had: no memory, or a fault
+abbrev pub IsFault : Kind → ℕ → ℕ → Type 0
+IsFault kind before now = (kind ≡ OutOfMemory) ⊎ ((kind ≡ ReadFault) × Rose before now)
+
+-- why a text could not be had: the same, or too many bytes
+abbrev pub IsUnread : Option (List ℕ) → Kind → ℕ → ℕ → Type 0
+IsUnread left kind before now = IsFault kind before now ⊎ ((kind ≡ KeysetTooLong) × IfSome left (λ text. 2 ^ 26 < length text))
+
+-- known bytes lose a front of at most so many
+abbrev pub LosesAtMost : ℕ → Option (List ℕ) → Option (List ℕ) → Type 0
+LosesAtMost most old new = (front : List ℕ) × (length front ≤ most) × Consumes old new front
+
+-- the first n bytes of a piece went from the known bytes to the end of a text; none only at the end
+pub record IsPiece (old new : Option (List ℕ)) (before after piece : List ℕ) (n : ℕ) : Type 0 where
+  pub within : n ≤ length piece
+  pub taken : Consumes old new (take n piece)
+  pub text : after ≡ before ++ take n piece
+  pub end : n ≡ 0 → IsAtEnd new

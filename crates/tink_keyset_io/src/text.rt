@@ -1,0 +1,92 @@
+//! Texts, read whole from sources and written whole to sinks.
+
+ghost use Rattle.std.specs.Prelude.{◌≤◌, ◌<◌, ◌+◌, ◌^◌, Some, Ok, IfOk, IfErr, OnOk, length};
+ghost use Rattle.std.specs.Io.KnownBytes.{Consumes, IsAtEnd};
+ghost use Rattle.tink_keysets.specs.Ends.{Gives};
+ghost use Rattle.tink_keyset_io.specs.Reading.{IsFault, IsPiece, IsUnread, LosesAtMost, told};
+ghost use Rattle.tink_keyset_io.specs.Writing.{AppendsText, IsPartOf};
+
+use crate::format::Format;
+use std::alloc::Global;
+use tink_io::{Kind, Sink, Source, TinkError, write_all};
+
+/// The most bytes of a keyset's text.
+const MAX_TEXT: usize = 67_108_864;
+
+/// Bytes that are read at once.
+const PIECE: usize = 4096;
+
+// Reads a piece, puts what was read behind the text, and answers how many bytes these are.
+fn read_piece<S: Source>(
+    source: &mut S,
+    piece: &mut [u8],
+    text: &mut Vec<u8>,
+) -> Result<usize, TinkError>
+    requires some { 0 < length piece.old }
+    ensures ok { IfOk result (λ n. IsPiece (S.left source.old) (S.left source.new) text.old.items text.new.items piece.new n) }
+    ensures refused { IfErr result (λ e. IsFault e.kind (S.faults source.old) (S.faults source.new)) }
+    ensures taken { LosesAtMost (length piece.old) (S.left source.old) (S.left source.new) }
+    ensures later { S.faults source.old ≤ S.faults source.new }
+    ensures same { S.same source.old source.new }
+{
+    match source.read(piece) {
+        Ok(count) => {
+            text.extend_from_slice(&piece[..count])?;
+            Ok(count)
+        }
+        Err(_) => Err(TinkError::new(Kind::ReadFault)),
+    }
+}
+
+// All bytes that the source has left. Of a longer text one byte more than the most is read.
+fn read_text<S: Source>(alloc: Global, source: &mut S) -> Result<Vec<u8>, TinkError>
+    ensures text { IfOk result (λ text. Consumes (S.left source.old) (S.left source.new) text.items) }
+    ensures fits { IfOk result (λ text. length text.items ≤ 2 ^ 26) }
+    ensures end { OnOk result (IsAtEnd (S.left source.new)) }
+    ensures refused { IfErr result (λ e. IsUnread (S.left source.old) e.kind (S.faults source.old) (S.faults source.new)) }
+    ensures taken { LosesAtMost (2 ^ 26 + 1) (S.left source.old) (S.left source.new) }
+    ensures later { S.faults source.old ≤ S.faults source.new }
+    ensures same { S.same source.old source.new }
+{
+    let mut piece = [0u8; PIECE];
+    let mut text = Vec::new(alloc);
+    'pieces: while text.len() <= MAX_TEXT {
+        let room = (MAX_TEXT + 1 - text.len()).min(PIECE);
+        let count = read_piece(source, &mut piece[..room], &mut text)?;
+        if count == 0 {
+            return Ok(text);
+        }
+    }
+    Err(TinkError::new(Kind::KeysetTooLong))
+}
+
+// The message of the text that the source has left.
+pub fn read_as<F: Format<M>, M: Drop, S: Source>(
+    alloc: Global,
+    source: &mut S,
+) -> Result<M, TinkError>
+    ensures answer { Gives result (told F.refusal F.message (S.left source.old)) (S.faults source.old) (S.faults source.new) }
+    ensures end { OnOk result (IsAtEnd (S.left source.new)) }
+    ensures taken { LosesAtMost (2 ^ 26 + 1) (S.left source.old) (S.left source.new) }
+    ensures count { S.faults source.old ≤ S.faults source.new }
+    ensures same { S.same source.old source.new }
+{
+    let text = read_text(alloc, source)?;
+    F::decode(alloc, &text)
+}
+
+// Writes a text of the message, all of it.
+pub fn write_as<F: Format<M>, M, K: Sink>(
+    alloc: Global,
+    sink: &mut K,
+    message: &M,
+) -> Result<(), TinkError>
+    ensures answer { Gives result (Some (Ok tt)) (K.faults sink.old) (K.faults sink.new) }
+    ensures written { OnOk result (AppendsText (F.spells message.now) (K.got sink.old) (K.got sink.new)) }
+    ensures front { IfErr result (λ e. IsPartOf (F.spells message.now) e.kind (K.got sink.old) (K.got sink.new)) }
+    ensures count { K.faults sink.old ≤ K.faults sink.new }
+    ensures same { K.same sink.old sink.new }
+{
+    let text = F::encode(alloc, message)?;
+    write_all(sink, text.as_slice())
+}

@@ -1,0 +1,53 @@
+-- What is written into memory under a master key and read again.
+use Rattle.std.proofs.Common.{◌≡◌, inl, inr, ◌∙◌, ℕ, List, Some, Result, Ok, Err, refl, sym, ap, subst, arith, ok_or, cond}
+use Rattle.wire_format.specs.Message.{decoded}
+use Rattle.tink_io.specs.Told.{Answers}
+use Rattle.tink_io.specs.declared.error.Kind.{Kind}
+use Rattle.tink_io.specs.declared.error.Kind.TheVariants.{BadKeyset, InvalidKeyset, OutOfMemory, ReadFault, WriteFault}
+use Rattle.tink_io.specs.declared.error.TinkError.{TinkError}
+use Rattle.tink_proto.specs.Messages.{keyset}
+use Rattle.tink_proto.specs.declared.messages.infos.EncryptedKeyset.{EncryptedKeyset}
+use Rattle.tink_proto.specs.declared.messages.keys.Keyset.{Keyset}
+use Rattle.keyset_model.specs.Validity.{IsHeld}
+use Rattle.tink_keysets.specs.declared.keyset.memory.MemReaderWriter.{MemReaderWriter}
+use Rattle.tink_keysets.specs.Built.{made_of}
+use Rattle.tink_keysets.specs.Encrypted.{by_master, chained, decrypted, handle_of_bytes, with_info, Undoes}
+use Rattle.tink_keysets.specs.Ends.{held_or, IsRefusal}
+use Rattle.tink_keysets.specs.Handles.{handle_of}
+use Rattle.tink_keysets.specs.Through.{GivesBy, IsTaken}
+
+-- where a value is told and no fault can be, there is no refusal but want of memory
+only_memory : {T : Type 0} (v : T) (kind : Kind) → IsRefusal (Some (Ok v)) kind 0 0 → kind ≡ OutOfMemory
+only_memory v OutOfMemory h = refl
+only_memory v ReadFault h = absurd (omega (arith, h))
+only_memory v WriteFault h = absurd (omega (arith, h))
+only_memory v kind h = absurd (cc)
+
+-- what memory gives is answered by
+reads_held : {S T : Type 0} (makes : S → Result T Kind) (result : Result T TinkError) (v : S) → GivesBy makes result (Some (Ok v)) 0 0 → Answers result (makes v)
+reads_held makes (Ok made) v from = ap (chained makes) from.is_read ∙ from.made
+reads_held makes (Err e) v (inl refused) = inl (only_memory v e.kind refused)
+reads_held makes (Err e) v (inr from) = inr (ap (chained makes) from.is_read ∙ from.made)
+
+abbrev Written : Result EncryptedKeyset Kind → MemReaderWriter → MemReaderWriter → Type 0
+Written made old new = IsTaken (λ _ _. Some (Ok tt)) (λ before ks after. after ≡ record before { encrypted_keyset = Some ks }) made old new
+
+-- what is read is what the master's encryption gives
+pub read_written : (decrypts : List ℕ → List ℕ → Result (List ℕ) Kind) (associated_data : List ℕ) (made : Result EncryptedKeyset Kind) (old new : MemReaderWriter) (result : Result Keyset TinkError)
+    → Written made old new → GivesBy (decrypted decrypts associated_data) result (Some (held_or new.encrypted_keyset)) 0 0 → Answers result (chained (decrypted decrypts associated_data) made)
+read_written decrypts associated_data made old new result taken gives =
+    let there : held_or new.encrypted_keyset ≡ Ok taken.message = ap (λ m. held_or m.encrypted_keyset) taken.written in
+    let from = subst (λ told. GivesBy (decrypted decrypts associated_data) result (Some told) 0 0) there gives in
+    subst (λ m. Answers result (chained (decrypted decrypts associated_data) m)) (sym taken.is_made) (reads_held (decrypted decrypts associated_data) result taken.message from)
+
+-- bytes that spell a keyset that is held are those of a handle
+pub spelled : (ks : Keyset) (bytes : List ℕ) → IsHeld ks → decoded keyset.read bytes ≡ Some ks → handle_of_bytes bytes ≡ Ok ks
+spelled ks bytes held again = ap (λ o. chained handle_of (ok_or o BadKeyset)) again ∙ ap (λ b. cond b (Ok ks) (Err InvalidKeyset)) held
+
+-- under the same data
+pub same_read : (encrypts : List ℕ → List ℕ → List ℕ → Result (List ℕ) Kind × List ℕ) (decrypts : List ℕ → List ℕ → Result (List ℕ) Kind) (ks : Keyset) (text written read draws : List ℕ) (r : Result (List ℕ) Kind)
+    → (encrypts text written draws).0 ≡ r → handle_of_bytes text ≡ Ok ks → Undoes encrypts decrypts → read ≡ written
+    → chained (decrypted decrypts read) (made_of (with_info ks) (by_master r)) ≡ made_of (λ _. ks) (by_master r)
+same_read encrypts decrypts ks text written read draws (Ok ciphertext) is again undoes same =
+    ap (λ b. chained handle_of_bytes (by_master b)) (ap (decrypts ciphertext) same ∙ undoes text written draws ciphertext is) ∙ again
+same_read encrypts decrypts ks text written read draws (Err kind) is again undoes same = refl

@@ -1,0 +1,50 @@
+-- Keysets under a master key: what is written of a keyset, and which keyset is read from it.
+use Rattle.std.specs.Prelude.{◌≡◌, ℕ, List, Some, Result, Ok, Err, ok_or}
+use Rattle.wire_format.specs.Message.{decoded, encoded}
+use Rattle.tink_io.specs.declared.error.Kind.{Kind}
+use Rattle.tink_io.specs.declared.error.Kind.TheVariants.{BadKeyset, MasterFailed, OutOfMemory}
+use Rattle.tink_proto.specs.Messages.{keyset}
+use Rattle.tink_proto.specs.declared.messages.infos.EncryptedKeyset.{EncryptedKeyset}
+use Rattle.tink_proto.specs.declared.messages.keys.Keyset.{Keyset}
+use Rattle.keyset_model.specs.Secrets.{keyset_info}
+use Rattle.tink_keysets.specs.Built.{made_of}
+use Rattle.tink_keysets.specs.Handles.{handle_of}
+
+-- what a master answers: each kind that it refuses by is `MasterFailed`
+abbrev pub by_master : {T : Type 0} → Result T Kind → Result T Kind
+by_master (Ok v) = Ok v
+by_master (Err kind) = Err MasterFailed
+
+-- how a call is refused of which a master's is a part: want of memory stays
+abbrev pub master_kind : Kind → Kind
+master_kind OutOfMemory = OutOfMemory
+master_kind kind = MasterFailed
+
+-- what is made of a value, or its refusal
+abbrev pub chained : {S T : Type 0} → (S → Result T Kind) → Result S Kind → Result T Kind
+chained makes (Ok v) = makes v
+chained makes (Err kind) = Err kind
+
+-- a handle of the keyset that bytes spell
+abbrev pub handle_of_bytes : List ℕ → Result Keyset Kind
+handle_of_bytes bytes = chained handle_of (ok_or (decoded keyset.read bytes) BadKeyset)
+
+-- a handle of an encrypted keyset, by what the master decrypts
+abbrev pub decrypted : (List ℕ → List ℕ → Result (List ℕ) Kind) → List ℕ → EncryptedKeyset → Result Keyset Kind
+decrypted decrypts associated_data e = chained handle_of_bytes (by_master (decrypts e.encrypted_keyset associated_data))
+
+-- a ciphertext, beside what may be shown of the keyset
+abbrev pub with_info : Keyset → List ℕ → EncryptedKeyset
+with_info ks ciphertext = record { encrypted_keyset = ciphertext; keyset_info = Some (keyset_info ks) }
+
+-- an encrypted keyset, by what the master encrypts, and the draws that are left
+abbrev pub encrypted : (List ℕ → List ℕ → List ℕ → Result (List ℕ) Kind × List ℕ) → List ℕ → List ℕ → Keyset → Result EncryptedKeyset Kind × List ℕ
+encrypted encrypts associated_data draws ks =
+    let made = encrypts (encoded keyset.write ks) associated_data draws in
+    (made_of (with_info ks) (by_master made.0), made.1)
+
+-- decryption undoes encryption
+abbrev pub Undoes : (List ℕ → List ℕ → List ℕ → Result (List ℕ) Kind × List ℕ) → (List ℕ → List ℕ → Result (List ℕ) Kind) → Type 0
+Undoes encrypts decrypts =
+    (text associated_data draws ciphertext : List ℕ) → (encrypts text associated_data draws).0 ≡ Ok ciphertext
+    → decrypts ciphertext associated_data ≡ Ok text

@@ -1,0 +1,206 @@
+//! Keysets that are read and written under a master key.
+
+ghost use Rattle.std.specs.Prelude.{◌≡◌, ◌≤◌, [], Ok, OnOk, IfOk, IfErr};
+ghost use Rattle.wire_format.specs.Message.{encoded};
+ghost use Rattle.tink_io.specs.Told.{Answers, Replies};
+ghost use Rattle.tink_io.specs.declared.error.Kind.TheVariants.{OutOfMemory};
+ghost use Rattle.tink_proto.specs.Messages.{keyset};
+ghost use Rattle.tink_keysets.specs.Encrypted.{by_master, decrypted, encrypted, handle_of_bytes, master_kind};
+ghost use Rattle.tink_keysets.specs.Through.{GivesBy, Leaves, Writes};
+
+use crate::keyset::{Handle, Reader, Writer};
+use std::alloc::Global;
+use tink_io::{Draws, Kind, TinkError};
+use tink_primitives::Aead;
+use tink_proto::{Bytes, EncryptedKeyset, Keyset, Message, ProtoError};
+
+impl Handle {
+    /// A handle of the encrypted keyset that is read, which `master` decrypts with empty associated data.
+    ///
+    /// # Errors
+    /// As `read_with_associated_data`.
+    pub fn read<R: Reader, A: Aead>(
+        alloc: Global,
+        reader: &mut R,
+        master: &A,
+    ) -> Result<Handle, TinkError>
+        ensures answer { GivesBy (decrypted (A.decrypts master.now) []) result (R.reads_encrypted reader.old) (R.faults reader.old) (R.faults reader.new) }
+        ensures count { R.faults reader.old ≤ R.faults reader.new }
+    {
+        Handle::read_with_associated_data(alloc, reader, master, &[])
+    }
+
+    /// A handle of the encrypted keyset that is read, which `master` decrypts with the associated data.
+    ///
+    /// # Errors
+    /// The reader's; then `MasterFailed` exactly where the master refuses; then `BadKeyset` exactly where what it
+    /// gives isn't a keyset in the wire format; then `InvalidKeyset` exactly where a key that isn't destroyed has no
+    /// data, or data has a material outside 0 to 4. `OutOfMemory` may come in place of each.
+    pub fn read_with_associated_data<R: Reader, A: Aead>(
+        alloc: Global,
+        reader: &mut R,
+        master: &A,
+        associated_data: &[u8],
+    ) -> Result<Handle, TinkError>
+        ensures answer { GivesBy (decrypted (A.decrypts master.now) associated_data.now) result (R.reads_encrypted reader.old) (R.faults reader.old) (R.faults reader.new) }
+        ensures count { R.faults reader.old ≤ R.faults reader.new }
+    {
+        let encrypted = reader.read_encrypted(alloc)?;
+        decrypt(alloc, &encrypted, master, associated_data)
+    }
+
+    /// Writes the keyset, encrypted by `master` with empty associated data.
+    ///
+    /// # Errors
+    /// As `write_with_associated_data`.
+    pub fn write<W: Writer, A: Aead>(
+        &self,
+        alloc: Global,
+        writer: &mut W,
+        master: &A,
+        draws: &mut Draws,
+    ) -> Result<(), TinkError>
+        ensures answer { Writes W.answers_encrypted W.writes_encrypted W.faults result (encrypted (A.encrypts master.now) [] draws.old self.now).0 writer.old writer.new }
+        ensures rest { Leaves result (encrypted (A.encrypts master.now) [] draws.old self.now).1 draws.old draws.new }
+        ensures count { W.faults writer.old ≤ W.faults writer.new }
+
+        // The bytes that were encrypted are those of a handle, which is this one.
+        ensures again { OnOk result (handle_of_bytes (encoded keyset.write self.now) ≡ Ok self.now) }
+    {
+        self.write_with_associated_data(alloc, writer, master, &[], draws)
+    }
+
+    /// Writes the bytes of the keyset, encrypted by `master` with the associated data, and what may be shown of it as
+    /// `keyset_info` tells it.
+    ///
+    /// # Errors
+    /// `MasterFailed` exactly where the master refuses, and then the writer is as before; then the writer's, to which
+    /// the encrypted keyset alone was given. `OutOfMemory` may come in place of each.
+    pub fn write_with_associated_data<W: Writer, A: Aead>(
+        &self,
+        alloc: Global,
+        writer: &mut W,
+        master: &A,
+        associated_data: &[u8],
+        draws: &mut Draws,
+    ) -> Result<(), TinkError>
+        ensures answer { Writes W.answers_encrypted W.writes_encrypted W.faults result (encrypted (A.encrypts master.now) associated_data.now draws.old self.now).0 writer.old writer.new }
+        ensures rest { Leaves result (encrypted (A.encrypts master.now) associated_data.now draws.old self.now).1 draws.old draws.new }
+        ensures count { W.faults writer.old ≤ W.faults writer.new }
+
+        // The bytes that were encrypted are those of a handle, which is this one.
+        ensures again { OnOk result (handle_of_bytes (encoded keyset.write self.now) ≡ Ok self.now) }
+    {
+        let encrypted = encrypt(alloc, self, master, associated_data, draws)?;
+        writer.write_encrypted(alloc, &encrypted)
+    }
+}
+
+// Want of memory stays, and each other refusal of a master is `MasterFailed`.
+fn refused_by_master(e: TinkError) -> TinkError
+    ensures { result.kind ≡ master_kind e.kind }
+{
+    match e.kind {
+        Kind::OutOfMemory => e,
+        _ => TinkError::new(Kind::MasterFailed),
+    }
+}
+
+// What a master decrypts.
+fn decrypted_bytes<A: Aead>(
+    alloc: Global,
+    ciphertext: &[u8],
+    master: &A,
+    associated_data: &[u8],
+) -> Result<Bytes, TinkError>
+    ensures { Answers result (by_master (A.decrypts master.now ciphertext.now associated_data.now)) }
+{
+    match master.decrypt(alloc, ciphertext, associated_data) {
+        Ok(bytes) => Ok(bytes),
+        Err(e) => Err(refused_by_master(e)),
+    }
+}
+
+// What a master encrypts.
+fn encrypted_bytes<A: Aead>(
+    alloc: Global,
+    bytes: &[u8],
+    master: &A,
+    associated_data: &[u8],
+    draws: &mut Draws,
+) -> Result<Bytes, TinkError>
+    ensures { Replies result (by_master (A.encrypts master.now bytes.now associated_data.now draws.old).0, (A.encrypts master.now bytes.now associated_data.now draws.old).1) draws.old draws.new }
+{
+    match master.encrypt(alloc, bytes, associated_data, draws) {
+        Ok(ciphertext) => Ok(ciphertext),
+        Err(e) => Err(refused_by_master(e)),
+    }
+}
+
+// A handle of the keyset that the bytes spell.
+fn handle_of_bytes(alloc: Global, bytes: &[u8]) -> Result<Handle, TinkError>
+    ensures { Answers result (handle_of_bytes bytes.now) }
+{
+    match Keyset::decode(alloc, bytes) {
+        Ok(ks) => Handle::from_keyset(ks),
+        Err(ProtoError::OutOfMemory) => Err(TinkError::new(Kind::OutOfMemory)),
+        Err(_) => Err(TinkError::new(Kind::BadKeyset)),
+    }
+}
+
+// The bytes of a handle's keyset. Its error is `OutOfMemory` alone.
+#[tactic(auto, using(crate::proofs::ReadBack::spelled))]
+fn bytes_of(alloc: Global, h: &Handle) -> Result<Bytes, TinkError>
+    ensures bytes { IfOk result (λ b. b ≡ encoded keyset.write h.now) }
+    ensures again { OnOk result (handle_of_bytes (encoded keyset.write h.now) ≡ Ok h.now) }
+    ensures err { IfErr result (λ e. e ≡ record { kind = OutOfMemory }) }
+{
+    match h.keyset().encode(alloc) {
+        Ok(bytes) => Ok(bytes),
+        Err(_) => Err(TinkError::new(Kind::OutOfMemory)),
+    }
+}
+
+// The handle of an encrypted keyset.
+fn decrypt<A: Aead>(
+    alloc: Global,
+    encrypted: &EncryptedKeyset,
+    master: &A,
+    associated_data: &[u8],
+) -> Result<Handle, TinkError>
+    ensures { Answers result (decrypted (A.decrypts master.now) associated_data.now encrypted.now) }
+{
+    let bytes = decrypted_bytes(
+        alloc,
+        encrypted.encrypted_keyset.as_slice(),
+        master,
+        associated_data,
+    )?;
+    handle_of_bytes(alloc, bytes.as_slice())
+}
+
+// The encrypted keyset of a handle. Draws are taken last.
+fn encrypt<A: Aead>(
+    alloc: Global,
+    h: &Handle,
+    master: &A,
+    associated_data: &[u8],
+    draws: &mut Draws,
+) -> Result<EncryptedKeyset, TinkError>
+    ensures replies { Replies result (encrypted (A.encrypts master.now) associated_data.now draws.old h.now) draws.old draws.new }
+    ensures again { OnOk result (handle_of_bytes (encoded keyset.write h.now) ≡ Ok h.now) }
+{
+    let keyset_info = h.keyset_info(alloc)?;
+    let bytes = bytes_of(alloc, h)?;
+    let encrypted_keyset = encrypted_bytes(
+        alloc,
+        bytes.as_slice(),
+        master,
+        associated_data,
+        draws,
+    )?;
+    Ok(EncryptedKeyset {
+        encrypted_keyset,
+        keyset_info: Some(keyset_info),
+    })
+}

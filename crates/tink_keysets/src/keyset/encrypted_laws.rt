@@ -1,0 +1,37 @@
+//! What holds of a keyset that is written under a master key and read again.
+
+ghost use Rattle.std.specs.Prelude.{◌≡◌, ℕ, List, Ok, Err};
+ghost use Rattle.wire_format.specs.Message.{encoded};
+ghost use Rattle.tink_io.specs.declared.error.Kind.{Kind};
+ghost use Rattle.tink_io.specs.declared.error.Kind.TheVariants.{MasterFailed};
+ghost use Rattle.tink_io.specs.Told.{Answers};
+ghost use Rattle.tink_proto.specs.Messages.{keyset};
+ghost use Rattle.tink_keysets.specs.Built.{made_of};
+ghost use Rattle.tink_keysets.specs.Encrypted.{by_master, Undoes};
+
+use crate::keyset::{Handle, MemReaderWriter};
+use std::alloc::Global;
+use tink_io::{Draws, TinkError};
+use tink_primitives::Aead;
+
+/// Writes a keyset into memory under the associated data `written`, and reads it under `read`.
+///
+/// Under the same data the same keyset is read, where the master's decryption undoes its encryption. Under data for
+/// which the master refuses what it encrypted, the answer is `MasterFailed`.
+pub fn law_written_is_read<A: Aead>(
+    alloc: Global,
+    h: &Handle,
+    master: &A,
+    written: &[u8],
+    read: &[u8],
+    draws: &mut Draws,
+) -> Result<Handle, TinkError>
+    ensures same { Undoes (A.encrypts master.now) (A.decrypts master.now) → read.now ≡ written.now
+        → Answers result (made_of (λ _. h.now) (by_master (A.encrypts master.now (encoded keyset.write h.now) written.now draws.old).0)) }
+    ensures other { (ciphertext : List ℕ) (kind : Kind) → (A.encrypts master.now (encoded keyset.write h.now) written.now draws.old).0 ≡ Ok ciphertext
+        → A.decrypts master.now ciphertext read.now ≡ Err kind → Answers result (Err MasterFailed) }
+{
+    let mut memory = MemReaderWriter::default();
+    h.write_with_associated_data(alloc, &mut memory, master, written, draws)?;
+    Handle::read_with_associated_data(alloc, &mut memory, master, read)
+}

@@ -1,0 +1,46 @@
+//! Keysets that are read and written as they are.
+
+ghost use Rattle.std.specs.Prelude.{◌≤◌};
+ghost use Rattle.tink_keysets.specs.Handles.{handle_without_secrets, without_secrets};
+ghost use Rattle.tink_keysets.specs.Through.{GivesBy, Writes};
+
+use crate::keyset::validation::have_secrets;
+use crate::keyset::{Handle, Reader, Writer};
+use std::alloc::Global;
+use tink_io::{Kind, TinkError};
+
+impl Handle {
+    /// A handle of the keyset that is read, which must be without secrets.
+    ///
+    /// # Errors
+    /// The reader's; then `InvalidKeyset` and `HasSecrets` as `new_with_no_secrets`.
+    pub fn read_with_no_secrets<R: Reader>(
+        alloc: Global,
+        reader: &mut R,
+    ) -> Result<Handle, TinkError>
+        ensures answer { GivesBy handle_without_secrets result (R.reads reader.old) (R.faults reader.old) (R.faults reader.new) }
+        ensures count { R.faults reader.old ≤ R.faults reader.new }
+    {
+        let ks = reader.read(alloc)?;
+        Handle::new_with_no_secrets(ks)
+    }
+
+    /// Writes the keyset, which must be without secrets.
+    ///
+    /// # Errors
+    /// `HasSecrets` exactly where some data has material 0, 1 or 2, and then the writer is as before; then the
+    /// writer's.
+    pub fn write_with_no_secrets<W: Writer>(
+        &self,
+        alloc: Global,
+        writer: &mut W,
+    ) -> Result<(), TinkError>
+        ensures answer { Writes W.answers W.writes W.faults result (without_secrets self.now) writer.old writer.new }
+        ensures count { W.faults writer.old ≤ W.faults writer.new }
+    {
+        if have_secrets(self.keys()) {
+            return Err(TinkError::new(Kind::HasSecrets));
+        }
+        writer.write(alloc, self.keyset())
+    }
+}

@@ -1,0 +1,2 @@
+pub mod RotationFacts
+pub mod TagFacts

@@ -1,0 +1,9 @@
+pub mod KeyTypeLaws
+pub mod KeyTypes
+pub mod MacKinds
+pub mod Rotation
+pub mod TagLaws
+pub mod Tags
+pub mod Templates
+pub mod Wrapped
+pub mod WrappedLaws

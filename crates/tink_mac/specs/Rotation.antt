@@ -1,0 +1,41 @@
+-- MACs that were made before a keyset was edited.
+use Rattle.std.specs.Prelude.{◌≡◌, ◌<◌, ℕ, List, Bool, None, Result, Ok, Err, length}
+use Rattle.std.specs.List.{Contains}
+use Rattle.tink_io.specs.declared.error.Kind.{Kind}
+use Rattle.tink_proto.specs.declared.messages.keys.Key.{Key}
+use Rattle.tink_proto.specs.declared.messages.keys.Keyset.{Keyset}
+use Rattle.tink_primitives.specs.Sorts.{as_mac}
+use Rattle.tink_primitives.specs.declared.primitive.Primitive.{Primitive}
+use Rattle.tink_sets.specs.Entries.{entry_of, typed_by}
+use Rattle.tink_sets.specs.declared.entry.Entry.{Entry}
+use Rattle.tink_sets.specs.declared.entry.TypedEntry.{TypedEntry}
+use Rattle.keyset_model.specs.Keys.{enabled}
+use Rattle.tink_keysets.specs.Built.{built_entries, built_entry}
+use Rattle.tink_factory.specs.Accepting.{entries_of}
+use Rattle.tink_factory.specs.Typing.{typed_entries}
+use Rattle.tink_mac.specs.Wrapped.{any_verifies, covered, entry_mac}
+
+-- An entry computes this MAC of a message, its primitive accepts its own tag of it, and the MAC has more than five bytes.
+pub record IsMacBy {P : Type 0} (computes : P → List ℕ → Result (List ℕ) Kind) (verifies : P → List ℕ → List ℕ → Result (Unit {0}) Kind) (e : TypedEntry P) (message mac : List ℕ) : Type 0 where
+  pub made : entry_mac computes e message ≡ Ok mac
+  pub own : (tag : List ℕ) → computes e.primitive (covered e.prefix_type message) ≡ Ok tag → verifies e.primitive tag (covered e.prefix_type message) ≡ Ok tt
+  pub long : 5 < length mac
+
+module _ {M K A D HD HE P F S St V : Type 0} (url : M → List ℕ) (supports : M → List ℕ → Bool) (builds : M → List ℕ → Result (Primitive K A D HD HE P F S St V) Kind) where
+  -- the entry that a key's data builds, as one of a MAC
+  abbrev pub as_mac_entry : Result (Entry K A D HD HE P F S St V) Kind → Result (TypedEntry P) Kind
+  as_mac_entry (Ok e) = typed_by as_mac e
+  as_mac_entry (Err k) = Err k
+
+  abbrev pub mac_entry : List M → Key → Result (TypedEntry P) Kind
+  mac_entry managers k = as_mac_entry (built_entry url supports builds entry_of managers None k)
+
+  abbrev pub mac_entries : List M → Keyset → Result (List (TypedEntry P)) Kind
+  mac_entries managers ks = typed_entries as_mac ks.primary_key_id (built_entries url supports builds entry_of managers None ks)
+
+  -- What a key's entry made is accepted by the entries of every keyset in which the key is enabled.
+  abbrev pub OldMacsVerify : (P → List ℕ → Result (List ℕ) Kind) → (P → List ℕ → List ℕ → Result (Unit {0}) Kind) → Type 0
+  OldMacsVerify computes verifies =
+      (managers : List M) (ks : Keyset) (k : Key) (e : TypedEntry P) (es : List (TypedEntry P)) (message mac : List ℕ)
+      → mac_entry managers k ≡ Ok e → Contains (enabled ks) k → mac_entries managers ks ≡ Ok es
+      → IsMacBy computes verifies e message mac → any_verifies verifies (entries_of es) mac message ≡ Ok tt

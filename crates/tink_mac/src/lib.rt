@@ -1,0 +1,33 @@
+//! Message authentication: HMAC, AES-CMAC, and the MACs of a keyset as one.
+#![tactic(auto)]
+
+pub use aes_cmac_key_manager::{AesCmacKeyManager, AesCmacKeys, CMAC_KEY_VERSION, CMAC_TYPE_URL};
+pub use factory::{WrappedMac, new};
+pub use hmac_key_manager::{
+    HMAC_KEY_VERSION, HMAC_TYPE_URL, HmacKeyManager, HmacKeys, are_hmac_params, hmac_by_params,
+};
+pub use key_templates::{
+    aes_cmac_tag128_key_template, hmac_sha256_tag128_key_template, hmac_sha256_tag256_key_template,
+    hmac_sha512_tag256_key_template, hmac_sha512_tag512_key_template,
+};
+pub use laws::{law_old_macs_verify, law_own_tags_accepted};
+pub use mac_kind::{MacKind, MacKinds};
+pub use registering::init;
+pub use tink_primitives::UPSTREAM_VERSION;
+
+mod aes_cmac_key_manager;
+mod factory;
+mod hmac_key_manager;
+mod key_templates;
+#[cfg(test)]
+mod key_tests;
+mod laws;
+mod mac_kind;
+#[cfg(test)]
+mod named;
+mod registering;
+pub mod subtle;
+#[cfg(test)]
+mod tests;
+#[cfg(test)]
+mod wrapped_tests;

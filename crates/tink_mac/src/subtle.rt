@@ -1,0 +1,23 @@
+//! The MACs, each under a key.
+
+ghost use Rattle.tink_keysets.specs.Told.{Tells};
+ghost use Rattle.tink_mac.specs.Tags.{own_tag};
+
+mod aes_cmac;
+mod hmac;
+
+pub use aes_cmac::{AesCmac, validate_cmac_params};
+pub use hmac::{Hmac, validate_hmac_params};
+use tink_core::subtle::constant_time_compare;
+use tink_core::{Kind, TinkError};
+
+// Ok where a tag is the message's own, and else `MacMismatch`. Tags of one size are compared to their end.
+fn compare_tags(own: &[u8], tag: &[u8]) -> Result<(), TinkError>
+    ensures { Tells result (own_tag own.now tag.now) }
+{
+    if constant_time_compare(own, tag) {
+        Ok(())
+    } else {
+        Err(TinkError::new(Kind::MacMismatch))
+    }
+}

@@ -1,0 +1,3 @@
+pub mod Collected
+pub mod RawEntries
+pub mod SetSteps

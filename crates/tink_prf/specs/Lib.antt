@@ -1,0 +1,10 @@
+pub mod AesCmac
+pub mod AesVariants
+pub mod Hkdf
+pub mod Hmac
+pub mod KeyTypes
+pub mod PrfKinds
+pub mod Registering
+pub mod Sets
+pub mod Templates
+pub mod TestKeys

@@ -1,0 +1,42 @@
+-- What the key manager of the tests builds: a key that begins with 0 is a verifier, and another one is of HMAC.
+use Rattle.std.specs.Prelude.{◌≡◌, ⊤, ℕ, List, [], ◌∷◌, Bool, true, false, nat_eq, if◌then◌else◌, Result, Ok, Err}
+use Rattle.std.proofs.Common.{subst}
+use Rattle.std.proofs.lemmas.Bool.{false≢true}
+use Rattle.tink_io.specs.declared.error.Kind.{Kind}
+use Rattle.tink_io.specs.declared.error.Kind.TheVariants.{InvalidFormat, NoPrivateKeys}
+use Rattle.tink_proto.specs.declared.messages.keys.KeyData.{KeyData}
+use Rattle.tink_primitives.specs.Meaning.{IsDrawn, IsTold}
+use Rattle.tink_primitives.specs.MeaningLaws.{told_if, drawn_none}
+use Rattle.tink_registry.specs.Known.{IsOfKnownMaterial}
+
+abbrev pub begins_with_0 : List ℕ → Bool
+begins_with_0 [] = false
+begins_with_0 (x ∷ _) = nat_eq x 0
+
+abbrev pub built : {P : Type 0} → P → P → List ℕ → Result P Kind
+built verifier prf key = if begins_with_0 key then Ok verifier else Ok prf
+
+-- no key is made, and none has a public part
+abbrev pub none_made : {T : Type 0} → List ℕ → Result T Kind × List ℕ
+none_made draws = (Err InvalidFormat, draws)
+
+abbrev pub no_public : Result KeyData Kind
+no_public = Err NoPrivateKeys
+
+-- ---- the laws of a manager
+
+pub built_told : {P : Type 0} (verifier prf : P) (key : List ℕ) → IsTold (built verifier prf key)
+built_told verifier prf key = told_if (begins_with_0 key) (Ok verifier) (Ok prf) tt tt
+
+pub none_drawn : {T : Type 0} (draws : List ℕ) → IsDrawn draws (none_made {T = T} draws)
+none_drawn draws = drawn_none draws (Err InvalidFormat) tt
+
+abbrev IsKnown : Result KeyData Kind → Type 0
+IsKnown (Ok d) = IsOfKnownMaterial d
+IsKnown (Err _) = ⊤
+
+pub none_known : (d : KeyData) (k : Kind) → Err k ≡ Ok d → IsOfKnownMaterial d
+none_known d k e = subst IsKnown e tt
+
+pub never : false ≡ true → ⊥
+never e = false≢true e

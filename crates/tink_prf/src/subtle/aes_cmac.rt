@@ -1,0 +1,143 @@
+//! A pseudorandom function by CMAC (SP 800-38B) over AES (FIPS 197).
+
+ghost use Rattle.std.specs.Prelude.{◌≡◌, false, length, MatchOption, MatchResult};
+ghost use Rattle.tink_keysets.specs.Told.{Tells};
+ghost use Rattle.tink_prf.specs.AesCmac.{aes_cmac_key, aes_cmac_output, aes_cmac_output_told, aes_cmac_params, cmac_of, is_aes_key_size};
+ghost use Rattle.tink_prf.specs.AesVariants.{IsKeyed, IsSized, key_of};
+
+use aes_block::{Aes128, Aes192, Aes256};
+use cipher::KeyInit;
+use hash_keys::cmac_into;
+use std::alloc::{AllocError, Global};
+use std::marker::Model;
+use tink_core::{CloneIn, Kind, Prf, TinkError};
+use tink_proto::Bytes;
+
+const RECOMMENDED_KEY_SIZE: usize = 32;
+
+const AES_BLOCK_SIZE_IN_BYTES: usize = 16;
+
+// AES under a key of each size.
+#[derive(Drop)]
+enum AesVariant {
+    Aes128(Aes128),
+    Aes192(Aes192),
+    Aes256(Aes256),
+}
+
+impl AesVariant {
+    // The cipher under a key, where there is one with keys of its size.
+    fn new(key: &[u8]) -> Option<AesVariant>
+        ensures { MatchOption result (is_aes_key_size (length key.now) ≡ false) (λ cipher. IsKeyed cipher key.now) }
+    {
+        if let Ok(cipher) = Aes128::new_from_slice(key) {
+            return Some(AesVariant::Aes128(cipher));
+        }
+        if let Ok(cipher) = Aes192::new_from_slice(key) {
+            return Some(AesVariant::Aes192(cipher));
+        }
+        match Aes256::new_from_slice(key) {
+            Ok(cipher) => Some(AesVariant::Aes256(cipher)),
+            Err(_) => None,
+        }
+    }
+
+    // The CMAC of a text.
+    fn cmac(&self, text: &[u8]) -> [u8; 16]
+        requires { IsSized self.now }
+        ensures { result ≡ cmac_of (key_of self.now) text.now }
+    {
+        let mut out = [0u8; 16];
+        match self {
+            AesVariant::Aes128(cipher) => cmac_into(cipher, text, &mut out),
+            AesVariant::Aes192(cipher) => cmac_into(cipher, text, &mut out),
+            AesVariant::Aes256(cipher) => cmac_into(cipher, text, &mut out),
+        }
+        out
+    }
+
+    fn clone(&self) -> Result<AesVariant, AllocError>
+        ensures { MatchResult result (λ copy. copy ≡ self.now) (λ _. ⊥) }
+    {
+        Ok(match self {
+            AesVariant::Aes128(cipher) => AesVariant::Aes128(cipher.clone()?),
+            AesVariant::Aes192(cipher) => AesVariant::Aes192(cipher.clone()?),
+            AesVariant::Aes256(cipher) => AesVariant::Aes256(cipher.clone()?),
+        })
+    }
+}
+
+/// AES-CMAC under a key of 16, 24 or 32 bytes, which contracts see as the key. An output is the first bytes of the CMAC
+/// of the input (SP 800-38B, 6.2), at most 16.
+#[derive(Drop)]
+pub struct AesCmacPrf {
+    cipher: AesVariant,
+}
+
+impl Model for AesCmacPrf {
+    ghost use Rattle.std.specs.Prelude.{List, ℕ};
+    ghost use Rattle.tink_prf.specs.AesVariants.{IsSized, key_of};
+
+    ghost Value = { List ℕ };
+
+    ghost view = { λ prf. key_of prf.cipher };
+
+    ghost invariant = { λ prf. IsSized prf.cipher };
+}
+
+impl AesCmacPrf {
+    /// AES-CMAC under a key. No memory is needed.
+    ///
+    /// # Errors
+    /// `BadKeySize` exactly where the key has not 16, 24 or 32 bytes.
+    pub fn new(_alloc: Global, key: &[u8]) -> Result<AesCmacPrf, TinkError>
+        ensures { Tells result (aes_cmac_key key.now) }
+    {
+        match AesVariant::new(key) {
+            Some(cipher) => Ok(AesCmacPrf { cipher }),
+            None => Err(TinkError::new(Kind::BadKeySize)),
+        }
+    }
+}
+
+/// Whether a key has the size that Tink makes AES-CMAC keys of.
+///
+/// # Errors
+/// `BadKeySize` exactly where the size is not 32 bytes.
+pub fn validate_aes_cmac_prf_params(key_size: usize) -> Result<(), TinkError>
+    ensures { Tells result (aes_cmac_params key_size) }
+{
+    if key_size != RECOMMENDED_KEY_SIZE {
+        return Err(TinkError::new(Kind::BadKeySize));
+    }
+    Ok(())
+}
+
+impl CloneIn for AesCmacPrf {
+    fn try_clone(&self, _alloc: Global) -> Result<Self, TinkError> {
+        Ok(AesCmacPrf {
+            cipher: self.cipher.clone()?,
+        })
+    }
+}
+
+impl Prf for AesCmacPrf {
+    ghost computes = { aes_cmac_output };
+
+    fn compute_prf(
+        &self,
+        alloc: Global,
+        input: &[u8],
+        output_length: usize,
+    ) -> Result<Bytes, TinkError> {
+        if output_length > AES_BLOCK_SIZE_IN_BYTES {
+            return Err(TinkError::new(Kind::OutputTooLong));
+        }
+        let mut out = vec![in alloc; 0u8; output_length]?;
+        let code = self.cipher.cmac(input);
+        out.copy_from_slice(&code[..output_length]);
+        Ok(Bytes::from_vec(out))
+    }
+
+    ghost computes_told = { aes_cmac_output_told };
+}
