@@ -1,15 +1,15 @@
 //! Keysets read from sources and written to sinks, in the wire format and in JSON.
 #![tactic(auto)]
 
-mod binary;
+mod binary_io;
 mod format;
-mod json;
+mod json_io;
 mod text;
 
-pub use binary::{BinaryReader, BinaryWriter};
-pub use json::{JsonReader, JsonWriter};
+pub use binary_io::{BinaryReader, BinaryWriter};
+pub use json_io::{JsonReader, JsonWriter};
 
 #[cfg(test)]
-mod json_tests;
+mod json_io_tests;
 #[cfg(test)]
 mod tests;
