@@ -30,7 +30,7 @@ use Rattle.loading_model.specs.Loading.{Loaded, LoadedKey, AreUsable, load, load
 
 -- a key with these sizes is usable
 sizes_usable : (main : List ℕ) (derived : ℕ) (hkdf_hash tag_hash : Hash) (tag segment : ℕ) → is_streaming (length main) derived tag_hash tag segment ≡ true
-    → IsUsable (record { main = main; hkdf_hash = hkdf_hash; derived = derived; segment = segment; kind = CtrHmac tag_hash tag; out = [] })
+    → IsUsable (record { main = main; hkdf_hash = Some hkdf_hash; derived = derived; segment = segment; offset = 0; kind = CtrHmac tag_hash tag; out = [] })
 sizes_usable main derived hkdf_hash tag_hash tag segment e = record {
   derived = grind (arith, nat_tests);
   tag = (grind (arith, nat_tests), grind (arith, nat_tests));

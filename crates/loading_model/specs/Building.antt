@@ -46,7 +46,7 @@ is_streaming main derived tag_hash tag segment =
 abbrev pub streaming_key : List ℕ → ℕ → Hash → Hash → ℕ → ℕ → Option StreamKey
 streaming_key main derived hkdf_hash tag_hash tag segment =
     if is_streaming (length main) derived tag_hash tag segment
-    then Some (record { main = main; hkdf_hash = hkdf_hash; derived = derived; segment = segment; kind = CtrHmac tag_hash tag; out = [] })
+    then Some (record { main = main; hkdf_hash = Some hkdf_hash; derived = derived; segment = segment; offset = 0; kind = CtrHmac tag_hash tag; out = [] })
     else None
 
 -- the streaming key of a message of version 0, which has its parameters and those of its HMAC

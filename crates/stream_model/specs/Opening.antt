@@ -3,12 +3,13 @@ use Rattle.std.specs.Prelude.{◌≡◌, ◌⊎◌, ℕ, ◌+◌, ◌-◌, ◌^�
 use Rattle.std.specs.declared.option.Option.{Option}
 use Rattle.stream_model.specs.Cut.{cut}
 use Rattle.stream_model.specs.Agree.{AreTexts, Agree}
-use Rattle.stream_model.specs.Key.{StreamKey, header_length, overhead, keys_of, segment_at}
+use Rattle.stream_model.specs.Key.{StreamKey, header_length, first_segment, overhead, keys_of, segment_at}
 
--- a key as opening sees it, under its associated data: the length of its header, its segment's size and overhead,
--- and its segments under a header, where keys are derived from it
+-- a key as opening sees it, under its associated data: the length of its header, the sizes of the first segment and of
+-- each later one, their overhead, and its segments under a header, where keys are derived from it
 pub record OpeningKey : Type 0 where
   pub header : ℕ
+  pub first : ℕ
   pub size : ℕ
   pub overhead : ℕ
   pub seg : List ℕ → Option (ℕ → Bool → List ℕ → List ℕ)
@@ -21,6 +22,7 @@ under (Some keys) seg = Some (seg keys)
 abbrev pub opening_key : List ℕ → StreamKey → OpeningKey
 opening_key aad k = record {
   header = header_length k;
+  first = first_segment k;
   size = k.segment;
   overhead = overhead k;
   seg = λ H. under (keys_of k aad (take k.derived (drop 1 H))) (λ keys. segment_at k keys (drop (k.derived + 1) H));
@@ -33,7 +35,7 @@ pub record HasHeader (k : OpeningKey) (S : List ℕ) : Type 0 where
 
 -- the chunks behind the header
 abbrev pub chunks_of : OpeningKey → List ℕ → List (List ℕ)
-chunks_of k S = cut (k.size - k.header) k.size (drop k.header S)
+chunks_of k S = cut k.first k.size (drop k.header S)
 
 -- the longest list of texts whose segments are the leading chunks; no text where no keys are derived
 abbrev pub AgreeBy : Option (ℕ → Bool → List ℕ → List ℕ) → List (List ℕ) → List (List ℕ) → Type 0
@@ -71,4 +73,4 @@ AreSegmentsBy (Some seg) a b X texts = AreSegments seg 0 a b X texts
 -- the stream is a header of the key and then the segments of these texts
 pub record IsStream (k : OpeningKey) (S : List ℕ) (texts : List (List ℕ)) : Type 0 where
   pub header : HasHeader k S
-  pub segments : AreSegmentsBy (k.seg (take k.header S)) (k.size - k.header - k.overhead) (k.size - k.overhead) (drop k.header S) texts
+  pub segments : AreSegmentsBy (k.seg (take k.header S)) (k.first - k.overhead) (k.size - k.overhead) (drop k.header S) texts
