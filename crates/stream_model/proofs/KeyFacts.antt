@@ -1,5 +1,5 @@
 -- Segments under a key: their lengths, and that a segment has one text.
-use Rattle.std.proofs.Common.{◌≡◌, ◌<◌, ◌+◌, ℕ, Bool, List, length, take, drop, subst, arith, Some, None}
+use Rattle.std.proofs.Common.{◌≡◌, ◌≤◌, ◌<◌, ◌+◌, ℕ, Bool, List, length, take, drop, subst, arith, Some, None}
 use Rattle.std.specs.declared.option.Option.{Option}
 use Rattle.stream_model.proofs.SegmentFacts.{length-ctr_hmac_segment, ctr_hmac_segment_same, length-gcm_segment, gcm_segment_same}
 use Rattle.stream_model.specs.Cut.{nonce}
