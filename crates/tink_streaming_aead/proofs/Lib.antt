@@ -10,3 +10,4 @@ mod SegmentSteps
 mod DerivedKeys
 pub mod WholeSteps
 pub mod FullFacts
+pub mod WriterCallers

@@ -1,12 +1,14 @@
-//! A caller of the reader, whose clause follows from that of the call.
+//! Callers of the reader and of the writer, whose clauses follow from those of the calls.
 
-ghost use Rattle.std.specs.Prelude.{◌≡◌, take, Some, IfOk};
-ghost use Rattle.std.specs.Io.KnownBytes.{prepend_known};
-ghost use Rattle.stream_model.specs.Cut.{numbered};
+ghost use Rattle.std.specs.Prelude.{◌≡◌, [], take, Some, IfOk, OnOk};
+ghost use Rattle.std.specs.Io.KnownBytes.{Appends, prepend_known};
+ghost use Rattle.stream_model.specs.Cut.{numbered, sealed};
 ghost use Rattle.tink_streaming_aead.specs.declared.progress.Progress.TheVariants.{Running};
+ghost use Rattle.tink_streaming_aead.specs.declared.writing.Mode.TheVariants.{Open};
 ghost use Rattle.tink_streaming_aead.specs.Whole.{WroteTexts};
+ghost use Rattle.tink_streaming_aead.specs.Writers.{seg_of};
 
-use crate::{SegmentDecrypter, SegmentReader, open_rest};
+use crate::{SegmentDecrypter, SegmentEncrypter, SegmentReader, Writer, open_rest};
 use tink_io::{Sink, SureSource, TinkError};
 
 // Opens what is left of a stream in memory. After `Ok` its texts were written.
@@ -22,4 +24,19 @@ fn open_bytes<D: SegmentDecrypter + Drop, K: Sink>(
         (prepend_known (take reader.old.filled reader.old.buffer.items) (Some stream.old)) (K.got sink.old) (K.got sink.new)) }
 {
     open_rest(reader, stream, sink)
+}
+
+// Seals a whole text. After `Ok` the sink of a writer that had written nothing got its segments.
+fn seal_text<W: Sink + Drop, E: SegmentEncrypter + Drop>(
+    writer: &mut Writer<W, E>,
+    text: &[u8],
+) -> Result<(), TinkError>
+    requires open { writer.old.mode ≡ Open }
+    requires first { writer.old.number ≡ 0 }
+    requires empty { writer.old.held ≡ [] }
+    ensures written { OnOk result (Appends (W.got writer.old.sink) (W.got writer.new.sink)
+        (sealed (seg_of E.seg writer.old.sealing) writer.old.sealing.first writer.old.sealing.room text.now)) }
+{
+    writer.write(text)?;
+    writer.close()
 }

@@ -19,6 +19,7 @@ pub use starting::{Trial, start};
 pub use streaming_key::StreamingKey;
 pub use trying::OpensStreams;
 pub use whole::open_rest;
+pub use writer::{Writer, WriterParams};
 pub use writing::{Mode, Sealer, SegmentWriter};
 
 mod aes_variant;
@@ -38,8 +39,13 @@ mod segment_cipher;
 #[cfg(test)]
 mod segment_tests;
 mod segment_traits;
+mod sizes;
 mod starting;
 mod streaming_key;
+pub mod subtle;
 mod trying;
 mod whole;
+mod writer;
+#[cfg(test)]
+mod writer_tests;
 mod writing;
