@@ -33,6 +33,8 @@ mod caller_tests;
 mod choosing;
 mod ctr_hmac_segment;
 mod gcm_segment;
+#[cfg(test)]
+mod gcm_segment_tests;
 mod held;
 mod kept;
 mod laws;
