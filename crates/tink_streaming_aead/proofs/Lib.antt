@@ -10,3 +10,5 @@ mod SegmentSteps
 mod DerivedKeys
 pub mod WholeSteps
 pub mod FullFacts
+pub mod TextFacts
+pub mod TextLaws

@@ -8,3 +8,5 @@ pub mod StreamingKeys
 pub mod Whole
 pub mod Full
 pub mod AesVariants
+pub mod Sizes
+pub mod TextReading
