@@ -10,3 +10,4 @@ pub mod Full
 pub mod AesVariants
 pub mod Sizes
 pub mod TextReading
+pub mod Readers

@@ -43,8 +43,10 @@ mod segment_cipher;
 #[cfg(test)]
 mod segment_tests;
 mod segment_traits;
+mod sizes;
 mod starting;
 mod streaming_key;
+pub mod subtle;
 mod text_reader;
 mod trying;
 mod whole;

@@ -1,0 +1,3 @@
+//! What streams are made of.
+
+pub mod noncebased;
