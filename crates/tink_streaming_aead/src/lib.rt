@@ -37,6 +37,8 @@ mod nonce;
 mod opening;
 mod progress;
 mod reader;
+#[cfg(test)]
+mod reader_tests;
 mod reading;
 mod reading_laws;
 mod segment_cipher;

@@ -1,4 +1,4 @@
-ghost use Rattle.std.specs.Prelude.{◌≡◌, ◌≤◌, ◌<◌, ◌+◌, ◌-◌, [], List, ℕ, None, Some, IfOk, OnOk, IfErr, vec_len, vec_capacity};
+ghost use Rattle.std.specs.Prelude.{◌≡◌, ◌≤◌, ◌<◌, ◌+◌, ◌-◌, [], List, ℕ, length, None, Some, IfOk, OnOk, IfErr, vec_len, vec_capacity};
 ghost use Rattle.tink_streaming_aead.specs.Sizes.{sizes_fault};
 ghost use Rattle.tink_streaming_aead.specs.declared.progress.Progress.TheVariants.{Running};
 
@@ -144,6 +144,7 @@ impl<R: Source + Drop, D: SegmentDecrypter + Drop> Reader<R, D> {
     pub fn read(&mut self, buf: &mut [u8]) -> Result<usize, TinkError>
         ensures answer { ReadMeans (seg_of D.seg self.old.opening) self.old.opening.first self.old.opening.size self.old.opening.overhead
             (moment_of R.left R.faults self.old) (moment_of R.left R.faults self.new) buf.old buf.new result }
+        ensures within { IfOk result (λ n. n ≤ length buf.new) }
         ensures opening { self.new.opening ≡ self.old.opening }
         ensures later { R.faults self.old.source ≤ R.faults self.new.source }
         ensures same { R.same self.old.source self.new.source }

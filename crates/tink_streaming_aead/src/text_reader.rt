@@ -1,4 +1,4 @@
-ghost use Rattle.std.specs.Prelude.{◌≡◌, ◌≤◌, [], length, take, drop, min, vec_len};
+ghost use Rattle.std.specs.Prelude.{◌≡◌, ◌≤◌, [], length, take, drop, min, IfOk, vec_len};
 ghost use Rattle.std.specs.Option.{ForSome};
 ghost use Rattle.std.specs.Io.KnownBytes.{prepend_known};
 ghost use Rattle.stream_model.specs.Cut.{numbered};
@@ -98,6 +98,7 @@ impl<D: SegmentDecrypter + Drop> TextReader<D> {
               faults = S.faults source.new;
             })
             buf.old buf.new result }
+        ensures within { IfOk result (λ n. n ≤ length buf.new) }
         ensures at_end { self.new.reader.progress ≡ Ended
             → ForSome (prepend_known (take self.new.reader.filled self.new.reader.buffer.items) (S.left source.new)) (λ xs. xs ≡ []) }
         ensures opener { self.new.reader.opener ≡ self.old.reader.opener }

@@ -9,6 +9,7 @@ returns-then-is_empty g c =
     let none : length c.args.buf.now ≡ 0 = search rules in
     record {
       answer = gives_none _ _ _ _ c.args.buf.now (not_failed self.reader.progress c.in_default.not-Failed) none (λ e. told_end _ (c.requires.at_end e));
+      within = omega arith;
       at_end = c.requires.at_end;
       opener = refl;
       later = omega arith;
@@ -27,6 +28,7 @@ returns g c =
     (sym (drop-drop c.give-n.result then.given then.reader.opened.items)) in
     record {
       answer = answer;
+      within = omega (arith, c.give-n.ensures.count, c.give-n.auto.buf);
       at_end = λ e. end_told _ (answer.ends e);
       opener = c.in_ok-make_ready.ensures.opener;
       later = c.in_ok-make_ready.ensures.later;
