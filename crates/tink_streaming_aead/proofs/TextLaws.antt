@@ -13,9 +13,9 @@ use Rattle.tink_io.specs.declared.error.Kind.TheVariants.{ReadFault, TooManySegm
 use Rattle.tink_io.specs.declared.error.TinkError.{TinkError}
 use Rattle.tink_streaming_aead.specs.declared.progress.Progress.{Progress}
 use Rattle.tink_streaming_aead.specs.declared.progress.Progress.TheVariants.{Running, Ended, Failed}
-use Rattle.tink_streaming_aead.specs.Reading.{TellsLeads, HasNotFailed}
-use Rattle.tink_streaming_aead.specs.TextReading.{Moment, of_segments, with_pending, IsDue, AtEnd, Gives, ReadRefused, ReadMeans, Gave, IsWhole}
-use Rattle.tink_streaming_aead.proofs.ReadingFacts.{opened_all}
+use Rattle.tink_streaming_aead.specs.Reading.{TellsLeads, HasNotFailed, NothingComes}
+use Rattle.tink_streaming_aead.specs.TextReading.{Moment, of_segments, with_pending, IsDue, AtEnd, Gives, ReadRefused, ReadMeans, Gave, IsWhole, IsLongest}
+use Rattle.tink_streaming_aead.proofs.ReadingFacts.{opened_all, opened_agree}
 use Rattle.tink_streaming_aead.proofs.TextFacts.{tells_none}
 
 not_due : (m : Moment) (room : ℕ) → AtEnd m → IsDue m room → ⊥
@@ -134,3 +134,11 @@ pub read_empty : (seg : ℕ → Bool → List ℕ → List ℕ) (a b overhead : 
     → HasNotFailed old.progress → ReadMeans seg a b overhead old new [] after r → (r ≡ Ok 0) × (new ≡ old)
 read_empty seg a b overhead old new after (Ok n) l m = let g = empty_gives seg a b old new after n m in (ap Ok g.0, g.1)
 read_empty seg a b overhead old new after (Err x) l m = absurd (empty_refuses seg a b overhead old new x.kind l m.1)
+
+-- all that agrees
+pub gave_longest : (seg : ℕ → Bool → List ℕ → List ℕ) (a b : ℕ) (all : Option (List ℕ)) (given : List ℕ) (m : Moment) → Gave seg a b all given m → m.pending ≡ [] → NothingComes seg a b (of_segments m) → IsLongest seg a b all given
+gave_longest seg a b all given m w e none = record {
+  texts = w.texts;
+  agree = opened_agree seg a b all w.texts (of_segments m) (record { number = w.number; leads = w.leads }) none;
+  given_is = sym (append-nil given) ∙ ap (λ x. given ++ x) (sym e) ∙ sym w.given_is;
+}

@@ -6,7 +6,7 @@ use Rattle.tink_io.specs.declared.error.Kind.{Kind}
 use Rattle.tink_io.specs.declared.error.Kind.TheVariants.{ReadFault, TooManySegments, BadSegment, Truncated, FailedBefore}
 use Rattle.tink_io.specs.declared.error.TinkError.{TinkError}
 use Rattle.stream_model.specs.Cut.{cut}
-use Rattle.stream_model.specs.Agree.{Leads, joined}
+use Rattle.stream_model.specs.Agree.{Leads, Agree, joined}
 use Rattle.tink_streaming_aead.specs.declared.progress.Progress.{Progress}
 use Rattle.tink_streaming_aead.specs.declared.progress.Progress.TheVariants.{Running, Ended, Failed}
 use Rattle.tink_streaming_aead.specs.Reading.{TellsLeads, HasNotFailed, OpenRefused, ReadFailed, HasTooMany, IsBad, IsTruncated}
@@ -101,4 +101,10 @@ pub record Gave (seg : ℕ → Bool → List ℕ → List ℕ) (a b : ℕ) (all 
 pub record IsWhole (seg : ℕ → Bool → List ℕ → List ℕ) (a b : ℕ) (all : Option (List ℕ)) (given : List ℕ) : Type 0 where
   pub texts : List (List ℕ)
   pub leads : IfSome all (λ X. Leads seg 0 (cut a b X) texts [])
+  pub given_is : given ≡ joined texts
+
+-- these bytes are the longest list of texts that agrees with the chunks, joined
+pub record IsLongest (seg : ℕ → Bool → List ℕ → List ℕ) (a b : ℕ) (all : Option (List ℕ)) (given : List ℕ) : Type 0 where
+  pub texts : List (List ℕ)
+  pub agree : IfSome all (λ X. Agree seg 0 (cut a b X) texts)
   pub given_is : given ≡ joined texts
