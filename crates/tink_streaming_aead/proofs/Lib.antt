@@ -11,3 +11,5 @@ mod DerivedKeys
 pub mod WholeSteps
 pub mod FullFacts
 pub mod WriterCallers
+pub mod TextFacts
+pub mod TextLaws

@@ -11,3 +11,5 @@ pub mod AesVariants
 pub mod Sizes
 pub mod Writers
 pub mod StreamSegments
+pub mod TextReading
+pub mod Readers
