@@ -8,6 +8,8 @@ use crate::segment_traits::{SegmentDecrypter, SegmentEncrypter};
 use tink_io::TinkError;
 
 /// Segments by one of the two ciphers, as a stream's key says.
+///
+/// A contract sees the case, with what it sees of the cipher in it.
 #[derive(Drop)]
 pub enum StreamSegment {
     CtrHmac(CtrHmacSegment),
