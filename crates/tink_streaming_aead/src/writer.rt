@@ -9,16 +9,20 @@ use crate::writing::{Sealer, SegmentWriter};
 use std::marker::Model;
 use tink_io::{Sink, TinkError};
 
-/// What a writer is made of: a sink, the one-shot map of its segments, the size of a nonce and the
-/// front of all nonces, the size of a segment, and how many bytes of the first one are taken by
-/// what stands in front of it. Sizes are in bytes.
+/// What a writer is made of. Sizes are in bytes.
 #[derive(Drop)]
 pub struct WriterParams<W, E: SegmentEncrypter> {
+    /// Where the segments go.
     pub w: W,
+    /// What makes a segment of a text.
     pub segment_encrypter: E,
+    /// The size of a nonce, five more at least than its prefix.
     pub nonce_size: usize,
+    /// The front of all nonces.
     pub nonce_prefix: Vec<u8>,
+    /// The size of a segment of ciphertext.
     pub ciphertext_segment_size: u32,
+    /// By how much the first segment is smaller, since a header stands before it.
     pub first_ciphertext_segment_offset: u32,
 }
 
@@ -127,6 +131,7 @@ impl<W: Sink + Drop, E: SegmentEncrypter + Drop> Writer<W, E> {
         ensures answer { WriteMeans (seg_of E.seg self.old.sealing) self.old.sealing.first self.old.sealing.room
             (moment_of W.got W.faults self.old) (moment_of W.got W.faults self.new) buf.now result }
         ensures sealing { self.new.sealing ≡ self.old.sealing }
+        // the rooms that `law_any_cutting` asks for
         ensures rooms { (0 < self.new.sealing.first) × (self.new.sealing.first ≤ self.new.sealing.room) }
         ensures later { W.faults self.old.sink ≤ W.faults self.new.sink }
         ensures same { W.same self.old.sink self.new.sink }
@@ -134,7 +139,7 @@ impl<W: Sink + Drop, E: SegmentEncrypter + Drop> Writer<W, E> {
         self.inner.write(&mut self.sink, buf)
     }
 
-    /// Does nothing: a segment is written when it is full or the last one.
+    /// Does nothing, and is always Ok: what is held is written before more text or by `close`.
     pub fn flush(&mut self) -> Result<(), TinkError>
         ensures answer { result ≡ Ok tt }
         ensures same { self.new ≡ self.old }
