@@ -17,7 +17,7 @@ pub use reading::SegmentReader;
 pub use segment_traits::{SegmentDecrypter, SegmentEncrypter};
 pub use starting::{Trial, start};
 pub use streaming_key::StreamingKey;
-pub use trying::OpensStreams;
+pub use trying::{Begun, OpensStreams};
 pub use whole::open_rest;
 pub use writing::{Mode, Sealer, SegmentWriter};
 
