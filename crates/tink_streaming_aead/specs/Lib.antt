@@ -8,3 +8,4 @@ pub mod StreamingKeys
 pub mod Whole
 pub mod Full
 pub mod AesVariants
+pub mod StreamSegments

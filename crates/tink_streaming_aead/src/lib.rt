@@ -8,6 +8,10 @@ pub use ctr_hmac_segment::{
     AES_CTR_HMAC_KEY_SIZE_IN_BYTES, AES_CTR_HMAC_NONCE_PREFIX_SIZE_IN_BYTES,
     AES_CTR_HMAC_NONCE_SIZE_IN_BYTES, CtrHmacSegment,
 };
+pub use gcm_segment::{
+    AES_GCM_HKDF_NONCE_PREFIX_SIZE_IN_BYTES, AES_GCM_HKDF_NONCE_SIZE_IN_BYTES,
+    AES_GCM_HKDF_TAG_SIZE_IN_BYTES, GcmSegment,
+};
 pub use kept::Kept;
 pub use laws::{law_any_cutting, law_full_segments};
 pub use nonce::generate_segment_nonce;
@@ -16,6 +20,7 @@ pub use progress::Progress;
 pub use reading::SegmentReader;
 pub use segment_traits::{SegmentDecrypter, SegmentEncrypter};
 pub use starting::{Trial, start};
+pub use stream_segment::StreamSegment;
 pub use streaming_key::StreamingKey;
 pub use trying::{Begun, OpensStreams};
 pub use whole::open_rest;
@@ -27,6 +32,9 @@ mod buffers;
 mod caller_tests;
 mod choosing;
 mod ctr_hmac_segment;
+mod gcm_segment;
+#[cfg(test)]
+mod gcm_segment_tests;
 mod held;
 mod kept;
 mod laws;
@@ -39,6 +47,7 @@ mod segment_cipher;
 mod segment_tests;
 mod segment_traits;
 mod starting;
+mod stream_segment;
 mod streaming_key;
 mod trying;
 mod whole;
