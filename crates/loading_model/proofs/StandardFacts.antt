@@ -1,5 +1,5 @@
 -- Small keysets, by computing.
-use Rattle.std.proofs.Common.{◌≡◌, pos, ℕ, List, [], ◌∷◌, refl}
+use Rattle.std.proofs.Common.{◌≡◌, pos, ℕ, List, [], ◌∷◌, refl, Some}
 use Rattle.std.specs.Prelude.{Ok, Err}
 use Rattle.std.specs.Str.{is_utf8, chars}
 use Rattle.std.proofs.Math.Utf8.{encode}
@@ -35,7 +35,7 @@ one_key =
     0x84 ∷ 0x86 ∷ 0x88 ∷ 0x08 ∷ 0x20 ∷ 0x03 ∷ []
 
 loaded_key : StreamKey
-loaded_key = record { main = 0 ∷ 1 ∷ 2 ∷ 3 ∷ 4 ∷ 5 ∷ 6 ∷ 7 ∷ 8 ∷ 9 ∷ 10 ∷ 11 ∷ 12 ∷ 13 ∷ 14 ∷ 15 ∷ []; hkdf_hash = Sha256; derived = 16; segment = 4096; kind = CtrHmac Sha256 32; out = [] }
+loaded_key = record { main = 0 ∷ 1 ∷ 2 ∷ 3 ∷ 4 ∷ 5 ∷ 6 ∷ 7 ∷ 8 ∷ 9 ∷ 10 ∷ 11 ∷ 12 ∷ 13 ∷ 14 ∷ 15 ∷ []; hkdf_hash = Some Sha256; derived = 16; segment = 4096; offset = 0; kind = CtrHmac Sha256 32; out = [] }
 
 one_key_loads : load one_key ≡ Ok (record { keys = record { id = 0x01020304; prefix_type = pos 3; key = loaded_key } ∷ []; primary = loaded_key })
 unfolding load fields_of fields_in field_at content_at bytes_at varint_in contents each last_or all_fields is_utf8 chars encode streaming_of build_keys key_of_id one_key loaded_key

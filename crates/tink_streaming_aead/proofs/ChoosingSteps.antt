@@ -1,9 +1,11 @@
 -- Which key is chosen, step by step.
-use Rattle.std.proofs.Common.{◌≡◌, ◌≤◌, ◌<◌, ◌+◌, ℕ, List, ◌∷◌, length, drop, map, Some, None, IfSome, ap, sym, refl, ◌∙◌, subst, inl, inr, suc, add-one, get_or, drop-cons}
+use Rattle.std.proofs.Common.{◌≡◌, ◌≤◌, ◌<◌, ◌+◌, ℕ, Bool, List, ◌∷◌, ◌++◌, length, drop, map, Some, None, IfSome, ap, sym, refl, ◌∙◌, subst, inl, inr, suc, add-one, get_or, drop-cons}
 use Rattle.std.proofs.Math.ListN.{drop_of_length-le}
 use Rattle.std.specs.declared.option.Option.{Option}
-use Rattle.std.specs.Io.KnownBytes.{Keeps}
+use Rattle.std.proofs.lemmas.List.{drop-append-le}
+use Rattle.std.specs.Io.KnownBytes.{Keeps, prepend_known}
 use Rattle.stream_model.specs.Opening.{OpeningKey, Begins, IsChosen}
+use Rattle.tink_streaming_aead.specs.Choosing.{Found, Started}
 
 -- what is chosen of the keys from i on is chosen of all
 abbrev pub GoesOn : {T : Type 0} → (T → OpeningKey) → List T → ℕ → List ℕ → Type 0
@@ -32,3 +34,14 @@ pub told_before : (r s : Option (List ℕ)) (P : List ℕ → Type 0) → Keeps 
 told_before None s P k h = tt
 told_before (Some X) None P k h = absurd k
 told_before (Some X) (Some Y) P k h = subst P k h
+
+-- what is held behind the header of the chosen key, and what the source has left, is all that is left to open
+pub started : (ks : List OpeningKey) (seg : ℕ → Bool → List ℕ → List ℕ) (header first size overhead : ℕ) (all left : Option (List ℕ)) (held rest : List ℕ) → IfSome all (λ X. Found ks X seg header first size overhead)
+    → Keeps all (prepend_known held left) → header ≤ length held → rest ≡ drop header held → IfSome all (λ X. Started ks X (prepend_known rest left) seg first size overhead)
+started ks seg header first size overhead None left held rest f k l e = tt
+started ks seg header first size overhead (Some X) None held rest f k l e = absurd k
+started ks seg header first size overhead (Some X) (Some Y) held rest f k l e = record {
+  header = header;
+  found = f;
+  rest = ap (λ x. Some (x ++ Y)) e ∙ ap Some (sym (drop-append-le header held Y l) ∙ ap (drop header) k);
+}

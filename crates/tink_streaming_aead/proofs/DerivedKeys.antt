@@ -10,7 +10,7 @@ use Rattle.tink_streaming_aead.specs.SegmentKeys.{SegmentKeys, segment_under, ov
 use Rattle.tink_streaming_aead.specs.StreamingKeys.{IsDerived, ctr_hmac_key}
 
 -- every other hash derives keys
-derives : (h : Hash) (main salt aad : List ℕ) (n : ℕ) → (h ≡ Sha224 → ⊥) → derived_by h main salt aad n ≡ Some (hkdf_of h main salt aad n)
+derives : (h : Hash) (main salt aad : List ℕ) (n : ℕ) → (h ≡ Sha224 → ⊥) → derived_by (Some h) main salt aad n ≡ Some (hkdf_of h main salt aad n)
 derives Sha1 main salt aad n other = refl
 derives Sha224 main salt aad n other = absurd (other refl)
 derives Sha256 main salt aad n other = refl
@@ -39,4 +39,5 @@ derivation main hkdf_hash derived tag_hash tag segment aad salt ikm keys rest n 
       keys_are = derives hkdf_hash main salt aad (derived + 32) other ∙ ap (λ k. Some (hkdf_of hkdf_hash main salt aad k)) (sym size) ∙ ap (λ (k : List ℕ). Some (hkdf_of hkdf_hash k salt aad n)) (sym same) ∙ ap (λ (k : List ℕ). Some k) (sym keys_are);
       segments = ap segment_under is;
       longer = ap overhead_under is ∙ tag_is;
+      nonce = refl;
     }

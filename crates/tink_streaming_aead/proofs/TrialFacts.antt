@@ -45,17 +45,18 @@ not_begun k (Some X) (Some Y) H pos h none = λ b.
 -- the first segment is tried under a header H that is held, of which keys are derived
 pub record Tried (k : OpeningKey) (r l m : Option (List ℕ)) (H G part : List ℕ) (seg : ℕ → Bool → List ℕ → List ℕ) (size : ℕ) : Type 0 where
   pub some : 0 < k.header
-  pub room : k.header < k.size
+  pub room : 0 < k.first
+  pub fits : k.header + k.first ≤ k.size
   pub before : Keeps r (prepend_known H l)
   pub header : HasHeader k H
   pub map : k.seg (take k.header H) ≡ Some seg
-  pub held : IsHeld k.size r G m
+  pub held : IsHeld (k.header + k.first) r G m
   pub long : k.header ≤ length G
-  pub size_is : size ≡ k.size - k.header
+  pub size_is : size ≡ k.first
   pub part_is : part ≡ drop k.header G
 
-behind : (k : OpeningKey) (X Y G : List ℕ) → k.header < k.size → IsHeld k.size (Some X) G (Some Y) → k.header ≤ length G → IsHeld (k.size - k.header) (Some (drop k.header X)) (drop k.header G) (Some Y)
-behind k X Y G room h long = record {
+behind : (k : OpeningKey) (X Y G : List ℕ) → IsHeld (k.header + k.first) (Some X) G (Some Y) → k.header ≤ length G → IsHeld k.first (Some (drop k.header X)) (drop k.header G) (Some Y)
+behind k X Y G h long = record {
   all = sym (drop-append-le k.header G Y long) ∙ ap (drop k.header) h.all;
   end = λ few. h.end (omega (arith, length-drop k.header G));
 }
@@ -67,9 +68,9 @@ begun k None l m H G part seg size t tried o = tt
 begun k (Some X) None m H G part seg size t tried o = absurd tried.before
 begun k (Some X) (Some Y) None H G part seg size t tried o = absurd tried.held.all
 begun k (Some X) (Some Y) (Some Z) H G part seg size t tried o =
-    let a : ℕ = k.size - k.header in
+    let a : ℕ = k.first in
     let derived : k.seg (take k.header X) ≡ Some seg = ap k.seg (header_bytes k H X Y tried.before tried.header.long) ∙ tried.map in
-    let leads = opened_front seg a k.size 0 (Some (drop k.header X)) (Some Z) (drop k.header G) t (omega arith) (omega (arith, tried.room)) (omega (arith, tried.room)) (behind k X Z G tried.room tried.held tried.long)
+    let leads = opened_front seg a k.size 0 (Some (drop k.header X)) (Some Z) (drop k.header G) t (omega arith) tried.room (omega (arith, tried.room, tried.fits)) (behind k X Z G tried.held tried.long)
     (subst (λ (x : List ℕ). OpensTo seg 0 a x t) tried.part_is (subst (λ (n : ℕ). OpensTo seg 0 n part t) tried.size_is o)) in (
       record {
         header = subst (HasHeader k) tried.before (header_of_all k H Y tried.some tried.header);
@@ -85,10 +86,10 @@ refused k None l m H G part seg size tried none = tt
 refused k (Some X) None m H G part seg size tried none = absurd tried.before
 refused k (Some X) (Some Y) None H G part seg size tried none = absurd tried.held.all
 refused k (Some X) (Some Y) (Some Z) H G part seg size tried none = λ b.
-    let a : ℕ = k.size - k.header in
+    let a : ℕ = k.first in
     let derived : k.seg (take k.header X) ≡ Some seg = ap k.seg (header_bytes k H X Y tried.before tried.header.long) ∙ tried.map in
     let agree : Agree seg 0 (chunks_of k X) [] =
-    refused_front seg a k.size 0 (Some (drop k.header X)) (Some Z) (drop k.header G) (omega (arith, tried.room)) (omega (arith, tried.room)) (behind k X Z G tried.room tried.held tried.long)
+    refused_front seg a k.size 0 (Some (drop k.header X)) (Some Z) (drop k.header G) tried.room (omega (arith, tried.room, tried.fits)) (behind k X Z G tried.held tried.long)
     (λ t o. none t (subst (λ (n : ℕ). OpensTo seg 0 n part t) (sym tried.size_is) (subst (λ (x : List ℕ). OpensTo seg 0 a x t) (sym tried.part_is) o))) in
     let one = subst (λ (s : Option (ℕ → Bool → List ℕ → List ℕ)). FirstAgrees s (chunks_of k X)) derived b.first in
     let none_is : 1 ≤ 0 = agree.longest (one.0 ∷ []) one.1 in

@@ -25,7 +25,7 @@ pub use starting::{Trial, start};
 pub use stream_segment::StreamSegment;
 pub use streaming_key::StreamingKey;
 pub use text_reader::TextReader;
-pub use trying::OpensStreams;
+pub use trying::{Begun, OpensStreams};
 pub use whole::open_rest;
 pub use writer::{Writer, WriterParams};
 pub use writing::{Mode, Sealer, SegmentWriter};

@@ -1,6 +1,6 @@
-ghost use Rattle.std.specs.Prelude.{◌≡◌, ◌⊎◌, ◌≤◌, ◌<◌, ◌+◌, ◌↔◌, [], IfOk, MatchOption, IsNone};
+ghost use Rattle.std.specs.Prelude.{◌≡◌, ◌⊎◌, ◌≤◌, ◌<◌, ◌+◌, ◌↔◌, [], Some, IfOk, MatchOption, IsNone};
 ghost use Rattle.hash_keys.specs.Hash.{digest_size};
-ghost use Rattle.stream_model.specs.Key.{IsUsable, header_length, overhead, keys_of};
+ghost use Rattle.stream_model.specs.Key.{IsUsable, first_segment, header_length, overhead, keys_of};
 ghost use Rattle.tink_streaming_aead.specs.StreamingKeys.{IsDerived, ctr_hmac_key};
 
 use crate::ctr_hmac_segment::CtrHmacSegment;
@@ -84,6 +84,14 @@ impl StreamingKey {
         self.segment
     }
 
+    /// The bytes of the first segment, which is shorter by the header.
+    pub fn first_segment_size(&self) -> u32
+        ensures value { result ≡ first_segment self.now }
+        ensures usable { IsUsable self.now }
+    {
+        self.segment - self.derived as u32 - 8
+    }
+
     /// The bytes that a segment has more than its text.
     pub fn overhead(&self) -> usize
         ensures value { result ≡ overhead self.now }
@@ -121,7 +129,7 @@ impl StreamingKey {
     /// associated data as info. `None` exactly where its hash is SHA-224, which derives no keys.
     pub fn derive(&self, salt: &[u8], aad: &[u8]) -> Option<CtrHmacSegment>
         ensures value { MatchOption result (keys_of self.now aad.now salt.now ≡ None) (IsDerived self.now aad.now salt.now) }
-        ensures refused { IsNone result ↔ (self.now.hkdf_hash ≡ Hash.Sha224) }
+        ensures refused { IsNone result ↔ (self.now.hkdf_hash ≡ Some Hash.Sha224) }
     {
         if self.hkdf_hash == Hash::Sha224 {
             return None;

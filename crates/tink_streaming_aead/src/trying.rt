@@ -25,8 +25,13 @@ pub trait OpensStreams<D: SegmentDecrypter> {
 
     /// The bytes of a segment.
     fn segment_size(&self) -> u32
-        ensures is { result ≡ (opening_key self.now).size }
-        ensures long { (opening_key self.now).header < result };
+        ensures is { result ≡ (opening_key self.now).size };
+
+    /// The bytes of the first segment, which with the header are no more than those of a segment.
+    fn first_segment_size(&self) -> u32
+        ensures is { result ≡ (opening_key self.now).first }
+        ensures long { (opening_key self.now).overhead < result }
+        ensures fits { (opening_key self.now).header + result ≤ (opening_key self.now).size };
 
     /// The bytes of a nonce.
     fn nonce_size(&self) -> usize
@@ -40,8 +45,14 @@ pub trait OpensStreams<D: SegmentDecrypter> {
             ≡ Some (numbered (D.seg d) (nonce_of self.now) (drop ((opening_key self.now).header - 7) header.now))) }
         ensures none { IsNone result → (opening_key self.now).seg header.now ≡ None }
         ensures nonce { IfSome result (λ d. D.nonce_length d ≡ nonce_of self.now) }
-        ensures overhead { IfSome result (λ d. D.overhead_of d ≡ (opening_key self.now).overhead) }
-        ensures room { IfSome result (λ d. (opening_key self.now).header + D.overhead_of d < (opening_key self.now).size) };
+        ensures overhead { IfSome result (λ d. D.overhead_of d ≡ (opening_key self.now).overhead) };
+}
+
+/// How a stream is opened that begins under a key, and the bytes of its header.
+#[derive(Drop)]
+pub struct Begun<D: SegmentDecrypter> {
+    pub opener: Opener<D>,
+    pub header: usize,
 }
 
 // How the key's stream under a header is opened, or the memory of its prefix again.
@@ -55,7 +66,7 @@ fn opener_under<D: SegmentDecrypter + Drop, T: OpensStreams<D>>(
     requires prefix { 7 ≤ vec_capacity prefix }
     ensures map { IfOk result (λ o. (T.opening_key key.now).seg header.now
         ≡ Some (numbered (D.seg o.decrypter) o.nonce_size o.prefix.items)) }
-    ensures first { IfOk result (λ o. o.first ≡ (T.opening_key key.now).size - (T.opening_key key.now).header) }
+    ensures first { IfOk result (λ o. o.first ≡ (T.opening_key key.now).first) }
     ensures size { IfOk result (λ o. o.size ≡ (T.opening_key key.now).size) }
     ensures overhead { IfOk result (λ o. o.overhead ≡ (T.opening_key key.now).overhead) }
     ensures nonce { IfOk result (λ o. o.nonce_size ≡ T.nonce_of key.now) }
@@ -71,15 +82,14 @@ fn opener_under<D: SegmentDecrypter + Drop, T: OpensStreams<D>>(
         Ok(()) => {}
         Err(_) => unreachable!(),
     }
-    let size = key.segment_size() as usize;
     let overhead = decrypter.overhead();
     Ok(Opener {
         decrypter,
         prefix,
         nonce_size: key.nonce_size(),
         overhead,
-        first: size - header.len(),
-        size,
+        first: key.first_segment_size() as usize,
+        size: key.segment_size() as usize,
     })
 }
 
@@ -94,7 +104,7 @@ fn header_opener<D: SegmentDecrypter + Drop, T: OpensStreams<D>>(
     ensures header { IfOk result (λ o. HasHeader (T.opening_key key.now) held.now) }
     ensures map { IfOk result (λ o. (T.opening_key key.now).seg (take (T.opening_key key.now).header held.now)
         ≡ Some (numbered (D.seg o.decrypter) o.nonce_size o.prefix.items)) }
-    ensures first { IfOk result (λ o. o.first ≡ (T.opening_key key.now).size - (T.opening_key key.now).header) }
+    ensures first { IfOk result (λ o. o.first ≡ (T.opening_key key.now).first) }
     ensures size { IfOk result (λ o. o.size ≡ (T.opening_key key.now).size) }
     ensures overhead { IfOk result (λ o. o.overhead ≡ (T.opening_key key.now).overhead) }
     ensures nonce { IfOk result (λ o. o.nonce_size ≡ T.nonce_of key.now) }
@@ -122,21 +132,22 @@ pub fn try_key<S: Source, D: SegmentDecrypter + Drop, T: OpensStreams<D>>(
     prefix: Vec<u8>,
     nonce: &mut Vec<u8>,
     opened: &mut Vec<u8>,
-) -> Result<Result<Opener<D>, Vec<u8>>, Failed>
+) -> Result<Result<Begun<D>, Vec<u8>>, Failed>
     requires buffer { (T.opening_key key.now).size < vec_len kept.old.buffer }
     requires room { (T.opening_key key.now).size ≤ vec_capacity opened.old }
     requires nonce { T.nonce_of key.now ≤ vec_len nonce.old }
     requires prefix { 7 ≤ vec_capacity prefix }
-    ensures found { IfOk result (λ r. IfOk r (λ o. IfSome (prepend_known (take kept.old.filled kept.old.buffer.items) (S.left source.old)) (λ X.
-        Begins (T.opening_key key.now) X × IsOpenerOf (T.opening_key key.now) X (numbered (D.seg o.decrypter) o.nonce_size o.prefix.items) o.first o.size o.overhead))) }
+    ensures found { IfOk result (λ r. IfOk r (λ b. IfSome (prepend_known (take kept.old.filled kept.old.buffer.items) (S.left source.old)) (λ X.
+        Begins (T.opening_key key.now) X × IsOpenerOf (T.opening_key key.now) X
+        (numbered (D.seg b.opener.decrypter) b.opener.nonce_size b.opener.prefix.items) b.header b.opener.first b.opener.size b.opener.overhead))) }
     ensures none { IfOk result (λ r. IfErr r (λ _. IfSome (prepend_known (take kept.old.filled kept.old.buffer.items) (S.left source.old)) (λ X.
         Begins (T.opening_key key.now) X → ⊥))) }
     ensures rest { OnOk result (Keeps (prepend_known (take kept.old.filled kept.old.buffer.items) (S.left source.old))
         (prepend_known (take kept.new.filled kept.new.buffer.items) (S.left source.new))) }
-    ensures most { OnOk result (kept.new.filled ≤ max kept.old.filled ((T.opening_key key.now).size + 1)) }
-    ensures header { IfOk result (λ r. IfOk r (λ o. o.size - o.first ≤ kept.new.filled)) }
-    ensures size { IfOk result (λ r. IfOk r (λ o. o.size ≡ (T.opening_key key.now).size)) }
-    ensures nonce { IfOk result (λ r. IfOk r (λ o. o.nonce_size ≡ T.nonce_of key.now)) }
+    ensures most { OnOk result (kept.new.filled ≤ max kept.old.filled ((T.opening_key key.now).header + (T.opening_key key.now).first + 1)) }
+    ensures header { IfOk result (λ r. IfOk r (λ b. b.header ≤ kept.new.filled)) }
+    ensures size { IfOk result (λ r. IfOk r (λ b. b.opener.size ≡ (T.opening_key key.now).size)) }
+    ensures nonce { IfOk result (λ r. IfOk r (λ b. b.opener.nonce_size ≡ T.nonce_of key.now)) }
     ensures prefix_room { IfOk result (λ r. IfErr r (λ p. 7 ≤ vec_capacity p)) }
     ensures len { vec_len kept.new.buffer ≡ vec_len kept.old.buffer }
     ensures nonce_len { vec_len nonce.new ≡ vec_len nonce.old }
@@ -146,15 +157,15 @@ pub fn try_key<S: Source, D: SegmentDecrypter + Drop, T: OpensStreams<D>>(
     ensures same { S.same source.old source.new }
 {
     let h = key.header_length();
-    let _ = key.segment_size();
+    let _ = key.first_segment_size();
     kept.keep(source, h)?;
     let opener = match header_opener(key, &kept.buffer[..kept.filled], prefix) {
         Ok(opener) => opener,
         Err(memory) => return Ok(Err(memory)),
     };
-    kept.keep(source, opener.size)?;
+    kept.keep(source, h + opener.first)?;
     if open_front(&opener, 0, &kept.buffer[h..kept.filled], nonce, opened) {
-        Ok(Ok(opener))
+        Ok(Ok(Begun { opener, header: h }))
     } else {
         Ok(Err(opener.prefix))
     }

@@ -79,17 +79,17 @@ same_agreed None cs ts all n law p q = q ∙ sym p
 same_agreed (Some seg) cs ts all n law p q = Agree-unique seg 0 cs ts all (law seg refl).one_text p q
 
 -- a stream's texts are those of all its chunks, and agree
-whole_agrees : (o : Option (ℕ → Bool → List ℕ → List ℕ)) (h size over : ℕ) (X : List ℕ) (ts : List (List ℕ)) → ((seg : ℕ → Bool → List ℕ → List ℕ) → o ≡ Some seg → IsLawful over seg)
-    → h + over < size → 0 < over → AreSegmentsBy o (size - h - over) (size - over) X ts → AreTextsBy o (cut (size - h) size X) ts × (length (cut (size - h) size X) ≡ length ts)
-whole_agrees None h size over X ts law room some p = absurd p
-whole_agrees (Some seg) h size over X ts law room some p =
-    let a : size - h - over + over ≡ size - h = omega arith in
+whole_agrees : (o : Option (ℕ → Bool → List ℕ → List ℕ)) (first size over : ℕ) (X : List ℕ) (ts : List (List ℕ)) → ((seg : ℕ → Bool → List ℕ → List ℕ) → o ≡ Some seg → IsLawful over seg)
+    → over < first → first ≤ size → 0 < over → AreSegmentsBy o (first - over) (size - over) X ts → AreTextsBy o (cut first size X) ts × (length (cut first size X) ≡ length ts)
+whole_agrees None first size over X ts law room fits some p = absurd p
+whole_agrees (Some seg) first size over X ts law room fits some p =
+    let a : first - over + over ≡ first = omega arith in
     let b : size - over + over ≡ size = omega arith in
     let P : ℕ → ℕ → Type 0 = λ m n. AreTexts seg 0 (cut m n X) ts × (length (cut m n X) ≡ length ts) in
-    subst (λ (n : ℕ). P (size - h) n) b (subst (λ (m : ℕ). P m (size - over + over)) a (all_agree seg over 0 (size - h - over) (size - over) ts X (law seg refl).longer (omega arith) (omega arith) some p))
+    subst (λ (n : ℕ). P first n) b (subst (λ (m : ℕ). P m (size - over + over)) a (all_agree seg over 0 (first - over) (size - over) ts X (law seg refl).longer (omega arith) (omega arith) some p))
 
 stream_agrees : (k : OpeningKey) (S : List ℕ) (ts : List (List ℕ)) → Lawful k → IsStream k S ts → AreTextsBy (k.seg (take k.header S)) (chunks_of k S) ts × (length (chunks_of k S) ≡ length ts)
-stream_agrees k S ts law s = whole_agrees (k.seg (take k.header S)) k.header k.size k.overhead (drop k.header S) ts (law.lawful (take k.header S)) law.room law.some s.segments
+stream_agrees k S ts law s = whole_agrees (k.seg (take k.header S)) k.first k.size k.overhead (drop k.header S) ts (law.lawful (take k.header S)) law.room (omega (arith, law.fits)) law.some s.segments
 
 -- a front of texts that lead is a front of texts that agree
 front_of_agreed : (k : OpeningKey) (S : List ℕ) (ts all : List (List ℕ)) (a b : Option (List ℕ)) → Lawful k → AreTextsBy (k.seg (take k.header S)) (chunks_of k S) ts → IsAgreed k S all

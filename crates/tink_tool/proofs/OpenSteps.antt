@@ -12,7 +12,7 @@ use Rattle.tink_io.specs.declared.error.TinkError.{TinkError}
 use Rattle.stream_model.specs.Cut.{cut}
 use Rattle.stream_model.specs.Agree.{AreTexts, Agree, Leads, joined}
 use Rattle.stream_model.specs.Opening.{OpeningKey, FirstAgrees, IsChosen, chunks_of}
-use Rattle.tink_streaming_aead.specs.Choosing.{Found, StartRefused}
+use Rattle.tink_streaming_aead.specs.Choosing.{Found, Started, StartRefused}
 use Rattle.tink_streaming_aead.proofs.ChosenFacts.{chosen_begins, chunks_are, stream_opened, stream_agreed}
 use Rattle.loading_model.specs.Loading.{Loaded, load}
 use Rattle.tink_tool.specs.declared.report.Report.{Report}
@@ -26,106 +26,104 @@ pub unread : (n : ℕ) (xs : List ℕ) (left : Option (List ℕ)) → n ≡ 0 �
 unread zero xs left e = prepend_known-nil left
 unread (suc n) xs left e = absurd (omega (arith, e))
 
-told_both : (o : Option (List ℕ)) (P Q R : List ℕ → Type 0) → ((X : List ℕ) → P X → Q X → R X) → IfSome o P → IfSome o Q → IfSome o R
-told_both None P Q R f p q = tt
-told_both (Some X) P Q R f p q = f X p q
-
-told_only : (o : Option (List ℕ)) (P Q : List ℕ → Type 0) → ((X : List ℕ) → P X → Q X) → IfSome o P → IfSome o Q
-told_only None P Q f p = tt
-told_only (Some X) P Q f p = f X p
-
--- what is told of what is behind the header
-behind : (old mid : Option (List ℕ)) (n : ℕ) (P : List ℕ → Type 0) → IfSome old (λ X. mid ≡ Some (drop n X)) → IfSome mid P → IfSome old (λ X. P (drop n X))
-behind None mid n P e h = tt
-behind (Some X) mid n P e h = subst (λ (o : Option (List ℕ)). IfSome o P) e h
-
 any_told : (all : Option (List ℕ)) → IfSome all (λ X. Unit {0})
 any_told None = tt
 any_told (Some X) = tt
 
 -- a reader for the key that was chosen
 module _ (keys : List OpeningKey) (seg : ℕ → Bool → List ℕ → List ℕ) (first size overhead : ℕ) where
-  abbrev Chosen : List ℕ → Type 0
-  Chosen X = Found keys X seg first size overhead
+  abbrev Begun : Option (List ℕ) → List ℕ → Type 0
+  Begun left X = Started keys X left seg first size overhead
 
-  abbrev chunks : List ℕ → List (List ℕ)
-  chunks X = cut first size (drop (size - first) X)
+  abbrev Chosen : ℕ → List ℕ → Type 0
+  Chosen header X = Found keys X seg header first size overhead
 
-  leads_under : (X : List ℕ) (texts : List (List ℕ)) → Chosen X → AreTexts seg 0 (chunks X) texts → Lead keys X texts
-  leads_under X [] f p = tt
-  leads_under X (t ∷ ts) f p =
+  abbrev chunks : ℕ → List ℕ → List (List ℕ)
+  chunks header X = cut first size (drop header X)
+
+  -- what is told of what is behind the header
+  behind : (old mid : Option (List ℕ)) (P Q : List ℕ → Type 0) → ((X : List ℕ) (s : Begun mid X) → P (drop s.header X) → Q X) → IfSome old (Begun mid) → IfSome mid P → IfSome old Q
+  behind None mid P Q f s h = tt
+  behind (Some X) mid P Q f s h = f X s (subst (λ (o : Option (List ℕ)). IfSome o P) s.rest h)
+
+  leads_under : (header : ℕ) (X : List ℕ) (texts : List (List ℕ)) → Chosen header X → AreTexts seg 0 (chunks header X) texts → Lead keys X texts
+  leads_under header X [] f p = tt
+  leads_under header X (t ∷ ts) f p =
       let k : OpeningKey = f.key in (
         k,
         f.chosen,
         subst (λ (s : Option (ℕ → Bool → List ℕ → List ℕ)). AreTextsBy s (chunks_of k X) (t ∷ ts)) (sym f.opener.map)
-            (subst (λ (cs : List (List ℕ)). AreTexts seg 0 cs (t ∷ ts)) (chunks_are k X seg first size overhead f.opener) p),
+            (subst (λ (cs : List (List ℕ)). AreTexts seg 0 cs (t ∷ ts)) (chunks_are k X seg header first size overhead f.opener) p),
       )
 
   -- the stream begins under the chosen key, so some text agrees
-  some_agrees : (X : List ℕ) → Chosen X → Agree seg 0 (chunks X) [] → ⊥
-  some_agrees X f p =
+  some_agrees : (header : ℕ) (X : List ℕ) → Chosen header X → Agree seg 0 (chunks header X) [] → ⊥
+  some_agrees header X f p =
       let k : OpeningKey = f.key in
       let begins = subst (λ (s : Option (ℕ → Bool → List ℕ → List ℕ)). FirstAgrees s (chunks_of k X)) f.opener.map (chosen_begins keys X k f.chosen).first in
-      let one : AreTexts seg 0 (chunks X) (begins.0 ∷ []) = subst (λ (cs : List (List ℕ)). AreTexts seg 0 cs (begins.0 ∷ [])) (sym (chunks_are k X seg first size overhead f.opener)) begins.1 in
+      let one : AreTexts seg 0 (chunks header X) (begins.0 ∷ []) = subst (λ (cs : List (List ℕ)). AreTexts seg 0 cs (begins.0 ∷ [])) (sym (chunks_are k X seg header first size overhead f.opener)) begins.1 in
       omega (arith, p.longest (begins.0 ∷ []) one)
 
-  agrees_under : (X : List ℕ) (texts : List (List ℕ)) (P : List (List ℕ) → Type 0) (Q : OpeningKey → Type 0) (f : Chosen X) → (P (chunks_of f.key X) → Q f.key) → Agree seg 0 (chunks X) texts × P (chunks X) → AgreesUntil keys X texts Q
-  agrees_under X texts P Q f g p = record {
+  -- a stop under the chosen key
+  agrees_under : (header : ℕ) (X : List ℕ) (texts : List (List ℕ)) (P : List (List ℕ) → Type 0) (Q : OpeningKey → Type 0) (f : Chosen header X) → (P (chunks_of f.key X) → Q f.key)
+      → Agree seg 0 (chunks header X) texts × P (chunks header X) → AgreesUntil keys X texts Q
+  agrees_under header X texts P Q f g p = record {
     key = f.key;
     chosen = f.chosen;
-    agreed = stream_agreed keys X seg first size overhead texts f p.0;
-    then = g (subst P (chunks_are f.key X seg first size overhead f.opener) p.1);
+    agreed = stream_agreed keys X seg header first size overhead texts f p.0;
+    then = g (subst P (chunks_are f.key X seg header first size overhead f.opener) p.1);
   }
 
-  -- a stop under the chosen key
-  stops : (old mid new : Outside) (n : ℕ) (P : List (List ℕ) → Type 0) (s : StopsAt n P seg first size mid new) → IfSome old.left Chosen → IfSome old.left (λ X. mid.left ≡ Some (drop (size - first) X))
-      → IfSome old.left (λ X. Chosen X × (Agree seg 0 (chunks X) s.texts × P (chunks X)))
-  stops old mid new n P s found rest = told_both old.left Chosen (λ X. Agree seg 0 (chunks X) s.texts × P (chunks X)) _ (λ X f h. (f, h)) found (behind old.left mid.left (size - first) _ rest s.agree)
-
-  breaks_under : (old mid new : Outside) → mid.got ≡ old.got → IfSome old.left Chosen → IfSome old.left (λ X. mid.left ≡ Some (drop (size - first) X)) → Breaks seg first size mid new → IsBroken keys old new
-  breaks_under old mid new got found rest b = record {
+  breaks_under : (old mid new : Outside) → mid.got ≡ old.got → IfSome old.left (Begun mid.left) → Breaks seg first size mid new → IsBroken keys old new
+  breaks_under old mid new got started b = record {
     texts = b.texts;
-    lead = told_both old.left Chosen (λ X. AreTexts seg 0 (chunks X) b.texts) (λ X. Lead keys X b.texts) (λ X f p. leads_under X b.texts f p) found (behind old.left mid.left (size - first) _ rest b.lead);
+    lead = behind old.left mid.left (λ Y. AreTexts seg 0 (cut first size Y) b.texts) (λ X. Lead keys X b.texts) (λ X s p. leads_under s.header X b.texts s.found p) started b.lead;
     written = subst (λ (o : Option (List ℕ)). AppendsFront o new.got (joined b.texts)) got b.written;
   }
 
-  refused_under : (old mid new : Outside) (kind : Kind) → mid.got ≡ old.got → old.read_faults ≤ mid.read_faults → old.write_faults ≤ mid.write_faults → IfSome old.left Chosen → IfSome old.left (λ X. mid.left ≡ Some (drop (size - first) X))
+  refused_under : (old mid new : Outside) (kind : Kind) → mid.got ≡ old.got → old.read_faults ≤ mid.read_faults → old.write_faults ≤ mid.write_faults → IfSome old.left (Begun mid.left)
       → ReaderRefused seg first size overhead mid new kind → StreamRefused keys old new kind
-  refused_under old mid new NoMatchingKey got reads writes found rest x = record {
-    none = told_both old.left Chosen (λ X. Agree seg 0 (chunks X) []) (λ X. IsChosen keys X None) (λ X f p. absurd (some_agrees X f p)) found (behind old.left mid.left (size - first) _ rest x.nothing);
+  refused_under old mid new NoMatchingKey got reads writes started x = record {
+    none = behind old.left mid.left (λ Y. Agree seg 0 (cut first size Y) []) (λ X. IsChosen keys X None) (λ X s p. absurd (some_agrees s.header X s.found p)) started x.nothing;
     written = subst (λ (o : Option (List ℕ)). Keeps o new.got) got x.written;
   }
-  refused_under old mid new (Truncated n) got reads writes found rest x = record {
+  refused_under old mid new (Truncated n) got reads writes started x = record {
     texts = x.texts;
     number = x.number;
     some = x.some;
-    stream = told_only old.left _ _ (λ X h. agrees_under X x.texts (HasShort n overhead) (λ k. (0 < length (chunk_of k X n)) × (length (chunk_of k X n) < k.overhead)) h.0 (λ p. (p.0, omega (arith, p.1, h.0.opener.overhead_is))) h.1) (stops old mid new n (HasShort n overhead) x found rest);
+    stream = behind old.left mid.left (λ Y. Agree seg 0 (cut first size Y) x.texts × HasShort n overhead (cut first size Y))
+        (λ X. AgreesUntil keys X x.texts (λ k. (0 < length (chunk_of k X n)) × (length (chunk_of k X n) < k.overhead)))
+        (λ X s h. agrees_under s.header X x.texts (HasShort n overhead) (λ k. (0 < length (chunk_of k X n)) × (length (chunk_of k X n) < k.overhead)) s.found (λ p. (p.0, omega (arith, p.1, s.found.opener.overhead_is))) h) started x.agree;
     written = subst (λ (o : Option (List ℕ)). Appends o new.got (joined x.texts)) got x.written;
   }
-  refused_under old mid new (BadSegment n) got reads writes found rest x = record {
+  refused_under old mid new (BadSegment n) got reads writes started x = record {
     texts = x.texts;
     number = x.number;
     some = x.some;
-    stream = told_only old.left _ _ (λ X h. agrees_under X x.texts (HasLong n overhead) (λ k. k.overhead ≤ length (chunk_of k X n)) h.0 (λ p. omega (arith, p, h.0.opener.overhead_is)) h.1) (stops old mid new n (HasLong n overhead) x found rest);
+    stream = behind old.left mid.left (λ Y. Agree seg 0 (cut first size Y) x.texts × HasLong n overhead (cut first size Y))
+        (λ X. AgreesUntil keys X x.texts (λ k. k.overhead ≤ length (chunk_of k X n)))
+        (λ X s h. agrees_under s.header X x.texts (HasLong n overhead) (λ k. k.overhead ≤ length (chunk_of k X n)) s.found (λ p. omega (arith, p, s.found.opener.overhead_is)) h) started x.agree;
     written = subst (λ (o : Option (List ℕ)). Appends o new.got (joined x.texts)) got x.written;
   }
-  refused_under old mid new TooManySegments got reads writes found rest x = record {
+  refused_under old mid new TooManySegments got reads writes started x = record {
     texts = x.texts;
     number = sym x.number;
-    stream = told_only old.left _ _ (λ X h. agrees_under X x.texts (HasMore (2 ^ 32)) (λ k. 2 ^ 32 < length (chunks_of k X)) h.0 (λ p. p) h.1) (stops old mid new (2 ^ 32) (HasMore (2 ^ 32)) x found rest);
+    stream = behind old.left mid.left (λ Y. Agree seg 0 (cut first size Y) x.texts × HasMore (2 ^ 32) (cut first size Y))
+        (λ X. AgreesUntil keys X x.texts (λ k. 2 ^ 32 < length (chunks_of k X)))
+        (λ X s h. agrees_under s.header X x.texts (HasMore (2 ^ 32)) (λ k. 2 ^ 32 < length (chunks_of k X)) s.found (λ p. p) h) started x.agree;
     written = subst (λ (o : Option (List ℕ)). Appends o new.got (joined x.texts)) got x.written;
   }
-  refused_under old mid new ReadFault got reads writes found rest x = (breaks_under old mid new got found rest x.0, Rose-earlier old.read_faults mid.read_faults new.read_faults reads x.1)
-  refused_under old mid new WriteFault got reads writes found rest x = (breaks_under old mid new got found rest x.0, Rose-earlier old.write_faults mid.write_faults new.write_faults writes x.1)
-  refused_under old mid new _ got reads writes found rest x = absurd x
+  refused_under old mid new ReadFault got reads writes started x = (breaks_under old mid new got started x.0, Rose-earlier old.read_faults mid.read_faults new.read_faults reads x.1)
+  refused_under old mid new WriteFault got reads writes started x = (breaks_under old mid new got started x.0, Rose-earlier old.write_faults mid.write_faults new.write_faults writes x.1)
+  refused_under old mid new _ got reads writes started x = absurd x
 
-  opened_under : (old mid new : Outside) (report : Report) → overhead < first → ((i : ℕ) (last : Bool) (t : List ℕ) → length (seg i last t) ≡ length t + overhead) → mid.got ≡ old.got → IfSome old.left Chosen → IfSome old.left (λ X. mid.left ≡ Some (drop (size - first) X))
+  opened_under : (old mid new : Outside) (report : Report) → overhead < first → ((i : ℕ) (last : Bool) (t : List ℕ) → length (seg i last t) ≡ length t + overhead) → mid.got ≡ old.got → IfSome old.left (Begun mid.left)
       → IsReadOut seg first size mid new report → IsOpened keys old new report
-  opened_under old mid new report fits longer got found rest x = record {
+  opened_under old mid new report fits longer got started x = record {
     texts = x.texts;
-    stream = told_both old.left Chosen (λ X. Leads seg 0 (chunks X) x.texts []) (λ X. IsOfChosen keys X x.texts)
-        (λ X f p. record { key = f.key; chosen = f.chosen; stream = stream_opened keys X seg first size overhead x.texts f longer fits x.some p }) found (behind old.left mid.left (size - first) _ rest x.leads);
-    stays_told = behind old.left mid.left (size - first) (λ _. IsSome new.left) rest x.stays_told;
+    stream = behind old.left mid.left (λ Y. Leads seg 0 (cut first size Y) x.texts []) (λ X. IsOfChosen keys X x.texts)
+        (λ X s p. record { key = s.found.key; chosen = s.found.chosen; stream = stream_opened keys X seg s.header first size overhead x.texts s.found longer fits x.some p }) started x.leads;
+    stays_told = behind old.left mid.left (λ _. IsSome new.left) (λ _. IsSome new.left) (λ X s p. p) started x.stays_told;
     at_end = x.at_end;
     written = subst (λ (o : Option (List ℕ)). Appends o new.got (joined x.texts)) got x.written;
     segments = x.segments;
@@ -134,9 +132,9 @@ module _ (keys : List OpeningKey) (seg : ℕ → Bool → List ℕ → List ℕ)
 
   -- what the chosen key's reader finds is what an open answers
   pub means_under : (old mid new : Outside) (answer : Result Report TinkError) → overhead < first → ((i : ℕ) (last : Bool) (t : List ℕ) → length (seg i last t) ≡ length t + overhead) → mid.got ≡ old.got → old.read_faults ≤ mid.read_faults → old.write_faults ≤ mid.write_faults
-      → IfSome old.left Chosen → IfSome old.left (λ X. mid.left ≡ Some (drop (size - first) X)) → ReaderMeans seg first size overhead mid new answer → StreamMeans keys old new answer
-  means_under old mid new (Ok report) fits longer got reads writes found rest x = opened_under old mid new report fits longer got found rest x
-  means_under old mid new (Err e) fits longer got reads writes found rest x = refused_under old mid new e.kind got reads writes found rest x
+      → IfSome old.left (Begun mid.left) → ReaderMeans seg first size overhead mid new answer → StreamMeans keys old new answer
+  means_under old mid new (Ok report) fits longer got reads writes started x = opened_under old mid new report fits longer got started x
+  means_under old mid new (Err e) fits longer got reads writes started x = refused_under old mid new e.kind got reads writes started x
 
 -- no reader was started
 pub start_refused : (keys : List OpeningKey) (old new : Outside) (kind : Kind) → Keeps old.got new.got → StartRefused keys old.left old.read_faults new.read_faults kind → StreamRefused keys old new kind

@@ -13,8 +13,7 @@ use Rattle.tink_io.specs.declared.error.Kind.{Kind}
 use Rattle.tink_io.specs.declared.error.Kind.TheVariants.{OutOfMemory, ReadFault, WriteFault, RandomFault, UnsupportedHash, TooManySegments, FailedBefore}
 use Rattle.tink_io.specs.declared.error.TinkError.{TinkError}
 use Rattle.stream_model.specs.Cut.{full_chunks, numbered, sealed, unmarked}
-use Rattle.stream_model.specs.Key.{StreamKey, SegmentKind, front, header_length, first_room, room, keys_of, nonce_size, nonce_size_of, segment_at, segment_of}
-use Rattle.stream_model.specs.Key.SegmentKind.{CtrHmac}
+use Rattle.stream_model.specs.Key.{StreamKey, front, header_length, first_room, room, keys_of, nonce_size, segment_at, segment_of}
 use Rattle.tink_streaming_aead.specs.SegmentKeys.{SegmentKeys, segment_under}
 use Rattle.tink_streaming_aead.specs.StreamingKeys.{IsDerived}
 use Rattle.stream_model.specs.Sealing.{stream, part, longest_part, sealed_under, unmarked_under, drawn, salt_of, prefix_of}
@@ -155,14 +154,11 @@ header_front k (x ∷ H) out l m =
     let whole : H ≡ take k.derived H ++ drop (k.derived + 1) (x ∷ H) = sym (take-append-drop k.derived H) ∙ ap (λ ys. take k.derived H ++ ys) (sym rest) in
     ap (λ b. b ∷ H) m ∙ ap (λ ys. header_length k ∷ ys) whole ∙ ap (λ o. o ++ (header_length k ∷ take k.derived H ++ drop (k.derived + 1) (x ∷ H))) (sym out)
 
-nonce_size_is : (kind : SegmentKind) → nonce_size_of kind ≡ 16
-nonce_size_is (CtrHmac h t) = refl
-
 -- the derived cipher's segments are the key's
 pub seg_is : (k : StreamKey) (aad salt prefix : List ℕ) (cipher encrypter : SegmentKeys) (size : ℕ) (given : List ℕ) (d : IsDerived k aad salt cipher) → encrypter ≡ cipher → size ≡ 16 → given ≡ prefix
     → numbered (segment_under encrypter) size given ≡ segment_at k d.keys prefix
 seg_is k aad salt prefix cipher encrypter size given d e s p =
-    ap (λ c. numbered (segment_under c) size given) e ∙ ap (λ f. numbered f size given) d.segments ∙ ap (λ n. numbered (segment_of k.kind k.derived d.keys) n given) (s ∙ sym (nonce_size_is k.kind)) ∙ ap (numbered (segment_of k.kind k.derived d.keys) (nonce_size k)) p
+    ap (λ c. numbered (segment_under c) size given) e ∙ ap (λ f. numbered f size given) d.segments ∙ ap (λ n. numbered (segment_of k.kind k.derived d.keys) n given) (s ∙ sym d.nonce) ∙ ap (numbered (segment_of k.kind k.derived d.keys) (nonce_size k)) p
 
 -- what pouring refused
 pub pour_refusal : (k : StreamKey) (aad salt prefix keys : List ℕ) (e : keys_of k aad salt ≡ Some keys) (seg : ℕ → Bool → List ℕ → List ℕ) (a b : ℕ) (left after got : Option (List ℕ)) (reads again writes : ℕ) (m n : Moment) (kind : Kind)

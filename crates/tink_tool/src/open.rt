@@ -50,6 +50,10 @@ impl<'a> OpensStreams<CtrHmacSegment> for KeyUnder<'a> {
         self.key.segment_size()
     }
 
+    fn first_segment_size(&self) -> u32 {
+        self.key.first_segment_size()
+    }
+
     fn nonce_size(&self) -> usize {
         NONCE
     }

@@ -178,7 +178,7 @@ fn sealer_of(
         prefix,
         nonce_size: NONCE,
         overhead,
-        first: room - header.len(),
+        first: key.first_segment_size() as usize - overhead,
         room,
     }
 }

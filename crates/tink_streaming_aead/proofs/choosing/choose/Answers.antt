@@ -12,14 +12,15 @@ pub returns-in-Ok-clause-chosen : goal.returns-in-Ok-clause-chosen
 returns-in-Ok-clause-chosen g c =
     let of : g.row.T.Denot → OpeningKey = g.T.OpensStreams.opening_key in
     let keys = c.args.keys.now in
-    let o = c.in-Ok.opener in
+    let b = c.in-Ok.begun in
+    let o = b.opener in
     let seg : ℕ → Bool → List ℕ → List ℕ = numbered (g.D.SegmentDecrypter.seg o.decrypter) o.nonce_size o.prefix.items in
     let told : Option (List ℕ) = prepend_known (take c.args.kept.now.filled c.args.kept.now.buffer.items) (g.S.Source.left c.args.source.now) in
     let key : g.row.T.Denot = c.key-item.result in
     let split = key_split keys c.loop-key.key-index key (omega arith) c.key-item.is in
-    both_told told (λ X. Begins (of key) X × IsOpenerOf (of key) X seg o.first o.size o.overhead) (GoesOn of keys c.loop-key.key-index) (λ X. Found (map of keys) X seg o.first o.size o.overhead)
-    (λ X b h. record { key = of key; chosen = take_key of keys c.loop-key.key-index key X split b.0 h; opener = b.1 })
-    (told_before told _ (λ X. Begins (of key) X × IsOpenerOf (of key) X seg o.first o.size o.overhead) c.loop-key.invariant.rest (rw c.in-Ok.is at c.in_ok-opener.ensures.found))
+    both_told told (λ X. Begins (of key) X × IsOpenerOf (of key) X seg b.header o.first o.size o.overhead) (GoesOn of keys c.loop-key.key-index) (λ X. Found (map of keys) X seg b.header o.first o.size o.overhead)
+    (λ X p h. record { key = of key; chosen = take_key of keys c.loop-key.key-index key X split p.0 h; opener = p.1 })
+    (told_before told _ (λ X. Begins (of key) X × IsOpenerOf (of key) X seg b.header o.first o.size o.overhead) c.loop-key.invariant.rest (rw c.in-Ok.is at c.in_ok-begun.ensures.found))
     c.loop-key.invariant.chosen
 
 pub loop-key-preserved : goal.loop-key-preserved
@@ -29,7 +30,7 @@ loop-key-preserved g c =
     let told : Option (List ℕ) = prepend_known (take c.args.kept.now.filled c.args.kept.now.buffer.items) (g.S.Source.left c.args.source.now) in
     let key : g.row.T.Denot = c.key-item.result in
     let inv = c.loop-key.invariant in
-    let tried = c.in_ok-opener.ensures in
+    let tried = c.in_ok-begun.ensures in
     let split = key_split keys c.loop-key.key-index key (omega arith) c.key-item.is in
     record {
       len = tried.len ∙ inv.len;

@@ -25,4 +25,4 @@ returns-clause-answer g c =
     let started : Outside = record { left = prepend_known (take reader.filled reader.buffer.items) (g.S.Source.left c.start.new.source); read_faults = g.S.Source.faults c.start.new.source; got = g.K.Sink.got c.args.sink.now; write_faults = g.K.Sink.faults c.args.sink.now } in
     means_under _ seg opener.first opener.size opener.overhead _ started _ _ (omega (arith, opener.some))
     (numbered_longer (g.D.SegmentDecrypter.seg opener.decrypter) opener.nonce_size opener.prefix.items opener.overhead (λ n t. g.met.D.SegmentDecrypter.longer opener.decrypter n t ∙ ap (λ x. length t + x) (sym opener.overhead_is)))
-    refl c.start.ensures.later (omega arith) (rw none_held at c.in_ok-reader.ensures.found) (rw none_held at c.in_ok-reader.ensures.rest) c.open_stream.ensures.answer
+    refl c.start.ensures.later (omega arith) (rw none_held at c.in_ok-reader.ensures.started) c.open_stream.ensures.answer
