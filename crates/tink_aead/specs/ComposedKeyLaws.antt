@@ -2,6 +2,7 @@
 use Rattle.std.specs.Prelude.{◌≡◌, ℕ, List, [], Bool, true, false, Option, Some, None, Result, Ok, Err, refl, length, take, nat_eq, nat_le}
 use Rattle.tink_io.specs.declared.error.Kind.{Kind}
 use Rattle.tink_io.specs.declared.error.Kind.TheVariants.{InvalidFormat, InvalidKey, RandomFault}
+use Rattle.tink_io.specs.Told.{made_of}
 use Rattle.tink_keysets.specs.Told.{takes_bytes}
 use Rattle.tink_primitives.specs.Meaning.{IsDrawn, IsTold}
 use Rattle.tink_primitives.specs.MeaningLaws.{drawn_if, drawn_none, drawn_take, end_trans, told_if}
@@ -12,7 +13,6 @@ use Rattle.tink_proto_keys.specs.declared.aes_ctr_hmac.AesCtrKeyFormat.{AesCtrKe
 use Rattle.tink_proto_keys.specs.declared.aes_ctr_hmac.AesCtrParams.{AesCtrParams}
 use Rattle.tink_proto_keys.specs.declared.mac.HmacKey.{HmacKey}
 use Rattle.tink_proto_keys.specs.declared.mac.HmacKeyFormat.{HmacKeyFormat}
-use Rattle.tink_sets.specs.Converting.{made_of}
 use Rattle.tink_key_types.specs.Manager.{of_draws}
 use Rattle.tink_key_types.specs.ManagerLaws.{of_draws_told}
 use Rattle.tink_mac.specs.KeyTypes.{hmac_built}

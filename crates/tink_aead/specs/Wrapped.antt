@@ -2,7 +2,7 @@
 use Rattle.std.specs.Prelude.{◌≡◌, ◌++◌, ◌∷◌, ℕ, List, Option, Some, None, Result, Ok, Err, find, nat_eq}
 use Rattle.tink_io.specs.declared.error.Kind.{Kind}
 use Rattle.tink_io.specs.declared.error.Kind.TheVariants.{DecryptFailed, NoPrimary}
-use Rattle.tink_sets.specs.Converting.{made_of}
+use Rattle.tink_io.specs.Told.{made_of}
 use Rattle.tink_sets.specs.Entries.{typed_prefix_of}
 use Rattle.tink_sets.specs.Groups.{group_of}
 use Rattle.tink_sets.specs.declared.entry.TypedEntry.{TypedEntry}

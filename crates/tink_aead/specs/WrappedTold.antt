@@ -2,8 +2,8 @@
 use Rattle.std.specs.Prelude.{ℕ, List, [], ◌++◌, Option, Some, None, Result, Ok, Err, refl}
 use Rattle.tink_io.specs.declared.error.Kind.{Kind}
 use Rattle.tink_io.specs.declared.error.Kind.TheVariants.{DecryptFailed}
+use Rattle.tink_io.specs.Told.{made_of}
 use Rattle.tink_primitives.specs.Meaning.{IsDrawn, IsTold}
-use Rattle.tink_sets.specs.Converting.{made_of}
 use Rattle.tink_sets.specs.declared.entry.TypedEntry.{TypedEntry}
 use Rattle.tink_factory.specs.Accepting.{or_else, prefixed_value, raw_value, value_or}
 use Rattle.tink_aead.specs.Wrapped.{any_decrypts, behind_prefix, entry_decrypts, entry_encrypts, primary_encrypts}

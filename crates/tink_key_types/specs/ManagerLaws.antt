@@ -5,6 +5,7 @@ use Rattle.std.proofs.Common.{subst}
 use Rattle.std.proofs.lemmas.Bool.{false≢true}
 use Rattle.tink_io.specs.declared.error.Kind.{Kind}
 use Rattle.tink_io.specs.declared.error.Kind.TheVariants.{InvalidFormat, NoPrivateKeys, RandomFault}
+use Rattle.tink_io.specs.Told.{made_of}
 use Rattle.tink_proto.specs.declared.messages.keys.KeyData.{KeyData}
 use Rattle.wire_format.specs.Columns.{Column}
 use Rattle.wire_format.specs.Message.{encoded}
@@ -12,7 +13,7 @@ use Rattle.tink_primitives.specs.Meaning.{IsTold, IsDrawn}
 use Rattle.tink_primitives.specs.MeaningLaws.{told_if, drawn_if, drawn_none, drawn_take}
 use Rattle.tink_keysets.specs.Told.{takes_bytes}
 use Rattle.tink_registry.specs.Known.{IsOfKnownMaterial}
-use Rattle.tink_key_types.specs.Manager.{made_of, message_of, built_by, builds, made_by, new_message, makes, symmetric, makes_data, built_if, of_draws, made_if}
+use Rattle.tink_key_types.specs.Manager.{message_of, built_by, builds, made_by, new_message, makes, symmetric, makes_data, built_if, of_draws, made_if}
 
 made_told : {S T : Type 0} (f : S → T) (r : Result S Kind) → IsTold r → IsTold (made_of f r)
 made_told f (Ok v) told = tt

@@ -3,11 +3,11 @@ use Rattle.std.specs.Prelude.{◌≡◌, ℕ, List, Some, Result, Ok, Err, ok_or
 use Rattle.wire_format.specs.Message.{decoded, encoded}
 use Rattle.tink_io.specs.declared.error.Kind.{Kind}
 use Rattle.tink_io.specs.declared.error.Kind.TheVariants.{BadKeyset, MasterFailed, OutOfMemory}
+use Rattle.tink_io.specs.Told.{made_of}
 use Rattle.tink_proto.specs.Messages.{keyset}
 use Rattle.tink_proto.specs.declared.messages.infos.EncryptedKeyset.{EncryptedKeyset}
 use Rattle.tink_proto.specs.declared.messages.keys.Keyset.{Keyset}
 use Rattle.keyset_model.specs.Secrets.{keyset_info}
-use Rattle.tink_keysets.specs.Built.{made_of}
 use Rattle.tink_keysets.specs.Handles.{handle_of}
 
 -- what a master answers: each kind that it refuses by is `MasterFailed`

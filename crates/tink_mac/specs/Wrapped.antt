@@ -3,9 +3,9 @@ use Rattle.std.specs.Prelude.{◌≡◌, ◌++◌, ◌∷◌, ℕ, List, [], Vec
 use Rattle.std.specs.BTreeMap.{BTreeMap}
 use Rattle.tink_io.specs.declared.error.Kind.{Kind}
 use Rattle.tink_io.specs.declared.error.Kind.TheVariants.{MacMismatch, NoPrimary}
+use Rattle.tink_io.specs.Told.{made_of}
 use Rattle.tink_proto.specs.declared.enums.OutputPrefixType.{OutputPrefixType}
 use Rattle.tink_proto.specs.declared.enums.OutputPrefixType.TheVariants.{Legacy}
-use Rattle.tink_sets.specs.Converting.{made_of}
 use Rattle.tink_sets.specs.Entries.{typed_prefix_of}
 use Rattle.tink_sets.specs.Groups.{group_of}
 use Rattle.tink_sets.specs.declared.entry.TypedEntry.{TypedEntry}

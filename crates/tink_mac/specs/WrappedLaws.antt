@@ -2,8 +2,8 @@
 use Rattle.std.specs.Prelude.{ℕ, List, Bool, true, false, Option, Some, None, Result, Ok, Err, cond, length, nat_lt}
 use Rattle.tink_io.specs.declared.error.Kind.{Kind}
 use Rattle.tink_io.specs.declared.error.Kind.TheVariants.{MacMismatch}
+use Rattle.tink_io.specs.Told.{made_of}
 use Rattle.tink_primitives.specs.Meaning.{IsMatch, IsTold}
-use Rattle.tink_sets.specs.Converting.{made_of}
 use Rattle.tink_sets.specs.declared.entry.TypedEntry.{TypedEntry}
 use Rattle.tink_factory.specs.Accepting.{accepted, or_else, prefixed_value, raw_value, value_or}
 use Rattle.tink_mac.specs.Wrapped.{any_verifies, covered, entry_mac, entry_verifies, primary_mac}

@@ -3,6 +3,7 @@ use Rattle.std.specs.Prelude.{◌≡◌, ◌⊎◌, ⊤, ℕ, List, [], Vec, Opt
 use Rattle.std.specs.BTreeMap.{BTreeMap}
 use Rattle.tink_io.specs.declared.error.Kind.{Kind}
 use Rattle.tink_io.specs.declared.error.Kind.TheVariants.{NotEnabled, WrongPrimitive}
+use Rattle.tink_io.specs.Told.{made_of}
 use Rattle.tink_proto.specs.declared.enums.OutputPrefixType.TheVariants.{UnknownPrefix}
 use Rattle.tink_proto.specs.declared.enums.KeyStatusType.TheVariants.{Enabled}
 use Rattle.tink_proto.specs.declared.messages.keys.Key.{Key}
@@ -10,7 +11,7 @@ use Rattle.keyset_model.specs.Keys.{is_enabled}
 use Rattle.keyset_model.specs.Entries.{output_prefix}
 use Rattle.tink_primitives.specs.declared.primitive.Primitive.{Primitive}
 use Rattle.tink_sets.specs.Prefixes.{known_type, told_prefix}
-use Rattle.tink_sets.specs.Converting.{made_of, HasRefused}
+use Rattle.tink_sets.specs.Converting.{HasRefused}
 use Rattle.tink_sets.specs.declared.entry.Entry.{Entry}
 use Rattle.tink_sets.specs.declared.entry.TypedEntry.{TypedEntry}
 
