@@ -9,6 +9,11 @@ abbrev pub made_of : {S T : Type 0} → (S → T) → Result S Kind → Result T
 made_of f (Ok v) = Ok (f v)
 made_of f (Err kind) = Err kind
 
+-- what there is, or a refusal where there is nothing
+abbrev pub or_refused : {T : Type 0} → Kind → Option T → Result T Kind
+or_refused kind None = Err kind
+or_refused kind (Some v) = Ok v
+
 -- a call that draws nothing gives the told value, or refuses by the told kind, or there is no memory
 abbrev pub Answers : {T : Type 0} → Result T TinkError → Result T Kind → Type 0
 Answers (Ok v) told = told ≡ Ok v

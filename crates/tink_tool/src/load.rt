@@ -2,7 +2,7 @@
 
 ghost use Rattle.std.specs.Prelude.{◌≡◌, filter};
 ghost use Rattle.std.specs.Str.{bytes_eq};
-ghost use Rattle.tink_io.specs.Told.{Answers};
+ghost use Rattle.tink_io.specs.Told.{Answers, or_refused};
 ghost use Rattle.tink_proto.specs.Messages.{keyset};
 ghost use Rattle.wire_format.specs.Message.{decoded};
 ghost use Rattle.keyset_model.specs.Keys as key_words;
@@ -69,7 +69,7 @@ pub fn load(alloc: Global, bytes: &[u8]) -> Result<LoadedKeys, TinkError>
 }
 
 fn decode(alloc: Global, bytes: &[u8]) -> Result<Keyset, TinkError>
-    ensures { Answers result (building.or_refused Kind.BadKeyset (decoded keyset.read bytes.now)) }
+    ensures { Answers result (or_refused Kind.BadKeyset (decoded keyset.read bytes.now)) }
 {
     match Keyset::decode(alloc, bytes) {
         Ok(keyset) => Ok(keyset),
@@ -223,7 +223,7 @@ fn is_streaming(main: usize, derived: u32, tag_hash: Hash, tag: u32, segment: u3
 
 // The first key of the id.
 fn primary_key(alloc: Global, id: u32, keys: &[LoadedKey]) -> Result<StreamingKey, TinkError>
-    ensures { Answers result (building.or_refused Kind.NoPrimary (loading.key_of_id id keys.now)) }
+    ensures { Answers result (or_refused Kind.NoPrimary (loading.key_of_id id keys.now)) }
 {
     for key in keys {
         if key.id == id {
