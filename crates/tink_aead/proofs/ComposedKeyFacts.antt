@@ -23,7 +23,7 @@ use Rattle.tink_primitives.specs.Meaning.{IsEndOf}
 use Rattle.tink_primitives.specs.MeaningLaws.{end_trans}
 use Rattle.tink_keysets.specs.Told.{takes_bytes}
 use Rattle.tink_key_types.specs.Manager.{of_draws}
-use Rattle.tink_aead.specs.ComposedKeyLaws.{taken_told}
+use Rattle.tink_key_types.specs.ManagerLaws.{taken_told}
 use Rattle.tink_mac.specs.KeyTypes.{hmac_built, hmac_by_params, or_invalid}
 use Rattle.tink_mac.specs.Tags.{hmac_tag, hmac_tags, is_outside, own_tag, HmacTags}
 use Rattle.tink_aead.specs.AeadKinds.{hmac_computes, hmac_verifies}
