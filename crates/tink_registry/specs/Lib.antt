@@ -1,3 +1,4 @@
 pub mod Known
 pub mod Listed
+pub mod ListedLaws
 pub mod TestKeys
