@@ -1,13 +1,8 @@
-use Rattle.std.proofs.Common.{rules}
+use Rattle.std.proofs.Common.{◌≡◌, ◌∷◌, [], sym, subst, rules}
+use Rattle.tink_registry.specs.Registering.{AreMade, IsMade}
 use Rattle.tink_mac.proofs.registering.managers.Goals as goal
 
 pub returns-clause-value : goal.returns-clause-value
-returns-clause-value g c = record {
-  hmac_keys = c.new.result;
-  cmac_keys = c.new-2.result;
-  hmac = c.from-hmac.result;
-  cmac = c.from-cmac.result;
-  are = search rules;
-  from_hmac = c.from-hmac.ensures;
-  from_cmac = c.from-cmac.ensures;
-}
+returns-clause-value g c =
+    let are : c.managers.items ≡ c.from-hmac.result ∷ c.from-cmac.result ∷ [] = search rules in
+    subst (AreMade (IsMade g.M.From-1.from_gives ∷ IsMade g.M.From-2.from_gives ∷ [])) (sym are) ((c.new.result, c.from-hmac.ensures), (c.new-2.result, c.from-cmac.ensures), tt)

@@ -1,10 +1,8 @@
-use Rattle.std.proofs.Common.{rules}
-use Rattle.tink_prf.proofs.registering.prf_managers.Goals as goal
+use Rattle.std.proofs.Common.{◌≡◌, ◌∷◌, [], sym, subst, rules}
+use Rattle.tink_registry.specs.Registering.{AreMade, IsMade}
+use Rattle.tink_prf.proofs.registering.managers.Goals as goal
 
 pub returns-clause-value : goal.returns-clause-value
-returns-clause-value g c = record {
-  hmac = (c.new.result, c.from-hmac.result, c.from-hmac.ensures);
-  hkdf = (c.new-2.result, c.from-hkdf.result, c.from-hkdf.ensures);
-  aes_cmac = (c.new-3.result, c.from-aes_cmac.result, c.from-aes_cmac.ensures);
-  all = search rules;
-}
+returns-clause-value g c =
+    let are : c.managers.items ≡ c.from-hmac.result ∷ c.from-hkdf.result ∷ c.from-aes_cmac.result ∷ [] = search rules in
+    subst (AreMade (IsMade g.M.From-1.from_gives ∷ IsMade g.M.From-2.from_gives ∷ IsMade g.M.From-3.from_gives ∷ [])) (sym are) ((c.new.result, c.from-hmac.ensures), (c.new-2.result, c.from-hkdf.ensures), (c.new-3.result, c.from-aes_cmac.ensures), tt)
