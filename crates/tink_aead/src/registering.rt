@@ -18,7 +18,8 @@ use tink_core::registry::{KeyManager, Registry};
 use tink_key_types::add_template;
 use tink_proto::{KeyTemplate, Text};
 
-/// Registers the managers of AES-CTR-HMAC, AES-GCM and AES-GCM-SIV keys, in this order, and the eight templates, or nothing.
+/// Registers the managers of AES-CTR-HMAC, AES-GCM and AES-GCM-SIV keys, in this order, and the eight templates, or
+/// nothing.
 ///
 /// # Errors
 /// `AlreadyRegistered` exactly where a manager's URL is there, or two of them have one; `OutOfMemory`. Then nothing is
