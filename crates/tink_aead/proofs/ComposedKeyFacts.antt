@@ -18,13 +18,12 @@ use Rattle.tink_proto_keys.specs.declared.mac.HmacParams.{HmacParams}
 use Rattle.tink_proto_keys.specs.declared.aes_ctr_hmac.AesCtrKeyFormat.{AesCtrKeyFormat}
 use Rattle.tink_proto_keys.specs.declared.mac.HmacKeyFormat.{HmacKeyFormat}
 use Rattle.tink_io.specs.declared.error.TinkError.{TinkError}
-use Rattle.tink_io.specs.Told.{IsShort, Replies}
+use Rattle.tink_io.specs.Told.{IsShort, Replies, made_of}
 use Rattle.tink_primitives.specs.Meaning.{IsEndOf}
 use Rattle.tink_primitives.specs.MeaningLaws.{end_trans}
 use Rattle.tink_keysets.specs.Told.{takes_bytes}
 use Rattle.tink_key_types.specs.Manager.{of_draws}
-use Rattle.tink_aead.specs.ComposedKeyLaws.{taken_told}
-use Rattle.tink_sets.specs.Converting.{made_of}
+use Rattle.tink_key_types.specs.ManagerLaws.{taken_told}
 use Rattle.tink_mac.specs.KeyTypes.{hmac_built, hmac_by_params, or_invalid}
 use Rattle.tink_mac.specs.Tags.{hmac_tag, hmac_tags, is_outside, own_tag, HmacTags}
 use Rattle.tink_aead.specs.AeadKinds.{hmac_computes, hmac_verifies}

@@ -1,10 +1,11 @@
 -- What the keys of AES in counter mode with HMAC tell.
-use Rattle.std.specs.Prelude.{◌≡◌, ℕ, List, [], Bool, true, false, Option, Some, None, Result, Ok, Err, refl, length, take, nat_eq, nat_le}
+use Rattle.std.specs.Prelude.{◌≡◌, ℕ, List, [], Bool, true, false, Option, Some, None, Result, Ok, Err, refl, nat_eq}
 use Rattle.tink_io.specs.declared.error.Kind.{Kind}
-use Rattle.tink_io.specs.declared.error.Kind.TheVariants.{InvalidFormat, InvalidKey, RandomFault}
+use Rattle.tink_io.specs.declared.error.Kind.TheVariants.{InvalidFormat, InvalidKey}
+use Rattle.tink_io.specs.Told.{made_of}
 use Rattle.tink_keysets.specs.Told.{takes_bytes}
 use Rattle.tink_primitives.specs.Meaning.{IsDrawn, IsTold}
-use Rattle.tink_primitives.specs.MeaningLaws.{drawn_if, drawn_none, drawn_take, end_trans, told_if}
+use Rattle.tink_primitives.specs.MeaningLaws.{drawn_if, drawn_none, end_trans, made_told, told_if}
 use Rattle.tink_proto_keys.specs.declared.aes_ctr_hmac.AesCtrHmacAeadKey.{AesCtrHmacAeadKey}
 use Rattle.tink_proto_keys.specs.declared.aes_ctr_hmac.AesCtrHmacAeadKeyFormat.{AesCtrHmacAeadKeyFormat}
 use Rattle.tink_proto_keys.specs.declared.aes_ctr_hmac.AesCtrKey.{AesCtrKey}
@@ -12,9 +13,8 @@ use Rattle.tink_proto_keys.specs.declared.aes_ctr_hmac.AesCtrKeyFormat.{AesCtrKe
 use Rattle.tink_proto_keys.specs.declared.aes_ctr_hmac.AesCtrParams.{AesCtrParams}
 use Rattle.tink_proto_keys.specs.declared.mac.HmacKey.{HmacKey}
 use Rattle.tink_proto_keys.specs.declared.mac.HmacKeyFormat.{HmacKeyFormat}
-use Rattle.tink_sets.specs.Converting.{made_of}
 use Rattle.tink_key_types.specs.Manager.{of_draws}
-use Rattle.tink_key_types.specs.ManagerLaws.{of_draws_told}
+use Rattle.tink_key_types.specs.ManagerLaws.{of_draws_told, taken_told}
 use Rattle.tink_mac.specs.KeyTypes.{hmac_built}
 use Rattle.tink_mac.specs.KeyTypeLaws.{hmac_built_told}
 use Rattle.tink_mac.specs.Tags.{HmacTags}
@@ -22,10 +22,6 @@ use Rattle.tink_aead.specs.ComposedKeys.{are_ctr_params, composed_built, compose
 use Rattle.tink_aead.specs.KeyTypes.{is_versioned_key}
 use Rattle.tink_aead.specs.declared.subtle.aes_ctr.AesCtr.{AesCtr}
 use Rattle.tink_aead.specs.declared.subtle.encrypt_then_authenticate.EncryptThenAuthenticate.{EncryptThenAuthenticate}
-
-made_told : {S T : Type 0} (f : S → T) (r : Result S Kind) → IsTold r → IsTold (made_of f r)
-made_told f (Ok v) told = tt
-made_told f (Err k) told = told
 
 ctr_by_params_told : (params : Option AesCtrParams) (key : List ℕ) → IsTold (ctr_by_params params key)
 ctr_by_params_told None key = tt
@@ -52,9 +48,6 @@ composed_built_told primitive k =
     made_told primitive (composed_built k)
     (told_if (nat_eq k.version 0) (joined (ctr_built k.aes_ctr_key) (mac_built k.hmac_key)) (Err InvalidKey)
     (joined_told (ctr_built k.aes_ctr_key) (mac_built k.hmac_key) (ctr_built_told k.aes_ctr_key) (mac_built_told k.hmac_key)) tt)
-
-pub taken_told : (n : ℕ) (draws : List ℕ) → IsDrawn draws (takes_bytes n draws)
-taken_told n draws = drawn_if draws (nat_le n (length draws)) _ _ (drawn_take draws n (Ok (take n draws)) tt) (drawn_none draws (Err RandomFault) tt)
 
 -- two takes, one after the other
 with_hmac_key_told : (a : AesCtrKeyFormat) (h : HmacKeyFormat) (draws : List ℕ) (first : Result (List ℕ) Kind × List ℕ) → IsDrawn draws first → IsDrawn draws (with_hmac_key a h first)

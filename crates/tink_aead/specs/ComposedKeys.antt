@@ -2,6 +2,7 @@
 use Rattle.std.specs.Prelude.{ℕ, List, Bool, false, ◌&&◌, Option, Some, None, Result, Ok, Err, codes, nat_eq, nat_le, if◌then◌else◌}
 use Rattle.tink_io.specs.declared.error.Kind.{Kind}
 use Rattle.tink_io.specs.declared.error.Kind.TheVariants.{InvalidFormat, InvalidKey}
+use Rattle.tink_io.specs.Told.{made_of}
 use Rattle.tink_keysets.specs.Told.{takes_bytes}
 use Rattle.tink_proto.specs.Enums.{hash_number}
 use Rattle.tink_proto.specs.declared.enums.HashType.{HashType}
@@ -15,7 +16,6 @@ use Rattle.tink_proto_keys.specs.declared.aes_ctr_hmac.AesCtrKeyFormat.{AesCtrKe
 use Rattle.tink_proto_keys.specs.declared.aes_ctr_hmac.AesCtrParams.{AesCtrParams}
 use Rattle.tink_proto_keys.specs.declared.mac.HmacKey.{HmacKey}
 use Rattle.tink_proto_keys.specs.declared.mac.HmacKeyFormat.{HmacKeyFormat}
-use Rattle.tink_sets.specs.Converting.{made_of}
 use Rattle.tink_key_types.specs.Manager.{of_draws}
 use Rattle.tink_key_types.specs.Templates.{template_of}
 use Rattle.tink_mac.specs.KeyTypes.{are_hmac_params, hmac_built, hmac_format}

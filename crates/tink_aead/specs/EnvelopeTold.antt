@@ -1,5 +1,5 @@
 -- What an envelope shows of its meaning: each answer is told, and draws are taken from the front.
-use Rattle.std.specs.Prelude.{ℕ, List, [], ◌||◌, ◌^◌, length, take, drop, nat_eq, nat_lt, nat_le, Option, Some, None, Result, Ok, Err}
+use Rattle.std.specs.Prelude.{ℕ, List, [], ◌||◌, ◌^◌, length, take, drop, nat_eq, nat_lt, nat_le, Result, Ok, Err}
 use Rattle.std.specs.Int.{w32, from_be_bytes}
 use Rattle.std.proofs.Common.{refl}
 use Rattle.tink_io.specs.declared.error.Kind.{Kind}
@@ -8,29 +8,10 @@ use Rattle.tink_primitives.specs.MeaningLaws.{drawn_none, end_trans, told_if}
 use Rattle.tink_primitives.specs.Sorts.{as_aead}
 use Rattle.tink_primitives.specs.declared.primitive.Primitive.{Primitive}
 use Rattle.tink_primitives.specs.declared.primitive.Primitive.TheVariants.{Aead}
-use Rattle.tink_proto.specs.declared.messages.keys.KeyTemplate.{KeyTemplate}
 use Rattle.tink_prf.specs.Sets.{and_then}
-use Rattle.tink_registry.specs.Listed.{builds_by, makes_by, manager_of, registry_builds, registry_makes}
+use Rattle.tink_registry.specs.Listed.{registry_builds}
+use Rattle.tink_registry.specs.ListedLaws.{registry_builds_told}
 use Rattle.tink_aead.specs.Envelope.{after, after_answer, cut_decrypts, data_key_aead, enveloped, envelope_decrypts, envelope_encrypts, parts_decrypt}
-
--- ---- a registry
-
-makes_by_told : {M A : Type 0} (makes : M → List ℕ → List ℕ → Result A Kind × List ℕ) → ((m : M) (format draws : List ℕ) → IsDrawn draws (makes m format draws))
-    → (format draws : List ℕ) (m : Option M) → IsDrawn draws (makes_by makes format draws m)
-makes_by_told makes told format draws None = record { answer = tt; ends = ([], refl) }
-makes_by_told makes told format draws (Some m) = told m format draws
-
-pub registry_makes_told : {M A : Type 0} (url : M → List ℕ) (makes : M → List ℕ → List ℕ → Result A Kind × List ℕ) → ((m : M) (format draws : List ℕ) → IsDrawn draws (makes m format draws))
-    → (ms : List M) (kt : KeyTemplate) (draws : List ℕ) → IsDrawn draws (registry_makes url makes ms kt draws)
-registry_makes_told url makes told ms kt draws = makes_by_told makes told kt.value draws (manager_of url kt.type_url ms)
-
-builds_by_told : {M P : Type 0} (builds : M → List ℕ → Result P Kind) → ((m : M) (key : List ℕ) → IsTold (builds m key)) → (key : List ℕ) (m : Option M) → IsTold (builds_by builds key m)
-builds_by_told builds told key None = tt
-builds_by_told builds told key (Some m) = told m key
-
-registry_builds_told : {M P : Type 0} (url : M → List ℕ) (builds : M → List ℕ → Result P Kind) → ((m : M) (key : List ℕ) → IsTold (builds m key))
-    → (ms : List M) (wanted key : List ℕ) → IsTold (registry_builds url builds ms wanted key)
-registry_builds_told url builds told ms wanted key = told_if (nat_eq (length key) 0) _ _ tt (builds_by_told builds told key (manager_of url wanted ms))
 
 -- ---- steps
 

@@ -16,7 +16,6 @@ pub mod Rotation
 pub mod ComposedKeys
 pub mod ComposedKeyLaws
 pub mod Templates
-pub mod Registering
 pub mod ComposedLaws
 pub mod Envelope
 pub mod EnvelopeTold

@@ -1,9 +1,9 @@
 -- The AEADs of a keyset as one.
-use Rattle.std.specs.Prelude.{◌≡◌, ◌++◌, ◌∷◌, ℕ, List, Option, Some, None, Result, Ok, Err, find, nat_eq}
+use Rattle.std.specs.Prelude.{◌≡◌, ◌++◌, ◌∷◌, ℕ, List, Option, Some, None, Result, Ok, Err}
 use Rattle.tink_io.specs.declared.error.Kind.{Kind}
 use Rattle.tink_io.specs.declared.error.Kind.TheVariants.{DecryptFailed, NoPrimary}
-use Rattle.tink_sets.specs.Converting.{made_of}
-use Rattle.tink_sets.specs.Entries.{typed_prefix_of}
+use Rattle.tink_io.specs.Told.{made_of}
+use Rattle.tink_sets.specs.Entries.{entry_of_id, typed_prefix_of}
 use Rattle.tink_sets.specs.Groups.{group_of}
 use Rattle.tink_sets.specs.declared.entry.TypedEntry.{TypedEntry}
 use Rattle.tink_keysets.specs.Built.{HasEntries}
@@ -14,10 +14,6 @@ use Rattle.tink_aead.specs.declared.factory.WrappedAead.{WrappedAead}
 -- the set of a keyset's entries
 abbrev pub entries_in : {P : Type 0} → WrappedAead P → TypedPrimitiveSet P
 entries_in w = w.ps
-
--- the first entry of an id
-abbrev pub entry_of_id : {P : Type 0} → ℕ → List (TypedEntry P) → Option (TypedEntry P)
-entry_of_id id es = find (λ e. nat_eq e.key_id id) es
 
 -- what was sealed, behind a prefix
 abbrev pub behind_prefix : List ℕ → Result (List ℕ) Kind × List ℕ → Result (List ℕ) Kind × List ℕ

@@ -1,22 +1,18 @@
 -- What the AEADs of a keyset tell.
-use Rattle.std.specs.Prelude.{ℕ, List, [], ◌++◌, Option, Some, None, Result, Ok, Err, refl}
+use Rattle.std.specs.Prelude.{ℕ, List, [], Option, Some, None, Result, Ok, Err, refl}
 use Rattle.tink_io.specs.declared.error.Kind.{Kind}
 use Rattle.tink_io.specs.declared.error.Kind.TheVariants.{DecryptFailed}
 use Rattle.tink_primitives.specs.Meaning.{IsDrawn, IsTold}
-use Rattle.tink_sets.specs.Converting.{made_of}
+use Rattle.tink_primitives.specs.MeaningLaws.{made_told}
 use Rattle.tink_sets.specs.declared.entry.TypedEntry.{TypedEntry}
 use Rattle.tink_factory.specs.Accepting.{or_else, prefixed_value, raw_value, value_or}
 use Rattle.tink_aead.specs.Wrapped.{any_decrypts, behind_prefix, entry_decrypts, entry_encrypts, primary_encrypts}
-
-prefixed_told : (prefix : List ℕ) (r : Result (List ℕ) Kind) → IsTold r → IsTold (made_of (λ sealed. prefix ++ sealed) r)
-prefixed_told prefix (Ok v) told = tt
-prefixed_told prefix (Err k) told = told
 
 module _ {P : Type 0} (encrypts : P → List ℕ → List ℕ → List ℕ → Result (List ℕ) Kind × List ℕ) (told : (p : P) (text aad draws : List ℕ) → IsDrawn draws (encrypts p text aad draws)) where
   pub entry_encrypts_told : (e : TypedEntry P) (text aad draws : List ℕ) → IsDrawn draws (entry_encrypts encrypts e text aad draws)
   entry_encrypts_told e text aad draws =
       let drawn = told e.primitive text aad draws in
-      record { answer = prefixed_told e.prefix (encrypts e.primitive text aad draws).0 drawn.answer; ends = drawn.ends }
+      record { answer = made_told _ (encrypts e.primitive text aad draws).0 drawn.answer; ends = drawn.ends }
 
   pub primary_encrypts_told : (primary : Option (TypedEntry P)) (text aad draws : List ℕ) → IsDrawn draws (primary_encrypts encrypts primary text aad draws)
   primary_encrypts_told None text aad draws = record { answer = tt; ends = ([], refl) }

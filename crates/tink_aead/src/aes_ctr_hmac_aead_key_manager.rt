@@ -1,9 +1,8 @@
 //! The keys of AES in counter mode with HMAC.
 
 ghost use Rattle.std.specs.Prelude.{◌≡◌, ◌≤◌, IfOk};
-ghost use Rattle.tink_io.specs.Told.{Answers, Replies};
+ghost use Rattle.tink_io.specs.Told.{Answers, Replies, made_of};
 ghost use Rattle.tink_primitives.specs.declared.primitive.Primitive.TheVariants as sorts;
-ghost use Rattle.tink_sets.specs.Converting.{made_of};
 ghost use Rattle.tink_aead.specs.declared.aead_kind.AeadKind.TheVariants as kinds;
 ghost use Rattle.tink_keysets.specs.Told.{takes_bytes};
 ghost use Rattle.tink_aead.specs.ComposedKeys.{are_ctr_params, composed_built, composed_made, composed_url, ctr_built, is_composed_format, joined, mac_built, with_hmac_key};

@@ -91,8 +91,9 @@ fn spelled_size(bytes: &[u8]) -> usize
 
 impl<A: Aead, M: KeyManager> Aead for KmsEnvelopeAead<'_, A, M> {
     ghost use Rattle.tink_registry.specs.Listed.{registry_makes};
+    ghost use Rattle.tink_registry.specs.ListedLaws.{registry_makes_told};
     ghost use Rattle.tink_aead.specs.Envelope.{data_key_aead, envelope_decrypts, envelope_encrypts};
-    ghost use Rattle.tink_aead.specs.EnvelopeTold.{data_key_aead_told, envelope_decrypts_told, envelope_encrypts_told, registry_makes_told};
+    ghost use Rattle.tink_aead.specs.EnvelopeTold.{data_key_aead_told, envelope_decrypts_told, envelope_encrypts_told};
 
     ghost encrypts = { λ e text aad draws. envelope_encrypts (registry_makes M.url M.makes e.registry.now.managers e.dek_template) (A.encrypts e.remote) (data_key_aead M.url M.builds e.registry.now.managers e.dek_template.type_url) M.Family.Aead.encrypts text aad draws };
 

@@ -1,8 +1,8 @@
 //! The managers and templates of AEAD keys, registered.
 
-ghost use Rattle.std.specs.Prelude.{◌≡◌, ◌∷◌, ◌++◌, [], IfErr, IfOk, OnErr, OnOk};
+ghost use Rattle.std.specs.Prelude.{◌≡◌, ◌∷◌, [], IfErr, IfOk};
 ghost use Rattle.tink_io.specs.declared.error.Kind.TheVariants.{OutOfMemory};
-ghost use Rattle.tink_aead.specs.Registering.{AreMade, Registers};
+ghost use Rattle.tink_registry.specs.Registering.{AreMade, IsMade, Registers};
 ghost use Rattle.tink_aead.specs.Templates.{aead_templates};
 
 use crate::{
@@ -15,12 +15,15 @@ use crate::{
 use std::alloc::Global;
 use tink_core::TinkError;
 use tink_core::registry::{KeyManager, Registry};
+use tink_key_types::add_template;
 use tink_proto::{KeyTemplate, Text};
 
-/// Registers the managers of AEAD keys and eight templates, or nothing.
+/// Registers the managers of AES-CTR-HMAC, AES-GCM and AES-GCM-SIV keys, in this order, and the eight templates, or
+/// nothing.
 ///
 /// # Errors
-/// `AlreadyRegistered` exactly where a manager's URL is registered already; `OutOfMemory`.
+/// `AlreadyRegistered` exactly where a manager's URL is there, or two of them have one; `OutOfMemory`. Then nothing is
+/// registered.
 pub fn init<M>(alloc: Global, registry: &mut Registry<M>) -> Result<(), TinkError>
 where
     M: KeyManager
@@ -28,7 +31,7 @@ where
         + From<AesCtrHmacAeadKeyManager>
         + From<AesGcmKeyManager>
         + From<AesGcmSivKeyManager>,
-    ensures { Registers (AreMade M.From-1.from_gives M.From-2.from_gives M.From-3.from_gives) M.url aead_templates registry.old registry.new result }
+    ensures { Registers (AreMade (IsMade M.From-1.from_gives ∷ IsMade M.From-2.from_gives ∷ IsMade M.From-3.from_gives ∷ [])) M.url aead_templates registry.old registry.new result }
 {
     let managers = managers(alloc)?;
     let templates = templates(alloc)?;
@@ -39,7 +42,7 @@ where
 fn managers<M>(alloc: Global) -> Result<Vec<M>, TinkError>
 where
     M: Drop + From<AesCtrHmacAeadKeyManager> + From<AesGcmKeyManager> + From<AesGcmSivKeyManager>,
-    ensures value { IfOk result (λ managers. AreMade M.From-1.from_gives M.From-2.from_gives M.From-3.from_gives managers.items) }
+    ensures value { IfOk result (λ managers. AreMade (IsMade M.From-1.from_gives ∷ IsMade M.From-2.from_gives ∷ IsMade M.From-3.from_gives ∷ []) managers.items) }
     ensures cause { IfErr result (λ e. e.kind ≡ OutOfMemory) }
 {
     let composed = M::from(AesCtrHmacAeadKeyManager::new());
@@ -52,20 +55,6 @@ where
     Ok(managers)
 }
 
-// Adds a template under its name.
-fn add(
-    alloc: Global,
-    named: &mut Vec<(Text, KeyTemplate)>,
-    name: &str,
-    template: KeyTemplate,
-) -> Result<(), TinkError>
-    ensures ok { OnOk result (named.new.items ≡ named.old.items ++ (name.now, template) ∷ []) }
-    ensures cause { IfErr result (λ e. e.kind ≡ OutOfMemory) }
-{
-    named.push((Text::from_str(alloc, name)?, template))?;
-    Ok(())
-}
-
 // The templates by their names.
 fn templates(alloc: Global) -> Result<Vec<(Text, KeyTemplate)>, TinkError>
     ensures value { IfOk result (λ named. named.items ≡ aead_templates) }
@@ -73,20 +62,20 @@ fn templates(alloc: Global) -> Result<Vec<(Text, KeyTemplate)>, TinkError>
 {
     let mut named = Vec::new(alloc);
     let template = aes128_gcm_key_template(alloc)?;
-    add(alloc, &mut named, "AES128_GCM", template)?;
+    add_template(alloc, &mut named, "AES128_GCM", template)?;
     let template = aes256_gcm_key_template(alloc)?;
-    add(alloc, &mut named, "AES256_GCM", template)?;
+    add_template(alloc, &mut named, "AES256_GCM", template)?;
     let template = aes256_gcm_no_prefix_key_template(alloc)?;
-    add(alloc, &mut named, "AES256_GCM_NO_PREFIX", template)?;
+    add_template(alloc, &mut named, "AES256_GCM_NO_PREFIX", template)?;
     let template = aes128_gcm_siv_key_template(alloc)?;
-    add(alloc, &mut named, "AES128_GCM_SIV", template)?;
+    add_template(alloc, &mut named, "AES128_GCM_SIV", template)?;
     let template = aes256_gcm_siv_key_template(alloc)?;
-    add(alloc, &mut named, "AES256_GCM_SIV", template)?;
+    add_template(alloc, &mut named, "AES256_GCM_SIV", template)?;
     let template = aes256_gcm_siv_no_prefix_key_template(alloc)?;
-    add(alloc, &mut named, "AES256_GCM_SIV_NO_PREFIX", template)?;
+    add_template(alloc, &mut named, "AES256_GCM_SIV_NO_PREFIX", template)?;
     let template = aes128_ctr_hmac_sha256_key_template(alloc)?;
-    add(alloc, &mut named, "AES128_CTR_HMAC_SHA256", template)?;
+    add_template(alloc, &mut named, "AES128_CTR_HMAC_SHA256", template)?;
     let template = aes256_ctr_hmac_sha256_key_template(alloc)?;
-    add(alloc, &mut named, "AES256_CTR_HMAC_SHA256", template)?;
+    add_template(alloc, &mut named, "AES256_CTR_HMAC_SHA256", template)?;
     Ok(named)
 }

@@ -1,8 +1,18 @@
 -- How the answer of a call is told, and what it leaves of the draws. The told answer is a value or a kind.
-use Rattle.std.specs.Prelude.{◌≡◌, ◌⊎◌, ◌++◌, ℕ, nat_le, if◌then◌else◌, List, length, drop, Result, Ok, Err}
+use Rattle.std.specs.Prelude.{◌≡◌, ◌⊎◌, ◌++◌, ℕ, nat_le, if◌then◌else◌, List, length, drop, Option, Some, None, Result, Ok, Err}
 use Rattle.tink_io.specs.declared.error.Kind.{Kind}
 use Rattle.tink_io.specs.declared.error.Kind.TheVariants.{OutOfMemory, RandomFault}
 use Rattle.tink_io.specs.declared.error.TinkError.{TinkError}
+
+-- what is made of a value, or its refusal
+abbrev pub made_of : {S T : Type 0} → (S → T) → Result S Kind → Result T Kind
+made_of f (Ok v) = Ok (f v)
+made_of f (Err kind) = Err kind
+
+-- what there is, or a refusal where there is nothing
+abbrev pub or_refused : {T : Type 0} → Kind → Option T → Result T Kind
+or_refused kind None = Err kind
+or_refused kind (Some v) = Ok v
 
 -- a call that draws nothing gives the told value, or refuses by the told kind, or there is no memory
 abbrev pub Answers : {T : Type 0} → Result T TinkError → Result T Kind → Type 0

@@ -2,15 +2,11 @@
 use Rattle.std.specs.Prelude.{ℕ, List, Bool, Option, Some, None, Result, Ok, Err, pos, if◌then◌else◌, nat_eq, length}
 use Rattle.tink_io.specs.declared.error.Kind.{Kind}
 use Rattle.tink_io.specs.declared.error.Kind.TheVariants.{InvalidKey, InvalidFormat}
+use Rattle.tink_io.specs.Told.{made_of}
 use Rattle.tink_proto.specs.declared.messages.keys.KeyData.{KeyData}
 use Rattle.wire_format.specs.Columns.{Column}
 use Rattle.wire_format.specs.Message.{decoded, encoded}
 use Rattle.tink_keysets.specs.Told.{takes_bytes}
-
--- what is made of a value, or its refusal
-abbrev pub made_of : {S T : Type 0} → (S → T) → Result S Kind → Result T Kind
-made_of f (Ok v) = Ok (f v)
-made_of f (Err kind) = Err kind
 
 -- the message of some bytes, none where there are no bytes
 abbrev pub message_of : {T : Type 0} → Column T → List ℕ → Option T

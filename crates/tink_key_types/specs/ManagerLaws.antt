@@ -5,18 +5,15 @@ use Rattle.std.proofs.Common.{subst}
 use Rattle.std.proofs.lemmas.Bool.{false≢true}
 use Rattle.tink_io.specs.declared.error.Kind.{Kind}
 use Rattle.tink_io.specs.declared.error.Kind.TheVariants.{InvalidFormat, NoPrivateKeys, RandomFault}
+use Rattle.tink_io.specs.Told.{made_of}
 use Rattle.tink_proto.specs.declared.messages.keys.KeyData.{KeyData}
 use Rattle.wire_format.specs.Columns.{Column}
 use Rattle.wire_format.specs.Message.{encoded}
 use Rattle.tink_primitives.specs.Meaning.{IsTold, IsDrawn}
-use Rattle.tink_primitives.specs.MeaningLaws.{told_if, drawn_if, drawn_none, drawn_take}
+use Rattle.tink_primitives.specs.MeaningLaws.{told_if, made_told, drawn_if, drawn_none, drawn_take}
 use Rattle.tink_keysets.specs.Told.{takes_bytes}
 use Rattle.tink_registry.specs.Known.{IsOfKnownMaterial}
-use Rattle.tink_key_types.specs.Manager.{made_of, message_of, built_by, builds, made_by, new_message, makes, symmetric, makes_data, built_if, of_draws, made_if}
-
-made_told : {S T : Type 0} (f : S → T) (r : Result S Kind) → IsTold r → IsTold (made_of f r)
-made_told f (Ok v) told = tt
-made_told f (Err kind) told = told
+use Rattle.tink_key_types.specs.Manager.{message_of, built_by, builds, made_by, new_message, makes, symmetric, makes_data, built_if, of_draws, made_if}
 
 module _ {Key P : Type 0} (built : Key → Result P Kind) (told : (key : Key) → IsTold (built key)) where
   built_told : (key : Option Key) → IsTold (built_by built key)
@@ -70,7 +67,8 @@ no_public_always is = false≢true is
 pub built_if_told : {P : Type 0} (accepted : Bool) (primitive : P) → IsTold (built_if accepted primitive)
 built_if_told accepted primitive = told_if accepted _ _ tt tt
 
-taken_told : (n : ℕ) (draws : List ℕ) → IsDrawn draws (takes_bytes n draws)
+-- so many draws, or none
+pub taken_told : (n : ℕ) (draws : List ℕ) → IsDrawn draws (takes_bytes n draws)
 taken_told n draws = drawn_if draws (nat_le n (length draws)) _ _ (drawn_take draws n (Ok (take n draws)) tt) (drawn_none draws (Err RandomFault) tt)
 
 pub of_draws_told : {Key : Type 0} (n : ℕ) (message : List ℕ → Key) (draws : List ℕ) → IsDrawn draws (of_draws n message draws)

@@ -13,4 +13,4 @@ mod tests;
 pub use hashes::hash_type_of;
 pub use key_type::KeyType;
 pub use manager::SymmetricKeyManager;
-pub use templates::new_template;
+pub use templates::{add_template, new_template};

@@ -1,6 +1,7 @@
 //! Templates of keys.
 
-ghost use Rattle.std.specs.Prelude.{◌≡◌, Ok};
+ghost use Rattle.std.specs.Prelude.{◌≡◌, ◌∷◌, ◌++◌, [], Ok, IfErr, OnErr, OnOk};
+ghost use Rattle.tink_io.specs.declared.error.Kind.TheVariants.{OutOfMemory};
 ghost use Rattle.tink_io.specs.Told.{Answers};
 ghost use Rattle.tink_key_types.specs.Templates.{template_of};
 
@@ -30,4 +31,22 @@ pub fn new_template<F: Message>(
         }),
         Err(_) => Err(TinkError::new(Kind::OutOfMemory)),
     }
+}
+
+/// Adds a template under its name, behind those that are there, or nothing.
+///
+/// # Errors
+/// `OutOfMemory` alone.
+pub fn add_template(
+    alloc: Global,
+    named: &mut Vec<(Text, KeyTemplate)>,
+    name: &str,
+    template: KeyTemplate,
+) -> Result<(), TinkError>
+    ensures ok { OnOk result (named.new.items ≡ named.old.items ++ (name.now, template) ∷ []) }
+    ensures err { OnErr result (named.new.items ≡ named.old.items) }
+    ensures cause { IfErr result (λ e. e.kind ≡ OutOfMemory) }
+{
+    named.push((Text::from_str(alloc, name)?, template))?;
+    Ok(())
 }

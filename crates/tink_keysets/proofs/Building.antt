@@ -8,6 +8,7 @@ use Rattle.std.proofs.lemmas.List.Sums.{AllPass-from_list_all}
 use Rattle.tink_io.specs.declared.error.Kind.{Kind}
 use Rattle.tink_io.specs.declared.error.Kind.TheVariants.{InvalidKeyset}
 use Rattle.tink_io.specs.declared.error.TinkError.{TinkError}
+use Rattle.tink_io.specs.Told.{made_of}
 use Rattle.tink_proto.specs.declared.messages.keys.Key.{Key}
 use Rattle.tink_proto.specs.declared.messages.keys.Keyset.{Keyset}
 use Rattle.tink_sets.specs.Groups.{group_at, AreGroupsOf}
@@ -15,7 +16,7 @@ use Rattle.keyset_model.specs.Keys.{enabled, is_enabled}
 use Rattle.keyset_model.specs.Entries.{prefix_of}
 use Rattle.keyset_model.specs.Validity.{is_well_formed, is_validated, are_well_formed, has_a_key, has_at_most_one_primary, has_an_enabled_key, has_a_primary, is_all_public}
 use Rattle.tink_keysets.specs.Managed.{before, given_each}
-use Rattle.tink_keysets.specs.Built.{GivesSet, HasEntries, HasOneMore, TakesKey, made_of, primary_after}
+use Rattle.tink_keysets.specs.Built.{GivesSet, HasEntries, HasOneMore, TakesKey, primary_after}
 use Rattle.tink_keysets.proofs.GivenEach.{behind, none_yet}
 
 -- ---- the keys of a validated keyset are well formed

@@ -1,7 +1,7 @@
 -- What is written into memory under a master key and read again.
-use Rattle.std.proofs.Common.{◌≡◌, inl, inr, ◌∙◌, ℕ, List, Some, Result, Ok, Err, refl, sym, ap, subst, arith, ok_or, cond}
+use Rattle.std.proofs.Common.{◌≡◌, inl, inr, ◌∙◌, ℕ, List, Some, Result, Ok, Err, refl, sym, ap, subst, arith, cond}
 use Rattle.wire_format.specs.Message.{decoded}
-use Rattle.tink_io.specs.Told.{Answers}
+use Rattle.tink_io.specs.Told.{Answers, made_of, or_refused}
 use Rattle.tink_io.specs.declared.error.Kind.{Kind}
 use Rattle.tink_io.specs.declared.error.Kind.TheVariants.{BadKeyset, InvalidKeyset, OutOfMemory, ReadFault, WriteFault}
 use Rattle.tink_io.specs.declared.error.TinkError.{TinkError}
@@ -10,7 +10,6 @@ use Rattle.tink_proto.specs.declared.messages.infos.EncryptedKeyset.{EncryptedKe
 use Rattle.tink_proto.specs.declared.messages.keys.Keyset.{Keyset}
 use Rattle.keyset_model.specs.Validity.{IsHeld}
 use Rattle.tink_keysets.specs.declared.keyset.memory.MemReaderWriter.{MemReaderWriter}
-use Rattle.tink_keysets.specs.Built.{made_of}
 use Rattle.tink_keysets.specs.Encrypted.{by_master, chained, decrypted, handle_of_bytes, with_info, Undoes}
 use Rattle.tink_keysets.specs.Ends.{held_or, IsRefusal}
 use Rattle.tink_keysets.specs.Handles.{handle_of}
@@ -42,7 +41,7 @@ read_written decrypts associated_data made old new result taken gives =
 
 -- bytes that spell a keyset that is held are those of a handle
 pub spelled : (ks : Keyset) (bytes : List ℕ) → IsHeld ks → decoded keyset.read bytes ≡ Some ks → handle_of_bytes bytes ≡ Ok ks
-spelled ks bytes held again = ap (λ o. chained handle_of (ok_or o BadKeyset)) again ∙ ap (λ b. cond b (Ok ks) (Err InvalidKeyset)) held
+spelled ks bytes held again = ap (λ o. chained handle_of (or_refused BadKeyset o)) again ∙ ap (λ b. cond b (Ok ks) (Err InvalidKeyset)) held
 
 -- under the same data
 pub same_read : (encrypts : List ℕ → List ℕ → List ℕ → Result (List ℕ) Kind × List ℕ) (decrypts : List ℕ → List ℕ → Result (List ℕ) Kind) (ks : Keyset) (text written read draws : List ℕ) (r : Result (List ℕ) Kind)

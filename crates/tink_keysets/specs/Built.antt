@@ -4,6 +4,7 @@ use Rattle.std.specs.BTreeMap.{BTreeMap}
 use Rattle.tink_io.specs.declared.error.Kind.{Kind}
 use Rattle.tink_io.specs.declared.error.Kind.TheVariants.{InvalidKeyset, OutOfMemory}
 use Rattle.tink_io.specs.declared.error.TinkError.{TinkError}
+use Rattle.tink_io.specs.Told.{made_of}
 use Rattle.tink_proto.specs.declared.messages.keys.Key.{Key}
 use Rattle.tink_proto.specs.declared.messages.keys.KeyData.{KeyData}
 use Rattle.tink_proto.specs.declared.messages.keys.Keyset.{Keyset}
@@ -12,11 +13,6 @@ use Rattle.tink_sets.specs.Groups.{AreGroupsOf, AddsLast}
 use Rattle.keyset_model.specs.Keys.{enabled}
 use Rattle.keyset_model.specs.Validity.{is_validated}
 use Rattle.tink_keysets.specs.Managed.{given_each}
-
--- what is made of a value, or its refusal
-abbrev pub made_of : {S T : Type 0} → (S → T) → Result S Kind → Result T Kind
-made_of f (Ok v) = Ok (f v)
-made_of f (Err kind) = Err kind
 
 module _ {M P : Type 0} (url : M → List ℕ) (supports : M → List ℕ → Bool) (builds : M → List ℕ → Result P Kind) where
   -- A given manager alone decides a key whose URL it supports, also where its value is empty; else the managers do.

@@ -1,13 +1,13 @@
 -- Keysets under a master key: what is written of a keyset, and which keyset is read from it.
-use Rattle.std.specs.Prelude.{◌≡◌, ℕ, List, Some, Result, Ok, Err, ok_or}
+use Rattle.std.specs.Prelude.{◌≡◌, ℕ, List, Some, Result, Ok, Err}
 use Rattle.wire_format.specs.Message.{decoded, encoded}
 use Rattle.tink_io.specs.declared.error.Kind.{Kind}
 use Rattle.tink_io.specs.declared.error.Kind.TheVariants.{BadKeyset, MasterFailed, OutOfMemory}
+use Rattle.tink_io.specs.Told.{made_of, or_refused}
 use Rattle.tink_proto.specs.Messages.{keyset}
 use Rattle.tink_proto.specs.declared.messages.infos.EncryptedKeyset.{EncryptedKeyset}
 use Rattle.tink_proto.specs.declared.messages.keys.Keyset.{Keyset}
 use Rattle.keyset_model.specs.Secrets.{keyset_info}
-use Rattle.tink_keysets.specs.Built.{made_of}
 use Rattle.tink_keysets.specs.Handles.{handle_of}
 
 -- what a master answers: each kind that it refuses by is `MasterFailed`
@@ -27,7 +27,7 @@ chained makes (Err kind) = Err kind
 
 -- a handle of the keyset that bytes spell
 abbrev pub handle_of_bytes : List ℕ → Result Keyset Kind
-handle_of_bytes bytes = chained handle_of (ok_or (decoded keyset.read bytes) BadKeyset)
+handle_of_bytes bytes = chained handle_of (or_refused BadKeyset (decoded keyset.read bytes))
 
 -- a handle of an encrypted keyset, by what the master decrypts
 abbrev pub decrypted : (List ℕ → List ℕ → Result (List ℕ) Kind) → List ℕ → EncryptedKeyset → Result Keyset Kind

@@ -10,13 +10,14 @@ use Rattle.std.proofs.lemmas.List.{drop_at, take_at}
 use Rattle.std.proofs.lemmas.List.Elements.{All-cons, All-contains, All-nil, All-weaker, Contains-append_left, Contains-append_right, Contains-push}
 use Rattle.tink_io.specs.declared.error.Kind.{Kind}
 use Rattle.tink_io.specs.declared.error.Kind.TheVariants.{InvalidKeyset, MacMismatch, NoPrimary}
+use Rattle.tink_io.specs.Told.{made_of}
 use Rattle.tink_proto.specs.Enums.{prefix_number}
 use Rattle.tink_proto.specs.declared.enums.OutputPrefixType.{OutputPrefixType}
 use Rattle.tink_proto.specs.declared.enums.OutputPrefixType.TheVariants.{Tink, Legacy, Raw, Crunchy}
 use Rattle.tink_proto.specs.declared.messages.keys.Key.{Key}
 use Rattle.tink_primitives.specs.Sorts.{as_mac}
 use Rattle.tink_primitives.specs.declared.primitive.Primitive.{Primitive}
-use Rattle.tink_sets.specs.Converting.{before, converted, made_of}
+use Rattle.tink_sets.specs.Converting.{before, converted}
 use Rattle.tink_sets.specs.Entries.{entry_of, own_prefix, typed_by, with_primitive}
 use Rattle.tink_sets.specs.declared.entry.Entry.{Entry}
 use Rattle.tink_sets.specs.declared.entry.TypedEntry.{TypedEntry}
@@ -154,15 +155,11 @@ made_ok : {S T : Type 0} (f : S → T) (r : Result S Kind) (v : T) → made_of f
 made_ok f (Ok x) v e = let same : f x ≡ v = cc in (x, refl, same)
 made_ok f (Err k) v e = absurd (cc)
 
-built_ok : {S T : Type 0} (f : S → T) (r : Result S Kind) (v : T) → built.made_of f r ≡ Ok v → (x : S) × (f x ≡ v)
-built_ok f (Ok x) v e = let same : f x ≡ v = cc in (x, same)
-built_ok f (Err k) v e = absurd (cc)
-
 module _ {M K A D HD HE P F S St V : Type 0} (url : M → List ℕ) (supports : M → List ℕ → Bool) (builds : M → List ℕ → Result (Primitive K A D HD HE P F S St V) Kind) where
   entry_prefix : (managers : List M) (k : Key) (b : Entry K A D HD HE P F S St V) → built.built_entry url supports builds entry_of managers None k ≡ Ok b → own_prefix k ≡ b.prefix
   entry_prefix managers k b is =
-      let w = built_ok (λ p. entry_of p k) (built.built_data url supports builds managers None k.key_data) b is in
-      ap (λ (x : Entry K A D HD HE P F S St V). x.prefix) {x = entry_of w.0 k} w.1
+      let w = made_ok (λ p. entry_of p k) (built.built_data url supports builds managers None k.key_data) b is in
+      ap (λ (x : Entry K A D HD HE P F S St V). x.prefix) {x = entry_of w.0 k} w.2
 
   typed_prefix : (b : Entry K A D HD HE P F S St V) (e : TypedEntry P) → typed_by as_mac b ≡ Ok e → b.prefix ≡ e.prefix
   typed_prefix b e is =

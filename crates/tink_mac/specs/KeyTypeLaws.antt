@@ -2,18 +2,17 @@
 use Rattle.std.specs.Prelude.{ℕ, List, Option, Some, None, Result, Ok, Err, is_ok, length, nat_eq}
 use Rattle.tink_io.specs.declared.error.Kind.{Kind}
 use Rattle.tink_io.specs.declared.error.Kind.TheVariants.{InvalidKey}
+use Rattle.tink_io.specs.Told.{made_of}
 use Rattle.tink_primitives.specs.Meaning.{IsTold}
-use Rattle.tink_primitives.specs.MeaningLaws.{told_if}
+use Rattle.tink_primitives.specs.MeaningLaws.{made_told, told_if}
 use Rattle.tink_proto_keys.specs.declared.mac.HmacKey.{HmacKey}
 use Rattle.tink_proto_keys.specs.declared.mac.HmacParams.{HmacParams}
 use Rattle.tink_proto_keys.specs.declared.mac.AesCmacKey.{AesCmacKey}
 use Rattle.tink_proto_keys.specs.declared.mac.AesCmacParams.{AesCmacParams}
-use Rattle.tink_sets.specs.Converting.{made_of}
 use Rattle.tink_core.specs.Subtle.{hash_named}
 use Rattle.tink_key_types.specs.HashTypes.{hash_type_of}
 use Rattle.tink_mac.specs.KeyTypes.{cmac_built, cmac_by_params, hmac_built, hmac_by_params, or_invalid}
 use Rattle.tink_mac.specs.Tags.{cmac_params, hmac_tags, CmacTags, HmacTags}
-use Rattle.tink_mac.specs.WrappedLaws.{made_told}
 
 or_invalid_told : {A : Type 0} (r : Result A Kind) → IsTold (or_invalid r)
 or_invalid_told (Ok v) = tt

@@ -1,12 +1,12 @@
 -- The MACs of a keyset as one.
-use Rattle.std.specs.Prelude.{◌≡◌, ◌++◌, ◌∷◌, ℕ, List, [], Vec, Option, Some, None, Result, Err, find, nat_eq}
+use Rattle.std.specs.Prelude.{◌≡◌, ◌++◌, ◌∷◌, ℕ, List, [], Vec, Option, Some, None, Result, Err}
 use Rattle.std.specs.BTreeMap.{BTreeMap}
 use Rattle.tink_io.specs.declared.error.Kind.{Kind}
 use Rattle.tink_io.specs.declared.error.Kind.TheVariants.{MacMismatch, NoPrimary}
+use Rattle.tink_io.specs.Told.{made_of}
 use Rattle.tink_proto.specs.declared.enums.OutputPrefixType.{OutputPrefixType}
 use Rattle.tink_proto.specs.declared.enums.OutputPrefixType.TheVariants.{Legacy}
-use Rattle.tink_sets.specs.Converting.{made_of}
-use Rattle.tink_sets.specs.Entries.{typed_prefix_of}
+use Rattle.tink_sets.specs.Entries.{entry_of_id, typed_prefix_of}
 use Rattle.tink_sets.specs.Groups.{group_of}
 use Rattle.tink_sets.specs.declared.entry.TypedEntry.{TypedEntry}
 use Rattle.tink_keysets.specs.Built.{HasEntries}
@@ -16,10 +16,6 @@ use Rattle.tink_factory.specs.Accepting.{accepted_behind_prefix, entries_of}
 abbrev pub covered : OutputPrefixType → List ℕ → List ℕ
 covered Legacy message = message ++ 0 ∷ []
 covered _ message = message
-
--- the first entry of an id
-abbrev pub entry_of_id : {P : Type 0} → ℕ → List (TypedEntry P) → Option (TypedEntry P)
-entry_of_id id es = find (λ e. nat_eq e.key_id id) es
 
 module _ {P : Type 0} (computes : P → List ℕ → Result (List ℕ) Kind) where
   -- an entry's MAC of some data, behind its prefix

@@ -3,14 +3,10 @@ use Rattle.std.specs.Prelude.{ℕ, List, Bool, true, false, Option, Some, None, 
 use Rattle.tink_io.specs.declared.error.Kind.{Kind}
 use Rattle.tink_io.specs.declared.error.Kind.TheVariants.{MacMismatch}
 use Rattle.tink_primitives.specs.Meaning.{IsMatch, IsTold}
-use Rattle.tink_sets.specs.Converting.{made_of}
+use Rattle.tink_primitives.specs.MeaningLaws.{made_told}
 use Rattle.tink_sets.specs.declared.entry.TypedEntry.{TypedEntry}
 use Rattle.tink_factory.specs.Accepting.{accepted, or_else, prefixed_value, raw_value, value_or}
 use Rattle.tink_mac.specs.Wrapped.{any_verifies, covered, entry_mac, entry_verifies, primary_mac}
-
-pub made_told : {A B : Type 0} (f : A → B) (r : Result A Kind) → IsTold r → IsTold (made_of f r)
-made_told f (Ok v) told = tt
-made_told f (Err k) told = told
 
 pub match_told : (r : Result (Unit {0}) Kind) → IsMatch r → IsTold r
 match_told (Ok v) is = tt

@@ -1,10 +1,9 @@
 //! The keys of HMAC.
 
 ghost use Rattle.std.specs.Prelude.{◌≡◌};
-ghost use Rattle.tink_io.specs.Told.{Answers};
+ghost use Rattle.tink_io.specs.Told.{Answers, made_of};
 ghost use Rattle.tink_io.specs.declared.error.Kind.TheVariants.{InvalidKey, OutOfMemory};
 ghost use Rattle.tink_primitives.specs.declared.primitive.Primitive.TheVariants as sorts;
-ghost use Rattle.tink_sets.specs.Converting.{made_of};
 ghost use Rattle.tink_key_types.specs.Manager.{made_if};
 ghost use Rattle.tink_key_types.specs.ManagerLaws.{made_if_told};
 ghost use Rattle.tink_mac.specs.declared.mac_kind.MacKind.TheVariants as kinds;

@@ -5,7 +5,8 @@ use Rattle.std.specs.BTreeMap.{BTreeMap, get, is_at, IsEmpty, IsFromIterResult, 
 use Rattle.std.specs.Map.{lookup}
 use Rattle.std.proofs.lemmas.Map.{update_all_push}
 use Rattle.tink_io.specs.declared.error.Kind.{Kind}
-use Rattle.tink_sets.specs.Converting.{before, made_of}
+use Rattle.tink_io.specs.Told.{made_of}
+use Rattle.tink_sets.specs.Converting.{before}
 use Rattle.tink_sets.proofs.Converted.{none_before, one_more}
 
 -- `rest` is told of what is left, and the map has those before it

@@ -4,7 +4,6 @@ pub mod Hkdf
 pub mod Hmac
 pub mod KeyTypes
 pub mod PrfKinds
-pub mod Registering
 pub mod Sets
 pub mod Templates
 pub mod TestKeys

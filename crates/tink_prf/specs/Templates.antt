@@ -1,6 +1,7 @@
 -- The templates of keys for pseudorandom functions. None has a prefix.
-use Rattle.std.specs.Prelude.{ℕ, Some, []}
+use Rattle.std.specs.Prelude.{ℕ, List, [], ◌∷◌, codes, Some}
 use Rattle.tink_proto.specs.declared.enums.HashType.{HashType}
+use Rattle.tink_proto.specs.declared.enums.HashType.TheVariants.{Sha256, Sha512}
 use Rattle.tink_proto.specs.declared.enums.OutputPrefixType.TheVariants.{Raw}
 use Rattle.tink_proto.specs.declared.messages.keys.KeyTemplate.{KeyTemplate}
 use Rattle.tink_proto.specs.Enums.{hash_number}
@@ -21,3 +22,12 @@ hkdf_prf_template n hash =
 -- AES-CMAC keys of n bytes
 abbrev pub aes_cmac_prf_template : ℕ → KeyTemplate
 aes_cmac_prf_template n = template_of aes_cmac_prf_url aes_cmac_prf_key_format (record { key_size = n; version = 0 }) Raw
+
+-- the registered templates under their names
+abbrev pub prf_templates : List (List ℕ × KeyTemplate)
+prf_templates =
+    (codes "HKDF_SHA256", hkdf_prf_template 32 Sha256)
+    ∷ (codes "HMAC_SHA256_PRF", hmac_prf_template 32 Sha256)
+    ∷ (codes "HMAC_SHA512_PRF", hmac_prf_template 64 Sha512)
+    ∷ (codes "AES_CMAC_PRF", aes_cmac_prf_template 32)
+    ∷ []

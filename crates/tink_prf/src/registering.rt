@@ -1,8 +1,9 @@
 //! The managers and templates of keys for pseudorandom functions, registered.
 
-ghost use Rattle.std.specs.Prelude.{◌≡◌, ◌⊎◌, IfOk, IfErr, OnErr, OnOk};
-ghost use Rattle.tink_io.specs.declared.error.Kind.TheVariants.{AlreadyRegistered, OutOfMemory};
-ghost use Rattle.tink_prf.specs.Registering.{prf_templates, ArePrfManagers, IsTaken, Registers};
+ghost use Rattle.std.specs.Prelude.{◌≡◌, ◌∷◌, [], IfErr, IfOk};
+ghost use Rattle.tink_io.specs.declared.error.Kind.TheVariants.{OutOfMemory};
+ghost use Rattle.tink_registry.specs.Registering.{AreMade, IsMade, Registers};
+ghost use Rattle.tink_prf.specs.Templates.{prf_templates};
 
 use crate::{
     AesCmacPrfKeyManager, HkdfPrfKeyManager, HmacPrfKeyManager, aes_cmac_prf_key_template,
@@ -11,6 +12,7 @@ use crate::{
 use std::alloc::Global;
 use tink_core::TinkError;
 use tink_core::registry::{KeyManager, Registry};
+use tink_key_types::add_template;
 use tink_proto::{KeyTemplate, Text};
 
 /// Registers the managers of HMAC, HKDF and AES-CMAC keys, in this order, and the four templates, or nothing.
@@ -25,19 +27,18 @@ where
         + From<HmacPrfKeyManager>
         + From<HkdfPrfKeyManager>
         + From<AesCmacPrfKeyManager>,
-    ensures ok { OnOk result (Registers M.url (ArePrfManagers M.From-1.from_gives M.From-2.from_gives M.From-3.from_gives) registry.old registry.new) }
-    ensures err { OnErr result (registry.new ≡ registry.old) }
-    ensures cause { IfErr result (λ e. (e.kind ≡ OutOfMemory) ⊎ ((e.kind ≡ AlreadyRegistered) × IsTaken M.url (ArePrfManagers M.From-1.from_gives M.From-2.from_gives M.From-3.from_gives) registry.old)) }
+    ensures { Registers (AreMade (IsMade M.From-1.from_gives ∷ IsMade M.From-2.from_gives ∷ IsMade M.From-3.from_gives ∷ [])) M.url prf_templates registry.old registry.new result }
 {
-    let managers = prf_managers(alloc)?;
-    let templates = prf_templates(alloc)?;
+    let managers = managers(alloc)?;
+    let templates = templates(alloc)?;
     registry.register_all(alloc, managers, templates)
 }
 
-fn prf_managers<M>(alloc: Global) -> Result<Vec<M>, TinkError>
+// The managers, in the order of registration.
+fn managers<M>(alloc: Global) -> Result<Vec<M>, TinkError>
 where
     M: Drop + From<HmacPrfKeyManager> + From<HkdfPrfKeyManager> + From<AesCmacPrfKeyManager>,
-    ensures value { IfOk result (λ managers. ArePrfManagers M.From-1.from_gives M.From-2.from_gives M.From-3.from_gives managers.items) }
+    ensures value { IfOk result (λ managers. AreMade (IsMade M.From-1.from_gives ∷ IsMade M.From-2.from_gives ∷ IsMade M.From-3.from_gives ∷ []) managers.items) }
     ensures cause { IfErr result (λ e. e.kind ≡ OutOfMemory) }
 {
     let hmac = M::from(HmacPrfKeyManager::new());
@@ -51,26 +52,18 @@ where
 }
 
 // The templates by their names.
-fn prf_templates(alloc: Global) -> Result<Vec<(Text, KeyTemplate)>, TinkError>
+fn templates(alloc: Global) -> Result<Vec<(Text, KeyTemplate)>, TinkError>
     ensures value { IfOk result (λ named. named.items ≡ prf_templates) }
     ensures cause { IfErr result (λ e. e.kind ≡ OutOfMemory) }
 {
-    let mut named = Vec::with_capacity(alloc, 4)?;
-    named.push((
-        Text::from_str(alloc, "HKDF_SHA256")?,
-        hkdf_sha256_prf_key_template(alloc)?,
-    ))?;
-    named.push((
-        Text::from_str(alloc, "HMAC_SHA256_PRF")?,
-        hmac_sha256_prf_key_template(alloc)?,
-    ))?;
-    named.push((
-        Text::from_str(alloc, "HMAC_SHA512_PRF")?,
-        hmac_sha512_prf_key_template(alloc)?,
-    ))?;
-    named.push((
-        Text::from_str(alloc, "AES_CMAC_PRF")?,
-        aes_cmac_prf_key_template(alloc)?,
-    ))?;
+    let mut named = Vec::new(alloc);
+    let template = hkdf_sha256_prf_key_template(alloc)?;
+    add_template(alloc, &mut named, "HKDF_SHA256", template)?;
+    let template = hmac_sha256_prf_key_template(alloc)?;
+    add_template(alloc, &mut named, "HMAC_SHA256_PRF", template)?;
+    let template = hmac_sha512_prf_key_template(alloc)?;
+    add_template(alloc, &mut named, "HMAC_SHA512_PRF", template)?;
+    let template = aes_cmac_prf_key_template(alloc)?;
+    add_template(alloc, &mut named, "AES_CMAC_PRF", template)?;
     Ok(named)
 }

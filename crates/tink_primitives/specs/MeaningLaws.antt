@@ -5,13 +5,18 @@ use Rattle.std.proofs.lemmas.List.{take-append-drop}
 use Rattle.tink_io.specs.declared.error.Kind.{Kind}
 use Rattle.tink_io.specs.declared.error.Kind.TheVariants.{OutOfMemory}
 use Rattle.tink_io.specs.declared.error.TinkError.{TinkError}
-use Rattle.tink_io.specs.Told.{Replies}
+use Rattle.tink_io.specs.Told.{Replies, made_of}
 use Rattle.tink_primitives.specs.Meaning.{IsTold, IsEndOf, IsDrawn}
 
 -- one of two answers
 pub told_if : {T : Type 0} (b : Bool) (r s : Result T Kind) → IsTold r → IsTold s → IsTold (if b then r else s)
 told_if true r s if_true if_false = if_true
 told_if false r s if_true if_false = if_false
+
+-- what is made of a told answer is told
+pub made_told : {S T : Type 0} (f : S → T) (r : Result S Kind) → IsTold r → IsTold (made_of f r)
+made_told f (Ok v) told = tt
+made_told f (Err k) told = told
 
 -- want of memory is told by none
 pub told_apart : {T : Type 0} (r : Result T Kind) → IsTold r → r ≡ Err OutOfMemory → ⊥

@@ -1,3 +1,5 @@
 pub mod Known
 pub mod Listed
+pub mod ListedLaws
+pub mod Registering
 pub mod TestKeys

@@ -2,12 +2,8 @@
 use Rattle.std.specs.Prelude.{◌≡◌, ⊤, ℕ, List, [], ◌∷◌, Vec, Option, Some, None, Result, Ok, Err}
 use Rattle.std.specs.BTreeMap.{BTreeMap}
 use Rattle.tink_io.specs.declared.error.Kind.{Kind}
+use Rattle.tink_io.specs.Told.{made_of}
 use Rattle.tink_sets.specs.Groups.{group_at}
-
--- what is made of a value, or its refusal
-abbrev pub made_of : {A B : Type 0} → (A → B) → Result A Kind → Result B Kind
-made_of f (Ok v) = Ok (f v)
-made_of f (Err k) = Err k
 
 -- a value before those that follow, or the first refusal
 abbrev pub before : {B : Type 0} → Result B Kind → Result (List B) Kind → Result (List B) Kind

@@ -1,8 +1,9 @@
 -- The entries of sets.
-use Rattle.std.specs.Prelude.{◌≡◌, ◌⊎◌, ⊤, ℕ, List, [], Vec, Option, Some, None, Result, Ok, Err, if◌then◌else◌, unwrap_or}
+use Rattle.std.specs.Prelude.{◌≡◌, ◌⊎◌, ⊤, ℕ, List, [], Vec, Option, Some, None, Result, Ok, Err, if◌then◌else◌, find, nat_eq, unwrap_or}
 use Rattle.std.specs.BTreeMap.{BTreeMap}
 use Rattle.tink_io.specs.declared.error.Kind.{Kind}
 use Rattle.tink_io.specs.declared.error.Kind.TheVariants.{NotEnabled, WrongPrimitive}
+use Rattle.tink_io.specs.Told.{made_of}
 use Rattle.tink_proto.specs.declared.enums.OutputPrefixType.TheVariants.{UnknownPrefix}
 use Rattle.tink_proto.specs.declared.enums.KeyStatusType.TheVariants.{Enabled}
 use Rattle.tink_proto.specs.declared.messages.keys.Key.{Key}
@@ -10,7 +11,7 @@ use Rattle.keyset_model.specs.Keys.{is_enabled}
 use Rattle.keyset_model.specs.Entries.{output_prefix}
 use Rattle.tink_primitives.specs.declared.primitive.Primitive.{Primitive}
 use Rattle.tink_sets.specs.Prefixes.{known_type, told_prefix}
-use Rattle.tink_sets.specs.Converting.{made_of, HasRefused}
+use Rattle.tink_sets.specs.Converting.{HasRefused}
 use Rattle.tink_sets.specs.declared.entry.Entry.{Entry}
 use Rattle.tink_sets.specs.declared.entry.TypedEntry.{TypedEntry}
 
@@ -63,6 +64,10 @@ module _ {K A D HD HE M P S St V : Type 0} where
   -- the primary entry or another one is of another sort
   abbrev pub HasAnother : {Q G : Type 0} → (Primitive K A D HD HE M P S St V → Result Q Kind) → Option (Entry K A D HD HE M P S St V) → BTreeMap (Vec ℕ G) (List (Entry K A D HD HE M P S St V)) → Type 0
   HasAnother pick primary entries = IsRefusedPrimary pick primary WrongPrimitive ⊎ HasRefused (typed_by pick) entries WrongPrimitive
+
+-- the first entry of an id
+abbrev pub entry_of_id : {Q : Type 0} → ℕ → List (TypedEntry Q) → Option (TypedEntry Q)
+entry_of_id id es = find (λ e. nat_eq e.key_id id) es
 
 abbrev pub typed_prefix_of : {Q : Type 0} → TypedEntry Q → List ℕ
 typed_prefix_of e = e.prefix

@@ -8,11 +8,11 @@ ghost use Rattle.tink_proto.specs.Messages.{keyset};
 ghost use Rattle.tink_keysets.specs.Encrypted.{by_master, decrypted, encrypted, handle_of_bytes, master_kind};
 ghost use Rattle.tink_keysets.specs.Through.{GivesBy, Leaves, Writes};
 
-use crate::keyset::{Handle, Reader, Writer};
+use crate::keyset::{Handle, Reader, Writer, insecure};
 use std::alloc::Global;
 use tink_io::{Draws, Kind, TinkError};
 use tink_primitives::Aead;
-use tink_proto::{Bytes, EncryptedKeyset, Keyset, Message, ProtoError};
+use tink_proto::{Bytes, EncryptedKeyset, Message};
 
 impl Handle {
     /// A handle of the encrypted keyset that is read, which `master` decrypts with empty associated data.
@@ -141,11 +141,7 @@ fn encrypted_bytes<A: Aead>(
 fn handle_of_bytes(alloc: Global, bytes: &[u8]) -> Result<Handle, TinkError>
     ensures { Answers result (handle_of_bytes bytes.now) }
 {
-    match Keyset::decode(alloc, bytes) {
-        Ok(ks) => Handle::from_keyset(ks),
-        Err(ProtoError::OutOfMemory) => Err(TinkError::new(Kind::OutOfMemory)),
-        Err(_) => Err(TinkError::new(Kind::BadKeyset)),
-    }
+    Handle::from_keyset(insecure::decode(alloc, bytes)?)
 }
 
 // The bytes of a handle's keyset. Its error is `OutOfMemory` alone.

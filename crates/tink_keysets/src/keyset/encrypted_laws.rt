@@ -4,9 +4,8 @@ ghost use Rattle.std.specs.Prelude.{◌≡◌, ℕ, List, Ok, Err};
 ghost use Rattle.wire_format.specs.Message.{encoded};
 ghost use Rattle.tink_io.specs.declared.error.Kind.{Kind};
 ghost use Rattle.tink_io.specs.declared.error.Kind.TheVariants.{MasterFailed};
-ghost use Rattle.tink_io.specs.Told.{Answers};
+ghost use Rattle.tink_io.specs.Told.{Answers, made_of};
 ghost use Rattle.tink_proto.specs.Messages.{keyset};
-ghost use Rattle.tink_keysets.specs.Built.{made_of};
 ghost use Rattle.tink_keysets.specs.Encrypted.{by_master, Undoes};
 
 use crate::keyset::{Handle, MemReaderWriter};

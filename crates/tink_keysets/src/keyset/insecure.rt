@@ -1,7 +1,10 @@
 //! Keysets with their keys in sight.
 
 ghost use Rattle.std.specs.Prelude.{◌≡◌, ◌≤◌, IfOk, IfErr, OnOk};
-ghost use Rattle.tink_io.specs.declared.error.Kind.TheVariants.{OutOfMemory};
+ghost use Rattle.tink_io.specs.declared.error.Kind.TheVariants.{BadKeyset, OutOfMemory};
+ghost use Rattle.tink_io.specs.Told.{Answers, or_refused};
+ghost use Rattle.tink_proto.specs.Messages.{keyset};
+ghost use Rattle.wire_format.specs.Message.{decoded};
 ghost use Rattle.keyset_model.specs.Validity.{IsHeld};
 ghost use Rattle.tink_keysets.specs.Told.{Tells};
 ghost use Rattle.tink_keysets.specs.Ends.{Gives};
@@ -12,7 +15,7 @@ use crate::keyset::copies::copy;
 use crate::keyset::{Handle, Reader, Writer};
 use std::alloc::Global;
 use tink_io::{Kind, TinkError};
-use tink_proto::Keyset;
+use tink_proto::{Keyset, Message, ProtoError};
 
 /// A copy of a handle's keyset.
 ///
@@ -24,6 +27,20 @@ pub fn keyset_material(alloc: Global, h: &Handle) -> Result<Keyset, TinkError>
     ensures err { IfErr result (λ e. e ≡ record { kind = OutOfMemory }) }
 {
     copy(alloc, h.keyset())
+}
+
+/// The keyset that bytes spell in the wire format, whatever its keys are.
+///
+/// # Errors
+/// `BadKeyset` exactly where they spell none; `OutOfMemory`.
+pub fn decode(alloc: Global, bytes: &[u8]) -> Result<Keyset, TinkError>
+    ensures { Answers result (or_refused BadKeyset (decoded keyset.read bytes.now)) }
+{
+    match Keyset::decode(alloc, bytes) {
+        Ok(ks) => Ok(ks),
+        Err(ProtoError::OutOfMemory) => Err(TinkError::new(Kind::OutOfMemory)),
+        Err(_) => Err(TinkError::new(Kind::BadKeyset)),
+    }
 }
 
 /// A handle of a keyset, whatever its keys are.

@@ -1,13 +1,12 @@
-use Rattle.std.proofs.Common.{rules}
+use Rattle.std.proofs.Common.{◌≡◌, ◌∷◌, List, [], sym, subst, rules}
+use Rattle.tink_registry.specs.Registering.{AreMade, IsMade}
 use Rattle.tink_mac.proofs.registering.managers.Goals as goal
 
+two_made : {M : Type 0} (from_a from_b : M → Type 0) (a b : M) (managers : List M) → from_a a → from_b b → managers ≡ a ∷ b ∷ []
+    → AreMade (from_a ∷ from_b ∷ []) managers
+two_made from_a from_b a b managers made_a made_b are = subst (AreMade (from_a ∷ from_b ∷ [])) (sym are) (made_a, (made_b, tt))
+
 pub returns-clause-value : goal.returns-clause-value
-returns-clause-value g c = record {
-  hmac_keys = c.new.result;
-  cmac_keys = c.new-2.result;
-  hmac = c.from-hmac.result;
-  cmac = c.from-cmac.result;
-  are = search rules;
-  from_hmac = c.from-hmac.ensures;
-  from_cmac = c.from-cmac.ensures;
-}
+returns-clause-value g c =
+    two_made (IsMade g.M.From-1.from_gives) (IsMade g.M.From-2.from_gives) c.from-hmac.result c.from-cmac.result _
+    (c.new.result, c.from-hmac.ensures) (c.new-2.result, c.from-cmac.ensures) (search rules)

@@ -1,5 +1,6 @@
 use Rattle.std.proofs.Common.{◌≡◌, ◌++◌, drop}
-use Rattle.tink_sets.specs.Converting.{made_of, converted}
+use Rattle.tink_io.specs.Told.{made_of}
+use Rattle.tink_sets.specs.Converting.{converted}
 use Rattle.tink_sets.proofs.converting.convert_list.Given as goal
 
 -- what was converted stands before what is left

@@ -4,7 +4,7 @@ use Rattle.std.proofs.lemmas.Result.{err_from_is_err_and}
 use Rattle.tink_io.specs.Told.{Replies}
 use Rattle.tink_registry.specs.Listed.{registry_makes}
 use Rattle.tink_aead.specs.Envelope.{data_key_aead}
-use Rattle.tink_aead.specs.EnvelopeTold.{registry_makes_told}
+use Rattle.tink_registry.specs.ListedLaws.{registry_makes_told}
 use Rattle.tink_aead.proofs.EnvelopeSteps.{aead_refused, envelope_last, remote_refused, text_refused}
 use Rattle.tink_aead.proofs.kms_envelope_aead.KmsEnvelopeAeadAead.encrypt.Goals as goal
 
