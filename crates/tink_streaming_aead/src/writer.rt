@@ -1,4 +1,4 @@
-ghost use Rattle.std.specs.Prelude.{◌≡◌, ◌≤◌, ◌<◌, ◌+◌, ◌-◌, [], List, ℕ, None, Some, Ok, IfOk, IfErr, OnOk, vec_len, vec_capacity};
+ghost use Rattle.std.specs.Prelude.{◌≡◌, ◌≤◌, ◌<◌, ◌+◌, ◌-◌, [], None, Some, Ok, IfOk, IfErr, OnOk, vec_len, vec_capacity};
 ghost use Rattle.tink_streaming_aead.specs.Sizes.{sizes_fault};
 ghost use Rattle.tink_streaming_aead.specs.declared.writing.Mode.TheVariants.{Open};
 
@@ -57,8 +57,8 @@ impl<W, E: SegmentEncrypter> Model for Writer<W, E> {
 }
 
 impl<W: Sink + Drop, E: SegmentEncrypter + Drop> Writer<W, E> {
-    ghost use Rattle.tink_streaming_aead.specs.Writing.{WriteMeans, CloseMeans, Moment};
-    ghost use Rattle.tink_streaming_aead.specs.Writers.{WriterState, moment_of, seg_of};
+    ghost use Rattle.tink_streaming_aead.specs.Writing.{WriteMeans, CloseMeans};
+    ghost use Rattle.tink_streaming_aead.specs.Writers.{moment_of, seg_of};
 
     /// A writer that has written nothing, with memory by `Buffers::reserve` for these sizes. The
     /// nonce's size, where it is not too short, is that of the encrypter.
