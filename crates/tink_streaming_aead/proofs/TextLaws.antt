@@ -1,11 +1,13 @@
 -- Laws of the reads of a text.
-use Rattle.std.proofs.Common.{◌≡◌, ◌<◌, ◌+◌, ℕ, Bool, List, [], ◌∷◌, ◌++◌, length, take, drop, Some, None, refl, sym, ap, subst, ◌∙◌, arith, append_assoc, length-append}
-use Rattle.std.specs.Prelude.{Result, Ok, Err}
+use Rattle.std.proofs.Common.{◌≡◌, ◌<◌, ◌≤◌, ◌+◌, ◌-◌, ℕ, Bool, List, [], ◌∷◌, ◌++◌, length, take, drop, Some, None, refl, sym, ap, subst, ◌∙◌, arith, append_assoc, length-append}
+use Rattle.std.specs.Prelude.{Result, Ok, Err, IfSome}
 use Rattle.std.proofs.lemmas.List.{append-nil}
 use Rattle.std.proofs.Math.ListN.{drop_of_length-le}
 use Rattle.std.specs.declared.option.Option.{Option}
 use Rattle.stream_model.specs.Cut.{cut, room_at}
 use Rattle.stream_model.specs.Agree.{Leads, joined}
+use Rattle.stream_model.specs.Opening.{AreSegments}
+use Rattle.stream_model.proofs.WholeFacts.{stream_of_leads}
 use Rattle.stream_model.proofs.AgreeFacts.{Leads-trans, joined-append}
 use Rattle.tink_io.specs.declared.error.Cause.{Cause}
 use Rattle.tink_io.specs.declared.error.Kind.{Kind}
@@ -14,7 +16,7 @@ use Rattle.tink_io.specs.declared.error.TinkError.{TinkError}
 use Rattle.tink_streaming_aead.specs.declared.progress.Progress.{Progress}
 use Rattle.tink_streaming_aead.specs.declared.progress.Progress.TheVariants.{Running, Ended, Failed}
 use Rattle.tink_streaming_aead.specs.Reading.{TellsLeads, HasNotFailed, NothingComes}
-use Rattle.tink_streaming_aead.specs.TextReading.{Moment, of_segments, with_pending, IsDue, AtEnd, Gives, ReadRefused, ReadMeans, Gave, IsWhole, IsLongest}
+use Rattle.tink_streaming_aead.specs.TextReading.{Moment, of_segments, with_pending, IsDue, AtEnd, Gives, ReadRefused, ReadMeans, Gave, IsWhole, IsTextOf, IsLongest}
 use Rattle.tink_streaming_aead.proofs.ReadingFacts.{opened_all, opened_agree}
 use Rattle.tink_streaming_aead.proofs.TextFacts.{tells_none}
 
@@ -108,6 +110,7 @@ gave_more seg a b all given old new before after n w g = record {
 pub gave_all : (seg : ℕ → Bool → List ℕ → List ℕ) (a b : ℕ) (all : Option (List ℕ)) (given : List ℕ) (m : Moment) → Gave seg a b all given m → AtEnd m → IsWhole seg a b all given
 gave_all seg a b all given m w e = record {
   texts = w.texts;
+  some = omega (arith, e.some, w.number);
   leads = opened_all seg a b all w.texts (of_segments m) (record { number = w.number; leads = w.leads }) e.rest;
   given_is = sym (append-nil given) ∙ ap (λ x. given ++ x) (sym e.pending) ∙ sym w.given_is;
 }
@@ -141,4 +144,22 @@ gave_longest seg a b all given m w e none = record {
   texts = w.texts;
   agree = opened_agree seg a b all w.texts (of_segments m) (record { number = w.number; leads = w.leads }) none;
   given_is = sym (append-nil given) ∙ ap (λ x. given ++ x) (sym e) ∙ sym w.given_is;
+}
+
+segments_told : (seg : ℕ → Bool → List ℕ → List ℕ) (o a b : ℕ) (all : Option (List ℕ)) (texts : List (List ℕ)) → ((i : ℕ) (last : Bool) (t : List ℕ) → length (seg i last t) ≡ length t + o) → o < a → o < b → 0 < length texts
+    → IfSome all (λ X. Leads seg 0 (cut a b X) texts []) → IfSome all (λ X. AreSegments seg 0 (a - o) (b - o) X texts)
+segments_told seg o a b None texts longer p q some h = tt
+segments_told seg o a b (Some X) texts longer p q some h =
+    let first : (a - o) + o ≡ a = omega arith in
+    let later : (b - o) + o ≡ b = omega arith in
+    stream_of_leads seg o 0 (a - o) (b - o) texts X longer (omega arith) (omega arith) some
+    (subst (λ (n : ℕ). Leads seg 0 (cut n ((b - o) + o) X) texts []) (sym first) (subst (λ (n : ℕ). Leads seg 0 (cut a n X) texts []) (sym later) h))
+
+-- the whole text is that of a stream
+pub text_of_whole : (seg : ℕ → Bool → List ℕ → List ℕ) (o a b : ℕ) (all : Option (List ℕ)) (given : List ℕ) → ((i : ℕ) (last : Bool) (t : List ℕ) → length (seg i last t) ≡ length t + o) → o < a → a ≤ b
+    → IsWhole seg a b all given → IsTextOf seg (a - o) (b - o) all given
+text_of_whole seg o a b all given longer p q w = record {
+  texts = w.texts;
+  segments = segments_told seg o a b all w.texts longer p (omega arith) w.some w.leads;
+  given_is = w.given_is;
 }

@@ -7,6 +7,7 @@ use Rattle.tink_io.specs.declared.error.Kind.TheVariants.{ReadFault, TooManySegm
 use Rattle.tink_io.specs.declared.error.TinkError.{TinkError}
 use Rattle.stream_model.specs.Cut.{cut}
 use Rattle.stream_model.specs.Agree.{Leads, Agree, joined}
+use Rattle.stream_model.specs.Opening.{AreSegments}
 use Rattle.tink_streaming_aead.specs.declared.progress.Progress.{Progress}
 use Rattle.tink_streaming_aead.specs.declared.progress.Progress.TheVariants.{Running, Ended, Failed}
 use Rattle.tink_streaming_aead.specs.Reading.{TellsLeads, HasNotFailed, OpenRefused, ReadFailed, HasTooMany, IsBad, IsTruncated}
@@ -100,7 +101,14 @@ pub record Gave (seg : ℕ → Bool → List ℕ → List ℕ) (a b : ℕ) (all 
 -- all chunks are the segments of some texts, and these bytes are those texts joined
 pub record IsWhole (seg : ℕ → Bool → List ℕ → List ℕ) (a b : ℕ) (all : Option (List ℕ)) (given : List ℕ) : Type 0 where
   pub texts : List (List ℕ)
+  pub some : 0 < length texts
   pub leads : IfSome all (λ X. Leads seg 0 (cut a b X) texts [])
+  pub given_is : given ≡ joined texts
+
+-- all bytes are the segments of some texts with these rooms, and these bytes are those texts joined
+pub record IsTextOf (seg : ℕ → Bool → List ℕ → List ℕ) (first room : ℕ) (all : Option (List ℕ)) (given : List ℕ) : Type 0 where
+  pub texts : List (List ℕ)
+  pub segments : IfSome all (λ X. AreSegments seg 0 first room X texts)
   pub given_is : given ≡ joined texts
 
 -- these bytes are the longest list of texts that agrees with the chunks, joined

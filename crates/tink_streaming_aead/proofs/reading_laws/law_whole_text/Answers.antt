@@ -1,4 +1,4 @@
-use Rattle.tink_streaming_aead.proofs.TextLaws.{gave_none, gave_more, gave_all, gave_longest}
+use Rattle.tink_streaming_aead.proofs.TextLaws.{gave_none, gave_more, gave_all, gave_longest, text_of_whole}
 use Rattle.tink_streaming_aead.proofs.reading_laws.law_whole_text.Goals as goal
 
 pub returns-clause-fresh : goal.returns-clause-fresh
@@ -12,3 +12,6 @@ returns-clause-whole c = gave_all
 
 pub returns-clause-stopped : goal.returns-clause-stopped
 returns-clause-stopped c = gave_longest
+
+pub returns-clause-stream : goal.returns-clause-stream
+returns-clause-stream c = text_of_whole
