@@ -1,12 +1,12 @@
 -- What the AEADs of a keyset tell.
-use Rattle.std.specs.Prelude.{ℕ, List, [], Option, Some, None, Result, Ok, Err, refl}
+use Rattle.std.specs.Prelude.{ℕ, List, [], Option, Some, None, Result, refl}
 use Rattle.tink_io.specs.declared.error.Kind.{Kind}
 use Rattle.tink_io.specs.declared.error.Kind.TheVariants.{DecryptFailed}
 use Rattle.tink_primitives.specs.Meaning.{IsDrawn, IsTold}
 use Rattle.tink_primitives.specs.MeaningLaws.{made_told}
 use Rattle.tink_sets.specs.declared.entry.TypedEntry.{TypedEntry}
 use Rattle.tink_factory.specs.Accepting.{or_else, prefixed_value, raw_value, value_or}
-use Rattle.tink_aead.specs.Wrapped.{any_decrypts, behind_prefix, entry_decrypts, entry_encrypts, primary_encrypts}
+use Rattle.tink_aead.specs.Wrapped.{any_decrypts, entry_decrypts, entry_encrypts, primary_encrypts}
 
 module _ {P : Type 0} (encrypts : P → List ℕ → List ℕ → List ℕ → Result (List ℕ) Kind × List ℕ) (told : (p : P) (text aad draws : List ℕ) → IsDrawn draws (encrypts p text aad draws)) where
   pub entry_encrypts_told : (e : TypedEntry P) (text aad draws : List ℕ) → IsDrawn draws (entry_encrypts encrypts e text aad draws)
