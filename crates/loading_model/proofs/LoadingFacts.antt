@@ -10,6 +10,7 @@ use Rattle.hash_keys.specs.declared.Hash.{Hash}
 use Rattle.hash_keys.specs.Hash.{digest_size}
 use Rattle.tink_io.specs.declared.error.Kind.{Kind}
 use Rattle.tink_io.specs.declared.error.Kind.TheVariants.{InvalidKeyset, InvalidKey, UnsupportedKeyType}
+use Rattle.tink_io.specs.Told.{or_refused}
 use Rattle.tink_proto.specs.declared.messages.keys.Key.{Key}
 use Rattle.tink_proto.specs.declared.messages.keys.KeyData.{KeyData}
 use Rattle.tink_proto.specs.declared.messages.keys.Keyset.{Keyset}
@@ -25,7 +26,7 @@ use Rattle.keyset_model.specs.Keys.{enabled}
 use Rattle.keyset_model.specs.Validity.{is_valid}
 use Rattle.stream_model.specs.Key.{StreamKey, IsUsable}
 use Rattle.stream_model.specs.Key.SegmentKind.{CtrHmac}
-use Rattle.loading_model.specs.Building.{build, is_streaming, streaming_key, streaming_of, hash_numbered, or_refused, aes_ctr_hmac_url}
+use Rattle.loading_model.specs.Building.{build, is_streaming, streaming_key, streaming_of, hash_numbered, aes_ctr_hmac_url}
 use Rattle.loading_model.specs.Loading.{Loaded, LoadedKey, AreUsable, load, load_decoded, load_keyset, load_keys, with_primary, build_key, build_data, build_keys, key_of_id, ◌then◌}
 
 -- a key with these sizes is usable

@@ -1,5 +1,5 @@
 -- From a key's data to a streaming key.
-use Rattle.std.specs.Prelude.{ℕ, ◌+◌, ◌^◌, ℤ, pos, List, [], length, codes, Bool, ◌&&◌, ◌||◌, if◌then◌else◌, nat_eq, nat_le, nat_lt, Option, Some, None, Result, Ok, Err}
+use Rattle.std.specs.Prelude.{ℕ, ◌+◌, ◌^◌, ℤ, pos, List, [], length, codes, Bool, ◌&&◌, ◌||◌, if◌then◌else◌, nat_eq, nat_le, nat_lt, Option, Some, None, Result, Err}
 use Rattle.std.specs.Ordering.{int_eq}
 use Rattle.std.specs.Str.{bytes_eq}
 use Rattle.hash_keys.specs.declared.Hash.{Hash}
@@ -7,6 +7,7 @@ use Rattle.hash_keys.specs.declared.Hash.TheVariants.{Sha1, Sha224, Sha256, Sha3
 use Rattle.hash_keys.specs.Hash.{digest_size}
 use Rattle.tink_io.specs.declared.error.Kind.{Kind}
 use Rattle.tink_io.specs.declared.error.Kind.TheVariants.{UnsupportedKeyType, InvalidKey}
+use Rattle.tink_io.specs.Told.{or_refused}
 use Rattle.tink_proto.specs.declared.enums.HashType.{HashType}
 use Rattle.tink_proto.specs.declared.enums.HashType.TheVariants as types
 use Rattle.tink_proto.specs.declared.messages.keys.KeyData.{KeyData}
@@ -57,10 +58,6 @@ streaming_of m = do
   hkdf_hash ← hash_numbered params.hkdf_hash_type
   tag_hash ← hash_numbered hmac.hash
   if nat_eq m.version 0 then streaming_key m.key_value params.derived_key_size hkdf_hash tag_hash hmac.tag_size params.ciphertext_segment_size else None
-
-abbrev pub or_refused : {A : Type 0} → Kind → Option A → Result A Kind
-or_refused kind None = Err kind
-or_refused kind (Some a) = Ok a
 
 -- An empty value is refused before the URL is looked at.
 abbrev pub build : KeyData → Result StreamKey Kind

@@ -10,8 +10,9 @@ use Rattle.tink_io.specs.declared.error.Kind.{Kind}
 use Rattle.tink_io.specs.declared.error.Kind.TheVariants.{KeysetTooLong}
 use Rattle.tink_io.specs.declared.error.TinkError.{TinkError}
 use Rattle.tink_io.proofs.FaultLemmas.{Rose-earlier}
+use Rattle.tink_io.specs.Told.{or_refused}
 use Rattle.tink_keysets.specs.Ends.{IsTold, IsRefusal, Gives}
-use Rattle.tink_keyset_io.specs.Reading.{or_refused, reading, told, IsFault, IsUnread, LosesAtMost, IsPiece}
+use Rattle.tink_keyset_io.specs.Reading.{reading, told, IsFault, IsUnread, LosesAtMost, IsPiece}
 
 -- a piece behind a text
 pub text_goes_on : (a b c : Option (List ℕ)) (before after piece : List ℕ) (n : ℕ) → Consumes a b before → IsPiece b c before after piece n → Consumes a c after

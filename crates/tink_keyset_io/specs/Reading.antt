@@ -1,14 +1,10 @@
 -- What a reader of keysets has of a source.
-use Rattle.std.specs.Prelude.{◌≡◌, ◌⊎◌, ℕ, ◌^◌, ◌<◌, ◌≤◌, nat_lt, if◌then◌else◌, List, ◌++◌, length, take, Option, Some, None, option_map, IfSome, Result, Ok, Err}
+use Rattle.std.specs.Prelude.{◌≡◌, ◌⊎◌, ℕ, ◌^◌, ◌<◌, ◌≤◌, nat_lt, if◌then◌else◌, List, ◌++◌, length, take, Option, option_map, IfSome, Result, Err}
 use Rattle.std.specs.Io.KnownBytes.{Consumes, IsAtEnd}
 use Rattle.tink_io.specs.Faults.{Rose}
+use Rattle.tink_io.specs.Told.{or_refused}
 use Rattle.tink_io.specs.declared.error.Kind.{Kind}
 use Rattle.tink_io.specs.declared.error.Kind.TheVariants.{OutOfMemory, ReadFault, KeysetTooLong}
-
--- the message, or the refusal where there is none
-abbrev pub or_refused : {M : Type 0} → Kind → Option M → Result M Kind
-or_refused refusal None = Err refusal
-or_refused refusal (Some m) = Ok m
 
 -- what a text is read as
 abbrev pub reading : {M : Type 0} → Kind → (List ℕ → Option M) → List ℕ → Result M Kind

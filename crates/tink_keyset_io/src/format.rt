@@ -5,8 +5,8 @@ ghost use Rattle.std.specs.declared.option.Option.{Option};
 ghost use Rattle.std.specs.declared.result.Result.{Result};
 ghost use Rattle.tink_io.specs.declared.error.Kind.{Kind as Refusal};
 ghost use Rattle.tink_io.specs.declared.error.Kind.TheVariants.{OutOfMemory};
+ghost use Rattle.tink_io.specs.Told.{or_refused};
 ghost use Rattle.tink_keysets.specs.Ends.{Gives, IsTold};
-ghost use Rattle.tink_keyset_io.specs.Reading.{or_refused};
 
 use std::alloc::Global;
 use tink_io::TinkError;

@@ -6,7 +6,7 @@ use Rattle.std.specs.Ordering.{int_eq}
 use Rattle.std.proofs.lemmas.Bool.{cond-true, cond-false, false_from_ne_true, ne_eqb}
 use Rattle.std.proofs.lemmas.Bool.Decides.{Decides-int_eq}
 use Rattle.std.proofs.lemmas.List.{at_drop_all}
-use Rattle.tink_io.specs.Told.{Answers}
+use Rattle.tink_io.specs.Told.{Answers, or_refused}
 use Rattle.tink_io.specs.declared.error.Kind.{Kind}
 use Rattle.tink_io.specs.declared.error.Kind.TheVariants.{BadKeyset, InvalidKeyset, NoPrimary}
 use Rattle.tink_io.specs.declared.error.TinkError.{TinkError}
@@ -22,7 +22,7 @@ use Rattle.wire_format.specs.Reading.{◌>>=◌}
 use Rattle.keyset_model.specs.Keys.{is_enabled, enabled}
 use Rattle.keyset_model.specs.Validity.{is_valid}
 use Rattle.stream_model.specs.Key.{StreamKey}
-use Rattle.loading_model.specs.Building.{hash_numbered, or_refused, streaming_of}
+use Rattle.loading_model.specs.Building.{hash_numbered, streaming_of}
 use Rattle.tink_tool.specs.Valid.{valid_or_refused}
 use Rattle.loading_model.specs.Loading.{Loaded, LoadedKey, build_key, build_keys, key_of_id, load, load_decoded, load_keyset, load_keys, with_primary, ◌then◌}
 

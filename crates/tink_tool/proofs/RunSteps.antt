@@ -5,7 +5,7 @@ use Rattle.std.proofs.lemmas.Bool.{cond_both}
 use Rattle.std.specs.Prelude.{Result, Ok, Err, Option, Some, None, nat_eq, map}
 use Rattle.std.specs.List.{filter}
 use Rattle.std.specs.Str.{bytes_eq}
-use Rattle.tink_io.specs.Told.{Answers}
+use Rattle.tink_io.specs.Told.{Answers, or_refused}
 use Rattle.tink_io.specs.declared.error.Kind.{Kind}
 use Rattle.tink_io.specs.declared.error.Kind.TheVariants.{BadKeyset, InvalidKeyset, UnsupportedKeyType, InvalidKey, NoPrimary}
 use Rattle.tink_io.specs.declared.error.TinkError.{TinkError}
@@ -18,7 +18,7 @@ use Rattle.keyset_model.specs.Keys.{enabled}
 use Rattle.keyset_model.specs.Validity.{is_valid}
 use Rattle.stream_model.specs.Key.{StreamKey}
 use Rattle.stream_model.specs.Opening.{opening_key}
-use Rattle.loading_model.specs.Building.{build, or_refused, aes_ctr_hmac_url}
+use Rattle.loading_model.specs.Building.{build, aes_ctr_hmac_url}
 use Rattle.loading_model.specs.Loading.{Loaded, LoadedKey, load, load_decoded, load_keys, with_primary, build_key, build_data, build_keys, key_of_id, ◌then◌}
 use Rattle.tink_tool.specs.declared.report.Command.{Command}
 use Rattle.tink_tool.specs.declared.report.Command.TheVariants.{Seal, Open}

@@ -2,9 +2,7 @@
 
 ghost use Rattle.std.specs.Prelude.{◌≡◌, filter};
 ghost use Rattle.std.specs.Str.{bytes_eq};
-ghost use Rattle.tink_io.specs.Told.{Answers};
-ghost use Rattle.tink_proto.specs.Messages.{keyset};
-ghost use Rattle.wire_format.specs.Message.{decoded};
+ghost use Rattle.tink_io.specs.Told.{Answers, or_refused};
 ghost use Rattle.keyset_model.specs.Keys as key_words;
 ghost use Rattle.loading_model.specs.Building as building;
 ghost use Rattle.loading_model.specs.Loading as loading;
@@ -61,21 +59,11 @@ impl Model for LoadedKeys {
 pub fn load(alloc: Global, bytes: &[u8]) -> Result<LoadedKeys, TinkError>
     ensures { Answers result (loading.load bytes.now) }
 {
-    let keyset = decode(alloc, bytes)?;
+    let keyset = insecure::decode(alloc, bytes)?;
     let valid = validated(alloc, keyset)?;
     let keys = build_enabled(alloc, valid.key.as_slice())?;
     let primary = primary_key(alloc, valid.primary_key_id, keys.as_slice())?;
     Ok(LoadedKeys { keys, primary })
-}
-
-fn decode(alloc: Global, bytes: &[u8]) -> Result<Keyset, TinkError>
-    ensures { Answers result (building.or_refused Kind.BadKeyset (decoded keyset.read bytes.now)) }
-{
-    match Keyset::decode(alloc, bytes) {
-        Ok(keyset) => Ok(keyset),
-        Err(ProtoError::OutOfMemory) => Err(TinkError::new(Kind::OutOfMemory)),
-        Err(_) => Err(TinkError::new(Kind::BadKeyset)),
-    }
 }
 
 // The keyset of a handle that is validated.
@@ -223,7 +211,7 @@ fn is_streaming(main: usize, derived: u32, tag_hash: Hash, tag: u32, segment: u3
 
 // The first key of the id.
 fn primary_key(alloc: Global, id: u32, keys: &[LoadedKey]) -> Result<StreamingKey, TinkError>
-    ensures { Answers result (building.or_refused Kind.NoPrimary (loading.key_of_id id keys.now)) }
+    ensures { Answers result (or_refused Kind.NoPrimary (loading.key_of_id id keys.now)) }
 {
     for key in keys {
         if key.id == id {

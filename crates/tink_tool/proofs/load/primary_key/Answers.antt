@@ -3,7 +3,7 @@ use Rattle.std.specs.Prelude.{Ok}
 use Rattle.std.proofs.lemmas.Bool.{eq-eqb, ne_eqb}
 use Rattle.std.proofs.lemmas.List.{at_drop_all}
 use Rattle.tink_io.specs.declared.error.Kind.TheVariants.{NoPrimary}
-use Rattle.loading_model.specs.Building.{or_refused}
+use Rattle.tink_io.specs.Told.{or_refused}
 use Rattle.loading_model.specs.Loading.{LoadedKey, key_of_id}
 use Rattle.tink_tool.proofs.LoadLemmas.{from_here, of_this_id, of_another_id, of_no_key, refused}
 use Rattle.tink_tool.proofs.load.primary_key.Goals as goal
