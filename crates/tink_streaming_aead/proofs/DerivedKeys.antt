@@ -1,43 +1,59 @@
 -- The cipher of segments under derived keys.
-use Rattle.std.proofs.Common.{◌≡◌, ◌+◌, ◌-◌, ℕ, List, ◌++◌, length, take, drop, min, Some, refl, sym, ap, ◌∙◌, arith, length-drop}
-use Rattle.std.proofs.lemmas.List.{take-append-le, drop-append-le, take_at}
+use Rattle.std.proofs.Common.{◌≡◌, ◌⊎◌, inl, inr, ◌+◌, ◌-◌, ◌≤◌, ℕ, List, ◌++◌, length, take, drop, min, Some, None, refl, sym, ap, subst, ◌∙◌, arith, length-drop}
+use Rattle.std.specs.Prelude.{Ok, Err}
+use Rattle.std.specs.declared.option.Option.{Option}
+use Rattle.std.proofs.lemmas.List.{take_all, take-append-le}
 use Rattle.hash_keys.specs.declared.Hash.{Hash}
 use Rattle.hash_keys.specs.declared.Hash.TheVariants.{Sha1, Sha224, Sha256, Sha384, Sha512}
 use Rattle.hash_keys.specs.Hash.{digest_size, hkdf_of}
 use Rattle.hash_keys.proofs.Lengths.{length-hkdf_of}
-use Rattle.stream_model.specs.Key.{IsUsable, derived_by}
-use Rattle.tink_streaming_aead.specs.SegmentKeys.{SegmentKeys, segment_under, overhead_under}
-use Rattle.tink_streaming_aead.specs.StreamingKeys.{IsDerived, ctr_hmac_key}
+use Rattle.tink_io.specs.declared.error.Kind.{Kind}
+use Rattle.stream_model.specs.Key.{IsTag, IsUsable, SegmentKind, StreamKey, derived_by, derived_bytes_of, header_length, keys_of, nonce_size, nonce_size_of, overhead, overhead_of, segment_at, segment_of}
+use Rattle.stream_model.specs.Key.SegmentKind.{CtrHmac, Gcm}
+use Rattle.stream_model.specs.Cut.{numbered}
+use Rattle.stream_model.specs.Opening.{opening_key, under}
+use Rattle.tink_streaming_aead.specs.declared.stream_segment.StreamSegment.{StreamSegment}
+use Rattle.tink_streaming_aead.specs.StreamSegments.{nonce_length_by, overhead_by, segment_by}
+use Rattle.tink_streaming_aead.specs.StreamingKeys.{IsDerived, cipher_of, deriving_hash, with_main}
 
--- every other hash derives keys
-derives : (h : Hash) (main salt aad : List ℕ) (n : ℕ) → (h ≡ Sha224 → ⊥) → derived_by (Some h) main salt aad n ≡ Some (hkdf_of h main salt aad n)
-derives Sha1 main salt aad n other = refl
-derives Sha224 main salt aad n other = absurd (other refl)
-derives Sha256 main salt aad n other = refl
-derives Sha384 main salt aad n other = refl
-derives Sha512 main salt aad n other = refl
+-- a hash that is refused derives nothing
+pub derives_nothing : (h : Option Hash) (kind : Kind) (main salt aad : List ℕ) (n : ℕ) → deriving_hash h ≡ Err kind → derived_by h main salt aad n ≡ None
+derives_nothing None kind main salt aad n e = refl
+derives_nothing (Some Sha1) kind main salt aad n e = absurd (cc)
+derives_nothing (Some Sha224) kind main salt aad n e = refl
+derives_nothing (Some Sha256) kind main salt aad n e = absurd (cc)
+derives_nothing (Some Sha384) kind main salt aad n e = absurd (cc)
+derives_nothing (Some Sha512) kind main salt aad n e = absurd (cc)
 
--- the keys stand in the front of a buffer, the AES key first
-pub derivation : (main : List ℕ) (hkdf_hash : Hash) (derived : ℕ) (tag_hash : Hash) (tag segment : ℕ) (aad salt ikm keys rest : List ℕ) (n : ℕ) (cipher : SegmentKeys)
-    → IsUsable (ctr_hmac_key main hkdf_hash derived tag_hash tag segment) → (hkdf_hash ≡ Sha224 → ⊥) → n ≡ derived + 32 → ikm ≡ main → keys ≡ hkdf_of hkdf_hash ikm salt aad n
-    → cipher ≡ record { aes_key = take derived (keys ++ rest); hmac_key = take (derived + 32 - derived) (drop derived (keys ++ rest)); hash = tag_hash; tag = tag }
-    → IsDerived (ctr_hmac_key main hkdf_hash derived tag_hash tag segment) aad salt cipher
-derivation main hkdf_hash derived tag_hash tag segment aad salt ikm keys rest n cipher usable other size same keys_are made =
-    let long : length keys ≡ derived + 32 = ap length keys_are ∙ length-hkdf_of hkdf_hash ikm salt aad n ∙ size in
-    let first : take derived (keys ++ rest) ≡ take derived keys = take-append-le derived keys rest (omega arith) in
-    let later : take (derived + 32 - derived) (drop derived (keys ++ rest)) ≡ drop derived keys =
-    ap (take (derived + 32 - derived)) (drop-append-le derived keys rest (omega arith)) ∙ take_at (drop derived keys) rest (derived + 32 - derived) (omega (arith, length-drop derived keys))
-    in
-    let is : cipher ≡ record { aes_key = take derived keys; hmac_key = drop derived keys; hash = tag_hash; tag = tag } =
-    made
-    ∙ ap (λ (x : List ℕ). record { aes_key = x; hmac_key = take (derived + 32 - derived) (drop derived (keys ++ rest)); hash = tag_hash; tag = tag }) first
-    ∙ ap (λ (x : List ℕ). record { aes_key = take derived keys; hmac_key = x; hash = tag_hash; tag = tag }) later
-    in
-    let tag_is : min tag (digest_size tag_hash) ≡ tag = omega (arith, usable.tag) in
-    record {
-      keys = keys;
-      keys_are = derives hkdf_hash main salt aad (derived + 32) other ∙ ap (λ k. Some (hkdf_of hkdf_hash main salt aad k)) (sym size) ∙ ap (λ (k : List ℕ). Some (hkdf_of hkdf_hash k salt aad n)) (sym same) ∙ ap (λ (k : List ℕ). Some k) (sym keys_are);
-      segments = ap segment_under is;
-      longer = ap overhead_under is ∙ tag_is;
-      nonce = refl;
-    }
+-- the derived cipher's segments are the key's, with its overhead and its nonces
+pub segments_are : (kind : SegmentKind) (derived : ℕ) (keys : List ℕ) → segment_by (cipher_of kind derived keys) ≡ segment_of kind derived keys
+segments_are (CtrHmac hash tag) derived keys = refl
+segments_are Gcm derived keys = refl
+
+pub overhead_is : (kind : SegmentKind) (derived : ℕ) (keys : List ℕ) → IsTag kind → overhead_by (cipher_of kind derived keys) ≡ overhead_of kind
+overhead_is (CtrHmac hash tag) derived keys fits = let tag_is : min tag (digest_size hash) ≡ tag = omega (arith, fits) in tag_is
+overhead_is Gcm derived keys fits = refl
+
+pub nonce_is : (kind : SegmentKind) (derived : ℕ) (keys : List ℕ) → nonce_length_by (cipher_of kind derived keys) ≡ nonce_size_of kind
+nonce_is (CtrHmac hash tag) derived keys = refl
+nonce_is Gcm derived keys = refl
+
+-- what a derived cipher makes of a text, its overhead and the length of its nonces
+module _ (k : StreamKey) (aad salt : List ℕ) (cipher : StreamSegment) (d : IsDerived k aad salt cipher) where
+  pub derived_segments : segment_by cipher ≡ segment_of k.kind k.derived d.keys
+  derived_segments = ap segment_by d.cipher_is ∙ segments_are k.kind k.derived d.keys
+
+  pub derived_overhead : IsTag k.kind → overhead_by cipher ≡ overhead k
+  derived_overhead tag = ap overhead_by d.cipher_is ∙ overhead_is k.kind k.derived d.keys tag
+
+  pub derived_nonce : nonce_length_by cipher ≡ nonce_size k
+  derived_nonce = ap nonce_length_by d.cipher_is ∙ nonce_is k.kind k.derived d.keys
+
+-- the segments of a cipher that is derived under a header are those that open its stream
+pub derived_under : (k : StreamKey) (aad H : List ℕ) (cipher : StreamSegment) → IsDerived k aad (take k.derived (drop 1 H)) cipher
+    → (opening_key aad k).seg H ≡ Some (numbered (segment_by cipher) (nonce_size k) (drop (header_length k - 7) H))
+derived_under k aad H cipher d =
+    let place : k.derived + 1 ≡ header_length k - 7 = omega arith in
+    ap (λ o. under o (λ keys. segment_at k keys (drop (k.derived + 1) H))) d.keys_are
+    ∙ ap (λ s. Some (numbered s (nonce_size k) (drop (k.derived + 1) H))) (sym (derived_segments k aad (take k.derived (drop 1 H)) cipher d))
+    ∙ ap (λ n. Some (numbered (segment_by cipher) (nonce_size k) (drop n H))) place

@@ -7,7 +7,7 @@ pub mod ChoosingSteps
 pub mod ReadingFacts
 pub mod ChosenFacts
 mod SegmentSteps
-mod DerivedKeys
+pub mod DerivedKeys
 pub mod WholeSteps
 pub mod FullFacts
 pub mod WriterCallers

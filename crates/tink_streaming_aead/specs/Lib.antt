@@ -5,6 +5,7 @@ pub mod Choosing
 pub mod SegmentCiphers
 pub mod SegmentKeys
 pub mod StreamingKeys
+pub mod StreamKinds
 pub mod Whole
 pub mod Full
 pub mod AesVariants

@@ -1,11 +1,13 @@
 //! A segment that Python made, and the limits of keys and nonces.
 
+use crate::subtle::AesCtrHmac;
 use crate::{
-    SegmentDecrypter, SegmentEncrypter, StreamingKey, generate_segment_nonce, validate_aes_key_size,
+    DerivesStreams, SegmentDecrypter, SegmentEncrypter, generate_segment_nonce,
+    validate_aes_key_size,
 };
-use hash_keys::Hash;
 use std::test::Fail;
 use tink_io::{Kind, TinkError};
+use tink_proto::HashType;
 
 const TEXT: &[u8; 38] = b"a text of more than two blocks, by ten";
 
@@ -57,11 +59,17 @@ fn nonces_count_to_the_last_u32(rt: HostRuntime) {
 #[test]
 fn a_segment_opens_unless_a_byte_is_changed(rt: HostRuntime) -> Result<(), Fail> {
     let alloc = rt.alloc();
-    let main = counted::<32>(16).to_vec(alloc)?;
-    let key = StreamingKey::new(main, Hash::Sha256, 32, Hash::Sha512, 20, 4096).try_clone(alloc)?;
-    let Some(cipher) = key.derive(&counted::<32>(64), b"associated") else {
-        unreachable!()
-    };
+    let key = AesCtrHmac::new(
+        alloc,
+        &counted::<32>(16),
+        HashType::Sha256,
+        32,
+        HashType::Sha512,
+        20,
+        4096,
+        0,
+    )?;
+    let cipher = key.derive(&counted::<32>(64), b"associated")?;
     let nonce = counted::<16>(1);
     let made = cipher.encrypt_segment(alloc, TEXT, &nonce)?;
     assert_eq!(rt; made.as_slice(), SEGMENT.as_slice());

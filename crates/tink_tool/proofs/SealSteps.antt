@@ -14,7 +14,9 @@ use Rattle.tink_io.specs.declared.error.Kind.TheVariants.{OutOfMemory, ReadFault
 use Rattle.tink_io.specs.declared.error.TinkError.{TinkError}
 use Rattle.stream_model.specs.Cut.{full_chunks, numbered, sealed, unmarked}
 use Rattle.stream_model.specs.Key.{StreamKey, front, header_length, first_room, room, keys_of, nonce_size, segment_at, segment_of}
-use Rattle.tink_streaming_aead.specs.SegmentKeys.{SegmentKeys, segment_under}
+use Rattle.tink_streaming_aead.specs.declared.stream_segment.StreamSegment.{StreamSegment}
+use Rattle.tink_streaming_aead.specs.StreamSegments.{segment_by}
+use Rattle.tink_streaming_aead.proofs.DerivedKeys.{derived_segments}
 use Rattle.tink_streaming_aead.specs.StreamingKeys.{IsDerived}
 use Rattle.stream_model.specs.Sealing.{stream, part, longest_part, sealed_under, unmarked_under, drawn, salt_of, prefix_of}
 use Rattle.stream_model.proofs.SealingFacts.{length-chunks}
@@ -155,10 +157,10 @@ header_front k (x ∷ H) out l m =
     ap (λ b. b ∷ H) m ∙ ap (λ ys. header_length k ∷ ys) whole ∙ ap (λ o. o ++ (header_length k ∷ take k.derived H ++ drop (k.derived + 1) (x ∷ H))) (sym out)
 
 -- the derived cipher's segments are the key's
-pub seg_is : (k : StreamKey) (aad salt prefix : List ℕ) (cipher encrypter : SegmentKeys) (size : ℕ) (given : List ℕ) (d : IsDerived k aad salt cipher) → encrypter ≡ cipher → size ≡ 16 → given ≡ prefix
-    → numbered (segment_under encrypter) size given ≡ segment_at k d.keys prefix
+pub seg_is : (k : StreamKey) (aad salt prefix : List ℕ) (cipher encrypter : StreamSegment) (size : ℕ) (given : List ℕ) (d : IsDerived k aad salt cipher) → encrypter ≡ cipher → size ≡ nonce_size k → given ≡ prefix
+    → numbered (segment_by encrypter) size given ≡ segment_at k d.keys prefix
 seg_is k aad salt prefix cipher encrypter size given d e s p =
-    ap (λ c. numbered (segment_under c) size given) e ∙ ap (λ f. numbered f size given) d.segments ∙ ap (λ n. numbered (segment_of k.kind k.derived d.keys) n given) (s ∙ sym d.nonce) ∙ ap (numbered (segment_of k.kind k.derived d.keys) (nonce_size k)) p
+    ap (λ c. numbered (segment_by c) size given) e ∙ ap (λ f. numbered f size given) (derived_segments k aad salt cipher d) ∙ ap (λ n. numbered (segment_of k.kind k.derived d.keys) n given) s ∙ ap (numbered (segment_of k.kind k.derived d.keys) (nonce_size k)) p
 
 -- what pouring refused
 pub pour_refusal : (k : StreamKey) (aad salt prefix keys : List ℕ) (e : keys_of k aad salt ≡ Some keys) (seg : ℕ → Bool → List ℕ → List ℕ) (a b : ℕ) (left after got : Option (List ℕ)) (reads again writes : ℕ) (m n : Moment) (kind : Kind)

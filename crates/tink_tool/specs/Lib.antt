@@ -8,3 +8,4 @@ pub mod Words
 pub mod Program
 pub mod OpenSteps
 pub mod Valid
+pub mod Primary

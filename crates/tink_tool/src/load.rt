@@ -1,21 +1,25 @@
 //! Loading: from the bytes of a keyset to its streaming keys.
 
-ghost use Rattle.std.specs.Prelude.{◌≡◌, filter};
+ghost use Rattle.std.specs.Prelude.{◌≡◌, Ok, Some, filter};
 ghost use Rattle.std.specs.Str.{bytes_eq};
 ghost use Rattle.tink_io.specs.Told.{Answers, or_refused};
 ghost use Rattle.keyset_model.specs.Keys as key_words;
 ghost use Rattle.loading_model.specs.Building as building;
 ghost use Rattle.loading_model.specs.Loading as loading;
+ghost use Rattle.tink_core.specs.Subtle.{hash_named};
+ghost use Rattle.tink_tool.specs.Primary.{as_key};
 ghost use Rattle.tink_tool.specs.Valid.{valid_or_refused};
 
 use hash_keys::Hash;
 use std::alloc::Global;
 use std::marker::Model;
+use tink_core::CloneIn;
 use tink_io::{Kind, TinkError};
 use tink_keysets::keyset::{insecure, validate};
 use tink_proto::{HashType, Key, KeyData, KeyStatusType, Keyset, Message, ProtoError, Repeated};
 use tink_proto_keys::AesCtrHmacStreamingKey;
-use tink_streaming_aead::StreamingKey;
+use tink_streaming_aead::StreamKind;
+use tink_streaming_aead::subtle::AesCtrHmac;
 
 const AES_CTR_HMAC_URL: &str = "type.googleapis.com/google.crypto.tink.AesCtrHmacStreamingKey";
 
@@ -24,30 +28,32 @@ const AES_CTR_HMAC_URL: &str = "type.googleapis.com/google.crypto.tink.AesCtrHma
 pub struct LoadedKey {
     pub id: u32,
     pub prefix_type: i32,
-    pub key: StreamingKey,
+    pub key: StreamKind,
 }
 
 impl Model for LoadedKey {
     ghost use Rattle.loading_model.specs.Loading as loading;
+    ghost use Rattle.tink_streaming_aead.specs.StreamKinds.{key_of};
 
     ghost Value = { loading.LoadedKey };
 
-    ghost view = { λ k. record { id = k.id; prefix_type = k.prefix_type; key = k.key } };
+    ghost view = { λ k. record { id = k.id; prefix_type = k.prefix_type; key = key_of k.key } };
 }
 
 /// The enabled keys of a keyset in order, and its primary key.
 #[derive(Drop)]
 pub struct LoadedKeys {
     pub keys: Repeated<LoadedKey>,
-    pub primary: StreamingKey,
+    pub primary: StreamKind,
 }
 
 impl Model for LoadedKeys {
     ghost use Rattle.loading_model.specs.Loading as loading;
+    ghost use Rattle.tink_streaming_aead.specs.StreamKinds.{key_of};
 
     ghost Value = { loading.Loaded };
 
-    ghost view = { λ l. record { keys = l.keys; primary = l.primary } };
+    ghost view = { λ l. record { keys = l.keys; primary = key_of l.primary } };
 }
 
 /// Loads the keys of a keyset in the wire format.
@@ -100,11 +106,11 @@ fn build_key(alloc: Global, key: &Key) -> Result<LoadedKey, TinkError>
     Ok(LoadedKey {
         id: key.key_id,
         prefix_type: key.output_prefix_type,
-        key: built,
+        key: StreamKind::CtrHmac(built),
     })
 }
 
-fn build(alloc: Global, key_data: &KeyData) -> Result<StreamingKey, TinkError>
+fn build(alloc: Global, key_data: &KeyData) -> Result<AesCtrHmac, TinkError>
     ensures { Answers result (building.build key_data.now) }
 {
     let value = key_data.value.as_slice();
@@ -115,7 +121,7 @@ fn build(alloc: Global, key_data: &KeyData) -> Result<StreamingKey, TinkError>
         return Err(TinkError::new(Kind::UnsupportedKeyType));
     }
     match AesCtrHmacStreamingKey::decode(alloc, value) {
-        Ok(message) => match streaming_key(message) {
+        Ok(message) => match streaming_key(alloc, message)? {
             Some(key) => Ok(key),
             None => Err(TinkError::new(Kind::InvalidKey)),
         },
@@ -132,8 +138,11 @@ fn is_aes_ctr_hmac(type_url: &str) -> bool
 
 #[tactic(auto, unfolding(loading_model::specs::Building::streaming_of))]
 // The key of a message, where its parameters are those of a key.
-fn streaming_key(message: AesCtrHmacStreamingKey) -> Option<StreamingKey>
-    ensures { result ≡ building.streaming_of message }
+fn streaming_key(
+    alloc: Global,
+    message: AesCtrHmacStreamingKey,
+) -> Result<Option<AesCtrHmac>, TinkError>
+    ensures { Answers result (Ok (building.streaming_of message)) }
 {
     let AesCtrHmacStreamingKey {
         version,
@@ -141,14 +150,23 @@ fn streaming_key(message: AesCtrHmacStreamingKey) -> Option<StreamingKey>
         key_value,
     } = message;
     if version != 0 {
-        return None;
+        return Ok(None);
     }
-    let params = params?;
-    let hmac = params.hmac_params?;
-    let hkdf_hash = hash_numbered(params.hkdf_hash_type)?;
-    let tag_hash = hash_numbered(hmac.hash)?;
+    let Some(params) = params else {
+        return Ok(None);
+    };
+    let Some(hmac) = params.hmac_params else {
+        return Ok(None);
+    };
+    let Some(hkdf_hash) = hash_numbered(params.hkdf_hash_type) else {
+        return Ok(None);
+    };
+    let Some(tag_hash) = hash_numbered(hmac.hash) else {
+        return Ok(None);
+    };
     sized_key(
-        key_value.into_vec(),
+        alloc,
+        key_value.as_slice(),
         params.derived_key_size,
         hkdf_hash,
         tag_hash,
@@ -158,28 +176,44 @@ fn streaming_key(message: AesCtrHmacStreamingKey) -> Option<StreamingKey>
 }
 
 // The key with these sizes, in bytes, where they make streams.
-#[tactic(auto, using(std::proofs::lemmas::Bool::Decides::nat_tests))]
 fn sized_key(
-    main: Vec<u8>,
+    alloc: Global,
+    main: &[u8],
     derived: u32,
     hkdf_hash: Hash,
     tag_hash: Hash,
     tag: u32,
     segment: u32,
-) -> Option<StreamingKey>
-    ensures { result ≡ building.streaming_key main.items derived hkdf_hash tag_hash tag segment }
+) -> Result<Option<AesCtrHmac>, TinkError>
+    ensures { Answers result (Ok (building.streaming_key main.now derived hkdf_hash tag_hash tag segment)) }
 {
     if !is_streaming(main.len(), derived, tag_hash, tag, segment) {
-        return None;
+        return Ok(None);
     }
-    Some(StreamingKey::new(
+    let key = AesCtrHmac::new(
+        alloc,
         main,
-        hkdf_hash,
+        type_of(hkdf_hash),
         derived as usize,
-        tag_hash,
+        type_of(tag_hash),
         tag as usize,
         segment,
-    ))
+        0,
+    )?;
+    Ok(Some(key))
+}
+
+// The type of a hash.
+fn type_of(hash: Hash) -> HashType
+    ensures { hash_named result ≡ Some hash }
+{
+    match hash {
+        Hash::Sha1 => HashType::Sha1,
+        Hash::Sha224 => HashType::Sha224,
+        Hash::Sha256 => HashType::Sha256,
+        Hash::Sha384 => HashType::Sha384,
+        Hash::Sha512 => HashType::Sha512,
+    }
 }
 
 fn hash_numbered(number: i32) -> Option<Hash>
@@ -210,8 +244,8 @@ fn is_streaming(main: usize, derived: u32, tag_hash: Hash, tag: u32, segment: u3
 }
 
 // The first key of the id.
-fn primary_key(alloc: Global, id: u32, keys: &[LoadedKey]) -> Result<StreamingKey, TinkError>
-    ensures { Answers result (or_refused Kind.NoPrimary (loading.key_of_id id keys.now)) }
+fn primary_key(alloc: Global, id: u32, keys: &[LoadedKey]) -> Result<StreamKind, TinkError>
+    ensures { Answers (as_key result) (or_refused Kind.NoPrimary (loading.key_of_id id keys.now)) }
 {
     for key in keys {
         if key.id == id {

@@ -6,6 +6,7 @@ ghost use Rattle.stream_model.specs.Opening as opening;
 ghost use Rattle.tink_io.specs.declared.error.Kind.TheVariants.{OutOfMemory};
 ghost use Rattle.tink_streaming_aead.specs.declared.progress.Progress.TheVariants.{Running};
 ghost use Rattle.tink_streaming_aead.specs.Reading.{Moment};
+ghost use Rattle.tink_streaming_aead.specs.StreamKinds.{key_of};
 ghost use Rattle.tink_tool.specs.Outside.{Outside};
 ghost use Rattle.tink_tool.specs.OpenAnswers.{StreamMeans, is_raw};
 ghost use Rattle.tink_tool.specs.OpenSteps.{FirstMeans, ReaderMeans, OpensUnder};
@@ -15,54 +16,18 @@ use crate::report::Report;
 use std::alloc::Global;
 use tink_io::{Kind, Sink, Source, TinkError, write_all};
 use tink_streaming_aead::{
-    Buffers, CtrHmacSegment, Kept, OpensStreams, Progress, SegmentDecrypter, SegmentReader,
-    StreamingKey, Trial, start,
+    Buffers, DerivesStreams, Kept, KeyUnder, OpensStreams, Progress, SegmentDecrypter,
+    SegmentReader, Trial, start,
 };
 
 /// The number of the output prefix type of raw keys.
 const RAW: i32 = 3;
 
-/// The bytes of a nonce.
+/// The bytes of the longest nonce.
 const NONCE: usize = 16;
 
 /// The bytes of a header behind its salt.
 const PREFIX: usize = 7;
-
-/// A key, and the associated data of streams that it may have made.
-#[derive(Drop)]
-struct KeyUnder<'a> {
-    key: &'a StreamingKey,
-    aad: &'a [u8],
-}
-
-impl<'a> OpensStreams<CtrHmacSegment> for KeyUnder<'a> {
-    ghost use Rattle.stream_model.specs.Opening as opening;
-
-    ghost opening_key = { λ k. opening.opening_key k.aad.now k.key.now };
-
-    ghost nonce_of = { λ k. 16 };
-
-    fn header_length(&self) -> usize {
-        self.key.header_length()
-    }
-
-    fn segment_size(&self) -> u32 {
-        self.key.segment_size()
-    }
-
-    fn first_segment_size(&self) -> u32 {
-        self.key.first_segment_size()
-    }
-
-    fn nonce_size(&self) -> usize {
-        NONCE
-    }
-
-    fn derive(&self, header: &[u8]) -> Option<CtrHmacSegment> {
-        let end = self.key.header_length() - PREFIX;
-        self.key.derive(&header[1..end], self.aad)
-    }
-}
 
 /// Opens what the source has left under the first raw key that it begins under.
 ///
@@ -99,7 +64,7 @@ fn raw_keys<'a>(
     keys: &'a [LoadedKey],
     aad: &'a [u8],
 ) -> Result<Vec<KeyUnder<'a>>, TinkError>
-    ensures keys { IfOk result (λ raw. map (λ k. opening.opening_key k.aad.now k.key.now) raw.items
+    ensures keys { IfOk result (λ raw. map (λ k. opening.opening_key k.aad.now (key_of k.key.now)) raw.items
         ≡ map (λ k. opening.opening_key aad.now k.key) (filter is_raw keys.now)) }
     ensures refused { IfErr result (λ e. e ≡ record { kind = OutOfMemory }) }
 {
@@ -114,7 +79,7 @@ fn raw_keys<'a>(
 
 /// The bytes of the largest segment.
 fn largest_segment(keys: &[KeyUnder]) -> u32
-    ensures { All (λ k. k.key.now.segment ≤ result) keys.now }
+    ensures { All (λ k. (key_of k.key.now).segment ≤ result) keys.now }
 {
     let mut largest = 0;
     for key in keys {

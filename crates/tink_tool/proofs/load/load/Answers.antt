@@ -3,6 +3,7 @@ use Rattle.std.specs.Prelude.{Ok}
 use Rattle.std.proofs.lemmas.Result.{err_from_is_err_and}
 use Rattle.keyset_model.specs.Validity.{is_valid}
 use Rattle.tink_tool.proofs.LoadLemmas.{is_undecoded, is_invalid, is_told_valid, is_unbuilt, has_no_primary, is_loaded}
+use Rattle.tink_streaming_aead.specs.StreamKinds.{key_of}
 use Rattle.tink_tool.proofs.load.load.Goals as goal
 
 pub returns-in_err-keyset : goal.returns-in_err-keyset
@@ -32,5 +33,5 @@ returns-in_err-primary c =
 pub returns : goal.returns
 returns c =
     let told = is_told_valid c.in_ok-keyset.keyset c.in_ok-valid.valid c.in_ok-valid.ensures in
-    is_loaded c.args.bytes.now c.in_ok-valid.valid c.in_ok-keys.keys c.in_ok-primary.primary (c.in_ok-keyset.ensures ∙ ap Ok told.1) (ap is_valid (sym told.1) ∙ told.0)
+    is_loaded c.args.bytes.now c.in_ok-valid.valid c.in_ok-keys.keys (key_of c.in_ok-primary.primary) (c.in_ok-keyset.ensures ∙ ap Ok told.1) (ap is_valid (sym told.1) ∙ told.0)
     (rw c.as_slice.ensures at c.in_ok-keys.ensures) (rw c.as_slice-2.ensures at c.in_ok-primary.ensures)

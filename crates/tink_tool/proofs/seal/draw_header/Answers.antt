@@ -3,6 +3,7 @@ use Rattle.std.proofs.Math.Seq.{take-append_seam}
 use Rattle.std.proofs.lemmas.List.{length-take-le}
 use Rattle.stream_model.specs.Key.{header_length}
 use Rattle.stream_model.specs.Sealing.{drawn}
+use Rattle.tink_streaming_aead.specs.StreamKinds.{key_of}
 use Rattle.tink_tool.proofs.seal.draw_header.Goals as goal
 
 -- a byte and then all of some bytes
@@ -11,7 +12,7 @@ header_bytes n h xs ys zs l same = ap (λ m. take m (h ∷ (xs ++ ys))) l ∙ ap
 
 pub returns-clause-ok : goal.returns-clause-ok
 returns-clause-ok c =
-    let k = c.args.key.now in
+    let k = key_of c.args.key.now in
     let n = c.header_length-size.result in
     let size : n ≡ header_length k = c.header_length-size.ensures.value in
     let few : n - 1 ≤ 39 = elim c.header_length-size.ensures.usable.derived [ inl a ↦ omega arith | inr a ↦ omega arith ] in

@@ -3,12 +3,13 @@ use Rattle.std.proofs.lemmas.Result.{err_from_is_err_and}
 use Rattle.std.specs.Io.KnownBytes.{Appends}
 use Rattle.tink_io.specs.Written.{AppendsFront}
 use Rattle.tink_tool.proofs.SealSteps.{header_front, seg_is, pour_refusal, close_answer, header_refusal}
+use Rattle.tink_streaming_aead.specs.StreamKinds.{key_of}
 use Rattle.tink_tool.proofs.seal.seal_stream.Goals as goal
 
 pub returns-in_err-write_all-clause-answer : goal.returns-in_err-write_all-clause-answer
 returns-in_err-write_all-clause-answer g c =
     let p = err_from_is_err_and c.from_residual.result c.from_residual.ensures.1 in
-    let k = c.args.key.now in
+    let k = key_of c.args.key.now in
     let H = c.args.header.now in
     let front_is = header_front k H c.requires.bare c.requires.long c.requires.mark in
     let w = c.in_err-write_all.ensures in
@@ -18,7 +19,7 @@ returns-in_err-write_all-clause-answer g c =
 pub returns-in_err-bytes-clause-answer : goal.returns-in_err-bytes-clause-answer
 returns-in_err-bytes-clause-answer g c =
     let p = err_from_is_err_and c.from_residual-in_err-bytes.result c.from_residual-in_err-bytes.ensures.1 in
-    let k = c.args.key.now in
+    let k = key_of c.args.key.now in
     let H = c.args.header.now in
     let front_is = header_front k H c.requires.bare c.requires.long c.requires.mark in
     let s = c.sealer_of-sealer.ensures in
@@ -32,7 +33,7 @@ returns-in_err-bytes-clause-answer g c =
 pub returns-in_err-close-clause-answer : goal.returns-in_err-close-clause-answer
 returns-in_err-close-clause-answer g c =
     let p = err_from_is_err_and c.from_residual-in_err-close.result c.from_residual-in_err-close.ensures.1 in
-    let k = c.args.key.now in
+    let k = key_of c.args.key.now in
     let H = c.args.header.now in
     let front_is = header_front k H c.requires.bare c.requires.long c.requires.mark in
     let s = c.sealer_of-sealer.ensures in
@@ -48,7 +49,7 @@ returns-in_err-close-clause-answer g c =
 
 pub returns-clause-answer : goal.returns-clause-answer
 returns-clause-answer g c =
-    let k = c.args.key.now in
+    let k = key_of c.args.key.now in
     let H = c.args.header.now in
     let front_is = header_front k H c.requires.bare c.requires.long c.requires.mark in
     let s = c.sealer_of-sealer.ensures in
