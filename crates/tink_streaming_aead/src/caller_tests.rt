@@ -1,15 +1,17 @@
-//! Callers of the reader and of the writer, whose clauses follow from those of the calls.
+//! Callers of the readers and of the writer, whose clauses follow from those of the calls.
 
-ghost use Rattle.std.specs.Prelude.{◌≡◌, [], take, Some, IfOk, OnOk};
+ghost use Rattle.std.specs.Prelude.{◌≡◌, [], false, take, Some, IfOk, OnOk};
 ghost use Rattle.std.specs.Io.KnownBytes.{Appends, prepend_known};
 ghost use Rattle.stream_model.specs.Cut.{numbered, sealed};
 ghost use Rattle.tink_streaming_aead.specs.declared.progress.Progress.TheVariants.{Running};
 ghost use Rattle.tink_streaming_aead.specs.declared.writing.Mode.TheVariants.{Open};
+ghost use Rattle.tink_streaming_aead.specs.Readers.{moment_of};
+ghost use Rattle.tink_streaming_aead.specs.TextReading.{AtEnd};
 ghost use Rattle.tink_streaming_aead.specs.Whole.{WroteTexts};
 ghost use Rattle.tink_streaming_aead.specs.Writers.{seg_of};
 
-use crate::{SegmentDecrypter, SegmentEncrypter, SegmentReader, Writer, open_rest};
-use tink_io::{Sink, SureSource, TinkError};
+use crate::{Reader, SegmentDecrypter, SegmentEncrypter, SegmentReader, Writer, open_rest};
+use tink_io::{Sink, Source, SureSource, TinkError};
 
 // Opens what is left of a stream in memory. After `Ok` its texts were written.
 fn open_bytes<D: SegmentDecrypter + Drop, K: Sink>(
@@ -39,4 +41,15 @@ fn seal_text<W: Sink + Drop, E: SegmentEncrypter + Drop>(
 {
     writer.write(text)?;
     writer.close()
+}
+
+// Reads the next bytes of a text. `false` says that the last segment's text was given, and that no byte is left.
+fn read_some<R: Source + Drop, D: SegmentDecrypter + Drop>(
+    reader: &mut Reader<R, D>,
+    buf: &mut [u8; 16],
+) -> Result<bool, TinkError>
+    ensures end { IfOk result (λ more. more ≡ false → AtEnd (moment_of R.left R.faults reader.new)) }
+{
+    let n = reader.read(buf)?;
+    Ok(n > 0)
 }
