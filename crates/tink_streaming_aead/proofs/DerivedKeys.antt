@@ -1,20 +1,18 @@
 -- The cipher of segments under derived keys.
-use Rattle.std.proofs.Common.{◌≡◌, ◌⊎◌, inl, inr, ◌+◌, ◌-◌, ◌≤◌, ℕ, List, ◌++◌, length, take, drop, min, Some, None, refl, sym, ap, subst, ◌∙◌, arith, length-drop}
+use Rattle.std.proofs.Common.{◌≡◌, ◌+◌, ◌-◌, ℕ, List, take, drop, min, Some, None, refl, sym, ap, ◌∙◌, arith}
 use Rattle.std.specs.Prelude.{Ok, Err}
 use Rattle.std.specs.declared.option.Option.{Option}
-use Rattle.std.proofs.lemmas.List.{take_all, take-append-le}
 use Rattle.hash_keys.specs.declared.Hash.{Hash}
 use Rattle.hash_keys.specs.declared.Hash.TheVariants.{Sha1, Sha224, Sha256, Sha384, Sha512}
-use Rattle.hash_keys.specs.Hash.{digest_size, hkdf_of}
-use Rattle.hash_keys.proofs.Lengths.{length-hkdf_of}
+use Rattle.hash_keys.specs.Hash.{digest_size}
 use Rattle.tink_io.specs.declared.error.Kind.{Kind}
-use Rattle.stream_model.specs.Key.{IsTag, IsUsable, SegmentKind, StreamKey, derived_by, derived_bytes_of, header_length, keys_of, nonce_size, nonce_size_of, overhead, overhead_of, segment_at, segment_of}
+use Rattle.stream_model.specs.Key.{IsTag, SegmentKind, StreamKey, derived_by, header_length, nonce_size, nonce_size_of, overhead, overhead_of, segment_at, segment_of}
 use Rattle.stream_model.specs.Key.SegmentKind.{CtrHmac, Gcm}
 use Rattle.stream_model.specs.Cut.{numbered}
 use Rattle.stream_model.specs.Opening.{opening_key, under}
 use Rattle.tink_streaming_aead.specs.declared.stream_segment.StreamSegment.{StreamSegment}
 use Rattle.tink_streaming_aead.specs.StreamSegments.{nonce_length_by, overhead_by, segment_by}
-use Rattle.tink_streaming_aead.specs.StreamingKeys.{IsDerived, cipher_of, deriving_hash, with_main}
+use Rattle.tink_streaming_aead.specs.StreamingKeys.{IsDerived, cipher_of, deriving_hash}
 
 -- a hash that is refused derives nothing
 pub derives_nothing : (h : Option Hash) (kind : Kind) (main salt aad : List ℕ) (n : ℕ) → deriving_hash h ≡ Err kind → derived_by h main salt aad n ≡ None

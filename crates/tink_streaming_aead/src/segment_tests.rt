@@ -1,18 +1,24 @@
 //! A segment that Python made, and the limits of keys and nonces.
 
-use crate::subtle::AesCtrHmac;
+ghost use Rattle.std.specs.Prelude.{◌≡◌};
+
 use crate::{
-    DerivesStreams, SegmentDecrypter, SegmentEncrypter, generate_segment_nonce,
+    CtrHmacSegment, SegmentDecrypter, SegmentEncrypter, generate_segment_nonce,
     validate_aes_key_size,
 };
-use std::test::Fail;
+use hash_keys::Hash;
 use tink_io::{Kind, TinkError};
-use tink_proto::HashType;
 
 const TEXT: &[u8; 38] = b"a text of more than two blocks, by ten";
 
-// The text's segment under the nonce 1, 2, .., 16, the main key 16, 17, .., 47, the salt 64, 65, .., 95
-// and "associated": HKDF with SHA-256, AES-256, HMAC with SHA-512, a tag of 20 bytes.
+// Keys of AES-256 and of HMAC.
+const AES_KEY: &[u8; 32] =
+    b"\x73\x7e\x1e\x2c\x6b\x2f\xbe\x48\x16\xaa\xf1\x0a\xd5\x53\xbe\xf2\x29\x89\x55\x4b\x44\x2f\xd5\xec\x6e\xb0\xf0\xb1\xcf\xdc\x77\xe5";
+
+const HMAC_KEY: &[u8; 32] =
+    b"\x79\x8a\x69\x56\xb0\x0d\xc2\x32\x2a\x12\xb0\xe2\x17\xab\xae\xa8\x5b\x69\x33\x6a\x33\x4d\x8d\xb2\x8a\x11\xed\x70\xa5\xc0\xa8\x1c";
+
+// The text's segment under the nonce 1, 2, .., 16, with the first 20 bytes of HMAC with SHA-512.
 const SEGMENT: &[u8; 58] =
     b"\xbf\xcf\x0c\x76\x9b\x15\x47\xaa\x31\xdb\x6c\x99\x62\x11\xbc\xde\x5e\x01\xfc\xdc\x41\x46\x3e\x79\xab\x70\x15\x4d\xe4\x5d\xd9\xd1\xfb\x98\x33\xbb\xa3\x25\x77\x1a\x46\xee\x35\xbf\xc0\x34\x72\x09\xc7\x5b\xbc\xc0\x12\xff\x58\xdb\x60\x0f";
 
@@ -56,47 +62,40 @@ fn nonces_count_to_the_last_u32(rt: HostRuntime) {
     assert_eq!(rt; out, [1, 2, 3, 4, 5, 6, 7, 0, 0, 1, 2, 1]);
 }
 
+// Segments under these keys, with tags of 20 bytes of HMAC with SHA-512.
+fn cipher() -> CtrHmacSegment
+    ensures tag { result.tag ≡ 20 }
+    ensures hash { result.hash ≡ Hash.Sha512 }
+{
+    CtrHmacSegment::new(AES_KEY, HMAC_KEY, Hash::Sha512, 20)
+}
+
 #[test]
-fn a_segment_opens_unless_a_byte_is_changed(rt: HostRuntime) -> Result<(), Fail> {
-    let alloc = rt.alloc();
-    let key = AesCtrHmac::new(
-        alloc,
-        &counted::<32>(16),
-        HashType::Sha256,
-        32,
-        HashType::Sha512,
-        20,
-        4096,
-        0,
-    )?;
-    let cipher = key.derive(&counted::<32>(64), b"associated")?;
+fn a_segment_opens(rt: HostRuntime) {
     let nonce = counted::<16>(1);
-    let made = cipher.encrypt_segment(alloc, TEXT, &nonce)?;
-    assert_eq!(rt; made.as_slice(), SEGMENT.as_slice());
-    let back = cipher.decrypt_segment(alloc, SEGMENT, &nonce)?;
-    assert_eq!(rt; back.as_slice(), TEXT.as_slice());
     let mut segment = [0u8; 58];
-    cipher.encrypt_segment_into(TEXT, &nonce, &mut segment);
+    cipher().encrypt_segment_into(TEXT, &nonce, &mut segment);
     assert_eq!(rt; segment, *SEGMENT);
     let mut text = [0u8; 38];
-    assert_eq!(rt;
-        cipher.decrypt_segment_into(&segment, &nonce, &mut text),
-        Ok(())
-    );
+    let told = cipher().decrypt_segment_into(&segment, &nonce, &mut text);
+    assert_eq!(rt; told, Ok(()));
     assert_eq!(rt; text, *TEXT);
+}
+
+#[test]
+fn refuses_a_changed_byte(rt: HostRuntime) {
     for place in [0usize, 38, 57] {
         let mut changed = *SEGMENT;
         changed[place] ^= 1;
         let mut out = [7u8; 38];
-        assert_eq!(rt;
-            cipher.decrypt_segment_into(&changed, &nonce, &mut out),
-            Err(TinkError::new(Kind::DecryptFailed))
-        );
+        let told = cipher().decrypt_segment_into(&changed, &counted::<16>(1), &mut out);
+        assert_eq!(rt; told, Err(TinkError::new(Kind::DecryptFailed)));
         assert_eq!(rt; out, [7; 38]);
     }
-    assert_eq!(rt;
-        cipher.decrypt_segment_into(&segment[..19], &nonce, &mut []),
-        Err(TinkError::new(Kind::DecryptFailed))
-    );
-    Ok(())
+}
+
+#[test]
+fn refuses_less_than_a_tag(rt: HostRuntime) {
+    let told = cipher().decrypt_segment_into(&SEGMENT[..19], &counted::<16>(1), &mut []);
+    assert_eq!(rt; told, Err(TinkError::new(Kind::DecryptFailed)));
 }

@@ -1,7 +1,10 @@
 //! Which keys of streams are made, and segments that Python made under derived keys.
 
 use crate::subtle::{AesCtrHmac, AesGcmHkdf};
-use crate::{DerivesStreams, SegmentDecrypter, SegmentEncrypter, StreamKind};
+use crate::{
+    CtrHmacSegment, DerivesStreams, GcmSegment, SegmentDecrypter, SegmentEncrypter, StreamKind,
+    StreamSegment,
+};
 use std::alloc::Global;
 use std::test::Fail;
 use tink_core::CloneIn;
@@ -124,6 +127,22 @@ fn tells_sizes(rt: HostRuntime) -> Result<(), Fail> {
     Ok(())
 }
 
+// What a key derives with the whole salt, in counter mode.
+fn in_counter_mode(key: &StreamKind) -> Result<CtrHmacSegment, TinkError> {
+    match key.derive(SALT, b"associated")? {
+        StreamSegment::CtrHmac(cipher) => Ok(cipher),
+        StreamSegment::Gcm(_) => Err(TinkError::new(Kind::WrongPrimitive)),
+    }
+}
+
+// What a key derives with the front of the salt, by GCM.
+fn by_gcm(key: &StreamKind) -> Result<GcmSegment, TinkError> {
+    match key.derive(&SALT[..16], b"associated")? {
+        StreamSegment::CtrHmac(_) => Err(TinkError::new(Kind::WrongPrimitive)),
+        StreamSegment::Gcm(cipher) => Ok(cipher),
+    }
+}
+
 #[test]
 fn derives_segments_in_counter_mode(rt: HostRuntime) -> Result<(), Fail> {
     let alloc = rt.alloc();
@@ -131,7 +150,7 @@ fn derives_segments_in_counter_mode(rt: HostRuntime) -> Result<(), Fail> {
     let key = AesCtrHmac::new(alloc, MAIN, sha, 32, HashType::Sha512, 20, 4096, 0)?;
     assert_eq!(rt; key.header_length(), 40);
     let kind = StreamKind::CtrHmac(key).try_clone(alloc)?;
-    let cipher = kind.derive(SALT, b"associated")?;
+    let cipher = in_counter_mode(&kind)?;
     let made = cipher.encrypt_segment(alloc, TEXT, &NONCE)?;
     assert_eq!(rt; made.as_slice(), IN_COUNTER_MODE.as_slice());
     let back = cipher.decrypt_segment(alloc, IN_COUNTER_MODE, &NONCE)?;
@@ -145,7 +164,7 @@ fn derives_segments_by_gcm(rt: HostRuntime) -> Result<(), Fail> {
     let key = AesGcmHkdf::new(alloc, MAIN, HashType::Sha512, 16, 4096, 0)?;
     assert_eq!(rt; key.header_length(), 24);
     let kind = StreamKind::GcmHkdf(key).try_clone(alloc)?;
-    let cipher = kind.derive(&SALT[..16], b"associated")?;
+    let cipher = by_gcm(&kind)?;
     let made = cipher.encrypt_segment(alloc, TEXT, &NONCE[..12])?;
     assert_eq!(rt; made.as_slice(), BY_GCM.as_slice());
     let back = cipher.decrypt_segment(alloc, BY_GCM, &NONCE[..12])?;
