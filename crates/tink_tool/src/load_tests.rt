@@ -5,6 +5,7 @@ use hex::FromHexError;
 use std::alloc::Global;
 use std::test::Fail;
 use tink_io::Kind;
+use tink_streaming_aead::DerivesStreams;
 
 // A raw key of id 01020304: main key 00 to 0f, SHA-256 twice, derived keys of 16 bytes, tags of 32,
 // segments of 4,096.
