@@ -1,5 +1,5 @@
 -- What builds and what loads is usable.
-use Rattle.std.proofs.Common.{◌≡◌, ◌⊎◌, ◌≤◌, ◌<◌, ◌+◌, ◌^◌, ℕ, List, [], ◌∷◌, Bool, true, false, cond, length, refl, subst, arith, Some, None}
+use Rattle.std.proofs.Common.{◌≡◌, ℕ, List, [], ◌∷◌, Bool, true, false, cond, length, refl, subst, arith, Some, None}
 use Rattle.std.specs.declared.option.Option.{Option}
 use Rattle.std.specs.Prelude.{Result, Ok, Err, nat_eq}
 use Rattle.std.specs.Str.{bytes_eq}
@@ -7,7 +7,6 @@ use Rattle.std.proofs.lemmas.Bool.{cond_both}
 use Rattle.std.proofs.lemmas.Bool.Decides.{nat_tests}
 use Rattle.std.proofs.lemmas.Option.{cond_some}
 use Rattle.hash_keys.specs.declared.Hash.{Hash}
-use Rattle.hash_keys.specs.Hash.{digest_size}
 use Rattle.tink_io.specs.declared.error.Kind.{Kind}
 use Rattle.tink_io.specs.declared.error.Kind.TheVariants.{InvalidKeyset, InvalidKey, UnsupportedKeyType}
 use Rattle.tink_io.specs.Told.{or_refused}
@@ -15,18 +14,16 @@ use Rattle.tink_proto.specs.declared.messages.keys.Key.{Key}
 use Rattle.tink_proto.specs.declared.messages.keys.KeyData.{KeyData}
 use Rattle.tink_proto.specs.declared.messages.keys.Keyset.{Keyset}
 use Rattle.tink_proto.specs.Messages.{keyset}
-use Rattle.tink_proto_keys.specs.Mac.{hmac_params}
-use Rattle.tink_proto_keys.specs.declared.mac.HmacParams.{HmacParams}
 use Rattle.tink_proto_keys.specs.declared.streaming.AesCtrHmacStreamingKey.{AesCtrHmacStreamingKey}
-use Rattle.tink_proto_keys.specs.declared.streaming.AesCtrHmacStreamingParams.{AesCtrHmacStreamingParams}
+use Rattle.tink_proto_keys.specs.declared.streaming.AesGcmHkdfStreamingKey.{AesGcmHkdfStreamingKey}
 use Rattle.tink_proto_keys.specs.Streaming.{aes_ctr_hmac_streaming_key}
 use Rattle.wire_format.specs.Message.{decoded}
 use Rattle.wire_format.specs.Reading.{◌>>=◌}
 use Rattle.keyset_model.specs.Keys.{enabled}
 use Rattle.keyset_model.specs.Validity.{is_valid}
 use Rattle.stream_model.specs.Key.{StreamKey, IsUsable}
-use Rattle.stream_model.specs.Key.SegmentKind.{CtrHmac}
-use Rattle.loading_model.specs.Building.{build, is_streaming, streaming_key, streaming_of, hash_numbered, aes_ctr_hmac_url}
+use Rattle.stream_model.specs.Key.SegmentKind.{CtrHmac, Gcm}
+use Rattle.loading_model.specs.Building.{build, is_streaming, is_gcm_streaming, streaming_key, gcm_streaming_key, streaming_of, gcm_hkdf_of, hash_numbered, aes_ctr_hmac_url}
 use Rattle.loading_model.specs.Loading.{Loaded, LoadedKey, AreUsable, load, load_decoded, load_keyset, load_keys, with_primary, build_key, build_data, build_keys, key_of_id, ◌then◌}
 
 -- a key with these sizes is usable
@@ -53,6 +50,10 @@ followed : {A B : Type 0} (r : Result A Kind) (f : A → Result B Kind) (b : B) 
 followed (Ok a) f b e = (a, refl, e)
 followed (Err kind) f b e = absurd (cc)
 
+if_some : (b : Bool) (o : Option StreamKey) (k : StreamKey) → cond b o None ≡ Some k → o ≡ Some k
+if_some true o k e = e
+if_some false o k e = absurd (cc)
+
 streaming_of_usable : (m : AesCtrHmacStreamingKey) (k : StreamKey) → streaming_of m ≡ Some k → IsUsable k
 unfolding streaming_of
 streaming_of_usable m k e =
@@ -62,10 +63,29 @@ streaming_of_usable m k e =
     let tag_hash = bound (hash_numbered hmac.0.hash) _ k hkdf_hash.1 in
     streaming_key_usable m.key_value params.0.derived_key_size hkdf_hash.0 tag_hash.0 hmac.0.tag_size params.0.ciphertext_segment_size k
     (if_some (nat_eq m.version 0) _ k tag_hash.1)
-  where
-    if_some : (b : Bool) (o : Option StreamKey) (k : StreamKey) → cond b o None ≡ Some k → o ≡ Some k
-    if_some true o k e = e
-    if_some false o k e = absurd (cc)
+
+-- a key by GCM with these sizes is usable
+gcm_sizes_usable : (main : List ℕ) (derived : ℕ) (hkdf_hash : Hash) (segment : ℕ) → is_gcm_streaming (length main) derived segment ≡ true
+    → IsUsable (record { main = main; hkdf_hash = Some hkdf_hash; derived = derived; segment = segment; offset = 0; kind = Gcm; out = [] })
+gcm_sizes_usable main derived hkdf_hash segment e = record {
+  derived = grind (arith, nat_tests);
+  tag = tt;
+  room = grind (arith, nat_tests);
+  segment = grind (arith, nat_tests);
+}
+
+gcm_streaming_key_usable : (main : List ℕ) (derived : ℕ) (hkdf_hash : Hash) (segment : ℕ) (k : StreamKey) → gcm_streaming_key main derived hkdf_hash segment ≡ Some k → IsUsable k
+gcm_streaming_key_usable main derived hkdf_hash segment k e =
+    let c = cond_some (is_gcm_streaming (length main) derived segment) _ k e in
+    subst IsUsable c.1 (gcm_sizes_usable main derived hkdf_hash segment c.0)
+
+pub gcm_hkdf_of_usable : (m : AesGcmHkdfStreamingKey) (k : StreamKey) → gcm_hkdf_of m ≡ Some k → IsUsable k
+unfolding gcm_hkdf_of
+gcm_hkdf_of_usable m k e =
+    let params = bound m.params _ k e in
+    let hkdf_hash = bound (hash_numbered params.0.hkdf_hash_type) _ k params.1 in
+    gcm_streaming_key_usable m.key_value params.0.derived_key_size hkdf_hash.0 params.0.ciphertext_segment_size k
+    (if_some (nat_eq m.version 0) _ k hkdf_hash.1)
 
 or_refused_ok : {A : Type 0} (kind : Kind) (o : Option A) (a : A) → or_refused kind o ≡ Ok a → o ≡ Some a
 or_refused_ok kind None a e = absurd (cc)

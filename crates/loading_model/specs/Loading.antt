@@ -1,5 +1,5 @@
 -- What a keyset's bytes load as.
-use Rattle.std.specs.Prelude.{ℕ, List, [], ◌∷◌, ℤ, Bool, if◌then◌else◌, nat_eq, Option, Some, None, Result, Ok, Err}
+use Rattle.std.specs.Prelude.{ℕ, List, [], ◌∷◌, ℤ, if◌then◌else◌, nat_eq, Option, Some, None, Result, Ok, Err}
 use Rattle.tink_io.specs.declared.error.Kind.{Kind}
 use Rattle.tink_io.specs.declared.error.Kind.TheVariants.{BadKeyset, InvalidKeyset, InvalidKey, NoPrimary}
 use Rattle.tink_proto.specs.declared.messages.keys.Key.{Key}
