@@ -23,6 +23,10 @@ use Rattle.stream_model.specs.Key.SegmentKind.{CtrHmac, Gcm}
 abbrev pub aes_ctr_hmac_url : List ℕ
 aes_ctr_hmac_url = codes "type.googleapis.com/google.crypto.tink.AesCtrHmacStreamingKey"
 
+-- the URL of keys of streaming AEAD by AES-GCM
+abbrev pub aes_gcm_hkdf_url : List ℕ
+aes_gcm_hkdf_url = codes "type.googleapis.com/google.crypto.tink.AesGcmHkdfStreamingKey"
+
 -- the hash of a number, where one has it
 abbrev pub hash_numbered : ℤ → Option Hash
 hash_numbered n =
