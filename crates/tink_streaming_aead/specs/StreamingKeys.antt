@@ -6,6 +6,7 @@ use Rattle.hash_keys.specs.Hash.{digest_size}
 use Rattle.tink_io.specs.declared.error.Kind.{Kind}
 use Rattle.tink_io.specs.declared.error.Kind.TheVariants.{BadKeySize, BadTagSize, SegmentTooSmall, UnknownHash, UnsupportedHash}
 use Rattle.tink_io.specs.declared.error.TinkError.{TinkError}
+use Rattle.tink_io.specs.Told.{made_of}
 use Rattle.stream_model.specs.Key.{SegmentKind, StreamKey, keys_of, overhead_of}
 use Rattle.stream_model.specs.Key.SegmentKind.{CtrHmac, Gcm}
 use Rattle.tink_streaming_aead.specs.declared.stream_params.SegmentParams.{SegmentParams}
@@ -43,10 +44,6 @@ with_main main k = record {
 
 -- ---- which keys are made
 
-abbrev pub keyed : List ℕ → Result StreamKey Kind → Result StreamKey Kind
-keyed main (Ok k) = Ok (with_main main k)
-keyed main (Err kind) = Err kind
-
 -- The main key has 16 bytes or more. The derived AES key has 16 or 32, and no more than the main key.
 abbrev pub is_key_size : ℕ → ℕ → Bool
 is_key_size main derived = nat_le 16 main && nat_le derived main && (nat_eq derived 16 || nat_eq derived 32)
@@ -75,10 +72,10 @@ gcm_hkdf_sizes main hkdf_hash derived segment offset =
     if is_key_size main derived then sized hkdf_hash derived Gcm segment offset else Err BadKeySize
 
 abbrev pub ctr_hmac_key : List ℕ → Option Hash → ℕ → Option Hash → ℕ → ℕ → ℕ → Result StreamKey Kind
-ctr_hmac_key main hkdf_hash derived tag_hash tag segment offset = keyed main (ctr_hmac_sizes (length main) hkdf_hash derived tag_hash tag segment offset)
+ctr_hmac_key main hkdf_hash derived tag_hash tag segment offset = made_of (with_main main) (ctr_hmac_sizes (length main) hkdf_hash derived tag_hash tag segment offset)
 
 abbrev pub gcm_hkdf_key : List ℕ → Option Hash → ℕ → ℕ → ℕ → Result StreamKey Kind
-gcm_hkdf_key main hkdf_hash derived segment offset = keyed main (gcm_hkdf_sizes (length main) hkdf_hash derived segment offset)
+gcm_hkdf_key main hkdf_hash derived segment offset = made_of (with_main main) (gcm_hkdf_sizes (length main) hkdf_hash derived segment offset)
 
 -- ---- what is derived
 
