@@ -13,3 +13,4 @@ pub mod FullFacts
 pub mod WriterCallers
 pub mod TextFacts
 pub mod TextLaws
+pub mod KeyFacts

@@ -14,3 +14,5 @@ pub mod Writers
 pub mod StreamSegments
 pub mod TextReading
 pub mod Readers
+pub mod KeyTypes
+pub mod KeyTypeLaws

@@ -1,6 +1,12 @@
 //! Streams that are sealed and opened segment by segment.
 #![tactic(auto)]
 
+pub use aes_ctr_hmac_key_manager::{
+    AES_CTR_HMAC_KEY_VERSION, AES_CTR_HMAC_TYPE_URL, AesCtrHmacKeyManager, AesCtrHmacKeys,
+};
+pub use aes_gcm_hkdf_key_manager::{
+    AES_GCM_HKDF_KEY_VERSION, AES_GCM_HKDF_TYPE_URL, AesGcmHkdfKeyManager, AesGcmHkdfKeys,
+};
 pub use aes_variant::{AesVariant, validate_aes_key_size};
 pub use buffers::Buffers;
 pub use choosing::choose;
@@ -22,15 +28,18 @@ pub use reading::SegmentReader;
 pub use reading_laws::{law_empty_buffer, law_for_good, law_whole_text};
 pub use segment_traits::{SegmentDecrypter, SegmentEncrypter};
 pub use starting::{Trial, start};
-pub use stream_kind::{KeyUnder, StreamKind};
+pub use stream_kind::{KeyUnder, StreamKind, StreamKinds};
 pub use stream_params::DerivesStreams;
 pub use stream_segment::StreamSegment;
 pub use text_reader::TextReader;
+pub use tink_primitives::UPSTREAM_VERSION;
 pub use trying::{Begun, OpensStreams};
 pub use whole::open_rest;
 pub use writer::{Writer, WriterParams};
 pub use writing::{Mode, Sealer, SegmentWriter};
 
+mod aes_ctr_hmac_key_manager;
+mod aes_gcm_hkdf_key_manager;
 mod aes_variant;
 mod buffers;
 #[cfg(test)]
@@ -42,6 +51,7 @@ mod gcm_segment;
 mod gcm_segment_tests;
 mod held;
 mod kept;
+mod key_sizes;
 mod laws;
 mod nonce;
 mod opening;

@@ -7,7 +7,7 @@ use crate::stream_segment::StreamSegment;
 use crate::subtle::{AesCtrHmac, AesGcmHkdf};
 use crate::trying::OpensStreams;
 use std::alloc::Global;
-use tink_core::CloneIn;
+use tink_core::{CloneIn, Kinds, Never};
 use tink_io::TinkError;
 
 /// The bytes of a header behind its salt.
@@ -49,6 +49,29 @@ impl CloneIn for StreamKind {
             StreamKind::GcmHkdf(key) => Ok(StreamKind::GcmHkdf(key.try_clone(alloc)?)),
         }
     }
+}
+
+/// The family whose one sort is streaming AEADs.
+pub struct StreamKinds;
+
+impl Kinds for StreamKinds {
+    type Aead = Never;
+
+    type DeterministicAead = Never;
+
+    type HybridDecrypt = Never;
+
+    type HybridEncrypt = Never;
+
+    type Mac = Never;
+
+    type Prf = Never;
+
+    type Signer = Never;
+
+    type StreamingAead = StreamKind;
+
+    type Verifier = Never;
 }
 
 /// A key, and the associated data of streams that it may have made.

@@ -1,0 +1,77 @@
+-- The keys of streams that their messages give.
+use Rattle.std.proofs.Common.{◌≡◌, ℤ, Bool, true, false, cond, inr, refl, sym, ◌∙◌, ap, subst, Some, None}
+use Rattle.std.specs.declared.option.Option.{Option}
+use Rattle.std.specs.Prelude.{nat_eq, Result, Err}
+use Rattle.std.specs.Ordering.{int_eq}
+use Rattle.std.proofs.lemmas.Bool.{cond-true, cond-false, eq-eqb, false_from_ne_true, ne_eqb}
+use Rattle.std.proofs.lemmas.Bool.Decides.{Decides-int_eq}
+use Rattle.tink_io.specs.Told.{Answers, or_refused}
+use Rattle.tink_io.specs.declared.error.Kind.{Kind}
+use Rattle.tink_io.specs.declared.error.Kind.TheVariants.{InvalidKey}
+use Rattle.tink_io.specs.declared.error.TinkError.{TinkError}
+use Rattle.tink_proto.specs.declared.enums.HashType.{HashType}
+use Rattle.tink_proto.specs.declared.enums.HashType.TheVariants.{Sha1, Sha224, Sha256, Sha384, Sha512}
+use Rattle.tink_proto.specs.Enums.{hash_number}
+use Rattle.tink_proto_keys.specs.declared.streaming.AesCtrHmacStreamingKey.{AesCtrHmacStreamingKey}
+use Rattle.tink_proto_keys.specs.declared.streaming.AesGcmHkdfStreamingKey.{AesGcmHkdfStreamingKey}
+use Rattle.wire_format.specs.Reading.{◌>>=◌}
+use Rattle.stream_model.specs.Key.{StreamKey}
+use Rattle.loading_model.specs.Building.{gcm_hkdf_of, hash_numbered, streaming_of}
+use Rattle.tink_streaming_aead.specs.declared.aes_ctr_hmac_key_manager.CtrHmacSizes.{CtrHmacSizes}
+use Rattle.tink_streaming_aead.specs.declared.aes_gcm_hkdf_key_manager.GcmHkdfSizes.{GcmHkdfSizes}
+use Rattle.tink_streaming_aead.specs.KeyTypes.{ctr_hmac_named, ctr_hmac_sized, gcm_hkdf_named, gcm_hkdf_sized}
+
+-- a number that no hash type has
+pub unnumbered : (n : ℤ) → ((e : HashType) → hash_number e ≡ n → ⊥) → hash_numbered n ≡ None
+unnumbered n none = simp (other Sha1, other Sha384, other Sha256, other Sha512, other Sha224)
+  where
+    other : (e : HashType) → int_eq n (hash_number e) ≡ false
+    other e = false_from_ne_true (int_eq n (hash_number e)) (λ t. none e (sym ((Decides-int_eq n (hash_number e)).0 t)))
+
+-- where there is no key, `InvalidKey` is the answer
+pub invalid : {A : Type 0} (e : TinkError) (o : Option A) → e ≡ record { kind = InvalidKey } → o ≡ None → Answers {T = A} (Err e) (or_refused InvalidKey o)
+invalid {A} e o is none =
+    let of_error : TinkError → Result A Kind = λ x. Err x.kind in
+    inr (ap (or_refused InvalidKey) none ∙ ap of_error (sym is))
+
+-- what answers for one key answers for an equal one
+pub answers_same : {A : Type 0} (r : Result A TinkError) (o p : Option A) → o ≡ p → Answers r (or_refused InvalidKey p) → Answers r (or_refused InvalidKey o)
+answers_same r o p is h = subst (λ x. Answers r (or_refused InvalidKey x)) (sym is) h
+
+-- what follows on what params name, where the version is 0
+abbrev named_key : {S : Type 0} → Bool → (S → Option StreamKey) → Option S → Option StreamKey
+named_key version_0 key sizes = cond version_0 (sizes >>= key) None
+
+step : {A S : Type 0} (version_0 : Bool) (key : S → Option StreamKey) (o : Option A) (f : A → Option StreamKey) (g : A → Option S)
+    → ((a : A) → f a ≡ named_key version_0 key (g a)) → (o >>= f) ≡ named_key version_0 key (o >>= g)
+step true key None f g each = refl
+step false key None f g each = refl
+step version_0 key (Some a) f g each = each a
+
+ctr_hmac_of_named : (m : AesCtrHmacStreamingKey) → streaming_of m ≡ named_key (nat_eq m.version 0) (ctr_hmac_sized m.key_value) (ctr_hmac_named m.params)
+unfolding streaming_of
+ctr_hmac_of_named m =
+    let v = nat_eq m.version 0 in
+    let key = ctr_hmac_sized m.key_value in
+    step v key m.params _ _ (λ p. step v key p.hmac_params _ _ (λ h. step v key (hash_numbered p.hkdf_hash_type) _ _ (λ a. step v key (hash_numbered h.hash) _ _ (λ b. refl))))
+
+pub ctr_hmac_of_other : (m : AesCtrHmacStreamingKey) → (m.version ≡ 0 → ⊥) → streaming_of m ≡ None
+ctr_hmac_of_other m other = ctr_hmac_of_named m ∙ cond-false (nat_eq m.version 0) _ None (ne_eqb m.version 0 other)
+
+pub ctr_hmac_of_params : (m : AesCtrHmacStreamingKey) (named : Option CtrHmacSizes) → m.version ≡ 0 → named ≡ ctr_hmac_named m.params → streaming_of m ≡ (named >>= ctr_hmac_sized m.key_value)
+ctr_hmac_of_params m named is named_is =
+    ctr_hmac_of_named m ∙ cond-true (nat_eq m.version 0) _ None (eq-eqb m.version 0 is) ∙ ap (λ o. o >>= ctr_hmac_sized m.key_value) (sym named_is)
+
+gcm_hkdf_of_named : (m : AesGcmHkdfStreamingKey) → gcm_hkdf_of m ≡ named_key (nat_eq m.version 0) (gcm_hkdf_sized m.key_value) (gcm_hkdf_named m.params)
+unfolding gcm_hkdf_of
+gcm_hkdf_of_named m =
+    let v = nat_eq m.version 0 in
+    let key = gcm_hkdf_sized m.key_value in
+    step v key m.params _ _ (λ p. step v key (hash_numbered p.hkdf_hash_type) _ _ (λ a. refl))
+
+pub gcm_hkdf_of_other : (m : AesGcmHkdfStreamingKey) → (m.version ≡ 0 → ⊥) → gcm_hkdf_of m ≡ None
+gcm_hkdf_of_other m other = gcm_hkdf_of_named m ∙ cond-false (nat_eq m.version 0) _ None (ne_eqb m.version 0 other)
+
+pub gcm_hkdf_of_params : (m : AesGcmHkdfStreamingKey) (named : Option GcmHkdfSizes) → m.version ≡ 0 → named ≡ gcm_hkdf_named m.params → gcm_hkdf_of m ≡ (named >>= gcm_hkdf_sized m.key_value)
+gcm_hkdf_of_params m named is named_is =
+    gcm_hkdf_of_named m ∙ cond-true (nat_eq m.version 0) _ None (eq-eqb m.version 0 is) ∙ ap (λ o. o >>= gcm_hkdf_sized m.key_value) (sym named_is)
