@@ -16,3 +16,4 @@ pub mod TextReading
 pub mod Readers
 pub mod KeyTypes
 pub mod KeyTypeLaws
+pub mod Templates

@@ -19,6 +19,13 @@ pub use gcm_segment::{
     AES_GCM_HKDF_TAG_SIZE_IN_BYTES, GcmSegment,
 };
 pub use kept::Kept;
+pub use key_templates::{
+    aes128_ctr_hmac_sha256_segment_1mb_key_template,
+    aes128_ctr_hmac_sha256_segment_4kb_key_template, aes128_gcm_hkdf_1mb_key_template,
+    aes128_gcm_hkdf_4kb_key_template, aes256_ctr_hmac_sha256_segment_1mb_key_template,
+    aes256_ctr_hmac_sha256_segment_4kb_key_template, aes256_gcm_hkdf_1mb_key_template,
+    aes256_gcm_hkdf_4kb_key_template,
+};
 pub use laws::{law_any_cutting, law_full_segments};
 pub use nonce::generate_segment_nonce;
 pub use opening::{Opener, open_front, open_held};
@@ -26,6 +33,7 @@ pub use progress::Progress;
 pub use reader::{Reader, ReaderParams};
 pub use reading::SegmentReader;
 pub use reading_laws::{law_empty_buffer, law_for_good, law_whole_text};
+pub use registering::init;
 pub use segment_traits::{SegmentDecrypter, SegmentEncrypter};
 pub use starting::{Trial, start};
 pub use stream_kind::{KeyUnder, StreamKind, StreamKinds};
@@ -52,6 +60,7 @@ mod gcm_segment_tests;
 mod held;
 mod kept;
 mod key_sizes;
+mod key_templates;
 mod laws;
 mod nonce;
 mod opening;
@@ -61,6 +70,7 @@ mod reader;
 mod reader_tests;
 mod reading;
 mod reading_laws;
+mod registering;
 mod segment_cipher;
 #[cfg(test)]
 mod segment_tests;

@@ -1,0 +1,75 @@
+//! The managers and templates of keys of streams, registered.
+
+ghost use Rattle.std.specs.Prelude.{◌≡◌, ◌∷◌, [], IfErr, IfOk};
+ghost use Rattle.tink_io.specs.declared.error.Kind.TheVariants.{OutOfMemory};
+ghost use Rattle.tink_registry.specs.Registering.{AreMade, IsMade, Registers};
+ghost use Rattle.tink_streaming_aead.specs.Templates.{streaming_templates};
+
+use crate::{
+    AesCtrHmacKeyManager, AesGcmHkdfKeyManager, aes128_ctr_hmac_sha256_segment_1mb_key_template,
+    aes128_ctr_hmac_sha256_segment_4kb_key_template, aes128_gcm_hkdf_1mb_key_template,
+    aes128_gcm_hkdf_4kb_key_template, aes256_ctr_hmac_sha256_segment_1mb_key_template,
+    aes256_ctr_hmac_sha256_segment_4kb_key_template, aes256_gcm_hkdf_1mb_key_template,
+    aes256_gcm_hkdf_4kb_key_template,
+};
+use std::alloc::Global;
+use tink_core::TinkError;
+use tink_core::registry::{KeyManager, Registry};
+use tink_key_types::add_template;
+use tink_proto::{KeyTemplate, Text};
+
+/// Registers the managers of keys in counter mode with HMAC and by AES-GCM, in this order, and the eight templates, or
+/// nothing.
+///
+/// # Errors
+/// `AlreadyRegistered` exactly where a manager's URL is there, or two of them have one; `OutOfMemory`. Then nothing is
+/// registered.
+pub fn init<M>(alloc: Global, registry: &mut Registry<M>) -> Result<(), TinkError>
+where
+    M: KeyManager + Drop + From<AesCtrHmacKeyManager> + From<AesGcmHkdfKeyManager>,
+    ensures { Registers (AreMade (IsMade M.From-1.from_gives ∷ IsMade M.From-2.from_gives ∷ [])) M.url streaming_templates registry.old registry.new result }
+{
+    let managers = managers(alloc)?;
+    let templates = templates(alloc)?;
+    registry.register_all(alloc, managers, templates)
+}
+
+// The managers, in the order of registration.
+fn managers<M>(alloc: Global) -> Result<Vec<M>, TinkError>
+where
+    M: Drop + From<AesCtrHmacKeyManager> + From<AesGcmHkdfKeyManager>,
+    ensures value { IfOk result (λ managers. AreMade (IsMade M.From-1.from_gives ∷ IsMade M.From-2.from_gives ∷ []) managers.items) }
+    ensures cause { IfErr result (λ e. e.kind ≡ OutOfMemory) }
+{
+    let ctr_hmac = M::from(AesCtrHmacKeyManager::new());
+    let gcm_hkdf = M::from(AesGcmHkdfKeyManager::new());
+    let mut managers = Vec::new(alloc);
+    managers.push(ctr_hmac)?;
+    managers.push(gcm_hkdf)?;
+    Ok(managers)
+}
+
+// The templates by their names.
+fn templates(alloc: Global) -> Result<Vec<(Text, KeyTemplate)>, TinkError>
+    ensures value { IfOk result (λ named. named.items ≡ streaming_templates) }
+    ensures cause { IfErr result (λ e. e.kind ≡ OutOfMemory) }
+{
+    let mut named = Vec::new(alloc);
+    let template = aes128_ctr_hmac_sha256_segment_4kb_key_template(alloc)?;
+    add_template(alloc, &mut named, "AES128_CTR_HMAC_SHA256_4KB", template)?;
+    let template = aes128_ctr_hmac_sha256_segment_1mb_key_template(alloc)?;
+    add_template(alloc, &mut named, "AES128_CTR_HMAC_SHA256_1MB", template)?;
+    let template = aes256_ctr_hmac_sha256_segment_4kb_key_template(alloc)?;
+    add_template(alloc, &mut named, "AES256_CTR_HMAC_SHA256_4KB", template)?;
+    let template = aes256_ctr_hmac_sha256_segment_1mb_key_template(alloc)?;
+    add_template(alloc, &mut named, "AES256_CTR_HMAC_SHA256_1MB", template)?;
+    let template = aes128_gcm_hkdf_4kb_key_template(alloc)?;
+    add_template(alloc, &mut named, "AES128_GCM_HKDF_4KB", template)?;
+    let template = aes128_gcm_hkdf_1mb_key_template(alloc)?;
+    add_template(alloc, &mut named, "AES128_GCM_HKDF_1MB", template)?;
+    let template = aes256_gcm_hkdf_4kb_key_template(alloc)?;
+    add_template(alloc, &mut named, "AES256_GCM_HKDF_4KB", template)?;
+    let template = aes256_gcm_hkdf_1mb_key_template(alloc)?;
+    add_template(alloc, &mut named, "AES256_GCM_HKDF_1MB", template)?;
+    Ok(named)
+}
