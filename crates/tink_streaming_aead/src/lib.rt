@@ -61,7 +61,11 @@ mod held;
 mod kept;
 mod key_sizes;
 mod key_templates;
+#[cfg(test)]
+mod key_tests;
 mod laws;
+#[cfg(test)]
+mod named;
 mod nonce;
 mod opening;
 mod progress;
@@ -83,6 +87,8 @@ mod stream_kind;
 mod stream_params;
 mod stream_segment;
 pub mod subtle;
+#[cfg(test)]
+mod template_tests;
 mod text_reader;
 mod trying;
 mod whole;
