@@ -105,8 +105,14 @@ fn sized_key(alloc: Global, main: &[u8], sizes: CtrHmacSizes) -> Result<AesCtrHm
     )
 }
 
-// The key of a message.
-fn streaming_key(alloc: Global, key: &AesCtrHmacStreamingKey) -> Result<AesCtrHmac, TinkError>
+/// The key of a message.
+///
+/// # Errors
+/// `InvalidKey` exactly where the message builds no key of this type; `OutOfMemory`.
+pub fn ctr_hmac_streaming_key(
+    alloc: Global,
+    key: &AesCtrHmacStreamingKey,
+) -> Result<AesCtrHmac, TinkError>
     ensures { Answers result (or_refused InvalidKey (building.streaming_of key.now)) }
 {
     if key.version != AES_CTR_HMAC_KEY_VERSION {
@@ -152,7 +158,7 @@ impl KeyType for AesCtrHmacKeys {
         alloc: Global,
         key: AesCtrHmacStreamingKey,
     ) -> Result<Primitive<StreamKinds>, TinkError> {
-        let built = streaming_key(alloc, &key)?;
+        let built = ctr_hmac_streaming_key(alloc, &key)?;
         Ok(Primitive::StreamingAead(StreamKind::CtrHmac(built)))
     }
 

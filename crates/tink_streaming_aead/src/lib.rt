@@ -3,6 +3,7 @@
 
 pub use aes_ctr_hmac_key_manager::{
     AES_CTR_HMAC_KEY_VERSION, AES_CTR_HMAC_TYPE_URL, AesCtrHmacKeyManager, AesCtrHmacKeys,
+    ctr_hmac_streaming_key,
 };
 pub use aes_gcm_hkdf_key_manager::{
     AES_GCM_HKDF_KEY_VERSION, AES_GCM_HKDF_TYPE_URL, AesGcmHkdfKeyManager, AesGcmHkdfKeys,

@@ -1,48 +1,22 @@
--- Steps of loading: a number without a hash, the enabled keys in order, the key of an id.
-use Rattle.std.proofs.Common.{◌≡◌, ◌<◌, ◌≤◌, ◌+◌, ℕ, ℤ, List, [], ◌∷◌, ◌++◌, Bool, true, false, cond, length, get_or, drop, suc, inl, inr, refl, sym, ap, ◌∙◌, subst, add-one, drop-cons, append_assoc, Some, None}
+-- Steps of loading: the enabled keys in order, the key of an id.
+use Rattle.std.proofs.Common.{◌≡◌, ◌<◌, ◌≤◌, ◌+◌, ℕ, List, [], ◌∷◌, ◌++◌, Bool, true, false, cond, length, get_or, drop, suc, inl, inr, refl, sym, ap, ◌∙◌, subst, add-one, drop-cons, append_assoc, Some, None}
 use Rattle.std.specs.declared.option.Option.{Option}
 use Rattle.std.specs.Prelude.{Result, Ok, Err, filter, nat_eq}
-use Rattle.std.specs.Ordering.{int_eq}
-use Rattle.std.proofs.lemmas.Bool.{cond-true, cond-false, false_from_ne_true, ne_eqb}
-use Rattle.std.proofs.lemmas.Bool.Decides.{Decides-int_eq}
+use Rattle.std.proofs.lemmas.Bool.{cond-true, cond-false}
 use Rattle.std.proofs.lemmas.List.{at_drop_all}
 use Rattle.tink_io.specs.Told.{Answers, or_refused}
 use Rattle.tink_io.specs.declared.error.Kind.{Kind}
 use Rattle.tink_io.specs.declared.error.Kind.TheVariants.{BadKeyset, InvalidKeyset, NoPrimary}
 use Rattle.tink_io.specs.declared.error.TinkError.{TinkError}
-use Rattle.tink_proto.specs.declared.enums.HashType.{HashType}
-use Rattle.tink_proto.specs.declared.enums.HashType.TheVariants.{Sha1, Sha224, Sha256, Sha384, Sha512}
 use Rattle.tink_proto.specs.declared.messages.keys.Key.{Key}
 use Rattle.tink_proto.specs.declared.messages.keys.Keyset.{Keyset}
-use Rattle.tink_proto.specs.Enums.{hash_number}
 use Rattle.tink_proto.specs.Messages.{keyset}
-use Rattle.tink_proto_keys.specs.declared.streaming.AesCtrHmacStreamingKey.{AesCtrHmacStreamingKey}
 use Rattle.wire_format.specs.Message.{decoded}
-use Rattle.wire_format.specs.Reading.{◌>>=◌}
 use Rattle.keyset_model.specs.Keys.{is_enabled, enabled}
 use Rattle.keyset_model.specs.Validity.{is_valid}
 use Rattle.stream_model.specs.Key.{StreamKey}
-use Rattle.loading_model.specs.Building.{hash_numbered, streaming_of}
 use Rattle.tink_tool.specs.Valid.{valid_or_refused}
 use Rattle.loading_model.specs.Loading.{Loaded, LoadedKey, build_key, build_keys, key_of_id, load, load_decoded, load_keyset, load_keys, with_primary, ◌then◌}
-
--- a number that no hash type has
-pub unnumbered : (n : ℤ) → ((e : HashType) → hash_number e ≡ n → ⊥) → hash_numbered n ≡ None
-unnumbered n none = simp (other Sha1, other Sha384, other Sha256, other Sha512, other Sha224)
-  where
-    other : (e : HashType) → int_eq n (hash_number e) ≡ false
-    other e = false_from_ne_true (int_eq n (hash_number e)) (λ t. none e (sym ((Decides-int_eq n (hash_number e)).0 t)))
-
--- a key of another version than 0 is none
-pub another_version : (m : AesCtrHmacStreamingKey) → (m.version ≡ 0 → ⊥) → streaming_of m ≡ None
-unfolding streaming_of
-another_version m other =
-    none m.params _ (λ p. none p.hmac_params _ (λ h. none (hash_numbered p.hkdf_hash_type) _ (λ a. none (hash_numbered h.hash) _ (λ b.
-    cond-false (nat_eq m.version 0) _ None (ne_eqb m.version 0 other)))))
-  where
-    none : {A : Type 0} (o : Option A) (f : A → Option StreamKey) → ((a : A) → f a ≡ None) → (o >>= f) ≡ None
-    none None f each = refl
-    none (Some a) f each = each a
 
 -- an element, and what stands from it on
 pub from_here : {A : Type 0} (xs : List A) (i : ℕ) (x : A) → i < length xs → x ≡ get_or xs i x → drop i xs ≡ x ∷ drop (i + 1) xs

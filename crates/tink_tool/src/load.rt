@@ -1,27 +1,23 @@
 //! Loading: from the bytes of a keyset to its streaming keys.
 
-ghost use Rattle.std.specs.Prelude.{◌≡◌, Ok, Some, filter};
+ghost use Rattle.std.specs.Prelude.{◌≡◌, filter};
 ghost use Rattle.std.specs.Str.{bytes_eq};
 ghost use Rattle.tink_io.specs.Told.{Answers, or_refused};
 ghost use Rattle.keyset_model.specs.Keys as key_words;
 ghost use Rattle.loading_model.specs.Building as building;
 ghost use Rattle.loading_model.specs.Loading as loading;
-ghost use Rattle.tink_core.specs.Subtle.{hash_named};
 ghost use Rattle.tink_tool.specs.Primary.{as_key};
 ghost use Rattle.tink_tool.specs.Valid.{valid_or_refused};
 
-use hash_keys::Hash;
 use std::alloc::Global;
 use std::marker::Model;
 use tink_core::CloneIn;
 use tink_io::{Kind, TinkError};
 use tink_keysets::keyset::{insecure, validate};
-use tink_proto::{HashType, Key, KeyData, KeyStatusType, Keyset, Message, ProtoError, Repeated};
+use tink_proto::{Key, KeyData, KeyStatusType, Keyset, Message, ProtoError, Repeated};
 use tink_proto_keys::AesCtrHmacStreamingKey;
-use tink_streaming_aead::StreamKind;
+use tink_streaming_aead::{AES_CTR_HMAC_TYPE_URL, StreamKind, ctr_hmac_streaming_key};
 use tink_streaming_aead::subtle::AesCtrHmac;
-
-const AES_CTR_HMAC_URL: &str = "type.googleapis.com/google.crypto.tink.AesCtrHmacStreamingKey";
 
 /// An enabled key, with its id and the number of its `OutputPrefixType`.
 #[derive(Drop)]
@@ -121,10 +117,7 @@ fn build(alloc: Global, key_data: &KeyData) -> Result<AesCtrHmac, TinkError>
         return Err(TinkError::new(Kind::UnsupportedKeyType));
     }
     match AesCtrHmacStreamingKey::decode(alloc, value) {
-        Ok(message) => match streaming_key(alloc, message)? {
-            Some(key) => Ok(key),
-            None => Err(TinkError::new(Kind::InvalidKey)),
-        },
+        Ok(message) => ctr_hmac_streaming_key(alloc, &message),
         Err(ProtoError::OutOfMemory) => Err(TinkError::new(Kind::OutOfMemory)),
         Err(_) => Err(TinkError::new(Kind::InvalidKey)),
     }
@@ -133,114 +126,7 @@ fn build(alloc: Global, key_data: &KeyData) -> Result<AesCtrHmac, TinkError>
 fn is_aes_ctr_hmac(type_url: &str) -> bool
     ensures { result ≡ bytes_eq type_url.now building.aes_ctr_hmac_url }
 {
-    type_url == AES_CTR_HMAC_URL
-}
-
-#[tactic(auto, unfolding(loading_model::specs::Building::streaming_of))]
-// The key of a message, where its parameters are those of a key.
-fn streaming_key(
-    alloc: Global,
-    message: AesCtrHmacStreamingKey,
-) -> Result<Option<AesCtrHmac>, TinkError>
-    ensures { Answers result (Ok (building.streaming_of message)) }
-{
-    let AesCtrHmacStreamingKey {
-        version,
-        params,
-        key_value,
-    } = message;
-    if version != 0 {
-        return Ok(None);
-    }
-    let Some(params) = params else {
-        return Ok(None);
-    };
-    let Some(hmac) = params.hmac_params else {
-        return Ok(None);
-    };
-    let Some(hkdf_hash) = hash_numbered(params.hkdf_hash_type) else {
-        return Ok(None);
-    };
-    let Some(tag_hash) = hash_numbered(hmac.hash) else {
-        return Ok(None);
-    };
-    sized_key(
-        alloc,
-        key_value.as_slice(),
-        params.derived_key_size,
-        hkdf_hash,
-        tag_hash,
-        hmac.tag_size,
-        params.ciphertext_segment_size,
-    )
-}
-
-// The key with these sizes, in bytes, where they make streams.
-fn sized_key(
-    alloc: Global,
-    main: &[u8],
-    derived: u32,
-    hkdf_hash: Hash,
-    tag_hash: Hash,
-    tag: u32,
-    segment: u32,
-) -> Result<Option<AesCtrHmac>, TinkError>
-    ensures { Answers result (Ok (building.streaming_key main.now derived hkdf_hash tag_hash tag segment)) }
-{
-    if !is_streaming(main.len(), derived, tag_hash, tag, segment) {
-        return Ok(None);
-    }
-    let key = AesCtrHmac::new(
-        alloc,
-        main,
-        type_of(hkdf_hash),
-        derived as usize,
-        type_of(tag_hash),
-        tag as usize,
-        segment,
-        0,
-    )?;
-    Ok(Some(key))
-}
-
-// The type of a hash.
-fn type_of(hash: Hash) -> HashType
-    ensures { hash_named result ≡ Some hash }
-{
-    match hash {
-        Hash::Sha1 => HashType::Sha1,
-        Hash::Sha224 => HashType::Sha224,
-        Hash::Sha256 => HashType::Sha256,
-        Hash::Sha384 => HashType::Sha384,
-        Hash::Sha512 => HashType::Sha512,
-    }
-}
-
-fn hash_numbered(number: i32) -> Option<Hash>
-    ensures { result ≡ building.hash_numbered number }
-{
-    match HashType::try_from(number) {
-        Ok(HashType::Sha1) => Some(Hash::Sha1),
-        Ok(HashType::Sha384) => Some(Hash::Sha384),
-        Ok(HashType::Sha256) => Some(Hash::Sha256),
-        Ok(HashType::Sha512) => Some(Hash::Sha512),
-        Ok(HashType::Sha224) => Some(Hash::Sha224),
-        Ok(HashType::UnknownHash) => None,
-        Err(_) => None,
-    }
-}
-
-// Whether a main key of so many bytes makes streams with these sizes, all in bytes.
-fn is_streaming(main: usize, derived: u32, tag_hash: Hash, tag: u32, segment: u32) -> bool
-    ensures { result ≡ building.is_streaming main derived tag_hash tag segment }
-{
-    let sizes = u64::from(derived) + 7 + u64::from(tag) + 2;
-    (main == 16 || main == 32)
-        && (derived == 16 || derived == 32)
-        && derived as usize <= main
-        && 10 <= tag
-        && tag as usize <= tag_hash.digest_size()
-        && sizes <= u64::from(segment)
+    type_url == AES_CTR_HMAC_TYPE_URL
 }
 
 // The first key of the id.
