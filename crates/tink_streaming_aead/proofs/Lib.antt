@@ -14,3 +14,7 @@ pub mod WriterCallers
 pub mod TextFacts
 pub mod TextLaws
 pub mod KeyFacts
+pub mod HeaderFacts
+pub mod NewWriterSteps
+pub mod StreamLaws
+pub mod NewReaderSteps

@@ -17,3 +17,5 @@ pub mod Readers
 pub mod KeyTypes
 pub mod KeyTypeLaws
 pub mod Templates
+pub mod Encrypting
+pub mod Decrypting

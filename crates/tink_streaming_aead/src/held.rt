@@ -6,7 +6,7 @@ ghost use Rattle.tink_streaming_aead.specs.Opening.{IsHeld};
 use tink_io::{Failed, Source};
 
 // Reads into `buffer`, whose first `filled` bytes are there, up to its place `want` or the source's end.
-fn fill<S: Source>(
+pub fn fill<S: Source>(
     source: &mut S,
     buffer: &mut [u8],
     filled: usize,

@@ -27,7 +27,7 @@ pub use key_templates::{
     aes256_ctr_hmac_sha256_segment_4kb_key_template, aes256_gcm_hkdf_1mb_key_template,
     aes256_gcm_hkdf_4kb_key_template,
 };
-pub use laws::{law_any_cutting, law_full_segments};
+pub use laws::{law_any_cutting, law_full_segments, law_whole_stream};
 pub use nonce::generate_segment_nonce;
 pub use opening::{Opener, open_front, open_held};
 pub use progress::Progress;
@@ -55,6 +55,8 @@ mod buffers;
 mod caller_tests;
 mod choosing;
 mod ctr_hmac_segment;
+mod decrypting;
+mod encrypting;
 mod gcm_segment;
 #[cfg(test)]
 mod gcm_segment_tests;
@@ -85,8 +87,11 @@ mod starting;
 #[cfg(test)]
 mod stream_key_tests;
 mod stream_kind;
+mod stream_memory;
 mod stream_params;
 mod stream_segment;
+#[cfg(test)]
+mod stream_tests;
 pub mod subtle;
 #[cfg(test)]
 mod template_tests;

@@ -1,4 +1,4 @@
-ghost use Rattle.std.specs.Prelude.{◌≡◌, ◌≤◌, ◌<◌, ◌+◌, ◌-◌, [], List, ℕ, length, None, Some, IfOk, OnOk, IfErr, vec_len, vec_capacity};
+ghost use Rattle.std.specs.Prelude.{◌≡◌, ◌≤◌, ◌<◌, ◌+◌, ◌-◌, [], List, ℕ, length, take, None, Some, IfOk, OnOk, IfErr, vec_len, vec_capacity};
 ghost use Rattle.tink_streaming_aead.specs.Sizes.{sizes_fault};
 ghost use Rattle.tink_streaming_aead.specs.declared.progress.Progress.TheVariants.{Running};
 
@@ -10,6 +10,7 @@ use crate::sizes::check_sizes;
 use crate::text_reader::TextReader;
 use std::marker::Model;
 use tink_io::{Source, TinkError};
+use tink_primitives::DecryptingRead;
 
 /// What a reader is made of: a source, the one-shot map of its segments, the size of a nonce and the
 /// front of all nonces, the size of a segment, and how many bytes of the first one are taken by
@@ -133,6 +134,31 @@ impl<R: Source + Drop, D: SegmentDecrypter + Drop> Reader<R, D> {
         })
     }
 
+    // A reader of the text of segments, from the source that it is given for good.
+    pub(crate) fn over(source: R, reader: SegmentReader<D>) -> Reader<R, D>
+        requires running { reader.progress ≡ Running }
+        ensures { result ≡ record {
+          opening = record {
+            decrypter = reader.opener.decrypter;
+            prefix = reader.opener.prefix.items;
+            nonce_size = reader.opener.nonce_size;
+            overhead = reader.opener.overhead;
+            first = reader.opener.first;
+            size = reader.opener.size;
+          };
+          progress = reader.progress;
+          number = reader.segments;
+          pending = reader.opened.items;
+          held = take reader.filled reader.buffer.items;
+          source = source;
+        } }
+    {
+        Reader {
+            source,
+            text: TextReader { reader, given: 0 },
+        }
+    }
+
     /// Gives the next bytes of the text, as many as are opened and `buf` has room for, and answers
     /// how many. Where no opened text is left, the next segment is opened first. `Ok(0)` comes on an
     /// empty buffer, which reads nothing, and at the end, for good. It takes no memory.
@@ -164,5 +190,11 @@ impl<R: Source + Drop, D: SegmentDecrypter + Drop> Reader<R, D> {
         ensures { result ≡ self.source }
     {
         self.source
+    }
+}
+
+impl<R: Source + Drop, D: SegmentDecrypter + Drop> DecryptingRead for Reader<R, D> {
+    fn read(&mut self, buf: &mut [u8]) -> Result<usize, TinkError> {
+        Reader::read(self, buf)
     }
 }

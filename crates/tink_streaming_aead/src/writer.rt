@@ -8,6 +8,7 @@ use crate::sizes::check_sizes;
 use crate::writing::{Sealer, SegmentWriter};
 use std::marker::Model;
 use tink_io::{Sink, TinkError};
+use tink_primitives::EncryptingWrite;
 
 /// What a writer is made of. Sizes are in bytes.
 #[derive(Drop)]
@@ -121,6 +122,25 @@ impl<W: Sink + Drop, E: SegmentEncrypter + Drop> Writer<W, E> {
         })
     }
 
+    // A writer of segments, to the sink that it is given for good.
+    pub(crate) fn over(sink: W, inner: SegmentWriter<E>) -> Writer<W, E>
+        ensures { result ≡ record {
+          sealing = record {
+            encrypter = inner.sealer.encrypter;
+            prefix = inner.sealer.prefix.items;
+            nonce_size = inner.sealer.nonce_size;
+            first = inner.sealer.first;
+            room = inner.sealer.room;
+          };
+          mode = inner.mode;
+          number = inner.segments;
+          held = inner.held.items;
+          sink = sink;
+        } }
+    {
+        Writer { sink, inner }
+    }
+
     /// Takes all of `buf`: the segments of the chunks that are full and have text behind them are
     /// written, and the last chunk is held. It takes no memory.
     ///
@@ -174,5 +194,19 @@ impl<W: Sink + Drop, E: SegmentEncrypter + Drop> Writer<W, E> {
         ensures { result ≡ self.sink }
     {
         self.sink
+    }
+}
+
+impl<W: Sink + Drop, E: SegmentEncrypter + Drop> EncryptingWrite for Writer<W, E> {
+    fn write(&mut self, buf: &[u8]) -> Result<usize, TinkError> {
+        Writer::write(self, buf)
+    }
+
+    fn flush(&mut self) -> Result<(), TinkError> {
+        Writer::flush(self)
+    }
+
+    fn close(&mut self) -> Result<(), TinkError> {
+        Writer::close(self)
     }
 }

@@ -1,18 +1,26 @@
 //! Keys of streams in counter mode with HMAC.
 
-ghost use Rattle.std.specs.Prelude.{◌≡◌};
+ghost use Rattle.std.specs.Prelude.{◌≡◌, ◌≤◌, MatchResult};
 ghost use Rattle.stream_model.specs.Key.{header_length};
 ghost use Rattle.tink_core.specs.Subtle.{hash_named};
 ghost use Rattle.tink_io.specs.Told.{Answers};
 ghost use Rattle.tink_keysets.specs.Told.{Tells};
+ghost use Rattle.tink_streaming_aead.specs.Decrypting.{NewReaderMeans};
+ghost use Rattle.tink_streaming_aead.specs.Encrypting.{NewWriterMeans};
 ghost use Rattle.tink_streaming_aead.specs.StreamingKeys.{ctr_hmac_key, ctr_hmac_sizes};
 
+use crate::decrypting::new_decrypting_reader;
+use crate::encrypting::new_encrypting_writer;
+use crate::reader::Reader;
 use crate::stream_params::{DerivesStreams, SegmentParams, StreamParams, is_key_size, is_small};
+use crate::stream_segment::StreamSegment;
+use crate::writer::Writer;
 use std::alloc::Global;
 use std::marker::Model;
 use tink_core::CloneIn;
 use tink_core::subtle::get_hash_func;
-use tink_io::{Kind, TinkError};
+use tink_io::{Draws, Kind, Sink, Source, TinkError};
+use tink_primitives::{Refused, StreamingAead};
 use tink_proto::HashType;
 
 // The fewest bytes of a tag.
@@ -88,6 +96,47 @@ impl AesCtrHmac {
     {
         DerivesStreams::header_length(self)
     }
+
+    /// A writer of a new stream into `w`, whose header is written: its salt and its prefix are the first draws. All memory
+    /// is taken first.
+    ///
+    /// # Errors
+    /// The refusal hands back `w`. `OutOfMemory`, with nothing drawn or written; then the first that applies: `RandomFault`
+    /// exactly where fewer draws are left than a salt and seven bytes, none of which is taken; `UnknownHash` exactly where
+    /// HKDF's hash is unknown, and `UnsupportedHash` exactly where it is SHA-224, with the draws taken and nothing written;
+    /// `WriteFault` where the sink failed, which has a prefix of the header.
+    pub fn new_encrypting_writer<K: Sink + Drop>(
+        &self,
+        alloc: Global,
+        draws: &mut Draws,
+        w: K,
+        additional_data: &[u8],
+    ) -> Result<Writer<K, StreamSegment>, Refused<K>>
+        ensures answer { NewWriterMeans K.got K.faults self.now additional_data.now draws.old draws.new w result }
+        ensures later { MatchResult result (λ made. K.faults w ≤ K.faults made.sink) (λ refused. K.faults w ≤ K.faults refused.inner) }
+        ensures same { MatchResult result (λ made. K.same w made.sink) (λ refused. K.same w refused.inner) }
+    {
+        new_encrypting_writer(alloc, self, draws, w, additional_data)
+    }
+
+    /// A reader of the stream in `r`, whose header is read. All memory is taken first.
+    ///
+    /// # Errors
+    /// The refusal hands back `r`. `OutOfMemory`, with nothing read; `ReadFault` where the source failed; `NoMatchingKey`
+    /// exactly where the header is missing, short or of another length; `UnknownHash` exactly where HKDF's hash is unknown,
+    /// and `UnsupportedHash` exactly where it is SHA-224.
+    pub fn new_decrypting_reader<S: Source + Drop>(
+        &self,
+        alloc: Global,
+        r: S,
+        additional_data: &[u8],
+    ) -> Result<Reader<S, StreamSegment>, Refused<S>>
+        ensures answer { NewReaderMeans S.left S.faults self.now additional_data.now r result }
+        ensures later { MatchResult result (λ made. S.faults r ≤ S.faults made.source) (λ refused. S.faults r ≤ S.faults refused.inner) }
+        ensures same { MatchResult result (λ made. S.same r made.source) (λ refused. S.same r refused.inner) }
+    {
+        new_decrypting_reader(alloc, self, r, additional_data)
+    }
 }
 
 // The hashes and sizes of a key whose main key has so many bytes.
@@ -140,5 +189,30 @@ impl CloneIn for AesCtrHmac {
             main_key: self.main_key.to_vec(alloc)?,
             params: self.params.same(),
         })
+    }
+}
+
+impl<S: Source + Drop, K: Sink + Drop> StreamingAead<S, K> for AesCtrHmac {
+    type Writer = Writer<K, StreamSegment>;
+
+    type Reader = Reader<S, StreamSegment>;
+
+    fn new_encrypting_writer(
+        &self,
+        alloc: Global,
+        draws: &mut Draws,
+        w: K,
+        additional_data: &[u8],
+    ) -> Result<Writer<K, StreamSegment>, Refused<K>> {
+        new_encrypting_writer(alloc, self, draws, w, additional_data)
+    }
+
+    fn new_decrypting_reader(
+        &self,
+        alloc: Global,
+        r: S,
+        additional_data: &[u8],
+    ) -> Result<Reader<S, StreamSegment>, Refused<S>> {
+        new_decrypting_reader(alloc, self, r, additional_data)
     }
 }

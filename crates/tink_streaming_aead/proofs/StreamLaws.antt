@@ -1,0 +1,31 @@
+-- What the calls of a new writer give together.
+use Rattle.std.proofs.Common.{◌≡◌, ℕ, Bool, List, ◌++◌, sym, ap, subst, Some}
+use Rattle.std.specs.declared.option.Option.{Option}
+use Rattle.std.specs.Io.KnownBytes.{Appends}
+use Rattle.std.proofs.KnownBytes.{Appends-trans}
+use Rattle.stream_model.specs.Cut.{sealed}
+use Rattle.stream_model.specs.Key.{StreamKey, first_room, front, keys_of, room, segment_at}
+use Rattle.stream_model.specs.Sealing.{prefix_of, salt_of, sealed_under, stream}
+use Rattle.tink_streaming_aead.specs.Encrypting.{IsNewStream}
+use Rattle.tink_streaming_aead.specs.Writing.{ClosedBy, Moment, Wrote}
+use Rattle.tink_streaming_aead.proofs.WritingFacts.{closed_whole}
+
+-- the front and then the segments under derived keys are the stream
+pub stream_is : (k : StreamKey) (aad salt prefix keys text : List ℕ) → keys_of k aad salt ≡ Some keys
+    → front k salt prefix ++ sealed (segment_at k keys prefix) (first_room k) (room k) text ≡ stream k aad salt prefix text
+unfolding stream
+stream_is k aad salt prefix keys text e = ap (λ o. front k salt prefix ++ sealed_under k o prefix text) (sym e)
+
+-- a text and a close give the stream of the text
+pub whole_stream : (k : StreamKey) (aad draws left : List ℕ) (before : Option (List ℕ)) (seg : ℕ → Bool → List ℕ → List ℕ) (first later : ℕ) (m n o : Moment) (text : List ℕ)
+    → IsNewStream k aad draws left before seg first later m → Wrote seg first later m n text → ClosedBy seg n o
+    → Appends before o.got (stream k aad (salt_of k draws) (prefix_of k draws) text)
+whole_stream k aad draws left before seg first later m n o text s w c =
+    let salt = salt_of k draws in
+    let prefix = prefix_of k draws in
+    let all : Appends m.got o.got (sealed seg first later text) = (closed_whole seg first later m n o text (record { mode = s.is_open; number = s.number; held = s.held }) w c).0 in
+    let keyed : Appends m.got o.got (sealed (segment_at k s.keys prefix) (first_room k) (room k) text) =
+    subst (λ (g : ℕ → Bool → List ℕ → List ℕ). Appends m.got o.got (sealed g (first_room k) (room k) text)) s.segments
+    (subst (λ (y : ℕ). Appends m.got o.got (sealed seg (first_room k) y text)) s.later_is (subst (λ (x : ℕ). Appends m.got o.got (sealed seg x later text)) s.first_is all))
+    in
+    subst (Appends before o.got) (stream_is k aad salt prefix s.keys text s.keys_are) (Appends-trans before m.got o.got (front k salt prefix) _ s.written keyed)
