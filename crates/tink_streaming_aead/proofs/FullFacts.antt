@@ -1,5 +1,5 @@
 -- Which chunks of a text are full.
-use Rattle.std.proofs.Common.{◌<◌, ◌≤◌, ◌⊎◌, inl, inr, ℕ, zero, suc, List, length, drop, sym, subst, arith, length-drop}
+use Rattle.std.proofs.Common.{◌<◌, ◌≤◌, inl, inr, ℕ, zero, suc, List, length, drop, sym, subst, arith, length-drop}
 use Rattle.std.proofs.lemmas.Bool.{cases_lt}
 use Rattle.std.proofs.lemmas.List.{length-take}
 use Rattle.stream_model.specs.Cut.{full_chunks, open_chunk}

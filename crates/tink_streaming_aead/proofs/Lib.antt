@@ -18,3 +18,4 @@ pub mod HeaderFacts
 pub mod NewWriterSteps
 pub mod StreamLaws
 pub mod NewReaderSteps
+pub mod DecryptSteps

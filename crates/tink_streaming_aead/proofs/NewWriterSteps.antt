@@ -19,6 +19,10 @@ use Rattle.tink_streaming_aead.specs.declared.writing.Mode.TheVariants.{Open}
 use Rattle.tink_streaming_aead.specs.Encrypting.{DrewHeader, IsNewStream, NewWriterMeans, NewWriterRefused, WroteFrontPart}
 use Rattle.tink_streaming_aead.specs.StreamSegments.{segment_by}
 use Rattle.tink_streaming_aead.specs.StreamingKeys.{IsDerived, deriving_hash}
+use Rattle.tink_sets.specs.declared.entry.TypedEntry.{TypedEntry}
+use Rattle.tink_streaming_aead.specs.declared.stream_kind.StreamKind.{StreamKind}
+use Rattle.tink_streaming_aead.specs.StreamKinds.{key_of}
+use Rattle.tink_streaming_aead.specs.Wrapped.{ByPrimary}
 use Rattle.tink_streaming_aead.specs.Writers.{WriterState}
 use Rattle.tink_streaming_aead.specs.Writing.{Moment}
 use Rattle.tink_streaming_aead.proofs.HeaderFacts.{drawn_header, header_front, seg_is}
@@ -101,3 +105,9 @@ means_end got faults k aad draws left sink (Err refused) m = go refused.error.ki
     go UnsupportedHash r = drew_end k draws left r.drew
     go WriteFault r = drew_end k draws left r.drew
     go _ r = absurd r
+
+-- the same of a primary key
+pub primary_end : {W : Type 0} (got : W → Option (List ℕ)) (faults : W → ℕ) (primary : Option (TypedEntry StreamKind)) (aad draws left : List ℕ) (sink : W) (r : Result (WriterState W StreamSegment) (Refused W))
+    → ByPrimary primary (λ k. NewWriterMeans got faults k aad draws left sink r) → IsEndOf left draws
+primary_end got faults None aad draws left sink r m = absurd m
+primary_end got faults (Some e) aad draws left sink r m = means_end got faults (key_of e.primitive) aad draws left sink r m

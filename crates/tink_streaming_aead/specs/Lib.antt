@@ -19,3 +19,6 @@ pub mod KeyTypeLaws
 pub mod Templates
 pub mod Encrypting
 pub mod Decrypting
+pub mod DecryptReaders
+pub mod DecryptStages
+pub mod Wrapped

@@ -1,34 +1,40 @@
 ghost use Rattle.std.specs.Prelude.{◌≡◌, ◌≤◌, ◌<◌, take, map, All, None, IfSome, IfOk, OnOk, OnErr, MatchOption, vec_len, vec_capacity};
 ghost use Rattle.std.specs.Io.KnownBytes.{Keeps, prepend_known};
 ghost use Rattle.stream_model.specs.Cut.{numbered};
-ghost use Rattle.stream_model.specs.Opening.{IsChosen};
+ghost use Rattle.stream_model.specs.Key.{nonce_size};
+ghost use Rattle.stream_model.specs.Opening.{IsChosen, opening_key};
 ghost use Rattle.tink_io.specs.Faults.{Rose};
 ghost use Rattle.tink_streaming_aead.specs.Choosing.{Found};
+ghost use Rattle.tink_streaming_aead.specs.StreamSegments.{segment_by};
 
 use crate::kept::Kept;
-use crate::segment_traits::SegmentDecrypter;
-use crate::trying::{Begun, OpensStreams, try_key};
+use crate::key_under::KeyUnder;
+use crate::stream_params::DerivesStreams;
+use crate::stream_segment::StreamSegment;
+use crate::trying::{Begun, try_key};
 use tink_io::{Failed, Source};
 
-/// How the stream of a source is opened: by the first key under which it begins, or none.
+/// How the stream of a source is opened: by the first key under which it begins with the associated
+/// data, or none.
 ///
 /// # Errors
 /// Failed where the source failed.
-pub fn choose<S: Source, D: SegmentDecrypter + Drop, T: OpensStreams<D>>(
+pub fn choose<S: Source, T: DerivesStreams>(
     keys: &[T],
+    aad: &[u8],
     kept: &mut Kept,
     source: &mut S,
     prefix: Vec<u8>,
     nonce: &mut Vec<u8>,
     opened: &mut Vec<u8>,
-) -> Result<Option<Begun<D>>, Failed>
-    requires buffer { All (λ k. (T.opening_key k).size < vec_len kept.old.buffer) keys.now }
-    requires room { All (λ k. (T.opening_key k).size ≤ vec_capacity opened.old) keys.now }
-    requires nonce { All (λ k. T.nonce_of k ≤ vec_len nonce.old) keys.now }
+) -> Result<Option<Begun<StreamSegment>>, Failed>
+    requires buffer { All (λ k. (T.key_of k).segment < vec_len kept.old.buffer) keys.now }
+    requires room { All (λ k. (T.key_of k).segment ≤ vec_capacity opened.old) keys.now }
+    requires nonce { All (λ k. nonce_size (T.key_of k) ≤ vec_len nonce.old) keys.now }
     requires prefix { 7 ≤ vec_capacity prefix }
     ensures chosen { IfOk result (λ r. IfSome (prepend_known (take kept.old.filled kept.old.buffer.items) (S.left source.old)) (λ X.
-        MatchOption r (IsChosen (map T.opening_key keys.now) X None)
-        (λ b. Found (map T.opening_key keys.now) X (numbered (D.seg b.opener.decrypter) b.opener.nonce_size b.opener.prefix.items)
+        MatchOption r (IsChosen (map (λ k. opening_key aad.now (T.key_of k)) keys.now) X None)
+        (λ b. Found (map (λ k. opening_key aad.now (T.key_of k)) keys.now) X (numbered (segment_by b.opener.decrypter) b.opener.nonce_size b.opener.prefix.items)
         b.header b.opener.first b.opener.size b.opener.overhead))) }
     ensures rest { OnOk result (Keeps (prepend_known (take kept.old.filled kept.old.buffer.items) (S.left source.old))
         (prepend_known (take kept.new.filled kept.new.buffer.items) (S.left source.new))) }
@@ -45,7 +51,8 @@ pub fn choose<S: Source, D: SegmentDecrypter + Drop, T: OpensStreams<D>>(
 {
     let mut prefix = prefix;
     for key in keys {
-        match try_key(key, kept, source, prefix, nonce, opened)? {
+        let under = KeyUnder { key, aad };
+        match try_key(&under, kept, source, prefix, nonce, opened)? {
             Ok(begun) => return Ok(Some(begun)),
             Err(memory) => prefix = memory,
         }

@@ -15,6 +15,8 @@ pub use ctr_hmac_segment::{
     AES_CTR_HMAC_KEY_SIZE_IN_BYTES, AES_CTR_HMAC_NONCE_PREFIX_SIZE_IN_BYTES,
     AES_CTR_HMAC_NONCE_SIZE_IN_BYTES, CtrHmacSegment,
 };
+pub use decrypt_reader::DecryptReader;
+pub use factory::{WrappedStreamingAead, new};
 pub use gcm_segment::{
     AES_GCM_HKDF_NONCE_PREFIX_SIZE_IN_BYTES, AES_GCM_HKDF_NONCE_SIZE_IN_BYTES,
     AES_GCM_HKDF_TAG_SIZE_IN_BYTES, GcmSegment,
@@ -37,12 +39,12 @@ pub use reading_laws::{law_empty_buffer, law_for_good, law_whole_text};
 pub use registering::init;
 pub use segment_traits::{SegmentDecrypter, SegmentEncrypter};
 pub use starting::{Trial, start};
-pub use stream_kind::{KeyUnder, StreamKind, StreamKinds};
+pub use stream_kind::{StreamKind, StreamKinds};
 pub use stream_params::DerivesStreams;
 pub use stream_segment::StreamSegment;
 pub use text_reader::TextReader;
 pub use tink_primitives::UPSTREAM_VERSION;
-pub use trying::{Begun, OpensStreams};
+pub use trying::Begun;
 pub use whole::open_rest;
 pub use writer::{Writer, WriterParams};
 pub use writing::{Mode, Sealer, SegmentWriter};
@@ -55,8 +57,10 @@ mod buffers;
 mod caller_tests;
 mod choosing;
 mod ctr_hmac_segment;
+mod decrypt_reader;
 mod decrypting;
 mod encrypting;
+mod factory;
 mod gcm_segment;
 #[cfg(test)]
 mod gcm_segment_tests;
@@ -66,6 +70,7 @@ mod key_sizes;
 mod key_templates;
 #[cfg(test)]
 mod key_tests;
+mod key_under;
 mod laws;
 #[cfg(test)]
 mod named;

@@ -1,17 +1,10 @@
 //! Keys of streams of either kind.
 
-ghost use Rattle.std.specs.Prelude.{◌≡◌};
-
 use crate::stream_params::{DerivesStreams, StreamParams};
-use crate::stream_segment::StreamSegment;
 use crate::subtle::{AesCtrHmac, AesGcmHkdf};
-use crate::trying::OpensStreams;
 use std::alloc::Global;
 use tink_core::{CloneIn, Kinds, Never};
 use tink_io::TinkError;
-
-/// The bytes of a header behind its salt.
-const PREFIX: usize = 7;
 
 /// A key of streams.
 #[derive(Drop)]
@@ -72,45 +65,4 @@ impl Kinds for StreamKinds {
     type StreamingAead = StreamKind;
 
     type Verifier = Never;
-}
-
-/// A key, and the associated data of streams that it may have made.
-#[derive(Drop)]
-pub struct KeyUnder<'a> {
-    pub key: &'a StreamKind,
-    pub aad: &'a [u8],
-}
-
-impl<'a> OpensStreams<StreamSegment> for KeyUnder<'a> {
-    ghost use Rattle.stream_model.specs.Key as keys;
-    ghost use Rattle.stream_model.specs.Opening as opening;
-    ghost use Rattle.tink_streaming_aead.specs.StreamKinds as kinds;
-
-    ghost opening_key = { λ k. opening.opening_key k.aad.now (kinds.key_of k.key.now) };
-
-    ghost nonce_of = { λ k. keys.nonce_size (kinds.key_of k.key.now) };
-
-    fn header_length(&self) -> usize {
-        self.key.header_length()
-    }
-
-    fn segment_size(&self) -> u32 {
-        self.key.segment_size()
-    }
-
-    fn first_segment_size(&self) -> u32 {
-        self.key.first_segment_size()
-    }
-
-    fn nonce_size(&self) -> usize {
-        self.key.nonce_size()
-    }
-
-    fn derive(&self, header: &[u8]) -> Option<StreamSegment> {
-        let end = self.key.header_length() - PREFIX;
-        match self.key.derive(&header[1..end], self.aad) {
-            Ok(cipher) => Some(cipher),
-            Err(_) => None,
-        }
-    }
 }

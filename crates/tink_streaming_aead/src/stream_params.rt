@@ -269,3 +269,15 @@ pub trait DerivesStreams {
         Ok(derived_cipher(params, hash, self.main_key(), salt, aad))
     }
 }
+
+impl<T: DerivesStreams> DerivesStreams for &T {
+    ghost key_of = { λ k. T.key_of k.now };
+
+    fn main_key(&self) -> &[u8] {
+        T::main_key(*self)
+    }
+
+    fn params(&self) -> &StreamParams {
+        T::params(*self)
+    }
+}

@@ -159,3 +159,12 @@ under_keyset keyset aad draws l old new (Err err) e u = go err.kind refl u
     go (BadSegment n) same r = opened (BadSegment n) same r
     go (Truncated n) same r = opened (Truncated n) same r
     go _ same r = absurd r
+
+-- what opening under keys says besides want of memory
+pub opens_under : (ks : List OpeningKey) (old new : Outside) (r : Result Report TinkError) → StreamMeans ks old new r → OpensUnder ks old new r
+opens_under ks old new (Ok report) m = m
+opens_under ks old new (Err e) m = go e.kind m
+  where
+    go : (kind : Kind) → StreamRefused ks old new kind → UnderRefused ks old new kind
+    go OutOfMemory r = absurd r
+    go _ r = r

@@ -16,8 +16,8 @@ use tink_io::{Kind, TinkError};
 use tink_keysets::keyset::{insecure, validate};
 use tink_proto::{Key, KeyData, KeyStatusType, Keyset, Message, ProtoError, Repeated};
 use tink_proto_keys::AesCtrHmacStreamingKey;
-use tink_streaming_aead::{AES_CTR_HMAC_TYPE_URL, StreamKind, ctr_hmac_streaming_key};
 use tink_streaming_aead::subtle::AesCtrHmac;
+use tink_streaming_aead::{AES_CTR_HMAC_TYPE_URL, StreamKind, ctr_hmac_streaming_key};
 
 /// An enabled key, with its id and the number of its `OutputPrefixType`.
 #[derive(Drop)]

@@ -2,6 +2,7 @@ ghost use Rattle.std.specs.Prelude.{◌≡◌, ◌≤◌, ◌<◌, ◌+◌, ◌^
 ghost use Rattle.std.specs.List.{filter};
 ghost use Rattle.std.specs.Io.KnownBytes.{prepend_known};
 ghost use Rattle.stream_model.specs.Cut.{numbered};
+ghost use Rattle.stream_model.specs.Key.{nonce_size};
 ghost use Rattle.stream_model.specs.Opening as opening;
 ghost use Rattle.tink_io.specs.declared.error.Kind.TheVariants.{OutOfMemory};
 ghost use Rattle.tink_streaming_aead.specs.declared.progress.Progress.TheVariants.{Running};
@@ -16,8 +17,8 @@ use crate::report::Report;
 use std::alloc::Global;
 use tink_io::{Kind, Sink, Source, TinkError, write_all};
 use tink_streaming_aead::{
-    Buffers, DerivesStreams, Kept, KeyUnder, OpensStreams, Progress, SegmentDecrypter,
-    SegmentReader, Trial, start,
+    Buffers, DerivesStreams, Kept, Progress, SegmentDecrypter, SegmentReader, StreamKind, Trial,
+    start,
 };
 
 /// The number of the output prefix type of raw keys.
@@ -50,40 +51,35 @@ pub fn open<S: Source, K: Sink>(
     ensures source { S.same source.old source.new }
     ensures sink { K.same sink.old sink.new }
 {
-    let raw = raw_keys(alloc, keys, aad)?;
+    let raw = raw_keys(alloc, keys)?;
     let trial = reserve(alloc, largest_segment(&raw))?;
-    open_under(&raw, trial, source, sink)
+    open_under(&raw, aad, trial, source, sink)
 }
 
-/// The raw keys in order, each with the associated data.
+/// The raw keys in order.
 ///
 /// # Errors
 /// OutOfMemory.
-fn raw_keys<'a>(
-    alloc: Global,
-    keys: &'a [LoadedKey],
-    aad: &'a [u8],
-) -> Result<Vec<KeyUnder<'a>>, TinkError>
-    ensures keys { IfOk result (λ raw. map (λ k. opening.opening_key k.aad.now (key_of k.key.now)) raw.items
-        ≡ map (λ k. opening.opening_key aad.now k.key) (filter is_raw keys.now)) }
+fn raw_keys<'a>(alloc: Global, keys: &'a [LoadedKey]) -> Result<Vec<&'a StreamKind>, TinkError>
+    ensures keys { IfOk result (λ raw. map (λ k. key_of k.now) raw.items ≡ map (λ k. k.key) (filter is_raw keys.now)) }
     ensures refused { IfErr result (λ e. e ≡ record { kind = OutOfMemory }) }
 {
     let mut raw = Vec::new(alloc);
     for key in keys {
         if key.prefix_type == RAW {
-            raw.push(KeyUnder { key: &key.key, aad })?;
+            raw.push(&key.key)?;
         }
     }
     Ok(raw)
 }
 
 /// The bytes of the largest segment.
-fn largest_segment(keys: &[KeyUnder]) -> u32
-    ensures { All (λ k. (key_of k.key.now).segment ≤ result) keys.now }
+fn largest_segment(keys: &[&StreamKind]) -> u32
+    ensures { All (λ k. (key_of k.now).segment ≤ result) keys.now }
 {
     let mut largest = 0;
     for key in keys {
-        largest = largest.max(key.key.segment_size());
+        largest = largest.max(key.segment_size());
     }
     largest
 }
@@ -117,25 +113,26 @@ fn reserve(alloc: Global, segment: u32) -> Result<Trial, TinkError>
 ///
 /// # Errors
 /// NoMatchingKey, ReadFault, and those of `open_stream`.
-fn open_under<S: Source, K: Sink, D: SegmentDecrypter + Drop, T: OpensStreams<D>>(
+fn open_under<S: Source, K: Sink, T: DerivesStreams>(
     keys: &[T],
+    aad: &[u8],
     trial: Trial,
     source: &mut S,
     sink: &mut K,
 ) -> Result<Report, TinkError>
     requires filled { trial.kept.filled ≡ 0 }
-    requires buffer { All (λ k. (T.opening_key k).size < vec_len trial.kept.buffer) keys.now }
-    requires room { All (λ k. (T.opening_key k).size ≤ vec_capacity trial.opened) keys.now }
-    requires nonce { All (λ k. T.nonce_of k ≤ vec_len trial.nonce) keys.now }
+    requires buffer { All (λ k. (T.key_of k).segment < vec_len trial.kept.buffer) keys.now }
+    requires room { All (λ k. (T.key_of k).segment ≤ vec_capacity trial.opened) keys.now }
+    requires nonce { All (λ k. nonce_size (T.key_of k) ≤ vec_len trial.nonce) keys.now }
     requires prefix { 7 ≤ vec_capacity trial.prefix }
-    ensures answer { StreamMeans (map T.opening_key keys.now)
+    ensures answer { StreamMeans (map (λ k. opening.opening_key aad.now (T.key_of k)) keys.now)
         (record { left = S.left source.old; read_faults = S.faults source.old; got = K.got sink.old; write_faults = K.faults sink.old })
         (record { left = S.left source.new; read_faults = S.faults source.new; got = K.got sink.new; write_faults = K.faults sink.new })
         result }
     ensures source { S.same source.old source.new }
     ensures sink { K.same sink.old sink.new }
 {
-    let mut reader = start(keys, trial, source)?;
+    let mut reader = start(keys, aad, trial, source)?;
     open_stream(&mut reader, source, sink)
 }
 

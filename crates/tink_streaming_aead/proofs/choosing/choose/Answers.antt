@@ -3,18 +3,19 @@ use Rattle.std.specs.declared.option.Option.{Option}
 use Rattle.std.specs.Io.KnownBytes.{prepend_known}
 use Rattle.std.proofs.KnownBytes.{Keeps-trans}
 use Rattle.stream_model.specs.Cut.{numbered}
-use Rattle.stream_model.specs.Opening.{OpeningKey, Begins}
+use Rattle.stream_model.specs.Opening.{OpeningKey, Begins, opening_key}
+use Rattle.tink_streaming_aead.specs.StreamSegments.{segment_by}
 use Rattle.tink_streaming_aead.specs.Choosing.{Found, IsOpenerOf}
 use Rattle.tink_streaming_aead.proofs.ChoosingSteps.{GoesOn, key_split, pass_over, take_key, both_told, told_before}
 use Rattle.tink_streaming_aead.proofs.choosing.choose.Goals as goal
 
 pub returns-in-Ok-clause-chosen : goal.returns-in-Ok-clause-chosen
 returns-in-Ok-clause-chosen g c =
-    let of : g.row.T.Denot → OpeningKey = g.T.OpensStreams.opening_key in
+    let of : g.row.T.Denot → OpeningKey = λ k. opening_key c.args.aad.now (g.T.DerivesStreams.key_of k) in
     let keys = c.args.keys.now in
     let b = c.in-Ok.begun in
     let o = b.opener in
-    let seg : ℕ → Bool → List ℕ → List ℕ = numbered (g.D.SegmentDecrypter.seg o.decrypter) o.nonce_size o.prefix.items in
+    let seg : ℕ → Bool → List ℕ → List ℕ = numbered (segment_by o.decrypter) o.nonce_size o.prefix.items in
     let told : Option (List ℕ) = prepend_known (take c.args.kept.now.filled c.args.kept.now.buffer.items) (g.S.Source.left c.args.source.now) in
     let key : g.row.T.Denot = c.key-item.result in
     let split = key_split keys c.loop-key.key-index key (omega arith) c.key-item.is in
@@ -25,7 +26,7 @@ returns-in-Ok-clause-chosen g c =
 
 pub loop-key-preserved : goal.loop-key-preserved
 loop-key-preserved g c =
-    let of : g.row.T.Denot → OpeningKey = g.T.OpensStreams.opening_key in
+    let of : g.row.T.Denot → OpeningKey = λ k. opening_key c.args.aad.now (g.T.DerivesStreams.key_of k) in
     let keys = c.args.keys.now in
     let told : Option (List ℕ) = prepend_known (take c.args.kept.now.filled c.args.kept.now.buffer.items) (g.S.Source.left c.args.source.now) in
     let key : g.row.T.Denot = c.key-item.result in

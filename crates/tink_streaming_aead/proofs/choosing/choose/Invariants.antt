@@ -1,5 +1,6 @@
 use Rattle.std.proofs.Common.{◌≡◌, ◌≤◌, take, IfSome, vec_len, vec_capacity}
 use Rattle.std.specs.Io.KnownBytes.{Keeps, prepend_known}
+use Rattle.stream_model.specs.Opening.{opening_key}
 use Rattle.tink_streaming_aead.proofs.ChoosingSteps.{GoesOn}
 use Rattle.tink_streaming_aead.proofs.choosing.choose.Given as goal
 
@@ -13,7 +14,7 @@ invariant-loop-key g l =
       capacity : vec_capacity l.fn.opened ≤ vec_capacity l.opened;
       prefix_room : 7 ≤ vec_capacity l.prefix;
       rest : Keeps (prepend_known (take l.fn.kept.filled l.fn.kept.buffer.items) (source.left l.fn.source)) (prepend_known (take l.kept.filled l.kept.buffer.items) (source.left l.source));
-      chosen : IfSome (prepend_known (take l.fn.kept.filled l.fn.kept.buffer.items) (source.left l.fn.source)) (GoesOn g.T.OpensStreams.opening_key l.keys l.key-index);
+      chosen : IfSome (prepend_known (take l.fn.kept.filled l.fn.kept.buffer.items) (source.left l.fn.source)) (GoesOn (λ k. opening_key l.fn.aad (g.T.DerivesStreams.key_of k)) l.keys l.key-index);
       later : source.faults l.fn.source ≤ source.faults l.source;
       same : source.same l.fn.source l.source;
     }

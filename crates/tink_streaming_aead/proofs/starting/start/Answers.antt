@@ -1,8 +1,5 @@
-use Rattle.std.proofs.Common.{◌≤◌, ◌∙◌, ℕ, List, take, map, length, sym, ap, arith, IfSome}
+use Rattle.std.proofs.Common.{◌≤◌, ◌∙◌, take, length, arith}
 use Rattle.std.proofs.lemmas.List.{length-take}
-use Rattle.std.specs.Io.KnownBytes.{prepend_known}
-use Rattle.stream_model.specs.Cut.{numbered}
-use Rattle.tink_streaming_aead.specs.Choosing.{Found}
 use Rattle.tink_streaming_aead.proofs.ChoosingSteps.{started}
 use Rattle.tink_streaming_aead.proofs.starting.start.Goals as goal
 

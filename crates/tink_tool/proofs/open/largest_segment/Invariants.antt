@@ -4,4 +4,4 @@ use Rattle.tink_streaming_aead.specs.StreamKinds.{key_of}
 use Rattle.tink_tool.proofs.open.largest_segment.Given as goal
 
 abbrev pub invariant-loop-key : goal.invariant-loop-key
-invariant-loop-key l = All (λ k. (key_of k.key.now).segment ≤ l.largest) (take l.key-index l.keys)
+invariant-loop-key l = All (λ k. (key_of k.now).segment ≤ l.largest) (take l.key-index l.keys)

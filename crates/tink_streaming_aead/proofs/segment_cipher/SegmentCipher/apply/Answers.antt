@@ -1,4 +1,4 @@
-use Rattle.std.proofs.Common.{◌≡◌, ℕ, List, length, ap, subst, sym, ◌∙◌}
+use Rattle.std.proofs.Common.{ap, subst, sym, ◌∙◌}
 use Rattle.std.specs.Int.{w64}
 use Rattle.aes_block.proofs.KeyedBlocks.{encrypted-aes}
 use Rattle.standards.specs.AesKeys.{aes}

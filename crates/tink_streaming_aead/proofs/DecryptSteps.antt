@@ -1,0 +1,66 @@
+-- From the steps of a first read to its answer.
+use Rattle.std.proofs.Common.{◌≡◌, ◌≤◌, ℕ, Bool, List, [], ◌∷◌, take, drop, ap, subst, ◌∙◌, arith, Some, None, IfSome}
+use Rattle.std.specs.declared.option.Option.{Option}
+use Rattle.std.specs.Io.KnownBytes.{prepend_known}
+use Rattle.std.proofs.KnownBytes.{prepend_known-nil}
+use Rattle.tink_io.proofs.FaultLemmas.{Rose-earlier}
+use Rattle.tink_io.specs.declared.error.Kind.{Kind}
+use Rattle.tink_io.specs.declared.error.Kind.TheVariants.{BadSegment, FailedBefore, NoMatchingKey, ReadFault, TooManySegments, Truncated}
+use Rattle.stream_model.specs.Cut.{cut}
+use Rattle.stream_model.specs.Agree.{Agree}
+use Rattle.stream_model.specs.Opening.{AgreeBy, FirstAgrees, IsChosen, OpeningKey, chunks_of}
+use Rattle.tink_streaming_aead.specs.Choosing.{Started, StartRefused}
+use Rattle.tink_streaming_aead.specs.DecryptReaders.{FirstRefused, first_refusal}
+use Rattle.tink_streaming_aead.specs.TextReading.{Gives, Moment, ReadRefused}
+use Rattle.tink_streaming_aead.specs.declared.progress.Progress.TheVariants.{Running}
+use Rattle.tink_streaming_aead.proofs.ChosenFacts.{chosen_begins, stream_agreed}
+
+-- nothing is held of what was not read
+pub unread : (n : ℕ) (items : List ℕ) (left : Option (List ℕ)) → n ≡ 0 → prepend_known (take n items) left ≡ left
+unread n items left e = ap (λ m. prepend_known (take m items) left) e ∙ prepend_known-nil left
+
+-- a refusal of a start
+pub start_refused : (ks : List OpeningKey) (told : Option (List ℕ)) (before now : ℕ) (kind : Kind) → StartRefused ks told before now kind → FirstRefused ks told before now kind
+start_refused ks told before now NoMatchingKey r = r
+start_refused ks told before now ReadFault r = r
+start_refused ks told before now _ r = absurd r
+
+-- a first text and none do not both agree
+not_both : (s : Option (ℕ → Bool → List ℕ → List ℕ)) (chunks : List (List ℕ)) → FirstAgrees s chunks → AgreeBy s chunks [] → ⊥
+not_both None chunks f a = f
+not_both (Some seg) chunks f a = let none : 1 ≤ 0 = a.longest (f.0 ∷ []) f.1 in omega (arith, none)
+
+-- something comes of told bytes once a key was chosen for them
+never_nothing : (ks : List OpeningKey) (all rest : Option (List ℕ)) (seg : ℕ → Bool → List ℕ → List ℕ) (first size overhead : ℕ) → IfSome all (λ X. Started ks X rest seg first size overhead)
+    → IfSome rest (λ Y. Agree seg 0 (cut first size Y) []) → IfSome all (λ X. IsChosen ks X None)
+never_nothing ks None rest seg first size overhead s n = tt
+never_nothing ks (Some X) rest seg first size overhead s n =
+    let k = s.found.key in
+    let agree : Agree seg 0 (cut first size (drop s.header X)) [] = subst (λ (r : Option (List ℕ)). IfSome r (λ Y. Agree seg 0 (cut first size Y) [])) s.rest n in
+    absurd (not_both (k.seg (take k.header X)) (chunks_of k X) (chosen_begins ks X k s.found.chosen).first (stream_agreed ks X seg s.header first size overhead [] s.found agree))
+
+-- a refusal of the chosen key's reader at its first read
+pub first_refused : (ks : List OpeningKey) (all rest : Option (List ℕ)) (seg : ℕ → Bool → List ℕ → List ℕ) (a b overhead before faults room : ℕ) (n : Moment) (kind : Kind) → IfSome all (λ X. Started ks X rest seg a b overhead) → before ≤ faults
+    → ReadRefused seg a b overhead (record { progress = Running; number = 0; pending = []; rest = rest; faults = faults }) n room kind
+    → FirstRefused ks all before n.faults (first_refusal kind)
+first_refused ks all rest seg a b overhead before faults room n ReadFault s later r = Rose-earlier before faults n.faults later r.1.rose
+first_refused ks all rest seg a b overhead before faults room n TooManySegments s later r = never_nothing ks all rest seg a b overhead s r.1.nothing
+first_refused ks all rest seg a b overhead before faults room n (BadSegment m) s later r = never_nothing ks all rest seg a b overhead s r.1.nothing
+first_refused ks all rest seg a b overhead before faults room n (Truncated m) s later r = never_nothing ks all rest seg a b overhead s r.1.nothing
+first_refused ks all rest seg a b overhead before faults room n (FailedBefore c) s later r = absurd (let e = r.0 in cc)
+first_refused ks all rest seg a b overhead before faults room n _ s later r = absurd r
+
+-- a moment of a reader that has opened nothing
+fresh_moment : (P : Moment → Type 0) (m : Moment) → m.progress ≡ Running → m.number ≡ 0 → m.pending ≡ [] → P m → P (record { progress = Running; number = 0; pending = []; rest = m.rest; faults = m.faults })
+fresh_moment P m p n q h =
+    subst (λ x. P (record { progress = Running; number = 0; pending = x; rest = m.rest; faults = m.faults })) q
+    (subst (λ x. P (record { progress = Running; number = x; pending = m.pending; rest = m.rest; faults = m.faults })) n
+    (subst (λ x. P (record { progress = x; number = m.number; pending = m.pending; rest = m.rest; faults = m.faults })) p h))
+
+pub fresh_gives : (seg : ℕ → Bool → List ℕ → List ℕ) (a b : ℕ) (m n : Moment) (before after : List ℕ) (count : ℕ) → m.progress ≡ Running → m.number ≡ 0 → m.pending ≡ [] → Gives seg a b m n before after count
+    → Gives seg a b (record { progress = Running; number = 0; pending = []; rest = m.rest; faults = m.faults }) n before after count
+fresh_gives seg a b m n before after count = fresh_moment (λ x. Gives seg a b x n before after count) m
+
+pub fresh_refused : (seg : ℕ → Bool → List ℕ → List ℕ) (a b overhead : ℕ) (m n : Moment) (room : ℕ) (kind : Kind) → m.progress ≡ Running → m.number ≡ 0 → m.pending ≡ [] → ReadRefused seg a b overhead m n room kind
+    → ReadRefused seg a b overhead (record { progress = Running; number = 0; pending = []; rest = m.rest; faults = m.faults }) n room kind
+fresh_refused seg a b overhead m n room kind = fresh_moment (λ x. ReadRefused seg a b overhead x n room kind) m

@@ -1,0 +1,91 @@
+use Rattle.std.proofs.Common.{◌≡◌, ℕ, Bool, List, length, drop, take, map, refl, sym, arith}
+use Rattle.std.proofs.lemmas.Result.{err_from_is_err_and}
+use Rattle.std.proofs.lemmas.Simd.{map-map}
+use Rattle.std.specs.Io.KnownBytes.{prepend_known}
+use Rattle.stream_model.specs.Cut.{numbered}
+use Rattle.stream_model.specs.Opening.{opening_key}
+use Rattle.tink_streaming_aead.specs.StreamKinds.{key_of}
+use Rattle.tink_streaming_aead.specs.StreamSegments.{segment_by}
+use Rattle.tink_streaming_aead.specs.TextReading.{Moment, ReadRefused}
+use Rattle.tink_streaming_aead.proofs.DecryptSteps.{first_refused, fresh_gives, fresh_refused, start_refused, unread}
+use Rattle.tink_streaming_aead.proofs.decrypt_reader.give_first.Goals as goal
+
+pub returns-in_err-reader-clause-answer : goal.returns-in_err-reader-clause-answer
+returns-in_err-reader-clause-answer g c =
+    let p = err_from_is_err_and c.from_residual.result c.from_residual.ensures.1 in
+    let choice = c.args.choice in
+    let keys : map (λ k. opening_key choice.data.items (key_of k)) choice.keys.items ≡ map (opening_key choice.data.items) (map key_of choice.keys.items) = sym (map-map (opening_key choice.data.items) key_of choice.keys.items) in
+    let told = unread choice.trial.kept.filled choice.trial.kept.buffer.items (g.S.Source.left c.args.source.now) choice.unread in
+    let refused = rw told at (rw (c.deref.ensures.value, c.deref-2.ensures.value) at c.in_err-reader.ensures.refused) in
+    rw (p.1, p.2) (refl, start_refused _ _ _ _ _ (rw keys at refused))
+
+pub returns-in-Ok-clause-answer : goal.returns-in-Ok-clause-answer
+returns-in-Ok-clause-answer g c =
+    let choice = c.args.choice in
+    let keys : map (λ k. opening_key choice.data.items (key_of k)) choice.keys.items ≡ map (opening_key choice.data.items) (map key_of choice.keys.items) = sym (map-map (opening_key choice.data.items) key_of choice.keys.items) in
+    let told = unread choice.trial.kept.filled choice.trial.kept.buffer.items (g.S.Source.left c.args.source.now) choice.unread in
+    let started = rw told at (rw (c.deref.ensures.value, c.deref-2.ensures.value) at c.in_ok-reader.ensures.started) in
+    let fresh = c.in_ok-reader.ensures.fresh in
+    let reader = c.in_ok-reader.reader in
+    let m : Moment = record {
+      progress = reader.progress;
+      number = reader.segments;
+      pending = drop 0 reader.opened.items;
+      rest = prepend_known (take reader.filled reader.buffer.items) (g.S.Source.left c.start.new.source);
+      faults = g.S.Source.faults c.start.new.source;
+    } in
+    let o = reader.opener in
+    let seg : ℕ → Bool → List ℕ → List ℕ = numbered (segment_by o.decrypter) o.nonce_size o.prefix.items in
+    let after = c.read.new.self in
+    let n : Moment = record {
+      progress = after.reader.progress;
+      number = after.reader.segments;
+      pending = drop after.given after.reader.opened.items;
+      rest = prepend_known (take after.reader.filled after.reader.buffer.items) (g.S.Source.left c.read.new.source);
+      faults = g.S.Source.faults c.read.new.source;
+    } in
+    rw c.read.ensures.opener (record {
+      rest = m.rest;
+      chosen = rw keys at started;
+      faults = m.faults;
+      gave = fresh_gives seg o.first o.size m n c.args.buf.now c.read.new.buf c.in-Ok.n fresh.0 fresh.1 fresh.2 c.in-Ok.ensures.answer;
+    })
+
+pub returns : goal.returns
+returns g c =
+    let choice = c.args.choice in
+    let keys : map (λ k. opening_key choice.data.items (key_of k)) choice.keys.items ≡ map (opening_key choice.data.items) (map key_of choice.keys.items) = sym (map-map (opening_key choice.data.items) key_of choice.keys.items) in
+    let told = unread choice.trial.kept.filled choice.trial.kept.buffer.items (g.S.Source.left c.args.source.now) choice.unread in
+    let started = rw told at (rw (c.deref.ensures.value, c.deref-2.ensures.value) at c.in_ok-reader.ensures.started) in
+    let fresh = c.in_ok-reader.ensures.fresh in
+    let reader = c.in_ok-reader.reader in
+    let o = reader.opener in
+    let seg : ℕ → Bool → List ℕ → List ℕ = numbered (segment_by o.decrypter) o.nonce_size o.prefix.items in
+    let m : Moment = record {
+      progress = reader.progress;
+      number = reader.segments;
+      pending = drop 0 reader.opened.items;
+      rest = prepend_known (take reader.filled reader.buffer.items) (g.S.Source.left c.start.new.source);
+      faults = g.S.Source.faults c.start.new.source;
+    } in
+    let after = c.read.new.self in
+    let n : Moment = record {
+      progress = after.reader.progress;
+      number = after.reader.segments;
+      pending = drop after.given after.reader.opened.items;
+      rest = prepend_known (take after.reader.filled after.reader.buffer.items) (g.S.Source.left c.read.new.source);
+      faults = g.S.Source.faults c.read.new.source;
+    } in
+    let kind = c.in-Err.e.kind in
+    let refused : ReadRefused seg o.first o.size o.overhead m n (length c.args.buf.now) kind = c.in-Err.ensures.answer.1 in
+    record {
+      answer = (
+        c.in-Err.ensures.answer.0,
+        rw (c.new.ensures, c.first_refusal.ensures) (first_refused _ (g.S.Source.left c.args.source.now) m.rest seg o.first o.size o.overhead (g.S.Source.faults c.args.source.now) m.faults (length c.args.buf.now) n kind (rw keys at started) c.start.ensures.later
+            (fresh_refused seg o.first o.size o.overhead m n (length c.args.buf.now) kind fresh.0 fresh.1 fresh.2 refused)),
+      );
+      within = tt;
+      at_end = tt;
+      later = omega (arith, c.start.ensures.later, c.read.ensures.later);
+      same = g.met.S.Source.same_trans _ _ _ c.start.ensures.same c.read.ensures.same;
+    }

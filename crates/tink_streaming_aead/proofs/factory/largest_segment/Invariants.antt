@@ -1,0 +1,6 @@
+-- No segment of the front is larger.
+use Rattle.std.proofs.Common.{◌≤◌, take, All}
+use Rattle.tink_streaming_aead.proofs.factory.largest_segment.Given as goal
+
+abbrev pub invariant-loop-key : goal.invariant-loop-key
+invariant-loop-key g l = All (λ k. (g.T.DerivesStreams.key_of k).segment ≤ l.largest) (take l.key-index l.keys)

@@ -1,0 +1,83 @@
+-- A reader of a keyset's streams: what a contract sees of it, and what its reads say.
+use Rattle.std.specs.Prelude.{◌≡◌, ℕ, Bool, List, [], ◌∷◌, map, Result, Ok, Err, IfSome, None}
+use Rattle.std.specs.declared.option.Option.{Option}
+use Rattle.tink_io.specs.Faults.{Rose}
+use Rattle.tink_io.specs.declared.error.Cause.{Cause}
+use Rattle.tink_io.specs.declared.error.Cause.TheVariants as cause
+use Rattle.tink_io.specs.declared.error.Kind.{Kind}
+use Rattle.tink_io.specs.declared.error.Kind.TheVariants.{FailedBefore, NoMatchingKey, ReadFault}
+use Rattle.tink_io.specs.declared.error.TinkError.{TinkError}
+use Rattle.stream_model.specs.Key.{StreamKey}
+use Rattle.stream_model.specs.Opening.{IsChosen, OpeningKey, opening_key}
+use Rattle.tink_streaming_aead.specs.Choosing.{Started}
+use Rattle.tink_streaming_aead.specs.Readers.{ReaderState, moment_of, seg_of}
+use Rattle.tink_streaming_aead.specs.StreamSegments.{segment_by}
+use Rattle.tink_streaming_aead.specs.TextReading.{Gives, Moment, ReadMeans}
+use Rattle.tink_streaming_aead.specs.declared.progress.Progress.TheVariants.{Running}
+use Rattle.tink_streaming_aead.specs.declared.stream_segment.StreamSegment.{StreamSegment}
+
+-- Keys in order with associated data, and none is chosen yet; or the reader of the chosen key; or what the first read was
+-- refused by. The source is the reader's.
+pub data DecryptState (S : Type 0) : Type 0 where
+  Unread : List StreamKey → List ℕ → S → DecryptState S
+  Chosen : ReaderState S StreamSegment → DecryptState S
+  Stopped : Cause → S → DecryptState S
+
+abbrev pub source_of : {S : Type 0} → DecryptState S → S
+source_of (Unread keys aad source) = source
+source_of (Chosen r) = r.source
+source_of (Stopped c source) = source
+
+-- the number of segments opened so far
+abbrev pub number_of : {S : Type 0} → DecryptState S → ℕ
+number_of (Unread keys aad source) = 0
+number_of (Chosen r) = r.number
+number_of (Stopped c source) = 0
+
+abbrev pub IsUnread : {S : Type 0} → DecryptState S → Type 0
+IsUnread (Unread keys aad source) = Unit {0}
+IsUnread _ = ⊥
+
+-- The first key under which the stream begins is chosen, and the read gave bytes of its first text.
+pub record GivesFirst (keys : List OpeningKey) (all : Option (List ℕ)) (seg : ℕ → Bool → List ℕ → List ℕ) (first size overhead : ℕ) (new : Moment) (before after : List ℕ) (n : ℕ) : Type 0 where
+  pub rest : Option (List ℕ)
+  pub chosen : IfSome all (λ X. Started keys X rest seg first size overhead)
+  pub faults : ℕ
+  pub gave : Gives seg first size (record { progress = Running; number = 0; pending = []; rest = rest; faults = faults }) new before after n
+
+-- what the first read is refused by, as a cause of later refusals
+abbrev pub cause_of : Kind → Cause
+cause_of ReadFault = cause.ReadFault
+cause_of _ = cause.NoMatchingKey
+
+-- the refusal of a first read, where the chosen key's reader is refused
+abbrev pub first_refusal : Kind → Kind
+first_refusal ReadFault = ReadFault
+first_refusal _ = NoMatchingKey
+
+-- each refusal of the first read
+abbrev pub FirstRefused : List OpeningKey → Option (List ℕ) → ℕ → ℕ → Kind → Type 0
+FirstRefused keys all before now NoMatchingKey = IfSome all (λ X. IsChosen keys X None)
+FirstRefused keys all before now ReadFault = Rose before now
+FirstRefused keys all before now _ = ⊥
+
+module _ {S : Type 0} (left : S → Option (List ℕ)) (faults : S → ℕ) where
+  -- what the first read to a buffer with room says
+  abbrev pub FirstMeans : List OpeningKey → S → DecryptState S → List ℕ → List ℕ → Result ℕ TinkError → Type 0
+  FirstMeans keys source (Chosen r) before after (Ok n) =
+      GivesFirst keys (left source) (seg_of segment_by r.opening) r.opening.first r.opening.size r.opening.overhead (moment_of left faults r) before after n
+  FirstMeans keys source (Stopped c now) before after (Err e) = (after ≡ before) × (c ≡ cause_of e.kind) × FirstRefused keys (left source) (faults source) (faults now) e.kind
+  FirstMeans keys source _ before after _ = ⊥
+
+  -- what a read says once a key is chosen
+  abbrev pub GoesOn : ReaderState S StreamSegment → DecryptState S → List ℕ → List ℕ → Result ℕ TinkError → Type 0
+  GoesOn old (Chosen new) before after r =
+      (new.opening ≡ old.opening) × ReadMeans (seg_of segment_by old.opening) old.opening.first old.opening.size old.opening.overhead (moment_of left faults old) (moment_of left faults new) before after r
+  GoesOn old _ before after r = ⊥
+
+  -- what a read says
+  abbrev pub DecryptMeans : DecryptState S → DecryptState S → List ℕ → List ℕ → Result ℕ TinkError → Type 0
+  DecryptMeans (Unread keys aad source) new [] after r = (r ≡ Ok 0) × (new ≡ Unread keys aad source) × (after ≡ [])
+  DecryptMeans (Unread keys aad source) new (b ∷ before) after r = FirstMeans (map (opening_key aad) keys) source new (b ∷ before) after r
+  DecryptMeans (Chosen old) new before after r = GoesOn old new before after r
+  DecryptMeans (Stopped c source) new before after r = (r ≡ Err (record { kind = FailedBefore c })) × (new ≡ Stopped c source) × (after ≡ before)

@@ -1,0 +1,207 @@
+//! Readers of a keyset's streams.
+
+ghost use Rattle.std.specs.Prelude.{◌≡◌, ◌≤◌, ◌<◌, [], length, drop, map, take, All, IfOk, MatchResult, vec_len, vec_capacity};
+ghost use Rattle.std.specs.Option.{ForSome};
+ghost use Rattle.std.specs.Io.KnownBytes.{prepend_known};
+ghost use Rattle.stream_model.specs.Cut.{numbered};
+ghost use Rattle.stream_model.specs.Key.{nonce_size};
+ghost use Rattle.stream_model.specs.Opening.{opening_key};
+ghost use Rattle.tink_streaming_aead.specs.DecryptReaders.{DecryptMeans, FirstRefused, GivesFirst, IsUnread, cause_of, first_refusal, number_of, source_of};
+ghost use Rattle.tink_streaming_aead.specs.DecryptReaders.DecryptState.{Unread};
+ghost use Rattle.tink_streaming_aead.specs.StreamKinds.{key_of};
+ghost use Rattle.tink_streaming_aead.specs.StreamSegments.{segment_by};
+ghost use Rattle.tink_streaming_aead.specs.TextReading.{Moment};
+ghost use Rattle.tink_streaming_aead.specs.declared.progress.Progress.TheVariants.{Ended};
+
+use crate::starting::{Trial, start};
+use crate::stream_kind::StreamKind;
+use crate::stream_segment::StreamSegment;
+use crate::text_reader::TextReader;
+use std::marker::Model;
+use std::mem;
+use tink_io::{Cause, Kind, Source, TinkError};
+use tink_primitives::DecryptingRead;
+
+// The keys of which one may open the stream, with its associated data and memory for the choice.
+#[derive(Drop)]
+pub struct Choice {
+    pub keys: Vec<StreamKind>,
+    pub data: Vec<u8>,
+    pub trial: Trial,
+    ghost unread: { trial.kept.filled ≡ 0 },
+    ghost buffer: { All (λ k. (key_of k).segment < vec_len trial.kept.buffer) keys.items },
+    ghost room: { All (λ k. (key_of k).segment ≤ vec_capacity trial.opened) keys.items },
+    ghost nonce: { All (λ k. nonce_size (key_of k) ≤ vec_len trial.nonce) keys.items },
+    ghost prefix: { 7 ≤ vec_capacity trial.prefix },
+}
+
+// How far a reader has come.
+#[derive(Drop)]
+pub enum Stage {
+    Unread(Choice),
+    Chosen(TextReader<StreamSegment>),
+    Stopped(Cause),
+}
+
+/// A reader of the text of a stream by the first of a keyset's keys, of those without a prefix, under which the stream
+/// begins. The first read chooses it.
+#[derive(Drop)]
+pub struct DecryptReader<S: Source> {
+    source: S,
+    stage: Stage,
+}
+
+impl<S: Source> Model for DecryptReader<S> {
+    ghost use Rattle.tink_streaming_aead.specs.DecryptReaders.{DecryptState};
+    ghost use Rattle.tink_streaming_aead.specs.DecryptStages.{IsSound, state_of};
+
+    ghost Value = { DecryptState S };
+
+    ghost view = { λ r. state_of r.stage r.source };
+
+    ghost invariant = { λ r. IsSound S.left r.stage r.source };
+}
+
+// Chooses the key of a stream, and gives the first bytes of its text.
+fn give_first<S: Source>(
+    choice: Choice,
+    source: &mut S,
+    buf: &mut [u8],
+) -> Result<(TextReader<StreamSegment>, usize), TinkError>
+    requires some { 0 < length buf.old }
+    ensures answer { MatchResult result
+        (λ given. GivesFirst (map (opening_key choice.data.items) (map key_of choice.keys.items)) (S.left source.old)
+        (numbered (segment_by given.0.reader.opener.decrypter) given.0.reader.opener.nonce_size given.0.reader.opener.prefix.items)
+        given.0.reader.opener.first given.0.reader.opener.size given.0.reader.opener.overhead
+        (record {
+          progress = given.0.reader.progress;
+          number = given.0.reader.segments;
+          pending = drop given.0.given given.0.reader.opened.items;
+          rest = prepend_known (take given.0.reader.filled given.0.reader.buffer.items) (S.left source.new);
+          faults = S.faults source.new;
+        })
+        buf.old buf.new given.1)
+        (λ e. (buf.new ≡ buf.old) × FirstRefused (map (opening_key choice.data.items) (map key_of choice.keys.items))
+        (S.left source.old) (S.faults source.old) (S.faults source.new) e.kind) }
+    ensures within { IfOk result (λ given. given.1 ≤ length buf.new) }
+    ensures at_end { IfOk result (λ given. given.0.reader.progress ≡ Ended
+        → ForSome (prepend_known (take given.0.reader.filled given.0.reader.buffer.items) (S.left source.new)) (λ xs. xs ≡ [])) }
+    ensures later { S.faults source.old ≤ S.faults source.new }
+    ensures same { S.same source.old source.new }
+{
+    let Choice { keys, data, trial } = choice;
+    let reader = start(&keys, &data, trial, source)?;
+    let mut text = TextReader { reader, given: 0 };
+    match text.read(source, buf) {
+        Ok(n) => Ok((text, n)),
+        Err(e) => Err(TinkError::new(first_refusal(e.kind))),
+    }
+}
+
+// The refusal of a first read, where the chosen key's reader is refused. The trial saw the segment open, so any but that of
+// the source comes where a source goes on after it had said that it was at its end.
+fn first_refusal(kind: Kind) -> Kind
+    ensures { result ≡ first_refusal kind }
+{
+    match kind {
+        Kind::ReadFault => Kind::ReadFault,
+        _ => Kind::NoMatchingKey,
+    }
+}
+
+// What a refusal of the first read stops a reader by.
+fn cause_of(kind: Kind) -> Cause
+    ensures { result ≡ cause_of kind }
+{
+    match kind {
+        Kind::ReadFault => Cause::ReadFault,
+        _ => Cause::NoMatchingKey,
+    }
+}
+
+impl<S: Source + Drop> DecryptReader<S> {
+    // A reader that has read nothing.
+    pub(crate) fn unread(choice: Choice, source: S) -> DecryptReader<S>
+        ensures { result ≡ Unread (map key_of choice.keys.items) choice.data.items source }
+    {
+        DecryptReader {
+            source,
+            stage: Stage::Unread(choice),
+        }
+    }
+
+    /// Gives the next bytes of the text, as many as are opened and `buf` has room for, and answers how many. The first
+    /// read to a buffer with room chooses the key, the first under which the stream begins: the source begins in its
+    /// header, and the first segment is that of some text. Then each read is that of the key's `Reader`. It takes no
+    /// memory.
+    ///
+    /// # Errors
+    /// `NoMatchingKey` where the stream begins under none of the keys; `ReadFault` where the source failed; those of
+    /// `Reader::read` behind the first segment; `FailedBefore` after another of these.
+    pub fn read(&mut self, buf: &mut [u8]) -> Result<usize, TinkError>
+        ensures answer { DecryptMeans S.left S.faults self.old self.new buf.old buf.new result }
+        ensures within { IfOk result (λ n. n ≤ length buf.new) }
+        ensures later { S.faults (source_of self.old) ≤ S.faults (source_of self.new) }
+        ensures same { S.same (source_of self.old) (source_of self.new) }
+    {
+        match &mut self.stage {
+            Stage::Chosen(text) => text.read(&mut self.source, buf),
+            Stage::Stopped(c) => Err(TinkError::new(Kind::FailedBefore(*c))),
+            Stage::Unread(_) => {
+                if buf.is_empty() {
+                    Ok(0)
+                } else {
+                    self.read_first(buf)
+                }
+            }
+        }
+    }
+
+    // Chooses the key, and gives the first bytes of the text.
+    fn read_first(&mut self, buf: &mut [u8]) -> Result<usize, TinkError>
+        requires unread { IsUnread self.old }
+        requires some { 0 < length buf.old }
+        ensures answer { DecryptMeans S.left S.faults self.old self.new buf.old buf.new result }
+        ensures within { IfOk result (λ n. n ≤ length buf.new) }
+        ensures later { S.faults (source_of self.old) ≤ S.faults (source_of self.new) }
+        ensures same { S.same (source_of self.old) (source_of self.new) }
+    {
+        let stage = mem::replace(&mut self.stage, Stage::Stopped(Cause::ReadFault));
+        let Stage::Unread(choice) = stage else {
+            unreachable!()
+        };
+        match give_first(choice, &mut self.source, buf) {
+            Ok((text, n)) => {
+                self.stage = Stage::Chosen(text);
+                Ok(n)
+            }
+            Err(e) => {
+                self.stage = Stage::Stopped(cause_of(e.kind));
+                Err(e)
+            }
+        }
+    }
+
+    /// The number of segments opened so far under the chosen key, and 0 before one is chosen.
+    pub fn segments(&self) -> u64
+        ensures { result ≡ number_of self.now }
+    {
+        match &self.stage {
+            Stage::Chosen(text) => text.reader.segments(),
+            _ => 0,
+        }
+    }
+
+    /// The source, as the last call left it. What is held, or opened and not given, is dropped.
+    pub fn into_inner(self) -> S
+        ensures { result ≡ source_of self }
+    {
+        self.source
+    }
+}
+
+impl<S: Source + Drop> DecryptingRead for DecryptReader<S> {
+    fn read(&mut self, buf: &mut [u8]) -> Result<usize, TinkError> {
+        DecryptReader::read(self, buf)
+    }
+}
