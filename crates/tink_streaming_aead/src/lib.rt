@@ -103,6 +103,8 @@ mod template_tests;
 mod text_reader;
 mod trying;
 mod whole;
+#[cfg(test)]
+mod wrapped_tests;
 mod writer;
 #[cfg(test)]
 mod writer_tests;
