@@ -68,8 +68,15 @@ fn sealer_of<T: DerivesStreams>(
     }
 }
 
-// A writer of a new stream whose header was written to a sink.
-fn begin<T: DerivesStreams, K: Sink>(
+/// A writer of a new stream whose header was written to a sink, before any text. Salt and prefix
+/// are the first draws: 23 of them, or 39 where the derived key has 32 bytes.
+///
+/// # Errors
+/// `OutOfMemory` before anything was drawn or written; `RandomFault` exactly where fewer draws are
+/// left than these, which stay; `UnknownHash` where HKDF's hash is unknown and `UnsupportedHash`
+/// where it is SHA-224, of which the draws were taken and nothing was written; `WriteFault` where
+/// the sink failed, and has a front of the header.
+pub fn begin_stream<T: DerivesStreams, K: Sink>(
     alloc: Global,
     key: &T,
     draws: &mut Draws,
@@ -107,7 +114,7 @@ pub fn new_encrypting_writer<T: DerivesStreams, K: Sink + Drop>(
     ensures same { MatchResult result (λ made. K.same w made.sink) (λ refused. K.same w refused.inner) }
 {
     let mut sink = w;
-    match begin(alloc, key, draws, &mut sink, aad) {
+    match begin_stream(alloc, key, draws, &mut sink, aad) {
         Ok(inner) => Ok(Writer::over(sink, inner)),
         Err(error) => Err(Refused { error, inner: sink }),
     }

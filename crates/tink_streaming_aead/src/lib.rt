@@ -16,6 +16,7 @@ pub use ctr_hmac_segment::{
     AES_CTR_HMAC_NONCE_SIZE_IN_BYTES, CtrHmacSegment,
 };
 pub use decrypt_reader::DecryptReader;
+pub use encrypting::begin_stream;
 pub use factory::{WrappedStreamingAead, new};
 pub use gcm_segment::{
     AES_GCM_HKDF_NONCE_PREFIX_SIZE_IN_BYTES, AES_GCM_HKDF_NONCE_SIZE_IN_BYTES,

@@ -5,7 +5,7 @@ use Rattle.stream_model.specs.Sealing.{drawn}
 use Rattle.tink_streaming_aead.specs.Encrypting.{DrewHeader}
 use Rattle.tink_streaming_aead.proofs.HeaderFacts.{enough_drawn}
 use Rattle.tink_streaming_aead.proofs.NewWriterSteps.{front_failed, hash_refused, new_stream}
-use Rattle.tink_streaming_aead.proofs.encrypting.begin.Goals as goal
+use Rattle.tink_streaming_aead.proofs.encrypting.begin_stream.Goals as goal
 
 pub returns-in_err-cipher-clause-answer : goal.returns-in_err-cipher-clause-answer
 returns-in_err-cipher-clause-answer g c =
