@@ -1,32 +1,30 @@
 -- From the steps of a seal to its answer.
-use Rattle.std.proofs.Common.{◌≡◌, inl, inr, ◌≤◌, ◌<◌, ◌+◌, ◌-◌, ◌^◌, ℕ, zero, suc, Bool, List, [], ◌∷◌, ◌++◌, length, take, drop, refl, sym, ap, subst, ◌∙◌, arith, Some, get_or, add-one}
+use Rattle.std.proofs.Common.{◌≡◌, inl, inr, ◌≤◌, ◌<◌, ◌-◌, ◌^◌, ℕ, Bool, List, [], ◌++◌, length, take, refl, sym, ap, subst, ◌∙◌, arith, Some}
 use Rattle.std.specs.declared.option.Option.{Option}
-use Rattle.std.proofs.lemmas.List.{take-append-drop, length-take-le, take-take, drop-take}
 use Rattle.std.specs.Prelude.{Result, Ok, Err}
-use Rattle.std.specs.Io.KnownBytes.{Appends, Consumes, IsAtEnd}
-use Rattle.std.proofs.KnownBytes.{Appends-trans, Consumes-nil}
+use Rattle.std.specs.Io.KnownBytes.{Appends, Consumes, IsAtEnd, Keeps}
+use Rattle.std.proofs.KnownBytes.{Appends-trans, Consumes-nil, Keeps-refl}
 use Rattle.tink_io.specs.Faults.{Rose}
 use Rattle.tink_io.specs.Written.{AppendsFront}
 use Rattle.tink_io.proofs.FaultLemmas.{Rose-later, Rose-earlier}
 use Rattle.tink_io.proofs.WrittenLemmas.{then_front, front_of_more}
 use Rattle.tink_io.specs.declared.error.Kind.{Kind}
-use Rattle.tink_io.specs.declared.error.Kind.TheVariants.{OutOfMemory, ReadFault, WriteFault, RandomFault, UnsupportedHash, TooManySegments, FailedBefore}
+use Rattle.tink_io.specs.declared.error.Kind.TheVariants.{OutOfMemory, ReadFault, WriteFault, RandomFault, UnknownHash, UnsupportedHash, TooManySegments, FailedBefore}
 use Rattle.tink_io.specs.declared.error.TinkError.{TinkError}
-use Rattle.stream_model.specs.Cut.{full_chunks, numbered, sealed, unmarked}
-use Rattle.stream_model.specs.Key.{StreamKey, front, header_length, first_room, room, keys_of, nonce_size, segment_at, segment_of}
-use Rattle.tink_streaming_aead.specs.declared.stream_segment.StreamSegment.{StreamSegment}
-use Rattle.tink_streaming_aead.specs.StreamSegments.{segment_by}
-use Rattle.tink_streaming_aead.proofs.DerivedKeys.{derived_segments}
-use Rattle.tink_streaming_aead.specs.StreamingKeys.{IsDerived}
-use Rattle.stream_model.specs.Sealing.{stream, part, longest_part, sealed_under, unmarked_under, drawn, salt_of, prefix_of}
+use Rattle.stream_model.specs.Cut.{full_chunks, sealed, unmarked}
+use Rattle.stream_model.specs.Key.{StreamKey, derived_bytes_of, first_room, front, keys_of, room, segment_at}
+use Rattle.tink_streaming_aead.proofs.DerivedKeys.{derives_nothing}
+use Rattle.tink_streaming_aead.specs.Encrypting.{DrewHeader, IsNewStream, NewWriterRefused}
+use Rattle.tink_streaming_aead.specs.StreamingKeys.{deriving_hash}
+use Rattle.stream_model.specs.Sealing.{stream, part, longest_part, sealed_under, unmarked_under, salt_of, prefix_of}
 use Rattle.stream_model.proofs.SealingFacts.{length-chunks}
 use Rattle.tink_streaming_aead.specs.Writing.{Moment, Wrote, WroteFront, WroteAll, ClosedBy, ClosedShort, CloseMeans, CloseRefused}
 use Rattle.tink_streaming_aead.proofs.WritingFacts.{IsFresh, fresh_filled, closed_whole, closed_front, stops_front}
 use Rattle.loading_model.specs.Loading.{Loaded, load}
 use Rattle.tink_tool.specs.declared.report.Report.{Report}
-use Rattle.tink_tool.specs.Outside.{Outside}
+use Rattle.tink_tool.specs.Outside.{Outside, IsUntouched}
 use Rattle.tink_tool.specs.SealAnswers.{IsSealed, SourceFailed, SinkFailed, IsTooLong, StreamMeans, StreamRefused, SealMeans, SealRefused}
-use Rattle.tink_tool.specs.SealSteps.{IsPoured, PourRefused, IsUnderWay, UnderMeans, UnderRefused}
+use Rattle.tink_tool.specs.SealSteps.{HasNoKeys, IsPoured, PourRefused, IsUnderWay, UnderMeans, UnderRefused, kind_not_begun}
 
 -- a key, its draws and the keys derived from them
 module _ (k : StreamKey) (aad salt prefix keys : List ℕ) (e : keys_of k aad salt ≡ Some keys) where
@@ -148,20 +146,6 @@ under_keyset keyset aad draws left_draws l old new (Err err) e u = go err.kind u
     go TooManySegments r = record { loaded = l; loads = e; enough = r.enough; rest = r.rest; derives = r.derives; means = r.means }
     go _ r = absurd r
 
--- the header is the front of a stream with nothing before it
-pub header_front : (k : StreamKey) (H : List ℕ) → k.out ≡ [] → length H ≡ header_length k → get_or H 0 0 ≡ header_length k → H ≡ front k (take k.derived (drop 1 H)) (drop (k.derived + 1) H)
-header_front k [] out l m = absurd (omega arith)
-header_front k (x ∷ H) out l m =
-    let rest : drop (k.derived + 1) (x ∷ H) ≡ drop k.derived H = rw add-one refl in
-    let whole : H ≡ take k.derived H ++ drop (k.derived + 1) (x ∷ H) = sym (take-append-drop k.derived H) ∙ ap (λ ys. take k.derived H ++ ys) (sym rest) in
-    ap (λ b. b ∷ H) m ∙ ap (λ ys. header_length k ∷ ys) whole ∙ ap (λ o. o ++ (header_length k ∷ take k.derived H ++ drop (k.derived + 1) (x ∷ H))) (sym out)
-
--- the derived cipher's segments are the key's
-pub seg_is : (k : StreamKey) (aad salt prefix : List ℕ) (cipher encrypter : StreamSegment) (size : ℕ) (given : List ℕ) (d : IsDerived k aad salt cipher) → encrypter ≡ cipher → size ≡ nonce_size k → given ≡ prefix
-    → numbered (segment_by encrypter) size given ≡ segment_at k d.keys prefix
-seg_is k aad salt prefix cipher encrypter size given d e s p =
-    ap (λ c. numbered (segment_by c) size given) e ∙ ap (λ f. numbered f size given) (derived_segments k aad salt cipher d) ∙ ap (λ n. numbered (segment_of k.kind k.derived d.keys) n given) s ∙ ap (numbered (segment_of k.kind k.derived d.keys) (nonce_size k)) p
-
 -- what pouring refused
 pub pour_refusal : (k : StreamKey) (aad salt prefix keys : List ℕ) (e : keys_of k aad salt ≡ Some keys) (seg : ℕ → Bool → List ℕ → List ℕ) (a b : ℕ) (left after got : Option (List ℕ)) (reads again writes : ℕ) (m n : Moment) (kind : Kind)
     → seg ≡ segment_at k keys prefix → a ≡ first_room k → b ≡ room k → IsFresh m → Appends got m.got (front k salt prefix) → writes ≤ m.faults → PourRefused seg a b left after reads again m n kind
@@ -201,21 +185,6 @@ close_answer k aad salt prefix keys e seg a b left after got reads again writes 
         sealed_all k aad salt prefix keys e _ _ m n o is_poured.text report f w is_poured.wrote by refl is_poured.read end x (y ∙ is_poured.bytes_are) is_poured.wrote.few
     closed (inr c) report x y = absurd (let h = sym is_poured.wrote.is_open ∙ c.0 in cc)
 
--- the header could not be written whole
-pub header_refusal : (k : StreamKey) (aad salt prefix keys : List ℕ) (e : keys_of k aad salt ≡ Some keys) (left got got_again : Option (List ℕ)) (reads writes again : ℕ) → AppendsFront got got_again (front k salt prefix) → Rose writes again
-    → SinkFailed k aad salt prefix (record { left = left; read_faults = reads; got = got; write_faults = writes }) (record { left = left; read_faults = reads; got = got_again; write_faults = again })
-header_refusal k aad salt prefix keys e left got got_again reads writes again w rose = front_failed k aad salt prefix keys e _ _ refl w rose
-
--- a drawn header: its mark, its salt and its prefix
-pub drawn_header : (k : StreamKey) (draws h : List ℕ) (n : ℕ) → n ≡ header_length k → drawn k ≤ length draws → take n h ≡ header_length k ∷ take (drawn k) draws
-    → (length (take n h) ≡ header_length k) × (get_or (take n h) 0 0 ≡ header_length k) × (take k.derived (drop 1 (take n h)) ≡ salt_of k draws) × (drop (k.derived + 1) (take n h) ≡ prefix_of k draws)
-drawn_header k draws h n e enough t = (
-  ap length t ∙ omega (arith, length-take-le (drawn k) draws enough),
-  ap (λ xs. get_or xs 0 0) t,
-  ap (λ xs. take k.derived (drop 1 xs)) t ∙ take-take k.derived (drawn k) draws (omega arith),
-  ap (drop (k.derived + 1)) t ∙ rw add-one (drop-take k.derived 7 draws),
-)
-
 -- a stream's sealing is under way whatever it answers
 pub under_way : (k : StreamKey) (aad draws left_draws : List ℕ) (old new : Outside) (answer : Result Report TinkError) → IsUnderWay k aad draws left_draws old new answer → UnderMeans k aad draws left_draws old new answer
 under_way k aad draws left_draws old new (Ok report) w = w
@@ -227,19 +196,71 @@ under_way k aad draws left_draws old new (Err e) w = go e.kind w.means
     go TooManySegments m = w
     go _ m = absurd m
 
--- the same under a salt and a prefix that were drawn
-pub drawn_stream : (k : StreamKey) (aad draws left_draws salt prefix keys : List ℕ) (old new : Outside) (answer : Result Report TinkError) → drawn k ≤ length draws → left_draws ≡ drop (drawn k) draws → salt ≡ salt_of k draws → prefix ≡ prefix_of k draws
-    → keys_of k aad salt ≡ Some keys → StreamMeans k aad salt prefix old new answer → UnderMeans k aad draws left_draws old new answer
-drawn_stream k aad draws left_draws salt prefix keys old new answer enough rest s p e m = under_way k aad draws left_draws old new answer (record {
-  enough = enough;
-  rest = rest;
-  derives = λ none. let some = ap (keys_of k aad) (sym s) ∙ e in cc;
-  means = subst (λ (x : List ℕ). StreamMeans k aad x (prefix_of k draws) old new answer) s (subst (λ (x : List ℕ). StreamMeans k aad salt x old new answer) p m);
-})
+-- the draws were taken and the hash derives no keys
+no_keys : (k : StreamKey) (aad draws left_draws : List ℕ) (old new : Outside) (kind : Kind) → DrewHeader k draws left_draws → deriving_hash k.hkdf_hash ≡ Err kind → IsUntouched old new → HasNoKeys k aad draws left_draws old new
+no_keys k aad draws left_draws old new kind drew e untouched = record {
+  enough = drew.enough;
+  rest = drew.rest;
+  none = derives_nothing k.hkdf_hash kind k.main (salt_of k draws) aad (derived_bytes_of k.kind k.derived) e;
+  untouched = untouched;
+}
 
--- what is not refused for want of draws has enough
-pub enough_drawn : (n m : ℕ) → (n < m → ⊥) → m ≤ n
-enough_drawn zero zero h = omega arith
-enough_drawn zero (suc m) h = absurd (h (omega arith))
-enough_drawn (suc n) zero h = omega arith
-enough_drawn (suc n) (suc m) h = let rest : m ≤ n = enough_drawn n m (λ l. h (omega arith)) in omega arith
+-- the stream was not begun, and nothing was read
+module _ {W : Type 0} (got : W → Option (List ℕ)) (faults : W → ℕ) (k : StreamKey) (aad draws left_draws : List ℕ) (old new : W) (left : Option (List ℕ)) (reads : ℕ) where
+  abbrev before : Outside
+  before = record { left = left; read_faults = reads; got = got old; write_faults = faults old }
+
+  abbrev after : Outside
+  after = record { left = left; read_faults = reads; got = got new; write_faults = faults new }
+
+  untouched : new ≡ old → IsUntouched before after
+  untouched s = record { left = Keeps-refl left; got = subst (λ (w : W). Keeps (got old) (got w)) (sym s) (Keeps-refl (got old)) }
+
+  refusal : (kind : Kind) → NewWriterRefused got faults k aad draws left_draws old new kind
+      → UnderMeans k aad draws left_draws before after (Err (record { kind = kind_not_begun kind }))
+  refusal OutOfMemory r = record { untouched = untouched r.same; undrawn = r.undrawn }
+  refusal RandomFault r = record { few = r.few; untouched = untouched r.untouched.same; undrawn = r.untouched.undrawn }
+  refusal UnknownHash r = no_keys k aad draws left_draws before after UnknownHash r.drew r.hash (untouched r.same)
+  refusal UnsupportedHash r = no_keys k aad draws left_draws before after UnsupportedHash r.drew r.hash (untouched r.same)
+  refusal WriteFault r = record {
+    enough = r.drew.enough;
+    rest = r.drew.rest;
+    derives = λ none. let some = r.keys_are in cc;
+    means = front_failed k aad (salt_of k draws) (prefix_of k draws) r.keys r.keys_are before after refl r.begun r.rose;
+  }
+  refusal _ r = absurd r
+
+  pub begin_refusal : (kind : Kind) (e : TinkError) → e ≡ record { kind = kind_not_begun kind } → NewWriterRefused got faults k aad draws left_draws old new kind
+      → UnderMeans k aad draws left_draws (record { left = left; read_faults = reads; got = got old; write_faults = faults old }) (record { left = left; read_faults = reads; got = got new; write_faults = faults new }) (Err e)
+  begin_refusal kind e same r = subst (λ (x : TinkError). UnderMeans k aad draws left_draws before after (Err x)) (sym same) (refusal kind r)
+
+-- a stream that was begun
+module _ (k : StreamKey) (aad draws left_draws : List ℕ) (got : Option (List ℕ)) (seg : ℕ → Bool → List ℕ → List ℕ) (a b : ℕ) (m : Moment) (begun : IsNewStream k aad draws left_draws got seg a b m) where
+  fresh : IsFresh m
+  fresh = record { mode = begun.is_open; number = begun.number; held = begun.held }
+
+  -- what its sealing answers is what the seal answers
+  begun_answer : (old new : Outside) (answer : Result Report TinkError) → StreamMeans k aad (salt_of k draws) (prefix_of k draws) old new answer → UnderMeans k aad draws left_draws old new answer
+  begun_answer old new answer means = under_way k aad draws left_draws old new answer (record { enough = begun.drew.enough; rest = begun.drew.rest; derives = λ none. let some = begun.keys_are in cc; means = means })
+
+  -- pouring was refused
+  pub not_poured : (left after : Option (List ℕ)) (reads again writes : ℕ) (n : Moment) (e : TinkError) → writes ≤ m.faults → PourRefused seg a b left after reads again m n e.kind
+      → UnderMeans k aad draws left_draws (record { left = left; read_faults = reads; got = got; write_faults = writes }) (record { left = after; read_faults = again; got = n.got; write_faults = n.faults }) (Err e)
+  not_poured left after reads again writes n e later r =
+      begun_answer _ _ (Err e)
+      (pour_refusal k aad (salt_of k draws) (prefix_of k draws) begun.keys begun.keys_are seg a b left after got reads again writes m n e.kind begun.segments begun.first_is begun.later_is fresh begun.written later r)
+
+  -- all was poured, and the writer was closed or not
+  module _ (left after : Option (List ℕ)) (reads again writes : ℕ) (n o : Moment) (bytes : ℕ) (poured : IsPoured seg a b left after m n bytes) (end : IsAtEnd after) (later : writes ≤ n.faults) where
+    abbrev answers : ((kind : Kind) → CloseRefused seg n o kind → StreamRefused k aad (salt_of k draws) (prefix_of k draws) (record { left = left; read_faults = reads; got = got; write_faults = writes }) (record { left = after; read_faults = again; got = o.got; write_faults = o.faults }) kind)
+        × (CloseMeans seg n o (Ok tt) → (report : Report) → report.segments ≡ o.number → report.bytes ≡ bytes
+        → IsSealed k aad (salt_of k draws) (prefix_of k draws) (record { left = left; read_faults = reads; got = got; write_faults = writes }) (record { left = after; read_faults = again; got = o.got; write_faults = o.faults }) report)
+    answers = close_answer k aad (salt_of k draws) (prefix_of k draws) begun.keys begun.keys_are seg a b left after got reads again writes m n o bytes begun.segments begun.first_is begun.later_is fresh begun.written poured end later
+
+    pub not_closed : (e : TinkError) → CloseRefused seg n o e.kind
+        → UnderMeans k aad draws left_draws (record { left = left; read_faults = reads; got = got; write_faults = writes }) (record { left = after; read_faults = again; got = o.got; write_faults = o.faults }) (Err e)
+    not_closed e r = begun_answer _ _ (Err e) (answers.0 e.kind r)
+
+    pub closed : CloseMeans seg n o (Ok tt) → (report : Report) → report.segments ≡ o.number → report.bytes ≡ bytes
+        → UnderMeans k aad draws left_draws (record { left = left; read_faults = reads; got = got; write_faults = writes }) (record { left = after; read_faults = again; got = o.got; write_faults = o.faults }) (Ok report)
+    closed c report segments_are bytes_are = begun_answer _ _ (Ok report) (answers.1 c report segments_are bytes_are)

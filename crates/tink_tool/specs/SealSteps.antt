@@ -4,7 +4,7 @@ use Rattle.std.specs.declared.option.Option.{Option}
 use Rattle.std.specs.Io.KnownBytes.{Consumes, IsAtEnd}
 use Rattle.tink_io.specs.Faults.{Rose}
 use Rattle.tink_io.specs.declared.error.Kind.{Kind}
-use Rattle.tink_io.specs.declared.error.Kind.TheVariants.{OutOfMemory, ReadFault, WriteFault, RandomFault, UnsupportedHash, TooManySegments}
+use Rattle.tink_io.specs.declared.error.Kind.TheVariants.{OutOfMemory, ReadFault, WriteFault, RandomFault, UnknownHash, UnsupportedHash, TooManySegments}
 use Rattle.tink_io.specs.declared.error.TinkError.{TinkError}
 use Rattle.stream_model.specs.Key.{StreamKey, keys_of}
 use Rattle.stream_model.specs.Sealing.{drawn, salt_of, prefix_of}
@@ -35,6 +35,11 @@ PourRefused seg a b before after reads read_again old new _ = ⊥
 abbrev pub PourMeans : (ℕ → Bool → List ℕ → List ℕ) → ℕ → ℕ → Option (List ℕ) → Option (List ℕ) → ℕ → ℕ → Moment → Moment → Result ℕ TinkError → Type 0
 PourMeans seg a b before after reads read_again old new (Ok bytes) = IsPoured seg a b before after old new bytes × IsAtEnd after
 PourMeans seg a b before after reads read_again old new (Err e) = PourRefused seg a b before after reads read_again old new e.kind
+
+-- by which kind a seal is refused whose stream was not begun by some kind
+abbrev pub kind_not_begun : Kind → Kind
+kind_not_begun UnknownHash = UnsupportedHash
+kind_not_begun kind = kind
 
 -- salt and prefix were drawn and keys derived, and this is what the stream's sealing says
 pub record IsUnderWay (k : StreamKey) (aad draws left_draws : List ℕ) (old new : Outside) (answer : Result Report TinkError) : Type 0 where
