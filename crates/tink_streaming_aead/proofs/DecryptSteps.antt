@@ -1,5 +1,5 @@
 -- From the steps of a first read to its answer.
-use Rattle.std.proofs.Common.{◌≡◌, ◌≤◌, ℕ, Bool, List, [], ◌∷◌, take, drop, ap, subst, ◌∙◌, arith, Some, None, IfSome}
+use Rattle.std.proofs.Common.{◌≡◌, ◌≤◌, ℕ, Bool, List, [], ◌∷◌, take, drop, refl, ap, subst, ◌∙◌, arith, Some, None, IfSome}
 use Rattle.std.specs.declared.option.Option.{Option}
 use Rattle.std.specs.Io.KnownBytes.{prepend_known}
 use Rattle.std.proofs.KnownBytes.{prepend_known-nil}
@@ -10,9 +10,10 @@ use Rattle.stream_model.specs.Cut.{cut}
 use Rattle.stream_model.specs.Agree.{Agree}
 use Rattle.stream_model.specs.Opening.{AgreeBy, FirstAgrees, IsChosen, OpeningKey, chunks_of}
 use Rattle.tink_streaming_aead.specs.Choosing.{Started, StartRefused}
-use Rattle.tink_streaming_aead.specs.DecryptReaders.{FirstRefused, first_refusal}
-use Rattle.tink_streaming_aead.specs.TextReading.{Gives, Moment, ReadRefused}
+use Rattle.tink_streaming_aead.specs.DecryptReaders.{FirstRefused, GivesFirst, first_refusal}
+use Rattle.tink_streaming_aead.specs.TextReading.{Gave, Gives, Moment, ReadRefused}
 use Rattle.tink_streaming_aead.specs.declared.progress.Progress.TheVariants.{Running}
+use Rattle.tink_streaming_aead.proofs.TextLaws.{gave_more, gave_none}
 use Rattle.tink_streaming_aead.proofs.ChosenFacts.{chosen_begins, stream_agreed}
 
 -- nothing is held of what was not read
@@ -64,3 +65,10 @@ fresh_gives seg a b m n before after count = fresh_moment (λ x. Gives seg a b x
 pub fresh_refused : (seg : ℕ → Bool → List ℕ → List ℕ) (a b overhead : ℕ) (m n : Moment) (room : ℕ) (kind : Kind) → m.progress ≡ Running → m.number ≡ 0 → m.pending ≡ [] → ReadRefused seg a b overhead m n room kind
     → ReadRefused seg a b overhead (record { progress = Running; number = 0; pending = []; rest = m.rest; faults = m.faults }) n room kind
 fresh_refused seg a b overhead m n room kind = fresh_moment (λ x. ReadRefused seg a b overhead x n room kind) m
+
+-- a first read has given the front of the text behind the header
+pub first_gave : (keys : List OpeningKey) (all : Option (List ℕ)) (seg : ℕ → Bool → List ℕ → List ℕ) (a b overhead : ℕ) (new : Moment) (before after : List ℕ) (n : ℕ) (first : GivesFirst keys all seg a b overhead new before after n)
+    → Gave seg a b first.rest (take n after) new
+first_gave keys all seg a b overhead new before after n first =
+    let m : Moment = record { progress = Running; number = 0; pending = []; rest = first.rest; faults = first.faults } in
+    gave_more seg a b first.rest [] m new before after n (gave_none seg a b m refl refl) first.gave

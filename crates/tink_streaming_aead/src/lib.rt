@@ -36,7 +36,7 @@ pub use opening::{Opener, open_front, open_held};
 pub use progress::Progress;
 pub use reader::{Reader, ReaderParams};
 pub use reading::SegmentReader;
-pub use reading_laws::{law_empty_buffer, law_for_good, law_whole_text};
+pub use reading_laws::{law_empty_buffer, law_first_read, law_for_good, law_whole_text};
 pub use registering::init;
 pub use segment_traits::{SegmentDecrypter, SegmentEncrypter};
 pub use starting::{Trial, start};

@@ -4,6 +4,8 @@ ghost use Rattle.tink_io.specs.declared.error.Cause.{Cause};
 ghost use Rattle.tink_io.specs.declared.error.Kind.TheVariants.{FailedBefore};
 ghost use Rattle.tink_io.specs.declared.error.TinkError.{TinkError};
 ghost use Rattle.tink_streaming_aead.specs.declared.progress.Progress.TheVariants.{Failed};
+ghost use Rattle.stream_model.specs.Opening.{OpeningKey};
+ghost use Rattle.tink_streaming_aead.specs.DecryptReaders.{GivesFirst};
 ghost use Rattle.tink_streaming_aead.specs.Reading.{HasNotFailed, NothingComes};
 ghost use Rattle.tink_streaming_aead.specs.TextReading.{Moment, AtEnd, ReadMeans, Gave, IsWhole, IsTextOf, IsLongest, of_segments};
 
@@ -36,4 +38,11 @@ pub fn law_whole_text()
         → ((i : ℕ) (last : Bool) (t : List ℕ) → length (seg i last t) ≡ length t + o) → o < a → a ≤ b → IsWhole seg a b all given → IsTextOf seg (a - o) (b - o) all given }
     ensures stopped { (seg : ℕ → Bool → List ℕ → List ℕ) (a b : ℕ) (all : Option (List ℕ)) (given : List ℕ) (m : Moment)
         → Gave seg a b all given m → m.pending ≡ [] → NothingComes seg a b (of_segments m) → IsLongest seg a b all given }
+{}
+
+/// The first read of a keyset's reader that is Ok has chosen the first key under which the stream begins, and has given the
+/// front of the text of the key's segments behind the header. Later reads go on from there, as `law_whole_text` says.
+pub fn law_first_read()
+    ensures gave { (keys : List OpeningKey) (all : Option (List ℕ)) (seg : ℕ → Bool → List ℕ → List ℕ) (a b overhead : ℕ) (new : Moment) (before after : List ℕ) (n : ℕ)
+        → (first : GivesFirst keys all seg a b overhead new before after n) → Gave seg a b first.rest (take n after) new }
 {}

@@ -1,5 +1,5 @@
 -- From what a reader under the chosen key finds to what an open answers.
-use Rattle.std.proofs.Common.{◌≡◌, ◌≤◌, ◌<◌, ◌+◌, ◌-◌, ◌^◌, ℕ, zero, suc, Bool, List, [], ◌∷◌, length, take, drop, refl, sym, subst, arith, Some, None, IfSome}
+use Rattle.std.proofs.Common.{◌≡◌, ◌≤◌, ◌<◌, ◌+◌, ◌^◌, ℕ, zero, suc, Bool, List, [], ◌∷◌, length, take, drop, refl, sym, subst, arith, Some, None, IfSome}
 use Rattle.std.specs.declared.option.Option.{Option}
 use Rattle.std.specs.Prelude.{Result, Ok, Err, IsSome}
 use Rattle.std.specs.Io.KnownBytes.{Appends, Keeps, prepend_known}
@@ -18,7 +18,7 @@ use Rattle.loading_model.specs.Loading.{Loaded, load}
 use Rattle.tink_tool.specs.declared.report.Report.{Report}
 use Rattle.tink_tool.specs.Outside.{Outside}
 use Rattle.tink_tool.specs.OpenAnswers.{IsOfChosen, AgreesUntil, Lead, AreTextsBy, chunk_of, IsOpened, IsBroken, StreamRefused, StreamMeans, Opening, OpenMeans, OpenRefused, opening_keys}
-use Rattle.tink_tool.specs.OpenSteps.{IsReadOut, StopsAt, Breaks, HasShort, HasLong, HasMore, ReaderRefused, ReaderMeans, UnderRefused, OpensUnder}
+use Rattle.tink_tool.specs.OpenSteps.{IsReadOut, Breaks, HasShort, HasLong, HasMore, ReaderRefused, ReaderMeans, UnderRefused, OpensUnder}
 use Rattle.tink_tool.proofs.OpenLemmas.{kept_front}
 
 -- nothing is held before the first read
