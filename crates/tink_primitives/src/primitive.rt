@@ -1,5 +1,7 @@
 //! A primitive of any sort.
 
+ghost use Rattle.std.specs.Prelude.{◌≡◌};
+ghost use Rattle.tink_io.specs.declared.error.Kind.TheVariants.{WrongPrimitive};
 ghost use Rattle.tink_primitives.specs.Meaning.{Gives};
 ghost use Rattle.tink_primitives.specs.Sorts.{as_aead, as_deterministic_aead, as_hybrid_decrypt, as_hybrid_encrypt, as_mac, as_prf, as_signer, as_streaming_aead, as_verifier};
 
@@ -22,13 +24,20 @@ pub enum Primitive<K: Kinds> {
 }
 
 impl<K: Kinds> Primitive<K> {
+    // Gives a primitive of another sort up, and says so.
+    fn into_wrong(self) -> TinkError
+        ensures value { result ≡ record { kind = WrongPrimitive } }
+    {
+        TinkError::new(Kind::WrongPrimitive)
+    }
+
     /// The AEAD, or `WrongPrimitive` where it is of another sort.
     pub fn into_aead(self) -> Result<K::Aead, TinkError>
         ensures value { Gives result (as_aead self) }
     {
         match self {
             Primitive::Aead(p) => Ok(p),
-            _ => Err(TinkError::new(Kind::WrongPrimitive)),
+            other => Err(other.into_wrong()),
         }
     }
 
@@ -38,7 +47,7 @@ impl<K: Kinds> Primitive<K> {
     {
         match self {
             Primitive::DeterministicAead(p) => Ok(p),
-            _ => Err(TinkError::new(Kind::WrongPrimitive)),
+            other => Err(other.into_wrong()),
         }
     }
 
@@ -48,7 +57,7 @@ impl<K: Kinds> Primitive<K> {
     {
         match self {
             Primitive::HybridDecrypt(p) => Ok(p),
-            _ => Err(TinkError::new(Kind::WrongPrimitive)),
+            other => Err(other.into_wrong()),
         }
     }
 
@@ -58,7 +67,7 @@ impl<K: Kinds> Primitive<K> {
     {
         match self {
             Primitive::HybridEncrypt(p) => Ok(p),
-            _ => Err(TinkError::new(Kind::WrongPrimitive)),
+            other => Err(other.into_wrong()),
         }
     }
 
@@ -68,7 +77,7 @@ impl<K: Kinds> Primitive<K> {
     {
         match self {
             Primitive::Mac(p) => Ok(p),
-            _ => Err(TinkError::new(Kind::WrongPrimitive)),
+            other => Err(other.into_wrong()),
         }
     }
 
@@ -78,7 +87,7 @@ impl<K: Kinds> Primitive<K> {
     {
         match self {
             Primitive::Prf(p) => Ok(p),
-            _ => Err(TinkError::new(Kind::WrongPrimitive)),
+            other => Err(other.into_wrong()),
         }
     }
 
@@ -88,7 +97,7 @@ impl<K: Kinds> Primitive<K> {
     {
         match self {
             Primitive::Signer(p) => Ok(p),
-            _ => Err(TinkError::new(Kind::WrongPrimitive)),
+            other => Err(other.into_wrong()),
         }
     }
 
@@ -98,7 +107,7 @@ impl<K: Kinds> Primitive<K> {
     {
         match self {
             Primitive::StreamingAead(p) => Ok(p),
-            _ => Err(TinkError::new(Kind::WrongPrimitive)),
+            other => Err(other.into_wrong()),
         }
     }
 
@@ -108,7 +117,7 @@ impl<K: Kinds> Primitive<K> {
     {
         match self {
             Primitive::Verifier(p) => Ok(p),
-            _ => Err(TinkError::new(Kind::WrongPrimitive)),
+            other => Err(other.into_wrong()),
         }
     }
 }

@@ -1,0 +1,102 @@
+#!/usr/bin/env bash
+# Runs the whole gate from nothing on a clone of the last commit and prints what it cost: the
+# processor seconds of each crate's proof, of its tests, of its must-fail edits and of the check
+# that these begin with, the dearest checks, the sum, and the wall clock. docs/PROVING.md has the
+# budget. Run nothing beside it. The first word, if there is one, is a file for the gate's output.
+set -euo pipefail
+root=$(dirname -- "$(dirname -- "$(readlink -f -- "${BASH_SOURCE[0]}")")")
+folder=$(mktemp -d)
+trap 'rm -rf "$folder"' EXIT
+git clone -q "$root" "$folder/clone"
+log=${1:-$folder/log}
+: >"$log"
+log=$(readlink -f -- "$log")
+
+cd "$folder/clone"
+python3 - "$log" <<'PY'
+import collections, os, re, subprocess, sys, time
+
+tick = os.sysconf("SC_CLK_TCK")
+
+
+def parent(pid):
+    with open(f"/proc/{pid}/stat") as it:
+        return int(it.read().rsplit(")", 1)[1].split()[1])
+
+
+def is_below(pid, top):
+    """Whether the process was begun by this run, and not by another."""
+    while pid > 1 and pid != top:
+        pid = parent(pid)
+    return pid == top
+
+
+def words_of(pid):
+    with open(f"/proc/{pid}/cmdline") as it:
+        return it.read().split("\0")
+
+
+def is_check(words):
+    return os.path.basename(words[0]) == "rattle" and "--crate-name" in words
+
+
+def look(pid):
+    """The crate and the kind of a check, its processor seconds so far, those of its own processes
+    among them, and its memory, or None for another process."""
+    words = words_of(pid)
+    if not is_check(words) or is_check(words_of(parent(pid))):
+        return None
+    crate = words[words.index("--crate-name") + 1]
+    kept = words[words.index("--incremental") + 1] if "--incremental" in words else ""
+    if "--test" in words:
+        kind = "tests"
+    elif "--crate-checked" in words:
+        kind = "compile"
+    elif words[1] == "build" or not kept and not os.readlink(f"/proc/{pid}/cwd").startswith("/tmp/rt-edit"):
+        kind = "proof"
+    else:
+        kind = "base" if kept.endswith("/seed") else "edit"
+    with open(f"/proc/{pid}/stat") as it:
+        fields = it.read().rsplit(")", 1)[1].split()
+    seconds = sum(map(int, fields[11:15])) / tick
+    with open(f"/proc/{pid}/status") as it:
+        memory = re.search(r"VmHWM:\s+(\d+)", it.read())
+    return (crate, kind), seconds, int(memory[1]) // 1024 if memory else 0
+
+
+began, checks = time.time(), {}
+with open(sys.argv[1], "w") as log:
+    gate = subprocess.Popen(["rt", "ci", "--anew"], stdout=log, stderr=subprocess.STDOUT, stdin=subprocess.DEVNULL)
+    while gate.poll() is None:
+        for pid in filter(str.isdigit, os.listdir("/proc")):
+            try:
+                found = look(pid) if is_below(int(pid), gate.pid) else None
+            except (OSError, ValueError, IndexError):
+                continue
+            if found:
+                what, seconds, memory = found
+                last = checks.get((pid, what), (0, 0))
+                checks[pid, what] = max(seconds, last[0]), max(memory, last[1])
+        time.sleep(0.2)
+wall = time.time() - began
+
+of = collections.defaultdict(list)
+for (_, what), (seconds, _) in checks.items():
+    of[what].append(seconds)
+kinds = ("proof", "tests", "base", "edit")
+print(f"{'crate':24}" + "".join(f"{it:>9}" for it in kinds) + "    edits      sum")
+crates = sorted({crate for crate, _ in of}, key=lambda it: -sum(sum(of[it, kind]) for kind in kinds))
+for crate in crates:
+    row = [sum(of[crate, kind]) for kind in kinds]
+    print(f"{crate:24}" + "".join(f"{it:9.0f}" for it in row) + f"{len(of[crate, 'edit']):9}{sum(row):9.0f}")
+row = [sum(sum(of[crate, kind]) for crate in crates) for kind in kinds]
+print(f"{'all':24}" + "".join(f"{it:9.0f}" for it in row) + f"{sum(len(of[crate, 'edit']) for crate in crates):9}{sum(row):9.0f}")
+dearest = sorted(((seconds, what, memory) for (_, what), (seconds, memory) in checks.items()), reverse=True)[:10]
+print("\nThe dearest checks:")
+for seconds, (crate, kind), memory in dearest:
+    print(f"{seconds:6.0f} s  {memory:5} MB  {crate}: {kind}")
+print(f"\n{sum(row) / 3600:.2f} processor hours, {wall / 60:.0f} minutes on {len(os.sched_getaffinity(0))} processors")
+with open(sys.argv[1]) as log:
+    print(log.read().rstrip().rsplit("\n", 1)[-1])
+sys.exit(gate.returncode)
+PY
