@@ -26,6 +26,3 @@ pub fn law_round_trip()
     ensures encryption_undoes { (n : ℕ) (key block : List ℕ) → IsKeySize n → length block ≡ 16 → AreBytes key → AreBytes block
         → encrypted n key (decrypted n key block) ≡ block }
 {}
-
-#[cfg(test)]
-mod tests;
