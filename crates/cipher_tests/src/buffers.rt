@@ -103,6 +103,39 @@ fn is_too_long_elsewhere() -> bool {
     InOutBufReserved::from_slices(&[7; 4], &mut [1, 2, 3]).is_err()
 }
 
+// whether a message of three in front of five places is parted behind its first place
+fn splits() -> bool {
+    let mut output = [1, 2, 3, 4, 5];
+    let buffer = InOutBufReserved::from_mut_slice(&mut output, 3).unwrap();
+    let (front, mut back) = buffer.split_at(1);
+    let lengths = front.len() == 1 && back.len() == 2 && back.get_out().len() == 4;
+    lengths && front.get_in() == [1].as_slice() && back.get_in() == [2, 3].as_slice()
+}
+
+// whether a message of three elsewhere has one pair and a rest
+fn chunks_of_a_message() -> bool {
+    let mut output = [0; 5];
+    let buffer = InOutBufReserved::from_slices(&[1, 2, 3], &mut output).unwrap();
+    let (chunks, rest) = buffer.into_chunks::<2>();
+    chunks.get_in() == [[1, 2]].as_slice() && rest.get_in() == [3].as_slice()
+}
+
+// whether a message that is lent for a while is read and written
+fn lends_a_message() -> bool {
+    let mut output = [0; 2];
+    let mut buffer = InOutBufReserved::from_slices(&[7], &mut output).unwrap();
+    let mut lent = buffer.reborrow();
+    lent.get_out()[1] = 6;
+    lent.len() == 1 && lent.get_in() == [7].as_slice() && output == [0, 6]
+}
+
+#[test]
+fn a_message_is_parted(rt: HostRuntime) {
+    check(&rt, splits(), "behind its first place");
+    check(&rt, chunks_of_a_message(), "pairs");
+    check(&rt, lends_a_message(), "lent");
+}
+
 #[test]
 fn a_message_has_room_behind_it(rt: HostRuntime) {
     check(&rt, is_too_long_in_front(), "too long in front");
