@@ -275,6 +275,15 @@ fn place_after_setting(state: &[u8; 16]) -> u64 {
     core.get_block_pos()
 }
 
+// the place, and what remains, after the vector that a core is at was set in the middle of its stream
+fn set_where_it_is() -> (u32, Option<usize>) {
+    let mut core = Core::new(KEY, &[0; 16]);
+    core.write_keystream_block(&mut [0; 16]);
+    let state = core.iv_state();
+    core.set_iv(&state);
+    (core.get_block_pos(), core.remaining_blocks())
+}
+
 #[test]
 fn another_core_goes_on_from_a_state(rt: HostRuntime) {
     let state = state_after_one();
@@ -294,6 +303,12 @@ fn another_core_goes_on_from_a_state(rt: HostRuntime) {
         "the blocks",
     );
     expect(&rt, place_after_setting(&state), 0, "the place");
+    expect(
+        &rt,
+        set_where_it_is(),
+        (0, Some(4294967295)),
+        "the same vector",
+    );
     expect(&rt, remaining_of_many(), [None, Some(5)], "what remains");
 }
 
@@ -314,17 +329,27 @@ fn cores_have_names(rt: HostRuntime) -> Result<(), Fail> {
 }
 
 #[test]
-fn nonces_and_flavours_have_names(rt: HostRuntime) -> Result<(), Fail> {
+fn a_nonce_has_a_name(rt: HostRuntime) -> Result<(), Fail> {
     let nonce = <flavors::Ctr32LE as CtrFlavor<16>>::from_nonce(&[0; 16]).clone()?;
     check(
         &rt,
         is_debug(rt.alloc(), &nonce, "CtrNonce32 { ... }")?,
         "debug",
     );
-    check(
-        &rt,
-        <flavors::Ctr32LE as CtrFlavor<16>>::NAME == "32LE",
-        "name",
-    );
     Ok(())
+}
+
+// whether a flavour's constant and its call both say this
+fn is_named<F: CtrFlavor<16>>(want: &str) -> bool {
+    F::NAME == want && F::flavor_name() == want
+}
+
+#[test]
+fn flavours_have_names(rt: HostRuntime) {
+    check(&rt, is_named::<flavors::Ctr32BE>("32BE"), "32BE");
+    check(&rt, is_named::<flavors::Ctr32LE>("32LE"), "32LE");
+    check(&rt, is_named::<flavors::Ctr64BE>("64BE"), "64BE");
+    check(&rt, is_named::<flavors::Ctr64LE>("64LE"), "64LE");
+    check(&rt, is_named::<flavors::Ctr128BE>("128BE"), "128BE");
+    check(&rt, is_named::<flavors::Ctr128LE>("128LE"), "128LE");
 }

@@ -163,9 +163,13 @@ impl SetIvState<4> for Chained {
 
     ghost makes = { run_of (λ s x. let y = map (λ b. (b + s.key) % 256) (xor_bytes x s.iv) in (y, record s { iv = y })) };
 
+    ghost restarted = { λ s iv. record s { iv = iv } };
+
     fn set_iv(&mut self, iv: &[u8; 4]) {
         self.iv = *iv;
     }
+
+    ghost anew = { λ s iv other. refl };
 
     ghost iv_size = { (lit≤ tt, lit< tt) };
 }
