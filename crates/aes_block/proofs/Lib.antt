@@ -1,4 +1,5 @@
 pub mod TableRules
+pub mod Inverses
 pub mod Rounds
 pub mod KeyWords
 pub mod RoundKeys

@@ -1,7 +1,8 @@
 //! AES (FIPS 197): the block ciphers with keys of 16, 24 and 32 bytes, by tables of bytes.
 #![tactic(auto)]
 
-ghost use Rattle.std.specs.Prelude.{◌≡◌, ℕ, List, length};
+ghost use Rattle.std.specs.Prelude.{◌≡◌, ◌≤◌, ◌<◌, ℕ, List, length};
+ghost use Rattle.standards.specs.Aes.{inverse, times};
 ghost use Rattle.standards.specs.Lists.{AreBytes};
 ghost use Rattle.aes_block.specs.Ciphers.{IsKeySize, decrypted, encrypted};
 
@@ -27,5 +28,9 @@ pub fn law_round_trip()
         → encrypted n key (decrypted n key block) ≡ block }
 {}
 
-#[cfg(test)]
-mod tests;
+/// The inverse that SubBytes takes of a byte is the one of the field (FIPS 197, 4.2): its product with each byte but 0 is
+/// 1, and the inverse of 0 is 0.
+pub fn law_inverse()
+    ensures undoes { (a : ℕ) → 1 ≤ a → a < 256 → times a (inverse a) ≡ 1 }
+    ensures of_zero { inverse 0 ≡ 0 }
+{}

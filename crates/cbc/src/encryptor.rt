@@ -96,9 +96,13 @@ impl<C: BlockCipherEncrypt<B>, const B: usize> SetIvState<B> for Encryptor<C, [u
 
     ghost makes = { run_of (λ s x. let y = C.encrypts s.cipher (xor_bytes x s.iv) in (y, record s { iv = y })) };
 
+    ghost restarted = { λ s iv. record s { iv = iv } };
+
     fn set_iv(&mut self, iv: &[u8; B]) {
         self.iv = *iv;
     }
+
+    ghost anew = { λ s iv other. refl };
 
     ghost iv_size = { C.block_size };
 }

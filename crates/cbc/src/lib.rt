@@ -7,6 +7,3 @@ mod encryptor;
 
 pub use decryptor::Decryptor;
 pub use encryptor::Encryptor;
-
-#[cfg(test)]
-mod tests;

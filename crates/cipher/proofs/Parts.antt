@@ -1,8 +1,8 @@
 -- What a buffer reads, part by part.
-use Rattle.std.proofs.Common.{◌≡◌, ℕ, suc, ◌+◌, ◌-◌, ◌≤◌, ◌<◌, Bool, true, false, cond, eqb, List, [], ◌∷◌, ◌++◌, map, get_or, set, take, drop, length, ap, subst, sym, ◌∙◌, refl, arith, append_assoc, length-append, length-take, length-drop, rules, inl, inr, add-zero, add-one, drop-cons}
-use Rattle.std.proofs.lemmas.List.{length-map, map-append, take_more, take_at, drop_at, drop-drop, take_rest, map_more, take_all, drop_all, append-nil, set_at, get_or_default, get_or-take, get_or-drop}
+use Rattle.std.proofs.Common.{◌≡◌, ℕ, suc, ◌+◌, ◌-◌, ◌≤◌, ◌<◌, List, [], ◌∷◌, ◌++◌, map, get_or, set, take, drop, length, ap, sym, ◌∙◌, refl, arith, append_assoc, length-append, length-take, length-drop, inl, inr, add-zero, add-one, drop-cons}
+use Rattle.std.proofs.lemmas.List.{length-map, map-append, take_more, take_at, drop_at, drop-drop, take_rest, take_all, drop_all, append-nil, set_at, get_or_default, get_or-take, get_or-drop}
 use Rattle.std.proofs.lemmas.List.Edits.{map_over_more}
-use Rattle.std.proofs.lemmas.Bool.{eqb-true, eq-eqb}
+use Rattle.std.proofs.lemmas.Bool.{eq-eqb}
 use Rattle.std.proofs.lemmas.Bool.Decides.{eqb_tells}
 use Rattle.std.proofs.Math.Seq.{take-add}
 use Rattle.std.proofs.Math.Dec.{eqb-zero-suc}

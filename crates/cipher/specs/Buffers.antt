@@ -1,6 +1,5 @@
 -- What a buffer reads: the input where there is one, and else what stands in the output.
-use Rattle.std.specs.Prelude.{◌≡◌, ℕ, List, [], ◌∷◌, ◌-◌, take, drop, length, cond, ◌==◌, slice_index_or, bit_xor}
-use Rattle.std.specs.Borrow.{Bor, MutBor}
+use Rattle.std.specs.Prelude.{ℕ, List, [], ◌∷◌, ◌-◌, take, drop, length, cond, ◌==◌, slice_index_or, bit_xor}
 use Rattle.cipher.specs.declared.buffers.InOutBuf.{InOutBuf}
 use Rattle.cipher.specs.declared.buffers.InOut.{InOut}
 use Rattle.cipher.specs.declared.buffers.InOutBufReserved.{InOutBufReserved}

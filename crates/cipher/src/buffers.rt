@@ -339,15 +339,15 @@ impl<'i, 'o, T> InOutBufReserved<'i, 'o, T> {
         self.len == 0
     }
 
-    /// The message, which is no longer than the output.
+    /// The message, as far as there is room.
     pub fn get_in(&self) -> &[T]
-        requires { self.now.len ≤ length self.now.output.now }
         ensures value { result.now ≡ message_of self.now }
     {
-        if self.input.len() == self.len {
+        let message = front_of(&*self.output, self.len);
+        if self.input.len() == message.len() {
             self.input
         } else {
-            &self.output[..self.len]
+            message
         }
     }
 
@@ -356,6 +356,74 @@ impl<'i, 'o, T> InOutBufReserved<'i, 'o, T> {
         ensures value { result.now ≡ self.old.output.now }
     {
         &mut *self.output
+    }
+
+    /// The same message and room, lent for a while.
+    pub fn reborrow(&mut self) -> InOutBufReserved<'_, '_, T>
+        ensures read { message_of result ≡ message_of self.old }
+        ensures same_length { result.len ≡ self.old.len }
+        ensures written { result.output.now ≡ self.old.output.now }
+    {
+        let input = self.input;
+        let len = self.len;
+        let output = &mut *self.output;
+        InOutBufReserved { output, input, len }
+    }
+
+    /// The first `mid` places of the message, `mid` being at most its length, and the rest of it with the room.
+    pub fn split_at(self, mid: usize) -> (InOutBuf<'i, 'o, T>, InOutBufReserved<'i, 'o, T>)
+        requires order { mid ≤ self.len }
+        requires room { self.len ≤ length self.output.now }
+        ensures front { read_all result.0 ≡ take mid (message_of self.entry) }
+        ensures back { message_of result.1 ≡ drop mid (message_of self.entry) }
+        ensures back_length { result.1.len ≡ self.entry.len - mid }
+        ensures written_front { result.0.output.now ≡ take mid self.entry.output.now }
+        ensures written_back { result.1.output.now ≡ drop mid self.entry.output.now }
+    {
+        let InOutBufReserved { output, input, len } = self;
+        let input_front = part_of(input, len, 0, mid);
+        let input_back = part_of(input, len, mid, len);
+        let (front, back) = output.split_at_mut(mid);
+        (
+            InOutBuf {
+                output: front,
+                input: input_front,
+            },
+            InOutBufReserved {
+                output: back,
+                input: input_back,
+                len: len - mid,
+            },
+        )
+    }
+
+    /// The whole arrays of N places from the front of the message, and the rest of it with the room, N being at least 1.
+    pub fn into_chunks<const N: usize>(
+        self,
+    ) -> (InOutBuf<'i, 'o, [T; N]>, InOutBufReserved<'i, 'o, T>)
+        requires positive { 1 ≤ N }
+        requires room { self.len ≤ length self.output.now }
+        ensures front { read_all result.0 ≡ first_chunks N (self.entry.len / N) (take (self.entry.len / N * N) (message_of self.entry)) }
+        ensures back { message_of result.1 ≡ drop (self.entry.len / N * N) (message_of self.entry) }
+        ensures back_length { result.1.len ≡ self.entry.len - self.entry.len / N * N }
+        ensures written_front { result.0.output.now ≡ first_chunks N (self.entry.len / N) (take (self.entry.len / N * N) self.entry.output.now) }
+        ensures written_back { result.1.output.now ≡ drop (self.entry.len / N * N) self.entry.output.now }
+    {
+        let whole = self.len / N * N;
+        let (front, back) = self.split_at(whole);
+        let (chunks, _) = front.into_chunks::<N>();
+        (chunks, back)
+    }
+}
+
+// The first n places, or all where there are fewer.
+fn front_of<T>(places: &[T], n: usize) -> &[T]
+    ensures { result.now ≡ take n places.now }
+{
+    if n < places.len() {
+        &places[..n]
+    } else {
+        places
     }
 }
 

@@ -110,12 +110,19 @@ pub trait SetIvState<const I: usize>: IvState<I> {
     // what a value makes of the blocks that follow
     ghost makes: { Self → List (List ℕ) → List (List ℕ) };
 
+    // the value under the same key that begins at an initialization vector
+    ghost restarted: { Self → List ℕ → Self };
+
     /// Sets the state: under the `iv_state` of a value with the same key it makes that one's next blocks.
-    /// A position, and a limit that goes by it, begin anew.
+    /// A position, and a limit that goes by it, begin anew, also where the vector is the one that the value is at.
     fn set_iv(&mut self, iv: &[u8; I])
+        ensures restarts { self.new ≡ restarted self.old iv.now }
         ensures kept { same_key self.old self.new }
         ensures resumes { (other : Self) → same_key self.old other → iv.now ≡ Self.iv_of other
             → (blocks : List (List ℕ)) → makes self.new blocks ≡ makes other blocks };
+
+    // nothing is left of what was set before
+    ghost anew: { (s : Self) (iv other : List ℕ) → restarted (restarted s other) iv ≡ restarted s iv };
 
     ghost iv_size: { (1 ≤ I) × (I < 256) };
 }

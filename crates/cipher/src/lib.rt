@@ -23,6 +23,3 @@ pub use tweaks::{
 
 /// A block of B bytes.
 pub type Block<const B: usize> = [u8; B];
-
-#[cfg(test)]
-mod tests;

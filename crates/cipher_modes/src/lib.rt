@@ -14,6 +14,3 @@ pub use backends::{
 pub use modes::{BlockModeDecrypt, BlockModeEncrypt};
 pub use padded::PaddedVecError;
 pub use padding::{NoPadding, PadError, Padding, Pkcs7, UnpadError, ZeroPadding};
-
-#[cfg(test)]
-mod tests;

@@ -8,4 +8,3 @@ pub mod Rests
 pub mod SoughtPlaces
 pub mod LawFacts
 pub mod VectorFacts
-pub mod TestFacts

@@ -3,4 +3,3 @@ pub mod Contexts
 pub mod ByteStream
 pub mod StreamVectors
 pub mod Laws
-pub mod TestCores

@@ -21,6 +21,3 @@ pub use errors::{OverflowError, StreamCipherError};
 pub use positions::SeekNum;
 pub use seek::StreamCipherSeek;
 pub use wrapper::{BufferedCore, CoreOn, StreamCipherCoreWrapper};
-
-#[cfg(test)]
-mod tests;

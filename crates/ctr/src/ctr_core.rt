@@ -109,9 +109,13 @@ impl<C: BlockCipherEncrypt<B> + Drop, F: CtrFlavor<B>, const B: usize> SetIvStat
 
     ghost makes = { λ s. xored_blocks (stream_of (counter_stream (C.encrypts s.cipher) F.plus (F.nonce s.ctr_nonce) F.period (F.counter s.ctr_nonce))) };
 
+    ghost restarted = { λ s iv. record s { ctr_nonce = F.started iv } };
+
     fn set_iv(&mut self, iv: &[u8; B]) {
         self.ctr_nonce = F::from_nonce(iv);
     }
+
+    ghost anew = { λ s iv other. refl };
 
     ghost iv_size = { C.block_size };
 }

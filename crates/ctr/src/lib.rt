@@ -52,6 +52,3 @@ pub fn law_counter_mode()
         ≡ gcm_siv_text cipher key nonce tag text }
     ensures buffered { (k : Keystream) (text : List ℕ) → xored (to_come (bytes_from 16 k 0)) text ≡ xored (bytes_of 16 k) text }
 {}
-
-#[cfg(test)]
-mod tests;

@@ -1,6 +1,6 @@
 -- GHASH and POLYVAL from the states after their parts.
-use Rattle.std.proofs.Common.{◌≡◌, ◌<◌, ◌+◌, ◌*◌, ◌/◌, ◌%◌, ◌^◌, ℕ, zero, suc, List, ◌++◌, length, bit_xor, ap, ap₂, refl, sym, ◌∙◌, arith}
-use Rattle.std.specs.Int.{w64, w128, from_be_bytes, from_le_bytes, to_be_bytes, to_le_bytes}
+use Rattle.std.proofs.Common.{◌≡◌, ◌+◌, ◌*◌, ◌/◌, ◌%◌, ◌^◌, ℕ, zero, suc, List, length, bit_xor, ap, refl, sym, ◌∙◌}
+use Rattle.std.specs.Int.{w128, from_be_bytes, from_le_bytes, to_be_bytes, to_le_bytes}
 use Rattle.standards.specs.Blocks.{block_at, over_blocks, zero_padded}
 use Rattle.standards.specs.Ghash.{ghash, length_block, times_x}
 use Rattle.standards.specs.Polyval.{length_block_le, polyval}
@@ -10,19 +10,6 @@ use Rattle.standards.proofs.BlockFacts.{ghash_in_parts, polyval_in_parts}
 use Rattle.standards.proofs.Products.{dot_is_product}
 use Rattle.gcm.specs.declared.order.ByteOrder.TheVariants.{BigEndian, LittleEndian}
 use Rattle.gcm.specs.Orders.{absorb, pair_of}
-
--- the lengths in bits fit
-pub lengths_be : (aad text : List ℕ) → 8 * length aad < 2 ^ 64 → 8 * length text < 2 ^ 64 → pair_of BigEndian (8 * length aad) (8 * length text) ≡ length_block aad text
-lengths_be aad text a t =
-    let aad_is : 8 * length aad ≡ 8 * length aad % 2 ^ 64 = omega arith in
-    let text_is : 8 * length text ≡ 8 * length text % 2 ^ 64 = omega arith in
-    ap₂ (λ m n. to_be_bytes w64 m ++ to_be_bytes w64 n) aad_is text_is
-
-pub lengths_le : (aad text : List ℕ) → 8 * length aad < 2 ^ 64 → 8 * length text < 2 ^ 64 → pair_of LittleEndian (8 * length aad) (8 * length text) ≡ length_block_le aad text
-lengths_le aad text a t =
-    let aad_is : 8 * length aad ≡ 8 * length aad % 2 ^ 64 = omega arith in
-    let text_is : 8 * length text ≡ 8 * length text % 2 ^ 64 = omega arith in
-    ap₂ (λ m n. to_le_bytes w64 m ++ to_le_bytes w64 n) aad_is text_is
 
 -- two steps that agree lead to the same state
 pub over_blocks_same : {A : Type 0} (f g : A → List ℕ → A) (a : A) (m : List ℕ) (n : ℕ) → ((s : A) (b : List ℕ) → f s b ≡ g s b) → over_blocks f a m n ≡ over_blocks g a m n
@@ -34,11 +21,11 @@ over_blocks_same f g a m (suc n) same = same (over_blocks f a m n) (block_at m n
 abbrev pub over_both : (ℕ → List ℕ → ℕ) → List ℕ → List ℕ → ℕ
 over_both f aad text = over_blocks f (over_blocks f 0 (zero_padded aad) ((length aad + 15) / 16)) (zero_padded text) ((length text + 15) / 16)
 
-pub ghash_of : (key aad text : List ℕ) (h both all : ℕ) → 8 * length aad < 2 ^ 64 → 8 * length text < 2 ^ 64 → h ≡ from_be_bytes w128 key
-    → both ≡ over_both (absorb BigEndian h) aad text → all ≡ absorb BigEndian h both (pair_of BigEndian (8 * length aad) (8 * length text))
+pub ghash_of : (key aad text : List ℕ) (h both all : ℕ) → h ≡ from_be_bytes w128 key
+    → both ≡ over_both (absorb BigEndian h) aad text → all ≡ absorb BigEndian h both (pair_of BigEndian (8 * length aad % 2 ^ 64) (8 * length text % 2 ^ 64))
     → to_be_bytes w128 all ≡ ghash key aad text
-ghash_of key aad text h both all a t h_is both_is all_is =
-    ap (to_be_bytes w128) (all_is ∙ ap₂ (G.absorb h) both_is (lengths_be aad text a t))
+ghash_of key aad text h both all h_is both_is all_is =
+    ap (to_be_bytes w128) (all_is ∙ ap (λ s. G.absorb h s (length_block aad text)) both_is)
     ∙ ap (λ k. to_be_bytes w128 (G.absorb k (over_both (G.absorb k) aad text) (length_block aad text))) h_is
     ∙ sym (ghash_in_parts key aad text)
 
@@ -55,12 +42,12 @@ over_both_le h aad text =
     over_blocks_same f g (over_blocks f 0 (zero_padded aad) n) (zero_padded text) m (step_is h)
     ∙ ap (λ s. over_blocks g s (zero_padded text) m) (over_blocks_same f g 0 (zero_padded aad) n (step_is h))
 
-pub polyval_of : (key aad text : List ℕ) (h both all : ℕ) → 8 * length aad < 2 ^ 64 → 8 * length text < 2 ^ 64 → h ≡ times_x (from_le_bytes w128 key)
-    → both ≡ over_both (absorb LittleEndian h) aad text → all ≡ absorb LittleEndian h both (pair_of LittleEndian (8 * length aad) (8 * length text))
+pub polyval_of : (key aad text : List ℕ) (h both all : ℕ) → h ≡ times_x (from_le_bytes w128 key)
+    → both ≡ over_both (absorb LittleEndian h) aad text → all ≡ absorb LittleEndian h both (pair_of LittleEndian (8 * length aad % 2 ^ 64) (8 * length text % 2 ^ 64))
     → to_le_bytes w128 all ≡ polyval key aad text
-polyval_of key aad text h both all a t h_is both_is all_is =
+polyval_of key aad text h both all h_is both_is all_is =
     let k = from_le_bytes w128 key in
-    ap (to_le_bytes w128) (all_is ∙ ap₂ (absorb LittleEndian h) both_is (lengths_le aad text a t))
+    ap (to_le_bytes w128) (all_is ∙ ap (λ s. absorb LittleEndian h s (length_block_le aad text)) both_is)
     ∙ ap (λ v. to_le_bytes w128 (absorb LittleEndian v (over_both (absorb LittleEndian v) aad text) (length_block_le aad text))) h_is
     ∙ ap (to_le_bytes w128) (step_is k (over_both (absorb LittleEndian (times_x k)) aad text) (length_block_le aad text) ∙ ap (λ s. P.absorb k s (length_block_le aad text)) (over_both_le k aad text))
     ∙ sym (polyval_in_parts key aad text)

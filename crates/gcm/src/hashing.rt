@@ -1,5 +1,5 @@
 // GHASH (SP 800-38D, 6.4) and POLYVAL (RFC 8452, 3) of data and text, each padded, and their lengths.
-ghost use Rattle.std.specs.Prelude.{◌≡◌, ◌≤◌, ◌<◌, ◌+◌, ◌*◌, ◌/◌, ◌^◌, length};
+ghost use Rattle.std.specs.Prelude.{◌≡◌, ◌≤◌, ◌<◌, ◌+◌, ◌*◌, ◌/◌, ◌%◌, ◌^◌, length};
 ghost use Rattle.standards.specs.Blocks.{block_at, over_blocks, zero_padded};
 ghost use Rattle.standards.specs.Ghash.{ghash};
 ghost use Rattle.standards.specs.Polyval.{polyval};
@@ -38,20 +38,18 @@ pub(crate) fn absorb_padded(order: ByteOrder, h: u128, y: u128, bytes: &[u8]) ->
     state
 }
 
-// The lengths in bits after y, under h.
+// The lengths in bits, modulo 2^64, after y, under h.
 pub(crate) fn absorb_lengths(order: ByteOrder, h: u128, y: u128, aad: usize, text: usize) -> u128
-    requires aad { 8 * aad < 2 ^ 64 }
-    requires text { 8 * text < 2 ^ 64 }
-    ensures { result ≡ absorb order h y (pair_of order (8 * aad) (8 * text)) }
+    ensures { result ≡ absorb order h y (pair_of order (8 * aad % 2 ^ 64) (8 * text % 2 ^ 64)) }
 {
-    absorb(order, h, y, pair_of(order, 8 * aad as u64, 8 * text as u64))
+    let aad_bits = 8u64.wrapping_mul(aad as u64);
+    let text_bits = 8u64.wrapping_mul(text as u64);
+    absorb(order, h, y, pair_of(order, aad_bits, text_bits))
 }
 
 /// GHASH under the key, of data and text, each with zeros up to whole blocks of 16 bytes, and of their lengths in bits
-/// (SP 800-38D, 7.1, step 5). Each length in bits fits 64 bits.
+/// modulo 2^64 (SP 800-38D, 7.1, step 5).
 pub fn ghash(key: &[u8; 16], aad: &[u8], text: &[u8]) -> [u8; 16]
-    requires aad { 8 * length aad.now < 2 ^ 64 }
-    requires text { 8 * length text.now < 2 ^ 64 }
     ensures value { result ≡ ghash key.now aad.now text.now }
 {
     let h = u128::from_be_bytes(*key);
@@ -62,10 +60,8 @@ pub fn ghash(key: &[u8; 16], aad: &[u8], text: &[u8]) -> [u8; 16]
 }
 
 /// POLYVAL under the key, of data and text, each with zeros up to whole blocks of 16 bytes, and of their lengths in
-/// bits (RFC 8452, 3 and 4). Each length in bits fits 64 bits.
+/// bits modulo 2^64 (RFC 8452, 3 and 4).
 pub fn polyval(key: &[u8; 16], aad: &[u8], text: &[u8]) -> [u8; 16]
-    requires aad { 8 * length aad.now < 2 ^ 64 }
-    requires text { 8 * length text.now < 2 ^ 64 }
     ensures value { result ≡ polyval key.now aad.now text.now }
 {
     let h = times_x(u128::from_le_bytes(*key));

@@ -32,6 +32,3 @@ pub fn law_gcm_siv_has_one_text()
     ensures one_text { GcmSivHasOneText }
     ensures gives_back { GcmSivGivesBack }
 {}
-
-#[cfg(test)]
-mod tests;

@@ -64,8 +64,6 @@ pub(crate) fn polyval_of_opened<C: BlockCipherEncrypt<16>>(
     aad: &[u8],
     ciphertext: &[u8],
 ) -> [u8; 16]
-    requires aad { 8 * length aad.now < 2 ^ 64 }
-    requires text { 8 * length ciphertext.now < 2 ^ 64 }
     ensures { result ≡ polyval key.now aad.now (ctr (C.encrypts c.now) (plus_le w32) block.now ciphertext.now) }
 {
     let h = times_x(u128::from_le_bytes(*key));

@@ -46,8 +46,6 @@ fn apply_text<C: BlockCipherEncrypt<16>>(c: &C, nonce: &[u8], bytes: &mut [u8])
 // The tag of data and ciphertext (7.1, steps 1 and 4 to 6).
 fn tag_of<C: BlockCipherEncrypt<16>>(c: &C, nonce: &[u8], aad: &[u8], ciphertext: &[u8]) -> [u8; 16]
     requires nonce { length nonce.now ≡ 12 }
-    requires aad { 8 * length aad.now < 2 ^ 64 }
-    requires text { 8 * length ciphertext.now < 2 ^ 64 }
     ensures { result ≡ gcm_tag (C.encrypts c.now) nonce.now aad.now ciphertext.now }
 {
     let mut key = [0u8; 16];
@@ -60,7 +58,6 @@ fn tag_of<C: BlockCipherEncrypt<16>>(c: &C, nonce: &[u8], aad: &[u8], ciphertext
 // Ciphertext and tag of a text whose blocks are counted.
 fn seal<C: BlockCipherEncrypt<16>>(c: &C, nonce: &[u8], aad: &[u8], text: &[u8], out: &mut [u8])
     requires nonce { length nonce.now ≡ 12 }
-    requires aad { 8 * length aad.now < 2 ^ 64 }
     requires text { length text.now ≤ 2 ^ 36 }
     requires room { length out.old ≡ length text.now + 16 }
     ensures { out.new ≡ gcm (C.encrypts c.now) nonce.now aad.now text.now }
@@ -81,7 +78,6 @@ fn open<C: BlockCipherEncrypt<16>>(
     out: &mut [u8],
 ) -> bool
     requires nonce { length nonce.now ≡ 12 }
-    requires aad { 8 * length aad.now < 2 ^ 64 }
     requires sealed { length sealed.now ≤ 2 ^ 36 }
     requires room { length out.old ≡ length sealed.now - 16 }
     ensures { IsTried (gcm (C.encrypts c.now) nonce.now aad.now) sealed.now out.old out.new result }

@@ -92,7 +92,6 @@ fn seal<C: BlockCipherEncrypt<16>>(
     out: &mut [u8],
 )
     requires nonce { length nonce.now ≡ 12 }
-    requires aad { 8 * length aad.now < 2 ^ 64 }
     requires text { length text.now ≤ 2 ^ 36 }
     requires room { length out.old ≡ length text.now + 16 }
     ensures { out.new ≡ sealed_under (C.encrypts keys.now.cipher) keys.now.authentication nonce.now aad.now text.now }
@@ -119,7 +118,6 @@ fn open<C: BlockCipherEncrypt<16>>(
     out: &mut [u8],
 ) -> bool
     requires nonce { length nonce.now ≡ 12 }
-    requires aad { 8 * length aad.now < 2 ^ 64 }
     requires sealed { length sealed.now ≤ 2 ^ 36 + 16 }
     requires room { length out.old ≡ length sealed.now - 16 }
     ensures { IsTried (sealed_under (C.encrypts keys.now.cipher) keys.now.authentication nonce.now aad.now) sealed.now out.old out.new result }

@@ -22,9 +22,6 @@ mod cmac;
 
 pub use cmac::cmac_into;
 
-#[cfg(test)]
-mod tests;
-
 // The bytes of the largest digest and of the largest block.
 const MAX_DIGEST: usize = 64;
 

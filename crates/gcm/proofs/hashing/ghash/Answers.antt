@@ -11,4 +11,4 @@ returns c =
     let text = c.args.text.now in
     let h = c.from_be_bytes-h.result in
     let both = c.absorb_padded-both.ensures ∙ ap (λ s. over_blocks (absorb BigEndian h) s (zero_padded text) ((length text + 15) / 16)) c.absorb_padded-data.ensures in
-    record { value = c.to_be_bytes.ensures ∙ ghash_of c.args.key.now aad text h _ _ c.requires.aad c.requires.text c.from_be_bytes-h.ensures both c.absorb_lengths.ensures }
+    record { value = c.to_be_bytes.ensures ∙ ghash_of c.args.key.now aad text h _ _ c.from_be_bytes-h.ensures both c.absorb_lengths.ensures }

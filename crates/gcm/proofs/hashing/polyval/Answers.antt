@@ -12,4 +12,4 @@ returns c =
     let text = c.args.text.now in
     let h = c.times_x-h.result in
     let both = c.absorb_padded-both.ensures ∙ ap (λ s. over_blocks (absorb LittleEndian h) s (zero_padded text) ((length text + 15) / 16)) c.absorb_padded-data.ensures in
-    record { value = c.to_le_bytes.ensures ∙ polyval_of c.args.key.now aad text h _ _ c.requires.aad c.requires.text (c.times_x-h.ensures ∙ ap times_x c.from_le_bytes.ensures) both c.absorb_lengths.ensures }
+    record { value = c.to_le_bytes.ensures ∙ polyval_of c.args.key.now aad text h _ _ (c.times_x-h.ensures ∙ ap times_x c.from_le_bytes.ensures) both c.absorb_lengths.ensures }

@@ -1,4 +1,4 @@
-use Rattle.std.proofs.Common.{◌≡◌, ◌<◌, ◌+◌, ◌*◌, ◌/◌, ◌^◌, length, ap, sym, subst, ◌∙◌}
+use Rattle.std.proofs.Common.{◌≡◌, ◌+◌, ◌*◌, ◌/◌, ◌%◌, ◌^◌, length, ap, sym, ◌∙◌}
 use Rattle.std.specs.Int.{w32}
 use Rattle.standards.specs.Blocks.{over_blocks, zero_padded}
 use Rattle.standards.specs.Counter.{ctr, plus_le}
@@ -18,11 +18,10 @@ returns g c =
     let same : length text ≡ length xs = length-ctr E (plus_le w32) c.args.block.now xs in
     let h = c.times_x-h.result in
     let f = absorb LittleEndian h in
-    let fits : 8 * length text < 2 ^ 64 = subst (λ n. 8 * n < 2 ^ 64) (sym same) c.requires.text in
     let both =
     c.absorb_opened-both.ensures
     ∙ ap (λ s. over_blocks f s (zero_padded text) ((length xs + 15) / 16)) c.absorb_padded-data.ensures
     ∙ ap (λ n. over_blocks f (over_blocks f 0 (zero_padded aad) ((length aad + 15) / 16)) (zero_padded text) ((n + 15) / 16)) (sym same) in
     c.to_le_bytes.ensures
-    ∙ polyval_of c.args.key.now aad text h _ _ c.requires.aad fits (c.times_x-h.ensures ∙ ap times_x c.from_le_bytes.ensures) both
-    (c.absorb_lengths.ensures ∙ ap (λ n. f c.absorb_opened-both.result (pair_of LittleEndian (8 * length aad) (8 * n))) (sym same))
+    ∙ polyval_of c.args.key.now aad text h _ _ (c.times_x-h.ensures ∙ ap times_x c.from_le_bytes.ensures) both
+    (c.absorb_lengths.ensures ∙ ap (λ n. f c.absorb_opened-both.result (pair_of LittleEndian (8 * length aad % 2 ^ 64) (8 * n % 2 ^ 64))) (sym same))

@@ -1,0 +1,241 @@
+//! Calls on blocks, and vectors.
+
+ghost use Rattle.std.specs.Prelude.{◌≡◌, ℕ, map};
+
+use crate::expected::{check, check_at, expect, is_shown};
+use crate::shifted::Shift;
+use cipher::dev::block_cipher::{TestVector, decrypt_test, encrypt_decrypt_test, encrypt_test};
+use cipher::{
+    BlockCipherDecrypt, BlockCipherEncrypt, InOut, InOutBuf, InvalidLength, KeyInit, NotEqualError,
+};
+use std::test::Fail;
+
+const PLAIN: [[u8; 5]; 10] = [[1, 2, 3, 4, 255]; 10];
+
+const SHIFTED: [[u8; 5]; 10] = [[251, 252, 253, 254, 249]; 10];
+
+// the first n places hold the blocks, and the others are as before
+fn holds(got: &[[u8; 5]; 10], front: &[[u8; 5]; 10], back: &[[u8; 5]; 10], n: usize) -> bool {
+    let n = n.min(10);
+    got[..n] == front[..n] && got[n..] == back[n..]
+}
+
+// n blocks there and back, in their places
+fn shifts_in_place(c: &Shift, n: usize) -> bool {
+    let n = n.min(10);
+    let mut blocks = PLAIN;
+    c.encrypt_blocks(&mut blocks[..n]);
+    let there = holds(&blocks, &SHIFTED, &PLAIN, n);
+    c.decrypt_blocks(&mut blocks[..n]);
+    there && blocks == PLAIN
+}
+
+// the same by a buffer
+fn shifts_by_a_buffer(c: &Shift, n: usize) -> bool {
+    let n = n.min(10);
+    let mut blocks = PLAIN;
+    c.encrypt_blocks_inout(InOutBuf::from(&mut blocks[..n]));
+    let there = holds(&blocks, &SHIFTED, &PLAIN, n);
+    c.decrypt_blocks_inout(InOutBuf::from(&mut blocks[..n]));
+    there && blocks == PLAIN
+}
+
+const ZEROS: [[u8; 5]; 10] = [[0; 5]; 10];
+
+// the same into other places
+fn shifts_elsewhere(c: &Shift, n: usize) -> bool {
+    let n = n.min(10);
+    let mut there = ZEROS;
+    let mut back = ZEROS;
+    let encrypted = c.encrypt_blocks_b2b(&PLAIN[..n], &mut there[..n]);
+    let decrypted = c.decrypt_blocks_b2b(&there[..n], &mut back[..n]);
+    encrypted == Ok(())
+        && decrypted == Ok(())
+        && holds(&there, &SHIFTED, &ZEROS, n)
+        && holds(&back, &PLAIN, &ZEROS, n)
+}
+
+// whether all three calls shift n blocks
+fn shifts(c: &Shift, n: usize) -> bool {
+    shifts_in_place(c, n) && shifts_by_a_buffer(c, n) && shifts_elsewhere(c, n)
+}
+
+#[test]
+fn up_to_ten_blocks_are_shifted(rt: HostRuntime) {
+    let c = Shift::new(&[250]);
+    for n in 0..11 {
+        check_at(&rt, shifts(&c, n), n);
+    }
+}
+
+// whether n blocks for m places are refused, and nothing is written
+fn is_misfit(n: usize, m: usize) -> bool {
+    let mut there = ZEROS;
+    let told = Shift::new(&[250]).encrypt_blocks_b2b(&PLAIN[..n.min(10)], &mut there[..m.min(10)]);
+    told == Err(NotEqualError) && there == ZEROS
+}
+
+#[test]
+fn unequal_numbers_of_blocks_change_nothing(rt: HostRuntime) {
+    for n in 0..11 {
+        check_at(&rt, n == 6 || is_misfit(n, 9 - n / 2), n);
+    }
+}
+
+fn encrypted_in_place(c: &Shift) -> [u8; 5] {
+    let mut block = PLAIN[0];
+    c.encrypt_block(&mut block);
+    block
+}
+
+fn encrypted_elsewhere(c: &Shift) -> [u8; 5] {
+    let mut block = [0; 5];
+    c.encrypt_block_b2b(&PLAIN[0], &mut block);
+    block
+}
+
+fn encrypted_by_places(c: &Shift) -> [u8; 5] {
+    let mut block = PLAIN[0];
+    c.encrypt_block_inout(InOut::from(&mut block));
+    block
+}
+
+fn decrypted_in_place(c: &Shift) -> [u8; 5] {
+    let mut block = SHIFTED[0];
+    c.decrypt_block(&mut block);
+    block
+}
+
+fn decrypted_elsewhere(c: &Shift) -> [u8; 5] {
+    let mut block = [0; 5];
+    c.decrypt_block_b2b(&SHIFTED[0], &mut block);
+    block
+}
+
+fn decrypted_by_places(c: &Shift) -> [u8; 5] {
+    let mut block = [0; 5];
+    c.decrypt_block_inout(InOut::new(&SHIFTED[0], &mut block));
+    block
+}
+
+#[test]
+fn one_block_is_shifted(rt: HostRuntime) {
+    let c = Shift::new(&[250]);
+    expect(
+        &rt,
+        encrypted_in_place(&c),
+        SHIFTED[0],
+        "encrypted in place",
+    );
+    expect(
+        &rt,
+        encrypted_elsewhere(&c),
+        SHIFTED[0],
+        "encrypted elsewhere",
+    );
+    expect(
+        &rt,
+        encrypted_by_places(&c),
+        SHIFTED[0],
+        "encrypted by places",
+    );
+    expect(&rt, decrypted_in_place(&c), PLAIN[0], "decrypted in place");
+    expect(
+        &rt,
+        decrypted_elsewhere(&c),
+        PLAIN[0],
+        "decrypted elsewhere",
+    );
+    expect(
+        &rt,
+        decrypted_by_places(&c),
+        PLAIN[0],
+        "decrypted by places",
+    );
+}
+
+#[test]
+fn a_cipher_has_a_name(rt: HostRuntime) -> Result<(), Fail> {
+    check(
+        &rt,
+        is_shown(rt.alloc(), &Shift::new(&[1]), "Shift")?,
+        "name",
+    );
+    check(
+        &rt,
+        is_shown(rt.alloc(), &InvalidLength, "Invalid Length")?,
+        "error",
+    );
+    Ok(())
+}
+
+type Told = Result<(), &'static str>;
+
+fn vector(key: &'static [u8], plaintext: &'static [u8], ciphertext: &'static [u8]) -> TestVector {
+    TestVector {
+        key,
+        plaintext,
+        ciphertext,
+    }
+}
+
+fn encrypts(key: &'static [u8], plaintext: &'static [u8], ciphertext: &'static [u8]) -> Told {
+    encrypt_test::<Shift, 1, 5>(&vector(key, plaintext, ciphertext))
+}
+
+fn decrypts(key: &'static [u8], plaintext: &'static [u8], ciphertext: &'static [u8]) -> Told {
+    decrypt_test::<Shift, 1, 5>(&vector(key, plaintext, ciphertext))
+}
+
+fn goes_both_ways(key: &'static [u8], plaintext: &'static [u8], ciphertext: &'static [u8]) -> Told {
+    encrypt_decrypt_test::<Shift, 1, 5>(&vector(key, plaintext, ciphertext))
+}
+
+const FIVE: &[u8] = &[1, 2, 3, 4, 255];
+
+const GOOD: &[u8] = &[251, 252, 253, 254, 249];
+
+const BAD: &[u8] = &[251, 252, 253, 254, 250];
+
+#[test]
+fn a_vector_is_told(rt: HostRuntime) {
+    let not_encrypted = Err("single block encryption failure");
+    let not_decrypted = Err("single block decryption failure");
+    let ciphertext = Err("unexpected size of ciphertext block");
+    let plaintext = Err("unexpected size of plaintext block");
+    let key = Err("cipher initialization failure");
+    expect(&rt, goes_both_ways(&[250], FIVE, GOOD), Ok(()), "good");
+    expect(&rt, encrypts(&[250], FIVE, BAD), not_encrypted, "encrypts");
+    expect(&rt, decrypts(&[250], FIVE, BAD), not_decrypted, "decrypts");
+    expect(&rt, decrypts(&[250], FIVE, &[1]), ciphertext, "ciphertext");
+    expect(&rt, encrypts(&[250], &[1], &[1]), plaintext, "plaintext");
+    expect(&rt, goes_both_ways(&[], &[1], &[1]), key, "key");
+}
+
+// blocks in their places, by a buffer that is passed by value
+fn in_place<C: BlockCipherEncrypt<5>>(cipher: &C, blocks: &mut [[u8; 5]])
+    ensures { blocks.new ≡ map (C.encrypts cipher.now) blocks.old }
+{
+    cipher.encrypt_blocks_inout(InOutBuf {
+        output: blocks,
+        input: &[],
+    });
+}
+
+// whether a cipher behind a reference shifts the blocks
+fn shifts_behind_a_reference(c: &Shift) -> bool {
+    let mut blocks = PLAIN;
+    in_place(&c, &mut blocks);
+    blocks == SHIFTED
+}
+
+#[test]
+fn a_reference_is_a_cipher(rt: HostRuntime) {
+    check(
+        &rt,
+        shifts_behind_a_reference(&Shift::new(&[250])),
+        "shifts",
+    );
+    check(&rt, Shift::new_from_slice(&[250]).is_ok(), "a key");
+    check(&rt, Shift::new_from_slice(&[]).is_err(), "no key");
+}

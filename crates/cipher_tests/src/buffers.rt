@@ -1,0 +1,150 @@
+//! Buffers.
+
+use crate::expected::{check, expect};
+use cipher::{InOut, InOutBuf, InOutBufReserved};
+
+// what a buffer reads, and what it writes, xor ones
+fn xored() -> ([u8; 5], [u8; 5]) {
+    let input = [1, 2, 3, 4, 5];
+    let mut output = [0; 5];
+    let mut read = [0; 5];
+    let mut buffer = InOutBuf::new(&input, &mut output).unwrap();
+    buffer.xor_in2out(&[1; 5]);
+    read.copy_from_slice(buffer.get_in());
+    (read, output)
+}
+
+// the lengths of the parts before and behind the third place, and whether the second is empty
+fn split() -> (usize, usize, bool) {
+    let mut output = [0; 5];
+    let buffer = InOutBuf::new(&[1, 2, 3, 4, 5], &mut output).unwrap();
+    let (front, back) = buffer.split_at(3);
+    (front.len(), back.len(), back.is_empty())
+}
+
+// the pair and the rest that are read in three places
+fn chunks() -> ([u8; 2], u8) {
+    let mut output = [0; 3];
+    let buffer = InOutBuf::new(&[1, 2, 3], &mut output).unwrap();
+    let (chunks, rest) = buffer.into_chunks::<2>();
+    (chunks.get_in()[0], rest.get_in()[0])
+}
+
+#[test]
+fn buffers_read_and_write(rt: HostRuntime) {
+    check(&rt, InOutBuf::new(&[1, 2], &mut [0; 5]).is_err(), "unequal");
+    expect(&rt, xored(), ([1, 2, 3, 4, 5], [0, 3, 2, 5, 4]), "xor");
+    expect(&rt, split(), (3, 2, false), "lengths");
+    expect(&rt, chunks(), ([1, 2], 3), "chunks");
+}
+
+// what a place reads, what it holds and what its second part reads
+fn one_place() -> ([u8; 2], [u8; 2], u8) {
+    let input = [1, 2];
+    let mut output = [8, 9];
+    let mut place = InOut::new(&input, &mut output);
+    place.xor_in2out(&[1, 1]);
+    let held = *place.get_out();
+    let read = *place.reborrow().get_in();
+    let part = *place.get(1).get_in();
+    (read, held, part)
+}
+
+// what is read again after a part of a place was written
+fn written_in_part() -> [u8; 2] {
+    let mut output = [0, 3];
+    let mut place = InOut::from(&mut output);
+    *place.get(1).get_out() = 5;
+    *place.get_in()
+}
+
+// two places written one by one, with what the second held
+fn written_singly() -> ([u8; 2], u8) {
+    let mut output = [0, 5];
+    let read = *InOutBuf::from(&mut output[..]).get(1).get_in();
+    *InOutBuf::from(&mut output[..]).get(0).get_out() = 4;
+    InOutBuf::from(&mut output[..]).reborrow().get_out()[1] = 6;
+    (output, read)
+}
+
+#[test]
+fn places_read_and_write(rt: HostRuntime) {
+    expect(&rt, one_place(), ([1, 2], [0, 3], 2), "one place");
+    expect(&rt, written_in_part(), [0, 5], "a part");
+    expect(&rt, written_singly(), ([4, 6], 5), "two places");
+    check(&rt, !InOutBuf::from(&mut [0; 2][..]).is_empty(), "empty");
+}
+
+// the length of a message in front, whether it is empty, what is read, and what stands behind after a write
+fn message_in_front() -> (usize, bool, [u8; 2], [u8; 3]) {
+    let mut output = [1, 2, 3];
+    let mut read = [0; 2];
+    let mut buffer = InOutBufReserved::from_mut_slice(&mut output, 2).unwrap();
+    let (len, empty) = (buffer.len(), buffer.is_empty());
+    read.copy_from_slice(buffer.get_in());
+    buffer.get_out()[2] = 9;
+    (len, empty, read, output)
+}
+
+// what is read of a message elsewhere, and what the output holds
+fn message_elsewhere() -> ([u8; 1], [u8; 3]) {
+    let mut output = [1, 2, 9];
+    let mut read = [0; 1];
+    let buffer = InOutBufReserved::from_slices(&[7], &mut output).unwrap();
+    read.copy_from_slice(buffer.get_in());
+    (read, output)
+}
+
+fn is_too_long_in_front() -> bool {
+    InOutBufReserved::from_mut_slice(&mut [1, 2, 3], 4).is_err()
+}
+
+fn is_too_long_elsewhere() -> bool {
+    InOutBufReserved::from_slices(&[7; 4], &mut [1, 2, 3]).is_err()
+}
+
+// whether a message of three in front of five places is parted behind its first place
+fn splits() -> bool {
+    let mut output = [1, 2, 3, 4, 5];
+    let buffer = InOutBufReserved::from_mut_slice(&mut output, 3).unwrap();
+    let (front, mut back) = buffer.split_at(1);
+    let lengths = front.len() == 1 && back.len() == 2 && back.get_out().len() == 4;
+    lengths && front.get_in() == [1].as_slice() && back.get_in() == [2, 3].as_slice()
+}
+
+// whether a message of three elsewhere has one pair and a rest
+fn chunks_of_a_message() -> bool {
+    let mut output = [0; 5];
+    let buffer = InOutBufReserved::from_slices(&[1, 2, 3], &mut output).unwrap();
+    let (chunks, rest) = buffer.into_chunks::<2>();
+    chunks.get_in() == [[1, 2]].as_slice() && rest.get_in() == [3].as_slice()
+}
+
+// whether a message that is lent for a while is read and written
+fn lends_a_message() -> bool {
+    let mut output = [0; 2];
+    let mut buffer = InOutBufReserved::from_slices(&[7], &mut output).unwrap();
+    let mut lent = buffer.reborrow();
+    lent.get_out()[1] = 6;
+    lent.len() == 1 && lent.get_in() == [7].as_slice() && output == [0, 6]
+}
+
+#[test]
+fn a_message_is_parted(rt: HostRuntime) {
+    check(&rt, splits(), "behind its first place");
+    check(&rt, chunks_of_a_message(), "pairs");
+    check(&rt, lends_a_message(), "lent");
+}
+
+#[test]
+fn a_message_has_room_behind_it(rt: HostRuntime) {
+    check(&rt, is_too_long_in_front(), "too long in front");
+    check(&rt, is_too_long_elsewhere(), "too long elsewhere");
+    expect(
+        &rt,
+        message_in_front(),
+        (2, false, [1, 2], [1, 2, 9]),
+        "in front",
+    );
+    expect(&rt, message_elsewhere(), ([7], [1, 2, 9]), "elsewhere");
+}

@@ -1,0 +1,234 @@
+//! Calls of modes on blocks, and vectors.
+
+ghost use Rattle.std.specs.Prelude.{◌≡◌, ℕ, List};
+ghost use Rattle.cipher_modes.specs.Steps.{run_of, state_after};
+
+use crate::chained::{AddKey, Chained, Unchained, decrypter, encrypter};
+use crate::expected::{check, check_at, expect};
+use cipher::{InOut, InOutBuf, InnerIvInit, InvalidLength, IvState, NotEqualError, SetIvState};
+use cipher_modes::dev::block_mode::{TestVector, decrypt, encrypt};
+use cipher_modes::{BlockModeDecrypt, BlockModeEncrypt};
+
+const BLOCKS: [[u8; 4]; 10] = [[1, 2, 3, 4]; 10];
+
+// the blocks of a mode, and the state after them
+fn encrypt_both<M: BlockModeEncrypt<4>>(mode: &mut M, blocks: &mut [[u8; 4]])
+    ensures blocks { blocks.new ≡ run_of M.step mode.old blocks.old }
+    ensures state { mode.new ≡ state_after M.step mode.old blocks.old }
+{
+    mode.encrypt_blocks(blocks);
+}
+
+// whether n blocks encrypted together are those encrypted one by one, and the states after them are one
+fn goes_together(n: usize) -> bool {
+    let n = n.min(10);
+    let mut blocks = BLOCKS;
+    let mut other = BLOCKS;
+    let mut mode = encrypter();
+    let mut single = encrypter();
+    encrypt_both(&mut mode, &mut blocks[..n]);
+    encrypt_singly(&mut single, &mut other[..n]);
+    blocks == other && mode.iv == single.iv
+}
+
+fn encrypt_singly(mode: &mut Chained, blocks: &mut [[u8; 4]]) {
+    for i in 0..blocks.len() {
+        mode.encrypt_block(&mut blocks[i]);
+    }
+}
+
+// n blocks encrypted, and the others as they were
+fn made(n: usize) -> [[u8; 4]; 10] {
+    let mut blocks = BLOCKS;
+    encrypter().encrypt_blocks(&mut blocks[..n.min(10)]);
+    blocks
+}
+
+// n blocks there and back in their places
+fn goes_in_place(n: usize, want: &[[u8; 4]; 10]) -> bool {
+    let n = n.min(10);
+    let mut blocks = BLOCKS;
+    encrypter().encrypt_blocks_inout(InOutBuf::from(&mut blocks[..n]));
+    let there = blocks == *want;
+    decrypter().decrypt_blocks(&mut blocks[..n]);
+    there && blocks == BLOCKS
+}
+
+// the way back by a buffer
+fn comes_back(n: usize, made: &[[u8; 4]; 10]) -> bool {
+    let mut blocks = *made;
+    decrypter().decrypt_blocks_inout(InOutBuf::from(&mut blocks[..n.min(10)]));
+    blocks == BLOCKS
+}
+
+// n blocks there and back in other places
+fn goes_elsewhere(n: usize, want: &[[u8; 4]; 10]) -> bool {
+    let n = n.min(10);
+    let mut there = BLOCKS;
+    let mut back = [[0; 4]; 10];
+    let encrypted = encrypter().encrypt_blocks_b2b(&BLOCKS[..n], &mut there[..n]);
+    let decrypted = decrypter().decrypt_blocks_b2b(&there[..n], &mut back[..n]);
+    encrypted == Ok(()) && decrypted == Ok(()) && there == *want && back[..n] == BLOCKS[..n]
+}
+
+// whether all calls agree on n blocks
+fn goes(n: usize) -> bool {
+    let want = made(n);
+    goes_together(n) && goes_in_place(n, &want) && comes_back(n, &want) && goes_elsewhere(n, &want)
+}
+
+#[test]
+fn blocks_go_in_order(rt: HostRuntime) {
+    for n in 0..11 {
+        check_at(&rt, goes(n), n);
+    }
+}
+
+const NINES: [[u8; 4]; 2] = [[9; 4]; 2];
+
+fn refuses_too_many() -> bool {
+    let mut out = NINES;
+    let mut mode = encrypter();
+    let told = mode.encrypt_blocks_b2b(&BLOCKS[..3], &mut out);
+    told == Err(NotEqualError) && out == NINES && mode.iv == [0; 4]
+}
+
+fn refuses_too_few() -> bool {
+    let mut out = NINES;
+    let mut mode = decrypter();
+    let told = mode.decrypt_blocks_b2b(&BLOCKS[..1], &mut out);
+    told == Err(NotEqualError) && out == NINES && mode.iv == [0; 4]
+}
+
+#[test]
+fn unequal_numbers_of_blocks_change_nothing(rt: HostRuntime) {
+    check(&rt, refuses_too_many(), "encryption");
+    check(&rt, refuses_too_few(), "decryption");
+}
+
+const TEXT: [u8; 4] = [1, 2, 3, 4];
+
+const MADE: [u8; 4] = [2, 3, 4, 5];
+
+fn encrypted_elsewhere() -> [u8; 4] {
+    let mut made = [0; 4];
+    encrypter().encrypt_block_b2b(&TEXT, &mut made);
+    made
+}
+
+fn encrypted_by_places() -> [u8; 4] {
+    let mut made = [0; 4];
+    encrypter().encrypt_block_inout(InOut::new(&TEXT, &mut made));
+    made
+}
+
+fn decrypted_elsewhere() -> [u8; 4] {
+    let mut back = [0; 4];
+    decrypter().decrypt_block_b2b(&MADE, &mut back);
+    back
+}
+
+fn decrypted_by_places() -> [u8; 4] {
+    let mut back = MADE;
+    decrypter().decrypt_block_inout(InOut::from(&mut back));
+    back
+}
+
+fn decrypted_in_place() -> [u8; 4] {
+    let mut back = MADE;
+    decrypter().decrypt_block(&mut back);
+    back
+}
+
+#[test]
+fn one_block_goes_each_way(rt: HostRuntime) {
+    expect(&rt, encrypted_elsewhere(), MADE, "encrypted elsewhere");
+    expect(&rt, encrypted_by_places(), MADE, "encrypted by places");
+    expect(&rt, decrypted_elsewhere(), TEXT, "decrypted elsewhere");
+    expect(&rt, decrypted_by_places(), TEXT, "decrypted by places");
+    expect(&rt, decrypted_in_place(), TEXT, "decrypted in place");
+}
+
+// whether the blocks of a mode after three are those of another under its state
+fn goes_on() -> bool {
+    let mut first = encrypter();
+    first.encrypt_blocks(&mut [[1, 2, 3, 4]; 3]);
+    let mut second = Chained::inner_iv_init(AddKey { key: 1 }, &[0; 4]);
+    second.set_iv(&first.iv_state());
+    let mut one = BLOCKS;
+    let mut other = BLOCKS;
+    first.encrypt_blocks(&mut one);
+    second.encrypt_blocks(&mut other);
+    one == other
+}
+
+// the state of a mode whose initialization vector is these bytes
+fn state_from(iv: &[u8]) -> Result<[u8; 4], InvalidLength> {
+    let mode = Chained::inner_iv_slice_init(AddKey { key: 1 }, iv)?;
+    Ok(mode.iv_state())
+}
+
+#[test]
+fn a_state_goes_on_elsewhere(rt: HostRuntime) {
+    check(&rt, goes_on(), "another mode");
+    expect(&rt, state_from(&[5; 4]), Ok([5; 4]), "four bytes");
+    expect(&rt, state_from(&[0; 3]), Err(InvalidLength), "three bytes");
+}
+
+fn encrypts(
+    iv: &'static [u8],
+    plaintext: &'static [u8],
+    ciphertext: &'static [u8],
+) -> Result<(), &'static str> {
+    encrypt::<Chained, 1, 4, 4>(&TestVector {
+        key: &[1],
+        iv,
+        plaintext,
+        ciphertext,
+    })
+}
+
+fn decrypts(plaintext: &'static [u8], ciphertext: &'static [u8]) -> Result<(), &'static str> {
+    decrypt::<Unchained, 1, 4, 4>(&TestVector {
+        key: &[255],
+        iv: &[0; 4],
+        plaintext,
+        ciphertext,
+    })
+}
+
+const LONG_TEXT: &[u8] = &[1, 2, 3, 4, 4, 4, 4, 4];
+
+const LONG_MADE: &[u8] = &[2, 3, 4, 5, 7, 8, 1, 2];
+
+#[test]
+fn a_vector_is_told(rt: HostRuntime) {
+    let key = Err("cipher initialization failure");
+    let part = Err("plaintext/ciphertext length is not multiple of block size");
+    let lengths = Err("plaintext/ciphertext length mismatch");
+    let too_long = Err("ciphertext is bigger than MAX_MSG_LEN bytes");
+    expect(&rt, encrypts(&[0; 4], LONG_TEXT, LONG_MADE), Ok(()), "good");
+    expect(&rt, encrypts(&[0], LONG_TEXT, LONG_MADE), key, "vector");
+    expect(
+        &rt,
+        encrypts(&[0], &[1, 2], &[1, 2]),
+        part,
+        "part of a block",
+    );
+    expect(&rt, encrypts(&[0], &[1], &[1, 2]), lengths, "lengths");
+    expect(&rt, encrypts(&[0], &[1], &[0; 4097]), too_long, "too long");
+}
+
+#[test]
+fn a_vector_is_told_the_other_way(rt: HostRuntime) {
+    let other = Err("single block decryption failure");
+    let too_long = Err("plaintext is bigger than MAX_MSG_LEN bytes");
+    expect(&rt, decrypts(LONG_TEXT, LONG_MADE), Ok(()), "good");
+    expect(
+        &rt,
+        decrypts(LONG_TEXT, &[2, 3, 4, 5, 7, 8, 1, 3]),
+        other,
+        "other",
+    );
+    expect(&rt, decrypts(&[0; 4100], LONG_MADE), too_long, "too long");
+}

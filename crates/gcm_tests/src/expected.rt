@@ -1,0 +1,17 @@
+//! What the tests compare by.
+
+use std::fmt::Debug;
+use std::process::Abort;
+
+/// The one place that compares: a test function with many `assert_eq!` takes long to prove.
+pub fn expect<T>(rt: &impl Abort, got: T, want: T, label: &str)
+where
+    T: PartialEq + Debug + Drop,
+{
+    assert_eq!(rt; got, want, "{label}");
+}
+
+/// The same where the values that differ would say nothing.
+pub fn check(rt: &impl Abort, holds: bool, label: &str) {
+    assert!(rt; holds, "{label}");
+}

@@ -1,0 +1,428 @@
+//! The buffer over a core.
+
+ghost use Rattle.cipher_stream.specs.ByteStream.{to_come};
+ghost use Rattle.cipher_stream.specs.Keystream.{xored};
+ghost use Rattle.std.specs.Prelude.{OnOk, ◌≡◌, ◌≤◌};
+
+use crate::cores::{Constant, Mixed, Numbers};
+use crate::expected::{check, check_at, expect, is_debug, is_shown};
+use cipher::{InOutBuf, KeyIvInit};
+use cipher_stream::dev::stream::{TestVector, stream_cipher_test};
+use cipher_stream::{
+    OverflowError, StreamCipher, StreamCipherCoreWrapper, StreamCipherError, StreamCipherSeek,
+};
+use std::test::Fail;
+
+/// A key.
+pub const KEY: [u8; 4] = [0, 1, 2, 3];
+
+/// An initialization vector.
+pub const IV: [u8; 4] = [4, 5, 6, 7];
+
+/// The first bytes of the keystream.
+pub const FIRST: [u8; 20] = [
+    0xe8, 0x23, 0x93, 0x54, 0x3c, 0xc9, 0x60, 0x89, 0x30, 0x51, 0x16, 0x00, 0x3a, 0x41, 0x7a, 0xcc,
+    0xd0, 0x73, 0x38, 0x4a,
+];
+
+// the keystream from place 500 on, and that xor the first bytes
+const LATER: [u8; 20] = [
+    0x83, 0x22, 0xdf, 0x3e, 0x00, 0xfe, 0x0b, 0x9a, 0xf4, 0x23, 0x13, 0x90, 0xe8, 0x20, 0x3d, 0x09,
+    0x3b, 0x80, 0x0c, 0x8f,
+];
+
+const BOTH: [u8; 20] = [
+    0x6b, 0x01, 0x4c, 0x6a, 0x3c, 0x37, 0x6b, 0x13, 0xc4, 0x72, 0x05, 0x90, 0xd2, 0x61, 0x47, 0xc5,
+    0xeb, 0xf3, 0x34, 0xc5,
+];
+
+type Cipher = StreamCipherCoreWrapper<Mixed, 16>;
+
+type Told = Result<(), StreamCipherError>;
+
+fn fresh() -> Cipher
+    ensures next { result.0.next ≡ 0 }
+    ensures rest { result.1 ≡ 0 }
+{
+    Cipher::new(&KEY, &IV)
+}
+
+// the first bytes, and with the bytes from place 500 on
+fn written_and_applied() -> [[u8; 20]; 2] {
+    let mut cipher = fresh();
+    let mut bytes = [0; 20];
+    cipher.write_keystream(&mut bytes);
+    let first = bytes;
+    cipher.seek(500u32);
+    cipher.apply_keystream(&mut bytes);
+    [first, bytes]
+}
+
+// what is answered, the bytes from place 500 on, and the place behind them
+fn written_from_a_place() -> (Told, Told, [u8; 20], Result<u64, OverflowError>) {
+    let mut cipher = fresh();
+    let mut bytes = [0; 20];
+    let sought = cipher.try_seek(500i32);
+    let told = cipher.try_write_keystream(&mut bytes);
+    (sought, told, bytes, cipher.try_current_pos::<u64>())
+}
+
+#[test]
+fn writes_the_keystream(rt: HostRuntime) {
+    expect(&rt, written_and_applied(), [FIRST, BOTH], "from the start");
+    expect(
+        &rt,
+        written_from_a_place(),
+        (Ok(()), Ok(()), LATER, Ok(520)),
+        "from a place",
+    );
+}
+
+fn in_pieces<C: StreamCipher>(cipher: &mut C, bytes: &mut [u8], size: usize) -> Told
+    requires { 1 ≤ size }
+{
+    for piece in bytes.chunks_mut(size) {
+        cipher.try_apply_keystream(piece)?;
+    }
+    Ok(())
+}
+
+// whether pieces of a size give what one call writes
+fn pieces_give(size: usize, whole: &[u8; 300]) -> bool
+    requires { 1 ≤ size }
+{
+    let mut cipher = fresh();
+    let mut bytes = [0; 300];
+    let told = in_pieces(&mut &mut cipher, &mut bytes, size);
+    told == Ok(()) && bytes == *whole
+}
+
+fn written_whole() -> ([u8; 300], Told) {
+    let mut bytes = [0; 300];
+    let told = fresh().try_write_keystream(&mut bytes);
+    (bytes, told)
+}
+
+#[test]
+fn pieces_give_the_whole(rt: HostRuntime) {
+    let (whole, told) = written_whole();
+    check(&rt, told == Ok(()), "written");
+    for size in 1..50 {
+        check_at(&rt, pieces_give(size, &whole), size);
+    }
+}
+
+fn applied_elsewhere() -> [u8; 20] {
+    let mut bytes = [1; 20];
+    fresh().apply_keystream_b2b(&[0; 20], &mut bytes);
+    bytes
+}
+
+fn applied_to_a_buffer() -> [u8; 20] {
+    let mut bytes = FIRST;
+    fresh().apply_keystream_inout(InOutBuf::from(bytes.as_mut_slice()));
+    bytes
+}
+
+fn tried_on_a_buffer() -> ([u8; 20], Told) {
+    let mut bytes = [0; 20];
+    let told = fresh().try_apply_keystream_inout(InOutBuf::from(bytes.as_mut_slice()));
+    (bytes, told)
+}
+
+fn tried_on_unequal_lengths() -> ([u8; 20], Told) {
+    let mut bytes = [1; 20];
+    let told = fresh().try_apply_keystream_b2b(&[0; 3], &mut bytes);
+    (bytes, told)
+}
+
+#[test]
+fn forms_of_one_call(rt: HostRuntime) {
+    expect(&rt, applied_elsewhere(), FIRST, "elsewhere");
+    expect(&rt, applied_to_a_buffer(), [0; 20], "to a buffer");
+    expect(&rt, tried_on_a_buffer(), (FIRST, Ok(())), "tried");
+    expect(
+        &rt,
+        tried_on_unequal_lengths(),
+        ([1; 20], Err(StreamCipherError)),
+        "unequal lengths",
+    );
+}
+
+fn unchecked_in_place() -> [u8; 20] {
+    let mut bytes = [0; 20];
+    fresh().unchecked_apply_keystream(&mut bytes);
+    bytes
+}
+
+fn unchecked_elsewhere() -> ([u8; 20], bool) {
+    let mut bytes = [1; 20];
+    let told = fresh().unchecked_apply_keystream_b2b(&BOTH, &mut bytes);
+    (bytes, told.is_ok())
+}
+
+fn unchecked_by_a_buffer() -> [u8; 20] {
+    let mut bytes = LATER;
+    fresh().unchecked_apply_keystream_inout(InOutBuf::from(bytes.as_mut_slice()));
+    bytes
+}
+
+fn unchecked_written() -> [u8; 20] {
+    let mut bytes = [1; 20];
+    fresh().unchecked_write_keystream(&mut bytes);
+    bytes
+}
+
+#[test]
+fn forms_without_a_test(rt: HostRuntime) {
+    expect(&rt, unchecked_in_place(), FIRST, "in place");
+    expect(&rt, unchecked_elsewhere(), (LATER, true), "elsewhere");
+    expect(&rt, unchecked_by_a_buffer(), BOTH, "by a buffer");
+    expect(&rt, unchecked_written(), FIRST, "written");
+}
+
+// the place of the greatest block, from which no byte is given
+const END: u128 = (1 << 68) - 16;
+
+fn sought(place: u128) -> (Told, Cipher) {
+    let mut cipher = fresh();
+    let told = cipher.try_seek(place);
+    (told, cipher)
+}
+
+// one byte, no byte, and the place after both
+fn tried_at_the_end() -> (
+    Told,
+    Told,
+    Result<u128, OverflowError>,
+    Result<u64, OverflowError>,
+) {
+    let (_, mut cipher) = sought(END);
+    let one = cipher.try_apply_keystream(&mut [9]);
+    let none = cipher.try_apply_keystream(&mut []);
+    let place = cipher.try_current_pos::<u128>();
+    (one, none, place, cipher.try_current_pos::<u64>())
+}
+
+#[test]
+fn the_end_is_told(rt: HostRuntime) {
+    expect(&rt, sought(END).0, Ok(()), "sought");
+    expect(
+        &rt,
+        tried_at_the_end(),
+        (Err(StreamCipherError), Ok(()), Ok(END), Err(OverflowError)),
+        "tried",
+    );
+}
+
+// what seeks past the end and below 0 answer, and the place after them
+fn sought_outside() -> ([Told; 3], u128) {
+    let mut cipher = fresh();
+    let past = cipher.try_seek(END + 1);
+    let far = cipher.try_seek(END + 16);
+    let below = cipher.try_seek(-1);
+    ([past, far, below], cipher.current_pos::<u128>())
+}
+
+// whether two bytes are refused, what one byte answers, and that byte xor 9
+fn last_byte() -> (bool, Told, u8) {
+    let (_, mut cipher) = sought(END - 1);
+    let mut byte = [9];
+    let refused = cipher.check_remaining(2).is_err();
+    let told = cipher.try_apply_keystream(&mut byte);
+    (refused, told, byte[0])
+}
+
+#[test]
+fn seeks_past_the_end_are_refused(rt: HostRuntime) {
+    expect(
+        &rt,
+        sought_outside(),
+        ([Err(StreamCipherError); 3], 0),
+        "outside",
+    );
+    expect(&rt, last_byte(), (true, Ok(()), 9 ^ 60), "the last byte");
+}
+
+// the keystream's last 20 bytes before the greatest block
+const LAST: [u8; 20] = [
+    0x3a, 0x1a, 0x6f, 0x17, 0x18, 0xdc, 0x6c, 0xab, 0xc3, 0x36, 0x9f, 0x76, 0x18, 0x75, 0x2c, 0xf0,
+    0xe3, 0x7f, 0xb3, 0x3c,
+];
+
+// room bytes, at most 20, from as many before the end on: one more is refused and changes nothing, and none is left
+fn gives_no_more(room: usize) -> bool {
+    let room = room.min(20);
+    let place = END - room as u128;
+    let (told, mut cipher) = sought(place);
+    let mut bytes = [0; 21];
+    let refused = cipher.try_apply_keystream(&mut bytes[..room + 1]);
+    let same = bytes == [0; 21] && cipher.try_current_pos::<u128>() == Ok(place);
+    let given = cipher.try_apply_keystream(&mut bytes[..room]);
+    let left = cipher.check_remaining(1);
+    told == Ok(())
+        && refused == Err(StreamCipherError)
+        && same
+        && given == Ok(())
+        && bytes[..room] == LAST[20 - room..]
+        && left == Err(StreamCipherError)
+}
+
+// from each of the last 20 places, and at the greatest block
+#[test]
+fn no_more_is_left_after_a_seek(rt: HostRuntime) {
+    for room in 0..21 {
+        check_at(&rt, gives_no_more(room), room);
+    }
+}
+
+const GREATEST: u64 = ((1 << 32) - 1) * 4;
+
+type NumberCipher = StreamCipherCoreWrapper<Numbers, 4>;
+
+// what a seek behind the greatest block answers, and one to it
+fn at_the_greatest() -> ([Told; 2], NumberCipher) {
+    let mut cipher = NumberCipher::from_core(Numbers { next: 7 });
+    let behind = cipher.try_seek(GREATEST + 1);
+    let there = cipher.try_seek(GREATEST);
+    ([behind, there], cipher)
+}
+
+// n bytes, at most 9, from the greatest block on, and the place behind them
+fn bytes_behind(n: usize) -> (Told, [u8; 9], Result<u128, OverflowError>) {
+    let (_, mut cipher) = at_the_greatest();
+    let mut bytes = [0; 9];
+    let told = cipher.try_apply_keystream(&mut bytes[..n.min(9)]);
+    (told, bytes, cipher.try_current_pos::<u128>())
+}
+
+// the place as an i32 after three bytes
+fn place_behind_three() -> Result<i32, OverflowError> {
+    let (_, mut cipher) = at_the_greatest();
+    let _told = cipher.try_apply_keystream(&mut [0; 3]);
+    cipher.try_current_pos::<i32>()
+}
+
+// a rest of the greatest block, with block 0 behind it
+#[test]
+fn a_place_below_0_is_told(rt: HostRuntime) {
+    expect(
+        &rt,
+        at_the_greatest().0,
+        [Err(StreamCipherError), Ok(())],
+        "sought",
+    );
+    expect(
+        &rt,
+        bytes_behind(3),
+        (
+            Ok(()),
+            [0xff, 0xfe, 0xfd, 0, 0, 0, 0, 0, 0],
+            Err(OverflowError),
+        ),
+        "three bytes",
+    );
+    expect(&rt, place_behind_three(), Err(OverflowError), "as an i32");
+    expect(
+        &rt,
+        bytes_behind(9),
+        (Ok(()), [0xff, 0xfe, 0xfd, 0xfc, 0, 1, 2, 3, 1], Ok(5)),
+        "nine bytes",
+    );
+}
+
+// nine bytes in two pieces, the second behind the rest of the greatest block
+fn two_pieces_behind() -> (Told, Told, [u8; 9]) {
+    let (_, mut cipher) = at_the_greatest();
+    let mut bytes = [0; 9];
+    let first = cipher.try_apply_keystream(&mut bytes[..3]);
+    let second = cipher.try_apply_keystream(&mut bytes[3..]);
+    (first, second, bytes)
+}
+
+#[test]
+fn a_rest_of_the_greatest_block_is_given(rt: HostRuntime) {
+    expect(
+        &rt,
+        two_pieces_behind(),
+        (Ok(()), Ok(()), [0xff, 0xfe, 0xfd, 0xfc, 0, 1, 2, 3, 1]),
+        "two pieces",
+    );
+}
+
+// bytes in their places, over any cipher
+fn in_place<C: StreamCipher>(cipher: &mut C, bytes: &mut [u8]) -> Result<(), StreamCipherError>
+    ensures { OnOk result (bytes.new ≡ xored (to_come (C.stream cipher.old)) bytes.old) }
+{
+    cipher.try_apply_keystream(bytes)
+}
+
+// a clone's bytes after seven
+fn cloned() -> Result<([u8; 13], Told), Fail> {
+    let mut cipher = fresh();
+    let _told = cipher.try_apply_keystream(&mut [0; 7]);
+    let mut other = cipher.clone()?;
+    let mut bytes = [0; 13];
+    let told = in_place(&mut other, &mut bytes);
+    Ok((bytes, told))
+}
+
+#[test]
+fn a_clone_goes_on(rt: HostRuntime) -> Result<(), Fail> {
+    let (bytes, told) = cloned()?;
+    check(&rt, told == Ok(()) && bytes[..] == FIRST[7..], "a clone");
+    expect(&rt, fresh().get_core().next, 0, "the core's place");
+    Ok(())
+}
+
+#[test]
+fn texts(rt: HostRuntime) -> Result<(), Fail> {
+    let wrapper = "StreamCipherCoreWrapper { .. }";
+    check(&rt, is_debug(rt.alloc(), &fresh(), wrapper)?, "wrapper");
+    check(
+        &rt,
+        is_shown(rt.alloc(), &StreamCipherError, "Loop Error")?,
+        "end",
+    );
+    check(
+        &rt,
+        is_shown(rt.alloc(), &OverflowError, "Overflow Error")?,
+        "place",
+    );
+    Ok(())
+}
+
+type Short = StreamCipherCoreWrapper<Constant, 5>;
+
+fn told(
+    key: &'static [u8],
+    iv: &'static [u8],
+    plaintext: &'static [u8],
+    ciphertext: &'static [u8],
+) -> Result<(), &'static str> {
+    stream_cipher_test::<Short, 1, 1>(&TestVector {
+        key,
+        iv,
+        plaintext,
+        ciphertext,
+    })
+}
+
+const PLAIN: &[u8] = &[0, 1, 2, 3, 4, 5, 6, 7, 8, 9];
+
+const GOOD: &[u8] = &[3, 2, 1, 0, 7, 6, 5, 4, 11, 10];
+
+const BAD: &[u8] = &[3, 2, 1, 1, 7, 6, 5, 4, 11, 10];
+
+#[test]
+fn vectors_are_told(rt: HostRuntime) {
+    let end = Err("end of keystream reached");
+    let other = Err("ciphertext mismatch");
+    let key = Err("cipher initialization failure");
+    let lengths = Err("mismatch of plaintext and ciphertext lengths");
+    expect(&rt, told(&[3], &[2], PLAIN, GOOD), Ok(()), "good");
+    expect(&rt, told(&[3], &[1], PLAIN, GOOD), end, "end");
+    expect(&rt, told(&[3], &[1], PLAIN, BAD), other, "other");
+    expect(&rt, told(&[], &[1], PLAIN, BAD), key, "key");
+    expect(&rt, told(&[], &[1], &[], BAD), lengths, "lengths");
+}
