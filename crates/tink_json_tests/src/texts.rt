@@ -3,9 +3,10 @@
 ghost use Rattle.std.specs.Prelude.{◌≡◌, IfOk, Some};
 ghost use Rattle.tink_json.specs.Messages.{keyset as keyset_form, message_of};
 
-use crate::Json;
+use crate::expect::{expect, expect_bytes};
 use std::alloc::Global;
-use std::test::Fail;
+use std::process::Abort;
+use tink_json::Json;
 use tink_proto::{
     Bytes, EncryptedKeyset, Key, KeyData, KeyInfo, Keyset, KeysetInfo, Message, ProtoError,
     Repeated, Text,
@@ -31,6 +32,14 @@ const KEYSET: &str = "{
   ],
   \"primaryKeyId\": 16909060
 }";
+
+// A text that was given.
+fn expect_text(rt: &impl Abort, got: Result<Text, ProtoError>, want: &str) {
+    match got {
+        Ok(text) => expect_bytes(rt, text.as_bytes(), want.as_bytes(), "the text"),
+        Err(e) => expect(rt, Some(e), None, "an error"),
+    }
+}
 
 fn keyset(alloc: Global) -> Result<Keyset, ProtoError> {
     let data = KeyData {
@@ -80,82 +89,129 @@ fn first_of(alloc: Global, text: &str) -> Result<(u32, i32, i32, i32), ProtoErro
     Ok((key.key_id, key.status, key.output_prefix_type, material))
 }
 
-#[test]
-fn a_keyset_is_written_and_read(rt: HostRuntime) -> Result<(), Fail> {
-    let alloc = rt.alloc();
-    let text = keyset(alloc)?.to_json(alloc)?;
-    assert_eq!(rt; text.as_str(), KEYSET);
-    let back = Keyset::from_json(alloc, KEYSET.as_bytes())?;
-    assert_eq!(rt;
-        back.encode(alloc)?.as_slice(),
-        keyset(alloc)?.encode(alloc)?.as_slice()
-    );
-    Ok(())
+fn written(alloc: Global) -> Result<Text, ProtoError> {
+    keyset(alloc)?.to_json(alloc)
+}
+
+// Whether the text is read as the keyset.
+fn is_read(alloc: Global) -> Result<bool, ProtoError> {
+    let got = keyset_of(alloc, KEYSET.as_bytes())?.encode(alloc)?;
+    let want = keyset(alloc)?.encode(alloc)?;
+    Ok(got.as_slice() == want.as_slice())
 }
 
 #[test]
-fn an_encrypted_keyset_is_written_and_read(rt: HostRuntime) -> Result<(), Fail> {
-    let alloc = rt.alloc();
+fn a_keyset_is_written_and_read(rt: HostRuntime) {
+    expect_text(&rt, written(rt.alloc()), KEYSET);
+    expect(&rt, is_read(rt.alloc()), Ok(true), "read");
+}
+
+fn info(alloc: Global) -> Result<KeysetInfo, ProtoError> {
     let info = KeyInfo {
         type_url: Text::from_str(alloc, "a\"b")?,
         status: 7,
         key_id: 0,
         output_prefix_type: -1,
     };
-    let encrypted = EncryptedKeyset {
+    Ok(KeysetInfo {
+        primary_key_id: 4294967295,
+        key_info: Repeated::from_vec(vec![in alloc; info]?),
+    })
+}
+
+fn encrypted(alloc: Global) -> Result<EncryptedKeyset, ProtoError> {
+    Ok(EncryptedKeyset {
         encrypted_keyset: Bytes::from_slice(alloc, b"\xff\xfe")?,
-        keyset_info: Some(KeysetInfo {
-            primary_key_id: 4294967295,
-            key_info: Repeated::from_vec(vec![in alloc; info]?),
-        }),
-    };
-    let text = encrypted.to_json(alloc)?;
-    assert_eq!(rt;
-        text.as_str(),
-        "{\n  \"encryptedKeyset\": \"//4=\",\n  \"keysetInfo\": {\n    \"keyInfo\": [\n      {\n        \"keyId\": 0,\n        \"outputPrefixType\": -1,\n        \"status\": 7,\n        \"typeUrl\": \"a\\\"b\"\n      }\n    ],\n    \"primaryKeyId\": 4294967295\n  }\n}"
-    );
-    let back = EncryptedKeyset::from_json(alloc, text.as_bytes())?;
-    assert_eq!(rt;
-        back.encode(alloc)?.as_slice(),
-        encrypted.encode(alloc)?.as_slice()
-    );
-    let bare = EncryptedKeyset::from_json(alloc, b"{}")?;
-    assert_eq!(rt;
-        bare.to_json(alloc)?.as_str(),
-        "{\n  \"encryptedKeyset\": \"\"\n}"
-    );
-    Ok(())
+        keyset_info: Some(info(alloc)?),
+    })
+}
+
+const ENCRYPTED: &str = "{
+  \"encryptedKeyset\": \"//4=\",
+  \"keysetInfo\": {
+    \"keyInfo\": [
+      {
+        \"keyId\": 0,
+        \"outputPrefixType\": -1,
+        \"status\": 7,
+        \"typeUrl\": \"a\\\"b\"
+      }
+    ],
+    \"primaryKeyId\": 4294967295
+  }
+}";
+
+fn encrypted_written(alloc: Global) -> Result<Text, ProtoError> {
+    encrypted(alloc)?.to_json(alloc)
+}
+
+// Whether the text is read as the encrypted keyset.
+fn is_encrypted_read(alloc: Global) -> Result<bool, ProtoError> {
+    let got = EncryptedKeyset::from_json(alloc, ENCRYPTED.as_bytes())?.encode(alloc)?;
+    let want = encrypted(alloc)?.encode(alloc)?;
+    Ok(got.as_slice() == want.as_slice())
+}
+
+fn bare_written(alloc: Global) -> Result<Text, ProtoError> {
+    EncryptedKeyset::from_json(alloc, b"{}")?.to_json(alloc)
 }
 
 #[test]
-fn members_are_read_in_both_spellings(rt: HostRuntime) -> Result<(), Fail> {
-    let alloc = rt.alloc();
-    assert_eq!(rt; primary_of(alloc, "{\"primaryKeyId\":\"7\"}"), Ok(7));
-    assert_eq!(rt; primary_of(alloc, "{\"primaryKeyId\":\"0042\"}"), Ok(42));
-    assert_eq!(rt;
-        primary_of(alloc, "{\"primary_key_id\":1,\"primaryKeyId\":2}"),
-        Ok(2)
+fn an_encrypted_keyset_is_written_and_read(rt: HostRuntime) {
+    expect_text(&rt, encrypted_written(rt.alloc()), ENCRYPTED);
+    expect(&rt, is_encrypted_read(rt.alloc()), Ok(true), "read");
+    expect_text(
+        &rt,
+        bare_written(rt.alloc()),
+        "{\n  \"encryptedKeyset\": \"\"\n}",
     );
-    assert_eq!(rt;
-        primary_of(alloc, "{\"primary_key_id\":4294967295}"),
-        Ok(4294967295)
-    );
-    assert_eq!(rt;
-        primary_of(alloc, "{\"primaryKeyId\":null,\"key\":null,\"other\":[{}]}"),
-        Ok(0)
-    );
-    assert_eq!(rt; primary_of(alloc, " {} "), Ok(0));
+}
+
+#[test]
+fn members_are_read_in_both_spellings(rt: HostRuntime) {
+    for (text, want) in [
+        ("{\"primaryKeyId\":\"7\"}", 7),
+        ("{\"primaryKeyId\":\"0042\"}", 42),
+        ("{\"primary_key_id\":1,\"primaryKeyId\":2}", 2),
+        ("{\"primary_key_id\":4294967295}", 4294967295),
+        ("{\"primaryKeyId\":null,\"key\":null,\"other\":[{}]}", 0),
+        (" {} ", 0),
+        ("{\"primaryKeyId\":1,\"primaryKeyId\":2}", 2),
+        (
+            "{\"other\":[-9223372036854775808,18446744073709551615,-1]}",
+            0,
+        ),
+    ] {
+        expect(
+            &rt,
+            primary_of(rt.alloc(), text),
+            Ok(want),
+            "the primary id",
+        );
+    }
+}
+
+#[test]
+fn a_first_key_is_read(rt: HostRuntime) {
     let text =
         "{\"key\":[{\"key_data\":{\"keyMaterialType\":\"REMOTE\"},\"status\":2,\"keyId\":5,\"output_prefix_type\":\"CRUNCHY\"}]}";
-    assert_eq!(rt; first_of(alloc, text), Ok((5, 2, 4, 4)));
+    expect(
+        &rt,
+        first_of(rt.alloc(), text),
+        Ok((5, 2, 4, 4)),
+        "names and numbers",
+    );
     let text = "{\"key\":[{\"status\":\"DESTROYED\",\"outputPrefixType\":-3}]}";
-    assert_eq!(rt; first_of(alloc, text), Ok((0, 3, -3, 9)));
-    Ok(())
+    expect(
+        &rt,
+        first_of(rt.alloc(), text),
+        Ok((0, 3, -3, 9)),
+        "no data",
+    );
 }
 
 #[test]
-fn other_texts_are_refused(rt: HostRuntime) -> Result<(), Fail> {
-    let alloc = rt.alloc();
+fn other_texts_are_refused(rt: HostRuntime) {
     for text in [
         "{\"primaryKeyId\":7.0}",
         "{\"primaryKeyId\":-1}",
@@ -167,6 +223,9 @@ fn other_texts_are_refused(rt: HostRuntime) -> Result<(), Fail> {
         "{\"other\":-0}",
         "{\"other\":[{\"more\":1e2}]}",
         "{\"other\":18446744073709551616}",
+        "{\"other\":-9223372036854775809}",
+        "{\"primaryKeyId\":1.0,\"primaryKeyId\":1}",
+        "{\"other\":{\"more\":1e0,\"more\":1}}",
         "{} {}",
         "",
         "[]",
@@ -181,13 +240,17 @@ fn other_texts_are_refused(rt: HostRuntime) -> Result<(), Fail> {
         "{\"key\":[{\"keyData\":{\"value\":\"Eh==\"}}]}",
         "{\"key\":[{\"keyData\":{\"typeUrl\":1}}]}",
     ] {
-        assert_eq!(rt; primary_of(alloc, text), Err(ProtoError::BadJson));
+        expect(
+            &rt,
+            primary_of(rt.alloc(), text),
+            Err(ProtoError::BadJson),
+            "a text",
+        );
     }
-    let bytes = b"{\"other\":\"\xff\"}";
-    let refused = match Keyset::from_json(alloc, bytes) {
-        Ok(_) => None,
-        Err(e) => Some(e),
-    };
-    assert_eq!(rt; refused, Some(ProtoError::BadJson));
-    Ok(())
+}
+
+#[test]
+fn bytes_that_are_not_utf_8_are_refused(rt: HostRuntime) {
+    let answer = keyset_of(rt.alloc(), b"{\"other\":\"\xff\"}");
+    assert!(rt; matches!(answer, Err(ProtoError::BadJson)));
 }
