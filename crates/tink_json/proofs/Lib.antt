@@ -1,5 +1,4 @@
 pub mod ItemLemmas
-pub mod FloatLemmas
 pub mod NumberLemmas
 pub mod TextLemmas
 pub mod BytesLemmas

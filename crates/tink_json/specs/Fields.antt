@@ -1,15 +1,13 @@
 -- What values of JSON are read as fields (the JSON mapping of Protocol Buffers).
-use Rattle.std.specs.Prelude.{ℕ, ◌^◌, ◌&&◌, nat_lt, ℤ, pos, negsuc, List, [], ◌∷◌, length, if◌then◌else◌, Option, Some, None, is_some, option_and_then, option_map}
+use Rattle.std.specs.Prelude.{ℕ, ◌^◌, nat_lt, ℤ, pos, negsuc, List, [], ◌∷◌, if◌then◌else◌, Option, Some, None, is_some, option_and_then, option_map}
 use Rattle.std.specs.Option.{option_or}
-use Rattle.std.specs.Char.{is_ascii_digit}
-use Rattle.std.specs.List.{list_all}
-use Rattle.std.specs.Str.Parse.{digits_value}
 use Rattle.wire_format.specs.Reading.{◌>>=◌}
 use Rattle.base64.specs.Engines.{standard}
 use Rattle.base64.specs.GeneralPurpose.{decoded_of}
 use Rattle.serde_json.specs.Data.{Data, Items, no_items, item}
 use Rattle.serde_json.specs.Find.{get, as_null, as_number, as_str, as_array, as_object, as_u64, as_i64}
 use Rattle.tink_json.specs.Names.{Names, numbered}
+use Rattle.tink_json.specs.Whole.{digits_number}
 
 -- the value is an object
 abbrev pub an_object : Data → Option (Unit {0})
@@ -28,12 +26,12 @@ or_default default form (Some d) = form d
 abbrev pub bytes : Data → Option (List ℕ)
 bytes d = option_and_then (decoded_of standard) (as_str d)
 
--- the number of a text of decimal digits
-unfoldable pub number_text : List ℕ → Option ℕ
-number_text s = if list_all is_ascii_digit s && nat_lt 0 (length s) && nat_lt (digits_value 10 s) (2 ^ 32) then Some (digits_value 10 s) else None
-
 abbrev pub to_u32 : ℕ → Option ℕ
 to_u32 n = if nat_lt n (2 ^ 32) then Some n else None
+
+-- the number of a text of decimal digits, where it fits 32 bits
+abbrev pub number_text : List ℕ → Option ℕ
+number_text s = option_and_then to_u32 (digits_number s)
 
 -- a number of 32 bits, as a whole number or its digits
 abbrev pub number : Data → Option ℕ

@@ -1,4 +1,5 @@
 pub mod Names
+pub mod Whole
 pub mod Fields
 pub mod Messages
 pub mod Written

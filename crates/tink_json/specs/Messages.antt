@@ -4,9 +4,9 @@ use Rattle.std.specs.Str.{is_utf8}
 use Rattle.wire_format.specs.Reading.{◌>>=◌}
 use Rattle.serde_json.specs.Data.{Data}
 use Rattle.serde_json.specs.Read.{read}
-use Rattle.serde_json.specs.Written.{has_float}
 use Rattle.tink_json.specs.Fields.{an_object, text_field, bytes_field, number_field, enum_field, message_field, list_field}
 use Rattle.tink_json.specs.Names.{statuses, prefixes, materials}
+use Rattle.tink_json.specs.Whole.{are_whole}
 use Rattle.tink_proto.specs.declared.messages.keys.KeyData.{KeyData}
 use Rattle.tink_proto.specs.declared.messages.keys.Key.{Key}
 use Rattle.tink_proto.specs.declared.messages.keys.Keyset.{Keyset}
@@ -65,10 +65,6 @@ encrypted_keyset d = do
 abbrev pub value_of : List ℕ → Option Data
 value_of text = if is_utf8 text then read text else None
 
--- each number is a whole number of 64 bits
-abbrev pub if_whole : {T : Type 0} → (Data → Option T) → Data → Option T
-if_whole form d = if has_float d then None else form d
-
--- the message of a text
+-- the message of a text, in which each number is a whole one of 64 bits
 abbrev pub message_of : {T : Type 0} → (Data → Option T) → List ℕ → Option T
-message_of form text = option_and_then (if_whole form) (value_of text)
+message_of form text = if are_whole text then option_and_then form (value_of text) else None

@@ -7,6 +7,7 @@ ghost use Rattle.serde_json.specs.Find.{as_i64, as_number, as_u64};
 ghost use Rattle.serde_json.specs.View.{view, items_view};
 ghost use Rattle.tink_json.specs.Fields.{an_object, bytes_field, enum_field, items, list_field, member_of, message_field, number_field, number_text, text_field, to_i32, to_u32};
 ghost use Rattle.tink_json.specs.Outcome.{Gives, Reads};
+ghost use Rattle.tink_json.specs.Whole.{digits_number};
 
 use crate::messages::Json;
 use crate::names::Named;
@@ -82,14 +83,22 @@ fn are_digits(bytes: &[u8]) -> bool
     bytes.iter().all(|byte| byte.is_ascii_digit())
 }
 
+// The number of decimal digits that fits 64 bits.
+pub fn digits_of_text(text: &str) -> Option<u64>
+    ensures { result ≡ digits_number text.now }
+{
+    if are_digits(text.as_bytes()) {
+        return text.parse::<u64>().ok();
+    }
+    None
+}
+
 // The number of decimal digits that fits 32 bits.
 fn number_of_text(text: &str) -> Option<u32>
     ensures { result ≡ number_text text.now }
 {
-    if are_digits(text.as_bytes()) {
-        return text.parse::<u32>().ok();
-    }
-    None
+    let number = digits_of_text(text)?;
+    u32::try_from(number).ok()
 }
 
 // A number of 32 bits as a whole number.

@@ -6,12 +6,9 @@
 #![tactic(auto)]
 
 mod fields;
-mod floats;
 mod messages;
 mod names;
 mod values;
+mod whole;
 
 pub use messages::Json;
-
-#[cfg(test)]
-mod tests;

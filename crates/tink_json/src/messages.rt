@@ -12,8 +12,8 @@ ghost use Rattle.tink_json.specs.Names.{prefixes, statuses};
 ghost use Rattle.tink_proto.specs.declared.error.ProtoError.TheVariants.{OutOfMemory};
 
 use crate::fields::{bytes_in, enum_in, list_in, message_in, number_in, require_object, text_in};
-use crate::floats::has_float;
 use crate::values::{bytes_out, enum_out, list_out};
+use crate::whole::has_whole_numbers;
 use serde_json::{Error, Map, Value, put};
 use std::alloc::{AllocError, Global};
 use tink_proto::{
@@ -94,10 +94,10 @@ fn refusal(error: &Error) -> ProtoError
 fn from_text<M: Json>(alloc: Global, text: &[u8]) -> Result<M, ProtoError>
     ensures { Reads result (message_of M.form text.now) }
 {
-    let value = value_of(alloc, text)?;
-    if has_float(&value) {
+    if !has_whole_numbers(alloc, text)? {
         return Err(ProtoError::BadJson);
     }
+    let value = value_of(alloc, text)?;
     M::from_value(alloc, &value)
 }
 
@@ -305,18 +305,12 @@ impl Json for KeyInfo {
             "typeUrl",
             Value::try_from_str(alloc, self.type_url.as_str())?,
         )?;
-        put(
+        put_use(
             &mut members,
             alloc,
-            "status",
-            enum_out::<KeyStatusType>(alloc, self.status)?,
-        )?;
-        put(&mut members, alloc, "keyId", Value::from(self.key_id))?;
-        put(
-            &mut members,
-            alloc,
-            "outputPrefixType",
-            enum_out::<OutputPrefixType>(alloc, self.output_prefix_type)?,
+            self.status,
+            self.key_id,
+            self.output_prefix_type,
         )?;
         Ok(Value::Object(members))
     }

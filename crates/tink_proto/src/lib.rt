@@ -16,6 +16,3 @@ pub use error::ProtoError;
 pub use messages::{EncryptedKeyset, Key, KeyData, KeyInfo, KeyTemplate, Keyset, KeysetInfo};
 pub use values::{Bytes, Repeated, Text};
 pub use wire::Message;
-
-#[cfg(test)]
-mod tests;

@@ -1,6 +1,6 @@
 //! Messages in the wire format: the trait that each message has, and the fields that its methods read and write.
 
-ghost use Rattle.std.specs.Prelude.{IsTrue, List, ◌≡◌, ◌++◌, Some, IfOk, IfErr, OnOk};
+ghost use Rattle.std.specs.Prelude.{IsTrue, List, ◌≡◌, ◌++◌, Some, IfOk, IfErr, OnOk, OnErr};
 ghost use Rattle.wire_format.specs.Grammar.{Field as Spelled, AreFields};
 ghost use Rattle.wire_format.specs.Writing.{spelling};
 ghost use Rattle.wire_format.specs.Message.{decoded, encoded};
@@ -11,12 +11,14 @@ ghost use Rattle.tink_proto.specs.Outcome.{Reads, Becomes};
 mod laws;
 mod nested;
 mod reading;
+mod slots;
 mod writing;
 
 use crate::{Bytes, ProtoError};
 pub use laws::{law_fields, law_read_again, law_rising};
-pub use nested::{clone_list, clone_option, merge_body, push_body};
+pub use nested::{clone_list, clone_option};
 pub use reading::{Content, Field, next_field};
+pub use slots::{read_bytes, read_enum, read_list, read_message, read_number, read_text};
 use std::alloc::{AllocError, Global};
 pub use writing::{put_bytes, put_enum, put_list, put_message, put_number, put_text};
 
@@ -31,9 +33,11 @@ pub trait Message: Drop {
     fn new(alloc: Global) -> Self
         ensures { result ≡ table.start };
 
-    /// Reads one more field; one of another number changes nothing. After an `Err` nothing is said of the message.
+    /// Reads one more field; one of another number changes nothing. After an `Err` the message is as before, but for a
+    /// single message that the field was to be read into: it is absent.
     fn read_field(&mut self, alloc: Global, field: &Field) -> Result<(), ProtoError>
-        ensures { Becomes result self.new (table.step self.old (field_of field.now)) };
+        ensures reads { Becomes result self.new (table.step self.old (field_of field.now)) }
+        ensures err { OnErr result (self.new ≡ table.refused self.old (field_of field.now)) };
 
     /// Writes the fields at the end of `out`. After an `Err` nothing is said of `out`.
     fn write_fields(&self, alloc: Global, out: &mut Vec<u8>) -> Result<(), AllocError>
@@ -42,19 +46,16 @@ pub trait Message: Drop {
         // What is written is a message that is read again.
         ensures fits { OnOk result (IsTrue (table.fits self.now)) };
 
-    /// Reads each field that the bytes spell into the message. After an `Err` nothing is said of it.
+    /// Reads each field that the bytes spell into the message. After an `Err` it has no field, as a new one.
     final fn merge(&mut self, alloc: Global, bytes: &[u8]) -> Result<(), ProtoError>
-        ensures { Becomes result self.new (read_into table.step self.old bytes.now) }
+        ensures reads { Becomes result self.new (read_into table.step self.old bytes.now) }
+        ensures err { OnErr result (self.new ≡ table.start) }
     {
-        let mut rest = bytes;
-        while !rest.is_empty() {
-            let Some((field, after)) = next_field(rest) else {
-                return Err(ProtoError::BadMessage);
-            };
-            self.read_field(alloc, &field)?;
-            rest = after;
+        let answer = read_fields(self, alloc, bytes);
+        if answer.is_err() {
+            *self = Self::new(alloc);
         }
-        Ok(())
+        answer
     }
 
     /// The same message again.
@@ -104,6 +105,21 @@ fn from_bytes<M: Message>(alloc: Global, bytes: &[u8]) -> Result<M, ProtoError>
     ensures { Reads result (decoded (M.table).read bytes.now) }
 {
     let mut message = M::new(alloc);
-    message.merge(alloc, bytes)?;
+    read_fields(&mut message, alloc, bytes)?;
     Ok(message)
+}
+
+// Reads each field that the bytes spell.
+fn read_fields<M: Message>(message: &mut M, alloc: Global, bytes: &[u8]) -> Result<(), ProtoError>
+    ensures { Becomes result message.new (read_into (M.table).step message.old bytes.now) }
+{
+    let mut rest = bytes;
+    while !rest.is_empty() {
+        let Some((field, after)) = next_field(rest) else {
+            return Err(ProtoError::BadMessage);
+        };
+        message.read_field(alloc, &field)?;
+        rest = after;
+    }
+    Ok(())
 }

@@ -1,7 +1,7 @@
 //! Keys of AEAD and their formats.
 
 use std::alloc::{AllocError, Global};
-use tink_proto::wire::{Field, Message, put_bytes, put_number};
+use tink_proto::wire::{Field, Message, put_bytes, put_number, read_bytes, read_number};
 use tink_proto::{Bytes, ProtoError};
 
 /// A key of AES-GCM.
@@ -25,11 +25,10 @@ impl Message for AesGcmKey {
 
     fn read_field(&mut self, alloc: Global, field: &Field) -> Result<(), ProtoError> {
         match field.number {
-            1 => self.version = field.content.number()?,
-            3 => self.key_value = Bytes::from_slice(alloc, field.content.body()?)?,
-            _ => {}
+            1 => read_number(&mut self.version, &field.content),
+            3 => read_bytes(&mut self.key_value, alloc, &field.content),
+            _ => Ok(()),
         }
-        Ok(())
     }
 
     #[tactic(auto, using(std::proofs::Common::append_assoc, wire_format::proofs::WritingLaws::spelling_append))]
@@ -69,11 +68,10 @@ impl Message for AesGcmKeyFormat {
 
     fn read_field(&mut self, _alloc: Global, field: &Field) -> Result<(), ProtoError> {
         match field.number {
-            2 => self.key_size = field.content.number()?,
-            3 => self.version = field.content.number()?,
-            _ => {}
+            2 => read_number(&mut self.key_size, &field.content),
+            3 => read_number(&mut self.version, &field.content),
+            _ => Ok(()),
         }
-        Ok(())
     }
 
     #[tactic(auto, using(std::proofs::Common::append_assoc, wire_format::proofs::WritingLaws::spelling_append))]
@@ -112,11 +110,10 @@ impl Message for AesGcmSivKey {
 
     fn read_field(&mut self, alloc: Global, field: &Field) -> Result<(), ProtoError> {
         match field.number {
-            1 => self.version = field.content.number()?,
-            3 => self.key_value = Bytes::from_slice(alloc, field.content.body()?)?,
-            _ => {}
+            1 => read_number(&mut self.version, &field.content),
+            3 => read_bytes(&mut self.key_value, alloc, &field.content),
+            _ => Ok(()),
         }
-        Ok(())
     }
 
     #[tactic(auto, using(std::proofs::Common::append_assoc, wire_format::proofs::WritingLaws::spelling_append))]
@@ -156,11 +153,10 @@ impl Message for AesGcmSivKeyFormat {
 
     fn read_field(&mut self, _alloc: Global, field: &Field) -> Result<(), ProtoError> {
         match field.number {
-            1 => self.version = field.content.number()?,
-            2 => self.key_size = field.content.number()?,
-            _ => {}
+            1 => read_number(&mut self.version, &field.content),
+            2 => read_number(&mut self.key_size, &field.content),
+            _ => Ok(()),
         }
-        Ok(())
     }
 
     #[tactic(auto, using(std::proofs::Common::append_assoc, wire_format::proofs::WritingLaws::spelling_append))]

@@ -3,7 +3,8 @@
 use crate::mac::{HmacKey, HmacKeyFormat};
 use std::alloc::{AllocError, Global};
 use tink_proto::wire::{
-    Field, Message, clone_option, merge_body, put_bytes, put_message, put_number,
+    Field, Message, clone_option, put_bytes, put_message, put_number, read_bytes, read_message,
+    read_number,
 };
 use tink_proto::{Bytes, ProtoError};
 
@@ -25,10 +26,9 @@ impl Message for AesCtrParams {
 
     fn read_field(&mut self, _alloc: Global, field: &Field) -> Result<(), ProtoError> {
         match field.number {
-            1 => self.iv_size = field.content.number()?,
-            _ => {}
+            1 => read_number(&mut self.iv_size, &field.content),
+            _ => Ok(()),
         }
-        Ok(())
     }
 
     fn write_fields(&self, _alloc: Global, out: &mut Vec<u8>) -> Result<(), AllocError> {
@@ -66,12 +66,11 @@ impl Message for AesCtrKey {
 
     fn read_field(&mut self, alloc: Global, field: &Field) -> Result<(), ProtoError> {
         match field.number {
-            1 => self.version = field.content.number()?,
-            2 => merge_body(&mut self.params, alloc, field.content.body()?)?,
-            3 => self.key_value = Bytes::from_slice(alloc, field.content.body()?)?,
-            _ => {}
+            1 => read_number(&mut self.version, &field.content),
+            2 => read_message(&mut self.params, alloc, &field.content),
+            3 => read_bytes(&mut self.key_value, alloc, &field.content),
+            _ => Ok(()),
         }
-        Ok(())
     }
 
     #[tactic(auto, using(std::proofs::Common::append_assoc, wire_format::proofs::WritingLaws::spelling_append))]
@@ -113,11 +112,10 @@ impl Message for AesCtrKeyFormat {
 
     fn read_field(&mut self, alloc: Global, field: &Field) -> Result<(), ProtoError> {
         match field.number {
-            1 => merge_body(&mut self.params, alloc, field.content.body()?)?,
-            2 => self.key_size = field.content.number()?,
-            _ => {}
+            1 => read_message(&mut self.params, alloc, &field.content),
+            2 => read_number(&mut self.key_size, &field.content),
+            _ => Ok(()),
         }
-        Ok(())
     }
 
     #[tactic(auto, using(std::proofs::Common::append_assoc, wire_format::proofs::WritingLaws::spelling_append))]
@@ -158,12 +156,11 @@ impl Message for AesCtrHmacAeadKey {
 
     fn read_field(&mut self, alloc: Global, field: &Field) -> Result<(), ProtoError> {
         match field.number {
-            1 => self.version = field.content.number()?,
-            2 => merge_body(&mut self.aes_ctr_key, alloc, field.content.body()?)?,
-            3 => merge_body(&mut self.hmac_key, alloc, field.content.body()?)?,
-            _ => {}
+            1 => read_number(&mut self.version, &field.content),
+            2 => read_message(&mut self.aes_ctr_key, alloc, &field.content),
+            3 => read_message(&mut self.hmac_key, alloc, &field.content),
+            _ => Ok(()),
         }
-        Ok(())
     }
 
     #[tactic(auto, using(std::proofs::Common::append_assoc, wire_format::proofs::WritingLaws::spelling_append))]
@@ -204,11 +201,10 @@ impl Message for AesCtrHmacAeadKeyFormat {
 
     fn read_field(&mut self, alloc: Global, field: &Field) -> Result<(), ProtoError> {
         match field.number {
-            1 => merge_body(&mut self.aes_ctr_key_format, alloc, field.content.body()?)?,
-            2 => merge_body(&mut self.hmac_key_format, alloc, field.content.body()?)?,
-            _ => {}
+            1 => read_message(&mut self.aes_ctr_key_format, alloc, &field.content),
+            2 => read_message(&mut self.hmac_key_format, alloc, &field.content),
+            _ => Ok(()),
         }
-        Ok(())
     }
 
     #[tactic(auto, using(std::proofs::Common::append_assoc, wire_format::proofs::WritingLaws::spelling_append))]

@@ -1,7 +1,9 @@
 //! Envelope encryption.
 
 use std::alloc::{AllocError, Global};
-use tink_proto::wire::{Field, Message, clone_option, merge_body, put_message, put_text};
+use tink_proto::wire::{
+    Field, Message, clone_option, put_message, put_text, read_message, read_text,
+};
 use tink_proto::{KeyTemplate, ProtoError, Text};
 
 /// The URI of the key that encrypts new keys, and what the new keys are to be.
@@ -25,11 +27,10 @@ impl Message for KmsEnvelopeAeadKeyFormat {
 
     fn read_field(&mut self, alloc: Global, field: &Field) -> Result<(), ProtoError> {
         match field.number {
-            1 => self.kek_uri = Text::from_str(alloc, field.content.text()?)?,
-            2 => merge_body(&mut self.dek_template, alloc, field.content.body()?)?,
-            _ => {}
+            1 => read_text(&mut self.kek_uri, alloc, &field.content),
+            2 => read_message(&mut self.dek_template, alloc, &field.content),
+            _ => Ok(()),
         }
-        Ok(())
     }
 
     #[tactic(auto, using(std::proofs::Common::append_assoc, wire_format::proofs::WritingLaws::spelling_append))]

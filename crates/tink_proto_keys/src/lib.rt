@@ -23,6 +23,3 @@ pub use streaming::{
     AesCtrHmacStreamingKey, AesCtrHmacStreamingKeyFormat, AesCtrHmacStreamingParams,
     AesGcmHkdfStreamingKey, AesGcmHkdfStreamingKeyFormat, AesGcmHkdfStreamingParams,
 };
-
-#[cfg(test)]
-mod tests;

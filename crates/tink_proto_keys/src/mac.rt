@@ -2,7 +2,8 @@
 
 use std::alloc::{AllocError, Global};
 use tink_proto::wire::{
-    Field, Message, clone_option, merge_body, put_bytes, put_enum, put_message, put_number,
+    Field, Message, clone_option, put_bytes, put_enum, put_message, put_number, read_bytes,
+    read_enum, read_message, read_number,
 };
 use tink_proto::{Bytes, ProtoError};
 
@@ -29,11 +30,10 @@ impl Message for HmacParams {
 
     fn read_field(&mut self, _alloc: Global, field: &Field) -> Result<(), ProtoError> {
         match field.number {
-            1 => self.hash = field.content.enum_number()?,
-            2 => self.tag_size = field.content.number()?,
-            _ => {}
+            1 => read_enum(&mut self.hash, &field.content),
+            2 => read_number(&mut self.tag_size, &field.content),
+            _ => Ok(()),
         }
-        Ok(())
     }
 
     #[tactic(auto, using(std::proofs::Common::append_assoc, wire_format::proofs::WritingLaws::spelling_append))]
@@ -74,12 +74,11 @@ impl Message for HmacKey {
 
     fn read_field(&mut self, alloc: Global, field: &Field) -> Result<(), ProtoError> {
         match field.number {
-            1 => self.version = field.content.number()?,
-            2 => merge_body(&mut self.params, alloc, field.content.body()?)?,
-            3 => self.key_value = Bytes::from_slice(alloc, field.content.body()?)?,
-            _ => {}
+            1 => read_number(&mut self.version, &field.content),
+            2 => read_message(&mut self.params, alloc, &field.content),
+            3 => read_bytes(&mut self.key_value, alloc, &field.content),
+            _ => Ok(()),
         }
-        Ok(())
     }
 
     #[tactic(auto, using(std::proofs::Common::append_assoc, wire_format::proofs::WritingLaws::spelling_append))]
@@ -123,12 +122,11 @@ impl Message for HmacKeyFormat {
 
     fn read_field(&mut self, alloc: Global, field: &Field) -> Result<(), ProtoError> {
         match field.number {
-            1 => merge_body(&mut self.params, alloc, field.content.body()?)?,
-            2 => self.key_size = field.content.number()?,
-            3 => self.version = field.content.number()?,
-            _ => {}
+            1 => read_message(&mut self.params, alloc, &field.content),
+            2 => read_number(&mut self.key_size, &field.content),
+            3 => read_number(&mut self.version, &field.content),
+            _ => Ok(()),
         }
-        Ok(())
     }
 
     #[tactic(auto, using(std::proofs::Common::append_assoc, wire_format::proofs::WritingLaws::spelling_append))]
@@ -166,10 +164,9 @@ impl Message for AesCmacParams {
 
     fn read_field(&mut self, _alloc: Global, field: &Field) -> Result<(), ProtoError> {
         match field.number {
-            1 => self.tag_size = field.content.number()?,
-            _ => {}
+            1 => read_number(&mut self.tag_size, &field.content),
+            _ => Ok(()),
         }
-        Ok(())
     }
 
     fn write_fields(&self, _alloc: Global, out: &mut Vec<u8>) -> Result<(), AllocError> {
@@ -207,12 +204,11 @@ impl Message for AesCmacKey {
 
     fn read_field(&mut self, alloc: Global, field: &Field) -> Result<(), ProtoError> {
         match field.number {
-            1 => self.version = field.content.number()?,
-            2 => self.key_value = Bytes::from_slice(alloc, field.content.body()?)?,
-            3 => merge_body(&mut self.params, alloc, field.content.body()?)?,
-            _ => {}
+            1 => read_number(&mut self.version, &field.content),
+            2 => read_bytes(&mut self.key_value, alloc, &field.content),
+            3 => read_message(&mut self.params, alloc, &field.content),
+            _ => Ok(()),
         }
-        Ok(())
     }
 
     #[tactic(auto, using(std::proofs::Common::append_assoc, wire_format::proofs::WritingLaws::spelling_append))]
@@ -254,11 +250,10 @@ impl Message for AesCmacKeyFormat {
 
     fn read_field(&mut self, alloc: Global, field: &Field) -> Result<(), ProtoError> {
         match field.number {
-            1 => self.key_size = field.content.number()?,
-            2 => merge_body(&mut self.params, alloc, field.content.body()?)?,
-            _ => {}
+            1 => read_number(&mut self.key_size, &field.content),
+            2 => read_message(&mut self.params, alloc, &field.content),
+            _ => Ok(()),
         }
-        Ok(())
     }
 
     #[tactic(auto, using(std::proofs::Common::append_assoc, wire_format::proofs::WritingLaws::spelling_append))]

@@ -2,7 +2,8 @@
 
 use std::alloc::{AllocError, Global};
 use tink_proto::wire::{
-    Field, Message, clone_option, merge_body, put_bytes, put_enum, put_message, put_number,
+    Field, Message, clone_option, put_bytes, put_enum, put_message, put_number, read_bytes,
+    read_enum, read_message, read_number,
 };
 use tink_proto::{Bytes, ProtoError};
 
@@ -28,11 +29,10 @@ impl Message for HkdfPrfParams {
 
     fn read_field(&mut self, alloc: Global, field: &Field) -> Result<(), ProtoError> {
         match field.number {
-            1 => self.hash = field.content.enum_number()?,
-            2 => self.salt = Bytes::from_slice(alloc, field.content.body()?)?,
-            _ => {}
+            1 => read_enum(&mut self.hash, &field.content),
+            2 => read_bytes(&mut self.salt, alloc, &field.content),
+            _ => Ok(()),
         }
-        Ok(())
     }
 
     #[tactic(auto, using(std::proofs::Common::append_assoc, wire_format::proofs::WritingLaws::spelling_append))]
@@ -73,12 +73,11 @@ impl Message for HkdfPrfKey {
 
     fn read_field(&mut self, alloc: Global, field: &Field) -> Result<(), ProtoError> {
         match field.number {
-            1 => self.version = field.content.number()?,
-            2 => merge_body(&mut self.params, alloc, field.content.body()?)?,
-            3 => self.key_value = Bytes::from_slice(alloc, field.content.body()?)?,
-            _ => {}
+            1 => read_number(&mut self.version, &field.content),
+            2 => read_message(&mut self.params, alloc, &field.content),
+            3 => read_bytes(&mut self.key_value, alloc, &field.content),
+            _ => Ok(()),
         }
-        Ok(())
     }
 
     #[tactic(auto, using(std::proofs::Common::append_assoc, wire_format::proofs::WritingLaws::spelling_append))]
@@ -122,12 +121,11 @@ impl Message for HkdfPrfKeyFormat {
 
     fn read_field(&mut self, alloc: Global, field: &Field) -> Result<(), ProtoError> {
         match field.number {
-            1 => merge_body(&mut self.params, alloc, field.content.body()?)?,
-            2 => self.key_size = field.content.number()?,
-            3 => self.version = field.content.number()?,
-            _ => {}
+            1 => read_message(&mut self.params, alloc, &field.content),
+            2 => read_number(&mut self.key_size, &field.content),
+            3 => read_number(&mut self.version, &field.content),
+            _ => Ok(()),
         }
-        Ok(())
     }
 
     #[tactic(auto, using(std::proofs::Common::append_assoc, wire_format::proofs::WritingLaws::spelling_append))]
@@ -165,10 +163,9 @@ impl Message for HmacPrfParams {
 
     fn read_field(&mut self, _alloc: Global, field: &Field) -> Result<(), ProtoError> {
         match field.number {
-            1 => self.hash = field.content.enum_number()?,
-            _ => {}
+            1 => read_enum(&mut self.hash, &field.content),
+            _ => Ok(()),
         }
-        Ok(())
     }
 
     fn write_fields(&self, _alloc: Global, out: &mut Vec<u8>) -> Result<(), AllocError> {
@@ -204,12 +201,11 @@ impl Message for HmacPrfKey {
 
     fn read_field(&mut self, alloc: Global, field: &Field) -> Result<(), ProtoError> {
         match field.number {
-            1 => self.version = field.content.number()?,
-            2 => merge_body(&mut self.params, alloc, field.content.body()?)?,
-            3 => self.key_value = Bytes::from_slice(alloc, field.content.body()?)?,
-            _ => {}
+            1 => read_number(&mut self.version, &field.content),
+            2 => read_message(&mut self.params, alloc, &field.content),
+            3 => read_bytes(&mut self.key_value, alloc, &field.content),
+            _ => Ok(()),
         }
-        Ok(())
     }
 
     #[tactic(auto, using(std::proofs::Common::append_assoc, wire_format::proofs::WritingLaws::spelling_append))]
@@ -253,12 +249,11 @@ impl Message for HmacPrfKeyFormat {
 
     fn read_field(&mut self, alloc: Global, field: &Field) -> Result<(), ProtoError> {
         match field.number {
-            1 => merge_body(&mut self.params, alloc, field.content.body()?)?,
-            2 => self.key_size = field.content.number()?,
-            3 => self.version = field.content.number()?,
-            _ => {}
+            1 => read_message(&mut self.params, alloc, &field.content),
+            2 => read_number(&mut self.key_size, &field.content),
+            3 => read_number(&mut self.version, &field.content),
+            _ => Ok(()),
         }
-        Ok(())
     }
 
     #[tactic(auto, using(std::proofs::Common::append_assoc, wire_format::proofs::WritingLaws::spelling_append))]
@@ -299,11 +294,10 @@ impl Message for AesCmacPrfKey {
 
     fn read_field(&mut self, alloc: Global, field: &Field) -> Result<(), ProtoError> {
         match field.number {
-            1 => self.version = field.content.number()?,
-            2 => self.key_value = Bytes::from_slice(alloc, field.content.body()?)?,
-            _ => {}
+            1 => read_number(&mut self.version, &field.content),
+            2 => read_bytes(&mut self.key_value, alloc, &field.content),
+            _ => Ok(()),
         }
-        Ok(())
     }
 
     #[tactic(auto, using(std::proofs::Common::append_assoc, wire_format::proofs::WritingLaws::spelling_append))]
@@ -343,11 +337,10 @@ impl Message for AesCmacPrfKeyFormat {
 
     fn read_field(&mut self, _alloc: Global, field: &Field) -> Result<(), ProtoError> {
         match field.number {
-            1 => self.key_size = field.content.number()?,
-            2 => self.version = field.content.number()?,
-            _ => {}
+            1 => read_number(&mut self.key_size, &field.content),
+            2 => read_number(&mut self.version, &field.content),
+            _ => Ok(()),
         }
-        Ok(())
     }
 
     #[tactic(auto, using(std::proofs::Common::append_assoc, wire_format::proofs::WritingLaws::spelling_append))]

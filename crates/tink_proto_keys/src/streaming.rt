@@ -3,7 +3,8 @@
 use crate::mac::HmacParams;
 use std::alloc::{AllocError, Global};
 use tink_proto::wire::{
-    Field, Message, clone_option, merge_body, put_bytes, put_enum, put_message, put_number,
+    Field, Message, clone_option, put_bytes, put_enum, put_message, put_number, read_bytes,
+    read_enum, read_message, read_number,
 };
 use tink_proto::{Bytes, ProtoError};
 
@@ -35,13 +36,12 @@ impl Message for AesCtrHmacStreamingParams {
 
     fn read_field(&mut self, alloc: Global, field: &Field) -> Result<(), ProtoError> {
         match field.number {
-            1 => self.ciphertext_segment_size = field.content.number()?,
-            2 => self.derived_key_size = field.content.number()?,
-            3 => self.hkdf_hash_type = field.content.enum_number()?,
-            4 => merge_body(&mut self.hmac_params, alloc, field.content.body()?)?,
-            _ => {}
+            1 => read_number(&mut self.ciphertext_segment_size, &field.content),
+            2 => read_number(&mut self.derived_key_size, &field.content),
+            3 => read_enum(&mut self.hkdf_hash_type, &field.content),
+            4 => read_message(&mut self.hmac_params, alloc, &field.content),
+            _ => Ok(()),
         }
-        Ok(())
     }
 
     #[tactic(auto, using(std::proofs::Common::append_assoc, wire_format::proofs::WritingLaws::spelling_append))]
@@ -86,12 +86,11 @@ impl Message for AesCtrHmacStreamingKey {
 
     fn read_field(&mut self, alloc: Global, field: &Field) -> Result<(), ProtoError> {
         match field.number {
-            1 => self.version = field.content.number()?,
-            2 => merge_body(&mut self.params, alloc, field.content.body()?)?,
-            3 => self.key_value = Bytes::from_slice(alloc, field.content.body()?)?,
-            _ => {}
+            1 => read_number(&mut self.version, &field.content),
+            2 => read_message(&mut self.params, alloc, &field.content),
+            3 => read_bytes(&mut self.key_value, alloc, &field.content),
+            _ => Ok(()),
         }
-        Ok(())
     }
 
     #[tactic(auto, using(std::proofs::Common::append_assoc, wire_format::proofs::WritingLaws::spelling_append))]
@@ -135,12 +134,11 @@ impl Message for AesCtrHmacStreamingKeyFormat {
 
     fn read_field(&mut self, alloc: Global, field: &Field) -> Result<(), ProtoError> {
         match field.number {
-            1 => merge_body(&mut self.params, alloc, field.content.body()?)?,
-            2 => self.key_size = field.content.number()?,
-            3 => self.version = field.content.number()?,
-            _ => {}
+            1 => read_message(&mut self.params, alloc, &field.content),
+            2 => read_number(&mut self.key_size, &field.content),
+            3 => read_number(&mut self.version, &field.content),
+            _ => Ok(()),
         }
-        Ok(())
     }
 
     #[tactic(auto, using(std::proofs::Common::append_assoc, wire_format::proofs::WritingLaws::spelling_append))]
@@ -186,12 +184,11 @@ impl Message for AesGcmHkdfStreamingParams {
 
     fn read_field(&mut self, _alloc: Global, field: &Field) -> Result<(), ProtoError> {
         match field.number {
-            1 => self.ciphertext_segment_size = field.content.number()?,
-            2 => self.derived_key_size = field.content.number()?,
-            3 => self.hkdf_hash_type = field.content.enum_number()?,
-            _ => {}
+            1 => read_number(&mut self.ciphertext_segment_size, &field.content),
+            2 => read_number(&mut self.derived_key_size, &field.content),
+            3 => read_enum(&mut self.hkdf_hash_type, &field.content),
+            _ => Ok(()),
         }
-        Ok(())
     }
 
     #[tactic(auto, using(std::proofs::Common::append_assoc, wire_format::proofs::WritingLaws::spelling_append))]
@@ -234,12 +231,11 @@ impl Message for AesGcmHkdfStreamingKey {
 
     fn read_field(&mut self, alloc: Global, field: &Field) -> Result<(), ProtoError> {
         match field.number {
-            1 => self.version = field.content.number()?,
-            2 => merge_body(&mut self.params, alloc, field.content.body()?)?,
-            3 => self.key_value = Bytes::from_slice(alloc, field.content.body()?)?,
-            _ => {}
+            1 => read_number(&mut self.version, &field.content),
+            2 => read_message(&mut self.params, alloc, &field.content),
+            3 => read_bytes(&mut self.key_value, alloc, &field.content),
+            _ => Ok(()),
         }
-        Ok(())
     }
 
     #[tactic(auto, using(std::proofs::Common::append_assoc, wire_format::proofs::WritingLaws::spelling_append))]
@@ -283,12 +279,11 @@ impl Message for AesGcmHkdfStreamingKeyFormat {
 
     fn read_field(&mut self, alloc: Global, field: &Field) -> Result<(), ProtoError> {
         match field.number {
-            1 => merge_body(&mut self.params, alloc, field.content.body()?)?,
-            2 => self.key_size = field.content.number()?,
-            3 => self.version = field.content.number()?,
-            _ => {}
+            1 => read_message(&mut self.params, alloc, &field.content),
+            2 => read_number(&mut self.key_size, &field.content),
+            3 => read_number(&mut self.version, &field.content),
+            _ => Ok(()),
         }
-        Ok(())
     }
 
     #[tactic(auto, using(std::proofs::Common::append_assoc, wire_format::proofs::WritingLaws::spelling_append))]

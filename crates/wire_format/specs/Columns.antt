@@ -25,6 +25,8 @@ pub record Kind (A : Type 0) : Type 0 where
   pub start : A
   -- the value after one more content
   pub add : A → Content → Option A
+  -- what stands once a content was refused
+  pub refused : A → A
   -- the value of all contents, in the words of Message
   pub read : List Content → Option A
   -- the contents that are written
@@ -43,6 +45,7 @@ pub record Column (A : Type 0) : Type 0 where
   pub high : ℕ
   pub start : A
   pub step : A → Field → Option A
+  pub refused : A → Field → A
   pub read : List Field → Option A
   pub write : A → List Field
   pub fits : A → Bool
@@ -58,6 +61,10 @@ pub record Column (A : Type 0) : Type 0 where
 -- one more field of number n
 abbrev pub kept : {A : Type 0} → ℕ → (A → Content → Option A) → A → Field → Option A
 kept n add a f = if nat_eq f.number n then add a f.content else Some a
+
+-- what stands once a field of number n was refused
+abbrev pub kept_refused : {A : Type 0} → ℕ → (A → A) → A → Field → A
+kept_refused n refused a f = if nat_eq f.number n then refused a else a
 
 -- a content at a number
 abbrev pub at : ℕ → Content → Field

@@ -12,6 +12,7 @@ abbrev pub number : Kind ℕ
 number = record {
   start = 0;
   add = replaced as_number;
+  refused = λ a. a;
   read = scalar 0 as_number;
   write = unless_zero;
   fits = fits_number;
@@ -24,6 +25,7 @@ abbrev pub enum : Kind ℤ
 enum = record {
   start = pos 0;
   add = replaced as_enum;
+  refused = λ a. a;
   read = scalar (pos 0) as_enum;
   write = λ z. unless_zero (cast_unsigned w64 z);
   fits = fits_enum;
@@ -36,6 +38,7 @@ abbrev pub bytes : Kind (List ℕ)
 bytes = record {
   start = [];
   add = replaced as_bytes;
+  refused = λ a. a;
   read = scalar [] as_bytes;
   write = unless_empty;
   fits = fits_bytes;
@@ -48,6 +51,7 @@ abbrev pub text : Kind (List ℕ)
 text = record {
   start = [];
   add = replaced as_text;
+  refused = λ a. a;
   read = scalar [] as_text;
   write = unless_empty;
   fits = fits_text;
@@ -60,6 +64,7 @@ abbrev pub list_of : {M : Type 0} → Column M → Kind (List M)
 list_of c = record {
   start = [];
   add = pushed c.read;
+  refused = λ a. a;
   read = repeated c.read;
   write = map (body c);
   fits = fit_bodies c;
@@ -72,6 +77,7 @@ abbrev pub option_of : {M : Type 0} → Column M → Kind (Option M)
 option_of c = record {
   start = None;
   add = merged c.step c.start;
+  refused = λ _. None;
   read = single c.read;
   write = option_body c;
   fits = fits_option c;

@@ -4,7 +4,7 @@ use Rattle.std.proofs.Common.{ap, ◌∙◌}
 use Rattle.wire_format.specs.Writing.{IsWritable}
 use Rattle.wire_format.specs.Reading.{◌>>=◌}
 use Rattle.wire_format.specs.Message.{contents}
-use Rattle.wire_format.specs.Columns.{Kind, Column, folded, kept, at, both, seen, is_number}
+use Rattle.wire_format.specs.Columns.{Kind, Column, folded, kept, kept_refused, at, both, seen, is_number}
 use Rattle.wire_format.specs.ColumnLaws.{and_left, and_right, kept-folded, kept_other, contents-at, within_at, sound_at, rising_at, le_self, below_ne, above_ne, above_zero, below_most, all_append, pair_reads, pair_back, pair_within, pair_below, pair_above, pair_ordered, apart_from, rising_append, message_reads, message_still, message_back}
 
 -- what stands at one number
@@ -14,6 +14,7 @@ column n h k = record {
   high = n;
   start = k.start;
   step = kept n k.add;
+  refused = kept_refused n k.refused;
   read = λ fs. k.read (contents n fs);
   write = λ a. map (at n) (k.write a);
   fits = k.fits;
@@ -34,6 +35,7 @@ pair c d h = record {
   high = d.high;
   start = (c.start, d.start);
   step = both c.step d.step;
+  refused = λ p f. (c.refused p.0 f, d.refused p.1 f);
   read = λ fs. c.read fs >>= λ x. d.read fs >>= λ y. Some (x, y);
   write = λ p. c.write p.0 ++ d.write p.1;
   fits = λ p. c.fits p.0 && d.fits p.1;
@@ -54,6 +56,7 @@ message c of to there again = record {
   high = c.high;
   start = of c.start;
   step = seen c.step of to;
+  refused = λ m f. of (c.refused (to m) f);
   read = λ fs. c.read fs >>= λ t. Some (of t);
   write = λ m. c.write (to m);
   fits = λ m. c.fits (to m);

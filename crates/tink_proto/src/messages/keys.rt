@@ -1,8 +1,8 @@
 //! Keysets, keys and templates.
 
 use crate::wire::{
-    Field, Message, clone_list, clone_option, merge_body, push_body, put_bytes, put_enum, put_list,
-    put_message, put_number, put_text,
+    Field, Message, clone_list, clone_option, put_bytes, put_enum, put_list, put_message,
+    put_number, put_text, read_bytes, read_enum, read_list, read_message, read_number, read_text,
 };
 use crate::{Bytes, ProtoError, Repeated, Text};
 use std::alloc::{AllocError, Global};
@@ -29,11 +29,10 @@ impl Message for Keyset {
 
     fn read_field(&mut self, alloc: Global, field: &Field) -> Result<(), ProtoError> {
         match field.number {
-            1 => self.primary_key_id = field.content.number()?,
-            2 => push_body(&mut self.key, alloc, field.content.body()?)?,
-            _ => {}
+            1 => read_number(&mut self.primary_key_id, &field.content),
+            2 => read_list(&mut self.key, alloc, &field.content),
+            _ => Ok(()),
         }
-        Ok(())
     }
 
     #[tactic(auto, using(std::proofs::Common::append_assoc, wire_format::proofs::WritingLaws::spelling_append))]
@@ -79,13 +78,12 @@ impl Message for Key {
 
     fn read_field(&mut self, alloc: Global, field: &Field) -> Result<(), ProtoError> {
         match field.number {
-            1 => merge_body(&mut self.key_data, alloc, field.content.body()?)?,
-            2 => self.status = field.content.enum_number()?,
-            3 => self.key_id = field.content.number()?,
-            4 => self.output_prefix_type = field.content.enum_number()?,
-            _ => {}
+            1 => read_message(&mut self.key_data, alloc, &field.content),
+            2 => read_enum(&mut self.status, &field.content),
+            3 => read_number(&mut self.key_id, &field.content),
+            4 => read_enum(&mut self.output_prefix_type, &field.content),
+            _ => Ok(()),
         }
-        Ok(())
     }
 
     #[tactic(auto, using(std::proofs::Common::append_assoc, wire_format::proofs::WritingLaws::spelling_append))]
@@ -133,12 +131,11 @@ impl Message for KeyData {
 
     fn read_field(&mut self, alloc: Global, field: &Field) -> Result<(), ProtoError> {
         match field.number {
-            1 => self.type_url = Text::from_str(alloc, field.content.text()?)?,
-            2 => self.value = Bytes::from_slice(alloc, field.content.body()?)?,
-            3 => self.key_material_type = field.content.enum_number()?,
-            _ => {}
+            1 => read_text(&mut self.type_url, alloc, &field.content),
+            2 => read_bytes(&mut self.value, alloc, &field.content),
+            3 => read_enum(&mut self.key_material_type, &field.content),
+            _ => Ok(()),
         }
-        Ok(())
     }
 
     #[tactic(auto, using(std::proofs::Common::append_assoc, wire_format::proofs::WritingLaws::spelling_append))]
@@ -184,12 +181,11 @@ impl Message for KeyTemplate {
 
     fn read_field(&mut self, alloc: Global, field: &Field) -> Result<(), ProtoError> {
         match field.number {
-            1 => self.type_url = Text::from_str(alloc, field.content.text()?)?,
-            2 => self.value = Bytes::from_slice(alloc, field.content.body()?)?,
-            3 => self.output_prefix_type = field.content.enum_number()?,
-            _ => {}
+            1 => read_text(&mut self.type_url, alloc, &field.content),
+            2 => read_bytes(&mut self.value, alloc, &field.content),
+            3 => read_enum(&mut self.output_prefix_type, &field.content),
+            _ => Ok(()),
         }
-        Ok(())
     }
 
     #[tactic(auto, using(std::proofs::Common::append_assoc, wire_format::proofs::WritingLaws::spelling_append))]

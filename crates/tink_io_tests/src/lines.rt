@@ -1,0 +1,64 @@
+//! Bytes that are written whole, and the texts of refusals.
+
+use crate::expect::{expect, expect_bytes};
+use std::alloc::Global;
+use std::test::Fail;
+use tink_io::{Cause, Kind, MemSink, SureSink, TinkError, write_all, write_line};
+
+// What a sink of two bytes a call has taken of six where that call fails, and whether all was written.
+fn written(alloc: Global, fails: u32) -> Result<(Vec<u8>, bool), TinkError> {
+    let mut sink = MemSink::new(alloc, 2, Vec::from_slice(alloc, &[fails])?);
+    sink.reserve(alloc, 6)?;
+    let is_written = write_all(&mut sink, b"abcdef").is_ok();
+    Ok((sink.into_bytes(), is_written))
+}
+
+#[test]
+fn all_is_written_unless_a_call_fails(rt: HostRuntime) -> Result<(), Fail> {
+    let rows: [(u32, &[u8], bool); 4] = [
+        (1, b"", false),
+        (2, b"ab", false),
+        (3, b"abcd", false),
+        (4, b"abcdef", true),
+    ];
+    for (fails, front, whole) in rows {
+        let (bytes, is_written) = written(rt.alloc(), fails)?;
+        expect_bytes(&rt, &bytes, front, "the bytes");
+        expect(&rt, is_written, whole, "the answer");
+    }
+    Ok(())
+}
+
+// The line of a kind.
+fn line(alloc: Global, kind: Kind) -> Result<Vec<u8>, TinkError> {
+    let mut sink = SureSink::new(alloc);
+    sink.reserve(alloc, 64)?;
+    write_line(&mut sink, kind);
+    Ok(sink.into_bytes())
+}
+
+#[test]
+fn lines_are_texts(rt: HostRuntime) -> Result<(), Fail> {
+    let rows: [(Kind, &[u8]); 6] = [
+        (Kind::OutOfMemory, b"out of memory\n"),
+        (Kind::LengthOverU32, b"length over u32\n"),
+        (Kind::WrongStatus(-1), b"wrong status -1\n"),
+        (Kind::BadSegment(7), b"bad segment 7\n"),
+        (Kind::Truncated(4294967295), b"truncated 4294967295\n"),
+        (
+            Kind::FailedBefore(Cause::BadSegment(10)),
+            b"failed before: bad segment 10\n",
+        ),
+    ];
+    for (kind, want) in rows {
+        expect_bytes(&rt, &line(rt.alloc(), kind)?, want, "a line");
+    }
+    Ok(())
+}
+
+#[test]
+fn a_refusal_prints_its_kind(rt: HostRuntime) -> Result<(), Fail> {
+    let shown = format!(in rt.alloc(); "{}", TinkError::new(Kind::WrongStatus(i32::MIN)))?;
+    expect_bytes(&rt, shown.as_bytes(), b"wrong status -2147483648", "a text");
+    Ok(())
+}

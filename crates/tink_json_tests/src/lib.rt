@@ -1,0 +1,7 @@
+//! Tests of `tink_json`.
+#![tactic(auto)]
+
+#[cfg(test)]
+mod expect;
+#[cfg(test)]
+mod texts;

@@ -1,0 +1,79 @@
+//! Reading one more content into the field of a message, for each kind of field.
+
+ghost use Rattle.std.specs.Prelude.{◌≡◌, None, OnErr};
+ghost use Rattle.wire_format.specs.Message.{as_number, as_enum, as_bytes, as_text};
+ghost use Rattle.wire_format.specs.Values.{pushed, merged};
+ghost use Rattle.tink_proto.specs.View.{content_of};
+ghost use Rattle.tink_proto.specs.Outcome.{Becomes};
+
+use crate::wire::{Content, Message, read_fields};
+use crate::{Bytes, ProtoError, Repeated, Text};
+use std::alloc::Global;
+
+/// Reads a number of 32 bits. After an `Err` the field is as before.
+pub fn read_number(slot: &mut u32, content: &Content) -> Result<(), ProtoError>
+    ensures reads { Becomes result slot.new (as_number (content_of content.now)) }
+    ensures err { OnErr result (slot.new ≡ slot.old) }
+{
+    *slot = content.number()?;
+    Ok(())
+}
+
+/// Reads the number of an enum. After an `Err` the field is as before.
+pub fn read_enum(slot: &mut i32, content: &Content) -> Result<(), ProtoError>
+    ensures reads { Becomes result slot.new (as_enum (content_of content.now)) }
+    ensures err { OnErr result (slot.new ≡ slot.old) }
+{
+    *slot = content.enum_number()?;
+    Ok(())
+}
+
+/// Reads bytes. After an `Err` the field is as before.
+pub fn read_bytes(slot: &mut Bytes, alloc: Global, content: &Content) -> Result<(), ProtoError>
+    ensures reads { Becomes result slot.new (as_bytes (content_of content.now)) }
+    ensures err { OnErr result (slot.new ≡ slot.old) }
+{
+    *slot = Bytes::from_slice(alloc, content.body()?)?;
+    Ok(())
+}
+
+/// Reads text. After an `Err` the field is as before.
+pub fn read_text(slot: &mut Text, alloc: Global, content: &Content) -> Result<(), ProtoError>
+    ensures reads { Becomes result slot.new (as_text (content_of content.now)) }
+    ensures err { OnErr result (slot.new ≡ slot.old) }
+{
+    *slot = Text::from_str(alloc, content.text()?)?;
+    Ok(())
+}
+
+/// Reads a body into the message that stands there, or into a new one. After an `Err` none stands there.
+pub fn read_message<M: Message>(
+    slot: &mut Option<M>,
+    alloc: Global,
+    content: &Content,
+) -> Result<(), ProtoError>
+    ensures reads { Becomes result slot.new (merged (M.table).step (M.table).start slot.old (content_of content.now)) }
+    ensures err { OnErr result (slot.new ≡ None) }
+{
+    let mut message = match slot.take() {
+        Some(message) => message,
+        None => M::new(alloc),
+    };
+    read_fields(&mut message, alloc, content.body()?)?;
+    *slot = Some(message);
+    Ok(())
+}
+
+/// Reads a body as one more message of a list. After an `Err` the list is as before.
+pub fn read_list<M: Message>(
+    list: &mut Repeated<M>,
+    alloc: Global,
+    content: &Content,
+) -> Result<(), ProtoError>
+    ensures reads { Becomes result list.new (pushed (M.table).read list.old (content_of content.now)) }
+    ensures err { OnErr result (list.new ≡ list.old) }
+{
+    let message = M::decode(alloc, content.body()?)?;
+    list.push(message)?;
+    Ok(())
+}

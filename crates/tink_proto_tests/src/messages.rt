@@ -1,0 +1,333 @@
+//! The messages of keysets: bytes spelled by hand from the table of fields, and a caller's contract.
+
+ghost use Rattle.wire_format.specs.Message.{decoded};
+ghost use Rattle.tink_proto.specs.Outcome.{Reads};
+ghost use Rattle.tink_proto.specs.Messages.{keyset};
+
+use crate::expect::{expect, expect_given};
+use std::alloc::Global;
+use tink_proto::{
+    Bytes, EncryptedKeyset, HashType, Key, KeyData, KeyInfo, KeyMaterialType, KeyStatusType,
+    KeyTemplate, Keyset, KeysetInfo, Message, OutputPrefixType, ProtoError, Repeated, Text,
+    UnknownValue,
+};
+
+/// URL "x", value 07, material 1.
+const KEY_DATA: [u8; 8] = [0x0a, 1, b'x', 0x12, 1, 7, 0x18, 1];
+
+/// The key data, status 1, id 300, prefix 3.
+const KEY: [u8; 17] = [
+    0x0a, 8, 0x0a, 1, b'x', 0x12, 1, 7, 0x18, 1, 0x10, 1, 0x18, 0xac, 0x02, 0x20, 3,
+];
+
+/// Primary id 300, and the key.
+const KEYSET: [u8; 22] = [
+    0x08, 0xac, 0x02, 0x12, 17, 0x0a, 8, 0x0a, 1, b'x', 0x12, 1, 7, 0x18, 1, 0x10, 1, 0x18, 0xac,
+    0x02, 0x20, 3,
+];
+
+/// URL "x", value 07, prefix 4.
+const TEMPLATE: [u8; 8] = [0x0a, 1, b'x', 0x12, 1, 7, 0x18, 4];
+
+/// Bytes 01 02; an info of primary id 300 and one key of URL "x", status 2, id 300, prefix 1.
+const ENCRYPTED: [u8; 21] = [
+    0x12, 2, 1, 2, 0x1a, 15, 0x08, 0xac, 0x02, 0x12, 10, 0x0a, 1, b'x', 0x10, 2, 0x18, 0xac, 0x02,
+    0x20, 1,
+];
+
+/// A keyset from its bytes, as a caller's contract says it.
+fn read_keyset(alloc: Global, bytes: &[u8]) -> Result<Keyset, ProtoError>
+    ensures { Reads result (decoded keyset.read bytes.now) }
+{
+    Keyset::decode(alloc, bytes)
+}
+
+fn is_data_of_x(data: &KeyData) -> bool {
+    data.type_url.as_str() == "x"
+        && data.value.as_slice() == [7].as_slice()
+        && data.key_material_type == 1
+}
+
+fn is_key_of_x(key: &Key) -> bool {
+    let Some(data) = &key.key_data else {
+        return false;
+    };
+    (key.status, key.key_id, key.output_prefix_type) == (1, 300, 3) && is_data_of_x(data)
+}
+
+fn is_keyset_of_x(keyset: &Keyset) -> bool {
+    let [key] = keyset.key.as_slice() else {
+        return false;
+    };
+    keyset.primary_key_id == 300 && is_key_of_x(key)
+}
+
+fn reads_keyset(alloc: Global) -> Result<bool, ProtoError> {
+    let keyset = read_keyset(alloc, &KEYSET)?;
+    Ok(is_keyset_of_x(&keyset))
+}
+
+fn is_info_of_x(info: &KeysetInfo) -> bool {
+    let [key] = info.key_info.as_slice() else {
+        return false;
+    };
+    info.primary_key_id == 300
+        && key.type_url.as_str() == "x"
+        && (key.status, key.key_id, key.output_prefix_type) == (2, 300, 1)
+}
+
+fn reads_encrypted(alloc: Global) -> Result<bool, ProtoError> {
+    let encrypted = EncryptedKeyset::decode(alloc, &ENCRYPTED)?;
+    Ok(
+        encrypted.encrypted_keyset.as_slice() == [1, 2].as_slice()
+            && encrypted.keyset_info.as_ref().is_some_and(is_info_of_x),
+    )
+}
+
+fn reads_template(alloc: Global) -> Result<bool, ProtoError> {
+    let template = KeyTemplate::decode(alloc, &TEMPLATE)?;
+    Ok(
+        template.type_url.as_str() == "x"
+            && template.value.as_slice() == [7].as_slice()
+            && template.output_prefix_type == 4,
+    )
+}
+
+#[test]
+fn reads_each_field(rt: HostRuntime) {
+    expect(&rt, reads_keyset(rt.alloc()), Ok(true), "a keyset");
+    expect(
+        &rt,
+        reads_encrypted(rt.alloc()),
+        Ok(true),
+        "an encrypted keyset",
+    );
+    expect(&rt, reads_template(rt.alloc()), Ok(true), "a template");
+}
+
+/// Whether a copy of the message that the bytes spell is written as `want`.
+fn is_written_as<M: Message>(alloc: Global, bytes: &[u8], want: &[u8]) -> Result<bool, ProtoError> {
+    let copy = M::decode(alloc, bytes)?.try_clone(alloc)?;
+    Ok(copy.encode(alloc)?.as_slice() == want)
+}
+
+fn is_written_again<M: Message>(alloc: Global, bytes: &[u8]) -> Result<bool, ProtoError> {
+    is_written_as::<M>(alloc, bytes, bytes)
+}
+
+#[test]
+fn writes_the_keysets_that_it_read(rt: HostRuntime) {
+    let alloc = rt.alloc();
+    expect(
+        &rt,
+        is_written_again::<KeyData>(alloc, &KEY_DATA),
+        Ok(true),
+        "key data",
+    );
+    expect(&rt, is_written_again::<Key>(alloc, &KEY), Ok(true), "a key");
+    expect(
+        &rt,
+        is_written_again::<Keyset>(alloc, &KEYSET),
+        Ok(true),
+        "a keyset",
+    );
+    expect(
+        &rt,
+        is_written_again::<KeyTemplate>(alloc, &TEMPLATE),
+        Ok(true),
+        "a template",
+    );
+}
+
+#[test]
+fn writes_the_infos_that_it_read(rt: HostRuntime) {
+    let alloc = rt.alloc();
+    let (info, key_info) = (&ENCRYPTED[6..], &ENCRYPTED[11..]);
+    expect(
+        &rt,
+        is_written_again::<KeyInfo>(alloc, key_info),
+        Ok(true),
+        "an info",
+    );
+    expect(
+        &rt,
+        is_written_again::<KeysetInfo>(alloc, info),
+        Ok(true),
+        "an info of a keyset",
+    );
+    expect(
+        &rt,
+        is_written_again::<EncryptedKeyset>(alloc, &ENCRYPTED),
+        Ok(true),
+        "encrypted",
+    );
+}
+
+/// Whether the keyset with more bytes behind it is the keyset.
+fn is_keyset_with(alloc: Global, tail: &[u8]) -> Result<bool, ProtoError> {
+    let mut bytes = Vec::from_slice(alloc, &KEYSET)?;
+    bytes.extend_from_slice(tail)?;
+    is_written_as::<Keyset>(alloc, &bytes, &KEYSET)
+}
+
+#[test]
+fn skips_unknown_fields_and_long_spellings(rt: HostRuntime) {
+    let tails: [&[u8]; 6] = [
+        &[0x78, 5],
+        &[0x79, 0, 0, 0, 0, 0, 0, 0, 0],
+        &[0x7a, 1, 0xff],
+        &[0x7d, 0, 0, 0, 0],
+        // The id 300 once more, its key in ten bytes and with higher bits.
+        &[
+            0x88, 0x80, 0x80, 0x80, 0x80, 0x80, 0x80, 0x80, 0x80, 0, 0xac, 2,
+        ],
+        &[
+            0x08, 0xac, 0x82, 0x80, 0x80, 0xf0, 0xff, 0xff, 0xff, 0xff, 1,
+        ],
+    ];
+    for tail in tails {
+        expect(
+            &rt,
+            is_keyset_with(rt.alloc(), tail),
+            Ok(true),
+            "with more bytes",
+        );
+    }
+}
+
+fn is_refused<M: Message>(alloc: Global, bytes: &[u8]) -> bool {
+    matches!(M::decode(alloc, bytes), Err(ProtoError::BadMessage))
+}
+
+#[test]
+fn refuses(rt: HostRuntime) {
+    let refused: [&[u8]; 11] = [
+        // Cut off: a key, a varint, a length, a body, eight and four bytes.
+        &[0x88],
+        &[0x08],
+        &[0x12],
+        &[0x12, 1],
+        &[0x79, 0],
+        &[0x7d, 0],
+        // A group, number 0, a field with another type, a key of 2^32, a varint of 2^64.
+        &[0x7b],
+        &[0x00, 0],
+        &[0x0a, 0],
+        &[0x80, 0x80, 0x80, 0x80, 0x10, 0],
+        &[
+            0x08, 0xff, 0xff, 0xff, 0xff, 0xff, 0xff, 0xff, 0xff, 0xff, 2,
+        ],
+    ];
+    for bytes in refused {
+        assert!(rt; is_refused::<Keyset>(rt.alloc(), bytes));
+    }
+}
+
+#[test]
+fn refuses_other_texts_and_bodies_apart(rt: HostRuntime) {
+    // A text that is not UTF-8, also where a later one replaces it.
+    assert!(rt; is_refused::<KeyData>(rt.alloc(), &[0x0a, 1, 0xff, 0x0a, 0]));
+    // A field that is cut in two by two bodies.
+    assert!(rt; is_refused::<Key>(rt.alloc(), &[0x0a, 2, 0x0a, 1, 0x0a, 1, b'x']));
+}
+
+#[test]
+fn joins_the_bodies_of_one_message(rt: HostRuntime) {
+    let apart = [
+        0x0a, 3, 0x0a, 1, b'x', 0x10, 1, 0x0a, 7, 0x12, 1, 9, 0x12, 0, 0x18, 1, 0x18, 0xac, 2,
+        0x20, 3, 0x0a, 3, 0x12, 1, 7,
+    ];
+    expect(
+        &rt,
+        is_written_as::<Key>(rt.alloc(), &apart, &KEY),
+        Ok(true),
+        "the key",
+    );
+}
+
+fn empty_key_data(alloc: Global) -> KeyData {
+    KeyData {
+        type_url: Text::from_string(String::new(alloc)),
+        value: Bytes::from_vec(Vec::new(alloc)),
+        key_material_type: 0,
+    }
+}
+
+/// A keyset of one key of status -2 and nothing else.
+fn negative_keyset(alloc: Global) -> Result<Keyset, ProtoError> {
+    let key = Key {
+        key_data: Some(empty_key_data(alloc)),
+        status: -2,
+        key_id: 0,
+        output_prefix_type: 0,
+    };
+    let mut keys = Vec::new(alloc);
+    keys.push(key)?;
+    Ok(Keyset {
+        primary_key_id: 0,
+        key: Repeated::from_vec(keys),
+    })
+}
+
+/// A keyset of one key of status -2, written.
+const NEGATIVE: [u8; 15] = [
+    0x12, 13, 0x0a, 0, 0x10, 0xfe, 0xff, 0xff, 0xff, 0xff, 0xff, 0xff, 0xff, 0xff, 1,
+];
+
+fn negative_written(alloc: Global) -> Result<Bytes, ProtoError> {
+    negative_keyset(alloc)?.encode(alloc)
+}
+
+fn reads_negative(alloc: Global) -> Result<bool, ProtoError> {
+    let keyset = Keyset::decode(alloc, &NEGATIVE)?;
+    Ok(matches!(keyset.key.as_slice(), [Key { status: -2, .. }]))
+}
+
+#[test]
+fn writes_defaults_and_negative_numbers(rt: HostRuntime) {
+    expect_given(&rt, negative_written(rt.alloc()), &NEGATIVE, "written");
+    expect(&rt, reads_negative(rt.alloc()), Ok(true), "read");
+}
+
+#[test]
+fn numbers_of_enums(rt: HostRuntime) {
+    for number in 0..4i32 {
+        assert!(rt; KeyStatusType::try_from(number).is_ok_and(|e| e as i32 == number));
+    }
+    for number in 0..5i32 {
+        assert!(rt; OutputPrefixType::try_from(number).is_ok_and(|e| e as i32 == number));
+        assert!(rt; KeyMaterialType::try_from(number).is_ok_and(|e| e as i32 == number));
+    }
+    for number in 0..6i32 {
+        assert!(rt; HashType::try_from(number).is_ok_and(|e| e as i32 == number));
+    }
+}
+
+#[test]
+fn numbers_of_no_enum(rt: HostRuntime) {
+    expect(
+        &rt,
+        KeyStatusType::try_from(4),
+        Err(UnknownValue),
+        "a status",
+    );
+    expect(
+        &rt,
+        OutputPrefixType::try_from(-1),
+        Err(UnknownValue),
+        "a prefix type",
+    );
+    expect(
+        &rt,
+        KeyMaterialType::try_from(5),
+        Err(UnknownValue),
+        "a material",
+    );
+    expect(&rt, HashType::try_from(6), Err(UnknownValue), "a hash");
+}
+
+#[test]
+fn hashes_are_not_in_the_order_of_their_sizes(rt: HostRuntime) {
+    expect(&rt, HashType::try_from(2), Ok(HashType::Sha384), "2");
+    expect(&rt, HashType::try_from(3), Ok(HashType::Sha256), "3");
+}
