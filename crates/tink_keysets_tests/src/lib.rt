@@ -1,0 +1,11 @@
+//! Tests of keysets in use.
+#![tactic(auto)]
+
+#[cfg(test)]
+mod building_tests;
+#[cfg(test)]
+mod expecting;
+#[cfg(test)]
+mod keyset_tests;
+#[cfg(test)]
+mod manager_tests;
