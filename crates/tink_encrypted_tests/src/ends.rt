@@ -1,6 +1,6 @@
 //! A master that binds its associated data, and an end of keysets that fails.
 
-ghost use Rattle.std.specs.Prelude.{◌≡◌, ◌≤◌, Some, Err};
+ghost use Rattle.std.specs.Prelude.{◌≡◌, ◌≤◌, ⊤, Some, Err};
 ghost use Rattle.tink_io.specs.Faults.{Rose};
 ghost use Rattle.tink_io.specs.declared.error.Kind.TheVariants.{ReadFault, WriteFault};
 ghost use Rattle.tink_encrypted_tests.specs.TestMaster.{bound, bound_drawn, unbound, unbound_told};
@@ -76,6 +76,10 @@ impl Reader for Failing {
 
     ghost reads_encrypted = { λ _. Some (Err ReadFault) };
 
+    ghost leaves = { λ _ _. ⊤ };
+
+    ghost same = { λ _ _. ⊤ };
+
     fn read(&mut self, _alloc: Global) -> Result<Keyset, TinkError> {
         Err(self.fail(Kind::ReadFault))
     }
@@ -83,6 +87,10 @@ impl Reader for Failing {
     fn read_encrypted(&mut self, _alloc: Global) -> Result<EncryptedKeyset, TinkError> {
         Err(self.fail(Kind::ReadFault))
     }
+
+    ghost same_refl = { λ _. tt };
+
+    ghost same_trans = { λ _ _ _ _ _. tt };
 }
 
 impl Writer for Failing {
@@ -96,6 +104,12 @@ impl Writer for Failing {
 
     ghost writes_encrypted = { λ _ _ _. ⊥ };
 
+    ghost refused = { λ _ _ _ _. ⊤ };
+
+    ghost refused_encrypted = { λ _ _ _ _. ⊤ };
+
+    ghost same = { λ _ _. ⊤ };
+
     fn write(&mut self, _alloc: Global, _ks: &Keyset) -> Result<(), TinkError> {
         Err(self.fail(Kind::WriteFault))
     }
@@ -103,4 +117,8 @@ impl Writer for Failing {
     fn write_encrypted(&mut self, _alloc: Global, _ks: &EncryptedKeyset) -> Result<(), TinkError> {
         Err(self.fail(Kind::WriteFault))
     }
+
+    ghost same_refl = { λ _. tt };
+
+    ghost same_trans = { λ _ _ _ _ _. tt };
 }
