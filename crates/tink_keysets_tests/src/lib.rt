@@ -2,8 +2,6 @@
 #![tactic(auto)]
 
 #[cfg(test)]
-mod building_tests;
-#[cfg(test)]
 mod expecting;
 #[cfg(test)]
 mod keyset_tests;

@@ -2,7 +2,7 @@
 
 ghost use Rattle.std.specs.Prelude.{◌≡◌, true, is_some, IfOk, Err};
 ghost use Rattle.tink_io.specs.declared.error.Kind.TheVariants.{MacMismatch};
-ghost use Rattle.tink_keyset_io_tests.specs.TestKeys as test_keys;
+ghost use Rattle.tink_factory_tests.specs.TestKeys as test_keys;
 
 use crate::expecting::expect;
 use std::alloc::Global;

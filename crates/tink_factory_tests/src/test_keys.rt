@@ -4,7 +4,7 @@ ghost use Rattle.std.specs.Prelude.{nat_eq};
 ghost use Rattle.tink_primitives.specs.declared.primitive.Primitive.TheVariants.{Aead};
 ghost use Rattle.tink_key_types.specs.Manager.{built_if, made_if};
 ghost use Rattle.tink_key_types.specs.ManagerLaws.{built_if_told, made_if_told};
-ghost use Rattle.tink_keyset_io_tests.specs.TestKeys.{test_url, is_accepted, test_key};
+ghost use Rattle.tink_factory_tests.specs.TestKeys.{test_url, is_accepted, test_key};
 
 use std::alloc::Global;
 use tink_io::{Draws, Kind, TinkError};
