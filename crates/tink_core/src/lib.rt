@@ -7,8 +7,6 @@ pub mod keyset;
 pub mod primitiveset;
 pub mod registry;
 pub mod subtle;
-#[cfg(test)]
-mod tests;
 
 pub use tink_io::{
     Cause, Draws, Failed, Kind, Lent, MemSink, MemSource, Sink, Source, StdSink, StdSource,

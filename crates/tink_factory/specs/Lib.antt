@@ -1,3 +1,2 @@
 pub mod Accepting
-pub mod TestKeys
 pub mod Typing

@@ -6,8 +6,4 @@ pub use asking::{Question, ask_behind_prefix, ask_entries};
 pub use typing::typed_primitives;
 
 mod asking;
-#[cfg(test)]
-mod test_keys;
-#[cfg(test)]
-mod tests;
 mod typing;

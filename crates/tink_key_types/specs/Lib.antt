@@ -1,5 +1,4 @@
 pub mod HashTypes
 pub mod Manager
 pub mod ManagerLaws
-pub mod TestKeys
 pub mod Templates

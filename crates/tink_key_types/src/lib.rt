@@ -5,10 +5,6 @@ mod hashes;
 mod key_type;
 mod manager;
 mod templates;
-#[cfg(test)]
-mod test_keys;
-#[cfg(test)]
-mod tests;
 
 pub use hashes::hash_type_of;
 pub use key_type::KeyType;

@@ -1,18 +1,17 @@
 -- Texts that are read piece by piece.
-use Rattle.std.proofs.Common.{◌≡◌, inl, inr, ◌⊎◌, ℕ, ◌+◌, ◌^◌, ◌<◌, ◌≤◌, List, [], ◌++◌, length, take, Bool, true, false, cond, Some, None, Ok, Err, Result, refl, sym, ap, ◌∙◌, subst, arith, length-append, append-nil, IfOk, IfSome}
+use Rattle.std.proofs.Common.{◌≡◌, inl, inr, ℕ, ◌+◌, ◌^◌, ◌<◌, ◌≤◌, List, [], ◌++◌, length, take, Bool, true, false, cond, Some, None, Ok, Err, Result, refl, sym, ap, ◌∙◌, subst, arith, length-append, append-nil, IfOk, IfSome}
 use Rattle.std.proofs.lemmas.Bool.{le-ltb, lt-ltb}
 use Rattle.std.proofs.KnownBytes.{Consumes-trans, Consumes-nil, Consumes-kept}
 use Rattle.std.proofs.lemmas.List.{length-take}
 use Rattle.std.specs.declared.option.Option.{Option}
 use Rattle.std.specs.Io.KnownBytes.{Consumes, IsAtEnd, Keeps}
-use Rattle.tink_io.specs.Faults.{Rose}
 use Rattle.tink_io.specs.declared.error.Kind.{Kind}
 use Rattle.tink_io.specs.declared.error.Kind.TheVariants.{KeysetTooLong}
 use Rattle.tink_io.specs.declared.error.TinkError.{TinkError}
 use Rattle.tink_io.proofs.FaultLemmas.{Rose-earlier}
 use Rattle.tink_io.specs.Told.{or_refused}
-use Rattle.tink_keysets.specs.Ends.{IsTold, IsRefusal, Gives}
-use Rattle.tink_keyset_io.specs.Reading.{reading, told, IsFault, IsUnread, LosesAtMost, IsPiece}
+use Rattle.tink_keysets.specs.Ends.{IsTold, IsReadRefusal, Gives}
+use Rattle.tink_keyset_io.specs.Reading.{told, IsFault, IsUnread, LosesAtMost, IsPiece}
 
 -- a piece behind a text
 pub text_goes_on : (a b c : Option (List ℕ)) (before after piece : List ℕ) (n : ℕ) → Consumes a b before → IsPiece b c before after piece n → Consumes a c after
@@ -56,7 +55,7 @@ told_of refusal message (Some all) text given same is fits = rw (same, is, le-lt
 
 -- why a text could not be had is why the read is refused
 pub refused_of : {M : Type 0} (refusal : Kind) (message : List ℕ → Option M) (a : Option (List ℕ)) (k : Kind) (before now : ℕ)
-    → IsUnread a k before now → IsRefusal (told refusal message a) k before now
+    → IsUnread a k before now → IsReadRefusal (told refusal message a) k before now
 refused_of refusal message a k before now (inl (inl memory)) = rw memory tt
 refused_of refusal message a k before now (inl (inr fault)) = rw fault.0 fault.1
 refused_of refusal message None k before now (inr long) = rw long.0 tt

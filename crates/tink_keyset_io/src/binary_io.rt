@@ -3,7 +3,7 @@
 ghost use Rattle.std.specs.Prelude.{◌≡◌, ◌≤◌, ◌+◌, ◌^◌, Some, Ok, OnOk, IfErr};
 ghost use Rattle.std.specs.Io.KnownBytes.{Appends, IsAtEnd};
 ghost use Rattle.tink_io.specs.declared.error.Kind.TheVariants.{BadKeyset};
-ghost use Rattle.tink_keysets.specs.Ends.{Gives};
+ghost use Rattle.tink_keysets.specs.Ends.{Gives, Takes};
 ghost use Rattle.tink_proto.specs.Messages.{keyset, encrypted_keyset};
 ghost use Rattle.wire_format.specs.Message.{decoded, encoded};
 ghost use Rattle.tink_keyset_io.specs.Reading.{LosesAtMost, told};
@@ -83,6 +83,10 @@ impl<S: Source> Reader for BinaryReader<S> {
 
     ghost reads_encrypted = { λ r. told BadKeyset (decoded encrypted_keyset.read) (S.left r) };
 
+    ghost leaves = { λ before after. LosesAtMost (2 ^ 26 + 1) (S.left before) (S.left after) };
+
+    ghost same = { λ before after. S.same before after };
+
     /// The keyset that the bytes left are. The source is at its end then.
     ///
     /// # Errors
@@ -93,7 +97,7 @@ impl<S: Source> Reader for BinaryReader<S> {
         ensures answer { Gives result (told BadKeyset (decoded keyset.read) (S.left self.old)) (S.faults self.old) (S.faults self.new) }
         ensures count { S.faults self.old ≤ S.faults self.new }
         ensures end { OnOk result (IsAtEnd (S.left self.new)) }
-        ensures taken { LosesAtMost (2 ^ 26 + 1) (S.left self.old) (S.left self.new) }
+        ensures leaves { LosesAtMost (2 ^ 26 + 1) (S.left self.old) (S.left self.new) }
         ensures same { S.same self.old self.new }
     {
         read_as::<Binary, Keyset, S>(alloc, &mut self.source)
@@ -107,11 +111,15 @@ impl<S: Source> Reader for BinaryReader<S> {
         ensures answer { Gives result (told BadKeyset (decoded encrypted_keyset.read) (S.left self.old)) (S.faults self.old) (S.faults self.new) }
         ensures count { S.faults self.old ≤ S.faults self.new }
         ensures end { OnOk result (IsAtEnd (S.left self.new)) }
-        ensures taken { LosesAtMost (2 ^ 26 + 1) (S.left self.old) (S.left self.new) }
+        ensures leaves { LosesAtMost (2 ^ 26 + 1) (S.left self.old) (S.left self.new) }
         ensures same { S.same self.old self.new }
     {
         read_as::<Binary, EncryptedKeyset, S>(alloc, &mut self.source)
     }
+
+    ghost same_refl = { λ r. S.same_refl r };
+
+    ghost same_trans = { λ r s t. S.same_trans r s t };
 }
 
 /// Writes keysets to a sink as messages in the wire format. Contracts see the sink.
@@ -153,16 +161,22 @@ impl<K: Sink> Writer for BinaryWriter<K> {
 
     ghost writes_encrypted = { λ before ks after. Appends (K.got before) (K.got after) (encoded encrypted_keyset.write ks) };
 
+    ghost refused = { λ before ks kind after. IsPartOf (λ text. text ≡ encoded keyset.write ks) kind (K.got before) (K.got after) };
+
+    ghost refused_encrypted = { λ before ks kind after. IsPartOf (λ text. text ≡ encoded encrypted_keyset.write ks) kind (K.got before) (K.got after) };
+
+    ghost same = { λ before after. K.same before after };
+
     /// Writes the keyset's bytes, in as many calls as the sink wants.
     ///
     /// # Errors
     /// `WriteFault` where the sink failed: it has a front of the bytes then. `OutOfMemory`: nothing
     /// is written then.
     fn write(&mut self, alloc: Global, ks: &Keyset) -> Result<(), TinkError>
-        ensures answer { Gives result (Some (Ok tt)) (K.faults self.old) (K.faults self.new) }
+        ensures answer { Takes result (Some (Ok tt)) (K.faults self.old) (K.faults self.new) }
         ensures written { OnOk result (Appends (K.got self.old) (K.got self.new) (encoded keyset.write ks.now)) }
         ensures count { K.faults self.old ≤ K.faults self.new }
-        ensures front { IfErr result (λ e. IsPartOf (λ text. text ≡ encoded keyset.write ks.now) e.kind (K.got self.old) (K.got self.new)) }
+        ensures refused { IfErr result (λ e. IsPartOf (λ text. text ≡ encoded keyset.write ks.now) e.kind (K.got self.old) (K.got self.new)) }
         ensures same { K.same self.old self.new }
     {
         write_as::<Binary, Keyset, K>(alloc, &mut self.sink, ks)
@@ -173,12 +187,16 @@ impl<K: Sink> Writer for BinaryWriter<K> {
     /// # Errors
     /// As `write`.
     fn write_encrypted(&mut self, alloc: Global, ks: &EncryptedKeyset) -> Result<(), TinkError>
-        ensures answer { Gives result (Some (Ok tt)) (K.faults self.old) (K.faults self.new) }
+        ensures answer { Takes result (Some (Ok tt)) (K.faults self.old) (K.faults self.new) }
         ensures written { OnOk result (Appends (K.got self.old) (K.got self.new) (encoded encrypted_keyset.write ks.now)) }
         ensures count { K.faults self.old ≤ K.faults self.new }
-        ensures front { IfErr result (λ e. IsPartOf (λ text. text ≡ encoded encrypted_keyset.write ks.now) e.kind (K.got self.old) (K.got self.new)) }
+        ensures refused { IfErr result (λ e. IsPartOf (λ text. text ≡ encoded encrypted_keyset.write ks.now) e.kind (K.got self.old) (K.got self.new)) }
         ensures same { K.same self.old self.new }
     {
         write_as::<Binary, EncryptedKeyset, K>(alloc, &mut self.sink, ks)
     }
+
+    ghost same_refl = { λ w. K.same_refl w };
+
+    ghost same_trans = { λ w x y. K.same_trans w x y };
 }

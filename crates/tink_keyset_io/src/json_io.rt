@@ -3,7 +3,7 @@
 ghost use Rattle.std.specs.Prelude.{◌≡◌, ◌≤◌, ◌+◌, ◌^◌, Some, Ok, OnOk, IfErr};
 ghost use Rattle.std.specs.Io.KnownBytes.{Appends, IsAtEnd};
 ghost use Rattle.tink_io.specs.declared.error.Kind.TheVariants.{BadJson};
-ghost use Rattle.tink_keysets.specs.Ends.{Gives};
+ghost use Rattle.tink_keysets.specs.Ends.{Gives, Takes};
 ghost use Rattle.tink_json.specs.Messages.{encrypted_keyset, keyset, message_of};
 ghost use Rattle.tink_json.specs.Written.{encrypted_keyset_value, keyset_value, pretty_text};
 ghost use Rattle.tink_keyset_io.specs.Reading.{LosesAtMost, told};
@@ -85,6 +85,10 @@ impl<S: Source> Reader for JsonReader<S> {
 
     ghost reads_encrypted = { λ r. told BadJson (message_of encrypted_keyset) (S.left r) };
 
+    ghost leaves = { λ before after. LosesAtMost (2 ^ 26 + 1) (S.left before) (S.left after) };
+
+    ghost same = { λ before after. S.same before after };
+
     /// The keyset that the bytes left are. The source is at its end then.
     ///
     /// # Errors
@@ -95,7 +99,7 @@ impl<S: Source> Reader for JsonReader<S> {
         ensures answer { Gives result (told BadJson (message_of keyset) (S.left self.old)) (S.faults self.old) (S.faults self.new) }
         ensures count { S.faults self.old ≤ S.faults self.new }
         ensures end { OnOk result (IsAtEnd (S.left self.new)) }
-        ensures taken { LosesAtMost (2 ^ 26 + 1) (S.left self.old) (S.left self.new) }
+        ensures leaves { LosesAtMost (2 ^ 26 + 1) (S.left self.old) (S.left self.new) }
         ensures same { S.same self.old self.new }
     {
         read_as::<JsonText, Keyset, S>(alloc, &mut self.source)
@@ -109,11 +113,15 @@ impl<S: Source> Reader for JsonReader<S> {
         ensures answer { Gives result (told BadJson (message_of encrypted_keyset) (S.left self.old)) (S.faults self.old) (S.faults self.new) }
         ensures count { S.faults self.old ≤ S.faults self.new }
         ensures end { OnOk result (IsAtEnd (S.left self.new)) }
-        ensures taken { LosesAtMost (2 ^ 26 + 1) (S.left self.old) (S.left self.new) }
+        ensures leaves { LosesAtMost (2 ^ 26 + 1) (S.left self.old) (S.left self.new) }
         ensures same { S.same self.old self.new }
     {
         read_as::<JsonText, EncryptedKeyset, S>(alloc, &mut self.source)
     }
+
+    ghost same_refl = { λ r. S.same_refl r };
+
+    ghost same_trans = { λ r s t. S.same_trans r s t };
 }
 
 /// Writes keysets to a sink as pretty JSON. Contracts see the sink.
@@ -155,16 +163,22 @@ impl<K: Sink> Writer for JsonWriter<K> {
 
     ghost writes_encrypted = { λ before ks after. Appends (K.got before) (K.got after) (pretty_text (encrypted_keyset_value ks)) };
 
+    ghost refused = { λ before ks kind after. IsPartOf (λ text. text ≡ pretty_text (keyset_value ks)) kind (K.got before) (K.got after) };
+
+    ghost refused_encrypted = { λ before ks kind after. IsPartOf (λ text. text ≡ pretty_text (encrypted_keyset_value ks)) kind (K.got before) (K.got after) };
+
+    ghost same = { λ before after. K.same before after };
+
     /// Writes the keyset's text, in as many calls as the sink wants.
     ///
     /// # Errors
     /// `WriteFault` where the sink failed: it has a front of the text then. `OutOfMemory`: nothing
     /// is written then.
     fn write(&mut self, alloc: Global, ks: &Keyset) -> Result<(), TinkError>
-        ensures answer { Gives result (Some (Ok tt)) (K.faults self.old) (K.faults self.new) }
+        ensures answer { Takes result (Some (Ok tt)) (K.faults self.old) (K.faults self.new) }
         ensures written { OnOk result (Appends (K.got self.old) (K.got self.new) (pretty_text (keyset_value ks.now))) }
         ensures count { K.faults self.old ≤ K.faults self.new }
-        ensures front { IfErr result (λ e. IsPartOf (λ text. text ≡ pretty_text (keyset_value ks.now)) e.kind (K.got self.old) (K.got self.new)) }
+        ensures refused { IfErr result (λ e. IsPartOf (λ text. text ≡ pretty_text (keyset_value ks.now)) e.kind (K.got self.old) (K.got self.new)) }
         ensures same { K.same self.old self.new }
     {
         write_as::<JsonText, Keyset, K>(alloc, &mut self.sink, ks)
@@ -175,12 +189,16 @@ impl<K: Sink> Writer for JsonWriter<K> {
     /// # Errors
     /// As `write`.
     fn write_encrypted(&mut self, alloc: Global, ks: &EncryptedKeyset) -> Result<(), TinkError>
-        ensures answer { Gives result (Some (Ok tt)) (K.faults self.old) (K.faults self.new) }
+        ensures answer { Takes result (Some (Ok tt)) (K.faults self.old) (K.faults self.new) }
         ensures written { OnOk result (Appends (K.got self.old) (K.got self.new) (pretty_text (encrypted_keyset_value ks.now))) }
         ensures count { K.faults self.old ≤ K.faults self.new }
-        ensures front { IfErr result (λ e. IsPartOf (λ text. text ≡ pretty_text (encrypted_keyset_value ks.now)) e.kind (K.got self.old) (K.got self.new)) }
+        ensures refused { IfErr result (λ e. IsPartOf (λ text. text ≡ pretty_text (encrypted_keyset_value ks.now)) e.kind (K.got self.old) (K.got self.new)) }
         ensures same { K.same self.old self.new }
     {
         write_as::<JsonText, EncryptedKeyset, K>(alloc, &mut self.sink, ks)
     }
+
+    ghost same_refl = { λ w. K.same_refl w };
+
+    ghost same_trans = { λ w x y. K.same_trans w x y };
 }

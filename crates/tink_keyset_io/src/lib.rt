@@ -8,8 +8,3 @@ mod text;
 
 pub use binary_io::{BinaryReader, BinaryWriter};
 pub use json_io::{JsonReader, JsonWriter};
-
-#[cfg(test)]
-mod json_io_tests;
-#[cfg(test)]
-mod tests;

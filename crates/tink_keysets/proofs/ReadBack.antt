@@ -11,15 +11,15 @@ use Rattle.tink_proto.specs.declared.messages.keys.Keyset.{Keyset}
 use Rattle.keyset_model.specs.Validity.{IsHeld}
 use Rattle.tink_keysets.specs.declared.keyset.memory.MemReaderWriter.{MemReaderWriter}
 use Rattle.tink_keysets.specs.Encrypted.{by_master, chained, decrypted, handle_of_bytes, with_info, Undoes}
-use Rattle.tink_keysets.specs.Ends.{held_or, IsRefusal}
+use Rattle.tink_keysets.specs.Ends.{held_or, IsReadRefusal}
 use Rattle.tink_keysets.specs.Handles.{handle_of}
 use Rattle.tink_keysets.specs.Through.{GivesBy, IsTaken}
 
 -- where a value is told and no fault can be, there is no refusal but want of memory
-only_memory : {T : Type 0} (v : T) (kind : Kind) → IsRefusal (Some (Ok v)) kind 0 0 → kind ≡ OutOfMemory
+only_memory : {T : Type 0} (v : T) (kind : Kind) → IsReadRefusal (Some (Ok v)) kind 0 0 → kind ≡ OutOfMemory
 only_memory v OutOfMemory h = refl
 only_memory v ReadFault h = absurd (omega (arith, h))
-only_memory v WriteFault h = absurd (omega (arith, h))
+only_memory v WriteFault h = absurd h
 only_memory v kind h = absurd (cc)
 
 -- what memory gives is answered by

@@ -10,17 +10,29 @@ abbrev pub IsTold : {T : Type 0} → Option (Result T Kind) → Result T Kind �
 IsTold None answer = ⊤
 IsTold (Some told) answer = told ≡ answer
 
--- a refusal: by want of memory, by a fault, which raises the count, or by the told kind
-abbrev pub IsRefusal : {T : Type 0} → Option (Result T Kind) → Kind → ℕ → ℕ → Type 0
-IsRefusal told OutOfMemory before now = ⊤
-IsRefusal told ReadFault before now = Rose before now
-IsRefusal told WriteFault before now = Rose before now
-IsRefusal told kind before now = IsTold told (Err kind)
+-- a refusal to read: by want of memory, by a fault, which raises the count, or by the told kind
+abbrev pub IsReadRefusal : {T : Type 0} → Option (Result T Kind) → Kind → ℕ → ℕ → Type 0
+IsReadRefusal told OutOfMemory before now = ⊤
+IsReadRefusal told ReadFault before now = Rose before now
+IsReadRefusal told WriteFault before now = ⊥
+IsReadRefusal told kind before now = IsTold told (Err kind)
 
--- a call gives the told value, or refuses
+-- a refusal to write, in the same way
+abbrev pub IsWriteRefusal : Option (Result (Unit {0}) Kind) → Kind → ℕ → ℕ → Type 0
+IsWriteRefusal told OutOfMemory before now = ⊤
+IsWriteRefusal told ReadFault before now = ⊥
+IsWriteRefusal told WriteFault before now = Rose before now
+IsWriteRefusal told kind before now = IsTold told (Err kind)
+
+-- a call that reads gives the told value, or refuses
 abbrev pub Gives : {T : Type 0} → Result T TinkError → Option (Result T Kind) → ℕ → ℕ → Type 0
 Gives (Ok v) told before now = IsTold told (Ok v)
-Gives (Err e) told before now = IsRefusal told e.kind before now
+Gives (Err e) told before now = IsReadRefusal told e.kind before now
+
+-- a call that writes takes the message where it is told so, or refuses
+abbrev pub Takes : Result (Unit {0}) TinkError → Option (Result (Unit {0}) Kind) → ℕ → ℕ → Type 0
+Takes (Ok _) told before now = IsTold told (Ok tt)
+Takes (Err e) told before now = IsWriteRefusal told e.kind before now
 
 -- what a field of a reader in memory gives
 abbrev pub held_or : {T : Type 0} → Option T → Result T Kind

@@ -4,7 +4,5 @@ pub mod Ends
 pub mod Handles
 pub mod Managed
 pub mod Places
-pub mod TestKeys
-pub mod TestMaster
 pub mod Through
 pub mod Told

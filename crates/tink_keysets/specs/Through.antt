@@ -4,7 +4,7 @@ use Rattle.tink_io.specs.Told.{IsShort}
 use Rattle.tink_io.specs.declared.error.Kind.{Kind}
 use Rattle.tink_io.specs.declared.error.Kind.TheVariants.{OutOfMemory}
 use Rattle.tink_io.specs.declared.error.TinkError.{TinkError}
-use Rattle.tink_keysets.specs.Ends.{IsTold, IsRefusal}
+use Rattle.tink_keysets.specs.Ends.{IsTold, IsReadRefusal, IsWriteRefusal}
 
 -- What was read gives the answer. Where it is told what is read, it is that.
 pub record IsFrom {S T : Type 0} (makes : S → Result T Kind) (told : Option (Result S Kind)) (answer : Result T Kind) : Type 0 where
@@ -15,7 +15,7 @@ pub record IsFrom {S T : Type 0} (makes : S → Result T Kind) (told : Option (R
 -- a call reads, and answers by what was read, or the reader refuses
 abbrev pub GivesBy : {S T : Type 0} → (S → Result T Kind) → Result T TinkError → Option (Result S Kind) → ℕ → ℕ → Type 0
 GivesBy makes (Ok v) told before now = IsFrom makes told (Ok v)
-GivesBy makes (Err e) told before now = IsRefusal told e.kind before now ⊎ IsFrom makes told (Err e.kind)
+GivesBy makes (Err e) told before now = IsReadRefusal told e.kind before now ⊎ IsFrom makes told (Err e.kind)
 
 -- A message was made, and the writer took it.
 pub record IsTaken {S W : Type 0} (answers : W → S → Option (Result (Unit {0}) Kind)) (writes : W → S → W → Type 0) (made : Result S Kind) (old new : W) : Type 0 where
@@ -29,16 +29,17 @@ pub record IsUnmade {S W : Type 0} (made : Result S Kind) (kind : Kind) (old new
   pub cause : (kind ≡ OutOfMemory) ⊎ (made ≡ Err kind)
   pub same : new ≡ old
 
--- A message was made, and the writer refused it.
-pub record IsRefused {S W : Type 0} (answers : W → S → Option (Result (Unit {0}) Kind)) (faults : W → ℕ) (made : Result S Kind) (kind : Kind) (old new : W) : Type 0 where
+-- A message was made, and the writer refused it: what it has of it is what it leaves of that message.
+pub record IsRefused {S W : Type 0} (answers : W → S → Option (Result (Unit {0}) Kind)) (refused : W → S → Kind → W → Type 0) (faults : W → ℕ) (made : Result S Kind) (kind : Kind) (old new : W) : Type 0 where
   pub message : S
   pub is_made : made ≡ Ok message
-  pub cause : IsRefusal (answers old message) kind (faults old) (faults new)
+  pub cause : IsWriteRefusal (answers old message) kind (faults old) (faults new)
+  pub left : refused old message kind new
 
 -- a call makes a message and writes it
-abbrev pub Writes : {S W : Type 0} → (W → S → Option (Result (Unit {0}) Kind)) → (W → S → W → Type 0) → (W → ℕ) → Result (Unit {0}) TinkError → Result S Kind → W → W → Type 0
-Writes answers writes faults (Ok _) made old new = IsTaken answers writes made old new
-Writes answers writes faults (Err e) made old new = IsUnmade made e.kind old new ⊎ IsRefused answers faults made e.kind old new
+abbrev pub Writes : {S W : Type 0} → (W → S → Option (Result (Unit {0}) Kind)) → (W → S → W → Type 0) → (W → S → Kind → W → Type 0) → (W → ℕ) → Result (Unit {0}) TinkError → Result S Kind → W → W → Type 0
+Writes answers writes refused faults (Ok _) made old new = IsTaken answers writes made old new
+Writes answers writes refused faults (Err e) made old new = IsUnmade made e.kind old new ⊎ IsRefused answers refused faults made e.kind old new
 
 -- a call leaves the told draws; where there is no memory it may leave any end of what there was
 abbrev pub Leaves : {T : Type 0} → Result T TinkError → List ℕ → List ℕ → List ℕ → Type 0

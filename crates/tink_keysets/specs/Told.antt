@@ -3,11 +3,8 @@ use Rattle.std.specs.Prelude.{◌≡◌, ℕ, nat_le, if◌then◌else◌, List,
 use Rattle.tink_io.specs.declared.error.Kind.{Kind}
 use Rattle.tink_io.specs.declared.error.Kind.TheVariants.{RandomFault}
 use Rattle.tink_io.specs.declared.error.TinkError.{TinkError}
-
 -- the call gives the told value, or refuses by the told kind
-abbrev pub Tells : {T : Type 0} → Result T TinkError → Result T Kind → Type 0
-Tells (Ok v) told = told ≡ Ok v
-Tells (Err e) told = told ≡ Err e.kind
+pub use Rattle.tink_primitives.specs.Meaning.{Gives as Tells}
 
 -- an edit was made, or was refused by the told kind and left what there was
 abbrev pub Edits : {T : Type 0} → Result (Unit {0}) TinkError → T → T → Result T Kind → Type 0

@@ -1,7 +1,6 @@
 //! Keysets: what holds them, what edits them, and what reads and writes them.
 
 mod adding;
-mod building;
 mod copies;
 mod encrypted;
 mod encrypted_laws;
@@ -13,7 +12,6 @@ mod manager_type;
 mod memory;
 mod places;
 mod plain;
-mod public_parts;
 mod reading;
 mod validation;
 mod writing;

@@ -13,11 +13,7 @@ mod clone_in;
 mod kinds;
 mod primitive;
 mod primitive_traits;
-#[cfg(test)]
-mod stream_tests;
 mod streams;
-#[cfg(test)]
-mod tests;
 
 /// The id of a key in its keyset.
 pub type KeyId = u32;

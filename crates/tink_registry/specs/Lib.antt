@@ -2,4 +2,3 @@ pub mod Known
 pub mod Listed
 pub mod ListedLaws
 pub mod Registering
-pub mod TestKeys

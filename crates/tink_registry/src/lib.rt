@@ -8,7 +8,3 @@ mod key_manager;
 mod managers;
 mod registry;
 mod templates;
-#[cfg(test)]
-mod test_manager;
-#[cfg(test)]
-mod tests;

@@ -1,9 +1,15 @@
 //! The entries of sets.
 
+ghost use Rattle.std.specs.Prelude.{◌≡◌, ◌⊎◌, Ok, Err, IfOk, IfErr, OnOk};
+ghost use Rattle.tink_io.specs.declared.error.Kind.TheVariants.{OutOfMemory};
+ghost use Rattle.tink_io.specs.Told.{Answers};
+ghost use Rattle.tink_sets.specs.Entries.{may_stand, own_prefix, standing_prefix, entry_of};
+
+use crate::cryptofmt::{known_type, output_prefix};
 use std::alloc::Global;
-use tink_io::TinkError;
+use tink_io::{Kind, TinkError};
 use tink_primitives::{CloneIn, KeyId, Kinds, Primitive};
-use tink_proto::{Bytes, KeyStatusType, OutputPrefixType};
+use tink_proto::{Bytes, Key, KeyStatusType, OutputPrefixType};
 
 /// A primitive of a set, with what its key says of it.
 #[derive(Drop)]
@@ -14,6 +20,18 @@ pub struct Entry<K: Kinds> {
     pub prefix: Bytes,
     pub prefix_type: OutputPrefixType,
     pub status: KeyStatusType,
+}
+
+impl<K: Kinds> Entry<K> {
+    /// The entry of a key and its primitive: `NotEnabled`, then `UnknownPrefix`.
+    pub fn new(alloc: Global, p: Primitive<K>, key: &Key) -> Result<Self, TinkError>
+        ensures value { IfOk result (λ e. e ≡ entry_of p key.now) }
+        ensures stands { OnOk result (may_stand key.now ≡ Ok tt) }
+        ensures cause { IfErr result (λ e. (e.kind ≡ OutOfMemory) ⊎ (may_stand key.now ≡ Err e.kind)) }
+    {
+        let prefix = standing_prefix(alloc, key)?;
+        Ok(new_entry(p, key, prefix))
+    }
 }
 
 /// A primitive of a set of one sort, with what its key says of it.
@@ -48,5 +66,30 @@ impl<P: CloneIn> CloneIn for TypedEntry<P> {
             prefix_type: self.prefix_type,
             status: self.status,
         })
+    }
+}
+
+// The prefix of a key that may stand in a set.
+pub(crate) fn standing_prefix(alloc: Global, key: &Key) -> Result<Bytes, TinkError>
+    ensures answer { Answers result (standing_prefix key.now) }
+    ensures value { IfOk result (λ prefix. prefix ≡ own_prefix key.now) }
+{
+    if key.status != KeyStatusType::Enabled as i32 {
+        return Err(TinkError::new(Kind::NotEnabled));
+    }
+    output_prefix(alloc, key)
+}
+
+// The entry of a key and its primitive.
+pub(crate) fn new_entry<K: Kinds>(p: Primitive<K>, key: &Key, prefix: Bytes) -> Entry<K>
+    requires own { prefix ≡ own_prefix key.now }
+    ensures value { result ≡ entry_of p key.now }
+{
+    Entry {
+        key_id: key.key_id,
+        primitive: p,
+        prefix,
+        prefix_type: known_type(key.output_prefix_type).unwrap_or(OutputPrefixType::UnknownPrefix),
+        status: KeyStatusType::Enabled,
     }
 }

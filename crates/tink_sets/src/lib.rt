@@ -11,6 +11,4 @@ mod entry;
 mod groups;
 mod primitive_set;
 pub mod sorts;
-#[cfg(test)]
-mod tests;
 mod typed_set;

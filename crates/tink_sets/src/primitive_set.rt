@@ -10,13 +10,14 @@ ghost use Rattle.tink_sets.specs.Entries.{may_stand, own_prefix, standing_prefix
 
 use crate::Entry;
 use crate::converting::{clone_groups, clone_primary};
-use crate::cryptofmt::{RAW_PREFIX, known_type, output_prefix};
+use crate::cryptofmt::RAW_PREFIX;
+use crate::entry::{new_entry, standing_prefix};
 use crate::groups::{group_of, newest, put_in_group};
 use std::alloc::Global;
 use std::collections::BTreeMap;
-use tink_io::{Kind, TinkError};
+use tink_io::TinkError;
 use tink_primitives::{Kinds, Primitive};
-use tink_proto::{Bytes, Key, KeyStatusType, OutputPrefixType, Repeated};
+use tink_proto::{Bytes, Key, Repeated};
 
 /// The primitives of a keyset by the prefixes of their keys.
 #[derive(Drop)]
@@ -107,30 +108,5 @@ impl<K: Kinds> PrimitiveSet<K> {
             primary: clone_primary(alloc, &self.primary)?,
             entries: clone_groups(alloc, &self.entries)?,
         })
-    }
-}
-
-// The prefix of a key that may stand in a set.
-fn standing_prefix(alloc: Global, key: &Key) -> Result<Bytes, TinkError>
-    ensures answer { Answers result (standing_prefix key.now) }
-    ensures value { IfOk result (λ prefix. prefix ≡ own_prefix key.now) }
-{
-    if key.status != KeyStatusType::Enabled as i32 {
-        return Err(TinkError::new(Kind::NotEnabled));
-    }
-    output_prefix(alloc, key)
-}
-
-// The entry of a key and its primitive.
-fn new_entry<K: Kinds>(p: Primitive<K>, key: &Key, prefix: Bytes) -> Entry<K>
-    requires own { prefix ≡ own_prefix key.now }
-    ensures value { result ≡ entry_of p key.now }
-{
-    Entry {
-        key_id: key.key_id,
-        primitive: p,
-        prefix,
-        prefix_type: known_type(key.output_prefix_type).unwrap_or(OutputPrefixType::UnknownPrefix),
-        status: KeyStatusType::Enabled,
     }
 }

@@ -70,7 +70,7 @@ impl<P> TypedPrimitiveSet<P> {
         ensures entries { IfOk result (λ typed. AreConverted (typed_by as_aead) set.entries typed.entries) }
         ensures cause { IfErr result (λ e. (e.kind ≡ OutOfMemory) ⊎ ((e.kind ≡ WrongPrimitive) × HasAnother as_aead set.primary set.entries)) }
     {
-        from_set::<K, Aeads>(alloc, &set)
+        from_owned::<K, Aeads>(alloc, set)
     }
 
     /// The set as one of deterministic AEADs, or `WrongPrimitive` exactly where an entry or the primary is of another sort.
@@ -84,7 +84,7 @@ impl<P> TypedPrimitiveSet<P> {
         ensures entries { IfOk result (λ typed. AreConverted (typed_by as_deterministic_aead) set.entries typed.entries) }
         ensures cause { IfErr result (λ e. (e.kind ≡ OutOfMemory) ⊎ ((e.kind ≡ WrongPrimitive) × HasAnother as_deterministic_aead set.primary set.entries)) }
     {
-        from_set::<K, DeterministicAeads>(alloc, &set)
+        from_owned::<K, DeterministicAeads>(alloc, set)
     }
 
     /// The set as one of hybrid decryptions, or `WrongPrimitive` exactly where an entry or the primary is of another sort.
@@ -98,7 +98,7 @@ impl<P> TypedPrimitiveSet<P> {
         ensures entries { IfOk result (λ typed. AreConverted (typed_by as_hybrid_decrypt) set.entries typed.entries) }
         ensures cause { IfErr result (λ e. (e.kind ≡ OutOfMemory) ⊎ ((e.kind ≡ WrongPrimitive) × HasAnother as_hybrid_decrypt set.primary set.entries)) }
     {
-        from_set::<K, HybridDecrypters>(alloc, &set)
+        from_owned::<K, HybridDecrypters>(alloc, set)
     }
 
     /// The set as one of hybrid encryptions, or `WrongPrimitive` exactly where an entry or the primary is of another sort.
@@ -112,7 +112,7 @@ impl<P> TypedPrimitiveSet<P> {
         ensures entries { IfOk result (λ typed. AreConverted (typed_by as_hybrid_encrypt) set.entries typed.entries) }
         ensures cause { IfErr result (λ e. (e.kind ≡ OutOfMemory) ⊎ ((e.kind ≡ WrongPrimitive) × HasAnother as_hybrid_encrypt set.primary set.entries)) }
     {
-        from_set::<K, HybridEncrypters>(alloc, &set)
+        from_owned::<K, HybridEncrypters>(alloc, set)
     }
 
     /// The set as one of MACs, or `WrongPrimitive` exactly where an entry or the primary is of another sort.
@@ -126,7 +126,7 @@ impl<P> TypedPrimitiveSet<P> {
         ensures entries { IfOk result (λ typed. AreConverted (typed_by as_mac) set.entries typed.entries) }
         ensures cause { IfErr result (λ e. (e.kind ≡ OutOfMemory) ⊎ ((e.kind ≡ WrongPrimitive) × HasAnother as_mac set.primary set.entries)) }
     {
-        from_set::<K, Macs>(alloc, &set)
+        from_owned::<K, Macs>(alloc, set)
     }
 
     /// The set as one of pseudorandom functions, or `WrongPrimitive` exactly where an entry or the primary is of another sort.
@@ -140,7 +140,7 @@ impl<P> TypedPrimitiveSet<P> {
         ensures entries { IfOk result (λ typed. AreConverted (typed_by as_prf) set.entries typed.entries) }
         ensures cause { IfErr result (λ e. (e.kind ≡ OutOfMemory) ⊎ ((e.kind ≡ WrongPrimitive) × HasAnother as_prf set.primary set.entries)) }
     {
-        from_set::<K, Prfs>(alloc, &set)
+        from_owned::<K, Prfs>(alloc, set)
     }
 
     /// The set as one of signers, or `WrongPrimitive` exactly where an entry or the primary is of another sort.
@@ -154,7 +154,7 @@ impl<P> TypedPrimitiveSet<P> {
         ensures entries { IfOk result (λ typed. AreConverted (typed_by as_signer) set.entries typed.entries) }
         ensures cause { IfErr result (λ e. (e.kind ≡ OutOfMemory) ⊎ ((e.kind ≡ WrongPrimitive) × HasAnother as_signer set.primary set.entries)) }
     {
-        from_set::<K, Signers>(alloc, &set)
+        from_owned::<K, Signers>(alloc, set)
     }
 
     /// The set as one of streaming AEADs, or `WrongPrimitive` exactly where an entry or the primary is of another sort.
@@ -168,7 +168,7 @@ impl<P> TypedPrimitiveSet<P> {
         ensures entries { IfOk result (λ typed. AreConverted (typed_by as_streaming_aead) set.entries typed.entries) }
         ensures cause { IfErr result (λ e. (e.kind ≡ OutOfMemory) ⊎ ((e.kind ≡ WrongPrimitive) × HasAnother as_streaming_aead set.primary set.entries)) }
     {
-        from_set::<K, StreamingAeads>(alloc, &set)
+        from_owned::<K, StreamingAeads>(alloc, set)
     }
 
     /// The set as one of verifiers, or `WrongPrimitive` exactly where an entry or the primary is of another sort.
@@ -182,7 +182,7 @@ impl<P> TypedPrimitiveSet<P> {
         ensures entries { IfOk result (λ typed. AreConverted (typed_by as_verifier) set.entries typed.entries) }
         ensures cause { IfErr result (λ e. (e.kind ≡ OutOfMemory) ⊎ ((e.kind ≡ WrongPrimitive) × HasAnother as_verifier set.primary set.entries)) }
     {
-        from_set::<K, Verifiers>(alloc, &set)
+        from_owned::<K, Verifiers>(alloc, set)
     }
 }
 
@@ -248,4 +248,16 @@ fn from_set<K: Kinds, S: Sort<K>>(
         Ok(entries) => Ok(TypedPrimitiveSet { primary, entries }),
         Err(e) => Err(e),
     }
+}
+
+// The set as one of a sort, and nothing of it is left.
+fn from_owned<K: Kinds, S: Sort<K>>(
+    alloc: Global,
+    set: PrimitiveSet<K>,
+) -> Result<TypedPrimitiveSet<S::Of>, TinkError>
+    ensures primary { IfOk result (λ typed. IsTypedPrimary S.picks set.primary typed.primary) }
+    ensures entries { IfOk result (λ typed. AreConverted (typed_by S.picks) set.entries typed.entries) }
+    ensures cause { IfErr result (λ e. (e.kind ≡ OutOfMemory) ⊎ ((e.kind ≡ WrongPrimitive) × HasAnother S.picks set.primary set.entries)) }
+{
+    from_set::<K, S>(alloc, &set)
 }

@@ -26,6 +26,8 @@ impl Handle {
     ) -> Result<Handle, TinkError>
         ensures answer { GivesBy (decrypted (A.decrypts master.now) []) result (R.reads_encrypted reader.old) (R.faults reader.old) (R.faults reader.new) }
         ensures count { R.faults reader.old ≤ R.faults reader.new }
+        ensures leaves { R.leaves reader.old reader.new }
+        ensures same { R.same reader.old reader.new }
     {
         Handle::read_with_associated_data(alloc, reader, master, &[])
     }
@@ -44,6 +46,8 @@ impl Handle {
     ) -> Result<Handle, TinkError>
         ensures answer { GivesBy (decrypted (A.decrypts master.now) associated_data.now) result (R.reads_encrypted reader.old) (R.faults reader.old) (R.faults reader.new) }
         ensures count { R.faults reader.old ≤ R.faults reader.new }
+        ensures leaves { R.leaves reader.old reader.new }
+        ensures same { R.same reader.old reader.new }
     {
         let encrypted = reader.read_encrypted(alloc)?;
         decrypt(alloc, &encrypted, master, associated_data)
@@ -60,9 +64,10 @@ impl Handle {
         master: &A,
         draws: &mut Draws,
     ) -> Result<(), TinkError>
-        ensures answer { Writes W.answers_encrypted W.writes_encrypted W.faults result (encrypted (A.encrypts master.now) [] draws.old self.now).0 writer.old writer.new }
+        ensures answer { Writes W.answers_encrypted W.writes_encrypted W.refused_encrypted W.faults result (encrypted (A.encrypts master.now) [] draws.old self.now).0 writer.old writer.new }
         ensures rest { Leaves result (encrypted (A.encrypts master.now) [] draws.old self.now).1 draws.old draws.new }
         ensures count { W.faults writer.old ≤ W.faults writer.new }
+        ensures same { W.same writer.old writer.new }
 
         // The bytes that were encrypted are those of a handle, which is this one.
         ensures again { OnOk result (handle_of_bytes (encoded keyset.write self.now) ≡ Ok self.now) }
@@ -75,7 +80,8 @@ impl Handle {
     ///
     /// # Errors
     /// `MasterFailed` exactly where the master refuses, and then the writer is as before; then the writer's, to which
-    /// the encrypted keyset alone was given. `OutOfMemory` may come in place of each.
+    /// the encrypted keyset alone was given: after a fault it may have a front of that one's text, and after another
+    /// refusal it has nothing. `OutOfMemory` may come in place of each.
     pub fn write_with_associated_data<W: Writer, A: Aead>(
         &self,
         alloc: Global,
@@ -84,9 +90,10 @@ impl Handle {
         associated_data: &[u8],
         draws: &mut Draws,
     ) -> Result<(), TinkError>
-        ensures answer { Writes W.answers_encrypted W.writes_encrypted W.faults result (encrypted (A.encrypts master.now) associated_data.now draws.old self.now).0 writer.old writer.new }
+        ensures answer { Writes W.answers_encrypted W.writes_encrypted W.refused_encrypted W.faults result (encrypted (A.encrypts master.now) associated_data.now draws.old self.now).0 writer.old writer.new }
         ensures rest { Leaves result (encrypted (A.encrypts master.now) associated_data.now draws.old self.now).1 draws.old draws.new }
         ensures count { W.faults writer.old ≤ W.faults writer.new }
+        ensures same { W.same writer.old writer.new }
 
         // The bytes that were encrypted are those of a handle, which is this one.
         ensures again { OnOk result (handle_of_bytes (encoded keyset.write self.now) ≡ Ok self.now) }

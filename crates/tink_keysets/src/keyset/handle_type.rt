@@ -13,12 +13,11 @@ ghost use Rattle.tink_keysets.specs.Told.{Tells};
 ghost use Rattle.tink_keysets.specs.Handles.{handle_of, handle_without_secrets};
 
 use crate::keyset::Manager;
-use crate::keyset::building::build_set;
-use crate::keyset::public_parts::public_keys;
 use crate::keyset::validation::{are_held, have_secrets, is_validated};
 use std::alloc::{AllocError, Global};
 use std::fmt;
 use std::marker::Model;
+use tink_building::{build_set, public_keys};
 use tink_io::{Draws, Kind, TinkError};
 use tink_proto::{
     Key, KeyInfo, KeyStatusType, KeyTemplate, Keyset, KeysetInfo, OutputPrefixType, Repeated, Text,
@@ -118,7 +117,7 @@ impl Handle {
     ///
     /// # Errors
     /// As `primitives`, and the given manager's.
-    #[tactic(auto, using(crate::proofs::Building::well_formed_keys))]
+    #[tactic(auto, using(tink_building::proofs::BuildingFacts::well_formed_keys))]
     pub fn primitives_with_key_manager<M: KeyManager>(
         &self,
         alloc: Global,

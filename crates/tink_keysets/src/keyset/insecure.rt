@@ -7,7 +7,7 @@ ghost use Rattle.tink_proto.specs.Messages.{keyset};
 ghost use Rattle.wire_format.specs.Message.{decoded};
 ghost use Rattle.keyset_model.specs.Validity.{IsHeld};
 ghost use Rattle.tink_keysets.specs.Told.{Tells};
-ghost use Rattle.tink_keysets.specs.Ends.{Gives};
+ghost use Rattle.tink_keysets.specs.Ends.{Takes};
 ghost use Rattle.tink_keysets.specs.Handles.{handle_of_keys};
 ghost use Rattle.tink_keysets.specs.Through.{GivesBy};
 
@@ -64,6 +64,8 @@ pub fn new_handle(ks: Keyset) -> Result<Handle, TinkError>
 pub fn read<R: Reader>(alloc: Global, reader: &mut R) -> Result<Handle, TinkError>
     ensures answer { GivesBy handle_of_keys result (R.reads reader.old) (R.faults reader.old) (R.faults reader.new) }
     ensures count { R.faults reader.old ≤ R.faults reader.new }
+    ensures leaves { R.leaves reader.old reader.new }
+    ensures same { R.same reader.old reader.new }
 {
     let ks = reader.read(alloc)?;
     new_handle(ks)
@@ -74,9 +76,11 @@ pub fn read<R: Reader>(alloc: Global, reader: &mut R) -> Result<Handle, TinkErro
 /// # Errors
 /// The writer's.
 pub fn write<W: Writer>(alloc: Global, h: &Handle, writer: &mut W) -> Result<(), TinkError>
-    ensures answer { Gives result (W.answers writer.old h.now) (W.faults writer.old) (W.faults writer.new) }
+    ensures answer { Takes result (W.answers writer.old h.now) (W.faults writer.old) (W.faults writer.new) }
     ensures written { OnOk result (W.writes writer.old h.now writer.new) }
+    ensures refused { IfErr result (λ e. W.refused writer.old h.now e.kind writer.new) }
     ensures count { W.faults writer.old ≤ W.faults writer.new }
+    ensures same { W.same writer.old writer.new }
 {
     writer.write(alloc, h.keyset())
 }

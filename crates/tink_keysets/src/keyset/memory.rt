@@ -1,7 +1,7 @@
 //! Keysets in memory, as a reader and a writer.
 
-ghost use Rattle.std.specs.Prelude.{◌≡◌, ◌≤◌, Some, Ok, OnOk, OnErr};
-ghost use Rattle.tink_keysets.specs.Ends.{Gives, held_or};
+ghost use Rattle.std.specs.Prelude.{◌≡◌, ◌≤◌, ⊤, Some, Ok, OnOk, OnErr};
+ghost use Rattle.tink_keysets.specs.Ends.{Gives, Takes, held_or};
 
 use crate::keyset::copies::copy;
 use crate::keyset::{Reader, Writer};
@@ -23,6 +23,10 @@ impl Reader for MemReaderWriter {
 
     ghost reads_encrypted = { λ m. Some (held_or m.encrypted_keyset) };
 
+    ghost leaves = { λ before after. after ≡ before };
+
+    ghost same = { λ _ _. ⊤ };
+
     /// A copy of the keyset.
     ///
     /// # Errors
@@ -30,7 +34,8 @@ impl Reader for MemReaderWriter {
     fn read(&mut self, alloc: Global) -> Result<Keyset, TinkError>
         ensures answer { Gives result (Some (held_or self.old.keyset)) 0 0 }
         ensures count { 0 ≤ 0 }
-        ensures same { self.new ≡ self.old }
+        ensures leaves { self.new ≡ self.old }
+        ensures same { ⊤ }
     {
         match &self.keyset {
             Some(keyset) => copy(alloc, keyset),
@@ -45,13 +50,18 @@ impl Reader for MemReaderWriter {
     fn read_encrypted(&mut self, alloc: Global) -> Result<EncryptedKeyset, TinkError>
         ensures answer { Gives result (Some (held_or self.old.encrypted_keyset)) 0 0 }
         ensures count { 0 ≤ 0 }
-        ensures same { self.new ≡ self.old }
+        ensures leaves { self.new ≡ self.old }
+        ensures same { ⊤ }
     {
         match &self.encrypted_keyset {
             Some(keyset) => copy(alloc, keyset),
             None => Err(TinkError::new(Kind::NoKeyset)),
         }
     }
+
+    ghost same_refl = { λ _. tt };
+
+    ghost same_trans = { λ _ _ _ _ _. tt };
 }
 
 impl Writer for MemReaderWriter {
@@ -65,15 +75,22 @@ impl Writer for MemReaderWriter {
 
     ghost writes_encrypted = { λ before ks after. after ≡ record before { encrypted_keyset = Some ks } };
 
+    ghost refused = { λ before _ _ after. after ≡ before };
+
+    ghost refused_encrypted = { λ before _ _ after. after ≡ before };
+
+    ghost same = { λ _ _. ⊤ };
+
     /// Puts a copy of the keyset in place of the one that is there.
     ///
     /// # Errors
     /// `OutOfMemory`; then nothing changes.
     fn write(&mut self, alloc: Global, ks: &Keyset) -> Result<(), TinkError>
-        ensures answer { Gives result (Some (Ok tt)) 0 0 }
+        ensures answer { Takes result (Some (Ok tt)) 0 0 }
         ensures written { OnOk result (self.new ≡ record self.old { keyset = Some ks.now }) }
+        ensures refused { OnErr result (self.new ≡ self.old) }
         ensures count { 0 ≤ 0 }
-        ensures err { OnErr result (self.new ≡ self.old) }
+        ensures same { ⊤ }
     {
         let keyset = copy(alloc, ks)?;
         self.keyset = Some(keyset);
@@ -85,13 +102,18 @@ impl Writer for MemReaderWriter {
     /// # Errors
     /// `OutOfMemory`; then nothing changes.
     fn write_encrypted(&mut self, alloc: Global, ks: &EncryptedKeyset) -> Result<(), TinkError>
-        ensures answer { Gives result (Some (Ok tt)) 0 0 }
+        ensures answer { Takes result (Some (Ok tt)) 0 0 }
         ensures written { OnOk result (self.new ≡ record self.old { encrypted_keyset = Some ks.now }) }
+        ensures refused { OnErr result (self.new ≡ self.old) }
         ensures count { 0 ≤ 0 }
-        ensures err { OnErr result (self.new ≡ self.old) }
+        ensures same { ⊤ }
     {
         let keyset = copy(alloc, ks)?;
         self.encrypted_keyset = Some(keyset);
         Ok(())
     }
+
+    ghost same_refl = { λ _. tt };
+
+    ghost same_trans = { λ _ _ _ _ _. tt };
 }

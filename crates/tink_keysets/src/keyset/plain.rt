@@ -20,6 +20,8 @@ impl Handle {
     ) -> Result<Handle, TinkError>
         ensures answer { GivesBy handle_without_secrets result (R.reads reader.old) (R.faults reader.old) (R.faults reader.new) }
         ensures count { R.faults reader.old ≤ R.faults reader.new }
+        ensures leaves { R.leaves reader.old reader.new }
+        ensures same { R.same reader.old reader.new }
     {
         let ks = reader.read(alloc)?;
         Handle::new_with_no_secrets(ks)
@@ -35,8 +37,9 @@ impl Handle {
         alloc: Global,
         writer: &mut W,
     ) -> Result<(), TinkError>
-        ensures answer { Writes W.answers W.writes W.faults result (without_secrets self.now) writer.old writer.new }
+        ensures answer { Writes W.answers W.writes W.refused W.faults result (without_secrets self.now) writer.old writer.new }
         ensures count { W.faults writer.old ≤ W.faults writer.new }
+        ensures same { W.same writer.old writer.new }
     {
         if have_secrets(self.keys()) {
             return Err(TinkError::new(Kind::HasSecrets));

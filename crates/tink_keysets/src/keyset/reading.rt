@@ -23,13 +23,21 @@ pub trait Reader {
     // The same of `read_encrypted`.
     ghost reads_encrypted: { Self → Option (Result EncryptedKeyset Kind) };
 
+    // What a call leaves of the state, whatever it answers.
+    ghost leaves: { Self → Self → Type 0 };
+
+    // What stays over calls.
+    ghost same: { Self → Self → Type 0 };
+
     /// The keyset that is read.
     ///
     /// # Errors
-    /// `ReadFault` only where the count of faults rose, `OutOfMemory`, and else the told kind.
+    /// `ReadFault` only where the count of faults rose, `OutOfMemory`, and else the told kind; never `WriteFault`.
     fn read(&mut self, alloc: Global) -> Result<Keyset, TinkError>
         ensures answer { Gives result (reads self.old) (faults self.old) (faults self.new) }
-        ensures count { faults self.old ≤ faults self.new };
+        ensures count { faults self.old ≤ faults self.new }
+        ensures leaves { leaves self.old self.new }
+        ensures same { same self.old self.new };
 
     /// The encrypted keyset that is read.
     ///
@@ -37,5 +45,11 @@ pub trait Reader {
     /// As `read`.
     fn read_encrypted(&mut self, alloc: Global) -> Result<EncryptedKeyset, TinkError>
         ensures answer { Gives result (reads_encrypted self.old) (faults self.old) (faults self.new) }
-        ensures count { faults self.old ≤ faults self.new };
+        ensures count { faults self.old ≤ faults self.new }
+        ensures leaves { leaves self.old self.new }
+        ensures same { same self.old self.new };
+
+    ghost same_refl: { (r : Self) → same r r };
+
+    ghost same_trans: { (r s t : Self) → same r s → same s t → same r t };
 }

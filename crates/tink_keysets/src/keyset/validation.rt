@@ -7,6 +7,7 @@ ghost use Rattle.keyset_model.specs.Keys as key_words;
 ghost use Rattle.keyset_model.specs.Secrets as secrets;
 ghost use Rattle.keyset_model.specs.Validity as validity;
 
+use tink_building::is_enabled;
 use tink_io::{Kind, TinkError};
 use tink_proto::{Key, KeyData, KeyMaterialType, KeyStatusType, Keyset};
 
@@ -91,12 +92,6 @@ fn some_is_enabled(keys: &[Key]) -> bool
     ensures { result ≡ list_any key_words.is_enabled keys.now }
 {
     keys.iter().any(|key| is_enabled(key))
-}
-
-pub(crate) fn is_enabled(key: &Key) -> bool
-    ensures { result ≡ key_words.is_enabled key.now }
-{
-    key.status == KeyStatusType::Enabled as i32
 }
 
 // How many enabled keys have the id.

@@ -1,12 +1,12 @@
 //! What writes keysets.
 
-ghost use Rattle.std.specs.Prelude.{◌≤◌, ℕ, OnOk};
+ghost use Rattle.std.specs.Prelude.{◌≤◌, ℕ, OnOk, IfErr};
 ghost use Rattle.std.specs.declared.option.Option.{Option};
 ghost use Rattle.std.specs.declared.result.Result.{Result};
 ghost use Rattle.tink_io.specs.declared.error.Kind.{Kind};
 ghost use Rattle.tink_proto.specs.declared.messages.infos.EncryptedKeyset.{EncryptedKeyset};
 ghost use Rattle.tink_proto.specs.declared.messages.keys.Keyset.{Keyset};
-ghost use Rattle.tink_keysets.specs.Ends.{Gives};
+ghost use Rattle.tink_keysets.specs.Ends.{Takes};
 
 use std::alloc::Global;
 use tink_io::TinkError;
@@ -29,21 +29,39 @@ pub trait Writer {
     // The same of `write_encrypted`.
     ghost writes_encrypted: { Self → EncryptedKeyset → Self → Type 0 };
 
+    // What a refusal of a `write` by a kind left of the state: after a fault no more than a front of the keyset's text, and
+    // else nothing.
+    ghost refused: { Self → Keyset → Kind → Self → Type 0 };
+
+    // The same of `write_encrypted`.
+    ghost refused_encrypted: { Self → EncryptedKeyset → Kind → Self → Type 0 };
+
+    // What stays over calls.
+    ghost same: { Self → Self → Type 0 };
+
     /// Writes a keyset.
     ///
     /// # Errors
-    /// `WriteFault` only where the count of faults rose, `OutOfMemory`, and else the told kind.
+    /// `WriteFault` only where the count of faults rose, `OutOfMemory`, and else the told kind; never `ReadFault`.
     fn write(&mut self, alloc: Global, ks: &Keyset) -> Result<(), TinkError>
-        ensures answer { Gives result (answers self.old ks.now) (faults self.old) (faults self.new) }
+        ensures answer { Takes result (answers self.old ks.now) (faults self.old) (faults self.new) }
         ensures written { OnOk result (writes self.old ks.now self.new) }
-        ensures count { faults self.old ≤ faults self.new };
+        ensures refused { IfErr result (λ e. refused self.old ks.now e.kind self.new) }
+        ensures count { faults self.old ≤ faults self.new }
+        ensures same { same self.old self.new };
 
     /// Writes an encrypted keyset.
     ///
     /// # Errors
     /// As `write`.
     fn write_encrypted(&mut self, alloc: Global, ks: &EncryptedKeyset) -> Result<(), TinkError>
-        ensures answer { Gives result (answers_encrypted self.old ks.now) (faults self.old) (faults self.new) }
+        ensures answer { Takes result (answers_encrypted self.old ks.now) (faults self.old) (faults self.new) }
         ensures written { OnOk result (writes_encrypted self.old ks.now self.new) }
-        ensures count { faults self.old ≤ faults self.new };
+        ensures refused { IfErr result (λ e. refused_encrypted self.old ks.now e.kind self.new) }
+        ensures count { faults self.old ≤ faults self.new }
+        ensures same { same self.old self.new };
+
+    ghost same_refl: { (w : Self) → same w w };
+
+    ghost same_trans: { (w x y : Self) → same w x → same x y → same w y };
 }

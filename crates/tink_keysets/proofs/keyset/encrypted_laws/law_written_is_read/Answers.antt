@@ -1,4 +1,4 @@
-use Rattle.std.proofs.Common.{List, ℕ, Ok, refl, subst}
+use Rattle.std.proofs.Common.{List, ℕ, refl, subst}
 use Rattle.wire_format.specs.Message.{encoded}
 use Rattle.tink_io.specs.Told.{Answers}
 use Rattle.tink_proto.specs.Messages.{keyset}

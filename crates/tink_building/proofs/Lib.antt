@@ -1,0 +1,2 @@
+pub mod BuildingFacts
+pub mod GivenEach

@@ -1,0 +1,166 @@
+//! The primitives of a keyset of test keys.
+
+use crate::expecting::expect;
+use std::alloc::Global;
+use std::test::Fail;
+use tink_io::{Kind, TinkError};
+use tink_keysets::keyset::Handle;
+use tink_primitives::Primitive;
+use tink_proto::{Key, OutputPrefixType};
+use tink_registry::Registry;
+use tink_sets::{Entry, PrimitiveSet};
+use tink_testutil::{
+    TestKinds, TestManager, URL, bare, enabled_key, handle_of, key, kind_of, registry_of,
+};
+
+const LENIENT: TestManager = TestManager {
+    url: URL,
+    private: false,
+    any_length: true,
+};
+
+const STRICT: TestManager = TestManager {
+    url: URL,
+    private: false,
+    any_length: false,
+};
+
+// Whether there is one entry, of the id and the key's value.
+fn is_entry(entries: &[Entry<TestKinds>], id: u32, want: &[u8]) -> bool {
+    match entries {
+        [entry] => is_of(entry, id, want),
+        _ => false,
+    }
+}
+
+fn is_of(entry: &Entry<TestKinds>, id: u32, want: &[u8]) -> bool {
+    match &entry.primitive {
+        Primitive::Aead(aead) => entry.key_id == id && aead.key.as_slice() == want,
+        _ => false,
+    }
+}
+
+fn has_primary(set: &PrimitiveSet<TestKinds>, id: u32, want: &[u8]) -> bool {
+    match &set.primary {
+        Some(primary) => is_of(primary, id, want),
+        None => false,
+    }
+}
+
+fn push(keys: &mut Vec<Key>, key: Result<Key, TinkError>) -> Result<(), TinkError> {
+    keys.push(key?)?;
+    Ok(())
+}
+
+// An enabled raw key of id 8, a disabled and an enabled key of ids 9 and 7 with a prefix, and a destroyed one.
+fn four_keys(alloc: Global) -> Result<Handle, TinkError> {
+    let mut keys = vec![in alloc; bare(3, 8)]?;
+    push(
+        &mut keys,
+        enabled_key(alloc, URL, b"rr", OutputPrefixType::Raw, 8),
+    )?;
+    push(&mut keys, key(alloc, 1, 2, 9))?;
+    push(&mut keys, key(alloc, 1, 1, 7))?;
+    handle_of(7, keys)
+}
+
+// The set of a handle's primitives, built by the manager.
+fn set_of(
+    alloc: Global,
+    h: Handle,
+    manager: TestManager,
+) -> Result<PrimitiveSet<TestKinds>, TinkError> {
+    h.primitives(alloc, &registry_of(alloc, manager)?)
+}
+
+#[test]
+fn enabled_keys_stand_by_their_prefix(rt: HostRuntime) -> Result<(), Fail> {
+    let set = set_of(rt.alloc(), four_keys(rt.alloc())?, LENIENT)?;
+    expect(
+        &rt,
+        is_entry(set.raw_entries(), 8, b"rr"),
+        true,
+        "the RAW key",
+    );
+    let tink = set.entries_for_prefix(b"\x01\x00\x00\x00\x07");
+    expect(&rt, is_entry(tink, 7, b"\xaa\xbb"), true, "the TINK key");
+    let disabled = set.entries_for_prefix(b"\x01\x00\x00\x00\x09");
+    expect(&rt, disabled.len(), 0, "the disabled key");
+    expect(
+        &rt,
+        has_primary(&set, 7, b"\xaa\xbb"),
+        true,
+        "the primary key",
+    );
+    Ok(())
+}
+
+// The handle of two keys, the second one of which has the URL and the value.
+fn with_second(alloc: Global, type_url: &str, value: &[u8]) -> Result<Handle, TinkError> {
+    let first = enabled_key(alloc, URL, &[5; 16], OutputPrefixType::Raw, 7)?;
+    let mut keys = vec![in alloc; first]?;
+    push(
+        &mut keys,
+        enabled_key(alloc, type_url, value, OutputPrefixType::Raw, 8),
+    )?;
+    handle_of(7, keys)
+}
+
+// The kind by which the set of two keys is refused.
+fn refusal_of(alloc: Global, type_url: &str, value: &[u8]) -> Result<Option<Kind>, TinkError> {
+    Ok(kind_of(set_of(alloc, with_second(alloc, type_url, value)?, STRICT)))
+}
+
+#[test]
+fn the_first_key_that_does_not_build_refuses(rt: HostRuntime) -> Result<(), Fail> {
+    for (type_url, value, want) in [
+        ("x", b"".as_slice(), Kind::InvalidKey),
+        ("x", b"v", Kind::UnsupportedKeyType),
+        (URL, b"v", Kind::InvalidKey),
+    ] {
+        let refused = refusal_of(rt.alloc(), type_url, value)?;
+        expect(&rt, refused, Some(want), type_url);
+    }
+    Ok(())
+}
+
+// A handle whose primary id no key has.
+fn without_primary(alloc: Global) -> Result<Handle, TinkError> {
+    handle_of(9, vec![in alloc; key(alloc, 1, 1, 7)?]?)
+}
+
+#[test]
+fn a_keyset_without_primary_gives_no_set(rt: HostRuntime) -> Result<(), Fail> {
+    let refused = set_of(rt.alloc(), without_primary(rt.alloc())?, STRICT);
+    expect(
+        &rt,
+        kind_of(refused),
+        Some(Kind::InvalidKeyset),
+        "no primary",
+    );
+    Ok(())
+}
+
+// The number of RAW entries that a given manager builds beside a registry of nothing.
+fn given(
+    alloc: Global,
+    type_url: &str,
+    value: &[u8],
+    manager: &TestManager,
+) -> Result<usize, TinkError> {
+    let nothing: Registry<TestManager> = Registry::new(alloc);
+    let h = with_second(alloc, type_url, value)?;
+    let set = h.primitives_with_key_manager(alloc, &nothing, Some(manager))?;
+    Ok(set.raw_entries().len())
+}
+
+#[test]
+fn a_given_manager_decides_alone(rt: HostRuntime) -> Result<(), Fail> {
+    let lenient = given(rt.alloc(), URL, b"", &LENIENT);
+    expect(&rt, lenient, Ok(2), "one that takes any length");
+    let strict = kind_of(given(rt.alloc(), URL, b"", &STRICT));
+    expect(&rt, strict, Some(Kind::InvalidKey), "one that does not");
+    let refused = kind_of(given(rt.alloc(), "x", b"v", &LENIENT));
+    expect(&rt, refused, Some(Kind::UnsupportedKeyType), "another URL");
+    Ok(())
+}
