@@ -19,15 +19,7 @@ mod aes_cmac_key_manager;
 mod factory;
 mod hmac_key_manager;
 mod key_templates;
-#[cfg(test)]
-mod key_tests;
 mod laws;
 mod mac_kind;
-#[cfg(test)]
-mod named;
 mod registering;
 pub mod subtle;
-#[cfg(test)]
-mod tests;
-#[cfg(test)]
-mod wrapped_tests;
