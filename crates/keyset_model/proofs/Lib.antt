@@ -1,5 +1,6 @@
 pub mod EditLaws
 mod EditFacts
+pub mod EnabledLaw
 pub mod FreshIds
 pub mod IdsLaw
 pub mod KeysLaw

@@ -5,4 +5,5 @@ pub mod Entries
 pub mod Keys
 pub mod Laws
 pub mod Secrets
+pub mod Spared
 pub mod Validity

@@ -2,6 +2,7 @@
 
 mod adding;
 mod copies;
+mod enabled_law;
 mod encrypted;
 mod encrypted_laws;
 mod fresh_ids;
@@ -16,6 +17,7 @@ mod reading;
 mod validation;
 mod writing;
 
+pub use enabled_law::law_enabled_keys_stay;
 pub use encrypted_laws::law_written_is_read;
 pub use handle_type::Handle;
 pub use laws::{

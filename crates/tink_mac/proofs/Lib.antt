@@ -1,2 +1,4 @@
+pub mod OutlivingFacts
 pub mod RotationFacts
 pub mod TagFacts
+pub mod SoundFacts

@@ -90,7 +90,7 @@ module _ {S T : Type 0} (f : S → Result T Kind) where
   same_before (Ok v) (Err k) = refl
   same_before (Err k) rest = refl
 
-  given-converted : (xs : List S) → managed.given_each f xs ≡ converted f xs
+  pub given-converted : (xs : List S) → managed.given_each f xs ≡ converted f xs
   given-converted [] = refl
   given-converted (x ∷ xs) = ap (managed.before (f x)) (given-converted xs) ∙ same_before (f x) (converted f xs)
 
@@ -147,11 +147,11 @@ own_is k =
     let is_of : OutputPrefixType → Bool = λ t. int_eq k.output_prefix_type (prefix_number t) in
     known_prefix (is_of Tink) (is_of Legacy) (is_of Crunchy) (is_of Raw) (byte_and_id 1 k.key_id) (byte_and_id 0 k.key_id) (byte_and_id 0 k.key_id) refl refl refl
 
-cond_ok : {T : Type 0} (b : Bool) (r : Result T Kind) (k : Kind) (v : T) → cond b r (Err k) ≡ Ok v → r ≡ Ok v
+pub cond_ok : {T : Type 0} (b : Bool) (r : Result T Kind) (k : Kind) (v : T) → cond b r (Err k) ≡ Ok v → r ≡ Ok v
 cond_ok true r k v e = e
 cond_ok false r k v e = absurd (cc)
 
-made_ok : {S T : Type 0} (f : S → T) (r : Result S Kind) (v : T) → made_of f r ≡ Ok v → (x : S) × (r ≡ Ok x) × (f x ≡ v)
+pub made_ok : {S T : Type 0} (f : S → T) (r : Result S Kind) (v : T) → made_of f r ≡ Ok v → (x : S) × (r ≡ Ok x) × (f x ≡ v)
 made_ok f (Ok x) v e = let same : f x ≡ v = cc in (x, refl, same)
 made_ok f (Err k) v e = absurd (cc)
 
@@ -171,7 +171,7 @@ module _ {M K A D HD HE P F S St V : Type 0} (url : M → List ℕ) (supports : 
   by_key (Ok b) e is = (b, refl, is)
   by_key (Err k) e is = absurd (cc)
 
-  by_list : (id : ℕ) (r : Result (List (Entry K A D HD HE P F S St V)) Kind) (es : List (TypedEntry P)) → typed_entries as_mac id r ≡ Ok es → (bs : List (Entry K A D HD HE P F S St V)) × (r ≡ Ok bs) × (converted (typed_by as_mac) bs ≡ Ok es)
+  pub by_list : (id : ℕ) (r : Result (List (Entry K A D HD HE P F S St V)) Kind) (es : List (TypedEntry P)) → typed_entries as_mac id r ≡ Ok es → (bs : List (Entry K A D HD HE P F S St V)) × (r ≡ Ok bs) × (converted (typed_by as_mac) bs ≡ Ok es)
   by_list id (Ok bs) es is = (bs, refl, cond_ok _ (converted (typed_by as_mac) bs) NoPrimary es is)
   by_list id (Err k) es is = absurd (cc)
 

@@ -5,7 +5,7 @@ ghost use Rattle.tink_io.specs.declared.error.Kind.TheVariants.{OutOfMemory};
 ghost use Rattle.tink_io.specs.Told.{Answers};
 ghost use Rattle.tink_primitives.specs.Sorts.{as_mac};
 ghost use Rattle.tink_sets.specs.Entries.{entry_of};
-ghost use Rattle.tink_sets.specs.Groups.{group_of};
+ghost use Rattle.tink_sets.specs.Groups.{group_of, HaveSameGroups};
 ghost use Rattle.tink_keysets.specs.Built.{built_entries, GivesSet};
 ghost use Rattle.tink_factory.specs.Typing.{typed_entries};
 ghost use Rattle.tink_mac.specs.Wrapped.{any_verifies, covered, entry_mac, entry_verifies, primary_mac, IsMacOf};
@@ -15,7 +15,7 @@ use std::alloc::Global;
 use tink_factory::{Question, ask_behind_prefix, typed_primitives};
 use tink_io::{Kind, TinkError};
 use tink_keysets::keyset::Handle;
-use tink_primitives::{Kinds, Mac};
+use tink_primitives::{CloneIn, Kinds, Mac};
 use tink_proto::{Bytes, OutputPrefixType};
 use tink_registry::{KeyManager, Registry};
 use tink_sets::sorts::Macs;
@@ -46,6 +46,22 @@ where
     match typed_primitives::<M, Macs>(alloc, h, registry) {
         Ok(ps) => Ok(WrappedMac { ps }),
         Err(e) => Err(e),
+    }
+}
+
+impl<P: Mac + CloneIn> WrappedMac<P> {
+    /// The MACs of the same entries: a copy computes and accepts what its source does.
+    ///
+    /// # Errors
+    /// `OutOfMemory` alone.
+    pub fn try_clone(&self, alloc: Global) -> Result<Self, TinkError>
+        ensures primary { IfOk result (λ copy. copy.ps.primary ≡ self.now.ps.primary) }
+        ensures entries { IfOk result (λ copy. HaveSameGroups self.now.ps.entries copy.ps.entries) }
+        ensures cause { IfErr result (λ e. e.kind ≡ OutOfMemory) }
+    {
+        Ok(WrappedMac {
+            ps: self.ps.try_clone(alloc)?,
+        })
     }
 }
 

@@ -1,8 +1,9 @@
 //! What holds of MACs. These functions do nothing: their contracts are the laws.
 
-ghost use Rattle.tink_mac.specs.MacKinds.{AcceptsOwnTags};
-ghost use Rattle.tink_mac.specs.Rotation.{OldMacsVerify};
+ghost use Rattle.tink_mac.specs.MacKinds.{kind_computes, kind_verifies, AcceptsOwnTags};
+ghost use Rattle.tink_mac.specs.Rotation.{BuildsSound, MacsOutlive, OldMacsVerify};
 
+use crate::{AesCmacKeyManager, HmacKeyManager};
 use tink_primitives::{Kinds, Mac};
 use tink_registry::KeyManager;
 
@@ -17,4 +18,20 @@ where
 /// `Hmac` and `AesCmac` accept each tag that they compute.
 pub fn law_own_tags_accepted()
     ensures { AcceptsOwnTags }
+{}
+
+/// The MACs that the managers of HMAC and AES-CMAC keys build accept each tag that they compute, and it has more than
+/// five bytes.
+pub fn law_built_macs_are_sound()
+    ensures hmac { BuildsSound ⟦<HmacKeyManager as KeyManager>⟧.builds kind_computes kind_verifies }
+    ensures cmac { BuildsSound ⟦<AesCmacKeyManager as KeyManager>⟧.builds kind_computes kind_verifies }
+{}
+
+/// What a keyset's MACs computed is accepted by those of the keyset that any list of a manager's commands makes of it,
+/// where none of them disables, destroys or deletes a key of the id that was primary: by the same key managers, whose
+/// MACs accept each tag that they compute, of more than five bytes.
+pub fn law_macs_outlive_commands<M: KeyManager, P: Mac>()
+where
+    M::Family: Kinds<Mac = P>,
+    ensures { MacsOutlive M.url M.supports M.builds P.computes P.verifies }
 {}

@@ -10,7 +10,9 @@ pub use key_templates::{
     aes_cmac_tag128_key_template, hmac_sha256_tag128_key_template, hmac_sha256_tag256_key_template,
     hmac_sha512_tag256_key_template, hmac_sha512_tag512_key_template,
 };
-pub use laws::{law_old_macs_verify, law_own_tags_accepted};
+pub use laws::{
+    law_built_macs_are_sound, law_macs_outlive_commands, law_old_macs_verify, law_own_tags_accepted,
+};
 pub use mac_kind::{MacKind, MacKinds};
 pub use registering::init;
 pub use tink_primitives::UPSTREAM_VERSION;
@@ -19,15 +21,7 @@ mod aes_cmac_key_manager;
 mod factory;
 mod hmac_key_manager;
 mod key_templates;
-#[cfg(test)]
-mod key_tests;
 mod laws;
 mod mac_kind;
-#[cfg(test)]
-mod named;
 mod registering;
 pub mod subtle;
-#[cfg(test)]
-mod tests;
-#[cfg(test)]
-mod wrapped_tests;

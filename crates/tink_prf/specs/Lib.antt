@@ -6,4 +6,3 @@ pub mod KeyTypes
 pub mod PrfKinds
 pub mod Sets
 pub mod Templates
-pub mod TestKeys

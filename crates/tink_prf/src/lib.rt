@@ -5,18 +5,10 @@ mod aes_cmac_prf_key_manager;
 mod hkdf_prf_key_manager;
 mod hmac_prf_key_manager;
 mod key_templates;
-#[cfg(test)]
-mod key_tests;
 mod prf_kind;
 mod registering;
 mod set_factory;
-#[cfg(test)]
-mod set_tests;
 pub mod subtle;
-#[cfg(test)]
-mod test_manager;
-#[cfg(test)]
-mod tests;
 
 pub use aes_cmac_prf_key_manager::{
     AES_CMAC_PRF_KEY_VERSION, AES_CMAC_PRF_TYPE_URL, AesCmacPrfKeyManager, AesCmacPrfKeys,

@@ -1,13 +1,10 @@
 -- What the key manager of the tests builds: a key that begins with 0 is a verifier, and another one is of HMAC.
-use Rattle.std.specs.Prelude.{◌≡◌, ⊤, ℕ, List, [], ◌∷◌, Bool, true, false, nat_eq, if◌then◌else◌, Result, Ok, Err}
-use Rattle.std.proofs.Common.{subst}
-use Rattle.std.proofs.lemmas.Bool.{false≢true}
+use Rattle.std.specs.Prelude.{ℕ, List, [], ◌∷◌, Bool, false, nat_eq, if◌then◌else◌, Result, Ok, Err}
 use Rattle.tink_io.specs.declared.error.Kind.{Kind}
 use Rattle.tink_io.specs.declared.error.Kind.TheVariants.{InvalidFormat, NoPrivateKeys}
 use Rattle.tink_proto.specs.declared.messages.keys.KeyData.{KeyData}
 use Rattle.tink_primitives.specs.Meaning.{IsDrawn, IsTold}
 use Rattle.tink_primitives.specs.MeaningLaws.{told_if, drawn_none}
-use Rattle.tink_registry.specs.Known.{IsOfKnownMaterial}
 
 abbrev pub begins_with_0 : List ℕ → Bool
 begins_with_0 [] = false
@@ -30,13 +27,3 @@ built_told verifier prf key = told_if (begins_with_0 key) (Ok verifier) (Ok prf)
 
 pub none_drawn : {T : Type 0} (draws : List ℕ) → IsDrawn draws (none_made {T = T} draws)
 none_drawn draws = drawn_none draws (Err InvalidFormat) tt
-
-abbrev IsKnown : Result KeyData Kind → Type 0
-IsKnown (Ok d) = IsOfKnownMaterial d
-IsKnown (Err _) = ⊤
-
-pub none_known : (d : KeyData) (k : Kind) → Err k ≡ Ok d → IsOfKnownMaterial d
-none_known d k e = subst IsKnown e tt
-
-pub never : false ≡ true → ⊥
-never e = false≢true e

@@ -6,16 +6,13 @@ ghost use Rattle.hash_keys.specs.declared.Hash.TheVariants as hashes;
 ghost use Rattle.tink_io.specs.declared.error.Kind.TheVariants.{InvalidFormat, NoPrivateKeys};
 ghost use Rattle.tink_proto.specs.declared.enums.KeyMaterialType.TheVariants.{Symmetric};
 ghost use Rattle.tink_primitives.specs.declared.primitive.Primitive.TheVariants as sorts;
-ghost use Rattle.tink_prf.specs.TestKeys as test_keys;
+ghost use Rattle.tink_prf_tests.specs.TestKeys as test_keys;
+ghost use Rattle.tink_testutil.specs.TestKeys.{not_both, refused_known};
 
-use crate::subtle::HmacPrf;
-use crate::{
-    AES_CMAC_PRF_TYPE_URL, AesCmacPrfKeyManager, HKDF_PRF_TYPE_URL, HMAC_PRF_TYPE_URL,
-    HkdfPrfKeyManager, HmacPrfKeyManager,
-};
 use std::alloc::Global;
 use tink_core::registry::KeyManager;
 use tink_core::{CloneIn, Draws, Kind, Kinds, Never, Primitive, TinkError, Verifier};
+use tink_prf::subtle::HmacPrf;
 use tink_proto::{Bytes, HashType, KeyData, KeyMaterialType};
 
 /// Verifies everything.
@@ -65,30 +62,6 @@ impl Kinds for TestKinds {
 #[derive(Drop)]
 pub struct TestManager {
     pub url: &'static str,
-}
-
-impl From<HmacPrfKeyManager> for TestManager {
-    fn from(_manager: HmacPrfKeyManager) -> TestManager {
-        TestManager {
-            url: HMAC_PRF_TYPE_URL,
-        }
-    }
-}
-
-impl From<HkdfPrfKeyManager> for TestManager {
-    fn from(_manager: HkdfPrfKeyManager) -> TestManager {
-        TestManager {
-            url: HKDF_PRF_TYPE_URL,
-        }
-    }
-}
-
-impl From<AesCmacPrfKeyManager> for TestManager {
-    fn from(_manager: AesCmacPrfKeyManager) -> TestManager {
-        TestManager {
-            url: AES_CMAC_PRF_TYPE_URL,
-        }
-    }
 }
 
 impl KeyManager for TestManager {
@@ -168,11 +141,11 @@ impl KeyManager for TestManager {
 
     ghost public_told = { λ _ _. tt };
 
-    ghost new_material = { λ _ _ _ d e. test_keys.none_known d InvalidFormat e };
+    ghost new_material = { λ _ _ _ d e. refused_known InvalidFormat d e };
 
-    ghost public_material = { λ _ _ d e. test_keys.none_known d NoPrivateKeys e };
+    ghost public_material = { λ _ _ d e. refused_known NoPrivateKeys d e };
 
     ghost no_private = { λ _ _ _. refl };
 
-    ghost private = { λ _ _ e _. test_keys.never e };
+    ghost private = { λ _ _ e _. not_both e };
 }

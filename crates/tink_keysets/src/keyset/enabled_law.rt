@@ -1,0 +1,10 @@
+//! That a key stays enabled. The function does nothing: its contract is the law.
+
+ghost use Rattle.keyset_model.specs.Spared.{KeepsEnabled};
+
+/// An enabled key stays among the enabled ones as it was after any commands of which none disables, destroys or deletes
+/// a key of its id.
+#[tactic(auto, using(keyset_model::proofs::EnabledLaw::keeps_enabled))]
+pub fn law_enabled_keys_stay()
+    ensures { KeepsEnabled }
+{}

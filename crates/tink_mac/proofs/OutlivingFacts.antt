@@ -1,0 +1,153 @@
+-- What the primary key made is accepted after commands that spare it.
+use Rattle.std.proofs.Common.{◌≡◌, ◌∙◌, ◌<◌, ◌++◌, ℕ, List, [], ◌∷◌, Bool, true, false, cond, Option, Some, None, Result, Ok, Err, length, refl, sym, ap, subst, arith}
+use Rattle.std.specs.Prelude.{find, nat_eq}
+use Rattle.std.specs.List.{All, Contains}
+use Rattle.std.proofs.lemmas.Bool.Decides.{Decides-eqb}
+use Rattle.std.proofs.lemmas.List.{length-append}
+use Rattle.std.proofs.lemmas.List.Elements.{All-cons, All-contains, All-nil, All-weaker, Contains-append_left, Contains-append_right, Contains-push}
+use Rattle.tink_io.specs.declared.error.Kind.{Kind}
+use Rattle.tink_io.specs.declared.error.Kind.TheVariants.{InvalidKey, InvalidKeyset, NoPrimary}
+use Rattle.tink_proto.specs.declared.messages.keys.Key.{Key}
+use Rattle.tink_proto.specs.declared.messages.keys.KeyData.{KeyData}
+use Rattle.tink_proto.specs.declared.messages.keys.Keyset.{Keyset}
+use Rattle.tink_primitives.specs.Sorts.{as_mac}
+use Rattle.tink_primitives.specs.declared.primitive.Primitive.{Primitive}
+use Rattle.tink_primitives.specs.declared.primitive.Primitive.TheVariants.{Mac}
+use Rattle.tink_registry.specs.Listed.{builds_by, manager_of}
+use Rattle.tink_sets.specs.Converting.{before, converted}
+use Rattle.tink_sets.specs.Entries.{entry_of, entry_of_id, typed_by, with_primitive}
+use Rattle.tink_sets.specs.declared.entry.Entry.{Entry}
+use Rattle.tink_sets.specs.declared.entry.TypedEntry.{TypedEntry}
+use Rattle.tink_keysets.specs.Managed as managed
+use Rattle.tink_keysets.specs.Built as built
+use Rattle.keyset_model.specs.Commands.{after_all}
+use Rattle.keyset_model.specs.Keys.{enabled}
+use Rattle.keyset_model.specs.Spared.{Spares}
+use Rattle.keyset_model.proofs.EnabledLaw.{keeps_enabled}
+use Rattle.tink_mac.specs.Wrapped.{covered, entry_mac, primary_mac}
+use Rattle.tink_mac.specs.Rotation.{as_mac_entry, mac_entries, mac_entry, IsMacBy, IsSound, MacsOutlive}
+use Rattle.tink_mac.proofs.RotationFacts.{by_list, cond_ok, given-converted, made_ok, old_macs_verify}
+
+-- ---- what is found is in the list
+
+module _ {X : Type 0} (p : X → Bool) where
+  in_first : (x : X) (rest : List X) → Contains (x ∷ rest) x
+  in_first x rest = Contains-append_left (x ∷ []) rest x (Contains-push [] x)
+
+  found_by : (b : Bool) (x : X) (rest : List X) (y : X) → p x ≡ b → (find p rest ≡ Some y → Contains rest y × (p y ≡ true)) → cond b (Some x) (find p rest) ≡ Some y → Contains (x ∷ rest) y × (p y ≡ true)
+  found_by true x rest y is later e = let same : x ≡ y = cc in subst (λ z. Contains (x ∷ rest) z × (p z ≡ true)) same (in_first x rest, is)
+  found_by false x rest y is later e = let w = later e in (Contains-append_right (x ∷ []) rest y w.0, w.1)
+
+  found : (xs : List X) (y : X) → find p xs ≡ Some y → Contains xs y × (p y ≡ true)
+  found [] y e = absurd (cc)
+  found (x ∷ xs) y e = found_by (p x) x xs y refl (found xs y) e
+
+-- ---- what is given of a list, is given of one of it
+
+module _ {S T : Type 0} (f : S → Result T Kind) where
+  abbrev IsGivenOf : List S → T → Type 0
+  IsGivenOf xs y = (x : S) × Contains xs x × (f x ≡ Ok y)
+
+  of_more : (x : S) (xs : List S) (y : T) → IsGivenOf xs y → IsGivenOf (x ∷ xs) y
+  of_more x xs y given = (given.0, Contains-append_right (x ∷ []) xs given.0 given.1, given.2)
+
+  of_first : (x : S) (xs : List S) (y : T) → f x ≡ Ok y → IsGivenOf (x ∷ xs) y
+  of_first x xs y is = (x, Contains-append_left (x ∷ []) xs x (Contains-push [] x), is)
+
+  each_given : (x : S) (r : Result T Kind) (xs : List S) (rest : Result (List T) Kind) (ys : List T) → f x ≡ r → ((vs : List T) → rest ≡ Ok vs → All (IsGivenOf xs) vs) → before r rest ≡ Ok ys → All (IsGivenOf (x ∷ xs)) ys
+  each_given x (Err k) xs rest ys is more e = absurd (cc)
+  each_given x (Ok v) xs (Err k) ys is more e = absurd (cc)
+  each_given x (Ok v) xs (Ok vs) ys is more e =
+      let same : v ∷ vs ≡ ys = cc in
+      subst (All (IsGivenOf (x ∷ xs))) same
+      (All-cons (IsGivenOf (x ∷ xs)) v vs (of_first x xs v is) (All-weaker (IsGivenOf xs) (IsGivenOf (x ∷ xs)) (of_more x xs) vs (more vs refl)))
+
+  all_given : (xs : List S) (ys : List T) → converted f xs ≡ Ok ys → All (IsGivenOf xs) ys
+  all_given [] ys e = let same : [] ≡ ys = cc in subst (All (IsGivenOf [])) same (All-nil (IsGivenOf []))
+  all_given (x ∷ xs) ys e = each_given x (f x) xs (converted f xs) ys refl (all_given xs) e
+
+  giver : (xs : List S) (ys : List T) (y : T) → converted f xs ≡ Ok ys → Contains ys y → IsGivenOf xs y
+  giver xs ys y all there = All-contains (IsGivenOf xs) ys y (all_given xs ys all) there
+
+-- ---- small steps
+
+refused_or : {T : Type 0} (b : Bool) (r : Result T Kind) (k : Kind) (v : T) → cond b (Err k) r ≡ Ok v → r ≡ Ok v
+refused_or true r k v e = absurd (cc)
+refused_or false r k v e = e
+
+longer : (front tag mac : List ℕ) → front ++ tag ≡ mac → 5 < length tag → 5 < length mac
+longer front tag mac is long = subst (λ l. 5 < length l) is (rw (length-append front tag) (omega arith))
+
+module _ {K A D HD HE P F S St V : Type 0} where
+  is_mac : (q : Primitive K A D HD HE P F S St V) (p : P) → as_mac q ≡ Ok p → q ≡ Mac p
+  is_mac (Mac x) p e = let same : x ≡ p = cc in ap Mac same
+  is_mac _ p e = absurd (cc)
+
+of_primary : {P : Type 0} (computes : P → List ℕ → Result (List ℕ) Kind) (o : Option (TypedEntry P)) (message mac : List ℕ) → primary_mac computes o message ≡ Ok mac
+    → (e : TypedEntry P) × (o ≡ Some e) × (entry_mac computes e message ≡ Ok mac)
+of_primary computes None message mac made = absurd (cc)
+of_primary computes (Some e) message mac made = (e, refl, made)
+
+-- ---- the key of an entry
+
+module _ {M K A D HD HE P F S St V : Type 0} (url : M → List ℕ) (supports : M → List ℕ → Bool) (builds : M → List ℕ → Result (Primitive K A D HD HE P F S St V) Kind) where
+  -- an enabled key of a keyset builds the entry
+  record IsKeyOf (managers : List M) (ks : Keyset) (e : TypedEntry P) (k : Key) : Type 0 where
+    pub there : Contains (enabled ks) k
+    pub entry : mac_entry url supports builds managers k ≡ Ok e
+    pub id : k.key_id ≡ e.key_id
+    pub manager : M
+    pub value : List ℕ
+    pub built_as : builds manager value ≡ Ok (Mac e.primitive)
+
+  by_manager : (value : List ℕ) (o : Option M) (q : Primitive K A D HD HE P F S St V) → builds_by builds value o ≡ Ok q → (m : M) × (v : List ℕ) × (builds m v ≡ Ok q)
+  by_manager value None q e = absurd (cc)
+  by_manager value (Some m) q e = (m, value, e)
+
+  by_data : (managers : List M) (d : Option KeyData) (q : Primitive K A D HD HE P F S St V) → built.built_data url supports builds managers None d ≡ Ok q → (m : M) × (v : List ℕ) × (builds m v ≡ Ok q)
+  by_data managers None q e = absurd (cc)
+  by_data managers (Some d) q e = by_manager d.value (manager_of url d.type_url managers) q (refused_or (nat_eq (length d.value) 0) (builds_by builds d.value (manager_of url d.type_url managers)) InvalidKey q e)
+
+  key_of : (managers : List M) (ks : Keyset) (es : List (TypedEntry P)) (e : TypedEntry P) → mac_entries url supports builds managers ks ≡ Ok es → Contains es e → (k : Key) × IsKeyOf managers ks e k
+  key_of managers ks es e all there =
+      let give = built.built_entry url supports builds entry_of managers None in
+      let list = by_list url supports builds ks.primary_key_id (built.built_entries url supports builds entry_of managers None ks) es all in
+      let given = cond_ok _ (managed.given_each give (enabled ks)) InvalidKeyset list.0 list.1 in
+      let b = giver (typed_by as_mac) list.0 es e list.2 there in
+      let k = giver give (enabled ks) list.0 b.0 (sym (given-converted give (enabled ks)) ∙ given) b.1 in
+      let q = made_ok (λ p. entry_of p k.0) (built.built_data url supports builds managers None k.0.key_data) b.0 k.2 in
+      let p = made_ok (with_primitive b.0) (as_mac b.0.primitive) e b.2 in
+      let by = by_data managers k.0.key_data q.0 q.1 in
+      let mac : b.0.primitive ≡ Mac p.0 = is_mac b.0.primitive p.0 p.1 in (
+        k.0,
+        record {
+          there = k.1;
+          entry = ap (as_mac_entry url supports builds) k.2 ∙ b.2;
+          id = ap (λ (x : Entry K A D HD HE P F S St V). x.key_id) q.2 ∙ ap (λ (x : TypedEntry P). x.key_id) p.2;
+          manager = by.0;
+          value = by.1;
+          built_as = by.2 ∙ ap Ok (ap (λ (x : Entry K A D HD HE P F S St V). x.primitive) q.2 ∙ mac ∙ ap (λ (x : TypedEntry P). Mac x.primitive) p.2);
+        },
+      )
+
+  sound_mac : (computes : P → List ℕ → Result (List ℕ) Kind) (verifies : P → List ℕ → List ℕ → Result (Unit {0}) Kind) (e : TypedEntry P) (message mac : List ℕ) → IsSound computes verifies e.primitive → entry_mac computes e message ≡ Ok mac → IsMacBy computes verifies e message mac
+  sound_mac computes verifies e message mac sound made =
+      let text = covered e.prefix_type message in
+      let tag = made_ok (λ t. e.prefix ++ t) (computes e.primitive text) mac made in
+      record {
+        made = made;
+        own = λ t is. sound.own text t is;
+        long = longer e.prefix tag.0 mac tag.2 (sound.long text tag.0 tag.1);
+      }
+
+  pub macs_outlive : (computes : P → List ℕ → Result (List ℕ) Kind) (verifies : P → List ℕ → List ℕ → Result (Unit {0}) Kind) → MacsOutlive url supports builds computes verifies
+  macs_outlive computes verifies sound managers makes m cs es later message mac spared first last made =
+      let id = m.keyset.primary_key_id in
+      let primary = of_primary computes (entry_of_id id es) message mac made in
+      let e = primary.0 in
+      let there = found (λ (x : TypedEntry P). nat_eq x.key_id id) es e primary.1 in
+      let k = key_of managers m.keyset es e first there.0 in
+      let same : id ≡ k.0.key_id = sym (k.1.id ∙ (Decides-eqb e.key_id id).0 there.1) in
+      let stays = keeps_enabled makes m cs k.0 k.1.there (subst (λ n. All (Spares n) cs) same spared) in
+      old_macs_verify url supports builds computes verifies managers (after_all makes m cs).keyset k.0 e later message mac k.1.entry stays last
+      (sound_mac computes verifies e message mac (sound k.1.manager k.1.value e.primitive k.1.built_as) primary.2)
