@@ -1,0 +1,131 @@
+//! AES in counter mode, and then HMAC.
+
+use crate::common::{bytes_from, draws_of, is_bytes, kind_of};
+use std::alloc::Global;
+use std::test::Fail;
+use tink_aead::subtle::{AesCtr, EncryptThenAuthenticate};
+use tink_core::{Aead, CloneIn, Kind, Mac, TinkError};
+use tink_mac::subtle::Hmac;
+use tink_proto::HashType;
+
+fn hmac_of(alloc: Global, tag_size: usize) -> Result<Hmac, TinkError> {
+    Hmac::new(alloc, HashType::Sha256, &bytes_from(32), tag_size)
+}
+
+// The AEAD with tags of these bytes, over a MAC with tags of 16.
+fn aead_of(
+    alloc: Global,
+    tag_size: usize,
+) -> Result<EncryptThenAuthenticate<AesCtr, Hmac>, TinkError> {
+    let cipher = AesCtr::new(alloc, &bytes_from(0)[..16], 16)?;
+    EncryptThenAuthenticate::new(cipher, hmac_of(alloc, 16)?, tag_size)
+}
+
+// By pyca/cryptography 48 and Python's `hmac`.
+const SEALED: &[u8; 35] =
+    b"\xc8\xc9\xca\xcb\xcc\xcd\xce\xcf\xd0\xd1\xd2\xd3\xd4\xd5\xd6\xd7\x6d\xf5\x7e\xc0\xc4\xfe\xaa\x99\x39\xd1\x5d\xe4\xcb\xeb\x37\xe4\xe1\x8f\x2e";
+
+#[test]
+fn encrypts_and_authenticates(rt: HostRuntime) -> Result<(), Fail> {
+    let alloc = rt.alloc();
+    let aead = aead_of(alloc, 16)?;
+    let mut draws = draws_of(alloc, &bytes_from(200)[..17])?;
+    let sealed = is_bytes(
+        aead.encrypt(alloc, b"abc", b"some data", &mut draws),
+        SEALED,
+    );
+    assert!(rt; sealed && draws.left() == 1);
+    Ok(())
+}
+
+#[test]
+fn a_copy_decrypts(rt: HostRuntime) -> Result<(), Fail> {
+    let alloc = rt.alloc();
+    let copy = aead_of(alloc, 16)?.try_clone(alloc)?;
+    assert!(rt; is_bytes(copy.decrypt(alloc, SEALED, b"some data"), b"abc"));
+    Ok(())
+}
+
+// Whether the MAC refuses this input with this data.
+fn mismatches<A: Aead>(alloc: Global, aead: &A, input: &[u8], data: &[u8]) -> bool {
+    kind_of(aead.decrypt(alloc, input, data)) == Some(Kind::MacMismatch)
+}
+
+#[test]
+fn changed_bits_are_refused_by_the_mac(rt: HostRuntime) -> Result<(), Fail> {
+    let alloc = rt.alloc();
+    let aead = aead_of(alloc, 16)?;
+    for i in 0..35usize {
+        let mut changed = *SEALED;
+        changed[i] ^= 1 << (i % 8);
+        assert!(rt;
+            mismatches(alloc, &aead, &changed, b"some data"),
+            "byte {i}"
+        );
+    }
+    Ok(())
+}
+
+#[test]
+fn other_data_and_less_text_are_refused_by_the_mac(rt: HostRuntime) -> Result<(), Fail> {
+    let alloc = rt.alloc();
+    let aead = aead_of(alloc, 16)?;
+    assert!(rt; mismatches(alloc, &aead, SEALED, b"some dat"));
+    for n in [34usize, 16] {
+        assert!(rt;
+            mismatches(alloc, &aead, &SEALED[..n], b"some data"),
+            "{n} bytes"
+        );
+    }
+    Ok(())
+}
+
+#[test]
+fn short_tags_and_inputs_are_refused(rt: HostRuntime) -> Result<(), Fail> {
+    let alloc = rt.alloc();
+    let tag = kind_of(aead_of(alloc, 9)) == Some(Kind::BadTagSize);
+    let input = aead_of(alloc, 16)?.decrypt(alloc, &SEALED[..15], &[]);
+    assert!(rt; tag && kind_of(input) == Some(Kind::TooShort));
+    Ok(())
+}
+
+// The refusal to encrypt `abc` by an AEAD with tags of these bytes, and the draws left of n.
+fn refused_abc(
+    alloc: Global,
+    tag_size: usize,
+    n: usize,
+) -> Result<(Option<Kind>, usize), TinkError> {
+    let mut draws = draws_of(alloc, &bytes_from(7)[..n.min(32)])?;
+    let told = kind_of(aead_of(alloc, tag_size)?.encrypt(alloc, b"abc", &[], &mut draws));
+    Ok((told, draws.left()))
+}
+
+#[test]
+fn the_vector_is_drawn_before_the_tag_is_refused(rt: HostRuntime) -> Result<(), Fail> {
+    let alloc = rt.alloc();
+    let longer = refused_abc(alloc, 20, 16)?;
+    let few = refused_abc(alloc, 16, 15)?;
+    assert!(rt; longer == (Some(Kind::BadTagSize), 0));
+    assert!(rt; few == (Some(Kind::RandomFault), 15));
+    Ok(())
+}
+
+// `sealed` and its tag, with the data `d` of eight bits.
+fn less_than_a_vector(alloc: Global) -> Result<Vec<u8>, TinkError> {
+    let mut message = b"dsealed".to_vec(alloc)?;
+    message.extend_from_slice(&[0, 0, 0, 0, 0, 0, 0, 8])?;
+    let tag = hmac_of(alloc, 16)?.compute_mac(alloc, &message)?;
+    let mut input = b"sealed".to_vec(alloc)?;
+    input.extend_from_slice(tag.as_slice())?;
+    Ok(input)
+}
+
+// A tag over less than a vector is accepted by the MAC, and then the cipher refuses.
+#[test]
+fn the_cipher_refuses_after_the_mac(rt: HostRuntime) -> Result<(), Fail> {
+    let alloc = rt.alloc();
+    let input = less_than_a_vector(alloc)?;
+    let told = kind_of(aead_of(alloc, 16)?.decrypt(alloc, &input, b"d"));
+    assert!(rt; told == Some(Kind::TooShort));
+    Ok(())
+}
