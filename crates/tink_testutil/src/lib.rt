@@ -1,0 +1,15 @@
+//! What the tests of several crates share: managers of test keys, a primitive, keys and keysets.
+#![tactic(auto)]
+
+pub use keys::{
+    URL, bare, bytes_of, data_of, draws_of, enabled_key, handle_of, key, keyset, kind_of,
+    registry_of, template,
+};
+pub use named::Named;
+pub use test_aead::{TestAead, TestKinds};
+pub use test_manager::TestManager;
+
+mod keys;
+mod named;
+mod test_aead;
+mod test_manager;
