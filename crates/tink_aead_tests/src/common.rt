@@ -1,9 +1,8 @@
 //! What the tests share.
 
-use std::alloc::Global;
 use std::fmt::Debug;
 use std::process::Abort;
-use tink_core::{Draws, Kind, TinkError};
+use tink_core::{Kind, TinkError};
 use tink_proto::Bytes;
 
 /// The one place that compares: a test function with many `assert_eq!` takes long to prove.
@@ -12,14 +11,6 @@ where
     T: PartialEq + Debug + Drop,
 {
     assert_eq!(rt; got, want, "{label}");
-}
-
-/// The kind of a refusal.
-pub fn kind_of<T: Drop>(answer: Result<T, TinkError>) -> Option<Kind> {
-    match answer {
-        Ok(_) => None,
-        Err(e) => Some(e.kind),
-    }
 }
 
 /// How many bytes there are, or the kind of a refusal.
@@ -36,10 +27,6 @@ pub fn is_bytes(answer: Result<Bytes, TinkError>, want: &[u8]) -> bool {
         Ok(bytes) => bytes.as_slice() == want,
         Err(_) => false,
     }
-}
-
-pub fn draws_of(alloc: Global, bytes: &[u8]) -> Result<Draws, TinkError> {
-    Ok(Draws::new(bytes.to_vec(alloc)?))
 }
 
 /// The 32 bytes from this one on.

@@ -1,12 +1,13 @@
 //! AES in counter mode, and then HMAC.
 
-use crate::common::{bytes_from, draws_of, is_bytes, kind_of};
+use crate::common::{bytes_from, is_bytes};
 use std::alloc::Global;
 use std::test::Fail;
 use tink_aead::subtle::{AesCtr, EncryptThenAuthenticate};
 use tink_core::{Aead, CloneIn, Kind, Mac, TinkError};
 use tink_mac::subtle::Hmac;
 use tink_proto::HashType;
+use tink_testutil::{draws_of, kind_of};
 
 fn hmac_of(alloc: Global, tag_size: usize) -> Result<Hmac, TinkError> {
     Hmac::new(alloc, HashType::Sha256, &bytes_from(32), tag_size)

@@ -4,7 +4,7 @@ ghost use Rattle.std.specs.Prelude.{[]};
 ghost use Rattle.tink_io.specs.Told.{Answers};
 ghost use Rattle.tink_aead.specs.Envelope.{data_key_aead, envelope_decrypts};
 
-use crate::common::{draws_of, is_bytes, kind_of};
+use crate::common::is_bytes;
 use std::alloc::Global;
 use std::test::Fail;
 use tink_aead::subtle::{AesCtr, AesGcm, EncryptThenAuthenticate};
@@ -13,7 +13,8 @@ use tink_core::registry::{KeyManager, Registry};
 use tink_core::{Aead, Draws, Kind, TinkError};
 use tink_mac::subtle::Hmac;
 use tink_mac::{HmacKeyManager, hmac_sha256_tag128_key_template};
-use tink_proto::{Bytes, HashType, KeyTemplate, Text};
+use tink_proto::{Bytes, HashType};
+use tink_testutil::{draws_of, kind_of, registry_of, template};
 
 /// The text of an envelope without associated data.
 fn opened_by<A: Aead, M: KeyManager>(
@@ -32,9 +33,7 @@ fn remote_of(alloc: Global, byte: u8) -> Result<AesGcm, TinkError> {
 }
 
 fn gcm_registry(alloc: Global) -> Result<Registry<AesGcmKeyManager>, TinkError> {
-    let mut registry = Registry::new(alloc);
-    registry.register_key_manager(alloc, AesGcmKeyManager::new())?;
-    Ok(registry)
+    registry_of(alloc, AesGcmKeyManager::new())
 }
 
 // Envelopes of new AES-GCM keys, under a remote key of bytes of this value.
@@ -195,11 +194,7 @@ fn keys_of_another_type_are_refused(rt: HostRuntime) -> Result<(), Fail> {
 fn a_format_that_makes_no_key_is_refused(rt: HostRuntime) -> Result<(), Fail> {
     let alloc = rt.alloc();
     let registry = gcm_registry(alloc)?;
-    let kt = KeyTemplate {
-        type_url: Text::from_str(alloc, AES_GCM_TYPE_URL)?,
-        value: Bytes::from_vec(b"\x10\x11".to_vec(alloc)?),
-        output_prefix_type: 1,
-    };
+    let kt = template(alloc, AES_GCM_TYPE_URL, b"\x10\x11", 1)?;
     let envelope = KmsEnvelopeAead::new(kt, remote_of(alloc, 9)?, &registry);
     assert!(rt; refused_abc(alloc, &envelope, 60)? == (Some(Kind::InvalidFormat), 60));
     Ok(())
@@ -221,8 +216,7 @@ fn data_keys_that_do_not_build_are_refused(rt: HostRuntime) -> Result<(), Fail> 
 #[test]
 fn a_data_key_of_another_sort_is_refused(rt: HostRuntime) -> Result<(), Fail> {
     let alloc = rt.alloc();
-    let mut registry = Registry::new(alloc);
-    registry.register_key_manager(alloc, HmacKeyManager::new())?;
+    let registry = registry_of(alloc, HmacKeyManager::new())?;
     let kt = hmac_sha256_tag128_key_template(alloc)?;
     let dek = registry.new_key(alloc, &kt, &mut counted(alloc, 32)?)?;
     let envelope = KmsEnvelopeAead::new(kt, remote_of(alloc, 9)?, &registry);

@@ -1,6 +1,5 @@
 //! Which keys the managers build, and which formats make keys.
 
-use crate::common::{draws_of, kind_of};
 use std::alloc::Global;
 use std::test::Fail;
 use tink_aead::{
@@ -15,6 +14,7 @@ use tink_proto_keys::{
     AesCtrHmacAeadKey, AesCtrHmacAeadKeyFormat, AesCtrKey, AesCtrKeyFormat, AesCtrParams,
     AesGcmKey, AesGcmSivKey, HmacKey, HmacKeyFormat, HmacParams,
 };
+use tink_testutil::{draws_of, kind_of};
 
 #[test]
 fn the_versions_are_0(rt: HostRuntime) -> Result<(), Fail> {

@@ -2,9 +2,9 @@
 
 ghost use Rattle.std.specs.Prelude.{[]};
 ghost use Rattle.tink_io.specs.Told.{Replies};
-ghost use Rattle.tink_aead.specs.Wrapped.{entries_in, primary_encrypts};
+ghost use Rattle.tink_aead.specs.Wrapped.{primary_encrypts};
 
-use crate::common::{draws_of, expect, is_bytes, kind_of};
+use crate::common::{expect, is_bytes};
 use std::alloc::Global;
 use std::test::Fail;
 use tink_aead::{
@@ -13,13 +13,13 @@ use tink_aead::{
     aes256_ctr_hmac_sha512_key_template, aes256_gcm_key_template,
     aes256_gcm_no_prefix_key_template, aes256_gcm_siv_no_prefix_key_template, new,
 };
-use tink_core::keyset::insecure::new_handle;
 use tink_core::keyset::{Handle, Manager};
 use tink_core::registry::{KeyManager, Registry};
-use tink_core::{Aead, Draws, Kind, TinkError};
+use tink_core::{Aead, Draws, Kind, Kinds, TinkError};
 use tink_proto::wire::Message;
-use tink_proto::{Bytes, Key, KeyData, KeyTemplate, Keyset, OutputPrefixType, Repeated, Text};
+use tink_proto::{Bytes, Key, KeyTemplate, OutputPrefixType};
 use tink_proto_keys::AesGcmKey;
+use tink_testutil::{draws_of, enabled_key, handle_of, kind_of, registry_of};
 
 /// Encrypts a text without associated data by the primary key.
 fn sealed_by<P: Aead>(
@@ -28,22 +28,15 @@ fn sealed_by<P: Aead>(
     text: &[u8],
     draws: &mut Draws,
 ) -> Result<Bytes, TinkError>
-    ensures { Replies result (primary_encrypts P.encrypts (entries_in aead.now).primary text.now [] draws.old) draws.old draws.new }
+    ensures { Replies result (primary_encrypts P.encrypts aead.now.ps.primary text.now [] draws.old) draws.old draws.new }
 {
     aead.encrypt(alloc, text, &[], draws)
 }
 
 // ---- texts by new keys
 
-// A registry of this manager alone.
-fn registry_of<M: KeyManager + Drop>(alloc: Global, km: M) -> Result<Registry<M>, TinkError> {
-    let mut registry = Registry::new(alloc);
-    registry.register_key_manager(alloc, km)?;
-    Ok(registry)
-}
-
 // A handle of one new key of a template.
-fn handle_of<M: KeyManager>(
+fn new_handle<M: KeyManager>(
     alloc: Global,
     registry: &Registry<M>,
     kt: &KeyTemplate,
@@ -65,33 +58,38 @@ fn size_of_abc<P: Aead>(alloc: Global, aead: &WrappedAead<P>) -> Result<usize, T
     }
 }
 
-fn gcm_size(alloc: Global, kt: KeyTemplate) -> Result<usize, TinkError> {
-    let registry = registry_of(alloc, AesGcmKeyManager::new())?;
-    let h = handle_of(alloc, &registry, &kt)?;
-    let aead: WrappedAead<AeadKind> = new(alloc, &h, &registry)?;
-    size_of_abc(alloc, &aead)
-}
-
-fn gcm_siv_size(alloc: Global, kt: KeyTemplate) -> Result<usize, TinkError> {
-    let registry = registry_of(alloc, AesGcmSivKeyManager::new())?;
-    let h = handle_of(alloc, &registry, &kt)?;
-    let aead: WrappedAead<AeadKind> = new(alloc, &h, &registry)?;
-    size_of_abc(alloc, &aead)
-}
-
-fn composed_size(alloc: Global, kt: KeyTemplate) -> Result<usize, TinkError> {
-    let registry = registry_of(alloc, AesCtrHmacAeadKeyManager::new())?;
-    let h = handle_of(alloc, &registry, &kt)?;
-    let aead: WrappedAead<AeadKind> = new(alloc, &h, &registry)?;
-    size_of_abc(alloc, &aead)
+// The bytes that a new key of a template makes of `abc`.
+fn size_by<M: KeyManager + Drop, P: Aead>(
+    alloc: Global,
+    manager: M,
+    kt: KeyTemplate,
+) -> Result<usize, TinkError>
+where
+    M::Family: Kinds<Aead = P>,
+{
+    let registry = registry_of(alloc, manager)?;
+    let h = new_handle(alloc, &registry, &kt)?;
+    size_of_abc(alloc, &new(alloc, &h, &registry)?)
 }
 
 #[test]
 fn texts_by_new_keys_of_gcm(rt: HostRuntime) -> Result<(), Fail> {
     let alloc = rt.alloc();
-    let prefixed = gcm_size(alloc, aes256_gcm_key_template(alloc)?)?;
-    let raw = gcm_size(alloc, aes256_gcm_no_prefix_key_template(alloc)?)?;
-    let siv = gcm_siv_size(alloc, aes256_gcm_siv_no_prefix_key_template(alloc)?)?;
+    let prefixed = size_by(
+        alloc,
+        AesGcmKeyManager::new(),
+        aes256_gcm_key_template(alloc)?,
+    )?;
+    let raw = size_by(
+        alloc,
+        AesGcmKeyManager::new(),
+        aes256_gcm_no_prefix_key_template(alloc)?,
+    )?;
+    let siv = size_by(
+        alloc,
+        AesGcmSivKeyManager::new(),
+        aes256_gcm_siv_no_prefix_key_template(alloc)?,
+    )?;
     expect(&rt, prefixed, 36, "GCM with a prefix");
     expect(&rt, raw, 31, "GCM");
     expect(&rt, siv, 31, "GCM-SIV");
@@ -101,8 +99,16 @@ fn texts_by_new_keys_of_gcm(rt: HostRuntime) -> Result<(), Fail> {
 #[test]
 fn texts_by_new_keys_of_two_parts(rt: HostRuntime) -> Result<(), Fail> {
     let alloc = rt.alloc();
-    let small = composed_size(alloc, aes128_ctr_hmac_sha256_key_template(alloc)?)?;
-    let large = composed_size(alloc, aes256_ctr_hmac_sha512_key_template(alloc)?)?;
+    let small = size_by(
+        alloc,
+        AesCtrHmacAeadKeyManager::new(),
+        aes128_ctr_hmac_sha256_key_template(alloc)?,
+    )?;
+    let large = size_by(
+        alloc,
+        AesCtrHmacAeadKeyManager::new(),
+        aes256_ctr_hmac_sha512_key_template(alloc)?,
+    )?;
     expect(&rt, small, 40, "SHA-256");
     expect(&rt, large, 88, "SHA-512");
     Ok(())
@@ -116,25 +122,20 @@ fn gcm_key(alloc: Global, prefix: OutputPrefixType, id: u8) -> Result<Key, Fail>
         version: 0,
         key_value: Bytes::from_vec(vec![in alloc; id; 16]?),
     };
-    Ok(Key {
-        key_data: Some(KeyData {
-            type_url: Text::from_str(alloc, AES_GCM_TYPE_URL)?,
-            value: key.encode(alloc)?,
-            key_material_type: 1,
-        }),
-        status: 1,
-        key_id: u32::from(id),
-        output_prefix_type: prefix as i32,
-    })
+    let value = key.encode(alloc)?;
+    Ok(enabled_key(
+        alloc,
+        AES_GCM_TYPE_URL,
+        value.as_slice(),
+        prefix,
+        u32::from(id),
+    )?)
 }
 
 // The AEADs of two keys, of which the first is primary.
 fn aeads_of(alloc: Global, a: Key, b: Key) -> Result<WrappedAead<AeadKind>, Fail> {
     let primary_key_id = a.key_id;
-    let h = new_handle(Keyset {
-        primary_key_id,
-        key: Repeated::from_vec(vec![in alloc; a, b]?),
-    })?;
+    let h = handle_of(primary_key_id, vec![in alloc; a, b]?)?;
     let registry = registry_of(alloc, AesGcmKeyManager::new())?;
     Ok(new(alloc, &h, &registry)?)
 }
@@ -220,7 +221,7 @@ fn rotated_from<M: KeyManager>(
 fn old_ciphertexts_are_decrypted_after_a_rotation(rt: HostRuntime) -> Result<(), Fail> {
     let alloc = rt.alloc();
     let registry = registry_of(alloc, AesGcmKeyManager::new())?;
-    let h = handle_of(alloc, &registry, &aes128_gcm_key_template(alloc)?)?;
+    let h = new_handle(alloc, &registry, &aes128_gcm_key_template(alloc)?)?;
     let old = abc_by(alloc, &new(alloc, &h, &registry)?)?;
     let rotated = new(alloc, &rotated_from(alloc, &registry, h)?, &registry)?;
     let newer = abc_by(alloc, &rotated)?;

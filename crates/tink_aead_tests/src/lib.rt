@@ -12,8 +12,6 @@ mod key_manager_tests;
 #[cfg(test)]
 mod keyset_tests;
 #[cfg(test)]
-mod named;
-#[cfg(test)]
 mod registering_tests;
 #[cfg(test)]
 mod subtle_tests;

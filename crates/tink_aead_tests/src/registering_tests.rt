@@ -1,21 +1,23 @@
 //! The registration of managers and templates.
 
-use crate::common::{expect, kind_of};
-use crate::named::Named;
+use crate::common::expect;
 use std::alloc::Global;
 use std::test::Fail;
-use tink_aead::{AES_CTR_HMAC_AEAD_TYPE_URL, AES_GCM_SIV_TYPE_URL, AES_GCM_TYPE_URL, init};
+use tink_aead::{
+    AES_CTR_HMAC_AEAD_TYPE_URL, AES_GCM_SIV_TYPE_URL, AES_GCM_TYPE_URL, AeadKinds, init,
+};
 use tink_core::registry::{KeyManager, Registry};
 use tink_core::{Kind, TinkError};
+use tink_testutil::{Named, kind_of};
 
-fn registered(alloc: Global) -> Result<Registry<Named>, TinkError> {
+fn registered(alloc: Global) -> Result<Registry<Named<AeadKinds>>, TinkError> {
     let mut registry = Registry::new(alloc);
     init(alloc, &mut registry)?;
     Ok(registry)
 }
 
 // Whether keys of this URL are those of the manager that is found.
-fn has_manager(registry: &Registry<Named>, url: &str) -> bool {
+fn has_manager(registry: &Registry<Named<AeadKinds>>, url: &str) -> bool {
     match registry.get_key_manager(url) {
         Ok(km) => km.type_url() == url,
         Err(_) => false,
@@ -63,9 +65,9 @@ fn nothing_is_registered_twice(rt: HostRuntime) -> Result<(), Fail> {
 #[test]
 fn where_one_is_there_nothing_is_registered(rt: HostRuntime) -> Result<(), Fail> {
     let alloc = rt.alloc();
-    let mut taken: Registry<Named> = Registry::new(alloc);
+    let mut taken: Registry<Named<AeadKinds>> = Registry::new(alloc);
     let url = AES_GCM_SIV_TYPE_URL;
-    taken.register_key_manager(alloc, Named { url })?;
+    taken.register_key_manager(alloc, Named::new(url))?;
     let refused = kind_of(init(alloc, &mut taken));
     assert!(rt; refused == Some(Kind::AlreadyRegistered));
     expect(&rt, taken.template_names(alloc)?.len(), 0, "names");

@@ -1,6 +1,6 @@
 //! Outside vectors, refusals and copies of the AEADs by AES under one key.
 
-use crate::common::{draws_of, expect, kind_of, size_of};
+use crate::common::size_of;
 use std::alloc::Global;
 use std::test::Fail;
 use tink_aead::subtle::{
@@ -9,6 +9,7 @@ use tink_aead::subtle::{
     validate_aes_key_size,
 };
 use tink_core::{Aead, CloneIn, Kind, TinkError};
+use tink_testutil::{draws_of, kind_of};
 
 // Whether the text is encrypted to the nonce, which is drawn, and these bytes, and decrypted again, also by a copy.
 fn encrypts_to<A: Aead + CloneIn>(
