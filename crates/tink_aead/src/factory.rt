@@ -56,10 +56,8 @@ impl<P: Aead + CloneIn> WrappedAead<P> {
         ensures decrypts { IfOk result (λ copy. HasSameAnswers P.decrypts (group_of self.now.ps.entries) (group_of copy.ps.entries)) }
         ensures cause { IfErr result (λ e. e.kind ≡ OutOfMemory) }
     {
-        match self.ps.try_clone(alloc) {
-            Ok(ps) => Ok(WrappedAead { ps }),
-            Err(e) => Err(e),
-        }
+        let ps = self.ps.try_clone(alloc)?;
+        Ok(WrappedAead { ps })
     }
 }
 

@@ -1,6 +1,5 @@
 //! The registration of managers and templates.
 
-use crate::common::expect;
 use std::alloc::Global;
 use std::test::Fail;
 use tink_aead::{
@@ -41,7 +40,7 @@ fn the_three_managers_are_registered(rt: HostRuntime) -> Result<(), Fail> {
 fn eight_templates_are_registered(rt: HostRuntime) -> Result<(), Fail> {
     let alloc = rt.alloc();
     let registry = registered(alloc)?;
-    expect(&rt, registry.template_names(alloc)?.len(), 8, "names");
+    assert!(rt; registry.template_names(alloc)?.len() == 8);
     for (name, want) in [
         ("AES256_GCM_SIV_NO_PREFIX", true),
         ("AES256_CTR_HMAC_SHA512", false),
@@ -58,7 +57,7 @@ fn nothing_is_registered_twice(rt: HostRuntime) -> Result<(), Fail> {
     let mut registry = registered(alloc)?;
     let again = kind_of(init(alloc, &mut registry));
     assert!(rt; again == Some(Kind::AlreadyRegistered));
-    expect(&rt, registry.template_names(alloc)?.len(), 8, "names");
+    assert!(rt; registry.template_names(alloc)?.len() == 8);
     Ok(())
 }
 
@@ -70,7 +69,7 @@ fn where_one_is_there_nothing_is_registered(rt: HostRuntime) -> Result<(), Fail>
     taken.register_key_manager(alloc, Named::new(url))?;
     let refused = kind_of(init(alloc, &mut taken));
     assert!(rt; refused == Some(Kind::AlreadyRegistered));
-    expect(&rt, taken.template_names(alloc)?.len(), 0, "names");
+    assert!(rt; taken.template_names(alloc)?.len() == 0);
     assert!(rt; !has_manager(&taken, AES_GCM_TYPE_URL));
     Ok(())
 }

@@ -1,14 +1,15 @@
 //! Outside vectors, refusals and copies of the AEADs by AES under one key.
 
-use crate::common::size_of;
 use std::alloc::Global;
 use std::test::Fail;
-use tink_aead::subtle::{
+use tink_aead_subtle::{
     AES_BLOCK_SIZE_IN_BYTES, AES_CTR_MIN_IV_SIZE, AES_GCM_IV_SIZE, AES_GCM_SIV_NONCE_SIZE,
     AES_GCM_SIV_TAG_SIZE, AES_GCM_TAG_SIZE, AesCtr, AesGcm, AesGcmSiv, IndCpaCipher,
     validate_aes_key_size,
 };
-use tink_core::{Aead, CloneIn, Kind, TinkError};
+use tink_io::{Kind, TinkError};
+use tink_primitives::{Aead, CloneIn};
+use tink_proto::Bytes;
 use tink_testutil::{draws_of, kind_of};
 
 // Whether the text is encrypted to the nonce, which is drawn, and these bytes, and decrypted again, also by a copy.
@@ -239,6 +240,14 @@ fn cipher_of(alloc: Global, iv_size: usize) -> Result<AesCtr, TinkError> {
     let mut cipher = AesCtr::new(alloc, &[0; 16], 16)?;
     cipher.iv_size = iv_size;
     Ok(cipher)
+}
+
+// How many bytes there are, or the kind of a refusal.
+fn size_of(answer: Result<Bytes, TinkError>) -> Result<usize, Kind> {
+    match answer {
+        Ok(bytes) => Ok(bytes.as_slice().len()),
+        Err(e) => Err(e.kind),
+    }
 }
 
 // What it makes of `abc`, and how many of fifteen draws are left.

@@ -1,13 +1,22 @@
 //! AES in counter mode, and then HMAC.
 
-use crate::common::{bytes_from, is_bytes};
 use std::alloc::Global;
 use std::test::Fail;
-use tink_aead::subtle::{AesCtr, EncryptThenAuthenticate};
-use tink_core::{Aead, CloneIn, Kind, Mac, TinkError};
+use tink_aead_subtle::{AesCtr, EncryptThenAuthenticate};
+use tink_io::{Kind, TinkError};
 use tink_mac::subtle::Hmac;
-use tink_proto::HashType;
+use tink_primitives::{Aead, CloneIn, Mac};
+use tink_proto::{Bytes, HashType};
 use tink_testutil::{draws_of, kind_of};
+
+// The 32 bytes from this one on.
+fn bytes_from(first: u8) -> [u8; 32] {
+    let mut bytes = [0; 32];
+    for i in 0..32usize {
+        bytes[i] = first.wrapping_add(i as u8);
+    }
+    bytes
+}
 
 fn hmac_of(alloc: Global, tag_size: usize) -> Result<Hmac, TinkError> {
     Hmac::new(alloc, HashType::Sha256, &bytes_from(32), tag_size)
@@ -31,19 +40,21 @@ fn encrypts_and_authenticates(rt: HostRuntime) -> Result<(), Fail> {
     let alloc = rt.alloc();
     let aead = aead_of(alloc, 16)?;
     let mut draws = draws_of(alloc, &bytes_from(200)[..17])?;
-    let sealed = is_bytes(
-        aead.encrypt(alloc, b"abc", b"some data", &mut draws),
-        SEALED,
-    );
-    assert!(rt; sealed && draws.left() == 1);
+    let sealed = aead.encrypt(alloc, b"abc", b"some data", &mut draws)?;
+    assert!(rt; sealed.as_slice() == SEALED.as_slice() && draws.left() == 1);
     Ok(())
+}
+
+// What a copy makes of it.
+fn opened_by_a_copy(alloc: Global) -> Result<Bytes, TinkError> {
+    let copy = aead_of(alloc, 16)?.try_clone(alloc)?;
+    copy.decrypt(alloc, SEALED, b"some data")
 }
 
 #[test]
 fn a_copy_decrypts(rt: HostRuntime) -> Result<(), Fail> {
-    let alloc = rt.alloc();
-    let copy = aead_of(alloc, 16)?.try_clone(alloc)?;
-    assert!(rt; is_bytes(copy.decrypt(alloc, SEALED, b"some data"), b"abc"));
+    let opened = opened_by_a_copy(rt.alloc())?;
+    assert!(rt; opened.as_slice() == b"abc".as_slice());
     Ok(())
 }
 
@@ -74,7 +85,7 @@ fn other_data_and_less_text_are_refused_by_the_mac(rt: HostRuntime) -> Result<()
     assert!(rt; mismatches(alloc, &aead, SEALED, b"some dat"));
     for n in [34usize, 16] {
         assert!(rt;
-            mismatches(alloc, &aead, &SEALED[..n], b"some data"),
+            mismatches(alloc, &aead, &SEALED[..n.min(35)], b"some data"),
             "{n} bytes"
         );
     }
