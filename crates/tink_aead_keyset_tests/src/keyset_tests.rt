@@ -198,11 +198,14 @@ fn a_prefix_alone_and_few_draws_are_refused(rt: HostRuntime) -> Result<(), Fail>
 
 // ---- a rotation
 
-// Whether both are texts of `abc`.
-fn both_open<P: Aead>(alloc: Global, aead: &WrappedAead<P>, old: &Bytes, newer: &Bytes) -> bool {
-    let first = aead.decrypt(alloc, old.as_slice(), &[]);
-    let second = aead.decrypt(alloc, newer.as_slice(), &[]);
-    is_bytes(first, b"abc") && is_bytes(second, b"abc")
+fn rotate<M: KeyManager>(
+    alloc: Global,
+    manager: &mut Manager,
+    registry: &Registry<M>,
+) -> Result<(), TinkError> {
+    let kt = aes128_gcm_key_template(alloc)?;
+    let _id = manager.rotate(alloc, &kt, registry, &mut draws_of(alloc, &[4; 20])?)?;
+    Ok(())
 }
 
 // The keys after a rotation.
@@ -211,21 +214,44 @@ fn rotated_from<M: KeyManager>(
     registry: &Registry<M>,
     h: Handle,
 ) -> Result<Handle, TinkError> {
-    let kt = aes128_gcm_key_template(alloc)?;
     let mut manager = Manager::new_from_handle(h);
-    let _id = manager.rotate(alloc, &kt, registry, &mut draws_of(alloc, &[4; 20])?)?;
+    rotate(alloc, &mut manager, registry)?;
     manager.handle(alloc)
+}
+
+type Gcm = Registry<AesGcmKeyManager>;
+
+// What the keys make of `abc`.
+fn abc_of(alloc: Global, registry: &Gcm, h: &Handle) -> Result<Bytes, TinkError> {
+    abc_by(alloc, &new(alloc, h, registry)?)
+}
+
+// The keys after a rotation of one new key, and what they made of `abc` before and after it.
+fn before_and_after(alloc: Global, registry: &Gcm) -> Result<(Handle, Bytes, Bytes), TinkError> {
+    let h = new_handle(alloc, registry, &aes128_gcm_key_template(alloc)?)?;
+    let old = abc_of(alloc, registry, &h)?;
+    let rotated = rotated_from(alloc, registry, h)?;
+    let newer = abc_of(alloc, registry, &rotated)?;
+    Ok((rotated, old, newer))
+}
+
+// Whether the keys decrypt it to `abc`, and a copy of them too.
+fn opens(alloc: Global, registry: &Gcm, h: &Handle, sealed: &Bytes) -> Result<bool, TinkError> {
+    let aead = new(alloc, h, registry)?;
+    let copied = aead
+        .try_clone(alloc)?
+        .decrypt(alloc, sealed.as_slice(), &[]);
+    let opened = aead.decrypt(alloc, sealed.as_slice(), &[]);
+    Ok(is_bytes(copied, b"abc") && is_bytes(opened, b"abc"))
 }
 
 #[test]
 fn old_ciphertexts_are_decrypted_after_a_rotation(rt: HostRuntime) -> Result<(), Fail> {
     let alloc = rt.alloc();
     let registry = registry_of(alloc, AesGcmKeyManager::new())?;
-    let h = new_handle(alloc, &registry, &aes128_gcm_key_template(alloc)?)?;
-    let old = abc_by(alloc, &new(alloc, &h, &registry)?)?;
-    let rotated = new(alloc, &rotated_from(alloc, &registry, h)?, &registry)?;
-    let newer = abc_by(alloc, &rotated)?;
+    let (rotated, old, newer) = before_and_after(alloc, &registry)?;
     assert!(rt; newer.as_slice() != old.as_slice());
-    assert!(rt; both_open(alloc, &rotated, &old, &newer));
+    assert!(rt; opens(alloc, &registry, &rotated, &old)?);
+    assert!(rt; opens(alloc, &registry, &rotated, &newer)?);
     Ok(())
 }

@@ -35,13 +35,17 @@ fn aead_of(
 const SEALED: &[u8; 35] =
     b"\xc8\xc9\xca\xcb\xcc\xcd\xce\xcf\xd0\xd1\xd2\xd3\xd4\xd5\xd6\xd7\x6d\xf5\x7e\xc0\xc4\xfe\xaa\x99\x39\xd1\x5d\xe4\xcb\xeb\x37\xe4\xe1\x8f\x2e";
 
+// What `abc` is encrypted to, and how many of seventeen draws are left.
+fn sealed_abc(alloc: Global) -> Result<(Bytes, usize), TinkError> {
+    let mut draws = draws_of(alloc, &bytes_from(200)[..17])?;
+    let sealed = aead_of(alloc, 16)?.encrypt(alloc, b"abc", b"some data", &mut draws)?;
+    Ok((sealed, draws.left()))
+}
+
 #[test]
 fn encrypts_and_authenticates(rt: HostRuntime) -> Result<(), Fail> {
-    let alloc = rt.alloc();
-    let aead = aead_of(alloc, 16)?;
-    let mut draws = draws_of(alloc, &bytes_from(200)[..17])?;
-    let sealed = aead.encrypt(alloc, b"abc", b"some data", &mut draws)?;
-    assert!(rt; sealed.as_slice() == SEALED.as_slice() && draws.left() == 1);
+    let (sealed, left) = sealed_abc(rt.alloc())?;
+    assert!(rt; sealed.as_slice() == SEALED.as_slice() && left == 1);
     Ok(())
 }
 
@@ -122,22 +126,28 @@ fn the_vector_is_drawn_before_the_tag_is_refused(rt: HostRuntime) -> Result<(), 
     Ok(())
 }
 
-// `sealed` and its tag, with the data `d` of eight bits.
+// The tag of `sealed` with the data `d` of eight bits.
+fn tag_of_sealed(alloc: Global) -> Result<Bytes, TinkError> {
+    hmac_of(alloc, 16)?.compute_mac(alloc, b"dsealed\x00\x00\x00\x00\x00\x00\x00\x08")
+}
+
+// `sealed`, which is less than a vector, and that tag.
 fn less_than_a_vector(alloc: Global) -> Result<Vec<u8>, TinkError> {
-    let mut message = b"dsealed".to_vec(alloc)?;
-    message.extend_from_slice(&[0, 0, 0, 0, 0, 0, 0, 8])?;
-    let tag = hmac_of(alloc, 16)?.compute_mac(alloc, &message)?;
     let mut input = b"sealed".to_vec(alloc)?;
-    input.extend_from_slice(tag.as_slice())?;
+    input.extend_from_slice(tag_of_sealed(alloc)?.as_slice())?;
     Ok(input)
+}
+
+// What it is told.
+fn opened_less(alloc: Global) -> Result<Option<Kind>, TinkError> {
+    let input = less_than_a_vector(alloc)?;
+    Ok(kind_of(aead_of(alloc, 16)?.decrypt(alloc, &input, b"d")))
 }
 
 // A tag over less than a vector is accepted by the MAC, and then the cipher refuses.
 #[test]
 fn the_cipher_refuses_after_the_mac(rt: HostRuntime) -> Result<(), Fail> {
     let alloc = rt.alloc();
-    let input = less_than_a_vector(alloc)?;
-    let told = kind_of(aead_of(alloc, 16)?.decrypt(alloc, &input, b"d"));
-    assert!(rt; told == Some(Kind::TooShort));
+    assert!(rt; opened_less(alloc)? == Some(Kind::TooShort));
     Ok(())
 }

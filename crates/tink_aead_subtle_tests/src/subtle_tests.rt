@@ -12,7 +12,38 @@ use tink_primitives::{Aead, CloneIn};
 use tink_proto::Bytes;
 use tink_testutil::{draws_of, kind_of};
 
-// Whether the text is encrypted to the nonce, which is drawn, and these bytes, and decrypted again, also by a copy.
+// Whether these bytes are those two, one after the other.
+fn is_joined(whole: &[u8], front: &[u8], rest: &[u8]) -> bool {
+    whole.len() == front.len() + rest.len() && whole.starts_with(front) && whole.ends_with(rest)
+}
+
+// What is made of a text by these draws, where all of them are taken.
+fn sealed_by<A: Aead>(
+    alloc: Global,
+    aead: &A,
+    nonce: &[u8],
+    data: &[u8],
+    text: &[u8],
+) -> Result<Bytes, TinkError> {
+    let mut draws = draws_of(alloc, nonce)?;
+    let sealed = aead.encrypt(alloc, text, data, &mut draws)?;
+    if draws.left() != 0 {
+        return Err(TinkError::new(Kind::RandomFault));
+    }
+    Ok(sealed)
+}
+
+// What a copy makes of a ciphertext.
+fn opened_by_a_copy<A: Aead + CloneIn>(
+    alloc: Global,
+    aead: &A,
+    sealed: &[u8],
+    data: &[u8],
+) -> Result<Bytes, TinkError> {
+    aead.try_clone(alloc)?.decrypt(alloc, sealed, data)
+}
+
+// Whether the text is encrypted to the nonce, which is drawn, and these bytes, and decrypted again by a copy.
 fn encrypts_to<A: Aead + CloneIn>(
     alloc: Global,
     aead: &A,
@@ -21,35 +52,42 @@ fn encrypts_to<A: Aead + CloneIn>(
     text: &[u8],
     want: &[u8],
 ) -> Result<bool, TinkError> {
-    let mut draws = draws_of(alloc, nonce)?;
-    let sealed = aead.encrypt(alloc, text, data, &mut draws)?;
-    let opened = aead
-        .try_clone(alloc)?
-        .decrypt(alloc, sealed.as_slice(), data)?;
-    let mut wanted = nonce.to_vec(alloc)?;
-    wanted.extend_from_slice(want)?;
-    Ok(sealed.as_slice() == wanted.as_slice() && opened.as_slice() == text && draws.left() == 0)
+    let sealed = sealed_by(alloc, aead, nonce, data, text)?;
+    let opened = opened_by_a_copy(alloc, aead, sealed.as_slice(), data)?;
+    Ok(is_joined(sealed.as_slice(), nonce, want) && opened.as_slice() == text)
 }
 
-// Whether a changed bit at each place, a byte less and other data are refused, and each short input.
+// Whether these bytes are refused with this data.
+fn is_refused<A: Aead>(alloc: Global, aead: &A, input: &[u8], data: &[u8]) -> bool {
+    kind_of(aead.decrypt(alloc, input, data)) == Some(Kind::DecryptFailed)
+}
+
+// Whether a ciphertext is refused with a bit changed at this place.
+fn refuses_a_bit<A: Aead>(
+    alloc: Global,
+    aead: &A,
+    sealed: &[u8],
+    i: usize,
+) -> Result<bool, TinkError> {
+    let mut changed = sealed.to_vec(alloc)?;
+    if let Some(byte) = changed.get_mut(i) {
+        *byte ^= 1 << (i % 8);
+    }
+    Ok(is_refused(alloc, aead, &changed, b"data"))
+}
+
+// Whether a changed bit at each place, a byte less and other data are refused.
 fn refuses_changes<A: Aead>(alloc: Global, aead: &A) -> Result<bool, TinkError> {
-    let mut draws = draws_of(alloc, b"twelve bytes")?;
-    let sealed = aead
-        .encrypt(alloc, b"text", b"data", &mut draws)?
-        .into_vec();
+    let sealed = sealed_by(alloc, aead, b"twelve bytes", b"data", b"text")?;
+    let sealed = sealed.as_slice();
     let mut same = true;
     for i in 0..sealed.len() {
-        let mut changed = sealed.to_vec(alloc)?;
-        changed[i] ^= 1 << (i % 8);
-        let told = aead.decrypt(alloc, &changed, b"data");
-        same = same && kind_of(told) == Some(Kind::DecryptFailed);
+        same = refuses_a_bit(alloc, aead, sealed, i)? && same;
     }
-    let short = aead.decrypt(alloc, &sealed[..sealed.len().saturating_sub(1)], b"data");
-    let other = aead.decrypt(alloc, &sealed, b"dat");
-    Ok(
-        same && kind_of(short) == Some(Kind::DecryptFailed)
-            && kind_of(other) == Some(Kind::DecryptFailed),
-    )
+    let short = &sealed[..sealed.len().saturating_sub(1)];
+    let less = is_refused(alloc, aead, short, b"data");
+    let other = is_refused(alloc, aead, sealed, b"dat");
+    Ok(same && less && other)
 }
 
 // Test cases 4 and 16 of the GCM specification share all but the key.
@@ -111,7 +149,27 @@ fn gcm_siv_of_the_specification(rt: HostRuntime) -> Result<(), Fail> {
     Ok(())
 }
 
-// Whether the text is encrypted to the vector, which is drawn, and these bytes, and decrypted again, also by a copy.
+// What the cipher makes of a text by these draws, where it takes all of them.
+fn in_counter_mode(
+    alloc: Global,
+    cipher: &AesCtr,
+    iv: &[u8],
+    text: &[u8],
+) -> Result<Bytes, TinkError> {
+    let mut draws = draws_of(alloc, iv)?;
+    let sealed = cipher.encrypt(alloc, text, &mut draws)?;
+    if draws.left() != 0 {
+        return Err(TinkError::new(Kind::RandomFault));
+    }
+    Ok(sealed)
+}
+
+// What a copy makes of a ciphertext.
+fn text_by_a_copy(alloc: Global, cipher: &AesCtr, sealed: &[u8]) -> Result<Bytes, TinkError> {
+    cipher.try_clone(alloc)?.decrypt(alloc, sealed)
+}
+
+// Whether the text is encrypted to the vector, which is drawn, and these bytes, and decrypted again by a copy.
 fn applies(
     alloc: Global,
     key: &[u8],
@@ -120,12 +178,9 @@ fn applies(
     want: &[u8],
 ) -> Result<bool, TinkError> {
     let cipher = AesCtr::new(alloc, key, iv.len())?;
-    let mut draws = draws_of(alloc, iv)?;
-    let sealed = cipher.encrypt(alloc, text, &mut draws)?;
-    let opened = cipher.try_clone(alloc)?.decrypt(alloc, sealed.as_slice())?;
-    let mut wanted = iv.to_vec(alloc)?;
-    wanted.extend_from_slice(want)?;
-    Ok(sealed.as_slice() == wanted.as_slice() && opened.as_slice() == text && draws.left() == 0)
+    let sealed = in_counter_mode(alloc, &cipher, iv, text)?;
+    let opened = text_by_a_copy(alloc, &cipher, sealed.as_slice())?;
+    Ok(is_joined(sealed.as_slice(), iv, want) && opened.as_slice() == text)
 }
 
 // SP 800-38A, F.5, shares all but the key.

@@ -51,25 +51,32 @@ fn eight_templates_are_registered(rt: HostRuntime) -> Result<(), Fail> {
     Ok(())
 }
 
+// What registering again answers, and the number of templates then.
+fn again(alloc: Global) -> Result<(Option<Kind>, usize), TinkError> {
+    let mut registry = registered(alloc)?;
+    let told = kind_of(init(alloc, &mut registry));
+    Ok((told, registry.template_names(alloc)?.len()))
+}
+
 #[test]
 fn nothing_is_registered_twice(rt: HostRuntime) -> Result<(), Fail> {
-    let alloc = rt.alloc();
-    let mut registry = registered(alloc)?;
-    let again = kind_of(init(alloc, &mut registry));
-    assert!(rt; again == Some(Kind::AlreadyRegistered));
-    assert!(rt; registry.template_names(alloc)?.len() == 8);
+    let told = again(rt.alloc())?;
+    assert!(rt; told == (Some(Kind::AlreadyRegistered), 8));
     Ok(())
+}
+
+// The same of a registry that has one manager, and whether it has another one then.
+fn where_one_is_there(alloc: Global) -> Result<(Option<Kind>, usize, bool), TinkError> {
+    let mut taken: Registry<Named<AeadKinds>> = Registry::new(alloc);
+    taken.register_key_manager(alloc, Named::new(AES_GCM_SIV_TYPE_URL))?;
+    let told = kind_of(init(alloc, &mut taken));
+    let names = taken.template_names(alloc)?.len();
+    Ok((told, names, has_manager(&taken, AES_GCM_TYPE_URL)))
 }
 
 #[test]
 fn where_one_is_there_nothing_is_registered(rt: HostRuntime) -> Result<(), Fail> {
-    let alloc = rt.alloc();
-    let mut taken: Registry<Named<AeadKinds>> = Registry::new(alloc);
-    let url = AES_GCM_SIV_TYPE_URL;
-    taken.register_key_manager(alloc, Named::new(url))?;
-    let refused = kind_of(init(alloc, &mut taken));
-    assert!(rt; refused == Some(Kind::AlreadyRegistered));
-    assert!(rt; taken.template_names(alloc)?.len() == 0);
-    assert!(rt; !has_manager(&taken, AES_GCM_TYPE_URL));
+    let told = where_one_is_there(rt.alloc())?;
+    assert!(rt; told == (Some(Kind::AlreadyRegistered), 0, false));
     Ok(())
 }
