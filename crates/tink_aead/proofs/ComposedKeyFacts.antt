@@ -29,13 +29,13 @@ use Rattle.tink_mac.specs.Tags.{hmac_tag, hmac_tags, is_outside, own_tag, HmacTa
 use Rattle.tink_aead.specs.AeadKinds.{hmac_computes, hmac_verifies}
 use Rattle.tink_aead.specs.ComposedKeys.{are_ctr_params, composed_built, composed_of, ctr_built, ctr_by_params, joined, mac_built, new_composed_key, with_hmac_key}
 use Rattle.tink_aead.specs.ComposedLaws.{AcceptsWhole, IsWhole, UndoesWhole}
-use Rattle.tink_aead.specs.CounterMode.{ctr_decrypts, ctr_encrypts}
+use Rattle.tink_aead_subtle.specs.CounterMode.{ctr_decrypts, ctr_encrypts}
 use Rattle.tink_aead.specs.KeyTypes.{is_versioned_key}
-use Rattle.tink_aead.specs.Laws.{IsMac}
-use Rattle.tink_aead.specs.declared.subtle.aes_ctr.AesCtr.{AesCtr}
-use Rattle.tink_aead.specs.declared.subtle.encrypt_then_authenticate.EncryptThenAuthenticate.{EncryptThenAuthenticate}
-use Rattle.tink_aead.proofs.ComposedExact.{accepts_exactly, encrypted_is}
-use Rattle.tink_aead.proofs.Exact.{passed, passes}
+use Rattle.tink_aead_subtle.specs.Laws.{IsMac}
+use Rattle.tink_aead_subtle.specs.declared.aes_ctr.AesCtr.{AesCtr}
+use Rattle.tink_aead_subtle.specs.declared.encrypt_then_authenticate.EncryptThenAuthenticate.{EncryptThenAuthenticate}
+use Rattle.tink_aead_subtle.proofs.ComposedExact.{accepts_exactly, encrypted_is}
+use Rattle.tink_aead_subtle.proofs.Exact.{passed, passes}
 
 -- ---- the tags of an HMAC that was built
 abbrev HasFit : HmacTags → Type 0

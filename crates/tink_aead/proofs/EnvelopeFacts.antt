@@ -10,7 +10,7 @@ use Rattle.tink_io.specs.declared.error.Kind.TheVariants.{DecryptFailed, LengthO
 use Rattle.tink_prf.specs.Sets.{and_then}
 use Rattle.tink_aead.specs.Envelope.{after_answer, cut_decrypts, enveloped, envelope_decrypts, envelope_encrypts, parts_decrypt}
 use Rattle.tink_aead.specs.EnvelopeLaws.{DataKeysUndo, EnvelopeUndoes}
-use Rattle.tink_aead.proofs.Exact.{passed}
+use Rattle.tink_aead_subtle.proofs.Exact.{passed}
 
 -- where a step gives a value, the one before it did
 given : {A B : Type 0} (r : Result A Kind) (left : List ℕ) (next : A → List ℕ → Result B Kind × List ℕ) (v : B) → (after_answer r left next).0 ≡ Ok v

@@ -1,8 +1,3 @@
-pub mod Keyed
-pub mod Exact
-pub mod AesExact
-pub mod ComposedExact
-pub mod Blocks
 pub mod RotationFacts
 pub mod ComposedKeyFacts
 pub mod EnvelopeFacts

@@ -8,13 +8,13 @@ use Rattle.tink_io.specs.declared.error.Kind.{Kind}
 use Rattle.tink_primitives.specs.Meaning.{IsDrawn, IsTold}
 use Rattle.tink_mac.specs.TagLaws.{own_tag_match}
 use Rattle.tink_mac.specs.Tags.{hmac_tag, own_tag, HmacTags}
-use Rattle.tink_aead.specs.AesAeads.{gcm_decrypts, gcm_encrypts, gcm_siv_decrypts, gcm_siv_encrypts}
-use Rattle.tink_aead.specs.Composed.{composed_decrypts, composed_encrypts}
-use Rattle.tink_aead.specs.ComposedTold.{composed_decrypts_told, composed_encrypts_told}
-use Rattle.tink_aead.specs.CounterMode.{ctr_decrypts, ctr_encrypts}
-use Rattle.tink_aead.specs.CounterModeLaws.{ctr_decrypts_told, ctr_encrypts_told}
-use Rattle.tink_aead.specs.NonceAeads.{gcm_siv_text_of, gcm_text_of}
-use Rattle.tink_aead.specs.NonceAeadTold.{decryption_told, encryption_told}
+use Rattle.tink_aead_subtle.specs.AesAeads.{gcm_decrypts, gcm_encrypts, gcm_siv_decrypts, gcm_siv_encrypts}
+use Rattle.tink_aead_subtle.specs.Composed.{composed_decrypts, composed_encrypts}
+use Rattle.tink_aead_subtle.specs.ComposedTold.{composed_decrypts_told, composed_encrypts_told}
+use Rattle.tink_aead_subtle.specs.CounterMode.{ctr_decrypts, ctr_encrypts}
+use Rattle.tink_aead_subtle.specs.CounterModeLaws.{ctr_decrypts_told, ctr_encrypts_told}
+use Rattle.tink_aead_subtle.specs.NonceAeads.{gcm_siv_text_of, gcm_text_of}
+use Rattle.tink_aead_subtle.specs.NonceAeadTold.{decryption_told, encryption_told}
 use Rattle.tink_aead.specs.declared.aead_kind.AeadKind.{AeadKind}
 use Rattle.tink_aead.specs.declared.aead_kind.AeadKind.TheVariants.{AesCtrHmac, AesGcm, AesGcmSiv}
 

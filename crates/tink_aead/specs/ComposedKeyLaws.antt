@@ -20,8 +20,8 @@ use Rattle.tink_mac.specs.KeyTypeLaws.{hmac_built_told}
 use Rattle.tink_mac.specs.Tags.{HmacTags}
 use Rattle.tink_aead.specs.ComposedKeys.{are_ctr_params, composed_built, composed_made, composed_of, ctr_built, ctr_by_params, is_composed_format, joined, mac_built, made_by_parts, new_composed_key, with_hmac_key}
 use Rattle.tink_aead.specs.KeyTypes.{is_versioned_key}
-use Rattle.tink_aead.specs.declared.subtle.aes_ctr.AesCtr.{AesCtr}
-use Rattle.tink_aead.specs.declared.subtle.encrypt_then_authenticate.EncryptThenAuthenticate.{EncryptThenAuthenticate}
+use Rattle.tink_aead_subtle.specs.declared.aes_ctr.AesCtr.{AesCtr}
+use Rattle.tink_aead_subtle.specs.declared.encrypt_then_authenticate.EncryptThenAuthenticate.{EncryptThenAuthenticate}
 
 ctr_by_params_told : (params : Option AesCtrParams) (key : List ℕ) → IsTold (ctr_by_params params key)
 ctr_by_params_told None key = tt

@@ -20,10 +20,10 @@ use Rattle.tink_key_types.specs.Manager.{of_draws}
 use Rattle.tink_key_types.specs.Templates.{template_of}
 use Rattle.tink_mac.specs.KeyTypes.{are_hmac_params, hmac_built, hmac_format}
 use Rattle.tink_mac.specs.Tags.{HmacTags}
-use Rattle.tink_aead.specs.KeySizes.{is_aes_key_size}
+use Rattle.tink_aead_subtle.specs.KeySizes.{is_aes_key_size}
 use Rattle.tink_aead.specs.KeyTypes.{is_versioned_key}
-use Rattle.tink_aead.specs.declared.subtle.aes_ctr.AesCtr.{AesCtr}
-use Rattle.tink_aead.specs.declared.subtle.encrypt_then_authenticate.EncryptThenAuthenticate.{EncryptThenAuthenticate}
+use Rattle.tink_aead_subtle.specs.declared.aes_ctr.AesCtr.{AesCtr}
+use Rattle.tink_aead_subtle.specs.declared.encrypt_then_authenticate.EncryptThenAuthenticate.{EncryptThenAuthenticate}
 
 abbrev pub composed_url : List ℕ
 composed_url = codes "type.googleapis.com/google.crypto.tink.AesCtrHmacAeadKey"

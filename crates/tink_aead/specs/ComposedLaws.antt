@@ -5,10 +5,10 @@ use Rattle.tink_mac.specs.Tags.{hmac_tag, HmacTags}
 use Rattle.tink_aead.specs.AeadKinds.{kind_decrypts, kind_encrypts}
 use Rattle.tink_proto_keys.specs.declared.aes_ctr_hmac.AesCtrHmacAeadKey.{AesCtrHmacAeadKey}
 use Rattle.tink_aead.specs.ComposedKeys.{composed_built}
-use Rattle.tink_aead.specs.Laws.{IsComposed, Undoes}
+use Rattle.tink_aead_subtle.specs.Laws.{IsComposed, Undoes}
 use Rattle.tink_aead.specs.declared.aead_kind.AeadKind.TheVariants.{AesCtrHmac}
-use Rattle.tink_aead.specs.declared.subtle.aes_ctr.AesCtr.{AesCtr}
-use Rattle.tink_aead.specs.declared.subtle.encrypt_then_authenticate.EncryptThenAuthenticate.{EncryptThenAuthenticate}
+use Rattle.tink_aead_subtle.specs.declared.aes_ctr.AesCtr.{AesCtr}
+use Rattle.tink_aead_subtle.specs.declared.encrypt_then_authenticate.EncryptThenAuthenticate.{EncryptThenAuthenticate}
 
 -- a vector fits a block, and the tag is all that the HMAC gives, at most a digest
 pub record IsWhole (a : EncryptThenAuthenticate AesCtr HmacTags) : Type 0 where

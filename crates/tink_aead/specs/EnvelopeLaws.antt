@@ -2,7 +2,7 @@
 use Rattle.std.specs.Prelude.{◌≡◌, ◌≤◌, ℕ, List, length, Result, Ok}
 use Rattle.tink_io.specs.declared.error.Kind.{Kind}
 use Rattle.tink_aead.specs.Envelope.{envelope_decrypts, envelope_encrypts}
-use Rattle.tink_aead.specs.Laws.{Undoes}
+use Rattle.tink_aead_subtle.specs.Laws.{Undoes}
 
 -- a remote key never encrypts to no bytes
 abbrev pub GivesBytes : (List ℕ → List ℕ → List ℕ → Result (List ℕ) Kind × List ℕ) → Type 0

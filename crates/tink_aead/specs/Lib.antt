@@ -1,13 +1,3 @@
-pub mod KeySizes
-pub mod NonceAeads
-pub mod NonceAeadLaws
-pub mod NonceAeadTold
-pub mod AesAeads
-pub mod CounterMode
-pub mod CounterModeLaws
-pub mod Composed
-pub mod ComposedTold
-pub mod Laws
 pub mod AeadKinds
 pub mod KeyTypes
 pub mod Wrapped

@@ -4,7 +4,7 @@ use Rattle.std.specs.List.{All, Contains}
 use Rattle.tink_io.specs.declared.error.Kind.{Kind}
 use Rattle.tink_sets.specs.declared.entry.TypedEntry.{TypedEntry}
 use Rattle.tink_factory.specs.Accepting.{entries_of}
-use Rattle.tink_aead.specs.Laws.{Undoes}
+use Rattle.tink_aead_subtle.specs.Laws.{Undoes}
 use Rattle.tink_aead.specs.Wrapped.{any_decrypts, entry_encrypts}
 
 module _ {P : Type 0} (encrypts : P → List ℕ → List ℕ → List ℕ → Result (List ℕ) Kind × List ℕ) (decrypts : P → List ℕ → List ℕ → Result (List ℕ) Kind) where

@@ -1,5 +1,6 @@
 -- The AEADs of a keyset as one.
-use Rattle.std.specs.Prelude.{◌≡◌, ◌++◌, ℕ, List, Option, Some, None, Result, Err}
+use Rattle.std.specs.Prelude.{◌≡◌, ◌++◌, ℕ, List, Vec, Option, Some, None, Result, Err}
+use Rattle.std.specs.BTreeMap.{BTreeMap}
 use Rattle.tink_io.specs.declared.error.Kind.{Kind}
 use Rattle.tink_io.specs.declared.error.Kind.TheVariants.{DecryptFailed, NoPrimary}
 use Rattle.tink_io.specs.Told.{made_of}
@@ -7,13 +8,7 @@ use Rattle.tink_sets.specs.Entries.{entry_of_id, typed_prefix_of}
 use Rattle.tink_sets.specs.Groups.{group_of}
 use Rattle.tink_sets.specs.declared.entry.TypedEntry.{TypedEntry}
 use Rattle.tink_keysets.specs.Built.{HasEntries}
-use Rattle.tink_sets.specs.declared.typed_set.TypedPrimitiveSet.{TypedPrimitiveSet}
 use Rattle.tink_factory.specs.Accepting.{accepted, entries_of}
-use Rattle.tink_aead.specs.declared.factory.WrappedAead.{WrappedAead}
-
--- the set of a keyset's entries
-abbrev pub entries_in : {P : Type 0} → WrappedAead P → TypedPrimitiveSet P
-entries_in w = w.ps
 
 -- what was sealed, behind a prefix
 abbrev pub behind_prefix : List ℕ → Result (List ℕ) Kind × List ℕ → Result (List ℕ) Kind × List ℕ
@@ -38,8 +33,12 @@ module _ {P : Type 0} (decrypts : P → List ℕ → List ℕ → Result (List �
   abbrev pub any_decrypts : (List ℕ → List (TypedEntry P)) → List ℕ → List ℕ → Result (List ℕ) Kind
   any_decrypts group input aad = accepted (entry_decrypts aad) group DecryptFailed input
 
+  -- each ciphertext has one answer by either
+  abbrev pub HasSameAnswers : (old new : List ℕ → List (TypedEntry P)) → Type 0
+  HasSameAnswers old new = (input aad : List ℕ) → any_decrypts new input aad ≡ any_decrypts old input aad
+
 -- A set is that of these entries: it encrypts by the first of the primary id, and decrypts by any of them.
-pub record IsAeadOf {P : Type 0} (encrypts : P → List ℕ → List ℕ → List ℕ → Result (List ℕ) Kind × List ℕ) (decrypts : P → List ℕ → List ℕ → Result (List ℕ) Kind) (id : ℕ) (es : List (TypedEntry P)) (set : TypedPrimitiveSet P) : Type 0 where
-  pub has : HasEntries typed_prefix_of (λ e. e.key_id) id es set.primary set.entries
-  pub encrypted : (text aad draws : List ℕ) → primary_encrypts encrypts set.primary text aad draws ≡ primary_encrypts encrypts (entry_of_id id es) text aad draws
-  pub decrypted : (input aad : List ℕ) → any_decrypts decrypts (group_of set.entries) input aad ≡ any_decrypts decrypts (entries_of es) input aad
+pub record IsAeadOf {P G : Type 0} (encrypts : P → List ℕ → List ℕ → List ℕ → Result (List ℕ) Kind × List ℕ) (decrypts : P → List ℕ → List ℕ → Result (List ℕ) Kind) (id : ℕ) (es : List (TypedEntry P)) (primary : Option (TypedEntry P)) (groups : BTreeMap (Vec ℕ G) (List (TypedEntry P))) : Type 0 where
+  pub has : HasEntries typed_prefix_of (λ e. e.key_id) id es primary groups
+  pub encrypted : (text aad draws : List ℕ) → primary_encrypts encrypts primary text aad draws ≡ primary_encrypts encrypts (entry_of_id id es) text aad draws
+  pub decrypted : (input aad : List ℕ) → any_decrypts decrypts (group_of groups) input aad ≡ any_decrypts decrypts (entries_of es) input aad

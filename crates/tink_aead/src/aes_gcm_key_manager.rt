@@ -4,7 +4,7 @@ ghost use Rattle.tink_primitives.specs.declared.primitive.Primitive.TheVariants 
 ghost use Rattle.tink_key_types.specs.Manager.{built_if, made_if};
 ghost use Rattle.tink_key_types.specs.ManagerLaws.{built_if_told, made_if_told};
 ghost use Rattle.tink_aead.specs.declared.aead_kind.AeadKind.TheVariants as kinds;
-ghost use Rattle.tink_aead.specs.KeySizes.{is_aes_key_size};
+ghost use Rattle.tink_aead_subtle.specs.KeySizes.{is_aes_key_size};
 ghost use Rattle.tink_aead.specs.KeyTypes.{gcm_url, is_versioned_key, new_gcm_key};
 
 use crate::subtle::{AesGcm, validate_aes_key_size};

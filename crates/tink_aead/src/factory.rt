@@ -1,29 +1,31 @@
 //! The AEADs of a keyset as one.
 
-ghost use Rattle.std.specs.Prelude.{◌≡◌, None};
+ghost use Rattle.std.specs.Prelude.{◌≡◌, None, true, is_some, IfOk, IfErr};
 ghost use Rattle.tink_io.specs.Told.{Answers, Replies};
+ghost use Rattle.tink_io.specs.declared.error.Kind.TheVariants.{OutOfMemory};
 ghost use Rattle.tink_primitives.specs.Sorts.{as_aead};
 ghost use Rattle.tink_sets.specs.Entries.{entry_of};
-ghost use Rattle.tink_sets.specs.Groups.{group_of};
+ghost use Rattle.tink_sets.specs.Groups.{group_of, HaveSameGroups};
 ghost use Rattle.tink_keysets.specs.Built.{built_entries, GivesSet};
 ghost use Rattle.tink_factory.specs.Typing.{typed_entries};
-ghost use Rattle.tink_aead.specs.Wrapped.{any_decrypts, entries_in, entry_decrypts, entry_encrypts, primary_encrypts, IsAeadOf};
+ghost use Rattle.tink_aead.specs.Wrapped.{any_decrypts, entry_decrypts, entry_encrypts, primary_encrypts, HasSameAnswers, IsAeadOf};
 ghost use Rattle.tink_aead.specs.WrappedTold.{any_decrypts_told, primary_encrypts_told};
 
 use std::alloc::Global;
 use tink_core::keyset::Handle;
 use tink_core::registry::{KeyManager, Registry};
-use tink_core::{Aead, Draws, Kind, Kinds, TinkError};
+use tink_core::{Aead, CloneIn, Draws, Kind, Kinds, TinkError};
 use tink_factory::{Question, ask_entries, typed_primitives};
 use tink_proto::Bytes;
 use tink_sets::sorts::Aeads;
 use tink_sets::{TypedEntry, TypedPrimitiveSet};
 
 /// The AEADs of a keyset as one: the primary key encrypts, and any key decrypts. A contract sees the
-/// set of the keys' entries.
+/// set of the keys' entries, `ps`, which has a primary one.
 #[derive(Drop)]
 pub struct WrappedAead<P> {
     ps: TypedPrimitiveSet<P>,
+    ghost has_primary: { is_some ps.primary ≡ true },
 }
 
 /// The AEADs of a handle's enabled keys as one.
@@ -38,7 +40,7 @@ pub fn new<M: KeyManager, P: Aead>(
 ) -> Result<WrappedAead<P>, TinkError>
 where
     M::Family: Kinds<Aead = P>,
-    ensures { GivesSet (λ es w. IsAeadOf P.encrypts P.decrypts h.now.primary_key_id es (entries_in w)) result (typed_entries as_aead h.now.primary_key_id (built_entries M.url M.supports M.builds entry_of registry.now.managers None h.now)) }
+    ensures { GivesSet (λ es w. IsAeadOf P.encrypts P.decrypts h.now.primary_key_id es w.ps.primary w.ps.entries) result (typed_entries as_aead h.now.primary_key_id (built_entries M.url M.supports M.builds entry_of registry.now.managers None h.now)) }
 {
     match typed_primitives::<M, Aeads>(alloc, h, registry) {
         Ok(ps) => Ok(WrappedAead { ps }),
@@ -46,10 +48,23 @@ where
     }
 }
 
-impl<P: Aead> Aead for WrappedAead<P> {
-    ghost encrypts = { λ w text aad draws. primary_encrypts P.encrypts (entries_in w).primary text aad draws };
+impl<P: Aead + CloneIn> WrappedAead<P> {
+    /// The AEADs of the same entries, which answer each call alike.
+    pub fn try_clone(&self, alloc: Global) -> Result<Self, TinkError>
+        ensures primary { IfOk result (λ copy. copy.ps.primary ≡ self.now.ps.primary) }
+        ensures entries { IfOk result (λ copy. HaveSameGroups self.now.ps.entries copy.ps.entries) }
+        ensures decrypts { IfOk result (λ copy. HasSameAnswers P.decrypts (group_of self.now.ps.entries) (group_of copy.ps.entries)) }
+        ensures cause { IfErr result (λ e. e.kind ≡ OutOfMemory) }
+    {
+        let ps = self.ps.try_clone(alloc)?;
+        Ok(WrappedAead { ps })
+    }
+}
 
-    ghost decrypts = { λ w input aad. any_decrypts P.decrypts (group_of (entries_in w).entries) input aad };
+impl<P: Aead> Aead for WrappedAead<P> {
+    ghost encrypts = { λ w text aad draws. primary_encrypts P.encrypts w.ps.primary text aad draws };
+
+    ghost decrypts = { λ w input aad. any_decrypts P.decrypts (group_of w.ps.entries) input aad };
 
     /// The primary key's prefix and its encryption, or its refusal.
     fn encrypt(
@@ -67,7 +82,7 @@ impl<P: Aead> Aead for WrappedAead<P> {
                 additional_data,
                 draws,
             ),
-            None => Err(TinkError::new(Kind::NoPrimary)),
+            None => unreachable!(),
         }
     }
 
@@ -86,9 +101,9 @@ impl<P: Aead> Aead for WrappedAead<P> {
         ask_entries(alloc, &self.ps, &question, ciphertext, Kind::DecryptFailed)
     }
 
-    ghost encrypts_told = { λ w text aad draws. primary_encrypts_told P.encrypts P.encrypts_told (entries_in w).primary text aad draws };
+    ghost encrypts_told = { λ w text aad draws. primary_encrypts_told P.encrypts P.encrypts_told w.ps.primary text aad draws };
 
-    ghost decrypts_told = { λ w input aad. any_decrypts_told P.decrypts (group_of (entries_in w).entries) input aad };
+    ghost decrypts_told = { λ w input aad. any_decrypts_told P.decrypts (group_of w.ps.entries) input aad };
 }
 
 // What an entry opens a ciphertext to.

@@ -11,11 +11,10 @@ ghost use Rattle.tink_aead.specs.KeyTypes.{gcm_siv_template, gcm_template};
 use crate::aes_ctr_hmac_aead_key_manager::AES_CTR_HMAC_AEAD_TYPE_URL;
 use crate::aes_gcm_key_manager::{AES_GCM_KEY_VERSION, AES_GCM_TYPE_URL};
 use crate::aes_gcm_siv_key_manager::{AES_GCM_SIV_KEY_VERSION, AES_GCM_SIV_TYPE_URL};
-use crate::kms_envelope_aead::KMS_ENVELOPE_AEAD_TYPE_URL;
+use crate::kms_envelope_aead::{KMS_ENVELOPE_AEAD_TYPE_URL, same_template};
 use std::alloc::Global;
-use tink_core::{Kind, TinkError};
+use tink_core::TinkError;
 use tink_key_types::new_template;
-use tink_proto::wire::Message;
 use tink_proto::{HashType, KeyTemplate, OutputPrefixType, Text};
 use tink_proto_keys::{
     AesCtrHmacAeadKeyFormat, AesCtrKeyFormat, AesCtrParams, AesGcmKeyFormat, AesGcmSivKeyFormat,
@@ -128,9 +127,7 @@ pub fn kms_envelope_aead_key_template(
     ensures { Answers result (Ok (envelope_template uri.now dek.now)) }
 {
     let kek_uri = Text::from_str(alloc, uri)?;
-    let Ok(dek) = dek.try_clone(alloc) else {
-        return Err(TinkError::new(Kind::OutOfMemory));
-    };
+    let dek = same_template(alloc, dek)?;
     let format = KmsEnvelopeAeadKeyFormat {
         kek_uri,
         dek_template: Some(dek),

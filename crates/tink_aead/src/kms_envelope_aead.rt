@@ -1,14 +1,16 @@
 //! Envelope encryption: each text by a new data key, which a remote key encrypts.
 
-ghost use Rattle.std.specs.Prelude.{◌≡◌, length};
+ghost use Rattle.std.specs.Prelude.{◌≡◌, length, IfOk, IfErr};
 ghost use Rattle.std.specs.Int.{w32, from_be_bytes};
 ghost use Rattle.tink_io.specs.Told.{Answers};
+ghost use Rattle.tink_io.specs.declared.error.Kind.TheVariants.{OutOfMemory};
 ghost use Rattle.tink_aead.specs.Envelope.{data_key_aead, enveloped};
 ghost use Rattle.tink_aead.specs.EnvelopeLaws.{EnvelopeUndoes};
 
 use std::alloc::Global;
 use tink_core::registry::{KeyManager, Registry};
-use tink_core::{Aead, Draws, Kind, Kinds, TinkError};
+use tink_core::{Aead, CloneIn, Draws, Kind, Kinds, TinkError};
+use tink_proto::wire::Message;
 use tink_proto::{Bytes, KeyTemplate};
 
 /// The version of keys of this type.
@@ -47,6 +49,27 @@ impl<'r, A: Aead + Drop, M: KeyManager> KmsEnvelopeAead<'r, A, M> {
             remote,
             registry,
         }
+    }
+}
+
+impl<A: CloneIn, M> CloneIn for KmsEnvelopeAead<'_, A, M> {
+    fn try_clone(&self, alloc: Global) -> Result<Self, TinkError> {
+        Ok(KmsEnvelopeAead {
+            dek_template: same_template(alloc, &self.dek_template)?,
+            remote: self.remote.try_clone(alloc)?,
+            registry: self.registry,
+        })
+    }
+}
+
+// The template again.
+pub fn same_template(alloc: Global, kt: &KeyTemplate) -> Result<KeyTemplate, TinkError>
+    ensures value { IfOk result (λ copy. copy ≡ kt.now) }
+    ensures cause { IfErr result (λ e. e.kind ≡ OutOfMemory) }
+{
+    match kt.try_clone(alloc) {
+        Ok(copy) => Ok(copy),
+        Err(_) => Err(TinkError::new(Kind::OutOfMemory)),
     }
 }
 

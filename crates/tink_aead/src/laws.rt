@@ -1,41 +1,9 @@
-//! The laws of the AEADs by AES.
+//! The laws of the AEADs that keys build, and of keysets that were edited.
 
-ghost use Rattle.std.specs.Prelude.{ℕ, List};
-ghost use Rattle.gcm.specs.Limits.{MOST_GCM, MOST_GCM_SIV};
-ghost use Rattle.standards.specs.AesKeys.{aes};
-ghost use Rattle.standards.specs.Gcm.{gcm};
-ghost use Rattle.standards.specs.GcmSiv.{gcm_siv};
-ghost use Rattle.tink_aead.specs.AesAeads.{gcm_decrypts, gcm_encrypts, gcm_siv_decrypts, gcm_siv_encrypts};
 ghost use Rattle.tink_aead.specs.ComposedLaws.{KeysBuildWhole, WholeAccepts, WholeUndoes};
 ghost use Rattle.tink_aead.specs.Rotation.{OldCiphertextsOpen};
-ghost use Rattle.tink_aead.specs.Laws.{AcceptsExactly, ComposedAcceptsExactly, ComposedEncrypts, ComposedUndoes, Encrypts, IsAesKey, Undoes};
 
 use tink_core::Aead;
-
-/// AES-GCM accepts exactly the encryptions of some text, each as that of its text. What it encrypts is decrypted
-/// again, and with twelve draws each text and associated data within the limits are encrypted.
-pub fn law_aes_gcm()
-    ensures accepts { (key : List ℕ) → AcceptsExactly (gcm (aes key)) MOST_GCM (gcm_decrypts key) }
-    ensures undoes { (key : List ℕ) → Undoes (gcm_encrypts key) (gcm_decrypts key) }
-    ensures encrypts { (key : List ℕ) → Encrypts MOST_GCM (gcm_encrypts key) }
-{}
-
-/// AES-GCM-SIV accepts exactly the encryptions of some text, each as that of its text. What it encrypts is decrypted
-/// again, and with twelve draws each text and associated data within the limits are encrypted.
-pub fn law_aes_gcm_siv()
-    ensures accepts { (key : List ℕ) → IsAesKey key → AcceptsExactly (gcm_siv aes key) MOST_GCM_SIV (gcm_siv_decrypts key) }
-    ensures undoes { (key : List ℕ) → IsAesKey key → Undoes (gcm_siv_encrypts key) (gcm_siv_decrypts key) }
-    ensures encrypts { (key : List ℕ) → Encrypts MOST_GCM_SIV (gcm_siv_encrypts key) }
-{}
-
-/// AES in counter mode and then a MAC of one tag a message, as HMAC, accept exactly the outputs of the cipher for some
-/// text with their tags, each as that of its text. What is encrypted is decrypted again, and with enough draws each
-/// text is encrypted.
-pub fn law_aes_ctr_then_mac()
-    ensures accepts { ComposedAcceptsExactly }
-    ensures undoes { ComposedUndoes }
-    ensures encrypts { ComposedEncrypts }
-{}
 
 /// What keys of AES in counter mode with HMAC build accepts exactly the encryptions of some text, each as that of its
 /// text, and decrypts again what it encrypts.

@@ -23,32 +23,19 @@ pub use key_templates::{
 pub use kms_envelope_aead::{
     KMS_ENVELOPE_AEAD_KEY_VERSION, KMS_ENVELOPE_AEAD_TYPE_URL, KmsEnvelopeAead, law_envelopes_open,
 };
-pub use laws::{
-    law_aes_ctr_hmac, law_aes_ctr_then_mac, law_aes_gcm, law_aes_gcm_siv, law_old_ciphertexts_open,
-};
+pub use laws::{law_aes_ctr_hmac, law_old_ciphertexts_open};
 pub use registering::init;
+pub use tink_aead_subtle::{law_aes_ctr, law_aes_ctr_then_mac, law_aes_gcm, law_aes_gcm_siv};
 pub use tink_primitives::UPSTREAM_VERSION;
 
 mod aead_kind;
 mod aes_ctr_hmac_aead_key_manager;
 mod aes_gcm_key_manager;
 mod aes_gcm_siv_key_manager;
-#[cfg(test)]
-mod composed_tests;
-#[cfg(test)]
-mod envelope_tests;
 mod factory;
-#[cfg(test)]
-mod key_manager_tests;
 mod key_templates;
-#[cfg(test)]
-mod keyset_tests;
 mod kms_envelope_aead;
 mod laws;
-#[cfg(test)]
-mod named;
 mod registering;
 pub mod subtle;
-#[cfg(test)]
-mod tests;
 mod versioned_key;

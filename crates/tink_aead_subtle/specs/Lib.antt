@@ -1,0 +1,10 @@
+pub mod KeySizes
+pub mod NonceAeads
+pub mod NonceAeadLaws
+pub mod NonceAeadTold
+pub mod AesAeads
+pub mod CounterMode
+pub mod CounterModeLaws
+pub mod Composed
+pub mod ComposedTold
+pub mod Laws
