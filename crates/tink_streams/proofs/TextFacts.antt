@@ -78,7 +78,7 @@ ready_opened seg a b old new due some next = record {
         ended = over m.progress lives (λ r. let z : length m.pending ≡ 0 = ap length none in let s = goes_on r in omega arith)
 
 -- a segment is due for any room but none
-due_room : (m : Moment) (room : ℕ) → 0 < room → IsDue m 1 → IsDue m room
+pub due_room : (m : Moment) (room : ℕ) → 0 < room → IsDue m 1 → IsDue m room
 due_room m room h d = record { running = d.running; pending = d.pending; some = h }
 
 due_one : (m : Moment) (room : ℕ) → IsDue m room → IsDue m 1

@@ -17,13 +17,14 @@ pub record Opening (D : Type 0) : Type 0 where
   pub size : ℕ
 
 -- a reader: how it opens segments, how far it has come, the next segment's number, the text that was opened and is not
--- yet given, the bytes that are held, and its source
+-- yet given, the bytes that are held, how many it has room to hold, and its source
 pub record ReaderState (R D : Type 0) : Type 0 where
   pub opening : Opening D
   pub progress : Progress
   pub number : ℕ
   pub pending : List ℕ
   pub held : List ℕ
+  pub room : ℕ
   pub source : R
 
 -- the segment of a text by its number and its mark

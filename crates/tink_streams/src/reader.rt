@@ -35,7 +35,7 @@ pub struct Reader<R: Source, D: SegmentDecrypter> {
 }
 
 impl<R: Source, D: SegmentDecrypter> Model for Reader<R, D> {
-    ghost use Rattle.std.specs.Prelude.{◌≡◌, [], take, drop};
+    ghost use Rattle.std.specs.Prelude.{◌≡◌, [], take, drop, vec_len};
     ghost use Rattle.std.specs.Option.{ForSome};
     ghost use Rattle.std.specs.Io.KnownBytes.{prepend_known};
     ghost use Rattle.tink_streams.specs.Readers.{ReaderState};
@@ -56,6 +56,7 @@ impl<R: Source, D: SegmentDecrypter> Model for Reader<R, D> {
       number = r.text.reader.segments;
       pending = drop r.text.given r.text.reader.opened.items;
       held = take r.text.reader.filled r.text.reader.buffer.items;
+      room = vec_len r.text.reader.buffer;
       source = r.source;
     } };
 
@@ -64,7 +65,7 @@ impl<R: Source, D: SegmentDecrypter> Model for Reader<R, D> {
 }
 
 impl<R: Source + Drop, D: SegmentDecrypter + Drop> Reader<R, D> {
-    ghost use Rattle.tink_streams.specs.TextReading.{ReadMeans, Moment};
+    ghost use Rattle.tink_streams.specs.TextReading.{IsDue, ReadMeans, Moment};
     ghost use Rattle.tink_streams.specs.Readers.{ReaderState, moment_of, seg_of};
 
     /// A reader that has read nothing, with memory by `Buffers::reserve` for these sizes. The
@@ -94,6 +95,7 @@ impl<R: Source + Drop, D: SegmentDecrypter + Drop> Reader<R, D> {
           number = 0;
           pending = [];
           held = [];
+          room = vec_len buffers.sealed;
           source = params.r;
         }) }
         ensures refused { IfErr result (λ e. sizes_fault params.nonce_size (vec_len params.nonce_prefix) params.ciphertext_segment_size
@@ -149,6 +151,7 @@ impl<R: Source + Drop, D: SegmentDecrypter + Drop> Reader<R, D> {
           number = reader.segments;
           pending = reader.opened.items;
           held = take reader.filled reader.buffer.items;
+          room = vec_len reader.buffer;
           source = source;
         } }
     {
@@ -170,7 +173,12 @@ impl<R: Source + Drop, D: SegmentDecrypter + Drop> Reader<R, D> {
         ensures answer { ReadMeans (seg_of D.seg self.old.opening) self.old.opening.first self.old.opening.size self.old.opening.overhead
             (moment_of R.left R.faults self.old) (moment_of R.left R.faults self.new) buf.old buf.new result }
         ensures within { IfOk result (λ n. n ≤ length buf.new) }
+        // where no segment is due, nothing is read
+        ensures idle { (IsDue (moment_of R.left R.faults self.old) (length buf.old) → ⊥)
+            → (self.new.source ≡ self.old.source) × (self.new.held ≡ self.old.held) }
         ensures opening { self.new.opening ≡ self.old.opening }
+        ensures room { self.new.room ≡ self.old.room }
+        ensures kept { length self.new.held ≤ self.new.room }
         ensures later { R.faults self.old.source ≤ R.faults self.new.source }
         ensures same { R.same self.old.source self.new.source }
     {
@@ -193,7 +201,22 @@ impl<R: Source + Drop, D: SegmentDecrypter + Drop> Reader<R, D> {
 }
 
 impl<R: Source + Drop, D: SegmentDecrypter + Drop> DecryptingRead for Reader<R, D> {
-    fn read(&mut self, buf: &mut [u8]) -> Result<usize, TinkError> {
+    ghost use Rattle.std.specs.Io.{ReadsAtMost};
+    ghost use Rattle.tink_streams.specs.TextReading.{IsDue, ReadMeans};
+    ghost use Rattle.tink_streams.specs.Readers.{moment_of, seg_of};
+
+    fn read(&mut self, buf: &mut [u8]) -> Result<usize, TinkError>
+        ensures bound { ReadsAtMost result buf.new }
+        ensures answer { ReadMeans (seg_of D.seg self.old.opening) self.old.opening.first self.old.opening.size self.old.opening.overhead
+            (moment_of R.left R.faults self.old) (moment_of R.left R.faults self.new) buf.old buf.new result }
+        ensures idle { (IsDue (moment_of R.left R.faults self.old) (length buf.old) → ⊥)
+            → (self.new.source ≡ self.old.source) × (self.new.held ≡ self.old.held) }
+        ensures opening { self.new.opening ≡ self.old.opening }
+        ensures room { self.new.room ≡ self.old.room }
+        ensures kept { length self.new.held ≤ self.new.room }
+        ensures later { R.faults self.old.source ≤ R.faults self.new.source }
+        ensures same { R.same self.old.source self.new.source }
+    {
         Reader::read(self, buf)
     }
 }

@@ -60,6 +60,7 @@ impl<D: SegmentDecrypter + Drop> SegmentReader<D> {
         ensures progress { result.progress ≡ Running }
         ensures segments { result.segments ≡ 0 }
         ensures held { take result.filled result.buffer.items ≡ take filled buffers.sealed.items }
+        ensures room { vec_len result.buffer ≡ vec_len buffers.sealed }
         ensures opened { result.opened.items ≡ [] }
         ensures opener { result.opener ≡ opener }
     {
@@ -100,6 +101,7 @@ impl<D: SegmentDecrypter + Drop> SegmentReader<D> {
             })
             result }
         ensures opener { self.new.opener ≡ self.old.opener }
+        ensures room { vec_len self.new.buffer ≡ vec_len self.old.buffer }
         ensures small { vec_len self.new.opened < 2 ^ 32 }
         ensures later { S.faults source.old ≤ S.faults source.new }
         ensures same { S.same source.old source.new }

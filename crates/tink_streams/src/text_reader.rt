@@ -31,7 +31,7 @@ fn give(text: &[u8], buf: &mut [u8]) -> usize
 }
 
 impl<D: SegmentDecrypter + Drop> TextReader<D> {
-    ghost use Rattle.tink_streams.specs.TextReading.{ReadMeans, ReadyMeans, Moment};
+    ghost use Rattle.tink_streams.specs.TextReading.{IsDue, ReadMeans, ReadyMeans, Moment};
 
     // Opens the next segment where no opened text is left to give and more may come.
     fn make_ready<S: Source>(&mut self, source: &mut S) -> Result<(), TinkError>
@@ -55,7 +55,17 @@ impl<D: SegmentDecrypter + Drop> TextReader<D> {
               faults = S.faults source.new;
             })
             result }
+        // where no segment is due, nothing is read
+        ensures idle { (IsDue (record {
+              progress = self.old.reader.progress;
+              number = self.old.reader.segments;
+              pending = drop self.old.given self.old.reader.opened.items;
+              rest = prepend_known (take self.old.reader.filled self.old.reader.buffer.items) (S.left source.old);
+              faults = S.faults source.old;
+            }) 1 → ⊥)
+            → (source.new ≡ source.old) × (take self.new.reader.filled self.new.reader.buffer.items ≡ take self.old.reader.filled self.old.reader.buffer.items) }
         ensures opener { self.new.reader.opener ≡ self.old.reader.opener }
+        ensures room { vec_len self.new.reader.buffer ≡ vec_len self.old.reader.buffer }
         ensures later { S.faults source.old ≤ S.faults source.new }
         ensures same { S.same source.old source.new }
     {
@@ -101,7 +111,17 @@ impl<D: SegmentDecrypter + Drop> TextReader<D> {
         ensures within { IfOk result (λ n. n ≤ length buf.new) }
         ensures at_end { self.new.reader.progress ≡ Ended
             → ForSome (prepend_known (take self.new.reader.filled self.new.reader.buffer.items) (S.left source.new)) (λ xs. xs ≡ []) }
+        // where no segment is due, nothing is read
+        ensures idle { (IsDue (record {
+              progress = self.old.reader.progress;
+              number = self.old.reader.segments;
+              pending = drop self.old.given self.old.reader.opened.items;
+              rest = prepend_known (take self.old.reader.filled self.old.reader.buffer.items) (S.left source.old);
+              faults = S.faults source.old;
+            }) (length buf.old) → ⊥)
+            → (source.new ≡ source.old) × (take self.new.reader.filled self.new.reader.buffer.items ≡ take self.old.reader.filled self.old.reader.buffer.items) }
         ensures opener { self.new.reader.opener ≡ self.old.reader.opener }
+        ensures room { vec_len self.new.reader.buffer ≡ vec_len self.old.reader.buffer }
         ensures later { S.faults source.old ≤ S.faults source.new }
         ensures same { S.same source.old source.new }
     {

@@ -149,6 +149,8 @@ impl<W: Sink + Drop, E: SegmentEncrypter + Drop> Writer<W, E> {
     pub fn write(&mut self, buf: &[u8]) -> Result<usize, TinkError>
         ensures answer { WriteMeans (seg_of E.seg self.old.sealing) self.old.sealing.first self.old.sealing.room
             (moment_of W.got W.faults self.old) (moment_of W.got W.faults self.new) buf.now result }
+        // a writer that takes no text stays as it is, and its sink too
+        ensures idle { (self.old.mode ≡ Open → ⊥) → self.new ≡ self.old }
         ensures sealing { self.new.sealing ≡ self.old.sealing }
         // the rooms that `law_any_cutting` asks for
         ensures rooms { (0 < self.new.sealing.first) × (self.new.sealing.first ≤ self.new.sealing.room) }
@@ -174,6 +176,8 @@ impl<W: Sink + Drop, E: SegmentEncrypter + Drop> Writer<W, E> {
     pub fn close(&mut self) -> Result<(), TinkError>
         ensures answer { CloseMeans (seg_of E.seg self.old.sealing) (moment_of W.got W.faults self.old)
             (moment_of W.got W.faults self.new) result }
+        // a writer that is not open stays as it is, and its sink too
+        ensures idle { (self.old.mode ≡ Open → ⊥) → self.new ≡ self.old }
         ensures sealing { self.new.sealing ≡ self.old.sealing }
         ensures later { W.faults self.old.sink ≤ W.faults self.new.sink }
         ensures same { W.same self.old.sink self.new.sink }
@@ -197,15 +201,38 @@ impl<W: Sink + Drop, E: SegmentEncrypter + Drop> Writer<W, E> {
 }
 
 impl<W: Sink + Drop, E: SegmentEncrypter + Drop> EncryptingWrite for Writer<W, E> {
-    fn write(&mut self, buf: &[u8]) -> Result<usize, TinkError> {
+    ghost use Rattle.std.specs.Io.{WritesAtMost};
+    ghost use Rattle.tink_streams.specs.Writing.{WriteMeans, CloseMeans};
+    ghost use Rattle.tink_streams.specs.Writers.{moment_of, seg_of};
+
+    fn write(&mut self, buf: &[u8]) -> Result<usize, TinkError>
+        ensures bound { WritesAtMost result buf.now }
+        ensures answer { WriteMeans (seg_of E.seg self.old.sealing) self.old.sealing.first self.old.sealing.room
+            (moment_of W.got W.faults self.old) (moment_of W.got W.faults self.new) buf.now result }
+        ensures idle { (self.old.mode ≡ Open → ⊥) → self.new ≡ self.old }
+        ensures sealing { self.new.sealing ≡ self.old.sealing }
+        ensures rooms { (0 < self.new.sealing.first) × (self.new.sealing.first ≤ self.new.sealing.room) }
+        ensures later { W.faults self.old.sink ≤ W.faults self.new.sink }
+        ensures same { W.same self.old.sink self.new.sink }
+    {
         Writer::write(self, buf)
     }
 
-    fn flush(&mut self) -> Result<(), TinkError> {
+    fn flush(&mut self) -> Result<(), TinkError>
+        ensures answer { result ≡ Ok tt }
+        ensures same { self.new ≡ self.old }
+    {
         Writer::flush(self)
     }
 
-    fn close(&mut self) -> Result<(), TinkError> {
+    fn close(&mut self) -> Result<(), TinkError>
+        ensures answer { CloseMeans (seg_of E.seg self.old.sealing) (moment_of W.got W.faults self.old)
+            (moment_of W.got W.faults self.new) result }
+        ensures idle { (self.old.mode ≡ Open → ⊥) → self.new ≡ self.old }
+        ensures sealing { self.new.sealing ≡ self.old.sealing }
+        ensures later { W.faults self.old.sink ≤ W.faults self.new.sink }
+        ensures same { W.same self.old.sink self.new.sink }
+    {
         Writer::close(self)
     }
 }

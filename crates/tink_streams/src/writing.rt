@@ -266,6 +266,8 @@ impl<E: SegmentEncrypter + Drop> SegmentWriter<E> {
               faults = K.faults sink.new;
             })
             buf.now result }
+        // a writer that takes no text, and the sink, stay as they are
+        ensures idle { (self.old.mode ≡ Open → ⊥) → (self.new ≡ self.old) × (sink.new ≡ sink.old) }
         ensures sealer { self.new.sealer ≡ self.old.sealer }
         ensures later { K.faults sink.old ≤ K.faults sink.new }
         ensures same { K.same sink.old sink.new }
@@ -298,6 +300,8 @@ impl<E: SegmentEncrypter + Drop> SegmentWriter<E> {
               faults = K.faults sink.new;
             })
             result }
+        // a writer that is not open, and the sink, stay as they are
+        ensures idle { (self.old.mode ≡ Open → ⊥) → (self.new ≡ self.old) × (sink.new ≡ sink.old) }
         ensures sealer { self.new.sealer ≡ self.old.sealer }
         ensures later { K.faults sink.old ≤ K.faults sink.new }
         ensures same { K.same sink.old sink.new }

@@ -16,7 +16,9 @@ returns-in_default g c =
       answer = ready_held _ _ _ _ c.requires.lives (λ d. c.in_default.not-Running d.running)
           (λ e. record { ended = ended; some = self.reader.ended_some ended; pending = e; rest = told_end _ (c.requires.at_end ended) })
           (λ e. told_end _ (c.requires.at_end e));
+      idle = λ _. (refl, refl);
       opener = refl;
+      room = refl;
       later = omega arith;
       same = g.met.S.Source.same_refl _;
     }

@@ -1,6 +1,6 @@
 use Rattle.std.proofs.Common.{rules, ◌≡◌, ◌<◌, ◌-◌, List, ℕ, length, take, drop, min, arith, ap, refl, sym, ◌∙◌, length-drop}
 use Rattle.std.proofs.lemmas.List.{take_all, drop-drop}
-use Rattle.tink_streams.proofs.TextFacts.{gives_none, given_ready, told_end, end_told, not_failed}
+use Rattle.tink_streams.proofs.TextFacts.{due_room, gives_none, given_ready, told_end, end_told, not_failed}
 use Rattle.tink_streams.proofs.text_reader.TextReader.read.Goals as goal
 
 pub returns-then-is_empty : goal.returns-then-is_empty
@@ -11,7 +11,9 @@ returns-then-is_empty g c =
       answer = gives_none _ _ _ _ c.args.buf.now (not_failed self.reader.progress c.in_default.not-Failed) none (λ e. told_end _ (c.requires.at_end e));
       within = omega arith;
       at_end = c.requires.at_end;
+      idle = λ _. (refl, refl);
       opener = refl;
+      room = refl;
       later = omega arith;
       same = g.met.S.Source.same_refl _;
     }
@@ -30,7 +32,9 @@ returns g c =
       answer = answer;
       within = omega (arith, c.give-n.ensures.count, c.give-n.auto.buf);
       at_end = λ e. end_told _ (answer.ends e);
+      idle = λ none. c.in_ok-make_ready.ensures.idle (λ d. none (due_room _ (length c.args.buf.now) some d));
       opener = c.in_ok-make_ready.ensures.opener;
+      room = c.in_ok-make_ready.ensures.room;
       later = c.in_ok-make_ready.ensures.later;
       same = c.in_ok-make_ready.ensures.same;
     }
