@@ -4,3 +4,4 @@ pub mod Templates
 pub mod DecryptReaders
 pub mod DecryptStages
 pub mod Wrapped
+pub mod WholeReading

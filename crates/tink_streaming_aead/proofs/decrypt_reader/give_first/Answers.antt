@@ -85,6 +85,7 @@ returns g c =
             (fresh_refused seg o.first o.size o.overhead m n (length c.args.buf.now) kind fresh.0 fresh.1 fresh.2 refused)),
       );
       within = tt;
+      room = tt;
       at_end = tt;
       later = omega (arith, c.start.ensures.later, c.read.ensures.later);
       same = g.met.S.Source.same_trans _ _ _ c.start.ensures.same c.read.ensures.same;
