@@ -1,12 +1,12 @@
 -- A sealed stream is a stream, and has one text.
-use Rattle.std.proofs.Common.{◌≡◌, ◌⊎◌, inl, inr, ◌<◌, ◌≤◌, ◌+◌, ◌-◌, ◌^◌, ℕ, zero, suc, Bool, true, false, List, [], ◌∷◌, ◌++◌, length, take, drop, map, refl, sym, ap, subst, ◌∙◌, arith, Some, None, length-append, length-drop, length-take-le, add-one, get_or}
+use Rattle.std.proofs.Common.{◌≡◌, ◌⊎◌, inl, inr, ◌<◌, ◌≤◌, ◌+◌, ◌-◌, ◌^◌, ℕ, zero, suc, Bool, List, [], ◌∷◌, ◌++◌, length, take, drop, refl, sym, ap, subst, ◌∙◌, arith, Some, None, length-append, length-drop, length-take-le, add-one}
 use Rattle.std.specs.declared.option.Option.{Option}
 use Rattle.std.proofs.lemmas.List.{append-nil, take-append-drop}
 use Rattle.std.proofs.Math.Seq.{take-append_seam, drop-append_seam}
 use Rattle.stream_model.specs.Agree.{AreTexts, Agree, joined}
 use Rattle.stream_model.specs.Cut.{chunks, cut, or_one, sealed, segments}
-use Rattle.stream_model.specs.Key.{IsUsable, StreamKey, first_room, first_segment, front, header_length, keys_of, overhead, room, segment_at}
-use Rattle.stream_model.specs.Opening.{AreSegments, AreSegmentsBy, Begins, FirstAgrees, HasHeader, IsChosen, IsStream, OpeningKey, chunks_of, opening_key, under}
+use Rattle.stream_model.specs.Key.{IsUsable, StreamKey, first_room, front, header_length, keys_of, room, segment_at}
+use Rattle.stream_model.specs.Opening.{AreSegments, AreSegmentsBy, Begins, FirstAgrees, IsChosen, IsStream, OpeningKey, opening_key, under}
 use Rattle.stream_model.specs.Sealing.{chunk_count, stream}
 use Rattle.stream_model.proofs.CutFacts.{cut_fits, cut_more, cut_none, cut_some}
 use Rattle.stream_model.proofs.KeyFacts.{CanOpen, IsLawful, opening_key_lawful}

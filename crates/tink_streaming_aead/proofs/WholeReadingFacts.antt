@@ -1,5 +1,5 @@
 -- What reads up to the end have given, in the words of streams.
-use Rattle.std.proofs.Common.{◌≡◌, inl, inr, ◌<◌, ◌≤◌, ◌+◌, ◌-◌, ℕ, zero, suc, Bool, List, [], ◌∷◌, ◌++◌, length, take, drop, map, Some, None, refl, sym, ap, subst, ◌∙◌, arith, length-append, All}
+use Rattle.std.proofs.Common.{◌≡◌, inl, inr, ◌<◌, ◌-◌, ℕ, Bool, List, [], ◌∷◌, ◌++◌, length, take, drop, map, Some, None, sym, ap, subst, ◌∙◌, arith, length-append, All}
 use Rattle.std.specs.Prelude.{IfSome, slice_index}
 use Rattle.std.specs.declared.option.Option.{Option}
 use Rattle.std.specs.Io.KnownBytes.{Consumes}
@@ -11,7 +11,7 @@ use Rattle.stream_model.specs.Key.{IsUsable, StreamKey, first_segment, header_le
 use Rattle.stream_model.specs.Opening.{AreSegments, AreSegmentsBy, IsChosen, IsStream, OpeningKey, opening_key}
 use Rattle.stream_model.proofs.KeyFacts.{CanOpen, IsLawful, opening_key_lawful}
 use Rattle.tink_streams.specs.Choosing.{Started}
-use Rattle.tink_streams.specs.TextReading.{AtEnd, Gave, IsTextOf, IsWhole, Moment}
+use Rattle.tink_streams.specs.TextReading.{AtEnd, Gave, Moment}
 use Rattle.tink_streams.proofs.ChosenFacts.{stream_opened}
 use Rattle.tink_streams.proofs.TextLaws.{gave_all, text_of_whole}
 use Rattle.tink_stream_keys.specs.Decrypting.{IsNewReader}

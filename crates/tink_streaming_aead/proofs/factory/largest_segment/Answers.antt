@@ -1,4 +1,4 @@
-use Rattle.std.proofs.Common.{◌≤◌, ◌+◌, map, max, take, ap, arith, ◌∙◌}
+use Rattle.std.proofs.Common.{◌+◌, max, take, ap, arith, ◌∙◌}
 use Rattle.tink_streaming_aead.proofs.KeyMost.{all_within, next_most}
 use Rattle.tink_streaming_aead.proofs.factory.largest_segment.Goals as goal
 

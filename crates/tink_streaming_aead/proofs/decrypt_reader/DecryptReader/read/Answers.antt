@@ -1,4 +1,4 @@
-use Rattle.std.proofs.Common.{◌≡◌, ap, length, subst, sym, ◌∙◌}
+use Rattle.std.proofs.Common.{ap, length, subst, sym, ◌∙◌}
 use Rattle.tink_streaming_aead.specs.DecryptReaders.{DecryptState, ReadsNoMore}
 use Rattle.tink_streaming_aead.specs.DecryptStages.{state_of}
 use Rattle.tink_streaming_aead.specs.declared.decrypt_reader.Stage.{Stage}

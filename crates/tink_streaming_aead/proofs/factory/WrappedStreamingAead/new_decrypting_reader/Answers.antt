@@ -1,6 +1,6 @@
-use Rattle.std.proofs.Common.{◌≡◌, ◌+◌, List, map, ap, subst, vec_len, All, ◌∙◌}
+use Rattle.std.proofs.Common.{◌≡◌, ◌+◌, map, ap, subst, vec_len, All, ◌∙◌}
 use Rattle.std.proofs.lemmas.Simd.{map-map}
-use Rattle.stream_model.specs.Key.{IsUsable, StreamKey}
+use Rattle.stream_model.specs.Key.{IsUsable}
 use Rattle.tink_streaming_aead.specs.DecryptReaders.{largest}
 use Rattle.tink_streaming_aead.specs.DecryptReaders.DecryptState.{Unread}
 use Rattle.tink_stream_keys.specs.StreamKinds.{key_of}
