@@ -57,12 +57,12 @@ impl<D: SegmentDecrypter + Drop> TextReader<D> {
             result }
         // where no segment is due, nothing is read
         ensures idle { (IsDue (record {
-              progress = self.old.reader.progress;
-              number = self.old.reader.segments;
-              pending = drop self.old.given self.old.reader.opened.items;
-              rest = prepend_known (take self.old.reader.filled self.old.reader.buffer.items) (S.left source.old);
-              faults = S.faults source.old;
-            }) 1 → ⊥)
+          progress = self.old.reader.progress;
+          number = self.old.reader.segments;
+          pending = drop self.old.given self.old.reader.opened.items;
+          rest = prepend_known (take self.old.reader.filled self.old.reader.buffer.items) (S.left source.old);
+          faults = S.faults source.old;
+        }) 1 → ⊥)
             → (source.new ≡ source.old) × (take self.new.reader.filled self.new.reader.buffer.items ≡ take self.old.reader.filled self.old.reader.buffer.items) }
         ensures opener { self.new.reader.opener ≡ self.old.reader.opener }
         ensures room { vec_len self.new.reader.buffer ≡ vec_len self.old.reader.buffer }
@@ -113,12 +113,12 @@ impl<D: SegmentDecrypter + Drop> TextReader<D> {
             → ForSome (prepend_known (take self.new.reader.filled self.new.reader.buffer.items) (S.left source.new)) (λ xs. xs ≡ []) }
         // where no segment is due, nothing is read
         ensures idle { (IsDue (record {
-              progress = self.old.reader.progress;
-              number = self.old.reader.segments;
-              pending = drop self.old.given self.old.reader.opened.items;
-              rest = prepend_known (take self.old.reader.filled self.old.reader.buffer.items) (S.left source.old);
-              faults = S.faults source.old;
-            }) (length buf.old) → ⊥)
+          progress = self.old.reader.progress;
+          number = self.old.reader.segments;
+          pending = drop self.old.given self.old.reader.opened.items;
+          rest = prepend_known (take self.old.reader.filled self.old.reader.buffer.items) (S.left source.old);
+          faults = S.faults source.old;
+        }) (length buf.old) → ⊥)
             → (source.new ≡ source.old) × (take self.new.reader.filled self.new.reader.buffer.items ≡ take self.old.reader.filled self.old.reader.buffer.items) }
         ensures opener { self.new.reader.opener ≡ self.old.reader.opener }
         ensures room { vec_len self.new.reader.buffer ≡ vec_len self.old.reader.buffer }
