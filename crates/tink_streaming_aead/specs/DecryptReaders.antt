@@ -1,5 +1,5 @@
 -- A reader of a keyset's streams: what a contract sees of it, and what its reads say.
-use Rattle.std.specs.Prelude.{◌≡◌, ℕ, Bool, List, [], ◌∷◌, map, Result, Ok, Err, IfSome, None}
+use Rattle.std.specs.Prelude.{◌≡◌, ℕ, Bool, List, [], ◌∷◌, map, max, Result, Ok, Err, IfSome, None}
 use Rattle.std.specs.declared.option.Option.{Option}
 use Rattle.tink_io.specs.Faults.{Rose}
 use Rattle.tink_io.specs.declared.error.Cause.{Cause}
@@ -9,33 +9,50 @@ use Rattle.tink_io.specs.declared.error.Kind.TheVariants.{FailedBefore, NoMatchi
 use Rattle.tink_io.specs.declared.error.TinkError.{TinkError}
 use Rattle.stream_model.specs.Key.{StreamKey}
 use Rattle.stream_model.specs.Opening.{IsChosen, OpeningKey, opening_key}
-use Rattle.tink_streaming_aead.specs.Choosing.{Started}
-use Rattle.tink_streaming_aead.specs.Readers.{ReaderState, moment_of, seg_of}
-use Rattle.tink_streaming_aead.specs.StreamSegments.{segment_by}
-use Rattle.tink_streaming_aead.specs.TextReading.{Gives, Moment, ReadMeans}
-use Rattle.tink_streaming_aead.specs.declared.progress.Progress.TheVariants.{Running}
-use Rattle.tink_streaming_aead.specs.declared.stream_segment.StreamSegment.{StreamSegment}
+use Rattle.tink_streams.specs.Choosing.{Started}
+use Rattle.tink_streams.specs.Readers.{ReaderState, moment_of, seg_of}
+use Rattle.tink_segments.specs.StreamSegments.{segment_by}
+use Rattle.tink_streams.specs.TextReading.{Gives, IsDue, Moment, ReadMeans}
+use Rattle.tink_streams.specs.declared.progress.Progress.TheVariants.{Running}
+use Rattle.tink_segments.specs.declared.stream_segment.StreamSegment.{StreamSegment}
 
--- Keys in order with associated data, and none is chosen yet; or the reader of the chosen key; or what the first read was
--- refused by. The source is the reader's.
+-- Keys in order with associated data, and none is chosen yet: nothing is read, and this many bytes have room to be kept; or
+-- the reader of the chosen key; or what the first read was refused by. The source is the reader's.
 pub data DecryptState (S : Type 0) : Type 0 where
-  Unread : List StreamKey → List ℕ → S → DecryptState S
+  Unread : List StreamKey → List ℕ → ℕ → S → DecryptState S
   Chosen : ReaderState S StreamSegment → DecryptState S
   Stopped : Cause → S → DecryptState S
 
 abbrev pub source_of : {S : Type 0} → DecryptState S → S
-source_of (Unread keys aad source) = source
+source_of (Unread keys aad room source) = source
 source_of (Chosen r) = r.source
 source_of (Stopped c source) = source
 
 -- the number of segments opened so far
 abbrev pub number_of : {S : Type 0} → DecryptState S → ℕ
-number_of (Unread keys aad source) = 0
+number_of (Unread keys aad room source) = 0
 number_of (Chosen r) = r.number
 number_of (Stopped c source) = 0
 
+-- the bytes that were read and are kept
+abbrev pub kept_of : {S : Type 0} → DecryptState S → List ℕ
+kept_of (Unread keys aad room source) = []
+kept_of (Chosen r) = r.held
+kept_of (Stopped c source) = []
+
+-- how many bytes have room to be kept
+abbrev pub room_of : {S : Type 0} → DecryptState S → ℕ
+room_of (Unread keys aad room source) = room
+room_of (Chosen r) = r.room
+room_of (Stopped c source) = 0
+
+-- the bytes of the largest segment
+abbrev pub largest : List StreamKey → ℕ
+largest [] = 0
+largest (k ∷ keys) = max k.segment (largest keys)
+
 abbrev pub IsUnread : {S : Type 0} → DecryptState S → Type 0
-IsUnread (Unread keys aad source) = Unit {0}
+IsUnread (Unread keys aad room source) = Unit {0}
 IsUnread _ = ⊥
 
 -- The first key under which the stream begins is chosen, and the read gave bytes of its first text.
@@ -69,6 +86,11 @@ module _ {S : Type 0} (left : S → Option (List ℕ)) (faults : S → ℕ) wher
   FirstMeans keys source (Stopped c now) before after (Err e) = (after ≡ before) × (c ≡ cause_of e.kind) × FirstRefused keys (left source) (faults source) (faults now) e.kind
   FirstMeans keys source _ before after _ = ⊥
 
+  -- where a key is chosen and no segment is due for so much room, nothing was read
+  abbrev pub ReadsNoMore : DecryptState S → DecryptState S → ℕ → Type 0
+  ReadsNoMore (Chosen old) (Chosen new) room = (IsDue (moment_of left faults old) room → ⊥) → (new.source ≡ old.source) × (new.held ≡ old.held)
+  ReadsNoMore _ _ room = Unit {0}
+
   -- what a read says once a key is chosen
   abbrev pub GoesOn : ReaderState S StreamSegment → DecryptState S → List ℕ → List ℕ → Result ℕ TinkError → Type 0
   GoesOn old (Chosen new) before after r =
@@ -77,7 +99,7 @@ module _ {S : Type 0} (left : S → Option (List ℕ)) (faults : S → ℕ) wher
 
   -- what a read says
   abbrev pub DecryptMeans : DecryptState S → DecryptState S → List ℕ → List ℕ → Result ℕ TinkError → Type 0
-  DecryptMeans (Unread keys aad source) new [] after r = (r ≡ Ok 0) × (new ≡ Unread keys aad source) × (after ≡ [])
-  DecryptMeans (Unread keys aad source) new (b ∷ before) after r = FirstMeans (map (opening_key aad) keys) source new (b ∷ before) after r
+  DecryptMeans (Unread keys aad room source) new [] after r = (r ≡ Ok 0) × (new ≡ Unread keys aad room source) × (after ≡ [])
+  DecryptMeans (Unread keys aad room source) new (b ∷ before) after r = FirstMeans (map (opening_key aad) keys) source new (b ∷ before) after r
   DecryptMeans (Chosen old) new before after r = GoesOn old new before after r
   DecryptMeans (Stopped c source) new before after r = (r ≡ Err (record { kind = FailedBefore c })) × (new ≡ Stopped c source) × (after ≡ before)

@@ -1,17 +1,17 @@
 -- The stage of a reader of a keyset's streams, as a contract sees it.
-use Rattle.std.specs.Prelude.{◌≡◌, ℕ, List, [], drop, map, take}
+use Rattle.std.specs.Prelude.{◌≡◌, ℕ, List, [], drop, map, take, vec_len}
 use Rattle.std.specs.declared.option.Option.{Option}
 use Rattle.std.specs.Option.{ForSome}
 use Rattle.std.specs.Io.KnownBytes.{prepend_known}
 use Rattle.tink_streaming_aead.specs.DecryptReaders.{DecryptState}
 use Rattle.tink_streaming_aead.specs.DecryptReaders.DecryptState.{Chosen, Stopped, Unread}
-use Rattle.tink_streaming_aead.specs.StreamKinds.{key_of}
+use Rattle.tink_stream_keys.specs.StreamKinds.{key_of}
 use Rattle.tink_streaming_aead.specs.declared.decrypt_reader.Stage.{Stage}
 use Rattle.tink_streaming_aead.specs.declared.decrypt_reader.Stage.TheVariants as stage
-use Rattle.tink_streaming_aead.specs.declared.progress.Progress.TheVariants.{Ended}
+use Rattle.tink_streams.specs.declared.progress.Progress.TheVariants.{Ended}
 
 abbrev pub state_of : {S : Type 0} → Stage → S → DecryptState S
-state_of (stage.Unread w) source = Unread (map key_of w.keys.items) w.data.items source
+state_of (stage.Unread w) source = Unread (map key_of w.keys.items) w.data.items (vec_len w.trial.kept.buffer) source
 state_of (stage.Chosen t) source = Chosen (record {
   opening = record {
     decrypter = t.reader.opener.decrypter;
@@ -25,6 +25,7 @@ state_of (stage.Chosen t) source = Chosen (record {
   number = t.reader.segments;
   pending = drop t.given t.reader.opened.items;
   held = take t.reader.filled t.reader.buffer.items;
+  room = vec_len t.reader.buffer;
   source = source;
 })
 state_of (stage.Stopped c) source = Stopped c source

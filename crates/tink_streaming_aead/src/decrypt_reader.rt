@@ -6,21 +6,20 @@ ghost use Rattle.std.specs.Io.KnownBytes.{prepend_known};
 ghost use Rattle.stream_model.specs.Cut.{numbered};
 ghost use Rattle.stream_model.specs.Key.{nonce_size};
 ghost use Rattle.stream_model.specs.Opening.{opening_key};
-ghost use Rattle.tink_streaming_aead.specs.DecryptReaders.{DecryptMeans, FirstRefused, GivesFirst, IsUnread, cause_of, first_refusal, number_of, source_of};
+ghost use Rattle.tink_streaming_aead.specs.DecryptReaders.{DecryptMeans, FirstRefused, GivesFirst, IsUnread, cause_of, first_refusal, kept_of, number_of, room_of, source_of, ReadsNoMore};
 ghost use Rattle.tink_streaming_aead.specs.DecryptReaders.DecryptState.{Unread};
-ghost use Rattle.tink_streaming_aead.specs.StreamKinds.{key_of};
-ghost use Rattle.tink_streaming_aead.specs.StreamSegments.{segment_by};
-ghost use Rattle.tink_streaming_aead.specs.TextReading.{Moment};
-ghost use Rattle.tink_streaming_aead.specs.declared.progress.Progress.TheVariants.{Ended};
+ghost use Rattle.tink_stream_keys.specs.StreamKinds.{key_of};
+ghost use Rattle.tink_segments.specs.StreamSegments.{segment_by};
+ghost use Rattle.tink_streams.specs.TextReading.{Moment};
+ghost use Rattle.tink_streams.specs.declared.progress.Progress.TheVariants.{Ended};
 
-use crate::starting::{Trial, start};
-use crate::stream_kind::StreamKind;
-use crate::stream_segment::StreamSegment;
-use crate::text_reader::TextReader;
 use std::marker::Model;
 use std::mem;
 use tink_io::{Cause, Kind, Source, TinkError};
 use tink_primitives::DecryptingRead;
+use tink_segments::StreamSegment;
+use tink_stream_keys::{StreamKind, Trial, start};
+use tink_streams::TextReader;
 
 // The keys of which one may open the stream, with its associated data and memory for the choice.
 #[derive(Drop)]
@@ -84,6 +83,7 @@ fn give_first<S: Source>(
         (λ e. (buf.new ≡ buf.old) × FirstRefused (map (opening_key choice.data.items) (map key_of choice.keys.items))
         (S.left source.old) (S.faults source.old) (S.faults source.new) e.kind) }
     ensures within { IfOk result (λ given. given.1 ≤ length buf.new) }
+    ensures room { IfOk result (λ given. vec_len given.0.reader.buffer ≡ vec_len choice.trial.kept.buffer) }
     ensures at_end { IfOk result (λ given. given.0.reader.progress ≡ Ended
         → ForSome (prepend_known (take given.0.reader.filled given.0.reader.buffer.items) (S.left source.new)) (λ xs. xs ≡ [])) }
     ensures later { S.faults source.old ≤ S.faults source.new }
@@ -122,7 +122,7 @@ fn cause_of(kind: Kind) -> Cause
 impl<S: Source + Drop> DecryptReader<S> {
     // A reader that has read nothing.
     pub(crate) fn unread(choice: Choice, source: S) -> DecryptReader<S>
-        ensures { result ≡ Unread (map key_of choice.keys.items) choice.data.items source }
+        ensures { result ≡ Unread (map key_of choice.keys.items) choice.data.items (vec_len choice.trial.kept.buffer) source }
     {
         DecryptReader {
             source,
@@ -141,6 +141,9 @@ impl<S: Source + Drop> DecryptReader<S> {
     pub fn read(&mut self, buf: &mut [u8]) -> Result<usize, TinkError>
         ensures answer { DecryptMeans S.left S.faults self.old self.new buf.old buf.new result }
         ensures within { IfOk result (λ n. n ≤ length buf.new) }
+        ensures idle { ReadsNoMore S.left S.faults self.old self.new (length buf.old) }
+        ensures kept { length (kept_of self.new) ≤ room_of self.new }
+        ensures room { room_of self.new ≤ room_of self.old }
         ensures later { S.faults (source_of self.old) ≤ S.faults (source_of self.new) }
         ensures same { S.same (source_of self.old) (source_of self.new) }
     {
@@ -163,6 +166,9 @@ impl<S: Source + Drop> DecryptReader<S> {
         requires some { 0 < length buf.old }
         ensures answer { DecryptMeans S.left S.faults self.old self.new buf.old buf.new result }
         ensures within { IfOk result (λ n. n ≤ length buf.new) }
+        ensures idle { ReadsNoMore S.left S.faults self.old self.new (length buf.old) }
+        ensures kept { length (kept_of self.new) ≤ room_of self.new }
+        ensures room { room_of self.new ≤ room_of self.old }
         ensures later { S.faults (source_of self.old) ≤ S.faults (source_of self.new) }
         ensures same { S.same (source_of self.old) (source_of self.new) }
     {
@@ -201,7 +207,17 @@ impl<S: Source + Drop> DecryptReader<S> {
 }
 
 impl<S: Source + Drop> DecryptingRead for DecryptReader<S> {
-    fn read(&mut self, buf: &mut [u8]) -> Result<usize, TinkError> {
+    ghost use Rattle.std.specs.Io.{ReadsAtMost};
+
+    fn read(&mut self, buf: &mut [u8]) -> Result<usize, TinkError>
+        ensures bound { ReadsAtMost result buf.new }
+        ensures answer { DecryptMeans S.left S.faults self.old self.new buf.old buf.new result }
+        ensures idle { ReadsNoMore S.left S.faults self.old self.new (length buf.old) }
+        ensures kept { length (kept_of self.new) ≤ room_of self.new }
+        ensures room { room_of self.new ≤ room_of self.old }
+        ensures later { S.faults (source_of self.old) ≤ S.faults (source_of self.new) }
+        ensures same { S.same (source_of self.old) (source_of self.new) }
+    {
         DecryptReader::read(self, buf)
     }
 }

@@ -1,41 +1,49 @@
 //! The streaming AEADs of a keyset as one.
 
-ghost use Rattle.std.specs.Prelude.{◌≡◌, ◌≤◌, [], None, true, is_some, map, All, IfOk, IfErr, MatchResult};
+ghost use Rattle.std.specs.Prelude.{◌≡◌, ◌≤◌, ◌+◌, [], None, true, is_some, map, max, vec_len, All, IfOk, IfErr, MatchResult};
 ghost use Rattle.tink_io.specs.declared.error.Kind.TheVariants.{OutOfMemory};
+ghost use Rattle.stream_model.specs.Key.{IsUsable};
 ghost use Rattle.tink_primitives.specs.Sorts.{as_streaming_aead};
-ghost use Rattle.tink_sets.specs.Entries.{entry_of, typed_prefix_of};
+ghost use Rattle.tink_sets.specs.Entries.{entry_of};
 ghost use Rattle.tink_sets.specs.Groups.{group_of};
-ghost use Rattle.tink_keysets.specs.Built.{built_entries, GivesSet, HasEntries};
+ghost use Rattle.tink_keysets.specs.Built.{built_entries, GivesSet};
 ghost use Rattle.tink_factory.specs.Typing.{typed_entries};
+ghost use Rattle.tink_streaming_aead.specs.DecryptReaders.{largest};
 ghost use Rattle.tink_streaming_aead.specs.DecryptReaders.DecryptState.{Unread};
-ghost use Rattle.tink_streaming_aead.specs.Encrypting.{NewWriterMeans};
-ghost use Rattle.tink_streaming_aead.specs.StreamKinds.{key_of};
-ghost use Rattle.tink_streaming_aead.specs.Wrapped.{ByPrimary, raw_keys};
+ghost use Rattle.tink_stream_keys.specs.Encrypting.{NewWriterMeans};
+ghost use Rattle.tink_stream_keys.specs.StreamKinds.{key_of};
+ghost use Rattle.tink_streaming_aead.specs.Wrapped.{ByPrimary, keys_in, keys_of_entries};
 
-use crate::ctr_hmac_segment::AES_CTR_HMAC_NONCE_SIZE_IN_BYTES;
 use crate::decrypt_reader::{Choice, DecryptReader};
-use crate::encrypting::new_encrypting_writer;
-use crate::starting::Trial;
-use crate::stream_kind::StreamKind;
-use crate::stream_params::DerivesStreams;
-use crate::stream_segment::StreamSegment;
-use crate::writer::Writer;
 use std::alloc::Global;
+use std::marker::Model;
 use tink_core::CloneIn;
 use tink_factory::typed_primitives;
 use tink_io::{Draws, Sink, Source, TinkError};
 use tink_keysets::keyset::Handle;
 use tink_primitives::{Kinds, Refused, StreamingAead};
 use tink_registry::{KeyManager, Registry};
+use tink_segments::{AES_CTR_HMAC_NONCE_SIZE_IN_BYTES, StreamSegment};
 use tink_sets::sorts::StreamingAeads;
 use tink_sets::{TypedEntry, TypedPrimitiveSet};
+use tink_stream_keys::{DerivesStreams, StreamKind, Trial, new_encrypting_writer};
+use tink_streams::Writer;
 
 /// The streaming AEADs of a keyset as one: streams are made by the primary key, and opened by the first of the keys
-/// without a prefix under which they begin. A contract sees the set of the keys' entries, `ps`, which has a primary one.
+/// without a prefix under which they begin. A contract sees the primary key, which there is, and the keys without a prefix,
+/// in their order.
 #[derive(Drop)]
 pub struct WrappedStreamingAead {
     ps: TypedPrimitiveSet<StreamKind>,
     ghost has_primary: { is_some ps.primary ≡ true },
+}
+
+impl Model for WrappedStreamingAead {
+    ghost use Rattle.tink_streaming_aead.specs.Wrapped.{Wrapped, set_keys};
+
+    ghost Value = { Wrapped };
+
+    ghost view = { λ w. set_keys w.ps.primary w.ps.entries };
 }
 
 /// The streaming AEADs of a handle's enabled keys as one.
@@ -50,7 +58,8 @@ pub fn new<M: KeyManager>(
 ) -> Result<WrappedStreamingAead, TinkError>
 where
     M::Family: Kinds<StreamingAead = StreamKind>,
-    ensures { GivesSet (λ es w. HasEntries typed_prefix_of (λ e. e.key_id) h.now.primary_key_id es w.ps.primary w.ps.entries) result (typed_entries as_streaming_aead h.now.primary_key_id (built_entries M.url M.supports M.builds entry_of registry.now.managers None h.now)) }
+    ensures { GivesSet (λ entries w. w ≡ keys_of_entries h.now.primary_key_id entries) result (
+        typed_entries as_streaming_aead h.now.primary_key_id (built_entries M.url M.supports M.builds entry_of registry.now.managers None h.now)) }
 {
     match typed_primitives::<M, StreamingAeads>(alloc, h, registry) {
         Ok(ps) => Ok(WrappedStreamingAead { ps }),
@@ -83,16 +92,21 @@ fn copied_keys(
     Ok(keys)
 }
 
+fn greater(a: u32, b: u32) -> u32
+    ensures { result ≡ max a b }
+{
+    if a < b { b } else { a }
+}
+
 // The bytes of the largest segment.
 fn largest_segment<T: DerivesStreams>(keys: &[T]) -> u32
-    ensures { All (λ k. (T.key_of k).segment ≤ result) keys.now }
+    ensures most { All (λ k. (T.key_of k).segment ≤ result) keys.now }
+    ensures value { result ≡ largest (map T.key_of keys.now) }
+    ensures usable { All IsUsable (map T.key_of keys.now) }
 {
     let mut largest = 0;
     for key in keys {
-        let segment = key.segment_size();
-        if largest < segment {
-            largest = segment;
-        }
+        largest = greater(largest, key.segment_size());
     }
     largest
 }
@@ -105,6 +119,8 @@ pub fn choice_of(
 ) -> Result<Choice, TinkError>
     ensures keys { IfOk result (λ c. c.keys.items ≡ map (λ e. e.primitive) entries.now) }
     ensures data { IfOk result (λ c. c.data.items ≡ aad.now) }
+    ensures usable { IfOk result (λ _. All IsUsable (keys_in entries.now)) }
+    ensures room { IfOk result (λ c. vec_len c.trial.kept.buffer ≡ largest (keys_in entries.now) + 1) }
     ensures cause { IfErr result (λ e. e.kind ≡ OutOfMemory) }
 {
     let keys = copied_keys(alloc, entries)?;
@@ -133,7 +149,7 @@ impl WrappedStreamingAead {
         w: K,
         additional_data: &[u8],
     ) -> Result<Writer<K, StreamSegment>, Refused<K>>
-        ensures answer { ByPrimary self.now.ps.primary (λ k. NewWriterMeans K.got K.faults k additional_data.now draws.old draws.new w result) }
+        ensures answer { ByPrimary self.now.primary (λ k. NewWriterMeans K.got K.faults k additional_data.now draws.old draws.new w result) }
         ensures later { MatchResult result (λ made. K.faults w ≤ K.faults made.sink) (λ refused. K.faults w ≤ K.faults refused.inner) }
         ensures same { MatchResult result (λ made. K.same w made.sink) (λ refused. K.same w refused.inner) }
     {
@@ -146,7 +162,8 @@ impl WrappedStreamingAead {
     }
 
     /// A reader of the stream in `r` by the keys without a prefix, in their order, of which it has copies. Nothing is
-    /// read, and all memory is taken.
+    /// read, and all memory is taken: as long as no key is chosen, a byte more than the largest of their segments is kept
+    /// at most.
     ///
     /// # Errors
     /// `OutOfMemory`, which hands back `r`.
@@ -156,7 +173,8 @@ impl WrappedStreamingAead {
         r: S,
         additional_data: &[u8],
     ) -> Result<DecryptReader<S>, Refused<S>>
-        ensures unread { IfOk result (λ made. made ≡ Unread (raw_keys self.now.ps.entries) additional_data.now r) }
+        ensures unread { IfOk result (λ made. made ≡ Unread self.now.raw additional_data.now (largest self.now.raw + 1) r) }
+        ensures usable { IfOk result (λ _. All IsUsable self.now.raw) }
         ensures cause { IfErr result (λ refused. refused.error.kind ≡ OutOfMemory) }
         ensures inner { IfErr result (λ refused. refused.inner ≡ r) }
     {

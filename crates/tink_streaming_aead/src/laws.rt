@@ -1,33 +1,65 @@
-ghost use Rattle.std.specs.Prelude.{◌≡◌, ◌<◌, ◌++◌, ℕ, Bool, true, List, length};
+ghost use Rattle.std.specs.Prelude.{◌≡◌, ◌≤◌, ◌^◌, ◌++◌, ◌∷◌, ℕ, Bool, List, [], All, None, Some, length, map, take};
 ghost use Rattle.std.specs.declared.option.Option.{Option};
 ghost use Rattle.std.specs.Io.KnownBytes.{Appends};
-ghost use Rattle.stream_model.specs.Cut.{full_chunks, open_chunk, sealed, unmarked};
-ghost use Rattle.stream_model.specs.Key.{StreamKey};
-ghost use Rattle.stream_model.specs.Sealing.{prefix_of, salt_of, stream};
-ghost use Rattle.tink_streaming_aead.specs.Encrypting.{IsNewStream};
-ghost use Rattle.tink_streaming_aead.specs.Full.{AreFull};
-ghost use Rattle.tink_streaming_aead.specs.Writing.{ClosedBy, Moment, Wrote};
-
-/// A stream depends on its text alone, however the text is cut into writes: the writes of one text
-/// and then of another are the write of both at once.
-pub fn law_any_cutting()
-    ensures joined { (seg : ℕ → Bool → List ℕ → List ℕ) (a b : ℕ) (first between last : Moment) (text more : List ℕ) → 0 < a → 0 < b
-        → Wrote seg a b first between text → Wrote seg a b between last more → Wrote seg a b first last (text ++ more) }
-{}
-
-/// The segments of a text, the first with room for `a` bytes and each later one for `b`: all but the
-/// last are unmarked and full, and the marked last one is empty for the empty text alone.
-pub fn law_full_segments()
-    ensures parts { (seg : ℕ → Bool → List ℕ → List ℕ) (a b : ℕ) (text : List ℕ)
-        → sealed seg a b text ≡ unmarked seg 0 (full_chunks a b text) ++ seg (length (full_chunks a b text)) true (open_chunk a b text) }
-    ensures full { (a b : ℕ) (text : List ℕ) → 0 < a → 0 < b → AreFull a b (full_chunks a b text) }
-    ensures last { (a b : ℕ) (text : List ℕ) → 0 < a → 0 < b → 0 < length text → 0 < length (open_chunk a b text) }
-{}
+ghost use Rattle.stream_model.specs.Agree.{joined};
+ghost use Rattle.stream_model.specs.Cut.{chunks};
+ghost use Rattle.stream_model.specs.Key.{IsUsable, StreamKey, first_room, keys_of, room};
+ghost use Rattle.stream_model.specs.Opening.{IsChosen, IsStream, OpeningKey, opening_key};
+ghost use Rattle.stream_model.specs.Sealing.{chunk_count, prefix_of, salt_of, stream};
+ghost use Rattle.tink_streams.specs.TextReading.{AtEnd, Gave};
+ghost use Rattle.tink_streams.specs.TextReading as reading;
+ghost use Rattle.tink_streams.specs.Writing.{ClosedBy, Moment, Wrote};
+ghost use Rattle.tink_streaming_aead.specs.DecryptReaders.{GivesFirst};
+ghost use Rattle.tink_stream_keys.specs.Decrypting.{IsNewReader};
+ghost use Rattle.tink_stream_keys.specs.Encrypting.{IsNewStream};
+ghost use Rattle.tink_streaming_aead.specs.WholeReading.{IsTextOfChosen, IsTextOfStream};
 
 /// A new writer that is given a text, however the text is cut into writes, and is closed has written exactly the stream of
-/// the text: the front under the first draws, and then a segment for each chunk, the last one marked.
+/// the text: the front under the first draws, and then a segment for each chunk, the last one marked. One that is closed
+/// before any write has written the stream of the empty text.
 pub fn law_whole_stream()
     ensures whole { (k : StreamKey) (aad draws left : List ℕ) (before : Option (List ℕ)) (seg : ℕ → Bool → List ℕ → List ℕ) (first later : ℕ) (m n o : Moment) (text : List ℕ)
         → IsNewStream k aad draws left before seg first later m → Wrote seg first later m n text → ClosedBy seg n o
         → Appends before o.got (stream k aad (salt_of k draws) (prefix_of k draws) text) }
+    ensures unwritten { (k : StreamKey) (aad draws left : List ℕ) (before : Option (List ℕ)) (seg : ℕ → Bool → List ℕ → List ℕ) (first later : ℕ) (m o : Moment)
+        → IsNewStream k aad draws left before seg first later m → ClosedBy seg m o
+        → Appends before o.got (stream k aad (salt_of k draws) (prefix_of k draws) []) }
+{}
+
+/// The first read of a keyset's reader that is Ok has chosen the first key under which the stream begins, and has given the
+/// front of the text of the key's segments behind the header. Later reads go on from there, as `law_whole_text` says.
+pub fn law_first_read()
+    ensures gave { (keys : List OpeningKey) (all : Option (List ℕ)) (seg : ℕ → Bool → List ℕ → List ℕ) (a b overhead : ℕ) (new : reading.Moment) (before after : List ℕ) (n : ℕ)
+        → (first : GivesFirst keys all seg a b overhead new before after n) → Gave seg a b first.rest (take n after) new }
+{}
+
+/// What reads up to the end have given: of a key's reader, the whole source was a stream of the key; of a keyset's reader,
+/// it was a stream of the first of the keys under which it begins. What was given is the texts of the stream, joined.
+pub fn law_whole_reading()
+    ensures key { (k : StreamKey) (aad : List ℕ) (all : Option (List ℕ)) (seg : ℕ → Bool → List ℕ → List ℕ) (a b overhead : ℕ) (held given : List ℕ) (m n : reading.Moment)
+        → IsUsable k → IsNewReader k aad all seg a b overhead held m → Gave seg a b m.rest given n → AtEnd n
+        → IsTextOfStream (opening_key aad k) all given }
+    ensures keyset { (keys : List StreamKey) (aad : List ℕ) (all : Option (List ℕ)) (seg : ℕ → Bool → List ℕ → List ℕ) (a b overhead : ℕ) (m n : reading.Moment) (before after given : List ℕ) (count : ℕ)
+        → All IsUsable keys → (first : GivesFirst (map (opening_key aad) keys) all seg a b overhead m before after count)
+        → Gave seg a b first.rest given n → AtEnd n → IsTextOfChosen (map (opening_key aad) keys) all given }
+{}
+
+/// A stream that was sealed with a key opens to its text: it is a stream of the key with the chunks of the text, which make
+/// the text when they are joined; a stream has one list of texts, and so what was read of a sealed stream up to its end is
+/// the text that was sealed; and of some keys this one is chosen where none before it begins the stream.
+pub fn law_sealed_opens()
+    ensures stream { (k : StreamKey) (aad salt prefix keys text : List ℕ) → IsUsable k → k.out ≡ [] → length salt ≡ k.derived → length prefix ≡ 7
+        → keys_of k aad salt ≡ Some keys → chunk_count k text ≤ 2 ^ 32
+        → IsStream (opening_key aad k) (stream k aad salt prefix text) (chunks (first_room k) (room k) text) }
+    ensures text { (k : StreamKey) (text : List ℕ) → IsUsable k → joined (chunks (first_room k) (room k) text) ≡ text }
+    ensures one { (k : StreamKey) (aad S : List ℕ) (texts others : List (List ℕ)) → IsUsable k → IsStream (opening_key aad k) S texts → IsStream (opening_key aad k) S others
+        → others ≡ texts }
+    ensures read { (k : StreamKey) (aad salt prefix keys text given : List ℕ) → IsUsable k → k.out ≡ [] → length salt ≡ k.derived → length prefix ≡ 7
+        → keys_of k aad salt ≡ Some keys → chunk_count k text ≤ 2 ^ 32
+        → IsTextOfStream (opening_key aad k) (Some (stream k aad salt prefix text)) given → given ≡ text }
+    ensures chosen { (k : StreamKey) (aad S : List ℕ) (texts : List (List ℕ)) (earlier others : List OpeningKey) → IsUsable k → IsStream (opening_key aad k) S texts
+        → IsChosen earlier S None → IsChosen (earlier ++ opening_key aad k ∷ others) S (Some (opening_key aad k)) }
+    ensures read_chosen { (k : StreamKey) (aad salt prefix keys text given : List ℕ) (earlier others : List OpeningKey) → IsUsable k → k.out ≡ [] → length salt ≡ k.derived → length prefix ≡ 7
+        → keys_of k aad salt ≡ Some keys → chunk_count k text ≤ 2 ^ 32 → IsChosen earlier (stream k aad salt prefix text) None
+        → IsTextOfChosen (earlier ++ opening_key aad k ∷ others) (Some (stream k aad salt prefix text)) given → given ≡ text }
 {}

@@ -1,0 +1,12 @@
+use Rattle.std.proofs.Common.{ap, length, subst, sym, ◌∙◌}
+use Rattle.tink_streaming_aead.specs.DecryptReaders.{DecryptState, ReadsNoMore}
+use Rattle.tink_streaming_aead.specs.DecryptStages.{state_of}
+use Rattle.tink_streaming_aead.specs.declared.decrypt_reader.Stage.{Stage}
+use Rattle.tink_streaming_aead.specs.declared.decrypt_reader.Stage.TheVariants.{Chosen}
+use Rattle.tink_streaming_aead.proofs.decrypt_reader.DecryptReader.read.Goals as goal
+
+pub returns-in-Chosen-clause-idle : goal.returns-in-Chosen-clause-idle
+returns-in-Chosen-clause-idle g c =
+    let new : DecryptState g.row.S.Denot = state_of (Chosen c.read.new.self) c.read.new.source in
+    subst (λ (s : DecryptState g.row.S.Denot). ReadsNoMore g.S.Source.left g.S.Source.faults s new (length c.args.buf.now))
+    (ap (λ (st : Stage). state_of st c.self.inside.source) (sym c.in-Chosen.is) ∙ c.self.view_is) c.read.ensures.idle
