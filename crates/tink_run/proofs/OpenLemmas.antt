@@ -2,6 +2,7 @@
 use Rattle.std.proofs.Common.{◌≡◌, inl, inr, ◌≤◌, ◌<◌, ◌+◌, ◌-◌, ℕ, zero, suc, Bool, true, false, cond, List, [], ◌∷◌, ◌++◌, length, take, drop, map, refl, sym, ap, subst, ◌∙◌, arith, Some, None, length-append, filter}
 use Rattle.std.specs.declared.option.Option.{Option}
 use Rattle.std.specs.Prelude.{Result, Ok, Err, IsSome, slice_index_or}
+use Rattle.std.proofs.KnownBytes.{Keeps-refl}
 use Rattle.std.specs.Io.KnownBytes.{Appends, Keeps, IsAtEnd}
 use Rattle.tink_io.specs.declared.error.Kind.{Kind}
 use Rattle.tink_io.specs.declared.error.Kind.TheVariants.{OutOfMemory, ReadFault, WriteFault, BadKeyset, InvalidKeyset, UnsupportedKeyType, InvalidKey, NoPrimary, TooManySegments, NoMatchingKey, BadSegment, Truncated}
@@ -148,19 +149,15 @@ agreed_leads keys S k (t ∷ ts) c a some = (k, c, go (k.seg (take k.header S)) 
     go None h = absurd (cc)
     go (Some seg) h = h.are
 
-untouched_agreeing : (keyset aad S : List ℕ) (old new : Outside) → IsUntouched old new → IsOfAgreeing keyset aad S old new
-untouched_agreeing keyset aad S old new u = record {
-  under_a_key = λ m k all p q r. kept_front old.got new.got (joined all) u.got;
-  under_none = λ m p q. u.got;
-  unloaded = λ kind p. u.got;
-}
-
 kept_agreeing : (keyset aad S : List ℕ) (old new : Outside) → Keeps old.got new.got → IsOfAgreeing keyset aad S old new
 kept_agreeing keyset aad S old new u = record {
   under_a_key = λ m k all p q r. kept_front old.got new.got (joined all) u;
   under_none = λ m p q. u;
   unloaded = λ kind p. u;
 }
+
+untouched_agreeing : (keyset aad S : List ℕ) (old new : Outside) → IsUntouched old new → IsOfAgreeing keyset aad S old new
+untouched_agreeing keyset aad S old new u = kept_agreeing keyset aad S old new (subst (λ (m : Outside). Keeps old.got m.got) (sym u) (Keeps-refl old.got))
 
 -- whatever an open answers, it has written only texts that agree
 pub stream_agreeing : (keyset aad S G : List ℕ) (l : Loaded) (old new : Outside) (kind : Kind) → load keyset ≡ Ok l → Told old S G → StreamRefused (opening_keys aad l) old new kind → IsOfAgreeing keyset aad S old new

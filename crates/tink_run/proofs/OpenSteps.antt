@@ -17,6 +17,7 @@ use Rattle.tink_streaming_aead.proofs.ChosenFacts.{chosen_begins, chunks_are, st
 use Rattle.loading_model.specs.Loading.{Loaded, load}
 use Rattle.tink_run.specs.declared.report.Report.{Report}
 use Rattle.tink_run.specs.Outside.{Outside}
+use Rattle.tink_run.specs.Run.{IsEarly, LeavesEnds}
 use Rattle.tink_run.specs.OpenAnswers.{IsOfChosen, AgreesUntil, Lead, AreTextsBy, chunk_of, IsOpened, IsBroken, StreamRefused, StreamMeans, Opening, OpenMeans, OpenRefused, opening_keys}
 use Rattle.tink_run.specs.OpenSteps.{IsReadOut, Breaks, HasShort, HasLong, HasMore, ReaderRefused, ReaderMeans, UnderRefused, OpensUnder}
 use Rattle.tink_run.proofs.OpenLemmas.{kept_front}
@@ -159,6 +160,20 @@ under_keyset keyset aad draws l old new (Err err) e u = go err.kind refl u
     go (BadSegment n) same r = opened (BadSegment n) same r
     go (Truncated n) same r = opened (Truncated n) same r
     go _ same r = absurd r
+
+-- an open that has begun to read is not refused early
+pub leaves_under : {S K : Type 0} (keys : List OpeningKey) (old new : Outside) (answer : Result Report TinkError) (s t : S) (k l : K) → StreamMeans keys old new answer → LeavesEnds answer s t k l
+leaves_under keys old new (Ok report) s t k l m = tt
+leaves_under keys old new (Err e) s t k l m = go e.kind m
+  where
+    go : (kind : Kind) → StreamRefused keys old new kind → IsEarly kind → (t ≡ s) × (l ≡ k)
+    go NoMatchingKey m early = absurd early
+    go (Truncated n) m early = absurd early
+    go (BadSegment n) m early = absurd early
+    go TooManySegments m early = absurd early
+    go ReadFault m early = absurd early
+    go WriteFault m early = absurd early
+    go _ m early = absurd m
 
 -- what opening under keys says besides want of memory
 pub opens_under : (ks : List OpeningKey) (old new : Outside) (r : Result Report TinkError) → StreamMeans ks old new r → OpensUnder ks old new r

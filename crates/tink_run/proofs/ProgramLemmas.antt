@@ -1,8 +1,7 @@
 -- From the answer of a run to the outcome of the program, its status and its promises.
 use Rattle.std.proofs.Common.{◌≡◌, ◌⊎◌, inl, inr, ◌*◌, ◌≤◌, ◌<◌, ℕ, zero, suc, List, [], length, refl, ap, subst, arith, length-append}
 use Rattle.std.specs.Prelude.{Result, Ok, Err, Option, OnOk, OnErr}
-use Rattle.std.proofs.KnownBytes.{Appends-nil, Appends-kept}
-use Rattle.std.specs.Io.KnownBytes.{Appends, Keeps}
+use Rattle.std.specs.Io.KnownBytes.{Appends}
 use Rattle.tink_io.specs.Faults.{Rose}
 use Rattle.tink_io.specs.Written.{AppendsFront, WritesOrFaults}
 use Rattle.tink_io.specs.declared.error.Kind.{Kind}
@@ -10,7 +9,6 @@ use Rattle.tink_io.specs.declared.error.Kind.TheVariants.{OutOfMemory, RandomFau
 use Rattle.tink_io.specs.declared.error.TinkError.{TinkError}
 use Rattle.stream_model.specs.Key.{IsUsable}
 use Rattle.stream_model.specs.Sealing.{drawn}
-use Rattle.stream_model.specs.Agree.{joined}
 use Rattle.loading_model.specs.Loading.{Loaded, load}
 use Rattle.loading_model.proofs.LoadingFacts.{loaded_usable}
 use Rattle.tink_run.specs.declared.program.Outcome.{Outcome}
@@ -20,8 +18,8 @@ use Rattle.tink_run.specs.declared.report.Command.TheVariants.{Seal, Open}
 use Rattle.tink_run.specs.declared.report.Report.{Report}
 use Rattle.tink_run.specs.Draws.{draws_in}
 use Rattle.tink_run.specs.Outside.{Outside}
-use Rattle.tink_run.specs.Run.{AnswerMeans, IsOfAgreeing, IsOkOrWant}
-use Rattle.tink_run.specs.Program.{kind_status, status_of, answer_outcome, OutcomeMeans, Answered, IsUsage, Ran, Promised, SealsWhole, OpensWhole, WritesAgreeing, SealSucceeds, OpenSucceeds}
+use Rattle.tink_run.specs.Run.{AnswerMeans, IsOkOrWant, LeavesEnds}
+use Rattle.tink_run.specs.Program.{kind_status, status_of, answer_outcome, OutcomeMeans, Answered, IsUsage, Leaves, Ran, Promised, SealsWhole, OpensWhole, WritesAgreeing, SealSucceeds, OpenSucceeds}
 use Rattle.tink_run.specs.Words.{SealWords, OpenWords, SpellNothing}
 use Rattle.tink_run.proofs.WordLemmas.{SameSeal, seal-same, open-same, not_both}
 
@@ -88,29 +86,6 @@ usage_of words old new Done m = record { cause = λ is. cc is; comes = λ nothin
 usage_of words old new Usage m = record { cause = λ _. m.0; comes = λ _. inl refl }
 usage_of words old new (Refused kind) m = record { cause = λ is. absurd (omega (arith, is, kind_status-above kind)); comes = λ nothing. inr (nothing_refused words old new kind m nothing) }
 
--- what stays as it was has grown by a front of anything
-front_of_kept : (a b : Option (List ℕ)) (bs : List ℕ) → Keeps a b → AppendsFront a b bs
-front_of_kept a b bs kept = (0, omega arith, Appends-kept a a b [] (Appends-nil a) kept)
-
-kept_agreeing : (keyset aad S : List ℕ) (old new : Outside) → Keeps old.got new.got → IsOfAgreeing keyset aad S old new
-kept_agreeing keyset aad S old new kept = record {
-  under_a_key = λ loaded key texts loads chosen agreed. front_of_kept old.got new.got (joined texts) kept;
-  under_none = λ loaded loads none. kept;
-  unloaded = λ kind refused. kept;
-}
-
--- want of memory for the words promises little
-pub want_promised : (words : List (List ℕ)) (old new : Outside) (status : ℕ) → Keeps old.got new.got → status ≡ 10 → Promised words old new status
-want_promised words old new status kept is = record {
-  sealed = λ keyset aad seed spelled T G told zero_is. absurd (omega (arith, is, zero_is));
-  opened = λ keyset aad spelled S G told zero_is. absurd (omega (arith, is, zero_is));
-  written = λ keyset aad spelled S G told. kept_agreeing keyset aad S old new kept;
-  succeeds = record {
-    sealing = λ keyset aad seed spelled T G told faultless can. inr is;
-    opening = λ keyset aad spelled S G told faultless can. inr is;
-  };
-}
-
 -- words that spell nothing are promised nothing more
 pub usage_promised : (words : List (List ℕ)) (old new : Outside) (status : ℕ) → SpellNothing words → Promised words old new status
 usage_promised words old new status nothing = record {
@@ -143,6 +118,11 @@ along_seal P k a s l b t same p = subst (λ x. P l b x) same.seed_is (subst (λ 
 
 along_open : (P : List ℕ → List ℕ → Type 0) (k a l b : List ℕ) → (k ≡ l) × (a ≡ b) → P k a → P l b
 along_open P k a l b same p = subst (λ x. P l x) same.1 (subst (λ x. P x a) same.0 p)
+
+-- an outcome leaves what its answer leaves
+pub leaves_by : {S K : Type 0} (answer : Result Report TinkError) (s t : S) (k l : K) → LeavesEnds answer s t k l → Leaves (answer_outcome answer) s t k l
+leaves_by (Ok report) s t k l h = tt
+leaves_by (Err e) s t k l h = h
 
 -- the promises of a seal
 pub seal_promised : (words : List (List ℕ)) (keyset aad seed : List ℕ) (old new : Outside) (answer : Result Report TinkError) → SealWords words keyset aad seed
@@ -181,11 +161,10 @@ ran_along command k a d keyset aad draws old new answer keyset_is aad_is draws_i
     subst (λ x. Ran command keyset aad x old new answer) draws_is (subst (λ x. Ran command keyset x d old new answer) aad_is (subst (λ x. Ran command x a d old new answer) keyset_is ran))
 
 -- a refusal for want of memory before the run
-pub want_ran : (keyset aad draws : List ℕ) (old new : Outside) (e : TinkError) → e.kind ≡ OutOfMemory → Keeps old.left new.left → Keeps old.got new.got
-    → Ran Seal keyset aad draws old new (Err e)
-want_ran keyset aad draws old new e is left got = record {
+pub want_ran : (keyset aad draws : List ℕ) (outside : Outside) (e : TinkError) → e.kind ≡ OutOfMemory → Ran Seal keyset aad draws outside outside (Err e)
+want_ran keyset aad draws outside e is = record {
   left_draws = draws;
-  means = rw is (record { untouched = record { left = left; got = got }; undrawn = refl });
+  means = rw is (record { untouched = refl; undrawn = refl });
   ok = tt;
   written = tt;
   succeeds = λ T G told faultless can. is;

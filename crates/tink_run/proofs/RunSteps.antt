@@ -1,6 +1,5 @@
 -- From the answers of loading, sealing and opening to what a run answers.
 use Rattle.std.proofs.Common.{◌≡◌, inl, inr, ℕ, List, [], ◌∷◌, length, refl, sym, subst}
-use Rattle.std.proofs.KnownBytes.{Keeps-refl}
 use Rattle.std.proofs.lemmas.Bool.{cond_both}
 use Rattle.std.specs.Prelude.{Result, Ok, Err, Option, Some, None, nat_eq, map}
 use Rattle.std.specs.List.{filter}
@@ -27,7 +26,7 @@ use Rattle.tink_run.specs.OpenAnswers.{OpenRefused, is_raw}
 use Rattle.tink_run.specs.OpenSteps.{OpensUnder}
 use Rattle.tink_run.proofs.OpenSteps.{under_keyset}
 use Rattle.tink_run.specs.Outside.{Outside, IsUntouched}
-use Rattle.tink_run.specs.Run.{AnswerMeans}
+use Rattle.tink_run.specs.Run.{AnswerMeans, LeavesEnds}
 use Rattle.tink_run.specs.SealAnswers.{SealRefused}
 
 -- the kinds by which loading refuses
@@ -112,7 +111,12 @@ not_loaded Open keyset aad draws old new e u (inl m) = (subst (OpenRefused keyse
 not_loaded Open keyset aad draws old new e u (inr l) = (open_unloaded keyset aad draws old new e e.kind u l (load_refuses keyset e.kind l), refl)
 
 pub untouched : (m : Outside) → IsUntouched m m
-untouched m = record { left = Keeps-refl m.left; got = Keeps-refl m.got }
+untouched m = refl
+
+-- ends that stay as they were are left so by every answer
+pub leaves_same : {S K : Type 0} (answer : Result Report TinkError) (source : S) (sink : K) → LeavesEnds answer source source sink sink
+leaves_same (Ok report) source sink = tt
+leaves_same (Err e) source sink = λ early. (refl, refl)
 
 -- an open under the raw keys is an open under the keyset
 pub opens_keyset : (keyset aad draws : List ℕ) (l : Loaded) (keys : List LoadedKey) (old new : Outside) (answer : Result Report TinkError) → load keyset ≡ Ok l → keys ≡ l.keys

@@ -2,8 +2,8 @@
 use Rattle.std.proofs.Common.{◌≡◌, inl, inr, ◌≤◌, ◌<◌, ◌-◌, ◌^◌, ℕ, Bool, List, [], ◌++◌, length, take, refl, sym, ap, subst, ◌∙◌, arith, Some}
 use Rattle.std.specs.declared.option.Option.{Option}
 use Rattle.std.specs.Prelude.{Result, Ok, Err}
-use Rattle.std.specs.Io.KnownBytes.{Appends, Consumes, IsAtEnd, Keeps}
-use Rattle.std.proofs.KnownBytes.{Appends-trans, Consumes-nil, Keeps-refl}
+use Rattle.std.specs.Io.KnownBytes.{Appends, Consumes, IsAtEnd}
+use Rattle.std.proofs.KnownBytes.{Appends-trans, Consumes-nil}
 use Rattle.tink_io.specs.Faults.{Rose}
 use Rattle.tink_io.specs.Written.{AppendsFront}
 use Rattle.tink_io.proofs.FaultLemmas.{Rose-later, Rose-earlier}
@@ -23,6 +23,7 @@ use Rattle.tink_streaming_aead.proofs.WritingFacts.{IsFresh, fresh_filled, close
 use Rattle.loading_model.specs.Loading.{Loaded, load}
 use Rattle.tink_run.specs.declared.report.Report.{Report}
 use Rattle.tink_run.specs.Outside.{Outside, IsUntouched}
+use Rattle.tink_run.specs.Run.{IsEarly, LeavesEnds}
 use Rattle.tink_run.specs.SealAnswers.{IsSealed, SourceFailed, SinkFailed, IsTooLong, StreamMeans, StreamRefused, SealMeans, SealRefused}
 use Rattle.tink_run.specs.SealSteps.{HasNoKeys, IsPoured, PourRefused, IsUnderWay, UnderMeans, UnderRefused, kind_not_begun}
 
@@ -214,7 +215,9 @@ module _ {W : Type 0} (got : W → Option (List ℕ)) (faults : W → ℕ) (k : 
   after = record { left = left; read_faults = reads; got = got new; write_faults = faults new }
 
   untouched : new ≡ old → IsUntouched before after
-  untouched s = record { left = Keeps-refl left; got = subst (λ (w : W). Keeps (got old) (got w)) (sym s) (Keeps-refl (got old)) }
+  untouched s =
+      let at : W → Outside = λ w. record { left = left; read_faults = reads; got = got w; write_faults = faults w } in
+      ap at s
 
   refusal : (kind : Kind) → NewWriterRefused got faults k aad draws left_draws old new kind
       → UnderMeans k aad draws left_draws before after (Err (record { kind = kind_not_begun kind }))
@@ -233,6 +236,38 @@ module _ {W : Type 0} (got : W → Option (List ℕ)) (faults : W → ℕ) (k : 
   pub begin_refusal : (kind : Kind) (e : TinkError) → e ≡ record { kind = kind_not_begun kind } → NewWriterRefused got faults k aad draws left_draws old new kind
       → UnderMeans k aad draws left_draws (record { left = left; read_faults = reads; got = got old; write_faults = faults old }) (record { left = left; read_faults = reads; got = got new; write_faults = faults new }) (Err e)
   begin_refusal kind e same r = subst (λ (x : TinkError). UnderMeans k aad draws left_draws before after (Err x)) (sym same) (refusal kind r)
+
+  -- where the refusal is early, the sink is as it was
+  pub begin_leaves : {S : Type 0} (source : S) (kind : Kind) (e : TinkError) → e ≡ record { kind = kind_not_begun kind } → NewWriterRefused got faults k aad draws left_draws old new kind
+      → LeavesEnds (Err e) source source old new
+  begin_leaves source kind e same r = subst (λ (x : TinkError). LeavesEnds (Err x) source source old new) (sym same) (go kind r)
+    where
+      go : (kind : Kind) → NewWriterRefused got faults k aad draws left_draws old new kind → IsEarly (kind_not_begun kind) → (source ≡ source) × (new ≡ old)
+      go OutOfMemory r early = (refl, r.same)
+      go RandomFault r early = (refl, r.untouched.same)
+      go UnknownHash r early = (refl, r.same)
+      go UnsupportedHash r early = (refl, r.same)
+      go WriteFault r early = absurd early
+      go _ r early = absurd r
+
+-- a seal that has begun to read is not refused early
+pub pour_leaves : {S K : Type 0} (seg : ℕ → Bool → List ℕ → List ℕ) (a b : ℕ) (before after : Option (List ℕ)) (reads again : ℕ) (m n : Moment) (e : TinkError) (s t : S) (k l : K)
+    → PourRefused seg a b before after reads again m n e.kind → LeavesEnds (Err e) s t k l
+pour_leaves seg a b before after reads again m n e s t k l r = go e.kind r
+  where
+    go : (kind : Kind) → PourRefused seg a b before after reads again m n kind → IsEarly kind → (t ≡ s) × (l ≡ k)
+    go ReadFault r early = absurd early
+    go WriteFault r early = absurd early
+    go TooManySegments r early = absurd early
+    go _ r early = absurd r
+
+pub close_leaves : {S K : Type 0} (seg : ℕ → Bool → List ℕ → List ℕ) (m n : Moment) (e : TinkError) (s t : S) (k l : K) → CloseRefused seg m n e.kind → LeavesEnds (Err e) s t k l
+close_leaves seg m n e s t k l r = go e.kind r
+  where
+    go : (kind : Kind) → CloseRefused seg m n kind → IsEarly kind → (t ≡ s) × (l ≡ k)
+    go WriteFault r early = absurd early
+    go (FailedBefore c) r early = absurd early
+    go _ r early = absurd r
 
 -- a stream that was begun
 module _ (k : StreamKey) (aad draws left_draws : List ℕ) (got : Option (List ℕ)) (seg : ℕ → Bool → List ℕ → List ℕ) (a b : ℕ) (m : Moment) (begun : IsNewStream k aad draws left_draws got seg a b m) where

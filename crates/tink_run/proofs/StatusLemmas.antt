@@ -11,8 +11,8 @@ use Rattle.tink_run.specs.declared.report.Command.TheVariants.{Seal, Open}
 use Rattle.tink_run.specs.declared.report.Report.{Report}
 use Rattle.tink_run.specs.Draws.{draws_in}
 use Rattle.tink_run.specs.Outside.{Outside, IsUntouched}
-use Rattle.tink_run.specs.Run.{AnswerMeans}
-use Rattle.tink_run.specs.Program.{kind_status, status_of, OutcomeMeans, Answered, HasCause, HasOwnStatus, IsAmong, seal_statuses, open_statuses, SpellKeyset, RefusesUnloaded}
+use Rattle.tink_run.specs.Run.{AnswerMeans, IsEarly}
+use Rattle.tink_run.specs.Program.{kind_status, status_of, OutcomeMeans, Answered, HasCause, HasOwnStatus, IsAmong, Leaves, early_statuses, seal_statuses, open_statuses, SpellKeyset, RefusesUnloaded}
 use Rattle.tink_run.specs.Words.{SealWords, OpenWords, SpellNothing}
 use Rattle.tink_run.proofs.WordLemmas.{seal-same, open-same, not_both}
 
@@ -80,6 +80,24 @@ cause_of words old new (Refused kind) m = record {
   read_fault = read_cause words old new kind m;
   write_fault = write_cause words old new kind m;
 }
+
+early_kind : (kind : Kind) → IsAmong early_statuses (kind_status kind) → IsEarly kind
+early_kind OutOfMemory is = tt
+early_kind BadKeyset is = tt
+early_kind InvalidKeyset is = tt
+early_kind UnsupportedKeyType is = tt
+early_kind InvalidKey is = tt
+early_kind NoPrimary is = tt
+early_kind UnsupportedHash is = tt
+early_kind RandomFault is = tt
+early_kind _ is = absurd (cc is)
+
+-- what a status of an early refusal leaves as it was
+pub early_of : {S K : Type 0} (outcome : Outcome) (source after : S) (sink sink_after : K) → Leaves outcome source after sink sink_after
+    → IsAmong early_statuses (status_of outcome) → (after ≡ source) × (sink_after ≡ sink)
+early_of Done source after sink sink_after h is = absurd (cc is)
+early_of Usage source after sink sink_after h is = h
+early_of (Refused kind) source after sink sink_after h is = h (early_kind kind is)
 
 -- a keyset has one refusal, and none where it loads
 one_refusal : (keyset : List ℕ) (kind other : Kind) → load keyset ≡ Err kind → load keyset ≡ Err other → kind_status other ≡ kind_status kind

@@ -15,7 +15,7 @@ use Rattle.tink_run.specs.declared.report.Command.TheVariants.{Seal, Open}
 use Rattle.tink_run.specs.declared.report.Report.{Report}
 use Rattle.tink_run.specs.Draws.{draws_in}
 use Rattle.tink_run.specs.Outside.{Outside, IsUntouched, HasNoFault}
-use Rattle.tink_run.specs.Run.{AnswerMeans, Told, IsWholeStream, IsWholeText, IsOfAgreeing, OnlyAgreeing, CanSeal, CanOpen, IsComplete}
+use Rattle.tink_run.specs.Run.{AnswerMeans, IsEarly, Told, IsWholeStream, IsWholeText, IsOfAgreeing, OnlyAgreeing, CanSeal, CanOpen, IsComplete}
 use Rattle.tink_run.specs.Run as run
 use Rattle.tink_run.specs.Words.{SealWords, OpenWords, SpellNothing}
 
@@ -102,6 +102,16 @@ pub record HasCause (old new : Outside) (status : ℕ) : Type 0 where
   pub read_fault : status ≡ 11 → Rose old.read_faults new.read_faults
   pub write_fault : status ≡ 12 → Rose old.write_faults new.write_faults
 
+-- the statuses of a command that was refused before it read or wrote
+abbrev pub early_statuses : List ℕ
+early_statuses = 2 ∷ 10 ∷ 13 ∷ 14 ∷ 15 ∷ 16 ∷ 17 ∷ 19 ∷ []
+
+-- such an outcome leaves both ends exactly as they were
+abbrev pub Leaves : {S K : Type 0} → Outcome → S → S → K → K → Type 0
+Leaves Done source source_after sink sink_after = Unit {0}
+Leaves Usage source source_after sink sink_after = (source_after ≡ source) × (sink_after ≡ sink)
+Leaves (Refused kind) source source_after sink sink_after = IsEarly kind → (source_after ≡ source) × (sink_after ≡ sink)
+
 abbrev pub SpellKeyset : List (List ℕ) → List ℕ → Type 0
 SpellKeyset words keyset = ((aad seed : List ℕ) × SealWords words keyset aad seed) ⊎ ((aad : List ℕ) × OpenWords words keyset aad)
 
@@ -138,6 +148,16 @@ OpensWhole keyset aad old new status = (S G : List ℕ) → Told old S G → sta
 abbrev pub WritesAgreeing : List ℕ → List ℕ → Outside → Outside → Type 0
 WritesAgreeing keyset aad old new = (S G : List ℕ) → Told old S G → IsOfAgreeing keyset aad S old new
 
+-- these three, of what the words spell
+abbrev pub SealsAsSpelled : List (List ℕ) → Outside → Outside → ℕ → Type 0
+SealsAsSpelled words old new status = (keyset aad seed : List ℕ) → SealWords words keyset aad seed → SealsWhole keyset aad seed old new status
+
+abbrev pub OpensAsSpelled : List (List ℕ) → Outside → Outside → ℕ → Type 0
+OpensAsSpelled words old new status = (keyset aad : List ℕ) → OpenWords words keyset aad → OpensWhole keyset aad old new status
+
+abbrev pub WritesAsSpelled : List (List ℕ) → Outside → Outside → Type 0
+WritesAsSpelled words old new = (keyset aad : List ℕ) → OpenWords words keyset aad → WritesAgreeing keyset aad old new
+
 -- told bytes: a seal that can succeed where neither end fails does, or there is no memory
 abbrev pub SealSucceeds : List ℕ → List ℕ → List ℕ → Outside → Outside → ℕ → Type 0
 SealSucceeds keyset aad seed old new status = (T G : List ℕ) → Told old T G → HasNoFault old new
@@ -163,7 +183,7 @@ pub record Ran (command : Command) (keyset aad draws : List ℕ) (old new : Outs
 
 -- the promises of a status
 pub record Promised (words : List (List ℕ)) (old new : Outside) (status : ℕ) : Type 0 where
-  pub sealed : (keyset aad seed : List ℕ) → SealWords words keyset aad seed → SealsWhole keyset aad seed old new status
-  pub opened : (keyset aad : List ℕ) → OpenWords words keyset aad → OpensWhole keyset aad old new status
-  pub written : (keyset aad : List ℕ) → OpenWords words keyset aad → WritesAgreeing keyset aad old new
+  pub sealed : SealsAsSpelled words old new status
+  pub opened : OpensAsSpelled words old new status
+  pub written : WritesAsSpelled words old new
   pub succeeds : Succeeds words old new status

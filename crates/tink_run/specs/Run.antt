@@ -3,7 +3,7 @@ use Rattle.std.specs.Prelude.{◌≡◌, ℕ, ◌≤◌, ◌^◌, List, [], ◌+
 use Rattle.std.specs.Io.KnownBytes.{Keeps}
 use Rattle.tink_io.specs.Written.{AppendsFront}
 use Rattle.tink_io.specs.declared.error.Kind.{Kind}
-use Rattle.tink_io.specs.declared.error.Kind.TheVariants.{OutOfMemory}
+use Rattle.tink_io.specs.declared.error.Kind.TheVariants.{OutOfMemory, RandomFault, BadKeyset, InvalidKeyset, UnsupportedKeyType, InvalidKey, NoPrimary, UnsupportedHash}
 use Rattle.tink_io.specs.declared.error.TinkError.{TinkError}
 use Rattle.stream_model.specs.Agree.{joined}
 use Rattle.stream_model.specs.Key.{keys_of}
@@ -21,6 +21,23 @@ use Rattle.tink_run.specs.OpenAnswers.{OpenMeans, opening_keys}
 abbrev pub AnswerMeans : Command → List ℕ → List ℕ → List ℕ → List ℕ → Outside → Outside → Result Report TinkError → Type 0
 AnswerMeans Seal keyset aad draws left_draws old new answer = SealMeans keyset aad draws left_draws old new answer
 AnswerMeans Open keyset aad draws left_draws old new answer = OpenMeans keyset aad draws left_draws old new answer × (left_draws ≡ draws)
+
+-- kinds by which a command is refused before it reads or writes
+abbrev pub IsEarly : Kind → Type 0
+IsEarly OutOfMemory = Unit {0}
+IsEarly BadKeyset = Unit {0}
+IsEarly InvalidKeyset = Unit {0}
+IsEarly UnsupportedKeyType = Unit {0}
+IsEarly InvalidKey = Unit {0}
+IsEarly NoPrimary = Unit {0}
+IsEarly RandomFault = Unit {0}
+IsEarly UnsupportedHash = Unit {0}
+IsEarly _ = ⊥
+
+-- a refusal by such a kind leaves both ends exactly as they were
+abbrev pub LeavesEnds : {S K : Type 0} → Result Report TinkError → S → S → K → K → Type 0
+LeavesEnds (Ok report) source source_after sink sink_after = Unit {0}
+LeavesEnds (Err e) source source_after sink sink_after = IsEarly e.kind → (source_after ≡ source) × (sink_after ≡ sink)
 
 -- the source told these bytes and the sink these
 pub record Told (m : Outside) (T G : List ℕ) : Type 0 where

@@ -1,5 +1,5 @@
 -- The words that spell a command.
-use Rattle.std.specs.Prelude.{◌≡◌, ◌⊎◌, ◌≤◌, ℕ, List, [], ◌∷◌, length, codes, Ok}
+use Rattle.std.specs.Prelude.{◌≡◌, ◌⊎◌, ◌≤◌, ℕ, List, [], ◌∷◌, length, map, codes, String, string_bytes, Ok}
 use Rattle.hex.specs.Hex.{decode_of}
 use Rattle.tink_run.specs.declared.words.Parsed.{Parsed}
 use Rattle.tink_run.specs.declared.words.Parsed.TheVariants.{Seal, Open}
@@ -30,10 +30,20 @@ pub record OpenWords (words : List (List ℕ)) (keyset aad : List ℕ) : Type 0 
   pub keyset_is : IsBytesWord keyset_word keyset
   pub aad_is : IsBytesWord aad_word aad
 
+abbrev pub SpellNoSeal : List (List ℕ) → Type 0
+SpellNoSeal words = (keyset aad seed : List ℕ) → SealWords words keyset aad seed → ⊥
+
+abbrev pub SpellNoOpen : List (List ℕ) → Type 0
+SpellNoOpen words = (keyset aad : List ℕ) → OpenWords words keyset aad → ⊥
+
 -- the words spell neither command
 pub record SpellNothing (words : List (List ℕ)) : Type 0 where
-  pub no_seal : (keyset aad seed : List ℕ) → SealWords words keyset aad seed → ⊥
-  pub no_open : (keyset aad : List ℕ) → OpenWords words keyset aad → ⊥
+  pub no_seal : SpellNoSeal words
+  pub no_open : SpellNoOpen words
+
+-- the bytes of each word of a command line
+abbrev pub words_in : List String → List (List ℕ)
+words_in words = map (λ w. string_bytes w) words
 
 -- the words spell what was read
 abbrev pub Spell : List (List ℕ) → Parsed → Type 0

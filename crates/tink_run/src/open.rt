@@ -8,8 +8,9 @@ ghost use Rattle.tink_io.specs.declared.error.Kind.TheVariants.{OutOfMemory};
 ghost use Rattle.tink_streaming_aead.specs.declared.progress.Progress.TheVariants.{Running};
 ghost use Rattle.tink_streaming_aead.specs.Reading.{Moment};
 ghost use Rattle.tink_streaming_aead.specs.StreamKinds.{key_of};
-ghost use Rattle.tink_run.specs.Outside.{Outside};
+ghost use Rattle.tink_run.specs.Outside.{outside_of};
 ghost use Rattle.tink_run.specs.OpenAnswers.{StreamMeans, is_raw};
+ghost use Rattle.tink_run.specs.Run.{LeavesEnds};
 ghost use Rattle.tink_run.specs.OpenSteps.{FirstMeans, ReaderMeans, OpensUnder};
 
 use crate::load::LoadedKey;
@@ -45,9 +46,10 @@ pub fn open<S: Source, K: Sink>(
     sink: &mut K,
 ) -> Result<Report, TinkError>
     ensures answer { OpensUnder (map (λ k. opening.opening_key aad.now k.key) (filter is_raw keys.now))
-        (record { left = S.left source.old; read_faults = S.faults source.old; got = K.got sink.old; write_faults = K.faults sink.old })
-        (record { left = S.left source.new; read_faults = S.faults source.new; got = K.got sink.new; write_faults = K.faults sink.new })
+        (outside_of S.left S.faults K.got K.faults source.old sink.old)
+        (outside_of S.left S.faults K.got K.faults source.new sink.new)
         result }
+    ensures early { LeavesEnds result source.old source.new sink.old sink.new }
     ensures source { S.same source.old source.new }
     ensures sink { K.same sink.old sink.new }
 {
@@ -61,7 +63,8 @@ pub fn open<S: Source, K: Sink>(
 /// # Errors
 /// OutOfMemory.
 fn raw_keys<'a>(alloc: Global, keys: &'a [LoadedKey]) -> Result<Vec<&'a StreamKind>, TinkError>
-    ensures keys { IfOk result (λ raw. map (λ k. key_of k.now) raw.items ≡ map (λ k. k.key) (filter is_raw keys.now)) }
+    ensures keys { IfOk result
+        (λ raw. map (λ k. key_of k.now) raw.items ≡ map (λ k. k.key) (filter is_raw keys.now)) }
     ensures refused { IfErr result (λ e. e ≡ record { kind = OutOfMemory }) }
 {
     let mut raw = Vec::new(alloc);
@@ -126,8 +129,8 @@ fn open_under<S: Source, K: Sink, T: DerivesStreams>(
     requires nonce { All (λ k. nonce_size (T.key_of k) ≤ vec_len trial.nonce) keys.now }
     requires prefix { 7 ≤ vec_capacity trial.prefix }
     ensures answer { StreamMeans (map (λ k. opening.opening_key aad.now (T.key_of k)) keys.now)
-        (record { left = S.left source.old; read_faults = S.faults source.old; got = K.got sink.old; write_faults = K.faults sink.old })
-        (record { left = S.left source.new; read_faults = S.faults source.new; got = K.got sink.new; write_faults = K.faults sink.new })
+        (outside_of S.left S.faults K.got K.faults source.old sink.old)
+        (outside_of S.left S.faults K.got K.faults source.new sink.new)
         result }
     ensures source { S.same source.old source.new }
     ensures sink { K.same sink.old sink.new }
@@ -148,10 +151,16 @@ fn open_stream<S: Source, K: Sink, D: SegmentDecrypter + Drop>(
 ) -> Result<Report, TinkError>
     requires running { reader.old.progress ≡ Running }
     requires fresh { reader.old.segments ≡ 0 }
-    ensures answer { ReaderMeans (numbered (D.seg reader.old.opener.decrypter) reader.old.opener.nonce_size reader.old.opener.prefix.items)
+    ensures answer { ReaderMeans
+        (numbered (D.seg reader.old.opener.decrypter) reader.old.opener.nonce_size reader.old.opener.prefix.items)
         reader.old.opener.first reader.old.opener.size reader.old.opener.overhead
-        (record { left = prepend_known (take reader.old.filled reader.old.buffer.items) (S.left source.old); read_faults = S.faults source.old; got = K.got sink.old; write_faults = K.faults sink.old })
-        (record { left = S.left source.new; read_faults = S.faults source.new; got = K.got sink.new; write_faults = K.faults sink.new })
+        (record {
+          left = prepend_known (take reader.old.filled reader.old.buffer.items) (S.left source.old);
+          read_faults = S.faults source.old;
+          got = K.got sink.old;
+          write_faults = K.faults sink.old;
+        })
+        (outside_of S.left S.faults K.got K.faults source.new sink.new)
         result }
     ensures source { S.same source.old source.new }
     ensures sink { K.same sink.old sink.new }
@@ -185,7 +194,8 @@ fn open_first<S: Source, D: SegmentDecrypter + Drop>(
 ) -> Result<(), TinkError>
     requires running { reader.old.progress ≡ Running }
     requires fresh { reader.old.segments ≡ 0 }
-    ensures answer { FirstMeans (numbered (D.seg reader.old.opener.decrypter) reader.old.opener.nonce_size reader.old.opener.prefix.items)
+    ensures answer { FirstMeans
+        (numbered (D.seg reader.old.opener.decrypter) reader.old.opener.nonce_size reader.old.opener.prefix.items)
         reader.old.opener.first reader.old.opener.size
         (record {
           progress = reader.old.progress;

@@ -1,12 +1,13 @@
 //! All that the program does, over any source and any sinks.
 
-ghost use Rattle.std.specs.Prelude.{◌≡◌, ◌≤◌, List, ℕ, [], map, string_bytes};
+ghost use Rattle.std.specs.Prelude.{◌≡◌, ◌≤◌, List, ℕ, []};
 ghost use Rattle.tink_io.specs.Written.{WritesOrFaults};
 ghost use Rattle.tink_run.specs.declared.report.Command.TheVariants.{Seal, Open};
 ghost use Rattle.tink_run.specs.Draws.{draws_in};
-ghost use Rattle.tink_run.specs.Outside.{Outside};
-ghost use Rattle.tink_run.specs.Program.{HasCause, HasOwnStatus, IsUsage, OpensWhole, OutcomeMeans, ProgramMeans, Promised, Ran, RefusesUnloaded, SealsWhole, Succeeds, WritesAgreeing, answer_outcome, line_of, status_of};
-ghost use Rattle.tink_run.specs.Words.{OpenWords, SealWords};
+ghost use Rattle.tink_run.specs.Outside.{outside_of};
+ghost use Rattle.tink_run.specs.Program.{HasCause, HasOwnStatus, IsAmong, IsUsage, Leaves, OpensAsSpelled, OutcomeMeans, ProgramMeans, Promised, Ran, RefusesUnloaded, SealsAsSpelled, Succeeds, WritesAsSpelled, answer_outcome, early_statuses, line_of, status_of};
+ghost use Rattle.tink_run.specs.Run.{LeavesEnds};
+ghost use Rattle.tink_run.specs.Words.{words_in};
 
 use crate::report::{Command, Report};
 use crate::run::run;
@@ -44,39 +45,42 @@ pub fn program<S: Source, K: Sink, E: Sink>(
     faults: &mut E,
 ) -> u8
     // The status is that of an outcome, which says why it came and what stands after it.
-    ensures means { ProgramMeans (map (λ w. string_bytes w) words.now.items)
-        (record { left = S.left source.old; read_faults = S.faults source.old; got = K.got sink.old; write_faults = K.faults sink.old })
-        (record { left = S.left source.new; read_faults = S.faults source.new; got = K.got sink.new; write_faults = K.faults sink.new })
+    ensures means { ProgramMeans (words_in words.now.items)
+        (outside_of S.left S.faults K.got K.faults source.old sink.old)
+        (outside_of S.left S.faults K.got K.faults source.new sink.new)
         (E.got faults.old) (E.got faults.new) (E.faults faults.old) (E.faults faults.new) result }
 
     // When status 2 comes, which statuses a command has, and what a keyset gets that does not load.
-    ensures usage { IsUsage (map (λ w. string_bytes w) words.now.items) result }
-    ensures own { HasOwnStatus (map (λ w. string_bytes w) words.now.items) result }
-    ensures unloaded { RefusesUnloaded (map (λ w. string_bytes w) words.now.items) result }
+    ensures usage { IsUsage (words_in words.now.items) result }
+    ensures own { HasOwnStatus (words_in words.now.items) result }
+    ensures unloaded { RefusesUnloaded (words_in words.now.items) result }
 
     // What stands after a status of 10, and that a count rose for one of 11 or 12.
     ensures cause { HasCause
-        (record { left = S.left source.old; read_faults = S.faults source.old; got = K.got sink.old; write_faults = K.faults sink.old })
-        (record { left = S.left source.new; read_faults = S.faults source.new; got = K.got sink.new; write_faults = K.faults sink.new })
+        (outside_of S.left S.faults K.got K.faults source.old sink.old)
+        (outside_of S.left S.faults K.got K.faults source.new sink.new)
         result }
 
+    // A status of 2, 10, 13 to 17 or 19 leaves the ends themselves as they were.
+    ensures early { IsAmong early_statuses result → (source.new ≡ source.old) × (sink.new ≡ sink.old) }
+
     // Told bytes: what status 0 promises of a seal, and of an open.
-    ensures sealed { (keyset aad seed : List ℕ) → SealWords (map (λ w. string_bytes w) words.now.items) keyset aad seed → SealsWhole keyset aad seed
-        (record { left = S.left source.old; read_faults = S.faults source.old; got = K.got sink.old; write_faults = K.faults sink.old })
-        (record { left = S.left source.new; read_faults = S.faults source.new; got = K.got sink.new; write_faults = K.faults sink.new })
+    ensures sealed { SealsAsSpelled (words_in words.now.items)
+        (outside_of S.left S.faults K.got K.faults source.old sink.old)
+        (outside_of S.left S.faults K.got K.faults source.new sink.new)
         result }
-    ensures opened { (keyset aad : List ℕ) → OpenWords (map (λ w. string_bytes w) words.now.items) keyset aad → OpensWhole keyset aad
-        (record { left = S.left source.old; read_faults = S.faults source.old; got = K.got sink.old; write_faults = K.faults sink.old })
-        (record { left = S.left source.new; read_faults = S.faults source.new; got = K.got sink.new; write_faults = K.faults sink.new })
+    ensures opened { OpensAsSpelled (words_in words.now.items)
+        (outside_of S.left S.faults K.got K.faults source.old sink.old)
+        (outside_of S.left S.faults K.got K.faults source.new sink.new)
         result }
 
     // Told bytes: what an open has written by any status, and when a command succeeds.
-    ensures written { (keyset aad : List ℕ) → OpenWords (map (λ w. string_bytes w) words.now.items) keyset aad → WritesAgreeing keyset aad
-        (record { left = S.left source.old; read_faults = S.faults source.old; got = K.got sink.old; write_faults = K.faults sink.old })
-        (record { left = S.left source.new; read_faults = S.faults source.new; got = K.got sink.new; write_faults = K.faults sink.new }) }
-    ensures succeeds { Succeeds (map (λ w. string_bytes w) words.now.items)
-        (record { left = S.left source.old; read_faults = S.faults source.old; got = K.got sink.old; write_faults = K.faults sink.old })
-        (record { left = S.left source.new; read_faults = S.faults source.new; got = K.got sink.new; write_faults = K.faults sink.new })
+    ensures written { WritesAsSpelled (words_in words.now.items)
+        (outside_of S.left S.faults K.got K.faults source.old sink.old)
+        (outside_of S.left S.faults K.got K.faults source.new sink.new) }
+    ensures succeeds { Succeeds (words_in words.now.items)
+        (outside_of S.left S.faults K.got K.faults source.old sink.old)
+        (outside_of S.left S.faults K.got K.faults source.new sink.new)
         result }
     ensures source { S.same source.old source.new }
     ensures sink { K.same sink.old sink.new }
@@ -116,7 +120,8 @@ pub fn status(outcome: Outcome) -> u8
 
 /// Writes the line of an outcome. It takes no memory.
 pub fn tell<E: Sink>(faults: &mut E, outcome: Outcome)
-    ensures line { WritesOrFaults (E.got faults.old) (E.got faults.new) (E.faults faults.old) (E.faults faults.new) (line_of outcome) }
+    ensures line { WritesOrFaults (E.got faults.old) (E.got faults.new) (E.faults faults.old) (E.faults faults.new)
+        (line_of outcome) }
     ensures later { E.faults faults.old ≤ E.faults faults.new }
     ensures same { E.same faults.old faults.new }
 {
@@ -136,14 +141,15 @@ fn command<S: Source, K: Sink>(
     source: &mut S,
     sink: &mut K,
 ) -> Outcome
-    ensures means { OutcomeMeans (map (λ w. string_bytes w) words.now.items)
-        (record { left = S.left source.old; read_faults = S.faults source.old; got = K.got sink.old; write_faults = K.faults sink.old })
-        (record { left = S.left source.new; read_faults = S.faults source.new; got = K.got sink.new; write_faults = K.faults sink.new })
+    ensures means { OutcomeMeans (words_in words.now.items)
+        (outside_of S.left S.faults K.got K.faults source.old sink.old)
+        (outside_of S.left S.faults K.got K.faults source.new sink.new)
         result }
-    ensures promised { Promised (map (λ w. string_bytes w) words.now.items)
-        (record { left = S.left source.old; read_faults = S.faults source.old; got = K.got sink.old; write_faults = K.faults sink.old })
-        (record { left = S.left source.new; read_faults = S.faults source.new; got = K.got sink.new; write_faults = K.faults sink.new })
+    ensures promised { Promised (words_in words.now.items)
+        (outside_of S.left S.faults K.got K.faults source.old sink.old)
+        (outside_of S.left S.faults K.got K.faults source.new sink.new)
         (status_of result) }
+    ensures early { Leaves result source.old source.new sink.old sink.new }
     ensures source { S.same source.old source.new }
     ensures sink { K.same sink.old sink.new }
 {
@@ -163,9 +169,10 @@ fn run_seal<S: Source, K: Sink>(
     sink: &mut K,
 ) -> Result<Report, TinkError>
     ensures ran { Ran Seal args.now.keyset.items args.now.aad.items (draws_in args.now.seed 256)
-        (record { left = S.left source.old; read_faults = S.faults source.old; got = K.got sink.old; write_faults = K.faults sink.old })
-        (record { left = S.left source.new; read_faults = S.faults source.new; got = K.got sink.new; write_faults = K.faults sink.new })
+        (outside_of S.left S.faults K.got K.faults source.old sink.old)
+        (outside_of S.left S.faults K.got K.faults source.new sink.new)
         result }
+    ensures early { LeavesEnds result source.old source.new sink.old sink.new }
     ensures source { S.same source.old source.new }
     ensures sink { K.same sink.old sink.new }
 {
@@ -189,9 +196,10 @@ fn run_open<S: Source, K: Sink>(
     sink: &mut K,
 ) -> Result<Report, TinkError>
     ensures ran { Ran Open args.now.keyset.items args.now.aad.items []
-        (record { left = S.left source.old; read_faults = S.faults source.old; got = K.got sink.old; write_faults = K.faults sink.old })
-        (record { left = S.left source.new; read_faults = S.faults source.new; got = K.got sink.new; write_faults = K.faults sink.new })
+        (outside_of S.left S.faults K.got K.faults source.old sink.old)
+        (outside_of S.left S.faults K.got K.faults source.new sink.new)
         result }
+    ensures early { LeavesEnds result source.old source.new sink.old sink.new }
     ensures source { S.same source.old source.new }
     ensures sink { K.same sink.old sink.new }
 {

@@ -1,6 +1,6 @@
 ghost use Rattle.std.specs.Prelude.{◌≡◌, ℕ, List, IfOk};
-ghost use Rattle.tink_run.specs.Outside.{Outside};
-ghost use Rattle.tink_run.specs.Run.{AnswerMeans, Told, Succeeds, OnlyAgreeing, IsComplete};
+ghost use Rattle.tink_run.specs.Outside.{outside_of};
+ghost use Rattle.tink_run.specs.Run.{AnswerMeans, IsComplete, LeavesEnds, OnlyAgreeing, Succeeds, Told};
 
 use crate::load::load;
 use crate::open::open;
@@ -21,25 +21,30 @@ pub fn run<S: Source, K: Sink>(
 ) -> Result<Report, TinkError>
     // Each answer has its cause, and says what stands after it.
     ensures answer { AnswerMeans command keyset.now aad.now draws.old draws.new
-        (record { left = S.left source.old; read_faults = S.faults source.old; got = K.got sink.old; write_faults = K.faults sink.old })
-        (record { left = S.left source.new; read_faults = S.faults source.new; got = K.got sink.new; write_faults = K.faults sink.new })
+        (outside_of S.left S.faults K.got K.faults source.old sink.old)
+        (outside_of S.left S.faults K.got K.faults source.new sink.new)
         result }
 
-    // Told bytes: a seal has written the stream of its whole input; an open had as input a stream of the chosen key, and has written its text.
-    ensures ok { IfOk result (λ report. (T G : List ℕ) → Told (record { left = S.left source.old; read_faults = S.faults source.old; got = K.got sink.old; write_faults = K.faults sink.old }) T G
+    // Told bytes: a seal has written the stream of its whole input; an open had as input a stream of the chosen key,
+    // and has written its text.
+    ensures ok { IfOk result (λ report. (T G : List ℕ)
+        → Told (outside_of S.left S.faults K.got K.faults source.old sink.old) T G
         → Succeeds command keyset.now aad.now draws.old draws.new T G
-        (record { left = S.left source.new; read_faults = S.faults source.new; got = K.got sink.new; write_faults = K.faults sink.new }) report) }
+        (outside_of S.left S.faults K.got K.faults source.new sink.new) report) }
 
     // Told bytes: an open has only written a front of the texts that agree under the chosen key.
     ensures written { OnlyAgreeing command keyset.now aad.now
-        (record { left = S.left source.old; read_faults = S.faults source.old; got = K.got sink.old; write_faults = K.faults sink.old })
-        (record { left = S.left source.new; read_faults = S.faults source.new; got = K.got sink.new; write_faults = K.faults sink.new }) }
+        (outside_of S.left S.faults K.got K.faults source.old sink.old)
+        (outside_of S.left S.faults K.got K.faults source.new sink.new) }
 
     // Told bytes: where neither end fails and the command can succeed, it does, or there is no memory.
     ensures succeeds { IsComplete command keyset.now aad.now draws.old
-        (record { left = S.left source.old; read_faults = S.faults source.old; got = K.got sink.old; write_faults = K.faults sink.old })
-        (record { left = S.left source.new; read_faults = S.faults source.new; got = K.got sink.new; write_faults = K.faults sink.new })
+        (outside_of S.left S.faults K.got K.faults source.old sink.old)
+        (outside_of S.left S.faults K.got K.faults source.new sink.new)
         result }
+
+    // A refusal that comes before anything was read or written leaves the ends themselves as they were.
+    ensures early { LeavesEnds result source.old source.new sink.old sink.new }
     ensures source { S.same source.old source.new }
     ensures sink { K.same sink.old sink.new }
 {
@@ -57,9 +62,10 @@ fn answer<S: Source, K: Sink>(
     sink: &mut K,
 ) -> Result<Report, TinkError>
     ensures answer { AnswerMeans command keyset.now aad.now draws.old draws.new
-        (record { left = S.left source.old; read_faults = S.faults source.old; got = K.got sink.old; write_faults = K.faults sink.old })
-        (record { left = S.left source.new; read_faults = S.faults source.new; got = K.got sink.new; write_faults = K.faults sink.new })
+        (outside_of S.left S.faults K.got K.faults source.old sink.old)
+        (outside_of S.left S.faults K.got K.faults source.new sink.new)
         result }
+    ensures early { LeavesEnds result source.old source.new sink.old sink.new }
     ensures source { S.same source.old source.new }
     ensures sink { K.same sink.old sink.new }
 {

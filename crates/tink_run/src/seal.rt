@@ -3,7 +3,8 @@ ghost use Rattle.stream_model.specs.Cut.{numbered};
 ghost use Rattle.tink_streaming_aead.specs.declared.writing.Mode.TheVariants.{Open};
 ghost use Rattle.tink_streaming_aead.specs.StreamKinds.{key_of};
 ghost use Rattle.tink_streaming_aead.specs.Writing.{Moment};
-ghost use Rattle.tink_run.specs.Outside.{Outside};
+ghost use Rattle.tink_run.specs.Outside.{outside_of};
+ghost use Rattle.tink_run.specs.Run.{LeavesEnds};
 ghost use Rattle.tink_run.specs.SealSteps.{PourMeans, UnderMeans, kind_not_begun};
 
 use crate::report::Report;
@@ -29,9 +30,10 @@ pub fn seal<S: Source, K: Sink>(
     sink: &mut K,
 ) -> Result<Report, TinkError>
     ensures answer { UnderMeans (key_of key.now) aad.now draws.old draws.new
-        (record { left = S.left source.old; read_faults = S.faults source.old; got = K.got sink.old; write_faults = K.faults sink.old })
-        (record { left = S.left source.new; read_faults = S.faults source.new; got = K.got sink.new; write_faults = K.faults sink.new })
+        (outside_of S.left S.faults K.got K.faults source.old sink.old)
+        (outside_of S.left S.faults K.got K.faults source.new sink.new)
         result }
+    ensures early { LeavesEnds result source.old source.new sink.old sink.new }
     ensures source { S.same source.old source.new }
     ensures sink { K.same sink.old sink.new }
 {
@@ -72,11 +74,24 @@ fn pour<S: Source, K: Sink, E: SegmentEncrypter + Drop>(
     requires fresh { writer.old.segments ≡ 0 }
     requires empty { writer.old.held.items ≡ [] }
     requires piece { 0 < length piece.old }
-    ensures answer { PourMeans (numbered (E.seg writer.old.sealer.encrypter) writer.old.sealer.nonce_size writer.old.sealer.prefix.items)
+    ensures answer { PourMeans
+        (numbered (E.seg writer.old.sealer.encrypter) writer.old.sealer.nonce_size writer.old.sealer.prefix.items)
         writer.old.sealer.first writer.old.sealer.room
         (S.left source.old) (S.left source.new) (S.faults source.old) (S.faults source.new)
-        (record { mode = writer.old.mode; number = writer.old.segments; held = writer.old.held.items; got = K.got sink.old; faults = K.faults sink.old })
-        (record { mode = writer.new.mode; number = writer.new.segments; held = writer.new.held.items; got = K.got sink.new; faults = K.faults sink.new })
+        (record {
+          mode = writer.old.mode;
+          number = writer.old.segments;
+          held = writer.old.held.items;
+          got = K.got sink.old;
+          faults = K.faults sink.old;
+        })
+        (record {
+          mode = writer.new.mode;
+          number = writer.new.segments;
+          held = writer.new.held.items;
+          got = K.got sink.new;
+          faults = K.faults sink.new;
+        })
         result }
     ensures sealer { writer.new.sealer ≡ writer.old.sealer }
     ensures read_count { S.faults source.old ≤ S.faults source.new }

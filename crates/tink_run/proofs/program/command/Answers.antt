@@ -1,4 +1,4 @@
-use Rattle.tink_run.proofs.ProgramLemmas.{open_outcome, open_promised, seal_outcome, seal_promised, usage_promised}
+use Rattle.tink_run.proofs.ProgramLemmas.{leaves_by, open_outcome, open_promised, seal_outcome, seal_promised, usage_promised}
 use Rattle.tink_run.proofs.program.command.Goals as goal
 
 pub returns-in-Ok-None-clause-promised : goal.returns-in-Ok-None-clause-promised
@@ -23,3 +23,9 @@ pub returns-in-Ok-Some-Open-clause-promised : goal.returns-in-Ok-Some-Open-claus
 returns-in-Ok-Some-Open-clause-promised g c =
     let spelled = rw (c.in-Ok-Some-Open.field-0-is, c.in-Ok-Some-Open.field-0-0-is) at c.in-Ok-Some-Open.ensures.found in
     rw c.outcome_of-in-Ok-Some-Open.ensures (open_promised _ _ _ _ _ c.run_open.result spelled c.run_open.ensures.ran)
+
+pub returns-in-Ok-Some-Seal-clause-early : goal.returns-in-Ok-Some-Seal-clause-early
+returns-in-Ok-Some-Seal-clause-early g c = rw c.outcome_of.ensures (leaves_by c.run_seal.result _ _ _ _ c.run_seal.ensures.early)
+
+pub returns-in-Ok-Some-Open-clause-early : goal.returns-in-Ok-Some-Open-clause-early
+returns-in-Ok-Some-Open-clause-early g c = rw c.outcome_of-in-Ok-Some-Open.ensures (leaves_by c.run_open.result _ _ _ _ c.run_open.ensures.early)

@@ -1,5 +1,5 @@
 use Rattle.tink_run.proofs.ProgramLemmas.{usage_of}
-use Rattle.tink_run.proofs.StatusLemmas.{cause_of, own_of, unloaded_of}
+use Rattle.tink_run.proofs.StatusLemmas.{cause_of, early_of, own_of, unloaded_of}
 use Rattle.tink_run.proofs.program.program.Goals as goal
 
 pub returns-clause-usage : goal.returns-clause-usage
@@ -13,3 +13,6 @@ returns-clause-unloaded g c = rw c.status.ensures (unloaded_of _ _ _ _ c.command
 
 pub returns-clause-cause : goal.returns-clause-cause
 returns-clause-cause g c = rw c.status.ensures (cause_of _ _ _ _ c.command-outcome.ensures.means)
+
+pub returns-clause-early : goal.returns-clause-early
+returns-clause-early g c = rw c.status.ensures (early_of _ _ _ _ _ c.command-outcome.ensures.early)

@@ -1,6 +1,7 @@
 use Rattle.std.proofs.Common.{refl, arith}
 use Rattle.std.proofs.lemmas.Result.{err_from_is_err_and}
-use Rattle.tink_run.proofs.SealSteps.{begin_refusal, closed, not_closed, not_poured}
+use Rattle.tink_run.proofs.SealSteps.{begin_leaves, begin_refusal, close_leaves, closed, not_closed, not_poured, pour_leaves}
+use Rattle.tink_run.proofs.RunSteps.{leaves_same}
 use Rattle.tink_streaming_aead.specs.StreamKinds.{key_of}
 use Rattle.tink_run.proofs.seal.seal.Goals as goal
 
@@ -43,3 +44,21 @@ returns-clause-answer g c =
 
 pub returns-clause-sink : goal.returns-clause-sink
 returns-clause-sink g c = g.met.K.Sink.same_trans _ _ _ (g.met.K.Sink.same_trans _ _ _ c.in-Ok.ensures.same c.pour.ensures.sink) c.close.ensures.same
+
+pub returns-in_err-piece-clause-early : goal.returns-in_err-piece-clause-early
+returns-in_err-piece-clause-early g c = leaves_same c.from_residual.result c.args.source.now c.args.sink.now
+
+pub returns-in-Err-clause-early : goal.returns-in-Err-clause-early
+returns-in-Err-clause-early g c =
+    begin_leaves g.K.Sink.got g.K.Sink.faults (key_of c.args.key.now) c.args.aad.now c.args.draws.now c.begin_stream.new.draws c.args.sink.now c.begin_stream.new.sink
+    (g.S.Source.left c.args.source.now) (g.S.Source.faults c.args.source.now) c.args.source.now c.in-Err.error.kind c.not_begun.result c.not_begun.ensures c.in-Err.ensures.answer
+
+pub returns-in_err-bytes-clause-early : goal.returns-in_err-bytes-clause-early
+returns-in_err-bytes-clause-early g c =
+    let p = err_from_is_err_and c.from_residual-in_err-bytes.result c.from_residual-in_err-bytes.ensures.1 in
+    rw (p.1, p.2) (pour_leaves _ _ _ _ _ _ _ _ _ c.in_err-bytes.field-0.0 _ _ _ _ c.in_err-bytes.ensures.answer)
+
+pub returns-in_err-close-clause-early : goal.returns-in_err-close-clause-early
+returns-in_err-close-clause-early g c =
+    let p = err_from_is_err_and c.from_residual-in_err-close.result c.from_residual-in_err-close.ensures.1 in
+    rw (p.1, p.2) (close_leaves _ _ _ c.in_err-close.field-0.0 _ _ _ _ c.in_err-close.ensures.answer)
