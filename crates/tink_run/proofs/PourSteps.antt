@@ -9,8 +9,8 @@ use Rattle.tink_io.specs.declared.error.Kind.TheVariants.{ReadFault, WriteFault,
 use Rattle.tink_io.specs.declared.error.Kind.TheVariants as kind
 use Rattle.stream_model.specs.Cut.{full_chunks}
 use Rattle.stream_model.proofs.CutFacts.{full_chunks_more}
-use Rattle.tink_streaming_aead.specs.Writing.{Moment, Wrote, WriteRefused}
-use Rattle.tink_streaming_aead.proofs.WritingFacts.{IsFresh, fresh_filled, wrote_nothing, wrote_more, refused_more}
+use Rattle.tink_streams.specs.Writing.{Moment, Wrote, WriteRefused}
+use Rattle.tink_streams.proofs.WritingFacts.{IsFresh, fresh_filled, wrote_nothing, wrote_more, refused_more}
 use Rattle.tink_run.specs.SealSteps.{IsPoured, PourRefused}
 
 fits_or_not : (m n : ℕ) → (m ≤ n) ⊎ (n < m)

@@ -15,9 +15,9 @@ use Rattle.stream_model.specs.Cut.{cut, room_at}
 use Rattle.stream_model.specs.Agree.{AreTexts, Agree, Leads, joined}
 use Rattle.stream_model.proofs.CutFacts.{cut_some}
 use Rattle.stream_model.proofs.AgreeFacts.{joined-append}
-use Rattle.tink_streaming_aead.specs.declared.progress.Progress.TheVariants.{Ended}
-use Rattle.tink_streaming_aead.specs.Reading.{Moment, TellsLeads, HasNotFailed, OpensNext, OpenRefused, chunk_at}
-use Rattle.tink_streaming_aead.proofs.ReadingFacts.{Opened, opened_none, opened_more, opened_all, opened_agree, at_next_chunk}
+use Rattle.tink_streams.specs.declared.progress.Progress.TheVariants.{Ended}
+use Rattle.tink_streams.specs.Reading.{Moment, TellsLeads, HasNotFailed, OpensNext, OpenRefused, chunk_at}
+use Rattle.tink_streams.proofs.ReadingFacts.{Opened, opened_none, opened_more, opened_all, opened_agree, at_next_chunk}
 use Rattle.tink_run.specs.declared.report.Report.{Report}
 use Rattle.tink_run.specs.Outside.{Outside}
 use Rattle.tink_run.specs.OpenSteps.{FirstRefused, IsReadOut, Breaks, ReaderRefused}

@@ -13,13 +13,13 @@ use Rattle.tink_io.specs.declared.error.Kind.TheVariants.{OutOfMemory, ReadFault
 use Rattle.tink_io.specs.declared.error.TinkError.{TinkError}
 use Rattle.stream_model.specs.Cut.{full_chunks, sealed, unmarked}
 use Rattle.stream_model.specs.Key.{StreamKey, derived_bytes_of, first_room, front, keys_of, room, segment_at}
-use Rattle.tink_streaming_aead.proofs.DerivedKeys.{derives_nothing}
-use Rattle.tink_streaming_aead.specs.Encrypting.{DrewHeader, IsNewStream, NewWriterRefused}
-use Rattle.tink_streaming_aead.specs.StreamingKeys.{deriving_hash}
+use Rattle.tink_stream_keys.proofs.DerivedKeys.{derives_nothing}
+use Rattle.tink_stream_keys.specs.Encrypting.{DrewHeader, IsNewStream, NewWriterRefused}
+use Rattle.tink_stream_keys.specs.StreamingKeys.{deriving_hash}
 use Rattle.stream_model.specs.Sealing.{stream, part, longest_part, sealed_under, unmarked_under, salt_of, prefix_of}
 use Rattle.stream_model.proofs.SealingFacts.{length-chunks}
-use Rattle.tink_streaming_aead.specs.Writing.{Moment, Wrote, WroteFront, WroteAll, ClosedBy, ClosedShort, CloseMeans, CloseRefused}
-use Rattle.tink_streaming_aead.proofs.WritingFacts.{IsFresh, fresh_filled, closed_whole, closed_front, stops_front}
+use Rattle.tink_streams.specs.Writing.{Moment, Wrote, WroteFront, WroteAll, ClosedBy, ClosedShort, CloseMeans, CloseRefused}
+use Rattle.tink_streams.proofs.WritingFacts.{IsFresh, fresh_filled, closed_whole, closed_front, stops_front}
 use Rattle.loading_model.specs.Loading.{Loaded, load}
 use Rattle.tink_run.specs.declared.report.Report.{Report}
 use Rattle.tink_run.specs.Outside.{Outside, IsUntouched}

@@ -9,7 +9,7 @@ use Rattle.tink_io.specs.declared.error.TinkError.{TinkError}
 use Rattle.stream_model.specs.Cut.{cut}
 use Rattle.stream_model.specs.Agree.{AreTexts, Agree, Leads, joined}
 use Rattle.stream_model.specs.Opening.{OpeningKey}
-use Rattle.tink_streaming_aead.specs.Reading.{Moment, OpensNext, NothingComes}
+use Rattle.tink_streams.specs.Reading.{Moment, OpensNext, NothingComes}
 use Rattle.tink_run.specs.declared.report.Report.{Report}
 use Rattle.tink_run.specs.Outside.{Outside, IsUntouched}
 use Rattle.tink_run.specs.OpenAnswers.{IsOpened, StreamRefused}

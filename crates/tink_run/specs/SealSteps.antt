@@ -8,7 +8,7 @@ use Rattle.tink_io.specs.declared.error.Kind.TheVariants.{OutOfMemory, ReadFault
 use Rattle.tink_io.specs.declared.error.TinkError.{TinkError}
 use Rattle.stream_model.specs.Key.{StreamKey, keys_of}
 use Rattle.stream_model.specs.Sealing.{drawn, salt_of, prefix_of}
-use Rattle.tink_streaming_aead.specs.Writing.{Moment, Wrote, WroteFront, WroteAll}
+use Rattle.tink_streams.specs.Writing.{Moment, Wrote, WroteFront, WroteAll}
 use Rattle.tink_run.specs.declared.report.Report.{Report}
 use Rattle.tink_run.specs.Outside.{Outside, IsUntouched}
 use Rattle.tink_run.specs.SealAnswers.{StreamMeans, WantsMemory}

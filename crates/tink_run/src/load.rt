@@ -29,7 +29,7 @@ pub struct LoadedKey {
 
 impl Model for LoadedKey {
     ghost use Rattle.loading_model.specs.Loading as loading;
-    ghost use Rattle.tink_streaming_aead.specs.StreamKinds.{key_of};
+    ghost use Rattle.tink_stream_keys.specs.StreamKinds.{key_of};
 
     ghost Value = { loading.LoadedKey };
 
@@ -45,7 +45,7 @@ pub struct LoadedKeys {
 
 impl Model for LoadedKeys {
     ghost use Rattle.loading_model.specs.Loading as loading;
-    ghost use Rattle.tink_streaming_aead.specs.StreamKinds.{key_of};
+    ghost use Rattle.tink_stream_keys.specs.StreamKinds.{key_of};
 
     ghost Value = { loading.Loaded };
 

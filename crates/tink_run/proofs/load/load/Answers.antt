@@ -3,7 +3,7 @@ use Rattle.std.specs.Prelude.{Ok}
 use Rattle.std.proofs.lemmas.Result.{err_from_is_err_and}
 use Rattle.keyset_model.specs.Validity.{is_valid}
 use Rattle.tink_run.proofs.LoadLemmas.{is_undecoded, is_invalid, is_told_valid, is_unbuilt, has_no_primary, is_loaded}
-use Rattle.tink_streaming_aead.specs.StreamKinds.{key_of}
+use Rattle.tink_stream_keys.specs.StreamKinds.{key_of}
 use Rattle.tink_run.proofs.load.load.Goals as goal
 
 pub returns-in_err-keyset : goal.returns-in_err-keyset

@@ -6,7 +6,7 @@ use Rattle.tink_io.specs.declared.error.Kind.TheVariants.{NoPrimary}
 use Rattle.tink_io.specs.Told.{or_refused}
 use Rattle.loading_model.specs.Loading.{LoadedKey, key_of_id}
 use Rattle.tink_run.proofs.LoadLemmas.{from_here, of_this_id, of_another_id, of_no_key, refused}
-use Rattle.tink_streaming_aead.specs.StreamKinds.{key_of}
+use Rattle.tink_stream_keys.specs.StreamKinds.{key_of}
 use Rattle.tink_run.proofs.load.primary_key.Goals as goal
 
 pub returns-then-key-id : goal.returns-then-key-id

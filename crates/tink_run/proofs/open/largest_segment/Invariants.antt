@@ -1,6 +1,6 @@
 -- No segment of the front is larger.
 use Rattle.std.proofs.Common.{◌≤◌, take, All}
-use Rattle.tink_streaming_aead.specs.StreamKinds.{key_of}
+use Rattle.tink_stream_keys.specs.StreamKinds.{key_of}
 use Rattle.tink_run.proofs.open.largest_segment.Given as goal
 
 abbrev pub invariant-loop-key : goal.invariant-loop-key

@@ -2,7 +2,7 @@ use Rattle.std.proofs.Common.{take, length, refl, sym, ap, ◌∙◌, arith}
 use Rattle.std.proofs.KnownBytes.{Keeps-refl}
 use Rattle.std.proofs.lemmas.Result.{err_from_is_err_and}
 use Rattle.std.specs.Io.KnownBytes.{prepend_known}
-use Rattle.tink_streaming_aead.specs.Reading.{Moment}
+use Rattle.tink_streams.specs.Reading.{Moment}
 use Rattle.tink_run.proofs.ReadOut.{reading_first, reading_next, read_out, write_failed, next_refused, first_refused}
 use Rattle.tink_run.proofs.open.open_stream.Goals as goal
 

@@ -1,7 +1,7 @@
 -- The raw keys of the front were taken.
 use Rattle.std.proofs.Common.{◌≡◌, take, map, filter}
 use Rattle.tink_run.specs.OpenAnswers.{is_raw}
-use Rattle.tink_streaming_aead.specs.StreamKinds.{key_of}
+use Rattle.tink_stream_keys.specs.StreamKinds.{key_of}
 use Rattle.tink_run.proofs.open.raw_keys.Given as goal
 
 abbrev pub invariant-loop-key : goal.invariant-loop-key

@@ -2,7 +2,7 @@ use Rattle.std.proofs.Common.{refl, arith}
 use Rattle.std.proofs.lemmas.Result.{err_from_is_err_and}
 use Rattle.tink_run.proofs.SealSteps.{begin_leaves, begin_refusal, close_leaves, closed, not_closed, not_poured, pour_leaves}
 use Rattle.tink_run.proofs.RunSteps.{leaves_same}
-use Rattle.tink_streaming_aead.specs.StreamKinds.{key_of}
+use Rattle.tink_stream_keys.specs.StreamKinds.{key_of}
 use Rattle.tink_run.proofs.seal.seal.Goals as goal
 
 pub returns-in-Err-clause-answer : goal.returns-in-Err-clause-answer
