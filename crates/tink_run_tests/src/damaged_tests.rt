@@ -1,6 +1,6 @@
 //! Streams that are cut, lengthened, put together anew or changed, through the program and through `run`.
 
-use crate::support::{KEYSET, Ran, SMALL, by_run, by_words, counted, expect, parts, sealed, want};
+use crate::support::{KEYSET, Ran, SMALL, by_run, counted, expect, opens, parts, sealed};
 use std::alloc::Global;
 use std::process::Abort;
 use std::test::Fail;
@@ -114,99 +114,139 @@ fn lengthened(alloc: Global, keyset: &str, aad: &str, count: usize) -> Result<Ve
     Ok(stream)
 }
 
-// Compares what an open under the key of 4,096 tells of these parts of a stream.
+// Compares what an open tells of parts of a stream under the key of 4,096.
 fn tells(
     rt: &impl Abort,
     alloc: Global,
     aad: &str,
-    stream: Vec<u8>,
-    (status, written, line): (u8, usize, &str),
+    (stream, places): (&[u8], &[Part]),
+    told: (u8, usize, &str),
 ) -> Result<(), Fail> {
-    let answer = by_words(alloc, &["open", KEYSET, aad], stream)?;
-    expect(
+    opens(
         rt,
-        answer,
-        want(alloc, status, counted(alloc, written)?, line)?,
-        line,
-    );
-    Ok(())
+        alloc,
+        (KEYSET, aad),
+        parts(alloc, stream, places)?,
+        told,
+    )
 }
 
-// Compares what `run` and the program answer to a stream under the small key.
-fn answers(rt: &impl Abort, alloc: Global, stream: &[u8], wanted: Answer) -> Result<(), Fail> {
-    let (answer, status, written, line) = wanted;
-    let found = by_run(alloc, Command::Open, SMALL, 3, stream.to_vec(alloc)?)?;
+// Compares what `run` answers to a stream under the small key.
+fn answers(
+    rt: &impl Abort,
+    alloc: Global,
+    stream: Vec<u8>,
+    (answer, written): (Result<Report, Kind>, usize),
+) -> Result<(), Fail> {
+    let found = by_run(alloc, Command::Open, SMALL, 3, stream)?;
     let wanted = Ran {
         answer,
         draws: 3,
         written: counted(alloc, written)?,
     };
-    expect(rt, found, wanted, line);
-    let found = by_words(alloc, &["open", SMALL, "-"], stream.to_vec(alloc)?)?;
-    expect(
-        rt,
-        found,
-        want(alloc, status, counted(alloc, written)?, line)?,
-        line,
-    );
+    expect(rt, found, wanted, "by run");
     Ok(())
 }
 
-#[test]
-fn a_cut_stream_is_told(rt: HostRuntime) -> Result<(), Fail> {
-    let alloc = rt.alloc();
-    for aad in ["-", "00ff"] {
-        let stream = lengthened(alloc, KEYSET, aad, 4041)?;
-        for (count, status, written, line) in CUTS {
-            let cut = parts(alloc, &stream, &[(0, count)])?;
-            tells(&rt, alloc, aad, cut, (status, written, line))?;
-        }
+// Compares what `run` and the program answer to parts of a stream under the small key.
+fn both(
+    rt: &impl Abort,
+    alloc: Global,
+    (stream, places): (&[u8], &[Part]),
+    wanted: Answer,
+) -> Result<(), Fail> {
+    let (answer, status, written, line) = wanted;
+    answers(rt, alloc, parts(alloc, stream, places)?, (answer, written))?;
+    opens(
+        rt,
+        alloc,
+        (SMALL, "-"),
+        parts(alloc, stream, places)?,
+        (status, written, line),
+    )
+}
+
+// The stream of 60 bytes under the small key, with a byte changed.
+fn changed(alloc: Global, place: usize, by: u8) -> Result<Vec<u8>, Fail> {
+    let mut stream = sealed(alloc, SMALL, "-", 60)?;
+    if let Some(byte) = stream.get_mut(place) {
+        *byte ^= by;
+    }
+    Ok(stream)
+}
+
+// Compares each count of bytes in a range.
+fn each_cut(
+    rt: &impl Abort,
+    alloc: Global,
+    stream: &[u8],
+    (from, to, wanted): (usize, usize, Answer),
+) -> Result<(), Fail> {
+    for count in from..=to {
+        both(rt, alloc, (stream, &[(0, count)]), wanted)?;
+    }
+    Ok(())
+}
+
+// Compares the cuts of the stream with associated data.
+fn cut_with(rt: &impl Abort, alloc: Global, aad: &str) -> Result<(), Fail> {
+    let stream = lengthened(alloc, KEYSET, aad, 4041)?;
+    for (count, status, written, line) in CUTS {
+        tells(
+            rt,
+            alloc,
+            aad,
+            (&stream, &[(0, count)]),
+            (status, written, line),
+        )?;
     }
     Ok(())
 }
 
 #[test]
+fn a_cut_stream_is_told(rt: HostRuntime) -> Result<(), Fail> {
+    cut_with(&rt, rt.alloc(), "-")?;
+    cut_with(&rt, rt.alloc(), "00ff")
+}
+
+#[test]
 fn moved_segments_are_told(rt: HostRuntime) -> Result<(), Fail> {
-    let alloc = rt.alloc();
     for (count, places, written, line) in MOVED {
-        let stream = lengthened(alloc, KEYSET, "-", count)?;
-        let moved = parts(alloc, &stream, &places)?;
-        tells(&rt, alloc, "-", moved, (22, written, line))?;
+        let stream = lengthened(rt.alloc(), KEYSET, "-", count)?;
+        tells(
+            &rt,
+            rt.alloc(),
+            "-",
+            (&stream, &places),
+            (22, written, line),
+        )?;
     }
     Ok(())
 }
 
 #[test]
 fn a_stream_of_small_segments_is_cut(rt: HostRuntime) -> Result<(), Fail> {
-    let alloc = rt.alloc();
-    let stream = lengthened(alloc, SMALL, "-", 60)?;
-    for (from, to, wanted) in SMALL_CUTS {
-        for count in from..=to {
-            answers(&rt, alloc, &parts(alloc, &stream, &[(0, count)])?, wanted)?;
-        }
+    let stream = lengthened(rt.alloc(), SMALL, "-", 60)?;
+    for row in SMALL_CUTS {
+        each_cut(&rt, rt.alloc(), &stream, row)?;
     }
     Ok(())
 }
 
 #[test]
 fn moved_small_segments_are_told(rt: HostRuntime) -> Result<(), Fail> {
-    let alloc = rt.alloc();
-    let stream = lengthened(alloc, SMALL, "-", 60)?;
+    let stream = lengthened(rt.alloc(), SMALL, "-", 60)?;
     for (places, wanted) in SMALL_MOVED {
-        answers(&rt, alloc, &parts(alloc, &stream, &places)?, wanted)?;
+        both(&rt, rt.alloc(), (&stream, &places), wanted)?;
     }
     Ok(())
 }
 
 #[test]
 fn a_changed_byte_is_told_by_its_segment(rt: HostRuntime) -> Result<(), Fail> {
-    let alloc = rt.alloc();
     for (place, by, wanted) in CHANGES {
-        let mut stream = sealed(alloc, SMALL, "-", 60)?;
-        if let Some(byte) = stream.get_mut(place) {
-            *byte ^= by;
-        }
-        answers(&rt, alloc, &stream, wanted)?;
+        let stream = changed(rt.alloc(), place, by)?;
+        both(&rt, rt.alloc(), (&stream, &[(0, 124)]), wanted)?;
     }
     Ok(())
 }

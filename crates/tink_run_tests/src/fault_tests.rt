@@ -1,11 +1,10 @@
 //! Sources and sinks that fail at a call, sinks with too little room, and pieces of other sizes.
 
-use crate::support::{KEYSET, SEED, Told, counted, sealed, words};
+use crate::support::{KEYSET, SEED, Told, between, counted, sealed, words};
 use std::alloc::Global;
 use std::process::Abort;
 use std::test::Fail;
-use tink_io::{MemSink, MemSource, SureSink};
-use tink_run::program::program;
+use tink_io::{MemSink, MemSource};
 
 const SEAL: [&str; 4] = ["seal", KEYSET, "-", SEED];
 
@@ -88,19 +87,26 @@ struct Ends {
     room: usize,
 }
 
-// What the program tells by these words, from a source and to a sink that fail so.
-fn between(alloc: Global, texts: &[&str], input: &[u8], ends: Ends) -> Result<Told, Fail> {
-    let words = words(alloc, texts)?;
-    let mut source = MemSource::new(input.to_vec(alloc)?, ends.piece, vec![in alloc; ends.read]?);
+fn source_of(alloc: Global, input: &[u8], ends: Ends) -> Result<MemSource, Fail> {
+    Ok(MemSource::new(input.to_vec(alloc)?, ends.piece, vec![in alloc; ends.read]?))
+}
+
+fn sink_of(alloc: Global, ends: Ends) -> Result<MemSink, Fail> {
     let mut sink = MemSink::new(alloc, ends.piece, vec![in alloc; ends.write]?);
     sink.reserve(alloc, ends.room)?;
-    let mut faults = SureSink::new(alloc);
-    faults.reserve(alloc, 100)?;
-    let status = program(alloc, &words, &mut source, &mut sink, &mut faults);
+    Ok(sink)
+}
+
+// What the program tells by these words, from a source and to a sink that fail so.
+fn failing(alloc: Global, texts: &[&str], input: &[u8], ends: Ends) -> Result<Told, Fail> {
+    let words = words(alloc, texts)?;
+    let mut source = source_of(alloc, input, ends)?;
+    let mut sink = sink_of(alloc, ends)?;
+    let (status, line) = between(alloc, &words, &mut source, &mut sink, 100)?;
     Ok(Told {
         status,
         written: sink.into_bytes(),
-        line: faults.into_bytes(),
+        line,
     })
 }
 
@@ -158,7 +164,7 @@ fn each_read(
             write: 0,
             room: 20000,
         };
-        let told = between(alloc, texts, input, ends)?;
+        let told = failing(alloc, texts, input, ends)?;
         compare(rt, &told, want, whole, stops, (piece, read));
     }
     Ok(())
@@ -179,7 +185,7 @@ fn each_write(
             write,
             room: 20000,
         };
-        let told = between(alloc, texts, input, ends)?;
+        let told = failing(alloc, texts, input, ends)?;
         compare(rt, &told, want, whole, &[], (piece, write));
     }
     Ok(())
@@ -213,7 +219,7 @@ fn in_rooms(
             write: 0,
             room,
         };
-        let told = between(alloc, texts, input, ends)?;
+        let told = failing(alloc, texts, input, ends)?;
         let want = if room < whole.len() { 12 } else { 0 };
         compare(rt, &told, want, whole, &[room], (piece, 0));
     }

@@ -5,8 +5,8 @@ use crate::support::{KEYSET, expect, seal};
 use std::alloc::Global;
 use std::test::Fail;
 use tink_io::Kind;
-use tink_run::load::load;
-use tink_streaming_aead::DerivesStreams;
+use tink_run::load::{LoadedKey, LoadedKeys, load};
+use tink_streaming_aead::{DerivesStreams, StreamKind};
 
 // The URL of the keys.
 const URL: &str =
@@ -277,36 +277,45 @@ fn sealing(alloc: Global, keyset: &str) -> Result<(u8, usize), Fail> {
     Ok((answer.status, answer.written.len()))
 }
 
-// The id, the number of the prefix type, and the bytes of a header and of a segment of the one key.
-fn one_key(alloc: Global, keyset: &str) -> Result<(u32, i32, usize, u32), Fail> {
-    let loaded = load(alloc, &hex::decode(alloc, keyset)?)?;
-    let [key] = loaded.keys.as_slice() else {
-        return Err(Fail::new("one key"));
-    };
-    Ok((
+// The keys of a keyset.
+fn loaded(alloc: Global, keyset: &str) -> Result<LoadedKeys, Fail> {
+    let bytes = hex::decode(alloc, keyset)?;
+    Ok(load(alloc, &bytes)?)
+}
+
+// The id, the number of the prefix type, and the bytes of a header and of a segment.
+fn described(key: &LoadedKey) -> (u32, i32, usize, u32) {
+    (
         key.id,
         key.prefix_type,
         key.key.header_length(),
         key.key.segment_size(),
-    ))
+    )
 }
 
-// The bytes of a header, and those that a segment has beside its text, of the primary key.
-fn primary(alloc: Global, keyset: &str) -> Result<(usize, usize), Fail> {
-    let loaded = load(alloc, &hex::decode(alloc, keyset)?)?;
-    Ok((loaded.primary.header_length(), loaded.primary.overhead()))
+// The description of the one key.
+fn only(keys: &[LoadedKey]) -> Option<(u32, i32, usize, u32)> {
+    match keys {
+        [key] => Some(described(key)),
+        _ => None,
+    }
+}
+
+// The bytes of a header, and those that a segment has beside its text.
+fn measured(key: &StreamKind) -> (usize, usize) {
+    (key.header_length(), key.overhead())
 }
 
 #[test]
 fn loads_a_key(rt: HostRuntime) -> Result<(), Fail> {
-    let alloc = rt.alloc();
+    let found = loaded(rt.alloc(), KEYSET)?;
     expect(
         &rt,
-        one_key(alloc, KEYSET)?,
-        (0x01020304, 3, 24, 4096),
+        only(found.keys.as_slice()),
+        Some((0x01020304, 3, 24, 4096)),
         "the one key",
     );
-    expect(&rt, primary(alloc, KEYSET)?, (24, 32), "the primary key");
+    expect(&rt, measured(&found.primary), (24, 32), "the primary key");
     Ok(())
 }
 

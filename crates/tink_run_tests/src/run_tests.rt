@@ -2,6 +2,8 @@
 
 use crate::stream_tests::{EMPTY_LAST, MIXED};
 use crate::support::{KEYSET, Ran, SMALL, by_run, counted, expect};
+use std::alloc::Global;
+use std::process::Abort;
 use std::test::Fail;
 use tink_io::Kind;
 use tink_run::report::{Command, Report};
@@ -20,23 +22,29 @@ const REPORTS: [(&str, usize, u64); 10] = [
     (MIXED, 5000, 1),
 ];
 
+// Compares what a seal and an open of a counted text report, and the draws that they leave.
+fn reports(rt: &impl Abort, alloc: Global, row: (&str, usize, u64)) -> Result<(), Fail> {
+    let (keyset, count, segments) = row;
+    let want = Report {
+        segments,
+        bytes: count as u64,
+    };
+    let sealed = by_run(alloc, Command::Seal, keyset, 1024, counted(alloc, count)?)?;
+    expect(
+        rt,
+        (sealed.answer, sealed.draws),
+        (Ok(want), 1001),
+        "a seal",
+    );
+    let opened = by_run(alloc, Command::Open, keyset, 0, sealed.written)?;
+    expect(rt, (opened.answer, opened.draws), (Ok(want), 0), "an open");
+    Ok(())
+}
+
 #[test]
 fn seals_and_opens_are_reported(rt: HostRuntime) -> Result<(), Fail> {
-    let alloc = rt.alloc();
-    for (keyset, count, segments) in REPORTS {
-        let want = Report {
-            segments,
-            bytes: count as u64,
-        };
-        let sealed = by_run(alloc, Command::Seal, keyset, 1024, counted(alloc, count)?)?;
-        expect(
-            &rt,
-            (sealed.answer, sealed.draws),
-            (Ok(want), 1001),
-            "a seal",
-        );
-        let opened = by_run(alloc, Command::Open, keyset, 0, sealed.written)?;
-        expect(&rt, (opened.answer, opened.draws), (Ok(want), 0), "an open");
+    for row in REPORTS {
+        reports(&rt, rt.alloc(), row)?;
     }
     Ok(())
 }

@@ -1,8 +1,9 @@
 //! Whole streams through the program. Bytes and digests of streams are those of an independent model in Python.
 
-use crate::support::{KEYSET, SEED, SMALL, by_words, counted, expect, open, seal, sealed, want};
+use crate::support::{KEYSET, SEED, SMALL, by_words, expect, opens, seal, sealed, want};
 use hash_keys::Hash;
 use std::alloc::Global;
+use std::process::Abort;
 use std::test::Fail;
 
 // The stream of "ten bytes." with the associated data 00ff.
@@ -182,85 +183,73 @@ fn seals_to_the_bytes_of_the_model(rt: HostRuntime) -> Result<(), Fail> {
     Ok(())
 }
 
-#[test]
-fn streams_are_those_of_the_model(rt: HostRuntime) -> Result<(), Fail> {
-    let alloc = rt.alloc();
-    for (count, length, digest) in STREAMS {
-        let stream = sealed(alloc, KEYSET, "-", count)?;
-        let digest = String::from_str(alloc, digest)?;
-        expect(
-            &rt,
-            measured(alloc, &stream)?,
-            (length, digest),
-            "the stream",
-        );
-    }
+// Compares the stream of a counted text with its bytes and its digest, and what it opens to.
+fn is_of_model(rt: &impl Abort, alloc: Global, row: (usize, usize, &str)) -> Result<(), Fail> {
+    let (count, length, digest) = row;
+    let stream = sealed(alloc, KEYSET, "-", count)?;
+    let wanted = (length, String::from_str(alloc, digest)?);
+    expect(rt, measured(alloc, &stream)?, wanted, digest);
+    opens(rt, alloc, (KEYSET, "-"), stream, (0, count, ""))
+}
+
+// Compares what a seal writes with the stream, and what an open writes with the text.
+fn is_stream(rt: &impl Abort, alloc: Global, text: &str, stream: &str) -> Result<(), Fail> {
+    let written = seal(alloc, SMALL, text.as_bytes().to_vec(alloc)?)?;
+    expect(
+        rt,
+        written,
+        want(alloc, 0, hex::decode(alloc, stream)?, "")?,
+        text,
+    );
     Ok(())
 }
 
+fn opens_to(rt: &impl Abort, alloc: Global, stream: &str, text: &str) -> Result<(), Fail> {
+    let written = by_words(alloc, &["open", SMALL, "-"], hex::decode(alloc, stream)?)?;
+    expect(
+        rt,
+        written,
+        want(alloc, 0, text.as_bytes().to_vec(alloc)?, "")?,
+        text,
+    );
+    Ok(())
+}
+
+// Compares the bytes of a stream, and what an open of it tells.
+fn goes_round(rt: &impl Abort, alloc: Global, row: Round) -> Result<(), Fail> {
+    let (what, sealing, opening, (count, length), told) = row;
+    let stream = sealed(alloc, sealing.0, sealing.1, count)?;
+    expect(rt, stream.len(), length, what);
+    opens(rt, alloc, opening, stream, told)
+}
+
 #[test]
-fn streams_of_the_model_open(rt: HostRuntime) -> Result<(), Fail> {
-    let alloc = rt.alloc();
-    for (count, _, digest) in STREAMS {
-        let answer = open(alloc, KEYSET, sealed(alloc, KEYSET, "-", count)?)?;
-        expect(
-            &rt,
-            answer,
-            want(alloc, 0, counted(alloc, count)?, "")?,
-            digest,
-        );
+fn streams_are_those_of_the_model_and_open(rt: HostRuntime) -> Result<(), Fail> {
+    for row in STREAMS {
+        is_of_model(&rt, rt.alloc(), row)?;
     }
     Ok(())
 }
 
 #[test]
 fn small_segments_seal_and_open(rt: HostRuntime) -> Result<(), Fail> {
-    let alloc = rt.alloc();
     for (text, stream) in SMALL_STREAMS {
-        let answer = seal(alloc, SMALL, text.as_bytes().to_vec(alloc)?)?;
-        expect(
-            &rt,
-            answer,
-            want(alloc, 0, hex::decode(alloc, stream)?, "")?,
-            text,
-        );
-        let answer = open(alloc, SMALL, hex::decode(alloc, stream)?)?;
-        expect(
-            &rt,
-            answer,
-            want(alloc, 0, text.as_bytes().to_vec(alloc)?, "")?,
-            text,
-        );
+        is_stream(&rt, rt.alloc(), text, stream)?;
+        opens_to(&rt, rt.alloc(), stream, text)?;
     }
     Ok(())
 }
 
 #[test]
 fn an_empty_last_segment_opens(rt: HostRuntime) -> Result<(), Fail> {
-    let alloc = rt.alloc();
-    let answer = open(alloc, SMALL, hex::decode(alloc, EMPTY_LAST)?)?;
-    expect(
-        &rt,
-        answer,
-        want(alloc, 0, counted(alloc, 26)?, "")?,
-        "empty last",
-    );
-    Ok(())
+    let stream = hex::decode(rt.alloc(), EMPTY_LAST)?;
+    opens(&rt, rt.alloc(), (SMALL, "-"), stream, (0, 26, ""))
 }
 
 #[test]
 fn sealed_texts_open(rt: HostRuntime) -> Result<(), Fail> {
-    let alloc = rt.alloc();
-    for (what, sealing, opening, (count, length), (status, opened, line)) in ROUNDS {
-        let stream = sealed(alloc, sealing.0, sealing.1, count)?;
-        expect(&rt, stream.len(), length, what);
-        let answer = by_words(alloc, &["open", opening.0, opening.1], stream)?;
-        expect(
-            &rt,
-            answer,
-            want(alloc, status, counted(alloc, opened)?, line)?,
-            what,
-        );
+    for row in ROUNDS {
+        goes_round(&rt, rt.alloc(), row)?;
     }
     Ok(())
 }

@@ -4,7 +4,7 @@ use std::alloc::Global;
 use std::fmt::Debug;
 use std::process::Abort;
 use std::test::Fail;
-use tink_io::{Draws, Kind, SureSink, SureSource};
+use tink_io::{Draws, Kind, Sink, Source, SureSink, SureSource};
 use tink_run::program::program;
 use tink_run::report::{Command, Report};
 use tink_run::run::run;
@@ -46,20 +46,51 @@ pub fn want(alloc: Global, status: u8, written: Vec<u8>, line: &str) -> Result<T
     })
 }
 
+/// The status of the program by these words, and the line, for which there is so much room.
+pub fn between<S: Source, K: Sink>(
+    alloc: Global,
+    words: &Vec<String>,
+    source: &mut S,
+    sink: &mut K,
+    room: usize,
+) -> Result<(u8, Vec<u8>), Fail> {
+    let mut faults = roomy(alloc, room)?;
+    let status = program(alloc, words, source, sink, &mut faults);
+    Ok((status, faults.into_bytes()))
+}
+
+/// A sink with so much room.
+pub fn roomy(alloc: Global, room: usize) -> Result<SureSink, Fail> {
+    let mut sink = SureSink::new(alloc);
+    sink.reserve(alloc, room)?;
+    Ok(sink)
+}
+
 /// What the program tells by these words.
 pub fn by_words(alloc: Global, texts: &[&str], input: Vec<u8>) -> Result<Told, Fail> {
     let words = words(alloc, texts)?;
     let mut source = SureSource::new(input);
-    let mut sink = SureSink::new(alloc);
-    sink.reserve(alloc, 20000)?;
-    let mut faults = SureSink::new(alloc);
-    faults.reserve(alloc, 100)?;
-    let status = program(alloc, &words, &mut source, &mut sink, &mut faults);
+    let mut sink = roomy(alloc, 20000)?;
+    let (status, line) = between(alloc, &words, &mut source, &mut sink, 100)?;
     Ok(Told {
         status,
         written: sink.into_bytes(),
-        line: faults.into_bytes(),
+        line,
     })
+}
+
+/// Compares what an open tells: a status, so many bytes of a counted text, and a line.
+pub fn opens(
+    rt: &impl Abort,
+    alloc: Global,
+    (keyset, aad): (&str, &str),
+    stream: Vec<u8>,
+    (status, written, line): (u8, usize, &str),
+) -> Result<(), Fail> {
+    let found = by_words(alloc, &["open", keyset, aad], stream)?;
+    let wanted = want(alloc, status, counted(alloc, written)?, line)?;
+    expect(rt, found, wanted, line);
+    Ok(())
 }
 
 /// What a run answers, the draws that it leaves, and what was written.
@@ -81,8 +112,7 @@ pub fn by_run(
     let keyset = hex::decode(alloc, keyset)?;
     let mut draws = Draws::new(counted(alloc, draws)?);
     let mut source = SureSource::new(input);
-    let mut sink = SureSink::new(alloc);
-    sink.reserve(alloc, 20000)?;
+    let mut sink = roomy(alloc, 20000)?;
     let answer = run(
         alloc,
         command,
@@ -97,11 +127,6 @@ pub fn by_run(
         draws: draws.left(),
         written: sink.into_bytes(),
     })
-}
-
-/// What an open tells without associated data.
-pub fn open(alloc: Global, keyset: &str, stream: Vec<u8>) -> Result<Told, Fail> {
-    by_words(alloc, &["open", keyset, "-"], stream)
 }
 
 /// What a seal tells without associated data.

@@ -1,10 +1,10 @@
 //! What the program answers to words that spell no command.
 
-use crate::support::{Told, expect, want};
+use crate::support::{Told, between, expect, want};
 use std::alloc::Global;
+use std::process::Abort;
 use std::test::Fail;
 use tink_io::{SureSink, SureSource};
-use tink_run::program::program;
 
 const USAGE: &str = "usage: seal KEYSET AAD SEED | open KEYSET AAD\n";
 
@@ -40,30 +40,36 @@ fn by_line(alloc: Global, line: &str, room: usize) -> Result<Told, Fail> {
     let words = words_of(alloc, line)?;
     let mut source = SureSource::new(Vec::new(alloc));
     let mut sink = SureSink::new(alloc);
-    let mut faults = SureSink::new(alloc);
-    faults.reserve(alloc, room)?;
-    let status = program(alloc, &words, &mut source, &mut sink, &mut faults);
+    let (status, line) = between(alloc, &words, &mut source, &mut sink, room)?;
     Ok(Told {
         status,
         written: sink.into_bytes(),
-        line: faults.into_bytes(),
+        line,
     })
+}
+
+// Compares what the words of a line are told.
+fn is_usage(
+    rt: &impl Abort,
+    alloc: Global,
+    line: &str,
+    room: usize,
+    usage: &str,
+) -> Result<(), Fail> {
+    let wanted = want(alloc, 2, Vec::new(alloc), usage)?;
+    expect(rt, by_line(alloc, line, room)?, wanted, line);
+    Ok(())
 }
 
 #[test]
 fn other_words_are_usage(rt: HostRuntime) -> Result<(), Fail> {
-    let alloc = rt.alloc();
     for line in NO_COMMANDS {
-        let usage = want(alloc, 2, Vec::new(alloc), USAGE)?;
-        expect(&rt, by_line(alloc, line, 100)?, usage, line);
+        is_usage(&rt, rt.alloc(), line, 100, USAGE)?;
     }
     Ok(())
 }
 
 #[test]
 fn a_closed_place_for_lines_changes_no_status(rt: HostRuntime) -> Result<(), Fail> {
-    let alloc = rt.alloc();
-    let usage = want(alloc, 2, Vec::new(alloc), "usage:")?;
-    expect(&rt, by_line(alloc, "--help", 6)?, usage, "--help");
-    Ok(())
+    is_usage(&rt, rt.alloc(), "--help", 6, "usage:")
 }
