@@ -42,7 +42,7 @@ pub record SpellNothing (words : List (List ℕ)) : Type 0 where
   pub no_open : SpellNoOpen words
 
 -- the bytes of each word of a command line
-abbrev pub words_in : List String → List (List ℕ)
+abbrev pub words_in : {A : Type 0} → List (String A) → List (List ℕ)
 words_in words = map (λ w. string_bytes w) words
 
 -- the words spell what was read

@@ -27,5 +27,5 @@ returns-clause-early g c = leaves_under _ _ _ c.open_under.result _ _ _ _ c.open
 pub returns-in_err-raw-clause-early : goal.returns-in_err-raw-clause-early
 returns-in_err-raw-clause-early g c = leaves_same c.from_residual.result c.args.source.now c.args.sink.now
 
-pub returns-in_err-reserve-clause-early : goal.returns-in_err-reserve-clause-early
-returns-in_err-reserve-clause-early g c = leaves_same c.from_residual-in_err-reserve.result c.args.source.now c.args.sink.now
+pub returns-in_err-trial-clause-early : goal.returns-in_err-trial-clause-early
+returns-in_err-trial-clause-early g c = leaves_same c.from_residual-in_err-trial.result c.args.source.now c.args.sink.now
