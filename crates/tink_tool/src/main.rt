@@ -1,42 +1,24 @@
 //! Seals and opens streams under Tink keysets.
 #![tactic(auto)]
 
-#[cfg(test)]
-mod fault_tests;
-mod load;
-#[cfg(test)]
-mod load_tests;
-mod open;
-mod program;
-mod report;
-#[cfg(test)]
-mod row_tests;
-mod run;
-mod seal;
-#[cfg(test)]
-mod stream_tests;
-#[cfg(test)]
-mod tests;
-mod words;
-
-use program::Outcome;
 use std::env;
 use std::io::ErrorKind;
 use std::process::ExitCode;
 use tink_io::{Kind, StdSink, StdSource};
+use tink_run::program::{Outcome, program, status, tell};
 
 fn main(rt: HostRuntime) -> ExitCode {
     let mut faults = StdSink::new(rt.stderr());
     let words = match words_of(&rt) {
         Ok(words) => words,
         Err(outcome) => {
-            program::tell(&mut faults, outcome);
-            return ExitCode::from(program::status(outcome));
+            tell(&mut faults, outcome);
+            return ExitCode::from(status(outcome));
         }
     };
     let mut source = StdSource::new(rt.stdin());
     let mut sink = StdSink::new(rt.stdout());
-    ExitCode::from(program::program(rt.alloc(), &words, &mut source, &mut sink, &mut faults))
+    ExitCode::from(program(rt.alloc(), &words, &mut source, &mut sink, &mut faults))
 }
 
 // The words after the program's name, or how the program ends where they are not UTF-8 or there is

@@ -1,0 +1,117 @@
+-- From the table of answers to the promises.
+use Rattle.std.proofs.Common.{◌≡◌, ◌≤◌, ◌<◌, ◌^◌, ℕ, List, [], ◌∷◌, ◌++◌, length, refl, sym, ap, subst, ◌∙◌, arith, Some, None}
+use Rattle.std.specs.declared.option.Option.{Option}
+use Rattle.std.specs.Prelude.{Result, Ok, Err, IfSome}
+use Rattle.std.specs.Io.KnownBytes.{Appends, Consumes, IsAtEnd}
+use Rattle.tink_io.specs.declared.error.Kind.{Kind}
+use Rattle.tink_io.specs.declared.error.Kind.TheVariants.{OutOfMemory, ReadFault, WriteFault, RandomFault, BadKeyset, InvalidKeyset, UnsupportedKeyType, InvalidKey, NoPrimary, UnsupportedHash, TooManySegments}
+use Rattle.tink_io.specs.declared.error.TinkError.{TinkError}
+use Rattle.stream_model.specs.Key.{StreamKey, IsUsable, first_room, room, keys_of}
+use Rattle.loading_model.proofs.LoadingFacts.{loaded_usable}
+use Rattle.stream_model.specs.Sealing.{stream, chunk_count, drawn, salt_of, prefix_of}
+use Rattle.stream_model.proofs.SealingFacts.{chunks_more}
+use Rattle.loading_model.specs.Loading.{Loaded, load}
+use Rattle.tink_run.specs.declared.report.Report.{Report}
+use Rattle.tink_run.specs.Outside.{Outside, HasNoFault}
+use Rattle.tink_run.specs.SealAnswers.{Sealing, StreamRefused, SealMeans, SealRefused}
+use Rattle.tink_run.specs.Run.{Told, IsWholeStream, IsOkOrWant, CanSeal}
+
+-- what was appended to told bytes
+pub told_appended : (a b : Option (List ℕ)) (G bs : List ℕ) → a ≡ Some G → Appends a b bs → b ≡ Some (G ++ bs)
+told_appended None b G bs e h = absurd (cc)
+told_appended (Some xs) None G bs e h = absurd h
+told_appended (Some xs) (Some ys) G bs e h = let same : xs ≡ G = cc in ap Some (h ∙ ap (λ x. x ++ bs) same)
+
+-- what was read of told bytes, and what is left
+pub told_consumed : (a b : Option (List ℕ)) (T R : List ℕ) → a ≡ Some T → Consumes a b R → (rest : List ℕ) × (b ≡ Some rest) × (T ≡ R ++ rest)
+told_consumed None b T R e h = absurd (cc)
+told_consumed (Some xs) None T R e h = absurd h
+told_consumed (Some xs) (Some ys) T R e h = let same : xs ≡ T = cc in (ys, refl, sym same ∙ h)
+
+told_end : (b : Option (List ℕ)) (rest : List ℕ) → b ≡ Some rest → IsAtEnd b → rest ≡ []
+told_end None rest e h = absurd (cc)
+told_end (Some xs) rest e h = let same : xs ≡ rest = cc in sym same ∙ h
+
+-- all was read
+pub told_whole : (a b : Option (List ℕ)) (T R : List ℕ) → a ≡ Some T → Consumes a b R → IsAtEnd b → (T ≡ R) × (b ≡ Some [])
+told_whole a b T R e h end =
+    let c = told_consumed a b T R e h in
+    let none = told_end b c.0 c.1 end in
+    (c.2 ∙ ap (λ x. R ++ x) none ∙ append_none R, c.1 ∙ ap Some none)
+  where
+    append_none : (xs : List ℕ) → xs ++ [] ≡ xs
+    append_none [] = refl
+    append_none (x ∷ xs) = ap (λ ys. x ∷ ys) (append_none xs)
+
+pub told_if : (P : List ℕ → Type 0) (a : Option (List ℕ)) (S : List ℕ) → a ≡ Some S → IfSome a P → P S
+told_if P a S e h = rw e at h
+
+-- a told end can't come to tell nothing
+pub told_left : (b : Option (List ℕ)) → (S : List ℕ) → b ≡ Some S → IsAtEnd b → b ≡ Some []
+told_left b S e h = e ∙ ap Some (told_end b S e h)
+
+pub seal_succeeds : (keyset aad draws left_draws T G : List ℕ) (old new : Outside) (report : Report) → Sealing keyset aad draws left_draws old new (Ok report) → Told old T G
+    → IsWholeStream keyset aad draws left_draws T G new report
+seal_succeeds keyset aad draws left_draws T G old new report s t =
+    let whole = told_whole old.left new.left T s.means.text t.left s.means.read s.means.at_end in
+    record {
+      loaded = s.loaded;
+      loads = s.loads;
+      written = told_appended old.got new.got G (stream s.loaded.primary aad (salt_of s.loaded.primary draws) (prefix_of s.loaded.primary draws) T) t.got
+          (subst (λ (x : List ℕ). Appends old.got new.got (stream s.loaded.primary aad (salt_of s.loaded.primary draws) (prefix_of s.loaded.primary draws) x)) (sym whole.0) s.means.written);
+      at_end = whole.1;
+      rest = s.rest;
+      segments = s.means.segments ∙ ap (chunk_count s.loaded.primary) (sym whole.0);
+      bytes = s.means.bytes ∙ ap length (sym whole.0);
+    }
+
+room_some : (k : StreamKey) → IsUsable k → (0 < first_room k) × (0 < room k)
+room_some k u = (omega (arith, u.room), omega (arith, u.room))
+
+-- a sealing that can succeed is refused for no other cause than a fault
+pub sealing_complete : (keyset aad draws left_draws T G : List ℕ) (old new : Outside) (e : TinkError) (kind : Kind) → e.kind ≡ kind → Sealing keyset aad draws left_draws old new (Err e) → Told old T G → HasNoFault old new → CanSeal keyset aad draws T → ⊥
+sealing_complete keyset aad draws left_draws T G old new e kind same s t n c = go kind (subst (StreamRefused s.loaded.primary aad (salt_of s.loaded.primary draws) (prefix_of s.loaded.primary draws) old new) same s.means)
+  where
+    loaded_same : s.loaded ≡ c.loaded
+    loaded_same = let p = s.loads in let q = c.loads in cc
+
+    go : (kind : Kind) → StreamRefused s.loaded.primary aad (salt_of s.loaded.primary draws) (prefix_of s.loaded.primary draws) old new kind → ⊥
+    go ReadFault r = n.reads r.rose
+    go WriteFault r = n.writes r.rose
+    go TooManySegments r =
+        let k = s.loaded.primary in
+        let few : chunk_count k T ≤ 2 ^ 32 = subst (λ (l : Loaded). chunk_count l.primary T ≤ 2 ^ 32) (sym loaded_same) c.few in
+        let rest = told_consumed old.left new.left T r.text t.left r.read in
+        let some = room_some k (loaded_usable keyset s.loaded s.loads).1 in
+        omega (arith, r.many, few, chunks_more (first_room k) (room k) r.text rest.0 some.0 some.1, ap (chunk_count k) rest.2)
+    go _ r = r
+
+-- a seal that can succeed does, or there is no memory
+pub seal_complete : (keyset aad draws left_draws T G : List ℕ) (old new : Outside) (answer : Result Report TinkError) → SealMeans keyset aad draws left_draws old new answer → Told old T G → HasNoFault old new → CanSeal keyset aad draws T → IsOkOrWant answer
+seal_complete keyset aad draws left_draws T G old new (Ok report) m t n c = tt
+seal_complete keyset aad draws left_draws T G old new (Err e) m t n c = go e.kind refl m
+  where
+    loads_not : (kind : Kind) → load keyset ≡ Err kind → ⊥
+    loads_not kind e = let f = c.loads in cc
+
+    go : (kind : Kind) → e.kind ≡ kind → SealRefused keyset aad draws left_draws old new e kind → e.kind ≡ OutOfMemory
+    go OutOfMemory same r = same
+    go BadKeyset same r = absurd (loads_not BadKeyset r.cause)
+    go InvalidKeyset same r = absurd (loads_not InvalidKeyset r.cause)
+    go UnsupportedKeyType same r = absurd (loads_not UnsupportedKeyType r.cause)
+    go InvalidKey same r = absurd (loads_not InvalidKey r.cause)
+    go NoPrimary same r = absurd (loads_not NoPrimary r.cause)
+    go RandomFault same r =
+        let p = r.loads in
+        let q = c.loads in
+        let one : r.loaded ≡ c.loaded = cc in
+        absurd (omega (arith, r.few, subst (λ (l : Loaded). drawn l.primary ≤ length draws) (sym one) c.enough))
+    go UnsupportedHash same r =
+        let p = r.loads in
+        let q = c.loads in
+        let one : r.loaded ≡ c.loaded = cc in
+        absurd (c.derives (subst (λ (l : Loaded). keys_of l.primary aad (salt_of l.primary draws) ≡ None) one r.none))
+    go ReadFault same r = absurd (sealing_complete keyset aad draws left_draws T G old new e ReadFault same r t n c)
+    go WriteFault same r = absurd (sealing_complete keyset aad draws left_draws T G old new e WriteFault same r t n c)
+    go TooManySegments same r = absurd (sealing_complete keyset aad draws left_draws T G old new e TooManySegments same r t n c)
+    go _ same r = absurd r

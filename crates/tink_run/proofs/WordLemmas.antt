@@ -1,0 +1,104 @@
+-- Words, and what they spell.
+use Rattle.std.proofs.Common.{◌≡◌, inl, inr, ◌<◌, ℕ, zero, suc, List, [], ◌∷◌, length, map, sym, ◌∙◌, ap, subst, arith, slice_index_or, Global}
+use Rattle.std.specs.Prelude.{String, string_bytes, codes, Ok}
+use Rattle.hex.specs.Hex.{decode_sized}
+use Rattle.hex.proofs.HexLemmas.{decode_of-same, decode_sized-ok, decode_sized-twice}
+use Rattle.tink_run.specs.Words.{SealWords, OpenWords, IsBytesWord, IsSeedWord}
+
+abbrev pub texts : List (String Global) → List (List ℕ)
+texts ws = map (λ w. string_bytes w) ws
+
+-- the text of the word at a place
+pub slice_index-texts : (ws : List (String Global)) (n : ℕ) (w : String Global) → n < length ws → w ≡ slice_index_or ws n w → slice_index_or (texts ws) n [] ≡ string_bytes w
+slice_index-texts [] n w below is = absurd (omega arith)
+slice_index-texts (v ∷ vs) zero w below is = ap string_bytes (sym is)
+slice_index-texts (v ∷ vs) (suc n) w below is = slice_index-texts vs n w (omega arith) is
+
+-- the word at a place of a spelling
+pub spelled_at : (ws : List (String Global)) (n : ℕ) (w : String Global) (spelling : List (List ℕ)) → n < length ws → w ≡ slice_index_or ws n w → texts ws ≡ spelling → slice_index_or spelling n [] ≡ string_bytes w
+spelled_at ws n w spelling below is spelled = ap (λ xs. slice_index_or xs n []) (sym spelled) ∙ slice_index-texts ws n w below is
+
+three_texts : (ws : List (String Global)) (a b c : String Global) → length ws ≡ 3 → a ≡ slice_index_or ws 0 a → b ≡ slice_index_or ws 1 b → c ≡ slice_index_or ws 2 c
+    → texts ws ≡ string_bytes a ∷ string_bytes b ∷ string_bytes c ∷ []
+three_texts [] a b c l p q r = absurd (omega arith)
+three_texts (v ∷ []) a b c l p q r = absurd (omega arith)
+three_texts (v ∷ w ∷ []) a b c l p q r = absurd (omega arith)
+three_texts (v ∷ w ∷ x ∷ []) a b c l p q r = cc
+three_texts (v ∷ w ∷ x ∷ y ∷ more) a b c l p q r = absurd (omega arith)
+
+four_texts : (ws : List (String Global)) (a b c d : String Global) → length ws ≡ 4 → a ≡ slice_index_or ws 0 a → b ≡ slice_index_or ws 1 b → c ≡ slice_index_or ws 2 c → d ≡ slice_index_or ws 3 d
+    → texts ws ≡ string_bytes a ∷ string_bytes b ∷ string_bytes c ∷ string_bytes d ∷ []
+four_texts [] a b c d l p q r s = absurd (omega arith)
+four_texts (v ∷ ws) a b c d l p q r s = let rest = three_texts ws b c d (omega arith) q r s in cc
+
+-- sixty-four digits are those of 32 bytes
+pub seed_word : (word seed : List ℕ) → decode_sized word 32 ≡ Ok seed → IsSeedWord word seed
+seed_word word seed is = let long = decode_sized-ok word 32 seed is in (long, sym (decode_sized-twice word 32 long) ∙ is)
+
+pub seed_decodes : (word seed : List ℕ) → IsSeedWord word seed → decode_sized word 32 ≡ Ok seed
+seed_decodes word seed spelled = decode_sized-twice word 32 spelled.0 ∙ spelled.1
+
+pub seal_words : (ws : List (String Global)) (a b c d : String Global) (keyset aad seed : List ℕ) → length ws ≡ 4
+    → a ≡ slice_index_or ws 0 a → b ≡ slice_index_or ws 1 b → c ≡ slice_index_or ws 2 c → d ≡ slice_index_or ws 3 d
+    → string_bytes a ≡ codes "seal" → IsBytesWord (string_bytes b) keyset → IsBytesWord (string_bytes c) aad → decode_sized (string_bytes d) 32 ≡ Ok seed
+    → SealWords (texts ws) keyset aad seed
+seal_words ws a b c d keyset aad seed l p q r s is keyset_is aad_is decodes = record {
+  keyset_word = string_bytes b;
+  aad_word = string_bytes c;
+  seed_word = string_bytes d;
+  spelled = four_texts ws a b c d l p q r s ∙ ap (λ x. x ∷ string_bytes b ∷ string_bytes c ∷ string_bytes d ∷ []) is;
+  keyset_is = keyset_is;
+  aad_is = aad_is;
+  seed_is = seed_word (string_bytes d) seed decodes;
+}
+
+pub open_words : (ws : List (String Global)) (a b c : String Global) (keyset aad : List ℕ) → length ws ≡ 3
+    → a ≡ slice_index_or ws 0 a → b ≡ slice_index_or ws 1 b → c ≡ slice_index_or ws 2 c
+    → string_bytes a ≡ codes "open" → IsBytesWord (string_bytes b) keyset → IsBytesWord (string_bytes c) aad
+    → OpenWords (texts ws) keyset aad
+open_words ws a b c keyset aad l p q r is keyset_is aad_is = record {
+  keyset_word = string_bytes b;
+  aad_word = string_bytes c;
+  spelled = three_texts ws a b c l p q r ∙ ap (λ x. x ∷ string_bytes b ∷ string_bytes c ∷ []) is;
+  keyset_is = keyset_is;
+  aad_is = aad_is;
+}
+
+-- a word spells at most one list of bytes
+bytes-same : (word xs ys : List ℕ) → IsBytesWord word xs → IsBytesWord word ys → xs ≡ ys
+bytes-same word xs ys (inl p) (inl q) = p.1 ∙ sym q.1
+bytes-same word xs ys (inl p) (inr q) = absurd (omega (arith, ap length p.0, q.0))
+bytes-same word xs ys (inr p) (inl q) = absurd (omega (arith, ap length q.0, p.0))
+bytes-same word xs ys (inr p) (inr q) = decode_of-same word xs ys p.1 q.1
+
+-- words spell at most one seal
+pub record SameSeal (keyset aad seed keyset2 aad2 seed2 : List ℕ) : Type 0 where
+  pub keyset_is : keyset ≡ keyset2
+  pub aad_is : aad ≡ aad2
+  pub seed_is : seed ≡ seed2
+
+pub seal-same : (words : List (List ℕ)) (k a s l b t : List ℕ) → SealWords words k a s → SealWords words l b t → SameSeal k a s l b t
+seal-same words k a s l b t p q =
+    let same = sym p.spelled ∙ q.spelled in
+    let second : q.keyset_word ≡ p.keyset_word = cc same in
+    let third : q.aad_word ≡ p.aad_word = cc same in
+    let fourth : q.seed_word ≡ p.seed_word = cc same in
+    record {
+      keyset_is = bytes-same p.keyset_word k l p.keyset_is (subst (λ w. IsBytesWord w l) second q.keyset_is);
+      aad_is = bytes-same p.aad_word a b p.aad_is (subst (λ w. IsBytesWord w b) third q.aad_is);
+      seed_is = decode_of-same p.seed_word s t p.seed_is.1 (subst (λ w. IsSeedWord w t) fourth q.seed_is).1;
+    }
+
+-- words spell at most one open
+pub open-same : (words : List (List ℕ)) (k a l b : List ℕ) → OpenWords words k a → OpenWords words l b → (k ≡ l) × (a ≡ b)
+open-same words k a l b p q =
+    let same = sym p.spelled ∙ q.spelled in
+    let second : q.keyset_word ≡ p.keyset_word = cc same in
+    let third : q.aad_word ≡ p.aad_word = cc same in (
+      bytes-same p.keyset_word k l p.keyset_is (subst (λ w. IsBytesWord w l) second q.keyset_is),
+      bytes-same p.aad_word a b p.aad_is (subst (λ w. IsBytesWord w b) third q.aad_is),
+    )
+
+-- and not both
+pub not_both : (words : List (List ℕ)) (k a s l b : List ℕ) → SealWords words k a s → OpenWords words l b → ⊥
+not_both words k a s l b p q = let same = sym p.spelled ∙ q.spelled in cc same

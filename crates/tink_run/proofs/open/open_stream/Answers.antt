@@ -1,0 +1,63 @@
+use Rattle.std.proofs.Common.{take, length, refl, sym, ap, ◌∙◌, arith}
+use Rattle.std.proofs.KnownBytes.{Keeps-refl}
+use Rattle.std.proofs.lemmas.Result.{err_from_is_err_and}
+use Rattle.std.specs.Io.KnownBytes.{prepend_known}
+use Rattle.tink_streams.specs.Reading.{Moment}
+use Rattle.tink_run.proofs.ReadOut.{reading_first, reading_next, read_out, write_failed, next_refused, first_refused}
+use Rattle.tink_run.proofs.open.open_stream.Goals as goal
+
+pub returns-in_err-open_first-clause-answer : goal.returns-in_err-open_first-clause-answer
+returns-in_err-open_first-clause-answer g c =
+    let p = err_from_is_err_and c.from_residual.result c.from_residual.ensures.1 in
+    let before = c.args.reader.now in
+    let after = c.open_first.new.reader in
+    let m : Moment = record { progress = before.progress; number = before.segments; opened = before.opened.items; rest = prepend_known (take before.filled before.buffer.items) (g.S.Source.left c.args.source.now); faults = g.S.Source.faults c.args.source.now } in
+    let n : Moment = record { progress = after.progress; number = after.segments; opened = after.opened.items; rest = prepend_known (take after.filled after.buffer.items) (g.S.Source.left c.open_first.new.source); faults = g.S.Source.faults c.open_first.new.source } in
+    rw (p.1, p.2) (first_refused _ _ _ _ _ _ m n _ c.requires.fresh refl (omega arith) (omega arith) (Keeps-refl _) c.in_err-open_first.ensures.answer)
+
+pub loop-bytes-init : goal.loop-bytes-init
+loop-bytes-init g c = record {
+  reading = reading_first _ _ _ _ _ _ c.requires.fresh c.in_ok-open_first.ensures.answer (omega (arith, c.open_first.ensures.small, c.open_first.new.reader.opened.ok.0));
+  opener = c.open_first.ensures.opener;
+  reads = c.open_first.ensures.later;
+  writes = omega arith;
+  same_source = c.open_first.ensures.same;
+  same_sink = g.met.K.Sink.same_refl c.args.sink.now;
+}
+
+pub returns-in_err-write_all-clause-answer : goal.returns-in_err-write_all-clause-answer
+returns-in_err-write_all-clause-answer g c =
+    let p = err_from_is_err_and c.from_residual-in_err-write_all.result c.from_residual-in_err-write_all.ensures.1 in
+    rw (p.1, p.2, c.in_err-write_all.ensures.refused)
+    (write_failed _ _ _ _ _ _ _ _ _ c.loop-bytes.invariant.reading (rw c.opened-text.ensures at c.in_err-write_all.ensures.front) c.loop-bytes.invariant.writes c.in_err-write_all.ensures.cause)
+
+pub returns-in-Ended-clause-answer : goal.returns-in-Ended-clause-answer
+returns-in-Ended-clause-answer g c =
+    let reader = c.loop-bytes.reader in
+    read_out _ _ _ _ _ _ _ _ (take reader.filled reader.buffer.items) _ c.loop-bytes.invariant.reading (rw c.opened-text.ensures at c.in_ok-write_all.ensures.written)
+    (sym c.in-Ended.ensures) refl c.segments.ensures (omega (arith, ap length c.opened-text.ensures))
+
+pub loop-bytes-preserved : goal.loop-bytes-preserved
+loop-bytes-preserved g c =
+    let next = rw c.loop-bytes.invariant.opener at c.in_ok-open_next-in_default.ensures.answer in
+    record {
+      reading = rw c.opened-text.ensures (reading_next _ _ _ _ _ _ _ _ _ _ c.loop-bytes.invariant.reading (rw c.opened-text.ensures at c.in_ok-write_all.ensures.written) next
+          (omega (arith, c.open_next.ensures.small, c.open_next.new.self.opened.ok.0)));
+      opener = c.open_next.ensures.opener ∙ c.loop-bytes.invariant.opener;
+      reads = omega (arith, c.loop-bytes.invariant.reads, c.open_next.ensures.later);
+      writes = omega (arith, c.loop-bytes.invariant.writes, c.write_all.ensures.later);
+      same_source = g.met.S.Source.same_trans _ _ _ c.loop-bytes.invariant.same_source c.open_next.ensures.same;
+      same_sink = g.met.K.Sink.same_trans _ _ _ c.loop-bytes.invariant.same_sink c.write_all.ensures.same;
+    }
+
+pub returns-in_err-open_next-in_default : goal.returns-in_err-open_next-in_default
+returns-in_err-open_next-in_default g c =
+    let p = err_from_is_err_and c.from_residual-in_err-open_next-in_default.result c.from_residual-in_err-open_next-in_default.ensures.1 in
+    let opener = c.args.reader.now.opener in
+    let refused = rw c.loop-bytes.invariant.opener at c.in_err-open_next-in_default.ensures.answer in
+    record {
+      answer = rw (p.1, p.2) (next_refused _ _ _ _ _ _ _ _ _ _ _ (omega (arith, opener.some)) (omega (arith, opener.some, opener.first_fits)) c.loop-bytes.invariant.reading (rw c.opened-text.ensures at c.in_ok-write_all.ensures.written)
+          c.loop-bytes.invariant.reads (omega arith) refused);
+      source = g.met.S.Source.same_trans _ _ _ c.loop-bytes.invariant.same_source c.open_next.ensures.same;
+      sink = g.met.K.Sink.same_trans _ _ _ c.loop-bytes.invariant.same_sink c.write_all.ensures.same;
+    }

@@ -1,0 +1,46 @@
+use Rattle.std.proofs.Common.{◌<◌, ℕ, refl, ◌∙◌, arith}
+use Rattle.std.proofs.lemmas.List.{length-take}
+use Rattle.std.proofs.lemmas.Result.{err_from_is_err_and}
+use Rattle.tink_run.proofs.PourSteps.{few_bytes, poured_none, poured_more, pour_refused}
+use Rattle.tink_run.proofs.seal.pour.Goals as goal
+
+pub loop-n-init : goal.loop-n-init
+loop-n-init g c = record {
+  poured = poured_none _ _ _ _ _ (record { mode = c.requires.open; number = c.requires.fresh; held = c.requires.empty });
+  sealer = refl;
+  reads = omega arith;
+  writes = omega arith;
+  same_source = g.met.S.Source.same_refl c.args.source.now;
+  same_sink = g.met.K.Sink.same_refl c.args.sink.now;
+}
+
+pub returns-in_err-write-in-Ok-clause-answer : goal.returns-in_err-write-in-Ok-clause-answer
+returns-in_err-write-in-Ok-clause-answer g c =
+    let p = err_from_is_err_and c.from_residual.result c.from_residual.ensures.1 in
+    let sealer = c.args.writer.now.sealer in
+    let room : 0 < sealer.room = omega (arith, sealer.some, sealer.first_fits) in
+    let r = rw c.loop-n.invariant.sealer at c.in_err-write-in-Ok.ensures.answer in
+    rw (p.1, p.2) (pour_refused _ _ _ _ _ _ _ _ _ _ _ _ _ _ sealer.some room c.loop-n.invariant.writes c.loop-n.invariant.poured c.in-Ok.ensures.bytes.0 r)
+
+pub overflow_add-bytes : goal.overflow_add-bytes
+overflow_add-bytes g c =
+    let sealer = c.args.writer.now.sealer in
+    let room : 0 < sealer.room = omega (arith, sealer.some, sealer.first_fits) in
+    let w = rw c.loop-n.invariant.sealer at c.in_ok-write-in-Ok.ensures.answer in
+    let p = poured_more _ _ _ _ _ _ _ _ _ c.loop-n.bytes c.in-Ok.n _ sealer.some room c.loop-n.invariant.poured c.in-Ok.ensures.bytes.0 w.0 (omega (arith, length-take {A = ℕ}, c.in-Ok.ensures.bound)) in
+    let few = few_bytes _ _ _ _ _ p.text sealer.some sealer.first_fits (omega (arith, sealer.small)) (record { mode = c.requires.open; number = c.requires.fresh; held = c.requires.empty }) p.wrote in
+    omega (arith, few, p.bytes_are)
+
+pub loop-n-preserved : goal.loop-n-preserved
+loop-n-preserved g c =
+    let sealer = c.args.writer.now.sealer in
+    let room : 0 < sealer.room = omega (arith, sealer.some, sealer.first_fits) in
+    let w = rw c.loop-n.invariant.sealer at c.in_ok-write-in-Ok.ensures.answer in
+    record {
+      poured = poured_more _ _ _ _ _ _ _ _ _ _ _ _ sealer.some room c.loop-n.invariant.poured c.in-Ok.ensures.bytes.0 w.0 (omega (arith, length-take {A = ℕ}, c.in-Ok.ensures.bound));
+      sealer = c.write.ensures.sealer ∙ c.loop-n.invariant.sealer;
+      reads = omega (arith, c.loop-n.invariant.reads, c.in-Ok.ensures.cause.later);
+      writes = omega (arith, c.loop-n.invariant.writes, c.write.ensures.later);
+      same_source = g.met.S.Source.same_trans _ _ _ c.loop-n.invariant.same_source c.in-Ok.ensures.same;
+      same_sink = g.met.K.Sink.same_trans _ _ _ c.loop-n.invariant.same_sink c.write.ensures.same;
+    }

@@ -1,0 +1,64 @@
+use Rattle.std.proofs.Common.{refl, arith}
+use Rattle.std.proofs.lemmas.Result.{err_from_is_err_and}
+use Rattle.tink_run.proofs.SealSteps.{begin_leaves, begin_refusal, close_leaves, closed, not_closed, not_poured, pour_leaves}
+use Rattle.tink_run.proofs.RunSteps.{leaves_same}
+use Rattle.tink_stream_keys.specs.StreamKinds.{key_of}
+use Rattle.tink_run.proofs.seal.seal.Goals as goal
+
+pub returns-in-Err-clause-answer : goal.returns-in-Err-clause-answer
+returns-in-Err-clause-answer g c =
+    begin_refusal g.K.Sink.got g.K.Sink.faults (key_of c.args.key.now) c.args.aad.now c.args.draws.now c.begin_stream.new.draws c.args.sink.now c.begin_stream.new.sink
+    (g.S.Source.left c.args.source.now) (g.S.Source.faults c.args.source.now) c.in-Err.error.kind c.not_begun.result c.not_begun.ensures c.in-Err.ensures.answer
+
+pub returns-in-Err-clause-source : goal.returns-in-Err-clause-source
+returns-in-Err-clause-source g c = g.met.S.Source.same_refl c.args.source.now
+
+pub returns-in_err-bytes-clause-answer : goal.returns-in_err-bytes-clause-answer
+returns-in_err-bytes-clause-answer g c =
+    let p = err_from_is_err_and c.from_residual-in_err-bytes.result c.from_residual-in_err-bytes.ensures.1 in
+    let begun = c.in-Ok.ensures in
+    rw (p.1, p.2) (not_poured _ _ _ _ _ _ _ _ _ begun.answer _ _ _ _ _ _ c.in_err-bytes.field-0.0 begun.later c.in_err-bytes.ensures.answer)
+
+pub returns-in_err-bytes-clause-sink : goal.returns-in_err-bytes-clause-sink
+returns-in_err-bytes-clause-sink g c = g.met.K.Sink.same_trans _ _ _ c.in-Ok.ensures.same c.pour.ensures.sink
+
+pub returns-in_err-close-clause-answer : goal.returns-in_err-close-clause-answer
+returns-in_err-close-clause-answer g c =
+    let p = err_from_is_err_and c.from_residual-in_err-close.result c.from_residual-in_err-close.ensures.1 in
+    let begun = c.in-Ok.ensures in
+    let poured = c.in_ok-bytes.ensures in
+    let r = rw poured.sealer at c.in_err-close.ensures.answer in
+    rw (p.1, p.2) (not_closed _ _ _ _ _ _ _ _ _ begun.answer _ _ _ _ _ _
+    (record { mode = c.close.new.self.mode; number = c.close.new.self.segments; held = c.close.new.self.held.items; got = g.K.Sink.got c.close.new.sink; faults = g.K.Sink.faults c.close.new.sink })
+    c.in_ok-bytes.bytes poured.answer.0 poured.answer.1 (omega (arith, begun.later, poured.write_count)) c.in_err-close.field-0.0 r)
+
+pub returns-in_err-close-clause-sink : goal.returns-in_err-close-clause-sink
+returns-in_err-close-clause-sink g c = g.met.K.Sink.same_trans _ _ _ (g.met.K.Sink.same_trans _ _ _ c.in-Ok.ensures.same c.pour.ensures.sink) c.close.ensures.same
+
+pub returns-clause-answer : goal.returns-clause-answer
+returns-clause-answer g c =
+    let begun = c.in-Ok.ensures in
+    let poured = c.in_ok-bytes.ensures in
+    closed _ _ _ _ _ _ _ _ _ begun.answer _ _ _ _ _ _ _ _ poured.answer.0 poured.answer.1 (omega (arith, begun.later, poured.write_count))
+    (rw poured.sealer at c.in_ok-close.ensures.answer) _ c.segments.ensures refl
+
+pub returns-clause-sink : goal.returns-clause-sink
+returns-clause-sink g c = g.met.K.Sink.same_trans _ _ _ (g.met.K.Sink.same_trans _ _ _ c.in-Ok.ensures.same c.pour.ensures.sink) c.close.ensures.same
+
+pub returns-in_err-piece-clause-early : goal.returns-in_err-piece-clause-early
+returns-in_err-piece-clause-early g c = leaves_same c.from_residual.result c.args.source.now c.args.sink.now
+
+pub returns-in-Err-clause-early : goal.returns-in-Err-clause-early
+returns-in-Err-clause-early g c =
+    begin_leaves g.K.Sink.got g.K.Sink.faults (key_of c.args.key.now) c.args.aad.now c.args.draws.now c.begin_stream.new.draws c.args.sink.now c.begin_stream.new.sink
+    (g.S.Source.left c.args.source.now) (g.S.Source.faults c.args.source.now) c.args.source.now c.in-Err.error.kind c.not_begun.result c.not_begun.ensures c.in-Err.ensures.answer
+
+pub returns-in_err-bytes-clause-early : goal.returns-in_err-bytes-clause-early
+returns-in_err-bytes-clause-early g c =
+    let p = err_from_is_err_and c.from_residual-in_err-bytes.result c.from_residual-in_err-bytes.ensures.1 in
+    rw (p.1, p.2) (pour_leaves _ _ _ _ _ _ _ _ _ c.in_err-bytes.field-0.0 _ _ _ _ c.in_err-bytes.ensures.answer)
+
+pub returns-in_err-close-clause-early : goal.returns-in_err-close-clause-early
+returns-in_err-close-clause-early g c =
+    let p = err_from_is_err_and c.from_residual-in_err-close.result c.from_residual-in_err-close.ensures.1 in
+    rw (p.1, p.2) (close_leaves _ _ _ c.in_err-close.field-0.0 _ _ _ _ c.in_err-close.ensures.answer)

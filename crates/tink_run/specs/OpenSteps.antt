@@ -1,0 +1,88 @@
+-- What the steps of an open say.
+use Rattle.std.specs.Prelude.{◌≡◌, ℕ, ◌<◌, ◌≤◌, ◌^◌, Bool, List, [], length, slice_index_or, Result, Ok, Err, IfSome, IsSome}
+use Rattle.std.specs.Io.KnownBytes.{Appends, Keeps, IsAtEnd}
+use Rattle.tink_io.specs.Faults.{Rose}
+use Rattle.tink_io.specs.Written.{AppendsFront}
+use Rattle.tink_io.specs.declared.error.Kind.{Kind}
+use Rattle.tink_io.specs.declared.error.Kind.TheVariants.{OutOfMemory, ReadFault, WriteFault, TooManySegments, NoMatchingKey, BadSegment, Truncated}
+use Rattle.tink_io.specs.declared.error.TinkError.{TinkError}
+use Rattle.stream_model.specs.Cut.{cut}
+use Rattle.stream_model.specs.Agree.{AreTexts, Agree, Leads, joined}
+use Rattle.stream_model.specs.Opening.{OpeningKey}
+use Rattle.tink_streams.specs.Reading.{Moment, OpensNext, NothingComes}
+use Rattle.tink_run.specs.declared.report.Report.{Report}
+use Rattle.tink_run.specs.Outside.{Outside, IsUntouched}
+use Rattle.tink_run.specs.OpenAnswers.{IsOpened, StreamRefused}
+
+-- the first segment: where it is the segment of no text, the stream doesn't begin under the reader's key
+abbrev pub FirstRefused : (ℕ → Bool → List ℕ → List ℕ) → ℕ → ℕ → Moment → Moment → Kind → Type 0
+FirstRefused seg a b old new NoMatchingKey = NothingComes seg a b old
+FirstRefused seg a b old new ReadFault = Rose old.faults new.faults
+FirstRefused seg a b old new _ = ⊥
+
+abbrev pub FirstMeans : (ℕ → Bool → List ℕ → List ℕ) → ℕ → ℕ → Moment → Moment → Result (Unit {0}) TinkError → Type 0
+FirstMeans seg a b old new (Ok _) = OpensNext seg a b old new
+FirstMeans seg a b old new (Err e) = FirstRefused seg a b old new e.kind
+
+-- some texts lead from the first chunk of the old rest to its end, and were written
+pub record IsReadOut (seg : ℕ → Bool → List ℕ → List ℕ) (a b : ℕ) (old new : Outside) (report : Report) : Type 0 where
+  pub texts : List (List ℕ)
+  pub some : 0 < length texts
+  pub leads : IfSome old.left (λ X. Leads seg 0 (cut a b X) texts [])
+  pub stays_told : IfSome old.left (λ _. IsSome new.left)
+  pub at_end : IsAtEnd new.left
+  pub written : Appends old.got new.got (joined texts)
+  pub segments : report.segments ≡ length texts
+  pub bytes : report.bytes ≡ length (joined texts)
+
+-- no text agrees, and nothing was written
+pub record BeginsNot (seg : ℕ → Bool → List ℕ → List ℕ) (a b : ℕ) (old new : Outside) : Type 0 where
+  pub nothing : IfSome old.left (λ X. Agree seg 0 (cut a b X) [])
+  pub written : Keeps old.got new.got
+
+-- n texts are all that agree, and were written; P holds of the chunks
+pub record StopsAt (n : ℕ) (P : List (List ℕ) → Type 0) (seg : ℕ → Bool → List ℕ → List ℕ) (a b : ℕ) (old new : Outside) : Type 0 where
+  pub texts : List (List ℕ)
+  pub number : n ≡ length texts
+  pub some : 0 < n
+  pub agree : IfSome old.left (λ X. Agree seg 0 (cut a b X) texts × P (cut a b X))
+  pub written : Appends old.got new.got (joined texts)
+
+-- an end failed: a front of texts whose segments lead was written
+pub record Breaks (seg : ℕ → Bool → List ℕ → List ℕ) (a b : ℕ) (old new : Outside) : Type 0 where
+  pub texts : List (List ℕ)
+  pub lead : IfSome old.left (λ X. AreTexts seg 0 (cut a b X) texts)
+  pub written : AppendsFront old.got new.got (joined texts)
+
+-- chunk n, which is there, is shorter than a tag
+abbrev pub HasShort : ℕ → ℕ → List (List ℕ) → Type 0
+HasShort n overhead chunks = (0 < length (slice_index_or chunks n [])) × (length (slice_index_or chunks n []) < overhead)
+
+abbrev pub HasLong : ℕ → ℕ → List (List ℕ) → Type 0
+HasLong n overhead chunks = overhead ≤ length (slice_index_or chunks n [])
+
+abbrev pub HasMore : ℕ → List (List ℕ) → Type 0
+HasMore n chunks = n < length chunks
+
+abbrev pub ReaderRefused : (ℕ → Bool → List ℕ → List ℕ) → ℕ → ℕ → ℕ → Outside → Outside → Kind → Type 0
+ReaderRefused seg a b overhead old new NoMatchingKey = BeginsNot seg a b old new
+ReaderRefused seg a b overhead old new (Truncated n) = StopsAt n (HasShort n overhead) seg a b old new
+ReaderRefused seg a b overhead old new (BadSegment n) = StopsAt n (HasLong n overhead) seg a b old new
+ReaderRefused seg a b overhead old new TooManySegments = StopsAt (2 ^ 32) (HasMore (2 ^ 32)) seg a b old new
+ReaderRefused seg a b overhead old new ReadFault = Breaks seg a b old new × Rose old.read_faults new.read_faults
+ReaderRefused seg a b overhead old new WriteFault = Breaks seg a b old new × Rose old.write_faults new.write_faults
+ReaderRefused seg a b overhead old new _ = ⊥
+
+-- what opening all that a reader finds answers; the old rest is what it holds, and then what the source has left
+abbrev pub ReaderMeans : (ℕ → Bool → List ℕ → List ℕ) → ℕ → ℕ → ℕ → Outside → Outside → Result Report TinkError → Type 0
+ReaderMeans seg a b overhead old new (Ok report) = IsReadOut seg a b old new report
+ReaderMeans seg a b overhead old new (Err e) = ReaderRefused seg a b overhead old new e.kind
+
+abbrev pub UnderRefused : List OpeningKey → Outside → Outside → Kind → Type 0
+UnderRefused keys old new OutOfMemory = IsUntouched old new
+UnderRefused keys old new kind = StreamRefused keys old new kind
+
+-- what an open under keys answers
+abbrev pub OpensUnder : List OpeningKey → Outside → Outside → Result Report TinkError → Type 0
+OpensUnder keys old new (Ok report) = IsOpened keys old new report
+OpensUnder keys old new (Err e) = UnderRefused keys old new e.kind

@@ -1,0 +1,189 @@
+-- What the program says by its status and its line.
+use Rattle.std.specs.Prelude.{◌≡◌, ◌⊎◌, ℕ, List, [], ◌∷◌, ◌++◌, codes, ◌==◌, IsTrue, Option, Result, Ok, Err, IfOk}
+use Rattle.std.specs.List.{list_any}
+use Rattle.loading_model.specs.Loading.{load}
+use Rattle.tink_io.specs.Faults.{Rose}
+use Rattle.tink_io.specs.Texts.{kind_line}
+use Rattle.tink_io.specs.Written.{WritesOrFaults}
+use Rattle.tink_io.specs.declared.error.Kind.{Kind}
+use Rattle.tink_io.specs.declared.error.Kind.TheVariants.{OutOfMemory, ReadFault, WriteFault, RandomFault, BadKeyset, InvalidKeyset, UnsupportedKeyType, InvalidKey, NoPrimary, WrongPrimitive, UnsupportedHash, TooManySegments, NoMatchingKey, BadSegment, Truncated, UnknownTemplate, NoFreshId}
+use Rattle.tink_io.specs.declared.error.TinkError.{TinkError}
+use Rattle.tink_run.specs.declared.program.Outcome.{Outcome}
+use Rattle.tink_run.specs.declared.program.Outcome.TheVariants.{Done, Usage, Refused}
+use Rattle.tink_run.specs.declared.report.Command.{Command}
+use Rattle.tink_run.specs.declared.report.Command.TheVariants.{Seal, Open}
+use Rattle.tink_run.specs.declared.report.Report.{Report}
+use Rattle.tink_run.specs.Draws.{draws_in}
+use Rattle.tink_run.specs.Outside.{Outside, IsUntouched, HasNoFault}
+use Rattle.tink_run.specs.Run.{AnswerMeans, IsEarly, Told, IsWholeStream, IsWholeText, IsOfAgreeing, OnlyAgreeing, CanSeal, CanOpen, IsComplete}
+use Rattle.tink_run.specs.Run as run
+use Rattle.tink_run.specs.Words.{SealWords, OpenWords, SpellNothing}
+
+-- a refusal's status. A kind of the last line never comes.
+abbrev pub kind_status : Kind → ℕ
+kind_status OutOfMemory = 10
+kind_status ReadFault = 11
+kind_status WriteFault = 12
+kind_status BadKeyset = 13
+kind_status InvalidKeyset = 14
+kind_status UnsupportedKeyType = 15
+kind_status InvalidKey = 16
+kind_status NoPrimary = 17
+kind_status WrongPrimitive = 18
+kind_status UnsupportedHash = 19
+kind_status TooManySegments = 20
+kind_status NoMatchingKey = 21
+kind_status (BadSegment number) = 22
+kind_status (Truncated number) = 23
+kind_status UnknownTemplate = 24
+kind_status NoFreshId = 25
+kind_status _ = 255
+
+abbrev pub status_of : Outcome → ℕ
+status_of Done = 0
+status_of Usage = 2
+status_of (Refused kind) = kind_status kind
+
+-- the line that is told, nothing where all went well
+abbrev pub line_of : Outcome → List ℕ
+line_of Done = []
+line_of Usage = codes "usage: seal KEYSET AAD SEED | open KEYSET AAD" ++ 10 ∷ []
+line_of (Refused kind) = kind_line kind
+
+-- the outcome that an answer comes to
+abbrev pub answer_outcome : Result Report TinkError → Outcome
+answer_outcome (Ok report) = Done
+answer_outcome (Err e) = Refused e.kind
+
+-- the words spell a seal, and it gave this answer with the seed's first 256 words as draws
+pub record Sealed (words : List (List ℕ)) (old new : Outside) (answer : Result Report TinkError) : Type 0 where
+  pub keyset : List ℕ
+  pub aad : List ℕ
+  pub seed : List ℕ
+  pub left_draws : List ℕ
+  pub spelled : SealWords words keyset aad seed
+  pub means : AnswerMeans Seal keyset aad (draws_in seed 256) left_draws old new answer
+
+-- the words spell an open, and it gave this answer with no draws
+pub record Opened (words : List (List ℕ)) (old new : Outside) (answer : Result Report TinkError) : Type 0 where
+  pub keyset : List ℕ
+  pub aad : List ℕ
+  pub left_draws : List ℕ
+  pub spelled : OpenWords words keyset aad
+  pub means : AnswerMeans Open keyset aad [] left_draws old new answer
+
+-- the words' command gave this answer
+abbrev pub Answered : List (List ℕ) → Outside → Outside → Result Report TinkError → Type 0
+Answered words old new answer = Sealed words old new answer ⊎ Opened words old new answer
+
+-- what stands after each outcome, and why it came. The seed's draws always suffice; want of memory is free.
+abbrev pub OutcomeMeans : List (List ℕ) → Outside → Outside → Outcome → Type 0
+OutcomeMeans words old new Done = (report : Report) × Answered words old new (Ok report)
+OutcomeMeans words old new Usage = SpellNothing words × IsUntouched old new
+OutcomeMeans words old new (Refused OutOfMemory) = IsUntouched old new
+OutcomeMeans words old new (Refused RandomFault) = ⊥
+OutcomeMeans words old new (Refused kind) = Answered words old new (Err (record { kind = kind }))
+
+-- the status is that of an outcome, whose line was told: exactly, or a front of it where the count of faults rose
+pub record ProgramMeans (words : List (List ℕ)) (old new : Outside) (told_before told_after : Option (List ℕ)) (faults_before faults_after : ℕ) (status : ℕ) : Type 0 where
+  pub outcome : Outcome
+  pub status_is : status ≡ status_of outcome
+  pub means : OutcomeMeans words old new outcome
+  pub line : WritesOrFaults told_before told_after faults_before faults_after (line_of outcome)
+
+-- status 2 is for words that spell nothing, and such words get it or want of memory
+pub record IsUsage (words : List (List ℕ)) (status : ℕ) : Type 0 where
+  pub cause : status ≡ 2 → SpellNothing words
+  pub comes : SpellNothing words → (status ≡ 2) ⊎ (status ≡ 10)
+
+-- why a status of 10, 11 or 12 came
+pub record HasCause (old new : Outside) (status : ℕ) : Type 0 where
+  pub want : status ≡ 10 → IsUntouched old new
+  pub read_fault : status ≡ 11 → Rose old.read_faults new.read_faults
+  pub write_fault : status ≡ 12 → Rose old.write_faults new.write_faults
+
+-- the statuses of a command that was refused before it read or wrote
+abbrev pub early_statuses : List ℕ
+early_statuses = 2 ∷ 10 ∷ 13 ∷ 14 ∷ 15 ∷ 16 ∷ 17 ∷ 19 ∷ []
+
+-- such an outcome leaves both ends exactly as they were
+abbrev pub Leaves : {S K : Type 0} → Outcome → S → S → K → K → Type 0
+Leaves Done source source_after sink sink_after = Unit {0}
+Leaves Usage source source_after sink sink_after = (source_after ≡ source) × (sink_after ≡ sink)
+Leaves (Refused kind) source source_after sink sink_after = IsEarly kind → (source_after ≡ source) × (sink_after ≡ sink)
+
+abbrev pub SpellKeyset : List (List ℕ) → List ℕ → Type 0
+SpellKeyset words keyset = ((aad seed : List ℕ) × SealWords words keyset aad seed) ⊎ ((aad : List ℕ) × OpenWords words keyset aad)
+
+-- a keyset that does not load gets its refusal's status, or want of memory
+abbrev pub RefusesUnloaded : List (List ℕ) → ℕ → Type 0
+RefusesUnloaded words status = (keyset : List ℕ) (kind : Kind) → SpellKeyset words keyset → load keyset ≡ Err kind
+    → (status ≡ kind_status kind) ⊎ (status ≡ 10)
+
+abbrev pub IsAmong : List ℕ → ℕ → Type 0
+IsAmong statuses status = IsTrue (list_any (λ s. s == status) statuses)
+
+abbrev pub seal_statuses : List ℕ
+seal_statuses = 0 ∷ 10 ∷ 11 ∷ 12 ∷ 13 ∷ 14 ∷ 15 ∷ 16 ∷ 17 ∷ 19 ∷ 20 ∷ []
+
+abbrev pub open_statuses : List ℕ
+open_statuses = 0 ∷ 10 ∷ 11 ∷ 12 ∷ 13 ∷ 14 ∷ 15 ∷ 16 ∷ 17 ∷ 20 ∷ 21 ∷ 22 ∷ 23 ∷ []
+
+-- each command has only its own statuses
+pub record HasOwnStatus (words : List (List ℕ)) (status : ℕ) : Type 0 where
+  pub sealing : (keyset aad seed : List ℕ) → SealWords words keyset aad seed → IsAmong seal_statuses status
+  pub opening : (keyset aad : List ℕ) → OpenWords words keyset aad → IsAmong open_statuses status
+
+-- told bytes: a seal with status 0 has written exactly the stream of the whole text under the seed's draws
+abbrev pub SealsWhole : List ℕ → List ℕ → List ℕ → Outside → Outside → ℕ → Type 0
+SealsWhole keyset aad seed old new status = (T G : List ℕ) → Told old T G → status ≡ 0
+    → (report : Report) × (left_draws : List ℕ) × IsWholeStream keyset aad (draws_in seed 256) left_draws T G new report
+
+-- told bytes: an open with status 0 had exactly a stream of the chosen key, and has written its text
+abbrev pub OpensWhole : List ℕ → List ℕ → Outside → Outside → ℕ → Type 0
+OpensWhole keyset aad old new status = (S G : List ℕ) → Told old S G → status ≡ 0
+    → (report : Report) × IsWholeText keyset aad S G new report
+
+-- told bytes: an open, whatever its status, has written only a front of the texts that agree under the chosen key
+abbrev pub WritesAgreeing : List ℕ → List ℕ → Outside → Outside → Type 0
+WritesAgreeing keyset aad old new = (S G : List ℕ) → Told old S G → IsOfAgreeing keyset aad S old new
+
+-- these three, of what the words spell
+abbrev pub SealsAsSpelled : List (List ℕ) → Outside → Outside → ℕ → Type 0
+SealsAsSpelled words old new status = (keyset aad seed : List ℕ) → SealWords words keyset aad seed → SealsWhole keyset aad seed old new status
+
+abbrev pub OpensAsSpelled : List (List ℕ) → Outside → Outside → ℕ → Type 0
+OpensAsSpelled words old new status = (keyset aad : List ℕ) → OpenWords words keyset aad → OpensWhole keyset aad old new status
+
+abbrev pub WritesAsSpelled : List (List ℕ) → Outside → Outside → Type 0
+WritesAsSpelled words old new = (keyset aad : List ℕ) → OpenWords words keyset aad → WritesAgreeing keyset aad old new
+
+-- told bytes: a seal that can succeed where neither end fails does, or there is no memory
+abbrev pub SealSucceeds : List ℕ → List ℕ → List ℕ → Outside → Outside → ℕ → Type 0
+SealSucceeds keyset aad seed old new status = (T G : List ℕ) → Told old T G → HasNoFault old new
+    → CanSeal keyset aad (draws_in seed 256) T → (status ≡ 0) ⊎ (status ≡ 10)
+
+-- the same of an open
+abbrev pub OpenSucceeds : List ℕ → List ℕ → Outside → Outside → ℕ → Type 0
+OpenSucceeds keyset aad old new status = (S G : List ℕ) → Told old S G → HasNoFault old new
+    → CanOpen keyset aad S → (status ≡ 0) ⊎ (status ≡ 10)
+
+-- whichever command the words spell
+pub record Succeeds (words : List (List ℕ)) (old new : Outside) (status : ℕ) : Type 0 where
+  pub sealing : (keyset aad seed : List ℕ) → SealWords words keyset aad seed → SealSucceeds keyset aad seed old new status
+  pub opening : (keyset aad : List ℕ) → OpenWords words keyset aad → OpenSucceeds keyset aad old new status
+
+-- what a run with these draws says by its answer, whatever draws it leaves
+pub record Ran (command : Command) (keyset aad draws : List ℕ) (old new : Outside) (answer : Result Report TinkError) : Type 0 where
+  pub left_draws : List ℕ
+  pub means : AnswerMeans command keyset aad draws left_draws old new answer
+  pub ok : IfOk answer (λ report. (T G : List ℕ) → Told old T G → run.Succeeds command keyset aad draws left_draws T G new report)
+  pub written : OnlyAgreeing command keyset aad old new
+  pub succeeds : IsComplete command keyset aad draws old new answer
+
+-- the promises of a status
+pub record Promised (words : List (List ℕ)) (old new : Outside) (status : ℕ) : Type 0 where
+  pub sealed : SealsAsSpelled words old new status
+  pub opened : OpensAsSpelled words old new status
+  pub written : WritesAsSpelled words old new
+  pub succeeds : Succeeds words old new status

@@ -1,0 +1,11 @@
+//! Seals and opens streams under Tink keysets, from any source to any sink, and the program's words, statuses and
+//! lines.
+#![tactic(auto)]
+
+pub mod load;
+mod open;
+pub mod program;
+pub mod report;
+pub mod run;
+mod seal;
+mod words;

@@ -1,0 +1,229 @@
+ghost use Rattle.std.specs.Prelude.{◌≡◌, ◌≤◌, ◌<◌, ◌+◌, ◌^◌, take, map, All, IfOk, IfErr, vec_len, vec_capacity};
+ghost use Rattle.std.specs.List.{filter};
+ghost use Rattle.std.specs.Io.KnownBytes.{prepend_known};
+ghost use Rattle.stream_model.specs.Cut.{numbered};
+ghost use Rattle.stream_model.specs.Key.{nonce_size};
+ghost use Rattle.stream_model.specs.Opening as opening;
+ghost use Rattle.tink_io.specs.declared.error.Kind.TheVariants.{OutOfMemory};
+ghost use Rattle.tink_streams.specs.declared.progress.Progress.TheVariants.{Running};
+ghost use Rattle.tink_streams.specs.Reading.{Moment};
+ghost use Rattle.tink_stream_keys.specs.StreamKinds.{key_of};
+ghost use Rattle.tink_run.specs.Outside.{outside_of};
+ghost use Rattle.tink_run.specs.OpenAnswers.{StreamMeans, is_raw};
+ghost use Rattle.tink_run.specs.Run.{LeavesEnds};
+ghost use Rattle.tink_run.specs.OpenSteps.{FirstMeans, ReaderMeans, OpensUnder};
+
+use crate::load::LoadedKey;
+use crate::report::Report;
+use std::alloc::Global;
+use tink_io::{Kind, Sink, Source, TinkError, write_all};
+use tink_streaming_aead::{
+    Buffers, DerivesStreams, Kept, Progress, SegmentDecrypter, SegmentReader, StreamKind, Trial,
+    start,
+};
+
+/// The number of the output prefix type of raw keys.
+const RAW: i32 = 3;
+
+/// The bytes of the longest nonce.
+const NONCE: usize = 16;
+
+/// The bytes of a header behind its salt.
+const PREFIX: usize = 7;
+
+/// Opens what the source has left under the first raw key that it begins under.
+///
+/// # Errors
+/// OutOfMemory before anything was read or written; NoMatchingKey where the stream begins under no
+/// raw key; Truncated and BadSegment where a later segment is shorter than a tag or the segment of
+/// no text; TooManySegments where bytes follow 2^32 segments; ReadFault and WriteFault. A segment's
+/// text is written once its tag was compared, and stays written.
+pub fn open<S: Source, K: Sink>(
+    alloc: Global,
+    keys: &[LoadedKey],
+    aad: &[u8],
+    source: &mut S,
+    sink: &mut K,
+) -> Result<Report, TinkError>
+    ensures answer { OpensUnder (map (λ k. opening.opening_key aad.now k.key) (filter is_raw keys.now))
+        (outside_of S.left S.faults K.got K.faults source.old sink.old)
+        (outside_of S.left S.faults K.got K.faults source.new sink.new)
+        result }
+    ensures early { LeavesEnds result source.old source.new sink.old sink.new }
+    ensures source { S.same source.old source.new }
+    ensures sink { K.same sink.old sink.new }
+{
+    let raw = raw_keys(alloc, keys)?;
+    let trial = reserve(alloc, largest_segment(&raw))?;
+    open_under(&raw, aad, trial, source, sink)
+}
+
+/// The raw keys in order.
+///
+/// # Errors
+/// OutOfMemory.
+fn raw_keys<'a>(alloc: Global, keys: &'a [LoadedKey]) -> Result<Vec<&'a StreamKind>, TinkError>
+    ensures keys { IfOk result
+        (λ raw. map (λ k. key_of k.now) raw.items ≡ map (λ k. k.key) (filter is_raw keys.now)) }
+    ensures refused { IfErr result (λ e. e ≡ record { kind = OutOfMemory }) }
+{
+    let mut raw = Vec::new(alloc);
+    for key in keys {
+        if key.prefix_type == RAW {
+            raw.push(&key.key)?;
+        }
+    }
+    Ok(raw)
+}
+
+/// The bytes of the largest segment.
+fn largest_segment(keys: &[&StreamKind]) -> u32
+    ensures { All (λ k. (key_of k.now).segment ≤ result) keys.now }
+{
+    let mut largest = 0;
+    for key in keys {
+        largest = largest.max(key.segment_size());
+    }
+    largest
+}
+
+/// All memory that a trial of keys and the reader of the chosen one take.
+///
+/// # Errors
+/// OutOfMemory.
+fn reserve(alloc: Global, segment: u32) -> Result<Trial, TinkError>
+    ensures filled { IfOk result (λ t. t.kept.filled ≡ 0) }
+    ensures buffer { IfOk result (λ t. vec_len t.kept.buffer ≡ segment + 1) }
+    ensures opened { IfOk result (λ t. vec_capacity t.opened ≡ segment + 1) }
+    ensures nonce { IfOk result (λ t. vec_len t.nonce ≡ 16) }
+    ensures prefix { IfOk result (λ t. 7 ≤ vec_capacity t.prefix) }
+    ensures refused { IfErr result (λ e. e ≡ record { kind = OutOfMemory }) }
+{
+    let buffers = Buffers::reserve(alloc, segment, NONCE)?;
+    let prefix = Vec::with_capacity(alloc, PREFIX)?;
+    Ok(Trial {
+        kept: Kept {
+            buffer: buffers.sealed,
+            filled: 0,
+        },
+        prefix,
+        nonce: buffers.nonce,
+        opened: buffers.text,
+    })
+}
+
+/// Opens what the source has left under the first key that it begins under.
+///
+/// # Errors
+/// NoMatchingKey, ReadFault, and those of `open_stream`.
+fn open_under<S: Source, K: Sink, T: DerivesStreams>(
+    keys: &[T],
+    aad: &[u8],
+    trial: Trial,
+    source: &mut S,
+    sink: &mut K,
+) -> Result<Report, TinkError>
+    requires filled { trial.kept.filled ≡ 0 }
+    requires buffer { All (λ k. (T.key_of k).segment < vec_len trial.kept.buffer) keys.now }
+    requires room { All (λ k. (T.key_of k).segment ≤ vec_capacity trial.opened) keys.now }
+    requires nonce { All (λ k. nonce_size (T.key_of k) ≤ vec_len trial.nonce) keys.now }
+    requires prefix { 7 ≤ vec_capacity trial.prefix }
+    ensures answer { StreamMeans (map (λ k. opening.opening_key aad.now (T.key_of k)) keys.now)
+        (outside_of S.left S.faults K.got K.faults source.old sink.old)
+        (outside_of S.left S.faults K.got K.faults source.new sink.new)
+        result }
+    ensures source { S.same source.old source.new }
+    ensures sink { K.same sink.old sink.new }
+{
+    let mut reader = start(keys, aad, trial, source)?;
+    open_stream(&mut reader, source, sink)
+}
+
+/// Opens and writes all segments that a reader finds.
+///
+/// # Errors
+/// WriteFault; ReadFault, Truncated, BadSegment and TooManySegments of the reader behind the first
+/// segment, and those of `open_first`.
+fn open_stream<S: Source, K: Sink, D: SegmentDecrypter + Drop>(
+    reader: &mut SegmentReader<D>,
+    source: &mut S,
+    sink: &mut K,
+) -> Result<Report, TinkError>
+    requires running { reader.old.progress ≡ Running }
+    requires fresh { reader.old.segments ≡ 0 }
+    ensures answer { ReaderMeans
+        (numbered (D.seg reader.old.opener.decrypter) reader.old.opener.nonce_size reader.old.opener.prefix.items)
+        reader.old.opener.first reader.old.opener.size reader.old.opener.overhead
+        (record {
+          left = prepend_known (take reader.old.filled reader.old.buffer.items) (S.left source.old);
+          read_faults = S.faults source.old;
+          got = K.got sink.old;
+          write_faults = K.faults sink.old;
+        })
+        (outside_of S.left S.faults K.got K.faults source.new sink.new)
+        result }
+    ensures source { S.same source.old source.new }
+    ensures sink { K.same sink.old sink.new }
+{
+    open_first(reader, source)?;
+    let mut bytes: u64 = 0;
+    loop {
+        let text = reader.opened();
+        write_all(sink, text)?;
+        bytes += text.len() as u64;
+        match reader.progress() {
+            Progress::Ended => {
+                return Ok(Report {
+                    segments: reader.segments(),
+                    bytes,
+                });
+            }
+            _ => reader.open_next(source)?,
+        }
+    }
+}
+
+/// Opens the first segment.
+///
+/// # Errors
+/// ReadFault; NoMatchingKey where it is the segment of no text. The trial saw it open, so the source
+/// went on after it had said that it was at its end.
+fn open_first<S: Source, D: SegmentDecrypter + Drop>(
+    reader: &mut SegmentReader<D>,
+    source: &mut S,
+) -> Result<(), TinkError>
+    requires running { reader.old.progress ≡ Running }
+    requires fresh { reader.old.segments ≡ 0 }
+    ensures answer { FirstMeans
+        (numbered (D.seg reader.old.opener.decrypter) reader.old.opener.nonce_size reader.old.opener.prefix.items)
+        reader.old.opener.first reader.old.opener.size
+        (record {
+          progress = reader.old.progress;
+          number = reader.old.segments;
+          opened = reader.old.opened.items;
+          rest = prepend_known (take reader.old.filled reader.old.buffer.items) (S.left source.old);
+          faults = S.faults source.old;
+        })
+        (record {
+          progress = reader.new.progress;
+          number = reader.new.segments;
+          opened = reader.new.opened.items;
+          rest = prepend_known (take reader.new.filled reader.new.buffer.items) (S.left source.new);
+          faults = S.faults source.new;
+        })
+        result }
+    ensures opener { reader.new.opener ≡ reader.old.opener }
+    ensures small { vec_len reader.new.opened < 2 ^ 32 }
+    ensures later { S.faults source.old ≤ S.faults source.new }
+    ensures same { S.same source.old source.new }
+{
+    match reader.open_next(source) {
+        Ok(()) => Ok(()),
+        Err(
+            TinkError {
+                kind: Kind::ReadFault,
+            },
+        ) => Err(TinkError::new(Kind::ReadFault)),
+        Err(_) => Err(TinkError::new(Kind::NoMatchingKey)),
+    }
+}

@@ -1,0 +1,77 @@
+ghost use Rattle.std.specs.Prelude.{◌≡◌, ℕ, List, IfOk};
+ghost use Rattle.tink_run.specs.Outside.{outside_of};
+ghost use Rattle.tink_run.specs.Run.{AnswerMeans, IsComplete, LeavesEnds, OnlyAgreeing, Succeeds, Told};
+
+use crate::load::load;
+use crate::open::open;
+use crate::report::{Command, Report};
+use crate::seal::seal;
+use std::alloc::Global;
+use tink_io::{Draws, Sink, Source, TinkError};
+
+/// Seals or opens a stream under a keyset.
+pub fn run<S: Source, K: Sink>(
+    alloc: Global,
+    command: Command,
+    keyset: &[u8],
+    aad: &[u8],
+    draws: &mut Draws,
+    source: &mut S,
+    sink: &mut K,
+) -> Result<Report, TinkError>
+    // Each answer has its cause, and says what stands after it.
+    ensures answer { AnswerMeans command keyset.now aad.now draws.old draws.new
+        (outside_of S.left S.faults K.got K.faults source.old sink.old)
+        (outside_of S.left S.faults K.got K.faults source.new sink.new)
+        result }
+
+    // Told bytes: a seal has written the stream of its whole input; an open had as input a stream of the chosen key,
+    // and has written its text.
+    ensures ok { IfOk result (λ report. (T G : List ℕ)
+        → Told (outside_of S.left S.faults K.got K.faults source.old sink.old) T G
+        → Succeeds command keyset.now aad.now draws.old draws.new T G
+        (outside_of S.left S.faults K.got K.faults source.new sink.new) report) }
+
+    // Told bytes: an open has only written a front of the texts that agree under the chosen key.
+    ensures written { OnlyAgreeing command keyset.now aad.now
+        (outside_of S.left S.faults K.got K.faults source.old sink.old)
+        (outside_of S.left S.faults K.got K.faults source.new sink.new) }
+
+    // Told bytes: where neither end fails and the command can succeed, it does, or there is no memory.
+    ensures succeeds { IsComplete command keyset.now aad.now draws.old
+        (outside_of S.left S.faults K.got K.faults source.old sink.old)
+        (outside_of S.left S.faults K.got K.faults source.new sink.new)
+        result }
+
+    // A refusal that comes before anything was read or written leaves the ends themselves as they were.
+    ensures early { LeavesEnds result source.old source.new sink.old sink.new }
+    ensures source { S.same source.old source.new }
+    ensures sink { K.same sink.old sink.new }
+{
+    answer(alloc, command, keyset, aad, draws, source, sink)
+}
+
+// What `run` answers. All that it promises follows from this.
+fn answer<S: Source, K: Sink>(
+    alloc: Global,
+    command: Command,
+    keyset: &[u8],
+    aad: &[u8],
+    draws: &mut Draws,
+    source: &mut S,
+    sink: &mut K,
+) -> Result<Report, TinkError>
+    ensures answer { AnswerMeans command keyset.now aad.now draws.old draws.new
+        (outside_of S.left S.faults K.got K.faults source.old sink.old)
+        (outside_of S.left S.faults K.got K.faults source.new sink.new)
+        result }
+    ensures early { LeavesEnds result source.old source.new sink.old sink.new }
+    ensures source { S.same source.old source.new }
+    ensures sink { K.same sink.old sink.new }
+{
+    let loaded = load(alloc, keyset)?;
+    match command {
+        Command::Seal => seal(alloc, &loaded.primary, aad, draws, source, sink),
+        Command::Open => open(alloc, loaded.keys.as_slice(), aad, source, sink),
+    }
+}

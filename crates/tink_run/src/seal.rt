@@ -1,0 +1,113 @@
+ghost use Rattle.std.specs.Prelude.{◌≡◌, ◌≤◌, ◌<◌, [], length};
+ghost use Rattle.stream_model.specs.Cut.{numbered};
+ghost use Rattle.tink_streams.specs.declared.writing.Mode.TheVariants.{Open};
+ghost use Rattle.tink_stream_keys.specs.StreamKinds.{key_of};
+ghost use Rattle.tink_streams.specs.Writing.{Moment};
+ghost use Rattle.tink_run.specs.Outside.{outside_of};
+ghost use Rattle.tink_run.specs.Run.{LeavesEnds};
+ghost use Rattle.tink_run.specs.SealSteps.{PourMeans, UnderMeans, kind_not_begun};
+
+use crate::report::Report;
+use std::alloc::Global;
+use tink_io::{Draws, Kind, Sink, Source, TinkError};
+use tink_streaming_aead::{SegmentEncrypter, SegmentWriter, StreamKind, begin_stream};
+
+/// Bytes that are read at once.
+const PIECE: usize = 65536;
+
+/// Seals what the source has left under a key.
+///
+/// # Errors
+/// OutOfMemory before anything was read, written or drawn; RandomFault where too few draws are
+/// left, which stay; UnsupportedHash where no keys are derived; ReadFault, WriteFault;
+/// TooManySegments where the text has more than 2^32 chunks.
+pub fn seal<S: Source, K: Sink>(
+    alloc: Global,
+    key: &StreamKind,
+    aad: &[u8],
+    draws: &mut Draws,
+    source: &mut S,
+    sink: &mut K,
+) -> Result<Report, TinkError>
+    ensures answer { UnderMeans (key_of key.now) aad.now draws.old draws.new
+        (outside_of S.left S.faults K.got K.faults source.old sink.old)
+        (outside_of S.left S.faults K.got K.faults source.new sink.new)
+        result }
+    ensures early { LeavesEnds result source.old source.new sink.old sink.new }
+    ensures source { S.same source.old source.new }
+    ensures sink { K.same sink.old sink.new }
+{
+    let mut piece = vec![in alloc; 0u8; PIECE]?;
+    let mut writer = match begin_stream(alloc, key, draws, sink, aad) {
+        Ok(writer) => writer,
+        Err(error) => return Err(not_begun(error)),
+    };
+    let bytes = pour(&mut writer, &mut piece, source, sink)?;
+    writer.close(sink)?;
+    Ok(Report {
+        segments: writer.segments(),
+        bytes,
+    })
+}
+
+/// Why a stream that was not begun is not sealed: a hash that is unknown is unsupported too.
+fn not_begun(error: TinkError) -> TinkError
+    ensures { result ≡ record { kind = kind_not_begun error.kind } }
+{
+    match error.kind {
+        Kind::UnknownHash => TinkError::new(Kind::UnsupportedHash),
+        _ => error,
+    }
+}
+
+/// Writes all that the source has left, and answers how many bytes these are.
+///
+/// # Errors
+/// ReadFault, and the writer's.
+fn pour<S: Source, K: Sink, E: SegmentEncrypter + Drop>(
+    writer: &mut SegmentWriter<E>,
+    piece: &mut [u8],
+    source: &mut S,
+    sink: &mut K,
+) -> Result<u64, TinkError>
+    requires open { writer.old.mode ≡ Open }
+    requires fresh { writer.old.segments ≡ 0 }
+    requires empty { writer.old.held.items ≡ [] }
+    requires piece { 0 < length piece.old }
+    ensures answer { PourMeans
+        (numbered (E.seg writer.old.sealer.encrypter) writer.old.sealer.nonce_size writer.old.sealer.prefix.items)
+        writer.old.sealer.first writer.old.sealer.room
+        (S.left source.old) (S.left source.new) (S.faults source.old) (S.faults source.new)
+        (record {
+          mode = writer.old.mode;
+          number = writer.old.segments;
+          held = writer.old.held.items;
+          got = K.got sink.old;
+          faults = K.faults sink.old;
+        })
+        (record {
+          mode = writer.new.mode;
+          number = writer.new.segments;
+          held = writer.new.held.items;
+          got = K.got sink.new;
+          faults = K.faults sink.new;
+        })
+        result }
+    ensures sealer { writer.new.sealer ≡ writer.old.sealer }
+    ensures read_count { S.faults source.old ≤ S.faults source.new }
+    ensures write_count { K.faults sink.old ≤ K.faults sink.new }
+    ensures source { S.same source.old source.new }
+    ensures sink { K.same sink.old sink.new }
+{
+    let mut bytes: u64 = 0;
+    loop {
+        match source.read(piece) {
+            Ok(0) => return Ok(bytes),
+            Ok(n) => {
+                writer.write(sink, &piece[..n])?;
+                bytes += n as u64;
+            }
+            Err(_) => return Err(TinkError::new(Kind::ReadFault)),
+        }
+    }
+}

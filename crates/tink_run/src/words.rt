@@ -1,0 +1,125 @@
+//! The words of the program.
+
+ghost use Rattle.std.specs.Prelude.{◌≡◌, List, ℕ, IfOk, IfErr, IfSome, IfNone};
+ghost use Rattle.tink_io.specs.declared.error.Kind.TheVariants.{OutOfMemory};
+ghost use Rattle.tink_run.specs.Draws.{draws_in};
+ghost use Rattle.tink_run.specs.Words.{IsBytesWord, OpenWords, SealWords, Spell, SpellNoOpen, SpellNoSeal, SpellNothing, words_in};
+
+use hex::{FromHex, FromHexError};
+use rand_chacha::ChaCha20Rng;
+use rand_core::SeedableRng;
+use rand_core::utils::NextWord;
+use std::alloc::Global;
+use tink_io::{Kind, TinkError};
+
+/// What `seal KEYSET AAD SEED` spells.
+#[derive(Drop)]
+pub struct SealArgs {
+    pub keyset: Vec<u8>,
+    pub aad: Vec<u8>,
+    pub seed: [u8; 32],
+}
+
+/// What `open KEYSET AAD` spells.
+#[derive(Drop)]
+pub struct OpenArgs {
+    pub keyset: Vec<u8>,
+    pub aad: Vec<u8>,
+}
+
+/// A command with its values.
+#[derive(Drop)]
+pub enum Parsed {
+    Seal(SealArgs),
+    Open(OpenArgs),
+}
+
+/// Reads the words of a command; `None` where they spell none. Refuses by `OutOfMemory` alone.
+pub fn parse(alloc: Global, words: &Vec<String>) -> Result<Option<Parsed>, TinkError>
+    ensures found { IfOk result (λ o. IfSome o (λ p. Spell (words_in words.now.items) p)) }
+    ensures none { IfOk result (λ o. IfNone o (SpellNothing (words_in words.now.items))) }
+    ensures refused { IfErr result (λ e. e ≡ record { kind = OutOfMemory }) }
+{
+    if let Some(args) = parse_seal(alloc, words)? {
+        return Ok(Some(Parsed::Seal(args)));
+    }
+    if let Some(args) = parse_open(alloc, words)? {
+        return Ok(Some(Parsed::Open(args)));
+    }
+    Ok(None)
+}
+
+// Reads the words of `seal`.
+fn parse_seal(alloc: Global, words: &Vec<String>) -> Result<Option<SealArgs>, TinkError>
+    ensures found { IfOk result
+        (λ o. IfSome o (λ a. SealWords (words_in words.now.items) a.keyset.items a.aad.items a.seed)) }
+    ensures none { IfOk result (λ o. IfNone o (SpellNoSeal (words_in words.now.items))) }
+    ensures refused { IfErr result (λ e. e ≡ record { kind = OutOfMemory }) }
+{
+    if words.len() != 4 || words[0].as_str() != "seal" {
+        return Ok(None);
+    }
+    let Some(keyset) = bytes_of(alloc, words[1].as_str())? else {
+        return Ok(None);
+    };
+    let Some(aad) = bytes_of(alloc, words[2].as_str())? else {
+        return Ok(None);
+    };
+    let Ok(seed) = <[u8; 32] as FromHex>::from_hex(words[3].as_str()) else {
+        return Ok(None);
+    };
+    Ok(Some(SealArgs { keyset, aad, seed }))
+}
+
+// Reads the words of `open`.
+fn parse_open(alloc: Global, words: &Vec<String>) -> Result<Option<OpenArgs>, TinkError>
+    ensures found { IfOk result
+        (λ o. IfSome o (λ a. OpenWords (words_in words.now.items) a.keyset.items a.aad.items)) }
+    ensures none { IfOk result (λ o. IfNone o (SpellNoOpen (words_in words.now.items))) }
+    ensures refused { IfErr result (λ e. e ≡ record { kind = OutOfMemory }) }
+{
+    if words.len() != 3 || words[0].as_str() != "open" {
+        return Ok(None);
+    }
+    let Some(keyset) = bytes_of(alloc, words[1].as_str())? else {
+        return Ok(None);
+    };
+    let Some(aad) = bytes_of(alloc, words[2].as_str())? else {
+        return Ok(None);
+    };
+    Ok(Some(OpenArgs { keyset, aad }))
+}
+
+// The bytes of a hexadecimal word, or none of a dash.
+fn bytes_of(alloc: Global, word: &str) -> Result<Option<Vec<u8>>, TinkError>
+    ensures found { IfOk result (λ o. IfSome o (λ v. IsBytesWord word.now v.items)) }
+    ensures none { IfOk result (λ o. IfNone o ((v : List ℕ) → IsBytesWord word.now v → ⊥)) }
+    ensures refused { IfErr result (λ e. e ≡ record { kind = OutOfMemory }) }
+{
+    if word == "-" {
+        return Ok(Some(Vec::new(alloc)));
+    }
+    if word.len() < 2 {
+        return Ok(None);
+    }
+    match hex::decode(alloc, word) {
+        Ok(bytes) => Ok(Some(bytes)),
+        Err(FromHexError::OutOfMemory) => Err(TinkError::new(Kind::OutOfMemory)),
+        Err(_) => Ok(None),
+    }
+}
+
+/// The bytes of the first 256 words of the seed's ChaCha20 stream, 1,024 in all. Refuses by
+/// `OutOfMemory` alone.
+pub fn first_draws(alloc: Global, seed: [u8; 32]) -> Result<Vec<u8>, TinkError>
+    ensures draws { IfOk result (λ v. v.items ≡ draws_in seed 256) }
+    ensures refused { IfErr result (λ e. e ≡ record { kind = OutOfMemory }) }
+{
+    let mut rng = ChaCha20Rng::from_seed(seed);
+    let mut bytes = Vec::new(alloc);
+    for place in 0..256u32 {
+        let _ = place;
+        bytes.extend_from_slice(&rng.next_word().to_le_bytes())?;
+    }
+    Ok(bytes)
+}

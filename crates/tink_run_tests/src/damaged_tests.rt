@@ -1,0 +1,252 @@
+//! Streams that are cut, lengthened, put together anew or changed, through the program and through `run`.
+
+use crate::support::{KEYSET, Ran, SMALL, by_run, counted, expect, opens, parts, sealed};
+use std::alloc::Global;
+use std::process::Abort;
+use std::test::Fail;
+use tink_io::Kind;
+use tink_run::report::{Command, Report};
+
+// How many bytes are left of the stream of 4,041, the status, the bytes of text written, and the line.
+const CUTS: [(usize, u8, usize, &str); 9] = [
+    (0, 21, 0, "no matching key\n"),
+    (23, 21, 0, "no matching key\n"),
+    (24, 21, 0, "no matching key\n"),
+    (4095, 21, 0, "no matching key\n"),
+    (4096, 21, 0, "no matching key\n"),
+    (4097, 23, 4040, "truncated 1\n"),
+    (4127, 23, 4040, "truncated 1\n"),
+    (4128, 22, 4040, "bad segment 1\n"),
+    (4129, 0, 4041, ""),
+];
+
+// Where a part of a stream begins, and how many bytes it has.
+type Part = (usize, usize);
+
+// The bytes of a text, the parts of its stream and the zeros behind it that are put together, the bytes of text
+// written, and the line, by status 22.
+const MOVED: [(usize, [Part; 3], usize, &str); 5] = [
+    (
+        12168,
+        [(0, 4096), (8192, 4096), (4096, 4096)],
+        4040,
+        "bad segment 1\n",
+    ),
+    (
+        12168,
+        [(0, 4096), (4096, 4096), (4096, 4096)],
+        8104,
+        "bad segment 2\n",
+    ),
+    (
+        12168,
+        [(0, 4096), (8192, 4096), (0, 0)],
+        4040,
+        "bad segment 1\n",
+    ),
+    (8104, [(0, 8193), (0, 0), (0, 0)], 4040, "bad segment 1\n"),
+    (4041, [(0, 4130), (0, 0), (0, 0)], 4040, "bad segment 1\n"),
+];
+
+// What `run` answers, the status, the bytes of text written, and the line.
+type Answer = (Result<Report, Kind>, u8, usize, &'static str);
+
+const NO_KEY: Answer = (Err(Kind::NoMatchingKey), 21, 0, "no matching key\n");
+
+const BAD_1: Answer = (Err(Kind::BadSegment(1)), 22, 1, "bad segment 1\n");
+
+const BAD_2: Answer = (Err(Kind::BadSegment(2)), 22, 26, "bad segment 2\n");
+
+const BAD_3: Answer = (Err(Kind::BadSegment(3)), 22, 51, "bad segment 3\n");
+
+// The first and the last count of bytes that are left of the stream of 60 under the small key.
+const SMALL_CUTS: [(usize, usize, Answer); 8] = [
+    (0, 35, NO_KEY),
+    (36, 44, (Err(Kind::Truncated(1)), 23, 1, "truncated 1\n")),
+    (45, 70, BAD_1),
+    (71, 79, (Err(Kind::Truncated(2)), 23, 26, "truncated 2\n")),
+    (80, 105, BAD_2),
+    (106, 114, (Err(Kind::Truncated(3)), 23, 51, "truncated 3\n")),
+    (115, 123, BAD_3),
+    (
+        124,
+        124,
+        (
+            Ok(Report {
+                segments: 4,
+                bytes: 60,
+            }),
+            0,
+            60,
+            "",
+        ),
+    ),
+];
+
+// The parts of that stream and of the zeros behind it that are put together.
+const SMALL_MOVED: [([Part; 3], Answer); 6] = [
+    ([(0, 125), (0, 0), (0, 0)], BAD_3),
+    ([(0, 140), (0, 0), (0, 0)], BAD_3),
+    ([(0, 141), (0, 0), (0, 0)], BAD_3),
+    ([(0, 35), (70, 35), (35, 35)], BAD_1),
+    ([(0, 35), (70, 35), (105, 19)], BAD_1),
+    ([(0, 70), (35, 35), (105, 19)], BAD_2),
+];
+
+// A byte of that stream, and by what it is changed.
+const CHANGES: [(usize, u8, Answer); 8] = [
+    (0, 48, NO_KEY),
+    (1, 1, NO_KEY),
+    (23, 1, NO_KEY),
+    (24, 1, NO_KEY),
+    (34, 1, NO_KEY),
+    (35, 1, BAD_1),
+    (104, 1, BAD_2),
+    (123, 1, BAD_3),
+];
+
+// The stream of a counted text, and 17 zeros behind it.
+fn lengthened(alloc: Global, keyset: &str, aad: &str, count: usize) -> Result<Vec<u8>, Fail> {
+    let mut stream = sealed(alloc, keyset, aad, count)?;
+    for _ in 0..17 {
+        stream.push(0)?;
+    }
+    Ok(stream)
+}
+
+// Compares what an open tells of parts of a stream under the key of 4,096.
+fn tells(
+    rt: &impl Abort,
+    alloc: Global,
+    aad: &str,
+    (stream, places): (&[u8], &[Part]),
+    told: (u8, usize, &str),
+) -> Result<(), Fail> {
+    opens(
+        rt,
+        alloc,
+        (KEYSET, aad),
+        parts(alloc, stream, places)?,
+        told,
+    )
+}
+
+// Compares what `run` answers to a stream under the small key.
+fn answers(
+    rt: &impl Abort,
+    alloc: Global,
+    stream: Vec<u8>,
+    (answer, written): (Result<Report, Kind>, usize),
+) -> Result<(), Fail> {
+    let found = by_run(alloc, Command::Open, SMALL, 3, stream)?;
+    let wanted = Ran {
+        answer,
+        draws: 3,
+        written: counted(alloc, written)?,
+    };
+    expect(rt, found, wanted, "by run");
+    Ok(())
+}
+
+// Compares what `run` and the program answer to parts of a stream under the small key.
+fn both(
+    rt: &impl Abort,
+    alloc: Global,
+    (stream, places): (&[u8], &[Part]),
+    wanted: Answer,
+) -> Result<(), Fail> {
+    let (answer, status, written, line) = wanted;
+    answers(rt, alloc, parts(alloc, stream, places)?, (answer, written))?;
+    opens(
+        rt,
+        alloc,
+        (SMALL, "-"),
+        parts(alloc, stream, places)?,
+        (status, written, line),
+    )
+}
+
+// The stream of 60 bytes under the small key, with a byte changed.
+fn changed(alloc: Global, place: usize, by: u8) -> Result<Vec<u8>, Fail> {
+    let mut stream = sealed(alloc, SMALL, "-", 60)?;
+    if let Some(byte) = stream.get_mut(place) {
+        *byte ^= by;
+    }
+    Ok(stream)
+}
+
+// Compares each count of bytes in a range.
+fn each_cut(
+    rt: &impl Abort,
+    alloc: Global,
+    stream: &[u8],
+    (from, to, wanted): (usize, usize, Answer),
+) -> Result<(), Fail> {
+    for count in from..=to {
+        both(rt, alloc, (stream, &[(0, count)]), wanted)?;
+    }
+    Ok(())
+}
+
+// Compares the cuts of the stream with associated data.
+fn cut_with(rt: &impl Abort, alloc: Global, aad: &str) -> Result<(), Fail> {
+    let stream = lengthened(alloc, KEYSET, aad, 4041)?;
+    for (count, status, written, line) in CUTS {
+        tells(
+            rt,
+            alloc,
+            aad,
+            (&stream, &[(0, count)]),
+            (status, written, line),
+        )?;
+    }
+    Ok(())
+}
+
+#[test]
+fn a_cut_stream_is_told(rt: HostRuntime) -> Result<(), Fail> {
+    cut_with(&rt, rt.alloc(), "-")?;
+    cut_with(&rt, rt.alloc(), "00ff")
+}
+
+#[test]
+fn moved_segments_are_told(rt: HostRuntime) -> Result<(), Fail> {
+    for (count, places, written, line) in MOVED {
+        let stream = lengthened(rt.alloc(), KEYSET, "-", count)?;
+        tells(
+            &rt,
+            rt.alloc(),
+            "-",
+            (&stream, &places),
+            (22, written, line),
+        )?;
+    }
+    Ok(())
+}
+
+#[test]
+fn a_stream_of_small_segments_is_cut(rt: HostRuntime) -> Result<(), Fail> {
+    let stream = lengthened(rt.alloc(), SMALL, "-", 60)?;
+    for row in SMALL_CUTS {
+        each_cut(&rt, rt.alloc(), &stream, row)?;
+    }
+    Ok(())
+}
+
+#[test]
+fn moved_small_segments_are_told(rt: HostRuntime) -> Result<(), Fail> {
+    let stream = lengthened(rt.alloc(), SMALL, "-", 60)?;
+    for (places, wanted) in SMALL_MOVED {
+        both(&rt, rt.alloc(), (&stream, &places), wanted)?;
+    }
+    Ok(())
+}
+
+#[test]
+fn a_changed_byte_is_told_by_its_segment(rt: HostRuntime) -> Result<(), Fail> {
+    for (place, by, wanted) in CHANGES {
+        let stream = changed(rt.alloc(), place, by)?;
+        both(&rt, rt.alloc(), (&stream, &[(0, 124)]), wanted)?;
+    }
+    Ok(())
+}

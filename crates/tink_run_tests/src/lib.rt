@@ -1,0 +1,17 @@
+//! Tests of tink_run, over sources and sinks in memory.
+#![tactic(auto)]
+
+#[cfg(test)]
+mod damaged_tests;
+#[cfg(test)]
+mod fault_tests;
+#[cfg(test)]
+mod keyset_tests;
+#[cfg(test)]
+mod run_tests;
+#[cfg(test)]
+mod stream_tests;
+#[cfg(test)]
+mod support;
+#[cfg(test)]
+mod word_tests;

@@ -1,0 +1,255 @@
+//! Whole streams through the program. Bytes and digests of streams are those of an independent model in Python.
+
+use crate::support::{KEYSET, SEED, SMALL, by_words, expect, opens, seal, sealed, want};
+use hash_keys::Hash;
+use std::alloc::Global;
+use std::process::Abort;
+use std::test::Fail;
+
+// The stream of "ten bytes." with the associated data 00ff.
+const TEN_BYTES: &str =
+    "1876b8e0ada0f13d90405d6ae55386bd28bdd219b8a08ded2f087473280bfcb781da1d2067921873485fc9ded98aeb6a87dbc842f20ff403c825d41bdad241efede7";
+
+// The bytes of a text, those of its stream, and the SHA-256 of the stream.
+const STREAMS: [(usize, usize, &str); 6] = [
+    (
+        0,
+        56,
+        "ca813aab9329d77e4d8a2f8a1f841fb33900e633555a3ce97d452205cc2d1fd0",
+    ),
+    (
+        4040,
+        4096,
+        "1bfa30886e90fcf7c3744688f5f9053662557bdd391b8728eff298331b4f5568",
+    ),
+    (
+        4041,
+        4129,
+        "c18c4240a31e156e23e266ebd9bef87db0dfba42ee2559dcb98faccff6407085",
+    ),
+    (
+        8104,
+        8192,
+        "844145537e540e337b2c88c24fdc8eaae4fede91d2f6211fb374cd74237f0bba",
+    ),
+    (
+        10000,
+        10120,
+        "a675ec64cbd85246629e838a7422b76eb2c1801358db60ce65b044637a3d4871",
+    ),
+    (
+        12168,
+        12288,
+        "d3015b7435fc1b7028b71617082f293570cf3136b888bd0cfdcb542a4ba812a1",
+    ),
+];
+
+// Texts under the small key, and their streams.
+const SMALL_STREAMS: [(&str, &str); 2] = [
+    (
+        "A",
+        "1876b8e0ada0f13d90405d6ae55386bd28bdd219b8a08ded1730564f8d3f16aef6960b",
+    ),
+    (
+        "AB",
+        "1876b8e0ada0f13d90405d6ae55386bd28bdd219b8a08ded41d3fd03010cd7de192dc15ae13cb3e75d9d898047ec",
+    ),
+];
+
+/// A stream of segments of 1, of 25 and of no bytes of text under the small key.
+pub const EMPTY_LAST: &str =
+    "1876b8e0ada0f13d90405d6ae55386bd28bdd219b8a08ded0020e287e63e3496cabbf8443f81c3d4f204e7821789d8d86004b95e81b4618e23bb1bbffc6d4133a219589197f2789d1f169d81638ea862";
+
+/// Segments of 4,096 bytes, and the primary key with segments of 1,048,576.
+pub const MIXED: &str =
+    "0884868808126f0a640a3d747970652e676f6f676c65617069732e636f6d2f676f6f676c652e63727970746f2e74696e6b2e416573437472486d616353747265616d696e674b65791221120d088020101018032204080310201a10000102030405060708090a0b0c0d0e0f180110011885868808200312700a650a3d747970652e676f6f676c65617069732e636f6d2f676f6f676c652e63727970746f2e74696e6b2e416573437472486d616353747265616d696e674b65791222120e08808040101018032204080310201a10000102030405060708090a0b0c0d0e0f1801100118848688082003";
+
+// A key with HKDF by SHA-224 before the primary key.
+const SHA224_BEFORE: &str =
+    "0884868808126f0a640a3d747970652e676f6f676c65617069732e636f6d2f676f6f676c652e63727970746f2e74696e6b2e416573437472486d616353747265616d696e674b65791221120d088020101018052204080310201a10000102030405060708090a0b0c0d0e0f1801100118868688082003126f0a640a3d747970652e676f6f676c65617069732e636f6d2f676f6f676c652e63727970746f2e74696e6b2e416573437472486d616353747265616d696e674b65791221120d088020101018032204080310201a10000102030405060708090a0b0c0d0e0f1801100118848688082003";
+
+// A key with a prefix of five bytes.
+const PREFIXED: &str =
+    "0884868808126f0a640a3d747970652e676f6f676c65617069732e636f6d2f676f6f676c652e63727970746f2e74696e6b2e416573437472486d616353747265616d696e674b65791221120d088020101018032204080310201a10000102030405060708090a0b0c0d0e0f1801100118848688082001";
+
+// What is sealed and opened, the keyset and associated data of each, the bytes of the text and of its stream, and what
+// the open tells: its status, the bytes of text and the line.
+type Round = (
+    &'static str,
+    (&'static str, &'static str),
+    (&'static str, &'static str),
+    (usize, usize),
+    (u8, usize, &'static str),
+);
+
+const ROUNDS: [Round; 11] = [
+    (
+        "no text",
+        (KEYSET, "00ff"),
+        (KEYSET, "00ff"),
+        (0, 56),
+        (0, 0, ""),
+    ),
+    (
+        "a byte",
+        (KEYSET, "00ff"),
+        (KEYSET, "00ff"),
+        (1, 57),
+        (0, 1, ""),
+    ),
+    (
+        "a segment",
+        (KEYSET, "00ff"),
+        (KEYSET, "00ff"),
+        (4040, 4096),
+        (0, 4040, ""),
+    ),
+    (
+        "a byte more",
+        (KEYSET, "00ff"),
+        (KEYSET, "00ff"),
+        (4041, 4129),
+        (0, 4041, ""),
+    ),
+    (
+        "two small segments",
+        (SMALL, "-"),
+        (SMALL, "-"),
+        (26, 70),
+        (0, 26, ""),
+    ),
+    (
+        "mixed, the first key",
+        (MIXED, "-"),
+        (MIXED, "-"),
+        (4040, 4096),
+        (0, 4040, ""),
+    ),
+    (
+        "mixed, the second key",
+        (MIXED, "-"),
+        (MIXED, "-"),
+        (5000, 5056),
+        (0, 5000, ""),
+    ),
+    (
+        "a key without its hash",
+        (KEYSET, "-"),
+        (SHA224_BEFORE, "-"),
+        (10, 66),
+        (0, 10, ""),
+    ),
+    (
+        "a prefixed key",
+        (PREFIXED, "-"),
+        (PREFIXED, "-"),
+        (0, 56),
+        (21, 0, "no matching key\n"),
+    ),
+    (
+        "other data",
+        (KEYSET, "00ff"),
+        (KEYSET, "-"),
+        (10, 66),
+        (21, 0, "no matching key\n"),
+    ),
+    (
+        "no data",
+        (KEYSET, "-"),
+        (KEYSET, "00ff"),
+        (10, 66),
+        (21, 0, "no matching key\n"),
+    ),
+];
+
+// How many bytes these are, and their SHA-256.
+fn measured(alloc: Global, bytes: &[u8]) -> Result<(usize, String), Fail> {
+    let mut digest = [0u8; 32];
+    Hash::Sha256.hash_into(bytes, &mut digest);
+    Ok((bytes.len(), hex::encode(alloc, digest)?))
+}
+
+#[test]
+fn seals_to_the_bytes_of_the_model(rt: HostRuntime) -> Result<(), Fail> {
+    let alloc = rt.alloc();
+    let text = b"ten bytes.".to_vec(alloc)?;
+    let stream = by_words(alloc, &["seal", KEYSET, "00ff", SEED], text)?;
+    expect(
+        &rt,
+        stream,
+        want(alloc, 0, hex::decode(alloc, TEN_BYTES)?, "")?,
+        "ten bytes",
+    );
+    Ok(())
+}
+
+// Compares the stream of a counted text with its bytes and its digest, and what it opens to.
+fn is_of_model(rt: &impl Abort, alloc: Global, row: (usize, usize, &str)) -> Result<(), Fail> {
+    let (count, length, digest) = row;
+    let stream = sealed(alloc, KEYSET, "-", count)?;
+    let wanted = (length, String::from_str(alloc, digest)?);
+    expect(rt, measured(alloc, &stream)?, wanted, digest);
+    opens(rt, alloc, (KEYSET, "-"), stream, (0, count, ""))
+}
+
+// Compares what a seal writes with the stream, and what an open writes with the text.
+fn is_stream(rt: &impl Abort, alloc: Global, text: &str, stream: &str) -> Result<(), Fail> {
+    let written = seal(alloc, SMALL, text.as_bytes().to_vec(alloc)?)?;
+    expect(
+        rt,
+        written,
+        want(alloc, 0, hex::decode(alloc, stream)?, "")?,
+        text,
+    );
+    Ok(())
+}
+
+fn opens_to(rt: &impl Abort, alloc: Global, stream: &str, text: &str) -> Result<(), Fail> {
+    let written = by_words(alloc, &["open", SMALL, "-"], hex::decode(alloc, stream)?)?;
+    expect(
+        rt,
+        written,
+        want(alloc, 0, text.as_bytes().to_vec(alloc)?, "")?,
+        text,
+    );
+    Ok(())
+}
+
+// Compares the bytes of a stream, and what an open of it tells.
+fn goes_round(rt: &impl Abort, alloc: Global, row: Round) -> Result<(), Fail> {
+    let (what, sealing, opening, (count, length), told) = row;
+    let stream = sealed(alloc, sealing.0, sealing.1, count)?;
+    expect(rt, stream.len(), length, what);
+    opens(rt, alloc, opening, stream, told)
+}
+
+#[test]
+fn streams_are_those_of_the_model_and_open(rt: HostRuntime) -> Result<(), Fail> {
+    for row in STREAMS {
+        is_of_model(&rt, rt.alloc(), row)?;
+    }
+    Ok(())
+}
+
+#[test]
+fn small_segments_seal_and_open(rt: HostRuntime) -> Result<(), Fail> {
+    for (text, stream) in SMALL_STREAMS {
+        is_stream(&rt, rt.alloc(), text, stream)?;
+        opens_to(&rt, rt.alloc(), stream, text)?;
+    }
+    Ok(())
+}
+
+#[test]
+fn an_empty_last_segment_opens(rt: HostRuntime) -> Result<(), Fail> {
+    let stream = hex::decode(rt.alloc(), EMPTY_LAST)?;
+    opens(&rt, rt.alloc(), (SMALL, "-"), stream, (0, 26, ""))
+}
+
+#[test]
+fn sealed_texts_open(rt: HostRuntime) -> Result<(), Fail> {
+    for row in ROUNDS {
+        goes_round(&rt, rt.alloc(), row)?;
+    }
+    Ok(())
+}
