@@ -1,0 +1,109 @@
+ghost use Rattle.std.specs.Prelude.{◌≡◌, ◌≤◌, ◌<◌, ◌+◌, [], take, map, All, IfSome, IfOk, IfErr, vec_len, vec_capacity};
+ghost use Rattle.std.specs.Io.KnownBytes.{prepend_known};
+ghost use Rattle.stream_model.specs.Cut.{numbered};
+ghost use Rattle.stream_model.specs.Key.{nonce_size};
+ghost use Rattle.stream_model.specs.Opening.{opening_key};
+ghost use Rattle.tink_segments.specs.StreamSegments.{segment_by};
+ghost use Rattle.tink_io.specs.declared.error.Kind.TheVariants.{OutOfMemory};
+ghost use Rattle.tink_streams.specs.declared.progress.Progress.TheVariants.{Running};
+ghost use Rattle.tink_streams.specs.Choosing.{Started, StartRefused};
+
+use crate::choosing::choose;
+use crate::stream_memory::PREFIX;
+use crate::stream_params::DerivesStreams;
+use std::alloc::Global;
+use tink_io::{Kind, Source, TinkError};
+use tink_segments::StreamSegment;
+use tink_streams::{Begun, Buffers, Kept, SegmentReader, carry};
+
+/// What is needed to find the key of a stream: what is kept of its source, and memory for the
+/// largest of the keys.
+#[derive(Drop)]
+pub struct Trial {
+    pub kept: Kept,
+    pub prefix: Vec<u8>,
+    pub nonce: Vec<u8>,
+    pub opened: Vec<u8>,
+}
+
+impl Trial {
+    /// Memory for keys with segments of so many bytes at most, and nonces of so many.
+    ///
+    /// # Errors
+    /// `OutOfMemory`.
+    pub fn reserve(alloc: Global, segment: u32, nonce: usize) -> Result<Trial, TinkError>
+        ensures filled { IfOk result (λ t. t.kept.filled ≡ 0) }
+        ensures buffer { IfOk result (λ t. vec_len t.kept.buffer ≡ segment + 1) }
+        ensures opened { IfOk result (λ t. vec_capacity t.opened ≡ segment + 1) }
+        ensures nonce { IfOk result (λ t. vec_len t.nonce ≡ nonce) }
+        ensures prefix { IfOk result (λ t. 7 ≤ vec_capacity t.prefix) }
+        ensures refused { IfErr result (λ e. e ≡ record { kind = OutOfMemory }) }
+    {
+        let buffers = Buffers::reserve(alloc, segment, nonce)?;
+        let prefix = Vec::with_capacity(alloc, PREFIX)?;
+        Ok(Trial {
+            kept: Kept {
+                buffer: buffers.sealed,
+                filled: 0,
+            },
+            prefix,
+            nonce: buffers.nonce,
+            opened: buffers.text,
+        })
+    }
+}
+
+/// The reader of the first key under which the stream begins with the associated data, over what is
+/// behind its header.
+///
+/// # Errors
+/// NoMatchingKey where the stream begins under none, ReadFault where the source failed.
+pub fn start<S: Source, T: DerivesStreams>(
+    keys: &[T],
+    aad: &[u8],
+    trial: Trial,
+    source: &mut S,
+) -> Result<SegmentReader<StreamSegment>, TinkError>
+    requires buffer { All (λ k. (T.key_of k).segment < vec_len trial.kept.buffer) keys.now }
+    requires room { All (λ k. (T.key_of k).segment ≤ vec_capacity trial.opened) keys.now }
+    requires nonce { All (λ k. nonce_size (T.key_of k) ≤ vec_len trial.nonce) keys.now }
+    requires prefix { 7 ≤ vec_capacity trial.prefix }
+    ensures fresh { IfOk result (λ r. (r.progress ≡ Running) × (r.segments ≡ 0) × (r.opened.items ≡ [])) }
+    ensures started { IfOk result (λ r. IfSome (prepend_known (take trial.kept.filled trial.kept.buffer.items) (S.left source.old)) (λ X.
+        Started (map (λ k. opening_key aad.now (T.key_of k)) keys.now) X (prepend_known (take r.filled r.buffer.items) (S.left source.new))
+        (numbered (segment_by r.opener.decrypter) r.opener.nonce_size r.opener.prefix.items) r.opener.first r.opener.size r.opener.overhead)) }
+    ensures refused { IfErr result (λ e. StartRefused (map (λ k. opening_key aad.now (T.key_of k)) keys.now)
+        (prepend_known (take trial.kept.filled trial.kept.buffer.items) (S.left source.old)) (S.faults source.old) (S.faults source.new) e.kind) }
+    ensures later { S.faults source.old ≤ S.faults source.new }
+    ensures same { S.same source.old source.new }
+{
+    let Trial {
+        mut kept,
+        prefix,
+        mut nonce,
+        mut opened,
+    } = trial;
+    match choose(
+        keys,
+        aad,
+        &mut kept,
+        source,
+        prefix,
+        &mut nonce,
+        &mut opened,
+    ) {
+        Err(_) => Err(TinkError::new(Kind::ReadFault)),
+        Ok(None) => Err(TinkError::new(Kind::NoMatchingKey)),
+        Ok(Some(Begun { opener, header })) => {
+            let filled = kept.filled;
+            carry(&mut kept.buffer, header, filled);
+            opened.clear();
+            let buffers = Buffers {
+                text: opened,
+                sealed: kept.buffer,
+                nonce,
+            };
+            Ok(SegmentReader::made(opener, buffers, filled - header))
+        }
+    }
+}
