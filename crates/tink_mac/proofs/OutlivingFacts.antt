@@ -18,7 +18,7 @@ use Rattle.tink_sets.specs.Converting.{before, converted}
 use Rattle.tink_sets.specs.Entries.{entry_of, entry_of_id, typed_by, with_primitive}
 use Rattle.tink_sets.specs.declared.entry.Entry.{Entry}
 use Rattle.tink_sets.specs.declared.entry.TypedEntry.{TypedEntry}
-use Rattle.tink_keysets.specs.Managed as managed
+use Rattle.tink_building.specs.Given as given
 use Rattle.tink_keysets.specs.Built as built
 use Rattle.keyset_model.specs.Commands.{after_all}
 use Rattle.keyset_model.specs.Keys.{enabled}
@@ -112,7 +112,7 @@ module _ {M K A D HD HE P F S St V : Type 0} (url : M → List ℕ) (supports : 
   key_of managers ks es e all there =
       let give = built.built_entry url supports builds entry_of managers None in
       let list = by_list url supports builds ks.primary_key_id (built.built_entries url supports builds entry_of managers None ks) es all in
-      let given = cond_ok _ (managed.given_each give (enabled ks)) InvalidKeyset list.0 list.1 in
+      let given = cond_ok _ (given.given_each give (enabled ks)) InvalidKeyset list.0 list.1 in
       let b = giver (typed_by as_mac) list.0 es e list.2 there in
       let k = giver give (enabled ks) list.0 b.0 (sym (given-converted give (enabled ks)) ∙ given) b.1 in
       let q = made_ok (λ p. entry_of p k.0) (built.built_data url supports builds managers None k.0.key_data) b.0 k.2 in
