@@ -108,7 +108,8 @@ fn put_maybe<M: Json>(
     name: &str,
     message: &Option<M>,
 ) -> Result<(), AllocError>
-    ensures { OnOk result (members_view members.new.entries ≡ put_if name.now M.value message.now (members_view members.old.entries)) }
+    ensures { OnOk result (members_view members.new.entries
+        ≡ put_if name.now M.value message.now (members_view members.old.entries)) }
 {
     match message {
         Some(message) => put(members, alloc, name, message.to_value(alloc)?),
