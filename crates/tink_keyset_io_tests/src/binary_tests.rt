@@ -5,13 +5,13 @@ ghost use Rattle.tink_proto.specs.Messages.{keyset as keyset_table};
 ghost use Rattle.wire_format.specs.Message.{decoded};
 
 use crate::expecting::{expect, expect_bytes};
-use crate::stored::{KEYSET, stream_keyset};
+use crate::stored::{KEYSET, joined, read_bytes, stream_keyset, write_both};
 use std::alloc::Global;
 use std::test::Fail;
 use tink_io::{Kind, MemSink, MemSource, Source, SureSource, TinkError};
 use tink_keyset_io::{BinaryReader, BinaryWriter};
 use tink_keysets::keyset::{Reader, Writer};
-use tink_proto::{Bytes, EncryptedKeyset, Keyset, Message};
+use tink_proto::Keyset;
 use tink_testutil::kind_of;
 
 fn reader(
@@ -40,11 +40,6 @@ fn keyset_of<S: Source + Drop>(alloc: Global, source: S) -> Result<Keyset, TinkE
     ensures { IfOk result (λ ks. IfSome (S.left source) (λ text. decoded keyset_table.read text ≡ Some ks)) }
 {
     BinaryReader::new(source).read(alloc)
-}
-
-// The bytes of the keyset that is read.
-fn read_bytes<R: Reader>(alloc: Global, reader: &mut R) -> Result<Bytes, Fail> {
-    Ok(reader.read(alloc)?.encode(alloc)?)
 }
 
 #[test]
@@ -85,20 +80,9 @@ fn a_source_gives_its_keyset(rt: HostRuntime) -> Result<(), Fail> {
 fn a_keyset_is_written_in_pieces(rt: HostRuntime) -> Result<(), Fail> {
     let alloc = rt.alloc();
     let mut writer = writer(alloc, 5, Vec::new(alloc))?;
-    writer.write(alloc, &stream_keyset(alloc)?)?;
-    let encrypted = EncryptedKeyset {
-        encrypted_keyset: Bytes::from_slice(alloc, b"\xaa\xbb")?,
-        keyset_info: None,
-    };
-    writer.write_encrypted(alloc, &encrypted)?;
-    let mut expected = Vec::from_slice(alloc, KEYSET)?;
-    expected.extend_from_slice(b"\x12\x02\xaa\xbb")?;
-    expect_bytes(
-        &rt,
-        writer.into_inner().bytes(),
-        expected.as_slice(),
-        "both",
-    );
+    write_both(alloc, &mut writer, b"\xaa\xbb")?;
+    let want = joined(alloc, KEYSET, b"\x12\x02\xaa\xbb")?;
+    expect_bytes(&rt, writer.into_inner().bytes(), want.as_slice(), "both");
     Ok(())
 }
 

@@ -1,13 +1,12 @@
 //! Keysets in JSON: each call once, refusals, short calls and faults.
 
 use crate::expecting::{expect, expect_bytes};
-use crate::stored::{KEYSET, stream_keyset};
+use crate::stored::{KEYSET, joined, read_bytes, stream_keyset, write_both};
 use std::alloc::Global;
 use std::test::Fail;
 use tink_io::{Kind, MemSink, MemSource, TinkError};
 use tink_keyset_io::{JsonReader, JsonWriter};
 use tink_keysets::keyset::{Reader, Writer};
-use tink_proto::{Bytes, EncryptedKeyset, Message};
 use tink_testutil::kind_of;
 
 const TEXT: &[u8] = b"{
@@ -43,11 +42,6 @@ fn writer(alloc: Global, piece: usize, fails: Vec<u32>) -> Result<JsonWriter<Mem
     Ok(JsonWriter::new(sink))
 }
 
-// The binary form of the keyset that is read.
-fn read_bytes<R: Reader>(alloc: Global, reader: &mut R) -> Result<Bytes, Fail> {
-    Ok(reader.read(alloc)?.encode(alloc)?)
-}
-
 #[test]
 fn a_text_is_read_in_pieces(rt: HostRuntime) -> Result<(), Fail> {
     let alloc = rt.alloc();
@@ -75,20 +69,9 @@ fn a_text_is_read_in_pieces(rt: HostRuntime) -> Result<(), Fail> {
 fn a_text_is_written_in_pieces(rt: HostRuntime) -> Result<(), Fail> {
     let alloc = rt.alloc();
     let mut writer = writer(alloc, 31, Vec::new(alloc))?;
-    writer.write(alloc, &stream_keyset(alloc)?)?;
-    let encrypted = EncryptedKeyset {
-        encrypted_keyset: Bytes::from_slice(alloc, b"\xff\xfe")?,
-        keyset_info: None,
-    };
-    writer.write_encrypted(alloc, &encrypted)?;
-    let mut expected = Vec::from_slice(alloc, TEXT)?;
-    expected.extend_from_slice(b"{\n  \"encryptedKeyset\": \"//4=\"\n}")?;
-    expect_bytes(
-        &rt,
-        writer.into_inner().bytes(),
-        expected.as_slice(),
-        "both",
-    );
+    write_both(alloc, &mut writer, b"\xff\xfe")?;
+    let want = joined(alloc, TEXT, b"{\n  \"encryptedKeyset\": \"//4=\"\n}")?;
+    expect_bytes(&rt, writer.into_inner().bytes(), want.as_slice(), "both");
     Ok(())
 }
 

@@ -1,8 +1,10 @@
-//! A keyset of one raw key for streams, and its binary form.
+//! A keyset of one raw key for streams, its binary form, and how both kinds of ends are read and written.
 
 use std::alloc::Global;
+use std::test::Fail;
 use tink_io::TinkError;
-use tink_proto::{Keyset, OutputPrefixType};
+use tink_keysets::keyset::{Reader, Writer};
+use tink_proto::{Bytes, EncryptedKeyset, Keyset, Message, OutputPrefixType};
 use tink_testutil::{enabled_key, keyset};
 
 /// The binary form.
@@ -19,4 +21,34 @@ pub fn stream_keyset(alloc: Global) -> Result<Keyset, TinkError> {
     let id = 0x01020304;
     let key = enabled_key(alloc, STREAM_URL, VALUE, OutputPrefixType::Raw, id)?;
     Ok(keyset(id, vec![in alloc; key]?))
+}
+
+/// The binary form of the keyset that is read.
+pub fn read_bytes<R: Reader>(alloc: Global, reader: &mut R) -> Result<Bytes, Fail> {
+    Ok(reader.read(alloc)?.encode(alloc)?)
+}
+
+// An encrypted keyset of these bytes, without info.
+fn encrypted_of(alloc: Global, bytes: &[u8]) -> Result<EncryptedKeyset, TinkError> {
+    Ok(EncryptedKeyset {
+        encrypted_keyset: Bytes::from_slice(alloc, bytes)?,
+        keyset_info: None,
+    })
+}
+
+/// Writes the keyset, and then an encrypted one of these bytes, without info.
+pub fn write_both<W: Writer>(
+    alloc: Global,
+    writer: &mut W,
+    encrypted: &[u8],
+) -> Result<(), TinkError> {
+    writer.write(alloc, &stream_keyset(alloc)?)?;
+    writer.write_encrypted(alloc, &encrypted_of(alloc, encrypted)?)
+}
+
+/// The first text, and then the other.
+pub fn joined(alloc: Global, first: &[u8], other: &[u8]) -> Result<Vec<u8>, TinkError> {
+    let mut both = Vec::from_slice(alloc, first)?;
+    both.extend_from_slice(other)?;
+    Ok(both)
 }
