@@ -8,7 +8,7 @@ use tink_core::registry::KeyManager;
 use tink_core::{Draws, Kind, Mac, TinkError};
 use tink_mac::{AesCmacKeyManager, HmacKeyManager, MacKind, aes_cmac_tag128_key_template};
 use tink_proto::Bytes;
-use tink_testutil::kind_of;
+use tink_testutil::{draws_of, kind_of};
 
 // The front of a key's message, and a field of so many bytes 1.
 fn key_of(alloc: Global, front: &[u8], tag: u8, length: u8) -> Result<Vec<u8>, TinkError> {
@@ -79,7 +79,7 @@ fn refusal_of<M: KeyManager>(
     manager: &M,
     format: &[u8],
 ) -> Result<Option<Kind>, TinkError> {
-    let mut draws = Draws::new(vec![in alloc; 7u8; 40]?);
+    let mut draws = draws_of(alloc, &[7; 40])?;
     Ok(kind_of(manager.new_key(alloc, format, &mut draws)))
 }
 
@@ -135,15 +135,20 @@ fn built_cmac(alloc: Global, key: &[u8]) -> Result<MacKind, TinkError> {
     AesCmacKeyManager::new().primitive(alloc, key)?.into_mac()
 }
 
+// The length of a tag by a MAC, which accepts it.
+fn length_of_tag(alloc: Global, mac: &MacKind) -> Result<usize, TinkError> {
+    let tag = mac.compute_mac(alloc, b"abc")?;
+    mac.verify_mac(alloc, tag.as_slice(), b"abc")?;
+    Ok(tag.as_slice().len())
+}
+
 #[test]
 fn a_new_cmac_key_builds(rt: HostRuntime) -> Result<(), Fail> {
     let alloc = rt.alloc();
-    let mut draws = Draws::new(vec![in alloc; 7u8; 33]?);
+    let mut draws = draws_of(alloc, &[7; 33])?;
     let key = new_cmac_key(alloc, &mut draws)?;
     expect(&rt, draws.left(), 1, "draws that are left");
     let mac = built_cmac(alloc, key.as_slice())?;
-    let tag = mac.compute_mac(alloc, b"abc")?;
-    expect(&rt, tag.as_slice().len(), 16, "the tag's length");
-    mac.verify_mac(alloc, tag.as_slice(), b"abc")?;
+    expect(&rt, length_of_tag(alloc, &mac)?, 16, "the tag's length");
     Ok(())
 }

@@ -1,6 +1,6 @@
 //! Templates, their registration and that of the managers, and constants.
 
-use crate::expecting::expect;
+use crate::expecting::{expect, expect_bytes};
 use std::alloc::Global;
 use std::test::Fail;
 use tink_core::registry::Registry;
@@ -26,7 +26,7 @@ fn constants_have_these_values(rt: HostRuntime) {
             "type.googleapis.com/google.crypto.tink.AesCmacKey",
         ),
     ] {
-        assert!(rt; got == want, "{want}");
+        expect_bytes(&rt, got.as_bytes(), want.as_bytes(), want);
     }
     assert!(rt; HMAC_KEY_VERSION == 0 && CMAC_KEY_VERSION == 0);
 }
@@ -97,7 +97,7 @@ fn templates_are_registered(rt: HostRuntime) -> Result<(), Fail> {
         ("AES_CMAC", CMAC_TYPE_URL, CMAC_TAG128),
     ];
     for (name, url, format) in templates {
-        assert!(rt; has_template(&registry, name, url, format), "{name}");
+        expect(&rt, has_template(&registry, name, url, format), true, name);
     }
     Ok(())
 }

@@ -8,11 +8,12 @@ use std::alloc::Global;
 use std::test::Fail;
 use tink_core::keyset::{Handle, Manager};
 use tink_core::registry::Registry;
-use tink_core::{Kind, Mac, TinkError};
+use tink_core::{KeyId, Kind, Mac, TinkError};
 use tink_mac::subtle::Hmac;
 use tink_mac::{
     HMAC_TYPE_URL, HmacKeyManager, MacKind, WrappedMac, hmac_sha256_tag128_key_template,
-    law_old_macs_verify, law_own_tags_accepted, new,
+    law_built_macs_are_sound, law_macs_outlive_commands, law_old_macs_verify,
+    law_own_tags_accepted, new,
 };
 use tink_proto::{Bytes, HashType, OutputPrefixType};
 use tink_testutil::{draws_of, enabled_key, handle_of, kind_of, registry_of};
@@ -40,165 +41,170 @@ fn tag_of(alloc: Global, data: &[u8]) -> Result<Bytes, TinkError> {
     Hmac::new(alloc, HashType::Sha256, &[5; 16], 16)?.compute_mac(alloc, data)
 }
 
+// The MAC of `abc` that a key of id 7 makes: behind the id, but for a RAW key, and of one zero byte more for a LEGACY one.
+fn own_mac(alloc: Global, prefix: OutputPrefixType) -> Result<Vec<u8>, TinkError> {
+    let (front, data): (&[u8], &[u8]) = match prefix {
+        OutputPrefixType::Raw => (b"", b"abc"),
+        OutputPrefixType::Legacy => (b"\x00\x00\x00\x00\x07", b"abc\x00"),
+        _ => (b"\x00\x00\x00\x00\x07", b"abc"),
+    };
+    let mut mac = front.to_vec(alloc)?;
+    mac.extend_from_slice(tag_of(alloc, data)?.as_slice())?;
+    Ok(mac)
+}
+
+// The MAC of `abc` by the keyset of such a key.
+fn made_by(alloc: Global, prefix: OutputPrefixType) -> Result<Bytes, TinkError> {
+    mac_of(alloc, &macs_of(alloc, prefix)?, b"abc")
+}
+
+#[test]
+fn a_mac_stands_behind_its_prefix(rt: HostRuntime) -> Result<(), Fail> {
+    for prefix in [
+        OutputPrefixType::Legacy,
+        OutputPrefixType::Crunchy,
+        OutputPrefixType::Raw,
+    ] {
+        let made = made_by(rt.alloc(), prefix)?;
+        let want = own_mac(rt.alloc(), prefix)?;
+        expect_bytes(&rt, made.as_slice(), &want, "a MAC");
+    }
+    Ok(())
+}
+
 // What a set answers on a MAC of `abc`.
 fn answer_on(alloc: Global, macs: &WrappedMac<MacKind>, mac: &[u8]) -> Option<Kind> {
     kind_of(macs.verify_mac(alloc, mac, b"abc"))
 }
 
-// The MAC that a LEGACY key of id 7 makes of `abc`.
-fn legacy_mac(alloc: Global) -> Result<Vec<u8>, TinkError> {
-    let tag = tag_of(alloc, b"abc\x00")?;
-    let mut mac = b"\x00\x00\x00\x00\x07".to_vec(alloc)?;
-    mac.extend_from_slice(tag.as_slice())?;
-    Ok(mac)
+// What the keyset of one such key answers on the MAC of another, cut to so many bytes.
+fn answer_by(
+    alloc: Global,
+    prefix: OutputPrefixType,
+    other: OutputPrefixType,
+    size: usize,
+) -> Result<Option<Kind>, TinkError> {
+    let mac = own_mac(alloc, other)?;
+    let macs = macs_of(alloc, prefix)?;
+    Ok(answer_on(alloc, &macs, &mac[..mac.len().min(size)]))
 }
 
-// The MAC that a CRUNCHY key of id 7 makes of `abc`.
-fn crunchy_mac(alloc: Global) -> Result<Vec<u8>, TinkError> {
-    let tag = tag_of(alloc, b"abc")?;
-    let mut mac = b"\x00\x00\x00\x00\x07".to_vec(alloc)?;
-    mac.extend_from_slice(tag.as_slice())?;
-    Ok(mac)
-}
-
+// LEGACY and CRUNCHY keys of an id have one prefix.
 #[test]
-fn a_legacy_key_covers_one_zero_byte_more(rt: HostRuntime) -> Result<(), Fail> {
-    let alloc = rt.alloc();
-    let legacy = macs_of(alloc, OutputPrefixType::Legacy)?;
-    let mac = mac_of(alloc, &legacy, b"abc")?;
-    expect_bytes(
-        &rt,
-        mac.as_slice(),
-        &legacy_mac(alloc)?,
-        "a LEGACY key's MAC",
-    );
-    expect(
-        &rt,
-        answer_on(alloc, &legacy, mac.as_slice()),
-        None,
-        "its own",
-    );
-    let other = crunchy_mac(alloc)?;
-    expect(
-        &rt,
-        answer_on(alloc, &legacy, &other),
-        Some(Kind::MacMismatch),
-        "a CRUNCHY key's",
-    );
+fn a_key_accepts_its_own_alone(rt: HostRuntime) -> Result<(), Fail> {
+    let (legacy, crunchy) = (OutputPrefixType::Legacy, OutputPrefixType::Crunchy);
+    let mismatch = Some(Kind::MacMismatch);
+    for (prefix, other, want) in [
+        (legacy, legacy, None),
+        (legacy, crunchy, mismatch),
+        (crunchy, crunchy, None),
+        (crunchy, legacy, mismatch),
+        (OutputPrefixType::Raw, OutputPrefixType::Raw, None),
+    ] {
+        let answer = answer_by(rt.alloc(), prefix, other, 21)?;
+        expect_at(&rt, answer, want, prefix as usize);
+    }
     Ok(())
 }
 
 #[test]
-fn a_crunchy_key_of_the_id_accepts_its_own_alone(rt: HostRuntime) -> Result<(), Fail> {
-    let alloc = rt.alloc();
-    let crunchy = macs_of(alloc, OutputPrefixType::Crunchy)?;
-    let mac = mac_of(alloc, &crunchy, b"abc")?;
-    expect_bytes(
-        &rt,
-        mac.as_slice(),
-        &crunchy_mac(alloc)?,
-        "a CRUNCHY key's MAC",
-    );
-    expect(
-        &rt,
-        answer_on(alloc, &crunchy, mac.as_slice()),
-        None,
-        "its own",
-    );
-    let other = legacy_mac(alloc)?;
-    expect(
-        &rt,
-        answer_on(alloc, &crunchy, &other),
-        Some(Kind::MacMismatch),
-        "a LEGACY key's",
-    );
-    Ok(())
-}
-
-#[test]
-fn a_raw_key_has_no_prefix(rt: HostRuntime) -> Result<(), Fail> {
-    let alloc = rt.alloc();
-    let raw = macs_of(alloc, OutputPrefixType::Raw)?;
-    let mac = mac_of(alloc, &raw, b"abc")?;
-    expect_bytes(
-        &rt,
-        mac.as_slice(),
-        tag_of(alloc, b"abc")?.as_slice(),
-        "a RAW key's MAC",
-    );
-    expect(&rt, answer_on(alloc, &raw, mac.as_slice()), None, "its own");
-    Ok(())
-}
-
-#[test]
-fn fewer_bytes_than_the_tag_are_refused(rt: HostRuntime) -> Result<(), Fail> {
-    let alloc = rt.alloc();
-    let raw = macs_of(alloc, OutputPrefixType::Raw)?;
-    let mac = mac_of(alloc, &raw, b"abc")?;
-    let length = mac.as_slice().len();
+fn the_front_of_a_mac_is_refused(rt: HostRuntime) -> Result<(), Fail> {
+    let raw = OutputPrefixType::Raw;
     for size in 0..6usize {
-        let answer = answer_on(alloc, &raw, &mac.as_slice()[..size.min(length)]);
+        let answer = answer_by(rt.alloc(), raw, raw, size)?;
         expect_at(&rt, answer, Some(Kind::MacMismatch), size);
     }
     Ok(())
 }
 
 // A handle of one key by the template.
-fn handle_of_template(
-    alloc: Global,
-    registry: &Registry<HmacKeyManager>,
-) -> Result<Handle, TinkError> {
+fn first_handle(alloc: Global) -> Result<Handle, TinkError> {
+    let registry = registry_of(alloc, HmacKeyManager::new())?;
     let kt = hmac_sha256_tag128_key_template(alloc)?;
-    Handle::new(alloc, &kt, registry, &mut draws_of(alloc, &[3; 36])?)
+    Handle::new(alloc, &kt, &registry, &mut draws_of(alloc, &[3; 36])?)
 }
 
-// The handle with a new primary key by the template.
-fn rotated(
-    alloc: Global,
-    registry: &Registry<HmacKeyManager>,
-    h: Handle,
-) -> Result<Handle, TinkError> {
-    let mut manager = Manager::new_from_handle(h);
+// A new primary key by the template.
+fn rotate(alloc: Global, manager: &mut Manager) -> Result<KeyId, TinkError> {
+    let registry = registry_of(alloc, HmacKeyManager::new())?;
     let kt = hmac_sha256_tag128_key_template(alloc)?;
-    let _id = manager.rotate(alloc, &kt, registry, &mut draws_of(alloc, &[4; 36])?)?;
+    manager.rotate(alloc, &kt, &registry, &mut draws_of(alloc, &[4; 36])?)
+}
+
+// The handle after a rotation.
+fn later_handle(alloc: Global) -> Result<Handle, TinkError> {
+    let mut manager = Manager::new_from_handle(first_handle(alloc)?);
+    let _id = rotate(alloc, &mut manager)?;
     manager.handle(alloc)
 }
 
-// The MAC of `abc` by a handle.
-fn handle_mac(
-    alloc: Global,
-    registry: &Registry<HmacKeyManager>,
-    h: &Handle,
-) -> Result<Bytes, TinkError> {
-    let macs = new(alloc, h, registry)?;
-    mac_of(alloc, &macs, b"abc")
+fn macs_by(alloc: Global, h: &Handle) -> Result<WrappedMac<MacKind>, TinkError> {
+    new(alloc, h, &registry_of(alloc, HmacKeyManager::new())?)
 }
 
-// What a handle answers on a MAC of `abc`.
-fn handle_answer(
-    alloc: Global,
-    registry: &Registry<HmacKeyManager>,
-    h: &Handle,
-    mac: &[u8],
-) -> Result<Option<Kind>, TinkError> {
-    let macs = new(alloc, h, registry)?;
+// The MACs of `abc` before the rotation and after it.
+fn old_mac(alloc: Global) -> Result<Bytes, TinkError> {
+    mac_of(alloc, &macs_by(alloc, &first_handle(alloc)?)?, b"abc")
+}
+
+fn new_mac(alloc: Global) -> Result<Bytes, TinkError> {
+    mac_of(alloc, &macs_by(alloc, &later_handle(alloc)?)?, b"abc")
+}
+
+// What the later handle answers on a MAC of `abc`.
+fn later_answer(alloc: Global, mac: &[u8]) -> Result<Option<Kind>, TinkError> {
+    let macs = macs_by(alloc, &later_handle(alloc)?)?;
     Ok(answer_on(alloc, &macs, mac))
 }
 
 #[test]
-fn macs_of_a_template_verify_after_a_rotation(rt: HostRuntime) -> Result<(), Fail> {
-    let alloc = rt.alloc();
-    let registry = registry_of(alloc, HmacKeyManager::new())?;
-    let h = handle_of_template(alloc, &registry)?;
-    let old = handle_mac(alloc, &registry, &h)?;
+fn a_mac_of_a_template_verifies_after_a_rotation(rt: HostRuntime) -> Result<(), Fail> {
+    let old = old_mac(rt.alloc())?;
     expect(&rt, old.as_slice().len(), 21, "the MAC's length");
-    let later = rotated(alloc, &registry, h)?;
-    let newer = handle_mac(alloc, &registry, &later)?;
-    assert!(rt; newer.as_slice() != old.as_slice());
-    let answer = handle_answer(alloc, &registry, &later, old.as_slice())?;
-    expect(&rt, answer, None, "the old MAC");
-    let answer = handle_answer(alloc, &registry, &later, newer.as_slice())?;
-    expect(&rt, answer, None, "the new MAC");
+    expect(
+        &rt,
+        later_answer(rt.alloc(), old.as_slice())?,
+        None,
+        "the old MAC",
+    );
+    Ok(())
+}
+
+#[test]
+fn the_new_key_makes_another_mac(rt: HostRuntime) -> Result<(), Fail> {
+    let made = new_mac(rt.alloc())?;
+    let old = old_mac(rt.alloc())?;
+    assert!(rt; made.as_slice() != old.as_slice());
+    expect(
+        &rt,
+        later_answer(rt.alloc(), made.as_slice())?,
+        None,
+        "the new MAC",
+    );
+    Ok(())
+}
+
+// What a copy of the MACs of a LEGACY key answers on its own MAC, and which one it makes.
+fn copy_answer(alloc: Global, macs: &WrappedMac<MacKind>) -> Result<Option<Kind>, TinkError> {
+    let mac = own_mac(alloc, OutputPrefixType::Legacy)?;
+    Ok(answer_on(alloc, &macs.try_clone(alloc)?, &mac))
+}
+
+fn copy_makes(alloc: Global, macs: &WrappedMac<MacKind>) -> Result<Bytes, TinkError> {
+    mac_of(alloc, &macs.try_clone(alloc)?, b"abc")
+}
+
+#[test]
+fn a_copy_does_the_same(rt: HostRuntime) -> Result<(), Fail> {
+    let macs = macs_of(rt.alloc(), OutputPrefixType::Legacy)?;
+    expect(&rt, copy_answer(rt.alloc(), &macs)?, None, "a MAC");
+    let made = copy_makes(rt.alloc(), &macs)?;
+    expect_bytes(
+        &rt,
+        made.as_slice(),
+        &own_mac(rt.alloc(), OutputPrefixType::Legacy)?,
+        "a MAC",
+    );
     Ok(())
 }
 
@@ -207,4 +213,6 @@ fn macs_of_a_template_verify_after_a_rotation(rt: HostRuntime) -> Result<(), Fai
 fn laws_are_called(_rt: HostRuntime) {
     law_old_macs_verify::<HmacKeyManager, MacKind>();
     law_own_tags_accepted();
+    law_built_macs_are_sound();
+    law_macs_outlive_commands::<HmacKeyManager, MacKind>();
 }
