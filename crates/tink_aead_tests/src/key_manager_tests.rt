@@ -25,19 +25,26 @@ fn the_versions_are_0(rt: HostRuntime) -> Result<(), Fail> {
 
 // ---- keys of one part
 
-// Whether the managers of GCM and of GCM-SIV answer this on keys of a version and size.
-fn built_alike(alloc: Global, version: u32, size: usize, want: Option<Kind>) -> Result<bool, Fail> {
+// What the manager of GCM answers on a key of a version and size.
+fn gcm_built(alloc: Global, version: u32, size: usize) -> Result<Option<Kind>, Fail> {
     let key = AesGcmKey {
         version,
         key_value: Bytes::from_vec(vec![in alloc; 1u8; size]?),
     };
-    let gcm = AesGcmKeyManager::new().primitive(alloc, key.encode(alloc)?.as_slice());
+    let bytes = key.encode(alloc)?;
+    let answer = AesGcmKeyManager::new().primitive(alloc, bytes.as_slice());
+    Ok(kind_of(answer))
+}
+
+// And that of GCM-SIV.
+fn gcm_siv_built(alloc: Global, version: u32, size: usize) -> Result<Option<Kind>, Fail> {
     let key = AesGcmSivKey {
         version,
         key_value: Bytes::from_vec(vec![in alloc; 1u8; size]?),
     };
-    let siv = AesGcmSivKeyManager::new().primitive(alloc, key.encode(alloc)?.as_slice());
-    Ok(kind_of(gcm) == want && kind_of(siv) == want)
+    let bytes = key.encode(alloc)?;
+    let answer = AesGcmSivKeyManager::new().primitive(alloc, bytes.as_slice());
+    Ok(kind_of(answer))
 }
 
 #[test]
@@ -51,8 +58,10 @@ fn keys_of_one_part_that_build(rt: HostRuntime) -> Result<(), Fail> {
         (0, 0, invalid),
         (1, 16, invalid),
     ] {
+        let gcm = gcm_built(alloc, version, size)?;
+        let siv = gcm_siv_built(alloc, version, size)?;
         assert!(rt;
-            built_alike(alloc, version, size, want)?,
+            gcm == want && siv == want,
             "version {version}, {size} bytes"
         );
     }
@@ -131,23 +140,30 @@ fn keys_of_two_parts_that_build(rt: HostRuntime) -> Result<(), Fail> {
     Ok(())
 }
 
+fn built_without_mac(alloc: Global) -> Result<Option<Kind>, Fail> {
+    let key = AesCtrHmacAeadKey {
+        version: 0,
+        aes_ctr_key: key_of(alloc, [0, 0, 0], 16, 12, 16)?.aes_ctr_key,
+        hmac_key: None,
+    };
+    built(alloc, &key)
+}
+
+fn built_without_cipher(alloc: Global) -> Result<Option<Kind>, Fail> {
+    let key = AesCtrHmacAeadKey {
+        version: 0,
+        aes_ctr_key: None,
+        hmac_key: key_of(alloc, [0, 0, 0], 16, 12, 16)?.hmac_key,
+    };
+    built(alloc, &key)
+}
+
 #[test]
 fn keys_without_a_part_do_not_build(rt: HostRuntime) -> Result<(), Fail> {
     let alloc = rt.alloc();
-    let whole = key_of(alloc, [0, 0, 0], 16, 12, 16)?;
-    let without_mac = AesCtrHmacAeadKey {
-        version: 0,
-        aes_ctr_key: whole.aes_ctr_key,
-        hmac_key: None,
-    };
-    let without_cipher = AesCtrHmacAeadKey {
-        version: 0,
-        aes_ctr_key: None,
-        hmac_key: whole.hmac_key,
-    };
     let invalid = Some(Kind::InvalidKey);
-    assert!(rt; built(alloc, &without_mac)? == invalid);
-    assert!(rt; built(alloc, &without_cipher)? == invalid);
+    assert!(rt; built_without_mac(alloc)? == invalid);
+    assert!(rt; built_without_cipher(alloc)? == invalid);
     Ok(())
 }
 

@@ -1,8 +1,6 @@
-//! Tests of the managers and templates of AEAD keys, of their registration, and of envelopes.
+//! Tests of the managers and templates of AEAD keys, and of their registration.
 #![tactic(auto)]
 
-#[cfg(test)]
-mod envelope_tests;
 #[cfg(test)]
 mod key_manager_tests;
 #[cfg(test)]

@@ -1,0 +1,5 @@
+//! Tests of envelopes over a remote key.
+#![tactic(auto)]
+
+#[cfg(test)]
+mod envelope_tests;
