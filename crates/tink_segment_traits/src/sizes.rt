@@ -18,7 +18,8 @@ pub fn check_sizes(
     ensures ok { OnOk result (sizes_fault nonce_size (length prefix.now) size offset overhead ≡ None) }
     ensures nonce { OnOk result (length prefix.now + 5 ≤ nonce_size) }
     ensures first { OnOk result (overhead < size - offset) }
-    ensures refused { IfErr result (λ e. sizes_fault nonce_size (length prefix.now) size offset overhead ≡ Some e.kind) }
+    ensures refused { IfErr result (λ e. sizes_fault nonce_size
+        (length prefix.now) size offset overhead ≡ Some e.kind) }
 {
     if nonce_size < prefix.len() + 5 {
         return Err(TinkError::new(Kind::NonceTooShort));

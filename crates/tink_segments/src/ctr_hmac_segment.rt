@@ -40,7 +40,12 @@ impl Model for CtrHmacSegment {
 
     ghost Value = { SegmentKeys };
 
-    ghost view = { λ s. record { aes_key = key_of s.cipher; hmac_key = s.hmac_key; hash = s.tag_hash; tag = s.tag_size } };
+    ghost view = { λ s. record {
+      aes_key = key_of s.cipher;
+      hmac_key = s.hmac_key;
+      hash = s.tag_hash;
+      tag = s.tag_size;
+    } };
 
     ghost invariant = { λ s. (s.tag_size ≤ digest_size s.tag_hash) × IsSized s.cipher };
 }

@@ -70,7 +70,8 @@ impl AesCtrHmac {
         ciphertext_segment_size: u32,
         first_segment_offset: u32,
     ) -> Result<AesCtrHmac, TinkError>
-        ensures { Answers result (ctr_hmac_key main_key.now (hash_named hkdf_alg) key_size (hash_named tag_alg) tag_size ciphertext_segment_size first_segment_offset) }
+        ensures { Answers result (ctr_hmac_key main_key.now (hash_named hkdf_alg) key_size
+            (hash_named tag_alg) tag_size ciphertext_segment_size first_segment_offset) }
     {
         match params_of(
             main_key.len(),
@@ -112,7 +113,8 @@ impl AesCtrHmac {
         additional_data: &[u8],
     ) -> Result<Writer<K, StreamSegment>, Refused<K>>
         ensures answer { NewWriterMeans K.got K.faults self.now additional_data.now draws.old draws.new w result }
-        ensures later { MatchResult result (λ made. K.faults w ≤ K.faults made.sink) (λ refused. K.faults w ≤ K.faults refused.inner) }
+        ensures later { MatchResult result (λ made. K.faults w ≤ K.faults made.sink)
+            (λ refused. K.faults w ≤ K.faults refused.inner) }
         ensures same { MatchResult result (λ made. K.same w made.sink) (λ refused. K.same w refused.inner) }
     {
         new_encrypting_writer(alloc, self, draws, w, additional_data)
@@ -131,7 +133,8 @@ impl AesCtrHmac {
         additional_data: &[u8],
     ) -> Result<Reader<S, StreamSegment>, Refused<S>>
         ensures answer { NewReaderMeans S.left S.faults self.now additional_data.now r result }
-        ensures later { MatchResult result (λ made. S.faults r ≤ S.faults made.source) (λ refused. S.faults r ≤ S.faults refused.inner) }
+        ensures later { MatchResult result (λ made. S.faults r ≤ S.faults made.source)
+            (λ refused. S.faults r ≤ S.faults refused.inner) }
         ensures same { MatchResult result (λ made. S.same r made.source) (λ refused. S.same r refused.inner) }
     {
         new_decrypting_reader(alloc, self, r, additional_data)

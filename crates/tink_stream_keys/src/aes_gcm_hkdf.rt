@@ -62,7 +62,8 @@ impl AesGcmHkdf {
         ciphertext_segment_size: u32,
         first_segment_offset: u32,
     ) -> Result<AesGcmHkdf, TinkError>
-        ensures { Answers result (gcm_hkdf_key main_key.now (hash_named hkdf_alg) key_size ciphertext_segment_size first_segment_offset) }
+        ensures { Answers result (gcm_hkdf_key main_key.now (hash_named hkdf_alg) key_size ciphertext_segment_size
+            first_segment_offset) }
     {
         match params_of(
             main_key.len(),
@@ -102,7 +103,8 @@ impl AesGcmHkdf {
         additional_data: &[u8],
     ) -> Result<Writer<K, StreamSegment>, Refused<K>>
         ensures answer { NewWriterMeans K.got K.faults self.now additional_data.now draws.old draws.new w result }
-        ensures later { MatchResult result (λ made. K.faults w ≤ K.faults made.sink) (λ refused. K.faults w ≤ K.faults refused.inner) }
+        ensures later { MatchResult result (λ made. K.faults w ≤ K.faults made.sink)
+            (λ refused. K.faults w ≤ K.faults refused.inner) }
         ensures same { MatchResult result (λ made. K.same w made.sink) (λ refused. K.same w refused.inner) }
     {
         new_encrypting_writer(alloc, self, draws, w, additional_data)
@@ -121,7 +123,8 @@ impl AesGcmHkdf {
         additional_data: &[u8],
     ) -> Result<Reader<S, StreamSegment>, Refused<S>>
         ensures answer { NewReaderMeans S.left S.faults self.now additional_data.now r result }
-        ensures later { MatchResult result (λ made. S.faults r ≤ S.faults made.source) (λ refused. S.faults r ≤ S.faults refused.inner) }
+        ensures later { MatchResult result (λ made. S.faults r ≤ S.faults made.source)
+            (λ refused. S.faults r ≤ S.faults refused.inner) }
         ensures same { MatchResult result (λ made. S.same r made.source) (λ refused. S.same r refused.inner) }
     {
         new_decrypting_reader(alloc, self, r, additional_data)

@@ -31,9 +31,11 @@ pub fn choose<S: Source, T: DerivesStreams>(
     requires room { All (λ k. (T.key_of k).segment ≤ vec_capacity opened.old) keys.now }
     requires nonce { All (λ k. nonce_size (T.key_of k) ≤ vec_len nonce.old) keys.now }
     requires prefix { 7 ≤ vec_capacity prefix }
-    ensures chosen { IfOk result (λ r. IfSome (prepend_known (take kept.old.filled kept.old.buffer.items) (S.left source.old)) (λ X.
+    ensures chosen { IfOk result (λ r. IfSome (prepend_known (take kept.old.filled kept.old.buffer.items)
+        (S.left source.old)) (λ X.
         MatchOption r (IsChosen (map (λ k. opening_key aad.now (T.key_of k)) keys.now) X None)
-        (λ b. Found (map (λ k. opening_key aad.now (T.key_of k)) keys.now) X (numbered (segment_by b.opener.decrypter) b.opener.nonce_size b.opener.prefix.items)
+        (λ b. Found (map (λ k. opening_key aad.now (T.key_of k)) keys.now) X
+        (numbered (segment_by b.opener.decrypter) b.opener.nonce_size b.opener.prefix.items)
         b.header b.opener.first b.opener.size b.opener.overhead))) }
     ensures rest { OnOk result (Keeps (prepend_known (take kept.old.filled kept.old.buffer.items) (S.left source.old))
         (prepend_known (take kept.new.filled kept.new.buffer.items) (S.left source.new))) }

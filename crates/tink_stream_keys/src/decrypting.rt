@@ -21,8 +21,10 @@ fn read_header<T: DerivesStreams, S: Source>(
     key: &T,
     source: &mut S,
 ) -> Result<[u8; MAX_HEADER], TinkError>
-    ensures ok { IfOk result (λ h. ReadsHeader (T.key_of key.now) (S.left source.old) (S.left source.new) (take (header_length (T.key_of key.now)) h)) }
-    ensures refused { IfErr result (λ e. HeaderRefused (T.key_of key.now) (S.left source.old) (S.left source.new) (S.faults source.old) (S.faults source.new) e.kind) }
+    ensures ok { IfOk result (λ h. ReadsHeader (T.key_of key.now) (S.left source.old) (S.left source.new)
+        (take (header_length (T.key_of key.now)) h)) }
+    ensures refused { IfErr result (λ e. HeaderRefused (T.key_of key.now) (S.left source.old) (S.left source.new)
+        (S.faults source.old) (S.faults source.new) e.kind) }
     ensures later { S.faults source.old ≤ S.faults source.new }
     ensures same { S.same source.old source.new }
 {
@@ -82,7 +84,8 @@ fn begin<T: DerivesStreams, S: Source>(
 ) -> Result<SegmentReader<StreamSegment>, TinkError>
     ensures answer { MatchResult result
         (λ r. IsNewReader (T.key_of key.now) aad.now (S.left source.old)
-        (numbered (segment_by r.opener.decrypter) r.opener.nonce_size r.opener.prefix.items) r.opener.first r.opener.size r.opener.overhead
+        (numbered (segment_by r.opener.decrypter) r.opener.nonce_size r.opener.prefix.items) r.opener.first
+        r.opener.size r.opener.overhead
         (take r.filled r.buffer.items)
         (record {
           progress = r.progress;
@@ -112,7 +115,8 @@ pub fn new_decrypting_reader<T: DerivesStreams, S: Source + Drop>(
     aad: &[u8],
 ) -> Result<Reader<S, StreamSegment>, Refused<S>>
     ensures answer { NewReaderMeans S.left S.faults (T.key_of key.now) aad.now r result }
-    ensures later { MatchResult result (λ made. S.faults r ≤ S.faults made.source) (λ refused. S.faults r ≤ S.faults refused.inner) }
+    ensures later { MatchResult result (λ made. S.faults r ≤ S.faults made.source)
+        (λ refused. S.faults r ≤ S.faults refused.inner) }
     ensures same { MatchResult result (λ made. S.same r made.source) (λ refused. S.same r refused.inner) }
 {
     let mut source = r;

@@ -19,7 +19,8 @@ use tink_streams::{Sealer, SegmentWriter, Writer};
 
 // A header with a drawn salt and prefix, in front of zeros.
 fn draw_header<T: DerivesStreams>(key: &T, draws: &mut Draws) -> Result<[u8; MAX_HEADER], TinkError>
-    ensures ok { IfOk result (λ h. take (header_length (T.key_of key.now)) h ≡ header_length (T.key_of key.now) ∷ take (drawn (T.key_of key.now)) draws.old) }
+    ensures ok { IfOk result (λ h. take (header_length (T.key_of key.now)) h ≡ header_length (T.key_of key.now) ∷ take
+        (drawn (T.key_of key.now)) draws.old) }
     ensures rest { OnOk result (draws.new ≡ drop (drawn (T.key_of key.now)) draws.old) }
     ensures random_fault { IsErr result ↔ (length draws.old < drawn (T.key_of key.now)) }
     ensures refused { IfErr result (λ e. e ≡ record { kind = RandomFault }) }
@@ -84,8 +85,16 @@ pub fn begin_stream<T: DerivesStreams, K: Sink>(
 ) -> Result<SegmentWriter<StreamSegment>, TinkError>
     ensures answer { MatchResult result
         (λ w. IsNewStream (T.key_of key.now) aad.now draws.old draws.new (K.got sink.old)
-        (numbered (segment_by w.sealer.encrypter) w.sealer.nonce_size w.sealer.prefix.items) w.sealer.first w.sealer.room
-        (record { mode = w.mode; number = w.segments; held = w.held.items; got = K.got sink.new; faults = K.faults sink.new }))
+        (numbered (segment_by w.sealer.encrypter) w.sealer.nonce_size w.sealer.prefix.items) w.sealer.first
+        w.sealer.room
+        (record {
+          mode = w.mode;
+          number = w.segments;
+          held = w.held.items;
+          got = K.got sink.new;
+          faults = K.faults
+              sink.new;
+        }))
         (λ e. NewWriterRefused K.got K.faults (T.key_of key.now) aad.now draws.old draws.new sink.old sink.new e.kind) }
     ensures later { K.faults sink.old ≤ K.faults sink.new }
     ensures same { K.same sink.old sink.new }
@@ -112,7 +121,8 @@ pub fn new_encrypting_writer<T: DerivesStreams, K: Sink + Drop>(
     aad: &[u8],
 ) -> Result<Writer<K, StreamSegment>, Refused<K>>
     ensures answer { NewWriterMeans K.got K.faults (T.key_of key.now) aad.now draws.old draws.new w result }
-    ensures later { MatchResult result (λ made. K.faults w ≤ K.faults made.sink) (λ refused. K.faults w ≤ K.faults refused.inner) }
+    ensures later { MatchResult result (λ made. K.faults w ≤ K.faults made.sink)
+        (λ refused. K.faults w ≤ K.faults refused.inner) }
     ensures same { MatchResult result (λ made. K.same w made.sink) (λ refused. K.same w refused.inner) }
 {
     let mut sink = w;

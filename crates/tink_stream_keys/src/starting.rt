@@ -69,12 +69,16 @@ pub fn start<S: Source, T: DerivesStreams>(
     requires nonce { All (λ k. nonce_size (T.key_of k) ≤ vec_len trial.nonce) keys.now }
     requires prefix { 7 ≤ vec_capacity trial.prefix }
     ensures fresh { IfOk result (λ r. (r.progress ≡ Running) × (r.segments ≡ 0) × (r.opened.items ≡ [])) }
-    ensures started { IfOk result (λ r. IfSome (prepend_known (take trial.kept.filled trial.kept.buffer.items) (S.left source.old)) (λ X.
-        Started (map (λ k. opening_key aad.now (T.key_of k)) keys.now) X (prepend_known (take r.filled r.buffer.items) (S.left source.new))
-        (numbered (segment_by r.opener.decrypter) r.opener.nonce_size r.opener.prefix.items) r.opener.first r.opener.size r.opener.overhead)) }
+    ensures started { IfOk result (λ r. IfSome (prepend_known (take trial.kept.filled trial.kept.buffer.items)
+        (S.left source.old)) (λ X.
+        Started (map (λ k. opening_key aad.now (T.key_of k)) keys.now) X
+        (prepend_known (take r.filled r.buffer.items) (S.left source.new))
+        (numbered (segment_by r.opener.decrypter) r.opener.nonce_size r.opener.prefix.items) r.opener.first
+        r.opener.size r.opener.overhead)) }
     ensures room { IfOk result (λ r. vec_len r.buffer ≡ vec_len trial.kept.buffer) }
     ensures refused { IfErr result (λ e. StartRefused (map (λ k. opening_key aad.now (T.key_of k)) keys.now)
-        (prepend_known (take trial.kept.filled trial.kept.buffer.items) (S.left source.old)) (S.faults source.old) (S.faults source.new) e.kind) }
+        (prepend_known (take trial.kept.filled trial.kept.buffer.items) (S.left source.old)) (S.faults source.old)
+        (S.faults source.new) e.kind) }
     ensures later { S.faults source.old ≤ S.faults source.new }
     ensures same { S.same source.old source.new }
 {

@@ -23,7 +23,8 @@ pub struct StreamMemory {
 impl StreamMemory {
     // The memory of the key's sizes.
     pub fn reserve<T: DerivesStreams>(alloc: Global, key: &T) -> Result<StreamMemory, TinkError>
-        ensures text { IfOk result (λ m. (m.buffers.text.items ≡ []) × (vec_capacity m.buffers.text ≡ (T.key_of key.now).segment + 1)) }
+        ensures text { IfOk result (λ m. (m.buffers.text.items ≡ [])
+            × (vec_capacity m.buffers.text ≡ (T.key_of key.now).segment + 1)) }
         ensures sealed { IfOk result (λ m. vec_len m.buffers.sealed ≡ (T.key_of key.now).segment + 1) }
         ensures nonce { IfOk result (λ m. vec_len m.buffers.nonce ≡ nonce_size (T.key_of key.now)) }
         ensures prefix { IfOk result (λ m. 7 ≤ vec_capacity m.prefix) }

@@ -71,7 +71,8 @@ impl Model for StreamParams {
 
     ghost view = { λ p. empty_key (hash_named p.hkdf_alg) p.derived (kind_of p.cipher) p.segment p.offset };
 
-    ghost invariant = { λ p. IsUsable (empty_key (hash_named p.hkdf_alg) p.derived (kind_of p.cipher) p.segment p.offset) };
+    ghost invariant = { λ p. IsUsable (empty_key (hash_named p.hkdf_alg) p.derived
+        (kind_of p.cipher) p.segment p.offset) };
 }
 
 impl StreamParams {

@@ -146,7 +146,8 @@ impl KeyType for AesCtrHmacKeys {
 
     ghost url = { building.aes_ctr_hmac_url };
 
-    ghost built = { λ k. made_of (λ key. sorts.StreamingAead (kinds.CtrHmac key)) (or_refused InvalidKey (building.streaming_of k)) };
+    ghost built = { λ k. made_of (λ key. sorts.StreamingAead (kinds.CtrHmac key))
+        (or_refused InvalidKey (building.streaming_of k)) };
 
     ghost made = { λ f draws. made_if (keys.is_ctr_hmac_format f) f.key_size (keys.new_ctr_hmac_key f) draws };
 
@@ -178,7 +179,9 @@ impl KeyType for AesCtrHmacKeys {
         })
     }
 
-    ghost built_told = { λ k. made_or_invalid_told (λ key. sorts.StreamingAead (kinds.CtrHmac key)) (building.streaming_of k) };
+    ghost built_told = { λ k. made_or_invalid_told (λ key. sorts.StreamingAead (kinds.CtrHmac key))
+        (building.streaming_of k) };
 
-    ghost made_told = { λ f draws. made_if_told (keys.is_ctr_hmac_format f) f.key_size (keys.new_ctr_hmac_key f) draws };
+    ghost made_told = { λ f draws. made_if_told (keys.is_ctr_hmac_format f) f.key_size
+        (keys.new_ctr_hmac_key f) draws };
 }

@@ -121,7 +121,8 @@ impl KeyType for AesGcmHkdfKeys {
 
     ghost url = { building.aes_gcm_hkdf_url };
 
-    ghost built = { λ k. made_of (λ key. sorts.StreamingAead (kinds.GcmHkdf key)) (or_refused InvalidKey (building.gcm_hkdf_of k)) };
+    ghost built = { λ k. made_of (λ key. sorts.StreamingAead (kinds.GcmHkdf key))
+        (or_refused InvalidKey (building.gcm_hkdf_of k)) };
 
     ghost made = { λ f draws. made_if (keys.is_gcm_hkdf_format f) f.key_size (keys.new_gcm_hkdf_key f) draws };
 
@@ -153,7 +154,9 @@ impl KeyType for AesGcmHkdfKeys {
         })
     }
 
-    ghost built_told = { λ k. made_or_invalid_told (λ key. sorts.StreamingAead (kinds.GcmHkdf key)) (building.gcm_hkdf_of k) };
+    ghost built_told = { λ k. made_or_invalid_told (λ key. sorts.StreamingAead (kinds.GcmHkdf key))
+        (building.gcm_hkdf_of k) };
 
-    ghost made_told = { λ f draws. made_if_told (keys.is_gcm_hkdf_format f) f.key_size (keys.new_gcm_hkdf_key f) draws };
+    ghost made_told = { λ f draws. made_if_told (keys.is_gcm_hkdf_format f) f.key_size
+        (keys.new_gcm_hkdf_key f) draws };
 }

@@ -70,7 +70,8 @@ fn give_first<S: Source>(
     requires some { 0 < length buf.old }
     ensures answer { MatchResult result
         (λ given. GivesFirst (map (opening_key choice.data.items) (map key_of choice.keys.items)) (S.left source.old)
-        (numbered (segment_by given.0.reader.opener.decrypter) given.0.reader.opener.nonce_size given.0.reader.opener.prefix.items)
+        (numbered (segment_by given.0.reader.opener.decrypter) given.0.reader.opener.nonce_size
+        given.0.reader.opener.prefix.items)
         given.0.reader.opener.first given.0.reader.opener.size given.0.reader.opener.overhead
         (record {
           progress = given.0.reader.progress;
@@ -85,7 +86,8 @@ fn give_first<S: Source>(
     ensures within { IfOk result (λ given. given.1 ≤ length buf.new) }
     ensures room { IfOk result (λ given. vec_len given.0.reader.buffer ≡ vec_len choice.trial.kept.buffer) }
     ensures at_end { IfOk result (λ given. given.0.reader.progress ≡ Ended
-        → ForSome (prepend_known (take given.0.reader.filled given.0.reader.buffer.items) (S.left source.new)) (λ xs. xs ≡ [])) }
+        → ForSome (prepend_known (take given.0.reader.filled given.0.reader.buffer.items) (S.left source.new))
+        (λ xs. xs ≡ [])) }
     ensures later { S.faults source.old ≤ S.faults source.new }
     ensures same { S.same source.old source.new }
 {
@@ -122,7 +124,8 @@ fn cause_of(kind: Kind) -> Cause
 impl<S: Source + Drop> DecryptReader<S> {
     // A reader that has read nothing.
     pub(crate) fn unread(choice: Choice, source: S) -> DecryptReader<S>
-        ensures { result ≡ Unread (map key_of choice.keys.items) choice.data.items (vec_len choice.trial.kept.buffer) source }
+        ensures { result ≡ Unread (map key_of choice.keys.items) choice.data.items
+            (vec_len choice.trial.kept.buffer) source }
     {
         DecryptReader {
             source,

@@ -59,7 +59,8 @@ pub fn new<M: KeyManager>(
 where
     M::Family: Kinds<StreamingAead = StreamKind>,
     ensures { GivesSet (λ entries w. w ≡ keys_of_entries h.now.primary_key_id entries) result (
-        typed_entries as_streaming_aead h.now.primary_key_id (built_entries M.url M.supports M.builds entry_of registry.now.managers None h.now)) }
+        typed_entries as_streaming_aead h.now.primary_key_id (built_entries M.url M.supports M.builds entry_of
+        registry.now.managers None h.now)) }
 {
     match typed_primitives::<M, StreamingAeads>(alloc, h, registry) {
         Ok(ps) => Ok(WrappedStreamingAead { ps }),
@@ -149,8 +150,10 @@ impl WrappedStreamingAead {
         w: K,
         additional_data: &[u8],
     ) -> Result<Writer<K, StreamSegment>, Refused<K>>
-        ensures answer { ByPrimary self.now.primary (λ k. NewWriterMeans K.got K.faults k additional_data.now draws.old draws.new w result) }
-        ensures later { MatchResult result (λ made. K.faults w ≤ K.faults made.sink) (λ refused. K.faults w ≤ K.faults refused.inner) }
+        ensures answer { ByPrimary self.now.primary (λ k. NewWriterMeans K.got K.faults k additional_data.now
+            draws.old draws.new w result) }
+        ensures later { MatchResult result (λ made. K.faults w ≤ K.faults made.sink)
+            (λ refused. K.faults w ≤ K.faults refused.inner) }
         ensures same { MatchResult result (λ made. K.same w made.sink) (λ refused. K.same w refused.inner) }
     {
         match &self.ps.primary {
@@ -173,7 +176,8 @@ impl WrappedStreamingAead {
         r: S,
         additional_data: &[u8],
     ) -> Result<DecryptReader<S>, Refused<S>>
-        ensures unread { IfOk result (λ made. made ≡ Unread self.now.raw additional_data.now (largest self.now.raw + 1) r) }
+        ensures unread { IfOk result (λ made. made ≡ Unread self.now.raw additional_data.now
+            (largest self.now.raw + 1) r) }
         ensures usable { IfOk result (λ _. All IsUsable self.now.raw) }
         ensures cause { IfErr result (λ refused. refused.error.kind ≡ OutOfMemory) }
         ensures inner { IfErr result (λ refused. refused.inner ≡ r) }

@@ -18,10 +18,12 @@ ghost use Rattle.tink_streaming_aead.specs.WholeReading.{IsTextOfChosen, IsTextO
 /// the text: the front under the first draws, and then a segment for each chunk, the last one marked. One that is closed
 /// before any write has written the stream of the empty text.
 pub fn law_whole_stream()
-    ensures whole { (k : StreamKey) (aad draws left : List ℕ) (before : Option (List ℕ)) (seg : ℕ → Bool → List ℕ → List ℕ) (first later : ℕ) (m n o : Moment) (text : List ℕ)
+    ensures whole { (k : StreamKey) (aad draws left : List ℕ) (before : Option (List ℕ))
+        (seg : ℕ → Bool → List ℕ → List ℕ) (first later : ℕ) (m n o : Moment) (text : List ℕ)
         → IsNewStream k aad draws left before seg first later m → Wrote seg first later m n text → ClosedBy seg n o
         → Appends before o.got (stream k aad (salt_of k draws) (prefix_of k draws) text) }
-    ensures unwritten { (k : StreamKey) (aad draws left : List ℕ) (before : Option (List ℕ)) (seg : ℕ → Bool → List ℕ → List ℕ) (first later : ℕ) (m o : Moment)
+    ensures unwritten { (k : StreamKey) (aad draws left : List ℕ) (before : Option (List ℕ))
+        (seg : ℕ → Bool → List ℕ → List ℕ) (first later : ℕ) (m o : Moment)
         → IsNewStream k aad draws left before seg first later m → ClosedBy seg m o
         → Appends before o.got (stream k aad (salt_of k draws) (prefix_of k draws) []) }
 {}
@@ -29,18 +31,23 @@ pub fn law_whole_stream()
 /// The first read of a keyset's reader that is Ok has chosen the first key under which the stream begins, and has given the
 /// front of the text of the key's segments behind the header. Later reads go on from there, as `law_whole_text` says.
 pub fn law_first_read()
-    ensures gave { (keys : List OpeningKey) (all : Option (List ℕ)) (seg : ℕ → Bool → List ℕ → List ℕ) (a b overhead : ℕ) (new : reading.Moment) (before after : List ℕ) (n : ℕ)
-        → (first : GivesFirst keys all seg a b overhead new before after n) → Gave seg a b first.rest (take n after) new }
+    ensures gave { (keys : List OpeningKey) (all : Option (List ℕ)) (seg : ℕ → Bool → List ℕ → List ℕ)
+        (a b overhead : ℕ) (new : reading.Moment) (before after : List ℕ) (n : ℕ)
+        → (first : GivesFirst keys all seg a b overhead new before after n)
+        → Gave seg a b first.rest (take n after) new }
 {}
 
 /// What reads up to the end have given: of a key's reader, the whole source was a stream of the key; of a keyset's reader,
 /// it was a stream of the first of the keys under which it begins. What was given is the texts of the stream, joined.
 pub fn law_whole_reading()
-    ensures key { (k : StreamKey) (aad : List ℕ) (all : Option (List ℕ)) (seg : ℕ → Bool → List ℕ → List ℕ) (a b overhead : ℕ) (held given : List ℕ) (m n : reading.Moment)
+    ensures key { (k : StreamKey) (aad : List ℕ) (all : Option (List ℕ)) (seg : ℕ → Bool → List ℕ → List ℕ)
+        (a b overhead : ℕ) (held given : List ℕ) (m n : reading.Moment)
         → IsUsable k → IsNewReader k aad all seg a b overhead held m → Gave seg a b m.rest given n → AtEnd n
         → IsTextOfStream (opening_key aad k) all given }
-    ensures keyset { (keys : List StreamKey) (aad : List ℕ) (all : Option (List ℕ)) (seg : ℕ → Bool → List ℕ → List ℕ) (a b overhead : ℕ) (m n : reading.Moment) (before after given : List ℕ) (count : ℕ)
-        → All IsUsable keys → (first : GivesFirst (map (opening_key aad) keys) all seg a b overhead m before after count)
+    ensures keyset { (keys : List StreamKey) (aad : List ℕ) (all : Option (List ℕ)) (seg : ℕ → Bool → List ℕ → List ℕ)
+        (a b overhead : ℕ) (m n : reading.Moment) (before after given : List ℕ) (count : ℕ)
+        → All IsUsable keys → (first : GivesFirst (map (opening_key aad) keys) all seg a b overhead m before after
+        count)
         → Gave seg a b first.rest given n → AtEnd n → IsTextOfChosen (map (opening_key aad) keys) all given }
 {}
 
@@ -48,18 +55,25 @@ pub fn law_whole_reading()
 /// the text when they are joined; a stream has one list of texts, and so what was read of a sealed stream up to its end is
 /// the text that was sealed; and of some keys this one is chosen where none before it begins the stream.
 pub fn law_sealed_opens()
-    ensures stream { (k : StreamKey) (aad salt prefix keys text : List ℕ) → IsUsable k → k.out ≡ [] → length salt ≡ k.derived → length prefix ≡ 7
+    ensures stream { (k : StreamKey) (aad salt prefix keys text : List ℕ) → IsUsable k → k.out ≡ []
+        → length salt ≡ k.derived → length prefix ≡ 7
         → keys_of k aad salt ≡ Some keys → chunk_count k text ≤ 2 ^ 32
         → IsStream (opening_key aad k) (stream k aad salt prefix text) (chunks (first_room k) (room k) text) }
     ensures text { (k : StreamKey) (text : List ℕ) → IsUsable k → joined (chunks (first_room k) (room k) text) ≡ text }
-    ensures one { (k : StreamKey) (aad S : List ℕ) (texts others : List (List ℕ)) → IsUsable k → IsStream (opening_key aad k) S texts → IsStream (opening_key aad k) S others
+    ensures one { (k : StreamKey) (aad S : List ℕ) (texts others : List (List ℕ)) → IsUsable k
+        → IsStream (opening_key aad k) S texts → IsStream (opening_key aad k) S others
         → others ≡ texts }
-    ensures read { (k : StreamKey) (aad salt prefix keys text given : List ℕ) → IsUsable k → k.out ≡ [] → length salt ≡ k.derived → length prefix ≡ 7
+    ensures read { (k : StreamKey) (aad salt prefix keys text given : List ℕ) → IsUsable k → k.out ≡ []
+        → length salt ≡ k.derived → length prefix ≡ 7
         → keys_of k aad salt ≡ Some keys → chunk_count k text ≤ 2 ^ 32
         → IsTextOfStream (opening_key aad k) (Some (stream k aad salt prefix text)) given → given ≡ text }
-    ensures chosen { (k : StreamKey) (aad S : List ℕ) (texts : List (List ℕ)) (earlier others : List OpeningKey) → IsUsable k → IsStream (opening_key aad k) S texts
+    ensures chosen { (k : StreamKey) (aad S : List ℕ) (texts : List (List ℕ)) (earlier others : List OpeningKey)
+        → IsUsable k → IsStream (opening_key aad k) S texts
         → IsChosen earlier S None → IsChosen (earlier ++ opening_key aad k ∷ others) S (Some (opening_key aad k)) }
-    ensures read_chosen { (k : StreamKey) (aad salt prefix keys text given : List ℕ) (earlier others : List OpeningKey) → IsUsable k → k.out ≡ [] → length salt ≡ k.derived → length prefix ≡ 7
-        → keys_of k aad salt ≡ Some keys → chunk_count k text ≤ 2 ^ 32 → IsChosen earlier (stream k aad salt prefix text) None
-        → IsTextOfChosen (earlier ++ opening_key aad k ∷ others) (Some (stream k aad salt prefix text)) given → given ≡ text }
+    ensures read_chosen { (k : StreamKey) (aad salt prefix keys text given : List ℕ)
+        (earlier others : List OpeningKey) → IsUsable k → k.out ≡ [] → length salt ≡ k.derived → length prefix ≡ 7
+        → keys_of k aad salt ≡ Some keys → chunk_count k text ≤ 2 ^ 32
+        → IsChosen earlier (stream k aad salt prefix text) None
+        → IsTextOfChosen (earlier ++ opening_key aad k ∷ others) (Some (stream k aad salt prefix text)) given
+        → given ≡ text }
 {}

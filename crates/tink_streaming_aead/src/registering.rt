@@ -27,7 +27,8 @@ use tink_proto::{KeyTemplate, Text};
 pub fn init<M>(alloc: Global, registry: &mut Registry<M>) -> Result<(), TinkError>
 where
     M: KeyManager + Drop + From<AesCtrHmacKeyManager> + From<AesGcmHkdfKeyManager>,
-    ensures { Registers (AreMade (IsMade M.From-1.from_gives ∷ IsMade M.From-2.from_gives ∷ [])) M.url streaming_templates registry.old registry.new result }
+    ensures { Registers (AreMade (IsMade M.From-1.from_gives ∷ IsMade M.From-2.from_gives ∷ [])) M.url
+        streaming_templates registry.old registry.new result }
 {
     let managers = managers(alloc)?;
     let templates = templates(alloc)?;
@@ -38,7 +39,8 @@ where
 fn managers<M>(alloc: Global) -> Result<Vec<M>, TinkError>
 where
     M: Drop + From<AesCtrHmacKeyManager> + From<AesGcmHkdfKeyManager>,
-    ensures value { IfOk result (λ managers. AreMade (IsMade M.From-1.from_gives ∷ IsMade M.From-2.from_gives ∷ []) managers.items) }
+    ensures value { IfOk result (λ managers. AreMade (IsMade M.From-1.from_gives ∷ IsMade M.From-2.from_gives ∷ [])
+        managers.items) }
     ensures cause { IfErr result (λ e. e.kind ≡ OutOfMemory) }
 {
     let ctr_hmac = M::from(AesCtrHmacKeyManager::new());

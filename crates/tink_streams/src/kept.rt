@@ -18,7 +18,8 @@ impl Kept {
     /// Keeps more than `size` bytes, or all.
     pub fn keep<S: Source>(&mut self, source: &mut S, size: usize) -> Result<(), Failed>
         requires size { size < vec_len self.old.buffer }
-        ensures held { OnOk result (IsHeld size (prepend_known (take self.old.filled self.old.buffer.items) (S.left source.old))
+        ensures held { OnOk result (IsHeld size (prepend_known (take self.old.filled self.old.buffer.items)
+            (S.left source.old))
             (take self.new.filled self.new.buffer.items) (S.left source.new)) }
         ensures most { OnOk result (self.new.filled ≤ max self.old.filled (size + 1)) }
         ensures more { self.old.filled ≤ self.new.filled }

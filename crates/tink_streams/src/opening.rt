@@ -122,11 +122,14 @@ pub fn open_front<D: SegmentDecrypter>(
     requires number { number < 2 ^ 32 }
     requires room { opener.now.size ≤ vec_capacity opened.old }
     requires nonce { opener.now.nonce_size ≤ vec_len nonce.old }
-    ensures ok { result ≡ true → OpensTo (numbered (D.seg opener.now.decrypter) opener.now.nonce_size opener.now.prefix.items)
+    ensures ok { result ≡ true → OpensTo (numbered (D.seg opener.now.decrypter) opener.now.nonce_size
+        opener.now.prefix.items)
         number (room_at opener.now.first opener.now.size number) held.now opened.new.items }
-    ensures some { result ≡ true → room_at opener.now.first opener.now.size number < length held.now → 0 < vec_len opened.new }
+    ensures some { result ≡ true → room_at opener.now.first opener.now.size number < length held.now
+        → 0 < vec_len opened.new }
     ensures fits { result ≡ true → vec_len opened.new ≤ opener.now.size }
-    ensures refused { result ≡ false → (t : List ℕ) → OpensTo (numbered (D.seg opener.now.decrypter) opener.now.nonce_size opener.now.prefix.items)
+    ensures refused { result ≡ false → (t : List ℕ) → OpensTo
+        (numbered (D.seg opener.now.decrypter) opener.now.nonce_size opener.now.prefix.items)
         number (room_at opener.now.first opener.now.size number) held.now t → ⊥ }
     ensures cleared { result ≡ false → opened.new.items ≡ [] }
     ensures capacity { vec_capacity opened.old ≤ vec_capacity opened.new }

@@ -61,7 +61,8 @@ impl<R: Source, D: SegmentDecrypter> Model for Reader<R, D> {
     } };
 
     ghost invariant = { λ r. r.text.reader.progress ≡ Ended
-        → ForSome (prepend_known (take r.text.reader.filled r.text.reader.buffer.items) (R.left r.source)) (λ xs. xs ≡ []) };
+        → ForSome (prepend_known (take r.text.reader.filled r.text.reader.buffer.items) (R.left r.source))
+        (λ xs. xs ≡ []) };
 }
 
 impl<R: Source + Drop, D: SegmentDecrypter + Drop> Reader<R, D> {
@@ -79,8 +80,10 @@ impl<R: Source + Drop, D: SegmentDecrypter + Drop> Reader<R, D> {
         requires text_room { params.ciphertext_segment_size < vec_capacity buffers.text }
         requires sealed_room { params.ciphertext_segment_size < vec_len buffers.sealed }
         requires nonce_room { vec_len buffers.nonce ≡ params.nonce_size }
-        requires nonce { vec_len params.nonce_prefix + 5 ≤ params.nonce_size → params.nonce_size ≡ D.nonce_length params.segment_decrypter }
-        ensures ok { OnOk result (sizes_fault params.nonce_size (vec_len params.nonce_prefix) params.ciphertext_segment_size
+        requires nonce { vec_len params.nonce_prefix + 5 ≤ params.nonce_size
+            → params.nonce_size ≡ D.nonce_length params.segment_decrypter }
+        ensures ok { OnOk result (sizes_fault params.nonce_size
+            (vec_len params.nonce_prefix) params.ciphertext_segment_size
             params.first_ciphertext_segment_offset (D.overhead_of params.segment_decrypter) ≡ None) }
         ensures fresh { IfOk result (λ r. r ≡ record {
           opening = record {
@@ -98,7 +101,8 @@ impl<R: Source + Drop, D: SegmentDecrypter + Drop> Reader<R, D> {
           room = vec_len buffers.sealed;
           source = params.r;
         }) }
-        ensures refused { IfErr result (λ e. sizes_fault params.nonce_size (vec_len params.nonce_prefix) params.ciphertext_segment_size
+        ensures refused { IfErr result (λ e. sizes_fault params.nonce_size
+            (vec_len params.nonce_prefix) params.ciphertext_segment_size
             params.first_ciphertext_segment_offset (D.overhead_of params.segment_decrypter) ≡ Some e.kind) }
     {
         let ReaderParams {
@@ -170,7 +174,8 @@ impl<R: Source + Drop, D: SegmentDecrypter + Drop> Reader<R, D> {
     /// 2^32 - 1, Truncated where fewer bytes are left than the overhead, BadSegment where the next
     /// chunk is the segment of no text, FailedBefore after another of these.
     pub fn read(&mut self, buf: &mut [u8]) -> Result<usize, TinkError>
-        ensures answer { ReadMeans (seg_of D.seg self.old.opening) self.old.opening.first self.old.opening.size self.old.opening.overhead
+        ensures answer { ReadMeans (seg_of D.seg self.old.opening) self.old.opening.first self.old.opening.size
+            self.old.opening.overhead
             (moment_of R.left R.faults self.old) (moment_of R.left R.faults self.new) buf.old buf.new result }
         ensures within { IfOk result (λ n. n ≤ length buf.new) }
         // where no segment is due, nothing is read
@@ -207,7 +212,8 @@ impl<R: Source + Drop, D: SegmentDecrypter + Drop> DecryptingRead for Reader<R, 
 
     fn read(&mut self, buf: &mut [u8]) -> Result<usize, TinkError>
         ensures bound { ReadsAtMost result buf.new }
-        ensures answer { ReadMeans (seg_of D.seg self.old.opening) self.old.opening.first self.old.opening.size self.old.opening.overhead
+        ensures answer { ReadMeans (seg_of D.seg self.old.opening) self.old.opening.first self.old.opening.size
+            self.old.opening.overhead
             (moment_of R.left R.faults self.old) (moment_of R.left R.faults self.new) buf.old buf.new result }
         ensures idle { (IsDue (moment_of R.left R.faults self.old) (length buf.old) → ⊥)
             → (self.new.source ≡ self.old.source) × (self.new.held ≡ self.old.held) }

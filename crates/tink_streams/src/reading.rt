@@ -83,7 +83,8 @@ impl<D: SegmentDecrypter + Drop> SegmentReader<D> {
     /// chunk is the segment of no text. The reader has then failed, and has opened nothing.
     pub fn open_next<S: Source>(&mut self, source: &mut S) -> Result<(), TinkError>
         requires running { self.old.progress ≡ Running }
-        ensures answer { OpenMeans (numbered (D.seg self.old.opener.decrypter) self.old.opener.nonce_size self.old.opener.prefix.items)
+        ensures answer { OpenMeans (numbered (D.seg self.old.opener.decrypter) self.old.opener.nonce_size
+            self.old.opener.prefix.items)
             self.old.opener.first self.old.opener.size self.old.opener.overhead
             (record {
               progress = self.old.progress;

@@ -37,8 +37,10 @@ impl<D: SegmentDecrypter + Drop> TextReader<D> {
     fn make_ready<S: Source>(&mut self, source: &mut S) -> Result<(), TinkError>
         requires lives { HasNotFailed self.old.reader.progress }
         requires at_end { self.old.reader.progress ≡ Ended
-            → ForSome (prepend_known (take self.old.reader.filled self.old.reader.buffer.items) (S.left source.old)) (λ xs. xs ≡ []) }
-        ensures answer { ReadyMeans (numbered (D.seg self.old.reader.opener.decrypter) self.old.reader.opener.nonce_size self.old.reader.opener.prefix.items)
+            → ForSome (prepend_known (take self.old.reader.filled self.old.reader.buffer.items) (S.left source.old))
+            (λ xs. xs ≡ []) }
+        ensures answer { ReadyMeans (numbered (D.seg self.old.reader.opener.decrypter)
+            self.old.reader.opener.nonce_size self.old.reader.opener.prefix.items)
             self.old.reader.opener.first self.old.reader.opener.size self.old.reader.opener.overhead
             (record {
               progress = self.old.reader.progress;
@@ -63,7 +65,8 @@ impl<D: SegmentDecrypter + Drop> TextReader<D> {
           rest = prepend_known (take self.old.reader.filled self.old.reader.buffer.items) (S.left source.old);
           faults = S.faults source.old;
         }) 1 → ⊥)
-            → (source.new ≡ source.old) × (take self.new.reader.filled self.new.reader.buffer.items ≡ take self.old.reader.filled self.old.reader.buffer.items) }
+            → (source.new ≡ source.old) × (take self.new.reader.filled self.new.reader.buffer.items ≡ take
+            self.old.reader.filled self.old.reader.buffer.items) }
         ensures opener { self.new.reader.opener ≡ self.old.reader.opener }
         ensures room { vec_len self.new.reader.buffer ≡ vec_len self.old.reader.buffer }
         ensures later { S.faults source.old ≤ S.faults source.new }
@@ -90,8 +93,10 @@ impl<D: SegmentDecrypter + Drop> TextReader<D> {
     /// [`SegmentReader::open_next`]; FailedBefore where an earlier call failed.
     pub fn read<S: Source>(&mut self, source: &mut S, buf: &mut [u8]) -> Result<usize, TinkError>
         requires at_end { self.old.reader.progress ≡ Ended
-            → ForSome (prepend_known (take self.old.reader.filled self.old.reader.buffer.items) (S.left source.old)) (λ xs. xs ≡ []) }
-        ensures answer { ReadMeans (numbered (D.seg self.old.reader.opener.decrypter) self.old.reader.opener.nonce_size self.old.reader.opener.prefix.items)
+            → ForSome (prepend_known (take self.old.reader.filled self.old.reader.buffer.items) (S.left source.old))
+            (λ xs. xs ≡ []) }
+        ensures answer { ReadMeans (numbered (D.seg self.old.reader.opener.decrypter)
+            self.old.reader.opener.nonce_size self.old.reader.opener.prefix.items)
             self.old.reader.opener.first self.old.reader.opener.size self.old.reader.opener.overhead
             (record {
               progress = self.old.reader.progress;
@@ -110,7 +115,8 @@ impl<D: SegmentDecrypter + Drop> TextReader<D> {
             buf.old buf.new result }
         ensures within { IfOk result (λ n. n ≤ length buf.new) }
         ensures at_end { self.new.reader.progress ≡ Ended
-            → ForSome (prepend_known (take self.new.reader.filled self.new.reader.buffer.items) (S.left source.new)) (λ xs. xs ≡ []) }
+            → ForSome (prepend_known (take self.new.reader.filled self.new.reader.buffer.items) (S.left source.new))
+            (λ xs. xs ≡ []) }
         // where no segment is due, nothing is read
         ensures idle { (IsDue (record {
           progress = self.old.reader.progress;
@@ -119,7 +125,8 @@ impl<D: SegmentDecrypter + Drop> TextReader<D> {
           rest = prepend_known (take self.old.reader.filled self.old.reader.buffer.items) (S.left source.old);
           faults = S.faults source.old;
         }) (length buf.old) → ⊥)
-            → (source.new ≡ source.old) × (take self.new.reader.filled self.new.reader.buffer.items ≡ take self.old.reader.filled self.old.reader.buffer.items) }
+            → (source.new ≡ source.old) × (take self.new.reader.filled self.new.reader.buffer.items ≡ take
+            self.old.reader.filled self.old.reader.buffer.items) }
         ensures opener { self.new.reader.opener ≡ self.old.reader.opener }
         ensures room { vec_len self.new.reader.buffer ≡ vec_len self.old.reader.buffer }
         ensures later { S.faults source.old ≤ S.faults source.new }

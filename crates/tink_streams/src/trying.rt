@@ -140,14 +140,18 @@ pub fn try_key<S: Source, D: SegmentDecrypter + Drop, T: OpensStreams<D>>(
     requires room { (T.opening_key key.now).size ≤ vec_capacity opened.old }
     requires nonce { T.nonce_of key.now ≤ vec_len nonce.old }
     requires prefix { 7 ≤ vec_capacity prefix }
-    ensures found { IfOk result (λ r. IfOk r (λ b. IfSome (prepend_known (take kept.old.filled kept.old.buffer.items) (S.left source.old)) (λ X.
+    ensures found { IfOk result (λ r. IfOk r (λ b. IfSome (prepend_known (take kept.old.filled kept.old.buffer.items)
+        (S.left source.old)) (λ X.
         Begins (T.opening_key key.now) X × IsOpenerOf (T.opening_key key.now) X
-        (numbered (D.seg b.opener.decrypter) b.opener.nonce_size b.opener.prefix.items) b.header b.opener.first b.opener.size b.opener.overhead))) }
-    ensures none { IfOk result (λ r. IfErr r (λ _. IfSome (prepend_known (take kept.old.filled kept.old.buffer.items) (S.left source.old)) (λ X.
+        (numbered (D.seg b.opener.decrypter) b.opener.nonce_size b.opener.prefix.items) b.header b.opener.first
+        b.opener.size b.opener.overhead))) }
+    ensures none { IfOk result (λ r. IfErr r (λ _. IfSome (prepend_known (take kept.old.filled kept.old.buffer.items)
+        (S.left source.old)) (λ X.
         Begins (T.opening_key key.now) X → ⊥))) }
     ensures rest { OnOk result (Keeps (prepend_known (take kept.old.filled kept.old.buffer.items) (S.left source.old))
         (prepend_known (take kept.new.filled kept.new.buffer.items) (S.left source.new))) }
-    ensures most { OnOk result (kept.new.filled ≤ max kept.old.filled ((T.opening_key key.now).header + (T.opening_key key.now).first + 1)) }
+    ensures most { OnOk result (kept.new.filled ≤ max kept.old.filled
+        ((T.opening_key key.now).header + (T.opening_key key.now).first + 1)) }
     ensures header { IfOk result (λ r. IfOk r (λ b. b.header ≤ kept.new.filled)) }
     ensures size { IfOk result (λ r. IfOk r (λ b. b.opener.size ≡ (T.opening_key key.now).size)) }
     ensures nonce { IfOk result (λ r. IfOk r (λ b. b.opener.nonce_size ≡ T.nonce_of key.now)) }

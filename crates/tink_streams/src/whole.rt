@@ -20,10 +20,18 @@ pub fn open_rest<S: Source, K: Sink, D: SegmentDecrypter + Drop>(
 ) -> Result<(), TinkError>
     requires running { reader.old.progress ≡ Running }
     requires first { reader.old.segments ≡ 0 }
-    ensures answer { AllMeans (numbered (D.seg reader.old.opener.decrypter) reader.old.opener.nonce_size reader.old.opener.prefix.items)
+    ensures answer { AllMeans (numbered (D.seg reader.old.opener.decrypter) reader.old.opener.nonce_size
+        reader.old.opener.prefix.items)
         reader.old.opener.first reader.old.opener.size reader.old.opener.overhead
-        (prepend_known (take reader.old.filled reader.old.buffer.items) (S.left source.old)) (K.got sink.old) (K.got sink.new)
-        (record { read_before = S.faults source.old; read_after = S.faults source.new; write_before = K.faults sink.old; write_after = K.faults sink.new })
+        (prepend_known (take reader.old.filled reader.old.buffer.items) (S.left source.old)) (K.got sink.old)
+        (K.got sink.new)
+        (record {
+          read_before = S.faults source.old;
+          read_after = S.faults source.new;
+          write_before = K.faults
+              sink.old;
+          write_after = K.faults sink.new;
+        })
         result }
     ensures source { S.same source.old source.new }
     ensures sink { K.same sink.old sink.new }

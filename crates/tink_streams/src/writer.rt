@@ -71,15 +71,18 @@ impl<W: Sink + Drop, E: SegmentEncrypter + Drop> Writer<W, E> {
         requires text_room { params.ciphertext_segment_size < vec_capacity buffers.text }
         requires sealed_room { params.ciphertext_segment_size < vec_len buffers.sealed }
         requires nonce_room { vec_len buffers.nonce ≡ params.nonce_size }
-        requires nonce { vec_len params.nonce_prefix + 5 ≤ params.nonce_size → params.nonce_size ≡ E.nonce_length params.segment_encrypter }
-        ensures ok { OnOk result (sizes_fault params.nonce_size (vec_len params.nonce_prefix) params.ciphertext_segment_size
+        requires nonce { vec_len params.nonce_prefix + 5 ≤ params.nonce_size
+            → params.nonce_size ≡ E.nonce_length params.segment_encrypter }
+        ensures ok { OnOk result (sizes_fault params.nonce_size
+            (vec_len params.nonce_prefix) params.ciphertext_segment_size
             params.first_ciphertext_segment_offset (E.overhead_of params.segment_encrypter) ≡ None) }
         ensures fresh { IfOk result (λ w. w ≡ record {
           sealing = record {
             encrypter = params.segment_encrypter;
             prefix = params.nonce_prefix.items;
             nonce_size = params.nonce_size;
-            first = params.ciphertext_segment_size - params.first_ciphertext_segment_offset - E.overhead_of params.segment_encrypter;
+            first = params.ciphertext_segment_size - params.first_ciphertext_segment_offset - E.overhead_of
+                params.segment_encrypter;
             room = params.ciphertext_segment_size - E.overhead_of params.segment_encrypter;
           };
           mode = Open;
@@ -87,7 +90,8 @@ impl<W: Sink + Drop, E: SegmentEncrypter + Drop> Writer<W, E> {
           held = [];
           sink = params.w;
         }) }
-        ensures refused { IfErr result (λ e. sizes_fault params.nonce_size (vec_len params.nonce_prefix) params.ciphertext_segment_size
+        ensures refused { IfErr result (λ e. sizes_fault params.nonce_size
+            (vec_len params.nonce_prefix) params.ciphertext_segment_size
             params.first_ciphertext_segment_offset (E.overhead_of params.segment_encrypter) ≡ Some e.kind) }
     {
         let WriterParams {

@@ -209,7 +209,8 @@ impl<E: SegmentEncrypter + Drop> SegmentWriter<E> {
     // Writes the chunks that are full, and holds the last one.
     fn put_text<K: Sink>(&mut self, sink: &mut K, buf: &[u8]) -> Result<usize, TinkError>
         requires { self.old.mode ≡ Open }
-        ensures answer { WriteMeans (numbered (E.seg self.old.sealer.encrypter) self.old.sealer.nonce_size self.old.sealer.prefix.items)
+        ensures answer { WriteMeans (numbered (E.seg self.old.sealer.encrypter) self.old.sealer.nonce_size
+            self.old.sealer.prefix.items)
             self.old.sealer.first self.old.sealer.room
             (record {
               mode = self.old.mode;
@@ -249,7 +250,8 @@ impl<E: SegmentEncrypter + Drop> SegmentWriter<E> {
     /// WriteFault where the sink failed, TooManySegments where a number above 2^32 - 1 is needed,
     /// Closed after `close`, FailedBefore after another of these.
     pub fn write<K: Sink>(&mut self, sink: &mut K, buf: &[u8]) -> Result<usize, TinkError>
-        ensures answer { WriteMeans (numbered (E.seg self.old.sealer.encrypter) self.old.sealer.nonce_size self.old.sealer.prefix.items)
+        ensures answer { WriteMeans (numbered (E.seg self.old.sealer.encrypter) self.old.sealer.nonce_size
+            self.old.sealer.prefix.items)
             self.old.sealer.first self.old.sealer.room
             (record {
               mode = self.old.mode;
@@ -284,7 +286,8 @@ impl<E: SegmentEncrypter + Drop> SegmentWriter<E> {
     /// # Errors
     /// WriteFault where the sink failed, FailedBefore after a refusal.
     pub fn close<K: Sink>(&mut self, sink: &mut K) -> Result<(), TinkError>
-        ensures answer { CloseMeans (numbered (E.seg self.old.sealer.encrypter) self.old.sealer.nonce_size self.old.sealer.prefix.items)
+        ensures answer { CloseMeans (numbered (E.seg self.old.sealer.encrypter) self.old.sealer.nonce_size
+            self.old.sealer.prefix.items)
             (record {
               mode = self.old.mode;
               number = self.old.segments;
