@@ -9,12 +9,12 @@ use Rattle.tink_io.specs.declared.error.Kind.TheVariants.{BadSegment, FailedBefo
 use Rattle.stream_model.specs.Cut.{cut}
 use Rattle.stream_model.specs.Agree.{Agree}
 use Rattle.stream_model.specs.Opening.{AgreeBy, FirstAgrees, IsChosen, OpeningKey, chunks_of}
-use Rattle.tink_streaming_aead.specs.Choosing.{Started, StartRefused}
+use Rattle.tink_streams.specs.Choosing.{Started, StartRefused}
 use Rattle.tink_streaming_aead.specs.DecryptReaders.{FirstRefused, GivesFirst, first_refusal}
-use Rattle.tink_streaming_aead.specs.TextReading.{Gave, Gives, Moment, ReadRefused}
-use Rattle.tink_streaming_aead.specs.declared.progress.Progress.TheVariants.{Running}
-use Rattle.tink_streaming_aead.proofs.TextLaws.{gave_more, gave_none}
-use Rattle.tink_streaming_aead.proofs.ChosenFacts.{chosen_begins, stream_agreed}
+use Rattle.tink_streams.specs.TextReading.{Gave, Gives, Moment, ReadRefused}
+use Rattle.tink_streams.specs.declared.progress.Progress.TheVariants.{Running}
+use Rattle.tink_streams.proofs.TextLaws.{gave_more, gave_none}
+use Rattle.tink_streams.proofs.ChosenFacts.{chosen_begins, stream_agreed}
 
 -- nothing is held of what was not read
 pub unread : (n : ℕ) (items : List ℕ) (left : Option (List ℕ)) → n ≡ 0 → prepend_known (take n items) left ≡ left

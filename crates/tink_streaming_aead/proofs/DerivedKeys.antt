@@ -10,8 +10,8 @@ use Rattle.stream_model.specs.Key.{IsTag, SegmentKind, StreamKey, derived_by, he
 use Rattle.stream_model.specs.Key.SegmentKind.{CtrHmac, Gcm}
 use Rattle.stream_model.specs.Cut.{numbered}
 use Rattle.stream_model.specs.Opening.{opening_key, under}
-use Rattle.tink_streaming_aead.specs.declared.stream_segment.StreamSegment.{StreamSegment}
-use Rattle.tink_streaming_aead.specs.StreamSegments.{nonce_length_by, overhead_by, segment_by}
+use Rattle.tink_segments.specs.declared.stream_segment.StreamSegment.{StreamSegment}
+use Rattle.tink_segments.specs.StreamSegments.{nonce_length_by, overhead_by, segment_by}
 use Rattle.tink_streaming_aead.specs.StreamingKeys.{IsDerived, cipher_of, deriving_hash}
 
 -- a hash that is refused derives nothing

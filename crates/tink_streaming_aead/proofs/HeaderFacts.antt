@@ -5,8 +5,8 @@ use Rattle.std.proofs.Math.Seq.{take-append_seam}
 use Rattle.stream_model.specs.Cut.{numbered}
 use Rattle.stream_model.specs.Key.{StreamKey, front, header_length, nonce_size, segment_at, segment_of}
 use Rattle.stream_model.specs.Sealing.{drawn, prefix_of, salt_of}
-use Rattle.tink_streaming_aead.specs.declared.stream_segment.StreamSegment.{StreamSegment}
-use Rattle.tink_streaming_aead.specs.StreamSegments.{segment_by}
+use Rattle.tink_segments.specs.declared.stream_segment.StreamSegment.{StreamSegment}
+use Rattle.tink_segments.specs.StreamSegments.{segment_by}
 use Rattle.tink_streaming_aead.specs.StreamingKeys.{IsDerived}
 use Rattle.tink_streaming_aead.proofs.DerivedKeys.{derived_segments}
 

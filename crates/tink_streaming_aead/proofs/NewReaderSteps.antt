@@ -8,12 +8,12 @@ use Rattle.tink_io.specs.declared.error.Kind.{Kind}
 use Rattle.stream_model.specs.Cut.{numbered}
 use Rattle.stream_model.specs.Key.{StreamKey, first_segment, header_length, nonce_size, overhead}
 use Rattle.stream_model.specs.Opening.{opening_key}
-use Rattle.tink_streaming_aead.specs.declared.progress.Progress.TheVariants.{Running}
-use Rattle.tink_streaming_aead.specs.declared.stream_segment.StreamSegment.{StreamSegment}
+use Rattle.tink_streams.specs.declared.progress.Progress.TheVariants.{Running}
+use Rattle.tink_segments.specs.declared.stream_segment.StreamSegment.{StreamSegment}
 use Rattle.tink_streaming_aead.specs.Decrypting.{HasNoHeader, IsNewReader, NewReaderRefused, ReadsHeader}
-use Rattle.tink_streaming_aead.specs.StreamSegments.{segment_by}
+use Rattle.tink_segments.specs.StreamSegments.{segment_by}
 use Rattle.tink_streaming_aead.specs.StreamingKeys.{IsDerived, deriving_hash}
-use Rattle.tink_streaming_aead.specs.TextReading.{Moment}
+use Rattle.tink_streams.specs.TextReading.{Moment}
 use Rattle.tink_streaming_aead.proofs.DerivedKeys.{derived_under}
 use Rattle.tink_streaming_aead.proofs.NewWriterSteps.{hash_refusal}
 

@@ -14,17 +14,17 @@ use Rattle.tink_primitives.specs.Meaning.{IsEndOf}
 use Rattle.tink_primitives.specs.declared.streams.Refused.{Refused}
 use Rattle.stream_model.specs.Key.{StreamKey, first_room, front, header_length, keys_of, nonce_size, room}
 use Rattle.stream_model.specs.Sealing.{drawn, prefix_of, salt_of}
-use Rattle.tink_streaming_aead.specs.declared.stream_segment.StreamSegment.{StreamSegment}
-use Rattle.tink_streaming_aead.specs.declared.writing.Mode.TheVariants.{Open}
+use Rattle.tink_segments.specs.declared.stream_segment.StreamSegment.{StreamSegment}
+use Rattle.tink_streams.specs.declared.writing.Mode.TheVariants.{Open}
 use Rattle.tink_streaming_aead.specs.Encrypting.{DrewHeader, IsNewStream, NewWriterMeans, NewWriterRefused, WroteFrontPart}
-use Rattle.tink_streaming_aead.specs.StreamSegments.{segment_by}
+use Rattle.tink_segments.specs.StreamSegments.{segment_by}
 use Rattle.tink_streaming_aead.specs.StreamingKeys.{IsDerived, deriving_hash}
 use Rattle.tink_sets.specs.declared.entry.TypedEntry.{TypedEntry}
 use Rattle.tink_streaming_aead.specs.declared.stream_kind.StreamKind.{StreamKind}
 use Rattle.tink_streaming_aead.specs.StreamKinds.{key_of}
 use Rattle.tink_streaming_aead.specs.Wrapped.{ByPrimary}
-use Rattle.tink_streaming_aead.specs.Writers.{WriterState}
-use Rattle.tink_streaming_aead.specs.Writing.{Moment}
+use Rattle.tink_streams.specs.Writers.{WriterState}
+use Rattle.tink_streams.specs.Writing.{Moment}
 use Rattle.tink_streaming_aead.proofs.HeaderFacts.{drawn_header, header_front, seg_is}
 use Rattle.stream_model.specs.Cut.{numbered}
 

@@ -7,8 +7,8 @@ use Rattle.stream_model.specs.Cut.{sealed}
 use Rattle.stream_model.specs.Key.{StreamKey, first_room, front, keys_of, room, segment_at}
 use Rattle.stream_model.specs.Sealing.{prefix_of, salt_of, sealed_under, stream}
 use Rattle.tink_streaming_aead.specs.Encrypting.{IsNewStream}
-use Rattle.tink_streaming_aead.specs.Writing.{ClosedBy, Moment, Wrote}
-use Rattle.tink_streaming_aead.proofs.WritingFacts.{closed_whole}
+use Rattle.tink_streams.specs.Writing.{ClosedBy, Moment, Wrote}
+use Rattle.tink_streams.proofs.WritingFacts.{closed_whole}
 
 -- the front and then the segments under derived keys are the stream
 pub stream_is : (k : StreamKey) (aad salt prefix keys text : List ℕ) → keys_of k aad salt ≡ Some keys

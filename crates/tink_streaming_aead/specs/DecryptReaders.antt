@@ -9,12 +9,12 @@ use Rattle.tink_io.specs.declared.error.Kind.TheVariants.{FailedBefore, NoMatchi
 use Rattle.tink_io.specs.declared.error.TinkError.{TinkError}
 use Rattle.stream_model.specs.Key.{StreamKey}
 use Rattle.stream_model.specs.Opening.{IsChosen, OpeningKey, opening_key}
-use Rattle.tink_streaming_aead.specs.Choosing.{Started}
-use Rattle.tink_streaming_aead.specs.Readers.{ReaderState, moment_of, seg_of}
-use Rattle.tink_streaming_aead.specs.StreamSegments.{segment_by}
-use Rattle.tink_streaming_aead.specs.TextReading.{Gives, Moment, ReadMeans}
-use Rattle.tink_streaming_aead.specs.declared.progress.Progress.TheVariants.{Running}
-use Rattle.tink_streaming_aead.specs.declared.stream_segment.StreamSegment.{StreamSegment}
+use Rattle.tink_streams.specs.Choosing.{Started}
+use Rattle.tink_streams.specs.Readers.{ReaderState, moment_of, seg_of}
+use Rattle.tink_segments.specs.StreamSegments.{segment_by}
+use Rattle.tink_streams.specs.TextReading.{Gives, Moment, ReadMeans}
+use Rattle.tink_streams.specs.declared.progress.Progress.TheVariants.{Running}
+use Rattle.tink_segments.specs.declared.stream_segment.StreamSegment.{StreamSegment}
 
 -- Keys in order with associated data, and none is chosen yet; or the reader of the chosen key; or what the first read was
 -- refused by. The source is the reader's.

@@ -8,7 +8,7 @@ use Rattle.tink_streaming_aead.specs.DecryptReaders.DecryptState.{Chosen, Stoppe
 use Rattle.tink_streaming_aead.specs.StreamKinds.{key_of}
 use Rattle.tink_streaming_aead.specs.declared.decrypt_reader.Stage.{Stage}
 use Rattle.tink_streaming_aead.specs.declared.decrypt_reader.Stage.TheVariants as stage
-use Rattle.tink_streaming_aead.specs.declared.progress.Progress.TheVariants.{Ended}
+use Rattle.tink_streams.specs.declared.progress.Progress.TheVariants.{Ended}
 
 abbrev pub state_of : {S : Type 0} → Stage → S → DecryptState S
 state_of (stage.Unread w) source = Unread (map key_of w.keys.items) w.data.items source

@@ -8,12 +8,12 @@ use Rattle.tink_io.specs.declared.error.Kind.TheVariants.{OutOfMemory, ReadFault
 use Rattle.tink_primitives.specs.declared.streams.Refused.{Refused}
 use Rattle.stream_model.specs.Key.{StreamKey, first_segment, header_length, overhead}
 use Rattle.stream_model.specs.Opening.{opening_key}
-use Rattle.tink_streaming_aead.specs.Readers.{ReaderState, moment_of, seg_of}
-use Rattle.tink_streaming_aead.specs.StreamSegments.{segment_by}
+use Rattle.tink_streams.specs.Readers.{ReaderState, moment_of, seg_of}
+use Rattle.tink_segments.specs.StreamSegments.{segment_by}
 use Rattle.tink_streaming_aead.specs.StreamingKeys.{deriving_hash}
-use Rattle.tink_streaming_aead.specs.TextReading.{Moment}
-use Rattle.tink_streaming_aead.specs.declared.progress.Progress.TheVariants.{Running}
-use Rattle.tink_streaming_aead.specs.declared.stream_segment.StreamSegment.{StreamSegment}
+use Rattle.tink_streams.specs.TextReading.{Moment}
+use Rattle.tink_streams.specs.declared.progress.Progress.TheVariants.{Running}
+use Rattle.tink_segments.specs.declared.stream_segment.StreamSegment.{StreamSegment}
 
 -- a header of the key was read
 pub record ReadsHeader (k : StreamKey) (old new : Option (List ℕ)) (header : List ℕ) : Type 0 where

@@ -9,12 +9,12 @@ use Rattle.tink_io.specs.declared.error.Kind.TheVariants.{OutOfMemory, RandomFau
 use Rattle.tink_primitives.specs.declared.streams.Refused.{Refused}
 use Rattle.stream_model.specs.Key.{StreamKey, first_room, front, keys_of, room, segment_at}
 use Rattle.stream_model.specs.Sealing.{drawn, prefix_of, salt_of}
-use Rattle.tink_streaming_aead.specs.StreamSegments.{segment_by}
+use Rattle.tink_segments.specs.StreamSegments.{segment_by}
 use Rattle.tink_streaming_aead.specs.StreamingKeys.{deriving_hash}
-use Rattle.tink_streaming_aead.specs.Writers.{WriterState, moment_of, seg_of}
-use Rattle.tink_streaming_aead.specs.Writing.{Moment}
-use Rattle.tink_streaming_aead.specs.declared.stream_segment.StreamSegment.{StreamSegment}
-use Rattle.tink_streaming_aead.specs.declared.writing.Mode.TheVariants.{Open}
+use Rattle.tink_streams.specs.Writers.{WriterState, moment_of, seg_of}
+use Rattle.tink_streams.specs.Writing.{Moment}
+use Rattle.tink_segments.specs.declared.stream_segment.StreamSegment.{StreamSegment}
+use Rattle.tink_streams.specs.declared.writing.Mode.TheVariants.{Open}
 
 -- salt and prefix were drawn
 pub record DrewHeader (k : StreamKey) (draws left : List ℕ) : Type 0 where

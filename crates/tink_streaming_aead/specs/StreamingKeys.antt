@@ -11,8 +11,8 @@ use Rattle.stream_model.specs.Key.{SegmentKind, StreamKey, keys_of, overhead_of}
 use Rattle.stream_model.specs.Key.SegmentKind.{CtrHmac, Gcm}
 use Rattle.tink_streaming_aead.specs.declared.stream_params.SegmentParams.{SegmentParams}
 use Rattle.tink_streaming_aead.specs.declared.stream_params.SegmentParams.TheVariants as params
-use Rattle.tink_streaming_aead.specs.declared.stream_segment.StreamSegment.{StreamSegment}
-use Rattle.tink_streaming_aead.specs.declared.stream_segment.StreamSegment.TheVariants as segments
+use Rattle.tink_segments.specs.declared.stream_segment.StreamSegment.{StreamSegment}
+use Rattle.tink_segments.specs.declared.stream_segment.StreamSegment.TheVariants as segments
 
 abbrev pub kind_of : SegmentParams → SegmentKind
 kind_of (params.CtrHmac hash tag) = CtrHmac hash tag

@@ -4,15 +4,14 @@ ghost use Rattle.stream_model.specs.Cut.{numbered};
 ghost use Rattle.stream_model.specs.Key.{nonce_size};
 ghost use Rattle.stream_model.specs.Opening.{IsChosen, opening_key};
 ghost use Rattle.tink_io.specs.Faults.{Rose};
-ghost use Rattle.tink_streaming_aead.specs.Choosing.{Found};
-ghost use Rattle.tink_streaming_aead.specs.StreamSegments.{segment_by};
+ghost use Rattle.tink_streams.specs.Choosing.{Found};
+ghost use Rattle.tink_segments.specs.StreamSegments.{segment_by};
 
-use crate::kept::Kept;
 use crate::key_under::KeyUnder;
 use crate::stream_params::DerivesStreams;
-use crate::stream_segment::StreamSegment;
-use crate::trying::{Begun, try_key};
 use tink_io::{Failed, Source};
+use tink_segments::StreamSegment;
+use tink_streams::{Begun, Kept, try_key};
 
 /// How the stream of a source is opened: by the first key under which it begins with the associated
 /// data, or none.

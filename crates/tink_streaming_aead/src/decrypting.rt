@@ -5,19 +5,16 @@ ghost use Rattle.std.specs.Io.KnownBytes.{prepend_known};
 ghost use Rattle.stream_model.specs.Cut.{numbered};
 ghost use Rattle.stream_model.specs.Key.{first_segment, header_length, nonce_size, overhead};
 ghost use Rattle.tink_streaming_aead.specs.Decrypting.{HeaderRefused, IsNewReader, NewReaderMeans, NewReaderRefused, ReadsHeader};
-ghost use Rattle.tink_streaming_aead.specs.StreamSegments.{nonce_length_by, overhead_by, segment_by};
-ghost use Rattle.tink_streaming_aead.specs.TextReading.{Moment};
+ghost use Rattle.tink_segments.specs.StreamSegments.{nonce_length_by, overhead_by, segment_by};
+ghost use Rattle.tink_streams.specs.TextReading.{Moment};
 
-use crate::held::fill;
-use crate::opening::Opener;
-use crate::reader::Reader;
-use crate::reading::SegmentReader;
 use crate::stream_memory::{MAX_HEADER, PREFIX, StreamMemory};
 use crate::stream_params::DerivesStreams;
-use crate::stream_segment::StreamSegment;
 use std::alloc::Global;
 use tink_io::{Kind, Source, TinkError};
 use tink_primitives::Refused;
+use tink_segments::StreamSegment;
+use tink_streams::{Opener, Reader, SegmentReader, fill};
 
 // Reads a header of the key, in front of zeros.
 fn read_header<T: DerivesStreams, S: Source>(

@@ -6,17 +6,16 @@ ghost use Rattle.stream_model.specs.Key.{IsUsable, first_room, header_length, no
 ghost use Rattle.stream_model.specs.Sealing.{drawn};
 ghost use Rattle.tink_io.specs.declared.error.Kind.TheVariants.{OutOfMemory, RandomFault};
 ghost use Rattle.tink_streaming_aead.specs.Encrypting.{IsNewStream, NewWriterMeans, NewWriterRefused};
-ghost use Rattle.tink_streaming_aead.specs.StreamSegments.{nonce_length_by, overhead_by, segment_by};
-ghost use Rattle.tink_streaming_aead.specs.Writing.{Moment};
+ghost use Rattle.tink_segments.specs.StreamSegments.{nonce_length_by, overhead_by, segment_by};
+ghost use Rattle.tink_streams.specs.Writing.{Moment};
 
 use crate::stream_memory::{MAX_HEADER, PREFIX, StreamMemory};
 use crate::stream_params::DerivesStreams;
-use crate::stream_segment::StreamSegment;
-use crate::writer::Writer;
-use crate::writing::{Sealer, SegmentWriter};
 use std::alloc::Global;
 use tink_io::{Draws, Sink, TinkError, write_all};
 use tink_primitives::Refused;
+use tink_segments::StreamSegment;
+use tink_streams::{Sealer, SegmentWriter, Writer};
 
 // A header with a drawn salt and prefix, in front of zeros.
 fn draw_header<T: DerivesStreams>(key: &T, draws: &mut Draws) -> Result<[u8; MAX_HEADER], TinkError>

@@ -12,14 +12,11 @@ ghost use Rattle.tink_streaming_aead.specs.Encrypting.{NewWriterMeans};
 ghost use Rattle.tink_streaming_aead.specs.StreamKinds.{key_of};
 ghost use Rattle.tink_streaming_aead.specs.Wrapped.{ByPrimary, raw_keys};
 
-use crate::ctr_hmac_segment::AES_CTR_HMAC_NONCE_SIZE_IN_BYTES;
 use crate::decrypt_reader::{Choice, DecryptReader};
 use crate::encrypting::new_encrypting_writer;
 use crate::starting::Trial;
 use crate::stream_kind::StreamKind;
 use crate::stream_params::DerivesStreams;
-use crate::stream_segment::StreamSegment;
-use crate::writer::Writer;
 use std::alloc::Global;
 use tink_core::CloneIn;
 use tink_factory::typed_primitives;
@@ -27,8 +24,10 @@ use tink_io::{Draws, Sink, Source, TinkError};
 use tink_keysets::keyset::Handle;
 use tink_primitives::{Kinds, Refused, StreamingAead};
 use tink_registry::{KeyManager, Registry};
+use tink_segments::{AES_CTR_HMAC_NONCE_SIZE_IN_BYTES, StreamSegment};
 use tink_sets::sorts::StreamingAeads;
 use tink_sets::{TypedEntry, TypedPrimitiveSet};
+use tink_streams::Writer;
 
 /// The streaming AEADs of a keyset as one: streams are made by the primary key, and opened by the first of the keys
 /// without a prefix under which they begin. A contract sees the set of the keys' entries, `ps`, which has a primary one.

@@ -2,8 +2,8 @@ ghost use Rattle.std.specs.Prelude.{◌≡◌};
 
 use crate::stream_memory::PREFIX;
 use crate::stream_params::DerivesStreams;
-use crate::stream_segment::StreamSegment;
-use crate::trying::OpensStreams;
+use tink_segments::StreamSegment;
+use tink_streams::OpensStreams;
 
 // A key, and the associated data of streams that it may have made.
 #[derive(Drop)]

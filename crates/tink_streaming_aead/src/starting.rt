@@ -3,22 +3,18 @@ ghost use Rattle.std.specs.Io.KnownBytes.{prepend_known};
 ghost use Rattle.stream_model.specs.Cut.{numbered};
 ghost use Rattle.stream_model.specs.Key.{nonce_size};
 ghost use Rattle.stream_model.specs.Opening.{opening_key};
-ghost use Rattle.tink_streaming_aead.specs.StreamSegments.{segment_by};
+ghost use Rattle.tink_segments.specs.StreamSegments.{segment_by};
 ghost use Rattle.tink_io.specs.declared.error.Kind.TheVariants.{OutOfMemory};
-ghost use Rattle.tink_streaming_aead.specs.declared.progress.Progress.TheVariants.{Running};
-ghost use Rattle.tink_streaming_aead.specs.Choosing.{Started, StartRefused};
+ghost use Rattle.tink_streams.specs.declared.progress.Progress.TheVariants.{Running};
+ghost use Rattle.tink_streams.specs.Choosing.{Started, StartRefused};
 
-use crate::buffers::Buffers;
 use crate::choosing::choose;
-use crate::held::carry;
-use crate::kept::Kept;
-use crate::reading::SegmentReader;
 use crate::stream_memory::PREFIX;
 use crate::stream_params::DerivesStreams;
-use crate::stream_segment::StreamSegment;
-use crate::trying::Begun;
 use std::alloc::Global;
 use tink_io::{Kind, Source, TinkError};
+use tink_segments::StreamSegment;
+use tink_streams::{Begun, Buffers, Kept, SegmentReader, carry};
 
 /// What is needed to find the key of a stream: what is kept of its source, and memory for the
 /// largest of the keys.

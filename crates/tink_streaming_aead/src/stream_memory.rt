@@ -2,10 +2,10 @@ ghost use Rattle.std.specs.Prelude.{◌≡◌, ◌≤◌, ◌+◌, [], IfOk, IfE
 ghost use Rattle.stream_model.specs.Key.{nonce_size};
 ghost use Rattle.tink_io.specs.declared.error.Kind.TheVariants.{OutOfMemory};
 
-use crate::buffers::Buffers;
 use crate::stream_params::DerivesStreams;
 use std::alloc::Global;
 use tink_io::TinkError;
+use tink_streams::Buffers;
 
 // The bytes of the prefix of a stream's nonces.
 pub const PREFIX: usize = 7;

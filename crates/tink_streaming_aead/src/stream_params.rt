@@ -6,17 +6,15 @@ ghost use Rattle.tink_core.specs.Subtle.{hash_named};
 ghost use Rattle.tink_keysets.specs.Told.{Tells};
 ghost use Rattle.tink_streaming_aead.specs.StreamingKeys.{Derives, IsDerived, cipher_of, deriving_hash, empty_key, is_key_size, kind_of, with_main};
 
-use crate::ctr_hmac_segment::{
-    AES_CTR_HMAC_KEY_SIZE_IN_BYTES, AES_CTR_HMAC_NONCE_SIZE_IN_BYTES, CtrHmacSegment,
-};
-use crate::gcm_segment::{
-    AES_GCM_HKDF_NONCE_SIZE_IN_BYTES, AES_GCM_HKDF_TAG_SIZE_IN_BYTES, GcmSegment,
-};
-use crate::stream_segment::StreamSegment;
 use hash_keys::{Hash, hkdf_into};
 use std::marker::Model;
 use tink_io::{Kind, TinkError};
 use tink_proto::HashType;
+use tink_segments::{
+    AES_CTR_HMAC_KEY_SIZE_IN_BYTES, AES_CTR_HMAC_NONCE_SIZE_IN_BYTES,
+    AES_GCM_HKDF_NONCE_SIZE_IN_BYTES, AES_GCM_HKDF_TAG_SIZE_IN_BYTES, CtrHmacSegment, GcmSegment,
+    StreamSegment,
+};
 
 // The bytes of all derived keys at most.
 const MAX_KEYS: usize = 64;

@@ -11,10 +11,7 @@ ghost use Rattle.tink_streaming_aead.specs.StreamingKeys.{ctr_hmac_key, ctr_hmac
 
 use crate::decrypting::new_decrypting_reader;
 use crate::encrypting::new_encrypting_writer;
-use crate::reader::Reader;
 use crate::stream_params::{DerivesStreams, SegmentParams, StreamParams, is_key_size, is_small};
-use crate::stream_segment::StreamSegment;
-use crate::writer::Writer;
 use std::alloc::Global;
 use std::marker::Model;
 use tink_core::CloneIn;
@@ -22,6 +19,8 @@ use tink_core::subtle::get_hash_func;
 use tink_io::{Draws, Kind, Sink, Source, TinkError};
 use tink_primitives::{Refused, StreamingAead};
 use tink_proto::HashType;
+use tink_segments::StreamSegment;
+use tink_streams::{Reader, Writer};
 
 // The fewest bytes of a tag.
 const MIN_TAG_SIZE: usize = 10;

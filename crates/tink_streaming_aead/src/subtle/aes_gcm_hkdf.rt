@@ -11,16 +11,15 @@ ghost use Rattle.tink_streaming_aead.specs.StreamingKeys.{gcm_hkdf_key, gcm_hkdf
 
 use crate::decrypting::new_decrypting_reader;
 use crate::encrypting::new_encrypting_writer;
-use crate::reader::Reader;
 use crate::stream_params::{DerivesStreams, SegmentParams, StreamParams, is_key_size, is_small};
-use crate::stream_segment::StreamSegment;
-use crate::writer::Writer;
 use std::alloc::Global;
 use std::marker::Model;
 use tink_core::CloneIn;
 use tink_io::{Draws, Kind, Sink, Source, TinkError};
 use tink_primitives::{Refused, StreamingAead};
 use tink_proto::HashType;
+use tink_segments::StreamSegment;
+use tink_streams::{Reader, Writer};
 
 /// A key of streams whose segments are by AES-GCM (SP 800-38D). The AES key of a stream is derived
 /// from the main key by HKDF (RFC 5869).

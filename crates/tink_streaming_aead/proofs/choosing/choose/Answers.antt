@@ -4,9 +4,9 @@ use Rattle.std.specs.Io.KnownBytes.{prepend_known}
 use Rattle.std.proofs.KnownBytes.{Keeps-trans}
 use Rattle.stream_model.specs.Cut.{numbered}
 use Rattle.stream_model.specs.Opening.{OpeningKey, Begins, opening_key}
-use Rattle.tink_streaming_aead.specs.StreamSegments.{segment_by}
-use Rattle.tink_streaming_aead.specs.Choosing.{Found, IsOpenerOf}
-use Rattle.tink_streaming_aead.proofs.ChoosingSteps.{GoesOn, key_split, pass_over, take_key, both_told, told_before}
+use Rattle.tink_segments.specs.StreamSegments.{segment_by}
+use Rattle.tink_streams.specs.Choosing.{Found, IsOpenerOf}
+use Rattle.tink_streams.proofs.ChoosingSteps.{GoesOn, key_split, pass_over, take_key, both_told, told_before}
 use Rattle.tink_streaming_aead.proofs.choosing.choose.Goals as goal
 
 pub returns-in-Ok-clause-chosen : goal.returns-in-Ok-clause-chosen

@@ -1,7 +1,7 @@
 use Rattle.std.proofs.Common.{◌≡◌, ◌≤◌, take, IfSome, vec_len, vec_capacity}
 use Rattle.std.specs.Io.KnownBytes.{Keeps, prepend_known}
 use Rattle.stream_model.specs.Opening.{opening_key}
-use Rattle.tink_streaming_aead.proofs.ChoosingSteps.{GoesOn}
+use Rattle.tink_streams.proofs.ChoosingSteps.{GoesOn}
 use Rattle.tink_streaming_aead.proofs.choosing.choose.Given as goal
 
 -- what is chosen of the rest of the keys is chosen

@@ -1,6 +1,6 @@
 use Rattle.std.proofs.Common.{◌≤◌, ◌∙◌, take, length, arith}
 use Rattle.std.proofs.lemmas.List.{length-take}
-use Rattle.tink_streaming_aead.proofs.ChoosingSteps.{started}
+use Rattle.tink_streams.proofs.ChoosingSteps.{started}
 use Rattle.tink_streaming_aead.proofs.starting.start.Goals as goal
 
 pub returns-in-Ok-Some-clause-started : goal.returns-in-Ok-Some-clause-started

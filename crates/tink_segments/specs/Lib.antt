@@ -1,0 +1,4 @@
+pub mod SegmentCiphers
+pub mod SegmentKeys
+pub mod AesVariants
+pub mod StreamSegments

@@ -1,0 +1,144 @@
+//! Segments by AES-GCM.
+
+ghost use Rattle.std.specs.Prelude.{◌≡◌, ◌⊎◌, ◌<◌, ◌+◌, ◌-◌, ◌^◌, ℕ, List, [], length, OnOk, OnErr, IfErr};
+ghost use Rattle.standards.specs.Gcm.{gcm};
+ghost use Rattle.tink_io.specs.declared.error.Kind.TheVariants.{DecryptFailed};
+
+use crate::segment_cipher::SegmentCipher;
+use cipher::BlockCipherEncrypt;
+use gcm::Gcm;
+use std::marker::Model;
+use tink_io::{Kind, TinkError};
+use tink_segment_traits::{SegmentDecrypter, SegmentEncrypter};
+
+/// The size of a nonce in bytes.
+pub const AES_GCM_HKDF_NONCE_SIZE_IN_BYTES: usize = 12;
+
+/// The size of the front of the nonces of one stream in bytes.
+pub const AES_GCM_HKDF_NONCE_PREFIX_SIZE_IN_BYTES: usize = 7;
+
+/// The size of the tag of each segment in bytes.
+pub const AES_GCM_HKDF_TAG_SIZE_IN_BYTES: usize = 16;
+
+/// Segments by AES-GCM (SP 800-38D) without associated data, under nonces of 12 bytes: the
+/// ciphertext, and a tag of 16 bytes behind it.
+///
+/// A contract sees the key.
+#[derive(Drop)]
+pub struct GcmSegment {
+    cipher: SegmentCipher,
+}
+
+impl Model for GcmSegment {
+    ghost use Rattle.std.specs.Prelude.{ℕ, List};
+    ghost use Rattle.tink_segments.specs.SegmentCiphers.{IsSized, key_of};
+
+    ghost Value = { List ℕ };
+
+    ghost view = { λ s. key_of s.cipher };
+
+    ghost invariant = { λ s. IsSized s.cipher };
+}
+
+impl GcmSegment {
+    /// Segments under an AES key of 16 or 32 bytes.
+    pub fn new(aes_key: &[u8]) -> GcmSegment
+        requires { (length aes_key.now ≡ 16) ⊎ (length aes_key.now ≡ 32) }
+        ensures { result ≡ aes_key.now }
+    {
+        GcmSegment {
+            cipher: SegmentCipher::new(aes_key),
+        }
+    }
+}
+
+impl SegmentEncrypter for GcmSegment {
+    ghost use Rattle.stream_model.specs.Key.{gcm_segment};
+    ghost use Rattle.stream_model.proofs.SegmentFacts.{length-gcm_segment};
+
+    ghost seg = { gcm_segment };
+
+    ghost overhead_of = { λ s. 16 };
+
+    ghost nonce_length = { λ s. 12 };
+
+    ghost longer = { length-gcm_segment };
+
+    fn overhead(&self) -> usize {
+        AES_GCM_HKDF_TAG_SIZE_IN_BYTES
+    }
+
+    fn encrypt_segment_into(&self, segment: &[u8], nonce: &[u8], out: &mut [u8]) {
+        match &self.cipher {
+            SegmentCipher::Small(cipher) => seal(&Gcm::new(cipher), segment, nonce, out),
+            SegmentCipher::Large(cipher) => seal(&Gcm::new(cipher), segment, nonce, out),
+        }
+    }
+}
+
+impl SegmentDecrypter for GcmSegment {
+    ghost use Rattle.stream_model.specs.Key.{gcm_segment};
+    ghost use Rattle.stream_model.proofs.SegmentFacts.{gcm_segment_same, length-gcm_segment};
+
+    ghost seg = { gcm_segment };
+
+    ghost overhead_of = { λ s. 16 };
+
+    ghost nonce_length = { λ s. 12 };
+
+    ghost longer = { length-gcm_segment };
+
+    ghost one_text = { gcm_segment_same };
+
+    fn overhead(&self) -> usize {
+        AES_GCM_HKDF_TAG_SIZE_IN_BYTES
+    }
+
+    // The tag is compared before anything is written.
+    fn decrypt_segment_into(
+        &self,
+        segment: &[u8],
+        nonce: &[u8],
+        out: &mut [u8],
+    ) -> Result<(), TinkError> {
+        match &self.cipher {
+            SegmentCipher::Small(cipher) => open(&Gcm::new(cipher), segment, nonce, out),
+            SegmentCipher::Large(cipher) => open(&Gcm::new(cipher), segment, nonce, out),
+        }
+    }
+}
+
+// Writes the segment of a text under a nonce.
+fn seal<C: BlockCipherEncrypt<16>>(aead: &Gcm<C>, text: &[u8], nonce: &[u8], out: &mut [u8])
+    requires nonce { length nonce.now ≡ 12 }
+    requires size { length text.now < 2 ^ 32 }
+    requires room { length out.old ≡ length text.now + 16 }
+    ensures { out.new ≡ gcm (C.encrypts aead.now.cipher) nonce.now [] text.now }
+{
+    match aead.seal_into(nonce, &[], text, out) {
+        Ok(()) => {}
+        Err(_) => unreachable!(),
+    }
+}
+
+// Writes the text of a segment under a nonce. `DecryptFailed` exactly where it is the segment of no
+// text, and nothing is written then.
+fn open<C: BlockCipherEncrypt<16>>(
+    aead: &Gcm<C>,
+    segment: &[u8],
+    nonce: &[u8],
+    out: &mut [u8],
+) -> Result<(), TinkError>
+    requires nonce { length nonce.now ≡ 12 }
+    requires size { length segment.now < 2 ^ 32 }
+    requires room { length out.old ≡ length segment.now - 16 }
+    ensures ok { OnOk result (gcm (C.encrypts aead.now.cipher) nonce.now [] out.new ≡ segment.now) }
+    ensures refused { OnErr result ((t : List ℕ) → gcm (C.encrypts aead.now.cipher) nonce.now [] t ≡ segment.now → ⊥) }
+    ensures kept { OnErr result (out.new ≡ out.old) }
+    ensures kind { IfErr result (λ e. e ≡ record { kind = DecryptFailed }) }
+{
+    match aead.open_into(nonce, &[], segment, out) {
+        Ok(()) => Ok(()),
+        Err(_) => Err(TinkError::new(Kind::DecryptFailed)),
+    }
+}

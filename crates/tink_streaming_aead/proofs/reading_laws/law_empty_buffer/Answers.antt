@@ -1,5 +1,0 @@
-use Rattle.tink_streaming_aead.proofs.TextLaws.{read_empty}
-use Rattle.tink_streaming_aead.proofs.reading_laws.law_empty_buffer.Goals as goal
-
-pub returns : goal.returns
-returns c = record { empty = read_empty }

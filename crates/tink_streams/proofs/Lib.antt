@@ -1,0 +1,13 @@
+pub mod WriterSteps
+pub mod WritingFacts
+pub mod HeldFacts
+pub mod FrontFacts
+pub mod TrialFacts
+pub mod ChoosingSteps
+pub mod ReadingFacts
+pub mod ChosenFacts
+pub mod WholeSteps
+pub mod FullFacts
+pub mod WriterCallers
+pub mod TextFacts
+pub mod TextLaws

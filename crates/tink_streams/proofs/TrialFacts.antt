@@ -1,0 +1,102 @@
+-- Whether a stream begins under a key, by the bytes that are held of it.
+use Rattle.std.proofs.Common.{◌≡◌, inl, inr, ◌≤◌, ◌<◌, ◌+◌, ◌-◌, ℕ, Bool, List, [], ◌∷◌, ◌++◌, length, take, drop, Some, None, IfSome, ap, sym, ◌∙◌, subst, arith, length-append, length-drop}
+use Rattle.std.proofs.lemmas.List.{take-append-le, drop-append-le, drop-take, get_or_append_left}
+use Rattle.std.specs.declared.option.Option.{Option}
+use Rattle.std.specs.Io.KnownBytes.{Keeps, prepend_known}
+use Rattle.std.proofs.KnownBytes.{Keeps-trans}
+use Rattle.stream_model.specs.Agree.{Agree}
+use Rattle.stream_model.specs.Opening.{OpeningKey, HasHeader, Begins, FirstAgrees, chunks_of}
+use Rattle.stream_model.proofs.AgreeFacts.{AreTexts-leads}
+use Rattle.tink_streams.specs.Opening.{OpensTo, IsHeld}
+use Rattle.tink_streams.proofs.FrontFacts.{fits_or_not, opened_front, refused_front}
+
+-- what is held of the same bytes
+pub held_from : (size : ℕ) (r0 r1 left : Option (List ℕ)) (H : List ℕ) → Keeps r0 r1 → IsHeld size r1 H left → IsHeld size r0 H left
+held_from size r0 r1 left H k h = record { all = Keeps-trans r0 r1 (prepend_known H left) k h.all; end = h.end }
+
+-- a held header is that of all bytes
+header_of_all : (k : OpeningKey) (H Y : List ℕ) → 0 < k.header → HasHeader k H → HasHeader k (H ++ Y)
+header_of_all k H Y pos h = record {
+  long = omega (arith, h.long, length-append H Y);
+  mark = get_or_append_left H Y 0 0 (omega (arith, h.long)) ∙ h.mark;
+}
+
+-- and the other way round, where more than a header is held unless nothing is left
+header_of_held : (k : OpeningKey) (H Y : List ℕ) → 0 < k.header → (length H ≤ k.header → Y ≡ []) → HasHeader k (H ++ Y) → HasHeader k H
+header_of_held k H Y pos end h =
+    let long : k.header ≤ length H = elim (fits_or_not (length H) k.header) [
+      | inl fits ↦ let none : length Y ≡ 0 = ap length (end fits) in omega (arith, h.long, length-append H Y)
+      | inr more ↦ omega arith
+    ] in
+    record { long = long; mark = sym (get_or_append_left H Y 0 0 (omega arith)) ∙ h.mark }
+
+header_bytes : (k : OpeningKey) (H X Y : List ℕ) → H ++ Y ≡ X → k.header ≤ length H → take k.header X ≡ take k.header H
+header_bytes k H X Y e long = ap (take k.header) (sym e) ∙ take-append-le k.header H Y long
+
+-- a stream begins in no header of a key from which keys are derived
+pub not_begun : (k : OpeningKey) (r left : Option (List ℕ)) (H : List ℕ) → 0 < k.header → IsHeld k.header r H left → (HasHeader k H → k.seg (take k.header H) ≡ None) → IfSome r (λ X. Begins k X → ⊥)
+not_begun k None left H pos h none = tt
+not_begun k (Some X) None H pos h none = absurd h.all
+not_begun k (Some X) (Some Y) H pos h none = λ b.
+    let here : HasHeader k H = header_of_held k H Y pos h.end (subst (HasHeader k) (sym h.all) b.header) in
+    let underived : k.seg (take k.header X) ≡ None = ap k.seg (header_bytes k H X Y h.all here.long) ∙ none here in
+    subst (λ (s : Option (ℕ → Bool → List ℕ → List ℕ)). FirstAgrees s (chunks_of k X)) underived b.first
+
+-- the first segment is tried under a header H that is held, of which keys are derived
+pub record Tried (k : OpeningKey) (r l m : Option (List ℕ)) (H G part : List ℕ) (seg : ℕ → Bool → List ℕ → List ℕ) (size : ℕ) : Type 0 where
+  pub some : 0 < k.header
+  pub room : 0 < k.first
+  pub fits : k.header + k.first ≤ k.size
+  pub before : Keeps r (prepend_known H l)
+  pub header : HasHeader k H
+  pub map : k.seg (take k.header H) ≡ Some seg
+  pub held : IsHeld (k.header + k.first) r G m
+  pub long : k.header ≤ length G
+  pub size_is : size ≡ k.first
+  pub part_is : part ≡ drop k.header G
+
+behind : (k : OpeningKey) (X Y G : List ℕ) → IsHeld (k.header + k.first) (Some X) G (Some Y) → k.header ≤ length G → IsHeld k.first (Some (drop k.header X)) (drop k.header G) (Some Y)
+behind k X Y G h long = record {
+  all = sym (drop-append-le k.header G Y long) ∙ ap (drop k.header) h.all;
+  end = λ few. h.end (omega (arith, length-drop k.header G));
+}
+
+-- a text's segment makes the stream begin
+pub begun : (k : OpeningKey) (r l m : Option (List ℕ)) (H G part : List ℕ) (seg : ℕ → Bool → List ℕ → List ℕ) (size : ℕ) (t : List ℕ) → Tried k r l m H G part seg size → OpensTo seg 0 size part t
+    → IfSome r (λ X. Begins k X × (k.seg (take k.header X) ≡ Some seg))
+begun k None l m H G part seg size t tried o = tt
+begun k (Some X) None m H G part seg size t tried o = absurd tried.before
+begun k (Some X) (Some Y) None H G part seg size t tried o = absurd tried.held.all
+begun k (Some X) (Some Y) (Some Z) H G part seg size t tried o =
+    let a : ℕ = k.first in
+    let derived : k.seg (take k.header X) ≡ Some seg = ap k.seg (header_bytes k H X Y tried.before tried.header.long) ∙ tried.map in
+    let leads = opened_front seg a k.size 0 (Some (drop k.header X)) (Some Z) (drop k.header G) t (omega arith) tried.room (omega (arith, tried.room, tried.fits)) (behind k X Z G tried.held tried.long)
+    (subst (λ (x : List ℕ). OpensTo seg 0 a x t) tried.part_is (subst (λ (n : ℕ). OpensTo seg 0 n part t) tried.size_is o)) in (
+      record {
+        header = subst (HasHeader k) tried.before (header_of_all k H Y tried.some tried.header);
+        first = subst (λ (s : Option (ℕ → Bool → List ℕ → List ℕ)). FirstAgrees s (chunks_of k X)) (sym derived) (t, AreTexts-leads seg 0 (chunks_of k X) (t ∷ []) _ [] leads tt);
+      },
+      derived,
+    )
+
+-- where no text's is the first chunk, it doesn't
+pub refused : (k : OpeningKey) (r l m : Option (List ℕ)) (H G part : List ℕ) (seg : ℕ → Bool → List ℕ → List ℕ) (size : ℕ) → Tried k r l m H G part seg size → ((t : List ℕ) → OpensTo seg 0 size part t → ⊥)
+    → IfSome r (λ X. Begins k X → ⊥)
+refused k None l m H G part seg size tried none = tt
+refused k (Some X) None m H G part seg size tried none = absurd tried.before
+refused k (Some X) (Some Y) None H G part seg size tried none = absurd tried.held.all
+refused k (Some X) (Some Y) (Some Z) H G part seg size tried none = λ b.
+    let a : ℕ = k.first in
+    let derived : k.seg (take k.header X) ≡ Some seg = ap k.seg (header_bytes k H X Y tried.before tried.header.long) ∙ tried.map in
+    let agree : Agree seg 0 (chunks_of k X) [] =
+    refused_front seg a k.size 0 (Some (drop k.header X)) (Some Z) (drop k.header G) tried.room (omega (arith, tried.room, tried.fits)) (behind k X Z G tried.held tried.long)
+    (λ t o. none t (subst (λ (n : ℕ). OpensTo seg 0 n part t) (sym tried.size_is) (subst (λ (x : List ℕ). OpensTo seg 0 a x t) (sym tried.part_is) o))) in
+    let one = subst (λ (s : Option (ℕ → Bool → List ℕ → List ℕ)). FirstAgrees s (chunks_of k X)) derived b.first in
+    let none_is : 1 ≤ 0 = agree.longest (one.0 ∷ []) one.1 in
+    omega arith
+
+-- the bytes behind a header
+pub part_of : (h header filled : ℕ) (xs items : List ℕ) → h ≡ header → xs ≡ items → h ≤ filled → take (filled - h) (drop h xs) ≡ drop header (take filled items)
+part_of h header filled xs items e f long =
+    let all : h + (filled - h) ≡ filled = omega arith in
+    sym (drop-take h (filled - h) xs) ∙ ap (λ n. drop h (take n xs)) all ∙ ap (λ x. drop h (take filled x)) f ∙ ap (λ n. drop n (take filled items)) e

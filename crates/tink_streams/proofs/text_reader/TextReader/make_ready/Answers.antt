@@ -1,0 +1,22 @@
+use Rattle.std.proofs.Common.{◌<◌, length, arith, refl}
+use Rattle.tink_streams.proofs.TextFacts.{ready_held, told_end, not_none, over}
+use Rattle.tink_streams.proofs.text_reader.TextReader.make_ready.Goals as goal
+
+pub returns-then-self-len-clause-answer : goal.returns-then-self-len-clause-answer
+returns-then-self-len-clause-answer g c =
+    let self = c.args.self.now in
+    let some : self.given < length self.reader.opened.items = omega (arith, self.reader.opened.ok.0) in
+    ready_held _ _ _ _ c.requires.lives (λ d. not_none self.given self.reader.opened.items some d.pending) (λ e. absurd (not_none self.given self.reader.opened.items some e)) (λ e. told_end _ (c.requires.at_end e))
+
+pub returns-in_default : goal.returns-in_default
+returns-in_default g c =
+    let self = c.args.self.now in
+    let ended = over self.reader.progress c.requires.lives c.in_default.not-Running in
+    record {
+      answer = ready_held _ _ _ _ c.requires.lives (λ d. c.in_default.not-Running d.running)
+          (λ e. record { ended = ended; some = self.reader.ended_some ended; pending = e; rest = told_end _ (c.requires.at_end ended) })
+          (λ e. told_end _ (c.requires.at_end e));
+      opener = refl;
+      later = omega arith;
+      same = g.met.S.Source.same_refl _;
+    }

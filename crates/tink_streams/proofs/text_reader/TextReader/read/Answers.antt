@@ -1,0 +1,36 @@
+use Rattle.std.proofs.Common.{rules, ◌≡◌, ◌<◌, ◌-◌, List, ℕ, length, take, drop, min, arith, ap, refl, sym, ◌∙◌, length-drop}
+use Rattle.std.proofs.lemmas.List.{take_all, drop-drop}
+use Rattle.tink_streams.proofs.TextFacts.{gives_none, given_ready, told_end, end_told, not_failed}
+use Rattle.tink_streams.proofs.text_reader.TextReader.read.Goals as goal
+
+pub returns-then-is_empty : goal.returns-then-is_empty
+returns-then-is_empty g c =
+    let self = c.args.self.now in
+    let none : length c.args.buf.now ≡ 0 = search rules in
+    record {
+      answer = gives_none _ _ _ _ c.args.buf.now (not_failed self.reader.progress c.in_default.not-Failed) none (λ e. told_end _ (c.requires.at_end e));
+      within = omega arith;
+      at_end = c.requires.at_end;
+      opener = refl;
+      later = omega arith;
+      same = g.met.S.Source.same_refl _;
+    }
+
+pub returns : goal.returns
+returns g c =
+    let then = c.make_ready.new.self in
+    let opened : List ℕ = drop then.given then.reader.opened.items in
+    let part_is : take (length c.deref.result.now - then.given) (drop then.given c.deref.result.now) ≡ opened =
+    take_all _ (drop then.given c.deref.result.now) (omega (arith, length-drop then.given c.deref.result.now)) ∙ ap (drop then.given) c.deref.ensures.value in
+    let some : 0 < length c.args.buf.now = search rules in
+    let answer = given_ready _ _ _ _ _ c.args.buf.now c.give-n.new.buf _ c.give-n.result (not_failed c.args.self.now.reader.progress c.in_default.not-Failed) c.in_ok-make_ready.ensures.answer some
+    (c.give-n.ensures.count ∙ ap (λ x. min (length c.args.buf.now) (length x)) part_is) (c.give-n.ensures.given ∙ ap (take c.give-n.result) part_is) c.give-n.ensures.behind
+    (sym (drop-drop c.give-n.result then.given then.reader.opened.items)) in
+    record {
+      answer = answer;
+      within = omega (arith, c.give-n.ensures.count, c.give-n.auto.buf);
+      at_end = λ e. end_told _ (answer.ends e);
+      opener = c.in_ok-make_ready.ensures.opener;
+      later = c.in_ok-make_ready.ensures.later;
+      same = c.in_ok-make_ready.ensures.same;
+    }

@@ -1,0 +1,32 @@
+//! Writers and readers of streams of segments, over any cipher of segments.
+#![tactic(auto)]
+
+mod buffers;
+mod held;
+mod kept;
+mod laws;
+mod opening;
+mod progress;
+mod reader;
+mod reading;
+mod reading_laws;
+mod text_reader;
+mod trying;
+mod whole;
+mod writer;
+mod writing;
+
+pub use buffers::Buffers;
+pub use held::{carry, fill};
+pub use kept::Kept;
+pub use laws::{law_any_cutting, law_full_segments};
+pub use opening::{Opener, open_front, open_held};
+pub use progress::Progress;
+pub use reader::{Reader, ReaderParams};
+pub use reading::SegmentReader;
+pub use reading_laws::{law_empty_buffer, law_for_good, law_whole_text};
+pub use text_reader::TextReader;
+pub use trying::{Begun, OpensStreams, try_key};
+pub use whole::open_rest;
+pub use writer::{Writer, WriterParams};
+pub use writing::{Mode, Sealer, SegmentWriter};

@@ -1,0 +1,162 @@
+ghost use Rattle.std.specs.Prelude.{◌≡◌, ◌≤◌, ◌<◌, ◌^◌, [], take, vec_len, vec_capacity};
+ghost use Rattle.std.specs.Io.KnownBytes.{prepend_known};
+ghost use Rattle.stream_model.specs.Cut.{numbered};
+ghost use Rattle.tink_streams.specs.Reading.{HasNotFailed};
+ghost use Rattle.tink_streams.specs.declared.progress.Progress.TheVariants.{Running, Ended};
+
+use crate::buffers::Buffers;
+use crate::held::{carry, hold};
+use crate::opening::{Opener, open_front, size_of};
+use crate::progress::Progress;
+use tink_io::{Cause, Kind, Source, TinkError};
+use tink_segment_traits::SegmentDecrypter;
+
+/// A reader of segments, from a source that each call is given.
+///
+/// A byte behind a full chunk is read before the chunk is opened, since the last segment is marked.
+/// So more bytes than a chunk may be held.
+#[derive(Drop)]
+pub struct SegmentReader<D: SegmentDecrypter> {
+    pub opener: Opener<D>,
+    pub progress: Progress,
+    pub segments: u64,
+    pub buffer: Vec<u8>,
+    pub filled: usize,
+    pub opened: Vec<u8>,
+    pub nonce: Vec<u8>,
+    ghost buffer_fits: { opener.size < vec_len buffer },
+    ghost reserved: { opener.size ≤ vec_capacity opened },
+    ghost nonce_fits: { opener.nonce_size ≤ vec_len nonce },
+    ghost few: { segments ≤ 2 ^ 32 },
+    ghost filled_in: { filled ≤ vec_len buffer },
+    ghost carried: { progress ≡ Running → 0 < segments → 0 < filled },
+    ghost ended_some: { progress ≡ Ended → 0 < segments },
+    ghost ended_held: { progress ≡ Ended → filled ≡ 0 },
+}
+
+// Nothing is held behind the last segment.
+fn progress_after(filled: usize) -> Progress
+    ensures lives { HasNotFailed result }
+    ensures running { result ≡ Running → 0 < filled }
+    ensures ended { result ≡ Ended → filled ≡ 0 }
+{
+    if filled == 0 {
+        Progress::Ended
+    } else {
+        Progress::Running
+    }
+}
+
+impl<D: SegmentDecrypter + Drop> SegmentReader<D> {
+    ghost use Rattle.tink_streams.specs.Reading.{OpenMeans, Moment};
+
+    /// A reader that has opened nothing, and holds the first `filled` bytes of `buffers.sealed`.
+    pub fn made(opener: Opener<D>, buffers: Buffers, filled: usize) -> SegmentReader<D>
+        requires text { buffers.text.items ≡ [] }
+        requires text_room { opener.size ≤ vec_capacity buffers.text }
+        requires sealed_room { opener.size < vec_len buffers.sealed }
+        requires filled { filled ≤ vec_len buffers.sealed }
+        requires nonce_room { opener.nonce_size ≤ vec_len buffers.nonce }
+        ensures progress { result.progress ≡ Running }
+        ensures segments { result.segments ≡ 0 }
+        ensures held { take result.filled result.buffer.items ≡ take filled buffers.sealed.items }
+        ensures opened { result.opened.items ≡ [] }
+        ensures opener { result.opener ≡ opener }
+    {
+        SegmentReader {
+            opener,
+            progress: Progress::Running,
+            segments: 0,
+            buffer: buffers.sealed,
+            filled,
+            opened: buffers.text,
+            nonce: buffers.nonce,
+        }
+    }
+
+    /// Opens the next segment. Its text is `opened`, and after the last one the reader has ended.
+    ///
+    /// # Errors
+    /// ReadFault where the source failed, TooManySegments where bytes follow the segment of number
+    /// 2^32 - 1, Truncated where fewer bytes are left than the overhead, BadSegment where the next
+    /// chunk is the segment of no text. The reader has then failed, and has opened nothing.
+    pub fn open_next<S: Source>(&mut self, source: &mut S) -> Result<(), TinkError>
+        requires running { self.old.progress ≡ Running }
+        ensures answer { OpenMeans (numbered (D.seg self.old.opener.decrypter) self.old.opener.nonce_size self.old.opener.prefix.items)
+            self.old.opener.first self.old.opener.size self.old.opener.overhead
+            (record {
+              progress = self.old.progress;
+              number = self.old.segments;
+              opened = self.old.opened.items;
+              rest = prepend_known (take self.old.filled self.old.buffer.items) (S.left source.old);
+              faults = S.faults source.old;
+            })
+            (record {
+              progress = self.new.progress;
+              number = self.new.segments;
+              opened = self.new.opened.items;
+              rest = prepend_known (take self.new.filled self.new.buffer.items) (S.left source.new);
+              faults = S.faults source.new;
+            })
+            result }
+        ensures opener { self.new.opener ≡ self.old.opener }
+        ensures small { vec_len self.new.opened < 2 ^ 32 }
+        ensures later { S.faults source.old ≤ S.faults source.new }
+        ensures same { S.same source.old source.new }
+    {
+        self.opened.clear();
+        let size = size_of(&self.opener, self.segments);
+        match hold(source, &mut self.buffer, self.filled, size) {
+            Ok(n) => self.filled = n,
+            Err(_) => {
+                self.progress = Progress::Failed(Cause::ReadFault);
+                return Err(TinkError::new(Kind::ReadFault));
+            }
+        }
+        let Ok(number) = u32::try_from(self.segments) else {
+            self.progress = Progress::Failed(Cause::TooManySegments);
+            return Err(TinkError::new(Kind::TooManySegments));
+        };
+        if !open_front(
+            &self.opener,
+            self.segments,
+            &self.buffer[..self.filled],
+            &mut self.nonce,
+            &mut self.opened,
+        ) {
+            if self.filled < self.opener.overhead.max(1) {
+                self.progress = Progress::Failed(Cause::Truncated(number));
+                return Err(TinkError::new(Kind::Truncated(number)));
+            }
+            self.progress = Progress::Failed(Cause::BadSegment(number));
+            return Err(TinkError::new(Kind::BadSegment(number)));
+        }
+        self.segments += 1;
+        let n = self.filled.min(size);
+        carry(&mut self.buffer, n, self.filled);
+        self.filled -= n;
+        self.progress = progress_after(self.filled);
+        Ok(())
+    }
+
+    /// The text of the segment that was opened last, none after a refusal.
+    pub fn opened(&self) -> &[u8]
+        ensures { result.now ≡ self.now.opened.items }
+    {
+        &self.opened
+    }
+
+    /// How far the reader has come.
+    pub fn progress(&self) -> Progress
+        ensures { result ≡ self.now.progress }
+    {
+        self.progress
+    }
+
+    /// The number of segments opened so far.
+    pub fn segments(&self) -> u64
+        ensures { result ≡ self.now.segments }
+    {
+        self.segments
+    }
+}

@@ -1,0 +1,39 @@
+ghost use Rattle.std.specs.Prelude.{◌≡◌, ◌≤◌, ◌<◌, ◌+◌, ◌-◌, ℕ, ◌++◌, Bool, List, [], length, take, Result, Ok, Err};
+ghost use Rattle.std.specs.declared.option.Option.{Option};
+ghost use Rattle.tink_io.specs.declared.error.Cause.{Cause};
+ghost use Rattle.tink_io.specs.declared.error.Kind.TheVariants.{FailedBefore};
+ghost use Rattle.tink_io.specs.declared.error.TinkError.{TinkError};
+ghost use Rattle.tink_streams.specs.declared.progress.Progress.TheVariants.{Failed};
+ghost use Rattle.tink_streams.specs.Reading.{HasNotFailed, NothingComes};
+ghost use Rattle.tink_streams.specs.TextReading.{Moment, AtEnd, ReadMeans, Gave, IsWhole, IsTextOf, IsLongest, of_segments};
+
+/// A read of a reader at its end answers `Ok(0)`, and a read of one that failed answers the cause. Both leave the reader
+/// as it was, and so the next read, and each after it, does the same.
+pub fn law_for_good()
+    ensures end { (seg : ℕ → Bool → List ℕ → List ℕ) (a b overhead : ℕ) (old new : Moment) (before after : List ℕ) (r : Result ℕ TinkError)
+        → AtEnd old → ReadMeans seg a b overhead old new before after r → (r ≡ Ok 0) × (new ≡ old) }
+    ensures failed { (seg : ℕ → Bool → List ℕ → List ℕ) (a b overhead : ℕ) (old new : Moment) (before after : List ℕ) (r : Result ℕ TinkError) (c : Cause)
+        → old.progress ≡ Failed c → ReadMeans seg a b overhead old new before after r → (r ≡ Err (record { kind = FailedBefore c })) × (new ≡ old) }
+{}
+
+/// A read to an empty buffer answers `Ok(0)` and leaves the reader as it was, unless it failed before.
+pub fn law_empty_buffer()
+    ensures empty { (seg : ℕ → Bool → List ℕ → List ℕ) (a b overhead : ℕ) (old new : Moment) (after : List ℕ) (r : Result ℕ TinkError)
+        → HasNotFailed old.progress → ReadMeans seg a b overhead old new [] after r → (r ≡ Ok 0) × (new ≡ old) }
+{}
+
+/// Reads from a new reader on, to buffers of any lengths, have at the end given exactly the text of the stream: all chunks
+/// are the segments of some texts, and what was given is these texts joined; where a segment is longer than its text by
+/// the overhead, all bytes are their segments in order. Where no text agrees with what is left, it is
+/// the longest list of texts that agrees with the chunks, joined.
+pub fn law_whole_text()
+    ensures fresh { (seg : ℕ → Bool → List ℕ → List ℕ) (a b : ℕ) (m : Moment) → m.number ≡ 0 → m.pending ≡ [] → Gave seg a b m.rest [] m }
+    ensures more { (seg : ℕ → Bool → List ℕ → List ℕ) (a b overhead : ℕ) (all : Option (List ℕ)) (given : List ℕ) (old new : Moment) (before after : List ℕ) (n : ℕ)
+        → Gave seg a b all given old → ReadMeans seg a b overhead old new before after (Ok n) → Gave seg a b all (given ++ take n after) new }
+    ensures whole { (seg : ℕ → Bool → List ℕ → List ℕ) (a b : ℕ) (all : Option (List ℕ)) (given : List ℕ) (m : Moment)
+        → Gave seg a b all given m → AtEnd m → IsWhole seg a b all given }
+    ensures stream { (seg : ℕ → Bool → List ℕ → List ℕ) (o a b : ℕ) (all : Option (List ℕ)) (given : List ℕ)
+        → ((i : ℕ) (last : Bool) (t : List ℕ) → length (seg i last t) ≡ length t + o) → o < a → a ≤ b → IsWhole seg a b all given → IsTextOf seg (a - o) (b - o) all given }
+    ensures stopped { (seg : ℕ → Bool → List ℕ → List ℕ) (a b : ℕ) (all : Option (List ℕ)) (given : List ℕ) (m : Moment)
+        → Gave seg a b all given m → m.pending ≡ [] → NothingComes seg a b (of_segments m) → IsLongest seg a b all given }
+{}

@@ -1,0 +1,175 @@
+ghost use Rattle.std.specs.Prelude.{◌≡◌, ◌≤◌, ◌<◌, ◌+◌, ◌-◌, ℕ, length, take, drop, max, Some, None, IfSome, IsNone, IfOk, IfErr, OnOk, OnErr, vec_len, vec_capacity};
+ghost use Rattle.std.specs.Io.KnownBytes.{Keeps, prepend_known};
+ghost use Rattle.stream_model.specs.Cut.{numbered};
+ghost use Rattle.stream_model.specs.Opening.{OpeningKey, HasHeader, Begins};
+ghost use Rattle.tink_io.specs.Faults.{Rose};
+ghost use Rattle.tink_streams.specs.Choosing.{IsOpenerOf};
+
+use crate::kept::Kept;
+use crate::opening::{Opener, open_front};
+use tink_io::{Failed, Source};
+use tink_segment_traits::SegmentDecrypter;
+
+/// A key that may have made a stream, under its associated data.
+pub trait OpensStreams<D: SegmentDecrypter> {
+    // its header, its sizes, and its segments under a header
+    ghost opening_key: { Self → OpeningKey };
+
+    // the bytes of its nonces
+    ghost nonce_of: { Self → ℕ };
+
+    /// The bytes of the header: a byte, a salt, and a prefix of seven bytes.
+    fn header_length(&self) -> usize
+        ensures is { result ≡ (opening_key self.now).header }
+        ensures long { 8 ≤ result };
+
+    /// The bytes of a segment.
+    fn segment_size(&self) -> u32
+        ensures is { result ≡ (opening_key self.now).size };
+
+    /// The bytes of the first segment, which with the header are no more than those of a segment.
+    fn first_segment_size(&self) -> u32
+        ensures is { result ≡ (opening_key self.now).first }
+        ensures long { (opening_key self.now).overhead < result }
+        ensures fits { (opening_key self.now).header + result ≤ (opening_key self.now).size };
+
+    /// The bytes of a nonce.
+    fn nonce_size(&self) -> usize
+        ensures is { result ≡ nonce_of self.now }
+        ensures long { 12 ≤ result };
+
+    /// How segments under a header are opened, where keys are derived from it.
+    fn derive(&self, header: &[u8]) -> Option<D>
+        requires { length header.now ≡ (opening_key self.now).header }
+        ensures some { IfSome result (λ d. (opening_key self.now).seg header.now
+            ≡ Some (numbered (D.seg d) (nonce_of self.now) (drop ((opening_key self.now).header - 7) header.now))) }
+        ensures none { IsNone result → (opening_key self.now).seg header.now ≡ None }
+        ensures nonce { IfSome result (λ d. D.nonce_length d ≡ nonce_of self.now) }
+        ensures overhead { IfSome result (λ d. D.overhead_of d ≡ (opening_key self.now).overhead) };
+}
+
+/// How a stream is opened that begins under a key, and the bytes of its header.
+#[derive(Drop)]
+pub struct Begun<D: SegmentDecrypter> {
+    pub opener: Opener<D>,
+    pub header: usize,
+}
+
+// How the key's stream under a header is opened, or the memory of its prefix again.
+fn opener_under<D: SegmentDecrypter + Drop, T: OpensStreams<D>>(
+    key: &T,
+    header: &[u8],
+    mut prefix: Vec<u8>,
+) -> Result<Opener<D>, Vec<u8>>
+    requires header { length header.now ≡ (T.opening_key key.now).header }
+    requires long { 8 ≤ length header.now }
+    requires prefix { 7 ≤ vec_capacity prefix }
+    ensures map { IfOk result (λ o. (T.opening_key key.now).seg header.now
+        ≡ Some (numbered (D.seg o.decrypter) o.nonce_size o.prefix.items)) }
+    ensures first { IfOk result (λ o. o.first ≡ (T.opening_key key.now).first) }
+    ensures size { IfOk result (λ o. o.size ≡ (T.opening_key key.now).size) }
+    ensures overhead { IfOk result (λ o. o.overhead ≡ (T.opening_key key.now).overhead) }
+    ensures nonce { IfOk result (λ o. o.nonce_size ≡ T.nonce_of key.now) }
+    ensures prefix_room { IfOk result (λ o. 7 ≤ vec_capacity o.prefix) }
+    ensures none { IfErr result (λ _. (T.opening_key key.now).seg header.now ≡ None) }
+    ensures room { IfErr result (λ p. 7 ≤ vec_capacity p) }
+{
+    let Some(decrypter) = key.derive(header) else {
+        return Err(prefix);
+    };
+    prefix.clear();
+    match prefix.extend_from_slice(&header[header.len() - 7..]) {
+        Ok(()) => {}
+        Err(_) => unreachable!(),
+    }
+    let overhead = decrypter.overhead();
+    Ok(Opener {
+        decrypter,
+        prefix,
+        nonce_size: key.nonce_size(),
+        overhead,
+        first: key.first_segment_size() as usize,
+        size: key.segment_size() as usize,
+    })
+}
+
+// How a stream that begins in `held` is opened, if it begins in a header of the key from which keys are derived;
+// else the memory of its prefix again.
+fn header_opener<D: SegmentDecrypter + Drop, T: OpensStreams<D>>(
+    key: &T,
+    held: &[u8],
+    prefix: Vec<u8>,
+) -> Result<Opener<D>, Vec<u8>>
+    requires prefix { 7 ≤ vec_capacity prefix }
+    ensures header { IfOk result (λ o. HasHeader (T.opening_key key.now) held.now) }
+    ensures map { IfOk result (λ o. (T.opening_key key.now).seg (take (T.opening_key key.now).header held.now)
+        ≡ Some (numbered (D.seg o.decrypter) o.nonce_size o.prefix.items)) }
+    ensures first { IfOk result (λ o. o.first ≡ (T.opening_key key.now).first) }
+    ensures size { IfOk result (λ o. o.size ≡ (T.opening_key key.now).size) }
+    ensures overhead { IfOk result (λ o. o.overhead ≡ (T.opening_key key.now).overhead) }
+    ensures nonce { IfOk result (λ o. o.nonce_size ≡ T.nonce_of key.now) }
+    ensures prefix_room { IfOk result (λ o. 7 ≤ vec_capacity o.prefix) }
+    ensures none { IfErr result (λ _. HasHeader (T.opening_key key.now) held.now
+        → (T.opening_key key.now).seg (take (T.opening_key key.now).header held.now) ≡ None) }
+    ensures room { IfErr result (λ p. 7 ≤ vec_capacity p) }
+{
+    let h = key.header_length();
+    if held.len() < h {
+        return Err(prefix);
+    }
+    if usize::from(held[0]) != h {
+        return Err(prefix);
+    }
+    opener_under(key, &held[..h], prefix)
+}
+
+/// How the stream of a source is opened, if it begins in a header of the key and in the segment of some text;
+/// else the memory of its prefix again. No more is read than tells it.
+///
+/// # Errors
+/// Failed where the source failed.
+pub fn try_key<S: Source, D: SegmentDecrypter + Drop, T: OpensStreams<D>>(
+    key: &T,
+    kept: &mut Kept,
+    source: &mut S,
+    prefix: Vec<u8>,
+    nonce: &mut Vec<u8>,
+    opened: &mut Vec<u8>,
+) -> Result<Result<Begun<D>, Vec<u8>>, Failed>
+    requires buffer { (T.opening_key key.now).size < vec_len kept.old.buffer }
+    requires room { (T.opening_key key.now).size ≤ vec_capacity opened.old }
+    requires nonce { T.nonce_of key.now ≤ vec_len nonce.old }
+    requires prefix { 7 ≤ vec_capacity prefix }
+    ensures found { IfOk result (λ r. IfOk r (λ b. IfSome (prepend_known (take kept.old.filled kept.old.buffer.items) (S.left source.old)) (λ X.
+        Begins (T.opening_key key.now) X × IsOpenerOf (T.opening_key key.now) X
+        (numbered (D.seg b.opener.decrypter) b.opener.nonce_size b.opener.prefix.items) b.header b.opener.first b.opener.size b.opener.overhead))) }
+    ensures none { IfOk result (λ r. IfErr r (λ _. IfSome (prepend_known (take kept.old.filled kept.old.buffer.items) (S.left source.old)) (λ X.
+        Begins (T.opening_key key.now) X → ⊥))) }
+    ensures rest { OnOk result (Keeps (prepend_known (take kept.old.filled kept.old.buffer.items) (S.left source.old))
+        (prepend_known (take kept.new.filled kept.new.buffer.items) (S.left source.new))) }
+    ensures most { OnOk result (kept.new.filled ≤ max kept.old.filled ((T.opening_key key.now).header + (T.opening_key key.now).first + 1)) }
+    ensures header { IfOk result (λ r. IfOk r (λ b. b.header ≤ kept.new.filled)) }
+    ensures size { IfOk result (λ r. IfOk r (λ b. b.opener.size ≡ (T.opening_key key.now).size)) }
+    ensures nonce { IfOk result (λ r. IfOk r (λ b. b.opener.nonce_size ≡ T.nonce_of key.now)) }
+    ensures prefix_room { IfOk result (λ r. IfErr r (λ p. 7 ≤ vec_capacity p)) }
+    ensures len { vec_len kept.new.buffer ≡ vec_len kept.old.buffer }
+    ensures nonce_len { vec_len nonce.new ≡ vec_len nonce.old }
+    ensures capacity { vec_capacity opened.old ≤ vec_capacity opened.new }
+    ensures later { S.faults source.old ≤ S.faults source.new }
+    ensures rose { OnErr result (Rose (S.faults source.old) (S.faults source.new)) }
+    ensures same { S.same source.old source.new }
+{
+    let h = key.header_length();
+    let _ = key.first_segment_size();
+    kept.keep(source, h)?;
+    let opener = match header_opener(key, &kept.buffer[..kept.filled], prefix) {
+        Ok(opener) => opener,
+        Err(memory) => return Ok(Err(memory)),
+    };
+    kept.keep(source, h + opener.first)?;
+    if open_front(&opener, 0, &kept.buffer[h..kept.filled], nonce, opened) {
+        Ok(Ok(Begun { opener, header: h }))
+    } else {
+        Ok(Err(opener.prefix))
+    }
+}

@@ -1,0 +1,36 @@
+ghost use Rattle.std.specs.Prelude.{◌≡◌, take};
+ghost use Rattle.std.specs.Io.KnownBytes.{prepend_known};
+ghost use Rattle.stream_model.specs.Cut.{numbered};
+ghost use Rattle.tink_streams.specs.declared.progress.Progress.TheVariants.{Running};
+ghost use Rattle.tink_streams.specs.Whole.{AllMeans, Faults};
+
+use crate::progress::Progress;
+use crate::reading::SegmentReader;
+use tink_io::{Sink, Source, TinkError, write_all};
+use tink_segment_traits::SegmentDecrypter;
+
+/// Opens all segments, and writes the text of each.
+///
+/// # Errors
+/// Those of `open_next`, and WriteFault where the sink failed.
+pub fn open_rest<S: Source, K: Sink, D: SegmentDecrypter + Drop>(
+    reader: &mut SegmentReader<D>,
+    source: &mut S,
+    sink: &mut K,
+) -> Result<(), TinkError>
+    requires running { reader.old.progress ≡ Running }
+    requires first { reader.old.segments ≡ 0 }
+    ensures answer { AllMeans (numbered (D.seg reader.old.opener.decrypter) reader.old.opener.nonce_size reader.old.opener.prefix.items)
+        reader.old.opener.first reader.old.opener.size reader.old.opener.overhead
+        (prepend_known (take reader.old.filled reader.old.buffer.items) (S.left source.old)) (K.got sink.old) (K.got sink.new)
+        (record { read_before = S.faults source.old; read_after = S.faults source.new; write_before = K.faults sink.old; write_after = K.faults sink.new })
+        result }
+    ensures source { S.same source.old source.new }
+    ensures sink { K.same sink.old sink.new }
+{
+    while reader.progress() == Progress::Running {
+        reader.open_next(source)?;
+        write_all(sink, reader.opened())?;
+    }
+    Ok(())
+}
