@@ -1,0 +1,139 @@
+//! Segments by AES-GCM that Python made, and segments of either kind.
+
+ghost use Rattle.std.specs.Prelude.{◌≡◌};
+ghost use Rattle.tink_segments.specs.SegmentKeys.{overhead_under};
+
+use crate::comparing::{expect, expect_bytes};
+use hash_keys::Hash;
+use std::process::Abort;
+use std::test::Fail;
+use tink_io::{Kind, TinkError};
+use tink_segment_traits::{SegmentDecrypter, SegmentEncrypter};
+use tink_segments::{CtrHmacSegment, GcmSegment, StreamSegment};
+
+const TEXT: &[u8; 38] = b"a text of more than two blocks, by ten";
+
+const NONCE: [u8; 12] = [1, 2, 3, 4, 5, 6, 7, 8, 9, 10, 11, 12];
+
+const SMALL_KEY: [u8; 16] = [0, 1, 2, 3, 4, 5, 6, 7, 8, 9, 10, 11, 12, 13, 14, 15];
+
+const LARGE_KEY: [u8; 32] = [
+    0, 1, 2, 3, 4, 5, 6, 7, 8, 9, 10, 11, 12, 13, 14, 15, 16, 17, 18, 19, 20, 21, 22, 23, 24, 25,
+    26, 27, 28, 29, 30, 31,
+];
+
+// The text's segment under the small key, and under the large one.
+const SMALL: [u8; 54] =
+    *b"\x67\x25\x1c\x43\x4b\x81\x7f\xaa\x5e\x7c\x60\x2a\xdf\xbd\x4d\x41\xa9\xaa\x89\x7d\x9a\xd6\x83\x4c\x3f\xc9\x54\x34\x8f\xfa\x40\x7c\xa7\x1e\xb1\x33\x08\xfd\x35\xaa\x32\xc7\x55\x3d\x9e\x2b\x69\x33\x9a\x20\x28\xb9\x18\x02";
+
+const LARGE: [u8; 54] =
+    *b"\x64\xca\x2e\xb0\x94\xe0\xd0\xe9\x2a\x82\x0e\x28\x62\x76\xca\x5c\x2a\x22\x8f\xde\xe3\x1a\x3f\xe5\xc3\x33\x96\x47\xf5\xc5\x5a\xe5\xe6\x9d\xbb\xab\x0b\xdb\x6d\x06\xb4\x6f\xd9\xe9\x97\xc7\xe0\x45\x19\xb1\xb0\xeb\x08\x99";
+
+// The empty text's segment under the small key.
+const EMPTY: [u8; 16] = *b"\x93\xe3\xcc\x75\x25\x12\x1b\x93\x4e\xf6\x08\xc1\x53\x7c\x11\x59";
+
+// The text's segment under a key, both ways.
+fn goes_both_ways(rt: &impl Abort, key: GcmSegment, want: &[u8; 54]) {
+    let mut segment = [0u8; 54];
+    key.encrypt_segment_into(TEXT, &NONCE, &mut segment);
+    expect_bytes(rt, &segment, want, "the segment");
+    let mut text = [0u8; 38];
+    let told = key.decrypt_segment_into(want, &NONCE, &mut text);
+    expect(rt, told, Ok(()), "the answer");
+    expect_bytes(rt, &text, TEXT, "the text");
+}
+
+#[test]
+fn keys_of_two_sizes_make_the_segments(rt: HostRuntime) {
+    goes_both_ways(&rt, GcmSegment::new(&SMALL_KEY), &SMALL);
+    goes_both_ways(&rt, GcmSegment::new(&LARGE_KEY), &LARGE);
+}
+
+#[test]
+fn the_empty_text_has_a_tag(rt: HostRuntime) {
+    let cipher = GcmSegment::new(&SMALL_KEY);
+    let mut segment = [0u8; 16];
+    cipher.encrypt_segment_into(&[], &NONCE, &mut segment);
+    expect_bytes(&rt, &segment, &EMPTY, "the segment");
+    let told = cipher.decrypt_segment_into(&EMPTY, &NONCE, &mut []);
+    expect(&rt, told, Ok(()), "the answer");
+}
+
+// A segment under a nonce that the large key refuses.
+fn expect_refusal(rt: &impl Abort, segment: &[u8; 54], nonce: &[u8; 12], label: &str) {
+    let mut out = [7u8; 38];
+    let told = GcmSegment::new(&LARGE_KEY).decrypt_segment_into(segment, nonce, &mut out);
+    expect(rt, told, Err(TinkError::new(Kind::DecryptFailed)), label);
+    expect_bytes(rt, &out, &[7; 38], label);
+}
+
+#[test]
+fn refuses_a_changed_byte_and_another_nonce(rt: HostRuntime) {
+    for place in [0usize, 37, 38, 53] {
+        let mut changed = LARGE;
+        changed[place] ^= 1;
+        expect_refusal(&rt, &changed, &NONCE, "a changed byte");
+    }
+    expect_refusal(&rt, &LARGE, &[1; 12], "another nonce");
+    expect_refusal(&rt, &SMALL, &NONCE, "the segment of another key");
+}
+
+#[test]
+fn refuses_15_bytes(rt: HostRuntime) {
+    let told = GcmSegment::new(&SMALL_KEY).decrypt_segment_into(&EMPTY[..15], &NONCE, &mut []);
+    assert_eq!(rt; told, Err(TinkError::new(Kind::DecryptFailed)));
+}
+
+#[test]
+fn segments_in_memory_of_their_own(rt: HostRuntime) -> Result<(), Fail> {
+    let alloc = rt.alloc();
+    let cipher = GcmSegment::new(&SMALL_KEY);
+    let segment = cipher.encrypt_segment(alloc, TEXT, &NONCE)?;
+    expect_bytes(&rt, segment.as_slice(), &SMALL, "the segment");
+    let text = cipher.decrypt_segment(alloc, &SMALL, &NONCE)?;
+    expect_bytes(&rt, text.as_slice(), TEXT, "the text");
+    Ok(())
+}
+
+#[test]
+fn the_kind_of_gcm_is_that_cipher(rt: HostRuntime) -> Result<(), Fail> {
+    let alloc = rt.alloc();
+    let cipher = StreamSegment::Gcm(GcmSegment::new(&LARGE_KEY));
+    expect(
+        &rt,
+        SegmentEncrypter::overhead(&cipher),
+        16,
+        "bytes that a segment has more",
+    );
+    expect(
+        &rt,
+        SegmentDecrypter::overhead(&cipher),
+        16,
+        "bytes that a text has less",
+    );
+    let segment = cipher.encrypt_segment(alloc, TEXT, &NONCE)?;
+    expect_bytes(&rt, segment.as_slice(), &LARGE, "the segment");
+    let text = cipher.decrypt_segment(alloc, &LARGE, &NONCE)?;
+    expect_bytes(&rt, text.as_slice(), TEXT, "the text");
+    Ok(())
+}
+
+// Segments in counter mode with tags of 12 bytes.
+fn ctr_hmac() -> CtrHmacSegment
+    ensures { overhead_under result ≡ 12 }
+{
+    CtrHmacSegment::new(&SMALL_KEY, &LARGE_KEY, Hash::Sha256, 12)
+}
+
+#[test]
+fn the_kind_of_counter_mode_is_that_cipher(rt: HostRuntime) -> Result<(), Fail> {
+    let alloc = rt.alloc();
+    let mut want = [0u8; 50];
+    ctr_hmac().encrypt_segment_into(TEXT, &SMALL_KEY, &mut want);
+    let cipher = StreamSegment::CtrHmac(ctr_hmac());
+    let segment = cipher.encrypt_segment(alloc, TEXT, &SMALL_KEY)?;
+    expect_bytes(&rt, segment.as_slice(), &want, "the segment");
+    let text = cipher.decrypt_segment(alloc, &want, &SMALL_KEY)?;
+    expect_bytes(&rt, text.as_slice(), TEXT, "the text");
+    Ok(())
+}

@@ -1,0 +1,107 @@
+//! A writer and a reader of segments by AES-GCM as the kind of either cipher.
+
+ghost use Rattle.std.specs.Prelude.{◌≡◌, [], IfOk, vec_len, vec_capacity};
+
+use crate::comparing::expect_bytes;
+use std::alloc::Global;
+use std::test::Fail;
+use tink_io::{SureSink, SureSource, TinkError};
+use tink_segments::{GcmSegment, StreamSegment};
+use tink_streams::{Buffers, Opener, Sealer, SegmentReader, SegmentWriter, open_rest};
+
+const TEXT: &[u8; 38] = b"a text of more than two blocks, by ten";
+
+const PREFIX: [u8; 7] = [1, 2, 3, 4, 5, 6, 7];
+
+const KEY: [u8; 32] = [
+    0, 1, 2, 3, 4, 5, 6, 7, 8, 9, 10, 11, 12, 13, 14, 15, 16, 17, 18, 19, 20, 21, 22, 23, 24, 25,
+    26, 27, 28, 29, 30, 31,
+];
+
+// The text's segments of 16, 20 and 2 bytes under this key and prefix.
+const STREAM: &[u8; 86] =
+    b"\x77\x7b\xb5\xc8\xdb\x71\x65\xf1\x66\xf1\xea\xc5\xb6\x85\xf6\xed\x9d\xe6\x78\xdf\x2a\x31\xab\x63\x74\x49\x66\x39\x0f\x5b\x49\xed\x2a\x7b\x8c\x23\x67\xc0\xea\xbd\xcd\x81\x06\x8f\x10\xf2\x6a\xbf\x1b\xcd\x1f\x4f\x25\xd3\x7e\x31\x09\x43\xb1\x0a\x87\x73\xf5\x37\xe1\x21\xda\x74\xbf\xc0\x5f\x4c\xa7\x23\xbc\x5d\x63\x04\x39\xc3\x1f\x9c\x94\x9d\x75\xe4";
+
+// How segments of 20 bytes of text are made, 16 in the first.
+fn sealer(prefix: Vec<u8>) -> Sealer<StreamSegment>
+    requires prefix { vec_len prefix ≡ 7 }
+    ensures room { result.room ≡ 20 }
+    ensures overhead { result.overhead ≡ 16 }
+    ensures nonce_size { result.nonce_size ≡ 12 }
+{
+    Sealer {
+        encrypter: StreamSegment::Gcm(GcmSegment::new(&KEY)),
+        prefix,
+        nonce_size: 12,
+        overhead: 16,
+        first: 16,
+        room: 20,
+    }
+}
+
+// How they are opened.
+fn opener(prefix: Vec<u8>) -> Opener<StreamSegment>
+    requires prefix { vec_len prefix ≡ 7 }
+    ensures size { result.size ≡ 36 }
+    ensures nonce_size { result.nonce_size ≡ 12 }
+{
+    Opener {
+        decrypter: StreamSegment::Gcm(GcmSegment::new(&KEY)),
+        prefix,
+        nonce_size: 12,
+        overhead: 16,
+        first: 32,
+        size: 36,
+    }
+}
+
+// A sink with room for so many bytes.
+fn sink(alloc: Global, n: usize) -> Result<SureSink, TinkError> {
+    let mut sink = SureSink::new(alloc);
+    sink.reserve(alloc, n)?;
+    Ok(sink)
+}
+
+// The memory of a writer or a reader, and the front of its nonces.
+fn memory(alloc: Global) -> Result<(Buffers, Vec<u8>), TinkError>
+    ensures text { IfOk result (λ m. (m.0.text.items ≡ []) × (vec_capacity m.0.text ≡ 37)) }
+    ensures sealed { IfOk result (λ m. vec_len m.0.sealed ≡ 37) }
+    ensures nonce { IfOk result (λ m. vec_len m.0.nonce ≡ 12) }
+    ensures prefix { IfOk result (λ m. vec_len m.1 ≡ 7) }
+{
+    let buffers = Buffers::reserve(alloc, 36, 12)?;
+    let prefix = PREFIX.to_vec(alloc)?;
+    Ok((buffers, prefix))
+}
+
+// The text's stream.
+fn sealed(alloc: Global) -> Result<SureSink, TinkError> {
+    let mut sink = sink(alloc, 86)?;
+    let (buffers, prefix) = memory(alloc)?;
+    let mut writer = SegmentWriter::made(sealer(prefix), buffers);
+    writer.write(&mut sink, TEXT)?;
+    writer.close(&mut sink)?;
+    Ok(sink)
+}
+
+#[test]
+fn a_writer_takes_either_kind(rt: HostRuntime) -> Result<(), Fail> {
+    expect_bytes(&rt, sealed(rt.alloc())?.bytes(), STREAM, "the stream");
+    Ok(())
+}
+
+// What the stream opens to.
+fn opened(alloc: Global) -> Result<SureSink, TinkError> {
+    let mut sink = sink(alloc, 38)?;
+    let mut source = SureSource::new(STREAM.to_vec(alloc)?);
+    let (buffers, prefix) = memory(alloc)?;
+    let mut reader = SegmentReader::made(opener(prefix), buffers, 0);
+    open_rest(&mut reader, &mut source, &mut sink)?;
+    Ok(sink)
+}
+
+#[test]
+fn a_reader_takes_either_kind(rt: HostRuntime) -> Result<(), Fail> {
+    expect_bytes(&rt, opened(rt.alloc())?.bytes(), TEXT, "the text");
+    Ok(())
+}

@@ -1,0 +1,14 @@
+//! Writers and readers of streams over memory that fails and moves few bytes, against streams that Python made, and
+//! callers whose contracts follow from theirs.
+#![tactic(auto)]
+
+#[cfg(test)]
+mod caller_tests;
+#[cfg(test)]
+mod comparing;
+#[cfg(test)]
+mod kind_tests;
+#[cfg(test)]
+mod reader_tests;
+#[cfg(test)]
+mod writer_tests;
