@@ -1,7 +1,4 @@
-pub mod DerivedKeys
 pub mod KeyFacts
-pub mod HeaderFacts
-pub mod NewWriterSteps
 pub mod StreamLaws
-pub mod NewReaderSteps
 pub mod DecryptSteps
+pub mod PrimaryWriters

@@ -6,7 +6,7 @@ use Rattle.std.proofs.KnownBytes.{Appends-trans}
 use Rattle.stream_model.specs.Cut.{sealed}
 use Rattle.stream_model.specs.Key.{StreamKey, first_room, front, keys_of, room, segment_at}
 use Rattle.stream_model.specs.Sealing.{prefix_of, salt_of, sealed_under, stream}
-use Rattle.tink_streaming_aead.specs.Encrypting.{IsNewStream}
+use Rattle.tink_stream_keys.specs.Encrypting.{IsNewStream}
 use Rattle.tink_streams.specs.Writing.{ClosedBy, Moment, Wrote}
 use Rattle.tink_streams.proofs.WritingFacts.{closed_whole}
 

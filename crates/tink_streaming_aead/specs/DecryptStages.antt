@@ -5,7 +5,7 @@ use Rattle.std.specs.Option.{ForSome}
 use Rattle.std.specs.Io.KnownBytes.{prepend_known}
 use Rattle.tink_streaming_aead.specs.DecryptReaders.{DecryptState}
 use Rattle.tink_streaming_aead.specs.DecryptReaders.DecryptState.{Chosen, Stopped, Unread}
-use Rattle.tink_streaming_aead.specs.StreamKinds.{key_of}
+use Rattle.tink_stream_keys.specs.StreamKinds.{key_of}
 use Rattle.tink_streaming_aead.specs.declared.decrypt_reader.Stage.{Stage}
 use Rattle.tink_streaming_aead.specs.declared.decrypt_reader.Stage.TheVariants as stage
 use Rattle.tink_streams.specs.declared.progress.Progress.TheVariants.{Ended}

@@ -1,10 +1,6 @@
-pub mod StreamingKeys
-pub mod StreamKinds
 pub mod KeyTypes
 pub mod KeyTypeLaws
 pub mod Templates
-pub mod Encrypting
-pub mod Decrypting
 pub mod DecryptReaders
 pub mod DecryptStages
 pub mod Wrapped

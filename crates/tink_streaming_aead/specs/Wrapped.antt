@@ -4,8 +4,8 @@ use Rattle.std.specs.BTreeMap.{BTreeMap}
 use Rattle.stream_model.specs.Key.{StreamKey}
 use Rattle.tink_sets.specs.Groups.{group_of}
 use Rattle.tink_sets.specs.declared.entry.TypedEntry.{TypedEntry}
-use Rattle.tink_streaming_aead.specs.StreamKinds.{key_of}
-use Rattle.tink_streaming_aead.specs.declared.stream_kind.StreamKind.{StreamKind}
+use Rattle.tink_stream_keys.specs.StreamKinds.{key_of}
+use Rattle.tink_stream_keys.specs.declared.stream_kind.StreamKind.{StreamKind}
 
 -- there is a primary entry, and this holds of its key
 abbrev pub ByPrimary : Option (TypedEntry StreamKind) → (StreamKey → Type 0) → Type 0

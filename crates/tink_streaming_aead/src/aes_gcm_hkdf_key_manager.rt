@@ -7,12 +7,11 @@ ghost use Rattle.tink_io.specs.declared.error.Kind.TheVariants.{InvalidKey};
 ghost use Rattle.tink_primitives.specs.declared.primitive.Primitive.TheVariants as sorts;
 ghost use Rattle.tink_key_types.specs.Manager.{made_if};
 ghost use Rattle.tink_key_types.specs.ManagerLaws.{made_if_told};
-ghost use Rattle.tink_streaming_aead.specs.declared.stream_kind.StreamKind.TheVariants as kinds;
+ghost use Rattle.tink_stream_keys.specs.declared.stream_kind.StreamKind.TheVariants as kinds;
 ghost use Rattle.tink_streaming_aead.specs.KeyTypes as keys;
 ghost use Rattle.tink_streaming_aead.specs.KeyTypeLaws.{made_or_invalid_told};
 
 use crate::key_sizes::{are_key_sizes, hash_numbered, type_of};
-use crate::subtle::AesGcmHkdf;
 use crate::{StreamKind, StreamKinds};
 use hash_keys::Hash;
 use std::alloc::Global;
@@ -22,6 +21,7 @@ use tink_key_types::{KeyType, SymmetricKeyManager};
 use tink_proto_keys::{
     AesGcmHkdfStreamingKey, AesGcmHkdfStreamingKeyFormat, AesGcmHkdfStreamingParams,
 };
+use tink_stream_keys::AesGcmHkdf;
 
 /// The version of keys of streams by AES-GCM.
 pub const AES_GCM_HKDF_KEY_VERSION: u32 = 0;

@@ -8,18 +8,17 @@ ghost use Rattle.stream_model.specs.Key.{nonce_size};
 ghost use Rattle.stream_model.specs.Opening.{opening_key};
 ghost use Rattle.tink_streaming_aead.specs.DecryptReaders.{DecryptMeans, FirstRefused, GivesFirst, IsUnread, cause_of, first_refusal, number_of, source_of};
 ghost use Rattle.tink_streaming_aead.specs.DecryptReaders.DecryptState.{Unread};
-ghost use Rattle.tink_streaming_aead.specs.StreamKinds.{key_of};
+ghost use Rattle.tink_stream_keys.specs.StreamKinds.{key_of};
 ghost use Rattle.tink_segments.specs.StreamSegments.{segment_by};
 ghost use Rattle.tink_streams.specs.TextReading.{Moment};
 ghost use Rattle.tink_streams.specs.declared.progress.Progress.TheVariants.{Ended};
 
-use crate::starting::{Trial, start};
-use crate::stream_kind::StreamKind;
 use std::marker::Model;
 use std::mem;
 use tink_io::{Cause, Kind, Source, TinkError};
 use tink_primitives::DecryptingRead;
 use tink_segments::StreamSegment;
+use tink_stream_keys::{StreamKind, Trial, start};
 use tink_streams::TextReader;
 
 // The keys of which one may open the stream, with its associated data and memory for the choice.

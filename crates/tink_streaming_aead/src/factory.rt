@@ -8,15 +8,11 @@ ghost use Rattle.tink_sets.specs.Groups.{group_of};
 ghost use Rattle.tink_keysets.specs.Built.{built_entries, GivesSet, HasEntries};
 ghost use Rattle.tink_factory.specs.Typing.{typed_entries};
 ghost use Rattle.tink_streaming_aead.specs.DecryptReaders.DecryptState.{Unread};
-ghost use Rattle.tink_streaming_aead.specs.Encrypting.{NewWriterMeans};
-ghost use Rattle.tink_streaming_aead.specs.StreamKinds.{key_of};
+ghost use Rattle.tink_stream_keys.specs.Encrypting.{NewWriterMeans};
+ghost use Rattle.tink_stream_keys.specs.StreamKinds.{key_of};
 ghost use Rattle.tink_streaming_aead.specs.Wrapped.{ByPrimary, raw_keys};
 
 use crate::decrypt_reader::{Choice, DecryptReader};
-use crate::encrypting::new_encrypting_writer;
-use crate::starting::Trial;
-use crate::stream_kind::StreamKind;
-use crate::stream_params::DerivesStreams;
 use std::alloc::Global;
 use tink_core::CloneIn;
 use tink_factory::typed_primitives;
@@ -27,6 +23,7 @@ use tink_registry::{KeyManager, Registry};
 use tink_segments::{AES_CTR_HMAC_NONCE_SIZE_IN_BYTES, StreamSegment};
 use tink_sets::sorts::StreamingAeads;
 use tink_sets::{TypedEntry, TypedPrimitiveSet};
+use tink_stream_keys::{DerivesStreams, StreamKind, Trial, new_encrypting_writer};
 use tink_streams::Writer;
 
 /// The streaming AEADs of a keyset as one: streams are made by the primary key, and opened by the first of the keys

@@ -8,7 +8,7 @@ ghost use Rattle.tink_streams.specs.TextReading.{Gave};
 ghost use Rattle.tink_streams.specs.TextReading as reading;
 ghost use Rattle.tink_streams.specs.Writing.{ClosedBy, Moment, Wrote};
 ghost use Rattle.tink_streaming_aead.specs.DecryptReaders.{GivesFirst};
-ghost use Rattle.tink_streaming_aead.specs.Encrypting.{IsNewStream};
+ghost use Rattle.tink_stream_keys.specs.Encrypting.{IsNewStream};
 
 /// A new writer that is given a text, however the text is cut into writes, and is closed has written exactly the stream of
 /// the text: the front under the first draws, and then a segment for each chunk, the last one marked.

@@ -8,9 +8,7 @@ pub use aes_ctr_hmac_key_manager::{
 pub use aes_gcm_hkdf_key_manager::{
     AES_GCM_HKDF_KEY_VERSION, AES_GCM_HKDF_TYPE_URL, AesGcmHkdfKeyManager, AesGcmHkdfKeys,
 };
-pub use choosing::choose;
 pub use decrypt_reader::DecryptReader;
-pub use encrypting::begin_stream;
 pub use factory::{WrappedStreamingAead, new};
 pub use key_templates::{
     aes128_ctr_hmac_sha256_segment_1mb_key_template,
@@ -21,9 +19,6 @@ pub use key_templates::{
 };
 pub use laws::{law_first_read, law_whole_stream};
 pub use registering::init;
-pub use starting::{Trial, start};
-pub use stream_kind::{StreamKind, StreamKinds};
-pub use stream_params::DerivesStreams;
 pub use tink_primitives::UPSTREAM_VERSION;
 pub use tink_segment_traits::{SegmentDecrypter, SegmentEncrypter, generate_segment_nonce};
 pub use tink_segments::{
@@ -31,6 +26,9 @@ pub use tink_segments::{
     AES_CTR_HMAC_NONCE_SIZE_IN_BYTES, AES_GCM_HKDF_NONCE_PREFIX_SIZE_IN_BYTES,
     AES_GCM_HKDF_NONCE_SIZE_IN_BYTES, AES_GCM_HKDF_TAG_SIZE_IN_BYTES, AesVariant, CtrHmacSegment,
     GcmSegment, StreamSegment, validate_aes_key_size,
+};
+pub use tink_stream_keys::{
+    DerivesStreams, StreamKind, StreamKinds, Trial, begin_stream, choose, start,
 };
 pub use tink_streams::{
     Begun, Buffers, Kept, Mode, Opener, Progress, Reader, ReaderParams, Sealer, SegmentReader,
@@ -40,18 +38,10 @@ pub use tink_streams::{
 
 mod aes_ctr_hmac_key_manager;
 mod aes_gcm_hkdf_key_manager;
-mod choosing;
 mod decrypt_reader;
-mod decrypting;
-mod encrypting;
 mod factory;
 mod key_sizes;
 mod key_templates;
-mod key_under;
 mod laws;
 mod registering;
-mod starting;
-mod stream_kind;
-mod stream_memory;
-mod stream_params;
 pub mod subtle;

@@ -1,14 +1,11 @@
 //! The keys of streams, and what streams are made of.
 
-mod aes_ctr_hmac;
-mod aes_gcm_hkdf;
 pub mod noncebased;
 
-pub use aes_ctr_hmac::AesCtrHmac;
-pub use aes_gcm_hkdf::AesGcmHkdf;
 pub use tink_segments::{
     AES_CTR_HMAC_KEY_SIZE_IN_BYTES, AES_CTR_HMAC_NONCE_PREFIX_SIZE_IN_BYTES,
     AES_CTR_HMAC_NONCE_SIZE_IN_BYTES, AES_GCM_HKDF_NONCE_PREFIX_SIZE_IN_BYTES,
     AES_GCM_HKDF_NONCE_SIZE_IN_BYTES, AES_GCM_HKDF_TAG_SIZE_IN_BYTES, AesVariant,
     validate_aes_key_size,
 };
+pub use tink_stream_keys::{AesCtrHmac, AesGcmHkdf};

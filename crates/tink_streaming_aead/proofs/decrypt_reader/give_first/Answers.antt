@@ -4,7 +4,7 @@ use Rattle.std.proofs.lemmas.Simd.{map-map}
 use Rattle.std.specs.Io.KnownBytes.{prepend_known}
 use Rattle.stream_model.specs.Cut.{numbered}
 use Rattle.stream_model.specs.Opening.{opening_key}
-use Rattle.tink_streaming_aead.specs.StreamKinds.{key_of}
+use Rattle.tink_stream_keys.specs.StreamKinds.{key_of}
 use Rattle.tink_segments.specs.StreamSegments.{segment_by}
 use Rattle.tink_streams.specs.TextReading.{Moment, ReadRefused}
 use Rattle.tink_streaming_aead.proofs.DecryptSteps.{first_refused, fresh_gives, fresh_refused, start_refused, unread}

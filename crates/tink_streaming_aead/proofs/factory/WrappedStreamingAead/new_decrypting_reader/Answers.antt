@@ -1,7 +1,7 @@
 use Rattle.std.proofs.Common.{◌≡◌, map, ap, ◌∙◌}
 use Rattle.std.proofs.lemmas.Simd.{map-map}
 use Rattle.tink_streaming_aead.specs.DecryptReaders.DecryptState.{Unread}
-use Rattle.tink_streaming_aead.specs.StreamKinds.{key_of}
+use Rattle.tink_stream_keys.specs.StreamKinds.{key_of}
 use Rattle.tink_streaming_aead.specs.Wrapped.{raw_keys}
 use Rattle.tink_streaming_aead.proofs.factory.WrappedStreamingAead.new_decrypting_reader.Goals as goal
 

@@ -1,4 +1,4 @@
-use Rattle.tink_streaming_aead.proofs.NewWriterSteps.{primary_end}
+use Rattle.tink_streaming_aead.proofs.PrimaryWriters.{primary_end}
 use Rattle.tink_streaming_aead.proofs.factory.WrappedStreamingAeadStreamingAead.new_encrypting_writer.Goals as goal
 
 pub returns-clause-ends : goal.returns-clause-ends

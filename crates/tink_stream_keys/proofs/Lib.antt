@@ -1,0 +1,4 @@
+pub mod DerivedKeys
+pub mod HeaderFacts
+pub mod NewWriterSteps
+pub mod NewReaderSteps

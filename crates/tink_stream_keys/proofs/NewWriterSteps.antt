@@ -1,0 +1,103 @@
+-- From the steps of a new writer to its answer.
+use Rattle.std.proofs.Common.{◌≡◌, ◌⊎◌, inl, inr, ◌+◌, ℕ, List, [], ◌∷◌, ◌++◌, length, take, drop, refl, sym, ap, subst, ◌∙◌, Some, None, get_or}
+use Rattle.std.specs.Prelude.{Result, Ok, Err}
+use Rattle.std.proofs.lemmas.List.{take-append-drop}
+use Rattle.std.specs.declared.option.Option.{Option}
+use Rattle.std.specs.Io.KnownBytes.{Appends}
+use Rattle.hash_keys.specs.declared.Hash.{Hash}
+use Rattle.hash_keys.specs.declared.Hash.TheVariants.{Sha1, Sha224, Sha256, Sha384, Sha512}
+use Rattle.tink_io.specs.Faults.{Rose}
+use Rattle.tink_io.specs.Written.{AppendsFront}
+use Rattle.tink_io.specs.declared.error.Kind.{Kind}
+use Rattle.tink_io.specs.declared.error.Kind.TheVariants.{OutOfMemory, RandomFault, UnknownHash, UnsupportedHash, WriteFault}
+use Rattle.tink_primitives.specs.Meaning.{IsEndOf}
+use Rattle.tink_primitives.specs.declared.streams.Refused.{Refused}
+use Rattle.stream_model.specs.Key.{StreamKey, first_room, front, header_length, keys_of, nonce_size, room}
+use Rattle.stream_model.specs.Sealing.{drawn, prefix_of, salt_of}
+use Rattle.tink_segments.specs.declared.stream_segment.StreamSegment.{StreamSegment}
+use Rattle.tink_streams.specs.declared.writing.Mode.TheVariants.{Open}
+use Rattle.tink_stream_keys.specs.Encrypting.{DrewHeader, IsNewStream, NewWriterMeans, NewWriterRefused, WroteFrontPart}
+use Rattle.tink_segments.specs.StreamSegments.{segment_by}
+use Rattle.tink_stream_keys.specs.StreamingKeys.{IsDerived, deriving_hash}
+use Rattle.tink_streams.specs.Writers.{WriterState}
+use Rattle.tink_streams.specs.Writing.{Moment}
+use Rattle.tink_stream_keys.proofs.HeaderFacts.{drawn_header, header_front, seg_is}
+use Rattle.stream_model.specs.Cut.{numbered}
+
+-- by which kinds a hash is refused
+pub hash_refusal : (h : Option Hash) (kind : Kind) → deriving_hash h ≡ Err kind → (kind ≡ UnknownHash) ⊎ (kind ≡ UnsupportedHash)
+hash_refusal None kind e = inl (cc)
+hash_refusal (Some Sha1) kind e = absurd (cc)
+hash_refusal (Some Sha224) kind e = inr (cc)
+hash_refusal (Some Sha256) kind e = absurd (cc)
+hash_refusal (Some Sha384) kind e = absurd (cc)
+hash_refusal (Some Sha512) kind e = absurd (cc)
+
+-- the hash is refused
+pub hash_refused : {W : Type 0} (got : W → Option (List ℕ)) (faults : W → ℕ) (k : StreamKey) (aad draws left : List ℕ) (old : W) (kind : Kind) → DrewHeader k draws left → deriving_hash k.hkdf_hash ≡ Err kind
+    → NewWriterRefused got faults k aad draws left old old kind
+hash_refused got faults k aad draws left old kind drew e = elim (hash_refusal k.hkdf_hash kind e) [
+  | inl unknown ↦ subst (NewWriterRefused got faults k aad draws left old old) (sym unknown) (record { drew = drew; hash = subst (λ x. deriving_hash k.hkdf_hash ≡ Err x) unknown e; same = refl })
+  | inr unsupported ↦ subst (NewWriterRefused got faults k aad draws left old old) (sym unsupported) (record { drew = drew; hash = subst (λ x. deriving_hash k.hkdf_hash ≡ Err x) unsupported e; same = refl })
+]
+
+-- a header that was drawn, and the cipher that is derived under its salt
+module _ (k : StreamKey) (aad draws left h : List ℕ) (n m : ℕ) (cipher : StreamSegment) (drew : DrewHeader k draws left) (bare : k.out ≡ []) (size : n ≡ header_length k) (t : take n h ≡ header_length k ∷ take (drawn k) draws)
+    (salt : m ≡ k.derived) (d : IsDerived k aad (take m (drop 1 (take n h))) cipher) where
+  abbrev parts : (length (take n h) ≡ header_length k) × (get_or (take n h) 0 0 ≡ header_length k) × (take k.derived (drop 1 (take n h)) ≡ salt_of k draws) × (drop (k.derived + 1) (take n h) ≡ prefix_of k draws)
+  parts = drawn_header k draws h n size drew.enough t
+
+  -- its bytes are the front
+  front_is : take n h ≡ front k (salt_of k draws) (prefix_of k draws)
+  front_is = header_front k (take n h) bare parts.0 parts.1 ∙ ap (λ s. front k s (drop (k.derived + 1) (take n h))) parts.2 ∙ ap (front k (salt_of k draws)) parts.3
+
+  salt_is : take m (drop 1 (take n h)) ≡ salt_of k draws
+  salt_is = ap (λ x. take x (drop 1 (take n h))) salt ∙ parts.2
+
+  keys_are : keys_of k aad (salt_of k draws) ≡ Some d.keys
+  keys_are = subst (λ s. keys_of k aad s ≡ Some d.keys) salt_is d.keys_are
+
+  -- the sink failed
+  pub front_failed : {W : Type 0} (got : W → Option (List ℕ)) (faults : W → ℕ) (old new : W) → AppendsFront (got old) (got new) (take n h) → Rose (faults old) (faults new) → WroteFrontPart got faults k aad draws left old new
+  front_failed got faults old new w rose = record {
+    drew = drew;
+    keys = d.keys;
+    keys_are = keys_are;
+    begun = subst (AppendsFront (got old) (got new)) front_is w;
+    rose = rose;
+  }
+
+  -- the front was written
+  pub new_stream : (before : Option (List ℕ)) (encrypter : StreamSegment) (size : ℕ) (prefix : List ℕ) (a b : ℕ) (o : Moment) → encrypter ≡ cipher → size ≡ nonce_size k → prefix ≡ drop (k.derived + 1) (take n h) → a ≡ first_room k → b ≡ room k
+      → Appends before o.got (take n h) → o.mode ≡ Open → o.number ≡ 0 → o.held ≡ []
+      → IsNewStream k aad draws left before (numbered (segment_by encrypter) size prefix) a b o
+  new_stream before encrypter size prefix a b o e s p first later w mode number held = record {
+    drew = drew;
+    keys = d.keys;
+    keys_are = keys_are;
+    written = subst (Appends before o.got) front_is w;
+    segments = seg_is k aad (take m (drop 1 (take n h))) (prefix_of k draws) cipher encrypter size prefix d e s (p ∙ parts.3);
+    first_is = first;
+    later_is = later;
+    is_open = mode;
+    number = number;
+    held = held;
+  }
+
+-- ---- the draws that are left
+
+drew_end : (k : StreamKey) (draws left : List ℕ) → DrewHeader k draws left → IsEndOf left draws
+drew_end k draws left drew = (take (drawn k) draws, sym (take-append-drop (drawn k) draws) ∙ ap (λ xs. take (drawn k) draws ++ xs) (sym drew.rest))
+
+-- the draws that are left are an end of those that there were
+pub means_end : {W : Type 0} (got : W → Option (List ℕ)) (faults : W → ℕ) (k : StreamKey) (aad draws left : List ℕ) (sink : W) (r : Result (WriterState W StreamSegment) (Refused W)) → NewWriterMeans got faults k aad draws left sink r → IsEndOf left draws
+means_end got faults k aad draws left sink (Ok w) m = drew_end k draws left m.drew
+means_end got faults k aad draws left sink (Err refused) m = go refused.error.kind m
+  where
+    go : (kind : Kind) → NewWriterRefused got faults k aad draws left sink refused.inner kind → IsEndOf left draws
+    go OutOfMemory r = ([], sym r.undrawn)
+    go RandomFault r = ([], sym r.untouched.undrawn)
+    go UnknownHash r = drew_end k draws left r.drew
+    go UnsupportedHash r = drew_end k draws left r.drew
+    go WriteFault r = drew_end k draws left r.drew
+    go _ r = absurd r

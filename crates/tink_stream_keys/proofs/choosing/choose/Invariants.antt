@@ -1,0 +1,20 @@
+use Rattle.std.proofs.Common.{◌≡◌, ◌≤◌, take, IfSome, vec_len, vec_capacity}
+use Rattle.std.specs.Io.KnownBytes.{Keeps, prepend_known}
+use Rattle.stream_model.specs.Opening.{opening_key}
+use Rattle.tink_streams.proofs.ChoosingSteps.{GoesOn}
+use Rattle.tink_stream_keys.proofs.choosing.choose.Given as goal
+
+-- what is chosen of the rest of the keys is chosen
+abbrev pub invariant-loop-key : goal.invariant-loop-key
+invariant-loop-key g l =
+    let source = g.S.Source in
+    record {
+      len : vec_len l.kept.buffer ≡ vec_len l.fn.kept.buffer;
+      nonce_len : vec_len l.nonce ≡ vec_len l.fn.nonce;
+      capacity : vec_capacity l.fn.opened ≤ vec_capacity l.opened;
+      prefix_room : 7 ≤ vec_capacity l.prefix;
+      rest : Keeps (prepend_known (take l.fn.kept.filled l.fn.kept.buffer.items) (source.left l.fn.source)) (prepend_known (take l.kept.filled l.kept.buffer.items) (source.left l.source));
+      chosen : IfSome (prepend_known (take l.fn.kept.filled l.fn.kept.buffer.items) (source.left l.fn.source)) (GoesOn (λ k. opening_key l.fn.aad (g.T.DerivesStreams.key_of k)) l.keys l.key-index);
+      later : source.faults l.fn.source ≤ source.faults l.source;
+      same : source.same l.fn.source l.source;
+    }

@@ -1,0 +1,14 @@
+use Rattle.std.proofs.Common.{◌≤◌, ◌∙◌, take, length, arith}
+use Rattle.std.proofs.lemmas.List.{length-take}
+use Rattle.tink_streams.proofs.ChoosingSteps.{started}
+use Rattle.tink_stream_keys.proofs.starting.start.Goals as goal
+
+pub returns-in-Ok-Some-clause-started : goal.returns-in-Ok-Some-clause-started
+returns-in-Ok-Some-clause-started g c =
+    let begun = c.in-Ok-Some.field-0-0 in
+    let o = begun.opener in
+    let kept = c.choose.new.kept in
+    let fits : begun.header ≤ kept.filled = rw c.in-Ok-Some.field-0-is at c.in-Ok-Some.ensures.header in
+    let chosen = rw c.in-Ok-Some.field-0-is at c.in-Ok-Some.ensures.chosen in
+    let held : begun.header ≤ length (take kept.filled kept.buffer.items) = omega (arith, fits, kept.filled_in, kept.buffer.ok.0, length-take kept.filled kept.buffer.items) in
+    rw c.made.ensures.opener (started _ _ begun.header o.first o.size o.overhead _ _ (take kept.filled kept.buffer.items) _ chosen c.in-Ok-Some.ensures.rest held (c.made.ensures.held ∙ c.carry.ensures.bytes))

@@ -1,0 +1,69 @@
+-- What a new reader of one key's stream says, and what stands after a refusal of one.
+use Rattle.std.specs.Prelude.{◌≡◌, ◌⊎◌, ℕ, ◌<◌, Bool, List, [], length, slice_index, Some, Result, Ok, Err}
+use Rattle.std.specs.declared.option.Option.{Option}
+use Rattle.std.specs.Io.KnownBytes.{Consumes, IsAtEnd}
+use Rattle.tink_io.specs.Faults.{Rose}
+use Rattle.tink_io.specs.declared.error.Kind.{Kind}
+use Rattle.tink_io.specs.declared.error.Kind.TheVariants.{OutOfMemory, ReadFault, NoMatchingKey, UnknownHash, UnsupportedHash}
+use Rattle.tink_primitives.specs.declared.streams.Refused.{Refused}
+use Rattle.stream_model.specs.Key.{StreamKey, first_segment, header_length, overhead}
+use Rattle.stream_model.specs.Opening.{opening_key}
+use Rattle.tink_streams.specs.Readers.{ReaderState, moment_of, seg_of}
+use Rattle.tink_segments.specs.StreamSegments.{segment_by}
+use Rattle.tink_stream_keys.specs.StreamingKeys.{deriving_hash}
+use Rattle.tink_streams.specs.TextReading.{Moment}
+use Rattle.tink_streams.specs.declared.progress.Progress.TheVariants.{Running}
+use Rattle.tink_segments.specs.declared.stream_segment.StreamSegment.{StreamSegment}
+
+-- a header of the key was read
+pub record ReadsHeader (k : StreamKey) (old new : Option (List ℕ)) (header : List ℕ) : Type 0 where
+  pub long : length header ≡ header_length k
+  pub mark : slice_index header 0 ≡ header_length k
+  pub read : Consumes old new header
+
+-- A reader that has opened nothing and holds nothing opens the segments of the key under the header that was read, behind
+-- which the source stands.
+pub record IsNewReader (k : StreamKey) (aad : List ℕ) (before : Option (List ℕ)) (seg : ℕ → Bool → List ℕ → List ℕ) (first size over : ℕ) (held : List ℕ) (m : Moment) : Type 0 where
+  pub header : List ℕ
+  pub reads : ReadsHeader k before m.rest header
+  pub segments : (opening_key aad k).seg header ≡ Some seg
+  pub first_is : first ≡ first_segment k
+  pub size_is : size ≡ k.segment
+  pub overhead_is : over ≡ overhead k
+  pub running : m.progress ≡ Running
+  pub number : m.number ≡ 0
+  pub pending : m.pending ≡ []
+  pub none_held : held ≡ []
+
+-- what was read is shorter than a header and all there is, or has another mark in front
+pub record HasNoHeader (k : StreamKey) (old new : Option (List ℕ)) : Type 0 where
+  pub bytes : List ℕ
+  pub read : Consumes old new bytes
+  pub cause : ((length bytes < header_length k) × IsAtEnd new) ⊎ ((length bytes ≡ header_length k) × (slice_index bytes 0 ≡ header_length k → ⊥))
+
+-- a header was read, and the hash of HKDF is refused
+pub record DerivesNothing (k : StreamKey) (old new : Option (List ℕ)) (kind : Kind) : Type 0 where
+  pub header : List ℕ
+  pub reads : ReadsHeader k old new header
+  pub hash : deriving_hash k.hkdf_hash ≡ Err kind
+
+-- what is refused of a header
+abbrev pub HeaderRefused : StreamKey → Option (List ℕ) → Option (List ℕ) → ℕ → ℕ → Kind → Type 0
+HeaderRefused k old new before now ReadFault = Rose before now
+HeaderRefused k old new before now NoMatchingKey = HasNoHeader k old new
+HeaderRefused k old new before now _ = ⊥
+
+-- each refusal of a new reader
+abbrev pub NewReaderRefused : {R : Type 0} → (R → Option (List ℕ)) → (R → ℕ) → StreamKey → R → R → Kind → Type 0
+NewReaderRefused left faults k old new OutOfMemory = new ≡ old
+NewReaderRefused left faults k old new ReadFault = Rose (faults old) (faults new)
+NewReaderRefused left faults k old new NoMatchingKey = HasNoHeader k (left old) (left new)
+NewReaderRefused left faults k old new UnknownHash = DerivesNothing k (left old) (left new) UnknownHash
+NewReaderRefused left faults k old new UnsupportedHash = DerivesNothing k (left old) (left new) UnsupportedHash
+NewReaderRefused left faults k old new _ = ⊥
+
+-- what a call for a new reader of a source answers
+abbrev pub NewReaderMeans : {R : Type 0} → (R → Option (List ℕ)) → (R → ℕ) → StreamKey → List ℕ → R → Result (ReaderState R StreamSegment) (Refused R) → Type 0
+NewReaderMeans left faults k aad source (Ok r) =
+    IsNewReader k aad (left source) (seg_of segment_by r.opening) r.opening.first r.opening.size r.opening.overhead r.held (moment_of left faults r)
+NewReaderMeans left faults k aad source (Err refused) = NewReaderRefused left faults k source refused.inner refused.error.kind

@@ -1,0 +1,75 @@
+-- What a new writer of a key's stream says, and what stands after a refusal of one.
+use Rattle.std.specs.Prelude.{◌≡◌, ℕ, ◌<◌, ◌≤◌, Bool, List, [], length, drop, Some, Result, Ok, Err}
+use Rattle.std.specs.declared.option.Option.{Option}
+use Rattle.std.specs.Io.KnownBytes.{Appends}
+use Rattle.tink_io.specs.Faults.{Rose}
+use Rattle.tink_io.specs.Written.{AppendsFront}
+use Rattle.tink_io.specs.declared.error.Kind.{Kind}
+use Rattle.tink_io.specs.declared.error.Kind.TheVariants.{OutOfMemory, RandomFault, UnknownHash, UnsupportedHash, WriteFault}
+use Rattle.tink_primitives.specs.declared.streams.Refused.{Refused}
+use Rattle.stream_model.specs.Key.{StreamKey, first_room, front, keys_of, room, segment_at}
+use Rattle.stream_model.specs.Sealing.{drawn, prefix_of, salt_of}
+use Rattle.tink_segments.specs.StreamSegments.{segment_by}
+use Rattle.tink_stream_keys.specs.StreamingKeys.{deriving_hash}
+use Rattle.tink_streams.specs.Writers.{WriterState, moment_of, seg_of}
+use Rattle.tink_streams.specs.Writing.{Moment}
+use Rattle.tink_segments.specs.declared.stream_segment.StreamSegment.{StreamSegment}
+use Rattle.tink_streams.specs.declared.writing.Mode.TheVariants.{Open}
+
+-- salt and prefix were drawn
+pub record DrewHeader (k : StreamKey) (draws left : List ℕ) : Type 0 where
+  pub enough : drawn k ≤ length draws
+  pub rest : left ≡ drop (drawn k) draws
+
+-- Salt and prefix are the first draws. The front alone was written, behind what was there before, and a writer that has
+-- taken no text makes the segments of the key.
+pub record IsNewStream (k : StreamKey) (aad draws left : List ℕ) (before : Option (List ℕ)) (seg : ℕ → Bool → List ℕ → List ℕ) (first later : ℕ) (m : Moment) : Type 0 where
+  pub drew : DrewHeader k draws left
+  pub keys : List ℕ
+  pub keys_are : keys_of k aad (salt_of k draws) ≡ Some keys
+  pub written : Appends before m.got (front k (salt_of k draws) (prefix_of k draws))
+  pub segments : seg ≡ segment_at k keys (prefix_of k draws)
+  pub first_is : first ≡ first_room k
+  pub later_is : later ≡ room k
+  pub is_open : m.mode ≡ Open
+  pub number : m.number ≡ 0
+  pub held : m.held ≡ []
+
+module _ {W : Type 0} (got : W → Option (List ℕ)) (faults : W → ℕ) (k : StreamKey) (aad draws left : List ℕ) (old new : W) where
+  -- nothing was drawn or written
+  pub record IsUntouched : Type 0 where
+    pub undrawn : left ≡ draws
+    pub same : new ≡ old
+
+  -- fewer draws are left than a salt and a prefix take
+  pub record HasFewDraws : Type 0 where
+    pub few : length draws < drawn k
+    pub untouched : IsUntouched
+
+  -- the hash of HKDF is refused; the draws were taken, and nothing was written
+  pub record DerivesNothing (kind : Kind) : Type 0 where
+    pub drew : DrewHeader k draws left
+    pub hash : deriving_hash k.hkdf_hash ≡ Err kind
+    pub same : new ≡ old
+
+  -- the sink failed, and has a prefix of the front
+  pub record WroteFrontPart : Type 0 where
+    pub drew : DrewHeader k draws left
+    pub keys : List ℕ
+    pub keys_are : keys_of k aad (salt_of k draws) ≡ Some keys
+    pub begun : AppendsFront (got old) (got new) (front k (salt_of k draws) (prefix_of k draws))
+    pub rose : Rose (faults old) (faults new)
+
+  -- each refusal of a new writer
+  abbrev pub NewWriterRefused : Kind → Type 0
+  NewWriterRefused OutOfMemory = IsUntouched
+  NewWriterRefused RandomFault = HasFewDraws
+  NewWriterRefused UnknownHash = DerivesNothing UnknownHash
+  NewWriterRefused UnsupportedHash = DerivesNothing UnsupportedHash
+  NewWriterRefused WriteFault = WroteFrontPart
+  NewWriterRefused _ = ⊥
+
+-- what a call for a new writer into a sink answers
+abbrev pub NewWriterMeans : {W : Type 0} → (W → Option (List ℕ)) → (W → ℕ) → StreamKey → List ℕ → List ℕ → List ℕ → W → Result (WriterState W StreamSegment) (Refused W) → Type 0
+NewWriterMeans got faults k aad draws left sink (Ok w) = IsNewStream k aad draws left (got sink) (seg_of segment_by w.sealing) w.sealing.first w.sealing.room (moment_of got faults w)
+NewWriterMeans got faults k aad draws left sink (Err refused) = NewWriterRefused got faults k aad draws left sink refused.inner refused.error.kind

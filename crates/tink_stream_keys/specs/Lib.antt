@@ -1,0 +1,4 @@
+pub mod StreamingKeys
+pub mod StreamKinds
+pub mod Encrypting
+pub mod Decrypting

@@ -1,0 +1,21 @@
+//! Keys of streams: new writers and readers of a stream under a key, and the choice of a key.
+#![tactic(auto)]
+
+mod aes_ctr_hmac;
+mod aes_gcm_hkdf;
+mod choosing;
+mod decrypting;
+mod encrypting;
+mod key_under;
+mod starting;
+mod stream_kind;
+mod stream_memory;
+mod stream_params;
+
+pub use aes_ctr_hmac::AesCtrHmac;
+pub use aes_gcm_hkdf::AesGcmHkdf;
+pub use choosing::choose;
+pub use encrypting::{begin_stream, new_encrypting_writer};
+pub use starting::{Trial, start};
+pub use stream_kind::{StreamKind, StreamKinds};
+pub use stream_params::{DerivesStreams, SegmentParams, StreamParams};

@@ -1,0 +1,69 @@
+//! Keys of streams of either kind.
+
+use crate::aes_ctr_hmac::AesCtrHmac;
+use crate::aes_gcm_hkdf::AesGcmHkdf;
+use crate::stream_params::{DerivesStreams, StreamParams};
+use std::alloc::Global;
+use tink_core::{CloneIn, Kinds, Never};
+use tink_io::TinkError;
+
+/// A key of streams.
+#[derive(Drop)]
+pub enum StreamKind {
+    /// Segments in AES counter mode, with HMAC.
+    CtrHmac(AesCtrHmac),
+    /// Segments by AES-GCM.
+    GcmHkdf(AesGcmHkdf),
+}
+
+impl DerivesStreams for StreamKind {
+    ghost use Rattle.tink_stream_keys.specs.StreamKinds as kinds;
+
+    ghost key_of = { kinds.key_of };
+
+    fn main_key(&self) -> &[u8] {
+        match self {
+            StreamKind::CtrHmac(key) => key.main_key(),
+            StreamKind::GcmHkdf(key) => key.main_key(),
+        }
+    }
+
+    fn params(&self) -> &StreamParams {
+        match self {
+            StreamKind::CtrHmac(key) => key.params(),
+            StreamKind::GcmHkdf(key) => key.params(),
+        }
+    }
+}
+
+impl CloneIn for StreamKind {
+    fn try_clone(&self, alloc: Global) -> Result<Self, TinkError> {
+        match self {
+            StreamKind::CtrHmac(key) => Ok(StreamKind::CtrHmac(key.try_clone(alloc)?)),
+            StreamKind::GcmHkdf(key) => Ok(StreamKind::GcmHkdf(key.try_clone(alloc)?)),
+        }
+    }
+}
+
+/// The family whose one sort is streaming AEADs.
+pub struct StreamKinds;
+
+impl Kinds for StreamKinds {
+    type Aead = Never;
+
+    type DeterministicAead = Never;
+
+    type HybridDecrypt = Never;
+
+    type HybridEncrypt = Never;
+
+    type Mac = Never;
+
+    type Prf = Never;
+
+    type Signer = Never;
+
+    type StreamingAead = StreamKind;
+
+    type Verifier = Never;
+}
