@@ -112,15 +112,26 @@ fn a_key_is_made(rt: HostRuntime) -> Result<(), Fail> {
     Ok(())
 }
 
-#[test]
-fn a_key_is_built(rt: HostRuntime) -> Result<(), Fail> {
-    let alloc = rt.alloc();
+// The text abc, sealed by the primitive of new data.
+fn sealed_by_new(alloc: Global, draws: &mut Draws) -> Result<Bytes, TinkError> {
     let registry = registry_of(alloc, TestManager::new(URL))?;
-    let mut draws = draws_of(alloc, &[7; 17])?;
-    let kd = new_data(alloc, &mut draws)?;
-    let sealed = sealed_by(alloc, &registry, &kd, &mut draws)?;
-    expect(&rt, sealed.as_slice().len(), 20, "sealed");
-    let opened = opened_by(alloc, &registry, &[7; 16], sealed.as_slice())?;
+    let kd = new_data(alloc, draws)?;
+    sealed_by(alloc, &registry, &kd, draws)
+}
+
+#[test]
+fn data_builds(rt: HostRuntime) -> Result<(), Fail> {
+    let mut draws = draws_of(rt.alloc(), b"0123456789abcdefd")?;
+    let sealed = sealed_by_new(rt.alloc(), &mut draws)?;
+    expect_bytes(&rt, sealed.as_slice(), b"dabc0123456789abcdef", "sealed");
+    Ok(())
+}
+
+#[test]
+fn a_key_builds(rt: HostRuntime) -> Result<(), Fail> {
+    let registry = registry_of(rt.alloc(), TestManager::new(URL))?;
+    let sealed = b"dabc0123456789abcdef";
+    let opened = opened_by(rt.alloc(), &registry, b"0123456789abcdef", sealed)?;
     expect_bytes(&rt, opened.as_slice(), b"abc", "opened");
     Ok(())
 }

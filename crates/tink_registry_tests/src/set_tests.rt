@@ -192,21 +192,24 @@ fn entries_stand_in_the_order_of_adding(rt: HostRuntime) -> Result<(), Fail> {
     Ok(())
 }
 
+// The id of the entry that is added for an AEAD of the number.
+fn id_of_added(
+    alloc: Global,
+    set: &mut PrimitiveSet<TestKinds>,
+    number: u8,
+    key: &Key,
+) -> Result<KeyId, TinkError> {
+    added_id(alloc, set, aead(alloc, number)?, key)
+}
+
 #[test]
 fn an_added_entry_is_lent(rt: HostRuntime) -> Result<(), Fail> {
     let mut set = PrimitiveSet::new(rt.alloc());
     let raw = key_of(OutputPrefixType::Raw);
-    let added = added_number(rt.alloc(), &mut set, 5, &raw)?;
-    expect(&rt, added, Some(5), "its number");
-    Ok(())
-}
-
-#[test]
-fn an_added_entry_has_its_id(rt: HostRuntime) -> Result<(), Fail> {
-    let mut set = PrimitiveSet::new(rt.alloc());
-    let raw = key_of(OutputPrefixType::Raw);
-    let id = added_id(rt.alloc(), &mut set, aead(rt.alloc(), 6)?, &raw)?;
-    expect(&rt, id, 0x01020304, "its id");
+    let added = added_number(rt.alloc(), &mut set, 5, &raw);
+    expect(&rt, added, Ok(Some(5)), "its number");
+    let id = id_of_added(rt.alloc(), &mut set, 6, &raw);
+    expect(&rt, id, Ok(0x01020304), "its id");
     Ok(())
 }
 
@@ -334,17 +337,18 @@ fn set_of_a_primary(alloc: Global) -> Result<PrimitiveSet<TestKinds>, TinkError>
 }
 
 #[test]
+fn a_primary_of_the_sort_is_taken(rt: HostRuntime) -> Result<(), Fail> {
+    let set = set_of_a_primary(rt.alloc())?;
+    let typed = TypedPrimitiveSet::from_set_streaming_aead(rt.alloc(), set);
+    expect(&rt, kind_of(typed), None, "a streaming AEAD");
+    Ok(())
+}
+
+#[test]
 fn a_primary_of_another_sort_is_refused(rt: HostRuntime) -> Result<(), Fail> {
-    let alloc = rt.alloc();
-    let typed = TypedPrimitiveSet::from_set_streaming_aead(alloc, set_of_a_primary(alloc)?);
-    expect(&rt, kind_of(typed), None, "of its sort");
-    let refused = TypedPrimitiveSet::from_set_aead(alloc, set_of_a_primary(alloc)?);
-    expect(
-        &rt,
-        kind_of(refused),
-        Some(Kind::WrongPrimitive),
-        "of another",
-    );
+    let set = set_of_a_primary(rt.alloc())?;
+    let refused = TypedPrimitiveSet::from_set_aead(rt.alloc(), set);
+    expect(&rt, kind_of(refused), Some(Kind::WrongPrimitive), "no AEAD");
     Ok(())
 }
 
