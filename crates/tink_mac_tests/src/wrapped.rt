@@ -184,27 +184,26 @@ fn the_new_key_makes_another_mac(rt: HostRuntime) -> Result<(), Fail> {
     Ok(())
 }
 
-// What a copy of the MACs of a LEGACY key answers on its own MAC, and which one it makes.
-fn copy_answer(alloc: Global, macs: &WrappedMac<MacKind>) -> Result<Option<Kind>, TinkError> {
-    let mac = own_mac(alloc, OutputPrefixType::Legacy)?;
-    Ok(answer_on(alloc, &macs.try_clone(alloc)?, &mac))
+// A copy of the MACs of a LEGACY key.
+fn copy(alloc: Global) -> Result<WrappedMac<MacKind>, TinkError> {
+    macs_of(alloc, OutputPrefixType::Legacy)?.try_clone(alloc)
 }
 
-fn copy_makes(alloc: Global, macs: &WrappedMac<MacKind>) -> Result<Bytes, TinkError> {
-    mac_of(alloc, &macs.try_clone(alloc)?, b"abc")
+// What it answers on a MAC of `abc`, and which one it makes.
+fn copy_answer(alloc: Global, mac: &[u8]) -> Result<Option<Kind>, TinkError> {
+    Ok(answer_on(alloc, &copy(alloc)?, mac))
+}
+
+fn made_by_copy(alloc: Global) -> Result<Bytes, TinkError> {
+    mac_of(alloc, &copy(alloc)?, b"abc")
 }
 
 #[test]
 fn a_copy_does_the_same(rt: HostRuntime) -> Result<(), Fail> {
-    let macs = macs_of(rt.alloc(), OutputPrefixType::Legacy)?;
-    expect(&rt, copy_answer(rt.alloc(), &macs)?, None, "a MAC");
-    let made = copy_makes(rt.alloc(), &macs)?;
-    expect_bytes(
-        &rt,
-        made.as_slice(),
-        &own_mac(rt.alloc(), OutputPrefixType::Legacy)?,
-        "a MAC",
-    );
+    let own = own_mac(rt.alloc(), OutputPrefixType::Legacy)?;
+    expect(&rt, copy_answer(rt.alloc(), &own)?, None, "a copy's answer");
+    let made = made_by_copy(rt.alloc())?;
+    expect_bytes(&rt, made.as_slice(), &own, "a copy's MAC");
     Ok(())
 }
 

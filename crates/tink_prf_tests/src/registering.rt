@@ -1,6 +1,6 @@
 //! Templates, their registration and that of the managers, and constants.
 
-use crate::expecting::expect;
+use crate::expecting::{expect, expect_bytes};
 use std::alloc::Global;
 use std::test::Fail;
 use tink_core::registry::Registry;
@@ -24,7 +24,7 @@ fn constants_have_these_values(rt: HostRuntime) {
         (HKDF_PRF_TYPE_URL, hkdf),
         (AES_CMAC_PRF_TYPE_URL, aes_cmac),
     ] {
-        assert!(rt; got == want, "{want}");
+        expect_bytes(&rt, got.as_bytes(), want.as_bytes(), want);
     }
     assert!(rt; HMAC_PRF_KEY_VERSION == 0);
     assert!(rt; HKDF_PRF_KEY_VERSION == 0 && AES_CMAC_PRF_KEY_VERSION == 0);
@@ -83,7 +83,7 @@ fn has_template(
 fn managers_are_registered(rt: HostRuntime) -> Result<(), Fail> {
     let registry = registered(rt.alloc())?;
     for url in [HMAC_PRF_TYPE_URL, HKDF_PRF_TYPE_URL, AES_CMAC_PRF_TYPE_URL] {
-        assert!(rt; registry.get_key_manager(url).is_ok(), "{url}");
+        expect(&rt, registry.get_key_manager(url).is_ok(), true, url);
     }
     Ok(())
 }
@@ -98,7 +98,7 @@ fn templates_are_registered(rt: HostRuntime) -> Result<(), Fail> {
         ("AES_CMAC_PRF", AES_CMAC_PRF_TYPE_URL, AES_32),
     ];
     for (name, url, format) in templates {
-        assert!(rt; has_template(&registry, name, url, format), "{name}");
+        expect(&rt, has_template(&registry, name, url, format), true, name);
     }
     Ok(())
 }
