@@ -40,7 +40,7 @@ fn what_is_written_a_writer_takes(rt: HostRuntime) {
     expect_bytes(&rt, &room, b"abcde", "the bytes");
 }
 
-/// A reader and writer of one byte a call: so many calls are interrupted, then so many flushes, and then each answers by
+/// A reader and writer of one byte a call: so many calls and so many flushes are interrupted, and then each answers by
 /// `answer`.
 #[derive(Drop)]
 struct Flaky {

@@ -5,26 +5,27 @@ use std::alloc::Global;
 use std::test::Fail;
 use tink_io::{Cause, Kind, MemSink, SureSink, TinkError, write_all, write_line};
 
-// What a sink of two bytes a call has taken of six where that call fails, and whether all was written.
-fn written(alloc: Global, fails: u32) -> Result<(Vec<u8>, bool), TinkError> {
+// What a sink of two bytes a call has taken of six where that call fails, and the answer.
+fn written(alloc: Global, fails: u32) -> Result<(Vec<u8>, Result<(), TinkError>), TinkError> {
     let mut sink = MemSink::new(alloc, 2, Vec::from_slice(alloc, &[fails])?);
     sink.reserve(alloc, 6)?;
-    let is_written = write_all(&mut sink, b"abcdef").is_ok();
-    Ok((sink.into_bytes(), is_written))
+    let answer = write_all(&mut sink, b"abcdef");
+    Ok((sink.into_bytes(), answer))
 }
 
 #[test]
 fn all_is_written_unless_a_call_fails(rt: HostRuntime) -> Result<(), Fail> {
-    let rows: [(u32, &[u8], bool); 4] = [
-        (1, b"", false),
-        (2, b"ab", false),
-        (3, b"abcd", false),
-        (4, b"abcdef", true),
+    let fault = Err(TinkError::new(Kind::WriteFault));
+    let rows: [(u32, &[u8], Result<(), TinkError>); 4] = [
+        (1, b"", fault),
+        (2, b"ab", fault),
+        (3, b"abcd", fault),
+        (4, b"abcdef", Ok(())),
     ];
-    for (fails, front, whole) in rows {
-        let (bytes, is_written) = written(rt.alloc(), fails)?;
+    for (fails, front, want) in rows {
+        let (bytes, answer) = written(rt.alloc(), fails)?;
         expect_bytes(&rt, &bytes, front, "the bytes");
-        expect(&rt, is_written, whole, "the answer");
+        expect(&rt, answer, want, "the answer");
     }
     Ok(())
 }
