@@ -59,11 +59,11 @@ fn a_keyset_is_kept_in_memory(rt: HostRuntime) -> Result<(), Fail> {
 }
 
 // Whether it is the outside encryption of the keyset, beside its info.
-fn is_encrypted(alloc: Global, ends: MemReaderWriter) -> Result<bool, Fail> {
-    let Some(encrypted) = ends.encrypted_keyset else {
+fn is_encrypted(alloc: Global, ends: &MemReaderWriter) -> Result<bool, Fail> {
+    let Some(encrypted) = &ends.encrypted_keyset else {
         return Ok(false);
     };
-    let Some(info) = encrypted.keyset_info else {
+    let Some(info) = &encrypted.keyset_info else {
         return Ok(false);
     };
     let shown = info.encode(alloc)?.as_slice() == INFO;
@@ -73,7 +73,7 @@ fn is_encrypted(alloc: Global, ends: MemReaderWriter) -> Result<bool, Fail> {
 #[test]
 fn what_is_written_is_the_encryption_and_the_info(rt: HostRuntime) -> Result<(), Fail> {
     let alloc = rt.alloc();
-    assert!(rt; is_encrypted(alloc, in_memory(alloc)?)?);
+    assert!(rt; is_encrypted(alloc, &in_memory(alloc)?)?);
     Ok(())
 }
 
