@@ -1,0 +1,297 @@
+//! Damaged streams of three segments: each is refused by its kind, and what is read before is a front of the text.
+
+use crate::comparing::expect_bytes;
+use crate::streams::{MAIN, draws, source};
+use std::alloc::Global;
+use std::process::Abort;
+use std::test::Fail;
+use tink_io::{Kind, MemSink, MemSource, TinkError};
+use tink_proto::HashType;
+use tink_segments::StreamSegment;
+use tink_stream_keys::{AesCtrHmac, AesGcmHkdf, StreamKind};
+use tink_streams::{Reader, Writer};
+
+const TEXT: &[u8; 36] = b"thirty-six bytes in three segments..";
+
+// How many bytes of the text stand before each of the segments.
+const BEFORE: [usize; 3] = [0, 1, 26];
+
+// Where the header and each of the segments end in a stream, and the bytes of a tag.
+#[derive(Drop)]
+struct Layout {
+    ends: [usize; 4],
+    tag: usize,
+}
+
+const IN_COUNTER_MODE: Layout = Layout {
+    ends: [24, 35, 70, 90],
+    tag: 10,
+};
+
+const BY_GCM: Layout = Layout {
+    ends: [24, 41, 82, 108],
+    tag: 16,
+};
+
+// A key in counter mode, with segments of 35 bytes.
+fn counter_mode(alloc: Global) -> Result<StreamKind, TinkError> {
+    let sha = HashType::Sha256;
+    let key = AesCtrHmac::new(alloc, MAIN, sha, 16, sha, 10, 35, 0)?;
+    Ok(StreamKind::CtrHmac(key))
+}
+
+// A key by AES-GCM, with segments of 41 bytes.
+fn gcm(alloc: Global) -> Result<StreamKind, TinkError> {
+    let key = AesGcmHkdf::new(alloc, MAIN, HashType::Sha256, 16, 41, 0)?;
+    Ok(StreamKind::GcmHkdf(key))
+}
+
+// A writer of a stream of some draws.
+fn writer_of(
+    alloc: Global,
+    key: &StreamKind,
+    drawn: u8,
+) -> Result<Writer<MemSink, StreamSegment>, TinkError> {
+    let mut draws = draws(alloc, &[drawn; 23])?;
+    let mut sink = MemSink::new(alloc, 0, Vec::new(alloc));
+    sink.reserve(alloc, 200)?;
+    let made = match key {
+        StreamKind::CtrHmac(key) => key.new_encrypting_writer(alloc, &mut draws, sink, b"data"),
+        StreamKind::GcmHkdf(key) => key.new_encrypting_writer(alloc, &mut draws, sink, b"data"),
+    };
+    made.map_err(|refused| refused.error)
+}
+
+// The text's stream of some draws.
+fn sealed(alloc: Global, key: &StreamKind, drawn: u8) -> Result<Vec<u8>, TinkError> {
+    let mut writer = writer_of(alloc, key, drawn)?;
+    writer.write(TEXT)?;
+    writer.close()?;
+    Ok(writer.into_inner().into_bytes())
+}
+
+// A reader of a stream.
+fn reader_of(
+    alloc: Global,
+    key: &StreamKind,
+    stream: &[u8],
+) -> Result<Reader<MemSource, StreamSegment>, TinkError> {
+    let stream = source(alloc, stream, &[])?;
+    let made = match key {
+        StreamKind::CtrHmac(key) => key.new_decrypting_reader(alloc, stream, b"data"),
+        StreamKind::GcmHkdf(key) => key.new_decrypting_reader(alloc, stream, b"data"),
+    };
+    made.map_err(|refused| refused.error)
+}
+
+// What a stream opens to, and by what a read or the reader is refused.
+fn opened(
+    alloc: Global,
+    key: &StreamKind,
+    stream: &[u8],
+) -> Result<(Vec<u8>, Option<Kind>), TinkError> {
+    let mut text = Vec::new(alloc);
+    let mut reader = match reader_of(alloc, key, stream) {
+        Ok(reader) => reader,
+        Err(e) => return Ok((text, Some(e.kind))),
+    };
+    let mut buf = [0u8; 20];
+    for _ in 0..100 {
+        match reader.read(&mut buf) {
+            Ok(0) => return Ok((text, None)),
+            Ok(n) => text.extend_from_slice(&buf[..n])?,
+            Err(e) => return Ok((text, Some(e.kind))),
+        }
+    }
+    Ok((text, None))
+}
+
+// The first place where two streams differ, or where one of them ends.
+fn first_difference(a: &[u8], b: &[u8]) -> usize {
+    for (place, (x, y)) in a.iter().zip(b.iter()).enumerate() {
+        if x != y {
+            return place;
+        }
+    }
+    a.len().min(b.len())
+}
+
+// The number of the segment in which a place lies, and where that segment begins. The header is taken for the first one.
+fn segment_at(ends: &[usize; 4], place: usize) -> (u32, usize) {
+    if place < ends[1] {
+        (0, ends[0])
+    } else if place < ends[2] {
+        (1, ends[1])
+    } else {
+        (2, ends[2])
+    }
+}
+
+// By what a damaged stream is to be refused: by the first segment that is damaged or missing, or by that at whose end a
+// stream was cut.
+fn wanted_kind(layout: &Layout, stream: &[u8], damaged: &[u8]) -> (Kind, u32) {
+    let place = first_difference(stream, damaged);
+    if place == 0 || damaged.len() < layout.ends[0] {
+        return (Kind::NoMatchingKey, 0);
+    }
+    let seen = if place == damaged.len() {
+        place - 1
+    } else {
+        place
+    };
+    let (number, begin) = segment_at(&layout.ends, seen);
+    if damaged.len().saturating_sub(begin) < layout.tag {
+        (Kind::Truncated(number), number)
+    } else {
+        (Kind::BadSegment(number), number)
+    }
+}
+
+// A key with the layout of its streams, and two of its streams.
+#[derive(Drop)]
+struct Sample {
+    key: StreamKind,
+    layout: Layout,
+    stream: Vec<u8>,
+    other: Vec<u8>,
+}
+
+fn sample_of(alloc: Global, key: StreamKind, layout: Layout) -> Result<Sample, TinkError> {
+    let stream = sealed(alloc, &key, 7)?;
+    let other = sealed(alloc, &key, 8)?;
+    Ok(Sample {
+        key,
+        layout,
+        stream,
+        other,
+    })
+}
+
+// A damaged stream is refused by its kind, behind the text of the segments before.
+fn expect_refused(
+    rt: &impl Abort,
+    alloc: Global,
+    sample: &Sample,
+    damaged: &[u8],
+) -> Result<(), TinkError> {
+    let (kind, number) = wanted_kind(&sample.layout, &sample.stream, damaged);
+    let (text, refused) = opened(alloc, &sample.key, damaged)?;
+    assert_eq!(rt; refused, Some(kind));
+    let before = BEFORE.get(number as usize).copied().unwrap_or(0);
+    expect_bytes(rt, &text, &TEXT[..before.min(36)], "the text before");
+    Ok(())
+}
+
+// The stream itself opens to the text, and has the length of its layout.
+fn expect_whole(rt: &impl Abort, alloc: Global, sample: &Sample) -> Result<(), TinkError> {
+    let (text, refused) = opened(alloc, &sample.key, &sample.stream)?;
+    expect_bytes(rt, &text, TEXT, "the text");
+    assert!(rt; refused.is_none() && sample.stream.len() == sample.layout.ends[3]);
+    Ok(())
+}
+
+// The stream with any bit exchanged.
+fn expect_no_flip(rt: &impl Abort, alloc: Global, sample: &Sample) -> Result<(), TinkError> {
+    let mut damaged = sample.stream.to_vec(alloc)?;
+    for place in 0..damaged.len() {
+        for bit in [1u8, 2, 4, 8, 16, 32, 64, 128] {
+            flip(&mut damaged, place, bit);
+            expect_refused(rt, alloc, sample, &damaged)?;
+            flip(&mut damaged, place, bit);
+        }
+    }
+    Ok(())
+}
+
+fn flip(bytes: &mut [u8], place: usize, bit: u8) {
+    if let Some(byte) = bytes.get_mut(place) {
+        *byte ^= bit;
+    }
+}
+
+// The stream cut at any length.
+fn expect_no_cut(rt: &impl Abort, alloc: Global, sample: &Sample) -> Result<(), TinkError> {
+    for n in 0..sample.stream.len() {
+        expect_refused(rt, alloc, sample, &sample.stream[..n])?;
+    }
+    Ok(())
+}
+
+// Numbers of parts: 0 is the header and 1 to 3 are the segments of the stream, 4 to 7 those of the other one. In turn a part
+// is repeated, exchanged with another and dropped, and the two streams are joined.
+const ORDERS: [&[usize]; 21] = [
+    &[0, 0, 1, 2, 3],
+    &[0, 1, 1, 2, 3],
+    &[0, 1, 2, 2, 3],
+    &[0, 1, 2, 3, 3],
+    &[1, 0, 2, 3],
+    &[0, 2, 1, 3],
+    &[0, 3, 2, 1],
+    &[0, 1, 3, 2],
+    &[1, 2, 3],
+    &[0, 2, 3],
+    &[0, 1, 3],
+    &[0, 1, 2],
+    &[0, 1, 2, 3, 4, 5, 6, 7],
+    &[0, 1, 2, 3, 5, 6, 7],
+    &[0, 1, 2, 6, 7],
+    &[0, 1, 2, 7],
+    &[0, 1, 6, 3],
+    &[0, 1, 6, 7],
+    &[0, 5, 2, 3],
+    &[0, 5, 6, 7],
+    &[4, 1, 2, 3],
+];
+
+// A part of one of the two streams.
+fn part_of(sample: &Sample, part: usize) -> &[u8] {
+    let stream = if part < 4 {
+        &sample.stream
+    } else {
+        &sample.other
+    };
+    let number = part % 4;
+    let end = sample.layout.ends[number];
+    let begin = if number == 0 {
+        0
+    } else {
+        sample.layout.ends[number - 1]
+    };
+    stream.get(begin..end).unwrap_or(&[])
+}
+
+// The streams of parts in a wrong order.
+fn expect_no_order(rt: &impl Abort, alloc: Global, sample: &Sample) -> Result<(), TinkError> {
+    for order in ORDERS {
+        let mut damaged = Vec::new(alloc);
+        for part in order {
+            damaged.extend_from_slice(part_of(sample, *part))?;
+        }
+        expect_refused(rt, alloc, sample, &damaged)?;
+    }
+    Ok(())
+}
+
+// All damages of a sample.
+fn expect_no_damage(rt: &impl Abort, alloc: Global, sample: &Sample) -> Result<(), TinkError> {
+    expect_whole(rt, alloc, sample)?;
+    expect_no_flip(rt, alloc, sample)?;
+    expect_no_cut(rt, alloc, sample)?;
+    expect_no_order(rt, alloc, sample)
+}
+
+#[test]
+fn no_damage_passes_in_counter_mode(rt: HostRuntime) -> Result<(), Fail> {
+    let alloc = rt.alloc();
+    let sample = sample_of(alloc, counter_mode(alloc)?, IN_COUNTER_MODE)?;
+    expect_no_damage(&rt, alloc, &sample)?;
+    Ok(())
+}
+
+#[test]
+fn no_damage_passes_by_gcm(rt: HostRuntime) -> Result<(), Fail> {
+    let alloc = rt.alloc();
+    let sample = sample_of(alloc, gcm(alloc)?, BY_GCM)?;
+    expect_no_damage(&rt, alloc, &sample)?;
+    Ok(())
+}
