@@ -1,0 +1,202 @@
+//! The templates and managers of keys of streams.
+
+use crate::comparing::expect;
+use crate::manager_tests::expect_built;
+use std::alloc::Global;
+use std::process::Abort;
+use std::test::Fail;
+use tink_core::registry::{KeyManager, Registry};
+use tink_io::{Kind, TinkError};
+use tink_proto::KeyTemplate;
+use tink_streaming_aead::{
+    AES_CTR_HMAC_TYPE_URL, AES_GCM_HKDF_TYPE_URL, AesCtrHmacKeyManager, AesGcmHkdfKeyManager,
+    StreamKinds, aes128_ctr_hmac_sha256_segment_1mb_key_template,
+    aes128_ctr_hmac_sha256_segment_4kb_key_template, aes128_gcm_hkdf_1mb_key_template,
+    aes128_gcm_hkdf_4kb_key_template, aes256_ctr_hmac_sha256_segment_1mb_key_template,
+    aes256_ctr_hmac_sha256_segment_4kb_key_template, aes256_gcm_hkdf_1mb_key_template,
+    aes256_gcm_hkdf_4kb_key_template, init,
+};
+use tink_testutil::{Named, draws_of, kind_of};
+
+// A RAW template of this URL and format, whose format was spelled by hand.
+fn expect_template(
+    rt: &impl Abort,
+    made: Result<KeyTemplate, TinkError>,
+    url: &str,
+    format: &[u8],
+) -> Result<(), Fail> {
+    let kt = made?;
+    assert!(rt; kt.type_url.as_str() == url);
+    assert!(rt; kt.value.as_slice() == format);
+    assert!(rt; kt.output_prefix_type == 3);
+    Ok(())
+}
+
+#[test]
+fn ctr_hmac_templates_are_of_their_formats(rt: HostRuntime) -> Result<(), Fail> {
+    let alloc = rt.alloc();
+    let url = AES_CTR_HMAC_TYPE_URL;
+    let format = b"\x0a\x0d\x08\x80\x20\x10\x10\x18\x03\x22\x04\x08\x03\x10\x20\x10\x10";
+    expect_template(
+        &rt,
+        aes128_ctr_hmac_sha256_segment_4kb_key_template(alloc),
+        url,
+        format,
+    )?;
+    let format = b"\x0a\x0e\x08\x80\x80\x40\x10\x10\x18\x03\x22\x04\x08\x03\x10\x20\x10\x10";
+    expect_template(
+        &rt,
+        aes128_ctr_hmac_sha256_segment_1mb_key_template(alloc),
+        url,
+        format,
+    )?;
+    let format = b"\x0a\x0d\x08\x80\x20\x10\x20\x18\x03\x22\x04\x08\x03\x10\x20\x10\x20";
+    expect_template(
+        &rt,
+        aes256_ctr_hmac_sha256_segment_4kb_key_template(alloc),
+        url,
+        format,
+    )?;
+    let format = b"\x0a\x0e\x08\x80\x80\x40\x10\x20\x18\x03\x22\x04\x08\x03\x10\x20\x10\x20";
+    expect_template(
+        &rt,
+        aes256_ctr_hmac_sha256_segment_1mb_key_template(alloc),
+        url,
+        format,
+    )
+}
+
+#[test]
+fn gcm_hkdf_templates_are_of_their_formats(rt: HostRuntime) -> Result<(), Fail> {
+    let alloc = rt.alloc();
+    let url = AES_GCM_HKDF_TYPE_URL;
+    let format = b"\x0a\x07\x08\x80\x20\x10\x10\x18\x03\x10\x10";
+    expect_template(&rt, aes128_gcm_hkdf_4kb_key_template(alloc), url, format)?;
+    let format = b"\x0a\x08\x08\x80\x80\x40\x10\x10\x18\x03\x10\x10";
+    expect_template(&rt, aes128_gcm_hkdf_1mb_key_template(alloc), url, format)?;
+    let format = b"\x0a\x07\x08\x80\x20\x10\x20\x18\x03\x10\x20";
+    expect_template(&rt, aes256_gcm_hkdf_4kb_key_template(alloc), url, format)?;
+    let format = b"\x0a\x08\x08\x80\x80\x40\x10\x20\x18\x03\x10\x20";
+    expect_template(&rt, aes256_gcm_hkdf_1mb_key_template(alloc), url, format)
+}
+
+// A new key of a template, of one draw fewer than there are: it is of sevens.
+fn expect_new<M: KeyManager<Family = StreamKinds>>(
+    rt: &impl Abort,
+    alloc: Global,
+    km: &M,
+    kt: KeyTemplate,
+    main: &[u8],
+    sizes: [usize; 6],
+) -> Result<(), Fail> {
+    let mut draws = draws_of(alloc, &[7; 33][..main.len().min(32) + 1])?;
+    let bytes = km.new_key(alloc, kt.value.as_slice(), &mut draws)?;
+    expect(rt, draws.left(), 1, "the draws left");
+    expect_built(rt, alloc, km, bytes.as_slice(), main, sizes)
+}
+
+#[test]
+fn new_keys_build(rt: HostRuntime) -> Result<(), Fail> {
+    let alloc = rt.alloc();
+    let kt = aes256_ctr_hmac_sha256_segment_4kb_key_template(alloc)?;
+    let sizes = [40, 4096, 4056, 32, 32, 16];
+    expect_new(
+        &rt,
+        alloc,
+        &AesCtrHmacKeyManager::new(),
+        kt,
+        &[7; 32],
+        sizes,
+    )?;
+    let kt = aes128_gcm_hkdf_1mb_key_template(alloc)?;
+    let sizes = [24, 1_048_576, 1_048_552, 16, 16, 12];
+    expect_new(
+        &rt,
+        alloc,
+        &AesGcmHkdfKeyManager::new(),
+        kt,
+        &[7; 16],
+        sizes,
+    )
+}
+
+// Why no key of a template is made of 15 draws, and how many are then left.
+fn refusal<M: KeyManager>(
+    alloc: Global,
+    km: &M,
+    kt: KeyTemplate,
+) -> Result<(Option<Kind>, usize), TinkError> {
+    let mut draws = draws_of(alloc, &[7; 15])?;
+    let made = km.new_key(alloc, kt.value.as_slice(), &mut draws);
+    Ok((kind_of(made), draws.left()))
+}
+
+#[test]
+fn too_few_draws_make_no_key(rt: HostRuntime) -> Result<(), Fail> {
+    let alloc = rt.alloc();
+    let wanted = (Some(Kind::RandomFault), 15);
+    let kt = aes128_ctr_hmac_sha256_segment_4kb_key_template(alloc)?;
+    let told = refusal(alloc, &AesCtrHmacKeyManager::new(), kt)?;
+    assert!(rt; told == wanted);
+    let kt = aes128_gcm_hkdf_4kb_key_template(alloc)?;
+    let told = refusal(alloc, &AesGcmHkdfKeyManager::new(), kt)?;
+    assert!(rt; told == wanted);
+    Ok(())
+}
+
+// Whether a registry has a manager of this URL.
+fn has_manager(registry: &Registry<Named<StreamKinds>>, url: &str) -> bool {
+    match registry.get_key_manager(url) {
+        Ok(km) => km.type_url() == url,
+        Err(_) => false,
+    }
+}
+
+// How many templates a registry has.
+fn templates(alloc: Global, registry: &Registry<Named<StreamKinds>>) -> Result<usize, TinkError> {
+    Ok(registry.template_names(alloc)?.len())
+}
+
+// What a second `init` answers.
+fn refused(
+    alloc: Global,
+    registry: &mut Registry<Named<StreamKinds>>,
+) -> Result<(Option<Kind>, usize), TinkError> {
+    let told = kind_of(init(alloc, registry));
+    Ok((told, templates(alloc, registry)?))
+}
+
+// Whether a registry has both managers and templates of both kinds.
+fn has_all(registry: &Registry<Named<StreamKinds>>) -> bool {
+    has_manager(registry, AES_CTR_HMAC_TYPE_URL)
+        && has_manager(registry, AES_GCM_HKDF_TYPE_URL)
+        && registry
+            .get_template_generator("AES128_CTR_HMAC_SHA256_4KB")
+            .is_some()
+        && registry
+            .get_template_generator("AES256_GCM_HKDF_1MB")
+            .is_some()
+}
+
+#[test]
+fn all_is_registered(rt: HostRuntime) -> Result<(), Fail> {
+    let alloc = rt.alloc();
+    let mut registry: Registry<Named<StreamKinds>> = Registry::new(alloc);
+    init(alloc, &mut registry)?;
+    assert!(rt; has_all(&registry));
+    expect(&rt, templates(alloc, &registry)?, 8, "the templates");
+    let again = refused(alloc, &mut registry)?;
+    assert!(rt; again == (Some(Kind::AlreadyRegistered), 8));
+    Ok(())
+}
+
+#[test]
+fn nothing_is_registered_beside_another_manager(rt: HostRuntime) -> Result<(), Fail> {
+    let alloc = rt.alloc();
+    let mut taken: Registry<Named<StreamKinds>> = Registry::new(alloc);
+    taken.register_key_manager(alloc, Named::new(AES_GCM_HKDF_TYPE_URL))?;
+    let told = refused(alloc, &mut taken)?;
+    assert!(rt; told == (Some(Kind::AlreadyRegistered), 0));
+    assert!(rt; !has_manager(&taken, AES_CTR_HMAC_TYPE_URL));
+    Ok(())
+}
