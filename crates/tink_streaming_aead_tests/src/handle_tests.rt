@@ -1,26 +1,25 @@
 //! A handle of a template, whose streams are written and read in pieces, and a writer that is dropped.
 
-use crate::comparing::{expect, expect_bytes};
-use crate::one_of::Streams;
+use crate::comparing::expect_bytes;
+use crate::streams::{given, reader_by, registry};
 use std::alloc::Global;
+use std::process::Abort;
 use std::test::Fail;
 use tink_core::keyset::Handle;
-use tink_core::registry::Registry;
-use tink_io::{Kind, Lent, MemSink, MemSource, TinkError};
+use tink_io::{Kind, Lent, MemSink, TinkError};
 use tink_proto::KeyTemplate;
 use tink_streaming_aead::{
     StreamSegment, WrappedStreamingAead, Writer, aes128_ctr_hmac_sha256_segment_4kb_key_template,
-    aes128_gcm_hkdf_4kb_key_template, init, new,
+    aes128_gcm_hkdf_4kb_key_template, new,
 };
 use tink_testutil::draws_of;
 
 // The streaming AEADs of a handle of a template, whose keys are drawn as sevens.
-fn aeads(alloc: Global, kt: &KeyTemplate) -> Result<WrappedStreamingAead, Fail> {
-    let mut registry: Registry<Streams> = Registry::new(alloc);
-    init(alloc, &mut registry)?;
+fn aeads(alloc: Global, kt: &KeyTemplate) -> Result<WrappedStreamingAead, TinkError> {
+    let registry = registry(alloc)?;
     let mut draws = draws_of(alloc, &[7; 40])?;
     let h = Handle::new(alloc, kt, &registry, &mut draws)?;
-    Ok(new(alloc, &h, &registry)?)
+    new(alloc, &h, &registry)
 }
 
 // So many bytes, no two neighbours of which are the same.
@@ -66,64 +65,57 @@ fn written(
     Ok(sink.into_bytes())
 }
 
-// What reads in pieces of ten give of a stream up to the end, and by what they are refused.
-fn read_back(
+// What stands in a sink after the first bytes of a text were written under a handle's key.
+fn sealed(
     alloc: Global,
-    aeads: &WrappedStreamingAead,
+    kt: &KeyTemplate,
+    n: usize,
+    is_closed: bool,
+) -> Result<Vec<u8>, TinkError> {
+    written(alloc, &aeads(alloc, kt)?, &text_of(alloc, n)?, is_closed)
+}
+
+// What the handle's key opens a stream to: how many bytes, whether they are those of the text, and the refusal.
+fn opened(
+    alloc: Global,
+    kt: &KeyTemplate,
     stream: &[u8],
-) -> Result<(Vec<u8>, Option<Kind>), TinkError> {
-    let source = MemSource::new(stream.to_vec(alloc)?, 0, Vec::new(alloc));
-    let mut reader = match aeads.new_decrypting_reader(alloc, source, b"data") {
-        Ok(reader) => reader,
-        Err(refused) => return Err(refused.error),
-    };
-    let mut buf = [0u8; 10];
-    let mut text = Vec::new(alloc);
-    for _ in 0..1000 {
-        match reader.read(&mut buf) {
-            Ok(0) => return Ok((text, None)),
-            Ok(n) => text.extend_from_slice(&buf[..n])?,
-            Err(e) => return Ok((text, Some(e.kind))),
-        }
-    }
-    Ok((text, Some(Kind::TooManySegments)))
+) -> Result<(usize, bool, Option<Kind>), TinkError> {
+    let aeads = aeads(alloc, kt)?;
+    let mut reader = reader_by(alloc, &aeads, stream, &[])?;
+    let (text, refused) = given(alloc, &mut reader)?;
+    let wanted = text_of(alloc, text.len())?;
+    Ok((text.len(), text.as_slice() == wanted.as_slice(), refused))
 }
 
 // 8,205 bytes of text in three segments: 4,056, 4,080 and 69.
 #[test]
 fn a_handle_seals_and_opens_in_pieces_of_ten(rt: HostRuntime) -> Result<(), Fail> {
     let alloc = rt.alloc();
-    let aeads = aeads(alloc, &aes128_gcm_hkdf_4kb_key_template(alloc)?)?;
-    let text = text_of(alloc, 8205)?;
-    let stream = written(alloc, &aeads, &text, true)?;
-    expect(&rt, stream.len(), 8277, "the stream's length");
-    let (back, refused) = read_back(alloc, &aeads, &stream)?;
-    expect_bytes(&rt, &back, &text, "the text");
-    expect(&rt, refused, None, "the refusal");
+    let kt = aes128_gcm_hkdf_4kb_key_template(alloc)?;
+    let stream = sealed(alloc, &kt, 8205, true)?;
+    assert!(rt; stream.len() == 8277);
+    let told = opened(alloc, &kt, &stream)?;
+    assert!(rt; told == (8205, true, None));
     Ok(())
 }
 
-// Of 4,041 bytes of text 4,040 are in the first segment.
+// A writer that is dropped after 4,041 bytes of text, of which 4,040 are in the first segment: its sink has the header and
+// that segment, which is not marked.
 #[test]
 fn a_dropped_writer_leaves_no_marked_segment(rt: HostRuntime) -> Result<(), Fail> {
     let alloc = rt.alloc();
-    let aeads = aeads(
-        alloc,
-        &aes128_ctr_hmac_sha256_segment_4kb_key_template(alloc)?,
-    )?;
-    let text = text_of(alloc, 4041)?;
-    let whole = written(alloc, &aeads, &text, true)?;
-    let dropped = written(alloc, &aeads, &text, false)?;
-    expect(&rt, whole.len(), 4129, "the stream's length");
-    expect(&rt, dropped.len(), 4096, "the bytes of a dropped writer");
-    expect_bytes(
-        &rt,
-        &dropped,
-        whole.get(..4096).unwrap_or(&[]),
-        "the front of the stream",
-    );
-    let (text, refused) = read_back(alloc, &aeads, &dropped)?;
-    assert!(rt; text.is_empty());
-    expect(&rt, refused, Some(Kind::NoMatchingKey), "the refusal");
+    let kt = aes128_ctr_hmac_sha256_segment_4kb_key_template(alloc)?;
+    let whole = sealed(alloc, &kt, 4041, true)?;
+    let dropped = sealed(alloc, &kt, 4041, false)?;
+    expect_front(&rt, &dropped, &whole);
+    let told = opened(alloc, &kt, &dropped)?;
+    assert!(rt; told == (0, true, Some(Kind::NoMatchingKey)));
     Ok(())
+}
+
+// The first 4,096 bytes of a stream of 4,129.
+fn expect_front(rt: &impl Abort, front: &[u8], stream: &[u8]) {
+    assert!(rt; front.len() == 4096 && stream.len() == 4129);
+    expect_bytes(rt, front, stream.get(..4096).unwrap_or(&[]), "the front");
 }

@@ -1,90 +1,46 @@
 //! Streams under the keys of a keyset, over memory.
 
 use crate::comparing::{expect, expect_bytes};
-use crate::manager_tests::{ctr_hmac_params, gcm_hkdf_params};
-use crate::one_of::Streams;
-use crate::streams::{BY_GCM, DRAWS, MAIN, TEXT, sink, source};
+use crate::streams::{BY_GCM, DRAWS, TEXT, given, reader_by, registry};
 use std::alloc::Global;
 use std::process::Abort;
 use std::test::Fail;
-use tink_core::registry::Registry;
-use tink_io::{Cause, Kind, MemSource, TinkError};
-use tink_proto::wire::Message;
-use tink_proto::{Bytes, Key, OutputPrefixType};
-use tink_proto_keys::{AesCtrHmacStreamingKey, AesGcmHkdfStreamingKey};
+use tink_io::{Cause, Kind, MemSink, MemSource, TinkError};
+use tink_proto::OutputPrefixType;
 use tink_streaming_aead::{
-    AES_CTR_HMAC_TYPE_URL, AES_GCM_HKDF_TYPE_URL, DecryptReader, WrappedStreamingAead, init, new,
+    AES_CTR_HMAC_TYPE_URL, AES_GCM_HKDF_TYPE_URL, DecryptReader, WrappedStreamingAead, new,
 };
 use tink_testutil::{draws_of, enabled_key, handle_of};
 
-// A key in counter mode of id 1 with segments of 50 bytes.
-fn ctr_hmac_key(alloc: Global) -> Result<Key, Fail> {
-    let key = AesCtrHmacStreamingKey {
-        version: 0,
-        params: ctr_hmac_params(16, 3, 3, 10, 50),
-        key_value: Bytes::from_slice(alloc, MAIN)?,
-    };
-    let value = key.encode(alloc)?;
-    Ok(enabled_key(
-        alloc,
-        AES_CTR_HMAC_TYPE_URL,
-        value.as_slice(),
-        OutputPrefixType::Raw,
-        1,
-    )?)
+// Keys of the bytes 0 to 15, from which AES keys of 16 are derived with SHA-256: in counter mode with tags of ten bytes
+// and segments of 50; by AES-GCM with segments of 4,096 and of 50.
+const IN_COUNTER_MODE: &[u8; 32] =
+    b"\x12\x0c\x08\x32\x10\x10\x18\x03\x22\x04\x08\x03\x10\x0a\x1a\x10\x00\x01\x02\x03\x04\x05\x06\x07\x08\x09\x0a\x0b\x0c\x0d\x0e\x0f";
+
+const LARGE: &[u8; 27] =
+    b"\x12\x07\x08\x80\x20\x10\x10\x18\x03\x1a\x10\x00\x01\x02\x03\x04\x05\x06\x07\x08\x09\x0a\x0b\x0c\x0d\x0e\x0f";
+
+const SMALL: &[u8; 26] =
+    b"\x12\x06\x08\x32\x10\x10\x18\x03\x1a\x10\x00\x01\x02\x03\x04\x05\x06\x07\x08\x09\x0a\x0b\x0c\x0d\x0e\x0f";
+
+// The streaming AEADs of these keys in this order, of which the last one is the primary one and has this prefix.
+fn aeads(alloc: Global, prefix: OutputPrefixType) -> Result<WrappedStreamingAead, TinkError> {
+    let raw = OutputPrefixType::Raw;
+    let mut keys = Vec::new(alloc);
+    keys.push(enabled_key(alloc, AES_CTR_HMAC_TYPE_URL, IN_COUNTER_MODE, raw, 1)?)?;
+    keys.push(enabled_key(alloc, AES_GCM_HKDF_TYPE_URL, LARGE, raw, 2)?)?;
+    keys.push(enabled_key(alloc, AES_GCM_HKDF_TYPE_URL, SMALL, prefix, 3)?)?;
+    let h = handle_of(3, keys)?;
+    new(alloc, &h, &registry(alloc)?)
 }
 
-// A key by AES-GCM of this id, prefix and size of segments.
-fn gcm_key(alloc: Global, id: u32, prefix: OutputPrefixType, segment: u32) -> Result<Key, Fail> {
-    let key = AesGcmHkdfStreamingKey {
-        version: 0,
-        params: gcm_hkdf_params(16, 3, segment),
-        key_value: Bytes::from_slice(alloc, MAIN)?,
-    };
-    let value = key.encode(alloc)?;
-    Ok(enabled_key(alloc, AES_GCM_HKDF_TYPE_URL, value.as_slice(), prefix, id)?)
-}
-
-// The streaming AEADs of a key in counter mode, one by AES-GCM with segments of 4,096 bytes, and the primary one with this
-// prefix and segments of 50.
-fn aeads(alloc: Global, prefix: OutputPrefixType) -> Result<WrappedStreamingAead, Fail> {
-    let mut registry: Registry<Streams> = Registry::new(alloc);
-    init(alloc, &mut registry)?;
-    let first = ctr_hmac_key(alloc)?;
-    let second = gcm_key(alloc, 2, OutputPrefixType::Raw, 4096)?;
-    let third = gcm_key(alloc, 3, prefix, 50)?;
-    let h = handle_of(3, vec![in alloc; first, second, third]?)?;
-    Ok(new(alloc, &h, &registry)?)
-}
-
-// A reader by three keys without a prefix.
+// A reader by the three keys without a prefix.
 fn reader_of(
     alloc: Global,
     stream: &[u8],
     fails: &[u32],
-) -> Result<DecryptReader<MemSource>, Fail> {
-    let aeads = aeads(alloc, OutputPrefixType::Raw)?;
-    match aeads.new_decrypting_reader(alloc, source(alloc, stream, fails)?, b"data") {
-        Ok(reader) => Ok(reader),
-        Err(refused) => Err(refused.error)?,
-    }
-}
-
-// What reads to a buffer of ten bytes give up to the end, and by what they are refused.
-fn given(
-    alloc: Global,
-    reader: &mut DecryptReader<MemSource>,
-) -> Result<(Vec<u8>, Option<Kind>), TinkError> {
-    let mut buf = [0u8; 10];
-    let mut text = Vec::new(alloc);
-    for _ in 0..100 {
-        match reader.read(&mut buf) {
-            Ok(0) => return Ok((text, None)),
-            Ok(n) => text.extend_from_slice(&buf[..n])?,
-            Err(e) => return Ok((text, Some(e.kind))),
-        }
-    }
-    Ok((text, Some(Kind::TooManySegments)))
+) -> Result<DecryptReader<MemSource>, TinkError> {
+    reader_by(alloc, &aeads(alloc, OutputPrefixType::Raw)?, stream, fails)
 }
 
 // Reads up to the end: how many bytes of the text they give, by what they are refused, and how many segments were opened.
@@ -176,8 +132,10 @@ fn a_damaged_segment_goes_to_no_other_key(rt: HostRuntime) -> Result<(), Fail> {
 
 // The stream of the text by the primary key.
 fn sealed(alloc: Global, aeads: &WrappedStreamingAead) -> Result<Vec<u8>, TinkError> {
+    let mut sink = MemSink::new(alloc, 10, Vec::new(alloc));
+    sink.reserve(alloc, 200)?;
     let mut draws = draws_of(alloc, DRAWS)?;
-    match aeads.new_encrypting_writer(alloc, &mut draws, sink(alloc, &[])?, b"data") {
+    match aeads.new_encrypting_writer(alloc, &mut draws, sink, b"data") {
         Ok(mut writer) => {
             writer.write(TEXT)?;
             writer.close()?;
@@ -195,23 +153,23 @@ fn expect_sealed(
     bytes: usize,
     wanted: Option<Kind>,
     segments: u64,
-) -> Result<(), Fail> {
+) -> Result<(), TinkError> {
     let aeads = aeads(alloc, prefix)?;
     let stream = sealed(alloc, &aeads)?;
     expect_bytes(rt, &stream, BY_GCM, "the stream");
-    match aeads.new_decrypting_reader(alloc, source(alloc, &stream, &[])?, b"data") {
-        Ok(mut reader) => Ok(expect_given(rt, alloc, &mut reader, bytes, wanted, segments)?),
-        Err(refused) => Err(refused.error)?,
-    }
+    let mut reader = reader_by(alloc, &aeads, &stream, &[])?;
+    expect_given(rt, alloc, &mut reader, bytes, wanted, segments)
 }
 
 #[test]
 fn the_primary_key_seals_and_a_raw_key_opens(rt: HostRuntime) -> Result<(), Fail> {
-    expect_sealed(&rt, rt.alloc(), OutputPrefixType::Raw, 60, None, 3)
+    expect_sealed(&rt, rt.alloc(), OutputPrefixType::Raw, 60, None, 3)?;
+    Ok(())
 }
 
 #[test]
 fn a_key_with_a_prefix_seals_and_does_not_open(rt: HostRuntime) -> Result<(), Fail> {
     let refused = Some(Kind::NoMatchingKey);
-    expect_sealed(&rt, rt.alloc(), OutputPrefixType::Tink, 0, refused, 0)
+    expect_sealed(&rt, rt.alloc(), OutputPrefixType::Tink, 0, refused, 0)?;
+    Ok(())
 }

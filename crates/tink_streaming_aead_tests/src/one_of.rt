@@ -154,15 +154,15 @@ where
 
     ghost public_told = { λ m key. told_if m.is_second (B.gives_public m.second key) (A.gives_public m.first key) (B.public_told m.second key) (A.public_told m.first key) };
 
-    ghost new_material = { λ m f draws d. of_each {P = λ b. (if b then B.makes_data m.second f draws else A.makes_data m.first f draws).0 ≡ Ok d → IsOfKnownMaterial d} m.is_second
+    ghost new_material = { λ m f draws d. of_each (λ b. (if b then B.makes_data m.second f draws else A.makes_data m.first f draws).0 ≡ Ok d → IsOfKnownMaterial d) m.is_second
         (B.new_material m.second f draws d) (A.new_material m.first f draws d) };
 
-    ghost public_material = { λ m key d. of_each {P = λ b. (if b then B.gives_public m.second key else A.gives_public m.first key) ≡ Ok d → IsOfKnownMaterial d} m.is_second
+    ghost public_material = { λ m key d. of_each (λ b. (if b then B.gives_public m.second key else A.gives_public m.first key) ≡ Ok d → IsOfKnownMaterial d) m.is_second
         (B.public_material m.second key d) (A.public_material m.first key d) };
 
-    ghost no_private = { λ m key. of_each {P = λ b. (if b then B.has_public m.second else A.has_public m.first) ≡ false → (if b then B.gives_public m.second key else A.gives_public m.first key) ≡ Err NoPrivateKeys} m.is_second
+    ghost no_private = { λ m key. of_each (λ b. (if b then B.has_public m.second else A.has_public m.first) ≡ false → (if b then B.gives_public m.second key else A.gives_public m.first key) ≡ Err NoPrivateKeys) m.is_second
         (B.no_private m.second key) (A.no_private m.first key) };
 
-    ghost private = { λ m key. of_each {P = λ b. (if b then B.has_public m.second else A.has_public m.first) ≡ true → (if b then B.gives_public m.second key else A.gives_public m.first key) ≡ Err NoPrivateKeys → ⊥} m.is_second
+    ghost private = { λ m key. of_each (λ b. (if b then B.has_public m.second else A.has_public m.first) ≡ true → (if b then B.gives_public m.second key else A.gives_public m.first key) ≡ Err NoPrivateKeys → ⊥) m.is_second
         (B.private m.second key) (A.private m.first key) };
 }

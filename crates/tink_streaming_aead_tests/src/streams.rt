@@ -1,46 +1,56 @@
-//! Keys of streams of either kind, memory to write to and read from, and streams that Python made.
+//! The registry of both managers, readers by the keys of a keyset, and a stream that Python made.
 
+use crate::one_of::Streams;
 use std::alloc::Global;
-use tink_io::{MemSink, MemSource, TinkError};
-use tink_proto::HashType;
-use tink_streaming_aead::subtle::{AesCtrHmac, AesGcmHkdf};
+use tink_core::registry::Registry;
+use tink_io::{Kind, MemSource, TinkError};
+use tink_streaming_aead::{DecryptReader, WrappedStreamingAead, init};
 
 /// The text.
 pub const TEXT: &[u8; 60] = b"sixty bytes of text, which are in three segments of a stream";
-
-/// The main key 0, 1, .., 15.
-pub const MAIN: &[u8; 16] = b"\x00\x01\x02\x03\x04\x05\x06\x07\x08\x09\x0a\x0b\x0c\x0d\x0e\x0f";
 
 /// A salt and a prefix: 64, 65, .., 86.
 pub const DRAWS: &[u8; 23] =
     b"\x40\x41\x42\x43\x44\x45\x46\x47\x48\x49\x4a\x4b\x4c\x4d\x4e\x4f\x50\x51\x52\x53\x54\x55\x56";
 
-/// The text's stream with "data" in segments of 50 bytes: HKDF and HMAC with SHA-256, AES-128, tags of ten bytes.
-pub const IN_COUNTER_MODE: &[u8; 114] =
-    b"\x18\x40\x41\x42\x43\x44\x45\x46\x47\x48\x49\x4a\x4b\x4c\x4d\x4e\x4f\x50\x51\x52\x53\x54\x55\x56\x7e\x26\xff\x8c\x0b\xfe\x26\x08\xf2\x9b\x93\xdc\x9a\x0c\x55\x6f\x72\x72\x9d\x8a\xc0\x04\x62\xb4\x31\xa8\xb1\x47\xb3\x3b\x7b\xc6\x11\x4e\xbc\x2c\x94\x48\xcc\xf8\x59\x41\x9a\x95\xf7\xbf\x4b\x40\xcc\x13\x33\xc5\x53\xcf\xd1\xab\xc8\x1b\xd3\x3c\xc6\xe9\xdf\x88\xf2\xf9\x5f\x28\x70\xc5\xe0\x2a\x7e\x87\x3c\x66\x88\x2e\x03\x57\x9b\x7f\x29\xae\x5f\x3b\xcb\x6e\xc0\xc1";
-
-/// The same by AES-128-GCM.
+/// The text's stream with "data" in segments of 50 bytes: HKDF with SHA-256, AES-128-GCM.
 pub const BY_GCM: &[u8; 132] =
     b"\x18\x40\x41\x42\x43\x44\x45\x46\x47\x48\x49\x4a\x4b\x4c\x4d\x4e\x4f\x50\x51\x52\x53\x54\x55\x56\xa1\x5b\x4e\xa4\xd6\x54\xd6\xc5\xe9\xa5\x28\xcf\xbb\xbe\xde\x87\x10\xa3\xa3\x2d\xd9\xf0\x17\x84\x99\xf7\x80\x73\xcf\xaf\x9e\xdc\xe4\xf5\x04\xa3\x7b\x7f\x95\xb1\x80\x39\x03\x8b\x23\x25\xbb\xde\xe5\x06\x06\xb0\x11\x5f\x58\x06\xb7\x55\xb7\x7b\xc7\x16\x91\x4c\x88\xfb\x28\x65\x92\x99\x22\x50\xbd\x8e\x94\x4c\xc2\x1d\x03\x62\xd9\xd2\x40\x33\x35\x07\xb1\x7e\x33\x4f\x7b\xca\x4e\x3b\xd7\x66\xf3\x14\xa0\x76\xb2\xaf\x3b\x55\xd3\x2a\x30\xa1";
 
-/// A key in counter mode, with segments of 50 bytes.
-pub fn counter_mode(alloc: Global, hkdf_alg: HashType) -> Result<AesCtrHmac, TinkError> {
-    AesCtrHmac::new(alloc, MAIN, hkdf_alg, 16, HashType::Sha256, 10, 50, 0)
+/// The registry of both managers and their templates.
+pub fn registry(alloc: Global) -> Result<Registry<Streams>, TinkError> {
+    let mut registry = Registry::new(alloc);
+    init(alloc, &mut registry)?;
+    Ok(registry)
 }
 
-/// A key by AES-GCM.
-pub fn gcm(alloc: Global, hkdf_alg: HashType, segment: u32) -> Result<AesGcmHkdf, TinkError> {
-    AesGcmHkdf::new(alloc, MAIN, hkdf_alg, 16, segment, 0)
+/// A reader of a stream with "data", from a source whose calls of these numbers fail.
+pub fn reader_by(
+    alloc: Global,
+    aeads: &WrappedStreamingAead,
+    stream: &[u8],
+    fails: &[u32],
+) -> Result<DecryptReader<MemSource>, TinkError> {
+    let source = MemSource::new(stream.to_vec(alloc)?, 10, fails.to_vec(alloc)?);
+    match aeads.new_decrypting_reader(alloc, source, b"data") {
+        Ok(reader) => Ok(reader),
+        Err(refused) => Err(refused.error),
+    }
 }
 
-/// A sink with room for 200 bytes, of which a call takes ten, and those of these numbers fail.
-pub fn sink(alloc: Global, fails: &[u32]) -> Result<MemSink, TinkError> {
-    let mut sink = MemSink::new(alloc, 10, fails.to_vec(alloc)?);
-    sink.reserve(alloc, 200)?;
-    Ok(sink)
-}
-
-/// A source of these bytes, of which a call gives ten, and those of these numbers fail.
-pub fn source(alloc: Global, bytes: &[u8], fails: &[u32]) -> Result<MemSource, TinkError> {
-    Ok(MemSource::new(bytes.to_vec(alloc)?, 10, fails.to_vec(alloc)?))
+/// What reads to a buffer of ten bytes give up to the end, and by what they are refused.
+pub fn given(
+    alloc: Global,
+    reader: &mut DecryptReader<MemSource>,
+) -> Result<(Vec<u8>, Option<Kind>), TinkError> {
+    let mut buf = [0u8; 10];
+    let mut text = Vec::new(alloc);
+    for _ in 0..1000 {
+        match reader.read(&mut buf) {
+            Ok(0) => return Ok((text, None)),
+            Ok(n) => text.extend_from_slice(&buf[..n])?,
+            Err(e) => return Ok((text, Some(e.kind))),
+        }
+    }
+    Ok((text, Some(Kind::TooManySegments)))
 }

@@ -1,15 +1,17 @@
 //! Streams under keys of either kind, over memory.
 
 use crate::comparing::{expect, expect_bytes};
-use crate::streams::{BY_GCM, DRAWS, IN_COUNTER_MODE, TEXT, counter_mode, gcm, sink, source};
+use crate::streams::{
+    BY_GCM, DRAWS, IN_COUNTER_MODE, TEXT, counter_mode, draws, gcm, sink, source,
+};
 use std::alloc::Global;
 use std::process::Abort;
 use std::test::Fail;
 use tink_io::{Kind, MemSink, MemSource, TinkError};
 use tink_primitives::StreamingAead;
 use tink_proto::HashType;
-use tink_streaming_aead::{Reader, StreamSegment, Writer};
-use tink_testutil::draws_of;
+use tink_segments::StreamSegment;
+use tink_streams::{Reader, Writer};
 
 // What a new writer leaves of some draws, and what it is refused by, with the bytes that the sink then has.
 fn refusal<A>(
@@ -22,7 +24,7 @@ where
     A: StreamingAead<MemSource, MemSink, Writer = Writer<MemSink, StreamSegment>>,
 {
     let some = DRAWS.get(..drawn).unwrap_or(DRAWS);
-    let mut draws = draws_of(alloc, some)?;
+    let mut draws = draws(alloc, some)?;
     let sink = sink(alloc, fails)?;
     match key.new_encrypting_writer(alloc, &mut draws, sink, b"data") {
         Ok(writer) => Ok((draws.left(), None, writer.into_inner().into_bytes())),
@@ -39,7 +41,7 @@ fn sealed<A>(alloc: Global, key: &A, piece: usize) -> Result<Vec<u8>, TinkError>
 where
     A: StreamingAead<MemSource, MemSink, Writer = Writer<MemSink, StreamSegment>>,
 {
-    let mut draws = draws_of(alloc, DRAWS)?;
+    let mut draws = draws(alloc, DRAWS)?;
     let sink = sink(alloc, &[])?;
     match key.new_encrypting_writer(alloc, &mut draws, sink, b"data") {
         Ok(mut writer) => {

@@ -1,15 +1,15 @@
 //! Damaged streams of three segments: each is refused by its kind, and what is read before is a front of the text.
 
 use crate::comparing::expect_bytes;
-use crate::streams::{MAIN, source};
+use crate::streams::{MAIN, draws, source};
 use std::alloc::Global;
 use std::process::Abort;
 use std::test::Fail;
 use tink_io::{Kind, MemSink, MemSource, TinkError};
 use tink_proto::HashType;
-use tink_streaming_aead::subtle::{AesCtrHmac, AesGcmHkdf};
-use tink_streaming_aead::{Reader, StreamKind, StreamSegment, Writer};
-use tink_testutil::draws_of;
+use tink_segments::StreamSegment;
+use tink_stream_keys::{AesCtrHmac, AesGcmHkdf, StreamKind};
+use tink_streams::{Reader, Writer};
 
 const TEXT: &[u8; 36] = b"thirty-six bytes in three segments..";
 
@@ -52,7 +52,7 @@ fn writer_of(
     key: &StreamKind,
     drawn: u8,
 ) -> Result<Writer<MemSink, StreamSegment>, TinkError> {
-    let mut draws = draws_of(alloc, &[drawn; 23])?;
+    let mut draws = draws(alloc, &[drawn; 23])?;
     let mut sink = MemSink::new(alloc, 0, Vec::new(alloc));
     sink.reserve(alloc, 200)?;
     let made = match key {

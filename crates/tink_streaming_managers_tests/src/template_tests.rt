@@ -2,7 +2,6 @@
 
 use crate::comparing::expect;
 use crate::manager_tests::expect_built;
-use crate::one_of::Streams;
 use std::alloc::Global;
 use std::process::Abort;
 use std::test::Fail;
@@ -17,7 +16,7 @@ use tink_streaming_aead::{
     aes256_ctr_hmac_sha256_segment_4kb_key_template, aes256_gcm_hkdf_1mb_key_template,
     aes256_gcm_hkdf_4kb_key_template, init,
 };
-use tink_testutil::{draws_of, kind_of};
+use tink_testutil::{Named, draws_of, kind_of};
 
 // A RAW template of this URL and format, whose format was spelled by hand.
 fn expect_template(
@@ -146,65 +145,58 @@ fn too_few_draws_make_no_key(rt: HostRuntime) -> Result<(), Fail> {
 }
 
 // Whether a registry has a manager of this URL.
-fn has_manager(registry: &Registry<Streams>, url: &str) -> bool {
+fn has_manager(registry: &Registry<Named<StreamKinds>>, url: &str) -> bool {
     match registry.get_key_manager(url) {
         Ok(km) => km.type_url() == url,
         Err(_) => false,
     }
 }
 
+// How many templates a registry has.
+fn templates(alloc: Global, registry: &Registry<Named<StreamKinds>>) -> Result<usize, TinkError> {
+    Ok(registry.template_names(alloc)?.len())
+}
+
+// What a second `init` answers.
+fn refused(
+    alloc: Global,
+    registry: &mut Registry<Named<StreamKinds>>,
+) -> Result<(Option<Kind>, usize), TinkError> {
+    let told = kind_of(init(alloc, registry));
+    Ok((told, templates(alloc, registry)?))
+}
+
+// Whether a registry has both managers and templates of both kinds.
+fn has_all(registry: &Registry<Named<StreamKinds>>) -> bool {
+    has_manager(registry, AES_CTR_HMAC_TYPE_URL)
+        && has_manager(registry, AES_GCM_HKDF_TYPE_URL)
+        && registry
+            .get_template_generator("AES128_CTR_HMAC_SHA256_4KB")
+            .is_some()
+        && registry
+            .get_template_generator("AES256_GCM_HKDF_1MB")
+            .is_some()
+}
+
 #[test]
 fn all_is_registered(rt: HostRuntime) -> Result<(), Fail> {
     let alloc = rt.alloc();
-    let mut registry: Registry<Streams> = Registry::new(alloc);
+    let mut registry: Registry<Named<StreamKinds>> = Registry::new(alloc);
     init(alloc, &mut registry)?;
-    assert!(rt; has_manager(&registry, AES_CTR_HMAC_TYPE_URL));
-    assert!(rt; has_manager(&registry, AES_GCM_HKDF_TYPE_URL));
-    assert!(rt;
-        registry
-            .get_template_generator("AES128_CTR_HMAC_SHA256_4KB")
-            .is_some()
-    );
-    assert!(rt;
-        registry
-            .get_template_generator("AES256_GCM_HKDF_1MB")
-            .is_some()
-    );
-    expect(
-        &rt,
-        registry.template_names(alloc)?.len(),
-        8,
-        "the templates",
-    );
-    let again = init(alloc, &mut registry);
-    expect(
-        &rt,
-        kind_of(again),
-        Some(Kind::AlreadyRegistered),
-        "a second init",
-    );
-    expect(
-        &rt,
-        registry.template_names(alloc)?.len(),
-        8,
-        "the templates",
-    );
+    assert!(rt; has_all(&registry));
+    expect(&rt, templates(alloc, &registry)?, 8, "the templates");
+    let again = refused(alloc, &mut registry)?;
+    assert!(rt; again == (Some(Kind::AlreadyRegistered), 8));
     Ok(())
 }
 
 #[test]
 fn nothing_is_registered_beside_another_manager(rt: HostRuntime) -> Result<(), Fail> {
     let alloc = rt.alloc();
-    let mut taken: Registry<Streams> = Registry::new(alloc);
-    taken.register_key_manager(alloc, AesGcmHkdfKeyManager::new().into())?;
-    let refused = init(alloc, &mut taken);
-    expect(
-        &rt,
-        kind_of(refused),
-        Some(Kind::AlreadyRegistered),
-        "an init",
-    );
-    expect(&rt, taken.template_names(alloc)?.len(), 0, "the templates");
+    let mut taken: Registry<Named<StreamKinds>> = Registry::new(alloc);
+    taken.register_key_manager(alloc, Named::new(AES_GCM_HKDF_TYPE_URL))?;
+    let told = refused(alloc, &mut taken)?;
+    assert!(rt; told == (Some(Kind::AlreadyRegistered), 0));
     assert!(rt; !has_manager(&taken, AES_CTR_HMAC_TYPE_URL));
     Ok(())
 }

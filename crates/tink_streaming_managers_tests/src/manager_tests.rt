@@ -1,22 +1,44 @@
 //! Which keys of streams build, and of which formats keys are made.
 
 use crate::comparing::{expect, expect_bytes};
-use crate::key_tests::sizes_of;
 use std::alloc::Global;
 use std::process::Abort;
 use std::test::Fail;
 use tink_core::registry::KeyManager;
 use tink_io::{Kind, TinkError};
-use tink_proto::Bytes;
 use tink_proto::wire::Message;
+use tink_proto::{Bytes, HashType};
 use tink_proto_keys::{
     AesCtrHmacStreamingKey, AesCtrHmacStreamingKeyFormat, AesCtrHmacStreamingParams,
     AesGcmHkdfStreamingKey, AesGcmHkdfStreamingKeyFormat, AesGcmHkdfStreamingParams, HmacParams,
 };
+use tink_streaming_aead::subtle::AesGcmHkdf;
 use tink_streaming_aead::{
-    AesCtrHmacKeyManager, AesGcmHkdfKeyManager, DerivesStreams, StreamKinds,
+    AesCtrHmacKeyManager, AesGcmHkdfKeyManager, DerivesStreams, StreamKind, StreamKinds,
 };
 use tink_testutil::{draws_of, kind_of};
+
+// The sizes that a key tells: of a header, a segment, the first segment, what a segment has more than its text, a derived
+// key and a nonce.
+fn sizes_of<K: DerivesStreams>(key: &K) -> [usize; 6] {
+    [
+        key.header_length(),
+        key.segment_size() as usize,
+        key.first_segment_size() as usize,
+        key.overhead(),
+        key.derived_key_size(),
+        key.nonce_size(),
+    ]
+}
+
+#[test]
+fn tells_sizes(rt: HostRuntime) -> Result<(), Fail> {
+    let key = AesGcmHkdf::new(rt.alloc(), &[7; 32], HashType::Sha256, 32, 4096, 100)?;
+    expect(&rt, key.header_length(), 40, "the header");
+    let kind = StreamKind::GcmHkdf(key);
+    assert!(rt; sizes_of(&kind) == [40, 4096, 3956, 16, 32, 12]);
+    Ok(())
+}
 
 // A key in counter mode of the bytes 0 to 15, from which AES keys of 16 are derived, with SHA-256
 // twice, tags of 32 bytes and segments of 4,096.
@@ -28,8 +50,8 @@ const IN_COUNTER_MODE: &[u8; 33] =
 const BY_GCM: &[u8; 27] =
     b"\x12\x07\x08\x80\x20\x10\x10\x18\x03\x1a\x10\x10\x11\x12\x13\x14\x15\x16\x17\x18\x19\x1a\x1b\x1c\x1d\x1e\x1f";
 
-/// The parameters of a key in counter mode.
-pub fn ctr_hmac_params(
+// The parameters of a key in counter mode.
+fn ctr_hmac_params(
     derived: u32,
     hkdf_hash: i32,
     tag_hash: i32,
@@ -47,8 +69,8 @@ pub fn ctr_hmac_params(
     })
 }
 
-/// The parameters of a key by AES-GCM.
-pub fn gcm_hkdf_params(
+// The parameters of a key by AES-GCM.
+fn gcm_hkdf_params(
     derived: u32,
     hkdf_hash: i32,
     segment: u32,
@@ -305,19 +327,15 @@ pub fn expect_built<M: KeyManager<Family = StreamKinds>>(
 fn keys_build_from_their_bytes(rt: HostRuntime) -> Result<(), Fail> {
     let alloc = rt.alloc();
     let km = AesCtrHmacKeyManager::new();
-    let main = &IN_COUNTER_MODE[17..];
+    let main = [0, 1, 2, 3, 4, 5, 6, 7, 8, 9, 10, 11, 12, 13, 14, 15];
     let sizes = [24, 4096, 4072, 32, 16, 16];
-    expect_built(&rt, alloc, &km, IN_COUNTER_MODE, main, sizes)?;
+    expect_built(&rt, alloc, &km, IN_COUNTER_MODE, &main, sizes)?;
     let km = AesGcmHkdfKeyManager::new();
-    expect_built(
-        &rt,
-        alloc,
-        &km,
-        BY_GCM,
-        &BY_GCM[11..],
-        [24, 4096, 4072, 16, 16, 12],
-    )?;
-    Ok(())
+    let main = [
+        16, 17, 18, 19, 20, 21, 22, 23, 24, 25, 26, 27, 28, 29, 30, 31,
+    ];
+    let sizes = [24, 4096, 4072, 16, 16, 12];
+    expect_built(&rt, alloc, &km, BY_GCM, &main, sizes)
 }
 
 #[test]

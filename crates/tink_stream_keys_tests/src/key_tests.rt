@@ -2,16 +2,13 @@
 
 use crate::comparing::{expect, expect_bytes};
 use std::alloc::Global;
-use std::process::Abort;
 use std::test::Fail;
 use tink_core::CloneIn;
 use tink_io::{Kind, TinkError};
 use tink_proto::HashType;
-use tink_streaming_aead::subtle::{AesCtrHmac, AesGcmHkdf};
-use tink_streaming_aead::{
-    CtrHmacSegment, DerivesStreams, GcmSegment, SegmentDecrypter, SegmentEncrypter, StreamKind,
-    StreamSegment,
-};
+use tink_segment_traits::{SegmentDecrypter, SegmentEncrypter};
+use tink_segments::{CtrHmacSegment, GcmSegment, StreamSegment};
+use tink_stream_keys::{AesCtrHmac, AesGcmHkdf, DerivesStreams, StreamKind};
 
 const TEXT: &[u8; 38] = b"a text of more than two blocks, by ten";
 
@@ -34,19 +31,6 @@ const BY_GCM: &[u8; 54] =
     b"\x2a\x87\x2e\x1e\x7a\x0d\x61\x9f\x8c\x74\xed\x02\x57\x99\x5e\x98\x6b\xeb\x8b\xb5\xec\x51\x35\x1c\xce\x42\x64\xe5\xfd\xa3\xe3\xad\x3f\x6c\xfa\xdc\xe3\xfe\x18\xfd\xf4\x5a\x6b\x7c\x3e\x79\xc4\x77\xad\xa7\xf0\x05\x56\x86";
 
 const NONCE: [u8; 16] = [1, 2, 3, 4, 5, 6, 7, 8, 9, 10, 11, 12, 13, 14, 15, 16];
-
-/// The sizes that a key tells: of a header, a segment, the first segment, what a segment has more than its text, a derived
-/// key and a nonce.
-pub fn sizes_of<K: DerivesStreams>(key: &K) -> [usize; 6] {
-    [
-        key.header_length(),
-        key.segment_size() as usize,
-        key.first_segment_size() as usize,
-        key.overhead(),
-        key.derived_key_size(),
-        key.nonce_size(),
-    ]
-}
 
 // Why a key in counter mode with the front of the main key, this derived size, tag and sizes of segments is refused.
 fn ctr_refusal(
@@ -137,15 +121,6 @@ fn refuses_keys_by_gcm(rt: HostRuntime) {
         let told = gcm_refusal(alloc, main, derived, segment, offset);
         expect(&rt, told, wanted, "the refusal");
     }
-}
-
-#[test]
-fn tells_sizes(rt: HostRuntime) -> Result<(), Fail> {
-    let key = AesGcmHkdf::new(rt.alloc(), MAIN, HashType::Sha256, 32, 4096, 100)?;
-    expect(&rt, key.header_length(), 40, "the header");
-    let kind = StreamKind::GcmHkdf(key);
-    assert!(rt; sizes_of(&kind) == [40, 4096, 3956, 16, 32, 12]);
-    Ok(())
 }
 
 // What a key derives with the whole salt, in counter mode.

@@ -1,0 +1,17 @@
+//! What tests compare.
+
+use std::fmt::Debug;
+use std::process::Abort;
+
+/// The one place that compares: a test function with many `assert_eq!` takes long to prove.
+pub fn expect<T>(rt: &impl Abort, got: T, want: T, label: &str)
+where
+    T: PartialEq + Debug + Drop,
+{
+    assert_eq!(rt; got, want, "{label}");
+}
+
+/// The same of bytes.
+pub fn expect_bytes(rt: &impl Abort, got: &[u8], want: &[u8], label: &str) {
+    assert_eq!(rt; got, want, "{label}");
+}
