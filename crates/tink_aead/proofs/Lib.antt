@@ -1,3 +1,4 @@
+pub mod KeyEntries
 pub mod RotationFacts
 pub mod ComposedKeyFacts
 pub mod EnvelopeFacts

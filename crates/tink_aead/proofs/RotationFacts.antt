@@ -1,19 +1,27 @@
 -- What an entry made is decrypted by each list that has the entry.
-use Rattle.std.proofs.Common.{◌≡◌, ◌∙◌, ◌<◌, ◌++◌, ℕ, List, [], ◌∷◌, Bool, true, false, cond, Option, Some, None, Result, Ok, Err, length, take, drop, refl, sym, ap, subst, ⊎_elim}
-use Rattle.std.specs.Prelude.{filter}
+use Rattle.std.proofs.Common.{◌≡◌, ◌∙◌, ◌<◌, ◌++◌, ℕ, List, [], ◌∷◌, Bool, true, false, cond, Option, Some, None, Result, Ok, Err, length, take, drop, refl, sym, ap, subst, ⊎_elim, ◌⊎◌}
+use Rattle.std.specs.Prelude.{filter, find, nat_eq}
 use Rattle.std.specs.List.{All, Contains}
 use Rattle.std.specs.Str.{bytes_eq}
-use Rattle.std.proofs.lemmas.Bool.{lt-ltb}
+use Rattle.std.proofs.lemmas.Bool.{eqb-true, lt-ltb}
 use Rattle.std.proofs.lemmas.List.{drop_at, take_at}
-use Rattle.std.proofs.lemmas.List.Elements.{All-cons, All-contains, All-head, All-nil, All-tail, All-weaker}
+use Rattle.std.proofs.lemmas.List.Elements.{All-cons, All-contains, All-head, All-nil, All-tail, All-weaker, Contains-append_left, Contains-append_right, Contains-push}
 use Rattle.std.proofs.lemmas.Slice.Eq.{bytes_eq-Decides}
 use Rattle.tink_io.specs.declared.error.Kind.{Kind}
 use Rattle.tink_io.specs.declared.error.Kind.TheVariants.{DecryptFailed}
 use Rattle.tink_io.specs.Told.{made_of}
+use Rattle.tink_sets.specs.Entries.{entry_of_id}
 use Rattle.tink_sets.specs.declared.entry.TypedEntry.{TypedEntry}
+use Rattle.tink_aead_subtle.specs.Laws.{Undoes}
+use Rattle.tink_primitives.specs.Sorts.{as_aead}
+use Rattle.tink_primitives.specs.declared.primitive.Primitive.{Primitive}
+use Rattle.keyset_model.specs.Commands.{after_all}
+use Rattle.keyset_model.specs.Spared.{Spares}
+use Rattle.keyset_model.proofs.EnabledLaw.{keeps_enabled}
 use Rattle.tink_factory.specs.Accepting.{entries_of, first_value, or_else, prefixed_value, raw_value, value_or}
-use Rattle.tink_aead.specs.Rotation.{IsSealedBy, OldCiphertextsOpen, OpensTo}
-use Rattle.tink_aead.specs.Wrapped.{any_decrypts, entry_decrypts}
+use Rattle.tink_aead.specs.Rotation.{EnabledKeysOpen, EncryptedOpens, IsSealedBy, OldCiphertextsOpen, OpensTo}
+use Rattle.tink_aead.specs.Wrapped.{any_decrypts, entry_decrypts, entry_encrypts, primary_encrypts}
+use Rattle.tink_aead.proofs.KeyEntries.{key_of, of_enabled, of_own_prefix}
 
 -- ---- the first of a list that accepts, where all that accept give one value
 module _ {E A : Type 0} (f : E → Result A Kind) (t : E → Bool) (v : A) where
@@ -69,7 +77,7 @@ unmade g (Ok s) out e = let same : g s ≡ out = cc in (s, (refl, same))
 unmade g (Err k) out e = absurd (cc)
 
 module _ {P : Type 0} (encrypts : P → List ℕ → List ℕ → List ℕ → Result (List ℕ) Kind × List ℕ) (decrypts : P → List ℕ → List ℕ → Result (List ℕ) Kind)
-    (es : List (TypedEntry P)) (e : TypedEntry P) (text aad input : List ℕ) (there : Contains es e) (by : IsSealedBy encrypts decrypts e text aad input) (all : All (OpensTo encrypts decrypts text aad input) es) where
+    (es : List (TypedEntry P)) (e : TypedEntry P) (text aad input : List ℕ) (known : (length e.prefix ≡ 5) ⊎ (e.prefix ≡ [])) (there : Contains es e) (by : IsSealedBy encrypts decrypts e text aad input) (all : All (OpensTo encrypts decrypts text aad input) es) where
   abbrev answer : TypedEntry P → List ℕ → Result (List ℕ) Kind
   answer = entry_decrypts decrypts aad
 
@@ -120,7 +128,45 @@ module _ {P : Type 0} (encrypts : P → List ℕ → List ℕ → List ℕ → R
   opened =
       answer_is
       ∙ ⊎_elim (λ five. first behind whole (by_prefix five))
-      (λ none. later behind whole (λ w found. found_is (λ x. answer x (drop 5 input)) (with_prefix (take 5 input)) text es w alike_behind found) (without_prefix none)) by.prefix
+      (λ none. later behind whole (λ w found. found_is (λ x. answer x (drop 5 input)) (with_prefix (take 5 input)) text es w alike_behind found) (without_prefix none)) known
 
-pub old_ciphertexts_open : {P : Type 0} (encrypts : P → List ℕ → List ℕ → List ℕ → Result (List ℕ) Kind × List ℕ) (decrypts : P → List ℕ → List ℕ → Result (List ℕ) Kind) → OldCiphertextsOpen encrypts decrypts
-old_ciphertexts_open encrypts decrypts = λ es e text aad input there by all. opened encrypts decrypts es e text aad input there by all
+-- ---- an entry that is found by its id
+
+found_cond : {E : Type 0} (t : E → Bool) (x : E) (b : Bool) (rest : List E) (o : Option E) (e : E) → t x ≡ b → (o ≡ Some e → Contains rest e × (t e ≡ true)) → cond b (Some x) o ≡ Some e → Contains (x ∷ rest) e × (t e ≡ true)
+found_cond t x true rest o e is more found =
+    let same : x ≡ e = cc in
+    (subst (Contains (x ∷ rest)) same (Contains-append_left (x ∷ []) rest x (Contains-push [] x)), ap t (sym same) ∙ is)
+found_cond t x false rest o e is more found = let w = more found in (Contains-append_right (x ∷ []) rest e w.0, w.1)
+
+found_in : {E : Type 0} (t : E → Bool) (xs : List E) (e : E) → find t xs ≡ Some e → Contains xs e × (t e ≡ true)
+found_in t [] e found = absurd (cc)
+found_in t (x ∷ xs) e found = found_cond t x (t x) xs (find t xs) e refl (found_in t xs e) found
+
+module _ {P : Type 0} (encrypts : P → List ℕ → List ℕ → List ℕ → Result (List ℕ) Kind × List ℕ) (decrypts : P → List ℕ → List ℕ → Result (List ℕ) Kind) where
+  pub old_ciphertexts_open : OldCiphertextsOpen encrypts decrypts
+  old_ciphertexts_open = λ es e text aad input known there by all. opened encrypts decrypts es e text aad input known there by all
+
+  pub enabled_keys_open : {R K D HD HE M F S St V : Type 0} (url : R → List ℕ) (supports : R → List ℕ → Bool) (builds : R → List ℕ → Result (Primitive K P D HD HE M F S St V) Kind)
+      → EnabledKeysOpen encrypts decrypts url supports builds
+  enabled_keys_open url supports builds = λ makes managers m commands k e es text aad input there spared is all by opens.
+      let ks = (after_all makes m commands).keyset in
+      opened encrypts decrypts es e text aad input (of_own_prefix as_aead url supports builds managers k e is)
+      (of_enabled as_aead url supports builds managers ks k e es is (keeps_enabled makes m commands k there spared) all) by opens
+
+  -- the primary entry is there where it encrypted
+  by_primary : (o : Option (TypedEntry P)) (text aad draws input : List ℕ) → (primary_encrypts encrypts o text aad draws).0 ≡ Ok input → (e : TypedEntry P) × (o ≡ Some e) × ((entry_encrypts encrypts e text aad draws).0 ≡ Ok input)
+  by_primary (Some e) text aad draws input made = (e, refl, made)
+  by_primary None text aad draws input made = absurd (cc)
+
+  pub encrypted_opens : {R K D HD HE M F S St V : Type 0} (url : R → List ℕ) (supports : R → List ℕ → Bool) (builds : R → List ℕ → Result (Primitive K P D HD HE M F S St V) Kind)
+      → EncryptedOpens encrypts decrypts url supports builds
+  encrypted_opens url supports builds = λ makes managers m commands es later text aad draws input spared all undo made long after opens.
+      let id = m.keyset.primary_key_id in
+      let by = by_primary (entry_of_id id es) text aad draws input made in
+      let e = by.0 in
+      let there = found_in (λ x. nat_eq x.key_id id) es e by.1 in
+      let own = key_of as_aead url supports builds managers m.keyset e es all there.0 in
+      let k = own.0 in
+      let same : id ≡ k.key_id = sym (own.3 ∙ eqb-true e.key_id id there.1) in
+      enabled_keys_open url supports builds makes managers m commands k e later text aad input own.1 (subst (λ n. All (Spares n) commands) same spared) own.2 after
+      (record { draws = draws; made = by.2; undoes = All-contains (λ x. Undoes (encrypts x.primitive) (decrypts x.primitive)) es e undo there.0; long = long }) opens
