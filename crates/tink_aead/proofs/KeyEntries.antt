@@ -18,7 +18,7 @@ use Rattle.tink_sets.specs.Converting.{before, converted}
 use Rattle.tink_sets.specs.Entries.{entry_of, own_prefix, typed_by, with_primitive}
 use Rattle.tink_sets.specs.declared.entry.Entry.{Entry}
 use Rattle.tink_sets.specs.declared.entry.TypedEntry.{TypedEntry}
-use Rattle.tink_keysets.specs.Managed as managed
+use Rattle.tink_building.specs.Given as given
 use Rattle.tink_keysets.specs.Built as built
 use Rattle.keyset_model.specs.Keys.{enabled}
 use Rattle.keyset_model.specs.Entries.{byte_and_id}
@@ -51,14 +51,14 @@ module _ {S T : Type 0} (f : S → Result T Kind) where
   all_converted [] ys e = All-nil (GivesIn ys)
   all_converted (x ∷ xs) ys e = each_converted x (f x) xs (converted f xs) ys refl (all_converted xs) e
 
-  same_before : (r : Result T Kind) (rest : Result (List T) Kind) → managed.before r rest ≡ before r rest
+  same_before : (r : Result T Kind) (rest : Result (List T) Kind) → given.before r rest ≡ before r rest
   same_before (Ok v) (Ok vs) = refl
   same_before (Ok v) (Err k) = refl
   same_before (Err k) rest = refl
 
-  given-converted : (xs : List S) → managed.given_each f xs ≡ converted f xs
+  given-converted : (xs : List S) → given.given_each f xs ≡ converted f xs
   given-converted [] = refl
-  given-converted (x ∷ xs) = ap (managed.before (f x)) (given-converted xs) ∙ same_before (f x) (converted f xs)
+  given-converted (x ∷ xs) = ap (given.before (f x)) (given-converted xs) ∙ same_before (f x) (converted f xs)
 
   in_converted : (xs : List S) (ys : List T) (x : S) (y : T) → converted f xs ≡ Ok ys → Contains xs x → f x ≡ Ok y → Contains ys y
   in_converted xs ys x y all there one = All-contains (GivesIn ys) xs x (all_converted xs ys all) there y one
@@ -166,7 +166,7 @@ module _ {R K A D HD HE M P S St V Q : Type 0} (pick : Primitive K A D HD HE M P
   of_enabled ks k e es is there all =
       let one = then_ok (give k) (typed_by pick) e is in
       let list = by_list ks.primary_key_id (built.built_entries url supports builds entry_of managers None ks) es all in
-      let given = cond_ok _ (managed.given_each give (enabled ks)) InvalidKeyset list.0 list.1 in
+      let given = cond_ok _ (given.given_each give (enabled ks)) InvalidKeyset list.0 list.1 in
       let kept = in_converted give (enabled ks) list.0 k one.0 (sym (given-converted give (enabled ks)) ∙ given) there one.1 in
       in_converted (typed_by pick) list.0 es one.0 e list.2 kept one.2
 
@@ -175,7 +175,7 @@ module _ {R K A D HD HE M P S St V Q : Type 0} (pick : Primitive K A D HD HE M P
       → (k : Key) × (Contains (enabled ks) k) × (and_then (give k) (typed_by pick) ≡ Ok e) × (k.key_id ≡ e.key_id)
   key_of ks e es all there =
       let list = by_list ks.primary_key_id (built.built_entries url supports builds entry_of managers None ks) es all in
-      let given = cond_ok _ (managed.given_each give (enabled ks)) InvalidKeyset list.0 list.1 in
+      let given = cond_ok _ (given.given_each give (enabled ks)) InvalidKeyset list.0 list.1 in
       let typed = of_converted (typed_by pick) list.0 es e list.2 there in
       let made = of_converted give (enabled ks) list.0 typed.0 (sym (given-converted give (enabled ks)) ∙ given) typed.1 in (
         made.0,
