@@ -1,0 +1,38 @@
+-- The registry of all managers and templates.
+use Rattle.std.specs.Prelude.{◌∷◌, ◌++◌, [], List, fold}
+use Rattle.tink_registry.specs.Listed.{with_all, with_template, Named, Registered}
+use Rattle.tink_prf.specs.Templates.{prf_templates}
+use Rattle.tink_mac.specs.Templates.{mac_templates}
+use Rattle.tink_aead.specs.Templates.{aead_templates}
+use Rattle.tink_streaming_aead.specs.Templates.{streaming_templates}
+use Rattle.tink.specs.declared.managers.Managers.{Managers}
+use Rattle.tink.specs.declared.managers.Managers.TheVariants.{AesCmac, AesCmacPrf, AesCtrHmac, AesCtrHmacAead, AesGcm, AesGcmHkdf, AesGcmSiv, HkdfPrf, Hmac, HmacPrf}
+
+abbrev pub prf_managers : List Managers
+prf_managers = HmacPrf ∷ HkdfPrf ∷ AesCmacPrf ∷ []
+
+abbrev pub mac_managers : List Managers
+mac_managers = Hmac ∷ AesCmac ∷ []
+
+abbrev pub aead_managers : List Managers
+aead_managers = AesCtrHmacAead ∷ AesGcm ∷ AesGcmSiv ∷ []
+
+abbrev pub streaming_managers : List Managers
+streaming_managers = AesCtrHmac ∷ AesGcmHkdf ∷ []
+
+-- a registry of nothing, and then of the managers and templates of each sort
+abbrev pub nothing : Registered Managers
+nothing = record { managers = []; templates = [] }
+
+abbrev pub with_prfs : Registered Managers
+with_prfs = with_all nothing prf_managers prf_templates
+
+abbrev pub with_macs : Registered Managers
+with_macs = with_all with_prfs mac_managers mac_templates
+
+abbrev pub with_aeads : Registered Managers
+with_aeads = with_all with_macs aead_managers aead_templates
+
+-- all ten managers, in the order of registration, and all templates, in the order of their names
+abbrev pub with_everything : Registered Managers
+with_everything = with_all with_aeads streaming_managers streaming_templates

@@ -1,0 +1,81 @@
+//! What a key of a type of keys builds, as a primitive of all sorts, and what its formats make.
+
+ghost use Rattle.std.specs.Prelude.{◌≡◌};
+ghost use Rattle.tink_io.specs.Told.{Answers, Replies};
+ghost use Rattle.tink_primitives.specs.Sorts.{as_aead, as_mac, as_prf, as_streaming_aead};
+ghost use Rattle.tink_key_types.specs.Manager.{builds, makes, makes_data};
+ghost use Rattle.tink.specs.Managers.{as_built_aead, as_built_mac, as_built_prf, as_built_stream};
+ghost use Rattle.tink.specs.Rows.{widened};
+
+use crate::managers::TinkKinds;
+use std::alloc::Global;
+use tink_aead::AeadKinds;
+use tink_core::registry::KeyManager;
+use tink_core::{Draws, Primitive, TinkError};
+use tink_key_types::{KeyType, SymmetricKeyManager};
+use tink_mac::MacKinds;
+use tink_prf::PrfKinds;
+use tink_proto::{Bytes, KeyData};
+use tink_streaming_aead::StreamKinds;
+
+// The AEAD of a key's bytes.
+pub fn build_aead<T: KeyType<Family = AeadKinds>>(
+    alloc: Global,
+    key: &[u8],
+) -> Result<Primitive<TinkKinds>, TinkError>
+    ensures { Answers result (widened as_aead as_built_aead (builds T.Key.table T.built key.now)) }
+{
+    let built = SymmetricKeyManager::<T>::new().primitive(alloc, key)?;
+    Ok(Primitive::Aead(built.into_aead()?))
+}
+
+// The MAC of a key's bytes.
+pub fn build_mac<T: KeyType<Family = MacKinds>>(
+    alloc: Global,
+    key: &[u8],
+) -> Result<Primitive<TinkKinds>, TinkError>
+    ensures { Answers result (widened as_mac as_built_mac (builds T.Key.table T.built key.now)) }
+{
+    let built = SymmetricKeyManager::<T>::new().primitive(alloc, key)?;
+    Ok(Primitive::Mac(built.into_mac()?))
+}
+
+// The pseudorandom function of a key's bytes.
+pub fn build_prf<T: KeyType<Family = PrfKinds>>(
+    alloc: Global,
+    key: &[u8],
+) -> Result<Primitive<TinkKinds>, TinkError>
+    ensures { Answers result (widened as_prf as_built_prf (builds T.Key.table T.built key.now)) }
+{
+    let built = SymmetricKeyManager::<T>::new().primitive(alloc, key)?;
+    Ok(Primitive::Prf(built.into_prf()?))
+}
+
+// The streaming AEAD of a key's bytes.
+pub fn build_streaming_aead<T: KeyType<Family = StreamKinds>>(
+    alloc: Global,
+    key: &[u8],
+) -> Result<Primitive<TinkKinds>, TinkError>
+    ensures { Answers result (widened as_streaming_aead as_built_stream (builds T.Key.table T.built key.now)) }
+{
+    let built = SymmetricKeyManager::<T>::new().primitive(alloc, key)?;
+    Ok(Primitive::StreamingAead(built.into_streaming_aead()?))
+}
+
+// The bytes of a new key of a format's bytes.
+pub fn make<T: KeyType>(alloc: Global, format: &[u8], draws: &mut Draws) -> Result<Bytes, TinkError>
+    ensures { Replies result (makes T.Key.table T.Format.table T.made format.now draws.old) draws.old draws.new }
+{
+    SymmetricKeyManager::<T>::new().new_key(alloc, format, draws)
+}
+
+// The data of a new key of a format's bytes.
+pub fn make_data<T: KeyType>(
+    alloc: Global,
+    format: &[u8],
+    draws: &mut Draws,
+) -> Result<KeyData, TinkError>
+    ensures { Replies result (makes_data T.url T.Key.table T.Format.table T.made format.now draws.old) draws.old draws.new }
+{
+    SymmetricKeyManager::<T>::new().new_key_data(alloc, format, draws)
+}

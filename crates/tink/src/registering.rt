@@ -1,0 +1,58 @@
+//! The registry of all managers and templates.
+
+ghost use Rattle.std.specs.Prelude.{◌≡◌, IfErr, IfOk, OnOk};
+ghost use Rattle.tink_io.specs.declared.error.Kind.TheVariants.{OutOfMemory};
+ghost use Rattle.tink.specs.Registered.{nothing, with_aeads, with_everything, with_macs, with_prfs};
+
+use crate::Managers;
+use std::alloc::Global;
+use tink_core::TinkError;
+use tink_core::registry::Registry;
+
+/// A registry of all ten managers and of the 25 templates that have a name.
+///
+/// # Errors
+/// `OutOfMemory` alone.
+pub fn registry(alloc: Global) -> Result<Registry<Managers>, TinkError>
+    ensures ok { IfOk result (λ r. r ≡ with_everything) }
+    ensures cause { IfErr result (λ e. e.kind ≡ OutOfMemory) }
+{
+    let mut registry = Registry::new(alloc);
+    add_prfs(alloc, &mut registry)?;
+    add_macs(alloc, &mut registry)?;
+    add_aeads(alloc, &mut registry)?;
+    add_streaming_aeads(alloc, &mut registry)?;
+    Ok(registry)
+}
+
+fn add_prfs(alloc: Global, registry: &mut Registry<Managers>) -> Result<(), TinkError>
+    requires { registry.old ≡ nothing }
+    ensures ok { OnOk result (registry.new ≡ with_prfs) }
+    ensures cause { IfErr result (λ e. e.kind ≡ OutOfMemory) }
+{
+    tink_prf::init(alloc, registry)
+}
+
+fn add_macs(alloc: Global, registry: &mut Registry<Managers>) -> Result<(), TinkError>
+    requires { registry.old ≡ with_prfs }
+    ensures ok { OnOk result (registry.new ≡ with_macs) }
+    ensures cause { IfErr result (λ e. e.kind ≡ OutOfMemory) }
+{
+    tink_mac::init(alloc, registry)
+}
+
+fn add_aeads(alloc: Global, registry: &mut Registry<Managers>) -> Result<(), TinkError>
+    requires { registry.old ≡ with_macs }
+    ensures ok { OnOk result (registry.new ≡ with_aeads) }
+    ensures cause { IfErr result (λ e. e.kind ≡ OutOfMemory) }
+{
+    tink_aead::init(alloc, registry)
+}
+
+fn add_streaming_aeads(alloc: Global, registry: &mut Registry<Managers>) -> Result<(), TinkError>
+    requires { registry.old ≡ with_aeads }
+    ensures ok { OnOk result (registry.new ≡ with_everything) }
+    ensures cause { IfErr result (λ e. e.kind ≡ OutOfMemory) }
+{
+    tink_streaming_aead::init(alloc, registry)
+}

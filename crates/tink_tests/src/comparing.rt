@@ -1,0 +1,12 @@
+//! The one place that compares.
+
+use std::fmt::Debug;
+use std::process::Abort;
+
+/// A test function with many `assert_eq!` takes long to prove.
+pub fn expect<T>(rt: &impl Abort, got: T, want: T, label: &str)
+where
+    T: PartialEq + Debug + Drop,
+{
+    assert_eq!(rt; got, want, "{label}");
+}
