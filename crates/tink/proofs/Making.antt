@@ -2,7 +2,7 @@
 use Rattle.std.proofs.Common.{◌≡◌, ◌∷◌, List, [], refl, sym, ap, subst, ◌∙◌, inl, inr}
 use Rattle.std.specs.Prelude.{◌⊎◌, ⊤, ℕ, true, false, Result, Ok, Err, OnOk, IfErr}
 use Rattle.std.proofs.lemmas.Bool.{false≢true}
-use Rattle.tink_io.specs.declared.error.Kind.TheVariants.{OutOfMemory}
+use Rattle.tink_io.specs.declared.error.Kind.TheVariants.{AlreadyRegistered, OutOfMemory}
 use Rattle.tink_io.specs.declared.error.TinkError.{TinkError}
 use Rattle.tink_registry.specs.Listed.{are_all_fresh, with_all, Named, Registered}
 use Rattle.tink_registry.specs.Registering.{AreMade, Registers}
@@ -32,13 +32,13 @@ module _ {M : Type 0} where
   pub registered : (url : M → List ℕ) (makers : List (M → Type 0)) (ms : List M) (templates : List Named) (old new : Registered M) (r : Result (Unit {0}) TinkError)
       → MakeThese makers ms → are_all_fresh url old.managers ms ≡ true → Registers (AreMade makers) url templates old new r → Leaves (with_all old ms templates) r new
   registered url makers ms templates old new (Ok _) these fresh registers =
-      subst (λ xs. new ≡ with_all old xs templates) (these_made makers ms registers.0 these registers.1.0) registers.1.1.1
+      subst (λ xs. new ≡ with_all old xs templates) (these_made makers ms registers.0 these registers.1) registers.3
   registered url makers ms templates old new (Err e) these fresh registers = memory registers.1
     where
-      memory : ((e.kind ≡ OutOfMemory) ⊎ ((xs : List M) × AreMade makers xs × (e.kind ≡ _) × (are_all_fresh url old.managers xs ≡ false))) → e.kind ≡ OutOfMemory
+      memory : ((e.kind ≡ OutOfMemory) ⊎ ((xs : List M) × AreMade makers xs × (e.kind ≡ AlreadyRegistered) × (are_all_fresh url old.managers xs ≡ false))) → e.kind ≡ OutOfMemory
       memory (inl is) = is
       memory (inr found) =
-          elim (false≢true (sym (subst (λ xs. are_all_fresh url old.managers xs ≡ false) (these_made makers ms found.0 these found.1.0) found.1.1.1) ∙ fresh)) [ ]
+          elim (false≢true (sym (subst (λ xs. are_all_fresh url old.managers xs ≡ false) (these_made makers ms found.0 these found.1) found.3) ∙ fresh)) [ ]
 
   pub leaves_ok : (told new : Registered M) (r : Result (Unit {0}) TinkError) → Leaves told r new → OnOk r (new ≡ told)
   leaves_ok told new (Ok _) leaves = leaves

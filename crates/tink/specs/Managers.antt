@@ -1,6 +1,5 @@
 -- The ten managers, a row each.
-use Rattle.std.specs.Prelude.{◌≡◌, ⊤, ◌∷◌, [], ℕ, List, Result, Ok, Err, is_some, nat_eq}
-use Rattle.tink_io.specs.declared.error.Kind.{Kind}
+use Rattle.std.specs.Prelude.{is_some, nat_eq}
 use Rattle.tink_io.specs.declared.error.Kind.TheVariants.{InvalidKey}
 use Rattle.tink_io.specs.Told.{made_of, or_refused}
 use Rattle.tink_primitives.specs.declared.kinds.Never.{Never}

@@ -1,6 +1,6 @@
 -- The registry of all managers and templates.
-use Rattle.std.specs.Prelude.{◌∷◌, ◌++◌, [], List, fold}
-use Rattle.tink_registry.specs.Listed.{with_all, with_template, Named, Registered}
+use Rattle.std.specs.Prelude.{◌∷◌, [], List}
+use Rattle.tink_registry.specs.Listed.{with_all, Registered}
 use Rattle.tink_prf.specs.Templates.{prf_templates}
 use Rattle.tink_mac.specs.Templates.{mac_templates}
 use Rattle.tink_aead.specs.Templates.{aead_templates}

@@ -1,6 +1,6 @@
-use Rattle.std.proofs.Common.{◌≡◌, ◌∷◌, [], refl, subst, OnOk, IfErr, Result}
+use Rattle.std.proofs.Common.{◌≡◌, ◌∷◌, [], refl, subst, Result}
 use Rattle.tink_io.specs.declared.error.TinkError.{TinkError}
-use Rattle.tink_registry.specs.Listed.{with_all, Registered}
+use Rattle.tink_registry.specs.Listed.{Registered}
 use Rattle.tink_registry.specs.Registering.{AreMade, IsMade, Registers}
 use Rattle.tink_streaming_aead.specs.Templates.{streaming_templates}
 use Rattle.tink.specs.declared.managers.Managers.{Managers}
