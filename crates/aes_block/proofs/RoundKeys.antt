@@ -97,7 +97,7 @@ scheduled : {ks : List (List ℕ)} (words : List (List ℕ)) (key : List ℕ) (n
     → ks ≡ round_keys (schedule n key (3 * n + 28)) r
 scheduled words key n r front h keys = keys ∙ sym (round_keys-take words (4 * n + 28) r h) ∙ ap (λ w. round_keys w r) front
 
--- a schedule in the front of a buffer, joined to round keys
+-- a schedule as a prefix of a buffer, joined to round keys
 pub view_of_new : (ks words : List (List ℕ)) (key : List ℕ) (n : ℕ) → IsKeySize (length key) → n ≡ length key / 4 → take (n + 6 + 1) ks ≡ round_keys words (n + 6 + 1)
     → take (4 * n + 28) words ≡ schedule n key (3 * n + 28) → key_of ks (n + 6) ≡ key
 view_of_new ks words key n sizes count keys front =

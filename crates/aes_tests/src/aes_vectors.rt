@@ -10,7 +10,7 @@ use cipher::{BlockCipherDecrypt, BlockCipherEncrypt, InvalidLength, KeyInit};
 use std::alloc::AllocError;
 use std::test::Fail;
 
-// FIPS 197, C.1 to C.3: the front of each key, and the block
+// FIPS 197, C.1 to C.3: the prefix of each key, and the block
 const KEY: &[u8; 32] = &[
     0, 1, 2, 3, 4, 5, 6, 7, 8, 9, 10, 11, 12, 13, 14, 15, 16, 17, 18, 19, 20, 21, 22, 23, 24, 25,
     26, 27, 28, 29, 30, 31,

@@ -2,8 +2,8 @@
 
 ghost use Rattle.std.proofs.Common.{◌∙◌, refl};
 ghost use Rattle.std.specs.Prelude.{◌≡◌, ℕ, List};
-ghost use Rattle.cipher.proofs.XorBytes.{length-xor_bytes};
-ghost use Rattle.cipher.specs.Buffers.{xor_bytes};
+ghost use Rattle.standards.proofs.ListFacts.{length-xor_bytes};
+ghost use Rattle.standards.specs.Lists.{xor_bytes};
 ghost use Rattle.cipher_modes.specs.Steps.{run_of};
 
 use cipher::{BlockCipherEncrypt, InOut, InnerIvInit, IvState, KeyInit, KeyIvInit, SetIvState};

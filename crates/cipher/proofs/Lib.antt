@@ -1,6 +1,5 @@
 pub mod Led
 pub mod Parts
-pub mod XorBytes
 pub mod Chunks
 pub mod UnderTweak
 pub mod Alike

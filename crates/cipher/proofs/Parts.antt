@@ -6,6 +6,7 @@ use Rattle.std.proofs.lemmas.Bool.{eq-eqb}
 use Rattle.std.proofs.lemmas.Bool.Decides.{eqb_tells}
 use Rattle.std.proofs.Math.Seq.{take-add}
 use Rattle.std.proofs.Math.Dec.{eqb-zero-suc}
+use Rattle.std.specs.Borrow.{Bor}
 use Rattle.cipher.specs.Buffers.{pick, part_of}
 use borrow.Rule.Slice.PartMut.{put_mid}
 
@@ -139,6 +140,21 @@ one_more f old cur y d a h e w =
 -- a map works in order
 pub map-in_order : {X : Type 0} (f : X → X) → InOrder (map f) (λ _ ys. map f ys)
 map-in_order f = record { size = λ xs. length-map xs f; joins = λ xs ys. map-append f xs ys }
+
+-- a loop that maps part by part, the last part, and place by place: j is the input as the loop holds it
+pub map_next : {X : Type 0} (f : X → X) (i old cur ys p : List X) (a k : ℕ) → a + k ≤ length old → cur ≡ map f (take a (pick i old)) ++ drop a old
+    → p ≡ part_of i (length old) a (a + k) → ys ≡ map f (pick p (take (a + k - a) (drop a cur))) → put_mid a (a + k - a) cur ys ≡ map f (take (a + k) (pick i old)) ++ drop (a + k) old
+map_next f i old cur ys p a k h e pe w = parts_next (map-in_order f) i old cur ys p a k (a + k - a) (omega arith) h e pe w
+
+pub map_last : {X : Type 0} (f : X → X) (i old cur ys p : List X) (a : ℕ) → a ≤ length old → length cur ≡ length old → cur ≡ map f (take a (pick i old)) ++ drop a old
+    → p ≡ part_of i (length old) a (length old) → ys ≡ map f (pick p (take (length cur - a) (drop a cur))) → put_mid a (length cur - a) cur ys ≡ map f (pick i old)
+map_last f i old cur ys p a h lc e pe w = parts_last (map-in_order f) i old cur ys p (take (length cur - a) (drop a cur)) a h lc e pe (take_rest cur a) w
+
+pub map_place : {X : Type 0} (f : X → X) (i j : Bor (List X)) (old cur p : List X) (y d : X) (a : ℕ) → a < length old → j ≡ i → cur ≡ map f (take a (pick i.now old)) ++ drop a old
+    → p ≡ part_of j.now (length old) a (a + 1) → y ≡ f (get_or p 0 (get_or cur a d)) → set cur a y ≡ map f (take (a + 1) (pick i.now old)) ++ drop (a + 1) old
+map_place f i j old cur p y d a h same e pe w =
+    let lc : length cur ≡ length old = length_so_far (map-in_order f) i.now old cur a (omega arith) e in
+    place_more (map-in_order f) (λ _. f) (λ _ _. refl) i.now old cur p y (get_or cur a d) a h e (read_again cur a d (omega arith)) (pe ∙ ap (λ b. part_of b.now (length old) a (a + 1)) same) w
 
 -- what a part reads, and what a place reads, though the places before are written already
 pub read_part : {X : Type 0} {all : List X → List X} {after : List X → List X → List X} → InOrder all after → (i old cur p : List X) (a k j : ℕ) → j ≡ k → a + k ≤ length old

@@ -1,5 +1,5 @@
 -- What a buffer reads: the input where there is one, and else what stands in the output.
-use Rattle.std.specs.Prelude.{ℕ, List, [], ◌∷◌, ◌-◌, take, drop, length, cond, ◌==◌, slice_index_or, bit_xor}
+use Rattle.std.specs.Prelude.{ℕ, List, [], ◌-◌, take, drop, length, cond, ◌==◌, slice_index_or}
 use Rattle.cipher.specs.declared.buffers.InOutBuf.{InOutBuf}
 use Rattle.cipher.specs.declared.buffers.InOut.{InOut}
 use Rattle.cipher.specs.declared.buffers.InOutBufReserved.{InOutBufReserved}
@@ -22,9 +22,3 @@ message_of b = pick b.input.now (take b.len b.output.now)
 -- what an input of an output of n has at the places from a to before e
 abbrev pub part_of : {X : Type 0} → List X → ℕ → ℕ → ℕ → List X
 part_of input n a e = cond (length input == n) (take (e - a) (drop a input)) []
-
--- the bytes of xs xor those of ys, as far as ys goes
-abbrev pub xor_bytes : List ℕ → List ℕ → List ℕ
-xor_bytes [] ys = []
-xor_bytes (x ∷ xs) [] = x ∷ xs
-xor_bytes (x ∷ xs) (y ∷ ys) = bit_xor x y ∷ xor_bytes xs ys

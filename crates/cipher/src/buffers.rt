@@ -3,7 +3,8 @@
 ghost use Rattle.std.specs.Prelude.{◌≡◌, ◌↔◌, ℕ, ◌+◌, ◌-◌, ◌*◌, ◌/◌, ◌<◌, ◌≤◌, IsTrue, IsOk, IfOk, OnOk, length, take, drop, slice_index_or};
 ghost use Rattle.std.specs.Simd.{first_chunks};
 ghost use Rattle.std.specs.Mem.{FitsInMemory};
-ghost use Rattle.cipher.specs.Buffers.{part_of, pick, read_of, read_all, message_of, xor_bytes};
+ghost use Rattle.cipher.specs.Buffers.{part_of, pick, read_of, read_all, message_of};
+ghost use Rattle.standards.specs.Lists.{xor_bytes};
 
 use std::fmt;
 

@@ -1,4 +1,4 @@
--- A message with its padding in the front of a buffer.
+-- A message with its padding as a prefix of a buffer.
 use Rattle.std.proofs.Common.{◌≡◌, ℕ, ◌+◌, ◌-◌, ◌≤◌, true, false, List, ◌++◌, Option, None, Some, length, take, drop, ap, sym, ◌∙◌, refl, arith, append_assoc, length-append, length-take}
 use Rattle.std.proofs.lemmas.List.{take_at, drop_at, drop-drop}
 use Rattle.std.specs.Prelude.{option_map, Result, Ok, Err, IsOk, OnErr, ◌↔◌}

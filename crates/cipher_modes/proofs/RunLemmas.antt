@@ -2,9 +2,10 @@
 use Rattle.std.proofs.Common.{◌≡◌, ℕ, suc, ◌+◌, ◌-◌, ◌<◌, ◌≤◌, List, [], ◌∷◌, ◌++◌, take, drop, set, get_or, length, ap, sym, ◌∙◌, refl, arith}
 use Rattle.std.proofs.lemmas.List.{take_more, take-append-drop}
 use Rattle.std.proofs.Math.Seq.{take-add}
+use Rattle.std.specs.Borrow.{Bor}
 use Rattle.cipher.specs.Buffers.{pick, part_of}
 use Rattle.cipher.specs.Transcript.{Block}
-use Rattle.cipher.proofs.Parts.{InOrder, length-pick, parts_next, parts_last, place_more, read_part, read_rest, read_place}
+use Rattle.cipher.proofs.Parts.{InOrder, length-pick, length_so_far, parts_next, parts_last, place_more, read_again, read_part, read_rest, read_place}
 use Rattle.cipher_modes.specs.Steps.{run_of, state_after}
 use borrow.Rule.Slice.PartMut.{put_mid}
 
@@ -74,6 +75,23 @@ state-one step s t t' i old cur p d a h e te dd pe w =
     let x : Block = get_or xs a d in
     w ∙ (ap (λ z. (step t z).1) (read_place (run-in_order step s) i old cur p d a h e dd pe) ∙ (ap (λ u. (step u x).1) te
     ∙ (sym (state_after-append step s (take a xs) (x ∷ [])) ∙ ap (state_after step s) (sym (take_more xs a d (omega arith))))))
+
+-- .. in a loop that holds the input as j
+pub place-within : {S : Type 0} (step : S → Block → Block × S) (s : S) (i old cur : List Block) (a : ℕ) → a < length old → cur ≡ run_of step s (take a (pick i old)) ++ drop a old → a < length cur
+place-within step s i old cur a h e =
+    let size : length cur ≡ length old = length_so_far (run-in_order step s) i old cur a (omega arith) e in omega arith
+
+pub place-output : {S : Type 0} (step : S → Block → Block × S) (s t : S) (i j : Bor (List Block)) (old cur p : List Block) (y d : Block) (a : ℕ) → a < length old → j ≡ i
+    → cur ≡ run_of step s (take a (pick i.now old)) ++ drop a old → t ≡ state_after step s (take a (pick i.now old)) → p ≡ part_of j.now (length old) a (a + 1)
+    → y ≡ (step t (get_or p 0 (get_or cur a d))).0 → set cur a y ≡ run_of step s (take (a + 1) (pick i.now old)) ++ drop (a + 1) old
+place-output step s t i j old cur p y d a h same e te pe w =
+    outputs-one step s t i.now old cur p y (get_or cur a d) a h e te (read_again cur a d (place-within step s i.now old cur a h e)) (pe ∙ ap (λ b. part_of b.now (length old) a (a + 1)) same) w
+
+pub place-state : {S : Type 0} (step : S → Block → Block × S) (s t t' : S) (i j : Bor (List Block)) (old cur p : List Block) (d : Block) (a : ℕ) → a < length old → j ≡ i
+    → cur ≡ run_of step s (take a (pick i.now old)) ++ drop a old → t ≡ state_after step s (take a (pick i.now old)) → p ≡ part_of j.now (length old) a (a + 1)
+    → t' ≡ (step t (get_or p 0 (get_or cur a d))).1 → t' ≡ state_after step s (take (a + 1) (pick i.now old))
+place-state step s t t' i j old cur p d a h same e te pe w =
+    state-one step s t t' i.now old cur p (get_or cur a d) a h e te (read_again cur a d (place-within step s i.now old cur a h e)) (pe ∙ ap (λ b. part_of b.now (length old) a (a + 1)) same) w
 
 pub width-next : {S : Type 0} (step : S → Block → Block × S) (lanes : S → ℕ) → ((s : S) (x : Block) → lanes (step s x).1 ≡ lanes s) → (t t' : S) (xs : List Block) (width : ℕ)
     → t' ≡ state_after step t xs → lanes t ≡ width → lanes t' ≡ width

@@ -318,7 +318,7 @@ pub trait BlockModeDecrypt<const B: usize>: Sized + Drop {
         }
     }
 
-    /// Decrypts bytes in the front of another buffer, and answers the length of the message. It is refused as
+    /// Decrypts bytes in a prefix of another buffer, and answers the length of the message. It is refused as
     /// `decrypt_padded_len` is, and exactly where the buffer is shorter than the bytes too: then nothing is written.
     final fn decrypt_padded_b2b_len<P: Padding>(
         mut self,

@@ -12,7 +12,7 @@ use crate::modes::{BlockModeDecrypt, BlockModeEncrypt};
 use crate::padding::{PadError, Padding, UnpadError};
 use std::alloc::Global;
 
-// pads a message, which is an input of `len` bytes or the front of the output, and encrypts it in the output
+// pads a message, which is an input of `len` bytes or a prefix of the output, and encrypts it in the output
 pub(crate) fn encrypt_message<P: Padding, M: BlockModeEncrypt<B>, const B: usize>(
     mode: &mut M,
     output: &mut [u8],
@@ -116,7 +116,7 @@ pub(crate) fn decrypt_message<P: Padding, M: BlockModeDecrypt<B>, const B: usize
     }
 }
 
-// the same in the front of a longer output
+// the same in a prefix of a longer output
 pub(crate) fn decrypt_front<P: Padding, M: BlockModeDecrypt<B>, const B: usize>(
     mode: &mut M,
     output: &mut [u8],

@@ -3,7 +3,7 @@ use Rattle.std.proofs.Common.{◌≡◌, ℕ, suc, ◌+◌, ◌≤◌, ◌<◌, 
 use Rattle.std.proofs.lemmas.List.{take_at, drop_at, drop-drop, take_all, drop_all, append-nil, take_more, set_at, get_or-drop}
 use Rattle.std.proofs.Math.Seq.{take-add}
 use Rattle.std.specs.List.{range_with_len}
-use Rattle.cipher.specs.Buffers.{xor_bytes}
+use Rattle.standards.specs.Lists.{xor_bytes}
 use Rattle.cipher_stream.specs.Keystream.{combined, applied}
 use borrow.Rule.Slice.PartMut.{put_mid}
 

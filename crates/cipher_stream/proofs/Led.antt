@@ -1,6 +1,7 @@
 -- What a core leaves behind the closures of this crate.
 use Rattle.std.proofs.Common.{◌≡◌, ℕ, Option, List, [], ◌∷◌, get_or, length, ap, subst, sym, ◌∙◌}
-use Rattle.cipher.specs.Buffers.{pick, xor_bytes}
+use Rattle.cipher.specs.Buffers.{pick}
+use Rattle.standards.specs.Lists.{xor_bytes}
 use Rattle.cipher.specs.Transcript.{Block}
 use Rattle.cipher.proofs.Parts.{length-pick}
 use Rattle.cipher_stream.specs.Keystream.{Keystream, next, stream_of, IsMoved, IsFed, IsServed, Spends, applied}

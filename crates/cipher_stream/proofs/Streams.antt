@@ -46,6 +46,28 @@ fill_all k old cur i h e =
     let le : length old ≤ i = omega arith in
     e ∙ (ap (λ l. next i k ++ l) (drop_all i old le) ∙ (append-nil (next i k) ∙ ap (λ n. next n k) h))
 
+-- A loop that fills places block by block, over a backend whose calls keep what `keeps` says.
+pub record Filled {S : Type 0} (keeps : S → S → Type 0) (lanes : S → ℕ) (keystream : S → Keystream) (before now : S) (old cur : List Block) (i : ℕ) : Type 0 where
+  pub kept : keeps before now
+  pub same_lanes : lanes now ≡ lanes before
+  pub is_moved : IsMoved (keystream before) i (keystream now)
+  pub so_far : cur ≡ next i (keystream before) ++ drop i old
+
+pub filled_more : {S : Type 0} {keeps : S → S → Type 0} {lanes : S → ℕ} {keystream : S → Keystream} → ((s t u : S) → keeps s t → keeps t u → keeps s u) → (before now then : S) (old cur : List Block) (y : Block) (i : ℕ) → i < length old
+    → Filled keeps lanes keystream before now old cur i → keeps now then → lanes then ≡ lanes now → y ≡ stream_of (keystream now) 0 → IsMoved (keystream now) 1 (keystream then)
+    → Filled keeps lanes keystream before then old (set cur i y) (i + 1)
+filled_more {S} {keeps} {lanes} {keystream} both before now then old cur y i h f kept same value moved =
+    record {
+      kept = both before now then f.kept kept;
+      same_lanes = same ∙ f.same_lanes;
+      is_moved = moved_both (keystream before) (keystream now) (keystream then) i 1 f.is_moved moved;
+      so_far = fill_more (keystream before) (keystream now) old cur y i h f.so_far f.is_moved value;
+    }
+
+pub filled_moved : {S : Type 0} {keeps : S → S → Type 0} {lanes : S → ℕ} {keystream : S → Keystream} {before now : S} {old cur : List Block} {i : ℕ} → i ≡ length old
+    → Filled keeps lanes keystream before now old cur i → IsMoved (keystream before) (length old) (keystream now)
+filled_moved {S} {keeps} {lanes} {keystream} {before} {now} all f = subst (λ n. IsMoved (keystream before) n (keystream now)) all f.is_moved
+
 -- the next m, and then the next n of the rest
 pub next-add : (k k' : Keystream) (m n : ℕ) → IsMoved k m k' → next (m + n) k ≡ next m k ++ next n k'
 next-add k k' m zero h = let z : m + 0 ≡ m = omega arith in ap (λ j. next j k) z ∙ sym (append-nil (next m k))

@@ -1,6 +1,7 @@
 -- The meaning of the closures of this crate.
 use Rattle.std.specs.Prelude.{◌≡◌, ℕ, List, [], ◌∷◌, length, slice_index_or}
-use Rattle.cipher.specs.Buffers.{pick, xor_bytes}
+use Rattle.cipher.specs.Buffers.{pick}
+use Rattle.standards.specs.Lists.{xor_bytes}
 use Rattle.cipher.specs.Transcript.{Block}
 use Rattle.cipher_stream.specs.Keystream.{combined}
 use Rattle.cipher_stream.specs.declared.cores.contexts.ApplyBlocksCtx.{ApplyBlocksCtx}

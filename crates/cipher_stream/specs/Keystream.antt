@@ -2,7 +2,7 @@
 use Rattle.std.specs.Prelude.{◌≡◌, ℕ, ◌+◌, ◌-◌, ◌/◌, ◌%◌, ◌≤◌, ◌^◌, List, [], ◌∷◌, Option, Some, None, MatchOption, cond, ltb, map, slice_index, slice_index_or, bit_xor, ⊤}
 use Rattle.std.specs.List.{range_with_len}
 use Rattle.cipher.specs.Transcript.{Block}
-use Rattle.cipher.specs.Buffers.{xor_bytes}
+use Rattle.standards.specs.Lists.{xor_bytes}
 
 -- a block for each number, the number from which on they repeat (0: they don't, as x % 0 is x), and the number of the next
 pub record Keystream : Type 0 where

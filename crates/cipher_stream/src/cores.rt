@@ -6,7 +6,8 @@ pub(crate) mod partial;
 pub(crate) mod seeking;
 
 ghost use Rattle.std.specs.Prelude.{◌≡◌, ◌↔◌, ℕ, ◌+◌, ◌-◌, ◌/◌, ◌<◌, ◌≤◌, Option, length, IsOk, OnOk, OnErr};
-ghost use Rattle.cipher.specs.Buffers.{read_of, read_all, pick, xor_bytes};
+ghost use Rattle.cipher.specs.Buffers.{read_of, read_all, pick};
+ghost use Rattle.standards.specs.Lists.{xor_bytes};
 ghost use Rattle.cipher.specs.Transcript.{Block};
 ghost use Rattle.cipher_stream.specs.Keystream.{Keystream, next, stream_of, bytes_of, as_usize, Remain, IsMoved, IsServed, Spends, xored, xored_blocks};
 
@@ -16,7 +17,8 @@ use cipher::{InOut, InOutBuf};
 use contexts::{ApplyBlockCtx, ApplyBlocksCtx, WriteBlockCtx, WriteBlocksCtx};
 use partial::{apply_read, try_partial};
 
-/// A stream cipher by blocks of B bytes, B being from 1 to 255. No call but `try_apply_keystream_partial` tests how many remain.
+/// A stream cipher by blocks of B bytes, B being from 1 to 255. No call but `try_apply_keystream_partial` tests how many
+/// remain.
 pub trait StreamCipherCore<const B: usize>: Sized + Drop {
     ghost keystream: { Self → Keystream };
 
@@ -27,11 +29,12 @@ pub trait StreamCipherCore<const B: usize>: Sized + Drop {
     fn remaining_blocks(&self) -> Option<usize>
         ensures value { result ≡ as_usize (remaining self.now) };
 
-    /// Lends a backend to a closure: some number of the next blocks, in order, leads it from its old state to its new one.
-    /// The position moves by that number.
+    /// Lends a backend to a closure: some number of the next blocks, in order, leads it from its old state to its new
+    /// one. The position moves by that number.
     fn process_with_backend<F: StreamCipherClosure<B>>(&mut self, f: &mut F)
         ensures kept { F.keeps f.old f.new }
-        ensures fed { IsServed F.leads f.old f.new (keystream self.old) (remaining self.old) (keystream self.new) (remaining self.new) };
+        ensures fed { IsServed F.leads f.old f.new (keystream self.old) (remaining self.old)
+            (keystream self.new) (remaining self.new) };
 
     ghost block_size: { (1 ≤ B) × (B < 256) };
 
@@ -90,8 +93,9 @@ pub trait StreamCipherCore<const B: usize>: Sized + Drop {
         self.process_with_backend(&mut ctx);
     }
 
-    /// Writes the bytes that are read xor the bytes to come. `StreamCipherError` exactly where a number of blocks remains
-    /// and the length by B exceeds it, and then nothing is written: the last block may be used in part, since the core is gone.
+    /// Writes the bytes that are read xor the bytes to come. `StreamCipherError` exactly where a number of blocks
+    /// remains and the length by B exceeds it, and then nothing is written: the last block may be used in part, since
+    /// the core is gone.
     final fn try_apply_keystream_partial(
         self,
         buf: InOutBuf<'_, '_, u8>,
@@ -104,7 +108,8 @@ pub trait StreamCipherCore<const B: usize>: Sized + Drop {
         try_partial(self, output, input)
     }
 
-    /// Writes the bytes that are read xor the bytes to come, the length by B being at most the number of blocks that remains.
+    /// Writes the bytes that are read xor the bytes to come, the length by B being at most the number of blocks that
+    /// remains.
     final fn apply_keystream_partial(self, buf: InOutBuf<'_, '_, u8>)
         requires { Remain (remaining self) (length buf.output.now / B) }
         ensures value { buf.exit.0.now ≡ xored (bytes_of B (keystream self)) (read_all buf.entry) }

@@ -1,7 +1,7 @@
 //! Bytes xor bytes, sixteen at a time.
 
 ghost use Rattle.std.specs.Prelude.{◌≡◌, ◌≤◌, ◌+◌, List, length, slice_index, slice_index_or};
-ghost use Rattle.cipher.specs.Buffers.{xor_bytes};
+ghost use Rattle.standards.specs.Lists.{xor_bytes};
 ghost use Rattle.cipher_stream.specs.Keystream.{combined, xored};
 
 use std::simd::prelude::*;

@@ -2,9 +2,9 @@
 
 ghost use Rattle.std.proofs.Common.{lit<, lit≤, ◌∙◌};
 ghost use Rattle.std.proofs.lemmas.List.{length-map};
-ghost use Rattle.cipher.proofs.XorBytes.{length-xor_bytes};
+ghost use Rattle.standards.proofs.ListFacts.{length-xor_bytes};
 ghost use Rattle.std.specs.Prelude.{◌≡◌, ◌+◌, ◌%◌, ℕ, List, map, refl, slice_index};
-ghost use Rattle.cipher.specs.Buffers.{xor_bytes};
+ghost use Rattle.standards.specs.Lists.{xor_bytes};
 ghost use Rattle.cipher_modes.specs.Steps.{run_of};
 
 use crate::shifted::add_to_each;
@@ -91,7 +91,8 @@ impl BlockModeDecrypt<4> for Unchained {
 
     ghost block_size = { (lit≤ tt, lit< tt) };
 
-    ghost sized = { λ s x e. length-xor_bytes (map (λ b. (b + s.back) % 256) x) s.iv ∙ (length-map x (λ b. (b + s.back) % 256) ∙ e) };
+    ghost sized = { λ s x e. length-xor_bytes (map (λ b. (b + s.back) % 256) x) s.iv
+        ∙ (length-map x (λ b. (b + s.back) % 256) ∙ e) };
 }
 
 fn xor_array(output: &mut [u8; 4], iv: &[u8; 4])
@@ -161,7 +162,8 @@ impl IvState<4> for Chained {
 impl SetIvState<4> for Chained {
     ghost same_key = { λ s t. s.key ≡ t.key };
 
-    ghost makes = { run_of (λ s x. let y = map (λ b. (b + s.key) % 256) (xor_bytes x s.iv) in (y, record s { iv = y })) };
+    ghost makes = { run_of (λ s x. let y = map (λ b. (b + s.key) % 256) (xor_bytes x s.iv) in
+        (y, record s { iv = y })) };
 
     ghost restarted = { λ s iv. record s { iv = iv } };
 

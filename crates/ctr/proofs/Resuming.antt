@@ -1,7 +1,7 @@
 -- A keystream that goes on from the current counter block.
 use Rattle.std.proofs.Common.{◌≡◌, ℕ, ◌+◌, ◌%◌, List, [], ◌∷◌, ap, ap₂, sym, ◌∙◌, refl, arith}
 use Rattle.cipher.specs.Transcript.{Block}
-use Rattle.cipher.specs.Buffers.{xor_bytes}
+use Rattle.standards.specs.Lists.{xor_bytes}
 use Rattle.cipher_stream.specs.Keystream.{stream_of, xored_blocks}
 use Rattle.ctr.specs.Counter.{counter_stream}
 

@@ -1,4 +1,4 @@
-//! Prints to standard error how fast counter mode is, as a part of its block cipher's speed.
+//! An example, for benchmarks: prints to standard error how fast counter mode is, as a part of its block cipher's speed.
 #![tactic(auto)]
 
 use aes_block::Aes128;

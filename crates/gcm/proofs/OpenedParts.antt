@@ -9,7 +9,7 @@ use Rattle.standards.proofs.BlockFacts.{over_blocks-append, over_blocks-front}
 use Rattle.standards.proofs.CounterFacts.{ctr-append}
 use Rattle.standards.proofs.Keystream.{get_or-ctr, length-ctr}
 
--- the front of a text in counter mode
+-- a prefix of a text in counter mode
 ctr_front : (E : List ℕ → List ℕ) (plus : List ℕ → ℕ → List ℕ) (b xs : List ℕ) (n : ℕ) → ((i : ℕ) → length (E (plus b i)) ≡ 16) → ctr E plus b (take n xs) ≡ take n (ctr E plus b xs)
 ctr_front E plus b xs n size =
     let whole = ctr E plus b xs in

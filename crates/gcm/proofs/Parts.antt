@@ -4,7 +4,7 @@ use Rattle.std.proofs.Math.ListN.{drop_of_length-le}
 use Rattle.std.proofs.lemmas.List.{length-drop, take_at}
 use borrow.Rule.Slice.PartMut.{put_mid}
 
--- the front of n bytes, written over with b, and the rest with t
+-- the prefix of n bytes, written over with b, and the rest with t
 pub written : (n : ℕ) (xs b t : List ℕ) → length b ≡ n → put_mid n (length (b ++ drop n xs) - n) (b ++ drop n xs) t ≡ b ++ t
 written n xs b t size =
     let whole = b ++ drop n xs in

@@ -16,7 +16,7 @@ fn has_cmac<C: BlockCipherEncrypt<16>>(c: &C, text: &[u8], want: &[u8; 16]) -> b
     out == *want
 }
 
-// Whether these are the tags of the text's fronts.
+// Whether these are the tags of the text's prefixes.
 fn has_cmacs<C: BlockCipherEncrypt<16>>(c: &C, want: &[[u8; 16]; 4]) -> bool {
     has_cmac(c, &[], &want[0])
         && has_cmac(c, &CMAC_TEXT[..16], &want[1])

@@ -84,7 +84,7 @@ fn some_bytes() -> [u8; 64] {
     bytes
 }
 
-// The tag of the first n bytes as a text and the first m as data, each at most 64, under a nonce that is the front of a
+// The tag of the first n bytes as a text and the first m as data, each at most 64, under a nonce that is a prefix of a
 // tag.
 fn next_tag<S: Sealer>(s: &S, tag: &[u8; 16], bytes: &[u8; 64], n: usize, m: usize) -> [u8; 16]
     requires text { n ≤ 64 }
@@ -99,7 +99,7 @@ fn next_tag<S: Sealer>(s: &S, tag: &[u8; 16], bytes: &[u8; 64], n: usize, m: usi
     next
 }
 
-// The last tag where each length of text and data from 0 to 64 is sealed, and each nonce is the front of the tag before.
+// The last tag where each length of text and data from 0 to 64 is sealed, and each nonce is a prefix of the tag before.
 fn chained<S: Sealer>(s: &S) -> [u8; 16] {
     let bytes = some_bytes();
     let mut tag = [0u8; 16];

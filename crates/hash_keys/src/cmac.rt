@@ -21,7 +21,7 @@ fn doubled(block: [u8; 16]) -> [u8; 16]
     ((n << 1) ^ (out * REDUCTION)).to_be_bytes()
 }
 
-// Adds bytes to the front of a block.
+// Adds bytes to the prefix of a block.
 fn xor_block(block: &mut [u8; 16], bytes: &[u8])
     requires { length bytes.now ≤ 16 }
     ensures { block.new ≡ xor_bytes block.old bytes.now }

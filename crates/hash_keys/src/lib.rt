@@ -75,7 +75,7 @@ impl Hash {
         }
     }
 
-    /// Fills `out`, of at most a digest's bytes, with the front of the digest of `message`.
+    /// Fills `out`, of at most a digest's bytes, with a prefix of the digest of `message`.
     pub fn hash_into(self, message: &[u8], out: &mut [u8])
         requires { length out.old ≤ digest_size self }
         ensures written { out.new ≡ take (length out.old) (hash_of self message.now) }
@@ -109,7 +109,7 @@ fn sha1_of_parts(a: &[u8], b: &[u8], c: &[u8], d: &[u8]) -> [u8; 20]
     hasher.finalize()
 }
 
-// The digest of the joined parts, in the front of the result.
+// The digest of the joined parts, as a prefix of the result.
 fn digest_of_parts(h: Hash, a: &[u8], b: &[u8], c: &[u8], d: &[u8]) -> [u8; MAX_DIGEST]
     ensures { take (digest_size h) result ≡ hash_of h (a.now ++ b.now ++ c.now ++ d.now) }
 {
@@ -124,7 +124,7 @@ fn digest_of_parts(h: Hash, a: &[u8], b: &[u8], c: &[u8], d: &[u8]) -> [u8; MAX_
     out
 }
 
-// The key as one block, in the front of the result.
+// The key as one block, as a prefix of the result.
 fn key_block(h: Hash, key: &[u8]) -> [u8; MAX_BLOCK]
     ensures { take (block_size h) result ≡ block_key (hash_of h) (block_size h) key.now }
 {
@@ -150,7 +150,7 @@ fn padded(block: &[u8; MAX_BLOCK], byte: u8) -> [u8; MAX_BLOCK]
     out
 }
 
-// HMAC of the joined parts, in the front of the result.
+// HMAC of the joined parts, as a prefix of the result.
 fn hmac_of_parts(h: Hash, key: &[u8], a: &[u8], b: &[u8], c: &[u8]) -> [u8; MAX_DIGEST]
     ensures { take (digest_size h) result ≡ hmac_of h key.now (a.now ++ b.now ++ c.now) }
 {
@@ -163,7 +163,7 @@ fn hmac_of_parts(h: Hash, key: &[u8], a: &[u8], b: &[u8], c: &[u8]) -> [u8; MAX_
     digest_of_parts(h, &outer_pad[..size], inner, &[], &[])
 }
 
-/// Fills `out`, of at most a digest's bytes, with the front of HMAC (FIPS 198-1) under `key` of the
+/// Fills `out`, of at most a digest's bytes, with a prefix of HMAC (FIPS 198-1) under `key` of the
 /// text that `a`, `b` and `c` make joined.
 ///
 /// Each part goes to the hash as it is, so that no part is copied.
@@ -189,7 +189,7 @@ impl fmt::Display for OutputTooLong {
 
 impl Error for OutputTooLong {}
 
-/// Fills `out` with the front of HKDF's output (RFC 5869) from the input key material `ikm`, under
+/// Fills `out` with a prefix of HKDF's output (RFC 5869) from the input key material `ikm`, under
 /// `salt` and `info`.
 ///
 /// # Errors

@@ -1,4 +1,4 @@
-//! Prints the SHA-256 of the standard input, and to standard error how fast it was hashed.
+//! An example, for benchmarks: prints the SHA-256 of the standard input, and to standard error how fast it was hashed.
 #![tactic(auto)]
 
 use sha2::{Digest, Sha256};

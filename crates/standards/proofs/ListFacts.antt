@@ -1,7 +1,7 @@
 -- Lists known by their places.
-use Rattle.std.proofs.Common.{◌≡◌, ◌≤◌, ◌<◌, ◌-◌, ℕ, zero, suc, List, [], ◌∷◌, ◌++◌, length, get_or, map, refl, ap, sym, ◌∙◌, arith, length-append, bit_xor, inl, inr, ◌⊎◌}
+use Rattle.std.proofs.Common.{◌≡◌, ◌≤◌, ◌<◌, ◌-◌, ℕ, zero, suc, List, [], ◌∷◌, ◌++◌, length, get_or, map, refl, ap, sym, ◌∙◌, arith, length-append, bit_xor, inl, inr, ◌⊎◌, eq-zero-or-pos}
 use Rattle.std.proofs.lemmas.Grind.{same_number_lists}
-use Rattle.std.proofs.lemmas.List.{get_or-map, length-map, get_or_append_left, get_or-append_right}
+use Rattle.std.proofs.lemmas.List.{get_or-map, length-map, get_or_append_left, get_or-append_right, get_or_past}
 use Rattle.std.proofs.Math.Nat.{eq-or-lt_of_le}
 use Rattle.std.specs.Int.Bits.{xor_assoc, xor_self, xor_zero_r}
 use lib.Lanes.{zip2}
@@ -53,6 +53,18 @@ pub xor_by_index : (xs ys zs : List ℕ) → length zs ≡ length xs → ((k : �
 xor_by_index xs ys zs l each =
     same_number_lists zs (xor_bytes xs ys) (l ∙ sym (length-xor_bytes xs ys))
     (λ k i. let in_xs : k < length xs = omega arith in each k in_xs ∙ sym (get_or-xor_bytes xs ys k in_xs))
+
+-- .. where the second list is read as far as it goes, and the places past it are left
+pub xor_prefix : (xs ys zs : List ℕ) → length zs ≡ length xs → ((k : ℕ) → k < length ys → get_or zs k 0 ≡ bit_xor (get_or xs k 0) (get_or ys k 0))
+    → ((k : ℕ) → length ys ≤ k → get_or zs k 0 ≡ get_or xs k 0) → zs ≡ xor_bytes xs ys
+xor_prefix xs ys zs l each rest =
+    xor_by_index xs ys zs l
+    (λ k i. elim (eq-zero-or-pos (length ys - k)) [
+      | inr some ↦ each k (omega arith)
+      | inl none ↦
+          let past : length ys ≤ k = omega arith in
+          rest k past ∙ sym (ap (bit_xor (get_or xs k 0)) (get_or_past ys k 0 past) ∙ xor_zero_r (get_or xs k 0))
+    ])
 
 twice : (x k : ℕ) → bit_xor (bit_xor x k) k ≡ x
 twice x k = xor_assoc x k k ∙ ap (bit_xor x) (xor_self k) ∙ xor_zero_r x

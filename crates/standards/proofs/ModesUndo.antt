@@ -13,7 +13,7 @@ use Rattle.standards.proofs.Lengths.{length-gcm, length-gcm_siv, length-gcm_siv_
 pub gcm_text_twice : (E : List ℕ → List ℕ) (nonce text : List ℕ) → gcm_text E nonce (gcm_text E nonce text) ≡ text
 gcm_text_twice E nonce text = ctr_twice E (plus_be w32) (plus_be w32 (first_block nonce) 1) text
 
--- the ciphertext is the front of what GCM seals
+-- the ciphertext is a prefix of what GCM seals
 pub take-gcm : (E : List ℕ → List ℕ) (nonce aad text : List ℕ) → take (length text) (gcm E nonce aad text) ≡ gcm_text E nonce text
 unfolding gcm
 take-gcm E nonce aad text = take_at (gcm_text E nonce text) (gcm_tag E nonce aad (gcm_text E nonce text)) (length text) (length-ctr E (plus_be w32) (plus_be w32 (first_block nonce) 1) text)
@@ -28,7 +28,7 @@ pub gcm_siv_text_twice : (cipher : List ℕ → List ℕ → List ℕ) (key nonc
 unfolding gcm_siv_text
 gcm_siv_text_twice cipher key nonce tag text = ctr_twice (cipher (encryption_key cipher key nonce)) (plus_le w32) (counter_block tag) text
 
--- the ciphertext is the front of what GCM-SIV seals
+-- the ciphertext is a prefix of what GCM-SIV seals
 pub take-gcm_siv : (cipher : List ℕ → List ℕ → List ℕ) (key nonce aad text : List ℕ)
     → take (length text) (gcm_siv cipher key nonce aad text) ≡ gcm_siv_text cipher key nonce (gcm_siv_tag cipher key nonce aad text) text
 unfolding gcm_siv
@@ -43,7 +43,7 @@ drop-gcm_siv cipher key nonce aad text =
     let tag = gcm_siv_tag cipher key nonce aad text in
     drop_at (gcm_siv_text cipher key nonce tag text) tag (length text) (length-gcm_siv_text cipher key nonce tag text)
 
--- V is the front of what SIV seals
+-- V is a prefix of what SIV seals
 pub take-siv : (Emac Ectr : List ℕ → List ℕ) (aad text : List ℕ) → ((b : List ℕ) → length (Emac b) ≡ 16) → take 16 (siv Emac Ectr aad text) ≡ s2v Emac aad text
 unfolding siv
 take-siv Emac Ectr aad text size =

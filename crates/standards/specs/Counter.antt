@@ -18,6 +18,6 @@ unfoldable pub keystream : (List ℕ → List ℕ) → (List ℕ → ℕ → Lis
 keystream E plus block zero = []
 keystream E plus block (suc n) = keystream E plus block n ++ E (plus block n)
 
--- the text xor the front of the keystream
+-- the text xor the prefix of the keystream
 unfoldable pub ctr : (List ℕ → List ℕ) → (List ℕ → ℕ → List ℕ) → List ℕ → List ℕ → List ℕ
 ctr E plus block text = xor_bytes text (keystream E plus block ((length text + 15) / 16))

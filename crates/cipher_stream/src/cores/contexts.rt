@@ -1,7 +1,8 @@
 //! The closures behind the calls on one block and on a slice of blocks.
 
 ghost use Rattle.std.specs.Prelude.{◌≡◌, ℕ, ◌+◌, ◌-◌, ◌<◌, ◌≤◌, List, length, slice_index_or};
-ghost use Rattle.cipher.specs.Buffers.{pick, xor_bytes};
+ghost use Rattle.cipher.specs.Buffers.{pick};
+ghost use Rattle.standards.specs.Lists.{xor_bytes};
 ghost use Rattle.cipher.specs.Transcript.{Block};
 ghost use Rattle.cipher_stream.specs.Keystream.{Keystream, next, stream_of, IsMoved, IsFed, xored_blocks};
 ghost use Rattle.cipher_stream.specs.Contexts.{WritesOne, WritesEach, AppliesOne, AppliesEach};

@@ -3,7 +3,7 @@ use Rattle.standards.specs.Hkdf.{expand, expand_block}
 use Rattle.hash_keys.specs.Hash.{hash_of, block_size, digest_size}
 use Rattle.hash_keys.proofs.expand_into.Given as goal
 
--- the front of T (1) ++ .. ++ T (number) is written, and T (number) is at hand
+-- a prefix of T (1) ++ .. ++ T (number) is written, and T (number) is at hand
 abbrev pub invariant-loop-done : goal.invariant-loop-done
 invariant-loop-done l = record {
   within : l.have ≤ 64;

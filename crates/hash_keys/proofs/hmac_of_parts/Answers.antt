@@ -5,7 +5,7 @@ use Rattle.hash_keys.specs.Hash.{hash_of, block_size, hmac_of}
 use Rattle.hash_keys.specs.declared.Hash.{Hash}
 use Rattle.hash_keys.proofs.hmac_of_parts.Goals as goal
 
--- the front of the padded block is the padded key
+-- the prefix of the padded block is the padded key
 front_padded : (n size byte : ℕ) (key block padded_block : List ℕ) → n ≡ size → padded_block ≡ pad block byte → take size block ≡ key
     → take n padded_block ≡ pad key byte
 front_padded n size byte key block padded_block n_is padded_is block_is =

@@ -1,5 +1,5 @@
 use Rattle.std.proofs.Common.{arith}
-use Rattle.cipher.proofs.XorBytes.{xor_by_index}
+use Rattle.standards.proofs.ListFacts.{xor_by_index}
 use Rattle.cipher.proofs.buffers.xor_with.Goals as goal
 
 pub returns : goal.returns

@@ -1,6 +1,6 @@
 use Rattle.std.proofs.Common.{◌≡◌, ◌<◌, ◌∙◌, [], ap, length, sym, get_or, arith}
 use Rattle.std.proofs.lemmas.List.{get_or_default}
-use Rattle.cipher.specs.Buffers.{xor_bytes}
+use Rattle.standards.specs.Lists.{xor_bytes}
 use Rattle.cipher_stream.proofs.Applied.{applied_place, applied_all, combined-values}
 use Rattle.cipher_stream.proofs.xor.xor_blocks.Goals as goal
 

@@ -1,5 +1,5 @@
 use Rattle.std.proofs.Common.{◌≡◌, ◌++◌, take, drop, get_or, []}
-use Rattle.cipher.specs.Buffers.{xor_bytes}
+use Rattle.standards.specs.Lists.{xor_bytes}
 use Rattle.cipher_stream.specs.Keystream.{applied}
 use Rattle.cipher_stream.proofs.xor.xor_blocks.Given as goal
 

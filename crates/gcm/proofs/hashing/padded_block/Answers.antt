@@ -4,7 +4,7 @@ use Rattle.std.proofs.lemmas.List.{drop-append-le, drop-replicate, length-drop, 
 use Rattle.standards.specs.Blocks.{block_at, zero_padded}
 use Rattle.gcm.proofs.hashing.padded_block.Goals as goal
 
--- the front of a block and zeros are that block of the padded bytes
+-- a prefix of a block and zeros are that block of the padded bytes
 padded : (bytes front : List ℕ) (i n : ℕ) → 16 * i < length bytes → n ≡ min (length bytes - 16 * i) 16 → front ≡ take n (drop (16 * i) bytes)
     → front ++ drop n (replicate 16 0) ≡ block_at (zero_padded bytes) i
 padded bytes front i n some n_is front_is =

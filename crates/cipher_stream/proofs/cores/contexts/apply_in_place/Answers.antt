@@ -1,5 +1,5 @@
 use Rattle.std.proofs.Common.{◌≡◌, ◌+◌, ◌-◌, ◌∙◌, refl, take, drop, length, arith, subst, length-take, length-drop}
-use Rattle.cipher.specs.Buffers.{xor_bytes}
+use Rattle.standards.specs.Lists.{xor_bytes}
 use Rattle.cipher_stream.specs.Keystream.{stream_of, IsMoved}
 use Rattle.cipher_stream.proofs.Streams.{moved_none, moved_both, stream_moved}
 use Rattle.cipher_stream.proofs.Applied.{applied_next, applied_all, length_so_far}

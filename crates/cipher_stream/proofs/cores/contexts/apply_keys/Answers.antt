@@ -1,5 +1,5 @@
 use Rattle.std.proofs.Common.{◌∙◌, sym, ap, length}
-use Rattle.cipher.specs.Buffers.{xor_bytes}
+use Rattle.standards.specs.Lists.{xor_bytes}
 use Rattle.cipher_stream.specs.Keystream.{combined, stream_of}
 use Rattle.cipher_stream.proofs.Applied.{combined-applied}
 use Rattle.cipher_stream.proofs.cores.contexts.apply_keys.Goals as goal

@@ -1,6 +1,5 @@
-use Rattle.std.proofs.Common.{◌≡◌, ◌∙◌, length, refl, arith, subst}
-use Rattle.cipher_stream.specs.Keystream.{IsMoved}
-use Rattle.cipher_stream.proofs.Streams.{moved_none, moved_both, fill_more, fill_all}
+use Rattle.std.proofs.Common.{◌≡◌, length, refl, arith}
+use Rattle.cipher_stream.proofs.Streams.{moved_none, fill_all, filled_more, filled_moved}
 use Rattle.cipher_stream.proofs.cores.backends.StreamCipherBackend.gen_tail_blocks.Goals as goal
 
 pub loop-i-init : goal.loop-i-init
@@ -8,23 +7,17 @@ loop-i-init g c = record { kept = g.met.Self.StreamCipherBackend.keeps_none c.ar
 
 pub loop-i-preserved : goal.loop-i-preserved
 loop-i-preserved g c =
-    let k = g.Self.StreamCipherBackend in
-    let before = c.loop-i.invariant in
     let step = c.gen_ks_block.ensures in
-    record {
-      kept = g.met.Self.StreamCipherBackend.keeps_both c.args.self.now c.loop-i.self c.gen_ks_block.new.self before.kept step.kept;
-      same_lanes = step.same_lanes ∙ before.same_lanes;
-      is_moved = moved_both (k.keystream c.args.self.now) (k.keystream c.loop-i.self) (k.keystream c.gen_ks_block.new.self) c.loop-i.i 1 before.is_moved step.is_moved;
-      so_far = fill_more (k.keystream c.args.self.now) (k.keystream c.loop-i.self) c.args.blocks.now c.loop-i.blocks c.gen_ks_block.new.block c.loop-i.i c.loop-i-test.true before.so_far before.is_moved step.value;
-    }
+    filled_more g.met.Self.StreamCipherBackend.keeps_both c.args.self.now c.loop-i.self c.gen_ks_block.new.self c.args.blocks.now c.loop-i.blocks c.gen_ks_block.new.block c.loop-i.i
+    c.loop-i-test.true c.loop-i.invariant step.kept step.same_lanes step.value step.is_moved
 
 pub returns : goal.returns
 returns g c =
-    let k = g.Self.StreamCipherBackend in
+    let so_far = c.loop-i.invariant in
     let all : c.loop-i.i ≡ length c.args.blocks.now = omega arith in
     record {
-      kept = c.loop-i.invariant.kept;
-      same_lanes = c.loop-i.invariant.same_lanes;
-      value = fill_all (k.keystream c.args.self.now) c.args.blocks.now c.loop-i.blocks c.loop-i.i all c.loop-i.invariant.so_far;
-      is_moved = subst (λ n. IsMoved (k.keystream c.args.self.now) n (k.keystream c.loop-i.self)) all c.loop-i.invariant.is_moved;
+      kept = so_far.kept;
+      same_lanes = so_far.same_lanes;
+      value = fill_all (g.Self.StreamCipherBackend.keystream c.args.self.now) c.args.blocks.now c.loop-i.blocks c.loop-i.i all so_far.so_far;
+      is_moved = filled_moved all so_far;
     }
