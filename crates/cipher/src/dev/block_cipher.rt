@@ -1,7 +1,7 @@
 //! Tests of block ciphers by vectors.
 
 ghost use Rattle.std.specs.Prelude.{◌≡◌, ◌↔◌, ◌≢◌, ℕ, ◌<◌, ◌≤◌, length, map, IsTrue, IsOk, IfOk, OnErr, MatchResult, codes};
-ghost use Rattle.cipher.specs.BlockVectors.{Tells, block_fault, encrypt_decrypt_fault, encrypt_fault, decrypt_fault};
+ghost use Rattle.cipher.specs.BlockVectors.{Tells, first, block_fault, block_size_fault, encryption_fault, decryption_fault, encrypt_decrypt_fault, encrypt_fault, decrypt_fault};
 
 use crate::blocks::{BlockCipherDecrypt, BlockCipherEncrypt};
 use crate::init::KeyInit;
@@ -27,22 +27,10 @@ pub fn encrypt_decrypt_test<
 >(tv: &TestVector) -> Result<(), &'static str>
     ensures told { Tells result (encrypt_decrypt_fault K B C.keyed C.encrypts C.decrypts tv.now) }
 {
-    let cipher = match C::new_from_slice(tv.key) {
-        Ok(cipher) => cipher,
-        Err(_) => return Err("cipher initialization failure"),
-    };
-    let plaintext = match <&[u8; B]>::try_from(tv.plaintext) {
-        Ok(block) => block,
-        Err(_) => return Err("unexpected size of plaintext block"),
-    };
-    let ciphertext = match <&[u8; B]>::try_from(tv.ciphertext) {
-        Ok(block) => block,
-        Err(_) => return Err("unexpected size of ciphertext block"),
-    };
-    if let Err(text) = test_encryption(&cipher, plaintext, ciphertext) {
-        return Err(text);
+    match C::new_from_slice(tv.key) {
+        Ok(cipher) => test_both(&cipher, tv),
+        Err(_) => Err("cipher initialization failure"),
     }
-    test_decryption(&cipher, plaintext, ciphertext)
 }
 
 /// Whether a cipher encrypts as a vector says, with the texts of `encrypt_decrypt_test`.
@@ -51,19 +39,10 @@ pub fn encrypt_test<C: KeyInit<K> + BlockCipherEncrypt<B> + Drop, const K: usize
 ) -> Result<(), &'static str>
     ensures told { Tells result (encrypt_fault K B C.keyed C.encrypts tv.now) }
 {
-    let cipher = match C::new_from_slice(tv.key) {
-        Ok(cipher) => cipher,
-        Err(_) => return Err("cipher initialization failure"),
-    };
-    let plaintext = match <&[u8; B]>::try_from(tv.plaintext) {
-        Ok(block) => block,
-        Err(_) => return Err("unexpected size of plaintext block"),
-    };
-    let ciphertext = match <&[u8; B]>::try_from(tv.ciphertext) {
-        Ok(block) => block,
-        Err(_) => return Err("unexpected size of ciphertext block"),
-    };
-    test_encryption(&cipher, plaintext, ciphertext)
+    match C::new_from_slice(tv.key) {
+        Ok(cipher) => test_encrypted(&cipher, tv),
+        Err(_) => Err("cipher initialization failure"),
+    }
 }
 
 /// Whether a cipher decrypts as a vector says, with the texts of `encrypt_decrypt_test`.
@@ -72,10 +51,32 @@ pub fn decrypt_test<C: KeyInit<K> + BlockCipherDecrypt<B> + Drop, const K: usize
 ) -> Result<(), &'static str>
     ensures told { Tells result (decrypt_fault K B C.keyed C.decrypts tv.now) }
 {
-    let cipher = match C::new_from_slice(tv.key) {
-        Ok(cipher) => cipher,
-        Err(_) => return Err("cipher initialization failure"),
-    };
+    match C::new_from_slice(tv.key) {
+        Ok(cipher) => test_decrypted(&cipher, tv),
+        Err(_) => Err("cipher initialization failure"),
+    }
+}
+
+// the same by a cipher that is lent
+fn test_both<C: BlockCipherEncrypt<B> + BlockCipherDecrypt<B>, const B: usize>(
+    cipher: &C,
+    tv: &TestVector,
+) -> Result<(), &'static str>
+    ensures told { Tells result (first (first (block_size_fault B tv.now) (encryption_fault (C.encrypts cipher.now) tv.now))
+        (decryption_fault (C.decrypts cipher.now) tv.now)) }
+{
+    match test_encrypted(cipher, tv) {
+        Ok(()) => test_decrypted(cipher, tv),
+        Err(text) => Err(text),
+    }
+}
+
+fn test_encrypted<C: BlockCipherEncrypt<B>, const B: usize>(
+    cipher: &C,
+    tv: &TestVector,
+) -> Result<(), &'static str>
+    ensures told { Tells result (first (block_size_fault B tv.now) (encryption_fault (C.encrypts cipher.now) tv.now)) }
+{
     let plaintext = match <&[u8; B]>::try_from(tv.plaintext) {
         Ok(block) => block,
         Err(_) => return Err("unexpected size of plaintext block"),
@@ -84,7 +85,24 @@ pub fn decrypt_test<C: KeyInit<K> + BlockCipherDecrypt<B> + Drop, const K: usize
         Ok(block) => block,
         Err(_) => return Err("unexpected size of ciphertext block"),
     };
-    test_decryption(&cipher, plaintext, ciphertext)
+    test_encryption(cipher, plaintext, ciphertext)
+}
+
+fn test_decrypted<C: BlockCipherDecrypt<B>, const B: usize>(
+    cipher: &C,
+    tv: &TestVector,
+) -> Result<(), &'static str>
+    ensures told { Tells result (first (block_size_fault B tv.now) (decryption_fault (C.decrypts cipher.now) tv.now)) }
+{
+    let plaintext = match <&[u8; B]>::try_from(tv.plaintext) {
+        Ok(block) => block,
+        Err(_) => return Err("unexpected size of plaintext block"),
+    };
+    let ciphertext = match <&[u8; B]>::try_from(tv.ciphertext) {
+        Ok(block) => block,
+        Err(_) => return Err("unexpected size of ciphertext block"),
+    };
+    test_decryption(cipher, plaintext, ciphertext)
 }
 
 fn test_encryption<C: BlockCipherEncrypt<B>, const B: usize>(
@@ -92,7 +110,8 @@ fn test_encryption<C: BlockCipherEncrypt<B>, const B: usize>(
     plaintext: &[u8; B],
     ciphertext: &[u8; B],
 ) -> Result<(), &'static str>
-    ensures told { Tells result (block_fault (C.encrypts cipher.now plaintext.now) ciphertext.now (codes "single block encryption failure")) }
+    ensures told { Tells result (block_fault (C.encrypts cipher.now plaintext.now) ciphertext.now
+        (codes "single block encryption failure")) }
 {
     let mut block = *plaintext;
     cipher.encrypt_block(&mut block);
@@ -130,7 +149,8 @@ fn test_decryption<C: BlockCipherDecrypt<B>, const B: usize>(
     plaintext: &[u8; B],
     ciphertext: &[u8; B],
 ) -> Result<(), &'static str>
-    ensures told { Tells result (block_fault (C.decrypts cipher.now ciphertext.now) plaintext.now (codes "single block decryption failure")) }
+    ensures told { Tells result (block_fault (C.decrypts cipher.now ciphertext.now) plaintext.now
+        (codes "single block decryption failure")) }
 {
     let mut block = *ciphertext;
     cipher.decrypt_block(&mut block);
