@@ -1,7 +1,7 @@
 //! Tests of block modes by vectors.
 
 ghost use Rattle.std.specs.Prelude.{◌≡◌, ℕ, ◌+◌, ◌-◌, ◌*◌, ◌/◌, ◌%◌, ◌<◌, ◌≤◌, List, length, take, drop, IsTrue, codes, bytes_eq};
-ghost use Rattle.cipher.specs.BlockVectors.{Tells};
+ghost use Rattle.cipher.specs.BlockVectors.{Tells, block_fault};
 ghost use Rattle.cipher_modes.specs.Padded.{bytes_run};
 ghost use Rattle.cipher_modes.specs.Steps.{run_of, state_after};
 ghost use Rattle.cipher_modes.specs.ModeVectors.{encrypt_fault, decrypt_fault};
@@ -38,7 +38,6 @@ pub fn encrypt<
 >(tv: &TestVector) -> Result<(), &'static str>
     ensures told { Tells result (encrypt_fault K I B C.keyed C.step tv.now) }
 {
-    let mut buffer = [0; MAX_MSG_LEN];
     let n = tv.ciphertext.len();
     if n > MAX_MSG_LEN {
         return Err("ciphertext is bigger than MAX_MSG_LEN bytes");
@@ -49,11 +48,27 @@ pub fn encrypt<
     if n % B != 0 {
         return Err("plaintext/ciphertext length is not multiple of block size");
     }
-    let mut mode = match C::new_from_slices(tv.key, tv.iv) {
-        Ok(mode) => mode,
-        Err(_) => return Err("cipher initialization failure"),
-    };
-    if !encrypts_to(&mut mode, &mut buffer[..n], tv.plaintext, tv.ciphertext) {
+    match C::new_from_slices(tv.key, tv.iv) {
+        Ok(mut mode) => encrypts_vector::<C, K, I, B>(&mut mode, tv),
+        Err(_) => Err("cipher initialization failure"),
+    }
+}
+
+// the same by a mode that is lent
+fn encrypts_vector<
+    C: KeyIvInit<K, I> + BlockModeEncrypt<B>,
+    const K: usize,
+    const I: usize,
+    const B: usize,
+>(mode: &mut C, tv: &TestVector) -> Result<(), &'static str>
+    requires few { length tv.now.ciphertext.now ≤ 4096 }
+    requires same_length { length tv.now.plaintext.now ≡ length tv.now.ciphertext.now }
+    requires whole { length tv.now.ciphertext.now % B ≡ 0 }
+    ensures told { Tells result (block_fault (bytes_run C.step mode.old B tv.now.plaintext.now) tv.now.ciphertext.now
+        (codes "single block encryption failure")) }
+{
+    let mut buffer = [0; MAX_MSG_LEN];
+    if !encrypts_to(mode, &mut buffer[..tv.ciphertext.len()], tv.plaintext, tv.ciphertext) {
         return Err("single block encryption failure");
     }
     if !encrypts_alike::<C, K, I, B>(tv.key, tv.iv, tv.plaintext) {
@@ -62,7 +77,7 @@ pub fn encrypt<
     Ok(())
 }
 
-// the blocks are encrypted together, eight at a time, as they are one by one
+// by two modes of one key and vector the blocks are encrypted together, eight at a time, as they are one by one
 fn encrypts_alike<
     C: KeyIvInit<K, I> + BlockModeEncrypt<B>,
     const K: usize,
@@ -71,16 +86,39 @@ fn encrypts_alike<
 >(key: &[u8], iv: &[u8], bytes: &[u8]) -> bool
     ensures value { IsTrue result }
 {
-    let Ok(mut mode) = C::new_from_slices(key, iv) else {
-        return true;
-    };
-    let Ok(mut other) = C::new_from_slices(key, iv) else {
-        return true;
-    };
+    match C::new_from_slices(key, iv) {
+        Ok(mut mode) => encrypts_like_another::<C, K, I, B>(&mut mode, key, iv, bytes),
+        Err(_) => true,
+    }
+}
+
+fn encrypts_like_another<
+    C: KeyIvInit<K, I> + BlockModeEncrypt<B>,
+    const K: usize,
+    const I: usize,
+    const B: usize,
+>(mode: &mut C, key: &[u8], iv: &[u8], bytes: &[u8]) -> bool
+    requires { mode.old ≡ C.keyed key.now iv.now }
+    ensures value { IsTrue result }
+{
+    match C::new_from_slices(key, iv) {
+        Ok(mut other) => encrypts_parts_alike(mode, &mut other, bytes),
+        Err(_) => true,
+    }
+}
+
+fn encrypts_parts_alike<M: BlockModeEncrypt<B>, const B: usize>(
+    mode: &mut M,
+    other: &mut M,
+    bytes: &[u8],
+) -> bool
+    requires { mode.old ≡ other.old }
+    ensures value { IsTrue result }
+{
     let mut together = [[0; B]; 8];
     for part in bytes.chunks(8 * B) {
         load(&mut together, part);
-        if !encrypts_eight_alike(&mut mode, &mut other, &mut together) {
+        if !encrypts_eight_alike(mode, other, &mut together) {
             return false;
         }
     }
@@ -140,7 +178,6 @@ pub fn decrypt<
 >(tv: &TestVector) -> Result<(), &'static str>
     ensures told { Tells result (decrypt_fault K I B C.keyed C.step tv.now) }
 {
-    let mut buffer = [0; MAX_MSG_LEN];
     let n = tv.plaintext.len();
     if n > MAX_MSG_LEN {
         return Err("plaintext is bigger than MAX_MSG_LEN bytes");
@@ -151,11 +188,27 @@ pub fn decrypt<
     if n % B != 0 {
         return Err("plaintext/ciphertext length is not multiple of block size");
     }
-    let mut mode = match C::new_from_slices(tv.key, tv.iv) {
-        Ok(mode) => mode,
-        Err(_) => return Err("cipher initialization failure"),
-    };
-    if !decrypts_to(&mut mode, &mut buffer[..n], tv.ciphertext, tv.plaintext) {
+    match C::new_from_slices(tv.key, tv.iv) {
+        Ok(mut mode) => decrypts_vector::<C, K, I, B>(&mut mode, tv),
+        Err(_) => Err("cipher initialization failure"),
+    }
+}
+
+// the same by a mode that is lent
+fn decrypts_vector<
+    C: KeyIvInit<K, I> + BlockModeDecrypt<B>,
+    const K: usize,
+    const I: usize,
+    const B: usize,
+>(mode: &mut C, tv: &TestVector) -> Result<(), &'static str>
+    requires few { length tv.now.plaintext.now ≤ 4096 }
+    requires same_length { length tv.now.ciphertext.now ≡ length tv.now.plaintext.now }
+    requires whole { length tv.now.plaintext.now % B ≡ 0 }
+    ensures told { Tells result (block_fault (bytes_run C.step mode.old B tv.now.ciphertext.now) tv.now.plaintext.now
+        (codes "single block decryption failure")) }
+{
+    let mut buffer = [0; MAX_MSG_LEN];
+    if !decrypts_to(mode, &mut buffer[..tv.plaintext.len()], tv.ciphertext, tv.plaintext) {
         return Err("single block decryption failure");
     }
     if !decrypts_alike::<C, K, I, B>(tv.key, tv.iv, tv.ciphertext) {
@@ -164,7 +217,7 @@ pub fn decrypt<
     Ok(())
 }
 
-// the blocks are decrypted together, eight at a time, as they are one by one
+// by two modes of one key and vector the blocks are decrypted together, eight at a time, as they are one by one
 fn decrypts_alike<
     C: KeyIvInit<K, I> + BlockModeDecrypt<B>,
     const K: usize,
@@ -173,16 +226,39 @@ fn decrypts_alike<
 >(key: &[u8], iv: &[u8], bytes: &[u8]) -> bool
     ensures value { IsTrue result }
 {
-    let Ok(mut mode) = C::new_from_slices(key, iv) else {
-        return true;
-    };
-    let Ok(mut other) = C::new_from_slices(key, iv) else {
-        return true;
-    };
+    match C::new_from_slices(key, iv) {
+        Ok(mut mode) => decrypts_like_another::<C, K, I, B>(&mut mode, key, iv, bytes),
+        Err(_) => true,
+    }
+}
+
+fn decrypts_like_another<
+    C: KeyIvInit<K, I> + BlockModeDecrypt<B>,
+    const K: usize,
+    const I: usize,
+    const B: usize,
+>(mode: &mut C, key: &[u8], iv: &[u8], bytes: &[u8]) -> bool
+    requires { mode.old ≡ C.keyed key.now iv.now }
+    ensures value { IsTrue result }
+{
+    match C::new_from_slices(key, iv) {
+        Ok(mut other) => decrypts_parts_alike(mode, &mut other, bytes),
+        Err(_) => true,
+    }
+}
+
+fn decrypts_parts_alike<M: BlockModeDecrypt<B>, const B: usize>(
+    mode: &mut M,
+    other: &mut M,
+    bytes: &[u8],
+) -> bool
+    requires { mode.old ≡ other.old }
+    ensures value { IsTrue result }
+{
     let mut together = [[0; B]; 8];
     for part in bytes.chunks(8 * B) {
         load(&mut together, part);
-        if !decrypts_eight_alike(&mut mode, &mut other, &mut together) {
+        if !decrypts_eight_alike(mode, other, &mut together) {
             return false;
         }
     }
