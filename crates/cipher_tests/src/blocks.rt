@@ -49,8 +49,7 @@ fn shifts_elsewhere(c: &Shift, n: usize) -> bool {
     let mut back = ZEROS;
     let encrypted = c.encrypt_blocks_b2b(&PLAIN[..n], &mut there[..n]);
     let decrypted = c.decrypt_blocks_b2b(&there[..n], &mut back[..n]);
-    encrypted == Ok(())
-        && decrypted == Ok(())
+    [encrypted, decrypted] == [Ok(()); 2]
         && holds(&there, &SHIFTED, &ZEROS, n)
         && holds(&back, &PLAIN, &ZEROS, n)
 }
@@ -82,75 +81,26 @@ fn unequal_numbers_of_blocks_change_nothing(rt: HostRuntime) {
     }
 }
 
-fn encrypted_in_place(c: &Shift) -> [u8; 5] {
-    let mut block = PLAIN[0];
-    c.encrypt_block(&mut block);
-    block
-}
-
-fn encrypted_elsewhere(c: &Shift) -> [u8; 5] {
-    let mut block = [0; 5];
-    c.encrypt_block_b2b(&PLAIN[0], &mut block);
-    block
-}
-
-fn encrypted_by_places(c: &Shift) -> [u8; 5] {
-    let mut block = PLAIN[0];
-    c.encrypt_block_inout(InOut::from(&mut block));
-    block
-}
-
-fn decrypted_in_place(c: &Shift) -> [u8; 5] {
-    let mut block = SHIFTED[0];
-    c.decrypt_block(&mut block);
-    block
-}
-
-fn decrypted_elsewhere(c: &Shift) -> [u8; 5] {
-    let mut block = [0; 5];
-    c.decrypt_block_b2b(&SHIFTED[0], &mut block);
-    block
-}
-
-fn decrypted_by_places(c: &Shift) -> [u8; 5] {
-    let mut block = [0; 5];
-    c.decrypt_block_inout(InOut::new(&SHIFTED[0], &mut block));
-    block
+// a block encrypted in its place, elsewhere and by places, and decrypted likewise
+fn each_way(c: &Shift) -> [[u8; 5]; 6] {
+    let mut made = [PLAIN[0], [0; 5], PLAIN[0], SHIFTED[0], [0; 5], [0; 5]];
+    c.encrypt_block(&mut made[0]);
+    c.encrypt_block_b2b(&PLAIN[0], &mut made[1]);
+    c.encrypt_block_inout(InOut::from(&mut made[2]));
+    c.decrypt_block(&mut made[3]);
+    c.decrypt_block_b2b(&SHIFTED[0], &mut made[4]);
+    c.decrypt_block_inout(InOut::new(&SHIFTED[0], &mut made[5]));
+    made
 }
 
 #[test]
 fn one_block_is_shifted(rt: HostRuntime) {
-    let c = Shift::new(&[250]);
+    let (plain, shifted) = (PLAIN[0], SHIFTED[0]);
     expect(
         &rt,
-        encrypted_in_place(&c),
-        SHIFTED[0],
-        "encrypted in place",
-    );
-    expect(
-        &rt,
-        encrypted_elsewhere(&c),
-        SHIFTED[0],
-        "encrypted elsewhere",
-    );
-    expect(
-        &rt,
-        encrypted_by_places(&c),
-        SHIFTED[0],
-        "encrypted by places",
-    );
-    expect(&rt, decrypted_in_place(&c), PLAIN[0], "decrypted in place");
-    expect(
-        &rt,
-        decrypted_elsewhere(&c),
-        PLAIN[0],
-        "decrypted elsewhere",
-    );
-    expect(
-        &rt,
-        decrypted_by_places(&c),
-        PLAIN[0],
-        "decrypted by places",
+        each_way(&Shift::new(&[250])),
+        [shifted, shifted, shifted, plain, plain, plain],
+        "encrypted three ways and decrypted three ways",
     );
 }
 

@@ -68,7 +68,7 @@ fn goes_elsewhere(n: usize, want: &[[u8; 4]; 10]) -> bool {
     let mut back = [[0; 4]; 10];
     let encrypted = encrypter().encrypt_blocks_b2b(&BLOCKS[..n], &mut there[..n]);
     let decrypted = decrypter().decrypt_blocks_b2b(&there[..n], &mut back[..n]);
-    encrypted == Ok(()) && decrypted == Ok(()) && there == *want && back[..n] == BLOCKS[..n]
+    [encrypted, decrypted] == [Ok(()); 2] && there == *want && back[..n] == BLOCKS[..n]
 }
 
 // whether all calls agree on n blocks
@@ -110,43 +110,27 @@ const TEXT: [u8; 4] = [1, 2, 3, 4];
 
 const MADE: [u8; 4] = [2, 3, 4, 5];
 
-fn encrypted_elsewhere() -> [u8; 4] {
-    let mut made = [0; 4];
-    encrypter().encrypt_block_b2b(&TEXT, &mut made);
+// a block encrypted elsewhere and by places
+fn encrypted_each_way() -> [[u8; 4]; 2] {
+    let mut made = [[0; 4]; 2];
+    encrypter().encrypt_block_b2b(&TEXT, &mut made[0]);
+    encrypter().encrypt_block_inout(InOut::new(&TEXT, &mut made[1]));
     made
 }
 
-fn encrypted_by_places() -> [u8; 4] {
-    let mut made = [0; 4];
-    encrypter().encrypt_block_inout(InOut::new(&TEXT, &mut made));
-    made
-}
-
-fn decrypted_elsewhere() -> [u8; 4] {
-    let mut back = [0; 4];
-    decrypter().decrypt_block_b2b(&MADE, &mut back);
-    back
-}
-
-fn decrypted_by_places() -> [u8; 4] {
-    let mut back = MADE;
-    decrypter().decrypt_block_inout(InOut::from(&mut back));
-    back
-}
-
-fn decrypted_in_place() -> [u8; 4] {
-    let mut back = MADE;
-    decrypter().decrypt_block(&mut back);
+// a block decrypted elsewhere, by places and in its place
+fn decrypted_each_way() -> [[u8; 4]; 3] {
+    let mut back = [[0; 4], MADE, MADE];
+    decrypter().decrypt_block_b2b(&MADE, &mut back[0]);
+    decrypter().decrypt_block_inout(InOut::from(&mut back[1]));
+    decrypter().decrypt_block(&mut back[2]);
     back
 }
 
 #[test]
 fn one_block_goes_each_way(rt: HostRuntime) {
-    expect(&rt, encrypted_elsewhere(), MADE, "encrypted elsewhere");
-    expect(&rt, encrypted_by_places(), MADE, "encrypted by places");
-    expect(&rt, decrypted_elsewhere(), TEXT, "decrypted elsewhere");
-    expect(&rt, decrypted_by_places(), TEXT, "decrypted by places");
-    expect(&rt, decrypted_in_place(), TEXT, "decrypted in place");
+    expect(&rt, encrypted_each_way(), [MADE; 2], "encrypted");
+    expect(&rt, decrypted_each_way(), [TEXT; 3], "decrypted");
 }
 
 // whether the blocks of a mode after three are those of another under its state

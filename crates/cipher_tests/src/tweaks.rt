@@ -115,50 +115,32 @@ const PLAIN: [u8; 4] = [1, 2, 3, 255];
 
 const ADDED: [u8; 4] = [8, 10, 2, 255];
 
-fn encrypted_in_place() -> [u8; 4] {
-    let mut block = PLAIN;
-    TweakBlockCipherEncrypt::encrypt_block(&Tweaked, &TWEAK, &mut block);
-    block
+// a block encrypted in its place, elsewhere and by places
+fn encrypted_each_way() -> [[u8; 4]; 3] {
+    let mut made = [PLAIN, [0; 4], PLAIN];
+    TweakBlockCipherEncrypt::encrypt_block(&Tweaked, &TWEAK, &mut made[0]);
+    TweakBlockCipherEncrypt::encrypt_block_b2b(&Tweaked, &TWEAK, &PLAIN, &mut made[1]);
+    TweakBlockCipherEncrypt::encrypt_block_inout(&Tweaked, &TWEAK, InOut::from(&mut made[2]));
+    made
 }
 
-fn encrypted_elsewhere() -> [u8; 4] {
-    let mut block = [0; 4];
-    TweakBlockCipherEncrypt::encrypt_block_b2b(&Tweaked, &TWEAK, &PLAIN, &mut block);
-    block
-}
-
-fn encrypted_by_places() -> [u8; 4] {
-    let mut block = PLAIN;
-    TweakBlockCipherEncrypt::encrypt_block_inout(&Tweaked, &TWEAK, InOut::from(&mut block));
-    block
-}
-
-fn decrypted_in_place() -> [u8; 4] {
-    let mut block = ADDED;
-    TweakBlockCipherDecrypt::decrypt_block(&Tweaked, &TWEAK, &mut block);
-    block
-}
-
-fn decrypted_elsewhere() -> [u8; 4] {
-    let mut block = [0; 4];
-    TweakBlockCipherDecrypt::decrypt_block_b2b(&Tweaked, &TWEAK, &ADDED, &mut block);
-    block
-}
-
-fn decrypted_by_places() -> [u8; 4] {
-    let mut block = [0; 4];
-    TweakBlockCipherDecrypt::decrypt_block_inout(&Tweaked, &TWEAK, InOut::new(&ADDED, &mut block));
-    block
+// the same of a decryption
+fn decrypted_each_way() -> [[u8; 4]; 3] {
+    let mut back = [ADDED, [0; 4], [0; 4]];
+    TweakBlockCipherDecrypt::decrypt_block(&Tweaked, &TWEAK, &mut back[0]);
+    TweakBlockCipherDecrypt::decrypt_block_b2b(&Tweaked, &TWEAK, &ADDED, &mut back[1]);
+    TweakBlockCipherDecrypt::decrypt_block_inout(
+        &Tweaked,
+        &TWEAK,
+        InOut::new(&ADDED, &mut back[2]),
+    );
+    back
 }
 
 #[test]
 fn tweaks_are_added_and_subtracted(rt: HostRuntime) {
-    expect(&rt, encrypted_in_place(), ADDED, "encrypted in place");
-    expect(&rt, encrypted_elsewhere(), ADDED, "encrypted elsewhere");
-    expect(&rt, encrypted_by_places(), ADDED, "encrypted by places");
-    expect(&rt, decrypted_in_place(), PLAIN, "decrypted in place");
-    expect(&rt, decrypted_elsewhere(), PLAIN, "decrypted elsewhere");
-    expect(&rt, decrypted_by_places(), PLAIN, "decrypted by places");
+    expect(&rt, encrypted_each_way(), [ADDED; 3], "encrypted");
+    expect(&rt, decrypted_each_way(), [PLAIN; 3], "decrypted");
 }
 
 // a block encrypted in its place, and what it is decrypted to elsewhere

@@ -253,19 +253,22 @@ const LAST: [u8; 20] = [
 // room bytes, at most 20, from as many before the end on: one more is refused and changes nothing, and none is left
 fn gives_no_more(room: usize) -> bool {
     let room = room.min(20);
-    let place = END - room as u128;
-    let (told, mut cipher) = sought(place);
+    let (told, mut cipher) = sought(END - room as u128);
+    told == Ok(()) && ends_after(&mut cipher, room)
+}
+
+// the same of a cipher that is lent
+fn ends_after(cipher: &mut Cipher, room: usize) -> bool
+    requires { room ≤ 20 }
+{
     let mut bytes = [0; 21];
     let refused = cipher.try_apply_keystream(&mut bytes[..room + 1]);
-    let same = bytes == [0; 21] && cipher.try_current_pos::<u128>() == Ok(place);
+    let same = bytes == [0; 21] && cipher.try_current_pos::<u128>() == Ok(END - room as u128);
     let given = cipher.try_apply_keystream(&mut bytes[..room]);
     let left = cipher.check_remaining(1);
-    told == Ok(())
-        && refused == Err(StreamCipherError)
+    [refused, given, left] == [Err(StreamCipherError), Ok(()), Err(StreamCipherError)]
         && same
-        && given == Ok(())
         && bytes[..room] == LAST[20 - room..]
-        && left == Err(StreamCipherError)
 }
 
 // from each of the last 20 places, and at the greatest block
