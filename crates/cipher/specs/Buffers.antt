@@ -15,7 +15,7 @@ read_of b = slice_index_or b.input.now 0 b.output.now
 abbrev pub read_all : {X : Type 0} → InOutBuf X → List X
 read_all b = pick b.input.now b.output.now
 
--- the message of a buffer with room: the input, if it has its length, and else the front of the output
+-- the message of a buffer with room: the input, if it has its length, and else a prefix of the output
 abbrev pub message_of : {X : Type 0} → InOutBufReserved X → List X
 message_of b = pick b.input.now (take b.len b.output.now)
 

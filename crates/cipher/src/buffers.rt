@@ -31,7 +31,7 @@ pub struct InOutBuf<'i, 'o, T> {
 pub struct InOutBufReserved<'i, 'o, T> {
     /// The slice that is written.
     pub output: &'o mut [T],
-    /// The message, or nothing where it is the front of the output.
+    /// The message, or nothing where it is a prefix of the output.
     pub input: &'i [T],
     /// The length of the message.
     pub len: usize,
@@ -234,7 +234,8 @@ impl<'i, 'o, T> InOutBuf<'i, 'o, T> {
         requires { 1 ≤ N }
         ensures front { read_all result.0 ≡ first_chunks N (length self.entry.output.now / N) (read_all self.entry) }
         ensures back { read_all result.1 ≡ drop (length self.entry.output.now / N * N) (read_all self.entry) }
-        ensures written_front { result.0.output.now ≡ first_chunks N (length self.entry.output.now / N) self.entry.output.now }
+        ensures written_front { result.0.output.now
+            ≡ first_chunks N (length self.entry.output.now / N) self.entry.output.now }
         ensures written_back { result.1.output.now ≡ drop (length self.entry.output.now / N * N) self.entry.output.now }
     {
         let InOutBuf { output, input } = self;
@@ -398,16 +399,18 @@ impl<'i, 'o, T> InOutBufReserved<'i, 'o, T> {
         )
     }
 
-    /// The whole arrays of N places from the front of the message, and the rest of it with the room, N being at least 1.
+    /// The whole arrays of N places with which the message begins, and its rest with the room, N being at least 1.
     pub fn into_chunks<const N: usize>(
         self,
     ) -> (InOutBuf<'i, 'o, [T; N]>, InOutBufReserved<'i, 'o, T>)
         requires positive { 1 ≤ N }
         requires room { self.len ≤ length self.output.now }
-        ensures front { read_all result.0 ≡ first_chunks N (self.entry.len / N) (take (self.entry.len / N * N) (message_of self.entry)) }
+        ensures front { read_all result.0
+            ≡ first_chunks N (self.entry.len / N) (take (self.entry.len / N * N) (message_of self.entry)) }
         ensures back { message_of result.1 ≡ drop (self.entry.len / N * N) (message_of self.entry) }
         ensures back_length { result.1.len ≡ self.entry.len - self.entry.len / N * N }
-        ensures written_front { result.0.output.now ≡ first_chunks N (self.entry.len / N) (take (self.entry.len / N * N) self.entry.output.now) }
+        ensures written_front { result.0.output.now
+            ≡ first_chunks N (self.entry.len / N) (take (self.entry.len / N * N) self.entry.output.now) }
         ensures written_back { result.1.output.now ≡ drop (self.entry.len / N * N) self.entry.output.now }
     {
         let whole = self.len / N * N;

@@ -5,7 +5,7 @@ use Rattle.cipher.specs.Buffers.{pick, part_of}
 use Rattle.cipher.proofs.Parts.{pick-nil, pick-same}
 use Rattle.cipher.proofs.buffers.InOutBufReserved.split_at.Goals as goal
 
--- the rest of a message, of what is read or of the front of the output
+-- the rest of a message, of what is read or of a prefix of the output
 rest_read : {X : Type 0} (i o b p : List X) (n m : ℕ) → m ≤ n → n ≤ length o → b ≡ drop m o → p ≡ part_of i n m n → pick p (take (n - m) b) ≡ drop m (pick i (take n o))
 rest_read {X} i o b p n m within room b_is p_is =
     let front : length (take n o) ≡ n = length-take-le n o room in
