@@ -417,15 +417,39 @@ const GOOD: &[u8] = &[3, 2, 1, 0, 7, 6, 5, 4, 11, 10];
 
 const BAD: &[u8] = &[3, 2, 1, 1, 7, 6, 5, 4, 11, 10];
 
+// a vector that is right, one past the end of the keystream, and one that differs before it
+fn told_of_bytes() -> [Result<(), &'static str>; 3] {
+    [
+        told(&[3], &[2], PLAIN, GOOD),
+        told(&[3], &[1], PLAIN, GOOD),
+        told(&[3], &[1], PLAIN, BAD),
+    ]
+}
+
+// a vector without a key, and one whose lengths differ
+fn told_of_lengths() -> [Result<(), &'static str>; 2] {
+    [told(&[], &[1], PLAIN, BAD), told(&[], &[1], &[], BAD)]
+}
+
 #[test]
 fn vectors_are_told(rt: HostRuntime) {
-    let end = Err("end of keystream reached");
-    let other = Err("ciphertext mismatch");
-    let key = Err("cipher initialization failure");
-    let lengths = Err("mismatch of plaintext and ciphertext lengths");
-    expect(&rt, told(&[3], &[2], PLAIN, GOOD), Ok(()), "good");
-    expect(&rt, told(&[3], &[1], PLAIN, GOOD), end, "end");
-    expect(&rt, told(&[3], &[1], PLAIN, BAD), other, "other");
-    expect(&rt, told(&[], &[1], PLAIN, BAD), key, "key");
-    expect(&rt, told(&[], &[1], &[], BAD), lengths, "lengths");
+    expect(
+        &rt,
+        told_of_bytes(),
+        [
+            Ok(()),
+            Err("end of keystream reached"),
+            Err("ciphertext mismatch"),
+        ],
+        "bytes",
+    );
+    expect(
+        &rt,
+        told_of_lengths(),
+        [
+            Err("cipher initialization failure"),
+            Err("mismatch of plaintext and ciphertext lengths"),
+        ],
+        "lengths",
+    );
 }
