@@ -5,7 +5,7 @@ ghost use Rattle.tink_keysets.specs.Encrypted.{decrypted};
 ghost use Rattle.tink_keysets.specs.Through.{GivesBy};
 
 use crate::ends::Binding;
-use crate::expecting::{expect, expect_bytes};
+use crate::expecting::{expect, refused};
 use std::alloc::Global;
 use std::test::Fail;
 use tink_io::{Draws, Kind, TinkError};
@@ -28,43 +28,34 @@ fn load<R: Reader, A: Aead>(
 
 /// A handle of a symmetric key of id 7 with its URL, and of a destroyed key of id 8.
 pub fn two_keys(alloc: Global) -> Result<Handle, TinkError> {
-    handle_of(7, vec![in alloc; key(alloc, 1, 1, 7)?, bare(3, 8)]?)
+    let keys = vec![in alloc; key(alloc, 1, 1, 7)?, bare(3, 8)]?;
+    handle_of(7, keys)
 }
 
-/// The bytes of that keyset.
-pub fn bytes_of_two(alloc: Global) -> Result<Bytes, TinkError> {
-    bytes_of(alloc, &two_keys(alloc)?)
+/// Whether these are the bytes of that keyset.
+pub fn is_two(alloc: Global, bytes: &Bytes) -> Result<bool, TinkError> {
+    let want = bytes_of(alloc, &two_keys(alloc)?)?;
+    Ok(bytes.as_slice() == want.as_slice())
 }
 
-/// Memory with these bytes, encrypted with empty associated data.
-pub fn memory_of(alloc: Global, bytes: &[u8]) -> Result<MemReaderWriter, TinkError> {
-    let encrypted_keyset = Binding.encrypt(alloc, bytes, &[], &mut draws_of(alloc, b"d")?)?;
-    Ok(MemReaderWriter {
-        keyset: None,
-        encrypted_keyset: Some(EncryptedKeyset {
-            encrypted_keyset,
-            keyset_info: None,
-        }),
-    })
-}
-
-// Memory into which the keyset of two keys was written with the associated data.
-fn written(alloc: Global, associated_data: &[u8]) -> Result<MemReaderWriter, TinkError> {
-    let mut memory = MemReaderWriter::default();
-    let h = two_keys(alloc)?;
+// Writes the keyset of two keys with the associated data.
+fn write_with(
+    alloc: Global,
+    memory: &mut MemReaderWriter,
+    associated_data: &[u8],
+) -> Result<(), TinkError> {
     let mut draws = draws_of(alloc, b"d")?;
-    h.write_with_associated_data(alloc, &mut memory, &Binding, associated_data, &mut draws)?;
-    Ok(memory)
+    let h = two_keys(alloc)?;
+    h.write_with_associated_data(alloc, memory, &Binding, associated_data, &mut draws)
 }
 
-// Writes a keyset without associated data.
+// Writes it without associated data.
 fn write(
     alloc: Global,
-    h: &Handle,
     memory: &mut MemReaderWriter,
     draws: &mut Draws,
 ) -> Result<(), TinkError> {
-    h.write(alloc, memory, &Binding, draws)
+    two_keys(alloc)?.write(alloc, memory, &Binding, draws)
 }
 
 // The bytes of the keyset that is read under the associated data.
@@ -81,45 +72,68 @@ fn read(alloc: Global, memory: &mut MemReaderWriter) -> Result<Bytes, TinkError>
     bytes_of(alloc, &Handle::read(alloc, memory, &Binding)?)
 }
 
-#[test]
-fn what_is_written_is_read_under_the_same_data(rt: HostRuntime) -> Result<(), Fail> {
-    let mut memory = written(rt.alloc(), b"\xaa")?;
-    let again = read_under(rt.alloc(), &mut memory, b"\xaa")?;
-    let want = bytes_of_two(rt.alloc())?;
-    expect_bytes(&rt, again.as_slice(), want.as_slice(), "the keyset");
-    Ok(())
+// Whether the keyset of two keys is read under the associated data.
+fn reads_two(
+    alloc: Global,
+    memory: &mut MemReaderWriter,
+    associated_data: &[u8],
+) -> Result<bool, TinkError> {
+    let read = read_under(alloc, memory, associated_data)?;
+    is_two(alloc, &read)
+}
+
+// Whether it is read under the one associated data after it was written with the other.
+fn is_read(alloc: Global, read: &[u8], written: &[u8]) -> Result<bool, TinkError> {
+    let mut memory = MemReaderWriter::default();
+    write_with(alloc, &mut memory, written)?;
+    reads_two(alloc, &mut memory, read)
 }
 
 #[test]
-fn what_is_written_is_not_read_under_other_data(rt: HostRuntime) -> Result<(), Fail> {
-    let mut memory = written(rt.alloc(), b"\xaa")?;
-    expect(&rt, memory.keyset.is_none(), true, "a keyset as it is");
-    let refused = read_under(rt.alloc(), &mut memory, b"\xab");
-    expect(
-        &rt,
-        kind_of(refused),
-        Some(Kind::MasterFailed),
-        "the refusal",
-    );
-    Ok(())
+fn what_is_written_is_read_under_the_same_data(rt: HostRuntime) {
+    let same = is_read(rt.alloc(), b"\xaa", b"\xaa");
+    expect(&rt, same, Ok(true), "the keyset");
 }
 
-// The keyset of two keys by the law that writes and reads it.
-fn by_the_law(alloc: Global, other: &[u8], draws: &mut Draws) -> Result<Bytes, TinkError> {
-    let h = two_keys(alloc)?;
-    let again = law_written_is_read(alloc, &h, &Binding, b"\xaa", other, draws)?;
+// Whether the keyset is not kept as it is.
+fn is_kept_encrypted(alloc: Global) -> Result<bool, TinkError> {
+    let mut memory = MemReaderWriter::default();
+    write_with(alloc, &mut memory, b"\xaa")?;
+    Ok(memory.keyset.is_none())
+}
+
+#[test]
+fn what_is_written_is_not_read_under_other_data(rt: HostRuntime) {
+    expect(&rt, is_kept_encrypted(rt.alloc()), Ok(true), "as it is");
+    let other = is_read(rt.alloc(), b"\xab", b"\xaa");
+    expect(&rt, other, refused(Kind::MasterFailed), "the refusal");
+}
+
+// The keyset of the handle by the law that writes and reads it.
+fn by_the_law(
+    alloc: Global,
+    h: &Handle,
+    other: &[u8],
+    draws: &mut Draws,
+) -> Result<Bytes, TinkError> {
+    let again = law_written_is_read(alloc, h, &Binding, b"\xaa", other, draws)?;
     bytes_of(alloc, &again)
+}
+
+// Whether it is the same.
+fn is_same(alloc: Global, other: &[u8], draws: &mut Draws) -> Result<bool, TinkError> {
+    let again = by_the_law(alloc, &two_keys(alloc)?, other, draws)?;
+    is_two(alloc, &again)
 }
 
 #[test]
 fn a_law_writes_and_reads(rt: HostRuntime) -> Result<(), Fail> {
     let mut draws = draws_of(rt.alloc(), b"dr")?;
-    let same = by_the_law(rt.alloc(), b"\xaa", &mut draws)?;
-    let want = bytes_of_two(rt.alloc())?;
-    expect_bytes(&rt, same.as_slice(), want.as_slice(), "the same data");
+    let same = is_same(rt.alloc(), b"\xaa", &mut draws);
+    expect(&rt, same, Ok(true), "the same data");
     expect(&rt, draws.left(), 1, "draws");
-    let other = by_the_law(rt.alloc(), b"\xab", &mut draws);
-    expect(&rt, kind_of(other), Some(Kind::MasterFailed), "other data");
+    let other = is_same(rt.alloc(), b"\xab", &mut draws);
+    expect(&rt, other, refused(Kind::MasterFailed), "other data");
     Ok(())
 }
 
@@ -152,74 +166,102 @@ fn has_info_of_two_keys(encrypted: &Option<EncryptedKeyset>) -> bool {
     }
 }
 
-#[test]
-fn what_is_written_shows_its_info(rt: HostRuntime) -> Result<(), Fail> {
-    let memory = written(rt.alloc(), b"\xaa")?;
-    let shows = has_info_of_two_keys(&memory.encrypted_keyset);
-    expect(&rt, shows, true, "the info");
-    Ok(())
+// Whether what is written has it.
+fn shows_info(alloc: Global) -> Result<bool, TinkError> {
+    let mut memory = MemReaderWriter::default();
+    write_with(alloc, &mut memory, b"\xaa")?;
+    Ok(has_info_of_two_keys(&memory.encrypted_keyset))
 }
 
-// Memory into which the keyset of two keys was written without associated data.
-fn written_without(alloc: Global, draws: &mut Draws) -> Result<MemReaderWriter, TinkError> {
+#[test]
+fn what_is_written_shows_its_info(rt: HostRuntime) {
+    expect(&rt, shows_info(rt.alloc()), Ok(true), "the info");
+}
+
+// Whether the same is read without associated data and under empty ones.
+fn reads_both(alloc: Global, memory: &mut MemReaderWriter) -> Result<bool, TinkError> {
+    let again = read(alloc, memory)?;
+    let empty = read_under(alloc, memory, &[])?;
+    Ok(again.as_slice() == empty.as_slice())
+}
+
+// The same of what is written without associated data.
+fn is_empty_meant(alloc: Global, draws: &mut Draws) -> Result<bool, TinkError> {
     let mut memory = MemReaderWriter::default();
-    write(alloc, &two_keys(alloc)?, &mut memory, draws)?;
-    Ok(memory)
+    write(alloc, &mut memory, draws)?;
+    reads_both(alloc, &mut memory)
 }
 
 #[test]
 fn empty_data_is_meant_where_none_is_given(rt: HostRuntime) -> Result<(), Fail> {
     let mut draws = draws_of(rt.alloc(), b"dr")?;
-    let mut memory = written_without(rt.alloc(), &mut draws)?;
+    let meant = is_empty_meant(rt.alloc(), &mut draws);
+    expect(&rt, meant, Ok(true), "what is read");
     expect(&rt, draws.left(), 1, "draws");
-    let again = read(rt.alloc(), &mut memory)?;
-    let empty = read_under(rt.alloc(), &mut memory, &[])?;
-    expect_bytes(&rt, again.as_slice(), empty.as_slice(), "what is read");
     Ok(())
+}
+
+// Whether the keyset of two keys is read without associated data.
+fn reads_two_again(alloc: Global, memory: &mut MemReaderWriter) -> Result<bool, TinkError> {
+    let again = read(alloc, memory)?;
+    is_two(alloc, &again)
+}
+
+// The same of what is written without them.
+fn is_read_without(alloc: Global, draws: &mut Draws) -> Result<bool, TinkError> {
+    let mut memory = MemReaderWriter::default();
+    write(alloc, &mut memory, draws)?;
+    reads_two_again(alloc, &mut memory)
 }
 
 #[test]
 fn what_is_written_without_data_is_read(rt: HostRuntime) -> Result<(), Fail> {
     let mut draws = draws_of(rt.alloc(), b"d")?;
-    let mut memory = written_without(rt.alloc(), &mut draws)?;
-    let again = read(rt.alloc(), &mut memory)?;
-    let want = bytes_of_two(rt.alloc())?;
-    expect_bytes(&rt, again.as_slice(), want.as_slice(), "the keyset");
+    let again = is_read_without(rt.alloc(), &mut draws);
+    expect(&rt, again, Ok(true), "the keyset");
     Ok(())
 }
 
-// The refusal of the keyset that the master makes of these bytes.
-fn refusal_of(alloc: Global, bytes: &[u8]) -> Result<Option<Kind>, TinkError> {
-    let mut memory = memory_of(alloc, bytes)?;
-    Ok(kind_of(read(alloc, &mut memory)))
+// Puts these bytes, encrypted with empty associated data, into the memory.
+fn put(alloc: Global, memory: &mut MemReaderWriter, bytes: &[u8]) -> Result<(), TinkError> {
+    let mut draws = draws_of(alloc, b"d")?;
+    let encrypted_keyset = Binding.encrypt(alloc, bytes, &[], &mut draws)?;
+    memory.encrypted_keyset = Some(EncryptedKeyset {
+        encrypted_keyset,
+        keyset_info: None,
+    });
+    Ok(())
+}
+
+// How the keyset is refused that the master makes of these bytes.
+fn refusal_of<A: Aead>(
+    alloc: Global,
+    master: &A,
+    bytes: &[u8],
+) -> Result<Option<Kind>, TinkError> {
+    let mut memory = MemReaderWriter::default();
+    put(alloc, &mut memory, bytes)?;
+    Ok(kind_of(Handle::read(alloc, &mut memory, master)))
 }
 
 #[test]
-fn what_a_master_gives_may_be_no_keyset(rt: HostRuntime) -> Result<(), Fail> {
+fn what_a_master_gives_may_be_no_keyset(rt: HostRuntime) {
     // An enabled key of id 7 without data, and then bytes that are no field.
     for (bytes, want) in [
         (b"".as_slice(), None),
         (b"\x12\x04\x10\x01\x18\x07", Some(Kind::InvalidKeyset)),
         (b"\x12\x04\x10\x01\x18", Some(Kind::BadKeyset)),
     ] {
-        let refused = refusal_of(rt.alloc(), bytes)?;
-        expect(&rt, refused, want, "what the master gives");
+        let refused = refusal_of(rt.alloc(), &Binding, bytes);
+        expect(&rt, refused, Ok(want), "what the master gives");
     }
-    Ok(())
 }
 
 #[test]
-fn a_master_that_refuses_reads_nothing(rt: HostRuntime) -> Result<(), Fail> {
+fn a_master_that_refuses_reads_nothing(rt: HostRuntime) {
     let master = TestAead {
         key: Bytes::new(rt.alloc()),
     };
-    let mut memory = memory_of(rt.alloc(), b"")?;
-    let not_read = Handle::read(rt.alloc(), &mut memory, &master);
-    expect(
-        &rt,
-        kind_of(not_read),
-        Some(Kind::MasterFailed),
-        "the refusal",
-    );
-    Ok(())
+    let not_read = refusal_of(rt.alloc(), &master, b"");
+    expect(&rt, not_read, Ok(Some(Kind::MasterFailed)), "the refusal");
 }

@@ -140,11 +140,6 @@ fn random_numbers_are_draws(rt: HostRuntime) -> Result<(), Fail> {
     Ok(())
 }
 
-// A handle of a destroyed key.
-fn destroyed(alloc: Global) -> Result<Handle, TinkError> {
-    handle_of(7, vec![in alloc; bare(3, 7)]?)
-}
-
 // The handle, written and read as one without secrets.
 fn plain(alloc: Global, h: &Handle, memory: &mut MemReaderWriter) -> Result<Handle, TinkError> {
     h.write_with_no_secrets(alloc, memory)?;
@@ -157,18 +152,29 @@ fn secret(alloc: Global, h: &Handle, memory: &mut MemReaderWriter) -> Result<Han
     insecure::read(alloc, memory)
 }
 
-fn through_memory(alloc: Global) -> Result<Handle, TinkError> {
-    let mut memory = MemReaderWriter::default();
-    let again = plain(alloc, &destroyed(alloc)?, &mut memory)?;
-    secret(alloc, &again, &mut memory)
+// A handle of a destroyed key, written and read.
+fn read_plain(alloc: Global, memory: &mut MemReaderWriter) -> Result<Handle, TinkError> {
+    let destroyed = handle_of(7, vec![in alloc; bare(3, 7)]?)?;
+    plain(alloc, &destroyed, memory)
+}
+
+// The same, and once more.
+fn read_again(alloc: Global, memory: &mut MemReaderWriter) -> Result<Handle, TinkError> {
+    let read = read_plain(alloc, memory)?;
+    secret(alloc, &read, memory)
+}
+
+// Its primary id, and the number of its keys.
+fn ids_again(alloc: Global, memory: &mut MemReaderWriter) -> Result<(u32, usize), TinkError> {
+    let info = read_again(alloc, memory)?.keyset_info(alloc)?;
+    Ok((info.primary_key_id, info.key_info.as_slice().len()))
 }
 
 #[test]
-fn keysets_are_written_and_read(rt: HostRuntime) -> Result<(), Fail> {
-    let info = through_memory(rt.alloc())?.keyset_info(rt.alloc())?;
-    expect(&rt, info.primary_key_id, 7, "the primary id");
-    expect(&rt, info.key_info.as_slice().len(), 1, "keys");
-    Ok(())
+fn keysets_are_written_and_read(rt: HostRuntime) {
+    let mut memory = MemReaderWriter::default();
+    let ids = ids_again(rt.alloc(), &mut memory);
+    expect(&rt, ids, Ok((7, 1)), "the primary id, and keys");
 }
 
 #[test]

@@ -4,7 +4,7 @@ ghost use Rattle.wire_format.specs.Message.{decoded};
 ghost use Rattle.tink_proto.specs.Outcome.{Reads};
 ghost use Rattle.tink_proto.specs.Messages.{keyset};
 
-use crate::expect::{expect, expect_given};
+use crate::expect::expect;
 use std::alloc::Global;
 use tink_proto::{
     Bytes, EncryptedKeyset, HashType, Key, KeyData, KeyInfo, KeyMaterialType, KeyStatusType,
@@ -13,27 +13,27 @@ use tink_proto::{
 };
 
 /// URL "x", value 07, material 1.
-const KEY_DATA: [u8; 8] = [0x0a, 1, b'x', 0x12, 1, 7, 0x18, 1];
+const KEY_DATA: &[u8] = b"\x0a\x01x\x12\x01\x07\x18\x01";
 
 /// The key data, status 1, id 300, prefix 3.
-const KEY: [u8; 17] = [
-    0x0a, 8, 0x0a, 1, b'x', 0x12, 1, 7, 0x18, 1, 0x10, 1, 0x18, 0xac, 0x02, 0x20, 3,
-];
+const KEY: &[u8] = b"\x0a\x08\x0a\x01x\x12\x01\x07\x18\x01\x10\x01\x18\xac\x02\x20\x03";
 
 /// Primary id 300, and the key.
-const KEYSET: [u8; 22] = [
-    0x08, 0xac, 0x02, 0x12, 17, 0x0a, 8, 0x0a, 1, b'x', 0x12, 1, 7, 0x18, 1, 0x10, 1, 0x18, 0xac,
-    0x02, 0x20, 3,
-];
+const KEYSET: &[u8] =
+    b"\x08\xac\x02\x12\x11\x0a\x08\x0a\x01x\x12\x01\x07\x18\x01\x10\x01\x18\xac\x02\x20\x03";
 
 /// URL "x", value 07, prefix 4.
-const TEMPLATE: [u8; 8] = [0x0a, 1, b'x', 0x12, 1, 7, 0x18, 4];
+const TEMPLATE: &[u8] = b"\x0a\x01x\x12\x01\x07\x18\x04";
 
 /// Bytes 01 02; an info of primary id 300 and one key of URL "x", status 2, id 300, prefix 1.
-const ENCRYPTED: [u8; 21] = [
-    0x12, 2, 1, 2, 0x1a, 15, 0x08, 0xac, 0x02, 0x12, 10, 0x0a, 1, b'x', 0x10, 2, 0x18, 0xac, 0x02,
-    0x20, 1,
-];
+const ENCRYPTED: &[u8] =
+    b"\x12\x02\x01\x02\x1a\x0f\x08\xac\x02\x12\x0a\x0a\x01x\x10\x02\x18\xac\x02\x20\x01";
+
+/// That info.
+const INFO: &[u8] = b"\x08\xac\x02\x12\x0a\x0a\x01x\x10\x02\x18\xac\x02\x20\x01";
+
+/// Its key.
+const KEY_INFO: &[u8] = b"\x0a\x01x\x10\x02\x18\xac\x02\x20\x01";
 
 /// A keyset from its bytes, as a caller's contract says it.
 fn read_keyset(alloc: Global, bytes: &[u8]) -> Result<Keyset, ProtoError>
@@ -63,7 +63,7 @@ fn is_keyset_of_x(keyset: &Keyset) -> bool {
 }
 
 fn reads_keyset(alloc: Global) -> Result<bool, ProtoError> {
-    let keyset = read_keyset(alloc, &KEYSET)?;
+    let keyset = read_keyset(alloc, KEYSET)?;
     Ok(is_keyset_of_x(&keyset))
 }
 
@@ -77,7 +77,7 @@ fn is_info_of_x(info: &KeysetInfo) -> bool {
 }
 
 fn reads_encrypted(alloc: Global) -> Result<bool, ProtoError> {
-    let encrypted = EncryptedKeyset::decode(alloc, &ENCRYPTED)?;
+    let encrypted = EncryptedKeyset::decode(alloc, ENCRYPTED)?;
     Ok(
         encrypted.encrypted_keyset.as_slice() == [1, 2].as_slice()
             && encrypted.keyset_info.as_ref().is_some_and(is_info_of_x),
@@ -85,7 +85,7 @@ fn reads_encrypted(alloc: Global) -> Result<bool, ProtoError> {
 }
 
 fn reads_template(alloc: Global) -> Result<bool, ProtoError> {
-    let template = KeyTemplate::decode(alloc, &TEMPLATE)?;
+    let template = KeyTemplate::decode(alloc, TEMPLATE)?;
     Ok(
         template.type_url.as_str() == "x"
             && template.value.as_slice() == [7].as_slice()
@@ -120,20 +120,20 @@ fn writes_the_keysets_that_it_read(rt: HostRuntime) {
     let alloc = rt.alloc();
     expect(
         &rt,
-        is_written_again::<KeyData>(alloc, &KEY_DATA),
+        is_written_again::<KeyData>(alloc, KEY_DATA),
         Ok(true),
         "key data",
     );
-    expect(&rt, is_written_again::<Key>(alloc, &KEY), Ok(true), "a key");
+    expect(&rt, is_written_again::<Key>(alloc, KEY), Ok(true), "a key");
     expect(
         &rt,
-        is_written_again::<Keyset>(alloc, &KEYSET),
+        is_written_again::<Keyset>(alloc, KEYSET),
         Ok(true),
         "a keyset",
     );
     expect(
         &rt,
-        is_written_again::<KeyTemplate>(alloc, &TEMPLATE),
+        is_written_again::<KeyTemplate>(alloc, TEMPLATE),
         Ok(true),
         "a template",
     );
@@ -142,22 +142,21 @@ fn writes_the_keysets_that_it_read(rt: HostRuntime) {
 #[test]
 fn writes_the_infos_that_it_read(rt: HostRuntime) {
     let alloc = rt.alloc();
-    let (info, key_info) = (&ENCRYPTED[6..], &ENCRYPTED[11..]);
     expect(
         &rt,
-        is_written_again::<KeyInfo>(alloc, key_info),
+        is_written_again::<KeyInfo>(alloc, KEY_INFO),
         Ok(true),
         "an info",
     );
     expect(
         &rt,
-        is_written_again::<KeysetInfo>(alloc, info),
+        is_written_again::<KeysetInfo>(alloc, INFO),
         Ok(true),
         "an info of a keyset",
     );
     expect(
         &rt,
-        is_written_again::<EncryptedKeyset>(alloc, &ENCRYPTED),
+        is_written_again::<EncryptedKeyset>(alloc, ENCRYPTED),
         Ok(true),
         "encrypted",
     );
@@ -165,9 +164,9 @@ fn writes_the_infos_that_it_read(rt: HostRuntime) {
 
 /// Whether the keyset with more bytes behind it is the keyset.
 fn is_keyset_with(alloc: Global, tail: &[u8]) -> Result<bool, ProtoError> {
-    let mut bytes = Vec::from_slice(alloc, &KEYSET)?;
+    let mut bytes = Vec::from_slice(alloc, KEYSET)?;
     bytes.extend_from_slice(tail)?;
-    is_written_as::<Keyset>(alloc, &bytes, &KEYSET)
+    is_written_as::<Keyset>(alloc, &bytes, KEYSET)
 }
 
 #[test]
@@ -239,7 +238,7 @@ fn joins_the_bodies_of_one_message(rt: HostRuntime) {
     ];
     expect(
         &rt,
-        is_written_as::<Key>(rt.alloc(), &apart, &KEY),
+        is_written_as::<Key>(rt.alloc(), &apart, KEY),
         Ok(true),
         "the key",
     );
@@ -270,22 +269,21 @@ fn negative_keyset(alloc: Global) -> Result<Keyset, ProtoError> {
 }
 
 /// A keyset of one key of status -2, written.
-const NEGATIVE: [u8; 15] = [
-    0x12, 13, 0x0a, 0, 0x10, 0xfe, 0xff, 0xff, 0xff, 0xff, 0xff, 0xff, 0xff, 0xff, 1,
-];
+const NEGATIVE: &[u8] = b"\x12\x0d\x0a\x00\x10\xfe\xff\xff\xff\xff\xff\xff\xff\xff\x01";
 
-fn negative_written(alloc: Global) -> Result<Bytes, ProtoError> {
-    negative_keyset(alloc)?.encode(alloc)
+fn writes_negative(alloc: Global) -> Result<bool, ProtoError> {
+    let written = negative_keyset(alloc)?.encode(alloc)?;
+    Ok(written.as_slice() == NEGATIVE)
 }
 
 fn reads_negative(alloc: Global) -> Result<bool, ProtoError> {
-    let keyset = Keyset::decode(alloc, &NEGATIVE)?;
+    let keyset = Keyset::decode(alloc, NEGATIVE)?;
     Ok(matches!(keyset.key.as_slice(), [Key { status: -2, .. }]))
 }
 
 #[test]
 fn writes_defaults_and_negative_numbers(rt: HostRuntime) {
-    expect_given(&rt, negative_written(rt.alloc()), &NEGATIVE, "written");
+    expect(&rt, writes_negative(rt.alloc()), Ok(true), "written");
     expect(&rt, reads_negative(rt.alloc()), Ok(true), "read");
 }
 
