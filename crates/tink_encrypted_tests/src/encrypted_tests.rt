@@ -50,11 +50,7 @@ fn write_with(
 }
 
 // Writes it without associated data.
-fn write(
-    alloc: Global,
-    memory: &mut MemReaderWriter,
-    draws: &mut Draws,
-) -> Result<(), TinkError> {
+fn write(alloc: Global, memory: &mut MemReaderWriter, draws: &mut Draws) -> Result<(), TinkError> {
     two_keys(alloc)?.write(alloc, memory, &Binding, draws)
 }
 
@@ -234,11 +230,7 @@ fn put(alloc: Global, memory: &mut MemReaderWriter, bytes: &[u8]) -> Result<(), 
 }
 
 // How the keyset is refused that the master makes of these bytes.
-fn refusal_of<A: Aead>(
-    alloc: Global,
-    master: &A,
-    bytes: &[u8],
-) -> Result<Option<Kind>, TinkError> {
+fn refusal_of<A: Aead>(alloc: Global, master: &A, bytes: &[u8]) -> Result<Option<Kind>, TinkError> {
     let mut memory = MemReaderWriter::default();
     put(alloc, &mut memory, bytes)?;
     Ok(kind_of(Handle::read(alloc, &mut memory, master)))

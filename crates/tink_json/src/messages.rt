@@ -6,7 +6,7 @@ ghost use Rattle.serde_json.specs.Data.{Data, number, unsigned, put as with_memb
 ghost use Rattle.serde_json.specs.View.{members_view, view};
 ghost use Rattle.serde_json.specs.Written.{has_float as holds_float};
 ghost use Rattle.tink_json.specs.Messages.{message_of, value_of as value_of_text};
-ghost use Rattle.tink_json.specs.Outcome.{Gives, IsRefusal, Reads};
+ghost use Rattle.tink_json.specs.Outcome.{IsRefusal, Reads, ReadsAs};
 ghost use Rattle.tink_json.specs.Written.{enum_value, pretty_text, put_if};
 ghost use Rattle.tink_json.specs.Names.{prefixes, statuses};
 ghost use Rattle.tink_proto.specs.declared.error.ProtoError.TheVariants.{OutOfMemory};
@@ -72,7 +72,7 @@ pub trait Json: Drop {
 
 // The value of a text.
 fn value_of(alloc: Global, text: &[u8]) -> Result<Value, ProtoError>
-    ensures { Gives view result (value_of_text text.now) }
+    ensures { ReadsAs view result (value_of_text text.now) }
 {
     match Value::from_slice(alloc, text) {
         Ok(value) => Ok(value),

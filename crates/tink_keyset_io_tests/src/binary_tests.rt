@@ -28,7 +28,12 @@ fn keyset_of<S: Source + Drop>(alloc: Global, source: S) -> Result<Keyset, TinkE
 fn a_keyset_is_read_in_pieces(rt: HostRuntime) -> Result<(), Fail> {
     let alloc = rt.alloc();
     let mut reader = BinaryReader::new(source(alloc, KEYSET, 7, &[])?);
-    expect(&rt, reads(alloc, &mut reader, KEYSET), Ok(true), "the keyset");
+    expect(
+        &rt,
+        reads(alloc, &mut reader, KEYSET),
+        Ok(true),
+        "the keyset",
+    );
     // the source is at its end: a message with no field is a keyset without keys
     expect(&rt, reads(alloc, &mut reader, &[]), Ok(true), "no keys");
     expect(&rt, reads_no_info(alloc, &mut reader), Ok(true), "no info");
@@ -90,7 +95,12 @@ fn a_source_that_fails_at_its_second_call_is_a_fault(rt: HostRuntime) -> Result<
 fn a_sink_that_fails_at_its_second_call_has_the_first_bytes(rt: HostRuntime) -> Result<(), Fail> {
     let mut writer = BinaryWriter::new(sink(rt.alloc(), 50, &[2])?);
     let written = write(rt.alloc(), &mut writer);
-    expect(&rt, written, Err(TinkError::new(Kind::WriteFault)), "the refusal");
+    expect(
+        &rt,
+        written,
+        Err(TinkError::new(Kind::WriteFault)),
+        "the refusal",
+    );
     let taken = has_taken(&writer.into_inner(), &KEYSET[..50], b"");
     expect(&rt, taken, true, "the first bytes");
     Ok(())

@@ -28,7 +28,12 @@ const TEXT: &[u8] = b"{
 fn a_text_is_read_in_pieces(rt: HostRuntime) -> Result<(), Fail> {
     let alloc = rt.alloc();
     let mut reader = JsonReader::new(source(alloc, TEXT, 31, &[])?);
-    expect(&rt, reads(alloc, &mut reader, KEYSET), Ok(true), "the keyset");
+    expect(
+        &rt,
+        reads(alloc, &mut reader, KEYSET),
+        Ok(true),
+        "the keyset",
+    );
     // the source is at its end, and no bytes are no value
     let none = Some(Kind::BadJson);
     expect(&rt, refusal(alloc, &mut reader), none, "no keyset");
@@ -68,7 +73,12 @@ fn faults_are_refused(rt: HostRuntime) -> Result<(), Fail> {
 fn a_sink_that_fails_has_the_first_bytes(rt: HostRuntime) -> Result<(), Fail> {
     let mut writer = JsonWriter::new(sink(rt.alloc(), 50, &[2])?);
     let written = write(rt.alloc(), &mut writer);
-    expect(&rt, written, Err(TinkError::new(Kind::WriteFault)), "the refusal");
+    expect(
+        &rt,
+        written,
+        Err(TinkError::new(Kind::WriteFault)),
+        "the refusal",
+    );
     let taken = has_taken(&writer.into_inner(), &TEXT[..50], b"");
     expect(&rt, taken, true, "the first bytes");
     Ok(())

@@ -73,7 +73,11 @@ pub fn write<W: Writer>(alloc: Global, writer: &mut W) -> Result<(), TinkError> 
 }
 
 // Writes an encrypted keyset of these bytes, without info.
-fn write_encrypted<W: Writer>(alloc: Global, writer: &mut W, bytes: &[u8]) -> Result<(), TinkError> {
+fn write_encrypted<W: Writer>(
+    alloc: Global,
+    writer: &mut W,
+    bytes: &[u8],
+) -> Result<(), TinkError> {
     let ks = EncryptedKeyset {
         encrypted_keyset: Bytes::from_slice(alloc, bytes)?,
         keyset_info: None,

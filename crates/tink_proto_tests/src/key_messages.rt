@@ -2,6 +2,7 @@
 
 ghost use Rattle.wire_format.specs.Message.{decoded};
 ghost use Rattle.tink_proto.specs.Outcome.{Reads};
+ghost use Rattle.tink_proto.specs.declared.error.ProtoError.TheVariants.{BadMessage};
 ghost use Rattle.tink_proto_keys.specs.Aead.{aes_gcm_key};
 
 use crate::expect::expect;
@@ -27,7 +28,7 @@ const GCM_KEYSET: &[u8] =
 
 /// A key from its bytes, as a caller's contract says it.
 fn read_key(alloc: Global, bytes: &[u8]) -> Result<AesGcmKey, ProtoError>
-    ensures { Reads result (decoded aes_gcm_key.read bytes.now) }
+    ensures { Reads BadMessage result (decoded aes_gcm_key.read bytes.now) }
 {
     AesGcmKey::decode(alloc, bytes)
 }

@@ -2,6 +2,7 @@
 
 ghost use Rattle.wire_format.specs.Message.{decoded};
 ghost use Rattle.tink_proto.specs.Outcome.{Reads};
+ghost use Rattle.tink_proto.specs.declared.error.ProtoError.TheVariants.{BadMessage};
 ghost use Rattle.tink_proto.specs.Messages.{keyset};
 
 use crate::expect::expect;
@@ -37,7 +38,7 @@ const KEY_INFO: &[u8] = b"\x0a\x01x\x10\x02\x18\xac\x02\x20\x01";
 
 /// A keyset from its bytes, as a caller's contract says it.
 fn read_keyset(alloc: Global, bytes: &[u8]) -> Result<Keyset, ProtoError>
-    ensures { Reads result (decoded keyset.read bytes.now) }
+    ensures { Reads BadMessage result (decoded keyset.read bytes.now) }
 {
     Keyset::decode(alloc, bytes)
 }
