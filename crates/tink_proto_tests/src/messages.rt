@@ -7,6 +7,7 @@ ghost use Rattle.tink_proto.specs.Messages.{keyset};
 
 use crate::expect::expect;
 use std::alloc::Global;
+use std::process::Abort;
 use tink_proto::{
     Bytes, EncryptedKeyset, HashType, Key, KeyData, KeyInfo, KeyMaterialType, KeyStatusType,
     KeyTemplate, Keyset, KeysetInfo, Message, OutputPrefixType, ProtoError, Repeated, Text,
@@ -170,76 +171,74 @@ fn is_keyset_with(alloc: Global, tail: &[u8]) -> Result<bool, ProtoError> {
     is_written_as::<Keyset>(alloc, &bytes, KEYSET)
 }
 
+fn skips(rt: &impl Abort, alloc: Global, tail: &[u8]) {
+    expect(rt, is_keyset_with(alloc, tail), Ok(true), "more bytes");
+}
+
 #[test]
 fn skips_unknown_fields_and_long_spellings(rt: HostRuntime) {
-    let tails: [&[u8]; 6] = [
-        &[0x78, 5],
-        &[0x79, 0, 0, 0, 0, 0, 0, 0, 0],
-        &[0x7a, 1, 0xff],
-        &[0x7d, 0, 0, 0, 0],
-        // The id 300 once more, its key in ten bytes and with higher bits.
-        &[
-            0x88, 0x80, 0x80, 0x80, 0x80, 0x80, 0x80, 0x80, 0x80, 0, 0xac, 2,
-        ],
-        &[
-            0x08, 0xac, 0x82, 0x80, 0x80, 0xf0, 0xff, 0xff, 0xff, 0xff, 1,
-        ],
-    ];
-    for tail in tails {
-        expect(
-            &rt,
-            is_keyset_with(rt.alloc(), tail),
-            Ok(true),
-            "with more bytes",
-        );
-    }
+    let alloc = rt.alloc();
+    skips(&rt, alloc, b"\x78\x05");
+    skips(&rt, alloc, b"\x79\x00\x00\x00\x00\x00\x00\x00\x00");
+    skips(&rt, alloc, b"\x7a\x01\xff");
+    skips(&rt, alloc, b"\x7d\x00\x00\x00\x00");
+
+    // The id 300 once more, its key in ten bytes and with higher bits.
+    skips(
+        &rt,
+        alloc,
+        b"\x88\x80\x80\x80\x80\x80\x80\x80\x80\x00\xac\x02",
+    );
+    skips(&rt, alloc, b"\x08\xac\x82\x80\x80\xf0\xff\xff\xff\xff\x01");
 }
 
 fn is_refused<M: Message>(alloc: Global, bytes: &[u8]) -> bool {
     matches!(M::decode(alloc, bytes), Err(ProtoError::BadMessage))
 }
 
+fn refuses<M: Message>(rt: &impl Abort, alloc: Global, bytes: &[u8]) {
+    expect(rt, is_refused::<M>(alloc, bytes), true, "refused");
+}
+
 #[test]
-fn refuses(rt: HostRuntime) {
-    let refused: [&[u8]; 11] = [
-        // Cut off: a key, a varint, a length, a body, eight and four bytes.
-        &[0x88],
-        &[0x08],
-        &[0x12],
-        &[0x12, 1],
-        &[0x79, 0],
-        &[0x7d, 0],
-        // A group, number 0, a field with another type, a key of 2^32, a varint of 2^64.
-        &[0x7b],
-        &[0x00, 0],
-        &[0x0a, 0],
-        &[0x80, 0x80, 0x80, 0x80, 0x10, 0],
-        &[
-            0x08, 0xff, 0xff, 0xff, 0xff, 0xff, 0xff, 0xff, 0xff, 0xff, 2,
-        ],
-    ];
-    for bytes in refused {
-        assert!(rt; is_refused::<Keyset>(rt.alloc(), bytes));
-    }
+fn refuses_what_is_cut_off(rt: HostRuntime) {
+    let alloc = rt.alloc();
+    // A key, a varint, a length, a body, eight and four bytes.
+    refuses::<Keyset>(&rt, alloc, b"\x88");
+    refuses::<Keyset>(&rt, alloc, b"\x08");
+    refuses::<Keyset>(&rt, alloc, b"\x12");
+    refuses::<Keyset>(&rt, alloc, b"\x12\x01");
+    refuses::<Keyset>(&rt, alloc, b"\x79\x00");
+    refuses::<Keyset>(&rt, alloc, b"\x7d\x00");
+}
+
+#[test]
+fn refuses_other_fields(rt: HostRuntime) {
+    let alloc = rt.alloc();
+    // A group, number 0, a field with another type, a key of 2^32, a varint of 2^64.
+    refuses::<Keyset>(&rt, alloc, b"\x7b");
+    refuses::<Keyset>(&rt, alloc, b"\x00\x00");
+    refuses::<Keyset>(&rt, alloc, b"\x0a\x00");
+    refuses::<Keyset>(&rt, alloc, b"\x80\x80\x80\x80\x10\x00");
+    refuses::<Keyset>(&rt, alloc, b"\x08\xff\xff\xff\xff\xff\xff\xff\xff\xff\x02");
 }
 
 #[test]
 fn refuses_other_texts_and_bodies_apart(rt: HostRuntime) {
+    let alloc = rt.alloc();
     // A text that is not UTF-8, also where a later one replaces it.
-    assert!(rt; is_refused::<KeyData>(rt.alloc(), &[0x0a, 1, 0xff, 0x0a, 0]));
+    refuses::<KeyData>(&rt, alloc, b"\x0a\x01\xff\x0a\x00");
     // A field that is cut in two by two bodies.
-    assert!(rt; is_refused::<Key>(rt.alloc(), &[0x0a, 2, 0x0a, 1, 0x0a, 1, b'x']));
+    refuses::<Key>(&rt, alloc, b"\x0a\x02\x0a\x01\x0a\x01x");
 }
 
 #[test]
 fn joins_the_bodies_of_one_message(rt: HostRuntime) {
-    let apart = [
-        0x0a, 3, 0x0a, 1, b'x', 0x10, 1, 0x0a, 7, 0x12, 1, 9, 0x12, 0, 0x18, 1, 0x18, 0xac, 2,
-        0x20, 3, 0x0a, 3, 0x12, 1, 7,
-    ];
+    let apart =
+        b"\x0a\x03\x0a\x01x\x10\x01\x0a\x07\x12\x01\x09\x12\x00\x18\x01\x18\xac\x02\x20\x03\x0a\x03\x12\x01\x07";
     expect(
         &rt,
-        is_written_as::<Key>(rt.alloc(), &apart, KEY),
+        is_written_as::<Key>(rt.alloc(), apart, KEY),
         Ok(true),
         "the key",
     );
@@ -288,17 +287,42 @@ fn writes_defaults_and_negative_numbers(rt: HostRuntime) {
     expect(&rt, reads_negative(rt.alloc()), Ok(true), "read");
 }
 
+fn is_status(number: i32) -> bool {
+    match KeyStatusType::try_from(number) {
+        Ok(value) => value as i32 == number,
+        Err(_) => false,
+    }
+}
+
+fn is_prefix_type(number: i32) -> bool {
+    match OutputPrefixType::try_from(number) {
+        Ok(value) => value as i32 == number,
+        Err(_) => false,
+    }
+}
+
+fn is_material(number: i32) -> bool {
+    match KeyMaterialType::try_from(number) {
+        Ok(value) => value as i32 == number,
+        Err(_) => false,
+    }
+}
+
+fn is_hash(number: i32) -> bool {
+    match HashType::try_from(number) {
+        Ok(value) => value as i32 == number,
+        Err(_) => false,
+    }
+}
+
+// Those below 4 are statuses, below 5 prefix types and materials, and below 6 hashes.
 #[test]
 fn numbers_of_enums(rt: HostRuntime) {
-    for number in 0..4i32 {
-        assert!(rt; KeyStatusType::try_from(number).is_ok_and(|e| e as i32 == number));
-    }
-    for number in 0..5i32 {
-        assert!(rt; OutputPrefixType::try_from(number).is_ok_and(|e| e as i32 == number));
-        assert!(rt; KeyMaterialType::try_from(number).is_ok_and(|e| e as i32 == number));
-    }
     for number in 0..6i32 {
-        assert!(rt; HashType::try_from(number).is_ok_and(|e| e as i32 == number));
+        expect(&rt, is_status(number), number < 4, "a status");
+        expect(&rt, is_prefix_type(number), number < 5, "a prefix type");
+        expect(&rt, is_material(number), number < 5, "a material");
+        expect(&rt, is_hash(number), true, "a hash");
     }
 }
 
