@@ -1,5 +1,5 @@
 -- What a loop over fields keeps.
-use Rattle.std.proofs.Common.{◌≡◌, List, ℕ, Option, Some, None, sym, ◌∙◌}
+use Rattle.std.proofs.Common.{◌≡◌, List, ℕ, Option, Some, sym, ◌∙◌}
 use Rattle.wire_format.specs.Grammar.{Field}
 use Rattle.wire_format.specs.GrammarLaws.{Next}
 use Rattle.wire_format.specs.Reading.{field_at}
