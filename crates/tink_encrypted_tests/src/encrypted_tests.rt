@@ -49,26 +49,17 @@ fn write_with(
     h.write_with_associated_data(alloc, memory, &Binding, associated_data, &mut draws)
 }
 
-// Writes it without associated data.
-fn write(alloc: Global, memory: &mut MemReaderWriter, draws: &mut Draws) -> Result<(), TinkError> {
-    two_keys(alloc)?.write(alloc, memory, &Binding, draws)
-}
-
 // The bytes of the keyset that is read under the associated data.
 fn read_under(
     alloc: Global,
     memory: &mut MemReaderWriter,
     associated_data: &[u8],
 ) -> Result<Bytes, TinkError> {
-    bytes_of(alloc, &load(alloc, memory, &Binding, associated_data)?)
+    let h = load(alloc, memory, &Binding, associated_data)?;
+    bytes_of(alloc, &h)
 }
 
-// The same without associated data.
-fn read(alloc: Global, memory: &mut MemReaderWriter) -> Result<Bytes, TinkError> {
-    bytes_of(alloc, &Handle::read(alloc, memory, &Binding)?)
-}
-
-// Whether the keyset of two keys is read under the associated data.
+// Whether they are those of the keyset of two keys.
 fn reads_two(
     alloc: Global,
     memory: &mut MemReaderWriter,
@@ -76,61 +67,6 @@ fn reads_two(
 ) -> Result<bool, TinkError> {
     let read = read_under(alloc, memory, associated_data)?;
     is_two(alloc, &read)
-}
-
-// Whether it is read under the one associated data after it was written with the other.
-fn is_read(alloc: Global, read: &[u8], written: &[u8]) -> Result<bool, TinkError> {
-    let mut memory = MemReaderWriter::default();
-    write_with(alloc, &mut memory, written)?;
-    reads_two(alloc, &mut memory, read)
-}
-
-#[test]
-fn what_is_written_is_read_under_the_same_data(rt: HostRuntime) {
-    let same = is_read(rt.alloc(), b"\xaa", b"\xaa");
-    expect(&rt, same, Ok(true), "the keyset");
-}
-
-// Whether the keyset is not kept as it is.
-fn is_kept_encrypted(alloc: Global) -> Result<bool, TinkError> {
-    let mut memory = MemReaderWriter::default();
-    write_with(alloc, &mut memory, b"\xaa")?;
-    Ok(memory.keyset.is_none())
-}
-
-#[test]
-fn what_is_written_is_not_read_under_other_data(rt: HostRuntime) {
-    expect(&rt, is_kept_encrypted(rt.alloc()), Ok(true), "as it is");
-    let other = is_read(rt.alloc(), b"\xab", b"\xaa");
-    expect(&rt, other, refused(Kind::MasterFailed), "the refusal");
-}
-
-// The keyset of the handle by the law that writes and reads it.
-fn by_the_law(
-    alloc: Global,
-    h: &Handle,
-    other: &[u8],
-    draws: &mut Draws,
-) -> Result<Bytes, TinkError> {
-    let again = law_written_is_read(alloc, h, &Binding, b"\xaa", other, draws)?;
-    bytes_of(alloc, &again)
-}
-
-// Whether it is the same.
-fn is_same(alloc: Global, other: &[u8], draws: &mut Draws) -> Result<bool, TinkError> {
-    let again = by_the_law(alloc, &two_keys(alloc)?, other, draws)?;
-    is_two(alloc, &again)
-}
-
-#[test]
-fn a_law_writes_and_reads(rt: HostRuntime) -> Result<(), Fail> {
-    let mut draws = draws_of(rt.alloc(), b"dr")?;
-    let same = is_same(rt.alloc(), b"\xaa", &mut draws);
-    expect(&rt, same, Ok(true), "the same data");
-    expect(&rt, draws.left(), 1, "draws");
-    let other = is_same(rt.alloc(), b"\xab", &mut draws);
-    expect(&rt, other, refused(Kind::MasterFailed), "other data");
-    Ok(())
 }
 
 fn shows_key(info: &KeyInfo, type_url: &str, status: i32, id: u32, prefix: i32) -> bool {
@@ -162,59 +98,70 @@ fn has_info_of_two_keys(encrypted: &Option<EncryptedKeyset>) -> bool {
     }
 }
 
-// Whether what is written has it.
-fn shows_info(alloc: Global) -> Result<bool, TinkError> {
+#[test]
+fn what_is_written_is_read_under_the_same_data_alone(rt: HostRuntime) {
     let mut memory = MemReaderWriter::default();
-    write_with(alloc, &mut memory, b"\xaa")?;
-    Ok(has_info_of_two_keys(&memory.encrypted_keyset))
+    let written = write_with(rt.alloc(), &mut memory, b"\xaa");
+    expect(&rt, written, Ok(()), "what is written");
+    expect(&rt, memory.keyset.is_none(), true, "no keyset as it is");
+    let shows = has_info_of_two_keys(&memory.encrypted_keyset);
+    expect(&rt, shows, true, "the info");
+    let same = reads_two(rt.alloc(), &mut memory, b"\xaa");
+    expect(&rt, same, Ok(true), "the same data");
+    let other = reads_two(rt.alloc(), &mut memory, b"\xab");
+    expect(&rt, other, refused(Kind::MasterFailed), "other data");
+}
+
+// The keyset of the handle by the law that writes and reads it.
+fn by_the_law(
+    alloc: Global,
+    h: &Handle,
+    other: &[u8],
+    draws: &mut Draws,
+) -> Result<Bytes, TinkError> {
+    let again = law_written_is_read(alloc, h, &Binding, b"\xaa", other, draws)?;
+    bytes_of(alloc, &again)
+}
+
+// Whether it is the same.
+fn is_same(alloc: Global, other: &[u8], draws: &mut Draws) -> Result<bool, TinkError> {
+    let again = by_the_law(alloc, &two_keys(alloc)?, other, draws)?;
+    is_two(alloc, &again)
 }
 
 #[test]
-fn what_is_written_shows_its_info(rt: HostRuntime) {
-    expect(&rt, shows_info(rt.alloc()), Ok(true), "the info");
+fn a_law_writes_and_reads(rt: HostRuntime) -> Result<(), Fail> {
+    let mut draws = draws_of(rt.alloc(), b"dr")?;
+    let same = is_same(rt.alloc(), b"\xaa", &mut draws);
+    expect(&rt, same, Ok(true), "the same data");
+    expect(&rt, draws.left(), 1, "draws");
+    let other = is_same(rt.alloc(), b"\xab", &mut draws);
+    expect(&rt, other, refused(Kind::MasterFailed), "other data");
+    Ok(())
 }
 
-// Whether the same is read without associated data and under empty ones.
-fn reads_both(alloc: Global, memory: &mut MemReaderWriter) -> Result<bool, TinkError> {
-    let again = read(alloc, memory)?;
-    let empty = read_under(alloc, memory, &[])?;
-    Ok(again.as_slice() == empty.as_slice())
+// Writes the keyset of two keys without associated data.
+fn write(alloc: Global, memory: &mut MemReaderWriter, draws: &mut Draws) -> Result<(), TinkError> {
+    two_keys(alloc)?.write(alloc, memory, &Binding, draws)
 }
 
-// The same of what is written without associated data.
-fn is_empty_meant(alloc: Global, draws: &mut Draws) -> Result<bool, TinkError> {
-    let mut memory = MemReaderWriter::default();
-    write(alloc, &mut memory, draws)?;
-    reads_both(alloc, &mut memory)
+// Whether the keyset of two keys is read without associated data.
+fn reads_two_without(alloc: Global, memory: &mut MemReaderWriter) -> Result<bool, TinkError> {
+    let h = Handle::read(alloc, memory, &Binding)?;
+    is_two(alloc, &bytes_of(alloc, &h)?)
 }
 
 #[test]
 fn empty_data_is_meant_where_none_is_given(rt: HostRuntime) -> Result<(), Fail> {
     let mut draws = draws_of(rt.alloc(), b"dr")?;
-    let meant = is_empty_meant(rt.alloc(), &mut draws);
-    expect(&rt, meant, Ok(true), "what is read");
-    expect(&rt, draws.left(), 1, "draws");
-    Ok(())
-}
-
-// Whether the keyset of two keys is read without associated data.
-fn reads_two_again(alloc: Global, memory: &mut MemReaderWriter) -> Result<bool, TinkError> {
-    let again = read(alloc, memory)?;
-    is_two(alloc, &again)
-}
-
-// The same of what is written without them.
-fn is_read_without(alloc: Global, draws: &mut Draws) -> Result<bool, TinkError> {
     let mut memory = MemReaderWriter::default();
-    write(alloc, &mut memory, draws)?;
-    reads_two_again(alloc, &mut memory)
-}
-
-#[test]
-fn what_is_written_without_data_is_read(rt: HostRuntime) -> Result<(), Fail> {
-    let mut draws = draws_of(rt.alloc(), b"d")?;
-    let again = is_read_without(rt.alloc(), &mut draws);
-    expect(&rt, again, Ok(true), "the keyset");
+    let written = write(rt.alloc(), &mut memory, &mut draws);
+    expect(&rt, written, Ok(()), "what is written");
+    expect(&rt, draws.left(), 1, "draws");
+    let again = reads_two_without(rt.alloc(), &mut memory);
+    expect(&rt, again, Ok(true), "no data");
+    let empty = reads_two(rt.alloc(), &mut memory, &[]);
+    expect(&rt, empty, Ok(true), "empty data");
     Ok(())
 }
 

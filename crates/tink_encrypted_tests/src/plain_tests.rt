@@ -14,16 +14,6 @@ pub fn public_keys(alloc: Global) -> Result<Handle, TinkError> {
     Handle::new_with_no_secrets(keyset(7, keys))
 }
 
-// The bytes of the keyset that is read, which must be without secrets.
-fn read_public(alloc: Global, memory: &mut MemReaderWriter) -> Result<Bytes, TinkError> {
-    bytes_of(alloc, &Handle::read_with_no_secrets(alloc, memory)?)
-}
-
-// The bytes of the keyset that is read, whatever its keys are.
-fn read_as_it_is(alloc: Global, memory: &mut MemReaderWriter) -> Result<Bytes, TinkError> {
-    bytes_of(alloc, &insecure::read(alloc, memory)?)
-}
-
 // Writes the keyset of two keys, of which one is secret, as one without secrets.
 fn write_two(alloc: Global, memory: &mut MemReaderWriter) -> Result<(), TinkError> {
     two_keys(alloc)?.write_with_no_secrets(alloc, memory)
@@ -43,23 +33,28 @@ fn write_public(alloc: Global, memory: &mut MemReaderWriter) -> Result<(), TinkE
     public_keys(alloc)?.write_with_no_secrets(alloc, memory)
 }
 
-// Whether the public keyset is read.
+// The bytes of the keyset that is read, which must be without secrets.
+fn read_public(alloc: Global, memory: &mut MemReaderWriter) -> Result<Bytes, TinkError> {
+    let h = Handle::read_with_no_secrets(alloc, memory)?;
+    bytes_of(alloc, &h)
+}
+
+// Whether they are those of the public keyset.
 fn reads_public(alloc: Global, memory: &mut MemReaderWriter) -> Result<bool, TinkError> {
     let again = read_public(alloc, memory)?;
     let want = bytes_of(alloc, &public_keys(alloc)?)?;
     Ok(again.as_slice() == want.as_slice())
 }
 
-// Whether it is read as it was written, and not encrypted.
-fn is_public_read(alloc: Global) -> Result<bool, TinkError> {
-    let mut memory = MemReaderWriter::default();
-    write_public(alloc, &mut memory)?;
-    Ok(memory.encrypted_keyset.is_none() && reads_public(alloc, &mut memory)?)
-}
-
 #[test]
 fn keysets_without_secrets_are_written_as_they_are(rt: HostRuntime) {
-    expect(&rt, is_public_read(rt.alloc()), Ok(true), "what is read");
+    let mut memory = MemReaderWriter::default();
+    let written = write_public(rt.alloc(), &mut memory);
+    expect(&rt, written, Ok(()), "what is written");
+    let none = memory.encrypted_keyset.is_none();
+    expect(&rt, none, true, "no encrypted keyset");
+    let again = reads_public(rt.alloc(), &mut memory);
+    expect(&rt, again, Ok(true), "what is read");
 }
 
 // Writes the keyset of two keys as it is.
@@ -67,35 +62,21 @@ fn write_as_it_is(alloc: Global, memory: &mut MemReaderWriter) -> Result<(), Tin
     insecure::write(alloc, &two_keys(alloc)?, memory)
 }
 
-// Whether the keyset of two keys is read as it is.
-fn reads_two(alloc: Global, memory: &mut MemReaderWriter) -> Result<bool, TinkError> {
-    let again = read_as_it_is(alloc, memory)?;
-    is_two(alloc, &again)
-}
-
-// The same after it was written.
-fn is_read_as_it_is(alloc: Global) -> Result<bool, TinkError> {
-    let mut memory = MemReaderWriter::default();
-    write_as_it_is(alloc, &mut memory)?;
-    reads_two(alloc, &mut memory)
+// Whether the keyset of two keys is read, whatever its keys are.
+fn reads_as_it_is(alloc: Global, memory: &mut MemReaderWriter) -> Result<bool, TinkError> {
+    let h = insecure::read(alloc, memory)?;
+    is_two(alloc, &bytes_of(alloc, &h)?)
 }
 
 #[test]
-fn secrets_are_read_and_written_by_the_insecure_calls(rt: HostRuntime) {
-    expect(&rt, is_read_as_it_is(rt.alloc()), Ok(true), "what is read");
-}
-
-// Whether it is read as one without secrets.
-fn is_read_as_public(alloc: Global) -> Result<bool, TinkError> {
+fn secrets_are_read_and_written_by_the_insecure_calls_alone(rt: HostRuntime) {
     let mut memory = MemReaderWriter::default();
-    write_as_it_is(alloc, &mut memory)?;
-    reads_public(alloc, &mut memory)
-}
-
-#[test]
-fn secrets_are_read_by_the_insecure_calls_alone(rt: HostRuntime) {
-    let answer = is_read_as_public(rt.alloc());
-    expect(&rt, answer, refused(Kind::HasSecrets), "the refusal");
+    let written = write_as_it_is(rt.alloc(), &mut memory);
+    expect(&rt, written, Ok(()), "what is written");
+    let again = reads_as_it_is(rt.alloc(), &mut memory);
+    expect(&rt, again, Ok(true), "what is read");
+    let public = reads_public(rt.alloc(), &mut memory);
+    expect(&rt, public, refused(Kind::HasSecrets), "the refusal");
 }
 
 #[test]
@@ -104,6 +85,6 @@ fn a_keyset_without_keys_is_not_read(rt: HostRuntime) {
         keyset: Some(keyset(7, Vec::new(rt.alloc()))),
         encrypted_keyset: None,
     };
-    let answer = reads_two(rt.alloc(), &mut memory);
+    let answer = reads_as_it_is(rt.alloc(), &mut memory);
     expect(&rt, answer, refused(Kind::InvalidKeyset), "the refusal");
 }
