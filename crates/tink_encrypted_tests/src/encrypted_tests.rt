@@ -5,7 +5,7 @@ ghost use Rattle.tink_keysets.specs.Encrypted.{decrypted};
 ghost use Rattle.tink_keysets.specs.Through.{GivesBy};
 
 use crate::ends::Binding;
-use crate::expecting::{expect, expect_bytes};
+use crate::expecting::{expect, refused};
 use std::alloc::Global;
 use std::test::Fail;
 use tink_io::{Draws, Kind, TinkError};
@@ -28,43 +28,25 @@ fn load<R: Reader, A: Aead>(
 
 /// A handle of a symmetric key of id 7 with its URL, and of a destroyed key of id 8.
 pub fn two_keys(alloc: Global) -> Result<Handle, TinkError> {
-    handle_of(7, vec![in alloc; key(alloc, 1, 1, 7)?, bare(3, 8)]?)
+    let keys = vec![in alloc; key(alloc, 1, 1, 7)?, bare(3, 8)]?;
+    handle_of(7, keys)
 }
 
-/// The bytes of that keyset.
-pub fn bytes_of_two(alloc: Global) -> Result<Bytes, TinkError> {
-    bytes_of(alloc, &two_keys(alloc)?)
+/// Whether these are the bytes of that keyset.
+pub fn is_two(alloc: Global, bytes: &Bytes) -> Result<bool, TinkError> {
+    let want = bytes_of(alloc, &two_keys(alloc)?)?;
+    Ok(bytes.as_slice() == want.as_slice())
 }
 
-/// Memory with these bytes, encrypted with empty associated data.
-pub fn memory_of(alloc: Global, bytes: &[u8]) -> Result<MemReaderWriter, TinkError> {
-    let encrypted_keyset = Binding.encrypt(alloc, bytes, &[], &mut draws_of(alloc, b"d")?)?;
-    Ok(MemReaderWriter {
-        keyset: None,
-        encrypted_keyset: Some(EncryptedKeyset {
-            encrypted_keyset,
-            keyset_info: None,
-        }),
-    })
-}
-
-// Memory into which the keyset of two keys was written with the associated data.
-fn written(alloc: Global, associated_data: &[u8]) -> Result<MemReaderWriter, TinkError> {
-    let mut memory = MemReaderWriter::default();
-    let h = two_keys(alloc)?;
-    let mut draws = draws_of(alloc, b"d")?;
-    h.write_with_associated_data(alloc, &mut memory, &Binding, associated_data, &mut draws)?;
-    Ok(memory)
-}
-
-// Writes a keyset without associated data.
-fn write(
+// Writes the keyset of two keys with the associated data.
+fn write_with(
     alloc: Global,
-    h: &Handle,
     memory: &mut MemReaderWriter,
-    draws: &mut Draws,
+    associated_data: &[u8],
 ) -> Result<(), TinkError> {
-    h.write(alloc, memory, &Binding, draws)
+    let mut draws = draws_of(alloc, b"d")?;
+    let h = two_keys(alloc)?;
+    h.write_with_associated_data(alloc, memory, &Binding, associated_data, &mut draws)
 }
 
 // The bytes of the keyset that is read under the associated data.
@@ -73,54 +55,18 @@ fn read_under(
     memory: &mut MemReaderWriter,
     associated_data: &[u8],
 ) -> Result<Bytes, TinkError> {
-    bytes_of(alloc, &load(alloc, memory, &Binding, associated_data)?)
+    let h = load(alloc, memory, &Binding, associated_data)?;
+    bytes_of(alloc, &h)
 }
 
-// The same without associated data.
-fn read(alloc: Global, memory: &mut MemReaderWriter) -> Result<Bytes, TinkError> {
-    bytes_of(alloc, &Handle::read(alloc, memory, &Binding)?)
-}
-
-#[test]
-fn what_is_written_is_read_under_the_same_data(rt: HostRuntime) -> Result<(), Fail> {
-    let mut memory = written(rt.alloc(), b"\xaa")?;
-    let again = read_under(rt.alloc(), &mut memory, b"\xaa")?;
-    let want = bytes_of_two(rt.alloc())?;
-    expect_bytes(&rt, again.as_slice(), want.as_slice(), "the keyset");
-    Ok(())
-}
-
-#[test]
-fn what_is_written_is_not_read_under_other_data(rt: HostRuntime) -> Result<(), Fail> {
-    let mut memory = written(rt.alloc(), b"\xaa")?;
-    expect(&rt, memory.keyset.is_none(), true, "a keyset as it is");
-    let refused = read_under(rt.alloc(), &mut memory, b"\xab");
-    expect(
-        &rt,
-        kind_of(refused),
-        Some(Kind::MasterFailed),
-        "the refusal",
-    );
-    Ok(())
-}
-
-// The keyset of two keys by the law that writes and reads it.
-fn by_the_law(alloc: Global, other: &[u8], draws: &mut Draws) -> Result<Bytes, TinkError> {
-    let h = two_keys(alloc)?;
-    let again = law_written_is_read(alloc, &h, &Binding, b"\xaa", other, draws)?;
-    bytes_of(alloc, &again)
-}
-
-#[test]
-fn a_law_writes_and_reads(rt: HostRuntime) -> Result<(), Fail> {
-    let mut draws = draws_of(rt.alloc(), b"dr")?;
-    let same = by_the_law(rt.alloc(), b"\xaa", &mut draws)?;
-    let want = bytes_of_two(rt.alloc())?;
-    expect_bytes(&rt, same.as_slice(), want.as_slice(), "the same data");
-    expect(&rt, draws.left(), 1, "draws");
-    let other = by_the_law(rt.alloc(), b"\xab", &mut draws);
-    expect(&rt, kind_of(other), Some(Kind::MasterFailed), "other data");
-    Ok(())
+// Whether they are those of the keyset of two keys.
+fn reads_two(
+    alloc: Global,
+    memory: &mut MemReaderWriter,
+    associated_data: &[u8],
+) -> Result<bool, TinkError> {
+    let read = read_under(alloc, memory, associated_data)?;
+    is_two(alloc, &read)
 }
 
 fn shows_key(info: &KeyInfo, type_url: &str, status: i32, id: u32, prefix: i32) -> bool {
@@ -153,73 +99,108 @@ fn has_info_of_two_keys(encrypted: &Option<EncryptedKeyset>) -> bool {
 }
 
 #[test]
-fn what_is_written_shows_its_info(rt: HostRuntime) -> Result<(), Fail> {
-    let memory = written(rt.alloc(), b"\xaa")?;
+fn what_is_written_is_read_under_the_same_data_alone(rt: HostRuntime) {
+    let mut memory = MemReaderWriter::default();
+    let written = write_with(rt.alloc(), &mut memory, b"\xaa");
+    expect(&rt, written, Ok(()), "what is written");
+    expect(&rt, memory.keyset.is_none(), true, "no keyset as it is");
     let shows = has_info_of_two_keys(&memory.encrypted_keyset);
     expect(&rt, shows, true, "the info");
+    let same = reads_two(rt.alloc(), &mut memory, b"\xaa");
+    expect(&rt, same, Ok(true), "the same data");
+    let other = reads_two(rt.alloc(), &mut memory, b"\xab");
+    expect(&rt, other, refused(Kind::MasterFailed), "other data");
+}
+
+// The keyset of the handle by the law that writes and reads it.
+fn by_the_law(
+    alloc: Global,
+    h: &Handle,
+    other: &[u8],
+    draws: &mut Draws,
+) -> Result<Bytes, TinkError> {
+    let again = law_written_is_read(alloc, h, &Binding, b"\xaa", other, draws)?;
+    bytes_of(alloc, &again)
+}
+
+// Whether it is the same.
+fn is_same(alloc: Global, other: &[u8], draws: &mut Draws) -> Result<bool, TinkError> {
+    let again = by_the_law(alloc, &two_keys(alloc)?, other, draws)?;
+    is_two(alloc, &again)
+}
+
+#[test]
+fn a_law_writes_and_reads(rt: HostRuntime) -> Result<(), Fail> {
+    let mut draws = draws_of(rt.alloc(), b"dr")?;
+    let same = is_same(rt.alloc(), b"\xaa", &mut draws);
+    expect(&rt, same, Ok(true), "the same data");
+    expect(&rt, draws.left(), 1, "draws");
+    let other = is_same(rt.alloc(), b"\xab", &mut draws);
+    expect(&rt, other, refused(Kind::MasterFailed), "other data");
     Ok(())
 }
 
-// Memory into which the keyset of two keys was written without associated data.
-fn written_without(alloc: Global, draws: &mut Draws) -> Result<MemReaderWriter, TinkError> {
-    let mut memory = MemReaderWriter::default();
-    write(alloc, &two_keys(alloc)?, &mut memory, draws)?;
-    Ok(memory)
+// Writes the keyset of two keys without associated data.
+fn write(alloc: Global, memory: &mut MemReaderWriter, draws: &mut Draws) -> Result<(), TinkError> {
+    two_keys(alloc)?.write(alloc, memory, &Binding, draws)
+}
+
+// Whether the keyset of two keys is read without associated data.
+fn reads_two_without(alloc: Global, memory: &mut MemReaderWriter) -> Result<bool, TinkError> {
+    let h = Handle::read(alloc, memory, &Binding)?;
+    is_two(alloc, &bytes_of(alloc, &h)?)
 }
 
 #[test]
 fn empty_data_is_meant_where_none_is_given(rt: HostRuntime) -> Result<(), Fail> {
     let mut draws = draws_of(rt.alloc(), b"dr")?;
-    let mut memory = written_without(rt.alloc(), &mut draws)?;
+    let mut memory = MemReaderWriter::default();
+    let written = write(rt.alloc(), &mut memory, &mut draws);
+    expect(&rt, written, Ok(()), "what is written");
     expect(&rt, draws.left(), 1, "draws");
-    let again = read(rt.alloc(), &mut memory)?;
-    let empty = read_under(rt.alloc(), &mut memory, &[])?;
-    expect_bytes(&rt, again.as_slice(), empty.as_slice(), "what is read");
+    let again = reads_two_without(rt.alloc(), &mut memory);
+    expect(&rt, again, Ok(true), "no data");
+    let empty = reads_two(rt.alloc(), &mut memory, &[]);
+    expect(&rt, empty, Ok(true), "empty data");
     Ok(())
 }
 
-#[test]
-fn what_is_written_without_data_is_read(rt: HostRuntime) -> Result<(), Fail> {
-    let mut draws = draws_of(rt.alloc(), b"d")?;
-    let mut memory = written_without(rt.alloc(), &mut draws)?;
-    let again = read(rt.alloc(), &mut memory)?;
-    let want = bytes_of_two(rt.alloc())?;
-    expect_bytes(&rt, again.as_slice(), want.as_slice(), "the keyset");
+// Puts these bytes, encrypted with empty associated data, into the memory.
+fn put(alloc: Global, memory: &mut MemReaderWriter, bytes: &[u8]) -> Result<(), TinkError> {
+    let mut draws = draws_of(alloc, b"d")?;
+    let encrypted_keyset = Binding.encrypt(alloc, bytes, &[], &mut draws)?;
+    memory.encrypted_keyset = Some(EncryptedKeyset {
+        encrypted_keyset,
+        keyset_info: None,
+    });
     Ok(())
 }
 
-// The refusal of the keyset that the master makes of these bytes.
-fn refusal_of(alloc: Global, bytes: &[u8]) -> Result<Option<Kind>, TinkError> {
-    let mut memory = memory_of(alloc, bytes)?;
-    Ok(kind_of(read(alloc, &mut memory)))
+// How the keyset is refused that the master makes of these bytes.
+fn refusal_of<A: Aead>(alloc: Global, master: &A, bytes: &[u8]) -> Result<Option<Kind>, TinkError> {
+    let mut memory = MemReaderWriter::default();
+    put(alloc, &mut memory, bytes)?;
+    Ok(kind_of(Handle::read(alloc, &mut memory, master)))
 }
 
 #[test]
-fn what_a_master_gives_may_be_no_keyset(rt: HostRuntime) -> Result<(), Fail> {
+fn what_a_master_gives_may_be_no_keyset(rt: HostRuntime) {
     // An enabled key of id 7 without data, and then bytes that are no field.
     for (bytes, want) in [
         (b"".as_slice(), None),
         (b"\x12\x04\x10\x01\x18\x07", Some(Kind::InvalidKeyset)),
         (b"\x12\x04\x10\x01\x18", Some(Kind::BadKeyset)),
     ] {
-        let refused = refusal_of(rt.alloc(), bytes)?;
-        expect(&rt, refused, want, "what the master gives");
+        let refused = refusal_of(rt.alloc(), &Binding, bytes);
+        expect(&rt, refused, Ok(want), "what the master gives");
     }
-    Ok(())
 }
 
 #[test]
-fn a_master_that_refuses_reads_nothing(rt: HostRuntime) -> Result<(), Fail> {
+fn a_master_that_refuses_reads_nothing(rt: HostRuntime) {
     let master = TestAead {
         key: Bytes::new(rt.alloc()),
     };
-    let mut memory = memory_of(rt.alloc(), b"")?;
-    let not_read = Handle::read(rt.alloc(), &mut memory, &master);
-    expect(
-        &rt,
-        kind_of(not_read),
-        Some(Kind::MasterFailed),
-        "the refusal",
-    );
-    Ok(())
+    let not_read = refusal_of(rt.alloc(), &master, b"");
+    expect(&rt, not_read, Ok(Some(Kind::MasterFailed)), "the refusal");
 }

@@ -12,12 +12,12 @@ use Rattle.tink_io.specs.declared.error.Kind.TheVariants.{WriteFault}
 use Rattle.tink_io.specs.declared.error.TinkError.{TinkError}
 use Rattle.tink_io.proofs.FaultLemmas.{Rose-earlier}
 
--- bytes and then a front of more are a front of both
+-- bytes and then a prefix of more are a prefix of both
 pub then_front : (a b c : Option (List ℕ)) (xs ys : List ℕ) → Appends a b xs → AppendsFront b c ys → AppendsFront a c (xs ++ ys)
 then_front a b c xs ys whole front =
     (length xs + front.0, omega (arith, front.1, length-append xs ys), rw take-append-add (Appends-trans a b c xs (take front.0 ys) whole front.2))
 
--- a front of bytes is a front of more
+-- a prefix of bytes is a prefix of more
 pub front_of_more : (a b : Option (List ℕ)) (xs ys : List ℕ) → AppendsFront a b xs → AppendsFront a b (xs ++ ys)
 front_of_more a b xs ys front =
     (front.0, omega (arith, front.1, length-append xs ys), subst (Appends a b) (sym (take-append-le front.0 xs ys front.1)) front.2)

@@ -6,11 +6,11 @@ use Rattle.tink_io.specs.Faults.{Rose}
 use Rattle.tink_io.specs.declared.error.Kind.TheVariants.{WriteFault}
 use Rattle.tink_io.specs.declared.error.TinkError.{TinkError}
 
--- known bytes grow by a front of bs
+-- known bytes grow by a prefix of bs
 abbrev pub AppendsFront : Option (List ℕ) → Option (List ℕ) → List ℕ → Type 0
 AppendsFront old new bs = (n : ℕ) × (n ≤ length bs) × Appends old new (take n bs)
 
--- bs are written whole, or a front of them and then a fault
+-- bs are written whole, or a prefix of them and then a fault
 abbrev pub WritesOrFaults : Option (List ℕ) → Option (List ℕ) → ℕ → ℕ → List ℕ → Type 0
 WritesOrFaults old new before now bs = Appends old new bs ⊎ (AppendsFront old new bs × Rose before now)
 

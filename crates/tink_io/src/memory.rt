@@ -58,7 +58,7 @@ fn is_listed(fails: &Vec<u32>, call: u64) -> bool
     fails.iter().any(|f| u64::from(*f) == call)
 }
 
-// Moves the next bytes, at most a piece, to the front of `buf`, and answers how many.
+// Moves the next bytes, at most a piece, to the beginning of `buf`, and answers how many.
 fn give(bytes: &[u8], at: usize, piece: usize, buf: &mut [u8]) -> usize
     requires { at ≤ length bytes.now }
     ensures count { result ≡ at_most_piece piece (min (length bytes.now - at) (length buf.old)) }

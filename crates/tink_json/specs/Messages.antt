@@ -1,5 +1,5 @@
 -- The messages of keysets from values of JSON, member by member.
-use Rattle.std.specs.Prelude.{ℕ, List, codes, if◌then◌else◌, Option, Some, None, option_and_then}
+use Rattle.std.specs.Prelude.{ℕ, ℤ, List, codes, if◌then◌else◌, Option, Some, None, option_and_then}
 use Rattle.std.specs.Str.{is_utf8}
 use Rattle.wire_format.specs.Reading.{◌>>=◌}
 use Rattle.serde_json.specs.Data.{Data}
@@ -22,14 +22,20 @@ key_data d = do
   material ← enum_field materials (codes "keyMaterialType") (codes "key_material_type") d
   Some (record { type_url = type_url; value = value; key_material_type = material })
 
+-- of which use a key is: its status, id and prefix type
+unfoldable pub use_of : Data → Option (ℤ × (ℕ × ℤ))
+use_of d = do
+  status ← enum_field statuses (codes "status") (codes "status") d
+  id ← number_field (codes "keyId") (codes "key_id") d
+  prefix ← enum_field prefixes (codes "outputPrefixType") (codes "output_prefix_type") d
+  Some (status, (id, prefix))
+
 abbrev pub key : Data → Option Key
 key d = do
   _ ← an_object d
   held ← message_field key_data (codes "keyData") (codes "key_data") d
-  status ← enum_field statuses (codes "status") (codes "status") d
-  id ← number_field (codes "keyId") (codes "key_id") d
-  prefix ← enum_field prefixes (codes "outputPrefixType") (codes "output_prefix_type") d
-  Some (record { key_data = held; status = status; key_id = id; output_prefix_type = prefix })
+  uses ← use_of d
+  Some (record { key_data = held; status = uses.0; key_id = uses.1.0; output_prefix_type = uses.1.1 })
 
 abbrev pub keyset : Data → Option Keyset
 keyset d = do
@@ -42,10 +48,8 @@ abbrev pub key_info : Data → Option KeyInfo
 key_info d = do
   _ ← an_object d
   type_url ← text_field (codes "typeUrl") (codes "type_url") d
-  status ← enum_field statuses (codes "status") (codes "status") d
-  id ← number_field (codes "keyId") (codes "key_id") d
-  prefix ← enum_field prefixes (codes "outputPrefixType") (codes "output_prefix_type") d
-  Some (record { type_url = type_url; status = status; key_id = id; output_prefix_type = prefix })
+  uses ← use_of d
+  Some (record { type_url = type_url; status = uses.0; key_id = uses.1.0; output_prefix_type = uses.1.1 })
 
 abbrev pub keyset_info : Data → Option KeysetInfo
 keyset_info d = do

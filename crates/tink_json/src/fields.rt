@@ -6,7 +6,7 @@ ghost use Rattle.std.specs.List.{list_all};
 ghost use Rattle.serde_json.specs.Find.{as_i64, as_number, as_u64};
 ghost use Rattle.serde_json.specs.View.{view, items_view};
 ghost use Rattle.tink_json.specs.Fields.{an_object, bytes_field, enum_field, items, list_field, member_of, message_field, number_field, number_text, text_field, to_i32, to_u32};
-ghost use Rattle.tink_json.specs.Outcome.{Gives, Reads};
+ghost use Rattle.tink_json.specs.Outcome.{Reads, ReadsAs};
 ghost use Rattle.tink_json.specs.Whole.{digits_number};
 
 use crate::messages::Json;
@@ -175,7 +175,7 @@ pub fn message_in<M: Json>(
 
 // The messages of a list.
 fn items_in<M: Json>(alloc: Global, values: &Vec<Value>) -> Result<Vec<M>, ProtoError>
-    ensures { Gives (λ ms. ms.items) result (items M.form (items_view values.now.items)) }
+    ensures { ReadsAs (λ ms. ms.items) result (items M.form (items_view values.now.items)) }
 {
     let mut messages = Vec::new(alloc);
     for value in values {

@@ -5,8 +5,8 @@ ghost use Rattle.std.specs.declared.option.Option.{Option};
 ghost use Rattle.serde_json.specs.Data.{Data, number, unsigned, put as with_member};
 ghost use Rattle.serde_json.specs.View.{members_view, view};
 ghost use Rattle.serde_json.specs.Written.{has_float as holds_float};
-ghost use Rattle.tink_json.specs.Messages.{message_of, value_of as value_of_text};
-ghost use Rattle.tink_json.specs.Outcome.{Gives, IsRefusal, Reads};
+ghost use Rattle.tink_json.specs.Messages.{message_of, use_of, value_of as value_of_text};
+ghost use Rattle.tink_json.specs.Outcome.{IsRefusal, Reads, ReadsAs};
 ghost use Rattle.tink_json.specs.Written.{enum_value, pretty_text, put_if};
 ghost use Rattle.tink_json.specs.Names.{prefixes, statuses};
 ghost use Rattle.tink_proto.specs.declared.error.ProtoError.TheVariants.{OutOfMemory};
@@ -72,7 +72,7 @@ pub trait Json: Drop {
 
 // The value of a text.
 fn value_of(alloc: Global, text: &[u8]) -> Result<Value, ProtoError>
-    ensures { Gives view result (value_of_text text.now) }
+    ensures { ReadsAs view result (value_of_text text.now) }
 {
     match Value::from_slice(alloc, text) {
         Ok(value) => Ok(value),
@@ -115,6 +115,17 @@ fn put_maybe<M: Json>(
         Some(message) => put(members, alloc, name, message.to_value(alloc)?),
         None => Ok(()),
     }
+}
+
+// Of which use a key is: its status, id and prefix type.
+#[tactic(auto, unfolding(crate::specs::Messages::use_of))]
+fn use_in(json: &Value) -> Result<(i32, (u32, i32)), ProtoError>
+    ensures { Reads result (use_of (view json.now)) }
+{
+    let status = enum_in::<KeyStatusType>(json, "status", "status")?;
+    let key_id = number_in(json, "keyId", "key_id")?;
+    let prefix_type = enum_in::<OutputPrefixType>(json, "outputPrefixType", "output_prefix_type")?;
+    Ok((status, (key_id, prefix_type)))
 }
 
 // The members that say of which use a key is.
@@ -206,13 +217,7 @@ impl Json for Key {
     fn from_value(alloc: Global, json: &Value) -> Result<Key, ProtoError> {
         require_object(json)?;
         let key_data = message_in(alloc, json, "keyData", "key_data")?;
-        let status = enum_in::<KeyStatusType>(json, "status", "status")?;
-        let key_id = number_in(json, "keyId", "key_id")?;
-        let output_prefix_type = enum_in::<OutputPrefixType>(
-            json,
-            "outputPrefixType",
-            "output_prefix_type",
-        )?;
+        let (status, (key_id, output_prefix_type)) = use_in(json)?;
         Ok(Key {
             key_data,
             status,
@@ -283,13 +288,7 @@ impl Json for KeyInfo {
     fn from_value(alloc: Global, json: &Value) -> Result<KeyInfo, ProtoError> {
         require_object(json)?;
         let type_url = text_in(alloc, json, "typeUrl", "type_url")?;
-        let status = enum_in::<KeyStatusType>(json, "status", "status")?;
-        let key_id = number_in(json, "keyId", "key_id")?;
-        let output_prefix_type = enum_in::<OutputPrefixType>(
-            json,
-            "outputPrefixType",
-            "output_prefix_type",
-        )?;
+        let (status, (key_id, output_prefix_type)) = use_in(json)?;
         Ok(KeyInfo {
             type_url,
             status,

@@ -3,7 +3,7 @@
 ghost use Rattle.std.specs.Prelude.{◌≡◌, IfOk, Some};
 ghost use Rattle.tink_json.specs.Messages.{keyset as keyset_form, message_of};
 
-use crate::expect::{expect, expect_bytes};
+use crate::expect::expect;
 use std::alloc::Global;
 use std::process::Abort;
 use tink_json::Json;
@@ -33,30 +33,55 @@ const KEYSET: &str = "{
   \"primaryKeyId\": 16909060
 }";
 
-// A text that was given.
-fn expect_text(rt: &impl Abort, got: Result<Text, ProtoError>, want: &str) {
-    match got {
-        Ok(text) => expect_bytes(rt, text.as_bytes(), want.as_bytes(), "the text"),
-        Err(e) => expect(rt, Some(e), None, "an error"),
-    }
+fn data(alloc: Global) -> Result<KeyData, ProtoError> {
+    let type_url = Text::from_str(alloc, URL)?;
+    let value = Bytes::from_slice(alloc, VALUE)?;
+    Ok(KeyData {
+        type_url,
+        value,
+        key_material_type: 1,
+    })
 }
 
-fn keyset(alloc: Global) -> Result<Keyset, ProtoError> {
-    let data = KeyData {
-        type_url: Text::from_str(alloc, URL)?,
-        value: Bytes::from_slice(alloc, VALUE)?,
-        key_material_type: 1,
-    };
-    let key = Key {
+fn key(alloc: Global) -> Result<Key, ProtoError> {
+    let data = data(alloc)?;
+    Ok(Key {
         key_data: Some(data),
         status: 1,
         key_id: 0x01020304,
         output_prefix_type: 3,
-    };
+    })
+}
+
+fn keyset(alloc: Global) -> Result<Keyset, ProtoError> {
+    let keys = vec![in alloc; key(alloc)?]?;
     Ok(Keyset {
         primary_key_id: 0x01020304,
-        key: Repeated::from_vec(vec![in alloc; key]?),
+        key: Repeated::from_vec(keys),
     })
+}
+
+// Whether the message is written as the text.
+fn is_written<M: Json>(alloc: Global, message: &M, text: &str) -> Result<bool, ProtoError> {
+    let written = message.to_json(alloc)?;
+    Ok(written.as_str() == text)
+}
+
+// The message of the text, in the wire format.
+fn bytes_of<M: Json + Message>(alloc: Global, text: &str) -> Result<Bytes, ProtoError> {
+    M::from_json(alloc, text.as_bytes())?.encode(alloc)
+}
+
+// Whether the text is read as the message.
+fn is_read<M: Json + Message>(alloc: Global, message: &M, text: &str) -> Result<bool, ProtoError> {
+    let read = bytes_of::<M>(alloc, text)?;
+    let want = message.encode(alloc)?;
+    Ok(read.as_slice() == want.as_slice())
+}
+
+// Whether the message is written as the text, and the text read as the message.
+fn spells<M: Json + Message>(alloc: Global, message: M, text: &str) -> Result<bool, ProtoError> {
+    Ok(is_written(alloc, &message, text)? && is_read(alloc, &message, text)?)
 }
 
 // The keyset of a text.
@@ -67,8 +92,8 @@ fn keyset_of(alloc: Global, text: &[u8]) -> Result<Keyset, ProtoError>
 }
 
 // The primary id of a keyset without keys, or the error.
-fn primary_of(alloc: Global, text: &str) -> Result<u32, ProtoError> {
-    let keyset = keyset_of(alloc, text.as_bytes())?;
+fn primary_of(alloc: Global, text: &[u8]) -> Result<u32, ProtoError> {
+    let keyset = keyset_of(alloc, text)?;
     if keyset.key.as_slice().is_empty() {
         Ok(keyset.primary_key_id)
     } else {
@@ -76,53 +101,57 @@ fn primary_of(alloc: Global, text: &str) -> Result<u32, ProtoError> {
     }
 }
 
-// The first key's id, status, prefix type and material; 9 where there is no data.
-fn first_of(alloc: Global, text: &str) -> Result<(u32, i32, i32, i32), ProtoError> {
-    let keyset = keyset_of(alloc, text.as_bytes())?;
-    let Some(key) = keyset.key.as_slice().first() else {
-        return Err(ProtoError::BadMessage);
-    };
+// A key's id, status, prefix type and material; 9 where there is no data.
+fn numbers_of(key: &Key) -> (u32, i32, i32, i32) {
     let material = match &key.key_data {
         Some(data) => data.key_material_type,
         None => 9,
     };
-    Ok((key.key_id, key.status, key.output_prefix_type, material))
+    (key.key_id, key.status, key.output_prefix_type, material)
 }
 
-fn written(alloc: Global) -> Result<Text, ProtoError> {
-    keyset(alloc)?.to_json(alloc)
+// Those of the first key.
+fn first_of(alloc: Global, text: &str) -> Result<(u32, i32, i32, i32), ProtoError> {
+    let keyset = keyset_of(alloc, text.as_bytes())?;
+    match keyset.key.as_slice().first() {
+        Some(key) => Ok(numbers_of(key)),
+        None => Err(ProtoError::BadMessage),
+    }
 }
 
-// Whether the text is read as the keyset.
-fn is_read(alloc: Global) -> Result<bool, ProtoError> {
-    let got = keyset_of(alloc, KEYSET.as_bytes())?.encode(alloc)?;
-    let want = keyset(alloc)?.encode(alloc)?;
-    Ok(got.as_slice() == want.as_slice())
+fn spells_keyset(alloc: Global) -> Result<bool, ProtoError> {
+    spells(alloc, keyset(alloc)?, KEYSET)
 }
 
 #[test]
 fn a_keyset_is_written_and_read(rt: HostRuntime) {
-    expect_text(&rt, written(rt.alloc()), KEYSET);
-    expect(&rt, is_read(rt.alloc()), Ok(true), "read");
+    expect(&rt, spells_keyset(rt.alloc()), Ok(true), "the keyset");
 }
 
-fn info(alloc: Global) -> Result<KeysetInfo, ProtoError> {
-    let info = KeyInfo {
-        type_url: Text::from_str(alloc, "a\"b")?,
+fn info(alloc: Global) -> Result<KeyInfo, ProtoError> {
+    let type_url = Text::from_str(alloc, "a\"b")?;
+    Ok(KeyInfo {
+        type_url,
         status: 7,
         key_id: 0,
         output_prefix_type: -1,
-    };
+    })
+}
+
+fn keyset_info(alloc: Global) -> Result<KeysetInfo, ProtoError> {
+    let infos = vec![in alloc; info(alloc)?]?;
     Ok(KeysetInfo {
         primary_key_id: 4294967295,
-        key_info: Repeated::from_vec(vec![in alloc; info]?),
+        key_info: Repeated::from_vec(infos),
     })
 }
 
 fn encrypted(alloc: Global) -> Result<EncryptedKeyset, ProtoError> {
+    let encrypted_keyset = Bytes::from_slice(alloc, b"\xff\xfe")?;
+    let info = keyset_info(alloc)?;
     Ok(EncryptedKeyset {
-        encrypted_keyset: Bytes::from_slice(alloc, b"\xff\xfe")?,
-        keyset_info: Some(info(alloc)?),
+        encrypted_keyset,
+        keyset_info: Some(info),
     })
 }
 
@@ -141,54 +170,40 @@ const ENCRYPTED: &str = "{
   }
 }";
 
-fn encrypted_written(alloc: Global) -> Result<Text, ProtoError> {
-    encrypted(alloc)?.to_json(alloc)
+fn spells_encrypted(alloc: Global) -> Result<bool, ProtoError> {
+    spells(alloc, encrypted(alloc)?, ENCRYPTED)
 }
 
-// Whether the text is read as the encrypted keyset.
-fn is_encrypted_read(alloc: Global) -> Result<bool, ProtoError> {
-    let got = EncryptedKeyset::from_json(alloc, ENCRYPTED.as_bytes())?.encode(alloc)?;
-    let want = encrypted(alloc)?.encode(alloc)?;
-    Ok(got.as_slice() == want.as_slice())
-}
-
-fn bare_written(alloc: Global) -> Result<Text, ProtoError> {
-    EncryptedKeyset::from_json(alloc, b"{}")?.to_json(alloc)
+fn spells_bare(alloc: Global) -> Result<bool, ProtoError> {
+    let bare = EncryptedKeyset::from_json(alloc, b"{}")?;
+    is_written(alloc, &bare, "{\n  \"encryptedKeyset\": \"\"\n}")
 }
 
 #[test]
 fn an_encrypted_keyset_is_written_and_read(rt: HostRuntime) {
-    expect_text(&rt, encrypted_written(rt.alloc()), ENCRYPTED);
-    expect(&rt, is_encrypted_read(rt.alloc()), Ok(true), "read");
-    expect_text(
-        &rt,
-        bare_written(rt.alloc()),
-        "{\n  \"encryptedKeyset\": \"\"\n}",
-    );
+    let alloc = rt.alloc();
+    expect(&rt, spells_encrypted(alloc), Ok(true), "with its info");
+    expect(&rt, spells_bare(alloc), Ok(true), "with no field");
+}
+
+// The text is one of this primary id.
+fn reads(rt: &impl Abort, alloc: Global, text: &str, want: u32) {
+    expect(rt, primary_of(alloc, text.as_bytes()), Ok(want), text);
 }
 
 #[test]
 fn members_are_read_in_both_spellings(rt: HostRuntime) {
-    for (text, want) in [
-        ("{\"primaryKeyId\":\"7\"}", 7),
-        ("{\"primaryKeyId\":\"0042\"}", 42),
-        ("{\"primary_key_id\":1,\"primaryKeyId\":2}", 2),
-        ("{\"primary_key_id\":4294967295}", 4294967295),
-        ("{\"primaryKeyId\":null,\"key\":null,\"other\":[{}]}", 0),
-        (" {} ", 0),
-        ("{\"primaryKeyId\":1,\"primaryKeyId\":2}", 2),
-        (
-            "{\"other\":[-9223372036854775808,18446744073709551615,-1]}",
-            0,
-        ),
-    ] {
-        expect(
-            &rt,
-            primary_of(rt.alloc(), text),
-            Ok(want),
-            "the primary id",
-        );
-    }
+    let alloc = rt.alloc();
+    reads(&rt, alloc, "{\"primaryKeyId\":\"7\"}", 7);
+    reads(&rt, alloc, "{\"primaryKeyId\":\"0042\"}", 42);
+    reads(&rt, alloc, "{\"primary_key_id\":1,\"primaryKeyId\":2}", 2);
+    reads(&rt, alloc, "{\"primary_key_id\":4294967295}", 4294967295);
+    let defaults = "{\"primaryKeyId\":null,\"key\":null,\"other\":[{}]}";
+    reads(&rt, alloc, defaults, 0);
+    reads(&rt, alloc, " {} ", 0);
+    reads(&rt, alloc, "{\"primaryKeyId\":1,\"primaryKeyId\":2}", 2);
+    let edges = "{\"other\":[-9223372036854775808,18446744073709551615,-1]}";
+    reads(&rt, alloc, edges, 0);
 }
 
 #[test]
@@ -210,47 +225,55 @@ fn a_first_key_is_read(rt: HostRuntime) {
     );
 }
 
+// The text is no keyset.
+fn refuses(rt: &impl Abort, alloc: Global, text: &str) {
+    let refused = Err(ProtoError::BadJson);
+    expect(rt, primary_of(alloc, text.as_bytes()), refused, text);
+}
+
 #[test]
-fn other_texts_are_refused(rt: HostRuntime) {
-    for text in [
-        "{\"primaryKeyId\":7.0}",
-        "{\"primaryKeyId\":-1}",
-        "{\"primaryKeyId\":4294967296}",
-        "{\"primaryKeyId\":\"4294967296\"}",
-        "{\"primaryKeyId\":\"+7\"}",
-        "{\"primaryKeyId\":\"\"}",
-        "{\"primaryKeyId\":true}",
-        "{\"other\":-0}",
-        "{\"other\":[{\"more\":1e2}]}",
-        "{\"other\":18446744073709551616}",
-        "{\"other\":-9223372036854775809}",
-        "{\"primaryKeyId\":1.0,\"primaryKeyId\":1}",
-        "{\"other\":{\"more\":1e0,\"more\":1}}",
-        "{} {}",
-        "",
-        "[]",
-        "null",
-        "{\"key\":{}}",
-        "{\"key\":[null]}",
-        "{\"key\":[{\"status\":\"ENABLE\"}]}",
-        "{\"key\":[{\"status\":2147483648}]}",
-        "{\"key\":[{\"status\":\"1\"}]}",
-        "{\"key\":[{\"keyData\":[]}]}",
-        "{\"key\":[{\"keyData\":{\"value\":\"Eg\"}}]}",
-        "{\"key\":[{\"keyData\":{\"value\":\"Eh==\"}}]}",
-        "{\"key\":[{\"keyData\":{\"typeUrl\":1}}]}",
-    ] {
-        expect(
-            &rt,
-            primary_of(rt.alloc(), text),
-            Err(ProtoError::BadJson),
-            "a text",
-        );
-    }
+fn other_numbers_are_refused(rt: HostRuntime) {
+    let alloc = rt.alloc();
+    refuses(&rt, alloc, "{\"primaryKeyId\":7.0}");
+    refuses(&rt, alloc, "{\"primaryKeyId\":-1}");
+    refuses(&rt, alloc, "{\"primaryKeyId\":4294967296}");
+    refuses(&rt, alloc, "{\"primaryKeyId\":\"4294967296\"}");
+    refuses(&rt, alloc, "{\"primaryKeyId\":\"+7\"}");
+    refuses(&rt, alloc, "{\"primaryKeyId\":\"\"}");
+    refuses(&rt, alloc, "{\"primaryKeyId\":true}");
+    refuses(&rt, alloc, "{\"other\":-0}");
+    refuses(&rt, alloc, "{\"other\":[{\"more\":1e2}]}");
+    refuses(&rt, alloc, "{\"other\":18446744073709551616}");
+    refuses(&rt, alloc, "{\"other\":-9223372036854775809}");
+    refuses(&rt, alloc, "{\"primaryKeyId\":1.0,\"primaryKeyId\":1}");
+    refuses(&rt, alloc, "{\"other\":{\"more\":1e0,\"more\":1}}");
+}
+
+#[test]
+fn other_values_are_refused(rt: HostRuntime) {
+    let alloc = rt.alloc();
+    refuses(&rt, alloc, "{} {}");
+    refuses(&rt, alloc, "");
+    refuses(&rt, alloc, "[]");
+    refuses(&rt, alloc, "null");
+    refuses(&rt, alloc, "{\"key\":{}}");
+    refuses(&rt, alloc, "{\"key\":[null]}");
+}
+
+#[test]
+fn other_members_are_refused(rt: HostRuntime) {
+    let alloc = rt.alloc();
+    refuses(&rt, alloc, "{\"key\":[{\"status\":\"ENABLE\"}]}");
+    refuses(&rt, alloc, "{\"key\":[{\"status\":2147483648}]}");
+    refuses(&rt, alloc, "{\"key\":[{\"status\":\"1\"}]}");
+    refuses(&rt, alloc, "{\"key\":[{\"keyData\":[]}]}");
+    refuses(&rt, alloc, "{\"key\":[{\"keyData\":{\"value\":\"Eg\"}}]}");
+    refuses(&rt, alloc, "{\"key\":[{\"keyData\":{\"value\":\"Eh==\"}}]}");
+    refuses(&rt, alloc, "{\"key\":[{\"keyData\":{\"typeUrl\":1}}]}");
 }
 
 #[test]
 fn bytes_that_are_not_utf_8_are_refused(rt: HostRuntime) {
-    let answer = keyset_of(rt.alloc(), b"{\"other\":\"\xff\"}");
-    assert!(rt; matches!(answer, Err(ProtoError::BadJson)));
+    let answer = primary_of(rt.alloc(), b"{\"other\":\"\xff\"}");
+    expect(&rt, answer, Err(ProtoError::BadJson), "the refusal");
 }

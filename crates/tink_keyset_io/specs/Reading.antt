@@ -22,7 +22,7 @@ IsFault kind before now = (kind ≡ OutOfMemory) ⊎ ((kind ≡ ReadFault) × Ro
 abbrev pub IsUnread : Option (List ℕ) → Kind → ℕ → ℕ → Type 0
 IsUnread left kind before now = IsFault kind before now ⊎ ((kind ≡ KeysetTooLong) × IfSome left (λ text. 2 ^ 26 < length text))
 
--- known bytes lose a front of at most so many
+-- known bytes lose a prefix of at most so many
 abbrev pub LosesAtMost : ℕ → Option (List ℕ) → Option (List ℕ) → Type 0
 LosesAtMost most old new = (front : List ℕ) × (length front ≤ most) × Consumes old new front
 

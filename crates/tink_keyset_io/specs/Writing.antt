@@ -9,7 +9,7 @@ use Rattle.tink_io.specs.declared.error.Kind.TheVariants.{OutOfMemory, WriteFaul
 abbrev pub AppendsText : (List ℕ → Type 0) → Option (List ℕ) → Option (List ℕ) → Type 0
 AppendsText IsText old new = (text : List ℕ) × IsText text × Appends old new text
 
--- by which kind a write was refused, and what it has written: nothing, or a front of such a text
+-- by which kind a write was refused, and what it has written: nothing, or a prefix of such a text
 abbrev pub IsPartOf : (List ℕ → Type 0) → Kind → Option (List ℕ) → Option (List ℕ) → Type 0
 IsPartOf IsText kind old new =
     ((kind ≡ OutOfMemory) × Keeps old new) ⊎ ((kind ≡ WriteFault) × ((text : List ℕ) × IsText text × AppendsFront old new text))

@@ -170,7 +170,7 @@ impl<K: Sink> Writer for BinaryWriter<K> {
     /// Writes the keyset's bytes, in as many calls as the sink wants.
     ///
     /// # Errors
-    /// `WriteFault` where the sink failed: it has a front of the bytes then. `OutOfMemory`: nothing
+    /// `WriteFault` where the sink failed: it has a prefix of the bytes then. `OutOfMemory`: nothing
     /// is written then.
     fn write(&mut self, alloc: Global, ks: &Keyset) -> Result<(), TinkError>
         ensures answer { Takes result (Some (Ok tt)) (K.faults self.old) (K.faults self.new) }

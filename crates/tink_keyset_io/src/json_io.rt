@@ -172,7 +172,7 @@ impl<K: Sink> Writer for JsonWriter<K> {
     /// Writes the keyset's text, in as many calls as the sink wants.
     ///
     /// # Errors
-    /// `WriteFault` where the sink failed: it has a front of the text then. `OutOfMemory`: nothing
+    /// `WriteFault` where the sink failed: it has a prefix of the text then. `OutOfMemory`: nothing
     /// is written then.
     fn write(&mut self, alloc: Global, ks: &Keyset) -> Result<(), TinkError>
         ensures answer { Takes result (Some (Ok tt)) (K.faults self.old) (K.faults self.new) }

@@ -23,16 +23,16 @@ fn subkey(alloc: Global, key: &[u8], info: &[u8]) -> Result<Bytes, TinkError>
     compute_hkdf(alloc, HashType::Sha256, key, &[], info, 32)
 }
 
-// The digest of abc by SHA-1.
-fn sha1_of_abc(alloc: Global) -> Result<Option<Bytes>, TinkError> {
+// Whether the digest of abc by SHA-1 is this.
+fn is_sha1_of_abc(alloc: Global, want: &[u8]) -> Result<bool, TinkError> {
     match get_hash_func(HashType::Sha1) {
-        Some(hash) => Ok(Some(compute_hash(alloc, &hash, b"abc")?)),
-        None => Ok(None),
+        Some(hash) => Ok(compute_hash(alloc, &hash, b"abc")?.as_slice() == want),
+        None => Ok(false),
     }
 }
 
 #[test]
-fn hashes_by_their_types(rt: HostRuntime) -> Result<(), Fail> {
+fn hashes_by_their_types(rt: HostRuntime) {
     expect(&rt, get_hash_digest_size(HashType::Sha1), Ok(20), "SHA-1");
     expect(
         &rt,
@@ -41,32 +41,18 @@ fn hashes_by_their_types(rt: HostRuntime) -> Result<(), Fail> {
         "SHA-384",
     );
     let unknown = get_hash_digest_size(HashType::UnknownHash);
-    expect(
-        &rt,
-        kind_of(unknown),
-        Some(Kind::UnknownHash),
-        "the unknown hash",
-    );
-    expect(
-        &rt,
-        get_hash_func(HashType::UnknownHash).is_none(),
-        true,
-        "none of it",
-    );
-    Ok(())
+    let refused = Err(TinkError::new(Kind::UnknownHash));
+    expect(&rt, unknown, refused, "the unknown hash");
+    let none = get_hash_func(HashType::UnknownHash).is_none();
+    expect(&rt, none, true, "none of it");
 }
 
 // FIPS 180-4's example of SHA-1
 #[test]
-fn a_digest_is_that_of_its_hash(rt: HostRuntime) -> Result<(), Fail> {
-    let digest = sha1_of_abc(rt.alloc())?.unwrap_or(Bytes::new(rt.alloc()));
-    expect_bytes(
-        &rt,
-        digest.as_slice(),
-        b"\xa9\x99\x3e\x36\x47\x06\x81\x6a\xba\x3e\x25\x71\x78\x50\xc2\x6c\x9c\xd0\xd8\x9d",
-        "SHA-1 of abc",
-    );
-    Ok(())
+fn a_digest_is_that_of_its_hash(rt: HostRuntime) {
+    let want = b"\xa9\x99\x3e\x36\x47\x06\x81\x6a\xba\x3e\x25\x71\x78\x50\xc2\x6c\x9c\xd0\xd8\x9d";
+    let answer = is_sha1_of_abc(rt.alloc(), want);
+    expect(&rt, answer, Ok(true), "SHA-1 of abc");
 }
 
 const INFO: &[u8] = b"\xf0\xf1\xf2\xf3\xf4\xf5\xf6\xf7\xf8\xf9";
@@ -85,33 +71,34 @@ fn keys_are_derived(rt: HostRuntime) -> Result<(), Fail> {
     Ok(())
 }
 
-#[test]
-fn a_shorter_key_is_a_front_of_a_longer_one(rt: HostRuntime) -> Result<(), Fail> {
-    let alloc = rt.alloc();
+// The length of a short key, and whether it is a prefix of a longer one.
+fn short_key(alloc: Global) -> Result<(usize, bool), TinkError> {
     let short = subkey(alloc, &[0x0b; 22], INFO)?;
     let whole = compute_hkdf(alloc, HashType::Sha256, &[0x0b; 22], &[], INFO, 40)?;
-    expect(&rt, short.as_slice().len(), 32, "its length");
-    let is_front = whole.as_slice().starts_with(short.as_slice());
-    expect(&rt, is_front, true, "the front");
-    Ok(())
+    let is_prefix = whole.as_slice().starts_with(short.as_slice());
+    Ok((short.as_slice().len(), is_prefix))
 }
 
 #[test]
-fn derivation_is_refused_in_order(rt: HostRuntime) -> Result<(), Fail> {
+fn a_shorter_key_is_a_prefix_of_a_longer_one(rt: HostRuntime) {
+    expect(&rt, short_key(rt.alloc()), Ok((32, true)), "the short key");
+}
+
+#[test]
+fn derivation_is_refused_in_order(rt: HostRuntime) {
     for (hash, size, want) in [
         (HashType::UnknownHash, 9000, Kind::UnknownHash),
         (HashType::Sha224, 7141, Kind::OutputTooLong),
         (HashType::Sha224, 9, Kind::TagTooSmall),
         (HashType::Sha224, 7140, Kind::UnsupportedHash),
     ] {
-        let refused = compute_hkdf(rt.alloc(), hash, &[], &[], &[], size);
-        expect(&rt, kind_of(refused), Some(want), "a refusal");
+        let refused = kind_of(compute_hkdf(rt.alloc(), hash, &[], &[], &[], size));
+        expect(&rt, refused, Some(want), "a refusal");
     }
-    Ok(())
 }
 
 #[test]
-fn bytes_are_compared_to_their_end(rt: HostRuntime) -> Result<(), Fail> {
+fn bytes_are_compared_to_their_end(rt: HostRuntime) {
     for (a, b, want) in [
         (b"abc".as_slice(), b"abc".as_slice(), true),
         (b"abc", b"abd", false),
@@ -120,29 +107,24 @@ fn bytes_are_compared_to_their_end(rt: HostRuntime) -> Result<(), Fail> {
     ] {
         expect(&rt, constant_time_compare(a, b), want, "a comparison");
     }
-    Ok(())
 }
 
 #[test]
 fn random_numbers_are_draws(rt: HostRuntime) -> Result<(), Fail> {
     let mut draws = draws_of(rt.alloc(), b"\x01\x02\x03\x04\x05\x06\x07")?;
-    expect(
-        &rt,
-        random::get_random_uint32(&mut draws)?,
-        0x0102_0304,
-        "a number",
-    );
+    let number = random::get_random_uint32(&mut draws);
+    expect(&rt, number, Ok(0x0102_0304), "a number");
     let bytes = random::get_random_bytes(rt.alloc(), &mut draws, 2)?;
     expect_bytes(&rt, bytes.as_slice(), &[5, 6], "bytes");
     let refused = random::get_random_uint32(&mut draws);
-    expect(&rt, kind_of(refused), Some(Kind::RandomFault), "no number");
+    expect(
+        &rt,
+        refused,
+        Err(TinkError::new(Kind::RandomFault)),
+        "no number",
+    );
     expect(&rt, draws.left(), 1, "draws");
     Ok(())
-}
-
-// A handle of a destroyed key.
-fn destroyed(alloc: Global) -> Result<Handle, TinkError> {
-    handle_of(7, vec![in alloc; bare(3, 7)]?)
 }
 
 // The handle, written and read as one without secrets.
@@ -157,22 +139,32 @@ fn secret(alloc: Global, h: &Handle, memory: &mut MemReaderWriter) -> Result<Han
     insecure::read(alloc, memory)
 }
 
-fn through_memory(alloc: Global) -> Result<Handle, TinkError> {
+// A handle of a destroyed key, written and read.
+fn read_plain(alloc: Global, memory: &mut MemReaderWriter) -> Result<Handle, TinkError> {
+    let destroyed = handle_of(7, vec![in alloc; bare(3, 7)]?)?;
+    plain(alloc, &destroyed, memory)
+}
+
+// The same, and once more.
+fn read_again(alloc: Global, memory: &mut MemReaderWriter) -> Result<Handle, TinkError> {
+    let read = read_plain(alloc, memory)?;
+    secret(alloc, &read, memory)
+}
+
+// Its primary id, and the number of its keys.
+fn ids_again(alloc: Global, memory: &mut MemReaderWriter) -> Result<(u32, usize), TinkError> {
+    let info = read_again(alloc, memory)?.keyset_info(alloc)?;
+    Ok((info.primary_key_id, info.key_info.as_slice().len()))
+}
+
+#[test]
+fn keysets_are_written_and_read(rt: HostRuntime) {
     let mut memory = MemReaderWriter::default();
-    let again = plain(alloc, &destroyed(alloc)?, &mut memory)?;
-    secret(alloc, &again, &mut memory)
+    let ids = ids_again(rt.alloc(), &mut memory);
+    expect(&rt, ids, Ok((7, 1)), "the primary id, and keys");
 }
 
 #[test]
-fn keysets_are_written_and_read(rt: HostRuntime) -> Result<(), Fail> {
-    let info = through_memory(rt.alloc())?.keyset_info(rt.alloc())?;
-    expect(&rt, info.primary_key_id, 7, "the primary id");
-    expect(&rt, info.key_info.as_slice().len(), 1, "keys");
-    Ok(())
-}
-
-#[test]
-fn the_version_is_that_of_upstream(rt: HostRuntime) -> Result<(), Fail> {
+fn the_version_is_that_of_upstream(rt: HostRuntime) {
     expect(&rt, UPSTREAM_VERSION == "1.6.0", true, "the version");
-    Ok(())
 }

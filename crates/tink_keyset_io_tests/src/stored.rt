@@ -1,11 +1,10 @@
 //! A keyset of one raw key for streams, its binary form, and how both kinds of ends are read and written.
 
 use std::alloc::Global;
-use std::test::Fail;
-use tink_io::TinkError;
+use tink_io::{Kind, MemSink, MemSource, TinkError};
 use tink_keysets::keyset::{Reader, Writer};
 use tink_proto::{Bytes, EncryptedKeyset, Keyset, Message, OutputPrefixType};
-use tink_testutil::{enabled_key, keyset};
+use tink_testutil::{enabled_key, keyset, kind_of};
 
 /// The binary form.
 pub const KEYSET: &[u8] =
@@ -23,17 +22,67 @@ pub fn stream_keyset(alloc: Global) -> Result<Keyset, TinkError> {
     Ok(keyset(id, vec![in alloc; key]?))
 }
 
-/// The binary form of the keyset that is read.
-pub fn read_bytes<R: Reader>(alloc: Global, reader: &mut R) -> Result<Bytes, Fail> {
-    Ok(reader.read(alloc)?.encode(alloc)?)
+/// A source of these bytes that fails at these calls.
+pub fn source(
+    alloc: Global,
+    bytes: &[u8],
+    piece: usize,
+    fails: &[u32],
+) -> Result<MemSource, TinkError> {
+    let bytes = Vec::from_slice(alloc, bytes)?;
+    let fails = Vec::from_slice(alloc, fails)?;
+    Ok(MemSource::new(bytes, piece, fails))
 }
 
-// An encrypted keyset of these bytes, without info.
-fn encrypted_of(alloc: Global, bytes: &[u8]) -> Result<EncryptedKeyset, TinkError> {
-    Ok(EncryptedKeyset {
+/// A sink with room for both forms that fails at these calls.
+pub fn sink(alloc: Global, piece: usize, fails: &[u32]) -> Result<MemSink, TinkError> {
+    let mut sink = MemSink::new(alloc, piece, Vec::from_slice(alloc, fails)?);
+    sink.reserve(alloc, 500)?;
+    Ok(sink)
+}
+
+/// Whether the keyset that is read has this binary form.
+pub fn reads<R: Reader>(alloc: Global, reader: &mut R, want: &[u8]) -> Result<bool, TinkError> {
+    let ks = reader.read(alloc)?;
+    match ks.encode(alloc) {
+        Ok(bytes) => Ok(bytes.as_slice() == want),
+        Err(_) => Err(TinkError::new(Kind::OutOfMemory)),
+    }
+}
+
+/// Whether the encrypted keyset that is read has no info.
+pub fn reads_no_info<R: Reader>(alloc: Global, reader: &mut R) -> Result<bool, TinkError> {
+    let ks = reader.read_encrypted(alloc)?;
+    Ok(ks.keyset_info.is_none())
+}
+
+/// How a read is refused.
+pub fn refusal<R: Reader>(alloc: Global, reader: &mut R) -> Option<Kind> {
+    kind_of(reader.read(alloc))
+}
+
+/// How a read of an encrypted keyset is refused.
+pub fn encrypted_refusal<R: Reader>(alloc: Global, reader: &mut R) -> Option<Kind> {
+    kind_of(reader.read_encrypted(alloc))
+}
+
+/// Writes the keyset.
+pub fn write<W: Writer>(alloc: Global, writer: &mut W) -> Result<(), TinkError> {
+    let ks = stream_keyset(alloc)?;
+    writer.write(alloc, &ks)
+}
+
+// Writes an encrypted keyset of these bytes, without info.
+fn write_encrypted<W: Writer>(
+    alloc: Global,
+    writer: &mut W,
+    bytes: &[u8],
+) -> Result<(), TinkError> {
+    let ks = EncryptedKeyset {
         encrypted_keyset: Bytes::from_slice(alloc, bytes)?,
         keyset_info: None,
-    })
+    };
+    writer.write_encrypted(alloc, &ks)
 }
 
 /// Writes the keyset, and then an encrypted one of these bytes, without info.
@@ -42,13 +91,12 @@ pub fn write_both<W: Writer>(
     writer: &mut W,
     encrypted: &[u8],
 ) -> Result<(), TinkError> {
-    writer.write(alloc, &stream_keyset(alloc)?)?;
-    writer.write_encrypted(alloc, &encrypted_of(alloc, encrypted)?)
+    write(alloc, writer)?;
+    write_encrypted(alloc, writer, encrypted)
 }
 
-/// The first text, and then the other.
-pub fn joined(alloc: Global, first: &[u8], other: &[u8]) -> Result<Vec<u8>, TinkError> {
-    let mut both = Vec::from_slice(alloc, first)?;
-    both.extend_from_slice(other)?;
-    Ok(both)
+/// Whether the sink has taken the first text and then the other.
+pub fn has_taken(sink: &MemSink, first: &[u8], other: &[u8]) -> bool {
+    let bytes = sink.bytes();
+    bytes.len() == first.len() + other.len() && bytes.starts_with(first) && bytes.ends_with(other)
 }

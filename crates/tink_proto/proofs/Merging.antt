@@ -1,5 +1,5 @@
 -- What a loop over fields keeps.
-use Rattle.std.proofs.Common.{◌≡◌, List, ℕ, Option, Some, None, sym, ◌∙◌}
+use Rattle.std.proofs.Common.{◌≡◌, List, ℕ, Option, Some, sym, ◌∙◌}
 use Rattle.wire_format.specs.Grammar.{Field}
 use Rattle.wire_format.specs.GrammarLaws.{Next}
 use Rattle.wire_format.specs.Reading.{field_at}
@@ -9,12 +9,7 @@ use Rattle.tink_proto.specs.declared.error.ProtoError.{ProtoError}
 use Rattle.tink_proto.specs.declared.error.ProtoError.TheVariants.{BadMessage, BadJson, OutOfMemory}
 use Rattle.tink_proto.specs.Outcome.{Fails}
 
-pub fails_on : {S : Type 0} (e : ProtoError) (step : S → Field → Option S) (s : S) (bytes : List ℕ) (x : Next) (total : Option S) → field_at bytes ≡ Some x → Fails e (step s x.0) → read_into step s bytes ≡ total → Fails e total
+pub fails_on : {S : Type 0} (e : ProtoError) (step : S → Field → Option S) (s : S) (bytes : List ℕ) (x : Next) (total : Option S) → field_at bytes ≡ Some x → Fails BadMessage e (step s x.0) → read_into step s bytes ≡ total → Fails BadMessage e total
 fails_on BadMessage step s bytes x total e d so_far = sym so_far ∙ refuses step s bytes x e d
 fails_on BadJson step s bytes x total e d so_far = absurd d
 fails_on OutOfMemory step s bytes x total e d so_far = tt
-
-pub fails_same : {X Y : Type 0} (e : ProtoError) (a : Option X) (b : Option Y) → (a ≡ None → b ≡ None) → Fails e a → Fails e b
-fails_same BadMessage a b h f = h f
-fails_same BadJson a b h f = f
-fails_same OutOfMemory a b h f = tt

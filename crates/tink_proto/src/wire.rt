@@ -7,6 +7,7 @@ ghost use Rattle.wire_format.specs.Message.{decoded, encoded};
 ghost use Rattle.wire_format.specs.Columns.{Column, read_into};
 ghost use Rattle.tink_proto.specs.View.{field_of};
 ghost use Rattle.tink_proto.specs.Outcome.{Reads, Becomes};
+ghost use Rattle.tink_proto.specs.declared.error.ProtoError.TheVariants.{BadMessage};
 
 mod laws;
 mod nested;
@@ -36,7 +37,7 @@ pub trait Message: Drop {
     /// Reads one more field; one of another number changes nothing. After an `Err` the message is as before, but for a
     /// single message that the field was to be read into: it is absent.
     fn read_field(&mut self, alloc: Global, field: &Field) -> Result<(), ProtoError>
-        ensures reads { Becomes result self.new (table.step self.old (field_of field.now)) }
+        ensures reads { Becomes BadMessage result self.new (table.step self.old (field_of field.now)) }
         ensures err { OnErr result (self.new ≡ table.refused self.old (field_of field.now)) };
 
     /// Writes the fields at the end of `out`. After an `Err` nothing is said of `out`.
@@ -48,7 +49,7 @@ pub trait Message: Drop {
 
     /// Reads each field that the bytes spell into the message. After an `Err` it has no field, as a new one.
     final fn merge(&mut self, alloc: Global, bytes: &[u8]) -> Result<(), ProtoError>
-        ensures reads { Becomes result self.new (read_into table.step self.old bytes.now) }
+        ensures reads { Becomes BadMessage result self.new (read_into table.step self.old bytes.now) }
         ensures err { OnErr result (self.new ≡ table.start) }
     {
         let answer = read_fields(self, alloc, bytes);
@@ -72,13 +73,13 @@ pub trait Message: Drop {
     /// `BadMessage` exactly where the bytes spell no fields, or where the message has one of them with another type, a
     /// text of it is not UTF-8, or a body of it is not such a message; and `OutOfMemory`.
     final fn decode(alloc: Global, bytes: &[u8]) -> Result<Self, ProtoError>
-        ensures exact { Reads result (decoded table.read bytes.now) }
+        ensures exact { Reads BadMessage result (decoded table.read bytes.now) }
 
         // The same in the words of the grammar. What is read is what the fields say that the bytes spell.
         ensures found { IfOk result (λ m. (fs : List Spelled) × AreFields bytes.now fs × (table.read fs ≡ Some m)) }
 
         // What the fields say is read, unless memory runs out.
-        ensures only { (fs : List Spelled) → AreFields bytes.now fs → Reads result (table.read fs) }
+        ensures only { (fs : List Spelled) → AreFields bytes.now fs → Reads BadMessage result (table.read fs) }
     {
         from_bytes(alloc, bytes)
     }
@@ -102,7 +103,7 @@ pub trait Message: Drop {
 }
 
 fn from_bytes<M: Message>(alloc: Global, bytes: &[u8]) -> Result<M, ProtoError>
-    ensures { Reads result (decoded (M.table).read bytes.now) }
+    ensures { Reads BadMessage result (decoded (M.table).read bytes.now) }
 {
     let mut message = M::new(alloc);
     read_fields(&mut message, alloc, bytes)?;
@@ -111,7 +112,7 @@ fn from_bytes<M: Message>(alloc: Global, bytes: &[u8]) -> Result<M, ProtoError>
 
 // Reads each field that the bytes spell.
 fn read_fields<M: Message>(message: &mut M, alloc: Global, bytes: &[u8]) -> Result<(), ProtoError>
-    ensures { Becomes result message.new (read_into (M.table).step message.old bytes.now) }
+    ensures { Becomes BadMessage result message.new (read_into (M.table).step message.old bytes.now) }
 {
     let mut rest = bytes;
     while !rest.is_empty() {

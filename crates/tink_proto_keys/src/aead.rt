@@ -1,7 +1,8 @@
 //! Keys of AEAD and their formats.
 
+use crate::fields::{clone_fields, read_fields, write_fields};
 use std::alloc::{AllocError, Global};
-use tink_proto::wire::{Field, Message, put_bytes, put_number, read_bytes, read_number};
+use tink_proto::wire::{Field, Message};
 use tink_proto::{Bytes, ProtoError};
 
 /// A key of AES-GCM.
@@ -24,25 +25,16 @@ impl Message for AesGcmKey {
     }
 
     fn read_field(&mut self, alloc: Global, field: &Field) -> Result<(), ProtoError> {
-        match field.number {
-            1 => read_number(&mut self.version, &field.content),
-            3 => read_bytes(&mut self.key_value, alloc, &field.content),
-            _ => Ok(()),
-        }
+        read_fields!(self, alloc, field; 1 number version, 3 bytes key_value)
     }
 
     #[tactic(auto, using(std::proofs::Common::append_assoc, wire_format::proofs::WritingLaws::spelling_append))]
     fn write_fields(&self, _alloc: Global, out: &mut Vec<u8>) -> Result<(), AllocError> {
-        put_number(out, 1, self.version)?;
-        put_bytes(out, 3, self.key_value.as_slice())?;
-        Ok(())
+        write_fields!(self, _alloc, out; 1 number version, 3 bytes key_value)
     }
 
     fn try_clone(&self, alloc: Global) -> Result<AesGcmKey, ProtoError> {
-        Ok(AesGcmKey {
-            version: self.version,
-            key_value: self.key_value.try_clone(alloc)?,
-        })
+        clone_fields!(AesGcmKey, self, alloc; number version, bytes key_value)
     }
 }
 
@@ -67,25 +59,16 @@ impl Message for AesGcmKeyFormat {
     }
 
     fn read_field(&mut self, _alloc: Global, field: &Field) -> Result<(), ProtoError> {
-        match field.number {
-            2 => read_number(&mut self.key_size, &field.content),
-            3 => read_number(&mut self.version, &field.content),
-            _ => Ok(()),
-        }
+        read_fields!(self, _alloc, field; 2 number key_size, 3 number version)
     }
 
     #[tactic(auto, using(std::proofs::Common::append_assoc, wire_format::proofs::WritingLaws::spelling_append))]
     fn write_fields(&self, _alloc: Global, out: &mut Vec<u8>) -> Result<(), AllocError> {
-        put_number(out, 2, self.key_size)?;
-        put_number(out, 3, self.version)?;
-        Ok(())
+        write_fields!(self, _alloc, out; 2 number key_size, 3 number version)
     }
 
     fn try_clone(&self, _alloc: Global) -> Result<AesGcmKeyFormat, ProtoError> {
-        Ok(AesGcmKeyFormat {
-            key_size: self.key_size,
-            version: self.version,
-        })
+        clone_fields!(AesGcmKeyFormat, self, _alloc; number key_size, number version)
     }
 }
 
@@ -109,25 +92,16 @@ impl Message for AesGcmSivKey {
     }
 
     fn read_field(&mut self, alloc: Global, field: &Field) -> Result<(), ProtoError> {
-        match field.number {
-            1 => read_number(&mut self.version, &field.content),
-            3 => read_bytes(&mut self.key_value, alloc, &field.content),
-            _ => Ok(()),
-        }
+        read_fields!(self, alloc, field; 1 number version, 3 bytes key_value)
     }
 
     #[tactic(auto, using(std::proofs::Common::append_assoc, wire_format::proofs::WritingLaws::spelling_append))]
     fn write_fields(&self, _alloc: Global, out: &mut Vec<u8>) -> Result<(), AllocError> {
-        put_number(out, 1, self.version)?;
-        put_bytes(out, 3, self.key_value.as_slice())?;
-        Ok(())
+        write_fields!(self, _alloc, out; 1 number version, 3 bytes key_value)
     }
 
     fn try_clone(&self, alloc: Global) -> Result<AesGcmSivKey, ProtoError> {
-        Ok(AesGcmSivKey {
-            version: self.version,
-            key_value: self.key_value.try_clone(alloc)?,
-        })
+        clone_fields!(AesGcmSivKey, self, alloc; number version, bytes key_value)
     }
 }
 
@@ -152,24 +126,15 @@ impl Message for AesGcmSivKeyFormat {
     }
 
     fn read_field(&mut self, _alloc: Global, field: &Field) -> Result<(), ProtoError> {
-        match field.number {
-            1 => read_number(&mut self.version, &field.content),
-            2 => read_number(&mut self.key_size, &field.content),
-            _ => Ok(()),
-        }
+        read_fields!(self, _alloc, field; 1 number version, 2 number key_size)
     }
 
     #[tactic(auto, using(std::proofs::Common::append_assoc, wire_format::proofs::WritingLaws::spelling_append))]
     fn write_fields(&self, _alloc: Global, out: &mut Vec<u8>) -> Result<(), AllocError> {
-        put_number(out, 1, self.version)?;
-        put_number(out, 2, self.key_size)?;
-        Ok(())
+        write_fields!(self, _alloc, out; 1 number version, 2 number key_size)
     }
 
     fn try_clone(&self, _alloc: Global) -> Result<AesGcmSivKeyFormat, ProtoError> {
-        Ok(AesGcmSivKeyFormat {
-            version: self.version,
-            key_size: self.key_size,
-        })
+        clone_fields!(AesGcmSivKeyFormat, self, _alloc; number version, number key_size)
     }
 }

@@ -1,11 +1,9 @@
 //! Keys of AEAD by AES-CTR and HMAC and their formats.
 
+use crate::fields::{clone_fields, read_fields, write_fields};
 use crate::mac::{HmacKey, HmacKeyFormat};
 use std::alloc::{AllocError, Global};
-use tink_proto::wire::{
-    Field, Message, clone_option, put_bytes, put_message, put_number, read_bytes, read_message,
-    read_number,
-};
+use tink_proto::wire::{Field, Message};
 use tink_proto::{Bytes, ProtoError};
 
 /// The size of the IV of AES-CTR.
@@ -25,21 +23,15 @@ impl Message for AesCtrParams {
     }
 
     fn read_field(&mut self, _alloc: Global, field: &Field) -> Result<(), ProtoError> {
-        match field.number {
-            1 => read_number(&mut self.iv_size, &field.content),
-            _ => Ok(()),
-        }
+        read_fields!(self, _alloc, field; 1 number iv_size)
     }
 
     fn write_fields(&self, _alloc: Global, out: &mut Vec<u8>) -> Result<(), AllocError> {
-        put_number(out, 1, self.iv_size)?;
-        Ok(())
+        write_fields!(self, _alloc, out; 1 number iv_size)
     }
 
     fn try_clone(&self, _alloc: Global) -> Result<AesCtrParams, ProtoError> {
-        Ok(AesCtrParams {
-            iv_size: self.iv_size,
-        })
+        clone_fields!(AesCtrParams, self, _alloc; number iv_size)
     }
 }
 
@@ -65,28 +57,16 @@ impl Message for AesCtrKey {
     }
 
     fn read_field(&mut self, alloc: Global, field: &Field) -> Result<(), ProtoError> {
-        match field.number {
-            1 => read_number(&mut self.version, &field.content),
-            2 => read_message(&mut self.params, alloc, &field.content),
-            3 => read_bytes(&mut self.key_value, alloc, &field.content),
-            _ => Ok(()),
-        }
+        read_fields!(self, alloc, field; 1 number version, 2 message params, 3 bytes key_value)
     }
 
     #[tactic(auto, using(std::proofs::Common::append_assoc, wire_format::proofs::WritingLaws::spelling_append))]
     fn write_fields(&self, alloc: Global, out: &mut Vec<u8>) -> Result<(), AllocError> {
-        put_number(out, 1, self.version)?;
-        put_message(out, alloc, 2, &self.params)?;
-        put_bytes(out, 3, self.key_value.as_slice())?;
-        Ok(())
+        write_fields!(self, alloc, out; 1 number version, 2 message params, 3 bytes key_value)
     }
 
     fn try_clone(&self, alloc: Global) -> Result<AesCtrKey, ProtoError> {
-        Ok(AesCtrKey {
-            version: self.version,
-            params: clone_option(&self.params, alloc)?,
-            key_value: self.key_value.try_clone(alloc)?,
-        })
+        clone_fields!(AesCtrKey, self, alloc; number version, message params, bytes key_value)
     }
 }
 
@@ -111,25 +91,16 @@ impl Message for AesCtrKeyFormat {
     }
 
     fn read_field(&mut self, alloc: Global, field: &Field) -> Result<(), ProtoError> {
-        match field.number {
-            1 => read_message(&mut self.params, alloc, &field.content),
-            2 => read_number(&mut self.key_size, &field.content),
-            _ => Ok(()),
-        }
+        read_fields!(self, alloc, field; 1 message params, 2 number key_size)
     }
 
     #[tactic(auto, using(std::proofs::Common::append_assoc, wire_format::proofs::WritingLaws::spelling_append))]
     fn write_fields(&self, alloc: Global, out: &mut Vec<u8>) -> Result<(), AllocError> {
-        put_message(out, alloc, 1, &self.params)?;
-        put_number(out, 2, self.key_size)?;
-        Ok(())
+        write_fields!(self, alloc, out; 1 message params, 2 number key_size)
     }
 
     fn try_clone(&self, alloc: Global) -> Result<AesCtrKeyFormat, ProtoError> {
-        Ok(AesCtrKeyFormat {
-            params: clone_option(&self.params, alloc)?,
-            key_size: self.key_size,
-        })
+        clone_fields!(AesCtrKeyFormat, self, alloc; message params, number key_size)
     }
 }
 
@@ -155,28 +126,16 @@ impl Message for AesCtrHmacAeadKey {
     }
 
     fn read_field(&mut self, alloc: Global, field: &Field) -> Result<(), ProtoError> {
-        match field.number {
-            1 => read_number(&mut self.version, &field.content),
-            2 => read_message(&mut self.aes_ctr_key, alloc, &field.content),
-            3 => read_message(&mut self.hmac_key, alloc, &field.content),
-            _ => Ok(()),
-        }
+        read_fields!(self, alloc, field; 1 number version, 2 message aes_ctr_key, 3 message hmac_key)
     }
 
     #[tactic(auto, using(std::proofs::Common::append_assoc, wire_format::proofs::WritingLaws::spelling_append))]
     fn write_fields(&self, alloc: Global, out: &mut Vec<u8>) -> Result<(), AllocError> {
-        put_number(out, 1, self.version)?;
-        put_message(out, alloc, 2, &self.aes_ctr_key)?;
-        put_message(out, alloc, 3, &self.hmac_key)?;
-        Ok(())
+        write_fields!(self, alloc, out; 1 number version, 2 message aes_ctr_key, 3 message hmac_key)
     }
 
     fn try_clone(&self, alloc: Global) -> Result<AesCtrHmacAeadKey, ProtoError> {
-        Ok(AesCtrHmacAeadKey {
-            version: self.version,
-            aes_ctr_key: clone_option(&self.aes_ctr_key, alloc)?,
-            hmac_key: clone_option(&self.hmac_key, alloc)?,
-        })
+        clone_fields!(AesCtrHmacAeadKey, self, alloc; number version, message aes_ctr_key, message hmac_key)
     }
 }
 
@@ -200,24 +159,15 @@ impl Message for AesCtrHmacAeadKeyFormat {
     }
 
     fn read_field(&mut self, alloc: Global, field: &Field) -> Result<(), ProtoError> {
-        match field.number {
-            1 => read_message(&mut self.aes_ctr_key_format, alloc, &field.content),
-            2 => read_message(&mut self.hmac_key_format, alloc, &field.content),
-            _ => Ok(()),
-        }
+        read_fields!(self, alloc, field; 1 message aes_ctr_key_format, 2 message hmac_key_format)
     }
 
     #[tactic(auto, using(std::proofs::Common::append_assoc, wire_format::proofs::WritingLaws::spelling_append))]
     fn write_fields(&self, alloc: Global, out: &mut Vec<u8>) -> Result<(), AllocError> {
-        put_message(out, alloc, 1, &self.aes_ctr_key_format)?;
-        put_message(out, alloc, 2, &self.hmac_key_format)?;
-        Ok(())
+        write_fields!(self, alloc, out; 1 message aes_ctr_key_format, 2 message hmac_key_format)
     }
 
     fn try_clone(&self, alloc: Global) -> Result<AesCtrHmacAeadKeyFormat, ProtoError> {
-        Ok(AesCtrHmacAeadKeyFormat {
-            aes_ctr_key_format: clone_option(&self.aes_ctr_key_format, alloc)?,
-            hmac_key_format: clone_option(&self.hmac_key_format, alloc)?,
-        })
+        clone_fields!(AesCtrHmacAeadKeyFormat, self, alloc; message aes_ctr_key_format, message hmac_key_format)
     }
 }

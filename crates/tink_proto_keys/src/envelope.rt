@@ -1,9 +1,8 @@
 //! Envelope encryption.
 
+use crate::fields::{clone_fields, read_fields, write_fields};
 use std::alloc::{AllocError, Global};
-use tink_proto::wire::{
-    Field, Message, clone_option, put_message, put_text, read_message, read_text,
-};
+use tink_proto::wire::{Field, Message};
 use tink_proto::{KeyTemplate, ProtoError, Text};
 
 /// The URI of the key that encrypts new keys, and what the new keys are to be.
@@ -26,24 +25,15 @@ impl Message for KmsEnvelopeAeadKeyFormat {
     }
 
     fn read_field(&mut self, alloc: Global, field: &Field) -> Result<(), ProtoError> {
-        match field.number {
-            1 => read_text(&mut self.kek_uri, alloc, &field.content),
-            2 => read_message(&mut self.dek_template, alloc, &field.content),
-            _ => Ok(()),
-        }
+        read_fields!(self, alloc, field; 1 text kek_uri, 2 message dek_template)
     }
 
     #[tactic(auto, using(std::proofs::Common::append_assoc, wire_format::proofs::WritingLaws::spelling_append))]
     fn write_fields(&self, alloc: Global, out: &mut Vec<u8>) -> Result<(), AllocError> {
-        put_text(out, 1, self.kek_uri.as_str())?;
-        put_message(out, alloc, 2, &self.dek_template)?;
-        Ok(())
+        write_fields!(self, alloc, out; 1 text kek_uri, 2 message dek_template)
     }
 
     fn try_clone(&self, alloc: Global) -> Result<KmsEnvelopeAeadKeyFormat, ProtoError> {
-        Ok(KmsEnvelopeAeadKeyFormat {
-            kek_uri: self.kek_uri.try_clone(alloc)?,
-            dek_template: clone_option(&self.dek_template, alloc)?,
-        })
+        clone_fields!(KmsEnvelopeAeadKeyFormat, self, alloc; text kek_uri, message dek_template)
     }
 }

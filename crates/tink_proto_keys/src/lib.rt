@@ -5,6 +5,7 @@
 mod aead;
 mod aes_ctr_hmac;
 mod envelope;
+mod fields;
 mod mac;
 mod prf;
 mod streaming;

@@ -1,10 +1,8 @@
 //! Keys of MACs and their formats.
 
+use crate::fields::{clone_fields, read_fields, write_fields};
 use std::alloc::{AllocError, Global};
-use tink_proto::wire::{
-    Field, Message, clone_option, put_bytes, put_enum, put_message, put_number, read_bytes,
-    read_enum, read_message, read_number,
-};
+use tink_proto::wire::{Field, Message};
 use tink_proto::{Bytes, ProtoError};
 
 /// The hash of an HMAC and the size of its tag.
@@ -29,25 +27,16 @@ impl Message for HmacParams {
     }
 
     fn read_field(&mut self, _alloc: Global, field: &Field) -> Result<(), ProtoError> {
-        match field.number {
-            1 => read_enum(&mut self.hash, &field.content),
-            2 => read_number(&mut self.tag_size, &field.content),
-            _ => Ok(()),
-        }
+        read_fields!(self, _alloc, field; 1 choice hash, 2 number tag_size)
     }
 
     #[tactic(auto, using(std::proofs::Common::append_assoc, wire_format::proofs::WritingLaws::spelling_append))]
     fn write_fields(&self, _alloc: Global, out: &mut Vec<u8>) -> Result<(), AllocError> {
-        put_enum(out, 1, self.hash)?;
-        put_number(out, 2, self.tag_size)?;
-        Ok(())
+        write_fields!(self, _alloc, out; 1 choice hash, 2 number tag_size)
     }
 
     fn try_clone(&self, _alloc: Global) -> Result<HmacParams, ProtoError> {
-        Ok(HmacParams {
-            hash: self.hash,
-            tag_size: self.tag_size,
-        })
+        clone_fields!(HmacParams, self, _alloc; choice hash, number tag_size)
     }
 }
 
@@ -73,28 +62,16 @@ impl Message for HmacKey {
     }
 
     fn read_field(&mut self, alloc: Global, field: &Field) -> Result<(), ProtoError> {
-        match field.number {
-            1 => read_number(&mut self.version, &field.content),
-            2 => read_message(&mut self.params, alloc, &field.content),
-            3 => read_bytes(&mut self.key_value, alloc, &field.content),
-            _ => Ok(()),
-        }
+        read_fields!(self, alloc, field; 1 number version, 2 message params, 3 bytes key_value)
     }
 
     #[tactic(auto, using(std::proofs::Common::append_assoc, wire_format::proofs::WritingLaws::spelling_append))]
     fn write_fields(&self, alloc: Global, out: &mut Vec<u8>) -> Result<(), AllocError> {
-        put_number(out, 1, self.version)?;
-        put_message(out, alloc, 2, &self.params)?;
-        put_bytes(out, 3, self.key_value.as_slice())?;
-        Ok(())
+        write_fields!(self, alloc, out; 1 number version, 2 message params, 3 bytes key_value)
     }
 
     fn try_clone(&self, alloc: Global) -> Result<HmacKey, ProtoError> {
-        Ok(HmacKey {
-            version: self.version,
-            params: clone_option(&self.params, alloc)?,
-            key_value: self.key_value.try_clone(alloc)?,
-        })
+        clone_fields!(HmacKey, self, alloc; number version, message params, bytes key_value)
     }
 }
 
@@ -121,28 +98,16 @@ impl Message for HmacKeyFormat {
     }
 
     fn read_field(&mut self, alloc: Global, field: &Field) -> Result<(), ProtoError> {
-        match field.number {
-            1 => read_message(&mut self.params, alloc, &field.content),
-            2 => read_number(&mut self.key_size, &field.content),
-            3 => read_number(&mut self.version, &field.content),
-            _ => Ok(()),
-        }
+        read_fields!(self, alloc, field; 1 message params, 2 number key_size, 3 number version)
     }
 
     #[tactic(auto, using(std::proofs::Common::append_assoc, wire_format::proofs::WritingLaws::spelling_append))]
     fn write_fields(&self, alloc: Global, out: &mut Vec<u8>) -> Result<(), AllocError> {
-        put_message(out, alloc, 1, &self.params)?;
-        put_number(out, 2, self.key_size)?;
-        put_number(out, 3, self.version)?;
-        Ok(())
+        write_fields!(self, alloc, out; 1 message params, 2 number key_size, 3 number version)
     }
 
     fn try_clone(&self, alloc: Global) -> Result<HmacKeyFormat, ProtoError> {
-        Ok(HmacKeyFormat {
-            params: clone_option(&self.params, alloc)?,
-            key_size: self.key_size,
-            version: self.version,
-        })
+        clone_fields!(HmacKeyFormat, self, alloc; message params, number key_size, number version)
     }
 }
 
@@ -163,21 +128,15 @@ impl Message for AesCmacParams {
     }
 
     fn read_field(&mut self, _alloc: Global, field: &Field) -> Result<(), ProtoError> {
-        match field.number {
-            1 => read_number(&mut self.tag_size, &field.content),
-            _ => Ok(()),
-        }
+        read_fields!(self, _alloc, field; 1 number tag_size)
     }
 
     fn write_fields(&self, _alloc: Global, out: &mut Vec<u8>) -> Result<(), AllocError> {
-        put_number(out, 1, self.tag_size)?;
-        Ok(())
+        write_fields!(self, _alloc, out; 1 number tag_size)
     }
 
     fn try_clone(&self, _alloc: Global) -> Result<AesCmacParams, ProtoError> {
-        Ok(AesCmacParams {
-            tag_size: self.tag_size,
-        })
+        clone_fields!(AesCmacParams, self, _alloc; number tag_size)
     }
 }
 
@@ -203,28 +162,16 @@ impl Message for AesCmacKey {
     }
 
     fn read_field(&mut self, alloc: Global, field: &Field) -> Result<(), ProtoError> {
-        match field.number {
-            1 => read_number(&mut self.version, &field.content),
-            2 => read_bytes(&mut self.key_value, alloc, &field.content),
-            3 => read_message(&mut self.params, alloc, &field.content),
-            _ => Ok(()),
-        }
+        read_fields!(self, alloc, field; 1 number version, 2 bytes key_value, 3 message params)
     }
 
     #[tactic(auto, using(std::proofs::Common::append_assoc, wire_format::proofs::WritingLaws::spelling_append))]
     fn write_fields(&self, alloc: Global, out: &mut Vec<u8>) -> Result<(), AllocError> {
-        put_number(out, 1, self.version)?;
-        put_bytes(out, 2, self.key_value.as_slice())?;
-        put_message(out, alloc, 3, &self.params)?;
-        Ok(())
+        write_fields!(self, alloc, out; 1 number version, 2 bytes key_value, 3 message params)
     }
 
     fn try_clone(&self, alloc: Global) -> Result<AesCmacKey, ProtoError> {
-        Ok(AesCmacKey {
-            version: self.version,
-            key_value: self.key_value.try_clone(alloc)?,
-            params: clone_option(&self.params, alloc)?,
-        })
+        clone_fields!(AesCmacKey, self, alloc; number version, bytes key_value, message params)
     }
 }
 
@@ -249,24 +196,15 @@ impl Message for AesCmacKeyFormat {
     }
 
     fn read_field(&mut self, alloc: Global, field: &Field) -> Result<(), ProtoError> {
-        match field.number {
-            1 => read_number(&mut self.key_size, &field.content),
-            2 => read_message(&mut self.params, alloc, &field.content),
-            _ => Ok(()),
-        }
+        read_fields!(self, alloc, field; 1 number key_size, 2 message params)
     }
 
     #[tactic(auto, using(std::proofs::Common::append_assoc, wire_format::proofs::WritingLaws::spelling_append))]
     fn write_fields(&self, alloc: Global, out: &mut Vec<u8>) -> Result<(), AllocError> {
-        put_number(out, 1, self.key_size)?;
-        put_message(out, alloc, 2, &self.params)?;
-        Ok(())
+        write_fields!(self, alloc, out; 1 number key_size, 2 message params)
     }
 
     fn try_clone(&self, alloc: Global) -> Result<AesCmacKeyFormat, ProtoError> {
-        Ok(AesCmacKeyFormat {
-            key_size: self.key_size,
-            params: clone_option(&self.params, alloc)?,
-        })
+        clone_fields!(AesCmacKeyFormat, self, alloc; number key_size, message params)
     }
 }

@@ -1,10 +1,8 @@
 //! Keys of PRFs and their formats.
 
+use crate::fields::{clone_fields, read_fields, write_fields};
 use std::alloc::{AllocError, Global};
-use tink_proto::wire::{
-    Field, Message, clone_option, put_bytes, put_enum, put_message, put_number, read_bytes,
-    read_enum, read_message, read_number,
-};
+use tink_proto::wire::{Field, Message};
 use tink_proto::{Bytes, ProtoError};
 
 /// The hash and the salt of HKDF.
@@ -28,25 +26,16 @@ impl Message for HkdfPrfParams {
     }
 
     fn read_field(&mut self, alloc: Global, field: &Field) -> Result<(), ProtoError> {
-        match field.number {
-            1 => read_enum(&mut self.hash, &field.content),
-            2 => read_bytes(&mut self.salt, alloc, &field.content),
-            _ => Ok(()),
-        }
+        read_fields!(self, alloc, field; 1 choice hash, 2 bytes salt)
     }
 
     #[tactic(auto, using(std::proofs::Common::append_assoc, wire_format::proofs::WritingLaws::spelling_append))]
     fn write_fields(&self, _alloc: Global, out: &mut Vec<u8>) -> Result<(), AllocError> {
-        put_enum(out, 1, self.hash)?;
-        put_bytes(out, 2, self.salt.as_slice())?;
-        Ok(())
+        write_fields!(self, _alloc, out; 1 choice hash, 2 bytes salt)
     }
 
     fn try_clone(&self, alloc: Global) -> Result<HkdfPrfParams, ProtoError> {
-        Ok(HkdfPrfParams {
-            hash: self.hash,
-            salt: self.salt.try_clone(alloc)?,
-        })
+        clone_fields!(HkdfPrfParams, self, alloc; choice hash, bytes salt)
     }
 }
 
@@ -72,28 +61,16 @@ impl Message for HkdfPrfKey {
     }
 
     fn read_field(&mut self, alloc: Global, field: &Field) -> Result<(), ProtoError> {
-        match field.number {
-            1 => read_number(&mut self.version, &field.content),
-            2 => read_message(&mut self.params, alloc, &field.content),
-            3 => read_bytes(&mut self.key_value, alloc, &field.content),
-            _ => Ok(()),
-        }
+        read_fields!(self, alloc, field; 1 number version, 2 message params, 3 bytes key_value)
     }
 
     #[tactic(auto, using(std::proofs::Common::append_assoc, wire_format::proofs::WritingLaws::spelling_append))]
     fn write_fields(&self, alloc: Global, out: &mut Vec<u8>) -> Result<(), AllocError> {
-        put_number(out, 1, self.version)?;
-        put_message(out, alloc, 2, &self.params)?;
-        put_bytes(out, 3, self.key_value.as_slice())?;
-        Ok(())
+        write_fields!(self, alloc, out; 1 number version, 2 message params, 3 bytes key_value)
     }
 
     fn try_clone(&self, alloc: Global) -> Result<HkdfPrfKey, ProtoError> {
-        Ok(HkdfPrfKey {
-            version: self.version,
-            params: clone_option(&self.params, alloc)?,
-            key_value: self.key_value.try_clone(alloc)?,
-        })
+        clone_fields!(HkdfPrfKey, self, alloc; number version, message params, bytes key_value)
     }
 }
 
@@ -120,28 +97,16 @@ impl Message for HkdfPrfKeyFormat {
     }
 
     fn read_field(&mut self, alloc: Global, field: &Field) -> Result<(), ProtoError> {
-        match field.number {
-            1 => read_message(&mut self.params, alloc, &field.content),
-            2 => read_number(&mut self.key_size, &field.content),
-            3 => read_number(&mut self.version, &field.content),
-            _ => Ok(()),
-        }
+        read_fields!(self, alloc, field; 1 message params, 2 number key_size, 3 number version)
     }
 
     #[tactic(auto, using(std::proofs::Common::append_assoc, wire_format::proofs::WritingLaws::spelling_append))]
     fn write_fields(&self, alloc: Global, out: &mut Vec<u8>) -> Result<(), AllocError> {
-        put_message(out, alloc, 1, &self.params)?;
-        put_number(out, 2, self.key_size)?;
-        put_number(out, 3, self.version)?;
-        Ok(())
+        write_fields!(self, alloc, out; 1 message params, 2 number key_size, 3 number version)
     }
 
     fn try_clone(&self, alloc: Global) -> Result<HkdfPrfKeyFormat, ProtoError> {
-        Ok(HkdfPrfKeyFormat {
-            params: clone_option(&self.params, alloc)?,
-            key_size: self.key_size,
-            version: self.version,
-        })
+        clone_fields!(HkdfPrfKeyFormat, self, alloc; message params, number key_size, number version)
     }
 }
 
@@ -162,19 +127,15 @@ impl Message for HmacPrfParams {
     }
 
     fn read_field(&mut self, _alloc: Global, field: &Field) -> Result<(), ProtoError> {
-        match field.number {
-            1 => read_enum(&mut self.hash, &field.content),
-            _ => Ok(()),
-        }
+        read_fields!(self, _alloc, field; 1 choice hash)
     }
 
     fn write_fields(&self, _alloc: Global, out: &mut Vec<u8>) -> Result<(), AllocError> {
-        put_enum(out, 1, self.hash)?;
-        Ok(())
+        write_fields!(self, _alloc, out; 1 choice hash)
     }
 
     fn try_clone(&self, _alloc: Global) -> Result<HmacPrfParams, ProtoError> {
-        Ok(HmacPrfParams { hash: self.hash })
+        clone_fields!(HmacPrfParams, self, _alloc; choice hash)
     }
 }
 
@@ -200,28 +161,16 @@ impl Message for HmacPrfKey {
     }
 
     fn read_field(&mut self, alloc: Global, field: &Field) -> Result<(), ProtoError> {
-        match field.number {
-            1 => read_number(&mut self.version, &field.content),
-            2 => read_message(&mut self.params, alloc, &field.content),
-            3 => read_bytes(&mut self.key_value, alloc, &field.content),
-            _ => Ok(()),
-        }
+        read_fields!(self, alloc, field; 1 number version, 2 message params, 3 bytes key_value)
     }
 
     #[tactic(auto, using(std::proofs::Common::append_assoc, wire_format::proofs::WritingLaws::spelling_append))]
     fn write_fields(&self, alloc: Global, out: &mut Vec<u8>) -> Result<(), AllocError> {
-        put_number(out, 1, self.version)?;
-        put_message(out, alloc, 2, &self.params)?;
-        put_bytes(out, 3, self.key_value.as_slice())?;
-        Ok(())
+        write_fields!(self, alloc, out; 1 number version, 2 message params, 3 bytes key_value)
     }
 
     fn try_clone(&self, alloc: Global) -> Result<HmacPrfKey, ProtoError> {
-        Ok(HmacPrfKey {
-            version: self.version,
-            params: clone_option(&self.params, alloc)?,
-            key_value: self.key_value.try_clone(alloc)?,
-        })
+        clone_fields!(HmacPrfKey, self, alloc; number version, message params, bytes key_value)
     }
 }
 
@@ -248,28 +197,16 @@ impl Message for HmacPrfKeyFormat {
     }
 
     fn read_field(&mut self, alloc: Global, field: &Field) -> Result<(), ProtoError> {
-        match field.number {
-            1 => read_message(&mut self.params, alloc, &field.content),
-            2 => read_number(&mut self.key_size, &field.content),
-            3 => read_number(&mut self.version, &field.content),
-            _ => Ok(()),
-        }
+        read_fields!(self, alloc, field; 1 message params, 2 number key_size, 3 number version)
     }
 
     #[tactic(auto, using(std::proofs::Common::append_assoc, wire_format::proofs::WritingLaws::spelling_append))]
     fn write_fields(&self, alloc: Global, out: &mut Vec<u8>) -> Result<(), AllocError> {
-        put_message(out, alloc, 1, &self.params)?;
-        put_number(out, 2, self.key_size)?;
-        put_number(out, 3, self.version)?;
-        Ok(())
+        write_fields!(self, alloc, out; 1 message params, 2 number key_size, 3 number version)
     }
 
     fn try_clone(&self, alloc: Global) -> Result<HmacPrfKeyFormat, ProtoError> {
-        Ok(HmacPrfKeyFormat {
-            params: clone_option(&self.params, alloc)?,
-            key_size: self.key_size,
-            version: self.version,
-        })
+        clone_fields!(HmacPrfKeyFormat, self, alloc; message params, number key_size, number version)
     }
 }
 
@@ -293,25 +230,16 @@ impl Message for AesCmacPrfKey {
     }
 
     fn read_field(&mut self, alloc: Global, field: &Field) -> Result<(), ProtoError> {
-        match field.number {
-            1 => read_number(&mut self.version, &field.content),
-            2 => read_bytes(&mut self.key_value, alloc, &field.content),
-            _ => Ok(()),
-        }
+        read_fields!(self, alloc, field; 1 number version, 2 bytes key_value)
     }
 
     #[tactic(auto, using(std::proofs::Common::append_assoc, wire_format::proofs::WritingLaws::spelling_append))]
     fn write_fields(&self, _alloc: Global, out: &mut Vec<u8>) -> Result<(), AllocError> {
-        put_number(out, 1, self.version)?;
-        put_bytes(out, 2, self.key_value.as_slice())?;
-        Ok(())
+        write_fields!(self, _alloc, out; 1 number version, 2 bytes key_value)
     }
 
     fn try_clone(&self, alloc: Global) -> Result<AesCmacPrfKey, ProtoError> {
-        Ok(AesCmacPrfKey {
-            version: self.version,
-            key_value: self.key_value.try_clone(alloc)?,
-        })
+        clone_fields!(AesCmacPrfKey, self, alloc; number version, bytes key_value)
     }
 }
 
@@ -336,24 +264,15 @@ impl Message for AesCmacPrfKeyFormat {
     }
 
     fn read_field(&mut self, _alloc: Global, field: &Field) -> Result<(), ProtoError> {
-        match field.number {
-            1 => read_number(&mut self.key_size, &field.content),
-            2 => read_number(&mut self.version, &field.content),
-            _ => Ok(()),
-        }
+        read_fields!(self, _alloc, field; 1 number key_size, 2 number version)
     }
 
     #[tactic(auto, using(std::proofs::Common::append_assoc, wire_format::proofs::WritingLaws::spelling_append))]
     fn write_fields(&self, _alloc: Global, out: &mut Vec<u8>) -> Result<(), AllocError> {
-        put_number(out, 1, self.key_size)?;
-        put_number(out, 2, self.version)?;
-        Ok(())
+        write_fields!(self, _alloc, out; 1 number key_size, 2 number version)
     }
 
     fn try_clone(&self, _alloc: Global) -> Result<AesCmacPrfKeyFormat, ProtoError> {
-        Ok(AesCmacPrfKeyFormat {
-            key_size: self.key_size,
-            version: self.version,
-        })
+        clone_fields!(AesCmacPrfKeyFormat, self, _alloc; number key_size, number version)
     }
 }

@@ -1,11 +1,9 @@
 //! Keys of streaming encryption and their formats.
 
+use crate::fields::{clone_fields, read_fields, write_fields};
 use crate::mac::HmacParams;
 use std::alloc::{AllocError, Global};
-use tink_proto::wire::{
-    Field, Message, clone_option, put_bytes, put_enum, put_message, put_number, read_bytes,
-    read_enum, read_message, read_number,
-};
+use tink_proto::wire::{Field, Message};
 use tink_proto::{Bytes, ProtoError};
 
 /// How a text is cut and its segments sealed by AES-CTR and HMAC.
@@ -35,31 +33,16 @@ impl Message for AesCtrHmacStreamingParams {
     }
 
     fn read_field(&mut self, alloc: Global, field: &Field) -> Result<(), ProtoError> {
-        match field.number {
-            1 => read_number(&mut self.ciphertext_segment_size, &field.content),
-            2 => read_number(&mut self.derived_key_size, &field.content),
-            3 => read_enum(&mut self.hkdf_hash_type, &field.content),
-            4 => read_message(&mut self.hmac_params, alloc, &field.content),
-            _ => Ok(()),
-        }
+        read_fields!(self, alloc, field; 1 number ciphertext_segment_size, 2 number derived_key_size, 3 choice hkdf_hash_type, 4 message hmac_params)
     }
 
     #[tactic(auto, using(std::proofs::Common::append_assoc, wire_format::proofs::WritingLaws::spelling_append))]
     fn write_fields(&self, alloc: Global, out: &mut Vec<u8>) -> Result<(), AllocError> {
-        put_number(out, 1, self.ciphertext_segment_size)?;
-        put_number(out, 2, self.derived_key_size)?;
-        put_enum(out, 3, self.hkdf_hash_type)?;
-        put_message(out, alloc, 4, &self.hmac_params)?;
-        Ok(())
+        write_fields!(self, alloc, out; 1 number ciphertext_segment_size, 2 number derived_key_size, 3 choice hkdf_hash_type, 4 message hmac_params)
     }
 
     fn try_clone(&self, alloc: Global) -> Result<AesCtrHmacStreamingParams, ProtoError> {
-        Ok(AesCtrHmacStreamingParams {
-            ciphertext_segment_size: self.ciphertext_segment_size,
-            derived_key_size: self.derived_key_size,
-            hkdf_hash_type: self.hkdf_hash_type,
-            hmac_params: clone_option(&self.hmac_params, alloc)?,
-        })
+        clone_fields!(AesCtrHmacStreamingParams, self, alloc; number ciphertext_segment_size, number derived_key_size, choice hkdf_hash_type, message hmac_params)
     }
 }
 
@@ -85,28 +68,16 @@ impl Message for AesCtrHmacStreamingKey {
     }
 
     fn read_field(&mut self, alloc: Global, field: &Field) -> Result<(), ProtoError> {
-        match field.number {
-            1 => read_number(&mut self.version, &field.content),
-            2 => read_message(&mut self.params, alloc, &field.content),
-            3 => read_bytes(&mut self.key_value, alloc, &field.content),
-            _ => Ok(()),
-        }
+        read_fields!(self, alloc, field; 1 number version, 2 message params, 3 bytes key_value)
     }
 
     #[tactic(auto, using(std::proofs::Common::append_assoc, wire_format::proofs::WritingLaws::spelling_append))]
     fn write_fields(&self, alloc: Global, out: &mut Vec<u8>) -> Result<(), AllocError> {
-        put_number(out, 1, self.version)?;
-        put_message(out, alloc, 2, &self.params)?;
-        put_bytes(out, 3, self.key_value.as_slice())?;
-        Ok(())
+        write_fields!(self, alloc, out; 1 number version, 2 message params, 3 bytes key_value)
     }
 
     fn try_clone(&self, alloc: Global) -> Result<AesCtrHmacStreamingKey, ProtoError> {
-        Ok(AesCtrHmacStreamingKey {
-            version: self.version,
-            params: clone_option(&self.params, alloc)?,
-            key_value: self.key_value.try_clone(alloc)?,
-        })
+        clone_fields!(AesCtrHmacStreamingKey, self, alloc; number version, message params, bytes key_value)
     }
 }
 
@@ -133,28 +104,16 @@ impl Message for AesCtrHmacStreamingKeyFormat {
     }
 
     fn read_field(&mut self, alloc: Global, field: &Field) -> Result<(), ProtoError> {
-        match field.number {
-            1 => read_message(&mut self.params, alloc, &field.content),
-            2 => read_number(&mut self.key_size, &field.content),
-            3 => read_number(&mut self.version, &field.content),
-            _ => Ok(()),
-        }
+        read_fields!(self, alloc, field; 1 message params, 2 number key_size, 3 number version)
     }
 
     #[tactic(auto, using(std::proofs::Common::append_assoc, wire_format::proofs::WritingLaws::spelling_append))]
     fn write_fields(&self, alloc: Global, out: &mut Vec<u8>) -> Result<(), AllocError> {
-        put_message(out, alloc, 1, &self.params)?;
-        put_number(out, 2, self.key_size)?;
-        put_number(out, 3, self.version)?;
-        Ok(())
+        write_fields!(self, alloc, out; 1 message params, 2 number key_size, 3 number version)
     }
 
     fn try_clone(&self, alloc: Global) -> Result<AesCtrHmacStreamingKeyFormat, ProtoError> {
-        Ok(AesCtrHmacStreamingKeyFormat {
-            params: clone_option(&self.params, alloc)?,
-            key_size: self.key_size,
-            version: self.version,
-        })
+        clone_fields!(AesCtrHmacStreamingKeyFormat, self, alloc; message params, number key_size, number version)
     }
 }
 
@@ -183,28 +142,16 @@ impl Message for AesGcmHkdfStreamingParams {
     }
 
     fn read_field(&mut self, _alloc: Global, field: &Field) -> Result<(), ProtoError> {
-        match field.number {
-            1 => read_number(&mut self.ciphertext_segment_size, &field.content),
-            2 => read_number(&mut self.derived_key_size, &field.content),
-            3 => read_enum(&mut self.hkdf_hash_type, &field.content),
-            _ => Ok(()),
-        }
+        read_fields!(self, _alloc, field; 1 number ciphertext_segment_size, 2 number derived_key_size, 3 choice hkdf_hash_type)
     }
 
     #[tactic(auto, using(std::proofs::Common::append_assoc, wire_format::proofs::WritingLaws::spelling_append))]
     fn write_fields(&self, _alloc: Global, out: &mut Vec<u8>) -> Result<(), AllocError> {
-        put_number(out, 1, self.ciphertext_segment_size)?;
-        put_number(out, 2, self.derived_key_size)?;
-        put_enum(out, 3, self.hkdf_hash_type)?;
-        Ok(())
+        write_fields!(self, _alloc, out; 1 number ciphertext_segment_size, 2 number derived_key_size, 3 choice hkdf_hash_type)
     }
 
     fn try_clone(&self, _alloc: Global) -> Result<AesGcmHkdfStreamingParams, ProtoError> {
-        Ok(AesGcmHkdfStreamingParams {
-            ciphertext_segment_size: self.ciphertext_segment_size,
-            derived_key_size: self.derived_key_size,
-            hkdf_hash_type: self.hkdf_hash_type,
-        })
+        clone_fields!(AesGcmHkdfStreamingParams, self, _alloc; number ciphertext_segment_size, number derived_key_size, choice hkdf_hash_type)
     }
 }
 
@@ -230,28 +177,16 @@ impl Message for AesGcmHkdfStreamingKey {
     }
 
     fn read_field(&mut self, alloc: Global, field: &Field) -> Result<(), ProtoError> {
-        match field.number {
-            1 => read_number(&mut self.version, &field.content),
-            2 => read_message(&mut self.params, alloc, &field.content),
-            3 => read_bytes(&mut self.key_value, alloc, &field.content),
-            _ => Ok(()),
-        }
+        read_fields!(self, alloc, field; 1 number version, 2 message params, 3 bytes key_value)
     }
 
     #[tactic(auto, using(std::proofs::Common::append_assoc, wire_format::proofs::WritingLaws::spelling_append))]
     fn write_fields(&self, alloc: Global, out: &mut Vec<u8>) -> Result<(), AllocError> {
-        put_number(out, 1, self.version)?;
-        put_message(out, alloc, 2, &self.params)?;
-        put_bytes(out, 3, self.key_value.as_slice())?;
-        Ok(())
+        write_fields!(self, alloc, out; 1 number version, 2 message params, 3 bytes key_value)
     }
 
     fn try_clone(&self, alloc: Global) -> Result<AesGcmHkdfStreamingKey, ProtoError> {
-        Ok(AesGcmHkdfStreamingKey {
-            version: self.version,
-            params: clone_option(&self.params, alloc)?,
-            key_value: self.key_value.try_clone(alloc)?,
-        })
+        clone_fields!(AesGcmHkdfStreamingKey, self, alloc; number version, message params, bytes key_value)
     }
 }
 
@@ -278,27 +213,15 @@ impl Message for AesGcmHkdfStreamingKeyFormat {
     }
 
     fn read_field(&mut self, alloc: Global, field: &Field) -> Result<(), ProtoError> {
-        match field.number {
-            1 => read_message(&mut self.params, alloc, &field.content),
-            2 => read_number(&mut self.key_size, &field.content),
-            3 => read_number(&mut self.version, &field.content),
-            _ => Ok(()),
-        }
+        read_fields!(self, alloc, field; 1 message params, 2 number key_size, 3 number version)
     }
 
     #[tactic(auto, using(std::proofs::Common::append_assoc, wire_format::proofs::WritingLaws::spelling_append))]
     fn write_fields(&self, alloc: Global, out: &mut Vec<u8>) -> Result<(), AllocError> {
-        put_message(out, alloc, 1, &self.params)?;
-        put_number(out, 2, self.key_size)?;
-        put_number(out, 3, self.version)?;
-        Ok(())
+        write_fields!(self, alloc, out; 1 message params, 2 number key_size, 3 number version)
     }
 
     fn try_clone(&self, alloc: Global) -> Result<AesGcmHkdfStreamingKeyFormat, ProtoError> {
-        Ok(AesGcmHkdfStreamingKeyFormat {
-            params: clone_option(&self.params, alloc)?,
-            key_size: self.key_size,
-            version: self.version,
-        })
+        clone_fields!(AesGcmHkdfStreamingKeyFormat, self, alloc; message params, number key_size, number version)
     }
 }

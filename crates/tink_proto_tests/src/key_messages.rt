@@ -2,11 +2,11 @@
 
 ghost use Rattle.wire_format.specs.Message.{decoded};
 ghost use Rattle.tink_proto.specs.Outcome.{Reads};
+ghost use Rattle.tink_proto.specs.declared.error.ProtoError.TheVariants.{BadMessage};
 ghost use Rattle.tink_proto_keys.specs.Aead.{aes_gcm_key};
 
-use crate::expect::{expect, expect_given};
-use std::alloc::{AllocError, Global};
-use std::process::Abort;
+use crate::expect::expect;
+use std::alloc::Global;
 use tink_proto::{Bytes, Key, KeyTemplate, Keyset, Message, ProtoError, Text};
 use tink_proto_keys::{
     AesCmacKey, AesCmacKeyFormat, AesCmacParams, AesCmacPrfKey, AesCmacPrfKeyFormat,
@@ -19,53 +19,40 @@ use tink_proto_keys::{
 };
 
 /// A key of AES-CTR and HMAC with id 01020304.
-const CTR_HMAC_KEYSET: [u8; 118] = [
-    0x08, 0x84, 0x86, 0x88, 0x08, 0x12, 0x6f, 0x0a, 0x64, 0x0a, 0x3d, 0x74, 0x79, 0x70, 0x65, 0x2e,
-    0x67, 0x6f, 0x6f, 0x67, 0x6c, 0x65, 0x61, 0x70, 0x69, 0x73, 0x2e, 0x63, 0x6f, 0x6d, 0x2f, 0x67,
-    0x6f, 0x6f, 0x67, 0x6c, 0x65, 0x2e, 0x63, 0x72, 0x79, 0x70, 0x74, 0x6f, 0x2e, 0x74, 0x69, 0x6e,
-    0x6b, 0x2e, 0x41, 0x65, 0x73, 0x43, 0x74, 0x72, 0x48, 0x6d, 0x61, 0x63, 0x53, 0x74, 0x72, 0x65,
-    0x61, 0x6d, 0x69, 0x6e, 0x67, 0x4b, 0x65, 0x79, 0x12, 0x21, 0x12, 0x0d, 0x08, 0x80, 0x20, 0x10,
-    0x10, 0x18, 0x03, 0x22, 0x04, 0x08, 0x03, 0x10, 0x20, 0x1a, 0x10, 0x00, 0x01, 0x02, 0x03, 0x04,
-    0x05, 0x06, 0x07, 0x08, 0x09, 0x0a, 0x0b, 0x0c, 0x0d, 0x0e, 0x0f, 0x18, 0x01, 0x10, 0x01, 0x18,
-    0x84, 0x86, 0x88, 0x08, 0x20, 0x03,
-];
+const CTR_HMAC_KEYSET: &[u8] =
+    b"\x08\x84\x86\x88\x08\x12\x6f\x0a\x64\x0a\x3dtype.googleapis.com/google.crypto.tink.AesCtrHmacStreamingKey\x12\x21\x12\x0d\x08\x80\x20\x10\x10\x18\x03\x22\x04\x08\x03\x10\x20\x1a\x10\x00\x01\x02\x03\x04\x05\x06\x07\x08\x09\x0a\x0b\x0c\x0d\x0e\x0f\x18\x01\x10\x01\x18\x84\x86\x88\x08\x20\x03";
 
 /// A key of AES-GCM with id 01020305.
-const GCM_KEYSET: [u8; 112] = [
-    0x08, 0x85, 0x86, 0x88, 0x08, 0x12, 0x69, 0x0a, 0x5e, 0x0a, 0x3d, 0x74, 0x79, 0x70, 0x65, 0x2e,
-    0x67, 0x6f, 0x6f, 0x67, 0x6c, 0x65, 0x61, 0x70, 0x69, 0x73, 0x2e, 0x63, 0x6f, 0x6d, 0x2f, 0x67,
-    0x6f, 0x6f, 0x67, 0x6c, 0x65, 0x2e, 0x63, 0x72, 0x79, 0x70, 0x74, 0x6f, 0x2e, 0x74, 0x69, 0x6e,
-    0x6b, 0x2e, 0x41, 0x65, 0x73, 0x47, 0x63, 0x6d, 0x48, 0x6b, 0x64, 0x66, 0x53, 0x74, 0x72, 0x65,
-    0x61, 0x6d, 0x69, 0x6e, 0x67, 0x4b, 0x65, 0x79, 0x12, 0x1b, 0x12, 0x07, 0x08, 0x80, 0x20, 0x10,
-    0x10, 0x18, 0x03, 0x1a, 0x10, 0x10, 0x11, 0x12, 0x13, 0x14, 0x15, 0x16, 0x17, 0x18, 0x19, 0x1a,
-    0x1b, 0x1c, 0x1d, 0x1e, 0x1f, 0x18, 0x01, 0x10, 0x01, 0x18, 0x85, 0x86, 0x88, 0x08, 0x20, 0x03,
-];
+const GCM_KEYSET: &[u8] =
+    b"\x08\x85\x86\x88\x08\x12\x69\x0a\x5e\x0a\x3dtype.googleapis.com/google.crypto.tink.AesGcmHkdfStreamingKey\x12\x1b\x12\x07\x08\x80\x20\x10\x10\x18\x03\x1a\x10\x10\x11\x12\x13\x14\x15\x16\x17\x18\x19\x1a\x1b\x1c\x1d\x1e\x1f\x18\x01\x10\x01\x18\x85\x86\x88\x08\x20\x03";
 
 /// A key from its bytes, as a caller's contract says it.
 fn read_key(alloc: Global, bytes: &[u8]) -> Result<AesGcmKey, ProtoError>
-    ensures { Reads result (decoded aes_gcm_key.read bytes.now) }
+    ensures { Reads BadMessage result (decoded aes_gcm_key.read bytes.now) }
 {
     AesGcmKey::decode(alloc, bytes)
 }
 
-fn seven(alloc: Global) -> Result<Bytes, AllocError> {
-    Bytes::from_slice(alloc, &[7])
+fn seven(alloc: Global) -> Result<Bytes, ProtoError> {
+    Ok(Bytes::from_slice(alloc, b"\x07")?)
 }
 
-/// The message that the bytes spell, copied and written.
-fn again<M: Message>(alloc: Global, bytes: &[u8]) -> Result<Bytes, ProtoError> {
-    M::decode(alloc, bytes)?.try_clone(alloc)?.encode(alloc)
+/// Whether the message is written as the bytes.
+fn is_written<M: Message>(alloc: Global, message: &M, bytes: &[u8]) -> Result<bool, ProtoError> {
+    let written = message.encode(alloc)?;
+    Ok(written.as_slice() == bytes)
 }
 
-/// A message was written as the bytes, and they are read as one that is.
-fn spells<M: Message>(
-    rt: &impl Abort,
-    alloc: Global,
-    written: Result<Bytes, ProtoError>,
-    bytes: &[u8],
-) {
-    expect_given(rt, written, bytes, "written");
-    expect_given(rt, again::<M>(alloc, bytes), bytes, "read and written");
+/// Whether a copy of the message that the bytes spell is.
+fn is_spelled<M: Message>(alloc: Global, bytes: &[u8]) -> Result<bool, ProtoError> {
+    let message = M::decode(alloc, bytes)?;
+    let copy = message.try_clone(alloc)?;
+    is_written(alloc, &copy, bytes)
+}
+
+/// Whether the message is written as the bytes, and they are read as one that is.
+fn spells<M: Message>(alloc: Global, message: M, bytes: &[u8]) -> Result<bool, ProtoError> {
+    Ok(is_written(alloc, &message, bytes)? && is_spelled::<M>(alloc, bytes)?)
 }
 
 /// The key data's value, where the key is enabled, raw and of that id and URL, and the primary.
@@ -136,7 +123,7 @@ fn is_gcm_key(key: &AesGcmHkdfStreamingKey) -> bool {
 
 fn reads_ctr_hmac_key(alloc: Global) -> Result<bool, ProtoError> {
     let url = "type.googleapis.com/google.crypto.tink.AesCtrHmacStreamingKey";
-    let keyset = Keyset::decode(alloc, &CTR_HMAC_KEYSET)?;
+    let keyset = Keyset::decode(alloc, CTR_HMAC_KEYSET)?;
     let value = only_value(&keyset, 0x01020304, url)?;
     let key = AesCtrHmacStreamingKey::decode(alloc, value)?;
     Ok(is_ctr_hmac_key(&key))
@@ -144,7 +131,7 @@ fn reads_ctr_hmac_key(alloc: Global) -> Result<bool, ProtoError> {
 
 fn reads_gcm_key(alloc: Global) -> Result<bool, ProtoError> {
     let url = "type.googleapis.com/google.crypto.tink.AesGcmHkdfStreamingKey";
-    let keyset = Keyset::decode(alloc, &GCM_KEYSET)?;
+    let keyset = Keyset::decode(alloc, GCM_KEYSET)?;
     let value = only_value(&keyset, 0x01020305, url)?;
     let key = AesGcmHkdfStreamingKey::decode(alloc, value)?;
     Ok(is_gcm_key(&key))
@@ -155,151 +142,156 @@ fn keysets_from_outside(rt: HostRuntime) {
     let alloc = rt.alloc();
     expect(&rt, reads_ctr_hmac_key(alloc), Ok(true), "AES-CTR and HMAC");
     expect(&rt, reads_gcm_key(alloc), Ok(true), "AES-GCM");
-    let written = again::<Keyset>(alloc, &CTR_HMAC_KEYSET);
-    expect_given(&rt, written, &CTR_HMAC_KEYSET, "AES-CTR and HMAC, written");
-    let written = again::<Keyset>(alloc, &GCM_KEYSET);
-    expect_given(&rt, written, &GCM_KEYSET, "AES-GCM, written");
+    let written = is_spelled::<Keyset>(alloc, CTR_HMAC_KEYSET);
+    expect(&rt, written, Ok(true), "AES-CTR and HMAC, written");
+    let written = is_spelled::<Keyset>(alloc, GCM_KEYSET);
+    expect(&rt, written, Ok(true), "AES-GCM, written");
 }
 
-fn aes_ctr_hmac_streaming_params(alloc: Global) -> Result<Bytes, ProtoError> {
+fn aes_ctr_hmac_streaming_params(alloc: Global) -> Result<bool, ProtoError> {
     let message = AesCtrHmacStreamingParams {
         ciphertext_segment_size: 300,
         derived_key_size: 16,
         hkdf_hash_type: 3,
         hmac_params: Some(HmacParams::new(alloc)),
     };
-    message.encode(alloc)
+    spells(alloc, message, b"\x08\xac\x02\x10\x10\x18\x03\x22\x00")
 }
 
-fn aes_ctr_hmac_streaming_key(alloc: Global) -> Result<Bytes, ProtoError> {
+fn aes_ctr_hmac_streaming_key(alloc: Global) -> Result<bool, ProtoError> {
+    let key_value = seven(alloc)?;
     let message = AesCtrHmacStreamingKey {
         version: 1,
         params: Some(AesCtrHmacStreamingParams::new(alloc)),
-        key_value: seven(alloc)?,
+        key_value,
     };
-    message.encode(alloc)
+    spells(alloc, message, b"\x08\x01\x12\x00\x1a\x01\x07")
 }
 
-fn aes_ctr_hmac_streaming_key_format(alloc: Global) -> Result<Bytes, ProtoError> {
+fn aes_ctr_hmac_streaming_key_format(alloc: Global) -> Result<bool, ProtoError> {
     let message = AesCtrHmacStreamingKeyFormat {
         params: Some(AesCtrHmacStreamingParams::new(alloc)),
         key_size: 16,
         version: 1,
     };
-    message.encode(alloc)
+    spells(alloc, message, b"\x0a\x00\x10\x10\x18\x01")
 }
 
 #[test]
 fn keys_of_ctr_hmac_streaming(rt: HostRuntime) {
     let alloc = rt.alloc();
-    spells::<AesCtrHmacStreamingParams>(
+    expect(
         &rt,
-        alloc,
         aes_ctr_hmac_streaming_params(alloc),
-        &[0x08, 0xac, 2, 0x10, 16, 0x18, 3, 0x22, 0],
+        Ok(true),
+        "AesCtrHmacStreamingParams",
     );
-    spells::<AesCtrHmacStreamingKey>(
+    expect(
         &rt,
-        alloc,
         aes_ctr_hmac_streaming_key(alloc),
-        &[0x08, 1, 0x12, 0, 0x1a, 1, 7],
+        Ok(true),
+        "AesCtrHmacStreamingKey",
     );
-    spells::<AesCtrHmacStreamingKeyFormat>(
+    expect(
         &rt,
-        alloc,
         aes_ctr_hmac_streaming_key_format(alloc),
-        &[0x0a, 0, 0x10, 16, 0x18, 1],
+        Ok(true),
+        "AesCtrHmacStreamingKeyFormat",
     );
 }
 
-fn aes_gcm_hkdf_streaming_params(alloc: Global) -> Result<Bytes, ProtoError> {
+fn aes_gcm_hkdf_streaming_params(alloc: Global) -> Result<bool, ProtoError> {
     let message = AesGcmHkdfStreamingParams {
         ciphertext_segment_size: 300,
         derived_key_size: 16,
         hkdf_hash_type: 3,
     };
-    message.encode(alloc)
+    spells(alloc, message, b"\x08\xac\x02\x10\x10\x18\x03")
 }
 
-fn aes_gcm_hkdf_streaming_key(alloc: Global) -> Result<Bytes, ProtoError> {
+fn aes_gcm_hkdf_streaming_key(alloc: Global) -> Result<bool, ProtoError> {
+    let key_value = seven(alloc)?;
     let message = AesGcmHkdfStreamingKey {
         version: 1,
         params: Some(AesGcmHkdfStreamingParams::new(alloc)),
-        key_value: seven(alloc)?,
+        key_value,
     };
-    message.encode(alloc)
+    spells(alloc, message, b"\x08\x01\x12\x00\x1a\x01\x07")
 }
 
-fn aes_gcm_hkdf_streaming_key_format(alloc: Global) -> Result<Bytes, ProtoError> {
+fn aes_gcm_hkdf_streaming_key_format(alloc: Global) -> Result<bool, ProtoError> {
     let message = AesGcmHkdfStreamingKeyFormat {
         params: Some(AesGcmHkdfStreamingParams::new(alloc)),
         key_size: 16,
         version: 1,
     };
-    message.encode(alloc)
+    spells(alloc, message, b"\x0a\x00\x10\x10\x18\x01")
 }
 
 #[test]
 fn keys_of_gcm_streaming(rt: HostRuntime) {
     let alloc = rt.alloc();
-    spells::<AesGcmHkdfStreamingParams>(
+    expect(
         &rt,
-        alloc,
         aes_gcm_hkdf_streaming_params(alloc),
-        &[0x08, 0xac, 2, 0x10, 16, 0x18, 3],
+        Ok(true),
+        "AesGcmHkdfStreamingParams",
     );
-    spells::<AesGcmHkdfStreamingKey>(
+    expect(
         &rt,
-        alloc,
         aes_gcm_hkdf_streaming_key(alloc),
-        &[0x08, 1, 0x12, 0, 0x1a, 1, 7],
+        Ok(true),
+        "AesGcmHkdfStreamingKey",
     );
-    spells::<AesGcmHkdfStreamingKeyFormat>(
+    expect(
         &rt,
-        alloc,
         aes_gcm_hkdf_streaming_key_format(alloc),
-        &[0x0a, 0, 0x10, 16, 0x18, 1],
+        Ok(true),
+        "AesGcmHkdfStreamingKeyFormat",
     );
 }
 
-fn aes_gcm_key(alloc: Global) -> Result<Bytes, ProtoError> {
+fn aes_gcm_key(alloc: Global) -> Result<bool, ProtoError> {
+    let key_value = seven(alloc)?;
     let message = AesGcmKey {
         version: 1,
-        key_value: seven(alloc)?,
+        key_value,
     };
-    message.encode(alloc)
+    spells(alloc, message, b"\x08\x01\x1a\x01\x07")
 }
 
-fn aes_gcm_key_format(alloc: Global) -> Result<Bytes, ProtoError> {
+fn aes_gcm_key_format(alloc: Global) -> Result<bool, ProtoError> {
     let message = AesGcmKeyFormat {
         key_size: 16,
         version: 1,
     };
-    message.encode(alloc)
+    spells(alloc, message, b"\x10\x10\x18\x01")
 }
 
-fn aes_gcm_siv_key(alloc: Global) -> Result<Bytes, ProtoError> {
+fn aes_gcm_siv_key(alloc: Global) -> Result<bool, ProtoError> {
+    let key_value = seven(alloc)?;
     let message = AesGcmSivKey {
         version: 1,
-        key_value: seven(alloc)?,
+        key_value,
     };
-    message.encode(alloc)
+    spells(alloc, message, b"\x08\x01\x1a\x01\x07")
 }
 
-fn aes_gcm_siv_key_format(alloc: Global) -> Result<Bytes, ProtoError> {
+fn aes_gcm_siv_key_format(alloc: Global) -> Result<bool, ProtoError> {
     let message = AesGcmSivKeyFormat {
         version: 1,
         key_size: 16,
     };
-    message.encode(alloc)
+    spells(alloc, message, b"\x08\x01\x10\x10")
 }
 
-fn kms_envelope_aead_key_format(alloc: Global) -> Result<Bytes, ProtoError> {
+fn kms_envelope_aead_key_format(alloc: Global) -> Result<bool, ProtoError> {
+    let kek_uri = Text::from_str(alloc, "x")?;
     let message = KmsEnvelopeAeadKeyFormat {
-        kek_uri: Text::from_str(alloc, "x")?,
+        kek_uri,
         dek_template: Some(KeyTemplate::new(alloc)),
     };
-    message.encode(alloc)
+    spells(alloc, message, b"\x0a\x01\x78\x12\x00")
 }
 
 fn version_of(alloc: Global, bytes: &[u8]) -> Result<u32, ProtoError> {
@@ -311,265 +303,249 @@ fn version_of(alloc: Global, bytes: &[u8]) -> Result<u32, ProtoError> {
 fn keys_of_aead(rt: HostRuntime) {
     let alloc = rt.alloc();
     expect(&rt, version_of(alloc, &[0x08, 2]), Ok(2), "the version");
-    spells::<AesGcmKey>(&rt, alloc, aes_gcm_key(alloc), &[0x08, 1, 0x1a, 1, 7]);
-    spells::<AesGcmKeyFormat>(&rt, alloc, aes_gcm_key_format(alloc), &[0x10, 16, 0x18, 1]);
-    spells::<AesGcmSivKey>(&rt, alloc, aes_gcm_siv_key(alloc), &[0x08, 1, 0x1a, 1, 7]);
-    spells::<AesGcmSivKeyFormat>(
+    expect(&rt, aes_gcm_key(alloc), Ok(true), "AesGcmKey");
+    expect(&rt, aes_gcm_key_format(alloc), Ok(true), "AesGcmKeyFormat");
+    expect(&rt, aes_gcm_siv_key(alloc), Ok(true), "AesGcmSivKey");
+    expect(
         &rt,
-        alloc,
         aes_gcm_siv_key_format(alloc),
-        &[0x08, 1, 0x10, 16],
+        Ok(true),
+        "AesGcmSivKeyFormat",
     );
-    spells::<KmsEnvelopeAeadKeyFormat>(
+    expect(
         &rt,
-        alloc,
         kms_envelope_aead_key_format(alloc),
-        &[0x0a, 1, b'x', 0x12, 0],
+        Ok(true),
+        "KmsEnvelopeAeadKeyFormat",
     );
 }
 
-fn aes_ctr_params(alloc: Global) -> Result<Bytes, ProtoError> {
+fn aes_ctr_params(alloc: Global) -> Result<bool, ProtoError> {
     let message = AesCtrParams { iv_size: 12 };
-    message.encode(alloc)
+    spells(alloc, message, b"\x08\x0c")
 }
 
-fn aes_ctr_key(alloc: Global) -> Result<Bytes, ProtoError> {
+fn aes_ctr_key(alloc: Global) -> Result<bool, ProtoError> {
+    let key_value = seven(alloc)?;
     let message = AesCtrKey {
         version: 1,
         params: Some(AesCtrParams::new(alloc)),
-        key_value: seven(alloc)?,
+        key_value,
     };
-    message.encode(alloc)
+    spells(alloc, message, b"\x08\x01\x12\x00\x1a\x01\x07")
 }
 
-fn aes_ctr_key_format(alloc: Global) -> Result<Bytes, ProtoError> {
+fn aes_ctr_key_format(alloc: Global) -> Result<bool, ProtoError> {
     let message = AesCtrKeyFormat {
         params: Some(AesCtrParams::new(alloc)),
         key_size: 16,
     };
-    message.encode(alloc)
+    spells(alloc, message, b"\x0a\x00\x10\x10")
 }
 
-fn aes_ctr_hmac_aead_key(alloc: Global) -> Result<Bytes, ProtoError> {
+fn aes_ctr_hmac_aead_key(alloc: Global) -> Result<bool, ProtoError> {
     let message = AesCtrHmacAeadKey {
         version: 1,
         aes_ctr_key: Some(AesCtrKey::new(alloc)),
         hmac_key: Some(HmacKey::new(alloc)),
     };
-    message.encode(alloc)
+    spells(alloc, message, b"\x08\x01\x12\x00\x1a\x00")
 }
 
-fn aes_ctr_hmac_aead_key_format(alloc: Global) -> Result<Bytes, ProtoError> {
+fn aes_ctr_hmac_aead_key_format(alloc: Global) -> Result<bool, ProtoError> {
     let message = AesCtrHmacAeadKeyFormat {
         aes_ctr_key_format: Some(AesCtrKeyFormat::new(alloc)),
         hmac_key_format: Some(HmacKeyFormat::new(alloc)),
     };
-    message.encode(alloc)
+    spells(alloc, message, b"\x0a\x00\x12\x00")
 }
 
 #[test]
 fn keys_of_aes_ctr_and_hmac(rt: HostRuntime) {
     let alloc = rt.alloc();
-    spells::<AesCtrParams>(&rt, alloc, aes_ctr_params(alloc), &[0x08, 12]);
-    spells::<AesCtrKey>(
+    expect(&rt, aes_ctr_params(alloc), Ok(true), "AesCtrParams");
+    expect(&rt, aes_ctr_key(alloc), Ok(true), "AesCtrKey");
+    expect(&rt, aes_ctr_key_format(alloc), Ok(true), "AesCtrKeyFormat");
+    expect(
         &rt,
-        alloc,
-        aes_ctr_key(alloc),
-        &[0x08, 1, 0x12, 0, 0x1a, 1, 7],
-    );
-    spells::<AesCtrKeyFormat>(&rt, alloc, aes_ctr_key_format(alloc), &[0x0a, 0, 0x10, 16]);
-    spells::<AesCtrHmacAeadKey>(
-        &rt,
-        alloc,
         aes_ctr_hmac_aead_key(alloc),
-        &[0x08, 1, 0x12, 0, 0x1a, 0],
+        Ok(true),
+        "AesCtrHmacAeadKey",
     );
-    spells::<AesCtrHmacAeadKeyFormat>(
+    expect(
         &rt,
-        alloc,
         aes_ctr_hmac_aead_key_format(alloc),
-        &[0x0a, 0, 0x12, 0],
+        Ok(true),
+        "AesCtrHmacAeadKeyFormat",
     );
 }
 
-fn hmac_params(alloc: Global) -> Result<Bytes, ProtoError> {
+fn hmac_params(alloc: Global) -> Result<bool, ProtoError> {
     let message = HmacParams {
         hash: 3,
         tag_size: 32,
     };
-    message.encode(alloc)
+    spells(alloc, message, b"\x08\x03\x10\x20")
 }
 
-fn hmac_key(alloc: Global) -> Result<Bytes, ProtoError> {
+fn hmac_key(alloc: Global) -> Result<bool, ProtoError> {
+    let key_value = seven(alloc)?;
     let message = HmacKey {
         version: 1,
         params: Some(HmacParams::new(alloc)),
-        key_value: seven(alloc)?,
+        key_value,
     };
-    message.encode(alloc)
+    spells(alloc, message, b"\x08\x01\x12\x00\x1a\x01\x07")
 }
 
-fn hmac_key_format(alloc: Global) -> Result<Bytes, ProtoError> {
+fn hmac_key_format(alloc: Global) -> Result<bool, ProtoError> {
     let message = HmacKeyFormat {
         params: Some(HmacParams::new(alloc)),
         key_size: 16,
         version: 1,
     };
-    message.encode(alloc)
+    spells(alloc, message, b"\x0a\x00\x10\x10\x18\x01")
 }
 
-fn aes_cmac_params(alloc: Global) -> Result<Bytes, ProtoError> {
+fn aes_cmac_params(alloc: Global) -> Result<bool, ProtoError> {
     let message = AesCmacParams { tag_size: 16 };
-    message.encode(alloc)
+    spells(alloc, message, b"\x08\x10")
 }
 
-fn aes_cmac_key(alloc: Global) -> Result<Bytes, ProtoError> {
+fn aes_cmac_key(alloc: Global) -> Result<bool, ProtoError> {
+    let key_value = seven(alloc)?;
     let message = AesCmacKey {
         version: 1,
-        key_value: seven(alloc)?,
+        key_value,
         params: Some(AesCmacParams::new(alloc)),
     };
-    message.encode(alloc)
+    spells(alloc, message, b"\x08\x01\x12\x01\x07\x1a\x00")
 }
 
-fn aes_cmac_key_format(alloc: Global) -> Result<Bytes, ProtoError> {
+fn aes_cmac_key_format(alloc: Global) -> Result<bool, ProtoError> {
     let message = AesCmacKeyFormat {
         key_size: 32,
         params: Some(AesCmacParams::new(alloc)),
     };
-    message.encode(alloc)
+    spells(alloc, message, b"\x08\x20\x12\x00")
 }
 
 #[test]
 fn keys_of_macs(rt: HostRuntime) {
     let alloc = rt.alloc();
-    spells::<HmacParams>(&rt, alloc, hmac_params(alloc), &[0x08, 3, 0x10, 32]);
-    spells::<HmacKey>(&rt, alloc, hmac_key(alloc), &[0x08, 1, 0x12, 0, 0x1a, 1, 7]);
-    spells::<HmacKeyFormat>(
+    expect(&rt, hmac_params(alloc), Ok(true), "HmacParams");
+    expect(&rt, hmac_key(alloc), Ok(true), "HmacKey");
+    expect(&rt, hmac_key_format(alloc), Ok(true), "HmacKeyFormat");
+    expect(&rt, aes_cmac_params(alloc), Ok(true), "AesCmacParams");
+    expect(&rt, aes_cmac_key(alloc), Ok(true), "AesCmacKey");
+    expect(
         &rt,
-        alloc,
-        hmac_key_format(alloc),
-        &[0x0a, 0, 0x10, 16, 0x18, 1],
+        aes_cmac_key_format(alloc),
+        Ok(true),
+        "AesCmacKeyFormat",
     );
-    spells::<AesCmacParams>(&rt, alloc, aes_cmac_params(alloc), &[0x08, 16]);
-    spells::<AesCmacKey>(
-        &rt,
-        alloc,
-        aes_cmac_key(alloc),
-        &[0x08, 1, 0x12, 1, 7, 0x1a, 0],
-    );
-    spells::<AesCmacKeyFormat>(&rt, alloc, aes_cmac_key_format(alloc), &[0x08, 32, 0x12, 0]);
 }
 
-fn hkdf_prf_params(alloc: Global) -> Result<Bytes, ProtoError> {
-    let message = HkdfPrfParams {
-        hash: 3,
-        salt: seven(alloc)?,
-    };
-    message.encode(alloc)
+fn hkdf_prf_params(alloc: Global) -> Result<bool, ProtoError> {
+    let salt = seven(alloc)?;
+    let message = HkdfPrfParams { hash: 3, salt };
+    spells(alloc, message, b"\x08\x03\x12\x01\x07")
 }
 
-fn hkdf_prf_key(alloc: Global) -> Result<Bytes, ProtoError> {
+fn hkdf_prf_key(alloc: Global) -> Result<bool, ProtoError> {
+    let key_value = seven(alloc)?;
     let message = HkdfPrfKey {
         version: 1,
         params: Some(HkdfPrfParams::new(alloc)),
-        key_value: seven(alloc)?,
+        key_value,
     };
-    message.encode(alloc)
+    spells(alloc, message, b"\x08\x01\x12\x00\x1a\x01\x07")
 }
 
-fn hkdf_prf_key_format(alloc: Global) -> Result<Bytes, ProtoError> {
+fn hkdf_prf_key_format(alloc: Global) -> Result<bool, ProtoError> {
     let message = HkdfPrfKeyFormat {
         params: Some(HkdfPrfParams::new(alloc)),
         key_size: 32,
         version: 1,
     };
-    message.encode(alloc)
+    spells(alloc, message, b"\x0a\x00\x10\x20\x18\x01")
 }
 
 #[test]
 fn keys_of_hkdf_prfs(rt: HostRuntime) {
     let alloc = rt.alloc();
-    spells::<HkdfPrfParams>(&rt, alloc, hkdf_prf_params(alloc), &[0x08, 3, 0x12, 1, 7]);
-    spells::<HkdfPrfKey>(
+    expect(&rt, hkdf_prf_params(alloc), Ok(true), "HkdfPrfParams");
+    expect(&rt, hkdf_prf_key(alloc), Ok(true), "HkdfPrfKey");
+    expect(
         &rt,
-        alloc,
-        hkdf_prf_key(alloc),
-        &[0x08, 1, 0x12, 0, 0x1a, 1, 7],
-    );
-    spells::<HkdfPrfKeyFormat>(
-        &rt,
-        alloc,
         hkdf_prf_key_format(alloc),
-        &[0x0a, 0, 0x10, 32, 0x18, 1],
+        Ok(true),
+        "HkdfPrfKeyFormat",
     );
 }
 
-fn hmac_prf_params(alloc: Global) -> Result<Bytes, ProtoError> {
+fn hmac_prf_params(alloc: Global) -> Result<bool, ProtoError> {
     let message = HmacPrfParams { hash: 3 };
-    message.encode(alloc)
+    spells(alloc, message, b"\x08\x03")
 }
 
-fn hmac_prf_key(alloc: Global) -> Result<Bytes, ProtoError> {
+fn hmac_prf_key(alloc: Global) -> Result<bool, ProtoError> {
+    let key_value = seven(alloc)?;
     let message = HmacPrfKey {
         version: 1,
         params: Some(HmacPrfParams::new(alloc)),
-        key_value: seven(alloc)?,
+        key_value,
     };
-    message.encode(alloc)
+    spells(alloc, message, b"\x08\x01\x12\x00\x1a\x01\x07")
 }
 
-fn hmac_prf_key_format(alloc: Global) -> Result<Bytes, ProtoError> {
+fn hmac_prf_key_format(alloc: Global) -> Result<bool, ProtoError> {
     let message = HmacPrfKeyFormat {
         params: Some(HmacPrfParams::new(alloc)),
         key_size: 32,
         version: 1,
     };
-    message.encode(alloc)
+    spells(alloc, message, b"\x0a\x00\x10\x20\x18\x01")
 }
 
 #[test]
 fn keys_of_hmac_prfs(rt: HostRuntime) {
     let alloc = rt.alloc();
-    spells::<HmacPrfParams>(&rt, alloc, hmac_prf_params(alloc), &[0x08, 3]);
-    spells::<HmacPrfKey>(
+    expect(&rt, hmac_prf_params(alloc), Ok(true), "HmacPrfParams");
+    expect(&rt, hmac_prf_key(alloc), Ok(true), "HmacPrfKey");
+    expect(
         &rt,
-        alloc,
-        hmac_prf_key(alloc),
-        &[0x08, 1, 0x12, 0, 0x1a, 1, 7],
-    );
-    spells::<HmacPrfKeyFormat>(
-        &rt,
-        alloc,
         hmac_prf_key_format(alloc),
-        &[0x0a, 0, 0x10, 32, 0x18, 1],
+        Ok(true),
+        "HmacPrfKeyFormat",
     );
 }
 
-fn aes_cmac_prf_key(alloc: Global) -> Result<Bytes, ProtoError> {
+fn aes_cmac_prf_key(alloc: Global) -> Result<bool, ProtoError> {
+    let key_value = seven(alloc)?;
     let message = AesCmacPrfKey {
         version: 1,
-        key_value: seven(alloc)?,
+        key_value,
     };
-    message.encode(alloc)
+    spells(alloc, message, b"\x08\x01\x12\x01\x07")
 }
 
-fn aes_cmac_prf_key_format(alloc: Global) -> Result<Bytes, ProtoError> {
+fn aes_cmac_prf_key_format(alloc: Global) -> Result<bool, ProtoError> {
     let message = AesCmacPrfKeyFormat {
         key_size: 32,
         version: 1,
     };
-    message.encode(alloc)
+    spells(alloc, message, b"\x08\x20\x10\x01")
 }
 
 #[test]
 fn keys_of_cmac_prfs(rt: HostRuntime) {
     let alloc = rt.alloc();
-    spells::<AesCmacPrfKey>(&rt, alloc, aes_cmac_prf_key(alloc), &[0x08, 1, 0x12, 1, 7]);
-    spells::<AesCmacPrfKeyFormat>(
+    expect(&rt, aes_cmac_prf_key(alloc), Ok(true), "AesCmacPrfKey");
+    expect(
         &rt,
-        alloc,
         aes_cmac_prf_key_format(alloc),
-        &[0x08, 32, 0x10, 1],
+        Ok(true),
+        "AesCmacPrfKeyFormat",
     );
 }

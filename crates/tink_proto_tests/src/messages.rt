@@ -2,10 +2,12 @@
 
 ghost use Rattle.wire_format.specs.Message.{decoded};
 ghost use Rattle.tink_proto.specs.Outcome.{Reads};
+ghost use Rattle.tink_proto.specs.declared.error.ProtoError.TheVariants.{BadMessage};
 ghost use Rattle.tink_proto.specs.Messages.{keyset};
 
-use crate::expect::{expect, expect_given};
+use crate::expect::expect;
 use std::alloc::Global;
+use std::process::Abort;
 use tink_proto::{
     Bytes, EncryptedKeyset, HashType, Key, KeyData, KeyInfo, KeyMaterialType, KeyStatusType,
     KeyTemplate, Keyset, KeysetInfo, Message, OutputPrefixType, ProtoError, Repeated, Text,
@@ -13,31 +15,31 @@ use tink_proto::{
 };
 
 /// URL "x", value 07, material 1.
-const KEY_DATA: [u8; 8] = [0x0a, 1, b'x', 0x12, 1, 7, 0x18, 1];
+const KEY_DATA: &[u8] = b"\x0a\x01x\x12\x01\x07\x18\x01";
 
 /// The key data, status 1, id 300, prefix 3.
-const KEY: [u8; 17] = [
-    0x0a, 8, 0x0a, 1, b'x', 0x12, 1, 7, 0x18, 1, 0x10, 1, 0x18, 0xac, 0x02, 0x20, 3,
-];
+const KEY: &[u8] = b"\x0a\x08\x0a\x01x\x12\x01\x07\x18\x01\x10\x01\x18\xac\x02\x20\x03";
 
 /// Primary id 300, and the key.
-const KEYSET: [u8; 22] = [
-    0x08, 0xac, 0x02, 0x12, 17, 0x0a, 8, 0x0a, 1, b'x', 0x12, 1, 7, 0x18, 1, 0x10, 1, 0x18, 0xac,
-    0x02, 0x20, 3,
-];
+const KEYSET: &[u8] =
+    b"\x08\xac\x02\x12\x11\x0a\x08\x0a\x01x\x12\x01\x07\x18\x01\x10\x01\x18\xac\x02\x20\x03";
 
 /// URL "x", value 07, prefix 4.
-const TEMPLATE: [u8; 8] = [0x0a, 1, b'x', 0x12, 1, 7, 0x18, 4];
+const TEMPLATE: &[u8] = b"\x0a\x01x\x12\x01\x07\x18\x04";
 
 /// Bytes 01 02; an info of primary id 300 and one key of URL "x", status 2, id 300, prefix 1.
-const ENCRYPTED: [u8; 21] = [
-    0x12, 2, 1, 2, 0x1a, 15, 0x08, 0xac, 0x02, 0x12, 10, 0x0a, 1, b'x', 0x10, 2, 0x18, 0xac, 0x02,
-    0x20, 1,
-];
+const ENCRYPTED: &[u8] =
+    b"\x12\x02\x01\x02\x1a\x0f\x08\xac\x02\x12\x0a\x0a\x01x\x10\x02\x18\xac\x02\x20\x01";
+
+/// That info.
+const INFO: &[u8] = b"\x08\xac\x02\x12\x0a\x0a\x01x\x10\x02\x18\xac\x02\x20\x01";
+
+/// Its key.
+const KEY_INFO: &[u8] = b"\x0a\x01x\x10\x02\x18\xac\x02\x20\x01";
 
 /// A keyset from its bytes, as a caller's contract says it.
 fn read_keyset(alloc: Global, bytes: &[u8]) -> Result<Keyset, ProtoError>
-    ensures { Reads result (decoded keyset.read bytes.now) }
+    ensures { Reads BadMessage result (decoded keyset.read bytes.now) }
 {
     Keyset::decode(alloc, bytes)
 }
@@ -63,7 +65,7 @@ fn is_keyset_of_x(keyset: &Keyset) -> bool {
 }
 
 fn reads_keyset(alloc: Global) -> Result<bool, ProtoError> {
-    let keyset = read_keyset(alloc, &KEYSET)?;
+    let keyset = read_keyset(alloc, KEYSET)?;
     Ok(is_keyset_of_x(&keyset))
 }
 
@@ -77,7 +79,7 @@ fn is_info_of_x(info: &KeysetInfo) -> bool {
 }
 
 fn reads_encrypted(alloc: Global) -> Result<bool, ProtoError> {
-    let encrypted = EncryptedKeyset::decode(alloc, &ENCRYPTED)?;
+    let encrypted = EncryptedKeyset::decode(alloc, ENCRYPTED)?;
     Ok(
         encrypted.encrypted_keyset.as_slice() == [1, 2].as_slice()
             && encrypted.keyset_info.as_ref().is_some_and(is_info_of_x),
@@ -85,7 +87,7 @@ fn reads_encrypted(alloc: Global) -> Result<bool, ProtoError> {
 }
 
 fn reads_template(alloc: Global) -> Result<bool, ProtoError> {
-    let template = KeyTemplate::decode(alloc, &TEMPLATE)?;
+    let template = KeyTemplate::decode(alloc, TEMPLATE)?;
     Ok(
         template.type_url.as_str() == "x"
             && template.value.as_slice() == [7].as_slice()
@@ -120,20 +122,20 @@ fn writes_the_keysets_that_it_read(rt: HostRuntime) {
     let alloc = rt.alloc();
     expect(
         &rt,
-        is_written_again::<KeyData>(alloc, &KEY_DATA),
+        is_written_again::<KeyData>(alloc, KEY_DATA),
         Ok(true),
         "key data",
     );
-    expect(&rt, is_written_again::<Key>(alloc, &KEY), Ok(true), "a key");
+    expect(&rt, is_written_again::<Key>(alloc, KEY), Ok(true), "a key");
     expect(
         &rt,
-        is_written_again::<Keyset>(alloc, &KEYSET),
+        is_written_again::<Keyset>(alloc, KEYSET),
         Ok(true),
         "a keyset",
     );
     expect(
         &rt,
-        is_written_again::<KeyTemplate>(alloc, &TEMPLATE),
+        is_written_again::<KeyTemplate>(alloc, TEMPLATE),
         Ok(true),
         "a template",
     );
@@ -142,22 +144,21 @@ fn writes_the_keysets_that_it_read(rt: HostRuntime) {
 #[test]
 fn writes_the_infos_that_it_read(rt: HostRuntime) {
     let alloc = rt.alloc();
-    let (info, key_info) = (&ENCRYPTED[6..], &ENCRYPTED[11..]);
     expect(
         &rt,
-        is_written_again::<KeyInfo>(alloc, key_info),
+        is_written_again::<KeyInfo>(alloc, KEY_INFO),
         Ok(true),
         "an info",
     );
     expect(
         &rt,
-        is_written_again::<KeysetInfo>(alloc, info),
+        is_written_again::<KeysetInfo>(alloc, INFO),
         Ok(true),
         "an info of a keyset",
     );
     expect(
         &rt,
-        is_written_again::<EncryptedKeyset>(alloc, &ENCRYPTED),
+        is_written_again::<EncryptedKeyset>(alloc, ENCRYPTED),
         Ok(true),
         "encrypted",
     );
@@ -165,81 +166,79 @@ fn writes_the_infos_that_it_read(rt: HostRuntime) {
 
 /// Whether the keyset with more bytes behind it is the keyset.
 fn is_keyset_with(alloc: Global, tail: &[u8]) -> Result<bool, ProtoError> {
-    let mut bytes = Vec::from_slice(alloc, &KEYSET)?;
+    let mut bytes = Vec::from_slice(alloc, KEYSET)?;
     bytes.extend_from_slice(tail)?;
-    is_written_as::<Keyset>(alloc, &bytes, &KEYSET)
+    is_written_as::<Keyset>(alloc, &bytes, KEYSET)
+}
+
+fn skips(rt: &impl Abort, alloc: Global, tail: &[u8]) {
+    expect(rt, is_keyset_with(alloc, tail), Ok(true), "more bytes");
 }
 
 #[test]
 fn skips_unknown_fields_and_long_spellings(rt: HostRuntime) {
-    let tails: [&[u8]; 6] = [
-        &[0x78, 5],
-        &[0x79, 0, 0, 0, 0, 0, 0, 0, 0],
-        &[0x7a, 1, 0xff],
-        &[0x7d, 0, 0, 0, 0],
-        // The id 300 once more, its key in ten bytes and with higher bits.
-        &[
-            0x88, 0x80, 0x80, 0x80, 0x80, 0x80, 0x80, 0x80, 0x80, 0, 0xac, 2,
-        ],
-        &[
-            0x08, 0xac, 0x82, 0x80, 0x80, 0xf0, 0xff, 0xff, 0xff, 0xff, 1,
-        ],
-    ];
-    for tail in tails {
-        expect(
-            &rt,
-            is_keyset_with(rt.alloc(), tail),
-            Ok(true),
-            "with more bytes",
-        );
-    }
+    let alloc = rt.alloc();
+    skips(&rt, alloc, b"\x78\x05");
+    skips(&rt, alloc, b"\x79\x00\x00\x00\x00\x00\x00\x00\x00");
+    skips(&rt, alloc, b"\x7a\x01\xff");
+    skips(&rt, alloc, b"\x7d\x00\x00\x00\x00");
+
+    // The id 300 once more, its key in ten bytes and with higher bits.
+    skips(
+        &rt,
+        alloc,
+        b"\x88\x80\x80\x80\x80\x80\x80\x80\x80\x00\xac\x02",
+    );
+    skips(&rt, alloc, b"\x08\xac\x82\x80\x80\xf0\xff\xff\xff\xff\x01");
 }
 
 fn is_refused<M: Message>(alloc: Global, bytes: &[u8]) -> bool {
     matches!(M::decode(alloc, bytes), Err(ProtoError::BadMessage))
 }
 
+fn refuses<M: Message>(rt: &impl Abort, alloc: Global, bytes: &[u8]) {
+    expect(rt, is_refused::<M>(alloc, bytes), true, "refused");
+}
+
 #[test]
-fn refuses(rt: HostRuntime) {
-    let refused: [&[u8]; 11] = [
-        // Cut off: a key, a varint, a length, a body, eight and four bytes.
-        &[0x88],
-        &[0x08],
-        &[0x12],
-        &[0x12, 1],
-        &[0x79, 0],
-        &[0x7d, 0],
-        // A group, number 0, a field with another type, a key of 2^32, a varint of 2^64.
-        &[0x7b],
-        &[0x00, 0],
-        &[0x0a, 0],
-        &[0x80, 0x80, 0x80, 0x80, 0x10, 0],
-        &[
-            0x08, 0xff, 0xff, 0xff, 0xff, 0xff, 0xff, 0xff, 0xff, 0xff, 2,
-        ],
-    ];
-    for bytes in refused {
-        assert!(rt; is_refused::<Keyset>(rt.alloc(), bytes));
-    }
+fn refuses_what_is_cut_off(rt: HostRuntime) {
+    let alloc = rt.alloc();
+    // A key, a varint, a length, a body, eight and four bytes.
+    refuses::<Keyset>(&rt, alloc, b"\x88");
+    refuses::<Keyset>(&rt, alloc, b"\x08");
+    refuses::<Keyset>(&rt, alloc, b"\x12");
+    refuses::<Keyset>(&rt, alloc, b"\x12\x01");
+    refuses::<Keyset>(&rt, alloc, b"\x79\x00");
+    refuses::<Keyset>(&rt, alloc, b"\x7d\x00");
+}
+
+#[test]
+fn refuses_other_fields(rt: HostRuntime) {
+    let alloc = rt.alloc();
+    // A group, number 0, a field with another type, a key of 2^32, a varint of 2^64.
+    refuses::<Keyset>(&rt, alloc, b"\x7b");
+    refuses::<Keyset>(&rt, alloc, b"\x00\x00");
+    refuses::<Keyset>(&rt, alloc, b"\x0a\x00");
+    refuses::<Keyset>(&rt, alloc, b"\x80\x80\x80\x80\x10\x00");
+    refuses::<Keyset>(&rt, alloc, b"\x08\xff\xff\xff\xff\xff\xff\xff\xff\xff\x02");
 }
 
 #[test]
 fn refuses_other_texts_and_bodies_apart(rt: HostRuntime) {
+    let alloc = rt.alloc();
     // A text that is not UTF-8, also where a later one replaces it.
-    assert!(rt; is_refused::<KeyData>(rt.alloc(), &[0x0a, 1, 0xff, 0x0a, 0]));
+    refuses::<KeyData>(&rt, alloc, b"\x0a\x01\xff\x0a\x00");
     // A field that is cut in two by two bodies.
-    assert!(rt; is_refused::<Key>(rt.alloc(), &[0x0a, 2, 0x0a, 1, 0x0a, 1, b'x']));
+    refuses::<Key>(&rt, alloc, b"\x0a\x02\x0a\x01\x0a\x01x");
 }
 
 #[test]
 fn joins_the_bodies_of_one_message(rt: HostRuntime) {
-    let apart = [
-        0x0a, 3, 0x0a, 1, b'x', 0x10, 1, 0x0a, 7, 0x12, 1, 9, 0x12, 0, 0x18, 1, 0x18, 0xac, 2,
-        0x20, 3, 0x0a, 3, 0x12, 1, 7,
-    ];
+    let apart =
+        b"\x0a\x03\x0a\x01x\x10\x01\x0a\x07\x12\x01\x09\x12\x00\x18\x01\x18\xac\x02\x20\x03\x0a\x03\x12\x01\x07";
     expect(
         &rt,
-        is_written_as::<Key>(rt.alloc(), &apart, &KEY),
+        is_written_as::<Key>(rt.alloc(), apart, KEY),
         Ok(true),
         "the key",
     );
@@ -270,36 +269,60 @@ fn negative_keyset(alloc: Global) -> Result<Keyset, ProtoError> {
 }
 
 /// A keyset of one key of status -2, written.
-const NEGATIVE: [u8; 15] = [
-    0x12, 13, 0x0a, 0, 0x10, 0xfe, 0xff, 0xff, 0xff, 0xff, 0xff, 0xff, 0xff, 0xff, 1,
-];
+const NEGATIVE: &[u8] = b"\x12\x0d\x0a\x00\x10\xfe\xff\xff\xff\xff\xff\xff\xff\xff\x01";
 
-fn negative_written(alloc: Global) -> Result<Bytes, ProtoError> {
-    negative_keyset(alloc)?.encode(alloc)
+fn writes_negative(alloc: Global) -> Result<bool, ProtoError> {
+    let written = negative_keyset(alloc)?.encode(alloc)?;
+    Ok(written.as_slice() == NEGATIVE)
 }
 
 fn reads_negative(alloc: Global) -> Result<bool, ProtoError> {
-    let keyset = Keyset::decode(alloc, &NEGATIVE)?;
+    let keyset = Keyset::decode(alloc, NEGATIVE)?;
     Ok(matches!(keyset.key.as_slice(), [Key { status: -2, .. }]))
 }
 
 #[test]
 fn writes_defaults_and_negative_numbers(rt: HostRuntime) {
-    expect_given(&rt, negative_written(rt.alloc()), &NEGATIVE, "written");
+    expect(&rt, writes_negative(rt.alloc()), Ok(true), "written");
     expect(&rt, reads_negative(rt.alloc()), Ok(true), "read");
 }
 
+fn is_status(number: i32) -> bool {
+    match KeyStatusType::try_from(number) {
+        Ok(value) => value as i32 == number,
+        Err(_) => false,
+    }
+}
+
+fn is_prefix_type(number: i32) -> bool {
+    match OutputPrefixType::try_from(number) {
+        Ok(value) => value as i32 == number,
+        Err(_) => false,
+    }
+}
+
+fn is_material(number: i32) -> bool {
+    match KeyMaterialType::try_from(number) {
+        Ok(value) => value as i32 == number,
+        Err(_) => false,
+    }
+}
+
+fn is_hash(number: i32) -> bool {
+    match HashType::try_from(number) {
+        Ok(value) => value as i32 == number,
+        Err(_) => false,
+    }
+}
+
+// Those below 4 are statuses, below 5 prefix types and materials, and below 6 hashes.
 #[test]
 fn numbers_of_enums(rt: HostRuntime) {
-    for number in 0..4i32 {
-        assert!(rt; KeyStatusType::try_from(number).is_ok_and(|e| e as i32 == number));
-    }
-    for number in 0..5i32 {
-        assert!(rt; OutputPrefixType::try_from(number).is_ok_and(|e| e as i32 == number));
-        assert!(rt; KeyMaterialType::try_from(number).is_ok_and(|e| e as i32 == number));
-    }
     for number in 0..6i32 {
-        assert!(rt; HashType::try_from(number).is_ok_and(|e| e as i32 == number));
+        expect(&rt, is_status(number), number < 4, "a status");
+        expect(&rt, is_prefix_type(number), number < 5, "a prefix type");
+        expect(&rt, is_material(number), number < 5, "a material");
+        expect(&rt, is_hash(number), true, "a hash");
     }
 }
 

@@ -4,7 +4,8 @@ ghost use Rattle.std.specs.Prelude.{◌≡◌, Some, None, MatchOption};
 ghost use Rattle.wire_format.specs.Reading.{varint_in, bytes_at, content_at, field_at};
 ghost use Rattle.wire_format.specs.Message.{as_number, as_enum, as_bytes, as_text};
 ghost use Rattle.tink_proto.specs.View.{content_of, field_of};
-ghost use Rattle.tink_proto.specs.Outcome.{Gives};
+ghost use Rattle.tink_proto.specs.Outcome.{Reads, ReadsAs};
+ghost use Rattle.tink_proto.specs.declared.error.ProtoError.TheVariants.{BadMessage};
 
 use crate::ProtoError;
 
@@ -106,7 +107,7 @@ pub fn next_field(bytes: &[u8]) -> Option<(Field<'_>, &[u8])>
 impl<'a> Content<'a> {
     /// A number of 32 bits, the low ones of a varint; another type is `BadMessage`.
     pub fn number(&self) -> Result<u32, ProtoError>
-        ensures { Gives (λ n. n) result (as_number (content_of self.now)) }
+        ensures { Reads BadMessage result (as_number (content_of self.now)) }
     {
         match self {
             Content::Varint(n) => Ok((*n & 0xffff_ffff) as u32),
@@ -116,7 +117,7 @@ impl<'a> Content<'a> {
 
     /// The number of an enum, the low 32 bits of a varint; another type is `BadMessage`.
     pub fn enum_number(&self) -> Result<i32, ProtoError>
-        ensures { Gives (λ n. n) result (as_enum (content_of self.now)) }
+        ensures { Reads BadMessage result (as_enum (content_of self.now)) }
     {
         match self {
             Content::Varint(n) => Ok(((*n & 0xffff_ffff) as u32).cast_signed()),
@@ -126,7 +127,7 @@ impl<'a> Content<'a> {
 
     /// The bytes of a body; another type is `BadMessage`.
     pub fn body(&self) -> Result<&'a [u8], ProtoError>
-        ensures { Gives (λ b. b.now) result (as_bytes (content_of self.now)) }
+        ensures { ReadsAs BadMessage (λ b. b.now) result (as_bytes (content_of self.now)) }
     {
         match self {
             Content::Body(b) => Ok(*b),
@@ -136,7 +137,7 @@ impl<'a> Content<'a> {
 
     /// The text of a body; another type, and bytes that are not UTF-8, are `BadMessage`.
     pub fn text(&self) -> Result<&'a str, ProtoError>
-        ensures { Gives (λ b. b.now) result (as_text (content_of self.now)) }
+        ensures { ReadsAs BadMessage (λ b. b.now) result (as_text (content_of self.now)) }
     {
         match std::str::from_utf8(self.body()?) {
             Ok(text) => Ok(text),

@@ -5,6 +5,7 @@ ghost use Rattle.wire_format.specs.Message.{as_number, as_enum, as_bytes, as_tex
 ghost use Rattle.wire_format.specs.Values.{pushed, merged};
 ghost use Rattle.tink_proto.specs.View.{content_of};
 ghost use Rattle.tink_proto.specs.Outcome.{Becomes};
+ghost use Rattle.tink_proto.specs.declared.error.ProtoError.TheVariants.{BadMessage};
 
 use crate::wire::{Content, Message, read_fields};
 use crate::{Bytes, ProtoError, Repeated, Text};
@@ -12,7 +13,7 @@ use std::alloc::Global;
 
 /// Reads a number of 32 bits. After an `Err` the field is as before.
 pub fn read_number(slot: &mut u32, content: &Content) -> Result<(), ProtoError>
-    ensures reads { Becomes result slot.new (as_number (content_of content.now)) }
+    ensures reads { Becomes BadMessage result slot.new (as_number (content_of content.now)) }
     ensures err { OnErr result (slot.new ≡ slot.old) }
 {
     *slot = content.number()?;
@@ -21,7 +22,7 @@ pub fn read_number(slot: &mut u32, content: &Content) -> Result<(), ProtoError>
 
 /// Reads the number of an enum. After an `Err` the field is as before.
 pub fn read_enum(slot: &mut i32, content: &Content) -> Result<(), ProtoError>
-    ensures reads { Becomes result slot.new (as_enum (content_of content.now)) }
+    ensures reads { Becomes BadMessage result slot.new (as_enum (content_of content.now)) }
     ensures err { OnErr result (slot.new ≡ slot.old) }
 {
     *slot = content.enum_number()?;
@@ -30,7 +31,7 @@ pub fn read_enum(slot: &mut i32, content: &Content) -> Result<(), ProtoError>
 
 /// Reads bytes. After an `Err` the field is as before.
 pub fn read_bytes(slot: &mut Bytes, alloc: Global, content: &Content) -> Result<(), ProtoError>
-    ensures reads { Becomes result slot.new (as_bytes (content_of content.now)) }
+    ensures reads { Becomes BadMessage result slot.new (as_bytes (content_of content.now)) }
     ensures err { OnErr result (slot.new ≡ slot.old) }
 {
     *slot = Bytes::from_slice(alloc, content.body()?)?;
@@ -39,7 +40,7 @@ pub fn read_bytes(slot: &mut Bytes, alloc: Global, content: &Content) -> Result<
 
 /// Reads text. After an `Err` the field is as before.
 pub fn read_text(slot: &mut Text, alloc: Global, content: &Content) -> Result<(), ProtoError>
-    ensures reads { Becomes result slot.new (as_text (content_of content.now)) }
+    ensures reads { Becomes BadMessage result slot.new (as_text (content_of content.now)) }
     ensures err { OnErr result (slot.new ≡ slot.old) }
 {
     *slot = Text::from_str(alloc, content.text()?)?;
@@ -52,7 +53,7 @@ pub fn read_message<M: Message>(
     alloc: Global,
     content: &Content,
 ) -> Result<(), ProtoError>
-    ensures reads { Becomes result slot.new (merged (M.table).step (M.table).start slot.old (content_of content.now)) }
+    ensures reads { Becomes BadMessage result slot.new (merged (M.table).step (M.table).start slot.old (content_of content.now)) }
     ensures err { OnErr result (slot.new ≡ None) }
 {
     let mut message = match slot.take() {
@@ -70,7 +71,7 @@ pub fn read_list<M: Message>(
     alloc: Global,
     content: &Content,
 ) -> Result<(), ProtoError>
-    ensures reads { Becomes result list.new (pushed (M.table).read list.old (content_of content.now)) }
+    ensures reads { Becomes BadMessage result list.new (pushed (M.table).read list.old (content_of content.now)) }
     ensures err { OnErr result (list.new ≡ list.old) }
 {
     let message = M::decode(alloc, content.body()?)?;

@@ -1,4 +1,4 @@
-//! Writing fields at the end of a `Vec<u8>`. After an `Err`, which is want of memory, nothing is said of it.
+//! Writing fields at the end of a `Vec<u8>`. After an `Err`, which is `OutOfMemory`, nothing is said of it.
 
 ghost use Rattle.std.specs.Int.{cast_unsigned, w64};
 ghost use Rattle.std.specs.Prelude.{◌≡◌, ◌+◌, ◌*◌, ◌<◌, ◌++◌, ◌∷◌, [], map, IsTrue, OnOk};
