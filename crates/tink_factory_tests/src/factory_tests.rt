@@ -143,7 +143,7 @@ fn entries_are_asked_behind_a_prefix(rt: HostRuntime) -> Result<(), Fail> {
 }
 
 #[test]
-fn want_of_memory_ends_the_call(rt: HostRuntime) -> Result<(), Fail> {
+fn out_of_memory_ends_the_call(rt: HostRuntime) -> Result<(), Fail> {
     let alloc = rt.alloc();
     let set = set_of_six(alloc)?;
     for input in [

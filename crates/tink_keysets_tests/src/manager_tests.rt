@@ -187,7 +187,7 @@ fn is_added(alloc: Global, manager: &mut Manager, id: u8, as_primary: bool) -> b
     }
 }
 
-/// A call that is refused for want of memory leaves the keys and the primary id, and one that isn't adds a key.
+/// A call that is refused for `OutOfMemory` leaves the keys and the primary id, and one that isn't adds a key.
 #[test]
 fn a_key_is_added_or_the_keyset_is_left(rt: HostRuntime) -> Result<(), Fail> {
     let alloc = rt.alloc();

@@ -337,7 +337,7 @@ fn has_one_of_each(registry: &Registry<TestManager>) -> bool {
     registry.get_key_manager(URL).is_ok() && has_template(registry, "a", URL) == Some(true)
 }
 
-/// A call that is refused for want of memory registers nothing, and one that isn't registers all.
+/// A call that is refused for `OutOfMemory` registers nothing, and one that isn't registers all.
 #[test]
 fn one_registration_is_whole_or_nothing(rt: HostRuntime) -> Result<(), Fail> {
     let alloc = rt.alloc();

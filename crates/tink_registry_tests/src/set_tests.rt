@@ -237,7 +237,7 @@ fn is_added(
     }
 }
 
-/// A call that is refused for want of memory adds nothing, and one that isn't adds one entry.
+/// A call that is refused for `OutOfMemory` adds nothing, and one that isn't adds one entry.
 #[test]
 fn an_entry_is_added_or_the_set_is_left(rt: HostRuntime) -> Result<(), Fail> {
     let mut set = PrimitiveSet::new(rt.alloc());
