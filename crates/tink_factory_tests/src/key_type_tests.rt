@@ -54,14 +54,13 @@ fn what_the_manager_says_of_its_keys(rt: HostRuntime) -> Result<(), Fail> {
 }
 
 // Whether the data are those of the test URL, with this value and of the material 1.
-fn are_data(
-    made: Result<KeyData, TinkError>,
-    want: &[u8],
-) -> Result<bool, TinkError> {
+fn are_data(made: Result<KeyData, TinkError>, want: &[u8]) -> Result<bool, TinkError> {
     match made {
-        Ok(data) => Ok(data.type_url.as_str() == "type.test/key"
-            && data.key_material_type == 1
-            && data.value.as_slice() == want),
+        Ok(data) => Ok(
+            data.type_url.as_str() == "type.test/key"
+                && data.key_material_type == 1
+                && data.value.as_slice() == want,
+        ),
         Err(e) => Err(e),
     }
 }

@@ -24,7 +24,7 @@ pub struct SymmetricKeyManager<T> {
 impl<T: KeyType> SymmetricKeyManager<T> {
     /// The manager of `T`'s keys. It holds nothing, so that there is one.
     pub fn new() -> Self
-        ensures { result ≡ record { keys = record { } } }
+        ensures { result ≡ record { keys = record {} } }
     {
         SymmetricKeyManager { keys: PhantomData }
     }

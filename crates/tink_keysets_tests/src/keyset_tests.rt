@@ -54,11 +54,7 @@ fn a_handle_holds_keys_of_known_material(rt: HostRuntime) -> Result<(), Fail> {
 }
 
 // The kind that refuses a handle without secrets of one key, if one does.
-fn secret_refusal_of(
-    alloc: Global,
-    material: i32,
-    status: i32,
-) -> Result<Option<Kind>, TinkError> {
+fn secret_refusal_of(alloc: Global, material: i32, status: i32) -> Result<Option<Kind>, TinkError> {
     let keys = vec![in alloc; key(alloc, material, status, 7)?]?;
     Ok(kind_of(Handle::new_with_no_secrets(keyset(7, keys))))
 }

@@ -235,10 +235,7 @@ fn private_keys(alloc: Global) -> Result<Registry<TestManager>, TinkError> {
 }
 
 // The keyset of the public part of a private key of id 7.
-fn public_material(
-    alloc: Global,
-    registry: &Registry<TestManager>,
-) -> Result<Keyset, TinkError> {
+fn public_material(alloc: Global, registry: &Registry<TestManager>) -> Result<Keyset, TinkError> {
     let private = key(alloc, 2, 1, 7)?;
     let public = public_part(alloc, registry, private)?;
     keyset_material(alloc, &public)

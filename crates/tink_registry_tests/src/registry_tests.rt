@@ -105,9 +105,11 @@ fn new_key(
 // Whether the data are the test URL's, with sixteen bytes 7 and of the material 1.
 fn are_sevens(made: Result<KeyData, TinkError>) -> Result<bool, TinkError> {
     match made {
-        Ok(kd) => Ok(kd.type_url.as_str() == URL
-            && kd.value.as_slice() == [7; 16].as_slice()
-            && kd.key_material_type == 1),
+        Ok(kd) => Ok(
+            kd.type_url.as_str() == URL
+                && kd.value.as_slice() == [7; 16].as_slice()
+                && kd.key_material_type == 1,
+        ),
         Err(e) => Err(e),
     }
 }
