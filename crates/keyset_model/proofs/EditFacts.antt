@@ -1,5 +1,5 @@
 -- Small edits, by computing.
-use Rattle.std.proofs.Common.{◌≡◌, ℕ, ℤ, pos, List, [], ◌∷◌, Option, Some, None, true, false, Ok, Err, refl}
+use Rattle.std.proofs.Common.{◌≡◌, ℕ, pos, List, [], ◌∷◌, Some, None, true, false, Ok, Err, refl}
 use Rattle.tink_io.specs.declared.error.Kind.TheVariants.{KeyNotFound, IsPrimary, WrongStatus, NotEnabled, RandomFault, NoFreshId}
 use Rattle.tink_proto.specs.declared.messages.keys.Key.{Key}
 use Rattle.tink_proto.specs.declared.messages.keys.KeyData.{KeyData}
@@ -10,15 +10,7 @@ use Rattle.keyset_model.specs.Edits.{enable, disable, destroy, delete, set_prima
 use Rattle.keyset_model.specs.Adding.{fresh_id}
 use Rattle.keyset_model.specs.Entries.{output_prefix}
 use Rattle.keyset_model.specs.Secrets.{has_secrets}
-
-abbrev data_of : ℤ → Option KeyData
-data_of material = Some (record { type_url = []; value = []; key_material_type = material })
-
-abbrev key_of : Option KeyData → ℤ → ℕ → ℤ → Key
-key_of d status id prefix = record { key_data = d; status = status; key_id = id; output_prefix_type = prefix }
-
-abbrev key : ℤ → ℕ → Key
-key status id = key_of (data_of (pos 1)) status id (pos 3)
+use Rattle.keyset_model.proofs.SmallKeys.{data_of, key, key_of}
 
 abbrev keyset_of : List Key → Keyset
 keyset_of keys = record { primary_key_id = 7; key = keys }

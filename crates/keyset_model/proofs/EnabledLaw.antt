@@ -10,7 +10,7 @@ use Rattle.tink_proto.specs.Enums.{status_number}
 use Rattle.keyset_model.specs.Commands as commands
 use Rattle.keyset_model.specs.Commands.{Command, Managed, Maker, after_all}
 use Rattle.keyset_model.specs.Keys.{enabled, is_enabled}
-use Rattle.keyset_model.specs.Laws.{Gives, IsKept}
+use Rattle.keyset_model.specs.Laws.{SetsStatus, IsKept}
 use Rattle.keyset_model.proofs.KeysLaw.{keeps_keys}
 use Rattle.keyset_model.specs.Spared.{KeepsEnabled, Spares}
 
@@ -42,7 +42,7 @@ key_eq x y d s i p =
     ap₂ (λ kd st. record x { key_data = kd; status = st }) d s ∙ ap₂ (λ id pt. record y { key_id = id; output_prefix_type = pt }) i p
 
 -- a status that a sparing command gives is that of an enabled key
-gives_enabled : (id : ℕ) (status : ℤ) (c : Command) → Spares id c → Gives id status c → status ≡ status_number Enabled
+gives_enabled : (id : ℕ) (status : ℤ) (c : Command) → Spares id c → SetsStatus id status c → status ≡ status_number Enabled
 gives_enabled id status (commands.Add _) spares gives = absurd gives
 gives_enabled id status (commands.Rotate _) spares gives = absurd gives
 gives_enabled id status (commands.Enable n) spares gives = gives.1
@@ -55,7 +55,7 @@ module _ (cs : List Command) (k : Key) (on : is_enabled k ≡ true) (spared : Al
   is_on : k.status ≡ status_number Enabled
   is_on = (Decides-int_eq k.status (status_number Enabled)).0 on
 
-  same_status : (now : Key) → (now.status ≡ k.status) ⊎ Any (Gives k.key_id now.status) cs → now.status ≡ k.status
+  same_status : (now : Key) → (now.status ≡ k.status) ⊎ Any (SetsStatus k.key_id now.status) cs → now.status ≡ k.status
   same_status now (inl e) = e
   same_status now (inr h) =
       gives_enabled k.key_id now.status h.1 (All-contains (Spares k.key_id) cs h.1 spared (h.0, h.2, h.3)) h.4 ∙ sym is_on

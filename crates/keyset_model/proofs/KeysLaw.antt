@@ -13,7 +13,7 @@ use Rattle.keyset_model.specs.Commands as commands
 use Rattle.keyset_model.specs.Commands.{Maker, Command, Managed, after, after_all, edit, keyset_after}
 use Rattle.keyset_model.specs.Edits.{as_destroyed, is_live, is_known_status, status_of, with_first, with_status, without_first}
 use Rattle.keyset_model.specs.Keys.{has_id}
-use Rattle.keyset_model.specs.Laws.{Gives, IsKept, KeepsKeys}
+use Rattle.keyset_model.specs.Laws.{SetsStatus, IsKept, KeepsKeys}
 use Rattle.keyset_model.proofs.Steps.{Becomes, HasChanged, step}
 
 -- ---- elements of a list, from its head on
@@ -131,7 +131,7 @@ kept_longer : (c : Command) (cs : List Command) (k now : Key) → IsKept cs k no
 kept_longer c cs k now kept = record {
   id = kept.id;
   prefix = kept.prefix;
-  status = ⊎_elim inl (λ a. inr (any_tail (Gives k.key_id now.status) c cs a)) kept.status;
+  status = ⊎_elim inl (λ a. inr (any_tail (SetsStatus k.key_id now.status) c cs a)) kept.status;
   key_data = ⊎_elim inl (λ gone. inr (gone.0, in_tail c (commands.Destroy k.key_id) cs gone.1)) kept.key_data;
   stays = kept.stays;
 }
@@ -140,11 +140,11 @@ not_destroyed : (s : ℤ) → is_live s ≡ true → s ≡ status_number Destroy
 not_destroyed s live is = let dead : is_live (pos 3) ≡ true = subst (λ x. is_live x ≡ true) is live in absurd (cc)
 
 -- a status given first, and what follows
-given : (c : Command) (cs : List Command) (id : ℕ) (now first : ℤ) → Gives id first c → (now ≡ first) ⊎ Any (Gives id now) cs → Any (Gives id now) (c ∷ cs)
+given : (c : Command) (cs : List Command) (id : ℕ) (now first : ℤ) → SetsStatus id first c → (now ≡ first) ⊎ Any (SetsStatus id now) cs → Any (SetsStatus id now) (c ∷ cs)
 given c cs id now first gives h =
-    ⊎_elim (λ same. any_head (Gives id now) c cs (subst (λ s. Gives id s c) (sym same) gives)) (λ a. any_tail (Gives id now) c cs a) h
+    ⊎_elim (λ same. any_head (SetsStatus id now) c cs (subst (λ s. SetsStatus id s c) (sym same) gives)) (λ a. any_tail (SetsStatus id now) c cs a) h
 
-enabled_first : (c : Command) (cs : List Command) (k mid now : Key) (s : ℤ) → Gives k.key_id s c → is_live k.status ≡ true → mid ≡ record k { status = s } → IsKept cs mid now → IsKept (c ∷ cs) k now
+enabled_first : (c : Command) (cs : List Command) (k mid now : Key) (s : ℤ) → SetsStatus k.key_id s c → is_live k.status ≡ true → mid ≡ record k { status = s } → IsKept cs mid now → IsKept (c ∷ cs) k now
 enabled_first c cs k mid now s gives live is was =
     let kept : IsKept cs (record k { status = s }) now = subst (λ x. IsKept cs x now) is was in
     record {

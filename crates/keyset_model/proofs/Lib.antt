@@ -5,6 +5,7 @@ pub mod FreshIds
 pub mod IdsLaw
 pub mod KeysLaw
 pub mod PrimaryLaw
+mod SmallKeys
 pub mod Steps
 pub mod ValidLaw
 mod ValidityFacts

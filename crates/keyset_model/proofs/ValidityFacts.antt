@@ -1,22 +1,12 @@
 -- Small keysets, valid and not, by computing.
-use Rattle.std.proofs.Common.{◌≡◌, ℕ, ℤ, pos, List, [], ◌∷◌, Option, Some, None, true, false, refl}
+use Rattle.std.proofs.Common.{◌≡◌, ℕ, pos, List, [], ◌∷◌, None, true, false, refl}
 use Rattle.tink_proto.specs.declared.messages.keys.Key.{Key}
-use Rattle.tink_proto.specs.declared.messages.keys.KeyData.{KeyData}
 use Rattle.tink_proto.specs.declared.messages.keys.Keyset.{Keyset}
 use Rattle.keyset_model.specs.Validity.{is_valid, is_held_keyset, is_validated}
+use Rattle.keyset_model.proofs.SmallKeys.{data_of, key, key_of}
 
 abbrev keyset_of : ℕ → List Key → Keyset
 keyset_of primary keys = record { primary_key_id = primary; key = keys }
-
-abbrev data_of : ℤ → Option KeyData
-data_of material = Some (record { type_url = []; value = []; key_material_type = material })
-
-abbrev key_of : Option KeyData → ℤ → ℕ → ℤ → Key
-key_of data_there status id prefix = record { key_data = data_there; status = status; key_id = id; output_prefix_type = prefix }
-
--- a symmetric key with status and id, raw
-abbrev key : ℤ → ℕ → Key
-key status id = key_of (data_of (pos 1)) status id (pos 3)
 
 one_key : is_valid (keyset_of 7 (key (pos 1) 7 ∷ [])) ≡ true
 one_key = refl

@@ -35,14 +35,14 @@ RefusedEditLeaves =
 -- ---- lists of commands
 
 -- the command gives a key of the id the status
-abbrev pub Gives : ℕ → ℤ → Command → Type 0
-Gives id status (Add _) = ⊥
-Gives id status (Rotate _) = ⊥
-Gives id status (Enable n) = (n ≡ id) × (status ≡ status_number statuses.Enabled)
-Gives id status (Disable n) = (n ≡ id) × (status ≡ status_number statuses.Disabled)
-Gives id status (Destroy n) = (n ≡ id) × (status ≡ status_number statuses.Destroyed)
-Gives id status (Delete _) = ⊥
-Gives id status (SetPrimary _) = ⊥
+abbrev pub SetsStatus : ℕ → ℤ → Command → Type 0
+SetsStatus id status (Add _) = ⊥
+SetsStatus id status (Rotate _) = ⊥
+SetsStatus id status (Enable n) = (n ≡ id) × (status ≡ status_number statuses.Enabled)
+SetsStatus id status (Disable n) = (n ≡ id) × (status ≡ status_number statuses.Disabled)
+SetsStatus id status (Destroy n) = (n ≡ id) × (status ≡ status_number statuses.Destroyed)
+SetsStatus id status (Delete _) = ⊥
+SetsStatus id status (SetPrimary _) = ⊥
 
 -- the key is destroyed, and has no data
 pub record IsGone (k : Key) : Type 0 where
@@ -54,7 +54,7 @@ pub record IsGone (k : Key) : Type 0 where
 pub record IsKept (commands : List Command) (k now : Key) : Type 0 where
   pub id : now.key_id ≡ k.key_id
   pub prefix : now.output_prefix_type ≡ k.output_prefix_type
-  pub status : (now.status ≡ k.status) ⊎ Any (Gives k.key_id now.status) commands
+  pub status : (now.status ≡ k.status) ⊎ Any (SetsStatus k.key_id now.status) commands
   pub key_data : (now.key_data ≡ k.key_data) ⊎ (IsGone now × Contains commands (Destroy k.key_id))
   pub stays : k.status ≡ status_number statuses.Destroyed → now.status ≡ status_number statuses.Destroyed
 

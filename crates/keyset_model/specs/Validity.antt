@@ -65,8 +65,8 @@ is_validated ks =
 abbrev pub is_valid : Keyset → Bool
 is_valid ks = is_held_keyset ks && is_validated ks
 
-abbrev pub IsHeld : Keyset → Type 0
-IsHeld ks = IsTrue (is_held_keyset ks)
+abbrev pub MayBeHeld : Keyset → Type 0
+MayBeHeld ks = IsTrue (is_held_keyset ks)
 
 abbrev pub IsValidated : Keyset → Type 0
 IsValidated ks = IsTrue (is_validated ks)

@@ -1,9 +1,8 @@
 //! AES keys of 16 or 32 bytes.
 
 ghost use Rattle.std.specs.Prelude.{◌≡◌, length, if◌then◌else◌, Ok, Err, MatchOption};
-ghost use Rattle.tink_io.specs.Told.{Answers};
+ghost use Rattle.tink_io.specs.Told.{Answers, Tells};
 ghost use Rattle.tink_io.specs.declared.error.Kind.TheVariants.{BadKeySize};
-ghost use Rattle.tink_primitives.specs.Meaning.{Gives};
 ghost use Rattle.tink_aead_subtle.specs.KeySizes.{is_aes_key_size, sized};
 
 use std::alloc::Global;
@@ -14,7 +13,7 @@ use tink_proto::Bytes;
 
 /// Refuses a size in bytes by `BadKeySize`, unless it is 16 or 32.
 pub fn validate_aes_key_size(size_in_bytes: usize) -> Result<(), TinkError>
-    ensures { Gives result (if is_aes_key_size size_in_bytes then Ok tt else Err BadKeySize) }
+    ensures { Tells result (if is_aes_key_size size_in_bytes then Ok tt else Err BadKeySize) }
 {
     match size_in_bytes {
         16 | 32 => Ok(()),

@@ -1,9 +1,8 @@
 //! Encryption and then a MAC.
 
 ghost use Rattle.std.specs.Prelude.{◌≡◌, ◌<◌, ◌^◌, length, nat_le, if◌then◌else◌, Ok, Err, IfOk};
-ghost use Rattle.tink_io.specs.Told.{Answers, Replies};
+ghost use Rattle.tink_io.specs.Told.{Answers, Replies, Tells};
 ghost use Rattle.tink_io.specs.declared.error.Kind.TheVariants.{BadTagSize};
-ghost use Rattle.tink_primitives.specs.Meaning.{Gives};
 ghost use Rattle.tink_aead_subtle.specs.Composed.{authenticated, composed_decrypts, composed_encrypts, tagged};
 
 use crate::ind_cpa::IndCpaCipher;
@@ -39,7 +38,7 @@ impl<C: IndCpaCipher + Drop, M: Mac + Drop> EncryptThenAuthenticate<C, M> {
         mac: M,
         tag_size: usize,
     ) -> Result<EncryptThenAuthenticate<C, M>, TinkError>
-        ensures { Gives result (if nat_le 10 tag_size then Ok (record { ind_cpa_cipher = ind_cpa_cipher; mac = mac; tag_size = tag_size }) else Err BadTagSize) }
+        ensures { Tells result (if nat_le 10 tag_size then Ok (record { ind_cpa_cipher = ind_cpa_cipher; mac = mac; tag_size = tag_size }) else Err BadTagSize) }
     {
         if tag_size < MIN_TAG_SIZE {
             return Err(TinkError::new(Kind::BadTagSize));

@@ -6,8 +6,7 @@ ghost use Rattle.gcm.specs.Limits.{MOST_GCM, MOST_GCM_SIV};
 ghost use Rattle.gcm.specs.Siv.{cipher_of};
 ghost use Rattle.standards.specs.Gcm.{gcm};
 ghost use Rattle.standards.specs.GcmSiv.{encryption_key, gcm_siv};
-ghost use Rattle.tink_io.specs.Told.{Answers, Replies};
-ghost use Rattle.tink_primitives.specs.Meaning.{Gives};
+ghost use Rattle.tink_io.specs.Told.{Answers, Replies, Tells};
 ghost use Rattle.tink_aead_subtle.specs.NonceAeads.{decryption, encryption, gcm_text_of, gcm_siv_text_of, kind_of, limited};
 
 use cipher::{BlockCipherEncrypt, KeyInit};
@@ -149,7 +148,7 @@ fn kind_of(e: GcmError) -> Kind
 
 // Refuses associated data and a text by their lengths.
 fn check_lengths(additional_data: usize, text: usize, most: usize) -> Result<(), TinkError>
-    ensures { Gives result (limited most additional_data text) }
+    ensures { Tells result (limited most additional_data text) }
 {
     if additional_data > MOST_DATA {
         return Err(TinkError::new(Kind::DataTooLong));

@@ -47,68 +47,66 @@ fn has_primary(set: &PrimitiveSet<TestKinds>, id: u32, want: &[u8]) -> bool {
     }
 }
 
-fn push(keys: &mut Vec<Key>, key: Result<Key, TinkError>) -> Result<(), TinkError> {
-    keys.push(key?)?;
-    Ok(())
+// An enabled RAW key of the test URL.
+fn raw_key(alloc: Global, value: &[u8], id: u32) -> Result<Key, TinkError> {
+    enabled_key(alloc, URL, value, OutputPrefixType::Raw, id)
 }
 
 // An enabled raw key of id 8, a disabled and an enabled key of ids 9 and 7 with a prefix, and a destroyed one.
 fn four_keys(alloc: Global) -> Result<Handle, TinkError> {
-    let mut keys = vec![in alloc; bare(3, 8)]?;
-    push(
-        &mut keys,
-        enabled_key(alloc, URL, b"rr", OutputPrefixType::Raw, 8),
-    )?;
-    push(&mut keys, key(alloc, 1, 2, 9))?;
-    push(&mut keys, key(alloc, 1, 1, 7))?;
+    let keys = vec![in alloc;
+        bare(3, 8),
+        raw_key(alloc, b"rr", 8)?,
+        key(alloc, 1, 2, 9)?,
+        key(alloc, 1, 1, 7)?,
+    ]?;
     handle_of(7, keys)
 }
 
 // The set of a handle's primitives, built by the manager.
 fn set_of(
     alloc: Global,
-    h: Handle,
+    h: &Handle,
     manager: TestManager,
 ) -> Result<PrimitiveSet<TestKinds>, TinkError> {
-    h.primitives(alloc, &registry_of(alloc, manager)?)
+    let registry = registry_of(alloc, manager)?;
+    h.primitives(alloc, &registry)
+}
+
+fn set_of_four(alloc: Global) -> Result<PrimitiveSet<TestKinds>, TinkError> {
+    let h = four_keys(alloc)?;
+    set_of(alloc, &h, LENIENT)
 }
 
 #[test]
 fn enabled_keys_stand_by_their_prefix(rt: HostRuntime) -> Result<(), Fail> {
-    let set = set_of(rt.alloc(), four_keys(rt.alloc())?, LENIENT)?;
-    expect(
-        &rt,
-        is_entry(set.raw_entries(), 8, b"rr"),
-        true,
-        "the RAW key",
-    );
+    let set = set_of_four(rt.alloc())?;
+    let raw = is_entry(set.raw_entries(), 8, b"rr");
+    expect(&rt, raw, true, "the RAW key");
     let tink = set.entries_for_prefix(b"\x01\x00\x00\x00\x07");
     expect(&rt, is_entry(tink, 7, b"\xaa\xbb"), true, "the TINK key");
     let disabled = set.entries_for_prefix(b"\x01\x00\x00\x00\x09");
     expect(&rt, disabled.len(), 0, "the disabled key");
-    expect(
-        &rt,
-        has_primary(&set, 7, b"\xaa\xbb"),
-        true,
-        "the primary key",
-    );
+    let primary = has_primary(&set, 7, b"\xaa\xbb");
+    expect(&rt, primary, true, "the primary key");
     Ok(())
 }
 
 // The handle of two keys, the second one of which has the URL and the value.
 fn with_second(alloc: Global, type_url: &str, value: &[u8]) -> Result<Handle, TinkError> {
-    let first = enabled_key(alloc, URL, &[5; 16], OutputPrefixType::Raw, 7)?;
-    let mut keys = vec![in alloc; first]?;
-    push(
-        &mut keys,
-        enabled_key(alloc, type_url, value, OutputPrefixType::Raw, 8),
-    )?;
+    let keys = vec![in alloc;
+        raw_key(alloc, &[5; 16], 7)?,
+        enabled_key(alloc, type_url, value, OutputPrefixType::Raw, 8)?,
+    ]?;
     handle_of(7, keys)
 }
 
-// The kind by which the set of two keys is refused.
-fn refusal_of(alloc: Global, type_url: &str, value: &[u8]) -> Result<Option<Kind>, TinkError> {
-    Ok(kind_of(set_of(alloc, with_second(alloc, type_url, value)?, STRICT)))
+// The kind by which the set of a handle is refused.
+fn refusal_of(alloc: Global, h: Result<Handle, TinkError>) -> Option<Kind> {
+    match h {
+        Ok(h) => kind_of(set_of(alloc, &h, STRICT)),
+        Err(e) => Some(e.kind),
+    }
 }
 
 #[test]
@@ -118,7 +116,8 @@ fn the_first_key_that_does_not_build_refuses(rt: HostRuntime) -> Result<(), Fail
         ("x", b"v", Kind::UnsupportedKeyType),
         (URL, b"v", Kind::InvalidKey),
     ] {
-        let refused = refusal_of(rt.alloc(), type_url, value)?;
+        let h = with_second(rt.alloc(), type_url, value);
+        let refused = refusal_of(rt.alloc(), h);
         expect(&rt, refused, Some(want), type_url);
     }
     Ok(())
@@ -126,32 +125,40 @@ fn the_first_key_that_does_not_build_refuses(rt: HostRuntime) -> Result<(), Fail
 
 // A handle whose primary id no key has.
 fn without_primary(alloc: Global) -> Result<Handle, TinkError> {
-    handle_of(9, vec![in alloc; key(alloc, 1, 1, 7)?]?)
+    let keys = vec![in alloc; key(alloc, 1, 1, 7)?]?;
+    handle_of(9, keys)
 }
 
 #[test]
 fn a_keyset_without_primary_gives_no_set(rt: HostRuntime) -> Result<(), Fail> {
-    let refused = set_of(rt.alloc(), without_primary(rt.alloc())?, STRICT);
-    expect(
-        &rt,
-        kind_of(refused),
-        Some(Kind::InvalidKeyset),
-        "no primary",
-    );
+    let refused = refusal_of(rt.alloc(), without_primary(rt.alloc()));
+    let want = Some(Kind::InvalidKeyset);
+    expect(&rt, refused, want, "no primary");
     Ok(())
 }
 
-// The number of RAW entries that a given manager builds beside a registry of nothing.
+// The set that a given manager builds of a handle beside a registry of nothing.
+fn set_by(
+    alloc: Global,
+    h: &Handle,
+    manager: &TestManager,
+) -> Result<PrimitiveSet<TestKinds>, TinkError> {
+    let nothing: Registry<TestManager> = Registry::new(alloc);
+    h.primitives_with_key_manager(alloc, &nothing, Some(manager))
+}
+
+// The number of RAW entries that a given manager builds of two keys.
 fn given(
     alloc: Global,
     type_url: &str,
     value: &[u8],
     manager: &TestManager,
 ) -> Result<usize, TinkError> {
-    let nothing: Registry<TestManager> = Registry::new(alloc);
     let h = with_second(alloc, type_url, value)?;
-    let set = h.primitives_with_key_manager(alloc, &nothing, Some(manager))?;
-    Ok(set.raw_entries().len())
+    match set_by(alloc, &h, manager) {
+        Ok(set) => Ok(set.raw_entries().len()),
+        Err(e) => Err(e),
+    }
 }
 
 #[test]

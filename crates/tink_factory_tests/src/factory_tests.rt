@@ -81,16 +81,13 @@ fn put(
     id: u32,
     held: &[u8],
 ) -> Result<(), TinkError> {
-    let p = Primitive::Aead(TestAead {
-        key: Bytes::from_slice(alloc, held)?,
-    });
     let of = enabled_key(alloc, URL, held, prefix, id)?;
-    set.put(alloc, p, &of)
+    let key = Bytes::from_slice(alloc, held)?;
+    set.put(alloc, Primitive::Aead(TestAead { key }), &of)
 }
 
-// The entries of ids 7 and 9 with a prefix, and of 8, 5, 6 and 4 without one.
-fn set_of_six(alloc: Global) -> Result<TypedPrimitiveSet<TestAead>, TinkError> {
-    let mut set = PrimitiveSet::new(alloc);
+// Puts the entries of ids 7 and 9 with a prefix, and of 8, 5, 6 and 4 without one.
+fn put_six(alloc: Global, set: &mut PrimitiveSet<TestKinds>) -> Result<(), TinkError> {
     for (prefix, id, held) in [
         (OutputPrefixType::Tink, 7, b"ab".as_slice()),
         (OutputPrefixType::Raw, 8, b"\x01\x00\x00\x00\x07ab"),
@@ -99,8 +96,15 @@ fn set_of_six(alloc: Global) -> Result<TypedPrimitiveSet<TestAead>, TinkError> {
         (OutputPrefixType::Tink, 9, b""),
         (OutputPrefixType::Raw, 4, b"\x01\x00\x00\x00\x09"),
     ] {
-        put(alloc, &mut set, prefix, id, held)?;
+        put(alloc, set, prefix, id, held)?;
     }
+    Ok(())
+}
+
+// Their set.
+fn set_of_six(alloc: Global) -> Result<TypedPrimitiveSet<TestAead>, TinkError> {
+    let mut set = PrimitiveSet::new(alloc);
+    put_six(alloc, &mut set)?;
     TypedPrimitiveSet::from_set_aead(alloc, set)
 }
 
@@ -139,7 +143,7 @@ fn entries_are_asked_behind_a_prefix(rt: HostRuntime) -> Result<(), Fail> {
 }
 
 #[test]
-fn want_of_memory_ends_the_call(rt: HostRuntime) -> Result<(), Fail> {
+fn out_of_memory_ends_the_call(rt: HostRuntime) -> Result<(), Fail> {
     let alloc = rt.alloc();
     let set = set_of_six(alloc)?;
     for input in [
@@ -162,23 +166,19 @@ fn registry(alloc: Global) -> Result<Registry<TestManager>, TinkError> {
     registry_of(alloc, manager)
 }
 
-// The set of AEADs of keys.
-fn aeads_of(
-    alloc: Global,
-    primary_key_id: u32,
-    keys: Vec<Key>,
-) -> Result<TypedPrimitiveSet<TestAead>, TinkError> {
-    let h = handle_of(primary_key_id, keys)?;
-    typed_primitives::<TestManager, Aeads>(alloc, &h, &registry(alloc)?)
+// The set of AEADs of a handle.
+fn aeads_of(alloc: Global, h: &Handle) -> Result<TypedPrimitiveSet<TestAead>, TinkError> {
+    let registry = registry(alloc)?;
+    typed_primitives::<TestManager, Aeads>(alloc, h, &registry)
 }
 
 // A TINK key of id 7, and a RAW key of id 8 with the value.
-fn two_keys(alloc: Global, value: &[u8]) -> Result<Vec<Key>, TinkError> {
+fn two_keys(alloc: Global, value: &[u8]) -> Result<Handle, TinkError> {
     let keys = vec![in alloc;
         enabled_key(alloc, URL, value, OutputPrefixType::Raw, 8)?,
         enabled_key(alloc, URL, b"cd", OutputPrefixType::Tink, 7)?,
     ]?;
-    Ok(keys)
+    handle_of(7, keys)
 }
 
 fn has_primary(set: &TypedPrimitiveSet<TestAead>, want: &[u8]) -> bool {
@@ -188,50 +188,70 @@ fn has_primary(set: &TypedPrimitiveSet<TestAead>, want: &[u8]) -> bool {
     }
 }
 
+fn two_aeads(alloc: Global) -> Result<TypedPrimitiveSet<TestAead>, TinkError> {
+    let h = two_keys(alloc, b"ab")?;
+    aeads_of(alloc, &h)
+}
+
 #[test]
 fn a_handle_gives_a_set_of_one_sort(rt: HostRuntime) -> Result<(), Fail> {
-    let alloc = rt.alloc();
-    let set = aeads_of(alloc, 7, two_keys(alloc, b"ab")?)?;
+    let set = two_aeads(rt.alloc())?;
     expect(&rt, has_primary(&set, b"cd"), true, "the primary one");
-    let answer = ask_entries(alloc, &set, &Holds, b"ab", Kind::DecryptFailed);
+    let answer = ask_entries(rt.alloc(), &set, &Holds, b"ab", Kind::DecryptFailed);
     expect(&rt, answer, Ok(8), "the other one");
     Ok(())
 }
 
+// How the set of AEADs of a handle is refused.
+fn refusal_as_aeads(alloc: Global, h: Result<Handle, TinkError>) -> Option<Kind> {
+    match h {
+        Ok(h) => kind_of(aeads_of(alloc, &h)),
+        Err(e) => Some(e.kind),
+    }
+}
+
+// How that of MACs is refused.
+fn refusal_as_macs(alloc: Global, h: &Handle) -> Result<Option<Kind>, TinkError> {
+    let registry = registry(alloc)?;
+    Ok(kind_of(macs_of(alloc, h, &registry)))
+}
+
 #[test]
-fn a_key_of_another_sort_is_refused(rt: HostRuntime) -> Result<(), Fail> {
-    let alloc = rt.alloc();
+fn a_streaming_aead_is_no_aead(rt: HostRuntime) -> Result<(), Fail> {
+    let refused = refusal_as_aeads(rt.alloc(), two_keys(rt.alloc(), b"a"));
     let wrong = Some(Kind::WrongPrimitive);
-    let refused = aeads_of(alloc, 7, two_keys(alloc, b"a")?);
-    expect(&rt, kind_of(refused), wrong, "a streaming AEAD");
-    let h = handle_of(7, two_keys(alloc, b"ab")?)?;
-    let refused = macs_of(alloc, &h, &registry(alloc)?);
-    expect(&rt, kind_of(refused), wrong, "no MACs");
+    expect(&rt, refused, wrong, "a streaming AEAD");
     Ok(())
 }
 
-// A RAW streaming key of id 8 and this material.
-fn streaming_key(alloc: Global, material: i32) -> Result<Vec<Key>, TinkError> {
+#[test]
+fn aeads_are_no_macs(rt: HostRuntime) -> Result<(), Fail> {
+    let h = two_keys(rt.alloc(), b"ab")?;
+    let refused = refusal_as_macs(rt.alloc(), &h);
+    let wrong = Some(Kind::WrongPrimitive);
+    expect(&rt, refused, Ok(wrong), "no MACs");
+    Ok(())
+}
+
+// A RAW streaming key of id 8 and this material, where the primary id is 7.
+fn streaming_key(alloc: Global, material: i32) -> Result<Handle, TinkError> {
+    let key_data = data_of(alloc, URL, b"a", material)?;
     let key = Key {
-        key_data: Some(data_of(alloc, URL, b"a", material)?),
+        key_data: Some(key_data),
         status: 1,
         key_id: 8,
         output_prefix_type: 3,
     };
-    Ok(vec![in alloc; key]?)
+    let keys = vec![in alloc; key]?;
+    handle_of(7, keys)
 }
 
 #[test]
 fn no_primary_stands_before_another_sort(rt: HostRuntime) -> Result<(), Fail> {
-    let alloc = rt.alloc();
     for (material, want) in [(3, Kind::NoPrimary), (1, Kind::InvalidKeyset)] {
-        let refused = aeads_of(alloc, 7, streaming_key(alloc, material)?);
-        expect(
-            &rt,
-            kind_of(refused),
-            Some(want),
-            "a keyset without its primary key",
-        );
+        let h = streaming_key(rt.alloc(), material);
+        let refused = refusal_as_aeads(rt.alloc(), h);
+        expect(&rt, refused, Some(want), "without its primary key");
     }
     Ok(())
 }

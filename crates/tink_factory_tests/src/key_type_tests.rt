@@ -1,6 +1,6 @@
 //! A manager of test keys.
 
-use crate::expecting::{expect, expect_bytes};
+use crate::expecting::{expect, expect_bytes, gives};
 use crate::test_keys::TestKeys;
 use std::alloc::Global;
 use std::test::Fail;
@@ -19,10 +19,8 @@ fn manager() -> SymmetricKeyManager<TestKeys> {
 }
 
 fn key_of(alloc: Global, version: u32, value: &[u8]) -> Result<Bytes, Fail> {
-    let key = AesGcmKey {
-        version,
-        key_value: Bytes::from_slice(alloc, value)?,
-    };
+    let key_value = Bytes::from_slice(alloc, value)?;
+    let key = AesGcmKey { version, key_value };
     Ok(key.encode(alloc)?)
 }
 
@@ -42,75 +40,65 @@ fn format_bytes(alloc: Global, key_size: u32) -> Result<Bytes, Fail> {
 fn what_the_manager_says_of_its_keys(rt: HostRuntime) -> Result<(), Fail> {
     let m = manager();
     expect(&rt, m.type_url() == "type.test/key", true, "its URL");
-    expect(
-        &rt,
-        m.does_support("type.test/key"),
-        true,
-        "its URL is supported",
-    );
-    expect(
-        &rt,
-        m.does_support("type.test/ke"),
-        false,
-        "another one is not",
-    );
+    let supported = m.does_support("type.test/key");
+    expect(&rt, supported, true, "its URL is supported");
+    let supported = m.does_support("type.test/ke");
+    expect(&rt, supported, false, "another one is not");
     let is_symmetric = m.key_material_type() == KeyMaterialType::Symmetric;
     expect(&rt, is_symmetric, true, "its material");
     expect(&rt, m.supports_private_keys(), false, "private keys");
-    let public = m.public_key_data(rt.alloc(), &[]);
-    expect(
-        &rt,
-        kind_of(public),
-        Some(Kind::NoPrivateKeys),
-        "a public part",
-    );
+    let public = kind_of(m.public_key_data(rt.alloc(), &[]));
+    let none = Some(Kind::NoPrivateKeys);
+    expect(&rt, public, none, "a public part");
     Ok(())
 }
 
-// A new key of sixteen bytes.
-fn new_key(alloc: Global, draws: &mut Draws) -> Result<Bytes, Fail> {
-    let format = format_bytes(alloc, 16)?;
-    Ok(manager().new_key(alloc, format.as_slice(), draws)?)
-}
-
-// The data of one.
-fn new_key_data(alloc: Global, draws: &mut Draws) -> Result<KeyData, Fail> {
-    let format = format_bytes(alloc, 16)?;
-    Ok(manager().new_key_data(alloc, format.as_slice(), draws)?)
+// Whether the data are those of the test URL, with this value and of the material 1.
+fn are_data(made: Result<KeyData, TinkError>, want: &[u8]) -> Result<bool, TinkError> {
+    match made {
+        Ok(data) => Ok(
+            data.type_url.as_str() == "type.test/key"
+                && data.key_material_type == 1
+                && data.value.as_slice() == want,
+        ),
+        Err(e) => Err(e),
+    }
 }
 
 #[test]
 fn a_new_key_is_made(rt: HostRuntime) -> Result<(), Fail> {
     let alloc = rt.alloc();
-    let mut draws = draws_of(alloc, &[7; 40])?;
+    let format = format_bytes(alloc, 16)?;
     let want = key_of(alloc, 0, &[7; 16])?;
-    let key = new_key(alloc, &mut draws)?;
-    expect_bytes(&rt, key.as_slice(), want.as_slice(), "a key");
-    let data = new_key_data(alloc, &mut draws)?;
+    let mut draws = draws_of(alloc, &[7; 40])?;
+    let key = manager().new_key(alloc, format.as_slice(), &mut draws);
+    expect(&rt, gives(key, want.as_slice()), Ok(true), "a key");
+    let data = manager().new_key_data(alloc, format.as_slice(), &mut draws);
+    expect(&rt, are_data(data, want.as_slice()), Ok(true), "its data");
     expect(&rt, draws.left(), 8, "draws");
-    expect(
-        &rt,
-        data.type_url.as_str() == "type.test/key",
-        true,
-        "its URL",
-    );
-    expect(&rt, data.key_material_type, 1, "its material");
-    expect_bytes(&rt, data.value.as_slice(), want.as_slice(), "its value");
     Ok(())
 }
 
-// The text abc, sealed by the primitive of a key.
+// The text abc, sealed by the primitive of a key and the draw d.
 fn sealed_by(alloc: Global, key: &[u8]) -> Result<Bytes, TinkError> {
+    let mut draws = draws_of(alloc, b"d")?;
     let aead = manager().primitive(alloc, key)?.into_aead()?;
-    aead.encrypt(alloc, b"abc", b"", &mut draws_of(alloc, b"d")?)
+    aead.encrypt(alloc, b"abc", b"", &mut draws)
+}
+
+// A new key of sixteen draws.
+fn new_key(alloc: Global, bytes: &[u8]) -> Result<Bytes, Fail> {
+    let format = format_bytes(alloc, 16)?;
+    let mut draws = draws_of(alloc, bytes)?;
+    Ok(manager().new_key(alloc, format.as_slice(), &mut draws)?)
 }
 
 #[test]
 fn a_new_key_builds(rt: HostRuntime) -> Result<(), Fail> {
-    let alloc = rt.alloc();
-    let key = new_key(alloc, &mut draws_of(alloc, b"0123456789abcdef")?)?;
-    let sealed = sealed_by(alloc, key.as_slice())?;
-    expect_bytes(&rt, sealed.as_slice(), b"dabc0123456789abcdef", "sealed");
+    let key = new_key(rt.alloc(), b"0123456789abcdef")?;
+    let sealed = sealed_by(rt.alloc(), key.as_slice());
+    let want = b"dabc0123456789abcdef";
+    expect(&rt, gives(sealed, want), Ok(true), "sealed");
     Ok(())
 }
 
@@ -129,17 +117,20 @@ fn keys_that_do_not_build(rt: HostRuntime) -> Result<(), Fail> {
 #[test]
 fn formats_of_which_no_key_is_made(rt: HostRuntime) -> Result<(), Fail> {
     let alloc = rt.alloc();
-    let mut draws = draws_of(alloc, &[7; 15])?;
     let long = format_bytes(alloc, 32)?;
-    for format in [b"".as_slice(), b"\xff", long.as_slice()] {
-        let key = manager().new_key(alloc, format, &mut draws);
-        expect(&rt, kind_of(key), Some(Kind::InvalidFormat), "a key");
-        let data = manager().new_key_data(alloc, format, &mut draws);
-        expect(&rt, kind_of(data), Some(Kind::InvalidFormat), "data");
-    }
     let fits = format_bytes(alloc, 16)?;
-    let starved = manager().new_key_data(alloc, fits.as_slice(), &mut draws);
-    expect(&rt, kind_of(starved), Some(Kind::RandomFault), "15 draws");
+    let mut draws = draws_of(alloc, &[7; 15])?;
+    for (format, want) in [
+        (b"".as_slice(), Kind::InvalidFormat),
+        (b"\xff", Kind::InvalidFormat),
+        (long.as_slice(), Kind::InvalidFormat),
+        (fits.as_slice(), Kind::RandomFault),
+    ] {
+        let key = kind_of(manager().new_key(alloc, format, &mut draws));
+        expect(&rt, key, Some(want), "a key");
+        let data = kind_of(manager().new_key_data(alloc, format, &mut draws));
+        expect(&rt, data, Some(want), "data");
+    }
     expect(&rt, draws.left(), 15, "draws");
     Ok(())
 }
@@ -174,12 +165,8 @@ fn crunchy(alloc: Global) -> Result<KeyTemplate, TinkError> {
 #[test]
 fn a_template_holds_its_format(rt: HostRuntime) -> Result<(), Fail> {
     let kt = crunchy(rt.alloc())?;
-    expect(
-        &rt,
-        kt.type_url.as_str() == "type.test/key",
-        true,
-        "the URL",
-    );
+    let is_url = kt.type_url.as_str() == "type.test/key";
+    expect(&rt, is_url, true, "the URL");
     // Field 2 is the number 16.
     expect_bytes(&rt, kt.value.as_slice(), &[0x10, 16], "the format");
     expect(&rt, kt.output_prefix_type, 4, "the prefix type");
@@ -194,12 +181,22 @@ fn are_a_and_b(named: &[(Text, KeyTemplate)]) -> bool {
     }
 }
 
+// Adds the template of the test keys under a name.
+fn add_crunchy(
+    alloc: Global,
+    named: &mut Vec<(Text, KeyTemplate)>,
+    name: &str,
+) -> Result<(), TinkError> {
+    let kt = crunchy(alloc)?;
+    add_template(alloc, named, name, kt)
+}
+
 #[test]
 fn templates_stand_behind_each_other(rt: HostRuntime) -> Result<(), Fail> {
-    let alloc = rt.alloc();
-    let mut named = Vec::new(alloc);
+    let mut named = Vec::new(rt.alloc());
     for name in ["a", "b"] {
-        add_template(alloc, &mut named, name, crunchy(alloc)?)?;
+        let added = add_crunchy(rt.alloc(), &mut named, name);
+        expect(&rt, added, Ok(()), name);
     }
     expect(&rt, are_a_and_b(&named), true, "the names");
     Ok(())

@@ -19,6 +19,11 @@ abbrev pub Answers : {T : Type 0} → Result T TinkError → Result T Kind → T
 Answers (Ok v) told = told ≡ Ok v
 Answers (Err e) told = (e.kind ≡ OutOfMemory) ⊎ (told ≡ Err e.kind)
 
+-- a call that needs no memory gives the told value, or refuses by the told kind
+abbrev pub Tells : {T : Type 0} → Result T TinkError → Result T Kind → Type 0
+Tells (Ok v) told = told ≡ Ok v
+Tells (Err e) told = told ≡ Err e.kind
+
 -- there is no memory, and the draws that are left are an end of what there was
 pub record IsShort (k : Kind) (before now : List ℕ) : Type 0 where
   pub kind : k ≡ OutOfMemory

@@ -22,7 +22,10 @@ pub struct SymmetricKeyManager<T> {
 }
 
 impl<T: KeyType> SymmetricKeyManager<T> {
-    pub fn new() -> Self {
+    /// The manager of `T`'s keys. It holds nothing, so that there is one.
+    pub fn new() -> Self
+        ensures { result ≡ record { keys = record {} } }
+    {
         SymmetricKeyManager { keys: PhantomData }
     }
 }

@@ -10,7 +10,7 @@ use Rattle.tink_io.specs.declared.error.Kind.TheVariants.{KeysetTooLong}
 use Rattle.tink_io.specs.declared.error.TinkError.{TinkError}
 use Rattle.tink_io.proofs.FaultLemmas.{Rose-earlier}
 use Rattle.tink_io.specs.Told.{or_refused}
-use Rattle.tink_keysets.specs.Ends.{IsTold, IsReadRefusal, Gives}
+use Rattle.tink_keysets.specs.Ends.{IsTold, IsReadRefusal, HasRead}
 use Rattle.tink_keyset_io.specs.Reading.{told, IsFault, IsUnread, LosesAtMost, IsPiece}
 
 -- a piece behind a text
@@ -77,6 +77,6 @@ told_is refusal message (Some text) m h = message_unless refusal (message text) 
 
 -- the same of a whole answer
 pub gives_message : {M : Type 0} (refusal : Kind) (message : List ℕ → Option M) (a : Option (List ℕ)) (r : Result M TinkError) (before now : ℕ)
-    → Gives r (told refusal message a) before now → IfOk r (λ m. IfSome a (λ text. message text ≡ Some m))
+    → HasRead r (told refusal message a) before now → IfOk r (λ m. IfSome a (λ text. message text ≡ Some m))
 gives_message refusal message a (Ok m) before now h = told_is refusal message a m h
 gives_message refusal message a (Err e) before now h = tt

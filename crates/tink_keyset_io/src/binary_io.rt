@@ -3,7 +3,7 @@
 ghost use Rattle.std.specs.Prelude.{◌≡◌, ◌≤◌, ◌+◌, ◌^◌, Some, Ok, OnOk, IfErr};
 ghost use Rattle.std.specs.Io.KnownBytes.{Appends, IsAtEnd};
 ghost use Rattle.tink_io.specs.declared.error.Kind.TheVariants.{BadKeyset};
-ghost use Rattle.tink_keysets.specs.Ends.{Gives, Takes};
+ghost use Rattle.tink_keysets.specs.Ends.{HasRead, HasWritten};
 ghost use Rattle.tink_proto.specs.Messages.{keyset, encrypted_keyset};
 ghost use Rattle.wire_format.specs.Message.{decoded, encoded};
 ghost use Rattle.tink_keyset_io.specs.Reading.{LosesAtMost, told};
@@ -94,7 +94,7 @@ impl<S: Source> Reader for BinaryReader<S> {
     /// that many is read; `BadKeyset` exactly where fewer are no such message; `ReadFault` where
     /// the source failed, and `OutOfMemory`.
     fn read(&mut self, alloc: Global) -> Result<Keyset, TinkError>
-        ensures answer { Gives result (told BadKeyset (decoded keyset.read) (S.left self.old)) (S.faults self.old) (S.faults self.new) }
+        ensures answer { HasRead result (told BadKeyset (decoded keyset.read) (S.left self.old)) (S.faults self.old) (S.faults self.new) }
         ensures count { S.faults self.old ≤ S.faults self.new }
         ensures end { OnOk result (IsAtEnd (S.left self.new)) }
         ensures leaves { LosesAtMost (2 ^ 26 + 1) (S.left self.old) (S.left self.new) }
@@ -108,7 +108,7 @@ impl<S: Source> Reader for BinaryReader<S> {
     /// # Errors
     /// As `read`.
     fn read_encrypted(&mut self, alloc: Global) -> Result<EncryptedKeyset, TinkError>
-        ensures answer { Gives result (told BadKeyset (decoded encrypted_keyset.read) (S.left self.old)) (S.faults self.old) (S.faults self.new) }
+        ensures answer { HasRead result (told BadKeyset (decoded encrypted_keyset.read) (S.left self.old)) (S.faults self.old) (S.faults self.new) }
         ensures count { S.faults self.old ≤ S.faults self.new }
         ensures end { OnOk result (IsAtEnd (S.left self.new)) }
         ensures leaves { LosesAtMost (2 ^ 26 + 1) (S.left self.old) (S.left self.new) }
@@ -173,7 +173,7 @@ impl<K: Sink> Writer for BinaryWriter<K> {
     /// `WriteFault` where the sink failed: it has a prefix of the bytes then. `OutOfMemory`: nothing
     /// is written then.
     fn write(&mut self, alloc: Global, ks: &Keyset) -> Result<(), TinkError>
-        ensures answer { Takes result (Some (Ok tt)) (K.faults self.old) (K.faults self.new) }
+        ensures answer { HasWritten result (Some (Ok tt)) (K.faults self.old) (K.faults self.new) }
         ensures written { OnOk result (Appends (K.got self.old) (K.got self.new) (encoded keyset.write ks.now)) }
         ensures count { K.faults self.old ≤ K.faults self.new }
         ensures refused { IfErr result (λ e. IsPartOf (λ text. text ≡ encoded keyset.write ks.now) e.kind (K.got self.old) (K.got self.new)) }
@@ -187,7 +187,7 @@ impl<K: Sink> Writer for BinaryWriter<K> {
     /// # Errors
     /// As `write`.
     fn write_encrypted(&mut self, alloc: Global, ks: &EncryptedKeyset) -> Result<(), TinkError>
-        ensures answer { Takes result (Some (Ok tt)) (K.faults self.old) (K.faults self.new) }
+        ensures answer { HasWritten result (Some (Ok tt)) (K.faults self.old) (K.faults self.new) }
         ensures written { OnOk result (Appends (K.got self.old) (K.got self.new) (encoded encrypted_keyset.write ks.now)) }
         ensures count { K.faults self.old ≤ K.faults self.new }
         ensures refused { IfErr result (λ e. IsPartOf (λ text. text ≡ encoded encrypted_keyset.write ks.now) e.kind (K.got self.old) (K.got self.new)) }

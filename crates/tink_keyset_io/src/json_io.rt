@@ -3,7 +3,7 @@
 ghost use Rattle.std.specs.Prelude.{◌≡◌, ◌≤◌, ◌+◌, ◌^◌, Some, Ok, OnOk, IfErr};
 ghost use Rattle.std.specs.Io.KnownBytes.{Appends, IsAtEnd};
 ghost use Rattle.tink_io.specs.declared.error.Kind.TheVariants.{BadJson};
-ghost use Rattle.tink_keysets.specs.Ends.{Gives, Takes};
+ghost use Rattle.tink_keysets.specs.Ends.{HasRead, HasWritten};
 ghost use Rattle.tink_json.specs.Messages.{encrypted_keyset, keyset, message_of};
 ghost use Rattle.tink_json.specs.Written.{encrypted_keyset_value, keyset_value, pretty_text};
 ghost use Rattle.tink_keyset_io.specs.Reading.{LosesAtMost, told};
@@ -96,7 +96,7 @@ impl<S: Source> Reader for JsonReader<S> {
     /// that many is read; `BadJson` exactly where fewer are no such value; `ReadFault` where
     /// the source failed, and `OutOfMemory`.
     fn read(&mut self, alloc: Global) -> Result<Keyset, TinkError>
-        ensures answer { Gives result (told BadJson (message_of keyset) (S.left self.old)) (S.faults self.old) (S.faults self.new) }
+        ensures answer { HasRead result (told BadJson (message_of keyset) (S.left self.old)) (S.faults self.old) (S.faults self.new) }
         ensures count { S.faults self.old ≤ S.faults self.new }
         ensures end { OnOk result (IsAtEnd (S.left self.new)) }
         ensures leaves { LosesAtMost (2 ^ 26 + 1) (S.left self.old) (S.left self.new) }
@@ -110,7 +110,7 @@ impl<S: Source> Reader for JsonReader<S> {
     /// # Errors
     /// As `read`.
     fn read_encrypted(&mut self, alloc: Global) -> Result<EncryptedKeyset, TinkError>
-        ensures answer { Gives result (told BadJson (message_of encrypted_keyset) (S.left self.old)) (S.faults self.old) (S.faults self.new) }
+        ensures answer { HasRead result (told BadJson (message_of encrypted_keyset) (S.left self.old)) (S.faults self.old) (S.faults self.new) }
         ensures count { S.faults self.old ≤ S.faults self.new }
         ensures end { OnOk result (IsAtEnd (S.left self.new)) }
         ensures leaves { LosesAtMost (2 ^ 26 + 1) (S.left self.old) (S.left self.new) }
@@ -175,7 +175,7 @@ impl<K: Sink> Writer for JsonWriter<K> {
     /// `WriteFault` where the sink failed: it has a prefix of the text then. `OutOfMemory`: nothing
     /// is written then.
     fn write(&mut self, alloc: Global, ks: &Keyset) -> Result<(), TinkError>
-        ensures answer { Takes result (Some (Ok tt)) (K.faults self.old) (K.faults self.new) }
+        ensures answer { HasWritten result (Some (Ok tt)) (K.faults self.old) (K.faults self.new) }
         ensures written { OnOk result (Appends (K.got self.old) (K.got self.new) (pretty_text (keyset_value ks.now))) }
         ensures count { K.faults self.old ≤ K.faults self.new }
         ensures refused { IfErr result (λ e. IsPartOf (λ text. text ≡ pretty_text (keyset_value ks.now)) e.kind (K.got self.old) (K.got self.new)) }
@@ -189,7 +189,7 @@ impl<K: Sink> Writer for JsonWriter<K> {
     /// # Errors
     /// As `write`.
     fn write_encrypted(&mut self, alloc: Global, ks: &EncryptedKeyset) -> Result<(), TinkError>
-        ensures answer { Takes result (Some (Ok tt)) (K.faults self.old) (K.faults self.new) }
+        ensures answer { HasWritten result (Some (Ok tt)) (K.faults self.old) (K.faults self.new) }
         ensures written { OnOk result (Appends (K.got self.old) (K.got self.new) (pretty_text (encrypted_keyset_value ks.now))) }
         ensures count { K.faults self.old ≤ K.faults self.new }
         ensures refused { IfErr result (λ e. IsPartOf (λ text. text ≡ pretty_text (encrypted_keyset_value ks.now)) e.kind (K.got self.old) (K.got self.new)) }

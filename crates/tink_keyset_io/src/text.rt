@@ -2,7 +2,7 @@
 
 ghost use Rattle.std.specs.Prelude.{◌≤◌, ◌<◌, ◌+◌, ◌^◌, Some, Ok, IfOk, IfErr, OnOk, length};
 ghost use Rattle.std.specs.Io.KnownBytes.{Consumes, IsAtEnd};
-ghost use Rattle.tink_keysets.specs.Ends.{Gives, Takes};
+ghost use Rattle.tink_keysets.specs.Ends.{HasRead, HasWritten};
 ghost use Rattle.tink_keyset_io.specs.Reading.{IsFault, IsPiece, IsUnread, LosesAtMost, told};
 ghost use Rattle.tink_keyset_io.specs.Writing.{AppendsText, IsPartOf};
 
@@ -65,7 +65,7 @@ pub fn read_as<F: Format<M>, M: Drop, S: Source>(
     alloc: Global,
     source: &mut S,
 ) -> Result<M, TinkError>
-    ensures answer { Gives result (told F.refusal F.message (S.left source.old)) (S.faults source.old) (S.faults source.new) }
+    ensures answer { HasRead result (told F.refusal F.message (S.left source.old)) (S.faults source.old) (S.faults source.new) }
     ensures end { OnOk result (IsAtEnd (S.left source.new)) }
     ensures taken { LosesAtMost (2 ^ 26 + 1) (S.left source.old) (S.left source.new) }
     ensures count { S.faults source.old ≤ S.faults source.new }
@@ -81,7 +81,7 @@ pub fn write_as<F: Format<M>, M, K: Sink>(
     sink: &mut K,
     message: &M,
 ) -> Result<(), TinkError>
-    ensures answer { Takes result (Some (Ok tt)) (K.faults sink.old) (K.faults sink.new) }
+    ensures answer { HasWritten result (Some (Ok tt)) (K.faults sink.old) (K.faults sink.new) }
     ensures written { OnOk result (AppendsText (F.spells message.now) (K.got sink.old) (K.got sink.new)) }
     ensures front { IfErr result (λ e. IsPartOf (F.spells message.now) e.kind (K.got sink.old) (K.got sink.new)) }
     ensures count { K.faults sink.old ≤ K.faults sink.new }

@@ -8,14 +8,14 @@ use Rattle.tink_io.specs.declared.error.TinkError.{TinkError}
 use Rattle.tink_proto.specs.Messages.{keyset}
 use Rattle.tink_proto.specs.declared.messages.infos.EncryptedKeyset.{EncryptedKeyset}
 use Rattle.tink_proto.specs.declared.messages.keys.Keyset.{Keyset}
-use Rattle.keyset_model.specs.Validity.{IsHeld}
+use Rattle.keyset_model.specs.Validity.{MayBeHeld}
 use Rattle.tink_keysets.specs.declared.keyset.memory.MemReaderWriter.{MemReaderWriter}
 use Rattle.tink_keysets.specs.Encrypted.{by_master, chained, decrypted, handle_of_bytes, with_info, Undoes}
 use Rattle.tink_keysets.specs.Ends.{held_or, IsReadRefusal}
 use Rattle.tink_keysets.specs.Handles.{handle_of}
 use Rattle.tink_keysets.specs.Through.{GivesBy, IsTaken}
 
--- where a value is told and no fault can be, there is no refusal but want of memory
+-- where a value is told and no fault can be, there is no refusal but `OutOfMemory`
 only_memory : {T : Type 0} (v : T) (kind : Kind) → IsReadRefusal (Some (Ok v)) kind 0 0 → kind ≡ OutOfMemory
 only_memory v OutOfMemory h = refl
 only_memory v ReadFault h = absurd (omega (arith, h))
@@ -40,7 +40,7 @@ read_written decrypts associated_data made old new result taken gives =
     subst (λ m. Answers result (chained (decrypted decrypts associated_data) m)) (sym taken.is_made) (reads_held (decrypted decrypts associated_data) result taken.message from)
 
 -- bytes that spell a keyset that is held are those of a handle
-pub spelled : (ks : Keyset) (bytes : List ℕ) → IsHeld ks → decoded keyset.read bytes ≡ Some ks → handle_of_bytes bytes ≡ Ok ks
+pub spelled : (ks : Keyset) (bytes : List ℕ) → MayBeHeld ks → decoded keyset.read bytes ≡ Some ks → handle_of_bytes bytes ≡ Ok ks
 spelled ks bytes held again = ap (λ o. chained handle_of (or_refused BadKeyset o)) again ∙ ap (λ b. cond b (Ok ks) (Err InvalidKeyset)) held
 
 -- under the same data

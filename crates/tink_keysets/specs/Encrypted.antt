@@ -15,7 +15,7 @@ abbrev pub by_master : {T : Type 0} → Result T Kind → Result T Kind
 by_master (Ok v) = Ok v
 by_master (Err kind) = Err MasterFailed
 
--- how a call is refused of which a master's is a part: want of memory stays
+-- how a call is refused of which a master's is a part: `OutOfMemory` stays
 abbrev pub master_kind : Kind → Kind
 master_kind OutOfMemory = OutOfMemory
 master_kind kind = MasterFailed

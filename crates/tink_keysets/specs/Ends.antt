@@ -10,7 +10,7 @@ abbrev pub IsTold : {T : Type 0} → Option (Result T Kind) → Result T Kind �
 IsTold None answer = ⊤
 IsTold (Some told) answer = told ≡ answer
 
--- a refusal to read: by want of memory, by a fault, which raises the count, or by the told kind
+-- a refusal to read: by `OutOfMemory`, by a fault, which raises the count, or by the told kind
 abbrev pub IsReadRefusal : {T : Type 0} → Option (Result T Kind) → Kind → ℕ → ℕ → Type 0
 IsReadRefusal told OutOfMemory before now = ⊤
 IsReadRefusal told ReadFault before now = Rose before now
@@ -25,14 +25,14 @@ IsWriteRefusal told WriteFault before now = Rose before now
 IsWriteRefusal told kind before now = IsTold told (Err kind)
 
 -- a call that reads gives the told value, or refuses
-abbrev pub Gives : {T : Type 0} → Result T TinkError → Option (Result T Kind) → ℕ → ℕ → Type 0
-Gives (Ok v) told before now = IsTold told (Ok v)
-Gives (Err e) told before now = IsReadRefusal told e.kind before now
+abbrev pub HasRead : {T : Type 0} → Result T TinkError → Option (Result T Kind) → ℕ → ℕ → Type 0
+HasRead (Ok v) told before now = IsTold told (Ok v)
+HasRead (Err e) told before now = IsReadRefusal told e.kind before now
 
 -- a call that writes takes the message where it is told so, or refuses
-abbrev pub Takes : Result (Unit {0}) TinkError → Option (Result (Unit {0}) Kind) → ℕ → ℕ → Type 0
-Takes (Ok _) told before now = IsTold told (Ok tt)
-Takes (Err e) told before now = IsWriteRefusal told e.kind before now
+abbrev pub HasWritten : Result (Unit {0}) TinkError → Option (Result (Unit {0}) Kind) → ℕ → ℕ → Type 0
+HasWritten (Ok _) told before now = IsTold told (Ok tt)
+HasWritten (Err e) told before now = IsWriteRefusal told e.kind before now
 
 -- what a field of a reader in memory gives
 abbrev pub held_or : {T : Type 0} → Option T → Result T Kind

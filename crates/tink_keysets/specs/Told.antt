@@ -1,10 +1,8 @@
--- What calls answer that take no memory, and what a take of random bytes answers.
+-- What an edit answers, and what a take of random bytes does.
 use Rattle.std.specs.Prelude.{◌≡◌, ℕ, nat_le, if◌then◌else◌, List, length, take, drop, Result, Ok, Err}
 use Rattle.tink_io.specs.declared.error.Kind.{Kind}
 use Rattle.tink_io.specs.declared.error.Kind.TheVariants.{RandomFault}
 use Rattle.tink_io.specs.declared.error.TinkError.{TinkError}
--- the call gives the told value, or refuses by the told kind
-pub use Rattle.tink_primitives.specs.Meaning.{Gives as Tells}
 
 -- an edit was made, or was refused by the told kind and left what there was
 abbrev pub Edits : {T : Type 0} → Result (Unit {0}) TinkError → T → T → Result T Kind → Type 0

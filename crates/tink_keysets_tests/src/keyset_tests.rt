@@ -3,7 +3,7 @@
 ghost use Rattle.keyset_model.specs.Edits as edits;
 ghost use Rattle.tink_keysets.specs.Told.{Edits};
 
-use crate::expecting::{expect, expect_bytes};
+use crate::expecting::{expect, expect_bytes, gives};
 use std::alloc::Global;
 use std::test::Fail;
 use tink_io::{Kind, TinkError};
@@ -29,75 +29,70 @@ const DESTROYED: i32 = 3;
 
 // The kind that refuses a handle of one key, if one does.
 fn refusal_of(alloc: Global, only: Key) -> Result<Option<Kind>, TinkError> {
-    Ok(kind_of(handle_of(7, vec![in alloc; only]?)))
+    let keys = vec![in alloc; only]?;
+    Ok(kind_of(handle_of(7, keys)))
+}
+
+// The same of a destroyed key whose material no one knows.
+fn unknown_refusal(alloc: Global) -> Result<Option<Kind>, TinkError> {
+    refusal_of(alloc, key(alloc, 5, DESTROYED, 7)?)
 }
 
 #[test]
 fn a_handle_holds_keys_of_known_material(rt: HostRuntime) -> Result<(), Fail> {
     let alloc = rt.alloc();
     let invalid = Some(Kind::InvalidKeyset);
-    expect(
-        &rt,
-        refusal_of(alloc, bare(DESTROYED, 7))?,
-        None,
-        "destroyed",
-    );
-    expect(
-        &rt,
-        refusal_of(alloc, bare(DISABLED, 7))?,
-        invalid,
-        "without data",
-    );
-    let unknown = key(alloc, 5, DESTROYED, 7)?;
-    expect(
-        &rt,
-        refusal_of(alloc, unknown)?,
-        invalid,
-        "of an unknown material",
-    );
-    expect(
-        &rt,
-        kind_of(handle_of(7, Vec::new(alloc))),
-        invalid,
-        "no keys",
-    );
+    let destroyed = refusal_of(alloc, bare(DESTROYED, 7));
+    expect(&rt, destroyed, Ok(None), "destroyed");
+    let disabled = refusal_of(alloc, bare(DISABLED, 7));
+    expect(&rt, disabled, Ok(invalid), "without data");
+    let unknown = unknown_refusal(alloc);
+    expect(&rt, unknown, Ok(invalid), "of an unknown material");
+    let no_keys = kind_of(handle_of(7, Vec::new(alloc)));
+    expect(&rt, no_keys, invalid, "no keys");
     Ok(())
 }
 
-// The kind that refuses a handle without secrets of the keys, if one does.
-fn secret_refusal_of(keys: Vec<Key>) -> Option<Kind> {
-    kind_of(Handle::new_with_no_secrets(keyset(7, keys)))
+// The kind that refuses a handle without secrets of one key, if one does.
+fn secret_refusal_of(alloc: Global, material: i32, status: i32) -> Result<Option<Kind>, TinkError> {
+    let keys = vec![in alloc; key(alloc, material, status, 7)?]?;
+    Ok(kind_of(Handle::new_with_no_secrets(keyset(7, keys))))
+}
+
+// The same of two keys, of which the second has no data.
+fn secret_refusal_of_two(alloc: Global) -> Result<Option<Kind>, TinkError> {
+    let keys = vec![in alloc; key(alloc, SYMMETRIC, ENABLED, 7)?, bare(ENABLED, 8)]?;
+    Ok(kind_of(Handle::new_with_no_secrets(keyset(7, keys))))
 }
 
 #[test]
 fn secrets_need_the_insecure_calls(rt: HostRuntime) -> Result<(), Fail> {
-    let alloc = rt.alloc();
     for (material, status, want) in [
         (PUBLIC, ENABLED, None),
         (SYMMETRIC, DESTROYED, Some(Kind::HasSecrets)),
     ] {
-        let keys = vec![in alloc; key(alloc, material, status, 7)?]?;
-        expect(&rt, secret_refusal_of(keys), want, "one key");
+        let refused = secret_refusal_of(rt.alloc(), material, status);
+        expect(&rt, refused, Ok(want), "one key");
     }
-    let keys = vec![in alloc; key(alloc, SYMMETRIC, ENABLED, 7)?, bare(ENABLED, 8)]?;
+    let refused = secret_refusal_of_two(rt.alloc());
     let invalid = Some(Kind::InvalidKeyset);
-    expect(&rt, secret_refusal_of(keys), invalid, "a key without data");
+    expect(&rt, refused, Ok(invalid), "a key without data");
     Ok(())
 }
 
 // A handle of an enabled symmetric key of id 7 and of a destroyed key of id 8.
 fn two_keys(alloc: Global) -> Result<Handle, TinkError> {
-    handle_of(
-        7,
-        vec![in alloc; key(alloc, SYMMETRIC, ENABLED, 7)?, bare(DESTROYED, 8)]?,
-    )
+    let keys = vec![in alloc; key(alloc, SYMMETRIC, ENABLED, 7)?, bare(DESTROYED, 8)]?;
+    handle_of(7, keys)
+}
+
+fn printed(alloc: Global, h: Handle) -> Result<String, Fail> {
+    Ok(format!(in alloc; "{h:?}")?)
 }
 
 #[test]
 fn a_handle_prints_no_key_material(rt: HostRuntime) -> Result<(), Fail> {
-    let alloc = rt.alloc();
-    let h = two_keys(alloc)?;
-    let text = format!(in alloc; "{h:?}")?;
+    let text = printed(rt.alloc(), two_keys(rt.alloc())?)?;
     let want =
         "KeysetInfo { primary_key_id: 7, key_info: [KeyInfo { type_url: \"type.test/key\", status: Enabled, key_id: 7, output_prefix_type: Tink }, KeyInfo { type_url: \"\", status: Destroyed, key_id: 8, output_prefix_type: Raw }] }";
     expect_bytes(&rt, text.as_bytes(), want.as_bytes(), "the text");
@@ -120,28 +115,36 @@ fn tells_two_keys(info: &KeysetInfo) -> bool {
     }
 }
 
+// What a handle tells of its keys.
+fn info_of(alloc: Global, h: Handle) -> Result<KeysetInfo, TinkError> {
+    h.keyset_info(alloc)
+}
+
 #[test]
 fn a_handle_tells_its_info(rt: HostRuntime) -> Result<(), Fail> {
-    let alloc = rt.alloc();
-    let info = two_keys(alloc)?.keyset_info(alloc)?;
+    let info = info_of(rt.alloc(), two_keys(rt.alloc())?)?;
     expect(&rt, info.primary_key_id, 7, "the primary id");
     expect(&rt, tells_two_keys(&info), true, "the keys");
     Ok(())
 }
 
+fn spelled(alloc: Global, h: Handle) -> Result<Bytes, TinkError> {
+    bytes_of(alloc, &h)
+}
+
+// Whether bytes spell a keyset of the primary id 7 and two keys.
+fn spell_two_keys(alloc: Global, bytes: &[u8]) -> Result<bool, TinkError> {
+    let ks = decode(alloc, bytes)?;
+    Ok(ks.primary_key_id == 7 && ks.key.as_slice().len() == 2)
+}
+
 #[test]
 fn bytes_are_decoded(rt: HostRuntime) -> Result<(), Fail> {
-    let alloc = rt.alloc();
-    let bytes = bytes_of(alloc, &two_keys(alloc)?)?;
-    let ks = decode(alloc, bytes.as_slice())?;
-    expect(
-        &rt,
-        (ks.primary_key_id, ks.key.as_slice().len()),
-        (7, 2),
-        "two keys",
-    );
-    let cut = decode(alloc, b"\x08");
-    expect(&rt, kind_of(cut), Some(Kind::BadKeyset), "no keyset");
+    let bytes = spelled(rt.alloc(), two_keys(rt.alloc())?)?;
+    let whole = spell_two_keys(rt.alloc(), bytes.as_slice());
+    expect(&rt, whole, Ok(true), "two keys");
+    let cut = kind_of(spell_two_keys(rt.alloc(), b"\x08"));
+    expect(&rt, cut, Some(Kind::BadKeyset), "no keyset");
     Ok(())
 }
 
@@ -161,9 +164,14 @@ fn manager_of(alloc: Global, status: i32) -> Result<Manager, TinkError> {
     Ok(Manager::new_from_handle(handle_of(1, keys)?))
 }
 
+fn material_of(alloc: Global, manager: &Manager) -> Result<Keyset, TinkError> {
+    let h = manager.handle(alloc)?;
+    keyset_material(alloc, &h)
+}
+
 // The status of the first key and whether it has data.
 fn first_key(alloc: Global, manager: &Manager) -> Result<Option<(i32, bool)>, TinkError> {
-    let material = keyset_material(alloc, &manager.handle(alloc)?)?;
+    let material = material_of(alloc, manager)?;
     Ok(match material.key.as_slice().first() {
         Some(key) => Some((key.status, key.key_data.is_some())),
         None => None,
@@ -174,31 +182,32 @@ fn first_key(alloc: Global, manager: &Manager) -> Result<Option<(i32, bool)>, Ti
 fn a_manager_changes_the_first_key_of_an_id(rt: HostRuntime) -> Result<(), Fail> {
     let alloc = rt.alloc();
     let mut manager = manager_of(alloc, ENABLED)?;
-    retire(&mut manager, 2)?;
-    let first = first_key(alloc, &manager)?;
-    expect(&rt, first, Some((DISABLED, true)), "disabled");
+    expect(&rt, retire(&mut manager, 2), Ok(()), "a retirement");
+    let first = first_key(alloc, &manager);
+    expect(&rt, first, Ok(Some((DISABLED, true))), "disabled");
     let refused = kind_of(manager.set_primary(2));
     expect(&rt, refused, Some(Kind::NotEnabled), "as primary");
-    manager.enable(2)?;
-    let first = first_key(alloc, &manager)?;
-    expect(&rt, first, Some((ENABLED, true)), "enabled");
+    expect(&rt, manager.enable(2), Ok(()), "its return");
+    let first = first_key(alloc, &manager);
+    expect(&rt, first, Ok(Some((ENABLED, true))), "enabled");
     Ok(())
 }
 
 #[test]
 fn a_manager_deletes_the_first_key_of_an_id(rt: HostRuntime) -> Result<(), Fail> {
-    let alloc = rt.alloc();
-    let mut manager = manager_of(alloc, ENABLED)?;
-    manager.delete(2)?;
+    let mut manager = manager_of(rt.alloc(), ENABLED)?;
+    expect(&rt, manager.delete(2), Ok(()), "the first one");
     expect(&rt, manager.key_count(), 1, "keys");
-    manager.set_primary(2)?;
-    expect(
-        &rt,
-        kind_of(manager.delete(2)),
-        Some(Kind::IsPrimary),
-        "the primary one",
-    );
-    expect(&rt, Manager::new(alloc).key_count(), 0, "keys of nothing");
+    expect(&rt, manager.set_primary(2), Ok(()), "the other one");
+    let refused = kind_of(manager.delete(2));
+    expect(&rt, refused, Some(Kind::IsPrimary), "the primary one");
+    Ok(())
+}
+
+#[test]
+fn a_new_manager_has_no_keys(rt: HostRuntime) -> Result<(), Fail> {
+    let count = Manager::new(rt.alloc()).key_count();
+    expect(&rt, count, 0, "keys");
     Ok(())
 }
 
@@ -206,9 +215,9 @@ fn a_manager_deletes_the_first_key_of_an_id(rt: HostRuntime) -> Result<(), Fail>
 fn a_destroyed_key_has_no_data_and_stays(rt: HostRuntime) -> Result<(), Fail> {
     let alloc = rt.alloc();
     let mut manager = manager_of(alloc, ENABLED)?;
-    manager.destroy(2)?;
-    let first = first_key(alloc, &manager)?;
-    expect(&rt, first, Some((DESTROYED, false)), "destroyed");
+    expect(&rt, manager.destroy(2), Ok(()), "the first one");
+    let first = first_key(alloc, &manager);
+    expect(&rt, first, Ok(Some((DESTROYED, false))), "destroyed");
     let wrong = Some(Kind::WrongStatus(DESTROYED));
     expect(&rt, kind_of(manager.enable(2)), wrong, "enabled again");
     expect(&rt, kind_of(manager.disable(2)), wrong, "disabled");
@@ -218,8 +227,7 @@ fn a_destroyed_key_has_no_data_and_stays(rt: HostRuntime) -> Result<(), Fail> {
 
 #[test]
 fn a_refused_command_names_its_cause(rt: HostRuntime) -> Result<(), Fail> {
-    let alloc = rt.alloc();
-    let mut manager = manager_of(alloc, 0)?;
+    let mut manager = manager_of(rt.alloc(), 0)?;
     for (id, want) in [(1, Kind::IsPrimary), (5, Kind::KeyNotFound)] {
         expect(&rt, kind_of(manager.disable(id)), Some(want), "disable");
         expect(&rt, kind_of(manager.destroy(id)), Some(want), "destroy");
@@ -228,38 +236,31 @@ fn a_refused_command_names_its_cause(rt: HostRuntime) -> Result<(), Fail> {
         expect(&rt, kind_of(manager.enable(id)), none, "enable");
         expect(&rt, kind_of(manager.set_primary(id)), none, "set_primary");
     }
+    let refused = kind_of(manager.destroy(2));
     let unknown = Some(Kind::WrongStatus(0));
-    expect(
-        &rt,
-        kind_of(manager.destroy(2)),
-        unknown,
-        "an unknown status",
-    );
+    expect(&rt, refused, unknown, "an unknown status");
     Ok(())
+}
+
+// How the keyset of one key of id 7 is refused under a primary id.
+fn invalidity_of(alloc: Global, primary: u32) -> Result<Option<Kind>, TinkError> {
+    let keys = vec![in alloc; key(alloc, SYMMETRIC, ENABLED, 7)?]?;
+    Ok(kind_of(validate(&keyset(primary, keys))))
 }
 
 #[test]
 fn keysets_are_validated(rt: HostRuntime) -> Result<(), Fail> {
-    let alloc = rt.alloc();
     for (primary, want) in [(7, None), (8, Some(Kind::InvalidKeyset))] {
-        let ks = keyset(primary, vec![in alloc; key(alloc, SYMMETRIC, ENABLED, 7)?]?);
-        expect(&rt, kind_of(validate(&ks)), want, "a keyset");
+        let refused = invalidity_of(rt.alloc(), primary);
+        expect(&rt, refused, Ok(want), "a keyset");
     }
     for (id, want) in [(7, None), (0, Some(Kind::InvalidKeyset))] {
-        expect(
-            &rt,
-            kind_of(validate_key(&bare(DESTROYED, id))),
-            want,
-            "a key",
-        );
+        let refused = kind_of(validate_key(&bare(DESTROYED, id)));
+        expect(&rt, refused, want, "a key");
     }
     for (version, want) in [(1, None), (2, Some(Kind::BadVersion))] {
-        expect(
-            &rt,
-            kind_of(validate_key_version(version, 1)),
-            want,
-            "a version",
-        );
+        let refused = kind_of(validate_key_version(version, 1));
+        expect(&rt, refused, want, "a version");
     }
     Ok(())
 }
@@ -280,39 +281,38 @@ fn laws_can_be_called(_rt: HostRuntime) -> Result<(), Fail> {
 fn random_bytes_are_the_next_draws(rt: HostRuntime) -> Result<(), Fail> {
     let alloc = rt.alloc();
     let mut draws = draws_of(alloc, b"\x01\x02\x03\x04\x05\x06\x07")?;
-    expect(&rt, get_random_uint32(&mut draws)?, 0x01020304, "a number");
+    let number = get_random_uint32(&mut draws);
+    expect(&rt, number, Ok(0x01020304), "a number");
     let fault = Some(Kind::RandomFault);
-    expect(
-        &rt,
-        kind_of(get_random_uint32(&mut draws)),
-        fault,
-        "no number",
-    );
+    let number = kind_of(get_random_uint32(&mut draws));
+    expect(&rt, number, fault, "no number");
     let four = get_random_bytes(alloc, &mut draws, 4);
     expect(&rt, kind_of(four), fault, "four bytes");
-    let two = get_random_bytes(alloc, &mut draws, 2)?;
-    expect_bytes(&rt, two.as_slice(), b"\x05\x06", "two bytes");
+    let two = get_random_bytes(alloc, &mut draws, 2);
+    expect(&rt, gives(two, b"\x05\x06"), Ok(true), "two bytes");
     expect(&rt, draws.left(), 1, "draws");
     Ok(())
 }
 
-// The number of keys that are read after the keyset was written.
-fn keys_through<E: Reader + Writer>(
-    alloc: Global,
-    end: &mut E,
-    ks: &Keyset,
-) -> Result<usize, TinkError> {
-    end.write(alloc, ks)?;
-    Ok(end.read(alloc)?.key.as_slice().len())
+// Whether two keys are read after the keyset of two was written.
+fn passes_two_keys<E: Reader + Writer>(alloc: Global, end: &mut E) -> Result<bool, TinkError> {
+    let keys = vec![in alloc; bare(DESTROYED, 7), bare(DESTROYED, 8)]?;
+    end.write(alloc, &keyset(7, keys))?;
+    let read = end.read(alloc)?;
+    Ok(read.key.as_slice().len() == 2)
 }
 
 // The encryption that is read after it was written.
-fn bytes_through<E: Reader + Writer>(
+fn passed<E: Reader + Writer>(
     alloc: Global,
     end: &mut E,
-    ks: &EncryptedKeyset,
+    encryption: &[u8],
 ) -> Result<Bytes, TinkError> {
-    end.write_encrypted(alloc, ks)?;
+    let encrypted = EncryptedKeyset {
+        encrypted_keyset: Bytes::from_slice(alloc, encryption)?,
+        keyset_info: None,
+    };
+    end.write_encrypted(alloc, &encrypted)?;
     Ok(end.read_encrypted(alloc)?.encrypted_keyset)
 }
 
@@ -322,27 +322,18 @@ fn memory_holds_what_was_written(rt: HostRuntime) -> Result<(), Fail> {
     let mut memory = MemReaderWriter::default();
     let none = Some(Kind::NoKeyset);
     expect(&rt, kind_of(memory.read(alloc)), none, "no keyset");
-    expect(
-        &rt,
-        kind_of(memory.read_encrypted(alloc)),
-        none,
-        "no encrypted keyset",
-    );
-    let ks = keyset(7, vec![in alloc; bare(DESTROYED, 7), bare(DESTROYED, 8)]?);
-    expect(&rt, keys_through(alloc, &mut memory, &ks)?, 2, "keys");
+    let encrypted = kind_of(memory.read_encrypted(alloc));
+    expect(&rt, encrypted, none, "no encrypted keyset");
+    let two = passes_two_keys(alloc, &mut memory);
+    expect(&rt, two, Ok(true), "keys");
     Ok(())
 }
 
 #[test]
 fn memory_holds_what_was_encrypted(rt: HostRuntime) -> Result<(), Fail> {
-    let alloc = rt.alloc();
     let mut memory = MemReaderWriter::default();
-    let encrypted = EncryptedKeyset {
-        encrypted_keyset: Bytes::from_slice(alloc, b"\x01\x02")?,
-        keyset_info: None,
-    };
-    let bytes = bytes_through(alloc, &mut memory, &encrypted)?;
-    expect_bytes(&rt, bytes.as_slice(), b"\x01\x02", "the bytes");
+    let bytes = passed(rt.alloc(), &mut memory, b"\x01\x02");
+    expect(&rt, gives(bytes, b"\x01\x02"), Ok(true), "the bytes");
     expect(&rt, memory.keyset.is_none(), true, "a keyset as it is");
     Ok(())
 }

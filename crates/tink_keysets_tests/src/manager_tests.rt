@@ -6,7 +6,7 @@ use std::test::Fail;
 use tink_io::{Draws, Kind, TinkError};
 use tink_keysets::keyset::insecure::keyset_material;
 use tink_keysets::keyset::{Handle, Manager, law_managers_give_held};
-use tink_proto::Key;
+use tink_proto::{Key, KeyTemplate, Keyset, KeysetInfo};
 use tink_registry::Registry;
 use tink_testutil::{TestManager, URL, bare, handle_of, key, kind_of, registry_of, template};
 
@@ -27,37 +27,56 @@ fn manager_of_one(alloc: Global) -> Result<Manager, TinkError> {
     Ok(Manager::new_from_handle(h))
 }
 
-// The primary id and the id of the last key.
-fn ids_of(alloc: Global, manager: &Manager) -> Result<Option<(u32, u32)>, TinkError> {
-    let info = manager.handle(alloc)?.keyset_info(alloc)?;
+// What is told of the manager's keys.
+fn info_of(alloc: Global, manager: &Manager) -> Result<KeysetInfo, TinkError> {
+    let h = manager.handle(alloc)?;
+    h.keyset_info(alloc)
+}
+
+// Whether the primary id and the id of the last key are these.
+fn has_ids(alloc: Global, manager: &Manager, primary: u32, last: u32) -> Result<bool, TinkError> {
+    let info = info_of(alloc, manager)?;
     Ok(match info.key_info.as_slice().last() {
-        Some(last) => Some((info.primary_key_id, last.key_id)),
-        None => None,
+        Some(key) => info.primary_key_id == primary && key.key_id == last,
+        None => false,
     })
 }
 
-// The id of a new key that is not the primary one, and the draws that are left.
+// The id of a new key by a template.
 fn added(
     alloc: Global,
     manager: &mut Manager,
-    prefix: i32,
+    kt: &KeyTemplate,
     draws: &mut Draws,
     as_primary: bool,
 ) -> Result<u32, TinkError> {
-    let kt = template(alloc, URL, &[], prefix)?;
-    manager.add(alloc, &kt, &symmetric(alloc)?, draws, as_primary)
+    let registry = symmetric(alloc)?;
+    manager.add(alloc, kt, &registry, draws, as_primary)
+}
+
+// The id of a new RAW key, for which these draws are left behind those of its bytes, or how it is refused. All draws
+// are taken.
+fn added_raw(
+    alloc: Global,
+    manager: &mut Manager,
+    ids: &[u8],
+    as_primary: bool,
+) -> Result<(Result<u32, TinkError>, usize), TinkError> {
+    let kt = template(alloc, URL, &[], 3)?;
+    let mut draws = draws_with(alloc, ids)?;
+    let id = added(alloc, manager, &kt, &mut draws, as_primary);
+    Ok((id, draws.left()))
 }
 
 #[test]
 fn an_id_that_is_0_or_in_use_is_passed_over(rt: HostRuntime) -> Result<(), Fail> {
     let alloc = rt.alloc();
     let mut manager = manager_of_one(alloc)?;
-    let mut draws = draws_with(alloc, b"\x00\x00\x00\x00\x01\x02\x03\x04\x0a\x0b\x0c\x0d")?;
-    let id = added(alloc, &mut manager, 3, &mut draws, false)?;
-    expect(&rt, id, 0x0a0b0c0d, "the id");
-    expect(&rt, draws.left(), 0, "draws");
-    let ids = ids_of(alloc, &manager)?;
-    expect(&rt, ids, Some((0x01020304, 0x0a0b0c0d)), "the ids");
+    let ids = b"\x00\x00\x00\x00\x01\x02\x03\x04\x0a\x0b\x0c\x0d";
+    let id = added_raw(alloc, &mut manager, ids, false);
+    expect(&rt, id, Ok((Ok(0x0a0b0c0d), 0)), "the id, and no draws");
+    let are = has_ids(alloc, &manager, 0x01020304, 0x0a0b0c0d);
+    expect(&rt, are, Ok(true), "the ids");
     Ok(())
 }
 
@@ -65,37 +84,42 @@ fn an_id_that_is_0_or_in_use_is_passed_over(rt: HostRuntime) -> Result<(), Fail>
 fn too_few_draws_for_an_id_leave_the_keys(rt: HostRuntime) -> Result<(), Fail> {
     let alloc = rt.alloc();
     let mut manager = manager_of_one(alloc)?;
-    let mut draws = draws_with(alloc, b"\x01\x02\x03\x04")?;
-    let refused = added(alloc, &mut manager, 3, &mut draws, false);
-    expect(
-        &rt,
-        kind_of(refused),
-        Some(Kind::RandomFault),
-        "the refusal",
-    );
-    expect(&rt, draws.left(), 0, "draws");
+    let refused = added_raw(alloc, &mut manager, b"\x01\x02\x03\x04", false);
+    let fault = Err(TinkError::new(Kind::RandomFault));
+    expect(&rt, refused, Ok((fault, 0)), "the refusal, and no draws");
     expect(&rt, manager.key_count(), 1, "keys");
     Ok(())
+}
+
+// The id of a new primary key by a template.
+fn rotated(
+    alloc: Global,
+    manager: &mut Manager,
+    kt: &KeyTemplate,
+    draws: &mut Draws,
+) -> Result<u32, TinkError> {
+    let registry = symmetric(alloc)?;
+    manager.rotate(alloc, kt, &registry, draws)
 }
 
 // The refusal of a new primary key by a template.
 fn rotation_refusal(
     alloc: Global,
     manager: &mut Manager,
-    type_url: &str,
-    format: &[u8],
-    prefix: i32,
+    kt: Result<KeyTemplate, TinkError>,
     draws: &mut Draws,
-) -> Result<Option<Kind>, TinkError> {
-    let kt = template(alloc, type_url, format, prefix)?;
-    Ok(kind_of(manager.rotate(alloc, &kt, &symmetric(alloc)?, draws)))
+) -> Option<Kind> {
+    match kt {
+        Ok(kt) => kind_of(rotated(alloc, manager, &kt, draws)),
+        Err(e) => Some(e.kind),
+    }
 }
 
 #[test]
 fn a_refused_adding_names_its_cause(rt: HostRuntime) -> Result<(), Fail> {
     let alloc = rt.alloc();
-    let mut manager = manager_of_one(alloc)?;
     let mut draws = draws_with(alloc, &[0; 512])?;
+    let mut manager = manager_of_one(alloc)?;
     for (url, format, prefix, want) in [
         ("x", b"\x07".as_slice(), 0, Kind::UnsupportedKeyType),
         (URL, b"\x07", 0, Kind::UnknownPrefix),
@@ -103,58 +127,83 @@ fn a_refused_adding_names_its_cause(rt: HostRuntime) -> Result<(), Fail> {
         (URL, b"", 4, Kind::NoFreshId),
         (URL, b"", 4, Kind::RandomFault),
     ] {
-        let refused = rotation_refusal(alloc, &mut manager, url, format, prefix, &mut draws)?;
+        let kt = template(alloc, url, format, prefix);
+        let refused = rotation_refusal(alloc, &mut manager, kt, &mut draws);
         expect(&rt, refused, Some(want), "the refusal");
     }
     expect(&rt, manager.key_count(), 1, "keys");
     Ok(())
 }
 
-// The manager of a new handle, whose key has the id 01020304.
-fn manager_of_new(alloc: Global) -> Result<Manager, TinkError> {
-    let registry = symmetric(alloc)?;
-    law_managers_give_held(&registry);
-    let kt = template(alloc, URL, &[], 1)?;
+// A new handle, whose key has the id 01020304.
+fn new_handle(
+    alloc: Global,
+    registry: &Registry<TestManager>,
+    kt: &KeyTemplate,
+) -> Result<Handle, TinkError> {
     let mut draws = draws_with(alloc, b"\x01\x02\x03\x04")?;
-    Ok(Manager::new_from_handle(Handle::new(alloc, &kt, &registry, &mut draws)?))
+    Handle::new(alloc, kt, registry, &mut draws)
 }
 
-// The id of a new primary key.
-fn rotated(alloc: Global, manager: &mut Manager, id: &[u8]) -> Result<u32, TinkError> {
-    let kt = template(alloc, URL, &[], 1)?;
-    manager.rotate(alloc, &kt, &symmetric(alloc)?, &mut draws_with(alloc, id)?)
+// Its manager.
+fn manager_of_new(alloc: Global, kt: &KeyTemplate) -> Result<Manager, TinkError> {
+    let registry = symmetric(alloc)?;
+    law_managers_give_held(&registry);
+    let h = new_handle(alloc, &registry, kt)?;
+    Ok(Manager::new_from_handle(h))
+}
+
+// The id of a new primary key, which is drawn.
+fn rotated_to(
+    alloc: Global,
+    manager: &mut Manager,
+    kt: &KeyTemplate,
+    id: &[u8],
+) -> Result<u32, TinkError> {
+    let mut draws = draws_with(alloc, id)?;
+    rotated(alloc, manager, kt, &mut draws)
 }
 
 #[test]
 fn a_new_handle_has_one_primary_key(rt: HostRuntime) -> Result<(), Fail> {
     let alloc = rt.alloc();
-    let mut manager = manager_of_new(alloc)?;
+    let kt = template(alloc, URL, &[], 1)?;
+    let mut manager = manager_of_new(alloc, &kt)?;
     expect(&rt, manager.key_count(), 1, "keys");
-    let one = Some((0x01020304, 0x01020304));
-    expect(&rt, ids_of(alloc, &manager)?, one, "the ids");
-    let id = rotated(alloc, &mut manager, b"\x05\x06\x07\x08")?;
-    expect(&rt, id, 0x05060708, "a new id");
-    let other = Some((0x05060708, 0x05060708));
-    expect(&rt, ids_of(alloc, &manager)?, other, "the ids after it");
+    let are = has_ids(alloc, &manager, 0x01020304, 0x01020304);
+    expect(&rt, are, Ok(true), "the ids");
+    let id = rotated_to(alloc, &mut manager, &kt, b"\x05\x06\x07\x08");
+    expect(&rt, id, Ok(0x05060708), "a new id");
+    let are = has_ids(alloc, &manager, 0x05060708, 0x05060708);
+    expect(&rt, are, Ok(true), "the ids after it");
     Ok(())
 }
 
-/// A call that is refused for want of memory leaves the keys and the primary id, and one that isn't adds a key.
+// Whether a RAW key of the id is added.
+fn is_added(alloc: Global, manager: &mut Manager, id: u8, as_primary: bool) -> bool {
+    match added_raw(alloc, manager, &[0, 0, 0, id], as_primary) {
+        Ok((id, _)) => id.is_ok(),
+        Err(_) => false,
+    }
+}
+
+/// A call that is refused for `OutOfMemory` leaves the keys and the primary id, and one that isn't adds a key.
 #[test]
 fn a_key_is_added_or_the_keyset_is_left(rt: HostRuntime) -> Result<(), Fail> {
     let alloc = rt.alloc();
     let mut manager = manager_of_one(alloc)?;
-    let mut want = (0x01020304, 0x01020304);
+    let mut primary = 0x01020304;
+    let mut last = 0x01020304;
     let mut count: usize = 1;
     for (id, as_primary) in [(5, false), (6, true), (7, false), (8, true)] {
-        let mut draws = draws_with(alloc, &[0, 0, 0, id])?;
-        let id = id as u32;
-        if added(alloc, &mut manager, 3, &mut draws, as_primary).is_ok() {
+        if is_added(alloc, &mut manager, id, as_primary) {
             count = count.wrapping_add(1);
-            want = (if as_primary { id } else { want.0 }, id);
+            last = id as u32;
+            primary = if as_primary { last } else { primary };
         }
         expect(&rt, manager.key_count(), count, "keys");
-        expect(&rt, ids_of(alloc, &manager)?, Some(want), "the ids");
+        let are = has_ids(alloc, &manager, primary, last);
+        expect(&rt, are, Ok(true), "the ids");
     }
     expect(&rt, 4 <= count, true, "nearly all are added");
     Ok(())
@@ -162,7 +211,8 @@ fn a_key_is_added_or_the_keyset_is_left(rt: HostRuntime) -> Result<(), Fail> {
 
 // A handle of one key.
 fn one_key(alloc: Global, only: Key) -> Result<Handle, TinkError> {
-    handle_of(7, vec![in alloc; only]?)
+    let keys = vec![in alloc; only]?;
+    handle_of(7, keys)
 }
 
 // The public part of a key, over a registry.
@@ -184,43 +234,56 @@ fn private_keys(alloc: Global) -> Result<Registry<TestManager>, TinkError> {
     registry_of(alloc, manager)
 }
 
+// The keyset of the public part of a private key of id 7.
+fn public_material(alloc: Global, registry: &Registry<TestManager>) -> Result<Keyset, TinkError> {
+    let private = key(alloc, 2, 1, 7)?;
+    let public = public_part(alloc, registry, private)?;
+    keyset_material(alloc, &public)
+}
+
 #[test]
 fn a_public_part_is_no_secret(rt: HostRuntime) -> Result<(), Fail> {
-    let alloc = rt.alloc();
-    let public = public_part(alloc, &private_keys(alloc)?, key(alloc, 2, 1, 7)?)?;
-    let material = keyset_material(alloc, &public)?;
+    let registry = private_keys(rt.alloc())?;
+    let material = public_material(rt.alloc(), &registry)?;
     expect(&rt, material.primary_key_id, 7, "the primary id");
     let h = Handle::new_with_no_secrets(material);
     expect(&rt, kind_of(h), None, "without secrets");
     Ok(())
 }
 
+// How the public part of a key is refused.
+fn public_refusal(
+    alloc: Global,
+    registry: &Registry<TestManager>,
+    private: Result<Key, TinkError>,
+) -> Option<Kind> {
+    match private {
+        Ok(private) => kind_of(public_part(alloc, registry, private)),
+        Err(e) => Some(e.kind),
+    }
+}
+
 #[test]
 fn public_parts_are_of_private_keys(rt: HostRuntime) -> Result<(), Fail> {
     let alloc = rt.alloc();
     let registry = private_keys(alloc)?;
-    let no_data = public_part(alloc, &registry, bare(3, 8));
-    expect(&rt, kind_of(no_data), Some(Kind::InvalidKeyset), "no data");
-    let symmetric_key = public_part(alloc, &registry, key(alloc, 1, 1, 7)?);
-    expect(
-        &rt,
-        kind_of(symmetric_key),
-        Some(Kind::NotPrivate),
-        "symmetric",
-    );
-    let no_private = public_part(alloc, &symmetric(alloc)?, key(alloc, 2, 1, 7)?);
-    expect(
-        &rt,
-        kind_of(no_private),
-        Some(Kind::NoPrivateKeys),
-        "none of the manager",
-    );
-    let no_manager = public_part(alloc, &Registry::new(alloc), key(alloc, 2, 1, 7)?);
-    expect(
-        &rt,
-        kind_of(no_manager),
-        Some(Kind::UnsupportedKeyType),
-        "no manager",
-    );
+    let no_data = public_refusal(alloc, &registry, Ok(bare(3, 8)));
+    expect(&rt, no_data, Some(Kind::InvalidKeyset), "no data");
+    let of_symmetric = public_refusal(alloc, &registry, key(alloc, 1, 1, 7));
+    expect(&rt, of_symmetric, Some(Kind::NotPrivate), "symmetric");
+    Ok(())
+}
+
+#[test]
+fn public_parts_are_the_managers(rt: HostRuntime) -> Result<(), Fail> {
+    let alloc = rt.alloc();
+    let registry = symmetric(alloc)?;
+    let none = public_refusal(alloc, &registry, key(alloc, 2, 1, 7));
+    let want = Some(Kind::NoPrivateKeys);
+    expect(&rt, none, want, "none of the manager");
+    let nothing = Registry::new(alloc);
+    let none = public_refusal(alloc, &nothing, key(alloc, 2, 1, 7));
+    let want = Some(Kind::UnsupportedKeyType);
+    expect(&rt, none, want, "no manager");
     Ok(())
 }

@@ -1,11 +1,10 @@
--- What the meaning of a primitive tells of a call: its one answer, a value or a kind, and the draws left. Want of
--- memory is no part of it.
+-- What the meaning of a primitive tells of a call: its one answer, a value or a kind, and the draws left.
+-- `OutOfMemory` is no part of it.
 use Rattle.std.specs.Prelude.{◌≡◌, ◌++◌, ⊤, List, ℕ, Result, Ok, Err}
 use Rattle.tink_io.specs.declared.error.Kind.{Kind}
 use Rattle.tink_io.specs.declared.error.Kind.TheVariants.{OutOfMemory, MacMismatch}
-use Rattle.tink_io.specs.declared.error.TinkError.{TinkError}
 
--- a value, or a kind that isn't want of memory
+-- a value, or a kind that isn't `OutOfMemory`
 abbrev pub IsTold : {T : Type 0} → Result T Kind → Type 0
 IsTold (Ok _) = ⊤
 IsTold (Err OutOfMemory) = ⊥
@@ -25,8 +24,3 @@ abbrev pub IsMatch : Result (Unit {0}) Kind → Type 0
 IsMatch (Ok _) = ⊤
 IsMatch (Err MacMismatch) = ⊤
 IsMatch (Err _) = ⊥
-
--- a call that needs no memory gives the told answer
-abbrev pub Gives : {T : Type 0} → Result T TinkError → Result T Kind → Type 0
-Gives (Ok v) told = told ≡ Ok v
-Gives (Err e) told = told ≡ Err e.kind

@@ -18,7 +18,7 @@ pub made_told : {S T : Type 0} (f : S → T) (r : Result S Kind) → IsTold r �
 made_told f (Ok v) told = tt
 made_told f (Err k) told = told
 
--- want of memory is told by none
+-- `OutOfMemory` is told by none
 pub told_apart : {T : Type 0} (r : Result T Kind) → IsTold r → r ≡ Err OutOfMemory → ⊥
 told_apart r told is = subst IsTold is told
 

@@ -2,7 +2,7 @@
 
 ghost use Rattle.std.specs.Prelude.{◌≡◌};
 ghost use Rattle.tink_io.specs.declared.error.Kind.TheVariants.{WrongPrimitive};
-ghost use Rattle.tink_primitives.specs.Meaning.{Gives};
+ghost use Rattle.tink_io.specs.Told.{Tells};
 ghost use Rattle.tink_primitives.specs.Sorts.{as_aead, as_deterministic_aead, as_hybrid_decrypt, as_hybrid_encrypt, as_mac, as_prf, as_signer, as_streaming_aead, as_verifier};
 
 use crate::{CloneIn, Kinds};
@@ -33,7 +33,7 @@ impl<K: Kinds> Primitive<K> {
 
     /// The AEAD, or `WrongPrimitive` where it is of another sort.
     pub fn into_aead(self) -> Result<K::Aead, TinkError>
-        ensures value { Gives result (as_aead self) }
+        ensures value { Tells result (as_aead self) }
     {
         match self {
             Primitive::Aead(p) => Ok(p),
@@ -43,7 +43,7 @@ impl<K: Kinds> Primitive<K> {
 
     /// The deterministic AEAD, or `WrongPrimitive` where it is of another sort.
     pub fn into_deterministic_aead(self) -> Result<K::DeterministicAead, TinkError>
-        ensures value { Gives result (as_deterministic_aead self) }
+        ensures value { Tells result (as_deterministic_aead self) }
     {
         match self {
             Primitive::DeterministicAead(p) => Ok(p),
@@ -53,7 +53,7 @@ impl<K: Kinds> Primitive<K> {
 
     /// The hybrid decryption, or `WrongPrimitive` where it is of another sort.
     pub fn into_hybrid_decrypt(self) -> Result<K::HybridDecrypt, TinkError>
-        ensures value { Gives result (as_hybrid_decrypt self) }
+        ensures value { Tells result (as_hybrid_decrypt self) }
     {
         match self {
             Primitive::HybridDecrypt(p) => Ok(p),
@@ -63,7 +63,7 @@ impl<K: Kinds> Primitive<K> {
 
     /// The hybrid encryption, or `WrongPrimitive` where it is of another sort.
     pub fn into_hybrid_encrypt(self) -> Result<K::HybridEncrypt, TinkError>
-        ensures value { Gives result (as_hybrid_encrypt self) }
+        ensures value { Tells result (as_hybrid_encrypt self) }
     {
         match self {
             Primitive::HybridEncrypt(p) => Ok(p),
@@ -73,7 +73,7 @@ impl<K: Kinds> Primitive<K> {
 
     /// The MAC, or `WrongPrimitive` where it is of another sort.
     pub fn into_mac(self) -> Result<K::Mac, TinkError>
-        ensures value { Gives result (as_mac self) }
+        ensures value { Tells result (as_mac self) }
     {
         match self {
             Primitive::Mac(p) => Ok(p),
@@ -83,7 +83,7 @@ impl<K: Kinds> Primitive<K> {
 
     /// The pseudorandom function, or `WrongPrimitive` where it is of another sort.
     pub fn into_prf(self) -> Result<K::Prf, TinkError>
-        ensures value { Gives result (as_prf self) }
+        ensures value { Tells result (as_prf self) }
     {
         match self {
             Primitive::Prf(p) => Ok(p),
@@ -93,7 +93,7 @@ impl<K: Kinds> Primitive<K> {
 
     /// The signer, or `WrongPrimitive` where it is of another sort.
     pub fn into_signer(self) -> Result<K::Signer, TinkError>
-        ensures value { Gives result (as_signer self) }
+        ensures value { Tells result (as_signer self) }
     {
         match self {
             Primitive::Signer(p) => Ok(p),
@@ -103,7 +103,7 @@ impl<K: Kinds> Primitive<K> {
 
     /// The streaming AEAD, or `WrongPrimitive` where it is of another sort.
     pub fn into_streaming_aead(self) -> Result<K::StreamingAead, TinkError>
-        ensures value { Gives result (as_streaming_aead self) }
+        ensures value { Tells result (as_streaming_aead self) }
     {
         match self {
             Primitive::StreamingAead(p) => Ok(p),
@@ -113,7 +113,7 @@ impl<K: Kinds> Primitive<K> {
 
     /// The verifier, or `WrongPrimitive` where it is of another sort.
     pub fn into_verifier(self) -> Result<K::Verifier, TinkError>
-        ensures value { Gives result (as_verifier self) }
+        ensures value { Tells result (as_verifier self) }
     {
         match self {
             Primitive::Verifier(p) => Ok(p),

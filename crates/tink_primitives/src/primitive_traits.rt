@@ -1,5 +1,5 @@
 //! The primitives, each by its meaning: for the arguments of a call the one answer, a value or a kind, and for a call
-//! that draws the draws that are then left. Want of memory alone is no part of a meaning.
+//! that draws the draws that are then left. `OutOfMemory` alone is no part of a meaning.
 
 ghost use Rattle.std.specs.Prelude.{List, ℕ, Result};
 ghost use Rattle.tink_io.specs.declared.error.Kind.{Kind};
@@ -37,7 +37,7 @@ pub trait Aead {
     ) -> Result<Bytes, TinkError>
         ensures answer { Answers result (decrypts self.now ciphertext.now additional_data.now) };
 
-    // Each answer is told, and draws are taken from the front.
+    // Each answer is told, and draws are taken in their order.
     ghost encrypts_told: { (p : Self) (plaintext additional_data draws : List ℕ) → IsDrawn draws (encrypts p plaintext additional_data draws) };
 
     ghost decrypts_told: { (p : Self) (ciphertext additional_data : List ℕ) → IsTold (decrypts p ciphertext additional_data) };
@@ -90,7 +90,7 @@ pub trait HybridEncrypt {
     ) -> Result<Bytes, TinkError>
         ensures replies { Replies result (encrypts self.now plaintext.now context_info.now draws.old) draws.old draws.new };
 
-    // Each answer is told, and draws are taken from the front.
+    // Each answer is told, and draws are taken in their order.
     ghost encrypts_told: { (p : Self) (plaintext context_info draws : List ℕ) → IsDrawn draws (encrypts p plaintext context_info draws) };
 }
 
@@ -162,7 +162,7 @@ pub trait Signer {
     fn sign(&self, alloc: Global, message: &[u8], draws: &mut Draws) -> Result<Bytes, TinkError>
         ensures replies { Replies result (signs self.now message.now draws.old) draws.old draws.new };
 
-    // Each answer is told, and draws are taken from the front.
+    // Each answer is told, and draws are taken in their order.
     ghost signs_told: { (p : Self) (message draws : List ℕ) → IsDrawn draws (signs p message draws) };
 }
 

@@ -16,7 +16,7 @@ pub struct Refused<T> {
 
 /// A writer that encrypts what it is given. The stream is whole only after `close`.
 pub trait EncryptingWrite {
-    /// Takes some bytes from the front of `buf`, and answers how many.
+    /// Takes the first bytes of `buf`, and answers how many.
     fn write(&mut self, buf: &[u8]) -> Result<usize, TinkError>
         ensures bound { WritesAtMost result buf.now };
 
@@ -28,7 +28,7 @@ pub trait EncryptingWrite {
 
 /// A reader of what a stream opens to.
 pub trait DecryptingRead {
-    /// Moves the next bytes of the text to the front of `buf`, and answers how many.
+    /// Moves the next bytes of the text to the beginning of `buf`, and answers how many.
     fn read(&mut self, buf: &mut [u8]) -> Result<usize, TinkError>
         ensures bound { ReadsAtMost result buf.new };
 }

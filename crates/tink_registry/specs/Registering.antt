@@ -16,7 +16,7 @@ AreMade (_ ∷ _) [] = ⊥
 AreMade (made ∷ makers) (m ∷ ms) = made m × AreMade makers ms
 
 -- All of them and the templates are registered, where none of their URLs was and no two have one; a refusal leaves the
--- registry, and comes where this is not so, or by want of memory.
+-- registry, and comes where this is not so, or by `OutOfMemory`.
 abbrev pub Registers : {M : Type 0} → (List M → Type 0) → (M → List ℕ) → List Named → Registered M → Registered M → Result (Unit {0}) TinkError → Type 0
 Registers {M} made url templates old new (Ok _) = (managers : List M) × made managers × (are_all_fresh url old.managers managers ≡ true) × (new ≡ with_all old managers templates)
 Registers {M} made url templates old new (Err e) =

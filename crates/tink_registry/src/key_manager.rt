@@ -16,7 +16,7 @@ use tink_primitives::{Kinds, Primitive};
 use tink_proto::{Bytes, KeyData, KeyMaterialType};
 
 /// What makes and builds the keys of one type. Its meaning gives for the arguments of each call the one answer and the
-/// draws then left; want of memory alone is no part of it.
+/// draws then left; `OutOfMemory` alone is no part of it.
 pub trait KeyManager {
     /// The primitives that it builds.
     type Family: Kinds;
@@ -91,7 +91,7 @@ pub trait KeyManager {
     fn public_key_data(&self, alloc: Global, serialized_key: &[u8]) -> Result<KeyData, TinkError>
         ensures answer { Answers result (gives_public self.now serialized_key.now) };
 
-    // Each answer is told, and draws are taken from the front.
+    // Each answer is told, and draws are taken in their order.
     ghost builds_told: { (m : Self) (key : List ℕ) → IsTold (builds m key) };
 
     ghost makes_told: { (m : Self) (format draws : List ℕ) → IsDrawn draws (makes m format draws) };

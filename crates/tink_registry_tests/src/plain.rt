@@ -1,17 +1,18 @@
-//! A primitive of each sort that gives back what it is given.
+//! A primitive of each sort.
 
-ghost use Rattle.std.specs.Prelude.{[], Ok};
+ghost use Rattle.std.specs.Prelude.{[], Ok, Err};
 ghost use Rattle.std.proofs.Common.{refl};
+ghost use Rattle.tink_io.specs.declared.error.Kind.TheVariants.{WrongPrimitive};
 
 use std::alloc::Global;
-use tink_io::{Draws, TinkError};
+use tink_io::{Draws, Kind, TinkError};
 use tink_primitives::{
     Aead, CloneIn, DeterministicAead, HybridDecrypt, HybridEncrypt, Kinds, Mac, Prf, Signer,
     Verifier,
 };
 use tink_proto::Bytes;
 
-/// Gives back what it is given, and accepts all.
+/// As an AEAD it gives back what it is given. As any other sort it makes nothing, and accepts all.
 #[derive(Drop)]
 pub struct Plain;
 
@@ -74,26 +75,26 @@ impl Aead for Plain {
 }
 
 impl DeterministicAead for Plain {
-    ghost encrypts = { λ _ text _. Ok text };
+    ghost encrypts = { λ _ _ _. Err WrongPrimitive };
 
-    ghost decrypts = { λ _ text _. Ok text };
+    ghost decrypts = { λ _ _ _. Err WrongPrimitive };
 
     fn encrypt_deterministically(
         &self,
-        alloc: Global,
-        plaintext: &[u8],
+        _alloc: Global,
+        _plaintext: &[u8],
         _additional_data: &[u8],
     ) -> Result<Bytes, TinkError> {
-        Ok(Bytes::from_slice(alloc, plaintext)?)
+        Err(TinkError::new(Kind::WrongPrimitive))
     }
 
     fn decrypt_deterministically(
         &self,
-        alloc: Global,
-        ciphertext: &[u8],
+        _alloc: Global,
+        _ciphertext: &[u8],
         _additional_data: &[u8],
     ) -> Result<Bytes, TinkError> {
-        Ok(Bytes::from_slice(alloc, ciphertext)?)
+        Err(TinkError::new(Kind::WrongPrimitive))
     }
 
     ghost encrypts_told = { λ _ _ _. tt };
@@ -102,43 +103,43 @@ impl DeterministicAead for Plain {
 }
 
 impl HybridDecrypt for Plain {
-    ghost decrypts = { λ _ text _. Ok text };
+    ghost decrypts = { λ _ _ _. Err WrongPrimitive };
 
     fn decrypt(
         &self,
-        alloc: Global,
-        ciphertext: &[u8],
+        _alloc: Global,
+        _ciphertext: &[u8],
         _context_info: &[u8],
     ) -> Result<Bytes, TinkError> {
-        Ok(Bytes::from_slice(alloc, ciphertext)?)
+        Err(TinkError::new(Kind::WrongPrimitive))
     }
 
     ghost decrypts_told = { λ _ _ _. tt };
 }
 
 impl HybridEncrypt for Plain {
-    ghost encrypts = { λ _ text _ draws. (Ok text, draws) };
+    ghost encrypts = { λ _ _ _ draws. (Err WrongPrimitive, draws) };
 
     fn encrypt(
         &self,
-        alloc: Global,
-        plaintext: &[u8],
+        _alloc: Global,
+        _plaintext: &[u8],
         _context_info: &[u8],
         _draws: &mut Draws,
     ) -> Result<Bytes, TinkError> {
-        Ok(Bytes::from_slice(alloc, plaintext)?)
+        Err(TinkError::new(Kind::WrongPrimitive))
     }
 
     ghost encrypts_told = { λ _ _ _ _. record { answer = tt; ends = ([], refl) } };
 }
 
 impl Mac for Plain {
-    ghost computes = { λ _ message. Ok message };
+    ghost computes = { λ _ _. Err WrongPrimitive };
 
     ghost verifies = { λ _ _ _. Ok tt };
 
-    fn compute_mac(&self, alloc: Global, message: &[u8]) -> Result<Bytes, TinkError> {
-        Ok(Bytes::from_slice(alloc, message)?)
+    fn compute_mac(&self, _alloc: Global, _message: &[u8]) -> Result<Bytes, TinkError> {
+        Err(TinkError::new(Kind::WrongPrimitive))
     }
 
     fn verify_mac(&self, _alloc: Global, _mac: &[u8], _message: &[u8]) -> Result<(), TinkError> {
@@ -151,25 +152,30 @@ impl Mac for Plain {
 }
 
 impl Prf for Plain {
-    ghost computes = { λ _ input _. Ok input };
+    ghost computes = { λ _ _ _. Err WrongPrimitive };
 
     fn compute_prf(
         &self,
-        alloc: Global,
-        input: &[u8],
+        _alloc: Global,
+        _input: &[u8],
         _output_length: usize,
     ) -> Result<Bytes, TinkError> {
-        Ok(Bytes::from_slice(alloc, input)?)
+        Err(TinkError::new(Kind::WrongPrimitive))
     }
 
     ghost computes_told = { λ _ _ _. tt };
 }
 
 impl Signer for Plain {
-    ghost signs = { λ _ message draws. (Ok message, draws) };
+    ghost signs = { λ _ _ draws. (Err WrongPrimitive, draws) };
 
-    fn sign(&self, alloc: Global, message: &[u8], _draws: &mut Draws) -> Result<Bytes, TinkError> {
-        Ok(Bytes::from_slice(alloc, message)?)
+    fn sign(
+        &self,
+        _alloc: Global,
+        _message: &[u8],
+        _draws: &mut Draws,
+    ) -> Result<Bytes, TinkError> {
+        Err(TinkError::new(Kind::WrongPrimitive))
     }
 
     ghost signs_told = { λ _ _ _. record { answer = tt; ends = ([], refl) } };

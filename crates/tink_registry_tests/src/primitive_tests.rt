@@ -4,13 +4,17 @@ ghost use Rattle.std.specs.Prelude.{◌≡◌, [], Ok};
 ghost use Rattle.tink_io.specs.Told.{Replies};
 ghost use Rattle.tink_primitives.specs.Sorts.{as_aead};
 
-use crate::expecting::{expect, expect_bytes};
+use crate::expecting::{expect, gives};
 use crate::plain::{Plain, Plains};
 use std::alloc::Global;
 use std::test::Fail;
 use tink_io::{Draws, Kind, TinkError};
 use tink_primitives::{Aead, CloneIn, Kinds, Primitive};
 use tink_proto::Bytes;
+use tink_sets::sorts::{
+    Aeads, DeterministicAeads, HybridDecrypters, HybridEncrypters, Macs, Prfs, Signers, Sort,
+    StreamingAeads, Verifiers,
+};
 use tink_testutil::kind_of;
 
 /// Encrypts where the primitive is an AEAD.
@@ -26,105 +30,65 @@ fn encrypt_by<K: Kinds>(
     aead.encrypt(alloc, text, &[], draws)
 }
 
-// How each conversion refuses a primitive, if it does.
-
-fn as_aead(p: Primitive<Plains>) -> Option<Kind> {
-    kind_of(p.into_aead())
-}
-
-fn as_deterministic_aead(p: Primitive<Plains>) -> Option<Kind> {
-    kind_of(p.into_deterministic_aead())
-}
-
-fn as_hybrid_decrypt(p: Primitive<Plains>) -> Option<Kind> {
-    kind_of(p.into_hybrid_decrypt())
-}
-
-fn as_hybrid_encrypt(p: Primitive<Plains>) -> Option<Kind> {
-    kind_of(p.into_hybrid_encrypt())
-}
-
-fn as_mac(p: Primitive<Plains>) -> Option<Kind> {
-    kind_of(p.into_mac())
-}
-
-fn as_prf(p: Primitive<Plains>) -> Option<Kind> {
-    kind_of(p.into_prf())
-}
-
-fn as_signer(p: Primitive<Plains>) -> Option<Kind> {
-    kind_of(p.into_signer())
-}
-
-fn as_streaming_aead(p: Primitive<Plains>) -> Option<Kind> {
-    kind_of(p.into_streaming_aead())
-}
-
-fn as_verifier(p: Primitive<Plains>) -> Option<Kind> {
-    kind_of(p.into_verifier())
+// How the conversion to a sort refuses a primitive, if it does.
+fn refusal_as<S: Sort<Plains>>(p: Primitive<Plains>) -> Option<Kind> {
+    kind_of(S::pick(p))
 }
 
 #[test]
 fn a_primitive_of_the_sort_is_handed_out(rt: HostRuntime) -> Result<(), Fail> {
-    expect(&rt, as_aead(Primitive::Aead(Plain)), None, "AEAD");
-    let p = Primitive::DeterministicAead(Plain);
-    expect(&rt, as_deterministic_aead(p), None, "deterministic AEAD");
-    let p = Primitive::HybridDecrypt(Plain);
-    expect(&rt, as_hybrid_decrypt(p), None, "hybrid decryption");
-    let p = Primitive::HybridEncrypt(Plain);
-    expect(&rt, as_hybrid_encrypt(p), None, "hybrid encryption");
-    expect(&rt, as_mac(Primitive::Mac(Plain)), None, "MAC");
-    expect(&rt, as_prf(Primitive::Prf(Plain)), None, "PRF");
-    expect(&rt, as_signer(Primitive::Signer(Plain)), None, "signer");
-    let p = Primitive::StreamingAead(Plain);
-    expect(&rt, as_streaming_aead(p), None, "streaming AEAD");
-    expect(
-        &rt,
-        as_verifier(Primitive::Verifier(Plain)),
-        None,
-        "verifier",
-    );
+    let refused = refusal_as::<Aeads>(Primitive::Aead(Plain));
+    expect(&rt, refused, None, "AEAD");
+    let refused = refusal_as::<DeterministicAeads>(Primitive::DeterministicAead(Plain));
+    expect(&rt, refused, None, "deterministic AEAD");
+    let refused = refusal_as::<HybridDecrypters>(Primitive::HybridDecrypt(Plain));
+    expect(&rt, refused, None, "hybrid decryption");
+    let refused = refusal_as::<HybridEncrypters>(Primitive::HybridEncrypt(Plain));
+    expect(&rt, refused, None, "hybrid encryption");
+    let refused = refusal_as::<Macs>(Primitive::Mac(Plain));
+    expect(&rt, refused, None, "MAC");
+    let refused = refusal_as::<Prfs>(Primitive::Prf(Plain));
+    expect(&rt, refused, None, "PRF");
+    let refused = refusal_as::<Signers>(Primitive::Signer(Plain));
+    expect(&rt, refused, None, "signer");
+    let refused = refusal_as::<StreamingAeads>(Primitive::StreamingAead(Plain));
+    expect(&rt, refused, None, "streaming AEAD");
+    let refused = refusal_as::<Verifiers>(Primitive::Verifier(Plain));
+    expect(&rt, refused, None, "verifier");
     Ok(())
 }
 
 #[test]
 fn a_primitive_of_another_sort_is_refused(rt: HostRuntime) -> Result<(), Fail> {
     let wrong = Some(Kind::WrongPrimitive);
-    expect(
-        &rt,
-        as_aead(Primitive::DeterministicAead(Plain)),
-        wrong,
-        "AEAD",
-    );
-    let p = Primitive::Aead(Plain);
-    expect(&rt, as_deterministic_aead(p), wrong, "deterministic AEAD");
-    let p = Primitive::HybridEncrypt(Plain);
-    expect(&rt, as_hybrid_decrypt(p), wrong, "hybrid decryption");
-    let p = Primitive::HybridDecrypt(Plain);
-    expect(&rt, as_hybrid_encrypt(p), wrong, "hybrid encryption");
-    expect(&rt, as_mac(Primitive::Prf(Plain)), wrong, "MAC");
-    expect(&rt, as_prf(Primitive::Mac(Plain)), wrong, "PRF");
-    expect(&rt, as_signer(Primitive::Verifier(Plain)), wrong, "signer");
-    expect(
-        &rt,
-        as_streaming_aead(Primitive::Aead(Plain)),
-        wrong,
-        "streaming AEAD",
-    );
-    expect(
-        &rt,
-        as_verifier(Primitive::Signer(Plain)),
-        wrong,
-        "verifier",
-    );
+    let refused = refusal_as::<Aeads>(Primitive::DeterministicAead(Plain));
+    expect(&rt, refused, wrong, "AEAD");
+    let refused = refusal_as::<DeterministicAeads>(Primitive::Aead(Plain));
+    expect(&rt, refused, wrong, "deterministic AEAD");
+    let refused = refusal_as::<HybridDecrypters>(Primitive::HybridEncrypt(Plain));
+    expect(&rt, refused, wrong, "hybrid decryption");
+    let refused = refusal_as::<HybridEncrypters>(Primitive::HybridDecrypt(Plain));
+    expect(&rt, refused, wrong, "hybrid encryption");
+    let refused = refusal_as::<Macs>(Primitive::Prf(Plain));
+    expect(&rt, refused, wrong, "MAC");
+    let refused = refusal_as::<Prfs>(Primitive::Mac(Plain));
+    expect(&rt, refused, wrong, "PRF");
+    let refused = refusal_as::<Signers>(Primitive::Verifier(Plain));
+    expect(&rt, refused, wrong, "signer");
+    let refused = refusal_as::<StreamingAeads>(Primitive::Aead(Plain));
+    expect(&rt, refused, wrong, "streaming AEAD");
+    let refused = refusal_as::<Verifiers>(Primitive::Signer(Plain));
+    expect(&rt, refused, wrong, "verifier");
     Ok(())
 }
 
 #[test]
 fn a_copy_is_of_the_same_sort(rt: HostRuntime) -> Result<(), Fail> {
     let p = Primitive::Mac(Plain);
-    expect(&rt, as_mac(p.try_clone(rt.alloc())?), None, "the copy");
-    expect(&rt, as_aead(p), Some(Kind::WrongPrimitive), "as another");
+    let copy = p.try_clone(rt.alloc())?;
+    expect(&rt, refusal_as::<Macs>(copy), None, "the copy");
+    let refused = refusal_as::<Aeads>(p);
+    expect(&rt, refused, Some(Kind::WrongPrimitive), "as another");
     Ok(())
 }
 
@@ -132,8 +96,8 @@ fn a_copy_is_of_the_same_sort(rt: HostRuntime) -> Result<(), Fail> {
 fn encrypts_by_the_primitive(rt: HostRuntime) -> Result<(), Fail> {
     let alloc = rt.alloc();
     let mut draws = Draws::new(Vec::new(alloc));
-    let sealed = encrypt_by(Primitive::<Plains>::Aead(Plain), alloc, b"abc", &mut draws)?;
-    expect_bytes(&rt, sealed.as_slice(), b"abc", "the text itself");
+    let sealed = encrypt_by(Primitive::<Plains>::Aead(Plain), alloc, b"abc", &mut draws);
+    expect(&rt, gives(sealed, b"abc"), Ok(true), "the text itself");
     let refused = encrypt_by(Primitive::<Plains>::Prf(Plain), alloc, b"abc", &mut draws);
     expect(
         &rt,

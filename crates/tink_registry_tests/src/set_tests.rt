@@ -4,8 +4,9 @@ ghost use Rattle.std.specs.Prelude.{◌≡◌, ◌∷◌, [], IfOk, OnOk, OnErr}
 ghost use Rattle.tink_sets.specs.Groups.{AddsLast, AreGroupsOf, HaveSameGroups};
 ghost use Rattle.tink_sets.specs.Entries.{entry_of, prefix_of};
 
-use crate::expecting::{expect, expect_bytes};
+use crate::expecting::{expect, gives};
 use std::alloc::Global;
+use std::collections::BTreeMap;
 use std::test::Fail;
 use tink_io::{Kind, TinkError};
 use tink_primitives::{KeyId, Kinds, Primitive};
@@ -87,13 +88,13 @@ fn added_number(
     number: u8,
     key: &Key,
 ) -> Result<Option<u8>, TinkError> {
-    Ok(number_of(set.add(alloc, aead(alloc, number)?, key)?))
+    let p = aead(alloc, number)?;
+    Ok(number_of(set.add(alloc, p, key)?))
 }
 
 /// The prefixes of keys with the id 01020304.
 #[test]
 fn a_prefix_is_a_byte_and_the_id(rt: HostRuntime) -> Result<(), Fail> {
-    let alloc = rt.alloc();
     for (prefix, want) in [
         (
             OutputPrefixType::Tink,
@@ -103,16 +104,12 @@ fn a_prefix_is_a_byte_and_the_id(rt: HostRuntime) -> Result<(), Fail> {
         (OutputPrefixType::Legacy, &[LEGACY_START_BYTE, 1, 2, 3, 4]),
         (OutputPrefixType::Raw, &RAW_PREFIX),
     ] {
-        let made = output_prefix(alloc, &key_of(prefix))?;
-        expect_bytes(&rt, made.as_slice(), want, "a known type");
+        let made = output_prefix(rt.alloc(), &key_of(prefix));
+        expect(&rt, gives(made, want), Ok(true), "a known type");
     }
-    let unknown = output_prefix(alloc, &key_of(OutputPrefixType::UnknownPrefix));
-    expect(
-        &rt,
-        kind_of(unknown),
-        Some(Kind::UnknownPrefix),
-        "an unknown type",
-    );
+    let unknown = output_prefix(rt.alloc(), &key_of(OutputPrefixType::UnknownPrefix));
+    let want = Some(Kind::UnknownPrefix);
+    expect(&rt, kind_of(unknown), want, "an unknown type");
     Ok(())
 }
 
@@ -126,12 +123,8 @@ fn constants_have_their_numbers(rt: HostRuntime) -> Result<(), Fail> {
     ] {
         expect(&rt, got, want, "a size");
     }
-    expect(
-        &rt,
-        (TINK_START_BYTE, LEGACY_START_BYTE),
-        (1, 0),
-        "the first bytes",
-    );
+    expect(&rt, TINK_START_BYTE, 1, "the first byte of TINK");
+    expect(&rt, LEGACY_START_BYTE, 0, "that of LEGACY");
     Ok(())
 }
 
@@ -141,20 +134,15 @@ fn put(
     number: u8,
     prefix: OutputPrefixType,
 ) -> Result<(), TinkError> {
-    set.put(alloc, aead(alloc, number)?, &key_of(prefix))
+    let p = aead(alloc, number)?;
+    set.put(alloc, p, &key_of(prefix))
 }
 
-// Two RAW entries, of the numbers 7 and 9, and a TINK one between them.
-fn set_of_three(alloc: Global) -> Result<PrimitiveSet<TestKinds>, TinkError> {
-    let mut set = PrimitiveSet::new(alloc);
-    for (number, prefix) in [
-        (7, OutputPrefixType::Raw),
-        (8, OutputPrefixType::Tink),
-        (9, OutputPrefixType::Raw),
-    ] {
-        put(alloc, &mut set, number, prefix)?;
-    }
-    Ok(set)
+// Puts two RAW entries, of the numbers 7 and 9, and a TINK one between them.
+fn put_three(alloc: Global, set: &mut PrimitiveSet<TestKinds>) -> Result<(), TinkError> {
+    put(alloc, set, 7, OutputPrefixType::Raw)?;
+    put(alloc, set, 8, OutputPrefixType::Tink)?;
+    put(alloc, set, 9, OutputPrefixType::Raw)
 }
 
 fn two_numbers(entries: &[Entry<TestKinds>]) -> Option<(Option<u8>, Option<u8>)> {
@@ -164,31 +152,27 @@ fn two_numbers(entries: &[Entry<TestKinds>]) -> Option<(Option<u8>, Option<u8>)>
     }
 }
 
+// The numbers of the RAW entries of a copy.
+fn copied_numbers(
+    alloc: Global,
+    set: &PrimitiveSet<TestKinds>,
+) -> Result<Option<(Option<u8>, Option<u8>)>, TinkError> {
+    let copy = set.try_clone(alloc)?;
+    Ok(two_numbers(copy.raw_entries()))
+}
+
 #[test]
 fn entries_stand_in_the_order_of_adding(rt: HostRuntime) -> Result<(), Fail> {
-    let alloc = rt.alloc();
-    let set = set_of_three(alloc)?;
+    let mut set = PrimitiveSet::new(rt.alloc());
+    expect(&rt, put_three(rt.alloc(), &mut set), Ok(()), "the entries");
     let want = Some((Some(7), Some(9)));
     expect(&rt, two_numbers(set.raw_entries()), want, "RAW entries");
-    expect(
-        &rt,
-        set.entries_for_prefix(&[1, 1, 2, 3, 4]).len(),
-        1,
-        "a TINK entry",
-    );
-    expect(
-        &rt,
-        set.entries_for_prefix(&[0, 1, 2, 3, 4]).len(),
-        0,
-        "no LEGACY entry",
-    );
-    let copy = set.try_clone(alloc)?;
-    expect(
-        &rt,
-        two_numbers(copy.raw_entries()),
-        want,
-        "RAW entries of a copy",
-    );
+    let tink = set.entries_for_prefix(&[1, 1, 2, 3, 4]).len();
+    expect(&rt, tink, 1, "a TINK entry");
+    let legacy = set.entries_for_prefix(&[0, 1, 2, 3, 4]).len();
+    expect(&rt, legacy, 0, "no LEGACY entry");
+    let copied = copied_numbers(rt.alloc(), &set);
+    expect(&rt, copied, Ok(want), "RAW entries of a copy");
     Ok(())
 }
 
@@ -199,7 +183,8 @@ fn id_of_added(
     number: u8,
     key: &Key,
 ) -> Result<KeyId, TinkError> {
-    added_id(alloc, set, aead(alloc, number)?, key)
+    let p = aead(alloc, number)?;
+    added_id(alloc, set, p, key)
 }
 
 #[test]
@@ -213,78 +198,62 @@ fn an_added_entry_is_lent(rt: HostRuntime) -> Result<(), Fail> {
     Ok(())
 }
 
+// How a key of this status and of no known prefix is refused.
+fn refusal_of(alloc: Global, set: &mut PrimitiveSet<TestKinds>, status: i32) -> Option<Kind> {
+    let key = Key {
+        status,
+        ..key_of(OutputPrefixType::UnknownPrefix)
+    };
+    match aead(alloc, 7) {
+        Ok(p) => kind_of(set.put(alloc, p, &key)),
+        Err(e) => Some(e.kind),
+    }
+}
+
 #[test]
 fn a_key_that_may_not_stand_is_refused(rt: HostRuntime) -> Result<(), Fail> {
-    let alloc = rt.alloc();
-    let mut set = PrimitiveSet::new(alloc);
+    let mut set = PrimitiveSet::new(rt.alloc());
     for (status, want) in [(1, Kind::UnknownPrefix), (2, Kind::NotEnabled)] {
-        let key = Key {
-            status,
-            ..key_of(OutputPrefixType::UnknownPrefix)
-        };
-        let refused = set.put(alloc, aead(alloc, 7)?, &key);
-        expect(&rt, kind_of(refused), Some(want), "a refusal");
+        let refused = refusal_of(rt.alloc(), &mut set, status);
+        expect(&rt, refused, Some(want), "a refusal");
     }
     expect(&rt, set.raw_entries().len(), 0, "entries");
     Ok(())
 }
 
-// One more where an entry is added, by `add` or by `put`.
-fn added_to(
+// Whether an entry is added, by `add` or by `put`.
+fn is_added(
     alloc: Global,
     set: &mut PrimitiveSet<TestKinds>,
-    p: Primitive<TestKinds>,
+    number: u8,
     prefix: OutputPrefixType,
-    count: usize,
-) -> usize {
-    let key = key_of(prefix);
-    let is_added = match prefix {
-        OutputPrefixType::Raw => set.put(alloc, p, &key).is_ok(),
-        _ => set.add(alloc, p, &key).is_ok(),
-    };
-    if is_added {
-        count.wrapping_add(1)
-    } else {
-        count
+) -> bool {
+    match aead(alloc, number) {
+        Ok(p) => match prefix {
+            OutputPrefixType::Raw => set.put(alloc, p, &key_of(prefix)).is_ok(),
+            _ => set.add(alloc, p, &key_of(prefix)).is_ok(),
+        },
+        Err(_) => false,
     }
 }
 
-/// A call that is refused for want of memory adds nothing, and one that isn't adds one entry.
+/// A call that is refused for `OutOfMemory` adds nothing, and one that isn't adds one entry.
 #[test]
 fn an_entry_is_added_or_the_set_is_left(rt: HostRuntime) -> Result<(), Fail> {
-    let alloc = rt.alloc();
-    let mut set = PrimitiveSet::new(alloc);
+    let mut set = PrimitiveSet::new(rt.alloc());
     let mut raws: usize = 0;
     let mut tinks: usize = 0;
     for number in 0..9 {
-        raws = added_to(
-            alloc,
-            &mut set,
-            aead(alloc, number)?,
-            OutputPrefixType::Raw,
-            raws,
-        );
-        tinks = added_to(
-            alloc,
-            &mut set,
-            aead(alloc, number)?,
-            OutputPrefixType::Tink,
-            tinks,
-        );
+        let raw = is_added(rt.alloc(), &mut set, number, OutputPrefixType::Raw);
+        raws = raws.wrapping_add(raw as usize);
+        let tink = is_added(rt.alloc(), &mut set, number, OutputPrefixType::Tink);
+        tinks = tinks.wrapping_add(tink as usize);
         expect(&rt, set.raw_entries().len(), raws, "RAW entries");
-        expect(
-            &rt,
-            set.entries_for_prefix(&[1, 1, 2, 3, 4]).len(),
-            tinks,
-            "TINK entries",
-        );
+        let held = set.entries_for_prefix(&[1, 1, 2, 3, 4]).len();
+        expect(&rt, held, tinks, "TINK entries");
     }
-    expect(
-        &rt,
-        17 <= raws.wrapping_add(tinks),
-        true,
-        "nearly all are added",
-    );
+    let nearly_all = 17 <= raws.wrapping_add(tinks);
+    expect(&rt, nearly_all, true, "nearly all are added");
     Ok(())
 }
 
@@ -298,21 +267,27 @@ fn first_number(typed: &TypedPrimitiveSet<TestAead>) -> Option<u8> {
 
 // The set of a RAW AEAD of the number 7.
 fn set_of_seven(alloc: Global) -> Result<PrimitiveSet<TestKinds>, TinkError> {
-    set_of_one(alloc, aead(alloc, 7)?, &key_of(OutputPrefixType::Raw))
+    let p = aead(alloc, 7)?;
+    set_of_one(alloc, p, &key_of(OutputPrefixType::Raw))
+}
+
+// The number of the first entry of a copy.
+fn copied_number(
+    alloc: Global,
+    typed: &TypedPrimitiveSet<TestAead>,
+) -> Result<Option<u8>, TinkError> {
+    let copy = typed.try_clone(alloc)?;
+    Ok(first_number(&copy))
 }
 
 #[test]
 fn a_set_is_of_one_sort(rt: HostRuntime) -> Result<(), Fail> {
     let typed = TypedPrimitiveSet::from_set_aead(rt.alloc(), set_of_seven(rt.alloc())?)?;
     expect(&rt, first_number(&typed), Some(7), "its entry");
-    expect(
-        &rt,
-        typed.entries_for_prefix(&[1]).is_none(),
-        true,
-        "another prefix",
-    );
-    let copy = typed.try_clone(rt.alloc())?;
-    expect(&rt, first_number(&copy), Some(7), "the entry of a copy");
+    let other = typed.entries_for_prefix(&[1]).is_none();
+    expect(&rt, other, true, "another prefix");
+    let copied = copied_number(rt.alloc(), &typed);
+    expect(&rt, copied, Ok(Some(7)), "the entry of a copy");
     Ok(())
 }
 
@@ -325,15 +300,17 @@ fn a_set_of_another_sort_is_refused(rt: HostRuntime) -> Result<(), Fail> {
 
 // A set whose primary entry is a streaming AEAD, and that has no other one.
 fn set_of_a_primary(alloc: Global) -> Result<PrimitiveSet<TestKinds>, TinkError> {
-    let mut set = PrimitiveSet::new(alloc);
-    set.primary = Some(Entry {
-        key_id: 5,
-        primitive: Primitive::StreamingAead(numbered(alloc, 1)?),
-        prefix: Bytes::new(alloc),
-        prefix_type: OutputPrefixType::Raw,
-        status: KeyStatusType::Enabled,
-    });
-    Ok(set)
+    let primitive = Primitive::StreamingAead(numbered(alloc, 1)?);
+    Ok(PrimitiveSet {
+        primary: Some(Entry {
+            key_id: 5,
+            primitive,
+            prefix: Bytes::new(alloc),
+            prefix_type: OutputPrefixType::Raw,
+            status: KeyStatusType::Enabled,
+        }),
+        entries: BTreeMap::new(alloc),
+    })
 }
 
 #[test]

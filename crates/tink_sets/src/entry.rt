@@ -47,10 +47,12 @@ pub struct TypedEntry<P> {
 
 impl<K: Kinds> CloneIn for Entry<K> {
     fn try_clone(&self, alloc: Global) -> Result<Self, TinkError> {
+        // (the primitive last, so that no refusal lets one go)
+        let prefix = self.prefix.try_clone(alloc)?;
         Ok(Entry {
             key_id: self.key_id,
             primitive: self.primitive.try_clone(alloc)?,
-            prefix: self.prefix.try_clone(alloc)?,
+            prefix,
             prefix_type: self.prefix_type,
             status: self.status,
         })
@@ -59,10 +61,11 @@ impl<K: Kinds> CloneIn for Entry<K> {
 
 impl<P: CloneIn> CloneIn for TypedEntry<P> {
     fn try_clone(&self, alloc: Global) -> Result<Self, TinkError> {
+        let prefix = self.prefix.try_clone(alloc)?;
         Ok(TypedEntry {
             key_id: self.key_id,
             primitive: self.primitive.try_clone(alloc)?,
-            prefix: self.prefix.try_clone(alloc)?,
+            prefix,
             prefix_type: self.prefix_type,
             status: self.status,
         })
@@ -80,8 +83,23 @@ pub(crate) fn standing_prefix(alloc: Global, key: &Key) -> Result<Bytes, TinkErr
     output_prefix(alloc, key)
 }
 
+// The entry of a key of this prefix and its primitive.
+pub(crate) fn entry_under<K: Kinds>(
+    alloc: Global,
+    p: Primitive<K>,
+    key: &Key,
+    prefix: &[u8],
+) -> Result<Entry<K>, TinkError>
+    requires own { prefix.now ≡ own_prefix key.now }
+    ensures value { IfOk result (λ e. e ≡ entry_of p key.now) }
+    ensures cause { IfErr result (λ e. e.kind ≡ OutOfMemory) }
+{
+    let prefix = Bytes::from_slice(alloc, prefix)?;
+    Ok(new_entry(p, key, prefix))
+}
+
 // The entry of a key and its primitive.
-pub(crate) fn new_entry<K: Kinds>(p: Primitive<K>, key: &Key, prefix: Bytes) -> Entry<K>
+fn new_entry<K: Kinds>(p: Primitive<K>, key: &Key, prefix: Bytes) -> Entry<K>
     requires own { prefix ≡ own_prefix key.now }
     ensures value { result ≡ entry_of p key.now }
 {

@@ -11,7 +11,7 @@ ghost use Rattle.tink_sets.specs.Entries.{may_stand, own_prefix, standing_prefix
 use crate::Entry;
 use crate::converting::{clone_groups, clone_primary};
 use crate::cryptofmt::RAW_PREFIX;
-use crate::entry::{new_entry, standing_prefix};
+use crate::entry::{entry_under, standing_prefix};
 use crate::groups::{group_of, newest, put_in_group};
 use std::alloc::Global;
 use std::collections::BTreeMap;
@@ -82,7 +82,6 @@ impl<K: Kinds> PrimitiveSet<K> {
     }
 
     // Puts the entry of a key behind those of its prefix, and answers the prefix.
-    #[tactic(auto, using(crate::proofs::AddingFacts::adds_last))]
     fn put_entry(&mut self, alloc: Global, p: Primitive<K>, key: &Key) -> Result<Bytes, TinkError>
         ensures answer { Answers result (standing_prefix key.now) }
         ensures value { IfOk result (λ prefix. prefix ≡ own_prefix key.now) }
@@ -93,9 +92,33 @@ impl<K: Kinds> PrimitiveSet<K> {
         ensures primary { self.new.primary ≡ self.old.primary }
     {
         let prefix = standing_prefix(alloc, key)?;
-        let entry = new_entry(p, key, prefix.try_clone(alloc)?);
-        put_in_group(&mut self.entries, alloc, prefix.as_slice(), entry)?;
-        Ok(prefix)
+        match self.put_under(alloc, p, key, prefix.as_slice()) {
+            Ok(()) => Ok(prefix),
+            Err(e) => Err(e),
+        }
+    }
+
+    // Puts the entry of a key behind those of its prefix, which is this.
+    #[tactic(auto, using(crate::proofs::AddingFacts::adds_last))]
+    fn put_under(
+        &mut self,
+        alloc: Global,
+        p: Primitive<K>,
+        key: &Key,
+        prefix: &[u8],
+    ) -> Result<(), TinkError>
+        requires own { prefix.now ≡ own_prefix key.now }
+        ensures ok { OnOk result (Adds (own_prefix key.now) (entry_of p key.now) self.old.entries self.new.entries) }
+        ensures entries { OnOk result (AddsLast prefix_of (entry_of p key.now) self.old.entries self.new.entries) }
+        ensures newest { OnOk result (group_of self.new.entries (own_prefix key.now) ≡ group_of self.old.entries (own_prefix key.now) ++ entry_of p key.now ∷ []) }
+        ensures err { OnErr result (HaveSameGroups self.old.entries self.new.entries) }
+        ensures cause { IfErr result (λ e. e.kind ≡ OutOfMemory) }
+        ensures primary { self.new.primary ≡ self.old.primary }
+    {
+        match entry_under(alloc, p, key, prefix) {
+            Ok(entry) => put_in_group(&mut self.entries, alloc, prefix, entry),
+            Err(e) => Err(e),
+        }
     }
 
     /// A set with the same primary entry and the same entries under each prefix.

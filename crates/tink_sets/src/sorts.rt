@@ -3,8 +3,7 @@
 ghost use Rattle.std.specs.Prelude.{◌≡◌, ◌⊎◌, Result, Ok, Err, IfOk, IfErr};
 ghost use Rattle.tink_io.specs.declared.error.Kind.{Kind};
 ghost use Rattle.tink_io.specs.declared.error.Kind.TheVariants.{OutOfMemory, WrongPrimitive};
-ghost use Rattle.tink_io.specs.Told.{Answers};
-ghost use Rattle.tink_primitives.specs.Meaning.{Gives};
+ghost use Rattle.tink_io.specs.Told.{Answers, Tells};
 ghost use Rattle.tink_primitives.specs.Sorts.{as_aead, as_deterministic_aead, as_hybrid_decrypt, as_hybrid_encrypt, as_mac, as_prf, as_signer, as_streaming_aead, as_verifier};
 ghost use Rattle.tink_primitives.specs.declared.primitive.Primitive.{Primitive};
 ghost use Rattle.tink_sets.specs.Entries.{typed_by, with_primitive};
@@ -26,7 +25,7 @@ pub trait Sort<K: Kinds> {
 
     /// The primitive as one of the sort, or `WrongPrimitive` exactly where it is of another.
     fn pick(p: Primitive<K>) -> Result<Self::Of, TinkError>
-        ensures value { Gives result (picks p) };
+        ensures value { Tells result (picks p) };
 
     // A primitive is of the sort, or of another.
     ghost one_refusal: { (p : Primitive K K.Aead K.DeterministicAead K.HybridDecrypt K.HybridEncrypt K.Mac K.Prf K.Signer K.StreamingAead K.Verifier) (k : Kind) → picks p ≡ Err k → k ≡ WrongPrimitive };
@@ -64,7 +63,7 @@ impl<K: Kinds> Sort<K> for Aeads {
     ghost picks = { as_aead };
 
     fn pick(p: Primitive<K>) -> Result<K::Aead, TinkError>
-        ensures value { Gives result (as_aead p) }
+        ensures value { Tells result (as_aead p) }
     {
         p.into_aead()
     }
@@ -81,7 +80,7 @@ impl<K: Kinds> Sort<K> for DeterministicAeads {
     ghost picks = { as_deterministic_aead };
 
     fn pick(p: Primitive<K>) -> Result<K::DeterministicAead, TinkError>
-        ensures value { Gives result (as_deterministic_aead p) }
+        ensures value { Tells result (as_deterministic_aead p) }
     {
         p.into_deterministic_aead()
     }
@@ -98,7 +97,7 @@ impl<K: Kinds> Sort<K> for HybridDecrypters {
     ghost picks = { as_hybrid_decrypt };
 
     fn pick(p: Primitive<K>) -> Result<K::HybridDecrypt, TinkError>
-        ensures value { Gives result (as_hybrid_decrypt p) }
+        ensures value { Tells result (as_hybrid_decrypt p) }
     {
         p.into_hybrid_decrypt()
     }
@@ -115,7 +114,7 @@ impl<K: Kinds> Sort<K> for HybridEncrypters {
     ghost picks = { as_hybrid_encrypt };
 
     fn pick(p: Primitive<K>) -> Result<K::HybridEncrypt, TinkError>
-        ensures value { Gives result (as_hybrid_encrypt p) }
+        ensures value { Tells result (as_hybrid_encrypt p) }
     {
         p.into_hybrid_encrypt()
     }
@@ -132,7 +131,7 @@ impl<K: Kinds> Sort<K> for Macs {
     ghost picks = { as_mac };
 
     fn pick(p: Primitive<K>) -> Result<K::Mac, TinkError>
-        ensures value { Gives result (as_mac p) }
+        ensures value { Tells result (as_mac p) }
     {
         p.into_mac()
     }
@@ -149,7 +148,7 @@ impl<K: Kinds> Sort<K> for Prfs {
     ghost picks = { as_prf };
 
     fn pick(p: Primitive<K>) -> Result<K::Prf, TinkError>
-        ensures value { Gives result (as_prf p) }
+        ensures value { Tells result (as_prf p) }
     {
         p.into_prf()
     }
@@ -166,7 +165,7 @@ impl<K: Kinds> Sort<K> for Signers {
     ghost picks = { as_signer };
 
     fn pick(p: Primitive<K>) -> Result<K::Signer, TinkError>
-        ensures value { Gives result (as_signer p) }
+        ensures value { Tells result (as_signer p) }
     {
         p.into_signer()
     }
@@ -183,7 +182,7 @@ impl<K: Kinds> Sort<K> for StreamingAeads {
     ghost picks = { as_streaming_aead };
 
     fn pick(p: Primitive<K>) -> Result<K::StreamingAead, TinkError>
-        ensures value { Gives result (as_streaming_aead p) }
+        ensures value { Tells result (as_streaming_aead p) }
     {
         p.into_streaming_aead()
     }
@@ -200,7 +199,7 @@ impl<K: Kinds> Sort<K> for Verifiers {
     ghost picks = { as_verifier };
 
     fn pick(p: Primitive<K>) -> Result<K::Verifier, TinkError>
-        ensures value { Gives result (as_verifier p) }
+        ensures value { Tells result (as_verifier p) }
     {
         p.into_verifier()
     }

@@ -3,8 +3,7 @@
 ghost use Rattle.std.specs.Prelude.{◌≡◌, ◌≤◌, MatchResult};
 ghost use Rattle.stream_model.specs.Key.{header_length};
 ghost use Rattle.tink_core.specs.Subtle.{hash_named};
-ghost use Rattle.tink_io.specs.Told.{Answers};
-ghost use Rattle.tink_keysets.specs.Told.{Tells};
+ghost use Rattle.tink_io.specs.Told.{Answers, Tells};
 ghost use Rattle.tink_stream_keys.specs.Decrypting.{NewReaderMeans};
 ghost use Rattle.tink_stream_keys.specs.Encrypting.{NewWriterMeans};
 ghost use Rattle.tink_stream_keys.specs.StreamingKeys.{ctr_hmac_key, ctr_hmac_sizes};

@@ -1,5 +1,5 @@
 -- What the managers for tests answer: keys of sixteen draws, asked for by the empty format, and an AEAD that puts one draw
--- in front of a text and the key behind it.
+-- before a text and the key behind it.
 use Rattle.std.specs.Prelude.{◌≡◌, ◌++◌, ◌-◌, ⊤, ℕ, ℤ, List, length, take, drop, Bool, true, false, ◌||◌, if◌then◌else◌, nat_eq, nat_le, Result, Ok, Err, pos, refl}
 use Rattle.std.specs.Str.{bytes_eq}
 use Rattle.std.proofs.Common.{ap, subst, sym}

@@ -8,7 +8,7 @@ use tink_io::{Draws, Kind, TinkError};
 use tink_primitives::{Aead, CloneIn, Kinds, Never};
 use tink_proto::Bytes;
 
-/// Puts one draw in front of a text and the key behind it. It keeps nothing secret.
+/// Puts one draw before a text and the key behind it. It keeps nothing secret.
 #[derive(Drop)]
 pub struct TestAead {
     pub key: Bytes,

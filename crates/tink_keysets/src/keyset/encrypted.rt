@@ -80,7 +80,7 @@ impl Handle {
     ///
     /// # Errors
     /// `MasterFailed` exactly where the master refuses, and then the writer is as before; then the writer's, to which
-    /// the encrypted keyset alone was given: after a fault it may have a front of that one's text, and after another
+    /// the encrypted keyset alone was given: after a fault it may have a prefix of that one's text, and after another
     /// refusal it has nothing. `OutOfMemory` may come in place of each.
     pub fn write_with_associated_data<W: Writer, A: Aead>(
         &self,
@@ -103,7 +103,7 @@ impl Handle {
     }
 }
 
-// Want of memory stays, and each other refusal of a master is `MasterFailed`.
+// `OutOfMemory` stays, and each other refusal of a master is `MasterFailed`.
 fn refused_by_master(e: TinkError) -> TinkError
     ensures { result.kind ≡ master_kind e.kind }
 {

@@ -2,14 +2,13 @@
 
 ghost use Rattle.std.specs.Prelude.{◌≡◌, IfOk, IfErr, map, true, None, option_map};
 ghost use Rattle.tink_io.specs.declared.error.Kind.TheVariants.{HasSecrets, InvalidKeyset, OutOfMemory};
-ghost use Rattle.tink_io.specs.Told.{Answers, Replies};
+ghost use Rattle.tink_io.specs.Told.{Answers, Replies, Tells};
 ghost use Rattle.tink_sets.specs.Entries.{entry_of, prefix_of};
 ghost use Rattle.keyset_model.specs.Adding.{keyset_reply};
 ghost use Rattle.keyset_model.specs.Secrets as secrets;
-ghost use Rattle.keyset_model.specs.Validity.{IsHeld};
+ghost use Rattle.keyset_model.specs.Validity.{MayBeHeld};
 ghost use Rattle.tink_keysets.specs.Built.{built_entries, GivesSet, HasEntries};
 ghost use Rattle.tink_keysets.specs.Managed.{added_by, no_keys, public_data, public_keyset};
-ghost use Rattle.tink_keysets.specs.Told.{Tells};
 ghost use Rattle.tink_keysets.specs.Handles.{handle_of, handle_without_secrets};
 
 use crate::keyset::Manager;
@@ -34,13 +33,13 @@ pub struct Handle {
 
 impl Model for Handle {
     ghost use Rattle.tink_proto.specs.declared.messages.keys.Keyset.{Keyset};
-    ghost use Rattle.keyset_model.specs.Validity.{IsHeld};
+    ghost use Rattle.keyset_model.specs.Validity.{MayBeHeld};
 
     ghost Value = { Keyset };
 
     ghost view = { λ h. h.ks };
 
-    ghost invariant = { λ h. IsHeld h.ks };
+    ghost invariant = { λ h. MayBeHeld h.ks };
 }
 
 impl Handle {
@@ -159,7 +158,7 @@ impl Handle {
 
     // A handle of a keyset that is known to be held.
     pub(crate) fn from_held(ks: Keyset) -> Handle
-        requires { IsHeld ks }
+        requires { MayBeHeld ks }
         ensures { result ≡ ks }
     {
         Handle { ks }
@@ -167,14 +166,14 @@ impl Handle {
 
     pub(crate) fn into_keyset(self) -> Keyset
         ensures keyset { result ≡ self }
-        ensures held { IsHeld result }
+        ensures held { MayBeHeld result }
     {
         self.ks
     }
 
     pub(crate) fn keyset(&self) -> &Keyset
         ensures keyset { result.now ≡ self.now }
-        ensures held { IsHeld result.now }
+        ensures held { MayBeHeld result.now }
     {
         &self.ks
     }

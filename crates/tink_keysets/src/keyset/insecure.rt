@@ -2,12 +2,11 @@
 
 ghost use Rattle.std.specs.Prelude.{◌≡◌, ◌≤◌, IfOk, IfErr, OnOk};
 ghost use Rattle.tink_io.specs.declared.error.Kind.TheVariants.{BadKeyset, OutOfMemory};
-ghost use Rattle.tink_io.specs.Told.{Answers, or_refused};
+ghost use Rattle.tink_io.specs.Told.{Answers, or_refused, Tells};
 ghost use Rattle.tink_proto.specs.Messages.{keyset};
 ghost use Rattle.wire_format.specs.Message.{decoded};
-ghost use Rattle.keyset_model.specs.Validity.{IsHeld};
-ghost use Rattle.tink_keysets.specs.Told.{Tells};
-ghost use Rattle.tink_keysets.specs.Ends.{Takes};
+ghost use Rattle.keyset_model.specs.Validity.{MayBeHeld};
+ghost use Rattle.tink_keysets.specs.Ends.{HasWritten};
 ghost use Rattle.tink_keysets.specs.Handles.{handle_of_keys};
 ghost use Rattle.tink_keysets.specs.Through.{GivesBy};
 
@@ -23,7 +22,7 @@ use tink_proto::{Keyset, Message, ProtoError};
 /// `OutOfMemory` alone.
 pub fn keyset_material(alloc: Global, h: &Handle) -> Result<Keyset, TinkError>
     ensures keyset { IfOk result (λ ks. ks ≡ h.now) }
-    ensures held { IfOk result IsHeld }
+    ensures held { IfOk result MayBeHeld }
     ensures err { IfErr result (λ e. e ≡ record { kind = OutOfMemory }) }
 {
     copy(alloc, h.keyset())
@@ -76,7 +75,7 @@ pub fn read<R: Reader>(alloc: Global, reader: &mut R) -> Result<Handle, TinkErro
 /// # Errors
 /// The writer's.
 pub fn write<W: Writer>(alloc: Global, h: &Handle, writer: &mut W) -> Result<(), TinkError>
-    ensures answer { Takes result (W.answers writer.old h.now) (W.faults writer.old) (W.faults writer.new) }
+    ensures answer { HasWritten result (W.answers writer.old h.now) (W.faults writer.old) (W.faults writer.new) }
     ensures written { OnOk result (W.writes writer.old h.now writer.new) }
     ensures refused { IfErr result (λ e. W.refused writer.old h.now e.kind writer.new) }
     ensures count { W.faults writer.old ≤ W.faults writer.new }

@@ -33,13 +33,13 @@ pub struct Manager {
 
 impl Model for Manager {
     ghost use Rattle.tink_proto.specs.declared.messages.keys.Keyset.{Keyset};
-    ghost use Rattle.keyset_model.specs.Validity.{IsHeld};
+    ghost use Rattle.keyset_model.specs.Validity.{MayBeHeld};
 
     ghost Value = { Keyset };
 
     ghost view = { λ m. record { primary_key_id = m.primary; key = m.keys.items } };
 
-    ghost invariant = { λ m. IsHeld (record { primary_key_id = m.primary; key = m.keys.items }) };
+    ghost invariant = { λ m. MayBeHeld (record { primary_key_id = m.primary; key = m.keys.items }) };
 }
 
 impl Manager {

@@ -1,7 +1,7 @@
 //! Keysets in memory, as a reader and a writer.
 
 ghost use Rattle.std.specs.Prelude.{◌≡◌, ◌≤◌, ⊤, Some, Ok, OnOk, OnErr};
-ghost use Rattle.tink_keysets.specs.Ends.{Gives, Takes, held_or};
+ghost use Rattle.tink_keysets.specs.Ends.{HasRead, HasWritten, held_or};
 
 use crate::keyset::copies::copy;
 use crate::keyset::{Reader, Writer};
@@ -32,7 +32,7 @@ impl Reader for MemReaderWriter {
     /// # Errors
     /// `NoKeyset` exactly where there is none, and `OutOfMemory`.
     fn read(&mut self, alloc: Global) -> Result<Keyset, TinkError>
-        ensures answer { Gives result (Some (held_or self.old.keyset)) 0 0 }
+        ensures answer { HasRead result (Some (held_or self.old.keyset)) 0 0 }
         ensures count { 0 ≤ 0 }
         ensures leaves { self.new ≡ self.old }
         ensures same { ⊤ }
@@ -48,7 +48,7 @@ impl Reader for MemReaderWriter {
     /// # Errors
     /// `NoKeyset` exactly where there is none, and `OutOfMemory`.
     fn read_encrypted(&mut self, alloc: Global) -> Result<EncryptedKeyset, TinkError>
-        ensures answer { Gives result (Some (held_or self.old.encrypted_keyset)) 0 0 }
+        ensures answer { HasRead result (Some (held_or self.old.encrypted_keyset)) 0 0 }
         ensures count { 0 ≤ 0 }
         ensures leaves { self.new ≡ self.old }
         ensures same { ⊤ }
@@ -86,7 +86,7 @@ impl Writer for MemReaderWriter {
     /// # Errors
     /// `OutOfMemory`; then nothing changes.
     fn write(&mut self, alloc: Global, ks: &Keyset) -> Result<(), TinkError>
-        ensures answer { Takes result (Some (Ok tt)) 0 0 }
+        ensures answer { HasWritten result (Some (Ok tt)) 0 0 }
         ensures written { OnOk result (self.new ≡ record self.old { keyset = Some ks.now }) }
         ensures refused { OnErr result (self.new ≡ self.old) }
         ensures count { 0 ≤ 0 }
@@ -102,7 +102,7 @@ impl Writer for MemReaderWriter {
     /// # Errors
     /// `OutOfMemory`; then nothing changes.
     fn write_encrypted(&mut self, alloc: Global, ks: &EncryptedKeyset) -> Result<(), TinkError>
-        ensures answer { Takes result (Some (Ok tt)) 0 0 }
+        ensures answer { HasWritten result (Some (Ok tt)) 0 0 }
         ensures written { OnOk result (self.new ≡ record self.old { encrypted_keyset = Some ks.now }) }
         ensures refused { OnErr result (self.new ≡ self.old) }
         ensures count { 0 ≤ 0 }

@@ -6,7 +6,7 @@ ghost use Rattle.std.specs.declared.result.Result.{Result};
 ghost use Rattle.tink_io.specs.declared.error.Kind.{Kind};
 ghost use Rattle.tink_proto.specs.declared.messages.infos.EncryptedKeyset.{EncryptedKeyset};
 ghost use Rattle.tink_proto.specs.declared.messages.keys.Keyset.{Keyset};
-ghost use Rattle.tink_keysets.specs.Ends.{Gives};
+ghost use Rattle.tink_keysets.specs.Ends.{HasRead};
 
 use std::alloc::Global;
 use tink_io::TinkError;
@@ -17,7 +17,7 @@ pub trait Reader {
     // How often it has failed. The count never falls, and stands still at the last value of u64.
     ghost faults: { Self → ℕ };
 
-    // The one answer of the next `read`, where it is told, faults and want of memory aside.
+    // The one answer of the next `read`, where it is told, faults and `OutOfMemory` aside.
     ghost reads: { Self → Option (Result Keyset Kind) };
 
     // The same of `read_encrypted`.
@@ -34,7 +34,7 @@ pub trait Reader {
     /// # Errors
     /// `ReadFault` only where the count of faults rose, `OutOfMemory`, and else the told kind; never `WriteFault`.
     fn read(&mut self, alloc: Global) -> Result<Keyset, TinkError>
-        ensures answer { Gives result (reads self.old) (faults self.old) (faults self.new) }
+        ensures answer { HasRead result (reads self.old) (faults self.old) (faults self.new) }
         ensures count { faults self.old ≤ faults self.new }
         ensures leaves { leaves self.old self.new }
         ensures same { same self.old self.new };
@@ -44,7 +44,7 @@ pub trait Reader {
     /// # Errors
     /// As `read`.
     fn read_encrypted(&mut self, alloc: Global) -> Result<EncryptedKeyset, TinkError>
-        ensures answer { Gives result (reads_encrypted self.old) (faults self.old) (faults self.new) }
+        ensures answer { HasRead result (reads_encrypted self.old) (faults self.old) (faults self.new) }
         ensures count { faults self.old ≤ faults self.new }
         ensures leaves { leaves self.old self.new }
         ensures same { same self.old self.new };

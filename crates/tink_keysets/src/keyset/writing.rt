@@ -6,7 +6,7 @@ ghost use Rattle.std.specs.declared.result.Result.{Result};
 ghost use Rattle.tink_io.specs.declared.error.Kind.{Kind};
 ghost use Rattle.tink_proto.specs.declared.messages.infos.EncryptedKeyset.{EncryptedKeyset};
 ghost use Rattle.tink_proto.specs.declared.messages.keys.Keyset.{Keyset};
-ghost use Rattle.tink_keysets.specs.Ends.{Takes};
+ghost use Rattle.tink_keysets.specs.Ends.{HasWritten};
 
 use std::alloc::Global;
 use tink_io::TinkError;
@@ -17,7 +17,7 @@ pub trait Writer {
     // How often it has failed. The count never falls, and stands still at the last value of u64.
     ghost faults: { Self → ℕ };
 
-    // The one answer of the next `write` of a keyset, where it is told, faults and want of memory aside.
+    // The one answer of the next `write` of a keyset, where it is told, faults and `OutOfMemory` aside.
     ghost answers: { Self → Keyset → Option (Result (Unit {0}) Kind) };
 
     // The same of `write_encrypted`.
@@ -29,7 +29,7 @@ pub trait Writer {
     // The same of `write_encrypted`.
     ghost writes_encrypted: { Self → EncryptedKeyset → Self → Type 0 };
 
-    // What a refusal of a `write` by a kind left of the state: after a fault no more than a front of the keyset's text, and
+    // What a refusal of a `write` by a kind left of the state: after a fault no more than a prefix of the keyset's text, and
     // else nothing.
     ghost refused: { Self → Keyset → Kind → Self → Type 0 };
 
@@ -44,7 +44,7 @@ pub trait Writer {
     /// # Errors
     /// `WriteFault` only where the count of faults rose, `OutOfMemory`, and else the told kind; never `ReadFault`.
     fn write(&mut self, alloc: Global, ks: &Keyset) -> Result<(), TinkError>
-        ensures answer { Takes result (answers self.old ks.now) (faults self.old) (faults self.new) }
+        ensures answer { HasWritten result (answers self.old ks.now) (faults self.old) (faults self.new) }
         ensures written { OnOk result (writes self.old ks.now self.new) }
         ensures refused { IfErr result (λ e. refused self.old ks.now e.kind self.new) }
         ensures count { faults self.old ≤ faults self.new }
@@ -55,7 +55,7 @@ pub trait Writer {
     /// # Errors
     /// As `write`.
     fn write_encrypted(&mut self, alloc: Global, ks: &EncryptedKeyset) -> Result<(), TinkError>
-        ensures answer { Takes result (answers_encrypted self.old ks.now) (faults self.old) (faults self.new) }
+        ensures answer { HasWritten result (answers_encrypted self.old ks.now) (faults self.old) (faults self.new) }
         ensures written { OnOk result (writes_encrypted self.old ks.now self.new) }
         ensures refused { IfErr result (λ e. refused_encrypted self.old ks.now e.kind self.new) }
         ensures count { faults self.old ≤ faults self.new }

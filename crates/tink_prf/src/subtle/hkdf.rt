@@ -2,8 +2,7 @@
 
 ghost use Rattle.std.specs.Prelude.{◌≡◌};
 ghost use Rattle.tink_core.specs.Subtle.{hash_named};
-ghost use Rattle.tink_io.specs.Told.{Answers};
-ghost use Rattle.tink_keysets.specs.Told.{Tells};
+ghost use Rattle.tink_io.specs.Told.{Answers, Tells};
 ghost use Rattle.tink_prf.specs.Hkdf.{hkdf_key, hkdf_output, hkdf_output_told, hkdf_params};
 
 use hash_keys::{Hash, hkdf_into};
