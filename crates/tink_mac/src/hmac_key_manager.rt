@@ -116,5 +116,6 @@ impl KeyType for HmacKeys {
 
     ghost built_told = { λ k. hmac_built_told (λ m. sorts.Mac (kinds.Hmac m)) k };
 
-    ghost made_told = { λ f draws. made_if_told (are_hmac_params f.params f.key_size) f.key_size (new_hmac_key f) draws };
+    ghost made_told = { λ f draws. made_if_told (are_hmac_params f.params f.key_size) f.key_size
+        (new_hmac_key f) draws };
 }

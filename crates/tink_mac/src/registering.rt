@@ -24,7 +24,8 @@ use tink_proto::{KeyTemplate, Text};
 pub fn init<M>(alloc: Global, registry: &mut Registry<M>) -> Result<(), TinkError>
 where
     M: KeyManager + Drop + From<HmacKeyManager> + From<AesCmacKeyManager>,
-    ensures { Registers (AreMade (IsMade M.From-1.from_gives ∷ IsMade M.From-2.from_gives ∷ [])) M.url mac_templates registry.old registry.new result }
+    ensures { Registers (AreMade (IsMade M.From-1.from_gives ∷ IsMade M.From-2.from_gives ∷ [])) M.url
+        mac_templates registry.old registry.new result }
 {
     let managers = managers(alloc)?;
     let templates = templates(alloc)?;
@@ -35,7 +36,8 @@ where
 fn managers<M>(alloc: Global) -> Result<Vec<M>, TinkError>
 where
     M: Drop + From<HmacKeyManager> + From<AesCmacKeyManager>,
-    ensures value { IfOk result (λ managers. AreMade (IsMade M.From-1.from_gives ∷ IsMade M.From-2.from_gives ∷ []) managers.items) }
+    ensures value { IfOk result (λ managers. AreMade (IsMade M.From-1.from_gives ∷ IsMade M.From-2.from_gives ∷ [])
+        managers.items) }
     ensures cause { IfErr result (λ e. e.kind ≡ OutOfMemory) }
 {
     let hmac = M::from(HmacKeyManager::new());

@@ -27,7 +27,9 @@ where
         + From<HmacPrfKeyManager>
         + From<HkdfPrfKeyManager>
         + From<AesCmacPrfKeyManager>,
-    ensures { Registers (AreMade (IsMade M.From-1.from_gives ∷ IsMade M.From-2.from_gives ∷ IsMade M.From-3.from_gives ∷ [])) M.url prf_templates registry.old registry.new result }
+    ensures { Registers
+        (AreMade (IsMade M.From-1.from_gives ∷ IsMade M.From-2.from_gives ∷ IsMade M.From-3.from_gives ∷ []))
+        M.url prf_templates registry.old registry.new result }
 {
     let managers = managers(alloc)?;
     let templates = templates(alloc)?;
@@ -38,7 +40,9 @@ where
 fn managers<M>(alloc: Global) -> Result<Vec<M>, TinkError>
 where
     M: Drop + From<HmacPrfKeyManager> + From<HkdfPrfKeyManager> + From<AesCmacPrfKeyManager>,
-    ensures value { IfOk result (λ managers. AreMade (IsMade M.From-1.from_gives ∷ IsMade M.From-2.from_gives ∷ IsMade M.From-3.from_gives ∷ []) managers.items) }
+    ensures value { IfOk result (λ managers. AreMade
+        (IsMade M.From-1.from_gives ∷ IsMade M.From-2.from_gives ∷ IsMade M.From-3.from_gives ∷ [])
+        managers.items) }
     ensures cause { IfErr result (λ e. e.kind ≡ OutOfMemory) }
 {
     let hmac = M::from(HmacPrfKeyManager::new());
