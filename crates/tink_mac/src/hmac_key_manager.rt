@@ -65,7 +65,7 @@ pub fn are_hmac_params(params: &Option<HmacParams>, key_size: u32) -> bool
     }
 }
 
-// Want of memory, and `InvalidKey` in place of each other refusal.
+// `OutOfMemory` as it is, and `InvalidKey` in place of each other refusal.
 fn invalid_key(e: TinkError) -> TinkError
     ensures memory { e.kind ≡ OutOfMemory → result.kind ≡ OutOfMemory }
     ensures other { (e.kind ≡ OutOfMemory → ⊥) → result.kind ≡ InvalidKey }
