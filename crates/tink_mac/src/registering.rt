@@ -42,7 +42,10 @@ where
 {
     let hmac = M::from(HmacKeyManager::new());
     let cmac = M::from(AesCmacKeyManager::new());
-    Ok(vec![in alloc; hmac, cmac]?)
+    let mut managers = Vec::new(alloc);
+    managers.push(hmac)?;
+    managers.push(cmac)?;
+    Ok(managers)
 }
 
 // The templates by their names.

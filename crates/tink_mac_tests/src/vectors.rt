@@ -101,7 +101,7 @@ const CMAC_CASES: [(usize, &[u8]); 4] = [
 #[test]
 fn aes_cmac_of_the_standard(rt: HostRuntime) {
     for (size, want) in &CMAC_CASES {
-        let tag = cmac_of(rt.alloc(), &CMAC_TEXT[..*size.min(&40)], want.len());
+        let tag = cmac_of(rt.alloc(), &CMAC_TEXT[..(*size).min(40)], want.len());
         is(&rt, gives(tag, want), "AES-CMAC");
     }
 }

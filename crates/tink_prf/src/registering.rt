@@ -48,7 +48,11 @@ where
     let hmac = M::from(HmacPrfKeyManager::new());
     let hkdf = M::from(HkdfPrfKeyManager::new());
     let aes_cmac = M::from(AesCmacPrfKeyManager::new());
-    Ok(vec![in alloc; hmac, hkdf, aes_cmac]?)
+    let mut managers = Vec::new(alloc);
+    managers.push(hmac)?;
+    managers.push(hkdf)?;
+    managers.push(aes_cmac)?;
+    Ok(managers)
 }
 
 // The templates by their names.

@@ -87,11 +87,19 @@ fn prf_set<K: Kinds>(alloc: Global, set: &PrimitiveSet<K>) -> Result<Set<K::Prf>
     if !are_raw(&set.entries) {
         return Err(TinkError::new(Kind::NotRawOnly));
     }
-    match prfs_by_id(alloc, set.raw_entries()) {
-        Ok(prfs) => Ok(Set {
-            primary_id: primary.key_id,
-            prfs,
-        }),
+    set_of_raw(alloc, primary.key_id, set.raw_entries())
+}
+
+// The functions of entries of this sort, of which those of an id are primary.
+fn set_of_raw<K: Kinds>(
+    alloc: Global,
+    primary_id: KeyId,
+    entries: &[Entry<K>],
+) -> Result<Set<K::Prf>, TinkError>
+    ensures { GivesSet (HasPrfs primary_id) result (converted prf_of entries.now) }
+{
+    match prfs_by_id(alloc, entries) {
+        Ok(prfs) => Ok(Set { primary_id, prfs }),
         Err(e) => Err(e),
     }
 }

@@ -68,7 +68,7 @@ const CMAC_CASES: [(&[u8], usize, &[u8]); 6] = [
 #[test]
 fn aes_cmac_of_the_standard(rt: HostRuntime) {
     for (key, size, want) in &CMAC_CASES {
-        let text = &CMAC_TEXT[..*size.min(&40)];
+        let text = &CMAC_TEXT[..(*size).min(40)];
         let made = cmac_of(rt.alloc(), key, text, want.len());
         is(&rt, gives(made, want), "AES-CMAC");
     }
