@@ -25,13 +25,18 @@ hmac_by_params_told (Some p) key = or_invalid_told (hmac_tags (hash_named (hash_
 pub hmac_built_told : {P : Type 0} (primitive : HmacTags → P) (k : HmacKey) → IsTold (made_of primitive (hmac_built k))
 hmac_built_told primitive k =
     made_told primitive (hmac_built k)
-    (told_if (nat_eq k.version 0) (hmac_by_params k.params k.key_value) (Err InvalidKey) (hmac_by_params_told k.params k.key_value) tt)
+    (told_if (nat_eq k.version 0) (hmac_by_params k.params k.key_value) (Err InvalidKey)
+    (hmac_by_params_told k.params k.key_value) tt)
 
 cmac_by_params_told : (params : Option AesCmacParams) (key : List ℕ) → IsTold (cmac_by_params params key)
 cmac_by_params_told None key = tt
-cmac_by_params_told (Some p) key = told_if (is_ok (cmac_params (length key) p.tag_size)) (Ok (record { key = key; tag_size = p.tag_size })) (Err InvalidKey) tt tt
+cmac_by_params_told (Some p) key =
+    told_if (is_ok (cmac_params (length key) p.tag_size))
+    (Ok (record { key = key; tag_size = p.tag_size })) (Err InvalidKey) tt tt
 
-pub cmac_built_told : {P : Type 0} (primitive : CmacTags → P) (k : AesCmacKey) → IsTold (made_of primitive (cmac_built k))
+pub cmac_built_told : {P : Type 0} (primitive : CmacTags → P) (k : AesCmacKey)
+    → IsTold (made_of primitive (cmac_built k))
 cmac_built_told primitive k =
     made_told primitive (cmac_built k)
-    (told_if (nat_eq k.version 0) (cmac_by_params k.params k.key_value) (Err InvalidKey) (cmac_by_params_told k.params k.key_value) tt)
+    (told_if (nat_eq k.version 0) (cmac_by_params k.params k.key_value) (Err InvalidKey)
+    (cmac_by_params_told k.params k.key_value) tt)

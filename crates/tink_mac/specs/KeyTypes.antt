@@ -63,7 +63,8 @@ are_cmac_params (Some p) key_size = is_ok (cmac_params key_size p.tag_size)
 abbrev pub cmac_by_params : Option AesCmacParams → List ℕ → Result CmacTags Kind
 cmac_by_params None key = Err InvalidKey
 cmac_by_params (Some p) key =
-    if is_ok (cmac_params (length key) p.tag_size) then Ok (record { key = key; tag_size = p.tag_size }) else Err InvalidKey
+    if is_ok (cmac_params (length key) p.tag_size)
+    then Ok (record { key = key; tag_size = p.tag_size }) else Err InvalidKey
 
 -- a key of version 0, of 32 bytes and with tags of 10 to 16
 abbrev pub cmac_built : AesCmacKey → Result CmacTags Kind

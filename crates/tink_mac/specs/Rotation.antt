@@ -16,24 +16,30 @@ use Rattle.keyset_model.specs.Spared.{Spares}
 use Rattle.tink_keysets.specs.Built.{built_entries, built_entry}
 use Rattle.tink_factory.specs.Accepting.{entries_of}
 use Rattle.tink_factory.specs.Typing.{typed_entries}
-use Rattle.tink_mac.specs.Wrapped.{any_verifies, covered, entry_mac, primary_mac}
+use Rattle.tink_mac.specs.Wrapped.{any_verifies, covered, entry_mac, primary_mac, Computes, Verifies}
 
--- An entry computes this MAC of a message, its primitive accepts its own tag of it, and the MAC has more than five bytes.
-pub record IsMacBy {P : Type 0} (computes : P → List ℕ → Result (List ℕ) Kind) (verifies : P → List ℕ → List ℕ → Result (Unit {0}) Kind) (e : TypedEntry P) (message mac : List ℕ) : Type 0 where
+-- An entry computes this MAC of a message, its primitive accepts its own tag of it, and the MAC has more than five
+-- bytes.
+pub record IsMacBy {P : Type 0} (computes : Computes P) (verifies : Verifies P) (e : TypedEntry P)
+    (message mac : List ℕ) : Type 0 where
   pub made : entry_mac computes e message ≡ Ok mac
-  pub own : (tag : List ℕ) → computes e.primitive (covered e.prefix_type message) ≡ Ok tag → verifies e.primitive tag (covered e.prefix_type message) ≡ Ok tt
+  pub own : (tag : List ℕ) → computes e.primitive (covered e.prefix_type message) ≡ Ok tag
+      → verifies e.primitive tag (covered e.prefix_type message) ≡ Ok tt
   pub long : 5 < length mac
 
 -- a MAC accepts each tag that it computes, which has more than five bytes
-pub record IsSound {P : Type 0} (computes : P → List ℕ → Result (List ℕ) Kind) (verifies : P → List ℕ → List ℕ → Result (Unit {0}) Kind) (p : P) : Type 0 where
+pub record IsSound {P : Type 0} (computes : Computes P) (verifies : Verifies P) (p : P) : Type 0 where
   pub own : (message tag : List ℕ) → computes p message ≡ Ok tag → verifies p tag message ≡ Ok tt
   pub long : (message tag : List ℕ) → computes p message ≡ Ok tag → 5 < length tag
 
 -- so is each MAC that a manager builds
-abbrev pub BuildsSound : {M K A D HD HE P F S St V : Type 0} → (M → List ℕ → Result (Primitive K A D HD HE P F S St V) Kind) → (P → List ℕ → Result (List ℕ) Kind) → (P → List ℕ → List ℕ → Result (Unit {0}) Kind) → Type 0
-BuildsSound {M} {P = P} builds computes verifies = (m : M) (value : List ℕ) (p : P) → builds m value ≡ Ok (Mac p) → IsSound computes verifies p
+abbrev pub BuildsSound : {M K A D HD HE P F S St V : Type 0}
+    → (M → List ℕ → Result (Primitive K A D HD HE P F S St V) Kind) → Computes P → Verifies P → Type 0
+BuildsSound {M} {P = P} builds computes verifies =
+    (m : M) (value : List ℕ) (p : P) → builds m value ≡ Ok (Mac p) → IsSound computes verifies p
 
-module _ {M K A D HD HE P F S St V : Type 0} (url : M → List ℕ) (supports : M → List ℕ → Bool) (builds : M → List ℕ → Result (Primitive K A D HD HE P F S St V) Kind) where
+module _ {M K A D HD HE P F S St V : Type 0} (url : M → List ℕ) (supports : M → List ℕ → Bool)
+    (builds : M → List ℕ → Result (Primitive K A D HD HE P F S St V) Kind) where
   -- the entry that a key's data builds, as one of a MAC
   abbrev pub as_mac_entry : Result (Entry K A D HD HE P F S St V) Kind → Result (TypedEntry P) Kind
   as_mac_entry (Ok e) = typed_by as_mac e
@@ -43,21 +49,23 @@ module _ {M K A D HD HE P F S St V : Type 0} (url : M → List ℕ) (supports : 
   mac_entry managers k = as_mac_entry (built_entry url supports builds entry_of managers None k)
 
   abbrev pub mac_entries : List M → Keyset → Result (List (TypedEntry P)) Kind
-  mac_entries managers ks = typed_entries as_mac ks.primary_key_id (built_entries url supports builds entry_of managers None ks)
+  mac_entries managers ks =
+      typed_entries as_mac ks.primary_key_id (built_entries url supports builds entry_of managers None ks)
 
   -- What a key's entry made is accepted by the entries of every keyset in which the key is enabled.
-  abbrev pub OldMacsVerify : (P → List ℕ → Result (List ℕ) Kind) → (P → List ℕ → List ℕ → Result (Unit {0}) Kind) → Type 0
+  abbrev pub OldMacsVerify : Computes P → Verifies P → Type 0
   OldMacsVerify computes verifies =
       (managers : List M) (ks : Keyset) (k : Key) (e : TypedEntry P) (es : List (TypedEntry P)) (message mac : List ℕ)
       → mac_entry managers k ≡ Ok e → Contains (enabled ks) k → mac_entries managers ks ≡ Ok es
       → IsMacBy computes verifies e message mac → any_verifies verifies (entries_of es) mac message ≡ Ok tt
 
-  -- What the primary key of a keyset made is accepted after each list of commands that disables, destroys and deletes no
-  -- key of its id.
-  abbrev pub MacsOutlive : (P → List ℕ → Result (List ℕ) Kind) → (P → List ℕ → List ℕ → Result (Unit {0}) Kind) → Type 0
+  -- What the primary key of a keyset made is accepted after each list of commands that disables, destroys and deletes
+  -- no key of its id.
+  abbrev pub MacsOutlive : Computes P → Verifies P → Type 0
   MacsOutlive computes verifies =
       BuildsSound builds computes verifies
-      → (managers : List M) (makes : Maker) (m : Managed) (commands : List Command) (es later : List (TypedEntry P)) (message mac : List ℕ)
+      → (managers : List M) (makes : Maker) (m : Managed) (commands : List Command)
+      (es later : List (TypedEntry P)) (message mac : List ℕ)
       → All (Spares m.keyset.primary_key_id) commands
       → mac_entries managers m.keyset ≡ Ok es → mac_entries managers (after_all makes m commands).keyset ≡ Ok later
       → primary_mac computes (entry_of_id m.keyset.primary_key_id es) message ≡ Ok mac

@@ -17,7 +17,14 @@ abbrev pub covered : OutputPrefixType → List ℕ → List ℕ
 covered Legacy message = message ++ 0 ∷ []
 covered _ message = message
 
-module _ {P : Type 0} (computes : P → List ℕ → Result (List ℕ) Kind) where
+-- what MACs compute and accept
+abbrev pub Computes : Type 0 → Type 0
+Computes P = P → List ℕ → Result (List ℕ) Kind
+
+abbrev pub Verifies : Type 0 → Type 0
+Verifies P = P → List ℕ → List ℕ → Result (Unit {0}) Kind
+
+module _ {P : Type 0} (computes : Computes P) where
   -- an entry's MAC of some data, behind its prefix
   abbrev pub entry_mac : TypedEntry P → List ℕ → Result (List ℕ) Kind
   entry_mac e message = made_of (λ tag. e.prefix ++ tag) (computes e.primitive (covered e.prefix_type message))
@@ -27,7 +34,7 @@ module _ {P : Type 0} (computes : P → List ℕ → Result (List ℕ) Kind) whe
   primary_mac None message = Err NoPrimary
   primary_mac (Some e) message = entry_mac e message
 
-module _ {P : Type 0} (verifies : P → List ℕ → List ℕ → Result (Unit {0}) Kind) where
+module _ {P : Type 0} (verifies : Verifies P) where
   -- what an entry answers on a MAC without its prefix
   abbrev pub entry_verifies : List ℕ → TypedEntry P → List ℕ → Result (Unit {0}) Kind
   entry_verifies message e mac = verifies e.primitive mac (covered e.prefix_type message)
@@ -37,7 +44,10 @@ module _ {P : Type 0} (verifies : P → List ℕ → List ℕ → Result (Unit {
   any_verifies group mac message = accepted_behind_prefix (entry_verifies message) group MacMismatch mac
 
 -- A wrapped MAC is that of these entries: it computes by the first of the primary id, and accepts by any of them.
-pub record IsMacOf {P G : Type 0} (computes : P → List ℕ → Result (List ℕ) Kind) (verifies : P → List ℕ → List ℕ → Result (Unit {0}) Kind) (id : ℕ) (es : List (TypedEntry P)) (primary : Option (TypedEntry P)) (groups : BTreeMap (Vec ℕ G) (List (TypedEntry P))) : Type 0 where
+pub record IsMacOf {P G : Type 0} (computes : Computes P) (verifies : Verifies P) (id : ℕ) (es : List (TypedEntry P))
+    (primary : Option (TypedEntry P)) (groups : BTreeMap (Vec ℕ G) (List (TypedEntry P))) : Type 0 where
   pub has : HasEntries typed_prefix_of (λ e. e.key_id) id es primary groups
-  pub computed : (message : List ℕ) → primary_mac computes primary message ≡ primary_mac computes (entry_of_id id es) message
-  pub verified : (mac message : List ℕ) → any_verifies verifies (group_of groups) mac message ≡ any_verifies verifies (entries_of es) mac message
+  pub computed : (message : List ℕ)
+      → primary_mac computes primary message ≡ primary_mac computes (entry_of_id id es) message
+  pub verified : (mac message : List ℕ)
+      → any_verifies verifies (group_of groups) mac message ≡ any_verifies verifies (entries_of es) mac message

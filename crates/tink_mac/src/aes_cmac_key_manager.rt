@@ -101,5 +101,6 @@ impl KeyType for AesCmacKeys {
 
     ghost built_told = { λ k. cmac_built_told (λ m. sorts.Mac (kinds.AesCmac m)) k };
 
-    ghost made_told = { λ f draws. made_if_told (are_cmac_params f.params f.key_size) f.key_size (new_cmac_key f) draws };
+    ghost made_told = { λ f draws. made_if_told (are_cmac_params f.params f.key_size) f.key_size
+        (new_cmac_key f) draws };
 }

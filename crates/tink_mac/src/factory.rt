@@ -41,7 +41,10 @@ pub fn new<M: KeyManager, P: Mac>(
 ) -> Result<WrappedMac<P>, TinkError>
 where
     M::Family: Kinds<Mac = P>,
-    ensures { GivesSet (λ es w. IsMacOf P.computes P.verifies h.now.primary_key_id es w.ps.primary w.ps.entries) result (typed_entries as_mac h.now.primary_key_id (built_entries M.url M.supports M.builds entry_of registry.now.managers None h.now)) }
+    ensures { GivesSet
+        (λ es w. IsMacOf P.computes P.verifies h.now.primary_key_id es w.ps.primary w.ps.entries) result
+        (typed_entries as_mac h.now.primary_key_id
+        (built_entries M.url M.supports M.builds entry_of registry.now.managers None h.now)) }
 {
     match typed_primitives::<M, Macs>(alloc, h, registry) {
         Ok(ps) => Ok(WrappedMac { ps }),

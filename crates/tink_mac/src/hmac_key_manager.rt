@@ -65,7 +65,7 @@ pub fn are_hmac_params(params: &Option<HmacParams>, key_size: u32) -> bool
     }
 }
 
-// Want of memory, and `InvalidKey` in place of each other refusal.
+// `OutOfMemory` as it is, and `InvalidKey` in place of each other refusal.
 fn invalid_key(e: TinkError) -> TinkError
     ensures memory { e.kind ≡ OutOfMemory → result.kind ≡ OutOfMemory }
     ensures other { (e.kind ≡ OutOfMemory → ⊥) → result.kind ≡ InvalidKey }
@@ -116,5 +116,6 @@ impl KeyType for HmacKeys {
 
     ghost built_told = { λ k. hmac_built_told (λ m. sorts.Mac (kinds.Hmac m)) k };
 
-    ghost made_told = { λ f draws. made_if_told (are_hmac_params f.params f.key_size) f.key_size (new_hmac_key f) draws };
+    ghost made_told = { λ f draws. made_if_told (are_hmac_params f.params f.key_size) f.key_size
+        (new_hmac_key f) draws };
 }

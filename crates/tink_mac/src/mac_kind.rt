@@ -10,9 +10,9 @@ use tink_proto::Bytes;
 /// A MAC of one of the two kinds.
 #[derive(Drop)]
 pub enum MacKind {
-    /// The front of a CMAC.
+    /// A prefix of a CMAC.
     AesCmac(AesCmac),
-    /// The front of an HMAC.
+    /// A prefix of an HMAC.
     Hmac(Hmac),
 }
 

@@ -1,6 +1,6 @@
 //! The managers and templates of MAC keys, registered.
 
-ghost use Rattle.std.specs.Prelude.{◌≡◌, ◌∷◌, [], IfErr, IfOk};
+ghost use Rattle.std.specs.Prelude.{◌≡◌, ◌∷◌, [], IfErr, IfOk, OnOk};
 ghost use Rattle.tink_io.specs.declared.error.Kind.TheVariants.{OutOfMemory};
 ghost use Rattle.tink_registry.specs.Registering.{AreMade, IsMade, Registers};
 ghost use Rattle.tink_mac.specs.Templates.{mac_templates};
@@ -24,7 +24,8 @@ use tink_proto::{KeyTemplate, Text};
 pub fn init<M>(alloc: Global, registry: &mut Registry<M>) -> Result<(), TinkError>
 where
     M: KeyManager + Drop + From<HmacKeyManager> + From<AesCmacKeyManager>,
-    ensures { Registers (AreMade (IsMade M.From-1.from_gives ∷ IsMade M.From-2.from_gives ∷ [])) M.url mac_templates registry.old registry.new result }
+    ensures { Registers (AreMade (IsMade M.From-1.from_gives ∷ IsMade M.From-2.from_gives ∷ [])) M.url
+        mac_templates registry.old registry.new result }
 {
     let managers = managers(alloc)?;
     let templates = templates(alloc)?;
@@ -35,7 +36,8 @@ where
 fn managers<M>(alloc: Global) -> Result<Vec<M>, TinkError>
 where
     M: Drop + From<HmacKeyManager> + From<AesCmacKeyManager>,
-    ensures value { IfOk result (λ managers. AreMade (IsMade M.From-1.from_gives ∷ IsMade M.From-2.from_gives ∷ []) managers.items) }
+    ensures value { IfOk result (λ managers. AreMade (IsMade M.From-1.from_gives ∷ IsMade M.From-2.from_gives ∷ [])
+        managers.items) }
     ensures cause { IfErr result (λ e. e.kind ≡ OutOfMemory) }
 {
     let hmac = M::from(HmacKeyManager::new());
@@ -52,15 +54,24 @@ fn templates(alloc: Global) -> Result<Vec<(Text, KeyTemplate)>, TinkError>
     ensures cause { IfErr result (λ e. e.kind ≡ OutOfMemory) }
 {
     let mut named = Vec::new(alloc);
-    let template = hmac_sha256_tag128_key_template(alloc)?;
-    add_template(alloc, &mut named, "HMAC_SHA256_128BITTAG", template)?;
-    let template = hmac_sha256_tag256_key_template(alloc)?;
-    add_template(alloc, &mut named, "HMAC_SHA256_256BITTAG", template)?;
-    let template = hmac_sha512_tag256_key_template(alloc)?;
-    add_template(alloc, &mut named, "HMAC_SHA512_256BITTAG", template)?;
-    let template = hmac_sha512_tag512_key_template(alloc)?;
-    add_template(alloc, &mut named, "HMAC_SHA512_512BITTAG", template)?;
-    let template = aes_cmac_tag128_key_template(alloc)?;
-    add_template(alloc, &mut named, "AES_CMAC", template)?;
+    add_templates(alloc, &mut named)?;
     Ok(named)
+}
+
+// Adds the templates to an empty list.
+fn add_templates(alloc: Global, named: &mut Vec<(Text, KeyTemplate)>) -> Result<(), TinkError>
+    ensures ok { OnOk result (named.old.items ≡ [] → named.new.items ≡ mac_templates) }
+    ensures cause { IfErr result (λ e. e.kind ≡ OutOfMemory) }
+{
+    let template = hmac_sha256_tag128_key_template(alloc)?;
+    add_template(alloc, named, "HMAC_SHA256_128BITTAG", template)?;
+    let template = hmac_sha256_tag256_key_template(alloc)?;
+    add_template(alloc, named, "HMAC_SHA256_256BITTAG", template)?;
+    let template = hmac_sha512_tag256_key_template(alloc)?;
+    add_template(alloc, named, "HMAC_SHA512_256BITTAG", template)?;
+    let template = hmac_sha512_tag512_key_template(alloc)?;
+    add_template(alloc, named, "HMAC_SHA512_512BITTAG", template)?;
+    let template = aes_cmac_tag128_key_template(alloc)?;
+    add_template(alloc, named, "AES_CMAC", template)?;
+    Ok(())
 }

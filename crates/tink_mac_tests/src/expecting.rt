@@ -1,33 +1,34 @@
 //! What the tests compare by.
 
-use std::fmt::Debug;
 use std::process::Abort;
+use tink_core::{Kind, TinkError};
+use tink_proto::Bytes;
 
 /// The one place that compares: a test function with many `assert_eq!` takes long to prove.
-pub fn expect<T>(rt: &impl Abort, got: T, want: T, label: &str)
-where
-    T: PartialEq + Debug + Drop,
-{
-    assert_eq!(rt; got, want, "{label}");
+pub fn is(rt: &impl Abort, holds: bool, label: &str) {
+    assert!(rt; holds, "{label}");
 }
 
-/// The same for a case of a table that has a number.
-pub fn expect_at<T>(rt: &impl Abort, got: T, want: T, at: usize)
-where
-    T: PartialEq + Debug + Drop,
-{
-    assert_eq!(rt; got, want, "at {at}");
+/// Whether something was told, and holds.
+pub fn holds(told: Result<bool, TinkError>) -> bool {
+    match told {
+        Ok(told) => told,
+        Err(_) => false,
+    }
 }
 
-/// The same for a case of some bytes.
-pub fn expect_bytes_at<T>(rt: &impl Abort, got: T, want: T, at: &[u8])
-where
-    T: PartialEq + Debug + Drop,
-{
-    assert_eq!(rt; got, want, "at {at:?}");
+/// Whether these bytes were made.
+pub fn gives(made: Result<Bytes, TinkError>, want: &[u8]) -> bool {
+    match made {
+        Ok(bytes) => bytes.as_slice() == want,
+        Err(_) => false,
+    }
 }
 
-/// The same for bytes.
-pub fn expect_bytes(rt: &impl Abort, got: &[u8], want: &[u8], label: &str) {
-    assert_eq!(rt; got, want, "{label}");
+/// Whether a refusal of this kind was told, or none.
+pub fn refuses(told: Result<Option<Kind>, TinkError>, want: Option<Kind>) -> bool {
+    match told {
+        Ok(kind) => kind == want,
+        Err(_) => false,
+    }
 }

@@ -1,128 +1,188 @@
 //! Keys of MACs: what builds, and what is made.
 
-use crate::expecting::{expect, expect_bytes_at};
+use crate::expecting::{holds, is, refuses};
 use std::alloc::Global;
-use std::process::Abort;
-use std::test::Fail;
 use tink_core::registry::KeyManager;
 use tink_core::{Draws, Kind, Mac, TinkError};
 use tink_mac::{AesCmacKeyManager, HmacKeyManager, MacKind, aes_cmac_tag128_key_template};
 use tink_proto::Bytes;
 use tink_testutil::{draws_of, kind_of};
 
-// The front of a key's message, and a field of so many bytes 1.
-fn key_of(alloc: Global, front: &[u8], tag: u8, length: u8) -> Result<Vec<u8>, TinkError> {
-    let mut key = front.to_vec(alloc)?;
-    key.push(tag)?;
-    key.push(length)?;
-    for _ in 0..length {
-        key.push(1)?;
-    }
+// What a key is, its message up to its value, how many bytes 1 the value has, and what refuses it.
+type Key = (&'static str, &'static [u8], usize, Option<Kind>);
+
+// A key's message.
+fn key_of(alloc: Global, head: &[u8], length: usize) -> Result<Vec<u8>, TinkError> {
+    let mut key = head.to_vec(alloc)?;
+    key.extend_from_slice(&[1; 32][..length.min(32)])?;
     Ok(key)
 }
 
-// Keys by their messages up to the value, whose field has the tag, and by its length: the last ones are refused.
-fn check_keys<M: KeyManager>(
-    rt: &impl Abort,
+// What a manager refuses a key by.
+fn refusal_of_key<M: KeyManager + Drop>(
     alloc: Global,
-    manager: &M,
-    tag: u8,
-    cases: &[(&[u8], u8, bool)],
-) -> Result<(), TinkError> {
-    for (front, length, builds) in cases {
-        let key = key_of(alloc, front, tag, *length)?;
-        let want = if *builds {
-            None
-        } else {
-            Some(Kind::InvalidKey)
-        };
-        expect_bytes_at(rt, kind_of(manager.primitive(alloc, &key)), want, front);
-    }
-    Ok(())
+    manager: M,
+    key: &Key,
+) -> Result<Option<Kind>, TinkError> {
+    let (_, head, length, _) = *key;
+    let key = key_of(alloc, head, length)?;
+    Ok(kind_of(manager.primitive(alloc, &key)))
 }
 
 // The params are field 2, with the hash as field 1 and the size of tags as field 2; the value is field 3.
+const HMAC_KEYS: [Key; 8] = [
+    ("SHA-256, 10", b"\x12\x04\x08\x03\x10\x0a\x1a\x10", 16, None),
+    ("SHA-224, 28", b"\x12\x04\x08\x05\x10\x1c\x1a\x10", 16, None),
+    (
+        "version 1",
+        b"\x08\x01\x12\x04\x08\x03\x10\x10\x1a\x10",
+        16,
+        Some(Kind::InvalidKey),
+    ),
+    (
+        "no hash",
+        b"\x12\x02\x10\x10\x1a\x10",
+        16,
+        Some(Kind::InvalidKey),
+    ),
+    (
+        "hash 6",
+        b"\x12\x04\x08\x06\x10\x10\x1a\x10",
+        16,
+        Some(Kind::InvalidKey),
+    ),
+    (
+        "tags of 9",
+        b"\x12\x04\x08\x03\x10\x09\x1a\x10",
+        16,
+        Some(Kind::InvalidKey),
+    ),
+    (
+        "tags of 33",
+        b"\x12\x04\x08\x03\x10\x21\x1a\x10",
+        16,
+        Some(Kind::InvalidKey),
+    ),
+    (
+        "15 bytes",
+        b"\x12\x04\x08\x03\x10\x10\x1a\x0f",
+        15,
+        Some(Kind::InvalidKey),
+    ),
+];
+
 #[test]
-fn hmac_keys_that_do_not_build(rt: HostRuntime) -> Result<(), Fail> {
-    let cases: [(&[u8], u8, bool); 8] = [
-        (b"\x12\x04\x08\x03\x10\x0a", 16, true),
-        (b"\x12\x04\x08\x05\x10\x1c", 16, true),
-        (b"\x08\x01\x12\x04\x08\x03\x10\x10", 16, false),
-        (b"\x12\x02\x10\x10", 16, false),
-        (b"\x12\x04\x08\x06\x10\x10", 16, false),
-        (b"\x12\x04\x08\x03\x10\x09", 16, false),
-        (b"\x12\x04\x08\x03\x10\x21", 16, false),
-        (b"\x12\x04\x08\x03\x10\x10", 15, false),
-    ];
-    check_keys(&rt, rt.alloc(), &HmacKeyManager::new(), 0x1a, &cases)?;
-    Ok(())
+fn hmac_keys_that_do_not_build(rt: HostRuntime) {
+    for key in &HMAC_KEYS {
+        let refusal = refusal_of_key(rt.alloc(), HmacKeyManager::new(), key);
+        is(&rt, refuses(refusal, key.3), key.0);
+    }
 }
 
-// The value is field 2, and the params are field 3, with the size of tags.
+// The params are field 3, with the size of tags; the value is field 2. Fields come in any order.
+const CMAC_KEYS: [Key; 6] = [
+    ("tags of 10", b"\x1a\x02\x08\x0a\x12\x20", 32, None),
+    ("tags of 16", b"\x1a\x02\x08\x10\x12\x20", 32, None),
+    (
+        "version 1",
+        b"\x08\x01\x1a\x02\x08\x10\x12\x20",
+        32,
+        Some(Kind::InvalidKey),
+    ),
+    (
+        "tags of 9",
+        b"\x1a\x02\x08\x09\x12\x20",
+        32,
+        Some(Kind::InvalidKey),
+    ),
+    (
+        "tags of 17",
+        b"\x1a\x02\x08\x11\x12\x20",
+        32,
+        Some(Kind::InvalidKey),
+    ),
+    (
+        "16 bytes",
+        b"\x1a\x02\x08\x10\x12\x10",
+        16,
+        Some(Kind::InvalidKey),
+    ),
+];
+
 #[test]
-fn cmac_keys_that_do_not_build(rt: HostRuntime) -> Result<(), Fail> {
-    let cases: [(&[u8], u8, bool); 6] = [
-        (b"\x1a\x02\x08\x0a", 32, true),
-        (b"\x1a\x02\x08\x10", 32, true),
-        (b"\x08\x01\x1a\x02\x08\x10", 32, false),
-        (b"\x1a\x02\x08\x09", 32, false),
-        (b"\x1a\x02\x08\x11", 32, false),
-        (b"\x1a\x02\x08\x10", 16, false),
-    ];
-    check_keys(&rt, rt.alloc(), &AesCmacKeyManager::new(), 0x12, &cases)?;
-    Ok(())
+fn cmac_keys_that_do_not_build(rt: HostRuntime) {
+    for key in &CMAC_KEYS {
+        let refusal = refusal_of_key(rt.alloc(), AesCmacKeyManager::new(), key);
+        is(&rt, refuses(refusal, key.3), key.0);
+    }
 }
+
+// What a format asks for, its message, and what refuses it.
+type Format = (&'static str, &'static [u8], Option<Kind>);
 
 // What a manager refuses a format by, with 40 draws.
-fn refusal_of<M: KeyManager>(
+fn refusal_of<M: KeyManager + Drop>(
     alloc: Global,
-    manager: &M,
+    manager: M,
     format: &[u8],
 ) -> Result<Option<Kind>, TinkError> {
     let mut draws = draws_of(alloc, &[7; 40])?;
     Ok(kind_of(manager.new_key(alloc, format, &mut draws)))
 }
 
-fn check_formats<M: KeyManager>(
-    rt: &impl Abort,
-    alloc: Global,
-    manager: &M,
-    cases: &[(&[u8], Option<Kind>)],
-) -> Result<(), TinkError> {
-    for (format, want) in cases {
-        expect_bytes_at(rt, refusal_of(alloc, manager, format)?, *want, format);
-    }
-    Ok(())
-}
-
 // The params are field 1, the size of keys is field 2, and the version field 3.
+const HMAC_FORMATS: [Format; 4] = [
+    (
+        "40 bytes",
+        b"\x0a\x04\x08\x03\x10\x10\x10\x28\x18\x09",
+        None,
+    ),
+    (
+        "41 bytes",
+        b"\x0a\x04\x08\x03\x10\x10\x10\x29\x18\x09",
+        Some(Kind::RandomFault),
+    ),
+    (
+        "tags of 9",
+        b"\x0a\x04\x08\x03\x10\x09\x10\x29\x18\x09",
+        Some(Kind::InvalidFormat),
+    ),
+    (
+        "15 bytes",
+        b"\x0a\x04\x08\x03\x10\x10\x10\x0f\x18\x09",
+        Some(Kind::InvalidFormat),
+    ),
+];
+
 #[test]
-fn hmac_formats_of_which_no_key_is_made(rt: HostRuntime) -> Result<(), Fail> {
-    let invalid = Some(Kind::InvalidFormat);
-    let cases: [(&[u8], Option<Kind>); 4] = [
-        (b"\x0a\x04\x08\x03\x10\x10\x10\x28\x18\x09", None),
-        (
-            b"\x0a\x04\x08\x03\x10\x10\x10\x29\x18\x09",
-            Some(Kind::RandomFault),
-        ),
-        (b"\x0a\x04\x08\x03\x10\x09\x10\x29\x18\x09", invalid),
-        (b"\x0a\x04\x08\x03\x10\x10\x10\x0f\x18\x09", invalid),
-    ];
-    check_formats(&rt, rt.alloc(), &HmacKeyManager::new(), &cases)?;
-    Ok(())
+fn hmac_formats_of_which_no_key_is_made(rt: HostRuntime) {
+    for (what, format, want) in &HMAC_FORMATS {
+        let refusal = refusal_of(rt.alloc(), HmacKeyManager::new(), format);
+        is(&rt, refuses(refusal, *want), what);
+    }
 }
 
 // The size of keys is field 1, and the params are field 2.
+const CMAC_FORMATS: [Format; 3] = [
+    ("32 bytes", b"\x08\x20\x12\x02\x08\x10", None),
+    (
+        "tags of 9",
+        b"\x08\x20\x12\x02\x08\x09",
+        Some(Kind::InvalidFormat),
+    ),
+    (
+        "16 bytes",
+        b"\x08\x10\x12\x02\x08\x10",
+        Some(Kind::InvalidFormat),
+    ),
+];
+
 #[test]
-fn cmac_formats_of_which_no_key_is_made(rt: HostRuntime) -> Result<(), Fail> {
-    let invalid = Some(Kind::InvalidFormat);
-    let cases: [(&[u8], Option<Kind>); 3] = [
-        (b"\x08\x20\x12\x02\x08\x10", None),
-        (b"\x08\x20\x12\x02\x08\x09", invalid),
-        (b"\x08\x10\x12\x02\x08\x10", invalid),
-    ];
-    check_formats(&rt, rt.alloc(), &AesCmacKeyManager::new(), &cases)?;
-    Ok(())
+fn cmac_formats_of_which_no_key_is_made(rt: HostRuntime) {
+    for (what, format, want) in &CMAC_FORMATS {
+        let refusal = refusal_of(rt.alloc(), AesCmacKeyManager::new(), format);
+        is(&rt, refuses(refusal, *want), what);
+    }
 }
 
 // A key by the template of AES-CMAC.
@@ -135,20 +195,22 @@ fn built_cmac(alloc: Global, key: &[u8]) -> Result<MacKind, TinkError> {
     AesCmacKeyManager::new().primitive(alloc, key)?.into_mac()
 }
 
-// The length of a tag by a MAC, which accepts it.
-fn length_of_tag(alloc: Global, mac: &MacKind) -> Result<usize, TinkError> {
+// Whether a MAC accepts its own tag, of 16 bytes.
+fn has_tags_of_16(alloc: Global, mac: &MacKind) -> Result<bool, TinkError> {
     let tag = mac.compute_mac(alloc, b"abc")?;
     mac.verify_mac(alloc, tag.as_slice(), b"abc")?;
-    Ok(tag.as_slice().len())
+    Ok(tag.as_slice().len() == 16)
+}
+
+// Whether a new key takes 32 draws, and builds such a MAC.
+fn is_made_and_built(alloc: Global) -> Result<bool, TinkError> {
+    let mut draws = draws_of(alloc, &[7; 33])?;
+    let key = new_cmac_key(alloc, &mut draws)?;
+    let built = has_tags_of_16(alloc, &built_cmac(alloc, key.as_slice())?)?;
+    Ok(built && draws.left() == 1)
 }
 
 #[test]
-fn a_new_cmac_key_builds(rt: HostRuntime) -> Result<(), Fail> {
-    let alloc = rt.alloc();
-    let mut draws = draws_of(alloc, &[7; 33])?;
-    let key = new_cmac_key(alloc, &mut draws)?;
-    expect(&rt, draws.left(), 1, "draws that are left");
-    let mac = built_cmac(alloc, key.as_slice())?;
-    expect(&rt, length_of_tag(alloc, &mac)?, 16, "the tag's length");
-    Ok(())
+fn a_new_cmac_key_builds(rt: HostRuntime) {
+    is(&rt, holds(is_made_and_built(rt.alloc())), "a new key");
 }

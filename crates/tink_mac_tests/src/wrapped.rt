@@ -3,11 +3,9 @@
 ghost use Rattle.tink_io.specs.Told.{Answers};
 ghost use Rattle.tink_mac.specs.Wrapped.{primary_mac};
 
-use crate::expecting::{expect, expect_at, expect_bytes};
+use crate::expecting::{gives, holds, is, refuses};
 use std::alloc::Global;
-use std::test::Fail;
 use tink_core::keyset::{Handle, Manager};
-use tink_core::registry::Registry;
 use tink_core::{KeyId, Kind, Mac, TinkError};
 use tink_mac::subtle::Hmac;
 use tink_mac::{
@@ -48,33 +46,36 @@ fn own_mac(alloc: Global, prefix: OutputPrefixType) -> Result<Vec<u8>, TinkError
         OutputPrefixType::Legacy => (b"\x00\x00\x00\x00\x07", b"abc\x00"),
         _ => (b"\x00\x00\x00\x00\x07", b"abc"),
     };
+    let tag = tag_of(alloc, data)?;
     let mut mac = front.to_vec(alloc)?;
-    mac.extend_from_slice(tag_of(alloc, data)?.as_slice())?;
+    mac.extend_from_slice(tag.as_slice())?;
     Ok(mac)
 }
 
-// The MAC of `abc` by the keyset of such a key.
-fn made_by(alloc: Global, prefix: OutputPrefixType) -> Result<Bytes, TinkError> {
-    mac_of(alloc, &macs_of(alloc, prefix)?, b"abc")
-}
-
-#[test]
-fn a_mac_stands_behind_its_prefix(rt: HostRuntime) -> Result<(), Fail> {
-    for prefix in [
-        OutputPrefixType::Legacy,
-        OutputPrefixType::Crunchy,
-        OutputPrefixType::Raw,
-    ] {
-        let made = made_by(rt.alloc(), prefix)?;
-        let want = own_mac(rt.alloc(), prefix)?;
-        expect_bytes(&rt, made.as_slice(), &want, "a MAC");
-    }
-    Ok(())
+// Whether a set makes this MAC of `abc`.
+fn makes(alloc: Global, macs: &WrappedMac<MacKind>, want: &[u8]) -> bool {
+    gives(mac_of(alloc, macs, b"abc"), want)
 }
 
 // What a set answers on a MAC of `abc`.
 fn answer_on(alloc: Global, macs: &WrappedMac<MacKind>, mac: &[u8]) -> Option<Kind> {
     kind_of(macs.verify_mac(alloc, mac, b"abc"))
+}
+
+// Whether the keyset of such a key makes its MAC.
+fn makes_own(alloc: Global, prefix: OutputPrefixType) -> Result<bool, TinkError> {
+    let want = own_mac(alloc, prefix)?;
+    Ok(makes(alloc, &macs_of(alloc, prefix)?, &want))
+}
+
+#[test]
+fn a_mac_stands_behind_its_prefix(rt: HostRuntime) {
+    let legacy = makes_own(rt.alloc(), OutputPrefixType::Legacy);
+    is(&rt, holds(legacy), "LEGACY");
+    let crunchy = makes_own(rt.alloc(), OutputPrefixType::Crunchy);
+    is(&rt, holds(crunchy), "CRUNCHY");
+    let raw = makes_own(rt.alloc(), OutputPrefixType::Raw);
+    is(&rt, holds(raw), "RAW");
 }
 
 // What the keyset of one such key answers on the MAC of another, cut to so many bytes.
@@ -89,32 +90,51 @@ fn answer_by(
     Ok(answer_on(alloc, &macs, &mac[..mac.len().min(size)]))
 }
 
-// LEGACY and CRUNCHY keys of an id have one prefix.
+// What keys there are, their prefix type, that of the key that made a MAC, and what the first answer. LEGACY and
+// CRUNCHY keys of an id have one prefix.
+const PREFIXES: [(&str, OutputPrefixType, OutputPrefixType, Option<Kind>); 5] = [
+    (
+        "LEGACY",
+        OutputPrefixType::Legacy,
+        OutputPrefixType::Legacy,
+        None,
+    ),
+    (
+        "LEGACY on CRUNCHY",
+        OutputPrefixType::Legacy,
+        OutputPrefixType::Crunchy,
+        Some(Kind::MacMismatch),
+    ),
+    (
+        "CRUNCHY",
+        OutputPrefixType::Crunchy,
+        OutputPrefixType::Crunchy,
+        None,
+    ),
+    (
+        "CRUNCHY on LEGACY",
+        OutputPrefixType::Crunchy,
+        OutputPrefixType::Legacy,
+        Some(Kind::MacMismatch),
+    ),
+    ("RAW", OutputPrefixType::Raw, OutputPrefixType::Raw, None),
+];
+
 #[test]
-fn a_key_accepts_its_own_alone(rt: HostRuntime) -> Result<(), Fail> {
-    let (legacy, crunchy) = (OutputPrefixType::Legacy, OutputPrefixType::Crunchy);
-    let mismatch = Some(Kind::MacMismatch);
-    for (prefix, other, want) in [
-        (legacy, legacy, None),
-        (legacy, crunchy, mismatch),
-        (crunchy, crunchy, None),
-        (crunchy, legacy, mismatch),
-        (OutputPrefixType::Raw, OutputPrefixType::Raw, None),
-    ] {
-        let answer = answer_by(rt.alloc(), prefix, other, 21)?;
-        expect_at(&rt, answer, want, prefix as usize);
+fn a_key_accepts_its_own_alone(rt: HostRuntime) {
+    for (what, prefix, other, want) in &PREFIXES {
+        let answer = answer_by(rt.alloc(), *prefix, *other, 21);
+        is(&rt, refuses(answer, *want), what);
     }
-    Ok(())
 }
 
 #[test]
-fn the_front_of_a_mac_is_refused(rt: HostRuntime) -> Result<(), Fail> {
+fn a_cut_mac_is_refused(rt: HostRuntime) {
     let raw = OutputPrefixType::Raw;
     for size in 0..6usize {
-        let answer = answer_by(rt.alloc(), raw, raw, size)?;
-        expect_at(&rt, answer, Some(Kind::MacMismatch), size);
+        let answer = answer_by(rt.alloc(), raw, raw, size);
+        is(&rt, refuses(answer, Some(Kind::MacMismatch)), "a cut MAC");
     }
-    Ok(())
 }
 
 // A handle of one key by the template.
@@ -157,31 +177,29 @@ fn later_answer(alloc: Global, mac: &[u8]) -> Result<Option<Kind>, TinkError> {
     Ok(answer_on(alloc, &macs, mac))
 }
 
-#[test]
-fn a_mac_of_a_template_verifies_after_a_rotation(rt: HostRuntime) -> Result<(), Fail> {
-    let old = old_mac(rt.alloc())?;
-    expect(&rt, old.as_slice().len(), 21, "the MAC's length");
-    expect(
-        &rt,
-        later_answer(rt.alloc(), old.as_slice())?,
-        None,
-        "the old MAC",
-    );
-    Ok(())
+// Whether the later handle accepts a MAC, which has 21 bytes.
+fn is_later_accepted(alloc: Global, made: Result<Bytes, TinkError>) -> Result<bool, TinkError> {
+    let mac = made?;
+    let answer = later_answer(alloc, mac.as_slice())?;
+    Ok(answer.is_none() && mac.as_slice().len() == 21)
 }
 
 #[test]
-fn the_new_key_makes_another_mac(rt: HostRuntime) -> Result<(), Fail> {
-    let made = new_mac(rt.alloc())?;
-    let old = old_mac(rt.alloc())?;
-    assert!(rt; made.as_slice() != old.as_slice());
-    expect(
-        &rt,
-        later_answer(rt.alloc(), made.as_slice())?,
-        None,
-        "the new MAC",
-    );
-    Ok(())
+fn a_mac_of_a_template_verifies_after_a_rotation(rt: HostRuntime) {
+    let old = is_later_accepted(rt.alloc(), old_mac(rt.alloc()));
+    is(&rt, holds(old), "the old MAC");
+}
+
+fn are_others(alloc: Global) -> Result<bool, TinkError> {
+    let old = old_mac(alloc)?;
+    Ok(new_mac(alloc)?.as_slice() != old.as_slice())
+}
+
+#[test]
+fn the_new_key_makes_another_mac(rt: HostRuntime) {
+    let new = is_later_accepted(rt.alloc(), new_mac(rt.alloc()));
+    is(&rt, holds(new), "the new MAC");
+    is(&rt, holds(are_others(rt.alloc())), "another MAC");
 }
 
 // A copy of the MACs of a LEGACY key.
@@ -189,22 +207,16 @@ fn copy(alloc: Global) -> Result<WrappedMac<MacKind>, TinkError> {
     macs_of(alloc, OutputPrefixType::Legacy)?.try_clone(alloc)
 }
 
-// What it answers on a MAC of `abc`, and which one it makes.
-fn copy_answer(alloc: Global, mac: &[u8]) -> Result<Option<Kind>, TinkError> {
-    Ok(answer_on(alloc, &copy(alloc)?, mac))
-}
-
-fn made_by_copy(alloc: Global) -> Result<Bytes, TinkError> {
-    mac_of(alloc, &copy(alloc)?, b"abc")
+// Whether it makes and accepts the key's own MAC.
+fn is_copied(alloc: Global) -> Result<bool, TinkError> {
+    let own = own_mac(alloc, OutputPrefixType::Legacy)?;
+    let macs = copy(alloc)?;
+    Ok(makes(alloc, &macs, &own) && answer_on(alloc, &macs, &own).is_none())
 }
 
 #[test]
-fn a_copy_does_the_same(rt: HostRuntime) -> Result<(), Fail> {
-    let own = own_mac(rt.alloc(), OutputPrefixType::Legacy)?;
-    expect(&rt, copy_answer(rt.alloc(), &own)?, None, "a copy's answer");
-    let made = made_by_copy(rt.alloc())?;
-    expect_bytes(&rt, made.as_slice(), &own, "a copy's MAC");
-    Ok(())
+fn a_copy_does_the_same(rt: HostRuntime) {
+    is(&rt, holds(is_copied(rt.alloc())), "a copy");
 }
 
 // The laws hold of these types.

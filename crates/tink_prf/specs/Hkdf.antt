@@ -16,10 +16,12 @@ pub record HkdfKey : Type 0 where
 
 -- n bytes of HKDF with the input as its info (RFC 5869, 2.2 and 2.3)
 abbrev pub hkdf_output : HkdfKey → List ℕ → ℕ → Result (List ℕ) Kind
-hkdf_output k input n = if nat_lt (255 * digest_size k.hash) n then Err OutputTooLong else Ok (hkdf_of k.hash k.key k.salt input n)
+hkdf_output k input n =
+    if nat_lt (255 * digest_size k.hash) n then Err OutputTooLong else Ok (hkdf_of k.hash k.key k.salt input n)
 
 pub hkdf_output_told : (k : HkdfKey) (input : List ℕ) (n : ℕ) → IsTold (hkdf_output k input n)
-hkdf_output_told k input n = told_if (nat_lt (255 * digest_size k.hash) n) (Err OutputTooLong) (Ok (hkdf_of k.hash k.key k.salt input n)) tt tt
+hkdf_output_told k input n =
+    told_if (nat_lt (255 * digest_size k.hash) n) (Err OutputTooLong) (Ok (hkdf_of k.hash k.key k.salt input n)) tt tt
 
 -- a key with SHA-1, SHA-256 or SHA-512, or the refusal of another hash
 abbrev pub hkdf_key : Option Hash → List ℕ → List ℕ → Result HkdfKey Kind

@@ -14,10 +14,12 @@ pub record HmacKey : Type 0 where
 
 -- the first n bytes of HMAC (FIPS 198-1, 4 and 5)
 abbrev pub hmac_output : HmacKey → List ℕ → ℕ → Result (List ℕ) Kind
-hmac_output k input n = if nat_lt (digest_size k.hash) n then Err OutputTooLong else Ok (take n (hmac_of k.hash k.key input))
+hmac_output k input n =
+    if nat_lt (digest_size k.hash) n then Err OutputTooLong else Ok (take n (hmac_of k.hash k.key input))
 
 pub hmac_output_told : (k : HmacKey) (input : List ℕ) (n : ℕ) → IsTold (hmac_output k input n)
-hmac_output_told k input n = told_if (nat_lt (digest_size k.hash) n) (Err OutputTooLong) (Ok (take n (hmac_of k.hash k.key input))) tt tt
+hmac_output_told k input n =
+    told_if (nat_lt (digest_size k.hash) n) (Err OutputTooLong) (Ok (take n (hmac_of k.hash k.key input))) tt tt
 
 -- a key, or the refusal of the unknown hash
 abbrev pub hmac_key : Option Hash → List ℕ → Result HmacKey Kind

@@ -76,7 +76,8 @@ salt_of (Some p) = p.salt
 abbrev pub hkdf_prf_key_of : HkdfPrfKey → Option HkdfKey
 hkdf_prf_key_of m =
     if nat_eq m.version 0
-    then option_map (λ h. record { hash = h; key = m.key_value; salt = salt_of m.params }) (hkdf_prf_hash m.params (length m.key_value))
+    then option_map (λ h. record { hash = h; key = m.key_value; salt = salt_of m.params })
+    (hkdf_prf_hash m.params (length m.key_value))
     else None
 
 abbrev pub new_hkdf_prf_key : Option HkdfPrfParams → List ℕ → HkdfPrfKey

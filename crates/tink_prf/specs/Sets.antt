@@ -48,8 +48,10 @@ pub record HasPrfs {P : Type 0} (id : ℕ) (prfs : List (ℕ × P)) (set : Set P
   pub by_id : IsFromIterResult nat_cmp prfs set.prfs
 
 -- the output of the primary function
-abbrev pub primary_output : {P : Type 0} → (P → List ℕ → ℕ → Result (List ℕ) Kind) → Set P → List ℕ → ℕ → Result (List ℕ) Kind
-primary_output computes set input n = and_then (ok_or (get nat_cmp set.prfs set.primary_id) NoPrimary) (λ p. computes p input n)
+abbrev pub primary_output : {P : Type 0} → (P → List ℕ → ℕ → Result (List ℕ) Kind) → Set P
+    → List ℕ → ℕ → Result (List ℕ) Kind
+primary_output computes set input n =
+    and_then (ok_or (get nat_cmp set.prfs set.primary_id) NoPrimary) (λ p. computes p input n)
 
 -- ---- steps, which only the code needs
 
@@ -66,9 +68,12 @@ IsFilled (x ∷ xs) = Unit {0}
 module _ {K A D HD HE M P S St V G : Type 0} where
   -- whether the entries of a set are all raw
   abbrev pub TellsRaw : BTreeMap (Vec ℕ G) (List (Entry K A D HD HE M P S St V)) → Bool → Type 0
-  TellsRaw groups told = (es : List (Entry K A D HD HE M P S St V)) → AreGroupsOf prefix_of es groups → told ≡ list_all is_raw es
+  TellsRaw groups told =
+      (es : List (Entry K A D HD HE M P S St V)) → AreGroupsOf prefix_of es groups → told ≡ list_all is_raw es
 
   -- the functions of a set of entries
-  abbrev pub GivesPrfs : Option (Entry K A D HD HE M P S St V) → BTreeMap (Vec ℕ G) (List (Entry K A D HD HE M P S St V)) → Result (Set P) TinkError → Type 0
+  abbrev pub GivesPrfs : Option (Entry K A D HD HE M P S St V)
+      → BTreeMap (Vec ℕ G) (List (Entry K A D HD HE M P S St V)) → Result (Set P) TinkError → Type 0
   GivesPrfs primary groups given =
-      (id : ℕ) (es : List (Entry K A D HD HE M P S St V)) → HasEntries prefix_of (λ e. e.key_id) id es primary groups → GivesSet (HasPrfs id) given (prfs_of id es)
+      (id : ℕ) (es : List (Entry K A D HD HE M P S St V)) → HasEntries prefix_of (λ e. e.key_id) id es primary groups
+      → GivesSet (HasPrfs id) given (prfs_of id es)

@@ -12,16 +12,19 @@ use Rattle.tink_prf.specs.KeyTypes.{aes_cmac_prf_url, hkdf_prf_url, hmac_prf_url
 -- HMAC keys of n bytes
 abbrev pub hmac_prf_template : ℕ → HashType → KeyTemplate
 hmac_prf_template n hash =
-    template_of hmac_prf_url hmac_prf_key_format (record { params = Some (record { hash = hash_number hash }); key_size = n; version = 0 }) Raw
+    template_of hmac_prf_url hmac_prf_key_format
+    (record { params = Some (record { hash = hash_number hash }); key_size = n; version = 0 }) Raw
 
 -- HKDF keys of n bytes, without a salt
 abbrev pub hkdf_prf_template : ℕ → HashType → KeyTemplate
 hkdf_prf_template n hash =
-    template_of hkdf_prf_url hkdf_prf_key_format (record { params = Some (record { hash = hash_number hash; salt = [] }); key_size = n; version = 0 }) Raw
+    template_of hkdf_prf_url hkdf_prf_key_format
+    (record { params = Some (record { hash = hash_number hash; salt = [] }); key_size = n; version = 0 }) Raw
 
 -- AES-CMAC keys of n bytes
 abbrev pub aes_cmac_prf_template : ℕ → KeyTemplate
-aes_cmac_prf_template n = template_of aes_cmac_prf_url aes_cmac_prf_key_format (record { key_size = n; version = 0 }) Raw
+aes_cmac_prf_template n =
+    template_of aes_cmac_prf_url aes_cmac_prf_key_format (record { key_size = n; version = 0 }) Raw
 
 -- the registered templates under their names
 abbrev pub prf_templates : List (List ℕ × KeyTemplate)

@@ -72,5 +72,6 @@ impl KeyType for AesCmacPrfKeys {
 
     ghost built_told = { λ key. built_of_told (λ k. sorts.Prf (kinds.AesCmac k)) (aes_cmac_prf_key_of key) };
 
-    ghost made_told = { λ format draws. made_if_told (nat_eq format.key_size 32) format.key_size new_aes_cmac_prf_key draws };
+    ghost made_told = { λ format draws. made_if_told (nat_eq format.key_size 32) format.key_size
+        new_aes_cmac_prf_key draws };
 }

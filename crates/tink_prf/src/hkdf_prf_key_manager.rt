@@ -39,7 +39,8 @@ impl KeyType for HkdfPrfKeys {
 
     ghost built = { λ key. built_of (λ k. sorts.Prf (kinds.Hkdf k)) (hkdf_prf_key_of key) };
 
-    ghost made = { λ format draws. made_if (is_some (hkdf_prf_hash format.params format.key_size)) format.key_size (new_hkdf_prf_key format.params) draws };
+    ghost made = { λ format draws. made_if (is_some (hkdf_prf_hash format.params format.key_size))
+        format.key_size (new_hkdf_prf_key format.params) draws };
 
     fn url() -> &'static str {
         HKDF_PRF_TYPE_URL
@@ -79,7 +80,8 @@ impl KeyType for HkdfPrfKeys {
 
     ghost built_told = { λ key. built_of_told (λ k. sorts.Prf (kinds.Hkdf k)) (hkdf_prf_key_of key) };
 
-    ghost made_told = { λ format draws. made_if_told (is_some (hkdf_prf_hash format.params format.key_size)) format.key_size (new_hkdf_prf_key format.params) draws };
+    ghost made_told = { λ format draws. made_if_told (is_some (hkdf_prf_hash format.params format.key_size))
+        format.key_size (new_hkdf_prf_key format.params) draws };
 }
 
 // The type of the hash, where keys are made with these params and of this size in bytes.

@@ -39,7 +39,8 @@ impl KeyType for HmacPrfKeys {
 
     ghost built = { λ key. built_of (λ k. sorts.Prf (kinds.Hmac k)) (hmac_prf_key_of key) };
 
-    ghost made = { λ format draws. made_if (is_some (hmac_prf_hash format.params format.key_size)) format.key_size (new_hmac_prf_key format.params) draws };
+    ghost made = { λ format draws. made_if (is_some (hmac_prf_hash format.params format.key_size))
+        format.key_size (new_hmac_prf_key format.params) draws };
 
     fn url() -> &'static str {
         HMAC_PRF_TYPE_URL
@@ -76,7 +77,8 @@ impl KeyType for HmacPrfKeys {
 
     ghost built_told = { λ key. built_of_told (λ k. sorts.Prf (kinds.Hmac k)) (hmac_prf_key_of key) };
 
-    ghost made_told = { λ format draws. made_if_told (is_some (hmac_prf_hash format.params format.key_size)) format.key_size (new_hmac_prf_key format.params) draws };
+    ghost made_told = { λ format draws. made_if_told (is_some (hmac_prf_hash format.params format.key_size))
+        format.key_size (new_hmac_prf_key format.params) draws };
 }
 
 // The type of the hash, where keys are made with these params and of this size in bytes.

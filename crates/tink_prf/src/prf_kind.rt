@@ -10,11 +10,11 @@ use tink_proto::Bytes;
 /// A pseudorandom function of one of the three kinds.
 #[derive(Drop)]
 pub enum PrfKind {
-    /// The front of a CMAC.
+    /// A prefix of a CMAC.
     AesCmac(AesCmacPrf),
     /// HKDF's output.
     Hkdf(HkdfPrf),
-    /// The front of an HMAC.
+    /// A prefix of an HMAC.
     Hmac(HmacPrf),
 }
 

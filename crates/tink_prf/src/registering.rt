@@ -1,6 +1,6 @@
 //! The managers and templates of keys for pseudorandom functions, registered.
 
-ghost use Rattle.std.specs.Prelude.{◌≡◌, ◌∷◌, [], IfErr, IfOk};
+ghost use Rattle.std.specs.Prelude.{◌≡◌, ◌∷◌, [], IfErr, IfOk, OnOk};
 ghost use Rattle.tink_io.specs.declared.error.Kind.TheVariants.{OutOfMemory};
 ghost use Rattle.tink_registry.specs.Registering.{AreMade, IsMade, Registers};
 ghost use Rattle.tink_prf.specs.Templates.{prf_templates};
@@ -27,7 +27,9 @@ where
         + From<HmacPrfKeyManager>
         + From<HkdfPrfKeyManager>
         + From<AesCmacPrfKeyManager>,
-    ensures { Registers (AreMade (IsMade M.From-1.from_gives ∷ IsMade M.From-2.from_gives ∷ IsMade M.From-3.from_gives ∷ [])) M.url prf_templates registry.old registry.new result }
+    ensures { Registers
+        (AreMade (IsMade M.From-1.from_gives ∷ IsMade M.From-2.from_gives ∷ IsMade M.From-3.from_gives ∷ []))
+        M.url prf_templates registry.old registry.new result }
 {
     let managers = managers(alloc)?;
     let templates = templates(alloc)?;
@@ -38,7 +40,9 @@ where
 fn managers<M>(alloc: Global) -> Result<Vec<M>, TinkError>
 where
     M: Drop + From<HmacPrfKeyManager> + From<HkdfPrfKeyManager> + From<AesCmacPrfKeyManager>,
-    ensures value { IfOk result (λ managers. AreMade (IsMade M.From-1.from_gives ∷ IsMade M.From-2.from_gives ∷ IsMade M.From-3.from_gives ∷ []) managers.items) }
+    ensures value { IfOk result (λ managers. AreMade
+        (IsMade M.From-1.from_gives ∷ IsMade M.From-2.from_gives ∷ IsMade M.From-3.from_gives ∷ [])
+        managers.items) }
     ensures cause { IfErr result (λ e. e.kind ≡ OutOfMemory) }
 {
     let hmac = M::from(HmacPrfKeyManager::new());
@@ -57,13 +61,22 @@ fn templates(alloc: Global) -> Result<Vec<(Text, KeyTemplate)>, TinkError>
     ensures cause { IfErr result (λ e. e.kind ≡ OutOfMemory) }
 {
     let mut named = Vec::new(alloc);
-    let template = hkdf_sha256_prf_key_template(alloc)?;
-    add_template(alloc, &mut named, "HKDF_SHA256", template)?;
-    let template = hmac_sha256_prf_key_template(alloc)?;
-    add_template(alloc, &mut named, "HMAC_SHA256_PRF", template)?;
-    let template = hmac_sha512_prf_key_template(alloc)?;
-    add_template(alloc, &mut named, "HMAC_SHA512_PRF", template)?;
-    let template = aes_cmac_prf_key_template(alloc)?;
-    add_template(alloc, &mut named, "AES_CMAC_PRF", template)?;
+    add_templates(alloc, &mut named)?;
     Ok(named)
+}
+
+// Adds the templates to an empty list.
+fn add_templates(alloc: Global, named: &mut Vec<(Text, KeyTemplate)>) -> Result<(), TinkError>
+    ensures ok { OnOk result (named.old.items ≡ [] → named.new.items ≡ prf_templates) }
+    ensures cause { IfErr result (λ e. e.kind ≡ OutOfMemory) }
+{
+    let template = hkdf_sha256_prf_key_template(alloc)?;
+    add_template(alloc, named, "HKDF_SHA256", template)?;
+    let template = hmac_sha256_prf_key_template(alloc)?;
+    add_template(alloc, named, "HMAC_SHA256_PRF", template)?;
+    let template = hmac_sha512_prf_key_template(alloc)?;
+    add_template(alloc, named, "HMAC_SHA512_PRF", template)?;
+    let template = aes_cmac_prf_key_template(alloc)?;
+    add_template(alloc, named, "AES_CMAC_PRF", template)?;
+    Ok(())
 }

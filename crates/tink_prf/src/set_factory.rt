@@ -29,13 +29,13 @@ pub struct Set<P> {
 }
 
 impl<P: Prf + Drop> Set<P> {
-    /// The functions of a keyset's enabled keys, each built by the registry's manager of its URL. Where several keys have
-    /// one id, it has the function of the last of them.
+    /// The functions of a keyset's enabled keys, each built by the registry's manager of its URL. Where several keys
+    /// have one id, it has the function of the last of them.
     ///
     /// # Errors
-    /// The first that applies: what building refuses by (`Handle::primitives`); `NoPrimary` where no enabled key has the
-    /// primary id; `WrongPrimitive` where the primary is of another sort; `NotRawOnly` unless every key is of the prefix
-    /// type RAW; `WrongPrimitive` where another key is of another sort. `OutOfMemory` may come in place of each.
+    /// The first that applies: what building refuses by (`Handle::primitives`); `NoPrimary` where no enabled key has
+    /// the primary id; `WrongPrimitive` where the primary is of another sort; `NotRawOnly` unless every key is of the
+    /// prefix type RAW; `WrongPrimitive` where another key is of another sort. `OutOfMemory` may come in place of each.
     pub fn new<M: KeyManager>(
         alloc: Global,
         h: &Handle,
@@ -43,7 +43,9 @@ impl<P: Prf + Drop> Set<P> {
     ) -> Result<Set<P>, TinkError>
     where
         M::Family: Kinds<Prf = P>,
-        ensures { GivesSet (HasPrfs h.now.primary_key_id) result (and_then (built_entries M.url M.supports M.builds entry_of registry.now.managers None h.now) (prfs_of h.now.primary_key_id)) }
+        ensures { GivesSet (HasPrfs h.now.primary_key_id) result
+            (and_then (built_entries M.url M.supports M.builds entry_of registry.now.managers None h.now)
+            (prfs_of h.now.primary_key_id)) }
     {
         let set = match h.primitives(alloc, registry) {
             Ok(set) => set,
@@ -85,11 +87,19 @@ fn prf_set<K: Kinds>(alloc: Global, set: &PrimitiveSet<K>) -> Result<Set<K::Prf>
     if !are_raw(&set.entries) {
         return Err(TinkError::new(Kind::NotRawOnly));
     }
-    match prfs_by_id(alloc, set.raw_entries()) {
-        Ok(prfs) => Ok(Set {
-            primary_id: primary.key_id,
-            prfs,
-        }),
+    set_of_raw(alloc, primary.key_id, set.raw_entries())
+}
+
+// The functions of entries of this sort, of which those of an id are primary.
+fn set_of_raw<K: Kinds>(
+    alloc: Global,
+    primary_id: KeyId,
+    entries: &[Entry<K>],
+) -> Result<Set<K::Prf>, TinkError>
+    ensures { GivesSet (HasPrfs primary_id) result (converted prf_of entries.now) }
+{
+    match prfs_by_id(alloc, entries) {
+        Ok(prfs) => Ok(Set { primary_id, prfs }),
         Err(e) => Err(e),
     }
 }

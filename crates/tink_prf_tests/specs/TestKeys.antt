@@ -1,8 +1,7 @@
--- What the key manager of the tests builds: a key that begins with 0 is a verifier, and another one is of HMAC.
+-- What the keys of the tests build: one whose bytes begin with 0 is of a verifier, and another one of HMAC.
 use Rattle.std.specs.Prelude.{ℕ, List, [], ◌∷◌, Bool, false, nat_eq, if◌then◌else◌, Result, Ok, Err}
 use Rattle.tink_io.specs.declared.error.Kind.{Kind}
-use Rattle.tink_io.specs.declared.error.Kind.TheVariants.{InvalidFormat, NoPrivateKeys}
-use Rattle.tink_proto.specs.declared.messages.keys.KeyData.{KeyData}
+use Rattle.tink_io.specs.declared.error.Kind.TheVariants.{InvalidFormat}
 use Rattle.tink_primitives.specs.Meaning.{IsDrawn, IsTold}
 use Rattle.tink_primitives.specs.MeaningLaws.{told_if, drawn_none}
 
@@ -13,14 +12,11 @@ begins_with_0 (x ∷ _) = nat_eq x 0
 abbrev pub built : {P : Type 0} → P → P → List ℕ → Result P Kind
 built verifier prf key = if begins_with_0 key then Ok verifier else Ok prf
 
--- no key is made, and none has a public part
+-- no key is made
 abbrev pub none_made : {T : Type 0} → List ℕ → Result T Kind × List ℕ
 none_made draws = (Err InvalidFormat, draws)
 
-abbrev pub no_public : Result KeyData Kind
-no_public = Err NoPrivateKeys
-
--- ---- the laws of a manager
+-- ---- the laws of keys
 
 pub built_told : {P : Type 0} (verifier prf : P) (key : List ℕ) → IsTold (built verifier prf key)
 built_told verifier prf key = told_if (begins_with_0 key) (Ok verifier) (Ok prf) tt tt

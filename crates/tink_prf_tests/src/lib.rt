@@ -12,6 +12,6 @@ mod sets;
 #[cfg(test)]
 mod sizes;
 #[cfg(test)]
-mod test_manager;
+mod test_keys;
 #[cfg(test)]
 mod vectors;

@@ -1,8 +1,7 @@
 //! Templates, their registration and that of the managers, and constants.
 
-use crate::expecting::{expect, expect_bytes};
+use crate::expecting::{holds, is};
 use std::alloc::Global;
-use std::test::Fail;
 use tink_core::registry::Registry;
 use tink_core::{Kind, TinkError};
 use tink_prf::{
@@ -13,21 +12,33 @@ use tink_prf::{
 use tink_proto::KeyTemplate;
 use tink_testutil::{Named, kind_of, registry_of};
 
+const CONSTANTS: [(&str, &str); 4] = [
+    (UPSTREAM_VERSION, "1.6.0"),
+    (
+        HMAC_PRF_TYPE_URL,
+        "type.googleapis.com/google.crypto.tink.HmacPrfKey",
+    ),
+    (
+        HKDF_PRF_TYPE_URL,
+        "type.googleapis.com/google.crypto.tink.HkdfPrfKey",
+    ),
+    (
+        AES_CMAC_PRF_TYPE_URL,
+        "type.googleapis.com/google.crypto.tink.AesCmacPrfKey",
+    ),
+];
+
 #[test]
 fn constants_have_these_values(rt: HostRuntime) {
-    let hmac = "type.googleapis.com/google.crypto.tink.HmacPrfKey";
-    let hkdf = "type.googleapis.com/google.crypto.tink.HkdfPrfKey";
-    let aes_cmac = "type.googleapis.com/google.crypto.tink.AesCmacPrfKey";
-    for (got, want) in [
-        (UPSTREAM_VERSION, "1.6.0"),
-        (HMAC_PRF_TYPE_URL, hmac),
-        (HKDF_PRF_TYPE_URL, hkdf),
-        (AES_CMAC_PRF_TYPE_URL, aes_cmac),
-    ] {
-        expect_bytes(&rt, got.as_bytes(), want.as_bytes(), want);
+    for (found, want) in &CONSTANTS {
+        is(&rt, *found == *want, want);
     }
-    assert!(rt; HMAC_PRF_KEY_VERSION == 0);
-    assert!(rt; HKDF_PRF_KEY_VERSION == 0 && AES_CMAC_PRF_KEY_VERSION == 0);
+    is(&rt, HMAC_PRF_KEY_VERSION == 0, "HMAC");
+    is(
+        &rt,
+        HKDF_PRF_KEY_VERSION == 0 && AES_CMAC_PRF_KEY_VERSION == 0,
+        "the others",
+    );
 }
 
 fn is_template(made: Result<KeyTemplate, TinkError>, url: &str, format: &[u8]) -> bool {
@@ -48,17 +59,30 @@ const SHA512_64: &[u8] = &[0x0a, 2, 0x08, 4, 0x10, 64];
 
 const AES_32: &[u8] = &[0x08, 32];
 
+// The name, the URL and the format of each template.
+const TEMPLATES: [(&str, &str, &[u8]); 4] = [
+    ("HKDF_SHA256", HKDF_PRF_TYPE_URL, SHA256_32),
+    ("HMAC_SHA256_PRF", HMAC_PRF_TYPE_URL, SHA256_32),
+    ("HMAC_SHA512_PRF", HMAC_PRF_TYPE_URL, SHA512_64),
+    ("AES_CMAC_PRF", AES_CMAC_PRF_TYPE_URL, AES_32),
+];
+
+// The template of a name, as its call makes it.
+fn template_of(alloc: Global, name: &str) -> Result<KeyTemplate, TinkError> {
+    match name {
+        "HKDF_SHA256" => hkdf_sha256_prf_key_template(alloc),
+        "HMAC_SHA256_PRF" => hmac_sha256_prf_key_template(alloc),
+        "HMAC_SHA512_PRF" => hmac_sha512_prf_key_template(alloc),
+        _ => aes_cmac_prf_key_template(alloc),
+    }
+}
+
 #[test]
 fn templates_by_their_bytes(rt: HostRuntime) {
-    let alloc = rt.alloc();
-    let hkdf = hkdf_sha256_prf_key_template(alloc);
-    assert!(rt; is_template(hkdf, HKDF_PRF_TYPE_URL, SHA256_32));
-    let hmac = hmac_sha256_prf_key_template(alloc);
-    assert!(rt; is_template(hmac, HMAC_PRF_TYPE_URL, SHA256_32));
-    let hmac = hmac_sha512_prf_key_template(alloc);
-    assert!(rt; is_template(hmac, HMAC_PRF_TYPE_URL, SHA512_64));
-    let cmac = aes_cmac_prf_key_template(alloc);
-    assert!(rt; is_template(cmac, AES_CMAC_PRF_TYPE_URL, AES_32));
+    for (name, url, format) in &TEMPLATES {
+        let made = template_of(rt.alloc(), name);
+        is(&rt, is_template(made, url, format), name);
+    }
 }
 
 fn registered(alloc: Global) -> Result<Registry<Named<PrfKinds>>, TinkError> {
@@ -67,40 +91,38 @@ fn registered(alloc: Global) -> Result<Registry<Named<PrfKinds>>, TinkError> {
     Ok(registry)
 }
 
-fn has_template(
-    registry: &Registry<Named<PrfKinds>>,
-    name: &str,
-    url: &str,
-    format: &[u8],
-) -> bool {
-    match registry.get_template_generator(name) {
-        Some(kt) => is_template_of(kt, url, format),
-        None => false,
+fn has_managers(registry: &Registry<Named<PrfKinds>>) -> bool {
+    registry.get_key_manager(HMAC_PRF_TYPE_URL).is_ok()
+        && registry.get_key_manager(HKDF_PRF_TYPE_URL).is_ok()
+        && registry.get_key_manager(AES_CMAC_PRF_TYPE_URL).is_ok()
+}
+
+// Whether each template stands in a registry under its name.
+fn have_templates(registry: &Registry<Named<PrfKinds>>) -> bool {
+    for (name, url, format) in &TEMPLATES {
+        let found = match registry.get_template_generator(name) {
+            Some(kt) => is_template_of(kt, url, format),
+            None => false,
+        };
+        if !found {
+            return false;
+        }
     }
+    true
+}
+
+fn are_registered(alloc: Global) -> Result<bool, TinkError> {
+    let registry = registered(alloc)?;
+    Ok(has_managers(&registry) && have_templates(&registry))
 }
 
 #[test]
-fn managers_are_registered(rt: HostRuntime) -> Result<(), Fail> {
-    let registry = registered(rt.alloc())?;
-    for url in [HMAC_PRF_TYPE_URL, HKDF_PRF_TYPE_URL, AES_CMAC_PRF_TYPE_URL] {
-        expect(&rt, registry.get_key_manager(url).is_ok(), true, url);
-    }
-    Ok(())
-}
-
-#[test]
-fn templates_are_registered(rt: HostRuntime) -> Result<(), Fail> {
-    let registry = registered(rt.alloc())?;
-    let templates: [(&str, &str, &[u8]); 4] = [
-        ("HKDF_SHA256", HKDF_PRF_TYPE_URL, SHA256_32),
-        ("HMAC_SHA256_PRF", HMAC_PRF_TYPE_URL, SHA256_32),
-        ("HMAC_SHA512_PRF", HMAC_PRF_TYPE_URL, SHA512_64),
-        ("AES_CMAC_PRF", AES_CMAC_PRF_TYPE_URL, AES_32),
-    ];
-    for (name, url, format) in templates {
-        expect(&rt, has_template(&registry, name, url, format), true, name);
-    }
-    Ok(())
+fn managers_and_templates_are_registered(rt: HostRuntime) {
+    is(
+        &rt,
+        holds(are_registered(rt.alloc())),
+        "managers and templates",
+    );
 }
 
 // Whether there are four names, in their order.
@@ -112,19 +134,29 @@ fn has_four_names(alloc: Global, registry: &Registry<Named<PrfKinds>>) -> Result
     })
 }
 
-#[test]
-fn names_are_told_in_order(rt: HostRuntime) -> Result<(), Fail> {
-    let registry = registered(rt.alloc())?;
-    assert!(rt; has_four_names(rt.alloc(), &registry)?);
-    Ok(())
+fn are_in_order(alloc: Global) -> Result<bool, TinkError> {
+    let registry = registered(alloc)?;
+    has_four_names(alloc, &registry)
 }
 
 #[test]
-fn a_second_init_is_refused(rt: HostRuntime) -> Result<(), Fail> {
-    let mut registry = registered(rt.alloc())?;
-    let again = kind_of(init(rt.alloc(), &mut registry));
-    expect(&rt, again, Some(Kind::AlreadyRegistered), "a second init");
-    Ok(())
+fn names_are_told_in_order(rt: HostRuntime) {
+    is(&rt, holds(are_in_order(rt.alloc())), "four names");
+}
+
+// What a second call is refused by.
+fn refusal_of(alloc: Global, registry: &mut Registry<Named<PrfKinds>>) -> Option<Kind> {
+    kind_of(init(alloc, registry))
+}
+
+fn is_refused_again(alloc: Global) -> Result<bool, TinkError> {
+    let mut registry = registered(alloc)?;
+    Ok(refusal_of(alloc, &mut registry) == Some(Kind::AlreadyRegistered))
+}
+
+#[test]
+fn a_second_init_is_refused(rt: HostRuntime) {
+    is(&rt, holds(is_refused_again(rt.alloc())), "a second init");
 }
 
 // Whether it has no manager of HMAC keys, and no templates.
@@ -133,11 +165,14 @@ fn has_no_more(alloc: Global, registry: &Registry<Named<PrfKinds>>) -> Result<bo
     Ok(names.is_empty() && registry.get_key_manager(HMAC_PRF_TYPE_URL).is_err())
 }
 
+// Whether a call is refused where one of the URLs is taken, and registers nothing.
+fn is_left(alloc: Global) -> Result<bool, TinkError> {
+    let mut taken = registry_of(alloc, Named::<PrfKinds>::new(AES_CMAC_PRF_TYPE_URL))?;
+    let refused = refusal_of(alloc, &mut taken) == Some(Kind::AlreadyRegistered);
+    Ok(refused && has_no_more(alloc, &taken)?)
+}
+
 #[test]
-fn none_is_registered_beside_a_taken_url(rt: HostRuntime) -> Result<(), Fail> {
-    let mut taken = registry_of(rt.alloc(), Named::<PrfKinds>::new(AES_CMAC_PRF_TYPE_URL))?;
-    let refused = kind_of(init(rt.alloc(), &mut taken));
-    expect(&rt, refused, Some(Kind::AlreadyRegistered), "a taken URL");
-    assert!(rt; has_no_more(rt.alloc(), &taken)?);
-    Ok(())
+fn none_is_registered_beside_a_taken_url(rt: HostRuntime) {
+    is(&rt, holds(is_left(rt.alloc())), "a taken URL");
 }

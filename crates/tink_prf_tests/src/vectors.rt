@@ -5,9 +5,8 @@ ghost use Rattle.hash_keys.specs.declared.Hash.TheVariants as hashes;
 ghost use Rattle.hash_keys.specs.Hash.{hmac_of};
 ghost use Rattle.tink_io.specs.Told.{Answers};
 
-use crate::expecting::expect_bytes;
+use crate::expecting::{gives, holds, is};
 use std::alloc::Global;
-use std::test::Fail;
 use tink_core::{CloneIn, Prf, Primitive, TinkError};
 use tink_prf::subtle::{AesCmacPrf, HkdfPrf, HmacPrf};
 use tink_prf::{PrfKind, PrfKinds};
@@ -37,41 +36,42 @@ fn cmac_of(alloc: Global, key: &[u8], text: &[u8], length: usize) -> Result<Byte
     AesCmacPrf::new(alloc, key)?.compute_prf(alloc, text, length)
 }
 
+const CMAC_CASES: [(&[u8], usize, &[u8]); 6] = [
+    (
+        KEY_16,
+        0,
+        b"\xbb\x1d\x69\x29\xe9\x59\x37\x28\x7f\xa3\x7d\x12\x9b\x75\x67\x46",
+    ),
+    (
+        KEY_16,
+        16,
+        b"\x07\x0a\x16\xb4\x6b\x4d\x41\x44\xf7\x9b\xdd\x9d\xd0\x4a\x28\x7c",
+    ),
+    (
+        KEY_16,
+        40,
+        b"\xdf\xa6\x67\x47\xde\x9a\xe6\x30\x30\xca\x32\x61\x14\x97\xc8\x27",
+    ),
+    (
+        KEY_24,
+        40,
+        b"\x8a\x1d\xe5\xbe\x2e\xb3\x1a\xad\x08\x9a\x82\xe6\xee\x90\x8b\x0e",
+    ),
+    (
+        KEY_32,
+        40,
+        b"\xaa\xf3\xd8\xf1\xde\x56\x40\xc2\x32\xf5\xb1\x69\xb9\xc9\x11\xe6",
+    ),
+    (KEY_16, 16, b"\x07\x0a\x16\xb4\x6b"),
+];
+
 #[test]
-fn aes_cmac_of_the_standard(rt: HostRuntime) -> Result<(), Fail> {
-    let cases: [(&[u8], usize, &[u8]); 6] = [
-        (
-            KEY_16,
-            0,
-            b"\xbb\x1d\x69\x29\xe9\x59\x37\x28\x7f\xa3\x7d\x12\x9b\x75\x67\x46",
-        ),
-        (
-            KEY_16,
-            16,
-            b"\x07\x0a\x16\xb4\x6b\x4d\x41\x44\xf7\x9b\xdd\x9d\xd0\x4a\x28\x7c",
-        ),
-        (
-            KEY_16,
-            40,
-            b"\xdf\xa6\x67\x47\xde\x9a\xe6\x30\x30\xca\x32\x61\x14\x97\xc8\x27",
-        ),
-        (
-            KEY_24,
-            40,
-            b"\x8a\x1d\xe5\xbe\x2e\xb3\x1a\xad\x08\x9a\x82\xe6\xee\x90\x8b\x0e",
-        ),
-        (
-            KEY_32,
-            40,
-            b"\xaa\xf3\xd8\xf1\xde\x56\x40\xc2\x32\xf5\xb1\x69\xb9\xc9\x11\xe6",
-        ),
-        (KEY_16, 16, b"\x07\x0a\x16\xb4\x6b"),
-    ];
-    for (key, size, want) in cases {
-        let made = cmac_of(rt.alloc(), key, &CMAC_TEXT[..size.min(40)], want.len())?;
-        expect_bytes(&rt, made.as_slice(), want, "AES-CMAC");
+fn aes_cmac_of_the_standard(rt: HostRuntime) {
+    for (key, size, want) in &CMAC_CASES {
+        let text = &CMAC_TEXT[..(*size).min(40)];
+        let made = cmac_of(rt.alloc(), key, text, want.len());
+        is(&rt, gives(made, want), "AES-CMAC");
     }
-    Ok(())
 }
 
 // RFC 5869, A.1 and A.4: the salt and the info of both.
@@ -83,28 +83,28 @@ fn hkdf_of(alloc: Global, hash: HashType, key: &[u8], length: usize) -> Result<B
     HkdfPrf::new(alloc, hash, key, SALT)?.compute_prf(alloc, INFO, length)
 }
 
+const HKDF_CASES: [(HashType, &[u8], &[u8]); 2] = [
+    (
+        HashType::Sha256,
+        &[0x0b; 22],
+        b"\x3c\xb2\x5f\x25\xfa\xac\xd5\x7a\x90\x43\x4f\x64\xd0\x36\x2f\x2a\x2d\x2d\x0a\x90\xcf\x1a\x5a\x4c\x5d\xb0\x2d\x56\xec\xc4\xc5\xbf\x34\x00\x72\x08\xd5\xb8\x87\x18\x58\x65",
+    ),
+    (
+        HashType::Sha1,
+        &[0x0b; 11],
+        b"\x08\x5a\x01\xea\x1b\x10\xf3\x69\x33\x06\x8b\x56\xef\xa5\xad\x81\xa4\xf1\x4b\x82\x2f\x5b\x09\x15\x68\xa9\xcd\xd4\xf1\x55\xfd\xa2\xc2\x2e\x42\x24\x78\xd3\x05\xf3\xf8\x96",
+    ),
+];
+
 #[test]
-fn hkdf_of_the_standard(rt: HostRuntime) -> Result<(), Fail> {
-    let cases: [(HashType, &[u8], &[u8]); 2] = [
-        (
-            HashType::Sha256,
-            &[0x0b; 22],
-            b"\x3c\xb2\x5f\x25\xfa\xac\xd5\x7a\x90\x43\x4f\x64\xd0\x36\x2f\x2a\x2d\x2d\x0a\x90\xcf\x1a\x5a\x4c\x5d\xb0\x2d\x56\xec\xc4\xc5\xbf\x34\x00\x72\x08\xd5\xb8\x87\x18\x58\x65",
-        ),
-        (
-            HashType::Sha1,
-            &[0x0b; 11],
-            b"\x08\x5a\x01\xea\x1b\x10\xf3\x69\x33\x06\x8b\x56\xef\xa5\xad\x81\xa4\xf1\x4b\x82\x2f\x5b\x09\x15\x68\xa9\xcd\xd4\xf1\x55\xfd\xa2\xc2\x2e\x42\x24\x78\xd3\x05\xf3\xf8\x96",
-        ),
-    ];
-    for (hash, key, want) in cases {
-        let made = hkdf_of(rt.alloc(), hash, key, want.len())?;
-        expect_bytes(&rt, made.as_slice(), want, "HKDF");
+fn hkdf_of_the_standard(rt: HostRuntime) {
+    for (hash, key, want) in &HKDF_CASES {
+        let made = hkdf_of(rt.alloc(), *hash, key, want.len());
+        is(&rt, gives(made, want), "HKDF");
     }
-    Ok(())
 }
 
-// Test case 1 of RFC 2202 (SHA-1) and of RFC 4231, each output's front.
+// Test case 1 of RFC 2202 (SHA-1) and of RFC 4231, a prefix of each output.
 const HMAC_CASES: [(HashType, &[u8]); 5] = [
     (
         HashType::Sha1,
@@ -133,19 +133,17 @@ fn hmac_of(alloc: Global, hash: HashType, length: usize) -> Result<Bytes, TinkEr
 }
 
 #[test]
-fn hmac_of_the_standard(rt: HostRuntime) -> Result<(), Fail> {
-    for (hash, want) in HMAC_CASES {
-        let made = hmac_of(rt.alloc(), hash, want.len())?;
-        expect_bytes(&rt, made.as_slice(), want, "HMAC");
+fn hmac_of_the_standard(rt: HostRuntime) {
+    for (hash, want) in &HMAC_CASES {
+        let made = hmac_of(rt.alloc(), *hash, want.len());
+        is(&rt, gives(made, want), "HMAC");
     }
-    Ok(())
 }
 
 #[test]
-fn a_code_is_the_front_of_hmac(rt: HostRuntime) -> Result<(), Fail> {
-    let code = code_of(rt.alloc(), &[0x0b; 20], b"Hi There")?;
-    expect_bytes(&rt, code.as_slice(), &HMAC_CASES[2].1[..16], "a code");
-    Ok(())
+fn a_code_is_a_prefix_of_hmac(rt: HostRuntime) {
+    let code = code_of(rt.alloc(), &[0x0b; 20], b"Hi There");
+    is(&rt, gives(code, &HMAC_CASES[2].1[..16]), "a code");
 }
 
 fn output_of(alloc: Global, prf: &PrfKind) -> Result<Bytes, TinkError> {
@@ -162,33 +160,35 @@ fn output_of_copy(alloc: Global, prf: &PrfKind) -> Result<Bytes, TinkError> {
 }
 
 // Whether a function's copy gives what its source gives.
-fn is_copied(alloc: Global, prf: &PrfKind) -> Result<bool, TinkError> {
-    let made = output_of(alloc, prf)?;
-    let again = output_of_copy(alloc, prf)?;
-    Ok(again.as_slice() == made.as_slice())
+fn is_copied(alloc: Global, made: Result<PrfKind, TinkError>) -> Result<bool, TinkError> {
+    let prf = made?;
+    let output = output_of(alloc, &prf)?;
+    Ok(gives(output_of_copy(alloc, &prf), output.as_slice()))
 }
 
-fn is_cmac_copied(alloc: Global, key: &[u8]) -> Result<bool, TinkError> {
-    is_copied(alloc, &PrfKind::AesCmac(AesCmacPrf::new(alloc, key)?))
+fn cmac(alloc: Global, key: &[u8]) -> Result<PrfKind, TinkError> {
+    Ok(PrfKind::AesCmac(AesCmacPrf::new(alloc, key)?))
 }
 
-fn is_hkdf_copied(alloc: Global) -> Result<bool, TinkError> {
+fn hkdf(alloc: Global) -> Result<PrfKind, TinkError> {
     let prf = HkdfPrf::new(alloc, HashType::Sha256, KEY_32, b"salt")?;
-    is_copied(alloc, &PrfKind::Hkdf(prf))
+    Ok(PrfKind::Hkdf(prf))
 }
 
-fn is_hmac_copied(alloc: Global) -> Result<bool, TinkError> {
+fn hmac(alloc: Global) -> Result<PrfKind, TinkError> {
     let prf = HmacPrf::new(alloc, HashType::Sha512, KEY_32)?;
-    is_copied(alloc, &PrfKind::Hmac(prf))
+    Ok(PrfKind::Hmac(prf))
 }
 
 // A copy of each kind gives what its source gives.
 #[test]
-fn copies_give_the_same(rt: HostRuntime) -> Result<(), Fail> {
-    for key in [KEY_16, KEY_24, KEY_32] {
-        assert!(rt; is_cmac_copied(rt.alloc(), key)?);
+fn copies_give_the_same(rt: HostRuntime) {
+    for key in &[KEY_16, KEY_24, KEY_32] {
+        let copied = is_copied(rt.alloc(), cmac(rt.alloc(), key));
+        is(&rt, holds(copied), "AES-CMAC");
     }
-    assert!(rt; is_hkdf_copied(rt.alloc())?);
-    assert!(rt; is_hmac_copied(rt.alloc())?);
-    Ok(())
+    let hkdf = is_copied(rt.alloc(), hkdf(rt.alloc()));
+    is(&rt, holds(hkdf), "HKDF");
+    let hmac = is_copied(rt.alloc(), hmac(rt.alloc()));
+    is(&rt, holds(hmac), "HMAC");
 }

@@ -13,7 +13,9 @@ const OPEN: [&str; 3] = ["open", KEYSET, "-"];
 const PIECES: [usize; 4] = [1, 35, 4000, 5000];
 
 // The size of a piece, the first and the last call of those that fail in turn, and the status.
-const SEAL_READS: [(usize, u32, u32, u8); 13] = [
+type Row = (usize, u32, u32, u8);
+
+const SEAL_READS: [Row; 13] = [
     (5000, 1, 3, 11),
     (5000, 4, 4, 0),
     (4000, 1, 4, 11),
@@ -29,7 +31,7 @@ const SEAL_READS: [(usize, u32, u32, u8); 13] = [
     (1, 10002, 10002, 0),
 ];
 
-const SEAL_WRITES: [(usize, u32, u32, u8); 13] = [
+const SEAL_WRITES: [Row; 13] = [
     (5000, 1, 4, 12),
     (5000, 5, 5, 0),
     (4000, 1, 6, 12),
@@ -45,7 +47,7 @@ const SEAL_WRITES: [(usize, u32, u32, u8); 13] = [
     (1, 10121, 10121, 0),
 ];
 
-const OPEN_READS: [(usize, u32, u32, u8); 13] = [
+const OPEN_READS: [Row; 13] = [
     (5000, 1, 5, 11),
     (5000, 6, 6, 0),
     (4000, 1, 7, 11),
@@ -61,7 +63,7 @@ const OPEN_READS: [(usize, u32, u32, u8); 13] = [
     (1, 10122, 10122, 0),
 ];
 
-const OPEN_WRITES: [(usize, u32, u32, u8); 13] = [
+const OPEN_WRITES: [Row; 13] = [
     (5000, 1, 3, 12),
     (5000, 4, 4, 0),
     (4000, 1, 5, 12),
@@ -97,10 +99,18 @@ fn sink_of(alloc: Global, ends: Ends) -> Result<MemSink, Fail> {
     Ok(sink)
 }
 
+// What the program is run by: its words, what it reads, and what it writes in the end.
+#[derive(Clone, Copy)]
+struct Work<'a> {
+    texts: &'a [&'a str],
+    input: &'a [u8],
+    whole: &'a [u8],
+}
+
 // What the program tells by these words, from a source and to a sink that fail so.
-fn failing(alloc: Global, texts: &[&str], input: &[u8], ends: Ends) -> Result<Told, Fail> {
-    let words = words(alloc, texts)?;
-    let mut source = source_of(alloc, input, ends)?;
+fn failing(alloc: Global, work: Work<'_>, ends: Ends) -> Result<Told, Fail> {
+    let words = words(alloc, work.texts)?;
+    let mut source = source_of(alloc, work.input, ends)?;
     let mut sink = sink_of(alloc, ends)?;
     let (status, line) = between(alloc, &words, &mut source, &mut sink, 100)?;
     Ok(Told {
@@ -110,8 +120,8 @@ fn failing(alloc: Global, texts: &[&str], input: &[u8], ends: Ends) -> Result<To
     })
 }
 
-// Whether the line is that of the status, and a front of the whole was written.
-fn is_front(told: &Told, whole: &[u8]) -> bool {
+// Whether the line is that of the status, and a prefix of the whole was written.
+fn is_prefix(told: &Told, whole: &[u8]) -> bool {
     let line: &[u8] = match told.status {
         11 => b"read fault\n",
         12 => b"write fault\n",
@@ -133,30 +143,30 @@ fn stands(told: &Told, whole: &[u8], stops: &[usize]) -> bool {
 // Compares a status, and what stands by it.
 fn compare(
     rt: &impl Abort,
-    told: &Told,
+    alloc: Global,
+    work: Work<'_>,
+    ends: Ends,
     want: u8,
-    whole: &[u8],
     stops: &[usize],
-    label: (usize, u32),
-) {
-    let (piece, call) = label;
-    let found = (
-        told.status,
-        is_front(told, whole),
-        stands(told, whole, stops),
-    );
-    assert_eq!(rt; found, (want, true, true), "pieces of {piece}, call {call}");
+) -> Result<(), Fail> {
+    let told = failing(alloc, work, ends)?;
+    let holds = told.status == want
+        && is_prefix(&told, work.whole)
+        && stands(&told, work.whole, stops);
+    let (piece, read, write) = (ends.piece, ends.read, ends.write);
+    assert!(rt; holds, "pieces of {piece}, calls {read} and {write}");
+    Ok(())
 }
 
 // Lets the source fail at each call of a row; by a fault one of the stops was written.
 fn each_read(
     rt: &impl Abort,
     alloc: Global,
-    texts: &[&str],
-    (input, whole): (&[u8], &[u8]),
-    (piece, from, to, want): (usize, u32, u32, u8),
+    work: Work<'_>,
+    row: &Row,
     stops: &[usize],
 ) -> Result<(), Fail> {
+    let (piece, from, to, want) = *row;
     for read in from..=to {
         let ends = Ends {
             piece,
@@ -164,20 +174,14 @@ fn each_read(
             write: 0,
             room: 20000,
         };
-        let told = failing(alloc, texts, input, ends)?;
-        compare(rt, &told, want, whole, stops, (piece, read));
+        compare(rt, alloc, work, ends, want, stops)?;
     }
     Ok(())
 }
 
 // Lets the sink fail at each call of a row; by a fault less than the whole was written.
-fn each_write(
-    rt: &impl Abort,
-    alloc: Global,
-    texts: &[&str],
-    (input, whole): (&[u8], &[u8]),
-    (piece, from, to, want): (usize, u32, u32, u8),
-) -> Result<(), Fail> {
+fn each_write(rt: &impl Abort, alloc: Global, work: Work<'_>, row: &Row) -> Result<(), Fail> {
+    let (piece, from, to, want) = *row;
     for write in from..=to {
         let ends = Ends {
             piece,
@@ -185,101 +189,134 @@ fn each_write(
             write,
             room: 20000,
         };
-        let told = failing(alloc, texts, input, ends)?;
-        compare(rt, &told, want, whole, &[], (piece, write));
+        compare(rt, alloc, work, ends, want, &[])?;
     }
     Ok(())
 }
 
-// Compares what is told with pieces of a size and as much room as is needed, and what with too little.
-fn in_rooms(
+const ROOMS: [usize; 11] = [0, 1, 23, 24, 25, 4040, 4095, 4096, 4097, 8192, 9999];
+
+// Compares what is told with pieces of a size and this room.
+fn in_room(
     rt: &impl Abort,
     alloc: Global,
-    texts: &[&str],
-    (input, whole): (&[u8], &[u8]),
+    work: Work<'_>,
     piece: usize,
+    room: usize,
 ) -> Result<(), Fail> {
-    for room in [
-        0,
-        1,
-        23,
-        24,
-        25,
-        4040,
-        4095,
-        4096,
-        4097,
-        8192,
-        9999,
-        whole.len(),
-    ] {
-        let ends = Ends {
-            piece,
-            read: 0,
-            write: 0,
-            room,
-        };
-        let told = failing(alloc, texts, input, ends)?;
-        let want = if room < whole.len() { 12 } else { 0 };
-        compare(rt, &told, want, whole, &[room], (piece, 0));
+    let ends = Ends {
+        piece,
+        read: 0,
+        write: 0,
+        room,
+    };
+    let want = if room < work.whole.len() { 12 } else { 0 };
+    compare(rt, alloc, work, ends, want, &[room])
+}
+
+// Compares what is told with as much room as is needed, and what with too little.
+fn in_rooms(rt: &impl Abort, alloc: Global, work: Work<'_>, piece: usize) -> Result<(), Fail> {
+    for room in &ROOMS {
+        in_room(rt, alloc, work, piece, *room)?;
+    }
+    in_room(rt, alloc, work, piece, work.whole.len())
+}
+
+fn all_reads(
+    rt: &impl Abort,
+    alloc: Global,
+    work: Work<'_>,
+    rows: &[Row],
+    stops: &[usize],
+) -> Result<(), Fail> {
+    for row in rows {
+        each_read(rt, alloc, work, row, stops)?;
     }
     Ok(())
+}
+
+fn all_writes(rt: &impl Abort, alloc: Global, work: Work<'_>, rows: &[Row]) -> Result<(), Fail> {
+    for row in rows {
+        each_write(rt, alloc, work, row)?;
+    }
+    Ok(())
+}
+
+fn all_pieces(rt: &impl Abort, alloc: Global, work: Work<'_>) -> Result<(), Fail> {
+    for piece in &PIECES {
+        in_rooms(rt, alloc, work, *piece)?;
+    }
+    Ok(())
+}
+
+// A text of 10,000 bytes and its stream.
+fn text_and_stream(alloc: Global) -> Result<(Vec<u8>, Vec<u8>), Fail> {
+    Ok((counted(alloc, 10000)?, sealed(alloc, KEYSET, "-", 10000)?))
+}
+
+// The seal of a text, and the open of its stream.
+fn sealing<'a>((text, stream): &'a (Vec<u8>, Vec<u8>)) -> Work<'a> {
+    Work {
+        texts: &SEAL,
+        input: text,
+        whole: stream,
+    }
+}
+
+fn opening<'a>((text, stream): &'a (Vec<u8>, Vec<u8>)) -> Work<'a> {
+    Work {
+        texts: &OPEN,
+        input: stream,
+        whole: text,
+    }
 }
 
 #[test]
-fn pieces_and_rooms_change_no_byte(rt: HostRuntime) -> Result<(), Fail> {
-    let alloc = rt.alloc();
-    let text = counted(alloc, 10000)?;
-    let stream = sealed(alloc, KEYSET, "-", 10000)?;
-    for piece in PIECES {
-        in_rooms(&rt, alloc, &SEAL, (&text, &stream), piece)?;
-        in_rooms(&rt, alloc, &OPEN, (&stream, &text), piece)?;
-    }
-    Ok(())
+fn pieces_and_rooms_change_no_byte_of_a_seal(rt: HostRuntime) -> Result<(), Fail> {
+    let both = text_and_stream(rt.alloc())?;
+    all_pieces(&rt, rt.alloc(), sealing(&both))
+}
+
+#[test]
+fn pieces_and_rooms_change_no_byte_of_an_open(rt: HostRuntime) -> Result<(), Fail> {
+    let both = text_and_stream(rt.alloc())?;
+    all_pieces(&rt, rt.alloc(), opening(&both))
 }
 
 // Behind the header stand whole segments, and never the last.
 #[test]
 fn a_seal_stops_at_each_read(rt: HostRuntime) -> Result<(), Fail> {
-    let alloc = rt.alloc();
-    let text = counted(alloc, 10000)?;
-    let stream = sealed(alloc, KEYSET, "-", 10000)?;
-    for row in SEAL_READS {
-        each_read(&rt, alloc, &SEAL, (&text, &stream), row, &[24, 4096, 8192])?;
-    }
-    Ok(())
+    let both = text_and_stream(rt.alloc())?;
+    all_reads(
+        &rt,
+        rt.alloc(),
+        sealing(&both),
+        &SEAL_READS,
+        &[24, 4096, 8192],
+    )
 }
 
 #[test]
 fn a_seal_stops_at_each_write(rt: HostRuntime) -> Result<(), Fail> {
-    let alloc = rt.alloc();
-    let text = counted(alloc, 10000)?;
-    let stream = sealed(alloc, KEYSET, "-", 10000)?;
-    for row in SEAL_WRITES {
-        each_write(&rt, alloc, &SEAL, (&text, &stream), row)?;
-    }
-    Ok(())
+    let both = text_and_stream(rt.alloc())?;
+    all_writes(&rt, rt.alloc(), sealing(&both), &SEAL_WRITES)
 }
 
 // Whole texts of segments are written, and never the last.
 #[test]
 fn an_open_stops_at_each_read(rt: HostRuntime) -> Result<(), Fail> {
-    let alloc = rt.alloc();
-    let text = counted(alloc, 10000)?;
-    let stream = sealed(alloc, KEYSET, "-", 10000)?;
-    for row in OPEN_READS {
-        each_read(&rt, alloc, &OPEN, (&stream, &text), row, &[0, 4040, 8104])?;
-    }
-    Ok(())
+    let both = text_and_stream(rt.alloc())?;
+    all_reads(
+        &rt,
+        rt.alloc(),
+        opening(&both),
+        &OPEN_READS,
+        &[0, 4040, 8104],
+    )
 }
 
 #[test]
 fn an_open_stops_at_each_write(rt: HostRuntime) -> Result<(), Fail> {
-    let alloc = rt.alloc();
-    let text = counted(alloc, 10000)?;
-    let stream = sealed(alloc, KEYSET, "-", 10000)?;
-    for row in OPEN_WRITES {
-        each_write(&rt, alloc, &OPEN, (&stream, &text), row)?;
-    }
-    Ok(())
+    let both = text_and_stream(rt.alloc())?;
+    all_writes(&rt, rt.alloc(), opening(&both), &OPEN_WRITES)
 }

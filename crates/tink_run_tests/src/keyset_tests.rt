@@ -322,8 +322,8 @@ fn loads_a_key(rt: HostRuntime) -> Result<(), Fail> {
 #[test]
 fn keysets_load_or_are_refused(rt: HostRuntime) -> Result<(), Fail> {
     let alloc = rt.alloc();
-    for (what, refused, _, keyset) in KEYSETS {
-        expect(&rt, refusal(alloc, keyset)?, refused, what);
+    for (what, refused, _, keyset) in &KEYSETS {
+        expect(&rt, refusal(alloc, keyset)?, *refused, what);
     }
     Ok(())
 }
@@ -331,8 +331,8 @@ fn keysets_load_or_are_refused(rt: HostRuntime) -> Result<(), Fail> {
 #[test]
 fn keysets_have_statuses(rt: HostRuntime) -> Result<(), Fail> {
     let alloc = rt.alloc();
-    for (what, _, status, keyset) in KEYSETS {
-        expect(&rt, sealing(alloc, keyset)?, status, what);
+    for (what, _, status, keyset) in &KEYSETS {
+        expect(&rt, sealing(alloc, keyset)?, *status, what);
     }
     Ok(())
 }

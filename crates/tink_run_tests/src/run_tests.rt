@@ -1,9 +1,8 @@
 //! What `run` reports, and the draws that it takes.
 
 use crate::stream_tests::{EMPTY_LAST, MIXED};
-use crate::support::{KEYSET, Ran, SMALL, by_run, counted, expect};
+use crate::support::{KEYSET, Ran, SMALL, by_run, counted, is, is_counted};
 use std::alloc::Global;
-use std::process::Abort;
 use std::test::Fail;
 use tink_io::Kind;
 use tink_run::report::{Command, Report};
@@ -22,49 +21,47 @@ const REPORTS: [(&str, usize, u64); 10] = [
     (MIXED, 5000, 1),
 ];
 
-// Compares what a seal and an open of a counted text report, and the draws that they leave.
-fn reports(rt: &impl Abort, alloc: Global, row: (&str, usize, u64)) -> Result<(), Fail> {
-    let (keyset, count, segments) = row;
+// Whether it reports so many segments and bytes, and leaves so many draws.
+fn has_run(ran: &Ran, segments: u64, bytes: usize, draws: usize) -> bool {
     let want = Report {
         segments,
-        bytes: count as u64,
+        bytes: bytes as u64,
     };
+    ran.answer == Ok(want) && ran.draws == draws
+}
+
+// Whether it is refused so, leaves so many draws, and writes nothing.
+fn is_refused(ran: &Ran, kind: Kind, draws: usize) -> bool {
+    ran.answer == Err(kind) && ran.draws == draws && ran.written.is_empty()
+}
+
+// Whether a seal and an open of a counted text report so many segments, and leave the draws that they need not.
+fn reports(alloc: Global, keyset: &str, count: usize, segments: u64) -> Result<bool, Fail> {
     let sealed = by_run(alloc, Command::Seal, keyset, 1024, counted(alloc, count)?)?;
-    expect(
-        rt,
-        (sealed.answer, sealed.draws),
-        (Ok(want), 1001),
-        "a seal",
-    );
+    let is_sealed = has_run(&sealed, segments, count, 1001);
     let opened = by_run(alloc, Command::Open, keyset, 0, sealed.written)?;
-    expect(rt, (opened.answer, opened.draws), (Ok(want), 0), "an open");
-    Ok(())
+    Ok(is_sealed && has_run(&opened, segments, count, 0))
 }
 
 #[test]
 fn seals_and_opens_are_reported(rt: HostRuntime) -> Result<(), Fail> {
-    for row in REPORTS {
-        reports(&rt, rt.alloc(), row)?;
+    for (keyset, count, segments) in &REPORTS {
+        is(
+            &rt,
+            reports(rt.alloc(), keyset, *count, *segments)?,
+            "a report",
+        );
     }
     Ok(())
 }
 
 #[test]
 fn an_empty_last_segment_is_counted(rt: HostRuntime) -> Result<(), Fail> {
-    let alloc = rt.alloc();
-    let want = Ran {
-        answer: Ok(Report {
-            segments: 3,
-            bytes: 26,
-        }),
-        draws: 0,
-        written: counted(alloc, 26)?,
-    };
-    let stream = hex::decode(alloc, EMPTY_LAST)?;
-    expect(
+    let stream = hex::decode(rt.alloc(), EMPTY_LAST)?;
+    let ran = by_run(rt.alloc(), Command::Open, SMALL, 0, stream)?;
+    is(
         &rt,
-        by_run(alloc, Command::Open, SMALL, 0, stream)?,
-        want,
+        has_run(&ran, 3, 26, 0) && is_counted(&ran.written, 26),
         "empty last",
     );
     Ok(())
@@ -72,33 +69,17 @@ fn an_empty_last_segment_is_counted(rt: HostRuntime) -> Result<(), Fail> {
 
 #[test]
 fn too_few_draws_are_left(rt: HostRuntime) -> Result<(), Fail> {
-    let alloc = rt.alloc();
-    let want = Ran {
-        answer: Err(Kind::RandomFault),
-        draws: 22,
-        written: Vec::new(alloc),
-    };
-    expect(
-        &rt,
-        by_run(alloc, Command::Seal, KEYSET, 22, Vec::new(alloc))?,
-        want,
-        "22 draws",
-    );
+    let ran = by_run(rt.alloc(), Command::Seal, KEYSET, 22, Vec::new(rt.alloc()))?;
+    is(&rt, is_refused(&ran, Kind::RandomFault, 22), "22 draws");
     Ok(())
 }
 
 #[test]
 fn draws_are_taken_whole(rt: HostRuntime) -> Result<(), Fail> {
-    let alloc = rt.alloc();
-    let sealed = by_run(alloc, Command::Seal, KEYSET, 23, Vec::new(alloc))?;
-    let want = Report {
-        segments: 1,
-        bytes: 0,
-    };
-    expect(
+    let ran = by_run(rt.alloc(), Command::Seal, KEYSET, 23, Vec::new(rt.alloc()))?;
+    is(
         &rt,
-        (sealed.answer, sealed.draws, sealed.written.len()),
-        (Ok(want), 0, 56),
+        has_run(&ran, 1, 0, 0) && ran.written.len() == 56,
         "23 draws",
     );
     Ok(())

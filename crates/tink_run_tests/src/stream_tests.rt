@@ -1,6 +1,6 @@
 //! Whole streams through the program. Bytes and digests of streams are those of an independent model in Python.
 
-use crate::support::{KEYSET, SEED, SMALL, by_words, expect, opens, seal, sealed, want};
+use crate::support::{KEYSET, SEED, SMALL, by_words, is, opens, sealed};
 use hash_keys::Hash;
 use std::alloc::Global;
 use std::process::Abort;
@@ -162,70 +162,57 @@ const ROUNDS: [Round; 11] = [
     ),
 ];
 
-// How many bytes these are, and their SHA-256.
-fn measured(alloc: Global, bytes: &[u8]) -> Result<(usize, String), Fail> {
-    let mut digest = [0u8; 32];
-    Hash::Sha256.hash_into(bytes, &mut digest);
-    Ok((bytes.len(), hex::encode(alloc, digest)?))
+// Whether these are so many bytes, with this SHA-256.
+fn are_bytes(alloc: Global, bytes: &[u8], count: usize, digest: &str) -> Result<bool, Fail> {
+    let mut found = [0u8; 32];
+    Hash::Sha256.hash_into(bytes, &mut found);
+    Ok(bytes.len() == count && hex::encode(alloc, found)?.as_str() == digest)
+}
+
+// Whether the program writes these bytes, by status 0.
+fn writes(alloc: Global, words: &[&str], input: &[u8], want: &[u8]) -> Result<bool, Fail> {
+    let told = by_words(alloc, words, input.to_vec(alloc)?)?;
+    Ok(told.tells(0, want, ""))
 }
 
 #[test]
 fn seals_to_the_bytes_of_the_model(rt: HostRuntime) -> Result<(), Fail> {
-    let alloc = rt.alloc();
-    let text = b"ten bytes.".to_vec(alloc)?;
-    let stream = by_words(alloc, &["seal", KEYSET, "00ff", SEED], text)?;
-    expect(
+    let stream = hex::decode(rt.alloc(), TEN_BYTES)?;
+    let words = ["seal", KEYSET, "00ff", SEED];
+    is(
         &rt,
-        stream,
-        want(alloc, 0, hex::decode(alloc, TEN_BYTES)?, "")?,
+        writes(rt.alloc(), &words, b"ten bytes.", &stream)?,
         "ten bytes",
     );
     Ok(())
 }
 
 // Compares the stream of a counted text with its bytes and its digest, and what it opens to.
-fn is_of_model(rt: &impl Abort, alloc: Global, row: (usize, usize, &str)) -> Result<(), Fail> {
-    let (count, length, digest) = row;
+fn is_of_model(rt: &impl Abort, alloc: Global, row: &(usize, usize, &str)) -> Result<(), Fail> {
+    let (count, length, digest) = *row;
     let stream = sealed(alloc, KEYSET, "-", count)?;
-    let wanted = (length, String::from_str(alloc, digest)?);
-    expect(rt, measured(alloc, &stream)?, wanted, digest);
+    is(rt, are_bytes(alloc, &stream, length, digest)?, digest);
     opens(rt, alloc, (KEYSET, "-"), stream, (0, count, ""))
 }
 
-// Compares what a seal writes with the stream, and what an open writes with the text.
-fn is_stream(rt: &impl Abort, alloc: Global, text: &str, stream: &str) -> Result<(), Fail> {
-    let written = seal(alloc, SMALL, text.as_bytes().to_vec(alloc)?)?;
-    expect(
-        rt,
-        written,
-        want(alloc, 0, hex::decode(alloc, stream)?, "")?,
-        text,
-    );
-    Ok(())
-}
-
-fn opens_to(rt: &impl Abort, alloc: Global, stream: &str, text: &str) -> Result<(), Fail> {
-    let written = by_words(alloc, &["open", SMALL, "-"], hex::decode(alloc, stream)?)?;
-    expect(
-        rt,
-        written,
-        want(alloc, 0, text.as_bytes().to_vec(alloc)?, "")?,
-        text,
-    );
-    Ok(())
+// Whether a seal under the small key writes the stream, and an open the text.
+fn are_both(alloc: Global, text: &str, stream: &str) -> Result<bool, Fail> {
+    let stream = hex::decode(alloc, stream)?;
+    let sealed = writes(alloc, &["seal", SMALL, "-", SEED], text.as_bytes(), &stream)?;
+    Ok(sealed && writes(alloc, &["open", SMALL, "-"], &stream, text.as_bytes())?)
 }
 
 // Compares the bytes of a stream, and what an open of it tells.
-fn goes_round(rt: &impl Abort, alloc: Global, row: Round) -> Result<(), Fail> {
-    let (what, sealing, opening, (count, length), told) = row;
+fn goes_round(rt: &impl Abort, alloc: Global, row: &Round) -> Result<(), Fail> {
+    let (what, sealing, opening, (count, length), told) = *row;
     let stream = sealed(alloc, sealing.0, sealing.1, count)?;
-    expect(rt, stream.len(), length, what);
+    is(rt, stream.len() == length, what);
     opens(rt, alloc, opening, stream, told)
 }
 
 #[test]
 fn streams_are_those_of_the_model_and_open(rt: HostRuntime) -> Result<(), Fail> {
-    for row in STREAMS {
+    for row in &STREAMS {
         is_of_model(&rt, rt.alloc(), row)?;
     }
     Ok(())
@@ -233,9 +220,8 @@ fn streams_are_those_of_the_model_and_open(rt: HostRuntime) -> Result<(), Fail> 
 
 #[test]
 fn small_segments_seal_and_open(rt: HostRuntime) -> Result<(), Fail> {
-    for (text, stream) in SMALL_STREAMS {
-        is_stream(&rt, rt.alloc(), text, stream)?;
-        opens_to(&rt, rt.alloc(), stream, text)?;
+    for (text, stream) in &SMALL_STREAMS {
+        is(&rt, are_both(rt.alloc(), text, stream)?, text);
     }
     Ok(())
 }
@@ -248,7 +234,7 @@ fn an_empty_last_segment_opens(rt: HostRuntime) -> Result<(), Fail> {
 
 #[test]
 fn sealed_texts_open(rt: HostRuntime) -> Result<(), Fail> {
-    for row in ROUNDS {
+    for row in &ROUNDS {
         goes_round(&rt, rt.alloc(), row)?;
     }
     Ok(())

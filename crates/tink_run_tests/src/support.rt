@@ -22,28 +22,33 @@ pub const SMALL: &str =
 pub const SEED: &str = "0000000000000000000000000000000000000000000000000000000000000000";
 
 /// A status, what was written, and what was told.
-#[derive(Debug, Drop, PartialEq)]
+#[derive(Drop)]
 pub struct Told {
     pub status: u8,
     pub written: Vec<u8>,
     pub line: Vec<u8>,
 }
 
-/// The one place that compares: a test function with many `assert_eq!` takes long to prove.
+impl Told {
+    /// Whether it is this status with this text and this line.
+    pub fn tells(&self, status: u8, written: &[u8], line: &str) -> bool {
+        self.status == status
+            && self.written.as_slice() == written
+            && self.line.as_slice() == line.as_bytes()
+    }
+}
+
+/// The place that compares by a bool.
+pub fn is(rt: &impl Abort, holds: bool, label: &str) {
+    assert!(rt; holds, "{label}");
+}
+
+/// The one place that compares values: a test function with many `assert_eq!` takes long to prove.
 pub fn expect<T>(rt: &impl Abort, got: T, want: T, label: &str)
 where
     T: PartialEq + Debug + Drop,
 {
     assert_eq!(rt; got, want, "{label}");
-}
-
-/// What is told by a status with this text and this line.
-pub fn want(alloc: Global, status: u8, written: Vec<u8>, line: &str) -> Result<Told, Fail> {
-    Ok(Told {
-        status,
-        written,
-        line: line.as_bytes().to_vec(alloc)?,
-    })
 }
 
 /// The status of the program by these words, and the line, for which there is so much room.
@@ -88,13 +93,13 @@ pub fn opens(
     (status, written, line): (u8, usize, &str),
 ) -> Result<(), Fail> {
     let found = by_words(alloc, &["open", keyset, aad], stream)?;
-    let wanted = want(alloc, status, counted(alloc, written)?, line)?;
-    expect(rt, found, wanted, line);
+    let told = found.status == status && found.line.as_slice() == line.as_bytes();
+    is(rt, told && is_counted(&found.written, written), line);
     Ok(())
 }
 
 /// What a run answers, the draws that it leaves, and what was written.
-#[derive(Debug, Drop, PartialEq)]
+#[derive(Drop)]
 pub struct Ran {
     pub answer: Result<Report, Kind>,
     pub draws: usize,
@@ -161,6 +166,18 @@ pub fn counted(alloc: Global, count: usize) -> Result<Vec<u8>, Fail> {
         byte = if byte < 250 { byte + 1 } else { 0 };
     }
     Ok(text)
+}
+
+/// Whether this is the counted text of so many bytes.
+pub fn is_counted(text: &[u8], count: usize) -> bool {
+    let mut want = 0u8;
+    for byte in text {
+        if *byte != want {
+            return false;
+        }
+        want = if want < 250 { want + 1 } else { 0 };
+    }
+    text.len() == count
 }
 
 /// The parts of a stream that begin at each place and have each count of bytes.

@@ -1,8 +1,7 @@
 //! What the program answers to words that spell no command.
 
-use crate::support::{Told, between, expect, want};
+use crate::support::{between, is};
 use std::alloc::Global;
-use std::process::Abort;
 use std::test::Fail;
 use tink_io::{SureSink, SureSource};
 
@@ -35,41 +34,29 @@ fn words_of(alloc: Global, line: &str) -> Result<Vec<String>, Fail> {
     Ok(words)
 }
 
-// What the program tells by the words of a line, with room for some bytes of what it tells.
-fn by_line(alloc: Global, line: &str, room: usize) -> Result<Told, Fail> {
+// Whether the words of a line are told the usage by status 2, with room for some bytes of it, and nothing is written.
+fn is_usage(alloc: Global, line: &str, room: usize, usage: &str) -> Result<bool, Fail> {
     let words = words_of(alloc, line)?;
     let mut source = SureSource::new(Vec::new(alloc));
     let mut sink = SureSink::new(alloc);
-    let (status, line) = between(alloc, &words, &mut source, &mut sink, room)?;
-    Ok(Told {
-        status,
-        written: sink.into_bytes(),
-        line,
-    })
-}
-
-// Compares what the words of a line are told.
-fn is_usage(
-    rt: &impl Abort,
-    alloc: Global,
-    line: &str,
-    room: usize,
-    usage: &str,
-) -> Result<(), Fail> {
-    let wanted = want(alloc, 2, Vec::new(alloc), usage)?;
-    expect(rt, by_line(alloc, line, room)?, wanted, line);
-    Ok(())
+    let (status, told) = between(alloc, &words, &mut source, &mut sink, room)?;
+    Ok(status == 2 && told.as_slice() == usage.as_bytes() && sink.into_bytes().is_empty())
 }
 
 #[test]
 fn other_words_are_usage(rt: HostRuntime) -> Result<(), Fail> {
-    for line in NO_COMMANDS {
-        is_usage(&rt, rt.alloc(), line, 100, USAGE)?;
+    for line in &NO_COMMANDS {
+        is(&rt, is_usage(rt.alloc(), line, 100, USAGE)?, line);
     }
     Ok(())
 }
 
 #[test]
 fn a_closed_place_for_lines_changes_no_status(rt: HostRuntime) -> Result<(), Fail> {
-    is_usage(&rt, rt.alloc(), "--help", 6, "usage:")
+    is(
+        &rt,
+        is_usage(rt.alloc(), "--help", 6, "usage:")?,
+        "six bytes",
+    );
+    Ok(())
 }

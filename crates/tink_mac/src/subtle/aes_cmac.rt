@@ -69,8 +69,8 @@ fn is_no_tag_size(tag_size: usize) -> bool
 /// Whether Tink makes AES-CMAC keys with a key and tags of these sizes in bytes.
 ///
 /// # Errors
-/// `BadKeySize` exactly where the key has not 32 bytes; then `BadTagSize` exactly where a tag has fewer than 10 bytes or
-/// more than 16.
+/// `BadKeySize` exactly where the key has not 32 bytes; then `BadTagSize` exactly where a tag has fewer than 10 bytes
+/// or more than 16.
 pub fn validate_cmac_params(key_size: usize, tag_size: usize) -> Result<(), TinkError>
     ensures { Tells result (cmac_params key_size tag_size) }
 {
