@@ -31,7 +31,9 @@ where
         + From<AesCtrHmacAeadKeyManager>
         + From<AesGcmKeyManager>
         + From<AesGcmSivKeyManager>,
-    ensures { Registers (AreMade (IsMade M.From-1.from_gives ∷ IsMade M.From-2.from_gives ∷ IsMade M.From-3.from_gives ∷ [])) M.url aead_templates registry.old registry.new result }
+    ensures { Registers
+        (AreMade (IsMade M.From-1.from_gives ∷ IsMade M.From-2.from_gives ∷ IsMade M.From-3.from_gives ∷ []))
+        M.url aead_templates registry.old registry.new result }
 {
     let managers = managers(alloc)?;
     let templates = templates(alloc)?;
@@ -42,7 +44,9 @@ where
 fn managers<M>(alloc: Global) -> Result<Vec<M>, TinkError>
 where
     M: Drop + From<AesCtrHmacAeadKeyManager> + From<AesGcmKeyManager> + From<AesGcmSivKeyManager>,
-    ensures value { IfOk result (λ managers. AreMade (IsMade M.From-1.from_gives ∷ IsMade M.From-2.from_gives ∷ IsMade M.From-3.from_gives ∷ []) managers.items) }
+    ensures value { IfOk result (λ managers.
+        AreMade (IsMade M.From-1.from_gives ∷ IsMade M.From-2.from_gives ∷ IsMade M.From-3.from_gives ∷ [])
+        managers.items) }
     ensures cause { IfErr result (λ e. e.kind ≡ OutOfMemory) }
 {
     let composed = M::from(AesCtrHmacAeadKeyManager::new());
