@@ -21,7 +21,9 @@ fn opened_by<A: Aead, M: KeyManager>(
     alloc: Global,
     ciphertext: &[u8],
 ) -> Result<Bytes, TinkError>
-    ensures { Answers result (envelope_decrypts (A.decrypts envelope.now.remote) (data_key_aead M.url M.builds envelope.now.registry.now.managers envelope.now.dek_template.type_url) M.Family.Aead.decrypts ciphertext.now []) }
+    ensures { Answers result (envelope_decrypts (A.decrypts envelope.now.remote)
+        (data_key_aead M.url M.builds envelope.now.registry.now.managers envelope.now.dek_template.type_url)
+        M.Family.Aead.decrypts ciphertext.now []) }
 {
     envelope.decrypt(alloc, ciphertext, &[])
 }

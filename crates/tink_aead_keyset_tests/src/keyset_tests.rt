@@ -25,7 +25,8 @@ fn sealed_by<P: Aead>(
     text: &[u8],
     draws: &mut Draws,
 ) -> Result<Bytes, TinkError>
-    ensures { Replies result (primary_encrypts P.encrypts aead.now.ps.primary text.now [] draws.old) draws.old draws.new }
+    ensures { Replies result (primary_encrypts P.encrypts aead.now.ps.primary text.now [] draws.old)
+        draws.old draws.new }
 {
     aead.encrypt(alloc, text, &[], draws)
 }
@@ -227,10 +228,10 @@ fn opens_by_its_keys(alloc: Global, sealed: &[u8]) -> Result<bool, TinkError> {
 }
 
 // Whether what the prefixed key makes of `abc` begins so, and is decrypted.
-fn begins_and_opens(alloc: Global, front: &[u8]) -> Result<(bool, bool), TinkError> {
+fn begins_and_opens(alloc: Global, prefix: &[u8]) -> Result<(bool, bool), TinkError> {
     let sealed = abc_by(alloc, prefixed_first(alloc, 1), 12)?;
     let opens = opens_by_its_keys(alloc, sealed.as_slice())?;
-    Ok((sealed.as_slice().starts_with(front), opens))
+    Ok((sealed.as_slice().starts_with(prefix), opens))
 }
 
 #[test]

@@ -70,7 +70,7 @@ impl AesCtr {
         }
     }
 
-    // Fills `out` with the vector, which is the front of the block, and the text in counter mode.
+    // Fills `out` with the vector, which is a prefix of the block, and the text in counter mode.
     fn encrypt_behind(&self, block: &[u8; 16], text: &[u8], out: &mut [u8])
         requires size { self.now.iv_size ≤ 16 }
         requires room { length out.old ≡ self.now.iv_size + length text.now }

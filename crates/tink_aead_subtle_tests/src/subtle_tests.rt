@@ -1,5 +1,9 @@
 //! Outside vectors, refusals and copies of the AEADs by AES under one key.
 
+ghost use Rattle.std.specs.Prelude.{[]};
+ghost use Rattle.tink_io.specs.Told.{Answers};
+ghost use Rattle.tink_aead_subtle.specs.AesAeads.{gcm_decrypts};
+
 use crate::comparing::{expect, expect_at};
 use std::alloc::Global;
 use tink_aead_subtle::{
@@ -12,9 +16,16 @@ use tink_primitives::{Aead, CloneIn};
 use tink_proto::Bytes;
 use tink_testutil::{draws_of, kind_of};
 
+/// The text of a ciphertext without associated data.
+fn opened_by(aead: &AesGcm, alloc: Global, ciphertext: &[u8]) -> Result<Bytes, TinkError>
+    ensures { Answers result (gcm_decrypts aead.now.key ciphertext.now []) }
+{
+    aead.decrypt(alloc, ciphertext, &[])
+}
+
 // Whether these bytes are those two, one after the other.
-fn is_joined(whole: &[u8], front: &[u8], rest: &[u8]) -> bool {
-    whole.len() == front.len() + rest.len() && whole.starts_with(front) && whole.ends_with(rest)
+fn is_joined(whole: &[u8], one: &[u8], other: &[u8]) -> bool {
+    whole.len() == one.len() + other.len() && whole.starts_with(one) && whole.ends_with(other)
 }
 
 // What is made of a text by these draws, where all of them are taken.
@@ -130,6 +141,22 @@ fn gcm_of_the_specification(rt: HostRuntime) {
         b"\x52\x2d\xc1\xf0\x99\x56\x7d\x07\xf4\x7f\x37\xa3\x2a\x84\x42\x7d\x64\x3a\x8c\xdc\xbf\xe5\xc0\xc9\x75\x98\xa2\xbd\x25\x55\xd1\xaa\x8c\xb0\x8e\x48\x59\x0d\xbb\x3d\xa7\xb0\x8b\x10\x56\x82\x88\x38\xc5\xf6\x1e\x63\x93\xba\x7a\x0a\xbc\xc9\xf6\x62\x76\xfc\x6e\xce\x0f\x4e\x17\x68\xcd\xdf\x88\x53\xbb\x2d\x55\x1b",
     );
     expect(&rt, large, true, "the large key");
+}
+
+// The size of the text of these bytes under a key of zeros.
+fn size_by_zeros(alloc: Global, input: &[u8]) -> Result<usize, TinkError> {
+    match AesGcm::new(alloc, &[0; 16]) {
+        Ok(aead) => size_of(opened_by(&aead, alloc, input)),
+        Err(e) => Err(e),
+    }
+}
+
+// Test case 1: a nonce of zeros, and the tag.
+#[test]
+fn an_empty_text_is_opened_without_data(rt: HostRuntime) {
+    let input =
+        b"\x00\x00\x00\x00\x00\x00\x00\x00\x00\x00\x00\x00\x58\xe2\xfc\xce\xfa\x7e\x30\x61\x36\x7f\x1d\x57\xa4\xe7\x45\x5a";
+    expect(&rt, size_by_zeros(rt.alloc(), input), 0, "the size");
 }
 
 // RFC 8452, C.1 and C.2, under their nonce.
