@@ -53,10 +53,10 @@ fn envelope_of<'r, A: Aead + Drop, M: KeyManager>(
     kt: Template,
     remote: Result<A, TinkError>,
 ) -> Result<KmsEnvelopeAead<'r, A, M>, TinkError> {
-    match (kt, remote) {
-        (Ok(kt), Ok(remote)) => Ok(KmsEnvelopeAead::new(kt, remote, registry)),
-        (Err(e), _) => Err(e),
-        (_, Err(e)) => Err(e),
+    let kt = kt?;
+    match remote {
+        Ok(remote) => Ok(KmsEnvelopeAead::new(kt, remote, registry)),
+        Err(e) => Err(e),
     }
 }
 
