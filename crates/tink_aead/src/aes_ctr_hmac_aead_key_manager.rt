@@ -5,7 +5,8 @@ ghost use Rattle.tink_io.specs.Told.{Answers, Replies, made_of};
 ghost use Rattle.tink_primitives.specs.declared.primitive.Primitive.TheVariants as sorts;
 ghost use Rattle.tink_aead.specs.declared.aead_kind.AeadKind.TheVariants as kinds;
 ghost use Rattle.tink_keysets.specs.Told.{takes_bytes};
-ghost use Rattle.tink_aead.specs.ComposedKeys.{are_ctr_params, composed_built, composed_made, composed_url, ctr_built, is_composed_format, joined, mac_built, with_hmac_key};
+ghost use Rattle.tink_aead.specs.ComposedKeys.{are_ctr_params, composed_built, composed_made, composed_url, ctr_built};
+ghost use Rattle.tink_aead.specs.ComposedKeys.{is_composed_format, joined, mac_built, with_hmac_key};
 ghost use Rattle.tink_aead.specs.ComposedKeyLaws.{composed_built_told, composed_made_told};
 
 use crate::subtle::{

@@ -38,7 +38,8 @@ impl KeyType for AesGcmKeys {
 
     ghost url = { gcm_url };
 
-    ghost built = { λ k. built_if (is_versioned_key k.version k.key_value) (sorts.Aead (kinds.AesGcm (record { key = k.key_value }))) };
+    ghost built = { λ k. built_if (is_versioned_key k.version k.key_value)
+        (sorts.Aead (kinds.AesGcm (record { key = k.key_value }))) };
 
     ghost made = { λ f draws. made_if (is_aes_key_size f.key_size) f.key_size new_gcm_key draws };
 

@@ -8,7 +8,8 @@ ghost use Rattle.tink_sets.specs.Entries.{entry_of};
 ghost use Rattle.tink_sets.specs.Groups.{group_of, HaveSameGroups};
 ghost use Rattle.tink_keysets.specs.Built.{built_entries, GivesSet};
 ghost use Rattle.tink_factory.specs.Typing.{typed_entries};
-ghost use Rattle.tink_aead.specs.Wrapped.{any_decrypts, entry_decrypts, entry_encrypts, primary_encrypts, HasSameAnswers, IsAeadOf};
+ghost use Rattle.tink_aead.specs.Wrapped.{any_decrypts, entry_decrypts, entry_encrypts, primary_encrypts};
+ghost use Rattle.tink_aead.specs.Wrapped.{HasSameAnswers, IsAeadOf};
 ghost use Rattle.tink_aead.specs.WrappedTold.{any_decrypts_told, primary_encrypts_told};
 
 use std::alloc::Global;
@@ -40,7 +41,9 @@ pub fn new<M: KeyManager, P: Aead>(
 ) -> Result<WrappedAead<P>, TinkError>
 where
     M::Family: Kinds<Aead = P>,
-    ensures { GivesSet (λ es w. IsAeadOf P.encrypts P.decrypts h.now.primary_key_id es w.ps.primary w.ps.entries) result (typed_entries as_aead h.now.primary_key_id (built_entries M.url M.supports M.builds entry_of registry.now.managers None h.now)) }
+    ensures { GivesSet (λ es w. IsAeadOf P.encrypts P.decrypts h.now.primary_key_id es w.ps.primary w.ps.entries) result
+        (typed_entries as_aead h.now.primary_key_id
+        (built_entries M.url M.supports M.builds entry_of registry.now.managers None h.now)) }
 {
     match typed_primitives::<M, Aeads>(alloc, h, registry) {
         Ok(ps) => Ok(WrappedAead { ps }),
@@ -53,7 +56,8 @@ impl<P: Aead + CloneIn> WrappedAead<P> {
     pub fn try_clone(&self, alloc: Global) -> Result<Self, TinkError>
         ensures primary { IfOk result (λ copy. copy.ps.primary ≡ self.now.ps.primary) }
         ensures entries { IfOk result (λ copy. HaveSameGroups self.now.ps.entries copy.ps.entries) }
-        ensures decrypts { IfOk result (λ copy. HasSameAnswers P.decrypts (group_of self.now.ps.entries) (group_of copy.ps.entries)) }
+        ensures decrypts { IfOk result (λ copy.
+            HasSameAnswers P.decrypts (group_of self.now.ps.entries) (group_of copy.ps.entries)) }
         ensures cause { IfErr result (λ e. e.kind ≡ OutOfMemory) }
     {
         let ps = self.ps.try_clone(alloc)?;
@@ -101,7 +105,8 @@ impl<P: Aead> Aead for WrappedAead<P> {
         ask_entries(alloc, &self.ps, &question, ciphertext, Kind::DecryptFailed)
     }
 
-    ghost encrypts_told = { λ w text aad draws. primary_encrypts_told P.encrypts P.encrypts_told w.ps.primary text aad draws };
+    ghost encrypts_told = { λ w text aad draws.
+        primary_encrypts_told P.encrypts P.encrypts_told w.ps.primary text aad draws };
 
     ghost decrypts_told = { λ w input aad. any_decrypts_told P.decrypts (group_of w.ps.entries) input aad };
 }
@@ -139,7 +144,8 @@ fn encrypt_behind_prefix<P: Aead>(
     additional_data: &[u8],
     draws: &mut Draws,
 ) -> Result<Bytes, TinkError>
-    ensures { Replies result (entry_encrypts P.encrypts entry.now plaintext.now additional_data.now draws.old) draws.old draws.new }
+    ensures { Replies result (entry_encrypts P.encrypts entry.now plaintext.now additional_data.now draws.old)
+        draws.old draws.new }
 {
     let mut out = entry.prefix.as_slice().to_vec(alloc)?;
     let sealed = entry

@@ -118,9 +118,14 @@ impl<A: Aead, M: KeyManager> Aead for KmsEnvelopeAead<'_, A, M> {
     ghost use Rattle.tink_aead.specs.Envelope.{data_key_aead, envelope_decrypts, envelope_encrypts};
     ghost use Rattle.tink_aead.specs.EnvelopeTold.{data_key_aead_told, envelope_decrypts_told, envelope_encrypts_told};
 
-    ghost encrypts = { λ e text aad draws. envelope_encrypts (registry_makes M.url M.makes e.registry.now.managers e.dek_template) (A.encrypts e.remote) (data_key_aead M.url M.builds e.registry.now.managers e.dek_template.type_url) M.Family.Aead.encrypts text aad draws };
+    ghost encrypts = { λ e text aad draws. envelope_encrypts
+        (registry_makes M.url M.makes e.registry.now.managers e.dek_template) (A.encrypts e.remote)
+        (data_key_aead M.url M.builds e.registry.now.managers e.dek_template.type_url)
+        M.Family.Aead.encrypts text aad draws };
 
-    ghost decrypts = { λ e input aad. envelope_decrypts (A.decrypts e.remote) (data_key_aead M.url M.builds e.registry.now.managers e.dek_template.type_url) M.Family.Aead.decrypts input aad };
+    ghost decrypts = { λ e input aad. envelope_decrypts (A.decrypts e.remote)
+        (data_key_aead M.url M.builds e.registry.now.managers e.dek_template.type_url)
+        M.Family.Aead.decrypts input aad };
 
     /// # Errors
     /// The registry's refusals on the new key, else those of the remote key on encrypting it, else
@@ -164,9 +169,19 @@ impl<A: Aead, M: KeyManager> Aead for KmsEnvelopeAead<'_, A, M> {
         primitive.decrypt(alloc, &rest[size..], additional_data)
     }
 
-    ghost encrypts_told = { λ e. envelope_encrypts_told (data_key_aead M.url M.builds e.registry.now.managers e.dek_template.type_url) (data_key_aead_told M.url M.builds M.builds_told e.registry.now.managers e.dek_template.type_url) (registry_makes M.url M.makes e.registry.now.managers e.dek_template) (A.encrypts e.remote) M.Family.Aead.encrypts (registry_makes_told M.url M.makes M.makes_told e.registry.now.managers e.dek_template) (A.encrypts_told e.remote) M.Family.Aead.encrypts_told };
+    ghost encrypts_told = { λ e. envelope_encrypts_told
+        (data_key_aead M.url M.builds e.registry.now.managers e.dek_template.type_url)
+        (data_key_aead_told M.url M.builds M.builds_told e.registry.now.managers e.dek_template.type_url)
+        (registry_makes M.url M.makes e.registry.now.managers e.dek_template) (A.encrypts e.remote)
+        M.Family.Aead.encrypts
+        (registry_makes_told M.url M.makes M.makes_told e.registry.now.managers e.dek_template)
+        (A.encrypts_told e.remote) M.Family.Aead.encrypts_told };
 
-    ghost decrypts_told = { λ e. envelope_decrypts_told (data_key_aead M.url M.builds e.registry.now.managers e.dek_template.type_url) (data_key_aead_told M.url M.builds M.builds_told e.registry.now.managers e.dek_template.type_url) (A.decrypts e.remote) M.Family.Aead.decrypts (A.decrypts_told e.remote) M.Family.Aead.decrypts_told };
+    ghost decrypts_told = { λ e. envelope_decrypts_told
+        (data_key_aead M.url M.builds e.registry.now.managers e.dek_template.type_url)
+        (data_key_aead_told M.url M.builds M.builds_told e.registry.now.managers e.dek_template.type_url)
+        (A.decrypts e.remote) M.Family.Aead.decrypts
+        (A.decrypts_told e.remote) M.Family.Aead.decrypts_told };
 }
 
 /// What an envelope encrypts is decrypted again, where the remote key's decryption undoes its

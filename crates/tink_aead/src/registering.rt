@@ -1,6 +1,6 @@
 //! The managers and templates of AEAD keys, registered.
 
-ghost use Rattle.std.specs.Prelude.{◌≡◌, ◌∷◌, [], IfErr, IfOk};
+ghost use Rattle.std.specs.Prelude.{◌≡◌, ◌∷◌, [], IfErr, IfOk, OnOk};
 ghost use Rattle.tink_io.specs.declared.error.Kind.TheVariants.{OutOfMemory};
 ghost use Rattle.tink_registry.specs.Registering.{AreMade, IsMade, Registers};
 ghost use Rattle.tink_aead.specs.Templates.{aead_templates};
@@ -31,7 +31,9 @@ where
         + From<AesCtrHmacAeadKeyManager>
         + From<AesGcmKeyManager>
         + From<AesGcmSivKeyManager>,
-    ensures { Registers (AreMade (IsMade M.From-1.from_gives ∷ IsMade M.From-2.from_gives ∷ IsMade M.From-3.from_gives ∷ [])) M.url aead_templates registry.old registry.new result }
+    ensures { Registers
+        (AreMade (IsMade M.From-1.from_gives ∷ IsMade M.From-2.from_gives ∷ IsMade M.From-3.from_gives ∷ []))
+        M.url aead_templates registry.old registry.new result }
 {
     let managers = managers(alloc)?;
     let templates = templates(alloc)?;
@@ -42,7 +44,9 @@ where
 fn managers<M>(alloc: Global) -> Result<Vec<M>, TinkError>
 where
     M: Drop + From<AesCtrHmacAeadKeyManager> + From<AesGcmKeyManager> + From<AesGcmSivKeyManager>,
-    ensures value { IfOk result (λ managers. AreMade (IsMade M.From-1.from_gives ∷ IsMade M.From-2.from_gives ∷ IsMade M.From-3.from_gives ∷ []) managers.items) }
+    ensures value { IfOk result (λ managers.
+        AreMade (IsMade M.From-1.from_gives ∷ IsMade M.From-2.from_gives ∷ IsMade M.From-3.from_gives ∷ [])
+        managers.items) }
     ensures cause { IfErr result (λ e. e.kind ≡ OutOfMemory) }
 {
     let composed = M::from(AesCtrHmacAeadKeyManager::new());
@@ -61,21 +65,32 @@ fn templates(alloc: Global) -> Result<Vec<(Text, KeyTemplate)>, TinkError>
     ensures cause { IfErr result (λ e. e.kind ≡ OutOfMemory) }
 {
     let mut named = Vec::new(alloc);
+    match add_templates(alloc, &mut named) {
+        Ok(()) => Ok(named),
+        Err(e) => Err(e),
+    }
+}
+
+// Adds them where there is none.
+fn add_templates(alloc: Global, named: &mut Vec<(Text, KeyTemplate)>) -> Result<(), TinkError>
+    requires { named.old.items ≡ [] }
+    ensures value { OnOk result (named.new.items ≡ aead_templates) }
+    ensures cause { IfErr result (λ e. e.kind ≡ OutOfMemory) }
+{
     let template = aes128_gcm_key_template(alloc)?;
-    add_template(alloc, &mut named, "AES128_GCM", template)?;
+    add_template(alloc, named, "AES128_GCM", template)?;
     let template = aes256_gcm_key_template(alloc)?;
-    add_template(alloc, &mut named, "AES256_GCM", template)?;
+    add_template(alloc, named, "AES256_GCM", template)?;
     let template = aes256_gcm_no_prefix_key_template(alloc)?;
-    add_template(alloc, &mut named, "AES256_GCM_NO_PREFIX", template)?;
+    add_template(alloc, named, "AES256_GCM_NO_PREFIX", template)?;
     let template = aes128_gcm_siv_key_template(alloc)?;
-    add_template(alloc, &mut named, "AES128_GCM_SIV", template)?;
+    add_template(alloc, named, "AES128_GCM_SIV", template)?;
     let template = aes256_gcm_siv_key_template(alloc)?;
-    add_template(alloc, &mut named, "AES256_GCM_SIV", template)?;
+    add_template(alloc, named, "AES256_GCM_SIV", template)?;
     let template = aes256_gcm_siv_no_prefix_key_template(alloc)?;
-    add_template(alloc, &mut named, "AES256_GCM_SIV_NO_PREFIX", template)?;
+    add_template(alloc, named, "AES256_GCM_SIV_NO_PREFIX", template)?;
     let template = aes128_ctr_hmac_sha256_key_template(alloc)?;
-    add_template(alloc, &mut named, "AES128_CTR_HMAC_SHA256", template)?;
+    add_template(alloc, named, "AES128_CTR_HMAC_SHA256", template)?;
     let template = aes256_ctr_hmac_sha256_key_template(alloc)?;
-    add_template(alloc, &mut named, "AES256_CTR_HMAC_SHA256", template)?;
-    Ok(named)
+    add_template(alloc, named, "AES256_CTR_HMAC_SHA256", template)
 }

@@ -4,9 +4,8 @@ ghost use Rattle.std.specs.Prelude.{[]};
 ghost use Rattle.tink_io.specs.Told.{Replies};
 ghost use Rattle.tink_aead.specs.Wrapped.{primary_encrypts};
 
-use crate::common::{expect, is_bytes};
+use crate::common::{expect, expect_refusal, is_bytes};
 use std::alloc::Global;
-use std::test::Fail;
 use tink_aead::{
     AES_GCM_TYPE_URL, AeadKind, AesCtrHmacAeadKeyManager, AesGcmKeyManager, AesGcmSivKeyManager,
     WrappedAead, aes128_ctr_hmac_sha256_key_template, aes128_gcm_key_template,
@@ -16,9 +15,7 @@ use tink_aead::{
 use tink_core::keyset::{Handle, Manager};
 use tink_core::registry::{KeyManager, Registry};
 use tink_core::{Aead, Draws, Kind, Kinds, TinkError};
-use tink_proto::wire::Message;
 use tink_proto::{Bytes, Key, KeyTemplate, OutputPrefixType};
-use tink_proto_keys::AesGcmKey;
 use tink_testutil::{draws_of, enabled_key, handle_of, kind_of, registry_of};
 
 /// Encrypts a text without associated data by the primary key.
@@ -28,7 +25,8 @@ fn sealed_by<P: Aead>(
     text: &[u8],
     draws: &mut Draws,
 ) -> Result<Bytes, TinkError>
-    ensures { Replies result (primary_encrypts P.encrypts aead.now.ps.primary text.now [] draws.old) draws.old draws.new }
+    ensures { Replies result (primary_encrypts P.encrypts aead.now.ps.primary text.now [] draws.old)
+        draws.old draws.new }
 {
     aead.encrypt(alloc, text, &[], draws)
 }
@@ -41,217 +39,324 @@ fn new_handle<M: KeyManager>(
     registry: &Registry<M>,
     kt: &KeyTemplate,
 ) -> Result<Handle, TinkError> {
-    let mut draws = Draws::new(vec![in alloc; 3u8; 128]?);
-    Handle::new(alloc, kt, registry, &mut draws)
+    Handle::new(alloc, kt, registry, &mut draws_of(alloc, &[3; 128])?)
+}
+
+// Whether these bytes are `abc`, and with other data nothing.
+fn is_abc<P: Aead>(alloc: Global, aead: &WrappedAead<P>, sealed: &[u8]) -> Result<bool, TinkError> {
+    let other = kind_of(aead.decrypt(alloc, sealed, b"dat"));
+    let same = is_bytes(aead.decrypt(alloc, sealed, b"data"), b"abc")?;
+    Ok(same && other == Some(Kind::DecryptFailed))
 }
 
 // The bytes that `abc` is encrypted to, where they are decrypted again, and none with other data.
 fn size_of_abc<P: Aead>(alloc: Global, aead: &WrappedAead<P>) -> Result<usize, TinkError> {
-    let mut draws = Draws::new(vec![in alloc; 5u8; 16]?);
+    let mut draws = draws_of(alloc, &[5; 16])?;
     let sealed = aead.encrypt(alloc, b"abc", b"data", &mut draws)?;
-    let opened = aead.decrypt(alloc, sealed.as_slice(), b"data")?;
-    let other = aead.decrypt(alloc, sealed.as_slice(), b"dat");
-    if opened.as_slice() == b"abc".as_slice() && kind_of(other) == Some(Kind::DecryptFailed) {
+    if is_abc(alloc, aead, sealed.as_slice())? {
         Ok(sealed.as_slice().len())
     } else {
         Ok(0)
     }
 }
 
-// The bytes that a new key of a template makes of `abc`.
-fn size_by<M: KeyManager + Drop, P: Aead>(
+// The same of a keyset.
+fn size_by_keyset<M: KeyManager, P: Aead>(
     alloc: Global,
-    manager: M,
-    kt: KeyTemplate,
+    registry: &Registry<M>,
+    h: &Handle,
 ) -> Result<usize, TinkError>
 where
     M::Family: Kinds<Aead = P>,
 {
-    let registry = registry_of(alloc, manager)?;
-    let h = new_handle(alloc, &registry, &kt)?;
-    size_of_abc(alloc, &new(alloc, &h, &registry)?)
+    match new(alloc, h, registry) {
+        Ok(aead) => size_of_abc(alloc, &aead),
+        Err(e) => Err(e),
+    }
+}
+
+// The same of a new key of a template.
+fn size_by_key<M: KeyManager, P: Aead>(
+    alloc: Global,
+    registry: &Registry<M>,
+    kt: &KeyTemplate,
+) -> Result<usize, TinkError>
+where
+    M::Family: Kinds<Aead = P>,
+{
+    match new_handle(alloc, registry, kt) {
+        Ok(h) => size_by_keyset(alloc, registry, &h),
+        Err(e) => Err(e),
+    }
+}
+
+// The same in a registry of its manager.
+fn size_by<M: KeyManager + Drop, P: Aead>(
+    alloc: Global,
+    manager: M,
+    kt: Result<KeyTemplate, TinkError>,
+) -> Result<usize, TinkError>
+where
+    M::Family: Kinds<Aead = P>,
+{
+    let kt = kt?;
+    match registry_of(alloc, manager) {
+        Ok(registry) => size_by_key(alloc, &registry, &kt),
+        Err(e) => Err(e),
+    }
 }
 
 #[test]
-fn texts_by_new_keys_of_gcm(rt: HostRuntime) -> Result<(), Fail> {
+fn texts_by_new_keys_of_gcm(rt: HostRuntime) {
     let alloc = rt.alloc();
     let prefixed = size_by(
         alloc,
         AesGcmKeyManager::new(),
-        aes256_gcm_key_template(alloc)?,
-    )?;
-    let raw = size_by(
-        alloc,
-        AesGcmKeyManager::new(),
-        aes256_gcm_no_prefix_key_template(alloc)?,
-    )?;
-    let siv = size_by(
-        alloc,
-        AesGcmSivKeyManager::new(),
-        aes256_gcm_siv_no_prefix_key_template(alloc)?,
-    )?;
-    expect(&rt, prefixed, 36, "GCM with a prefix");
-    expect(&rt, raw, 31, "GCM");
-    expect(&rt, siv, 31, "GCM-SIV");
-    Ok(())
+        aes256_gcm_key_template(alloc),
+    );
+    expect(&rt, prefixed, 36, "with a prefix");
+    let raw = aes256_gcm_no_prefix_key_template(alloc);
+    let raw = size_by(alloc, AesGcmKeyManager::new(), raw);
+    expect(&rt, raw, 31, "without");
 }
 
 #[test]
-fn texts_by_new_keys_of_two_parts(rt: HostRuntime) -> Result<(), Fail> {
+fn texts_by_new_keys_of_gcm_siv(rt: HostRuntime) {
     let alloc = rt.alloc();
-    let small = size_by(
-        alloc,
-        AesCtrHmacAeadKeyManager::new(),
-        aes128_ctr_hmac_sha256_key_template(alloc)?,
-    )?;
-    let large = size_by(
-        alloc,
-        AesCtrHmacAeadKeyManager::new(),
-        aes256_ctr_hmac_sha512_key_template(alloc)?,
-    )?;
+    let raw = aes256_gcm_siv_no_prefix_key_template(alloc);
+    let raw = size_by(alloc, AesGcmSivKeyManager::new(), raw);
+    expect(&rt, raw, 31, "without a prefix");
+}
+
+#[test]
+fn texts_by_new_keys_of_two_parts(rt: HostRuntime) {
+    let alloc = rt.alloc();
+    let small = aes128_ctr_hmac_sha256_key_template(alloc);
+    let small = size_by(alloc, AesCtrHmacAeadKeyManager::new(), small);
     expect(&rt, small, 40, "SHA-256");
+    let large = aes256_ctr_hmac_sha512_key_template(alloc);
+    let large = size_by(alloc, AesCtrHmacAeadKeyManager::new(), large);
     expect(&rt, large, 88, "SHA-512");
-    Ok(())
 }
 
 // ---- keysets of two keys
 
-// An enabled AES-GCM key, of which each byte is its id.
-fn gcm_key(alloc: Global, prefix: OutputPrefixType, id: u8) -> Result<Key, Fail> {
-    let key = AesGcmKey {
-        version: 0,
-        key_value: Bytes::from_vec(vec![in alloc; id; 16]?),
-    };
-    let value = key.encode(alloc)?;
-    Ok(enabled_key(
-        alloc,
-        AES_GCM_TYPE_URL,
-        value.as_slice(),
-        prefix,
-        u32::from(id),
-    )?)
+// An enabled AES-GCM key, of which each byte is its id. Its bytes are field 3 of the message.
+fn gcm_key(alloc: Global, prefix: OutputPrefixType, id: u8) -> Result<Key, TinkError> {
+    let mut value = [id; 18];
+    value[0] = 0x1a;
+    value[1] = 16;
+    enabled_key(alloc, AES_GCM_TYPE_URL, &value, prefix, u32::from(id))
 }
 
-// The AEADs of two keys, of which the first is primary.
-fn aeads_of(alloc: Global, a: Key, b: Key) -> Result<WrappedAead<AeadKind>, Fail> {
-    let primary_key_id = a.key_id;
-    let h = handle_of(primary_key_id, vec![in alloc; a, b]?)?;
-    let registry = registry_of(alloc, AesGcmKeyManager::new())?;
-    Ok(new(alloc, &h, &registry)?)
+// A key's prefix and its id.
+type Named = (OutputPrefixType, u8);
+
+fn add_key(alloc: Global, keys: &mut Vec<Key>, named: Named) -> Result<(), TinkError> {
+    keys.push(gcm_key(alloc, named.0, named.1)?)?;
+    Ok(())
+}
+
+fn add_two(alloc: Global, keys: &mut Vec<Key>, a: Named, b: Named) -> Result<(), TinkError> {
+    add_key(alloc, keys, a)?;
+    add_key(alloc, keys, b)
+}
+
+// Two keys, of which the first is primary.
+fn two_keys(alloc: Global, a: Named, b: Named) -> Result<Handle, TinkError> {
+    let mut keys = Vec::new(alloc);
+    match add_two(alloc, &mut keys, a, b) {
+        Ok(()) => handle_of(u32::from(a.1), keys),
+        Err(e) => Err(e),
+    }
 }
 
 // A prefixed key of this id, which is primary, and a raw one of the next.
-fn prefixed_first(alloc: Global, id: u8) -> Result<WrappedAead<AeadKind>, Fail> {
-    let prefixed = gcm_key(alloc, OutputPrefixType::Tink, id)?;
-    let raw = gcm_key(alloc, OutputPrefixType::Raw, id.wrapping_add(1))?;
-    aeads_of(alloc, prefixed, raw)
+fn prefixed_first(alloc: Global, id: u8) -> Result<Handle, TinkError> {
+    let raw = (OutputPrefixType::Raw, id.wrapping_add(1));
+    two_keys(alloc, (OutputPrefixType::Tink, id), raw)
 }
 
 // The same two keys, of which the raw one is primary.
-fn raw_first(alloc: Global, id: u8) -> Result<WrappedAead<AeadKind>, Fail> {
-    let prefixed = gcm_key(alloc, OutputPrefixType::Tink, id)?;
-    let raw = gcm_key(alloc, OutputPrefixType::Raw, id.wrapping_add(1))?;
-    aeads_of(alloc, raw, prefixed)
+fn raw_first(alloc: Global, id: u8) -> Result<Handle, TinkError> {
+    let raw = (OutputPrefixType::Raw, id.wrapping_add(1));
+    two_keys(alloc, raw, (OutputPrefixType::Tink, id))
 }
 
-// What twelve draws make of `abc`.
-fn abc_by(alloc: Global, aead: &WrappedAead<AeadKind>) -> Result<Bytes, TinkError> {
-    sealed_by(aead, alloc, b"abc", &mut draws_of(alloc, &[9; 12])?)
+// The AEADs of these keys.
+fn aead_of(alloc: Global, h: &Handle) -> Result<WrappedAead<AeadKind>, TinkError> {
+    match registry_of(alloc, AesGcmKeyManager::new()) {
+        Ok(registry) => new(alloc, h, &registry),
+        Err(e) => Err(e),
+    }
+}
+
+// What n draws make of `abc`.
+fn abc_of(alloc: Global, h: &Handle, n: usize) -> Result<Bytes, TinkError> {
+    let mut draws = Draws::new(vec![in alloc; 9u8; n]?);
+    match aead_of(alloc, h) {
+        Ok(aead) => sealed_by(&aead, alloc, b"abc", &mut draws),
+        Err(e) => Err(e),
+    }
+}
+
+fn abc_by(alloc: Global, h: Result<Handle, TinkError>, n: usize) -> Result<Bytes, TinkError> {
+    match h {
+        Ok(h) => abc_of(alloc, &h, n),
+        Err(e) => Err(e),
+    }
+}
+
+// What the keys make of a ciphertext.
+fn opened_by(
+    alloc: Global,
+    h: Result<Handle, TinkError>,
+    sealed: &[u8],
+) -> Result<Bytes, TinkError> {
+    match aead_of(alloc, &h?) {
+        Ok(aead) => aead.decrypt(alloc, sealed, &[]),
+        Err(e) => Err(e),
+    }
 }
 
 // Whether both orders of the keys decrypt it, and other keys do not.
-fn opens_by_its_keys(alloc: Global, sealed: &[u8]) -> Result<bool, Fail> {
-    let first = prefixed_first(alloc, 1)?.decrypt(alloc, sealed, &[]);
-    let second = raw_first(alloc, 1)?.decrypt(alloc, sealed, &[]);
-    let other = prefixed_first(alloc, 3)?.decrypt(alloc, sealed, &[]);
-    let refused = kind_of(other) == Some(Kind::DecryptFailed);
-    Ok(refused && is_bytes(first, b"abc") && is_bytes(second, b"abc"))
+fn opens_by_its_keys(alloc: Global, sealed: &[u8]) -> Result<bool, TinkError> {
+    let other = kind_of(opened_by(alloc, prefixed_first(alloc, 3), sealed));
+    let first = is_bytes(opened_by(alloc, prefixed_first(alloc, 1), sealed), b"abc")?;
+    let second = is_bytes(opened_by(alloc, raw_first(alloc, 1), sealed), b"abc")?;
+    Ok(first && second && other == Some(Kind::DecryptFailed))
+}
+
+// Whether what the prefixed key makes of `abc` begins so, and is decrypted.
+fn begins_and_opens(alloc: Global, prefix: &[u8]) -> Result<(bool, bool), TinkError> {
+    let sealed = abc_by(alloc, prefixed_first(alloc, 1), 12)?;
+    let opens = opens_by_its_keys(alloc, sealed.as_slice())?;
+    Ok((sealed.as_slice().starts_with(prefix), opens))
 }
 
 #[test]
-fn a_prefixed_key_of_a_keyset_decrypts(rt: HostRuntime) -> Result<(), Fail> {
-    let alloc = rt.alloc();
-    let sealed = abc_by(alloc, &prefixed_first(alloc, 1)?)?;
-    assert!(rt; sealed.as_slice().starts_with(b"\x01\x00\x00\x00\x01"));
-    assert!(rt; opens_by_its_keys(alloc, sealed.as_slice())?);
-    Ok(())
+fn a_prefixed_key_of_a_keyset_decrypts(rt: HostRuntime) {
+    let told = begins_and_opens(rt.alloc(), b"\x01\x00\x00\x00\x01");
+    expect(&rt, told, (true, true), "the prefix, and the text");
+}
+
+// How many bytes the raw key makes of `abc`, and whether they are decrypted.
+fn size_and_opens(alloc: Global) -> Result<(usize, bool), TinkError> {
+    let sealed = abc_by(alloc, raw_first(alloc, 1), 12)?;
+    let opens = opens_by_its_keys(alloc, sealed.as_slice())?;
+    Ok((sealed.as_slice().len(), opens))
 }
 
 #[test]
-fn a_raw_key_of_a_keyset_decrypts(rt: HostRuntime) -> Result<(), Fail> {
-    let alloc = rt.alloc();
-    let sealed = abc_by(alloc, &raw_first(alloc, 1)?)?;
-    assert!(rt; sealed.as_slice().len() == 31);
-    assert!(rt; opens_by_its_keys(alloc, sealed.as_slice())?);
-    Ok(())
+fn a_raw_key_of_a_keyset_decrypts(rt: HostRuntime) {
+    let told = size_and_opens(rt.alloc());
+    expect(&rt, told, (31, true), "the size, and the text");
 }
 
 #[test]
-fn a_prefix_alone_and_few_draws_are_refused(rt: HostRuntime) -> Result<(), Fail> {
+fn a_prefix_alone_and_few_draws_are_refused(rt: HostRuntime) {
     let alloc = rt.alloc();
-    let aead = prefixed_first(alloc, 1)?;
-    let short = kind_of(aead.decrypt(alloc, b"\x01\x00\x00\x00\x01", &[]));
-    let few = kind_of(sealed_by(&aead, alloc, b"abc", &mut draws_of(alloc, &[9; 11])?));
-    assert!(rt; short == Some(Kind::DecryptFailed) && few == Some(Kind::RandomFault));
-    Ok(())
+    let prefix = opened_by(alloc, prefixed_first(alloc, 1), b"\x01\x00\x00\x00\x01");
+    expect_refusal(&rt, prefix, Kind::DecryptFailed);
+    let few = abc_by(alloc, prefixed_first(alloc, 1), 11);
+    expect_refusal(&rt, few, Kind::RandomFault);
 }
 
 // ---- a rotation
 
-fn rotate<M: KeyManager>(
-    alloc: Global,
-    manager: &mut Manager,
-    registry: &Registry<M>,
-) -> Result<(), TinkError> {
+fn rotate(alloc: Global, manager: &mut Manager) -> Result<(), TinkError> {
     let kt = aes128_gcm_key_template(alloc)?;
-    let _id = manager.rotate(alloc, &kt, registry, &mut draws_of(alloc, &[4; 20])?)?;
-    Ok(())
+    let mut draws = draws_of(alloc, &[4; 20])?;
+    let registry = registry_of(alloc, AesGcmKeyManager::new())?;
+    match manager.rotate(alloc, &kt, &registry, &mut draws) {
+        Ok(_) => Ok(()),
+        Err(e) => Err(e),
+    }
 }
 
 // The keys after a rotation.
-fn rotated_from<M: KeyManager>(
-    alloc: Global,
-    registry: &Registry<M>,
-    h: Handle,
-) -> Result<Handle, TinkError> {
+fn rotated(alloc: Global, h: Handle) -> Result<Handle, TinkError> {
     let mut manager = Manager::new_from_handle(h);
-    rotate(alloc, &mut manager, registry)?;
-    manager.handle(alloc)
+    match rotate(alloc, &mut manager) {
+        Ok(()) => manager.handle(alloc),
+        Err(e) => Err(e),
+    }
 }
 
-type Gcm = Registry<AesGcmKeyManager>;
-
-// What the keys make of `abc`.
-fn abc_of(alloc: Global, registry: &Gcm, h: &Handle) -> Result<Bytes, TinkError> {
-    abc_by(alloc, &new(alloc, h, registry)?)
+// What a copy makes of a ciphertext.
+fn opened_by_a_copy(
+    alloc: Global,
+    aead: &WrappedAead<AeadKind>,
+    sealed: &[u8],
+) -> Result<Bytes, TinkError> {
+    match aead.try_clone(alloc) {
+        Ok(copy) => copy.decrypt(alloc, sealed, &[]),
+        Err(e) => Err(e),
+    }
 }
 
-// The keys after a rotation of one new key, and what they made of `abc` before and after it.
-fn before_and_after(alloc: Global, registry: &Gcm) -> Result<(Handle, Bytes, Bytes), TinkError> {
-    let h = new_handle(alloc, registry, &aes128_gcm_key_template(alloc)?)?;
-    let old = abc_of(alloc, registry, &h)?;
-    let rotated = rotated_from(alloc, registry, h)?;
-    let newer = abc_of(alloc, registry, &rotated)?;
-    Ok((rotated, old, newer))
+// Whether it is decrypted to `abc`, and by a copy too.
+fn opens_twice(
+    alloc: Global,
+    aead: &WrappedAead<AeadKind>,
+    sealed: &[u8],
+) -> Result<bool, TinkError> {
+    let copied = is_bytes(opened_by_a_copy(alloc, aead, sealed), b"abc")?;
+    let opened = is_bytes(aead.decrypt(alloc, sealed, &[]), b"abc")?;
+    Ok(copied && opened)
 }
 
-// Whether the keys decrypt it to `abc`, and a copy of them too.
-fn opens(alloc: Global, registry: &Gcm, h: &Handle, sealed: &Bytes) -> Result<bool, TinkError> {
-    let aead = new(alloc, h, registry)?;
-    let copied = aead
-        .try_clone(alloc)?
-        .decrypt(alloc, sealed.as_slice(), &[]);
-    let opened = aead.decrypt(alloc, sealed.as_slice(), &[]);
-    Ok(is_bytes(copied, b"abc") && is_bytes(opened, b"abc"))
+fn opens(alloc: Global, h: &Handle, sealed: &[u8]) -> Result<bool, TinkError> {
+    match aead_of(alloc, h) {
+        Ok(aead) => opens_twice(alloc, &aead, sealed),
+        Err(e) => Err(e),
+    }
+}
+
+// Whether the keys decrypt what they make, which is another ciphertext, and the old one.
+fn opens_both(alloc: Global, h: &Handle, old: &[u8]) -> Result<bool, TinkError> {
+    let newer = abc_of(alloc, h, 12)?;
+    let opens_newer = opens(alloc, h, newer.as_slice())?;
+    let opens_old = opens(alloc, h, old)?;
+    Ok(newer.as_slice() != old && opens_newer && opens_old)
+}
+
+fn opens_both_by(
+    alloc: Global,
+    h: Result<Handle, TinkError>,
+    old: &[u8],
+) -> Result<bool, TinkError> {
+    match h {
+        Ok(h) => opens_both(alloc, &h, old),
+        Err(e) => Err(e),
+    }
+}
+
+// The same after a rotation of these keys, of what they made before it.
+fn outlives_a_rotation(alloc: Global, h: Handle) -> Result<bool, TinkError> {
+    match abc_of(alloc, &h, 12) {
+        Ok(old) => opens_both_by(alloc, rotated(alloc, h), old.as_slice()),
+        Err(e) => Err(e),
+    }
+}
+
+// One new key.
+fn one_key(alloc: Global) -> Result<Handle, TinkError> {
+    let kt = aes128_gcm_key_template(alloc)?;
+    match registry_of(alloc, AesGcmKeyManager::new()) {
+        Ok(registry) => new_handle(alloc, &registry, &kt),
+        Err(e) => Err(e),
+    }
+}
+
+fn rotates(alloc: Global) -> Result<bool, TinkError> {
+    match one_key(alloc) {
+        Ok(h) => outlives_a_rotation(alloc, h),
+        Err(e) => Err(e),
+    }
 }
 
 #[test]
-fn old_ciphertexts_are_decrypted_after_a_rotation(rt: HostRuntime) -> Result<(), Fail> {
-    let alloc = rt.alloc();
-    let registry = registry_of(alloc, AesGcmKeyManager::new())?;
-    let (rotated, old, newer) = before_and_after(alloc, &registry)?;
-    assert!(rt; newer.as_slice() != old.as_slice());
-    assert!(rt; opens(alloc, &registry, &rotated, &old)?);
-    assert!(rt; opens(alloc, &registry, &rotated, &newer)?);
-    Ok(())
+fn old_ciphertexts_are_decrypted_after_a_rotation(rt: HostRuntime) {
+    expect(&rt, rotates(rt.alloc()), true, "both ciphertexts");
 }

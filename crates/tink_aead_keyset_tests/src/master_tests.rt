@@ -1,15 +1,15 @@
 //! Keysets under an AES-GCM master key, over memory and over ends in the wire format and in JSON.
 
-use crate::common::is_bytes;
+use crate::common::{expect, expect_refusal, is_bytes};
 use std::alloc::Global;
-use std::test::Fail;
 use tink_aead::subtle::AesGcm;
 use tink_core::keyset::insecure::{decode, new_handle};
-use tink_core::keyset::{Handle, MemReaderWriter};
+use tink_core::keyset::{Handle, MemReaderWriter, Reader, Writer};
 use tink_core::{Kind, MemSink, MemSource, TinkError};
 use tink_keyset_io::{BinaryReader, BinaryWriter, JsonReader, JsonWriter};
 use tink_proto::wire::Message;
-use tink_testutil::{bytes_of, draws_of, kind_of};
+use tink_proto::{Bytes, EncryptedKeyset, KeysetInfo};
+use tink_testutil::{bytes_of, draws_of};
 
 // A keyset of one raw key for streams.
 const KEYSET: &[u8] =
@@ -31,90 +31,169 @@ fn handle(alloc: Global) -> Result<Handle, TinkError> {
     new_handle(decode(alloc, KEYSET)?)
 }
 
+fn is_info(alloc: Global, info: &KeysetInfo) -> Result<bool, TinkError> {
+    match info.encode(alloc) {
+        Ok(bytes) => Ok(bytes.as_slice() == INFO),
+        Err(_) => Err(TinkError::new(Kind::OutOfMemory)),
+    }
+}
+
+fn has_the_info(alloc: Global, h: &Handle) -> Result<bool, TinkError> {
+    match h.keyset_info(alloc) {
+        Ok(info) => is_info(alloc, &info),
+        Err(e) => Err(e),
+    }
+}
+
+fn holds_the_keyset(alloc: Global, h: &Handle) -> Result<bool, TinkError> {
+    let has_info = has_the_info(alloc, h)?;
+    Ok(is_bytes(bytes_of(alloc, h), KEYSET)? && has_info)
+}
+
 // Whether it is a handle of the keyset, with its info.
-fn is_the_keyset(alloc: Global, read: Result<Handle, TinkError>) -> Result<bool, Fail> {
-    let h = read?;
-    let info = h.keyset_info(alloc)?.encode(alloc)?;
-    Ok(is_bytes(bytes_of(alloc, &h), KEYSET) && info.as_slice() == INFO)
+fn is_the_keyset(alloc: Global, read: Result<Handle, TinkError>) -> Result<bool, TinkError> {
+    match read {
+        Ok(h) => holds_the_keyset(alloc, &h),
+        Err(e) => Err(e),
+    }
+}
+
+// Writes the keyset under the master key, by twelve draws of 7.
+fn write<W: Writer>(alloc: Global, writer: &mut W) -> Result<(), TinkError> {
+    let master = master(alloc)?;
+    let mut draws = draws_of(alloc, &[7; 12])?;
+    match handle(alloc) {
+        Ok(h) => h.write(alloc, writer, &master, &mut draws),
+        Err(e) => Err(e),
+    }
+}
+
+// The same with this data.
+fn write_with<W: Writer>(alloc: Global, writer: &mut W, data: &[u8]) -> Result<(), TinkError> {
+    let master = master(alloc)?;
+    let mut draws = draws_of(alloc, &[7; 12])?;
+    match handle(alloc) {
+        Ok(h) => h.write_with_associated_data(alloc, writer, &master, data, &mut draws),
+        Err(e) => Err(e),
+    }
+}
+
+// Whether the keyset is read under the master key.
+fn is_read<R: Reader>(alloc: Global, reader: &mut R) -> Result<bool, TinkError> {
+    let master = master(alloc)?;
+    is_the_keyset(alloc, Handle::read(alloc, reader, &master))
 }
 
 // ---- memory
 
-// The keyset in memory, under the master key.
-fn in_memory(alloc: Global) -> Result<MemReaderWriter, TinkError> {
+// Whether the keyset is read back, and none lies beside it.
+fn is_kept(alloc: Global, ends: &mut MemReaderWriter) -> Result<bool, TinkError> {
+    let read = is_read(alloc, ends)?;
+    Ok(read && ends.keyset.is_none())
+}
+
+fn is_kept_in_memory(alloc: Global) -> Result<bool, TinkError> {
     let mut ends = MemReaderWriter::default();
-    let mut draws = draws_of(alloc, &[7; 12])?;
-    handle(alloc)?.write(alloc, &mut ends, &master(alloc)?, &mut draws)?;
-    Ok(ends)
+    match write(alloc, &mut ends) {
+        Ok(()) => is_kept(alloc, &mut ends),
+        Err(e) => Err(e),
+    }
 }
 
 #[test]
-fn a_keyset_is_kept_in_memory(rt: HostRuntime) -> Result<(), Fail> {
-    let alloc = rt.alloc();
-    let mut ends = in_memory(alloc)?;
-    let read = Handle::read(alloc, &mut ends, &master(alloc)?);
-    assert!(rt; is_the_keyset(alloc, read)?);
-    assert!(rt; ends.keyset.is_none());
-    Ok(())
+fn a_keyset_is_kept_in_memory(rt: HostRuntime) {
+    expect(&rt, is_kept_in_memory(rt.alloc()), true, "the keyset");
 }
 
 // Whether it is the outside encryption of the keyset, beside its info.
-fn is_encrypted(alloc: Global, ends: &MemReaderWriter) -> Result<bool, Fail> {
-    let Some(encrypted) = &ends.encrypted_keyset else {
+fn is_encrypted(alloc: Global, ends: &Option<EncryptedKeyset>) -> Result<bool, TinkError> {
+    let Some(encrypted) = ends else {
         return Ok(false);
     };
-    let Some(info) = &encrypted.keyset_info else {
-        return Ok(false);
-    };
-    let shown = info.encode(alloc)?.as_slice() == INFO;
-    Ok(shown && encrypted.encrypted_keyset.as_slice() == ENCRYPTED)
+    match &encrypted.keyset_info {
+        Some(info) => Ok(
+            is_info(alloc, info)? && encrypted.encrypted_keyset.as_slice() == ENCRYPTED,
+        ),
+        None => Ok(false),
+    }
+}
+
+fn is_encrypted_in_memory(alloc: Global) -> Result<bool, TinkError> {
+    let mut ends = MemReaderWriter::default();
+    match write(alloc, &mut ends) {
+        Ok(()) => is_encrypted(alloc, &ends.encrypted_keyset),
+        Err(e) => Err(e),
+    }
 }
 
 #[test]
-fn what_is_written_is_the_encryption_and_the_info(rt: HostRuntime) -> Result<(), Fail> {
-    let alloc = rt.alloc();
-    assert!(rt; is_encrypted(alloc, &in_memory(alloc)?)?);
-    Ok(())
+fn what_is_written_is_the_encryption_and_the_info(rt: HostRuntime) {
+    let told = is_encrypted_in_memory(rt.alloc());
+    expect(&rt, told, true, "the encryption and the info");
 }
 
 // ---- the wire format
 
-// The bytes of the keyset under the master key and this data.
-fn binary(alloc: Global, data: &[u8]) -> Result<Vec<u8>, TinkError> {
+// A sink of 50 bytes a call, with room for n.
+fn sink_of(alloc: Global, n: usize) -> Result<MemSink, TinkError> {
     let mut sink = MemSink::new(alloc, 50, Vec::new(alloc));
-    sink.reserve(alloc, 300)?;
-    let mut writer = BinaryWriter::new(sink);
-    let mut draws = draws_of(alloc, &[7; 12])?;
-    let h = handle(alloc)?;
-    h.write_with_associated_data(alloc, &mut writer, &master(alloc)?, data, &mut draws)?;
-    Ok(writer.into_inner().bytes().to_vec(alloc)?)
-}
-
-fn of_binary(alloc: Global, text: &[u8], data: &[u8]) -> Result<Handle, TinkError> {
-    let source = MemSource::new(text.to_vec(alloc)?, 50, Vec::new(alloc));
-    let mut reader = BinaryReader::new(source);
-    Handle::read_with_associated_data(alloc, &mut reader, &master(alloc)?, data)
-}
-
-#[test]
-fn a_keyset_is_kept_in_the_wire_format(rt: HostRuntime) -> Result<(), Fail> {
-    let alloc = rt.alloc();
-    let text = binary(alloc, &[])?;
-    assert!(rt; text.starts_with(b"\x12\x92\x01\x07\x07") && text.ends_with(INFO));
-    assert!(rt; is_the_keyset(alloc, of_binary(alloc, &text, &[]))?);
-    Ok(())
-}
-
-#[test]
-fn other_data_are_refused(rt: HostRuntime) -> Result<(), Fail> {
-    let alloc = rt.alloc();
-    let text = binary(alloc, b"\xaa")?;
-    assert!(rt; is_the_keyset(alloc, of_binary(alloc, &text, b"\xaa"))?);
-    for data in [b"\xab".as_slice(), b""] {
-        let refused = kind_of(of_binary(alloc, &text, data));
-        assert!(rt; refused == Some(Kind::MasterFailed));
+    match sink.reserve(alloc, n) {
+        Ok(()) => Ok(sink),
+        Err(e) => Err(e),
     }
-    Ok(())
+}
+
+fn source_of(alloc: Global, text: &[u8]) -> Result<MemSource, TinkError> {
+    Ok(MemSource::new(text.to_vec(alloc)?, 50, Vec::new(alloc)))
+}
+
+// The bytes of the keyset under the master key and this data.
+fn binary(alloc: Global, data: &[u8]) -> Result<Bytes, TinkError> {
+    let mut writer = BinaryWriter::new(sink_of(alloc, 300)?);
+    match write_with(alloc, &mut writer, data) {
+        Ok(()) => Ok(Bytes::from_vec(writer.into_inner().into_bytes())),
+        Err(e) => Err(e),
+    }
+}
+
+// The keyset of these bytes under this data.
+fn of_binary(alloc: Global, text: &[u8], data: &[u8]) -> Result<Handle, TinkError> {
+    let master = master(alloc)?;
+    match source_of(alloc, text) {
+        Ok(source) => Handle::read_with_associated_data(
+            alloc,
+            &mut BinaryReader::new(source),
+            &master,
+            data,
+        ),
+        Err(e) => Err(e),
+    }
+}
+
+fn is_kept_in_binary(alloc: Global) -> Result<bool, TinkError> {
+    let text = binary(alloc, &[])?;
+    let text = text.as_slice();
+    let framed = text.starts_with(b"\x12\x92\x01\x07\x07") && text.ends_with(INFO);
+    Ok(is_the_keyset(alloc, of_binary(alloc, text, &[]))? && framed)
+}
+
+#[test]
+fn a_keyset_is_kept_in_the_wire_format(rt: HostRuntime) {
+    expect(&rt, is_kept_in_binary(rt.alloc()), true, "the keyset");
+}
+
+// Whether what was written with the data `aa` is read with this data.
+fn is_read_with(alloc: Global, data: &[u8]) -> Result<bool, TinkError> {
+    let text = binary(alloc, b"\xaa")?;
+    is_the_keyset(alloc, of_binary(alloc, text.as_slice(), data))
+}
+
+#[test]
+fn other_data_are_refused(rt: HostRuntime) {
+    let alloc = rt.alloc();
+    expect(&rt, is_read_with(alloc, b"\xaa"), true, "the same data");
+    expect_refusal(&rt, is_read_with(alloc, b"\xab"), Kind::MasterFailed);
+    expect_refusal(&rt, is_read_with(alloc, b""), Kind::MasterFailed);
 }
 
 // ---- JSON
@@ -124,22 +203,28 @@ const JSON: &[u8] =
     b"{\n  \"encryptedKeyset\": \"BwcHBwcHBwcHBwcHn+jWc2iRUiVAKH7wrrKdxoEeCeHO1Ioy0YvpPehR1vkJVn/T2HRVoBKvAUfMpqPz2huS2IF0l6fEJIEelYKyk1pDPCLvxjls0UAFgdNGP6v4QLExoEnL3GoSf8sYOoxRvCWCShvlw63XZsVXR9xYbJHyswVksFhagl00F52L2gzo6P7Fzfk=\",\n  \"keysetInfo\": {";
 
 // The JSON of the keyset under the master key.
-fn json(alloc: Global) -> Result<Vec<u8>, TinkError> {
-    let mut sink = MemSink::new(alloc, 50, Vec::new(alloc));
-    sink.reserve(alloc, 600)?;
-    let mut writer = JsonWriter::new(sink);
-    let mut draws = draws_of(alloc, &[7; 12])?;
-    handle(alloc)?.write(alloc, &mut writer, &master(alloc)?, &mut draws)?;
-    Ok(writer.into_inner().bytes().to_vec(alloc)?)
+fn json(alloc: Global) -> Result<Bytes, TinkError> {
+    let mut writer = JsonWriter::new(sink_of(alloc, 600)?);
+    match write(alloc, &mut writer) {
+        Ok(()) => Ok(Bytes::from_vec(writer.into_inner().into_bytes())),
+        Err(e) => Err(e),
+    }
+}
+
+fn is_read_of_json(alloc: Global, text: &[u8]) -> Result<bool, TinkError> {
+    match source_of(alloc, text) {
+        Ok(source) => is_read(alloc, &mut JsonReader::new(source)),
+        Err(e) => Err(e),
+    }
+}
+
+fn is_kept_in_json(alloc: Global) -> Result<bool, TinkError> {
+    let text = json(alloc)?;
+    let begins = text.as_slice().starts_with(JSON);
+    Ok(is_read_of_json(alloc, text.as_slice())? && begins)
 }
 
 #[test]
-fn a_keyset_is_kept_in_json(rt: HostRuntime) -> Result<(), Fail> {
-    let alloc = rt.alloc();
-    let text = json(alloc)?;
-    assert!(rt; text.starts_with(JSON));
-    let source = MemSource::new(text, 50, Vec::new(alloc));
-    let read = Handle::read(alloc, &mut JsonReader::new(source), &master(alloc)?);
-    assert!(rt; is_the_keyset(alloc, read)?);
-    Ok(())
+fn a_keyset_is_kept_in_json(rt: HostRuntime) {
+    expect(&rt, is_kept_in_json(rt.alloc()), true, "the keyset");
 }

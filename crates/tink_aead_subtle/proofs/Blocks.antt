@@ -16,7 +16,7 @@ was_whole : (b : Bool) (rest draws : List ℕ) → (choice b (tt {0}) rest draws
 was_whole true rest draws e = refl
 was_whole false rest draws e = absurd (cc)
 
--- a vector that was drawn into the front of zeros
+-- a vector that was drawn over a prefix of zeros
 pub drawn : (n m : ℕ) (draws out rest : List ℕ) → m ≡ n → n ≤ 16 → out ≡ take m draws → ((takes m draws).0 ≡ Ok (tt {0})) × (rest ≡ (takes m draws).1)
     → ((drawn_block n draws).0 ≡ Ok (out ++ drop n (replicate 16 0))) × (rest ≡ (drawn_block n draws).1)
 drawn n m draws out rest same fits is told =

@@ -5,7 +5,8 @@ ghost use Rattle.std.specs.Int.{w64};
 ghost use Rattle.standards.specs.AesKeys.{aes};
 ghost use Rattle.standards.specs.Counter.{ctr, plus_be};
 ghost use Rattle.tink_io.specs.Told.{Answers, Replies};
-ghost use Rattle.tink_aead_subtle.specs.CounterMode.{counter_block, ctr_decrypts, ctr_encrypts, drawn_block, sized_with_iv};
+ghost use Rattle.tink_aead_subtle.specs.CounterMode.{counter_block, ctr_decrypts, ctr_encrypts, drawn_block};
+ghost use Rattle.tink_aead_subtle.specs.CounterMode.{sized_with_iv};
 
 use crate::aes_key::AesKey;
 use crate::ind_cpa::IndCpaCipher;
@@ -69,7 +70,7 @@ impl AesCtr {
         }
     }
 
-    // Fills `out` with the vector, which is the front of the block, and the text in counter mode.
+    // Fills `out` with the vector, which is a prefix of the block, and the text in counter mode.
     fn encrypt_behind(&self, block: &[u8; 16], text: &[u8], out: &mut [u8])
         requires size { self.now.iv_size ≤ 16 }
         requires room { length out.old ≡ self.now.iv_size + length text.now }

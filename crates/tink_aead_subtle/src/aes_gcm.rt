@@ -107,5 +107,6 @@ impl Aead for AesGcm {
 
     ghost encrypts_told = { λ a text aad draws. encryption_told (gcm (aes a.key)) MOST_GCM text aad draws };
 
-    ghost decrypts_told = { λ a input aad. decryption_told (gcm (aes a.key)) (gcm_text_of (aes a.key)) MOST_GCM input aad };
+    ghost decrypts_told = { λ a input aad.
+        decryption_told (gcm (aes a.key)) (gcm_text_of (aes a.key)) MOST_GCM input aad };
 }

@@ -106,5 +106,6 @@ impl Aead for AesGcmSiv {
 
     ghost encrypts_told = { λ a text aad draws. encryption_told (gcm_siv aes a.key) MOST_GCM_SIV text aad draws };
 
-    ghost decrypts_told = { λ a input aad. decryption_told (gcm_siv aes a.key) (gcm_siv_text_of aes a.key) MOST_GCM_SIV input aad };
+    ghost decrypts_told = { λ a input aad.
+        decryption_told (gcm_siv aes a.key) (gcm_siv_text_of aes a.key) MOST_GCM_SIV input aad };
 }

@@ -38,7 +38,9 @@ impl<C: IndCpaCipher + Drop, M: Mac + Drop> EncryptThenAuthenticate<C, M> {
         mac: M,
         tag_size: usize,
     ) -> Result<EncryptThenAuthenticate<C, M>, TinkError>
-        ensures { Tells result (if nat_le 10 tag_size then Ok (record { ind_cpa_cipher = ind_cpa_cipher; mac = mac; tag_size = tag_size }) else Err BadTagSize) }
+        ensures { Tells result (if nat_le 10 tag_size
+            then Ok (record { ind_cpa_cipher = ind_cpa_cipher; mac = mac; tag_size = tag_size })
+            else Err BadTagSize) }
     {
         if tag_size < MIN_TAG_SIZE {
             return Err(TinkError::new(Kind::BadTagSize));
@@ -103,9 +105,11 @@ impl<C: CloneIn, M: CloneIn> CloneIn for EncryptThenAuthenticate<C, M> {
 impl<C: IndCpaCipher, M: Mac> Aead for EncryptThenAuthenticate<C, M> {
     ghost use Rattle.tink_aead_subtle.specs.ComposedTold.{composed_decrypts_told, composed_encrypts_told};
 
-    ghost encrypts = { λ a text aad draws. composed_encrypts (C.encrypts a.ind_cpa_cipher) (M.computes a.mac) a.tag_size text aad draws };
+    ghost encrypts = { λ a text aad draws.
+        composed_encrypts (C.encrypts a.ind_cpa_cipher) (M.computes a.mac) a.tag_size text aad draws };
 
-    ghost decrypts = { λ a input aad. composed_decrypts (C.decrypts a.ind_cpa_cipher) (M.verifies a.mac) a.tag_size input aad };
+    ghost decrypts = { λ a input aad.
+        composed_decrypts (C.decrypts a.ind_cpa_cipher) (M.verifies a.mac) a.tag_size input aad };
 
     /// # Errors
     /// The cipher's refusals, else `DataTooLong` where the number of bits of the associated data does
@@ -144,7 +148,11 @@ impl<C: IndCpaCipher, M: Mac> Aead for EncryptThenAuthenticate<C, M> {
         self.ind_cpa_cipher.decrypt(alloc, &ciphertext[..n])
     }
 
-    ghost encrypts_told = { λ a text aad draws. composed_encrypts_told (C.encrypts a.ind_cpa_cipher) (M.computes a.mac) a.tag_size text aad draws (C.encrypts_told a.ind_cpa_cipher text draws) (M.computes_told a.mac) };
+    ghost encrypts_told = { λ a text aad draws.
+        composed_encrypts_told (C.encrypts a.ind_cpa_cipher) (M.computes a.mac) a.tag_size text aad draws
+        (C.encrypts_told a.ind_cpa_cipher text draws) (M.computes_told a.mac) };
 
-    ghost decrypts_told = { λ a input aad. composed_decrypts_told (C.decrypts a.ind_cpa_cipher) (M.verifies a.mac) a.tag_size input aad (C.decrypts_told a.ind_cpa_cipher) (M.verifies_told a.mac) };
+    ghost decrypts_told = { λ a input aad.
+        composed_decrypts_told (C.decrypts a.ind_cpa_cipher) (M.verifies a.mac) a.tag_size input aad
+        (C.decrypts_told a.ind_cpa_cipher) (M.verifies_told a.mac) };
 }

@@ -10,7 +10,7 @@ use tink_io::{Draws, TinkError};
 use tink_proto::Bytes;
 
 /// Encryption that no MAC protects. Its meaning gives for the arguments of each call the one answer
-/// and the draws then left; want of memory alone is no part of it.
+/// and the draws then left; `OutOfMemory` alone is no part of it.
 pub trait IndCpaCipher {
     // The ciphertext for a text and the draws.
     ghost encrypts: { Self → List ℕ → List ℕ → Result (List ℕ) Kind × List ℕ };
@@ -31,7 +31,7 @@ pub trait IndCpaCipher {
     fn decrypt(&self, alloc: Global, ciphertext: &[u8]) -> Result<Bytes, TinkError>
         ensures answer { Answers result (decrypts self.now ciphertext.now) };
 
-    // Each answer is told, and draws are taken from the front.
+    // Each answer is told, and what is taken is a prefix of the draws.
     ghost encrypts_told: { (c : Self) (plaintext draws : List ℕ) → IsDrawn draws (encrypts c plaintext draws) };
 
     ghost decrypts_told: { (c : Self) (ciphertext : List ℕ) → IsTold (decrypts c ciphertext) };

@@ -6,7 +6,9 @@ ghost use Rattle.standards.specs.AesKeys.{aes};
 ghost use Rattle.standards.specs.Gcm.{gcm};
 ghost use Rattle.standards.specs.GcmSiv.{gcm_siv};
 ghost use Rattle.tink_aead_subtle.specs.AesAeads.{gcm_decrypts, gcm_encrypts, gcm_siv_decrypts, gcm_siv_encrypts};
-ghost use Rattle.tink_aead_subtle.specs.Laws.{AcceptsExactly, ComposedAcceptsExactly, ComposedEncrypts, ComposedUndoes, CounterDecryptsExactly, CounterEncrypts, CounterUndoes, Encrypts, IsAesKey, Undoes};
+ghost use Rattle.tink_aead_subtle.specs.Laws.{AcceptsExactly, Encrypts, IsAesKey, Undoes};
+ghost use Rattle.tink_aead_subtle.specs.Laws.{CounterDecryptsExactly, CounterEncrypts, CounterUndoes};
+ghost use Rattle.tink_aead_subtle.specs.Laws.{ComposedAcceptsExactly, ComposedEncrypts, ComposedUndoes};
 
 /// AES-GCM accepts exactly the encryptions of some text, each as that of its text. What it encrypts is decrypted
 /// again, and with twelve draws each text and associated data within the limits are encrypted.
@@ -19,7 +21,8 @@ pub fn law_aes_gcm()
 /// AES-GCM-SIV accepts exactly the encryptions of some text, each as that of its text. What it encrypts is decrypted
 /// again, and with twelve draws each text and associated data within the limits are encrypted.
 pub fn law_aes_gcm_siv()
-    ensures accepts { (key : List ℕ) → IsAesKey key → AcceptsExactly (gcm_siv aes key) MOST_GCM_SIV (gcm_siv_decrypts key) }
+    ensures accepts { (key : List ℕ) → IsAesKey key
+        → AcceptsExactly (gcm_siv aes key) MOST_GCM_SIV (gcm_siv_decrypts key) }
     ensures undoes { (key : List ℕ) → IsAesKey key → Undoes (gcm_siv_encrypts key) (gcm_siv_decrypts key) }
     ensures encrypts { (key : List ℕ) → Encrypts MOST_GCM_SIV (gcm_siv_encrypts key) }
 {}

@@ -7,7 +7,8 @@ ghost use Rattle.gcm.specs.Siv.{cipher_of};
 ghost use Rattle.standards.specs.Gcm.{gcm};
 ghost use Rattle.standards.specs.GcmSiv.{encryption_key, gcm_siv};
 ghost use Rattle.tink_io.specs.Told.{Answers, Replies, Tells};
-ghost use Rattle.tink_aead_subtle.specs.NonceAeads.{decryption, encryption, gcm_text_of, gcm_siv_text_of, kind_of, limited};
+ghost use Rattle.tink_aead_subtle.specs.NonceAeads.{decryption, encryption, gcm_siv_text_of, gcm_text_of};
+ghost use Rattle.tink_aead_subtle.specs.NonceAeads.{kind_of, limited};
 
 use cipher::{BlockCipherEncrypt, KeyInit};
 use gcm::{Gcm, GcmError, GcmSiv};
@@ -46,7 +47,8 @@ pub trait NonceAead {
     ) -> Result<(), GcmError>
         requires nonce { length nonce.now ≡ 12 }
         requires room { length out.old ≡ length text.now + 16 }
-        ensures { IsSealed (seals self.now nonce.now additional_data.now) most additional_data.now text.now out.old out.new result };
+        ensures { IsSealed (seals self.now nonce.now additional_data.now) most additional_data.now text.now
+            out.old out.new result };
 
     fn open_into(
         &self,
@@ -57,10 +59,12 @@ pub trait NonceAead {
     ) -> Result<(), GcmError>
         requires nonce { length nonce.now ≡ 12 }
         requires room { length out.old ≡ length sealed.now - 16 }
-        ensures { IsOpened (seals self.now nonce.now additional_data.now) most additional_data.now sealed.now out.old out.new result };
+        ensures { IsOpened (seals self.now nonce.now additional_data.now) most additional_data.now sealed.now
+            out.old out.new result };
 
     // The text of what was sealed is had back.
-    ghost gives_back: { (a : Self) (nonce additional_data text : List ℕ) → opens a nonce (seals a nonce additional_data text) ≡ text };
+    ghost gives_back: { (a : Self) (nonce additional_data text : List ℕ)
+        → opens a nonce (seals a nonce additional_data text) ≡ text };
 }
 
 impl<C: BlockCipherEncrypt<16>> NonceAead for Gcm<C> {
@@ -132,7 +136,8 @@ impl<C: KeyInit<K> + BlockCipherEncrypt<16> + Drop, const K: usize> NonceAead fo
         GcmSiv::open_into(self, nonce, additional_data, sealed, out)
     }
 
-    ghost gives_back = { λ a nonce aad text. gcm_siv_gives_back (cipher_of C.keyed C.encrypts) a.key nonce aad text (λ block e. C.sized (C.keyed (encryption_key (cipher_of C.keyed C.encrypts) a.key nonce)) block e) };
+    ghost gives_back = { λ a nonce aad text. gcm_siv_gives_back (cipher_of C.keyed C.encrypts) a.key nonce aad text
+        (λ block e. C.sized (C.keyed (encryption_key (cipher_of C.keyed C.encrypts) a.key nonce)) block e) };
 }
 
 // The kind of a refusal.
@@ -187,7 +192,8 @@ pub fn encrypt<A: NonceAead>(
     additional_data: &[u8],
     draws: &mut Draws,
 ) -> Result<Bytes, TinkError>
-    ensures { Replies result (encryption (A.seals aead.now) A.most plaintext.now additional_data.now draws.old) draws.old draws.new }
+    ensures { Replies result (encryption (A.seals aead.now) A.most plaintext.now additional_data.now draws.old)
+        draws.old draws.new }
 {
     check_lengths(additional_data.len(), plaintext.len(), A::most_text())?;
     if draws.left() < NONCE_SIZE {
@@ -207,7 +213,8 @@ pub fn decrypt<A: NonceAead>(
     ciphertext: &[u8],
     additional_data: &[u8],
 ) -> Result<Bytes, TinkError>
-    ensures { Answers result (decryption (A.seals aead.now) (A.opens aead.now) A.most ciphertext.now additional_data.now) }
+    ensures { Answers result (decryption (A.seals aead.now) (A.opens aead.now) A.most
+        ciphertext.now additional_data.now) }
 {
     if ciphertext.len() < LEAST_SIZE {
         return Err(TinkError::new(Kind::TooShort));

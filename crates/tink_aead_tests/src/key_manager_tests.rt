@@ -1,13 +1,13 @@
 //! Which keys the managers build, and which formats make keys.
 
+use crate::comparing::expect;
 use std::alloc::Global;
-use std::test::Fail;
 use tink_aead::{
     AES_CTR_HMAC_AEAD_KEY_VERSION, AES_GCM_KEY_VERSION, AES_GCM_SIV_KEY_VERSION,
     AesCtrHmacAeadKeyManager, AesGcmKeyManager, AesGcmSivKeyManager,
 };
 use tink_core::registry::KeyManager;
-use tink_core::{Draws, Kind};
+use tink_core::{Kind, TinkError};
 use tink_proto::Bytes;
 use tink_proto::wire::Message;
 use tink_proto_keys::{
@@ -17,163 +17,212 @@ use tink_proto_keys::{
 use tink_testutil::{draws_of, kind_of};
 
 #[test]
-fn the_versions_are_0(rt: HostRuntime) -> Result<(), Fail> {
-    let gcm = AES_GCM_KEY_VERSION == 0 && AES_GCM_SIV_KEY_VERSION == 0;
-    assert!(rt; gcm && AES_CTR_HMAC_AEAD_KEY_VERSION == 0);
-    Ok(())
+fn the_versions_are_0(rt: HostRuntime) {
+    expect(&rt, Ok(AES_GCM_KEY_VERSION), 0, "GCM");
+    expect(&rt, Ok(AES_GCM_SIV_KEY_VERSION), 0, "GCM-SIV");
+    expect(&rt, Ok(AES_CTR_HMAC_AEAD_KEY_VERSION), 0, "two parts");
+}
+
+// So many bytes of this value.
+fn bytes_of(alloc: Global, byte: u8, size: usize) -> Result<Bytes, TinkError> {
+    Ok(Bytes::from_vec(vec![in alloc; byte; size]?))
+}
+
+fn encoded<T: Message>(alloc: Global, message: &T) -> Result<Bytes, TinkError> {
+    match message.encode(alloc) {
+        Ok(bytes) => Ok(bytes),
+        Err(_) => Err(TinkError::new(Kind::OutOfMemory)),
+    }
+}
+
+// What a manager answers on the bytes of a key.
+fn built_by<M: KeyManager>(
+    alloc: Global,
+    km: &M,
+    key: Result<Bytes, TinkError>,
+) -> Result<Option<Kind>, TinkError> {
+    match key {
+        Ok(key) => Ok(kind_of(km.primitive(alloc, key.as_slice()))),
+        Err(e) => Err(e),
+    }
 }
 
 // ---- keys of one part
 
-// What the manager of GCM answers on a key of a version and size.
-fn gcm_built(alloc: Global, version: u32, size: usize) -> Result<Option<Kind>, Fail> {
-    let key = AesGcmKey {
-        version,
-        key_value: Bytes::from_vec(vec![in alloc; 1u8; size]?),
-    };
-    let bytes = key.encode(alloc)?;
-    let answer = AesGcmKeyManager::new().primitive(alloc, bytes.as_slice());
-    Ok(kind_of(answer))
+// The bytes of a key of GCM, of a version and size.
+fn gcm_key(alloc: Global, version: u32, size: usize) -> Result<Bytes, TinkError> {
+    let key_value = bytes_of(alloc, 1, size)?;
+    encoded(alloc, &AesGcmKey { version, key_value })
 }
 
-// And that of GCM-SIV.
-fn gcm_siv_built(alloc: Global, version: u32, size: usize) -> Result<Option<Kind>, Fail> {
-    let key = AesGcmSivKey {
-        version,
-        key_value: Bytes::from_vec(vec![in alloc; 1u8; size]?),
-    };
-    let bytes = key.encode(alloc)?;
-    let answer = AesGcmSivKeyManager::new().primitive(alloc, bytes.as_slice());
-    Ok(kind_of(answer))
+// And of GCM-SIV.
+fn gcm_siv_key(alloc: Global, version: u32, size: usize) -> Result<Bytes, TinkError> {
+    let key_value = bytes_of(alloc, 1, size)?;
+    encoded(alloc, &AesGcmSivKey { version, key_value })
+}
+
+type Both = (Option<Kind>, Option<Kind>);
+
+// What the two managers answer.
+fn both_built(alloc: Global, version: u32, size: usize) -> Result<Both, TinkError> {
+    let key = gcm_key(alloc, version, size);
+    let gcm = built_by(alloc, &AesGcmKeyManager::new(), key)?;
+    let key = gcm_siv_key(alloc, version, size);
+    let siv = built_by(alloc, &AesGcmSivKeyManager::new(), key)?;
+    Ok((gcm, siv))
 }
 
 #[test]
-fn keys_of_one_part_that_build(rt: HostRuntime) -> Result<(), Fail> {
+fn keys_of_one_part_that_build(rt: HostRuntime) {
     let alloc = rt.alloc();
-    let invalid = Some(Kind::InvalidKey);
-    for (version, size, want) in [
-        (0, 16, None),
-        (0, 32, None),
-        (0, 24, invalid),
-        (0, 0, invalid),
-        (1, 16, invalid),
-    ] {
-        let gcm = gcm_built(alloc, version, size)?;
-        let siv = gcm_siv_built(alloc, version, size)?;
-        assert!(rt;
-            gcm == want && siv == want,
-            "version {version}, {size} bytes"
-        );
-    }
-    Ok(())
+    let built = (None, None);
+    expect(&rt, both_built(alloc, 0, 16), built, "16 bytes");
+    expect(&rt, both_built(alloc, 0, 32), built, "32 bytes");
+    let invalid = (Some(Kind::InvalidKey), Some(Kind::InvalidKey));
+    expect(&rt, both_built(alloc, 0, 24), invalid, "24 bytes");
+    expect(&rt, both_built(alloc, 0, 0), invalid, "no bytes");
+    expect(&rt, both_built(alloc, 1, 16), invalid, "version 1");
 }
 
-// What the manager of GCM answers on a format, and the draws left of fifteen.
-fn gcm_made(alloc: Global, format: &[u8]) -> Result<(Option<Kind>, usize), Fail> {
-    let mut draws = draws_of(alloc, &[1; 15])?;
-    let answer = AesGcmKeyManager::new().new_key(alloc, format, &mut draws);
+// What a manager answers on a format, and the draws left of n.
+fn made_by<M: KeyManager>(
+    alloc: Global,
+    km: &M,
+    format: &[u8],
+    n: usize,
+) -> Result<(Option<Kind>, usize), TinkError> {
+    let mut draws = draws_of(alloc, &[7; 50][..n.min(50)])?;
+    let answer = km.new_key(alloc, format, &mut draws);
     Ok((kind_of(answer), draws.left()))
 }
 
 #[test]
-fn formats_and_draws_of_one_part_are_refused(rt: HostRuntime) -> Result<(), Fail> {
+fn formats_and_draws_of_one_part_are_refused(rt: HostRuntime) {
     let alloc = rt.alloc();
-    let few = gcm_made(alloc, b"\x10\x10")?;
-    let size = gcm_made(alloc, b"\x10\x18")?;
-    assert!(rt; few == (Some(Kind::RandomFault), 15));
-    assert!(rt; size == (Some(Kind::InvalidFormat), 15));
-    Ok(())
+    let few = made_by(alloc, &AesGcmKeyManager::new(), b"\x10\x10", 15);
+    expect(&rt, few, (Some(Kind::RandomFault), 15), "15 draws");
+    let size = made_by(alloc, &AesGcmKeyManager::new(), b"\x10\x18", 15);
+    expect(&rt, size, (Some(Kind::InvalidFormat), 15), "24 bytes");
 }
 
 // ---- keys of two parts
 
-// A key of AES in counter mode with HMAC-SHA256 and tags of 16 bytes.
+fn cipher_part(version: u32, iv_size: u32, key_value: Bytes) -> Option<AesCtrKey> {
+    Some(AesCtrKey {
+        version,
+        params: Some(AesCtrParams { iv_size }),
+        key_value,
+    })
+}
+
+// HMAC-SHA256 with tags of 16 bytes.
+fn mac_part(version: u32, key_value: Bytes) -> Option<HmacKey> {
+    Some(HmacKey {
+        version,
+        params: Some(HmacParams {
+            hash: 3,
+            tag_size: 16,
+        }),
+        key_value,
+    })
+}
+
+// The bytes of a key of these versions and sizes.
 fn key_of(
     alloc: Global,
     versions: [u32; 3],
     aes_size: usize,
     iv_size: u32,
     hmac_size: usize,
-) -> Result<AesCtrHmacAeadKey, Fail> {
-    Ok(AesCtrHmacAeadKey {
+) -> Result<Bytes, TinkError> {
+    let aes_key = bytes_of(alloc, 1, aes_size)?;
+    let hmac_key = bytes_of(alloc, 2, hmac_size)?;
+    let key = AesCtrHmacAeadKey {
         version: versions[0],
-        aes_ctr_key: Some(AesCtrKey {
-            version: versions[1],
-            params: Some(AesCtrParams { iv_size }),
-            key_value: Bytes::from_vec(vec![in alloc; 1u8; aes_size]?),
-        }),
-        hmac_key: Some(HmacKey {
-            version: versions[2],
-            params: Some(HmacParams {
-                hash: 3,
-                tag_size: 16,
-            }),
-            key_value: Bytes::from_vec(vec![in alloc; 2u8; hmac_size]?),
-        }),
-    })
+        aes_ctr_key: cipher_part(versions[1], iv_size, aes_key),
+        hmac_key: mac_part(versions[2], hmac_key),
+    };
+    encoded(alloc, &key)
 }
 
-fn built(alloc: Global, key: &AesCtrHmacAeadKey) -> Result<Option<Kind>, Fail> {
-    let bytes = key.encode(alloc)?;
-    let answer = AesCtrHmacAeadKeyManager::new().primitive(alloc, bytes.as_slice());
-    Ok(kind_of(answer))
+fn built(alloc: Global, key: Result<Bytes, TinkError>) -> Result<Option<Kind>, TinkError> {
+    built_by(alloc, &AesCtrHmacAeadKeyManager::new(), key)
 }
 
 #[test]
-fn keys_of_two_parts_that_build(rt: HostRuntime) -> Result<(), Fail> {
+fn keys_of_two_parts_that_build(rt: HostRuntime) {
+    let alloc = rt.alloc();
+    let least = built(alloc, key_of(alloc, [0, 0, 0], 16, 12, 16));
+    expect(&rt, least, None, "16 bytes, vectors of 12");
+    let most = built(alloc, key_of(alloc, [0, 0, 0], 32, 16, 40));
+    expect(&rt, most, None, "32 bytes, vectors of 16");
+}
+
+#[test]
+fn keys_of_later_versions_do_not_build(rt: HostRuntime) {
     let alloc = rt.alloc();
     let invalid = Some(Kind::InvalidKey);
-    for (versions, aes_size, iv_size, hmac_size, want) in [
-        ([0, 0, 0], 16, 12, 16, None),
-        ([0, 0, 0], 32, 16, 40, None),
-        ([1, 0, 0], 16, 12, 16, invalid),
-        ([0, 1, 0], 16, 12, 16, invalid),
-        ([0, 0, 1], 16, 12, 16, invalid),
-        ([0, 0, 0], 24, 12, 16, invalid),
-        ([0, 0, 0], 16, 11, 16, invalid),
-        ([0, 0, 0], 16, 17, 16, invalid),
-        ([0, 0, 0], 16, 12, 15, invalid),
-    ] {
-        let key = key_of(alloc, versions, aes_size, iv_size, hmac_size)?;
-        assert!(rt; built(alloc, &key)? == want, "AES {aes_size}, IV {iv_size}");
-    }
-    Ok(())
+    let whole = built(alloc, key_of(alloc, [1, 0, 0], 16, 12, 16));
+    expect(&rt, whole, invalid, "the key");
+    let cipher = built(alloc, key_of(alloc, [0, 1, 0], 16, 12, 16));
+    expect(&rt, cipher, invalid, "the cipher's key");
+    let mac = built(alloc, key_of(alloc, [0, 0, 1], 16, 12, 16));
+    expect(&rt, mac, invalid, "the MAC's key");
 }
 
-fn built_without_mac(alloc: Global) -> Result<Option<Kind>, Fail> {
+#[test]
+fn keys_of_two_parts_of_other_sizes_do_not_build(rt: HostRuntime) {
+    let alloc = rt.alloc();
+    let invalid = Some(Kind::InvalidKey);
+    let aes = built(alloc, key_of(alloc, [0, 0, 0], 24, 12, 16));
+    expect(&rt, aes, invalid, "AES keys of 24 bytes");
+    let short = built(alloc, key_of(alloc, [0, 0, 0], 16, 11, 16));
+    expect(&rt, short, invalid, "vectors of 11 bytes");
+    let long = built(alloc, key_of(alloc, [0, 0, 0], 16, 17, 16));
+    expect(&rt, long, invalid, "vectors of 17 bytes");
+    let mac = built(alloc, key_of(alloc, [0, 0, 0], 16, 12, 15));
+    expect(&rt, mac, invalid, "HMAC keys of 15 bytes");
+}
+
+// The bytes of a key without a MAC's key.
+fn key_without_mac(alloc: Global) -> Result<Bytes, TinkError> {
+    let aes_key = bytes_of(alloc, 1, 16)?;
     let key = AesCtrHmacAeadKey {
         version: 0,
-        aes_ctr_key: key_of(alloc, [0, 0, 0], 16, 12, 16)?.aes_ctr_key,
+        aes_ctr_key: cipher_part(0, 12, aes_key),
         hmac_key: None,
     };
-    built(alloc, &key)
+    encoded(alloc, &key)
 }
 
-fn built_without_cipher(alloc: Global) -> Result<Option<Kind>, Fail> {
+// And without a cipher's.
+fn key_without_cipher(alloc: Global) -> Result<Bytes, TinkError> {
+    let hmac_key = bytes_of(alloc, 2, 16)?;
     let key = AesCtrHmacAeadKey {
         version: 0,
         aes_ctr_key: None,
-        hmac_key: key_of(alloc, [0, 0, 0], 16, 12, 16)?.hmac_key,
+        hmac_key: mac_part(0, hmac_key),
     };
-    built(alloc, &key)
+    encoded(alloc, &key)
 }
 
 #[test]
-fn keys_without_a_part_do_not_build(rt: HostRuntime) -> Result<(), Fail> {
+fn keys_without_a_part_do_not_build(rt: HostRuntime) {
     let alloc = rt.alloc();
     let invalid = Some(Kind::InvalidKey);
-    assert!(rt; built_without_mac(alloc)? == invalid);
-    assert!(rt; built_without_cipher(alloc)? == invalid);
-    Ok(())
+    let mac = built(alloc, key_without_mac(alloc));
+    expect(&rt, mac, invalid, "no MAC");
+    let cipher = built(alloc, key_without_cipher(alloc));
+    expect(&rt, cipher, invalid, "no cipher");
 }
 
-// What the manager answers on a format of these sizes, and the draws left of 50.
-fn made(
+// The bytes of a format of these sizes.
+fn format_of(
     alloc: Global,
     key_size: u32,
     iv_size: u32,
     hmac_key_size: u32,
-) -> Result<(Option<Kind>, usize), Fail> {
+) -> Result<Bytes, TinkError> {
     let format = AesCtrHmacAeadKeyFormat {
         aes_ctr_key_format: Some(AesCtrKeyFormat {
             params: Some(AesCtrParams { iv_size }),
@@ -188,28 +237,48 @@ fn made(
             version: 7,
         }),
     };
-    let mut draws = Draws::new(vec![in alloc; 7u8; 50]?);
-    let bytes = format.encode(alloc)?;
-    let answer = AesCtrHmacAeadKeyManager::new().new_key(alloc, bytes.as_slice(), &mut draws);
-    Ok((kind_of(answer), draws.left()))
+    encoded(alloc, &format)
+}
+
+// What the manager answers on it, and the draws left of 50.
+fn made(
+    alloc: Global,
+    key_size: u32,
+    iv_size: u32,
+    hmac_key_size: u32,
+) -> Result<(Option<Kind>, usize), TinkError> {
+    let format = format_of(alloc, key_size, iv_size, hmac_key_size)?;
+    made_by(
+        alloc,
+        &AesCtrHmacAeadKeyManager::new(),
+        format.as_slice(),
+        50,
+    )
 }
 
 #[test]
-fn the_aes_key_is_drawn_first(rt: HostRuntime) -> Result<(), Fail> {
+fn the_aes_key_is_drawn_first(rt: HostRuntime) {
     let alloc = rt.alloc();
-    let invalid = Some(Kind::InvalidFormat);
-    for (key_size, iv_size, hmac_key_size, want, left) in [
-        (16, 12, 34, None, 0),
-        (16, 12, 35, Some(Kind::RandomFault), 34),
-        (24, 12, 32, invalid, 50),
-        (16, 11, 32, invalid, 50),
-        (16, 12, 15, invalid, 50),
-    ] {
-        let told = made(alloc, key_size, iv_size, hmac_key_size)?;
-        assert!(rt;
-            told == (want, left),
-            "AES {key_size}, IV {iv_size}, HMAC {hmac_key_size}"
-        );
-    }
-    Ok(())
+    expect(&rt, made(alloc, 16, 12, 34), (None, 0), "50 draws");
+    let few = (Some(Kind::RandomFault), 34);
+    expect(&rt, made(alloc, 16, 12, 35), few, "51 draws");
+}
+
+#[test]
+fn formats_of_other_sizes_are_refused(rt: HostRuntime) {
+    let alloc = rt.alloc();
+    let invalid = (Some(Kind::InvalidFormat), 50);
+    expect(
+        &rt,
+        made(alloc, 24, 12, 32),
+        invalid,
+        "AES keys of 24 bytes",
+    );
+    expect(&rt, made(alloc, 16, 11, 32), invalid, "vectors of 11 bytes");
+    expect(
+        &rt,
+        made(alloc, 16, 12, 15),
+        invalid,
+        "HMAC keys of 15 bytes",
+    );
 }

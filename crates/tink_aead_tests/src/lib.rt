@@ -2,6 +2,8 @@
 #![tactic(auto)]
 
 #[cfg(test)]
+mod comparing;
+#[cfg(test)]
 mod key_manager_tests;
 #[cfg(test)]
 mod registering_tests;

@@ -2,11 +2,12 @@
 
 use crate::comparing::expect;
 use std::alloc::Global;
-use std::test::Fail;
-use tink::aead::{WrappedAead, aes128_gcm_key_template};
-use tink::keyset::{BinaryReader, Handle, JsonReader, JsonWriter, Manager, insecure};
-use tink::mac::{WrappedMac, hmac_sha256_tag128_key_template};
-use tink::streaming_aead::{WrappedStreamingAead, aes128_gcm_hkdf_4kb_key_template};
+use tink::aead::{AeadKind, WrappedAead, aes128_gcm_key_template};
+use tink::keyset::{BinaryReader, BinaryWriter, Handle, JsonReader, JsonWriter, Manager, insecure};
+use tink::mac::{MacKind, WrappedMac, hmac_sha256_tag128_key_template};
+use tink::streaming_aead::{
+    DecryptReader, StreamSegment, WrappedStreamingAead, Writer, aes128_gcm_hkdf_4kb_key_template,
+};
 use tink::{Aead, Draws, Lent, Mac, Managers, Registry, SureSink, SureSource, TinkError, registry};
 use tink_proto::{Bytes, KeyTemplate};
 
@@ -20,8 +21,10 @@ fn draws(alloc: Global, n: u8) -> Result<Draws, TinkError> {
 }
 
 // A keyset of one new key.
-fn new_keyset(alloc: Global, kt: &KeyTemplate) -> Result<Handle, TinkError> {
-    Handle::new(alloc, kt, &registry(alloc)?, &mut draws(alloc, 100)?)
+fn new_keyset(alloc: Global, kt: Result<KeyTemplate, TinkError>) -> Result<Handle, TinkError> {
+    let kt = kt?;
+    let mut draws = draws(alloc, 100)?;
+    Handle::new(alloc, &kt, &registry(alloc)?, &mut draws)
 }
 
 // Whether bytes are those of a text.
@@ -39,60 +42,92 @@ fn begins_alike(one: &[u8], other: &[u8]) -> bool {
 
 // ---- a value is encrypted and decrypted
 
-fn aead_of(alloc: Global, keyset: &Handle) -> Result<WrappedAead<tink::aead::AeadKind>, TinkError> {
+fn aead_of(alloc: Global, keyset: &Handle) -> Result<WrappedAead<AeadKind>, TinkError> {
     tink::aead::new(alloc, keyset, &registry(alloc)?)
 }
 
 fn encrypted(alloc: Global, keyset: &Handle, value: &[u8]) -> Result<Bytes, TinkError> {
-    aead_of(alloc, keyset)?.encrypt(alloc, value, b"its column", &mut draws(alloc, 12)?)
+    let mut draws = draws(alloc, 12)?;
+    aead_of(alloc, keyset)?.encrypt(alloc, value, b"its column", &mut draws)
 }
 
 fn decrypted(alloc: Global, keyset: &Handle, ciphertext: &[u8]) -> Result<Bytes, TinkError> {
     aead_of(alloc, keyset)?.decrypt(alloc, ciphertext, b"its column")
 }
 
+// How many bytes a value is encrypted to, and whether they are decrypted to it.
+fn through(alloc: Global, keyset: &Handle) -> Result<(usize, bool), TinkError> {
+    let sealed = encrypted(alloc, keyset, b"a value")?;
+    let text = decrypted(alloc, keyset, sealed.as_slice())?;
+    Ok((sealed.as_slice().len(), is_text(text.as_slice(), "a value")))
+}
+
+fn through_a_new_keyset(alloc: Global) -> Result<(usize, bool), TinkError> {
+    through(alloc, &new_keyset(alloc, aes128_gcm_key_template(alloc))?)
+}
+
 #[test]
-fn a_value_is_encrypted(rt: HostRuntime) -> Result<(), Fail> {
-    let alloc = rt.alloc();
-    let keyset = new_keyset(alloc, &aes128_gcm_key_template(alloc)?)?;
-    let sealed = encrypted(alloc, &keyset, b"a value")?;
+fn a_value_is_encrypted(rt: HostRuntime) {
+    let told = through_a_new_keyset(rt.alloc());
     expect(
         &rt,
-        sealed.as_slice().len(),
-        5 + 12 + 7 + 16,
+        told,
+        (5 + 12 + 7 + 16, true),
         "prefix, nonce, text and tag",
     );
-    let text = decrypted(alloc, &keyset, sealed.as_slice())?;
-    assert!(rt; is_text(text.as_slice(), "a value"));
-    Ok(())
 }
 
 // ---- a key is rotated, and old data decrypted
 
+fn rotate(alloc: Global, manager: &mut Manager) -> Result<(), TinkError> {
+    let template = aes128_gcm_key_template(alloc)?;
+    let mut draws = draws(alloc, 200)?;
+    let registry: Registry<Managers> = registry(alloc)?;
+    match manager.rotate(alloc, &template, &registry, &mut draws) {
+        Ok(_) => Ok(()),
+        Err(e) => Err(e),
+    }
+}
+
 fn rotated(alloc: Global, keyset: Handle) -> Result<Handle, TinkError> {
     let mut manager = Manager::new_from_handle(keyset);
-    let registry: Registry<Managers> = registry(alloc)?;
-    let template = aes128_gcm_key_template(alloc)?;
-    manager.rotate(alloc, &template, &registry, &mut draws(alloc, 200)?)?;
-    manager.handle(alloc)
+    match rotate(alloc, &mut manager) {
+        Ok(()) => manager.handle(alloc),
+        Err(e) => Err(e),
+    }
+}
+
+// Whether old data are decrypted, and new ones have another prefix.
+fn opens_old_data(alloc: Global, keyset: &Handle, old: &[u8]) -> Result<bool, TinkError> {
+    let new = encrypted(alloc, keyset, b"a value")?;
+    let text = decrypted(alloc, keyset, old)?;
+    Ok(!begins_alike(old, new.as_slice()) && is_text(text.as_slice(), "a value"))
+}
+
+fn opens_after_a_rotation(alloc: Global, keyset: Handle) -> Result<bool, TinkError> {
+    match encrypted(alloc, &keyset, b"a value") {
+        Ok(old) => opens_old_data(alloc, &rotated(alloc, keyset)?, old.as_slice()),
+        Err(e) => Err(e),
+    }
+}
+
+fn outlives_a_rotation(alloc: Global) -> Result<bool, TinkError> {
+    opens_after_a_rotation(alloc, new_keyset(alloc, aes128_gcm_key_template(alloc))?)
 }
 
 #[test]
-fn old_data_opens_after_a_rotation(rt: HostRuntime) -> Result<(), Fail> {
-    let alloc = rt.alloc();
-    let keyset = new_keyset(alloc, &aes128_gcm_key_template(alloc)?)?;
-    let old = encrypted(alloc, &keyset, b"a value")?;
-    let keyset = rotated(alloc, keyset)?;
-    let new = encrypted(alloc, &keyset, b"a value")?;
-    assert!(rt; !begins_alike(old.as_slice(), new.as_slice()));
-    let text = decrypted(alloc, &keyset, old.as_slice())?;
-    assert!(rt; is_text(text.as_slice(), "a value"));
-    Ok(())
+fn old_data_opens_after_a_rotation(rt: HostRuntime) {
+    expect(
+        &rt,
+        outlives_a_rotation(rt.alloc()),
+        true,
+        "old and new data",
+    );
 }
 
 // ---- a MAC is computed and verified
 
-fn mac_of(alloc: Global, keyset: &Handle) -> Result<WrappedMac<tink::mac::MacKind>, TinkError> {
+fn mac_of(alloc: Global, keyset: &Handle) -> Result<WrappedMac<MacKind>, TinkError> {
     tink::mac::new(alloc, keyset, &registry(alloc)?)
 }
 
@@ -100,79 +135,117 @@ fn computed(alloc: Global, keyset: &Handle, message: &[u8]) -> Result<Bytes, Tin
     mac_of(alloc, keyset)?.compute_mac(alloc, message)
 }
 
-fn is_accepted(alloc: Global, keyset: &Handle, mac: &[u8], message: &[u8]) -> Result<bool, Fail> {
-    Ok(
-        mac_of(alloc, keyset)?
-            .verify_mac(alloc, mac, message)
-            .is_ok(),
+fn is_accepted(
+    alloc: Global,
+    keyset: &Handle,
+    tag: &[u8],
+    message: &[u8],
+) -> Result<bool, TinkError> {
+    match mac_of(alloc, keyset) {
+        Ok(mac) => Ok(mac.verify_mac(alloc, tag, message).is_ok()),
+        Err(e) => Err(e),
+    }
+}
+
+// How many bytes a MAC has, and whether it is accepted for its message and for another.
+fn verified(alloc: Global, keyset: &Handle) -> Result<(usize, bool, bool), TinkError> {
+    let tag = computed(alloc, keyset, b"a message")?;
+    let own = is_accepted(alloc, keyset, tag.as_slice(), b"a message")?;
+    let other = is_accepted(alloc, keyset, tag.as_slice(), b"another")?;
+    Ok((tag.as_slice().len(), own, other))
+}
+
+fn verified_by_a_new_keyset(alloc: Global) -> Result<(usize, bool, bool), TinkError> {
+    verified(
+        alloc,
+        &new_keyset(alloc, hmac_sha256_tag128_key_template(alloc))?,
     )
 }
 
 #[test]
-fn a_mac_is_of_its_message(rt: HostRuntime) -> Result<(), Fail> {
-    let alloc = rt.alloc();
-    let keyset = new_keyset(alloc, &hmac_sha256_tag128_key_template(alloc)?)?;
-    let mac = computed(alloc, &keyset, b"a message")?;
-    expect(&rt, mac.as_slice().len(), 5 + 16, "prefix and tag");
-    assert!(rt; is_accepted(alloc, &keyset, mac.as_slice(), b"a message")?);
-    assert!(rt; !is_accepted(alloc, &keyset, mac.as_slice(), b"another")?);
-    Ok(())
+fn a_mac_is_of_its_message(rt: HostRuntime) {
+    let told = verified_by_a_new_keyset(rt.alloc());
+    expect(&rt, told, (5 + 16, true, false), "prefix and tag");
 }
 
 // ---- a keyset in JSON is read, and written encrypted
 
-fn in_json(alloc: Global) -> Result<Vec<u8>, TinkError> {
-    let keyset = new_keyset(alloc, &aes128_gcm_key_template(alloc)?)?;
+fn sink_of(alloc: Global) -> Result<SureSink, TinkError> {
     let mut sink = SureSink::new(alloc);
-    sink.reserve(alloc, 1000)?;
-    let mut writer = JsonWriter::new(sink);
-    insecure::write(alloc, &keyset, &mut writer)?;
-    Ok(writer.into_inner().into_bytes())
+    match sink.reserve(alloc, 1000) {
+        Ok(()) => Ok(sink),
+        Err(e) => Err(e),
+    }
+}
+
+fn in_json(alloc: Global, keyset: &Handle) -> Result<Vec<u8>, TinkError> {
+    let mut writer = JsonWriter::new(sink_of(alloc)?);
+    match insecure::write(alloc, keyset, &mut writer) {
+        Ok(()) => Ok(writer.into_inner().into_bytes()),
+        Err(e) => Err(e),
+    }
+}
+
+fn new_in_json(alloc: Global) -> Result<Vec<u8>, TinkError> {
+    in_json(alloc, &new_keyset(alloc, aes128_gcm_key_template(alloc))?)
 }
 
 fn from_json(alloc: Global, text: Vec<u8>) -> Result<Handle, TinkError> {
     insecure::read(alloc, &mut JsonReader::new(SureSource::new(text)))
 }
 
-// The keyset under a master key, in the wire format.
-fn under_a_master(alloc: Global, keyset: &Handle, master: &Handle) -> Result<Vec<u8>, TinkError> {
-    let mut sink = SureSink::new(alloc);
-    sink.reserve(alloc, 1000)?;
-    let mut writer = tink::keyset::BinaryWriter::new(sink);
-    keyset.write(
-        alloc,
-        &mut writer,
-        &aead_of(alloc, master)?,
-        &mut draws(alloc, 12)?,
-    )?;
-    Ok(writer.into_inner().into_bytes())
+// The keyset under the AEAD of a master key, in the wire format.
+fn written<A: Aead>(alloc: Global, keyset: &Handle, master: &A) -> Result<Vec<u8>, TinkError> {
+    let mut draws = draws(alloc, 12)?;
+    let mut writer = BinaryWriter::new(sink_of(alloc)?);
+    match keyset.write(alloc, &mut writer, master, &mut draws) {
+        Ok(()) => Ok(writer.into_inner().into_bytes()),
+        Err(e) => Err(e),
+    }
 }
 
-fn from_a_master(alloc: Global, stored: Vec<u8>, master: &Handle) -> Result<Handle, TinkError> {
+fn read<A: Aead>(alloc: Global, stored: Vec<u8>, master: &A) -> Result<Handle, TinkError> {
     let mut reader = BinaryReader::new(SureSource::new(stored));
-    Handle::read(alloc, &mut reader, &aead_of(alloc, master)?)
+    Handle::read(alloc, &mut reader, master)
 }
 
-// The keyset, after it was written and read under a master key.
-fn through_a_master(alloc: Global, keyset: &Handle) -> Result<Handle, TinkError> {
-    let master = new_keyset(alloc, &aes128_gcm_key_template(alloc)?)?;
-    from_a_master(alloc, under_a_master(alloc, keyset, &master)?, &master)
+// The keyset, after it was written and read so.
+fn kept_by<A: Aead>(alloc: Global, keyset: &Handle, master: &A) -> Result<Handle, TinkError> {
+    match written(alloc, keyset, master) {
+        Ok(stored) => read(alloc, stored, master),
+        Err(e) => Err(e),
+    }
 }
 
-// Whether the keyset, when it was kept so, decrypts what it encrypted before.
-fn is_kept(alloc: Global, keyset: &Handle) -> Result<bool, TinkError> {
+fn kept(alloc: Global, keyset: &Handle) -> Result<Handle, TinkError> {
+    let master = new_keyset(alloc, aes128_gcm_key_template(alloc))?;
+    match aead_of(alloc, &master) {
+        Ok(master) => kept_by(alloc, keyset, &master),
+        Err(e) => Err(e),
+    }
+}
+
+// Whether it decrypts what it encrypted before.
+fn decrypts_when_kept(alloc: Global, keyset: &Handle) -> Result<bool, TinkError> {
     let sealed = encrypted(alloc, keyset, b"a value")?;
-    let kept = through_a_master(alloc, keyset)?;
-    let text = decrypted(alloc, &kept, sealed.as_slice())?;
+    match kept(alloc, keyset) {
+        Ok(kept) => is_value(alloc, &kept, sealed.as_slice()),
+        Err(e) => Err(e),
+    }
+}
+
+fn is_value(alloc: Global, keyset: &Handle, sealed: &[u8]) -> Result<bool, TinkError> {
+    let text = decrypted(alloc, keyset, sealed)?;
     Ok(is_text(text.as_slice(), "a value"))
 }
 
+fn decrypts_from_json(alloc: Global) -> Result<bool, TinkError> {
+    decrypts_when_kept(alloc, &from_json(alloc, new_in_json(alloc)?)?)
+}
+
 #[test]
-fn a_keyset_in_json_is_encrypted(rt: HostRuntime) -> Result<(), Fail> {
-    let alloc = rt.alloc();
-    let keyset = from_json(alloc, in_json(alloc)?)?;
-    assert!(rt; is_kept(alloc, &keyset)?);
-    Ok(())
+fn a_keyset_in_json_is_encrypted(rt: HostRuntime) {
+    expect(&rt, decrypts_from_json(rt.alloc()), true, "the value");
 }
 
 // ---- a stream is sealed, and read in pieces
@@ -181,48 +254,102 @@ fn streams_of(alloc: Global, keyset: &Handle) -> Result<WrappedStreamingAead, Ti
     tink::streaming_aead::new(alloc, keyset, &registry(alloc)?)
 }
 
-// The stream of a text.
-fn sealed(alloc: Global, keyset: &Handle, text: &[u8]) -> Result<Vec<u8>, TinkError> {
-    let mut sink = SureSink::new(alloc);
-    sink.reserve(alloc, 1000)?;
-    let streams = streams_of(alloc, keyset)?;
-    let mut draws = draws(alloc, 100)?;
-    match streams.new_encrypting_writer(alloc, &mut draws, Lent(&mut sink), b"its name") {
-        Ok(mut writer) => {
-            writer.write(text)?;
-            writer.close()?;
-        }
-        Err(refused) => return Err(refused.error),
-    }
-    Ok(sink.into_bytes())
+fn write_whole(
+    writer: &mut Writer<Lent<'_, SureSink>, StreamSegment>,
+    text: &[u8],
+) -> Result<(), TinkError> {
+    writer.write(text)?;
+    writer.close()
 }
 
-// The text of a stream, which is read ten bytes at a time.
-fn opened(alloc: Global, keyset: &Handle, stream: Vec<u8>) -> Result<Vec<u8>, TinkError> {
-    let source = SureSource::new(stream);
-    let mut text = Vec::new(alloc);
-    match streams_of(alloc, keyset)?.new_decrypting_reader(alloc, source, b"its name") {
-        Ok(mut reader) => {
-            for _ in 0..100 {
-                let mut piece = [0u8; 10];
-                let n = reader.read(&mut piece)?;
-                if n == 0 {
-                    return Ok(text);
-                }
-                text.extend_from_slice(&piece[..n])?;
-            }
-            Ok(text)
-        }
+fn seal(
+    alloc: Global,
+    streams: &WrappedStreamingAead,
+    sink: &mut SureSink,
+    text: &[u8],
+) -> Result<(), TinkError> {
+    let mut draws = draws(alloc, 100)?;
+    match streams.new_encrypting_writer(alloc, &mut draws, Lent(sink), b"its name") {
+        Ok(mut writer) => write_whole(&mut writer, text),
         Err(refused) => Err(refused.error),
     }
 }
 
-#[test]
-fn a_stream_is_read_in_pieces(rt: HostRuntime) -> Result<(), Fail> {
-    let alloc = rt.alloc();
-    let keyset = new_keyset(alloc, &aes128_gcm_hkdf_4kb_key_template(alloc)?)?;
-    let stream = sealed(alloc, &keyset, b"a text of more than ten bytes")?;
-    let text = opened(alloc, &keyset, stream)?;
-    assert!(rt; is_text(text.as_slice(), "a text of more than ten bytes"));
+// The stream of a text.
+fn sealed(
+    alloc: Global,
+    streams: &WrappedStreamingAead,
+    text: &[u8],
+) -> Result<Vec<u8>, TinkError> {
+    let mut sink = sink_of(alloc)?;
+    match seal(alloc, streams, &mut sink, text) {
+        Ok(()) => Ok(sink.into_bytes()),
+        Err(e) => Err(e),
+    }
+}
+
+// Reads ten bytes at a time.
+fn read_whole(reader: &mut DecryptReader<SureSource>, text: &mut Vec<u8>) -> Result<(), TinkError> {
+    for _ in 0..100 {
+        let mut piece = [0u8; 10];
+        let n = reader.read(&mut piece)?;
+        if n == 0 {
+            return Ok(());
+        }
+        text.extend_from_slice(&piece[..n])?;
+    }
     Ok(())
+}
+
+fn open(
+    alloc: Global,
+    streams: &WrappedStreamingAead,
+    stream: Vec<u8>,
+    text: &mut Vec<u8>,
+) -> Result<(), TinkError> {
+    let source = SureSource::new(stream);
+    match streams.new_decrypting_reader(alloc, source, b"its name") {
+        Ok(mut reader) => read_whole(&mut reader, text),
+        Err(refused) => Err(refused.error),
+    }
+}
+
+// Whether the text of a stream is this one.
+fn opens_to(
+    alloc: Global,
+    streams: &WrappedStreamingAead,
+    stream: Vec<u8>,
+    want: &str,
+) -> Result<bool, TinkError> {
+    let mut text = Vec::new(alloc);
+    match open(alloc, streams, stream, &mut text) {
+        Ok(()) => Ok(is_text(&text, want)),
+        Err(e) => Err(e),
+    }
+}
+
+fn opens_again(
+    alloc: Global,
+    streams: &WrappedStreamingAead,
+    text: &str,
+) -> Result<bool, TinkError> {
+    match sealed(alloc, streams, text.as_bytes()) {
+        Ok(stream) => opens_to(alloc, streams, stream, text),
+        Err(e) => Err(e),
+    }
+}
+
+fn opens_by(alloc: Global, keyset: &Handle, text: &str) -> Result<bool, TinkError> {
+    opens_again(alloc, &streams_of(alloc, keyset)?, text)
+}
+
+fn opens_by_a_new_keyset(alloc: Global, text: &str) -> Result<bool, TinkError> {
+    let kt = aes128_gcm_hkdf_4kb_key_template(alloc);
+    opens_by(alloc, &new_keyset(alloc, kt)?, text)
+}
+
+#[test]
+fn a_stream_is_read_in_pieces(rt: HostRuntime) {
+    let told = opens_by_a_new_keyset(rt.alloc(), "a text of more than ten bytes");
+    expect(&rt, told, true, "the text");
 }
