@@ -130,7 +130,7 @@ fn open<C: BlockCipherEncrypt<16>>(
     out: &mut [u8],
 ) -> Result<(), TinkError>
     requires nonce { length nonce.now ≡ 12 }
-    requires size { length segment.now < 2 ^ 32 }
+    requires size { length segment.now - 16 < 2 ^ 32 }
     requires room { length out.old ≡ length segment.now - 16 }
     ensures ok { OnOk result (gcm (C.encrypts aead.now.cipher) nonce.now [] out.new ≡ segment.now) }
     ensures refused { OnErr result ((t : List ℕ) → gcm (C.encrypts aead.now.cipher) nonce.now [] t ≡ segment.now → ⊥) }
