@@ -14,7 +14,7 @@ use tink_segment_traits::{SegmentDecrypter, SegmentEncrypter};
 /// The size of a nonce in bytes.
 pub const AES_GCM_HKDF_NONCE_SIZE_IN_BYTES: usize = 12;
 
-/// The size of the front of the nonces of one stream in bytes.
+/// The size of the prefix of the nonces of one stream in bytes.
 pub const AES_GCM_HKDF_NONCE_PREFIX_SIZE_IN_BYTES: usize = 7;
 
 /// The size of the tag of each segment in bytes.
