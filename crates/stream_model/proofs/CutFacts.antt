@@ -101,7 +101,7 @@ le_or_lt zero n = inl (omega arith)
 le_or_lt (suc m) zero = inr (omega arith)
 le_or_lt (suc m) (suc n) = elim (le_or_lt m n) [ inl h ↦ inl (omega arith) | inr h ↦ inr (omega arith) ]
 
--- a longer text has the full chunks of its front, and those of the chunk that stayed open and the rest
+-- a longer text has the full chunks of its prefix, and those of the chunk that stayed open and the rest
 record Appended (a b : ℕ) (R S : List ℕ) : Type 0 where
   chunks : full_chunks a b (R ++ S) ≡ full_chunks a b R ++ full_chunks (room_at a b (length (full_chunks a b R))) b (open_chunk a b R ++ S)
   last : open_chunk a b (R ++ S) ≡ open_chunk (room_at a b (length (full_chunks a b R))) b (open_chunk a b R ++ S)

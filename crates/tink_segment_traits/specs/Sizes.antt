@@ -4,7 +4,7 @@ use Rattle.std.specs.declared.option.Option.{Option}
 use Rattle.tink_io.specs.declared.error.Kind.{Kind}
 use Rattle.tink_io.specs.declared.error.Kind.TheVariants.{NonceTooShort, OffsetTooBig, SegmentTooSmall}
 
--- why sizes are refused: those of a nonce and of its prefix, of a segment, of what stands in front of the first segment,
+-- why sizes are refused: those of a nonce and of its prefix, of a segment, of what stands before the first segment,
 -- and of what a segment has more than its text
 abbrev pub sizes_fault : ℕ → ℕ → ℕ → ℕ → ℕ → Option Kind
 sizes_fault nonce_size prefix size offset overhead =

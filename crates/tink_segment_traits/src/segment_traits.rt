@@ -75,7 +75,7 @@ pub trait SegmentDecrypter {
         ensures { result ≡ overhead_of self.now };
 
     /// Writes the text of a segment under a nonce into `out`, which has its length: no bytes where the segment is shorter
-    /// than the overhead. The nonce has the cipher's length, and the segment's length fits u32. `DecryptFailed` exactly
+    /// than the overhead. The nonce has the cipher's length, and the text's length fits u32. `DecryptFailed` exactly
     /// where it is the segment of no text, and nothing is written then.
     fn decrypt_segment_into(
         &self,
@@ -84,7 +84,7 @@ pub trait SegmentDecrypter {
         out: &mut [u8],
     ) -> Result<(), TinkError>
         requires nonce { length nonce.now ≡ nonce_length self.now }
-        requires size { length segment.now < 2 ^ 32 }
+        requires size { length segment.now - overhead_of self.now < 2 ^ 32 }
         requires room { length out.old ≡ length segment.now - overhead_of self.now }
         ensures ok { OnOk result (seg self.now nonce.now out.new ≡ segment.now) }
         ensures refused { OnErr result ((t : List ℕ) → seg self.now nonce.now t ≡ segment.now → ⊥) }
@@ -104,7 +104,7 @@ pub trait SegmentDecrypter {
         nonce: &[u8],
     ) -> Result<Bytes, TinkError>
         requires nonce { length nonce.now ≡ nonce_length self.now }
-        requires size { length segment.now < 2 ^ 32 }
+        requires size { length segment.now - overhead_of self.now < 2 ^ 32 }
         ensures ok { IfOk result (λ text. seg self.now nonce.now text ≡ segment.now) }
         ensures refused { IfErr result (λ e. (e ≡ record { kind = OutOfMemory })
             ⊎ ((e ≡ record { kind = DecryptFailed }) × ((t : List ℕ) → seg self.now nonce.now t ≡ segment.now → ⊥))) }

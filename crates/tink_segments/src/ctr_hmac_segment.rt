@@ -11,7 +11,7 @@ use tink_segment_traits::{SegmentDecrypter, SegmentEncrypter};
 /// The size of a nonce in bytes.
 pub const AES_CTR_HMAC_NONCE_SIZE_IN_BYTES: usize = 16;
 
-/// The size of the front of the nonces of one stream in bytes.
+/// The size of the prefix of the nonces of one stream in bytes.
 pub const AES_CTR_HMAC_NONCE_PREFIX_SIZE_IN_BYTES: usize = 7;
 
 /// The size of an HMAC key in bytes.
@@ -159,7 +159,7 @@ fn is_same(a: &[u8], b: &[u8]) -> bool
     a == b
 }
 
-// The first bytes of HMAC over nonce and ciphertext, in the front of the result.
+// The first bytes of HMAC over nonce and ciphertext, as the first of the result.
 fn tag_of(hash: Hash, size: usize, key: &[u8; 32], nonce: &[u8], ciphertext: &[u8]) -> [u8; MAX_TAG]
     requires { size ≤ digest_size hash }
     ensures { take size result ≡ take size (hmac_of hash key.now (nonce.now ++ ciphertext.now)) }

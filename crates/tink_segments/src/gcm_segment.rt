@@ -14,7 +14,7 @@ use tink_segment_traits::{SegmentDecrypter, SegmentEncrypter};
 /// The size of a nonce in bytes.
 pub const AES_GCM_HKDF_NONCE_SIZE_IN_BYTES: usize = 12;
 
-/// The size of the front of the nonces of one stream in bytes.
+/// The size of the prefix of the nonces of one stream in bytes.
 pub const AES_GCM_HKDF_NONCE_PREFIX_SIZE_IN_BYTES: usize = 7;
 
 /// The size of the tag of each segment in bytes.
@@ -130,7 +130,7 @@ fn open<C: BlockCipherEncrypt<16>>(
     out: &mut [u8],
 ) -> Result<(), TinkError>
     requires nonce { length nonce.now ≡ 12 }
-    requires size { length segment.now < 2 ^ 32 }
+    requires size { length segment.now - 16 < 2 ^ 32 }
     requires room { length out.old ≡ length segment.now - 16 }
     ensures ok { OnOk result (gcm (C.encrypts aead.now.cipher) nonce.now [] out.new ≡ segment.now) }
     ensures refused { OnErr result ((t : List ℕ) → gcm (C.encrypts aead.now.cipher) nonce.now [] t ≡ segment.now → ⊥) }

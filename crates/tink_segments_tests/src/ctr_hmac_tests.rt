@@ -4,6 +4,7 @@ ghost use Rattle.std.specs.Prelude.{◌≡◌};
 
 use crate::comparing::{expect, expect_bytes};
 use hash_keys::Hash;
+use std::process::Abort;
 use tink_io::{Kind, TinkError};
 use tink_segment_traits::{SegmentDecrypter, SegmentEncrypter};
 use tink_segments::CtrHmacSegment;
@@ -32,31 +33,51 @@ fn cipher() -> CtrHmacSegment
 }
 
 #[test]
-fn a_segment_opens(rt: HostRuntime) {
+fn a_text_has_its_segment(rt: HostRuntime) {
     let mut segment = [0u8; 58];
     cipher().encrypt_segment_into(TEXT, &NONCE, &mut segment);
     expect_bytes(&rt, &segment, SEGMENT, "the segment");
+}
+
+#[test]
+fn a_segment_opens(rt: HostRuntime) {
     let mut text = [0u8; 38];
     let told = cipher().decrypt_segment_into(SEGMENT, &NONCE, &mut text);
     expect(&rt, told, Ok(()), "the answer");
     expect_bytes(&rt, &text, TEXT, "the text");
 }
 
+// The segment with a bit exchanged is refused.
+fn expect_change(rt: &impl Abort, place: usize) {
+    let mut changed = *SEGMENT;
+    if let Some(byte) = changed.get_mut(place) {
+        *byte ^= 1;
+    }
+    let mut out = [7u8; 38];
+    let told = cipher().decrypt_segment_into(&changed, &NONCE, &mut out);
+    expect(
+        rt,
+        told,
+        Err(TinkError::new(Kind::DecryptFailed)),
+        "a changed byte",
+    );
+    expect_bytes(rt, &out, &[7; 38], "what was written");
+}
+
 #[test]
 fn refuses_a_changed_byte(rt: HostRuntime) {
-    let refused = Err(TinkError::new(Kind::DecryptFailed));
-    for place in [0usize, 38, 57] {
-        let mut changed = *SEGMENT;
-        changed[place] ^= 1;
-        let mut out = [7u8; 38];
-        let told = cipher().decrypt_segment_into(&changed, &NONCE, &mut out);
-        expect(&rt, told, refused, "a changed byte");
-        expect_bytes(&rt, &out, &[7; 38], "what was written");
-    }
+    expect_change(&rt, 0);
+    expect_change(&rt, 38);
+    expect_change(&rt, 57);
 }
 
 #[test]
 fn refuses_less_than_a_tag(rt: HostRuntime) {
     let told = cipher().decrypt_segment_into(&SEGMENT[..19], &NONCE, &mut []);
-    assert_eq!(rt; told, Err(TinkError::new(Kind::DecryptFailed)));
+    expect(
+        &rt,
+        told,
+        Err(TinkError::new(Kind::DecryptFailed)),
+        "19 bytes",
+    );
 }

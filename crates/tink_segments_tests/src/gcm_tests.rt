@@ -1,13 +1,16 @@
 //! Segments by AES-GCM that Python made, and segments of either kind.
 
-ghost use Rattle.std.specs.Prelude.{◌≡◌};
+ghost use Rattle.std.specs.Prelude.{◌≡◌, ◌≤◌, length};
 ghost use Rattle.tink_segments.specs.SegmentKeys.{overhead_under};
+ghost use Rattle.tink_segments.specs.StreamSegments.{nonce_length_by};
 
 use crate::comparing::{expect, expect_bytes};
 use hash_keys::Hash;
+use std::alloc::Global;
 use std::process::Abort;
 use std::test::Fail;
 use tink_io::{Kind, TinkError};
+use tink_proto::Bytes;
 use tink_segment_traits::{SegmentDecrypter, SegmentEncrypter};
 use tink_segments::{CtrHmacSegment, GcmSegment, StreamSegment};
 
@@ -32,31 +35,42 @@ const LARGE: [u8; 54] =
 // The empty text's segment under the small key.
 const EMPTY: [u8; 16] = *b"\x93\xe3\xcc\x75\x25\x12\x1b\x93\x4e\xf6\x08\xc1\x53\x7c\x11\x59";
 
-// The text's segment under a key, both ways.
-fn goes_both_ways(rt: &impl Abort, key: GcmSegment, want: &[u8; 54]) {
+// The text's segment under a key.
+fn expect_segment(rt: &impl Abort, key: GcmSegment, want: &[u8; 54]) {
     let mut segment = [0u8; 54];
     key.encrypt_segment_into(TEXT, &NONCE, &mut segment);
     expect_bytes(rt, &segment, want, "the segment");
+}
+
+// The segment's text under a key.
+fn expect_text(rt: &impl Abort, key: GcmSegment, segment: &[u8; 54]) {
     let mut text = [0u8; 38];
-    let told = key.decrypt_segment_into(want, &NONCE, &mut text);
+    let told = key.decrypt_segment_into(segment, &NONCE, &mut text);
     expect(rt, told, Ok(()), "the answer");
     expect_bytes(rt, &text, TEXT, "the text");
 }
 
 #[test]
 fn keys_of_two_sizes_make_the_segments(rt: HostRuntime) {
-    goes_both_ways(&rt, GcmSegment::new(&SMALL_KEY), &SMALL);
-    goes_both_ways(&rt, GcmSegment::new(&LARGE_KEY), &LARGE);
+    expect_segment(&rt, GcmSegment::new(&SMALL_KEY), &SMALL);
+    expect_text(&rt, GcmSegment::new(&SMALL_KEY), &SMALL);
+    expect_segment(&rt, GcmSegment::new(&LARGE_KEY), &LARGE);
+    expect_text(&rt, GcmSegment::new(&LARGE_KEY), &LARGE);
+}
+
+// What a key answers of a segment without text.
+fn opened_empty(segment: &[u8]) -> Result<(), TinkError>
+    requires { length segment.now ≤ 16 }
+{
+    GcmSegment::new(&SMALL_KEY).decrypt_segment_into(segment, &NONCE, &mut [])
 }
 
 #[test]
 fn the_empty_text_has_a_tag(rt: HostRuntime) {
-    let cipher = GcmSegment::new(&SMALL_KEY);
     let mut segment = [0u8; 16];
-    cipher.encrypt_segment_into(&[], &NONCE, &mut segment);
+    GcmSegment::new(&SMALL_KEY).encrypt_segment_into(&[], &NONCE, &mut segment);
     expect_bytes(&rt, &segment, &EMPTY, "the segment");
-    let told = cipher.decrypt_segment_into(&EMPTY, &NONCE, &mut []);
-    expect(&rt, told, Ok(()), "the answer");
+    expect(&rt, opened_empty(&EMPTY), Ok(()), "the answer");
 }
 
 // A segment under a nonce that the large key refuses.
@@ -67,54 +81,79 @@ fn expect_refusal(rt: &impl Abort, segment: &[u8; 54], nonce: &[u8; 12], label: 
     expect_bytes(rt, &out, &[7; 38], label);
 }
 
+// The segment with a bit exchanged is refused.
+fn expect_change(rt: &impl Abort, place: usize) {
+    let mut changed = LARGE;
+    if let Some(byte) = changed.get_mut(place) {
+        *byte ^= 1;
+    }
+    expect_refusal(rt, &changed, &NONCE, "a changed byte");
+}
+
 #[test]
 fn refuses_a_changed_byte_and_another_nonce(rt: HostRuntime) {
-    for place in [0usize, 37, 38, 53] {
-        let mut changed = LARGE;
-        changed[place] ^= 1;
-        expect_refusal(&rt, &changed, &NONCE, "a changed byte");
-    }
+    expect_change(&rt, 0);
+    expect_change(&rt, 37);
+    expect_change(&rt, 38);
+    expect_change(&rt, 53);
     expect_refusal(&rt, &LARGE, &[1; 12], "another nonce");
     expect_refusal(&rt, &SMALL, &NONCE, "the segment of another key");
 }
 
 #[test]
 fn refuses_15_bytes(rt: HostRuntime) {
-    let told = GcmSegment::new(&SMALL_KEY).decrypt_segment_into(&EMPTY[..15], &NONCE, &mut []);
-    assert_eq!(rt; told, Err(TinkError::new(Kind::DecryptFailed)));
+    let refused = Err(TinkError::new(Kind::DecryptFailed));
+    expect(&rt, opened_empty(&EMPTY[..15]), refused, "15 bytes");
+}
+
+// What came in memory of its own.
+fn expect_made(rt: &impl Abort, made: Bytes, want: &[u8], label: &str) {
+    expect_bytes(rt, made.as_slice(), want, label);
+}
+
+fn small_sealed(alloc: Global) -> Result<Bytes, TinkError> {
+    GcmSegment::new(&SMALL_KEY).encrypt_segment(alloc, TEXT, &NONCE)
+}
+
+fn small_opened(alloc: Global) -> Result<Bytes, TinkError> {
+    GcmSegment::new(&SMALL_KEY).decrypt_segment(alloc, &SMALL, &NONCE)
 }
 
 #[test]
 fn segments_in_memory_of_their_own(rt: HostRuntime) -> Result<(), Fail> {
     let alloc = rt.alloc();
-    let cipher = GcmSegment::new(&SMALL_KEY);
-    let segment = cipher.encrypt_segment(alloc, TEXT, &NONCE)?;
-    expect_bytes(&rt, segment.as_slice(), &SMALL, "the segment");
-    let text = cipher.decrypt_segment(alloc, &SMALL, &NONCE)?;
-    expect_bytes(&rt, text.as_slice(), TEXT, "the text");
+    expect_made(&rt, small_sealed(alloc)?, &SMALL, "the segment");
+    expect_made(&rt, small_opened(alloc)?, TEXT, "the text");
     Ok(())
+}
+
+// Segments by GCM as the kind of either cipher.
+fn by_gcm() -> StreamSegment
+    ensures { nonce_length_by result ≡ 12 }
+{
+    StreamSegment::Gcm(GcmSegment::new(&LARGE_KEY))
+}
+
+fn gcm_sealed(alloc: Global) -> Result<Bytes, TinkError> {
+    by_gcm().encrypt_segment(alloc, TEXT, &NONCE)
+}
+
+fn gcm_opened(alloc: Global) -> Result<Bytes, TinkError> {
+    by_gcm().decrypt_segment(alloc, &LARGE, &NONCE)
+}
+
+// By how many bytes a segment is longer, as the sealing and as the opening side tell it.
+fn expect_overhead(rt: &impl Abort, cipher: StreamSegment, want: usize) {
+    expect(rt, SegmentEncrypter::overhead(&cipher), want, "sealing");
+    expect(rt, SegmentDecrypter::overhead(&cipher), want, "opening");
 }
 
 #[test]
 fn the_kind_of_gcm_is_that_cipher(rt: HostRuntime) -> Result<(), Fail> {
     let alloc = rt.alloc();
-    let cipher = StreamSegment::Gcm(GcmSegment::new(&LARGE_KEY));
-    expect(
-        &rt,
-        SegmentEncrypter::overhead(&cipher),
-        16,
-        "bytes that a segment has more",
-    );
-    expect(
-        &rt,
-        SegmentDecrypter::overhead(&cipher),
-        16,
-        "bytes that a text has less",
-    );
-    let segment = cipher.encrypt_segment(alloc, TEXT, &NONCE)?;
-    expect_bytes(&rt, segment.as_slice(), &LARGE, "the segment");
-    let text = cipher.decrypt_segment(alloc, &LARGE, &NONCE)?;
-    expect_bytes(&rt, text.as_slice(), TEXT, "the text");
+    expect_overhead(&rt, by_gcm(), 16);
+    expect_made(&rt, gcm_sealed(alloc)?, &LARGE, "the segment");
+    expect_made(&rt, gcm_opened(alloc)?, TEXT, "the text");
     Ok(())
 }
 
@@ -125,15 +164,32 @@ fn ctr_hmac() -> CtrHmacSegment
     CtrHmacSegment::new(&SMALL_KEY, &LARGE_KEY, Hash::Sha256, 12)
 }
 
+// The text's segment by them.
+fn in_counter_mode() -> [u8; 50] {
+    let mut segment = [0u8; 50];
+    ctr_hmac().encrypt_segment_into(TEXT, &SMALL_KEY, &mut segment);
+    segment
+}
+
+fn by_counter_mode() -> StreamSegment
+    ensures { nonce_length_by result ≡ 16 }
+{
+    StreamSegment::CtrHmac(ctr_hmac())
+}
+
+fn counter_mode_sealed(alloc: Global) -> Result<Bytes, TinkError> {
+    by_counter_mode().encrypt_segment(alloc, TEXT, &SMALL_KEY)
+}
+
+fn counter_mode_opened(alloc: Global, segment: &[u8; 50]) -> Result<Bytes, TinkError> {
+    by_counter_mode().decrypt_segment(alloc, segment, &SMALL_KEY)
+}
+
 #[test]
 fn the_kind_of_counter_mode_is_that_cipher(rt: HostRuntime) -> Result<(), Fail> {
     let alloc = rt.alloc();
-    let mut want = [0u8; 50];
-    ctr_hmac().encrypt_segment_into(TEXT, &SMALL_KEY, &mut want);
-    let cipher = StreamSegment::CtrHmac(ctr_hmac());
-    let segment = cipher.encrypt_segment(alloc, TEXT, &SMALL_KEY)?;
-    expect_bytes(&rt, segment.as_slice(), &want, "the segment");
-    let text = cipher.decrypt_segment(alloc, &want, &SMALL_KEY)?;
-    expect_bytes(&rt, text.as_slice(), TEXT, "the text");
+    let want = in_counter_mode();
+    expect_made(&rt, counter_mode_sealed(alloc)?, &want, "the segment");
+    expect_made(&rt, counter_mode_opened(alloc, &want)?, TEXT, "the text");
     Ok(())
 }

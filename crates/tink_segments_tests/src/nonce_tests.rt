@@ -14,18 +14,32 @@ fn is_key_size(n: usize) -> bool {
     }
 }
 
+// How many sizes below this one are those of keys.
+fn key_sizes(most: usize) -> usize {
+    let mut count = 0;
+    for n in 0..most {
+        if is_key_size(n) {
+            count += 1;
+        }
+    }
+    count
+}
+
+// What no variant is answered by.
+fn refusal(n: usize) -> Option<TinkError> {
+    match validate_aes_key_size(n) {
+        Ok(_) => None,
+        Err(e) => Some(e),
+    }
+}
+
 #[test]
 fn keys_have_two_sizes(rt: HostRuntime) {
-    for n in 0..40usize {
-        assert!(rt; is_key_size(n) == (n == 16 || n == 32), "at {n}");
-    }
-    let refused = validate_aes_key_size(24).map(|_| ());
-    expect(
-        &rt,
-        refused,
-        Err(TinkError::new(Kind::BadKeySize)),
-        "a key of 24 bytes",
-    );
+    expect(&rt, key_sizes(40), 2, "how many sizes below 40");
+    expect(&rt, is_key_size(16), true, "16 bytes");
+    expect(&rt, is_key_size(32), true, "32 bytes");
+    let refused = Some(TinkError::new(Kind::BadKeySize));
+    expect(&rt, refusal(24), refused, "a key of 24 bytes");
 }
 
 // The nonce of a segment, in the place of nines, and what the call answers.

@@ -1,4 +1,4 @@
--- Opening at the front of held bytes, told of all bytes that are held or left.
+-- Opening at the head of held bytes, told of all bytes that are held or left.
 use Rattle.std.proofs.Common.{◌≡◌, ◌⊎◌, inl, inr, ◌≤◌, ◌<◌, ◌-◌, ◌^◌, ℕ, zero, suc, Bool, true, false, List, [], ◌∷◌, ◌++◌, length, take, drop, Some, None, IfSome, ap, sym, ◌∙◌, arith, length-append}
 use Rattle.std.proofs.lemmas.List.{append-nil, length-take, take-append-le, drop-append-le, take_all}
 use Rattle.std.proofs.lemmas.Bool.{le-leb, lt-leb}
@@ -84,7 +84,7 @@ some_left size None r1 H h some = tt
 some_left size (Some X) None H h some = absurd h.all
 some_left size (Some X) (Some Y) H h some = omega (arith, ap length h.all, length-append H Y)
 
--- the next chunk stands in front of what is held
+-- the next chunk is the prefix of what is held
 next_chunk : (size : ℕ) (H X Y : List ℕ) → IsHeld size (Some X) H (Some Y) → take size X ≡ take size H
 next_chunk size H X Y h = elim (fits_or_not (length H) size) [
   | inl fits ↦ ap (take size) (all_held H X Y h.all (h.end fits))

@@ -13,7 +13,7 @@ held_more (Some x) None c xs ys p q = absurd p
 held_more (Some x) (Some y) None xs ys p q = absurd q
 held_more (Some x) (Some y) (Some z) xs ys p q = append_assoc xs ys z ∙ ap (λ l. xs ++ l) (sym q) ∙ p
 
--- the front of a buffer after a read into its middle
+-- the prefix of a buffer after a read into its middle
 pub front_read : (n k m : ℕ) (xs ys : List ℕ) → n ≤ length xs → m ≤ length ys → take (n + m) (put_mid n k xs ys) ≡ take n xs ++ take m ys
 front_read n k m xs ys h e =
     let l : length (take n xs) ≡ n = omega (arith, length-take n xs) in

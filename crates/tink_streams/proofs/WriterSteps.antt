@@ -20,7 +20,7 @@ proceeds_start a b i held buf n =
     let e : (held ++ take n buf) ++ drop n buf ≡ held ++ buf = rw append_assoc (ap (λ x. held ++ x) (take-append-drop n buf)) in
     record { chunks = ap (full_chunks (room_at a b i) b) e; last = ap (open_chunk (room_at a b i) b) e; number = omega arith }
 
--- a full chunk is the front
+-- a full chunk is the prefix of its length
 front_is : (n : ℕ) (held rest : List ℕ) → length held ≡ n → take n (held ++ rest) ≡ held
 front_is n held rest e = subst (λ (k : ℕ). take k (held ++ rest) ≡ held) e (take-append_seam held rest)
 
@@ -63,12 +63,12 @@ pub stands : (a b i0 : ℕ) (R0 : List ℕ) (done : List (List ℕ)) (i : ℕ) (
     → length held ≡ room_at a b i → 0 < length rest → 0 < room_at a b i → 0 < b → full_chunks (room_at a b i0) b R0 ≡ done ++ (held ∷ full_chunks b b rest)
 stands a b i0 R0 done i held rest h e s p q = sym h.chunks ∙ ap (λ x. done ++ x) (full_is a b i held rest e s p q)
 
--- bytes and then a front of more are a front of both
+-- bytes and then a prefix of more are a prefix of both
 pub then_front : (a b c : Option (List ℕ)) (xs ys : List ℕ) → Appends a b xs → AppendsFront b c ys → AppendsFront a c (xs ++ ys)
 then_front a b c xs ys p q =
     (length xs + q.0, omega (arith, q.1, length-append xs ys), rw take-append-add (Appends-trans a b c xs (take q.0 ys) p q.2))
 
--- a front of a text is a front of a longer one
+-- a prefix of a text is a prefix of a longer one
 pub front_of_more : (a b : Option (List ℕ)) (xs ys : List ℕ) → AppendsFront a b xs → AppendsFront a b (xs ++ ys)
 front_of_more a b xs ys q =
     (q.0, omega (arith, q.1, length-append xs ys), subst (Appends a b) (sym (take-append-le q.0 xs ys q.1)) q.2)
@@ -80,7 +80,7 @@ one_more seg a b c i0 i done held e p q =
     let one : seg i false held ≡ unmarked seg (i0 + length done) (held ∷ []) = ap (λ n. seg n false held) e ∙ sym (append-nil (seg (i0 + length done) false held)) in
     subst (Appends a c) (ap (λ x. unmarked seg i0 done ++ x) one ∙ sym (unmarked-append seg i0 done (held ∷ []))) (Appends-trans a b c _ _ p q)
 
--- a front of one more segment
+-- a prefix of one more segment
 pub one_begun : (seg : ℕ → Bool → List ℕ → List ℕ) (a b c : Option (List ℕ)) (i0 i : ℕ) (done : List (List ℕ)) (held : List ℕ) (more all : List (List ℕ))
     → i ≡ i0 + length done → all ≡ done ++ (held ∷ more) → Appends a b (unmarked seg i0 done) → AppendsFront b c (seg i false held) → AppendsFront a c (unmarked seg i0 all)
 one_begun seg a b c i0 i done held more all e s p q =

@@ -15,7 +15,7 @@ use Rattle.tink_io.specs.declared.error.Kind.TheVariants.{WriteFault, TooManySeg
 use Rattle.tink_io.specs.declared.error.Kind.TheVariants as kind
 use Rattle.tink_io.specs.declared.error.TinkError.{TinkError}
 use Rattle.tink_streams.specs.declared.writing.Mode.TheVariants.{Open}
-use Rattle.tink_streams.specs.Writing.{Moment, filled, StopsAt, Wrote, WroteFront, WroteAll, WriteRefused, ClosedBy, ClosedShort, CloseMeans}
+use Rattle.tink_streams.specs.Writing.{Moment, filled, StopsAt, Wrote, WroteFront, WroteAll, WriteRefused, ClosedBy, ClosedShort, CloseMeans, PutMeans}
 use Rattle.tink_streams.proofs.WriterSteps.{then_front, one_begun}
 use Rattle.tink_streams.proofs.FrontFacts.{fits_or_not}
 
@@ -93,7 +93,7 @@ wrote_then_front seg a b m n o R S p q later w v =
       rose = let r = v.rose in omega arith;
     }
 
--- a front of all the segments was written
+-- a prefix of all the segments was written
 pub stops_front : (seg : ℕ → Bool → List ℕ → List ℕ) (first number : ℕ) (chunks : List (List ℕ)) (old new : Option (List ℕ)) → StopsAt seg first number chunks old new → AppendsFront old new (unmarked seg first chunks)
 stops_front seg first number chunks old new s = one_begun seg old s.between new first number s.done s.next s.more chunks s.counted s.split s.whole s.front
 
@@ -169,9 +169,14 @@ closed_whole seg a b m n o R f w c = (
   omega (arith, c.counted, w.counted, f.number, ap length (fresh_filled a b m R f), length-chunks a b R),
 )
 
--- where the sink failed at the last segment, it has a front of them
+-- where the sink failed at the last segment, it has a prefix of them
 pub closed_front : (seg : ℕ → Bool → List ℕ → List ℕ) (a b : ℕ) (m n o : Moment) (R : List ℕ) → IsFresh m → Wrote seg a b m n R → ClosedShort seg n o → AppendsFront m.got o.got (sealed seg a b R)
 closed_front seg a b m n o R f w c = subst (AppendsFront m.got o.got) (whole seg a b m n R f w) (then_front m.got n.got o.got _ _ w.appended c.begun)
+
+-- putting the last segment closes a writer
+pub put_closes : (seg : ℕ → Bool → List ℕ → List ℕ) (m n : Moment) (r : Result (Unit {0}) TinkError) → m.mode ≡ Open → PutMeans seg true m n r → CloseMeans seg m n r
+put_closes seg m n (Ok u) was p = inl (record { was_open = was; is_closed = p.mode; appended = p.appended; counted = p.counted })
+put_closes seg m n (Err e) was p = rw p.kind (record { was_open = was; failed = p.failed; counted = p.counted; begun = p.begun; rose = p.rose })
 
 -- closing that went well after a text
 pub close_ok : (seg : ℕ → Bool → List ℕ → List ℕ) (a b : ℕ) (m n o : Moment) (R : List ℕ) (r : Result (Unit {0}) TinkError) → IsFresh m → Wrote seg a b m n R → CloseMeans seg n o r

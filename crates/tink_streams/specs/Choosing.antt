@@ -6,6 +6,10 @@ use Rattle.tink_io.specs.Faults.{Rose}
 use Rattle.tink_io.specs.declared.error.Kind.{Kind}
 use Rattle.tink_io.specs.declared.error.Kind.TheVariants.{NoMatchingKey, ReadFault}
 
+-- the sizes of the first and of each later segment, and by how much a segment is longer than its text, are the key's
+abbrev pub HasSizesOf : OpeningKey → ℕ → ℕ → ℕ → Type 0
+HasSizesOf k first size overhead = (first ≡ k.first) × (size ≡ k.size) × (overhead ≡ k.overhead)
+
 -- the segments are those of the key under the stream's header, with its sizes
 pub record IsOpenerOf (k : OpeningKey) (X : List ℕ) (seg : ℕ → Bool → List ℕ → List ℕ) (header first size overhead : ℕ) : Type 0 where
   pub map : k.seg (take k.header X) ≡ Some seg

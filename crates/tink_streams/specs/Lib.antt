@@ -7,3 +7,6 @@ pub mod Full
 pub mod Writers
 pub mod TextReading
 pub mod Readers
+pub mod Sealers
+pub mod Openers
+pub mod Keeping

@@ -24,9 +24,9 @@ pub record Moment : Type 0 where
 
 -- the texts' segments lead from the chunks of the one rest to those of the other
 abbrev pub TellsLeads : (ℕ → Bool → List ℕ → List ℕ) → ℕ → ℕ → ℕ → Option (List ℕ) → List (List ℕ) → Option (List ℕ) → Type 0
-TellsLeads seg a b i None texts new = Unit {0}
-TellsLeads seg a b i (Some X) texts None = ⊥
-TellsLeads seg a b i (Some X) texts (Some Y) = Leads seg i (cut (room_at a b i) b X) texts (cut (room_at a b (i + length texts)) b Y)
+TellsLeads seg first size i None texts new = Unit {0}
+TellsLeads seg first size i (Some X) texts None = ⊥
+TellsLeads seg first size i (Some X) texts (Some Y) = Leads seg i (cut (room_at first size i) size X) texts (cut (room_at first size (i + length texts)) size Y)
 
 abbrev pub HasNotFailed : Progress → Type 0
 HasNotFailed Running = Unit {0}
@@ -34,11 +34,11 @@ HasNotFailed Ended = Unit {0}
 HasNotFailed (Failed c) = ⊥
 
 -- the next segment was opened: it is the last one where the reader has ended
-pub record OpensNext (seg : ℕ → Bool → List ℕ → List ℕ) (a b : ℕ) (old new : Moment) : Type 0 where
-  pub leads : TellsLeads seg a b old.number old.rest (new.opened ∷ []) new.rest
+pub record OpensNext (seg : ℕ → Bool → List ℕ → List ℕ) (first size : ℕ) (old new : Moment) : Type 0 where
+  pub leads : TellsLeads seg first size old.number old.rest (new.opened ∷ []) new.rest
   pub number : new.number ≡ old.number + 1
   pub lives : HasNotFailed new.progress
-  pub fits : length new.opened ≤ b
+  pub fits : length new.opened ≤ size
   pub goes_on : new.progress ≡ Running → 0 < length new.opened
   pub ends : new.progress ≡ Ended → IsAtEnd new.rest
 
@@ -55,41 +55,41 @@ pub record ReadFailed (old new : Moment) : Type 0 where
 
 -- no text agrees with what is left
 abbrev pub NothingComes : (ℕ → Bool → List ℕ → List ℕ) → ℕ → ℕ → Moment → Type 0
-NothingComes seg a b m = IfSome m.rest (λ X. Agree seg m.number (cut (room_at a b m.number) b X) [])
+NothingComes seg first size m = IfSome m.rest (λ X. Agree seg m.number (cut (room_at first size m.number) size X) [])
 
 -- the next chunk
 abbrev pub chunk_at : ℕ → ℕ → ℕ → List ℕ → List ℕ
-chunk_at a b i X = take (room_at a b i) X
+chunk_at first size i X = take (room_at first size i) X
 
 -- the next chunk is shorter than any segment; an end before it is that of an empty stream
-pub record IsTruncated (seg : ℕ → Bool → List ℕ → List ℕ) (a b overhead : ℕ) (old new : Moment) (n : ℕ) : Type 0 where
+pub record IsTruncated (seg : ℕ → Bool → List ℕ → List ℕ) (first size overhead : ℕ) (old new : Moment) (n : ℕ) : Type 0 where
   pub fails : FailsBy (cause.Truncated n) old new
-  pub nothing : NothingComes seg a b old
+  pub nothing : NothingComes seg first size old
   pub number : n ≡ old.number
-  pub short : IfSome old.rest (λ X. ((length (chunk_at a b old.number X) < overhead) ⊎ (X ≡ [])) × (0 < old.number → 0 < length X))
+  pub short : IfSome old.rest (λ X. ((length (chunk_at first size old.number X) < overhead) ⊎ (X ≡ [])) × (0 < old.number → 0 < length X))
 
 -- the next chunk is no shorter, and is the segment of no text
-pub record IsBad (seg : ℕ → Bool → List ℕ → List ℕ) (a b overhead : ℕ) (old new : Moment) (n : ℕ) : Type 0 where
+pub record IsBad (seg : ℕ → Bool → List ℕ → List ℕ) (first size overhead : ℕ) (old new : Moment) (n : ℕ) : Type 0 where
   pub fails : FailsBy (cause.BadSegment n) old new
-  pub nothing : NothingComes seg a b old
+  pub nothing : NothingComes seg first size old
   pub number : n ≡ old.number
-  pub long : IfSome old.rest (λ X. overhead ≤ length (chunk_at a b old.number X))
+  pub long : IfSome old.rest (λ X. overhead ≤ length (chunk_at first size old.number X))
 
 -- some bytes follow the last number
-pub record HasTooMany (seg : ℕ → Bool → List ℕ → List ℕ) (a b : ℕ) (old new : Moment) : Type 0 where
+pub record HasTooMany (seg : ℕ → Bool → List ℕ → List ℕ) (first size : ℕ) (old new : Moment) : Type 0 where
   pub fails : FailsBy cause.TooManySegments old new
-  pub nothing : NothingComes seg a b old
+  pub nothing : NothingComes seg first size old
   pub number : old.number ≡ 2 ^ 32
   pub more : IfSome old.rest (λ X. 0 < length X)
 
 -- each refusal
 abbrev pub OpenRefused : (ℕ → Bool → List ℕ → List ℕ) → ℕ → ℕ → ℕ → Moment → Moment → Kind → Type 0
-OpenRefused seg a b overhead old new ReadFault = ReadFailed old new
-OpenRefused seg a b overhead old new TooManySegments = HasTooMany seg a b old new
-OpenRefused seg a b overhead old new (BadSegment n) = IsBad seg a b overhead old new n
-OpenRefused seg a b overhead old new (Truncated n) = IsTruncated seg a b overhead old new n
-OpenRefused seg a b overhead old new _ = ⊥
+OpenRefused seg first size overhead old new ReadFault = ReadFailed old new
+OpenRefused seg first size overhead old new TooManySegments = HasTooMany seg first size old new
+OpenRefused seg first size overhead old new (BadSegment n) = IsBad seg first size overhead old new n
+OpenRefused seg first size overhead old new (Truncated n) = IsTruncated seg first size overhead old new n
+OpenRefused seg first size overhead old new _ = ⊥
 
 abbrev pub OpenMeans : (ℕ → Bool → List ℕ → List ℕ) → ℕ → ℕ → ℕ → Moment → Moment → Result (Unit {0}) TinkError → Type 0
-OpenMeans seg a b overhead old new (Ok _) = OpensNext seg a b old new
-OpenMeans seg a b overhead old new (Err e) = OpenRefused seg a b overhead old new e.kind
+OpenMeans seg first size overhead old new (Ok _) = OpensNext seg first size old new
+OpenMeans seg first size overhead old new (Err e) = OpenRefused seg first size overhead old new e.kind

@@ -44,12 +44,12 @@ pub record AtEnd (m : Moment) : Type 0 where
   pub rest : IsAtEnd m.rest
 
 -- text is ready to be given, unless the end is reached: the next segment was opened where it was due
-pub record IsReady (seg : ℕ → Bool → List ℕ → List ℕ) (a b : ℕ) (old new : Moment) : Type 0 where
+pub record IsReady (seg : ℕ → Bool → List ℕ → List ℕ) (first size : ℕ) (old new : Moment) : Type 0 where
   pub lives : HasNotFailed new.progress
   pub texts : List (List ℕ)
   pub due : 0 < length texts → IsDue old 1
   pub one : IsDue old 1 → length texts ≡ 1
-  pub leads : TellsLeads seg a b old.number old.rest texts new.rest
+  pub leads : TellsLeads seg first size old.number old.rest texts new.rest
   pub number : new.number ≡ old.number + length texts
   pub pending : old.pending ++ joined texts ≡ new.pending
   pub still : texts ≡ [] → new ≡ old
@@ -57,13 +57,13 @@ pub record IsReady (seg : ℕ → Bool → List ℕ → List ℕ) (a b : ℕ) (o
   pub ends : new.progress ≡ Ended → IsAtEnd new.rest
 
 -- n bytes were given, as many as there are and have room: at most one segment was opened, and that where it was due
-pub record Gives (seg : ℕ → Bool → List ℕ → List ℕ) (a b : ℕ) (old new : Moment) (before after : List ℕ) (n : ℕ) : Type 0 where
+pub record Gives (seg : ℕ → Bool → List ℕ → List ℕ) (first size : ℕ) (old new : Moment) (before after : List ℕ) (n : ℕ) : Type 0 where
   pub was : HasNotFailed old.progress
   pub lives : HasNotFailed new.progress
   pub texts : List (List ℕ)
   pub due : 0 < length texts → IsDue old (length before)
   pub one : IsDue old (length before) → length texts ≡ 1
-  pub leads : TellsLeads seg a b old.number old.rest texts new.rest
+  pub leads : TellsLeads seg first size old.number old.rest texts new.rest
   pub number : new.number ≡ old.number + length texts
   pub given : old.pending ++ joined texts ≡ take n after ++ new.pending
   pub count : n ≡ min (length before) (length (old.pending ++ joined texts))
@@ -74,35 +74,35 @@ pub record Gives (seg : ℕ → Bool → List ℕ → List ℕ) (a b : ℕ) (old
 
 -- each refusal of a read, which has failed before or opened nothing
 abbrev pub ReadRefused : (ℕ → Bool → List ℕ → List ℕ) → ℕ → ℕ → ℕ → Moment → Moment → ℕ → Kind → Type 0
-ReadRefused seg a b overhead old new room ReadFault = IsDue old room × ReadFailed (of_segments old) (of_segments new)
-ReadRefused seg a b overhead old new room TooManySegments = IsDue old room × HasTooMany seg a b (of_segments old) (of_segments new)
-ReadRefused seg a b overhead old new room (BadSegment n) = IsDue old room × IsBad seg a b overhead (of_segments old) (of_segments new) n
-ReadRefused seg a b overhead old new room (Truncated n) = IsDue old room × IsTruncated seg a b overhead (of_segments old) (of_segments new) n
-ReadRefused seg a b overhead old new room (FailedBefore c) = (old.progress ≡ Failed c) × (new ≡ old)
-ReadRefused seg a b overhead old new room _ = ⊥
+ReadRefused seg first size overhead old new room ReadFault = IsDue old room × ReadFailed (of_segments old) (of_segments new)
+ReadRefused seg first size overhead old new room TooManySegments = IsDue old room × HasTooMany seg first size (of_segments old) (of_segments new)
+ReadRefused seg first size overhead old new room (BadSegment n) = IsDue old room × IsBad seg first size overhead (of_segments old) (of_segments new) n
+ReadRefused seg first size overhead old new room (Truncated n) = IsDue old room × IsTruncated seg first size overhead (of_segments old) (of_segments new) n
+ReadRefused seg first size overhead old new room (FailedBefore c) = (old.progress ≡ Failed c) × (new ≡ old)
+ReadRefused seg first size overhead old new room _ = ⊥
 
 -- what a read to a buffer answers, and what the buffer and the reader then are
 abbrev pub ReadMeans : (ℕ → Bool → List ℕ → List ℕ) → ℕ → ℕ → ℕ → Moment → Moment → List ℕ → List ℕ → Result ℕ TinkError → Type 0
-ReadMeans seg a b overhead old new before after (Ok n) = Gives seg a b old new before after n
-ReadMeans seg a b overhead old new before after (Err e) = (after ≡ before) × ReadRefused seg a b overhead old new (length before) e.kind
+ReadMeans seg first size overhead old new before after (Ok n) = Gives seg first size old new before after n
+ReadMeans seg first size overhead old new before after (Err e) = (after ≡ before) × ReadRefused seg first size overhead old new (length before) e.kind
 
 -- what getting text ready answers
 abbrev pub ReadyMeans : (ℕ → Bool → List ℕ → List ℕ) → ℕ → ℕ → ℕ → Moment → Moment → Result (Unit {0}) TinkError → Type 0
-ReadyMeans seg a b overhead old new (Ok _) = IsReady seg a b old new
-ReadyMeans seg a b overhead old new (Err e) = IsDue old 1 × OpenRefused seg a b overhead (of_segments old) (of_segments new) e.kind
+ReadyMeans seg first size overhead old new (Ok _) = IsReady seg first size old new
+ReadyMeans seg first size overhead old new (Err e) = IsDue old 1 × OpenRefused seg first size overhead (of_segments old) (of_segments new) e.kind
 
 -- from a reader over all bytes on, that had opened nothing, reads have given these bytes
-pub record Gave (seg : ℕ → Bool → List ℕ → List ℕ) (a b : ℕ) (all : Option (List ℕ)) (given : List ℕ) (m : Moment) : Type 0 where
+pub record Gave (seg : ℕ → Bool → List ℕ → List ℕ) (first size : ℕ) (all : Option (List ℕ)) (given : List ℕ) (m : Moment) : Type 0 where
   pub texts : List (List ℕ)
   pub number : m.number ≡ length texts
-  pub leads : TellsLeads seg a b 0 all texts m.rest
+  pub leads : TellsLeads seg first size 0 all texts m.rest
   pub given_is : joined texts ≡ given ++ m.pending
 
 -- all chunks are the segments of some texts, and these bytes are those texts joined
-pub record IsWhole (seg : ℕ → Bool → List ℕ → List ℕ) (a b : ℕ) (all : Option (List ℕ)) (given : List ℕ) : Type 0 where
+pub record IsWhole (seg : ℕ → Bool → List ℕ → List ℕ) (first size : ℕ) (all : Option (List ℕ)) (given : List ℕ) : Type 0 where
   pub texts : List (List ℕ)
   pub some : 0 < length texts
-  pub leads : IfSome all (λ X. Leads seg 0 (cut a b X) texts [])
+  pub leads : IfSome all (λ X. Leads seg 0 (cut first size X) texts [])
   pub given_is : given ≡ joined texts
 
 -- all bytes are the segments of some texts with these rooms, and these bytes are those texts joined
@@ -112,7 +112,7 @@ pub record IsTextOf (seg : ℕ → Bool → List ℕ → List ℕ) (first room :
   pub given_is : given ≡ joined texts
 
 -- these bytes are the longest list of texts that agrees with the chunks, joined
-pub record IsLongest (seg : ℕ → Bool → List ℕ → List ℕ) (a b : ℕ) (all : Option (List ℕ)) (given : List ℕ) : Type 0 where
+pub record IsLongest (seg : ℕ → Bool → List ℕ → List ℕ) (first size : ℕ) (all : Option (List ℕ)) (given : List ℕ) : Type 0 where
   pub texts : List (List ℕ)
-  pub agree : IfSome all (λ X. Agree seg 0 (cut a b X) texts)
+  pub agree : IfSome all (λ X. Agree seg 0 (cut first size X) texts)
   pub given_is : given ≡ joined texts

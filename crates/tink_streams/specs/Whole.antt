@@ -11,24 +11,24 @@ use Rattle.stream_model.specs.Cut.{cut}
 use Rattle.stream_model.specs.Agree.{Leads, Agree, joined}
 
 -- all chunks are the segments of these texts, which were written
-pub record WroteTexts (seg : ℕ → Bool → List ℕ → List ℕ) (a b : ℕ) (all got now : Option (List ℕ)) : Type 0 where
+pub record WroteTexts (seg : ℕ → Bool → List ℕ → List ℕ) (first size : ℕ) (all got now : Option (List ℕ)) : Type 0 where
   pub texts : List (List ℕ)
   pub some : 0 < length texts
-  pub leads : IfSome all (λ X. Leads seg 0 (cut a b X) texts [])
+  pub leads : IfSome all (λ X. Leads seg 0 (cut first size X) texts [])
   pub written : Appends got now (joined texts)
 
 -- the texts that agree were written, and what is said of the number of the next chunk holds
-pub record WroteAgreed (seg : ℕ → Bool → List ℕ → List ℕ) (a b : ℕ) (all got now : Option (List ℕ)) (P : ℕ → List ℕ → Type 0) : Type 0 where
+pub record WroteAgreed (seg : ℕ → Bool → List ℕ → List ℕ) (first size : ℕ) (all got now : Option (List ℕ)) (P : ℕ → List ℕ → Type 0) : Type 0 where
   pub texts : List (List ℕ)
-  pub agree : IfSome all (λ X. Agree seg 0 (cut a b X) texts)
+  pub agree : IfSome all (λ X. Agree seg 0 (cut first size X) texts)
   pub stops : IfSome all (P (length texts))
   pub written : Appends got now (joined texts)
 
--- the source or the sink failed: a front of some leading texts was written
-pub record WroteSome (seg : ℕ → Bool → List ℕ → List ℕ) (a b : ℕ) (all got now : Option (List ℕ)) (before after : ℕ) : Type 0 where
+-- the source or the sink failed: a prefix of some leading texts was written
+pub record WroteSome (seg : ℕ → Bool → List ℕ → List ℕ) (first size : ℕ) (all got now : Option (List ℕ)) (before after : ℕ) : Type 0 where
   pub rose : Rose before after
   pub texts : List (List ℕ)
-  pub leads : IfSome all (λ X. (rest : List (List ℕ)) × Leads seg 0 (cut a b X) texts rest)
+  pub leads : IfSome all (λ X. (rest : List (List ℕ)) × Leads seg 0 (cut first size X) texts rest)
   pub written : AppendsFront got now (joined texts)
 
 -- the faults of the source and of the sink, before and after
@@ -39,13 +39,13 @@ pub record Faults : Type 0 where
   pub write_after : ℕ
 
 abbrev pub AllRefused : (ℕ → Bool → List ℕ → List ℕ) → ℕ → ℕ → ℕ → Option (List ℕ) → Option (List ℕ) → Option (List ℕ) → Faults → Kind → Type 0
-AllRefused seg a b overhead all got now f ReadFault = WroteSome seg a b all got now f.read_before f.read_after
-AllRefused seg a b overhead all got now f WriteFault = WroteSome seg a b all got now f.write_before f.write_after
-AllRefused seg a b overhead all got now f TooManySegments = WroteAgreed seg a b all got now (λ n X. n ≡ 2 ^ 32)
-AllRefused seg a b overhead all got now f (BadSegment m) = WroteAgreed seg a b all got now (λ n X. (m ≡ n) × (overhead ≤ length (get_or (cut a b X) n [])))
-AllRefused seg a b overhead all got now f (Truncated m) = WroteAgreed seg a b all got now (λ n X. (m ≡ n) × ((length (get_or (cut a b X) n []) < overhead) ⊎ (get_or (cut a b X) n [] ≡ [])))
-AllRefused seg a b overhead all got now f _ = ⊥
+AllRefused seg first size overhead all got now f ReadFault = WroteSome seg first size all got now f.read_before f.read_after
+AllRefused seg first size overhead all got now f WriteFault = WroteSome seg first size all got now f.write_before f.write_after
+AllRefused seg first size overhead all got now f TooManySegments = WroteAgreed seg first size all got now (λ n X. n ≡ 2 ^ 32)
+AllRefused seg first size overhead all got now f (BadSegment m) = WroteAgreed seg first size all got now (λ n X. (m ≡ n) × (overhead ≤ length (get_or (cut first size X) n [])))
+AllRefused seg first size overhead all got now f (Truncated m) = WroteAgreed seg first size all got now (λ n X. (m ≡ n) × ((length (get_or (cut first size X) n []) < overhead) ⊎ (get_or (cut first size X) n [] ≡ [])))
+AllRefused seg first size overhead all got now f _ = ⊥
 
 abbrev pub AllMeans : (ℕ → Bool → List ℕ → List ℕ) → ℕ → ℕ → ℕ → Option (List ℕ) → Option (List ℕ) → Option (List ℕ) → Faults → Result (Unit {0}) TinkError → Type 0
-AllMeans seg a b overhead all got now f (Ok _) = WroteTexts seg a b all got now
-AllMeans seg a b overhead all got now f (Err e) = AllRefused seg a b overhead all got now f e.kind
+AllMeans seg first size overhead all got now f (Ok _) = WroteTexts seg first size all got now
+AllMeans seg first size overhead all got now f (Err e) = AllRefused seg first size overhead all got now f e.kind

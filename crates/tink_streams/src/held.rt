@@ -56,7 +56,7 @@ pub fn hold<S: Source>(
     fill(source, buffer, filled, size + 1)
 }
 
-// Brings the bytes from `place` up to `filled` to the front.
+// Brings the bytes from `place` up to `filled` to the start.
 pub fn carry(buffer: &mut Vec<u8>, place: usize, filled: usize)
     requires place { place ≤ filled }
     requires filled { filled ≤ vec_len buffer.old }

@@ -1,5 +1,4 @@
-ghost use Rattle.std.specs.Prelude.{◌≡◌, ◌≤◌, ◌<◌, ◌+◌, take, max, OnOk, OnErr, vec_len};
-ghost use Rattle.std.specs.Io.KnownBytes.{prepend_known};
+ghost use Rattle.std.specs.Prelude.{◌≡◌, ◌≤◌, ◌<◌, ◌+◌, max, OnOk, OnErr, vec_len};
 ghost use Rattle.tink_io.specs.Faults.{Rose};
 ghost use Rattle.tink_streams.specs.Opening.{IsHeld};
 
@@ -15,12 +14,13 @@ pub struct Kept {
 }
 
 impl Kept {
+    ghost use Rattle.tink_streams.specs.Keeping.{kept_bytes, kept_rest};
+
     /// Keeps more than `size` bytes, or all.
     pub fn keep<S: Source>(&mut self, source: &mut S, size: usize) -> Result<(), Failed>
         requires size { size < vec_len self.old.buffer }
-        ensures held { OnOk result (IsHeld size (prepend_known (take self.old.filled self.old.buffer.items)
-            (S.left source.old))
-            (take self.new.filled self.new.buffer.items) (S.left source.new)) }
+        ensures held { OnOk result (IsHeld size (kept_rest S.left self.old source.old) (kept_bytes self.new)
+            (S.left source.new)) }
         ensures most { OnOk result (self.new.filled ≤ max self.old.filled (size + 1)) }
         ensures more { self.old.filled ≤ self.new.filled }
         ensures len { vec_len self.new.buffer ≡ vec_len self.old.buffer }

@@ -6,17 +6,19 @@ ghost use Rattle.tink_streams.specs.Writing.{Moment, Wrote};
 /// A stream depends on its text alone, however the text is cut into writes: the writes of one text
 /// and then of another are the write of both at once.
 pub fn law_any_cutting()
-    ensures joined { (seg : ℕ → Bool → List ℕ → List ℕ) (a b : ℕ) (first between last : Moment) (text more : List ℕ)
-        → 0 < a → 0 < b
-        → Wrote seg a b first between text → Wrote seg a b between last more → Wrote seg a b first last (text ++ more) }
+    ensures joined { (seg : ℕ → Bool → List ℕ → List ℕ) (first room : ℕ) (old between new : Moment)
+        (text more : List ℕ) → 0 < first → 0 < room → Wrote seg first room old between text
+        → Wrote seg first room between new more → Wrote seg first room old new (text ++ more) }
 {}
 
-/// The segments of a text, the first with room for `a` bytes and each later one for `b`: all but the
-/// last are unmarked and full, and the marked last one is empty for the empty text alone.
+/// The segments of a text, the first with room for `first` bytes and each later one for `room`: all but
+/// the last are unmarked and full, and the marked last one is empty for the empty text alone.
 pub fn law_full_segments()
-    ensures parts { (seg : ℕ → Bool → List ℕ → List ℕ) (a b : ℕ) (text : List ℕ)
-        → sealed seg a b text ≡ unmarked seg 0 (full_chunks a b text) ++ seg (length (full_chunks a b text)) true
-        (open_chunk a b text) }
-    ensures full { (a b : ℕ) (text : List ℕ) → 0 < a → 0 < b → AreFull a b (full_chunks a b text) }
-    ensures last { (a b : ℕ) (text : List ℕ) → 0 < a → 0 < b → 0 < length text → 0 < length (open_chunk a b text) }
+    ensures parts { (seg : ℕ → Bool → List ℕ → List ℕ) (first room : ℕ) (text : List ℕ)
+        → sealed seg first room text ≡ unmarked seg 0 (full_chunks first room text)
+        ++ seg (length (full_chunks first room text)) true (open_chunk first room text) }
+    ensures full { (first room : ℕ) (text : List ℕ) → 0 < first → 0 < room
+        → AreFull first room (full_chunks first room text) }
+    ensures last { (first room : ℕ) (text : List ℕ) → 0 < first → 0 < room
+        → 0 < length text → 0 < length (open_chunk first room text) }
 {}

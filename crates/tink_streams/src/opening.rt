@@ -1,26 +1,10 @@
 ghost use Rattle.std.specs.Prelude.{◌≡◌, ◌≤◌, ◌<◌, ◌+◌, ◌^◌, ℕ, List, [], length, true, false, vec_len, vec_capacity};
-ghost use Rattle.stream_model.specs.Cut.{numbered, room_at};
+ghost use Rattle.stream_model.specs.Cut.{room_at};
+ghost use Rattle.tink_streams.specs.Openers.{segment_map};
 ghost use Rattle.tink_streams.specs.Opening.{OpensTo};
 
+use crate::opener::Opener;
 use tink_segment_traits::{SegmentDecrypter, generate_segment_nonce};
-
-/// How the segments of one stream are opened: the one-shot map, its nonces, and the sizes, in bytes
-/// of ciphertext, of the first and of each later segment.
-#[derive(Drop)]
-pub struct Opener<D: SegmentDecrypter> {
-    pub decrypter: D,
-    pub prefix: Vec<u8>,
-    pub nonce_size: usize,
-    pub overhead: usize,
-    pub first: usize,
-    pub size: usize,
-    ghost overhead_is: { overhead ≡ D.overhead_of decrypter },
-    ghost nonce_is: { nonce_size ≡ D.nonce_length decrypter },
-    ghost prefix_fits: { vec_len prefix + 5 ≤ nonce_size },
-    ghost some: { overhead < first },
-    ghost first_fits: { first ≤ size },
-    ghost small: { size < 2 ^ 32 },
-}
 
 // The size of a segment that others follow.
 pub fn size_of<D: SegmentDecrypter>(opener: &Opener<D>, number: u64) -> usize
@@ -46,11 +30,9 @@ fn open_into<D: SegmentDecrypter>(
     requires size { length segment.now ≤ opener.now.size }
     requires room { opener.now.size ≤ vec_capacity opened.old }
     requires nonce { length nonce.old ≡ opener.now.nonce_size }
-    ensures ok { result ≡ true → numbered (D.seg opener.now.decrypter) opener.now.nonce_size
-        opener.now.prefix.items number last opened.new.items ≡ segment.now }
+    ensures ok { result ≡ true → segment_map opener.now number last opened.new.items ≡ segment.now }
     ensures length { result ≡ true → vec_len opened.new + opener.now.overhead ≡ length segment.now }
-    ensures refused { result ≡ false → (t : List ℕ) → numbered (D.seg opener.now.decrypter) opener.now.nonce_size
-        opener.now.prefix.items number last t ≡ segment.now → ⊥ }
+    ensures refused { result ≡ false → (t : List ℕ) → segment_map opener.now number last t ≡ segment.now → ⊥ }
     ensures cleared { result ≡ false → opened.new.items ≡ [] }
     ensures capacity { vec_capacity opened.old ≤ vec_capacity opened.new }
 {
@@ -91,11 +73,9 @@ pub fn open_held<D: SegmentDecrypter>(
     requires size { length segment.now ≤ opener.now.size }
     requires room { opener.now.size ≤ vec_capacity opened.old }
     requires nonce { opener.now.nonce_size ≤ vec_len nonce.old }
-    ensures ok { result ≡ true → numbered (D.seg opener.now.decrypter) opener.now.nonce_size
-        opener.now.prefix.items number last opened.new.items ≡ segment.now }
+    ensures ok { result ≡ true → segment_map opener.now number last opened.new.items ≡ segment.now }
     ensures length { result ≡ true → vec_len opened.new + opener.now.overhead ≡ length segment.now }
-    ensures refused { result ≡ false → (t : List ℕ) → numbered (D.seg opener.now.decrypter) opener.now.nonce_size
-        opener.now.prefix.items number last t ≡ segment.now → ⊥ }
+    ensures refused { result ≡ false → (t : List ℕ) → segment_map opener.now number last t ≡ segment.now → ⊥ }
     ensures cleared { result ≡ false → opened.new.items ≡ [] }
     ensures capacity { vec_capacity opened.old ≤ vec_capacity opened.new }
     ensures nonce_len { vec_len nonce.new ≡ vec_len nonce.old }
@@ -110,7 +90,7 @@ pub fn open_held<D: SegmentDecrypter>(
     )
 }
 
-/// Opens the segment at the front of held bytes, which is the last one where nothing follows it.
+/// Opens the segment at the head of held bytes, which is the last one where nothing follows it.
 /// No bytes are no segment.
 pub fn open_front<D: SegmentDecrypter>(
     opener: &Opener<D>,
@@ -122,15 +102,13 @@ pub fn open_front<D: SegmentDecrypter>(
     requires number { number < 2 ^ 32 }
     requires room { opener.now.size ≤ vec_capacity opened.old }
     requires nonce { opener.now.nonce_size ≤ vec_len nonce.old }
-    ensures ok { result ≡ true → OpensTo (numbered (D.seg opener.now.decrypter) opener.now.nonce_size
-        opener.now.prefix.items)
-        number (room_at opener.now.first opener.now.size number) held.now opened.new.items }
+    ensures ok { result ≡ true → OpensTo (segment_map opener.now) number
+        (room_at opener.now.first opener.now.size number) held.now opened.new.items }
     ensures some { result ≡ true → room_at opener.now.first opener.now.size number < length held.now
         → 0 < vec_len opened.new }
     ensures fits { result ≡ true → vec_len opened.new ≤ opener.now.size }
-    ensures refused { result ≡ false → (t : List ℕ) → OpensTo
-        (numbered (D.seg opener.now.decrypter) opener.now.nonce_size opener.now.prefix.items)
-        number (room_at opener.now.first opener.now.size number) held.now t → ⊥ }
+    ensures refused { result ≡ false → (t : List ℕ) → OpensTo (segment_map opener.now) number
+        (room_at opener.now.first opener.now.size number) held.now t → ⊥ }
     ensures cleared { result ≡ false → opened.new.items ≡ [] }
     ensures capacity { vec_capacity opened.old ≤ vec_capacity opened.new }
     ensures nonce_len { vec_len nonce.new ≡ vec_len nonce.old }

@@ -3,7 +3,7 @@ ghost use Rattle.tink_segment_traits.specs.Sizes.{sizes_fault};
 ghost use Rattle.tink_streams.specs.declared.progress.Progress.TheVariants.{Running};
 
 use crate::buffers::Buffers;
-use crate::opening::Opener;
+use crate::opener::Opener;
 use crate::reading::SegmentReader;
 use crate::text_reader::TextReader;
 use std::marker::Model;
@@ -12,8 +12,8 @@ use tink_primitives::DecryptingRead;
 use tink_segment_traits::{SegmentDecrypter, check_sizes};
 
 /// What a reader is made of: a source, the one-shot map of its segments, the size of a nonce and the
-/// front of all nonces, the size of a segment, and how many bytes of the first one are taken by
-/// what stands in front of it. Sizes are in bytes.
+/// prefix of all nonces, the size of a segment, and how many bytes of the first one are taken by
+/// what stands before it. Sizes are in bytes.
 #[derive(Drop)]
 pub struct ReaderParams<R, D: SegmentDecrypter> {
     pub r: R,
@@ -35,39 +35,20 @@ pub struct Reader<R: Source, D: SegmentDecrypter> {
 }
 
 impl<R: Source, D: SegmentDecrypter> Model for Reader<R, D> {
-    ghost use Rattle.std.specs.Prelude.{◌≡◌, [], take, drop, vec_len};
-    ghost use Rattle.std.specs.Option.{ForSome};
-    ghost use Rattle.std.specs.Io.KnownBytes.{prepend_known};
     ghost use Rattle.tink_streams.specs.Readers.{ReaderState};
-    ghost use Rattle.tink_streams.specs.declared.progress.Progress.TheVariants.{Ended};
+    ghost use Rattle.tink_streams.specs.Openers.{IsSound, pending_text, reader_state};
 
     ghost Value = { ReaderState R D };
 
-    ghost view = { λ r. record {
-      opening = record {
-        decrypter = r.text.reader.opener.decrypter;
-        prefix = r.text.reader.opener.prefix.items;
-        nonce_size = r.text.reader.opener.nonce_size;
-        overhead = r.text.reader.opener.overhead;
-        first = r.text.reader.opener.first;
-        size = r.text.reader.opener.size;
-      };
-      progress = r.text.reader.progress;
-      number = r.text.reader.segments;
-      pending = drop r.text.given r.text.reader.opened.items;
-      held = take r.text.reader.filled r.text.reader.buffer.items;
-      room = vec_len r.text.reader.buffer;
-      source = r.source;
-    } };
+    ghost view = { λ r. reader_state r.text.reader (pending_text r.text) r.source };
 
-    ghost invariant = { λ r. r.text.reader.progress ≡ Ended
-        → ForSome (prepend_known (take r.text.reader.filled r.text.reader.buffer.items) (R.left r.source))
-        (λ xs. xs ≡ []) };
+    ghost invariant = { λ r. IsSound R.left r.text.reader r.source };
 }
 
 impl<R: Source + Drop, D: SegmentDecrypter + Drop> Reader<R, D> {
-    ghost use Rattle.tink_streams.specs.TextReading.{IsDue, ReadMeans, Moment};
+    ghost use Rattle.tink_streams.specs.TextReading.{IsDue, ReadMeans};
     ghost use Rattle.tink_streams.specs.Readers.{ReaderState, moment_of, seg_of};
+    ghost use Rattle.tink_streams.specs.Openers.{reader_state};
 
     /// A reader that has read nothing, with memory by `Buffers::reserve` for these sizes. The
     /// nonce's size, where it is not too short, is that of the decrypter.
@@ -142,22 +123,7 @@ impl<R: Source + Drop, D: SegmentDecrypter + Drop> Reader<R, D> {
     /// A reader of the text of segments, from the source that it is given for good.
     pub fn over(source: R, reader: SegmentReader<D>) -> Reader<R, D>
         requires running { reader.progress ≡ Running }
-        ensures { result ≡ record {
-          opening = record {
-            decrypter = reader.opener.decrypter;
-            prefix = reader.opener.prefix.items;
-            nonce_size = reader.opener.nonce_size;
-            overhead = reader.opener.overhead;
-            first = reader.opener.first;
-            size = reader.opener.size;
-          };
-          progress = reader.progress;
-          number = reader.segments;
-          pending = reader.opened.items;
-          held = take reader.filled reader.buffer.items;
-          room = vec_len reader.buffer;
-          source = source;
-        } }
+        ensures { result ≡ reader_state reader reader.opened.items source }
     {
         Reader {
             source,

@@ -1,12 +1,11 @@
 ghost use Rattle.std.specs.Prelude.{◌≡◌, ◌≤◌, ◌<◌, ◌^◌, [], take, vec_len, vec_capacity};
-ghost use Rattle.std.specs.Io.KnownBytes.{prepend_known};
-ghost use Rattle.stream_model.specs.Cut.{numbered};
 ghost use Rattle.tink_streams.specs.Reading.{HasNotFailed};
 ghost use Rattle.tink_streams.specs.declared.progress.Progress.TheVariants.{Running, Ended};
 
 use crate::buffers::Buffers;
 use crate::held::{carry, hold};
-use crate::opening::{Opener, open_front, size_of};
+use crate::opener::Opener;
+use crate::opening::{open_front, size_of};
 use crate::progress::Progress;
 use tink_io::{Cause, Kind, Source, TinkError};
 use tink_segment_traits::SegmentDecrypter;
@@ -48,18 +47,18 @@ fn progress_after(filled: usize) -> Progress
 }
 
 impl<D: SegmentDecrypter + Drop> SegmentReader<D> {
-    ghost use Rattle.tink_streams.specs.Reading.{OpenMeans, Moment};
+    ghost use Rattle.tink_streams.specs.Reading.{OpenMeans};
+    ghost use Rattle.tink_streams.specs.Openers.{held_bytes, reader_moment, segment_map};
 
     /// A reader that has opened nothing, and holds the first `filled` bytes of `buffers.sealed`.
     pub fn made(opener: Opener<D>, buffers: Buffers, filled: usize) -> SegmentReader<D>
-        requires text { buffers.text.items ≡ [] }
-        requires text_room { opener.size ≤ vec_capacity buffers.text }
+        requires text { (buffers.text.items ≡ []) × (opener.size ≤ vec_capacity buffers.text) }
         requires sealed_room { opener.size < vec_len buffers.sealed }
         requires filled { filled ≤ vec_len buffers.sealed }
         requires nonce_room { opener.nonce_size ≤ vec_len buffers.nonce }
         ensures progress { result.progress ≡ Running }
         ensures segments { result.segments ≡ 0 }
-        ensures held { take result.filled result.buffer.items ≡ take filled buffers.sealed.items }
+        ensures held { held_bytes result ≡ take filled buffers.sealed.items }
         ensures room { vec_len result.buffer ≡ vec_len buffers.sealed }
         ensures opened { result.opened.items ≡ [] }
         ensures opener { result.opener ≡ opener }
@@ -83,24 +82,9 @@ impl<D: SegmentDecrypter + Drop> SegmentReader<D> {
     /// chunk is the segment of no text. The reader has then failed, and has opened nothing.
     pub fn open_next<S: Source>(&mut self, source: &mut S) -> Result<(), TinkError>
         requires running { self.old.progress ≡ Running }
-        ensures answer { OpenMeans (numbered (D.seg self.old.opener.decrypter) self.old.opener.nonce_size
-            self.old.opener.prefix.items)
-            self.old.opener.first self.old.opener.size self.old.opener.overhead
-            (record {
-              progress = self.old.progress;
-              number = self.old.segments;
-              opened = self.old.opened.items;
-              rest = prepend_known (take self.old.filled self.old.buffer.items) (S.left source.old);
-              faults = S.faults source.old;
-            })
-            (record {
-              progress = self.new.progress;
-              number = self.new.segments;
-              opened = self.new.opened.items;
-              rest = prepend_known (take self.new.filled self.new.buffer.items) (S.left source.new);
-              faults = S.faults source.new;
-            })
-            result }
+        ensures answer { OpenMeans (segment_map self.old.opener) self.old.opener.first self.old.opener.size
+            self.old.opener.overhead (reader_moment S.left S.faults self.old source.old)
+            (reader_moment S.left S.faults self.new source.new) result }
         ensures opener { self.new.opener ≡ self.old.opener }
         ensures room { vec_len self.new.buffer ≡ vec_len self.old.buffer }
         ensures small { vec_len self.new.opened < 2 ^ 32 }

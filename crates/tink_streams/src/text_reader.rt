@@ -1,9 +1,5 @@
-ghost use Rattle.std.specs.Prelude.{◌≡◌, ◌≤◌, [], length, take, drop, min, IfOk, vec_len};
-ghost use Rattle.std.specs.Option.{ForSome};
-ghost use Rattle.std.specs.Io.KnownBytes.{prepend_known};
-ghost use Rattle.stream_model.specs.Cut.{numbered};
+ghost use Rattle.std.specs.Prelude.{◌≡◌, ◌≤◌, length, take, drop, min, IfOk, vec_len};
 ghost use Rattle.tink_streams.specs.Reading.{HasNotFailed};
-ghost use Rattle.tink_streams.specs.declared.progress.Progress.TheVariants.{Ended};
 
 use crate::progress::Progress;
 use crate::reading::SegmentReader;
@@ -31,42 +27,20 @@ fn give(text: &[u8], buf: &mut [u8]) -> usize
 }
 
 impl<D: SegmentDecrypter + Drop> TextReader<D> {
-    ghost use Rattle.tink_streams.specs.TextReading.{IsDue, ReadMeans, ReadyMeans, Moment};
+    ghost use Rattle.tink_streams.specs.TextReading.{IsDue, ReadMeans, ReadyMeans};
+    ghost use Rattle.tink_streams.specs.Openers.{IsSound, held_bytes, segment_map, text_moment};
 
     // Opens the next segment where no opened text is left to give and more may come.
     fn make_ready<S: Source>(&mut self, source: &mut S) -> Result<(), TinkError>
         requires lives { HasNotFailed self.old.reader.progress }
-        requires at_end { self.old.reader.progress ≡ Ended
-            → ForSome (prepend_known (take self.old.reader.filled self.old.reader.buffer.items) (S.left source.old))
-            (λ xs. xs ≡ []) }
-        ensures answer { ReadyMeans (numbered (D.seg self.old.reader.opener.decrypter)
-            self.old.reader.opener.nonce_size self.old.reader.opener.prefix.items)
-            self.old.reader.opener.first self.old.reader.opener.size self.old.reader.opener.overhead
-            (record {
-              progress = self.old.reader.progress;
-              number = self.old.reader.segments;
-              pending = drop self.old.given self.old.reader.opened.items;
-              rest = prepend_known (take self.old.reader.filled self.old.reader.buffer.items) (S.left source.old);
-              faults = S.faults source.old;
-            })
-            (record {
-              progress = self.new.reader.progress;
-              number = self.new.reader.segments;
-              pending = drop self.new.given self.new.reader.opened.items;
-              rest = prepend_known (take self.new.reader.filled self.new.reader.buffer.items) (S.left source.new);
-              faults = S.faults source.new;
-            })
+        requires at_end { IsSound S.left self.old.reader source.old }
+        ensures answer { ReadyMeans (segment_map self.old.reader.opener) self.old.reader.opener.first
+            self.old.reader.opener.size self.old.reader.opener.overhead
+            (text_moment S.left S.faults self.old source.old) (text_moment S.left S.faults self.new source.new)
             result }
         // where no segment is due, nothing is read
-        ensures idle { (IsDue (record {
-          progress = self.old.reader.progress;
-          number = self.old.reader.segments;
-          pending = drop self.old.given self.old.reader.opened.items;
-          rest = prepend_known (take self.old.reader.filled self.old.reader.buffer.items) (S.left source.old);
-          faults = S.faults source.old;
-        }) 1 → ⊥)
-            → (source.new ≡ source.old) × (take self.new.reader.filled self.new.reader.buffer.items ≡ take
-            self.old.reader.filled self.old.reader.buffer.items) }
+        ensures idle { (IsDue (text_moment S.left S.faults self.old source.old) 1 → ⊥)
+            → (source.new ≡ source.old) × (held_bytes self.new.reader ≡ held_bytes self.old.reader) }
         ensures opener { self.new.reader.opener ≡ self.old.reader.opener }
         ensures room { vec_len self.new.reader.buffer ≡ vec_len self.old.reader.buffer }
         ensures later { S.faults source.old ≤ S.faults source.new }
@@ -92,41 +66,16 @@ impl<D: SegmentDecrypter + Drop> TextReader<D> {
     /// ReadFault, TooManySegments, BadSegment and Truncated where the next segment was not opened, as in
     /// [`SegmentReader::open_next`]; FailedBefore where an earlier call failed.
     pub fn read<S: Source>(&mut self, source: &mut S, buf: &mut [u8]) -> Result<usize, TinkError>
-        requires at_end { self.old.reader.progress ≡ Ended
-            → ForSome (prepend_known (take self.old.reader.filled self.old.reader.buffer.items) (S.left source.old))
-            (λ xs. xs ≡ []) }
-        ensures answer { ReadMeans (numbered (D.seg self.old.reader.opener.decrypter)
-            self.old.reader.opener.nonce_size self.old.reader.opener.prefix.items)
-            self.old.reader.opener.first self.old.reader.opener.size self.old.reader.opener.overhead
-            (record {
-              progress = self.old.reader.progress;
-              number = self.old.reader.segments;
-              pending = drop self.old.given self.old.reader.opened.items;
-              rest = prepend_known (take self.old.reader.filled self.old.reader.buffer.items) (S.left source.old);
-              faults = S.faults source.old;
-            })
-            (record {
-              progress = self.new.reader.progress;
-              number = self.new.reader.segments;
-              pending = drop self.new.given self.new.reader.opened.items;
-              rest = prepend_known (take self.new.reader.filled self.new.reader.buffer.items) (S.left source.new);
-              faults = S.faults source.new;
-            })
+        requires at_end { IsSound S.left self.old.reader source.old }
+        ensures answer { ReadMeans (segment_map self.old.reader.opener) self.old.reader.opener.first
+            self.old.reader.opener.size self.old.reader.opener.overhead
+            (text_moment S.left S.faults self.old source.old) (text_moment S.left S.faults self.new source.new)
             buf.old buf.new result }
         ensures within { IfOk result (λ n. n ≤ length buf.new) }
-        ensures at_end { self.new.reader.progress ≡ Ended
-            → ForSome (prepend_known (take self.new.reader.filled self.new.reader.buffer.items) (S.left source.new))
-            (λ xs. xs ≡ []) }
+        ensures at_end { IsSound S.left self.new.reader source.new }
         // where no segment is due, nothing is read
-        ensures idle { (IsDue (record {
-          progress = self.old.reader.progress;
-          number = self.old.reader.segments;
-          pending = drop self.old.given self.old.reader.opened.items;
-          rest = prepend_known (take self.old.reader.filled self.old.reader.buffer.items) (S.left source.old);
-          faults = S.faults source.old;
-        }) (length buf.old) → ⊥)
-            → (source.new ≡ source.old) × (take self.new.reader.filled self.new.reader.buffer.items ≡ take
-            self.old.reader.filled self.old.reader.buffer.items) }
+        ensures idle { (IsDue (text_moment S.left S.faults self.old source.old) (length buf.old) → ⊥)
+            → (source.new ≡ source.old) × (held_bytes self.new.reader ≡ held_bytes self.old.reader) }
         ensures opener { self.new.reader.opener ≡ self.old.reader.opener }
         ensures room { vec_len self.new.reader.buffer ≡ vec_len self.old.reader.buffer }
         ensures later { S.faults source.old ≤ S.faults source.new }

@@ -1,12 +1,15 @@
 ghost use Rattle.std.specs.Prelude.{◌≡◌, ◌≤◌, ◌<◌, ◌+◌, ◌-◌, ℕ, length, take, drop, max, Some, None, IfSome, IsNone, IfOk, IfErr, OnOk, OnErr, vec_len, vec_capacity};
-ghost use Rattle.std.specs.Io.KnownBytes.{Keeps, prepend_known};
+ghost use Rattle.std.specs.Io.KnownBytes.{Keeps};
 ghost use Rattle.stream_model.specs.Cut.{numbered};
 ghost use Rattle.stream_model.specs.Opening.{OpeningKey, HasHeader, Begins};
 ghost use Rattle.tink_io.specs.Faults.{Rose};
-ghost use Rattle.tink_streams.specs.Choosing.{IsOpenerOf};
+ghost use Rattle.tink_streams.specs.Choosing.{HasSizesOf, IsOpenerOf};
+ghost use Rattle.tink_streams.specs.Keeping.{kept_rest};
+ghost use Rattle.tink_streams.specs.Openers.{segment_map};
 
 use crate::kept::Kept;
-use crate::opening::{Opener, open_front};
+use crate::opener::Opener;
+use crate::opening::open_front;
 use tink_io::{Failed, Source};
 use tink_segment_traits::SegmentDecrypter;
 
@@ -64,11 +67,8 @@ fn opener_under<D: SegmentDecrypter + Drop, T: OpensStreams<D>>(
     requires header { length header.now ≡ (T.opening_key key.now).header }
     requires long { 8 ≤ length header.now }
     requires prefix { 7 ≤ vec_capacity prefix }
-    ensures map { IfOk result (λ o. (T.opening_key key.now).seg header.now
-        ≡ Some (numbered (D.seg o.decrypter) o.nonce_size o.prefix.items)) }
-    ensures first { IfOk result (λ o. o.first ≡ (T.opening_key key.now).first) }
-    ensures size { IfOk result (λ o. o.size ≡ (T.opening_key key.now).size) }
-    ensures overhead { IfOk result (λ o. o.overhead ≡ (T.opening_key key.now).overhead) }
+    ensures map { IfOk result (λ o. (T.opening_key key.now).seg header.now ≡ Some (segment_map o)) }
+    ensures sizes { IfOk result (λ o. HasSizesOf (T.opening_key key.now) o.first o.size o.overhead) }
     ensures nonce { IfOk result (λ o. o.nonce_size ≡ T.nonce_of key.now) }
     ensures prefix_room { IfOk result (λ o. 7 ≤ vec_capacity o.prefix) }
     ensures none { IfErr result (λ _. (T.opening_key key.now).seg header.now ≡ None) }
@@ -103,10 +103,8 @@ fn header_opener<D: SegmentDecrypter + Drop, T: OpensStreams<D>>(
     requires prefix { 7 ≤ vec_capacity prefix }
     ensures header { IfOk result (λ o. HasHeader (T.opening_key key.now) held.now) }
     ensures map { IfOk result (λ o. (T.opening_key key.now).seg (take (T.opening_key key.now).header held.now)
-        ≡ Some (numbered (D.seg o.decrypter) o.nonce_size o.prefix.items)) }
-    ensures first { IfOk result (λ o. o.first ≡ (T.opening_key key.now).first) }
-    ensures size { IfOk result (λ o. o.size ≡ (T.opening_key key.now).size) }
-    ensures overhead { IfOk result (λ o. o.overhead ≡ (T.opening_key key.now).overhead) }
+        ≡ Some (segment_map o)) }
+    ensures sizes { IfOk result (λ o. HasSizesOf (T.opening_key key.now) o.first o.size o.overhead) }
     ensures nonce { IfOk result (λ o. o.nonce_size ≡ T.nonce_of key.now) }
     ensures prefix_room { IfOk result (λ o. 7 ≤ vec_capacity o.prefix) }
     ensures none { IfErr result (λ _. HasHeader (T.opening_key key.now) held.now
@@ -140,16 +138,12 @@ pub fn try_key<S: Source, D: SegmentDecrypter + Drop, T: OpensStreams<D>>(
     requires room { (T.opening_key key.now).size ≤ vec_capacity opened.old }
     requires nonce { T.nonce_of key.now ≤ vec_len nonce.old }
     requires prefix { 7 ≤ vec_capacity prefix }
-    ensures found { IfOk result (λ r. IfOk r (λ b. IfSome (prepend_known (take kept.old.filled kept.old.buffer.items)
-        (S.left source.old)) (λ X.
-        Begins (T.opening_key key.now) X × IsOpenerOf (T.opening_key key.now) X
-        (numbered (D.seg b.opener.decrypter) b.opener.nonce_size b.opener.prefix.items) b.header b.opener.first
-        b.opener.size b.opener.overhead))) }
-    ensures none { IfOk result (λ r. IfErr r (λ _. IfSome (prepend_known (take kept.old.filled kept.old.buffer.items)
-        (S.left source.old)) (λ X.
+    ensures found { IfOk result (λ r. IfOk r (λ b. IfSome (kept_rest S.left kept.old source.old) (λ X.
+        Begins (T.opening_key key.now) X × IsOpenerOf (T.opening_key key.now) X (segment_map b.opener) b.header
+        b.opener.first b.opener.size b.opener.overhead))) }
+    ensures none { IfOk result (λ r. IfErr r (λ _. IfSome (kept_rest S.left kept.old source.old) (λ X.
         Begins (T.opening_key key.now) X → ⊥))) }
-    ensures rest { OnOk result (Keeps (prepend_known (take kept.old.filled kept.old.buffer.items) (S.left source.old))
-        (prepend_known (take kept.new.filled kept.new.buffer.items) (S.left source.new))) }
+    ensures rest { OnOk result (Keeps (kept_rest S.left kept.old source.old) (kept_rest S.left kept.new source.new)) }
     ensures most { OnOk result (kept.new.filled ≤ max kept.old.filled
         ((T.opening_key key.now).header + (T.opening_key key.now).first + 1)) }
     ensures header { IfOk result (λ r. IfOk r (λ b. b.header ≤ kept.new.filled)) }

@@ -1,6 +1,5 @@
-ghost use Rattle.std.specs.Prelude.{◌≡◌, take};
-ghost use Rattle.std.specs.Io.KnownBytes.{prepend_known};
-ghost use Rattle.stream_model.specs.Cut.{numbered};
+ghost use Rattle.std.specs.Prelude.{◌≡◌};
+ghost use Rattle.tink_streams.specs.Openers.{reader_rest, segment_map};
 ghost use Rattle.tink_streams.specs.declared.progress.Progress.TheVariants.{Running};
 ghost use Rattle.tink_streams.specs.Whole.{AllMeans, Faults};
 
@@ -20,16 +19,12 @@ pub fn open_rest<S: Source, K: Sink, D: SegmentDecrypter + Drop>(
 ) -> Result<(), TinkError>
     requires running { reader.old.progress ≡ Running }
     requires first { reader.old.segments ≡ 0 }
-    ensures answer { AllMeans (numbered (D.seg reader.old.opener.decrypter) reader.old.opener.nonce_size
-        reader.old.opener.prefix.items)
-        reader.old.opener.first reader.old.opener.size reader.old.opener.overhead
-        (prepend_known (take reader.old.filled reader.old.buffer.items) (S.left source.old)) (K.got sink.old)
-        (K.got sink.new)
+    ensures answer { AllMeans (segment_map reader.old.opener) reader.old.opener.first reader.old.opener.size
+        reader.old.opener.overhead (reader_rest S.left reader.old source.old) (K.got sink.old) (K.got sink.new)
         (record {
           read_before = S.faults source.old;
           read_after = S.faults source.new;
-          write_before = K.faults
-              sink.old;
+          write_before = K.faults sink.old;
           write_after = K.faults sink.new;
         })
         result }

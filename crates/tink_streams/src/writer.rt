@@ -3,7 +3,8 @@ ghost use Rattle.tink_segment_traits.specs.Sizes.{sizes_fault};
 ghost use Rattle.tink_streams.specs.declared.writing.Mode.TheVariants.{Open};
 
 use crate::buffers::Buffers;
-use crate::writing::{Sealer, SegmentWriter};
+use crate::sealer::Sealer;
+use crate::writing::SegmentWriter;
 use std::marker::Model;
 use tink_io::{Sink, TinkError};
 use tink_primitives::EncryptingWrite;
@@ -18,7 +19,7 @@ pub struct WriterParams<W, E: SegmentEncrypter> {
     pub segment_encrypter: E,
     /// The size of a nonce, five more at least than its prefix.
     pub nonce_size: usize,
-    /// The front of all nonces.
+    /// The prefix of all nonces.
     pub nonce_prefix: Vec<u8>,
     /// The size of a segment of ciphertext.
     pub ciphertext_segment_size: u32,
@@ -38,27 +39,17 @@ pub struct Writer<W, E: SegmentEncrypter> {
 
 impl<W, E: SegmentEncrypter> Model for Writer<W, E> {
     ghost use Rattle.tink_streams.specs.Writers.{WriterState};
+    ghost use Rattle.tink_streams.specs.Sealers.{writer_state};
 
     ghost Value = { WriterState W E };
 
-    ghost view = { λ w. record {
-      sealing = record {
-        encrypter = w.inner.sealer.encrypter;
-        prefix = w.inner.sealer.prefix.items;
-        nonce_size = w.inner.sealer.nonce_size;
-        first = w.inner.sealer.first;
-        room = w.inner.sealer.room;
-      };
-      mode = w.inner.mode;
-      number = w.inner.segments;
-      held = w.inner.held.items;
-      sink = w.sink;
-    } };
+    ghost view = { λ w. writer_state w.inner w.sink };
 }
 
 impl<W: Sink + Drop, E: SegmentEncrypter + Drop> Writer<W, E> {
     ghost use Rattle.tink_streams.specs.Writing.{WriteMeans, CloseMeans};
     ghost use Rattle.tink_streams.specs.Writers.{moment_of, seg_of};
+    ghost use Rattle.tink_streams.specs.Sealers.{writer_state};
 
     /// A writer that has written nothing, with memory by `Buffers::reserve` for these sizes. The
     /// nonce's size, where it is not too short, is that of the encrypter.
@@ -127,19 +118,7 @@ impl<W: Sink + Drop, E: SegmentEncrypter + Drop> Writer<W, E> {
 
     /// A writer of segments, to the sink that it is given for good.
     pub fn over(sink: W, inner: SegmentWriter<E>) -> Writer<W, E>
-        ensures { result ≡ record {
-          sealing = record {
-            encrypter = inner.sealer.encrypter;
-            prefix = inner.sealer.prefix.items;
-            nonce_size = inner.sealer.nonce_size;
-            first = inner.sealer.first;
-            room = inner.sealer.room;
-          };
-          mode = inner.mode;
-          number = inner.segments;
-          held = inner.held.items;
-          sink = sink;
-        } }
+        ensures { result ≡ writer_state inner sink }
     {
         Writer { sink, inner }
     }

@@ -1,14 +1,12 @@
-ghost use Rattle.std.specs.Prelude.{◌≡◌, ◌≤◌, ◌<◌, ◌+◌, ◌-◌, ◌^◌, ◌++◌, ℕ, List, [], false, length, take, min, OnOk, OnErr, IfErr, vec_len, vec_capacity};
-ghost use Rattle.std.specs.Io.KnownBytes.{Appends};
-ghost use Rattle.tink_io.specs.Faults.{Rose};
-ghost use Rattle.tink_io.specs.Written.{AppendsFront};
-ghost use Rattle.tink_io.specs.declared.error.Kind.TheVariants.{WriteFault};
-ghost use Rattle.stream_model.specs.Cut.{numbered, room_at};
+ghost use Rattle.std.specs.Prelude.{◌≡◌, ◌≤◌, ◌<◌, ◌+◌, ◌-◌, ◌^◌, ◌++◌, [], false, length, take, min, vec_len, vec_capacity};
+ghost use Rattle.stream_model.specs.Cut.{room_at};
 ghost use Rattle.tink_streams.specs.declared.writing.Mode.TheVariants.{Open};
 
 use crate::buffers::Buffers;
-use tink_io::{Cause, Kind, Sink, TinkError, write_all};
-use tink_segment_traits::{SegmentEncrypter, generate_segment_nonce};
+use crate::sealer::Sealer;
+use crate::sealing::{room_of, send};
+use tink_io::{Cause, Kind, Sink, TinkError};
+use tink_segment_traits::SegmentEncrypter;
 
 /// The greatest number of a segment.
 const LAST_NUMBER: u64 = 4294967295;
@@ -19,24 +17,6 @@ pub enum Mode {
     Open,
     Closed,
     Failed(Cause),
-}
-
-/// How the segments of one stream are made: the one-shot map, its nonces, and the rooms, in bytes
-/// of text, of the first and of each later segment.
-#[derive(Drop)]
-pub struct Sealer<E: SegmentEncrypter> {
-    pub encrypter: E,
-    pub prefix: Vec<u8>,
-    pub nonce_size: usize,
-    pub overhead: usize,
-    pub first: usize,
-    pub room: usize,
-    ghost overhead_is: { overhead ≡ E.overhead_of encrypter },
-    ghost nonce_is: { nonce_size ≡ E.nonce_length encrypter },
-    ghost prefix_fits: { vec_len prefix + 5 ≤ nonce_size },
-    ghost some: { 0 < first },
-    ghost first_fits: { first ≤ room },
-    ghost small: { room + overhead < 2 ^ 32 },
 }
 
 /// A writer of segments, to a sink that each call is given.
@@ -58,71 +38,9 @@ pub struct SegmentWriter<E: SegmentEncrypter> {
     ghost open_few: { mode ≡ Open → segments < 2 ^ 32 },
 }
 
-// The room of the next segment's text.
-fn room_of<E: SegmentEncrypter>(sealer: &Sealer<E>, segments: u64) -> usize
-    ensures { result ≡ room_at sealer.now.first sealer.now.room segments }
-{
-    if segments == 0 {
-        sealer.first
-    } else {
-        sealer.room
-    }
-}
-
-// Makes a segment in `sealed`.
-fn seal_into<E: SegmentEncrypter>(
-    sealer: &Sealer<E>,
-    number: u64,
-    last: bool,
-    text: &[u8],
-    nonce: &mut [u8],
-    sealed: &mut [u8],
-)
-    requires number { number < 2 ^ 32 }
-    requires text { length text.now ≤ sealer.now.room }
-    requires nonce { length nonce.old ≡ sealer.now.nonce_size }
-    requires room { length sealed.old ≡ length text.now + sealer.now.overhead }
-    ensures { sealed.new ≡ numbered (E.seg sealer.now.encrypter) sealer.now.nonce_size
-        sealer.now.prefix.items number last text.now }
-{
-    match generate_segment_nonce(nonce, &sealer.prefix, number, last) {
-        Ok(()) => sealer.encrypter.encrypt_segment_into(text, nonce, sealed),
-        Err(_) => unreachable!(),
-    }
-}
-
-// Makes a segment and writes it.
-fn send<K: Sink, E: SegmentEncrypter>(
-    sink: &mut K,
-    sealer: &Sealer<E>,
-    number: u64,
-    last: bool,
-    text: &[u8],
-    nonce: &mut [u8],
-    sealed: &mut [u8],
-) -> Result<(), TinkError>
-    requires number { number < 2 ^ 32 }
-    requires text { length text.now ≤ sealer.now.room }
-    requires nonce { length nonce.old ≡ sealer.now.nonce_size }
-    requires room { sealer.now.room + sealer.now.overhead ≤ length sealed.old }
-    ensures ok { OnOk result (Appends (K.got sink.old) (K.got sink.new)
-        (numbered (E.seg sealer.now.encrypter) sealer.now.nonce_size sealer.now.prefix.items number last text.now)) }
-    ensures front { OnErr result (AppendsFront (K.got sink.old) (K.got sink.new)
-        (numbered (E.seg sealer.now.encrypter) sealer.now.nonce_size sealer.now.prefix.items number last text.now)) }
-    ensures rose { OnErr result (Rose (K.faults sink.old) (K.faults sink.new)) }
-    ensures refused { IfErr result (λ e. e ≡ record { kind = WriteFault }) }
-    ensures later { K.faults sink.old ≤ K.faults sink.new }
-    ensures same { K.same sink.old sink.new }
-{
-    let n = text.len() + sealer.overhead;
-    seal_into(sealer, number, last, text, nonce, &mut sealed[..n]);
-    write_all(sink, &sealed[..n])
-}
-
 impl<E: SegmentEncrypter + Drop> SegmentWriter<E> {
-    ghost use Rattle.tink_streams.specs.Writing.{WriteMeans, CloseMeans, Moment, mode_after};
-    ghost use Rattle.tink_streams.specs.declared.writing.Mode.TheVariants.{Failed};
-    ghost use Rattle.tink_io.specs.declared.error.Cause.TheVariants as cause;
+    ghost use Rattle.tink_streams.specs.Writing.{CloseMeans, PutMeans, WriteMeans};
+    ghost use Rattle.tink_streams.specs.Sealers.{segment_map, writer_moment};
 
     /// A writer that has written nothing, of parts that fit.
     pub fn made(sealer: Sealer<E>, buffers: Buffers) -> SegmentWriter<E>
@@ -165,19 +83,8 @@ impl<E: SegmentEncrypter + Drop> SegmentWriter<E> {
     fn put<K: Sink>(&mut self, sink: &mut K, last: bool) -> Result<(), TinkError>
         requires open { self.old.mode ≡ Open }
         requires more { last ≡ false → self.old.segments + 1 < 2 ^ 32 }
-        ensures ok { OnOk result (Appends (K.got sink.old) (K.got sink.new)
-            (numbered (E.seg self.old.sealer.encrypter) self.old.sealer.nonce_size self.old.sealer.prefix.items
-            self.old.segments last self.old.held.items)) }
-        ensures ok_held { OnOk result (self.new.held.items ≡ []) }
-        ensures ok_mode { OnOk result (self.new.mode ≡ mode_after last) }
-        ensures ok_segments { OnOk result (self.new.segments ≡ self.old.segments + 1) }
-        ensures front { OnErr result (AppendsFront (K.got sink.old) (K.got sink.new)
-            (numbered (E.seg self.old.sealer.encrypter) self.old.sealer.nonce_size self.old.sealer.prefix.items
-            self.old.segments last self.old.held.items)) }
-        ensures rose { OnErr result (Rose (K.faults sink.old) (K.faults sink.new)) }
-        ensures failed { OnErr result (self.new.mode ≡ Failed cause.WriteFault) }
-        ensures segments { OnErr result (self.new.segments ≡ self.old.segments) }
-        ensures refused { IfErr result (λ e. e ≡ record { kind = WriteFault }) }
+        ensures answer { PutMeans (segment_map self.old.sealer) last (writer_moment K.got K.faults self.old sink.old)
+            (writer_moment K.got K.faults self.new sink.new) result }
         ensures sealer { self.new.sealer ≡ self.old.sealer }
         ensures later { K.faults sink.old ≤ K.faults sink.new }
         ensures same { K.same sink.old sink.new }
@@ -209,23 +116,8 @@ impl<E: SegmentEncrypter + Drop> SegmentWriter<E> {
     // Writes the chunks that are full, and holds the last one.
     fn put_text<K: Sink>(&mut self, sink: &mut K, buf: &[u8]) -> Result<usize, TinkError>
         requires { self.old.mode ≡ Open }
-        ensures answer { WriteMeans (numbered (E.seg self.old.sealer.encrypter) self.old.sealer.nonce_size
-            self.old.sealer.prefix.items)
-            self.old.sealer.first self.old.sealer.room
-            (record {
-              mode = self.old.mode;
-              number = self.old.segments;
-              held = self.old.held.items;
-              got = K.got sink.old;
-              faults = K.faults sink.old;
-            })
-            (record {
-              mode = self.new.mode;
-              number = self.new.segments;
-              held = self.new.held.items;
-              got = K.got sink.new;
-              faults = K.faults sink.new;
-            })
+        ensures answer { WriteMeans (segment_map self.old.sealer) self.old.sealer.first self.old.sealer.room
+            (writer_moment K.got K.faults self.old sink.old) (writer_moment K.got K.faults self.new sink.new)
             buf.now result }
         ensures sealer { self.new.sealer ≡ self.old.sealer }
         ensures later { K.faults sink.old ≤ K.faults sink.new }
@@ -250,23 +142,8 @@ impl<E: SegmentEncrypter + Drop> SegmentWriter<E> {
     /// WriteFault where the sink failed, TooManySegments where a number above 2^32 - 1 is needed,
     /// Closed after `close`, FailedBefore after another of these.
     pub fn write<K: Sink>(&mut self, sink: &mut K, buf: &[u8]) -> Result<usize, TinkError>
-        ensures answer { WriteMeans (numbered (E.seg self.old.sealer.encrypter) self.old.sealer.nonce_size
-            self.old.sealer.prefix.items)
-            self.old.sealer.first self.old.sealer.room
-            (record {
-              mode = self.old.mode;
-              number = self.old.segments;
-              held = self.old.held.items;
-              got = K.got sink.old;
-              faults = K.faults sink.old;
-            })
-            (record {
-              mode = self.new.mode;
-              number = self.new.segments;
-              held = self.new.held.items;
-              got = K.got sink.new;
-              faults = K.faults sink.new;
-            })
+        ensures answer { WriteMeans (segment_map self.old.sealer) self.old.sealer.first self.old.sealer.room
+            (writer_moment K.got K.faults self.old sink.old) (writer_moment K.got K.faults self.new sink.new)
             buf.now result }
         // a writer that takes no text, and the sink, stay as they are
         ensures idle { (self.old.mode ≡ Open → ⊥) → (self.new ≡ self.old) × (sink.new ≡ sink.old) }
@@ -286,23 +163,8 @@ impl<E: SegmentEncrypter + Drop> SegmentWriter<E> {
     /// # Errors
     /// WriteFault where the sink failed, FailedBefore after a refusal.
     pub fn close<K: Sink>(&mut self, sink: &mut K) -> Result<(), TinkError>
-        ensures answer { CloseMeans (numbered (E.seg self.old.sealer.encrypter) self.old.sealer.nonce_size
-            self.old.sealer.prefix.items)
-            (record {
-              mode = self.old.mode;
-              number = self.old.segments;
-              held = self.old.held.items;
-              got = K.got sink.old;
-              faults = K.faults sink.old;
-            })
-            (record {
-              mode = self.new.mode;
-              number = self.new.segments;
-              held = self.new.held.items;
-              got = K.got sink.new;
-              faults = K.faults sink.new;
-            })
-            result }
+        ensures answer { CloseMeans (segment_map self.old.sealer) (writer_moment K.got K.faults self.old sink.old)
+            (writer_moment K.got K.faults self.new sink.new) result }
         // a writer that is not open, and the sink, stay as they are
         ensures idle { (self.old.mode ≡ Open → ⊥) → (self.new ≡ self.old) × (sink.new ≡ sink.old) }
         ensures sealer { self.new.sealer ≡ self.old.sealer }

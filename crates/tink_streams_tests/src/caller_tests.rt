@@ -1,10 +1,11 @@
 //! Callers of the readers and of the writer, whose clauses follow from those of the calls.
 
-ghost use Rattle.std.specs.Prelude.{◌≡◌, [], false, take, Some, IfOk, OnOk};
-ghost use Rattle.std.specs.Io.KnownBytes.{Appends, prepend_known};
-ghost use Rattle.stream_model.specs.Cut.{numbered, sealed};
+ghost use Rattle.std.specs.Prelude.{◌≡◌, [], false, Some, IfOk, OnOk};
+ghost use Rattle.std.specs.Io.KnownBytes.{Appends};
+ghost use Rattle.stream_model.specs.Cut.{sealed};
 ghost use Rattle.tink_streams.specs.declared.progress.Progress.TheVariants.{Running};
 ghost use Rattle.tink_streams.specs.declared.writing.Mode.TheVariants.{Open};
+ghost use Rattle.tink_streams.specs.Openers.{reader_rest, segment_map};
 ghost use Rattle.tink_streams.specs.Readers.{moment_of};
 ghost use Rattle.tink_streams.specs.TextReading.{AtEnd};
 ghost use Rattle.tink_streams.specs.Whole.{WroteTexts};
@@ -22,9 +23,8 @@ fn open_bytes<D: SegmentDecrypter + Drop, K: Sink>(
 ) -> Result<(), TinkError>
     requires running { reader.old.progress ≡ Running }
     requires first { reader.old.segments ≡ 0 }
-    ensures written { IfOk result (λ _. WroteTexts (numbered (D.seg reader.old.opener.decrypter) reader.old.opener.nonce_size reader.old.opener.prefix.items)
-        reader.old.opener.first reader.old.opener.size
-        (prepend_known (take reader.old.filled reader.old.buffer.items) (Some stream.old)) (K.got sink.old) (K.got sink.new)) }
+    ensures written { IfOk result (λ _. WroteTexts (segment_map reader.old.opener) reader.old.opener.first
+        reader.old.opener.size (reader_rest Some reader.old stream.old) (K.got sink.old) (K.got sink.new)) }
 {
     open_rest(reader, stream, sink)
 }

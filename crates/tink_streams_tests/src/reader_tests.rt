@@ -1,6 +1,6 @@
 //! Readers over memory of a stream that Python made.
 
-ghost use Rattle.std.specs.Prelude.{◌≡◌, ◌⊎◌, ◌<◌};
+ghost use Rattle.std.specs.Prelude.{◌≡◌, ◌⊎◌, ◌<◌, ◌+◌, [], vec_len, vec_capacity};
 
 use crate::comparing::{expect, expect_bytes};
 use hash_keys::Hash;
@@ -23,37 +23,56 @@ const SEALED: &[u8; 77] =
 // The empty text's one segment, under the same keys.
 const SEALED_EMPTY: &[u8; 10] = b"\x93\xad\x0e\x96\x09\x25\xae\x41\xe5\x82";
 
-// A reader of the source; in an `Err` of its own what `new` refuses.
+// A reader of the source by this memory; what `new` refuses.
 fn made(
-    alloc: Global,
     r: MemSource,
+    buffers: Buffers,
+    nonce_prefix: Vec<u8>,
     nonce_size: usize,
     size: u32,
     offset: u32,
-) -> Result<Result<MemReader, TinkError>, TinkError>
-    requires { (nonce_size ≡ 16) ⊎ (nonce_size < 12) }
+) -> Result<MemReader, TinkError>
+    requires text { buffers.text.items ≡ [] }
+    requires text_room { vec_capacity buffers.text ≡ size + 1 }
+    requires sealed_room { vec_len buffers.sealed ≡ size + 1 }
+    requires nonce_room { vec_len buffers.nonce ≡ nonce_size }
+    requires prefix { vec_len nonce_prefix ≡ 7 }
+    requires nonce { (nonce_size ≡ 16) ⊎ (nonce_size < 12) }
 {
     let params = ReaderParams {
         r,
         segment_decrypter: CtrHmacSegment::new(&[1; 32], &[2; 32], Hash::Sha512, 10),
         nonce_size,
-        nonce_prefix: [3u8; 7].to_vec(alloc)?,
+        nonce_prefix,
         ciphertext_segment_size: size,
         first_ciphertext_segment_offset: offset,
     };
-    let buffers = Buffers::reserve(alloc, size, nonce_size)?;
-    Ok(Reader::new(params, buffers))
+    Reader::new(params, buffers)
 }
 
-// A reader of these bytes, from a source whose calls of these numbers fail, and which moves at most so many bytes a call.
+// A source of these bytes whose calls of these numbers fail, and which moves at most so many bytes a call.
+fn source(
+    alloc: Global,
+    bytes: &[u8],
+    piece: usize,
+    fails: &[u32],
+) -> Result<MemSource, TinkError> {
+    let bytes = bytes.to_vec(alloc)?;
+    let fails = fails.to_vec(alloc)?;
+    Ok(MemSource::new(bytes, piece, fails))
+}
+
+// A reader of such a source.
 fn opened(
     alloc: Global,
     bytes: &[u8],
     piece: usize,
     fails: &[u32],
 ) -> Result<MemReader, TinkError> {
-    let source = MemSource::new(bytes.to_vec(alloc)?, piece, fails.to_vec(alloc)?);
-    made(alloc, source, 16, 30, 10)?
+    let source = source(alloc, bytes, piece, fails)?;
+    let prefix = [3u8; 7].to_vec(alloc)?;
+    let buffers = Buffers::reserve(alloc, 30, 16)?;
+    made(source, buffers, prefix, 16, 30, 10)
 }
 
 // The longest buffer of a read.
@@ -62,11 +81,14 @@ const ROOM: usize = 47;
 // What a read to a buffer of so many bytes answers.
 fn answer(reader: &mut MemReader, room: usize) -> Result<usize, Kind> {
     let mut buf = [0u8; ROOM];
-    reader.read(&mut buf[..room.min(ROOM)]).map_err(|e| e.kind)
+    match reader.read(&mut buf[..room.min(ROOM)]) {
+        Ok(n) => Ok(n),
+        Err(e) => Err(e.kind),
+    }
 }
 
 // Reads to buffers of these many bytes, with their answers and the number of segments behind each.
-fn expect_reads(
+fn follow_reads(
     rt: &impl Abort,
     reader: &mut MemReader,
     reads: &[(usize, Result<usize, Kind>, u64)],
@@ -77,42 +99,62 @@ fn expect_reads(
     }
 }
 
-// What reads to a buffer of ten bytes give up to the end, and by what they are refused.
-fn given(alloc: Global, reader: &mut MemReader) -> Result<(Vec<u8>, Option<Kind>), TinkError> {
-    let mut buf = [0u8; 10];
-    let mut text = Vec::new(alloc);
-    for _ in 0..100 {
-        match reader.read(&mut buf) {
-            Ok(0) => return Ok((text, None)),
-            Ok(n) => text.extend_from_slice(&buf[..n])?,
-            Err(e) => return Ok((text, Some(e.kind))),
-        }
-    }
-    Ok((text, Some(Kind::TooManySegments)))
+// The same of a reader of its own.
+fn expect_reads(
+    rt: &impl Abort,
+    mut reader: MemReader,
+    reads: &[(usize, Result<usize, Kind>, u64)],
+) {
+    follow_reads(rt, &mut reader, reads);
 }
 
-// The front of the text that reads give, and by what they are refused.
+// Puts what reads of ten bytes give up to the end behind each other: how many bytes, and by what they are refused.
+fn given(reader: &mut MemReader, text: &mut [u8; 60]) -> (usize, Option<Kind>) {
+    let mut n = 0;
+    while n < 50 {
+        match reader.read(&mut text[n..n + 10]) {
+            Ok(0) => return (n, None),
+            Ok(count) => n += count,
+            Err(e) => return (n, Some(e.kind)),
+        }
+    }
+    (n, Some(Kind::TooManySegments))
+}
+
+// The prefix of the text that reads give, by what they are refused, and the answer of two more reads.
 fn expect_text(
     rt: &impl Abort,
-    alloc: Global,
-    reader: &mut MemReader,
+    mut reader: MemReader,
     bytes: usize,
     refused: Option<Kind>,
-) -> Result<(), TinkError> {
-    let (text, told) = given(alloc, reader)?;
-    expect_bytes(rt, &text, &TEXT[..bytes.min(47)], "the text");
+    more: Result<usize, Kind>,
+    segments: u64,
+) {
+    let mut text = [0u8; 60];
+    let (n, told) = given(&mut reader, &mut text);
+    expect_bytes(rt, &text[..n.min(60)], &TEXT[..bytes.min(47)], "the text");
     expect(rt, told, refused, "the refusal");
+    follow_reads(
+        rt,
+        &mut reader,
+        &[(10, more, segments), (10, more, segments)],
+    );
+}
+
+// The whole text, from a source that moves at most so many bytes a call.
+fn expect_whole(rt: &impl Abort, alloc: Global, piece: usize) -> Result<(), TinkError> {
+    let reader = opened(alloc, SEALED, piece, &[])?;
+    expect_text(rt, reader, 47, None, Ok(0), 3);
     Ok(())
 }
 
 #[test]
 fn pieces_of_ten_give_the_text(rt: HostRuntime) -> Result<(), Fail> {
     let alloc = rt.alloc();
-    for piece in [0usize, 1, 20, 31] {
-        let mut reader = opened(alloc, SEALED, piece, &[])?;
-        expect_text(&rt, alloc, &mut reader, 47, None)?;
-        expect_reads(&rt, &mut reader, &[(10, Ok(0), 3), (10, Ok(0), 3)]);
-    }
+    expect_whole(&rt, alloc, 0)?;
+    expect_whole(&rt, alloc, 1)?;
+    expect_whole(&rt, alloc, 20)?;
+    expect_whole(&rt, alloc, 31)?;
     Ok(())
 }
 
@@ -127,14 +169,14 @@ fn a_read_opens_one_segment_at_most(rt: HostRuntime) -> Result<(), Fail> {
         (16, Ok(1), 3),
         (16, Ok(0), 3),
     ];
-    expect_reads(&rt, &mut opened(rt.alloc(), SEALED, 0, &[])?, &reads);
+    expect_reads(&rt, opened(rt.alloc(), SEALED, 0, &[])?, &reads);
     Ok(())
 }
 
 #[test]
 fn an_empty_text_has_one_segment(rt: HostRuntime) -> Result<(), Fail> {
-    let mut reader = opened(rt.alloc(), SEALED_EMPTY, 0, &[])?;
-    expect_reads(&rt, &mut reader, &[(10, Ok(0), 1), (10, Ok(0), 1)]);
+    let reads = [(10, Ok(0), 1), (10, Ok(0), 1)];
+    expect_reads(&rt, opened(rt.alloc(), SEALED_EMPTY, 0, &[])?, &reads);
     Ok(())
 }
 
@@ -147,7 +189,7 @@ fn no_bytes_are_no_stream(rt: HostRuntime) -> Result<(), Fail> {
         (10, failed_before, 0),
         (0, failed_before, 0),
     ];
-    expect_reads(&rt, &mut opened(rt.alloc(), &[], 0, &[])?, &reads);
+    expect_reads(&rt, opened(rt.alloc(), &[], 0, &[])?, &reads);
     Ok(())
 }
 
@@ -160,44 +202,61 @@ fn changed(place: usize) -> [u8; 77] {
     bytes
 }
 
+// What the stream with a bit exchanged in this segment gives before it.
+fn expect_change(
+    rt: &impl Abort,
+    alloc: Global,
+    place: usize,
+    segment: u32,
+    before: usize,
+) -> Result<(), TinkError> {
+    let reader = opened(alloc, &changed(place), 0, &[])?;
+    let refused = Some(Kind::BadSegment(segment));
+    let again = Err(Kind::FailedBefore(Cause::BadSegment(segment)));
+    expect_text(rt, reader, before, refused, again, u64::from(segment));
+    Ok(())
+}
+
 #[test]
 fn a_changed_byte_stops_before_its_segment(rt: HostRuntime) -> Result<(), Fail> {
     let alloc = rt.alloc();
-    for (place, segment, before) in [
-        (0usize, 0, 0usize),
-        (19, 0, 0),
-        (20, 1, 10),
-        (49, 1, 10),
-        (76, 2, 30),
-    ] {
-        let mut reader = opened(alloc, &changed(place), 0, &[])?;
-        expect_text(
-            &rt,
-            alloc,
-            &mut reader,
-            before,
-            Some(Kind::BadSegment(segment)),
-        )?;
-        let failed_before = Err(Kind::FailedBefore(Cause::BadSegment(segment)));
-        expect_reads(&rt, &mut reader, &[(10, failed_before, u64::from(segment))]);
-    }
+    expect_change(&rt, alloc, 0, 0, 0)?;
+    expect_change(&rt, alloc, 19, 0, 0)?;
+    expect_change(&rt, alloc, 20, 1, 10)?;
+    expect_change(&rt, alloc, 49, 1, 10)?;
+    expect_change(&rt, alloc, 76, 2, 30)?;
+    Ok(())
+}
+
+// What the stream that is cut behind so many bytes gives before this segment, of which less than a tag is there, or more.
+fn expect_cut(
+    rt: &impl Abort,
+    alloc: Global,
+    end: usize,
+    is_short: bool,
+    segment: u32,
+    before: usize,
+) -> Result<(), TinkError> {
+    let reader = opened(alloc, &SEALED[..end.min(77)], 0, &[])?;
+    let (kind, cause) = if is_short {
+        (Kind::Truncated(segment), Cause::Truncated(segment))
+    } else {
+        (Kind::BadSegment(segment), Cause::BadSegment(segment))
+    };
+    let again = Err(Kind::FailedBefore(cause));
+    expect_text(rt, reader, before, Some(kind), again, u64::from(segment));
     Ok(())
 }
 
 #[test]
 fn a_cut_stream_gives_what_is_whole(rt: HostRuntime) -> Result<(), Fail> {
     let alloc = rt.alloc();
-    for (end, refused, before) in [
-        (9usize, Kind::Truncated(0), 0usize),
-        (20, Kind::BadSegment(0), 0),
-        (29, Kind::Truncated(1), 10),
-        (50, Kind::BadSegment(1), 10),
-        (51, Kind::Truncated(2), 30),
-        (76, Kind::BadSegment(2), 30),
-    ] {
-        let mut reader = opened(alloc, &SEALED[..end], 0, &[])?;
-        expect_text(&rt, alloc, &mut reader, before, Some(refused))?;
-    }
+    expect_cut(&rt, alloc, 9, true, 0, 0)?;
+    expect_cut(&rt, alloc, 20, false, 0, 0)?;
+    expect_cut(&rt, alloc, 29, true, 1, 10)?;
+    expect_cut(&rt, alloc, 50, false, 1, 10)?;
+    expect_cut(&rt, alloc, 51, true, 2, 30)?;
+    expect_cut(&rt, alloc, 76, false, 2, 30)?;
     Ok(())
 }
 
@@ -210,14 +269,14 @@ fn a_failed_source_is_told_for_good(rt: HostRuntime) -> Result<(), Fail> {
         (47, failed_before, 1),
         (0, failed_before, 1),
     ];
-    expect_reads(&rt, &mut opened(rt.alloc(), SEALED, 0, &[2])?, &reads);
+    expect_reads(&rt, opened(rt.alloc(), SEALED, 0, &[2])?, &reads);
     Ok(())
 }
 
 #[test]
 fn an_empty_buffer_reads_nothing(rt: HostRuntime) -> Result<(), Fail> {
     let reads = [(0, Ok(0), 0), (0, Ok(0), 0), (1, Err(Kind::ReadFault), 0)];
-    expect_reads(&rt, &mut opened(rt.alloc(), SEALED, 0, &[1])?, &reads);
+    expect_reads(&rt, opened(rt.alloc(), SEALED, 0, &[1])?, &reads);
     Ok(())
 }
 
@@ -229,32 +288,45 @@ fn refusal(
     offset: u32,
 ) -> Result<Option<Kind>, TinkError> {
     let nonce_size = if is_short { 11 } else { 16 };
+    let prefix = [3u8; 7].to_vec(alloc)?;
+    let buffers = Buffers::reserve(alloc, size, nonce_size)?;
     let source = MemSource::new(Vec::new(alloc), 0, Vec::new(alloc));
-    match made(alloc, source, nonce_size, size, offset)? {
+    match made(source, buffers, prefix, nonce_size, size, offset) {
         Ok(_) => Ok(None),
         Err(e) => Ok(Some(e.kind)),
     }
 }
 
+// That the sizes are refused so.
+fn expect_refusal(
+    rt: &impl Abort,
+    alloc: Global,
+    is_short: bool,
+    size: u32,
+    offset: u32,
+    wanted: Option<Kind>,
+) -> Result<(), TinkError> {
+    let told = refusal(alloc, is_short, size, offset)?;
+    expect(rt, told, wanted, "the refusal");
+    Ok(())
+}
+
 #[test]
 fn sizes_of_a_reader_without_room_are_refused(rt: HostRuntime) -> Result<(), Fail> {
     let alloc = rt.alloc();
-    for (is_short, size, offset, wanted) in [
-        (true, 30, 31, Some(Kind::NonceTooShort)),
-        (true, 30, 10, Some(Kind::NonceTooShort)),
-        (false, 30, 31, Some(Kind::OffsetTooBig)),
-        (false, 30, 30, Some(Kind::SegmentTooSmall)),
-        (false, 30, 20, Some(Kind::SegmentTooSmall)),
-        (false, 30, 19, None),
-        (false, 0, 0, Some(Kind::SegmentTooSmall)),
-        (false, 11, 0, None),
-    ] {
-        expect(
-            &rt,
-            refusal(alloc, is_short, size, offset)?,
-            wanted,
-            "the refusal",
-        );
-    }
+    expect_refusal(&rt, alloc, true, 30, 31, Some(Kind::NonceTooShort))?;
+    expect_refusal(&rt, alloc, true, 30, 10, Some(Kind::NonceTooShort))?;
+    expect_refusal(&rt, alloc, false, 30, 31, Some(Kind::OffsetTooBig))?;
+    expect_refusal(&rt, alloc, false, 30, 30, Some(Kind::SegmentTooSmall))?;
+    expect_refusal(&rt, alloc, false, 30, 20, Some(Kind::SegmentTooSmall))?;
+    expect_refusal(&rt, alloc, false, 0, 0, Some(Kind::SegmentTooSmall))?;
+    Ok(())
+}
+
+#[test]
+fn sizes_of_a_reader_with_room_are_taken(rt: HostRuntime) -> Result<(), Fail> {
+    let alloc = rt.alloc();
+    expect_refusal(&rt, alloc, false, 30, 19, None)?;
+    expect_refusal(&rt, alloc, false, 11, 0, None)?;
     Ok(())
 }

@@ -1,6 +1,6 @@
 //! Writers to memory, and a stream that Python made.
 
-ghost use Rattle.std.specs.Prelude.{◌≡◌, ◌⊎◌, ◌<◌};
+ghost use Rattle.std.specs.Prelude.{◌≡◌, ◌⊎◌, ◌<◌, ◌+◌, [], vec_len, vec_capacity};
 
 use crate::comparing::{expect, expect_bytes};
 use hash_keys::Hash;
@@ -20,33 +20,46 @@ const TEXT: &[u8; 70] = b"seventy bytes of text, which three segments of forty b
 const SEALED: &[u8; 100] =
     b"\xb9\xba\x1c\xde\x57\x0d\x82\x7e\xbc\x7a\xd9\xf1\xcb\x37\xb8\xee\xc1\xe8\xf6\x9f\xe4\xe8\xfc\xfa\x32\x42\x73\xe4\x3a\xb9\xb5\x30\x50\x31\xd2\x5a\x82\x3c\xe1\x4a\xd4\xa6\x37\x8f\xc7\xbd\x20\xa7\x48\xd0\x9f\xe9\xdd\xde\x2c\xa0\x2f\xdf\xc5\x11\xfb\xc3\xaf\x1b\xde\xaa\x41\x4f\x6b\x5e\x1d\xdf\x31\x7e\x1c\xfc\x5c\xa9\x89\x32\x1f\xf2\x17\xc0\x05\x55\xf7\x22\xd9\x0d\x7d\xb7\x5a\xb7\x92\xe0\x2e\xe6\x66\x20";
 
-// A writer to a sink with room for 200 bytes, whose calls of these numbers fail; in an `Err` of its own what `new` refuses.
+// A writer to the sink by this memory; what `new` refuses.
 fn made(
-    alloc: Global,
-    fails: &[u32],
+    w: MemSink,
+    buffers: Buffers,
+    nonce_prefix: Vec<u8>,
     nonce_size: usize,
     size: u32,
     offset: u32,
-) -> Result<Result<MemWriter, TinkError>, TinkError>
-    requires { (nonce_size ≡ 16) ⊎ (nonce_size < 12) }
+) -> Result<MemWriter, TinkError>
+    requires text { buffers.text.items ≡ [] }
+    requires text_room { vec_capacity buffers.text ≡ size + 1 }
+    requires sealed_room { vec_len buffers.sealed ≡ size + 1 }
+    requires nonce_room { vec_len buffers.nonce ≡ nonce_size }
+    requires prefix { vec_len nonce_prefix ≡ 7 }
+    requires nonce { (nonce_size ≡ 16) ⊎ (nonce_size < 12) }
 {
-    let mut w = MemSink::new(alloc, 0, fails.to_vec(alloc)?);
-    w.reserve(alloc, 200)?;
     let params = WriterParams {
         w,
         segment_encrypter: CtrHmacSegment::new(&[1; 16], &[2; 32], Hash::Sha256, 10),
         nonce_size,
-        nonce_prefix: [3u8; 7].to_vec(alloc)?,
+        nonce_prefix,
         ciphertext_segment_size: size,
         first_ciphertext_segment_offset: offset,
     };
-    let buffers = Buffers::reserve(alloc, size, nonce_size)?;
-    Ok(Writer::new(params, buffers))
+    Writer::new(params, buffers)
 }
 
-// A writer of the stream above.
+// A sink with room for 200 bytes, whose calls of these numbers fail.
+fn sink(alloc: Global, fails: &[u32]) -> Result<MemSink, TinkError> {
+    let mut sink = MemSink::new(alloc, 0, fails.to_vec(alloc)?);
+    sink.reserve(alloc, 200)?;
+    Ok(sink)
+}
+
+// A writer of the stream above to such a sink.
 fn opened(alloc: Global, fails: &[u32]) -> Result<MemWriter, TinkError> {
-    made(alloc, fails, 16, 40, 12)?
+    let sink = sink(alloc, fails)?;
+    let prefix = [3u8; 7].to_vec(alloc)?;
+    let buffers = Buffers::reserve(alloc, 40, 16)?;
+    made(sink, buffers, prefix, 16, 40, 12)
 }
 
 // A call of a writer: a write of some bytes, a flush or a close.
@@ -57,14 +70,29 @@ enum Call<'a> {
     Close,
 }
 
+// The answer of a call that takes no bytes.
+fn without_bytes(told: Result<(), TinkError>) -> Result<usize, TinkError> {
+    match told {
+        Ok(()) => Ok(0),
+        Err(e) => Err(e),
+    }
+}
+
 // What a call answers: how many bytes it took, or its refusal.
-fn answer(writer: &mut MemWriter, call: Call) -> Result<usize, Kind> {
-    let told = match call {
+fn answer(writer: &mut MemWriter, call: Call) -> Result<usize, TinkError> {
+    match call {
         Call::Write(bytes) => writer.write(bytes),
-        Call::Flush => writer.flush().map(|_| 0),
-        Call::Close => writer.close().map(|_| 0),
-    };
-    told.map_err(|e| e.kind)
+        Call::Flush => without_bytes(writer.flush()),
+        Call::Close => without_bytes(writer.close()),
+    }
+}
+
+// The answer in a test's table.
+fn told(wanted: Result<usize, Kind>) -> Result<usize, TinkError> {
+    match wanted {
+        Ok(n) => Ok(n),
+        Err(kind) => Err(TinkError::new(kind)),
+    }
 }
 
 // Calls of a writer with their answers, and then how many segments were written and what stands in the sink.
@@ -76,22 +104,31 @@ fn expect_calls(
     want: &[u8],
 ) {
     for (call, wanted) in calls {
-        expect(rt, answer(&mut writer, *call), *wanted, "the answer");
+        let got = answer(&mut writer, *call);
+        expect(rt, got, told(*wanted), "the answer");
     }
     expect(rt, writer.segments(), segments, "the segments");
     expect_bytes(rt, writer.into_inner().bytes(), want, "the sink");
 }
 
+// Writes the text in pieces of ten bytes.
+fn write_pieces(rt: &impl Abort, writer: &mut MemWriter) {
+    for piece in TEXT.chunks(10) {
+        expect(rt, writer.write(piece), Ok(10), "a write");
+        expect(rt, without_bytes(writer.flush()), Ok(0), "a flush");
+    }
+    expect(rt, writer.segments(), 2, "the segments before the close");
+}
+
+// The stream of the text in pieces.
+fn expect_pieces(rt: &impl Abort, mut writer: MemWriter) {
+    write_pieces(rt, &mut writer);
+    expect_calls(rt, writer, &[(Call::Close, Ok(0))], 3, SEALED);
+}
+
 #[test]
 fn pieces_give_the_same_stream(rt: HostRuntime) -> Result<(), Fail> {
-    let alloc = rt.alloc();
-    let mut writer = opened(alloc, &[])?;
-    for piece in TEXT.chunks(10) {
-        expect(&rt, writer.write(piece), Ok(10), "a write");
-        expect(&rt, writer.flush(), Ok(()), "a flush");
-    }
-    expect(&rt, writer.segments(), 2, "the segments before the close");
-    expect_calls(&rt, writer, &[(Call::Close, Ok(0))], 3, SEALED);
+    expect_pieces(&rt, opened(rt.alloc(), &[])?);
     Ok(())
 }
 
@@ -112,6 +149,11 @@ fn a_closed_writer_writes_nothing(rt: HostRuntime) -> Result<(), Fail> {
 fn the_last_segment_comes_at_close_alone(rt: HostRuntime) -> Result<(), Fail> {
     let held = [(Call::Write(&TEXT[..18]), Ok(18)), (Call::Flush, Ok(0))];
     expect_calls(&rt, opened(rt.alloc(), &[])?, &held, 0, &[]);
+    Ok(())
+}
+
+#[test]
+fn a_segment_comes_with_the_byte_behind_it(rt: HostRuntime) -> Result<(), Fail> {
     let one_more = [(Call::Write(&TEXT[..19]), Ok(19)), (Call::Flush, Ok(0))];
     expect_calls(&rt, opened(rt.alloc(), &[])?, &one_more, 1, &SEALED[..28]);
     Ok(())
@@ -152,31 +194,45 @@ fn refusal(
     offset: u32,
 ) -> Result<Option<Kind>, TinkError> {
     let nonce_size = if is_short { 11 } else { 16 };
-    match made(alloc, &[], nonce_size, size, offset)? {
+    let prefix = [3u8; 7].to_vec(alloc)?;
+    let buffers = Buffers::reserve(alloc, size, nonce_size)?;
+    let sink = MemSink::new(alloc, 0, Vec::new(alloc));
+    match made(sink, buffers, prefix, nonce_size, size, offset) {
         Ok(_) => Ok(None),
         Err(e) => Ok(Some(e.kind)),
     }
 }
 
+// That the sizes are refused so.
+fn expect_refusal(
+    rt: &impl Abort,
+    alloc: Global,
+    is_short: bool,
+    size: u32,
+    offset: u32,
+    wanted: Option<Kind>,
+) -> Result<(), TinkError> {
+    let told = refusal(alloc, is_short, size, offset)?;
+    expect(rt, told, wanted, "the refusal");
+    Ok(())
+}
+
 #[test]
 fn sizes_without_room_are_refused(rt: HostRuntime) -> Result<(), Fail> {
     let alloc = rt.alloc();
-    for (is_short, size, offset, wanted) in [
-        (true, 40, 41, Some(Kind::NonceTooShort)),
-        (true, 40, 12, Some(Kind::NonceTooShort)),
-        (false, 40, 41, Some(Kind::OffsetTooBig)),
-        (false, 40, 40, Some(Kind::SegmentTooSmall)),
-        (false, 40, 30, Some(Kind::SegmentTooSmall)),
-        (false, 40, 29, None),
-        (false, 0, 0, Some(Kind::SegmentTooSmall)),
-        (false, 11, 0, None),
-    ] {
-        expect(
-            &rt,
-            refusal(alloc, is_short, size, offset)?,
-            wanted,
-            "the refusal",
-        );
-    }
+    expect_refusal(&rt, alloc, true, 40, 41, Some(Kind::NonceTooShort))?;
+    expect_refusal(&rt, alloc, true, 40, 12, Some(Kind::NonceTooShort))?;
+    expect_refusal(&rt, alloc, false, 40, 41, Some(Kind::OffsetTooBig))?;
+    expect_refusal(&rt, alloc, false, 40, 40, Some(Kind::SegmentTooSmall))?;
+    expect_refusal(&rt, alloc, false, 40, 30, Some(Kind::SegmentTooSmall))?;
+    expect_refusal(&rt, alloc, false, 0, 0, Some(Kind::SegmentTooSmall))?;
+    Ok(())
+}
+
+#[test]
+fn sizes_with_room_are_taken(rt: HostRuntime) -> Result<(), Fail> {
+    let alloc = rt.alloc();
+    expect_refusal(&rt, alloc, false, 40, 29, None)?;
+    expect_refusal(&rt, alloc, false, 11, 0, None)?;
     Ok(())
 }

@@ -4,7 +4,7 @@ use Rattle.std.proofs.lemmas.List.{drop-take}
 use Rattle.std.proofs.lemmas.List.Edits.{take-paste}
 use Rattle.tink_streams.proofs.held.carry.Goals as goal
 
--- a part that was copied to the front
+-- a part that was copied to the start
 at_front : (place filled : ℕ) (xs : List ℕ) → place ≤ filled → filled ≤ length xs → take (filled - place) (paste xs 0 (drop place xs) (filled - place)) ≡ drop place (take filled xs)
 at_front place filled xs h f =
     let m : ℕ = filled - place in

@@ -1,7 +1,7 @@
 use Rattle.std.proofs.Common.{rules, [], ◌∷◌, ◌++◌, sym, refl, ◌∙◌, arith}
 use Rattle.std.proofs.lemmas.Result.{err_from_is_err_and}
 use Rattle.std.proofs.KnownBytes.{Appends-nil, Appends-trans}
-use Rattle.stream_model.specs.Cut.{numbered}
+use Rattle.tink_streams.specs.Openers.{segment_map}
 use Rattle.tink_streams.proofs.ReadingFacts.{opened_none, opened_more, opened_all}
 use Rattle.tink_streams.proofs.WholeSteps.{joined_more, refused_all, wrote_some, not_running}
 use Rattle.tink_streams.proofs.WriterSteps.{then_front}
@@ -26,7 +26,7 @@ returns-in_err-open_next-clause-answer g c =
     let p = err_from_is_err_and c.from_residual.result c.from_residual.ensures.1 in
     let inv = c.loop-reader.invariant in
     let first = c.args.reader.now in
-    rw (p.1, p.2) (refused_all (numbered (g.D.SegmentDecrypter.seg first.opener.decrypter) first.opener.nonce_size first.opener.prefix.items) first.opener.first first.opener.size first.opener.overhead _ _ _ inv.texts _ _ _ _
+    rw (p.1, p.2) (refused_all (segment_map first.opener) first.opener.first first.opener.size first.opener.overhead _ _ _ inv.texts _ _ _ _
     inv.reads refl (omega (arith, first.opener.some)) (omega (arith, first.opener.some, first.opener.first_fits)) inv.opened inv.written (rw inv.opener at c.in_err-open_next.ensures.answer))
 
 pub loop-reader-preserved : goal.loop-reader-preserved
@@ -36,7 +36,7 @@ loop-reader-preserved g c =
     let next = rw inv.opener at c.in_ok-open_next.ensures.answer in
     record {
       texts = inv.texts ++ (c.open_next.new.self.opened.items ∷ []);
-      opened = opened_more (numbered (g.D.SegmentDecrypter.seg first.opener.decrypter) first.opener.nonce_size first.opener.prefix.items) first.opener.first first.opener.size _ inv.texts _ _ inv.opened next;
+      opened = opened_more (segment_map first.opener) first.opener.first first.opener.size _ inv.texts _ _ inv.opened next;
       written = rw (joined_more inv.texts c.open_next.new.self.opened.items) (Appends-trans _ _ _ _ _ inv.written (rw c.opened.ensures at c.in_ok-write_all.ensures.written));
       lives = next.lives;
       ends = next.ends;
@@ -53,8 +53,8 @@ returns-in_err-write_all-clause-answer g c =
     let inv = c.loop-reader.invariant in
     let first = c.args.reader.now in
     let next = rw inv.opener at c.in_ok-open_next.ensures.answer in
-    rw (p.1, p.2, c.in_err-write_all.ensures.refused) (wrote_some (numbered (g.D.SegmentDecrypter.seg first.opener.decrypter) first.opener.nonce_size first.opener.prefix.items) first.opener.first first.opener.size _ _ _ (inv.texts ++ (c.open_next.new.self.opened.items ∷ [])) _ _ _
-    (opened_more (numbered (g.D.SegmentDecrypter.seg first.opener.decrypter) first.opener.nonce_size first.opener.prefix.items) first.opener.first first.opener.size _ inv.texts _ _ inv.opened next)
+    rw (p.1, p.2, c.in_err-write_all.ensures.refused) (wrote_some (segment_map first.opener) first.opener.first first.opener.size _ _ _ (inv.texts ++ (c.open_next.new.self.opened.items ∷ [])) _ _ _
+    (opened_more (segment_map first.opener) first.opener.first first.opener.size _ inv.texts _ _ inv.opened next)
     (omega (arith, inv.writes, c.in_err-write_all.ensures.cause)) (rw (joined_more inv.texts c.open_next.new.self.opened.items) (then_front _ _ _ _ _ inv.written (rw c.opened.ensures at c.in_err-write_all.ensures.front))))
 
 pub returns-clause-answer : goal.returns-clause-answer
@@ -66,6 +66,6 @@ returns-clause-answer g c =
     record {
       texts = inv.texts;
       some = omega (arith, inv.opened.number);
-      leads = opened_all (numbered (g.D.SegmentDecrypter.seg first.opener.decrypter) first.opener.nonce_size first.opener.prefix.items) first.opener.first first.opener.size _ inv.texts _ inv.opened (inv.ends ended);
+      leads = opened_all (segment_map first.opener) first.opener.first first.opener.size _ inv.texts _ inv.opened (inv.ends ended);
       written = inv.written;
     }

@@ -1,6 +1,6 @@
-use Rattle.std.proofs.Common.{◌≡◌, ◌≤◌, ◌-◌, ◌^◌, ℕ, List, take}
-use Rattle.std.specs.Io.KnownBytes.{Appends, IsAtEnd, prepend_known}
-use Rattle.stream_model.specs.Cut.{numbered}
+use Rattle.std.proofs.Common.{◌≡◌, ◌≤◌, ◌-◌, ◌^◌, ℕ, List}
+use Rattle.std.specs.Io.KnownBytes.{Appends, IsAtEnd}
+use Rattle.tink_streams.specs.Openers.{reader_moment, reader_rest, segment_map}
 use Rattle.stream_model.specs.Agree.{joined}
 use Rattle.tink_streams.specs.Reading.{HasNotFailed}
 use Rattle.tink_streams.specs.declared.progress.Progress.TheVariants.{Ended}
@@ -13,12 +13,11 @@ invariant-loop-reader g l =
     let source = g.S.Source in
     record {
       texts : List (List ℕ);
-      opened : Opened (numbered (g.D.SegmentDecrypter.seg first.opener.decrypter) first.opener.nonce_size first.opener.prefix.items) first.opener.first first.opener.size
-          (prepend_known (take first.filled first.buffer.items) (source.left l.fn.source)) texts
-          (record { progress = l.reader.progress; number = l.reader.segments; opened = l.reader.opened.items; rest = prepend_known (take l.reader.filled l.reader.buffer.items) (source.left l.source); faults = source.faults l.source });
+      opened : Opened (segment_map first.opener) first.opener.first first.opener.size (reader_rest source.left first l.fn.source) texts
+          (reader_moment source.left source.faults l.reader l.source);
       written : Appends (g.K.Sink.got l.fn.sink) (g.K.Sink.got l.sink) (joined texts);
       lives : HasNotFailed l.reader.progress;
-      ends : l.reader.progress ≡ Ended → IsAtEnd (prepend_known (take l.reader.filled l.reader.buffer.items) (source.left l.source));
+      ends : l.reader.progress ≡ Ended → IsAtEnd (reader_rest source.left l.reader l.source);
       opener : l.reader.opener ≡ first.opener;
       reads : source.faults l.fn.source ≤ source.faults l.source;
       writes : g.K.Sink.faults l.fn.sink ≤ g.K.Sink.faults l.sink;

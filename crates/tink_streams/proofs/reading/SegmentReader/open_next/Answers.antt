@@ -1,6 +1,7 @@
 use Rattle.std.proofs.Common.{◌≡◌, ◌≤◌, ◌<◌, ◌-◌, ℕ, length, take, drop, ap, sym, refl, ◌∙◌, arith}
 use Rattle.std.proofs.lemmas.List.{length-take}
-use Rattle.stream_model.specs.Cut.{room_at, numbered}
+use Rattle.stream_model.specs.Cut.{room_at}
+use Rattle.tink_streams.specs.Openers.{segment_map}
 use Rattle.tink_streams.proofs.FrontFacts.{opened_front, refused_front, none_numbered, some_left, short_front, long_front, size_least, stays, ended}
 use Rattle.tink_streams.proofs.reading.SegmentReader.open_next.Goals as goal
 
@@ -22,7 +23,7 @@ returns-then-self-max-clause-answer g c =
     let held = rw c.size_of-size.ensures at c.in-Ok.ensures.held in
     rw c.new-then-self-max.ensures (record {
       fails = record { failed = refl; number = refl; opened = c.open_front.ensures.cleared c.if-not-open_front.true };
-      nothing = refused_front (numbered (g.D.SegmentDecrypter.seg self.opener.decrypter) self.opener.nonce_size self.opener.prefix.items) self.opener.first self.opener.size self.segments _ _ _
+      nothing = refused_front (segment_map self.opener) self.opener.first self.opener.size self.segments _ _ _
           (omega (arith, size_least self.opener.first self.opener.size self.segments self.opener.first_fits)) (omega arith) held
           (rw c.deref.ensures.value at (c.open_front.ensures.refused c.if-not-open_front.true));
       number = c.in-Ok-try_from.ensures.1;
@@ -36,7 +37,7 @@ returns-then-not-open_front-clause-answer g c =
     let held = rw c.size_of-size.ensures at c.in-Ok.ensures.held in
     rw c.new-then-not-open_front.ensures (record {
       fails = record { failed = refl; number = refl; opened = c.open_front.ensures.cleared c.if-not-open_front.true };
-      nothing = refused_front (numbered (g.D.SegmentDecrypter.seg self.opener.decrypter) self.opener.nonce_size self.opener.prefix.items) self.opener.first self.opener.size self.segments _ _ _
+      nothing = refused_front (segment_map self.opener) self.opener.first self.opener.size self.segments _ _ _
           (omega (arith, size_least self.opener.first self.opener.size self.segments self.opener.first_fits)) (omega arith) held
           (rw c.deref.ensures.value at (c.open_front.ensures.refused c.if-not-open_front.true));
       number = c.in-Ok-try_from.ensures.1;
@@ -53,7 +54,7 @@ returns-clause-answer g c =
     let stay : take (c.in-Ok.n - c.min-n.result) c.carry.new.buffer.items ≡ drop (room_at a b self.segments) (take c.in-Ok.n c.hold.new.buffer.items) =
     c.carry.ensures.bytes ∙ sym (stays c.in-Ok.n c.min-n.result (room_at a b self.segments) c.hold.new.buffer.items there (rw c.size_of-size.ensures at c.min-n.ensures)) in
     record {
-      leads = rw stay (opened_front (numbered (g.D.SegmentDecrypter.seg self.opener.decrypter) self.opener.nonce_size self.opener.prefix.items) a b self.segments _ _ (take c.in-Ok.n c.hold.new.buffer.items) c.open_front.new.opened.items (omega arith)
+      leads = rw stay (opened_front (segment_map self.opener) a b self.segments _ _ (take c.in-Ok.n c.hold.new.buffer.items) c.open_front.new.opened.items (omega arith)
           (omega (arith, size_least a b self.segments self.opener.first_fits)) (omega arith) held (rw c.deref.ensures.value at (c.open_front.ensures.ok c.if-not-open_front.false)));
       number = refl;
       lives = c.progress_after-self.ensures.lives;

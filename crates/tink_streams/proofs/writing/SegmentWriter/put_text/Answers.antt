@@ -2,7 +2,8 @@ use Rattle.std.proofs.Common.{◌≡◌, ◌+◌, ◌-◌, ◌<◌, ◌≤◌, �
 use Rattle.std.proofs.lemmas.Result.{err_from_is_err_and}
 use Rattle.std.proofs.KnownBytes.{Appends-nil}
 use Rattle.std.proofs.Math.ListN.{drop_of_length-le}
-use Rattle.stream_model.specs.Cut.{numbered, room_at}
+use Rattle.stream_model.specs.Cut.{room_at}
+use Rattle.tink_streams.specs.Sealers.{segment_map}
 use Rattle.tink_streams.proofs.WriterSteps.{proceeds_start, proceeds_step, proceeds_end, proceeds_at, stands, one_more, is_full, whole_rest, went_on, all_done, room_some}
 use Rattle.tink_streams.proofs.writing.SegmentWriter.put_text.Goals as goal
 
@@ -48,9 +49,9 @@ returns-in_err-put-clause-answer g c =
     let first = c.args.self.now in
     let self = c.loop-at.self in
     let inv = c.loop-at.invariant in
-    let put = c.in_err-put.ensures in
+    let put = c.in_err-put.ensures.answer in
     let some = room_some first.sealer.first first.sealer.room self.segments first.sealer.some first.sealer.first_fits in
-    rw (p.1, p.2, put.refused) (record {
+    rw (p.1, p.2, put.kind) (record {
       was_open = c.requires;
       failed = put.failed;
       stops = record {
@@ -59,12 +60,12 @@ returns-in_err-put-clause-answer g c =
         more = _;
         split = stands first.sealer.first first.sealer.room first.segments _ inv.done self.segments self.held.items (drop c.loop-at.at c.args.buf.now) inv.proceeds
             (sym self.held.ok.0 ∙ inv.full c.loop-at-test.true) (omega (arith, length-drop c.loop-at.at c.args.buf.now)) some (omega arith);
-        counted = put.segments ∙ inv.proceeds.number;
+        counted = put.counted ∙ inv.proceeds.number;
         between = _;
         whole = inv.written;
-        front = rw (inv.sealer, sym put.segments) at put.front;
+        front = rw (inv.sealer, sym put.counted) at put.begun;
       };
-      rose = omega arith;
+      rose = omega (arith, put.rose);
     })
 
 pub loop-at-preserved : goal.loop-at-preserved
@@ -73,6 +74,7 @@ loop-at-preserved g c =
     let self = c.loop-at.self in
     let inv = c.loop-at.invariant in
     let put = c.in_ok-put.ensures in
+    let done = put.answer in
     let then = c.put.new.self in
     let h = c.hold-at-in-loop-at in
     let room : ℕ → ℕ = room_at first.sealer.first first.sealer.room in
@@ -86,13 +88,13 @@ loop-at-preserved g c =
       full = λ more. is_full (room_at then.sealer.first then.sealer.room then.segments) h.result _ _ then.held.items h.new.self.held.items part then.held.ok.0 h.new.self.held.ok.0 h.ensures.held h.ensures.count then.held_fits
           (omega (arith, ap length part_is, length-drop c.loop-at.at c.args.buf.now))
           ∙ ap (λ s. room_at s.first s.room then.segments) (put.sealer ∙ inv.sealer) ∙ ap room (sym h.ensures.segments);
-      is_open = h.ensures.mode ∙ put.ok_mode;
+      is_open = h.ensures.mode ∙ done.mode;
       sealer = h.ensures.sealer ∙ put.sealer ∙ inv.sealer;
       done = inv.done ++ self.held.items ∷ [];
-      written = one_more (numbered (g.E.SegmentEncrypter.seg first.sealer.encrypter) first.sealer.nonce_size first.sealer.prefix.items) _ _ _ first.segments self.segments inv.done self.held.items inv.proceeds.number inv.written (rw inv.sealer at put.ok);
+      written = one_more (segment_map first.sealer) _ _ _ first.segments self.segments inv.done self.held.items inv.proceeds.number inv.written (rw inv.sealer at done.appended);
       proceeds = proceeds_at first.sealer.first first.sealer.room first.segments _ (inv.done ++ self.held.items ∷ []) (self.segments + 1) _ rest _
           (proceeds_step first.sealer.first first.sealer.room first.segments _ inv.done self.segments self.held.items rest inv.proceeds held_full (omega (arith, length-drop c.loop-at.at c.args.buf.now)) some (omega arith))
-          (h.ensures.segments ∙ put.ok_segments) (went_on c.loop-at.at h.result c.args.buf.now then.held.items h.new.self.held.items part put.ok_held h.ensures.held part_is);
+          (h.ensures.segments ∙ done.counted) (went_on c.loop-at.at h.result c.args.buf.now then.held.items h.new.self.held.items part done.held h.ensures.held part_is);
       later = omega (arith, put.later);
       same = g.met.K.Sink.same_trans _ _ _ inv.same put.same;
     }

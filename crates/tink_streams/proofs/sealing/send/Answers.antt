@@ -1,9 +1,9 @@
 use Rattle.std.proofs.Common.{◌≡◌, ◌+◌, ℕ, List, ◌++◌, length, take, drop, ◌∙◌, subst, arith}
 use Rattle.std.proofs.Math.Seq.{take-append_seam}
 use Rattle.std.proofs.lemmas.List.{length-take}
-use Rattle.tink_streams.proofs.writing.send.Goals as goal
+use Rattle.tink_streams.proofs.sealing.send.Goals as goal
 
--- the front of a slice that was written
+-- the prefix of a slice that was written
 written_back : (n : ℕ) (new old seg : List ℕ) → length new ≡ n → new ≡ seg → take n (new ++ drop n old) ≡ seg
 written_back n new old seg l s = subst (λ (k : ℕ). take k (new ++ drop n old) ≡ new) l (take-append_seam new (drop n old)) ∙ s
 

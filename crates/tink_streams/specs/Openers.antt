@@ -1,0 +1,62 @@
+-- What a contract sees of readers that are handed their source at each call.
+use Rattle.std.specs.Prelude.{◌≡◌, ℕ, Bool, List, [], drop, take, vec_len}
+use Rattle.std.specs.Option.{ForSome}
+use Rattle.std.specs.declared.option.Option.{Option}
+use Rattle.std.specs.Io.KnownBytes.{prepend_known}
+use Rattle.stream_model.specs.Cut.{numbered}
+use Rattle.tink_segment_traits.specs.declared.segment_traits.SegmentDecrypter.{Ghosts}
+use Rattle.tink_streams.specs.Readers.{ReaderState}
+use Rattle.tink_streams.specs.Reading as segments
+use Rattle.tink_streams.specs.TextReading as text
+use Rattle.tink_streams.specs.declared.progress.Progress.TheVariants.{Ended}
+use Rattle.tink_streams.specs.declared.opener.Opener.{Opener}
+use Rattle.tink_streams.specs.declared.reading.SegmentReader.{SegmentReader}
+use Rattle.tink_streams.specs.declared.text_reader.TextReader.{TextReader}
+
+module _ {D : Type 0} {g : Ghosts D} where
+  -- the segment of a text by its number and its mark
+  abbrev pub segment_map : Opener D g → ℕ → Bool → List ℕ → List ℕ
+  segment_map o = numbered (g.seg o.decrypter) o.nonce_size o.prefix.items
+
+  -- the bytes that a reader holds
+  abbrev pub held_bytes : SegmentReader D g → List ℕ
+  held_bytes r = take r.filled r.buffer.items
+
+  -- the bytes that a reader holds, and those that the source still gives
+  abbrev pub reader_rest : {S : Type 0} → (S → Option (List ℕ)) → SegmentReader D g → S → Option (List ℕ)
+  reader_rest left r source = prepend_known (held_bytes r) (left source)
+
+  -- the reader at this moment, by what the source still gives and by its faults
+  abbrev pub reader_moment : {S : Type 0} → (S → Option (List ℕ)) → (S → ℕ) → SegmentReader D g → S → segments.Moment
+  reader_moment left faults r source = record { progress = r.progress; number = r.segments; opened = r.opened.items; rest = reader_rest left r source; faults = faults source }
+
+  -- nothing is left once the last segment was opened
+  abbrev pub IsSound : {S : Type 0} → (S → Option (List ℕ)) → SegmentReader D g → S → Type 0
+  IsSound left r source = r.progress ≡ Ended → ForSome (reader_rest left r source) (λ xs. xs ≡ [])
+
+  -- the text that was opened and is not yet given
+  abbrev pub pending_text : TextReader D g → List ℕ
+  pending_text t = drop t.given t.reader.opened.items
+
+  -- the reader at this moment, by what the source still gives and by its faults
+  abbrev pub text_moment : {S : Type 0} → (S → Option (List ℕ)) → (S → ℕ) → TextReader D g → S → text.Moment
+  text_moment left faults t source = record { progress = t.reader.progress; number = t.reader.segments; pending = pending_text t; rest = reader_rest left t.reader source; faults = faults source }
+
+  -- a reader with this text to give, and with a source that it owns
+  abbrev pub reader_state : {S : Type 0} → SegmentReader D g → List ℕ → S → ReaderState S D
+  reader_state r pending source = record {
+    opening = record {
+      decrypter = r.opener.decrypter;
+      prefix = r.opener.prefix.items;
+      nonce_size = r.opener.nonce_size;
+      overhead = r.opener.overhead;
+      first = r.opener.first;
+      size = r.opener.size;
+    };
+    progress = r.progress;
+    number = r.segments;
+    pending = pending;
+    held = held_bytes r;
+    room = vec_len r.buffer;
+    source = source;
+  }

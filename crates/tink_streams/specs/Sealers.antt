@@ -1,0 +1,34 @@
+-- What a contract sees of a writer that is handed its sink at each call.
+use Rattle.std.specs.Prelude.{ℕ, Bool, List}
+use Rattle.std.specs.declared.option.Option.{Option}
+use Rattle.stream_model.specs.Cut.{numbered}
+use Rattle.tink_segment_traits.specs.declared.segment_traits.SegmentEncrypter.{Ghosts}
+use Rattle.tink_streams.specs.Writers.{WriterState}
+use Rattle.tink_streams.specs.Writing.{Moment}
+use Rattle.tink_streams.specs.declared.sealer.Sealer.{Sealer}
+use Rattle.tink_streams.specs.declared.writing.SegmentWriter.{SegmentWriter}
+
+module _ {E : Type 0} {g : Ghosts E} where
+  -- the segment of a text by its number and its mark
+  abbrev pub segment_map : Sealer E g → ℕ → Bool → List ℕ → List ℕ
+  segment_map s = numbered (g.seg s.encrypter) s.nonce_size s.prefix.items
+
+  -- the writer at this moment, by what the sink got and by its faults
+  abbrev pub writer_moment : {K : Type 0} → (K → Option (List ℕ)) → (K → ℕ) → SegmentWriter E g → K → Moment
+  writer_moment got faults w sink = record { mode = w.mode; number = w.segments; held = w.held.items; got = got sink; faults = faults sink }
+
+  -- the writer with a sink that it owns
+  abbrev pub writer_state : {K : Type 0} → SegmentWriter E g → K → WriterState K E
+  writer_state w sink = record {
+    sealing = record {
+      encrypter = w.sealer.encrypter;
+      prefix = w.sealer.prefix.items;
+      nonce_size = w.sealer.nonce_size;
+      first = w.sealer.first;
+      room = w.sealer.room;
+    };
+    mode = w.mode;
+    number = w.segments;
+    held = w.held.items;
+    sink = sink;
+  }
