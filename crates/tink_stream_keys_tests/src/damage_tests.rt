@@ -1,4 +1,4 @@
-//! Damaged streams of three segments: each is refused by its kind, and what is read before is a front of the text.
+//! Damaged streams of three segments: each is refused by its kind, and what is read before is a prefix of the text.
 
 use crate::comparing::{expect, expect_bytes};
 use crate::streams::{MAIN, draws, read_pieces, source, write_pieces};
@@ -122,7 +122,8 @@ fn first_difference(a: &[u8], b: &[u8]) -> usize {
     a.len().min(b.len())
 }
 
-// The number of the segment in which a place lies, and where that segment begins. The header is taken for the first one.
+// The number of the segment in which a place lies, and where that segment begins. The header is taken for the first
+// one.
 fn segment_at(ends: &[usize; 4], place: usize) -> (u32, usize) {
     if place < ends[1] {
         (0, ends[0])
@@ -218,8 +219,8 @@ fn expect_no_cut(rt: &impl Abort, alloc: Global, sample: &Sample) -> Result<(), 
     Ok(())
 }
 
-// Numbers of parts: 0 is the header and 1 to 3 are the segments of the stream, 4 to 7 those of the other one. In turn a part
-// is repeated, exchanged with another and dropped, and the two streams are joined.
+// Numbers of parts: 0 is the header and 1 to 3 are the segments of the stream, 4 to 7 those of the other one. In turn
+// a part is repeated, exchanged with another and dropped, and the two streams are joined.
 const ORDERS: [&[usize]; 21] = [
     &[0, 0, 1, 2, 3],
     &[0, 1, 1, 2, 3],

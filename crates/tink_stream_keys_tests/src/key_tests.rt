@@ -26,14 +26,14 @@ const SALT: &[u8; 32] =
 const IN_COUNTER_MODE: &[u8; 58] =
     b"\xbf\xcf\x0c\x76\x9b\x15\x47\xaa\x31\xdb\x6c\x99\x62\x11\xbc\xde\x5e\x01\xfc\xdc\x41\x46\x3e\x79\xab\x70\x15\x4d\xe4\x5d\xd9\xd1\xfb\x98\x33\xbb\xa3\x25\x77\x1a\x46\xee\x35\xbf\xc0\x34\x72\x09\xc7\x5b\xbc\xc0\x12\xff\x58\xdb\x60\x0f";
 
-// The text's segment under the nonce 1, 2, .., 12 and the front of the salt, with "associated": HKDF with SHA-512,
+// The text's segment under the nonce 1, 2, .., 12 and a prefix of the salt, with "associated": HKDF with SHA-512,
 // AES-128.
 const BY_GCM: &[u8; 54] =
     b"\x2a\x87\x2e\x1e\x7a\x0d\x61\x9f\x8c\x74\xed\x02\x57\x99\x5e\x98\x6b\xeb\x8b\xb5\xec\x51\x35\x1c\xce\x42\x64\xe5\xfd\xa3\xe3\xad\x3f\x6c\xfa\xdc\xe3\xfe\x18\xfd\xf4\x5a\x6b\x7c\x3e\x79\xc4\x77\xad\xa7\xf0\x05\x56\x86";
 
 const NONCE: [u8; 16] = [1, 2, 3, 4, 5, 6, 7, 8, 9, 10, 11, 12, 13, 14, 15, 16];
 
-// Why a key in counter mode with the front of the main key, this derived size, tag and sizes of segments is refused.
+// Why a key in counter mode with a prefix of the main key, this derived size, tag and sizes of segments is refused.
 fn ctr_refusal(
     alloc: Global,
     main: usize,

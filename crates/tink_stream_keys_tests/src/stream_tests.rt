@@ -1,5 +1,6 @@
 //! Streams under keys of either kind, over memory.
 
+use crate::callers::new_stream;
 use crate::comparing::{expect, expect_bytes};
 use crate::streams::{
     BY_GCM, DRAWS, IN_COUNTER_MODE, TEXT, counter_mode, draws, gcm, read_pieces, sink, source,
@@ -91,8 +92,8 @@ where
     Ok(())
 }
 
-// A stream, from a source whose calls of these numbers fail, that opens to so many bytes of the text, and what it is refused
-// by.
+// A stream, from a source whose calls of these numbers fail, that opens to so many bytes of the text, and what it is
+// refused by.
 fn expect_opened<A>(
     rt: &impl Abort,
     alloc: Global,
@@ -136,6 +137,24 @@ fn streams_are_those_of_python(rt: HostRuntime) -> Result<(), Fail> {
     let sha = HashType::Sha256;
     expect_sealed(&rt, alloc, counter_mode(alloc, sha), IN_COUNTER_MODE)?;
     expect_sealed(&rt, alloc, gcm(alloc, sha, 50), BY_GCM)?;
+    Ok(())
+}
+
+// What the sink of a new stream has.
+fn begun(alloc: Global) -> Result<Vec<u8>, TinkError> {
+    let key = gcm(alloc, HashType::Sha256, 50)?;
+    let mut draws = draws(alloc, DRAWS)?;
+    let sink = sink(alloc, &[])?;
+    match new_stream(alloc, &key, &mut draws, sink, b"data") {
+        Ok(writer) => Ok(writer.into_inner().into_bytes()),
+        Err(refused) => Err(refused.error),
+    }
+}
+
+#[test]
+fn a_new_stream_has_its_header(rt: HostRuntime) -> Result<(), Fail> {
+    let header = begun(rt.alloc())?;
+    expect_bytes(&rt, &header, BY_GCM.get(..24).unwrap_or(&[]), "the header");
     Ok(())
 }
 

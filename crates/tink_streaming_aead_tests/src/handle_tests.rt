@@ -63,7 +63,8 @@ fn writer_into<'a>(
     }
 }
 
-// What stands in a sink after a text was written in pieces of ten, each flushed, and after the close where there is one.
+// What stands in a sink after a text was written in pieces of ten, each flushed, and after the close where there is
+// one.
 fn written(
     alloc: Global,
     aeads: &WrappedStreamingAead,
@@ -156,8 +157,8 @@ fn a_handle_seals_and_opens_in_pieces_of_ten(rt: HostRuntime) -> Result<(), Fail
     Ok(())
 }
 
-// A writer that is dropped after 4,041 bytes of text, of which 4,040 are in the first segment: its sink has the header and
-// that segment, which is not marked.
+// A writer that is dropped after 4,041 bytes of text, of which 4,040 are in the first segment: its sink has the
+// header and that segment, which is not marked.
 #[test]
 fn a_dropped_writer_leaves_no_marked_segment(rt: HostRuntime) -> Result<(), Fail> {
     let alloc = rt.alloc();

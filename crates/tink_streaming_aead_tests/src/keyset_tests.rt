@@ -60,7 +60,8 @@ fn reader_of(
     reader_by(alloc, &aeads, stream, fails)
 }
 
-// Reads up to the end: how many bytes of the text they give, by what they are refused, and how many segments were opened.
+// Reads up to the end: how many bytes of the text they give, by what they are refused, and how many segments were
+// opened.
 fn expect_given(
     rt: &impl Abort,
     alloc: Global,

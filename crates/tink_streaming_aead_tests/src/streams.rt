@@ -1,5 +1,6 @@
 //! The registry of both managers, readers by the keys of a keyset, and a stream that Python made.
 
+use crate::callers::stream_in;
 use crate::one_of::Streams;
 use std::alloc::Global;
 use tink_core::registry::Registry;
@@ -32,7 +33,7 @@ pub fn reader_by(
     fails: &[u32],
 ) -> Result<DecryptReader<MemSource>, TinkError> {
     let source = MemSource::new(stream.to_vec(alloc)?, 10, fails.to_vec(alloc)?);
-    match aeads.new_decrypting_reader(alloc, source, b"data") {
+    match stream_in(alloc, aeads, source, b"data") {
         Ok(reader) => Ok(reader),
         Err(refused) => Err(refused.error),
     }

@@ -18,8 +18,8 @@ use tink_streaming_aead::{
 };
 use tink_testutil::{draws_of, kind_of};
 
-// The sizes that a key tells: of a header, a segment, the first segment, what a segment has more than its text, a derived
-// key and a nonce.
+// The sizes that a key tells: of a header, a segment, the first segment, what a segment has more than its text, a
+// derived key and a nonce.
 fn sizes_of<K: DerivesStreams>(key: &K) -> [usize; 6] {
     [
         key.header_length(),
