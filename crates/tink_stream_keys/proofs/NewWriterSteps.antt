@@ -1,6 +1,6 @@
 -- From the steps of a new writer to its answer.
 use Rattle.std.proofs.Common.{◌≡◌, ◌⊎◌, inl, inr, ◌+◌, ℕ, List, [], ◌∷◌, ◌++◌, length, take, drop, refl, sym, ap, subst, ◌∙◌, Some, None, get_or}
-use Rattle.std.specs.Prelude.{Result, Ok, Err}
+use Rattle.std.specs.Prelude.{Err}
 use Rattle.std.proofs.lemmas.List.{take-append-drop}
 use Rattle.std.specs.declared.option.Option.{Option}
 use Rattle.std.specs.Io.KnownBytes.{Appends}
@@ -11,15 +11,13 @@ use Rattle.tink_io.specs.Written.{AppendsFront}
 use Rattle.tink_io.specs.declared.error.Kind.{Kind}
 use Rattle.tink_io.specs.declared.error.Kind.TheVariants.{OutOfMemory, RandomFault, UnknownHash, UnsupportedHash, WriteFault}
 use Rattle.tink_primitives.specs.Meaning.{IsEndOf}
-use Rattle.tink_primitives.specs.declared.streams.Refused.{Refused}
 use Rattle.stream_model.specs.Key.{StreamKey, first_room, front, header_length, keys_of, nonce_size, room}
 use Rattle.stream_model.specs.Sealing.{drawn, prefix_of, salt_of}
 use Rattle.tink_segments.specs.declared.stream_segment.StreamSegment.{StreamSegment}
 use Rattle.tink_streams.specs.declared.writing.Mode.TheVariants.{Open}
-use Rattle.tink_stream_keys.specs.Encrypting.{DrewHeader, IsNewStream, NewWriterMeans, NewWriterRefused, WroteFrontPart}
+use Rattle.tink_stream_keys.specs.Encrypting.{DrewHeader, IsNewStream, NewWriterRefused, WroteFrontPart}
 use Rattle.tink_segments.specs.StreamSegments.{segment_by}
 use Rattle.tink_stream_keys.specs.StreamingKeys.{IsDerived, deriving_hash}
-use Rattle.tink_streams.specs.Writers.{WriterState}
 use Rattle.tink_streams.specs.Writing.{Moment}
 use Rattle.tink_stream_keys.proofs.HeaderFacts.{drawn_header, header_front, seg_is}
 use Rattle.stream_model.specs.Cut.{numbered}
@@ -84,20 +82,16 @@ module _ (k : StreamKey) (aad draws left h : List ℕ) (n m : ℕ) (cipher : Str
     held = held;
   }
 
--- ---- the draws that are left
+-- ---- the draws that are left are an end of those that there were
 
-drew_end : (k : StreamKey) (draws left : List ℕ) → DrewHeader k draws left → IsEndOf left draws
+pub drew_end : (k : StreamKey) (draws left : List ℕ) → DrewHeader k draws left → IsEndOf left draws
 drew_end k draws left drew = (take (drawn k) draws, sym (take-append-drop (drawn k) draws) ∙ ap (λ xs. take (drawn k) draws ++ xs) (sym drew.rest))
 
--- the draws that are left are an end of those that there were
-pub means_end : {W : Type 0} (got : W → Option (List ℕ)) (faults : W → ℕ) (k : StreamKey) (aad draws left : List ℕ) (sink : W) (r : Result (WriterState W StreamSegment) (Refused W)) → NewWriterMeans got faults k aad draws left sink r → IsEndOf left draws
-means_end got faults k aad draws left sink (Ok w) m = drew_end k draws left m.drew
-means_end got faults k aad draws left sink (Err refused) m = go refused.error.kind m
-  where
-    go : (kind : Kind) → NewWriterRefused got faults k aad draws left sink refused.inner kind → IsEndOf left draws
-    go OutOfMemory r = ([], sym r.undrawn)
-    go RandomFault r = ([], sym r.untouched.undrawn)
-    go UnknownHash r = drew_end k draws left r.drew
-    go UnsupportedHash r = drew_end k draws left r.drew
-    go WriteFault r = drew_end k draws left r.drew
-    go _ r = absurd r
+-- and after a refusal too
+pub refused_end : {W : Type 0} (got : W → Option (List ℕ)) (faults : W → ℕ) (k : StreamKey) (aad draws left : List ℕ) (old new : W) (kind : Kind) → NewWriterRefused got faults k aad draws left old new kind → IsEndOf left draws
+refused_end got faults k aad draws left old new OutOfMemory r = ([], sym r.undrawn)
+refused_end got faults k aad draws left old new RandomFault r = ([], sym r.untouched.undrawn)
+refused_end got faults k aad draws left old new UnknownHash r = drew_end k draws left r.drew
+refused_end got faults k aad draws left old new UnsupportedHash r = drew_end k draws left r.drew
+refused_end got faults k aad draws left old new WriteFault r = drew_end k draws left r.drew
+refused_end got faults k aad draws left old new _ r = absurd r

@@ -67,3 +67,8 @@ abbrev pub NewReaderMeans : {R : Type 0} → (R → Option (List ℕ)) → (R �
 NewReaderMeans left faults k aad source (Ok r) =
     IsNewReader k aad (left source) (seg_of segment_by r.opening) r.opening.first r.opening.size r.opening.overhead r.held (moment_of left faults r)
 NewReaderMeans left faults k aad source (Err refused) = NewReaderRefused left faults k source refused.inner refused.error.kind
+
+-- the source, in the reader or handed back
+abbrev pub source_of : {R : Type 0} → Result (ReaderState R StreamSegment) (Refused R) → R
+source_of (Ok r) = r.source
+source_of (Err refused) = refused.inner

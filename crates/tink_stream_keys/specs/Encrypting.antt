@@ -73,3 +73,8 @@ module _ {W : Type 0} (got : W → Option (List ℕ)) (faults : W → ℕ) (k : 
 abbrev pub NewWriterMeans : {W : Type 0} → (W → Option (List ℕ)) → (W → ℕ) → StreamKey → List ℕ → List ℕ → List ℕ → W → Result (WriterState W StreamSegment) (Refused W) → Type 0
 NewWriterMeans got faults k aad draws left sink (Ok w) = IsNewStream k aad draws left (got sink) (seg_of segment_by w.sealing) w.sealing.first w.sealing.room (moment_of got faults w)
 NewWriterMeans got faults k aad draws left sink (Err refused) = NewWriterRefused got faults k aad draws left sink refused.inner refused.error.kind
+
+-- the sink, in the writer or handed back
+abbrev pub sink_of : {W : Type 0} → Result (WriterState W StreamSegment) (Refused W) → W
+sink_of (Ok w) = w.sink
+sink_of (Err refused) = refused.inner

@@ -1,11 +1,12 @@
 //! Keys of streams in counter mode with HMAC.
 
-ghost use Rattle.std.specs.Prelude.{◌≡◌, ◌≤◌, MatchResult};
+ghost use Rattle.std.specs.Prelude.{◌≡◌, ◌≤◌};
 ghost use Rattle.stream_model.specs.Key.{header_length};
 ghost use Rattle.tink_core.specs.Subtle.{hash_named};
 ghost use Rattle.tink_io.specs.Told.{Answers, Tells};
-ghost use Rattle.tink_stream_keys.specs.Decrypting.{NewReaderMeans};
-ghost use Rattle.tink_stream_keys.specs.Encrypting.{NewWriterMeans};
+ghost use Rattle.tink_primitives.specs.Meaning.{IsEndOf};
+ghost use Rattle.tink_stream_keys.specs.Decrypting.{NewReaderMeans, source_of};
+ghost use Rattle.tink_stream_keys.specs.Encrypting.{NewWriterMeans, sink_of};
 ghost use Rattle.tink_stream_keys.specs.StreamingKeys.{ctr_hmac_key, ctr_hmac_sizes};
 
 use crate::decrypting::new_decrypting_reader;
@@ -112,9 +113,9 @@ impl AesCtrHmac {
         additional_data: &[u8],
     ) -> Result<Writer<K, StreamSegment>, Refused<K>>
         ensures answer { NewWriterMeans K.got K.faults self.now additional_data.now draws.old draws.new w result }
-        ensures later { MatchResult result (λ made. K.faults w ≤ K.faults made.sink)
-            (λ refused. K.faults w ≤ K.faults refused.inner) }
-        ensures same { MatchResult result (λ made. K.same w made.sink) (λ refused. K.same w refused.inner) }
+        ensures later { K.faults w ≤ K.faults (sink_of result) }
+        ensures same { K.same w (sink_of result) }
+        ensures ends { IsEndOf draws.new draws.old }
     {
         new_encrypting_writer(alloc, self, draws, w, additional_data)
     }
@@ -132,9 +133,8 @@ impl AesCtrHmac {
         additional_data: &[u8],
     ) -> Result<Reader<S, StreamSegment>, Refused<S>>
         ensures answer { NewReaderMeans S.left S.faults self.now additional_data.now r result }
-        ensures later { MatchResult result (λ made. S.faults r ≤ S.faults made.source)
-            (λ refused. S.faults r ≤ S.faults refused.inner) }
-        ensures same { MatchResult result (λ made. S.same r made.source) (λ refused. S.same r refused.inner) }
+        ensures later { S.faults r ≤ S.faults (source_of result) }
+        ensures same { S.same r (source_of result) }
     {
         new_decrypting_reader(alloc, self, r, additional_data)
     }
@@ -204,8 +204,13 @@ impl<S: Source + Drop, K: Sink + Drop> StreamingAead<S, K> for AesCtrHmac {
         draws: &mut Draws,
         w: K,
         additional_data: &[u8],
-    ) -> Result<Writer<K, StreamSegment>, Refused<K>> {
-        new_encrypting_writer(alloc, self, draws, w, additional_data)
+    ) -> Result<Writer<K, StreamSegment>, Refused<K>>
+        ensures answer { NewWriterMeans K.got K.faults self.now additional_data.now draws.old draws.new w result }
+        ensures later { K.faults w ≤ K.faults (sink_of result) }
+        ensures same { K.same w (sink_of result) }
+        ensures ends { IsEndOf draws.new draws.old }
+    {
+        AesCtrHmac::new_encrypting_writer(self, alloc, draws, w, additional_data)
     }
 
     fn new_decrypting_reader(
@@ -213,7 +218,11 @@ impl<S: Source + Drop, K: Sink + Drop> StreamingAead<S, K> for AesCtrHmac {
         alloc: Global,
         r: S,
         additional_data: &[u8],
-    ) -> Result<Reader<S, StreamSegment>, Refused<S>> {
-        new_decrypting_reader(alloc, self, r, additional_data)
+    ) -> Result<Reader<S, StreamSegment>, Refused<S>>
+        ensures answer { NewReaderMeans S.left S.faults self.now additional_data.now r result }
+        ensures later { S.faults r ≤ S.faults (source_of result) }
+        ensures same { S.same r (source_of result) }
+    {
+        AesCtrHmac::new_decrypting_reader(self, alloc, r, additional_data)
     }
 }

@@ -4,7 +4,7 @@ ghost use Rattle.std.specs.Prelude.{◌≡◌, ◌≤◌, ◌+◌, length, take,
 ghost use Rattle.std.specs.Io.KnownBytes.{prepend_known};
 ghost use Rattle.stream_model.specs.Cut.{numbered};
 ghost use Rattle.stream_model.specs.Key.{first_segment, header_length, nonce_size, overhead};
-ghost use Rattle.tink_stream_keys.specs.Decrypting.{HeaderRefused, IsNewReader, NewReaderMeans, NewReaderRefused, ReadsHeader};
+ghost use Rattle.tink_stream_keys.specs.Decrypting.{HeaderRefused, IsNewReader, NewReaderMeans, NewReaderRefused, ReadsHeader, source_of};
 ghost use Rattle.tink_segments.specs.StreamSegments.{nonce_length_by, overhead_by, segment_by};
 ghost use Rattle.tink_streams.specs.TextReading.{Moment};
 
@@ -115,9 +115,8 @@ pub fn new_decrypting_reader<T: DerivesStreams, S: Source + Drop>(
     aad: &[u8],
 ) -> Result<Reader<S, StreamSegment>, Refused<S>>
     ensures answer { NewReaderMeans S.left S.faults (T.key_of key.now) aad.now r result }
-    ensures later { MatchResult result (λ made. S.faults r ≤ S.faults made.source)
-        (λ refused. S.faults r ≤ S.faults refused.inner) }
-    ensures same { MatchResult result (λ made. S.same r made.source) (λ refused. S.same r refused.inner) }
+    ensures later { S.faults r ≤ S.faults (source_of result) }
+    ensures same { S.same r (source_of result) }
 {
     let mut source = r;
     match begin(alloc, key, &mut source, aad) {

@@ -5,7 +5,8 @@ ghost use Rattle.stream_model.specs.Cut.{numbered};
 ghost use Rattle.stream_model.specs.Key.{IsUsable, first_room, header_length, nonce_size, overhead, room};
 ghost use Rattle.stream_model.specs.Sealing.{drawn};
 ghost use Rattle.tink_io.specs.declared.error.Kind.TheVariants.{OutOfMemory, RandomFault};
-ghost use Rattle.tink_stream_keys.specs.Encrypting.{IsNewStream, NewWriterMeans, NewWriterRefused};
+ghost use Rattle.tink_primitives.specs.Meaning.{IsEndOf};
+ghost use Rattle.tink_stream_keys.specs.Encrypting.{IsNewStream, NewWriterMeans, NewWriterRefused, sink_of};
 ghost use Rattle.tink_segments.specs.StreamSegments.{nonce_length_by, overhead_by, segment_by};
 ghost use Rattle.tink_streams.specs.Writing.{Moment};
 
@@ -121,9 +122,9 @@ pub fn new_encrypting_writer<T: DerivesStreams, K: Sink + Drop>(
     aad: &[u8],
 ) -> Result<Writer<K, StreamSegment>, Refused<K>>
     ensures answer { NewWriterMeans K.got K.faults (T.key_of key.now) aad.now draws.old draws.new w result }
-    ensures later { MatchResult result (λ made. K.faults w ≤ K.faults made.sink)
-        (λ refused. K.faults w ≤ K.faults refused.inner) }
-    ensures same { MatchResult result (λ made. K.same w made.sink) (λ refused. K.same w refused.inner) }
+    ensures later { K.faults w ≤ K.faults (sink_of result) }
+    ensures same { K.same w (sink_of result) }
+    ensures ends { IsEndOf draws.new draws.old }
 {
     let mut sink = w;
     match begin_stream(alloc, key, draws, &mut sink, aad) {

@@ -1,7 +1,7 @@
-//! Damaged streams of three segments: each is refused by its kind, and what is read before is a front of the text.
+//! Damaged streams of three segments: each is refused by its kind, and what is read before is a prefix of the text.
 
-use crate::comparing::expect_bytes;
-use crate::streams::{MAIN, draws, source};
+use crate::comparing::{expect, expect_bytes};
+use crate::streams::{MAIN, draws, read_pieces, source, write_pieces};
 use std::alloc::Global;
 use std::process::Abort;
 use std::test::Fail;
@@ -65,8 +65,7 @@ fn writer_of(
 // The text's stream of some draws.
 fn sealed(alloc: Global, key: &StreamKind, drawn: u8) -> Result<Vec<u8>, TinkError> {
     let mut writer = writer_of(alloc, key, drawn)?;
-    writer.write(TEXT)?;
-    writer.close()?;
+    write_pieces(&mut writer, TEXT, 36)?;
     Ok(writer.into_inner().into_bytes())
 }
 
@@ -85,25 +84,32 @@ fn reader_of(
 }
 
 // What a stream opens to, and by what a read or the reader is refused.
-fn opened(
+fn open_into(
     alloc: Global,
     key: &StreamKind,
     stream: &[u8],
-) -> Result<(Vec<u8>, Option<Kind>), TinkError> {
-    let mut text = Vec::new(alloc);
-    let mut reader = match reader_of(alloc, key, stream) {
-        Ok(reader) => reader,
-        Err(e) => return Ok((text, Some(e.kind))),
-    };
-    let mut buf = [0u8; 20];
-    for _ in 0..100 {
-        match reader.read(&mut buf) {
-            Ok(0) => return Ok((text, None)),
-            Ok(n) => text.extend_from_slice(&buf[..n])?,
-            Err(e) => return Ok((text, Some(e.kind))),
-        }
+    text: &mut Vec<u8>,
+) -> Result<Option<Kind>, TinkError> {
+    match reader_of(alloc, key, stream) {
+        Ok(mut reader) => read_pieces(&mut reader, text),
+        Err(e) => Ok(Some(e.kind)),
     }
-    Ok((text, None))
+}
+
+// A stream that opens to so many bytes of the text, and by what it is refused.
+fn expect_opened(
+    rt: &impl Abort,
+    alloc: Global,
+    key: &StreamKind,
+    stream: &[u8],
+    bytes: usize,
+    wanted: Option<Kind>,
+) -> Result<(), TinkError> {
+    let mut text = Vec::new(alloc);
+    let refused = open_into(alloc, key, stream, &mut text)?;
+    expect(rt, refused, wanted, "the refusal");
+    expect_bytes(rt, &text, TEXT.get(..bytes).unwrap_or(&[]), "the text");
+    Ok(())
 }
 
 // The first place where two streams differ, or where one of them ends.
@@ -116,7 +122,8 @@ fn first_difference(a: &[u8], b: &[u8]) -> usize {
     a.len().min(b.len())
 }
 
-// The number of the segment in which a place lies, and where that segment begins. The header is taken for the first one.
+// The number of the segment in which a place lies, and where that segment begins. The header is taken for the first
+// one.
 fn segment_at(ends: &[usize; 4], place: usize) -> (u32, usize) {
     if place < ends[1] {
         (0, ends[0])
@@ -175,19 +182,14 @@ fn expect_refused(
     damaged: &[u8],
 ) -> Result<(), TinkError> {
     let (kind, number) = wanted_kind(&sample.layout, &sample.stream, damaged);
-    let (text, refused) = opened(alloc, &sample.key, damaged)?;
-    assert_eq!(rt; refused, Some(kind));
     let before = BEFORE.get(number as usize).copied().unwrap_or(0);
-    expect_bytes(rt, &text, &TEXT[..before.min(36)], "the text before");
-    Ok(())
+    expect_opened(rt, alloc, &sample.key, damaged, before, Some(kind))
 }
 
 // The stream itself opens to the text, and has the length of its layout.
 fn expect_whole(rt: &impl Abort, alloc: Global, sample: &Sample) -> Result<(), TinkError> {
-    let (text, refused) = opened(alloc, &sample.key, &sample.stream)?;
-    expect_bytes(rt, &text, TEXT, "the text");
-    assert!(rt; refused.is_none() && sample.stream.len() == sample.layout.ends[3]);
-    Ok(())
+    expect(rt, sample.stream.len(), sample.layout.ends[3], "the length");
+    expect_opened(rt, alloc, &sample.key, &sample.stream, 36, None)
 }
 
 // The stream with any bit exchanged.
@@ -217,8 +219,8 @@ fn expect_no_cut(rt: &impl Abort, alloc: Global, sample: &Sample) -> Result<(), 
     Ok(())
 }
 
-// Numbers of parts: 0 is the header and 1 to 3 are the segments of the stream, 4 to 7 those of the other one. In turn a part
-// is repeated, exchanged with another and dropped, and the two streams are joined.
+// Numbers of parts: 0 is the header and 1 to 3 are the segments of the stream, 4 to 7 those of the other one. In turn
+// a part is repeated, exchanged with another and dropped, and the two streams are joined.
 const ORDERS: [&[usize]; 21] = [
     &[0, 0, 1, 2, 3],
     &[0, 1, 1, 2, 3],

@@ -2,6 +2,7 @@
 
 use crate::comparing::{expect, expect_bytes};
 use std::alloc::Global;
+use std::process::Abort;
 use std::test::Fail;
 use tink_core::CloneIn;
 use tink_io::{Kind, TinkError};
@@ -25,14 +26,14 @@ const SALT: &[u8; 32] =
 const IN_COUNTER_MODE: &[u8; 58] =
     b"\xbf\xcf\x0c\x76\x9b\x15\x47\xaa\x31\xdb\x6c\x99\x62\x11\xbc\xde\x5e\x01\xfc\xdc\x41\x46\x3e\x79\xab\x70\x15\x4d\xe4\x5d\xd9\xd1\xfb\x98\x33\xbb\xa3\x25\x77\x1a\x46\xee\x35\xbf\xc0\x34\x72\x09\xc7\x5b\xbc\xc0\x12\xff\x58\xdb\x60\x0f";
 
-// The text's segment under the nonce 1, 2, .., 12 and the front of the salt, with "associated": HKDF with SHA-512,
+// The text's segment under the nonce 1, 2, .., 12 and a prefix of the salt, with "associated": HKDF with SHA-512,
 // AES-128.
 const BY_GCM: &[u8; 54] =
     b"\x2a\x87\x2e\x1e\x7a\x0d\x61\x9f\x8c\x74\xed\x02\x57\x99\x5e\x98\x6b\xeb\x8b\xb5\xec\x51\x35\x1c\xce\x42\x64\xe5\xfd\xa3\xe3\xad\x3f\x6c\xfa\xdc\xe3\xfe\x18\xfd\xf4\x5a\x6b\x7c\x3e\x79\xc4\x77\xad\xa7\xf0\x05\x56\x86";
 
 const NONCE: [u8; 16] = [1, 2, 3, 4, 5, 6, 7, 8, 9, 10, 11, 12, 13, 14, 15, 16];
 
-// Why a key in counter mode with the front of the main key, this derived size, tag and sizes of segments is refused.
+// Why a key in counter mode with a prefix of the main key, this derived size, tag and sizes of segments is refused.
 fn ctr_refusal(
     alloc: Global,
     main: usize,
@@ -123,46 +124,82 @@ fn refuses_keys_by_gcm(rt: HostRuntime) {
     }
 }
 
+// A key in counter mode with the whole main key.
+fn counter_mode_key(alloc: Global) -> Result<AesCtrHmac, TinkError> {
+    let sha = HashType::Sha256;
+    AesCtrHmac::new(alloc, MAIN, sha, 32, HashType::Sha512, 20, 4096, 0)
+}
+
+// A key by GCM with the whole main key.
+fn gcm_key(alloc: Global) -> Result<AesGcmHkdf, TinkError> {
+    AesGcmHkdf::new(alloc, MAIN, HashType::Sha512, 16, 4096, 0)
+}
+
+// What a copy of a key derives with a salt.
+fn derived(alloc: Global, key: &StreamKind, salt: &[u8]) -> Result<StreamSegment, TinkError> {
+    key.try_clone(alloc)?.derive(salt, b"associated")
+}
+
 // What a key derives with the whole salt, in counter mode.
-fn in_counter_mode(key: &StreamKind) -> Result<CtrHmacSegment, TinkError> {
-    match key.derive(SALT, b"associated")? {
+fn in_counter_mode(alloc: Global) -> Result<CtrHmacSegment, TinkError> {
+    let key = StreamKind::CtrHmac(counter_mode_key(alloc)?);
+    match derived(alloc, &key, SALT)? {
         StreamSegment::CtrHmac(cipher) => Ok(cipher),
         StreamSegment::Gcm(_) => Err(TinkError::new(Kind::WrongPrimitive)),
     }
 }
 
-// What a key derives with the front of the salt, by GCM.
-fn by_gcm(key: &StreamKind) -> Result<GcmSegment, TinkError> {
-    match key.derive(&SALT[..16], b"associated")? {
+// What a key derives with the first bytes of the salt, by GCM.
+fn by_gcm(alloc: Global) -> Result<GcmSegment, TinkError> {
+    let key = StreamKind::GcmHkdf(gcm_key(alloc)?);
+    match derived(alloc, &key, &SALT[..16])? {
         StreamSegment::CtrHmac(_) => Err(TinkError::new(Kind::WrongPrimitive)),
         StreamSegment::Gcm(cipher) => Ok(cipher),
     }
 }
 
+// The text's segment in counter mode, which opens to the text.
+fn expect_in_counter_mode(
+    rt: &impl Abort,
+    alloc: Global,
+    cipher: &CtrHmacSegment,
+) -> Result<(), TinkError> {
+    let made = cipher.encrypt_segment(alloc, TEXT, &NONCE)?;
+    expect_bytes(rt, made.as_slice(), IN_COUNTER_MODE, "the segment");
+    let back = cipher.decrypt_segment(alloc, IN_COUNTER_MODE, &NONCE)?;
+    expect_bytes(rt, back.as_slice(), TEXT, "the text");
+    Ok(())
+}
+
+// The text's segment by GCM, which opens to the text.
+fn expect_by_gcm(rt: &impl Abort, alloc: Global, cipher: &GcmSegment) -> Result<(), TinkError> {
+    let made = cipher.encrypt_segment(alloc, TEXT, &NONCE[..12])?;
+    expect_bytes(rt, made.as_slice(), BY_GCM, "the segment");
+    let back = cipher.decrypt_segment(alloc, BY_GCM, &NONCE[..12])?;
+    expect_bytes(rt, back.as_slice(), TEXT, "the text");
+    Ok(())
+}
+
+#[test]
+fn tells_headers(rt: HostRuntime) -> Result<(), Fail> {
+    let told = counter_mode_key(rt.alloc())?.header_length();
+    expect(&rt, told, 40, "in counter mode");
+    let told = gcm_key(rt.alloc())?.header_length();
+    expect(&rt, told, 24, "by GCM");
+    Ok(())
+}
+
 #[test]
 fn derives_segments_in_counter_mode(rt: HostRuntime) -> Result<(), Fail> {
-    let alloc = rt.alloc();
-    let sha = HashType::Sha256;
-    let key = AesCtrHmac::new(alloc, MAIN, sha, 32, HashType::Sha512, 20, 4096, 0)?;
-    expect(&rt, key.header_length(), 40, "the header");
-    let cipher = in_counter_mode(&StreamKind::CtrHmac(key).try_clone(alloc)?)?;
-    let made = cipher.encrypt_segment(alloc, TEXT, &NONCE)?;
-    expect_bytes(&rt, made.as_slice(), IN_COUNTER_MODE, "the segment");
-    let back = cipher.decrypt_segment(alloc, IN_COUNTER_MODE, &NONCE)?;
-    expect_bytes(&rt, back.as_slice(), TEXT, "the text");
+    let cipher = in_counter_mode(rt.alloc())?;
+    expect_in_counter_mode(&rt, rt.alloc(), &cipher)?;
     Ok(())
 }
 
 #[test]
 fn derives_segments_by_gcm(rt: HostRuntime) -> Result<(), Fail> {
-    let alloc = rt.alloc();
-    let key = AesGcmHkdf::new(alloc, MAIN, HashType::Sha512, 16, 4096, 0)?;
-    expect(&rt, key.header_length(), 24, "the header");
-    let cipher = by_gcm(&StreamKind::GcmHkdf(key).try_clone(alloc)?)?;
-    let made = cipher.encrypt_segment(alloc, TEXT, &NONCE[..12])?;
-    expect_bytes(&rt, made.as_slice(), BY_GCM, "the segment");
-    let back = cipher.decrypt_segment(alloc, BY_GCM, &NONCE[..12])?;
-    expect_bytes(&rt, back.as_slice(), TEXT, "the text");
+    let cipher = by_gcm(rt.alloc())?;
+    expect_by_gcm(&rt, rt.alloc(), &cipher)?;
     Ok(())
 }
 

@@ -1,7 +1,10 @@
-//! Which keys of streams are made, what they derive, and streams under one key, against bytes that Python made; and that no
-//! damage of a small stream passes, of either kind: any bit exchanged, any cut, any segment repeated, moved or dropped.
+//! Which keys of streams are made, what they derive, and streams under one key, against bytes that Python made; and
+//! that no damage of a small stream passes, of either kind: any bit exchanged, any cut, any segment repeated, moved
+//! or dropped.
 #![tactic(auto)]
 
+#[cfg(test)]
+mod callers;
 #[cfg(test)]
 mod comparing;
 #[cfg(test)]

@@ -1,9 +1,11 @@
 //! Keys of streams of either kind, memory to write to and read from, and streams that Python made.
 
 use std::alloc::Global;
-use tink_io::{Draws, MemSink, MemSource, TinkError};
+use tink_io::{Draws, Kind, MemSink, MemSource, TinkError};
 use tink_proto::HashType;
+use tink_segments::StreamSegment;
 use tink_stream_keys::{AesCtrHmac, AesGcmHkdf};
+use tink_streams::{Reader, Writer};
 
 /// The text.
 pub const TEXT: &[u8; 60] = b"sixty bytes of text, which are in three segments of a stream";
@@ -48,4 +50,33 @@ pub fn source(alloc: Global, bytes: &[u8], fails: &[u32]) -> Result<MemSource, T
 /// These draws.
 pub fn draws(alloc: Global, bytes: &[u8]) -> Result<Draws, TinkError> {
     Ok(Draws::new(bytes.to_vec(alloc)?))
+}
+
+/// Writes a text in pieces of so many bytes with a flush behind each, and closes.
+pub fn write_pieces(
+    writer: &mut Writer<MemSink, StreamSegment>,
+    text: &[u8],
+    piece: usize,
+) -> Result<(), TinkError> {
+    for part in text.chunks(piece.max(1)) {
+        writer.write(part)?;
+        writer.flush()?;
+    }
+    writer.close()
+}
+
+/// Reads in pieces of ten bytes up to the end, and answers by what a read is refused.
+pub fn read_pieces(
+    reader: &mut Reader<MemSource, StreamSegment>,
+    text: &mut Vec<u8>,
+) -> Result<Option<Kind>, TinkError> {
+    let mut buf = [0u8; 10];
+    for _ in 0..100 {
+        match reader.read(&mut buf) {
+            Ok(0) => return Ok(None),
+            Ok(n) => text.extend_from_slice(&buf[..n])?,
+            Err(e) => return Ok(Some(e.kind)),
+        }
+    }
+    Ok(Some(Kind::TooManySegments))
 }

@@ -1,7 +1,6 @@
 pub mod KeyFacts
 pub mod StreamLaws
 pub mod DecryptSteps
-pub mod PrimaryWriters
 pub mod SealedFacts
 pub mod WholeReadingFacts
 pub mod KeyMost

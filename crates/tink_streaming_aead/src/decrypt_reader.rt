@@ -100,8 +100,8 @@ fn give_first<S: Source>(
     }
 }
 
-// The refusal of a first read, where the chosen key's reader is refused. The trial saw the segment open, so any but that of
-// the source comes where a source goes on after it had said that it was at its end.
+// The refusal of a first read, where the chosen key's reader is refused. The trial saw the segment open, so any but
+// that of the source comes where a source goes on after it had said that it was at its end.
 fn first_refusal(kind: Kind) -> Kind
     ensures { result ≡ first_refusal kind }
 {

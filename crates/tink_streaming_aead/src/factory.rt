@@ -1,8 +1,9 @@
 //! The streaming AEADs of a keyset as one.
 
-ghost use Rattle.std.specs.Prelude.{◌≡◌, ◌≤◌, ◌+◌, [], None, true, is_some, map, max, vec_len, All, IfOk, IfErr, MatchResult};
+ghost use Rattle.std.specs.Prelude.{◌≡◌, ◌≤◌, ◌+◌, [], None, true, is_some, map, max, vec_len, All, IfOk, IfErr};
 ghost use Rattle.tink_io.specs.declared.error.Kind.TheVariants.{OutOfMemory};
 ghost use Rattle.stream_model.specs.Key.{IsUsable};
+ghost use Rattle.tink_primitives.specs.Meaning.{IsEndOf};
 ghost use Rattle.tink_primitives.specs.Sorts.{as_streaming_aead};
 ghost use Rattle.tink_sets.specs.Entries.{entry_of};
 ghost use Rattle.tink_sets.specs.Groups.{group_of};
@@ -10,7 +11,7 @@ ghost use Rattle.tink_keysets.specs.Built.{built_entries, GivesSet};
 ghost use Rattle.tink_factory.specs.Typing.{typed_entries};
 ghost use Rattle.tink_streaming_aead.specs.DecryptReaders.{largest};
 ghost use Rattle.tink_streaming_aead.specs.DecryptReaders.DecryptState.{Unread};
-ghost use Rattle.tink_stream_keys.specs.Encrypting.{NewWriterMeans};
+ghost use Rattle.tink_stream_keys.specs.Encrypting.{NewWriterMeans, sink_of};
 ghost use Rattle.tink_stream_keys.specs.StreamKinds.{key_of};
 ghost use Rattle.tink_streaming_aead.specs.Wrapped.{ByPrimary, keys_in, keys_of_entries};
 
@@ -30,8 +31,8 @@ use tink_stream_keys::{DerivesStreams, StreamKind, Trial, new_encrypting_writer}
 use tink_streams::Writer;
 
 /// The streaming AEADs of a keyset as one: streams are made by the primary key, and opened by the first of the keys
-/// without a prefix under which they begin. A contract sees the primary key, which there is, and the keys without a prefix,
-/// in their order.
+/// without a prefix under which they begin. A contract sees the primary key, which there is, and the keys without a
+/// prefix, in their order.
 #[derive(Drop)]
 pub struct WrappedStreamingAead {
     ps: TypedPrimitiveSet<StreamKind>,
@@ -136,13 +137,14 @@ pub fn choice_of(
 
 impl WrappedStreamingAead {
     /// A writer of a new stream into `w` by the primary key, whose header is written: nothing stands before it, also
-    /// where the key has a prefix. The salt and the prefix of the nonces are the first draws. All memory is taken first.
+    /// where the key has a prefix. The salt and the prefix of the nonces are the first draws. All memory is taken
+    /// first.
     ///
     /// # Errors
-    /// The refusal hands back `w`. `OutOfMemory`, with nothing drawn or written; then the first that applies: `RandomFault`
-    /// exactly where fewer draws are left than a salt and seven bytes, none of which is taken; `UnknownHash` exactly where
-    /// HKDF's hash is unknown, and `UnsupportedHash` exactly where it is SHA-224, with the draws taken and nothing written;
-    /// `WriteFault` where the sink failed, which has a prefix of the header.
+    /// The refusal hands back `w`. `OutOfMemory`, with nothing drawn or written; then the first that applies:
+    /// `RandomFault` exactly where fewer draws are left than a salt and seven bytes, none of which is taken;
+    /// `UnknownHash` exactly where HKDF's hash is unknown, and `UnsupportedHash` exactly where it is SHA-224, with
+    /// the draws taken and nothing written; `WriteFault` where the sink failed, which has a prefix of the header.
     pub fn new_encrypting_writer<K: Sink + Drop>(
         &self,
         alloc: Global,
@@ -152,9 +154,9 @@ impl WrappedStreamingAead {
     ) -> Result<Writer<K, StreamSegment>, Refused<K>>
         ensures answer { ByPrimary self.now.primary (λ k. NewWriterMeans K.got K.faults k additional_data.now
             draws.old draws.new w result) }
-        ensures later { MatchResult result (λ made. K.faults w ≤ K.faults made.sink)
-            (λ refused. K.faults w ≤ K.faults refused.inner) }
-        ensures same { MatchResult result (λ made. K.same w made.sink) (λ refused. K.same w refused.inner) }
+        ensures later { K.faults w ≤ K.faults (sink_of result) }
+        ensures same { K.same w (sink_of result) }
+        ensures ends { IsEndOf draws.new draws.old }
     {
         match &self.ps.primary {
             Some(primary) => {
@@ -165,8 +167,8 @@ impl WrappedStreamingAead {
     }
 
     /// A reader of the stream in `r` by the keys without a prefix, in their order, of which it has copies. Nothing is
-    /// read, and all memory is taken: as long as no key is chosen, a byte more than the largest of their segments is kept
-    /// at most.
+    /// read, and all memory is taken: as long as no key is chosen, a byte more than the largest of their segments is
+    /// kept at most.
     ///
     /// # Errors
     /// `OutOfMemory`, which hands back `r`.
@@ -200,7 +202,13 @@ impl<S: Source + Drop, K: Sink + Drop> StreamingAead<S, K> for WrappedStreamingA
         draws: &mut Draws,
         w: K,
         additional_data: &[u8],
-    ) -> Result<Writer<K, StreamSegment>, Refused<K>> {
+    ) -> Result<Writer<K, StreamSegment>, Refused<K>>
+        ensures answer { ByPrimary self.now.primary (λ k. NewWriterMeans K.got K.faults k additional_data.now
+            draws.old draws.new w result) }
+        ensures later { K.faults w ≤ K.faults (sink_of result) }
+        ensures same { K.same w (sink_of result) }
+        ensures ends { IsEndOf draws.new draws.old }
+    {
         WrappedStreamingAead::new_encrypting_writer(self, alloc, draws, w, additional_data)
     }
 
@@ -209,7 +217,14 @@ impl<S: Source + Drop, K: Sink + Drop> StreamingAead<S, K> for WrappedStreamingA
         alloc: Global,
         r: S,
         additional_data: &[u8],
-    ) -> Result<DecryptReader<S>, Refused<S>> {
+    ) -> Result<DecryptReader<S>, Refused<S>>
+        ensures unread { IfOk result (λ made. made ≡ Unread self.now.raw additional_data.now
+            (largest self.now.raw + 1) r) }
+        ensures usable { IfOk result (λ _. All IsUsable self.now.raw) }
+        ensures cause { IfErr result (λ refused. refused.error.kind ≡ OutOfMemory) }
+        ensures inner { IfErr result (λ refused. refused.inner ≡ r) }
+        ensures same { IfErr result (λ refused. S.same r refused.inner) }
+    {
         WrappedStreamingAead::new_decrypting_reader(self, alloc, r, additional_data)
     }
 }

@@ -14,9 +14,9 @@ ghost use Rattle.tink_stream_keys.specs.Decrypting.{IsNewReader};
 ghost use Rattle.tink_stream_keys.specs.Encrypting.{IsNewStream};
 ghost use Rattle.tink_streaming_aead.specs.WholeReading.{IsTextOfChosen, IsTextOfStream};
 
-/// A new writer that is given a text, however the text is cut into writes, and is closed has written exactly the stream of
-/// the text: the front under the first draws, and then a segment for each chunk, the last one marked. One that is closed
-/// before any write has written the stream of the empty text.
+/// A new writer that is given a text, however the text is cut into writes, and is closed has written exactly the
+/// stream of the text: the front under the first draws, and then a segment for each chunk, the last one marked. One
+/// that is closed before any write has written the stream of the empty text.
 pub fn law_whole_stream()
     ensures whole { (k : StreamKey) (aad draws left : List ℕ) (before : Option (List ℕ))
         (seg : ℕ → Bool → List ℕ → List ℕ) (first later : ℕ) (m n o : Moment) (text : List ℕ)
@@ -28,8 +28,9 @@ pub fn law_whole_stream()
         → Appends before o.got (stream k aad (salt_of k draws) (prefix_of k draws) []) }
 {}
 
-/// The first read of a keyset's reader that is Ok has chosen the first key under which the stream begins, and has given the
-/// front of the text of the key's segments behind the header. Later reads go on from there, as `law_whole_text` says.
+/// The first read of a keyset's reader that is Ok has chosen the first key under which the stream begins, and has
+/// given the prefix of the text of the key's segments behind the header. Later reads go on from there, as
+/// `law_whole_text` says.
 pub fn law_first_read()
     ensures gave { (keys : List OpeningKey) (all : Option (List ℕ)) (seg : ℕ → Bool → List ℕ → List ℕ)
         (a b overhead : ℕ) (new : reading.Moment) (before after : List ℕ) (n : ℕ)
@@ -37,8 +38,9 @@ pub fn law_first_read()
         → Gave seg a b first.rest (take n after) new }
 {}
 
-/// What reads up to the end have given: of a key's reader, the whole source was a stream of the key; of a keyset's reader,
-/// it was a stream of the first of the keys under which it begins. What was given is the texts of the stream, joined.
+/// What reads up to the end have given: of a key's reader, the whole source was a stream of the key; of a keyset's
+/// reader, it was a stream of the first of the keys under which it begins. What was given is the texts of the stream,
+/// joined.
 pub fn law_whole_reading()
     ensures key { (k : StreamKey) (aad : List ℕ) (all : Option (List ℕ)) (seg : ℕ → Bool → List ℕ → List ℕ)
         (a b overhead : ℕ) (held given : List ℕ) (m n : reading.Moment)
@@ -51,9 +53,10 @@ pub fn law_whole_reading()
         → Gave seg a b first.rest given n → AtEnd n → IsTextOfChosen (map (opening_key aad) keys) all given }
 {}
 
-/// A stream that was sealed with a key opens to its text: it is a stream of the key with the chunks of the text, which make
-/// the text when they are joined; a stream has one list of texts, and so what was read of a sealed stream up to its end is
-/// the text that was sealed; and of some keys this one is chosen where none before it begins the stream.
+/// A stream that was sealed with a key opens to its text: it is a stream of the key with the chunks of the text,
+/// which make the text when they are joined; a stream has one list of texts, and so what was read of a sealed stream
+/// up to its end is the text that was sealed; and of some keys this one is chosen where none before it begins the
+/// stream.
 pub fn law_sealed_opens()
     ensures stream { (k : StreamKey) (aad salt prefix keys text : List ℕ) → IsUsable k → k.out ≡ []
         → length salt ≡ k.derived → length prefix ≡ 7

@@ -1,11 +1,13 @@
 //! A handle of a template, whose streams are written and read in pieces, and a writer that is dropped.
 
 use crate::comparing::expect_bytes;
-use crate::streams::{given, reader_by, registry};
+use crate::one_of::Streams;
+use crate::streams::{give_into, reader_by, registry};
 use std::alloc::Global;
 use std::process::Abort;
 use std::test::Fail;
 use tink_core::keyset::Handle;
+use tink_core::registry::Registry;
 use tink_io::{Kind, Lent, MemSink, TinkError};
 use tink_proto::KeyTemplate;
 use tink_streaming_aead::{
@@ -17,9 +19,25 @@ use tink_testutil::draws_of;
 // The streaming AEADs of a handle of a template, whose keys are drawn as sevens.
 fn aeads(alloc: Global, kt: &KeyTemplate) -> Result<WrappedStreamingAead, TinkError> {
     let registry = registry(alloc)?;
+    aeads_by(alloc, kt, &registry)
+}
+
+fn aeads_by(
+    alloc: Global,
+    kt: &KeyTemplate,
+    registry: &Registry<Streams>,
+) -> Result<WrappedStreamingAead, TinkError> {
+    let h = handle(alloc, kt, registry)?;
+    new(alloc, &h, registry)
+}
+
+fn handle(
+    alloc: Global,
+    kt: &KeyTemplate,
+    registry: &Registry<Streams>,
+) -> Result<Handle, TinkError> {
     let mut draws = draws_of(alloc, &[7; 40])?;
-    let h = Handle::new(alloc, kt, &registry, &mut draws)?;
-    new(alloc, &h, &registry)
+    Handle::new(alloc, kt, registry, &mut draws)
 }
 
 // So many bytes, no two neighbours of which are the same.
@@ -45,7 +63,8 @@ fn writer_into<'a>(
     }
 }
 
-// What stands in a sink after a text was written in pieces of ten, each flushed, and after the close where there is one.
+// What stands in a sink after a text was written in pieces of ten, each flushed, and after the close where there is
+// one.
 fn written(
     alloc: Global,
     aeads: &WrappedStreamingAead,
@@ -53,7 +72,27 @@ fn written(
     is_closed: bool,
 ) -> Result<Vec<u8>, TinkError> {
     let mut sink = MemSink::new(alloc, 0, Vec::new(alloc));
-    let mut writer = writer_into(alloc, aeads, &mut sink)?;
+    write_into(alloc, aeads, &mut sink, text, is_closed)?;
+    Ok(sink.into_bytes())
+}
+
+// The writer is dropped.
+fn write_into(
+    alloc: Global,
+    aeads: &WrappedStreamingAead,
+    sink: &mut MemSink,
+    text: &[u8],
+    is_closed: bool,
+) -> Result<(), TinkError> {
+    let mut writer = writer_into(alloc, aeads, sink)?;
+    write_pieces(&mut writer, text, is_closed)
+}
+
+fn write_pieces(
+    writer: &mut Writer<Lent<MemSink>, StreamSegment>,
+    text: &[u8],
+    is_closed: bool,
+) -> Result<(), TinkError> {
     for piece in text.chunks(10) {
         writer.write(piece)?;
         writer.flush()?;
@@ -61,8 +100,7 @@ fn written(
     if is_closed {
         writer.close()?;
     }
-    drop(writer);
-    Ok(sink.into_bytes())
+    Ok(())
 }
 
 // What stands in a sink after the first bytes of a text were written under a handle's key.
@@ -72,7 +110,8 @@ fn sealed(
     n: usize,
     is_closed: bool,
 ) -> Result<Vec<u8>, TinkError> {
-    written(alloc, &aeads(alloc, kt)?, &text_of(alloc, n)?, is_closed)
+    let text = text_of(alloc, n)?;
+    written(alloc, &aeads(alloc, kt)?, &text, is_closed)
 }
 
 // What the handle's key opens a stream to: how many bytes, whether they are those of the text, and the refusal.
@@ -81,11 +120,29 @@ fn opened(
     kt: &KeyTemplate,
     stream: &[u8],
 ) -> Result<(usize, bool, Option<Kind>), TinkError> {
-    let aeads = aeads(alloc, kt)?;
-    let mut reader = reader_by(alloc, &aeads, stream, &[])?;
-    let (text, refused) = given(alloc, &mut reader)?;
-    let wanted = text_of(alloc, text.len())?;
-    Ok((text.len(), text.as_slice() == wanted.as_slice(), refused))
+    let mut text = Vec::new(alloc);
+    let refused = open_into(alloc, kt, stream, &mut text)?;
+    Ok((text.len(), is_text(&text), refused))
+}
+
+fn open_into(
+    alloc: Global,
+    kt: &KeyTemplate,
+    stream: &[u8],
+    text: &mut Vec<u8>,
+) -> Result<Option<Kind>, TinkError> {
+    let mut reader = reader_by(alloc, &aeads(alloc, kt)?, stream, &[])?;
+    give_into(&mut reader, text)
+}
+
+// Whether these are the first bytes of the text.
+fn is_text(bytes: &[u8]) -> bool {
+    for (place, byte) in bytes.iter().enumerate() {
+        if usize::from(*byte) != place % 251 {
+            return false;
+        }
+    }
+    true
 }
 
 // 8,205 bytes of text in three segments: 4,056, 4,080 and 69.
@@ -100,8 +157,8 @@ fn a_handle_seals_and_opens_in_pieces_of_ten(rt: HostRuntime) -> Result<(), Fail
     Ok(())
 }
 
-// A writer that is dropped after 4,041 bytes of text, of which 4,040 are in the first segment: its sink has the header and
-// that segment, which is not marked.
+// A writer that is dropped after 4,041 bytes of text, of which 4,040 are in the first segment: its sink has the
+// header and that segment, which is not marked.
 #[test]
 fn a_dropped_writer_leaves_no_marked_segment(rt: HostRuntime) -> Result<(), Fail> {
     let alloc = rt.alloc();

@@ -1,14 +1,16 @@
 //! Streams under the keys of a keyset, over memory.
 
 use crate::comparing::{expect, expect_bytes};
-use crate::streams::{BY_GCM, DRAWS, TEXT, given, reader_by, registry};
+use crate::streams::{BY_GCM, DRAWS, TEXT, give_into, reader_by, registry};
 use std::alloc::Global;
 use std::process::Abort;
 use std::test::Fail;
+use tink_core::keyset::Handle;
 use tink_io::{Cause, Kind, MemSink, MemSource, TinkError};
-use tink_proto::OutputPrefixType;
+use tink_proto::{Key, OutputPrefixType};
 use tink_streaming_aead::{
-    AES_CTR_HMAC_TYPE_URL, AES_GCM_HKDF_TYPE_URL, DecryptReader, WrappedStreamingAead, new,
+    AES_CTR_HMAC_TYPE_URL, AES_GCM_HKDF_TYPE_URL, DecryptReader, StreamSegment,
+    WrappedStreamingAead, Writer, new,
 };
 use tink_testutil::{draws_of, enabled_key, handle_of};
 
@@ -25,13 +27,27 @@ const SMALL: &[u8; 26] =
 
 // The streaming AEADs of these keys in this order, of which the last one is the primary one and has this prefix.
 fn aeads(alloc: Global, prefix: OutputPrefixType) -> Result<WrappedStreamingAead, TinkError> {
-    let raw = OutputPrefixType::Raw;
+    let h = handle(alloc, prefix)?;
+    aeads_of(alloc, &h)
+}
+
+fn aeads_of(alloc: Global, h: &Handle) -> Result<WrappedStreamingAead, TinkError> {
+    let registry = registry(alloc)?;
+    new(alloc, h, &registry)
+}
+
+fn handle(alloc: Global, prefix: OutputPrefixType) -> Result<Handle, TinkError> {
     let mut keys = Vec::new(alloc);
+    add_keys(alloc, &mut keys, prefix)?;
+    handle_of(3, keys)
+}
+
+fn add_keys(alloc: Global, keys: &mut Vec<Key>, prefix: OutputPrefixType) -> Result<(), TinkError> {
+    let raw = OutputPrefixType::Raw;
     keys.push(enabled_key(alloc, AES_CTR_HMAC_TYPE_URL, IN_COUNTER_MODE, raw, 1)?)?;
     keys.push(enabled_key(alloc, AES_GCM_HKDF_TYPE_URL, LARGE, raw, 2)?)?;
     keys.push(enabled_key(alloc, AES_GCM_HKDF_TYPE_URL, SMALL, prefix, 3)?)?;
-    let h = handle_of(3, keys)?;
-    new(alloc, &h, &registry(alloc)?)
+    Ok(())
 }
 
 // A reader by the three keys without a prefix.
@@ -40,10 +56,12 @@ fn reader_of(
     stream: &[u8],
     fails: &[u32],
 ) -> Result<DecryptReader<MemSource>, TinkError> {
-    reader_by(alloc, &aeads(alloc, OutputPrefixType::Raw)?, stream, fails)
+    let aeads = aeads(alloc, OutputPrefixType::Raw)?;
+    reader_by(alloc, &aeads, stream, fails)
 }
 
-// Reads up to the end: how many bytes of the text they give, by what they are refused, and how many segments were opened.
+// Reads up to the end: how many bytes of the text they give, by what they are refused, and how many segments were
+// opened.
 fn expect_given(
     rt: &impl Abort,
     alloc: Global,
@@ -52,42 +70,54 @@ fn expect_given(
     wanted: Option<Kind>,
     segments: u64,
 ) -> Result<(), TinkError> {
-    let (text, refused) = given(alloc, reader)?;
+    let mut text = Vec::new(alloc);
+    let refused = give_into(reader, &mut text)?;
     expect_bytes(rt, &text, TEXT.get(..bytes).unwrap_or(&[]), "the text");
     expect(rt, refused, wanted, "the refusal");
     expect(rt, reader.segments(), segments, "the segments");
     Ok(())
 }
 
-// Reads that are refused, and those behind them, which are refused by the cause.
+// Reads of a stream that are refused, and those behind them, which are refused by the cause.
 fn expect_refused(
     rt: &impl Abort,
     alloc: Global,
-    reader: &mut DecryptReader<MemSource>,
-    bytes: usize,
-    refused: Kind,
-    cause: Cause,
-    segments: u64,
+    stream: &[u8],
+    fails: &[u32],
+    wanted: (usize, Kind, Cause, u64),
 ) -> Result<(), TinkError> {
+    let mut reader = reader_of(alloc, stream, fails)?;
+    expect_failed(rt, alloc, &mut reader, wanted)
+}
+
+fn expect_failed(
+    rt: &impl Abort,
+    alloc: Global,
+    reader: &mut DecryptReader<MemSource>,
+    wanted: (usize, Kind, Cause, u64),
+) -> Result<(), TinkError> {
+    let (bytes, refused, cause, segments) = wanted;
     expect_given(rt, alloc, reader, bytes, Some(refused), segments)?;
-    expect_given(
-        rt,
-        alloc,
-        reader,
-        0,
-        Some(Kind::FailedBefore(cause)),
-        segments,
-    )
+    let before = Some(Kind::FailedBefore(cause));
+    expect_given(rt, alloc, reader, 0, before, segments)
 }
 
 #[test]
 fn the_first_key_that_agrees_opens(rt: HostRuntime) -> Result<(), Fail> {
-    let alloc = rt.alloc();
-    let mut reader = reader_of(alloc, BY_GCM, &[])?;
-    expect(&rt, reader.read(&mut []), Ok(0), "a read to no bytes");
-    expect(&rt, reader.segments(), 0, "the segments");
-    expect_given(&rt, alloc, &mut reader, 60, None, 3)?;
-    expect(&rt, reader.read(&mut [0; 10]), Ok(0), "a read at the end");
+    let mut reader = reader_of(rt.alloc(), BY_GCM, &[])?;
+    expect_whole(&rt, rt.alloc(), &mut reader)?;
+    Ok(())
+}
+
+fn expect_whole(
+    rt: &impl Abort,
+    alloc: Global,
+    reader: &mut DecryptReader<MemSource>,
+) -> Result<(), TinkError> {
+    expect(rt, reader.read(&mut []), Ok(0), "a read to no bytes");
+    expect(rt, reader.segments(), 0, "the segments");
+    expect_given(rt, alloc, reader, 60, None, 3)?;
+    expect(rt, reader.read(&mut [0; 10]), Ok(0), "a read at the end");
     Ok(())
 }
 
@@ -96,53 +126,58 @@ fn a_stream_under_no_key_is_refused_for_good(rt: HostRuntime) -> Result<(), Fail
     let alloc = rt.alloc();
     let header = BY_GCM.get(..24).unwrap_or(BY_GCM);
     for stream in [&[] as &[u8], header, &[24; 100], &[25; 100]] {
-        let mut reader = reader_of(alloc, stream, &[])?;
-        let kind = Kind::NoMatchingKey;
-        expect_refused(&rt, alloc, &mut reader, 0, kind, Cause::NoMatchingKey, 0)?;
+        let wanted = (0, Kind::NoMatchingKey, Cause::NoMatchingKey, 0);
+        expect_refused(&rt, alloc, stream, &[], wanted)?;
     }
     Ok(())
 }
 
 #[test]
 fn a_source_that_fails_in_the_choice_is_no_want_of_a_key(rt: HostRuntime) -> Result<(), Fail> {
-    let alloc = rt.alloc();
-    let mut reader = reader_of(alloc, BY_GCM, &[2])?;
-    expect_refused(
-        &rt,
-        alloc,
-        &mut reader,
-        0,
-        Kind::ReadFault,
-        Cause::ReadFault,
-        0,
-    )?;
+    let wanted = (0, Kind::ReadFault, Cause::ReadFault, 0);
+    expect_refused(&rt, rt.alloc(), BY_GCM, &[2], wanted)?;
     Ok(())
 }
 
 #[test]
 fn a_damaged_segment_goes_to_no_other_key(rt: HostRuntime) -> Result<(), Fail> {
-    let alloc = rt.alloc();
     let mut stream = *BY_GCM;
     stream[60] ^= 1;
-    let mut reader = reader_of(alloc, &stream, &[])?;
-    let (kind, cause) = (Kind::BadSegment(1), Cause::BadSegment(1));
-    expect_refused(&rt, alloc, &mut reader, 10, kind, cause, 1)?;
+    let wanted = (10, Kind::BadSegment(1), Cause::BadSegment(1), 1);
+    expect_refused(&rt, rt.alloc(), &stream, &[], wanted)?;
     Ok(())
+}
+
+// A sink with room for 200 bytes, of which a call takes ten.
+fn sink(alloc: Global) -> Result<MemSink, TinkError> {
+    let mut sink = MemSink::new(alloc, 10, Vec::new(alloc));
+    sink.reserve(alloc, 200)?;
+    Ok(sink)
+}
+
+// A writer by the primary key.
+fn writer_by(
+    alloc: Global,
+    aeads: &WrappedStreamingAead,
+) -> Result<Writer<MemSink, StreamSegment>, TinkError> {
+    let mut draws = draws_of(alloc, DRAWS)?;
+    let sink = sink(alloc)?;
+    match aeads.new_encrypting_writer(alloc, &mut draws, sink, b"data") {
+        Ok(writer) => Ok(writer),
+        Err(refused) => Err(refused.error),
+    }
 }
 
 // The stream of the text by the primary key.
 fn sealed(alloc: Global, aeads: &WrappedStreamingAead) -> Result<Vec<u8>, TinkError> {
-    let mut sink = MemSink::new(alloc, 10, Vec::new(alloc));
-    sink.reserve(alloc, 200)?;
-    let mut draws = draws_of(alloc, DRAWS)?;
-    match aeads.new_encrypting_writer(alloc, &mut draws, sink, b"data") {
-        Ok(mut writer) => {
-            writer.write(TEXT)?;
-            writer.close()?;
-            Ok(writer.into_inner().into_bytes())
-        }
-        Err(refused) => Err(refused.error),
-    }
+    let mut writer = writer_by(alloc, aeads)?;
+    write_text(&mut writer)?;
+    Ok(writer.into_inner().into_bytes())
+}
+
+fn write_text(writer: &mut Writer<MemSink, StreamSegment>) -> Result<(), TinkError> {
+    writer.write(TEXT)?;
+    writer.close()
 }
 
 // The stream of the text by the primary key of this prefix, and how far the keys open it.
@@ -155,10 +190,19 @@ fn expect_sealed(
     segments: u64,
 ) -> Result<(), TinkError> {
     let aeads = aeads(alloc, prefix)?;
-    let stream = sealed(alloc, &aeads)?;
-    expect_bytes(rt, &stream, BY_GCM, "the stream");
-    let mut reader = reader_by(alloc, &aeads, &stream, &[])?;
+    expect_stream(rt, alloc, &aeads)?;
+    let mut reader = reader_by(alloc, &aeads, BY_GCM, &[])?;
     expect_given(rt, alloc, &mut reader, bytes, wanted, segments)
+}
+
+fn expect_stream(
+    rt: &impl Abort,
+    alloc: Global,
+    aeads: &WrappedStreamingAead,
+) -> Result<(), TinkError> {
+    let stream = sealed(alloc, aeads)?;
+    expect_bytes(rt, &stream, BY_GCM, "the stream");
+    Ok(())
 }
 
 #[test]

@@ -1,5 +1,6 @@
 //! The registry of both managers, readers by the keys of a keyset, and a stream that Python made.
 
+use crate::callers::stream_in;
 use crate::one_of::Streams;
 use std::alloc::Global;
 use tink_core::registry::Registry;
@@ -32,25 +33,24 @@ pub fn reader_by(
     fails: &[u32],
 ) -> Result<DecryptReader<MemSource>, TinkError> {
     let source = MemSource::new(stream.to_vec(alloc)?, 10, fails.to_vec(alloc)?);
-    match aeads.new_decrypting_reader(alloc, source, b"data") {
+    match stream_in(alloc, aeads, source, b"data") {
         Ok(reader) => Ok(reader),
         Err(refused) => Err(refused.error),
     }
 }
 
-/// What reads to a buffer of ten bytes give up to the end, and by what they are refused.
-pub fn given(
-    alloc: Global,
+/// Reads to a buffer of ten bytes up to the end, and answers by what they are refused.
+pub fn give_into(
     reader: &mut DecryptReader<MemSource>,
-) -> Result<(Vec<u8>, Option<Kind>), TinkError> {
+    text: &mut Vec<u8>,
+) -> Result<Option<Kind>, TinkError> {
     let mut buf = [0u8; 10];
-    let mut text = Vec::new(alloc);
     for _ in 0..1000 {
         match reader.read(&mut buf) {
-            Ok(0) => return Ok((text, None)),
+            Ok(0) => return Ok(None),
             Ok(n) => text.extend_from_slice(&buf[..n])?,
-            Err(e) => return Ok((text, Some(e.kind))),
+            Err(e) => return Ok(Some(e.kind)),
         }
     }
-    Ok((text, Some(Kind::TooManySegments)))
+    Ok(Some(Kind::TooManySegments))
 }

@@ -18,8 +18,8 @@ use tink_streaming_aead::{
 };
 use tink_testutil::{draws_of, kind_of};
 
-// The sizes that a key tells: of a header, a segment, the first segment, what a segment has more than its text, a derived
-// key and a nonce.
+// The sizes that a key tells: of a header, a segment, the first segment, what a segment has more than its text, a
+// derived key and a nonce.
 fn sizes_of<K: DerivesStreams>(key: &K) -> [usize; 6] {
     [
         key.header_length(),
@@ -31,13 +31,27 @@ fn sizes_of<K: DerivesStreams>(key: &K) -> [usize; 6] {
     ]
 }
 
+// A key that leaves a hundred bytes of its first segment free.
+fn offset_key(alloc: Global) -> Result<AesGcmHkdf, TinkError> {
+    AesGcmHkdf::new(alloc, &[7; 32], HashType::Sha256, 32, 4096, 100)
+}
+
 #[test]
 fn tells_sizes(rt: HostRuntime) -> Result<(), Fail> {
-    let key = AesGcmHkdf::new(rt.alloc(), &[7; 32], HashType::Sha256, 32, 4096, 100)?;
-    expect(&rt, key.header_length(), 40, "the header");
-    let kind = StreamKind::GcmHkdf(key);
-    assert!(rt; sizes_of(&kind) == [40, 4096, 3956, 16, 32, 12]);
+    let kind = StreamKind::GcmHkdf(offset_key(rt.alloc())?);
+    expect_sizes(&rt, &kind, [40, 4096, 3956, 16, 32, 12]);
     Ok(())
+}
+
+#[test]
+fn tells_a_header(rt: HostRuntime) -> Result<(), Fail> {
+    let told = offset_key(rt.alloc())?.header_length();
+    expect(&rt, told, 40, "the header");
+    Ok(())
+}
+
+fn expect_sizes<K: DerivesStreams>(rt: &impl Abort, key: &K, sizes: [usize; 6]) {
+    assert!(rt; sizes_of(key) == sizes);
 }
 
 // A key in counter mode of the bytes 0 to 15, from which AES keys of 16 are derived, with SHA-256
@@ -82,6 +96,11 @@ fn gcm_hkdf_params(
     })
 }
 
+// A main key of so many ones.
+fn main_key(alloc: Global, size: usize) -> Result<Bytes, TinkError> {
+    Ok(Bytes::from_vec(vec![in alloc; 1u8; size]?))
+}
+
 // Why a key in counter mode does not build.
 fn ctr_hmac_refusal(
     alloc: Global,
@@ -92,10 +111,9 @@ fn ctr_hmac_refusal(
     let key = AesCtrHmacStreamingKey {
         version,
         params,
-        key_value: Bytes::from_vec(vec![in alloc; 1u8; size]?),
+        key_value: main_key(alloc, size)?,
     };
-    let bytes = key.encode(alloc)?;
-    Ok(kind_of(AesCtrHmacKeyManager::new().primitive(alloc, bytes.as_slice())))
+    primitive_refusal(alloc, &AesCtrHmacKeyManager::new(), &key)
 }
 
 // Why a key by AES-GCM does not build.
@@ -108,25 +126,42 @@ fn gcm_hkdf_refusal(
     let key = AesGcmHkdfStreamingKey {
         version,
         params,
-        key_value: Bytes::from_vec(vec![in alloc; 1u8; size]?),
+        key_value: main_key(alloc, size)?,
     };
-    let bytes = key.encode(alloc)?;
-    Ok(kind_of(AesGcmHkdfKeyManager::new().primitive(alloc, bytes.as_slice())))
+    primitive_refusal(alloc, &AesGcmHkdfKeyManager::new(), &key)
 }
 
-// Why no key is made of a format, of 40 draws.
-fn format_refusal<K: KeyManager>(
+// Why a message of a key does not build.
+fn primitive_refusal<K: KeyManager, M: Message>(
     alloc: Global,
     km: &K,
-    format: &[u8],
+    key: &M,
 ) -> Result<Option<Kind>, Fail> {
-    let mut draws = draws_of(alloc, &[7; 40])?;
-    Ok(kind_of(km.new_key(alloc, format, &mut draws)))
+    let bytes = key.encode(alloc)?;
+    Ok(kind_of(km.primitive(alloc, bytes.as_slice())))
 }
 
-// Each condition of keys in counter mode: sizes of a key, of a derived key, hashes, size of a tag,
-// of a segment, and whether it holds.
-const CTR_HMAC_CASES: [(u32, u32, i32, i32, u32, u32, bool); 17] = [
+// Why no key is made of a message of a format, of 40 draws.
+fn format_refusal<K: KeyManager, M: Message>(
+    alloc: Global,
+    km: &K,
+    format: &M,
+) -> Result<Option<Kind>, Fail> {
+    let bytes = format.encode(alloc)?;
+    let mut draws = draws_of(alloc, &[7; 40])?;
+    Ok(kind_of(km.new_key(alloc, bytes.as_slice(), &mut draws)))
+}
+
+// The refusal where a condition does not hold.
+fn unless(holds: bool, refused: Kind) -> Option<Kind> {
+    if holds { None } else { Some(refused) }
+}
+
+// Sizes of a key, of a derived key, hashes, size of a tag, of a segment, and whether such keys are.
+type CtrHmacCase = (u32, u32, i32, i32, u32, u32, bool);
+
+// Each condition of keys in counter mode.
+const CTR_HMAC_CASES: [CtrHmacCase; 17] = [
     (16, 16, 3, 3, 10, 35, true),
     (32, 16, 1, 5, 28, 53, true),
     (32, 32, 5, 1, 20, 61, true),
@@ -146,17 +181,18 @@ const CTR_HMAC_CASES: [(u32, u32, i32, i32, u32, u32, bool); 17] = [
     (16, 16, 3, 3, 10, 34, false),
 ];
 
+fn expect_ctr_hmac_key(rt: &impl Abort, alloc: Global, case: &CtrHmacCase) -> Result<(), Fail> {
+    let (size, derived, hkdf_hash, tag_hash, tag_size, segment, holds) = *case;
+    let params = ctr_hmac_params(derived, hkdf_hash, tag_hash, tag_size, segment);
+    let told = ctr_hmac_refusal(alloc, 0, params, size as usize)?;
+    expect(rt, told, unless(holds, Kind::InvalidKey), "a key");
+    Ok(())
+}
+
 #[test]
 fn ctr_hmac_keys_that_do_not_build(rt: HostRuntime) -> Result<(), Fail> {
-    let alloc = rt.alloc();
-    for (size, derived, hkdf_hash, tag_hash, tag_size, segment, holds) in CTR_HMAC_CASES {
-        let wanted = if holds { None } else { Some(Kind::InvalidKey) };
-        let params = ctr_hmac_params(derived, hkdf_hash, tag_hash, tag_size, segment);
-        let told = ctr_hmac_refusal(alloc, 0, params, size as usize)?;
-        assert!(rt;
-            told == wanted,
-            "key {size}, derived {derived}, segment {segment}"
-        );
+    for case in &CTR_HMAC_CASES {
+        expect_ctr_hmac_key(&rt, rt.alloc(), case)?;
     }
     Ok(())
 }
@@ -173,31 +209,29 @@ fn ctr_hmac_format_refusal(
         key_size,
         version,
     };
-    let bytes = format.encode(alloc)?;
-    format_refusal(alloc, &AesCtrHmacKeyManager::new(), bytes.as_slice())
+    format_refusal(alloc, &AesCtrHmacKeyManager::new(), &format)
+}
+
+fn expect_ctr_hmac_format(rt: &impl Abort, alloc: Global, case: &CtrHmacCase) -> Result<(), Fail> {
+    let (size, derived, hkdf_hash, tag_hash, tag_size, segment, holds) = *case;
+    let params = ctr_hmac_params(derived, hkdf_hash, tag_hash, tag_size, segment);
+    let told = ctr_hmac_format_refusal(alloc, 0, params, size)?;
+    expect(rt, told, unless(holds, Kind::InvalidFormat), "a format");
+    Ok(())
 }
 
 #[test]
 fn ctr_hmac_formats_of_which_no_key_is_made(rt: HostRuntime) -> Result<(), Fail> {
-    let alloc = rt.alloc();
-    for (size, derived, hkdf_hash, tag_hash, tag_size, segment, holds) in CTR_HMAC_CASES {
-        let wanted = if holds {
-            None
-        } else {
-            Some(Kind::InvalidFormat)
-        };
-        let params = ctr_hmac_params(derived, hkdf_hash, tag_hash, tag_size, segment);
-        let told = ctr_hmac_format_refusal(alloc, 0, params, size)?;
-        assert!(rt;
-            told == wanted,
-            "key {size}, derived {derived}, segment {segment}"
-        );
+    for case in &CTR_HMAC_CASES {
+        expect_ctr_hmac_format(&rt, rt.alloc(), case)?;
     }
     Ok(())
 }
 
 // The same of keys by AES-GCM: sizes of a key and of a derived key, a hash, size of a segment.
-const GCM_HKDF_CASES: [(u32, u32, i32, u32, bool); 11] = [
+type GcmHkdfCase = (u32, u32, i32, u32, bool);
+
+const GCM_HKDF_CASES: [GcmHkdfCase; 11] = [
     (16, 16, 3, 41, true),
     (32, 16, 5, 41, true),
     (32, 32, 1, 57, true),
@@ -211,17 +245,18 @@ const GCM_HKDF_CASES: [(u32, u32, i32, u32, bool); 11] = [
     (16, 16, 3, 40, false),
 ];
 
+fn expect_gcm_hkdf_key(rt: &impl Abort, alloc: Global, case: &GcmHkdfCase) -> Result<(), Fail> {
+    let (size, derived, hkdf_hash, segment, holds) = *case;
+    let params = gcm_hkdf_params(derived, hkdf_hash, segment);
+    let told = gcm_hkdf_refusal(alloc, 0, params, size as usize)?;
+    expect(rt, told, unless(holds, Kind::InvalidKey), "a key");
+    Ok(())
+}
+
 #[test]
 fn gcm_hkdf_keys_that_do_not_build(rt: HostRuntime) -> Result<(), Fail> {
-    let alloc = rt.alloc();
-    for (size, derived, hkdf_hash, segment, holds) in GCM_HKDF_CASES {
-        let wanted = if holds { None } else { Some(Kind::InvalidKey) };
-        let params = gcm_hkdf_params(derived, hkdf_hash, segment);
-        let told = gcm_hkdf_refusal(alloc, 0, params, size as usize)?;
-        assert!(rt;
-            told == wanted,
-            "key {size}, derived {derived}, segment {segment}"
-        );
+    for case in &GCM_HKDF_CASES {
+        expect_gcm_hkdf_key(&rt, rt.alloc(), case)?;
     }
     Ok(())
 }
@@ -237,25 +272,21 @@ fn gcm_hkdf_format_refusal(
         key_size,
         version: 9,
     };
-    let bytes = format.encode(alloc)?;
-    format_refusal(alloc, &AesGcmHkdfKeyManager::new(), bytes.as_slice())
+    format_refusal(alloc, &AesGcmHkdfKeyManager::new(), &format)
+}
+
+fn expect_gcm_hkdf_format(rt: &impl Abort, alloc: Global, case: &GcmHkdfCase) -> Result<(), Fail> {
+    let (size, derived, hkdf_hash, segment, holds) = *case;
+    let params = gcm_hkdf_params(derived, hkdf_hash, segment);
+    let told = gcm_hkdf_format_refusal(alloc, params, size)?;
+    expect(rt, told, unless(holds, Kind::InvalidFormat), "a format");
+    Ok(())
 }
 
 #[test]
 fn gcm_hkdf_formats_of_which_no_key_is_made(rt: HostRuntime) -> Result<(), Fail> {
-    let alloc = rt.alloc();
-    for (size, derived, hkdf_hash, segment, holds) in GCM_HKDF_CASES {
-        let wanted = if holds {
-            None
-        } else {
-            Some(Kind::InvalidFormat)
-        };
-        let params = gcm_hkdf_params(derived, hkdf_hash, segment);
-        let told = gcm_hkdf_format_refusal(alloc, params, size)?;
-        assert!(rt;
-            told == wanted,
-            "key {size}, derived {derived}, segment {segment}"
-        );
+    for case in &GCM_HKDF_CASES {
+        expect_gcm_hkdf_format(&rt, rt.alloc(), case)?;
     }
     Ok(())
 }
@@ -271,12 +302,7 @@ fn keys_and_formats_of_another_version_are_refused(rt: HostRuntime) -> Result<()
     expect(&rt, told, Some(Kind::InvalidKey), "a key by GCM");
     let params = ctr_hmac_params(16, 3, 3, 10, 4096);
     let told = ctr_hmac_format_refusal(alloc, 1, params, 16)?;
-    expect(
-        &rt,
-        told,
-        Some(Kind::InvalidFormat),
-        "a format in counter mode",
-    );
+    expect(&rt, told, Some(Kind::InvalidFormat), "a format");
     Ok(())
 }
 
@@ -319,7 +345,7 @@ pub fn expect_built<M: KeyManager<Family = StreamKinds>>(
 ) -> Result<(), Fail> {
     let key = km.primitive(alloc, bytes)?.into_streaming_aead()?;
     expect_bytes(rt, key.main_key(), main, "the main key");
-    assert!(rt; sizes_of(&key) == sizes);
+    expect_sizes(rt, &key, sizes);
     Ok(())
 }
 

@@ -26,10 +26,12 @@ fn expect_template(
     format: &[u8],
 ) -> Result<(), Fail> {
     let kt = made?;
-    assert!(rt; kt.type_url.as_str() == url);
-    assert!(rt; kt.value.as_slice() == format);
-    assert!(rt; kt.output_prefix_type == 3);
+    assert!(rt; is_template(&kt, url, format));
     Ok(())
+}
+
+fn is_template(kt: &KeyTemplate, url: &str, format: &[u8]) -> bool {
+    kt.type_url.as_str() == url && kt.value.as_slice() == format && kt.output_prefix_type == 3
 }
 
 #[test]
@@ -178,25 +180,51 @@ fn has_all(registry: &Registry<Named<StreamKinds>>) -> bool {
             .is_some()
 }
 
+// A registry to which `init` adds all, and to which it then adds nothing.
+fn expect_all(
+    rt: &impl Abort,
+    alloc: Global,
+    registry: &mut Registry<Named<StreamKinds>>,
+) -> Result<(), Fail> {
+    init(alloc, registry)?;
+    assert!(rt; has_all(registry));
+    expect(rt, templates(alloc, registry)?, 8, "the templates");
+    expect_refused(rt, alloc, registry, 8)
+}
+
+// A registry to which `init` adds nothing beside so many templates.
+fn expect_refused(
+    rt: &impl Abort,
+    alloc: Global,
+    registry: &mut Registry<Named<StreamKinds>>,
+    templates: usize,
+) -> Result<(), Fail> {
+    let told = refused(alloc, registry)?;
+    assert!(rt; told == (Some(Kind::AlreadyRegistered), templates));
+    Ok(())
+}
+
 #[test]
 fn all_is_registered(rt: HostRuntime) -> Result<(), Fail> {
-    let alloc = rt.alloc();
-    let mut registry: Registry<Named<StreamKinds>> = Registry::new(alloc);
-    init(alloc, &mut registry)?;
-    assert!(rt; has_all(&registry));
-    expect(&rt, templates(alloc, &registry)?, 8, "the templates");
-    let again = refused(alloc, &mut registry)?;
-    assert!(rt; again == (Some(Kind::AlreadyRegistered), 8));
+    let mut registry = Registry::new(rt.alloc());
+    expect_all(&rt, rt.alloc(), &mut registry)
+}
+
+// A registry of another manager of this URL: `init` adds nothing.
+fn expect_none(
+    rt: &impl Abort,
+    alloc: Global,
+    registry: &mut Registry<Named<StreamKinds>>,
+    url: &'static str,
+) -> Result<(), Fail> {
+    registry.register_key_manager(alloc, Named::new(url))?;
+    expect_refused(rt, alloc, registry, 0)?;
+    assert!(rt; !has_manager(registry, AES_CTR_HMAC_TYPE_URL));
     Ok(())
 }
 
 #[test]
 fn nothing_is_registered_beside_another_manager(rt: HostRuntime) -> Result<(), Fail> {
-    let alloc = rt.alloc();
-    let mut taken: Registry<Named<StreamKinds>> = Registry::new(alloc);
-    taken.register_key_manager(alloc, Named::new(AES_GCM_HKDF_TYPE_URL))?;
-    let told = refused(alloc, &mut taken)?;
-    assert!(rt; told == (Some(Kind::AlreadyRegistered), 0));
-    assert!(rt; !has_manager(&taken, AES_CTR_HMAC_TYPE_URL));
-    Ok(())
+    let mut registry = Registry::new(rt.alloc());
+    expect_none(&rt, rt.alloc(), &mut registry, AES_GCM_HKDF_TYPE_URL)
 }
