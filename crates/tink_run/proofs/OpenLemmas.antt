@@ -92,7 +92,7 @@ whole_agrees (Some seg) first size over X ts law room fits some p =
 stream_agrees : (k : OpeningKey) (S : List ℕ) (ts : List (List ℕ)) → Lawful k → IsStream k S ts → AreTextsBy (k.seg (take k.header S)) (chunks_of k S) ts × (length (chunks_of k S) ≡ length ts)
 stream_agrees k S ts law s = whole_agrees (k.seg (take k.header S)) k.first k.size k.overhead (drop k.header S) ts (law.lawful (take k.header S)) law.room (omega (arith, law.fits)) law.some s.segments
 
--- a front of texts that lead is a front of texts that agree
+-- a prefix of texts that lead is a prefix of texts that agree
 front_of_agreed : (k : OpeningKey) (S : List ℕ) (ts all : List (List ℕ)) (a b : Option (List ℕ)) → Lawful k → AreTextsBy (k.seg (take k.header S)) (chunks_of k S) ts → IsAgreed k S all
     → AppendsFront a b (joined ts) → AppendsFront a b (joined all)
 front_of_agreed k S ts all a b law p q w =
@@ -113,7 +113,7 @@ kept_front a b xs w = (0, omega arith, go a b w)
 same_loaded : (keyset : List ℕ) (l m : Loaded) → load keyset ≡ Ok l → load keyset ≡ Ok m → l ≡ m
 same_loaded keyset l m p q = cc
 
--- what stands by a front of leading texts
+-- what stands by a prefix of leading texts
 written_lead : (keyset aad S : List ℕ) (l : Loaded) (ts : List (List ℕ)) (old new : Outside) → load keyset ≡ Ok l → Lead (opening_keys aad l) S ts → AppendsFront old.got new.got (joined ts) → IsOfAgreeing keyset aad S old new
 written_lead keyset aad S l [] old new e lead w = record {
   under_a_key = λ m k all p q r. kept_front old.got new.got (joined all) (nothing old.got new.got w);

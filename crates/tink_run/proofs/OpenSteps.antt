@@ -175,7 +175,7 @@ leaves_under keys old new (Err e) s t k l m = go e.kind m
     go WriteFault m early = absurd early
     go _ m early = absurd m
 
--- what opening under keys says besides want of memory
+-- what opening under keys says besides `OutOfMemory`
 pub opens_under : (ks : List OpeningKey) (old new : Outside) (r : Result Report TinkError) → StreamMeans ks old new r → OpensUnder ks old new r
 opens_under ks old new (Ok report) m = m
 opens_under ks old new (Err e) m = go e.kind m

@@ -160,7 +160,7 @@ pub ran_along : (command : Command) (k a d keyset aad draws : List ℕ) (old new
 ran_along command k a d keyset aad draws old new answer keyset_is aad_is draws_is ran =
     subst (λ x. Ran command keyset aad x old new answer) draws_is (subst (λ x. Ran command keyset x d old new answer) aad_is (subst (λ x. Ran command x a d old new answer) keyset_is ran))
 
--- a refusal for want of memory before the run
+-- a refusal by `OutOfMemory` before the run
 pub want_ran : (keyset aad draws : List ℕ) (outside : Outside) (e : TinkError) → e.kind ≡ OutOfMemory → Ran Seal keyset aad draws outside outside (Err e)
 want_ran keyset aad draws outside e is = record {
   left_draws = draws;

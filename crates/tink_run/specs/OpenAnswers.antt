@@ -87,7 +87,7 @@ pub record GoesOn (keys : List OpeningKey) (old new : Outside) : Type 0 where
   pub stream : IfSome old.left (λ S. AgreesUntil keys S texts (λ k. 2 ^ 32 < length (chunks_of k S)))
   pub written : Appends old.got new.got (joined texts)
 
--- an end failed: a front of the texts of leading segments was written
+-- an end failed: a prefix of the texts of leading segments was written
 pub record IsBroken (keys : List OpeningKey) (old new : Outside) : Type 0 where
   pub texts : List (List ℕ)
   pub lead : IfSome old.left (λ S. Lead keys S texts)

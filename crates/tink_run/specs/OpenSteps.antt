@@ -48,7 +48,7 @@ pub record StopsAt (n : ℕ) (P : List (List ℕ) → Type 0) (seg : ℕ → Boo
   pub agree : IfSome old.left (λ X. Agree seg 0 (cut a b X) texts × P (cut a b X))
   pub written : Appends old.got new.got (joined texts)
 
--- an end failed: a front of texts whose segments lead was written
+-- an end failed: a prefix of texts whose segments lead was written
 pub record Breaks (seg : ℕ → Bool → List ℕ → List ℕ) (a b : ℕ) (old new : Outside) : Type 0 where
   pub texts : List (List ℕ)
   pub lead : IfSome old.left (λ X. AreTexts seg 0 (cut a b X) texts)

@@ -76,7 +76,7 @@ pub record Opened (words : List (List ℕ)) (old new : Outside) (answer : Result
 abbrev pub Answered : List (List ℕ) → Outside → Outside → Result Report TinkError → Type 0
 Answered words old new answer = Sealed words old new answer ⊎ Opened words old new answer
 
--- what stands after each outcome, and why it came. The seed's draws always suffice; want of memory is free.
+-- what stands after each outcome, and why it came. The seed's draws always suffice; `OutOfMemory` is free.
 abbrev pub OutcomeMeans : List (List ℕ) → Outside → Outside → Outcome → Type 0
 OutcomeMeans words old new Done = (report : Report) × Answered words old new (Ok report)
 OutcomeMeans words old new Usage = SpellNothing words × IsUntouched old new
@@ -84,14 +84,14 @@ OutcomeMeans words old new (Refused OutOfMemory) = IsUntouched old new
 OutcomeMeans words old new (Refused RandomFault) = ⊥
 OutcomeMeans words old new (Refused kind) = Answered words old new (Err (record { kind = kind }))
 
--- the status is that of an outcome, whose line was told: exactly, or a front of it where the count of faults rose
+-- the status is that of an outcome, whose line was told: exactly, or a prefix of it where the count of faults rose
 pub record ProgramMeans (words : List (List ℕ)) (old new : Outside) (told_before told_after : Option (List ℕ)) (faults_before faults_after : ℕ) (status : ℕ) : Type 0 where
   pub outcome : Outcome
   pub status_is : status ≡ status_of outcome
   pub means : OutcomeMeans words old new outcome
   pub line : WritesOrFaults told_before told_after faults_before faults_after (line_of outcome)
 
--- status 2 is for words that spell nothing, and such words get it or want of memory
+-- status 2 is for words that spell nothing, and such words get it or `OutOfMemory`
 pub record IsUsage (words : List (List ℕ)) (status : ℕ) : Type 0 where
   pub cause : status ≡ 2 → SpellNothing words
   pub comes : SpellNothing words → (status ≡ 2) ⊎ (status ≡ 10)
@@ -115,7 +115,7 @@ Leaves (Refused kind) source source_after sink sink_after = IsEarly kind → (so
 abbrev pub SpellKeyset : List (List ℕ) → List ℕ → Type 0
 SpellKeyset words keyset = ((aad seed : List ℕ) × SealWords words keyset aad seed) ⊎ ((aad : List ℕ) × OpenWords words keyset aad)
 
--- a keyset that does not load gets its refusal's status, or want of memory
+-- a keyset that does not load gets its refusal's status, or `OutOfMemory`
 abbrev pub RefusesUnloaded : List (List ℕ) → ℕ → Type 0
 RefusesUnloaded words status = (keyset : List ℕ) (kind : Kind) → SpellKeyset words keyset → load keyset ≡ Err kind
     → (status ≡ kind_status kind) ⊎ (status ≡ 10)
@@ -144,7 +144,7 @@ abbrev pub OpensWhole : List ℕ → List ℕ → Outside → Outside → ℕ �
 OpensWhole keyset aad old new status = (S G : List ℕ) → Told old S G → status ≡ 0
     → (report : Report) × IsWholeText keyset aad S G new report
 
--- told bytes: an open, whatever its status, has written only a front of the texts that agree under the chosen key
+-- told bytes: an open, whatever its status, has written only a prefix of the texts that agree under the chosen key
 abbrev pub WritesAgreeing : List ℕ → List ℕ → Outside → Outside → Type 0
 WritesAgreeing keyset aad old new = (S G : List ℕ) → Told old S G → IsOfAgreeing keyset aad S old new
 

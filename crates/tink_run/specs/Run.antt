@@ -71,7 +71,7 @@ abbrev pub Succeeds : Command → List ℕ → List ℕ → List ℕ → List �
 Succeeds Seal keyset aad draws left_draws T G new report = IsWholeStream keyset aad draws left_draws T G new report
 Succeeds Open keyset aad draws left_draws S G new report = IsWholeText keyset aad S G new report
 
--- what was written is a front of the texts that agree under the chosen key, and nothing where no key is chosen
+-- what was written is a prefix of the texts that agree under the chosen key, and nothing where no key is chosen
 pub record IsOfAgreeing (keyset aad S : List ℕ) (old new : Outside) : Type 0 where
   pub under_a_key : (loaded : Loaded) (key : OpeningKey) (texts : List (List ℕ)) → load keyset ≡ Ok loaded → IsChosen (opening_keys aad loaded) S (Some key) → IsAgreed key S texts → AppendsFront old.got new.got (joined texts)
   pub under_none : (loaded : Loaded) → load keyset ≡ Ok loaded → IsChosen (opening_keys aad loaded) S None → Keeps old.got new.got

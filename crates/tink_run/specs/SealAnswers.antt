@@ -36,7 +36,7 @@ pub record SourceFailed (k : StreamKey) (aad salt prefix : List ℕ) (old new : 
   pub written : Appends old.got new.got (part k aad salt prefix text)
   pub rose : Rose old.read_faults new.read_faults
 
--- the sink failed: a front of these was written or, where the source was at its end, of the whole stream
+-- the sink failed: a prefix of these was written or, where the source was at its end, of the whole stream
 pub record SinkFailed (k : StreamKey) (aad salt prefix : List ℕ) (old new : Outside) : Type 0 where
   pub text : List ℕ
   pub read : Consumes old.left new.left text
@@ -86,7 +86,7 @@ pub record DerivesNothing (keyset aad draws left_draws : List ℕ) (old new : Ou
   pub none : keys_of loaded.primary aad (salt_of loaded.primary draws) ≡ None
   pub untouched : IsUntouched old new
 
--- want of memory comes before anything was read, written or drawn
+-- `OutOfMemory` comes before anything was read, written or drawn
 pub record WantsMemory (draws left_draws : List ℕ) (old new : Outside) : Type 0 where
   pub untouched : IsUntouched old new
   pub undrawn : left_draws ≡ draws

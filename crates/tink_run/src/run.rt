@@ -32,7 +32,7 @@ pub fn run<S: Source, K: Sink>(
         → Succeeds command keyset.now aad.now draws.old draws.new T G
         (outside_of S.left S.faults K.got K.faults source.new sink.new) report) }
 
-    // Told bytes: an open has only written a front of the texts that agree under the chosen key.
+    // Told bytes: an open has only written a prefix of the texts that agree under the chosen key.
     ensures written { OnlyAgreeing command keyset.now aad.now
         (outside_of S.left S.faults K.got K.faults source.old sink.old)
         (outside_of S.left S.faults K.got K.faults source.new sink.new) }

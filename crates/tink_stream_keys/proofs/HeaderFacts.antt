@@ -14,7 +14,7 @@ use Rattle.tink_stream_keys.proofs.DerivedKeys.{derived_segments}
 pub header_bytes : (n h : ℕ) (xs ys zs : List ℕ) → n ≡ suc (length xs) → xs ≡ zs → take n (h ∷ (xs ++ ys)) ≡ h ∷ zs
 header_bytes n h xs ys zs l same = ap (λ m. take m (h ∷ (xs ++ ys))) l ∙ ap (λ z. h ∷ z) (take-append_seam xs ys ∙ same)
 
--- the header is the front of a stream with nothing before it
+-- the header is the first part of a stream with nothing before it
 pub header_front : (k : StreamKey) (H : List ℕ) → k.out ≡ [] → length H ≡ header_length k → get_or H 0 0 ≡ header_length k → H ≡ front k (take k.derived (drop 1 H)) (drop (k.derived + 1) H)
 header_front k [] out l m = absurd (omega arith)
 header_front k (x ∷ H) out l m =

@@ -62,7 +62,7 @@ fn sink(alloc: Global, n: usize) -> Result<SureSink, TinkError> {
     Ok(sink)
 }
 
-// The memory of a writer or a reader, and the front of its nonces.
+// The memory of a writer or a reader, and the first part of its nonces.
 fn memory(alloc: Global) -> Result<(Buffers, Vec<u8>), TinkError>
     ensures text { IfOk result (λ m. (m.0.text.items ≡ []) × (vec_capacity m.0.text ≡ 37)) }
     ensures sealed { IfOk result (λ m. vec_len m.0.sealed ≡ 37) }
