@@ -1,5 +1,5 @@
 -- What a backend of a map leaves behind the closures of this crate.
-use Rattle.std.proofs.Common.{◌≡◌, ℕ, List, [], ◌∷◌, map, get_or, length, ap, subst, sym, ◌∙◌, refl}
+use Rattle.std.proofs.Common.{◌≡◌, ℕ, List, [], ◌∷◌, map, get_or, ap, subst, sym, ◌∙◌, refl}
 use Rattle.cipher.specs.Buffers.{pick}
 use Rattle.cipher.specs.Transcript.{Pairs, Block, Led, IsOf, inputs, outputs}
 use Rattle.cipher.specs.Contexts.{OneBlock, EachBlock}

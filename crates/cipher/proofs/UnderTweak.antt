@@ -1,6 +1,6 @@
 -- A transcript under one tweak is a transcript of the map under it.
-use Rattle.std.proofs.Common.{◌≡◌, ℕ, List, [], ◌∷◌, ap, subst, sym, ◌∙◌, refl}
-use Rattle.cipher.specs.Transcript.{Pairs, Block, Transcript, TweakTranscript, Led, IsOf, tweaked}
+use Rattle.std.proofs.Common.{[], ◌∷◌, subst, refl}
+use Rattle.cipher.specs.Transcript.{Block, Transcript, Led, IsOf, tweaked}
 use Rattle.cipher.specs.TweakContexts.{under, UnderTweak}
 
 IsOf-under : (f : Block → Block → Block) (t : Block) (us : Transcript) → IsOf (f t) us → IsOf (tweaked f) (under t us)

@@ -1,5 +1,5 @@
 -- The meaning of the closures of this crate.
-use Rattle.std.specs.Prelude.{◌≡◌, ℕ, List, [], ◌∷◌, slice_index_or}
+use Rattle.std.specs.Prelude.{◌≡◌, ℕ, [], ◌∷◌, slice_index_or}
 use Rattle.cipher.specs.Buffers.{pick}
 use Rattle.cipher.specs.Transcript.{Transcript, inputs, outputs}
 use Rattle.cipher.specs.declared.blocks.contexts.BlockCtx.{BlockCtx}

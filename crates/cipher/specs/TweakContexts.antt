@@ -1,5 +1,5 @@
 -- The meaning of the closures on tweakable ciphers.
-use Rattle.std.specs.Prelude.{◌≡◌, ℕ, List, [], ◌∷◌, slice_index_or}
+use Rattle.std.specs.Prelude.{◌≡◌, ℕ, [], ◌∷◌, slice_index_or}
 use Rattle.cipher.specs.Transcript.{Block, Transcript, TweakTranscript}
 use Rattle.cipher.specs.declared.tweaks.contexts.TweakBlockCtx.{TweakBlockCtx}
 

@@ -1,6 +1,7 @@
 -- A message with its padding as a prefix of a buffer.
-use Rattle.std.proofs.Common.{◌≡◌, ℕ, ◌+◌, ◌-◌, ◌≤◌, true, false, List, ◌++◌, Option, None, Some, length, take, drop, ap, sym, ◌∙◌, refl, arith, append_assoc, length-append, length-take}
-use Rattle.std.proofs.lemmas.List.{take_at, drop_at, drop-drop}
+use Rattle.std.proofs.Common.{◌≡◌, ℕ, ◌+◌, ◌-◌, ◌≤◌, true, false, List, ◌++◌, Option, None, Some, length, take, drop, ap, sym, ◌∙◌, refl, arith, append_assoc, length-append, length-take, length-drop, inl, inr}
+use Rattle.std.proofs.lemmas.Bool.{cases_lt}
+use Rattle.std.proofs.lemmas.List.{take_at, take_all, drop_at, drop_all, drop-drop, append-nil}
 use Rattle.std.specs.Prelude.{option_map, Result, Ok, Err, IsOk, OnErr, ◌↔◌}
 use Rattle.cipher.specs.Buffers.{pick}
 use Rattle.cipher.specs.Transcript.{Block}
@@ -62,3 +63,21 @@ pub cannot-pad : {E : Type 0} (f : List ℕ → List ℕ) (r : Result ℕ E) (o 
 cannot-pad f (Ok n) o len room iff fits = tt
 cannot-pad f (Err e) None len room iff fits = refl
 cannot-pad f (Err e) (Some tail) len room iff fits = let no : false ≡ true = iff.1 (fits tail refl) in cc
+
+-- the encrypted bytes, with which the output then begins: o is the padded message as the code reads it
+pub encrypted-prefix : {S : Type 0} (step : S → Block → Block × S) (s : S) (B : ℕ) (o wanted : Option (List ℕ)) (n : ℕ) (old new : List ℕ) → wanted ≡ o → length new ≡ length old
+    → IsEncrypted step s B o n old new → option_map (bytes_run step s B) wanted ≡ Some (take n new)
+encrypted-prefix step s B None wanted n old new same size h = absurd h
+encrypted-prefix step s B (Some message) wanted n old new same size h =
+    let made : List ℕ = bytes_run step s B message in
+    let count : length made + (length old - n) ≡ length old = sym (ap length h.1 ∙ simp (length-append, length-drop) refl) ∙ size in
+    let front : take n new ≡ made = elim (cases_lt (length old) n) [
+      | inl past ↦ take_all n new (omega arith) ∙ (h.1 ∙ (ap (λ zs. made ++ zs) (drop_all n old (omega arith)) ∙ append-nil made))
+      | inr room ↦ ap (take n) h.1 ∙ take_at made (drop n old) n (omega arith)
+    ] in
+    ap (option_map (bytes_run step s B)) same ∙ ap Some (sym front)
+
+-- a message that is read is the input
+pub message-read : (message old : List ℕ) → length message ≤ length old → pick message (take (length message) old) ≡ message
+message-read message old room =
+    let size : length (take (length message) old) ≡ length message = simp length-take (omega arith) in pick-same message (take (length message) old) (sym size)

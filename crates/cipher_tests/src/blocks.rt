@@ -147,19 +147,46 @@ const GOOD: &[u8] = &[251, 252, 253, 254, 249];
 
 const BAD: &[u8] = &[251, 252, 253, 254, 250];
 
+// right blocks, and a wrong one in an encryption and in a decryption
+fn told_of_blocks() -> [Told; 3] {
+    [
+        goes_both_ways(&[250], FIVE, GOOD),
+        encrypts(&[250], FIVE, BAD),
+        decrypts(&[250], FIVE, BAD),
+    ]
+}
+
+// a wrong length of the ciphertext, of the plaintext and of the key
+fn told_of_lengths() -> [Told; 3] {
+    [
+        decrypts(&[250], FIVE, &[1]),
+        encrypts(&[250], &[1], &[1]),
+        goes_both_ways(&[], &[1], &[1]),
+    ]
+}
+
 #[test]
 fn a_vector_is_told(rt: HostRuntime) {
-    let not_encrypted = Err("single block encryption failure");
-    let not_decrypted = Err("single block decryption failure");
-    let ciphertext = Err("unexpected size of ciphertext block");
-    let plaintext = Err("unexpected size of plaintext block");
-    let key = Err("cipher initialization failure");
-    expect(&rt, goes_both_ways(&[250], FIVE, GOOD), Ok(()), "good");
-    expect(&rt, encrypts(&[250], FIVE, BAD), not_encrypted, "encrypts");
-    expect(&rt, decrypts(&[250], FIVE, BAD), not_decrypted, "decrypts");
-    expect(&rt, decrypts(&[250], FIVE, &[1]), ciphertext, "ciphertext");
-    expect(&rt, encrypts(&[250], &[1], &[1]), plaintext, "plaintext");
-    expect(&rt, goes_both_ways(&[], &[1], &[1]), key, "key");
+    expect(
+        &rt,
+        told_of_blocks(),
+        [
+            Ok(()),
+            Err("single block encryption failure"),
+            Err("single block decryption failure"),
+        ],
+        "blocks",
+    );
+    expect(
+        &rt,
+        told_of_lengths(),
+        [
+            Err("unexpected size of ciphertext block"),
+            Err("unexpected size of plaintext block"),
+            Err("cipher initialization failure"),
+        ],
+        "lengths",
+    );
 }
 
 // blocks in their places, by a buffer that is passed by value

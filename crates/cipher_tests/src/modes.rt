@@ -185,34 +185,52 @@ const LONG_TEXT: &[u8] = &[1, 2, 3, 4, 4, 4, 4, 4];
 
 const LONG_MADE: &[u8] = &[2, 3, 4, 5, 7, 8, 1, 2];
 
+// a right vector, and others: its initialization vector, a part of a block, two lengths, and too long a one
+fn told_of_encryption() -> [Result<(), &'static str>; 5] {
+    [
+        encrypts(&[0; 4], LONG_TEXT, LONG_MADE),
+        encrypts(&[0], LONG_TEXT, LONG_MADE),
+        encrypts(&[0], &[1, 2], &[1, 2]),
+        encrypts(&[0], &[1], &[1, 2]),
+        encrypts(&[0], &[1], &[0; 4097]),
+    ]
+}
+
 #[test]
 fn a_vector_is_told(rt: HostRuntime) {
-    let key = Err("cipher initialization failure");
-    let part = Err("plaintext/ciphertext length is not multiple of block size");
-    let lengths = Err("plaintext/ciphertext length mismatch");
-    let too_long = Err("ciphertext is bigger than MAX_MSG_LEN bytes");
-    expect(&rt, encrypts(&[0; 4], LONG_TEXT, LONG_MADE), Ok(()), "good");
-    expect(&rt, encrypts(&[0], LONG_TEXT, LONG_MADE), key, "vector");
     expect(
         &rt,
-        encrypts(&[0], &[1, 2], &[1, 2]),
-        part,
-        "part of a block",
+        told_of_encryption(),
+        [
+            Ok(()),
+            Err("cipher initialization failure"),
+            Err("plaintext/ciphertext length is not multiple of block size"),
+            Err("plaintext/ciphertext length mismatch"),
+            Err("ciphertext is bigger than MAX_MSG_LEN bytes"),
+        ],
+        "encryption",
     );
-    expect(&rt, encrypts(&[0], &[1], &[1, 2]), lengths, "lengths");
-    expect(&rt, encrypts(&[0], &[1], &[0; 4097]), too_long, "too long");
+}
+
+// a right vector, one of another block, and one that is too long
+fn told_of_decryption() -> [Result<(), &'static str>; 3] {
+    [
+        decrypts(LONG_TEXT, LONG_MADE),
+        decrypts(LONG_TEXT, &[2, 3, 4, 5, 7, 8, 1, 3]),
+        decrypts(&[0; 4100], LONG_MADE),
+    ]
 }
 
 #[test]
 fn a_vector_is_told_the_other_way(rt: HostRuntime) {
-    let other = Err("single block decryption failure");
-    let too_long = Err("plaintext is bigger than MAX_MSG_LEN bytes");
-    expect(&rt, decrypts(LONG_TEXT, LONG_MADE), Ok(()), "good");
     expect(
         &rt,
-        decrypts(LONG_TEXT, &[2, 3, 4, 5, 7, 8, 1, 3]),
-        other,
-        "other",
+        told_of_decryption(),
+        [
+            Ok(()),
+            Err("single block decryption failure"),
+            Err("plaintext is bigger than MAX_MSG_LEN bytes"),
+        ],
+        "decryption",
     );
-    expect(&rt, decrypts(&[0; 4100], LONG_MADE), too_long, "too long");
 }

@@ -68,7 +68,12 @@ fn encrypts_vector<
         (codes "single block encryption failure")) }
 {
     let mut buffer = [0; MAX_MSG_LEN];
-    if !encrypts_to(mode, &mut buffer[..tv.ciphertext.len()], tv.plaintext, tv.ciphertext) {
+    if !encrypts_to(
+        mode,
+        &mut buffer[..tv.ciphertext.len()],
+        tv.plaintext,
+        tv.ciphertext,
+    ) {
         return Err("single block encryption failure");
     }
     if !encrypts_alike::<C, K, I, B>(tv.key, tv.iv, tv.plaintext) {
@@ -208,7 +213,12 @@ fn decrypts_vector<
         (codes "single block decryption failure")) }
 {
     let mut buffer = [0; MAX_MSG_LEN];
-    if !decrypts_to(mode, &mut buffer[..tv.plaintext.len()], tv.ciphertext, tv.plaintext) {
+    if !decrypts_to(
+        mode,
+        &mut buffer[..tv.plaintext.len()],
+        tv.ciphertext,
+        tv.plaintext,
+    ) {
         return Err("single block decryption failure");
     }
     if !decrypts_alike::<C, K, I, B>(tv.key, tv.iv, tv.ciphertext) {

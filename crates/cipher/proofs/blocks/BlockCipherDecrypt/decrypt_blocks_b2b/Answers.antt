@@ -1,4 +1,4 @@
-use Rattle.std.proofs.Common.{rules, arith}
+use Rattle.std.proofs.Common.{arith}
 use Rattle.cipher.proofs.Led.{EachBlock-led}
 use Rattle.cipher.proofs.Parts.{pick-same}
 use Rattle.cipher.proofs.blocks.BlockCipherDecrypt.decrypt_blocks_b2b.Goals as goal

@@ -1,6 +1,5 @@
-use Rattle.std.proofs.Common.{rules, arith}
+use Rattle.std.proofs.Common.{arith}
 use Rattle.cipher.proofs.Led.{EachBlock-led}
-use Rattle.cipher.proofs.Parts.{pick-nil}
 use Rattle.cipher.proofs.blocks.BlockCipherDecrypt.decrypt_blocks_inout.Goals as goal
 
 pub returns : goal.returns

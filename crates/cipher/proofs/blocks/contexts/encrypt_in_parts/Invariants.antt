@@ -1,4 +1,4 @@
-use Rattle.std.proofs.Common.{◌≡◌, ℕ, ◌++◌, List, map, length, take, drop, ◌≤◌, ◌-◌}
+use Rattle.std.proofs.Common.{◌≡◌, ◌++◌, map, length, take, drop, ◌≤◌, ◌-◌}
 use Rattle.cipher.specs.Buffers.{pick}
 use Rattle.cipher.proofs.blocks.contexts.encrypt_in_parts.Given as goal
 

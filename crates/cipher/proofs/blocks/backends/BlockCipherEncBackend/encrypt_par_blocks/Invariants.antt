@@ -1,4 +1,4 @@
-use Rattle.std.proofs.Common.{◌≡◌, ℕ, ◌++◌, List, map, length, take, drop}
+use Rattle.std.proofs.Common.{◌≡◌, ◌++◌, map, take, drop}
 use Rattle.cipher.specs.Buffers.{pick}
 use Rattle.cipher.proofs.blocks.backends.BlockCipherEncBackend.encrypt_par_blocks.Given as goal
 
