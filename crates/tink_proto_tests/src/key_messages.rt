@@ -121,19 +121,22 @@ fn is_gcm_key(key: &AesGcmHkdfStreamingKey) -> bool {
     key_value.as_slice() == value.as_slice()
 }
 
+/// The message that this value is.
+fn key_of<M: Message>(alloc: Global, keyset: &[u8], id: u32, url: &str) -> Result<M, ProtoError> {
+    let keyset = Keyset::decode(alloc, keyset)?;
+    let value = only_value(&keyset, id, url)?;
+    M::decode(alloc, value)
+}
+
 fn reads_ctr_hmac_key(alloc: Global) -> Result<bool, ProtoError> {
     let url = "type.googleapis.com/google.crypto.tink.AesCtrHmacStreamingKey";
-    let keyset = Keyset::decode(alloc, CTR_HMAC_KEYSET)?;
-    let value = only_value(&keyset, 0x01020304, url)?;
-    let key = AesCtrHmacStreamingKey::decode(alloc, value)?;
+    let key = key_of(alloc, CTR_HMAC_KEYSET, 0x01020304, url)?;
     Ok(is_ctr_hmac_key(&key))
 }
 
 fn reads_gcm_key(alloc: Global) -> Result<bool, ProtoError> {
     let url = "type.googleapis.com/google.crypto.tink.AesGcmHkdfStreamingKey";
-    let keyset = Keyset::decode(alloc, GCM_KEYSET)?;
-    let value = only_value(&keyset, 0x01020305, url)?;
-    let key = AesGcmHkdfStreamingKey::decode(alloc, value)?;
+    let key = key_of(alloc, GCM_KEYSET, 0x01020305, url)?;
     Ok(is_gcm_key(&key))
 }
 
