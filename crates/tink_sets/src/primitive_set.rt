@@ -99,7 +99,6 @@ impl<K: Kinds> PrimitiveSet<K> {
     }
 
     // Puts the entry of a key behind those of its prefix, which is this.
-    #[tactic(auto, using(crate::proofs::AddingFacts::adds_last))]
     fn put_under(
         &mut self,
         alloc: Global,
