@@ -91,6 +91,20 @@ where
 }
 
 // The same in a registry of its manager.
+fn size_in<M: KeyManager + Drop, P: Aead>(
+    alloc: Global,
+    manager: M,
+    kt: &KeyTemplate,
+) -> Result<usize, TinkError>
+where
+    M::Family: Kinds<Aead = P>,
+{
+    match registry_of(alloc, manager) {
+        Ok(registry) => size_by_key(alloc, &registry, kt),
+        Err(e) => Err(e),
+    }
+}
+
 fn size_by<M: KeyManager + Drop, P: Aead>(
     alloc: Global,
     manager: M,
@@ -99,9 +113,8 @@ fn size_by<M: KeyManager + Drop, P: Aead>(
 where
     M::Family: Kinds<Aead = P>,
 {
-    let kt = kt?;
-    match registry_of(alloc, manager) {
-        Ok(registry) => size_by_key(alloc, &registry, &kt),
+    match kt {
+        Ok(kt) => size_in(alloc, manager, &kt),
         Err(e) => Err(e),
     }
 }
@@ -192,10 +205,14 @@ fn aead_of(alloc: Global, h: &Handle) -> Result<WrappedAead<AeadKind>, TinkError
 }
 
 // What n draws make of `abc`.
+fn abc_from(alloc: Global, aead: &WrappedAead<AeadKind>, n: usize) -> Result<Bytes, TinkError> {
+    let mut draws = draws_of(alloc, &[9; 12][..n.min(12)])?;
+    sealed_by(aead, alloc, b"abc", &mut draws)
+}
+
 fn abc_of(alloc: Global, h: &Handle, n: usize) -> Result<Bytes, TinkError> {
-    let mut draws = Draws::new(vec![in alloc; 9u8; n]?);
     match aead_of(alloc, h) {
-        Ok(aead) => sealed_by(&aead, alloc, b"abc", &mut draws),
+        Ok(aead) => abc_from(alloc, &aead, n),
         Err(e) => Err(e),
     }
 }
@@ -208,13 +225,20 @@ fn abc_by(alloc: Global, h: Result<Handle, TinkError>, n: usize) -> Result<Bytes
 }
 
 // What the keys make of a ciphertext.
+fn opened(alloc: Global, h: &Handle, sealed: &[u8]) -> Result<Bytes, TinkError> {
+    match aead_of(alloc, h) {
+        Ok(aead) => aead.decrypt(alloc, sealed, &[]),
+        Err(e) => Err(e),
+    }
+}
+
 fn opened_by(
     alloc: Global,
     h: Result<Handle, TinkError>,
     sealed: &[u8],
 ) -> Result<Bytes, TinkError> {
-    match aead_of(alloc, &h?) {
-        Ok(aead) => aead.decrypt(alloc, sealed, &[]),
+    match h {
+        Ok(h) => opened(alloc, &h, sealed),
         Err(e) => Err(e),
     }
 }
@@ -264,12 +288,29 @@ fn a_prefix_alone_and_few_draws_are_refused(rt: HostRuntime) {
 
 // ---- a rotation
 
-fn rotate(alloc: Global, manager: &mut Manager) -> Result<(), TinkError> {
-    let kt = aes128_gcm_key_template(alloc)?;
+fn rotate_in(
+    alloc: Global,
+    manager: &mut Manager,
+    registry: &Registry<AesGcmKeyManager>,
+    kt: &KeyTemplate,
+) -> Result<(), TinkError> {
     let mut draws = draws_of(alloc, &[4; 20])?;
-    let registry = registry_of(alloc, AesGcmKeyManager::new())?;
-    match manager.rotate(alloc, &kt, &registry, &mut draws) {
+    match manager.rotate(alloc, kt, registry, &mut draws) {
         Ok(_) => Ok(()),
+        Err(e) => Err(e),
+    }
+}
+
+fn rotate_by(alloc: Global, manager: &mut Manager, kt: &KeyTemplate) -> Result<(), TinkError> {
+    match registry_of(alloc, AesGcmKeyManager::new()) {
+        Ok(registry) => rotate_in(alloc, manager, &registry, kt),
+        Err(e) => Err(e),
+    }
+}
+
+fn rotate(alloc: Global, manager: &mut Manager) -> Result<(), TinkError> {
+    match aes128_gcm_key_template(alloc) {
+        Ok(kt) => rotate_by(alloc, manager, &kt),
         Err(e) => Err(e),
     }
 }

@@ -59,21 +59,40 @@ fn is_the_keyset(alloc: Global, read: Result<Handle, TinkError>) -> Result<bool,
 }
 
 // Writes the keyset under the master key, by twelve draws of 7.
+fn write_by<W: Writer>(
+    alloc: Global,
+    h: &Handle,
+    writer: &mut W,
+    master: &AesGcm,
+) -> Result<(), TinkError> {
+    let mut draws = draws_of(alloc, &[7; 12])?;
+    h.write(alloc, writer, master, &mut draws)
+}
+
 fn write<W: Writer>(alloc: Global, writer: &mut W) -> Result<(), TinkError> {
     let master = master(alloc)?;
-    let mut draws = draws_of(alloc, &[7; 12])?;
     match handle(alloc) {
-        Ok(h) => h.write(alloc, writer, &master, &mut draws),
+        Ok(h) => write_by(alloc, &h, writer, &master),
         Err(e) => Err(e),
     }
 }
 
 // The same with this data.
+fn write_by_data<W: Writer>(
+    alloc: Global,
+    h: &Handle,
+    writer: &mut W,
+    master: &AesGcm,
+    data: &[u8],
+) -> Result<(), TinkError> {
+    let mut draws = draws_of(alloc, &[7; 12])?;
+    h.write_with_associated_data(alloc, writer, master, data, &mut draws)
+}
+
 fn write_with<W: Writer>(alloc: Global, writer: &mut W, data: &[u8]) -> Result<(), TinkError> {
     let master = master(alloc)?;
-    let mut draws = draws_of(alloc, &[7; 12])?;
     match handle(alloc) {
-        Ok(h) => h.write_with_associated_data(alloc, writer, &master, data, &mut draws),
+        Ok(h) => write_by_data(alloc, &h, writer, &master, data),
         Err(e) => Err(e),
     }
 }

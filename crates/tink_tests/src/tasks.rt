@@ -21,10 +21,20 @@ fn draws(alloc: Global, n: u8) -> Result<Draws, TinkError> {
 }
 
 // A keyset of one new key.
-fn new_keyset(alloc: Global, kt: Result<KeyTemplate, TinkError>) -> Result<Handle, TinkError> {
-    let kt = kt?;
+fn new_keyset_in(
+    alloc: Global,
+    kt: &KeyTemplate,
+    registry: &Registry<Managers>,
+) -> Result<Handle, TinkError> {
     let mut draws = draws(alloc, 100)?;
-    Handle::new(alloc, &kt, &registry(alloc)?, &mut draws)
+    Handle::new(alloc, kt, registry, &mut draws)
+}
+
+fn new_keyset(alloc: Global, kt: Result<KeyTemplate, TinkError>) -> Result<Handle, TinkError> {
+    match kt {
+        Ok(kt) => new_keyset_in(alloc, &kt, &registry(alloc)?),
+        Err(e) => Err(e),
+    }
 }
 
 // Whether bytes are those of a text.
@@ -79,12 +89,23 @@ fn a_value_is_encrypted(rt: HostRuntime) {
 
 // ---- a key is rotated, and old data decrypted
 
+fn rotate_in(
+    alloc: Global,
+    manager: &mut Manager,
+    registry: &Registry<Managers>,
+    template: &KeyTemplate,
+) -> Result<(), TinkError> {
+    let mut draws = draws(alloc, 200)?;
+    match manager.rotate(alloc, template, registry, &mut draws) {
+        Ok(_) => Ok(()),
+        Err(e) => Err(e),
+    }
+}
+
 fn rotate(alloc: Global, manager: &mut Manager) -> Result<(), TinkError> {
     let template = aes128_gcm_key_template(alloc)?;
-    let mut draws = draws(alloc, 200)?;
-    let registry: Registry<Managers> = registry(alloc)?;
-    match manager.rotate(alloc, &template, &registry, &mut draws) {
-        Ok(_) => Ok(()),
+    match registry(alloc) {
+        Ok(registry) => rotate_in(alloc, manager, &registry, &template),
         Err(e) => Err(e),
     }
 }
@@ -104,9 +125,20 @@ fn opens_old_data(alloc: Global, keyset: &Handle, old: &[u8]) -> Result<bool, Ti
     Ok(!begins_alike(old, new.as_slice()) && is_text(text.as_slice(), "a value"))
 }
 
+fn opens_old_data_by(
+    alloc: Global,
+    keyset: Result<Handle, TinkError>,
+    old: &[u8],
+) -> Result<bool, TinkError> {
+    match keyset {
+        Ok(keyset) => opens_old_data(alloc, &keyset, old),
+        Err(e) => Err(e),
+    }
+}
+
 fn opens_after_a_rotation(alloc: Global, keyset: Handle) -> Result<bool, TinkError> {
     match encrypted(alloc, &keyset, b"a value") {
-        Ok(old) => opens_old_data(alloc, &rotated(alloc, keyset)?, old.as_slice()),
+        Ok(old) => opens_old_data_by(alloc, rotated(alloc, keyset), old.as_slice()),
         Err(e) => Err(e),
     }
 }
@@ -194,11 +226,20 @@ fn from_json(alloc: Global, text: Vec<u8>) -> Result<Handle, TinkError> {
     insecure::read(alloc, &mut JsonReader::new(SureSource::new(text)))
 }
 
+fn write<A: Aead>(
+    alloc: Global,
+    keyset: &Handle,
+    writer: &mut BinaryWriter<SureSink>,
+    master: &A,
+) -> Result<(), TinkError> {
+    let mut draws = draws(alloc, 12)?;
+    keyset.write(alloc, writer, master, &mut draws)
+}
+
 // The keyset under the AEAD of a master key, in the wire format.
 fn written<A: Aead>(alloc: Global, keyset: &Handle, master: &A) -> Result<Vec<u8>, TinkError> {
-    let mut draws = draws(alloc, 12)?;
     let mut writer = BinaryWriter::new(sink_of(alloc)?);
-    match keyset.write(alloc, &mut writer, master, &mut draws) {
+    match write(alloc, keyset, &mut writer, master) {
         Ok(()) => Ok(writer.into_inner().into_bytes()),
         Err(e) => Err(e),
     }
