@@ -76,7 +76,7 @@ fn sealer_of<T: DerivesStreams>(
 /// `OutOfMemory` before anything was drawn or written; `RandomFault` exactly where fewer draws are
 /// left than these, which stay; `UnknownHash` where HKDF's hash is unknown and `UnsupportedHash`
 /// where it is SHA-224, of which the draws were taken and nothing was written; `WriteFault` where
-/// the sink failed, and has a front of the header.
+/// the sink failed, and has a prefix of the header.
 pub fn begin_stream<T: DerivesStreams, K: Sink>(
     alloc: Global,
     key: &T,
