@@ -87,14 +87,14 @@ impl AesGcmHkdf {
         DerivesStreams::header_length(self)
     }
 
-    /// A writer of a new stream into `w`, whose header is written: its salt and its prefix are the first draws. All memory
-    /// is taken first.
+    /// A writer of a new stream into `w`, whose header is written: its salt and its prefix are the first draws. All
+    /// memory is taken first.
     ///
     /// # Errors
-    /// The refusal hands back `w`. `OutOfMemory`, with nothing drawn or written; then the first that applies: `RandomFault`
-    /// exactly where fewer draws are left than a salt and seven bytes, none of which is taken; `UnknownHash` exactly where
-    /// HKDF's hash is unknown, and `UnsupportedHash` exactly where it is SHA-224, with the draws taken and nothing written;
-    /// `WriteFault` where the sink failed, which has a prefix of the header.
+    /// The refusal hands back `w`. `OutOfMemory`, with nothing drawn or written; then the first that applies:
+    /// `RandomFault` exactly where fewer draws are left than a salt and seven bytes, none of which is taken;
+    /// `UnknownHash` exactly where HKDF's hash is unknown, and `UnsupportedHash` exactly where it is SHA-224, with
+    /// the draws taken and nothing written; `WriteFault` where the sink failed, which has a prefix of the header.
     pub fn new_encrypting_writer<K: Sink + Drop>(
         &self,
         alloc: Global,
@@ -113,9 +113,9 @@ impl AesGcmHkdf {
     /// A reader of the stream in `r`, whose header is read. All memory is taken first.
     ///
     /// # Errors
-    /// The refusal hands back `r`. `OutOfMemory`, with nothing read; `ReadFault` where the source failed; `NoMatchingKey`
-    /// exactly where the header is missing, short or of another length; `UnknownHash` exactly where HKDF's hash is unknown,
-    /// and `UnsupportedHash` exactly where it is SHA-224.
+    /// The refusal hands back `r`. `OutOfMemory`, with nothing read; `ReadFault` where the source failed;
+    /// `NoMatchingKey` exactly where the header is missing, short or of another length; `UnknownHash` exactly where
+    /// HKDF's hash is unknown, and `UnsupportedHash` exactly where it is SHA-224.
     pub fn new_decrypting_reader<S: Source + Drop>(
         &self,
         alloc: Global,

@@ -1,15 +1,13 @@
 //! Damaged streams of three segments: each is refused by its kind, and what is read before is a prefix of the text.
 
-use crate::comparing::{expect, expect_bytes};
-use crate::streams::{MAIN, draws, read_pieces, source, write_pieces};
+use crate::comparing::expect;
+use crate::streams::{expect_opened, key_of, sealed};
 use std::alloc::Global;
 use std::process::Abort;
 use std::test::Fail;
-use tink_io::{Kind, MemSink, MemSource, TinkError};
+use tink_io::{Kind, TinkError};
 use tink_proto::HashType;
-use tink_segments::StreamSegment;
-use tink_stream_keys::{AesCtrHmac, AesGcmHkdf, StreamKind};
-use tink_streams::{Reader, Writer};
+use tink_stream_keys::StreamKind;
 
 const TEXT: &[u8; 36] = b"thirty-six bytes in three segments..";
 
@@ -33,93 +31,15 @@ const BY_GCM: Layout = Layout {
     tag: 16,
 };
 
-// A key in counter mode, with segments of 35 bytes.
-fn counter_mode(alloc: Global) -> Result<StreamKind, TinkError> {
-    let sha = HashType::Sha256;
-    let key = AesCtrHmac::new(alloc, MAIN, sha, 16, sha, 10, 35, 0)?;
-    Ok(StreamKind::CtrHmac(key))
-}
-
-// A key by AES-GCM, with segments of 41 bytes.
-fn gcm(alloc: Global) -> Result<StreamKind, TinkError> {
-    let key = AesGcmHkdf::new(alloc, MAIN, HashType::Sha256, 16, 41, 0)?;
-    Ok(StreamKind::GcmHkdf(key))
-}
-
-// A writer of a stream of some draws.
-fn writer_of(
-    alloc: Global,
-    key: &StreamKind,
-    drawn: u8,
-) -> Result<Writer<MemSink, StreamSegment>, TinkError> {
-    let mut draws = draws(alloc, &[drawn; 23])?;
-    let mut sink = MemSink::new(alloc, 0, Vec::new(alloc));
-    sink.reserve(alloc, 200)?;
-    let made = match key {
-        StreamKind::CtrHmac(key) => key.new_encrypting_writer(alloc, &mut draws, sink, b"data"),
-        StreamKind::GcmHkdf(key) => key.new_encrypting_writer(alloc, &mut draws, sink, b"data"),
-    };
-    made.map_err(|refused| refused.error)
-}
-
-// The text's stream of some draws.
-fn sealed(alloc: Global, key: &StreamKind, drawn: u8) -> Result<Vec<u8>, TinkError> {
-    let mut writer = writer_of(alloc, key, drawn)?;
-    write_pieces(&mut writer, TEXT, 36)?;
-    Ok(writer.into_inner().into_bytes())
-}
-
-// A reader of a stream.
-fn reader_of(
-    alloc: Global,
-    key: &StreamKind,
-    stream: &[u8],
-) -> Result<Reader<MemSource, StreamSegment>, TinkError> {
-    let stream = source(alloc, stream, &[])?;
-    let made = match key {
-        StreamKind::CtrHmac(key) => key.new_decrypting_reader(alloc, stream, b"data"),
-        StreamKind::GcmHkdf(key) => key.new_decrypting_reader(alloc, stream, b"data"),
-    };
-    made.map_err(|refused| refused.error)
-}
-
-// What a stream opens to, and by what a read or the reader is refused.
-fn open_into(
-    alloc: Global,
-    key: &StreamKind,
-    stream: &[u8],
-    text: &mut Vec<u8>,
-) -> Result<Option<Kind>, TinkError> {
-    match reader_of(alloc, key, stream) {
-        Ok(mut reader) => read_pieces(&mut reader, text),
-        Err(e) => Ok(Some(e.kind)),
-    }
-}
-
-// A stream that opens to so many bytes of the text, and by what it is refused.
-fn expect_opened(
-    rt: &impl Abort,
-    alloc: Global,
-    key: &StreamKind,
-    stream: &[u8],
-    bytes: usize,
-    wanted: Option<Kind>,
-) -> Result<(), TinkError> {
-    let mut text = Vec::new(alloc);
-    let refused = open_into(alloc, key, stream, &mut text)?;
-    expect(rt, refused, wanted, "the refusal");
-    expect_bytes(rt, &text, TEXT.get(..bytes).unwrap_or(&[]), "the text");
-    Ok(())
-}
-
 // The first place where two streams differ, or where one of them ends.
 fn first_difference(a: &[u8], b: &[u8]) -> usize {
-    for (place, (x, y)) in a.iter().zip(b.iter()).enumerate() {
-        if x != y {
+    let n = a.len().min(b.len());
+    for place in 0..n {
+        if a[place] != b[place] {
             return place;
         }
     }
-    a.len().min(b.len())
+    n
 }
 
 // The number of the segment in which a place lies, and where that segment begins. The header is taken for the first
@@ -164,8 +84,8 @@ struct Sample {
 }
 
 fn sample_of(alloc: Global, key: StreamKind, layout: Layout) -> Result<Sample, TinkError> {
-    let stream = sealed(alloc, &key, 7)?;
-    let other = sealed(alloc, &key, 8)?;
+    let stream = sealed(alloc, &key, &[7; 23], TEXT, 36)?;
+    let other = sealed(alloc, &key, &[8; 23], TEXT, 36)?;
     Ok(Sample {
         key,
         layout,
@@ -183,31 +103,42 @@ fn expect_refused(
 ) -> Result<(), TinkError> {
     let (kind, number) = wanted_kind(&sample.layout, &sample.stream, damaged);
     let before = BEFORE.get(number as usize).copied().unwrap_or(0);
-    expect_opened(rt, alloc, &sample.key, damaged, before, Some(kind))
+    let text = TEXT.get(..before).unwrap_or(&[]);
+    expect_opened(rt, alloc, &sample.key, damaged, &[], (text, Some(kind)))
 }
 
 // The stream itself opens to the text, and has the length of its layout.
 fn expect_whole(rt: &impl Abort, alloc: Global, sample: &Sample) -> Result<(), TinkError> {
     expect(rt, sample.stream.len(), sample.layout.ends[3], "the length");
-    expect_opened(rt, alloc, &sample.key, &sample.stream, 36, None)
+    expect_opened(rt, alloc, &sample.key, &sample.stream, &[], (TEXT, None))
 }
 
 // The stream with any bit exchanged.
 fn expect_no_flip(rt: &impl Abort, alloc: Global, sample: &Sample) -> Result<(), TinkError> {
     let mut damaged = sample.stream.to_vec(alloc)?;
-    for place in 0..damaged.len() {
-        for bit in [1u8, 2, 4, 8, 16, 32, 64, 128] {
-            flip(&mut damaged, place, bit);
-            expect_refused(rt, alloc, sample, &damaged)?;
-            flip(&mut damaged, place, bit);
-        }
+    for place in 0..8 * sample.layout.ends[3].min(200) {
+        expect_flip(rt, alloc, sample, &mut damaged, place)?;
     }
     Ok(())
 }
 
-fn flip(bytes: &mut [u8], place: usize, bit: u8) {
-    if let Some(byte) = bytes.get_mut(place) {
-        *byte ^= bit;
+// The stream with one bit exchanged, which is then exchanged back.
+fn expect_flip(
+    rt: &impl Abort,
+    alloc: Global,
+    sample: &Sample,
+    damaged: &mut [u8],
+    place: usize,
+) -> Result<(), TinkError> {
+    flip(damaged, place);
+    expect_refused(rt, alloc, sample, damaged)?;
+    flip(damaged, place);
+    Ok(())
+}
+
+fn flip(bytes: &mut [u8], place: usize) {
+    if let Some(byte) = bytes.get_mut(place / 8) {
+        *byte ^= [1, 2, 4, 8, 16, 32, 64, 128][place % 8];
     }
 }
 
@@ -264,12 +195,21 @@ fn part_of(sample: &Sample, part: usize) -> &[u8] {
 
 // The streams of parts in a wrong order.
 fn expect_no_order(rt: &impl Abort, alloc: Global, sample: &Sample) -> Result<(), TinkError> {
-    for order in ORDERS {
-        let mut damaged = Vec::new(alloc);
-        for part in order {
-            damaged.extend_from_slice(part_of(sample, *part))?;
-        }
-        expect_refused(rt, alloc, sample, &damaged)?;
+    for order in &ORDERS {
+        expect_refused(rt, alloc, sample, &ordered(alloc, sample, order)?)?;
+    }
+    Ok(())
+}
+
+fn ordered(alloc: Global, sample: &Sample, order: &[usize]) -> Result<Vec<u8>, TinkError> {
+    let mut parts = Vec::new(alloc);
+    add_parts(&mut parts, sample, order)?;
+    Ok(parts)
+}
+
+fn add_parts(parts: &mut Vec<u8>, sample: &Sample, order: &[usize]) -> Result<(), TinkError> {
+    for part in order {
+        parts.extend_from_slice(part_of(sample, *part))?;
     }
     Ok(())
 }
@@ -282,18 +222,27 @@ fn expect_no_damage(rt: &impl Abort, alloc: Global, sample: &Sample) -> Result<(
     expect_no_order(rt, alloc, sample)
 }
 
+// The sample of a new key.
+fn expect_sample(
+    rt: &impl Abort,
+    alloc: Global,
+    in_counter_mode: bool,
+    segment: u32,
+    layout: Layout,
+) -> Result<(), TinkError> {
+    let key = key_of(alloc, in_counter_mode, HashType::Sha256, segment)?;
+    let sample = sample_of(alloc, key, layout)?;
+    expect_no_damage(rt, alloc, &sample)
+}
+
 #[test]
 fn no_damage_passes_in_counter_mode(rt: HostRuntime) -> Result<(), Fail> {
-    let alloc = rt.alloc();
-    let sample = sample_of(alloc, counter_mode(alloc)?, IN_COUNTER_MODE)?;
-    expect_no_damage(&rt, alloc, &sample)?;
+    expect_sample(&rt, rt.alloc(), true, 35, IN_COUNTER_MODE)?;
     Ok(())
 }
 
 #[test]
 fn no_damage_passes_by_gcm(rt: HostRuntime) -> Result<(), Fail> {
-    let alloc = rt.alloc();
-    let sample = sample_of(alloc, gcm(alloc)?, BY_GCM)?;
-    expect_no_damage(&rt, alloc, &sample)?;
+    expect_sample(&rt, rt.alloc(), false, 41, BY_GCM)?;
     Ok(())
 }

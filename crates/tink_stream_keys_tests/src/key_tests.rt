@@ -6,9 +6,9 @@ use std::process::Abort;
 use std::test::Fail;
 use tink_core::CloneIn;
 use tink_io::{Kind, TinkError};
-use tink_proto::HashType;
+use tink_proto::{Bytes, HashType};
 use tink_segment_traits::{SegmentDecrypter, SegmentEncrypter};
-use tink_segments::{CtrHmacSegment, GcmSegment, StreamSegment};
+use tink_segments::StreamSegment;
 use tink_stream_keys::{AesCtrHmac, AesGcmHkdf, DerivesStreams, StreamKind};
 
 const TEXT: &[u8; 38] = b"a text of more than two blocks, by ten";
@@ -140,66 +140,64 @@ fn derived(alloc: Global, key: &StreamKind, salt: &[u8]) -> Result<StreamSegment
     key.try_clone(alloc)?.derive(salt, b"associated")
 }
 
-// What a key derives with the whole salt, in counter mode.
-fn in_counter_mode(alloc: Global) -> Result<CtrHmacSegment, TinkError> {
-    let key = StreamKind::CtrHmac(counter_mode_key(alloc)?);
-    match derived(alloc, &key, SALT)? {
-        StreamSegment::CtrHmac(cipher) => Ok(cipher),
-        StreamSegment::Gcm(_) => Err(TinkError::new(Kind::WrongPrimitive)),
+fn sealed(alloc: Global, cipher: &StreamSegment) -> Result<Bytes, TinkError> {
+    match cipher {
+        StreamSegment::CtrHmac(cipher) => cipher.encrypt_segment(alloc, TEXT, &NONCE),
+        StreamSegment::Gcm(cipher) => cipher.encrypt_segment(alloc, TEXT, &NONCE[..12]),
     }
 }
 
-// What a key derives with the first bytes of the salt, by GCM.
-fn by_gcm(alloc: Global) -> Result<GcmSegment, TinkError> {
-    let key = StreamKind::GcmHkdf(gcm_key(alloc)?);
-    match derived(alloc, &key, &SALT[..16])? {
-        StreamSegment::CtrHmac(_) => Err(TinkError::new(Kind::WrongPrimitive)),
-        StreamSegment::Gcm(cipher) => Ok(cipher),
+fn opened(alloc: Global, cipher: &StreamSegment) -> Result<Bytes, TinkError> {
+    match cipher {
+        StreamSegment::CtrHmac(cipher) => cipher.decrypt_segment(alloc, IN_COUNTER_MODE, &NONCE),
+        StreamSegment::Gcm(cipher) => cipher.decrypt_segment(alloc, BY_GCM, &NONCE[..12]),
     }
 }
 
-// The text's segment in counter mode, which opens to the text.
-fn expect_in_counter_mode(
+// The text's segment, which opens to the text.
+fn expect_segment(
     rt: &impl Abort,
     alloc: Global,
-    cipher: &CtrHmacSegment,
+    cipher: &StreamSegment,
+    segment: &[u8],
 ) -> Result<(), TinkError> {
-    let made = cipher.encrypt_segment(alloc, TEXT, &NONCE)?;
-    expect_bytes(rt, made.as_slice(), IN_COUNTER_MODE, "the segment");
-    let back = cipher.decrypt_segment(alloc, IN_COUNTER_MODE, &NONCE)?;
-    expect_bytes(rt, back.as_slice(), TEXT, "the text");
+    expect_bytes(
+        rt,
+        sealed(alloc, cipher)?.as_slice(),
+        segment,
+        "the segment",
+    );
+    expect_bytes(rt, opened(alloc, cipher)?.as_slice(), TEXT, "the text");
     Ok(())
 }
 
-// The text's segment by GCM, which opens to the text.
-fn expect_by_gcm(rt: &impl Abort, alloc: Global, cipher: &GcmSegment) -> Result<(), TinkError> {
-    let made = cipher.encrypt_segment(alloc, TEXT, &NONCE[..12])?;
-    expect_bytes(rt, made.as_slice(), BY_GCM, "the segment");
-    let back = cipher.decrypt_segment(alloc, BY_GCM, &NONCE[..12])?;
-    expect_bytes(rt, back.as_slice(), TEXT, "the text");
-    Ok(())
-}
-
-#[test]
-fn tells_headers(rt: HostRuntime) -> Result<(), Fail> {
-    let told = counter_mode_key(rt.alloc())?.header_length();
-    expect(&rt, told, 40, "in counter mode");
-    let told = gcm_key(rt.alloc())?.header_length();
-    expect(&rt, told, 24, "by GCM");
-    Ok(())
+// What a key derives with a salt makes this segment of the text.
+fn expect_derived(
+    rt: &impl Abort,
+    alloc: Global,
+    key: &StreamKind,
+    salt: &[u8],
+    segment: &[u8],
+) -> Result<(), TinkError> {
+    let cipher = derived(alloc, key, salt)?;
+    expect_segment(rt, alloc, &cipher, segment)
 }
 
 #[test]
 fn derives_segments_in_counter_mode(rt: HostRuntime) -> Result<(), Fail> {
-    let cipher = in_counter_mode(rt.alloc())?;
-    expect_in_counter_mode(&rt, rt.alloc(), &cipher)?;
+    let key = counter_mode_key(rt.alloc())?;
+    expect(&rt, key.header_length(), 40, "the header");
+    let key = StreamKind::CtrHmac(key);
+    expect_derived(&rt, rt.alloc(), &key, SALT, IN_COUNTER_MODE)?;
     Ok(())
 }
 
 #[test]
 fn derives_segments_by_gcm(rt: HostRuntime) -> Result<(), Fail> {
-    let cipher = by_gcm(rt.alloc())?;
-    expect_by_gcm(&rt, rt.alloc(), &cipher)?;
+    let key = gcm_key(rt.alloc())?;
+    expect(&rt, key.header_length(), 24, "the header");
+    let key = StreamKind::GcmHkdf(key);
+    expect_derived(&rt, rt.alloc(), &key, &SALT[..16], BY_GCM)?;
     Ok(())
 }
 

@@ -3,130 +3,28 @@
 use crate::callers::new_stream;
 use crate::comparing::{expect, expect_bytes};
 use crate::streams::{
-    BY_GCM, DRAWS, IN_COUNTER_MODE, TEXT, counter_mode, draws, gcm, read_pieces, sink, source,
-    write_pieces,
+    BY_GCM, DRAWS, IN_COUNTER_MODE, MAIN, TEXT, draws, expect_opened, key_of, new_writer, sealed,
+    sink,
 };
 use std::alloc::Global;
 use std::process::Abort;
 use std::test::Fail;
-use tink_io::{Draws, Kind, MemSink, MemSource, TinkError};
-use tink_primitives::StreamingAead;
+use tink_io::{Draws, Kind, TinkError};
 use tink_proto::HashType;
-use tink_segments::StreamSegment;
-use tink_streams::{Reader, Writer};
+use tink_stream_keys::{AesGcmHkdf, StreamKind};
 
-// What a new writer is refused by, with the bytes that the sink then has.
-fn refusal<A>(
-    alloc: Global,
-    key: &A,
-    drawn: &mut Draws,
-    fails: &[u32],
-) -> Result<(Option<Kind>, Vec<u8>), TinkError>
-where
-    A: StreamingAead<MemSource, MemSink, Writer = Writer<MemSink, StreamSegment>>,
-{
-    let sink = sink(alloc, fails)?;
-    match key.new_encrypting_writer(alloc, drawn, sink, b"data") {
-        Ok(writer) => Ok((None, writer.into_inner().into_bytes())),
-        Err(refused) => Ok((Some(refused.error.kind), refused.inner.into_bytes())),
-    }
-}
-
-// A writer of all draws.
-fn writer_of<A>(alloc: Global, key: &A) -> Result<Writer<MemSink, StreamSegment>, TinkError>
-where
-    A: StreamingAead<MemSource, MemSink, Writer = Writer<MemSink, StreamSegment>>,
-{
-    let mut draws = draws(alloc, DRAWS)?;
-    let sink = sink(alloc, &[])?;
-    match key.new_encrypting_writer(alloc, &mut draws, sink, b"data") {
-        Ok(writer) => Ok(writer),
-        Err(refused) => Err(refused.error),
-    }
-}
-
-// The stream of the text, written in pieces of so many bytes with a flush behind each.
-fn sealed<A>(alloc: Global, key: &A, piece: usize) -> Result<Vec<u8>, TinkError>
-where
-    A: StreamingAead<MemSource, MemSink, Writer = Writer<MemSink, StreamSegment>>,
-{
-    let mut writer = writer_of(alloc, key)?;
-    write_pieces(&mut writer, TEXT, piece)?;
-    Ok(writer.into_inner().into_bytes())
-}
-
-// What a stream opens to, and by what a read or the reader is refused.
-fn open_into<A>(
-    alloc: Global,
-    key: &A,
-    stream: MemSource,
-    text: &mut Vec<u8>,
-) -> Result<Option<Kind>, TinkError>
-where
-    A: StreamingAead<MemSource, MemSink, Reader = Reader<MemSource, StreamSegment>>,
-{
-    match key.new_decrypting_reader(alloc, stream, b"data") {
-        Ok(mut reader) => read_pieces(&mut reader, text),
-        Err(refused) => Ok(Some(refused.error.kind)),
-    }
-}
-
-// A new writer of some draws: how many it leaves, what it is refused by, and how much of the header is then written.
-fn expect_begun<A>(
-    rt: &impl Abort,
-    alloc: Global,
-    key: Result<A, TinkError>,
-    drawn: usize,
-    fails: &[u32],
-    wanted: (usize, Option<Kind>, usize),
-) -> Result<(), TinkError>
-where
-    A: StreamingAead<MemSource, MemSink, Writer = Writer<MemSink, StreamSegment>> + Drop,
-{
-    let mut draws = draws(alloc, DRAWS.get(..drawn).unwrap_or(DRAWS))?;
-    let (refused, written) = refusal(alloc, &key?, &mut draws, fails)?;
-    let told = (draws.left(), refused, written.len());
-    expect(rt, told, wanted, "a new writer");
-    let header = BY_GCM.get(..written.len()).unwrap_or(&[]);
-    expect_bytes(rt, &written, header, "the header");
-    Ok(())
-}
-
-// A stream, from a source whose calls of these numbers fail, that opens to so many bytes of the text, and what it is
-// refused by.
-fn expect_opened<A>(
-    rt: &impl Abort,
-    alloc: Global,
-    key: Result<A, TinkError>,
-    stream: &[u8],
-    fails: &[u32],
-    wanted: (usize, Option<Kind>),
-) -> Result<(), TinkError>
-where
-    A: StreamingAead<MemSource, MemSink, Reader = Reader<MemSource, StreamSegment>> + Drop,
-{
-    let stream = source(alloc, stream, fails)?;
-    let mut text = Vec::new(alloc);
-    let refused = open_into(alloc, &key?, stream, &mut text)?;
-    let (bytes, kind) = wanted;
-    expect(rt, refused, kind, "the refusal");
-    expect_bytes(rt, &text, TEXT.get(..bytes).unwrap_or(&[]), "the text");
-    Ok(())
-}
+const SHA: HashType = HashType::Sha256;
 
 // The text's stream, written in pieces of one, ten and sixty bytes.
-fn expect_sealed<A>(
+fn expect_sealed(
     rt: &impl Abort,
     alloc: Global,
-    key: Result<A, TinkError>,
+    key: &StreamKind,
     stream: &[u8],
-) -> Result<(), TinkError>
-where
-    A: StreamingAead<MemSource, MemSink, Writer = Writer<MemSink, StreamSegment>> + Drop,
-{
-    let key = key?;
+) -> Result<(), TinkError> {
     for piece in [1usize, 10, 60] {
-        expect_bytes(rt, &sealed(alloc, &key, piece)?, stream, "the stream");
+        let told = sealed(alloc, key, DRAWS, TEXT, piece)?;
+        expect_bytes(rt, &told, stream, "the stream");
     }
     Ok(())
 }
@@ -134,18 +32,170 @@ where
 #[test]
 fn streams_are_those_of_python(rt: HostRuntime) -> Result<(), Fail> {
     let alloc = rt.alloc();
-    let sha = HashType::Sha256;
-    expect_sealed(&rt, alloc, counter_mode(alloc, sha), IN_COUNTER_MODE)?;
-    expect_sealed(&rt, alloc, gcm(alloc, sha, 50), BY_GCM)?;
+    expect_sealed(&rt, alloc, &key_of(alloc, true, SHA, 50)?, IN_COUNTER_MODE)?;
+    expect_sealed(&rt, alloc, &key_of(alloc, false, SHA, 50)?, BY_GCM)?;
+    Ok(())
+}
+
+// A key's kind and hash, a stream, the calls of its source that fail, how many bytes of the text it opens to, and by
+// what it is refused.
+type Opened = (
+    bool,
+    HashType,
+    &'static [u8],
+    &'static [u32],
+    usize,
+    Option<Kind>,
+);
+
+const OPENED: [Opened; 12] = [
+    // those of Python open
+    (true, SHA, IN_COUNTER_MODE, &[], 60, None),
+    (false, SHA, BY_GCM, &[], 60, None),
+    // hashes are refused behind the header
+    (
+        false,
+        HashType::Sha224,
+        BY_GCM,
+        &[],
+        0,
+        Some(Kind::UnsupportedHash),
+    ),
+    (
+        false,
+        HashType::Sha224,
+        b"\x18",
+        &[],
+        0,
+        Some(Kind::NoMatchingKey),
+    ),
+    (
+        false,
+        HashType::UnknownHash,
+        BY_GCM,
+        &[],
+        0,
+        Some(Kind::UnknownHash),
+    ),
+    // a source may fail in the header and behind
+    (true, SHA, IN_COUNTER_MODE, &[3], 0, Some(Kind::ReadFault)),
+    (true, SHA, IN_COUNTER_MODE, &[8], 16, Some(Kind::ReadFault)),
+    // headers are whole and have their mark
+    (true, SHA, &[], &[], 0, Some(Kind::NoMatchingKey)),
+    (true, SHA, &[24; 23], &[], 0, Some(Kind::NoMatchingKey)),
+    (true, SHA, &[25; 24], &[], 0, Some(Kind::NoMatchingKey)),
+    (true, SHA, &[40; 50], &[], 0, Some(Kind::NoMatchingKey)),
+    (true, SHA, &[24; 24], &[], 0, Some(Kind::Truncated(0))),
+];
+
+fn expect_case(rt: &impl Abort, alloc: Global, case: &Opened) -> Result<(), TinkError> {
+    let (in_counter_mode, hkdf_alg, stream, fails, bytes, refused) = *case;
+    let key = key_of(alloc, in_counter_mode, hkdf_alg, 50)?;
+    let text = TEXT.get(..bytes).unwrap_or(&[]);
+    expect_opened(rt, alloc, &key, stream, fails, (text, refused))
+}
+
+#[test]
+fn streams_open_as_far_as_they_agree(rt: HostRuntime) -> Result<(), Fail> {
+    for case in &OPENED {
+        expect_case(&rt, rt.alloc(), case)?;
+    }
+    Ok(())
+}
+
+// A stream of a hundred bytes in one segment.
+fn expect_both_ways(rt: &impl Abort, alloc: Global, key: &StreamKind) -> Result<(), TinkError> {
+    let stream = sealed(alloc, key, DRAWS, TEXT, 10)?;
+    expect(rt, stream.len(), 100, "the stream's length");
+    expect_opened(rt, alloc, key, &stream, &[], (TEXT, None))
+}
+
+#[test]
+fn pieces_of_ten_go_both_ways(rt: HostRuntime) -> Result<(), Fail> {
+    let key = key_of(rt.alloc(), false, SHA, 4096)?;
+    expect_both_ways(&rt, rt.alloc(), &key)?;
+    Ok(())
+}
+
+// A key's kind and hash, how many draws there are, the calls of a sink that fail; how many draws a new writer leaves,
+// what it is refused by, and how much of the header is then written.
+type Begun = (
+    bool,
+    HashType,
+    usize,
+    &'static [u32],
+    (usize, Option<Kind>, usize),
+);
+
+const BEGUN: [Begun; 5] = [
+    // too few draws stay
+    (false, SHA, 22, &[], (22, Some(Kind::RandomFault), 0)),
+    (false, SHA, 23, &[], (0, None, 24)),
+    // hashes are refused behind the draws
+    (
+        false,
+        HashType::Sha224,
+        23,
+        &[],
+        (0, Some(Kind::UnsupportedHash), 0),
+    ),
+    (
+        true,
+        HashType::UnknownHash,
+        23,
+        &[],
+        (0, Some(Kind::UnknownHash), 0),
+    ),
+    // a sink that fails has a part of the header
+    (true, SHA, 23, &[2], (0, Some(Kind::WriteFault), 10)),
+];
+
+// What a new writer is refused by, and what the sink then has.
+fn refusal(
+    alloc: Global,
+    key: &StreamKind,
+    draws: &mut Draws,
+    fails: &[u32],
+) -> Result<(Option<Kind>, Vec<u8>), TinkError> {
+    match new_writer(alloc, key, draws, sink(alloc, fails)?) {
+        Ok(writer) => Ok((None, writer.into_inner().into_bytes())),
+        Err(refused) => Ok((Some(refused.error.kind), refused.inner.into_bytes())),
+    }
+}
+
+fn expect_refusal(
+    rt: &impl Abort,
+    alloc: Global,
+    draws: &mut Draws,
+    case: &Begun,
+) -> Result<(), TinkError> {
+    let (in_counter_mode, hkdf_alg, _, fails, wanted) = *case;
+    let key = key_of(alloc, in_counter_mode, hkdf_alg, 50)?;
+    let (refused, written) = refusal(alloc, &key, draws, fails)?;
+    let told = (draws.left(), refused, written.len());
+    expect(rt, told, wanted, "a new writer");
+    let header = BY_GCM.get(..written.len()).unwrap_or(&[]);
+    expect_bytes(rt, &written, header, "the header");
+    Ok(())
+}
+
+fn expect_begun(rt: &impl Abort, alloc: Global, case: &Begun) -> Result<(), TinkError> {
+    let mut draws = draws(alloc, DRAWS.get(..case.2).unwrap_or(DRAWS))?;
+    expect_refusal(rt, alloc, &mut draws, case)
+}
+
+#[test]
+fn new_writers_write_the_header_alone(rt: HostRuntime) -> Result<(), Fail> {
+    for case in &BEGUN {
+        expect_begun(&rt, rt.alloc(), case)?;
+    }
     Ok(())
 }
 
 // What the sink of a new stream has.
-fn begun(alloc: Global) -> Result<Vec<u8>, TinkError> {
-    let key = gcm(alloc, HashType::Sha256, 50)?;
+fn begun(alloc: Global, key: &AesGcmHkdf) -> Result<Vec<u8>, TinkError> {
     let mut draws = draws(alloc, DRAWS)?;
-    let sink = sink(alloc, &[])?;
-    match new_stream(alloc, &key, &mut draws, sink, b"data") {
+    match new_stream(alloc, key, &mut draws, sink(alloc, &[])?, b"data") {
         Ok(writer) => Ok(writer.into_inner().into_bytes()),
         Err(refused) => Err(refused.error),
     }
@@ -153,109 +203,8 @@ fn begun(alloc: Global) -> Result<Vec<u8>, TinkError> {
 
 #[test]
 fn a_new_stream_has_its_header(rt: HostRuntime) -> Result<(), Fail> {
-    let header = begun(rt.alloc())?;
+    let key = AesGcmHkdf::new(rt.alloc(), MAIN, SHA, 16, 50, 0)?;
+    let header = begun(rt.alloc(), &key)?;
     expect_bytes(&rt, &header, BY_GCM.get(..24).unwrap_or(&[]), "the header");
-    Ok(())
-}
-
-#[test]
-fn streams_of_python_open(rt: HostRuntime) -> Result<(), Fail> {
-    let alloc = rt.alloc();
-    let sha = HashType::Sha256;
-    let key = counter_mode(alloc, sha);
-    expect_opened(&rt, alloc, key, IN_COUNTER_MODE, &[], (60, None))?;
-    let key = gcm(alloc, sha, 50);
-    expect_opened(&rt, alloc, key, BY_GCM, &[], (60, None))?;
-    Ok(())
-}
-
-#[test]
-fn pieces_of_ten_go_both_ways(rt: HostRuntime) -> Result<(), Fail> {
-    let alloc = rt.alloc();
-    let stream = sealed(alloc, &gcm(alloc, HashType::Sha256, 4096)?, 10)?;
-    expect(&rt, stream.len(), 100, "the stream's length");
-    let key = gcm(alloc, HashType::Sha256, 4096);
-    expect_opened(&rt, alloc, key, &stream, &[], (60, None))?;
-    Ok(())
-}
-
-#[test]
-fn too_few_draws_stay(rt: HostRuntime) -> Result<(), Fail> {
-    let alloc = rt.alloc();
-    let few = (22, Some(Kind::RandomFault), 0);
-    expect_begun(&rt, alloc, gcm(alloc, HashType::Sha256, 50), 22, &[], few)?;
-    let enough = (0, None, 24);
-    expect_begun(
-        &rt,
-        alloc,
-        gcm(alloc, HashType::Sha256, 50),
-        23,
-        &[],
-        enough,
-    )?;
-    Ok(())
-}
-
-#[test]
-fn hashes_are_refused_behind_the_draws(rt: HostRuntime) -> Result<(), Fail> {
-    let alloc = rt.alloc();
-    let key = gcm(alloc, HashType::Sha224, 50);
-    let wanted = (0, Some(Kind::UnsupportedHash), 0);
-    expect_begun(&rt, alloc, key, 23, &[], wanted)?;
-    let key = counter_mode(alloc, HashType::UnknownHash);
-    let wanted = (0, Some(Kind::UnknownHash), 0);
-    expect_begun(&rt, alloc, key, 23, &[], wanted)?;
-    Ok(())
-}
-
-#[test]
-fn hashes_are_refused_behind_the_header(rt: HostRuntime) -> Result<(), Fail> {
-    let alloc = rt.alloc();
-    for (hkdf_alg, bytes, wanted) in [
-        (HashType::Sha224, 132, Kind::UnsupportedHash),
-        (HashType::Sha224, 1, Kind::NoMatchingKey),
-        (HashType::UnknownHash, 132, Kind::UnknownHash),
-    ] {
-        let stream = BY_GCM.get(..bytes).unwrap_or(&[]);
-        let key = gcm(alloc, hkdf_alg, 50);
-        expect_opened(&rt, alloc, key, stream, &[], (0, Some(wanted)))?;
-    }
-    Ok(())
-}
-
-#[test]
-fn a_sink_that_fails_has_a_part_of_the_header(rt: HostRuntime) -> Result<(), Fail> {
-    let key = counter_mode(rt.alloc(), HashType::Sha256);
-    let wanted = (0, Some(Kind::WriteFault), 10);
-    expect_begun(&rt, rt.alloc(), key, 23, &[2], wanted)?;
-    Ok(())
-}
-
-#[test]
-fn a_source_may_fail_in_the_header_and_behind(rt: HostRuntime) -> Result<(), Fail> {
-    let alloc = rt.alloc();
-    for (call, bytes) in [(3, 0), (8, 16)] {
-        let key = counter_mode(alloc, HashType::Sha256);
-        let wanted = (bytes, Some(Kind::ReadFault));
-        expect_opened(&rt, alloc, key, IN_COUNTER_MODE, &[call], wanted)?;
-    }
-    Ok(())
-}
-
-#[test]
-fn headers_are_whole_and_have_their_mark(rt: HostRuntime) -> Result<(), Fail> {
-    let alloc = rt.alloc();
-    for (first, length, wanted) in [
-        (24u8, 0usize, Kind::NoMatchingKey),
-        (24, 23, Kind::NoMatchingKey),
-        (25, 24, Kind::NoMatchingKey),
-        (40, 50, Kind::NoMatchingKey),
-        (24, 24, Kind::Truncated(0)),
-    ] {
-        let stream = [first; 50];
-        let key = counter_mode(alloc, HashType::Sha256);
-        let stream = stream.get(..length).unwrap_or(&[]);
-        expect_opened(&rt, alloc, key, stream, &[], (0, Some(wanted)))?;
-    }
     Ok(())
 }

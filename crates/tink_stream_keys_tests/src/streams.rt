@@ -1,10 +1,13 @@
 //! Keys of streams of either kind, memory to write to and read from, and streams that Python made.
 
+use crate::comparing::{expect, expect_bytes};
 use std::alloc::Global;
+use std::process::Abort;
 use tink_io::{Draws, Kind, MemSink, MemSource, TinkError};
+use tink_primitives::{Refused, StreamingAead};
 use tink_proto::HashType;
 use tink_segments::StreamSegment;
-use tink_stream_keys::{AesCtrHmac, AesGcmHkdf};
+use tink_stream_keys::{AesCtrHmac, AesGcmHkdf, StreamKind};
 use tink_streams::{Reader, Writer};
 
 /// The text.
@@ -25,14 +28,20 @@ pub const IN_COUNTER_MODE: &[u8; 114] =
 pub const BY_GCM: &[u8; 132] =
     b"\x18\x40\x41\x42\x43\x44\x45\x46\x47\x48\x49\x4a\x4b\x4c\x4d\x4e\x4f\x50\x51\x52\x53\x54\x55\x56\xa1\x5b\x4e\xa4\xd6\x54\xd6\xc5\xe9\xa5\x28\xcf\xbb\xbe\xde\x87\x10\xa3\xa3\x2d\xd9\xf0\x17\x84\x99\xf7\x80\x73\xcf\xaf\x9e\xdc\xe4\xf5\x04\xa3\x7b\x7f\x95\xb1\x80\x39\x03\x8b\x23\x25\xbb\xde\xe5\x06\x06\xb0\x11\x5f\x58\x06\xb7\x55\xb7\x7b\xc7\x16\x91\x4c\x88\xfb\x28\x65\x92\x99\x22\x50\xbd\x8e\x94\x4c\xc2\x1d\x03\x62\xd9\xd2\x40\x33\x35\x07\xb1\x7e\x33\x4f\x7b\xca\x4e\x3b\xd7\x66\xf3\x14\xa0\x76\xb2\xaf\x3b\x55\xd3\x2a\x30\xa1";
 
-/// A key in counter mode, with segments of 50 bytes.
-pub fn counter_mode(alloc: Global, hkdf_alg: HashType) -> Result<AesCtrHmac, TinkError> {
-    AesCtrHmac::new(alloc, MAIN, hkdf_alg, 16, HashType::Sha256, 10, 50, 0)
-}
-
-/// A key by AES-GCM.
-pub fn gcm(alloc: Global, hkdf_alg: HashType, segment: u32) -> Result<AesGcmHkdf, TinkError> {
-    AesGcmHkdf::new(alloc, MAIN, hkdf_alg, 16, segment, 0)
+/// A key in counter mode with tags of ten bytes, or one by AES-GCM.
+pub fn key_of(
+    alloc: Global,
+    in_counter_mode: bool,
+    hkdf_alg: HashType,
+    segment: u32,
+) -> Result<StreamKind, TinkError> {
+    if in_counter_mode {
+        let key = AesCtrHmac::new(alloc, MAIN, hkdf_alg, 16, HashType::Sha256, 10, segment, 0)?;
+        Ok(StreamKind::CtrHmac(key))
+    } else {
+        let key = AesGcmHkdf::new(alloc, MAIN, hkdf_alg, 16, segment, 0)?;
+        Ok(StreamKind::GcmHkdf(key))
+    }
 }
 
 /// A sink with room for 200 bytes, of which a call takes ten, and those of these numbers fail.
@@ -42,8 +51,8 @@ pub fn sink(alloc: Global, fails: &[u32]) -> Result<MemSink, TinkError> {
     Ok(sink)
 }
 
-/// A source of these bytes, of which a call gives ten, and those of these numbers fail.
-pub fn source(alloc: Global, bytes: &[u8], fails: &[u32]) -> Result<MemSource, TinkError> {
+// A source of these bytes, of which a call gives ten, and those of these numbers fail.
+fn source(alloc: Global, bytes: &[u8], fails: &[u32]) -> Result<MemSource, TinkError> {
     Ok(MemSource::new(bytes.to_vec(alloc)?, 10, fails.to_vec(alloc)?))
 }
 
@@ -52,8 +61,75 @@ pub fn draws(alloc: Global, bytes: &[u8]) -> Result<Draws, TinkError> {
     Ok(Draws::new(bytes.to_vec(alloc)?))
 }
 
-/// Writes a text in pieces of so many bytes with a flush behind each, and closes.
-pub fn write_pieces(
+/// A writer of a new stream with "data", by the trait's call.
+pub fn new_writer(
+    alloc: Global,
+    key: &StreamKind,
+    draws: &mut Draws,
+    w: MemSink,
+) -> Result<Writer<MemSink, StreamSegment>, Refused<MemSink>> {
+    match key {
+        StreamKind::CtrHmac(key) => {
+            <AesCtrHmac as StreamingAead<MemSource, MemSink>>::new_encrypting_writer(
+                key, alloc, draws, w, b"data",
+            )
+        }
+        StreamKind::GcmHkdf(key) => {
+            <AesGcmHkdf as StreamingAead<MemSource, MemSink>>::new_encrypting_writer(
+                key, alloc, draws, w, b"data",
+            )
+        }
+    }
+}
+
+// A reader of a stream with "data", by the trait's call.
+fn new_reader(
+    alloc: Global,
+    key: &StreamKind,
+    r: MemSource,
+) -> Result<Reader<MemSource, StreamSegment>, Refused<MemSource>> {
+    match key {
+        StreamKind::CtrHmac(key) => {
+            <AesCtrHmac as StreamingAead<MemSource, MemSink>>::new_decrypting_reader(
+                key, alloc, r, b"data",
+            )
+        }
+        StreamKind::GcmHkdf(key) => {
+            <AesGcmHkdf as StreamingAead<MemSource, MemSink>>::new_decrypting_reader(
+                key, alloc, r, b"data",
+            )
+        }
+    }
+}
+
+// A writer of a stream of these draws.
+fn writer_of(
+    alloc: Global,
+    key: &StreamKind,
+    drawn: &[u8],
+) -> Result<Writer<MemSink, StreamSegment>, TinkError> {
+    let mut draws = draws(alloc, drawn)?;
+    let sink = sink(alloc, &[])?;
+    match new_writer(alloc, key, &mut draws, sink) {
+        Ok(writer) => Ok(writer),
+        Err(refused) => Err(refused.error),
+    }
+}
+
+/// The stream of a text of these draws, written in pieces of so many bytes with a flush behind each.
+pub fn sealed(
+    alloc: Global,
+    key: &StreamKind,
+    drawn: &[u8],
+    text: &[u8],
+    piece: usize,
+) -> Result<Vec<u8>, TinkError> {
+    let mut writer = writer_of(alloc, key, drawn)?;
+    write_pieces(&mut writer, text, piece)?;
+    Ok(writer.into_inner().into_bytes())
+}
+
+fn write_pieces(
     writer: &mut Writer<MemSink, StreamSegment>,
     text: &[u8],
     piece: usize,
@@ -65,8 +141,20 @@ pub fn write_pieces(
     writer.close()
 }
 
-/// Reads in pieces of ten bytes up to the end, and answers by what a read is refused.
-pub fn read_pieces(
+// Reads in pieces of ten bytes up to the end, and answers by what a read or the reader is refused.
+fn open_into(
+    alloc: Global,
+    key: &StreamKind,
+    stream: MemSource,
+    text: &mut Vec<u8>,
+) -> Result<Option<Kind>, TinkError> {
+    match new_reader(alloc, key, stream) {
+        Ok(mut reader) => read_pieces(&mut reader, text),
+        Err(refused) => Ok(Some(refused.error.kind)),
+    }
+}
+
+fn read_pieces(
     reader: &mut Reader<MemSource, StreamSegment>,
     text: &mut Vec<u8>,
 ) -> Result<Option<Kind>, TinkError> {
@@ -79,4 +167,21 @@ pub fn read_pieces(
         }
     }
     Ok(Some(Kind::TooManySegments))
+}
+
+/// A stream, from a source whose calls of these numbers fail, that opens to some text, and by what it is refused.
+pub fn expect_opened(
+    rt: &impl Abort,
+    alloc: Global,
+    key: &StreamKind,
+    stream: &[u8],
+    fails: &[u32],
+    wanted: (&[u8], Option<Kind>),
+) -> Result<(), TinkError> {
+    let stream = source(alloc, stream, fails)?;
+    let mut text = Vec::new(alloc);
+    let refused = open_into(alloc, key, stream, &mut text)?;
+    expect(rt, refused, wanted.1, "the refusal");
+    expect_bytes(rt, &text, wanted.0, "the text");
+    Ok(())
 }

@@ -66,7 +66,7 @@ pub fresh_refused : (seg : ℕ → Bool → List ℕ → List ℕ) (a b overhead
     → ReadRefused seg a b overhead (record { progress = Running; number = 0; pending = []; rest = m.rest; faults = m.faults }) n room kind
 fresh_refused seg a b overhead m n room kind = fresh_moment (λ x. ReadRefused seg a b overhead x n room kind) m
 
--- a first read has given the first part of the text behind the header
+-- a first read has given a prefix of the text behind the header
 pub first_gave : (keys : List OpeningKey) (all : Option (List ℕ)) (seg : ℕ → Bool → List ℕ → List ℕ) (a b overhead : ℕ) (new : Moment) (before after : List ℕ) (n : ℕ) (first : GivesFirst keys all seg a b overhead new before after n)
     → Gave seg a b first.rest (take n after) new
 first_gave keys all seg a b overhead new before after n first =

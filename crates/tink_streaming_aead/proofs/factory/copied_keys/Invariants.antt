@@ -1,4 +1,4 @@
--- The keys of the front were copied.
+-- The keys of the first entries were copied.
 use Rattle.std.proofs.Common.{◌≡◌, map, take}
 use Rattle.tink_streaming_aead.proofs.factory.copied_keys.Given as goal
 

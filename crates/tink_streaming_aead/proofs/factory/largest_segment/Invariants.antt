@@ -1,4 +1,4 @@
--- No segment of the front is larger, one is as large, and each key of it is usable.
+-- No segment of the first keys is larger, one is as large, and each key of it is usable.
 use Rattle.std.proofs.Common.{◌≤◌, map, take, All}
 use Rattle.tink_streaming_aead.proofs.KeyMost.{IsMost}
 use Rattle.tink_streaming_aead.proofs.factory.largest_segment.Given as goal
