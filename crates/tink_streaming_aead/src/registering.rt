@@ -1,6 +1,6 @@
 //! The managers and templates of keys of streams, registered.
 
-ghost use Rattle.std.specs.Prelude.{◌≡◌, ◌∷◌, [], IfErr, IfOk};
+ghost use Rattle.std.specs.Prelude.{◌≡◌, ◌∷◌, [], IfErr, IfOk, OnOk};
 ghost use Rattle.tink_io.specs.declared.error.Kind.TheVariants.{OutOfMemory};
 ghost use Rattle.tink_registry.specs.Registering.{AreMade, IsMade, Registers};
 ghost use Rattle.tink_streaming_aead.specs.Templates.{streaming_templates};
@@ -57,21 +57,31 @@ fn templates(alloc: Global) -> Result<Vec<(Text, KeyTemplate)>, TinkError>
     ensures cause { IfErr result (λ e. e.kind ≡ OutOfMemory) }
 {
     let mut named = Vec::new(alloc);
-    let template = aes128_ctr_hmac_sha256_segment_4kb_key_template(alloc)?;
-    add_template(alloc, &mut named, "AES128_CTR_HMAC_SHA256_4KB", template)?;
-    let template = aes128_ctr_hmac_sha256_segment_1mb_key_template(alloc)?;
-    add_template(alloc, &mut named, "AES128_CTR_HMAC_SHA256_1MB", template)?;
-    let template = aes256_ctr_hmac_sha256_segment_4kb_key_template(alloc)?;
-    add_template(alloc, &mut named, "AES256_CTR_HMAC_SHA256_4KB", template)?;
-    let template = aes256_ctr_hmac_sha256_segment_1mb_key_template(alloc)?;
-    add_template(alloc, &mut named, "AES256_CTR_HMAC_SHA256_1MB", template)?;
-    let template = aes128_gcm_hkdf_4kb_key_template(alloc)?;
-    add_template(alloc, &mut named, "AES128_GCM_HKDF_4KB", template)?;
-    let template = aes128_gcm_hkdf_1mb_key_template(alloc)?;
-    add_template(alloc, &mut named, "AES128_GCM_HKDF_1MB", template)?;
-    let template = aes256_gcm_hkdf_4kb_key_template(alloc)?;
-    add_template(alloc, &mut named, "AES256_GCM_HKDF_4KB", template)?;
-    let template = aes256_gcm_hkdf_1mb_key_template(alloc)?;
-    add_template(alloc, &mut named, "AES256_GCM_HKDF_1MB", template)?;
+    add_templates(alloc, &mut named)?;
     Ok(named)
+}
+
+// Adds the templates to none.
+fn add_templates(alloc: Global, named: &mut Vec<(Text, KeyTemplate)>) -> Result<(), TinkError>
+    requires none { named.old.items ≡ [] }
+    ensures value { OnOk result (named.new.items ≡ streaming_templates) }
+    ensures cause { IfErr result (λ e. e.kind ≡ OutOfMemory) }
+{
+    let template = aes128_ctr_hmac_sha256_segment_4kb_key_template(alloc)?;
+    add_template(alloc, named, "AES128_CTR_HMAC_SHA256_4KB", template)?;
+    let template = aes128_ctr_hmac_sha256_segment_1mb_key_template(alloc)?;
+    add_template(alloc, named, "AES128_CTR_HMAC_SHA256_1MB", template)?;
+    let template = aes256_ctr_hmac_sha256_segment_4kb_key_template(alloc)?;
+    add_template(alloc, named, "AES256_CTR_HMAC_SHA256_4KB", template)?;
+    let template = aes256_ctr_hmac_sha256_segment_1mb_key_template(alloc)?;
+    add_template(alloc, named, "AES256_CTR_HMAC_SHA256_1MB", template)?;
+    let template = aes128_gcm_hkdf_4kb_key_template(alloc)?;
+    add_template(alloc, named, "AES128_GCM_HKDF_4KB", template)?;
+    let template = aes128_gcm_hkdf_1mb_key_template(alloc)?;
+    add_template(alloc, named, "AES128_GCM_HKDF_1MB", template)?;
+    let template = aes256_gcm_hkdf_4kb_key_template(alloc)?;
+    add_template(alloc, named, "AES256_GCM_HKDF_4KB", template)?;
+    let template = aes256_gcm_hkdf_1mb_key_template(alloc)?;
+    add_template(alloc, named, "AES256_GCM_HKDF_1MB", template)?;
+    Ok(())
 }
