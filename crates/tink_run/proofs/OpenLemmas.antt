@@ -5,7 +5,7 @@ use Rattle.std.specs.Prelude.{Result, Ok, Err, IsSome, slice_index_or}
 use Rattle.std.proofs.KnownBytes.{Keeps-refl}
 use Rattle.std.specs.Io.KnownBytes.{Appends, Keeps, IsAtEnd}
 use Rattle.tink_io.specs.declared.error.Kind.{Kind}
-use Rattle.tink_io.specs.declared.error.Kind.TheVariants.{OutOfMemory, ReadFault, WriteFault, BadKeyset, InvalidKeyset, UnsupportedKeyType, InvalidKey, NoPrimary, TooManySegments, NoMatchingKey, BadSegment, Truncated}
+use Rattle.tink_io.specs.declared.error.Kind.TheVariants.{OutOfMemory, ReadFault, WriteFault, BadKeyset, InvalidKeyset, UnsupportedKeyType, InvalidKey, NoPrimary, WrongPrimitive, TooManySegments, NoMatchingKey, BadSegment, Truncated}
 use Rattle.tink_io.specs.declared.error.TinkError.{TinkError}
 use Rattle.tink_io.specs.Written.{AppendsFront}
 use Rattle.tink_io.proofs.WrittenLemmas.{front_of_more}
@@ -17,8 +17,9 @@ use Rattle.stream_model.specs.Opening.{OpeningKey, opening_key, IsChosen, IsAgre
 use Rattle.stream_model.proofs.AgreeFacts.{joined-append}
 use Rattle.stream_model.proofs.KeyFacts.{CanOpen as Lawful, IsLawful, opening_key_lawful}
 use Rattle.stream_model.proofs.OpeningFacts.{IsChosen-unique, goes_on, Agree-unique, all_agree}
-use Rattle.loading_model.specs.Loading.{Loaded, LoadedKey, AreUsable, load}
-use Rattle.loading_model.proofs.LoadingFacts.{loaded_usable}
+use Rattle.tink_run.specs.Loading.{Loaded, LoadedKey, AreUsable}
+use Rattle.tink_run.specs.AllKeys.{load}
+use Rattle.tink_run.proofs.RowFacts.{loaded_usable}
 use Rattle.tink_run.specs.declared.report.Report.{Report}
 use Rattle.tink_run.specs.Outside.{Outside, IsUntouched, HasNoFault}
 use Rattle.tink_run.specs.OpenAnswers.{Opening, StreamRefused, OpenMeans, OpenRefused, is_raw, opening_keys, IsOfChosen, AgreesUntil, Lead, AreTextsBy}
@@ -201,6 +202,7 @@ open_agreeing keyset aad draws left_draws S G old new (Err e) t m = go e.kind re
     go UnsupportedKeyType same r = untouched_agreeing keyset aad S old new r.untouched
     go InvalidKey same r = untouched_agreeing keyset aad S old new r.untouched
     go NoPrimary same r = untouched_agreeing keyset aad S old new r.untouched
+    go WrongPrimitive same r = untouched_agreeing keyset aad S old new r.untouched
     go ReadFault same r = stream_agreeing keyset aad S G r.loaded old new e.kind r.loads t r.means
     go WriteFault same r = stream_agreeing keyset aad S G r.loaded old new e.kind r.loads t r.means
     go TooManySegments same r = stream_agreeing keyset aad S G r.loaded old new e.kind r.loads t r.means
@@ -288,6 +290,7 @@ open_complete keyset aad draws left_draws S G old new (Err e) m t n c = go e.kin
     go UnsupportedKeyType same r = absurd (loads_not UnsupportedKeyType r.cause)
     go InvalidKey same r = absurd (loads_not InvalidKey r.cause)
     go NoPrimary same r = absurd (loads_not NoPrimary r.cause)
+    go WrongPrimitive same r = absurd (loads_not WrongPrimitive r.cause)
     go ReadFault same r = absurd (stream_complete keyset aad S G r.loaded old new e.kind r.loads t n c r.means)
     go WriteFault same r = absurd (stream_complete keyset aad S G r.loaded old new e.kind r.loads t n c r.means)
     go TooManySegments same r = absurd (stream_complete keyset aad S G r.loaded old new e.kind r.loads t n c r.means)

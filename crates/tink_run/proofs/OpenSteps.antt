@@ -14,7 +14,8 @@ use Rattle.stream_model.specs.Agree.{AreTexts, Agree, Leads, joined}
 use Rattle.stream_model.specs.Opening.{OpeningKey, FirstAgrees, IsChosen, chunks_of}
 use Rattle.tink_streams.specs.Choosing.{Found, Started, StartRefused}
 use Rattle.tink_streams.proofs.ChosenFacts.{chosen_begins, chunks_are, stream_opened, stream_agreed}
-use Rattle.loading_model.specs.Loading.{Loaded, load}
+use Rattle.tink_run.specs.Loading.{Loaded}
+use Rattle.tink_run.specs.AllKeys.{load}
 use Rattle.tink_run.specs.declared.report.Report.{Report}
 use Rattle.tink_run.specs.Outside.{Outside}
 use Rattle.tink_run.specs.Run.{IsEarly, LeavesEnds}

@@ -9,8 +9,9 @@ use Rattle.tink_io.specs.declared.error.Kind.TheVariants.{OutOfMemory, RandomFau
 use Rattle.tink_io.specs.declared.error.TinkError.{TinkError}
 use Rattle.stream_model.specs.Key.{IsUsable}
 use Rattle.stream_model.specs.Sealing.{drawn}
-use Rattle.loading_model.specs.Loading.{Loaded, load}
-use Rattle.loading_model.proofs.LoadingFacts.{loaded_usable}
+use Rattle.tink_run.specs.Loading.{Loaded}
+use Rattle.tink_run.specs.AllKeys.{load}
+use Rattle.tink_run.proofs.RowFacts.{loaded_usable}
 use Rattle.tink_run.specs.declared.program.Outcome.{Outcome}
 use Rattle.tink_run.specs.declared.program.Outcome.TheVariants.{Done, Usage, Refused}
 use Rattle.tink_run.specs.declared.report.Command.{Command}

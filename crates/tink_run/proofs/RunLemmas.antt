@@ -4,13 +4,14 @@ use Rattle.std.specs.declared.option.Option.{Option}
 use Rattle.std.specs.Prelude.{Result, Ok, Err, IfSome}
 use Rattle.std.specs.Io.KnownBytes.{Appends, Consumes, IsAtEnd}
 use Rattle.tink_io.specs.declared.error.Kind.{Kind}
-use Rattle.tink_io.specs.declared.error.Kind.TheVariants.{OutOfMemory, ReadFault, WriteFault, RandomFault, BadKeyset, InvalidKeyset, UnsupportedKeyType, InvalidKey, NoPrimary, UnsupportedHash, TooManySegments}
+use Rattle.tink_io.specs.declared.error.Kind.TheVariants.{OutOfMemory, ReadFault, WriteFault, RandomFault, BadKeyset, InvalidKeyset, UnsupportedKeyType, InvalidKey, NoPrimary, WrongPrimitive, UnsupportedHash, TooManySegments}
 use Rattle.tink_io.specs.declared.error.TinkError.{TinkError}
 use Rattle.stream_model.specs.Key.{StreamKey, IsUsable, first_room, room, keys_of}
-use Rattle.loading_model.proofs.LoadingFacts.{loaded_usable}
+use Rattle.tink_run.proofs.RowFacts.{loaded_usable}
 use Rattle.stream_model.specs.Sealing.{stream, chunk_count, drawn, salt_of, prefix_of}
 use Rattle.stream_model.proofs.SealingFacts.{chunks_more}
-use Rattle.loading_model.specs.Loading.{Loaded, load}
+use Rattle.tink_run.specs.Loading.{Loaded}
+use Rattle.tink_run.specs.AllKeys.{load}
 use Rattle.tink_run.specs.declared.report.Report.{Report}
 use Rattle.tink_run.specs.Outside.{Outside, HasNoFault}
 use Rattle.tink_run.specs.SealAnswers.{Sealing, StreamRefused, SealMeans, SealRefused}
@@ -101,6 +102,7 @@ seal_complete keyset aad draws left_draws T G old new (Err e) m t n c = go e.kin
     go UnsupportedKeyType same r = absurd (loads_not UnsupportedKeyType r.cause)
     go InvalidKey same r = absurd (loads_not InvalidKey r.cause)
     go NoPrimary same r = absurd (loads_not NoPrimary r.cause)
+    go WrongPrimitive same r = absurd (loads_not WrongPrimitive r.cause)
     go RandomFault same r =
         let p = r.loads in
         let q = c.loads in

@@ -3,8 +3,9 @@ use Rattle.std.proofs.Common.{◌≡◌, ◌⊎◌, inl, inr, ℕ, List, [], ref
 use Rattle.std.specs.Prelude.{Ok, Err}
 use Rattle.tink_io.specs.Faults.{Rose}
 use Rattle.tink_io.specs.declared.error.Kind.{Kind}
-use Rattle.tink_io.specs.declared.error.Kind.TheVariants.{OutOfMemory, ReadFault, WriteFault, RandomFault, BadKeyset, InvalidKeyset, UnsupportedKeyType, InvalidKey, NoPrimary, UnsupportedHash, TooManySegments, NoMatchingKey, BadSegment, Truncated}
-use Rattle.loading_model.specs.Loading.{Loaded, load}
+use Rattle.tink_io.specs.declared.error.Kind.TheVariants.{OutOfMemory, ReadFault, WriteFault, RandomFault, BadKeyset, InvalidKeyset, UnsupportedKeyType, InvalidKey, NoPrimary, WrongPrimitive, UnsupportedHash, TooManySegments, NoMatchingKey, BadSegment, Truncated}
+use Rattle.tink_run.specs.Loading.{Loaded}
+use Rattle.tink_run.specs.AllKeys.{load}
 use Rattle.tink_run.specs.declared.program.Outcome.{Outcome}
 use Rattle.tink_run.specs.declared.program.Outcome.TheVariants.{Done, Usage, Refused}
 use Rattle.tink_run.specs.declared.report.Command.TheVariants.{Seal, Open}
@@ -26,6 +27,7 @@ seal_among words keyset aad seed old new InvalidKeyset m spelled = refl
 seal_among words keyset aad seed old new UnsupportedKeyType m spelled = refl
 seal_among words keyset aad seed old new InvalidKey m spelled = refl
 seal_among words keyset aad seed old new NoPrimary m spelled = refl
+seal_among words keyset aad seed old new WrongPrimitive m spelled = refl
 seal_among words keyset aad seed old new UnsupportedHash m spelled = refl
 seal_among words keyset aad seed old new TooManySegments m spelled = refl
 seal_among words keyset aad seed old new RandomFault m spelled = absurd m
@@ -42,6 +44,7 @@ open_among words keyset aad old new InvalidKeyset m spelled = refl
 open_among words keyset aad old new UnsupportedKeyType m spelled = refl
 open_among words keyset aad old new InvalidKey m spelled = refl
 open_among words keyset aad old new NoPrimary m spelled = refl
+open_among words keyset aad old new WrongPrimitive m spelled = refl
 open_among words keyset aad old new TooManySegments m spelled = refl
 open_among words keyset aad old new NoMatchingKey m spelled = refl
 open_among words keyset aad old new (BadSegment number) m spelled = refl
@@ -88,6 +91,7 @@ early_kind InvalidKeyset is = tt
 early_kind UnsupportedKeyType is = tt
 early_kind InvalidKey is = tt
 early_kind NoPrimary is = tt
+early_kind WrongPrimitive is = tt
 early_kind UnsupportedHash is = tt
 early_kind RandomFault is = tt
 early_kind _ is = absurd (cc is)
@@ -114,6 +118,7 @@ seal_unloaded keyset aad draws left_draws old new kind InvalidKeyset is m = inl 
 seal_unloaded keyset aad draws left_draws old new kind UnsupportedKeyType is m = inl (one_refusal keyset kind UnsupportedKeyType is m.cause)
 seal_unloaded keyset aad draws left_draws old new kind InvalidKey is m = inl (one_refusal keyset kind InvalidKey is m.cause)
 seal_unloaded keyset aad draws left_draws old new kind NoPrimary is m = inl (one_refusal keyset kind NoPrimary is m.cause)
+seal_unloaded keyset aad draws left_draws old new kind WrongPrimitive is m = inl (one_refusal keyset kind WrongPrimitive is m.cause)
 seal_unloaded keyset aad draws left_draws old new kind RandomFault is m = absurd (not_loaded keyset kind m.loaded is m.loads)
 seal_unloaded keyset aad draws left_draws old new kind UnsupportedHash is m = absurd (not_loaded keyset kind m.loaded is m.loads)
 seal_unloaded keyset aad draws left_draws old new kind ReadFault is m = absurd (not_loaded keyset kind m.loaded is m.loads)
@@ -129,6 +134,7 @@ open_unloaded keyset aad draws left_draws old new kind InvalidKeyset is m = inl 
 open_unloaded keyset aad draws left_draws old new kind UnsupportedKeyType is m = inl (one_refusal keyset kind UnsupportedKeyType is m.0.cause)
 open_unloaded keyset aad draws left_draws old new kind InvalidKey is m = inl (one_refusal keyset kind InvalidKey is m.0.cause)
 open_unloaded keyset aad draws left_draws old new kind NoPrimary is m = inl (one_refusal keyset kind NoPrimary is m.0.cause)
+open_unloaded keyset aad draws left_draws old new kind WrongPrimitive is m = inl (one_refusal keyset kind WrongPrimitive is m.0.cause)
 open_unloaded keyset aad draws left_draws old new kind ReadFault is m = absurd (not_loaded keyset kind m.0.loaded is m.0.loads)
 open_unloaded keyset aad draws left_draws old new kind WriteFault is m = absurd (not_loaded keyset kind m.0.loaded is m.0.loads)
 open_unloaded keyset aad draws left_draws old new kind TooManySegments is m = absurd (not_loaded keyset kind m.0.loaded is m.0.loads)

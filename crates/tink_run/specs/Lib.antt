@@ -8,4 +8,6 @@ pub mod Words
 pub mod Program
 pub mod OpenSteps
 pub mod Valid
-pub mod Primary
+pub mod Loading
+pub mod AllKeys
+pub mod HeldKeys

@@ -6,11 +6,12 @@ use Rattle.std.specs.Io.KnownBytes.{Appends, Keeps, IsAtEnd}
 use Rattle.tink_io.specs.Faults.{Rose}
 use Rattle.tink_io.specs.Written.{AppendsFront}
 use Rattle.tink_io.specs.declared.error.Kind.{Kind}
-use Rattle.tink_io.specs.declared.error.Kind.TheVariants.{OutOfMemory, ReadFault, WriteFault, BadKeyset, InvalidKeyset, UnsupportedKeyType, InvalidKey, NoPrimary, TooManySegments, NoMatchingKey, BadSegment, Truncated}
+use Rattle.tink_io.specs.declared.error.Kind.TheVariants.{OutOfMemory, ReadFault, WriteFault, BadKeyset, InvalidKeyset, UnsupportedKeyType, InvalidKey, NoPrimary, WrongPrimitive, TooManySegments, NoMatchingKey, BadSegment, Truncated}
 use Rattle.tink_io.specs.declared.error.TinkError.{TinkError}
 use Rattle.stream_model.specs.Agree.{AreTexts, joined}
 use Rattle.stream_model.specs.Opening.{OpeningKey, opening_key, chunks_of, IsAgreed, IsChosen, IsStream}
-use Rattle.loading_model.specs.Loading.{Loaded, LoadedKey, load}
+use Rattle.tink_run.specs.Loading.{Loaded, LoadedKey}
+use Rattle.tink_run.specs.AllKeys.{load}
 use Rattle.tink_run.specs.declared.report.Report.{Report}
 use Rattle.tink_run.specs.Outside.{Outside}
 use Rattle.tink_run.specs.SealAnswers.{IsRefused, WantsMemory}
@@ -120,6 +121,7 @@ OpenRefused keyset aad draws left_draws old new e InvalidKeyset = IsRefused keys
 OpenRefused keyset aad draws left_draws old new e UnsupportedKeyType = IsRefused keyset UnsupportedKeyType draws left_draws old new
 OpenRefused keyset aad draws left_draws old new e InvalidKey = IsRefused keyset InvalidKey draws left_draws old new
 OpenRefused keyset aad draws left_draws old new e NoPrimary = IsRefused keyset NoPrimary draws left_draws old new
+OpenRefused keyset aad draws left_draws old new e WrongPrimitive = IsRefused keyset WrongPrimitive draws left_draws old new
 OpenRefused keyset aad draws left_draws old new e ReadFault = Opening keyset aad old new (Err e)
 OpenRefused keyset aad draws left_draws old new e WriteFault = Opening keyset aad old new (Err e)
 OpenRefused keyset aad draws left_draws old new e TooManySegments = Opening keyset aad old new (Err e)

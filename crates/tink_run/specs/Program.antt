@@ -1,7 +1,7 @@
 -- What the program says by its status and its line.
 use Rattle.std.specs.Prelude.{◌≡◌, ◌⊎◌, ℕ, List, [], ◌∷◌, ◌++◌, codes, ◌==◌, IsTrue, Option, Result, Ok, Err, IfOk}
 use Rattle.std.specs.List.{list_any}
-use Rattle.loading_model.specs.Loading.{load}
+use Rattle.tink_run.specs.AllKeys.{load}
 use Rattle.tink_io.specs.Faults.{Rose}
 use Rattle.tink_io.specs.Texts.{kind_line}
 use Rattle.tink_io.specs.Written.{WritesOrFaults}
@@ -104,7 +104,7 @@ pub record HasCause (old new : Outside) (status : ℕ) : Type 0 where
 
 -- the statuses of a command that was refused before it read or wrote
 abbrev pub early_statuses : List ℕ
-early_statuses = 2 ∷ 10 ∷ 13 ∷ 14 ∷ 15 ∷ 16 ∷ 17 ∷ 19 ∷ []
+early_statuses = 2 ∷ 10 ∷ 13 ∷ 14 ∷ 15 ∷ 16 ∷ 17 ∷ 18 ∷ 19 ∷ []
 
 -- such an outcome leaves both ends exactly as they were
 abbrev pub Leaves : {S K : Type 0} → Outcome → S → S → K → K → Type 0
@@ -124,15 +124,26 @@ abbrev pub IsAmong : List ℕ → ℕ → Type 0
 IsAmong statuses status = IsTrue (list_any (λ s. s == status) statuses)
 
 abbrev pub seal_statuses : List ℕ
-seal_statuses = 0 ∷ 10 ∷ 11 ∷ 12 ∷ 13 ∷ 14 ∷ 15 ∷ 16 ∷ 17 ∷ 19 ∷ 20 ∷ []
+seal_statuses = 0 ∷ 10 ∷ 11 ∷ 12 ∷ 13 ∷ 14 ∷ 15 ∷ 16 ∷ 17 ∷ 18 ∷ 19 ∷ 20 ∷ []
 
 abbrev pub open_statuses : List ℕ
-open_statuses = 0 ∷ 10 ∷ 11 ∷ 12 ∷ 13 ∷ 14 ∷ 15 ∷ 16 ∷ 17 ∷ 20 ∷ 21 ∷ 22 ∷ 23 ∷ []
+open_statuses = 0 ∷ 10 ∷ 11 ∷ 12 ∷ 13 ∷ 14 ∷ 15 ∷ 16 ∷ 17 ∷ 18 ∷ 20 ∷ 21 ∷ 22 ∷ 23 ∷ []
 
 -- each command has only its own statuses
 pub record HasOwnStatus (words : List (List ℕ)) (status : ℕ) : Type 0 where
   pub sealing : (keyset aad seed : List ℕ) → SealWords words keyset aad seed → IsAmong seal_statuses status
   pub opening : (keyset aad : List ℕ) → OpenWords words keyset aad → IsAmong open_statuses status
+
+-- what a status says of the words, and what stands after it
+pub record StatusMeans (words : List (List ℕ)) (old new : Outside) (status : ℕ) : Type 0 where
+  -- when 2 comes
+  pub usage : IsUsage words status
+  -- which statuses a command has
+  pub own : HasOwnStatus words status
+  -- what a keyset gets that does not load
+  pub unloaded : RefusesUnloaded words status
+  -- what stands after 10, and that a count rose for 11 or 12
+  pub cause : HasCause old new status
 
 -- told bytes: a seal with status 0 has written exactly the stream of the whole text under the seed's draws
 abbrev pub SealsWhole : List ℕ → List ℕ → List ℕ → Outside → Outside → ℕ → Type 0
@@ -181,9 +192,13 @@ pub record Ran (command : Command) (keyset aad draws : List ℕ) (old new : Outs
   pub written : OnlyAgreeing command keyset aad old new
   pub succeeds : IsComplete command keyset aad draws old new answer
 
--- the promises of a status
+-- told bytes: the promises of a status
 pub record Promised (words : List (List ℕ)) (old new : Outside) (status : ℕ) : Type 0 where
+  -- what 0 promises of a seal
   pub sealed : SealsAsSpelled words old new status
+  -- what 0 promises of an open
   pub opened : OpensAsSpelled words old new status
+  -- what an open has written by any status
   pub written : WritesAsSpelled words old new
+  -- when a command succeeds
   pub succeeds : Succeeds words old new status

@@ -3,13 +3,14 @@ use Rattle.std.specs.Prelude.{◌≡◌, ℕ, ◌≤◌, ◌^◌, List, [], ◌+
 use Rattle.std.specs.Io.KnownBytes.{Keeps}
 use Rattle.tink_io.specs.Written.{AppendsFront}
 use Rattle.tink_io.specs.declared.error.Kind.{Kind}
-use Rattle.tink_io.specs.declared.error.Kind.TheVariants.{OutOfMemory, RandomFault, BadKeyset, InvalidKeyset, UnsupportedKeyType, InvalidKey, NoPrimary, UnsupportedHash}
+use Rattle.tink_io.specs.declared.error.Kind.TheVariants.{OutOfMemory, RandomFault, BadKeyset, InvalidKeyset, UnsupportedKeyType, InvalidKey, NoPrimary, WrongPrimitive, UnsupportedHash}
 use Rattle.tink_io.specs.declared.error.TinkError.{TinkError}
 use Rattle.stream_model.specs.Agree.{joined}
 use Rattle.stream_model.specs.Key.{keys_of}
 use Rattle.stream_model.specs.Opening.{OpeningKey, IsAgreed, IsChosen, IsStream}
 use Rattle.stream_model.specs.Sealing.{stream, chunk_count, drawn, salt_of, prefix_of}
-use Rattle.loading_model.specs.Loading.{Loaded, load}
+use Rattle.tink_run.specs.Loading.{Loaded}
+use Rattle.tink_run.specs.AllKeys.{load}
 use Rattle.tink_run.specs.declared.report.Command.{Command}
 use Rattle.tink_run.specs.declared.report.Command.TheVariants.{Seal, Open}
 use Rattle.tink_run.specs.declared.report.Report.{Report}
@@ -30,6 +31,7 @@ IsEarly InvalidKeyset = Unit {0}
 IsEarly UnsupportedKeyType = Unit {0}
 IsEarly InvalidKey = Unit {0}
 IsEarly NoPrimary = Unit {0}
+IsEarly WrongPrimitive = Unit {0}
 IsEarly RandomFault = Unit {0}
 IsEarly UnsupportedHash = Unit {0}
 IsEarly _ = ⊥

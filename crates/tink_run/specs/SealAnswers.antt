@@ -4,11 +4,12 @@ use Rattle.std.specs.Io.KnownBytes.{Appends, Consumes, IsAtEnd}
 use Rattle.tink_io.specs.Faults.{Rose}
 use Rattle.tink_io.specs.Written.{AppendsFront}
 use Rattle.tink_io.specs.declared.error.Kind.{Kind}
-use Rattle.tink_io.specs.declared.error.Kind.TheVariants.{OutOfMemory, ReadFault, WriteFault, RandomFault, BadKeyset, InvalidKeyset, UnsupportedKeyType, InvalidKey, NoPrimary, UnsupportedHash, TooManySegments}
+use Rattle.tink_io.specs.declared.error.Kind.TheVariants.{OutOfMemory, ReadFault, WriteFault, RandomFault, BadKeyset, InvalidKeyset, UnsupportedKeyType, InvalidKey, NoPrimary, WrongPrimitive, UnsupportedHash, TooManySegments}
 use Rattle.tink_io.specs.declared.error.TinkError.{TinkError}
 use Rattle.stream_model.specs.Key.{StreamKey, keys_of}
 use Rattle.stream_model.specs.Sealing.{stream, part, longest_part, chunk_count, drawn, salt_of, prefix_of}
-use Rattle.loading_model.specs.Loading.{Loaded, load}
+use Rattle.tink_run.specs.Loading.{Loaded}
+use Rattle.tink_run.specs.AllKeys.{load}
 use Rattle.tink_run.specs.declared.report.Report.{Report}
 use Rattle.tink_run.specs.Outside.{Outside, IsUntouched}
 
@@ -99,6 +100,7 @@ SealRefused keyset aad draws left_draws old new e InvalidKeyset = IsRefused keys
 SealRefused keyset aad draws left_draws old new e UnsupportedKeyType = IsRefused keyset UnsupportedKeyType draws left_draws old new
 SealRefused keyset aad draws left_draws old new e InvalidKey = IsRefused keyset InvalidKey draws left_draws old new
 SealRefused keyset aad draws left_draws old new e NoPrimary = IsRefused keyset NoPrimary draws left_draws old new
+SealRefused keyset aad draws left_draws old new e WrongPrimitive = IsRefused keyset WrongPrimitive draws left_draws old new
 SealRefused keyset aad draws left_draws old new e RandomFault = HasFewDraws keyset draws left_draws old new
 SealRefused keyset aad draws left_draws old new e UnsupportedHash = DerivesNothing keyset aad draws left_draws old new
 SealRefused keyset aad draws left_draws old new e ReadFault = Sealing keyset aad draws left_draws old new (Err e)

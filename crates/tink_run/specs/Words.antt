@@ -1,5 +1,5 @@
 -- The words that spell a command.
-use Rattle.std.specs.Prelude.{◌≡◌, ◌⊎◌, ◌≤◌, ℕ, List, [], ◌∷◌, length, map, codes, String, string_bytes, Ok}
+use Rattle.std.specs.Prelude.{◌≡◌, ◌⊎◌, ◌≤◌, ℕ, List, [], ◌∷◌, length, map, codes, String, string_bytes, Ok, Vec}
 use Rattle.hex.specs.Hex.{decode_of}
 use Rattle.tink_run.specs.declared.words.Parsed.{Parsed}
 use Rattle.tink_run.specs.declared.words.Parsed.TheVariants.{Seal, Open}
@@ -44,6 +44,10 @@ pub record SpellNothing (words : List (List ℕ)) : Type 0 where
 -- the bytes of each word of a command line
 abbrev pub words_in : {A : Type 0} → List (String A) → List (List ℕ)
 words_in words = map (λ w. string_bytes w) words
+
+-- the words of a command line
+abbrev pub words_of : {A G : Type 0} → Vec (String A) G → List (List ℕ)
+words_of words = words_in words.items
 
 -- the words spell what was read
 abbrev pub Spell : List (List ℕ) → Parsed → Type 0

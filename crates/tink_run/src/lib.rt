@@ -2,6 +2,7 @@
 //! lines.
 #![tactic(auto)]
 
+mod keys;
 pub mod load;
 mod open;
 pub mod program;

@@ -1,148 +1,71 @@
-//! Loading: from the bytes of a keyset to its streaming keys.
+//! Loading: from the bytes of a keyset to the set of its keys of streams.
 
-ghost use Rattle.std.specs.Prelude.{◌≡◌, filter};
-ghost use Rattle.std.specs.Str.{bytes_eq};
-ghost use Rattle.tink_io.specs.Told.{Answers, or_refused};
-ghost use Rattle.keyset_model.specs.Keys as key_words;
-ghost use Rattle.loading_model.specs.Building as building;
-ghost use Rattle.loading_model.specs.Loading as loading;
-ghost use Rattle.tink_run.specs.Primary.{as_key};
+ghost use Rattle.std.specs.Prelude.{◌≡◌, true, is_some, IfOk};
+ghost use Rattle.tink_io.specs.Told.{Answers, made_of};
+ghost use Rattle.keyset_model.specs.Validity.{IsValid};
+ghost use Rattle.tink_run.specs.AllKeys.{load, rows, rows_by};
+ghost use Rattle.tink_run.specs.HeldKeys.{held, keys_held};
+ghost use Rattle.tink_run.specs.Loading.{load_keys};
 ghost use Rattle.tink_run.specs.Valid.{valid_or_refused};
 
 use std::alloc::Global;
-use std::marker::Model;
-use tink_core::CloneIn;
-use tink_io::{Kind, TinkError};
-use tink_keysets::keyset::{insecure, validate};
-use tink_proto::{Key, KeyData, KeyStatusType, Keyset, Message, ProtoError, Repeated};
-use tink_proto_keys::AesCtrHmacStreamingKey;
-use tink_streaming_aead::subtle::AesCtrHmac;
-use tink_streaming_aead::{AES_CTR_HMAC_TYPE_URL, StreamKind, ctr_hmac_streaming_key};
+use tink_factory::typed_primitives;
+use tink_io::TinkError;
+use tink_keysets::keyset::{Handle, insecure, validate};
+use tink_primitives::Kinds;
+use tink_proto::Keyset;
+use tink_registry::{KeyManager, Registry};
+use tink_sets::TypedPrimitiveSet;
+use tink_sets::sorts::StreamingAeads;
+use tink_streaming_aead::StreamKind;
 
-/// An enabled key, with its id and the number of its `OutputPrefixType`.
-#[derive(Drop)]
-pub struct LoadedKey {
-    pub id: u32,
-    pub prefix_type: i32,
-    pub key: StreamKind,
-}
-
-impl Model for LoadedKey {
-    ghost use Rattle.loading_model.specs.Loading as loading;
-    ghost use Rattle.tink_stream_keys.specs.StreamKinds.{key_of};
-
-    ghost Value = { loading.LoadedKey };
-
-    ghost view = { λ k. record { id = k.id; prefix_type = k.prefix_type; key = key_of k.key } };
-}
-
-/// The enabled keys of a keyset in order, and its primary key.
-#[derive(Drop)]
-pub struct LoadedKeys {
-    pub keys: Repeated<LoadedKey>,
-    pub primary: StreamKind,
-}
-
-impl Model for LoadedKeys {
-    ghost use Rattle.loading_model.specs.Loading as loading;
-    ghost use Rattle.tink_stream_keys.specs.StreamKinds.{key_of};
-
-    ghost Value = { loading.Loaded };
-
-    ghost view = { λ l. record { keys = l.keys; primary = key_of l.primary } };
-}
-
-/// Loads the keys of a keyset in the wire format.
+/// Loads the keys of streams of a keyset in the wire format, by the managers of all types of keys.
 ///
 /// # Errors
 /// The first that applies: `BadKeyset` where the bytes are no keyset, `InvalidKeyset` where it is not
-/// valid, `UnsupportedKeyType` or `InvalidKey` by the first enabled key that does not build, and
-/// `NoPrimary` where no enabled key has the primary id. `OutOfMemory` may come in place of each.
-pub fn load(alloc: Global, bytes: &[u8]) -> Result<LoadedKeys, TinkError>
-    ensures { Answers result (loading.load bytes.now) }
+/// valid, `UnsupportedKeyType` or `InvalidKey` by the first enabled key that does not build,
+/// `NoPrimary` where no enabled key has the primary id, and `WrongPrimitive` where an enabled key is
+/// none of streams. `OutOfMemory` may come in place of each.
+pub fn load(alloc: Global, bytes: &[u8]) -> Result<TypedPrimitiveSet<StreamKind>, TinkError>
+    ensures answer { Answers (keys_held result) (made_of held (load bytes.now)) }
+    ensures primary { IfOk result (λ set. is_some set.primary ≡ true) }
 {
     let keyset = insecure::decode(alloc, bytes)?;
-    let valid = validated(alloc, keyset)?;
-    let keys = build_enabled(alloc, valid.key.as_slice())?;
-    let primary = primary_key(alloc, valid.primary_key_id, keys.as_slice())?;
-    Ok(LoadedKeys { keys, primary })
+    let handle = checked(keyset)?;
+    build_all(alloc, &handle)
 }
 
-// The keyset of a handle that is validated.
-fn validated(alloc: Global, keyset: Keyset) -> Result<Keyset, TinkError>
+// A handle of a keyset that is valid.
+fn checked(keyset: Keyset) -> Result<Handle, TinkError>
     ensures { Answers result (valid_or_refused keyset) }
 {
     validate(&keyset)?;
     let handle = insecure::new_handle(keyset)?;
-    insecure::keyset_material(alloc, &handle)
+    Ok(handle)
 }
 
-// The enabled keys in order.
-fn build_enabled(alloc: Global, keys: &[Key]) -> Result<Repeated<LoadedKey>, TinkError>
-    ensures { Answers result (loading.build_keys (filter key_words.is_enabled keys.now)) }
+// The keys of streams of a valid keyset, by the managers of all types of keys.
+fn build_all(alloc: Global, handle: &Handle) -> Result<TypedPrimitiveSet<StreamKind>, TinkError>
+    requires { IsValid handle.now }
+    ensures answer { Answers (keys_held result) (made_of held (load_keys rows handle.now)) }
+    ensures primary { IfOk result (λ set. is_some set.primary ≡ true) }
 {
-    let mut loaded = Repeated::new(alloc);
-    for key in keys {
-        if !is_enabled(key) {
-            continue;
-        }
-        let built = build_key(alloc, key)?;
-        loaded.push(built)?;
-    }
-    Ok(loaded)
+    let registry = tink::registry(alloc)?;
+    build(alloc, handle, &registry)
 }
 
-fn build_key(alloc: Global, key: &Key) -> Result<LoadedKey, TinkError>
-    ensures { Answers result (loading.build_key key.now) }
+// The keys of streams of a valid keyset, by the managers of a registry.
+fn build<M: KeyManager>(
+    alloc: Global,
+    handle: &Handle,
+    registry: &Registry<M>,
+) -> Result<TypedPrimitiveSet<StreamKind>, TinkError>
+where
+    M::Family: Kinds<StreamingAead = StreamKind>,
+    requires { IsValid handle.now }
+    ensures answer { Answers (keys_held result)
+        (made_of held (load_keys (rows_by M.url M.builds registry.now.managers) handle.now)) }
+    ensures primary { IfOk result (λ set. is_some set.primary ≡ true) }
 {
-    let Some(data) = &key.key_data else {
-        return Err(TinkError::new(Kind::InvalidKey));
-    };
-    let built = build(alloc, data)?;
-    Ok(LoadedKey {
-        id: key.key_id,
-        prefix_type: key.output_prefix_type,
-        key: StreamKind::CtrHmac(built),
-    })
-}
-
-fn build(alloc: Global, key_data: &KeyData) -> Result<AesCtrHmac, TinkError>
-    ensures { Answers result (building.build key_data.now) }
-{
-    let value = key_data.value.as_slice();
-    if value.is_empty() {
-        return Err(TinkError::new(Kind::InvalidKey));
-    }
-    if !is_aes_ctr_hmac(key_data.type_url.as_str()) {
-        return Err(TinkError::new(Kind::UnsupportedKeyType));
-    }
-    match AesCtrHmacStreamingKey::decode(alloc, value) {
-        Ok(message) => ctr_hmac_streaming_key(alloc, &message),
-        Err(ProtoError::OutOfMemory) => Err(TinkError::new(Kind::OutOfMemory)),
-        Err(_) => Err(TinkError::new(Kind::InvalidKey)),
-    }
-}
-
-fn is_aes_ctr_hmac(type_url: &str) -> bool
-    ensures { result ≡ bytes_eq type_url.now building.aes_ctr_hmac_url }
-{
-    type_url == AES_CTR_HMAC_TYPE_URL
-}
-
-// The first key of the id.
-fn primary_key(alloc: Global, id: u32, keys: &[LoadedKey]) -> Result<StreamKind, TinkError>
-    ensures { Answers (as_key result) (or_refused Kind.NoPrimary (loading.key_of_id id keys.now)) }
-{
-    for key in keys {
-        if key.id == id {
-            return Ok(key.key.try_clone(alloc)?);
-        }
-    }
-    Err(TinkError::new(Kind::NoPrimary))
-}
-
-fn is_enabled(key: &Key) -> bool
-    ensures { result ≡ key_words.is_enabled key.now }
-{
-    key.status == KeyStatusType::Enabled as i32
+    typed_primitives::<M, StreamingAeads>(alloc, handle, registry)
 }

@@ -1,5 +1,4 @@
-ghost use Rattle.std.specs.Prelude.{◌≡◌, ◌≤◌, ◌<◌, ◌+◌, ◌^◌, take, map, All, IfOk, IfErr, vec_len, vec_capacity};
-ghost use Rattle.std.specs.List.{filter};
+ghost use Rattle.std.specs.Prelude.{◌≡◌, ◌≤◌, ◌<◌, ◌^◌, take, map, All, IfOk, IfErr, vec_len, vec_capacity};
 ghost use Rattle.std.specs.Io.KnownBytes.{prepend_known};
 ghost use Rattle.stream_model.specs.Cut.{numbered};
 ghost use Rattle.stream_model.specs.Key.{nonce_size};
@@ -9,43 +8,35 @@ ghost use Rattle.tink_streams.specs.declared.progress.Progress.TheVariants.{Runn
 ghost use Rattle.tink_streams.specs.Reading.{Moment};
 ghost use Rattle.tink_stream_keys.specs.StreamKinds.{key_of};
 ghost use Rattle.tink_run.specs.Outside.{outside_of};
-ghost use Rattle.tink_run.specs.OpenAnswers.{StreamMeans, is_raw};
+ghost use Rattle.tink_streaming_aead.specs.Wrapped.{keys_in};
+ghost use Rattle.tink_run.specs.OpenAnswers.{StreamMeans};
 ghost use Rattle.tink_run.specs.Run.{LeavesEnds};
 ghost use Rattle.tink_run.specs.OpenSteps.{FirstMeans, ReaderMeans, OpensUnder};
 
-use crate::load::LoadedKey;
 use crate::report::Report;
 use std::alloc::Global;
 use tink_io::{Kind, Sink, Source, TinkError, write_all};
+use tink_sets::TypedEntry;
 use tink_streaming_aead::{
-    Buffers, DerivesStreams, Kept, Progress, SegmentDecrypter, SegmentReader, StreamKind, Trial,
-    start,
+    AES_CTR_HMAC_NONCE_SIZE_IN_BYTES, DerivesStreams, Progress, SegmentDecrypter, SegmentReader,
+    StreamKind, Trial, start,
 };
 
-/// The number of the output prefix type of raw keys.
-const RAW: i32 = 3;
-
-/// The bytes of the longest nonce.
-const NONCE: usize = 16;
-
-/// The bytes of a header behind its salt.
-const PREFIX: usize = 7;
-
-/// Opens what the source has left under the first raw key that it begins under.
+/// Opens what the source has left under the first key of some entries that it begins under.
 ///
 /// # Errors
 /// OutOfMemory before anything was read or written; NoMatchingKey where the stream begins under no
-/// raw key; Truncated and BadSegment where a later segment is shorter than a tag or the segment of
+/// key; Truncated and BadSegment where a later segment is shorter than a tag or the segment of
 /// no text; TooManySegments where bytes follow 2^32 segments; ReadFault and WriteFault. A segment's
 /// text is written once its tag was compared, and stays written.
 pub fn open<S: Source, K: Sink>(
     alloc: Global,
-    keys: &[LoadedKey],
+    entries: &[TypedEntry<StreamKind>],
     aad: &[u8],
     source: &mut S,
     sink: &mut K,
 ) -> Result<Report, TinkError>
-    ensures answer { OpensUnder (map (λ k. opening.opening_key aad.now k.key) (filter is_raw keys.now))
+    ensures answer { OpensUnder (map (opening.opening_key aad.now) (keys_in entries.now))
         (outside_of S.left S.faults K.got K.faults source.old sink.old)
         (outside_of S.left S.faults K.got K.faults source.new sink.new)
         result }
@@ -53,27 +44,31 @@ pub fn open<S: Source, K: Sink>(
     ensures source { S.same source.old source.new }
     ensures sink { K.same sink.old sink.new }
 {
-    let raw = raw_keys(alloc, keys)?;
-    let trial = reserve(alloc, largest_segment(&raw))?;
-    open_under(&raw, aad, trial, source, sink)
+    let keys = keys_of(alloc, entries)?;
+    let trial = Trial::reserve(
+        alloc,
+        largest_segment(&keys),
+        AES_CTR_HMAC_NONCE_SIZE_IN_BYTES,
+    )?;
+    open_under(&keys, aad, trial, source, sink)
 }
 
-/// The raw keys in order.
+/// The keys of some entries.
 ///
 /// # Errors
 /// OutOfMemory.
-fn raw_keys<'a>(alloc: Global, keys: &'a [LoadedKey]) -> Result<Vec<&'a StreamKind>, TinkError>
-    ensures keys { IfOk result
-        (λ raw. map (λ k. key_of k.now) raw.items ≡ map (λ k. k.key) (filter is_raw keys.now)) }
+fn keys_of<'a>(
+    alloc: Global,
+    entries: &'a [TypedEntry<StreamKind>],
+) -> Result<Vec<&'a StreamKind>, TinkError>
+    ensures keys { IfOk result (λ keys. map (λ k. key_of k.now) keys.items ≡ keys_in entries.now) }
     ensures refused { IfErr result (λ e. e ≡ record { kind = OutOfMemory }) }
 {
-    let mut raw = Vec::new(alloc);
-    for key in keys {
-        if key.prefix_type == RAW {
-            raw.push(&key.key)?;
-        }
+    let mut keys = Vec::new(alloc);
+    for entry in entries {
+        keys.push(&entry.primitive)?;
     }
-    Ok(raw)
+    Ok(keys)
 }
 
 /// The bytes of the largest segment.
@@ -85,31 +80,6 @@ fn largest_segment(keys: &[&StreamKind]) -> u32
         largest = largest.max(key.segment_size());
     }
     largest
-}
-
-/// All memory that a trial of keys and the reader of the chosen one take.
-///
-/// # Errors
-/// OutOfMemory.
-fn reserve(alloc: Global, segment: u32) -> Result<Trial, TinkError>
-    ensures filled { IfOk result (λ t. t.kept.filled ≡ 0) }
-    ensures buffer { IfOk result (λ t. vec_len t.kept.buffer ≡ segment + 1) }
-    ensures opened { IfOk result (λ t. vec_capacity t.opened ≡ segment + 1) }
-    ensures nonce { IfOk result (λ t. vec_len t.nonce ≡ 16) }
-    ensures prefix { IfOk result (λ t. 7 ≤ vec_capacity t.prefix) }
-    ensures refused { IfErr result (λ e. e ≡ record { kind = OutOfMemory }) }
-{
-    let buffers = Buffers::reserve(alloc, segment, NONCE)?;
-    let prefix = Vec::with_capacity(alloc, PREFIX)?;
-    Ok(Trial {
-        kept: Kept {
-            buffer: buffers.sealed,
-            filled: 0,
-        },
-        prefix,
-        nonce: buffers.nonce,
-        opened: buffers.text,
-    })
 }
 
 /// Opens what the source has left under the first key that it begins under.

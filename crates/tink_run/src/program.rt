@@ -5,9 +5,9 @@ ghost use Rattle.tink_io.specs.Written.{WritesOrFaults};
 ghost use Rattle.tink_run.specs.declared.report.Command.TheVariants.{Seal, Open};
 ghost use Rattle.tink_run.specs.Draws.{draws_in};
 ghost use Rattle.tink_run.specs.Outside.{outside_of};
-ghost use Rattle.tink_run.specs.Program.{HasCause, HasOwnStatus, IsAmong, IsUsage, Leaves, OpensAsSpelled, OutcomeMeans, ProgramMeans, Promised, Ran, RefusesUnloaded, SealsAsSpelled, Succeeds, WritesAsSpelled, answer_outcome, early_statuses, line_of, status_of};
+ghost use Rattle.tink_run.specs.Program.{IsAmong, Leaves, OutcomeMeans, ProgramMeans, Promised, Ran, StatusMeans, answer_outcome, early_statuses, line_of, status_of};
 ghost use Rattle.tink_run.specs.Run.{LeavesEnds};
-ghost use Rattle.tink_run.specs.Words.{words_in};
+ghost use Rattle.tink_run.specs.Words.{words_of};
 
 use crate::report::{Command, Report};
 use crate::run::run;
@@ -45,43 +45,25 @@ pub fn program<S: Source, K: Sink, E: Sink>(
     faults: &mut E,
 ) -> u8
     // The status is that of an outcome, which says why it came and what stands after it.
-    ensures means { ProgramMeans (words_in words.now.items)
+    ensures means { ProgramMeans (words_of words.now)
         (outside_of S.left S.faults K.got K.faults source.old sink.old)
         (outside_of S.left S.faults K.got K.faults source.new sink.new)
         (E.got faults.old) (E.got faults.new) (E.faults faults.old) (E.faults faults.new) result }
 
-    // When status 2 comes, which statuses a command has, and what a keyset gets that does not load.
-    ensures usage { IsUsage (words_in words.now.items) result }
-    ensures own { HasOwnStatus (words_in words.now.items) result }
-    ensures unloaded { RefusesUnloaded (words_in words.now.items) result }
-
-    // What stands after a status of 10, and that a count rose for one of 11 or 12.
-    ensures cause { HasCause
+    // When status 2 comes, which statuses a command has, what a keyset gets that does not load, and what stands after
+    // a status of 10, 11 or 12.
+    ensures status { StatusMeans (words_of words.now)
         (outside_of S.left S.faults K.got K.faults source.old sink.old)
-        (outside_of S.left S.faults K.got K.faults source.new sink.new)
-        result }
+        (outside_of S.left S.faults K.got K.faults source.new sink.new) result }
 
-    // A status of 2, 10, 13 to 17 or 19 leaves the ends themselves as they were.
+    // A status of 2, 10 or 13 to 19 leaves the ends themselves as they were.
     ensures early { IsAmong early_statuses result → (source.new ≡ source.old) × (sink.new ≡ sink.old) }
 
-    // Told bytes: what status 0 promises of a seal, and of an open.
-    ensures sealed { SealsAsSpelled (words_in words.now.items)
+    // Told bytes: what status 0 promises of a seal, and of an open; what an open has written by any status; when a
+    // command succeeds.
+    ensures promised { Promised (words_of words.now)
         (outside_of S.left S.faults K.got K.faults source.old sink.old)
-        (outside_of S.left S.faults K.got K.faults source.new sink.new)
-        result }
-    ensures opened { OpensAsSpelled (words_in words.now.items)
-        (outside_of S.left S.faults K.got K.faults source.old sink.old)
-        (outside_of S.left S.faults K.got K.faults source.new sink.new)
-        result }
-
-    // Told bytes: what an open has written by any status, and when a command succeeds.
-    ensures written { WritesAsSpelled (words_in words.now.items)
-        (outside_of S.left S.faults K.got K.faults source.old sink.old)
-        (outside_of S.left S.faults K.got K.faults source.new sink.new) }
-    ensures succeeds { Succeeds (words_in words.now.items)
-        (outside_of S.left S.faults K.got K.faults source.old sink.old)
-        (outside_of S.left S.faults K.got K.faults source.new sink.new)
-        result }
+        (outside_of S.left S.faults K.got K.faults source.new sink.new) result }
     ensures source { S.same source.old source.new }
     ensures sink { K.same sink.old sink.new }
     ensures faults { E.same faults.old faults.new }
@@ -141,11 +123,11 @@ fn command<S: Source, K: Sink>(
     source: &mut S,
     sink: &mut K,
 ) -> Outcome
-    ensures means { OutcomeMeans (words_in words.now.items)
+    ensures means { OutcomeMeans (words_of words.now)
         (outside_of S.left S.faults K.got K.faults source.old sink.old)
         (outside_of S.left S.faults K.got K.faults source.new sink.new)
         result }
-    ensures promised { Promised (words_in words.now.items)
+    ensures promised { Promised (words_of words.now)
         (outside_of S.left S.faults K.got K.faults source.old sink.old)
         (outside_of S.left S.faults K.got K.faults source.new sink.new)
         (status_of result) }

@@ -2,6 +2,7 @@ ghost use Rattle.std.specs.Prelude.{◌≡◌, ℕ, List, IfOk};
 ghost use Rattle.tink_run.specs.Outside.{outside_of};
 ghost use Rattle.tink_run.specs.Run.{AnswerMeans, IsComplete, LeavesEnds, OnlyAgreeing, Succeeds, Told};
 
+use crate::keys::{primary_key, raw_entries};
 use crate::load::load;
 use crate::open::open;
 use crate::report::{Command, Report};
@@ -69,9 +70,9 @@ fn answer<S: Source, K: Sink>(
     ensures source { S.same source.old source.new }
     ensures sink { K.same sink.old sink.new }
 {
-    let loaded = load(alloc, keyset)?;
+    let keys = load(alloc, keyset)?;
     match command {
-        Command::Seal => seal(alloc, &loaded.primary, aad, draws, source, sink),
-        Command::Open => open(alloc, loaded.keys.as_slice(), aad, source, sink),
+        Command::Seal => seal(alloc, primary_key(&keys), aad, draws, source, sink),
+        Command::Open => open(alloc, raw_entries(&keys), aad, source, sink),
     }
 }

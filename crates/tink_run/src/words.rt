@@ -3,7 +3,7 @@
 ghost use Rattle.std.specs.Prelude.{◌≡◌, List, ℕ, IfOk, IfErr, IfSome, IfNone};
 ghost use Rattle.tink_io.specs.declared.error.Kind.TheVariants.{OutOfMemory};
 ghost use Rattle.tink_run.specs.Draws.{draws_in};
-ghost use Rattle.tink_run.specs.Words.{IsBytesWord, OpenWords, SealWords, Spell, SpellNoOpen, SpellNoSeal, SpellNothing, words_in};
+ghost use Rattle.tink_run.specs.Words.{IsBytesWord, OpenWords, SealWords, Spell, SpellNoOpen, SpellNoSeal, SpellNothing, words_of};
 
 use hex::{FromHex, FromHexError};
 use rand_chacha::ChaCha20Rng;
@@ -36,8 +36,8 @@ pub enum Parsed {
 
 /// Reads the words of a command; `None` where they spell none. Refuses by `OutOfMemory` alone.
 pub fn parse(alloc: Global, words: &Vec<String>) -> Result<Option<Parsed>, TinkError>
-    ensures found { IfOk result (λ o. IfSome o (λ p. Spell (words_in words.now.items) p)) }
-    ensures none { IfOk result (λ o. IfNone o (SpellNothing (words_in words.now.items))) }
+    ensures found { IfOk result (λ o. IfSome o (λ p. Spell (words_of words.now) p)) }
+    ensures none { IfOk result (λ o. IfNone o (SpellNothing (words_of words.now))) }
     ensures refused { IfErr result (λ e. e ≡ record { kind = OutOfMemory }) }
 {
     if let Some(args) = parse_seal(alloc, words)? {
@@ -52,8 +52,8 @@ pub fn parse(alloc: Global, words: &Vec<String>) -> Result<Option<Parsed>, TinkE
 // Reads the words of `seal`.
 fn parse_seal(alloc: Global, words: &Vec<String>) -> Result<Option<SealArgs>, TinkError>
     ensures found { IfOk result
-        (λ o. IfSome o (λ a. SealWords (words_in words.now.items) a.keyset.items a.aad.items a.seed)) }
-    ensures none { IfOk result (λ o. IfNone o (SpellNoSeal (words_in words.now.items))) }
+        (λ o. IfSome o (λ a. SealWords (words_of words.now) a.keyset.items a.aad.items a.seed)) }
+    ensures none { IfOk result (λ o. IfNone o (SpellNoSeal (words_of words.now))) }
     ensures refused { IfErr result (λ e. e ≡ record { kind = OutOfMemory }) }
 {
     if words.len() != 4 || words[0].as_str() != "seal" {
@@ -74,8 +74,8 @@ fn parse_seal(alloc: Global, words: &Vec<String>) -> Result<Option<SealArgs>, Ti
 // Reads the words of `open`.
 fn parse_open(alloc: Global, words: &Vec<String>) -> Result<Option<OpenArgs>, TinkError>
     ensures found { IfOk result
-        (λ o. IfSome o (λ a. OpenWords (words_in words.now.items) a.keyset.items a.aad.items)) }
-    ensures none { IfOk result (λ o. IfNone o (SpellNoOpen (words_in words.now.items))) }
+        (λ o. IfSome o (λ a. OpenWords (words_of words.now) a.keyset.items a.aad.items)) }
+    ensures none { IfOk result (λ o. IfNone o (SpellNoOpen (words_of words.now))) }
     ensures refused { IfErr result (λ e. e ≡ record { kind = OutOfMemory }) }
 {
     if words.len() != 3 || words[0].as_str() != "open" {

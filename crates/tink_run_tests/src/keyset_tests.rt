@@ -5,7 +5,8 @@ use crate::support::{KEYSET, expect, seal};
 use std::alloc::Global;
 use std::test::Fail;
 use tink_io::Kind;
-use tink_run::load::{LoadedKey, LoadedKeys, load};
+use tink_run::load::load;
+use tink_sets::{TypedEntry, TypedPrimitiveSet};
 use tink_streaming_aead::{DerivesStreams, StreamKind};
 
 // The URL of the keys.
@@ -278,25 +279,25 @@ fn sealing(alloc: Global, keyset: &str) -> Result<(u8, usize), Fail> {
 }
 
 // The keys of a keyset.
-fn loaded(alloc: Global, keyset: &str) -> Result<LoadedKeys, Fail> {
+fn loaded(alloc: Global, keyset: &str) -> Result<TypedPrimitiveSet<StreamKind>, Fail> {
     let bytes = hex::decode(alloc, keyset)?;
     Ok(load(alloc, &bytes)?)
 }
 
 // The id, the number of the prefix type, and the bytes of a header and of a segment.
-fn described(key: &LoadedKey) -> (u32, i32, usize, u32) {
+fn described(entry: &TypedEntry<StreamKind>) -> (u32, i32, usize, u32) {
     (
-        key.id,
-        key.prefix_type,
-        key.key.header_length(),
-        key.key.segment_size(),
+        entry.key_id,
+        entry.prefix_type as i32,
+        entry.primitive.header_length(),
+        entry.primitive.segment_size(),
     )
 }
 
 // The description of the one key.
-fn only(keys: &[LoadedKey]) -> Option<(u32, i32, usize, u32)> {
-    match keys {
-        [key] => Some(described(key)),
+fn only(entries: Option<&[TypedEntry<StreamKind>]>) -> Option<(u32, i32, usize, u32)> {
+    match entries {
+        Some([entry]) => Some(described(entry)),
         _ => None,
     }
 }
@@ -311,11 +312,15 @@ fn loads_a_key(rt: HostRuntime) -> Result<(), Fail> {
     let found = loaded(rt.alloc(), KEYSET)?;
     expect(
         &rt,
-        only(found.keys.as_slice()),
+        only(found.raw_entries()),
         Some((0x01020304, 3, 24, 4096)),
         "the one key",
     );
-    expect(&rt, measured(&found.primary), (24, 32), "the primary key");
+    let primary = found
+        .primary
+        .as_ref()
+        .map(|entry| measured(&entry.primitive));
+    expect(&rt, primary, Some((24, 32)), "the primary key");
     Ok(())
 }
 

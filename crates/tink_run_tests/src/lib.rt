@@ -2,6 +2,8 @@
 #![tactic(auto)]
 
 #[cfg(test)]
+mod all_types_tests;
+#[cfg(test)]
 mod damaged_tests;
 #[cfg(test)]
 mod fault_tests;

@@ -1,9 +1,8 @@
 use Rattle.std.proofs.Common.{◌≡◌, List, map, ap, sym, ◌∙◌, subst}
 use Rattle.std.proofs.lemmas.Simd.{map-map}
-use Rattle.std.specs.List.{filter}
 use Rattle.stream_model.specs.Opening.{OpeningKey, opening_key}
 use Rattle.tink_stream_keys.specs.StreamKinds.{key_of}
-use Rattle.tink_run.specs.OpenAnswers.{is_raw}
+use Rattle.tink_streaming_aead.specs.Wrapped.{keys_in}
 use Rattle.tink_run.specs.OpenSteps.{OpensUnder}
 use Rattle.tink_run.specs.Outside.{Outside}
 use Rattle.tink_run.proofs.OpenSteps.{leaves_under, opens_under}
@@ -13,9 +12,9 @@ use Rattle.tink_run.proofs.open.open.Goals as goal
 pub returns-clause-answer : goal.returns-clause-answer
 returns-clause-answer g c =
     let aad = c.args.aad.now in
-    let same : map (λ k. opening_key aad (key_of k.now)) c.deref-2.result.now ≡ map (λ k. opening_key aad k.key) (filter is_raw c.args.keys.now) =
-    ap (map (λ k. opening_key aad (key_of k.now))) c.deref-2.ensures.value ∙ sym (map-map (opening_key aad) (λ k. key_of k.now) c.in_ok-raw.raw.items)
-    ∙ ap (map (opening_key aad)) c.in_ok-raw.ensures.keys ∙ map-map (opening_key aad) (λ k. k.key) (filter is_raw c.args.keys.now)
+    let same : map (λ k. opening_key aad (key_of k.now)) c.deref-2.result.now ≡ map (opening_key aad) (keys_in c.args.entries.now) =
+    ap (map (λ k. opening_key aad (key_of k.now))) c.deref-2.ensures.value ∙ sym (map-map (opening_key aad) (λ k. key_of k.now) c.in_ok-keys.keys.items)
+    ∙ ap (map (opening_key aad)) c.in_ok-keys.ensures.keys
     in
     let before : Outside = record { left = g.S.Source.left c.args.source.now; read_faults = g.S.Source.faults c.args.source.now; got = g.K.Sink.got c.args.sink.now; write_faults = g.K.Sink.faults c.args.sink.now } in
     let after : Outside = record { left = g.S.Source.left c.open_under.new.source; read_faults = g.S.Source.faults c.open_under.new.source; got = g.K.Sink.got c.open_under.new.sink; write_faults = g.K.Sink.faults c.open_under.new.sink } in
@@ -24,8 +23,8 @@ returns-clause-answer g c =
 pub returns-clause-early : goal.returns-clause-early
 returns-clause-early g c = leaves_under _ _ _ c.open_under.result _ _ _ _ c.open_under.ensures.answer
 
-pub returns-in_err-raw-clause-early : goal.returns-in_err-raw-clause-early
-returns-in_err-raw-clause-early g c = leaves_same c.from_residual.result c.args.source.now c.args.sink.now
+pub returns-in_err-keys-clause-early : goal.returns-in_err-keys-clause-early
+returns-in_err-keys-clause-early g c = leaves_same c.from_residual.result c.args.source.now c.args.sink.now
 
 pub returns-in_err-trial-clause-early : goal.returns-in_err-trial-clause-early
 returns-in_err-trial-clause-early g c = leaves_same c.from_residual-in_err-trial.result c.args.source.now c.args.sink.now

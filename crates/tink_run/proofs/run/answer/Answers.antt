@@ -1,17 +1,21 @@
-use Rattle.std.proofs.Common.{ap, ◌∙◌}
+use Rattle.std.proofs.Common.{ap, sym}
 use Rattle.std.proofs.lemmas.Result.{err_from_is_err_and}
-use Rattle.tink_run.proofs.RunSteps.{leaves_same, not_loaded, opens_keyset, untouched}
+use Rattle.tink_streaming_aead.specs.Wrapped.{keys_in}
+use Rattle.tink_run.proofs.RunSteps.{leaves_same, not_loaded, opens_keyset, seals_keyset, untouched}
 use Rattle.tink_run.proofs.run.answer.Goals as goal
 
-pub returns-in_err-loaded-clause-answer : goal.returns-in_err-loaded-clause-answer
-returns-in_err-loaded-clause-answer g c =
+pub returns-in_err-keys-clause-answer : goal.returns-in_err-keys-clause-answer
+returns-in_err-keys-clause-answer g c =
     let returned = err_from_is_err_and c.from_residual.result c.from_residual.ensures.1 in
-    rw (returned.1, returned.2) (not_loaded c.args.command c.args.keyset.now c.args.aad.now c.args.draws.now _ _ c.in_err-loaded.field-0.0 (untouched _) c.in_err-loaded.ensures)
+    rw (returned.1, returned.2) (not_loaded c.args.command c.args.keyset.now c.args.aad.now c.args.draws.now _ _ c.in_err-keys.field-0.0 (untouched _) c.in_err-keys.ensures.answer)
+
+pub returns-in_err-keys-clause-early : goal.returns-in_err-keys-clause-early
+returns-in_err-keys-clause-early g c = leaves_same c.from_residual.result c.args.source.now c.args.sink.now
+
+pub returns-in-Seal-clause-answer : goal.returns-in-Seal-clause-answer
+returns-in-Seal-clause-answer g c = rw c.in-Seal.is
+    (seals_keyset c.args.keyset.now c.args.aad.now c.args.draws.now c.seal.new.draws _ _ _ _ c.seal.result c.in_ok-keys.ensures.answer c.primary_key.ensures c.seal.ensures.answer)
 
 pub returns-clause-answer : goal.returns-clause-answer
 returns-clause-answer g c = rw c.in-Open.is
-    (opens_keyset c.args.keyset.now c.args.aad.now c.args.draws.now c.in_ok-loaded.loaded c.as_slice.result.now _ _ c.open.result c.in_ok-loaded.ensures
-    (c.as_slice.ensures ∙ ap (λ l. l.keys) c.loaded.view_is) c.open.ensures.answer)
-
-pub returns-in_err-loaded-clause-early : goal.returns-in_err-loaded-clause-early
-returns-in_err-loaded-clause-early g c = leaves_same c.from_residual.result c.args.source.now c.args.sink.now
+    (opens_keyset c.args.keyset.now c.args.aad.now c.args.draws.now _ (keys_in c.raw_entries.result.now) _ _ c.open.result c.in_ok-keys.ensures.answer (sym (ap keys_in c.raw_entries.ensures)) c.open.ensures.answer)

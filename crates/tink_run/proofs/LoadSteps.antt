@@ -1,0 +1,298 @@
+-- From the set of the streaming keys of a handle to what its keyset loads as.
+use Rattle.std.proofs.Common.{◌≡◌, inl, inr, ◌∙◌, ◌&&◌, ◌||◌, ℕ, zero, suc, ℤ, pos, negsuc, arith, ⊎_elim, List, [], ◌∷◌, Bool, true, false, cond, not, map, refl, sym, ap, subst, Some, None, Vec}
+use Rattle.std.specs.declared.option.Option.{Option}
+use Rattle.std.specs.Prelude.{Result, Ok, Err, IfOk, filter, find, int_le, is_some, nat_eq, unwrap_or, length}
+use Rattle.std.specs.BTreeMap.{BTreeMap}
+use Rattle.std.specs.List.{list_all, list_any}
+use Rattle.std.specs.Ordering.{int_eq}
+use Rattle.std.specs.Str.{bytes_eq}
+use Rattle.std.proofs.lemmas.Bool.Decides.{Decides-int_eq, nat_tests}
+use Rattle.tink_io.specs.declared.error.Kind.{Kind}
+use Rattle.tink_io.specs.declared.error.Kind.TheVariants.{InvalidKey, NoPrimary}
+use Rattle.tink_io.specs.declared.error.TinkError.{TinkError}
+use Rattle.tink_io.specs.Told.{Answers, made_of}
+use Rattle.tink_primitives.specs.declared.primitive.Primitive.{Primitive}
+use Rattle.tink_primitives.specs.declared.primitive.Primitive.TheVariants.{StreamingAead}
+use Rattle.tink_primitives.specs.Sorts.{as_streaming_aead}
+use Rattle.tink_proto.specs.declared.messages.keys.Key.{Key}
+use Rattle.tink_proto.specs.declared.messages.keys.KeyData.{KeyData}
+use Rattle.tink_proto.specs.declared.messages.keys.Keyset.{Keyset}
+use Rattle.tink_registry.specs.Listed.{builds_by, manager_of, registry_builds}
+use Rattle.tink_sets.specs.declared.entry.Entry.{Entry}
+use Rattle.tink_sets.specs.declared.entry.TypedEntry.{TypedEntry}
+use Rattle.tink_sets.specs.declared.typed_set.TypedPrimitiveSet.{TypedPrimitiveSet}
+use Rattle.tink_sets.specs.Entries.{entry_of, entry_of_id, own_prefix, typed_by, typed_prefix_of, with_primitive}
+use Rattle.tink_sets.specs.Converting.{converted}
+use Rattle.tink_sets.specs.Converting as converting
+use Rattle.tink_sets.specs.Groups.{group_of}
+use Rattle.tink_building.specs.Given.{before, given_each}
+use Rattle.tink_building.proofs.BuildingFacts.{well_formed_keys}
+use Rattle.tink_keysets.specs.Built.{built_data, built_entries, built_entry, GivesSet, HasEntries}
+use Rattle.tink_factory.specs.Typing.{typed_entries}
+use Rattle.keyset_model.specs.Entries.{byte_and_id, prefix_of}
+use Rattle.keyset_model.specs.Keys.{is_enabled}
+use Rattle.keyset_model.specs.Validity.{has_its_data, is_from_to, is_held_keyset, is_validated, is_well_formed, IsValid}
+use Rattle.stream_model.specs.Key.{StreamKey}
+use Rattle.tink_stream_keys.specs.declared.stream_kind.StreamKind.{StreamKind}
+use Rattle.tink_stream_keys.specs.StreamKinds.{key_of}
+use Rattle.tink_streaming_aead.specs.Wrapped.{Wrapped, key_in, keys_in, set_keys}
+use Rattle.tink_run.specs.Loading.{EnabledKey, Loaded, LoadedKey, LoadingRow, ◌then◌, build, build_data, build_key, build_keys, built_by, key_of_id, load_built, load_keys, streaming_key, streaming_keys, streaming_part, with_primary}
+use Rattle.tink_run.specs.AllKeys.{built_key, loading_row, rows_by}
+use Rattle.tink_run.specs.HeldKeys.{held, keys_held}
+use Rattle.tink_run.specs.OpenAnswers.{is_raw}
+
+and_parts : (a b : Bool) → (a && b) ≡ true → (a ≡ true) × (b ≡ true)
+and_parts true b e = (refl, e)
+and_parts false b e = absurd (cc)
+
+-- ---- the prefix of a key is empty where its type is 3
+
+-- a number from 1 to 4 is that of a known type
+ranged : (n : ℤ) → is_from_to (pos 1) (pos 4) n ≡ true → (int_eq n (pos 1) || (int_eq n (pos 2) || (int_eq n (pos 4) || int_eq n (pos 3)))) ≡ true
+ranged (negsuc k) e = absurd (cc e)
+ranged (pos zero) e = absurd (cc e)
+ranged (pos (suc zero)) e = refl
+ranged (pos (suc (suc zero))) e = refl
+ranged (pos (suc (suc (suc zero)))) e = refl
+ranged (pos (suc (suc (suc (suc zero))))) e = refl
+ranged (pos (suc (suc (suc (suc (suc k)))))) e =
+    let above : int_le (pos (suc (suc (suc (suc (suc k)))))) (pos 4) ≡ true = (and_parts (int_le (pos 1) (pos (suc (suc (suc (suc (suc k))))))) (int_le (pos (suc (suc (suc (suc (suc k)))))) (pos 4)) e).1 in
+    absurd (grind (arith, nat_tests))
+
+empty_prefix : (tink legacy crunchy raw : Bool) (id : ℕ) → (tink ≡ true → raw ≡ false) → (legacy ≡ true → raw ≡ false) → (crunchy ≡ true → raw ≡ false) → (tink || (legacy || (crunchy || raw))) ≡ true
+    → bytes_eq (unwrap_or (cond tink (Some (byte_and_id 1 id)) (cond legacy (Some (byte_and_id 0 id)) (cond crunchy (Some (byte_and_id 0 id)) (cond raw (Some []) None)))) []) [] ≡ raw
+empty_prefix true legacy crunchy raw id p q r some = sym (p refl)
+empty_prefix false true crunchy raw id p q r some = sym (q refl)
+empty_prefix false false true raw id p q r some = sym (r refl)
+empty_prefix false false false true id p q r some = refl
+empty_prefix false false false false id p q r some = absurd (cc some)
+
+raw_type : (n : ℤ) (id : ℕ) → is_from_to (pos 1) (pos 4) n ≡ true → bytes_eq (unwrap_or (prefix_of n id) []) [] ≡ int_eq n (pos 3)
+raw_type n id known =
+    empty_prefix (int_eq n (pos 1)) (int_eq n (pos 2)) (int_eq n (pos 4)) (int_eq n (pos 3)) id
+    (λ e. ap (λ m. int_eq m (pos 3)) ((Decides-int_eq n (pos 1)).0 e))
+    (λ e. ap (λ m. int_eq m (pos 3)) ((Decides-int_eq n (pos 2)).0 e))
+    (λ e. ap (λ m. int_eq m (pos 3)) ((Decides-int_eq n (pos 4)).0 e))
+    (ranged n known)
+
+-- the prefix of a well formed key
+raw_key : (k : Key) → is_well_formed k ≡ true → bytes_eq (own_prefix k) [] ≡ int_eq k.output_prefix_type (pos 3)
+raw_key k formed =
+    let first = (and_parts _ (is_from_to (pos 1) (pos 3) k.status) formed).0 in
+    let second = and_parts (has_its_data k && not (nat_eq k.key_id 0)) (is_from_to (pos 1) (pos 4) k.output_prefix_type) first in
+    raw_type k.output_prefix_type k.key_id second.1
+
+module _ {M K A D HD HE Mc P S V : Type 0} (url : M → List ℕ) (supports : M → List ℕ → Bool) (builds : M → List ℕ → Result (Primitive K A D HD HE Mc P S StreamKind V) Kind) (managers : List M) where
+  abbrev Made : Type 0
+  Made = Primitive K A D HD HE Mc P S StreamKind V
+
+  abbrev One : Type 0
+  One = Entry K A D HD HE Mc P S StreamKind V
+
+  abbrev Typed : Type 0
+  Typed = TypedEntry StreamKind
+
+  abbrev rows : List LoadingRow
+  rows = rows_by url builds managers
+
+  -- ---- what a key builds
+
+  by_row : (wanted value : List ℕ) (ms : List M) → built_by value (find (λ r. bytes_eq r.url wanted) (rows_by url builds ms)) ≡ made_of built_key (builds_by builds value (manager_of url wanted ms))
+  by_row wanted value [] = refl
+  by_row wanted value (m ∷ ms) = here (bytes_eq (url m) wanted) (by_row wanted value ms)
+    where
+      here : (b : Bool) → built_by value (find (λ r. bytes_eq r.url wanted) (rows_by url builds ms)) ≡ made_of built_key (builds_by builds value (manager_of url wanted ms))
+          → built_by value (cond b (Some (loading_row url builds m)) (find (λ r. bytes_eq r.url wanted) (rows_by url builds ms))) ≡ made_of built_key (builds_by builds value (cond b (Some m) (manager_of url wanted ms)))
+      here true later = refl
+      here false later = later
+
+  build_is : (d : KeyData) → build rows d ≡ made_of built_key (registry_builds url builds managers d.type_url d.value)
+  build_is d = by_value (nat_eq (length d.value) 0)
+    where
+      by_value : (b : Bool) → cond b (Err InvalidKey) (built_by d.value (find (λ r. bytes_eq r.url d.type_url) rows)) ≡ made_of built_key (cond b (Err InvalidKey) (builds_by builds d.value (manager_of url d.type_url managers)))
+      by_value true = refl
+      by_value false = by_row d.type_url d.value managers
+
+  -- ---- entries and keys that were built, one for one
+
+  record IsAlike (e : One) (b : EnabledKey) : Type 0 where
+    id : e.key_id ≡ b.id
+    built : b.built ≡ built_key e.primitive
+    raw : bytes_eq e.prefix [] ≡ int_eq b.prefix_type (pos 3)
+
+  abbrev AreAlike : List One → List EnabledKey → Type 0
+  AreAlike [] [] = Unit {0}
+  AreAlike (e ∷ es) (b ∷ bs) = IsAlike e b × AreAlike es bs
+  AreAlike _ _ = ⊥
+
+  abbrev Same : Result One Kind → Result EnabledKey Kind → Type 0
+  Same (Ok e) built = (b : EnabledKey) × (built ≡ Ok b) × IsAlike e b
+  Same (Err kind) built = built ≡ Err kind
+
+  abbrev AllSame : Result (List One) Kind → Result (List EnabledKey) Kind → Type 0
+  AllSame (Ok es) built = (bs : List EnabledKey) × (built ≡ Ok bs) × AreAlike es bs
+  AllSame (Err kind) built = built ≡ Err kind
+
+  entry_same : (k : Key) → is_well_formed k ≡ true → Same (built_entry url supports builds entry_of managers None k) (build_key rows k)
+  entry_same k formed = by_data k.key_data
+    where
+      by_built : (r : Result Made Kind) → Same (made_of (λ p. entry_of p k) r) (made_of built_key r then λ built. Ok (record { id = k.key_id; prefix_type = k.output_prefix_type; built = built }))
+      by_built (Ok p) = (record { id = k.key_id; prefix_type = k.output_prefix_type; built = built_key p }, refl, record { id = refl; built = refl; raw = raw_key k formed })
+      by_built (Err kind) = refl
+
+      by_data : (o : Option KeyData) → Same (made_of (λ p. entry_of p k) (built_data url supports builds managers None o)) (build_data rows o then λ built. Ok (record { id = k.key_id; prefix_type = k.output_prefix_type; built = built }))
+      by_data None = refl
+      by_data (Some d) = rw (build_is d) (by_built (registry_builds url builds managers d.type_url d.value))
+
+  one_more : (e : Result One Kind) (es : Result (List One) Kind) (b : Result EnabledKey Kind) (bs : Result (List EnabledKey) Kind) → Same e b → AllSame es bs → AllSame (before e es) (b then λ one. bs then λ rest. Ok (one ∷ rest))
+  one_more (Ok e) (Ok es) b bs s t = rw (s.1, t.1) (s.0 ∷ t.0, refl, (s.2, t.2))
+  one_more (Ok e) (Err kind) b bs s t = rw (s.1, t) refl
+  one_more (Err kind) es b bs s t = rw s refl
+
+  all_same : (ks : List Key) → list_all is_well_formed ks ≡ true → AllSame (given_each (built_entry url supports builds entry_of managers None) (filter is_enabled ks)) (build_keys rows (filter is_enabled ks))
+  all_same [] formed = ([], refl, tt)
+  all_same (k ∷ ks) formed =
+      let parts = and_parts (is_well_formed k) (list_all is_well_formed ks) formed in
+      by_status (is_enabled k) (entry_same k parts.0) (all_same ks parts.1)
+    where
+      give : Key → Result One Kind
+      give = built_entry url supports builds entry_of managers None
+
+      by_status : (b : Bool) → Same (give k) (build_key rows k) → AllSame (given_each give (filter is_enabled ks)) (build_keys rows (filter is_enabled ks))
+          → AllSame (given_each give (cond b (k ∷ filter is_enabled ks) (filter is_enabled ks))) (build_keys rows (cond b (k ∷ filter is_enabled ks) (filter is_enabled ks)))
+      by_status true one later = one_more (give k) (given_each give (filter is_enabled ks)) (build_key rows k) (build_keys rows (filter is_enabled ks)) one later
+      by_status false one later = later
+
+  -- ---- entries of streaming AEADs and keys of streams, one for one
+
+  record IsKey (t : Typed) (l : LoadedKey) : Type 0 where
+    id : t.key_id ≡ l.id
+    key : key_of t.primitive ≡ l.key
+    raw : bytes_eq t.prefix [] ≡ is_raw l
+
+  abbrev AreKeys : List Typed → List LoadedKey → Type 0
+  AreKeys [] [] = Unit {0}
+  AreKeys (t ∷ ts) (l ∷ ls) = IsKey t l × AreKeys ts ls
+  AreKeys _ _ = ⊥
+
+  abbrev OneKey : Result Typed Kind → Result LoadedKey Kind → Type 0
+  OneKey (Ok t) key = (l : LoadedKey) × (key ≡ Ok l) × IsKey t l
+  OneKey (Err kind) key = key ≡ Err kind
+
+  abbrev AllKeys : Result (List Typed) Kind → Result (List LoadedKey) Kind → Type 0
+  AllKeys (Ok ts) keys = (ls : List LoadedKey) × (keys ≡ Ok ls) × AreKeys ts ls
+  AllKeys (Err kind) keys = keys ≡ Err kind
+
+  by_sort : (e : One) (b : EnabledKey) (p : Made) → IsAlike e b → OneKey (made_of (with_primitive e) (as_streaming_aead p)) (streaming_part b (built_key p))
+  by_sort e b (StreamingAead key) a = (record { id = b.id; prefix_type = b.prefix_type; key = key_of key }, refl, record { id = a.id; key = refl; raw = a.raw })
+  by_sort e b _ a = refl
+
+  key_same : (e : One) (b : EnabledKey) → IsAlike e b → OneKey (typed_by as_streaming_aead e) (streaming_key b)
+  key_same e b a = rw a.built (by_sort e b e.primitive a)
+
+  key_more : (t : Result Typed Kind) (ts : Result (List Typed) Kind) (l : Result LoadedKey Kind) (ls : Result (List LoadedKey) Kind) → OneKey t l → AllKeys ts ls → AllKeys (converting.before t ts) (l then λ one. ls then λ rest. Ok (one ∷ rest))
+  key_more (Ok t) (Ok ts) l ls s r = rw (s.1, r.1) (s.0 ∷ r.0, refl, (s.2, r.2))
+  key_more (Ok t) (Err kind) l ls s r = rw (s.1, r) refl
+  key_more (Err kind) ts l ls s r = rw s refl
+
+  keys_same : (es : List One) (bs : List EnabledKey) → AreAlike es bs → AllKeys (converted (typed_by as_streaming_aead) es) (streaming_keys bs)
+  keys_same [] [] a = ([], refl, tt)
+  keys_same [] (b ∷ bs) a = absurd a
+  keys_same (e ∷ es) [] a = absurd a
+  keys_same (e ∷ es) (b ∷ bs) a = key_more _ _ _ _ (key_same e b a.0) (keys_same es bs a.1)
+
+  -- ---- the primary key, and the raw ones
+
+  some_has_id : (id : ℕ) (es : List One) (bs : List EnabledKey) → AreAlike es bs → is_some (find (λ e. nat_eq e.key_id id) es) ≡ list_any (λ b. nat_eq b.id id) bs
+  some_has_id id [] [] a = refl
+  some_has_id id [] (b ∷ bs) a = absurd a
+  some_has_id id (e ∷ es) [] a = absurd a
+  some_has_id id (e ∷ es) (b ∷ bs) a = rw (sym a.0.id) (here (nat_eq e.key_id id) (some_has_id id es bs a.1))
+    where
+      here : (t : Bool) → is_some (find (λ x. nat_eq x.key_id id) es) ≡ list_any (λ x. nat_eq x.id id) bs
+          → is_some (cond t (Some e) (find (λ x. nat_eq x.key_id id) es)) ≡ (t || list_any (λ x. nat_eq x.id id) bs)
+      here true later = refl
+      here false later = later
+
+  primary_same : (id : ℕ) (ts : List Typed) (ls : List LoadedKey) → AreKeys ts ls → key_in (entry_of_id id ts) ≡ key_of_id id ls
+  primary_same id [] [] a = refl
+  primary_same id [] (l ∷ ls) a = absurd a
+  primary_same id (t ∷ ts) [] a = absurd a
+  primary_same id (t ∷ ts) (l ∷ ls) a = rw (sym a.0.id) (here (nat_eq t.key_id id) (primary_same id ts ls a.1))
+    where
+      here : (b : Bool) → key_in (entry_of_id id ts) ≡ key_of_id id ls → key_in (cond b (Some t) (entry_of_id id ts)) ≡ cond b (Some l.key) (key_of_id id ls)
+      here true later = ap Some a.0.key
+      here false later = later
+
+  raw_same : (ts : List Typed) (ls : List LoadedKey) → AreKeys ts ls → keys_in (filter (λ t. bytes_eq (typed_prefix_of t) []) ts) ≡ map (λ l. l.key) (filter is_raw ls)
+  raw_same [] [] a = refl
+  raw_same [] (l ∷ ls) a = absurd a
+  raw_same (t ∷ ts) [] a = absurd a
+  raw_same (t ∷ ts) (l ∷ ls) a = rw (sym a.0.raw) (here (bytes_eq t.prefix []) (raw_same ts ls a.1))
+    where
+      raws : List Typed
+      raws = filter (λ x. bytes_eq (typed_prefix_of x) []) ts
+
+      here : (b : Bool) → keys_in raws ≡ map (λ x. x.key) (filter is_raw ls) → keys_in (cond b (t ∷ raws) raws) ≡ map (λ x. x.key) (cond b (l ∷ filter is_raw ls) (filter is_raw ls))
+      here true later = ap (λ k. k ∷ keys_in raws) a.0.key ∙ ap (λ ks. l.key ∷ ks) later
+      here false later = later
+
+  -- ---- the whole
+
+  -- typed entries, and what is loaded
+  abbrev LoadsAs : ℕ → Result (List Typed) Kind → Result Loaded Kind → Type 0
+  LoadsAs id (Ok ts) loaded = (ls : List LoadedKey) × (loaded ≡ with_primary ls (key_of_id id ls)) × AreKeys ts ls
+  LoadsAs id (Err kind) loaded = loaded ≡ Err kind
+
+  from_keys : (id : ℕ) (ts : Result (List Typed) Kind) (ls : Result (List LoadedKey) Kind) → AllKeys ts ls → LoadsAs id ts (ls then λ keys. with_primary keys (key_of_id id keys))
+  from_keys id (Ok ts) ls a = rw a.1 (a.0, refl, a.2)
+  from_keys id (Err kind) ls a = rw a refl
+
+  from_built : (id : ℕ) (es : List One) (bs : List EnabledKey) → AreAlike es bs → LoadsAs id (typed_entries as_streaming_aead id (Ok es)) (load_built id bs)
+  from_built id es bs a = rw (some_has_id id es bs a) (here (list_any (λ b. nat_eq b.id id) bs))
+    where
+      here : (b : Bool) → LoadsAs id (cond b (converted (typed_by as_streaming_aead) es) (Err NoPrimary)) (cond b (streaming_keys bs then λ keys. with_primary keys (key_of_id id keys)) (Err NoPrimary))
+      here true = from_keys id _ _ (keys_same es bs a)
+      here false = refl
+
+  from_entries : (id : ℕ) (es : Result (List One) Kind) (bs : Result (List EnabledKey) Kind) → AllSame es bs → LoadsAs id (typed_entries as_streaming_aead id es) (bs then λ built. load_built id built)
+  from_entries id (Ok es) bs s = rw s.1 (from_built id es s.0 s.2)
+  from_entries id (Err kind) bs s = rw s refl
+
+  loads_as : (ks : Keyset) → IsValid ks → LoadsAs ks.primary_key_id (typed_entries as_streaming_aead ks.primary_key_id (built_entries url supports builds entry_of managers None ks)) (load_keys rows ks)
+  loads_as ks valid =
+      let validated = (and_parts (is_held_keyset ks) (is_validated ks) valid).1 in
+      rw validated (from_entries ks.primary_key_id _ _ (all_same ks.key (well_formed_keys ks validated)))
+
+  -- the set of what was built has the keys that are loaded
+  module _ {G : Type 0} (id : ℕ) (primary : Option Typed) (groups : BTreeMap (Vec ℕ G) (List Typed)) (there : is_some primary ≡ true) where
+    is_held_by : (ts : List Typed) (ls : List LoadedKey) (loaded : Result Loaded Kind) → HasEntries typed_prefix_of (λ t. t.key_id) id ts primary groups → AreKeys ts ls → loaded ≡ with_primary ls (key_of_id id ls) → made_of held loaded ≡ Ok (set_keys primary groups)
+    is_held_by ts ls loaded has are is = by_primary primary there (ap key_in has.by_id ∙ primary_same id ts ls are)
+      where
+        raw : map (λ l. l.key) (filter is_raw ls) ≡ keys_in (group_of groups [])
+        raw = sym (ap keys_in (has.by_prefix []) ∙ raw_same ts ls are)
+
+        by_primary : (o : Option Typed) → is_some o ≡ true → key_in o ≡ key_of_id id ls → made_of held loaded ≡ Ok (set_keys o groups)
+        by_primary None some same = absurd (cc)
+        by_primary (Some t) some same =
+            let with_raw : List StreamKey → Result Wrapped Kind = λ ks. Ok (record { primary = Some (key_of t.primitive); raw = ks }) in
+            ap (made_of held) (is ∙ ap (with_primary ls) (sym same)) ∙ ap with_raw raw
+
+    pub set_loaded : (ks : Keyset) → IsValid ks → id ≡ ks.primary_key_id → (ts : List Typed)
+        → typed_entries as_streaming_aead ks.primary_key_id (built_entries url supports builds entry_of managers None ks) ≡ Ok ts
+        → HasEntries typed_prefix_of (λ t. t.key_id) id ts primary groups → made_of held (load_keys rows ks) ≡ Ok (set_keys primary groups)
+    set_loaded ks valid same ts told has =
+        let all = subst (λ r. LoadsAs ks.primary_key_id r (load_keys rows ks)) told (loads_as ks valid) in
+        is_held_by ts all.0 (load_keys rows ks) has all.2 (rw same all.1)
+
+  pub not_loaded : (ks : Keyset) (kind : Kind) → IsValid ks → typed_entries as_streaming_aead ks.primary_key_id (built_entries url supports builds entry_of managers None ks) ≡ Err kind → made_of held (load_keys rows ks) ≡ Err kind
+  not_loaded ks kind valid told =
+      let all : load_keys rows ks ≡ Err kind = subst (λ r. LoadsAs ks.primary_key_id r (load_keys rows ks)) told (loads_as ks valid) in
+      ap (made_of held) all
+
+  -- what the typed set of a valid keyset answers
+  pub set_answers : (ks : Keyset) → IsValid ks → (r : Result (TypedPrimitiveSet StreamKind) TinkError)
+      → GivesSet (λ ts set. HasEntries typed_prefix_of (λ t. t.key_id) ks.primary_key_id ts set.primary set.entries) r (typed_entries as_streaming_aead ks.primary_key_id (built_entries url supports builds entry_of managers None ks))
+      → IfOk r (λ set. is_some set.primary ≡ true) → Answers (keys_held r) (made_of held (load_keys rows ks))
+  set_answers ks valid (Ok set) given there = set_loaded ks.primary_key_id set.primary set.entries there ks valid refl given.0 given.1 given.2
+  set_answers ks valid (Err e) given there = ⊎_elim inl (λ is. inr (not_loaded ks e.kind valid is)) given
