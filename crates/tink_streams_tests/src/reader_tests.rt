@@ -110,12 +110,13 @@ fn expect_reads(
 
 // Puts what reads of ten bytes give up to the end behind each other: how many bytes, and by what they are refused.
 fn given(reader: &mut MemReader, text: &mut [u8; 60]) -> (usize, Option<Kind>) {
-    let mut n = 0;
-    while n < 50 {
-        match reader.read(&mut text[n..n + 10]) {
-            Ok(0) => return (n, None),
-            Ok(count) => n += count,
-            Err(e) => return (n, Some(e.kind)),
+    let mut n = 0usize;
+    for _ in 0..100 {
+        let at = n.min(50);
+        match reader.read(&mut text[at..at + 10]) {
+            Ok(0) => return (at, None),
+            Ok(count) => n = at + count,
+            Err(e) => return (at, Some(e.kind)),
         }
     }
     (n, Some(Kind::TooManySegments))
