@@ -9,7 +9,7 @@ use Rattle.tink_io.specs.declared.error.Kind.TheVariants.{ReadFault, WriteFault,
 use Rattle.tink_io.specs.declared.error.Kind.TheVariants as kind
 use Rattle.stream_model.specs.Cut.{full_chunks}
 use Rattle.stream_model.proofs.CutFacts.{full_chunks_more}
-use Rattle.tink_streams.specs.Writing.{Moment, Wrote, WriteRefused}
+use Rattle.tink_streams.specs.Writing.{WriterMoment, Wrote, WriteRefused}
 use Rattle.tink_streams.proofs.WritingFacts.{IsFresh, fresh_filled, wrote_nothing, wrote_more, refused_more}
 use Rattle.tink_run.specs.SealSteps.{IsPoured, PourRefused}
 
@@ -31,18 +31,18 @@ within (suc n) a b R h p q = elim (fits_or_not (length R) a) [
 ]
 
 -- what was written by a writer that is still open is a text of 64 bits
-pub few_bytes : (seg : ℕ → Bool → List ℕ → List ℕ) (a b : ℕ) (m n : Moment) (R : List ℕ) → 0 < a → a ≤ b → b < 2 ^ 32 → IsFresh m → Wrote seg a b m n R → length R < 2 ^ 64
+pub few_bytes : (seg : ℕ → Bool → List ℕ → List ℕ) (a b : ℕ) (m n : WriterMoment) (R : List ℕ) → 0 < a → a ≤ b → b < 2 ^ 32 → IsFresh m → Wrote seg a b m n R → length R < 2 ^ 64
 few_bytes seg a b m n R p q small f w =
     let count : length (full_chunks a b R) < 2 ^ 32 = omega (arith, w.few, w.counted, ap length (fresh_filled a b m R f)) in
     let most : b * length (full_chunks a b R) ≤ (2 ^ 32 - 1) * (2 ^ 32 - 1) = mul-le-mul {n₁ = b} {m₁ = length (full_chunks a b R)} {n₂ = 2 ^ 32 - 1} {m₂ = 2 ^ 32 - 1} (omega arith) (omega arith) in
     omega (arith, within (length R) a b R (omega arith) p q)
 
 -- nothing was read yet
-pub poured_none : (seg : ℕ → Bool → List ℕ → List ℕ) (a b : ℕ) (s : Option (List ℕ)) (m : Moment) → IsFresh m → IsPoured seg a b s s m m 0
+pub poured_none : (seg : ℕ → Bool → List ℕ → List ℕ) (a b : ℕ) (s : Option (List ℕ)) (m : WriterMoment) → IsFresh m → IsPoured seg a b s s m m 0
 poured_none seg a b s m f = record { text = []; read = Consumes-nil s; wrote = wrote_nothing seg a b m f; bytes_are = refl }
 
 -- one piece more
-pub poured_more : (seg : ℕ → Bool → List ℕ → List ℕ) (a b : ℕ) (s t u : Option (List ℕ)) (m n o : Moment) (bytes more : ℕ) (piece : List ℕ) → 0 < a → 0 < b → IsPoured seg a b s t m n bytes → Consumes t u piece → Wrote seg a b n o piece → more ≡ length piece
+pub poured_more : (seg : ℕ → Bool → List ℕ → List ℕ) (a b : ℕ) (s t u : Option (List ℕ)) (m n o : WriterMoment) (bytes more : ℕ) (piece : List ℕ) → 0 < a → 0 < b → IsPoured seg a b s t m n bytes → Consumes t u piece → Wrote seg a b n o piece → more ≡ length piece
     → IsPoured seg a b s u m o (bytes + more)
 poured_more seg a b s t u m n o bytes more piece p q x c w e = record {
   text = x.text ++ piece;
@@ -52,7 +52,7 @@ poured_more seg a b s t u m n o bytes more piece p q x c w e = record {
 }
 
 -- the writer refused a piece
-pub pour_refused : (seg : ℕ → Bool → List ℕ → List ℕ) (a b : ℕ) (s t u : Option (List ℕ)) (i j : ℕ) (m n o : Moment) (bytes : ℕ) (piece : List ℕ) (k : Kind) → 0 < a → 0 < b → m.faults ≤ n.faults → IsPoured seg a b s t m n bytes → Consumes t u piece → WriteRefused seg a b n o piece k
+pub pour_refused : (seg : ℕ → Bool → List ℕ → List ℕ) (a b : ℕ) (s t u : Option (List ℕ)) (i j : ℕ) (m n o : WriterMoment) (bytes : ℕ) (piece : List ℕ) (k : Kind) → 0 < a → 0 < b → m.faults ≤ n.faults → IsPoured seg a b s t m n bytes → Consumes t u piece → WriteRefused seg a b n o piece k
     → PourRefused seg a b s u i j m o k
 pour_refused seg a b s t u i j m n o bytes piece WriteFault p q later x c r =
     record { text = x.text ++ piece; read = Consumes-trans s t u x.text piece x.read c; refused = refused_more seg a b m n o x.text piece WriteFault p q later x.wrote r }

@@ -16,7 +16,7 @@ use Rattle.stream_model.specs.Agree.{AreTexts, Agree, Leads, joined}
 use Rattle.stream_model.proofs.CutFacts.{cut_some}
 use Rattle.stream_model.proofs.AgreeFacts.{joined-append}
 use Rattle.tink_streams.specs.declared.progress.Progress.TheVariants.{Ended}
-use Rattle.tink_streams.specs.Reading.{Moment, TellsLeads, HasNotFailed, OpensNext, OpenRefused, chunk_at}
+use Rattle.tink_streams.specs.Reading.{ReaderMoment, TellsLeads, HasNotFailed, OpensNext, OpenRefused, chunk_at}
 use Rattle.tink_streams.proofs.ReadingFacts.{Opened, opened_none, opened_more, opened_all, opened_agree, at_next_chunk}
 use Rattle.tink_run.specs.declared.report.Report.{Report}
 use Rattle.tink_run.specs.Outside.{Outside}
@@ -24,7 +24,7 @@ use Rattle.tink_run.specs.OpenSteps.{FirstRefused, IsReadOut, Breaks, ReaderRefu
 use Rattle.tink_run.proofs.OpenLemmas.{whole_front, kept_front}
 
 -- of the texts that were opened, all but the last were written
-pub record IsReading (seg : ℕ → Bool → List ℕ → List ℕ) (a b : ℕ) (all before now : Option (List ℕ)) (m : Moment) (bytes : ℕ) : Type 0 where
+pub record IsReading (seg : ℕ → Bool → List ℕ → List ℕ) (a b : ℕ) (all before now : Option (List ℕ)) (m : ReaderMoment) (bytes : ℕ) : Type 0 where
   pub texts : List (List ℕ)
   pub opened : Opened seg a b all (texts ++ (m.opened ∷ [])) m
   pub lives : HasNotFailed m.progress
@@ -75,7 +75,7 @@ told_more None P Q f p = tt
 told_more (Some X) P Q f p = f X p
 
 -- what holds of the next chunk holds of the chunk of the next number
-of_number : (seg : ℕ → Bool → List ℕ → List ℕ) (a b : ℕ) (all : Option (List ℕ)) (texts : List (List ℕ)) (m : Moment) (n : ℕ) (P : List ℕ → Type 0) → 0 < a → 0 < b → n ≡ m.number → Opened seg a b all texts m
+of_number : (seg : ℕ → Bool → List ℕ → List ℕ) (a b : ℕ) (all : Option (List ℕ)) (texts : List (List ℕ)) (m : ReaderMoment) (n : ℕ) (P : List ℕ → Type 0) → 0 < a → 0 < b → n ≡ m.number → Opened seg a b all texts m
     → IfSome m.rest (λ Y. P (chunk_at a b m.number Y)) → IfSome all (λ X. P (get_or (cut a b X) n []))
 of_number seg a b all texts m n P p q same o h = subst (λ k. IfSome all (λ X. P (get_or (cut a b X) k []))) (sym (same ∙ o.number)) (at_next_chunk seg a b all texts m P p q o h)
 
@@ -101,7 +101,7 @@ ended_left [] (Some Z) e = append_none Z e
 ended_left (x ∷ held) (Some Z) e = absurd (omega (arith, ap length e, length-append (x ∷ held) Z))
 
 -- the first segment was opened
-pub reading_first : (seg : ℕ → Bool → List ℕ → List ℕ) (a b : ℕ) (got : Option (List ℕ)) (m n : Moment) → m.number ≡ 0 → OpensNext seg a b m n → length n.opened < 2 ^ 32 → IsReading seg a b m.rest got got n 0
+pub reading_first : (seg : ℕ → Bool → List ℕ → List ℕ) (a b : ℕ) (got : Option (List ℕ)) (m n : ReaderMoment) → m.number ≡ 0 → OpensNext seg a b m n → length n.opened < 2 ^ 32 → IsReading seg a b m.rest got got n 0
 reading_first seg a b got m n z next small = record {
   texts = [];
   opened = opened_more seg a b m.rest [] m n (opened_none seg a b m z) next;
@@ -114,7 +114,7 @@ reading_first seg a b got m n z next small = record {
 }
 
 -- one segment more
-pub reading_next : (seg : ℕ → Bool → List ℕ → List ℕ) (a b : ℕ) (all before now later : Option (List ℕ)) (m n : Moment) (bytes : ℕ) → IsReading seg a b all before now m bytes → Appends now later m.opened → OpensNext seg a b m n → length n.opened < 2 ^ 32
+pub reading_next : (seg : ℕ → Bool → List ℕ → List ℕ) (a b : ℕ) (all before now later : Option (List ℕ)) (m n : ReaderMoment) (bytes : ℕ) → IsReading seg a b all before now m bytes → Appends now later m.opened → OpensNext seg a b m n → length n.opened < 2 ^ 32
     → IsReading seg a b all before later n (bytes + length m.opened)
 reading_next seg a b all before now later m n bytes r w next small = record {
   texts = r.texts ++ (m.opened ∷ []);
@@ -128,7 +128,7 @@ reading_next seg a b all before now later m n bytes r w next small = record {
 }
 
 -- the last text was written
-pub read_out : (seg : ℕ → Bool → List ℕ → List ℕ) (a b : ℕ) (old new : Outside) (now : Option (List ℕ)) (m : Moment) (bytes : ℕ) (held : List ℕ) (report : Report) → IsReading seg a b old.left old.got now m bytes → Appends now new.got m.opened → m.progress ≡ Ended → m.rest ≡ prepend_known held new.left
+pub read_out : (seg : ℕ → Bool → List ℕ → List ℕ) (a b : ℕ) (old new : Outside) (now : Option (List ℕ)) (m : ReaderMoment) (bytes : ℕ) (held : List ℕ) (report : Report) → IsReading seg a b old.left old.got now m bytes → Appends now new.got m.opened → m.progress ≡ Ended → m.rest ≡ prepend_known held new.left
     → report.segments ≡ m.number → report.bytes ≡ bytes + length m.opened → IsReadOut seg a b old new report
 read_out seg a b old new now m bytes held report r w ended rest segments total = record {
   texts = r.texts ++ (m.opened ∷ []);
@@ -142,7 +142,7 @@ read_out seg a b old new now m bytes held report r w ended rest segments total =
 }
 
 -- the sink failed in the text that was opened last
-pub write_failed : (seg : ℕ → Bool → List ℕ → List ℕ) (a b : ℕ) (old new : Outside) (now : Option (List ℕ)) (m : Moment) (bytes faults : ℕ) → IsReading seg a b old.left old.got now m bytes → AppendsFront now new.got m.opened → old.write_faults ≤ faults → Rose faults new.write_faults
+pub write_failed : (seg : ℕ → Bool → List ℕ → List ℕ) (a b : ℕ) (old new : Outside) (now : Option (List ℕ)) (m : ReaderMoment) (bytes faults : ℕ) → IsReading seg a b old.left old.got now m bytes → AppendsFront now new.got m.opened → old.write_faults ≤ faults → Rose faults new.write_faults
     → Breaks seg a b old new × Rose old.write_faults new.write_faults
 write_failed seg a b old new now m bytes faults r w later rose = (
   record {
@@ -154,7 +154,7 @@ write_failed seg a b old new now m bytes faults r w later rose = (
 )
 
 -- the reader refused the next segment
-pub next_refused : (seg : ℕ → Bool → List ℕ → List ℕ) (a b overhead : ℕ) (old new : Outside) (now : Option (List ℕ)) (m n : Moment) (bytes : ℕ) (kind : Kind) → 0 < a → 0 < b → IsReading seg a b old.left old.got now m bytes → Appends now new.got m.opened
+pub next_refused : (seg : ℕ → Bool → List ℕ → List ℕ) (a b overhead : ℕ) (old new : Outside) (now : Option (List ℕ)) (m n : ReaderMoment) (bytes : ℕ) (kind : Kind) → 0 < a → 0 < b → IsReading seg a b old.left old.got now m bytes → Appends now new.got m.opened
     → old.read_faults ≤ m.faults → n.faults ≤ new.read_faults → OpenRefused seg a b overhead m n kind → ReaderRefused seg a b overhead old new kind
 next_refused seg a b overhead old new now m n bytes ReadFault p q r w later more x = (
   record {
@@ -196,7 +196,7 @@ any_told None = tt
 any_told (Some X) = tt
 
 -- the reader refused the first segment
-pub first_refused : (seg : ℕ → Bool → List ℕ → List ℕ) (a b overhead : ℕ) (old new : Outside) (m n : Moment) (kind : Kind) → m.number ≡ 0 → m.rest ≡ old.left → old.read_faults ≤ m.faults → n.faults ≤ new.read_faults → Keeps old.got new.got → FirstRefused seg a b m n kind
+pub first_refused : (seg : ℕ → Bool → List ℕ → List ℕ) (a b overhead : ℕ) (old new : Outside) (m n : ReaderMoment) (kind : Kind) → m.number ≡ 0 → m.rest ≡ old.left → old.read_faults ≤ m.faults → n.faults ≤ new.read_faults → Keeps old.got new.got → FirstRefused seg a b m n kind
     → ReaderRefused seg a b overhead old new kind
 first_refused seg a b overhead old new m n NoMatchingKey z same later more w x = record {
   nothing = subst (λ (o : Option (List ℕ)). IfSome o (λ X. Agree seg 0 (cut a b X) [])) same (subst (λ (k : ℕ). IfSome m.rest (λ X. Agree seg k (cut (room_at a b k) b X) [])) z x);

@@ -18,7 +18,7 @@ use Rattle.tink_stream_keys.specs.Encrypting.{DrewHeader, IsNewStream, NewWriter
 use Rattle.tink_stream_keys.specs.StreamingKeys.{deriving_hash}
 use Rattle.stream_model.specs.Sealing.{stream, part, longest_part, sealed_under, unmarked_under, salt_of, prefix_of}
 use Rattle.stream_model.proofs.SealingFacts.{length-chunks}
-use Rattle.tink_streams.specs.Writing.{Moment, Wrote, WroteFront, WroteAll, ClosedBy, ClosedShort, CloseMeans, CloseRefused}
+use Rattle.tink_streams.specs.Writing.{WriterMoment, Wrote, WroteFront, WroteAll, ClosedBy, ClosedShort, CloseMeans, CloseRefused}
 use Rattle.tink_streams.proofs.WritingFacts.{IsFresh, fresh_filled, closed_whole, closed_front, stops_front}
 use Rattle.tink_run.specs.Loading.{Loaded}
 use Rattle.tink_run.specs.AllKeys.{load}
@@ -46,14 +46,14 @@ module _ (k : StreamKey) (aad salt prefix keys : List ℕ) (e : keys_of k aad sa
   longest_is text = ap (λ o. front k salt prefix ++ unmarked_under k o prefix (take (2 ^ 32 - 1) (full_chunks (first_room k) (room k) text))) (sym e)
 
   -- what a fresh writer wrote of a text, behind the front
-  wrote_part : (a : Option (List ℕ)) (m n : Moment) (text : List ℕ) → IsFresh m → Appends a m.got (front k salt prefix) → Wrote seg (first_room k) (room k) m n text → Appends a n.got (part k aad salt prefix text)
+  wrote_part : (a : Option (List ℕ)) (m n : WriterMoment) (text : List ℕ) → IsFresh m → Appends a m.got (front k salt prefix) → Wrote seg (first_room k) (room k) m n text → Appends a n.got (part k aad salt prefix text)
   wrote_part a m n text f w p =
       let chunks = fresh_filled (first_room k) (room k) m text f in
       subst (Appends a n.got) (ap (λ i. front k salt prefix ++ unmarked seg i (full_chunks (first_room k) (room k) text)) f.number ∙ part_is text)
       (Appends-trans a m.got n.got (front k salt prefix) (unmarked seg m.number (full_chunks (first_room k) (room k) text)) w (subst (λ (cs : List (List ℕ)). Appends m.got n.got (unmarked seg m.number cs)) chunks p.appended))
 
   -- the source failed
-  pub source_failed : (old new : Outside) (m n : Moment) (text : List ℕ) → IsFresh m → Appends old.got m.got (front k salt prefix) → Wrote seg (first_room k) (room k) m n text → new.got ≡ n.got → Consumes old.left new.left text → Rose old.read_faults new.read_faults
+  pub source_failed : (old new : Outside) (m n : WriterMoment) (text : List ℕ) → IsFresh m → Appends old.got m.got (front k salt prefix) → Wrote seg (first_room k) (room k) m n text → new.got ≡ n.got → Consumes old.left new.left text → Rose old.read_faults new.read_faults
       → SourceFailed k aad salt prefix old new
   source_failed old new m n text f w p same read rose = record {
     text = text;
@@ -63,7 +63,7 @@ module _ (k : StreamKey) (aad salt prefix keys : List ℕ) (e : keys_of k aad sa
   }
 
   -- the sink failed in an unmarked segment
-  pub sink_failed : (old new : Outside) (m n : Moment) (text : List ℕ) → IsFresh m → Appends old.got m.got (front k salt prefix) → WroteFront seg (first_room k) (room k) m n text → new.got ≡ n.got → Consumes old.left new.left text
+  pub sink_failed : (old new : Outside) (m n : WriterMoment) (text : List ℕ) → IsFresh m → Appends old.got m.got (front k salt prefix) → WroteFront seg (first_room k) (room k) m n text → new.got ≡ n.got → Consumes old.left new.left text
       → old.write_faults ≤ m.faults → n.faults ≤ new.write_faults → SinkFailed k aad salt prefix old new
   sink_failed old new m n text f w p same read later more =
       let chunks = fresh_filled (first_room k) (room k) m text f in
@@ -89,7 +89,7 @@ module _ (k : StreamKey) (aad salt prefix keys : List ℕ) (e : keys_of k aad sa
   }
 
   -- the text has too many chunks
-  pub too_long : (old new : Outside) (m n : Moment) (text : List ℕ) → IsFresh m → Appends old.got m.got (front k salt prefix) → WroteAll seg (first_room k) (room k) m n text → new.got ≡ n.got → Consumes old.left new.left text → IsTooLong k aad salt prefix old new
+  pub too_long : (old new : Outside) (m n : WriterMoment) (text : List ℕ) → IsFresh m → Appends old.got m.got (front k salt prefix) → WroteAll seg (first_room k) (room k) m n text → new.got ≡ n.got → Consumes old.left new.left text → IsTooLong k aad salt prefix old new
   too_long old new m n text f w p same read =
       let chunks_are = fresh_filled (first_room k) (room k) m text f in
       let all : Appends m.got n.got (unmarked seg 0 (take (2 ^ 32 - 1) (full_chunks (first_room k) (room k) text))) =
@@ -105,7 +105,7 @@ module _ (k : StreamKey) (aad salt prefix keys : List ℕ) (e : keys_of k aad sa
       }
 
   -- the writer closed
-  pub sealed_all : (old new : Outside) (m n o : Moment) (text : List ℕ) (report : Report) → IsFresh m → Appends old.got m.got (front k salt prefix) → Wrote seg (first_room k) (room k) m n text → ClosedBy seg n o → new.got ≡ o.got → Consumes old.left new.left text → IsAtEnd new.left
+  pub sealed_all : (old new : Outside) (m n o : WriterMoment) (text : List ℕ) (report : Report) → IsFresh m → Appends old.got m.got (front k salt prefix) → Wrote seg (first_room k) (room k) m n text → ClosedBy seg n o → new.got ≡ o.got → Consumes old.left new.left text → IsAtEnd new.left
       → report.segments ≡ o.number → report.bytes ≡ length text → n.number < 2 ^ 32 → IsSealed k aad salt prefix old new report
   sealed_all old new m n o text report f w p c same read end number bytes few =
       let whole = closed_whole seg (first_room k) (room k) m n o text f p c in
@@ -121,7 +121,7 @@ module _ (k : StreamKey) (aad salt prefix keys : List ℕ) (e : keys_of k aad sa
       }
 
   -- the sink failed in the marked segment
-  pub close_failed : (old new : Outside) (m n o : Moment) (text : List ℕ) → IsFresh m → Appends old.got m.got (front k salt prefix) → Wrote seg (first_room k) (room k) m n text → ClosedShort seg n o → new.got ≡ o.got → Consumes old.left new.left text → IsAtEnd new.left
+  pub close_failed : (old new : Outside) (m n o : WriterMoment) (text : List ℕ) → IsFresh m → Appends old.got m.got (front k salt prefix) → Wrote seg (first_room k) (room k) m n text → ClosedShort seg n o → new.got ≡ o.got → Consumes old.left new.left text → IsAtEnd new.left
       → old.write_faults ≤ n.faults → o.faults ≤ new.write_faults → SinkFailed k aad salt prefix old new
   close_failed old new m n o text f w p c same read end later more = record {
     text = text;
@@ -149,7 +149,7 @@ under_keyset keyset aad draws left_draws l old new (Err err) e u = go err.kind u
     go _ r = absurd r
 
 -- what pouring refused
-pub pour_refusal : (k : StreamKey) (aad salt prefix keys : List ℕ) (e : keys_of k aad salt ≡ Some keys) (seg : ℕ → Bool → List ℕ → List ℕ) (a b : ℕ) (left after got : Option (List ℕ)) (reads again writes : ℕ) (m n : Moment) (kind : Kind)
+pub pour_refusal : (k : StreamKey) (aad salt prefix keys : List ℕ) (e : keys_of k aad salt ≡ Some keys) (seg : ℕ → Bool → List ℕ → List ℕ) (a b : ℕ) (left after got : Option (List ℕ)) (reads again writes : ℕ) (m n : WriterMoment) (kind : Kind)
     → seg ≡ segment_at k keys prefix → a ≡ first_room k → b ≡ room k → IsFresh m → Appends got m.got (front k salt prefix) → writes ≤ m.faults → PourRefused seg a b left after reads again m n kind
     → StreamRefused k aad salt prefix (record { left = left; read_faults = reads; got = got; write_faults = writes }) (record { left = after; read_faults = again; got = n.got; write_faults = n.faults }) kind
 pour_refusal k aad salt prefix keys e seg a b left after got reads again writes m n kind s p q f w later r =
@@ -163,7 +163,7 @@ pour_refusal k aad salt prefix keys e seg a b left after got reads again writes 
     go _ x = absurd x
 
 -- what closing says, after all was poured
-pub close_answer : (k : StreamKey) (aad salt prefix keys : List ℕ) (e : keys_of k aad salt ≡ Some keys) (seg : ℕ → Bool → List ℕ → List ℕ) (a b : ℕ) (left after got : Option (List ℕ)) (reads again writes : ℕ) (m n o : Moment) (bytes : ℕ)
+pub close_answer : (k : StreamKey) (aad salt prefix keys : List ℕ) (e : keys_of k aad salt ≡ Some keys) (seg : ℕ → Bool → List ℕ → List ℕ) (a b : ℕ) (left after got : Option (List ℕ)) (reads again writes : ℕ) (m n o : WriterMoment) (bytes : ℕ)
     → seg ≡ segment_at k keys prefix → a ≡ first_room k → b ≡ room k → IsFresh m → Appends got m.got (front k salt prefix) → IsPoured seg a b left after m n bytes → IsAtEnd after → writes ≤ n.faults
     → ((kind : Kind) → CloseRefused seg n o kind → StreamRefused k aad salt prefix (record { left = left; read_faults = reads; got = got; write_faults = writes }) (record { left = after; read_faults = again; got = o.got; write_faults = o.faults }) kind)
     × (CloseMeans seg n o (Ok tt) → (report : Report) → report.segments ≡ o.number → report.bytes ≡ bytes
@@ -252,7 +252,7 @@ module _ {W : Type 0} (got : W → Option (List ℕ)) (faults : W → ℕ) (k : 
       go _ r early = absurd r
 
 -- a seal that has begun to read is not refused early
-pub pour_leaves : {S K : Type 0} (seg : ℕ → Bool → List ℕ → List ℕ) (a b : ℕ) (before after : Option (List ℕ)) (reads again : ℕ) (m n : Moment) (e : TinkError) (s t : S) (k l : K)
+pub pour_leaves : {S K : Type 0} (seg : ℕ → Bool → List ℕ → List ℕ) (a b : ℕ) (before after : Option (List ℕ)) (reads again : ℕ) (m n : WriterMoment) (e : TinkError) (s t : S) (k l : K)
     → PourRefused seg a b before after reads again m n e.kind → LeavesEnds (Err e) s t k l
 pour_leaves seg a b before after reads again m n e s t k l r = go e.kind r
   where
@@ -262,7 +262,7 @@ pour_leaves seg a b before after reads again m n e s t k l r = go e.kind r
     go TooManySegments r early = absurd early
     go _ r early = absurd r
 
-pub close_leaves : {S K : Type 0} (seg : ℕ → Bool → List ℕ → List ℕ) (m n : Moment) (e : TinkError) (s t : S) (k l : K) → CloseRefused seg m n e.kind → LeavesEnds (Err e) s t k l
+pub close_leaves : {S K : Type 0} (seg : ℕ → Bool → List ℕ → List ℕ) (m n : WriterMoment) (e : TinkError) (s t : S) (k l : K) → CloseRefused seg m n e.kind → LeavesEnds (Err e) s t k l
 close_leaves seg m n e s t k l r = go e.kind r
   where
     go : (kind : Kind) → CloseRefused seg m n kind → IsEarly kind → (t ≡ s) × (l ≡ k)
@@ -271,7 +271,7 @@ close_leaves seg m n e s t k l r = go e.kind r
     go _ r early = absurd r
 
 -- a stream that was begun
-module _ (k : StreamKey) (aad draws left_draws : List ℕ) (got : Option (List ℕ)) (seg : ℕ → Bool → List ℕ → List ℕ) (a b : ℕ) (m : Moment) (begun : IsNewStream k aad draws left_draws got seg a b m) where
+module _ (k : StreamKey) (aad draws left_draws : List ℕ) (got : Option (List ℕ)) (seg : ℕ → Bool → List ℕ → List ℕ) (a b : ℕ) (m : WriterMoment) (begun : IsNewStream k aad draws left_draws got seg a b m) where
   fresh : IsFresh m
   fresh = record { mode = begun.is_open; number = begun.number; held = begun.held }
 
@@ -280,14 +280,14 @@ module _ (k : StreamKey) (aad draws left_draws : List ℕ) (got : Option (List �
   begun_answer old new answer means = under_way k aad draws left_draws old new answer (record { enough = begun.drew.enough; rest = begun.drew.rest; derives = λ none. let some = begun.keys_are in cc; means = means })
 
   -- pouring was refused
-  pub not_poured : (left after : Option (List ℕ)) (reads again writes : ℕ) (n : Moment) (e : TinkError) → writes ≤ m.faults → PourRefused seg a b left after reads again m n e.kind
+  pub not_poured : (left after : Option (List ℕ)) (reads again writes : ℕ) (n : WriterMoment) (e : TinkError) → writes ≤ m.faults → PourRefused seg a b left after reads again m n e.kind
       → UnderMeans k aad draws left_draws (record { left = left; read_faults = reads; got = got; write_faults = writes }) (record { left = after; read_faults = again; got = n.got; write_faults = n.faults }) (Err e)
   not_poured left after reads again writes n e later r =
       begun_answer _ _ (Err e)
       (pour_refusal k aad (salt_of k draws) (prefix_of k draws) begun.keys begun.keys_are seg a b left after got reads again writes m n e.kind begun.segments begun.first_is begun.later_is fresh begun.written later r)
 
   -- all was poured, and the writer was closed or not
-  module _ (left after : Option (List ℕ)) (reads again writes : ℕ) (n o : Moment) (bytes : ℕ) (poured : IsPoured seg a b left after m n bytes) (end : IsAtEnd after) (later : writes ≤ n.faults) where
+  module _ (left after : Option (List ℕ)) (reads again writes : ℕ) (n o : WriterMoment) (bytes : ℕ) (poured : IsPoured seg a b left after m n bytes) (end : IsAtEnd after) (later : writes ≤ n.faults) where
     abbrev answers : ((kind : Kind) → CloseRefused seg n o kind → StreamRefused k aad (salt_of k draws) (prefix_of k draws) (record { left = left; read_faults = reads; got = got; write_faults = writes }) (record { left = after; read_faults = again; got = o.got; write_faults = o.faults }) kind)
         × (CloseMeans seg n o (Ok tt) → (report : Report) → report.segments ≡ o.number → report.bytes ≡ bytes
         → IsSealed k aad (salt_of k draws) (prefix_of k draws) (record { left = left; read_faults = reads; got = got; write_faults = writes }) (record { left = after; read_faults = again; got = o.got; write_faults = o.faults }) report)

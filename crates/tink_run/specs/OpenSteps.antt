@@ -9,18 +9,18 @@ use Rattle.tink_io.specs.declared.error.TinkError.{TinkError}
 use Rattle.stream_model.specs.Cut.{cut}
 use Rattle.stream_model.specs.Agree.{AreTexts, Agree, Leads, joined}
 use Rattle.stream_model.specs.Opening.{OpeningKey}
-use Rattle.tink_streams.specs.Reading.{Moment, OpensNext, NothingComes}
+use Rattle.tink_streams.specs.Reading.{ReaderMoment, OpensNext, NothingComes}
 use Rattle.tink_run.specs.declared.report.Report.{Report}
 use Rattle.tink_run.specs.Outside.{Outside, IsUntouched}
 use Rattle.tink_run.specs.OpenAnswers.{IsOpened, StreamRefused}
 
 -- the first segment: where it is the segment of no text, the stream doesn't begin under the reader's key
-abbrev pub FirstRefused : (ℕ → Bool → List ℕ → List ℕ) → ℕ → ℕ → Moment → Moment → Kind → Type 0
+abbrev pub FirstRefused : (ℕ → Bool → List ℕ → List ℕ) → ℕ → ℕ → ReaderMoment → ReaderMoment → Kind → Type 0
 FirstRefused seg a b old new NoMatchingKey = NothingComes seg a b old
 FirstRefused seg a b old new ReadFault = Rose old.faults new.faults
 FirstRefused seg a b old new _ = ⊥
 
-abbrev pub FirstMeans : (ℕ → Bool → List ℕ → List ℕ) → ℕ → ℕ → Moment → Moment → Result (Unit {0}) TinkError → Type 0
+abbrev pub FirstMeans : (ℕ → Bool → List ℕ → List ℕ) → ℕ → ℕ → ReaderMoment → ReaderMoment → Result (Unit {0}) TinkError → Type 0
 FirstMeans seg a b old new (Ok _) = OpensNext seg a b old new
 FirstMeans seg a b old new (Err e) = FirstRefused seg a b old new e.kind
 

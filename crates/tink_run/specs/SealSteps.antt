@@ -8,13 +8,13 @@ use Rattle.tink_io.specs.declared.error.Kind.TheVariants.{OutOfMemory, ReadFault
 use Rattle.tink_io.specs.declared.error.TinkError.{TinkError}
 use Rattle.stream_model.specs.Key.{StreamKey, keys_of}
 use Rattle.stream_model.specs.Sealing.{drawn, salt_of, prefix_of}
-use Rattle.tink_streams.specs.Writing.{Moment, Wrote, WroteFront, WroteAll}
+use Rattle.tink_streams.specs.Writing.{WriterMoment, Wrote, WroteFront, WroteAll}
 use Rattle.tink_run.specs.declared.report.Report.{Report}
 use Rattle.tink_run.specs.Outside.{Outside, IsUntouched}
 use Rattle.tink_run.specs.SealAnswers.{StreamMeans, WantsMemory}
 
 -- all that the source had left was read and written by a writer
-pub record IsPoured (seg : ℕ → Bool → List ℕ → List ℕ) (a b : ℕ) (before after : Option (List ℕ)) (old new : Moment) (bytes : ℕ) : Type 0 where
+pub record IsPoured (seg : ℕ → Bool → List ℕ → List ℕ) (a b : ℕ) (before after : Option (List ℕ)) (old new : WriterMoment) (bytes : ℕ) : Type 0 where
   pub text : List ℕ
   pub read : Consumes before after text
   pub wrote : Wrote seg a b old new text
@@ -26,13 +26,13 @@ pub record IsRefusedBy (before after : Option (List ℕ)) (P : List ℕ → Type
   pub read : Consumes before after text
   pub refused : P text
 
-abbrev pub PourRefused : (ℕ → Bool → List ℕ → List ℕ) → ℕ → ℕ → Option (List ℕ) → Option (List ℕ) → ℕ → ℕ → Moment → Moment → Kind → Type 0
+abbrev pub PourRefused : (ℕ → Bool → List ℕ → List ℕ) → ℕ → ℕ → Option (List ℕ) → Option (List ℕ) → ℕ → ℕ → WriterMoment → WriterMoment → Kind → Type 0
 PourRefused seg a b before after reads read_again old new ReadFault = IsRefusedBy before after (λ text. Wrote seg a b old new text) × Rose reads read_again
 PourRefused seg a b before after reads read_again old new WriteFault = IsRefusedBy before after (λ text. WroteFront seg a b old new text)
 PourRefused seg a b before after reads read_again old new TooManySegments = IsRefusedBy before after (λ text. WroteAll seg a b old new text)
 PourRefused seg a b before after reads read_again old new _ = ⊥
 
-abbrev pub PourMeans : (ℕ → Bool → List ℕ → List ℕ) → ℕ → ℕ → Option (List ℕ) → Option (List ℕ) → ℕ → ℕ → Moment → Moment → Result ℕ TinkError → Type 0
+abbrev pub PourMeans : (ℕ → Bool → List ℕ → List ℕ) → ℕ → ℕ → Option (List ℕ) → Option (List ℕ) → ℕ → ℕ → WriterMoment → WriterMoment → Result ℕ TinkError → Type 0
 PourMeans seg a b before after reads read_again old new (Ok bytes) = IsPoured seg a b before after old new bytes × IsAtEnd after
 PourMeans seg a b before after reads read_again old new (Err e) = PourRefused seg a b before after reads read_again old new e.kind
 

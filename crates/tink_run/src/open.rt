@@ -5,7 +5,7 @@ ghost use Rattle.stream_model.specs.Key.{nonce_size};
 ghost use Rattle.stream_model.specs.Opening as opening;
 ghost use Rattle.tink_io.specs.declared.error.Kind.TheVariants.{OutOfMemory};
 ghost use Rattle.tink_streams.specs.declared.progress.Progress.TheVariants.{Running};
-ghost use Rattle.tink_streams.specs.Reading.{Moment};
+ghost use Rattle.tink_streams.specs.Reading.{ReaderMoment};
 ghost use Rattle.tink_stream_keys.specs.StreamKinds.{key_of};
 ghost use Rattle.tink_run.specs.Outside.{outside_of};
 ghost use Rattle.tink_streaming_aead.specs.Wrapped.{keys_in};

@@ -2,7 +2,7 @@ ghost use Rattle.std.specs.Prelude.{◌≡◌, ◌≤◌, ◌<◌, [], length};
 ghost use Rattle.stream_model.specs.Cut.{numbered};
 ghost use Rattle.tink_streams.specs.declared.writing.Mode.TheVariants.{Open};
 ghost use Rattle.tink_stream_keys.specs.StreamKinds.{key_of};
-ghost use Rattle.tink_streams.specs.Writing.{Moment};
+ghost use Rattle.tink_streams.specs.Writing.{WriterMoment};
 ghost use Rattle.tink_run.specs.Outside.{outside_of};
 ghost use Rattle.tink_run.specs.Run.{LeavesEnds};
 ghost use Rattle.tink_run.specs.SealSteps.{PourMeans, UnderMeans, kind_not_begun};

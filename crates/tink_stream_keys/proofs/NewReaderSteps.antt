@@ -13,7 +13,7 @@ use Rattle.tink_segments.specs.declared.stream_segment.StreamSegment.{StreamSegm
 use Rattle.tink_stream_keys.specs.Decrypting.{HasNoHeader, IsNewReader, NewReaderRefused, ReadsHeader}
 use Rattle.tink_segments.specs.StreamSegments.{segment_by}
 use Rattle.tink_stream_keys.specs.StreamingKeys.{IsDerived, deriving_hash}
-use Rattle.tink_streams.specs.TextReading.{Moment}
+use Rattle.tink_streams.specs.TextReading.{TextMoment}
 use Rattle.tink_stream_keys.proofs.DerivedKeys.{derived_under}
 use Rattle.tink_stream_keys.proofs.NewWriterSteps.{hash_refusal}
 
@@ -50,7 +50,7 @@ reader_hash_refused left faults k old new header kind reads e = elim (hash_refus
 ]
 
 -- the segments under the header are opened from what is left behind it
-pub new_reader : (k : StreamKey) (aad : List ℕ) (before left : Option (List ℕ)) (H : List ℕ) (m : ℕ) (cipher decrypter : StreamSegment) (size : ℕ) (prefix : List ℕ) (a b over : ℕ) (held : List ℕ) (o : Moment)
+pub new_reader : (k : StreamKey) (aad : List ℕ) (before left : Option (List ℕ)) (H : List ℕ) (m : ℕ) (cipher decrypter : StreamSegment) (size : ℕ) (prefix : List ℕ) (a b over : ℕ) (held : List ℕ) (o : TextMoment)
     → ReadsHeader k before left H → m ≡ k.derived → IsDerived k aad (take m (drop 1 H)) cipher → decrypter ≡ cipher → size ≡ nonce_size k → prefix ≡ drop (k.derived + 1) H → a ≡ first_segment k → b ≡ k.segment → over ≡ overhead k
     → held ≡ [] → o.rest ≡ prepend_known held left → o.progress ≡ Running → o.number ≡ 0 → o.pending ≡ []
     → IsNewReader k aad before (numbered (segment_by decrypter) size prefix) a b over held o

@@ -18,7 +18,7 @@ use Rattle.tink_streams.specs.declared.writing.Mode.TheVariants.{Open}
 use Rattle.tink_stream_keys.specs.Encrypting.{DrewHeader, IsNewStream, NewWriterRefused, WroteFrontPart}
 use Rattle.tink_segments.specs.StreamSegments.{segment_by}
 use Rattle.tink_stream_keys.specs.StreamingKeys.{IsDerived, deriving_hash}
-use Rattle.tink_streams.specs.Writing.{Moment}
+use Rattle.tink_streams.specs.Writing.{WriterMoment}
 use Rattle.tink_stream_keys.proofs.HeaderFacts.{drawn_header, header_front, seg_is}
 use Rattle.stream_model.specs.Cut.{numbered}
 
@@ -66,7 +66,7 @@ module _ (k : StreamKey) (aad draws left h : List ℕ) (n m : ℕ) (cipher : Str
   }
 
   -- the front was written
-  pub new_stream : (before : Option (List ℕ)) (encrypter : StreamSegment) (size : ℕ) (prefix : List ℕ) (a b : ℕ) (o : Moment) → encrypter ≡ cipher → size ≡ nonce_size k → prefix ≡ drop (k.derived + 1) (take n h) → a ≡ first_room k → b ≡ room k
+  pub new_stream : (before : Option (List ℕ)) (encrypter : StreamSegment) (size : ℕ) (prefix : List ℕ) (a b : ℕ) (o : WriterMoment) → encrypter ≡ cipher → size ≡ nonce_size k → prefix ≡ drop (k.derived + 1) (take n h) → a ≡ first_room k → b ≡ room k
       → Appends before o.got (take n h) → o.mode ≡ Open → o.number ≡ 0 → o.held ≡ []
       → IsNewStream k aad draws left before (numbered (segment_by encrypter) size prefix) a b o
   new_stream before encrypter size prefix a b o e s p first later w mode number held = record {

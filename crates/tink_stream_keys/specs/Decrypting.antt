@@ -11,7 +11,7 @@ use Rattle.stream_model.specs.Opening.{opening_key}
 use Rattle.tink_streams.specs.Readers.{ReaderState, moment_of, seg_of}
 use Rattle.tink_segments.specs.StreamSegments.{segment_by}
 use Rattle.tink_stream_keys.specs.StreamingKeys.{deriving_hash}
-use Rattle.tink_streams.specs.TextReading.{Moment}
+use Rattle.tink_streams.specs.TextReading.{TextMoment}
 use Rattle.tink_streams.specs.declared.progress.Progress.TheVariants.{Running}
 use Rattle.tink_segments.specs.declared.stream_segment.StreamSegment.{StreamSegment}
 
@@ -23,7 +23,7 @@ pub record ReadsHeader (k : StreamKey) (old new : Option (List ℕ)) (header : L
 
 -- A reader that has opened nothing and holds nothing opens the segments of the key under the header that was read, behind
 -- which the source stands.
-pub record IsNewReader (k : StreamKey) (aad : List ℕ) (before : Option (List ℕ)) (seg : ℕ → Bool → List ℕ → List ℕ) (first size over : ℕ) (held : List ℕ) (m : Moment) : Type 0 where
+pub record IsNewReader (k : StreamKey) (aad : List ℕ) (before : Option (List ℕ)) (seg : ℕ → Bool → List ℕ → List ℕ) (first size over : ℕ) (held : List ℕ) (m : TextMoment) : Type 0 where
   pub header : List ℕ
   pub reads : ReadsHeader k before m.rest header
   pub segments : (opening_key aad k).seg header ≡ Some seg

@@ -12,7 +12,7 @@ use Rattle.stream_model.specs.Sealing.{drawn, prefix_of, salt_of}
 use Rattle.tink_segments.specs.StreamSegments.{segment_by}
 use Rattle.tink_stream_keys.specs.StreamingKeys.{deriving_hash}
 use Rattle.tink_streams.specs.Writers.{WriterState, moment_of, seg_of}
-use Rattle.tink_streams.specs.Writing.{Moment}
+use Rattle.tink_streams.specs.Writing.{WriterMoment}
 use Rattle.tink_segments.specs.declared.stream_segment.StreamSegment.{StreamSegment}
 use Rattle.tink_streams.specs.declared.writing.Mode.TheVariants.{Open}
 
@@ -23,7 +23,7 @@ pub record DrewHeader (k : StreamKey) (draws left : List ℕ) : Type 0 where
 
 -- Salt and prefix are the first draws. The front alone was written, behind what was there before, and a writer that has
 -- taken no text makes the segments of the key.
-pub record IsNewStream (k : StreamKey) (aad draws left : List ℕ) (before : Option (List ℕ)) (seg : ℕ → Bool → List ℕ → List ℕ) (first later : ℕ) (m : Moment) : Type 0 where
+pub record IsNewStream (k : StreamKey) (aad draws left : List ℕ) (before : Option (List ℕ)) (seg : ℕ → Bool → List ℕ → List ℕ) (first later : ℕ) (m : WriterMoment) : Type 0 where
   pub drew : DrewHeader k draws left
   pub keys : List ℕ
   pub keys_are : keys_of k aad (salt_of k draws) ≡ Some keys

@@ -6,7 +6,7 @@ ghost use Rattle.stream_model.specs.Cut.{numbered};
 ghost use Rattle.stream_model.specs.Key.{first_segment, header_length, nonce_size, overhead};
 ghost use Rattle.tink_stream_keys.specs.Decrypting.{HeaderRefused, IsNewReader, NewReaderMeans, NewReaderRefused, ReadsHeader, source_of};
 ghost use Rattle.tink_segments.specs.StreamSegments.{nonce_length_by, overhead_by, segment_by};
-ghost use Rattle.tink_streams.specs.TextReading.{Moment};
+ghost use Rattle.tink_streams.specs.TextReading.{TextMoment};
 
 use crate::stream_memory::{MAX_HEADER, PREFIX, StreamMemory};
 use crate::stream_params::DerivesStreams;

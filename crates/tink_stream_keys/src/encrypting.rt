@@ -8,7 +8,7 @@ ghost use Rattle.tink_io.specs.declared.error.Kind.TheVariants.{OutOfMemory, Ran
 ghost use Rattle.tink_primitives.specs.Meaning.{IsEndOf};
 ghost use Rattle.tink_stream_keys.specs.Encrypting.{IsNewStream, NewWriterMeans, NewWriterRefused, sink_of};
 ghost use Rattle.tink_segments.specs.StreamSegments.{nonce_length_by, overhead_by, segment_by};
-ghost use Rattle.tink_streams.specs.Writing.{Moment};
+ghost use Rattle.tink_streams.specs.Writing.{WriterMoment};
 
 use crate::stream_memory::{MAX_HEADER, PREFIX, StreamMemory};
 use crate::stream_params::DerivesStreams;

@@ -11,7 +11,7 @@ use Rattle.stream_model.specs.Agree.{Agree}
 use Rattle.stream_model.specs.Opening.{AgreeBy, FirstAgrees, IsChosen, OpeningKey, chunks_of}
 use Rattle.tink_streams.specs.Choosing.{Started, StartRefused}
 use Rattle.tink_streaming_aead.specs.DecryptReaders.{FirstRefused, GivesFirst, first_refusal}
-use Rattle.tink_streams.specs.TextReading.{Gave, Gives, Moment, ReadRefused}
+use Rattle.tink_streams.specs.TextReading.{Gave, GivesText, TextMoment, ReadRefused}
 use Rattle.tink_streams.specs.declared.progress.Progress.TheVariants.{Running}
 use Rattle.tink_streams.proofs.TextLaws.{gave_more, gave_none}
 use Rattle.tink_streams.proofs.ChosenFacts.{chosen_begins, stream_agreed}
@@ -41,7 +41,7 @@ never_nothing ks (Some X) rest seg first size overhead s n =
     absurd (not_both (k.seg (take k.header X)) (chunks_of k X) (chosen_begins ks X k s.found.chosen).first (stream_agreed ks X seg s.header first size overhead [] s.found agree))
 
 -- a refusal of the chosen key's reader at its first read
-pub first_refused : (ks : List OpeningKey) (all rest : Option (List ℕ)) (seg : ℕ → Bool → List ℕ → List ℕ) (a b overhead before faults room : ℕ) (n : Moment) (kind : Kind) → IfSome all (λ X. Started ks X rest seg a b overhead) → before ≤ faults
+pub first_refused : (ks : List OpeningKey) (all rest : Option (List ℕ)) (seg : ℕ → Bool → List ℕ → List ℕ) (a b overhead before faults room : ℕ) (n : TextMoment) (kind : Kind) → IfSome all (λ X. Started ks X rest seg a b overhead) → before ≤ faults
     → ReadRefused seg a b overhead (record { progress = Running; number = 0; pending = []; rest = rest; faults = faults }) n room kind
     → FirstRefused ks all before n.faults (first_refusal kind)
 first_refused ks all rest seg a b overhead before faults room n ReadFault s later r = Rose-earlier before faults n.faults later r.1.rose
@@ -52,23 +52,23 @@ first_refused ks all rest seg a b overhead before faults room n (FailedBefore c)
 first_refused ks all rest seg a b overhead before faults room n _ s later r = absurd r
 
 -- a moment of a reader that has opened nothing
-fresh_moment : (P : Moment → Type 0) (m : Moment) → m.progress ≡ Running → m.number ≡ 0 → m.pending ≡ [] → P m → P (record { progress = Running; number = 0; pending = []; rest = m.rest; faults = m.faults })
+fresh_moment : (P : TextMoment → Type 0) (m : TextMoment) → m.progress ≡ Running → m.number ≡ 0 → m.pending ≡ [] → P m → P (record { progress = Running; number = 0; pending = []; rest = m.rest; faults = m.faults })
 fresh_moment P m p n q h =
     subst (λ x. P (record { progress = Running; number = 0; pending = x; rest = m.rest; faults = m.faults })) q
     (subst (λ x. P (record { progress = Running; number = x; pending = m.pending; rest = m.rest; faults = m.faults })) n
     (subst (λ x. P (record { progress = x; number = m.number; pending = m.pending; rest = m.rest; faults = m.faults })) p h))
 
-pub fresh_gives : (seg : ℕ → Bool → List ℕ → List ℕ) (a b : ℕ) (m n : Moment) (before after : List ℕ) (count : ℕ) → m.progress ≡ Running → m.number ≡ 0 → m.pending ≡ [] → Gives seg a b m n before after count
-    → Gives seg a b (record { progress = Running; number = 0; pending = []; rest = m.rest; faults = m.faults }) n before after count
-fresh_gives seg a b m n before after count = fresh_moment (λ x. Gives seg a b x n before after count) m
+pub fresh_gives : (seg : ℕ → Bool → List ℕ → List ℕ) (a b : ℕ) (m n : TextMoment) (before after : List ℕ) (count : ℕ) → m.progress ≡ Running → m.number ≡ 0 → m.pending ≡ [] → GivesText seg a b m n before after count
+    → GivesText seg a b (record { progress = Running; number = 0; pending = []; rest = m.rest; faults = m.faults }) n before after count
+fresh_gives seg a b m n before after count = fresh_moment (λ x. GivesText seg a b x n before after count) m
 
-pub fresh_refused : (seg : ℕ → Bool → List ℕ → List ℕ) (a b overhead : ℕ) (m n : Moment) (room : ℕ) (kind : Kind) → m.progress ≡ Running → m.number ≡ 0 → m.pending ≡ [] → ReadRefused seg a b overhead m n room kind
+pub fresh_refused : (seg : ℕ → Bool → List ℕ → List ℕ) (a b overhead : ℕ) (m n : TextMoment) (room : ℕ) (kind : Kind) → m.progress ≡ Running → m.number ≡ 0 → m.pending ≡ [] → ReadRefused seg a b overhead m n room kind
     → ReadRefused seg a b overhead (record { progress = Running; number = 0; pending = []; rest = m.rest; faults = m.faults }) n room kind
 fresh_refused seg a b overhead m n room kind = fresh_moment (λ x. ReadRefused seg a b overhead x n room kind) m
 
 -- a first read has given a prefix of the text behind the header
-pub first_gave : (keys : List OpeningKey) (all : Option (List ℕ)) (seg : ℕ → Bool → List ℕ → List ℕ) (a b overhead : ℕ) (new : Moment) (before after : List ℕ) (n : ℕ) (first : GivesFirst keys all seg a b overhead new before after n)
+pub first_gave : (keys : List OpeningKey) (all : Option (List ℕ)) (seg : ℕ → Bool → List ℕ → List ℕ) (a b overhead : ℕ) (new : TextMoment) (before after : List ℕ) (n : ℕ) (first : GivesFirst keys all seg a b overhead new before after n)
     → Gave seg a b first.rest (take n after) new
 first_gave keys all seg a b overhead new before after n first =
-    let m : Moment = record { progress = Running; number = 0; pending = []; rest = first.rest; faults = first.faults } in
+    let m : TextMoment = record { progress = Running; number = 0; pending = []; rest = first.rest; faults = first.faults } in
     gave_more seg a b first.rest [] m new before after n (gave_none seg a b m refl refl) first.gave

@@ -8,7 +8,7 @@ use Rattle.stream_model.specs.Cut.{full_chunks, open_chunk, room_at, sealed, unm
 use Rattle.stream_model.specs.Key.{StreamKey, first_room, front, keys_of, room, segment_at}
 use Rattle.stream_model.specs.Sealing.{prefix_of, salt_of, sealed_under, stream}
 use Rattle.tink_stream_keys.specs.Encrypting.{IsNewStream}
-use Rattle.tink_streams.specs.Writing.{ClosedBy, Moment, Wrote, filled}
+use Rattle.tink_streams.specs.Writing.{ClosedBy, WriterMoment, Wrote, filled}
 use Rattle.tink_streams.specs.declared.writing.Mode.TheVariants.{Open}
 use Rattle.tink_streams.proofs.WritingFacts.{closed_whole}
 
@@ -19,7 +19,7 @@ unfolding stream
 stream_is k aad salt prefix keys text e = ap (λ o. front k salt prefix ++ sealed_under k o prefix text) (sym e)
 
 -- a text and a close give the stream of the text
-pub whole_stream : (k : StreamKey) (aad draws left : List ℕ) (before : Option (List ℕ)) (seg : ℕ → Bool → List ℕ → List ℕ) (first later : ℕ) (m n o : Moment) (text : List ℕ)
+pub whole_stream : (k : StreamKey) (aad draws left : List ℕ) (before : Option (List ℕ)) (seg : ℕ → Bool → List ℕ → List ℕ) (first later : ℕ) (m n o : WriterMoment) (text : List ℕ)
     → IsNewStream k aad draws left before seg first later m → Wrote seg first later m n text → ClosedBy seg n o
     → Appends before o.got (stream k aad (salt_of k draws) (prefix_of k draws) text)
 whole_stream k aad draws left before seg first later m n o text s w c =
@@ -33,7 +33,7 @@ whole_stream k aad draws left before seg first later m n o text s w c =
     subst (Appends before o.got) (stream_is k aad salt prefix s.keys text s.keys_are) (Appends-trans before m.got o.got (front k salt prefix) _ s.written keyed)
 
 -- a new writer is one that was given the empty text
-none_written : (seg : ℕ → Bool → List ℕ → List ℕ) (a b : ℕ) (m : Moment) → m.mode ≡ Open → m.number ≡ 0 → m.held ≡ [] → Wrote seg a b m m []
+none_written : (seg : ℕ → Bool → List ℕ → List ℕ) (a b : ℕ) (m : WriterMoment) → m.mode ≡ Open → m.number ≡ 0 → m.held ≡ [] → Wrote seg a b m m []
 none_written seg a b m opened first none =
     let text : m.held ++ [] ≡ [] = ap (λ x. x ++ []) none in
     let full : filled a b m [] ≡ [] = ap (full_chunks (room_at a b m.number) b) text ∙ full_chunks_fits (room_at a b m.number) b [] (omega arith) in
@@ -47,7 +47,7 @@ none_written seg a b m opened first none =
     }
 
 -- a close before any write gives the stream of the empty text
-pub unwritten_stream : (k : StreamKey) (aad draws left : List ℕ) (before : Option (List ℕ)) (seg : ℕ → Bool → List ℕ → List ℕ) (first later : ℕ) (m o : Moment)
+pub unwritten_stream : (k : StreamKey) (aad draws left : List ℕ) (before : Option (List ℕ)) (seg : ℕ → Bool → List ℕ → List ℕ) (first later : ℕ) (m o : WriterMoment)
     → IsNewStream k aad draws left before seg first later m → ClosedBy seg m o → Appends before o.got (stream k aad (salt_of k draws) (prefix_of k draws) [])
 unwritten_stream k aad draws left before seg first later m o s c =
     whole_stream k aad draws left before seg first later m m o [] s (none_written seg first later m s.is_open s.number s.held) c

@@ -11,7 +11,7 @@ use Rattle.stream_model.specs.Key.{IsUsable, StreamKey, first_segment, header_le
 use Rattle.stream_model.specs.Opening.{AreSegments, AreSegmentsBy, IsChosen, IsStream, OpeningKey, opening_key}
 use Rattle.stream_model.proofs.KeyFacts.{CanOpen, IsLawful, opening_key_lawful}
 use Rattle.tink_streams.specs.Choosing.{Started}
-use Rattle.tink_streams.specs.TextReading.{AtEnd, Gave, Moment}
+use Rattle.tink_streams.specs.TextReading.{AtEnd, Gave, TextMoment}
 use Rattle.tink_streams.proofs.ChosenFacts.{stream_opened}
 use Rattle.tink_streams.proofs.TextLaws.{gave_all, text_of_whole}
 use Rattle.tink_stream_keys.specs.Decrypting.{IsNewReader}
@@ -46,7 +46,7 @@ told_stream k aad H (Some X) None seg texts long mark c map are = absurd c
 told_stream k aad H (Some X) (Some Y) seg texts long mark c map are = joined_stream k aad H X Y seg texts long mark c map are
 
 -- a key's reader at its end
-pub whole_of_key : (k : StreamKey) (aad : List ℕ) (before : Option (List ℕ)) (seg : ℕ → Bool → List ℕ → List ℕ) (a b over : ℕ) (held given : List ℕ) (m n : Moment)
+pub whole_of_key : (k : StreamKey) (aad : List ℕ) (before : Option (List ℕ)) (seg : ℕ → Bool → List ℕ → List ℕ) (a b over : ℕ) (held given : List ℕ) (m n : TextMoment)
     → IsUsable k → IsNewReader k aad before seg a b over held m → Gave seg a b m.rest given n → AtEnd n → IsTextOfStream (opening_key aad k) before given
 whole_of_key k aad before seg a b over held given m n u new gave end =
     let lawful = (opening_key_lawful aad k u).lawful new.header seg new.segments in
@@ -88,7 +88,7 @@ told_chosen aad keys None rest seg a b over texts usable s some leads = tt
 told_chosen aad keys (Some X) rest seg a b over texts usable s some leads = started_stream aad keys X rest seg a b over texts usable s some leads
 
 -- a keyset's reader at its end
-pub whole_of_chosen : (keys : List StreamKey) (aad : List ℕ) (all : Option (List ℕ)) (seg : ℕ → Bool → List ℕ → List ℕ) (a b over : ℕ) (old new : Moment) (before after given : List ℕ) (n : ℕ) → All IsUsable keys
+pub whole_of_chosen : (keys : List StreamKey) (aad : List ℕ) (all : Option (List ℕ)) (seg : ℕ → Bool → List ℕ → List ℕ) (a b over : ℕ) (old new : TextMoment) (before after given : List ℕ) (n : ℕ) → All IsUsable keys
     → (first : GivesFirst (map (opening_key aad) keys) all seg a b over old before after n) → Gave seg a b first.rest given new → AtEnd new → IsTextOfChosen (map (opening_key aad) keys) all given
 whole_of_chosen keys aad all seg a b over old new before after given n usable first gave end =
     let whole = gave_all seg a b first.rest given new gave end in

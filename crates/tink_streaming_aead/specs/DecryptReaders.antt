@@ -12,7 +12,7 @@ use Rattle.stream_model.specs.Opening.{IsChosen, OpeningKey, opening_key}
 use Rattle.tink_streams.specs.Choosing.{Started}
 use Rattle.tink_streams.specs.Readers.{ReaderState, moment_of, seg_of}
 use Rattle.tink_segments.specs.StreamSegments.{segment_by}
-use Rattle.tink_streams.specs.TextReading.{Gives, IsDue, Moment, ReadMeans}
+use Rattle.tink_streams.specs.TextReading.{GivesText, IsDue, TextMoment, ReadMeans}
 use Rattle.tink_streams.specs.declared.progress.Progress.TheVariants.{Running}
 use Rattle.tink_segments.specs.declared.stream_segment.StreamSegment.{StreamSegment}
 
@@ -56,11 +56,11 @@ IsUnread (Unread keys aad room source) = Unit {0}
 IsUnread _ = ⊥
 
 -- The first key under which the stream begins is chosen, and the read gave bytes of its first text.
-pub record GivesFirst (keys : List OpeningKey) (all : Option (List ℕ)) (seg : ℕ → Bool → List ℕ → List ℕ) (first size overhead : ℕ) (new : Moment) (before after : List ℕ) (n : ℕ) : Type 0 where
+pub record GivesFirst (keys : List OpeningKey) (all : Option (List ℕ)) (seg : ℕ → Bool → List ℕ → List ℕ) (first size overhead : ℕ) (new : TextMoment) (before after : List ℕ) (n : ℕ) : Type 0 where
   pub rest : Option (List ℕ)
   pub chosen : IfSome all (λ X. Started keys X rest seg first size overhead)
   pub faults : ℕ
-  pub gave : Gives seg first size (record { progress = Running; number = 0; pending = []; rest = rest; faults = faults }) new before after n
+  pub gave : GivesText seg first size (record { progress = Running; number = 0; pending = []; rest = rest; faults = faults }) new before after n
 
 -- what the first read is refused by, as a cause of later refusals
 abbrev pub cause_of : Kind → Cause

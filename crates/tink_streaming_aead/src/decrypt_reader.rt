@@ -10,7 +10,7 @@ ghost use Rattle.tink_streaming_aead.specs.DecryptReaders.{DecryptMeans, FirstRe
 ghost use Rattle.tink_streaming_aead.specs.DecryptReaders.DecryptState.{Unread};
 ghost use Rattle.tink_stream_keys.specs.StreamKinds.{key_of};
 ghost use Rattle.tink_segments.specs.StreamSegments.{segment_by};
-ghost use Rattle.tink_streams.specs.TextReading.{Moment};
+ghost use Rattle.tink_streams.specs.TextReading.{TextMoment};
 ghost use Rattle.tink_streams.specs.declared.progress.Progress.TheVariants.{Ended};
 
 use std::marker::Model;

@@ -8,7 +8,7 @@ ghost use Rattle.stream_model.specs.Opening.{IsChosen, IsStream, OpeningKey, ope
 ghost use Rattle.stream_model.specs.Sealing.{chunk_count, prefix_of, salt_of, stream};
 ghost use Rattle.tink_streams.specs.TextReading.{AtEnd, Gave};
 ghost use Rattle.tink_streams.specs.TextReading as reading;
-ghost use Rattle.tink_streams.specs.Writing.{ClosedBy, Moment, Wrote};
+ghost use Rattle.tink_streams.specs.Writing.{ClosedBy, WriterMoment, Wrote};
 ghost use Rattle.tink_streaming_aead.specs.DecryptReaders.{GivesFirst};
 ghost use Rattle.tink_stream_keys.specs.Decrypting.{IsNewReader};
 ghost use Rattle.tink_stream_keys.specs.Encrypting.{IsNewStream};
@@ -19,11 +19,11 @@ ghost use Rattle.tink_streaming_aead.specs.WholeReading.{IsTextOfChosen, IsTextO
 /// that is closed before any write has written the stream of the empty text.
 pub fn law_whole_stream()
     ensures whole { (k : StreamKey) (aad draws left : List ℕ) (before : Option (List ℕ))
-        (seg : ℕ → Bool → List ℕ → List ℕ) (first later : ℕ) (m n o : Moment) (text : List ℕ)
+        (seg : ℕ → Bool → List ℕ → List ℕ) (first later : ℕ) (m n o : WriterMoment) (text : List ℕ)
         → IsNewStream k aad draws left before seg first later m → Wrote seg first later m n text → ClosedBy seg n o
         → Appends before o.got (stream k aad (salt_of k draws) (prefix_of k draws) text) }
     ensures unwritten { (k : StreamKey) (aad draws left : List ℕ) (before : Option (List ℕ))
-        (seg : ℕ → Bool → List ℕ → List ℕ) (first later : ℕ) (m o : Moment)
+        (seg : ℕ → Bool → List ℕ → List ℕ) (first later : ℕ) (m o : WriterMoment)
         → IsNewStream k aad draws left before seg first later m → ClosedBy seg m o
         → Appends before o.got (stream k aad (salt_of k draws) (prefix_of k draws) []) }
 {}
@@ -33,7 +33,7 @@ pub fn law_whole_stream()
 /// `law_whole_text` says.
 pub fn law_first_read()
     ensures gave { (keys : List OpeningKey) (all : Option (List ℕ)) (seg : ℕ → Bool → List ℕ → List ℕ)
-        (a b overhead : ℕ) (new : reading.Moment) (before after : List ℕ) (n : ℕ)
+        (a b overhead : ℕ) (new : reading.TextMoment) (before after : List ℕ) (n : ℕ)
         → (first : GivesFirst keys all seg a b overhead new before after n)
         → Gave seg a b first.rest (take n after) new }
 {}
@@ -43,11 +43,11 @@ pub fn law_first_read()
 /// joined.
 pub fn law_whole_reading()
     ensures key { (k : StreamKey) (aad : List ℕ) (all : Option (List ℕ)) (seg : ℕ → Bool → List ℕ → List ℕ)
-        (a b overhead : ℕ) (held given : List ℕ) (m n : reading.Moment)
+        (a b overhead : ℕ) (held given : List ℕ) (m n : reading.TextMoment)
         → IsUsable k → IsNewReader k aad all seg a b overhead held m → Gave seg a b m.rest given n → AtEnd n
         → IsTextOfStream (opening_key aad k) all given }
     ensures keyset { (keys : List StreamKey) (aad : List ℕ) (all : Option (List ℕ)) (seg : ℕ → Bool → List ℕ → List ℕ)
-        (a b overhead : ℕ) (m n : reading.Moment) (before after given : List ℕ) (count : ℕ)
+        (a b overhead : ℕ) (m n : reading.TextMoment) (before after given : List ℕ) (count : ℕ)
         → All IsUsable keys → (first : GivesFirst (map (opening_key aad) keys) all seg a b overhead m before after
         count)
         → Gave seg a b first.rest given n → AtEnd n → IsTextOfChosen (map (opening_key aad) keys) all given }

@@ -11,7 +11,7 @@ use Rattle.stream_model.specs.Cut.{cut, room_at}
 use Rattle.stream_model.specs.Agree.{Agree}
 use Rattle.stream_model.proofs.CutFacts.{cut_none, room_at_next}
 use Rattle.stream_model.proofs.AgreeFacts.{Agree-empty, Agree-used_up, Agree-none_last, Agree-none_more, Leads-last, Leads-more}
-use Rattle.tink_streams.specs.Opening.{OpensTo, IsHeld}
+use Rattle.tink_streams.specs.Opening.{OpensTo, HoldsChunk}
 use Rattle.tink_streams.specs.Reading.{TellsLeads}
 
 pub fits_or_not : (m n : ℕ) → (m ≤ n) ⊎ (n < m)
@@ -37,7 +37,7 @@ is_opened_more : (seg : ℕ → Bool → List ℕ → List ℕ) (i size : ℕ) (
 is_opened_more seg i size H t some more o = record { some = some; segment = ap (λ m. seg i m t) (lt-leb (length H) size more) ∙ o }
 
 -- the text of a segment leads to what is behind its chunk
-pub opened_front : (seg : ℕ → Bool → List ℕ → List ℕ) (a b i : ℕ) (r0 r1 : Option (List ℕ)) (H t : List ℕ) → i < 2 ^ 32 → 0 < room_at a b i → 0 < b → IsHeld (room_at a b i) r0 H r1 → OpensTo seg i (room_at a b i) H t
+pub opened_front : (seg : ℕ → Bool → List ℕ → List ℕ) (a b i : ℕ) (r0 r1 : Option (List ℕ)) (H t : List ℕ) → i < 2 ^ 32 → 0 < room_at a b i → 0 < b → HoldsChunk (room_at a b i) r0 H r1 → OpensTo seg i (room_at a b i) H t
     → TellsLeads seg a b i r0 (t ∷ []) (prepend_known (drop (room_at a b i) H) r1)
 opened_front seg a b i None r1 H t few p q h o = tt
 opened_front seg a b i (Some X) None H t few p q h o = absurd h.all
@@ -55,7 +55,7 @@ opened_front seg a b i (Some X) (Some Y) H t few p q h o =
     ]
 
 -- where it is the segment of no text, nothing comes
-pub refused_front : (seg : ℕ → Bool → List ℕ → List ℕ) (a b i : ℕ) (r0 r1 : Option (List ℕ)) (H : List ℕ) → 0 < room_at a b i → 0 < b → IsHeld (room_at a b i) r0 H r1 → ((t : List ℕ) → OpensTo seg i (room_at a b i) H t → ⊥)
+pub refused_front : (seg : ℕ → Bool → List ℕ → List ℕ) (a b i : ℕ) (r0 r1 : Option (List ℕ)) (H : List ℕ) → 0 < room_at a b i → 0 < b → HoldsChunk (room_at a b i) r0 H r1 → ((t : List ℕ) → OpensTo seg i (room_at a b i) H t → ⊥)
     → IfSome r0 (λ X. Agree seg i (cut (room_at a b i) b X) [])
 refused_front seg a b i None r1 H p q h none = tt
 refused_front seg a b i (Some X) None H p q h none = absurd h.all
@@ -79,20 +79,20 @@ pub none_numbered : (seg : ℕ → Bool → List ℕ → List ℕ) (a b i : ℕ)
 none_numbered seg a b i None h = tt
 none_numbered seg a b i (Some X) h = Agree-used_up seg i (cut (room_at a b i) b X) h
 
-pub some_left : (size : ℕ) (r0 r1 : Option (List ℕ)) (H : List ℕ) → IsHeld size r0 H r1 → 0 < length H → IfSome r0 (λ X. 0 < length X)
+pub some_left : (size : ℕ) (r0 r1 : Option (List ℕ)) (H : List ℕ) → HoldsChunk size r0 H r1 → 0 < length H → IfSome r0 (λ X. 0 < length X)
 some_left size None r1 H h some = tt
 some_left size (Some X) None H h some = absurd h.all
 some_left size (Some X) (Some Y) H h some = omega (arith, ap length h.all, length-append H Y)
 
 -- the next chunk is the prefix of what is held
-next_chunk : (size : ℕ) (H X Y : List ℕ) → IsHeld size (Some X) H (Some Y) → take size X ≡ take size H
+next_chunk : (size : ℕ) (H X Y : List ℕ) → HoldsChunk size (Some X) H (Some Y) → take size X ≡ take size H
 next_chunk size H X Y h = elim (fits_or_not (length H) size) [
   | inl fits ↦ ap (take size) (all_held H X Y h.all (h.end fits))
   | inr more ↦ ap (take size) (sym h.all) ∙ take-append-le size H Y (omega arith)
 ]
 
 -- fewer bytes than the overhead are held, or none
-pub short_front : (overhead size i : ℕ) (r0 r1 : Option (List ℕ)) (H : List ℕ) → IsHeld size r0 H r1 → length H < max overhead 1 → (0 < i → 0 < length H)
+pub short_front : (overhead size i : ℕ) (r0 r1 : Option (List ℕ)) (H : List ℕ) → HoldsChunk size r0 H r1 → length H < max overhead 1 → (0 < i → 0 < length H)
     → IfSome r0 (λ X. ((length (take size X) < overhead) ⊎ (X ≡ [])) × (0 < i → 0 < length X))
 short_front overhead size i None r1 H h few some = tt
 short_front overhead size i (Some X) None H h few some = absurd h.all
@@ -101,7 +101,7 @@ short_front overhead size i (Some X) (Some Y) (x ∷ H) h few some =
     (inl (omega (arith, ap length (next_chunk size (x ∷ H) X Y h), length-take size (x ∷ H))), λ later. omega (arith, ap length h.all, length-append (x ∷ H) Y))
 
 -- no fewer are held
-pub long_front : (overhead size : ℕ) (r0 r1 : Option (List ℕ)) (H : List ℕ) → IsHeld size r0 H r1 → overhead ≤ size → overhead ≤ length H → IfSome r0 (λ X. overhead ≤ length (take size X))
+pub long_front : (overhead size : ℕ) (r0 r1 : Option (List ℕ)) (H : List ℕ) → HoldsChunk size r0 H r1 → overhead ≤ size → overhead ≤ length H → IfSome r0 (λ X. overhead ≤ length (take size X))
 long_front overhead size None r1 H h fits many = tt
 long_front overhead size (Some X) None H h fits many = absurd h.all
 long_front overhead size (Some X) (Some Y) H h fits many = omega (arith, ap length (next_chunk size H X Y h), length-take size H)
@@ -123,6 +123,6 @@ stays n m size items there e = elim (fits_or_not n size) [
 ]
 
 -- nothing stays held, and nothing is left
-pub ended : (n m size : ℕ) (r0 r1 : Option (List ℕ)) (items xs : List ℕ) → IsHeld size r0 (take n items) r1 → m ≡ min n size → n - m ≡ 0 → IsAtEnd (prepend_known (take (n - m) xs) r1)
+pub ended : (n m size : ℕ) (r0 r1 : Option (List ℕ)) (items xs : List ℕ) → HoldsChunk size r0 (take n items) r1 → m ≡ min n size → n - m ≡ 0 → IsAtEnd (prepend_known (take (n - m) xs) r1)
 ended n m size r0 r1 items xs h e none =
     prepend_known-end _ r1 (take (n - m) xs) (Keeps-refl _) (ap (λ k. take k xs) none) (h.end (omega (arith, length-take n items)))

@@ -8,11 +8,11 @@ use Rattle.stream_model.specs.Agree.{Leads, Agree}
 use Rattle.stream_model.proofs.CutFacts.{cut_none, cut_fits, cut_more}
 use Rattle.stream_model.proofs.AgreeFacts.{Leads-trans, Agree-leads}
 use Rattle.std.proofs.lemmas.List.{append-nil}
-use Rattle.tink_streams.specs.Reading.{Moment, TellsLeads, OpensNext, NothingComes, chunk_at}
+use Rattle.tink_streams.specs.Reading.{ReaderMoment, TellsLeads, OpensNext, NothingComes, chunk_at}
 use Rattle.tink_streams.proofs.FrontFacts.{fits_or_not}
 
 -- from a fresh reader over all bytes on, these texts were opened
-pub record Opened (seg : ℕ → Bool → List ℕ → List ℕ) (a b : ℕ) (all : Option (List ℕ)) (texts : List (List ℕ)) (m : Moment) : Type 0 where
+pub record Opened (seg : ℕ → Bool → List ℕ → List ℕ) (a b : ℕ) (all : Option (List ℕ)) (texts : List (List ℕ)) (m : ReaderMoment) : Type 0 where
   pub number : m.number ≡ length texts
   pub leads : TellsLeads seg a b 0 all texts m.rest
 
@@ -20,7 +20,7 @@ tells_none : (seg : ℕ → Bool → List ℕ → List ℕ) (a b : ℕ) (r : Opt
 tells_none seg a b None = tt
 tells_none seg a b (Some X) = refl
 
-pub opened_none : (seg : ℕ → Bool → List ℕ → List ℕ) (a b : ℕ) (m : Moment) → m.number ≡ 0 → Opened seg a b m.rest [] m
+pub opened_none : (seg : ℕ → Bool → List ℕ → List ℕ) (a b : ℕ) (m : ReaderMoment) → m.number ≡ 0 → Opened seg a b m.rest [] m
 opened_none seg a b m z = record { number = z; leads = tells_none seg a b m.rest }
 
 tells_more : (seg : ℕ → Bool → List ℕ → List ℕ) (a b i : ℕ) (r0 r1 r2 : Option (List ℕ)) (texts : List (List ℕ)) (t : List ℕ) → i ≡ length texts
@@ -37,7 +37,7 @@ tells_more seg a b i (Some X) (Some Y) (Some Z) texts t e p q =
     (Leads-trans seg 0 (cut a b X) texts (cut (room_at a b (length texts)) b Y) (t ∷ []) (cut (room_at a b (length texts + 1)) b Z) first next)
 
 -- one more segment
-pub opened_more : (seg : ℕ → Bool → List ℕ → List ℕ) (a b : ℕ) (all : Option (List ℕ)) (texts : List (List ℕ)) (m n : Moment) → Opened seg a b all texts m → OpensNext seg a b m n
+pub opened_more : (seg : ℕ → Bool → List ℕ → List ℕ) (a b : ℕ) (all : Option (List ℕ)) (texts : List (List ℕ)) (m n : ReaderMoment) → Opened seg a b all texts m → OpensNext seg a b m n
     → Opened seg a b all (texts ++ (n.opened ∷ [])) n
 opened_more seg a b all texts m n o next = record {
   number = omega (arith, next.number, o.number, length-append texts (n.opened ∷ []));
@@ -51,7 +51,7 @@ all_led seg a b (Some X) (Some Y) texts p e =
     subst (Leads seg 0 (cut a b X) texts) (ap (cut (room_at a b (0 + length texts)) b) e ∙ cut_none (room_at a b (0 + length texts)) b) p
 
 -- at the end the texts lead from all chunks to none
-pub opened_all : (seg : ℕ → Bool → List ℕ → List ℕ) (a b : ℕ) (all : Option (List ℕ)) (texts : List (List ℕ)) (m : Moment) → Opened seg a b all texts m → IsAtEnd m.rest → IfSome all (λ X. Leads seg 0 (cut a b X) texts [])
+pub opened_all : (seg : ℕ → Bool → List ℕ → List ℕ) (a b : ℕ) (all : Option (List ℕ)) (texts : List (List ℕ)) (m : ReaderMoment) → Opened seg a b all texts m → IsAtEnd m.rest → IfSome all (λ X. Leads seg 0 (cut a b X) texts [])
 opened_all seg a b all texts m o e = all_led seg a b all m.rest texts o.leads e
 
 agree_led : (seg : ℕ → Bool → List ℕ → List ℕ) (a b i : ℕ) (r0 r1 : Option (List ℕ)) (texts : List (List ℕ)) → i ≡ length texts → TellsLeads seg a b 0 r0 texts r1
@@ -64,7 +64,7 @@ agree_led seg a b i (Some X) (Some Y) texts e p q =
     (Agree-leads seg 0 (cut a b X) texts (cut (room_at a b (0 + length texts)) b Y) [] p (subst (λ (n : ℕ). Agree seg n (cut (room_at a b n) b Y) []) place q))
 
 -- where nothing comes the texts are the longest list that agrees
-pub opened_agree : (seg : ℕ → Bool → List ℕ → List ℕ) (a b : ℕ) (all : Option (List ℕ)) (texts : List (List ℕ)) (m : Moment) → Opened seg a b all texts m → NothingComes seg a b m → IfSome all (λ X. Agree seg 0 (cut a b X) texts)
+pub opened_agree : (seg : ℕ → Bool → List ℕ → List ℕ) (a b : ℕ) (all : Option (List ℕ)) (texts : List (List ℕ)) (m : ReaderMoment) → Opened seg a b all texts m → NothingComes seg a b m → IfSome all (λ X. Agree seg 0 (cut a b X) texts)
 opened_agree seg a b all texts m o none = agree_led seg a b m.number all m.rest texts o.number o.leads none
 
 led_rest : (seg : ℕ → Bool → List ℕ → List ℕ) (i : ℕ) (chunks texts rest : List (List ℕ)) → Leads seg i chunks texts rest → get_or chunks (length texts) [] ≡ get_or rest 0 []
@@ -98,7 +98,7 @@ chunk_told seg a b n (Some X) None texts P p q e l h = absurd l
 chunk_told seg a b n (Some X) (Some Y) texts P p q e l h = subst P (sym (chunk_is seg a b n X Y texts p q e l)) h
 
 -- what is so of the next chunk that is left is so of the chunk of that number
-pub at_next_chunk : (seg : ℕ → Bool → List ℕ → List ℕ) (a b : ℕ) (all : Option (List ℕ)) (texts : List (List ℕ)) (m : Moment) (P : List ℕ → Type 0) → 0 < a → 0 < b → Opened seg a b all texts m
+pub at_next_chunk : (seg : ℕ → Bool → List ℕ → List ℕ) (a b : ℕ) (all : Option (List ℕ)) (texts : List (List ℕ)) (m : ReaderMoment) (P : List ℕ → Type 0) → 0 < a → 0 < b → Opened seg a b all texts m
     → IfSome m.rest (λ Y. P (chunk_at a b m.number Y)) → IfSome all (λ X. P (get_or (cut a b X) (length texts) []))
 at_next_chunk seg a b all texts m P p q o h = chunk_told seg a b m.number all m.rest texts P p q o.number o.leads h
 

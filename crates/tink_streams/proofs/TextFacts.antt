@@ -11,7 +11,7 @@ use Rattle.tink_io.specs.declared.error.Kind.TheVariants.{ReadFault, TooManySegm
 use Rattle.tink_streams.specs.declared.progress.Progress.{Progress}
 use Rattle.tink_streams.specs.declared.progress.Progress.TheVariants.{Running, Ended, Failed}
 use Rattle.tink_streams.specs.Reading.{TellsLeads, OpensNext, OpenRefused, HasNotFailed}
-use Rattle.tink_streams.specs.TextReading.{Moment, of_segments, with_pending, IsDue, AtEnd, IsReady, Gives, ReadRefused}
+use Rattle.tink_streams.specs.TextReading.{TextMoment, of_segments, with_pending, IsDue, AtEnd, IsReady, GivesText, ReadRefused}
 
 pub nil_of_length : (xs : List ℕ) → length xs ≡ 0 → xs ≡ []
 nil_of_length [] e = refl
@@ -32,7 +32,7 @@ over Ended h r = refl
 over (Failed c) h r = absurd h
 
 -- nothing was due
-pub ready_held : (seg : ℕ → Bool → List ℕ → List ℕ) (a b : ℕ) (m : Moment) → HasNotFailed m.progress → (IsDue m 1 → ⊥) → (m.pending ≡ [] → AtEnd m) → (m.progress ≡ Ended → IsAtEnd m.rest) → IsReady seg a b m m
+pub ready_held : (seg : ℕ → Bool → List ℕ → List ℕ) (a b : ℕ) (m : TextMoment) → HasNotFailed m.progress → (IsDue m 1 → ⊥) → (m.pending ≡ [] → AtEnd m) → (m.progress ≡ Ended → IsAtEnd m.rest) → IsReady seg a b m m
 ready_held seg a b m lives none end ends = record {
   lives = lives;
   texts = [];
@@ -47,7 +47,7 @@ ready_held seg a b m lives none end ends = record {
 }
 
 -- the next segment was opened
-pub ready_opened : (seg : ℕ → Bool → List ℕ → List ℕ) (a b : ℕ) (old new : Moment) → IsDue old 1 → (new.progress ≡ Ended → 0 < new.number) → OpensNext seg a b (of_segments old) (of_segments new) → IsReady seg a b old new
+pub ready_opened : (seg : ℕ → Bool → List ℕ → List ℕ) (a b : ℕ) (old new : TextMoment) → IsDue old 1 → (new.progress ≡ Ended → 0 < new.number) → OpensNext seg a b (of_segments old) (of_segments new) → IsReady seg a b old new
 ready_opened seg a b old new due some next = record {
   lives = next.lives;
   texts = new.pending ∷ [];
@@ -61,7 +61,7 @@ ready_opened seg a b old new due some next = record {
   ends = next.ends;
 }
   where
-    at_end : (m : Moment) → HasNotFailed m.progress → (m.progress ≡ Running → 0 < length m.pending) → (m.progress ≡ Ended → IsAtEnd m.rest) → (m.progress ≡ Ended → 0 < m.number) → m.pending ≡ [] → AtEnd m
+    at_end : (m : TextMoment) → HasNotFailed m.progress → (m.progress ≡ Running → 0 < length m.pending) → (m.progress ≡ Ended → IsAtEnd m.rest) → (m.progress ≡ Ended → 0 < m.number) → m.pending ≡ [] → AtEnd m
     at_end m lives goes_on ends some none = record {
       ended = ended;
       some = some ended;
@@ -78,16 +78,16 @@ ready_opened seg a b old new due some next = record {
         ended = over m.progress lives (λ r. let z : length m.pending ≡ 0 = ap length none in let s = goes_on r in omega arith)
 
 -- a segment is due for any room but none
-pub due_room : (m : Moment) (room : ℕ) → 0 < room → IsDue m 1 → IsDue m room
+pub due_room : (m : TextMoment) (room : ℕ) → 0 < room → IsDue m 1 → IsDue m room
 due_room m room h d = record { running = d.running; pending = d.pending; some = h }
 
-due_one : (m : Moment) (room : ℕ) → IsDue m room → IsDue m 1
+due_one : (m : TextMoment) (room : ℕ) → IsDue m room → IsDue m 1
 due_one m room d = record { running = d.running; pending = d.pending; some = omega arith }
 
 -- bytes were given of what is ready
-pub given_ready : (seg : ℕ → Bool → List ℕ → List ℕ) (a b : ℕ) (old mid : Moment) (before after rest : List ℕ) (n : ℕ) → HasNotFailed old.progress → IsReady seg a b old mid → 0 < length before
+pub given_ready : (seg : ℕ → Bool → List ℕ → List ℕ) (a b : ℕ) (old mid : TextMoment) (before after rest : List ℕ) (n : ℕ) → HasNotFailed old.progress → IsReady seg a b old mid → 0 < length before
     → n ≡ min (length before) (length mid.pending) → take n after ≡ take n mid.pending → drop n after ≡ drop n before → rest ≡ drop n mid.pending
-    → Gives seg a b old (with_pending mid rest) before after n
+    → GivesText seg a b old (with_pending mid rest) before after n
 given_ready seg a b old mid before after rest n was ready some count bytes behind rest_is = record {
   was = was;
   lives = ready.lives;
@@ -114,7 +114,7 @@ given_ready seg a b old mid before after rest n was ready some count bytes behin
         record { ended = over.ended; some = over.some; pending = gone; rest = over.rest }
 
 -- no room: nothing is given
-pub gives_none : (seg : ℕ → Bool → List ℕ → List ℕ) (a b : ℕ) (m : Moment) (buf : List ℕ) → HasNotFailed m.progress → length buf ≡ 0 → (m.progress ≡ Ended → IsAtEnd m.rest) → Gives seg a b m m buf buf 0
+pub gives_none : (seg : ℕ → Bool → List ℕ → List ℕ) (a b : ℕ) (m : TextMoment) (buf : List ℕ) → HasNotFailed m.progress → length buf ≡ 0 → (m.progress ≡ Ended → IsAtEnd m.rest) → GivesText seg a b m m buf buf 0
 gives_none seg a b m buf was empty ends = record {
   was = was;
   lives = was;
@@ -132,7 +132,7 @@ gives_none seg a b m buf was empty ends = record {
 }
 
 -- the next segment was not opened
-pub refused_read : (seg : ℕ → Bool → List ℕ → List ℕ) (a b overhead : ℕ) (old new : Moment) (room : ℕ) (k : Kind) → 0 < room → IsDue old 1 × OpenRefused seg a b overhead (of_segments old) (of_segments new) k → ReadRefused seg a b overhead old new room k
+pub refused_read : (seg : ℕ → Bool → List ℕ → List ℕ) (a b overhead : ℕ) (old new : TextMoment) (room : ℕ) (k : Kind) → 0 < room → IsDue old 1 × OpenRefused seg a b overhead (of_segments old) (of_segments new) k → ReadRefused seg a b overhead old new room k
 refused_read seg a b overhead old new room ReadFault some h = (due_room old room some h.0, h.1)
 refused_read seg a b overhead old new room TooManySegments some h = (due_room old room some h.0, h.1)
 refused_read seg a b overhead old new room (BadSegment n) some h = (due_room old room some h.0, h.1)

@@ -7,11 +7,11 @@ use Rattle.std.proofs.KnownBytes.{Keeps-trans}
 use Rattle.stream_model.specs.Agree.{Agree}
 use Rattle.stream_model.specs.Opening.{OpeningKey, HasHeader, Begins, FirstAgrees, chunks_of}
 use Rattle.stream_model.proofs.AgreeFacts.{AreTexts-leads}
-use Rattle.tink_streams.specs.Opening.{OpensTo, IsHeld}
+use Rattle.tink_streams.specs.Opening.{OpensTo, HoldsChunk}
 use Rattle.tink_streams.proofs.FrontFacts.{fits_or_not, opened_front, refused_front}
 
 -- what is held of the same bytes
-pub held_from : (size : ℕ) (r0 r1 left : Option (List ℕ)) (H : List ℕ) → Keeps r0 r1 → IsHeld size r1 H left → IsHeld size r0 H left
+pub held_from : (size : ℕ) (r0 r1 left : Option (List ℕ)) (H : List ℕ) → Keeps r0 r1 → HoldsChunk size r1 H left → HoldsChunk size r0 H left
 held_from size r0 r1 left H k h = record { all = Keeps-trans r0 r1 (prepend_known H left) k h.all; end = h.end }
 
 -- a held header is that of all bytes
@@ -34,7 +34,7 @@ header_bytes : (k : OpeningKey) (H X Y : List ℕ) → H ++ Y ≡ X → k.header
 header_bytes k H X Y e long = ap (take k.header) (sym e) ∙ take-append-le k.header H Y long
 
 -- a stream begins in no header of a key from which keys are derived
-pub not_begun : (k : OpeningKey) (r left : Option (List ℕ)) (H : List ℕ) → 0 < k.header → IsHeld k.header r H left → (HasHeader k H → k.seg (take k.header H) ≡ None) → IfSome r (λ X. Begins k X → ⊥)
+pub not_begun : (k : OpeningKey) (r left : Option (List ℕ)) (H : List ℕ) → 0 < k.header → HoldsChunk k.header r H left → (HasHeader k H → k.seg (take k.header H) ≡ None) → IfSome r (λ X. Begins k X → ⊥)
 not_begun k None left H pos h none = tt
 not_begun k (Some X) None H pos h none = absurd h.all
 not_begun k (Some X) (Some Y) H pos h none = λ b.
@@ -50,12 +50,12 @@ pub record Tried (k : OpeningKey) (r l m : Option (List ℕ)) (H G part : List �
   pub before : Keeps r (prepend_known H l)
   pub header : HasHeader k H
   pub map : k.seg (take k.header H) ≡ Some seg
-  pub held : IsHeld (k.header + k.first) r G m
+  pub held : HoldsChunk (k.header + k.first) r G m
   pub long : k.header ≤ length G
   pub size_is : size ≡ k.first
   pub part_is : part ≡ drop k.header G
 
-behind : (k : OpeningKey) (X Y G : List ℕ) → IsHeld (k.header + k.first) (Some X) G (Some Y) → k.header ≤ length G → IsHeld k.first (Some (drop k.header X)) (drop k.header G) (Some Y)
+behind : (k : OpeningKey) (X Y G : List ℕ) → HoldsChunk (k.header + k.first) (Some X) G (Some Y) → k.header ≤ length G → HoldsChunk k.first (Some (drop k.header X)) (drop k.header G) (Some Y)
 behind k X Y G h long = record {
   all = sym (drop-append-le k.header G Y long) ∙ ap (drop k.header) h.all;
   end = λ few. h.end (omega (arith, length-drop k.header G));

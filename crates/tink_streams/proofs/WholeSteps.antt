@@ -10,7 +10,7 @@ use Rattle.tink_io.specs.Faults.{Rose}
 use Rattle.tink_io.specs.Written.{AppendsFront}
 use Rattle.tink_io.specs.declared.error.Kind.{Kind}
 use Rattle.tink_io.specs.declared.error.Kind.TheVariants.{ReadFault, TooManySegments, BadSegment, Truncated}
-use Rattle.tink_streams.specs.Reading.{Moment, TellsLeads, OpenRefused, HasNotFailed}
+use Rattle.tink_streams.specs.Reading.{ReaderMoment, TellsLeads, OpenRefused, HasNotFailed}
 use Rattle.tink_streams.specs.declared.progress.Progress.{Progress}
 use Rattle.tink_streams.specs.declared.progress.Progress.TheVariants.{Running, Ended, Failed}
 use Rattle.tink_streams.specs.Whole.{Faults, WroteSome, AllRefused}
@@ -27,7 +27,7 @@ leads_some seg a b None r1 texts p = tt
 leads_some seg a b (Some X) None texts p = absurd p
 leads_some seg a b (Some X) (Some Y) texts p = (cut (room_at a b (0 + length texts)) b Y, p)
 
-pub wrote_some : (seg : ℕ → Bool → List ℕ → List ℕ) (a b : ℕ) (all got now : Option (List ℕ)) (texts : List (List ℕ)) (m : Moment) (before after : ℕ) → Opened seg a b all texts m → Rose before after → AppendsFront got now (joined texts) → WroteSome seg a b all got now before after
+pub wrote_some : (seg : ℕ → Bool → List ℕ → List ℕ) (a b : ℕ) (all got now : Option (List ℕ)) (texts : List (List ℕ)) (m : ReaderMoment) (before after : ℕ) → Opened seg a b all texts m → Rose before after → AppendsFront got now (joined texts) → WroteSome seg a b all got now before after
 wrote_some seg a b all got now texts m before after o r w = record { rose = r; texts = texts; leads = leads_some seg a b all m.rest texts o.leads; written = w }
 
 always : (r : Option (List ℕ)) (P : List ℕ → Type 0) → ((X : List ℕ) → P X) → IfSome r P
@@ -43,7 +43,7 @@ short_or_none o n X (inl h) = inl h
 short_or_none o n X (inr e) = inr (ap (take n) e ∙ take_all n [] (omega arith))
 
 -- what a refusal says of all
-pub refused_all : (seg : ℕ → Bool → List ℕ → List ℕ) (a b overhead : ℕ) (all got now : Option (List ℕ)) (texts : List (List ℕ)) (m n : Moment) (f : Faults) (k : Kind) → f.read_before ≤ m.faults → f.read_after ≡ n.faults → 0 < a → 0 < b → Opened seg a b all texts m → Appends got now (joined texts)
+pub refused_all : (seg : ℕ → Bool → List ℕ → List ℕ) (a b overhead : ℕ) (all got now : Option (List ℕ)) (texts : List (List ℕ)) (m n : ReaderMoment) (f : Faults) (k : Kind) → f.read_before ≤ m.faults → f.read_after ≡ n.faults → 0 < a → 0 < b → Opened seg a b all texts m → Appends got now (joined texts)
     → OpenRefused seg a b overhead m n k → AllRefused seg a b overhead all got now f k
 refused_all seg a b overhead all got now texts m n f ReadFault later same p q o w h =
     let risen = h.rose in

@@ -15,7 +15,7 @@ use Rattle.tink_io.specs.declared.error.Kind.TheVariants.{WriteFault, TooManySeg
 use Rattle.tink_io.specs.declared.error.Kind.TheVariants as kind
 use Rattle.tink_io.specs.declared.error.TinkError.{TinkError}
 use Rattle.tink_streams.specs.declared.writing.Mode.TheVariants.{Open}
-use Rattle.tink_streams.specs.Writing.{Moment, filled, StopsAt, Wrote, WroteFront, WroteAll, WriteRefused, ClosedBy, ClosedShort, CloseMeans, PutMeans}
+use Rattle.tink_streams.specs.Writing.{WriterMoment, filled, StopsAt, Wrote, WroteFront, WroteAll, WriteRefused, ClosedBy, ClosedShort, CloseMeans, PutMeans}
 use Rattle.tink_streams.proofs.WriterSteps.{then_front, one_begun}
 use Rattle.tink_streams.proofs.FrontFacts.{fits_or_not}
 
@@ -28,14 +28,14 @@ room_at-add a b i zero = ap (room_at a b) (sym (add-zero i))
 room_at-add a b i (suc k) = let e : i + suc k ≡ (i + k) + 1 = omega arith in sym (ap (room_at a b) e ∙ room_at_next a b (i + k))
 
 -- a later moment of the same writer: what a text fills in both is what it fills in one and then in the other
-record Follows (a b : ℕ) (m n : Moment) (R : List ℕ) : Type 0 where
+record Follows (a b : ℕ) (m n : WriterMoment) (R : List ℕ) : Type 0 where
   counted : n.number ≡ m.number + length (filled a b m R)
   held : n.held ≡ open_chunk (room_at a b m.number) b (m.held ++ R)
 
-follows : (seg : ℕ → Bool → List ℕ → List ℕ) (a b : ℕ) (m n : Moment) (R : List ℕ) → Wrote seg a b m n R → Follows a b m n R
+follows : (seg : ℕ → Bool → List ℕ → List ℕ) (a b : ℕ) (m n : WriterMoment) (R : List ℕ) → Wrote seg a b m n R → Follows a b m n R
 follows seg a b m n R w = record { counted = w.counted; held = w.held }
 
-filled-append : (a b : ℕ) (m n : Moment) (R S : List ℕ) → 0 < a → 0 < b → Follows a b m n R → filled a b m (R ++ S) ≡ filled a b m R ++ filled a b n S
+filled-append : (a b : ℕ) (m n : WriterMoment) (R S : List ℕ) → 0 < a → 0 < b → Follows a b m n R → filled a b m (R ++ S) ≡ filled a b m R ++ filled a b n S
 filled-append a b m n R S p q f =
     let r : ℕ = room_at a b m.number in
     let T : List ℕ = m.held ++ R in
@@ -44,7 +44,7 @@ filled-append a b m n R S p q f =
     ∙ ap (λ x. full_chunks r b T ++ full_chunks x b (open_chunk r b T ++ S)) room
     ∙ ap (λ x. full_chunks r b T ++ full_chunks (room_at a b n.number) b (x ++ S)) (sym f.held)
 
-open-append : (a b : ℕ) (m n : Moment) (R S : List ℕ) → 0 < a → 0 < b → Follows a b m n R
+open-append : (a b : ℕ) (m n : WriterMoment) (R S : List ℕ) → 0 < a → 0 < b → Follows a b m n R
     → open_chunk (room_at a b m.number) b (m.held ++ (R ++ S)) ≡ open_chunk (room_at a b n.number) b (n.held ++ S)
 open-append a b m n R S p q f =
     let r : ℕ = room_at a b m.number in
@@ -59,7 +59,7 @@ unmarked-follows : (seg : ℕ → Bool → List ℕ → List ℕ) (i j : ℕ) (x
 unmarked-follows seg i j xs ys e = ap (λ n. unmarked seg i xs ++ unmarked seg n ys) e ∙ sym (unmarked-append seg i xs ys)
 
 -- a text and then another are one text
-pub wrote_more : (seg : ℕ → Bool → List ℕ → List ℕ) (a b : ℕ) (m n o : Moment) (R S : List ℕ) → 0 < a → 0 < b → Wrote seg a b m n R → Wrote seg a b n o S → Wrote seg a b m o (R ++ S)
+pub wrote_more : (seg : ℕ → Bool → List ℕ → List ℕ) (a b : ℕ) (m n o : WriterMoment) (R S : List ℕ) → 0 < a → 0 < b → Wrote seg a b m n R → Wrote seg a b n o S → Wrote seg a b m o (R ++ S)
 wrote_more seg a b m n o R S p q w v =
     let f = follows seg a b m n R w in
     let all = filled-append a b m n R S p q f in
@@ -73,7 +73,7 @@ wrote_more seg a b m n o R S p q w v =
       few = v.few;
     }
 
-pub wrote_then_front : (seg : ℕ → Bool → List ℕ → List ℕ) (a b : ℕ) (m n o : Moment) (R S : List ℕ) → 0 < a → 0 < b → m.faults ≤ n.faults → Wrote seg a b m n R → WroteFront seg a b n o S → WroteFront seg a b m o (R ++ S)
+pub wrote_then_front : (seg : ℕ → Bool → List ℕ → List ℕ) (a b : ℕ) (m n o : WriterMoment) (R S : List ℕ) → 0 < a → 0 < b → m.faults ≤ n.faults → Wrote seg a b m n R → WroteFront seg a b n o S → WroteFront seg a b m o (R ++ S)
 wrote_then_front seg a b m n o R S p q later w v =
     let before : List (List ℕ) = filled a b m R in
     let stops = v.stops in
@@ -103,7 +103,7 @@ take_below i j xs ys e h =
     let n : 2 ^ 32 - 1 - i ≡ length xs + (2 ^ 32 - 1 - j) = omega arith in
     ap (λ k. take k (xs ++ ys)) n ∙ take-append-add xs ys (2 ^ 32 - 1 - j)
 
-pub wrote_then_all : (seg : ℕ → Bool → List ℕ → List ℕ) (a b : ℕ) (m n o : Moment) (R S : List ℕ) → 0 < a → 0 < b → Wrote seg a b m n R → WroteAll seg a b n o S → WroteAll seg a b m o (R ++ S)
+pub wrote_then_all : (seg : ℕ → Bool → List ℕ → List ℕ) (a b : ℕ) (m n o : WriterMoment) (R S : List ℕ) → 0 < a → 0 < b → Wrote seg a b m n R → WroteAll seg a b n o S → WroteAll seg a b m o (R ++ S)
 wrote_then_all seg a b m n o R S p q w v =
     let all = filled-append a b m n R S p q (follows seg a b m n R w) in
     let below = ap (take (2 ^ 32 - 1 - m.number)) all ∙ take_below m.number n.number (filled a b m R) (filled a b n S) w.counted w.few in
@@ -118,7 +118,7 @@ wrote_then_all seg a b m n o R S p q w v =
     }
 
 -- a refusal after a text is that of both
-pub refused_more : (seg : ℕ → Bool → List ℕ → List ℕ) (a b : ℕ) (m n o : Moment) (R S : List ℕ) (k : Kind) → 0 < a → 0 < b → m.faults ≤ n.faults → Wrote seg a b m n R → WriteRefused seg a b n o S k → WriteRefused seg a b m o (R ++ S) k
+pub refused_more : (seg : ℕ → Bool → List ℕ → List ℕ) (a b : ℕ) (m n o : WriterMoment) (R S : List ℕ) (k : Kind) → 0 < a → 0 < b → m.faults ≤ n.faults → Wrote seg a b m n R → WriteRefused seg a b n o S k → WriteRefused seg a b m o (R ++ S) k
 refused_more seg a b m n o R S WriteFault p q later w v = wrote_then_front seg a b m n o R S p q later w v
 refused_more seg a b m n o R S TooManySegments p q later w v = wrote_then_all seg a b m n o R S p q w v
 refused_more seg a b m n o R S kind.Closed p q later w v = absurd (let e = sym w.is_open ∙ v.0 in cc)
@@ -126,19 +126,19 @@ refused_more seg a b m n o R S (FailedBefore c) p q later w v = absurd (let e = 
 refused_more seg a b m n o R S _ p q later w v = absurd v
 
 -- a writer that has written nothing
-pub record IsFresh (m : Moment) : Type 0 where
+pub record IsFresh (m : WriterMoment) : Type 0 where
   pub mode : m.mode ≡ Open
   pub number : m.number ≡ 0
   pub held : m.held ≡ []
 
-pub fresh_filled : (a b : ℕ) (m : Moment) (R : List ℕ) → IsFresh m → filled a b m R ≡ full_chunks a b R
+pub fresh_filled : (a b : ℕ) (m : WriterMoment) (R : List ℕ) → IsFresh m → filled a b m R ≡ full_chunks a b R
 fresh_filled a b m R f = ap (λ i. full_chunks (room_at a b i) b (m.held ++ R)) f.number ∙ ap (λ x. full_chunks a b (x ++ R)) f.held
 
-fresh_open : (a b : ℕ) (m : Moment) (R : List ℕ) → IsFresh m → open_chunk (room_at a b m.number) b (m.held ++ R) ≡ open_chunk a b R
+fresh_open : (a b : ℕ) (m : WriterMoment) (R : List ℕ) → IsFresh m → open_chunk (room_at a b m.number) b (m.held ++ R) ≡ open_chunk a b R
 fresh_open a b m R f = ap (λ i. open_chunk (room_at a b i) b (m.held ++ R)) f.number ∙ ap (λ x. open_chunk a b (x ++ R)) f.held
 
 -- no text so far
-pub wrote_nothing : (seg : ℕ → Bool → List ℕ → List ℕ) (a b : ℕ) (m : Moment) → IsFresh m → Wrote seg a b m m []
+pub wrote_nothing : (seg : ℕ → Bool → List ℕ → List ℕ) (a b : ℕ) (m : WriterMoment) → IsFresh m → Wrote seg a b m m []
 wrote_nothing seg a b m f =
     let none : filled a b m [] ≡ [] = fresh_filled a b m [] f ∙ full_chunks_fits a b [] (omega arith) in
     record {
@@ -151,7 +151,7 @@ wrote_nothing seg a b m f =
     }
 
 -- what a fresh writer's text and its marked segment are
-whole : (seg : ℕ → Bool → List ℕ → List ℕ) (a b : ℕ) (m n : Moment) (R : List ℕ) → IsFresh m → Wrote seg a b m n R
+whole : (seg : ℕ → Bool → List ℕ → List ℕ) (a b : ℕ) (m n : WriterMoment) (R : List ℕ) → IsFresh m → Wrote seg a b m n R
     → unmarked seg m.number (filled a b m R) ++ seg n.number true n.held ≡ sealed seg a b R
 whole seg a b m n R f w =
     let number : n.number ≡ length (full_chunks a b R) = omega (arith, w.counted, f.number, ap length (fresh_filled a b m R f)) in
@@ -162,7 +162,7 @@ whole seg a b m n R f w =
     ∙ sym (sealed_split seg a b R)
 
 -- a fresh writer that was given a text and closed has written the text's segments, and counted its chunks
-pub closed_whole : (seg : ℕ → Bool → List ℕ → List ℕ) (a b : ℕ) (m n o : Moment) (R : List ℕ) → IsFresh m → Wrote seg a b m n R → ClosedBy seg n o
+pub closed_whole : (seg : ℕ → Bool → List ℕ → List ℕ) (a b : ℕ) (m n o : WriterMoment) (R : List ℕ) → IsFresh m → Wrote seg a b m n R → ClosedBy seg n o
     → Appends m.got o.got (sealed seg a b R) × (o.number ≡ length (chunks a b R))
 closed_whole seg a b m n o R f w c = (
   subst (Appends m.got o.got) (whole seg a b m n R f w) (Appends-trans m.got n.got o.got _ _ w.appended c.appended),
@@ -170,16 +170,16 @@ closed_whole seg a b m n o R f w c = (
 )
 
 -- where the sink failed at the last segment, it has a prefix of them
-pub closed_front : (seg : ℕ → Bool → List ℕ → List ℕ) (a b : ℕ) (m n o : Moment) (R : List ℕ) → IsFresh m → Wrote seg a b m n R → ClosedShort seg n o → AppendsFront m.got o.got (sealed seg a b R)
+pub closed_front : (seg : ℕ → Bool → List ℕ → List ℕ) (a b : ℕ) (m n o : WriterMoment) (R : List ℕ) → IsFresh m → Wrote seg a b m n R → ClosedShort seg n o → AppendsFront m.got o.got (sealed seg a b R)
 closed_front seg a b m n o R f w c = subst (AppendsFront m.got o.got) (whole seg a b m n R f w) (then_front m.got n.got o.got _ _ w.appended c.begun)
 
 -- putting the last segment closes a writer
-pub put_closes : (seg : ℕ → Bool → List ℕ → List ℕ) (m n : Moment) (r : Result (Unit {0}) TinkError) → m.mode ≡ Open → PutMeans seg true m n r → CloseMeans seg m n r
+pub put_closes : (seg : ℕ → Bool → List ℕ → List ℕ) (m n : WriterMoment) (r : Result (Unit {0}) TinkError) → m.mode ≡ Open → PutMeans seg true m n r → CloseMeans seg m n r
 put_closes seg m n (Ok u) was p = inl (record { was_open = was; is_closed = p.mode; appended = p.appended; counted = p.counted })
 put_closes seg m n (Err e) was p = rw p.kind (record { was_open = was; failed = p.failed; counted = p.counted; begun = p.begun; rose = p.rose })
 
 -- closing that went well after a text
-pub close_ok : (seg : ℕ → Bool → List ℕ → List ℕ) (a b : ℕ) (m n o : Moment) (R : List ℕ) (r : Result (Unit {0}) TinkError) → IsFresh m → Wrote seg a b m n R → CloseMeans seg n o r
+pub close_ok : (seg : ℕ → Bool → List ℕ → List ℕ) (a b : ℕ) (m n o : WriterMoment) (R : List ℕ) (r : Result (Unit {0}) TinkError) → IsFresh m → Wrote seg a b m n R → CloseMeans seg n o r
     → OnOk r (Appends m.got o.got (sealed seg a b R) × (o.number ≡ length (chunks a b R)))
 close_ok seg a b m n o R (Ok u) f w (inl c) = closed_whole seg a b m n o R f w c
 close_ok seg a b m n o R (Ok u) f w (inr c) = absurd (let e = sym w.is_open ∙ c.0 in cc)

@@ -27,7 +27,7 @@ module _ {D : Type 0} {g : Ghosts D} where
   reader_rest left r source = prepend_known (held_bytes r) (left source)
 
   -- the reader at this moment, by what the source still gives and by its faults
-  abbrev pub reader_moment : {S : Type 0} → (S → Option (List ℕ)) → (S → ℕ) → SegmentReader D g → S → segments.Moment
+  abbrev pub reader_moment : {S : Type 0} → (S → Option (List ℕ)) → (S → ℕ) → SegmentReader D g → S → segments.ReaderMoment
   reader_moment left faults r source = record { progress = r.progress; number = r.segments; opened = r.opened.items; rest = reader_rest left r source; faults = faults source }
 
   -- nothing is left once the last segment was opened
@@ -39,7 +39,7 @@ module _ {D : Type 0} {g : Ghosts D} where
   pending_text t = drop t.given t.reader.opened.items
 
   -- the reader at this moment, by what the source still gives and by its faults
-  abbrev pub text_moment : {S : Type 0} → (S → Option (List ℕ)) → (S → ℕ) → TextReader D g → S → text.Moment
+  abbrev pub text_moment : {S : Type 0} → (S → Option (List ℕ)) → (S → ℕ) → TextReader D g → S → text.TextMoment
   text_moment left faults t source = record { progress = t.reader.progress; number = t.reader.segments; pending = pending_text t; rest = reader_rest left t.reader source; faults = faults source }
 
   -- a reader with this text to give, and with a source that it owns

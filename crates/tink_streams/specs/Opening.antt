@@ -9,6 +9,6 @@ pub record OpensTo (seg : ℕ → Bool → List ℕ → List ℕ) (number size :
   pub segment : seg number (nat_le (length held) size) text ≡ take size held
 
 -- the held bytes and those that are left make the rest, and more than a chunk is held unless nothing is left
-pub record IsHeld (size : ℕ) (rest : Option (List ℕ)) (held : List ℕ) (left : Option (List ℕ)) : Type 0 where
+pub record HoldsChunk (size : ℕ) (rest : Option (List ℕ)) (held : List ℕ) (left : Option (List ℕ)) : Type 0 where
   pub all : Keeps rest (prepend_known held left)
   pub end : length held ≤ size → IsAtEnd left

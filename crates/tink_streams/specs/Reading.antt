@@ -15,7 +15,7 @@ use Rattle.tink_streams.specs.declared.progress.Progress.TheVariants.{Running, E
 
 -- a reader at one moment: how far it has come, the next segment's number, the text that was opened last,
 -- the bytes that are held or left, and the source's faults
-pub record Moment : Type 0 where
+pub record ReaderMoment : Type 0 where
   pub progress : Progress
   pub number : ℕ
   pub opened : List ℕ
@@ -34,7 +34,7 @@ HasNotFailed Ended = Unit {0}
 HasNotFailed (Failed c) = ⊥
 
 -- the next segment was opened: it is the last one where the reader has ended
-pub record OpensNext (seg : ℕ → Bool → List ℕ → List ℕ) (first size : ℕ) (old new : Moment) : Type 0 where
+pub record OpensNext (seg : ℕ → Bool → List ℕ → List ℕ) (first size : ℕ) (old new : ReaderMoment) : Type 0 where
   pub leads : TellsLeads seg first size old.number old.rest (new.opened ∷ []) new.rest
   pub number : new.number ≡ old.number + 1
   pub lives : HasNotFailed new.progress
@@ -43,18 +43,18 @@ pub record OpensNext (seg : ℕ → Bool → List ℕ → List ℕ) (first size 
   pub ends : new.progress ≡ Ended → IsAtEnd new.rest
 
 -- the reader has failed for good, and nothing was opened
-pub record FailsBy (c : Cause) (old new : Moment) : Type 0 where
+pub record FailsBy (c : Cause) (old new : ReaderMoment) : Type 0 where
   pub failed : new.progress ≡ Failed c
   pub number : new.number ≡ old.number
   pub opened : new.opened ≡ []
 
 -- the source failed
-pub record ReadFailed (old new : Moment) : Type 0 where
+pub record ReadFailed (old new : ReaderMoment) : Type 0 where
   pub fails : FailsBy cause.ReadFault old new
   pub rose : Rose old.faults new.faults
 
 -- no text agrees with what is left
-abbrev pub NothingComes : (ℕ → Bool → List ℕ → List ℕ) → ℕ → ℕ → Moment → Type 0
+abbrev pub NothingComes : (ℕ → Bool → List ℕ → List ℕ) → ℕ → ℕ → ReaderMoment → Type 0
 NothingComes seg first size m = IfSome m.rest (λ X. Agree seg m.number (cut (room_at first size m.number) size X) [])
 
 -- the next chunk
@@ -62,34 +62,34 @@ abbrev pub chunk_at : ℕ → ℕ → ℕ → List ℕ → List ℕ
 chunk_at first size i X = take (room_at first size i) X
 
 -- the next chunk is shorter than any segment; an end before it is that of an empty stream
-pub record IsTruncated (seg : ℕ → Bool → List ℕ → List ℕ) (first size overhead : ℕ) (old new : Moment) (n : ℕ) : Type 0 where
+pub record IsTruncated (seg : ℕ → Bool → List ℕ → List ℕ) (first size overhead : ℕ) (old new : ReaderMoment) (n : ℕ) : Type 0 where
   pub fails : FailsBy (cause.Truncated n) old new
   pub nothing : NothingComes seg first size old
   pub number : n ≡ old.number
   pub short : IfSome old.rest (λ X. ((length (chunk_at first size old.number X) < overhead) ⊎ (X ≡ [])) × (0 < old.number → 0 < length X))
 
 -- the next chunk is no shorter, and is the segment of no text
-pub record IsBad (seg : ℕ → Bool → List ℕ → List ℕ) (first size overhead : ℕ) (old new : Moment) (n : ℕ) : Type 0 where
+pub record IsBad (seg : ℕ → Bool → List ℕ → List ℕ) (first size overhead : ℕ) (old new : ReaderMoment) (n : ℕ) : Type 0 where
   pub fails : FailsBy (cause.BadSegment n) old new
   pub nothing : NothingComes seg first size old
   pub number : n ≡ old.number
   pub long : IfSome old.rest (λ X. overhead ≤ length (chunk_at first size old.number X))
 
 -- some bytes follow the last number
-pub record HasTooMany (seg : ℕ → Bool → List ℕ → List ℕ) (first size : ℕ) (old new : Moment) : Type 0 where
+pub record HasTooMany (seg : ℕ → Bool → List ℕ → List ℕ) (first size : ℕ) (old new : ReaderMoment) : Type 0 where
   pub fails : FailsBy cause.TooManySegments old new
   pub nothing : NothingComes seg first size old
   pub number : old.number ≡ 2 ^ 32
   pub more : IfSome old.rest (λ X. 0 < length X)
 
 -- each refusal
-abbrev pub OpenRefused : (ℕ → Bool → List ℕ → List ℕ) → ℕ → ℕ → ℕ → Moment → Moment → Kind → Type 0
+abbrev pub OpenRefused : (ℕ → Bool → List ℕ → List ℕ) → ℕ → ℕ → ℕ → ReaderMoment → ReaderMoment → Kind → Type 0
 OpenRefused seg first size overhead old new ReadFault = ReadFailed old new
 OpenRefused seg first size overhead old new TooManySegments = HasTooMany seg first size old new
 OpenRefused seg first size overhead old new (BadSegment n) = IsBad seg first size overhead old new n
 OpenRefused seg first size overhead old new (Truncated n) = IsTruncated seg first size overhead old new n
 OpenRefused seg first size overhead old new _ = ⊥
 
-abbrev pub OpenMeans : (ℕ → Bool → List ℕ → List ℕ) → ℕ → ℕ → ℕ → Moment → Moment → Result (Unit {0}) TinkError → Type 0
+abbrev pub OpenMeans : (ℕ → Bool → List ℕ → List ℕ) → ℕ → ℕ → ℕ → ReaderMoment → ReaderMoment → Result (Unit {0}) TinkError → Type 0
 OpenMeans seg first size overhead old new (Ok _) = OpensNext seg first size old new
 OpenMeans seg first size overhead old new (Err e) = OpenRefused seg first size overhead old new e.kind

@@ -4,7 +4,7 @@ use Rattle.std.specs.declared.option.Option.{Option}
 use Rattle.stream_model.specs.Cut.{numbered}
 use Rattle.tink_segment_traits.specs.declared.segment_traits.SegmentEncrypter.{Ghosts}
 use Rattle.tink_streams.specs.Writers.{WriterState}
-use Rattle.tink_streams.specs.Writing.{Moment}
+use Rattle.tink_streams.specs.Writing.{WriterMoment}
 use Rattle.tink_streams.specs.declared.sealer.Sealer.{Sealer}
 use Rattle.tink_streams.specs.declared.writing.SegmentWriter.{SegmentWriter}
 
@@ -14,7 +14,7 @@ module _ {E : Type 0} {g : Ghosts E} where
   segment_map s = numbered (g.seg s.encrypter) s.nonce_size s.prefix.items
 
   -- the writer at this moment, by what the sink got and by its faults
-  abbrev pub writer_moment : {K : Type 0} → (K → Option (List ℕ)) → (K → ℕ) → SegmentWriter E g → K → Moment
+  abbrev pub writer_moment : {K : Type 0} → (K → Option (List ℕ)) → (K → ℕ) → SegmentWriter E g → K → WriterMoment
   writer_moment got faults w sink = record { mode = w.mode; number = w.segments; held = w.held.items; got = got sink; faults = faults sink }
 
   -- the writer with a sink that it owns

@@ -15,7 +15,7 @@ use Rattle.tink_streams.specs.Reading as segments
 
 -- a text's reader at one moment: how far it has come, the next segment's number, the text that was opened and is not yet given,
 -- the bytes that are held or left, and the source's faults
-pub record Moment : Type 0 where
+pub record TextMoment : Type 0 where
   pub progress : Progress
   pub number : ℕ
   pub pending : List ℕ
@@ -23,28 +23,28 @@ pub record Moment : Type 0 where
   pub faults : ℕ
 
 -- the reader of its segments
-abbrev pub of_segments : Moment → segments.Moment
+abbrev pub of_segments : TextMoment → segments.ReaderMoment
 of_segments m = record { progress = m.progress; number = m.number; opened = m.pending; rest = m.rest; faults = m.faults }
 
 -- a moment with other text to give
-abbrev pub with_pending : Moment → List ℕ → Moment
+abbrev pub with_pending : TextMoment → List ℕ → TextMoment
 with_pending m text = record { progress = m.progress; number = m.number; pending = text; rest = m.rest; faults = m.faults }
 
 -- the next segment is to be opened: there is room, and no opened text is left to give
-pub record IsDue (m : Moment) (room : ℕ) : Type 0 where
+pub record IsDue (m : TextMoment) (room : ℕ) : Type 0 where
   pub running : m.progress ≡ Running
   pub pending : m.pending ≡ []
   pub some : 0 < room
 
 -- the last segment was opened, its text was given, and no byte is left
-pub record AtEnd (m : Moment) : Type 0 where
+pub record AtEnd (m : TextMoment) : Type 0 where
   pub ended : m.progress ≡ Ended
   pub some : 0 < m.number
   pub pending : m.pending ≡ []
   pub rest : IsAtEnd m.rest
 
 -- text is ready to be given, unless the end is reached: the next segment was opened where it was due
-pub record IsReady (seg : ℕ → Bool → List ℕ → List ℕ) (first size : ℕ) (old new : Moment) : Type 0 where
+pub record IsReady (seg : ℕ → Bool → List ℕ → List ℕ) (first size : ℕ) (old new : TextMoment) : Type 0 where
   pub lives : HasNotFailed new.progress
   pub texts : List (List ℕ)
   pub due : 0 < length texts → IsDue old 1
@@ -57,7 +57,7 @@ pub record IsReady (seg : ℕ → Bool → List ℕ → List ℕ) (first size : 
   pub ends : new.progress ≡ Ended → IsAtEnd new.rest
 
 -- n bytes were given, as many as there are and have room: at most one segment was opened, and that where it was due
-pub record Gives (seg : ℕ → Bool → List ℕ → List ℕ) (first size : ℕ) (old new : Moment) (before after : List ℕ) (n : ℕ) : Type 0 where
+pub record GivesText (seg : ℕ → Bool → List ℕ → List ℕ) (first size : ℕ) (old new : TextMoment) (before after : List ℕ) (n : ℕ) : Type 0 where
   pub was : HasNotFailed old.progress
   pub lives : HasNotFailed new.progress
   pub texts : List (List ℕ)
@@ -73,7 +73,7 @@ pub record Gives (seg : ℕ → Bool → List ℕ → List ℕ) (first size : �
   pub ends : new.progress ≡ Ended → IsAtEnd new.rest
 
 -- each refusal of a read, which has failed before or opened nothing
-abbrev pub ReadRefused : (ℕ → Bool → List ℕ → List ℕ) → ℕ → ℕ → ℕ → Moment → Moment → ℕ → Kind → Type 0
+abbrev pub ReadRefused : (ℕ → Bool → List ℕ → List ℕ) → ℕ → ℕ → ℕ → TextMoment → TextMoment → ℕ → Kind → Type 0
 ReadRefused seg first size overhead old new room ReadFault = IsDue old room × ReadFailed (of_segments old) (of_segments new)
 ReadRefused seg first size overhead old new room TooManySegments = IsDue old room × HasTooMany seg first size (of_segments old) (of_segments new)
 ReadRefused seg first size overhead old new room (BadSegment n) = IsDue old room × IsBad seg first size overhead (of_segments old) (of_segments new) n
@@ -82,17 +82,17 @@ ReadRefused seg first size overhead old new room (FailedBefore c) = (old.progres
 ReadRefused seg first size overhead old new room _ = ⊥
 
 -- what a read to a buffer answers, and what the buffer and the reader then are
-abbrev pub ReadMeans : (ℕ → Bool → List ℕ → List ℕ) → ℕ → ℕ → ℕ → Moment → Moment → List ℕ → List ℕ → Result ℕ TinkError → Type 0
-ReadMeans seg first size overhead old new before after (Ok n) = Gives seg first size old new before after n
+abbrev pub ReadMeans : (ℕ → Bool → List ℕ → List ℕ) → ℕ → ℕ → ℕ → TextMoment → TextMoment → List ℕ → List ℕ → Result ℕ TinkError → Type 0
+ReadMeans seg first size overhead old new before after (Ok n) = GivesText seg first size old new before after n
 ReadMeans seg first size overhead old new before after (Err e) = (after ≡ before) × ReadRefused seg first size overhead old new (length before) e.kind
 
 -- what getting text ready answers
-abbrev pub ReadyMeans : (ℕ → Bool → List ℕ → List ℕ) → ℕ → ℕ → ℕ → Moment → Moment → Result (Unit {0}) TinkError → Type 0
+abbrev pub ReadyMeans : (ℕ → Bool → List ℕ → List ℕ) → ℕ → ℕ → ℕ → TextMoment → TextMoment → Result (Unit {0}) TinkError → Type 0
 ReadyMeans seg first size overhead old new (Ok _) = IsReady seg first size old new
 ReadyMeans seg first size overhead old new (Err e) = IsDue old 1 × OpenRefused seg first size overhead (of_segments old) (of_segments new) e.kind
 
 -- from a reader over all bytes on, that had opened nothing, reads have given these bytes
-pub record Gave (seg : ℕ → Bool → List ℕ → List ℕ) (first size : ℕ) (all : Option (List ℕ)) (given : List ℕ) (m : Moment) : Type 0 where
+pub record Gave (seg : ℕ → Bool → List ℕ → List ℕ) (first size : ℕ) (all : Option (List ℕ)) (given : List ℕ) (m : TextMoment) : Type 0 where
   pub texts : List (List ℕ)
   pub number : m.number ≡ length texts
   pub leads : TellsLeads seg first size 0 all texts m.rest

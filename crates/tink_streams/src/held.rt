@@ -1,7 +1,7 @@
 ghost use Rattle.std.specs.Prelude.{◌≡◌, ◌≤◌, ◌<◌, ◌+◌, ◌-◌, length, take, drop, max, IfOk, OnErr, vec_len};
 ghost use Rattle.std.specs.Io.KnownBytes.{Keeps, IsAtEnd, prepend_known};
 ghost use Rattle.tink_io.specs.Faults.{Rose};
-ghost use Rattle.tink_streams.specs.Opening.{IsHeld};
+ghost use Rattle.tink_streams.specs.Opening.{HoldsChunk};
 
 use tink_io::{Failed, Source};
 
@@ -46,7 +46,7 @@ pub fn hold<S: Source>(
     ensures in_buffer { IfOk result (λ n. n ≤ vec_len buffer.new) }
     ensures most { IfOk result (λ n. n ≤ max filled (size + 1)) }
     ensures more { IfOk result (λ n. filled ≤ n) }
-    ensures held { IfOk result (λ n. IsHeld size (prepend_known (take filled buffer.old.items) (S.left source.old))
+    ensures held { IfOk result (λ n. HoldsChunk size (prepend_known (take filled buffer.old.items) (S.left source.old))
         (take n buffer.new.items) (S.left source.new)) }
     ensures later { S.faults source.old ≤ S.faults source.new }
     ensures rose { OnErr result (Rose (S.faults source.old) (S.faults source.new)) }

@@ -1,6 +1,6 @@
 ghost use Rattle.std.specs.Prelude.{◌≡◌, ◌≤◌, ◌<◌, ◌+◌, max, OnOk, OnErr, vec_len};
 ghost use Rattle.tink_io.specs.Faults.{Rose};
-ghost use Rattle.tink_streams.specs.Opening.{IsHeld};
+ghost use Rattle.tink_streams.specs.Opening.{HoldsChunk};
 
 use crate::held::hold;
 use tink_io::{Failed, Source};
@@ -19,7 +19,7 @@ impl Kept {
     /// Keeps more than `size` bytes, or all.
     pub fn keep<S: Source>(&mut self, source: &mut S, size: usize) -> Result<(), Failed>
         requires size { size < vec_len self.old.buffer }
-        ensures held { OnOk result (IsHeld size (kept_rest S.left self.old source.old) (kept_bytes self.new)
+        ensures held { OnOk result (HoldsChunk size (kept_rest S.left self.old source.old) (kept_bytes self.new)
             (S.left source.new)) }
         ensures most { OnOk result (self.new.filled ≤ max self.old.filled (size + 1)) }
         ensures more { self.old.filled ≤ self.new.filled }

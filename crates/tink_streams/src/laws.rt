@@ -1,12 +1,12 @@
 ghost use Rattle.std.specs.Prelude.{◌≡◌, ◌<◌, ◌++◌, ℕ, Bool, true, List, length};
 ghost use Rattle.stream_model.specs.Cut.{full_chunks, open_chunk, sealed, unmarked};
 ghost use Rattle.tink_streams.specs.Full.{AreFull};
-ghost use Rattle.tink_streams.specs.Writing.{Moment, Wrote};
+ghost use Rattle.tink_streams.specs.Writing.{WriterMoment, Wrote};
 
 /// A stream depends on its text alone, however the text is cut into writes: the writes of one text
 /// and then of another are the write of both at once.
 pub fn law_any_cutting()
-    ensures joined { (seg : ℕ → Bool → List ℕ → List ℕ) (first room : ℕ) (old between new : Moment)
+    ensures joined { (seg : ℕ → Bool → List ℕ → List ℕ) (first room : ℕ) (old between new : WriterMoment)
         (text more : List ℕ) → 0 < first → 0 < room → Wrote seg first room old between text
         → Wrote seg first room between new more → Wrote seg first room old new (text ++ more) }
 {}

@@ -2,7 +2,7 @@ use Rattle.std.proofs.Common.{take, length, refl, sym, ap, ◌∙◌, arith}
 use Rattle.std.proofs.KnownBytes.{Keeps-refl}
 use Rattle.std.proofs.lemmas.Result.{err_from_is_err_and}
 use Rattle.std.specs.Io.KnownBytes.{prepend_known}
-use Rattle.tink_streams.specs.Reading.{Moment}
+use Rattle.tink_streams.specs.Reading.{ReaderMoment}
 use Rattle.tink_run.proofs.ReadOut.{reading_first, reading_next, read_out, write_failed, next_refused, first_refused}
 use Rattle.tink_run.proofs.open.open_stream.Goals as goal
 
@@ -11,8 +11,8 @@ returns-in_err-open_first-clause-answer g c =
     let p = err_from_is_err_and c.from_residual.result c.from_residual.ensures.1 in
     let before = c.args.reader.now in
     let after = c.open_first.new.reader in
-    let m : Moment = record { progress = before.progress; number = before.segments; opened = before.opened.items; rest = prepend_known (take before.filled before.buffer.items) (g.S.Source.left c.args.source.now); faults = g.S.Source.faults c.args.source.now } in
-    let n : Moment = record { progress = after.progress; number = after.segments; opened = after.opened.items; rest = prepend_known (take after.filled after.buffer.items) (g.S.Source.left c.open_first.new.source); faults = g.S.Source.faults c.open_first.new.source } in
+    let m : ReaderMoment = record { progress = before.progress; number = before.segments; opened = before.opened.items; rest = prepend_known (take before.filled before.buffer.items) (g.S.Source.left c.args.source.now); faults = g.S.Source.faults c.args.source.now } in
+    let n : ReaderMoment = record { progress = after.progress; number = after.segments; opened = after.opened.items; rest = prepend_known (take after.filled after.buffer.items) (g.S.Source.left c.open_first.new.source); faults = g.S.Source.faults c.open_first.new.source } in
     rw (p.1, p.2) (first_refused _ _ _ _ _ _ m n _ c.requires.fresh refl (omega arith) (omega arith) (Keeps-refl _) c.in_err-open_first.ensures.answer)
 
 pub loop-bytes-init : goal.loop-bytes-init

@@ -6,7 +6,7 @@ use Rattle.stream_model.specs.Cut.{numbered}
 use Rattle.stream_model.specs.Opening.{opening_key}
 use Rattle.tink_stream_keys.specs.StreamKinds.{key_of}
 use Rattle.tink_segments.specs.StreamSegments.{segment_by}
-use Rattle.tink_streams.specs.TextReading.{Moment, ReadRefused}
+use Rattle.tink_streams.specs.TextReading.{TextMoment, ReadRefused}
 use Rattle.tink_streaming_aead.proofs.DecryptSteps.{first_refused, fresh_gives, fresh_refused, start_refused, unread}
 use Rattle.tink_streaming_aead.proofs.decrypt_reader.give_first.Goals as goal
 
@@ -27,7 +27,7 @@ returns-in-Ok-clause-answer g c =
     let started = rw told at (rw (c.deref.ensures.value, c.deref-2.ensures.value) at c.in_ok-reader.ensures.started) in
     let fresh = c.in_ok-reader.ensures.fresh in
     let reader = c.in_ok-reader.reader in
-    let m : Moment = record {
+    let m : TextMoment = record {
       progress = reader.progress;
       number = reader.segments;
       pending = drop 0 reader.opened.items;
@@ -37,7 +37,7 @@ returns-in-Ok-clause-answer g c =
     let o = reader.opener in
     let seg : ℕ → Bool → List ℕ → List ℕ = numbered (segment_by o.decrypter) o.nonce_size o.prefix.items in
     let after = c.read.new.self in
-    let n : Moment = record {
+    let n : TextMoment = record {
       progress = after.reader.progress;
       number = after.reader.segments;
       pending = drop after.given after.reader.opened.items;
@@ -61,7 +61,7 @@ returns g c =
     let reader = c.in_ok-reader.reader in
     let o = reader.opener in
     let seg : ℕ → Bool → List ℕ → List ℕ = numbered (segment_by o.decrypter) o.nonce_size o.prefix.items in
-    let m : Moment = record {
+    let m : TextMoment = record {
       progress = reader.progress;
       number = reader.segments;
       pending = drop 0 reader.opened.items;
@@ -69,7 +69,7 @@ returns g c =
       faults = g.S.Source.faults c.start.new.source;
     } in
     let after = c.read.new.self in
-    let n : Moment = record {
+    let n : TextMoment = record {
       progress = after.reader.progress;
       number = after.reader.segments;
       pending = drop after.given after.reader.opened.items;
