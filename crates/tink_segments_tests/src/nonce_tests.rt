@@ -14,15 +14,14 @@ fn is_key_size(n: usize) -> bool {
     }
 }
 
-// How many sizes below this one are those of keys.
-fn key_sizes(most: usize) -> usize {
-    let mut count = 0;
+// Whether of the sizes below this one those of keys are 16 and 32.
+fn are_two_sizes(most: usize) -> bool {
     for n in 0..most {
-        if is_key_size(n) {
-            count += 1;
+        if is_key_size(n) != (n == 16 || n == 32) {
+            return false;
         }
     }
-    count
+    true
 }
 
 // What no variant is answered by.
@@ -35,9 +34,7 @@ fn refusal(n: usize) -> Option<TinkError> {
 
 #[test]
 fn keys_have_two_sizes(rt: HostRuntime) {
-    expect(&rt, key_sizes(40), 2, "how many sizes below 40");
-    expect(&rt, is_key_size(16), true, "16 bytes");
-    expect(&rt, is_key_size(32), true, "32 bytes");
+    expect(&rt, are_two_sizes(40), true, "the sizes below 40");
     let refused = Some(TinkError::new(Kind::BadKeySize));
     expect(&rt, refusal(24), refused, "a key of 24 bytes");
 }
