@@ -6,8 +6,8 @@ use std::alloc::Global;
 use std::process::Abort;
 use std::test::Fail;
 use tink_core::registry::{KeyManager, Registry};
-use tink_io::{Kind, TinkError};
-use tink_proto::KeyTemplate;
+use tink_io::{Draws, Kind, TinkError};
+use tink_proto::{Bytes, KeyTemplate};
 use tink_streaming_aead::{
     AES_CTR_HMAC_TYPE_URL, AES_GCM_HKDF_TYPE_URL, AesCtrHmacKeyManager, AesGcmHkdfKeyManager,
     StreamKinds, aes128_ctr_hmac_sha256_segment_1mb_key_template,
@@ -82,17 +82,27 @@ fn gcm_hkdf_templates_are_of_their_formats(rt: HostRuntime) -> Result<(), Fail> 
     expect_template(&rt, aes256_gcm_hkdf_1mb_key_template(alloc), url, format)
 }
 
+// A new key of a template.
+fn new_key<M: KeyManager<Family = StreamKinds>>(
+    alloc: Global,
+    km: &M,
+    made: Result<KeyTemplate, TinkError>,
+    draws: &mut Draws,
+) -> Result<Bytes, TinkError> {
+    km.new_key(alloc, made?.value.as_slice(), draws)
+}
+
 // A new key of a template, of one draw fewer than there are: it is of sevens.
 fn expect_new<M: KeyManager<Family = StreamKinds>>(
     rt: &impl Abort,
     alloc: Global,
     km: &M,
-    kt: KeyTemplate,
+    made: Result<KeyTemplate, TinkError>,
     main: &[u8],
     sizes: [usize; 6],
 ) -> Result<(), Fail> {
     let mut draws = draws_of(alloc, &[7; 33][..main.len().min(32) + 1])?;
-    let bytes = km.new_key(alloc, kt.value.as_slice(), &mut draws)?;
+    let bytes = new_key(alloc, km, made, &mut draws)?;
     expect(rt, draws.left(), 1, "the draws left");
     expect_built(rt, alloc, km, bytes.as_slice(), main, sizes)
 }
@@ -100,50 +110,37 @@ fn expect_new<M: KeyManager<Family = StreamKinds>>(
 #[test]
 fn new_keys_build(rt: HostRuntime) -> Result<(), Fail> {
     let alloc = rt.alloc();
-    let kt = aes256_ctr_hmac_sha256_segment_4kb_key_template(alloc)?;
+    let made = aes256_ctr_hmac_sha256_segment_4kb_key_template(alloc);
     let sizes = [40, 4096, 4056, 32, 32, 16];
-    expect_new(
-        &rt,
-        alloc,
-        &AesCtrHmacKeyManager::new(),
-        kt,
-        &[7; 32],
-        sizes,
-    )?;
-    let kt = aes128_gcm_hkdf_1mb_key_template(alloc)?;
+    let km = AesCtrHmacKeyManager::new();
+    expect_new(&rt, alloc, &km, made, &[7; 32], sizes)?;
+    let made = aes128_gcm_hkdf_1mb_key_template(alloc);
     let sizes = [24, 1_048_576, 1_048_552, 16, 16, 12];
-    expect_new(
-        &rt,
-        alloc,
-        &AesGcmHkdfKeyManager::new(),
-        kt,
-        &[7; 16],
-        sizes,
-    )
+    let km = AesGcmHkdfKeyManager::new();
+    expect_new(&rt, alloc, &km, made, &[7; 16], sizes)
 }
 
-// Why no key of a template is made of 15 draws, and how many are then left.
-fn refusal<M: KeyManager>(
+// No key of a template is made of 15 draws, which are then left.
+fn expect_few<M: KeyManager<Family = StreamKinds>>(
+    rt: &impl Abort,
     alloc: Global,
     km: &M,
-    kt: KeyTemplate,
-) -> Result<(Option<Kind>, usize), TinkError> {
+    made: Result<KeyTemplate, TinkError>,
+) -> Result<(), Fail> {
     let mut draws = draws_of(alloc, &[7; 15])?;
-    let made = km.new_key(alloc, kt.value.as_slice(), &mut draws);
-    Ok((kind_of(made), draws.left()))
+    let told = kind_of(new_key(alloc, km, made, &mut draws));
+    expect(rt, told, Some(Kind::RandomFault), "the refusal");
+    expect(rt, draws.left(), 15, "the draws left");
+    Ok(())
 }
 
 #[test]
 fn too_few_draws_make_no_key(rt: HostRuntime) -> Result<(), Fail> {
     let alloc = rt.alloc();
-    let wanted = (Some(Kind::RandomFault), 15);
-    let kt = aes128_ctr_hmac_sha256_segment_4kb_key_template(alloc)?;
-    let told = refusal(alloc, &AesCtrHmacKeyManager::new(), kt)?;
-    assert!(rt; told == wanted);
-    let kt = aes128_gcm_hkdf_4kb_key_template(alloc)?;
-    let told = refusal(alloc, &AesGcmHkdfKeyManager::new(), kt)?;
-    assert!(rt; told == wanted);
-    Ok(())
+    let made = aes128_ctr_hmac_sha256_segment_4kb_key_template(alloc);
+    expect_few(&rt, alloc, &AesCtrHmacKeyManager::new(), made)?;
+    let made = aes128_gcm_hkdf_4kb_key_template(alloc);
+    expect_few(&rt, alloc, &AesGcmHkdfKeyManager::new(), made)
 }
 
 // Whether a registry has a manager of this URL.
