@@ -1,2 +1,1 @@
-pub mod LoadingFacts
-mod StandardFacts
+pub mod KeyFacts

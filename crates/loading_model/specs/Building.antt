@@ -1,20 +1,13 @@
--- From a key's data to a streaming key.
-use Rattle.std.specs.Prelude.{ℕ, ◌+◌, ◌^◌, ℤ, List, [], length, codes, Bool, ◌&&◌, ◌||◌, if◌then◌else◌, nat_eq, nat_le, nat_lt, Option, Some, None, Result, Err}
+-- From a message to a streaming key.
+use Rattle.std.specs.Prelude.{ℕ, ◌+◌, ◌^◌, ℤ, List, [], length, codes, Bool, ◌&&◌, ◌||◌, if◌then◌else◌, nat_eq, nat_le, nat_lt, Option, Some, None}
 use Rattle.std.specs.Ordering.{int_eq}
-use Rattle.std.specs.Str.{bytes_eq}
 use Rattle.hash_keys.specs.declared.Hash.{Hash}
 use Rattle.hash_keys.specs.declared.Hash.TheVariants.{Sha1, Sha224, Sha256, Sha384, Sha512}
 use Rattle.hash_keys.specs.Hash.{digest_size}
-use Rattle.tink_io.specs.declared.error.Kind.{Kind}
-use Rattle.tink_io.specs.declared.error.Kind.TheVariants.{UnsupportedKeyType, InvalidKey}
-use Rattle.tink_io.specs.Told.{or_refused}
 use Rattle.tink_proto.specs.declared.enums.HashType.TheVariants as types
-use Rattle.tink_proto.specs.declared.messages.keys.KeyData.{KeyData}
 use Rattle.tink_proto.specs.Enums.{hash_number}
 use Rattle.tink_proto_keys.specs.declared.streaming.AesCtrHmacStreamingKey.{AesCtrHmacStreamingKey}
 use Rattle.tink_proto_keys.specs.declared.streaming.AesGcmHkdfStreamingKey.{AesGcmHkdfStreamingKey}
-use Rattle.tink_proto_keys.specs.Streaming.{aes_ctr_hmac_streaming_key}
-use Rattle.wire_format.specs.Message.{decoded}
 use Rattle.wire_format.specs.Reading.{◌>>=◌}
 use Rattle.stream_model.specs.Key.{StreamKey}
 use Rattle.stream_model.specs.Key.SegmentKind.{CtrHmac, Gcm}
@@ -83,10 +76,3 @@ gcm_hkdf_of m = do
   params ← m.params
   hkdf_hash ← hash_numbered params.hkdf_hash_type
   if nat_eq m.version 0 then gcm_streaming_key m.key_value params.derived_key_size hkdf_hash params.ciphertext_segment_size else None
-
--- An empty value is refused before the URL is looked at.
-abbrev pub build : KeyData → Result StreamKey Kind
-build d =
-    if nat_eq (length d.value) 0 then Err InvalidKey
-    else if bytes_eq d.type_url aes_ctr_hmac_url then or_refused InvalidKey (decoded aes_ctr_hmac_streaming_key.read d.value >>= streaming_of)
-    else Err UnsupportedKeyType

@@ -1,2 +1,2 @@
-//! Definitions of loading: which keyset gives which streaming keys. There is no code here.
+//! Definitions of keys of streams: which message gives which key. There is no code here.
 #![tactic(auto)]

@@ -50,7 +50,7 @@ use Rattle.tink.specs.declared.managers.Managers.{Managers}
 use Rattle.tink_registry.specs.Listed.{Registered}
 use Rattle.tink_run.specs.Loading.{Loaded, LoadingRow, AreUsable}
 use Rattle.tink_run.specs.AllKeys.{built_key, load, rows, rows_by}
-use Rattle.tink_run.proofs.KeyFacts.{streaming_of_usable, gcm_hkdf_of_usable}
+use Rattle.loading_model.proofs.KeyFacts.{streaming_of_usable, gcm_hkdf_of_usable}
 use Rattle.tink_run.proofs.UsableKeys.{AreSound, IsOfLoading, IsSound, load_decoded_refuses, load_decoded_usable}
 
 -- a result refuses by `InvalidKey` alone
