@@ -19,7 +19,7 @@ use tink_io::{Kind, Sink, Source, TinkError, write_all};
 use tink_sets::TypedEntry;
 use tink_streaming_aead::{
     AES_CTR_HMAC_NONCE_SIZE_IN_BYTES, DerivesStreams, Progress, SegmentDecrypter, SegmentReader,
-    StreamKind, Trial, start,
+    StreamKind, Trial, largest_segment, start,
 };
 
 /// Opens what the source has left under the first key of some entries that it begins under.
@@ -69,17 +69,6 @@ fn keys_of<'a>(
         keys.push(&entry.primitive)?;
     }
     Ok(keys)
-}
-
-/// The bytes of the largest segment.
-fn largest_segment(keys: &[&StreamKind]) -> u32
-    ensures { All (λ k. (key_of k.now).segment ≤ result) keys.now }
-{
-    let mut largest = 0;
-    for key in keys {
-        largest = largest.max(key.segment_size());
-    }
-    largest
 }
 
 /// Opens what the source has left under the first key that it begins under.

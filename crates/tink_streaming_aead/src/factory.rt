@@ -100,8 +100,8 @@ fn greater(a: u32, b: u32) -> u32
     if a < b { b } else { a }
 }
 
-// The bytes of the largest segment.
-fn largest_segment<T: DerivesStreams>(keys: &[T]) -> u32
+/// The bytes of the largest segment of some keys, 0 for none.
+pub fn largest_segment<T: DerivesStreams>(keys: &[T]) -> u32
     ensures most { All (λ k. (T.key_of k).segment ≤ result) keys.now }
     ensures value { result ≡ largest (map T.key_of keys.now) }
     ensures usable { All IsUsable (map T.key_of keys.now) }
