@@ -1,6 +1,8 @@
-use Rattle.std.proofs.Common.{◌≡◌, ◌+◌, ℕ, Bool, List, map, ◌∙◌, arith}
+use Rattle.std.proofs.Common.{◌≡◌, ◌≤◌, ◌<◌, ◌+◌, ℕ, Bool, List, All, map, sym, subst, ◌∙◌, vec_len, vec_capacity, arith}
+use Rattle.std.proofs.lemmas.List.Elements.{All-get_or}
 use Rattle.std.specs.declared.option.Option.{Option}
 use Rattle.std.proofs.KnownBytes.{Keeps-trans}
+use Rattle.stream_model.specs.Key.{StreamKey, nonce_size}
 use Rattle.stream_model.specs.Opening.{OpeningKey, Begins, opening_key}
 use Rattle.tink_streams.specs.Choosing.{Found, IsOpenerOf}
 use Rattle.tink_streams.specs.Keeping.{kept_rest}
@@ -18,7 +20,13 @@ returns-in-Ok-clause-answer g c =
     let told : Option (List ℕ) = kept_rest g.S.Source.left c.args.kept.now c.args.source.now in
     let key : g.row.T.Denot = c.key-item.result in
     let inv = c.loop-key.invariant in
-    let tried = rw c.in-Ok.is at c.in_ok-begun.ensures.answer in
+    let called = c.in_ok-begun.ensures in
+    let tried = rw c.in-Ok.is at called.answer in
+    let keyed : g.row.T.Denot → StreamKey = g.T.DerivesStreams.key_of in
+    let so : (P : g.row.T.Denot → Type 0) → All P keys → P key = λ P h. subst P (sym c.key-item.is) (All-get_or P keys c.loop-key.key-index key (omega arith) h) in
+    let sealed : (keyed key).segment < vec_len c.args.kept.now.buffer = so (λ k. (keyed k).segment < vec_len c.args.kept.now.buffer) c.requires.buffer in
+    let nonce : nonce_size (keyed key) ≤ vec_len c.args.nonce.now = so (λ k. nonce_size (keyed k) ≤ vec_len c.args.nonce.now) c.requires.nonce in
+    let text : (keyed key).segment ≤ vec_capacity c.args.opened.now = so (λ k. (keyed k).segment ≤ vec_capacity c.args.opened.now) c.requires.room in
     let split = key_split keys c.loop-key.key-index key (omega arith) c.key-item.is in
     record {
       found = both_told told (λ X. Begins (of key) X × IsOpenerOf (of key) X seg b.header o.first o.size o.overhead) (GoesOn of keys c.loop-key.key-index) (λ X. Found (map of keys) X seg b.header o.first o.size o.overhead)
@@ -27,9 +35,9 @@ returns-in-Ok-clause-answer g c =
           inv.chosen;
       rest = Keeps-trans _ _ _ inv.rest tried.rest;
       header = tried.header;
-      size = ?;
-      nonce = ?;
-      text = ?;
+      size = omega (arith, tried.size, sealed, called.room.len, inv.len);
+      nonce = omega (arith, tried.nonce, nonce, called.room.nonce_len, inv.nonce_len);
+      text = omega (arith, tried.size, text, called.room.capacity, inv.capacity);
     }
 
 pub loop-key-preserved : goal.loop-key-preserved
