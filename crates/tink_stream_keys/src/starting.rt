@@ -1,12 +1,11 @@
-ghost use Rattle.std.specs.Prelude.{◌≡◌, ◌≤◌, ◌<◌, ◌+◌, [], take, map, All, IfSome, IfOk, IfErr, vec_len, vec_capacity};
-ghost use Rattle.std.specs.Io.KnownBytes.{prepend_known};
-ghost use Rattle.stream_model.specs.Cut.{numbered};
+ghost use Rattle.std.specs.Prelude.{◌≡◌, ◌≤◌, ◌<◌, ◌+◌, [], map, All, IfSome, IfOk, IfErr, vec_len, vec_capacity};
 ghost use Rattle.stream_model.specs.Key.{nonce_size};
 ghost use Rattle.stream_model.specs.Opening.{opening_key};
-ghost use Rattle.tink_segments.specs.StreamSegments.{segment_by};
 ghost use Rattle.tink_io.specs.declared.error.Kind.TheVariants.{OutOfMemory};
 ghost use Rattle.tink_streams.specs.declared.progress.Progress.TheVariants.{Running};
 ghost use Rattle.tink_streams.specs.Choosing.{Started, StartRefused};
+ghost use Rattle.tink_streams.specs.Keeping.{kept_rest};
+ghost use Rattle.tink_streams.specs.Openers.{reader_rest, segment_map};
 
 use crate::choosing::choose;
 use crate::stream_memory::PREFIX;
@@ -69,16 +68,12 @@ pub fn start<S: Source, T: DerivesStreams>(
     requires nonce { All (λ k. nonce_size (T.key_of k) ≤ vec_len trial.nonce) keys.now }
     requires prefix { 7 ≤ vec_capacity trial.prefix }
     ensures fresh { IfOk result (λ r. (r.progress ≡ Running) × (r.segments ≡ 0) × (r.opened.items ≡ [])) }
-    ensures started { IfOk result (λ r. IfSome (prepend_known (take trial.kept.filled trial.kept.buffer.items)
-        (S.left source.old)) (λ X.
-        Started (map (λ k. opening_key aad.now (T.key_of k)) keys.now) X
-        (prepend_known (take r.filled r.buffer.items) (S.left source.new))
-        (numbered (segment_by r.opener.decrypter) r.opener.nonce_size r.opener.prefix.items) r.opener.first
-        r.opener.size r.opener.overhead)) }
+    ensures started { IfOk result (λ r. IfSome (kept_rest S.left trial.kept source.old) (λ X.
+        Started (map (λ k. opening_key aad.now (T.key_of k)) keys.now) X (reader_rest S.left r source.new)
+        (segment_map r.opener) r.opener.first r.opener.size r.opener.overhead)) }
     ensures room { IfOk result (λ r. vec_len r.buffer ≡ vec_len trial.kept.buffer) }
     ensures refused { IfErr result (λ e. StartRefused (map (λ k. opening_key aad.now (T.key_of k)) keys.now)
-        (prepend_known (take trial.kept.filled trial.kept.buffer.items) (S.left source.old)) (S.faults source.old)
-        (S.faults source.new) e.kind) }
+        (kept_rest S.left trial.kept source.old) (S.faults source.old) (S.faults source.new) e.kind) }
     ensures later { S.faults source.old ≤ S.faults source.new }
     ensures same { S.same source.old source.new }
 {

@@ -10,3 +10,4 @@ pub mod Readers
 pub mod Sealers
 pub mod Openers
 pub mod Keeping
+pub mod Trials

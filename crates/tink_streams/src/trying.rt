@@ -1,11 +1,11 @@
 ghost use Rattle.std.specs.Prelude.{◌≡◌, ◌≤◌, ◌<◌, ◌+◌, ◌-◌, ℕ, length, take, drop, max, Some, None, IfSome, IsNone, IfOk, IfErr, OnOk, OnErr, vec_len, vec_capacity};
-ghost use Rattle.std.specs.Io.KnownBytes.{Keeps};
 ghost use Rattle.stream_model.specs.Cut.{numbered};
-ghost use Rattle.stream_model.specs.Opening.{OpeningKey, HasHeader, Begins};
+ghost use Rattle.stream_model.specs.Opening.{OpeningKey, HasHeader};
 ghost use Rattle.tink_io.specs.Faults.{Rose};
-ghost use Rattle.tink_streams.specs.Choosing.{HasSizesOf, IsOpenerOf};
+ghost use Rattle.tink_streams.specs.Choosing.{HasSizesOf};
 ghost use Rattle.tink_streams.specs.Keeping.{kept_rest};
 ghost use Rattle.tink_streams.specs.Openers.{segment_map};
+ghost use Rattle.tink_streams.specs.Trials.{KeepsRoom, TrialMeans};
 
 use crate::kept::Kept;
 use crate::opener::Opener;
@@ -138,21 +138,11 @@ pub fn try_key<S: Source, D: SegmentDecrypter + Drop, T: OpensStreams<D>>(
     requires room { (T.opening_key key.now).size ≤ vec_capacity opened.old }
     requires nonce { T.nonce_of key.now ≤ vec_len nonce.old }
     requires prefix { 7 ≤ vec_capacity prefix }
-    ensures found { IfOk result (λ r. IfOk r (λ b. IfSome (kept_rest S.left kept.old source.old) (λ X.
-        Begins (T.opening_key key.now) X × IsOpenerOf (T.opening_key key.now) X (segment_map b.opener) b.header
-        b.opener.first b.opener.size b.opener.overhead))) }
-    ensures none { IfOk result (λ r. IfErr r (λ _. IfSome (kept_rest S.left kept.old source.old) (λ X.
-        Begins (T.opening_key key.now) X → ⊥))) }
-    ensures rest { OnOk result (Keeps (kept_rest S.left kept.old source.old) (kept_rest S.left kept.new source.new)) }
+    ensures answer { IfOk result (TrialMeans (T.opening_key key.now) (T.nonce_of key.now)
+        (kept_rest S.left kept.old source.old) (kept_rest S.left kept.new source.new) kept.new.filled) }
     ensures most { OnOk result (kept.new.filled ≤ max kept.old.filled
         ((T.opening_key key.now).header + (T.opening_key key.now).first + 1)) }
-    ensures header { IfOk result (λ r. IfOk r (λ b. b.header ≤ kept.new.filled)) }
-    ensures size { IfOk result (λ r. IfOk r (λ b. b.opener.size ≡ (T.opening_key key.now).size)) }
-    ensures nonce { IfOk result (λ r. IfOk r (λ b. b.opener.nonce_size ≡ T.nonce_of key.now)) }
-    ensures prefix_room { IfOk result (λ r. IfErr r (λ p. 7 ≤ vec_capacity p)) }
-    ensures len { vec_len kept.new.buffer ≡ vec_len kept.old.buffer }
-    ensures nonce_len { vec_len nonce.new ≡ vec_len nonce.old }
-    ensures capacity { vec_capacity opened.old ≤ vec_capacity opened.new }
+    ensures room { KeepsRoom kept.old kept.new nonce.old nonce.new opened.old opened.new }
     ensures later { S.faults source.old ≤ S.faults source.new }
     ensures rose { OnErr result (Rose (S.faults source.old) (S.faults source.new)) }
     ensures same { S.same source.old source.new }

@@ -1,6 +1,7 @@
-use Rattle.std.proofs.Common.{◌≡◌, ◌≤◌, take, IfSome, vec_len, vec_capacity}
-use Rattle.std.specs.Io.KnownBytes.{Keeps, prepend_known}
+use Rattle.std.proofs.Common.{◌≡◌, ◌≤◌, IfSome, vec_len, vec_capacity}
+use Rattle.std.specs.Io.KnownBytes.{Keeps}
 use Rattle.stream_model.specs.Opening.{opening_key}
+use Rattle.tink_streams.specs.Keeping.{kept_rest}
 use Rattle.tink_streams.proofs.ChoosingSteps.{GoesOn}
 use Rattle.tink_stream_keys.proofs.choosing.choose.Given as goal
 
@@ -13,8 +14,8 @@ invariant-loop-key g l =
       nonce_len : vec_len l.nonce ≡ vec_len l.fn.nonce;
       capacity : vec_capacity l.fn.opened ≤ vec_capacity l.opened;
       prefix_room : 7 ≤ vec_capacity l.prefix;
-      rest : Keeps (prepend_known (take l.fn.kept.filled l.fn.kept.buffer.items) (source.left l.fn.source)) (prepend_known (take l.kept.filled l.kept.buffer.items) (source.left l.source));
-      chosen : IfSome (prepend_known (take l.fn.kept.filled l.fn.kept.buffer.items) (source.left l.fn.source)) (GoesOn (λ k. opening_key l.fn.aad (g.T.DerivesStreams.key_of k)) l.keys l.key-index);
+      rest : Keeps (kept_rest source.left l.fn.kept l.fn.source) (kept_rest source.left l.kept l.source);
+      chosen : IfSome (kept_rest source.left l.fn.kept l.fn.source) (GoesOn (λ k. opening_key l.fn.aad (g.T.DerivesStreams.key_of k)) l.keys l.key-index);
       later : source.faults l.fn.source ≤ source.faults l.source;
       same : source.same l.fn.source l.source;
     }

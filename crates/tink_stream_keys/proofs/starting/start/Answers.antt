@@ -8,7 +8,6 @@ returns-in-Ok-Some-clause-started g c =
     let begun = c.in-Ok-Some.field-0-0 in
     let o = begun.opener in
     let kept = c.choose.new.kept in
-    let fits : begun.header ≤ kept.filled = rw c.in-Ok-Some.field-0-is at c.in-Ok-Some.ensures.header in
-    let chosen = rw c.in-Ok-Some.field-0-is at c.in-Ok-Some.ensures.chosen in
-    let held : begun.header ≤ length (take kept.filled kept.buffer.items) = omega (arith, fits, kept.filled_in, kept.buffer.ok.0, length-take kept.filled kept.buffer.items) in
-    rw c.made.ensures.opener (started _ _ begun.header o.first o.size o.overhead _ _ (take kept.filled kept.buffer.items) _ chosen c.in-Ok-Some.ensures.rest held (c.made.ensures.held ∙ c.carry.ensures.bytes))
+    let chosen = rw c.in-Ok-Some.field-0-is at c.in-Ok-Some.ensures.answer in
+    let held : begun.header ≤ length (take kept.filled kept.buffer.items) = omega (arith, chosen.header, kept.filled_in, kept.buffer.ok.0, length-take kept.filled kept.buffer.items) in
+    rw c.made.ensures.opener (started _ _ begun.header o.first o.size o.overhead _ _ (take kept.filled kept.buffer.items) _ chosen.found chosen.rest held (c.made.ensures.held ∙ c.carry.ensures.bytes))

@@ -8,8 +8,8 @@ use Rattle.tink_streams.proofs.TrialFacts.{Tried, held_from, begun, refused, par
 use Rattle.tink_streams.proofs.ChoosingSteps.{both_told}
 use Rattle.tink_streams.proofs.trying.try_key.Goals as goal
 
-pub returns-else-open_front-clause-none : goal.returns-else-open_front-clause-none
-returns-else-open_front-clause-none g c =
+pub returns-else-open_front-clause-answer : goal.returns-else-open_front-clause-answer
+returns-else-open_front-clause-answer g c =
     let k : OpeningKey = g.T.OpensStreams.opening_key c.args.key.now in
     let o = c.in-Ok.opener in
     let seg : ℕ → Bool → List ℕ → List ℕ = segment_map o in
@@ -28,10 +28,14 @@ returns-else-open_front-clause-none g c =
       size_is = c.in-Ok.ensures.sizes.0;
       part_is = part_of c.header_length-h.result k.header filled c.deref-2.result.now c.keep-2.new.self.buffer.items c.header_length-h.ensures.is c.deref-2.ensures.value (omega (arith, c.header_length-h.ensures.is, c.in-Ok.ensures.header.long, length-take c.keep.new.self.filled c.deref.result.now, c.in_ok-keep-2.ensures.more));
     } in
-    refused k _ _ _ _ _ _ seg o.first tried (c.open_front.ensures.refused c.if-open_front.false)
+    record {
+      none = refused k _ _ _ _ _ _ seg o.first tried (c.open_front.ensures.refused c.if-open_front.false);
+      rest = tried.held.all;
+      room = c.in-Ok.ensures.prefix_room;
+    }
 
-pub returns-then-open_front-clause-found : goal.returns-then-open_front-clause-found
-returns-then-open_front-clause-found g c =
+pub returns-then-open_front-clause-answer : goal.returns-then-open_front-clause-answer
+returns-then-open_front-clause-answer g c =
     let k : OpeningKey = g.T.OpensStreams.opening_key c.args.key.now in
     let o = c.in-Ok.opener in
     let seg : ℕ → Bool → List ℕ → List ℕ = segment_map o in
@@ -50,7 +54,13 @@ returns-then-open_front-clause-found g c =
       size_is = c.in-Ok.ensures.sizes.0;
       part_is = part_of c.header_length-h.result k.header filled c.deref-2.result.now c.keep-2.new.self.buffer.items c.header_length-h.ensures.is c.deref-2.ensures.value (omega (arith, c.header_length-h.ensures.is, c.in-Ok.ensures.header.long, length-take c.keep.new.self.filled c.deref.result.now, c.in_ok-keep-2.ensures.more));
     } in
-    both_told (kept_rest g.S.Source.left c.args.kept.now c.args.source.now) (λ X. Begins k X × (k.seg (take k.header X) ≡ Some seg)) (λ X. Begins k X × (k.seg (take k.header X) ≡ Some seg)) (λ X. Begins k X × IsOpenerOf k X seg c.header_length-h.result o.first o.size o.overhead)
-    (λ X b _. (b.0, record { map = b.1; header_is = c.header_length-h.ensures.is; first_is = c.in-Ok.ensures.sizes.0; size_is = c.in-Ok.ensures.sizes.1; overhead_is = c.in-Ok.ensures.sizes.2; fits = tried.fits }))
-    (begun k _ _ _ _ _ _ seg o.first _ tried (c.open_front.ensures.ok c.if-open_front.true))
-    (begun k _ _ _ _ _ _ seg o.first _ tried (c.open_front.ensures.ok c.if-open_front.true))
+    record {
+      found = both_told (kept_rest g.S.Source.left c.args.kept.now c.args.source.now) (λ X. Begins k X × (k.seg (take k.header X) ≡ Some seg)) (λ X. Begins k X × (k.seg (take k.header X) ≡ Some seg)) (λ X. Begins k X × IsOpenerOf k X seg c.header_length-h.result o.first o.size o.overhead)
+          (λ X b _. (b.0, record { map = b.1; header_is = c.header_length-h.ensures.is; first_is = c.in-Ok.ensures.sizes.0; size_is = c.in-Ok.ensures.sizes.1; overhead_is = c.in-Ok.ensures.sizes.2; fits = tried.fits }))
+          (begun k _ _ _ _ _ _ seg o.first _ tried (c.open_front.ensures.ok c.if-open_front.true))
+          (begun k _ _ _ _ _ _ seg o.first _ tried (c.open_front.ensures.ok c.if-open_front.true));
+      rest = tried.held.all;
+      header = omega (arith, c.header_length-h.ensures.is, c.in-Ok.ensures.header.long, length-take c.keep.new.self.filled c.deref.result.now, c.in_ok-keep-2.ensures.more);
+      size = c.in-Ok.ensures.sizes.1;
+      nonce = c.in-Ok.ensures.nonce;
+    }

@@ -1,0 +1,56 @@
+-- What the trial of one key after another answers.
+use Rattle.std.specs.Prelude.{◌≡◌, ◌≤◌, ◌<◌, ℕ, List, Vec, Result, Ok, Err, None, Some, IfSome, vec_len, vec_capacity}
+use Rattle.std.specs.declared.option.Option.{Option}
+use Rattle.std.specs.Io.KnownBytes.{Keeps}
+use Rattle.stream_model.specs.Opening.{OpeningKey, Begins, IsChosen}
+use Rattle.tink_segment_traits.specs.declared.segment_traits.SegmentDecrypter.{Ghosts}
+use Rattle.tink_streams.specs.Choosing.{IsOpenerOf, Found}
+use Rattle.tink_streams.specs.Openers.{segment_map}
+use Rattle.tink_streams.specs.declared.kept.Kept.{Kept}
+use Rattle.tink_streams.specs.declared.trying.Begun.{Begun}
+
+-- the buffer of what is kept and that of nonces have the length that they had, and that of texts has no less memory
+pub record KeepsRoom {Z : Type 0} (kept_before kept : Kept) (nonce_before nonce opened_before opened : Vec ℕ Z) : Type 0 where
+  pub len : vec_len kept.buffer ≡ vec_len kept_before.buffer
+  pub nonce_len : vec_len nonce ≡ vec_len nonce_before
+  pub capacity : vec_capacity opened_before ≤ vec_capacity opened
+
+-- the stream does not begin under the key, none of its bytes is lost, and the memory of a prefix is handed back
+pub record DoesNotBegin {Z : Type 0} (k : OpeningKey) (old new : Option (List ℕ)) (prefix : Vec ℕ Z) : Type 0 where
+  pub none : IfSome old (λ X. Begins k X → ⊥)
+  pub rest : Keeps old new
+  pub room : 7 ≤ vec_capacity prefix
+
+-- the stream begins under none of the keys, and none of its bytes is lost
+pub record IsOfNone (ks : List OpeningKey) (old new : Option (List ℕ)) : Type 0 where
+  pub chosen : IfSome old (λ X. IsChosen ks X None)
+  pub rest : Keeps old new
+
+module _ {D : Type 0} {g : Ghosts D} where
+  -- the stream begins under the key and is opened so, none of its bytes is lost, and its header is kept
+  pub record DoesBegin (k : OpeningKey) (nonce_size : ℕ) (old new : Option (List ℕ)) (filled : ℕ) (b : Begun D g) : Type 0 where
+    pub found : IfSome old (λ X. Begins k X × IsOpenerOf k X (segment_map b.opener) b.header b.opener.first b.opener.size b.opener.overhead)
+    pub rest : Keeps old new
+    pub header : b.header ≤ filled
+    pub size : b.opener.size ≡ k.size
+    pub nonce : b.opener.nonce_size ≡ nonce_size
+
+  -- the stream begins first under this key of those and is opened so, none of its bytes is lost, its header is kept,
+  -- and a segment, its nonce and its text have room
+  pub record IsOfChosen {Z : Type 0} (ks : List OpeningKey) (old new : Option (List ℕ)) (kept : Kept) (nonces texts : Vec ℕ Z) (b : Begun D g) : Type 0 where
+    pub found : IfSome old (λ X. Found ks X (segment_map b.opener) b.header b.opener.first b.opener.size b.opener.overhead)
+    pub rest : Keeps old new
+    pub header : b.header ≤ kept.filled
+    pub size : b.opener.size < vec_len kept.buffer
+    pub nonce : b.opener.nonce_size ≤ vec_len nonces
+    pub text : b.opener.size ≤ vec_capacity texts
+
+  -- what the trial of a key answers where the source did not fail
+  abbrev pub TrialMeans : {Z : Type 0} → OpeningKey → ℕ → Option (List ℕ) → Option (List ℕ) → ℕ → Result (Begun D g) (Vec ℕ Z) → Type 0
+  TrialMeans k nonce_size old new filled (Ok b) = DoesBegin k nonce_size old new filled b
+  TrialMeans k nonce_size old new filled (Err prefix) = DoesNotBegin k old new prefix
+
+  -- what the choice of a key answers where the source did not fail
+  abbrev pub ChoiceMeans : {Z : Type 0} → List OpeningKey → Option (List ℕ) → Option (List ℕ) → Kept → Vec ℕ Z → Vec ℕ Z → Option (Begun D g) → Type 0
+  ChoiceMeans ks old new kept nonces texts (Some b) = IsOfChosen ks old new kept nonces texts b
+  ChoiceMeans ks old new kept nonces texts None = IsOfNone ks old new
