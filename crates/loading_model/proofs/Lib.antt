@@ -1,1 +1,5 @@
 pub mod KeyFacts
+pub mod UsableKeys
+pub mod ChoosingFacts
+pub mod PlaceFacts
+pub mod RotationFacts

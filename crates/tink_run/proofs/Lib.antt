@@ -10,7 +10,6 @@ pub mod StatusLemmas
 pub mod ReadOut
 pub mod OpenSteps
 pub mod RunSteps
-pub mod UsableKeys
 pub mod RowFacts
 pub mod LoadSteps
 mod StandardFacts

@@ -11,7 +11,7 @@ use Rattle.tink_proto.specs.Messages.{keyset}
 use Rattle.wire_format.specs.Message.{decoded}
 use Rattle.keyset_model.specs.Validity.{is_valid, IsValid}
 use Rattle.tink_streaming_aead.specs.Wrapped.{Wrapped}
-use Rattle.tink_run.specs.Loading.{Loaded, load_decoded, load_keys, ◌then◌}
+use Rattle.loading_model.specs.Loading.{Loaded, load_decoded, load_keys, ◌then◌}
 use Rattle.tink_run.specs.AllKeys.{load, rows}
 use Rattle.tink_run.specs.HeldKeys.{held}
 use Rattle.tink_run.specs.Valid.{valid_or_refused}

@@ -36,10 +36,9 @@ use Rattle.stream_model.specs.Key.{StreamKey}
 use Rattle.tink_stream_keys.specs.declared.stream_kind.StreamKind.{StreamKind}
 use Rattle.tink_stream_keys.specs.StreamKinds.{key_of}
 use Rattle.tink_streaming_aead.specs.Wrapped.{Wrapped, key_in, keys_in, set_keys}
-use Rattle.tink_run.specs.Loading.{EnabledKey, Loaded, LoadedKey, LoadingRow, ◌then◌, build, build_data, build_key, build_keys, built_by, key_of_id, load_built, load_keys, streaming_key, streaming_keys, streaming_part, with_primary}
+use Rattle.loading_model.specs.Loading.{EnabledKey, Loaded, LoadedKey, LoadingRow, ◌then◌, build, build_data, build_key, build_keys, built_by, is_raw, key_of_id, load_built, load_keys, streaming_key, streaming_keys, streaming_part, with_primary}
 use Rattle.tink_run.specs.AllKeys.{built_key, loading_row, rows_by}
 use Rattle.tink_run.specs.HeldKeys.{held, keys_held}
-use Rattle.tink_run.specs.OpenAnswers.{is_raw}
 
 and_parts : (a b : Bool) → (a && b) ≡ true → (a ≡ true) × (b ≡ true)
 and_parts true b e = (refl, e)

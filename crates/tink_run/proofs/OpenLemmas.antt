@@ -17,12 +17,12 @@ use Rattle.stream_model.specs.Opening.{OpeningKey, opening_key, IsChosen, IsAgre
 use Rattle.stream_model.proofs.AgreeFacts.{joined-append}
 use Rattle.stream_model.proofs.KeyFacts.{CanOpen as Lawful, IsLawful, opening_key_lawful}
 use Rattle.stream_model.proofs.OpeningFacts.{IsChosen-unique, goes_on, Agree-unique, all_agree}
-use Rattle.tink_run.specs.Loading.{Loaded, LoadedKey, AreUsable}
+use Rattle.loading_model.specs.Loading.{Loaded, LoadedKey, AreUsable, is_raw, opening_keys}
 use Rattle.tink_run.specs.AllKeys.{load}
 use Rattle.tink_run.proofs.RowFacts.{loaded_usable}
 use Rattle.tink_run.specs.declared.report.Report.{Report}
 use Rattle.tink_run.specs.Outside.{Outside, IsUntouched, HasNoFault}
-use Rattle.tink_run.specs.OpenAnswers.{Opening, StreamRefused, OpenMeans, OpenRefused, is_raw, opening_keys, IsOfChosen, AgreesUntil, Lead, AreTextsBy}
+use Rattle.tink_run.specs.OpenAnswers.{Opening, StreamRefused, OpenMeans, OpenRefused, IsOfChosen, AgreesUntil, Lead, AreTextsBy}
 use Rattle.tink_run.specs.Run.{Told, IsWholeText, IsOfAgreeing, CanOpen, IsOkOrWant}
 use Rattle.tink_run.proofs.RunLemmas.{told_appended, told_if}
 

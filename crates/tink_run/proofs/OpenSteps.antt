@@ -14,12 +14,12 @@ use Rattle.stream_model.specs.Agree.{AreTexts, Agree, Leads, joined}
 use Rattle.stream_model.specs.Opening.{OpeningKey, FirstAgrees, IsChosen, chunks_of}
 use Rattle.tink_streams.specs.Choosing.{Found, Started, StartRefused}
 use Rattle.tink_streams.proofs.ChosenFacts.{chosen_begins, chunks_are, stream_opened, stream_agreed}
-use Rattle.tink_run.specs.Loading.{Loaded}
+use Rattle.loading_model.specs.Loading.{Loaded, opening_keys}
 use Rattle.tink_run.specs.AllKeys.{load}
 use Rattle.tink_run.specs.declared.report.Report.{Report}
 use Rattle.tink_run.specs.Outside.{Outside}
 use Rattle.tink_run.specs.Run.{IsEarly, LeavesEnds}
-use Rattle.tink_run.specs.OpenAnswers.{IsOfChosen, AgreesUntil, Lead, AreTextsBy, chunk_of, IsOpened, IsBroken, StreamRefused, StreamMeans, Opening, OpenMeans, OpenRefused, opening_keys}
+use Rattle.tink_run.specs.OpenAnswers.{IsOfChosen, AgreesUntil, Lead, AreTextsBy, chunk_of, IsOpened, IsBroken, StreamRefused, StreamMeans, Opening, OpenMeans, OpenRefused}
 use Rattle.tink_run.specs.OpenSteps.{IsReadOut, Breaks, HasShort, HasLong, HasMore, ReaderRefused, ReaderMeans, UnderRefused, OpensUnder}
 use Rattle.tink_run.proofs.OpenLemmas.{kept_front}
 

@@ -9,7 +9,7 @@ use Rattle.tink_io.specs.declared.error.Kind.TheVariants.{OutOfMemory, RandomFau
 use Rattle.tink_io.specs.declared.error.TinkError.{TinkError}
 use Rattle.stream_model.specs.Key.{IsUsable}
 use Rattle.stream_model.specs.Sealing.{drawn}
-use Rattle.tink_run.specs.Loading.{Loaded}
+use Rattle.loading_model.specs.Loading.{Loaded}
 use Rattle.tink_run.specs.AllKeys.{load}
 use Rattle.tink_run.proofs.RowFacts.{loaded_usable}
 use Rattle.tink_run.specs.declared.program.Outcome.{Outcome}

@@ -48,10 +48,10 @@ use Rattle.tink.specs.Managers.{AeadBuilt, MacBuilt, PrfBuilt, StreamBuilt, as_b
 use Rattle.tink.specs.Registered.{aead_managers, mac_managers, prf_managers, streaming_managers, with_everything}
 use Rattle.tink.specs.declared.managers.Managers.{Managers}
 use Rattle.tink_registry.specs.Listed.{Registered}
-use Rattle.tink_run.specs.Loading.{Loaded, LoadingRow, AreUsable}
+use Rattle.loading_model.specs.Loading.{Loaded, LoadingRow, AreUsable}
 use Rattle.tink_run.specs.AllKeys.{built_key, load, rows, rows_by}
 use Rattle.loading_model.proofs.KeyFacts.{streaming_of_usable, gcm_hkdf_of_usable}
-use Rattle.tink_run.proofs.UsableKeys.{AreSound, IsOfLoading, IsSound, load_decoded_refuses, load_decoded_usable}
+use Rattle.loading_model.proofs.UsableKeys.{AreSound, IsOfLoading, IsSound, load_decoded_refuses, load_decoded_usable}
 
 -- a result refuses by `InvalidKey` alone
 abbrev OrInvalid : {T : Type 0} → Result T Kind → Type 0

@@ -10,7 +10,7 @@ use Rattle.stream_model.specs.Key.{StreamKey, IsUsable, first_room, room, keys_o
 use Rattle.tink_run.proofs.RowFacts.{loaded_usable}
 use Rattle.stream_model.specs.Sealing.{stream, chunk_count, drawn, salt_of, prefix_of}
 use Rattle.stream_model.proofs.SealingFacts.{chunks_more}
-use Rattle.tink_run.specs.Loading.{Loaded}
+use Rattle.loading_model.specs.Loading.{Loaded}
 use Rattle.tink_run.specs.AllKeys.{load}
 use Rattle.tink_run.specs.declared.report.Report.{Report}
 use Rattle.tink_run.specs.Outside.{Outside, HasNoFault}

@@ -10,18 +10,18 @@ use Rattle.tink_io.specs.declared.error.TinkError.{TinkError}
 use Rattle.stream_model.specs.Key.{StreamKey}
 use Rattle.stream_model.specs.Opening.{OpeningKey, opening_key}
 use Rattle.tink_streaming_aead.specs.Wrapped.{Wrapped}
-use Rattle.tink_run.specs.Loading.{Loaded}
+use Rattle.loading_model.specs.Loading.{Loaded, is_raw, opening_keys}
 use Rattle.tink_run.specs.AllKeys.{load}
 use Rattle.tink_run.specs.HeldKeys.{held}
 use Rattle.tink_run.specs.declared.report.Command.{Command}
 use Rattle.tink_run.specs.declared.report.Command.TheVariants.{Seal, Open}
 use Rattle.tink_run.specs.declared.report.Report.{Report}
-use Rattle.tink_run.specs.OpenAnswers.{OpenRefused, is_raw, opening_keys}
+use Rattle.tink_run.specs.OpenAnswers.{OpenRefused}
 use Rattle.tink_run.specs.OpenSteps.{OpensUnder}
 use Rattle.tink_run.proofs.OpenSteps as opening
 use Rattle.tink_run.proofs.SealSteps as sealing
 use Rattle.tink_run.proofs.RowFacts.{load_refuses}
-use Rattle.tink_run.proofs.UsableKeys.{IsOfLoading}
+use Rattle.loading_model.proofs.UsableKeys.{IsOfLoading}
 use Rattle.tink_run.specs.Outside.{Outside, IsUntouched}
 use Rattle.tink_run.specs.Run.{AnswerMeans, LeavesEnds}
 use Rattle.tink_run.specs.SealAnswers.{SealRefused}

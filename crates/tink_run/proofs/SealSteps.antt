@@ -20,7 +20,7 @@ use Rattle.stream_model.specs.Sealing.{stream, part, longest_part, sealed_under,
 use Rattle.stream_model.proofs.SealingFacts.{length-chunks}
 use Rattle.tink_streams.specs.Writing.{WriterMoment, Wrote, WroteFront, WroteAll, ClosedBy, ClosedShort, CloseMeans, CloseRefused}
 use Rattle.tink_streams.proofs.WritingFacts.{IsFresh, fresh_filled, closed_whole, closed_front, stops_front}
-use Rattle.tink_run.specs.Loading.{Loaded}
+use Rattle.loading_model.specs.Loading.{Loaded}
 use Rattle.tink_run.specs.AllKeys.{load}
 use Rattle.tink_run.specs.declared.report.Report.{Report}
 use Rattle.tink_run.specs.Outside.{Outside, IsUntouched}

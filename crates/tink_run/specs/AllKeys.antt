@@ -8,8 +8,8 @@ use Rattle.tink_stream_keys.specs.declared.stream_kind.StreamKind.{StreamKind}
 use Rattle.tink_stream_keys.specs.StreamKinds.{key_of}
 use Rattle.tink.specs.Managers.{row_of}
 use Rattle.tink.specs.Registered.{with_everything}
-use Rattle.tink_run.specs.Loading.{BuiltKey, Loaded, LoadingRow, load_by}
-use Rattle.tink_run.specs.Loading.BuiltKey.{Streaming, Other}
+use Rattle.loading_model.specs.Loading.{BuiltKey, Loaded, LoadingRow, load_by}
+use Rattle.loading_model.specs.Loading.BuiltKey.{Streaming, Other}
 
 -- a primitive of streaming AEADs is a key of streams
 abbrev pub built_key : {K A D HD HE M P S V : Type 0} → Primitive K A D HD HE M P S StreamKind V → BuiltKey

@@ -5,8 +5,7 @@ use Rattle.tink_io.specs.declared.error.TinkError.{TinkError}
 use Rattle.tink_sets.specs.declared.typed_set.TypedPrimitiveSet.{TypedPrimitiveSet}
 use Rattle.tink_stream_keys.specs.declared.stream_kind.StreamKind.{StreamKind}
 use Rattle.tink_streaming_aead.specs.Wrapped.{Wrapped, set_keys}
-use Rattle.tink_run.specs.Loading.{Loaded}
-use Rattle.tink_run.specs.OpenAnswers.{is_raw}
+use Rattle.loading_model.specs.Loading.{Loaded, is_raw}
 
 -- what was loaded, as a set has it: the primary key, and the raw keys in order
 abbrev pub held : Loaded → Wrapped

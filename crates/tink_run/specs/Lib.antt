@@ -8,6 +8,5 @@ pub mod Words
 pub mod Program
 pub mod OpenSteps
 pub mod Valid
-pub mod Loading
 pub mod AllKeys
 pub mod HeldKeys

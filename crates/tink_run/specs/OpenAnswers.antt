@@ -1,7 +1,5 @@
 -- What an open says by each of its answers.
-use Rattle.std.specs.Prelude.{◌≡◌, ℕ, ◌<◌, ◌≤◌, ◌^◌, pos, Bool, List, [], ◌∷◌, length, map, take, slice_index_or, Option, Result, Ok, Err, Some, None, IfSome, IsSome}
-use Rattle.std.specs.List.{filter}
-use Rattle.std.specs.Ordering.{int_eq}
+use Rattle.std.specs.Prelude.{◌≡◌, ℕ, ◌<◌, ◌≤◌, ◌^◌, Bool, List, [], ◌∷◌, length, take, slice_index_or, Option, Result, Ok, Err, Some, None, IfSome, IsSome}
 use Rattle.std.specs.Io.KnownBytes.{Appends, Keeps, IsAtEnd}
 use Rattle.tink_io.specs.Faults.{Rose}
 use Rattle.tink_io.specs.Written.{AppendsFront}
@@ -9,20 +7,12 @@ use Rattle.tink_io.specs.declared.error.Kind.{Kind}
 use Rattle.tink_io.specs.declared.error.Kind.TheVariants.{OutOfMemory, ReadFault, WriteFault, BadKeyset, InvalidKeyset, UnsupportedKeyType, InvalidKey, NoPrimary, WrongPrimitive, TooManySegments, NoMatchingKey, BadSegment, Truncated}
 use Rattle.tink_io.specs.declared.error.TinkError.{TinkError}
 use Rattle.stream_model.specs.Agree.{AreTexts, joined}
-use Rattle.stream_model.specs.Opening.{OpeningKey, opening_key, chunks_of, IsAgreed, IsChosen, IsStream}
-use Rattle.tink_run.specs.Loading.{Loaded, LoadedKey}
+use Rattle.stream_model.specs.Opening.{OpeningKey, chunks_of, IsAgreed, IsChosen, IsStream}
+use Rattle.loading_model.specs.Loading.{Loaded, opening_keys}
 use Rattle.tink_run.specs.AllKeys.{load}
 use Rattle.tink_run.specs.declared.report.Report.{Report}
 use Rattle.tink_run.specs.Outside.{Outside}
 use Rattle.tink_run.specs.SealAnswers.{IsRefused, WantsMemory}
-
--- an output prefix type of 3: streams of the key have nothing before their header
-abbrev pub is_raw : LoadedKey → Bool
-is_raw k = int_eq k.prefix_type (pos 3)
-
--- the raw keys in order, as opening sees them
-abbrev pub opening_keys : List ℕ → Loaded → List OpeningKey
-opening_keys aad l = map (λ k. opening_key aad k.key) (filter is_raw l.keys)
 
 -- chunk n of the stream behind its header
 abbrev pub chunk_of : OpeningKey → List ℕ → ℕ → List ℕ

@@ -9,14 +9,14 @@ use Rattle.stream_model.specs.Agree.{joined}
 use Rattle.stream_model.specs.Key.{keys_of}
 use Rattle.stream_model.specs.Opening.{OpeningKey, IsAgreed, IsChosen, IsStream}
 use Rattle.stream_model.specs.Sealing.{stream, chunk_count, drawn, salt_of, prefix_of}
-use Rattle.tink_run.specs.Loading.{Loaded}
+use Rattle.loading_model.specs.Loading.{Loaded, opening_keys}
 use Rattle.tink_run.specs.AllKeys.{load}
 use Rattle.tink_run.specs.declared.report.Command.{Command}
 use Rattle.tink_run.specs.declared.report.Command.TheVariants.{Seal, Open}
 use Rattle.tink_run.specs.declared.report.Report.{Report}
 use Rattle.tink_run.specs.Outside.{Outside, HasNoFault}
 use Rattle.tink_run.specs.SealAnswers.{SealMeans}
-use Rattle.tink_run.specs.OpenAnswers.{OpenMeans, opening_keys}
+use Rattle.tink_run.specs.OpenAnswers.{OpenMeans}
 
 -- the table of answers: each with its cause, and what stands after it
 abbrev pub AnswerMeans : Command → List ℕ → List ℕ → List ℕ → List ℕ → Outside → Outside → Result Report TinkError → Type 0

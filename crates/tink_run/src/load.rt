@@ -5,7 +5,7 @@ ghost use Rattle.tink_io.specs.Told.{Answers, made_of};
 ghost use Rattle.keyset_model.specs.Validity.{IsValid};
 ghost use Rattle.tink_run.specs.AllKeys.{load, rows, rows_by};
 ghost use Rattle.tink_run.specs.HeldKeys.{held, keys_held};
-ghost use Rattle.tink_run.specs.Loading.{load_keys};
+ghost use Rattle.loading_model.specs.Loading.{load_keys};
 ghost use Rattle.tink_run.specs.Valid.{valid_or_refused};
 
 use std::alloc::Global;

@@ -13,15 +13,15 @@ use Rattle.tink_proto.specs.declared.messages.keys.Keyset.{Keyset}
 use Rattle.keyset_model.specs.Keys.{enabled}
 use Rattle.keyset_model.specs.Validity.{is_valid}
 use Rattle.stream_model.specs.Key.{StreamKey, IsUsable}
-use Rattle.tink_run.specs.Loading.{BuiltKey, EnabledKey, Loaded, LoadedKey, LoadingRow, AreUsable, ◌then◌, build, build_data, build_key, build_keys, built_by, key_of_id, load_built, load_decoded, load_keys, streaming_key, streaming_keys, streaming_part, with_primary}
-use Rattle.tink_run.specs.Loading.BuiltKey.{Streaming, Other}
+use Rattle.loading_model.specs.Loading.{BuiltKey, EnabledKey, Loaded, LoadedKey, LoadingRow, AreUsable, ◌then◌, build, build_data, build_key, build_keys, built_by, key_of_id, load_built, load_decoded, load_keys, streaming_key, streaming_keys, streaming_part, with_primary}
+use Rattle.loading_model.specs.Loading.BuiltKey.{Streaming, Other}
 
 -- what a sequence of steps ends in, its last step does
-followed : {A B : Type 0} (r : Result A Kind) (f : A → Result B Kind) (b : B) → (r then f) ≡ Ok b → (a : A) × (r ≡ Ok a) × (f a ≡ Ok b)
+pub followed : {A B : Type 0} (r : Result A Kind) (f : A → Result B Kind) (b : B) → (r then f) ≡ Ok b → (a : A) × (r ≡ Ok a) × (f a ≡ Ok b)
 followed (Ok a) f b e = (a, refl, e)
 followed (Err kind) f b e = absurd (cc)
 
-passed : {A : Type 0} (b : Bool) (kind : Kind) (r : Result A Kind) (a : A) → cond b r (Err kind) ≡ Ok a → r ≡ Ok a
+pub passed : {A : Type 0} (b : Bool) (kind : Kind) (r : Result A Kind) (a : A) → cond b r (Err kind) ≡ Ok a → r ≡ Ok a
 passed true kind r a e = e
 passed false kind r a e = absurd (cc)
 

@@ -1,6 +1,7 @@
 -- What a keyset's bytes load as, by rows: one for each type of keys that is known.
-use Rattle.std.specs.Prelude.{ℕ, List, [], ◌∷◌, ℤ, if◌then◌else◌, nat_eq, length, find, Option, Some, None, Result, Ok, Err}
+use Rattle.std.specs.Prelude.{ℕ, List, [], ◌∷◌, map, filter, ℤ, pos, Bool, if◌then◌else◌, nat_eq, length, find, Option, Some, None, Result, Ok, Err}
 use Rattle.std.specs.List.{list_any}
+use Rattle.std.specs.Ordering.{int_eq}
 use Rattle.std.specs.Str.{bytes_eq}
 use Rattle.tink_io.specs.declared.error.Kind.{Kind}
 use Rattle.tink_io.specs.declared.error.Kind.TheVariants.{BadKeyset, InvalidKeyset, UnsupportedKeyType, InvalidKey, NoPrimary, WrongPrimitive}
@@ -12,6 +13,7 @@ use Rattle.wire_format.specs.Message.{decoded}
 use Rattle.keyset_model.specs.Keys.{enabled}
 use Rattle.keyset_model.specs.Validity.{is_valid}
 use Rattle.stream_model.specs.Key.{StreamKey, IsUsable}
+use Rattle.stream_model.specs.Opening.{OpeningKey, opening_key}
 
 -- what a key builds: a key of streams, or a primitive of another sort
 pub data BuiltKey : Type 0 where
@@ -38,6 +40,14 @@ pub record LoadedKey : Type 0 where
 pub record Loaded : Type 0 where
   pub keys : List LoadedKey
   pub primary : StreamKey
+
+-- an output prefix type of 3: streams of the key have nothing before their header
+abbrev pub is_raw : LoadedKey → Bool
+is_raw k = int_eq k.prefix_type (pos 3)
+
+-- the raw keys in order, as opening sees them
+abbrev pub opening_keys : List ℕ → Loaded → List OpeningKey
+opening_keys aad l = map (λ k. opening_key aad k.key) (filter is_raw l.keys)
 
 -- each key keeps to what a key of the product keeps to
 abbrev pub AreUsable : List LoadedKey → Type 0

@@ -1,0 +1,43 @@
+//! What a keyset opens after a manager's commands. These functions do nothing: their contracts are the laws.
+
+ghost use Rattle.loading_model.specs.Rotation.{EditedLoads, HasItsPlace, OpeningStays, StaysChosen, StaysChosenByAll, StreamsOutlive, StreamsOutliveById, StreamsStay};
+
+/// The bytes of the keyset that any commands make load as this keyset, where it fits the wire format, as every keyset
+/// does that was encoded.
+#[tactic(auto, using(crate::proofs::RotationFacts::edited_loads))]
+pub fn law_edited_loads()
+    ensures { EditedLoads }
+{}
+
+/// Of a keyset that loads, the key that is chosen for a stream is the first in order that is enabled and raw and under
+/// which the stream begins.
+#[tactic(auto, using(crate::proofs::ChoosingFacts::has_its_place))]
+pub fn law_chosen_place()
+    ensures { HasItsPlace }
+{}
+
+/// After any commands of which each adds a key, rotates or chooses the primary key, each stream opens to the text that
+/// it opened to, where the keyset loads before and after.
+#[tactic(auto, using(crate::proofs::RotationFacts::streams_stay))]
+pub fn law_streams_stay()
+    ensures { StreamsStay }
+{}
+
+/// A command that disables, destroys or deletes another key than the one that is chosen for a stream, or enables none
+/// before it, leaves that key chosen, and the stream opens to the same texts, where the keyset loads before and after.
+#[tactic(auto, using(crate::proofs::RotationFacts::stays_chosen, crate::proofs::RotationFacts::opening_stays))]
+pub fn law_other_records()
+    ensures place { StaysChosen }
+    ensures opening { OpeningStays }
+{}
+
+/// The same of any list of commands, each of which leaves the chosen key where it then stands. In between the keyset
+/// need not load.
+#[tactic(auto, using(crate::proofs::RotationFacts::stays_chosen_by_all, crate::proofs::RotationFacts::streams_outlive, crate::proofs::RotationFacts::streams_outlive_by_id))]
+pub fn law_streams_outlive_commands()
+    ensures place { StaysChosenByAll }
+    ensures opening { StreamsOutlive }
+
+    // Where no command enables a key, or disables, destroys or deletes one of the id of the chosen key.
+    ensures by_id { StreamsOutliveById }
+{}
