@@ -44,7 +44,8 @@ BeginsUnder rows aad S k = (key : StreamKey) × BuildsKey rows k key × Begins (
 abbrev pub IsChosenAt : List LoadingRow → List ℕ → List ℕ → List Key → ℕ → ℕ → StreamKey → Type 0
 IsChosenAt rows aad S [] place id key = ⊥
 IsChosenAt rows aad S (k ∷ ks) zero id key = (k.key_id ≡ id) × BuildsKey rows k key × Begins (opening_key aad key) S
-IsChosenAt rows aad S (k ∷ ks) (suc place) id key = (BeginsUnder rows aad S k → ⊥) × IsChosenAt rows aad S ks place id key
+IsChosenAt rows aad S (k ∷ ks) (suc place) id key =
+    (BeginsUnder rows aad S k → ⊥) × IsChosenAt rows aad S ks place id key
 
 -- ---- what commands leave
 
@@ -100,10 +101,10 @@ place_after ks place (SetPrimary _) = place
 
 module _ (makes : Maker) where
   -- each command leaves the key where it then stands
-  abbrev pub LeavePlace : Managed → ℕ → List Command → Type 0
-  LeavePlace m place [] = ⊤
-  LeavePlace m place (c ∷ cs) =
-      LeavesPlace m.keyset place c × LeavePlace (after makes m c) (place_after m.keyset place c) cs
+  abbrev pub AllLeavePlace : Managed → ℕ → List Command → Type 0
+  AllLeavePlace m place [] = ⊤
+  AllLeavePlace m place (c ∷ cs) =
+      LeavesPlace m.keyset place c × AllLeavePlace (after makes m c) (place_after m.keyset place c) cs
 
   -- where a key stands after all of them
   abbrev pub place_after_all : Managed → ℕ → List Command → ℕ
@@ -157,14 +158,14 @@ abbrev pub StaysChosenByAll : Type 0
 StaysChosenByAll =
     (rows : List LoadingRow) (makes : Maker) (m : Managed) (commands : List Command) (aad S : List ℕ)
     (place id : ℕ) (key : StreamKey)
-    → IsChosenAt rows aad S m.keyset.key place id key → LeavePlace makes m place commands
+    → IsChosenAt rows aad S m.keyset.key place id key → AllLeavePlace makes m place commands
     → IsChosenAt rows aad S (after_all makes m commands).keyset.key (place_after_all makes m place commands) id key
 
 abbrev pub StreamsOutlive : Type 0
 StreamsOutlive =
     (rows : List LoadingRow) (makes : Maker) (m : Managed) (commands : List Command) (l later : Loaded)
     (aad S : List ℕ) (place id : ℕ) (key : StreamKey)
-    → IsChosenAt rows aad S m.keyset.key place id key → LeavePlace makes m place commands
+    → IsChosenAt rows aad S m.keyset.key place id key → AllLeavePlace makes m place commands
     → load_keyset rows m.keyset ≡ Ok l → load_keyset rows (after_all makes m commands).keyset ≡ Ok later
     → (text : List ℕ) → OpensTo l aad S text ↔ OpensTo later aad S text
 

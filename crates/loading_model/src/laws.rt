@@ -23,8 +23,9 @@ pub fn law_streams_stay()
     ensures { StreamsStay }
 {}
 
-/// A command that disables, destroys or deletes another key than the one that is chosen for a stream, or enables none
-/// before it, leaves that key chosen, and the stream opens to the same texts, where the keyset loads before and after.
+/// A command that acts on another key than the one that is chosen for a stream, and enables none before it, leaves that
+/// key chosen, one place lower where a key before it was deleted. The stream opens to the texts that it opened to and to
+/// no others, where the keyset loads before and after.
 #[tactic(auto, using(crate::proofs::RotationFacts::stays_chosen, crate::proofs::RotationFacts::opening_stays))]
 pub fn law_other_records()
     ensures place { StaysChosen }
