@@ -13,3 +13,4 @@ pub mod RunSteps
 pub mod RowFacts
 pub mod LoadSteps
 mod StandardFacts
+pub mod RotationLaws

@@ -10,3 +10,4 @@ pub mod OpenSteps
 pub mod Valid
 pub mod AllKeys
 pub mod HeldKeys
+pub mod Rotation

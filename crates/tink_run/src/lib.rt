@@ -3,6 +3,7 @@
 #![tactic(auto)]
 
 mod keys;
+pub mod laws;
 pub mod load;
 mod open;
 pub mod program;
