@@ -19,8 +19,8 @@ use Rattle.tink_run.specs.AllKeys.{load}
 use Rattle.tink_run.specs.declared.report.Report.{Report}
 use Rattle.tink_run.specs.Outside.{Outside}
 use Rattle.tink_run.specs.Run.{IsEarly, LeavesEnds}
-use Rattle.tink_run.specs.OpenAnswers.{IsOfChosen, AgreesUntil, Lead, AreTextsBy, chunk_of, IsOpened, IsBroken, StreamRefused, StreamMeans, Opening, OpenMeans, OpenRefused}
-use Rattle.tink_run.specs.OpenSteps.{IsReadOut, Breaks, HasShort, HasLong, HasMore, ReaderRefused, ReaderMeans, UnderRefused, OpensUnder}
+use Rattle.tink_run.specs.OpenAnswers.{IsOfChosen, AgreesUntil, Lead, AreTextsBy, chunk_of, IsOpenedWhole, IsBroken, OpeningRefused, OpeningMeans, OpensLoaded, OpenMeans, OpenRefused}
+use Rattle.tink_run.specs.OpenSteps.{IsReadOut, Breaks, HasShort, HasLong, HasMore, ReaderRefused, ReaderMeans, OpensUnderRefused, OpensUnder}
 use Rattle.tink_run.proofs.OpenLemmas.{kept_front}
 
 -- nothing is held before the first read
@@ -84,7 +84,7 @@ module _ (keys : List OpeningKey) (seg : ℕ → Bool → List ℕ → List ℕ)
   }
 
   refused_under : (old mid new : Outside) (kind : Kind) → mid.got ≡ old.got → old.read_faults ≤ mid.read_faults → old.write_faults ≤ mid.write_faults → IfSome old.left (Begun mid.left)
-      → ReaderRefused seg first size overhead mid new kind → StreamRefused keys old new kind
+      → ReaderRefused seg first size overhead mid new kind → OpeningRefused keys old new kind
   refused_under old mid new NoMatchingKey got reads writes started x = record {
     none = behind old.left mid.left (λ Y. Agree seg 0 (cut first size Y) []) (λ X. IsChosen keys X None) (λ X s p. absurd (some_agrees s.header X s.found p)) started x.nothing;
     written = subst (λ (o : Option (List ℕ)). Keeps o new.got) got x.written;
@@ -120,7 +120,7 @@ module _ (keys : List OpeningKey) (seg : ℕ → Bool → List ℕ → List ℕ)
   refused_under old mid new _ got reads writes started x = absurd x
 
   opened_under : (old mid new : Outside) (report : Report) → overhead < first → ((i : ℕ) (last : Bool) (t : List ℕ) → length (seg i last t) ≡ length t + overhead) → mid.got ≡ old.got → IfSome old.left (Begun mid.left)
-      → IsReadOut seg first size mid new report → IsOpened keys old new report
+      → IsReadOut seg first size mid new report → IsOpenedWhole keys old new report
   opened_under old mid new report fits longer got started x = record {
     texts = x.texts;
     stream = behind old.left mid.left (λ Y. Leads seg 0 (cut first size Y) x.texts []) (λ X. IsOfChosen keys X x.texts)
@@ -134,12 +134,12 @@ module _ (keys : List OpeningKey) (seg : ℕ → Bool → List ℕ → List ℕ)
 
   -- what the chosen key's reader finds is what an open answers
   pub means_under : (old mid new : Outside) (answer : Result Report TinkError) → overhead < first → ((i : ℕ) (last : Bool) (t : List ℕ) → length (seg i last t) ≡ length t + overhead) → mid.got ≡ old.got → old.read_faults ≤ mid.read_faults → old.write_faults ≤ mid.write_faults
-      → IfSome old.left (Begun mid.left) → ReaderMeans seg first size overhead mid new answer → StreamMeans keys old new answer
+      → IfSome old.left (Begun mid.left) → ReaderMeans seg first size overhead mid new answer → OpeningMeans keys old new answer
   means_under old mid new (Ok report) fits longer got reads writes started x = opened_under old mid new report fits longer got started x
   means_under old mid new (Err e) fits longer got reads writes started x = refused_under old mid new e.kind got reads writes started x
 
 -- no reader was started
-pub start_refused : (keys : List OpeningKey) (old new : Outside) (kind : Kind) → Keeps old.got new.got → StartRefused keys old.left old.read_faults new.read_faults kind → StreamRefused keys old new kind
+pub start_refused : (keys : List OpeningKey) (old new : Outside) (kind : Kind) → Keeps old.got new.got → StartRefused keys old.left old.read_faults new.read_faults kind → OpeningRefused keys old new kind
 start_refused keys old new NoMatchingKey w x = record { none = x; written = w }
 start_refused keys old new ReadFault w x = (record { texts = []; lead = any_told old.left; written = kept_front old.got new.got [] w }, x)
 start_refused keys old new _ w x = absurd x
@@ -149,10 +149,10 @@ pub under_keyset : (keyset aad draws : List ℕ) (l : Loaded) (old new : Outside
 under_keyset keyset aad draws l old new (Ok report) e u = record { loaded = l; loads = e; means = u }
 under_keyset keyset aad draws l old new (Err err) e u = go err.kind refl u
   where
-    opened : (kind : Kind) → err.kind ≡ kind → StreamRefused (opening_keys aad l) old new kind → Opening keyset aad old new (Err err)
-    opened kind same r = record { loaded = l; loads = e; means = subst (StreamRefused (opening_keys aad l) old new) (sym same) r }
+    opened : (kind : Kind) → err.kind ≡ kind → OpeningRefused (opening_keys aad l) old new kind → OpensLoaded keyset aad old new (Err err)
+    opened kind same r = record { loaded = l; loads = e; means = subst (OpeningRefused (opening_keys aad l) old new) (sym same) r }
 
-    go : (kind : Kind) → err.kind ≡ kind → UnderRefused (opening_keys aad l) old new kind → OpenRefused keyset aad draws draws old new err kind
+    go : (kind : Kind) → err.kind ≡ kind → OpensUnderRefused (opening_keys aad l) old new kind → OpenRefused keyset aad draws draws old new err kind
     go OutOfMemory same r = record { untouched = r; undrawn = refl }
     go ReadFault same r = opened ReadFault same r
     go WriteFault same r = opened WriteFault same r
@@ -163,11 +163,11 @@ under_keyset keyset aad draws l old new (Err err) e u = go err.kind refl u
     go _ same r = absurd r
 
 -- an open that has begun to read is not refused early
-pub leaves_under : {S K : Type 0} (keys : List OpeningKey) (old new : Outside) (answer : Result Report TinkError) (s t : S) (k l : K) → StreamMeans keys old new answer → LeavesEnds answer s t k l
+pub leaves_under : {S K : Type 0} (keys : List OpeningKey) (old new : Outside) (answer : Result Report TinkError) (s t : S) (k l : K) → OpeningMeans keys old new answer → LeavesEnds answer s t k l
 leaves_under keys old new (Ok report) s t k l m = tt
 leaves_under keys old new (Err e) s t k l m = go e.kind m
   where
-    go : (kind : Kind) → StreamRefused keys old new kind → IsEarly kind → (t ≡ s) × (l ≡ k)
+    go : (kind : Kind) → OpeningRefused keys old new kind → IsEarly kind → (t ≡ s) × (l ≡ k)
     go NoMatchingKey m early = absurd early
     go (Truncated n) m early = absurd early
     go (BadSegment n) m early = absurd early
@@ -177,10 +177,10 @@ leaves_under keys old new (Err e) s t k l m = go e.kind m
     go _ m early = absurd m
 
 -- what opening under keys says besides `OutOfMemory`
-pub opens_under : (ks : List OpeningKey) (old new : Outside) (r : Result Report TinkError) → StreamMeans ks old new r → OpensUnder ks old new r
+pub opens_under : (ks : List OpeningKey) (old new : Outside) (r : Result Report TinkError) → OpeningMeans ks old new r → OpensUnder ks old new r
 opens_under ks old new (Ok report) m = m
 opens_under ks old new (Err e) m = go e.kind m
   where
-    go : (kind : Kind) → StreamRefused ks old new kind → UnderRefused ks old new kind
+    go : (kind : Kind) → OpeningRefused ks old new kind → OpensUnderRefused ks old new kind
     go OutOfMemory r = absurd r
     go _ r = r

@@ -14,7 +14,7 @@ use Rattle.loading_model.specs.Loading.{Loaded}
 use Rattle.tink_run.specs.AllKeys.{load}
 use Rattle.tink_run.specs.declared.report.Report.{Report}
 use Rattle.tink_run.specs.Outside.{Outside, HasNoFault}
-use Rattle.tink_run.specs.SealAnswers.{Sealing, StreamRefused, SealMeans, SealRefused}
+use Rattle.tink_run.specs.SealAnswers.{SealsLoaded, SealingRefused, SealMeans, SealRefused}
 use Rattle.tink_run.specs.Run.{Told, IsWholeStream, IsOkOrWant, CanSeal}
 
 -- what was appended to told bytes
@@ -51,7 +51,7 @@ told_if P a S e h = rw e at h
 pub told_left : (b : Option (List ℕ)) → (S : List ℕ) → b ≡ Some S → IsAtEnd b → b ≡ Some []
 told_left b S e h = e ∙ ap Some (told_end b S e h)
 
-pub seal_succeeds : (keyset aad draws left_draws T G : List ℕ) (old new : Outside) (report : Report) → Sealing keyset aad draws left_draws old new (Ok report) → Told old T G
+pub seal_succeeds : (keyset aad draws left_draws T G : List ℕ) (old new : Outside) (report : Report) → SealsLoaded keyset aad draws left_draws old new (Ok report) → Told old T G
     → IsWholeStream keyset aad draws left_draws T G new report
 seal_succeeds keyset aad draws left_draws T G old new report s t =
     let whole = told_whole old.left new.left T s.means.text t.left s.means.read s.means.at_end in
@@ -70,13 +70,13 @@ room_some : (k : StreamKey) → IsUsable k → (0 < first_room k) × (0 < room k
 room_some k u = (omega (arith, u.room), omega (arith, u.room))
 
 -- a sealing that can succeed is refused for no other cause than a fault
-pub sealing_complete : (keyset aad draws left_draws T G : List ℕ) (old new : Outside) (e : TinkError) (kind : Kind) → e.kind ≡ kind → Sealing keyset aad draws left_draws old new (Err e) → Told old T G → HasNoFault old new → CanSeal keyset aad draws T → ⊥
-sealing_complete keyset aad draws left_draws T G old new e kind same s t n c = go kind (subst (StreamRefused s.loaded.primary aad (salt_of s.loaded.primary draws) (prefix_of s.loaded.primary draws) old new) same s.means)
+pub sealing_complete : (keyset aad draws left_draws T G : List ℕ) (old new : Outside) (e : TinkError) (kind : Kind) → e.kind ≡ kind → SealsLoaded keyset aad draws left_draws old new (Err e) → Told old T G → HasNoFault old new → CanSeal keyset aad draws T → ⊥
+sealing_complete keyset aad draws left_draws T G old new e kind same s t n c = go kind (subst (SealingRefused s.loaded.primary aad (salt_of s.loaded.primary draws) (prefix_of s.loaded.primary draws) old new) same s.means)
   where
     loaded_same : s.loaded ≡ c.loaded
     loaded_same = let p = s.loads in let q = c.loads in cc
 
-    go : (kind : Kind) → StreamRefused s.loaded.primary aad (salt_of s.loaded.primary draws) (prefix_of s.loaded.primary draws) old new kind → ⊥
+    go : (kind : Kind) → SealingRefused s.loaded.primary aad (salt_of s.loaded.primary draws) (prefix_of s.loaded.primary draws) old new kind → ⊥
     go ReadFault r = n.reads r.rose
     go WriteFault r = n.writes r.rose
     go TooManySegments r =

@@ -25,7 +25,7 @@ use Rattle.loading_model.proofs.UsableKeys.{IsOfLoading}
 use Rattle.tink_run.specs.Outside.{Outside, IsUntouched}
 use Rattle.tink_run.specs.Run.{AnswerMeans, LeavesEnds}
 use Rattle.tink_run.specs.SealAnswers.{SealRefused}
-use Rattle.tink_run.specs.SealSteps.{UnderMeans}
+use Rattle.tink_run.specs.SealSteps.{SealsUnder}
 
 seal_unloaded : (keyset aad draws : List ℕ) (old new : Outside) (e : TinkError) (kind : Kind) → IsUntouched old new → load keyset ≡ Err kind → IsOfLoading kind → SealRefused keyset aad draws draws old new e kind
 seal_unloaded keyset aad draws old new e BadKeyset u l is = record { cause = l; untouched = u; undrawn = refl }
@@ -76,12 +76,12 @@ loaded_as (Err k) w e = absurd (cc)
 
 -- a seal under the primary key is a seal under the keyset
 pub seals_keyset : (keyset aad draws left_draws : List ℕ) (w : Wrapped) (key : StreamKey) (old new : Outside) (answer : Result Report TinkError) → made_of held (load keyset) ≡ Ok w → w.primary ≡ Some key
-    → UnderMeans key aad draws left_draws old new answer → AnswerMeans Seal keyset aad draws left_draws old new answer
+    → SealsUnder key aad draws left_draws old new answer → AnswerMeans Seal keyset aad draws left_draws old new answer
 seals_keyset keyset aad draws left_draws w key old new answer loads primary r =
     let l = loaded_as (load keyset) w loads in
     let one : Some key ≡ Some l.0.primary = sym (ap (λ (x : Wrapped). x.primary) l.2 ∙ primary) in
     let same : key ≡ l.0.primary = cc in
-    sealing.under_keyset keyset aad draws left_draws l.0 old new answer l.1 (subst (λ k. UnderMeans k aad draws left_draws old new answer) same r)
+    sealing.under_keyset keyset aad draws left_draws l.0 old new answer l.1 (subst (λ k. SealsUnder k aad draws left_draws old new answer) same r)
 
 -- an open under the raw keys is an open under the keyset
 pub opens_keyset : (keyset aad draws : List ℕ) (w : Wrapped) (keys : List StreamKey) (old new : Outside) (answer : Result Report TinkError) → made_of held (load keyset) ≡ Ok w → w.raw ≡ keys

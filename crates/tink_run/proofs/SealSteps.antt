@@ -25,8 +25,8 @@ use Rattle.tink_run.specs.AllKeys.{load}
 use Rattle.tink_run.specs.declared.report.Report.{Report}
 use Rattle.tink_run.specs.Outside.{Outside, IsUntouched}
 use Rattle.tink_run.specs.Run.{IsEarly, LeavesEnds}
-use Rattle.tink_run.specs.SealAnswers.{IsSealed, SourceFailed, SinkFailed, IsTooLong, StreamMeans, StreamRefused, SealMeans, SealRefused}
-use Rattle.tink_run.specs.SealSteps.{HasNoKeys, IsPoured, PourRefused, IsUnderWay, UnderMeans, UnderRefused, kind_not_begun}
+use Rattle.tink_run.specs.SealAnswers.{IsSealedWhole, SourceFailed, SinkFailed, IsTooLong, SealingMeans, SealingRefused, SealMeans, SealRefused}
+use Rattle.tink_run.specs.SealSteps.{HasNoKeys, IsPoured, PourRefused, IsUnderWay, SealsUnder, SealsUnderRefused, kind_not_begun}
 
 -- a key, its draws and the keys derived from them
 module _ (k : StreamKey) (aad salt prefix keys : List ℕ) (e : keys_of k aad salt ≡ Some keys) where
@@ -106,7 +106,7 @@ module _ (k : StreamKey) (aad salt prefix keys : List ℕ) (e : keys_of k aad sa
 
   -- the writer closed
   pub sealed_all : (old new : Outside) (m n o : WriterMoment) (text : List ℕ) (report : Report) → IsFresh m → Appends old.got m.got (front k salt prefix) → Wrote seg (first_room k) (room k) m n text → ClosedBy seg n o → new.got ≡ o.got → Consumes old.left new.left text → IsAtEnd new.left
-      → report.segments ≡ o.number → report.bytes ≡ length text → n.number < 2 ^ 32 → IsSealed k aad salt prefix old new report
+      → report.segments ≡ o.number → report.bytes ≡ length text → n.number < 2 ^ 32 → IsSealedWhole k aad salt prefix old new report
   sealed_all old new m n o text report f w p c same read end number bytes few =
       let whole = closed_whole seg (first_room k) (room k) m n o text f p c in
       record {
@@ -135,11 +135,11 @@ module _ (k : StreamKey) (aad salt prefix keys : List ℕ) (e : keys_of k aad sa
   }
 
 -- a seal under the primary key is a seal under the keyset
-pub under_keyset : (keyset aad draws left_draws : List ℕ) (l : Loaded) (old new : Outside) (answer : Result Report TinkError) → load keyset ≡ Ok l → UnderMeans l.primary aad draws left_draws old new answer → SealMeans keyset aad draws left_draws old new answer
+pub under_keyset : (keyset aad draws left_draws : List ℕ) (l : Loaded) (old new : Outside) (answer : Result Report TinkError) → load keyset ≡ Ok l → SealsUnder l.primary aad draws left_draws old new answer → SealMeans keyset aad draws left_draws old new answer
 under_keyset keyset aad draws left_draws l old new (Ok report) e u = record { loaded = l; loads = e; enough = u.enough; rest = u.rest; derives = u.derives; means = u.means }
 under_keyset keyset aad draws left_draws l old new (Err err) e u = go err.kind u
   where
-    go : (kind : Kind) → UnderRefused l.primary aad draws left_draws old new err kind → SealRefused keyset aad draws left_draws old new err kind
+    go : (kind : Kind) → SealsUnderRefused l.primary aad draws left_draws old new err kind → SealRefused keyset aad draws left_draws old new err kind
     go OutOfMemory r = r
     go RandomFault r = record { loaded = l; loads = e; few = r.few; untouched = r.untouched; undrawn = r.undrawn }
     go UnsupportedHash r = record { loaded = l; loads = e; enough = r.enough; rest = r.rest; none = r.none; untouched = r.untouched }
@@ -151,12 +151,12 @@ under_keyset keyset aad draws left_draws l old new (Err err) e u = go err.kind u
 -- what pouring refused
 pub pour_refusal : (k : StreamKey) (aad salt prefix keys : List ℕ) (e : keys_of k aad salt ≡ Some keys) (seg : ℕ → Bool → List ℕ → List ℕ) (a b : ℕ) (left after got : Option (List ℕ)) (reads again writes : ℕ) (m n : WriterMoment) (kind : Kind)
     → seg ≡ segment_at k keys prefix → a ≡ first_room k → b ≡ room k → IsFresh m → Appends got m.got (front k salt prefix) → writes ≤ m.faults → PourRefused seg a b left after reads again m n kind
-    → StreamRefused k aad salt prefix (record { left = left; read_faults = reads; got = got; write_faults = writes }) (record { left = after; read_faults = again; got = n.got; write_faults = n.faults }) kind
+    → SealingRefused k aad salt prefix (record { left = left; read_faults = reads; got = got; write_faults = writes }) (record { left = after; read_faults = again; got = n.got; write_faults = n.faults }) kind
 pour_refusal k aad salt prefix keys e seg a b left after got reads again writes m n kind s p q f w later r =
     go kind (subst (λ (g : ℕ → Bool → List ℕ → List ℕ). PourRefused g (first_room k) (room k) left after reads again m n kind) s (subst (λ (y : ℕ). PourRefused seg (first_room k) y left after reads again m n kind) q (subst (λ (x : ℕ). PourRefused seg x b left after reads again m n kind) p r)))
   where
     go : (kind : Kind) → PourRefused (segment_at k keys prefix) (first_room k) (room k) left after reads again m n kind
-        → StreamRefused k aad salt prefix (record { left = left; read_faults = reads; got = got; write_faults = writes }) (record { left = after; read_faults = again; got = n.got; write_faults = n.faults }) kind
+        → SealingRefused k aad salt prefix (record { left = left; read_faults = reads; got = got; write_faults = writes }) (record { left = after; read_faults = again; got = n.got; write_faults = n.faults }) kind
     go ReadFault x = source_failed k aad salt prefix keys e _ _ m n x.0.text f w x.0.refused refl x.0.read x.1
     go WriteFault x = sink_failed k aad salt prefix keys e _ _ m n x.text f w x.refused refl x.read later (omega arith)
     go TooManySegments x = too_long k aad salt prefix keys e _ _ m n x.text f w x.refused refl x.read
@@ -165,15 +165,15 @@ pour_refusal k aad salt prefix keys e seg a b left after got reads again writes 
 -- what closing says, after all was poured
 pub close_answer : (k : StreamKey) (aad salt prefix keys : List ℕ) (e : keys_of k aad salt ≡ Some keys) (seg : ℕ → Bool → List ℕ → List ℕ) (a b : ℕ) (left after got : Option (List ℕ)) (reads again writes : ℕ) (m n o : WriterMoment) (bytes : ℕ)
     → seg ≡ segment_at k keys prefix → a ≡ first_room k → b ≡ room k → IsFresh m → Appends got m.got (front k salt prefix) → IsPoured seg a b left after m n bytes → IsAtEnd after → writes ≤ n.faults
-    → ((kind : Kind) → CloseRefused seg n o kind → StreamRefused k aad salt prefix (record { left = left; read_faults = reads; got = got; write_faults = writes }) (record { left = after; read_faults = again; got = o.got; write_faults = o.faults }) kind)
+    → ((kind : Kind) → CloseRefused seg n o kind → SealingRefused k aad salt prefix (record { left = left; read_faults = reads; got = got; write_faults = writes }) (record { left = after; read_faults = again; got = o.got; write_faults = o.faults }) kind)
     × (CloseMeans seg n o (Ok tt) → (report : Report) → report.segments ≡ o.number → report.bytes ≡ bytes
-    → IsSealed k aad salt prefix (record { left = left; read_faults = reads; got = got; write_faults = writes }) (record { left = after; read_faults = again; got = o.got; write_faults = o.faults }) report)
+    → IsSealedWhole k aad salt prefix (record { left = left; read_faults = reads; got = got; write_faults = writes }) (record { left = after; read_faults = again; got = o.got; write_faults = o.faults }) report)
 close_answer k aad salt prefix keys e seg a b left after got reads again writes m n o bytes s p q f w poured end later = (refused, closed)
   where
     is_poured : IsPoured (segment_at k keys prefix) (first_room k) (room k) left after m n bytes
     is_poured = subst (λ (g : ℕ → Bool → List ℕ → List ℕ). IsPoured g (first_room k) (room k) left after m n bytes) s (subst (λ (y : ℕ). IsPoured seg (first_room k) y left after m n bytes) q (subst (λ (x : ℕ). IsPoured seg x b left after m n bytes) p poured))
 
-    refused : (kind : Kind) → CloseRefused seg n o kind → StreamRefused k aad salt prefix (record { left = left; read_faults = reads; got = got; write_faults = writes }) (record { left = after; read_faults = again; got = o.got; write_faults = o.faults }) kind
+    refused : (kind : Kind) → CloseRefused seg n o kind → SealingRefused k aad salt prefix (record { left = left; read_faults = reads; got = got; write_faults = writes }) (record { left = after; read_faults = again; got = o.got; write_faults = o.faults }) kind
     refused WriteFault r =
         let short : ClosedShort (segment_at k keys prefix) n o = subst (λ (g : ℕ → Bool → List ℕ → List ℕ). ClosedShort g n o) s r in
         close_failed k aad salt prefix keys e _ _ m n o is_poured.text f w is_poured.wrote short refl is_poured.read end later (omega arith)
@@ -181,18 +181,18 @@ close_answer k aad salt prefix keys e seg a b left after got reads again writes 
     refused _ r = absurd r
 
     closed : CloseMeans seg n o (Ok tt) → (report : Report) → report.segments ≡ o.number → report.bytes ≡ bytes
-        → IsSealed k aad salt prefix (record { left = left; read_faults = reads; got = got; write_faults = writes }) (record { left = after; read_faults = again; got = o.got; write_faults = o.faults }) report
+        → IsSealedWhole k aad salt prefix (record { left = left; read_faults = reads; got = got; write_faults = writes }) (record { left = after; read_faults = again; got = o.got; write_faults = o.faults }) report
     closed (inl c) report x y =
         let by : ClosedBy (segment_at k keys prefix) n o = subst (λ (g : ℕ → Bool → List ℕ → List ℕ). ClosedBy g n o) s c in
         sealed_all k aad salt prefix keys e _ _ m n o is_poured.text report f w is_poured.wrote by refl is_poured.read end x (y ∙ is_poured.bytes_are) is_poured.wrote.few
     closed (inr c) report x y = absurd (let h = sym is_poured.wrote.is_open ∙ c.0 in cc)
 
 -- a stream's sealing is under way whatever it answers
-pub under_way : (k : StreamKey) (aad draws left_draws : List ℕ) (old new : Outside) (answer : Result Report TinkError) → IsUnderWay k aad draws left_draws old new answer → UnderMeans k aad draws left_draws old new answer
+pub under_way : (k : StreamKey) (aad draws left_draws : List ℕ) (old new : Outside) (answer : Result Report TinkError) → IsUnderWay k aad draws left_draws old new answer → SealsUnder k aad draws left_draws old new answer
 under_way k aad draws left_draws old new (Ok report) w = w
 under_way k aad draws left_draws old new (Err e) w = go e.kind w.means
   where
-    go : (kind : Kind) → StreamRefused k aad (salt_of k draws) (prefix_of k draws) old new kind → UnderRefused k aad draws left_draws old new e kind
+    go : (kind : Kind) → SealingRefused k aad (salt_of k draws) (prefix_of k draws) old new kind → SealsUnderRefused k aad draws left_draws old new e kind
     go ReadFault m = w
     go WriteFault m = w
     go TooManySegments m = w
@@ -221,7 +221,7 @@ module _ {W : Type 0} (got : W → Option (List ℕ)) (faults : W → ℕ) (k : 
       ap at s
 
   refusal : (kind : Kind) → NewWriterRefused got faults k aad draws left_draws old new kind
-      → UnderMeans k aad draws left_draws before after (Err (record { kind = kind_not_begun kind }))
+      → SealsUnder k aad draws left_draws before after (Err (record { kind = kind_not_begun kind }))
   refusal OutOfMemory r = record { untouched = untouched r.same; undrawn = r.undrawn }
   refusal RandomFault r = record { few = r.few; untouched = untouched r.untouched.same; undrawn = r.untouched.undrawn }
   refusal UnknownHash r = no_keys k aad draws left_draws before after UnknownHash r.drew r.hash (untouched r.same)
@@ -235,8 +235,8 @@ module _ {W : Type 0} (got : W → Option (List ℕ)) (faults : W → ℕ) (k : 
   refusal _ r = absurd r
 
   pub begin_refusal : (kind : Kind) (e : TinkError) → e ≡ record { kind = kind_not_begun kind } → NewWriterRefused got faults k aad draws left_draws old new kind
-      → UnderMeans k aad draws left_draws (record { left = left; read_faults = reads; got = got old; write_faults = faults old }) (record { left = left; read_faults = reads; got = got new; write_faults = faults new }) (Err e)
-  begin_refusal kind e same r = subst (λ (x : TinkError). UnderMeans k aad draws left_draws before after (Err x)) (sym same) (refusal kind r)
+      → SealsUnder k aad draws left_draws (record { left = left; read_faults = reads; got = got old; write_faults = faults old }) (record { left = left; read_faults = reads; got = got new; write_faults = faults new }) (Err e)
+  begin_refusal kind e same r = subst (λ (x : TinkError). SealsUnder k aad draws left_draws before after (Err x)) (sym same) (refusal kind r)
 
   -- where the refusal is early, the sink is as it was
   pub begin_leaves : {S : Type 0} (source : S) (kind : Kind) (e : TinkError) → e ≡ record { kind = kind_not_begun kind } → NewWriterRefused got faults k aad draws left_draws old new kind
@@ -276,27 +276,27 @@ module _ (k : StreamKey) (aad draws left_draws : List ℕ) (got : Option (List �
   fresh = record { mode = begun.is_open; number = begun.number; held = begun.held }
 
   -- what its sealing answers is what the seal answers
-  begun_answer : (old new : Outside) (answer : Result Report TinkError) → StreamMeans k aad (salt_of k draws) (prefix_of k draws) old new answer → UnderMeans k aad draws left_draws old new answer
+  begun_answer : (old new : Outside) (answer : Result Report TinkError) → SealingMeans k aad (salt_of k draws) (prefix_of k draws) old new answer → SealsUnder k aad draws left_draws old new answer
   begun_answer old new answer means = under_way k aad draws left_draws old new answer (record { enough = begun.drew.enough; rest = begun.drew.rest; derives = λ none. let some = begun.keys_are in cc; means = means })
 
   -- pouring was refused
   pub not_poured : (left after : Option (List ℕ)) (reads again writes : ℕ) (n : WriterMoment) (e : TinkError) → writes ≤ m.faults → PourRefused seg a b left after reads again m n e.kind
-      → UnderMeans k aad draws left_draws (record { left = left; read_faults = reads; got = got; write_faults = writes }) (record { left = after; read_faults = again; got = n.got; write_faults = n.faults }) (Err e)
+      → SealsUnder k aad draws left_draws (record { left = left; read_faults = reads; got = got; write_faults = writes }) (record { left = after; read_faults = again; got = n.got; write_faults = n.faults }) (Err e)
   not_poured left after reads again writes n e later r =
       begun_answer _ _ (Err e)
       (pour_refusal k aad (salt_of k draws) (prefix_of k draws) begun.keys begun.keys_are seg a b left after got reads again writes m n e.kind begun.segments begun.first_is begun.later_is fresh begun.written later r)
 
   -- all was poured, and the writer was closed or not
   module _ (left after : Option (List ℕ)) (reads again writes : ℕ) (n o : WriterMoment) (bytes : ℕ) (poured : IsPoured seg a b left after m n bytes) (end : IsAtEnd after) (later : writes ≤ n.faults) where
-    abbrev answers : ((kind : Kind) → CloseRefused seg n o kind → StreamRefused k aad (salt_of k draws) (prefix_of k draws) (record { left = left; read_faults = reads; got = got; write_faults = writes }) (record { left = after; read_faults = again; got = o.got; write_faults = o.faults }) kind)
+    abbrev answers : ((kind : Kind) → CloseRefused seg n o kind → SealingRefused k aad (salt_of k draws) (prefix_of k draws) (record { left = left; read_faults = reads; got = got; write_faults = writes }) (record { left = after; read_faults = again; got = o.got; write_faults = o.faults }) kind)
         × (CloseMeans seg n o (Ok tt) → (report : Report) → report.segments ≡ o.number → report.bytes ≡ bytes
-        → IsSealed k aad (salt_of k draws) (prefix_of k draws) (record { left = left; read_faults = reads; got = got; write_faults = writes }) (record { left = after; read_faults = again; got = o.got; write_faults = o.faults }) report)
+        → IsSealedWhole k aad (salt_of k draws) (prefix_of k draws) (record { left = left; read_faults = reads; got = got; write_faults = writes }) (record { left = after; read_faults = again; got = o.got; write_faults = o.faults }) report)
     answers = close_answer k aad (salt_of k draws) (prefix_of k draws) begun.keys begun.keys_are seg a b left after got reads again writes m n o bytes begun.segments begun.first_is begun.later_is fresh begun.written poured end later
 
     pub not_closed : (e : TinkError) → CloseRefused seg n o e.kind
-        → UnderMeans k aad draws left_draws (record { left = left; read_faults = reads; got = got; write_faults = writes }) (record { left = after; read_faults = again; got = o.got; write_faults = o.faults }) (Err e)
+        → SealsUnder k aad draws left_draws (record { left = left; read_faults = reads; got = got; write_faults = writes }) (record { left = after; read_faults = again; got = o.got; write_faults = o.faults }) (Err e)
     not_closed e r = begun_answer _ _ (Err e) (answers.0 e.kind r)
 
     pub closed : CloseMeans seg n o (Ok tt) → (report : Report) → report.segments ≡ o.number → report.bytes ≡ bytes
-        → UnderMeans k aad draws left_draws (record { left = left; read_faults = reads; got = got; write_faults = writes }) (record { left = after; read_faults = again; got = o.got; write_faults = o.faults }) (Ok report)
+        → SealsUnder k aad draws left_draws (record { left = left; read_faults = reads; got = got; write_faults = writes }) (record { left = after; read_faults = again; got = o.got; write_faults = o.faults }) (Ok report)
     closed c report segments_are bytes_are = begun_answer _ _ (Ok report) (answers.1 c report segments_are bytes_are)

@@ -41,7 +41,7 @@ Lead keys S [] = Unit {0}
 Lead keys S (t ∷ ts) = (k : OpeningKey) × IsChosen keys S (Some k) × AreTextsBy (k.seg (take k.header S)) (chunks_of k S) (t ∷ ts)
 
 -- the whole text was written
-pub record IsOpened (keys : List OpeningKey) (old new : Outside) (report : Report) : Type 0 where
+pub record IsOpenedWhole (keys : List OpeningKey) (old new : Outside) (report : Report) : Type 0 where
   pub texts : List (List ℕ)
   pub stream : IfSome old.left (λ S. IsOfChosen keys S texts)
   pub stays_told : IfSome old.left (λ _. IsSome new.left)
@@ -84,24 +84,24 @@ pub record IsBroken (keys : List OpeningKey) (old new : Outside) : Type 0 where
   pub lead : IfSome old.left (λ S. Lead keys S texts)
   pub written : AppendsFront old.got new.got (joined texts)
 
-abbrev pub StreamRefused : List OpeningKey → Outside → Outside → Kind → Type 0
-StreamRefused keys old new NoMatchingKey = HasNoKey keys old new
-StreamRefused keys old new (Truncated n) = IsTruncated keys n old new
-StreamRefused keys old new (BadSegment n) = HasBadSegment keys n old new
-StreamRefused keys old new TooManySegments = GoesOn keys old new
-StreamRefused keys old new ReadFault = IsBroken keys old new × Rose old.read_faults new.read_faults
-StreamRefused keys old new WriteFault = IsBroken keys old new × Rose old.write_faults new.write_faults
-StreamRefused keys old new _ = ⊥
+abbrev pub OpeningRefused : List OpeningKey → Outside → Outside → Kind → Type 0
+OpeningRefused keys old new NoMatchingKey = HasNoKey keys old new
+OpeningRefused keys old new (Truncated n) = IsTruncated keys n old new
+OpeningRefused keys old new (BadSegment n) = HasBadSegment keys n old new
+OpeningRefused keys old new TooManySegments = GoesOn keys old new
+OpeningRefused keys old new ReadFault = IsBroken keys old new × Rose old.read_faults new.read_faults
+OpeningRefused keys old new WriteFault = IsBroken keys old new × Rose old.write_faults new.write_faults
+OpeningRefused keys old new _ = ⊥
 
-abbrev pub StreamMeans : List OpeningKey → Outside → Outside → Result Report TinkError → Type 0
-StreamMeans keys old new (Ok report) = IsOpened keys old new report
-StreamMeans keys old new (Err e) = StreamRefused keys old new e.kind
+abbrev pub OpeningMeans : List OpeningKey → Outside → Outside → Result Report TinkError → Type 0
+OpeningMeans keys old new (Ok report) = IsOpenedWhole keys old new report
+OpeningMeans keys old new (Err e) = OpeningRefused keys old new e.kind
 
 -- keys were loaded, and this is what opening under them says
-pub record Opening (keyset aad : List ℕ) (old new : Outside) (answer : Result Report TinkError) : Type 0 where
+pub record OpensLoaded (keyset aad : List ℕ) (old new : Outside) (answer : Result Report TinkError) : Type 0 where
   pub loaded : Loaded
   pub loads : load keyset ≡ Ok loaded
-  pub means : StreamMeans (opening_keys aad loaded) old new answer
+  pub means : OpeningMeans (opening_keys aad loaded) old new answer
 
 -- each refusal has its cause, and says what stands after it. No other refusal is given.
 abbrev pub OpenRefused : List ℕ → List ℕ → List ℕ → List ℕ → Outside → Outside → TinkError → Kind → Type 0
@@ -112,14 +112,14 @@ OpenRefused keyset aad draws left_draws old new e UnsupportedKeyType = IsRefused
 OpenRefused keyset aad draws left_draws old new e InvalidKey = IsRefused keyset InvalidKey draws left_draws old new
 OpenRefused keyset aad draws left_draws old new e NoPrimary = IsRefused keyset NoPrimary draws left_draws old new
 OpenRefused keyset aad draws left_draws old new e WrongPrimitive = IsRefused keyset WrongPrimitive draws left_draws old new
-OpenRefused keyset aad draws left_draws old new e ReadFault = Opening keyset aad old new (Err e)
-OpenRefused keyset aad draws left_draws old new e WriteFault = Opening keyset aad old new (Err e)
-OpenRefused keyset aad draws left_draws old new e TooManySegments = Opening keyset aad old new (Err e)
-OpenRefused keyset aad draws left_draws old new e NoMatchingKey = Opening keyset aad old new (Err e)
-OpenRefused keyset aad draws left_draws old new e (BadSegment n) = Opening keyset aad old new (Err e)
-OpenRefused keyset aad draws left_draws old new e (Truncated n) = Opening keyset aad old new (Err e)
+OpenRefused keyset aad draws left_draws old new e ReadFault = OpensLoaded keyset aad old new (Err e)
+OpenRefused keyset aad draws left_draws old new e WriteFault = OpensLoaded keyset aad old new (Err e)
+OpenRefused keyset aad draws left_draws old new e TooManySegments = OpensLoaded keyset aad old new (Err e)
+OpenRefused keyset aad draws left_draws old new e NoMatchingKey = OpensLoaded keyset aad old new (Err e)
+OpenRefused keyset aad draws left_draws old new e (BadSegment n) = OpensLoaded keyset aad old new (Err e)
+OpenRefused keyset aad draws left_draws old new e (Truncated n) = OpensLoaded keyset aad old new (Err e)
 OpenRefused keyset aad draws left_draws old new e _ = ⊥
 
 abbrev pub OpenMeans : List ℕ → List ℕ → List ℕ → List ℕ → Outside → Outside → Result Report TinkError → Type 0
-OpenMeans keyset aad draws left_draws old new (Ok report) = Opening keyset aad old new (Ok report)
+OpenMeans keyset aad draws left_draws old new (Ok report) = OpensLoaded keyset aad old new (Ok report)
 OpenMeans keyset aad draws left_draws old new (Err e) = OpenRefused keyset aad draws left_draws old new e e.kind

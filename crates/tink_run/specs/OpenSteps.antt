@@ -6,13 +6,17 @@ use Rattle.tink_io.specs.Written.{AppendsFront}
 use Rattle.tink_io.specs.declared.error.Kind.{Kind}
 use Rattle.tink_io.specs.declared.error.Kind.TheVariants.{OutOfMemory, ReadFault, WriteFault, TooManySegments, NoMatchingKey, BadSegment, Truncated}
 use Rattle.tink_io.specs.declared.error.TinkError.{TinkError}
+use Rattle.std.specs.declared.option.Option.{Option}
 use Rattle.stream_model.specs.Cut.{cut}
 use Rattle.stream_model.specs.Agree.{AreTexts, Agree, Leads, joined}
 use Rattle.stream_model.specs.Opening.{OpeningKey}
+use Rattle.tink_segment_traits.specs.declared.segment_traits.SegmentDecrypter.{Ghosts}
+use Rattle.tink_streams.specs.declared.reading.SegmentReader.{SegmentReader}
+use Rattle.tink_streams.specs.Openers.{reader_rest}
 use Rattle.tink_streams.specs.Reading.{ReaderMoment, OpensNext, NothingComes}
 use Rattle.tink_run.specs.declared.report.Report.{Report}
 use Rattle.tink_run.specs.Outside.{Outside, IsUntouched}
-use Rattle.tink_run.specs.OpenAnswers.{IsOpened, StreamRefused}
+use Rattle.tink_run.specs.OpenAnswers.{IsOpenedWhole, OpeningRefused}
 
 -- the first segment: where it is the segment of no text, the stream doesn't begin under the reader's key
 abbrev pub FirstRefused : (ℕ → Bool → List ℕ → List ℕ) → ℕ → ℕ → ReaderMoment → ReaderMoment → Kind → Type 0
@@ -73,16 +77,22 @@ ReaderRefused seg a b overhead old new ReadFault = Breaks seg a b old new × Ros
 ReaderRefused seg a b overhead old new WriteFault = Breaks seg a b old new × Rose old.write_faults new.write_faults
 ReaderRefused seg a b overhead old new _ = ⊥
 
+-- the outside as a reader sees it: what it holds, and then what the source has left
+abbrev pub held_outside : {S K D : Type 0} {g : Ghosts D} → (S → Option (List ℕ)) → (S → ℕ) → (K → Option (List ℕ)) → (K → ℕ)
+    → SegmentReader D g → S → K → Outside
+held_outside left reads got writes reader source sink =
+    record { left = reader_rest left reader source; read_faults = reads source; got = got sink; write_faults = writes sink }
+
 -- what opening all that a reader finds answers; the old rest is what it holds, and then what the source has left
 abbrev pub ReaderMeans : (ℕ → Bool → List ℕ → List ℕ) → ℕ → ℕ → ℕ → Outside → Outside → Result Report TinkError → Type 0
 ReaderMeans seg a b overhead old new (Ok report) = IsReadOut seg a b old new report
 ReaderMeans seg a b overhead old new (Err e) = ReaderRefused seg a b overhead old new e.kind
 
-abbrev pub UnderRefused : List OpeningKey → Outside → Outside → Kind → Type 0
-UnderRefused keys old new OutOfMemory = IsUntouched old new
-UnderRefused keys old new kind = StreamRefused keys old new kind
+abbrev pub OpensUnderRefused : List OpeningKey → Outside → Outside → Kind → Type 0
+OpensUnderRefused keys old new OutOfMemory = IsUntouched old new
+OpensUnderRefused keys old new kind = OpeningRefused keys old new kind
 
 -- what an open under keys answers
 abbrev pub OpensUnder : List OpeningKey → Outside → Outside → Result Report TinkError → Type 0
-OpensUnder keys old new (Ok report) = IsOpened keys old new report
-OpensUnder keys old new (Err e) = UnderRefused keys old new e.kind
+OpensUnder keys old new (Ok report) = IsOpenedWhole keys old new report
+OpensUnder keys old new (Err e) = OpensUnderRefused keys old new e.kind

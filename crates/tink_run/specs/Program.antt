@@ -15,8 +15,7 @@ use Rattle.tink_run.specs.declared.report.Command.TheVariants.{Seal, Open}
 use Rattle.tink_run.specs.declared.report.Report.{Report}
 use Rattle.tink_run.specs.Draws.{draws_in}
 use Rattle.tink_run.specs.Outside.{Outside, IsUntouched, HasNoFault}
-use Rattle.tink_run.specs.Run.{AnswerMeans, IsEarly, Told, IsWholeStream, IsWholeText, IsOfAgreeing, OnlyAgreeing, CanSeal, CanOpen, IsComplete}
-use Rattle.tink_run.specs.Run as run
+use Rattle.tink_run.specs.Run.{AnswerMeans, IsEarly, Told, OkMeans, IsWholeStream, IsWholeText, IsOfAgreeing, OnlyAgreeing, CanSeal, CanOpen, IsComplete}
 use Rattle.tink_run.specs.Words.{SealWords, OpenWords, SpellNothing}
 
 -- a refusal's status. A kind of the last line never comes.
@@ -188,7 +187,7 @@ pub record Succeeds (words : List (List ℕ)) (old new : Outside) (status : ℕ)
 pub record Ran (command : Command) (keyset aad draws : List ℕ) (old new : Outside) (answer : Result Report TinkError) : Type 0 where
   pub left_draws : List ℕ
   pub means : AnswerMeans command keyset aad draws left_draws old new answer
-  pub ok : IfOk answer (λ report. (T G : List ℕ) → Told old T G → run.Succeeds command keyset aad draws left_draws T G new report)
+  pub ok : IfOk answer (λ report. (T G : List ℕ) → Told old T G → OkMeans command keyset aad draws left_draws T G new report)
   pub written : OnlyAgreeing command keyset aad old new
   pub succeeds : IsComplete command keyset aad draws old new answer
 

@@ -69,9 +69,9 @@ pub record IsWholeText (keyset aad S G : List ℕ) (new : Outside) (report : Rep
   pub segments : report.segments ≡ length texts
   pub bytes : report.bytes ≡ length (joined texts)
 
-abbrev pub Succeeds : Command → List ℕ → List ℕ → List ℕ → List ℕ → List ℕ → List ℕ → Outside → Report → Type 0
-Succeeds Seal keyset aad draws left_draws T G new report = IsWholeStream keyset aad draws left_draws T G new report
-Succeeds Open keyset aad draws left_draws S G new report = IsWholeText keyset aad S G new report
+abbrev pub OkMeans : Command → List ℕ → List ℕ → List ℕ → List ℕ → List ℕ → List ℕ → Outside → Report → Type 0
+OkMeans Seal keyset aad draws left_draws T G new report = IsWholeStream keyset aad draws left_draws T G new report
+OkMeans Open keyset aad draws left_draws S G new report = IsWholeText keyset aad S G new report
 
 -- what was written is a prefix of the texts that agree under the chosen key, and nothing where no key is chosen
 pub record IsOfAgreeing (keyset aad S : List ℕ) (old new : Outside) : Type 0 where

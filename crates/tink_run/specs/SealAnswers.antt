@@ -14,7 +14,7 @@ use Rattle.tink_run.specs.declared.report.Report.{Report}
 use Rattle.tink_run.specs.Outside.{Outside, IsUntouched}
 
 -- the stream of the whole text was written
-pub record IsSealed (k : StreamKey) (aad salt prefix : List ℕ) (old new : Outside) (report : Report) : Type 0 where
+pub record IsSealedWhole (k : StreamKey) (aad salt prefix : List ℕ) (old new : Outside) (report : Report) : Type 0 where
   pub text : List ℕ
   pub read : Consumes old.left new.left text
   pub at_end : IsAtEnd new.left
@@ -45,24 +45,24 @@ pub record SinkFailed (k : StreamKey) (aad salt prefix : List ℕ) (old new : Ou
   pub rose : Rose old.write_faults new.write_faults
 
 -- what the stream's sealing answers, once salt and prefix are drawn and keys derived
-abbrev pub StreamRefused : StreamKey → List ℕ → List ℕ → List ℕ → Outside → Outside → Kind → Type 0
-StreamRefused k aad salt prefix old new ReadFault = SourceFailed k aad salt prefix old new
-StreamRefused k aad salt prefix old new WriteFault = SinkFailed k aad salt prefix old new
-StreamRefused k aad salt prefix old new TooManySegments = IsTooLong k aad salt prefix old new
-StreamRefused k aad salt prefix old new _ = ⊥
+abbrev pub SealingRefused : StreamKey → List ℕ → List ℕ → List ℕ → Outside → Outside → Kind → Type 0
+SealingRefused k aad salt prefix old new ReadFault = SourceFailed k aad salt prefix old new
+SealingRefused k aad salt prefix old new WriteFault = SinkFailed k aad salt prefix old new
+SealingRefused k aad salt prefix old new TooManySegments = IsTooLong k aad salt prefix old new
+SealingRefused k aad salt prefix old new _ = ⊥
 
-abbrev pub StreamMeans : StreamKey → List ℕ → List ℕ → List ℕ → Outside → Outside → Result Report TinkError → Type 0
-StreamMeans k aad salt prefix old new (Ok report) = IsSealed k aad salt prefix old new report
-StreamMeans k aad salt prefix old new (Err e) = StreamRefused k aad salt prefix old new e.kind
+abbrev pub SealingMeans : StreamKey → List ℕ → List ℕ → List ℕ → Outside → Outside → Result Report TinkError → Type 0
+SealingMeans k aad salt prefix old new (Ok report) = IsSealedWhole k aad salt prefix old new report
+SealingMeans k aad salt prefix old new (Err e) = SealingRefused k aad salt prefix old new e.kind
 
 -- keys were loaded, the primary's salt and prefix were drawn, and this is what its stream's sealing says
-pub record Sealing (keyset aad draws left_draws : List ℕ) (old new : Outside) (answer : Result Report TinkError) : Type 0 where
+pub record SealsLoaded (keyset aad draws left_draws : List ℕ) (old new : Outside) (answer : Result Report TinkError) : Type 0 where
   pub loaded : Loaded
   pub loads : load keyset ≡ Ok loaded
   pub enough : drawn loaded.primary ≤ length draws
   pub rest : left_draws ≡ drop (drawn loaded.primary) draws
   pub derives : keys_of loaded.primary aad (salt_of loaded.primary draws) ≡ None → ⊥
-  pub means : StreamMeans loaded.primary aad (salt_of loaded.primary draws) (prefix_of loaded.primary draws) old new answer
+  pub means : SealingMeans loaded.primary aad (salt_of loaded.primary draws) (prefix_of loaded.primary draws) old new answer
 
 -- the keyset was refused: nothing was read, written or drawn
 pub record IsRefused (keyset : List ℕ) (kind : Kind) (draws left_draws : List ℕ) (old new : Outside) : Type 0 where
@@ -71,7 +71,7 @@ pub record IsRefused (keyset : List ℕ) (kind : Kind) (draws left_draws : List 
   pub undrawn : left_draws ≡ draws
 
 -- too few draws are left for the primary's salt and prefix, and none were taken
-pub record HasFewDraws (keyset draws left_draws : List ℕ) (old new : Outside) : Type 0 where
+pub record PrimaryHasFewDraws (keyset draws left_draws : List ℕ) (old new : Outside) : Type 0 where
   pub loaded : Loaded
   pub loads : load keyset ≡ Ok loaded
   pub few : length draws < drawn loaded.primary
@@ -79,7 +79,7 @@ pub record HasFewDraws (keyset draws left_draws : List ℕ) (old new : Outside) 
   pub undrawn : left_draws ≡ draws
 
 -- the primary's hash derives no keys; the draws were taken
-pub record DerivesNothing (keyset aad draws left_draws : List ℕ) (old new : Outside) : Type 0 where
+pub record PrimaryDerivesNothing (keyset aad draws left_draws : List ℕ) (old new : Outside) : Type 0 where
   pub loaded : Loaded
   pub loads : load keyset ≡ Ok loaded
   pub enough : drawn loaded.primary ≤ length draws
@@ -101,13 +101,13 @@ SealRefused keyset aad draws left_draws old new e UnsupportedKeyType = IsRefused
 SealRefused keyset aad draws left_draws old new e InvalidKey = IsRefused keyset InvalidKey draws left_draws old new
 SealRefused keyset aad draws left_draws old new e NoPrimary = IsRefused keyset NoPrimary draws left_draws old new
 SealRefused keyset aad draws left_draws old new e WrongPrimitive = IsRefused keyset WrongPrimitive draws left_draws old new
-SealRefused keyset aad draws left_draws old new e RandomFault = HasFewDraws keyset draws left_draws old new
-SealRefused keyset aad draws left_draws old new e UnsupportedHash = DerivesNothing keyset aad draws left_draws old new
-SealRefused keyset aad draws left_draws old new e ReadFault = Sealing keyset aad draws left_draws old new (Err e)
-SealRefused keyset aad draws left_draws old new e WriteFault = Sealing keyset aad draws left_draws old new (Err e)
-SealRefused keyset aad draws left_draws old new e TooManySegments = Sealing keyset aad draws left_draws old new (Err e)
+SealRefused keyset aad draws left_draws old new e RandomFault = PrimaryHasFewDraws keyset draws left_draws old new
+SealRefused keyset aad draws left_draws old new e UnsupportedHash = PrimaryDerivesNothing keyset aad draws left_draws old new
+SealRefused keyset aad draws left_draws old new e ReadFault = SealsLoaded keyset aad draws left_draws old new (Err e)
+SealRefused keyset aad draws left_draws old new e WriteFault = SealsLoaded keyset aad draws left_draws old new (Err e)
+SealRefused keyset aad draws left_draws old new e TooManySegments = SealsLoaded keyset aad draws left_draws old new (Err e)
 SealRefused keyset aad draws left_draws old new e _ = ⊥
 
 abbrev pub SealMeans : List ℕ → List ℕ → List ℕ → List ℕ → Outside → Outside → Result Report TinkError → Type 0
-SealMeans keyset aad draws left_draws old new (Ok report) = Sealing keyset aad draws left_draws old new (Ok report)
+SealMeans keyset aad draws left_draws old new (Ok report) = SealsLoaded keyset aad draws left_draws old new (Ok report)
 SealMeans keyset aad draws left_draws old new (Err e) = SealRefused keyset aad draws left_draws old new e e.kind

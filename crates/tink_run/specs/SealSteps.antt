@@ -11,7 +11,7 @@ use Rattle.stream_model.specs.Sealing.{drawn, salt_of, prefix_of}
 use Rattle.tink_streams.specs.Writing.{WriterMoment, Wrote, WroteFront, WroteAll}
 use Rattle.tink_run.specs.declared.report.Report.{Report}
 use Rattle.tink_run.specs.Outside.{Outside, IsUntouched}
-use Rattle.tink_run.specs.SealAnswers.{StreamMeans, WantsMemory}
+use Rattle.tink_run.specs.SealAnswers.{SealingMeans, WantsMemory}
 
 -- all that the source had left was read and written by a writer
 pub record IsPoured (seg : ℕ → Bool → List ℕ → List ℕ) (a b : ℕ) (before after : Option (List ℕ)) (old new : WriterMoment) (bytes : ℕ) : Type 0 where
@@ -46,7 +46,7 @@ pub record IsUnderWay (k : StreamKey) (aad draws left_draws : List ℕ) (old new
   pub enough : drawn k ≤ length draws
   pub rest : left_draws ≡ drop (drawn k) draws
   pub derives : keys_of k aad (salt_of k draws) ≡ None → ⊥
-  pub means : StreamMeans k aad (salt_of k draws) (prefix_of k draws) old new answer
+  pub means : SealingMeans k aad (salt_of k draws) (prefix_of k draws) old new answer
 
 -- too few draws are left
 pub record HasFew (k : StreamKey) (draws left_draws : List ℕ) (old new : Outside) : Type 0 where
@@ -61,16 +61,16 @@ pub record HasNoKeys (k : StreamKey) (aad draws left_draws : List ℕ) (old new 
   pub none : keys_of k aad (salt_of k draws) ≡ None
   pub untouched : IsUntouched old new
 
-abbrev pub UnderRefused : StreamKey → List ℕ → List ℕ → List ℕ → Outside → Outside → TinkError → Kind → Type 0
-UnderRefused k aad draws left_draws old new e OutOfMemory = WantsMemory draws left_draws old new
-UnderRefused k aad draws left_draws old new e RandomFault = HasFew k draws left_draws old new
-UnderRefused k aad draws left_draws old new e UnsupportedHash = HasNoKeys k aad draws left_draws old new
-UnderRefused k aad draws left_draws old new e ReadFault = IsUnderWay k aad draws left_draws old new (Err e)
-UnderRefused k aad draws left_draws old new e WriteFault = IsUnderWay k aad draws left_draws old new (Err e)
-UnderRefused k aad draws left_draws old new e TooManySegments = IsUnderWay k aad draws left_draws old new (Err e)
-UnderRefused k aad draws left_draws old new e _ = ⊥
+abbrev pub SealsUnderRefused : StreamKey → List ℕ → List ℕ → List ℕ → Outside → Outside → TinkError → Kind → Type 0
+SealsUnderRefused k aad draws left_draws old new e OutOfMemory = WantsMemory draws left_draws old new
+SealsUnderRefused k aad draws left_draws old new e RandomFault = HasFew k draws left_draws old new
+SealsUnderRefused k aad draws left_draws old new e UnsupportedHash = HasNoKeys k aad draws left_draws old new
+SealsUnderRefused k aad draws left_draws old new e ReadFault = IsUnderWay k aad draws left_draws old new (Err e)
+SealsUnderRefused k aad draws left_draws old new e WriteFault = IsUnderWay k aad draws left_draws old new (Err e)
+SealsUnderRefused k aad draws left_draws old new e TooManySegments = IsUnderWay k aad draws left_draws old new (Err e)
+SealsUnderRefused k aad draws left_draws old new e _ = ⊥
 
 -- what a seal under a key answers
-abbrev pub UnderMeans : StreamKey → List ℕ → List ℕ → List ℕ → Outside → Outside → Result Report TinkError → Type 0
-UnderMeans k aad draws left_draws old new (Ok report) = IsUnderWay k aad draws left_draws old new (Ok report)
-UnderMeans k aad draws left_draws old new (Err e) = UnderRefused k aad draws left_draws old new e e.kind
+abbrev pub SealsUnder : StreamKey → List ℕ → List ℕ → List ℕ → Outside → Outside → Result Report TinkError → Type 0
+SealsUnder k aad draws left_draws old new (Ok report) = IsUnderWay k aad draws left_draws old new (Ok report)
+SealsUnder k aad draws left_draws old new (Err e) = SealsUnderRefused k aad draws left_draws old new e e.kind

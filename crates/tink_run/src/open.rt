@@ -1,17 +1,15 @@
-ghost use Rattle.std.specs.Prelude.{◌≡◌, ◌≤◌, ◌<◌, ◌^◌, take, map, All, IfOk, IfErr, vec_len, vec_capacity};
-ghost use Rattle.std.specs.Io.KnownBytes.{prepend_known};
-ghost use Rattle.stream_model.specs.Cut.{numbered};
+ghost use Rattle.std.specs.Prelude.{◌≡◌, ◌≤◌, ◌<◌, ◌^◌, map, All, IfOk, IfErr, vec_len, vec_capacity};
 ghost use Rattle.stream_model.specs.Key.{nonce_size};
 ghost use Rattle.stream_model.specs.Opening as opening;
 ghost use Rattle.tink_io.specs.declared.error.Kind.TheVariants.{OutOfMemory};
 ghost use Rattle.tink_streams.specs.declared.progress.Progress.TheVariants.{Running};
-ghost use Rattle.tink_streams.specs.Reading.{ReaderMoment};
+ghost use Rattle.tink_streams.specs.Openers.{reader_moment, segment_map};
 ghost use Rattle.tink_stream_keys.specs.StreamKinds.{key_of};
 ghost use Rattle.tink_run.specs.Outside.{outside_of};
 ghost use Rattle.tink_streaming_aead.specs.Wrapped.{keys_in};
-ghost use Rattle.tink_run.specs.OpenAnswers.{StreamMeans};
+ghost use Rattle.tink_run.specs.OpenAnswers.{OpeningMeans};
 ghost use Rattle.tink_run.specs.Run.{LeavesEnds};
-ghost use Rattle.tink_run.specs.OpenSteps.{FirstMeans, ReaderMeans, OpensUnder};
+ghost use Rattle.tink_run.specs.OpenSteps.{FirstMeans, OpensUnder, ReaderMeans, held_outside};
 
 use crate::report::Report;
 use std::alloc::Global;
@@ -87,7 +85,7 @@ fn open_under<S: Source, K: Sink, T: DerivesStreams>(
     requires room { All (λ k. (T.key_of k).segment ≤ vec_capacity trial.opened) keys.now }
     requires nonce { All (λ k. nonce_size (T.key_of k) ≤ vec_len trial.nonce) keys.now }
     requires prefix { 7 ≤ vec_capacity trial.prefix }
-    ensures answer { StreamMeans (map (λ k. opening.opening_key aad.now (T.key_of k)) keys.now)
+    ensures answer { OpeningMeans (map (λ k. opening.opening_key aad.now (T.key_of k)) keys.now)
         (outside_of S.left S.faults K.got K.faults source.old sink.old)
         (outside_of S.left S.faults K.got K.faults source.new sink.new)
         result }
@@ -110,15 +108,9 @@ fn open_stream<S: Source, K: Sink, D: SegmentDecrypter + Drop>(
 ) -> Result<Report, TinkError>
     requires running { reader.old.progress ≡ Running }
     requires fresh { reader.old.segments ≡ 0 }
-    ensures answer { ReaderMeans
-        (numbered (D.seg reader.old.opener.decrypter) reader.old.opener.nonce_size reader.old.opener.prefix.items)
-        reader.old.opener.first reader.old.opener.size reader.old.opener.overhead
-        (record {
-          left = prepend_known (take reader.old.filled reader.old.buffer.items) (S.left source.old);
-          read_faults = S.faults source.old;
-          got = K.got sink.old;
-          write_faults = K.faults sink.old;
-        })
+    ensures answer { ReaderMeans (segment_map reader.old.opener) reader.old.opener.first reader.old.opener.size
+        reader.old.opener.overhead
+        (held_outside S.left S.faults K.got K.faults reader.old source.old sink.old)
         (outside_of S.left S.faults K.got K.faults source.new sink.new)
         result }
     ensures source { S.same source.old source.new }
@@ -153,23 +145,8 @@ fn open_first<S: Source, D: SegmentDecrypter + Drop>(
 ) -> Result<(), TinkError>
     requires running { reader.old.progress ≡ Running }
     requires fresh { reader.old.segments ≡ 0 }
-    ensures answer { FirstMeans
-        (numbered (D.seg reader.old.opener.decrypter) reader.old.opener.nonce_size reader.old.opener.prefix.items)
-        reader.old.opener.first reader.old.opener.size
-        (record {
-          progress = reader.old.progress;
-          number = reader.old.segments;
-          opened = reader.old.opened.items;
-          rest = prepend_known (take reader.old.filled reader.old.buffer.items) (S.left source.old);
-          faults = S.faults source.old;
-        })
-        (record {
-          progress = reader.new.progress;
-          number = reader.new.segments;
-          opened = reader.new.opened.items;
-          rest = prepend_known (take reader.new.filled reader.new.buffer.items) (S.left source.new);
-          faults = S.faults source.new;
-        })
+    ensures answer { FirstMeans (segment_map reader.old.opener) reader.old.opener.first reader.old.opener.size
+        (reader_moment S.left S.faults reader.old source.old) (reader_moment S.left S.faults reader.new source.new)
         result }
     ensures opener { reader.new.opener ≡ reader.old.opener }
     ensures small { vec_len reader.new.opened < 2 ^ 32 }

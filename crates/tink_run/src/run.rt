@@ -1,6 +1,6 @@
 ghost use Rattle.std.specs.Prelude.{◌≡◌, ℕ, List, IfOk};
 ghost use Rattle.tink_run.specs.Outside.{outside_of};
-ghost use Rattle.tink_run.specs.Run.{AnswerMeans, IsComplete, LeavesEnds, OnlyAgreeing, Succeeds, Told};
+ghost use Rattle.tink_run.specs.Run.{AnswerMeans, IsComplete, LeavesEnds, OnlyAgreeing, OkMeans, Told};
 
 use crate::keys::{primary_key, raw_entries};
 use crate::load::load;
@@ -30,7 +30,7 @@ pub fn run<S: Source, K: Sink>(
     // and has written its text.
     ensures ok { IfOk result (λ report. (T G : List ℕ)
         → Told (outside_of S.left S.faults K.got K.faults source.old sink.old) T G
-        → Succeeds command keyset.now aad.now draws.old draws.new T G
+        → OkMeans command keyset.now aad.now draws.old draws.new T G
         (outside_of S.left S.faults K.got K.faults source.new sink.new) report) }
 
     // Told bytes: an open has only written a prefix of the texts that agree under the chosen key.

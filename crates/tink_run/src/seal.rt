@@ -1,11 +1,10 @@
 ghost use Rattle.std.specs.Prelude.{◌≡◌, ◌≤◌, ◌<◌, [], length};
-ghost use Rattle.stream_model.specs.Cut.{numbered};
 ghost use Rattle.tink_streams.specs.declared.writing.Mode.TheVariants.{Open};
 ghost use Rattle.tink_stream_keys.specs.StreamKinds.{key_of};
-ghost use Rattle.tink_streams.specs.Writing.{WriterMoment};
+ghost use Rattle.tink_streams.specs.Sealers.{segment_map, writer_moment};
 ghost use Rattle.tink_run.specs.Outside.{outside_of};
 ghost use Rattle.tink_run.specs.Run.{LeavesEnds};
-ghost use Rattle.tink_run.specs.SealSteps.{PourMeans, UnderMeans, kind_not_begun};
+ghost use Rattle.tink_run.specs.SealSteps.{PourMeans, SealsUnder, kind_not_begun};
 
 use crate::report::Report;
 use std::alloc::Global;
@@ -29,7 +28,7 @@ pub fn seal<S: Source, K: Sink>(
     source: &mut S,
     sink: &mut K,
 ) -> Result<Report, TinkError>
-    ensures answer { UnderMeans (key_of key.now) aad.now draws.old draws.new
+    ensures answer { SealsUnder (key_of key.now) aad.now draws.old draws.new
         (outside_of S.left S.faults K.got K.faults source.old sink.old)
         (outside_of S.left S.faults K.got K.faults source.new sink.new)
         result }
@@ -74,24 +73,9 @@ fn pour<S: Source, K: Sink, E: SegmentEncrypter + Drop>(
     requires fresh { writer.old.segments ≡ 0 }
     requires empty { writer.old.held.items ≡ [] }
     requires piece { 0 < length piece.old }
-    ensures answer { PourMeans
-        (numbered (E.seg writer.old.sealer.encrypter) writer.old.sealer.nonce_size writer.old.sealer.prefix.items)
-        writer.old.sealer.first writer.old.sealer.room
+    ensures answer { PourMeans (segment_map writer.old.sealer) writer.old.sealer.first writer.old.sealer.room
         (S.left source.old) (S.left source.new) (S.faults source.old) (S.faults source.new)
-        (record {
-          mode = writer.old.mode;
-          number = writer.old.segments;
-          held = writer.old.held.items;
-          got = K.got sink.old;
-          faults = K.faults sink.old;
-        })
-        (record {
-          mode = writer.new.mode;
-          number = writer.new.segments;
-          held = writer.new.held.items;
-          got = K.got sink.new;
-          faults = K.faults sink.new;
-        })
+        (writer_moment K.got K.faults writer.old sink.old) (writer_moment K.got K.faults writer.new sink.new)
         result }
     ensures sealer { writer.new.sealer ≡ writer.old.sealer }
     ensures read_count { S.faults source.old ≤ S.faults source.new }

@@ -4,6 +4,8 @@
 #[cfg(test)]
 mod all_types_tests;
 #[cfg(test)]
+mod caller_tests;
+#[cfg(test)]
 mod damaged_tests;
 #[cfg(test)]
 mod fault_tests;
