@@ -281,10 +281,12 @@ pub trait BlockModeDecrypt<const B: usize>: Sized + Drop {
         mut self,
         bytes: InOutBuf<'_, '_, u8>,
     ) -> Result<usize, UnpadError>
-        ensures written { bytes.exit.0.now ≡ left_by (deciphered step self B (read_all bytes.entry)) bytes.entry.output.now }
+        ensures written { bytes.exit.0.now
+            ≡ left_by (deciphered step self B (read_all bytes.entry)) bytes.entry.output.now }
         ensures told { MatchResult result
             (λ n. (n ≤ length bytes.exit.0.now)
-            × (message_in P.unpadded B (deciphered step self B (read_all bytes.entry)) ≡ Some (take n bytes.exit.0.now)))
+            × (message_in P.unpadded B (deciphered step self B (read_all bytes.entry))
+            ≡ Some (take n bytes.exit.0.now)))
             (λ _. message_in P.unpadded B (deciphered step self B (read_all bytes.entry)) ≡ None) }
     {
         let InOutBuf { output, input } = bytes;
@@ -331,7 +333,8 @@ pub trait BlockModeDecrypt<const B: usize>: Sized + Drop {
             ≡ left_by (deciphered step self B input.now) (take (length input.now) output.old)
             ++ drop (length input.now) output.old }
         ensures told { length input.now ≤ length output.old → MatchResult result
-            (λ n. (n ≤ length input.now) × (message_in P.unpadded B (deciphered step self B input.now) ≡ Some (take n output.new)))
+            (λ n. (n ≤ length input.now)
+            × (message_in P.unpadded B (deciphered step self B input.now) ≡ Some (take n output.new)))
             (λ _. message_in P.unpadded B (deciphered step self B input.now) ≡ None) }
     {
         if output.len() < input.len() {

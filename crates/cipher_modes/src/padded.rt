@@ -101,7 +101,8 @@ pub(crate) fn decrypt_message<P: Padding, M: BlockModeDecrypt<B>, const B: usize
     ensures written { output.new ≡ left_by (deciphered M.step mode.old B (pick input.now output.old)) output.old }
     ensures told { MatchResult result
         (λ n. (n ≤ length output.new)
-        × (message_in P.unpadded B (deciphered M.step mode.old B (pick input.now output.old)) ≡ Some (take n output.new)))
+        × (message_in P.unpadded B (deciphered M.step mode.old B (pick input.now output.old))
+        ≡ Some (take n output.new)))
         (λ _. message_in P.unpadded B (deciphered M.step mode.old B (pick input.now output.old)) ≡ None) }
 {
     if output.len() % B != 0 {
