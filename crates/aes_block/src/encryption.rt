@@ -16,41 +16,23 @@ pub(crate) fn sub_byte(x: u8) -> u8
 fn sub_and_shift(s: [u8; 16]) -> [u8; 16]
     ensures { result ≡ shift_rows (sub_bytes s) }
 {
-    let [
-        a0,
-        a1,
-        a2,
-        a3,
-        b0,
-        b1,
-        b2,
-        b3,
-        c0,
-        c1,
-        c2,
-        c3,
-        d0,
-        d1,
-        d2,
-        d3,
-    ] = s;
     [
-        sub_byte(a0),
-        sub_byte(b1),
-        sub_byte(c2),
-        sub_byte(d3),
-        sub_byte(b0),
-        sub_byte(c1),
-        sub_byte(d2),
-        sub_byte(a3),
-        sub_byte(c0),
-        sub_byte(d1),
-        sub_byte(a2),
-        sub_byte(b3),
-        sub_byte(d0),
-        sub_byte(a1),
-        sub_byte(b2),
-        sub_byte(c3),
+        sub_byte(s[0]),
+        sub_byte(s[5]),
+        sub_byte(s[10]),
+        sub_byte(s[15]),
+        sub_byte(s[4]),
+        sub_byte(s[9]),
+        sub_byte(s[14]),
+        sub_byte(s[3]),
+        sub_byte(s[8]),
+        sub_byte(s[13]),
+        sub_byte(s[2]),
+        sub_byte(s[7]),
+        sub_byte(s[12]),
+        sub_byte(s[1]),
+        sub_byte(s[6]),
+        sub_byte(s[11]),
     ]
 }
 
@@ -79,28 +61,10 @@ fn mix_column(a: u8, b: u8, c: u8, d: u8) -> [u8; 4]
 fn sub_shift_and_mix(s: [u8; 16]) -> [u8; 16]
     ensures { result ≡ mix_columns (shift_rows (sub_bytes s)) }
 {
-    let [
-        a0,
-        a1,
-        a2,
-        a3,
-        b0,
-        b1,
-        b2,
-        b3,
-        c0,
-        c1,
-        c2,
-        c3,
-        d0,
-        d1,
-        d2,
-        d3,
-    ] = s;
-    let [e0, e1, e2, e3] = mix_column(a0, b1, c2, d3);
-    let [f0, f1, f2, f3] = mix_column(b0, c1, d2, a3);
-    let [g0, g1, g2, g3] = mix_column(c0, d1, a2, b3);
-    let [h0, h1, h2, h3] = mix_column(d0, a1, b2, c3);
+    let [e0, e1, e2, e3] = mix_column(s[0], s[5], s[10], s[15]);
+    let [f0, f1, f2, f3] = mix_column(s[4], s[9], s[14], s[3]);
+    let [g0, g1, g2, g3] = mix_column(s[8], s[13], s[2], s[7]);
+    let [h0, h1, h2, h3] = mix_column(s[12], s[1], s[6], s[11]);
     [
         e0, e1, e2, e3, f0, f1, f2, f3, g0, g1, g2, g3, h0, h1, h2, h3,
     ]
@@ -124,59 +88,23 @@ pub(crate) fn joined(v: [u8; 4], w: [u8; 4], x: [u8; 4], y: [u8; 4]) -> [u8; 16]
 pub(crate) fn add_round_key(s: [u8; 16], k: [u8; 16]) -> [u8; 16]
     ensures { result ≡ add_round_key s k }
 {
-    let [
-        a0,
-        a1,
-        a2,
-        a3,
-        b0,
-        b1,
-        b2,
-        b3,
-        c0,
-        c1,
-        c2,
-        c3,
-        d0,
-        d1,
-        d2,
-        d3,
-    ] = s;
-    let [
-        e0,
-        e1,
-        e2,
-        e3,
-        f0,
-        f1,
-        f2,
-        f3,
-        g0,
-        g1,
-        g2,
-        g3,
-        h0,
-        h1,
-        h2,
-        h3,
-    ] = k;
     [
-        a0 ^ e0,
-        a1 ^ e1,
-        a2 ^ e2,
-        a3 ^ e3,
-        b0 ^ f0,
-        b1 ^ f1,
-        b2 ^ f2,
-        b3 ^ f3,
-        c0 ^ g0,
-        c1 ^ g1,
-        c2 ^ g2,
-        c3 ^ g3,
-        d0 ^ h0,
-        d1 ^ h1,
-        d2 ^ h2,
-        d3 ^ h3,
+        s[0] ^ k[0],
+        s[1] ^ k[1],
+        s[2] ^ k[2],
+        s[3] ^ k[3],
+        s[4] ^ k[4],
+        s[5] ^ k[5],
+        s[6] ^ k[6],
+        s[7] ^ k[7],
+        s[8] ^ k[8],
+        s[9] ^ k[9],
+        s[10] ^ k[10],
+        s[11] ^ k[11],
+        s[12] ^ k[12],
+        s[13] ^ k[13],
+        s[14] ^ k[14],
+        s[15] ^ k[15],
     ]
 }
 

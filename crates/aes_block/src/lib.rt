@@ -22,14 +22,16 @@ pub use aes256::Aes256;
 /// Under each key of 16, 24 or 32 bytes, decryption undoes encryption, and encryption undoes decryption, at every
 /// block of 16 bytes.
 pub fn law_round_trip()
-    ensures decryption_undoes { (n : ℕ) (key block : List ℕ) → IsKeySize n → length block ≡ 16 → AreBytes key → AreBytes block
+    ensures decryption_undoes { (n : ℕ) (key block : List ℕ) → IsKeySize n
+        → length block ≡ 16 → AreBytes key → AreBytes block
         → decrypted n key (encrypted n key block) ≡ block }
-    ensures encryption_undoes { (n : ℕ) (key block : List ℕ) → IsKeySize n → length block ≡ 16 → AreBytes key → AreBytes block
+    ensures encryption_undoes { (n : ℕ) (key block : List ℕ) → IsKeySize n
+        → length block ≡ 16 → AreBytes key → AreBytes block
         → encrypted n key (decrypted n key block) ≡ block }
 {}
 
-/// The inverse that SubBytes takes of a byte is the one of the field (FIPS 197, 4.2): its product with each byte but 0 is
-/// 1, and the inverse of 0 is 0.
+/// The inverse that SubBytes takes of a byte is the one of the field (FIPS 197, 4.2): its product with each byte but 0
+/// is 1, and the inverse of 0 is 0.
 pub fn law_inverse()
     ensures undoes { (a : ℕ) → 1 ≤ a → a < 256 → times a (inverse a) ≡ 1 }
     ensures of_zero { inverse 0 ≡ 0 }

@@ -19,9 +19,14 @@ pub fn check(rt: &impl Abort, holds: bool, label: &str) {
     assert!(rt; holds, "{label}");
 }
 
-/// The same in a loop, at a number.
-pub fn check_at(rt: &impl Abort, holds: bool, at: usize) {
-    assert!(rt; holds, "at {at}");
+/// A cipher or a mode, shown by its name.
+#[derive(Drop)]
+pub struct Named<C: Drop>(pub C);
+
+impl<C: AlgorithmName + Drop> fmt::Display for Named<C> {
+    fn fmt<W: fmt::Write>(&self, f: &mut fmt::Formatter<W>) -> fmt::Result {
+        C::write_alg_name(f)
+    }
 }
 
 /// Whether this is how a value is shown.
@@ -34,12 +39,7 @@ pub fn is_debug<T: Debug>(alloc: Global, x: &T, want: &str) -> Result<bool, Allo
     Ok(format!(in alloc; "{x:?}")?.as_str() == want)
 }
 
-/// A cipher or a mode, shown by its name.
-#[derive(Drop)]
-pub struct Named<C: Drop>(pub C);
-
-impl<C: AlgorithmName + Drop> fmt::Display for Named<C> {
-    fn fmt<W: fmt::Write>(&self, f: &mut fmt::Formatter<W>) -> fmt::Result {
-        C::write_alg_name(f)
-    }
+/// As `check`, in a loop, at a number.
+pub fn check_at(rt: &impl Abort, holds: bool, at: usize) {
+    assert!(rt; holds, "at {at}");
 }

@@ -1,4 +1,4 @@
-//! Tests of AES and of modes over it: of `aes_block`, `cbc` and `ctr`.
+//! Tests of AES and of what stands on it: of `aes_block`, `cbc`, `ctr`, `hash_keys` and `gcm`.
 #![tactic(auto)]
 
 #[cfg(test)]
@@ -6,6 +6,18 @@ mod aes_vectors;
 #[cfg(test)]
 mod cbc_vectors;
 #[cfg(test)]
+mod cmac_vectors;
+#[cfg(test)]
 mod counter_mode;
 #[cfg(test)]
 mod expected;
+#[cfg(test)]
+mod gcm_vectors;
+#[cfg(test)]
+mod hash_vectors;
+#[cfg(test)]
+mod refusals;
+#[cfg(test)]
+mod seals;
+#[cfg(test)]
+mod siv_vectors;

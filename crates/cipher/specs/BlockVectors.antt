@@ -5,9 +5,9 @@ use Rattle.cipher.specs.Transcript.{Block}
 use Rattle.cipher.specs.declared.dev.block_cipher.TestVector.{TestVector}
 
 -- the answer is this text, or Ok where there is none
-abbrev pub Tells : Result (Unit {0}) (Bor (List ℕ)) → Option (List ℕ) → Type 0
-Tells (Ok _) fault = fault ≡ None
-Tells (Err text) fault = fault ≡ Some text.now
+abbrev pub Reports : Result (Unit {0}) (Bor (List ℕ)) → Option (List ℕ) → Type 0
+Reports (Ok _) fault = fault ≡ None
+Reports (Err text) fault = fault ≡ Some text.now
 
 abbrev pub first : Option (List ℕ) → Option (List ℕ) → Option (List ℕ)
 first None later = later

@@ -10,6 +10,7 @@ mod tweaks;
 pub use blocks::backends::{
     BlockCipherDecBackend, BlockCipherDecClosure, BlockCipherEncBackend, BlockCipherEncClosure,
 };
+pub use blocks::contexts::{BlockCtx, BlocksCtx};
 pub use blocks::{BlockCipherDecrypt, BlockCipherEncrypt};
 pub use buffers::{InOut, InOutBuf, InOutBufReserved, NotEqualError, OutIsTooSmallError, part_of};
 pub use init::{

@@ -3,9 +3,9 @@ use Rattle.std.proofs.Common.{◌≡◌, ℕ, List, [], ◌∷◌, get_or, ap, s
 use Rattle.cipher.specs.Buffers.{pick}
 use Rattle.cipher.specs.Transcript.{Transcript, Block, inputs, outputs}
 use Rattle.cipher_modes.specs.Steps.{run_of, state_after, Steps, LedOn}
-use Rattle.cipher_modes.specs.Contexts.{OneBlock, EachBlock}
-use Rattle.cipher_modes.specs.declared.contexts.BlockCtx.{BlockCtx}
-use Rattle.cipher_modes.specs.declared.contexts.BlocksCtx.{BlocksCtx}
+use Rattle.cipher.specs.Contexts.{OneBlock, EachBlock}
+use Rattle.cipher.specs.declared.blocks.contexts.BlockCtx.{BlockCtx}
+use Rattle.cipher.specs.declared.blocks.contexts.BlocksCtx.{BlocksCtx}
 
 -- the transcript that a mode gives on these blocks
 abbrev pub steps_of : {S : Type 0} → (S → Block → Block × S) → S → List Block → Transcript

@@ -81,17 +81,14 @@ pub place-within : {S : Type 0} (step : S → Block → Block × S) (s : S) (i o
 place-within step s i old cur a h e =
     let size : length cur ≡ length old = length_so_far (run-in_order step s) i old cur a (omega arith) e in omega arith
 
-pub place-output : {S : Type 0} (step : S → Block → Block × S) (s t : S) (i j : Bor (List Block)) (old cur p : List Block) (y d : Block) (a : ℕ) → a < length old → j ≡ i
+pub place-next : {S : Type 0} (step : S → Block → Block × S) (s t t' : S) (i j : Bor (List Block)) (old cur p : List Block) (y d : Block) (a : ℕ) → a < length old → j ≡ i
     → cur ≡ run_of step s (take a (pick i.now old)) ++ drop a old → t ≡ state_after step s (take a (pick i.now old)) → p ≡ part_of j.now (length old) a (a + 1)
-    → y ≡ (step t (get_or p 0 (get_or cur a d))).0 → set cur a y ≡ run_of step s (take (a + 1) (pick i.now old)) ++ drop (a + 1) old
-place-output step s t i j old cur p y d a h same e te pe w =
-    outputs-one step s t i.now old cur p y (get_or cur a d) a h e te (read_again cur a d (place-within step s i.now old cur a h e)) (pe ∙ ap (λ b. part_of b.now (length old) a (a + 1)) same) w
-
-pub place-state : {S : Type 0} (step : S → Block → Block × S) (s t t' : S) (i j : Bor (List Block)) (old cur p : List Block) (d : Block) (a : ℕ) → a < length old → j ≡ i
-    → cur ≡ run_of step s (take a (pick i.now old)) ++ drop a old → t ≡ state_after step s (take a (pick i.now old)) → p ≡ part_of j.now (length old) a (a + 1)
-    → t' ≡ (step t (get_or p 0 (get_or cur a d))).1 → t' ≡ state_after step s (take (a + 1) (pick i.now old))
-place-state step s t t' i j old cur p d a h same e te pe w =
-    state-one step s t t' i.now old cur p (get_or cur a d) a h e te (read_again cur a d (place-within step s i.now old cur a h e)) (pe ∙ ap (λ b. part_of b.now (length old) a (a + 1)) same) w
+    → y ≡ (step t (get_or p 0 (get_or cur a d))).0 → t' ≡ (step t (get_or p 0 (get_or cur a d))).1
+    → (set cur a y ≡ run_of step s (take (a + 1) (pick i.now old)) ++ drop (a + 1) old) × (t' ≡ state_after step s (take (a + 1) (pick i.now old)))
+place-next step s t t' i j old cur p y d a h same e te pe made stepped =
+    let again : get_or cur a d ≡ get_or cur a (get_or cur a d) = read_again cur a d (place-within step s i.now old cur a h e) in
+    let read : p ≡ part_of i.now (length old) a (a + 1) = pe ∙ ap (λ b. part_of b.now (length old) a (a + 1)) same in
+    (outputs-one step s t i.now old cur p y (get_or cur a d) a h e te again read made, state-one step s t t' i.now old cur p (get_or cur a d) a h e te again read stepped)
 
 pub width-next : {S : Type 0} (step : S → Block → Block × S) (lanes : S → ℕ) → ((s : S) (x : Block) → lanes (step s x).1 ≡ lanes s) → (t t' : S) (xs : List Block) (width : ℕ)
     → t' ≡ state_after step t xs → lanes t ≡ width → lanes t' ≡ width

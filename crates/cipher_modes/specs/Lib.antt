@@ -1,5 +1,4 @@
 pub mod Steps
-pub mod Contexts
 pub mod Paddings
 pub mod PaddingLaws
 pub mod Padded

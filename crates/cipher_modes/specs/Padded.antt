@@ -1,5 +1,5 @@
 -- What a mode makes of bytes.
-use Rattle.std.specs.Prelude.{◌≡◌, ℕ, ◌/◌, ◌%◌, ◌==◌, ◌++◌, List, Option, None, Some, length, drop, if◌then◌else◌}
+use Rattle.std.specs.Prelude.{◌≡◌, ℕ, ◌/◌, ◌%◌, ◌==◌, ◌++◌, List, Option, None, Some, length, drop, option_map, if◌then◌else◌}
 use Rattle.std.specs.List.{concat}
 use Rattle.std.specs.Simd.{first_chunks}
 use Rattle.cipher.specs.Transcript.{Block}
@@ -12,6 +12,10 @@ blocks_of B bytes = first_chunks B (length bytes / B) bytes
 -- the outputs of a mode on the whole blocks, joined
 abbrev pub bytes_run : {S : Type 0} → (S → Block → Block × S) → S → ℕ → List ℕ → List ℕ
 bytes_run step s B bytes = concat (run_of step s (blocks_of B bytes))
+
+-- what a mode makes of a padded message, or nothing where it cannot be padded
+abbrev pub enciphered : {S : Type 0} → (S → Block → Block × S) → S → ℕ → Option (List ℕ) → Option (List ℕ)
+enciphered step s B message = option_map (bytes_run step s B) message
 
 -- the output begins with what a mode makes of a padded message, n bytes, and ends as before
 abbrev pub IsEncrypted : {S : Type 0} → (S → Block → Block × S) → S → ℕ → Option (List ℕ) → ℕ → List ℕ → List ℕ → Type 0

@@ -12,6 +12,10 @@ abbrev pub state_after : {S : Type 0} → (S → Block → Block × S) → S →
 state_after step s [] = s
 state_after step s (x ∷ xs) = state_after step (step s x).1 xs
 
+-- these are the outputs of a mode on blocks, and the state after them
+abbrev pub IsRun : {S : Type 0} → (S → Block → Block × S) → S → List Block → List Block → S → Type 0
+IsRun step s xs ys s' = (ys ≡ run_of step s xs) × (s' ≡ state_after step s xs)
+
 -- the pairs of this transcript are the steps of a mode from one state to another
 abbrev pub Steps : {S : Type 0} → (S → Block → Block × S) → S → Transcript → S → Type 0
 Steps step s [] s' = s' ≡ s

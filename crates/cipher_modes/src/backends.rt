@@ -7,6 +7,18 @@ ghost use Rattle.cipher_modes.specs.Steps.{run_of, state_after, LedOn};
 
 use cipher::{InOut, InOutBuf, part_of};
 
+// The blocks of a buffer, each by a call on one block.
+macro_rules! one_by_one {
+    ($backend:ident, $blocks:ident, $call:ident) => {{
+        let n = $blocks.output.len();
+        for i in 0..n {
+            let input = part_of($blocks.input, n, i, i + 1);
+            let output = &mut $blocks.output[i];
+            $backend.$call(&mut InOut { output, input });
+        }
+    }};
+}
+
 /// What encrypts blocks of B bytes in order, `width` of them at a time, B being from 1 to 255.
 pub trait BlockModeEncBackend<const B: usize> {
     // what it makes of a state and a block: the output and the next state
@@ -33,12 +45,7 @@ pub trait BlockModeEncBackend<const B: usize> {
         ensures value { blocks.new.output.now ≡ run_of step self.old (read_all blocks.old) }
         ensures stepped { self.new ≡ state_after step self.old (read_all blocks.old) }
     {
-        let n = blocks.output.len();
-        for i in 0..n {
-            let input = part_of(blocks.input, n, i, i + 1);
-            let output = &mut blocks.output[i];
-            self.encrypt_block(&mut InOut { output, input });
-        }
+        one_by_one!(self, blocks, encrypt_block)
     }
 
     /// Encrypts fewer than `width` blocks.
@@ -48,12 +55,7 @@ pub trait BlockModeEncBackend<const B: usize> {
         ensures value { blocks.new.output.now ≡ run_of step self.old (read_all blocks.old) }
         ensures stepped { self.new ≡ state_after step self.old (read_all blocks.old) }
     {
-        let n = blocks.output.len();
-        for i in 0..n {
-            let input = part_of(blocks.input, n, i, i + 1);
-            let output = &mut blocks.output[i];
-            self.encrypt_block(&mut InOut { output, input });
-        }
+        one_by_one!(self, blocks, encrypt_block)
     }
 
     ghost block_size: { (1 ≤ B) × (B < 256) };
@@ -137,12 +139,7 @@ pub trait BlockModeDecBackend<const B: usize> {
         ensures value { blocks.new.output.now ≡ run_of step self.old (read_all blocks.old) }
         ensures stepped { self.new ≡ state_after step self.old (read_all blocks.old) }
     {
-        let n = blocks.output.len();
-        for i in 0..n {
-            let input = part_of(blocks.input, n, i, i + 1);
-            let output = &mut blocks.output[i];
-            self.decrypt_block(&mut InOut { output, input });
-        }
+        one_by_one!(self, blocks, decrypt_block)
     }
 
     /// Decrypts fewer than `width` blocks.
@@ -152,12 +149,7 @@ pub trait BlockModeDecBackend<const B: usize> {
         ensures value { blocks.new.output.now ≡ run_of step self.old (read_all blocks.old) }
         ensures stepped { self.new ≡ state_after step self.old (read_all blocks.old) }
     {
-        let n = blocks.output.len();
-        for i in 0..n {
-            let input = part_of(blocks.input, n, i, i + 1);
-            let output = &mut blocks.output[i];
-            self.decrypt_block(&mut InOut { output, input });
-        }
+        one_by_one!(self, blocks, decrypt_block)
     }
 
     ghost block_size: { (1 ≤ B) × (B < 256) };

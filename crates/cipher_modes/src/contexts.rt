@@ -3,23 +3,29 @@
 ghost use Rattle.std.specs.Prelude.{◌≡◌, ℕ, List, [], ◌∷◌, ◌+◌, ◌≤◌, ◌<◌, length, slice_index_or};
 ghost use Rattle.cipher.specs.Buffers.{read_of, read_all, pick};
 ghost use Rattle.cipher_modes.specs.Steps.{run_of, state_after, LedOn};
-ghost use Rattle.cipher_modes.specs.Contexts.{OneBlock, EachBlock};
+ghost use Rattle.cipher.specs.Contexts.{OneBlock, EachBlock};
 
 use crate::backends::{
     BlockModeDecBackend, BlockModeDecClosure, BlockModeEncBackend, BlockModeEncClosure,
 };
-use cipher::{InOut, InOutBuf, part_of};
+use cipher::{BlockCtx, BlocksCtx, InOut, InOutBuf, part_of};
 
-#[derive(Drop)]
-pub(crate) struct BlockCtx<'i, 'o, const B: usize> {
-    pub(crate) output: &'o mut [u8; B],
-    pub(crate) input: &'i [[u8; B]],
-}
-
-#[derive(Drop)]
-pub(crate) struct BlocksCtx<'i, 'o, const B: usize> {
-    pub(crate) output: &'o mut [[u8; B]],
-    pub(crate) input: &'i [[u8; B]],
+// `width` blocks at a time, and then the rest
+macro_rules! in_parts {
+    ($output:ident, $input:ident, $backend:ident, $par:ident, $tail:ident) => {{
+        let width = $backend.width();
+        let n = $output.len();
+        let mut at = 0;
+        while n - at >= width {
+            $par(
+                &mut $output[at..at + width],
+                part_of($input, n, at, at + width),
+                $backend,
+            );
+            at += width;
+        }
+        $tail(&mut $output[at..], part_of($input, n, at, n), $backend);
+    }};
 }
 
 impl<const B: usize> BlockModeEncClosure<B> for BlockCtx<'_, '_, B> {
@@ -42,7 +48,6 @@ impl<const B: usize> BlockModeEncClosure<B> for BlocksCtx<'_, '_, B> {
     }
 }
 
-// `width` blocks at a time, and then the rest
 fn encrypt_in_parts<const B: usize, K: BlockModeEncBackend<B>>(
     output: &mut [[u8; B]],
     input: &[[u8; B]],
@@ -51,18 +56,7 @@ fn encrypt_in_parts<const B: usize, K: BlockModeEncBackend<B>>(
     ensures value { output.new ≡ run_of K.step backend.old (pick input.now output.old) }
     ensures stepped { backend.new ≡ state_after K.step backend.old (pick input.now output.old) }
 {
-    let width = backend.width();
-    let n = output.len();
-    let mut at = 0;
-    while n - at >= width {
-        encrypt_par(
-            &mut output[at..at + width],
-            part_of(input, n, at, at + width),
-            backend,
-        );
-        at += width;
-    }
-    encrypt_tail(&mut output[at..], part_of(input, n, at, n), backend);
+    in_parts!(output, input, backend, encrypt_par, encrypt_tail)
 }
 
 fn encrypt_par<const B: usize, K: BlockModeEncBackend<B>>(
@@ -120,7 +114,6 @@ impl<const B: usize> BlockModeDecClosure<B> for BlocksCtx<'_, '_, B> {
     }
 }
 
-// `width` blocks at a time, and then the rest
 fn decrypt_in_parts<const B: usize, K: BlockModeDecBackend<B>>(
     output: &mut [[u8; B]],
     input: &[[u8; B]],
@@ -129,18 +122,7 @@ fn decrypt_in_parts<const B: usize, K: BlockModeDecBackend<B>>(
     ensures value { output.new ≡ run_of K.step backend.old (pick input.now output.old) }
     ensures stepped { backend.new ≡ state_after K.step backend.old (pick input.now output.old) }
 {
-    let width = backend.width();
-    let n = output.len();
-    let mut at = 0;
-    while n - at >= width {
-        decrypt_par(
-            &mut output[at..at + width],
-            part_of(input, n, at, at + width),
-            backend,
-        );
-        at += width;
-    }
-    decrypt_tail(&mut output[at..], part_of(input, n, at, n), backend);
+    in_parts!(output, input, backend, decrypt_par, decrypt_tail)
 }
 
 fn decrypt_par<const B: usize, K: BlockModeDecBackend<B>>(

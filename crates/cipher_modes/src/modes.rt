@@ -3,19 +3,33 @@
 ghost use Rattle.std.specs.Prelude.{◌≡◌, ◌↔◌, ℕ, ◌<◌, ◌≤◌, ◌++◌, List, Some, None, IsOk, IsErr, IfOk, OnOk, OnErr, MatchResult, option_map, length, take, drop};
 ghost use Rattle.cipher.specs.Buffers.{read_of, read_all, pick, message_of};
 ghost use Rattle.cipher.specs.Transcript.{Block};
-ghost use Rattle.cipher_modes.specs.Steps.{run_of, state_after, LedOn};
+ghost use Rattle.cipher_modes.specs.Steps.{run_of, state_after, IsRun, LedOn};
 ghost use Rattle.cipher_modes.specs.Paddings.{Fits, padded};
-ghost use Rattle.cipher_modes.specs.Padded.{bytes_run, IsEncrypted, deciphered, left_by, message_in};
+ghost use Rattle.cipher_modes.specs.Padded.{bytes_run, enciphered, IsEncrypted, deciphered, left_by, message_in};
 ghost use Rattle.cipher_modes.specs.PaddedVec.{TellsPad, TellsUnpad};
 
 use crate::backends::{BlockModeDecClosure, BlockModeEncClosure};
-use crate::contexts::{BlockCtx, BlocksCtx};
 use crate::padded::{
     PaddedVecError, decrypt_front, decrypt_message, decrypt_vec, encrypt_message, encrypt_vec,
 };
 use crate::padding::{PadError, Padding, UnpadError};
-use cipher::{InOut, InOutBuf, InOutBufReserved, NotEqualError};
+use cipher::{BlockCtx, BlocksCtx, InOut, InOutBuf, InOutBufReserved, NotEqualError};
 use std::alloc::Global;
+
+// The blocks of one slice into another, where there are as many.
+macro_rules! on_equal {
+    ($mode:ident, $in_blocks:ident, $out_blocks:ident, $call:ident) => {{
+        if $in_blocks.len() != $out_blocks.len() {
+            return Err(NotEqualError);
+        }
+        let mut ctx = BlocksCtx {
+            output: $out_blocks,
+            input: $in_blocks,
+        };
+        $mode.$call(&mut ctx);
+        Ok(())
+    }};
+}
 
 /// A block mode that encrypts blocks of B bytes in order, B being from 1 to 255.
 pub trait BlockModeEncrypt<const B: usize>: Sized + Drop {
@@ -93,19 +107,10 @@ pub trait BlockModeEncrypt<const B: usize>: Sized + Drop {
         out_blocks: &mut [[u8; B]],
     ) -> Result<(), NotEqualError>
         ensures ok { IsOk result ↔ (length in_blocks.now ≡ length out_blocks.old) }
-        ensures value { OnOk result (out_blocks.new ≡ run_of step self.old in_blocks.now) }
-        ensures stepped { OnOk result (self.new ≡ state_after step self.old in_blocks.now) }
+        ensures ran { OnOk result (IsRun step self.old in_blocks.now out_blocks.new self.new) }
         ensures err { OnErr result ((out_blocks.new ≡ out_blocks.old) × (self.new ≡ self.old)) }
     {
-        if in_blocks.len() != out_blocks.len() {
-            return Err(NotEqualError);
-        }
-        let mut ctx = BlocksCtx {
-            output: out_blocks,
-            input: in_blocks,
-        };
-        self.encrypt_with_backend(&mut ctx);
-        Ok(())
+        on_equal!(self, in_blocks, out_blocks, encrypt_with_backend)
     }
 
     /// Pads a message and encrypts it in the output, and answers the length of the encrypted bytes, with which the
@@ -130,7 +135,8 @@ pub trait BlockModeEncrypt<const B: usize>: Sized + Drop {
         bytes: InOutBufReserved<'_, 'out, u8>,
     ) -> Result<&'out [u8], PadError>
         ensures ok { IsOk result ↔ Fits (P.padding B bytes.entry.len) bytes.entry.len (length bytes.entry.output.now) }
-        ensures value { IfOk result (λ made. option_map (bytes_run step self B) (padded P.padding B (message_of bytes.entry)) ≡ Some made.now) }
+        ensures value { IfOk result (λ made.
+            enciphered step self B (padded P.padding B (message_of bytes.entry)) ≡ Some made.now) }
     {
         let InOutBufReserved { output, input, len } = bytes;
         match encrypt_message::<P, Self, B>(&mut self, &mut *output, input, len) {
@@ -146,7 +152,8 @@ pub trait BlockModeEncrypt<const B: usize>: Sized + Drop {
         len: usize,
     ) -> Result<&[u8], PadError>
         ensures ok { IsOk result ↔ Fits (P.padding B len) len (length buffer.old) }
-        ensures value { IfOk result (λ made. option_map (bytes_run step self B) (padded P.padding B (take len buffer.old)) ≡ Some made.now) }
+        ensures value { IfOk result (λ made.
+            enciphered step self B (padded P.padding B (take len buffer.old)) ≡ Some made.now) }
     {
         match encrypt_message::<P, Self, B>(&mut self, &mut *buffer, &[], len) {
             Ok(n) => Ok(&buffer[..n]),
@@ -161,7 +168,8 @@ pub trait BlockModeEncrypt<const B: usize>: Sized + Drop {
         output: &'out mut [u8],
     ) -> Result<&'out [u8], PadError>
         ensures ok { IsOk result ↔ Fits (P.padding B (length message.now)) (length message.now) (length output.old) }
-        ensures value { IfOk result (λ made. option_map (bytes_run step self B) (padded P.padding B message.now) ≡ Some made.now) }
+        ensures value { IfOk result (λ made.
+            enciphered step self B (padded P.padding B message.now) ≡ Some made.now) }
     {
         match encrypt_message::<P, Self, B>(&mut self, &mut *output, message, message.len()) {
             Ok(n) => Ok(&output[..n]),
@@ -176,8 +184,9 @@ pub trait BlockModeEncrypt<const B: usize>: Sized + Drop {
         alloc: Global,
         message: &[u8],
     ) -> Result<Vec<u8>, PaddedVecError>
-        ensures told { MatchResult result (λ made. option_map (bytes_run step self B) (padded P.padding B message.now) ≡ Some made.items)
-            (λ error. TellsPad error (option_map (bytes_run step self B) (padded P.padding B message.now))) }
+        ensures told { MatchResult result
+            (λ made. enciphered step self B (padded P.padding B message.now) ≡ Some made.items)
+            (λ error. TellsPad error (enciphered step self B (padded P.padding B message.now))) }
     {
         encrypt_vec::<P, Self, B>(&mut self, alloc, message)
     }
@@ -259,19 +268,10 @@ pub trait BlockModeDecrypt<const B: usize>: Sized + Drop {
         out_blocks: &mut [[u8; B]],
     ) -> Result<(), NotEqualError>
         ensures ok { IsOk result ↔ (length in_blocks.now ≡ length out_blocks.old) }
-        ensures value { OnOk result (out_blocks.new ≡ run_of step self.old in_blocks.now) }
-        ensures stepped { OnOk result (self.new ≡ state_after step self.old in_blocks.now) }
+        ensures ran { OnOk result (IsRun step self.old in_blocks.now out_blocks.new self.new) }
         ensures err { OnErr result ((out_blocks.new ≡ out_blocks.old) × (self.new ≡ self.old)) }
     {
-        if in_blocks.len() != out_blocks.len() {
-            return Err(NotEqualError);
-        }
-        let mut ctx = BlocksCtx {
-            output: out_blocks,
-            input: in_blocks,
-        };
-        self.decrypt_with_backend(&mut ctx);
-        Ok(())
+        on_equal!(self, in_blocks, out_blocks, decrypt_with_backend)
     }
 
     /// Decrypts a buffer in its output, and answers the length of the message, with which the output then begins.
@@ -281,9 +281,12 @@ pub trait BlockModeDecrypt<const B: usize>: Sized + Drop {
         mut self,
         bytes: InOutBuf<'_, '_, u8>,
     ) -> Result<usize, UnpadError>
-        ensures written { bytes.exit.0.now ≡ left_by (deciphered step self B (read_all bytes.entry)) bytes.entry.output.now }
+        ensures written { bytes.exit.0.now
+            ≡ left_by (deciphered step self B (read_all bytes.entry)) bytes.entry.output.now }
         ensures told { MatchResult result
-            (λ n. (n ≤ length bytes.exit.0.now) × (message_in P.unpadded B (deciphered step self B (read_all bytes.entry)) ≡ Some (take n bytes.exit.0.now)))
+            (λ n. (n ≤ length bytes.exit.0.now)
+            × (message_in P.unpadded B (deciphered step self B (read_all bytes.entry))
+            ≡ Some (take n bytes.exit.0.now)))
             (λ _. message_in P.unpadded B (deciphered step self B (read_all bytes.entry)) ≡ None) }
     {
         let InOutBuf { output, input } = bytes;
@@ -327,9 +330,11 @@ pub trait BlockModeDecrypt<const B: usize>: Sized + Drop {
     ) -> Result<usize, UnpadError>
         ensures short { length output.old < length input.now → IsErr result × (output.new ≡ output.old) }
         ensures written { length input.now ≤ length output.old → output.new
-            ≡ left_by (deciphered step self B input.now) (take (length input.now) output.old) ++ drop (length input.now) output.old }
+            ≡ left_by (deciphered step self B input.now) (take (length input.now) output.old)
+            ++ drop (length input.now) output.old }
         ensures told { length input.now ≤ length output.old → MatchResult result
-            (λ n. (n ≤ length input.now) × (message_in P.unpadded B (deciphered step self B input.now) ≡ Some (take n output.new)))
+            (λ n. (n ≤ length input.now)
+            × (message_in P.unpadded B (deciphered step self B input.now) ≡ Some (take n output.new)))
             (λ _. message_in P.unpadded B (deciphered step self B input.now) ≡ None) }
     {
         if output.len() < input.len() {
@@ -365,7 +370,8 @@ pub trait BlockModeDecrypt<const B: usize>: Sized + Drop {
         alloc: Global,
         ciphertext: &[u8],
     ) -> Result<Vec<u8>, PaddedVecError>
-        ensures told { MatchResult result (λ made. message_in P.unpadded B (deciphered step self B ciphertext.now) ≡ Some made.items)
+        ensures told { MatchResult result
+            (λ made. message_in P.unpadded B (deciphered step self B ciphertext.now) ≡ Some made.items)
             (λ error. TellsUnpad error (message_in P.unpadded B (deciphered step self B ciphertext.now))) }
     {
         decrypt_vec::<P, Self, B>(&mut self, alloc, ciphertext)

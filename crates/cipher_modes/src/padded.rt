@@ -5,7 +5,7 @@ ghost use Rattle.std.specs.Prelude.{vec_len, option_map, IfErr};
 ghost use Rattle.cipher.specs.Buffers.{pick};
 ghost use Rattle.cipher_modes.specs.Steps.{run_of, state_after};
 ghost use Rattle.cipher_modes.specs.Paddings.{Fits, IsPadded, padded};
-ghost use Rattle.cipher_modes.specs.Padded.{blocks_of, bytes_run, IsEncrypted, deciphered, left_by, message_in};
+ghost use Rattle.cipher_modes.specs.Padded.{blocks_of, bytes_run, enciphered, IsEncrypted, deciphered, left_by, message_in};
 ghost use Rattle.cipher_modes.specs.PaddedVec.{TellsPad, TellsUnpad};
 
 use crate::modes::{BlockModeDecrypt, BlockModeEncrypt};
@@ -100,7 +100,9 @@ pub(crate) fn decrypt_message<P: Padding, M: BlockModeDecrypt<B>, const B: usize
 ) -> Result<usize, UnpadError>
     ensures written { output.new ≡ left_by (deciphered M.step mode.old B (pick input.now output.old)) output.old }
     ensures told { MatchResult result
-        (λ n. (n ≤ length output.new) × (message_in P.unpadded B (deciphered M.step mode.old B (pick input.now output.old)) ≡ Some (take n output.new)))
+        (λ n. (n ≤ length output.new)
+        × (message_in P.unpadded B (deciphered M.step mode.old B (pick input.now output.old))
+        ≡ Some (take n output.new)))
         (λ _. message_in P.unpadded B (deciphered M.step mode.old B (pick input.now output.old)) ≡ None) }
 {
     if output.len() % B != 0 {
@@ -123,9 +125,12 @@ pub(crate) fn decrypt_front<P: Padding, M: BlockModeDecrypt<B>, const B: usize>(
     input: &[u8],
 ) -> Result<usize, UnpadError>
     requires { length input.now ≤ length output.old }
-    ensures written { output.new ≡ left_by (deciphered M.step mode.old B input.now) (take (length input.now) output.old) ++ drop (length input.now) output.old }
+    ensures written { output.new
+        ≡ left_by (deciphered M.step mode.old B input.now) (take (length input.now) output.old)
+        ++ drop (length input.now) output.old }
     ensures told { MatchResult result
-        (λ n. (n ≤ length input.now) × (message_in P.unpadded B (deciphered M.step mode.old B input.now) ≡ Some (take n output.new)))
+        (λ n. (n ≤ length input.now)
+        × (message_in P.unpadded B (deciphered M.step mode.old B input.now) ≡ Some (take n output.new)))
         (λ _. message_in P.unpadded B (deciphered M.step mode.old B input.now) ≡ None) }
 {
     decrypt_message::<P, M, B>(mode, &mut output[..input.len()], input)
@@ -169,8 +174,9 @@ pub(crate) fn encrypt_vec<P: Padding, M: BlockModeEncrypt<B>, const B: usize>(
     alloc: Global,
     message: &[u8],
 ) -> Result<Vec<u8>, PaddedVecError>
-    ensures told { MatchResult result (λ made. option_map (bytes_run M.step mode.old B) (padded P.padding B message.now) ≡ Some made.items)
-        (λ error. TellsPad error (option_map (bytes_run M.step mode.old B) (padded P.padding B message.now))) }
+    ensures told { MatchResult result
+        (λ made. enciphered M.step mode.old B (padded P.padding B message.now) ≡ Some made.items)
+        (λ error. TellsPad error (enciphered M.step mode.old B (padded P.padding B message.now))) }
 {
     let n = match P::padded_len(message.len(), B) {
         Some(n) => n,
@@ -193,7 +199,8 @@ fn encrypt_into<P: Padding, M: BlockModeEncrypt<B>, const B: usize>(
 ) -> Result<usize, PadError>
     requires { vec_len output.old ≡ P.padded_length B (length message.now) }
     ensures none { OnErr result (padded P.padding B message.now ≡ None) }
-    ensures value { OnOk result (option_map (bytes_run M.step mode.old B) (padded P.padding B message.now) ≡ Some output.new.items) }
+    ensures value { OnOk result
+        (enciphered M.step mode.old B (padded P.padding B message.now) ≡ Some output.new.items) }
 {
     encrypt_message::<P, M, B>(mode, output, message, message.len())
 }
@@ -213,7 +220,8 @@ pub(crate) fn decrypt_vec<P: Padding, M: BlockModeDecrypt<B>, const B: usize>(
     alloc: Global,
     ciphertext: &[u8],
 ) -> Result<Vec<u8>, PaddedVecError>
-    ensures told { MatchResult result (λ made. message_in P.unpadded B (deciphered M.step mode.old B ciphertext.now) ≡ Some made.items)
+    ensures told { MatchResult result
+        (λ made. message_in P.unpadded B (deciphered M.step mode.old B ciphertext.now) ≡ Some made.items)
         (λ error. TellsUnpad error (message_in P.unpadded B (deciphered M.step mode.old B ciphertext.now))) }
 {
     let mut output = match zeros(alloc, ciphertext.len()) {
@@ -236,7 +244,8 @@ fn decrypt_into<P: Padding, M: BlockModeDecrypt<B>, const B: usize>(
 ) -> Result<usize, UnpadError>
     requires { vec_len output.old ≡ length ciphertext.now }
     ensures told { MatchResult result
-        (λ n. (n ≤ vec_len output.new) × (message_in P.unpadded B (deciphered M.step mode.old B ciphertext.now) ≡ Some (take n output.new.items)))
+        (λ n. (n ≤ vec_len output.new)
+        × (message_in P.unpadded B (deciphered M.step mode.old B ciphertext.now) ≡ Some (take n output.new.items)))
         (λ _. message_in P.unpadded B (deciphered M.step mode.old B ciphertext.now) ≡ None) }
 {
     decrypt_message::<P, M, B>(mode, output, ciphertext)

@@ -55,10 +55,13 @@ pub trait Padding {
     /// The padded length of a message of `len` bytes, or `None` exactly where that is no usize.
     fn padded_len(len: usize, block_size: usize) -> Option<usize>
         requires { (1 ≤ block_size) × (block_size < 256) }
-        ensures told { MatchOption result (2 ^ 64 ≤ padded_length block_size len) (λ n. n ≡ padded_length block_size len) };
+        ensures told { MatchOption result
+            (2 ^ 64 ≤ padded_length block_size len)
+            (λ n. n ≡ padded_length block_size len) };
 
     /// Pads the message that is the first `len` bytes of a buffer, and answers its padded length.
-    /// It is refused exactly where the buffer is too short or the message cannot be padded, and then nothing is written.
+    /// It is refused exactly where the buffer is too short or the message cannot be padded, and then nothing is
+    /// written.
     fn pad(buffer: &mut [u8], len: usize, block_size: usize) -> Result<usize, PadError>
         requires { (1 ≤ block_size) × (block_size < 256) }
         ensures ok { IsOk result ↔ Fits (padding block_size len) len (length buffer.old) }

@@ -2,7 +2,7 @@
 use Rattle.std.proofs.Common.{◌≡◌, ℕ, zero, suc, ◌+◌, ◌-◌, ◌*◌, ◌/◌, ◌%◌, ◌≤◌, ◌<◌, List, get_or, ap, subst, sym, ◌∙◌, arith, add-zero}
 use Rattle.std.proofs.Math.Nat.{mod-zero, add-mul-mod_self_right, add-mul-div_right, mod-add-div', mul-add-div_right, mul-add-mod_self_right, div-eq_of_lt, mod-eq_of_lt}
 use Rattle.cipher_stream.specs.Keystream.{Keystream, stream_of, bytes_of, IsMoved}
-use Rattle.cipher_stream.specs.ByteStream.{ByteStream, to_come, bytes_from, IsAt, HasMoved, IsBefore}
+use Rattle.cipher_stream.specs.ByteStream.{ByteStream, to_come, bytes_from, IsAt, HasMoved, HoldsLastBlock}
 use Rattle.cipher_stream.proofs.Streams.{mod_step}
 
 -- numbers that agree with c added agree
@@ -93,7 +93,7 @@ moved_at size k k' r r' m n some blocks period before after =
 pub at_fresh : (size : ℕ) (k : Keystream) → IsAt (bytes_from size k 0) (k.position * size)
 at_fresh size k = ap (λ n. n % (k.period * size)) (add-zero (k.position * size))
 
-pub at_rest : (size : ℕ) (k : Keystream) (buffer : List ℕ) (used r : ℕ) → (b : IsBefore size k buffer used) → used ≤ size → r ≡ size - used → IsAt (bytes_from size k r) (b.block * size + used)
+pub at_rest : (size : ℕ) (k : Keystream) (buffer : List ℕ) (used r : ℕ) → (b : HoldsLastBlock size k buffer used) → used ≤ size → r ≡ size - used → IsAt (bytes_from size k r) (b.block * size + used)
 at_rest size k buffer used r b h e =
     let s : b.block * size + used + r ≡ (b.block + 1) * size = omega arith in
     ap (λ n. n % (k.period * size)) s ∙ mod_blocks k.period (b.block + 1) k.position size b.next
@@ -121,7 +121,7 @@ fresh_bytes size k j some =
     ∙ (ap (λ n. get_or (k.block_at (n % k.period)) ((k.position * size + j) % size) 0) d ∙ ap (λ n. get_or (stream_of k (j / size)) n 0) r)
 
 -- the bytes of a rest
-pub rest_bytes : (size : ℕ) (k : Keystream) (buffer : List ℕ) (used r j : ℕ) → (b : IsBefore size k buffer used) → used ≤ size → r ≡ size - used → used + j < size → get_or buffer (used + j) 0 ≡ to_come (bytes_from size k r) j
+pub rest_bytes : (size : ℕ) (k : Keystream) (buffer : List ℕ) (used r j : ℕ) → (b : HoldsLastBlock size k buffer used) → used ≤ size → r ≡ size - used → used + j < size → get_or buffer (used + j) 0 ≡ to_come (bytes_from size k r) j
 rest_bytes size k buffer used r j b h e within =
     let some : 0 < size = omega arith in
     let m : b.block * size + used + j ≡ b.block * size + (used + j) = omega arith in

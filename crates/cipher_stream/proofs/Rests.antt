@@ -1,13 +1,14 @@
 -- What is applied of a buffered rest, of whole blocks, and of the block behind them.
-use Rattle.std.proofs.Common.{◌≡◌, ℕ, zero, suc, ◌+◌, ◌-◌, ◌*◌, ◌%◌, ◌≤◌, ◌<◌, List, ◌∷◌, ◌++◌, map, take, drop, replicate, get_or, length, ap, subst, sym, ◌∙◌, refl, arith, inl, inr, add-zero, bit_xor, Option, Some, None}
-use Rattle.std.proofs.Math.Nat.{mod-mod, le_of_mul-le-mul_right, add-mul}
+use Rattle.std.proofs.Common.{◌≡◌, ℕ, zero, suc, ◌+◌, ◌-◌, ◌*◌, ◌/◌, ◌%◌, ◌≤◌, ◌<◌, List, ◌∷◌, ◌++◌, map, take, drop, replicate, get_or, length, ap, subst, sym, ◌∙◌, refl, arith, inl, inr, add-zero, bit_xor, Option, Some, None}
+use Rattle.std.proofs.Math.Nat.{mod-mod, le_of_mul-le-mul_right, add-mul, div-mul-le_self}
 use Rattle.std.specs.Prelude.{◌↔◌, ⊤}
 use Rattle.std.proofs.lemmas.Bool.{cases_lt}
+use Rattle.std.proofs.lemmas.List.{length-take-le}
 use Rattle.std.specs.List.{range_with_len}
 use Rattle.std.specs.Int.Bits.{xor_zero_l}
 use borrow.Rule.Slice.PartMut.{put_mid}
 use Rattle.cipher_stream.specs.Keystream.{Keystream, applied, bytes_of, stream_of, IsMoved, Spends}
-use Rattle.cipher_stream.specs.ByteStream.{to_come, bytes_from, IsAt, HasMoved, IsBefore, IsRest, Leaves, LeavesRoom, HasRoom}
+use Rattle.cipher_stream.specs.ByteStream.{ByteStream, to_come, bytes_from, IsAt, HasMoved, HoldsLastBlock, IsRest, IsFewer, LeavesRoom, HasRoom}
 use Rattle.cipher_stream.proofs.Streams.{mod_step}
 use Rattle.cipher_stream.proofs.Applied.{applied-same, applied_next, applied_all, length_so_far}
 use Rattle.cipher_stream.proofs.Places.{moved_at, at_fresh, at_rest, at_taken, at_blocks, fresh_bytes, rest_bytes}
@@ -20,7 +21,7 @@ applied_rest size k buffer xs used r b h e size_xs =
     let some : used < size = omega arith in
     rest_bytes size k buffer used r j (b some) h e within)
 
-abbrev later : (size : ℕ) (k : Keystream) (buffer : List ℕ) (used n : ℕ) → IsBefore size k buffer used → IsBefore size k buffer (used + n)
+abbrev later : (size : ℕ) (k : Keystream) (buffer : List ℕ) (used n : ℕ) → HoldsLastBlock size k buffer used → HoldsLastBlock size k buffer (used + n)
 later size k buffer used n b = record { block = b.block; own = b.own; next = b.next; same = λ j le lt. b.same j (omega arith) lt }
 
 pub moved_none : (size : ℕ) (k : Keystream) → 0 < size → HasMoved (bytes_from size k 0) 0 (bytes_from size k 0)
@@ -55,6 +56,12 @@ moved_blocks size k k' n some m = moved_at size k k' 0 0 (k.position * size) (n 
 pub moved_last : (size : ℕ) (k k' : Keystream) (n : ℕ) → 0 < size → IsMoved k 1 k' → n ≤ size → HasMoved (bytes_from size k 0) n (bytes_from size k' (size - n))
 moved_last size k k' n some m h = moved_at size k k' 0 (size - n) (k.position * size) n some m.same_blocks m.same_period (at_fresh size k) (at_taken size k k' n m h)
 
+-- a move by the whole blocks of these bytes
+pub moved_whole : (s t : ByteStream) (size : ℕ) (xs : List ℕ) → HasMoved s (length (take (length xs / size * size) xs)) t → HasMoved s (length xs / size * size) t
+moved_whole s t size xs moved =
+    let le : length xs / size * size ≤ length xs = div-mul-le_self (length xs) size in
+    subst (λ m. HasMoved s m t) (length-take-le (length xs / size * size) xs le) moved
+
 -- a block that was just taken is the one before the position
 pub rest_of_block : (size : ℕ) (k k' : Keystream) (block : List ℕ) (used : ℕ) → block ≡ stream_of k 0 → IsMoved k 1 k' → IsRest size k' block used
 rest_of_block size k k' block used e m = λ _.
@@ -69,16 +76,16 @@ rest_of_block size k k' block used e m = λ _.
       same = λ j _ _. ap (λ b. get_or b j 0) (e ∙ (ap k.block_at at ∙ sym (m.same_blocks q)));
     }
 
-pub leaves_both : (size : ℕ) (r r' r'' : Option ℕ) (t t' t'' m n : ℕ) → Leaves size r t m r' t' → Leaves size r' t' n r'' t'' → Leaves size r t (m + n) r'' t''
-leaves_both size None r' r'' t t' t'' m n h j = subst (λ x. Leaves size x t' n r'' t'') h j
+pub leaves_both : (size : ℕ) (r r' r'' : Option ℕ) (t t' t'' m n : ℕ) → IsFewer size r t m r' t' → IsFewer size r' t' n r'' t'' → IsFewer size r t (m + n) r'' t''
+leaves_both size None r' r'' t t' t'' m n h j = subst (λ x. IsFewer size x t' n r'' t'') h j
 leaves_both size (Some a) r' r'' t t' t'' m n h j = λ le.
     let one = h (omega arith) in
-    let second : Leaves size (Some one.0) t' n r'' t'' = subst (λ x. Leaves size x t' n r'' t'') one.1 j in
+    let second : IsFewer size (Some one.0) t' n r'' t'' = subst (λ x. IsFewer size x t' n r'' t'') one.1 j in
     let two = second (omega (arith, one.2)) in
     (two.0, two.1, omega (arith, one.2, two.2))
 
 -- whole blocks with no rest, and a last block in part
-pub leaves_blocks : (size : ℕ) (r r' : Option ℕ) (n : ℕ) → 0 < size → Spends r n r' → Leaves size r 0 (n * size) r' 0
+pub leaves_blocks : (size : ℕ) (r r' : Option ℕ) (n : ℕ) → 0 < size → Spends r n r' → IsFewer size r 0 (n * size) r' 0
 leaves_blocks size None r' n some h = h
 leaves_blocks size (Some a) r' n some h = λ le.
     let within : n ≤ a = le_of_mul-le-mul_right (omega arith) some in
@@ -86,7 +93,7 @@ leaves_blocks size (Some a) r' n some h = λ le.
     let m : (a - n) * size + n * size ≡ a * size = sym (add-mul (a - n) n size) ∙ ap (λ x. x * size) e in
     (a - n, h within, omega (arith, m))
 
-pub leaves_last : (size : ℕ) (r r' : Option ℕ) (n : ℕ) → 0 < size → 0 < n → n ≤ size → Spends r 1 r' → Leaves size r 0 n r' (size - n)
+pub leaves_last : (size : ℕ) (r r' : Option ℕ) (n : ℕ) → 0 < size → 0 < n → n ≤ size → Spends r 1 r' → IsFewer size r 0 n r' (size - n)
 leaves_last size None r' n some used h s = s
 leaves_last size (Some zero) r' n some used h s = λ le. absurd (omega arith)
 leaves_last size (Some (suc a)) r' n some used h s = λ le.
@@ -96,7 +103,7 @@ leaves_last size (Some (suc a)) r' n some used h s = λ le.
     (a, s one ∙ ap Some e, omega (arith, m))
 
 -- so many fewer bytes have room
-pub leaves_room : (size : ℕ) (r r' : Option ℕ) (t t' n : ℕ) → HasRoom size r t n → Leaves size r t n r' t' → LeavesRoom (HasRoom size r t) n (HasRoom size r' t')
+pub leaves_room : (size : ℕ) (r r' : Option ℕ) (t t' n : ℕ) → HasRoom size r t n → IsFewer size r t n r' t' → LeavesRoom (HasRoom size r t) n (HasRoom size r' t')
 leaves_room size None r' t t' n has h m = subst (λ x. HasRoom size x t' m ↔ ⊤) (sym h) ((λ _. tt), (λ _. tt))
 leaves_room size (Some a) r' t t' n has h m =
     let one = h has in

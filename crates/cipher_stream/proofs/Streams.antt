@@ -64,9 +64,25 @@ filled_more {S} {keeps} {lanes} {keystream} both before now then old cur y i h f
       so_far = fill_more (keystream before) (keystream now) old cur y i h f.so_far f.is_moved value;
     }
 
-pub filled_moved : {S : Type 0} {keeps : S → S → Type 0} {lanes : S → ℕ} {keystream : S → Keystream} {before now : S} {old cur : List Block} {i : ℕ} → i ≡ length old
-    → Filled keeps lanes keystream before now old cur i → IsMoved (keystream before) (length old) (keystream now)
-filled_moved {S} {keeps} {lanes} {keystream} {before} {now} all f = subst (λ n. IsMoved (keystream before) n (keystream now)) all f.is_moved
+pub filled_none : {S : Type 0} {keeps : S → S → Type 0} {lanes : S → ℕ} {keystream : S → Keystream} → ((s : S) → keeps s s) → (before : S) (old : List Block) → Filled keeps lanes keystream before before old old 0
+filled_none {S} {keeps} {lanes} {keystream} none before old = record { kept = none before; same_lanes = refl; is_moved = moved_none (keystream before); so_far = refl }
+
+-- all places are filled
+pub record AllFilled {S : Type 0} (keeps : S → S → Type 0) (lanes : S → ℕ) (keystream : S → Keystream) (before now : S) (old cur : List Block) : Type 0 where
+  pub kept : keeps before now
+  pub same_lanes : lanes now ≡ lanes before
+  pub value : cur ≡ next (length old) (keystream before)
+  pub is_moved : IsMoved (keystream before) (length old) (keystream now)
+
+pub filled_all : {S : Type 0} {keeps : S → S → Type 0} {lanes : S → ℕ} {keystream : S → Keystream} {before now : S} {old cur : List Block} {i : ℕ} → i ≡ length old
+    → Filled keeps lanes keystream before now old cur i → AllFilled keeps lanes keystream before now old cur
+filled_all {S} {keeps} {lanes} {keystream} {before} {now} {old} {cur} {i} all f =
+    record {
+      kept = f.kept;
+      same_lanes = f.same_lanes;
+      value = fill_all (keystream before) old cur i all f.so_far;
+      is_moved = subst (λ n. IsMoved (keystream before) n (keystream now)) all f.is_moved;
+    }
 
 -- the next m, and then the next n of the rest
 pub next-add : (k k' : Keystream) (m n : ℕ) → IsMoved k m k' → next (m + n) k ≡ next m k ++ next n k'

@@ -47,6 +47,10 @@ bytes_from size k rest = record {
   rest = rest;
 }
 
+-- .. where a core and that number stand together
+abbrev pub buffered : {T : Type 0} → ℕ → (T → Keystream) → T × ℕ → ByteStream
+buffered size keystream w = bytes_from size (keystream w.0) w.1
+
 -- n bytes are no more than the rest and the blocks that remain have
 abbrev pub HasRoom : ℕ → Option ℕ → ℕ → ℕ → Type 0
 HasRoom size remaining rest n = MatchOption remaining ⊤ (λ m. n ≤ rest + m * size)
@@ -69,20 +73,24 @@ abbrev pub LeavesRoom : (ℕ → Type 0) → ℕ → (ℕ → Type 0) → Type 0
 LeavesRoom old n new = (m : ℕ) → new m ↔ old (n + m)
 
 -- as many fewer, in numbers of blocks and of bytes buffered
-abbrev pub Leaves : ℕ → Option ℕ → ℕ → ℕ → Option ℕ → ℕ → Type 0
-Leaves size None rest n new rest' = new ≡ None
-Leaves size (Some m) rest n new rest' =
+abbrev pub IsFewer : ℕ → Option ℕ → ℕ → ℕ → Option ℕ → ℕ → Type 0
+IsFewer size None rest n new rest' = new ≡ None
+IsFewer size (Some m) rest n new rest' =
     n ≤ rest + m * size → (m' : ℕ) × (new ≡ Some m') × (rest' + m' * size + n ≡ rest + m * size)
 
+-- .. of a core and the number of bytes buffered
+abbrev pub LeavesFewer : {T : Type 0} → ℕ → (T → Option ℕ) → T × ℕ → ℕ → T × ℕ → Type 0
+LeavesFewer size remaining old n new = IsFewer size (remaining old.0) old.1 n (remaining new.0) new.1
+
 -- a buffer holds, from the place `used` on, what the block before the position has there
-pub record IsBefore (size : ℕ) (k : Keystream) (buffer : List ℕ) (used : ℕ) : Type 0 where
+pub record HoldsLastBlock (size : ℕ) (k : Keystream) (buffer : List ℕ) (used : ℕ) : Type 0 where
   pub block : ℕ
   pub own : block % k.period ≡ block
   pub next : (block + 1) % k.period ≡ k.position % k.period
   pub same : (j : ℕ) → used ≤ j → j < size → slice_index buffer j ≡ slice_index (k.block_at block) j
 
 abbrev pub IsRest : ℕ → Keystream → List ℕ → ℕ → Type 0
-IsRest size k buffer used = used < size → IsBefore size k buffer used
+IsRest size k buffer used = used < size → HoldsLastBlock size k buffer used
 
 -- a number, if there is one, that is at most this
 abbrev pub AtMost : Option ℕ → ℕ → Type 0

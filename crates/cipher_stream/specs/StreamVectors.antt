@@ -1,7 +1,7 @@
 -- What the tests of stream ciphers by vectors answer.
 use Rattle.std.specs.Prelude.{◌≡◌, ◌≢◌, ℕ, ◌+◌, ◌<◌, List, Option, None, Some, Result, Ok, Err, if◌then◌else◌, ◌==◌, ◌&&◌, length, take, codes, ◌⊎◌}
 use Rattle.std.specs.Borrow.{Bor}
-use Rattle.cipher.specs.BlockVectors.{Tells}
+use Rattle.cipher.specs.BlockVectors.{Reports}
 use Rattle.cipher_stream.specs.Keystream.{xored}
 use Rattle.cipher_stream.specs.ByteStream.{ByteStream, to_come}
 use Rattle.cipher_stream.specs.declared.dev.stream.TestVector.{TestVector}
@@ -39,7 +39,7 @@ size_fault K I v =
 
 -- a fault of the sizes, or else what the bytes tell
 abbrev pub OrElse : Option (List ℕ) → Result (Unit {0}) (Bor (List ℕ)) → Type 0 → Type 0
-OrElse (Some text) result told = Tells result (Some text)
+OrElse (Some text) result told = Reports result (Some text)
 OrElse None result told = told
 
 abbrev pub VectorTold : {C : Type 0} → ℕ → ℕ → (List ℕ → List ℕ → C) → (C → ByteStream) → (C → ℕ → Type 0) → TestVector → Result (Unit {0}) (Bor (List ℕ)) → Type 0

@@ -16,13 +16,13 @@ pub trait StreamCipher {
     // whether so many bytes are left before the keystream repeats
     ghost has: { Self → ℕ → Type 0 };
 
-    /// Whether so many bytes are left. `StreamCipherError` exactly where the bytes past the buffered rest need more blocks
-    /// than remain.
+    /// Whether so many bytes are left. `StreamCipherError` exactly where the bytes past the buffered rest need more
+    /// blocks than remain.
     fn check_remaining(&self, data_len: usize) -> Result<(), StreamCipherError>
         ensures ok { IsOk result ↔ has self.now data_len };
 
-    /// Writes the bytes of an input of the output's length, else those of the output, xor the bytes to come, of which so
-    /// many are left. All calls that apply the keystream stand on this one.
+    /// Writes the bytes of an input of the output's length, else those of the output, xor the bytes to come, of which
+    /// so many are left. All calls that apply the keystream stand on this one.
     fn unchecked_apply_keystream_slices(&mut self, output: &mut [u8], input: &[u8])
         requires { has self.old (length output.old) }
         ensures value { output.new ≡ xored (to_come (stream self.old)) (pick input.now output.old) }
@@ -57,8 +57,8 @@ pub trait StreamCipher {
         self.unchecked_apply_keystream_slices(buf, &[]);
     }
 
-    /// Writes an input xor the bytes to come, of which so many are left, into an output. `NotEqualError` exactly where their
-    /// lengths differ, and then nothing changes.
+    /// Writes an input xor the bytes to come, of which so many are left, into an output. `NotEqualError` exactly where
+    /// their lengths differ, and then nothing changes.
     final fn unchecked_apply_keystream_b2b(
         &mut self,
         input: &[u8],
@@ -78,8 +78,8 @@ pub trait StreamCipher {
         Ok(())
     }
 
-    /// Writes the bytes that are read xor the bytes to come. `StreamCipherError` exactly where fewer are left, and then nothing
-    /// changes.
+    /// Writes the bytes that are read xor the bytes to come. `StreamCipherError` exactly where fewer are left, and then
+    /// nothing changes.
     final fn try_apply_keystream_inout(
         &mut self,
         buf: InOutBuf<'_, '_, u8>,
@@ -94,8 +94,8 @@ pub trait StreamCipher {
         try_apply(self, output, input)
     }
 
-    /// Writes bytes xor the bytes to come in their places. `StreamCipherError` exactly where fewer are left, and then nothing
-    /// changes.
+    /// Writes bytes xor the bytes to come in their places. `StreamCipherError` exactly where fewer are left, and then
+    /// nothing changes.
     final fn try_apply_keystream(&mut self, buf: &mut [u8]) -> Result<(), StreamCipherError>
         ensures ok { IsOk result ↔ has self.old (length buf.old) }
         ensures value { OnOk result (buf.new ≡ xored (to_come (stream self.old)) buf.old) }
@@ -106,8 +106,8 @@ pub trait StreamCipher {
         try_apply(self, buf, &[])
     }
 
-    /// Writes an input xor the bytes to come into an output. `StreamCipherError` exactly where their lengths differ or fewer
-    /// bytes are left, and then nothing changes.
+    /// Writes an input xor the bytes to come into an output. `StreamCipherError` exactly where their lengths differ or
+    /// fewer bytes are left, and then nothing changes.
     final fn try_apply_keystream_b2b(
         &mut self,
         input: &[u8],

@@ -17,8 +17,8 @@ use cipher::{InOut, InOutBuf};
 use contexts::{ApplyBlockCtx, ApplyBlocksCtx, WriteBlockCtx, WriteBlocksCtx};
 use partial::{apply_read, try_partial};
 
-/// A stream cipher by blocks of B bytes, B being from 1 to 255. No call but `try_apply_keystream_partial` tests how many
-/// remain.
+/// A stream cipher by blocks of B bytes, B being from 1 to 255. No call but `try_apply_keystream_partial` tests how
+/// many remain.
 pub trait StreamCipherCore<const B: usize>: Sized + Drop {
     ghost keystream: { Self → Keystream };
 

@@ -15,19 +15,21 @@ pub trait StreamCipherSeek: StreamCipher {
     // whether so many bytes are left where this is the position
     ghost room_at: { ℕ → ℕ → Type 0 };
 
-    /// The position. `OverflowError` exactly where it is below 0 (a rest of the greatest block) or no value of the type.
+    /// The position. `OverflowError` exactly where it is below 0 (a rest of the greatest block) or no value of the
+    /// type.
     fn try_current_pos<N: SeekNum>(&self) -> Result<N, OverflowError>
         ensures ok { IsOk result ↔ AtMost (position (Self.stream self.now)) N.most }
         ensures value { IfOk result (λ n. N.place n ≡ position (Self.stream self.now)) }
         ensures within { (Self.stream self.now).taken < (Self.stream self.now).period };
 
-    /// Chooses the position. `StreamCipherError` exactly where it is negative, its block exceeds the counter, or it is in the
-    /// greatest block past the first byte; then nothing changes.
+    /// Chooses the position. `StreamCipherError` exactly where it is negative, its block exceeds the counter, or it is in
+    /// the greatest block past the first byte; then nothing changes.
     fn try_seek<N: SeekNum>(&mut self, pos: N) -> Result<(), StreamCipherError>
         ensures ok { IsOk result ↔ AtMost (N.place pos) end }
         ensures placed { OnOk result (position (Self.stream self.new) ≡ N.place pos) }
         ensures same { OnOk result (IsSame (Self.stream self.old) (Self.stream self.new)) }
-        ensures ahead { OnOk result ((n j : ℕ) → N.place pos ≡ Some n → to_come (Self.stream self.new) j ≡ (Self.stream self.old).byte_at (n + j)) }
+        ensures ahead { OnOk result ((n j : ℕ) → N.place pos ≡ Some n
+            → to_come (Self.stream self.new) j ≡ (Self.stream self.old).byte_at (n + j)) }
         ensures left { OnOk result ((n m : ℕ) → N.place pos ≡ Some n → (Self.has self.new m ↔ room_at n m)) }
         ensures err { OnErr result (self.new ≡ self.old) };
 
@@ -47,7 +49,8 @@ pub trait StreamCipherSeek: StreamCipher {
         requires { AtMost (N.place pos) end }
         ensures placed { position (Self.stream self.new) ≡ N.place pos }
         ensures same { IsSame (Self.stream self.old) (Self.stream self.new) }
-        ensures ahead { (n j : ℕ) → N.place pos ≡ Some n → to_come (Self.stream self.new) j ≡ (Self.stream self.old).byte_at (n + j) }
+        ensures ahead { (n j : ℕ) → N.place pos ≡ Some n
+            → to_come (Self.stream self.new) j ≡ (Self.stream self.old).byte_at (n + j) }
         ensures left { (n m : ℕ) → N.place pos ≡ Some n → (Self.has self.new m ↔ room_at n m) }
     {
         match self.try_seek(pos) {

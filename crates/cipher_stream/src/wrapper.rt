@@ -5,7 +5,7 @@ mod seeking;
 ghost use Rattle.std.specs.Prelude.{◌≡◌, ◌↔◌, ℕ, ◌+◌, ◌-◌, ◌*◌, ◌/◌, ◌%◌, ◌<◌, ◌≤◌, ◌++◌, List, replicate, take, drop, length, IsOk, IfOk, OnOk, OnErr};
 ghost use Rattle.cipher.specs.Buffers.{pick};
 ghost use Rattle.cipher_stream.specs.Keystream.{Keystream, xored};
-ghost use Rattle.cipher_stream.specs.ByteStream.{ByteStream, bytes_from, to_come, next_bytes, HasMoved, HasRoom, Leaves, IsRest};
+ghost use Rattle.cipher_stream.specs.ByteStream.{ByteStream, buffered, to_come, next_bytes, HasMoved, HasRoom, LeavesFewer, IsRest};
 
 use crate::ciphers::StreamCipher;
 use crate::cores::StreamCipherCore;
@@ -96,9 +96,10 @@ impl<T: StreamCipherCore<B>, const B: usize> BufferedCore<T, [u8; B]> {
     fn apply_rest(&mut self, bytes: &mut [u8]) -> usize
         ensures within { result ≤ length bytes.old }
         ensures rest { result < length bytes.old → self.new.1 ≡ 0 }
-        ensures value { bytes.new ≡ xored (to_come (bytes_from B (T.keystream self.old.0) self.old.1)) (take result bytes.old) ++ drop result bytes.old }
-        ensures moved { HasMoved (bytes_from B (T.keystream self.old.0) self.old.1) result (bytes_from B (T.keystream self.new.0) self.new.1) }
-        ensures leaves { Leaves B (T.remaining self.old.0) self.old.1 result (T.remaining self.new.0) self.new.1 }
+        ensures value { bytes.new
+            ≡ xored (to_come (buffered B T.keystream self.old)) (take result bytes.old) ++ drop result bytes.old }
+        ensures moved { HasMoved (buffered B T.keystream self.old) result (buffered B T.keystream self.new) }
+        ensures leaves { LeavesFewer B T.remaining self.old result self.new }
     {
         let n = bytes.len().min(B - self.used);
         xor_from(&mut bytes[..n], &self.buffer, self.used);
@@ -109,9 +110,10 @@ impl<T: StreamCipherCore<B>, const B: usize> BufferedCore<T, [u8; B]> {
     // bytes where there is no rest: whole blocks, and then a part of one more
     fn apply_fresh(&mut self, bytes: &mut [u8])
         requires { self.old.1 ≡ 0 }
-        ensures value { bytes.new ≡ xored (to_come (bytes_from B (T.keystream self.old.0) self.old.1)) bytes.old }
-        ensures moved { HasMoved (bytes_from B (T.keystream self.old.0) self.old.1) (length bytes.old) (bytes_from B (T.keystream self.new.0) self.new.1) }
-        ensures leaves { Leaves B (T.remaining self.old.0) self.old.1 (length bytes.old) (T.remaining self.new.0) self.new.1 }
+        ensures value { bytes.new ≡ xored (to_come (buffered B T.keystream self.old)) bytes.old }
+        ensures moved { HasMoved (buffered B T.keystream self.old) (length bytes.old)
+            (buffered B T.keystream self.new) }
+        ensures leaves { LeavesFewer B T.remaining self.old (length bytes.old) self.new }
     {
         let whole = bytes.len() / B * B;
         self.apply_blocks(&mut bytes[..whole]);
@@ -124,9 +126,10 @@ impl<T: StreamCipherCore<B>, const B: usize> BufferedCore<T, [u8; B]> {
         requires fresh { self.old.1 ≡ 0 }
         requires whole { length bytes.old % B ≡ 0 }
         ensures fresh { self.new.1 ≡ 0 }
-        ensures value { bytes.new ≡ xored (to_come (bytes_from B (T.keystream self.old.0) self.old.1)) bytes.old }
-        ensures moved { HasMoved (bytes_from B (T.keystream self.old.0) self.old.1) (length bytes.old) (bytes_from B (T.keystream self.new.0) self.new.1) }
-        ensures leaves { Leaves B (T.remaining self.old.0) self.old.1 (length bytes.old) (T.remaining self.new.0) self.new.1 }
+        ensures value { bytes.new ≡ xored (to_come (buffered B T.keystream self.old)) bytes.old }
+        ensures moved { HasMoved (buffered B T.keystream self.old) (length bytes.old)
+            (buffered B T.keystream self.new) }
+        ensures leaves { LeavesFewer B T.remaining self.old (length bytes.old) self.new }
     {
         apply_whole(&mut self.core, bytes);
     }
@@ -135,9 +138,10 @@ impl<T: StreamCipherCore<B>, const B: usize> BufferedCore<T, [u8; B]> {
         requires fresh { self.old.1 ≡ 0 }
         requires some { 0 < length bytes.old }
         requires part { length bytes.old < B }
-        ensures value { bytes.new ≡ xored (to_come (bytes_from B (T.keystream self.old.0) self.old.1)) bytes.old }
-        ensures moved { HasMoved (bytes_from B (T.keystream self.old.0) self.old.1) (length bytes.old) (bytes_from B (T.keystream self.new.0) self.new.1) }
-        ensures leaves { Leaves B (T.remaining self.old.0) self.old.1 (length bytes.old) (T.remaining self.new.0) self.new.1 }
+        ensures value { bytes.new ≡ xored (to_come (buffered B T.keystream self.old)) bytes.old }
+        ensures moved { HasMoved (buffered B T.keystream self.old) (length bytes.old)
+            (buffered B T.keystream self.new) }
+        ensures leaves { LeavesFewer B T.remaining self.old (length bytes.old) self.new }
     {
         self.core.write_keystream_block(&mut self.buffer);
         self.used = bytes.len();
@@ -146,9 +150,10 @@ impl<T: StreamCipherCore<B>, const B: usize> BufferedCore<T, [u8; B]> {
 
     // bytes in their places
     fn apply(&mut self, bytes: &mut [u8])
-        ensures value { bytes.new ≡ xored (to_come (bytes_from B (T.keystream self.old.0) self.old.1)) bytes.old }
-        ensures moved { HasMoved (bytes_from B (T.keystream self.old.0) self.old.1) (length bytes.old) (bytes_from B (T.keystream self.new.0) self.new.1) }
-        ensures leaves { Leaves B (T.remaining self.old.0) self.old.1 (length bytes.old) (T.remaining self.new.0) self.new.1 }
+        ensures value { bytes.new ≡ xored (to_come (buffered B T.keystream self.old)) bytes.old }
+        ensures moved { HasMoved (buffered B T.keystream self.old) (length bytes.old)
+            (buffered B T.keystream self.new) }
+        ensures leaves { LeavesFewer B T.remaining self.old (length bytes.old) self.new }
     {
         let at = self.apply_rest(bytes);
         if at < bytes.len() {
@@ -206,7 +211,7 @@ impl<T: CoreOn<N> + KeyIvInit<K, I>, N: Drop, const K: usize, const I: usize> Ke
 }
 
 impl<T: StreamCipherCore<B>, const B: usize> StreamCipher for BufferedCore<T, [u8; B]> {
-    ghost stream = { λ w. bytes_from B (T.keystream w.0) w.1 };
+    ghost stream = { λ w. buffered B T.keystream w };
 
     ghost has = { λ w. HasRoom B (T.remaining w.0) w.1 };
 

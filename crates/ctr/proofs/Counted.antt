@@ -3,7 +3,7 @@ use Rattle.std.proofs.Common.{◌≡◌, ℕ, List, [], ◌∷◌, map, ap, subs
 use Rattle.std.specs.List.{range_with_len}
 use Rattle.cipher.specs.Transcript.{Block, Transcript, IsOf, inputs, outputs}
 use Rattle.cipher_stream.specs.Keystream.{next, stream_of, IsFed}
-use Rattle.ctr.specs.Counter.{counter_stream, counters, IsCounted}
+use Rattle.ctr.specs.Counter.{counter_stream, counters, IsOfCounters}
 
 -- the transcript that a map gives on these inputs
 transcript : (Block → Block) → List Block → Transcript
@@ -45,7 +45,7 @@ enciphered E plus nonce period p n filled made h e = e ∙ ap (map E) h ∙ next
 module _ {S : Type 0} (L : List Block → S → S → Type 0) (E : Block → Block) (plus : Block → ℕ → Block) (period : ℕ) (old new : S) (nonce nonce' : Block) (p p' : ℕ) where
   -- a fed closure over a keystream, as a transcript of the cipher
   pub led : IsFed L old new (counter_stream E plus nonce period p) (counter_stream E plus nonce' period p') → nonce' ≡ nonce
-      → (ts : Transcript) × (IsOf E ts × IsCounted L ts old new (counters plus nonce period p) (counters plus nonce' period p'))
+      → (ts : Transcript) × (IsOf E ts × IsOfCounters L ts old new (counters plus nonce period p) (counters plus nonce' period p'))
   led h same =
       let xs = next h.count (counters plus nonce period p) in (
         transcript E xs,
@@ -61,7 +61,7 @@ module _ {S : Type 0} (L : List Block → S → S → Type 0) (E : Block → Blo
       )
 
   -- and back
-  pub fed : (ts : Transcript) → IsOf E ts → IsCounted L ts old new (counters plus nonce period p) (counters plus nonce' period p') → IsFed L old new (counter_stream E plus nonce period p) (counter_stream E plus nonce' period p')
+  pub fed : (ts : Transcript) → IsOf E ts → IsOfCounters L ts old new (counters plus nonce period p) (counters plus nonce' period p') → IsFed L old new (counter_stream E plus nonce period p) (counter_stream E plus nonce' period p')
   fed ts o h =
       record {
         count = h.count;

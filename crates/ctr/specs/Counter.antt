@@ -12,7 +12,7 @@ abbrev pub counters : (Block → ℕ → Block) → Block → ℕ → ℕ → Ke
 counters plus nonce period p = counter_stream (λ block. block) plus nonce period p
 
 -- a transcript whose inputs are the next counter blocks: its outputs lead on, and the counter has moved
-pub record IsCounted {S : Type 0} (leads : List Block → S → S → Type 0) (ts : Transcript) (old new : S) (k k' : Keystream) : Type 0 where
+pub record IsOfCounters {S : Type 0} (leads : List Block → S → S → Type 0) (ts : Transcript) (old new : S) (k k' : Keystream) : Type 0 where
   pub count : ℕ
   pub blocks : inputs ts ≡ next count k
   pub goes : leads (outputs ts) old new

@@ -27,7 +27,8 @@ pub struct CounterCore<C, F: FlavorOn<N>, N> {
 
 impl<C: BlockCipherEncrypt<B> + Drop, F: CtrFlavor<B>, const B: usize> StreamCipherCore<B>
     for CtrCore<C, F, B> {
-    ghost keystream = { λ s. counter_stream (C.encrypts s.cipher) F.plus (F.nonce s.ctr_nonce) F.period (F.counter s.ctr_nonce) };
+    ghost keystream = { λ s. counter_stream (C.encrypts s.cipher) F.plus
+        (F.nonce s.ctr_nonce) F.period (F.counter s.ctr_nonce) };
 
     ghost remaining = { λ s. Some (F.period - 1 - F.counter s.ctr_nonce) };
 
@@ -107,7 +108,8 @@ impl<C: BlockCipherEncrypt<B> + Drop, F: CtrFlavor<B>, const B: usize> SetIvStat
     for CtrCore<C, F, B> {
     ghost same_key = { λ s t. C.encrypts t.cipher ≡ C.encrypts s.cipher };
 
-    ghost makes = { λ s. xored_blocks (stream_of (counter_stream (C.encrypts s.cipher) F.plus (F.nonce s.ctr_nonce) F.period (F.counter s.ctr_nonce))) };
+    ghost makes = { λ s. xored_blocks (stream_of (counter_stream (C.encrypts s.cipher) F.plus
+        (F.nonce s.ctr_nonce) F.period (F.counter s.ctr_nonce))) };
 
     ghost restarted = { λ s iv. record s { ctr_nonce = F.started iv } };
 

@@ -40,15 +40,23 @@ pub type Ctr128LE<C> = StreamCipherCoreWrapper<CtrCore<C, flavors::Ctr128LE, 16>
 /// counter in the last bytes (SP 800-38A, 6.5 and B.1), in the first (RFC 8452, 4), and as GCM (SP 800-38D, 7.1) and
 /// GCM-SIV (RFC 8452, 4) use it. A cipher over a core with no rest applies the core's bytes.
 pub fn law_counter_mode()
-    ensures last_bytes { (w : Width) (E : List ℕ → List ℕ) (nonce text : List ℕ) → ((i : ℕ) → length (E (plus_be w nonce i)) ≡ 16)
-        → xored (bytes_of 16 (counter_stream E (plus last w) nonce (field_size w) 0)) text ≡ ctr E (plus_be w) nonce text }
-    ensures first_bytes { (w : Width) (E : List ℕ → List ℕ) (nonce text : List ℕ) → ((i : ℕ) → length (E (plus_le w nonce i)) ≡ 16)
-        → xored (bytes_of 16 (counter_stream E (plus first w) nonce (field_size w) 0)) text ≡ ctr E (plus_le w) nonce text }
-    ensures gcm { (E : List ℕ → List ℕ) (nonce text : List ℕ) → ((i : ℕ) → length (E (plus_be w32 (plus_be w32 (first_block nonce) 1) i)) ≡ 16)
-        → xored (bytes_of 16 (counter_stream E (plus last w32) (first_block nonce) (field_size w32) 1)) text ≡ gcm_text E nonce text }
+    ensures last_bytes { (w : Width) (E : List ℕ → List ℕ) (nonce text : List ℕ)
+        → ((i : ℕ) → length (E (plus_be w nonce i)) ≡ 16)
+        → xored (bytes_of 16 (counter_stream E (plus last w) nonce (field_size w) 0)) text
+        ≡ ctr E (plus_be w) nonce text }
+    ensures first_bytes { (w : Width) (E : List ℕ → List ℕ) (nonce text : List ℕ)
+        → ((i : ℕ) → length (E (plus_le w nonce i)) ≡ 16)
+        → xored (bytes_of 16 (counter_stream E (plus first w) nonce (field_size w) 0)) text
+        ≡ ctr E (plus_le w) nonce text }
+    ensures gcm { (E : List ℕ → List ℕ) (nonce text : List ℕ)
+        → ((i : ℕ) → length (E (plus_be w32 (plus_be w32 (first_block nonce) 1) i)) ≡ 16)
+        → xored (bytes_of 16 (counter_stream E (plus last w32) (first_block nonce) (field_size w32) 1)) text
+        ≡ gcm_text E nonce text }
     ensures gcm_siv { (cipher : List ℕ → List ℕ → List ℕ) (key nonce tag text : List ℕ)
         → ((i : ℕ) → length (cipher (encryption_key cipher key nonce) (plus_le w32 (counter_block tag) i)) ≡ 16)
-        → xored (bytes_of 16 (counter_stream (cipher (encryption_key cipher key nonce)) (plus first w32) (counter_block tag) (field_size w32) 0)) text
+        → xored (bytes_of 16 (counter_stream (cipher (encryption_key cipher key nonce))
+        (plus first w32) (counter_block tag) (field_size w32) 0)) text
         ≡ gcm_siv_text cipher key nonce tag text }
-    ensures buffered { (k : Keystream) (text : List ℕ) → xored (to_come (bytes_from 16 k 0)) text ≡ xored (bytes_of 16 k) text }
+    ensures buffered { (k : Keystream) (text : List ℕ)
+        → xored (to_come (bytes_from 16 k 0)) text ≡ xored (bytes_of 16 k) text }
 {}

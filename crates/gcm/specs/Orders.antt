@@ -1,6 +1,7 @@
 -- Blocks by the order of their bytes: GCM has the high byte first (SP 800-38D, 6), GCM-SIV the low byte (RFC 8452, 3, 4).
-use Rattle.std.specs.Prelude.{ℕ, List, ◌++◌, bit_xor}
+use Rattle.std.specs.Prelude.{ℕ, ◌+◌, ◌/◌, List, ◌++◌, bit_xor}
 use Rattle.std.specs.Int.{w32, w64, w128, from_be_bytes, from_le_bytes, to_be_bytes, to_le_bytes}
+use Rattle.standards.specs.Blocks.{over_blocks, zero_padded}
 use Rattle.standards.specs.Counter.{plus_be, plus_le}
 use Rattle.standards.specs.Ghash.{product}
 use Rattle.gcm.specs.declared.order.ByteOrder.{ByteOrder}
@@ -29,3 +30,7 @@ pair_of LittleEndian a b = to_le_bytes w64 a ++ to_le_bytes w64 b
 -- one block more after y, under the element h: the sum times h, GHASH's product
 abbrev pub absorb : ByteOrder → ℕ → ℕ → List ℕ → ℕ
 absorb order h y block = product (bit_xor y (number_of order block)) h
+
+-- the blocks of n bytes after y, the last of them with zeros up to a whole block
+abbrev pub absorbed : ByteOrder → ℕ → ℕ → List ℕ → ℕ → ℕ
+absorbed order h y bytes n = over_blocks (absorb order h) y (zero_padded bytes) ((n + 15) / 16)

@@ -7,8 +7,8 @@ use Rattle.standards.specs.Lists.{xor_bytes}
 use Rattle.standards.specs.Polyval.{polyval}
 
 -- a key that AES and GCM-SIV have: 16 or 32 bytes (RFC 8452, 4)
-abbrev pub IsKeySize : ℕ → Type 0
-IsKeySize k = IsTrue (k == 16 || k == 32)
+abbrev pub IsSivKeySize : ℕ → Type 0
+IsSivKeySize k = IsTrue (k == 16 || k == 32)
 
 -- the one-block maps of the ciphers that are made from keys
 abbrev pub cipher_of : {C : Type 0} → (List ℕ → C) → (C → List ℕ → List ℕ) → List ℕ → List ℕ → List ℕ

@@ -14,6 +14,9 @@ pub enum GcmError {
     DecryptFailed,
 }
 
+/// Nothing, or why nothing was sealed or opened.
+pub type GcmResult = Result<(), GcmError>;
+
 impl fmt::Display for GcmError {
     ghost use Rattle.gcm.specs.Texts.{text_of};
     ghost use Rattle.std.specs.Prelude.{Some};

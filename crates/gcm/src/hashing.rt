@@ -1,9 +1,9 @@
 // GHASH (SP 800-38D, 6.4) and POLYVAL (RFC 8452, 3) of data and text, each padded, and their lengths.
 ghost use Rattle.std.specs.Prelude.{◌≡◌, ◌≤◌, ◌<◌, ◌+◌, ◌*◌, ◌/◌, ◌%◌, ◌^◌, length};
-ghost use Rattle.standards.specs.Blocks.{block_at, over_blocks, zero_padded};
+ghost use Rattle.standards.specs.Blocks.{block_at, zero_padded};
 ghost use Rattle.standards.specs.Ghash.{ghash};
 ghost use Rattle.standards.specs.Polyval.{polyval};
-ghost use Rattle.gcm.specs.Orders.{absorb, pair_of};
+ghost use Rattle.gcm.specs.Orders.{absorb, absorbed, pair_of};
 
 use crate::field::{product, times_x};
 use crate::order::{ByteOrder, number_of, pair_of};
@@ -28,7 +28,7 @@ pub(crate) fn absorb(order: ByteOrder, h: u128, y: u128, block: [u8; 16]) -> u12
 
 // All bytes after y, padded, under h.
 pub(crate) fn absorb_padded(order: ByteOrder, h: u128, y: u128, bytes: &[u8]) -> u128
-    ensures { result ≡ over_blocks (absorb order h) y (zero_padded bytes.now) ((length bytes.now + 15) / 16) }
+    ensures { result ≡ absorbed order h y bytes.now (length bytes.now) }
 {
     let mut state = y;
     for i in 0..bytes.len().div_ceil(16) {

@@ -14,7 +14,7 @@ mod order;
 mod sealing;
 mod siv;
 
-pub use errors::GcmError;
+pub use errors::{GcmError, GcmResult};
 pub use hashing::{ghash, polyval};
 pub use sealing::Gcm;
 pub use siv::GcmSiv;

@@ -1,10 +1,9 @@
 // POLYVAL of a text that is only had from its ciphertext, a part at a time and in no place of the caller.
 ghost use Rattle.std.specs.Prelude.{◌≡◌, ◌≤◌, ◌<◌, ◌+◌, ◌*◌, ◌/◌, ◌^◌, length};
 ghost use Rattle.std.specs.Int.{w32};
-ghost use Rattle.standards.specs.Blocks.{over_blocks, zero_padded};
 ghost use Rattle.standards.specs.Counter.{ctr, plus_le};
 ghost use Rattle.standards.specs.Polyval.{polyval};
-ghost use Rattle.gcm.specs.Orders.{absorb, counted};
+ghost use Rattle.gcm.specs.Orders.{absorbed, counted};
 
 use crate::counter::apply_keystream;
 use crate::field::times_x;
@@ -26,7 +25,8 @@ fn absorb_part<C: BlockCipherEncrypt<16>>(
     part: &[u8],
 ) -> u128
     requires { length part.now ≤ 128 }
-    ensures { result ≡ over_blocks (absorb ByteOrder.LittleEndian h) state (zero_padded (ctr (C.encrypts c.now) (counted ByteOrder.LittleEndian) block.now part.now)) ((length part.now + 15) / 16) }
+    ensures { result ≡ absorbed ByteOrder.LittleEndian h state
+        (ctr (C.encrypts c.now) (counted ByteOrder.LittleEndian) block.now part.now) (length part.now) }
 {
     let n = part.len();
     let mut text = [0u8; PART];
@@ -43,7 +43,8 @@ fn absorb_opened<C: BlockCipherEncrypt<16>>(
     y: u128,
     ciphertext: &[u8],
 ) -> u128
-    ensures { result ≡ over_blocks (absorb ByteOrder.LittleEndian h) y (zero_padded (ctr (C.encrypts c.now) (counted ByteOrder.LittleEndian) block.now ciphertext.now)) ((length ciphertext.now + 15) / 16) }
+    ensures { result ≡ absorbed ByteOrder.LittleEndian h y
+        (ctr (C.encrypts c.now) (counted ByteOrder.LittleEndian) block.now ciphertext.now) (length ciphertext.now) }
 {
     let mut state = y;
     for i in 0..ciphertext.len().div_ceil(PART) {

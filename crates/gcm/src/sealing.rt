@@ -7,7 +7,7 @@ ghost use Rattle.gcm.specs.Limits.{MOST_GCM};
 
 use crate::bytes::{is_same, xored};
 use crate::counter::apply_keystream;
-use crate::errors::GcmError;
+use crate::errors::{GcmError, GcmResult};
 use crate::hashing::ghash;
 use crate::limits::check_lengths;
 use crate::order::{ByteOrder, counted};
@@ -109,16 +109,11 @@ impl<C: BlockCipherEncrypt<16>> Gcm<C> {
     /// # Errors
     /// `DataTooLong` where `aad` has more than 2^36 bytes, and else `TextTooLong` where `text` has more than
     /// 2^36 - 32. `out` is then as before.
-    pub fn seal_into(
-        &self,
-        nonce: &[u8],
-        aad: &[u8],
-        text: &[u8],
-        out: &mut [u8],
-    ) -> Result<(), GcmError>
+    pub fn seal_into(&self, nonce: &[u8], aad: &[u8], text: &[u8], out: &mut [u8]) -> GcmResult
         requires nonce { length nonce.now ≡ 12 }
         requires room { length out.old ≡ length text.now + 16 }
-        ensures { IsSealed (gcm (C.encrypts self.now.cipher) nonce.now aad.now) MOST_GCM aad.now text.now out.old out.new result }
+        ensures { IsSealed (gcm (C.encrypts self.now.cipher) nonce.now aad.now) MOST_GCM
+            aad.now text.now out.old out.new result }
     {
         check_lengths(aad.len(), text.len(), MOST_TEXT)?;
         seal(&self.cipher, nonce, aad, text, out);
@@ -131,16 +126,11 @@ impl<C: BlockCipherEncrypt<16>> Gcm<C> {
     /// # Errors
     /// `DataTooLong` where `aad` has more than 2^36 bytes, else `TextTooLong` where `sealed` has more than 2^36 - 16,
     /// and else `DecryptFailed` where it is the encryption of no text. `out` is then as before.
-    pub fn open_into(
-        &self,
-        nonce: &[u8],
-        aad: &[u8],
-        sealed: &[u8],
-        out: &mut [u8],
-    ) -> Result<(), GcmError>
+    pub fn open_into(&self, nonce: &[u8], aad: &[u8], sealed: &[u8], out: &mut [u8]) -> GcmResult
         requires nonce { length nonce.now ≡ 12 }
         requires room { length out.old ≡ length sealed.now - 16 }
-        ensures { IsOpened (gcm (C.encrypts self.now.cipher) nonce.now aad.now) MOST_GCM aad.now sealed.now out.old out.new result }
+        ensures { IsOpened (gcm (C.encrypts self.now.cipher) nonce.now aad.now) MOST_GCM
+            aad.now sealed.now out.old out.new result }
     {
         check_lengths(aad.len(), sealed.len().saturating_sub(16), MOST_TEXT)?;
         if !open(&self.cipher, nonce, aad, sealed, out) {

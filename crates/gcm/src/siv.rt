@@ -5,11 +5,11 @@ ghost use Rattle.std.specs.Int.{w32, to_le_bytes};
 ghost use Rattle.standards.specs.GcmSiv.{authentication_key, counter_block, derived, encryption_key, gcm_siv};
 ghost use Rattle.gcm.specs.Answers.{IsOpened, IsSealed, IsTried};
 ghost use Rattle.gcm.specs.Limits.{MOST_GCM_SIV};
-ghost use Rattle.gcm.specs.Siv.{IsKeySize, cipher_of, sealed_under, tag_under};
+ghost use Rattle.gcm.specs.Siv.{IsSivKeySize, cipher_of, sealed_under, tag_under};
 
 use crate::bytes::{is_same, xored};
 use crate::counter::apply_keystream;
-use crate::errors::GcmError;
+use crate::errors::{GcmError, GcmResult};
 use crate::hashing::polyval;
 use crate::limits::check_lengths;
 use crate::opened::polyval_of_opened;
@@ -26,7 +26,7 @@ const MOST_TEXT: usize = 1 << 36;
 pub struct GcmSiv<C, const K: usize> {
     key: [u8; K],
     ciphers: PhantomData<C>,
-    ghost key_size: { IsKeySize K },
+    ghost key_size: { IsSivKeySize K },
 }
 
 // What is made for one nonce (4).
@@ -53,7 +53,7 @@ fn derived_piece<C: BlockCipherEncrypt<16>>(c: &C, nonce: &[u8], number: u32) ->
 // Fills a key with pieces, the first of them from this number (4).
 fn derive_into<C: BlockCipherEncrypt<16>>(c: &C, nonce: &[u8], first: u32, key: &mut [u8])
     requires nonce { length nonce.now ≡ 12 }
-    requires pieces { IsKeySize (length key.old) }
+    requires pieces { IsSivKeySize (length key.old) }
     requires first { first < 256 }
     ensures { key.new ≡ derived (C.encrypts c.now) nonce.now first (length key.old / 8) }
 {
@@ -120,7 +120,8 @@ fn open<C: BlockCipherEncrypt<16>>(
     requires nonce { length nonce.now ≡ 12 }
     requires sealed { length sealed.now ≤ 2 ^ 36 + 16 }
     requires room { length out.old ≡ length sealed.now - 16 }
-    ensures { IsTried (sealed_under (C.encrypts keys.now.cipher) keys.now.authentication nonce.now aad.now) sealed.now out.old out.new result }
+    ensures { IsTried (sealed_under (C.encrypts keys.now.cipher) keys.now.authentication nonce.now aad.now)
+        sealed.now out.old out.new result }
 {
     if sealed.len() < 16 {
         return false;
@@ -147,7 +148,7 @@ fn open<C: BlockCipherEncrypt<16>>(
 impl<C: KeyInit<K> + BlockCipherEncrypt<16> + Drop, const K: usize> GcmSiv<C, K> {
     /// GCM-SIV under this key, of 16 or 32 bytes.
     pub fn new(key: &[u8; K]) -> GcmSiv<C, K>
-        requires { IsKeySize K }
+        requires { IsSivKeySize K }
         ensures { result.key ≡ key.now }
     {
         GcmSiv {
@@ -158,8 +159,10 @@ impl<C: KeyInit<K> + BlockCipherEncrypt<16> + Drop, const K: usize> GcmSiv<C, K>
 
     fn message_keys(&self, nonce: &[u8]) -> MessageKeys<C>
         requires { length nonce.now ≡ 12 }
-        ensures authentication { result.authentication ≡ authentication_key (C.encrypts (C.keyed self.now.key)) nonce.now }
-        ensures cipher { result.cipher ≡ C.keyed (encryption_key (cipher_of C.keyed C.encrypts) self.now.key nonce.now) }
+        ensures authentication { result.authentication
+            ≡ authentication_key (C.encrypts (C.keyed self.now.key)) nonce.now }
+        ensures cipher { result.cipher
+            ≡ C.keyed (encryption_key (cipher_of C.keyed C.encrypts) self.now.key nonce.now) }
     {
         let c = C::new(&self.key);
         let mut authentication = [0u8; 16];
@@ -178,16 +181,11 @@ impl<C: KeyInit<K> + BlockCipherEncrypt<16> + Drop, const K: usize> GcmSiv<C, K>
     /// # Errors
     /// `DataTooLong` where `aad` has more than 2^36 bytes, and else `TextTooLong` where `text` has. `out` is then as
     /// before.
-    pub fn seal_into(
-        &self,
-        nonce: &[u8],
-        aad: &[u8],
-        text: &[u8],
-        out: &mut [u8],
-    ) -> Result<(), GcmError>
+    pub fn seal_into(&self, nonce: &[u8], aad: &[u8], text: &[u8], out: &mut [u8]) -> GcmResult
         requires nonce { length nonce.now ≡ 12 }
         requires room { length out.old ≡ length text.now + 16 }
-        ensures { IsSealed (gcm_siv (cipher_of C.keyed C.encrypts) self.now.key nonce.now aad.now) MOST_GCM_SIV aad.now text.now out.old out.new result }
+        ensures { IsSealed (gcm_siv (cipher_of C.keyed C.encrypts) self.now.key nonce.now aad.now) MOST_GCM_SIV
+            aad.now text.now out.old out.new result }
     {
         check_lengths(aad.len(), text.len(), MOST_TEXT)?;
         seal(&self.message_keys(nonce), nonce, aad, text, out);
@@ -201,16 +199,11 @@ impl<C: KeyInit<K> + BlockCipherEncrypt<16> + Drop, const K: usize> GcmSiv<C, K>
     /// # Errors
     /// `DataTooLong` where `aad` has more than 2^36 bytes, else `TextTooLong` where `sealed` has more than 2^36 + 16,
     /// and else `DecryptFailed` where it is the encryption of no text. `out` is then as before.
-    pub fn open_into(
-        &self,
-        nonce: &[u8],
-        aad: &[u8],
-        sealed: &[u8],
-        out: &mut [u8],
-    ) -> Result<(), GcmError>
+    pub fn open_into(&self, nonce: &[u8], aad: &[u8], sealed: &[u8], out: &mut [u8]) -> GcmResult
         requires nonce { length nonce.now ≡ 12 }
         requires room { length out.old ≡ length sealed.now - 16 }
-        ensures { IsOpened (gcm_siv (cipher_of C.keyed C.encrypts) self.now.key nonce.now aad.now) MOST_GCM_SIV aad.now sealed.now out.old out.new result }
+        ensures { IsOpened (gcm_siv (cipher_of C.keyed C.encrypts) self.now.key nonce.now aad.now) MOST_GCM_SIV
+            aad.now sealed.now out.old out.new result }
     {
         check_lengths(aad.len(), sealed.len().saturating_sub(16), MOST_TEXT)?;
         if !open(&self.message_keys(nonce), nonce, aad, sealed, out) {

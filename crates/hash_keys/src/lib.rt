@@ -216,7 +216,8 @@ pub fn hkdf_into(
 // T (1) ++ T (2) ++ .., as far as `out` goes (RFC 5869, section 2.3).
 fn expand_into(h: Hash, key: &[u8], info: &[u8], out: &mut [u8])
     requires { length out.old ≤ 255 * digest_size h }
-    ensures { out.new ≡ take (length out.old) (expand (hash_of h) (block_size h) key.now info.now ((length out.old + digest_size h - 1) / digest_size h)) }
+    ensures { out.new ≡ take (length out.old)
+        (expand (hash_of h) (block_size h) key.now info.now ((length out.old + digest_size h - 1) / digest_size h)) }
 {
     let size = h.digest_size();
     let mut last = [0u8; MAX_DIGEST];

@@ -6,6 +6,18 @@ ghost use Rattle.cipher.specs.Transcript.{Transcript, Block, Led};
 
 use crate::buffers::{InOut, InOutBuf, part_of};
 
+// The blocks of a buffer, each by a call on one block.
+macro_rules! one_by_one {
+    ($backend:ident, $blocks:ident, $call:ident) => {{
+        let n = $blocks.output.len();
+        for i in 0..n {
+            let input = part_of($blocks.input, n, i, i + 1);
+            let output = &mut $blocks.output[i];
+            $backend.$call(&mut InOut { output, input });
+        }
+    }};
+}
+
 /// What encrypts blocks of B bytes, `width` of them at a time, B being from 1 to 255.
 pub trait BlockCipherEncBackend<const B: usize> {
     // the block that it makes of a block
@@ -30,12 +42,7 @@ pub trait BlockCipherEncBackend<const B: usize> {
         ensures kept { blocks.new.output.ghost_name ≡ blocks.old.output.ghost_name }
         ensures value { blocks.new.output.now ≡ map (encrypts self.now) (read_all blocks.old) }
     {
-        let n = blocks.output.len();
-        for i in 0..n {
-            let input = part_of(blocks.input, n, i, i + 1);
-            let output = &mut blocks.output[i];
-            self.encrypt_block(&mut InOut { output, input });
-        }
+        one_by_one!(self, blocks, encrypt_block)
     }
 
     /// Encrypts fewer than `width` blocks.
@@ -44,12 +51,7 @@ pub trait BlockCipherEncBackend<const B: usize> {
         ensures kept { blocks.new.output.ghost_name ≡ blocks.old.output.ghost_name }
         ensures value { blocks.new.output.now ≡ map (encrypts self.now) (read_all blocks.old) }
     {
-        let n = blocks.output.len();
-        for i in 0..n {
-            let input = part_of(blocks.input, n, i, i + 1);
-            let output = &mut blocks.output[i];
-            self.encrypt_block(&mut InOut { output, input });
-        }
+        one_by_one!(self, blocks, encrypt_block)
     }
 
     ghost block_size: { (1 ≤ B) × (B < 256) };
@@ -125,12 +127,7 @@ pub trait BlockCipherDecBackend<const B: usize> {
         ensures kept { blocks.new.output.ghost_name ≡ blocks.old.output.ghost_name }
         ensures value { blocks.new.output.now ≡ map (decrypts self.now) (read_all blocks.old) }
     {
-        let n = blocks.output.len();
-        for i in 0..n {
-            let input = part_of(blocks.input, n, i, i + 1);
-            let output = &mut blocks.output[i];
-            self.decrypt_block(&mut InOut { output, input });
-        }
+        one_by_one!(self, blocks, decrypt_block)
     }
 
     /// Decrypts fewer than `width` blocks.
@@ -139,12 +136,7 @@ pub trait BlockCipherDecBackend<const B: usize> {
         ensures kept { blocks.new.output.ghost_name ≡ blocks.old.output.ghost_name }
         ensures value { blocks.new.output.now ≡ map (decrypts self.now) (read_all blocks.old) }
     {
-        let n = blocks.output.len();
-        for i in 0..n {
-            let input = part_of(blocks.input, n, i, i + 1);
-            let output = &mut blocks.output[i];
-            self.decrypt_block(&mut InOut { output, input });
-        }
+        one_by_one!(self, blocks, decrypt_block)
     }
 
     ghost block_size: { (1 ≤ B) × (B < 256) };

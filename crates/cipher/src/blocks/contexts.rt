@@ -10,16 +10,24 @@ use crate::blocks::backends::{
 };
 use crate::buffers::{InOut, InOutBuf, part_of};
 
+/// The closure of a call on one block, of a cipher or of a mode: it reads the first block of the input, or the output
+/// where the input has none.
 #[derive(Drop)]
-pub(crate) struct BlockCtx<'i, 'o, const B: usize> {
-    pub(crate) output: &'o mut [u8; B],
-    pub(crate) input: &'i [[u8; B]],
+pub struct BlockCtx<'i, 'o, const B: usize> {
+    /// The place that is written.
+    pub output: &'o mut [u8; B],
+    /// What is read, if it has a block.
+    pub input: &'i [[u8; B]],
 }
 
+/// The closure of a call on blocks, of a cipher or of a mode: it reads the input, or the output where the input has
+/// another length.
 #[derive(Drop)]
-pub(crate) struct BlocksCtx<'i, 'o, const B: usize> {
-    pub(crate) output: &'o mut [[u8; B]],
-    pub(crate) input: &'i [[u8; B]],
+pub struct BlocksCtx<'i, 'o, const B: usize> {
+    /// The places that are written.
+    pub output: &'o mut [[u8; B]],
+    /// What is read, if it is as long.
+    pub input: &'i [[u8; B]],
 }
 
 impl<const B: usize> BlockCipherEncClosure<B> for BlockCtx<'_, '_, B> {

@@ -1,7 +1,7 @@
 //! Tests of block ciphers by vectors.
 
 ghost use Rattle.std.specs.Prelude.{◌≡◌, ◌↔◌, ◌≢◌, ℕ, ◌<◌, ◌≤◌, length, map, IsTrue, IsOk, IfOk, OnErr, MatchResult, codes};
-ghost use Rattle.cipher.specs.BlockVectors.{Tells, first, block_fault, block_size_fault, encryption_fault, decryption_fault, encrypt_decrypt_fault, encrypt_fault, decrypt_fault};
+ghost use Rattle.cipher.specs.BlockVectors.{Reports, first, block_fault, block_size_fault, encryption_fault, decryption_fault, encrypt_decrypt_fault, encrypt_fault, decrypt_fault};
 
 use crate::blocks::{BlockCipherDecrypt, BlockCipherEncrypt};
 use crate::init::KeyInit;
@@ -25,7 +25,7 @@ pub fn encrypt_decrypt_test<
     const K: usize,
     const B: usize,
 >(tv: &TestVector) -> Result<(), &'static str>
-    ensures told { Tells result (encrypt_decrypt_fault K B C.keyed C.encrypts C.decrypts tv.now) }
+    ensures told { Reports result (encrypt_decrypt_fault K B C.keyed C.encrypts C.decrypts tv.now) }
 {
     match C::new_from_slice(tv.key) {
         Ok(cipher) => test_both(&cipher, tv),
@@ -37,7 +37,7 @@ pub fn encrypt_decrypt_test<
 pub fn encrypt_test<C: KeyInit<K> + BlockCipherEncrypt<B> + Drop, const K: usize, const B: usize>(
     tv: &TestVector,
 ) -> Result<(), &'static str>
-    ensures told { Tells result (encrypt_fault K B C.keyed C.encrypts tv.now) }
+    ensures told { Reports result (encrypt_fault K B C.keyed C.encrypts tv.now) }
 {
     match C::new_from_slice(tv.key) {
         Ok(cipher) => test_encrypted(&cipher, tv),
@@ -49,7 +49,7 @@ pub fn encrypt_test<C: KeyInit<K> + BlockCipherEncrypt<B> + Drop, const K: usize
 pub fn decrypt_test<C: KeyInit<K> + BlockCipherDecrypt<B> + Drop, const K: usize, const B: usize>(
     tv: &TestVector,
 ) -> Result<(), &'static str>
-    ensures told { Tells result (decrypt_fault K B C.keyed C.decrypts tv.now) }
+    ensures told { Reports result (decrypt_fault K B C.keyed C.decrypts tv.now) }
 {
     match C::new_from_slice(tv.key) {
         Ok(cipher) => test_decrypted(&cipher, tv),
@@ -62,7 +62,8 @@ fn test_both<C: BlockCipherEncrypt<B> + BlockCipherDecrypt<B>, const B: usize>(
     cipher: &C,
     tv: &TestVector,
 ) -> Result<(), &'static str>
-    ensures told { Tells result (first (first (block_size_fault B tv.now) (encryption_fault (C.encrypts cipher.now) tv.now))
+    ensures told { Reports result (first
+        (first (block_size_fault B tv.now) (encryption_fault (C.encrypts cipher.now) tv.now))
         (decryption_fault (C.decrypts cipher.now) tv.now)) }
 {
     match test_encrypted(cipher, tv) {
@@ -75,7 +76,7 @@ fn test_encrypted<C: BlockCipherEncrypt<B>, const B: usize>(
     cipher: &C,
     tv: &TestVector,
 ) -> Result<(), &'static str>
-    ensures told { Tells result (first (block_size_fault B tv.now) (encryption_fault (C.encrypts cipher.now) tv.now)) }
+    ensures told { Reports result (first (block_size_fault B tv.now) (encryption_fault (C.encrypts cipher.now) tv.now)) }
 {
     let plaintext = match <&[u8; B]>::try_from(tv.plaintext) {
         Ok(block) => block,
@@ -92,7 +93,7 @@ fn test_decrypted<C: BlockCipherDecrypt<B>, const B: usize>(
     cipher: &C,
     tv: &TestVector,
 ) -> Result<(), &'static str>
-    ensures told { Tells result (first (block_size_fault B tv.now) (decryption_fault (C.decrypts cipher.now) tv.now)) }
+    ensures told { Reports result (first (block_size_fault B tv.now) (decryption_fault (C.decrypts cipher.now) tv.now)) }
 {
     let plaintext = match <&[u8; B]>::try_from(tv.plaintext) {
         Ok(block) => block,
@@ -110,7 +111,7 @@ fn test_encryption<C: BlockCipherEncrypt<B>, const B: usize>(
     plaintext: &[u8; B],
     ciphertext: &[u8; B],
 ) -> Result<(), &'static str>
-    ensures told { Tells result (block_fault (C.encrypts cipher.now plaintext.now) ciphertext.now
+    ensures told { Reports result (block_fault (C.encrypts cipher.now plaintext.now) ciphertext.now
         (codes "single block encryption failure")) }
 {
     let mut block = *plaintext;
@@ -149,7 +150,7 @@ fn test_decryption<C: BlockCipherDecrypt<B>, const B: usize>(
     plaintext: &[u8; B],
     ciphertext: &[u8; B],
 ) -> Result<(), &'static str>
-    ensures told { Tells result (block_fault (C.decrypts cipher.now ciphertext.now) plaintext.now
+    ensures told { Reports result (block_fault (C.decrypts cipher.now ciphertext.now) plaintext.now
         (codes "single block decryption failure")) }
 {
     let mut block = *ciphertext;

@@ -1,7 +1,7 @@
 //! Tests of block modes by vectors.
 
 ghost use Rattle.std.specs.Prelude.{◌≡◌, ℕ, ◌+◌, ◌-◌, ◌*◌, ◌/◌, ◌%◌, ◌<◌, ◌≤◌, List, length, take, drop, IsTrue, codes, bytes_eq};
-ghost use Rattle.cipher.specs.BlockVectors.{Tells, block_fault};
+ghost use Rattle.cipher.specs.BlockVectors.{Reports, block_fault};
 ghost use Rattle.cipher_modes.specs.Padded.{bytes_run};
 ghost use Rattle.cipher_modes.specs.Steps.{run_of, state_after};
 ghost use Rattle.cipher_modes.specs.ModeVectors.{encrypt_fault, decrypt_fault};
@@ -36,7 +36,7 @@ pub fn encrypt<
     const I: usize,
     const B: usize,
 >(tv: &TestVector) -> Result<(), &'static str>
-    ensures told { Tells result (encrypt_fault K I B C.keyed C.step tv.now) }
+    ensures told { Reports result (encrypt_fault K I B C.keyed C.step tv.now) }
 {
     let n = tv.ciphertext.len();
     if n > MAX_MSG_LEN {
@@ -64,7 +64,7 @@ fn encrypts_vector<
     requires few { length tv.now.ciphertext.now ≤ 4096 }
     requires same_length { length tv.now.plaintext.now ≡ length tv.now.ciphertext.now }
     requires whole { length tv.now.ciphertext.now % B ≡ 0 }
-    ensures told { Tells result (block_fault (bytes_run C.step mode.old B tv.now.plaintext.now) tv.now.ciphertext.now
+    ensures told { Reports result (block_fault (bytes_run C.step mode.old B tv.now.plaintext.now) tv.now.ciphertext.now
         (codes "single block encryption failure")) }
 {
     let mut buffer = [0; MAX_MSG_LEN];
@@ -120,10 +120,8 @@ fn encrypts_parts_alike<M: BlockModeEncrypt<B>, const B: usize>(
     requires { mode.old ≡ other.old }
     ensures value { IsTrue result }
 {
-    let mut together = [[0; B]; 8];
     for part in bytes.chunks(8 * B) {
-        load(&mut together, part);
-        if !encrypts_eight_alike(mode, other, &mut together) {
+        if !encrypts_eight_alike(mode, other, &mut loaded(part)) {
             return false;
         }
     }
@@ -136,8 +134,7 @@ fn encrypts_eight_alike<M: BlockModeEncrypt<B>, const B: usize>(
     together: &mut [[u8; B]; 8],
 ) -> bool
     requires same { mode.old ≡ other.old }
-    ensures value { IsTrue result }
-    ensures same { mode.new ≡ other.new }
+    ensures alike { IsTrue result × (mode.new ≡ other.new) }
 {
     let mut singly = *together;
     mode.encrypt_blocks(together);
@@ -181,7 +178,7 @@ pub fn decrypt<
     const I: usize,
     const B: usize,
 >(tv: &TestVector) -> Result<(), &'static str>
-    ensures told { Tells result (decrypt_fault K I B C.keyed C.step tv.now) }
+    ensures told { Reports result (decrypt_fault K I B C.keyed C.step tv.now) }
 {
     let n = tv.plaintext.len();
     if n > MAX_MSG_LEN {
@@ -209,7 +206,7 @@ fn decrypts_vector<
     requires few { length tv.now.plaintext.now ≤ 4096 }
     requires same_length { length tv.now.ciphertext.now ≡ length tv.now.plaintext.now }
     requires whole { length tv.now.plaintext.now % B ≡ 0 }
-    ensures told { Tells result (block_fault (bytes_run C.step mode.old B tv.now.ciphertext.now) tv.now.plaintext.now
+    ensures told { Reports result (block_fault (bytes_run C.step mode.old B tv.now.ciphertext.now) tv.now.plaintext.now
         (codes "single block decryption failure")) }
 {
     let mut buffer = [0; MAX_MSG_LEN];
@@ -265,10 +262,8 @@ fn decrypts_parts_alike<M: BlockModeDecrypt<B>, const B: usize>(
     requires { mode.old ≡ other.old }
     ensures value { IsTrue result }
 {
-    let mut together = [[0; B]; 8];
     for part in bytes.chunks(8 * B) {
-        load(&mut together, part);
-        if !decrypts_eight_alike(mode, other, &mut together) {
+        if !decrypts_eight_alike(mode, other, &mut loaded(part)) {
             return false;
         }
     }
@@ -281,8 +276,7 @@ fn decrypts_eight_alike<M: BlockModeDecrypt<B>, const B: usize>(
     together: &mut [[u8; B]; 8],
 ) -> bool
     requires same { mode.old ≡ other.old }
-    ensures value { IsTrue result }
-    ensures same { mode.new ≡ other.new }
+    ensures alike { IsTrue result × (mode.new ≡ other.new) }
 {
     let mut singly = *together;
     mode.decrypt_blocks(together);
@@ -315,12 +309,14 @@ fn decrypts_to<C: BlockModeDecrypt<B>, const B: usize>(
     *buffer == *plaintext
 }
 
-// lays bytes in the blocks, as far as they go
-fn load<const B: usize>(blocks: &mut [[u8; B]; 8], bytes: &[u8])
+// eight blocks that begin with the whole blocks of these bytes
+fn loaded<const B: usize>(bytes: &[u8]) -> [[u8; B]; 8]
     requires { (1 ≤ B) × (B < 256) }
 {
+    let mut blocks = [[0; B]; 8];
     let (whole, _) = bytes.as_chunks::<B>();
     for i in 0..whole.len().min(8) {
         blocks[i] = whole[i];
     }
+    blocks
 }

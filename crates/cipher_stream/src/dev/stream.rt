@@ -21,9 +21,9 @@ pub struct TestVector {
     pub ciphertext: &'static [u8],
 }
 
-/// Whether a stream cipher encrypts as a vector says, in pieces of 1 to 255 bytes. The error is the first text whose case
-/// holds: `mismatch of plaintext and ciphertext lengths`, `cipher initialization failure` (the key's or the vector's length),
-/// and then whichever comes first of `end of keystream reached` and `ciphertext mismatch`.
+/// Whether a stream cipher encrypts as a vector says, in pieces of 1 to 255 bytes. The error is the first text whose
+/// case holds: `mismatch of plaintext and ciphertext lengths`, `cipher initialization failure` (the key's or the vector's
+/// length), and then whichever comes first of `end of keystream reached` and `ciphertext mismatch`.
 pub fn stream_cipher_test<C: KeyIvInit<K, I> + StreamCipher + Drop, const K: usize, const I: usize>(
     tv: &TestVector,
 ) -> Result<(), &'static str>
@@ -62,7 +62,8 @@ fn test_pieces<C: StreamCipher>(
     requires few { size < 256 }
     requires same_length { length from.now ≡ length wanted.now }
     ensures bytes { size ≡ 1 → BytesTold (C.stream cipher.old) (C.has cipher.old) from.now wanted.now result }
-    ensures again { Passes (C.stream cipher.old) (C.has cipher.old) from.now wanted.now (length from.now) → IsOk result }
+    ensures again { Passes (C.stream cipher.old) (C.has cipher.old) from.now wanted.now (length from.now)
+        → IsOk result }
 {
     let n = from.len();
     let mut at = 0;

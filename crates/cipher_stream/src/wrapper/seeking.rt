@@ -1,7 +1,7 @@
 //! Positions of a buffered core.
 
 ghost use Rattle.std.specs.Prelude.{◌≡◌, ℕ, ◌+◌, ◌-◌, ◌*◌, ◌/◌, ◌%◌, ◌<◌, ◌≤◌, Some};
-ghost use Rattle.cipher_stream.specs.ByteStream.{bytes_from, to_come, position, IsSame, HasRoomAt, blocks_before, rest_at};
+ghost use Rattle.cipher_stream.specs.ByteStream.{buffered, to_come, position, IsSame, HasRoomAt, blocks_before, rest_at};
 
 use crate::cores::seeking::StreamCipherSeekCore;
 use crate::counters::{StreamCipherCounter, told};
@@ -16,9 +16,10 @@ impl<T: StreamCipherSeekCore<B>, const B: usize> BufferedCore<T, [u8; B]> {
         requires part { byte < B }
         requires further { 0 < byte → T.Counter.value block < T.Counter.most }
         ensures further { 0 < byte → T.Counter.value block < T.Counter.most }
-        ensures same { IsSame (bytes_from B (T.keystream self.old.0) self.old.1) (bytes_from B (T.keystream self.new.0) self.new.1) }
-        ensures placed { position (bytes_from B (T.keystream self.new.0) self.new.1) ≡ Some (T.Counter.value block * B + byte) }
-        ensures ahead { (j : ℕ) → to_come (bytes_from B (T.keystream self.new.0) self.new.1) j ≡ (bytes_from B (T.keystream self.old.0) self.old.1).byte_at (T.Counter.value block * B + byte + j) }
+        ensures same { IsSame (buffered B T.keystream self.old) (buffered B T.keystream self.new) }
+        ensures placed { position (buffered B T.keystream self.new) ≡ Some (T.Counter.value block * B + byte) }
+        ensures ahead { (j : ℕ) → to_come (buffered B T.keystream self.new) j
+            ≡ (buffered B T.keystream self.old).byte_at (T.Counter.value block * B + byte + j) }
         ensures left { T.remaining self.new.0 ≡ T.remaining_at (blocks_before B (T.Counter.value block * B + byte)) }
         ensures rest { self.new.1 ≡ rest_at B (T.Counter.value block * B + byte) }
     {

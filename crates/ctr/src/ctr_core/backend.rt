@@ -4,7 +4,7 @@ ghost use Rattle.std.proofs.Common.{refl, ◌∙◌};
 ghost use Rattle.std.specs.Prelude.{◌≡◌, ℕ, ◌+◌, ◌-◌, ◌%◌, ◌<◌, ◌≤◌, List, Some, length, map};
 ghost use Rattle.cipher.specs.Transcript.{Transcript, Led};
 ghost use Rattle.cipher_stream.specs.Keystream.{Keystream, IsMoved, IsFed, next, stream_of};
-ghost use Rattle.ctr.specs.Counter.{counter_stream, counters, IsCounted};
+ghost use Rattle.ctr.specs.Counter.{counter_stream, counters, IsOfCounters};
 
 use crate::flavors::CtrFlavor;
 use cipher::{BlockCipherEncBackend, BlockCipherEncClosure, BlockCipherEncrypt};
@@ -33,9 +33,11 @@ struct Closure<'a, F: CtrFlavor<B>, G, const B: usize> {
 
 impl<F: CtrFlavor<B>, G: StreamCipherClosure<B>, const B: usize> BlockCipherEncClosure<B>
     for Closure<'_, F, G, B> {
-    ghost keeps = { λ a b. (b.ctr_nonce.ghost_name ≡ a.ctr_nonce.ghost_name) × (b.f.ghost_name ≡ a.f.ghost_name) × G.keeps a.f.now b.f.now };
+    ghost keeps = { λ a b. (b.ctr_nonce.ghost_name ≡ a.ctr_nonce.ghost_name)
+        × (b.f.ghost_name ≡ a.f.ghost_name)
+        × G.keeps a.f.now b.f.now };
 
-    ghost leads = { λ ts a b. IsCounted G.leads ts a.f.now b.f.now
+    ghost leads = { λ ts a b. IsOfCounters G.leads ts a.f.now b.f.now
         (counters F.plus (F.nonce a.ctr_nonce.now) F.period (F.counter a.ctr_nonce.now))
         (counters F.plus (F.nonce b.ctr_nonce.now) F.period (F.counter b.ctr_nonce.now)) };
 
@@ -62,7 +64,8 @@ impl<F: CtrFlavor<B>, K: BlockCipherEncBackend<B>, const B: usize> StreamCipherB
 
     ghost lanes = { λ s. K.lanes s.backend.now };
 
-    ghost keystream = { λ s. counter_stream (K.encrypts s.backend.now) F.plus (F.nonce s.ctr_nonce.now) F.period (F.counter s.ctr_nonce.now) };
+    ghost keystream = { λ s. counter_stream (K.encrypts s.backend.now) F.plus
+        (F.nonce s.ctr_nonce.now) F.period (F.counter s.ctr_nonce.now) };
 
     fn width(&self) -> usize {
         self.backend.width()
@@ -106,7 +109,8 @@ fn write_counters<F: CtrFlavor<B>, const B: usize>(
     ctr_nonce: &mut F::CtrNonce,
     blocks: &mut [[u8; B]],
 )
-    ensures value { blocks.new ≡ next (length blocks.old) (counters F.plus (F.nonce ctr_nonce.old) F.period (F.counter ctr_nonce.old)) }
+    ensures value { blocks.new
+        ≡ next (length blocks.old) (counters F.plus (F.nonce ctr_nonce.old) F.period (F.counter ctr_nonce.old)) }
     ensures counter { F.counter ctr_nonce.new ≡ (F.counter ctr_nonce.old + length blocks.old) % F.period }
     ensures same { F.nonce ctr_nonce.new ≡ F.nonce ctr_nonce.old }
 {

@@ -42,12 +42,14 @@ pub trait CounterWord: StreamCipherCounter {
     /// Adds the counter to a field, high byte first.
     fn add_be(self, field: &mut [u8])
         requires { length field.old ≡ byte_len width }
-        ensures value { field.new ≡ to_be_bytes width ((from_be_bytes width field.old + Self.value self) % field_size width) };
+        ensures value { field.new
+            ≡ to_be_bytes width ((from_be_bytes width field.old + Self.value self) % field_size width) };
 
     /// Adds the counter to a field, low byte first.
     fn add_le(self, field: &mut [u8])
         requires { length field.old ≡ byte_len width }
-        ensures value { field.new ≡ to_le_bytes width ((from_le_bytes width field.old + Self.value self) % field_size width) };
+        ensures value { field.new
+            ≡ to_le_bytes width ((from_le_bytes width field.old + Self.value self) % field_size width) };
 
     ghost zero_is_0: { Self.value zero ≡ 0 };
 

@@ -35,13 +35,27 @@ where
 
     ghost period = { field_size w64 };
 
+    ghost most = { refl };
+
     ghost plus = { plus last w64 };
+
+    ghost repeats = { plus_repeats last w64 };
+
+    ghost adds = { plus-plus last w64 };
+
+    ghost sized = { λ xs i e. length-plus last w64 B xs i ⟦<BlockSizes as WholeChunks<8, B>>⟧.whole.0 e };
 
     ghost nonce = { λ cn. cn.nonce };
 
     ghost counter = { λ cn. cn.ctr % field_size w64 };
 
+    ghost within = { λ cn. below_field w64 cn.ctr };
+
     ghost started = { λ xs. record { ctr = 0; nonce = xs } };
+
+    ghost starts_at = { λ xs. refl };
+
+    ghost starts_at_0 = { λ xs. refl };
 
     fn flavor_name() -> &'static str {
         NAME_BE
@@ -72,20 +86,6 @@ where
     fn as_backend(cn: &CtrNonce64<B>) -> u64 {
         cn.ctr
     }
-
-    ghost within = { λ cn. below_field w64 cn.ctr };
-
-    ghost most = { refl };
-
-    ghost starts_at = { λ xs. refl };
-
-    ghost starts_at_0 = { λ xs. refl };
-
-    ghost repeats = { plus_repeats last w64 };
-
-    ghost adds = { plus-plus last w64 };
-
-    ghost sized = { λ xs i e. length-plus last w64 B xs i ⟦<BlockSizes as WholeChunks<8, B>>⟧.whole.0 e };
 }
 
 /// A counter of 64 bits in the first 8 bytes, low byte first.
@@ -106,13 +106,27 @@ where
 
     ghost period = { field_size w64 };
 
+    ghost most = { refl };
+
     ghost plus = { plus first w64 };
+
+    ghost repeats = { plus_repeats first w64 };
+
+    ghost adds = { plus-plus first w64 };
+
+    ghost sized = { λ xs i e. length-plus first w64 B xs i ⟦<BlockSizes as WholeChunks<8, B>>⟧.whole.0 e };
 
     ghost nonce = { λ cn. cn.nonce };
 
     ghost counter = { λ cn. cn.ctr % field_size w64 };
 
+    ghost within = { λ cn. below_field w64 cn.ctr };
+
     ghost started = { λ xs. record { ctr = 0; nonce = xs } };
+
+    ghost starts_at = { λ xs. refl };
+
+    ghost starts_at_0 = { λ xs. refl };
 
     fn flavor_name() -> &'static str {
         NAME_LE
@@ -143,18 +157,4 @@ where
     fn as_backend(cn: &CtrNonce64<B>) -> u64 {
         cn.ctr
     }
-
-    ghost within = { λ cn. below_field w64 cn.ctr };
-
-    ghost most = { refl };
-
-    ghost starts_at = { λ xs. refl };
-
-    ghost starts_at_0 = { λ xs. refl };
-
-    ghost repeats = { plus_repeats first w64 };
-
-    ghost adds = { plus-plus first w64 };
-
-    ghost sized = { λ xs i e. length-plus first w64 B xs i ⟦<BlockSizes as WholeChunks<8, B>>⟧.whole.0 e };
 }

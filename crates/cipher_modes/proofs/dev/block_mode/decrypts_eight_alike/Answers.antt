@@ -2,5 +2,5 @@ use Rattle.std.proofs.Common.{arith}
 use Rattle.cipher.proofs.Alike.{blocks-same}
 use Rattle.cipher_modes.proofs.dev.block_mode.decrypts_eight_alike.Goals as goal
 
-pub returns-clause-value : goal.returns-clause-value
-returns-clause-value g c = grind (arith, c.requires.same, blocks-same c.decrypt_blocks.new.blocks)
+pub returns : goal.returns
+returns g c = record { alike = (grind (arith, c.requires.same, blocks-same c.decrypt_blocks.new.blocks), grind (arith, c.requires.same)) }

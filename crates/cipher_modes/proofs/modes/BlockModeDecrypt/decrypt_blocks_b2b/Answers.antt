@@ -3,8 +3,5 @@ use Rattle.cipher.proofs.Parts.{pick-same}
 use Rattle.cipher_modes.proofs.LedOnLemmas.{EachBlock-output, EachBlock-state}
 use Rattle.cipher_modes.proofs.modes.BlockModeDecrypt.decrypt_blocks_b2b.Goals as goal
 
-pub returns-clause-value : goal.returns-clause-value
-returns-clause-value g c = grind (arith, EachBlock-output c.decrypt_with_backend.ensures.led, pick-same)
-
-pub returns-clause-stepped : goal.returns-clause-stepped
-returns-clause-stepped g c = grind (arith, EachBlock-state c.decrypt_with_backend.ensures.led, pick-same)
+pub returns-clause-ran : goal.returns-clause-ran
+returns-clause-ran g c = (grind (arith, EachBlock-output c.decrypt_with_backend.ensures.led, pick-same), grind (arith, EachBlock-state c.decrypt_with_backend.ensures.led, pick-same))

@@ -1,7 +1,7 @@
 use Rattle.std.proofs.Common.{◌≡◌, ℕ, ◌-◌, ◌/◌, ◌<◌, ◌∙◌, ap, length, arith, subst, sym}
 use Rattle.std.specs.Prelude.{bit_xor}
 use Rattle.cipher_stream.specs.Keystream.{applied}
-use Rattle.cipher_stream.specs.ByteStream.{to_come, bytes_from, HasMoved, Leaves}
+use Rattle.cipher_stream.specs.ByteStream.{to_come, bytes_from, HasMoved, IsFewer}
 use Rattle.cipher_stream.proofs.BlockBytes.{whole_place}
 use Rattle.cipher_stream.proofs.Rests.{opened, applied_fresh, moved_blocks, leaves_blocks}
 use Rattle.cipher_stream.proofs.wrapper.BufferedCore+T+array+B+u8.apply_blocks.Goals as goal
@@ -34,6 +34,6 @@ returns-clause-leaves g c =
     let n : ℕ = length c.args.bytes.now in
     let none : B - c.self.inside.used ≡ 0 = ap (λ v. v.1) c.self.view_is ∙ c.requires.fresh in
     let leaves = leaves_blocks B (r c.self.inside.core) (r c.apply_whole.new.core) (n / B) some c.apply_whole.ensures.spent in
-    opened (λ t rest. Leaves B (r t) rest n (r c.apply_whole.new.core) (B - c.self.inside.used)) c.self.inside.core (B - c.self.inside.used) c.args.self.now c.self.view_is c.requires.fresh
-    (subst (λ rest. Leaves B (r c.self.inside.core) 0 n (r c.apply_whole.new.core) rest) (sym none)
-    (subst (λ m. Leaves B (r c.self.inside.core) 0 m (r c.apply_whole.new.core) 0) (whole_place B n c.requires.whole) leaves))
+    opened (λ t rest. IsFewer B (r t) rest n (r c.apply_whole.new.core) (B - c.self.inside.used)) c.self.inside.core (B - c.self.inside.used) c.args.self.now c.self.view_is c.requires.fresh
+    (subst (λ rest. IsFewer B (r c.self.inside.core) 0 n (r c.apply_whole.new.core) rest) (sym none)
+    (subst (λ m. IsFewer B (r c.self.inside.core) 0 m (r c.apply_whole.new.core) 0) (whole_place B n c.requires.whole) leaves))

@@ -1,10 +1,10 @@
 use Rattle.std.proofs.Common.{◌≡◌, ℕ, ◌+◌, ◌-◌, ◌*◌, ◌/◌, ◌%◌, ◌≤◌, ◌++◌, ◌∙◌, List, refl, ap, take, drop, length, arith, subst, length-take, length-drop}
 use Rattle.std.proofs.Math.Nat.{mul-mod_left, div-mul-le_self}
 use Rattle.std.specs.Prelude.{bit_xor}
-use Rattle.cipher_stream.specs.ByteStream.{to_come, bytes_from, HasMoved}
+use Rattle.cipher_stream.specs.ByteStream.{to_come, buffered, HasMoved}
 use Rattle.cipher_stream.proofs.Applied.{length_so_far}
 use Rattle.cipher_stream.proofs.Places.{moved_both}
-use Rattle.cipher_stream.proofs.Rests.{applied_then}
+use Rattle.cipher_stream.proofs.Rests.{applied_then, moved_whole}
 use Rattle.cipher_stream.proofs.wrapper.BufferedCore+T+array+B+u8.apply_fresh.Goals as goal
 
 pub apply_blocks-requires : goal.apply_blocks-requires
@@ -19,30 +19,24 @@ apply_blocks-requires g c =
 pub returns-then-whole-bytes-clause-value : goal.returns-then-whole-bytes-clause-value
 returns-then-whole-bytes-clause-value g c =
     let B = g.row.B in
-    let k = g.T.StreamCipherCore.keystream in
     let old = c.args.bytes.now in
     let at : ℕ = length old / B * B in
-    let le : at ≤ length old = div-mul-le_self (length old) B in
-    let ln : length (take at old) ≡ at = simp length-take (omega arith) in
-    let s = bytes_from B (k c.args.self.now.0) c.args.self.now.1 in
-    let t = bytes_from B (k c.apply_blocks.new.self.0) c.apply_blocks.new.self.1 in
-    let moved : HasMoved s at t = subst (λ m. HasMoved s m t) ln c.apply_blocks.ensures.moved in
-    applied_then (to_come s) (to_come t) old (c.apply_blocks.new.bytes ++ drop at old) c.apply_last.new.bytes at _ le (ap (λ l. l ++ drop at old) c.apply_blocks.ensures.value) refl moved.ahead c.apply_last.ensures.value
+    let s = buffered B g.T.StreamCipherCore.keystream c.args.self.now in
+    let t = buffered B g.T.StreamCipherCore.keystream c.apply_blocks.new.self in
+    applied_then (to_come s) (to_come t) old (c.apply_blocks.new.bytes ++ drop at old) c.apply_last.new.bytes at _ (div-mul-le_self (length old) B) (ap (λ l. l ++ drop at old) c.apply_blocks.ensures.value) refl
+    (moved_whole s t B old c.apply_blocks.ensures.moved).ahead c.apply_last.ensures.value
 
 pub returns-then-whole-bytes-clause-moved : goal.returns-then-whole-bytes-clause-moved
 returns-then-whole-bytes-clause-moved g c =
     let B = g.row.B in
-    let k = g.T.StreamCipherCore.keystream in
     let old = c.args.bytes.now in
+    let s = buffered B g.T.StreamCipherCore.keystream c.args.self.now in
+    let t = buffered B g.T.StreamCipherCore.keystream c.apply_blocks.new.self in
+    let u = buffered B g.T.StreamCipherCore.keystream c.apply_last.new.self in
     let at : ℕ = length old / B * B in
     let le : at ≤ length old = div-mul-le_self (length old) B in
-    let ln : length (take at old) ≡ at = simp length-take (omega arith) in
-    let s = bytes_from B (k c.args.self.now.0) c.args.self.now.1 in
-    let t = bytes_from B (k c.apply_blocks.new.self.0) c.apply_blocks.new.self.1 in
-    let u = bytes_from B (k c.apply_last.new.self.0) c.apply_last.new.self.1 in
-    let moved : HasMoved s at t = subst (λ m. HasMoved s m t) ln c.apply_blocks.ensures.moved in
     let cur : List ℕ = c.apply_blocks.new.bytes ++ drop at old in
     let size : length cur ≡ length old = length_so_far bit_xor (to_come s) old cur at (ap (λ l. l ++ drop at old) c.apply_blocks.ensures.value) in
     let left : length (take (length cur - at) (drop at cur)) ≡ length old - at = simp (length-take, length-drop) (omega arith) in
     let all : at + (length old - at) ≡ length old = omega arith in
-    subst (λ m. HasMoved s m u) all (moved_both s t u at (length old - at) moved (subst (λ m. HasMoved t m u) left c.apply_last.ensures.moved))
+    subst (λ m. HasMoved s m u) all (moved_both s t u at (length old - at) (moved_whole s t B old c.apply_blocks.ensures.moved) (subst (λ m. HasMoved t m u) left c.apply_last.ensures.moved))

@@ -1,7 +1,7 @@
 use Rattle.std.proofs.Common.{◌≡◌, ℕ, ◌-◌, ◌<◌, ◌∙◌, length, arith}
 use Rattle.std.specs.Prelude.{bit_xor}
 use Rattle.cipher_stream.specs.Keystream.{applied}
-use Rattle.cipher_stream.specs.ByteStream.{to_come, bytes_from, HasMoved, Leaves}
+use Rattle.cipher_stream.specs.ByteStream.{to_come, bytes_from, HasMoved, IsFewer}
 use Rattle.cipher_stream.proofs.BlockBytes.{applied_first}
 use Rattle.cipher_stream.proofs.Rests.{opened, applied_fresh, moved_last, leaves_last, rest_of_block}
 use Rattle.cipher_stream.proofs.wrapper.BufferedCore+T+array+B+u8.apply_last.Goals as goal
@@ -34,5 +34,5 @@ returns-clause-leaves g c =
     let r = g.T.StreamCipherCore.remaining in
     let some : 0 < B = omega (arith, g.met.T.StreamCipherCore.block_size) in
     let n : ℕ = length c.args.bytes.now in
-    opened (λ t rest. Leaves B (r t) rest n (r c.write_keystream_block.new.self) (B - n)) c.self.inside.core (B - c.self.inside.used) c.args.self.now c.self.view_is c.requires.fresh
+    opened (λ t rest. IsFewer B (r t) rest n (r c.write_keystream_block.new.self) (B - n)) c.self.inside.core (B - c.self.inside.used) c.args.self.now c.self.view_is c.requires.fresh
     (leaves_last B (r c.self.inside.core) (r c.write_keystream_block.new.self) n some c.requires.some (omega arith) c.write_keystream_block.ensures.spent)

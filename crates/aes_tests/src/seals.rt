@@ -5,49 +5,37 @@ ghost use Rattle.std.specs.Prelude.{◌≡◌, ◌≤◌, ◌+◌, ◌-◌, leng
 use crate::expected::{check, expect};
 use aes_block::{Aes128, Aes256};
 use cipher::{BlockCipherEncrypt, KeyInit};
-use gcm::{Gcm, GcmError, GcmSiv};
+use gcm::{Gcm, GcmError, GcmResult, GcmSiv};
 
 /// GCM or GCM-SIV under a key.
 pub trait Sealer {
     /// Seals a text.
-    fn seal(&self, nonce: &[u8], aad: &[u8], text: &[u8], out: &mut [u8]) -> Result<(), GcmError>
+    fn seal(&self, nonce: &[u8], aad: &[u8], text: &[u8], out: &mut [u8]) -> GcmResult
         requires nonce { length nonce.now ≡ 12 }
         requires room { length out.old ≡ length text.now + 16 };
 
     /// Opens what was sealed.
-    fn open(&self, nonce: &[u8], aad: &[u8], sealed: &[u8], out: &mut [u8]) -> Result<(), GcmError>
+    fn open(&self, nonce: &[u8], aad: &[u8], sealed: &[u8], out: &mut [u8]) -> GcmResult
         requires nonce { length nonce.now ≡ 12 }
         requires room { length out.old ≡ length sealed.now - 16 };
 }
 
 impl<C: BlockCipherEncrypt<16>> Sealer for Gcm<C> {
-    fn seal(&self, nonce: &[u8], aad: &[u8], text: &[u8], out: &mut [u8]) -> Result<(), GcmError> {
+    fn seal(&self, nonce: &[u8], aad: &[u8], text: &[u8], out: &mut [u8]) -> GcmResult {
         self.seal_into(nonce, aad, text, out)
     }
 
-    fn open(
-        &self,
-        nonce: &[u8],
-        aad: &[u8],
-        sealed: &[u8],
-        out: &mut [u8],
-    ) -> Result<(), GcmError> {
+    fn open(&self, nonce: &[u8], aad: &[u8], sealed: &[u8], out: &mut [u8]) -> GcmResult {
         self.open_into(nonce, aad, sealed, out)
     }
 }
 
 impl<C: KeyInit<K> + BlockCipherEncrypt<16> + Drop, const K: usize> Sealer for GcmSiv<C, K> {
-    fn seal(&self, nonce: &[u8], aad: &[u8], text: &[u8], out: &mut [u8]) -> Result<(), GcmError> {
+    fn seal(&self, nonce: &[u8], aad: &[u8], text: &[u8], out: &mut [u8]) -> GcmResult {
         self.seal_into(nonce, aad, text, out)
     }
 
-    fn open(
-        &self,
-        nonce: &[u8],
-        aad: &[u8],
-        sealed: &[u8],
-        out: &mut [u8],
-    ) -> Result<(), GcmError> {
+    fn open(&self, nonce: &[u8], aad: &[u8], sealed: &[u8], out: &mut [u8]) -> GcmResult {
         self.open_into(nonce, aad, sealed, out)
     }
 }

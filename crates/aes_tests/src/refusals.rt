@@ -6,7 +6,7 @@ ghost use Rattle.standards.specs.Gcm.{gcm};
 use crate::expected::expect;
 use aes_block::Aes128;
 use cipher::{BlockCipherEncrypt, KeyInit};
-use gcm::{Gcm, GcmError, GcmSiv};
+use gcm::{Gcm, GcmError, GcmResult, GcmSiv};
 
 const SEALED: [u8; 20] =
     *b"\x03\x88\xda\xce\xa6\x89\x6c\x35\x5d\x1c\x29\x70\x9b\x9d\x0c\x49\x02\x23\x7f\x1b";
@@ -25,7 +25,7 @@ fn seal_four<C: BlockCipherEncrypt<16>>(
 }
 
 // The four bytes opened under other data, and what stands in the output.
-fn opened_under_other_data(g: &Gcm<Aes128>) -> (Result<(), GcmError>, [u8; 4]) {
+fn opened_under_other_data(g: &Gcm<Aes128>) -> (GcmResult, [u8; 4]) {
     let mut out = [9u8; 4];
     let told = g.open_into(&[0; 12], b"x", &SEALED, &mut out);
     (told, out)
