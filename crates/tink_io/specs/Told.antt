@@ -24,6 +24,10 @@ abbrev pub Tells : {T : Type 0} → Result T TinkError → Result T Kind → Typ
 Tells (Ok v) told = told ≡ Ok v
 Tells (Err e) told = told ≡ Err e.kind
 
+-- there is no memory, or the kind is this one and the fact holds
+abbrev pub OutOfMemoryOr : Kind → Kind → Type 0 → Type 0
+OutOfMemoryOr refusal kind fact = (kind ≡ OutOfMemory) ⊎ ((kind ≡ refusal) × fact)
+
 -- there is no memory, and the draws that are left are an end of what there was
 pub record IsShort (k : Kind) (before now : List ℕ) : Type 0 where
   pub kind : k ≡ OutOfMemory

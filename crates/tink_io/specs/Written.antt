@@ -18,3 +18,7 @@ WritesOrFaults old new before now bs = Appends old new bs ⊎ (AppendsFront old 
 abbrev pub Writes : Option (List ℕ) → Option (List ℕ) → ℕ → ℕ → Result (Unit {0}) TinkError → List ℕ → Type 0
 Writes old new before now (Ok _) bs = Appends old new bs × (before ≤ now)
 Writes old new before now (Err e) bs = AppendsFront old new bs × (before ≤ now) × Rose before now × (e ≡ record { kind = WriteFault })
+
+-- the same of a sink, by what it has taken and its faults
+abbrev pub WritesTo : {K : Type 0} → (K → Option (List ℕ)) → (K → ℕ) → K → K → Result (Unit {0}) TinkError → List ℕ → Type 0
+WritesTo got faults old new result bs = Writes (got old) (got new) (faults old) (faults new) result bs

@@ -5,7 +5,7 @@ ghost use Rattle.std.specs.Fmt.{signed_decimal};
 ghost use Rattle.std.specs.Io.KnownBytes.{Appends};
 ghost use Rattle.tink_io.specs.Faults.{Rose};
 ghost use Rattle.tink_io.specs.Texts.{kind_line, kind_rest, kind_text, cause_number, cause_text};
-ghost use Rattle.tink_io.specs.Written.{AppendsFront, Writes, WritesOrFaults};
+ghost use Rattle.tink_io.specs.Written.{AppendsFront, WritesOrFaults, WritesTo};
 ghost use Rattle.tink_io.specs.declared.error.Kind.TheVariants.{WriteFault};
 
 use crate::{Cause, Kind, Sink, TinkError};
@@ -43,7 +43,7 @@ pub fn write_line<K: Sink>(sink: &mut K, kind: Kind)
 
 // The same, with its answer.
 fn try_line<K: Sink>(sink: &mut K, kind: Kind) -> Result<(), TinkError>
-    ensures writes { Writes (K.got sink.old) (K.got sink.new) (K.faults sink.old) (K.faults sink.new) result (kind_line kind) }
+    ensures writes { WritesTo K.got K.faults sink.old sink.new result (kind_line kind) }
     ensures same { K.same sink.old sink.new }
 {
     put_kind(sink, kind)?;
@@ -52,7 +52,7 @@ fn try_line<K: Sink>(sink: &mut K, kind: Kind) -> Result<(), TinkError>
 
 // Writes the text of a kind.
 fn put_kind<K: Sink>(sink: &mut K, kind: Kind) -> Result<(), TinkError>
-    ensures writes { Writes (K.got sink.old) (K.got sink.new) (K.faults sink.old) (K.faults sink.new) result (kind_text kind) }
+    ensures writes { WritesTo K.got K.faults sink.old sink.new result (kind_text kind) }
     ensures same { K.same sink.old sink.new }
 {
     put(sink, kind.words().as_bytes())?;
@@ -61,7 +61,7 @@ fn put_kind<K: Sink>(sink: &mut K, kind: Kind) -> Result<(), TinkError>
 
 // Writes a kind's number or the text of its cause.
 fn put_rest<K: Sink>(sink: &mut K, kind: Kind) -> Result<(), TinkError>
-    ensures writes { Writes (K.got sink.old) (K.got sink.new) (K.faults sink.old) (K.faults sink.new) result (kind_rest kind) }
+    ensures writes { WritesTo K.got K.faults sink.old sink.new result (kind_rest kind) }
     ensures same { K.same sink.old sink.new }
 {
     match kind {
@@ -74,7 +74,7 @@ fn put_rest<K: Sink>(sink: &mut K, kind: Kind) -> Result<(), TinkError>
 
 // Writes the text of a cause.
 fn put_cause<K: Sink>(sink: &mut K, cause: Cause) -> Result<(), TinkError>
-    ensures writes { Writes (K.got sink.old) (K.got sink.new) (K.faults sink.old) (K.faults sink.new) result (cause_text cause) }
+    ensures writes { WritesTo K.got K.faults sink.old sink.new result (cause_text cause) }
     ensures same { K.same sink.old sink.new }
 {
     put(sink, cause.words().as_bytes())?;
@@ -83,7 +83,7 @@ fn put_cause<K: Sink>(sink: &mut K, cause: Cause) -> Result<(), TinkError>
 
 // Writes a cause's number.
 fn put_number<K: Sink>(sink: &mut K, cause: Cause) -> Result<(), TinkError>
-    ensures writes { Writes (K.got sink.old) (K.got sink.new) (K.faults sink.old) (K.faults sink.new) result (cause_number cause) }
+    ensures writes { WritesTo K.got K.faults sink.old sink.new result (cause_number cause) }
     ensures same { K.same sink.old sink.new }
 {
     match cause {
@@ -94,7 +94,7 @@ fn put_number<K: Sink>(sink: &mut K, cause: Cause) -> Result<(), TinkError>
 
 // Writes a number in decimal digits, with a sign where it is below 0.
 fn put_signed<K: Sink>(sink: &mut K, number: i32) -> Result<(), TinkError>
-    ensures writes { Writes (K.got sink.old) (K.got sink.new) (K.faults sink.old) (K.faults sink.new) result (signed_decimal number) }
+    ensures writes { WritesTo K.got K.faults sink.old sink.new result (signed_decimal number) }
     ensures same { K.same sink.old sink.new }
 {
     if number >= 0 {
@@ -106,7 +106,7 @@ fn put_signed<K: Sink>(sink: &mut K, number: i32) -> Result<(), TinkError>
 
 // Writes a number in decimal digits.
 fn put_decimal<K: Sink>(sink: &mut K, number: u32) -> Result<(), TinkError>
-    ensures writes { Writes (K.got sink.old) (K.got sink.new) (K.faults sink.old) (K.faults sink.new) result (decimal number) }
+    ensures writes { WritesTo K.got K.faults sink.old sink.new result (decimal number) }
     ensures same { K.same sink.old sink.new }
 {
     if number < 10 {
@@ -119,7 +119,7 @@ fn put_decimal<K: Sink>(sink: &mut K, number: u32) -> Result<(), TinkError>
 // Writes one decimal digit.
 fn put_digit<K: Sink>(sink: &mut K, digit: u32) -> Result<(), TinkError>
     requires { digit < 10 }
-    ensures writes { Writes (K.got sink.old) (K.got sink.new) (K.faults sink.old) (K.faults sink.new) result ((48 + digit) ∷ []) }
+    ensures writes { WritesTo K.got K.faults sink.old sink.new result ((48 + digit) ∷ []) }
     ensures same { K.same sink.old sink.new }
 {
     put(sink, &[b'0' + digit as u8])
@@ -127,7 +127,7 @@ fn put_digit<K: Sink>(sink: &mut K, digit: u32) -> Result<(), TinkError>
 
 // Writes all of the bytes, told by one word.
 fn put<K: Sink>(sink: &mut K, bytes: &[u8]) -> Result<(), TinkError>
-    ensures writes { Writes (K.got sink.old) (K.got sink.new) (K.faults sink.old) (K.faults sink.new) result bytes.now }
+    ensures writes { WritesTo K.got K.faults sink.old sink.new result bytes.now }
     ensures same { K.same sink.old sink.new }
 {
     write_all(sink, bytes)

@@ -20,18 +20,31 @@ macro_rules! read_as {
 
 // The body of `write_fields`.
 macro_rules! write_fields {
-    ($message:ident, $alloc:ident, $out:ident; $($number:literal $kind:ident $name:ident),*) => {{
-        $($crate::fields::write_as!($kind, $out, $alloc, $number, $message.$name)?;)*
-        Ok(())
+    ($message:ident, $alloc:ident, $out:ident; $number:literal $kind:ident $name:ident) => {
+        $crate::fields::write_as!($kind, $out, $alloc, $number, $message.$name)
+    };
+    ($message:ident, $alloc:ident, $out:ident; $number:literal $kind:ident $name:ident, $($rest:tt)+) => {{
+        $crate::fields::write_as!($kind, $out, $alloc, $number, $message.$name)?;
+        $crate::fields::write_fields!($message, $alloc, $out; $($rest)+)
     }};
 }
 
 macro_rules! write_as {
-    (number, $out:ident, $alloc:ident, $number:literal, $slot:expr) => { tink_proto::wire::put_number($out, $number, $slot) };
-    (choice, $out:ident, $alloc:ident, $number:literal, $slot:expr) => { tink_proto::wire::put_enum($out, $number, $slot) };
-    (bytes, $out:ident, $alloc:ident, $number:literal, $slot:expr) => { tink_proto::wire::put_bytes($out, $number, $slot.as_slice()) };
-    (text, $out:ident, $alloc:ident, $number:literal, $slot:expr) => { tink_proto::wire::put_text($out, $number, $slot.as_str()) };
-    (message, $out:ident, $alloc:ident, $number:literal, $slot:expr) => { tink_proto::wire::put_message($out, $alloc, $number, &$slot) };
+    (number, $out:ident, $alloc:ident, $number:literal, $slot:expr) => {
+        tink_proto::wire::put_number($out, $number, $slot)
+    };
+    (choice, $out:ident, $alloc:ident, $number:literal, $slot:expr) => {
+        tink_proto::wire::put_enum($out, $number, $slot)
+    };
+    (bytes, $out:ident, $alloc:ident, $number:literal, $slot:expr) => {
+        tink_proto::wire::put_bytes($out, $number, $slot.as_slice())
+    };
+    (text, $out:ident, $alloc:ident, $number:literal, $slot:expr) => {
+        tink_proto::wire::put_text($out, $number, $slot.as_str())
+    };
+    (message, $out:ident, $alloc:ident, $number:literal, $slot:expr) => {
+        tink_proto::wire::put_message($out, $alloc, $number, &$slot)
+    };
 }
 
 // The body of `try_clone`.

@@ -33,16 +33,25 @@ impl Message for AesCtrHmacStreamingParams {
     }
 
     fn read_field(&mut self, alloc: Global, field: &Field) -> Result<(), ProtoError> {
-        read_fields!(self, alloc, field; 1 number ciphertext_segment_size, 2 number derived_key_size, 3 choice hkdf_hash_type, 4 message hmac_params)
+        read_fields!(
+            self, alloc, field;
+            1 number ciphertext_segment_size, 2 number derived_key_size, 3 choice hkdf_hash_type, 4 message hmac_params
+        )
     }
 
     #[tactic(auto, using(std::proofs::Common::append_assoc, wire_format::proofs::WritingLaws::spelling_append))]
     fn write_fields(&self, alloc: Global, out: &mut Vec<u8>) -> Result<(), AllocError> {
-        write_fields!(self, alloc, out; 1 number ciphertext_segment_size, 2 number derived_key_size, 3 choice hkdf_hash_type, 4 message hmac_params)
+        write_fields!(
+            self, alloc, out;
+            1 number ciphertext_segment_size, 2 number derived_key_size, 3 choice hkdf_hash_type, 4 message hmac_params
+        )
     }
 
     fn try_clone(&self, alloc: Global) -> Result<AesCtrHmacStreamingParams, ProtoError> {
-        clone_fields!(AesCtrHmacStreamingParams, self, alloc; number ciphertext_segment_size, number derived_key_size, choice hkdf_hash_type, message hmac_params)
+        clone_fields!(
+            AesCtrHmacStreamingParams, self, alloc;
+            number ciphertext_segment_size, number derived_key_size, choice hkdf_hash_type, message hmac_params
+        )
     }
 }
 
@@ -142,16 +151,25 @@ impl Message for AesGcmHkdfStreamingParams {
     }
 
     fn read_field(&mut self, _alloc: Global, field: &Field) -> Result<(), ProtoError> {
-        read_fields!(self, _alloc, field; 1 number ciphertext_segment_size, 2 number derived_key_size, 3 choice hkdf_hash_type)
+        read_fields!(
+            self, _alloc, field;
+            1 number ciphertext_segment_size, 2 number derived_key_size, 3 choice hkdf_hash_type
+        )
     }
 
     #[tactic(auto, using(std::proofs::Common::append_assoc, wire_format::proofs::WritingLaws::spelling_append))]
     fn write_fields(&self, _alloc: Global, out: &mut Vec<u8>) -> Result<(), AllocError> {
-        write_fields!(self, _alloc, out; 1 number ciphertext_segment_size, 2 number derived_key_size, 3 choice hkdf_hash_type)
+        write_fields!(
+            self, _alloc, out;
+            1 number ciphertext_segment_size, 2 number derived_key_size, 3 choice hkdf_hash_type
+        )
     }
 
     fn try_clone(&self, _alloc: Global) -> Result<AesGcmHkdfStreamingParams, ProtoError> {
-        clone_fields!(AesGcmHkdfStreamingParams, self, _alloc; number ciphertext_segment_size, number derived_key_size, choice hkdf_hash_type)
+        clone_fields!(
+            AesGcmHkdfStreamingParams, self, _alloc;
+            number ciphertext_segment_size, number derived_key_size, choice hkdf_hash_type
+        )
     }
 }
 

@@ -213,6 +213,10 @@ pub record TookField (bytes : List ℕ) (x : Next) : Type 0 where
   pub field : IsField front x.0
   pub some : 0 < length front
 
+-- bytes before others, which are some before the rest, and so are both before the rest
+whole_of_parts : (bytes front others middle rest : List ℕ) → bytes ≡ front ++ others → others ≡ middle ++ rest → bytes ≡ (front ++ middle) ++ rest
+whole_of_parts bytes front others middle rest first second = first ∙ ap (λ (r : List ℕ). front ++ r) second ∙ sym (append_assoc front middle rest)
+
 pub field_takes : (bytes : List ℕ) (x : Next) → field_at bytes ≡ Some x → TookField bytes x
 unfolding field_at
 field_takes bytes x e =
@@ -225,13 +229,13 @@ field_takes bytes x e =
     let k = varint_takes 10 bytes a.0 a.1 in
     let c = content_takes (a.0.0 % 8) a.0.1 b.0 b.1 in
     let key : a.0.0 ≡ a.0.0 / 8 * 8 + type_of b.0.0 = omega (arith, c.type_is) in
-    let whole : bytes ≡ (k.front ++ c.front) ++ b.0.1 = k.whole ∙ ap (λ (r : List ℕ). k.front ++ r) c.whole ∙ sym (append_assoc k.front c.front b.0.1) in
-    let varint : IsVarint k.front (a.0.0 / 8 * 8 + type_of b.0.0) = subst (IsVarint k.front) key (record { short = k.short; small = k.small; value = k.stands }) in
+    let whole : bytes ≡ (k.front ++ c.front) ++ b.0.1 = whole_of_parts bytes k.front a.0.1 c.front b.0.1 k.whole c.whole in
+    let varint : IsVarint k.front (a.0.0 / 8 * 8 + type_of b.0.0) = subst (IsVarint k.front) {y = a.0.0 / 8 * 8 + type_of b.0.0} key (record { short = k.short; small = k.small; value = k.stands }) in
     let made : Next = (record { number = a.0.0 / 8; content = b.0.0 }, b.0.1) in
-    subst (TookField bytes) (some_is made x b.2) (record {
+    subst (TookField bytes) {x = made} (some_is made x b.2) (record {
       front = k.front ++ c.front;
       whole = whole;
-      field = record { front = k.front; rest = c.front; whole = refl; key = varint; small = omega (arith, key, high); numbered = omega (arith, low); content = c.content };
+      field = record { front = k.front; rest = c.front; whole = refl {a = k.front ++ c.front}; key = varint; small = omega (arith, key, high); numbered = omega (arith, low); content = c.content };
       some = omega (arith, k.some, length-append k.front c.front);
     })
 

@@ -37,8 +37,7 @@ impl Message for KeysetInfo {
     #[tactic(auto, using(std::proofs::Common::append_assoc, wire_format::proofs::WritingLaws::spelling_append))]
     fn write_fields(&self, alloc: Global, out: &mut Vec<u8>) -> Result<(), AllocError> {
         put_number(out, 1, self.primary_key_id)?;
-        put_list(out, alloc, 2, &self.key_info)?;
-        Ok(())
+        put_list(out, alloc, 2, &self.key_info)
     }
 
     fn try_clone(&self, alloc: Global) -> Result<KeysetInfo, ProtoError> {
@@ -89,8 +88,7 @@ impl Message for KeyInfo {
         put_text(out, 1, self.type_url.as_str())?;
         put_enum(out, 2, self.status)?;
         put_number(out, 3, self.key_id)?;
-        put_enum(out, 4, self.output_prefix_type)?;
-        Ok(())
+        put_enum(out, 4, self.output_prefix_type)
     }
 
     fn try_clone(&self, alloc: Global) -> Result<KeyInfo, ProtoError> {
@@ -134,8 +132,7 @@ impl Message for EncryptedKeyset {
     #[tactic(auto, using(std::proofs::Common::append_assoc, wire_format::proofs::WritingLaws::spelling_append))]
     fn write_fields(&self, alloc: Global, out: &mut Vec<u8>) -> Result<(), AllocError> {
         put_bytes(out, 2, self.encrypted_keyset.as_slice())?;
-        put_message(out, alloc, 3, &self.keyset_info)?;
-        Ok(())
+        put_message(out, alloc, 3, &self.keyset_info)
     }
 
     fn try_clone(&self, alloc: Global) -> Result<EncryptedKeyset, ProtoError> {

@@ -38,8 +38,7 @@ impl Message for Keyset {
     #[tactic(auto, using(std::proofs::Common::append_assoc, wire_format::proofs::WritingLaws::spelling_append))]
     fn write_fields(&self, alloc: Global, out: &mut Vec<u8>) -> Result<(), AllocError> {
         put_number(out, 1, self.primary_key_id)?;
-        put_list(out, alloc, 2, &self.key)?;
-        Ok(())
+        put_list(out, alloc, 2, &self.key)
     }
 
     fn try_clone(&self, alloc: Global) -> Result<Keyset, ProtoError> {
@@ -142,8 +141,7 @@ impl Message for KeyData {
     fn write_fields(&self, _alloc: Global, out: &mut Vec<u8>) -> Result<(), AllocError> {
         put_text(out, 1, self.type_url.as_str())?;
         put_bytes(out, 2, self.value.as_slice())?;
-        put_enum(out, 3, self.key_material_type)?;
-        Ok(())
+        put_enum(out, 3, self.key_material_type)
     }
 
     fn try_clone(&self, alloc: Global) -> Result<KeyData, ProtoError> {
@@ -192,8 +190,7 @@ impl Message for KeyTemplate {
     fn write_fields(&self, _alloc: Global, out: &mut Vec<u8>) -> Result<(), AllocError> {
         put_text(out, 1, self.type_url.as_str())?;
         put_bytes(out, 2, self.value.as_slice())?;
-        put_enum(out, 3, self.output_prefix_type)?;
-        Ok(())
+        put_enum(out, 3, self.output_prefix_type)
     }
 
     fn try_clone(&self, alloc: Global) -> Result<KeyTemplate, ProtoError> {

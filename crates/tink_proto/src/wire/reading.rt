@@ -32,7 +32,8 @@ pub struct Field<'a> {
 // The number that at most k bytes in front stand for, and what follows.
 #[tactic(auto, unfolding(wire_format::specs::Reading::varint_in))]
 fn varint_from(k: u32, bytes: &[u8]) -> Option<(u64, &[u8])>
-    ensures { MatchOption result (varint_in k bytes.now ≡ None) (λ x. varint_in k bytes.now ≡ Some (x.0, x.1.now)) }
+    ensures { MatchOption result (varint_in k bytes.now ≡ None)
+        (λ x. varint_in k bytes.now ≡ Some (x.0, x.1.now)) }
 {
     if k == 0 {
         return None;
@@ -53,7 +54,8 @@ fn varint_from(k: u32, bytes: &[u8]) -> Option<(u64, &[u8])>
 // So many bytes, and what follows.
 #[tactic(auto, unfolding(wire_format::specs::Reading::bytes_at))]
 fn bytes_from(n: u64, bytes: &[u8]) -> Option<(&[u8], &[u8])>
-    ensures { MatchOption result (bytes_at n bytes.now ≡ None) (λ x. bytes_at n bytes.now ≡ Some (x.0.now, x.1.now)) }
+    ensures { MatchOption result (bytes_at n bytes.now ≡ None)
+        (λ x. bytes_at n bytes.now ≡ Some (x.0.now, x.1.now)) }
 {
     if (bytes.len() as u64) < n {
         return None;
@@ -64,7 +66,8 @@ fn bytes_from(n: u64, bytes: &[u8]) -> Option<(&[u8], &[u8])>
 // The content of a type, and what follows.
 #[tactic(auto, unfolding(wire_format::specs::Reading::content_at))]
 fn content_from(wire_type: u64, bytes: &[u8]) -> Option<(Content<'_>, &[u8])>
-    ensures { MatchOption result (content_at wire_type bytes.now ≡ None) (λ x. content_at wire_type bytes.now ≡ Some (content_of x.0, x.1.now)) }
+    ensures { MatchOption result (content_at wire_type bytes.now ≡ None)
+        (λ x. content_at wire_type bytes.now ≡ Some (content_of x.0, x.1.now)) }
 {
     if wire_type == 0 {
         let (n, rest) = varint_from(10, bytes)?;
@@ -90,7 +93,8 @@ fn content_from(wire_type: u64, bytes: &[u8]) -> Option<(Content<'_>, &[u8])>
 /// is 0, its key is 2^32 or more, or its type is 3, 4, 6 or 7.
 #[tactic(auto, unfolding(wire_format::specs::Reading::field_at))]
 pub fn next_field(bytes: &[u8]) -> Option<(Field<'_>, &[u8])>
-    ensures { MatchOption result (field_at bytes.now ≡ None) (λ x. field_at bytes.now ≡ Some (field_of x.0, x.1.now)) }
+    ensures { MatchOption result (field_at bytes.now ≡ None)
+        (λ x. field_at bytes.now ≡ Some (field_of x.0, x.1.now)) }
 {
     let (key, rest) = varint_from(10, bytes)?;
     if key < 8 {

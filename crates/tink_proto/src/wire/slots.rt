@@ -53,7 +53,8 @@ pub fn read_message<M: Message>(
     alloc: Global,
     content: &Content,
 ) -> Result<(), ProtoError>
-    ensures reads { Becomes BadMessage result slot.new (merged (M.table).step (M.table).start slot.old (content_of content.now)) }
+    ensures reads { Becomes BadMessage result slot.new
+        (merged (M.table).step (M.table).start slot.old (content_of content.now)) }
     ensures err { OnErr result (slot.new ≡ None) }
 {
     let mut message = match slot.take() {

@@ -41,8 +41,7 @@ fn put_key(out: &mut Vec<u8>, number: u32, wire_type: u64) -> Result<(), AllocEr
     requires { wire_type < 8 }
     ensures { OnOk result (out.new.items ≡ out.old.items ++ varint (number * 8 + wire_type)) }
 {
-    put_varint(out, number as u64 * 8 + wire_type)?;
-    Ok(())
+    put_varint(out, number as u64 * 8 + wire_type)
 }
 
 // Writes a varint that is not 0.
@@ -78,7 +77,8 @@ pub fn put_number(out: &mut Vec<u8>, number: u32, value: u32) -> Result<(), Allo
 
 /// Writes the number of an enum, if it is not 0; below 0 as its 64 bits.
 pub fn put_enum(out: &mut Vec<u8>, number: u32, value: i32) -> Result<(), AllocError>
-    ensures bytes { OnOk result (out.new.items ≡ out.old.items ++ spelling (map (at number) (unless_zero (cast_unsigned w64 value)))) }
+    ensures bytes { OnOk result (out.new.items
+        ≡ out.old.items ++ spelling (map (at number) (unless_zero (cast_unsigned w64 value)))) }
     ensures fits { OnOk result (IsTrue (fits_enum value)) }
 {
     put_nonzero(out, number, i64::from(value).cast_unsigned())
@@ -111,7 +111,8 @@ fn put_nested<M: Message>(
     number: u32,
     message: &M,
 ) -> Result<(), AllocError>
-    ensures bytes { OnOk result (out.new.items ≡ out.old.items ++ spelling (at number (body M.table message.now) ∷ [])) }
+    ensures bytes { OnOk result (out.new.items
+        ≡ out.old.items ++ spelling (at number (body M.table message.now) ∷ [])) }
     ensures fits { OnOk result (IsTrue (fits_body M.table message.now)) }
 {
     let mut fields = Vec::new(alloc);
@@ -126,7 +127,8 @@ pub fn put_message<M: Message>(
     number: u32,
     message: &Option<M>,
 ) -> Result<(), AllocError>
-    ensures bytes { OnOk result (out.new.items ≡ out.old.items ++ spelling (map (at number) (option_body M.table message.now))) }
+    ensures bytes { OnOk result (out.new.items
+        ≡ out.old.items ++ spelling (map (at number) (option_body M.table message.now))) }
     ensures fits { OnOk result (IsTrue (fits_option M.table message.now)) }
 {
     match message {
@@ -142,7 +144,8 @@ pub fn put_list<M: Message>(
     number: u32,
     messages: &Repeated<M>,
 ) -> Result<(), AllocError>
-    ensures bytes { OnOk result (out.new.items ≡ out.old.items ++ spelling (map (at number) (map (body M.table) messages.now))) }
+    ensures bytes { OnOk result (out.new.items
+        ≡ out.old.items ++ spelling (map (at number) (map (body M.table) messages.now))) }
     ensures fits { OnOk result (IsTrue (fit_bodies M.table messages.now)) }
 {
     let messages = messages.as_slice();
