@@ -1,6 +1,6 @@
 //! The entries of sets.
 
-ghost use Rattle.std.specs.Prelude.{◌≡◌, ◌⊎◌, Ok, Err, IfOk, IfErr, OnOk};
+ghost use Rattle.std.specs.Prelude.{◌≡◌, ◌⊎◌, Ok, Err, IfOk, IfErr, MatchResult, OnOk};
 ghost use Rattle.tink_io.specs.declared.error.Kind.TheVariants.{OutOfMemory};
 ghost use Rattle.tink_io.specs.Told.{Answers};
 ghost use Rattle.tink_sets.specs.Entries.{may_stand, own_prefix, standing_prefix, entry_of};
@@ -29,8 +29,8 @@ impl<K: Kinds> Entry<K> {
         ensures stands { OnOk result (may_stand key.now ≡ Ok tt) }
         ensures cause { IfErr result (λ e. (e.kind ≡ OutOfMemory) ⊎ (may_stand key.now ≡ Err e.kind)) }
     {
-        match standing_prefix(alloc, key) {
-            Ok(prefix) => Ok(new_entry(p, key, prefix)),
+        match beside(p, standing_prefix(alloc, key)) {
+            Ok((primitive, prefix)) => Ok(new_entry(primitive, key, prefix)),
             Err(e) => Err(e),
         }
     }
@@ -74,6 +74,16 @@ impl<P: CloneIn> CloneIn for TypedEntry<P> {
             }),
             Err(e) => Err(e),
         }
+    }
+}
+
+// A value beside another that was made, or the refusal of the other.
+fn beside<A: Drop, B>(value: A, made: Result<B, TinkError>) -> Result<(A, B), TinkError>
+    ensures { MatchResult made (λ other. result ≡ Ok (value, other)) (λ e. result ≡ Err e) }
+{
+    match made {
+        Ok(other) => Ok((value, other)),
+        Err(e) => Err(e),
     }
 }
 

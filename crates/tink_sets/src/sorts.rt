@@ -40,18 +40,33 @@ impl<K: Kinds, S: Sort<K>> Convert<Entry<K>> for Typed<S> {
     ghost gives = { typed_by S.picks };
 
     fn convert(alloc: Global, from: &Entry<K>) -> Result<TypedEntry<S::Of>, TinkError> {
-        let copy = from.try_clone(alloc)?;
-        match S::pick(copy.primitive) {
-            Ok(primitive) => Ok(TypedEntry {
-                key_id: copy.key_id,
-                primitive,
-                prefix: copy.prefix,
-                prefix_type: copy.prefix_type,
-                status: copy.status,
-            }),
+        let copied = match from.primitive.try_clone(alloc) {
+            Ok(copied) => copied,
+            Err(e) => return Err(e),
+        };
+        match S::pick(copied) {
+            Ok(primitive) => typed_entry(alloc, from, primitive),
             Err(e) => Err(e),
         }
     }
+}
+
+// The entry with another primitive. Its error is `OutOfMemory` alone.
+fn typed_entry<K: Kinds, P: Drop>(
+    alloc: Global,
+    from: &Entry<K>,
+    primitive: P,
+) -> Result<TypedEntry<P>, TinkError>
+    ensures value { IfOk result (λ typed. typed ≡ with_primitive from.now primitive) }
+    ensures cause { IfErr result (λ e. e.kind ≡ OutOfMemory) }
+{
+    Ok(TypedEntry {
+        key_id: from.key_id,
+        primitive,
+        prefix: from.prefix.try_clone(alloc)?,
+        prefix_type: from.prefix_type,
+        status: from.status,
+    })
 }
 
 /// The sort of AEADs.

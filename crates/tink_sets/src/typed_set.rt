@@ -267,5 +267,11 @@ fn from_owned<K: Kinds, S: Sort<K>>(
     ensures entries { IfOk result (λ typed. AreTyped S.picks set.entries typed.entries) }
     ensures cause { IfErr result (λ e. AreNotTyped S.picks e.kind set.primary set.entries) }
 {
-    from_set::<K, S>(alloc, &set)
+    let typed = from_set::<K, S>(alloc, &set);
+    let PrimitiveSet { primary, entries } = set;
+    let_go(primary, entries);
+    typed
 }
+
+// Nothing of a set is left.
+fn let_go<E: Drop>(_primary: Option<E>, _entries: BTreeMap<Vec<u8>, Repeated<E>>) {}
