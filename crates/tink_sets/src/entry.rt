@@ -78,7 +78,7 @@ impl<P: CloneIn> CloneIn for TypedEntry<P> {
 }
 
 // A value beside another that was made, or the refusal of the other.
-fn beside<A: Drop, B>(value: A, made: Result<B, TinkError>) -> Result<(A, B), TinkError>
+pub(crate) fn beside<A: Drop, B>(value: A, made: Result<B, TinkError>) -> Result<(A, B), TinkError>
     ensures { MatchResult made (λ other. result ≡ Ok (value, other)) (λ e. result ≡ Err e) }
 {
     match made {
@@ -99,7 +99,7 @@ pub(crate) fn standing_prefix(alloc: Global, key: &Key) -> Result<Bytes, TinkErr
 }
 
 // A primitive and a prefix that are equal to these, the primitive last, so that no refusal lets one go.
-fn clone_parts<P: CloneIn>(
+pub(crate) fn clone_parts<P: CloneIn>(
     alloc: Global,
     primitive: &P,
     prefix: &Bytes,
