@@ -1,13 +1,13 @@
 //! The set of a keyset's primitives.
 
-ghost use Rattle.std.specs.Prelude.{◌≡◌, ◌⊎◌, Ok, Err, IfOk, IfErr, OnOk, IsTrue, true, filter, option_map};
+ghost use Rattle.std.specs.Prelude.{◌≡◌, ◌⊎◌, Ok, Err, IfOk, IfErr, OnOk, IsTrue, true, filter, option_copied};
 ghost use Rattle.std.specs.List.{list_all};
 ghost use Rattle.tink_io.specs.Told.{Answers};
 ghost use Rattle.tink_io.specs.declared.error.Kind.TheVariants.{OutOfMemory};
-ghost use Rattle.tink_sets.specs.Entries.{entry_of, may_stand, prefix_of};
+ghost use Rattle.tink_sets.specs.Entries.{entry_of, may_stand};
 ghost use Rattle.keyset_model.specs.Keys as key_words;
 ghost use Rattle.keyset_model.specs.Validity as validity;
-ghost use Rattle.tink_building.specs.Built.{built_data, built_entry, primary_after, GivesSet, HasEntries, HasOneMore, TakesKey};
+ghost use Rattle.tink_building.specs.Built.{built_data, built_entry, primary_after, GivesSet, HasOneMore, IsSetOf, TakesKey};
 ghost use Rattle.tink_building.specs.Given.{given_each};
 
 use std::alloc::Global;
@@ -31,7 +31,8 @@ fn build<M: KeyManager>(
     registry: &Registry<M>,
     km: Option<&M>,
 ) -> Result<Primitive<M::Family>, TinkError>
-    ensures { Answers result (built_data M.url M.supports M.builds registry.now.managers (option_map (λ m. m.now) km.entry) key_data.now) }
+    ensures { Answers result
+        (built_data M.url M.supports M.builds registry.now.managers (option_copied km.entry) key_data.now) }
 {
     let Some(data_there) = key_data else {
         return Err(TinkError::new(Kind::InvalidKeyset));
@@ -53,7 +54,8 @@ fn put_primary<K: Kinds>(
     id: u32,
 ) -> Result<(), TinkError>
     requires { may_stand key.now ≡ Ok tt }
-    ensures primary { OnOk result (set.new.primary ≡ primary_after (λ e. e.key_id) id set.old.primary (entry_of p.now key.now)) }
+    ensures primary { OnOk result
+        (set.new.primary ≡ primary_after (λ e. e.key_id) id set.old.primary (entry_of p.now key.now)) }
     ensures entries { set.new.entries ≡ set.old.entries }
     ensures err { IfErr result (λ e. e.kind ≡ OutOfMemory) }
 {
@@ -75,7 +77,7 @@ fn put_entry<K: Kinds>(
     id: u32,
 ) -> Result<(), TinkError>
     requires { may_stand key.now ≡ Ok tt }
-    ensures ok { OnOk result (HasOneMore prefix_of (λ e. e.key_id) id (entry_of p key.now) set.old.primary set.new.primary set.old.entries set.new.entries) }
+    ensures ok { OnOk result (HasOneMore id (entry_of p key.now) set.old set.new) }
     ensures err { IfErr result (λ e. e.kind ≡ OutOfMemory) }
 {
     put_primary(alloc, set, &p, key, id)?;
@@ -92,8 +94,12 @@ fn put_key<M: KeyManager>(
     km: Option<&M>,
 ) -> Result<(), TinkError>
     requires { IsTrue (validity.is_well_formed key.now) }
-    ensures ok { OnOk result (TakesKey prefix_of (λ e. e.key_id) id (key_words.is_enabled key.now) (built_entry M.url M.supports M.builds entry_of registry.now.managers (option_map (λ m. m.now) km.entry) key.now) set.old.primary set.new.primary set.old.entries set.new.entries) }
-    ensures err { IfErr result (λ e. (e.kind ≡ OutOfMemory) ⊎ ((key_words.is_enabled key.now ≡ true) × (built_entry M.url M.supports M.builds entry_of registry.now.managers (option_map (λ m. m.now) km.entry) key.now ≡ Err e.kind))) }
+    ensures ok { OnOk result (TakesKey id (key_words.is_enabled key.now)
+        (built_entry M.url M.supports M.builds entry_of registry.now.managers (option_copied km.entry) key.now)
+        set.old set.new) }
+    ensures err { IfErr result (λ e. (e.kind ≡ OutOfMemory) ⊎ ((key_words.is_enabled key.now ≡ true)
+        × (built_entry M.url M.supports M.builds entry_of registry.now.managers (option_copied km.entry) key.now
+        ≡ Err e.kind))) }
 {
     if !is_enabled(key) {
         return Ok(());
@@ -119,7 +125,9 @@ pub fn build_set<M: KeyManager>(
     km: Option<&M>,
 ) -> Result<PrimitiveSet<M::Family>, TinkError>
     requires { IsTrue (list_all validity.is_well_formed keys.now) }
-    ensures { GivesSet (λ es set. HasEntries prefix_of (λ e. e.key_id) id es set.primary set.entries) result (given_each (built_entry M.url M.supports M.builds entry_of registry.now.managers (option_map (λ m. m.now) km.entry)) (filter key_words.is_enabled keys.now)) }
+    ensures { GivesSet (IsSetOf id) result (given_each
+        (built_entry M.url M.supports M.builds entry_of registry.now.managers (option_copied km.entry))
+        (filter key_words.is_enabled keys.now)) }
 {
     let mut set = PrimitiveSet::new(alloc);
     for key in keys {

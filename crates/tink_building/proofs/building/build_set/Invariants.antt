@@ -1,5 +1,5 @@
-use Rattle.std.specs.Prelude.{option_map}
-use Rattle.tink_sets.specs.Entries.{entry_of, prefix_of}
+use Rattle.std.specs.Prelude.{option_copied}
+use Rattle.tink_sets.specs.Entries.{entry_of}
 use Rattle.tink_building.specs.Built.{built_entry}
 use Rattle.tink_building.proofs.BuildingFacts.{IsBuilt}
 use Rattle.tink_building.proofs.building.build_set.Given as goal
@@ -7,5 +7,5 @@ use Rattle.tink_building.proofs.building.build_set.Given as goal
 -- what the keys so far gave is in the set
 abbrev pub invariant-loop-key : goal.invariant-loop-key
 invariant-loop-key g l =
-    IsBuilt (built_entry g.M.KeyManager.url g.M.KeyManager.supports g.M.KeyManager.builds entry_of l.registry.managers (option_map (λ m. m.now) l.km))
-    prefix_of (λ e. e.key_id) l.id l.keys l.key-index l.set.primary l.set.entries
+    IsBuilt (built_entry g.M.KeyManager.url g.M.KeyManager.supports g.M.KeyManager.builds entry_of l.registry.managers (option_copied l.km))
+    l.id l.keys l.key-index l.set
