@@ -70,3 +70,8 @@ module _ {K A D HD HE M P S St V : Type 0} where
   abbrev pub TakesKey : ℕ → Bool → Result (Entry K A D HD HE M P S St V) Kind → PrimitiveSet K A D HD HE M P S St V → PrimitiveSet K A D HD HE M P S St V → Type 0
   TakesKey id false built old new = new ≡ old
   TakesKey id true built old new = (more : Entry K A D HD HE M P S St V) × (built ≡ Ok more) × HasOneMore id more old new
+
+  -- all keys are taken into a set of nothing: it has the told entries, or the call refuses by the told kind, or there is no memory
+  abbrev pub FillsSet : ℕ → Result (Unit {0}) TinkError → Result (List (Entry K A D HD HE M P S St V)) Kind → PrimitiveSet K A D HD HE M P S St V → Type 0
+  FillsSet id (Ok _) told set = (entries : List (Entry K A D HD HE M P S St V)) × (told ≡ Ok entries) × IsSetOf id entries set
+  FillsSet id (Err e) told set = (e.kind ≡ OutOfMemory) ⊎ (told ≡ Err e.kind)

@@ -2,7 +2,7 @@ use Rattle.std.specs.Prelude.{option_copied}
 use Rattle.tink_sets.specs.Entries.{entry_of}
 use Rattle.tink_building.specs.Built.{built_entry}
 use Rattle.tink_building.proofs.BuildingFacts.{IsBuilt}
-use Rattle.tink_building.proofs.building.build_set.Given as goal
+use Rattle.tink_building.proofs.building.put_keys.Given as goal
 
 -- what the keys so far gave is in the set
 abbrev pub invariant-loop-key : goal.invariant-loop-key
