@@ -13,9 +13,9 @@ none_yet (Ok vs) = refl
 none_yet (Err kind) = refl
 
 -- one value more
-more : {T : Type 0} (front : List T) (v : T) (rest : Result (List T) Kind) → behind front (before (Ok v) rest) ≡ behind (front ++ v ∷ []) rest
-more front v (Ok vs) = ap Ok (sym (append_assoc front (v ∷ []) vs))
-more front v (Err kind) = refl
+pub behind_more : {T : Type 0} (front : List T) (v : T) (rest : Result (List T) Kind) → behind front (before (Ok v) rest) ≡ behind (front ++ v ∷ []) rest
+behind_more front v (Ok vs) = ap Ok (sym (append_assoc front (v ∷ []) vs))
+behind_more front v (Err kind) = refl
 
 here : {S T : Type 0} (give : S → Result T Kind) (xs : List S) (i : ℕ) (x : S) → i < length xs → x ≡ get_or xs i x → given_each give (drop i xs) ≡ before (give x) (given_each give (drop (i + 1) xs))
 here give xs i x within is = rw (add-one) (ap (given_each give) (drop-cons xs i x within) ∙ ap (λ y. before (give y) (given_each give (drop (suc i) xs))) (sym is))
@@ -23,7 +23,7 @@ here give xs i x within is = rw (add-one) (ap (given_each give) (drop-cons xs i 
 pub one_more : {S T : Type 0} (give : S → Result T Kind) (xs : List S) (i : ℕ) (x : S) (front : List T) (v : T) → i < length xs → x ≡ get_or xs i x → give x ≡ Ok v
     → behind front (given_each give (drop i xs)) ≡ behind (front ++ v ∷ []) (given_each give (drop (i + 1) xs))
 one_more give xs i x front v within is given =
-    ap (behind front) (here give xs i x within is ∙ ap (λ r. before r (given_each give (drop (i + 1) xs))) given) ∙ more front v (given_each give (drop (i + 1) xs))
+    ap (behind front) (here give xs i x within is ∙ ap (λ r. before r (given_each give (drop (i + 1) xs))) given) ∙ behind_more front v (given_each give (drop (i + 1) xs))
 
 pub none_more : {S T : Type 0} (give : S → Result T Kind) (xs : List S) (i : ℕ) (x : S) (front : List T) (kind : Kind) → i < length xs → x ≡ get_or xs i x → give x ≡ Err kind
     → behind front (given_each give (drop i xs)) ≡ Err kind

@@ -9,7 +9,10 @@ use Rattle.tink_proto.specs.declared.messages.keys.Key.{Key}
 use Rattle.tink_proto.specs.declared.messages.keys.KeyData.{KeyData}
 use Rattle.tink_proto.specs.declared.messages.keys.Keyset.{Keyset}
 use Rattle.tink_registry.specs.Listed.{registry_builds}
+use Rattle.tink_sets.specs.Entries.{prefix_of}
 use Rattle.tink_sets.specs.Groups.{AreGroupsOf, AddsLast}
+use Rattle.tink_sets.specs.declared.entry.Entry.{Entry}
+use Rattle.tink_sets.specs.declared.primitive_set.PrimitiveSet.{PrimitiveSet}
 use Rattle.keyset_model.specs.Keys.{enabled}
 use Rattle.keyset_model.specs.Validity.{is_validated}
 use Rattle.tink_building.specs.Given.{given_each}
@@ -40,6 +43,11 @@ pub record HasEntries {E A : Type 0} (prefix_of : E → List ℕ) (id_of : E →
   pub by_prefix : AreGroupsOf prefix_of entries groups
   pub by_id : primary ≡ find (λ e. nat_eq (id_of e) id) entries
 
+module _ {K A D HD HE M P S St V : Type 0} where
+  -- a set of these entries, with the primary one of the id
+  abbrev pub IsSetOf : ℕ → List (Entry K A D HD HE M P S St V) → PrimitiveSet K A D HD HE M P S St V → Type 0
+  IsSetOf id entries set = HasEntries prefix_of (λ e. e.key_id) id entries set.primary set.entries
+
 -- a call gives a set of the told entries, or refuses by the told kind, or there is no memory
 abbrev pub GivesSet : {S E : Type 0} → (List E → S → Type 0) → Result S TinkError → Result (List E) Kind → Type 0
 GivesSet {S} {E} holds (Ok set) told = (entries : List E) × (told ≡ Ok entries) × holds entries set
@@ -52,13 +60,18 @@ abbrev pub primary_after : {E : Type 0} → (E → ℕ) → ℕ → Option E →
 primary_after id_of id (Some e) more = Some e
 primary_after id_of id None more = if nat_eq (id_of more) id then Some more else None
 
--- a set with one entry more
-pub record HasOneMore {E A : Type 0} (prefix_of : E → List ℕ) (id_of : E → ℕ) (id : ℕ) (more : E) (old_primary new_primary : Option E) (old new : BTreeMap (Vec ℕ A) (List E)) : Type 0 where
-  pub by_prefix : AddsLast prefix_of more old new
-  pub by_id : new_primary ≡ primary_after id_of id old_primary more
+module _ {K A D HD HE M P S St V : Type 0} where
+  -- a set with one entry more
+  pub record HasOneMore (id : ℕ) (more : Entry K A D HD HE M P S St V) (old new : PrimitiveSet K A D HD HE M P S St V) : Type 0 where
+    pub by_prefix : AddsLast prefix_of more old.entries new.entries
+    pub by_id : new.primary ≡ primary_after (λ e. e.key_id) id old.primary more
 
--- a set with the entry of a key, where it is enabled
-abbrev pub TakesKey : {E A : Type 0} → (E → List ℕ) → (E → ℕ) → ℕ → Bool → Result E Kind → Option E → Option E → BTreeMap (Vec ℕ A) (List E) → BTreeMap (Vec ℕ A) (List E) → Type 0
-TakesKey prefix_of id_of id false built old_primary new_primary old new = (new_primary ≡ old_primary) × (new ≡ old)
-TakesKey {E} prefix_of id_of id true built old_primary new_primary old new =
-    (more : E) × (built ≡ Ok more) × HasOneMore prefix_of id_of id more old_primary new_primary old new
+  -- a set with the entry of a key, where it is enabled
+  abbrev pub TakesKey : ℕ → Bool → Result (Entry K A D HD HE M P S St V) Kind → PrimitiveSet K A D HD HE M P S St V → PrimitiveSet K A D HD HE M P S St V → Type 0
+  TakesKey id false built old new = new ≡ old
+  TakesKey id true built old new = (more : Entry K A D HD HE M P S St V) × (built ≡ Ok more) × HasOneMore id more old new
+
+  -- all keys are taken into a set of nothing: it has the told entries, or the call refuses by the told kind, or there is no memory
+  abbrev pub FillsSet : ℕ → Result (Unit {0}) TinkError → Result (List (Entry K A D HD HE M P S St V)) Kind → PrimitiveSet K A D HD HE M P S St V → Type 0
+  FillsSet id (Ok _) told set = (entries : List (Entry K A D HD HE M P S St V)) × (told ≡ Ok entries) × IsSetOf id entries set
+  FillsSet id (Err e) told set = (e.kind ≡ OutOfMemory) ⊎ (told ≡ Err e.kind)

@@ -1,13 +1,14 @@
 //! The set of a keyset's primitives.
 
-ghost use Rattle.std.specs.Prelude.{◌≡◌, ◌⊎◌, Ok, Err, IfOk, IfErr, OnOk, IsTrue, true, filter, option_map};
+ghost use Rattle.std.specs.Prelude.{◌≡◌, ◌⊎◌, [], None, Some, Ok, Err, IfOk, IfErr, OnOk, IsTrue, true, filter, option_copied};
 ghost use Rattle.std.specs.List.{list_all};
 ghost use Rattle.tink_io.specs.Told.{Answers};
 ghost use Rattle.tink_io.specs.declared.error.Kind.TheVariants.{OutOfMemory};
 ghost use Rattle.tink_sets.specs.Entries.{entry_of, may_stand, prefix_of};
+ghost use Rattle.tink_sets.specs.Groups.{AreGroupsOf};
 ghost use Rattle.keyset_model.specs.Keys as key_words;
 ghost use Rattle.keyset_model.specs.Validity as validity;
-ghost use Rattle.tink_building.specs.Built.{built_data, built_entry, primary_after, GivesSet, HasEntries, HasOneMore, TakesKey};
+ghost use Rattle.tink_building.specs.Built.{built_data, built_entry, primary_after, FillsSet, GivesSet, HasOneMore, IsSetOf, TakesKey};
 ghost use Rattle.tink_building.specs.Given.{given_each};
 
 use std::alloc::Global;
@@ -31,7 +32,8 @@ fn build<M: KeyManager>(
     registry: &Registry<M>,
     km: Option<&M>,
 ) -> Result<Primitive<M::Family>, TinkError>
-    ensures { Answers result (built_data M.url M.supports M.builds registry.now.managers (option_map (λ m. m.now) km.entry) key_data.now) }
+    ensures { Answers result
+        (built_data M.url M.supports M.builds registry.now.managers (option_copied km.entry) key_data.now) }
 {
     let Some(data_there) = key_data else {
         return Err(TinkError::new(Kind::InvalidKeyset));
@@ -53,17 +55,32 @@ fn put_primary<K: Kinds>(
     id: u32,
 ) -> Result<(), TinkError>
     requires { may_stand key.now ≡ Ok tt }
-    ensures primary { OnOk result (set.new.primary ≡ primary_after (λ e. e.key_id) id set.old.primary (entry_of p.now key.now)) }
+    ensures primary { OnOk result
+        (set.new.primary ≡ primary_after (λ e. e.key_id) id set.old.primary (entry_of p.now key.now)) }
     ensures entries { set.new.entries ≡ set.old.entries }
     ensures err { IfErr result (λ e. e.kind ≡ OutOfMemory) }
 {
     if set.primary.is_some() || key.key_id != id {
         return Ok(());
     }
-    let copied = p.try_clone(alloc)?;
-    let entry = Entry::new(alloc, copied, key)?;
-    set.primary = Some(entry);
-    Ok(())
+    let copied = match p.try_clone(alloc) {
+        Ok(copied) => copied,
+        Err(e) => return Err(e),
+    };
+    match Entry::new(alloc, copied, key) {
+        Ok(entry) => {
+            fill(&mut set.primary, entry);
+            Ok(())
+        }
+        Err(e) => Err(e),
+    }
+}
+
+// Puts a value in a place.
+fn fill<E: Drop>(place: &mut Option<E>, value: E)
+    ensures { place.new ≡ Some value }
+{
+    *place = Some(value);
 }
 
 // Adds the entry of a primitive and its key.
@@ -75,11 +92,13 @@ fn put_entry<K: Kinds>(
     id: u32,
 ) -> Result<(), TinkError>
     requires { may_stand key.now ≡ Ok tt }
-    ensures ok { OnOk result (HasOneMore prefix_of (λ e. e.key_id) id (entry_of p key.now) set.old.primary set.new.primary set.old.entries set.new.entries) }
+    ensures ok { OnOk result (HasOneMore id (entry_of p key.now) set.old set.new) }
     ensures err { IfErr result (λ e. e.kind ≡ OutOfMemory) }
 {
-    put_primary(alloc, set, &p, key, id)?;
-    set.put(alloc, p, key)
+    match put_primary(alloc, set, &p, key, id) {
+        Ok(()) => set.put(alloc, p, key),
+        Err(e) => Err(e),
+    }
 }
 
 // Adds the entry of a key, where it is enabled.
@@ -92,8 +111,12 @@ fn put_key<M: KeyManager>(
     km: Option<&M>,
 ) -> Result<(), TinkError>
     requires { IsTrue (validity.is_well_formed key.now) }
-    ensures ok { OnOk result (TakesKey prefix_of (λ e. e.key_id) id (key_words.is_enabled key.now) (built_entry M.url M.supports M.builds entry_of registry.now.managers (option_map (λ m. m.now) km.entry) key.now) set.old.primary set.new.primary set.old.entries set.new.entries) }
-    ensures err { IfErr result (λ e. (e.kind ≡ OutOfMemory) ⊎ ((key_words.is_enabled key.now ≡ true) × (built_entry M.url M.supports M.builds entry_of registry.now.managers (option_map (λ m. m.now) km.entry) key.now ≡ Err e.kind))) }
+    ensures ok { OnOk result (TakesKey id (key_words.is_enabled key.now)
+        (built_entry M.url M.supports M.builds entry_of registry.now.managers (option_copied km.entry) key.now)
+        set.old set.new) }
+    ensures err { IfErr result (λ e. (e.kind ≡ OutOfMemory) ⊎ ((key_words.is_enabled key.now ≡ true)
+        × (built_entry M.url M.supports M.builds entry_of registry.now.managers (option_copied km.entry) key.now
+        ≡ Err e.kind))) }
 {
     if !is_enabled(key) {
         return Ok(());
@@ -103,6 +126,31 @@ fn put_key<M: KeyManager>(
         Err(e) => return Err(e),
     };
     put_entry(alloc, set, p, key, id)
+}
+
+// Adds the entries of the enabled keys to a set of nothing. The set is lent, so that no refusal lets it go.
+fn put_keys<M: KeyManager>(
+    alloc: Global,
+    set: &mut PrimitiveSet<M::Family>,
+    keys: &[Key],
+    id: u32,
+    registry: &Registry<M>,
+    km: Option<&M>,
+) -> Result<(), TinkError>
+    requires well_formed { IsTrue (list_all validity.is_well_formed keys.now) }
+    requires no_primary { set.old.primary ≡ None }
+    requires no_entries { AreGroupsOf prefix_of [] set.old.entries }
+    ensures { FillsSet id result (given_each
+        (built_entry M.url M.supports M.builds entry_of registry.now.managers (option_copied km.entry))
+        (filter key_words.is_enabled keys.now)) set.new }
+{
+    for key in keys {
+        match put_key(alloc, set, key, id, registry, km) {
+            Ok(()) => {}
+            Err(e) => return Err(e),
+        }
+    }
+    Ok(())
 }
 
 /// The set of the enabled keys' primitives, with the primary entry of the id. Where a manager is given, it alone decides
@@ -119,14 +167,13 @@ pub fn build_set<M: KeyManager>(
     km: Option<&M>,
 ) -> Result<PrimitiveSet<M::Family>, TinkError>
     requires { IsTrue (list_all validity.is_well_formed keys.now) }
-    ensures { GivesSet (λ es set. HasEntries prefix_of (λ e. e.key_id) id es set.primary set.entries) result (given_each (built_entry M.url M.supports M.builds entry_of registry.now.managers (option_map (λ m. m.now) km.entry)) (filter key_words.is_enabled keys.now)) }
+    ensures { GivesSet (IsSetOf id) result (given_each
+        (built_entry M.url M.supports M.builds entry_of registry.now.managers (option_copied km.entry))
+        (filter key_words.is_enabled keys.now)) }
 {
     let mut set = PrimitiveSet::new(alloc);
-    for key in keys {
-        match put_key(alloc, &mut set, key, id, registry, km) {
-            Ok(()) => {}
-            Err(e) => return Err(e),
-        }
+    match put_keys(alloc, &mut set, keys, id, registry, km) {
+        Ok(()) => Ok(set),
+        Err(e) => Err(e),
     }
-    Ok(set)
 }

@@ -41,7 +41,8 @@ fn public_key<M: KeyManager>(
     key: &Key,
     registry: &Registry<M>,
 ) -> Result<Key, TinkError>
-    ensures answer { Answers result (with_data key.now (public_data M.url M.has_public M.gives_public registry.now.managers key.now.key_data)) }
+    ensures answer { Answers result (with_data key.now
+        (public_data M.url M.has_public M.gives_public registry.now.managers key.now.key_data)) }
     ensures held { IfOk result (λ k. IsTrue (validity.is_held k)) }
 {
     let key_data = public_data(alloc, &key.key_data, registry)?;
@@ -65,7 +66,8 @@ pub fn public_keys<M: KeyManager>(
     keys: &[Key],
     registry: &Registry<M>,
 ) -> Result<Repeated<Key>, TinkError>
-    ensures answer { Answers result (given_each (λ k. with_data k (public_data M.url M.has_public M.gives_public registry.now.managers k.key_data)) keys.now) }
+    ensures answer { Answers result (given_each (λ k. with_data k
+        (public_data M.url M.has_public M.gives_public registry.now.managers k.key_data)) keys.now) }
     ensures held { IfOk result (λ ks. IsTrue (list_all validity.is_held ks)) }
 {
     let mut public = Repeated::new(alloc);

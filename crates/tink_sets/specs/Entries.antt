@@ -2,7 +2,7 @@
 use Rattle.std.specs.Prelude.{◌≡◌, ◌⊎◌, ⊤, ℕ, List, [], Vec, Option, Some, None, Result, Ok, Err, if◌then◌else◌, find, nat_eq, unwrap_or}
 use Rattle.std.specs.BTreeMap.{BTreeMap}
 use Rattle.tink_io.specs.declared.error.Kind.{Kind}
-use Rattle.tink_io.specs.declared.error.Kind.TheVariants.{NotEnabled, WrongPrimitive}
+use Rattle.tink_io.specs.declared.error.Kind.TheVariants.{NotEnabled, OutOfMemory, WrongPrimitive}
 use Rattle.tink_io.specs.Told.{made_of}
 use Rattle.tink_proto.specs.declared.enums.OutputPrefixType.TheVariants.{UnknownPrefix}
 use Rattle.tink_proto.specs.declared.enums.KeyStatusType.TheVariants.{Enabled}
@@ -11,9 +11,11 @@ use Rattle.keyset_model.specs.Keys.{is_enabled}
 use Rattle.keyset_model.specs.Entries.{output_prefix}
 use Rattle.tink_primitives.specs.declared.primitive.Primitive.{Primitive}
 use Rattle.tink_sets.specs.Prefixes.{known_type, told_prefix}
-use Rattle.tink_sets.specs.Converting.{HasRefused}
+use Rattle.tink_sets.specs.Converting.{AreConverted, HasRefused}
+use Rattle.tink_sets.specs.Groups.{AfterAdding}
 use Rattle.tink_sets.specs.declared.entry.Entry.{Entry}
 use Rattle.tink_sets.specs.declared.entry.TypedEntry.{TypedEntry}
+use Rattle.tink_sets.specs.declared.primitive_set.PrimitiveSet.{PrimitiveSet}
 
 -- the prefix of an enabled key
 abbrev pub own_prefix : Key → List ℕ
@@ -41,6 +43,10 @@ module _ {K A D HD HE M P S St V : Type 0} where
     status = Enabled;
   }
 
+  -- a set after an entry was to be added: its lists as `AfterAdding` says, and the primary entry as before
+  abbrev pub SetAfterAdding : {T F : Type 0} → Entry K A D HD HE M P S St V → Result T F → PrimitiveSet K A D HD HE M P S St V → PrimitiveSet K A D HD HE M P S St V → Type 0
+  SetAfterAdding entry answer old new = (new.primary ≡ old.primary) × AfterAdding prefix_of entry answer old.entries new.entries
+
   -- an entry with another primitive
   abbrev pub with_primitive : {Q : Type 0} → Entry K A D HD HE M P S St V → Q → TypedEntry Q
   with_primitive e q = record { key_id = e.key_id; primitive = q; prefix = e.prefix; prefix_type = e.prefix_type; status = e.status }
@@ -56,6 +62,10 @@ module _ {K A D HD HE M P S St V : Type 0} where
   IsTypedPrimary pick (Some _) None = ⊥
   IsTypedPrimary pick (Some e) (Some t) = typed_by pick e ≡ Ok t
 
+  -- the other entries as some of one sort
+  abbrev pub AreTyped : {Q G : Type 0} → (Primitive K A D HD HE M P S St V → Result Q Kind) → BTreeMap (Vec ℕ G) (List (Entry K A D HD HE M P S St V)) → BTreeMap (Vec ℕ G) (List (TypedEntry Q)) → Type 0
+  AreTyped pick old new = AreConverted (typed_by pick) old new
+
   -- the primary entry is refused by a kind
   abbrev pub IsRefusedPrimary : {Q : Type 0} → (Primitive K A D HD HE M P S St V → Result Q Kind) → Option (Entry K A D HD HE M P S St V) → Kind → Type 0
   IsRefusedPrimary pick None k = ⊥
@@ -64,6 +74,10 @@ module _ {K A D HD HE M P S St V : Type 0} where
   -- the primary entry or another one is of another sort
   abbrev pub HasAnother : {Q G : Type 0} → (Primitive K A D HD HE M P S St V → Result Q Kind) → Option (Entry K A D HD HE M P S St V) → BTreeMap (Vec ℕ G) (List (Entry K A D HD HE M P S St V)) → Type 0
   HasAnother pick primary entries = IsRefusedPrimary pick primary WrongPrimitive ⊎ HasRefused (typed_by pick) entries WrongPrimitive
+
+  -- why entries are not as some of one sort: no memory, or `WrongPrimitive`, where one of them is of another sort
+  abbrev pub AreNotTyped : {Q G : Type 0} → (Primitive K A D HD HE M P S St V → Result Q Kind) → Kind → Option (Entry K A D HD HE M P S St V) → BTreeMap (Vec ℕ G) (List (Entry K A D HD HE M P S St V)) → Type 0
+  AreNotTyped pick kind primary entries = (kind ≡ OutOfMemory) ⊎ ((kind ≡ WrongPrimitive) × HasAnother pick primary entries)
 
 -- the first entry of an id
 abbrev pub entry_of_id : {Q : Type 0} → ℕ → List (TypedEntry Q) → Option (TypedEntry Q)

@@ -13,9 +13,17 @@ group_at m prefix = get_by (λ k. slice_cmp nat_cmp prefix k.items) m
 abbrev pub group_of : {E A : Type 0} → BTreeMap (Vec ℕ A) (List E) → List ℕ → List E
 group_of m prefix = unwrap_or (group_at m prefix) []
 
+-- one list stands under its prefix, and the other lists are as before
+abbrev pub PutsGroup : {E A : Type 0} → List ℕ → List E → BTreeMap (Vec ℕ A) (List E) → BTreeMap (Vec ℕ A) (List E) → Type 0
+PutsGroup own group old new = (prefix : List ℕ) → group_at new prefix ≡ cond (bytes_eq own prefix) (Some group) (group_at old prefix)
+
 -- one entry stands behind those of its prefix, and the other lists are as before
 abbrev pub Adds : {E A : Type 0} → List ℕ → E → BTreeMap (Vec ℕ A) (List E) → BTreeMap (Vec ℕ A) (List E) → Type 0
-Adds own entry old new = (prefix : List ℕ) → group_at new prefix ≡ cond (bytes_eq own prefix) (Some (group_of old own ++ entry ∷ [])) (group_at old prefix)
+Adds own entry old new = PutsGroup own (group_of old own ++ entry ∷ []) old new
+
+-- the entries of a prefix are those before, and this one behind them
+abbrev pub EndsBy : {E A : Type 0} → List ℕ → E → BTreeMap (Vec ℕ A) (List E) → BTreeMap (Vec ℕ A) (List E) → Type 0
+EndsBy own entry old new = group_of new own ≡ group_of old own ++ entry ∷ []
 
 -- the two maps have the same lists
 abbrev pub HaveSameGroups : {E A : Type 0} → BTreeMap (Vec ℕ A) (List E) → BTreeMap (Vec ℕ A) (List E) → Type 0

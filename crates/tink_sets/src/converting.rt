@@ -73,7 +73,22 @@ pub fn convert_groups<E, C: Convert<E>>(
     Ok(out)
 }
 
-pub fn clone_primary<E: CloneIn>(alloc: Global, primary: &Option<E>) -> Result<Option<E>, TinkError>
+// The primary entry and the lists of a set, once more.
+pub fn clone_set<E: CloneIn>(
+    alloc: Global,
+    primary: &Option<E>,
+    groups: &BTreeMap<Vec<u8>, Repeated<E>>,
+) -> Result<(Option<E>, BTreeMap<Vec<u8>, Repeated<E>>), TinkError>
+    ensures primary { IfOk result (λ copy. copy.0 ≡ primary.now) }
+    ensures entries { IfOk result (λ copy. HaveSameGroups groups.now copy.1) }
+    ensures cause { IfErr result (λ e. e.kind ≡ OutOfMemory) }
+{
+    let copied = clone_groups(alloc, groups)?;
+    Ok((clone_primary(alloc, primary)?, copied))
+}
+
+// The same entry, where there is one.
+fn clone_primary<E: CloneIn>(alloc: Global, primary: &Option<E>) -> Result<Option<E>, TinkError>
     ensures value { IfOk result (λ copy. copy ≡ primary.now) }
     ensures cause { IfErr result (λ e. e.kind ≡ OutOfMemory) }
 {
@@ -85,7 +100,7 @@ pub fn clone_primary<E: CloneIn>(alloc: Global, primary: &Option<E>) -> Result<O
 
 // The same lists under the same prefixes.
 #[tactic(auto, using(crate::proofs::Converted::copied, crate::proofs::Converted::never_refused))]
-pub fn clone_groups<E: CloneIn>(
+fn clone_groups<E: CloneIn>(
     alloc: Global,
     groups: &BTreeMap<Vec<u8>, Repeated<E>>,
 ) -> Result<BTreeMap<Vec<u8>, Repeated<E>>, TinkError>

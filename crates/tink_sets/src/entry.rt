@@ -1,6 +1,6 @@
 //! The entries of sets.
 
-ghost use Rattle.std.specs.Prelude.{◌≡◌, ◌⊎◌, Ok, Err, IfOk, IfErr, OnOk};
+ghost use Rattle.std.specs.Prelude.{◌≡◌, ◌⊎◌, Ok, Err, IfOk, IfErr, MatchResult, OnOk};
 ghost use Rattle.tink_io.specs.declared.error.Kind.TheVariants.{OutOfMemory};
 ghost use Rattle.tink_io.specs.Told.{Answers};
 ghost use Rattle.tink_sets.specs.Entries.{may_stand, own_prefix, standing_prefix, entry_of};
@@ -29,8 +29,10 @@ impl<K: Kinds> Entry<K> {
         ensures stands { OnOk result (may_stand key.now ≡ Ok tt) }
         ensures cause { IfErr result (λ e. (e.kind ≡ OutOfMemory) ⊎ (may_stand key.now ≡ Err e.kind)) }
     {
-        let prefix = standing_prefix(alloc, key)?;
-        Ok(new_entry(p, key, prefix))
+        match beside(p, standing_prefix(alloc, key)) {
+            Ok((primitive, prefix)) => Ok(new_entry(primitive, key, prefix)),
+            Err(e) => Err(e),
+        }
     }
 }
 
@@ -47,28 +49,41 @@ pub struct TypedEntry<P> {
 
 impl<K: Kinds> CloneIn for Entry<K> {
     fn try_clone(&self, alloc: Global) -> Result<Self, TinkError> {
-        // (the primitive last, so that no refusal lets one go)
-        let prefix = self.prefix.try_clone(alloc)?;
-        Ok(Entry {
-            key_id: self.key_id,
-            primitive: self.primitive.try_clone(alloc)?,
-            prefix,
-            prefix_type: self.prefix_type,
-            status: self.status,
-        })
+        match clone_parts(alloc, &self.primitive, &self.prefix) {
+            Ok((primitive, prefix)) => Ok(Entry {
+                key_id: self.key_id,
+                primitive,
+                prefix,
+                prefix_type: self.prefix_type,
+                status: self.status,
+            }),
+            Err(e) => Err(e),
+        }
     }
 }
 
 impl<P: CloneIn> CloneIn for TypedEntry<P> {
     fn try_clone(&self, alloc: Global) -> Result<Self, TinkError> {
-        let prefix = self.prefix.try_clone(alloc)?;
-        Ok(TypedEntry {
-            key_id: self.key_id,
-            primitive: self.primitive.try_clone(alloc)?,
-            prefix,
-            prefix_type: self.prefix_type,
-            status: self.status,
-        })
+        match clone_parts(alloc, &self.primitive, &self.prefix) {
+            Ok((primitive, prefix)) => Ok(TypedEntry {
+                key_id: self.key_id,
+                primitive,
+                prefix,
+                prefix_type: self.prefix_type,
+                status: self.status,
+            }),
+            Err(e) => Err(e),
+        }
+    }
+}
+
+// A value beside another that was made, or the refusal of the other.
+pub(crate) fn beside<A: Drop, B>(value: A, made: Result<B, TinkError>) -> Result<(A, B), TinkError>
+    ensures { MatchResult made (λ other. result ≡ Ok (value, other)) (λ e. result ≡ Err e) }
+{
+    match made {
+        Ok(other) => Ok((value, other)),
+        Err(e) => Err(e),
     }
 }
 
@@ -83,19 +98,18 @@ pub(crate) fn standing_prefix(alloc: Global, key: &Key) -> Result<Bytes, TinkErr
     output_prefix(alloc, key)
 }
 
-// The entry of a key of this prefix and its primitive.
-pub(crate) fn entry_under<K: Kinds>(
+// A primitive and a prefix that are equal to these, the primitive last, so that no refusal lets one go.
+pub(crate) fn clone_parts<P: CloneIn>(
     alloc: Global,
-    p: Primitive<K>,
-    key: &Key,
-    prefix: &[u8],
-) -> Result<Entry<K>, TinkError>
-    requires own { prefix.now ≡ own_prefix key.now }
-    ensures value { IfOk result (λ e. e ≡ entry_of p key.now) }
+    primitive: &P,
+    prefix: &Bytes,
+) -> Result<(P, Bytes), TinkError>
+    ensures primitive { IfOk result (λ parts. parts.0 ≡ primitive.now) }
+    ensures prefix { IfOk result (λ parts. parts.1 ≡ prefix.now) }
     ensures cause { IfErr result (λ e. e.kind ≡ OutOfMemory) }
 {
-    let prefix = Bytes::from_slice(alloc, prefix)?;
-    Ok(new_entry(p, key, prefix))
+    let copied = prefix.try_clone(alloc)?;
+    Ok((primitive.try_clone(alloc)?, copied))
 }
 
 // The entry of a key and its primitive.

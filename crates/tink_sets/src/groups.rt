@@ -1,8 +1,8 @@
 //! Lists of entries by their prefixes.
 
-ghost use Rattle.std.specs.Prelude.{◌≡◌, ◌<◌, ◌++◌, ◌∷◌, [], ℕ, List, cond, bytes_eq, None, Some, length, IfOk, OnOk, OnErr, IfErr, MatchOption};
+ghost use Rattle.std.specs.Prelude.{◌≡◌, ◌<◌, ◌++◌, ◌∷◌, [], List, None, Some, length, IfOk, OnOk, OnErr, IfErr, MatchOption};
 ghost use Rattle.tink_io.specs.declared.error.Kind.TheVariants.{OutOfMemory};
-ghost use Rattle.tink_sets.specs.Groups.{group_at, group_of, Adds, HaveSameGroups};
+ghost use Rattle.tink_sets.specs.Groups.{group_at, group_of, Adds, HaveSameGroups, PutsGroup};
 
 use std::alloc::Global;
 use std::collections::BTreeMap;
@@ -11,7 +11,8 @@ use tink_proto::Repeated;
 
 // The list of a prefix.
 pub fn group_at<'a, E>(groups: &'a BTreeMap<Vec<u8>, Repeated<E>>, prefix: &[u8]) -> Option<&'a [E]>
-    ensures value { MatchOption result (group_at groups.now prefix.now ≡ None) (λ g. group_at groups.now prefix.now ≡ Some g.now) }
+    ensures value { MatchOption result (group_at groups.now prefix.now ≡ None)
+        (λ g. group_at groups.now prefix.now ≡ Some g.now) }
 {
     match groups.get(prefix) {
         Some(group) => Some(group.as_slice()),
@@ -45,7 +46,6 @@ pub fn put_in_group<E: Drop>(
     entry: E,
 ) -> Result<(), TinkError>
     ensures ok { OnOk result (Adds prefix.now entry groups.old groups.new) }
-    ensures newest { OnOk result (group_of groups.new prefix.now ≡ group_of groups.old prefix.now ++ entry ∷ []) }
     ensures err { OnErr result (HaveSameGroups groups.old groups.new) }
     ensures cause { IfErr result (λ e. e ≡ record { kind = OutOfMemory }) }
 {
@@ -67,7 +67,6 @@ fn begin_group<E: Drop>(
 ) -> Result<(), TinkError>
     requires none { group_at groups.old prefix.now ≡ None }
     ensures ok { OnOk result (Adds prefix.now entry groups.old groups.new) }
-    ensures newest { OnOk result (group_of groups.new prefix.now ≡ group_of groups.old prefix.now ++ entry ∷ []) }
     ensures err { OnErr result (HaveSameGroups groups.old groups.new) }
     ensures cause { IfErr result (λ e. e ≡ record { kind = OutOfMemory }) }
 {
@@ -85,7 +84,7 @@ pub fn put_list<E: Drop>(
     prefix: &[u8],
     list: Repeated<E>,
 ) -> Result<(), TinkError>
-    ensures ok { OnOk result ((p : List ℕ) → group_at groups.new p ≡ cond (bytes_eq prefix.now p) (Some list) (group_at groups.old p)) }
+    ensures ok { OnOk result (PutsGroup prefix.now list groups.old groups.new) }
     ensures cause { IfErr result (λ e. e ≡ record { kind = OutOfMemory }) }
 {
     let key = prefix.to_vec(alloc)?;

@@ -1,17 +1,17 @@
 //! Sets of primitives of any sorts.
 
 ghost use mathlib.Core.Option.{none};
-ghost use Rattle.std.specs.Prelude.{◌≡◌, ◌⊎◌, ◌++◌, ◌∷◌, ⊤, [], ℕ, List, None, Ok, Err, IfOk, IfErr, OnOk, OnErr};
+ghost use Rattle.std.specs.Prelude.{◌≡◌, ◌⊎◌, ⊤, [], ℕ, List, None, Ok, Err, IfOk, IfErr, OnOk, OnErr};
 ghost use Rattle.std.specs.Borrow.{sem, follows_so};
 ghost use Rattle.tink_io.specs.declared.error.Kind.TheVariants.{OutOfMemory};
 ghost use Rattle.tink_io.specs.Told.{Answers};
-ghost use Rattle.tink_sets.specs.Groups.{group_at, group_of, Adds, AddsLast, AfterAdding, AreGroupsOf, HaveSameGroups};
-ghost use Rattle.tink_sets.specs.Entries.{may_stand, own_prefix, standing_prefix, entry_of, prefix_of};
+ghost use Rattle.tink_sets.specs.Groups.{group_at, group_of, Adds, AddsLast, AreGroupsOf, EndsBy, HaveSameGroups};
+ghost use Rattle.tink_sets.specs.Entries.{may_stand, own_prefix, entry_of, prefix_of, SetAfterAdding};
 
 use crate::Entry;
-use crate::converting::{clone_groups, clone_primary};
+use crate::converting::clone_set;
 use crate::cryptofmt::RAW_PREFIX;
-use crate::entry::{entry_under, standing_prefix};
+use crate::entry::standing_prefix;
 use crate::groups::{group_of, newest, put_in_group};
 use std::alloc::Global;
 use std::collections::BTreeMap;
@@ -63,59 +63,41 @@ impl<K: Kinds> PrimitiveSet<K> {
         ensures entry { IfOk result (λ entry. entry.now ≡ entry_of p key.now) }
         ensures stands { OnOk result (may_stand key.now ≡ Ok tt) }
         ensures cause { IfErr result (λ e. (e.kind ≡ OutOfMemory) ⊎ (may_stand key.now ≡ Err e.kind)) }
-        ensures* after { let row = the_row K.row K.Aead.row K.DeterministicAead.row K.HybridDecrypt.row K.HybridEncrypt.row K.Mac.row K.Prf.row K.Signer.row K.StreamingAead.row K.Verifier.row in sem 𝓛 (follows_so row row self.entry.ghost_name none (λ _ _. ⊤) (λ set. (set.primary ≡ self.old.primary) × AfterAdding prefix_of (entry_of p key.now) result self.old.entries set.entries)) }
+        ensures* after { let row = the_row K.row K.Aead.row K.DeterministicAead.row K.HybridDecrypt.row K.HybridEncrypt.row
+            K.Mac.row K.Prf.row K.Signer.row K.StreamingAead.row K.Verifier.row in
+            sem 𝓛 (follows_so row row self.entry.ghost_name none (λ _ _. ⊤)
+            (λ set. SetAfterAdding (entry_of p key.now) result self.old set)) }
     {
-        let prefix = self.put_entry(alloc, p, key)?;
-        Ok(newest(self.entries_for_prefix(prefix.as_slice())))
+        match self.put_entry(alloc, p, key) {
+            Ok(prefix) => Ok(newest(self.entries_for_prefix(prefix.as_slice()))),
+            Err(e) => Err(e),
+        }
     }
 
     /// Adds the entry of a key and its primitive as `add` does, and lends nothing.
     pub fn put(&mut self, alloc: Global, p: Primitive<K>, key: &Key) -> Result<(), TinkError>
         ensures answer { Answers result (may_stand key.now) }
-        ensures ok { OnOk result (Adds (entry_of p key.now).prefix (entry_of p key.now) self.old.entries self.new.entries) }
-        ensures entries { OnOk result (AddsLast prefix_of (entry_of p key.now) self.old.entries self.new.entries) }
-        ensures err { OnErr result (HaveSameGroups self.old.entries self.new.entries) }
-        ensures primary { self.new.primary ≡ self.old.primary }
-    {
-        self.put_entry(alloc, p, key)?;
-        Ok(())
-    }
-
-    // Puts the entry of a key behind those of its prefix, and answers the prefix.
-    fn put_entry(&mut self, alloc: Global, p: Primitive<K>, key: &Key) -> Result<Bytes, TinkError>
-        ensures answer { Answers result (standing_prefix key.now) }
-        ensures value { IfOk result (λ prefix. prefix ≡ own_prefix key.now) }
         ensures ok { OnOk result (Adds (own_prefix key.now) (entry_of p key.now) self.old.entries self.new.entries) }
         ensures entries { OnOk result (AddsLast prefix_of (entry_of p key.now) self.old.entries self.new.entries) }
-        ensures newest { OnOk result (group_of self.new.entries (own_prefix key.now) ≡ group_of self.old.entries (own_prefix key.now) ++ entry_of p key.now ∷ []) }
         ensures err { OnErr result (HaveSameGroups self.old.entries self.new.entries) }
         ensures primary { self.new.primary ≡ self.old.primary }
     {
-        let prefix = standing_prefix(alloc, key)?;
-        match self.put_under(alloc, p, key, prefix.as_slice()) {
-            Ok(()) => Ok(prefix),
+        match self.put_entry(alloc, p, key) {
+            Ok(_) => Ok(()),
             Err(e) => Err(e),
         }
     }
 
-    // Puts the entry of a key behind those of its prefix, which is this.
-    fn put_under(
-        &mut self,
-        alloc: Global,
-        p: Primitive<K>,
-        key: &Key,
-        prefix: &[u8],
-    ) -> Result<(), TinkError>
-        requires own { prefix.now ≡ own_prefix key.now }
-        ensures ok { OnOk result (Adds (own_prefix key.now) (entry_of p key.now) self.old.entries self.new.entries) }
-        ensures entries { OnOk result (AddsLast prefix_of (entry_of p key.now) self.old.entries self.new.entries) }
-        ensures newest { OnOk result (group_of self.new.entries (own_prefix key.now) ≡ group_of self.old.entries (own_prefix key.now) ++ entry_of p key.now ∷ []) }
-        ensures err { OnErr result (HaveSameGroups self.old.entries self.new.entries) }
-        ensures cause { IfErr result (λ e. e.kind ≡ OutOfMemory) }
-        ensures primary { self.new.primary ≡ self.old.primary }
+    // Puts the entry of a key behind those of its prefix, and answers the prefix.
+    fn put_entry(&mut self, alloc: Global, p: Primitive<K>, key: &Key) -> Result<Bytes, TinkError>
+        ensures value { IfOk result (λ prefix. prefix ≡ own_prefix key.now) }
+        ensures stands { OnOk result (may_stand key.now ≡ Ok tt) }
+        ensures cause { IfErr result (λ e. (e.kind ≡ OutOfMemory) ⊎ (may_stand key.now ≡ Err e.kind)) }
+        ensures after { SetAfterAdding (entry_of p key.now) result self.old self.new }
+        ensures newest { OnOk result (EndsBy (own_prefix key.now) (entry_of p key.now) self.old.entries self.new.entries) }
     {
-        match entry_under(alloc, p, key, prefix) {
-            Ok(entry) => put_in_group(&mut self.entries, alloc, prefix, entry),
+        match Entry::new(alloc, p, key) {
+            Ok(entry) => put_by_key(&mut self.entries, alloc, key, entry),
             Err(e) => Err(e),
         }
     }
@@ -126,9 +108,32 @@ impl<K: Kinds> PrimitiveSet<K> {
         ensures entries { IfOk result (λ copy. HaveSameGroups self.now.entries copy.entries) }
         ensures cause { IfErr result (λ e. e.kind ≡ OutOfMemory) }
     {
-        Ok(PrimitiveSet {
-            primary: clone_primary(alloc, &self.primary)?,
-            entries: clone_groups(alloc, &self.entries)?,
-        })
+        match clone_set(alloc, &self.primary, &self.entries) {
+            Ok((primary, entries)) => Ok(PrimitiveSet { primary, entries }),
+            Err(e) => Err(e),
+        }
+    }
+}
+
+// Puts an entry behind those of the prefix of its key, and answers the prefix.
+fn put_by_key<E: Drop>(
+    groups: &mut BTreeMap<Vec<u8>, Repeated<E>>,
+    alloc: Global,
+    key: &Key,
+    entry: E,
+) -> Result<Bytes, TinkError>
+    ensures value { IfOk result (λ prefix. prefix ≡ own_prefix key.now) }
+    ensures stands { OnOk result (may_stand key.now ≡ Ok tt) }
+    ensures cause { IfErr result (λ e. (e.kind ≡ OutOfMemory) ⊎ (may_stand key.now ≡ Err e.kind)) }
+    ensures ok { OnOk result (Adds (own_prefix key.now) entry groups.old groups.new) }
+    ensures err { OnErr result (HaveSameGroups groups.old groups.new) }
+{
+    let prefix = match standing_prefix(alloc, key) {
+        Ok(prefix) => prefix,
+        Err(e) => return Err(e),
+    };
+    match put_in_group(groups, alloc, prefix.as_slice(), entry) {
+        Ok(()) => Ok(prefix),
+        Err(e) => Err(e),
     }
 }

@@ -10,6 +10,7 @@ ghost use Rattle.tink_sets.specs.Entries.{typed_by, with_primitive};
 ghost use Rattle.tink_sets.specs.SortLaws.{aead_or_wrong, deterministic_aead_or_wrong, hybrid_decrypt_or_wrong, hybrid_encrypt_or_wrong, mac_or_wrong, prf_or_wrong, signer_or_wrong, streaming_aead_or_wrong, verifier_or_wrong};
 
 use crate::converting::Convert;
+use crate::entry::{beside, clone_parts};
 use crate::{Entry, TypedEntry};
 use std::alloc::Global;
 use tink_io::TinkError;
@@ -40,14 +41,17 @@ impl<K: Kinds, S: Sort<K>> Convert<Entry<K>> for Typed<S> {
     ghost gives = { typed_by S.picks };
 
     fn convert(alloc: Global, from: &Entry<K>) -> Result<TypedEntry<S::Of>, TinkError> {
-        let copy = from.try_clone(alloc)?;
-        match S::pick(copy.primitive) {
-            Ok(primitive) => Ok(TypedEntry {
-                key_id: copy.key_id,
+        let (primitive, prefix) = match clone_parts(alloc, &from.primitive, &from.prefix) {
+            Ok(parts) => parts,
+            Err(e) => return Err(e),
+        };
+        match beside(prefix, S::pick(primitive)) {
+            Ok((prefix, primitive)) => Ok(TypedEntry {
+                key_id: from.key_id,
                 primitive,
-                prefix: copy.prefix,
-                prefix_type: copy.prefix_type,
-                status: copy.status,
+                prefix,
+                prefix_type: from.prefix_type,
+                status: from.status,
             }),
             Err(e) => Err(e),
         }

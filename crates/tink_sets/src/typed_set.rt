@@ -4,10 +4,10 @@ ghost use Rattle.std.specs.Prelude.{◌≡◌, ◌⊎◌, [], None, Some, IfOk, 
 ghost use Rattle.tink_io.specs.declared.error.Kind.TheVariants.{OutOfMemory, WrongPrimitive};
 ghost use Rattle.tink_primitives.specs.Sorts.{as_aead, as_deterministic_aead, as_hybrid_decrypt, as_hybrid_encrypt, as_mac, as_prf, as_signer, as_streaming_aead, as_verifier};
 ghost use Rattle.tink_sets.specs.Groups.{group_at, HaveSameGroups};
-ghost use Rattle.tink_sets.specs.Converting.{AreConverted, HasRefused};
-ghost use Rattle.tink_sets.specs.Entries.{typed_by, IsTypedPrimary, IsRefusedPrimary, HasAnother};
+ghost use Rattle.tink_sets.specs.Converting.{HasRefused};
+ghost use Rattle.tink_sets.specs.Entries.{typed_by, AreNotTyped, AreTyped, IsTypedPrimary, IsRefusedPrimary};
 
-use crate::converting::{Convert, clone_groups, clone_primary, convert_groups};
+use crate::converting::{Convert, clone_set, convert_groups};
 use crate::cryptofmt::RAW_PREFIX;
 use crate::groups::group_at;
 use crate::sorts::{
@@ -33,14 +33,16 @@ pub struct TypedPrimitiveSet<P> {
 impl<P> TypedPrimitiveSet<P> {
     /// The entries without a prefix, in the order in which they were added, or `None` exactly where the set has none.
     pub fn raw_entries(&self) -> Option<&[TypedEntry<P>]>
-        ensures value { MatchOption result (group_at self.now.entries [] ≡ None) (λ group. group_at self.now.entries [] ≡ Some group.now) }
+        ensures value { MatchOption result (group_at self.now.entries [] ≡ None)
+            (λ group. group_at self.now.entries [] ≡ Some group.now) }
     {
         self.entries_for_prefix(&RAW_PREFIX)
     }
 
     /// The entries of a prefix, in the order in which they were added, or `None` exactly where the set has none.
     pub fn entries_for_prefix(&self, prefix: &[u8]) -> Option<&[TypedEntry<P>]>
-        ensures value { MatchOption result (group_at self.now.entries prefix.now ≡ None) (λ group. group_at self.now.entries prefix.now ≡ Some group.now) }
+        ensures value { MatchOption result (group_at self.now.entries prefix.now ≡ None)
+            (λ group. group_at self.now.entries prefix.now ≡ Some group.now) }
     {
         group_at(&self.entries, prefix)
     }
@@ -53,8 +55,8 @@ impl<P> TypedPrimitiveSet<P> {
     where
         P: Drop,
         ensures primary { IfOk result (λ typed. IsTypedPrimary S.picks set.now.primary typed.primary) }
-        ensures entries { IfOk result (λ typed. AreConverted (typed_by S.picks) set.now.entries typed.entries) }
-        ensures cause { IfErr result (λ e. (e.kind ≡ OutOfMemory) ⊎ ((e.kind ≡ WrongPrimitive) × HasAnother S.picks set.now.primary set.now.entries)) }
+        ensures entries { IfOk result (λ typed. AreTyped S.picks set.now.entries typed.entries) }
+        ensures cause { IfErr result (λ e. AreNotTyped S.picks e.kind set.now.primary set.now.entries) }
     {
         from_set::<K, S>(alloc, set)
     }
@@ -67,13 +69,14 @@ impl<P> TypedPrimitiveSet<P> {
     where
         P: Drop,
         ensures primary { IfOk result (λ typed. IsTypedPrimary as_aead set.primary typed.primary) }
-        ensures entries { IfOk result (λ typed. AreConverted (typed_by as_aead) set.entries typed.entries) }
-        ensures cause { IfErr result (λ e. (e.kind ≡ OutOfMemory) ⊎ ((e.kind ≡ WrongPrimitive) × HasAnother as_aead set.primary set.entries)) }
+        ensures entries { IfOk result (λ typed. AreTyped as_aead set.entries typed.entries) }
+        ensures cause { IfErr result (λ e. AreNotTyped as_aead e.kind set.primary set.entries) }
     {
         from_owned::<K, Aeads>(alloc, set)
     }
 
-    /// The set as one of deterministic AEADs, or `WrongPrimitive` exactly where an entry or the primary is of another sort.
+    /// The set as one of deterministic AEADs, or `WrongPrimitive` exactly where an entry or the primary is of another
+    /// sort.
     pub fn from_set_deterministic_aead<K: Kinds<DeterministicAead = P>>(
         alloc: Global,
         set: PrimitiveSet<K>,
@@ -81,13 +84,14 @@ impl<P> TypedPrimitiveSet<P> {
     where
         P: Drop,
         ensures primary { IfOk result (λ typed. IsTypedPrimary as_deterministic_aead set.primary typed.primary) }
-        ensures entries { IfOk result (λ typed. AreConverted (typed_by as_deterministic_aead) set.entries typed.entries) }
-        ensures cause { IfErr result (λ e. (e.kind ≡ OutOfMemory) ⊎ ((e.kind ≡ WrongPrimitive) × HasAnother as_deterministic_aead set.primary set.entries)) }
+        ensures entries { IfOk result (λ typed. AreTyped as_deterministic_aead set.entries typed.entries) }
+        ensures cause { IfErr result (λ e. AreNotTyped as_deterministic_aead e.kind set.primary set.entries) }
     {
         from_owned::<K, DeterministicAeads>(alloc, set)
     }
 
-    /// The set as one of hybrid decryptions, or `WrongPrimitive` exactly where an entry or the primary is of another sort.
+    /// The set as one of hybrid decryptions, or `WrongPrimitive` exactly where an entry or the primary is of another
+    /// sort.
     pub fn from_set_hybrid_decrypt<K: Kinds<HybridDecrypt = P>>(
         alloc: Global,
         set: PrimitiveSet<K>,
@@ -95,13 +99,14 @@ impl<P> TypedPrimitiveSet<P> {
     where
         P: Drop,
         ensures primary { IfOk result (λ typed. IsTypedPrimary as_hybrid_decrypt set.primary typed.primary) }
-        ensures entries { IfOk result (λ typed. AreConverted (typed_by as_hybrid_decrypt) set.entries typed.entries) }
-        ensures cause { IfErr result (λ e. (e.kind ≡ OutOfMemory) ⊎ ((e.kind ≡ WrongPrimitive) × HasAnother as_hybrid_decrypt set.primary set.entries)) }
+        ensures entries { IfOk result (λ typed. AreTyped as_hybrid_decrypt set.entries typed.entries) }
+        ensures cause { IfErr result (λ e. AreNotTyped as_hybrid_decrypt e.kind set.primary set.entries) }
     {
         from_owned::<K, HybridDecrypters>(alloc, set)
     }
 
-    /// The set as one of hybrid encryptions, or `WrongPrimitive` exactly where an entry or the primary is of another sort.
+    /// The set as one of hybrid encryptions, or `WrongPrimitive` exactly where an entry or the primary is of another
+    /// sort.
     pub fn from_set_hybrid_encrypt<K: Kinds<HybridEncrypt = P>>(
         alloc: Global,
         set: PrimitiveSet<K>,
@@ -109,8 +114,8 @@ impl<P> TypedPrimitiveSet<P> {
     where
         P: Drop,
         ensures primary { IfOk result (λ typed. IsTypedPrimary as_hybrid_encrypt set.primary typed.primary) }
-        ensures entries { IfOk result (λ typed. AreConverted (typed_by as_hybrid_encrypt) set.entries typed.entries) }
-        ensures cause { IfErr result (λ e. (e.kind ≡ OutOfMemory) ⊎ ((e.kind ≡ WrongPrimitive) × HasAnother as_hybrid_encrypt set.primary set.entries)) }
+        ensures entries { IfOk result (λ typed. AreTyped as_hybrid_encrypt set.entries typed.entries) }
+        ensures cause { IfErr result (λ e. AreNotTyped as_hybrid_encrypt e.kind set.primary set.entries) }
     {
         from_owned::<K, HybridEncrypters>(alloc, set)
     }
@@ -123,13 +128,14 @@ impl<P> TypedPrimitiveSet<P> {
     where
         P: Drop,
         ensures primary { IfOk result (λ typed. IsTypedPrimary as_mac set.primary typed.primary) }
-        ensures entries { IfOk result (λ typed. AreConverted (typed_by as_mac) set.entries typed.entries) }
-        ensures cause { IfErr result (λ e. (e.kind ≡ OutOfMemory) ⊎ ((e.kind ≡ WrongPrimitive) × HasAnother as_mac set.primary set.entries)) }
+        ensures entries { IfOk result (λ typed. AreTyped as_mac set.entries typed.entries) }
+        ensures cause { IfErr result (λ e. AreNotTyped as_mac e.kind set.primary set.entries) }
     {
         from_owned::<K, Macs>(alloc, set)
     }
 
-    /// The set as one of pseudorandom functions, or `WrongPrimitive` exactly where an entry or the primary is of another sort.
+    /// The set as one of pseudorandom functions, or `WrongPrimitive` exactly where an entry or the primary is of another
+    /// sort.
     pub fn from_set_prf<K: Kinds<Prf = P>>(
         alloc: Global,
         set: PrimitiveSet<K>,
@@ -137,8 +143,8 @@ impl<P> TypedPrimitiveSet<P> {
     where
         P: Drop,
         ensures primary { IfOk result (λ typed. IsTypedPrimary as_prf set.primary typed.primary) }
-        ensures entries { IfOk result (λ typed. AreConverted (typed_by as_prf) set.entries typed.entries) }
-        ensures cause { IfErr result (λ e. (e.kind ≡ OutOfMemory) ⊎ ((e.kind ≡ WrongPrimitive) × HasAnother as_prf set.primary set.entries)) }
+        ensures entries { IfOk result (λ typed. AreTyped as_prf set.entries typed.entries) }
+        ensures cause { IfErr result (λ e. AreNotTyped as_prf e.kind set.primary set.entries) }
     {
         from_owned::<K, Prfs>(alloc, set)
     }
@@ -151,8 +157,8 @@ impl<P> TypedPrimitiveSet<P> {
     where
         P: Drop,
         ensures primary { IfOk result (λ typed. IsTypedPrimary as_signer set.primary typed.primary) }
-        ensures entries { IfOk result (λ typed. AreConverted (typed_by as_signer) set.entries typed.entries) }
-        ensures cause { IfErr result (λ e. (e.kind ≡ OutOfMemory) ⊎ ((e.kind ≡ WrongPrimitive) × HasAnother as_signer set.primary set.entries)) }
+        ensures entries { IfOk result (λ typed. AreTyped as_signer set.entries typed.entries) }
+        ensures cause { IfErr result (λ e. AreNotTyped as_signer e.kind set.primary set.entries) }
     {
         from_owned::<K, Signers>(alloc, set)
     }
@@ -165,8 +171,8 @@ impl<P> TypedPrimitiveSet<P> {
     where
         P: Drop,
         ensures primary { IfOk result (λ typed. IsTypedPrimary as_streaming_aead set.primary typed.primary) }
-        ensures entries { IfOk result (λ typed. AreConverted (typed_by as_streaming_aead) set.entries typed.entries) }
-        ensures cause { IfErr result (λ e. (e.kind ≡ OutOfMemory) ⊎ ((e.kind ≡ WrongPrimitive) × HasAnother as_streaming_aead set.primary set.entries)) }
+        ensures entries { IfOk result (λ typed. AreTyped as_streaming_aead set.entries typed.entries) }
+        ensures cause { IfErr result (λ e. AreNotTyped as_streaming_aead e.kind set.primary set.entries) }
     {
         from_owned::<K, StreamingAeads>(alloc, set)
     }
@@ -179,8 +185,8 @@ impl<P> TypedPrimitiveSet<P> {
     where
         P: Drop,
         ensures primary { IfOk result (λ typed. IsTypedPrimary as_verifier set.primary typed.primary) }
-        ensures entries { IfOk result (λ typed. AreConverted (typed_by as_verifier) set.entries typed.entries) }
-        ensures cause { IfErr result (λ e. (e.kind ≡ OutOfMemory) ⊎ ((e.kind ≡ WrongPrimitive) × HasAnother as_verifier set.primary set.entries)) }
+        ensures entries { IfOk result (λ typed. AreTyped as_verifier set.entries typed.entries) }
+        ensures cause { IfErr result (λ e. AreNotTyped as_verifier e.kind set.primary set.entries) }
     {
         from_owned::<K, Verifiers>(alloc, set)
     }
@@ -193,10 +199,10 @@ impl<P: CloneIn> TypedPrimitiveSet<P> {
         ensures entries { IfOk result (λ copy. HaveSameGroups self.now.entries copy.entries) }
         ensures cause { IfErr result (λ e. e.kind ≡ OutOfMemory) }
     {
-        Ok(TypedPrimitiveSet {
-            primary: clone_primary(alloc, &self.primary)?,
-            entries: clone_groups(alloc, &self.entries)?,
-        })
+        match clone_set(alloc, &self.primary, &self.entries) {
+            Ok((primary, entries)) => Ok(TypedPrimitiveSet { primary, entries }),
+            Err(e) => Err(e),
+        }
     }
 }
 
@@ -206,7 +212,8 @@ fn typed_primary<K: Kinds, S: Sort<K>>(
     primary: &Option<Entry<K>>,
 ) -> Result<Option<TypedEntry<S::Of>>, TinkError>
     ensures ok { IfOk result (λ typed. IsTypedPrimary S.picks primary.now typed) }
-    ensures cause { IfErr result (λ e. (e.kind ≡ OutOfMemory) ⊎ ((e.kind ≡ WrongPrimitive) × IsRefusedPrimary S.picks primary.now WrongPrimitive)) }
+    ensures cause { IfErr result (λ e. (e.kind ≡ OutOfMemory)
+        ⊎ ((e.kind ≡ WrongPrimitive) × IsRefusedPrimary S.picks primary.now WrongPrimitive)) }
 {
     match primary {
         Some(entry) => match Typed::<S>::convert(alloc, entry) {
@@ -222,8 +229,9 @@ fn typed_groups<K: Kinds, S: Sort<K>>(
     alloc: Global,
     groups: &BTreeMap<Vec<u8>, Repeated<Entry<K>>>,
 ) -> Result<BTreeMap<Vec<u8>, Repeated<TypedEntry<S::Of>>>, TinkError>
-    ensures ok { IfOk result (λ typed. AreConverted (typed_by S.picks) groups.now typed) }
-    ensures cause { IfErr result (λ e. (e.kind ≡ OutOfMemory) ⊎ ((e.kind ≡ WrongPrimitive) × HasRefused (typed_by S.picks) groups.now WrongPrimitive)) }
+    ensures ok { IfOk result (λ typed. AreTyped S.picks groups.now typed) }
+    ensures cause { IfErr result (λ e. (e.kind ≡ OutOfMemory)
+        ⊎ ((e.kind ≡ WrongPrimitive) × HasRefused (typed_by S.picks) groups.now WrongPrimitive)) }
 {
     match convert_groups::<Entry<K>, Typed<S>>(alloc, groups) {
         Ok(typed) => Ok(typed),
@@ -237,8 +245,8 @@ fn from_set<K: Kinds, S: Sort<K>>(
     set: &PrimitiveSet<K>,
 ) -> Result<TypedPrimitiveSet<S::Of>, TinkError>
     ensures primary { IfOk result (λ typed. IsTypedPrimary S.picks set.now.primary typed.primary) }
-    ensures entries { IfOk result (λ typed. AreConverted (typed_by S.picks) set.now.entries typed.entries) }
-    ensures cause { IfErr result (λ e. (e.kind ≡ OutOfMemory) ⊎ ((e.kind ≡ WrongPrimitive) × HasAnother S.picks set.now.primary set.now.entries)) }
+    ensures entries { IfOk result (λ typed. AreTyped S.picks set.now.entries typed.entries) }
+    ensures cause { IfErr result (λ e. AreNotTyped S.picks e.kind set.now.primary set.now.entries) }
 {
     let primary = match typed_primary::<K, S>(alloc, &set.primary) {
         Ok(primary) => primary,
@@ -256,8 +264,14 @@ fn from_owned<K: Kinds, S: Sort<K>>(
     set: PrimitiveSet<K>,
 ) -> Result<TypedPrimitiveSet<S::Of>, TinkError>
     ensures primary { IfOk result (λ typed. IsTypedPrimary S.picks set.primary typed.primary) }
-    ensures entries { IfOk result (λ typed. AreConverted (typed_by S.picks) set.entries typed.entries) }
-    ensures cause { IfErr result (λ e. (e.kind ≡ OutOfMemory) ⊎ ((e.kind ≡ WrongPrimitive) × HasAnother S.picks set.primary set.entries)) }
+    ensures entries { IfOk result (λ typed. AreTyped S.picks set.entries typed.entries) }
+    ensures cause { IfErr result (λ e. AreNotTyped S.picks e.kind set.primary set.entries) }
 {
-    from_set::<K, S>(alloc, &set)
+    let typed = from_set::<K, S>(alloc, &set);
+    let PrimitiveSet { primary, entries } = set;
+    let_go(primary, entries);
+    typed
 }
+
+// Nothing of a set is left.
+fn let_go<E: Drop>(_primary: Option<E>, _entries: BTreeMap<Vec<u8>, Repeated<E>>) {}

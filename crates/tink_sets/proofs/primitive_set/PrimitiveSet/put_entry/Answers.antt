@@ -1,0 +1,24 @@
+use Rattle.std.proofs.Common.{refl, subst}
+use Rattle.std.specs.Prelude.{OnOk}
+use Rattle.std.proofs.lemmas.Result.{on_ok_weaker}
+use Rattle.tink_sets.specs.Entries.{entry_of, own_prefix, prefix_of}
+use Rattle.tink_sets.specs.Groups.{Adds}
+use Rattle.tink_sets.proofs.AddingFacts.{after_adding, group_of-own}
+use Rattle.tink_sets.proofs.primitive_set.PrimitiveSet.put_entry.Goals as goal
+
+pub returns-in-Ok-clause-after : goal.returns-in-Ok-clause-after
+returns-in-Ok-clause-after g c =
+    let old = c.args.self.now.entries in
+    let new = c.put_by_key.new.groups in
+    let of_key = entry_of c.args.p c.args.key.now in
+    let adds = subst (λ e. OnOk c.put_by_key.result (Adds (own_prefix c.args.key.now) e old new)) c.in-Ok.ensures.value c.put_by_key.ensures.ok in
+    (refl, after_adding prefix_of of_key c.put_by_key.result old new adds c.put_by_key.ensures.err)
+
+pub returns-in-Ok-clause-newest : goal.returns-in-Ok-clause-newest
+returns-in-Ok-clause-newest g c =
+    let old = c.args.self.now.entries in
+    let new = c.put_by_key.new.groups in
+    let own = own_prefix c.args.key.now in
+    let of_key = entry_of c.args.p c.args.key.now in
+    let adds = subst (λ e. OnOk c.put_by_key.result (Adds own e old new)) c.in-Ok.ensures.value c.put_by_key.ensures.ok in
+    on_ok_weaker c.put_by_key.result (group_of-own own of_key old new) adds
