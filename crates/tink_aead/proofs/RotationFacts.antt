@@ -21,7 +21,7 @@ use Rattle.keyset_model.proofs.EnabledLaw.{keeps_enabled}
 use Rattle.tink_factory.specs.Accepting.{entries_of, first_value, or_else, prefixed_value, raw_value, value_or}
 use Rattle.tink_aead.specs.Rotation.{EnabledKeysOpen, EncryptedOpens, IsSealedBy, OldCiphertextsOpen, OpensToNoOther}
 use Rattle.tink_aead.specs.Wrapped.{any_decrypts, entry_decrypts, entry_encrypts, primary_encrypts}
-use Rattle.tink_aead.proofs.KeyEntries.{key_of, of_enabled, of_own_prefix}
+use Rattle.tink_mac.proofs.KeyEntries.{entry_key, of_enabled, of_own_prefix}
 
 -- ---- the first of a list that accepts, where all that accept give one value
 module _ {E A : Type 0} (f : E → Result A Kind) (t : E → Bool) (v : A) where
@@ -165,7 +165,7 @@ module _ {P : Type 0} (encrypts : P → List ℕ → List ℕ → List ℕ → R
       let by = by_primary (entry_of_id id es) text aad draws input made in
       let e = by.0 in
       let there = found_in (λ x. nat_eq x.key_id id) es e by.1 in
-      let own = key_of as_aead url supports builds managers m.keyset e es all there.0 in
+      let own = entry_key as_aead url supports builds managers m.keyset e es all there.0 in
       let k = own.0 in
       let same : id ≡ k.key_id = sym (own.3 ∙ eqb-true e.key_id id there.1) in
       enabled_keys_open url supports builds makes managers m commands k e later text aad input own.1 (subst (λ n. All (Spares n) commands) same spared) own.2 after

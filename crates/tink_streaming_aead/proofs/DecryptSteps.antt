@@ -44,7 +44,7 @@ not_both : (s : Option (ℕ → Bool → List ℕ → List ℕ)) (chunks : List 
 not_both None chunks f a = f
 not_both (Some seg) chunks f a = let none : 1 ≤ 0 = a.longest (f.0 ∷ []) f.1 in omega (arith, none)
 
--- something comes of told bytes once a key was chosen for them
+-- something comes of known bytes once a key was chosen for them
 never_nothing : (ks : List OpeningKey) (all rest : Option (List ℕ)) (seg : ℕ → Bool → List ℕ → List ℕ) (first size overhead : ℕ) → IfSome all (λ X. Started ks X rest seg first size overhead)
     → IfSome rest (λ Y. Agree seg 0 (cut first size Y) []) → IfSome all (λ X. IsChosen ks X None)
 never_nothing ks None rest seg first size overhead s n = tt

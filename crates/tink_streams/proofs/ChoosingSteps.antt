@@ -24,12 +24,12 @@ take_key {T} of keys i key X e first h = h (Some (of key)) (subst (λ (ks : List
 pub none_left : {T : Type 0} (of : T → OpeningKey) (keys : List T) (i : ℕ) (X : List ℕ) → length keys ≤ i → ChosenFrom of keys i X → IsChosen (map of keys) X None
 none_left {T} of keys i X e h = h None (subst (λ (ks : List T). IsChosen (map of ks) X None) (sym (drop_of_length-le keys {i = i} e)) refl)
 
--- two facts of told bytes
+-- two facts of known bytes
 pub both_told : (r : Option (List ℕ)) (P Q R : List ℕ → Type 0) → ((X : List ℕ) → P X → Q X → R X) → IfSome r P → IfSome r Q → IfSome r R
 both_told None P Q R f p q = tt
 both_told (Some X) P Q R f p q = f X p q
 
--- a fact of bytes that are told now is one of those told before
+-- a fact of bytes that are known now is one of those known before
 pub told_before : (r s : Option (List ℕ)) (P : List ℕ → Type 0) → Keeps r s → IfSome s P → IfSome r P
 told_before None s P k h = tt
 told_before (Some X) None P k h = absurd k

@@ -144,7 +144,7 @@ not_failed Running h = tt
 not_failed Ended h = tt
 not_failed (Failed c) h = h c refl
 
--- the end, told in either form
+-- the end, said in either form
 pub told_end : (r : Option (List ℕ)) → ForSome r (λ xs. xs ≡ []) → IsAtEnd r
 told_end None h = tt
 told_end (Some X) h = h X refl

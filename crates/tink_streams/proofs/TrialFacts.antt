@@ -1,13 +1,17 @@
 -- Whether a stream begins under a key, by the bytes that are held of it.
 use Rattle.std.proofs.Common.{◌≡◌, inl, inr, ◌≤◌, ◌<◌, ◌+◌, ◌-◌, ℕ, Bool, List, [], ◌∷◌, ◌++◌, length, take, drop, Some, None, IfSome, ap, sym, ◌∙◌, subst, arith, length-append, length-drop}
 use Rattle.std.proofs.lemmas.List.{take-append-le, drop-append-le, drop-take, get_or_append_left}
+use Rattle.std.specs.Prelude.{MatchResult, Result, Ok, Err, Vec, false, true}
 use Rattle.std.specs.declared.option.Option.{Option}
 use Rattle.std.specs.Io.KnownBytes.{Keeps, prepend_known}
 use Rattle.std.proofs.KnownBytes.{Keeps-trans}
 use Rattle.stream_model.specs.Agree.{Agree}
 use Rattle.stream_model.specs.Opening.{OpeningKey, HasHeader, Begins, FirstAgrees, chunks_of}
 use Rattle.stream_model.proofs.AgreeFacts.{AreTexts-leads}
+use Rattle.tink_segment_traits.specs.declared.segment_traits.SegmentDecrypter.{Ghosts}
 use Rattle.tink_streams.specs.Opening.{HeadOpensTo, HoldsChunk}
+use Rattle.tink_streams.specs.Trials.{DoesBegin, DoesNotBegin, TrialMeans}
+use Rattle.tink_streams.specs.declared.trying.Begun.{Begun}
 use Rattle.tink_streams.proofs.FrontFacts.{fits_or_not, opened_front, refused_front}
 
 -- what is held of the same bytes
@@ -100,3 +104,11 @@ pub part_of : (h header filled : ℕ) (xs items : List ℕ) → h ≡ header →
 part_of h header filled xs items e f long =
     let all : h + (filled - h) ≡ filled = omega arith in
     sym (drop-take h (filled - h) xs) ∙ ap (λ n. drop h (take n xs)) all ∙ ap (λ x. drop h (take filled x)) f ∙ ap (λ n. drop n (take filled items)) e
+
+-- what the trial of a key answers, by whether its stream begins
+pub trial_means : {D : Type 0} {g : Ghosts D} {Z : Type 0} (k : OpeningKey) (nonce_size : ℕ) (old new : Option (List ℕ)) (filled : ℕ) (begins : Bool) (b : Begun D g) (prefix : Vec ℕ Z) (r : Result (Begun D g) (Vec ℕ Z))
+    → MatchResult r (λ x. (begins ≡ true) × (x ≡ b)) (λ p. (begins ≡ false) × (p ≡ prefix))
+    → (begins ≡ true → DoesBegin k nonce_size old new filled b) → (begins ≡ false → DoesNotBegin k old new prefix)
+    → TrialMeans k nonce_size old new filled r
+trial_means k nonce_size old new filled begins b prefix (Ok x) is does fails = subst (DoesBegin k nonce_size old new filled) (sym is.1) (does is.0)
+trial_means {Z = Z} k nonce_size old new filled begins b prefix (Err p) is does fails = subst (λ (q : Vec ℕ Z). DoesNotBegin k old new q) (sym is.1) (fails is.0)
