@@ -19,7 +19,7 @@ pub widened_told : {P X Q : Type 0} (pick : P → Result X Kind) (sort : X → Q
 widened_told pick sort picks (Ok p) told = made_told sort (pick p) (picks p)
 widened_told pick sort picks (Err kind) told = told
 
--- the URL of a type of keys, what a key's bytes build, which key and which data a format makes, and that each answer is told
+-- the URL of a type of keys, what a key's bytes build, which key and which data a format makes, and that each answer is known
 pub record Row (P : Type 0) : Type 0 where
   pub url : List ℕ
   pub built : List ℕ → Result P Kind

@@ -1,4 +1,3 @@
-pub mod KeyEntries
 pub mod RotationFacts
 pub mod ComposedKeyFacts
 pub mod EnvelopeFacts

@@ -19,9 +19,9 @@ use Rattle.keyset_model.specs.Commands.{after_all}
 use Rattle.keyset_model.specs.Spared.{Spares}
 use Rattle.keyset_model.proofs.EnabledLaw.{keeps_enabled}
 use Rattle.tink_factory.specs.Accepting.{entries_of, first_value, or_else, prefixed_value, raw_value, value_or}
-use Rattle.tink_aead.specs.Rotation.{EnabledKeysOpen, EncryptedOpens, IsSealedBy, OldCiphertextsOpen, OpensTo}
+use Rattle.tink_aead.specs.Rotation.{EnabledKeysOpen, EncryptedOpens, IsSealedBy, OldCiphertextsOpen, OpensToNoOther}
 use Rattle.tink_aead.specs.Wrapped.{any_decrypts, entry_decrypts, entry_encrypts, primary_encrypts}
-use Rattle.tink_aead.proofs.KeyEntries.{key_of, of_enabled, of_own_prefix}
+use Rattle.tink_mac.proofs.KeyEntries.{entry_key, of_enabled, of_own_prefix}
 
 -- ---- the first of a list that accepts, where all that accept give one value
 module _ {E A : Type 0} (f : E → Result A Kind) (t : E → Bool) (v : A) where
@@ -77,7 +77,7 @@ unmade g (Ok s) out e = let same : g s ≡ out = cc in (s, (refl, same))
 unmade g (Err k) out e = absurd (cc)
 
 module _ {P : Type 0} (encrypts : P → List ℕ → List ℕ → List ℕ → Result (List ℕ) Kind × List ℕ) (decrypts : P → List ℕ → List ℕ → Result (List ℕ) Kind)
-    (es : List (TypedEntry P)) (e : TypedEntry P) (text aad input : List ℕ) (known : (length e.prefix ≡ 5) ⊎ (e.prefix ≡ [])) (there : Contains es e) (by : IsSealedBy encrypts decrypts e text aad input) (all : All (OpensTo encrypts decrypts text aad input) es) where
+    (es : List (TypedEntry P)) (e : TypedEntry P) (text aad input : List ℕ) (known : (length e.prefix ≡ 5) ⊎ (e.prefix ≡ [])) (there : Contains es e) (by : IsSealedBy encrypts decrypts e text aad input) (all : All (OpensToNoOther encrypts decrypts text aad input) es) where
   abbrev answer : TypedEntry P → List ℕ → Result (List ℕ) Kind
   answer = entry_decrypts decrypts aad
 
@@ -91,10 +91,10 @@ module _ {P : Type 0} (encrypts : P → List ℕ → List ℕ → List ℕ → R
   opens = by.undoes text aad by.draws parts.0 parts.1.0
 
   alike_behind : All (IsAlike (λ x. answer x (drop 5 input)) (with_prefix (take 5 input)) text) es
-  alike_behind = All-weaker (OpensTo encrypts decrypts text aad input) (IsAlike (λ x. answer x (drop 5 input)) (with_prefix (take 5 input)) text) (λ x opened passes. opened.behind ((bytes_eq-Decides x.prefix (take 5 input)).0 passes)) es all
+  alike_behind = All-weaker (OpensToNoOther encrypts decrypts text aad input) (IsAlike (λ x. answer x (drop 5 input)) (with_prefix (take 5 input)) text) (λ x opened passes. opened.behind ((bytes_eq-Decides x.prefix (take 5 input)).0 passes)) es all
 
   alike_whole : All (IsAlike (λ x. answer x input) (with_prefix []) text) es
-  alike_whole = All-weaker (OpensTo encrypts decrypts text aad input) (IsAlike (λ x. answer x input) (with_prefix []) text) (λ x opened passes. opened.whole ((bytes_eq-Decides x.prefix []).0 passes)) es all
+  alike_whole = All-weaker (OpensToNoOther encrypts decrypts text aad input) (IsAlike (λ x. answer x input) (with_prefix []) text) (λ x opened passes. opened.whole ((bytes_eq-Decides x.prefix []).0 passes)) es all
 
   abbrev behind : Option (List ℕ)
   behind = first_value (λ x. answer x (drop 5 input)) (entries_of es (take 5 input))
@@ -165,7 +165,7 @@ module _ {P : Type 0} (encrypts : P → List ℕ → List ℕ → List ℕ → R
       let by = by_primary (entry_of_id id es) text aad draws input made in
       let e = by.0 in
       let there = found_in (λ x. nat_eq x.key_id id) es e by.1 in
-      let own = key_of as_aead url supports builds managers m.keyset e es all there.0 in
+      let own = entry_key as_aead url supports builds managers m.keyset e es all there.0 in
       let k = own.0 in
       let same : id ≡ k.key_id = sym (own.3 ∙ eqb-true e.key_id id there.1) in
       enabled_keys_open url supports builds makes managers m commands k e later text aad input own.1 (subst (λ n. All (Spares n) commands) same spared) own.2 after

@@ -1,4 +1,4 @@
--- What an envelope shows of its meaning: each answer is told, and what is taken is a prefix of the draws.
+-- What an envelope shows of its meaning: each answer is known, and what is taken is a prefix of the draws.
 use Rattle.std.specs.Prelude.{ℕ, List, [], ◌||◌, ◌^◌, length, take, drop, nat_eq, nat_lt, nat_le, Result, Ok, Err}
 use Rattle.std.specs.Int.{w32, from_be_bytes}
 use Rattle.std.proofs.Common.{refl}

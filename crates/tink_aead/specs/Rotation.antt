@@ -27,7 +27,7 @@ module _ {P : Type 0} (encrypts : P → List ℕ → List ℕ → List ℕ → R
     pub long : 5 < length input
 
   -- an entry opens a ciphertext to this text, where it opens it at all
-  pub record OpensTo (text aad input : List ℕ) (x : TypedEntry P) : Type 0 where
+  pub record OpensToNoOther (text aad input : List ℕ) (x : TypedEntry P) : Type 0 where
     pub behind : x.prefix ≡ take 5 input → (other : List ℕ) → decrypts x.primitive (drop 5 input) aad ≡ Ok other → other ≡ text
     pub whole : x.prefix ≡ [] → (other : List ℕ) → decrypts x.primitive input aad ≡ Ok other → other ≡ text
 
@@ -36,7 +36,7 @@ module _ {P : Type 0} (encrypts : P → List ℕ → List ℕ → List ℕ → R
   abbrev pub OldCiphertextsOpen : Type 0
   OldCiphertextsOpen =
       (es : List (TypedEntry P)) (e : TypedEntry P) (text aad input : List ℕ)
-      → (length e.prefix ≡ 5) ⊎ (e.prefix ≡ []) → Contains es e → IsSealedBy e text aad input → All (OpensTo text aad input) es
+      → (length e.prefix ≡ 5) ⊎ (e.prefix ≡ []) → Contains es e → IsSealedBy e text aad input → All (OpensToNoOther text aad input) es
       → any_decrypts decrypts (entries_of es) input aad ≡ Ok text
 
   module _ {R K D HD HE M F S St V : Type 0} (url : R → List ℕ) (supports : R → List ℕ → Bool) (builds : R → List ℕ → Result (Primitive K P D HD HE M F S St V) Kind) where
@@ -54,7 +54,7 @@ module _ {P : Type 0} (encrypts : P → List ℕ → List ℕ → List ℕ → R
     EnabledKeysOpen =
         (makes : Maker) (managers : List R) (m : Managed) (commands : List Command) (k : Key) (e : TypedEntry P) (es : List (TypedEntry P)) (text aad input : List ℕ)
         → Contains (enabled m.keyset) k → All (Spares k.key_id) commands → aead_entry managers k ≡ Ok e
-        → aead_entries managers (after_all makes m commands).keyset ≡ Ok es → IsSealedBy e text aad input → All (OpensTo text aad input) es
+        → aead_entries managers (after_all makes m commands).keyset ≡ Ok es → IsSealedBy e text aad input → All (OpensToNoOther text aad input) es
         → any_decrypts decrypts (entries_of es) input aad ≡ Ok text
 
     -- What the AEAD of a keyset encrypts is decrypted by that of the keyset after all commands that neither disable,
@@ -64,5 +64,5 @@ module _ {P : Type 0} (encrypts : P → List ℕ → List ℕ → List ℕ → R
         (makes : Maker) (managers : List R) (m : Managed) (commands : List Command) (es later : List (TypedEntry P)) (text aad draws input : List ℕ)
         → All (Spares m.keyset.primary_key_id) commands → aead_entries managers m.keyset ≡ Ok es → All (λ e. Undoes (encrypts e.primitive) (decrypts e.primitive)) es
         → (primary_encrypts encrypts (entry_of_id m.keyset.primary_key_id es) text aad draws).0 ≡ Ok input → 5 < length input
-        → aead_entries managers (after_all makes m commands).keyset ≡ Ok later → All (OpensTo text aad input) later
+        → aead_entries managers (after_all makes m commands).keyset ≡ Ok later → All (OpensToNoOther text aad input) later
         → any_decrypts decrypts (entries_of later) input aad ≡ Ok text

@@ -10,7 +10,7 @@ use Rattle.standards.proofs.Keystream.{ctr_twice}
 use Rattle.tink_io.specs.declared.error.Kind.{Kind}
 use Rattle.tink_io.specs.declared.error.Kind.TheVariants.{BadIvSize, RandomFault, TooShort}
 use Rattle.tink_aead_subtle.specs.CounterMode.{counter_block, ctr_decrypts, ctr_encrypts, in_counter_mode}
-use Rattle.tink_aead_subtle.specs.Laws.{CounterUndoes, IsCounted}
+use Rattle.tink_aead_subtle.specs.Laws.{CounterUndoes, IsCounterEncryption}
 use Rattle.tink_aead_subtle.proofs.Exact.{first_if, passed}
 
 -- a text in counter mode twice is the text
@@ -52,7 +52,7 @@ module _ (key : List ℕ) (iv_size : ℕ) where
         ∙ ap Ok (twice key iv text)
 
     -- so exactly these are decrypted
-    pub counted : (input text : List ℕ) → (ctr_decrypts key iv_size input ≡ Ok text) ↔ IsCounted key iv_size text input
+    pub counted : (input text : List ℕ) → (ctr_decrypts key iv_size input ≡ Ok text) ↔ IsCounterEncryption key iv_size text input
     counted input text = (
       λ e. let parts = decrypted input text e in record { iv = take iv_size input; size = length-take-le iv_size input parts.0; is = parts.1 },
       λ h. ap (ctr_decrypts key iv_size) h.is ∙ decrypts h.iv text h.size,

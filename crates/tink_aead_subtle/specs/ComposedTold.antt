@@ -1,4 +1,4 @@
--- What an encryption and then a MAC show of their meaning: each answer is told, and what is taken is a prefix of the draws.
+-- What an encryption and then a MAC show of their meaning: each answer is known, and what is taken is a prefix of the draws.
 use Rattle.std.specs.Prelude.{ℕ, List, ◌-◌, ◌^◌, length, take, drop, nat_eq, nat_lt, Result, Ok, Err}
 use Rattle.tink_io.specs.declared.error.Kind.{Kind}
 use Rattle.tink_io.specs.declared.error.Kind.TheVariants.{MacMismatch}

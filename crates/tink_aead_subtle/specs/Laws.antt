@@ -31,14 +31,14 @@ abbrev pub IsAesKey : List ℕ → Type 0
 IsAesKey key = IsTrue (is_aes_key_size (length key))
 
 -- an input is a vector of n bytes and a text in counter mode under it
-pub record IsCounted (key : List ℕ) (iv_size : ℕ) (text input : List ℕ) : Type 0 where
+pub record IsCounterEncryption (key : List ℕ) (iv_size : ℕ) (text input : List ℕ) : Type 0 where
   pub iv : List ℕ
   pub size : length iv ≡ iv_size
   pub is : input ≡ iv ++ in_counter_mode key iv text
 
 -- exactly these are decrypted, each to its text, where a vector fits a block
 abbrev pub CounterDecryptsExactly : Type 0
-CounterDecryptsExactly = (key : List ℕ) (iv_size : ℕ) → iv_size ≤ 16 → (input text : List ℕ) → (ctr_decrypts key iv_size input ≡ Ok text) ↔ IsCounted key iv_size text input
+CounterDecryptsExactly = (key : List ℕ) (iv_size : ℕ) → iv_size ≤ 16 → (input text : List ℕ) → (ctr_decrypts key iv_size input ≡ Ok text) ↔ IsCounterEncryption key iv_size text input
 
 -- what is encrypted is decrypted again
 abbrev pub CounterUndoes : Type 0

@@ -1,4 +1,4 @@
--- What AEADs with a nonce show of their meanings: each answer is told, and what is taken is a prefix of the draws.
+-- What AEADs with a nonce show of their meanings: each answer is known, and what is taken is a prefix of the draws.
 use Rattle.std.specs.Prelude.{ℕ, List, ◌++◌, ◌-◌, length, take, drop, nat_lt, nat_le, Result, Ok, Err}
 use Rattle.std.specs.Str.{bytes_eq}
 use Rattle.gcm.specs.Answers.{MOST_DATA}

@@ -31,7 +31,7 @@ pub trait IndCpaCipher {
     fn decrypt(&self, alloc: Global, ciphertext: &[u8]) -> Result<Bytes, TinkError>
         ensures answer { Answers result (decrypts self.now ciphertext.now) };
 
-    // Each answer is told, and what is taken is a prefix of the draws.
+    // Each answer is known, and what is taken is a prefix of the draws.
     ghost encrypts_told: { (c : Self) (plaintext draws : List ℕ) → IsDrawn draws (encrypts c plaintext draws) };
 
     ghost decrypts_told: { (c : Self) (ciphertext : List ℕ) → IsTold (decrypts c ciphertext) };

@@ -11,3 +11,11 @@ where
 {
     assert_eq!(rt; got, Ok(want), "{label}");
 }
+
+/// The same for a case that has a number.
+pub fn expect_at<T>(rt: &impl Abort, got: T, want: T, at: usize)
+where
+    T: PartialEq + Debug + Drop,
+{
+    assert_eq!(rt; got, want, "at {at}");
+}

@@ -1,3 +1,4 @@
+pub mod KeyEntries
 pub mod OutlivingFacts
 pub mod RotationFacts
 pub mod TagFacts

@@ -7,8 +7,8 @@ use Rattle.tink_proto.specs.declared.messages.keys.Keyset.{Keyset}
 use Rattle.tink_primitives.specs.Sorts.{as_mac}
 use Rattle.tink_primitives.specs.declared.primitive.Primitive.{Primitive}
 use Rattle.tink_primitives.specs.declared.primitive.Primitive.TheVariants.{Mac}
+use Rattle.tink_prf.specs.Sets.{and_then}
 use Rattle.tink_sets.specs.Entries.{entry_of, entry_of_id, typed_by}
-use Rattle.tink_sets.specs.declared.entry.Entry.{Entry}
 use Rattle.tink_sets.specs.declared.entry.TypedEntry.{TypedEntry}
 use Rattle.keyset_model.specs.Commands.{Command, Maker, Managed, after_all}
 use Rattle.keyset_model.specs.Keys.{enabled}
@@ -40,14 +40,11 @@ BuildsSound {M} {P = P} builds computes verifies =
 
 module _ {M K A D HD HE P F S St V : Type 0} (url : M → List ℕ) (supports : M → List ℕ → Bool)
     (builds : M → List ℕ → Result (Primitive K A D HD HE P F S St V) Kind) where
-  -- the entry that a key's data builds, as one of a MAC
-  abbrev pub as_mac_entry : Result (Entry K A D HD HE P F S St V) Kind → Result (TypedEntry P) Kind
-  as_mac_entry (Ok e) = typed_by as_mac e
-  as_mac_entry (Err k) = Err k
-
+  -- the entry that a key builds, as one of a MAC
   abbrev pub mac_entry : List M → Key → Result (TypedEntry P) Kind
-  mac_entry managers k = as_mac_entry (built_entry url supports builds entry_of managers None k)
+  mac_entry managers k = and_then (built_entry url supports builds entry_of managers None k) (typed_by as_mac)
 
+  -- and those of the enabled keys
   abbrev pub mac_entries : List M → Keyset → Result (List (TypedEntry P)) Kind
   mac_entries managers ks =
       typed_entries as_mac ks.primary_key_id (built_entries url supports builds entry_of managers None ks)

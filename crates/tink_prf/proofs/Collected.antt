@@ -9,7 +9,7 @@ use Rattle.tink_io.specs.Told.{made_of}
 use Rattle.tink_sets.specs.Converting.{before}
 use Rattle.tink_sets.proofs.Converted.{none_before, one_more}
 
--- `rest` is told of what is left, and the map has those before it
+-- `rest` is known of what is left, and the map has those before it
 pub record IsCollected {P : Type 0} (all rest : Result (List (ℕ × P)) Kind) (m : BTreeMap ℕ P) : Type 0 where
   pub prfs : List (ℕ × P)
   pub told : all ≡ made_of (λ vs. prfs ++ vs) rest

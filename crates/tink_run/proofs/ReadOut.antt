@@ -16,7 +16,7 @@ use Rattle.stream_model.specs.Agree.{AreTexts, Agree, Leads, joined}
 use Rattle.stream_model.proofs.CutFacts.{cut_some}
 use Rattle.stream_model.proofs.AgreeFacts.{joined-append}
 use Rattle.tink_streams.specs.declared.progress.Progress.TheVariants.{Ended}
-use Rattle.tink_streams.specs.Reading.{ReaderMoment, TellsLeads, HasNotFailed, OpensNext, OpenRefused, chunk_at}
+use Rattle.tink_streams.specs.Reading.{ReaderMoment, TellsLeads, HasNotFailed, OpensNext, OpenNextRefused, chunk_at}
 use Rattle.tink_streams.proofs.ReadingFacts.{Opened, opened_none, opened_more, opened_all, opened_agree, at_next_chunk}
 use Rattle.tink_run.specs.declared.report.Report.{Report}
 use Rattle.tink_run.specs.Outside.{Outside}
@@ -155,7 +155,7 @@ write_failed seg a b old new now m bytes faults r w later rose = (
 
 -- the reader refused the next segment
 pub next_refused : (seg : ℕ → Bool → List ℕ → List ℕ) (a b overhead : ℕ) (old new : Outside) (now : Option (List ℕ)) (m n : ReaderMoment) (bytes : ℕ) (kind : Kind) → 0 < a → 0 < b → IsReading seg a b old.left old.got now m bytes → Appends now new.got m.opened
-    → old.read_faults ≤ m.faults → n.faults ≤ new.read_faults → OpenRefused seg a b overhead m n kind → ReaderRefused seg a b overhead old new kind
+    → old.read_faults ≤ m.faults → n.faults ≤ new.read_faults → OpenNextRefused seg a b overhead m n kind → ReaderRefused seg a b overhead old new kind
 next_refused seg a b overhead old new now m n bytes ReadFault p q r w later more x = (
   record {
     texts = r.texts ++ (m.opened ∷ []);

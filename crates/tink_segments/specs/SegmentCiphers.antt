@@ -4,11 +4,11 @@ use Rattle.tink_segments.specs.declared.segment_cipher.SegmentCipher.{SegmentCip
 use Rattle.tink_segments.specs.declared.segment_cipher.SegmentCipher.TheVariants.{Small, Large}
 
 -- the AES key
-abbrev pub key_of : SegmentCipher → List ℕ
-key_of (Small cipher) = cipher
-key_of (Large cipher) = cipher
+abbrev pub cipher_key : SegmentCipher → List ℕ
+cipher_key (Small cipher) = cipher
+cipher_key (Large cipher) = cipher
 
 -- the key has the size of its cipher
-abbrev pub IsSized : SegmentCipher → Type 0
-IsSized (Small cipher) = length cipher ≡ 16
-IsSized (Large cipher) = length cipher ≡ 32
+abbrev pub FitsCipher : SegmentCipher → Type 0
+FitsCipher (Small cipher) = length cipher ≡ 16
+FitsCipher (Large cipher) = length cipher ≡ 32

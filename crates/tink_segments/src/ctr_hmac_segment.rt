@@ -35,19 +35,19 @@ pub struct CtrHmacSegment {
 impl Model for CtrHmacSegment {
     ghost use Rattle.std.specs.Prelude.{◌≤◌};
     ghost use Rattle.hash_keys.specs.Hash.{digest_size};
-    ghost use Rattle.tink_segments.specs.SegmentCiphers.{IsSized, key_of};
+    ghost use Rattle.tink_segments.specs.SegmentCiphers.{FitsCipher, cipher_key};
     ghost use Rattle.tink_segments.specs.SegmentKeys.{SegmentKeys};
 
     ghost Value = { SegmentKeys };
 
     ghost view = { λ s. record {
-      aes_key = key_of s.cipher;
+      aes_key = cipher_key s.cipher;
       hmac_key = s.hmac_key;
       hash = s.tag_hash;
       tag = s.tag_size;
     } };
 
-    ghost invariant = { λ s. (s.tag_size ≤ digest_size s.tag_hash) × IsSized s.cipher };
+    ghost invariant = { λ s. (s.tag_size ≤ digest_size s.tag_hash) × FitsCipher s.cipher };
 }
 
 impl CtrHmacSegment {

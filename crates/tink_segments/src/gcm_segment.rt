@@ -31,13 +31,13 @@ pub struct GcmSegment {
 
 impl Model for GcmSegment {
     ghost use Rattle.std.specs.Prelude.{ℕ, List};
-    ghost use Rattle.tink_segments.specs.SegmentCiphers.{IsSized, key_of};
+    ghost use Rattle.tink_segments.specs.SegmentCiphers.{FitsCipher, cipher_key};
 
     ghost Value = { List ℕ };
 
-    ghost view = { λ s. key_of s.cipher };
+    ghost view = { λ s. cipher_key s.cipher };
 
-    ghost invariant = { λ s. IsSized s.cipher };
+    ghost invariant = { λ s. FitsCipher s.cipher };
 }
 
 impl GcmSegment {

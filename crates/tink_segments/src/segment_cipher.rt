@@ -3,7 +3,7 @@ ghost use Rattle.std.specs.Prelude.{◌≡◌, ◌⊎◌, length};
 ghost use Rattle.std.specs.Int.{w64};
 ghost use Rattle.standards.specs.AesKeys.{aes};
 ghost use Rattle.standards.specs.Counter.{ctr, plus_be};
-ghost use Rattle.tink_segments.specs.SegmentCiphers.{IsSized, key_of};
+ghost use Rattle.tink_segments.specs.SegmentCiphers.{FitsCipher, cipher_key};
 
 use aes_block::{Aes128, Aes256};
 use cipher::{BlockCipherEncrypt, InOutBuf, InnerIvInit, KeyInit};
@@ -22,8 +22,8 @@ impl SegmentCipher {
     // The cipher under a key of 16 or 32 bytes.
     pub fn new(key: &[u8]) -> SegmentCipher
         requires { (length key.now ≡ 16) ⊎ (length key.now ≡ 32) }
-        ensures key { key_of result ≡ key.now }
-        ensures sized { IsSized result }
+        ensures key { cipher_key result ≡ key.now }
+        ensures sized { FitsCipher result }
     {
         match Aes128::new_from_slice(key) {
             Ok(cipher) => SegmentCipher::Small(cipher),
@@ -34,8 +34,8 @@ impl SegmentCipher {
     // Writes the text in counter mode from `nonce` on; twice gives the text back.
     pub fn apply(&self, nonce: &[u8; 16], text: &[u8], out: &mut [u8])
         requires size { length out.old ≡ length text.now }
-        requires sized { IsSized self.now }
-        ensures { out.new ≡ ctr (aes (key_of self.now)) (plus_be w64) nonce.now text.now }
+        requires sized { FitsCipher self.now }
+        ensures { out.new ≡ ctr (aes (cipher_key self.now)) (plus_be w64) nonce.now text.now }
     {
         match self {
             SegmentCipher::Small(cipher) => apply_counter_mode(cipher, nonce, text, out),
@@ -46,8 +46,8 @@ impl SegmentCipher {
 
 fn large(key: &[u8]) -> SegmentCipher
     requires { length key.now ≡ 32 }
-    ensures key { key_of result ≡ key.now }
-    ensures sized { IsSized result }
+    ensures key { cipher_key result ≡ key.now }
+    ensures sized { FitsCipher result }
 {
     match Aes256::new_from_slice(key) {
         Ok(cipher) => SegmentCipher::Large(cipher),

@@ -1,6 +1,7 @@
 -- From the steps of a new writer to its answer.
-use Rattle.std.proofs.Common.{◌≡◌, ◌⊎◌, inl, inr, ◌+◌, ℕ, List, [], ◌∷◌, ◌++◌, length, take, drop, refl, sym, ap, subst, ◌∙◌, Some, None, get_or}
+use Rattle.std.proofs.Common.{◌≡◌, ◌⊎◌, inl, inr, ◌+◌, ◌<◌, ℕ, false, true, List, [], ◌∷◌, ◌++◌, length, take, drop, refl, sym, ap, subst, ◌∙◌, Some, None, get_or}
 use Rattle.std.specs.Prelude.{Err}
+use Rattle.std.proofs.lemmas.Bool.{false≢true}
 use Rattle.std.proofs.lemmas.List.{take-append-drop}
 use Rattle.std.specs.declared.option.Option.{Option}
 use Rattle.std.specs.Io.KnownBytes.{Appends}
@@ -19,8 +20,15 @@ use Rattle.tink_stream_keys.specs.Encrypting.{DrewHeader, IsNewStream, NewWriter
 use Rattle.tink_segments.specs.StreamSegments.{segment_by}
 use Rattle.tink_stream_keys.specs.StreamingKeys.{IsDerived, deriving_hash}
 use Rattle.tink_streams.specs.Writing.{WriterMoment}
-use Rattle.tink_stream_keys.proofs.HeaderFacts.{drawn_header, header_front, seg_is}
+use Rattle.tink_stream_keys.proofs.HeaderFacts.{drawn_header, enough_drawn, header_front, seg_is}
 use Rattle.stream_model.specs.Cut.{numbered}
+
+-- a draw that was not refused took a salt and a prefix
+pub drew_header : (k : StreamKey) (draws left : List ℕ) → (length draws < drawn k → false ≡ true) → left ≡ drop (drawn k) draws → DrewHeader k draws left
+drew_header k draws left few rest = record {
+  enough = enough_drawn (length draws) (drawn k) (λ short. false≢true (few short));
+  rest = rest;
+}
 
 -- by which kinds a hash is refused
 pub hash_refusal : (h : Option Hash) (kind : Kind) → deriving_hash h ≡ Err kind → (kind ≡ UnknownHash) ⊎ (kind ≡ UnsupportedHash)

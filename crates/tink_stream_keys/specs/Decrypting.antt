@@ -10,7 +10,7 @@ use Rattle.stream_model.specs.Key.{StreamKey, first_segment, header_length, over
 use Rattle.stream_model.specs.Opening.{opening_key}
 use Rattle.tink_streams.specs.Readers.{ReaderState, moment_of, seg_of}
 use Rattle.tink_segments.specs.StreamSegments.{segment_by}
-use Rattle.tink_stream_keys.specs.StreamingKeys.{deriving_hash}
+use Rattle.tink_stream_keys.specs.StreamingKeys.{DerivesNothing}
 use Rattle.tink_streams.specs.TextReading.{TextMoment}
 use Rattle.tink_streams.specs.declared.progress.Progress.TheVariants.{Running}
 use Rattle.tink_segments.specs.declared.stream_segment.StreamSegment.{StreamSegment}
@@ -42,10 +42,10 @@ pub record HasNoHeader (k : StreamKey) (old new : Option (List ℕ)) : Type 0 wh
   pub cause : ((length bytes < header_length k) × IsAtEnd new) ⊎ ((length bytes ≡ header_length k) × (slice_index bytes 0 ≡ header_length k → ⊥))
 
 -- a header was read, and the hash of HKDF is refused
-pub record DerivesNothing (k : StreamKey) (old new : Option (List ℕ)) (kind : Kind) : Type 0 where
+pub record ReadHeaderAlone (k : StreamKey) (old new : Option (List ℕ)) (kind : Kind) : Type 0 where
   pub header : List ℕ
   pub reads : ReadsHeader k old new header
-  pub hash : deriving_hash k.hkdf_hash ≡ Err kind
+  pub hash : DerivesNothing k kind
 
 -- what is refused of a header
 abbrev pub HeaderRefused : StreamKey → Option (List ℕ) → Option (List ℕ) → ℕ → ℕ → Kind → Type 0
@@ -58,8 +58,8 @@ abbrev pub NewReaderRefused : {R : Type 0} → (R → Option (List ℕ)) → (R 
 NewReaderRefused left faults k old new OutOfMemory = new ≡ old
 NewReaderRefused left faults k old new ReadFault = Rose (faults old) (faults new)
 NewReaderRefused left faults k old new NoMatchingKey = HasNoHeader k (left old) (left new)
-NewReaderRefused left faults k old new UnknownHash = DerivesNothing k (left old) (left new) UnknownHash
-NewReaderRefused left faults k old new UnsupportedHash = DerivesNothing k (left old) (left new) UnsupportedHash
+NewReaderRefused left faults k old new UnknownHash = ReadHeaderAlone k (left old) (left new) UnknownHash
+NewReaderRefused left faults k old new UnsupportedHash = ReadHeaderAlone k (left old) (left new) UnsupportedHash
 NewReaderRefused left faults k old new _ = ⊥
 
 -- what a call for a new reader of a source answers

@@ -10,7 +10,7 @@ use Rattle.tink_primitives.specs.declared.streams.Refused.{Refused}
 use Rattle.stream_model.specs.Key.{StreamKey, first_room, front, keys_of, room, segment_at}
 use Rattle.stream_model.specs.Sealing.{drawn, prefix_of, salt_of}
 use Rattle.tink_segments.specs.StreamSegments.{segment_by}
-use Rattle.tink_stream_keys.specs.StreamingKeys.{deriving_hash}
+use Rattle.tink_stream_keys.specs.StreamingKeys.{DerivesNothing}
 use Rattle.tink_streams.specs.Writers.{WriterState, moment_of, seg_of}
 use Rattle.tink_streams.specs.Writing.{WriterMoment}
 use Rattle.tink_segments.specs.declared.stream_segment.StreamSegment.{StreamSegment}
@@ -35,23 +35,23 @@ pub record IsNewStream (k : StreamKey) (aad draws left : List ℕ) (before : Opt
   pub number : m.number ≡ 0
   pub held : m.held ≡ []
 
+-- nothing was drawn or written
+pub record DrewNothing {W : Type 0} (draws left : List ℕ) (old new : W) : Type 0 where
+  pub undrawn : left ≡ draws
+  pub same : new ≡ old
+
+-- fewer draws are left than a salt and a prefix take
+pub record HasFewDraws {W : Type 0} (k : StreamKey) (draws left : List ℕ) (old new : W) : Type 0 where
+  pub few : length draws < drawn k
+  pub untouched : DrewNothing draws left old new
+
+-- the hash of HKDF is refused; the draws were taken, and nothing was written
+pub record DrewHeaderAlone {W : Type 0} (k : StreamKey) (draws left : List ℕ) (old new : W) (kind : Kind) : Type 0 where
+  pub drew : DrewHeader k draws left
+  pub hash : DerivesNothing k kind
+  pub same : new ≡ old
+
 module _ {W : Type 0} (got : W → Option (List ℕ)) (faults : W → ℕ) (k : StreamKey) (aad draws left : List ℕ) (old new : W) where
-  -- nothing was drawn or written
-  pub record IsUntouched : Type 0 where
-    pub undrawn : left ≡ draws
-    pub same : new ≡ old
-
-  -- fewer draws are left than a salt and a prefix take
-  pub record HasFewDraws : Type 0 where
-    pub few : length draws < drawn k
-    pub untouched : IsUntouched
-
-  -- the hash of HKDF is refused; the draws were taken, and nothing was written
-  pub record DerivesNothing (kind : Kind) : Type 0 where
-    pub drew : DrewHeader k draws left
-    pub hash : deriving_hash k.hkdf_hash ≡ Err kind
-    pub same : new ≡ old
-
   -- the sink failed, and has a prefix of the front
   pub record WroteFrontPart : Type 0 where
     pub drew : DrewHeader k draws left
@@ -62,10 +62,10 @@ module _ {W : Type 0} (got : W → Option (List ℕ)) (faults : W → ℕ) (k : 
 
   -- each refusal of a new writer
   abbrev pub NewWriterRefused : Kind → Type 0
-  NewWriterRefused OutOfMemory = IsUntouched
-  NewWriterRefused RandomFault = HasFewDraws
-  NewWriterRefused UnknownHash = DerivesNothing UnknownHash
-  NewWriterRefused UnsupportedHash = DerivesNothing UnsupportedHash
+  NewWriterRefused OutOfMemory = DrewNothing draws left old new
+  NewWriterRefused RandomFault = HasFewDraws k draws left old new
+  NewWriterRefused UnknownHash = DrewHeaderAlone k draws left old new UnknownHash
+  NewWriterRefused UnsupportedHash = DrewHeaderAlone k draws left old new UnsupportedHash
   NewWriterRefused WriteFault = WroteFrontPart
   NewWriterRefused _ = ⊥
 

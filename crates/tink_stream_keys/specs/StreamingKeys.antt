@@ -88,6 +88,10 @@ deriving_hash (Some Sha256) = Ok Sha256
 deriving_hash (Some Sha384) = Ok Sha384
 deriving_hash (Some Sha512) = Ok Sha512
 
+-- the key derives nothing: its hash is refused by this kind
+abbrev pub DerivesNothing : StreamKey → Kind → Type 0
+DerivesNothing k kind = deriving_hash k.hkdf_hash ≡ Err kind
+
 -- the cipher of segments under derived keys, the AES key first
 abbrev pub cipher_of : SegmentKind → ℕ → List ℕ → StreamSegment
 cipher_of (CtrHmac hash tag) derived keys = segments.CtrHmac (record { aes_key = take derived keys; hmac_key = drop derived keys; hash = hash; tag = tag })
@@ -102,4 +106,4 @@ pub record IsDerived (k : StreamKey) (aad salt : List ℕ) (cipher : StreamSegme
 -- that cipher, or the refusal of a hash by which no keys are derived
 abbrev pub Derives : StreamKey → List ℕ → List ℕ → Result StreamSegment TinkError → Type 0
 Derives k aad salt (Ok cipher) = IsDerived k aad salt cipher
-Derives k aad salt (Err e) = deriving_hash k.hkdf_hash ≡ Err e.kind
+Derives k aad salt (Err e) = DerivesNothing k e.kind

@@ -11,6 +11,7 @@ mod starting;
 mod stream_kind;
 mod stream_memory;
 mod stream_params;
+mod streaming_key;
 
 pub use aes_ctr_hmac::AesCtrHmac;
 pub use aes_gcm_hkdf::AesGcmHkdf;
@@ -19,3 +20,4 @@ pub use encrypting::{begin_stream, new_encrypting_writer};
 pub use starting::{Trial, start};
 pub use stream_kind::{StreamKind, StreamKinds};
 pub use stream_params::{DerivesStreams, SegmentParams, StreamParams};
+pub use streaming_key::StreamingKey;

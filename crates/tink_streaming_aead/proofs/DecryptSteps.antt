@@ -9,8 +9,11 @@ use Rattle.tink_io.specs.declared.error.Kind.TheVariants.{BadSegment, FailedBefo
 use Rattle.stream_model.specs.Cut.{cut}
 use Rattle.stream_model.specs.Agree.{Agree}
 use Rattle.stream_model.specs.Opening.{AgreeBy, FirstAgrees, IsChosen, OpeningKey, chunks_of}
+use Rattle.tink_segment_traits.specs.declared.segment_traits.SegmentDecrypter.{Ghosts}
 use Rattle.tink_streams.specs.Choosing.{Started, StartRefused}
-use Rattle.tink_streaming_aead.specs.DecryptReaders.{FirstRefused, GivesFirst, first_refusal}
+use Rattle.tink_streams.specs.Openers.{reader_rest}
+use Rattle.tink_streams.specs.declared.reading.SegmentReader.{SegmentReader}
+use Rattle.tink_streaming_aead.specs.DecryptReaders.{FirstReadRefused, GivesFirst, first_refusal}
 use Rattle.tink_streams.specs.TextReading.{Gave, GivesText, TextMoment, ReadRefused}
 use Rattle.tink_streams.specs.declared.progress.Progress.TheVariants.{Running}
 use Rattle.tink_streams.proofs.TextLaws.{gave_more, gave_none}
@@ -20,8 +23,18 @@ use Rattle.tink_streams.proofs.ChosenFacts.{chosen_begins, stream_agreed}
 pub unread : (n : ℕ) (items : List ℕ) (left : Option (List ℕ)) → n ≡ 0 → prepend_known (take n items) left ≡ left
 unread n items left e = ap (λ m. prepend_known (take m items) left) e ∙ prepend_known-nil left
 
+-- a reader that has given nothing, at this moment
+abbrev pub first_moment : {D S : Type 0} {g : Ghosts D} → (S → Option (List ℕ)) → (S → ℕ) → SegmentReader D g → S → TextMoment
+first_moment left faults r source = record {
+  progress = r.progress;
+  number = r.segments;
+  pending = drop 0 r.opened.items;
+  rest = reader_rest left r source;
+  faults = faults source;
+}
+
 -- a refusal of a start
-pub start_refused : (ks : List OpeningKey) (told : Option (List ℕ)) (before now : ℕ) (kind : Kind) → StartRefused ks told before now kind → FirstRefused ks told before now kind
+pub start_refused : (ks : List OpeningKey) (told : Option (List ℕ)) (before now : ℕ) (kind : Kind) → StartRefused ks told before now kind → FirstReadRefused ks told before now kind
 start_refused ks told before now NoMatchingKey r = r
 start_refused ks told before now ReadFault r = r
 start_refused ks told before now _ r = absurd r
@@ -31,7 +44,7 @@ not_both : (s : Option (ℕ → Bool → List ℕ → List ℕ)) (chunks : List 
 not_both None chunks f a = f
 not_both (Some seg) chunks f a = let none : 1 ≤ 0 = a.longest (f.0 ∷ []) f.1 in omega (arith, none)
 
--- something comes of told bytes once a key was chosen for them
+-- something comes of known bytes once a key was chosen for them
 never_nothing : (ks : List OpeningKey) (all rest : Option (List ℕ)) (seg : ℕ → Bool → List ℕ → List ℕ) (first size overhead : ℕ) → IfSome all (λ X. Started ks X rest seg first size overhead)
     → IfSome rest (λ Y. Agree seg 0 (cut first size Y) []) → IfSome all (λ X. IsChosen ks X None)
 never_nothing ks None rest seg first size overhead s n = tt
@@ -43,7 +56,7 @@ never_nothing ks (Some X) rest seg first size overhead s n =
 -- a refusal of the chosen key's reader at its first read
 pub first_refused : (ks : List OpeningKey) (all rest : Option (List ℕ)) (seg : ℕ → Bool → List ℕ → List ℕ) (a b overhead before faults room : ℕ) (n : TextMoment) (kind : Kind) → IfSome all (λ X. Started ks X rest seg a b overhead) → before ≤ faults
     → ReadRefused seg a b overhead (record { progress = Running; number = 0; pending = []; rest = rest; faults = faults }) n room kind
-    → FirstRefused ks all before n.faults (first_refusal kind)
+    → FirstReadRefused ks all before n.faults (first_refusal kind)
 first_refused ks all rest seg a b overhead before faults room n ReadFault s later r = Rose-earlier before faults n.faults later r.1.rose
 first_refused ks all rest seg a b overhead before faults room n TooManySegments s later r = never_nothing ks all rest seg a b overhead s r.1.nothing
 first_refused ks all rest seg a b overhead before faults room n (BadSegment m) s later r = never_nothing ks all rest seg a b overhead s r.1.nothing

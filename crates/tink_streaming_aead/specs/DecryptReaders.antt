@@ -23,10 +23,10 @@ pub data DecryptState (S : Type 0) : Type 0 where
   Chosen : ReaderState S StreamSegment → DecryptState S
   Stopped : Cause → S → DecryptState S
 
-abbrev pub source_of : {S : Type 0} → DecryptState S → S
-source_of (Unread keys aad room source) = source
-source_of (Chosen r) = r.source
-source_of (Stopped c source) = source
+abbrev pub source_in : {S : Type 0} → DecryptState S → S
+source_in (Unread keys aad room source) = source
+source_in (Chosen r) = r.source
+source_in (Stopped c source) = source
 
 -- the number of segments opened so far
 abbrev pub number_of : {S : Type 0} → DecryptState S → ℕ
@@ -73,18 +73,18 @@ first_refusal ReadFault = ReadFault
 first_refusal _ = NoMatchingKey
 
 -- each refusal of the first read
-abbrev pub FirstRefused : List OpeningKey → Option (List ℕ) → ℕ → ℕ → Kind → Type 0
-FirstRefused keys all before now NoMatchingKey = IfSome all (λ X. IsChosen keys X None)
-FirstRefused keys all before now ReadFault = Rose before now
-FirstRefused keys all before now _ = ⊥
+abbrev pub FirstReadRefused : List OpeningKey → Option (List ℕ) → ℕ → ℕ → Kind → Type 0
+FirstReadRefused keys all before now NoMatchingKey = IfSome all (λ X. IsChosen keys X None)
+FirstReadRefused keys all before now ReadFault = Rose before now
+FirstReadRefused keys all before now _ = ⊥
 
 module _ {S : Type 0} (left : S → Option (List ℕ)) (faults : S → ℕ) where
   -- what the first read to a buffer with room says
-  abbrev pub FirstMeans : List OpeningKey → S → DecryptState S → List ℕ → List ℕ → Result ℕ TinkError → Type 0
-  FirstMeans keys source (Chosen r) before after (Ok n) =
+  abbrev pub FirstReadMeans : List OpeningKey → S → DecryptState S → List ℕ → List ℕ → Result ℕ TinkError → Type 0
+  FirstReadMeans keys source (Chosen r) before after (Ok n) =
       GivesFirst keys (left source) (seg_of segment_by r.opening) r.opening.first r.opening.size r.opening.overhead (moment_of left faults r) before after n
-  FirstMeans keys source (Stopped c now) before after (Err e) = (after ≡ before) × (c ≡ cause_of e.kind) × FirstRefused keys (left source) (faults source) (faults now) e.kind
-  FirstMeans keys source _ before after _ = ⊥
+  FirstReadMeans keys source (Stopped c now) before after (Err e) = (after ≡ before) × (c ≡ cause_of e.kind) × FirstReadRefused keys (left source) (faults source) (faults now) e.kind
+  FirstReadMeans keys source _ before after _ = ⊥
 
   -- where a key is chosen and no segment is due for so much room, nothing was read
   abbrev pub ReadsNoMore : DecryptState S → DecryptState S → ℕ → Type 0
@@ -92,14 +92,14 @@ module _ {S : Type 0} (left : S → Option (List ℕ)) (faults : S → ℕ) wher
   ReadsNoMore _ _ room = Unit {0}
 
   -- what a read says once a key is chosen
-  abbrev pub GoesOn : ReaderState S StreamSegment → DecryptState S → List ℕ → List ℕ → Result ℕ TinkError → Type 0
-  GoesOn old (Chosen new) before after r =
+  abbrev pub ChosenReadMeans : ReaderState S StreamSegment → DecryptState S → List ℕ → List ℕ → Result ℕ TinkError → Type 0
+  ChosenReadMeans old (Chosen new) before after r =
       (new.opening ≡ old.opening) × ReadMeans (seg_of segment_by old.opening) old.opening.first old.opening.size old.opening.overhead (moment_of left faults old) (moment_of left faults new) before after r
-  GoesOn old _ before after r = ⊥
+  ChosenReadMeans old _ before after r = ⊥
 
   -- what a read says
   abbrev pub DecryptMeans : DecryptState S → DecryptState S → List ℕ → List ℕ → Result ℕ TinkError → Type 0
   DecryptMeans (Unread keys aad room source) new [] after r = (r ≡ Ok 0) × (new ≡ Unread keys aad room source) × (after ≡ [])
-  DecryptMeans (Unread keys aad room source) new (b ∷ before) after r = FirstMeans (map (opening_key aad) keys) source new (b ∷ before) after r
-  DecryptMeans (Chosen old) new before after r = GoesOn old new before after r
+  DecryptMeans (Unread keys aad room source) new (b ∷ before) after r = FirstReadMeans (map (opening_key aad) keys) source new (b ∷ before) after r
+  DecryptMeans (Chosen old) new before after r = ChosenReadMeans old new before after r
   DecryptMeans (Stopped c source) new before after r = (r ≡ Err (record { kind = FailedBefore c })) × (new ≡ Stopped c source) × (after ≡ before)

@@ -1,17 +1,12 @@
 //! Readers of a keyset's streams.
 
-ghost use Rattle.std.specs.Prelude.{◌≡◌, ◌≤◌, ◌<◌, [], length, drop, map, take, All, IfOk, MatchResult, vec_len, vec_capacity};
-ghost use Rattle.std.specs.Option.{ForSome};
-ghost use Rattle.std.specs.Io.KnownBytes.{prepend_known};
-ghost use Rattle.stream_model.specs.Cut.{numbered};
+ghost use Rattle.std.specs.Prelude.{◌≡◌, ◌≤◌, ◌<◌, [], length, map, All, IfOk, MatchResult, vec_len, vec_capacity};
 ghost use Rattle.stream_model.specs.Key.{nonce_size};
 ghost use Rattle.stream_model.specs.Opening.{opening_key};
-ghost use Rattle.tink_streaming_aead.specs.DecryptReaders.{DecryptMeans, FirstRefused, GivesFirst, IsUnread, cause_of, first_refusal, kept_of, number_of, room_of, source_of, ReadsNoMore};
+ghost use Rattle.tink_streaming_aead.specs.DecryptReaders.{DecryptMeans, FirstReadRefused, GivesFirst, IsUnread, cause_of, first_refusal, kept_of, number_of, room_of, source_in, ReadsNoMore};
 ghost use Rattle.tink_streaming_aead.specs.DecryptReaders.DecryptState.{Unread};
 ghost use Rattle.tink_stream_keys.specs.StreamKinds.{key_of};
-ghost use Rattle.tink_segments.specs.StreamSegments.{segment_by};
-ghost use Rattle.tink_streams.specs.TextReading.{TextMoment};
-ghost use Rattle.tink_streams.specs.declared.progress.Progress.TheVariants.{Ended};
+ghost use Rattle.tink_streams.specs.Openers.{EndsEmpty, segment_map, text_moment};
 
 use std::marker::Model;
 use std::mem;
@@ -52,13 +47,13 @@ pub struct DecryptReader<S: Source> {
 
 impl<S: Source> Model for DecryptReader<S> {
     ghost use Rattle.tink_streaming_aead.specs.DecryptReaders.{DecryptState};
-    ghost use Rattle.tink_streaming_aead.specs.DecryptStages.{IsSound, state_of};
+    ghost use Rattle.tink_streaming_aead.specs.DecryptStages.{StageEndsEmpty, state_of};
 
     ghost Value = { DecryptState S };
 
     ghost view = { λ r. state_of r.stage r.source };
 
-    ghost invariant = { λ r. IsSound S.left r.stage r.source };
+    ghost invariant = { λ r. StageEndsEmpty S.left r.stage r.source };
 }
 
 // Chooses the key of a stream, and gives the first bytes of its text.
@@ -70,24 +65,13 @@ fn give_first<S: Source>(
     requires some { 0 < length buf.old }
     ensures answer { MatchResult result
         (λ given. GivesFirst (map (opening_key choice.data.items) (map key_of choice.keys.items)) (S.left source.old)
-        (numbered (segment_by given.0.reader.opener.decrypter) given.0.reader.opener.nonce_size
-        given.0.reader.opener.prefix.items)
-        given.0.reader.opener.first given.0.reader.opener.size given.0.reader.opener.overhead
-        (record {
-          progress = given.0.reader.progress;
-          number = given.0.reader.segments;
-          pending = drop given.0.given given.0.reader.opened.items;
-          rest = prepend_known (take given.0.reader.filled given.0.reader.buffer.items) (S.left source.new);
-          faults = S.faults source.new;
-        })
-        buf.old buf.new given.1)
-        (λ e. (buf.new ≡ buf.old) × FirstRefused (map (opening_key choice.data.items) (map key_of choice.keys.items))
+        (segment_map given.0.reader.opener) given.0.reader.opener.first given.0.reader.opener.size
+        given.0.reader.opener.overhead (text_moment S.left S.faults given.0 source.new) buf.old buf.new given.1)
+        (λ e. (buf.new ≡ buf.old) × FirstReadRefused (map (opening_key choice.data.items) (map key_of choice.keys.items))
         (S.left source.old) (S.faults source.old) (S.faults source.new) e.kind) }
     ensures within { IfOk result (λ given. given.1 ≤ length buf.new) }
     ensures room { IfOk result (λ given. vec_len given.0.reader.buffer ≡ vec_len choice.trial.kept.buffer) }
-    ensures at_end { IfOk result (λ given. given.0.reader.progress ≡ Ended
-        → ForSome (prepend_known (take given.0.reader.filled given.0.reader.buffer.items) (S.left source.new))
-        (λ xs. xs ≡ [])) }
+    ensures at_end { IfOk result (λ given. EndsEmpty S.left given.0.reader source.new) }
     ensures later { S.faults source.old ≤ S.faults source.new }
     ensures same { S.same source.old source.new }
 {
@@ -147,8 +131,8 @@ impl<S: Source + Drop> DecryptReader<S> {
         ensures idle { ReadsNoMore S.left S.faults self.old self.new (length buf.old) }
         ensures kept { length (kept_of self.new) ≤ room_of self.new }
         ensures room { room_of self.new ≤ room_of self.old }
-        ensures later { S.faults (source_of self.old) ≤ S.faults (source_of self.new) }
-        ensures same { S.same (source_of self.old) (source_of self.new) }
+        ensures later { S.faults (source_in self.old) ≤ S.faults (source_in self.new) }
+        ensures same { S.same (source_in self.old) (source_in self.new) }
     {
         match &mut self.stage {
             Stage::Chosen(text) => text.read(&mut self.source, buf),
@@ -172,8 +156,8 @@ impl<S: Source + Drop> DecryptReader<S> {
         ensures idle { ReadsNoMore S.left S.faults self.old self.new (length buf.old) }
         ensures kept { length (kept_of self.new) ≤ room_of self.new }
         ensures room { room_of self.new ≤ room_of self.old }
-        ensures later { S.faults (source_of self.old) ≤ S.faults (source_of self.new) }
-        ensures same { S.same (source_of self.old) (source_of self.new) }
+        ensures later { S.faults (source_in self.old) ≤ S.faults (source_in self.new) }
+        ensures same { S.same (source_in self.old) (source_in self.new) }
     {
         let stage = mem::replace(&mut self.stage, Stage::Stopped(Cause::ReadFault));
         let Stage::Unread(choice) = stage else {
@@ -203,7 +187,7 @@ impl<S: Source + Drop> DecryptReader<S> {
 
     /// The source, as the last call left it. What is held, or opened and not given, is dropped.
     pub fn into_inner(self) -> S
-        ensures { result ≡ source_of self }
+        ensures { result ≡ source_in self }
     {
         self.source
     }
@@ -218,8 +202,8 @@ impl<S: Source + Drop> DecryptingRead for DecryptReader<S> {
         ensures idle { ReadsNoMore S.left S.faults self.old self.new (length buf.old) }
         ensures kept { length (kept_of self.new) ≤ room_of self.new }
         ensures room { room_of self.new ≤ room_of self.old }
-        ensures later { S.faults (source_of self.old) ≤ S.faults (source_of self.new) }
-        ensures same { S.same (source_of self.old) (source_of self.new) }
+        ensures later { S.faults (source_in self.old) ≤ S.faults (source_in self.new) }
+        ensures same { S.same (source_in self.old) (source_in self.new) }
     {
         DecryptReader::read(self, buf)
     }

@@ -1,7 +1,7 @@
 //! The caller that the README of `tink_streaming_aead` shows.
 
 ghost use Rattle.std.specs.Prelude.{◌≡◌, IfOk};
-ghost use Rattle.tink_streaming_aead.specs.DecryptReaders.{source_of};
+ghost use Rattle.tink_streaming_aead.specs.DecryptReaders.{source_in};
 
 use std::alloc::Global;
 use tink_io::Source;
@@ -15,7 +15,7 @@ pub fn stream_in<S: Source + Drop>(
     source: S,
     additional_data: &[u8],
 ) -> Result<DecryptReader<S>, Refused<S>>
-    ensures unread { IfOk result (λ reader. source_of reader ≡ source) }
+    ensures unread { IfOk result (λ reader. source_in reader ≡ source) }
 {
     aeads.new_decrypting_reader(alloc, source, additional_data)
 }

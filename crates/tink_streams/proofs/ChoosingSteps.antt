@@ -8,28 +8,28 @@ use Rattle.stream_model.specs.Opening.{OpeningKey, Begins, IsChosen}
 use Rattle.tink_streams.specs.Choosing.{Found, Started}
 
 -- what is chosen of the keys from i on is chosen of all
-abbrev pub GoesOn : {T : Type 0} → (T → OpeningKey) → List T → ℕ → List ℕ → Type 0
-GoesOn of keys i X = (r : Option OpeningKey) → IsChosen (map of (drop i keys)) X r → IsChosen (map of keys) X r
+abbrev pub ChosenFrom : {T : Type 0} → (T → OpeningKey) → List T → ℕ → List ℕ → Type 0
+ChosenFrom of keys i X = (r : Option OpeningKey) → IsChosen (map of (drop i keys)) X r → IsChosen (map of keys) X r
 
 pub key_split : {T : Type 0} (keys : List T) (i : ℕ) (key : T) → i < length keys → key ≡ get_or keys i key → drop i keys ≡ key ∷ drop (i + 1) keys
 key_split keys i key h e = drop-cons keys i key h ∙ ap (λ x. x ∷ drop (suc i) keys) (sym e) ∙ rw add-one refl
 
 -- a key under which the stream doesn't begin is passed over
-pub pass_over : {T : Type 0} (of : T → OpeningKey) (keys : List T) (i : ℕ) (key : T) (X : List ℕ) → drop i keys ≡ key ∷ drop (i + 1) keys → (Begins (of key) X → ⊥) → GoesOn of keys i X → GoesOn of keys (i + 1) X
+pub pass_over : {T : Type 0} (of : T → OpeningKey) (keys : List T) (i : ℕ) (key : T) (X : List ℕ) → drop i keys ≡ key ∷ drop (i + 1) keys → (Begins (of key) X → ⊥) → ChosenFrom of keys i X → ChosenFrom of keys (i + 1) X
 pass_over {T} of keys i key X e other h r rest = h r (subst (λ (ks : List T). IsChosen (map of ks) X r) (sym e) (inr (other, rest)))
 
-pub take_key : {T : Type 0} (of : T → OpeningKey) (keys : List T) (i : ℕ) (key : T) (X : List ℕ) → drop i keys ≡ key ∷ drop (i + 1) keys → Begins (of key) X → GoesOn of keys i X → IsChosen (map of keys) X (Some (of key))
+pub take_key : {T : Type 0} (of : T → OpeningKey) (keys : List T) (i : ℕ) (key : T) (X : List ℕ) → drop i keys ≡ key ∷ drop (i + 1) keys → Begins (of key) X → ChosenFrom of keys i X → IsChosen (map of keys) X (Some (of key))
 take_key {T} of keys i key X e first h = h (Some (of key)) (subst (λ (ks : List T). IsChosen (map of ks) X (Some (of key))) (sym e) (inl (first, refl)))
 
-pub none_left : {T : Type 0} (of : T → OpeningKey) (keys : List T) (i : ℕ) (X : List ℕ) → length keys ≤ i → GoesOn of keys i X → IsChosen (map of keys) X None
+pub none_left : {T : Type 0} (of : T → OpeningKey) (keys : List T) (i : ℕ) (X : List ℕ) → length keys ≤ i → ChosenFrom of keys i X → IsChosen (map of keys) X None
 none_left {T} of keys i X e h = h None (subst (λ (ks : List T). IsChosen (map of ks) X None) (sym (drop_of_length-le keys {i = i} e)) refl)
 
--- two facts of told bytes
+-- two facts of known bytes
 pub both_told : (r : Option (List ℕ)) (P Q R : List ℕ → Type 0) → ((X : List ℕ) → P X → Q X → R X) → IfSome r P → IfSome r Q → IfSome r R
 both_told None P Q R f p q = tt
 both_told (Some X) P Q R f p q = f X p q
 
--- a fact of bytes that are told now is one of those told before
+-- a fact of bytes that are known now is one of those known before
 pub told_before : (r s : Option (List ℕ)) (P : List ℕ → Type 0) → Keeps r s → IfSome s P → IfSome r P
 told_before None s P k h = tt
 told_before (Some X) None P k h = absurd k

@@ -1,4 +1,4 @@
--- Opening at the head of held bytes, told of all bytes that are held or left.
+-- Opening at the head of held bytes, said of all bytes that are held or left.
 use Rattle.std.proofs.Common.{◌≡◌, ◌⊎◌, inl, inr, ◌≤◌, ◌<◌, ◌-◌, ◌^◌, ℕ, zero, suc, Bool, true, false, List, [], ◌∷◌, ◌++◌, length, take, drop, Some, None, IfSome, ap, sym, ◌∙◌, arith, length-append}
 use Rattle.std.proofs.lemmas.List.{append-nil, length-take, take-append-le, drop-append-le, take_all}
 use Rattle.std.proofs.lemmas.Bool.{le-leb, lt-leb}
@@ -11,7 +11,7 @@ use Rattle.stream_model.specs.Cut.{cut, room_at}
 use Rattle.stream_model.specs.Agree.{Agree}
 use Rattle.stream_model.proofs.CutFacts.{cut_none, room_at_next}
 use Rattle.stream_model.proofs.AgreeFacts.{Agree-empty, Agree-used_up, Agree-none_last, Agree-none_more, Leads-last, Leads-more}
-use Rattle.tink_streams.specs.Opening.{OpensTo, HoldsChunk}
+use Rattle.tink_streams.specs.Opening.{HeadOpensTo, HoldsChunk}
 use Rattle.tink_streams.specs.Reading.{TellsLeads}
 
 pub fits_or_not : (m n : ℕ) → (m ≤ n) ⊎ (n < m)
@@ -30,14 +30,14 @@ opens_last seg i size H t fits o = ap (λ m. seg i m t) (sym (le-leb (length H) 
 opens_more : (seg : ℕ → Bool → List ℕ → List ℕ) (i size : ℕ) (H t : List ℕ) → size < length H → seg i (nat_le (length H) size) t ≡ take size H → seg i false t ≡ take size H
 opens_more seg i size H t more o = ap (λ m. seg i m t) (sym (lt-leb (length H) size more)) ∙ o
 
-is_opened_last : (seg : ℕ → Bool → List ℕ → List ℕ) (i size : ℕ) (H t : List ℕ) → 0 < length H → length H ≤ size → seg i true t ≡ H → OpensTo seg i size H t
+is_opened_last : (seg : ℕ → Bool → List ℕ → List ℕ) (i size : ℕ) (H t : List ℕ) → 0 < length H → length H ≤ size → seg i true t ≡ H → HeadOpensTo seg i size H t
 is_opened_last seg i size H t some fits o = record { some = some; segment = ap (λ m. seg i m t) (le-leb (length H) size fits) ∙ o ∙ sym (take_all size H fits) }
 
-is_opened_more : (seg : ℕ → Bool → List ℕ → List ℕ) (i size : ℕ) (H t : List ℕ) → 0 < length H → size < length H → seg i false t ≡ take size H → OpensTo seg i size H t
+is_opened_more : (seg : ℕ → Bool → List ℕ → List ℕ) (i size : ℕ) (H t : List ℕ) → 0 < length H → size < length H → seg i false t ≡ take size H → HeadOpensTo seg i size H t
 is_opened_more seg i size H t some more o = record { some = some; segment = ap (λ m. seg i m t) (lt-leb (length H) size more) ∙ o }
 
 -- the text of a segment leads to what is behind its chunk
-pub opened_front : (seg : ℕ → Bool → List ℕ → List ℕ) (a b i : ℕ) (r0 r1 : Option (List ℕ)) (H t : List ℕ) → i < 2 ^ 32 → 0 < room_at a b i → 0 < b → HoldsChunk (room_at a b i) r0 H r1 → OpensTo seg i (room_at a b i) H t
+pub opened_front : (seg : ℕ → Bool → List ℕ → List ℕ) (a b i : ℕ) (r0 r1 : Option (List ℕ)) (H t : List ℕ) → i < 2 ^ 32 → 0 < room_at a b i → 0 < b → HoldsChunk (room_at a b i) r0 H r1 → HeadOpensTo seg i (room_at a b i) H t
     → TellsLeads seg a b i r0 (t ∷ []) (prepend_known (drop (room_at a b i) H) r1)
 opened_front seg a b i None r1 H t few p q h o = tt
 opened_front seg a b i (Some X) None H t few p q h o = absurd h.all
@@ -55,7 +55,7 @@ opened_front seg a b i (Some X) (Some Y) H t few p q h o =
     ]
 
 -- where it is the segment of no text, nothing comes
-pub refused_front : (seg : ℕ → Bool → List ℕ → List ℕ) (a b i : ℕ) (r0 r1 : Option (List ℕ)) (H : List ℕ) → 0 < room_at a b i → 0 < b → HoldsChunk (room_at a b i) r0 H r1 → ((t : List ℕ) → OpensTo seg i (room_at a b i) H t → ⊥)
+pub refused_front : (seg : ℕ → Bool → List ℕ → List ℕ) (a b i : ℕ) (r0 r1 : Option (List ℕ)) (H : List ℕ) → 0 < room_at a b i → 0 < b → HoldsChunk (room_at a b i) r0 H r1 → ((t : List ℕ) → HeadOpensTo seg i (room_at a b i) H t → ⊥)
     → IfSome r0 (λ X. Agree seg i (cut (room_at a b i) b X) [])
 refused_front seg a b i None r1 H p q h none = tt
 refused_front seg a b i (Some X) None H p q h none = absurd h.all

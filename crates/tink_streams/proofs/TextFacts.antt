@@ -10,7 +10,7 @@ use Rattle.tink_io.specs.declared.error.Kind.{Kind}
 use Rattle.tink_io.specs.declared.error.Kind.TheVariants.{ReadFault, TooManySegments, BadSegment, Truncated}
 use Rattle.tink_streams.specs.declared.progress.Progress.{Progress}
 use Rattle.tink_streams.specs.declared.progress.Progress.TheVariants.{Running, Ended, Failed}
-use Rattle.tink_streams.specs.Reading.{TellsLeads, OpensNext, OpenRefused, HasNotFailed}
+use Rattle.tink_streams.specs.Reading.{TellsLeads, OpensNext, OpenNextRefused, HasNotFailed}
 use Rattle.tink_streams.specs.TextReading.{TextMoment, of_segments, with_pending, IsDue, AtEnd, IsReady, GivesText, ReadRefused}
 
 pub nil_of_length : (xs : List ℕ) → length xs ≡ 0 → xs ≡ []
@@ -132,7 +132,7 @@ gives_none seg a b m buf was empty ends = record {
 }
 
 -- the next segment was not opened
-pub refused_read : (seg : ℕ → Bool → List ℕ → List ℕ) (a b overhead : ℕ) (old new : TextMoment) (room : ℕ) (k : Kind) → 0 < room → IsDue old 1 × OpenRefused seg a b overhead (of_segments old) (of_segments new) k → ReadRefused seg a b overhead old new room k
+pub refused_read : (seg : ℕ → Bool → List ℕ → List ℕ) (a b overhead : ℕ) (old new : TextMoment) (room : ℕ) (k : Kind) → 0 < room → IsDue old 1 × OpenNextRefused seg a b overhead (of_segments old) (of_segments new) k → ReadRefused seg a b overhead old new room k
 refused_read seg a b overhead old new room ReadFault some h = (due_room old room some h.0, h.1)
 refused_read seg a b overhead old new room TooManySegments some h = (due_room old room some h.0, h.1)
 refused_read seg a b overhead old new room (BadSegment n) some h = (due_room old room some h.0, h.1)
@@ -144,7 +144,7 @@ not_failed Running h = tt
 not_failed Ended h = tt
 not_failed (Failed c) h = h c refl
 
--- the end, told in either form
+-- the end, said in either form
 pub told_end : (r : Option (List ℕ)) → ForSome r (λ xs. xs ≡ []) → IsAtEnd r
 told_end None h = tt
 told_end (Some X) h = h X refl

@@ -16,7 +16,7 @@ use Rattle.tink_io.specs.declared.error.TinkError.{TinkError}
 use Rattle.tink_streams.specs.declared.progress.Progress.{Progress}
 use Rattle.tink_streams.specs.declared.progress.Progress.TheVariants.{Running, Ended, Failed}
 use Rattle.tink_streams.specs.Reading.{TellsLeads, HasNotFailed, NothingComes}
-use Rattle.tink_streams.specs.TextReading.{TextMoment, of_segments, with_pending, IsDue, AtEnd, GivesText, ReadRefused, ReadMeans, Gave, IsWhole, IsTextOf, IsLongest}
+use Rattle.tink_streams.specs.TextReading.{TextMoment, of_segments, with_pending, IsDue, AtEnd, GivesText, ReadRefused, ReadMeans, Gave, IsAllText, IsTextOf, IsLongest}
 use Rattle.tink_streams.proofs.ReadingFacts.{opened_all, opened_agree}
 use Rattle.tink_streams.proofs.TextFacts.{tells_none}
 
@@ -107,7 +107,7 @@ gave_more seg a b all given old new before after n w g = record {
 }
 
 -- the whole text
-pub gave_all : (seg : ℕ → Bool → List ℕ → List ℕ) (a b : ℕ) (all : Option (List ℕ)) (given : List ℕ) (m : TextMoment) → Gave seg a b all given m → AtEnd m → IsWhole seg a b all given
+pub gave_all : (seg : ℕ → Bool → List ℕ → List ℕ) (a b : ℕ) (all : Option (List ℕ)) (given : List ℕ) (m : TextMoment) → Gave seg a b all given m → AtEnd m → IsAllText seg a b all given
 gave_all seg a b all given m w e = record {
   texts = w.texts;
   some = omega (arith, e.some, w.number);
@@ -157,7 +157,7 @@ segments_told seg o a b (Some X) texts longer p q some h =
 
 -- the whole text is that of a stream
 pub text_of_whole : (seg : ℕ → Bool → List ℕ → List ℕ) (o a b : ℕ) (all : Option (List ℕ)) (given : List ℕ) → ((i : ℕ) (last : Bool) (t : List ℕ) → length (seg i last t) ≡ length t + o) → o < a → a ≤ b
-    → IsWhole seg a b all given → IsTextOf seg (a - o) (b - o) all given
+    → IsAllText seg a b all given → IsTextOf seg (a - o) (b - o) all given
 text_of_whole seg o a b all given longer p q w = record {
   texts = w.texts;
   segments = segments_told seg o a b all w.texts longer p (omega arith) w.some w.leads;

@@ -1,13 +1,17 @@
 -- Whether a stream begins under a key, by the bytes that are held of it.
 use Rattle.std.proofs.Common.{◌≡◌, inl, inr, ◌≤◌, ◌<◌, ◌+◌, ◌-◌, ℕ, Bool, List, [], ◌∷◌, ◌++◌, length, take, drop, Some, None, IfSome, ap, sym, ◌∙◌, subst, arith, length-append, length-drop}
 use Rattle.std.proofs.lemmas.List.{take-append-le, drop-append-le, drop-take, get_or_append_left}
+use Rattle.std.specs.Prelude.{MatchResult, Result, Ok, Err, Vec, false, true}
 use Rattle.std.specs.declared.option.Option.{Option}
 use Rattle.std.specs.Io.KnownBytes.{Keeps, prepend_known}
 use Rattle.std.proofs.KnownBytes.{Keeps-trans}
 use Rattle.stream_model.specs.Agree.{Agree}
 use Rattle.stream_model.specs.Opening.{OpeningKey, HasHeader, Begins, FirstAgrees, chunks_of}
 use Rattle.stream_model.proofs.AgreeFacts.{AreTexts-leads}
-use Rattle.tink_streams.specs.Opening.{OpensTo, HoldsChunk}
+use Rattle.tink_segment_traits.specs.declared.segment_traits.SegmentDecrypter.{Ghosts}
+use Rattle.tink_streams.specs.Opening.{HeadOpensTo, HoldsChunk}
+use Rattle.tink_streams.specs.Trials.{DoesBegin, DoesNotBegin, TrialMeans}
+use Rattle.tink_streams.specs.declared.trying.Begun.{Begun}
 use Rattle.tink_streams.proofs.FrontFacts.{fits_or_not, opened_front, refused_front}
 
 -- what is held of the same bytes
@@ -62,7 +66,7 @@ behind k X Y G h long = record {
 }
 
 -- a text's segment makes the stream begin
-pub begun : (k : OpeningKey) (r l m : Option (List ℕ)) (H G part : List ℕ) (seg : ℕ → Bool → List ℕ → List ℕ) (size : ℕ) (t : List ℕ) → Tried k r l m H G part seg size → OpensTo seg 0 size part t
+pub begun : (k : OpeningKey) (r l m : Option (List ℕ)) (H G part : List ℕ) (seg : ℕ → Bool → List ℕ → List ℕ) (size : ℕ) (t : List ℕ) → Tried k r l m H G part seg size → HeadOpensTo seg 0 size part t
     → IfSome r (λ X. Begins k X × (k.seg (take k.header X) ≡ Some seg))
 begun k None l m H G part seg size t tried o = tt
 begun k (Some X) None m H G part seg size t tried o = absurd tried.before
@@ -71,7 +75,7 @@ begun k (Some X) (Some Y) (Some Z) H G part seg size t tried o =
     let a : ℕ = k.first in
     let derived : k.seg (take k.header X) ≡ Some seg = ap k.seg (header_bytes k H X Y tried.before tried.header.long) ∙ tried.map in
     let leads = opened_front seg a k.size 0 (Some (drop k.header X)) (Some Z) (drop k.header G) t (omega arith) tried.room (omega (arith, tried.room, tried.fits)) (behind k X Z G tried.held tried.long)
-    (subst (λ (x : List ℕ). OpensTo seg 0 a x t) tried.part_is (subst (λ (n : ℕ). OpensTo seg 0 n part t) tried.size_is o)) in (
+    (subst (λ (x : List ℕ). HeadOpensTo seg 0 a x t) tried.part_is (subst (λ (n : ℕ). HeadOpensTo seg 0 n part t) tried.size_is o)) in (
       record {
         header = subst (HasHeader k) tried.before (header_of_all k H Y tried.some tried.header);
         first = subst (λ (s : Option (ℕ → Bool → List ℕ → List ℕ)). FirstAgrees s (chunks_of k X)) (sym derived) (t, AreTexts-leads seg 0 (chunks_of k X) (t ∷ []) _ [] leads tt);
@@ -80,7 +84,7 @@ begun k (Some X) (Some Y) (Some Z) H G part seg size t tried o =
     )
 
 -- where no text's is the first chunk, it doesn't
-pub refused : (k : OpeningKey) (r l m : Option (List ℕ)) (H G part : List ℕ) (seg : ℕ → Bool → List ℕ → List ℕ) (size : ℕ) → Tried k r l m H G part seg size → ((t : List ℕ) → OpensTo seg 0 size part t → ⊥)
+pub refused : (k : OpeningKey) (r l m : Option (List ℕ)) (H G part : List ℕ) (seg : ℕ → Bool → List ℕ → List ℕ) (size : ℕ) → Tried k r l m H G part seg size → ((t : List ℕ) → HeadOpensTo seg 0 size part t → ⊥)
     → IfSome r (λ X. Begins k X → ⊥)
 refused k None l m H G part seg size tried none = tt
 refused k (Some X) None m H G part seg size tried none = absurd tried.before
@@ -90,7 +94,7 @@ refused k (Some X) (Some Y) (Some Z) H G part seg size tried none = λ b.
     let derived : k.seg (take k.header X) ≡ Some seg = ap k.seg (header_bytes k H X Y tried.before tried.header.long) ∙ tried.map in
     let agree : Agree seg 0 (chunks_of k X) [] =
     refused_front seg a k.size 0 (Some (drop k.header X)) (Some Z) (drop k.header G) tried.room (omega (arith, tried.room, tried.fits)) (behind k X Z G tried.held tried.long)
-    (λ t o. none t (subst (λ (n : ℕ). OpensTo seg 0 n part t) (sym tried.size_is) (subst (λ (x : List ℕ). OpensTo seg 0 a x t) (sym tried.part_is) o))) in
+    (λ t o. none t (subst (λ (n : ℕ). HeadOpensTo seg 0 n part t) (sym tried.size_is) (subst (λ (x : List ℕ). HeadOpensTo seg 0 a x t) (sym tried.part_is) o))) in
     let one = subst (λ (s : Option (ℕ → Bool → List ℕ → List ℕ)). FirstAgrees s (chunks_of k X)) derived b.first in
     let none_is : 1 ≤ 0 = agree.longest (one.0 ∷ []) one.1 in
     omega arith
@@ -100,3 +104,11 @@ pub part_of : (h header filled : ℕ) (xs items : List ℕ) → h ≡ header →
 part_of h header filled xs items e f long =
     let all : h + (filled - h) ≡ filled = omega arith in
     sym (drop-take h (filled - h) xs) ∙ ap (λ n. drop h (take n xs)) all ∙ ap (λ x. drop h (take filled x)) f ∙ ap (λ n. drop n (take filled items)) e
+
+-- what the trial of a key answers, by whether its stream begins
+pub trial_means : {D : Type 0} {g : Ghosts D} {Z : Type 0} (k : OpeningKey) (nonce_size : ℕ) (old new : Option (List ℕ)) (filled : ℕ) (begins : Bool) (b : Begun D g) (prefix : Vec ℕ Z) (r : Result (Begun D g) (Vec ℕ Z))
+    → MatchResult r (λ x. (begins ≡ true) × (x ≡ b)) (λ p. (begins ≡ false) × (p ≡ prefix))
+    → (begins ≡ true → DoesBegin k nonce_size old new filled b) → (begins ≡ false → DoesNotBegin k old new prefix)
+    → TrialMeans k nonce_size old new filled r
+trial_means k nonce_size old new filled begins b prefix (Ok x) is does fails = subst (DoesBegin k nonce_size old new filled) (sym is.1) (does is.0)
+trial_means {Z = Z} k nonce_size old new filled begins b prefix (Err p) is does fails = subst (λ (q : Vec ℕ Z). DoesNotBegin k old new q) (sym is.1) (fails is.0)

@@ -10,7 +10,7 @@ use Rattle.tink_io.specs.Faults.{Rose}
 use Rattle.tink_io.specs.Written.{AppendsFront}
 use Rattle.tink_io.specs.declared.error.Kind.{Kind}
 use Rattle.tink_io.specs.declared.error.Kind.TheVariants.{ReadFault, TooManySegments, BadSegment, Truncated}
-use Rattle.tink_streams.specs.Reading.{ReaderMoment, TellsLeads, OpenRefused, HasNotFailed}
+use Rattle.tink_streams.specs.Reading.{ReaderMoment, TellsLeads, OpenNextRefused, HasNotFailed}
 use Rattle.tink_streams.specs.declared.progress.Progress.{Progress}
 use Rattle.tink_streams.specs.declared.progress.Progress.TheVariants.{Running, Ended, Failed}
 use Rattle.tink_streams.specs.Whole.{Faults, WroteSome, AllRefused}
@@ -44,7 +44,7 @@ short_or_none o n X (inr e) = inr (ap (take n) e ∙ take_all n [] (omega arith)
 
 -- what a refusal says of all
 pub refused_all : (seg : ℕ → Bool → List ℕ → List ℕ) (a b overhead : ℕ) (all got now : Option (List ℕ)) (texts : List (List ℕ)) (m n : ReaderMoment) (f : Faults) (k : Kind) → f.read_before ≤ m.faults → f.read_after ≡ n.faults → 0 < a → 0 < b → Opened seg a b all texts m → Appends got now (joined texts)
-    → OpenRefused seg a b overhead m n k → AllRefused seg a b overhead all got now f k
+    → OpenNextRefused seg a b overhead m n k → AllRefused seg a b overhead all got now f k
 refused_all seg a b overhead all got now texts m n f ReadFault later same p q o w h =
     let risen = h.rose in
     wrote_some seg a b all got now texts m f.read_before f.read_after o (omega arith) (all_front got now (joined texts) w)

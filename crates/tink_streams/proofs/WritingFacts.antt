@@ -15,7 +15,7 @@ use Rattle.tink_io.specs.declared.error.Kind.TheVariants.{WriteFault, TooManySeg
 use Rattle.tink_io.specs.declared.error.Kind.TheVariants as kind
 use Rattle.tink_io.specs.declared.error.TinkError.{TinkError}
 use Rattle.tink_streams.specs.declared.writing.Mode.TheVariants.{Open}
-use Rattle.tink_streams.specs.Writing.{WriterMoment, filled, StopsAt, Wrote, WroteFront, WroteAll, WriteRefused, ClosedBy, ClosedShort, CloseMeans, PutMeans}
+use Rattle.tink_streams.specs.Writing.{WriterMoment, filled, StopsWithin, Wrote, WroteFront, WroteAll, WriteRefused, ClosedBy, ClosedShort, CloseMeans, PutMeans}
 use Rattle.tink_streams.proofs.WriterSteps.{then_front, one_begun}
 use Rattle.tink_streams.proofs.FrontFacts.{fits_or_not}
 
@@ -94,7 +94,7 @@ wrote_then_front seg a b m n o R S p q later w v =
     }
 
 -- a prefix of all the segments was written
-pub stops_front : (seg : ℕ → Bool → List ℕ → List ℕ) (first number : ℕ) (chunks : List (List ℕ)) (old new : Option (List ℕ)) → StopsAt seg first number chunks old new → AppendsFront old new (unmarked seg first chunks)
+pub stops_front : (seg : ℕ → Bool → List ℕ → List ℕ) (first number : ℕ) (chunks : List (List ℕ)) (old new : Option (List ℕ)) → StopsWithin seg first number chunks old new → AppendsFront old new (unmarked seg first chunks)
 stops_front seg first number chunks old new s = one_begun seg old s.between new first number s.done s.next s.more chunks s.counted s.split s.whole s.front
 
 -- the chunks below the number that is not there

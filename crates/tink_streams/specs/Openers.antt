@@ -31,8 +31,8 @@ module _ {D : Type 0} {g : Ghosts D} where
   reader_moment left faults r source = record { progress = r.progress; number = r.segments; opened = r.opened.items; rest = reader_rest left r source; faults = faults source }
 
   -- nothing is left once the last segment was opened
-  abbrev pub IsSound : {S : Type 0} → (S → Option (List ℕ)) → SegmentReader D g → S → Type 0
-  IsSound left r source = r.progress ≡ Ended → ForSome (reader_rest left r source) (λ xs. xs ≡ [])
+  abbrev pub EndsEmpty : {S : Type 0} → (S → Option (List ℕ)) → SegmentReader D g → S → Type 0
+  EndsEmpty left r source = r.progress ≡ Ended → ForSome (reader_rest left r source) (λ xs. xs ≡ [])
 
   -- the text that was opened and is not yet given
   abbrev pub pending_text : TextReader D g → List ℕ

@@ -4,7 +4,7 @@ use Rattle.std.specs.declared.option.Option.{Option}
 use Rattle.std.specs.Io.KnownBytes.{Keeps, IsAtEnd, prepend_known}
 
 -- the text's segment is the chunk at the head of the held bytes, and is marked where nothing follows it
-pub record OpensTo (seg : ℕ → Bool → List ℕ → List ℕ) (number size : ℕ) (held text : List ℕ) : Type 0 where
+pub record HeadOpensTo (seg : ℕ → Bool → List ℕ → List ℕ) (number size : ℕ) (held text : List ℕ) : Type 0 where
   pub some : 0 < length held
   pub segment : seg number (nat_le (length held) size) text ≡ take size held
 

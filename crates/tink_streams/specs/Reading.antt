@@ -62,7 +62,7 @@ abbrev pub chunk_at : ℕ → ℕ → ℕ → List ℕ → List ℕ
 chunk_at first size i X = take (room_at first size i) X
 
 -- the next chunk is shorter than any segment; an end before it is that of an empty stream
-pub record IsTruncated (seg : ℕ → Bool → List ℕ → List ℕ) (first size overhead : ℕ) (old new : ReaderMoment) (n : ℕ) : Type 0 where
+pub record TruncatedAt (seg : ℕ → Bool → List ℕ → List ℕ) (first size overhead : ℕ) (old new : ReaderMoment) (n : ℕ) : Type 0 where
   pub fails : FailsBy (cause.Truncated n) old new
   pub nothing : NothingComes seg first size old
   pub number : n ≡ old.number
@@ -83,13 +83,13 @@ pub record HasTooMany (seg : ℕ → Bool → List ℕ → List ℕ) (first size
   pub more : IfSome old.rest (λ X. 0 < length X)
 
 -- each refusal
-abbrev pub OpenRefused : (ℕ → Bool → List ℕ → List ℕ) → ℕ → ℕ → ℕ → ReaderMoment → ReaderMoment → Kind → Type 0
-OpenRefused seg first size overhead old new ReadFault = ReadFailed old new
-OpenRefused seg first size overhead old new TooManySegments = HasTooMany seg first size old new
-OpenRefused seg first size overhead old new (BadSegment n) = IsBad seg first size overhead old new n
-OpenRefused seg first size overhead old new (Truncated n) = IsTruncated seg first size overhead old new n
-OpenRefused seg first size overhead old new _ = ⊥
+abbrev pub OpenNextRefused : (ℕ → Bool → List ℕ → List ℕ) → ℕ → ℕ → ℕ → ReaderMoment → ReaderMoment → Kind → Type 0
+OpenNextRefused seg first size overhead old new ReadFault = ReadFailed old new
+OpenNextRefused seg first size overhead old new TooManySegments = HasTooMany seg first size old new
+OpenNextRefused seg first size overhead old new (BadSegment n) = IsBad seg first size overhead old new n
+OpenNextRefused seg first size overhead old new (Truncated n) = TruncatedAt seg first size overhead old new n
+OpenNextRefused seg first size overhead old new _ = ⊥
 
-abbrev pub OpenMeans : (ℕ → Bool → List ℕ → List ℕ) → ℕ → ℕ → ℕ → ReaderMoment → ReaderMoment → Result (Unit {0}) TinkError → Type 0
-OpenMeans seg first size overhead old new (Ok _) = OpensNext seg first size old new
-OpenMeans seg first size overhead old new (Err e) = OpenRefused seg first size overhead old new e.kind
+abbrev pub OpenNextMeans : (ℕ → Bool → List ℕ → List ℕ) → ℕ → ℕ → ℕ → ReaderMoment → ReaderMoment → Result (Unit {0}) TinkError → Type 0
+OpenNextMeans seg first size overhead old new (Ok _) = OpensNext seg first size old new
+OpenNextMeans seg first size overhead old new (Err e) = OpenNextRefused seg first size overhead old new e.kind

@@ -10,7 +10,7 @@ use Rattle.stream_model.specs.Agree.{Leads, Agree, joined}
 use Rattle.stream_model.specs.Opening.{AreSegments}
 use Rattle.tink_streams.specs.declared.progress.Progress.{Progress}
 use Rattle.tink_streams.specs.declared.progress.Progress.TheVariants.{Running, Ended, Failed}
-use Rattle.tink_streams.specs.Reading.{TellsLeads, HasNotFailed, OpenRefused, ReadFailed, HasTooMany, IsBad, IsTruncated}
+use Rattle.tink_streams.specs.Reading.{TellsLeads, HasNotFailed, OpenNextRefused, ReadFailed, HasTooMany, IsBad, TruncatedAt}
 use Rattle.tink_streams.specs.Reading as segments
 
 -- a text's reader at one moment: how far it has come, the next segment's number, the text that was opened and is not yet given,
@@ -77,7 +77,7 @@ abbrev pub ReadRefused : (ℕ → Bool → List ℕ → List ℕ) → ℕ → �
 ReadRefused seg first size overhead old new room ReadFault = IsDue old room × ReadFailed (of_segments old) (of_segments new)
 ReadRefused seg first size overhead old new room TooManySegments = IsDue old room × HasTooMany seg first size (of_segments old) (of_segments new)
 ReadRefused seg first size overhead old new room (BadSegment n) = IsDue old room × IsBad seg first size overhead (of_segments old) (of_segments new) n
-ReadRefused seg first size overhead old new room (Truncated n) = IsDue old room × IsTruncated seg first size overhead (of_segments old) (of_segments new) n
+ReadRefused seg first size overhead old new room (Truncated n) = IsDue old room × TruncatedAt seg first size overhead (of_segments old) (of_segments new) n
 ReadRefused seg first size overhead old new room (FailedBefore c) = (old.progress ≡ Failed c) × (new ≡ old)
 ReadRefused seg first size overhead old new room _ = ⊥
 
@@ -89,7 +89,7 @@ ReadMeans seg first size overhead old new before after (Err e) = (after ≡ befo
 -- what getting text ready answers
 abbrev pub ReadyMeans : (ℕ → Bool → List ℕ → List ℕ) → ℕ → ℕ → ℕ → TextMoment → TextMoment → Result (Unit {0}) TinkError → Type 0
 ReadyMeans seg first size overhead old new (Ok _) = IsReady seg first size old new
-ReadyMeans seg first size overhead old new (Err e) = IsDue old 1 × OpenRefused seg first size overhead (of_segments old) (of_segments new) e.kind
+ReadyMeans seg first size overhead old new (Err e) = IsDue old 1 × OpenNextRefused seg first size overhead (of_segments old) (of_segments new) e.kind
 
 -- from a reader over all bytes on, that had opened nothing, reads have given these bytes
 pub record Gave (seg : ℕ → Bool → List ℕ → List ℕ) (first size : ℕ) (all : Option (List ℕ)) (given : List ℕ) (m : TextMoment) : Type 0 where
@@ -99,7 +99,7 @@ pub record Gave (seg : ℕ → Bool → List ℕ → List ℕ) (first size : ℕ
   pub given_is : joined texts ≡ given ++ m.pending
 
 -- all chunks are the segments of some texts, and these bytes are those texts joined
-pub record IsWhole (seg : ℕ → Bool → List ℕ → List ℕ) (first size : ℕ) (all : Option (List ℕ)) (given : List ℕ) : Type 0 where
+pub record IsAllText (seg : ℕ → Bool → List ℕ → List ℕ) (first size : ℕ) (all : Option (List ℕ)) (given : List ℕ) : Type 0 where
   pub texts : List (List ℕ)
   pub some : 0 < length texts
   pub leads : IfSome all (λ X. Leads seg 0 (cut first size X) texts [])

@@ -37,7 +37,7 @@ module _ {D : Type 0} {g : Ghosts D} where
 
   -- the stream begins first under this key of those and is opened so, none of its bytes is lost, its header is kept,
   -- and a segment, its nonce and its text have room
-  pub record IsOfChosen {Z : Type 0} (ks : List OpeningKey) (old new : Option (List ℕ)) (kept : Kept) (nonces texts : Vec ℕ Z) (b : Begun D g) : Type 0 where
+  pub record IsOfFirst {Z : Type 0} (ks : List OpeningKey) (old new : Option (List ℕ)) (kept : Kept) (nonces texts : Vec ℕ Z) (b : Begun D g) : Type 0 where
     pub found : IfSome old (λ X. Found ks X (segment_map b.opener) b.header b.opener.first b.opener.size b.opener.overhead)
     pub rest : Keeps old new
     pub header : b.header ≤ kept.filled
@@ -52,5 +52,5 @@ module _ {D : Type 0} {g : Ghosts D} where
 
   -- what the choice of a key answers where the source did not fail
   abbrev pub ChoiceMeans : {Z : Type 0} → List OpeningKey → Option (List ℕ) → Option (List ℕ) → Kept → Vec ℕ Z → Vec ℕ Z → Option (Begun D g) → Type 0
-  ChoiceMeans ks old new kept nonces texts (Some b) = IsOfChosen ks old new kept nonces texts b
+  ChoiceMeans ks old new kept nonces texts (Some b) = IsOfFirst ks old new kept nonces texts b
   ChoiceMeans ks old new kept nonces texts None = IsOfNone ks old new

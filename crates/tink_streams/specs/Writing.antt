@@ -40,7 +40,7 @@ pub record Wrote (seg : ℕ → Bool → List ℕ → List ℕ) (first room : �
   pub few : new.number < 2 ^ 32
 
 -- the unmarked segments of chunks, of numbers from `start` up to below `number`, were written whole, and of the next one a prefix
-pub record StopsAt (seg : ℕ → Bool → List ℕ → List ℕ) (start number : ℕ) (chunks : List (List ℕ)) (old new : Option (List ℕ)) : Type 0 where
+pub record StopsWithin (seg : ℕ → Bool → List ℕ → List ℕ) (start number : ℕ) (chunks : List (List ℕ)) (old new : Option (List ℕ)) : Type 0 where
   pub done : List (List ℕ)
   pub next : List ℕ
   pub more : List (List ℕ)
@@ -54,7 +54,7 @@ pub record StopsAt (seg : ℕ → Bool → List ℕ → List ℕ) (start number 
 pub record WroteFront (seg : ℕ → Bool → List ℕ → List ℕ) (first room : ℕ) (old new : WriterMoment) (text : List ℕ) : Type 0 where
   pub was_open : old.mode ≡ Open
   pub failed : new.mode ≡ Failed cause.WriteFault
-  pub stops : StopsAt seg old.number new.number (filled first room old text) old.got new.got
+  pub stops : StopsWithin seg old.number new.number (filled first room old text) old.got new.got
   pub rose : Rose old.faults new.faults
 
 -- the text needs a number above 2^32 - 1: all unmarked segments with lower numbers were written

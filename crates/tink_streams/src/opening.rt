@@ -1,7 +1,7 @@
 ghost use Rattle.std.specs.Prelude.{◌≡◌, ◌≤◌, ◌<◌, ◌+◌, ◌^◌, ℕ, List, [], length, true, false, vec_len, vec_capacity};
 ghost use Rattle.stream_model.specs.Cut.{room_at};
 ghost use Rattle.tink_streams.specs.Openers.{segment_map};
-ghost use Rattle.tink_streams.specs.Opening.{OpensTo};
+ghost use Rattle.tink_streams.specs.Opening.{HeadOpensTo};
 
 use crate::opener::Opener;
 use tink_segment_traits::{SegmentDecrypter, generate_segment_nonce};
@@ -102,12 +102,12 @@ pub fn open_front<D: SegmentDecrypter>(
     requires number { number < 2 ^ 32 }
     requires room { opener.now.size ≤ vec_capacity opened.old }
     requires nonce { opener.now.nonce_size ≤ vec_len nonce.old }
-    ensures ok { result ≡ true → OpensTo (segment_map opener.now) number
+    ensures ok { result ≡ true → HeadOpensTo (segment_map opener.now) number
         (room_at opener.now.first opener.now.size number) held.now opened.new.items }
     ensures some { result ≡ true → room_at opener.now.first opener.now.size number < length held.now
         → 0 < vec_len opened.new }
     ensures fits { result ≡ true → vec_len opened.new ≤ opener.now.size }
-    ensures refused { result ≡ false → (t : List ℕ) → OpensTo (segment_map opener.now) number
+    ensures refused { result ≡ false → (t : List ℕ) → HeadOpensTo (segment_map opener.now) number
         (room_at opener.now.first opener.now.size number) held.now t → ⊥ }
     ensures cleared { result ≡ false → opened.new.items ≡ [] }
     ensures capacity { vec_capacity opened.old ≤ vec_capacity opened.new }

@@ -36,13 +36,13 @@ pub struct Reader<R: Source, D: SegmentDecrypter> {
 
 impl<R: Source, D: SegmentDecrypter> Model for Reader<R, D> {
     ghost use Rattle.tink_streams.specs.Readers.{ReaderState};
-    ghost use Rattle.tink_streams.specs.Openers.{IsSound, pending_text, reader_state};
+    ghost use Rattle.tink_streams.specs.Openers.{EndsEmpty, pending_text, reader_state};
 
     ghost Value = { ReaderState R D };
 
     ghost view = { λ r. reader_state r.text.reader (pending_text r.text) r.source };
 
-    ghost invariant = { λ r. IsSound R.left r.text.reader r.source };
+    ghost invariant = { λ r. EndsEmpty R.left r.text.reader r.source };
 }
 
 impl<R: Source + Drop, D: SegmentDecrypter + Drop> Reader<R, D> {

@@ -47,7 +47,7 @@ fn progress_after(filled: usize) -> Progress
 }
 
 impl<D: SegmentDecrypter + Drop> SegmentReader<D> {
-    ghost use Rattle.tink_streams.specs.Reading.{OpenMeans};
+    ghost use Rattle.tink_streams.specs.Reading.{OpenNextMeans};
     ghost use Rattle.tink_streams.specs.Openers.{held_bytes, reader_moment, segment_map};
 
     /// A reader that has opened nothing, and holds the first `filled` bytes of `buffers.sealed`.
@@ -82,7 +82,7 @@ impl<D: SegmentDecrypter + Drop> SegmentReader<D> {
     /// chunk is the segment of no text. The reader has then failed, and has opened nothing.
     pub fn open_next<S: Source>(&mut self, source: &mut S) -> Result<(), TinkError>
         requires running { self.old.progress ≡ Running }
-        ensures answer { OpenMeans (segment_map self.old.opener) self.old.opener.first self.old.opener.size
+        ensures answer { OpenNextMeans (segment_map self.old.opener) self.old.opener.first self.old.opener.size
             self.old.opener.overhead (reader_moment S.left S.faults self.old source.old)
             (reader_moment S.left S.faults self.new source.new) result }
         ensures opener { self.new.opener ≡ self.old.opener }

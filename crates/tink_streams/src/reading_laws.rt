@@ -5,7 +5,7 @@ ghost use Rattle.tink_io.specs.declared.error.Kind.TheVariants.{FailedBefore};
 ghost use Rattle.tink_io.specs.declared.error.TinkError.{TinkError};
 ghost use Rattle.tink_streams.specs.declared.progress.Progress.TheVariants.{Failed};
 ghost use Rattle.tink_streams.specs.Reading.{HasNotFailed, NothingComes};
-ghost use Rattle.tink_streams.specs.TextReading.{TextMoment, AtEnd, ReadMeans, Gave, IsWhole, IsTextOf, IsLongest, of_segments};
+ghost use Rattle.tink_streams.specs.TextReading.{TextMoment, AtEnd, ReadMeans, Gave, IsAllText, IsTextOf, IsLongest, of_segments};
 
 /// A read of a reader at its end answers `Ok(0)`, and a read of one that failed answers the cause. Both leave the
 /// reader as it was, and so the next read, and each after it, does the same.
@@ -38,10 +38,10 @@ pub fn law_whole_text()
         → Gave seg first size all given old → ReadMeans seg first size overhead old new before after (Ok n)
         → Gave seg first size all (given ++ take n after) new }
     ensures whole { (seg : ℕ → Bool → List ℕ → List ℕ) (first size : ℕ) (all : Option (List ℕ)) (given : List ℕ)
-        (m : TextMoment) → Gave seg first size all given m → AtEnd m → IsWhole seg first size all given }
+        (m : TextMoment) → Gave seg first size all given m → AtEnd m → IsAllText seg first size all given }
     ensures stream { (seg : ℕ → Bool → List ℕ → List ℕ) (o first size : ℕ) (all : Option (List ℕ)) (given : List ℕ)
         → ((i : ℕ) (last : Bool) (t : List ℕ) → length (seg i last t) ≡ length t + o) → o < first → first ≤ size
-        → IsWhole seg first size all given → IsTextOf seg (first - o) (size - o) all given }
+        → IsAllText seg first size all given → IsTextOf seg (first - o) (size - o) all given }
     ensures stopped { (seg : ℕ → Bool → List ℕ → List ℕ) (first size : ℕ) (all : Option (List ℕ)) (given : List ℕ)
         (m : TextMoment) → Gave seg first size all given m → m.pending ≡ [] → NothingComes seg first size (of_segments m)
         → IsLongest seg first size all given }

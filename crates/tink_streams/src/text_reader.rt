@@ -28,12 +28,12 @@ fn give(text: &[u8], buf: &mut [u8]) -> usize
 
 impl<D: SegmentDecrypter + Drop> TextReader<D> {
     ghost use Rattle.tink_streams.specs.TextReading.{IsDue, ReadMeans, ReadyMeans};
-    ghost use Rattle.tink_streams.specs.Openers.{IsSound, held_bytes, segment_map, text_moment};
+    ghost use Rattle.tink_streams.specs.Openers.{EndsEmpty, held_bytes, segment_map, text_moment};
 
     // Opens the next segment where no opened text is left to give and more may come.
     fn make_ready<S: Source>(&mut self, source: &mut S) -> Result<(), TinkError>
         requires lives { HasNotFailed self.old.reader.progress }
-        requires at_end { IsSound S.left self.old.reader source.old }
+        requires at_end { EndsEmpty S.left self.old.reader source.old }
         ensures answer { ReadyMeans (segment_map self.old.reader.opener) self.old.reader.opener.first
             self.old.reader.opener.size self.old.reader.opener.overhead
             (text_moment S.left S.faults self.old source.old) (text_moment S.left S.faults self.new source.new)
@@ -66,13 +66,13 @@ impl<D: SegmentDecrypter + Drop> TextReader<D> {
     /// ReadFault, TooManySegments, BadSegment and Truncated where the next segment was not opened, as in
     /// [`SegmentReader::open_next`]; FailedBefore where an earlier call failed.
     pub fn read<S: Source>(&mut self, source: &mut S, buf: &mut [u8]) -> Result<usize, TinkError>
-        requires at_end { IsSound S.left self.old.reader source.old }
+        requires at_end { EndsEmpty S.left self.old.reader source.old }
         ensures answer { ReadMeans (segment_map self.old.reader.opener) self.old.reader.opener.first
             self.old.reader.opener.size self.old.reader.opener.overhead
             (text_moment S.left S.faults self.old source.old) (text_moment S.left S.faults self.new source.new)
             buf.old buf.new result }
         ensures within { IfOk result (λ n. n ≤ length buf.new) }
-        ensures at_end { IsSound S.left self.new.reader source.new }
+        ensures at_end { EndsEmpty S.left self.new.reader source.new }
         // where no segment is due, nothing is read
         ensures idle { (IsDue (text_moment S.left S.faults self.old source.old) (length buf.old) → ⊥)
             → (source.new ≡ source.old) × (held_bytes self.new.reader ≡ held_bytes self.old.reader) }

@@ -1,4 +1,4 @@
-ghost use Rattle.std.specs.Prelude.{◌≡◌, ◌≤◌, ◌<◌, ◌+◌, ◌-◌, ℕ, length, take, drop, max, Some, None, IfSome, IsNone, IfOk, IfErr, OnOk, OnErr, vec_len, vec_capacity};
+ghost use Rattle.std.specs.Prelude.{◌≡◌, ◌≤◌, ◌<◌, ◌+◌, ◌-◌, ℕ, length, take, drop, max, Some, None, IfSome, IsNone, IfOk, IfErr, MatchResult, OnOk, OnErr, false, true, vec_len, vec_capacity};
 ghost use Rattle.stream_model.specs.Cut.{numbered};
 ghost use Rattle.stream_model.specs.Opening.{OpeningKey, HasHeader};
 ghost use Rattle.tink_io.specs.Faults.{Rose};
@@ -121,6 +121,23 @@ fn header_opener<D: SegmentDecrypter + Drop, T: OpensStreams<D>>(
     opener_under(key, &held[..h], prefix)
 }
 
+// How a stream is opened that begins in a header of so many bytes, or the memory of its prefix again.
+fn begun_if<D: SegmentDecrypter + Drop>(
+    begins: bool,
+    opener: Opener<D>,
+    header: usize,
+) -> Result<Begun<D>, Vec<u8>>
+    ensures { MatchResult result
+        (λ b. (begins ≡ true) × (b ≡ record { opener = opener; header = header }))
+        (λ prefix. (begins ≡ false) × (prefix ≡ opener.prefix)) }
+{
+    if begins {
+        Ok(Begun { opener, header })
+    } else {
+        Err(opener.prefix)
+    }
+}
+
 /// How the stream of a source is opened, if it begins in a header of the key and in the segment of some text;
 /// else the memory of its prefix again. No more is read than tells it.
 ///
@@ -155,9 +172,6 @@ pub fn try_key<S: Source, D: SegmentDecrypter + Drop, T: OpensStreams<D>>(
         Err(memory) => return Ok(Err(memory)),
     };
     kept.keep(source, h + opener.first)?;
-    if open_front(&opener, 0, &kept.buffer[h..kept.filled], nonce, opened) {
-        Ok(Ok(Begun { opener, header: h }))
-    } else {
-        Ok(Err(opener.prefix))
-    }
+    let begins = open_front(&opener, 0, &kept.buffer[h..kept.filled], nonce, opened);
+    Ok(begun_if(begins, opener, h))
 }

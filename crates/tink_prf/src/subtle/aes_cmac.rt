@@ -3,7 +3,7 @@
 ghost use Rattle.std.specs.Prelude.{◌≡◌, false, length, MatchOption, MatchResult};
 ghost use Rattle.tink_io.specs.Told.{Tells};
 ghost use Rattle.tink_prf.specs.AesCmac.{aes_cmac_key, aes_cmac_output, aes_cmac_output_told, aes_cmac_params, cmac_of, is_aes_key_size};
-ghost use Rattle.tink_prf.specs.AesVariants.{IsKeyed, IsSized, key_of};
+ghost use Rattle.tink_prf.specs.AesVariants.{IsKeyed, FitsVariant, variant_key};
 
 use aes_block::{Aes128, Aes192, Aes256};
 use cipher::KeyInit;
@@ -44,8 +44,8 @@ impl AesVariant {
 
     // The CMAC of a text.
     fn cmac(&self, text: &[u8]) -> [u8; 16]
-        requires { IsSized self.now }
-        ensures { result ≡ cmac_of (key_of self.now) text.now }
+        requires { FitsVariant self.now }
+        ensures { result ≡ cmac_of (variant_key self.now) text.now }
     {
         let mut out = [0u8; 16];
         match self {
@@ -76,13 +76,13 @@ pub struct AesCmacPrf {
 
 impl Model for AesCmacPrf {
     ghost use Rattle.std.specs.Prelude.{List, ℕ};
-    ghost use Rattle.tink_prf.specs.AesVariants.{IsSized, key_of};
+    ghost use Rattle.tink_prf.specs.AesVariants.{FitsVariant, variant_key};
 
     ghost Value = { List ℕ };
 
-    ghost view = { λ prf. key_of prf.cipher };
+    ghost view = { λ prf. variant_key prf.cipher };
 
-    ghost invariant = { λ prf. IsSized prf.cipher };
+    ghost invariant = { λ prf. FitsVariant prf.cipher };
 }
 
 impl AesCmacPrf {

@@ -7,7 +7,7 @@ use Rattle.stream_model.specs.Opening.{OpeningKey, Begins, opening_key}
 use Rattle.tink_streams.specs.Choosing.{Found, IsOpenerOf}
 use Rattle.tink_streams.specs.Keeping.{kept_rest}
 use Rattle.tink_streams.specs.Openers.{segment_map}
-use Rattle.tink_streams.proofs.ChoosingSteps.{GoesOn, key_split, pass_over, take_key, both_told, told_before}
+use Rattle.tink_streams.proofs.ChoosingSteps.{ChosenFrom, key_split, pass_over, take_key, both_told, told_before}
 use Rattle.tink_stream_keys.proofs.choosing.choose.Goals as goal
 
 pub returns-in-Ok-clause-answer : goal.returns-in-Ok-clause-answer
@@ -29,7 +29,7 @@ returns-in-Ok-clause-answer g c =
     let text : (keyed key).segment ≤ vec_capacity c.args.opened.now = so (λ k. (keyed k).segment ≤ vec_capacity c.args.opened.now) c.requires.room in
     let split = key_split keys c.loop-key.key-index key (omega arith) c.key-item.is in
     record {
-      found = both_told told (λ X. Begins (of key) X × IsOpenerOf (of key) X seg b.header o.first o.size o.overhead) (GoesOn of keys c.loop-key.key-index) (λ X. Found (map of keys) X seg b.header o.first o.size o.overhead)
+      found = both_told told (λ X. Begins (of key) X × IsOpenerOf (of key) X seg b.header o.first o.size o.overhead) (ChosenFrom of keys c.loop-key.key-index) (λ X. Found (map of keys) X seg b.header o.first o.size o.overhead)
           (λ X p h. record { key = of key; chosen = take_key of keys c.loop-key.key-index key X split p.0 h; opener = p.1 })
           (told_before told _ (λ X. Begins (of key) X × IsOpenerOf (of key) X seg b.header o.first o.size o.overhead) inv.rest tried.found)
           inv.chosen;
@@ -56,7 +56,7 @@ loop-key-preserved g c =
       capacity = omega (arith, called.room.capacity, inv.capacity);
       prefix_room = tried.room;
       rest = Keeps-trans _ _ _ inv.rest tried.rest;
-      chosen = both_told told (λ X. Begins (of key) X → ⊥) (GoesOn of keys c.loop-key.key-index) (GoesOn of keys (c.loop-key.key-index + 1))
+      chosen = both_told told (λ X. Begins (of key) X → ⊥) (ChosenFrom of keys c.loop-key.key-index) (ChosenFrom of keys (c.loop-key.key-index + 1))
           (λ X other h. pass_over of keys c.loop-key.key-index key X split other h)
           (told_before told _ (λ X. Begins (of key) X → ⊥) inv.rest tried.none)
           inv.chosen;

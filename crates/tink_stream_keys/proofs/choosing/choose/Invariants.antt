@@ -2,7 +2,7 @@ use Rattle.std.proofs.Common.{◌≡◌, ◌≤◌, IfSome, vec_len, vec_capacit
 use Rattle.std.specs.Io.KnownBytes.{Keeps}
 use Rattle.stream_model.specs.Opening.{opening_key}
 use Rattle.tink_streams.specs.Keeping.{kept_rest}
-use Rattle.tink_streams.proofs.ChoosingSteps.{GoesOn}
+use Rattle.tink_streams.proofs.ChoosingSteps.{ChosenFrom}
 use Rattle.tink_stream_keys.proofs.choosing.choose.Given as goal
 
 -- what is chosen of the rest of the keys is chosen
@@ -15,7 +15,7 @@ invariant-loop-key g l =
       capacity : vec_capacity l.fn.opened ≤ vec_capacity l.opened;
       prefix_room : 7 ≤ vec_capacity l.prefix;
       rest : Keeps (kept_rest source.left l.fn.kept l.fn.source) (kept_rest source.left l.kept l.source);
-      chosen : IfSome (kept_rest source.left l.fn.kept l.fn.source) (GoesOn (λ k. opening_key l.fn.aad (g.T.DerivesStreams.key_of k)) l.keys l.key-index);
+      chosen : IfSome (kept_rest source.left l.fn.kept l.fn.source) (ChosenFrom (λ k. opening_key l.fn.aad (g.T.DerivesStreams.key_of k)) l.keys l.key-index);
       later : source.faults l.fn.source ≤ source.faults l.source;
       same : source.same l.fn.source l.source;
     }

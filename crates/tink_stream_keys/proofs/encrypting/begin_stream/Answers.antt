@@ -1,10 +1,6 @@
-use Rattle.std.proofs.Common.{◌≡◌, ◌-◌, ap, ◌∙◌, length, arith}
-use Rattle.std.proofs.lemmas.Bool.{false≢true}
+use Rattle.std.proofs.Common.{◌≡◌, ◌-◌, ap, ◌∙◌, arith}
 use Rattle.std.proofs.lemmas.Result.{err_from_is_err_and}
-use Rattle.stream_model.specs.Sealing.{drawn}
-use Rattle.tink_stream_keys.specs.Encrypting.{DrewHeader}
-use Rattle.tink_stream_keys.proofs.HeaderFacts.{enough_drawn}
-use Rattle.tink_stream_keys.proofs.NewWriterSteps.{front_failed, hash_refused, new_stream}
+use Rattle.tink_stream_keys.proofs.NewWriterSteps.{drew_header, front_failed, hash_refused, new_stream}
 use Rattle.tink_stream_keys.proofs.encrypting.begin_stream.Goals as goal
 
 pub returns-in_err-cipher-clause-answer : goal.returns-in_err-cipher-clause-answer
@@ -12,10 +8,7 @@ returns-in_err-cipher-clause-answer g c =
     let p = err_from_is_err_and c.from_residual-in_err-cipher.result c.from_residual-in_err-cipher.ensures.1 in
     let k = g.T.DerivesStreams.key_of c.args.key.now in
     let d = c.in_ok-header.ensures in
-    let drew : DrewHeader k c.args.draws.now c.draw_header.new.draws = record {
-      enough = enough_drawn (length c.args.draws.now) (drawn k) (λ l. false≢true (d.random_fault.1 l));
-      rest = d.rest;
-    } in
+    let drew = drew_header k c.args.draws.now c.draw_header.new.draws d.random_fault.1 d.rest in
     rw (p.1, p.2) (hash_refused g.K.Sink.got g.K.Sink.faults k c.args.aad.now _ _ _ _ drew c.in_err-cipher.ensures)
 
 pub returns-in_err-write_all-clause-answer : goal.returns-in_err-write_all-clause-answer
@@ -25,10 +18,7 @@ returns-in_err-write_all-clause-answer g c =
     let d = c.in_ok-header.ensures in
     let n = c.header_length-size.result in
     let size = c.header_length-size.ensures.value in
-    let drew : DrewHeader k c.args.draws.now c.draw_header.new.draws = record {
-      enough = enough_drawn (length c.args.draws.now) (drawn k) (λ l. false≢true (d.random_fault.1 l));
-      rest = d.rest;
-    } in
+    let drew = drew_header k c.args.draws.now c.draw_header.new.draws d.random_fault.1 d.rest in
     let salt : n - 7 - 1 ≡ k.derived = omega arith in
     let w = c.in_err-write_all.ensures in
     rw (p.1, p.2, w.refused) (front_failed k c.args.aad.now c.args.draws.now c.draw_header.new.draws c.in_ok-header.header n (n - 7 - 1) c.in_ok-cipher.cipher drew c.header_length-size.ensures.bare size (rw size d.ok) salt c.in_ok-cipher.ensures
@@ -40,10 +30,7 @@ returns-clause-answer g c =
     let d = c.in_ok-header.ensures in
     let n = c.header_length-size.result in
     let size = c.header_length-size.ensures.value in
-    let drew : DrewHeader k c.args.draws.now c.draw_header.new.draws = record {
-      enough = enough_drawn (length c.args.draws.now) (drawn k) (λ l. false≢true (d.random_fault.1 l));
-      rest = d.rest;
-    } in
+    let drew = drew_header k c.args.draws.now c.draw_header.new.draws d.random_fault.1 d.rest in
     let salt : n - 7 - 1 ≡ k.derived = omega arith in
     let s = c.sealer_of-sealer.ensures in
     let made = c.made.ensures in

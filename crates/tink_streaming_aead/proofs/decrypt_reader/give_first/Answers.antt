@@ -1,13 +1,11 @@
-use Rattle.std.proofs.Common.{◌≡◌, ℕ, Bool, List, length, drop, take, map, refl, sym, arith}
+use Rattle.std.proofs.Common.{◌≡◌, ℕ, Bool, List, length, map, refl, sym, arith}
 use Rattle.std.proofs.lemmas.Result.{err_from_is_err_and}
 use Rattle.std.proofs.lemmas.Simd.{map-map}
-use Rattle.std.specs.Io.KnownBytes.{prepend_known}
-use Rattle.stream_model.specs.Cut.{numbered}
 use Rattle.stream_model.specs.Opening.{opening_key}
 use Rattle.tink_stream_keys.specs.StreamKinds.{key_of}
-use Rattle.tink_segments.specs.StreamSegments.{segment_by}
+use Rattle.tink_streams.specs.Openers.{segment_map, text_moment}
 use Rattle.tink_streams.specs.TextReading.{TextMoment, ReadRefused}
-use Rattle.tink_streaming_aead.proofs.DecryptSteps.{first_refused, fresh_gives, fresh_refused, start_refused, unread}
+use Rattle.tink_streaming_aead.proofs.DecryptSteps.{first_moment, first_refused, fresh_gives, fresh_refused, start_refused, unread}
 use Rattle.tink_streaming_aead.proofs.decrypt_reader.give_first.Goals as goal
 
 pub returns-in_err-reader-clause-answer : goal.returns-in_err-reader-clause-answer
@@ -27,23 +25,10 @@ returns-in-Ok-clause-answer g c =
     let started = rw told at (rw (c.deref.ensures.value, c.deref-2.ensures.value) at c.in_ok-reader.ensures.started) in
     let fresh = c.in_ok-reader.ensures.fresh in
     let reader = c.in_ok-reader.reader in
-    let m : TextMoment = record {
-      progress = reader.progress;
-      number = reader.segments;
-      pending = drop 0 reader.opened.items;
-      rest = prepend_known (take reader.filled reader.buffer.items) (g.S.Source.left c.start.new.source);
-      faults = g.S.Source.faults c.start.new.source;
-    } in
+    let m : TextMoment = first_moment g.S.Source.left g.S.Source.faults reader c.start.new.source in
     let o = reader.opener in
-    let seg : ℕ → Bool → List ℕ → List ℕ = numbered (segment_by o.decrypter) o.nonce_size o.prefix.items in
-    let after = c.read.new.self in
-    let n : TextMoment = record {
-      progress = after.reader.progress;
-      number = after.reader.segments;
-      pending = drop after.given after.reader.opened.items;
-      rest = prepend_known (take after.reader.filled after.reader.buffer.items) (g.S.Source.left c.read.new.source);
-      faults = g.S.Source.faults c.read.new.source;
-    } in
+    let seg : ℕ → Bool → List ℕ → List ℕ = segment_map o in
+    let n : TextMoment = text_moment g.S.Source.left g.S.Source.faults c.read.new.self c.read.new.source in
     rw c.read.ensures.opener (record {
       rest = m.rest;
       chosen = rw keys at started;
@@ -60,22 +45,9 @@ returns g c =
     let fresh = c.in_ok-reader.ensures.fresh in
     let reader = c.in_ok-reader.reader in
     let o = reader.opener in
-    let seg : ℕ → Bool → List ℕ → List ℕ = numbered (segment_by o.decrypter) o.nonce_size o.prefix.items in
-    let m : TextMoment = record {
-      progress = reader.progress;
-      number = reader.segments;
-      pending = drop 0 reader.opened.items;
-      rest = prepend_known (take reader.filled reader.buffer.items) (g.S.Source.left c.start.new.source);
-      faults = g.S.Source.faults c.start.new.source;
-    } in
-    let after = c.read.new.self in
-    let n : TextMoment = record {
-      progress = after.reader.progress;
-      number = after.reader.segments;
-      pending = drop after.given after.reader.opened.items;
-      rest = prepend_known (take after.reader.filled after.reader.buffer.items) (g.S.Source.left c.read.new.source);
-      faults = g.S.Source.faults c.read.new.source;
-    } in
+    let seg : ℕ → Bool → List ℕ → List ℕ = segment_map o in
+    let m : TextMoment = first_moment g.S.Source.left g.S.Source.faults reader c.start.new.source in
+    let n : TextMoment = text_moment g.S.Source.left g.S.Source.faults c.read.new.self c.read.new.source in
     let kind = c.in-Err.e.kind in
     let refused : ReadRefused seg o.first o.size o.overhead m n (length c.args.buf.now) kind = c.in-Err.ensures.answer.1 in
     record {

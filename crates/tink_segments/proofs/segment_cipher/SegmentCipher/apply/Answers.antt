@@ -3,17 +3,17 @@ use Rattle.std.specs.Int.{w64}
 use Rattle.aes_block.proofs.KeyedBlocks.{encrypted-aes}
 use Rattle.standards.specs.AesKeys.{aes}
 use Rattle.standards.specs.Counter.{ctr, plus_be}
-use Rattle.tink_segments.specs.SegmentCiphers.{IsSized, key_of}
+use Rattle.tink_segments.specs.SegmentCiphers.{FitsCipher, cipher_key}
 use Rattle.tink_segments.proofs.segment_cipher.SegmentCipher.apply.Goals as goal
 
 pub returns-in-Small : goal.returns-in-Small
 returns-in-Small c =
-    let size = subst IsSized c.in-Small.is c.requires.sized in
+    let size = subst FitsCipher c.in-Small.is c.requires.sized in
     c.apply_counter_mode.ensures
-    ∙ ap (λ E. ctr E (plus_be w64) c.args.nonce.now c.args.text.now) (encrypted-aes 16 c.in-Small.cipher size ∙ ap (λ s. aes (key_of s)) (sym c.in-Small.is))
+    ∙ ap (λ E. ctr E (plus_be w64) c.args.nonce.now c.args.text.now) (encrypted-aes 16 c.in-Small.cipher size ∙ ap (λ s. aes (cipher_key s)) (sym c.in-Small.is))
 
 pub returns-in-Large : goal.returns-in-Large
 returns-in-Large c =
-    let size = subst IsSized c.in-Large.is c.requires.sized in
+    let size = subst FitsCipher c.in-Large.is c.requires.sized in
     c.apply_counter_mode-in-Large.ensures
-    ∙ ap (λ E. ctr E (plus_be w64) c.args.nonce.now c.args.text.now) (encrypted-aes 32 c.in-Large.cipher size ∙ ap (λ s. aes (key_of s)) (sym c.in-Large.is))
+    ∙ ap (λ E. ctr E (plus_be w64) c.args.nonce.now c.args.text.now) (encrypted-aes 32 c.in-Large.cipher size ∙ ap (λ s. aes (cipher_key s)) (sym c.in-Large.is))

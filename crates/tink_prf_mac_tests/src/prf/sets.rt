@@ -1,7 +1,7 @@
 //! Sets of a keyset's pseudorandom functions.
 
 use crate::expecting::{gives, holds, is, refuses};
-use crate::test_keys::TestKeys;
+use crate::prf::test_keys::TestKeys;
 use hash_keys::{Hash, hmac_into};
 use std::alloc::Global;
 use std::collections::BTreeMap;

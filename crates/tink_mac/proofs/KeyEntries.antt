@@ -113,15 +113,15 @@ own_is k =
 
 -- ---- the entry of an enabled key
 
-cond_ok : {T : Type 0} (b : Bool) (r : Result T Kind) (k : Kind) (v : T) → cond b r (Err k) ≡ Ok v → r ≡ Ok v
+pub cond_ok : {T : Type 0} (b : Bool) (r : Result T Kind) (k : Kind) (v : T) → cond b r (Err k) ≡ Ok v → r ≡ Ok v
 cond_ok true r k v e = e
 cond_ok false r k v e = absurd (cc)
 
-made_ok : {S T : Type 0} (f : S → T) (r : Result S Kind) (v : T) → made_of f r ≡ Ok v → (x : S) × (r ≡ Ok x) × (f x ≡ v)
+pub made_ok : {S T : Type 0} (f : S → T) (r : Result S Kind) (v : T) → made_of f r ≡ Ok v → (x : S) × (r ≡ Ok x) × (f x ≡ v)
 made_ok f (Ok x) v e = let same : f x ≡ v = cc in (x, refl, same)
 made_ok f (Err k) v e = absurd (cc)
 
-then_ok : {S T : Type 0} (r : Result S Kind) (next : S → Result T Kind) (v : T) → and_then r next ≡ Ok v → (x : S) × (r ≡ Ok x) × (next x ≡ Ok v)
+pub then_ok : {S T : Type 0} (r : Result S Kind) (next : S → Result T Kind) (v : T) → and_then r next ≡ Ok v → (x : S) × (r ≡ Ok x) × (next x ≡ Ok v)
 then_ok (Ok x) next v e = (x, refl, e)
 then_ok (Err k) next v e = absurd (cc)
 
@@ -171,9 +171,9 @@ module _ {R K A D HD HE M P S St V Q : Type 0} (pick : Primitive K A D HD HE M P
       in_converted (typed_by pick) list.0 es one.0 e list.2 kept one.2
 
   -- each of them is that of an enabled key, whose id it has
-  pub key_of : (ks : Keyset) (e : TypedEntry Q) (es : List (TypedEntry Q)) → typed_entries pick ks.primary_key_id (built.built_entries url supports builds entry_of managers None ks) ≡ Ok es → Contains es e
+  pub entry_key : (ks : Keyset) (e : TypedEntry Q) (es : List (TypedEntry Q)) → typed_entries pick ks.primary_key_id (built.built_entries url supports builds entry_of managers None ks) ≡ Ok es → Contains es e
       → (k : Key) × (Contains (enabled ks) k) × (and_then (give k) (typed_by pick) ≡ Ok e) × (k.key_id ≡ e.key_id)
-  key_of ks e es all there =
+  entry_key ks e es all there =
       let list = by_list ks.primary_key_id (built.built_entries url supports builds entry_of managers None ks) es all in
       let given = cond_ok _ (given.given_each give (enabled ks)) InvalidKeyset list.0 list.1 in
       let typed = of_converted (typed_by pick) list.0 es e list.2 there in

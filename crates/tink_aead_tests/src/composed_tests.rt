@@ -183,7 +183,7 @@ fn less_than_a_vector(alloc: Global) -> Result<Bytes, TinkError> {
     Ok(Bytes::from_vec(input))
 }
 
-// What it is told.
+// What it is given.
 fn refused_less(alloc: Global) -> Result<Option<Kind>, TinkError> {
     let input = less_than_a_vector(alloc)?;
     Ok(kind_of(opened(alloc, input.as_slice(), b"d")))

@@ -33,7 +33,7 @@ fn length_of_hmac(alloc: Global, length: usize) -> Result<usize, TinkError> {
     length_of(made, alloc, length)
 }
 
-// Whether this length was told.
+// Whether this length was given.
 fn is_length(told: Result<usize, TinkError>, want: usize) -> bool {
     match told {
         Ok(length) => length == want,

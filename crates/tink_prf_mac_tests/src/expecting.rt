@@ -9,7 +9,7 @@ pub fn is(rt: &impl Abort, holds: bool, label: &str) {
     assert!(rt; holds, "{label}");
 }
 
-/// Whether something was told, and holds.
+/// Whether something is known, and holds.
 pub fn holds(told: Result<bool, TinkError>) -> bool {
     match told {
         Ok(told) => told,
@@ -25,7 +25,7 @@ pub fn gives(made: Result<Bytes, TinkError>, want: &[u8]) -> bool {
     }
 }
 
-/// Whether a refusal of this kind was told, or none.
+/// Whether a refusal of this kind was given, or none.
 pub fn refuses(told: Result<Option<Kind>, TinkError>, want: Option<Kind>) -> bool {
     match told {
         Ok(kind) => kind == want,

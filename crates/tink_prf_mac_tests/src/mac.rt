@@ -1,0 +1,7 @@
+//! MACs.
+
+mod keys;
+mod registering;
+mod sizes;
+mod vectors;
+mod wrapped;
