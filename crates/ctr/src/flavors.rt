@@ -35,32 +35,15 @@ pub trait CtrFlavor<const B: usize> {
     // how many counters there are
     ghost period: { ℕ };
 
-    // the counters are the numbers of their type
-    ghost most: { period ≡ Self.Backend.most + 1 };
-
     // block i from a nonce on
     ghost plus: { List ℕ → ℕ → List ℕ };
-
-    // the blocks repeat after the greatest counter
-    ghost repeats: { (xs : List ℕ) (i : ℕ) → plus xs (i % period) ≡ plus xs i };
-
-    // a block of a block is the block of the sum
-    ghost adds: { (xs : List ℕ) (i j : ℕ) → plus (plus xs i) j ≡ plus xs (i + j) };
-
-    ghost sized: { (xs : List ℕ) (i : ℕ) → length xs ≡ B → length (plus xs i) ≡ B };
 
     ghost nonce: { Self.CtrNonce → List ℕ };
 
     ghost counter: { Self.CtrNonce → ℕ };
 
-    ghost within: { (cn : Self.CtrNonce) → counter cn < period };
-
     // a nonce, with the counter at 0
     ghost started: { List ℕ → Self.CtrNonce };
-
-    ghost starts_at: { (xs : List ℕ) → nonce (started xs) ≡ xs };
-
-    ghost starts_at_0: { (xs : List ℕ) → counter (started xs) ≡ 0 };
 
     /// `NAME`, as contracts see it.
     fn flavor_name() -> &'static str
@@ -92,6 +75,23 @@ pub trait CtrFlavor<const B: usize> {
     /// The counter.
     fn as_backend(cn: &Self::CtrNonce) -> Self::Backend
         ensures value { Self.Backend.value result ≡ counter cn.now };
+
+    ghost within: { (cn : Self.CtrNonce) → counter cn < period };
+
+    // the counters are the numbers of their type
+    ghost most: { period ≡ Self.Backend.most + 1 };
+
+    ghost starts_at: { (xs : List ℕ) → nonce (started xs) ≡ xs };
+
+    ghost starts_at_0: { (xs : List ℕ) → counter (started xs) ≡ 0 };
+
+    // the blocks repeat after the greatest counter
+    ghost repeats: { (xs : List ℕ) (i : ℕ) → plus xs (i % period) ≡ plus xs i };
+
+    // a block of a block is the block of the sum
+    ghost adds: { (xs : List ℕ) (i j : ℕ) → plus (plus xs i) j ≡ plus xs (i + j) };
+
+    ghost sized: { (xs : List ℕ) (i : ℕ) → length xs ≡ B → length (plus xs i) ≡ B };
 }
 
 /// A flavour of counter mode on blocks of type N, which is `[u8; B]` for a `CtrFlavor<B>`.
