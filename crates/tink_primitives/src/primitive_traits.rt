@@ -26,7 +26,8 @@ pub trait Aead {
         additional_data: &[u8],
         draws: &mut Draws,
     ) -> Result<Bytes, TinkError>
-        ensures replies { Replies result (encrypts self.now plaintext.now additional_data.now draws.old) draws.old draws.new };
+        ensures replies { Replies result
+            (encrypts self.now plaintext.now additional_data.now draws.old) draws.old draws.new };
 
     /// The text of `ciphertext`, which is bound to `additional_data`.
     fn decrypt(
@@ -38,9 +39,11 @@ pub trait Aead {
         ensures answer { Answers result (decrypts self.now ciphertext.now additional_data.now) };
 
     // Each answer is told, and draws are taken in their order.
-    ghost encrypts_told: { (p : Self) (plaintext additional_data draws : List ℕ) → IsDrawn draws (encrypts p plaintext additional_data draws) };
+    ghost encrypts_told: { (p : Self) (plaintext additional_data draws : List ℕ)
+        → IsDrawn draws (encrypts p plaintext additional_data draws) };
 
-    ghost decrypts_told: { (p : Self) (ciphertext additional_data : List ℕ) → IsTold (decrypts p ciphertext additional_data) };
+    ghost decrypts_told: { (p : Self) (ciphertext additional_data : List ℕ)
+        → IsTold (decrypts p ciphertext additional_data) };
 }
 
 /// Encryption with associated data that gives equal bytes for equal arguments.
@@ -70,9 +73,11 @@ pub trait DeterministicAead {
         ensures answer { Answers result (decrypts self.now ciphertext.now additional_data.now) };
 
     // Each answer is told.
-    ghost encrypts_told: { (p : Self) (plaintext additional_data : List ℕ) → IsTold (encrypts p plaintext additional_data) };
+    ghost encrypts_told: { (p : Self) (plaintext additional_data : List ℕ)
+        → IsTold (encrypts p plaintext additional_data) };
 
-    ghost decrypts_told: { (p : Self) (ciphertext additional_data : List ℕ) → IsTold (decrypts p ciphertext additional_data) };
+    ghost decrypts_told: { (p : Self) (ciphertext additional_data : List ℕ)
+        → IsTold (decrypts p ciphertext additional_data) };
 }
 
 /// Encryption to a public key.
@@ -88,10 +93,12 @@ pub trait HybridEncrypt {
         context_info: &[u8],
         draws: &mut Draws,
     ) -> Result<Bytes, TinkError>
-        ensures replies { Replies result (encrypts self.now plaintext.now context_info.now draws.old) draws.old draws.new };
+        ensures replies { Replies result
+            (encrypts self.now plaintext.now context_info.now draws.old) draws.old draws.new };
 
     // Each answer is told, and draws are taken in their order.
-    ghost encrypts_told: { (p : Self) (plaintext context_info draws : List ℕ) → IsDrawn draws (encrypts p plaintext context_info draws) };
+    ghost encrypts_told: { (p : Self) (plaintext context_info draws : List ℕ)
+        → IsDrawn draws (encrypts p plaintext context_info draws) };
 }
 
 /// Decryption with a private key.
@@ -109,7 +116,8 @@ pub trait HybridDecrypt {
         ensures answer { Answers result (decrypts self.now ciphertext.now context_info.now) };
 
     // Each answer is told.
-    ghost decrypts_told: { (p : Self) (ciphertext context_info : List ℕ) → IsTold (decrypts p ciphertext context_info) };
+    ghost decrypts_told: { (p : Self) (ciphertext context_info : List ℕ)
+        → IsTold (decrypts p ciphertext context_info) };
 }
 
 /// Message authentication.

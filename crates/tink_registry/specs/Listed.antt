@@ -1,5 +1,5 @@
 -- Lists of managers by their URLs, and of templates by their names.
-use Rattle.std.specs.Prelude.{◌≡◌, ⊤, ◌&&◌, ◌++◌, ℕ, List, [], ◌∷◌, Bool, true, not, Option, Some, None, Result, Err, find, fold, map, if◌then◌else◌, nat_eq, length}
+use Rattle.std.specs.Prelude.{◌≡◌, ⊤, ◌&&◌, ◌++◌, ℕ, List, [], ◌∷◌, Bool, true, not, cond, Option, Some, None, Result, Err, find, fold, map, if◌then◌else◌, nat_eq, length}
 use Rattle.std.specs.Str.{bytes_eq}
 use Rattle.std.specs.Ordering.{nat_cmp}
 use Rattle.std.specs.Cmp.Lexicographic.{slice_cmp}
@@ -13,6 +13,11 @@ use Rattle.tink_proto.specs.declared.messages.keys.KeyTemplate.{KeyTemplate}
 -- the first manager of a URL
 abbrev pub manager_of : {M : Type 0} → (M → List ℕ) → List ℕ → List M → Option M
 manager_of url wanted ms = find (λ m. bytes_eq (url m) wanted) ms
+
+-- a manager is found by its URL, and by each other URL what was found before
+abbrev pub AddsManager : {M : Type 0} → (M → List ℕ) → M → List M → List M → Type 0
+AddsManager url m old new =
+    (wanted : List ℕ) → manager_of url wanted new ≡ cond (bytes_eq (url m) wanted) (Some m) (manager_of url wanted old)
 
 -- whether none of the new managers has the URL of an old one or of a new one before it
 abbrev pub are_all_fresh : {M : Type 0} → (M → List ℕ) → List M → List M → Bool
@@ -48,6 +53,11 @@ with_template ts t = with_template_by (slice_cmp nat_cmp) t.0 t.1 ts
 -- the template of a name
 abbrev pub template_of : List ℕ → List Named → Option KeyTemplate
 template_of name ts = option_map (λ t. t.1) (find (λ t. bytes_eq t.0 name) ts)
+
+-- a template is found by its name, and by each other name what was found before
+abbrev pub PutsTemplate : List ℕ → KeyTemplate → List Named → List Named → Type 0
+PutsTemplate name kt old new =
+    (wanted : List ℕ) → template_of wanted new ≡ cond (bytes_eq name wanted) (Some kt) (template_of wanted old)
 
 -- what a registry holds
 pub record Registered (M : Type 0) : Type 0 where

@@ -1,5 +1,5 @@
 -- What a registry's lists tell, where its managers do.
-use Rattle.std.specs.Prelude.{ℕ, List, [], length, nat_eq, Option, Some, None, Result, Ok, Err, refl}
+use Rattle.std.specs.Prelude.{ℕ, List, [], length, nat_eq, Option, Some, None, Result, refl}
 use Rattle.tink_io.specs.declared.error.Kind.{Kind}
 use Rattle.tink_proto.specs.declared.messages.keys.KeyTemplate.{KeyTemplate}
 use Rattle.tink_primitives.specs.Meaning.{IsDrawn, IsTold}

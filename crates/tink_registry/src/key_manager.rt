@@ -31,7 +31,9 @@ pub trait KeyManager {
     ghost material: { Self → KeyMaterialType };
 
     // The primitive of a key's bytes.
-    ghost builds: { Self → List ℕ → Result (Primitive Self.Family Self.Family.Aead Self.Family.DeterministicAead Self.Family.HybridDecrypt Self.Family.HybridEncrypt Self.Family.Mac Self.Family.Prf Self.Family.Signer Self.Family.StreamingAead Self.Family.Verifier) Kind };
+    ghost builds: { Self → List ℕ → Result (Primitive Self.Family Self.Family.Aead Self.Family.DeterministicAead
+        Self.Family.HybridDecrypt Self.Family.HybridEncrypt Self.Family.Mac Self.Family.Prf Self.Family.Signer
+        Self.Family.StreamingAead Self.Family.Verifier) Kind };
 
     // The bytes of a new key of a format, and the draws then left.
     ghost makes: { Self → List ℕ → List ℕ → Result (List ℕ) Kind × List ℕ };
@@ -81,7 +83,8 @@ pub trait KeyManager {
         serialized_key_format: &[u8],
         draws: &mut Draws,
     ) -> Result<KeyData, TinkError>
-        ensures replies { Replies result (makes_data self.now serialized_key_format.now draws.old) draws.old draws.new };
+        ensures replies { Replies result
+            (makes_data self.now serialized_key_format.now draws.old) draws.old draws.new };
 
     /// Whether its keys have a public part.
     fn supports_private_keys(&self) -> bool
@@ -101,9 +104,11 @@ pub trait KeyManager {
     ghost public_told: { (m : Self) (key : List ℕ) → IsTold (gives_public m key) };
 
     // Data that it gives has a material from 0 to 4.
-    ghost new_material: { (m : Self) (format draws : List ℕ) (d : KeyData) → (makes_data m format draws).0 ≡ Ok d → IsOfKnownMaterial d };
+    ghost new_material: { (m : Self) (format draws : List ℕ) (d : KeyData)
+        → (makes_data m format draws).0 ≡ Ok d → IsOfKnownMaterial d };
 
-    ghost public_material: { (m : Self) (key : List ℕ) (d : KeyData) → gives_public m key ≡ Ok d → IsOfKnownMaterial d };
+    ghost public_material: { (m : Self) (key : List ℕ) (d : KeyData)
+        → gives_public m key ≡ Ok d → IsOfKnownMaterial d };
 
     // `NoPrivateKeys` exactly where its keys have no public part.
     ghost no_private: { (m : Self) (key : List ℕ) → has_public m ≡ false → gives_public m key ≡ Err NoPrivateKeys };

@@ -7,7 +7,8 @@ use crate::KeyManager;
 
 // The first manager of a URL.
 pub fn find_manager<'a, M: KeyManager>(managers: &'a [M], url: &str) -> Option<&'a M>
-    ensures value { MatchOption result (manager_of M.url url.now managers.now ≡ None) (λ m. manager_of M.url url.now managers.now ≡ Some m.now) }
+    ensures value { MatchOption result (manager_of M.url url.now managers.now ≡ None)
+        (λ m. manager_of M.url url.now managers.now ≡ Some m.now) }
 {
     for m in managers {
         if m.type_url() == url {

@@ -1,9 +1,11 @@
 //! The registry of key managers and templates.
 
-ghost use Rattle.std.specs.Prelude.{◌≡◌, ◌⊎◌, ◌++◌, ◌∷◌, [], ℕ, List, None, Some, Ok, Err, true, false, cond, is_some, bytes_eq, OnOk, OnErr, IfOk, IfErr, MatchResult, MatchOption};
+ghost use Rattle.std.specs.Prelude.{◌≡◌, ◌++◌, ◌∷◌, [], None, Some, true, false, is_some, OnOk, OnErr};
+ghost use Rattle.std.specs.Prelude.{IfOk, IfErr, MatchResult, MatchOption};
 ghost use Rattle.tink_io.specs.declared.error.Kind.TheVariants.{OutOfMemory, UnsupportedKeyType, AlreadyRegistered};
-ghost use Rattle.tink_io.specs.Told.{Answers, Replies};
-ghost use Rattle.tink_registry.specs.Listed.{manager_of, template_of, are_all_fresh, names_of, AreRising, with_template, with_all, registry_makes, registry_builds};
+ghost use Rattle.tink_io.specs.Told.{Answers, OutOfMemoryOr, Replies};
+ghost use Rattle.tink_registry.specs.Listed.{AddsManager, AreRising, PutsTemplate, are_all_fresh, manager_of, names_of};
+ghost use Rattle.tink_registry.specs.Listed.{registry_builds, registry_makes, template_of, with_all, with_template};
 
 use crate::KeyManager;
 use crate::managers::{are_fresh, find_manager};
@@ -49,9 +51,10 @@ impl<M: KeyManager> Registry<M> {
         M: Drop,
         ensures ok { OnOk result (self.new ≡ record self.old { managers = self.old.managers ++ km ∷ [] }) }
         ensures fresh { OnOk result (manager_of M.url (M.url km) self.old.managers ≡ None) }
-        ensures found { OnOk result ((url : List ℕ) → manager_of M.url url self.new.managers ≡ cond (bytes_eq (M.url km) url) (Some km) (manager_of M.url url self.old.managers)) }
+        ensures found { OnOk result (AddsManager M.url km self.old.managers self.new.managers) }
         ensures err { OnErr result (self.new ≡ self.old) }
-        ensures cause { IfErr result (λ e. (e.kind ≡ OutOfMemory) ⊎ ((e.kind ≡ AlreadyRegistered) × (is_some (manager_of M.url (M.url km) self.old.managers) ≡ true))) }
+        ensures cause { IfErr result (λ e. OutOfMemoryOr AlreadyRegistered e.kind
+            (is_some (manager_of M.url (M.url km) self.old.managers) ≡ true)) }
     {
         if find_manager(&self.managers, km.type_url()).is_some() {
             return Err(TinkError::new(Kind::AlreadyRegistered));
@@ -63,7 +66,10 @@ impl<M: KeyManager> Registry<M> {
     /// The manager of a URL, or `UnsupportedKeyType` exactly where none has it.
     pub fn get_key_manager(&self, type_url: &str) -> Result<&M, TinkError>
         ensures manager { OnOk result (is_some (manager_of M.url type_url.now self.now.managers) ≡ true) }
-        ensures value { MatchResult result (λ m. manager_of M.url type_url.now self.now.managers ≡ Some m.now) (λ e. (e ≡ record { kind = UnsupportedKeyType }) × (manager_of M.url type_url.now self.now.managers ≡ None)) }
+        ensures value { MatchResult result
+            (λ m. manager_of M.url type_url.now self.now.managers ≡ Some m.now)
+            (λ e. (e ≡ record { kind = UnsupportedKeyType })
+            × (manager_of M.url type_url.now self.now.managers ≡ None)) }
     {
         match find_manager(&self.managers, type_url) {
             Some(m) => Ok(m),
@@ -78,7 +84,8 @@ impl<M: KeyManager> Registry<M> {
         kt: &KeyTemplate,
         draws: &mut Draws,
     ) -> Result<KeyData, TinkError>
-        ensures replies { Replies result (registry_makes M.url M.makes_data self.now.managers kt.now draws.old) draws.old draws.new }
+        ensures replies { Replies result
+            (registry_makes M.url M.makes_data self.now.managers kt.now draws.old) draws.old draws.new }
     {
         let m = self.get_key_manager(kt.type_url.as_str())?;
         m.new_key_data(alloc, kt.value.as_slice(), draws)
@@ -91,7 +98,8 @@ impl<M: KeyManager> Registry<M> {
         kt: &KeyTemplate,
         draws: &mut Draws,
     ) -> Result<Bytes, TinkError>
-        ensures replies { Replies result (registry_makes M.url M.makes self.now.managers kt.now draws.old) draws.old draws.new }
+        ensures replies { Replies result
+            (registry_makes M.url M.makes self.now.managers kt.now draws.old) draws.old draws.new }
     {
         let m = self.get_key_manager(kt.type_url.as_str())?;
         m.new_key(alloc, kt.value.as_slice(), draws)
@@ -104,7 +112,8 @@ impl<M: KeyManager> Registry<M> {
         type_url: &str,
         serialized_key: &[u8],
     ) -> Result<Primitive<M::Family>, TinkError>
-        ensures answer { Answers result (registry_builds M.url M.builds self.now.managers type_url.now serialized_key.now) }
+        ensures answer { Answers result
+            (registry_builds M.url M.builds self.now.managers type_url.now serialized_key.now) }
     {
         if serialized_key.is_empty() {
             return Err(TinkError::new(Kind::InvalidKey));
@@ -119,7 +128,8 @@ impl<M: KeyManager> Registry<M> {
         alloc: Global,
         kd: &KeyData,
     ) -> Result<Primitive<M::Family>, TinkError>
-        ensures answer { Answers result (registry_builds M.url M.builds self.now.managers kd.now.type_url kd.now.value) }
+        ensures answer { Answers result
+            (registry_builds M.url M.builds self.now.managers kd.now.type_url kd.now.value) }
     {
         self.primitive(alloc, kd.type_url.as_str(), kd.value.as_slice())
     }
@@ -131,8 +141,9 @@ impl<M: KeyManager> Registry<M> {
         name: &str,
         kt: KeyTemplate,
     ) -> Result<(), TinkError>
-        ensures ok { OnOk result (self.new ≡ record self.old { templates = with_template self.old.templates (name.now, kt) }) }
-        ensures found { OnOk result ((n : List ℕ) → template_of n self.new.templates ≡ cond (bytes_eq name.now n) (Some kt) (template_of n self.old.templates)) }
+        ensures ok { OnOk result (self.new
+            ≡ record self.old { templates = with_template self.old.templates (name.now, kt) }) }
+        ensures found { OnOk result (PutsTemplate name.now kt self.old.templates self.new.templates) }
         ensures err { OnErr result (self.new ≡ self.old) }
         ensures cause { IfErr result (λ e. e.kind ≡ OutOfMemory) }
     {
@@ -144,7 +155,8 @@ impl<M: KeyManager> Registry<M> {
 
     /// The template of a name, or `None` exactly where none has it.
     pub fn get_template_generator(&self, name: &str) -> Option<&KeyTemplate>
-        ensures value { MatchOption result (template_of name.now self.now.templates ≡ None) (λ kt. template_of name.now self.now.templates ≡ Some kt.now) }
+        ensures value { MatchOption result (template_of name.now self.now.templates ≡ None)
+            (λ kt. template_of name.now self.now.templates ≡ Some kt.now) }
     {
         for t in &self.templates {
             if t.0.as_str() == name {
@@ -180,7 +192,8 @@ impl<M: KeyManager> Registry<M> {
         ensures ok { OnOk result (self.new ≡ with_all self.old kms.items kts.items) }
         ensures fresh { OnOk result (are_all_fresh M.url self.old.managers kms.items ≡ true) }
         ensures err { OnErr result (self.new ≡ self.old) }
-        ensures cause { IfErr result (λ e. (e.kind ≡ OutOfMemory) ⊎ ((e.kind ≡ AlreadyRegistered) × (are_all_fresh M.url self.old.managers kms.items ≡ false))) }
+        ensures cause { IfErr result (λ e. OutOfMemoryOr AlreadyRegistered e.kind
+            (are_all_fresh M.url self.old.managers kms.items ≡ false)) }
     {
         self.managers.reserve(kms.len())?;
         self.templates.reserve(kts.len())?;

@@ -10,8 +10,10 @@ use tink_proto::{KeyTemplate, Text};
 // Where a name stands, or is to stand.
 #[tactic(auto, using(crate::proofs::Lists::place_equal, crate::proofs::Lists::set_split))]
 fn place_of(templates: &[(Text, KeyTemplate)], name: &str) -> Result<usize, usize>
-    ensures there { IfOk result (λ i. (i < length templates.now) × ((kt : KeyTemplate) → with_template templates.now (name.now, kt) ≡ slice_set templates.now i (name.now, kt))) }
-    ensures new { IfErr result (λ i. (i ≤ length templates.now) × ((kt : KeyTemplate) → with_template templates.now (name.now, kt) ≡ insert templates.now i (name.now, kt))) }
+    ensures there { IfOk result (λ i. (i < length templates.now)
+        × ((kt : KeyTemplate) → with_template templates.now (name.now, kt) ≡ slice_set templates.now i (name.now, kt))) }
+    ensures new { IfErr result (λ i. (i ≤ length templates.now)
+        × ((kt : KeyTemplate) → with_template templates.now (name.now, kt) ≡ insert templates.now i (name.now, kt))) }
 {
     for (i, t) in templates.iter().enumerate() {
         match name.cmp(t.0.as_str()) {
