@@ -75,7 +75,8 @@ pub fn make_data<T: KeyType>(
     format: &[u8],
     draws: &mut Draws,
 ) -> Result<KeyData, TinkError>
-    ensures { Replies result (makes_data T.url T.Key.table T.Format.table T.made format.now draws.old) draws.old draws.new }
+    ensures { Replies result (makes_data T.url T.Key.table T.Format.table T.made format.now draws.old)
+        draws.old draws.new }
 {
     SymmetricKeyManager::<T>::new().new_key_data(alloc, format, draws)
 }

@@ -67,8 +67,9 @@ fn give_first<S: Source>(
         (λ given. GivesFirst (map (opening_key choice.data.items) (map key_of choice.keys.items)) (S.left source.old)
         (segment_map given.0.reader.opener) given.0.reader.opener.first given.0.reader.opener.size
         given.0.reader.opener.overhead (text_moment S.left S.faults given.0 source.new) buf.old buf.new given.1)
-        (λ e. (buf.new ≡ buf.old) × FirstReadRefused (map (opening_key choice.data.items) (map key_of choice.keys.items))
-        (S.left source.old) (S.faults source.old) (S.faults source.new) e.kind) }
+        (λ e. (buf.new ≡ buf.old)
+        × FirstReadRefused (map (opening_key choice.data.items) (map key_of choice.keys.items)) (S.left source.old)
+        (S.faults source.old) (S.faults source.new) e.kind) }
     ensures within { IfOk result (λ given. given.1 ≤ length buf.new) }
     ensures room { IfOk result (λ given. vec_len given.0.reader.buffer ≡ vec_len choice.trial.kept.buffer) }
     ensures at_end { IfOk result (λ given. EndsEmpty S.left given.0.reader source.new) }
