@@ -1,11 +1,11 @@
 //! Block modes.
 
-ghost use Rattle.std.specs.Prelude.{◌≡◌, ◌↔◌, ℕ, ◌<◌, ◌≤◌, ◌++◌, List, Some, None, IsOk, IsErr, IfOk, OnOk, OnErr, MatchResult, option_map, length, take, drop};
+ghost use Rattle.std.specs.Prelude.{◌≡◌, ◌↔◌, ℕ, ◌<◌, ◌≤◌, ◌++◌, List, Some, None, IsOk, IsErr, IfOk, OnOk, OnErr, MatchResult, length, take, drop};
 ghost use Rattle.cipher.specs.Buffers.{read_of, read_all, pick, message_of};
 ghost use Rattle.cipher.specs.Transcript.{Block};
 ghost use Rattle.cipher_modes.specs.Steps.{run_of, state_after, IsRun, LedOn};
 ghost use Rattle.cipher_modes.specs.Paddings.{Fits, padded};
-ghost use Rattle.cipher_modes.specs.Padded.{bytes_run, enciphered, IsEncrypted, deciphered, left_by, message_in};
+ghost use Rattle.cipher_modes.specs.Padded.{enciphered, IsEncrypted, deciphered, left_by, message_in};
 ghost use Rattle.cipher_modes.specs.PaddedVec.{TellsPad, TellsUnpad};
 
 use crate::backends::{BlockModeDecClosure, BlockModeEncClosure};

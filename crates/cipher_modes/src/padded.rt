@@ -1,7 +1,7 @@
 //! Messages that are padded and run through a mode, in bytes.
 
 ghost use Rattle.std.specs.Prelude.{◌≡◌, ◌↔◌, ℕ, ◌+◌, ◌-◌, ◌*◌, ◌/◌, ◌%◌, ◌<◌, ◌≤◌, ◌++◌, List, Some, None, Option, IsOk, IsSome, IfOk, OnOk, OnErr, MatchResult, length, take, drop};
-ghost use Rattle.std.specs.Prelude.{vec_len, option_map, IfErr};
+ghost use Rattle.std.specs.Prelude.{vec_len, IfErr};
 ghost use Rattle.cipher.specs.Buffers.{pick};
 ghost use Rattle.cipher_modes.specs.Steps.{run_of, state_after};
 ghost use Rattle.cipher_modes.specs.Paddings.{Fits, IsPadded, padded};

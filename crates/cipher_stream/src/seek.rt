@@ -22,8 +22,8 @@ pub trait StreamCipherSeek: StreamCipher {
         ensures value { IfOk result (λ n. N.place n ≡ position (Self.stream self.now)) }
         ensures within { (Self.stream self.now).taken < (Self.stream self.now).period };
 
-    /// Chooses the position. `StreamCipherError` exactly where it is negative, its block exceeds the counter, or it is in
-    /// the greatest block past the first byte; then nothing changes.
+    /// Chooses the position. `StreamCipherError` exactly where it is negative, its block exceeds the counter, or it is
+    /// in the greatest block past the first byte; then nothing changes.
     fn try_seek<N: SeekNum>(&mut self, pos: N) -> Result<(), StreamCipherError>
         ensures ok { IsOk result ↔ AtMost (N.place pos) end }
         ensures placed { OnOk result (position (Self.stream self.new) ≡ N.place pos) }

@@ -106,8 +106,8 @@ impl StreamCipherSeekCore<16> for Mixed {
     ghost remains = { λ c. refl };
 }
 
-// a core without a counter: its blocks are five times the key's byte, eleven at a time. The initialization vector is the
-// number of blocks that remain, or 255 where no number does
+// a core without a counter: its blocks are five times the key's byte, eleven at a time. The initialization vector is
+// the number of blocks that remain, or 255 where no number does
 #[derive(Drop)]
 pub(crate) struct Constant {
     byte: u8,

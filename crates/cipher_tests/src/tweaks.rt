@@ -46,7 +46,8 @@ impl TweakBlockCipherEncrypt<4, 3> for Tweaked {
 }
 
 impl TweakBlockCipherDecBackend<4, 3> for Tweaked {
-    ghost decrypts = { λ _ t xs. (slice_index xs 0 + (256 - slice_index t 0)) % 256 ∷ (slice_index xs 1 + (256 - slice_index t 1)) % 256
+    ghost decrypts = { λ _ t xs. (slice_index xs 0 + (256 - slice_index t 0)) % 256
+        ∷ (slice_index xs 1 + (256 - slice_index t 1)) % 256
         ∷ (slice_index xs 2 + (256 - slice_index t 2)) % 256 ∷ slice_index xs 3 ∷ [] };
 
     fn decrypt_block_inout(&self, tweak: &[u8; 3], block: &mut InOut<'_, '_, [u8; 4]>) {
@@ -59,7 +60,8 @@ impl TweakBlockCipherDecBackend<4, 3> for Tweaked {
 }
 
 impl TweakBlockCipherDecrypt<4, 3> for Tweaked {
-    ghost decrypts = { λ _ t xs. (slice_index xs 0 + (256 - slice_index t 0)) % 256 ∷ (slice_index xs 1 + (256 - slice_index t 1)) % 256
+    ghost decrypts = { λ _ t xs. (slice_index xs 0 + (256 - slice_index t 0)) % 256
+        ∷ (slice_index xs 1 + (256 - slice_index t 1)) % 256
         ∷ (slice_index xs 2 + (256 - slice_index t 2)) % 256 ∷ slice_index xs 3 ∷ [] };
 
     fn decrypt_with_backend<F: TweakBlockCipherDecClosure<4, 3>>(&self, f: &mut F) {
@@ -73,7 +75,8 @@ impl TweakBlockCipherDecrypt<4, 3> for Tweaked {
 
 fn subtract_bytes(output: &mut [u8; 4], input: &[[u8; 4]], tweak: &[u8; 3])
     ensures { let xs = slice_index_or input.now 0 output.old in
-        output.new ≡ (slice_index xs 0 + (256 - slice_index tweak.now 0)) % 256 ∷ (slice_index xs 1 + (256 - slice_index tweak.now 1)) % 256
+        output.new ≡ (slice_index xs 0 + (256 - slice_index tweak.now 0)) % 256
+        ∷ (slice_index xs 1 + (256 - slice_index tweak.now 1)) % 256
         ∷ (slice_index xs 2 + (256 - slice_index tweak.now 2)) % 256 ∷ slice_index xs 3 ∷ [] }
 {
     if let Some(input) = input.first() {
@@ -95,7 +98,8 @@ fn less(x: u8, y: u8) -> u8
 
 fn add_bytes(output: &mut [u8; 4], input: &[[u8; 4]], tweak: &[u8; 3])
     ensures { let xs = slice_index_or input.now 0 output.old in
-        output.new ≡ (slice_index xs 0 + slice_index tweak.now 0) % 256 ∷ (slice_index xs 1 + slice_index tweak.now 1) % 256
+        output.new ≡ (slice_index xs 0 + slice_index tweak.now 0) % 256
+        ∷ (slice_index xs 1 + slice_index tweak.now 1) % 256
         ∷ (slice_index xs 2 + slice_index tweak.now 2) % 256 ∷ slice_index xs 3 ∷ [] }
 {
     if let Some(input) = input.first() {

@@ -76,7 +76,8 @@ fn test_encrypted<C: BlockCipherEncrypt<B>, const B: usize>(
     cipher: &C,
     tv: &TestVector,
 ) -> Result<(), &'static str>
-    ensures told { Reports result (first (block_size_fault B tv.now) (encryption_fault (C.encrypts cipher.now) tv.now)) }
+    ensures told { Reports result
+        (first (block_size_fault B tv.now) (encryption_fault (C.encrypts cipher.now) tv.now)) }
 {
     let plaintext = match <&[u8; B]>::try_from(tv.plaintext) {
         Ok(block) => block,
@@ -93,7 +94,8 @@ fn test_decrypted<C: BlockCipherDecrypt<B>, const B: usize>(
     cipher: &C,
     tv: &TestVector,
 ) -> Result<(), &'static str>
-    ensures told { Reports result (first (block_size_fault B tv.now) (decryption_fault (C.decrypts cipher.now) tv.now)) }
+    ensures told { Reports result
+        (first (block_size_fault B tv.now) (decryption_fault (C.decrypts cipher.now) tv.now)) }
 {
     let plaintext = match <&[u8; B]>::try_from(tv.plaintext) {
         Ok(block) => block,
