@@ -1,5 +1,5 @@
-//! Tink's keysets in use, under the module paths of Tink: handles and managers, registries, sets of primitives, prefixes,
-//! and hashes by their types.
+//! Tink's keysets in use, under the module paths of Tink: handles and managers, registries, sets of primitives,
+//! prefixes, and hashes by their types.
 #![tactic(auto)]
 
 pub mod cryptofmt;

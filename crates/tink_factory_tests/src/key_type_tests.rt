@@ -1,6 +1,6 @@
 //! A manager of test keys.
 
-use crate::expecting::{expect, expect_bytes, gives};
+use crate::expecting::{expect, expect_bytes};
 use crate::test_keys::TestKeys;
 use std::alloc::Global;
 use std::test::Fail;
@@ -12,7 +12,7 @@ use tink_proto::{
 };
 use tink_proto_keys::{AesGcmKey, AesGcmKeyFormat};
 use tink_registry::KeyManager;
-use tink_testutil::{draws_of, kind_of};
+use tink_testutil::{draws_of, gives, kind_of};
 
 fn manager() -> SymmetricKeyManager<TestKeys> {
     SymmetricKeyManager::new()

@@ -1,12 +1,14 @@
 //! Sources and sinks over memory.
 
-ghost use Rattle.std.specs.Prelude.{◌≡◌, ◌≤◌, ◌+◌, ◌<◌, ◌↔◌, ℕ, List, [], Some, length, take, drop, ◌++◌, IsErr, IsTrue, IfOk, IfErr, Ok, OnOk, OnErr, ◌-◌, max, min, ⊤, ◌==◌};
+ghost use Rattle.std.specs.Prelude.{◌≡◌, ◌≤◌, ◌+◌, ◌-◌, ◌<◌, ◌↔◌, ◌==◌, ◌++◌, ⊤, ℕ, List, [], Some, Ok};
+ghost use Rattle.std.specs.Prelude.{IsErr, IsTrue, IfOk, IfErr, OnOk, OnErr, length, take, drop, max, min};
 ghost use Rattle.tink_io.specs.declared.error.Kind.TheVariants.{OutOfMemory};
 ghost use Rattle.std.specs.List.{list_any};
 ghost use Rattle.std.specs.Io.{ReadsAtMost, WritesAtMost};
 ghost use Rattle.std.specs.Io.KnownBytes.{ReadConsumes, WriteAppends};
 ghost use Rattle.tink_io.specs.Faults.{CountsFault};
-ghost use Rattle.tink_io.specs.Memory.{SameSource, SameSink, after_read, after_write, at_most_piece, read_len, write_len, is_read_fault, is_write_fault};
+ghost use Rattle.tink_io.specs.Memory.{SameSource, SameSink, after_read, after_write, at_most_piece};
+ghost use Rattle.tink_io.specs.Memory.{read_len, write_len, is_read_fault, is_write_fault};
 
 use crate::{Failed, Sink, Source, TinkError};
 use std::alloc::Global;

@@ -12,7 +12,8 @@ use Rattle.serde_json.proofs.Texts.{tokens_from_order}
 use Rattle.serde_json.specs.Errors.{IsMemory}
 use Rattle.serde_json.specs.declared.error.Error.{Error}
 use Rattle.tink_json.specs.Messages.{value_of}
-use Rattle.tink_json.specs.Outcome.{Fails, IsRefusal}
+use Rattle.tink_json.specs.Refusal.{IsRefusal}
+use Rattle.tink_proto.specs.Outcome.{Fails}
 use Rattle.tink_proto.specs.declared.error.ProtoError.{ProtoError}
 use Rattle.tink_proto.specs.declared.error.ProtoError.TheVariants.{BadMessage, BadJson, OutOfMemory}
 use Rattle.tink_json.specs.Whole.{are_whole, is_whole_token}
@@ -46,7 +47,7 @@ pretty_text-of text d e same plain layout order =
     layout ∙ ap pretty (tokens_from_order text e (subst (IsInOrder text) same order) plain)
 
 -- why a text is no value
-pub fails-of : (e : Error) (refusal : ProtoError) (text : List ℕ) → IsRefusal e refusal → (¬ IsMemory e → IsUtf8 text → read text ≡ None) → Fails refusal (value_of text)
+pub fails-of : (e : Error) (refusal : ProtoError) (text : List ℕ) → IsRefusal e refusal → (¬ IsMemory e → IsUtf8 text → read text ≡ None) → Fails BadJson refusal (value_of text)
 fails-of e BadMessage text is none = absurd is
 fails-of e BadJson text is none = value_of-none text (none is)
 fails-of e OutOfMemory text is none = tt

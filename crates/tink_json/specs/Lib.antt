@@ -3,5 +3,5 @@ pub mod Whole
 pub mod Fields
 pub mod Messages
 pub mod Written
-pub mod Outcome
+pub mod Refusal
 pub mod Plain

@@ -5,9 +5,11 @@ ghost use Rattle.std.specs.Char.{is_ascii_digit};
 ghost use Rattle.std.specs.List.{list_all};
 ghost use Rattle.serde_json.specs.Find.{as_i64, as_number, as_u64};
 ghost use Rattle.serde_json.specs.View.{view, items_view};
-ghost use Rattle.tink_json.specs.Fields.{an_object, bytes_field, enum_field, items, list_field, member_of, message_field, number_field, number_text, text_field, to_i32, to_u32};
-ghost use Rattle.tink_json.specs.Outcome.{Reads, ReadsAs};
+ghost use Rattle.tink_json.specs.Fields.{an_object, bytes_field, enum_field, items, list_field, member_of};
+ghost use Rattle.tink_json.specs.Fields.{message_field, number_field, number_text, text_field, to_i32, to_u32};
 ghost use Rattle.tink_json.specs.Whole.{digits_number};
+ghost use Rattle.tink_proto.specs.Outcome.{Reads, ReadsAs};
+ghost use Rattle.tink_proto.specs.declared.error.ProtoError.TheVariants.{BadJson};
 
 use crate::messages::Json;
 use crate::names::Named;
@@ -30,7 +32,7 @@ fn member<'v>(object: &'v Value, camel: &str, snake: &str) -> Option<&'v Value>
 
 // `BadJson` where the value is no object.
 pub fn require_object(value: &Value) -> Result<(), ProtoError>
-    ensures { Reads result (an_object (view value.now)) }
+    ensures { Reads BadJson result (an_object (view value.now)) }
 {
     if value.is_object() {
         Ok(())
@@ -42,7 +44,7 @@ pub fn require_object(value: &Value) -> Result<(), ProtoError>
 // A text, empty where it is absent.
 #[tactic(auto, unfolding(crate::specs::Fields::text_field))]
 pub fn text_in(alloc: Global, object: &Value, camel: &str, snake: &str) -> Result<Text, ProtoError>
-    ensures { Reads result (text_field camel.now snake.now (view object.now)) }
+    ensures { Reads BadJson result (text_field camel.now snake.now (view object.now)) }
 {
     let Some(value) = member(object, camel, snake) else {
         return Ok(Text::new(alloc));
@@ -61,7 +63,7 @@ pub fn bytes_in(
     camel: &str,
     snake: &str,
 ) -> Result<Bytes, ProtoError>
-    ensures { Reads result (bytes_field camel.now snake.now (view object.now)) }
+    ensures { Reads BadJson result (bytes_field camel.now snake.now (view object.now)) }
 {
     let Some(value) = member(object, camel, snake) else {
         return Ok(Bytes::new(alloc));
@@ -112,7 +114,7 @@ fn whole_number(value: &Value) -> Option<u32>
 // A number of 32 bits, 0 where it is absent.
 #[tactic(auto, unfolding(crate::specs::Fields::number_field))]
 pub fn number_in(object: &Value, camel: &str, snake: &str) -> Result<u32, ProtoError>
-    ensures { Reads result (number_field camel.now snake.now (view object.now)) }
+    ensures { Reads BadJson result (number_field camel.now snake.now (view object.now)) }
 {
     let Some(value) = member(object, camel, snake) else {
         return Ok(0);
@@ -140,7 +142,7 @@ fn whole_enum(value: &Value) -> Option<i32>
 // An enum, 0 where it is absent.
 #[tactic(auto, unfolding(crate::specs::Fields::enum_field))]
 pub fn enum_in<N: Named>(object: &Value, camel: &str, snake: &str) -> Result<i32, ProtoError>
-    ensures { Reads result (enum_field N.names camel.now snake.now (view object.now)) }
+    ensures { Reads BadJson result (enum_field N.names camel.now snake.now (view object.now)) }
 {
     let Some(value) = member(object, camel, snake) else {
         return Ok(0);
@@ -165,7 +167,7 @@ pub fn message_in<M: Json>(
     camel: &str,
     snake: &str,
 ) -> Result<Option<M>, ProtoError>
-    ensures { Reads result (message_field M.form camel.now snake.now (view object.now)) }
+    ensures { Reads BadJson result (message_field M.form camel.now snake.now (view object.now)) }
 {
     match member(object, camel, snake) {
         Some(value) => Ok(Some(M::from_value(alloc, value)?)),
@@ -175,7 +177,7 @@ pub fn message_in<M: Json>(
 
 // The messages of a list.
 fn items_in<M: Json>(alloc: Global, values: &Vec<Value>) -> Result<Vec<M>, ProtoError>
-    ensures { ReadsAs (λ ms. ms.items) result (items M.form (items_view values.now.items)) }
+    ensures { ReadsAs BadJson (λ ms. ms.items) result (items M.form (items_view values.now.items)) }
 {
     let mut messages = Vec::new(alloc);
     for value in values {
@@ -192,7 +194,7 @@ pub fn list_in<M: Json>(
     camel: &str,
     snake: &str,
 ) -> Result<Repeated<M>, ProtoError>
-    ensures { Reads result (list_field M.form camel.now snake.now (view object.now)) }
+    ensures { Reads BadJson result (list_field M.form camel.now snake.now (view object.now)) }
 {
     let Some(value) = member(object, camel, snake) else {
         return Ok(Repeated::new(alloc));

@@ -6,13 +6,14 @@ ghost use Rattle.serde_json.specs.Data.{Data, number, unsigned, put as with_memb
 ghost use Rattle.serde_json.specs.View.{members_view, view};
 ghost use Rattle.serde_json.specs.Written.{has_float as holds_float};
 ghost use Rattle.tink_json.specs.Messages.{message_of, use_of, value_of as value_of_text};
-ghost use Rattle.tink_json.specs.Outcome.{IsRefusal, Reads, ReadsAs};
+ghost use Rattle.tink_json.specs.Refusal.{IsRefusal};
 ghost use Rattle.tink_json.specs.Written.{enum_value, pretty_text, put_if};
 ghost use Rattle.tink_json.specs.Names.{prefixes, statuses};
-ghost use Rattle.tink_proto.specs.declared.error.ProtoError.TheVariants.{OutOfMemory};
+ghost use Rattle.tink_proto.specs.Outcome.{Reads, ReadsAs};
+ghost use Rattle.tink_proto.specs.declared.error.ProtoError.TheVariants.{BadJson, OutOfMemory};
 
 use crate::fields::{bytes_in, enum_in, list_in, message_in, number_in, require_object, text_in};
-use crate::values::{bytes_out, enum_out, list_out};
+use crate::values::{put_bytes, put_enum, put_list, put_text};
 use crate::whole::has_whole_numbers;
 use serde_json::{Error, Map, Value, put};
 use std::alloc::{AllocError, Global};
@@ -36,7 +37,7 @@ pub trait Json: Drop {
     /// # Errors
     /// `BadJson` exactly where it is none, and `OutOfMemory`.
     fn from_value(alloc: Global, json: &Value) -> Result<Self, ProtoError>
-        ensures { Reads result (form (view json.now)) };
+        ensures { Reads BadJson result (form (view json.now)) };
 
     /// The value of a message: each member, those of defaults too; a message that is absent is left out.
     fn to_value(&self, alloc: Global) -> Result<Value, AllocError>
@@ -52,7 +53,7 @@ pub trait Json: Drop {
     /// than 127, has a number that is no whole number of 64 bits, or is not the message; and
     /// `OutOfMemory`.
     final fn from_json(alloc: Global, text: &[u8]) -> Result<Self, ProtoError>
-        ensures exact { Reads result (message_of form text.now) }
+        ensures exact { Reads BadJson result (message_of form text.now) }
     {
         from_text(alloc, text)
     }
@@ -72,7 +73,7 @@ pub trait Json: Drop {
 
 // The value of a text.
 fn value_of(alloc: Global, text: &[u8]) -> Result<Value, ProtoError>
-    ensures { ReadsAs view result (value_of_text text.now) }
+    ensures { ReadsAs BadJson view result (value_of_text text.now) }
 {
     match Value::from_slice(alloc, text) {
         Ok(value) => Ok(value),
@@ -92,7 +93,7 @@ fn refusal(error: &Error) -> ProtoError
 }
 
 fn from_text<M: Json>(alloc: Global, text: &[u8]) -> Result<M, ProtoError>
-    ensures { Reads result (message_of M.form text.now) }
+    ensures { Reads BadJson result (message_of M.form text.now) }
 {
     if !has_whole_numbers(alloc, text)? {
         return Err(ProtoError::BadJson);
@@ -120,7 +121,7 @@ fn put_maybe<M: Json>(
 // Of which use a key is: its status, id and prefix type.
 #[tactic(auto, unfolding(crate::specs::Messages::use_of))]
 fn use_in(json: &Value) -> Result<(i32, (u32, i32)), ProtoError>
-    ensures { Reads result (use_of (view json.now)) }
+    ensures { Reads BadJson result (use_of (view json.now)) }
 {
     let status = enum_in::<KeyStatusType>(json, "status", "status")?;
     let key_id = number_in(json, "keyId", "key_id")?;
@@ -141,20 +142,9 @@ fn put_use(
         (with_member (codes "keyId") (number (unsigned key_id))
         (with_member (codes "status") (enum_value statuses status) (members_view members.old.entries)))) }
 {
-    put(
-        members,
-        alloc,
-        "status",
-        enum_out::<KeyStatusType>(alloc, status)?,
-    )?;
+    put_enum::<KeyStatusType>(members, alloc, "status", status)?;
     put(members, alloc, "keyId", Value::from(key_id))?;
-    put(
-        members,
-        alloc,
-        "outputPrefixType",
-        enum_out::<OutputPrefixType>(alloc, prefix_type)?,
-    )?;
-    Ok(())
+    put_enum::<OutputPrefixType>(members, alloc, "outputPrefixType", prefix_type)
 }
 
 impl Json for KeyData {
@@ -186,18 +176,13 @@ impl Json for KeyData {
 
     fn to_value(&self, alloc: Global) -> Result<Value, AllocError> {
         let mut members = Map::new(alloc);
-        put(
-            &mut members,
-            alloc,
-            "typeUrl",
-            Value::try_from_str(alloc, self.type_url.as_str())?,
-        )?;
-        put(&mut members, alloc, "value", bytes_out(alloc, &self.value)?)?;
-        put(
+        put_text(&mut members, alloc, "typeUrl", &self.type_url)?;
+        put_bytes(&mut members, alloc, "value", &self.value)?;
+        put_enum::<KeyMaterialType>(
             &mut members,
             alloc,
             "keyMaterialType",
-            enum_out::<KeyMaterialType>(alloc, self.key_material_type)?,
+            self.key_material_type,
         )?;
         Ok(Value::Object(members))
     }
@@ -269,7 +254,7 @@ impl Json for Keyset {
             "primaryKeyId",
             Value::from(self.primary_key_id),
         )?;
-        put(&mut members, alloc, "key", list_out(alloc, &self.key)?)?;
+        put_list(&mut members, alloc, "key", &self.key)?;
         Ok(Value::Object(members))
     }
 }
@@ -299,12 +284,7 @@ impl Json for KeyInfo {
 
     fn to_value(&self, alloc: Global) -> Result<Value, AllocError> {
         let mut members = Map::new(alloc);
-        put(
-            &mut members,
-            alloc,
-            "typeUrl",
-            Value::try_from_str(alloc, self.type_url.as_str())?,
-        )?;
+        put_text(&mut members, alloc, "typeUrl", &self.type_url)?;
         put_use(
             &mut members,
             alloc,
@@ -345,12 +325,7 @@ impl Json for KeysetInfo {
             "primaryKeyId",
             Value::from(self.primary_key_id),
         )?;
-        put(
-            &mut members,
-            alloc,
-            "keyInfo",
-            list_out(alloc, &self.key_info)?,
-        )?;
+        put_list(&mut members, alloc, "keyInfo", &self.key_info)?;
         Ok(Value::Object(members))
     }
 }
@@ -378,11 +353,11 @@ impl Json for EncryptedKeyset {
 
     fn to_value(&self, alloc: Global) -> Result<Value, AllocError> {
         let mut members = Map::new(alloc);
-        put(
+        put_bytes(
             &mut members,
             alloc,
             "encryptedKeyset",
-            bytes_out(alloc, &self.encrypted_keyset)?,
+            &self.encrypted_keyset,
         )?;
         put_maybe(&mut members, alloc, "keysetInfo", &self.keyset_info)?;
         Ok(Value::Object(members))

@@ -1,43 +1,81 @@
-//! Values of JSON from fields.
+//! Members of an object from fields.
 
-ghost use Rattle.std.specs.Prelude.{◌≡◌, IfOk, map};
-ghost use Rattle.serde_json.specs.Data.{array};
-ghost use Rattle.serde_json.specs.View.{items_of, items_view, view};
+ghost use Rattle.std.specs.Prelude.{◌≡◌, IfOk, OnOk, map};
+ghost use Rattle.serde_json.specs.Data.{array, string, put as with_member};
+ghost use Rattle.serde_json.specs.View.{items_of, items_view, members_view};
 ghost use Rattle.tink_json.specs.Written.{bytes_value, enum_value};
 
 use crate::messages::Json;
 use crate::names::Named;
 use base64::engine::general_purpose::STANDARD;
-use serde_json::Value;
+use serde_json::{Map, Value, put};
 use std::alloc::{AllocError, Global};
-use tink_proto::{Bytes, Repeated};
+use tink_proto::{Bytes, Repeated, Text};
 
-// Bytes in base 64.
-pub fn bytes_out(alloc: Global, bytes: &Bytes) -> Result<Value, AllocError>
-    ensures { IfOk result (λ v. view v ≡ bytes_value bytes.now) }
+// One more member, a text.
+pub fn put_text(
+    members: &mut Map<String, Value>,
+    alloc: Global,
+    name: &str,
+    text: &Text,
+) -> Result<(), AllocError>
+    ensures { OnOk result (members_view members.new.entries
+        ≡ with_member name.now (string text.now) (members_view members.old.entries)) }
 {
-    let text = STANDARD.encode(alloc, bytes.as_slice())?;
-    Ok(Value::String(text))
+    put(
+        members,
+        alloc,
+        name,
+        Value::try_from_str(alloc, text.as_str())?,
+    )
 }
 
-// An enum's name, or its number where it has none.
-pub fn enum_out<N: Named>(alloc: Global, number: i32) -> Result<Value, AllocError>
-    ensures { IfOk result (λ v. view v ≡ enum_value N.names number) }
+// One more member, bytes in base 64.
+pub fn put_bytes(
+    members: &mut Map<String, Value>,
+    alloc: Global,
+    name: &str,
+    bytes: &Bytes,
+) -> Result<(), AllocError>
+    ensures { OnOk result (members_view members.new.entries
+        ≡ with_member name.now (bytes_value bytes.now) (members_view members.old.entries)) }
+{
+    let text = STANDARD.encode(alloc, bytes.as_slice())?;
+    put(members, alloc, name, Value::String(text))
+}
+
+// One more member, an enum's name, or its number where it has none.
+pub fn put_enum<N: Named>(
+    members: &mut Map<String, Value>,
+    alloc: Global,
+    name: &str,
+    number: i32,
+) -> Result<(), AllocError>
+    ensures { OnOk result (members_view members.new.entries
+        ≡ with_member name.now (enum_value N.names number) (members_view members.old.entries)) }
 {
     match N::name(number) {
-        Some(name) => Value::try_from_str(alloc, name),
-        None => Ok(Value::from(number)),
+        Some(text) => put(members, alloc, name, Value::try_from_str(alloc, text)?),
+        None => put(members, alloc, name, Value::from(number)),
     }
 }
 
-// The values of messages.
-pub fn list_out<M: Json>(alloc: Global, messages: &Repeated<M>) -> Result<Value, AllocError>
-    ensures { IfOk result (λ v. view v ≡ array (items_of (map M.value messages.now))) }
+// One more member, the values of messages.
+pub fn put_list<M: Json>(
+    members: &mut Map<String, Value>,
+    alloc: Global,
+    name: &str,
+    messages: &Repeated<M>,
+) -> Result<(), AllocError>
+    ensures { OnOk result (members_view members.new.entries
+        ≡ with_member name.now (array (items_of (map M.value messages.now)))
+        (members_view members.old.entries)) }
 {
     let values = items_out(alloc, messages.as_slice())?;
-    Ok(Value::Array(values))
+    put(members, alloc, name, Value::Array(values))
 }
 
+// The values of messages.
 fn items_out<M: Json>(alloc: Global, messages: &[M]) -> Result<Vec<Value>, AllocError>
     ensures { IfOk result (λ vs. items_view vs.items ≡ items_of (map M.value messages.now)) }
 {

@@ -26,7 +26,9 @@ pub trait KeyType {
     ghost url: { List ℕ };
 
     // The primitive of a key.
-    ghost built: { Self.Key → Result (Primitive Self.Family Self.Family.Aead Self.Family.DeterministicAead Self.Family.HybridDecrypt Self.Family.HybridEncrypt Self.Family.Mac Self.Family.Prf Self.Family.Signer Self.Family.StreamingAead Self.Family.Verifier) Kind };
+    ghost built: { Self.Key → Result (Primitive Self.Family Self.Family.Aead Self.Family.DeterministicAead
+        Self.Family.HybridDecrypt Self.Family.HybridEncrypt Self.Family.Mac Self.Family.Prf Self.Family.Signer
+        Self.Family.StreamingAead Self.Family.Verifier) Kind };
 
     // A new key of a format, and the draws then left.
     ghost made: { Self.Format → List ℕ → Result Self.Key Kind × List ℕ };

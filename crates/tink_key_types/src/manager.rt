@@ -63,7 +63,8 @@ fn make_message<T: KeyType>(
     serialized_key_format: &[u8],
     draws: &mut Draws,
 ) -> Result<T::Key, TinkError>
-    ensures { Replies result (new_message T.Format.table T.made serialized_key_format.now draws.old) draws.old draws.new }
+    ensures { Replies result
+        (new_message T.Format.table T.made serialized_key_format.now draws.old) draws.old draws.new }
 {
     let Some(format) = decode::<T::Format>(alloc, serialized_key_format)? else {
         return Err(TinkError::new(Kind::InvalidFormat));
@@ -77,7 +78,8 @@ fn make_bytes<T: KeyType>(
     serialized_key_format: &[u8],
     draws: &mut Draws,
 ) -> Result<Bytes, TinkError>
-    ensures { Replies result (makes T.Key.table T.Format.table T.made serialized_key_format.now draws.old) draws.old draws.new }
+    ensures { Replies result
+        (makes T.Key.table T.Format.table T.made serialized_key_format.now draws.old) draws.old draws.new }
 {
     let key = make_message::<T>(alloc, serialized_key_format, draws)?;
     match key.encode(alloc) {
@@ -162,17 +164,20 @@ impl<T: KeyType> KeyManager for SymmetricKeyManager<T> {
     }
 
     ghost use Rattle.std.proofs.Common.{refl};
-    ghost use Rattle.tink_key_types.specs.ManagerLaws.{builds_told, makes_told, makes_data_told, data_known, no_public_known, no_public_always};
+    ghost use Rattle.tink_key_types.specs.ManagerLaws.{builds_told, makes_told, makes_data_told, data_known};
+    ghost use Rattle.tink_key_types.specs.ManagerLaws.{no_public_known, no_public_always};
 
     ghost builds_told = { λ _ key. builds_told T.Key.table T.built T.built_told key };
 
     ghost makes_told = { λ _ format draws. makes_told T.Key.table T.Format.table T.made T.made_told format draws };
 
-    ghost makes_data_told = { λ _ format draws. makes_data_told T.Key.table T.Format.table T.made T.made_told T.url format draws };
+    ghost makes_data_told = { λ _ format draws.
+        makes_data_told T.Key.table T.Format.table T.made T.made_told T.url format draws };
 
     ghost public_told = { λ _ _. tt };
 
-    ghost new_material = { λ _ format draws d is. data_known T.Key.table T.Format.table T.made T.url format draws d is };
+    ghost new_material = { λ _ format draws d is.
+        data_known T.Key.table T.Format.table T.made T.url format draws d is };
 
     ghost public_material = { λ _ _ d is. no_public_known d is };
 

@@ -3,7 +3,7 @@
 ghost use Rattle.keyset_model.specs.Edits as edits;
 ghost use Rattle.tink_keysets.specs.Told.{Edits};
 
-use crate::expecting::{expect, expect_bytes, gives};
+use crate::expecting::{expect, expect_bytes};
 use std::alloc::Global;
 use std::test::Fail;
 use tink_io::{Kind, TinkError};
@@ -15,7 +15,7 @@ use tink_keysets::keyset::{
 };
 use tink_keysets::random::{get_random_bytes, get_random_uint32};
 use tink_proto::{Bytes, EncryptedKeyset, Key, KeyInfo, Keyset, KeysetInfo};
-use tink_testutil::{URL, bare, bytes_of, draws_of, handle_of, key, keyset, kind_of};
+use tink_testutil::{URL, bare, bytes_of, draws_of, gives, handle_of, key, keyset, kind_of};
 
 const SYMMETRIC: i32 = 1;
 

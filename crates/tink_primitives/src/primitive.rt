@@ -3,7 +3,8 @@
 ghost use Rattle.std.specs.Prelude.{◌≡◌};
 ghost use Rattle.tink_io.specs.declared.error.Kind.TheVariants.{WrongPrimitive};
 ghost use Rattle.tink_io.specs.Told.{Tells};
-ghost use Rattle.tink_primitives.specs.Sorts.{as_aead, as_deterministic_aead, as_hybrid_decrypt, as_hybrid_encrypt, as_mac, as_prf, as_signer, as_streaming_aead, as_verifier};
+ghost use Rattle.tink_primitives.specs.Sorts.{as_aead, as_deterministic_aead, as_hybrid_decrypt, as_hybrid_encrypt};
+ghost use Rattle.tink_primitives.specs.Sorts.{as_mac, as_prf, as_signer, as_streaming_aead, as_verifier};
 
 use crate::{CloneIn, Kinds};
 use std::alloc::Global;
@@ -124,18 +125,16 @@ impl<K: Kinds> Primitive<K> {
 
 impl<K: Kinds> CloneIn for Primitive<K> {
     fn try_clone(&self, alloc: Global) -> Result<Self, TinkError> {
-        match self {
-            Primitive::Aead(p) => Ok(Primitive::Aead(p.try_clone(alloc)?)),
-            Primitive::DeterministicAead(p) => Ok(Primitive::DeterministicAead(p.try_clone(
-                alloc,
-            )?)),
-            Primitive::HybridDecrypt(p) => Ok(Primitive::HybridDecrypt(p.try_clone(alloc)?)),
-            Primitive::HybridEncrypt(p) => Ok(Primitive::HybridEncrypt(p.try_clone(alloc)?)),
-            Primitive::Mac(p) => Ok(Primitive::Mac(p.try_clone(alloc)?)),
-            Primitive::Prf(p) => Ok(Primitive::Prf(p.try_clone(alloc)?)),
-            Primitive::Signer(p) => Ok(Primitive::Signer(p.try_clone(alloc)?)),
-            Primitive::StreamingAead(p) => Ok(Primitive::StreamingAead(p.try_clone(alloc)?)),
-            Primitive::Verifier(p) => Ok(Primitive::Verifier(p.try_clone(alloc)?)),
-        }
+        Ok(match self {
+            Primitive::Aead(p) => Primitive::Aead(p.try_clone(alloc)?),
+            Primitive::DeterministicAead(p) => Primitive::DeterministicAead(p.try_clone(alloc)?),
+            Primitive::HybridDecrypt(p) => Primitive::HybridDecrypt(p.try_clone(alloc)?),
+            Primitive::HybridEncrypt(p) => Primitive::HybridEncrypt(p.try_clone(alloc)?),
+            Primitive::Mac(p) => Primitive::Mac(p.try_clone(alloc)?),
+            Primitive::Prf(p) => Primitive::Prf(p.try_clone(alloc)?),
+            Primitive::Signer(p) => Primitive::Signer(p.try_clone(alloc)?),
+            Primitive::StreamingAead(p) => Primitive::StreamingAead(p.try_clone(alloc)?),
+            Primitive::Verifier(p) => Primitive::Verifier(p.try_clone(alloc)?),
+        })
     }
 }

@@ -105,7 +105,8 @@ impl<M: KeyManager> Registry<M> {
         m.new_key(alloc, kt.value.as_slice(), draws)
     }
 
-    /// The primitive of a key: `InvalidKey` where its value is empty, `UnsupportedKeyType`, then the manager's refusals.
+    /// The primitive of a key: `InvalidKey` where its value is empty, `UnsupportedKeyType`, then the manager's
+    /// refusals.
     pub fn primitive(
         &self,
         alloc: Global,

@@ -1,6 +1,7 @@
 //! Templates by their names, in rising order.
 
-ghost use Rattle.std.specs.Prelude.{◌≡◌, ◌<◌, ◌≤◌, ◌+◌, length, fold, slice_set, insert, vec_len, vec_capacity, IfOk, IfErr};
+ghost use Rattle.std.specs.Prelude.{◌≡◌, ◌<◌, ◌≤◌, ◌+◌, IfOk, IfErr, fold, insert, length, slice_set};
+ghost use Rattle.std.specs.Prelude.{vec_capacity, vec_len};
 ghost use Rattle.tink_proto.specs.declared.messages.keys.KeyTemplate.{KeyTemplate};
 ghost use Rattle.tink_registry.specs.Listed.{with_template};
 
@@ -11,9 +12,11 @@ use tink_proto::{KeyTemplate, Text};
 #[tactic(auto, using(crate::proofs::Lists::place_equal, crate::proofs::Lists::set_split))]
 fn place_of(templates: &[(Text, KeyTemplate)], name: &str) -> Result<usize, usize>
     ensures there { IfOk result (λ i. (i < length templates.now)
-        × ((kt : KeyTemplate) → with_template templates.now (name.now, kt) ≡ slice_set templates.now i (name.now, kt))) }
+        × ((kt : KeyTemplate)
+        → with_template templates.now (name.now, kt) ≡ slice_set templates.now i (name.now, kt))) }
     ensures new { IfErr result (λ i. (i ≤ length templates.now)
-        × ((kt : KeyTemplate) → with_template templates.now (name.now, kt) ≡ insert templates.now i (name.now, kt))) }
+        × ((kt : KeyTemplate)
+        → with_template templates.now (name.now, kt) ≡ insert templates.now i (name.now, kt))) }
 {
     for (i, t) in templates.iter().enumerate() {
         match name.cmp(t.0.as_str()) {

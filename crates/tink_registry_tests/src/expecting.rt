@@ -2,8 +2,6 @@
 
 use std::fmt::Debug;
 use std::process::Abort;
-use tink_io::TinkError;
-use tink_proto::Bytes;
 
 /// Stops where the two differ.
 pub fn expect<T>(rt: &impl Abort, got: T, want: T, label: &str)
@@ -16,12 +14,4 @@ where
 /// Stops where the bytes differ.
 pub fn expect_bytes(rt: &impl Abort, got: &[u8], want: &[u8], label: &str) {
     assert_eq!(rt; got, want, "{label}");
-}
-
-/// Whether a call gave these bytes, or how it was refused.
-pub fn gives(made: Result<Bytes, TinkError>, want: &[u8]) -> Result<bool, TinkError> {
-    match made {
-        Ok(bytes) => Ok(bytes.as_slice() == want),
-        Err(e) => Err(e),
-    }
 }

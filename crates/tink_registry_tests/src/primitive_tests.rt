@@ -4,7 +4,7 @@ ghost use Rattle.std.specs.Prelude.{◌≡◌, [], Ok};
 ghost use Rattle.tink_io.specs.Told.{Replies};
 ghost use Rattle.tink_primitives.specs.Sorts.{as_aead};
 
-use crate::expecting::{expect, gives};
+use crate::expecting::expect;
 use crate::plain::{Plain, Plains};
 use std::alloc::Global;
 use std::test::Fail;
@@ -15,7 +15,7 @@ use tink_sets::sorts::{
     Aeads, DeterministicAeads, HybridDecrypters, HybridEncrypters, Macs, Prfs, Signers, Sort,
     StreamingAeads, Verifiers,
 };
-use tink_testutil::kind_of;
+use tink_testutil::{gives, kind_of};
 
 /// Encrypts where the primitive is an AEAD.
 fn encrypt_by<K: Kinds>(
@@ -24,7 +24,8 @@ fn encrypt_by<K: Kinds>(
     text: &[u8],
     draws: &mut Draws,
 ) -> Result<Bytes, TinkError>
-    ensures { (aead : K.Aead) → as_aead p ≡ Ok aead → Replies result (K.Aead.encrypts aead text.now [] draws.old) draws.old draws.new }
+    ensures { (aead : K.Aead) → as_aead p ≡ Ok aead
+        → Replies result (K.Aead.encrypts aead text.now [] draws.old) draws.old draws.new }
 {
     let aead = p.into_aead()?;
     aead.encrypt(alloc, text, &[], draws)

@@ -4,14 +4,14 @@ ghost use Rattle.std.specs.Prelude.{◌≡◌, Some};
 ghost use Rattle.tink_io.specs.Told.{Answers};
 ghost use Rattle.tink_registry.specs.Listed.{manager_of};
 
-use crate::expecting::{expect, gives};
+use crate::expecting::expect;
 use std::alloc::Global;
 use std::test::Fail;
 use tink_io::{Draws, Kind, TinkError};
 use tink_primitives::{Aead, Primitive};
 use tink_proto::{Bytes, KeyData, KeyMaterialType, KeyTemplate, Text};
 use tink_registry::{KeyManager, Registry};
-use tink_testutil::{TestKinds, TestManager, URL, draws_of, kind_of, registry_of, template};
+use tink_testutil::{TestKinds, TestManager, URL, draws_of, gives, kind_of, registry_of, template};
 
 // A template of the URL and the empty format, for TINK keys.
 fn empty_template(alloc: Global, url: &str) -> Result<KeyTemplate, TinkError> {

@@ -4,7 +4,7 @@ ghost use Rattle.std.specs.Prelude.{◌≡◌, ◌∷◌, [], IfOk, OnOk, OnErr}
 ghost use Rattle.tink_sets.specs.Groups.{AddsLast, AreGroupsOf, HaveSameGroups};
 ghost use Rattle.tink_sets.specs.Entries.{entry_of, prefix_of};
 
-use crate::expecting::{expect, gives};
+use crate::expecting::expect;
 use std::alloc::Global;
 use std::collections::BTreeMap;
 use std::test::Fail;
@@ -16,7 +16,7 @@ use tink_sets::cryptofmt::{
     TINK_PREFIX_SIZE, TINK_START_BYTE, output_prefix,
 };
 use tink_sets::{Entry, PrimitiveSet, TypedPrimitiveSet};
-use tink_testutil::{TestAead, TestKinds, kind_of};
+use tink_testutil::{TestAead, TestKinds, gives, kind_of};
 
 // An AEAD that is known by the one byte of its key.
 fn numbered(alloc: Global, number: u8) -> Result<TestAead, TinkError> {

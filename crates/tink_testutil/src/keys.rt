@@ -20,6 +20,14 @@ pub fn kind_of<T: Drop>(answer: Result<T, TinkError>) -> Option<Kind> {
     }
 }
 
+/// Whether a call gave these bytes, or how it was refused.
+pub fn gives(made: Result<Bytes, TinkError>, want: &[u8]) -> Result<bool, TinkError> {
+    match made {
+        Ok(bytes) => Ok(bytes.as_slice() == want),
+        Err(e) => Err(e),
+    }
+}
+
 /// Data of this URL, value and material.
 pub fn data_of(
     alloc: Global,

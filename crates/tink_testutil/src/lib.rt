@@ -2,7 +2,7 @@
 #![tactic(auto)]
 
 pub use keys::{
-    URL, bare, bytes_of, data_of, draws_of, enabled_key, handle_of, key, keyset, kind_of,
+    URL, bare, bytes_of, data_of, draws_of, enabled_key, gives, handle_of, key, keyset, kind_of,
     registry_of, template,
 };
 pub use named::Named;

@@ -45,7 +45,8 @@ impl KeyManager for TestManager {
 
     ghost material = { λ m. if m.private then AsymmetricPrivate else Symmetric };
 
-    ghost builds = { λ m key. test_keys.built_by (sorts.StreamingAead (record { key = key })) (sorts.Aead (record { key = key })) m.any_length key };
+    ghost builds = { λ m key. test_keys.built_by (sorts.StreamingAead (record { key = key }))
+        (sorts.Aead (record { key = key })) m.any_length key };
 
     ghost makes = { λ _ format draws. test_keys.made format draws };
 
@@ -126,7 +127,8 @@ impl KeyManager for TestManager {
         })
     }
 
-    ghost builds_told = { λ m key. test_keys.built_told (sorts.StreamingAead (record { key = key })) (sorts.Aead (record { key = key })) m.any_length key };
+    ghost builds_told = { λ m key. test_keys.built_told (sorts.StreamingAead (record { key = key }))
+        (sorts.Aead (record { key = key })) m.any_length key };
 
     ghost makes_told = { λ _ format draws. test_keys.made_told format draws };
 

@@ -5,7 +5,8 @@ ghost use Rattle.std.specs.Prelude.{◌≡◌, ◌+◌, ◌*◌, ◌<◌, ◌++�
 ghost use Rattle.wire_format.specs.Grammar.Content.{Body};
 ghost use Rattle.wire_format.specs.Writing.{varint_within, varint, spelling};
 ghost use Rattle.wire_format.specs.Columns.{at};
-ghost use Rattle.wire_format.specs.Values.{unless_zero, unless_empty, body, option_body, fits_number, fits_enum, fits_bytes, fits_text, fits_body, fits_option, fit_bodies};
+ghost use Rattle.wire_format.specs.Values.{unless_zero, unless_empty, body, option_body, fits_number, fits_enum};
+ghost use Rattle.wire_format.specs.Values.{fits_bytes, fits_text, fits_body, fits_option, fit_bodies};
 
 use crate::Repeated;
 use crate::wire::Message;
