@@ -1,11 +1,11 @@
 -- What an entry made is decrypted by each list that has the entry.
 use Rattle.std.proofs.Common.{◌≡◌, ◌∙◌, ◌<◌, ◌++◌, ℕ, List, [], ◌∷◌, Bool, true, false, cond, Option, Some, None, Result, Ok, Err, length, take, drop, refl, sym, ap, subst, ⊎_elim, ◌⊎◌}
-use Rattle.std.specs.Prelude.{filter, find, nat_eq}
+use Rattle.std.specs.Prelude.{filter, nat_eq}
 use Rattle.std.specs.List.{All, Contains}
 use Rattle.std.specs.Str.{bytes_eq}
 use Rattle.std.proofs.lemmas.Bool.{eqb-true, lt-ltb}
 use Rattle.std.proofs.lemmas.List.{drop_at, take_at}
-use Rattle.std.proofs.lemmas.List.Elements.{All-cons, All-contains, All-head, All-nil, All-tail, All-weaker, Contains-append_left, Contains-append_right, Contains-push}
+use Rattle.std.proofs.lemmas.List.Elements.{All-cons, All-contains, All-head, All-nil, All-tail, All-weaker}
 use Rattle.std.proofs.lemmas.Slice.Eq.{bytes_eq-Decides}
 use Rattle.tink_io.specs.declared.error.Kind.{Kind}
 use Rattle.tink_io.specs.declared.error.Kind.TheVariants.{DecryptFailed}
@@ -21,6 +21,7 @@ use Rattle.keyset_model.proofs.EnabledLaw.{keeps_enabled}
 use Rattle.tink_factory.specs.Accepting.{entries_of, first_value, or_else, prefixed_value, raw_value, value_or}
 use Rattle.tink_aead.specs.Rotation.{EnabledKeysOpen, EncryptedOpens, IsSealedBy, OldCiphertextsOpen, OpensTo}
 use Rattle.tink_aead.specs.Wrapped.{any_decrypts, entry_decrypts, entry_encrypts, primary_encrypts}
+use Rattle.tink_factory.proofs.KeyEntries.{found_in}
 use Rattle.tink_aead.proofs.KeyEntries.{key_of, of_enabled, of_own_prefix}
 
 -- ---- the first of a list that accepts, where all that accept give one value
@@ -130,17 +131,7 @@ module _ {P : Type 0} (encrypts : P → List ℕ → List ℕ → List ℕ → R
       ∙ ⊎_elim (λ five. first behind whole (by_prefix five))
       (λ none. later behind whole (λ w found. found_is (λ x. answer x (drop 5 input)) (with_prefix (take 5 input)) text es w alike_behind found) (without_prefix none)) known
 
--- ---- an entry that is found by its id
-
-found_cond : {E : Type 0} (t : E → Bool) (x : E) (b : Bool) (rest : List E) (o : Option E) (e : E) → t x ≡ b → (o ≡ Some e → Contains rest e × (t e ≡ true)) → cond b (Some x) o ≡ Some e → Contains (x ∷ rest) e × (t e ≡ true)
-found_cond t x true rest o e is more found =
-    let same : x ≡ e = cc in
-    (subst (Contains (x ∷ rest)) same (Contains-append_left (x ∷ []) rest x (Contains-push [] x)), ap t (sym same) ∙ is)
-found_cond t x false rest o e is more found = let w = more found in (Contains-append_right (x ∷ []) rest e w.0, w.1)
-
-found_in : {E : Type 0} (t : E → Bool) (xs : List E) (e : E) → find t xs ≡ Some e → Contains xs e × (t e ≡ true)
-found_in t [] e found = absurd (cc)
-found_in t (x ∷ xs) e found = found_cond t x (t x) xs (find t xs) e refl (found_in t xs e) found
+-- ---- the entries of the enabled keys
 
 module _ {P : Type 0} (encrypts : P → List ℕ → List ℕ → List ℕ → Result (List ℕ) Kind × List ℕ) (decrypts : P → List ℕ → List ℕ → Result (List ℕ) Kind) where
   pub old_ciphertexts_open : OldCiphertextsOpen encrypts decrypts

@@ -1,3 +1,4 @@
 pub mod AcceptingFacts
+pub mod KeyEntries
 pub mod TypedSets
 pub mod TypingFacts

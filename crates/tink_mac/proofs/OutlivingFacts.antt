@@ -1,12 +1,11 @@
 -- What the primary key made is accepted after commands that spare it.
 use Rattle.std.proofs.Common.{◌≡◌, ◌∙◌, ◌<◌, ◌++◌, ℕ, List, [], ◌∷◌, Bool, true, false, cond, Option, Some, None, Result, Ok, Err, length, refl, sym, ap, subst, arith}
-use Rattle.std.specs.Prelude.{find, nat_eq}
+use Rattle.std.specs.Prelude.{nat_eq}
 use Rattle.std.specs.List.{All, Contains}
 use Rattle.std.proofs.lemmas.Bool.Decides.{Decides-eqb}
 use Rattle.std.proofs.lemmas.List.{length-append}
-use Rattle.std.proofs.lemmas.List.Elements.{All-cons, All-contains, All-nil, All-weaker, Contains-append_left, Contains-append_right, Contains-push}
 use Rattle.tink_io.specs.declared.error.Kind.{Kind}
-use Rattle.tink_io.specs.declared.error.Kind.TheVariants.{InvalidKey, InvalidKeyset, NoPrimary}
+use Rattle.tink_io.specs.declared.error.Kind.TheVariants.{InvalidKey}
 use Rattle.tink_proto.specs.declared.messages.keys.Key.{Key}
 use Rattle.tink_proto.specs.declared.messages.keys.KeyData.{KeyData}
 use Rattle.tink_proto.specs.declared.messages.keys.Keyset.{Keyset}
@@ -14,11 +13,9 @@ use Rattle.tink_primitives.specs.Sorts.{as_mac}
 use Rattle.tink_primitives.specs.declared.primitive.Primitive.{Primitive}
 use Rattle.tink_primitives.specs.declared.primitive.Primitive.TheVariants.{Mac}
 use Rattle.tink_registry.specs.Listed.{builds_by, manager_of}
-use Rattle.tink_sets.specs.Converting.{before, converted}
-use Rattle.tink_sets.specs.Entries.{entry_of, entry_of_id, typed_by, with_primitive}
+use Rattle.tink_sets.specs.Entries.{entry_of, entry_of_id, with_primitive}
 use Rattle.tink_sets.specs.declared.entry.Entry.{Entry}
 use Rattle.tink_sets.specs.declared.entry.TypedEntry.{TypedEntry}
-use Rattle.tink_building.specs.Given as given
 use Rattle.tink_keysets.specs.Built as built
 use Rattle.keyset_model.specs.Commands.{after_all}
 use Rattle.keyset_model.specs.Keys.{enabled}
@@ -26,48 +23,9 @@ use Rattle.keyset_model.specs.Spared.{Spares}
 use Rattle.keyset_model.proofs.EnabledLaw.{keeps_enabled}
 use Rattle.tink_mac.specs.Wrapped.{covered, entry_mac, primary_mac}
 use Rattle.tink_mac.specs.Rotation.{as_mac_entry, mac_entries, mac_entry, IsMacBy, IsSound, MacsOutlive}
-use Rattle.tink_mac.proofs.RotationFacts.{by_list, cond_ok, given-converted, made_ok, old_macs_verify}
-
--- ---- what is found is in the list
-
-module _ {X : Type 0} (p : X → Bool) where
-  in_first : (x : X) (rest : List X) → Contains (x ∷ rest) x
-  in_first x rest = Contains-append_left (x ∷ []) rest x (Contains-push [] x)
-
-  found_by : (b : Bool) (x : X) (rest : List X) (y : X) → p x ≡ b → (find p rest ≡ Some y → Contains rest y × (p y ≡ true)) → cond b (Some x) (find p rest) ≡ Some y → Contains (x ∷ rest) y × (p y ≡ true)
-  found_by true x rest y is later e = let same : x ≡ y = cc in subst (λ z. Contains (x ∷ rest) z × (p z ≡ true)) same (in_first x rest, is)
-  found_by false x rest y is later e = let w = later e in (Contains-append_right (x ∷ []) rest y w.0, w.1)
-
-  found : (xs : List X) (y : X) → find p xs ≡ Some y → Contains xs y × (p y ≡ true)
-  found [] y e = absurd (cc)
-  found (x ∷ xs) y e = found_by (p x) x xs y refl (found xs y) e
-
--- ---- what is given of a list, is given of one of it
-
-module _ {S T : Type 0} (f : S → Result T Kind) where
-  abbrev IsGivenOf : List S → T → Type 0
-  IsGivenOf xs y = (x : S) × Contains xs x × (f x ≡ Ok y)
-
-  of_more : (x : S) (xs : List S) (y : T) → IsGivenOf xs y → IsGivenOf (x ∷ xs) y
-  of_more x xs y given = (given.0, Contains-append_right (x ∷ []) xs given.0 given.1, given.2)
-
-  of_first : (x : S) (xs : List S) (y : T) → f x ≡ Ok y → IsGivenOf (x ∷ xs) y
-  of_first x xs y is = (x, Contains-append_left (x ∷ []) xs x (Contains-push [] x), is)
-
-  each_given : (x : S) (r : Result T Kind) (xs : List S) (rest : Result (List T) Kind) (ys : List T) → f x ≡ r → ((vs : List T) → rest ≡ Ok vs → All (IsGivenOf xs) vs) → before r rest ≡ Ok ys → All (IsGivenOf (x ∷ xs)) ys
-  each_given x (Err k) xs rest ys is more e = absurd (cc)
-  each_given x (Ok v) xs (Err k) ys is more e = absurd (cc)
-  each_given x (Ok v) xs (Ok vs) ys is more e =
-      let same : v ∷ vs ≡ ys = cc in
-      subst (All (IsGivenOf (x ∷ xs))) same
-      (All-cons (IsGivenOf (x ∷ xs)) v vs (of_first x xs v is) (All-weaker (IsGivenOf xs) (IsGivenOf (x ∷ xs)) (of_more x xs) vs (more vs refl)))
-
-  all_given : (xs : List S) (ys : List T) → converted f xs ≡ Ok ys → All (IsGivenOf xs) ys
-  all_given [] ys e = let same : [] ≡ ys = cc in subst (All (IsGivenOf [])) same (All-nil (IsGivenOf []))
-  all_given (x ∷ xs) ys e = each_given x (f x) xs (converted f xs) ys refl (all_given xs) e
-
-  giver : (xs : List S) (ys : List T) (y : T) → converted f xs ≡ Ok ys → Contains ys y → IsGivenOf xs y
-  giver xs ys y all there = All-contains (IsGivenOf xs) ys y (all_given xs ys all) there
+use Rattle.tink_factory.proofs.KeyEntries as entries
+use Rattle.tink_factory.proofs.KeyEntries.{found_in, made_ok}
+use Rattle.tink_mac.proofs.RotationFacts.{old_macs_verify}
 
 -- ---- small steps
 
@@ -110,20 +68,18 @@ module _ {M K A D HD HE P F S St V : Type 0} (url : M → List ℕ) (supports : 
 
   key_of : (managers : List M) (ks : Keyset) (es : List (TypedEntry P)) (e : TypedEntry P) → mac_entries url supports builds managers ks ≡ Ok es → Contains es e → (k : Key) × IsKeyOf managers ks e k
   key_of managers ks es e all there =
-      let give = built.built_entry url supports builds entry_of managers None in
-      let list = by_list url supports builds ks.primary_key_id (built.built_entries url supports builds entry_of managers None ks) es all in
-      let given = cond_ok _ (given.given_each give (enabled ks)) InvalidKeyset list.0 list.1 in
-      let b = giver (typed_by as_mac) list.0 es e list.2 there in
-      let k = giver give (enabled ks) list.0 b.0 (sym (given-converted give (enabled ks)) ∙ given) b.1 in
-      let q = made_ok (λ p. entry_of p k.0) (built.built_data url supports builds managers None k.0.key_data) b.0 k.2 in
-      let p = made_ok (with_primitive b.0) (as_mac b.0.primitive) e b.2 in
-      let by = by_data managers k.0.key_data q.0 q.1 in
-      let mac : b.0.primitive ≡ Mac p.0 = is_mac b.0.primitive p.0 p.1 in (
-        k.0,
+      let own = entries.key_of as_mac url supports builds managers ks e es all there in
+      let k = own.0 in
+      let b = own.1 in
+      let q = made_ok (λ p. entry_of p k) (built.built_data url supports builds managers None k.key_data) b own.2.built in
+      let p = made_ok (with_primitive b) (as_mac b.primitive) e own.2.typed in
+      let by = by_data managers k.key_data q.0 q.1 in
+      let mac : b.primitive ≡ Mac p.0 = is_mac b.primitive p.0 p.1 in (
+        k,
         record {
-          there = k.1;
-          entry = ap (as_mac_entry url supports builds) k.2 ∙ b.2;
-          id = ap (λ (x : Entry K A D HD HE P F S St V). x.key_id) q.2 ∙ ap (λ (x : TypedEntry P). x.key_id) p.2;
+          there = own.2.there;
+          entry = ap (as_mac_entry url supports builds) own.2.built ∙ own.2.typed;
+          id = own.2.id;
           manager = by.0;
           value = by.1;
           built_as = by.2 ∙ ap Ok (ap (λ (x : Entry K A D HD HE P F S St V). x.primitive) q.2 ∙ mac ∙ ap (λ (x : TypedEntry P). Mac x.primitive) p.2);
@@ -145,7 +101,7 @@ module _ {M K A D HD HE P F S St V : Type 0} (url : M → List ℕ) (supports : 
       let id = m.keyset.primary_key_id in
       let primary = of_primary computes (entry_of_id id es) message mac made in
       let e = primary.0 in
-      let there = found (λ (x : TypedEntry P). nat_eq x.key_id id) es e primary.1 in
+      let there = found_in (λ (x : TypedEntry P). nat_eq x.key_id id) es e primary.1 in
       let k = key_of managers m.keyset es e first there.0 in
       let same : id ≡ k.0.key_id = sym (k.1.id ∙ (Decides-eqb e.key_id id).0 there.1) in
       let stays = keeps_enabled makes m cs k.0 k.1.there (subst (λ n. All (Spares n) cs) same spared) in

@@ -29,7 +29,7 @@ use Rattle.tink_mac.specs.TagLaws.{own_tag_own}
 use Rattle.tink_mac.specs.Tags.{cmac_tag, cmac_tags, hmac_tag, hmac_tags, is_outside, CmacTags, HmacTags}
 use Rattle.tink_mac.specs.declared.mac_kind.MacKind.{MacKind}
 use Rattle.tink_mac.specs.declared.mac_kind.MacKind.TheVariants as kinds
-use Rattle.tink_mac.proofs.RotationFacts.{cond_ok, made_ok}
+use Rattle.tink_factory.proofs.KeyEntries.{cond_ok, made_ok}
 
 unrefused : {T : Type 0} (b : Bool) (k : Kind) (r : Result T Kind) (v : T) → cond b (Err k) r ≡ Ok v → (b ≡ false) × (r ≡ Ok v)
 unrefused true k r v e = absurd (cc)
