@@ -41,4 +41,4 @@ module _ {R K A D HD HE M P S St V Q : Type 0} (pick : Primitive K A D HD HE M P
       → (k : Key) × (Contains (enabled ks) k) × (and_then (give k) (typed_by pick) ≡ Ok e) × (k.key_id ≡ e.key_id)
   key_of ks e es all there =
       let own = entries.key_of pick url supports builds managers ks e es all there in
-      (own.0, own.2.there, ap (λ r. and_then r (typed_by pick)) own.2.built ∙ own.2.typed, own.2.id)
+      (own.0, own.2.there, ap (λ r. and_then r (typed_by pick)) own.2.gives ∙ own.2.typed, own.2.id)

@@ -177,7 +177,7 @@ module _ {R K A D HD HE M P S St V Q : Type 0} (pick : Primitive K A D HD HE M P
   -- an enabled key of a keyset builds the entry, and has its id
   pub record BuildsEntry (ks : Keyset) (e : TypedEntry Q) (k : Key) (b : Entry K A D HD HE M P S St V) : Type 0 where
     pub there : Contains (enabled ks) k
-    pub built : give k ≡ Ok b
+    pub gives : give k ≡ Ok b
     pub typed : typed_by pick b ≡ Ok e
     pub id : k.key_id ≡ e.key_id
 
@@ -191,5 +191,5 @@ module _ {R K A D HD HE M P S St V Q : Type 0} (pick : Primitive K A D HD HE M P
       let made = of_converted give (enabled ks) list.0 typed.0 (sym (given-converted give (enabled ks)) ∙ given) typed.1 in (
         made.0,
         typed.0,
-        record { there = made.1; built = made.2; typed = typed.2; id = entry_id made.0 typed.0 made.2 ∙ typed_id typed.0 e typed.2 },
+        record { there = made.1; gives = made.2; typed = typed.2; id = entry_id made.0 typed.0 made.2 ∙ typed_id typed.0 e typed.2 },
       )

@@ -1,5 +1,5 @@
 -- What the primary key made is accepted after commands that spare it.
-use Rattle.std.proofs.Common.{◌≡◌, ◌∙◌, ◌<◌, ◌++◌, ℕ, List, [], ◌∷◌, Bool, true, false, cond, Option, Some, None, Result, Ok, Err, length, refl, sym, ap, subst, arith}
+use Rattle.std.proofs.Common.{◌≡◌, ◌∙◌, ◌<◌, ◌++◌, ℕ, List, Bool, true, false, cond, Option, Some, None, Result, Ok, Err, length, refl, sym, ap, subst, arith}
 use Rattle.std.specs.Prelude.{nat_eq}
 use Rattle.std.specs.List.{All, Contains}
 use Rattle.std.proofs.lemmas.Bool.Decides.{Decides-eqb}
@@ -71,14 +71,14 @@ module _ {M K A D HD HE P F S St V : Type 0} (url : M → List ℕ) (supports : 
       let own = entries.key_of as_mac url supports builds managers ks e es all there in
       let k = own.0 in
       let b = own.1 in
-      let q = made_ok (λ p. entry_of p k) (built.built_data url supports builds managers None k.key_data) b own.2.built in
+      let q = made_ok (λ p. entry_of p k) (built.built_data url supports builds managers None k.key_data) b own.2.gives in
       let p = made_ok (with_primitive b) (as_mac b.primitive) e own.2.typed in
       let by = by_data managers k.key_data q.0 q.1 in
       let mac : b.primitive ≡ Mac p.0 = is_mac b.primitive p.0 p.1 in (
         k,
         record {
           there = own.2.there;
-          entry = ap (as_mac_entry url supports builds) own.2.built ∙ own.2.typed;
+          entry = ap (as_mac_entry url supports builds) own.2.gives ∙ own.2.typed;
           id = own.2.id;
           manager = by.0;
           value = by.1;
