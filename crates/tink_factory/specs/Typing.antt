@@ -4,9 +4,11 @@ use Rattle.tink_io.specs.declared.error.Kind.{Kind}
 use Rattle.tink_io.specs.declared.error.Kind.TheVariants.{NoPrimary}
 use Rattle.tink_primitives.specs.declared.primitive.Primitive.{Primitive}
 use Rattle.tink_sets.specs.Converting.{converted}
-use Rattle.tink_sets.specs.Entries.{typed_by}
+use Rattle.tink_sets.specs.Entries.{typed_by, typed_prefix_of}
 use Rattle.tink_sets.specs.declared.entry.Entry.{Entry}
 use Rattle.tink_sets.specs.declared.entry.TypedEntry.{TypedEntry}
+use Rattle.tink_sets.specs.declared.typed_set.TypedPrimitiveSet.{TypedPrimitiveSet}
+use Rattle.tink_keysets.specs.Built.{HasEntries}
 
 module _ {K A D HD HE M P S St V Q : Type 0} (pick : Primitive K A D HD HE M P S St V → Result Q Kind) (id : ℕ) where
   -- The entries that were built as entries of one sort: `NoPrimary` where none has the primary id, then the refusal of
@@ -15,3 +17,7 @@ module _ {K A D HD HE M P S St V Q : Type 0} (pick : Primitive K A D HD HE M P S
   typed_entries (Err k) = Err k
   typed_entries (Ok es) =
       if is_some (find (λ e. nat_eq e.key_id id) es) then converted (typed_by pick) es else Err NoPrimary
+
+-- a set of one sort of these entries, with the primary one of the id
+abbrev pub IsTypedSetOf : {Q : Type 0} → ℕ → List (TypedEntry Q) → TypedPrimitiveSet Q → Type 0
+IsTypedSetOf id entries set = HasEntries typed_prefix_of (λ e. e.key_id) id entries set.primary set.entries

@@ -71,7 +71,8 @@ pub fn ask_behind_prefix<P, Q: Question<P>>(
     input: &[u8],
     none: Kind,
 ) -> Result<Q::Answer, TinkError>
-    ensures answer { Answers result (accepted_behind_prefix (Q.answers question.now) (group_of set.now.entries) none input.now) }
+    ensures answer { Answers result
+        (accepted_behind_prefix (Q.answers question.now) (group_of set.now.entries) none input.now) }
 {
     if input.len() > NON_RAW_PREFIX_SIZE {
         return ask_entries(alloc, set, question, input, none);
@@ -96,7 +97,8 @@ fn ask_prefixed<P, Q: Question<P>>(
     question: &Q,
     input: &[u8],
 ) -> Result<Option<Q::Answer>, TinkError>
-    ensures value { IfOk result (λ v. v ≡ prefixed_value (Q.answers question.now) (group_of set.now.entries) input.now) }
+    ensures value { IfOk result (λ v.
+        v ≡ prefixed_value (Q.answers question.now) (group_of set.now.entries) input.now) }
     ensures cause { IfErr result (λ e. e.kind ≡ OutOfMemory) }
 {
     if input.len() <= NON_RAW_PREFIX_SIZE {

@@ -1,9 +1,9 @@
 //! The set of one sort from a handle.
 
 ghost use Rattle.std.specs.Prelude.{◌≡◌, true, is_some, None, IfOk};
-ghost use Rattle.tink_sets.specs.Entries.{entry_of, typed_prefix_of};
-ghost use Rattle.tink_keysets.specs.Built.{built_entries, GivesSet, HasEntries};
-ghost use Rattle.tink_factory.specs.Typing.{typed_entries};
+ghost use Rattle.tink_sets.specs.Entries.{entry_of};
+ghost use Rattle.tink_keysets.specs.Built.{built_entries, GivesSet};
+ghost use Rattle.tink_factory.specs.Typing.{typed_entries, IsTypedSetOf};
 
 use std::alloc::Global;
 use tink_io::{Kind, TinkError};
@@ -22,7 +22,8 @@ pub fn typed_primitives<M: KeyManager, S: Sort<M::Family>>(
     h: &Handle,
     registry: &Registry<M>,
 ) -> Result<TypedPrimitiveSet<S::Of>, TinkError>
-    ensures set { GivesSet (λ es set. HasEntries typed_prefix_of (λ e. e.key_id) h.now.primary_key_id es set.primary set.entries) result (typed_entries S.picks h.now.primary_key_id (built_entries M.url M.supports M.builds entry_of registry.now.managers None h.now)) }
+    ensures set { GivesSet (IsTypedSetOf h.now.primary_key_id) result (typed_entries S.picks h.now.primary_key_id
+        (built_entries M.url M.supports M.builds entry_of registry.now.managers None h.now)) }
     ensures primary { IfOk result (λ set. is_some set.primary ≡ true) }
 {
     let built = match h.primitives(alloc, registry) {

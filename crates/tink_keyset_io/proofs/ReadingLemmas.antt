@@ -10,8 +10,8 @@ use Rattle.tink_io.specs.declared.error.Kind.TheVariants.{KeysetTooLong}
 use Rattle.tink_io.specs.declared.error.TinkError.{TinkError}
 use Rattle.tink_io.proofs.FaultLemmas.{Rose-earlier}
 use Rattle.tink_io.specs.Told.{or_refused}
-use Rattle.tink_keysets.specs.Ends.{IsTold, IsReadRefusal, HasRead}
-use Rattle.tink_keyset_io.specs.Reading.{told, IsFault, IsUnread, LosesAtMost, IsPiece}
+use Rattle.tink_keysets.specs.Ends.{IsAsTold, IsReadRefusal, HasRead}
+use Rattle.tink_keyset_io.specs.Reading.{told, IsFault, IsUnreadText, LosesAtMost, IsPiece}
 
 -- a piece behind a text
 pub text_goes_on : (a b c : Option (List ℕ)) (before after piece : List ℕ) (n : ℕ) → Consumes a b before → IsPiece b c before after piece n → Consumes a c after
@@ -49,13 +49,13 @@ whole (Some all) (Some rest) text h end = h ∙ ap (λ l. text ++ l) end ∙ app
 
 -- the text is what the told answer is of
 pub told_of : {M : Type 0} (refusal : Kind) (message : List ℕ → Option M) (a : Option (List ℕ)) (text given : List ℕ)
-    → given ≡ text → IfSome a (λ all. all ≡ text) → length text ≤ 2 ^ 26 → IsTold (told refusal message a) (or_refused refusal (message given))
+    → given ≡ text → IfSome a (λ all. all ≡ text) → length text ≤ 2 ^ 26 → IsAsTold (told refusal message a) (or_refused refusal (message given))
 told_of refusal message None text given same is fits = tt
 told_of refusal message (Some all) text given same is fits = rw (same, is, le-ltb (2 ^ 26) (length text) fits) refl
 
 -- why a text could not be had is why the read is refused
 pub refused_of : {M : Type 0} (refusal : Kind) (message : List ℕ → Option M) (a : Option (List ℕ)) (k : Kind) (before now : ℕ)
-    → IsUnread a k before now → IsReadRefusal (told refusal message a) k before now
+    → IsUnreadText a k before now → IsReadRefusal (told refusal message a) k before now
 refused_of refusal message a k before now (inl (inl memory)) = rw memory tt
 refused_of refusal message a k before now (inl (inr fault)) = rw fault.0 fault.1
 refused_of refusal message None k before now (inr long) = rw long.0 tt
@@ -71,7 +71,7 @@ message_unless refusal found m false h = message_of refusal found m h
 
 -- what a read gives is the message of the bytes left
 pub told_is : {M : Type 0} (refusal : Kind) (message : List ℕ → Option M) (a : Option (List ℕ)) (m : M)
-    → IsTold (told refusal message a) (Ok m) → IfSome a (λ text. message text ≡ Some m)
+    → IsAsTold (told refusal message a) (Ok m) → IfSome a (λ text. message text ≡ Some m)
 told_is refusal message None m h = tt
 told_is refusal message (Some text) m h = message_unless refusal (message text) m _ h
 

@@ -19,8 +19,8 @@ abbrev pub IsFault : Kind → ℕ → ℕ → Type 0
 IsFault kind before now = (kind ≡ OutOfMemory) ⊎ ((kind ≡ ReadFault) × Rose before now)
 
 -- why a text could not be had: the same, or too many bytes
-abbrev pub IsUnread : Option (List ℕ) → Kind → ℕ → ℕ → Type 0
-IsUnread left kind before now = IsFault kind before now ⊎ ((kind ≡ KeysetTooLong) × IfSome left (λ text. 2 ^ 26 < length text))
+abbrev pub IsUnreadText : Option (List ℕ) → Kind → ℕ → ℕ → Type 0
+IsUnreadText left kind before now = IsFault kind before now ⊎ ((kind ≡ KeysetTooLong) × IfSome left (λ text. 2 ^ 26 < length text))
 
 -- known bytes lose a prefix of at most so many
 abbrev pub LosesAtMost : ℕ → Option (List ℕ) → Option (List ℕ) → Type 0

@@ -13,3 +13,7 @@ AppendsText IsText old new = (text : List ℕ) × IsText text × Appends old new
 abbrev pub IsPartOf : (List ℕ → Type 0) → Kind → Option (List ℕ) → Option (List ℕ) → Type 0
 IsPartOf IsText kind old new =
     ((kind ≡ OutOfMemory) × Keeps old new) ⊎ ((kind ≡ WriteFault) × ((text : List ℕ) × IsText text × AppendsFront old new text))
+
+-- the same of one text
+abbrev pub IsPartOfText : List ℕ → Kind → Option (List ℕ) → Option (List ℕ) → Type 0
+IsPartOfText text kind old new = IsPartOf (λ written. written ≡ text) kind old new

@@ -7,7 +7,7 @@ ghost use Rattle.tink_keysets.specs.Ends.{HasRead, HasWritten};
 ghost use Rattle.tink_proto.specs.Messages.{keyset, encrypted_keyset};
 ghost use Rattle.wire_format.specs.Message.{decoded, encoded};
 ghost use Rattle.tink_keyset_io.specs.Reading.{LosesAtMost, told};
-ghost use Rattle.tink_keyset_io.specs.Writing.{IsPartOf};
+ghost use Rattle.tink_keyset_io.specs.Writing.{IsPartOfText};
 
 use crate::format::Format;
 use crate::text::{read_as, write_as};
@@ -94,7 +94,8 @@ impl<S: Source> Reader for BinaryReader<S> {
     /// that many is read; `BadKeyset` exactly where fewer are no such message; `ReadFault` where
     /// the source failed, and `OutOfMemory`.
     fn read(&mut self, alloc: Global) -> Result<Keyset, TinkError>
-        ensures answer { HasRead result (told BadKeyset (decoded keyset.read) (S.left self.old)) (S.faults self.old) (S.faults self.new) }
+        ensures answer { HasRead result (told BadKeyset (decoded keyset.read) (S.left self.old))
+            (S.faults self.old) (S.faults self.new) }
         ensures count { S.faults self.old ≤ S.faults self.new }
         ensures end { OnOk result (IsAtEnd (S.left self.new)) }
         ensures leaves { LosesAtMost (2 ^ 26 + 1) (S.left self.old) (S.left self.new) }
@@ -108,7 +109,8 @@ impl<S: Source> Reader for BinaryReader<S> {
     /// # Errors
     /// As `read`.
     fn read_encrypted(&mut self, alloc: Global) -> Result<EncryptedKeyset, TinkError>
-        ensures answer { HasRead result (told BadKeyset (decoded encrypted_keyset.read) (S.left self.old)) (S.faults self.old) (S.faults self.new) }
+        ensures answer { HasRead result (told BadKeyset (decoded encrypted_keyset.read) (S.left self.old))
+            (S.faults self.old) (S.faults self.new) }
         ensures count { S.faults self.old ≤ S.faults self.new }
         ensures end { OnOk result (IsAtEnd (S.left self.new)) }
         ensures leaves { LosesAtMost (2 ^ 26 + 1) (S.left self.old) (S.left self.new) }
@@ -159,11 +161,14 @@ impl<K: Sink> Writer for BinaryWriter<K> {
 
     ghost writes = { λ before ks after. Appends (K.got before) (K.got after) (encoded keyset.write ks) };
 
-    ghost writes_encrypted = { λ before ks after. Appends (K.got before) (K.got after) (encoded encrypted_keyset.write ks) };
+    ghost writes_encrypted = { λ before ks after.
+        Appends (K.got before) (K.got after) (encoded encrypted_keyset.write ks) };
 
-    ghost refused = { λ before ks kind after. IsPartOf (λ text. text ≡ encoded keyset.write ks) kind (K.got before) (K.got after) };
+    ghost refused = { λ before ks kind after.
+        IsPartOfText (encoded keyset.write ks) kind (K.got before) (K.got after) };
 
-    ghost refused_encrypted = { λ before ks kind after. IsPartOf (λ text. text ≡ encoded encrypted_keyset.write ks) kind (K.got before) (K.got after) };
+    ghost refused_encrypted = { λ before ks kind after.
+        IsPartOfText (encoded encrypted_keyset.write ks) kind (K.got before) (K.got after) };
 
     ghost same = { λ before after. K.same before after };
 
@@ -176,7 +181,8 @@ impl<K: Sink> Writer for BinaryWriter<K> {
         ensures answer { HasWritten result (Some (Ok tt)) (K.faults self.old) (K.faults self.new) }
         ensures written { OnOk result (Appends (K.got self.old) (K.got self.new) (encoded keyset.write ks.now)) }
         ensures count { K.faults self.old ≤ K.faults self.new }
-        ensures refused { IfErr result (λ e. IsPartOf (λ text. text ≡ encoded keyset.write ks.now) e.kind (K.got self.old) (K.got self.new)) }
+        ensures refused { IfErr result (λ e.
+            IsPartOfText (encoded keyset.write ks.now) e.kind (K.got self.old) (K.got self.new)) }
         ensures same { K.same self.old self.new }
     {
         write_as::<Binary, Keyset, K>(alloc, &mut self.sink, ks)
@@ -188,9 +194,11 @@ impl<K: Sink> Writer for BinaryWriter<K> {
     /// As `write`.
     fn write_encrypted(&mut self, alloc: Global, ks: &EncryptedKeyset) -> Result<(), TinkError>
         ensures answer { HasWritten result (Some (Ok tt)) (K.faults self.old) (K.faults self.new) }
-        ensures written { OnOk result (Appends (K.got self.old) (K.got self.new) (encoded encrypted_keyset.write ks.now)) }
+        ensures written { OnOk result
+            (Appends (K.got self.old) (K.got self.new) (encoded encrypted_keyset.write ks.now)) }
         ensures count { K.faults self.old ≤ K.faults self.new }
-        ensures refused { IfErr result (λ e. IsPartOf (λ text. text ≡ encoded encrypted_keyset.write ks.now) e.kind (K.got self.old) (K.got self.new)) }
+        ensures refused { IfErr result (λ e.
+            IsPartOfText (encoded encrypted_keyset.write ks.now) e.kind (K.got self.old) (K.got self.new)) }
         ensures same { K.same self.old self.new }
     {
         write_as::<Binary, EncryptedKeyset, K>(alloc, &mut self.sink, ks)

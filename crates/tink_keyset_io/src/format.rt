@@ -6,7 +6,7 @@ ghost use Rattle.std.specs.declared.result.Result.{Result};
 ghost use Rattle.tink_io.specs.declared.error.Kind.{Kind as Refusal};
 ghost use Rattle.tink_io.specs.declared.error.Kind.TheVariants.{OutOfMemory};
 ghost use Rattle.tink_io.specs.Told.{or_refused};
-ghost use Rattle.tink_keysets.specs.Ends.{HasRead, IsTold};
+ghost use Rattle.tink_keysets.specs.Ends.{HasRead, IsAsTold};
 
 use std::alloc::Global;
 use tink_io::TinkError;
@@ -25,7 +25,8 @@ pub trait Format<M> {
 
     // The message of a text. Its error is the refusal exactly where there is none, and `OutOfMemory`.
     fn decode(alloc: Global, text: &[u8]) -> Result<M, TinkError>
-        ensures answer { (told : Option (Result M Refusal)) → IsTold told (or_refused refusal (message text.now)) → (before now : ℕ) → HasRead result told before now };
+        ensures answer { (told : Option (Result M Refusal)) → IsAsTold told (or_refused refusal (message text.now))
+            → (before now : ℕ) → HasRead result told before now };
 
     // A text of the message. Its error is `OutOfMemory` alone.
     fn encode(alloc: Global, ks: &M) -> Result<Bytes, TinkError>

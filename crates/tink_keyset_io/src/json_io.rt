@@ -7,7 +7,7 @@ ghost use Rattle.tink_keysets.specs.Ends.{HasRead, HasWritten};
 ghost use Rattle.tink_json.specs.Messages.{encrypted_keyset, keyset, message_of};
 ghost use Rattle.tink_json.specs.Written.{encrypted_keyset_value, keyset_value, pretty_text};
 ghost use Rattle.tink_keyset_io.specs.Reading.{LosesAtMost, told};
-ghost use Rattle.tink_keyset_io.specs.Writing.{IsPartOf};
+ghost use Rattle.tink_keyset_io.specs.Writing.{IsPartOfText};
 
 use crate::format::Format;
 use crate::text::{read_as, write_as};
@@ -96,7 +96,8 @@ impl<S: Source> Reader for JsonReader<S> {
     /// that many is read; `BadJson` exactly where fewer are no such value; `ReadFault` where
     /// the source failed, and `OutOfMemory`.
     fn read(&mut self, alloc: Global) -> Result<Keyset, TinkError>
-        ensures answer { HasRead result (told BadJson (message_of keyset) (S.left self.old)) (S.faults self.old) (S.faults self.new) }
+        ensures answer { HasRead result (told BadJson (message_of keyset) (S.left self.old))
+            (S.faults self.old) (S.faults self.new) }
         ensures count { S.faults self.old ≤ S.faults self.new }
         ensures end { OnOk result (IsAtEnd (S.left self.new)) }
         ensures leaves { LosesAtMost (2 ^ 26 + 1) (S.left self.old) (S.left self.new) }
@@ -110,7 +111,8 @@ impl<S: Source> Reader for JsonReader<S> {
     /// # Errors
     /// As `read`.
     fn read_encrypted(&mut self, alloc: Global) -> Result<EncryptedKeyset, TinkError>
-        ensures answer { HasRead result (told BadJson (message_of encrypted_keyset) (S.left self.old)) (S.faults self.old) (S.faults self.new) }
+        ensures answer { HasRead result (told BadJson (message_of encrypted_keyset) (S.left self.old))
+            (S.faults self.old) (S.faults self.new) }
         ensures count { S.faults self.old ≤ S.faults self.new }
         ensures end { OnOk result (IsAtEnd (S.left self.new)) }
         ensures leaves { LosesAtMost (2 ^ 26 + 1) (S.left self.old) (S.left self.new) }
@@ -161,11 +163,14 @@ impl<K: Sink> Writer for JsonWriter<K> {
 
     ghost writes = { λ before ks after. Appends (K.got before) (K.got after) (pretty_text (keyset_value ks)) };
 
-    ghost writes_encrypted = { λ before ks after. Appends (K.got before) (K.got after) (pretty_text (encrypted_keyset_value ks)) };
+    ghost writes_encrypted = { λ before ks after.
+        Appends (K.got before) (K.got after) (pretty_text (encrypted_keyset_value ks)) };
 
-    ghost refused = { λ before ks kind after. IsPartOf (λ text. text ≡ pretty_text (keyset_value ks)) kind (K.got before) (K.got after) };
+    ghost refused = { λ before ks kind after.
+        IsPartOfText (pretty_text (keyset_value ks)) kind (K.got before) (K.got after) };
 
-    ghost refused_encrypted = { λ before ks kind after. IsPartOf (λ text. text ≡ pretty_text (encrypted_keyset_value ks)) kind (K.got before) (K.got after) };
+    ghost refused_encrypted = { λ before ks kind after.
+        IsPartOfText (pretty_text (encrypted_keyset_value ks)) kind (K.got before) (K.got after) };
 
     ghost same = { λ before after. K.same before after };
 
@@ -178,7 +183,8 @@ impl<K: Sink> Writer for JsonWriter<K> {
         ensures answer { HasWritten result (Some (Ok tt)) (K.faults self.old) (K.faults self.new) }
         ensures written { OnOk result (Appends (K.got self.old) (K.got self.new) (pretty_text (keyset_value ks.now))) }
         ensures count { K.faults self.old ≤ K.faults self.new }
-        ensures refused { IfErr result (λ e. IsPartOf (λ text. text ≡ pretty_text (keyset_value ks.now)) e.kind (K.got self.old) (K.got self.new)) }
+        ensures refused { IfErr result (λ e.
+            IsPartOfText (pretty_text (keyset_value ks.now)) e.kind (K.got self.old) (K.got self.new)) }
         ensures same { K.same self.old self.new }
     {
         write_as::<JsonText, Keyset, K>(alloc, &mut self.sink, ks)
@@ -190,9 +196,11 @@ impl<K: Sink> Writer for JsonWriter<K> {
     /// As `write`.
     fn write_encrypted(&mut self, alloc: Global, ks: &EncryptedKeyset) -> Result<(), TinkError>
         ensures answer { HasWritten result (Some (Ok tt)) (K.faults self.old) (K.faults self.new) }
-        ensures written { OnOk result (Appends (K.got self.old) (K.got self.new) (pretty_text (encrypted_keyset_value ks.now))) }
+        ensures written { OnOk result
+            (Appends (K.got self.old) (K.got self.new) (pretty_text (encrypted_keyset_value ks.now))) }
         ensures count { K.faults self.old ≤ K.faults self.new }
-        ensures refused { IfErr result (λ e. IsPartOf (λ text. text ≡ pretty_text (encrypted_keyset_value ks.now)) e.kind (K.got self.old) (K.got self.new)) }
+        ensures refused { IfErr result (λ e.
+            IsPartOfText (pretty_text (encrypted_keyset_value ks.now)) e.kind (K.got self.old) (K.got self.new)) }
         ensures same { K.same self.old self.new }
     {
         write_as::<JsonText, EncryptedKeyset, K>(alloc, &mut self.sink, ks)

@@ -3,7 +3,7 @@
 ghost use Rattle.std.specs.Prelude.{◌≤◌, ◌<◌, ◌+◌, ◌^◌, Some, Ok, IfOk, IfErr, OnOk, length};
 ghost use Rattle.std.specs.Io.KnownBytes.{Consumes, IsAtEnd};
 ghost use Rattle.tink_keysets.specs.Ends.{HasRead, HasWritten};
-ghost use Rattle.tink_keyset_io.specs.Reading.{IsFault, IsPiece, IsUnread, LosesAtMost, told};
+ghost use Rattle.tink_keyset_io.specs.Reading.{IsFault, IsPiece, IsUnreadText, LosesAtMost, told};
 ghost use Rattle.tink_keyset_io.specs.Writing.{AppendsText, IsPartOf};
 
 use crate::format::Format;
@@ -23,7 +23,8 @@ fn read_piece<S: Source>(
     text: &mut Vec<u8>,
 ) -> Result<usize, TinkError>
     requires some { 0 < length piece.old }
-    ensures ok { IfOk result (λ n. IsPiece (S.left source.old) (S.left source.new) text.old.items text.new.items piece.new n) }
+    ensures ok { IfOk result (λ n.
+        IsPiece (S.left source.old) (S.left source.new) text.old.items text.new.items piece.new n) }
     ensures refused { IfErr result (λ e. IsFault e.kind (S.faults source.old) (S.faults source.new)) }
     ensures taken { LosesAtMost (length piece.old) (S.left source.old) (S.left source.new) }
     ensures later { S.faults source.old ≤ S.faults source.new }
@@ -43,7 +44,8 @@ fn read_text<S: Source>(alloc: Global, source: &mut S) -> Result<Vec<u8>, TinkEr
     ensures text { IfOk result (λ text. Consumes (S.left source.old) (S.left source.new) text.items) }
     ensures fits { IfOk result (λ text. length text.items ≤ 2 ^ 26) }
     ensures end { OnOk result (IsAtEnd (S.left source.new)) }
-    ensures refused { IfErr result (λ e. IsUnread (S.left source.old) e.kind (S.faults source.old) (S.faults source.new)) }
+    ensures refused { IfErr result (λ e.
+        IsUnreadText (S.left source.old) e.kind (S.faults source.old) (S.faults source.new)) }
     ensures taken { LosesAtMost (2 ^ 26 + 1) (S.left source.old) (S.left source.new) }
     ensures later { S.faults source.old ≤ S.faults source.new }
     ensures same { S.same source.old source.new }
@@ -65,7 +67,8 @@ pub fn read_as<F: Format<M>, M: Drop, S: Source>(
     alloc: Global,
     source: &mut S,
 ) -> Result<M, TinkError>
-    ensures answer { HasRead result (told F.refusal F.message (S.left source.old)) (S.faults source.old) (S.faults source.new) }
+    ensures answer { HasRead result (told F.refusal F.message (S.left source.old))
+        (S.faults source.old) (S.faults source.new) }
     ensures end { OnOk result (IsAtEnd (S.left source.new)) }
     ensures taken { LosesAtMost (2 ^ 26 + 1) (S.left source.old) (S.left source.new) }
     ensures count { S.faults source.old ≤ S.faults source.new }

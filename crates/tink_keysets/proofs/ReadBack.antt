@@ -10,7 +10,7 @@ use Rattle.tink_proto.specs.declared.messages.infos.EncryptedKeyset.{EncryptedKe
 use Rattle.tink_proto.specs.declared.messages.keys.Keyset.{Keyset}
 use Rattle.keyset_model.specs.Validity.{MayBeHeld}
 use Rattle.tink_keysets.specs.declared.keyset.memory.MemReaderWriter.{MemReaderWriter}
-use Rattle.tink_keysets.specs.Encrypted.{by_master, chained, decrypted, handle_of_bytes, with_info, Undoes}
+use Rattle.tink_keysets.specs.Encrypted.{by_master, chained, decrypted, handle_of_bytes, with_info, MasterUndoes}
 use Rattle.tink_keysets.specs.Ends.{held_or, IsReadRefusal}
 use Rattle.tink_keysets.specs.Handles.{handle_of}
 use Rattle.tink_keysets.specs.Through.{GivesBy, IsTaken}
@@ -45,7 +45,7 @@ spelled ks bytes held again = ap (λ o. chained handle_of (or_refused BadKeyset 
 
 -- under the same data
 pub same_read : (encrypts : List ℕ → List ℕ → List ℕ → Result (List ℕ) Kind × List ℕ) (decrypts : List ℕ → List ℕ → Result (List ℕ) Kind) (ks : Keyset) (text written read draws : List ℕ) (r : Result (List ℕ) Kind)
-    → (encrypts text written draws).0 ≡ r → handle_of_bytes text ≡ Ok ks → Undoes encrypts decrypts → read ≡ written
+    → (encrypts text written draws).0 ≡ r → handle_of_bytes text ≡ Ok ks → MasterUndoes encrypts decrypts → read ≡ written
     → chained (decrypted decrypts read) (made_of (with_info ks) (by_master r)) ≡ made_of (λ _. ks) (by_master r)
 same_read encrypts decrypts ks text written read draws (Ok ciphertext) is again undoes same =
     ap (λ b. chained handle_of_bytes (by_master b)) (ap (decrypts ciphertext) same ∙ undoes text written draws ciphertext is) ∙ again

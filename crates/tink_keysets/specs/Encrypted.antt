@@ -15,6 +15,10 @@ abbrev pub by_master : {T : Type 0} → Result T Kind → Result T Kind
 by_master (Ok v) = Ok v
 by_master (Err kind) = Err MasterFailed
 
+-- the same of a call that draws
+abbrev pub drawn_by_master : {T : Type 0} → Result T Kind × List ℕ → Result T Kind × List ℕ
+drawn_by_master made = (by_master made.0, made.1)
+
 -- how a call is refused of which a master's is a part: `OutOfMemory` stays
 abbrev pub master_kind : Kind → Kind
 master_kind OutOfMemory = OutOfMemory
@@ -40,11 +44,11 @@ with_info ks ciphertext = record { encrypted_keyset = ciphertext; keyset_info = 
 -- an encrypted keyset, by what the master encrypts, and the draws that are left
 abbrev pub encrypted : (List ℕ → List ℕ → List ℕ → Result (List ℕ) Kind × List ℕ) → List ℕ → List ℕ → Keyset → Result EncryptedKeyset Kind × List ℕ
 encrypted encrypts associated_data draws ks =
-    let made = encrypts (encoded keyset.write ks) associated_data draws in
-    (made_of (with_info ks) (by_master made.0), made.1)
+    let made = drawn_by_master (encrypts (encoded keyset.write ks) associated_data draws) in
+    (made_of (with_info ks) made.0, made.1)
 
 -- decryption undoes encryption
-abbrev pub Undoes : (List ℕ → List ℕ → List ℕ → Result (List ℕ) Kind × List ℕ) → (List ℕ → List ℕ → Result (List ℕ) Kind) → Type 0
-Undoes encrypts decrypts =
+abbrev pub MasterUndoes : (List ℕ → List ℕ → List ℕ → Result (List ℕ) Kind × List ℕ) → (List ℕ → List ℕ → Result (List ℕ) Kind) → Type 0
+MasterUndoes encrypts decrypts =
     (text associated_data draws ciphertext : List ℕ) → (encrypts text associated_data draws).0 ≡ Ok ciphertext
     → decrypts ciphertext associated_data ≡ Ok text

@@ -1,6 +1,6 @@
 //! The parts of adding a key.
 
-ghost use Rattle.std.specs.Prelude.{◌≡◌, ◌<◌, ◌++◌, ◌∷◌, [], IfOk, IsTrue, vec_len, vec_capacity};
+ghost use Rattle.std.specs.Prelude.{◌≡◌, ◌<◌, ◌++◌, ◌∷◌, [], Some, IfOk, IsTrue, vec_len, vec_capacity};
 ghost use Rattle.std.specs.List.{list_all};
 ghost use Rattle.tink_io.specs.Told.{Replies};
 ghost use Rattle.tink_registry.specs.Known.{IsOfKnownMaterial};
@@ -28,10 +28,27 @@ pub(crate) fn new_data<M: KeyManager>(
     registry: &Registry<M>,
     draws: &mut Draws,
 ) -> Result<KeyData, TinkError>
-    ensures replies { Replies result (data_by M.url M.makes_data registry.now.managers kt.now draws.old) draws.old draws.new }
+    ensures replies { Replies result (data_by M.url M.makes_data registry.now.managers kt.now draws.old)
+        draws.old draws.new }
     ensures known { IfOk result IsOfKnownMaterial }
 {
-    let manager = registry.get_key_manager(kt.type_url.as_str())?;
+    match registry.get_key_manager(kt.type_url.as_str()) {
+        Ok(manager) => data_of(alloc, kt, manager, draws),
+        Err(e) => Err(e),
+    }
+}
+
+// The data of a new key that a manager makes by a template.
+fn data_of<M: KeyManager>(
+    alloc: Global,
+    kt: &KeyTemplate,
+    manager: &M,
+    draws: &mut Draws,
+) -> Result<KeyData, TinkError>
+    ensures replies { Replies result (adding.new_data M.makes_data kt.now draws.old (Some manager.now))
+        draws.old draws.new }
+    ensures known { IfOk result IsOfKnownMaterial }
+{
     if !is_known_prefix(kt.output_prefix_type) {
         return Err(TinkError::new(Kind::UnknownPrefix));
     }
@@ -44,7 +61,8 @@ pub(crate) fn put_key(keys: &mut Vec<Key>, kt: &KeyTemplate, key_data: KeyData, 
     requires room { vec_len keys.old < vec_capacity keys.old }
     requires known { IsOfKnownMaterial key_data }
     ensures items { keys.new.items ≡ keys.old.items ++ adding.new_key kt.now key_data id ∷ [] }
-    ensures held { IsTrue (list_all validity.is_held keys.old.items) → IsTrue (list_all validity.is_held keys.new.items) }
+    ensures held { IsTrue (list_all validity.is_held keys.old.items)
+        → IsTrue (list_all validity.is_held keys.new.items) }
 {
     let key = Key {
         key_data: Some(key_data),

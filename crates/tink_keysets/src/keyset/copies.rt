@@ -25,8 +25,10 @@ pub fn copy_all<M: Message>(alloc: Global, messages: &[M]) -> Result<Vec<M>, Tin
 {
     let mut copied = Vec::new(alloc);
     for message in messages {
-        let more = copy(alloc, message)?;
-        copied.push(more)?;
+        match copy(alloc, message) {
+            Ok(more) => copied.push(more)?,
+            Err(e) => return Err(e),
+        }
     }
     Ok(copied)
 }

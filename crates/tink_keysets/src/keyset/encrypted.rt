@@ -5,8 +5,8 @@ ghost use Rattle.wire_format.specs.Message.{encoded};
 ghost use Rattle.tink_io.specs.Told.{Answers, Replies};
 ghost use Rattle.tink_io.specs.declared.error.Kind.TheVariants.{OutOfMemory};
 ghost use Rattle.tink_proto.specs.Messages.{keyset};
-ghost use Rattle.tink_keysets.specs.Encrypted.{by_master, decrypted, encrypted, handle_of_bytes, master_kind};
-ghost use Rattle.tink_keysets.specs.Through.{GivesBy, Leaves, Writes};
+ghost use Rattle.tink_keysets.specs.Encrypted.{by_master, decrypted, drawn_by_master, encrypted, handle_of_bytes, master_kind};
+ghost use Rattle.tink_keysets.specs.Through.{GivesBy, LeavesDraws, MakesAndWrites};
 
 use crate::keyset::{Handle, Reader, Writer, insecure};
 use std::alloc::Global;
@@ -24,7 +24,8 @@ impl Handle {
         reader: &mut R,
         master: &A,
     ) -> Result<Handle, TinkError>
-        ensures answer { GivesBy (decrypted (A.decrypts master.now) []) result (R.reads_encrypted reader.old) (R.faults reader.old) (R.faults reader.new) }
+        ensures answer { GivesBy (decrypted (A.decrypts master.now) []) result
+            (R.reads_encrypted reader.old) (R.faults reader.old) (R.faults reader.new) }
         ensures count { R.faults reader.old ≤ R.faults reader.new }
         ensures leaves { R.leaves reader.old reader.new }
         ensures same { R.same reader.old reader.new }
@@ -44,7 +45,8 @@ impl Handle {
         master: &A,
         associated_data: &[u8],
     ) -> Result<Handle, TinkError>
-        ensures answer { GivesBy (decrypted (A.decrypts master.now) associated_data.now) result (R.reads_encrypted reader.old) (R.faults reader.old) (R.faults reader.new) }
+        ensures answer { GivesBy (decrypted (A.decrypts master.now) associated_data.now) result
+            (R.reads_encrypted reader.old) (R.faults reader.old) (R.faults reader.new) }
         ensures count { R.faults reader.old ≤ R.faults reader.new }
         ensures leaves { R.leaves reader.old reader.new }
         ensures same { R.same reader.old reader.new }
@@ -64,8 +66,10 @@ impl Handle {
         master: &A,
         draws: &mut Draws,
     ) -> Result<(), TinkError>
-        ensures answer { Writes W.answers_encrypted W.writes_encrypted W.refused_encrypted W.faults result (encrypted (A.encrypts master.now) [] draws.old self.now).0 writer.old writer.new }
-        ensures rest { Leaves result (encrypted (A.encrypts master.now) [] draws.old self.now).1 draws.old draws.new }
+        ensures answer { MakesAndWrites W.answers_encrypted W.writes_encrypted W.refused_encrypted W.faults result
+            (encrypted (A.encrypts master.now) [] draws.old self.now).0 writer.old writer.new }
+        ensures rest { LeavesDraws result (encrypted (A.encrypts master.now) [] draws.old self.now).1
+            draws.old draws.new }
         ensures count { W.faults writer.old ≤ W.faults writer.new }
         ensures same { W.same writer.old writer.new }
 
@@ -90,8 +94,10 @@ impl Handle {
         associated_data: &[u8],
         draws: &mut Draws,
     ) -> Result<(), TinkError>
-        ensures answer { Writes W.answers_encrypted W.writes_encrypted W.refused_encrypted W.faults result (encrypted (A.encrypts master.now) associated_data.now draws.old self.now).0 writer.old writer.new }
-        ensures rest { Leaves result (encrypted (A.encrypts master.now) associated_data.now draws.old self.now).1 draws.old draws.new }
+        ensures answer { MakesAndWrites W.answers_encrypted W.writes_encrypted W.refused_encrypted W.faults result
+            (encrypted (A.encrypts master.now) associated_data.now draws.old self.now).0 writer.old writer.new }
+        ensures rest { LeavesDraws result (encrypted (A.encrypts master.now) associated_data.now draws.old self.now).1
+            draws.old draws.new }
         ensures count { W.faults writer.old ≤ W.faults writer.new }
         ensures same { W.same writer.old writer.new }
 
@@ -136,7 +142,8 @@ fn encrypted_bytes<A: Aead>(
     associated_data: &[u8],
     draws: &mut Draws,
 ) -> Result<Bytes, TinkError>
-    ensures { Replies result (by_master (A.encrypts master.now bytes.now associated_data.now draws.old).0, (A.encrypts master.now bytes.now associated_data.now draws.old).1) draws.old draws.new }
+    ensures { Replies result (drawn_by_master (A.encrypts master.now bytes.now associated_data.now draws.old))
+        draws.old draws.new }
 {
     match master.encrypt(alloc, bytes, associated_data, draws) {
         Ok(ciphertext) => Ok(ciphertext),
@@ -190,7 +197,8 @@ fn encrypt<A: Aead>(
     associated_data: &[u8],
     draws: &mut Draws,
 ) -> Result<EncryptedKeyset, TinkError>
-    ensures replies { Replies result (encrypted (A.encrypts master.now) associated_data.now draws.old h.now) draws.old draws.new }
+    ensures replies { Replies result (encrypted (A.encrypts master.now) associated_data.now draws.old h.now)
+        draws.old draws.new }
     ensures again { OnOk result (handle_of_bytes (encoded keyset.write h.now) ≡ Ok h.now) }
 {
     let keyset_info = h.keyset_info(alloc)?;

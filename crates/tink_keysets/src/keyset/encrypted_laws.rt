@@ -6,7 +6,7 @@ ghost use Rattle.tink_io.specs.declared.error.Kind.{Kind};
 ghost use Rattle.tink_io.specs.declared.error.Kind.TheVariants.{MasterFailed};
 ghost use Rattle.tink_io.specs.Told.{Answers, made_of};
 ghost use Rattle.tink_proto.specs.Messages.{keyset};
-ghost use Rattle.tink_keysets.specs.Encrypted.{by_master, Undoes};
+ghost use Rattle.tink_keysets.specs.Encrypted.{by_master, MasterUndoes};
 
 use crate::keyset::{Handle, MemReaderWriter};
 use std::alloc::Global;
@@ -25,9 +25,11 @@ pub fn law_written_is_read<A: Aead>(
     read: &[u8],
     draws: &mut Draws,
 ) -> Result<Handle, TinkError>
-    ensures same { Undoes (A.encrypts master.now) (A.decrypts master.now) → read.now ≡ written.now
-        → Answers result (made_of (λ _. h.now) (by_master (A.encrypts master.now (encoded keyset.write h.now) written.now draws.old).0)) }
-    ensures other { (ciphertext : List ℕ) (kind : Kind) → (A.encrypts master.now (encoded keyset.write h.now) written.now draws.old).0 ≡ Ok ciphertext
+    ensures same { MasterUndoes (A.encrypts master.now) (A.decrypts master.now) → read.now ≡ written.now
+        → Answers result (made_of (λ _. h.now)
+        (by_master (A.encrypts master.now (encoded keyset.write h.now) written.now draws.old).0)) }
+    ensures other { (ciphertext : List ℕ) (kind : Kind)
+        → (A.encrypts master.now (encoded keyset.write h.now) written.now draws.old).0 ≡ Ok ciphertext
         → A.decrypts master.now ciphertext read.now ≡ Err kind → Answers result (Err MasterFailed) }
 {
     let mut memory = MemReaderWriter::default();

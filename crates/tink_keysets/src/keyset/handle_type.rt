@@ -1,13 +1,13 @@
 //! A keyset whose keys are out of sight.
 
-ghost use Rattle.std.specs.Prelude.{◌≡◌, IfOk, IfErr, map, true, None, option_map};
+ghost use Rattle.std.specs.Prelude.{◌≡◌, IfOk, IfErr, map, true, None, option_copied};
 ghost use Rattle.tink_io.specs.declared.error.Kind.TheVariants.{HasSecrets, InvalidKeyset, OutOfMemory};
 ghost use Rattle.tink_io.specs.Told.{Answers, Replies, Tells};
-ghost use Rattle.tink_sets.specs.Entries.{entry_of, prefix_of};
+ghost use Rattle.tink_sets.specs.Entries.{entry_of};
 ghost use Rattle.keyset_model.specs.Adding.{keyset_reply};
 ghost use Rattle.keyset_model.specs.Secrets as secrets;
 ghost use Rattle.keyset_model.specs.Validity.{MayBeHeld};
-ghost use Rattle.tink_keysets.specs.Built.{built_entries, GivesSet, HasEntries};
+ghost use Rattle.tink_keysets.specs.Built.{built_entries, GivesSet, IsSetOf};
 ghost use Rattle.tink_keysets.specs.Managed.{added_by, no_keys, public_data, public_keyset};
 ghost use Rattle.tink_keysets.specs.Handles.{handle_of, handle_without_secrets};
 
@@ -53,7 +53,9 @@ impl Handle {
         registry: &Registry<M>,
         draws: &mut Draws,
     ) -> Result<Handle, TinkError>
-        ensures { Replies result (keyset_reply (added_by M.url M.makes_data registry.now.managers no_keys kt.now true draws.old)) draws.old draws.new }
+        ensures { Replies result
+            (keyset_reply (added_by M.url M.makes_data registry.now.managers no_keys kt.now true draws.old))
+            draws.old draws.new }
     {
         let mut manager = Manager::new(alloc);
         let _id = manager.rotate(alloc, kt, registry, draws)?;
@@ -71,7 +73,8 @@ impl Handle {
         alloc: Global,
         registry: &Registry<M>,
     ) -> Result<Handle, TinkError>
-        ensures { Answers result (public_keyset (public_data M.url M.has_public M.gives_public registry.now.managers) self.now) }
+        ensures { Answers result
+            (public_keyset (public_data M.url M.has_public M.gives_public registry.now.managers) self.now) }
     {
         let key = public_keys(alloc, self.keys(), registry)?;
         Ok(Handle::from_held(Keyset {
@@ -106,7 +109,8 @@ impl Handle {
         alloc: Global,
         registry: &Registry<M>,
     ) -> Result<PrimitiveSet<M::Family>, TinkError>
-        ensures { GivesSet (λ es set. HasEntries prefix_of (λ e. e.key_id) self.now.primary_key_id es set.primary set.entries) result (built_entries M.url M.supports M.builds entry_of registry.now.managers None self.now) }
+        ensures { GivesSet (IsSetOf self.now.primary_key_id) result
+            (built_entries M.url M.supports M.builds entry_of registry.now.managers None self.now) }
     {
         self.primitives_with_key_manager(alloc, registry, no_manager(registry))
     }
@@ -123,7 +127,8 @@ impl Handle {
         registry: &Registry<M>,
         km: Option<&M>,
     ) -> Result<PrimitiveSet<M::Family>, TinkError>
-        ensures { GivesSet (λ es set. HasEntries prefix_of (λ e. e.key_id) self.now.primary_key_id es set.primary set.entries) result (built_entries M.url M.supports M.builds entry_of registry.now.managers (option_map (λ m. m.now) km.entry) self.now) }
+        ensures { GivesSet (IsSetOf self.now.primary_key_id) result
+            (built_entries M.url M.supports M.builds entry_of registry.now.managers (option_copied km.entry) self.now) }
     {
         if !is_validated(&self.ks) {
             return Err(TinkError::new(Kind::InvalidKeyset));
@@ -187,7 +192,7 @@ impl Handle {
 
 // No manager, for as long as the registry's are lent.
 fn no_manager<'a, M>(_registry: &'a Registry<M>) -> Option<&'a M>
-    ensures { option_map (λ m. m.now) result ≡ None }
+    ensures { option_copied result ≡ None }
 {
     None
 }
@@ -239,14 +244,22 @@ fn write_key<W: fmt::Write>(f: &mut fmt::Formatter<W>, key: &Key) -> fmt::Result
         None => "",
     };
     write!(f, "KeyInfo {{ type_url: {url:?}, status: ")?;
-    match KeyStatusType::try_from(key.status) {
-        Ok(status) => write!(f, "{status:?}")?,
-        Err(_) => write!(f, "{}", key.status)?,
-    }
+    write_status(f, key.status)?;
     write!(f, ", key_id: {}, output_prefix_type: ", key.key_id)?;
-    match OutputPrefixType::try_from(key.output_prefix_type) {
-        Ok(prefix) => write!(f, "{prefix:?}")?,
-        Err(_) => write!(f, "{}", key.output_prefix_type)?,
-    }
+    write_prefix_type(f, key.output_prefix_type)?;
     f.write_str(" }")
+}
+
+fn write_status<W: fmt::Write>(f: &mut fmt::Formatter<W>, number: i32) -> fmt::Result {
+    match KeyStatusType::try_from(number) {
+        Ok(status) => write!(f, "{status:?}"),
+        Err(_) => write!(f, "{number}"),
+    }
+}
+
+fn write_prefix_type<W: fmt::Write>(f: &mut fmt::Formatter<W>, number: i32) -> fmt::Result {
+    match OutputPrefixType::try_from(number) {
+        Ok(prefix) => write!(f, "{prefix:?}"),
+        Err(_) => write!(f, "{number}"),
+    }
 }

@@ -185,8 +185,11 @@ impl Manager {
         draws: &mut Draws,
         as_primary: bool,
     ) -> Result<KeyId, TinkError>
-        ensures replies { Replies result (reply (added_by M.url M.makes_data registry.now.managers self.old kt.now as_primary draws.old)) draws.old draws.new }
-        ensures keyset { OnOk result (self.new ≡ (added_by M.url M.makes_data registry.now.managers self.old kt.now as_primary draws.old).keyset) }
+        ensures replies { Replies result
+            (reply (added_by M.url M.makes_data registry.now.managers self.old kt.now as_primary draws.old))
+            draws.old draws.new }
+        ensures keyset { OnOk result (self.new
+            ≡ (added_by M.url M.makes_data registry.now.managers self.old kt.now as_primary draws.old).keyset) }
         ensures err { OnErr result (self.new ≡ self.old) }
         ensures fresh { IfOk result (λ id. IsFresh self.old.key id) }
     {
@@ -195,7 +198,10 @@ impl Manager {
             Ok(key_data) => key_data,
             Err(e) => return Err(e),
         };
-        let id = draw_id(&self.keys, draws)?;
+        let id = match draw_id(&self.keys, draws) {
+            Ok(id) => id,
+            Err(e) => return Err(e),
+        };
         put_key(&mut self.keys, kt, key_data, id);
         if as_primary {
             self.primary = id;
@@ -214,8 +220,11 @@ impl Manager {
         registry: &Registry<M>,
         draws: &mut Draws,
     ) -> Result<KeyId, TinkError>
-        ensures replies { Replies result (reply (added_by M.url M.makes_data registry.now.managers self.old kt.now true draws.old)) draws.old draws.new }
-        ensures keyset { OnOk result (self.new ≡ (added_by M.url M.makes_data registry.now.managers self.old kt.now true draws.old).keyset) }
+        ensures replies { Replies result
+            (reply (added_by M.url M.makes_data registry.now.managers self.old kt.now true draws.old))
+            draws.old draws.new }
+        ensures keyset { OnOk result (self.new
+            ≡ (added_by M.url M.makes_data registry.now.managers self.old kt.now true draws.old).keyset) }
         ensures err { OnErr result (self.new ≡ self.old) }
         ensures fresh { IfOk result (λ id. IsFresh self.old.key id) }
     {
@@ -241,7 +250,8 @@ impl Manager {
     // Writes the status of the first key of the id, where it is enabled or disabled.
     #[tactic(auto, using(keyset_model::proofs::EditLaws::held_with_status))]
     fn change_status(&mut self, id: u32, status: KeyStatusType) -> Result<(), TinkError>
-        ensures { Edits result self.old self.new (edits.edited_where edits.is_live self.old (edits.with_first id (edits.with_status status) self.old.key) (edits.status_of id self.old.key)) }
+        ensures { Edits result self.old self.new (edits.edited_where edits.is_live self.old
+            (edits.with_first id (edits.with_status status) self.old.key) (edits.status_of id self.old.key)) }
     {
         let Some((i, now)) = place_of(&self.keys, id) else {
             return Err(TinkError::new(Kind::KeyNotFound));

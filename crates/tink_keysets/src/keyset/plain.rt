@@ -2,7 +2,7 @@
 
 ghost use Rattle.std.specs.Prelude.{◌≤◌};
 ghost use Rattle.tink_keysets.specs.Handles.{handle_without_secrets, without_secrets};
-ghost use Rattle.tink_keysets.specs.Through.{GivesBy, Writes};
+ghost use Rattle.tink_keysets.specs.Through.{GivesBy, MakesAndWrites};
 
 use crate::keyset::validation::have_secrets;
 use crate::keyset::{Handle, Reader, Writer};
@@ -18,7 +18,8 @@ impl Handle {
         alloc: Global,
         reader: &mut R,
     ) -> Result<Handle, TinkError>
-        ensures answer { GivesBy handle_without_secrets result (R.reads reader.old) (R.faults reader.old) (R.faults reader.new) }
+        ensures answer { GivesBy handle_without_secrets result
+            (R.reads reader.old) (R.faults reader.old) (R.faults reader.new) }
         ensures count { R.faults reader.old ≤ R.faults reader.new }
         ensures leaves { R.leaves reader.old reader.new }
         ensures same { R.same reader.old reader.new }
@@ -37,7 +38,8 @@ impl Handle {
         alloc: Global,
         writer: &mut W,
     ) -> Result<(), TinkError>
-        ensures answer { Writes W.answers W.writes W.refused W.faults result (without_secrets self.now) writer.old writer.new }
+        ensures answer { MakesAndWrites W.answers W.writes W.refused W.faults result
+            (without_secrets self.now) writer.old writer.new }
         ensures count { W.faults writer.old ≤ W.faults writer.new }
         ensures same { W.same writer.old writer.new }
     {

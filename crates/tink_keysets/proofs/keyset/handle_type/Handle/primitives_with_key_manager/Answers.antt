@@ -1,8 +1,8 @@
-use Rattle.std.proofs.Common.{◌≡◌, ◌∙◌, true, false, inr, option_map, rules, ap, sym}
+use Rattle.std.proofs.Common.{◌≡◌, ◌∙◌, true, false, inr, option_copied, rules, ap, sym}
 use Rattle.tink_proto.specs.declared.messages.keys.Keyset.{Keyset}
-use Rattle.tink_sets.specs.Entries.{entry_of, prefix_of}
+use Rattle.tink_sets.specs.Entries.{entry_of}
 use Rattle.keyset_model.specs.Validity.{is_validated}
-use Rattle.tink_building.specs.Built.{built_entry, HasEntries}
+use Rattle.tink_building.specs.Built.{built_entry, IsSetOf}
 use Rattle.tink_building.proofs.BuildingFacts.{none_given, set_given}
 use Rattle.tink_keysets.proofs.keyset.handle_type.Handle.primitives_with_key_manager.Goals as goal
 
@@ -16,7 +16,7 @@ pub returns : goal.returns
 returns g c =
     let passed : c.is_validated.result ≡ true = search rules in
     let valid : is_validated c.args.self.now ≡ true = ap is_validated (sym c.self.view_is) ∙ sym c.is_validated.ensures ∙ passed in
-    set_given (λ n es set. HasEntries prefix_of (λ e. e.key_id) n es set.primary set.entries) c.build_set.result
-    (built_entry g.M.KeyManager.url g.M.KeyManager.supports g.M.KeyManager.builds entry_of c.args.registry.now.managers (option_map (λ m. m.now) c.args.km))
+    set_given IsSetOf c.build_set.result
+    (built_entry g.M.KeyManager.url g.M.KeyManager.supports g.M.KeyManager.builds entry_of c.args.registry.now.managers (option_copied c.args.km))
     c.args.self.now c.keys.result.now c.self.inside.ks.primary_key_id valid c.keys.ensures
     (ap (λ (ks : Keyset). ks.primary_key_id) c.self.view_is) c.build_set.ensures
