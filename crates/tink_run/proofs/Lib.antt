@@ -14,3 +14,4 @@ pub mod RowFacts
 pub mod LoadSteps
 mod StandardFacts
 pub mod RotationLaws
+pub mod FitFacts

@@ -11,3 +11,4 @@ pub mod Valid
 pub mod AllKeys
 pub mod HeldKeys
 pub mod Rotation
+pub mod Fitting

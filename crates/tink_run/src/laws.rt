@@ -7,6 +7,7 @@
 //! that is added is new, and that a refused command leaves the keyset, are laws of tink_keysets. What commands leave of a
 //! stream's opening, by any rows of types of keys, are laws of loading_model.
 
+ghost use Rattle.tink_run.specs.Fitting.{KeepsFit};
 ghost use Rattle.tink_run.specs.Rotation.{RunOpensAfterAdding, RunOpensAfterAll, RunOpensById, RunOpensEdited};
 
 /// What `run` opens under the encoding of the keyset that any list of commands makes, and to what text, is what this
@@ -14,6 +15,13 @@ ghost use Rattle.tink_run.specs.Rotation.{RunOpensAfterAdding, RunOpensAfterAll,
 #[tactic(auto, using(crate::proofs::RotationLaws::run_opens_edited))]
 pub fn law_run_opens_edited()
     ensures { RunOpensEdited }
+{}
+
+/// A keyset that fits the wire format fits it after any commands, where from draws that are bytes the managers give data
+/// of keys that fit, under each id of 32 bits, and leave bytes.
+#[tactic(auto, using(crate::proofs::FitFacts::keeps_fit))]
+pub fn law_edited_fits()
+    ensures { KeepsFit }
 {}
 
 /// A stream that opened before a list of commands, `run` opens under the encoding of the edited keyset to the same text,
