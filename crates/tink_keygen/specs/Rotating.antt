@@ -1,0 +1,54 @@
+-- New and rotated keysets, by the name of a template.
+use Rattle.std.specs.Prelude.{◌≡◌, ◌⊎◌, ◌++◌, ◌∷◌, ℕ, List, [], Option, Some, None, Result, Ok, Err, true, if◌then◌else◌}
+use Rattle.hex.specs.Hex.{encode_lower}
+use Rattle.wire_format.specs.Message.{decoded, encoded}
+use Rattle.tink_io.specs.declared.error.Kind.{Kind}
+use Rattle.tink_io.specs.declared.error.Kind.TheVariants.{BadKeyset, InvalidKeyset, NoFreshId, UnknownTemplate}
+use Rattle.tink_io.specs.Told.{or_refused}
+use Rattle.tink_proto.specs.Messages.{keyset}
+use Rattle.tink_proto.specs.declared.messages.keys.KeyData.{KeyData}
+use Rattle.tink_proto.specs.declared.messages.keys.KeyTemplate.{KeyTemplate}
+use Rattle.tink_proto.specs.declared.messages.keys.Keyset.{Keyset}
+use Rattle.keyset_model.specs.Adding.{added, keyset_reply}
+use Rattle.keyset_model.specs.Validity.{is_valid}
+use Rattle.tink_registry.specs.Listed.{template_of}
+use Rattle.tink_keysets.specs.Encrypted.{chained}
+use Rattle.tink_keysets.specs.Managed.{data_by}
+use Rattle.tink.specs.Managers.{row_of}
+use Rattle.tink.specs.Registered.{with_everything}
+
+-- the registered template of a name
+unfoldable pub template_named : List ℕ → Option KeyTemplate
+template_named name = template_of name with_everything.templates
+
+-- the data of a new key by a template and the ten managers, and the draws that are left
+unfoldable pub new_data : KeyTemplate → List ℕ → Result KeyData Kind × List ℕ
+new_data kt draws = data_by (λ m. (row_of m).url) (λ m. (row_of m).made_data) with_everything.managers kt draws
+
+-- a keyset with a new key by a template as its primary one
+abbrev pub rotated : KeyTemplate → List ℕ → Keyset → Result Keyset Kind
+rotated kt draws ks = (keyset_reply (added ks kt true (new_data kt draws))).0
+
+-- the same where the template is there and the keyset wasn't refused: the template comes first
+abbrev pub rotated_where : Option KeyTemplate → Result Keyset Kind → List ℕ → Result Keyset Kind
+rotated_where None start draws = Err UnknownTemplate
+rotated_where (Some kt) start draws = chained (rotated kt draws) start
+
+abbrev pub rotated_by : List ℕ → Result Keyset Kind → List ℕ → Result Keyset Kind
+rotated_by name start draws = rotated_where (template_named name) start draws
+
+-- a keyset that is valid
+abbrev pub valid_or_refused : Keyset → Result Keyset Kind
+valid_or_refused ks = if is_valid ks then Ok ks else Err InvalidKeyset
+
+-- the valid keyset that bytes spell
+abbrev pub valid_keyset : List ℕ → Result Keyset Kind
+valid_keyset bytes = chained valid_or_refused (or_refused BadKeyset (decoded keyset.read bytes))
+
+-- why a keyset isn't made where draws suffice
+abbrev pub IsUnmade : List ℕ → Result Keyset Kind → Kind → Type 0
+IsUnmade name start kind = ((kind ≡ UnknownTemplate) × (template_named name ≡ None)) ⊎ (start ≡ Err kind) ⊎ (kind ≡ NoFreshId)
+
+-- a keyset's bytes in lower-case hexadecimal digits, and a newline
+abbrev pub line_of : Keyset → List ℕ
+line_of ks = encode_lower (encoded keyset.write ks) ++ 10 ∷ []
