@@ -4,17 +4,24 @@ use Rattle.std.proofs.lemmas.Bool.{cases_lt}
 use Rattle.std.proofs.lemmas.List.{length-take, take-append-le, drop-append-le}
 use Rattle.std.specs.declared.option.Option.{Option}
 use Rattle.std.specs.Io.KnownBytes.{Appends}
-use Rattle.stream_model.specs.Cut.{full_chunks, open_chunk, room_at, sealed, unmarked}
+use Rattle.stream_model.specs.Cut.{full_chunks, open_chunk, room_at, numbered, sealed, unmarked}
 use Rattle.stream_model.proofs.CutFacts.{full_chunks_fits, full_chunks_more, open_chunk_fits, open_chunk_more, room_at_next, sealed_split}
 use Rattle.tink_io.specs.Faults.{Rose}
 use Rattle.tink_io.specs.Written.{AppendsFront}
 use Rattle.tink_io.specs.declared.error.Kind.{Kind}
 use Rattle.tink_io.specs.declared.error.Kind.TheVariants.{WriteFault, TooManySegments, FailedBefore}
 use Rattle.tink_io.specs.declared.error.Kind.TheVariants as kind
-use Rattle.tink_streams.specs.declared.writing.Mode.TheVariants.{Open}
+use Rattle.tink_segment_traits.specs.declared.segment_traits.SegmentEncrypter.{Ghosts}
+use Rattle.tink_streams.specs.Sealers.{segment_map}
+use Rattle.tink_streams.specs.declared.sealer.Sealer.{Sealer}
+use Rattle.tink_streams.specs.declared.writing.SegmentWriter.{SegmentWriter}
+use Rattle.tink_streams.specs.declared.writing.Mode.TheVariants.{Open, Closed}
 use Rattle.tink_streams.specs.Writing.{WriterMoment, filled, Wrote, WriteRefused, CloseRefused, ClosedBy}
 use Rattle.tink_streams.proofs.WritingFacts.{stops_front}
-use Rattle.tink_large.specs.Coming.{come_of, to_come}
+use Rattle.tink_streams.proofs.ReadingFacts.{numbered_longer}
+use Rattle.tink_segments.specs.StreamSegments.{length-segment_by, overhead_by, segment_by}
+use Rattle.tink_segments.specs.declared.stream_segment.StreamSegment.{StreamSegment}
+use Rattle.tink_large.specs.Coming.{come_of, comes, to_come}
 
 -- a segment is longer than its text by so many bytes
 abbrev pub IsLonger : (ℕ → Bool → List ℕ → List ℕ) → ℕ → Type 0
@@ -163,3 +170,30 @@ last_step seg a b m n G held got now c =
     let none : come_of seg a b n.mode n.number n.held [] ≡ [] = ap (λ o. come_of seg a b o n.number n.held []) c.is_closed in
     ap (λ x. G ++ x) none ∙ append-nil G ∙ told ∙ sym (to_come_fits seg a b m.number m.held held)
     ∙ ap (to_come seg a b m.number) (sym (append-nil m.held)) ∙ sym (come_open seg a b m [] c.was_open)
+
+-- a cipher's segments are longer by its overhead
+pub cipher_longer : (cipher : StreamSegment) (prefix : List ℕ) (size o : ℕ) → o ≡ overhead_by cipher → IsLonger (numbered (segment_by cipher) size prefix) o
+cipher_longer cipher prefix size o e = numbered_longer (segment_by cipher) size prefix o (λ n t. length-segment_by cipher n t ∙ ap (λ x. length t + x) (sym e))
+
+-- where nothing was pending, a piece was sealed into what is now
+pub refilled : (come after : List ℕ → List ℕ) (given : ℕ) (G before piece Y T : List ℕ) → given ≡ 0 → G ++ after Y ≡ come (piece ++ Y) → piece ++ Y ≡ T → before ≡ [] → drop given G ++ after Y ≡ before ++ come T
+refilled come after given G before piece Y T z e text none = ap (λ k. drop k G ++ after Y) z ∙ e ∙ ap come text ∙ ap (λ x. x ++ come T) (sym none)
+
+-- and at the end of the text the last segment
+pub last_refilled : (come after : List ℕ → List ℕ) (given : ℕ) (G before Y : List ℕ) → given ≡ 0 → Y ≡ [] → G ++ after [] ≡ come [] → before ≡ [] → drop given G ++ after Y ≡ before ++ come Y
+last_refilled come after given G before Y z end e none = ap (λ k. drop k G ++ after Y) z ∙ ap (λ y. G ++ after y) end ∙ e ∙ ap come (sym end) ∙ ap (λ x. x ++ come Y) (sym none)
+
+-- a close of an open writer that went well has closed it
+pub is_closed : (seg : ℕ → Bool → List ℕ → List ℕ) (m n : WriterMoment) → m.mode ≡ Open → ClosedBy seg m n ⊎ ((m.mode ≡ Closed) × (n ≡ m)) → ClosedBy seg m n
+is_closed seg m n is_open (inl c) = c
+is_closed seg m n is_open (inr c) = let e = sym is_open ∙ c.0 in absurd (cc)
+
+-- the rooms of all chunks are as wide as that of the first
+pub wide_at : (a b i : ℕ) → 2 ≤ a → a ≤ b → 2 ≤ room_at a b i
+wide_at a b zero p q = p
+wide_at a b (suc i) p q = omega arith
+
+module _ {E : Type 0} {g : Ghosts E} where
+  -- what comes of a writer, by the sealer that it has kept
+  pub come_under : (w : SegmentWriter E g) (s : Sealer E g) (text : List ℕ) → w.sealer ≡ s → comes w text ≡ come_of (segment_map s) s.first s.room w.mode w.segments w.held.items text
+  come_under w s text e = ap (λ (x : Sealer E g). come_of (segment_map x) x.first x.room w.mode w.segments w.held.items text) e

@@ -1,5 +1,5 @@
 -- The text piece by piece.
-use Rattle.std.proofs.Common.{◌≡◌, ◌+◌, ℕ, zero, suc, List, [], ◌∷◌, ◌++◌, length, map, refl, sym, ap, ◌∙◌, arith, add-zero}
+use Rattle.std.proofs.Common.{◌≡◌, ◌+◌, ℕ, zero, suc, List, [], ◌∷◌, ◌++◌, length, map, refl, sym, ap, ◌∙◌, arith, add-zero, zero-add}
 use Rattle.std.specs.List.{range_with_len}
 use Rattle.std.proofs.lemmas.List.FromFn.{length-map-range_with_len, map-range_with_len_more}
 use Rattle.tink_large.specs.Large.{byte_at, text_from}
@@ -19,7 +19,7 @@ unfolding text_from
 text_from_more n at i place e = map-range_with_len_more (byte_at n) at i place e
 
 bytes_apart : (f : ℕ → ℕ) (at p q : ℕ) → map f (range_with_len at (p + q)) ≡ map f (range_with_len at p) ++ map f (range_with_len (at + p) q)
-bytes_apart f at zero q = ap (λ (k : ℕ). map f (range_with_len k q)) (sym (add-zero at))
+bytes_apart f at zero q = ap (λ (k : ℕ). map f (range_with_len at k)) (zero-add q) ∙ ap (λ (k : ℕ). map f (range_with_len k q)) (sym (add-zero at))
 bytes_apart f at (suc p) q =
     let count : suc p + q ≡ suc (p + q) = omega arith in
     let place : (at + 1) + p ≡ at + suc p = omega arith in

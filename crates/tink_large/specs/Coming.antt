@@ -31,7 +31,10 @@ module _ {E : Type 0} {g : Ghosts E} where
   abbrev pub moment_at : SegmentWriter E g → Pending → WriterMoment
   moment_at w p = record { mode = w.mode; number = w.segments; held = w.held.items; got = Some p.bytes.items; faults = p.faults }
 
+  -- what comes of a text behind what a writer holds
+  abbrev pub comes : SegmentWriter E g → List ℕ → List ℕ
+  comes w text = come_of (segment_map w.sealer) w.sealer.first w.sealer.room w.mode w.segments w.held.items text
+
   -- what is pending, and what comes of the text from a place on
   abbrev pub left_of : ℕ → ℕ → SegmentWriter E g → Pending → List ℕ
-  left_of n at w p =
-      pending_bytes p ++ come_of (segment_map w.sealer) w.sealer.first w.sealer.room w.mode w.segments w.held.items (text_from n at (text_length n - at))
+  left_of n at w p = pending_bytes p ++ comes w (text_from n at (text_length n - at))

@@ -1,10 +1,8 @@
 //! The stream of a large text, made while it is read.
 
-ghost use Rattle.std.specs.Prelude.{◌≡◌, ◌≤◌, ◌<◌, ◌+◌, ◌*◌, ◌-◌, ◌^◌, ℕ, List, [], true, false, Some, length, vec_len, vec_capacity};
-ghost use Rattle.tink_streams.specs.Sealers.{segment_map};
-ghost use Rattle.tink_streams.specs.Writing.{ClosedBy, Wrote};
-ghost use Rattle.tink_streams.specs.declared.writing.Mode.TheVariants.{Open};
-ghost use Rattle.tink_large.specs.Coming.{left_of, moment_at, pending_bytes};
+ghost use Rattle.std.specs.Prelude.{◌≡◌, ◌≤◌, ◌<◌, ◌+◌, ◌*◌, ◌-◌, ◌^◌, ◌++◌, ℕ, List, [], true, false, Some, length, vec_len, vec_capacity};
+ghost use Rattle.tink_streams.specs.declared.writing.Mode.TheVariants.{Open, Closed};
+ghost use Rattle.tink_large.specs.Coming.{comes, left_of, pending_bytes};
 ghost use Rattle.tink_large.specs.Large.{text_from, text_length};
 
 use crate::measuring::Measured;
@@ -42,10 +40,14 @@ fn seal_piece(writer: &mut SegmentWriter<StreamSegment>, pending: &mut Pending, 
     requires open { writer.old.mode ≡ Open }
     requires empty { pending.old.bytes.items ≡ [] }
     requires piece { length piece.now ≤ writer.old.sealer.first }
+    requires wide { 2 ≤ writer.old.sealer.first }
     requires few { writer.old.segments + 1 < 2 ^ 32 }
     requires room { writer.old.sealer.room + writer.old.sealer.overhead < pending.old.room }
-    ensures wrote { Wrote (segment_map writer.old.sealer) writer.old.sealer.first writer.old.sealer.room
-        (moment_at writer.old pending.old) (moment_at writer.new pending.new) piece.now }
+    ensures left { (text : List ℕ) → pending.new.bytes.items ++ comes writer.new text
+        ≡ comes writer.old (piece.now ++ text) }
+    ensures few { 2 * writer.new.segments + vec_len writer.new.held
+        ≤ 2 * writer.old.segments + vec_len writer.old.held + length piece.now }
+    ensures open { writer.new.mode ≡ Open }
     ensures sealer { writer.new.sealer ≡ writer.old.sealer }
     ensures room { pending.new.room ≡ pending.old.room }
     ensures given { pending.new.given ≡ pending.old.given }
@@ -61,8 +63,8 @@ fn seal_last(writer: &mut SegmentWriter<StreamSegment>, pending: &mut Pending)
     requires open { writer.old.mode ≡ Open }
     requires empty { pending.old.bytes.items ≡ [] }
     requires room { writer.old.sealer.room + writer.old.sealer.overhead < pending.old.room }
-    ensures closed { ClosedBy (segment_map writer.old.sealer)
-        (moment_at writer.old pending.old) (moment_at writer.new pending.new) }
+    ensures left { pending.new.bytes.items ++ comes writer.new [] ≡ comes writer.old [] }
+    ensures closed { writer.new.mode ≡ Closed }
     ensures sealer { writer.new.sealer ≡ writer.old.sealer }
     ensures room { pending.new.room ≡ pending.old.room }
     ensures given { pending.new.given ≡ pending.old.given }
