@@ -1,0 +1,40 @@
+-- What is still to come of a stream while its text is sealed.
+use Rattle.std.specs.Prelude.{ℕ, ◌+◌, ◌-◌, Bool, true, List, [], ◌++◌, length, drop, Some}
+use Rattle.stream_model.specs.Cut.{full_chunks, open_chunk, room_at, unmarked}
+use Rattle.tink_segment_traits.specs.declared.segment_traits.SegmentEncrypter.{Ghosts}
+use Rattle.tink_streams.specs.Sealers.{segment_map}
+use Rattle.tink_streams.specs.Writing.{WriterMoment}
+use Rattle.tink_streams.specs.declared.writing.Mode.{Mode}
+use Rattle.tink_streams.specs.declared.writing.Mode.TheVariants.{Open, Closed, Failed}
+use Rattle.tink_streams.specs.declared.writing.SegmentWriter.{SegmentWriter}
+use Rattle.tink_large.specs.Large.{text_from, text_length}
+use Rattle.tink_large.specs.declared.pending.Pending.{Pending}
+
+-- the bytes that were not yet given
+abbrev pub pending_bytes : Pending → List ℕ
+pending_bytes p = drop p.given p.bytes.items
+
+-- the segments of a text from a number on, the last one marked
+unfoldable pub to_come : (ℕ → Bool → List ℕ → List ℕ) → ℕ → ℕ → ℕ → List ℕ → List ℕ
+to_come seg first room i text =
+    let full = full_chunks (room_at first room i) room text in
+    unmarked seg i full ++ seg (i + length full) true (open_chunk (room_at first room i) room text)
+
+-- the same where a writer is open, which holds the first bytes of the text
+abbrev pub come_of : (ℕ → Bool → List ℕ → List ℕ) → ℕ → ℕ → Mode → ℕ → List ℕ → List ℕ → List ℕ
+come_of seg first room Open i held text = to_come seg first room i (held ++ text)
+come_of seg first room Closed i held text = []
+come_of seg first room (Failed c) i held text = []
+
+module _ {E : Type 0} {g : Ghosts E} where
+  -- a writer at this moment, by what its sink has
+  abbrev pub moment_at : SegmentWriter E g → Pending → WriterMoment
+  moment_at w p = record { mode = w.mode; number = w.segments; held = w.held.items; got = Some p.bytes.items; faults = p.faults }
+
+  -- what comes of a text behind what a writer holds
+  abbrev pub comes : SegmentWriter E g → List ℕ → List ℕ
+  comes w text = come_of (segment_map w.sealer) w.sealer.first w.sealer.room w.mode w.segments w.held.items text
+
+  -- what is pending, and what comes of the text from a place on
+  abbrev pub left_of : ℕ → ℕ → SegmentWriter E g → Pending → List ℕ
+  left_of n at w p = pending_bytes p ++ comes w (text_from n at (text_length n - at))

@@ -1,0 +1,60 @@
+-- The large text of a number, its stream, and what is told of it.
+use Rattle.std.specs.Prelude.{◌≡◌, ◌≤◌, ℕ, ◌+◌, ◌*◌, ◌%◌, List, [], ◌∷◌, ◌++◌, length, map, drop, Some, codes, decimal}
+use Rattle.std.specs.List.{range_with_len}
+use Rattle.hash_keys.specs.declared.Hash.TheVariants.{Sha256}
+use Rattle.hex.specs.Hex.{encode_lower}
+use Rattle.sha2.specs.Sha256.{sha256}
+use Rattle.stream_model.specs.Key.{StreamKey}
+use Rattle.stream_model.specs.Key.SegmentKind.{CtrHmac}
+use Rattle.stream_model.specs.Sealing.{chunk_count, drawn, prefix_of, salt_of, stream}
+use Rattle.tink_large.specs.declared.measuring.Measured.{Measured}
+
+-- the byte at a place
+abbrev pub byte_at : ℕ → ℕ → ℕ
+byte_at n i = (31 * i + n) % 251
+
+-- so many bytes from a place on
+unfoldable pub text_from : ℕ → ℕ → ℕ → List ℕ
+text_from n at count = map (byte_at n) (range_with_len at count)
+
+abbrev pub text_length : ℕ → ℕ
+text_length n = n + 1000000
+
+-- the text of a number
+unfoldable pub large_text : ℕ → List ℕ
+large_text n = text_from n 0 (text_length n)
+
+-- Its key: HKDF and the tags by SHA-256, AES keys of 16 bytes, tags of 32, segments of 4,096.
+abbrev pub large_key : StreamKey
+large_key = record {
+  main = range_with_len 0 16;
+  hkdf_hash = Some Sha256;
+  derived = 16;
+  segment = 4096;
+  offset = 0;
+  kind = CtrHmac Sha256 32;
+  out = [];
+}
+
+-- its stream without associated data, whose salt and prefix are the first draws
+unfoldable pub large_stream : ℕ → List ℕ → List ℕ
+large_stream n draws = stream large_key [] (salt_of large_key draws) (prefix_of large_key draws) (large_text n)
+
+-- the lengths of text and stream, the number of segments and the digest of the stream
+pub record IsMeasured (n : ℕ) (draws left : List ℕ) (m : Measured) : Type 0 where
+  pub enough : drawn large_key ≤ length draws
+  pub rest : left ≡ drop (drawn large_key) draws
+  pub text : m.text ≡ length (large_text n)
+  pub stream : m.stream ≡ length (large_stream n draws)
+  pub segments : m.segments ≡ chunk_count large_key (large_text n)
+  pub sha256 : m.sha256 ≡ sha256 (large_stream n draws)
+
+-- a name, a space, a text and a newline
+abbrev pub line : List ℕ → List ℕ → List ℕ
+line name value = name ++ 32 ∷ value ++ 10 ∷ []
+
+-- the four lines
+abbrev pub large_lines : Measured → List ℕ
+large_lines m =
+    line (codes "text") (decimal m.text) ++ line (codes "stream") (decimal m.stream)
+    ++ line (codes "segments") (decimal m.segments) ++ line (codes "sha256") (encode_lower m.sha256)

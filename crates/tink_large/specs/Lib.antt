@@ -1,0 +1,4 @@
+pub mod Large
+pub mod Coming
+pub mod SealedText
+pub mod Passing
