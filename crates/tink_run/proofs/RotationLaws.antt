@@ -7,7 +7,7 @@ use Rattle.wire_format.specs.Message.{encoded}
 use Rattle.wire_format.proofs.ReadingLaws.{written_again}
 use Rattle.keyset_model.specs.Commands.{after_all}
 use Rattle.stream_model.specs.Agree.{joined}
-use Rattle.stream_model.specs.Opening.{OpeningKey, IsChosen, IsStream}
+use Rattle.stream_model.specs.Opening.{IsStream}
 use Rattle.stream_model.proofs.OpeningFacts.{IsChosen-unique}
 use Rattle.loading_model.specs.Loading.{Loaded, load_decoded, load_keyset, opening_keys}
 use Rattle.loading_model.specs.Rotation.{OpensTo}
@@ -15,7 +15,7 @@ use Rattle.loading_model.proofs.RotationFacts.{streams_outlive, streams_outlive_
 use Rattle.tink_streaming_aead.proofs.SealedFacts.{one_list}
 use Rattle.tink_run.specs.AllKeys.{load, rows}
 use Rattle.tink_run.specs.Outside.{Outside}
-use Rattle.tink_run.specs.Rotation.{IsUsed, Opens, OpensAs, RunOpensAfterAdding, RunOpensAfterAll, RunOpensById, RunOpensEdited, RunsTo}
+use Rattle.tink_run.specs.Rotation.{Opens, OpensAs, RunOpensAfterAdding, RunOpensAfterAll, RunOpensById, RunOpensEdited, RunsTo}
 use Rattle.tink_run.specs.Run.{CanOpen, IsWholeText}
 use Rattle.tink_run.specs.declared.report.Report.{Report}
 use Rattle.tink_run.proofs.OpenLemmas.{chosen_lawful}
