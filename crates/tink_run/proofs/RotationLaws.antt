@@ -7,7 +7,7 @@ use Rattle.wire_format.specs.Message.{encoded}
 use Rattle.wire_format.proofs.ReadingLaws.{written_again}
 use Rattle.keyset_model.specs.Commands.{after_all}
 use Rattle.stream_model.specs.Agree.{joined}
-use Rattle.stream_model.specs.Opening.{OpeningKey, IsChosen, IsStream}
+use Rattle.stream_model.specs.Opening.{IsStream}
 use Rattle.stream_model.proofs.OpeningFacts.{IsChosen-unique}
 use Rattle.loading_model.specs.Loading.{Loaded, load_decoded, load_keyset, opening_keys}
 use Rattle.loading_model.specs.Rotation.{OpensTo}
@@ -15,7 +15,7 @@ use Rattle.loading_model.proofs.RotationFacts.{streams_outlive, streams_outlive_
 use Rattle.tink_streaming_aead.proofs.SealedFacts.{one_list}
 use Rattle.tink_run.specs.AllKeys.{load, rows}
 use Rattle.tink_run.specs.Outside.{Outside}
-use Rattle.tink_run.specs.Rotation.{IsUsed, Opens, OpensAs, RunOpensAfterAdding, RunOpensAfterAll, RunOpensById, RunOpensEdited, RunsTo}
+use Rattle.tink_run.specs.Rotation.{Opens, OpensAs, RunOpensAfterAdding, RunOpensAfterAll, RunOpensById, RunOpensEdited, RunsTo}
 use Rattle.tink_run.specs.Run.{CanOpen, IsWholeText}
 use Rattle.tink_run.specs.declared.report.Report.{Report}
 use Rattle.tink_run.proofs.OpenLemmas.{chosen_lawful}
@@ -27,7 +27,8 @@ encoded_loads ks fits = ap (load_decoded rows) (written_again keyset ks fits)
 module _ (ks : Keyset) (aad S : List ℕ) (fits : IsTrue (keyset.fits ks)) where
   from_run : CanOpen (encoded keyset.write ks) aad S → (text : List ℕ) × Opens ks aad S text
   from_run c =
-      let opens = record { key = c.key; chosen = c.chosen; texts = c.texts; stream = c.stream; whole = refl } in
+      let opens : OpensTo c.loaded aad S (joined c.texts) =
+      record { key = c.key; chosen = c.chosen; texts = c.texts; stream = c.stream; whole = refl } in
       (joined c.texts, (c.loaded, sym (encoded_loads ks fits) ∙ c.loads, opens))
 
   to_run : (text : List ℕ) → Opens ks aad S text → CanOpen (encoded keyset.write ks) aad S
@@ -61,8 +62,9 @@ module _ (ks : Keyset) (aad S : List ℕ) (fits : IsTrue (keyset.fits ks)) where
   writes_text : (text G : List ℕ) (new : Outside) (report : Report) → Opens ks aad S text
       → IsWholeText (encoded keyset.write ks) aad S G new report → new.got ≡ Some (G ++ text)
   writes_text text G new report o w =
-      let opens = record { key = w.key; chosen = w.chosen; texts = w.texts; stream = w.stream; whole = refl } in
-      let told = (w.loaded, sym (encoded_loads ks fits) ∙ w.loads, opens) in
+      let opens : OpensTo w.loaded aad S (joined w.texts) =
+      record { key = w.key; chosen = w.chosen; texts = w.texts; stream = w.stream; whole = refl } in
+      let told : Opens ks aad S (joined w.texts) = (w.loaded, sym (encoded_loads ks fits) ∙ w.loads, opens) in
       w.written ∙ ap (λ t. Some (G ++ t)) (one_text text (joined w.texts) o told)
 
   opens_as : OpensAs ks aad S

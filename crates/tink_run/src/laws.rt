@@ -1,18 +1,18 @@
 //! What `run` opens after a keyset was edited. These functions do nothing: their contracts are the laws.
 //!
 //! How the pieces fit: each call of a `Manager` is the command of its name on the keyset and the draws (`edit` of
-//! keyset_model), so that calls one after another make `after_all` of them. `handle` gives a handle of that keyset,
-//! `insecure::keyset_material` its message, and `encode` the message's bytes, where it fits the wire format. Under these
-//! bytes `run` opens a stream as its contract says; what that is for the edited keyset, the laws here say. That an id
-//! that is added is new, and that a refused command leaves the keyset, are laws of tink_keysets. What commands leave of a
-//! stream's opening, by any rows of types of keys, are laws of loading_model.
+//! keyset_model; `add` as the primary key is `Rotate`), so that calls one after another make `after_all` of them.
+//! `handle` gives a handle of that keyset, `insecure::keyset_material` its message, and `encode` the message's bytes,
+//! where it fits the wire format. Under these bytes `run` opens a stream as its contract says; what that is for the
+//! edited keyset, the laws here say. That an id that is added is new, and that a refused command leaves the keyset, are
+//! laws of tink_keysets (`law_fresh_id`, `law_refused_adding`, `law_refused_command`). What commands leave of a stream's
+//! opening, by any rows of types of keys, are laws of loading_model.
 
 ghost use Rattle.tink_run.specs.Fitting.{KeepsFit};
 ghost use Rattle.tink_run.specs.Rotation.{RunOpensAfterAdding, RunOpensAfterAll, RunOpensById, RunOpensEdited};
 
 /// What `run` opens under the encoding of the keyset that any list of commands makes, and to what text, is what this
 /// keyset opens. It is one text, and an open that is Ok has written it.
-#[tactic(auto, using(crate::proofs::RotationLaws::run_opens_edited))]
 pub fn law_run_opens_edited()
     ensures { RunOpensEdited }
 {}
@@ -26,7 +26,6 @@ pub fn law_edited_fits()
 
 /// A stream that opened before a list of commands, `run` opens under the encoding of the edited keyset to the same text,
 /// where that keyset loads.
-#[tactic(auto, using(crate::proofs::RotationLaws::run_opens_after_adding, crate::proofs::RotationLaws::run_opens_after_all, crate::proofs::RotationLaws::run_opens_by_id))]
 pub fn law_run_opens_after_rotation()
     // Where each command adds a key, rotates or chooses the primary key.
     ensures adding { RunOpensAfterAdding }

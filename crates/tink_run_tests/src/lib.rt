@@ -12,8 +12,6 @@ mod fault_tests;
 #[cfg(test)]
 mod keyset_tests;
 #[cfg(test)]
-mod rotation_tests;
-#[cfg(test)]
 mod run_tests;
 #[cfg(test)]
 mod stream_tests;

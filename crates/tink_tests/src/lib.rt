@@ -6,4 +6,6 @@ mod comparing;
 #[cfg(test)]
 mod registry_tests;
 #[cfg(test)]
+mod rotation_tests;
+#[cfg(test)]
 mod tasks;
