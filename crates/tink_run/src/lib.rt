@@ -3,6 +3,7 @@
 #![tactic(auto)]
 
 mod keys;
+mod keysets;
 pub mod load;
 mod open;
 pub mod program;
