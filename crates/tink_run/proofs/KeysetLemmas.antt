@@ -8,7 +8,7 @@ use Rattle.tink_io.specs.declared.error.TinkError.{TinkError}
 use Rattle.tink_proto.specs.declared.messages.keys.Keyset.{Keyset}
 use Rattle.tink_keysets.specs.Managed.{no_keys}
 use Rattle.tink_keygen.specs.Rotating.{IsUnmade}
-use Rattle.tink_run.specs.Keysets.{made_of, of_no_keys, HasNotMade, IsLine, IsRefusal, IsUnmadeBy, IsUnwritten, Rotation, RefusesLine, SpellRotation, WritesLine, WroteFront}
+use Rattle.tink_run.specs.Keysets.{made_keyset, of_no_keys, HasNotMade, IsLine, IsRefusal, IsUnmadeBy, IsUnwritten, Rotation, RefusesLine, SpellRotation, WritesLine, WroteFront}
 use Rattle.tink_run.specs.Outside.{Outside, IsUntouched}
 use Rattle.tink_run.specs.Program.{answer_outcome, keygen_statuses, kind_status, open_statuses, rotate_statuses, seal_statuses, status_of, unmade_statuses, HasCause, HasOwnStatus, HasUnmadeCause, IsAmong, IsEarlyKind, IsUsage, KeysetMeans, Leaves, MakesAsSpelled, Promised, RefusesUnloaded, RefusesUnmade, SpellKeyset}
 use Rattle.tink_run.specs.Words.{KeygenWords, OpenWords, SealWords, SpellNothing}
@@ -185,13 +185,13 @@ keyset_unloaded words old new outcome m = λ keyset kind spelled is.
     elim (asked words old new outcome m) [ inl want ↦ inr want | inr r ↦ absurd (not_keyset words r.0 keyset r.1 spelled) ]
 
 -- what is made is made once
-made_once : (words : List (List ℕ)) (r s : Rotation) → SpellRotation words r → SpellRotation words s → made_of r ≡ made_of s
-made_once words r s p q = ap made_of (rotation-same words r s p q)
+made_once : (words : List (List ℕ)) (r s : Rotation) → SpellRotation words r → SpellRotation words s → made_keyset r ≡ made_keyset s
+made_once words r s p q = ap made_keyset (rotation-same words r s p q)
 
-both_made : (words : List (List ℕ)) (r s : Rotation) (ks : Keyset) (kind : Kind) → SpellRotation words r → SpellRotation words s → made_of r ≡ Ok ks → made_of s ≡ Err kind → ⊥
+both_made : (words : List (List ℕ)) (r s : Rotation) (ks : Keyset) (kind : Kind) → SpellRotation words r → SpellRotation words s → made_keyset r ≡ Ok ks → made_keyset s ≡ Err kind → ⊥
 both_made words r s ks kind p q ok err = let same = sym ok ∙ made_once words r s p q ∙ err in cc same
 
-one_kind : (words : List (List ℕ)) (r s : Rotation) (kind other : Kind) → SpellRotation words r → SpellRotation words s → made_of r ≡ Err kind → made_of s ≡ Err other → kind ≡ other
+one_kind : (words : List (List ℕ)) (r s : Rotation) (kind other : Kind) → SpellRotation words r → SpellRotation words s → made_keyset r ≡ Err kind → made_keyset s ≡ Err other → kind ≡ other
 one_kind words r s kind other p q first second = let same = sym first ∙ made_once words r s p q ∙ second in cc same
 
 -- a refusal but `OutOfMemory` is the keyset's
@@ -203,13 +203,13 @@ unmade_by r UnknownTemplate m = inr m
 unmade_by r NoFreshId m = inr m
 unmade_by r _ m = absurd m
 
-refused_unmade : (words : List (List ℕ)) (old new : Outside) (by : Kind) → KeysetMeans words old new (Refused by) → (r : Rotation) (kind : Kind) → SpellRotation words r → made_of r ≡ Err kind
+refused_unmade : (words : List (List ℕ)) (old new : Outside) (by : Kind) → KeysetMeans words old new (Refused by) → (r : Rotation) (kind : Kind) → SpellRotation words r → made_keyset r ≡ Err kind
     → (kind_status by ≡ kind_status kind) ⊎ (kind_status by ≡ 10)
 refused_unmade words old new OutOfMemory m r kind spelled is = inr refl
 refused_unmade words old new WriteFault m r kind spelled is = absurd (both_made words m.rotation r m.line.keyset kind m.spelled spelled m.line.made is)
 refused_unmade words old new by m r kind spelled is = by_refusal words old new by m r kind spelled is
   where
-    by_refusal : (words : List (List ℕ)) (old new : Outside) (by : Kind) → HasNotMade words old new by → (r : Rotation) (kind : Kind) → SpellRotation words r → made_of r ≡ Err kind
+    by_refusal : (words : List (List ℕ)) (old new : Outside) (by : Kind) → HasNotMade words old new by → (r : Rotation) (kind : Kind) → SpellRotation words r → made_keyset r ≡ Err kind
         → (kind_status by ≡ kind_status kind) ⊎ (kind_status by ≡ 10)
     by_refusal words old new by m r kind spelled is = elim (unmade_by m.rotation by m.refusal) [
       | inl want ↦ inr (ap kind_status want)
@@ -253,12 +253,12 @@ refused_front words old new WriteFault m r spelled is = (m.text, line_along word
 refused_front words old new _ m r spelled is = absurd (omega (arith, is))
 
 refused_succeeds : (words : List (List ℕ)) (old new : Outside) (by : Kind) → KeysetMeans words old new (Refused by) → (r : Rotation) → SpellRotation words r
-    → (keyset : Keyset) → made_of r ≡ Ok keyset → (Rose old.write_faults new.write_faults → ⊥) → kind_status by ≡ 10
+    → (keyset : Keyset) → made_keyset r ≡ Ok keyset → (Rose old.write_faults new.write_faults → ⊥) → kind_status by ≡ 10
 refused_succeeds words old new OutOfMemory m r spelled keyset made faultless = refl
 refused_succeeds words old new WriteFault m r spelled keyset made faultless = absurd (faultless m.written.rose)
 refused_succeeds words old new by m r spelled keyset made faultless = by_refusal words old new by m r spelled keyset made
   where
-    by_refusal : (words : List (List ℕ)) (old new : Outside) (by : Kind) → HasNotMade words old new by → (r : Rotation) → SpellRotation words r → (keyset : Keyset) → made_of r ≡ Ok keyset → kind_status by ≡ 10
+    by_refusal : (words : List (List ℕ)) (old new : Outside) (by : Kind) → HasNotMade words old new by → (r : Rotation) → SpellRotation words r → (keyset : Keyset) → made_keyset r ≡ Ok keyset → kind_status by ≡ 10
     by_refusal words old new by m r spelled keyset made = elim (unmade_by m.rotation by m.refusal) [
       | inl want ↦ ap kind_status want
       | inr unmade ↦ absurd (both_made words r m.rotation keyset by spelled m.spelled made unmade.made)

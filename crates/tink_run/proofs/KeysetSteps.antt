@@ -14,9 +14,9 @@ use Rattle.tink_proto.specs.declared.messages.keys.Keyset.{Keyset}
 use Rattle.keyset_model.specs.Validity.{is_valid}
 use Rattle.tink_keysets.specs.Encrypted.{chained}
 use Rattle.tink_keysets.specs.Managed.{no_keys}
-use Rattle.tink_keygen.specs.Rotating.{line_of, rotated_by, valid_keyset, valid_or_refused, IsUnmade}
+use Rattle.tink_keygen.specs.Rotating.{key_line, rotated_by, valid_keyset, valid_or_refused, IsUnmade}
 use Rattle.tink_run.specs.Draws.{draws_in}
-use Rattle.tink_run.specs.Keysets.{made_of, GivesLine, IsLine, IsRefusal, IsUnmadeBy, IsUnwritten, RefusesLine, Rotation, WritesLine}
+use Rattle.tink_run.specs.Keysets.{made_keyset, GivesLine, IsLine, IsRefusal, IsUnmadeBy, IsUnwritten, RefusesLine, Rotation, WritesLine}
 use Rattle.tink_run.proofs.ProgramLemmas.{length-draws_in}
 
 -- ---- by which kinds a keyset is not made
@@ -55,7 +55,7 @@ pub want_refusal : (r : Rotation) (kind : Kind) → kind ≡ OutOfMemory → IsR
 want_refusal r kind is = subst (λ k. IsRefusal r k) (sym is) tt
 
 -- the values that a call was handed are those of the rotation
-same_made : (r : Rotation) (t : List ℕ) (start : Result Keyset Kind) (d : List ℕ) → t ≡ r.template → start ≡ r.start → d ≡ draws_in r.seed 256 → rotated_by t start d ≡ made_of r
+same_made : (r : Rotation) (t : List ℕ) (start : Result Keyset Kind) (d : List ℕ) → t ≡ r.template → start ≡ r.start → d ≡ draws_in r.seed 256 → rotated_by t start d ≡ made_keyset r
 same_made r t start d template_is start_is draws_are =
     ap (λ x. rotated_by x start d) template_is ∙ ap (λ x. rotated_by r.template x d) start_is ∙ ap (λ x. rotated_by r.template r.start x) draws_are
 
@@ -78,7 +78,7 @@ refusal r t start d e given template_is start_is draws_are (inr told) cause =
 
 -- the line of the keyset that was made
 pub line : {G : Type 0} (r : Rotation) (t : List ℕ) (start : Result Keyset Kind) (d : List ℕ) (ks : Keyset) (result : Result (Vec ℕ G) TinkError) → t ≡ r.template → start ≡ r.start → d ≡ draws_in r.seed 256
-    → rotated_by t start d ≡ Ok ks → IfOk result (λ v. v.items ≡ line_of ks) → IfErr result (λ e. e ≡ record { kind = OutOfMemory }) → GivesLine r result
+    → rotated_by t start d ≡ Ok ks → IfOk result (λ v. v.items ≡ key_line ks) → IfErr result (λ e. e ≡ record { kind = OutOfMemory }) → GivesLine r result
 line r t start d ks (Ok v) template_is start_is draws_are made text want =
     record { keyset = ks; made = sym (same_made r t start d template_is start_is draws_are) ∙ made; text_is = text }
 line r t start d ks (Err e) template_is start_is draws_are made text want = want_refusal r e.kind (ap (λ (x : TinkError). x.kind) want)

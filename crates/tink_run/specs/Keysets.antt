@@ -8,7 +8,7 @@ use Rattle.tink_io.specs.declared.error.Kind.TheVariants.{OutOfMemory, WriteFaul
 use Rattle.tink_io.specs.declared.error.TinkError.{TinkError}
 use Rattle.tink_proto.specs.declared.messages.keys.Keyset.{Keyset}
 use Rattle.tink_keysets.specs.Managed.{no_keys}
-use Rattle.tink_keygen.specs.Rotating.{line_of, rotated_by, valid_keyset, IsUnmade}
+use Rattle.tink_keygen.specs.Rotating.{key_line, rotated_by, valid_keyset, IsUnmade}
 use Rattle.tink_run.specs.Draws.{draws_in}
 use Rattle.tink_run.specs.Outside.{Outside, IsUntouched}
 use Rattle.tink_run.specs.Words.{KeygenWords, RotateWords}
@@ -33,18 +33,18 @@ SpellRotation words r =
     ⊎ ((keyset : List ℕ) × RotateWords words keyset r.template r.seed × (r ≡ of_keyset keyset r.template r.seed))
 
 -- the keyset that is made with the seed's first 256 words as draws, or why there is none
-abbrev pub made_of : Rotation → Result Keyset Kind
-made_of r = rotated_by r.template r.start (draws_in r.seed 256)
+abbrev pub made_keyset : Rotation → Result Keyset Kind
+made_keyset r = rotated_by r.template r.start (draws_in r.seed 256)
 
 -- the line of the keyset that is made
 pub record IsLine (r : Rotation) (text : List ℕ) : Type 0 where
   pub keyset : Keyset
-  pub made : made_of r ≡ Ok keyset
-  pub text_is : text ≡ line_of keyset
+  pub made : made_keyset r ≡ Ok keyset
+  pub text_is : text ≡ key_line keyset
 
 -- there is none, by this kind
 pub record IsUnmadeBy (r : Rotation) (kind : Kind) : Type 0 where
-  pub made : made_of r ≡ Err kind
+  pub made : made_keyset r ≡ Err kind
   pub cause : IsUnmade r.template r.start kind
 
 -- a refusal before anything is written. The seed's draws always suffice; `OutOfMemory` is free.

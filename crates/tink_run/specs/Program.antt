@@ -18,7 +18,7 @@ use Rattle.tink_run.specs.Outside.{Outside, IsUntouched, HasNoFault}
 use Rattle.tink_run.specs.Run.{AnswerMeans, IsEarly, Told, IsWholeStream, IsWholeText, IsOfAgreeing, OnlyAgreeing, CanSeal, CanOpen, IsComplete}
 use Rattle.tink_run.specs.Run as run
 use Rattle.tink_proto.specs.declared.messages.keys.Keyset.{Keyset}
-use Rattle.tink_run.specs.Keysets.{made_of, HasMade, HasNotMade, IsLine, IsUnmadeBy, Rotation, SpellRotation, Wrote, WroteFront}
+use Rattle.tink_run.specs.Keysets.{made_keyset, HasMade, HasNotMade, IsLine, IsUnmadeBy, Rotation, SpellRotation, Wrote, WroteFront}
 use Rattle.tink_run.specs.Words.{KeygenWords, OpenWords, RotateWords, SealWords, SpellNothing}
 
 -- a refusal's status. A kind of the last line never comes.
@@ -169,7 +169,7 @@ pub record HasOwnStatus (words : List (List ℕ)) (status : ℕ) : Type 0 where
 
 -- a keyset that is not made gets its refusal's status, or `OutOfMemory`
 abbrev pub RefusesUnmade : List (List ℕ) → ℕ → Type 0
-RefusesUnmade words status = (r : Rotation) (kind : Kind) → SpellRotation words r → made_of r ≡ Err kind → (status ≡ kind_status kind) ⊎ (status ≡ 10)
+RefusesUnmade words status = (r : Rotation) (kind : Kind) → SpellRotation words r → made_keyset r ≡ Err kind → (status ≡ kind_status kind) ⊎ (status ≡ 10)
 
 -- and no other keyset gets it: 13 and 14 are the given keyset's refusals, for 24 no template has the name, and for 25 all 128
 -- ids were 0 or in use
@@ -244,7 +244,7 @@ pub record Ran (command : Command) (keyset aad draws : List ℕ) (old new : Outs
 pub record MakesKeyset (r : Rotation) (old new : Outside) (status : ℕ) : Type 0 where
   pub whole : status ≡ 0 → (text : List ℕ) × IsLine r text × Wrote old new text
   pub front : status ≡ 12 → (text : List ℕ) × IsLine r text × WroteFront old new text
-  pub succeeds : (keyset : Keyset) → made_of r ≡ Ok keyset → (Rose old.write_faults new.write_faults → ⊥) → (status ≡ 0) ⊎ (status ≡ 10)
+  pub succeeds : (keyset : Keyset) → made_keyset r ≡ Ok keyset → (Rose old.write_faults new.write_faults → ⊥) → (status ≡ 0) ⊎ (status ≡ 10)
 
 abbrev pub MakesAsSpelled : List (List ℕ) → Outside → Outside → ℕ → Type 0
 MakesAsSpelled words old new status = (r : Rotation) → SpellRotation words r → MakesKeyset r old new status
