@@ -20,7 +20,7 @@ use Rattle.tink_keysets.specs.Managed.{added_by}
 use Rattle.tink.specs.Managers.{row_of}
 use Rattle.tink.specs.Registered.{with_everything}
 use Rattle.tink.specs.declared.managers.Managers.{Managers}
-use Rattle.tink_keygen.specs.Rotating.{new_data, rotated, rotated_by, rotated_where, template_named, valid_or_refused, IsUnmade}
+use Rattle.tink_keygen.specs.Rotating.{data_by_all, rotated, rotated_by, rotated_where, template_named, valid_or_refused, IsUnmade}
 use Rattle.tink_keygen.proofs.IdFacts.{refused_by_ids}
 use Rattle.tink_keygen.proofs.TemplateFacts.{named_makes, MakesKeys}
 use Rattle.tink_keygen.proofs.ValidatedFacts.{formed_of, validated}
@@ -29,8 +29,8 @@ use Rattle.tink_keygen.proofs.ValidatedFacts.{formed_of, validated}
 abbrev added_of : Registered Managers → Keyset → KeyTemplate → List ℕ → Added
 added_of r ks kt draws = added_by (λ m. (row_of m).url) (λ m. (row_of m).made_data) r.managers ks kt true draws
 
-pub added_by_all : (r : Registered Managers) (ks : Keyset) (kt : KeyTemplate) (draws : List ℕ) → r ≡ with_everything → added_of r ks kt draws ≡ added ks kt true (new_data kt draws)
-unfolding new_data
+pub added_by_all : (r : Registered Managers) (ks : Keyset) (kt : KeyTemplate) (draws : List ℕ) → r ≡ with_everything → added_of r ks kt draws ≡ added ks kt true (data_by_all kt draws)
+unfolding data_by_all
 added_by_all r ks kt draws is = ap (λ (x : Registered Managers). added_of x ks kt draws) is
 
 -- the template of a name, of the registry of all
@@ -48,14 +48,14 @@ given_reply a id ks is same = rw (is, same) refl
 pub not_rotated : (r : Registered Managers) (ks : Keyset) (kt : KeyTemplate) (draws now : List ℕ) (e : TinkError) → r ≡ with_everything
     → IsShort e.kind draws now ⊎ ((reply (added_of r ks kt draws)).0 ≡ Err e.kind) × (now ≡ (reply (added_of r ks kt draws)).1) → (e.kind ≡ OutOfMemory) ⊎ (rotated kt draws ks ≡ Err e.kind)
 not_rotated r ks kt draws now e is (inl short) = inl short.kind
-not_rotated r ks kt draws now e is (inr told) = inr (refused_reply (added ks kt true (new_data kt draws)) e.kind (rw (sym (added_by_all r ks kt draws is)) told.0))
+not_rotated r ks kt draws now e is (inr told) = inr (refused_reply (added ks kt true (data_by_all kt draws)) e.kind (rw (sym (added_by_all r ks kt draws is)) told.0))
 
 -- a manager that rotates, and its keyset afterwards
 pub is_rotated : (r : Registered Managers) (ks new : Keyset) (kt : KeyTemplate) (draws : List ℕ) (id : ℕ) → r ≡ with_everything
     → (reply (added_of r ks kt draws)).0 ≡ Ok id → new ≡ (added_of r ks kt draws).keyset → rotated kt draws ks ≡ Ok new
 is_rotated r ks new kt draws id is told same =
     let all = added_by_all r ks kt draws is in
-    given_reply (added ks kt true (new_data kt draws)) id new (rw (sym all) told) (rw (sym all) (sym same))
+    given_reply (added ks kt true (data_by_all kt draws)) id new (rw (sym all) told) (rw (sym all) (sym same))
 
 -- ---- a keyset that is made is valid
 
@@ -70,13 +70,13 @@ known_by kt draws (Some m) d is = by_test (is_known_prefix kt.output_prefix_type
     by_test true known is = known
     by_test false known is = absurd (cc)
 
-known_prefix : (kt : KeyTemplate) (draws : List ℕ) (d : KeyData) → (new_data kt draws).0 ≡ Ok d → is_known_prefix kt.output_prefix_type ≡ true
-unfolding new_data
+known_prefix : (kt : KeyTemplate) (draws : List ℕ) (d : KeyData) → (data_by_all kt draws).0 ≡ Ok d → is_known_prefix kt.output_prefix_type ≡ true
+unfolding data_by_all
 known_prefix kt draws d is = known_by kt draws (manager_of (λ m. (row_of m).url) kt.type_url with_everything.managers) d is
 
 pub rotated_valid : (ks new : Keyset) (kt : KeyTemplate) (draws : List ℕ) → are_well_formed ks ≡ true → rotated kt draws ks ≡ Ok new → is_held_keyset new ≡ true → is_valid new ≡ true
 rotated_valid ks new kt draws formed is held =
-    joined (is_held_keyset new) (is_validated new) held (validated ks new kt (new_data kt draws) (known_prefix kt draws) formed is)
+    joined (is_held_keyset new) (is_validated new) held (validated ks new kt (data_by_all kt draws) (known_prefix kt draws) formed is)
 
 -- ---- why a keyset is not made
 

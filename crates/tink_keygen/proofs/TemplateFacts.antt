@@ -50,20 +50,20 @@ use Rattle.tink.specs.Managers.{row_of}
 use Rattle.tink.specs.Registered.{with_aeads, with_everything, with_macs, with_prfs}
 use Rattle.tink.specs.declared.managers.Managers.{Managers}
 use Rattle.tink.specs.declared.managers.Managers.TheVariants as managers
-use Rattle.tink_keygen.specs.Rotating.{new_data, template_named}
+use Rattle.tink_keygen.specs.Rotating.{data_by_all, template_named}
 use Rattle.tink_keygen.proofs.TemplateSteps.{made_data, made_data_if, of_name, with_more, AllNamed}
 
 -- data is made of at most 64 draws
-abbrev IsMade : List ℕ → Result KeyData Kind × List ℕ → Type 0
-IsMade draws made = (d : KeyData) × (left : List ℕ) × (made ≡ (Ok d, left)) × (length draws ≤ 64 + length left)
+abbrev GivesData : List ℕ → Result KeyData Kind × List ℕ → Type 0
+GivesData draws made = (d : KeyData) × (left : List ℕ) × (made ≡ (Ok d, left)) × (length draws ≤ 64 + length left)
 
 -- a template whose manager makes such data wherever there are so many
 abbrev pub MakesKeys : KeyTemplate → Type 0
-MakesKeys kt = (draws : List ℕ) → 64 ≤ length draws → IsMade draws (new_data kt draws)
+MakesKeys kt = (draws : List ℕ) → 64 ≤ length draws → GivesData draws (data_by_all kt draws)
 
 by_manager : (m : Managers) (kt : KeyTemplate) → manager_of (λ x. (row_of x).url) kt.type_url with_everything.managers ≡ Some m → is_known_prefix kt.output_prefix_type ≡ true
-    → ((draws : List ℕ) → 64 ≤ length draws → IsMade draws ((row_of m).made_data kt.value draws)) → MakesKeys kt
-unfolding new_data
+    → ((draws : List ℕ) → 64 ≤ length draws → GivesData draws ((row_of m).made_data kt.value draws)) → MakesKeys kt
+unfolding data_by_all
 by_manager m kt found known makes draws enough = rw (found, known) (makes draws enough)
 
 -- what is asked of a format: it can be written, it has bytes, it is accepted, and its keys have at most 64 bytes
@@ -94,7 +94,7 @@ left_after n draws small = omega (arith, length-drop {A = ℕ})
 -- a format whose keys are so many draws each
 made_by_format : {Key Format : Type 0} (url : List ℕ) (keys : Column Key) (formats : Column Format) (accepted : Format → Bool) (size : Format → ℕ) (message : Format → List ℕ → Key) (f : Format)
     → is_good formats accepted size f ≡ true → (draws : List ℕ) → 64 ≤ length draws
-    → IsMade draws (makes_data url keys formats (λ f draws. made_if (accepted f) (size f) (message f) draws) (encoded formats.write f) draws)
+    → GivesData draws (makes_data url keys formats (λ f draws. made_if (accepted f) (size f) (message f) draws) (encoded formats.write f) draws)
 made_by_format url keys formats accepted size message f good draws enough =
     let parts = good_parts formats accepted size f good in (
       symmetric url (encoded keys.write (message f (take (size f) draws))),
@@ -221,7 +221,7 @@ composed_drawn a h accepts draws enough =
 
 composed_made_by : (a : AesCtrKeyFormat) (h : HmacKeyFormat) → AreGood composed_messages.aes_ctr_hmac_aead_key_format (λ _. is_composed_format a h) (λ _. a.key_size + h.key_size) (composed_format a h)
     → (draws : List ℕ) → 64 ≤ length draws
-    → IsMade draws (makes_data composed_url composed_messages.aes_ctr_hmac_aead_key composed_messages.aes_ctr_hmac_aead_key_format composed_made
+    → GivesData draws (makes_data composed_url composed_messages.aes_ctr_hmac_aead_key composed_messages.aes_ctr_hmac_aead_key_format composed_made
     (encoded composed_messages.aes_ctr_hmac_aead_key_format.write (composed_format a h)) draws)
 composed_made_by a h parts draws enough =
     let key = new_composed_key a h (take a.key_size draws) (take h.key_size (drop a.key_size draws)) in

@@ -22,12 +22,12 @@ unfoldable pub template_named : List ℕ → Option KeyTemplate
 template_named name = template_of name with_everything.templates
 
 -- the data of a new key by a template and the ten managers, and the draws that are left
-unfoldable pub new_data : KeyTemplate → List ℕ → Result KeyData Kind × List ℕ
-new_data kt draws = data_by (λ m. (row_of m).url) (λ m. (row_of m).made_data) with_everything.managers kt draws
+unfoldable pub data_by_all : KeyTemplate → List ℕ → Result KeyData Kind × List ℕ
+data_by_all kt draws = data_by (λ m. (row_of m).url) (λ m. (row_of m).made_data) with_everything.managers kt draws
 
 -- a keyset with a new key by a template as its primary one
 abbrev pub rotated : KeyTemplate → List ℕ → Keyset → Result Keyset Kind
-rotated kt draws ks = (keyset_reply (added ks kt true (new_data kt draws))).0
+rotated kt draws ks = (keyset_reply (added ks kt true (data_by_all kt draws))).0
 
 -- the same where the template is there and the keyset wasn't refused: the template comes first
 abbrev pub rotated_where : Option KeyTemplate → Result Keyset Kind → List ℕ → Result Keyset Kind
@@ -50,5 +50,5 @@ abbrev pub IsUnmade : List ℕ → Result Keyset Kind → Kind → Type 0
 IsUnmade name start kind = ((kind ≡ UnknownTemplate) × (template_named name ≡ None)) ⊎ (start ≡ Err kind) ⊎ (kind ≡ NoFreshId)
 
 -- a keyset's bytes in lower-case hexadecimal digits, and a newline
-abbrev pub line_of : Keyset → List ℕ
-line_of ks = encode_lower (encoded keyset.write ks) ++ 10 ∷ []
+abbrev pub key_line : Keyset → List ℕ
+key_line ks = encode_lower (encoded keyset.write ks) ++ 10 ∷ []

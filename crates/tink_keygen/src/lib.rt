@@ -7,7 +7,7 @@ ghost use Rattle.tink_io.specs.Told.{Answers};
 ghost use Rattle.keyset_model.specs.Validity.{IsValid, are_well_formed};
 ghost use Rattle.tink_keysets.specs.Managed.{no_keys};
 ghost use Rattle.tink.specs.Registered.{with_everything};
-ghost use Rattle.tink_keygen.specs.Rotating.{IsUnmade, line_of, rotated, rotated_by, template_named, valid_keyset, valid_or_refused};
+ghost use Rattle.tink_keygen.specs.Rotating.{IsUnmade, key_line, rotated, rotated_by, template_named, valid_keyset, valid_or_refused};
 
 use std::alloc::Global;
 use tink::keyset::{Handle, Manager, insecure, validate};
@@ -55,7 +55,7 @@ pub fn rotate(
 /// # Errors
 /// `OutOfMemory` alone.
 pub fn key_line(alloc: Global, keyset: &Keyset) -> Result<Vec<u8>, TinkError>
-    ensures line { IfOk result (λ v. v.items ≡ line_of keyset.now) }
+    ensures line { IfOk result (λ v. v.items ≡ key_line keyset.now) }
     ensures err { IfErr result (λ e. e ≡ record { kind = OutOfMemory }) }
 {
     let Ok(bytes) = keyset.encode(alloc) else {

@@ -5,6 +5,9 @@ pub mod PourSteps
 pub mod SealSteps
 pub mod LoadLemmas
 pub mod WordLemmas
+pub mod KeysetWords
+pub mod KeysetLemmas
+pub mod KeysetSteps
 pub mod ProgramLemmas
 pub mod StatusLemmas
 pub mod ReadOut

@@ -5,7 +5,7 @@ use Rattle.std.specs.Io.KnownBytes.{Appends}
 use Rattle.tink_io.specs.Faults.{Rose}
 use Rattle.tink_io.specs.Written.{AppendsFront, WritesOrFaults}
 use Rattle.tink_io.specs.declared.error.Kind.{Kind}
-use Rattle.tink_io.specs.declared.error.Kind.TheVariants.{OutOfMemory, RandomFault}
+use Rattle.tink_io.specs.declared.error.Kind.TheVariants.{OutOfMemory, RandomFault, UnknownTemplate, NoFreshId}
 use Rattle.tink_io.specs.declared.error.TinkError.{TinkError}
 use Rattle.stream_model.specs.Key.{IsUsable}
 use Rattle.stream_model.specs.Sealing.{drawn}
@@ -19,9 +19,10 @@ use Rattle.tink_run.specs.declared.report.Command.TheVariants.{Seal, Open}
 use Rattle.tink_run.specs.declared.report.Report.{Report}
 use Rattle.tink_run.specs.Draws.{draws_in}
 use Rattle.tink_run.specs.Outside.{Outside}
-use Rattle.tink_run.specs.Run.{AnswerMeans, IsOkOrWant, LeavesEnds}
-use Rattle.tink_run.specs.Program.{kind_status, status_of, answer_outcome, OutcomeMeans, Answered, IsUsage, Leaves, Ran, Promised, SealsWhole, OpensWhole, WritesAgreeing, SealSucceeds, OpenSucceeds}
+use Rattle.tink_run.specs.Run.{AnswerMeans, IsEarly, IsOkOrWant, LeavesEnds}
+use Rattle.tink_run.specs.Program.{kind_status, status_of, answer_outcome, StreamMeans, Answered, IsEarlyKind, IsUsage, Leaves, Ran, Promised, SealsWhole, OpensWhole, WritesAgreeing, SealSucceeds, OpenSucceeds}
 use Rattle.tink_run.specs.Words.{SealWords, OpenWords, SpellNothing}
+use Rattle.tink_run.proofs.KeysetWords.{not_nothing, not_opened, not_sealed}
 use Rattle.tink_run.proofs.WordLemmas.{SameSeal, seal-same, open-same, not_both}
 
 pub length-draws_in : (seed : List ℕ) (n : ℕ) → length (draws_in seed n) ≡ 4 * n
@@ -40,28 +41,28 @@ draws_suffice keyset seed loaded loads =
 
 -- the outcome of a refused seal
 seal_refused : (words : List (List ℕ)) (keyset aad seed left_draws : List ℕ) (old new : Outside) (kind : Kind) → SealWords words keyset aad seed
-    → AnswerMeans Seal keyset aad (draws_in seed 256) left_draws old new (Err (record { kind = kind })) → OutcomeMeans words old new (Refused kind)
+    → AnswerMeans Seal keyset aad (draws_in seed 256) left_draws old new (Err (record { kind = kind })) → StreamMeans words old new (Refused kind)
 seal_refused words keyset aad seed left_draws old new OutOfMemory spelled m = m.untouched
 seal_refused words keyset aad seed left_draws old new RandomFault spelled m = absurd (omega (arith, m.few, draws_suffice keyset seed m.loaded m.loads))
 seal_refused words keyset aad seed left_draws old new _ spelled m = inl (record { keyset = keyset; aad = aad; seed = seed; left_draws = left_draws; spelled = spelled; means = m })
 
 -- the outcome of a refused open
 open_refused : (words : List (List ℕ)) (keyset aad left_draws : List ℕ) (old new : Outside) (kind : Kind) → OpenWords words keyset aad
-    → AnswerMeans Open keyset aad [] left_draws old new (Err (record { kind = kind })) → OutcomeMeans words old new (Refused kind)
+    → AnswerMeans Open keyset aad [] left_draws old new (Err (record { kind = kind })) → StreamMeans words old new (Refused kind)
 open_refused words keyset aad left_draws old new OutOfMemory spelled m = m.0.untouched
 open_refused words keyset aad left_draws old new RandomFault spelled m = m.0
 open_refused words keyset aad left_draws old new _ spelled m = inr (record { keyset = keyset; aad = aad; left_draws = left_draws; spelled = spelled; means = m })
 
 -- the outcome of a seal's answer
 pub seal_outcome : (words : List (List ℕ)) (keyset aad seed : List ℕ) (old new : Outside) (answer : Result Report TinkError) → SealWords words keyset aad seed
-    → Ran Seal keyset aad (draws_in seed 256) old new answer → OutcomeMeans words old new (answer_outcome answer)
+    → Ran Seal keyset aad (draws_in seed 256) old new answer → StreamMeans words old new (answer_outcome answer)
 seal_outcome words keyset aad seed old new (Ok report) spelled ran =
     (report, inl (record { keyset = keyset; aad = aad; seed = seed; left_draws = ran.left_draws; spelled = spelled; means = ran.means }))
 seal_outcome words keyset aad seed old new (Err e) spelled ran = seal_refused words keyset aad seed ran.left_draws old new e.kind spelled ran.means
 
 -- the outcome of an open's answer
 pub open_outcome : (words : List (List ℕ)) (keyset aad : List ℕ) (old new : Outside) (answer : Result Report TinkError) → OpenWords words keyset aad
-    → Ran Open keyset aad [] old new answer → OutcomeMeans words old new (answer_outcome answer)
+    → Ran Open keyset aad [] old new answer → StreamMeans words old new (answer_outcome answer)
 open_outcome words keyset aad old new (Ok report) spelled ran =
     (report, inr (record { keyset = keyset; aad = aad; left_draws = ran.left_draws; spelled = spelled; means = ran.means }))
 open_outcome words keyset aad old new (Err e) spelled ran = open_refused words keyset aad ran.left_draws old new e.kind spelled ran.means
@@ -76,16 +77,16 @@ nothing_answered : (words : List (List ℕ)) (old new : Outside) (answer : Resul
 nothing_answered words old new answer nothing (inl s) = nothing.no_seal s.keyset s.aad s.seed s.spelled
 nothing_answered words old new answer nothing (inr o) = nothing.no_open o.keyset o.aad o.spelled
 
-nothing_refused : (words : List (List ℕ)) (old new : Outside) (kind : Kind) → OutcomeMeans words old new (Refused kind) → SpellNothing words → kind_status kind ≡ 10
+nothing_refused : (words : List (List ℕ)) (old new : Outside) (kind : Kind) → StreamMeans words old new (Refused kind) → SpellNothing words → kind_status kind ≡ 10
 nothing_refused words old new OutOfMemory m nothing = refl
 nothing_refused words old new RandomFault m nothing = absurd m
 nothing_refused words old new _ m nothing = absurd (nothing_answered words old new _ nothing m)
 
 -- when status 2 comes
-pub usage_of : (words : List (List ℕ)) (old new : Outside) (outcome : Outcome) → OutcomeMeans words old new outcome → IsUsage words (status_of outcome)
-usage_of words old new Done m = record { cause = λ is. cc is; comes = λ nothing. absurd (nothing_answered words old new _ nothing m.1) }
-usage_of words old new Usage m = record { cause = λ _. m.0; comes = λ _. inl refl }
-usage_of words old new (Refused kind) m = record { cause = λ is. absurd (omega (arith, is, kind_status-above kind)); comes = λ nothing. inr (nothing_refused words old new kind m nothing) }
+pub stream_usage : (words : List (List ℕ)) (old new : Outside) (outcome : Outcome) → StreamMeans words old new outcome → IsUsage words (status_of outcome)
+stream_usage words old new Done m = record { cause = λ is. cc is; comes = λ nothing. absurd (nothing_answered words old new _ nothing m.1) }
+stream_usage words old new Usage m = record { cause = λ _. m.0; comes = λ _. inl refl }
+stream_usage words old new (Refused kind) m = record { cause = λ is. absurd (omega (arith, is, kind_status-above kind)); comes = λ nothing. inr (nothing_refused words old new kind m nothing) }
 
 -- words that spell nothing are promised nothing more
 pub usage_promised : (words : List (List ℕ)) (old new : Outside) (status : ℕ) → SpellNothing words → Promised words old new status
@@ -97,6 +98,7 @@ usage_promised words old new status nothing = record {
     sealing = λ keyset aad seed spelled. absurd (nothing.no_seal keyset aad seed spelled);
     opening = λ keyset aad spelled. absurd (nothing.no_open keyset aad spelled);
   };
+  made = λ r spelled. absurd (not_nothing words r spelled nothing);
 }
 
 ok_or_want : (answer : Result Report TinkError) → IsOkOrWant answer → (status_of (answer_outcome answer) ≡ 0) ⊎ (status_of (answer_outcome answer) ≡ 10)
@@ -120,10 +122,21 @@ along_seal P k a s l b t same p = subst (λ x. P l b x) same.seed_is (subst (λ 
 along_open : (P : List ℕ → List ℕ → Type 0) (k a l b : List ℕ) → (k ≡ l) × (a ≡ b) → P k a → P l b
 along_open P k a l b same p = subst (λ x. P l x) same.1 (subst (λ x. P x a) same.0 p)
 
+-- a run has no refusal of a keyset that is not made
+early_run : (command : Command) (keyset aad draws left_draws : List ℕ) (old new : Outside) (kind : Kind) → AnswerMeans command keyset aad draws left_draws old new (Err (record { kind = kind }))
+    → IsEarlyKind kind → IsEarly kind
+early_run Seal keyset aad draws left_draws old new UnknownTemplate m early = absurd m
+early_run Seal keyset aad draws left_draws old new NoFreshId m early = absurd m
+early_run Seal keyset aad draws left_draws old new _ m early = early
+early_run Open keyset aad draws left_draws old new UnknownTemplate m early = absurd m.0
+early_run Open keyset aad draws left_draws old new NoFreshId m early = absurd m.0
+early_run Open keyset aad draws left_draws old new _ m early = early
+
 -- an outcome leaves what its answer leaves
-pub leaves_by : {S K : Type 0} (answer : Result Report TinkError) (s t : S) (k l : K) → LeavesEnds answer s t k l → Leaves (answer_outcome answer) s t k l
-leaves_by (Ok report) s t k l h = tt
-leaves_by (Err e) s t k l h = h
+pub leaves_by : {S K : Type 0} (command : Command) (keyset aad draws : List ℕ) (old new : Outside) (answer : Result Report TinkError) (s t : S) (k l : K)
+    → Ran command keyset aad draws old new answer → LeavesEnds answer s t k l → Leaves (answer_outcome answer) s t k l
+leaves_by command keyset aad draws old new (Ok report) s t k l ran h = tt
+leaves_by command keyset aad draws old new (Err e) s t k l ran h = λ early. h (early_run command keyset aad draws ran.left_draws old new e.kind ran.means early)
 
 -- the promises of a seal
 pub seal_promised : (words : List (List ℕ)) (keyset aad seed : List ℕ) (old new : Outside) (answer : Result Report TinkError) → SealWords words keyset aad seed
@@ -138,6 +151,7 @@ seal_promised words keyset aad seed old new answer spelled ran = record {
         (seal-same words keyset aad seed k a s spelled other) (λ T G told faultless can. ok_or_want answer (ran.succeeds T G told faultless can));
     opening = λ k a other. absurd (not_both words keyset aad seed k a spelled other);
   };
+  made = λ r other. absurd (not_sealed words r keyset aad seed other spelled);
 }
 
 -- the promises of an open
@@ -153,6 +167,7 @@ open_promised words keyset aad old new answer spelled ran = record {
     opening = λ k a other. along_open (λ x y. OpenSucceeds x y old new (status_of (answer_outcome answer))) keyset aad k a
         (open-same words keyset aad k a spelled other) (λ S G told faultless can. ok_or_want answer (ran.succeeds S G told faultless can));
   };
+  made = λ r other. absurd (not_opened words r keyset aad other spelled);
 }
 
 -- what a run says of equal values

@@ -1,9 +1,10 @@
 -- Why each status comes.
 use Rattle.std.proofs.Common.{◌≡◌, ◌⊎◌, inl, inr, ℕ, List, [], refl, sym, ◌∙◌, ap, subst, arith}
-use Rattle.std.specs.Prelude.{Ok, Err}
+use Rattle.std.specs.Prelude.{Ok, Err, Result}
 use Rattle.tink_io.specs.Faults.{Rose}
 use Rattle.tink_io.specs.declared.error.Kind.{Kind}
-use Rattle.tink_io.specs.declared.error.Kind.TheVariants.{OutOfMemory, ReadFault, WriteFault, RandomFault, BadKeyset, InvalidKeyset, UnsupportedKeyType, InvalidKey, NoPrimary, WrongPrimitive, UnsupportedHash, TooManySegments, NoMatchingKey, BadSegment, Truncated}
+use Rattle.tink_io.specs.declared.error.Kind.TheVariants.{OutOfMemory, ReadFault, WriteFault, RandomFault, BadKeyset, InvalidKeyset, UnsupportedKeyType, InvalidKey, NoPrimary, WrongPrimitive, UnsupportedHash, TooManySegments, NoMatchingKey, BadSegment, Truncated, UnknownTemplate, NoFreshId}
+use Rattle.tink_io.specs.declared.error.TinkError.{TinkError}
 use Rattle.loading_model.specs.Loading.{Loaded}
 use Rattle.tink_run.specs.AllKeys.{load}
 use Rattle.tink_run.specs.declared.program.Outcome.{Outcome}
@@ -12,12 +13,43 @@ use Rattle.tink_run.specs.declared.report.Command.TheVariants.{Seal, Open}
 use Rattle.tink_run.specs.declared.report.Report.{Report}
 use Rattle.tink_run.specs.Draws.{draws_in}
 use Rattle.tink_run.specs.Outside.{Outside, IsUntouched}
-use Rattle.tink_run.specs.Run.{AnswerMeans, IsEarly}
-use Rattle.tink_run.specs.Program.{kind_status, status_of, OutcomeMeans, Answered, HasCause, HasOwnStatus, IsAmong, Leaves, early_statuses, seal_statuses, open_statuses, SpellKeyset, RefusesUnloaded}
+use Rattle.tink_run.specs.Run.{AnswerMeans}
+use Rattle.tink_run.specs.Program.{kind_status, status_of, Answered, HasCause, HasOwnStatus, HasUnmadeCause, IsAmong, IsEarlyKind, KeysetMeans, Leaves, OutcomeMeans, StatusMeans, StreamMeans, early_statuses, keygen_statuses, open_statuses, rotate_statuses, seal_statuses, unmade_statuses, SpellKeyset, RefusesUnloaded, RefusesUnmade}
 use Rattle.tink_run.specs.Words.{SealWords, OpenWords, SpellNothing}
+use Rattle.tink_run.specs.Keysets.{of_keyset, of_no_keys, Rotation, SpellRotation}
+use Rattle.tink_run.proofs.KeysetLemmas.{keyset_cause, keyset_own, keyset_unloaded, keyset_unmade, keyset_unmade_cause, keyset_usage}
+use Rattle.tink_run.proofs.KeysetWords.{not_nothing, not_opened, not_sealed, spell_keygen, spell_rotate}
+use Rattle.tink_run.proofs.ProgramLemmas.{stream_usage}
 use Rattle.tink_run.proofs.WordLemmas.{seal-same, open-same, not_both}
 
-seal_among : (words : List (List ℕ)) (keyset aad seed : List ℕ) (old new : Outside) (kind : Kind) → OutcomeMeans words old new (Refused kind) → SealWords words keyset aad seed
+-- words that ask for a keyset get no outcome of a stream but `OutOfMemory`
+no_answer : (words : List (List ℕ)) (old new : Outside) (answer : Result Report TinkError) (r : Rotation) → SpellRotation words r → Answered words old new answer → ⊥
+no_answer words old new answer r spelled (inl p) = not_sealed words r p.keyset p.aad p.seed spelled p.spelled
+no_answer words old new answer r spelled (inr p) = not_opened words r p.keyset p.aad spelled p.spelled
+
+no_refusal : (words : List (List ℕ)) (old new : Outside) (kind : Kind) (r : Rotation) → StreamMeans words old new (Refused kind) → SpellRotation words r → kind_status kind ≡ 10
+no_refusal words old new OutOfMemory r m spelled = refl
+no_refusal words old new RandomFault r m spelled = absurd m
+no_refusal words old new _ r m spelled = absurd (no_answer words old new _ r spelled m)
+
+not_asked : (words : List (List ℕ)) (old new : Outside) (outcome : Outcome) (r : Rotation) → StreamMeans words old new outcome → SpellRotation words r → status_of outcome ≡ 10
+not_asked words old new Done r m spelled = absurd (no_answer words old new _ r spelled m.1)
+not_asked words old new Usage r m spelled = absurd (not_nothing words r spelled m.0)
+not_asked words old new (Refused kind) r m spelled = no_refusal words old new kind r m spelled
+
+wanted : (statuses : List ℕ) {status : ℕ} → status ≡ 10 → IsAmong statuses 10 → IsAmong statuses status
+wanted statuses is among = subst (IsAmong statuses) (sym is) among
+
+unmade_stream : (words : List (List ℕ)) (old new : Outside) (outcome : Outcome) → StreamMeans words old new outcome → RefusesUnmade words (status_of outcome)
+unmade_stream words old new outcome m = λ r kind spelled is. inr (not_asked words old new outcome r m spelled)
+
+not_ten : {A : Type 0} (status : ℕ) → status ≡ 10 → IsAmong unmade_statuses status → A
+not_ten status is among = let ten = subst (IsAmong unmade_statuses) is among in absurd (cc ten)
+
+unmade_cause_stream : (words : List (List ℕ)) (old new : Outside) (outcome : Outcome) → StreamMeans words old new outcome → HasUnmadeCause words (status_of outcome)
+unmade_cause_stream words old new outcome m = λ r spelled among. not_ten (status_of outcome) (not_asked words old new outcome r m spelled) among
+
+seal_among : (words : List (List ℕ)) (keyset aad seed : List ℕ) (old new : Outside) (kind : Kind) → StreamMeans words old new (Refused kind) → SealWords words keyset aad seed
     → IsAmong seal_statuses (kind_status kind)
 seal_among words keyset aad seed old new OutOfMemory m spelled = refl
 seal_among words keyset aad seed old new ReadFault m spelled = refl
@@ -34,7 +66,7 @@ seal_among words keyset aad seed old new RandomFault m spelled = absurd m
 seal_among words keyset aad seed old new _ m spelled =
     elim m [ inl p ↦ absurd p.means | inr p ↦ absurd (not_both words keyset aad seed p.keyset p.aad spelled p.spelled) ]
 
-open_among : (words : List (List ℕ)) (keyset aad : List ℕ) (old new : Outside) (kind : Kind) → OutcomeMeans words old new (Refused kind) → OpenWords words keyset aad
+open_among : (words : List (List ℕ)) (keyset aad : List ℕ) (old new : Outside) (kind : Kind) → StreamMeans words old new (Refused kind) → OpenWords words keyset aad
     → IsAmong open_statuses (kind_status kind)
 open_among words keyset aad old new OutOfMemory m spelled = refl
 open_among words keyset aad old new ReadFault m spelled = refl
@@ -54,37 +86,50 @@ open_among words keyset aad old new _ m spelled =
     elim m [ inl p ↦ absurd (not_both words p.keyset p.aad p.seed keyset aad p.spelled spelled) | inr p ↦ absurd p.means.0 ]
 
 -- each command has only its own statuses
-pub own_of : (words : List (List ℕ)) (old new : Outside) (outcome : Outcome) → OutcomeMeans words old new outcome → HasOwnStatus words (status_of outcome)
-own_of words old new Done m = record { sealing = λ k a s spelled. refl; opening = λ k a spelled. refl }
-own_of words old new Usage m = record { sealing = λ k a s spelled. absurd (m.0.no_seal k a s spelled); opening = λ k a spelled. absurd (m.0.no_open k a spelled) }
-own_of words old new (Refused kind) m = record {
+own_stream : (words : List (List ℕ)) (old new : Outside) (outcome : Outcome) → StreamMeans words old new outcome → HasOwnStatus words (status_of outcome)
+own_stream words old new Done m = record {
+  sealing = λ k a s spelled. refl;
+  opening = λ k a spelled. refl;
+  making = λ template seed spelled. refl;
+  rotating = λ keyset template seed spelled. refl;
+}
+own_stream words old new Usage m = record {
+  sealing = λ k a s spelled. absurd (m.0.no_seal k a s spelled);
+  opening = λ k a spelled. absurd (m.0.no_open k a spelled);
+  making = λ template seed spelled. absurd (m.0.no_keygen template seed spelled);
+  rotating = λ keyset template seed spelled. absurd (m.0.no_rotate keyset template seed spelled);
+}
+own_stream words old new (Refused kind) m = record {
   sealing = λ k a s spelled. seal_among words k a s old new kind m spelled;
   opening = λ k a spelled. open_among words k a old new kind m spelled;
+  making = λ template seed spelled. wanted keygen_statuses (not_asked words old new (Refused kind) (of_no_keys template seed) m (spell_keygen words template seed spelled)) refl;
+  rotating = λ keyset template seed spelled.
+      wanted rotate_statuses (not_asked words old new (Refused kind) (of_keyset keyset template seed) m (spell_rotate words keyset template seed spelled)) refl;
 }
 
-want_cause : (words : List (List ℕ)) (old new : Outside) (kind : Kind) → OutcomeMeans words old new (Refused kind) → kind_status kind ≡ 10 → IsUntouched old new
+want_cause : (words : List (List ℕ)) (old new : Outside) (kind : Kind) → StreamMeans words old new (Refused kind) → kind_status kind ≡ 10 → IsUntouched old new
 want_cause words old new OutOfMemory m is = m
 want_cause words old new _ m is = absurd (omega (arith, is))
 
-read_cause : (words : List (List ℕ)) (old new : Outside) (kind : Kind) → OutcomeMeans words old new (Refused kind) → kind_status kind ≡ 11 → Rose old.read_faults new.read_faults
+read_cause : (words : List (List ℕ)) (old new : Outside) (kind : Kind) → StreamMeans words old new (Refused kind) → kind_status kind ≡ 11 → Rose old.read_faults new.read_faults
 read_cause words old new ReadFault m is = elim m [ inl p ↦ p.means.means.rose | inr p ↦ p.means.0.means.1 ]
 read_cause words old new _ m is = absurd (omega (arith, is))
 
-write_cause : (words : List (List ℕ)) (old new : Outside) (kind : Kind) → OutcomeMeans words old new (Refused kind) → kind_status kind ≡ 12 → Rose old.write_faults new.write_faults
+write_cause : (words : List (List ℕ)) (old new : Outside) (kind : Kind) → StreamMeans words old new (Refused kind) → kind_status kind ≡ 12 → Rose old.write_faults new.write_faults
 write_cause words old new WriteFault m is = elim m [ inl p ↦ p.means.means.rose | inr p ↦ p.means.0.means.1 ]
 write_cause words old new _ m is = absurd (omega (arith, is))
 
 -- why a status of 10, 11 or 12 came
-pub cause_of : (words : List (List ℕ)) (old new : Outside) (outcome : Outcome) → OutcomeMeans words old new outcome → HasCause old new (status_of outcome)
-cause_of words old new Done m = record { want = λ is. absurd (omega (arith, is)); read_fault = λ is. absurd (omega (arith, is)); write_fault = λ is. absurd (omega (arith, is)) }
-cause_of words old new Usage m = record { want = λ is. absurd (omega (arith, is)); read_fault = λ is. absurd (omega (arith, is)); write_fault = λ is. absurd (omega (arith, is)) }
-cause_of words old new (Refused kind) m = record {
+cause_stream : (words : List (List ℕ)) (old new : Outside) (outcome : Outcome) → StreamMeans words old new outcome → HasCause old new (status_of outcome)
+cause_stream words old new Done m = record { want = λ is. absurd (omega (arith, is)); read_fault = λ is. absurd (omega (arith, is)); write_fault = λ is. absurd (omega (arith, is)) }
+cause_stream words old new Usage m = record { want = λ is. absurd (omega (arith, is)); read_fault = λ is. absurd (omega (arith, is)); write_fault = λ is. absurd (omega (arith, is)) }
+cause_stream words old new (Refused kind) m = record {
   want = want_cause words old new kind m;
   read_fault = read_cause words old new kind m;
   write_fault = write_cause words old new kind m;
 }
 
-early_kind : (kind : Kind) → IsAmong early_statuses (kind_status kind) → IsEarly kind
+early_kind : (kind : Kind) → IsAmong early_statuses (kind_status kind) → IsEarlyKind kind
 early_kind OutOfMemory is = tt
 early_kind BadKeyset is = tt
 early_kind InvalidKeyset is = tt
@@ -94,6 +139,8 @@ early_kind NoPrimary is = tt
 early_kind WrongPrimitive is = tt
 early_kind UnsupportedHash is = tt
 early_kind RandomFault is = tt
+early_kind UnknownTemplate is = tt
+early_kind NoFreshId is = tt
 early_kind _ is = absurd (cc is)
 
 -- what a status of an early refusal leaves as it was
@@ -175,13 +222,39 @@ spelled_nothing words keyset nothing (inl p) = nothing.no_seal keyset p.0 p.1 p.
 spelled_nothing words keyset nothing (inr p) = nothing.no_open keyset p.0 p.1
 
 refused_unloaded : (words : List (List ℕ)) (old new : Outside) (kind other : Kind) (keyset : List ℕ) → SpellKeyset words keyset → load keyset ≡ Err kind
-    → OutcomeMeans words old new (Refused other) → (kind_status other ≡ kind_status kind) ⊎ (kind_status other ≡ 10)
+    → StreamMeans words old new (Refused other) → (kind_status other ≡ kind_status kind) ⊎ (kind_status other ≡ 10)
 refused_unloaded words old new kind OutOfMemory keyset spelled is m = inr refl
 refused_unloaded words old new kind RandomFault keyset spelled is m = absurd m
 refused_unloaded words old new kind _ keyset spelled is m = answered_unloaded words old new kind _ keyset spelled is m
 
 -- what words get whose keyset does not load
-pub unloaded_of : (words : List (List ℕ)) (old new : Outside) (outcome : Outcome) → OutcomeMeans words old new outcome → RefusesUnloaded words (status_of outcome)
-unloaded_of words old new Done m = λ keyset kind spelled is. absurd (done_unloaded words old new kind keyset m.0 spelled is m.1)
-unloaded_of words old new Usage m = λ keyset kind spelled is. absurd (spelled_nothing words keyset m.0 spelled)
-unloaded_of words old new (Refused other) m = λ keyset kind spelled is. refused_unloaded words old new kind other keyset spelled is m
+unloaded_stream : (words : List (List ℕ)) (old new : Outside) (outcome : Outcome) → StreamMeans words old new outcome → RefusesUnloaded words (status_of outcome)
+unloaded_stream words old new Done m = λ keyset kind spelled is. absurd (done_unloaded words old new kind keyset m.0 spelled is m.1)
+unloaded_stream words old new Usage m = λ keyset kind spelled is. absurd (spelled_nothing words keyset m.0 spelled)
+unloaded_stream words old new (Refused other) m = λ keyset kind spelled is. refused_unloaded words old new kind other keyset spelled is m
+
+-- ---- of whichever command
+
+stream_status : (words : List (List ℕ)) (old new : Outside) (outcome : Outcome) → StreamMeans words old new outcome → StatusMeans words old new (status_of outcome)
+stream_status words old new outcome m = record {
+  usage = stream_usage words old new outcome m;
+  own = own_stream words old new outcome m;
+  unloaded = unloaded_stream words old new outcome m;
+  unmade = unmade_stream words old new outcome m;
+  unmade_cause = unmade_cause_stream words old new outcome m;
+  cause = cause_stream words old new outcome m;
+}
+
+keyset_status : (words : List (List ℕ)) (old new : Outside) (outcome : Outcome) → KeysetMeans words old new outcome → StatusMeans words old new (status_of outcome)
+keyset_status words old new outcome m = record {
+  usage = keyset_usage words old new outcome m;
+  own = keyset_own words old new outcome m;
+  unloaded = keyset_unloaded words old new outcome m;
+  unmade = keyset_unmade words old new outcome m;
+  unmade_cause = keyset_unmade_cause words old new outcome m;
+  cause = keyset_cause words old new outcome m;
+}
+
+pub status_means : (words : List (List ℕ)) (old new : Outside) (outcome : Outcome) → OutcomeMeans words old new outcome → StatusMeans words old new (status_of outcome)
+status_means words old new outcome (inl m) = stream_status words old new outcome m
+status_means words old new outcome (inr m) = keyset_status words old new outcome m

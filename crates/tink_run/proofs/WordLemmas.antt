@@ -3,7 +3,7 @@ use Rattle.std.proofs.Common.{◌≡◌, inl, inr, ◌<◌, ℕ, zero, suc, List
 use Rattle.std.specs.Prelude.{String, string_bytes, codes, Ok}
 use Rattle.hex.specs.Hex.{decode_sized}
 use Rattle.hex.proofs.HexLemmas.{decode_of-same, decode_sized-ok, decode_sized-twice}
-use Rattle.tink_run.specs.Words.{SealWords, OpenWords, IsBytesWord, IsSeedWord}
+use Rattle.tink_run.specs.Words.{IsBytesWord, IsSeedWord, KeygenWords, OpenWords, RotateWords, SealWords}
 
 abbrev pub texts : List (String Global) → List (List ℕ)
 texts ws = map (λ w. string_bytes w) ws
@@ -64,8 +64,31 @@ open_words ws a b c keyset aad l p q r is keyset_is aad_is = record {
   aad_is = aad_is;
 }
 
+pub keygen_words : (ws : List (String Global)) (a b c : String Global) (template seed : List ℕ) → length ws ≡ 3
+    → a ≡ slice_index_or ws 0 a → b ≡ slice_index_or ws 1 b → c ≡ slice_index_or ws 2 c
+    → string_bytes a ≡ codes "keygen" → template ≡ string_bytes b → decode_sized (string_bytes c) 32 ≡ Ok seed
+    → KeygenWords (texts ws) template seed
+keygen_words ws a b c template seed l p q r is same decodes = record {
+  seed_word = string_bytes c;
+  spelled = three_texts ws a b c l p q r ∙ ap (λ x. x ∷ string_bytes b ∷ string_bytes c ∷ []) is ∙ ap (λ x. codes "keygen" ∷ x ∷ string_bytes c ∷ []) (sym same);
+  seed_is = seed_word (string_bytes c) seed decodes;
+}
+
+pub rotate_words : (ws : List (String Global)) (a b c d : String Global) (keyset template seed : List ℕ) → length ws ≡ 4
+    → a ≡ slice_index_or ws 0 a → b ≡ slice_index_or ws 1 b → c ≡ slice_index_or ws 2 c → d ≡ slice_index_or ws 3 d
+    → string_bytes a ≡ codes "rotate" → IsBytesWord (string_bytes b) keyset → template ≡ string_bytes c → decode_sized (string_bytes d) 32 ≡ Ok seed
+    → RotateWords (texts ws) keyset template seed
+rotate_words ws a b c d keyset template seed l p q r s is keyset_is same decodes = record {
+  keyset_word = string_bytes b;
+  seed_word = string_bytes d;
+  spelled = four_texts ws a b c d l p q r s ∙ ap (λ x. x ∷ string_bytes b ∷ string_bytes c ∷ string_bytes d ∷ []) is
+      ∙ ap (λ x. codes "rotate" ∷ string_bytes b ∷ x ∷ string_bytes d ∷ []) (sym same);
+  keyset_is = keyset_is;
+  seed_is = seed_word (string_bytes d) seed decodes;
+}
+
 -- a word spells at most one list of bytes
-bytes-same : (word xs ys : List ℕ) → IsBytesWord word xs → IsBytesWord word ys → xs ≡ ys
+pub bytes-same : (word xs ys : List ℕ) → IsBytesWord word xs → IsBytesWord word ys → xs ≡ ys
 bytes-same word xs ys (inl p) (inl q) = p.1 ∙ sym q.1
 bytes-same word xs ys (inl p) (inr q) = absurd (omega (arith, ap length p.0, q.0))
 bytes-same word xs ys (inr p) (inl q) = absurd (omega (arith, ap length q.0, p.0))

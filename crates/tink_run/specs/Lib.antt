@@ -5,6 +5,7 @@ pub mod Run
 pub mod SealSteps
 pub mod Draws
 pub mod Words
+pub mod Keysets
 pub mod Program
 pub mod OpenSteps
 pub mod Valid

@@ -16,7 +16,9 @@ use Rattle.tink_run.specs.declared.report.Report.{Report}
 use Rattle.tink_run.specs.Draws.{draws_in}
 use Rattle.tink_run.specs.Outside.{Outside, IsUntouched, HasNoFault}
 use Rattle.tink_run.specs.Run.{AnswerMeans, IsEarly, Told, OkMeans, IsWholeStream, IsWholeText, IsOfAgreeing, OnlyAgreeing, CanSeal, CanOpen, IsComplete}
-use Rattle.tink_run.specs.Words.{SealWords, OpenWords, SpellNothing}
+use Rattle.tink_proto.specs.declared.messages.keys.Keyset.{Keyset}
+use Rattle.tink_run.specs.Keysets.{made_keyset, HasMade, HasNotMade, IsLine, IsUnmadeBy, Rotation, SpellRotation, Wrote, WroteFront}
+use Rattle.tink_run.specs.Words.{KeygenWords, OpenWords, RotateWords, SealWords, SpellNothing}
 
 -- a refusal's status. A kind of the last line never comes.
 abbrev pub kind_status : Kind → ℕ
@@ -46,12 +48,12 @@ status_of (Refused kind) = kind_status kind
 -- the line that is told, nothing where all went well
 abbrev pub line_of : Outcome → List ℕ
 line_of Done = []
-line_of Usage = codes "usage: seal KEYSET AAD SEED | open KEYSET AAD" ++ 10 ∷ []
+line_of Usage = codes "usage: seal KEYSET AAD SEED | open KEYSET AAD | keygen TEMPLATE SEED | rotate KEYSET TEMPLATE SEED" ++ 10 ∷ []
 line_of (Refused kind) = kind_line kind
 
 -- the outcome that an answer comes to
-abbrev pub answer_outcome : Result Report TinkError → Outcome
-answer_outcome (Ok report) = Done
+abbrev pub answer_outcome : {T : Type 0} → Result T TinkError → Outcome
+answer_outcome (Ok _) = Done
 answer_outcome (Err e) = Refused e.kind
 
 -- the words spell a seal, and it gave this answer with the seed's first 256 words as draws
@@ -75,13 +77,26 @@ pub record Opened (words : List (List ℕ)) (old new : Outside) (answer : Result
 abbrev pub Answered : List (List ℕ) → Outside → Outside → Result Report TinkError → Type 0
 Answered words old new answer = Sealed words old new answer ⊎ Opened words old new answer
 
--- what stands after each outcome, and why it came. The seed's draws always suffice; `OutOfMemory` is free.
+-- what stands after each outcome of a seal, of an open or of no command, and why it came. The seed's draws always suffice;
+-- `OutOfMemory` is free.
+abbrev pub StreamMeans : List (List ℕ) → Outside → Outside → Outcome → Type 0
+StreamMeans words old new Done = (report : Report) × Answered words old new (Ok report)
+StreamMeans words old new Usage = SpellNothing words × IsUntouched old new
+StreamMeans words old new (Refused OutOfMemory) = IsUntouched old new
+StreamMeans words old new (Refused RandomFault) = ⊥
+StreamMeans words old new (Refused kind) = Answered words old new (Err (record { kind = kind }))
+
+-- the same of a command that makes a keyset
+abbrev pub KeysetMeans : List (List ℕ) → Outside → Outside → Outcome → Type 0
+KeysetMeans words old new Done = HasMade words old new Wrote
+KeysetMeans words old new Usage = ⊥
+KeysetMeans words old new (Refused OutOfMemory) = IsUntouched old new
+KeysetMeans words old new (Refused WriteFault) = HasMade words old new WroteFront
+KeysetMeans words old new (Refused kind) = HasNotMade words old new kind
+
+-- what stands after each outcome, and why it came
 abbrev pub OutcomeMeans : List (List ℕ) → Outside → Outside → Outcome → Type 0
-OutcomeMeans words old new Done = (report : Report) × Answered words old new (Ok report)
-OutcomeMeans words old new Usage = SpellNothing words × IsUntouched old new
-OutcomeMeans words old new (Refused OutOfMemory) = IsUntouched old new
-OutcomeMeans words old new (Refused RandomFault) = ⊥
-OutcomeMeans words old new (Refused kind) = Answered words old new (Err (record { kind = kind }))
+OutcomeMeans words old new outcome = StreamMeans words old new outcome ⊎ KeysetMeans words old new outcome
 
 -- the status is that of an outcome, whose line was told: exactly, or a prefix of it where the count of faults rose
 pub record ProgramMeans (words : List (List ℕ)) (old new : Outside) (told_before told_after : Option (List ℕ)) (faults_before faults_after : ℕ) (status : ℕ) : Type 0 where
@@ -103,13 +118,23 @@ pub record HasCause (old new : Outside) (status : ℕ) : Type 0 where
 
 -- the statuses of a command that was refused before it read or wrote
 abbrev pub early_statuses : List ℕ
-early_statuses = 2 ∷ 10 ∷ 13 ∷ 14 ∷ 15 ∷ 16 ∷ 17 ∷ 18 ∷ 19 ∷ []
+early_statuses = 2 ∷ 10 ∷ 13 ∷ 14 ∷ 15 ∷ 16 ∷ 17 ∷ 18 ∷ 19 ∷ 24 ∷ 25 ∷ []
+
+-- kinds by which a command is refused before it reads or writes
+abbrev pub IsEarlyKind : Kind → Type 0
+IsEarlyKind UnknownTemplate = Unit {0}
+IsEarlyKind NoFreshId = Unit {0}
+IsEarlyKind kind = IsEarly kind
 
 -- such an outcome leaves both ends exactly as they were
 abbrev pub Leaves : {S K : Type 0} → Outcome → S → S → K → K → Type 0
 Leaves Done source source_after sink sink_after = Unit {0}
 Leaves Usage source source_after sink sink_after = (source_after ≡ source) × (sink_after ≡ sink)
-Leaves (Refused kind) source source_after sink sink_after = IsEarly kind → (source_after ≡ source) × (sink_after ≡ sink)
+Leaves (Refused kind) source source_after sink sink_after = IsEarlyKind kind → (source_after ≡ source) × (sink_after ≡ sink)
+
+-- a command that makes a keyset leaves the source itself as it was, whatever its status
+abbrev pub LeavesSource : {S : Type 0} → List (List ℕ) → S → S → Type 0
+LeavesSource words source source_after = (r : Rotation) → SpellRotation words r → source_after ≡ source
 
 abbrev pub SpellKeyset : List (List ℕ) → List ℕ → Type 0
 SpellKeyset words keyset = ((aad seed : List ℕ) × SealWords words keyset aad seed) ⊎ ((aad : List ℕ) × OpenWords words keyset aad)
@@ -128,10 +153,30 @@ seal_statuses = 0 ∷ 10 ∷ 11 ∷ 12 ∷ 13 ∷ 14 ∷ 15 ∷ 16 ∷ 17 ∷ 18
 abbrev pub open_statuses : List ℕ
 open_statuses = 0 ∷ 10 ∷ 11 ∷ 12 ∷ 13 ∷ 14 ∷ 15 ∷ 16 ∷ 17 ∷ 18 ∷ 20 ∷ 21 ∷ 22 ∷ 23 ∷ []
 
+abbrev pub keygen_statuses : List ℕ
+keygen_statuses = 0 ∷ 10 ∷ 12 ∷ 24 ∷ 25 ∷ []
+
+abbrev pub rotate_statuses : List ℕ
+rotate_statuses = 0 ∷ 10 ∷ 12 ∷ 13 ∷ 14 ∷ 24 ∷ 25 ∷ []
+
 -- each command has only its own statuses
 pub record HasOwnStatus (words : List (List ℕ)) (status : ℕ) : Type 0 where
   pub sealing : (keyset aad seed : List ℕ) → SealWords words keyset aad seed → IsAmong seal_statuses status
   pub opening : (keyset aad : List ℕ) → OpenWords words keyset aad → IsAmong open_statuses status
+  pub making : (template seed : List ℕ) → KeygenWords words template seed → IsAmong keygen_statuses status
+  pub rotating : (keyset template seed : List ℕ) → RotateWords words keyset template seed → IsAmong rotate_statuses status
+
+-- a keyset that is not made gets its refusal's status, or `OutOfMemory`
+abbrev pub RefusesUnmade : List (List ℕ) → ℕ → Type 0
+RefusesUnmade words status = (r : Rotation) (kind : Kind) → SpellRotation words r → made_keyset r ≡ Err kind → (status ≡ kind_status kind) ⊎ (status ≡ 10)
+
+-- and no other keyset gets it: 13 and 14 are the given keyset's refusals, for 24 no template has the name, and for 25 all 128
+-- ids were 0 or in use
+abbrev pub unmade_statuses : List ℕ
+unmade_statuses = 13 ∷ 14 ∷ 24 ∷ 25 ∷ []
+
+abbrev pub HasUnmadeCause : List (List ℕ) → ℕ → Type 0
+HasUnmadeCause words status = (r : Rotation) → SpellRotation words r → IsAmong unmade_statuses status → (kind : Kind) × (status ≡ kind_status kind) × IsUnmadeBy r kind
 
 -- what a status says of the words, and what stands after it
 pub record StatusMeans (words : List (List ℕ)) (old new : Outside) (status : ℕ) : Type 0 where
@@ -141,6 +186,9 @@ pub record StatusMeans (words : List (List ℕ)) (old new : Outside) (status : �
   pub own : HasOwnStatus words status
   -- what a keyset gets that does not load
   pub unloaded : RefusesUnloaded words status
+  -- what words get whose keyset is not made, and why
+  pub unmade : RefusesUnmade words status
+  pub unmade_cause : HasUnmadeCause words status
   -- what stands after 10, and that a count rose for 11 or 12
   pub cause : HasCause old new status
 
@@ -191,6 +239,15 @@ pub record Ran (command : Command) (keyset aad draws : List ℕ) (old new : Outs
   pub written : OnlyAgreeing command keyset aad old new
   pub succeeds : IsComplete command keyset aad draws old new answer
 
+-- what 0 and 12 promise of a keyset that is made, and when it is: exactly its line was written, or a prefix of it
+pub record MakesKeyset (r : Rotation) (old new : Outside) (status : ℕ) : Type 0 where
+  pub whole : status ≡ 0 → (text : List ℕ) × IsLine r text × Wrote old new text
+  pub front : status ≡ 12 → (text : List ℕ) × IsLine r text × WroteFront old new text
+  pub succeeds : (keyset : Keyset) → made_keyset r ≡ Ok keyset → (Rose old.write_faults new.write_faults → ⊥) → (status ≡ 0) ⊎ (status ≡ 10)
+
+abbrev pub MakesAsSpelled : List (List ℕ) → Outside → Outside → ℕ → Type 0
+MakesAsSpelled words old new status = (r : Rotation) → SpellRotation words r → MakesKeyset r old new status
+
 -- told bytes: the promises of a status
 pub record Promised (words : List (List ℕ)) (old new : Outside) (status : ℕ) : Type 0 where
   -- what 0 promises of a seal
@@ -201,3 +258,5 @@ pub record Promised (words : List (List ℕ)) (old new : Outside) (status : ℕ)
   pub written : WritesAsSpelled words old new
   -- when a command succeeds
   pub succeeds : Succeeds words old new status
+  -- what a command that makes a keyset has written, and when it succeeds, told or not
+  pub made : MakesAsSpelled words old new status

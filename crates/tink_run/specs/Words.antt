@@ -2,7 +2,7 @@
 use Rattle.std.specs.Prelude.{◌≡◌, ◌⊎◌, ◌≤◌, ℕ, List, [], ◌∷◌, length, map, codes, String, string_bytes, Ok, Vec}
 use Rattle.hex.specs.Hex.{decode_of}
 use Rattle.tink_run.specs.declared.words.Parsed.{Parsed}
-use Rattle.tink_run.specs.declared.words.Parsed.TheVariants.{Seal, Open}
+use Rattle.tink_run.specs.declared.words.Parsed.TheVariants.{Keygen, Open, Rotate, Seal}
 
 -- two hexadecimal digits or more, an even number in either case, or a dash for no bytes
 abbrev pub IsBytesWord : List ℕ → List ℕ → Type 0
@@ -30,16 +30,38 @@ pub record OpenWords (words : List (List ℕ)) (keyset aad : List ℕ) : Type 0 
   pub keyset_is : IsBytesWord keyset_word keyset
   pub aad_is : IsBytesWord aad_word aad
 
+-- `keygen TEMPLATE SEED`, and what it spells: the template is any word
+pub record KeygenWords (words : List (List ℕ)) (template seed : List ℕ) : Type 0 where
+  pub seed_word : List ℕ
+  pub spelled : words ≡ codes "keygen" ∷ template ∷ seed_word ∷ []
+  pub seed_is : IsSeedWord seed_word seed
+
+-- `rotate KEYSET TEMPLATE SEED`, and what it spells
+pub record RotateWords (words : List (List ℕ)) (keyset template seed : List ℕ) : Type 0 where
+  pub keyset_word : List ℕ
+  pub seed_word : List ℕ
+  pub spelled : words ≡ codes "rotate" ∷ keyset_word ∷ template ∷ seed_word ∷ []
+  pub keyset_is : IsBytesWord keyset_word keyset
+  pub seed_is : IsSeedWord seed_word seed
+
 abbrev pub SpellNoSeal : List (List ℕ) → Type 0
 SpellNoSeal words = (keyset aad seed : List ℕ) → SealWords words keyset aad seed → ⊥
 
 abbrev pub SpellNoOpen : List (List ℕ) → Type 0
 SpellNoOpen words = (keyset aad : List ℕ) → OpenWords words keyset aad → ⊥
 
--- the words spell neither command
+abbrev pub SpellNoKeygen : List (List ℕ) → Type 0
+SpellNoKeygen words = (template seed : List ℕ) → KeygenWords words template seed → ⊥
+
+abbrev pub SpellNoRotate : List (List ℕ) → Type 0
+SpellNoRotate words = (keyset template seed : List ℕ) → RotateWords words keyset template seed → ⊥
+
+-- the words spell none of the four commands
 pub record SpellNothing (words : List (List ℕ)) : Type 0 where
   pub no_seal : SpellNoSeal words
   pub no_open : SpellNoOpen words
+  pub no_keygen : SpellNoKeygen words
+  pub no_rotate : SpellNoRotate words
 
 -- the bytes of each word of a command line
 abbrev pub words_in : {A : Type 0} → List (String A) → List (List ℕ)
@@ -53,3 +75,5 @@ words_of words = words_in words.items
 abbrev pub Spell : List (List ℕ) → Parsed → Type 0
 Spell words (Seal args) = SealWords words args.keyset.items args.aad.items args.seed
 Spell words (Open args) = OpenWords words args.keyset.items args.aad.items
+Spell words (Keygen args) = KeygenWords words (string_bytes args.template) args.seed
+Spell words (Rotate args) = RotateWords words args.keyset.items (string_bytes args.template) args.seed

@@ -3,6 +3,7 @@
 #![tactic(auto)]
 
 mod keys;
+mod keysets;
 pub mod laws;
 pub mod load;
 mod open;

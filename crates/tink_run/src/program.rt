@@ -5,17 +5,19 @@ ghost use Rattle.tink_io.specs.Written.{WritesOrFaults};
 ghost use Rattle.tink_run.specs.declared.report.Command.TheVariants.{Seal, Open};
 ghost use Rattle.tink_run.specs.Draws.{draws_in};
 ghost use Rattle.tink_run.specs.Outside.{outside_of};
-ghost use Rattle.tink_run.specs.Program.{IsAmong, Leaves, OutcomeMeans, ProgramMeans, Promised, Ran, StatusMeans, answer_outcome, early_statuses, line_of, status_of};
+ghost use Rattle.tink_run.specs.Program.{IsAmong, Leaves, LeavesSource, OutcomeMeans, ProgramMeans, Promised, Ran, StatusMeans, answer_outcome, early_statuses, line_of, status_of};
 ghost use Rattle.tink_run.specs.Run.{LeavesEnds};
 ghost use Rattle.tink_run.specs.Words.{words_of};
 
+use crate::keysets::{write_new, write_rotated};
 use crate::report::{Command, Report};
 use crate::run::run;
 use crate::words::{OpenArgs, Parsed, SealArgs, first_draws, parse};
 use std::alloc::Global;
 use tink_io::{Draws, Kind, Sink, Source, TinkError, write_all, write_line};
 
-const USAGE: &[u8] = b"usage: seal KEYSET AAD SEED | open KEYSET AAD\n";
+const USAGE: &[u8] =
+    b"usage: seal KEYSET AAD SEED | open KEYSET AAD | keygen TEMPLATE SEED | rotate KEYSET TEMPLATE SEED\n";
 
 /// How the program ended.
 #[derive(Clone, Copy, Debug, PartialEq, Eq)]
@@ -31,12 +33,14 @@ pub enum Outcome {
 /// Does what the words say, from `source` to `sink`, and answers the status:
 ///
 /// - 0: it was done, and nothing is told to `faults`.
-/// - 2: the words are neither `seal KEYSET AAD SEED` nor `open KEYSET AAD`; the usage line is told.
-/// - 10 to 23: it was refused; the line of the refusal's kind is told.
+/// - 2: the words are none of `seal KEYSET AAD SEED`, `open KEYSET AAD`, `keygen TEMPLATE SEED` and
+///   `rotate KEYSET TEMPLATE SEED`; the usage line is told.
+/// - 10 to 25: it was refused; the line of the refusal's kind is told.
 ///
-/// KEYSET and AAD are hexadecimal, in either case and at least two digits, or `-` for no bytes;
-/// SEED is 64 hexadecimal digits, and the draws of a seal are the first 256 words of its ChaCha20
-/// stream. A fault of `faults` ends the line where it stands, and changes no status.
+/// KEYSET and AAD are hexadecimal, in either case and at least two digits, or `-` for no bytes; TEMPLATE is any word;
+/// SEED is 64 hexadecimal digits, and draws are the first 256 words of its ChaCha20 stream. `keygen` writes the line
+/// of a keyset of one new key by the template of that name, `rotate` that of KEYSET with such a key as its primary
+/// one; they leave the source as it is. A fault of `faults` ends the line where it stands, and changes no status.
 pub fn program<S: Source, K: Sink, E: Sink>(
     alloc: Global,
     words: &Vec<String>,
@@ -50,17 +54,20 @@ pub fn program<S: Source, K: Sink, E: Sink>(
         (outside_of S.left S.faults K.got K.faults source.new sink.new)
         (E.got faults.old) (E.got faults.new) (E.faults faults.old) (E.faults faults.new) result }
 
-    // When status 2 comes, which statuses a command has, what a keyset gets that does not load, and what stands after
-    // a status of 10, 11 or 12.
+    // When status 2 comes, which statuses a command has, what a keyset gets that does not load or is not made, and
+    // what stands after a status of 10, 11 or 12.
     ensures status { StatusMeans (words_of words.now)
         (outside_of S.left S.faults K.got K.faults source.old sink.old)
         (outside_of S.left S.faults K.got K.faults source.new sink.new) result }
 
-    // A status of 2, 10 or 13 to 19 leaves the ends themselves as they were.
+    // A status of 2, 10, 13 to 19, 24 or 25 leaves the ends themselves as they were.
     ensures early { IsAmong early_statuses result → (source.new ≡ source.old) × (sink.new ≡ sink.old) }
 
+    // A command that makes a keyset leaves the source itself as it was.
+    ensures kept { LeavesSource (words_of words.now) source.old source.new }
+
     // Told bytes: what status 0 promises of a seal, and of an open; what an open has written by any status; when a
-    // command succeeds.
+    // command succeeds. Told or not: what a command that makes a keyset has written, and when it succeeds.
     ensures promised { Promised (words_of words.now)
         (outside_of S.left S.faults K.got K.faults source.old sink.old)
         (outside_of S.left S.faults K.got K.faults source.new sink.new) result }
@@ -132,6 +139,7 @@ fn command<S: Source, K: Sink>(
         (outside_of S.left S.faults K.got K.faults source.new sink.new)
         (status_of result) }
     ensures early { Leaves result source.old source.new sink.old sink.new }
+    ensures kept { LeavesSource (words_of words.now) source.old source.new }
     ensures source { S.same source.old source.new }
     ensures sink { K.same sink.old sink.new }
 {
@@ -140,6 +148,8 @@ fn command<S: Source, K: Sink>(
         Ok(None) => Outcome::Usage,
         Ok(Some(Parsed::Seal(args))) => outcome_of(run_seal(alloc, &args, source, sink)),
         Ok(Some(Parsed::Open(args))) => outcome_of(run_open(alloc, &args, source, sink)),
+        Ok(Some(Parsed::Keygen(args))) => outcome_of(write_new(alloc, &args, sink)),
+        Ok(Some(Parsed::Rotate(args))) => outcome_of(write_rotated(alloc, &args, sink)),
     }
 }
 
@@ -199,7 +209,7 @@ fn run_open<S: Source, K: Sink>(
 }
 
 // The outcome that an answer comes to.
-fn outcome_of(answer: Result<Report, TinkError>) -> Outcome
+fn outcome_of<T: Copy>(answer: Result<T, TinkError>) -> Outcome
     ensures { result ≡ answer_outcome answer }
 {
     match answer {

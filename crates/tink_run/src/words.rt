@@ -1,9 +1,9 @@
 //! The words of the program.
 
-ghost use Rattle.std.specs.Prelude.{◌≡◌, List, ℕ, IfOk, IfErr, IfSome, IfNone};
+ghost use Rattle.std.specs.Prelude.{◌≡◌, List, ℕ, IfOk, IfErr, IfSome, IfNone, string_bytes};
 ghost use Rattle.tink_io.specs.declared.error.Kind.TheVariants.{OutOfMemory};
 ghost use Rattle.tink_run.specs.Draws.{draws_in};
-ghost use Rattle.tink_run.specs.Words.{IsBytesWord, OpenWords, SealWords, Spell, SpellNoOpen, SpellNoSeal, SpellNothing, words_of};
+ghost use Rattle.tink_run.specs.Words.{IsBytesWord, KeygenWords, OpenWords, RotateWords, SealWords, Spell, SpellNoKeygen, SpellNoOpen, SpellNoRotate, SpellNoSeal, SpellNothing, words_of};
 
 use hex::{FromHex, FromHexError};
 use rand_chacha::ChaCha20Rng;
@@ -27,11 +27,28 @@ pub struct OpenArgs {
     pub aad: Vec<u8>,
 }
 
+/// What `keygen TEMPLATE SEED` spells.
+#[derive(Drop)]
+pub struct KeygenArgs {
+    pub template: String,
+    pub seed: [u8; 32],
+}
+
+/// What `rotate KEYSET TEMPLATE SEED` spells.
+#[derive(Drop)]
+pub struct RotateArgs {
+    pub keyset: Vec<u8>,
+    pub template: String,
+    pub seed: [u8; 32],
+}
+
 /// A command with its values.
 #[derive(Drop)]
 pub enum Parsed {
     Seal(SealArgs),
     Open(OpenArgs),
+    Keygen(KeygenArgs),
+    Rotate(RotateArgs),
 }
 
 /// Reads the words of a command; `None` where they spell none. Refuses by `OutOfMemory` alone.
@@ -45,6 +62,12 @@ pub fn parse(alloc: Global, words: &Vec<String>) -> Result<Option<Parsed>, TinkE
     }
     if let Some(args) = parse_open(alloc, words)? {
         return Ok(Some(Parsed::Open(args)));
+    }
+    if let Some(args) = parse_keygen(alloc, words)? {
+        return Ok(Some(Parsed::Keygen(args)));
+    }
+    if let Some(args) = parse_rotate(alloc, words)? {
+        return Ok(Some(Parsed::Rotate(args)));
     }
     Ok(None)
 }
@@ -88,6 +111,47 @@ fn parse_open(alloc: Global, words: &Vec<String>) -> Result<Option<OpenArgs>, Ti
         return Ok(None);
     };
     Ok(Some(OpenArgs { keyset, aad }))
+}
+
+// Reads the words of `keygen`.
+fn parse_keygen(alloc: Global, words: &Vec<String>) -> Result<Option<KeygenArgs>, TinkError>
+    ensures found { IfOk result
+        (λ o. IfSome o (λ a. KeygenWords (words_of words.now) (string_bytes a.template) a.seed)) }
+    ensures none { IfOk result (λ o. IfNone o (SpellNoKeygen (words_of words.now))) }
+    ensures refused { IfErr result (λ e. e ≡ record { kind = OutOfMemory }) }
+{
+    if words.len() != 3 || words[0].as_str() != "keygen" {
+        return Ok(None);
+    }
+    let Ok(seed) = <[u8; 32] as FromHex>::from_hex(words[2].as_str()) else {
+        return Ok(None);
+    };
+    let template = String::from_str(alloc, words[1].as_str())?;
+    Ok(Some(KeygenArgs { template, seed }))
+}
+
+// Reads the words of `rotate`.
+fn parse_rotate(alloc: Global, words: &Vec<String>) -> Result<Option<RotateArgs>, TinkError>
+    ensures found { IfOk result
+        (λ o. IfSome o (λ a. RotateWords (words_of words.now) a.keyset.items (string_bytes a.template) a.seed)) }
+    ensures none { IfOk result (λ o. IfNone o (SpellNoRotate (words_of words.now))) }
+    ensures refused { IfErr result (λ e. e ≡ record { kind = OutOfMemory }) }
+{
+    if words.len() != 4 || words[0].as_str() != "rotate" {
+        return Ok(None);
+    }
+    let Ok(seed) = <[u8; 32] as FromHex>::from_hex(words[3].as_str()) else {
+        return Ok(None);
+    };
+    let Some(keyset) = bytes_of(alloc, words[1].as_str())? else {
+        return Ok(None);
+    };
+    let template = String::from_str(alloc, words[2].as_str())?;
+    Ok(Some(RotateArgs {
+        keyset,
+        template,
+        seed,
+    }))
 }
 
 // The bytes of a hexadecimal word, or none of a dash.

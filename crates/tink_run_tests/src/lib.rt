@@ -10,6 +10,8 @@ mod damaged_tests;
 #[cfg(test)]
 mod fault_tests;
 #[cfg(test)]
+mod keyset_command_tests;
+#[cfg(test)]
 mod keyset_tests;
 #[cfg(test)]
 mod run_tests;

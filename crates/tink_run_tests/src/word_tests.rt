@@ -5,13 +5,20 @@ use std::alloc::Global;
 use std::test::Fail;
 use tink_io::{SureSink, SureSource};
 
-const USAGE: &str = "usage: seal KEYSET AAD SEED | open KEYSET AAD\n";
+const USAGE: &str =
+    "usage: seal KEYSET AAD SEED | open KEYSET AAD | keygen TEMPLATE SEED | rotate KEYSET TEMPLATE SEED\n";
 
 // Words apart by blanks: two blanks have an empty word between them, and no text has no words.
-const NO_COMMANDS: [&str; 12] = [
+const NO_COMMANDS: [&str; 18] = [
     "",
     "--help",
     "keygen AES128_CTR_HMAC_SHA256_4KB 00",
+    "keygen AES128_CTR_HMAC_SHA256_4KB",
+    "keygen 0000000000000000000000000000000000000000000000000000000000000000",
+    "rotate 00 AES128_CTR_HMAC_SHA256_4KB 00",
+    "rotate 00 0000000000000000000000000000000000000000000000000000000000000000",
+    "rotate 0 X 0000000000000000000000000000000000000000000000000000000000000000",
+    "rotate - - X 0000000000000000000000000000000000000000000000000000000000000000",
     "large 1",
     "seal 00 -",
     "open 00 - 00",
@@ -46,7 +53,7 @@ fn is_usage(alloc: Global, line: &str, room: usize, usage: &str) -> Result<bool,
 #[test]
 fn other_words_are_usage(rt: HostRuntime) -> Result<(), Fail> {
     for line in &NO_COMMANDS {
-        is(&rt, is_usage(rt.alloc(), line, 100, USAGE)?, line);
+        is(&rt, is_usage(rt.alloc(), line, 200, USAGE)?, line);
     }
     Ok(())
 }

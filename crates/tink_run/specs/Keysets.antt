@@ -1,0 +1,104 @@
+-- The two commands that make keysets: what they are asked for, what they write, and by what they are refused.
+use Rattle.std.specs.Prelude.{◌≡◌, ◌⊎◌, ℕ, List, Option, Result, Ok, Err, Vec}
+use Rattle.std.specs.Io.KnownBytes.{Appends}
+use Rattle.tink_io.specs.Faults.{Rose}
+use Rattle.tink_io.specs.Written.{AppendsFront}
+use Rattle.tink_io.specs.declared.error.Kind.{Kind}
+use Rattle.tink_io.specs.declared.error.Kind.TheVariants.{OutOfMemory, WriteFault, BadKeyset, InvalidKeyset, UnknownTemplate, NoFreshId}
+use Rattle.tink_io.specs.declared.error.TinkError.{TinkError}
+use Rattle.tink_proto.specs.declared.messages.keys.Keyset.{Keyset}
+use Rattle.tink_keysets.specs.Managed.{no_keys}
+use Rattle.tink_keygen.specs.Rotating.{key_line, rotated_by, valid_keyset, IsUnmade}
+use Rattle.tink_run.specs.Draws.{draws_in}
+use Rattle.tink_run.specs.Outside.{Outside, IsUntouched}
+use Rattle.tink_run.specs.Words.{KeygenWords, RotateWords}
+
+-- a keyset, or its refusal, and the template and the seed of the key that is to be its primary one
+pub record Rotation : Type 0 where
+  pub start : Result Keyset Kind
+  pub template : List ℕ
+  pub seed : List ℕ
+
+-- a new keyset starts from one without keys
+abbrev pub of_no_keys : List ℕ → List ℕ → Rotation
+of_no_keys template seed = record { start = Ok no_keys; template = template; seed = seed }
+
+abbrev pub of_keyset : List ℕ → List ℕ → List ℕ → Rotation
+of_keyset keyset template seed = record { start = valid_keyset keyset; template = template; seed = seed }
+
+-- `keygen` or `rotate`, and what it spells
+abbrev pub SpellRotation : List (List ℕ) → Rotation → Type 0
+SpellRotation words r =
+    (KeygenWords words r.template r.seed × (r ≡ of_no_keys r.template r.seed))
+    ⊎ ((keyset : List ℕ) × RotateWords words keyset r.template r.seed × (r ≡ of_keyset keyset r.template r.seed))
+
+-- the keyset that is made with the seed's first 256 words as draws, or why there is none
+abbrev pub made_keyset : Rotation → Result Keyset Kind
+made_keyset r = rotated_by r.template r.start (draws_in r.seed 256)
+
+-- the line of the keyset that is made
+pub record IsLine (r : Rotation) (text : List ℕ) : Type 0 where
+  pub keyset : Keyset
+  pub made : made_keyset r ≡ Ok keyset
+  pub text_is : text ≡ key_line keyset
+
+-- there is none, by this kind
+pub record IsUnmadeBy (r : Rotation) (kind : Kind) : Type 0 where
+  pub made : made_keyset r ≡ Err kind
+  pub cause : IsUnmade r.template r.start kind
+
+-- a refusal before anything is written. The seed's draws always suffice; `OutOfMemory` is free.
+abbrev pub IsRefusal : Rotation → Kind → Type 0
+IsRefusal r OutOfMemory = Unit {0}
+IsRefusal r BadKeyset = IsUnmadeBy r BadKeyset
+IsRefusal r InvalidKeyset = IsUnmadeBy r InvalidKeyset
+IsRefusal r UnknownTemplate = IsUnmadeBy r UnknownTemplate
+IsRefusal r NoFreshId = IsUnmadeBy r NoFreshId
+IsRefusal r _ = ⊥
+
+-- a call gives the line, or refuses
+abbrev pub GivesLine : {G : Type 0} → Rotation → Result (Vec ℕ G) TinkError → Type 0
+GivesLine r (Ok text) = IsLine r text.items
+GivesLine r (Err e) = IsRefusal r e.kind
+
+-- a call writes the line, or refuses: after a fault a prefix of it is written, before that nothing
+abbrev pub RefusesLine : Rotation → Option (List ℕ) → Option (List ℕ) → ℕ → ℕ → Kind → Type 0
+RefusesLine r old new before now WriteFault = (text : List ℕ) × IsLine r text × AppendsFront old new text × Rose before now
+RefusesLine r old new before now kind = IsRefusal r kind × (new ≡ old) × (now ≡ before)
+
+abbrev pub WritesLine : Rotation → Option (List ℕ) → Option (List ℕ) → ℕ → ℕ → Result (Unit {0}) TinkError → Type 0
+WritesLine r old new before now (Ok _) = (text : List ℕ) × IsLine r text × Appends old new text
+WritesLine r old new before now (Err e) = RefusesLine r old new before now e.kind
+
+-- kinds by which nothing is written
+abbrev pub IsUnwritten : Kind → Type 0
+IsUnwritten WriteFault = ⊥
+IsUnwritten _ = Unit {0}
+
+-- a text was written, and the source is as before
+pub record Wrote (old new : Outside) (text : List ℕ) : Type 0 where
+  pub left : new.left ≡ old.left
+  pub read_faults : new.read_faults ≡ old.read_faults
+  pub written : Appends old.got new.got text
+
+-- a prefix of it was written before a fault
+pub record WroteFront (old new : Outside) (text : List ℕ) : Type 0 where
+  pub left : new.left ≡ old.left
+  pub read_faults : new.read_faults ≡ old.read_faults
+  pub written : AppendsFront old.got new.got text
+  pub rose : Rose old.write_faults new.write_faults
+
+-- the words ask for a keyset, whose line was written
+pub record HasMade (words : List (List ℕ)) (old new : Outside) (Written : Outside → Outside → List ℕ → Type 0) : Type 0 where
+  pub rotation : Rotation
+  pub spelled : SpellRotation words rotation
+  pub text : List ℕ
+  pub line : IsLine rotation text
+  pub written : Written old new text
+
+-- the words ask for a keyset that is not made
+pub record HasNotMade (words : List (List ℕ)) (old new : Outside) (kind : Kind) : Type 0 where
+  pub rotation : Rotation
+  pub spelled : SpellRotation words rotation
+  pub refusal : IsRefusal rotation kind
+  pub untouched : IsUntouched old new

@@ -1,0 +1,208 @@
+//! The commands that make keysets: the known line, each registered template, refusals, and sinks that fail.
+
+use crate::support::{KEYSET, SEED, between, by_words, expect, is, is_counted, sealed, words};
+use std::alloc::Global;
+use std::test::Fail;
+use tink::keyset::{Handle, insecure};
+use tink::{Draws, TinkError, registry};
+use tink_io::{Kind, MemSink, SureSource};
+use tink_keygen::keygen;
+
+const STREAMING: &str = "AES128_CTR_HMAC_SHA256_4KB";
+
+// What the zero seed gives for that template: the primary id, and the key.
+const ID: &str = "08b8b3c8ee0b";
+
+const KEY: &str =
+    "12700a640a3d747970652e676f6f676c65617069732e636f6d2f676f6f676c652e63727970746f2e74696e6b2e416573437472486d616353747265616d696e674b65791221120d088020101018032204080310201a1076b8e0ada0f13d90405d6ae55386bd281801100118b8b3c8ee0b2003";
+
+const NOT_STREAMING: [&str; 17] = [
+    "HKDF_SHA256",
+    "HMAC_SHA256_PRF",
+    "HMAC_SHA512_PRF",
+    "AES_CMAC_PRF",
+    "HMAC_SHA256_128BITTAG",
+    "HMAC_SHA256_256BITTAG",
+    "HMAC_SHA512_256BITTAG",
+    "HMAC_SHA512_512BITTAG",
+    "AES_CMAC",
+    "AES128_GCM",
+    "AES256_GCM",
+    "AES256_GCM_NO_PREFIX",
+    "AES128_GCM_SIV",
+    "AES256_GCM_SIV",
+    "AES256_GCM_SIV_NO_PREFIX",
+    "AES128_CTR_HMAC_SHA256",
+    "AES256_CTR_HMAC_SHA256",
+];
+
+const STREAMS: [&str; 8] = [
+    "AES128_CTR_HMAC_SHA256_4KB",
+    "AES128_CTR_HMAC_SHA256_1MB",
+    "AES256_CTR_HMAC_SHA256_4KB",
+    "AES256_CTR_HMAC_SHA256_1MB",
+    "AES128_GCM_HKDF_4KB",
+    "AES128_GCM_HKDF_1MB",
+    "AES256_GCM_HKDF_4KB",
+    "AES256_GCM_HKDF_1MB",
+];
+
+const OTHER_SEED: &str = "0101010101010101010101010101010101010101010101010101010101010101";
+
+// Words, the status, and the line.
+const REFUSED: [(&[&str], u8, &str); 8] = [
+    (&["keygen", "X", SEED], 24, "unknown template\n"),
+    (&["keygen", "", SEED], 24, "unknown template\n"),
+    (&["keygen", "aes128_gcm", SEED], 24, "unknown template\n"),
+    (&["rotate", KEYSET, "X", SEED], 24, "unknown template\n"),
+    (&["rotate", "08", "X", SEED], 24, "unknown template\n"),
+    (&["rotate", "08", STREAMING, SEED], 13, "bad keyset\n"),
+    (&["rotate", "-", STREAMING, SEED], 14, "invalid keyset\n"),
+    (&["rotate", "0801", STREAMING, SEED], 14, "invalid keyset\n"),
+];
+
+// Bytes of the keyset that a command's words make, as a word of further commands.
+fn made(alloc: Global, texts: &[&str]) -> Result<String, Fail> {
+    let told = by_words(alloc, texts, Vec::new(alloc))?;
+    if told.status != 0 {
+        return Err(Fail::new("no keyset was made"));
+    }
+    let mut digits = told.written;
+    digits.pop();
+    match String::from_utf8(digits) {
+        Ok(word) => Ok(word),
+        Err(_) => Err(Fail::new("the line is no text")),
+    }
+}
+
+// A text behind another, and a newline.
+fn line_of(alloc: Global, parts: &[&str]) -> Result<Vec<u8>, Fail> {
+    let mut line = Vec::new(alloc);
+    for part in parts {
+        line.extend_from_slice(part.as_bytes())?;
+    }
+    line.push(b'\n')?;
+    Ok(line)
+}
+
+// Whether words make exactly the line of these parts.
+fn makes(alloc: Global, texts: &[&str], parts: &[&str]) -> Result<bool, Fail> {
+    let told = by_words(alloc, texts, Vec::new(alloc))?;
+    Ok(told.tells(0, &line_of(alloc, parts)?, ""))
+}
+
+#[test]
+fn the_known_keysets_are_made(rt: HostRuntime) -> Result<(), Fail> {
+    let alloc = rt.alloc();
+    let new = makes(alloc, &["keygen", STREAMING, SEED], &[ID, KEY])?;
+    let kept = KEYSET.get(10..).unwrap_or("");
+    let rotated = makes(
+        alloc,
+        &["rotate", KEYSET, STREAMING, SEED],
+        &[ID, kept, KEY],
+    )?;
+    is(&rt, new && rotated, "a new keyset, and K with its key");
+    Ok(())
+}
+
+#[test]
+fn refusals_write_nothing(rt: HostRuntime) -> Result<(), Fail> {
+    for (texts, status, line) in &REFUSED {
+        let told = by_words(rt.alloc(), texts, Vec::new(rt.alloc()))?;
+        is(&rt, told.tells(*status, b"", line), line);
+    }
+    Ok(())
+}
+
+// A handle of the keyset that a word spells, whose keys build.
+fn handle_of(alloc: Global, word: &str) -> Result<Handle, Fail> {
+    let bytes = hex::decode(alloc, word)?;
+    Ok(insecure::new_handle(insecure::decode(alloc, &bytes)?)?)
+}
+
+fn builds(alloc: Global, template: &str) -> Result<bool, Fail> {
+    let word = made(alloc, &["keygen", template, SEED])?;
+    let handle = handle_of(alloc, word.as_str())?;
+    Ok(handle.primitives(alloc, &registry(alloc)?).is_ok())
+}
+
+#[test]
+fn each_template_makes_a_keyset_that_builds(rt: HostRuntime) -> Result<(), Fail> {
+    for template in &NOT_STREAMING {
+        is(&rt, builds(rt.alloc(), template)?, template);
+    }
+    for template in &STREAMS {
+        is(&rt, builds(rt.alloc(), template)?, template);
+    }
+    Ok(())
+}
+
+// Whether a stream of before a rotation opens afterwards.
+fn outlives(alloc: Global, template: &str) -> Result<bool, Fail> {
+    let old = made(alloc, &["keygen", template, SEED])?;
+    let stream = sealed(alloc, old.as_str(), "00", 5000)?;
+    let new = made(alloc, &["rotate", old.as_str(), template, OTHER_SEED])?;
+    let told = by_words(alloc, &["open", new.as_str(), "00"], stream)?;
+    Ok(new != old && told.status == 0 && is_counted(&told.written, 5000))
+}
+
+#[test]
+fn old_streams_open_after_a_rotation(rt: HostRuntime) -> Result<(), Fail> {
+    for template in &STREAMS {
+        is(&rt, outlives(rt.alloc(), template)?, template);
+    }
+    Ok(())
+}
+
+// The status, and the bytes that are written to a sink of pieces that fails at a call.
+fn with_a_fault(alloc: Global, piece: usize, call: u32) -> Result<(u8, usize), Fail> {
+    let mut source = SureSource::new(Vec::new(alloc));
+    let mut sink = MemSink::new(alloc, piece, vec![in alloc; call]?);
+    sink.reserve(alloc, 300)?;
+    let words = words(alloc, &["keygen", STREAMING, SEED])?;
+    let (status, line) = between(alloc, &words, &mut source, &mut sink, 100)?;
+    let bytes = sink.into_bytes();
+    let begins = line_of(alloc, &[ID, KEY])?.starts_with(&bytes);
+    let told = line.as_slice() == b"write fault\n".as_slice();
+    Ok((status, if begins && told { bytes.len() } else { 0 }))
+}
+
+#[test]
+fn a_fault_leaves_a_prefix_of_the_line(rt: HostRuntime) -> Result<(), Fail> {
+    let alloc = rt.alloc();
+    expect(
+        &rt,
+        with_a_fault(alloc, 100, 3)?,
+        (12, 200),
+        "the third of 100",
+    );
+    expect(&rt, with_a_fault(alloc, 1, 241)?, (12, 240), "the newline");
+    Ok(())
+}
+
+// By which kind draws of zeros, so many, are refused.
+fn zeros(alloc: Global, count: usize) -> Result<Option<Kind>, Fail> {
+    let mut draws = Draws::new(vec![in alloc; 0u8; count]?);
+    Ok(
+        keygen(alloc, STREAMING, &mut draws)
+            .err()
+            .map(|e: TinkError| e.kind),
+    )
+}
+
+#[test]
+fn ids_of_zero_are_not_fresh(rt: HostRuntime) -> Result<(), Fail> {
+    expect(
+        &rt,
+        zeros(rt.alloc(), 528)?,
+        Some(Kind::NoFreshId),
+        "128 ids",
+    );
+    expect(
+        &rt,
+        zeros(rt.alloc(), 527)?,
+        Some(Kind::RandomFault),
+        "127 ids",
+    );
+    Ok(())
+}
