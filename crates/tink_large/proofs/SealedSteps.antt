@@ -1,12 +1,11 @@
 -- What a piece of text and the last segment leave to come.
-use Rattle.std.proofs.Common.{◌≡◌, ◌⊎◌, inl, inr, ◌<◌, ◌≤◌, ◌+◌, ◌*◌, ◌^◌, ℕ, zero, suc, Bool, true, false, List, [], ◌∷◌, ◌++◌, length, take, drop, refl, sym, ap, subst, ◌∙◌, arith, Some, add-zero, zero-add, append_assoc, append-nil, length-append, length-drop}
+use Rattle.std.proofs.Common.{◌≡◌, ◌⊎◌, inl, inr, ◌<◌, ◌≤◌, ◌+◌, ◌*◌, ◌^◌, ℕ, zero, suc, Bool, true, false, List, [], ◌∷◌, ◌++◌, length, take, drop, sym, ap, subst, ◌∙◌, arith, Some, add-zero, zero-add, append_assoc, append-nil, length-append, length-drop}
 use Rattle.std.proofs.lemmas.Bool.{cases_lt}
 use Rattle.std.proofs.lemmas.List.{length-take, take-append-le, drop-append-le}
 use Rattle.std.specs.declared.option.Option.{Option}
 use Rattle.std.specs.Io.KnownBytes.{Appends}
 use Rattle.stream_model.specs.Cut.{full_chunks, open_chunk, room_at, numbered, sealed, unmarked}
 use Rattle.stream_model.proofs.CutFacts.{full_chunks_fits, full_chunks_more, open_chunk_fits, open_chunk_more, room_at_next, sealed_split}
-use Rattle.tink_io.specs.Faults.{Rose}
 use Rattle.tink_io.specs.Written.{AppendsFront}
 use Rattle.tink_io.specs.declared.error.Kind.{Kind}
 use Rattle.tink_io.specs.declared.error.Kind.TheVariants.{WriteFault, TooManySegments, FailedBefore}
@@ -79,7 +78,7 @@ fills seg a b m piece o long p q some most held h =
     ]
 
 -- a prefix of bytes behind none is no longer than they are
-front_short : (G bs : List ℕ) → AppendsFront (Some []) (Some G) bs → length G ≤ length bs
+pub front_short : (G bs : List ℕ) → AppendsFront (Some []) (Some G) bs → length G ≤ length bs
 front_short G bs f = omega (arith, ap length f.2, length-take f.0 bs)
 
 -- a writer over a sink with room does not refuse a piece

@@ -53,8 +53,17 @@ pub record IsMeasured (n : ℕ) (draws left : List ℕ) (m : Measured) : Type 0 
 abbrev pub line : List ℕ → List ℕ → List ℕ
 line name value = name ++ 32 ∷ value ++ 10 ∷ []
 
--- the four lines
+-- the four lines of numbers and a digest
+abbrev pub four_lines : ℕ → ℕ → ℕ → List ℕ → List ℕ
+four_lines text stream segments digest =
+    line (codes "text") (decimal text) ++ line (codes "stream") (decimal stream)
+    ++ line (codes "segments") (decimal segments) ++ line (codes "sha256") (encode_lower digest)
+
+-- those of what was measured
 abbrev pub large_lines : Measured → List ℕ
-large_lines m =
-    line (codes "text") (decimal m.text) ++ line (codes "stream") (decimal m.stream)
-    ++ line (codes "segments") (decimal m.segments) ++ line (codes "sha256") (encode_lower m.sha256)
+large_lines m = four_lines m.text m.stream m.segments m.sha256
+
+-- those of a number under draws
+unfoldable pub large_output : ℕ → List ℕ → List ℕ
+large_output n draws =
+    four_lines (length (large_text n)) (length (large_stream n draws)) (chunk_count large_key (large_text n)) (sha256 (large_stream n draws))

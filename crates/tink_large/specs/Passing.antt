@@ -1,5 +1,5 @@
 -- Bytes that were read, and then more.
-use Rattle.std.proofs.Common.{◌≡◌, ◌+◌, ℕ, List, [], ◌++◌, length, refl, sym, ap, subst, ◌∙◌, arith, append_assoc, append-nil, length-append}
+use Rattle.std.proofs.Common.{[], ◌++◌, refl, sym, ap, subst, ◌∙◌, arith, append_assoc, append-nil, length-append}
 use Rattle.sha2.specs.Hashers.{Holds256}
 use Rattle.tink_large.specs.SealedText.{Passed, stream_left}
 use Rattle.tink_large.specs.declared.sealed_text.SealedText.{SealedText}

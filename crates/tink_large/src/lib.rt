@@ -2,10 +2,11 @@
 #![tactic(auto)]
 
 mod measuring;
+mod opening;
 mod pending;
 mod printing;
 mod sealed_text;
 mod text;
 
-pub use measuring::Measured;
+pub use measuring::{Measured, measure};
 pub use printing::lines;

@@ -19,6 +19,8 @@ pub fn lines(alloc: Global, m: &Measured) -> Result<Vec<u8>, TinkError>
 {
     let digest = hex::encode(alloc, &m.sha256)?;
     let text = format!(in alloc;
-        "text {}\nstream {}\nsegments {}\nsha256 {}\n", m.text, m.stream, m.segments, digest)?;
+        "text {}\nstream {}\nsegments {}\nsha256 {}\n",
+        m.text, m.stream, m.segments, digest
+    )?;
     Ok(text.into_bytes())
 }

@@ -1,4 +1,4 @@
-use Rattle.std.proofs.Common.{◌≡◌, ◌⊎◌, inl, inr, ◌≤◌, [], ◌++◌, length, refl, sym, ap, ◌∙◌, arith, Some}
+use Rattle.std.proofs.Common.{◌≤◌, [], ◌++◌, length, refl, ap, ◌∙◌, arith, Some}
 use Rattle.stream_model.specs.Cut.{room_at}
 use Rattle.tink_streams.specs.Sealers.{segment_map}
 use Rattle.tink_streams.proofs.FrontFacts.{size_most}

@@ -1,4 +1,4 @@
-use Rattle.std.proofs.Common.{◌≡◌, ◌+◌, ◌-◌, ℕ, List, [], ◌++◌, length, ap, sym, ◌∙◌, arith}
+use Rattle.std.proofs.Common.{◌≡◌, ◌+◌, ◌-◌, ℕ, List, ◌++◌, length, ap, sym, ◌∙◌, arith}
 use Rattle.tink_large.specs.Coming.{comes, pending_bytes}
 use Rattle.tink_large.specs.Large.{text_from, text_length}
 use Rattle.tink_large.proofs.SealedSteps.{last_refilled, refilled}
