@@ -8,7 +8,7 @@ use Rattle.stream_model.specs.Cut.{cut, room_at}
 use Rattle.stream_model.proofs.CutFacts.{cut_none, cut_some}
 use Rattle.tink_io.specs.declared.error.Kind.{Kind}
 use Rattle.tink_io.specs.declared.error.Kind.TheVariants.{ReadFault, TooManySegments, BadSegment, Truncated}
-use Rattle.tink_streams.specs.Reading.{ReaderMoment, OpensNext, OpenRefused, NothingComes, TellsLeads}
+use Rattle.tink_streams.specs.Reading.{ReaderMoment, OpensNext, OpenNextRefused, NothingComes, TellsLeads}
 use Rattle.tink_large.specs.Opening.{Remains}
 use Rattle.tink_large.proofs.SealedSteps.{IsLonger}
 
@@ -88,7 +88,7 @@ at_first zero P p q = p refl
 at_first (suc i) P p q = q (omega arith)
 
 -- what remains is refused for no cause but a fault of its source
-pub not_refused : (seg : ℕ → Bool → List ℕ → List ℕ) (a b o : ℕ) (m n : ReaderMoment) (bytes total count : ℕ) (k : Kind) → 0 < o → m.faults ≡ 0 → n.faults ≡ 0 → Remains seg a b m.number m.rest bytes total count → OpenRefused seg a b o m n k → ⊥
+pub not_refused : (seg : ℕ → Bool → List ℕ → List ℕ) (a b o : ℕ) (m n : ReaderMoment) (bytes total count : ℕ) (k : Kind) → 0 < o → m.faults ≡ 0 → n.faults ≡ 0 → Remains seg a b m.number m.rest bytes total count → OpenNextRefused seg a b o m n k → ⊥
 not_refused seg a b o m n bytes total count ReadFault some before now r x = let rose = x.rose in omega (arith, before, now)
 not_refused seg a b o m n bytes total count TooManySegments some before now r x =
     let none = nothing_remains seg a b m bytes total count r x.nothing in
