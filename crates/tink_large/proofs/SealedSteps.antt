@@ -1,5 +1,5 @@
 -- What a piece of text and the last segment leave to come.
-use Rattle.std.proofs.Common.{◌≡◌, ◌⊎◌, inl, inr, ◌<◌, ◌≤◌, ◌+◌, ◌*◌, ◌^◌, ℕ, zero, suc, Bool, true, false, List, [], ◌∷◌, ◌++◌, length, take, drop, sym, ap, subst, ◌∙◌, arith, Some, add-zero, zero-add, append_assoc, append-nil, length-append, length-drop}
+use Rattle.std.proofs.Common.{◌≡◌, ◌⊎◌, inl, inr, ◌<◌, ◌≤◌, ◌+◌, ◌-◌, ◌*◌, ◌^◌, ℕ, zero, suc, Bool, true, false, List, [], ◌∷◌, ◌++◌, length, take, drop, sym, ap, subst, ◌∙◌, arith, Some, add-zero, zero-add, append_assoc, append-nil, length-append, length-drop}
 use Rattle.std.proofs.lemmas.Bool.{cases_lt}
 use Rattle.std.proofs.lemmas.List.{length-take, take-append-le, drop-append-le}
 use Rattle.std.specs.declared.option.Option.{Option}
@@ -20,7 +20,10 @@ use Rattle.tink_streams.proofs.WritingFacts.{stops_front}
 use Rattle.tink_streams.proofs.ReadingFacts.{numbered_longer}
 use Rattle.tink_segments.specs.StreamSegments.{length-segment_by, overhead_by, segment_by}
 use Rattle.tink_segments.specs.declared.stream_segment.StreamSegment.{StreamSegment}
-use Rattle.tink_large.specs.Coming.{come_of, comes, to_come}
+use Rattle.tink_large.specs.Coming.{come_of, comes, left_of, pending_bytes, to_come}
+use Rattle.tink_large.specs.Large.{text_from, text_length}
+use Rattle.tink_large.specs.declared.pending.Pending.{Pending}
+use Rattle.tink_large.proofs.TextFacts.{text_from_apart, text_from_none}
 
 -- a segment is longer than its text by so many bytes
 abbrev pub IsLonger : (ℕ → Bool → List ℕ → List ℕ) → ℕ → Type 0
@@ -174,14 +177,6 @@ last_step seg a b m n G held got now c =
 pub cipher_longer : (cipher : StreamSegment) (prefix : List ℕ) (size o : ℕ) → o ≡ overhead_by cipher → IsLonger (numbered (segment_by cipher) size prefix) o
 cipher_longer cipher prefix size o e = numbered_longer (segment_by cipher) size prefix o (λ n t. length-segment_by cipher n t ∙ ap (λ x. length t + x) (sym e))
 
--- where nothing was pending, a piece was sealed into what is now
-pub refilled : (come after : List ℕ → List ℕ) (given : ℕ) (G before piece Y T : List ℕ) → given ≡ 0 → G ++ after Y ≡ come (piece ++ Y) → piece ++ Y ≡ T → before ≡ [] → drop given G ++ after Y ≡ before ++ come T
-refilled come after given G before piece Y T z e text none = ap (λ k. drop k G ++ after Y) z ∙ e ∙ ap come text ∙ ap (λ x. x ++ come T) (sym none)
-
--- and at the end of the text the last segment
-pub last_refilled : (come after : List ℕ → List ℕ) (given : ℕ) (G before Y : List ℕ) → given ≡ 0 → Y ≡ [] → G ++ after [] ≡ come [] → before ≡ [] → drop given G ++ after Y ≡ before ++ come Y
-last_refilled come after given G before Y z end e none = ap (λ k. drop k G ++ after Y) z ∙ ap (λ y. G ++ after y) end ∙ e ∙ ap come (sym end) ∙ ap (λ x. x ++ come Y) (sym none)
-
 -- a close of an open writer that went well has closed it
 pub is_closed : (seg : ℕ → Bool → List ℕ → List ℕ) (m n : WriterMoment) → m.mode ≡ Open → ClosedBy seg m n ⊎ ((m.mode ≡ Closed) × (n ≡ m)) → ClosedBy seg m n
 is_closed seg m n is_open (inl c) = c
@@ -196,3 +191,30 @@ module _ {E : Type 0} {g : Ghosts E} where
   -- what comes of a writer, by the sealer that it has kept
   pub come_under : (w : SegmentWriter E g) (s : Sealer E g) (text : List ℕ) → w.sealer ≡ s → comes w text ≡ come_of (segment_map s) s.first s.room w.mode w.segments w.held.items text
   come_under w s text e = ap (λ (x : Sealer E g). come_of (segment_map x) x.first x.room w.mode w.segments w.held.items text) e
+
+-- a writer at this moment, by what its sink has
+module _ {E : Type 0} {g : Ghosts E} where
+  abbrev pub moment_at : SegmentWriter E g → Pending → WriterMoment
+  moment_at w p = record { mode = w.mode; number = w.segments; held = w.held.items; got = Some p.bytes.items; faults = p.faults }
+
+-- A source that had nothing pending, and a writer and a sink behind its next step.
+module _ {E : Type 0} {g : Ghosts E} (n at : ℕ) (before after : SegmentWriter E g) (p q : Pending) (none : pending_bytes p ≡ []) (given : q.given ≡ 0) where
+  behind : (text Y : List ℕ) → q.bytes.items ++ comes after Y ≡ comes before text → pending_bytes q ++ comes after Y ≡ pending_bytes p ++ comes before text
+  behind text Y e = ap (λ k. drop k q.bytes.items ++ comes after Y) given ∙ e ∙ ap (λ x. x ++ comes before text) (sym none)
+
+  -- a piece was sealed
+  pub piece_left : (count : ℕ) (piece : List ℕ) → ((text : List ℕ) → q.bytes.items ++ comes after text ≡ comes before (piece ++ text)) → piece ≡ text_from n at count → at + count ≤ text_length n
+      → left_of n (at + count) after q ≡ left_of n at before p
+  piece_left count piece step is within =
+      let Y : List ℕ = text_from n (at + count) (text_length n - (at + count)) in
+      let text : piece ++ Y ≡ text_from n at (text_length n - at) =
+      ap (λ x. x ++ Y) is ∙ sym (text_from_apart n at count (text_length n - (at + count)) (text_length n - at) (omega (arith, within)))
+      in
+      behind (text_from n at (text_length n - at)) Y (step Y ∙ ap (comes before) text)
+
+  -- the last segment was sealed
+  pub last_left : q.bytes.items ++ comes after [] ≡ comes before [] → text_length n - at ≡ 0 → left_of n at after q ≡ left_of n at before p
+  last_left step end =
+      let Y : List ℕ = text_from n at (text_length n - at) in
+      let nothing : Y ≡ [] = ap (text_from n at) end ∙ text_from_none n at in
+      behind Y Y (ap (λ y. q.bytes.items ++ comes after y) nothing ∙ step ∙ ap (comes before) (sym nothing))

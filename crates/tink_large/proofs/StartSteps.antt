@@ -21,14 +21,14 @@ use Rattle.tink_streaming_aead.proofs.StreamLaws.{stream_is}
 use Rattle.tink_streams.specs.Choosing.{IsOpenerOf, Started, StartRefused}
 use Rattle.tink_streams.specs.Sealers.{segment_map}
 use Rattle.tink_streams.specs.declared.writing.SegmentWriter.{SegmentWriter}
-use Rattle.tink_large.specs.Coming.{come_of, comes, left_of, moment_at, to_come}
+use Rattle.tink_large.specs.Coming.{come_of, comes, left_of, to_come}
 use Rattle.tink_large.specs.Large.{large_key, large_stream, large_text, text_from, text_length}
 use Rattle.tink_large.specs.Opening.{AllRemains, IsBegun, IsLargeStream, MeasureRefused, Remains}
 use Rattle.tink_large.specs.SealedText.{Passed, stream_left}
 use Rattle.tink_large.specs.declared.sealed_text.SealedText.{SealedText}
 use Rattle.tink_large.specs.declared.pending.Pending.{Pending}
 use Rattle.tink_large.proofs.LargeFacts.{few_chunks, large_keys, large_keys_are, large_usable, length-front, length-prefix, length-salt}
-use Rattle.tink_large.proofs.SealedSteps.{IsLonger, all_comes, front_short}
+use Rattle.tink_large.proofs.SealedSteps.{IsLonger, all_comes, front_short, moment_at}
 
 -- ---- a stream is begun
 

@@ -1,9 +1,8 @@
 -- What is still to come of a stream while its text is sealed.
-use Rattle.std.specs.Prelude.{ℕ, ◌+◌, ◌-◌, Bool, true, List, [], ◌++◌, length, drop, Some}
+use Rattle.std.specs.Prelude.{ℕ, ◌+◌, ◌-◌, Bool, true, List, [], ◌++◌, length, drop}
 use Rattle.stream_model.specs.Cut.{full_chunks, open_chunk, room_at, unmarked}
 use Rattle.tink_segment_traits.specs.declared.segment_traits.SegmentEncrypter.{Ghosts}
 use Rattle.tink_streams.specs.Sealers.{segment_map}
-use Rattle.tink_streams.specs.Writing.{WriterMoment}
 use Rattle.tink_streams.specs.declared.writing.Mode.{Mode}
 use Rattle.tink_streams.specs.declared.writing.Mode.TheVariants.{Open, Closed, Failed}
 use Rattle.tink_streams.specs.declared.writing.SegmentWriter.{SegmentWriter}
@@ -27,10 +26,6 @@ come_of seg first room Closed i held text = []
 come_of seg first room (Failed c) i held text = []
 
 module _ {E : Type 0} {g : Ghosts E} where
-  -- a writer at this moment, by what its sink has
-  abbrev pub moment_at : SegmentWriter E g → Pending → WriterMoment
-  moment_at w p = record { mode = w.mode; number = w.segments; held = w.held.items; got = Some p.bytes.items; faults = p.faults }
-
   -- what comes of a text behind what a writer holds
   abbrev pub comes : SegmentWriter E g → List ℕ → List ℕ
   comes w text = come_of (segment_map w.sealer) w.sealer.first w.sealer.room w.mode w.segments w.held.items text

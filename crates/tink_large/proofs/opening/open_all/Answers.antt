@@ -1,9 +1,10 @@
-use Rattle.std.proofs.Common.{rules, ℕ, Some, length, refl, ap, ◌∙◌, arith}
+use Rattle.std.proofs.Common.{rules, ◌+◌, ℕ, Some, length, refl, sym, ap, subst, ◌∙◌, arith}
 use Rattle.stream_model.specs.Sealing.{chunk_count}
 use Rattle.tink_streams.specs.Openers.{reader_moment, segment_map}
 use Rattle.tink_streams.specs.Reading.{ReaderMoment}
 use Rattle.tink_streams.proofs.WholeSteps.{not_running}
 use Rattle.tink_large.specs.Large.{large_key, large_text}
+use Rattle.tink_large.specs.Opening.{AllRemains}
 use Rattle.tink_large.specs.Passing.{Passed-trans}
 use Rattle.tink_large.specs.SealedText.{stream_left}
 use Rattle.tink_large.proofs.LargeFacts.{length-large_text}
@@ -32,7 +33,7 @@ segments-preserved c =
     let next = rw inv.opener at c.in-Ok.ensures.answer in
     let r = remains_next (segment_map o) o.first o.size o.overhead before after c.segments.bytes (length (large_text n)) (chunk_count large_key (large_text n)) (cipher_longer o.decrypter o.prefix.items o.nonce_size o.overhead o.overhead_is) inv.remains next in
     record {
-      remains = rw c.opened.ensures r;
+      remains = subst (λ (k : ℕ). AllRemains (segment_map o) o.first o.size after.number after.rest (c.segments.bytes + k) n) (ap length (sym c.opened.ensures)) r;
       opener = c.open_next.ensures.opener ∙ inv.opener;
       lives = next.lives;
       ends = next.ends;

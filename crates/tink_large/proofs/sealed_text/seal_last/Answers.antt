@@ -2,8 +2,7 @@ use Rattle.std.proofs.Common.{◌≤◌, [], ◌++◌, length, refl, ap, ◌∙�
 use Rattle.stream_model.specs.Cut.{room_at}
 use Rattle.tink_streams.specs.Sealers.{segment_map}
 use Rattle.tink_streams.proofs.FrontFacts.{size_most}
-use Rattle.tink_large.specs.Coming.{moment_at}
-use Rattle.tink_large.proofs.SealedSteps.{cipher_longer, come_under, is_closed, last_not_refused, last_step}
+use Rattle.tink_large.proofs.SealedSteps.{cipher_longer, come_under, is_closed, last_not_refused, last_step, moment_at}
 use Rattle.tink_large.proofs.sealed_text.seal_last.Goals as goal
 
 pub unreachable-requires : goal.unreachable-requires

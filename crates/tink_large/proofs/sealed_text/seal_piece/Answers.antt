@@ -3,8 +3,7 @@ use Rattle.stream_model.specs.Cut.{room_at}
 use Rattle.tink_streams.specs.Sealers.{segment_map}
 use Rattle.tink_streams.proofs.FrontFacts.{size_most}
 use Rattle.tink_streams.proofs.WriterSteps.{room_some}
-use Rattle.tink_large.specs.Coming.{moment_at}
-use Rattle.tink_large.proofs.SealedSteps.{cipher_longer, come_under, fills, not_refused, step, wide_at}
+use Rattle.tink_large.proofs.SealedSteps.{cipher_longer, come_under, fills, moment_at, not_refused, step, wide_at}
 use Rattle.tink_large.proofs.sealed_text.seal_piece.Goals as goal
 
 pub unreachable-requires : goal.unreachable-requires
