@@ -47,7 +47,8 @@ valid_keyset bytes = chained valid_or_refused (or_refused BadKeyset (decoded key
 
 -- why a keyset isn't made where draws suffice
 abbrev pub IsUnmade : List ℕ → Result Keyset Kind → Kind → Type 0
-IsUnmade name start kind = ((kind ≡ UnknownTemplate) × (template_named name ≡ None)) ⊎ (start ≡ Err kind) ⊎ (kind ≡ NoFreshId)
+IsUnmade name start kind =
+    ((kind ≡ UnknownTemplate) × (template_named name ≡ None)) ⊎ (start ≡ Err kind) ⊎ (kind ≡ NoFreshId)
 
 -- a keyset's bytes in lower-case hexadecimal digits, and a newline
 abbrev pub key_line : Keyset → List ℕ

@@ -23,7 +23,8 @@ use tink_proto::{KeyTemplate, Keyset, Message};
 pub fn keygen(alloc: Global, template: &str, draws: &mut Draws) -> Result<Keyset, TinkError>
     ensures answer { Answers result (rotated_by template.now (Ok no_keys) draws.old) }
     ensures valid { IfOk result IsValid }
-    ensures cause { 576 ≤ length draws.old → IfErr result (λ e. (e.kind ≡ OutOfMemory) ⊎ IsUnmade template.now (Ok no_keys) e.kind) }
+    ensures cause { 576 ≤ length draws.old
+        → IfErr result (λ e. (e.kind ≡ OutOfMemory) ⊎ IsUnmade template.now (Ok no_keys) e.kind) }
 {
     new_keyset(alloc, template, draws)
 }
@@ -45,7 +46,8 @@ pub fn rotate(
 ) -> Result<Keyset, TinkError>
     ensures answer { Answers result (rotated_by template.now (valid_keyset keyset.now) draws.old) }
     ensures valid { IfOk result IsValid }
-    ensures cause { 576 ≤ length draws.old → IfErr result (λ e. (e.kind ≡ OutOfMemory) ⊎ IsUnmade template.now (valid_keyset keyset.now) e.kind) }
+    ensures cause { 576 ≤ length draws.old
+        → IfErr result (λ e. (e.kind ≡ OutOfMemory) ⊎ IsUnmade template.now (valid_keyset keyset.now) e.kind) }
 {
     rotated_keyset(alloc, keyset, template, draws)
 }
@@ -101,7 +103,8 @@ fn rotated_keyset(
 // The registered template of a name.
 fn named<'r>(registry: &'r Registry<Managers>, name: &str) -> Result<&'r KeyTemplate, TinkError>
     requires { registry.now ≡ with_everything }
-    ensures { MatchResult result (λ kt. template_named name.now ≡ Some kt.now) (λ e. (e.kind ≡ UnknownTemplate) × (template_named name.now ≡ None)) }
+    ensures { MatchResult result (λ kt. template_named name.now ≡ Some kt.now)
+        (λ e. (e.kind ≡ UnknownTemplate) × (template_named name.now ≡ None)) }
 {
     match registry.get_template_generator(name) {
         Some(kt) => Ok(kt),

@@ -63,7 +63,8 @@ GivesLine r (Err e) = IsRefusal r e.kind
 
 -- a call writes the line, or refuses: after a fault a prefix of it is written, before that nothing
 abbrev pub RefusesLine : Rotation → Option (List ℕ) → Option (List ℕ) → ℕ → ℕ → Kind → Type 0
-RefusesLine r old new before now WriteFault = (text : List ℕ) × IsLine r text × AppendsFront old new text × Rose before now
+RefusesLine r old new before now WriteFault =
+    (text : List ℕ) × IsLine r text × AppendsFront old new text × Rose before now
 RefusesLine r old new before now kind = IsRefusal r kind × (new ≡ old) × (now ≡ before)
 
 abbrev pub WritesLine : Rotation → Option (List ℕ) → Option (List ℕ) → ℕ → ℕ → Result (Unit {0}) TinkError → Type 0
@@ -89,7 +90,8 @@ pub record WroteFront (old new : Outside) (text : List ℕ) : Type 0 where
   pub rose : Rose old.write_faults new.write_faults
 
 -- the words ask for a keyset, whose line was written
-pub record HasMade (words : List (List ℕ)) (old new : Outside) (Written : Outside → Outside → List ℕ → Type 0) : Type 0 where
+pub record HasMade (words : List (List ℕ)) (old new : Outside) (Written : Outside → Outside → List ℕ → Type 0)
+    : Type 0 where
   pub rotation : Rotation
   pub spelled : SpellRotation words rotation
   pub text : List ℕ

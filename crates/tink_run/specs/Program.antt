@@ -77,8 +77,8 @@ pub record Opened (words : List (List ℕ)) (old new : Outside) (answer : Result
 abbrev pub Answered : List (List ℕ) → Outside → Outside → Result Report TinkError → Type 0
 Answered words old new answer = Sealed words old new answer ⊎ Opened words old new answer
 
--- what stands after each outcome of a seal, of an open or of no command, and why it came. The seed's draws always suffice;
--- `OutOfMemory` is free.
+-- what stands after each outcome of a seal, of an open or of no command, and why it came. The seed's draws always
+-- suffice; `OutOfMemory` is free.
 abbrev pub StreamMeans : List (List ℕ) → Outside → Outside → Outcome → Type 0
 StreamMeans words old new Done = (report : Report) × Answered words old new (Ok report)
 StreamMeans words old new Usage = SpellNothing words × IsUntouched old new
@@ -164,19 +164,22 @@ pub record HasOwnStatus (words : List (List ℕ)) (status : ℕ) : Type 0 where
   pub sealing : (keyset aad seed : List ℕ) → SealWords words keyset aad seed → IsAmong seal_statuses status
   pub opening : (keyset aad : List ℕ) → OpenWords words keyset aad → IsAmong open_statuses status
   pub making : (template seed : List ℕ) → KeygenWords words template seed → IsAmong keygen_statuses status
-  pub rotating : (keyset template seed : List ℕ) → RotateWords words keyset template seed → IsAmong rotate_statuses status
+  pub rotating : (keyset template seed : List ℕ) → RotateWords words keyset template seed
+      → IsAmong rotate_statuses status
 
 -- a keyset that is not made gets its refusal's status, or `OutOfMemory`
 abbrev pub RefusesUnmade : List (List ℕ) → ℕ → Type 0
-RefusesUnmade words status = (r : Rotation) (kind : Kind) → SpellRotation words r → made_keyset r ≡ Err kind → (status ≡ kind_status kind) ⊎ (status ≡ 10)
+RefusesUnmade words status = (r : Rotation) (kind : Kind) → SpellRotation words r → made_keyset r ≡ Err kind
+    → (status ≡ kind_status kind) ⊎ (status ≡ 10)
 
--- and no other keyset gets it: 13 and 14 are the given keyset's refusals, for 24 no template has the name, and for 25 all 128
--- ids were 0 or in use
+-- and no other keyset gets it: 13 and 14 are the given keyset's refusals, for 24 no template has the name, and for 25
+-- all 128 ids were 0 or in use
 abbrev pub unmade_statuses : List ℕ
 unmade_statuses = 13 ∷ 14 ∷ 24 ∷ 25 ∷ []
 
 abbrev pub HasUnmadeCause : List (List ℕ) → ℕ → Type 0
-HasUnmadeCause words status = (r : Rotation) → SpellRotation words r → IsAmong unmade_statuses status → (kind : Kind) × (status ≡ kind_status kind) × IsUnmadeBy r kind
+HasUnmadeCause words status = (r : Rotation) → SpellRotation words r → IsAmong unmade_statuses status
+    → (kind : Kind) × (status ≡ kind_status kind) × IsUnmadeBy r kind
 
 -- what a status says of the words, and what stands after it
 pub record StatusMeans (words : List (List ℕ)) (old new : Outside) (status : ℕ) : Type 0 where
@@ -243,7 +246,8 @@ pub record Ran (command : Command) (keyset aad draws : List ℕ) (old new : Outs
 pub record MakesKeyset (r : Rotation) (old new : Outside) (status : ℕ) : Type 0 where
   pub whole : status ≡ 0 → (text : List ℕ) × IsLine r text × Wrote old new text
   pub front : status ≡ 12 → (text : List ℕ) × IsLine r text × WroteFront old new text
-  pub succeeds : (keyset : Keyset) → made_keyset r ≡ Ok keyset → (Rose old.write_faults new.write_faults → ⊥) → (status ≡ 0) ⊎ (status ≡ 10)
+  pub succeeds : (keyset : Keyset) → made_keyset r ≡ Ok keyset → (Rose old.write_faults new.write_faults → ⊥)
+      → (status ≡ 0) ⊎ (status ≡ 10)
 
 abbrev pub MakesAsSpelled : List (List ℕ) → Outside → Outside → ℕ → Type 0
 MakesAsSpelled words old new status = (r : Rotation) → SpellRotation words r → MakesKeyset r old new status

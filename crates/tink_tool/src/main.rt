@@ -1,4 +1,4 @@
-//! Seals and opens streams under Tink keysets.
+//! Makes and rotates Tink keysets, and seals and opens streams under them.
 #![tactic(auto)]
 
 use std::env;
