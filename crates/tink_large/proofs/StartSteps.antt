@@ -22,8 +22,8 @@ use Rattle.tink_streams.specs.Choosing.{IsOpenerOf, Started, StartRefused}
 use Rattle.tink_streams.specs.Sealers.{segment_map}
 use Rattle.tink_streams.specs.declared.writing.SegmentWriter.{SegmentWriter}
 use Rattle.tink_large.specs.Coming.{come_of, comes, left_of, to_come}
-use Rattle.tink_large.specs.Large.{large_key, large_stream, large_text, text_from, text_length}
-use Rattle.tink_large.specs.Opening.{AllRemains, IsBegun, IsLargeStream, MeasureRefused, Remains}
+use Rattle.tink_large.specs.Large.{MeasureRefused, large_key, large_stream, large_text, text_from, text_length}
+use Rattle.tink_large.specs.Opening.{AllRemains, IsBegun, IsLargeStream, Remains}
 use Rattle.tink_large.specs.SealedText.{Passed, stream_left}
 use Rattle.tink_large.specs.declared.sealed_text.SealedText.{SealedText}
 use Rattle.tink_large.specs.declared.pending.Pending.{Pending}

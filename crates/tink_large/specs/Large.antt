@@ -1,5 +1,5 @@
 -- The large text of a number, its stream, and what is told of it.
-use Rattle.std.specs.Prelude.{◌≡◌, ◌≤◌, ℕ, ◌+◌, ◌*◌, ◌%◌, List, [], ◌∷◌, ◌++◌, length, map, drop, Some, codes, decimal}
+use Rattle.std.specs.Prelude.{◌≡◌, ◌≤◌, ◌<◌, ℕ, ◌+◌, ◌*◌, ◌%◌, List, [], ◌∷◌, ◌++◌, length, map, drop, Some, codes, decimal}
 use Rattle.std.specs.List.{range_with_len}
 use Rattle.hash_keys.specs.declared.Hash.TheVariants.{Sha256}
 use Rattle.hex.specs.Hex.{encode_lower}
@@ -7,6 +7,8 @@ use Rattle.sha2.specs.Sha256.{sha256}
 use Rattle.stream_model.specs.Key.{StreamKey}
 use Rattle.stream_model.specs.Key.SegmentKind.{CtrHmac}
 use Rattle.stream_model.specs.Sealing.{chunk_count, drawn, prefix_of, salt_of, stream}
+use Rattle.tink_io.specs.declared.error.Kind.{Kind}
+use Rattle.tink_io.specs.declared.error.Kind.TheVariants.{OutOfMemory, RandomFault}
 use Rattle.tink_large.specs.declared.measuring.Measured.{Measured}
 
 -- the byte at a place
@@ -48,6 +50,12 @@ pub record IsMeasured (n : ℕ) (draws left : List ℕ) (m : Measured) : Type 0 
   pub stream : m.stream ≡ length (large_stream n draws)
   pub segments : m.segments ≡ chunk_count large_key (large_text n)
   pub sha256 : m.sha256 ≡ sha256 (large_stream n draws)
+
+-- nothing was drawn: there is no memory, or too few draws are left
+abbrev pub MeasureRefused : List ℕ → List ℕ → Kind → Type 0
+MeasureRefused draws left OutOfMemory = left ≡ draws
+MeasureRefused draws left RandomFault = (length draws < drawn large_key) × (left ≡ draws)
+MeasureRefused draws left _ = ⊥
 
 -- a name, a space, a text and a newline
 abbrev pub line : List ℕ → List ℕ → List ℕ

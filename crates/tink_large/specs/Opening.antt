@@ -5,8 +5,6 @@ use Rattle.stream_model.specs.Agree.{AreTexts, joined}
 use Rattle.stream_model.specs.Cut.{cut, room_at}
 use Rattle.stream_model.specs.Key.{first_room, overhead, room}
 use Rattle.stream_model.specs.Sealing.{chunk_count, drawn}
-use Rattle.tink_io.specs.declared.error.Kind.{Kind}
-use Rattle.tink_io.specs.declared.error.Kind.TheVariants.{OutOfMemory, RandomFault}
 use Rattle.tink_segment_traits.specs.declared.segment_traits.SegmentEncrypter.{Ghosts}
 use Rattle.tink_streams.specs.declared.writing.SegmentWriter.{SegmentWriter}
 use Rattle.tink_large.specs.Coming.{left_of}
@@ -43,9 +41,3 @@ module _ {E : Type 0} {g : Ghosts E} where
     pub overhead_is : w.sealer.overhead ≡ overhead large_key
     pub number : w.segments ≡ 0
     pub held : w.held.items ≡ []
-
--- nothing was drawn: there is no memory, or too few draws are left
-abbrev pub MeasureRefused : List ℕ → List ℕ → Kind → Type 0
-MeasureRefused draws left OutOfMemory = left ≡ draws
-MeasureRefused draws left RandomFault = (length draws < drawn large_key) × (left ≡ draws)
-MeasureRefused draws left _ = ⊥

@@ -1,8 +1,7 @@
 //! What a large text and its stream are.
 
 ghost use Rattle.std.specs.Prelude.{IfOk, IfErr};
-ghost use Rattle.tink_large.specs.Large.{IsMeasured};
-ghost use Rattle.tink_large.specs.Opening.{MeasureRefused};
+ghost use Rattle.tink_large.specs.Large.{IsMeasured, MeasureRefused};
 
 use crate::opening::{SEGMENT_SIZE, begin, large_key, open_all, start_reading};
 use crate::pending::Pending;

@@ -5,8 +5,8 @@ ghost use Rattle.stream_model.specs.Sealing.{chunk_count};
 ghost use Rattle.tink_io.specs.declared.error.Kind.TheVariants.{OutOfMemory};
 ghost use Rattle.tink_streams.specs.Openers.{reader_rest, segment_map};
 ghost use Rattle.tink_streams.specs.declared.progress.Progress.TheVariants.{Running};
-ghost use Rattle.tink_large.specs.Large.{large_key, large_text};
-ghost use Rattle.tink_large.specs.Opening.{AllRemains, IsBegun, IsLargeStream, MeasureRefused};
+ghost use Rattle.tink_large.specs.Large.{MeasureRefused, large_key, large_text};
+ghost use Rattle.tink_large.specs.Opening.{AllRemains, IsBegun, IsLargeStream};
 ghost use Rattle.tink_large.specs.SealedText.{Passed, stream_left};
 
 use crate::pending::Pending;
