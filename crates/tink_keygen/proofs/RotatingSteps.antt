@@ -20,7 +20,7 @@ use Rattle.tink_keysets.specs.Managed.{added_by}
 use Rattle.tink.specs.Managers.{row_of}
 use Rattle.tink.specs.Registered.{with_everything}
 use Rattle.tink.specs.declared.managers.Managers.{Managers}
-use Rattle.tink_keygen.specs.Rotating.{data_by_all, rotated, rotated_by, rotated_where, template_named, valid_or_refused, IsUnmade}
+use Rattle.tink_keygen.specs.Rotating.{data_by_all, rotated, rotated_by, rotated_where, template_named, valid_or_refused, IsNotRotated}
 use Rattle.tink_keygen.proofs.IdFacts.{refused_by_ids}
 use Rattle.tink_keygen.proofs.TemplateFacts.{named_makes, MakesKeys}
 use Rattle.tink_keygen.proofs.ValidatedFacts.{formed_of, validated}
@@ -86,20 +86,20 @@ unmade_by kt ks draws kind makes enough is =
     refused_by_ids ks kt made.0 made.1 kind (omega (arith, made.3)) (rw made.2 at is)
 
 unmade_from : (name : List ℕ) (kt : KeyTemplate) (start : Result Keyset Kind) (draws : List ℕ) (kind : Kind) → MakesKeys kt → 576 ≤ length draws
-    → chained (rotated kt draws) start ≡ Err kind → IsUnmade name start kind
+    → chained (rotated kt draws) start ≡ Err kind → IsNotRotated name start kind
 unmade_from name kt (Ok ks) draws kind makes enough is = inr (inr (unmade_by kt ks draws kind makes enough is))
 unmade_from name kt (Err by) draws kind makes enough is = inr (inl is)
 
 unmade_where : (name : List ℕ) (o : Option KeyTemplate) (start : Result Keyset Kind) (draws : List ℕ) (kind : Kind) → template_named name ≡ o → 576 ≤ length draws
-    → rotated_where o start draws ≡ Err kind → IsUnmade name start kind
+    → rotated_where o start draws ≡ Err kind → IsNotRotated name start kind
 unmade_where name None start draws kind named enough is = let same : kind ≡ UnknownTemplate = cc in inl (same, named)
 unmade_where name (Some kt) start draws kind named enough is = unmade_from name kt start draws kind (named_makes name kt named) enough is
 
-pub unmade : (name : List ℕ) (start : Result Keyset Kind) (draws : List ℕ) (kind : Kind) → 576 ≤ length draws → rotated_by name start draws ≡ Err kind → IsUnmade name start kind
+pub unmade : (name : List ℕ) (start : Result Keyset Kind) (draws : List ℕ) (kind : Kind) → 576 ≤ length draws → rotated_by name start draws ≡ Err kind → IsNotRotated name start kind
 unmade name start draws kind enough is = unmade_where name (template_named name) start draws kind refl enough is
 
 pub causes : (name : List ℕ) (start : Result Keyset Kind) (draws : List ℕ) (result : Result Keyset TinkError) → Answers result (rotated_by name start draws)
-    → 576 ≤ length draws → IfErr result (λ e. (e.kind ≡ OutOfMemory) ⊎ IsUnmade name start e.kind)
+    → 576 ≤ length draws → IfErr result (λ e. (e.kind ≡ OutOfMemory) ⊎ IsNotRotated name start e.kind)
 causes name start draws (Ok ks) answers enough = tt
 causes name start draws (Err e) (inl want) enough = inl want
 causes name start draws (Err e) (inr told) enough = inr (unmade name start draws e.kind enough told)

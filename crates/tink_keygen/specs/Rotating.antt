@@ -46,8 +46,8 @@ abbrev pub valid_keyset : List ℕ → Result Keyset Kind
 valid_keyset bytes = chained valid_or_refused (or_refused BadKeyset (decoded keyset.read bytes))
 
 -- why a keyset isn't made where draws suffice
-abbrev pub IsUnmade : List ℕ → Result Keyset Kind → Kind → Type 0
-IsUnmade name start kind =
+abbrev pub IsNotRotated : List ℕ → Result Keyset Kind → Kind → Type 0
+IsNotRotated name start kind =
     ((kind ≡ UnknownTemplate) × (template_named name ≡ None)) ⊎ (start ≡ Err kind) ⊎ (kind ≡ NoFreshId)
 
 -- a keyset's bytes in lower-case hexadecimal digits, and a newline

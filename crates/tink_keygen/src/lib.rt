@@ -7,7 +7,7 @@ ghost use Rattle.tink_io.specs.Told.{Answers};
 ghost use Rattle.keyset_model.specs.Validity.{IsValid, are_well_formed};
 ghost use Rattle.tink_keysets.specs.Managed.{no_keys};
 ghost use Rattle.tink.specs.Registered.{with_everything};
-ghost use Rattle.tink_keygen.specs.Rotating.{IsUnmade, key_line, rotated, rotated_by, template_named, valid_keyset, valid_or_refused};
+ghost use Rattle.tink_keygen.specs.Rotating.{IsNotRotated, key_line, rotated, rotated_by, template_named, valid_keyset, valid_or_refused};
 
 use std::alloc::Global;
 use tink::keyset::{Handle, Manager, insecure, validate};
@@ -24,7 +24,7 @@ pub fn keygen(alloc: Global, template: &str, draws: &mut Draws) -> Result<Keyset
     ensures answer { Answers result (rotated_by template.now (Ok no_keys) draws.old) }
     ensures valid { IfOk result IsValid }
     ensures cause { 576 ≤ length draws.old
-        → IfErr result (λ e. (e.kind ≡ OutOfMemory) ⊎ IsUnmade template.now (Ok no_keys) e.kind) }
+        → IfErr result (λ e. (e.kind ≡ OutOfMemory) ⊎ IsNotRotated template.now (Ok no_keys) e.kind) }
 {
     new_keyset(alloc, template, draws)
 }
@@ -47,7 +47,7 @@ pub fn rotate(
     ensures answer { Answers result (rotated_by template.now (valid_keyset keyset.now) draws.old) }
     ensures valid { IfOk result IsValid }
     ensures cause { 576 ≤ length draws.old
-        → IfErr result (λ e. (e.kind ≡ OutOfMemory) ⊎ IsUnmade template.now (valid_keyset keyset.now) e.kind) }
+        → IfErr result (λ e. (e.kind ≡ OutOfMemory) ⊎ IsNotRotated template.now (valid_keyset keyset.now) e.kind) }
 {
     rotated_keyset(alloc, keyset, template, draws)
 }

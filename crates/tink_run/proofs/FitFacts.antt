@@ -32,25 +32,25 @@ use Rattle.keyset_model.specs.Edits.{as_destroyed, is_known_status, is_live, sta
 use Rattle.keyset_model.specs.Keys.{has_id}
 use Rattle.keyset_model.proofs.EditLaws.{all_first, all_more, all_without, both, joined}
 use Rattle.keyset_model.proofs.Steps.{Becomes, HasChanged, step}
-use Rattle.tink_run.specs.Fitting.{AreBytes, GivesFitting, KeepsFit}
+use Rattle.tink_run.specs.Fitting.{AreByteValues, GivesFitting, KeepsFit}
 
 -- ---- ids that are drawn
 
-byte_at : (bytes : List ℕ) (i : ℕ) → AreBytes bytes → get_or bytes i 0 < 256
+byte_at : (bytes : List ℕ) (i : ℕ) → AreByteValues bytes → get_or bytes i 0 < 256
 byte_at bytes i h =
     ⊎_elim
     (λ lt. All-get_or (λ b. b < 256) bytes i 0 lt h)
     (λ le. subst (λ (b : ℕ). b < 256) (sym (get_or_past bytes i 0 le)) (omega arith))
     (cases_lt i (length bytes))
 
-small_id : (bytes : List ℕ) → AreBytes bytes → from_be_bytes w32 bytes < 2 ^ 32
+small_id : (bytes : List ℕ) → AreByteValues bytes → from_be_bytes w32 bytes < 2 ^ 32
 small_id bytes h = omega (arith, byte_at bytes 0 h, byte_at bytes 1 h, byte_at bytes 2 h, byte_at bytes 3 h)
 
 -- an id is of 32 bits, and what is left are bytes
 abbrev IsDrawn : Result ℕ Kind × List ℕ → Type 0
-IsDrawn r = ((id : ℕ) → r.0 ≡ Ok id → id < 2 ^ 32) × AreBytes r.1
+IsDrawn r = ((id : ℕ) → r.0 ≡ Ok id → id < 2 ^ 32) × AreByteValues r.1
 
-is_drawn : (keys : List Key) (takes : ℕ) (draws : List ℕ) → AreBytes draws → IsDrawn (fresh_id keys takes draws)
+is_drawn : (keys : List Key) (takes : ℕ) (draws : List ℕ) → AreByteValues draws → IsDrawn (fresh_id keys takes draws)
 unfolding fresh_id
 is_drawn keys zero draws h = (λ id e. absurd (cc), h)
 is_drawn keys (suc takes) draws h =
@@ -245,10 +245,10 @@ becomes_fit makes ks new (commands.SetPrimary id) h not fit =
 
 -- the keyset fits, and what is left of the draws are bytes
 abbrev GoesOn : Keyset → Result Keyset Kind × List ℕ → Type 0
-GoesOn ks r = IsFit (keyset_after ks r.0) × AreBytes r.1
+GoesOn ks r = IsFit (keyset_after ks r.0) × AreByteValues r.1
 
 module _ (makes : Maker) (gives : GivesFitting makes) where
-  by_id : (ks : Keyset) (kt : KeyTemplate) (as_primary : Bool) (draws : List ℕ) (d : KeyData) → AreBytes draws
+  by_id : (ks : Keyset) (kt : KeyTemplate) (as_primary : Bool) (draws : List ℕ) (d : KeyData) → AreByteValues draws
       → (makes kt draws).0 ≡ Ok d → IsFit ks
       → (r : Result ℕ Kind) (left : List ℕ) → IsDrawn (r, left)
       → GoesOn ks (keyset_reply (added_by_id ks kt as_primary d r left))
@@ -262,15 +262,15 @@ module _ (makes : Maker) (gives : GivesFitting makes) where
       primary true new = new
       primary false new = fit.0
 
-  by_data : (ks : Keyset) (kt : KeyTemplate) (as_primary : Bool) (draws : List ℕ) → AreBytes draws → IsFit ks
-      → (r : Result KeyData Kind) (left : List ℕ) → (makes kt draws).0 ≡ r → AreBytes left
+  by_data : (ks : Keyset) (kt : KeyTemplate) (as_primary : Bool) (draws : List ℕ) → AreByteValues draws → IsFit ks
+      → (r : Result KeyData Kind) (left : List ℕ) → (makes kt draws).0 ≡ r → AreByteValues left
       → GoesOn ks (keyset_reply (added_by_data ks kt as_primary r left))
   by_data ks kt as_primary draws bytes fit (Err kind) left made rest = (fit, rest)
   by_data ks kt as_primary draws bytes fit (Ok d) left made rest =
       by_id ks kt as_primary draws d bytes made fit (fresh_id ks.key 128 left).0 (fresh_id ks.key 128 left).1
       (is_drawn ks.key 128 left rest)
 
-  adding : (ks : Keyset) (kt : KeyTemplate) (as_primary : Bool) (draws : List ℕ) → AreBytes draws → IsFit ks
+  adding : (ks : Keyset) (kt : KeyTemplate) (as_primary : Bool) (draws : List ℕ) → AreByteValues draws → IsFit ks
       → GoesOn ks (keyset_reply (added ks kt as_primary (makes kt draws)))
   adding ks kt as_primary draws bytes fit =
       by_data ks kt as_primary draws bytes fit (makes kt draws).0 (makes kt draws).1 refl (gives.left kt draws bytes)
@@ -281,7 +281,7 @@ module _ (makes : Maker) (gives : GivesFitting makes) where
       ⊎_elim (λ same. subst IsFit (sym same) fit) (λ becomes. becomes_fit makes ks _ c becomes not fit)
       (step makes ks c draws)
 
-  one : (ks : Keyset) (c : Command) (draws : List ℕ) → AreBytes draws → IsFit ks → GoesOn ks (edit makes ks c draws)
+  one : (ks : Keyset) (c : Command) (draws : List ℕ) → AreByteValues draws → IsFit ks → GoesOn ks (edit makes ks c draws)
   one ks (commands.Add kt) draws bytes fit = adding ks kt false draws bytes fit
   one ks (commands.Rotate kt) draws bytes fit = adding ks kt true draws bytes fit
   one ks (commands.Enable id) draws bytes fit = (editing ks (commands.Enable id) draws (λ h. h) fit, bytes)
@@ -290,7 +290,7 @@ module _ (makes : Maker) (gives : GivesFitting makes) where
   one ks (commands.Delete id) draws bytes fit = (editing ks (commands.Delete id) draws (λ h. h) fit, bytes)
   one ks (commands.SetPrimary id) draws bytes fit = (editing ks (commands.SetPrimary id) draws (λ h. h) fit, bytes)
 
-  all : (m : Managed) (cs : List Command) → AreBytes m.draws → IsFit m.keyset → IsFit (after_all makes m cs).keyset
+  all : (m : Managed) (cs : List Command) → AreByteValues m.draws → IsFit m.keyset → IsFit (after_all makes m cs).keyset
   all m [] bytes fit = fit
   all m (c ∷ cs) bytes fit = let next = one m.keyset c m.draws bytes fit in all (after makes m c) cs next.1 next.0
 

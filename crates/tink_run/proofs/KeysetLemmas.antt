@@ -7,18 +7,19 @@ use Rattle.tink_io.specs.declared.error.Kind.TheVariants.{OutOfMemory, ReadFault
 use Rattle.tink_io.specs.declared.error.TinkError.{TinkError}
 use Rattle.tink_proto.specs.declared.messages.keys.Keyset.{Keyset}
 use Rattle.tink_keysets.specs.Managed.{no_keys}
-use Rattle.tink_keygen.specs.Rotating.{IsUnmade}
-use Rattle.tink_run.specs.Keysets.{made_keyset, of_no_keys, HasNotMade, IsLine, IsRefusal, IsUnmadeBy, IsUnwritten, Rotation, RefusesLine, SpellRotation, WritesLine, WroteFront}
+use Rattle.tink_keygen.specs.Rotating.{IsNotRotated}
+use Rattle.tink_run.specs.Keysets.{made_keyset, of_no_keys, HasNotMade, IsLine, RefusesRotation, IsUnmadeBy, IsUnwritten, Rotation, RefusesLine, SpellRotation, WritesLine, WrotePrefix}
 use Rattle.tink_run.specs.Outside.{Outside, IsUntouched}
-use Rattle.tink_run.specs.Program.{answer_outcome, keygen_statuses, kind_status, open_statuses, rotate_statuses, seal_statuses, status_of, unmade_statuses, HasCause, HasOwnStatus, HasUnmadeCause, IsAmong, IsEarlyKind, IsUsage, KeysetMeans, Leaves, MakesAsSpelled, Promised, RefusesUnloaded, RefusesUnmade, SpellKeyset}
-use Rattle.tink_run.specs.Words.{KeygenWords, OpenWords, SealWords, SpellNothing}
+use Rattle.tink_run.specs.Program.{answer_outcome, keygen_statuses, kind_status, large_statuses, open_statuses, rotate_statuses, seal_statuses, status_of, unmade_statuses, HasCause, HasOwnStatus, HasUnmadeCause, IsAmong, IsEarlyKind, IsUsage, KeysetMeans, Leaves, MakesAsSpelled, Promised, RefusesUnloaded, RefusesUnmade, SpellKeyset}
+use Rattle.tink_run.specs.Words.{KeygenWords, LargeWords, OpenWords, SealWords, SpellNothing}
 use Rattle.tink_run.specs.declared.program.Outcome.{Outcome}
 use Rattle.tink_run.specs.declared.program.Outcome.TheVariants.{Done, Usage, Refused}
 use Rattle.tink_run.proofs.KeysetWords.{not_nothing, not_opened, not_sealed, rotation-same, spell_keygen}
+use Rattle.tink_run.proofs.LargeWordFacts.{large_not_made}
 
 -- ---- from the call to the outcome
 
-outside_same : (l m : Option (List ℕ)) (r s : ℕ) (g h : Option (List ℕ)) (w x : ℕ) → l ≡ m → r ≡ s → g ≡ h → w ≡ x
+pub outside_same : (l m : Option (List ℕ)) (r s : ℕ) (g h : Option (List ℕ)) (w x : ℕ) → l ≡ m → r ≡ s → g ≡ h → w ≡ x
     → ◌≡◌ {A = Outside} (record { left = l; read_faults = r; got = g; write_faults = w }) (record { left = m; read_faults = s; got = h; write_faults = x })
 outside_same l m r s g h w x p q t u = rw (p, q, t, u) refl
 
@@ -71,10 +72,10 @@ asked words old new (Refused OutOfMemory) m = inl refl
 asked words old new (Refused WriteFault) m = inr (m.rotation, m.spelled)
 asked words old new (Refused _) m = inr (m.rotation, m.spelled)
 
-wanted : (statuses : List ℕ) (status : ℕ) → status ≡ 10 → IsAmong statuses 10 → IsAmong statuses status
+pub wanted : (statuses : List ℕ) (status : ℕ) → status ≡ 10 → IsAmong statuses 10 → IsAmong statuses status
 wanted statuses status is among = subst (IsAmong statuses) (sym is) among
 
-above_2 : (kind : Kind) → 2 < kind_status kind
+pub above_2 : (kind : Kind) → 2 < kind_status kind
 above_2 OutOfMemory = omega arith
 above_2 _ = omega arith
 
@@ -95,7 +96,7 @@ keyset_usage words old new (Refused kind) m =
 unmade_new : (template seed : List ℕ) (kind : Kind) → IsUnmadeBy (of_no_keys template seed) kind → (kind ≡ UnknownTemplate) ⊎ (kind ≡ NoFreshId)
 unmade_new template seed kind unmade = by_cause unmade.cause
   where
-    by_cause : IsUnmade template (Ok no_keys) kind → (kind ≡ UnknownTemplate) ⊎ (kind ≡ NoFreshId)
+    by_cause : IsNotRotated template (Ok no_keys) kind → (kind ≡ UnknownTemplate) ⊎ (kind ≡ NoFreshId)
     by_cause (inl p) = inl p.0
     by_cause (inr (inl is)) = absurd (cc is)
     by_cause (inr (inr is)) = inr is
@@ -143,12 +144,17 @@ open_own : (words : List (List ℕ)) (k a : List ℕ) (old new : Outside) (outco
 open_own words k a old new outcome m spelled =
     elim (asked words old new outcome m) [ inl is ↦ wanted open_statuses (status_of outcome) is refl | inr r ↦ absurd (not_opened words r.0 k a r.1 spelled) ]
 
+large_own : (words : List (List ℕ)) (n : ℕ) (old new : Outside) (outcome : Outcome) → KeysetMeans words old new outcome → LargeWords words n → IsAmong large_statuses (status_of outcome)
+large_own words n old new outcome m spelled =
+    elim (asked words old new outcome m) [ inl is ↦ wanted large_statuses (status_of outcome) is refl | inr r ↦ absurd (large_not_made words n r.0 spelled r.1) ]
+
 pub keyset_own : (words : List (List ℕ)) (old new : Outside) (outcome : Outcome) → KeysetMeans words old new outcome → HasOwnStatus words (status_of outcome)
 keyset_own words old new outcome m = record {
   sealing = λ k a s spelled. seal_own words k a s old new outcome m spelled;
   opening = λ k a spelled. open_own words k a old new outcome m spelled;
   making = λ template seed spelled. keygen_own words template seed old new outcome m spelled;
   rotating = λ keyset template seed spelled. rotate_own words old new outcome m;
+  measuring = λ n spelled. large_own words n old new outcome m spelled;
 }
 
 -- ---- why a status of 10, 11 or 12 came
@@ -195,7 +201,7 @@ one_kind : (words : List (List ℕ)) (r s : Rotation) (kind other : Kind) → Sp
 one_kind words r s kind other p q first second = let same = sym first ∙ made_once words r s p q ∙ second in cc same
 
 -- a refusal but `OutOfMemory` is the keyset's
-unmade_by : (r : Rotation) (kind : Kind) → IsRefusal r kind → (kind ≡ OutOfMemory) ⊎ IsUnmadeBy r kind
+unmade_by : (r : Rotation) (kind : Kind) → RefusesRotation r kind → (kind ≡ OutOfMemory) ⊎ IsUnmadeBy r kind
 unmade_by r OutOfMemory m = inl refl
 unmade_by r BadKeyset m = inr m
 unmade_by r InvalidKeyset m = inr m
@@ -248,7 +254,7 @@ line_along : (words : List (List ℕ)) (r s : Rotation) (text : List ℕ) → Sp
 line_along words r s text p q line = subst (λ x. IsLine x text) (rotation-same words r s p q) line
 
 refused_front : (words : List (List ℕ)) (old new : Outside) (by : Kind) → KeysetMeans words old new (Refused by) → (r : Rotation) → SpellRotation words r → kind_status by ≡ 12
-    → (text : List ℕ) × IsLine r text × WroteFront old new text
+    → (text : List ℕ) × IsLine r text × WrotePrefix old new text
 refused_front words old new WriteFault m r spelled is = (m.text, line_along words m.rotation r m.text m.spelled spelled m.line, m.written)
 refused_front words old new _ m r spelled is = absurd (omega (arith, is))
 
@@ -288,6 +294,7 @@ keyset_promised words old new r outcome spelled m = record {
     opening = λ k a other. absurd (not_opened words r k a spelled other);
   };
   made = keyset_makes words old new outcome m;
+  measured = λ n other. absurd (large_not_made words n r other spelled);
 }
 
 pub line_promised : (words : List (List ℕ)) (old new : Outside) (r : Rotation) (answer : Result (Unit {0}) TinkError) → SpellRotation words r → new.left ≡ old.left → new.read_faults ≡ old.read_faults

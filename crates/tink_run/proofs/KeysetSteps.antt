@@ -14,9 +14,9 @@ use Rattle.tink_proto.specs.declared.messages.keys.Keyset.{Keyset}
 use Rattle.keyset_model.specs.Validity.{is_valid}
 use Rattle.tink_keysets.specs.Encrypted.{chained}
 use Rattle.tink_keysets.specs.Managed.{no_keys}
-use Rattle.tink_keygen.specs.Rotating.{key_line, rotated_by, valid_keyset, valid_or_refused, IsUnmade}
+use Rattle.tink_keygen.specs.Rotating.{key_line, rotated_by, valid_keyset, valid_or_refused, IsNotRotated}
 use Rattle.tink_run.specs.Draws.{draws_in}
-use Rattle.tink_run.specs.Keysets.{made_keyset, GivesLine, IsLine, IsRefusal, IsUnmadeBy, IsUnwritten, RefusesLine, Rotation, WritesLine}
+use Rattle.tink_run.specs.Keysets.{made_keyset, GivesLine, IsLine, RefusesRotation, IsUnmadeBy, IsUnwritten, RefusesLine, Rotation, WritesLine}
 use Rattle.tink_run.proofs.ProgramLemmas.{length-draws_in}
 
 -- ---- by which kinds a keyset is not made
@@ -39,38 +39,38 @@ decoded_given (Some ks) kind is = valid_given ks (is_valid ks) kind is
 pub keyset_given : (bytes : List ℕ) → RefusesGiven (valid_keyset bytes)
 keyset_given bytes = decoded_given (decoded messages.keyset.read bytes)
 
-as_refusal : (r : Rotation) (kind to : Kind) → kind ≡ to → IsUnmadeBy r kind → (IsUnmadeBy r to → IsRefusal r to) → IsRefusal r kind
-as_refusal r kind to is unmade gives = subst (λ k. IsRefusal r k) (sym is) (gives (subst (λ k. IsUnmadeBy r k) is unmade))
+as_refusal : (r : Rotation) (kind to : Kind) → kind ≡ to → IsUnmadeBy r kind → (IsUnmadeBy r to → RefusesRotation r to) → RefusesRotation r kind
+as_refusal r kind to is unmade gives = subst (λ k. RefusesRotation r k) (sym is) (gives (subst (λ k. IsUnmadeBy r k) is unmade))
 
-by_given : (r : Rotation) (kind : Kind) → IsUnmadeBy r kind → (kind ≡ BadKeyset) ⊎ (kind ≡ InvalidKeyset) → IsRefusal r kind
+by_given : (r : Rotation) (kind : Kind) → IsUnmadeBy r kind → (kind ≡ BadKeyset) ⊎ (kind ≡ InvalidKeyset) → RefusesRotation r kind
 by_given r kind unmade (inl is) = as_refusal r kind BadKeyset is unmade (λ m. m)
 by_given r kind unmade (inr is) = as_refusal r kind InvalidKeyset is unmade (λ m. m)
 
-by_cause : (r : Rotation) (kind : Kind) → RefusesGiven r.start → IsUnmadeBy r kind → IsUnmade r.template r.start kind → IsRefusal r kind
+by_cause : (r : Rotation) (kind : Kind) → RefusesGiven r.start → IsUnmadeBy r kind → IsNotRotated r.template r.start kind → RefusesRotation r kind
 by_cause r kind given unmade (inl p) = as_refusal r kind UnknownTemplate p.0 unmade (λ m. m)
 by_cause r kind given unmade (inr (inl is)) = by_given r kind unmade (given kind is)
 by_cause r kind given unmade (inr (inr is)) = as_refusal r kind NoFreshId is unmade (λ m. m)
 
-pub want_refusal : (r : Rotation) (kind : Kind) → kind ≡ OutOfMemory → IsRefusal r kind
-want_refusal r kind is = subst (λ k. IsRefusal r k) (sym is) tt
+pub want_refusal : (r : Rotation) (kind : Kind) → kind ≡ OutOfMemory → RefusesRotation r kind
+want_refusal r kind is = subst (λ k. RefusesRotation r k) (sym is) tt
 
 -- the values that a call was handed are those of the rotation
 same_made : (r : Rotation) (t : List ℕ) (start : Result Keyset Kind) (d : List ℕ) → t ≡ r.template → start ≡ r.start → d ≡ draws_in r.seed 256 → rotated_by t start d ≡ made_keyset r
 same_made r t start d template_is start_is draws_are =
     ap (λ x. rotated_by x start d) template_is ∙ ap (λ x. rotated_by r.template x d) start_is ∙ ap (λ x. rotated_by r.template r.start x) draws_are
 
-same_cause : (r : Rotation) (t : List ℕ) (start : Result Keyset Kind) (kind : Kind) → t ≡ r.template → start ≡ r.start → IsUnmade t start kind → IsUnmade r.template r.start kind
+same_cause : (r : Rotation) (t : List ℕ) (start : Result Keyset Kind) (kind : Kind) → t ≡ r.template → start ≡ r.start → IsNotRotated t start kind → IsNotRotated r.template r.start kind
 same_cause r t start kind template_is start_is cause =
-    subst (λ x. IsUnmade r.template x kind) start_is (subst (λ x. IsUnmade x start kind) template_is cause)
+    subst (λ x. IsNotRotated r.template x kind) start_is (subst (λ x. IsNotRotated x start kind) template_is cause)
 
 -- a refusal of the call that makes the keyset
 pub refusal : (r : Rotation) (t : List ℕ) (start : Result Keyset Kind) (d : List ℕ) (e : TinkError) → RefusesGiven r.start → t ≡ r.template → start ≡ r.start → d ≡ draws_in r.seed 256
-    → (e.kind ≡ OutOfMemory) ⊎ (rotated_by t start d ≡ Err e.kind) → (576 ≤ length d → (e.kind ≡ OutOfMemory) ⊎ IsUnmade t start e.kind) → IsRefusal r e.kind
+    → (e.kind ≡ OutOfMemory) ⊎ (rotated_by t start d ≡ Err e.kind) → (576 ≤ length d → (e.kind ≡ OutOfMemory) ⊎ IsNotRotated t start e.kind) → RefusesRotation r e.kind
 refusal r t start d e given template_is start_is draws_are (inl want) cause = want_refusal r e.kind want
 refusal r t start d e given template_is start_is draws_are (inr told) cause =
     by_told (cause (omega (arith, ap (length {A = ℕ}) draws_are, length-draws_in r.seed 256)))
   where
-    by_told : (e.kind ≡ OutOfMemory) ⊎ IsUnmade t start e.kind → IsRefusal r e.kind
+    by_told : (e.kind ≡ OutOfMemory) ⊎ IsNotRotated t start e.kind → RefusesRotation r e.kind
     by_told (inl want) = want_refusal r e.kind want
     by_told (inr is) =
         let cause = same_cause r t start e.kind template_is start_is is in
@@ -86,7 +86,7 @@ line r t start d ks (Err e) template_is start_is draws_are made text want = want
 -- ---- writing the line
 
 -- nothing was written
-pub not_written : (r : Rotation) (got : Option (List ℕ)) (faults : ℕ) (kind : Kind) → IsRefusal r kind → RefusesLine r got got faults faults kind
+pub not_written : (r : Rotation) (got : Option (List ℕ)) (faults : ℕ) (kind : Kind) → RefusesRotation r kind → RefusesLine r got got faults faults kind
 not_written r got faults WriteFault m = absurd m
 not_written r got faults _ m = (m, refl, refl)
 

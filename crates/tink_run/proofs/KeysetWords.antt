@@ -10,7 +10,7 @@ use Rattle.tink_run.specs.Words.{IsBytesWord, IsSeedWord, KeygenWords, OpenWords
 use Rattle.tink_run.proofs.WordLemmas.{bytes-same}
 
 -- words that begin otherwise
-apart : (words us vs : List (List ℕ)) (u v : List ℕ) → words ≡ u ∷ us → words ≡ v ∷ vs → bytes_eq u v ≡ false → ⊥
+pub apart : (words us vs : List (List ℕ)) (u v : List ℕ) → words ≡ u ∷ us → words ≡ v ∷ vs → bytes_eq u v ≡ false → ⊥
 apart words us vs u v p q other =
     let both = sym p ∙ q in
     let same : u ≡ v = cc both in

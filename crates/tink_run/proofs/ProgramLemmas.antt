@@ -23,6 +23,7 @@ use Rattle.tink_run.specs.Run.{AnswerMeans, IsEarly, IsOkOrWant, LeavesEnds}
 use Rattle.tink_run.specs.Program.{kind_status, status_of, answer_outcome, StreamMeans, Answered, IsEarlyKind, IsUsage, Leaves, Ran, Promised, SealsWhole, OpensWhole, WritesAgreeing, SealSucceeds, OpenSucceeds}
 use Rattle.tink_run.specs.Words.{SealWords, OpenWords, SpellNothing}
 use Rattle.tink_run.proofs.KeysetWords.{not_nothing, not_opened, not_sealed}
+use Rattle.tink_run.proofs.LargeWordFacts.{large_not_opened, large_not_sealed}
 use Rattle.tink_run.proofs.WordLemmas.{SameSeal, seal-same, open-same, not_both}
 
 pub length-draws_in : (seed : List ℕ) (n : ℕ) → length (draws_in seed n) ≡ 4 * n
@@ -99,6 +100,7 @@ usage_promised words old new status nothing = record {
     opening = λ keyset aad spelled. absurd (nothing.no_open keyset aad spelled);
   };
   made = λ r spelled. absurd (not_nothing words r spelled nothing);
+  measured = λ n spelled. absurd (nothing.no_large n spelled);
 }
 
 ok_or_want : (answer : Result Report TinkError) → IsOkOrWant answer → (status_of (answer_outcome answer) ≡ 0) ⊎ (status_of (answer_outcome answer) ≡ 10)
@@ -152,6 +154,7 @@ seal_promised words keyset aad seed old new answer spelled ran = record {
     opening = λ k a other. absurd (not_both words keyset aad seed k a spelled other);
   };
   made = λ r other. absurd (not_sealed words r keyset aad seed other spelled);
+  measured = λ n other. absurd (large_not_sealed words n keyset aad seed other spelled);
 }
 
 -- the promises of an open
@@ -168,6 +171,7 @@ open_promised words keyset aad old new answer spelled ran = record {
         (open-same words keyset aad k a spelled other) (λ S G told faultless can. ok_or_want answer (ran.succeeds S G told faultless can));
   };
   made = λ r other. absurd (not_opened words r keyset aad other spelled);
+  measured = λ n other. absurd (large_not_opened words n keyset aad other spelled);
 }
 
 -- what a run says of equal values

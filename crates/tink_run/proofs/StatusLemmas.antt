@@ -14,11 +14,13 @@ use Rattle.tink_run.specs.declared.report.Report.{Report}
 use Rattle.tink_run.specs.Draws.{draws_in}
 use Rattle.tink_run.specs.Outside.{Outside, IsUntouched}
 use Rattle.tink_run.specs.Run.{AnswerMeans}
-use Rattle.tink_run.specs.Program.{kind_status, status_of, Answered, HasCause, HasOwnStatus, HasUnmadeCause, IsAmong, IsEarlyKind, KeysetMeans, Leaves, OutcomeMeans, StatusMeans, StreamMeans, early_statuses, keygen_statuses, open_statuses, rotate_statuses, seal_statuses, unmade_statuses, SpellKeyset, RefusesUnloaded, RefusesUnmade}
-use Rattle.tink_run.specs.Words.{SealWords, OpenWords, SpellNothing}
+use Rattle.tink_run.specs.Program.{kind_status, status_of, Answered, HasCause, HasOwnStatus, HasUnmadeCause, IsAmong, IsEarlyKind, KeysetMeans, Leaves, OutcomeMeans, StatusMeans, StreamMeans, early_statuses, keygen_statuses, large_statuses, open_statuses, rotate_statuses, seal_statuses, unmade_statuses, SpellKeyset, RefusesUnloaded, RefusesUnmade}
+use Rattle.tink_run.specs.Words.{LargeWords, SealWords, OpenWords, SpellNothing}
 use Rattle.tink_run.specs.Keysets.{of_keyset, of_no_keys, Rotation, SpellRotation}
 use Rattle.tink_run.proofs.KeysetLemmas.{keyset_cause, keyset_own, keyset_unloaded, keyset_unmade, keyset_unmade_cause, keyset_usage}
 use Rattle.tink_run.proofs.KeysetWords.{not_nothing, not_opened, not_sealed, spell_keygen, spell_rotate}
+use Rattle.tink_run.proofs.LargeLemmas.{large_status}
+use Rattle.tink_run.proofs.LargeWordFacts.{large_not_opened, large_not_sealed}
 use Rattle.tink_run.proofs.ProgramLemmas.{stream_usage}
 use Rattle.tink_run.proofs.WordLemmas.{seal-same, open-same, not_both}
 
@@ -36,6 +38,16 @@ not_asked : (words : List (List ℕ)) (old new : Outside) (outcome : Outcome) (r
 not_asked words old new Done r m spelled = absurd (no_answer words old new _ r spelled m.1)
 not_asked words old new Usage r m spelled = absurd (not_nothing words r spelled m.0)
 not_asked words old new (Refused kind) r m spelled = no_refusal words old new kind r m spelled
+
+-- nor do words that ask for a large text
+no_measured : (words : List (List ℕ)) (old new : Outside) (answer : Result Report TinkError) (n : ℕ) → LargeWords words n → Answered words old new answer → ⊥
+no_measured words old new answer n spelled (inl p) = large_not_sealed words n p.keyset p.aad p.seed spelled p.spelled
+no_measured words old new answer n spelled (inr p) = large_not_opened words n p.keyset p.aad spelled p.spelled
+
+large_among : (words : List (List ℕ)) (old new : Outside) (kind : Kind) (n : ℕ) → StreamMeans words old new (Refused kind) → LargeWords words n → IsAmong large_statuses (kind_status kind)
+large_among words old new OutOfMemory n m spelled = refl
+large_among words old new RandomFault n m spelled = absurd m
+large_among words old new _ n m spelled = absurd (no_measured words old new _ n spelled m)
 
 wanted : (statuses : List ℕ) {status : ℕ} → status ≡ 10 → IsAmong statuses 10 → IsAmong statuses status
 wanted statuses is among = subst (IsAmong statuses) (sym is) among
@@ -92,12 +104,14 @@ own_stream words old new Done m = record {
   opening = λ k a spelled. refl;
   making = λ template seed spelled. refl;
   rotating = λ keyset template seed spelled. refl;
+  measuring = λ n spelled. refl;
 }
 own_stream words old new Usage m = record {
   sealing = λ k a s spelled. absurd (m.0.no_seal k a s spelled);
   opening = λ k a spelled. absurd (m.0.no_open k a spelled);
   making = λ template seed spelled. absurd (m.0.no_keygen template seed spelled);
   rotating = λ keyset template seed spelled. absurd (m.0.no_rotate keyset template seed spelled);
+  measuring = λ n spelled. absurd (m.0.no_large n spelled);
 }
 own_stream words old new (Refused kind) m = record {
   sealing = λ k a s spelled. seal_among words k a s old new kind m spelled;
@@ -105,6 +119,7 @@ own_stream words old new (Refused kind) m = record {
   making = λ template seed spelled. wanted keygen_statuses (not_asked words old new (Refused kind) (of_no_keys template seed) m (spell_keygen words template seed spelled)) refl;
   rotating = λ keyset template seed spelled.
       wanted rotate_statuses (not_asked words old new (Refused kind) (of_keyset keyset template seed) m (spell_rotate words keyset template seed spelled)) refl;
+  measuring = λ n spelled. large_among words old new kind n m spelled;
 }
 
 want_cause : (words : List (List ℕ)) (old new : Outside) (kind : Kind) → StreamMeans words old new (Refused kind) → kind_status kind ≡ 10 → IsUntouched old new
@@ -257,4 +272,5 @@ keyset_status words old new outcome m = record {
 
 pub status_means : (words : List (List ℕ)) (old new : Outside) (outcome : Outcome) → OutcomeMeans words old new outcome → StatusMeans words old new (status_of outcome)
 status_means words old new outcome (inl m) = stream_status words old new outcome m
-status_means words old new outcome (inr m) = keyset_status words old new outcome m
+status_means words old new outcome (inr (inl m)) = keyset_status words old new outcome m
+status_means words old new outcome (inr (inr m)) = large_status words old new outcome m

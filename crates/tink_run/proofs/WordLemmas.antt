@@ -18,6 +18,12 @@ slice_index-texts (v ∷ vs) (suc n) w below is = slice_index-texts vs n w (omeg
 pub spelled_at : (ws : List (String Global)) (n : ℕ) (w : String Global) (spelling : List (List ℕ)) → n < length ws → w ≡ slice_index_or ws n w → texts ws ≡ spelling → slice_index_or spelling n [] ≡ string_bytes w
 spelled_at ws n w spelling below is spelled = ap (λ xs. slice_index_or xs n []) (sym spelled) ∙ slice_index-texts ws n w below is
 
+pub two_texts : (ws : List (String Global)) (a b : String Global) → length ws ≡ 2 → a ≡ slice_index_or ws 0 a → b ≡ slice_index_or ws 1 b → texts ws ≡ string_bytes a ∷ string_bytes b ∷ []
+two_texts [] a b l p q = absurd (omega arith)
+two_texts (v ∷ []) a b l p q = absurd (omega arith)
+two_texts (v ∷ w ∷ []) a b l p q = cc
+two_texts (v ∷ w ∷ x ∷ more) a b l p q = absurd (omega arith)
+
 three_texts : (ws : List (String Global)) (a b c : String Global) → length ws ≡ 3 → a ≡ slice_index_or ws 0 a → b ≡ slice_index_or ws 1 b → c ≡ slice_index_or ws 2 c
     → texts ws ≡ string_bytes a ∷ string_bytes b ∷ string_bytes c ∷ []
 three_texts [] a b c l p q r = absurd (omega arith)

@@ -8,7 +8,7 @@ use Rattle.tink_io.specs.declared.error.Kind.TheVariants.{OutOfMemory, WriteFaul
 use Rattle.tink_io.specs.declared.error.TinkError.{TinkError}
 use Rattle.tink_proto.specs.declared.messages.keys.Keyset.{Keyset}
 use Rattle.tink_keysets.specs.Managed.{no_keys}
-use Rattle.tink_keygen.specs.Rotating.{key_line, rotated_by, valid_keyset, IsUnmade}
+use Rattle.tink_keygen.specs.Rotating.{key_line, rotated_by, valid_keyset, IsNotRotated}
 use Rattle.tink_run.specs.Draws.{draws_in}
 use Rattle.tink_run.specs.Outside.{Outside, IsUntouched}
 use Rattle.tink_run.specs.Words.{KeygenWords, RotateWords}
@@ -45,27 +45,27 @@ pub record IsLine (r : Rotation) (text : List ℕ) : Type 0 where
 -- there is none, by this kind
 pub record IsUnmadeBy (r : Rotation) (kind : Kind) : Type 0 where
   pub made : made_keyset r ≡ Err kind
-  pub cause : IsUnmade r.template r.start kind
+  pub cause : IsNotRotated r.template r.start kind
 
 -- a refusal before anything is written. The seed's draws always suffice; `OutOfMemory` is free.
-abbrev pub IsRefusal : Rotation → Kind → Type 0
-IsRefusal r OutOfMemory = Unit {0}
-IsRefusal r BadKeyset = IsUnmadeBy r BadKeyset
-IsRefusal r InvalidKeyset = IsUnmadeBy r InvalidKeyset
-IsRefusal r UnknownTemplate = IsUnmadeBy r UnknownTemplate
-IsRefusal r NoFreshId = IsUnmadeBy r NoFreshId
-IsRefusal r _ = ⊥
+abbrev pub RefusesRotation : Rotation → Kind → Type 0
+RefusesRotation r OutOfMemory = Unit {0}
+RefusesRotation r BadKeyset = IsUnmadeBy r BadKeyset
+RefusesRotation r InvalidKeyset = IsUnmadeBy r InvalidKeyset
+RefusesRotation r UnknownTemplate = IsUnmadeBy r UnknownTemplate
+RefusesRotation r NoFreshId = IsUnmadeBy r NoFreshId
+RefusesRotation r _ = ⊥
 
 -- a call gives the line, or refuses
 abbrev pub GivesLine : {G : Type 0} → Rotation → Result (Vec ℕ G) TinkError → Type 0
 GivesLine r (Ok text) = IsLine r text.items
-GivesLine r (Err e) = IsRefusal r e.kind
+GivesLine r (Err e) = RefusesRotation r e.kind
 
 -- a call writes the line, or refuses: after a fault a prefix of it is written, before that nothing
 abbrev pub RefusesLine : Rotation → Option (List ℕ) → Option (List ℕ) → ℕ → ℕ → Kind → Type 0
 RefusesLine r old new before now WriteFault =
     (text : List ℕ) × IsLine r text × AppendsFront old new text × Rose before now
-RefusesLine r old new before now kind = IsRefusal r kind × (new ≡ old) × (now ≡ before)
+RefusesLine r old new before now kind = RefusesRotation r kind × (new ≡ old) × (now ≡ before)
 
 abbrev pub WritesLine : Rotation → Option (List ℕ) → Option (List ℕ) → ℕ → ℕ → Result (Unit {0}) TinkError → Type 0
 WritesLine r old new before now (Ok _) = (text : List ℕ) × IsLine r text × Appends old new text
@@ -77,13 +77,13 @@ IsUnwritten WriteFault = ⊥
 IsUnwritten _ = Unit {0}
 
 -- a text was written, and the source is as before
-pub record Wrote (old new : Outside) (text : List ℕ) : Type 0 where
+pub record WroteText (old new : Outside) (text : List ℕ) : Type 0 where
   pub left : new.left ≡ old.left
   pub read_faults : new.read_faults ≡ old.read_faults
   pub written : Appends old.got new.got text
 
 -- a prefix of it was written before a fault
-pub record WroteFront (old new : Outside) (text : List ℕ) : Type 0 where
+pub record WrotePrefix (old new : Outside) (text : List ℕ) : Type 0 where
   pub left : new.left ≡ old.left
   pub read_faults : new.read_faults ≡ old.read_faults
   pub written : AppendsFront old.got new.got text
@@ -102,5 +102,5 @@ pub record HasMade (words : List (List ℕ)) (old new : Outside) (Written : Outs
 pub record HasNotMade (words : List (List ℕ)) (old new : Outside) (kind : Kind) : Type 0 where
   pub rotation : Rotation
   pub spelled : SpellRotation words rotation
-  pub refusal : IsRefusal rotation kind
+  pub refusal : RefusesRotation rotation kind
   pub untouched : IsUntouched old new

@@ -6,6 +6,7 @@ pub mod SealSteps
 pub mod Draws
 pub mod Words
 pub mod Keysets
+pub mod Large
 pub mod Program
 pub mod OpenSteps
 pub mod Valid

@@ -17,8 +17,9 @@ use Rattle.tink_run.specs.Draws.{draws_in}
 use Rattle.tink_run.specs.Outside.{Outside, IsUntouched, HasNoFault}
 use Rattle.tink_run.specs.Run.{AnswerMeans, IsEarly, Told, OkMeans, IsWholeStream, IsWholeText, IsOfAgreeing, OnlyAgreeing, CanSeal, CanOpen, IsComplete}
 use Rattle.tink_proto.specs.declared.messages.keys.Keyset.{Keyset}
-use Rattle.tink_run.specs.Keysets.{made_keyset, HasMade, HasNotMade, IsLine, IsUnmadeBy, Rotation, SpellRotation, Wrote, WroteFront}
-use Rattle.tink_run.specs.Words.{KeygenWords, OpenWords, RotateWords, SealWords, SpellNothing}
+use Rattle.tink_run.specs.Keysets.{made_keyset, HasMade, HasNotMade, IsLine, IsUnmadeBy, Rotation, SpellRotation, WroteText, WrotePrefix}
+use Rattle.tink_run.specs.Large.{HasMeasured, lines_of}
+use Rattle.tink_run.specs.Words.{KeygenWords, LargeWords, OpenWords, RotateWords, SealWords, SpellNothing}
 
 -- a refusal's status. A kind of the last line never comes.
 abbrev pub kind_status : Kind → ℕ
@@ -48,7 +49,7 @@ status_of (Refused kind) = kind_status kind
 -- the line that is told, nothing where all went well
 abbrev pub line_of : Outcome → List ℕ
 line_of Done = []
-line_of Usage = codes "usage: seal KEYSET AAD SEED | open KEYSET AAD | keygen TEMPLATE SEED | rotate KEYSET TEMPLATE SEED" ++ 10 ∷ []
+line_of Usage = codes "usage: seal KEYSET AAD SEED | open KEYSET AAD | keygen TEMPLATE SEED | rotate KEYSET TEMPLATE SEED | large N" ++ 10 ∷ []
 line_of (Refused kind) = kind_line kind
 
 -- the outcome that an answer comes to
@@ -88,15 +89,22 @@ StreamMeans words old new (Refused kind) = Answered words old new (Err (record {
 
 -- the same of a command that makes a keyset
 abbrev pub KeysetMeans : List (List ℕ) → Outside → Outside → Outcome → Type 0
-KeysetMeans words old new Done = HasMade words old new Wrote
+KeysetMeans words old new Done = HasMade words old new WroteText
 KeysetMeans words old new Usage = ⊥
 KeysetMeans words old new (Refused OutOfMemory) = IsUntouched old new
-KeysetMeans words old new (Refused WriteFault) = HasMade words old new WroteFront
+KeysetMeans words old new (Refused WriteFault) = HasMade words old new WrotePrefix
 KeysetMeans words old new (Refused kind) = HasNotMade words old new kind
+
+-- and of the command that measures a large text
+abbrev pub LargeMeans : List (List ℕ) → Outside → Outside → Outcome → Type 0
+LargeMeans words old new Done = HasMeasured words old new WroteText
+LargeMeans words old new (Refused OutOfMemory) = IsUntouched old new
+LargeMeans words old new (Refused WriteFault) = HasMeasured words old new WrotePrefix
+LargeMeans words old new _ = ⊥
 
 -- what stands after each outcome, and why it came
 abbrev pub OutcomeMeans : List (List ℕ) → Outside → Outside → Outcome → Type 0
-OutcomeMeans words old new outcome = StreamMeans words old new outcome ⊎ KeysetMeans words old new outcome
+OutcomeMeans words old new outcome = StreamMeans words old new outcome ⊎ KeysetMeans words old new outcome ⊎ LargeMeans words old new outcome
 
 -- the status is that of an outcome, whose line was told: exactly, or a prefix of it where the count of faults rose
 pub record ProgramMeans (words : List (List ℕ)) (old new : Outside) (told_before told_after : Option (List ℕ)) (faults_before faults_after : ℕ) (status : ℕ) : Type 0 where
@@ -132,9 +140,13 @@ Leaves Done source source_after sink sink_after = Unit {0}
 Leaves Usage source source_after sink sink_after = (source_after ≡ source) × (sink_after ≡ sink)
 Leaves (Refused kind) source source_after sink sink_after = IsEarlyKind kind → (source_after ≡ source) × (sink_after ≡ sink)
 
--- a command that makes a keyset leaves the source itself as it was, whatever its status
+-- a command that makes a keyset, or measures a large text
+abbrev pub SpellNoStream : List (List ℕ) → Type 0
+SpellNoStream words = ((r : Rotation) × SpellRotation words r) ⊎ ((n : ℕ) × LargeWords words n)
+
+-- it leaves the source itself as it was, whatever its status
 abbrev pub LeavesSource : {S : Type 0} → List (List ℕ) → S → S → Type 0
-LeavesSource words source source_after = (r : Rotation) → SpellRotation words r → source_after ≡ source
+LeavesSource words source source_after = SpellNoStream words → source_after ≡ source
 
 abbrev pub SpellKeyset : List (List ℕ) → List ℕ → Type 0
 SpellKeyset words keyset = ((aad seed : List ℕ) × SealWords words keyset aad seed) ⊎ ((aad : List ℕ) × OpenWords words keyset aad)
@@ -159,6 +171,9 @@ keygen_statuses = 0 ∷ 10 ∷ 12 ∷ 24 ∷ 25 ∷ []
 abbrev pub rotate_statuses : List ℕ
 rotate_statuses = 0 ∷ 10 ∷ 12 ∷ 13 ∷ 14 ∷ 24 ∷ 25 ∷ []
 
+abbrev pub large_statuses : List ℕ
+large_statuses = 0 ∷ 10 ∷ 12 ∷ []
+
 -- each command has only its own statuses
 pub record HasOwnStatus (words : List (List ℕ)) (status : ℕ) : Type 0 where
   pub sealing : (keyset aad seed : List ℕ) → SealWords words keyset aad seed → IsAmong seal_statuses status
@@ -166,6 +181,7 @@ pub record HasOwnStatus (words : List (List ℕ)) (status : ℕ) : Type 0 where
   pub making : (template seed : List ℕ) → KeygenWords words template seed → IsAmong keygen_statuses status
   pub rotating : (keyset template seed : List ℕ) → RotateWords words keyset template seed
       → IsAmong rotate_statuses status
+  pub measuring : (n : ℕ) → LargeWords words n → IsAmong large_statuses status
 
 -- a keyset that is not made gets its refusal's status, or `OutOfMemory`
 abbrev pub RefusesUnmade : List (List ℕ) → ℕ → Type 0
@@ -244,13 +260,22 @@ pub record Ran (command : Command) (keyset aad draws : List ℕ) (old new : Outs
 
 -- what 0 and 12 promise of a keyset that is made, and when it is: exactly its line was written, or a prefix of it
 pub record MakesKeyset (r : Rotation) (old new : Outside) (status : ℕ) : Type 0 where
-  pub whole : status ≡ 0 → (text : List ℕ) × IsLine r text × Wrote old new text
-  pub front : status ≡ 12 → (text : List ℕ) × IsLine r text × WroteFront old new text
+  pub whole : status ≡ 0 → (text : List ℕ) × IsLine r text × WroteText old new text
+  pub front : status ≡ 12 → (text : List ℕ) × IsLine r text × WrotePrefix old new text
   pub succeeds : (keyset : Keyset) → made_keyset r ≡ Ok keyset → (Rose old.write_faults new.write_faults → ⊥)
       → (status ≡ 0) ⊎ (status ≡ 10)
 
 abbrev pub MakesAsSpelled : List (List ℕ) → Outside → Outside → ℕ → Type 0
 MakesAsSpelled words old new status = (r : Rotation) → SpellRotation words r → MakesKeyset r old new status
+
+-- what 0 and 12 promise of a large text, and when it is measured: exactly its lines were written, or a prefix of them
+pub record MeasuresLarge (n : ℕ) (old new : Outside) (status : ℕ) : Type 0 where
+  pub whole : status ≡ 0 → WroteText old new (lines_of n)
+  pub front : status ≡ 12 → WrotePrefix old new (lines_of n)
+  pub succeeds : (Rose old.write_faults new.write_faults → ⊥) → (status ≡ 0) ⊎ (status ≡ 10)
+
+abbrev pub MeasuresAsSpelled : List (List ℕ) → Outside → Outside → ℕ → Type 0
+MeasuresAsSpelled words old new status = (n : ℕ) → LargeWords words n → MeasuresLarge n old new status
 
 -- told bytes: the promises of a status
 pub record Promised (words : List (List ℕ)) (old new : Outside) (status : ℕ) : Type 0 where
@@ -264,3 +289,5 @@ pub record Promised (words : List (List ℕ)) (old new : Outside) (status : ℕ)
   pub succeeds : Succeeds words old new status
   -- what a command that makes a keyset has written, and when it succeeds, told or not
   pub made : MakesAsSpelled words old new status
+  -- what a command that measures a large text has written, and when it succeeds, told or not
+  pub measured : MeasuresAsSpelled words old new status

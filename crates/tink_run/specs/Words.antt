@@ -1,8 +1,8 @@
 -- The words that spell a command.
-use Rattle.std.specs.Prelude.{◌≡◌, ◌⊎◌, ◌≤◌, ℕ, List, [], ◌∷◌, length, map, codes, String, string_bytes, Ok, Vec}
+use Rattle.std.specs.Prelude.{◌≡◌, ◌⊎◌, ◌≤◌, ◌<◌, ℕ, List, [], ◌∷◌, length, map, codes, decimal, String, string_bytes, Ok, Vec}
 use Rattle.hex.specs.Hex.{decode_of}
 use Rattle.tink_run.specs.declared.words.Parsed.{Parsed}
-use Rattle.tink_run.specs.declared.words.Parsed.TheVariants.{Keygen, Open, Rotate, Seal}
+use Rattle.tink_run.specs.declared.words.Parsed.TheVariants.{Keygen, Large, Open, Rotate, Seal}
 
 -- two hexadecimal digits or more, an even number in either case, or a dash for no bytes
 abbrev pub IsBytesWord : List ℕ → List ℕ → Type 0
@@ -44,6 +44,17 @@ pub record RotateWords (words : List (List ℕ)) (keyset template seed : List �
   pub keyset_is : IsBytesWord keyset_word keyset
   pub seed_is : IsSeedWord seed_word seed
 
+-- a number below 1,000,000 in decimal digits, without a leading zero unless it is 0
+pub record IsNumberWord (word : List ℕ) (n : ℕ) : Type 0 where
+  pub digits : word ≡ decimal n
+  pub small : n < 1000000
+
+-- `large N`, and what it spells
+pub record LargeWords (words : List (List ℕ)) (n : ℕ) : Type 0 where
+  pub number_word : List ℕ
+  pub spelled : words ≡ codes "large" ∷ number_word ∷ []
+  pub number_is : IsNumberWord number_word n
+
 abbrev pub SpellNoSeal : List (List ℕ) → Type 0
 SpellNoSeal words = (keyset aad seed : List ℕ) → SealWords words keyset aad seed → ⊥
 
@@ -56,12 +67,16 @@ SpellNoKeygen words = (template seed : List ℕ) → KeygenWords words template 
 abbrev pub SpellNoRotate : List (List ℕ) → Type 0
 SpellNoRotate words = (keyset template seed : List ℕ) → RotateWords words keyset template seed → ⊥
 
--- the words spell none of the four commands
+abbrev pub SpellNoLarge : List (List ℕ) → Type 0
+SpellNoLarge words = (n : ℕ) → LargeWords words n → ⊥
+
+-- the words spell none of the five commands
 pub record SpellNothing (words : List (List ℕ)) : Type 0 where
   pub no_seal : SpellNoSeal words
   pub no_open : SpellNoOpen words
   pub no_keygen : SpellNoKeygen words
   pub no_rotate : SpellNoRotate words
+  pub no_large : SpellNoLarge words
 
 -- the bytes of each word of a command line
 abbrev pub words_in : {A : Type 0} → List (String A) → List (List ℕ)
@@ -77,3 +92,4 @@ Spell words (Seal args) = SealWords words args.keyset.items args.aad.items args.
 Spell words (Open args) = OpenWords words args.keyset.items args.aad.items
 Spell words (Keygen args) = KeygenWords words (string_bytes args.template) args.seed
 Spell words (Rotate args) = RotateWords words args.keyset.items (string_bytes args.template) args.seed
+Spell words (Large n) = LargeWords words n

@@ -4,6 +4,7 @@
 
 mod keys;
 mod keysets;
+mod large;
 pub mod laws;
 pub mod load;
 mod open;

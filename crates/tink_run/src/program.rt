@@ -10,6 +10,7 @@ ghost use Rattle.tink_run.specs.Run.{LeavesEnds};
 ghost use Rattle.tink_run.specs.Words.{words_of};
 
 use crate::keysets::{write_new, write_rotated};
+use crate::large::write_large;
 use crate::report::{Command, Report};
 use crate::run::run;
 use crate::words::{OpenArgs, Parsed, SealArgs, first_draws, parse};
@@ -17,7 +18,7 @@ use std::alloc::Global;
 use tink_io::{Draws, Kind, Sink, Source, TinkError, write_all, write_line};
 
 const USAGE: &[u8] =
-    b"usage: seal KEYSET AAD SEED | open KEYSET AAD | keygen TEMPLATE SEED | rotate KEYSET TEMPLATE SEED\n";
+    b"usage: seal KEYSET AAD SEED | open KEYSET AAD | keygen TEMPLATE SEED | rotate KEYSET TEMPLATE SEED | large N\n";
 
 /// How the program ended.
 #[derive(Clone, Copy, Debug, PartialEq, Eq)]
@@ -33,14 +34,16 @@ pub enum Outcome {
 /// Does what the words say, from `source` to `sink`, and answers the status:
 ///
 /// - 0: it was done, and nothing is told to `faults`.
-/// - 2: the words are none of `seal KEYSET AAD SEED`, `open KEYSET AAD`, `keygen TEMPLATE SEED` and
-///   `rotate KEYSET TEMPLATE SEED`; the usage line is told.
+/// - 2: the words are none of `seal KEYSET AAD SEED`, `open KEYSET AAD`, `keygen TEMPLATE SEED`,
+///   `rotate KEYSET TEMPLATE SEED` and `large N`; the usage line is told.
 /// - 10 to 25: it was refused; the line of the refusal's kind is told.
 ///
 /// KEYSET and AAD are hexadecimal, in either case and at least two digits, or `-` for no bytes; TEMPLATE is any word;
-/// SEED is 64 hexadecimal digits, and draws are the first 256 words of its ChaCha20 stream. `keygen` writes the line
-/// of a keyset of one new key by the template of that name, `rotate` that of KEYSET with such a key as its primary
-/// one; they leave the source as it is. A fault of `faults` ends the line where it stands, and changes no status.
+/// SEED is 64 hexadecimal digits, and draws are the first 256 words of its ChaCha20 stream; N is a decimal number
+/// below 1,000,000, without a leading zero unless it is 0. `keygen` writes the line of a keyset of one new key by the
+/// template of that name, `rotate` that of KEYSET with such a key as its primary one, `large` the four lines of the
+/// large text of N under the draws of the seed of zeros; they leave the source as it is. A fault of `faults` ends the
+/// line where it stands, and changes no status.
 pub fn program<S: Source, K: Sink, E: Sink>(
     alloc: Global,
     words: &Vec<String>,
@@ -63,11 +66,11 @@ pub fn program<S: Source, K: Sink, E: Sink>(
     // A status of 2, 10, 13 to 19, 24 or 25 leaves the ends themselves as they were.
     ensures early { IsAmong early_statuses result → (source.new ≡ source.old) × (sink.new ≡ sink.old) }
 
-    // A command that makes a keyset leaves the source itself as it was.
+    // A command that makes a keyset, or measures a large text, leaves the source itself as it was.
     ensures kept { LeavesSource (words_of words.now) source.old source.new }
 
     // Told bytes: what status 0 promises of a seal, and of an open; what an open has written by any status; when a
-    // command succeeds. Told or not: what a command that makes a keyset has written, and when it succeeds.
+    // command succeeds. Told or not: what the other commands have written, and when they succeed.
     ensures promised { Promised (words_of words.now)
         (outside_of S.left S.faults K.got K.faults source.old sink.old)
         (outside_of S.left S.faults K.got K.faults source.new sink.new) result }
@@ -150,6 +153,7 @@ fn command<S: Source, K: Sink>(
         Ok(Some(Parsed::Open(args))) => outcome_of(run_open(alloc, &args, source, sink)),
         Ok(Some(Parsed::Keygen(args))) => outcome_of(write_new(alloc, &args, sink)),
         Ok(Some(Parsed::Rotate(args))) => outcome_of(write_rotated(alloc, &args, sink)),
+        Ok(Some(Parsed::Large(n))) => outcome_of(write_large(alloc, n, sink)),
     }
 }
 

@@ -3,7 +3,7 @@
 ghost use Rattle.std.specs.Prelude.{◌≡◌, List, ℕ, IfOk, IfErr, IfSome, IfNone, string_bytes};
 ghost use Rattle.tink_io.specs.declared.error.Kind.TheVariants.{OutOfMemory};
 ghost use Rattle.tink_run.specs.Draws.{draws_in};
-ghost use Rattle.tink_run.specs.Words.{IsBytesWord, KeygenWords, OpenWords, RotateWords, SealWords, Spell, SpellNoKeygen, SpellNoOpen, SpellNoRotate, SpellNoSeal, SpellNothing, words_of};
+ghost use Rattle.tink_run.specs.Words.{IsBytesWord, IsNumberWord, KeygenWords, LargeWords, OpenWords, RotateWords, SealWords, Spell, SpellNoKeygen, SpellNoLarge, SpellNoOpen, SpellNoRotate, SpellNoSeal, SpellNothing, words_of};
 
 use hex::{FromHex, FromHexError};
 use rand_chacha::ChaCha20Rng;
@@ -11,6 +11,9 @@ use rand_core::SeedableRng;
 use rand_core::utils::NextWord;
 use std::alloc::Global;
 use tink_io::{Kind, TinkError};
+
+// So many numbers have a large text: those of six digits at most.
+const NUMBERS: u32 = 1_000_000;
 
 /// What `seal KEYSET AAD SEED` spells.
 #[derive(Drop)]
@@ -49,6 +52,7 @@ pub enum Parsed {
     Open(OpenArgs),
     Keygen(KeygenArgs),
     Rotate(RotateArgs),
+    Large(u32),
 }
 
 /// Reads the words of a command; `None` where they spell none. Refuses by `OutOfMemory` alone.
@@ -68,6 +72,9 @@ pub fn parse(alloc: Global, words: &Vec<String>) -> Result<Option<Parsed>, TinkE
     }
     if let Some(args) = parse_rotate(alloc, words)? {
         return Ok(Some(Parsed::Rotate(args)));
+    }
+    if let Some(n) = parse_large(alloc, words)? {
+        return Ok(Some(Parsed::Large(n)));
     }
     Ok(None)
 }
@@ -152,6 +159,37 @@ fn parse_rotate(alloc: Global, words: &Vec<String>) -> Result<Option<RotateArgs>
         template,
         seed,
     }))
+}
+
+// Reads the words of `large`.
+fn parse_large(alloc: Global, words: &Vec<String>) -> Result<Option<u32>, TinkError>
+    ensures found { IfOk result (λ o. IfSome o (λ n. LargeWords (words_of words.now) n)) }
+    ensures none { IfOk result (λ o. IfNone o (SpellNoLarge (words_of words.now))) }
+    ensures refused { IfErr result (λ e. e ≡ record { kind = OutOfMemory }) }
+{
+    if words.len() != 2 || words[0].as_str() != "large" {
+        return Ok(None);
+    }
+    let Some(n) = number_of(alloc, words[1].as_str())? else {
+        return Ok(None);
+    };
+    Ok(Some(n))
+}
+
+// The number of a word that writes it as it is printed, below the limit.
+fn number_of(alloc: Global, word: &str) -> Result<Option<u32>, TinkError>
+    ensures found { IfOk result (λ o. IfSome o (λ n. IsNumberWord word.now n)) }
+    ensures none { IfOk result (λ o. IfNone o ((n : ℕ) → IsNumberWord word.now n → ⊥)) }
+    ensures refused { IfErr result (λ e. e ≡ record { kind = OutOfMemory }) }
+{
+    let Ok(n) = word.parse::<u32>() else {
+        return Ok(None);
+    };
+    let printed = n.to_string(alloc)?;
+    if n >= NUMBERS || printed.as_str() != word {
+        return Ok(None);
+    }
+    Ok(Some(n))
 }
 
 // The bytes of a hexadecimal word, or none of a dash.

@@ -14,6 +14,8 @@ mod keyset_command_tests;
 #[cfg(test)]
 mod keyset_tests;
 #[cfg(test)]
+mod large_command_tests;
+#[cfg(test)]
 mod run_tests;
 #[cfg(test)]
 mod stream_tests;

@@ -21,6 +21,10 @@ pub const SMALL: &str =
 /// The draws of a seal.
 pub const SEED: &str = "0000000000000000000000000000000000000000000000000000000000000000";
 
+/// The line of words that spell no command.
+pub const USAGE: &str =
+    "usage: seal KEYSET AAD SEED | open KEYSET AAD | keygen TEMPLATE SEED | rotate KEYSET TEMPLATE SEED | large N\n";
+
 /// A status, what was written, and what was told.
 #[derive(Drop)]
 pub struct Told {
@@ -76,7 +80,7 @@ pub fn by_words(alloc: Global, texts: &[&str], input: Vec<u8>) -> Result<Told, F
     let words = words(alloc, texts)?;
     let mut source = SureSource::new(input);
     let mut sink = roomy(alloc, 20000)?;
-    let (status, line) = between(alloc, &words, &mut source, &mut sink, 100)?;
+    let (status, line) = between(alloc, &words, &mut source, &mut sink, 200)?;
     Ok(Told {
         status,
         written: sink.into_bytes(),

@@ -1,15 +1,12 @@
 //! What the program answers to words that spell no command.
 
-use crate::support::{between, is};
+use crate::support::{USAGE, between, is};
 use std::alloc::Global;
 use std::test::Fail;
 use tink_io::{SureSink, SureSource};
 
-const USAGE: &str =
-    "usage: seal KEYSET AAD SEED | open KEYSET AAD | keygen TEMPLATE SEED | rotate KEYSET TEMPLATE SEED\n";
-
 // Words apart by blanks: two blanks have an empty word between them, and no text has no words.
-const NO_COMMANDS: [&str; 18] = [
+const NO_COMMANDS: [&str; 19] = [
     "",
     "--help",
     "keygen AES128_CTR_HMAC_SHA256_4KB 00",
@@ -19,7 +16,8 @@ const NO_COMMANDS: [&str; 18] = [
     "rotate 00 0000000000000000000000000000000000000000000000000000000000000000",
     "rotate 0 X 0000000000000000000000000000000000000000000000000000000000000000",
     "rotate - - X 0000000000000000000000000000000000000000000000000000000000000000",
-    "large 1",
+    "large",
+    "large 0 0",
     "seal 00 -",
     "open 00 - 00",
     "open 000 -",

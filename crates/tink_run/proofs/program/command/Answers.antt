@@ -1,7 +1,8 @@
 use Rattle.std.proofs.Common.{inl, inr, refl}
 use Rattle.tink_run.specs.declared.report.Command.TheVariants.{Open, Seal}
 use Rattle.tink_run.proofs.KeysetLemmas.{line_leaves, line_outcome, line_promised}
-use Rattle.tink_run.proofs.KeysetWords.{not_opened, not_sealed, spell_keygen, spell_rotate}
+use Rattle.tink_run.proofs.KeysetWords.{spell_keygen, spell_rotate}
+use Rattle.tink_run.proofs.LargeLemmas.{large_outcome, large_promised, opened_stream, sealed_stream}
 use Rattle.tink_run.proofs.ProgramLemmas.{leaves_by, open_outcome, open_promised, seal_outcome, seal_promised, usage_promised}
 use Rattle.tink_run.proofs.program.command.Goals as goal
 
@@ -35,19 +36,19 @@ pub returns-in-Ok-Some-Open-clause-early : goal.returns-in-Ok-Some-Open-clause-e
 returns-in-Ok-Some-Open-clause-early g c = rw c.outcome_of-in-Ok-Some-Open.ensures (leaves_by Open _ _ _ _ _ c.run_open.result _ _ _ _ c.run_open.ensures.ran c.run_open.ensures.early)
 
 pub returns-in-Ok-Some-Seal-clause-kept : goal.returns-in-Ok-Some-Seal-clause-kept
-returns-in-Ok-Some-Seal-clause-kept g c = λ r asked.
+returns-in-Ok-Some-Seal-clause-kept g c = λ asked.
     let spelled = rw (c.in-Ok-Some-Seal.field-0-is, c.in-Ok-Some-Seal.field-0-0-is) at c.in-Ok-Some-Seal.ensures.found in
-    absurd (not_sealed _ r _ _ _ asked spelled)
+    absurd (sealed_stream _ _ _ _ asked spelled)
 
 pub returns-in-Ok-Some-Open-clause-kept : goal.returns-in-Ok-Some-Open-clause-kept
-returns-in-Ok-Some-Open-clause-kept g c = λ r asked.
+returns-in-Ok-Some-Open-clause-kept g c = λ asked.
     let spelled = rw (c.in-Ok-Some-Open.field-0-is, c.in-Ok-Some-Open.field-0-0-is) at c.in-Ok-Some-Open.ensures.found in
-    absurd (not_opened _ r _ _ asked spelled)
+    absurd (opened_stream _ _ _ asked spelled)
 
 pub returns-in-Ok-Some-Keygen-clause-means : goal.returns-in-Ok-Some-Keygen-clause-means
 returns-in-Ok-Some-Keygen-clause-means g c =
     let spelled = rw (c.in-Ok-Some-Keygen.field-0-is, c.in-Ok-Some-Keygen.field-0-0-is) at c.in-Ok-Some-Keygen.ensures.found in
-    rw c.outcome_of-in-Ok-Some-Keygen.ensures (inr (line_outcome _ _ _ _ c.write_new.result (spell_keygen _ _ _ spelled) refl refl c.write_new.ensures.answer))
+    rw c.outcome_of-in-Ok-Some-Keygen.ensures (inr (inl (line_outcome _ _ _ _ c.write_new.result (spell_keygen _ _ _ spelled) refl refl c.write_new.ensures.answer)))
 
 pub returns-in-Ok-Some-Keygen-clause-promised : goal.returns-in-Ok-Some-Keygen-clause-promised
 returns-in-Ok-Some-Keygen-clause-promised g c =
@@ -60,7 +61,7 @@ returns-in-Ok-Some-Keygen-clause-early g c = rw c.outcome_of-in-Ok-Some-Keygen.e
 pub returns-in-Ok-Some-Rotate-clause-means : goal.returns-in-Ok-Some-Rotate-clause-means
 returns-in-Ok-Some-Rotate-clause-means g c =
     let spelled = rw (c.in-Ok-Some-Rotate.field-0-is, c.in-Ok-Some-Rotate.field-0-0-is) at c.in-Ok-Some-Rotate.ensures.found in
-    rw c.outcome_of-in-Ok-Some-Rotate.ensures (inr (line_outcome _ _ _ _ c.write_rotated.result (spell_rotate _ _ _ _ spelled) refl refl c.write_rotated.ensures.answer))
+    rw c.outcome_of-in-Ok-Some-Rotate.ensures (inr (inl (line_outcome _ _ _ _ c.write_rotated.result (spell_rotate _ _ _ _ spelled) refl refl c.write_rotated.ensures.answer)))
 
 pub returns-in-Ok-Some-Rotate-clause-promised : goal.returns-in-Ok-Some-Rotate-clause-promised
 returns-in-Ok-Some-Rotate-clause-promised g c =
@@ -69,3 +70,16 @@ returns-in-Ok-Some-Rotate-clause-promised g c =
 
 pub returns-in-Ok-Some-Rotate-clause-early : goal.returns-in-Ok-Some-Rotate-clause-early
 returns-in-Ok-Some-Rotate-clause-early g c = rw c.outcome_of-in-Ok-Some-Rotate.ensures (line_leaves c.write_rotated.result _ _ _ c.write_rotated.ensures.early)
+
+pub returns-in-Ok-Some-Large-clause-means : goal.returns-in-Ok-Some-Large-clause-means
+returns-in-Ok-Some-Large-clause-means g c =
+    let spelled = rw (c.in-Ok-Some-Large.field-0-is, c.in-Ok-Some-Large.field-0-0-is) at c.in-Ok-Some-Large.ensures.found in
+    rw c.outcome_of-in-Ok-Some-Large.ensures (inr (inr (large_outcome _ _ _ _ c.write_large.result spelled refl refl c.write_large.ensures.answer)))
+
+pub returns-in-Ok-Some-Large-clause-promised : goal.returns-in-Ok-Some-Large-clause-promised
+returns-in-Ok-Some-Large-clause-promised g c =
+    let spelled = rw (c.in-Ok-Some-Large.field-0-is, c.in-Ok-Some-Large.field-0-0-is) at c.in-Ok-Some-Large.ensures.found in
+    rw c.outcome_of-in-Ok-Some-Large.ensures (large_promised _ _ _ _ c.write_large.result spelled refl refl c.write_large.ensures.answer)
+
+pub returns-in-Ok-Some-Large-clause-early : goal.returns-in-Ok-Some-Large-clause-early
+returns-in-Ok-Some-Large-clause-early g c = rw c.outcome_of-in-Ok-Some-Large.ensures (line_leaves c.write_large.result _ _ _ c.write_large.ensures.early)
