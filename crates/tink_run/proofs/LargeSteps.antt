@@ -7,8 +7,7 @@ use Rattle.tink_io.specs.Written.{AppendsFront}
 use Rattle.tink_io.specs.declared.error.Kind.{Kind}
 use Rattle.tink_io.specs.declared.error.Kind.TheVariants.{OutOfMemory, RandomFault, WriteFault}
 use Rattle.tink_io.specs.declared.error.TinkError.{TinkError}
-use Rattle.tink_large.specs.Large.{large_lines, large_output, IsMeasured}
-use Rattle.tink_large.specs.Opening.{MeasureRefused}
+use Rattle.tink_large.specs.Large.{large_lines, large_output, IsMeasured, MeasureRefused}
 use Rattle.tink_large.specs.declared.measuring.Measured.{Measured}
 use Rattle.tink_large.proofs.LargeFacts.{measured_lines}
 use Rattle.tink_run.specs.Large.{lines_of, large_draws, RefusesLarge, WritesLarge}
