@@ -1,5 +1,5 @@
 -- What is still to come of a stream while its text is sealed.
-use Rattle.std.specs.Prelude.{ℕ, ◌+◌, ◌-◌, Bool, true, List, [], ◌++◌, length, drop}
+use Rattle.std.specs.Prelude.{◌≡◌, ◌<◌, ℕ, ◌+◌, ◌-◌, Bool, true, List, [], ◌++◌, length, drop}
 use Rattle.stream_model.specs.Cut.{full_chunks, open_chunk, room_at, unmarked}
 use Rattle.tink_segment_traits.specs.declared.segment_traits.SegmentEncrypter.{Ghosts}
 use Rattle.tink_streams.specs.Sealers.{segment_map}
@@ -25,7 +25,15 @@ come_of seg first room Open i held text = to_come seg first room i (held ++ text
 come_of seg first room Closed i held text = []
 come_of seg first room (Failed c) i held text = []
 
+-- its room stays, and what of it was given
+abbrev pub KeepsPlace : Pending → Pending → Type 0
+KeepsPlace old new = (new.room ≡ old.room) × (new.given ≡ old.given)
+
 module _ {E : Type 0} {g : Ghosts E} where
+  -- nothing is pending, and there is room for a segment
+  abbrev pub TakesSegment : SegmentWriter E g → Pending → Type 0
+  TakesSegment w p = (p.bytes.items ≡ []) × (w.sealer.room + w.sealer.overhead < p.room)
+
   -- what comes of a text behind what a writer holds
   abbrev pub comes : SegmentWriter E g → List ℕ → List ℕ
   comes w text = come_of (segment_map w.sealer) w.sealer.first w.sealer.room w.mode w.segments w.held.items text

@@ -1,5 +1,5 @@
 -- What remains to be opened of a stream, and how the stream of a large text begins.
-use Rattle.std.specs.Prelude.{◌≡◌, ◌≤◌, ◌<◌, ℕ, ◌+◌, Bool, List, [], length, drop, Some}
+use Rattle.std.specs.Prelude.{◌≡◌, ◌≤◌, ◌<◌, ℕ, ◌+◌, Bool, List, [], length, drop, vec_len, vec_capacity, Some}
 use Rattle.std.specs.declared.option.Option.{Option}
 use Rattle.stream_model.specs.Agree.{AreTexts, joined}
 use Rattle.stream_model.specs.Cut.{cut, room_at}
@@ -7,6 +7,7 @@ use Rattle.stream_model.specs.Key.{first_room, overhead, room}
 use Rattle.stream_model.specs.Sealing.{chunk_count, drawn}
 use Rattle.tink_segment_traits.specs.declared.segment_traits.SegmentEncrypter.{Ghosts}
 use Rattle.tink_streams.specs.declared.writing.SegmentWriter.{SegmentWriter}
+use Rattle.tink_stream_keys.specs.declared.starting.Trial.{Trial}
 use Rattle.tink_large.specs.Coming.{left_of}
 use Rattle.tink_large.specs.Large.{large_key, large_stream, large_text}
 use Rattle.tink_large.specs.declared.pending.Pending.{Pending}
@@ -29,6 +30,10 @@ AllRemains seg first size i rest bytes n = Remains seg first size i rest bytes (
 -- some draws give the stream
 abbrev pub IsLargeStream : ℕ → List ℕ → Type 0
 IsLargeStream n S = (draws : List ℕ) × (drawn large_key ≤ length draws) × (S ≡ large_stream n draws)
+
+-- a trial has room for a segment and one byte more, for its text, for a nonce and for the prefix of nonces
+abbrev pub HasLargeRoom : Trial → Type 0
+HasLargeRoom t = (4096 < vec_len t.kept.buffer) × (4096 ≤ vec_capacity t.opened) × (16 ≤ vec_len t.nonce) × (7 ≤ vec_capacity t.prefix)
 
 module _ {E : Type 0} {g : Ghosts E} where
   -- salt and prefix were drawn, the front is pending, and a writer makes the segments of the key

@@ -6,7 +6,7 @@ ghost use Rattle.tink_io.specs.declared.error.Kind.TheVariants.{OutOfMemory};
 ghost use Rattle.tink_streams.specs.Openers.{reader_rest, segment_map};
 ghost use Rattle.tink_streams.specs.declared.progress.Progress.TheVariants.{Running};
 ghost use Rattle.tink_large.specs.Large.{MeasureRefused, large_key, large_text};
-ghost use Rattle.tink_large.specs.Opening.{AllRemains, IsBegun, IsLargeStream};
+ghost use Rattle.tink_large.specs.Opening.{AllRemains, HasLargeRoom, IsBegun, IsLargeStream};
 ghost use Rattle.tink_large.specs.SealedText.{Passed, stream_left};
 
 use crate::pending::Pending;
@@ -79,10 +79,7 @@ pub fn start_reading(
 ) -> SegmentReader<StreamSegment>
     requires key { key.now ≡ large_key }
     requires filled { trial.kept.filled ≡ 0 }
-    requires buffer { 4096 < vec_len trial.kept.buffer }
-    requires room { 4096 ≤ vec_capacity trial.opened }
-    requires nonce { 16 ≤ vec_len trial.nonce }
-    requires prefix { 7 ≤ vec_capacity trial.prefix }
+    requires room { HasLargeRoom trial }
     requires number { source.old.n < 2 ^ 32 }
     requires stream { IsLargeStream source.old.n (stream_left source.old) }
     ensures running { result.progress ≡ Running }

@@ -2,7 +2,7 @@
 
 ghost use Rattle.std.specs.Prelude.{◌≡◌, ◌≤◌, ◌<◌, ◌+◌, ◌*◌, ◌-◌, ◌^◌, ◌++◌, ℕ, List, [], true, false, Some, length, vec_len, vec_capacity};
 ghost use Rattle.tink_streams.specs.declared.writing.Mode.TheVariants.{Open, Closed};
-ghost use Rattle.tink_large.specs.Coming.{comes, left_of, pending_bytes};
+ghost use Rattle.tink_large.specs.Coming.{KeepsPlace, TakesSegment, comes, left_of, pending_bytes};
 ghost use Rattle.tink_large.specs.Large.{text_from, text_length};
 
 use crate::measuring::Measured;
@@ -38,19 +38,17 @@ pub struct SealedText {
 // Seals a piece of text.
 fn seal_piece(writer: &mut SegmentWriter<StreamSegment>, pending: &mut Pending, piece: &[u8])
     requires open { writer.old.mode ≡ Open }
-    requires empty { pending.old.bytes.items ≡ [] }
+    requires takes { TakesSegment writer.old pending.old }
     requires piece { length piece.now ≤ writer.old.sealer.first }
     requires wide { 2 ≤ writer.old.sealer.first }
     requires few { writer.old.segments + 1 < 2 ^ 32 }
-    requires room { writer.old.sealer.room + writer.old.sealer.overhead < pending.old.room }
     ensures left { (text : List ℕ) → pending.new.bytes.items ++ comes writer.new text
         ≡ comes writer.old (piece.now ++ text) }
     ensures few { 2 * writer.new.segments + vec_len writer.new.held
         ≤ 2 * writer.old.segments + vec_len writer.old.held + length piece.now }
     ensures open { writer.new.mode ≡ Open }
     ensures sealer { writer.new.sealer ≡ writer.old.sealer }
-    ensures room { pending.new.room ≡ pending.old.room }
-    ensures given { pending.new.given ≡ pending.old.given }
+    ensures kept { KeepsPlace pending.old pending.new }
 {
     match writer.write(pending, piece) {
         Ok(_) => {}
@@ -61,13 +59,11 @@ fn seal_piece(writer: &mut SegmentWriter<StreamSegment>, pending: &mut Pending, 
 // Seals the last segment.
 fn seal_last(writer: &mut SegmentWriter<StreamSegment>, pending: &mut Pending)
     requires open { writer.old.mode ≡ Open }
-    requires empty { pending.old.bytes.items ≡ [] }
-    requires room { writer.old.sealer.room + writer.old.sealer.overhead < pending.old.room }
+    requires takes { TakesSegment writer.old pending.old }
     ensures left { pending.new.bytes.items ++ comes writer.new [] ≡ comes writer.old [] }
     ensures closed { writer.new.mode ≡ Closed }
     ensures sealer { writer.new.sealer ≡ writer.old.sealer }
-    ensures room { pending.new.room ≡ pending.old.room }
-    ensures given { pending.new.given ≡ pending.old.given }
+    ensures kept { KeepsPlace pending.old pending.new }
 {
     match writer.close(pending) {
         Ok(()) => {}

@@ -17,7 +17,7 @@ unreachable-requires c =
     let most = size_most s.first s.room w.segments s.first_fits in
     let held : length w.held.items ≤ room_at s.first s.room w.segments = omega (arith, w.held_fits, w.held.ok.0) in
     let f = fills (segment_map s) s.first s.room (moment_at w p) c.args.piece.now s.overhead long s.some s.first_fits some most held (omega (arith, c.requires.piece, s.first_fits)) in
-    not_refused (segment_map s) s.first s.room (moment_at w p) (moment_at c.write.new.self q) c.args.piece.now q.bytes.items s.overhead p.room _ f c.requires.open (ap Some c.requires.empty) refl c.requires.few c.requires.room
+    not_refused (segment_map s) s.first s.room (moment_at w p) (moment_at c.write.new.self q) c.args.piece.now q.bytes.items s.overhead p.room _ f c.requires.open (ap Some c.requires.takes.0) refl c.requires.few c.requires.takes.1
     (λ rose. omega (arith, q.full rose, c.write.ensures.same.0, q.bytes.ok.0)) c.in-Err.ensures.answer
 
 pub returns-clause-left : goal.returns-clause-left
@@ -29,7 +29,7 @@ returns-clause-left c text =
     let after = c.write.new.self in
     let held : length w.held.items ≤ room_at s.first s.room w.segments = omega (arith, w.held_fits, w.held.ok.0) in
     let wide : 2 ≤ room_at s.first s.room w.segments = wide_at s.first s.room w.segments c.requires.wide s.first_fits in
-    let d = step (segment_map s) s.first s.room (moment_at w p) (moment_at after q) c.args.piece.now text q.bytes.items c.requires.wide s.first_fits wide held (omega (arith, c.requires.piece, s.first_fits)) (ap Some c.requires.empty) refl c.in-Ok.ensures.answer.0 in
+    let d = step (segment_map s) s.first s.room (moment_at w p) (moment_at after q) c.args.piece.now text q.bytes.items c.requires.wide s.first_fits wide held (omega (arith, c.requires.piece, s.first_fits)) (ap Some c.requires.takes.0) refl c.in-Ok.ensures.answer.0 in
     ap (λ x. q.bytes.items ++ x) (come_under after s text c.write.ensures.sealer) ∙ d.left
 
 pub returns-clause-few : goal.returns-clause-few
@@ -41,5 +41,5 @@ returns-clause-few c =
     let after = c.write.new.self in
     let held : length w.held.items ≤ room_at s.first s.room w.segments = omega (arith, w.held_fits, w.held.ok.0) in
     let wide : 2 ≤ room_at s.first s.room w.segments = wide_at s.first s.room w.segments c.requires.wide s.first_fits in
-    let d = step (segment_map s) s.first s.room (moment_at w p) (moment_at after q) c.args.piece.now [] q.bytes.items c.requires.wide s.first_fits wide held (omega (arith, c.requires.piece, s.first_fits)) (ap Some c.requires.empty) refl c.in-Ok.ensures.answer.0 in
+    let d = step (segment_map s) s.first s.room (moment_at w p) (moment_at after q) c.args.piece.now [] q.bytes.items c.requires.wide s.first_fits wide held (omega (arith, c.requires.piece, s.first_fits)) (ap Some c.requires.takes.0) refl c.in-Ok.ensures.answer.0 in
     omega (arith, d.few, w.held.ok.0, after.held.ok.0)
