@@ -1,11 +1,11 @@
 -- What each outcome of `large` says of its status.
-use Rattle.std.proofs.Common.{◌≡◌, ◌⊎◌, inl, inr, ◌<◌, ℕ, List, refl, sym, ap, subst, arith}
-use Rattle.std.specs.Prelude.{Ok, Err, IfErr, Result}
+use Rattle.std.proofs.Common.{◌≡◌, ◌⊎◌, inl, inr, ℕ, List, refl, subst, arith}
+use Rattle.std.specs.Prelude.{Ok, Err, Result}
 use Rattle.tink_io.specs.Faults.{Rose}
 use Rattle.tink_io.specs.declared.error.Kind.{Kind}
 use Rattle.tink_io.specs.declared.error.Kind.TheVariants.{OutOfMemory, WriteFault}
 use Rattle.tink_io.specs.declared.error.TinkError.{TinkError}
-use Rattle.tink_run.specs.Keysets.{of_keyset, of_no_keys, Rotation, SpellRotation, WroteText, WrotePrefix}
+use Rattle.tink_run.specs.Keysets.{of_keyset, of_no_keys, WroteText, WrotePrefix}
 use Rattle.tink_run.specs.Large.{lines_of, RefusesLarge, WritesLarge}
 use Rattle.tink_run.specs.Outside.{Outside, IsUntouched}
 use Rattle.tink_run.specs.Program.{answer_outcome, keygen_statuses, kind_status, large_statuses, open_statuses, rotate_statuses, seal_statuses, status_of, unmade_statuses, HasCause, HasOwnStatus, HasUnmadeCause, IsAmong, IsUsage, LargeMeans, MeasuresAsSpelled, Promised, RefusesUnloaded, RefusesUnmade, SpellKeyset, SpellNoStream, StatusMeans}

@@ -1,5 +1,5 @@
 -- The words of `large`, beside those of the others.
-use Rattle.std.proofs.Common.{◌≡◌, inl, inr, true, ℕ, List, [], ◌∷◌, length, decimal, sym, ◌∙◌, ap, subst, arith, refl, slice_index_or, Global, Ok, Err}
+use Rattle.std.proofs.Common.{◌≡◌, inl, inr, true, ℕ, List, [], ◌∷◌, length, decimal, sym, ◌∙◌, ap, arith, refl, slice_index_or, Global, Ok, Err}
 use Rattle.std.specs.Prelude.{String, string_bytes, codes, Result}
 use Rattle.std.specs.Str.{bytes_eq}
 use Rattle.std.specs.Str.Parse.{ParsesUnsigned, digits_value}

@@ -63,8 +63,8 @@ impl<K: Kinds> PrimitiveSet<K> {
         ensures entry { IfOk result (λ entry. entry.now ≡ entry_of p key.now) }
         ensures stands { OnOk result (may_stand key.now ≡ Ok tt) }
         ensures cause { IfErr result (λ e. (e.kind ≡ OutOfMemory) ⊎ (may_stand key.now ≡ Err e.kind)) }
-        ensures* after { let row = the_row K.row K.Aead.row K.DeterministicAead.row K.HybridDecrypt.row K.HybridEncrypt.row
-            K.Mac.row K.Prf.row K.Signer.row K.StreamingAead.row K.Verifier.row in
+        ensures* after { let row = the_row K.row K.Aead.row K.DeterministicAead.row K.HybridDecrypt.row
+            K.HybridEncrypt.row K.Mac.row K.Prf.row K.Signer.row K.StreamingAead.row K.Verifier.row in
             sem 𝓛 (follows_so row row self.entry.ghost_name none (λ _ _. ⊤)
             (λ set. SetAfterAdding (entry_of p key.now) result self.old set)) }
     {
@@ -94,7 +94,8 @@ impl<K: Kinds> PrimitiveSet<K> {
         ensures stands { OnOk result (may_stand key.now ≡ Ok tt) }
         ensures cause { IfErr result (λ e. (e.kind ≡ OutOfMemory) ⊎ (may_stand key.now ≡ Err e.kind)) }
         ensures after { SetAfterAdding (entry_of p key.now) result self.old self.new }
-        ensures newest { OnOk result (EndsBy (own_prefix key.now) (entry_of p key.now) self.old.entries self.new.entries) }
+        ensures newest { OnOk result
+            (EndsBy (own_prefix key.now) (entry_of p key.now) self.old.entries self.new.entries) }
     {
         match Entry::new(alloc, p, key) {
             Ok(entry) => put_by_key(&mut self.entries, alloc, key, entry),
