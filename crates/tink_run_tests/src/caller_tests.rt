@@ -1,6 +1,9 @@
-//! A caller of `run`, whose clause follows from that of the call.
+//! Callers of `run` and of `keygen`, whose clauses follow from those of the calls.
 
-ghost use Rattle.std.specs.Prelude.{[], Some, IfOk};
+ghost use Rattle.std.specs.Prelude.{◌≡◌, [], codes, Ok, Some, IfOk};
+ghost use Rattle.tink_keygen.specs.Rotating.{key_line, rotated_by};
+ghost use Rattle.tink_keysets.specs.Managed.{no_keys};
+ghost use Rattle.tink_proto.specs.declared.messages.keys.Keyset.{Keyset};
 ghost use Rattle.tink_run.specs.Outside.{Outside};
 ghost use Rattle.tink_run.specs.Run.{IsWholeStream};
 
@@ -8,6 +11,7 @@ use crate::support::{KEYSET, counted, is, roomy};
 use std::alloc::Global;
 use std::test::Fail;
 use tink_io::{Draws, SureSink, SureSource, TinkError};
+use tink_keygen::{key_line, keygen};
 use tink_run::report::{Command, Report};
 use tink_run::run::run;
 
@@ -25,6 +29,23 @@ fn seal_text(
         report) }
 {
     run(alloc, Command::Seal, keyset, &[], draws, text, stream)
+}
+
+// The line of a keyset of one new key.
+fn new_line(alloc: Global, draws: &mut Draws) -> Result<Vec<u8>, TinkError>
+    ensures line { IfOk result (λ line. (ks : Keyset)
+        × (rotated_by (codes "AES128_GCM") (Ok no_keys) draws.old ≡ Ok ks) × (line.items ≡ key_line ks)) }
+{
+    let keyset = keygen(alloc, "AES128_GCM", draws)?;
+    key_line(alloc, &keyset)
+}
+
+#[test]
+fn a_new_key_has_its_line(rt: HostRuntime) -> Result<(), Fail> {
+    let alloc = rt.alloc();
+    let line = new_line(alloc, &mut Draws::new(counted(alloc, 20)?))?;
+    is(&rt, line.ends_with(b"\n") && line.len() == 185, "a line");
+    Ok(())
 }
 
 #[test]

@@ -1,11 +1,13 @@
 //! The commands that make keysets: the known line, each registered template, refusals, and sinks that fail.
 
-use crate::support::{KEYSET, SEED, between, by_words, expect, is, is_counted, sealed, words};
+use crate::support::{
+    KEYSET, SEED, between, by_words, counted, expect, is, is_counted, sealed, words,
+};
 use std::alloc::Global;
 use std::test::Fail;
 use tink::keyset::{Handle, insecure};
 use tink::{Draws, TinkError, registry};
-use tink_io::{Kind, MemSink, SureSource};
+use tink_io::{Kind, MemSink, MemSource, SureSource};
 use tink_keygen::keygen;
 
 const STREAMING: &str = "AES128_CTR_HMAC_SHA256_4KB";
@@ -150,6 +152,37 @@ fn outlives(alloc: Global, template: &str) -> Result<bool, Fail> {
 fn old_streams_open_after_a_rotation(rt: HostRuntime) -> Result<(), Fail> {
     for template in &STREAMS {
         is(&rt, outlives(rt.alloc(), template)?, template);
+    }
+    Ok(())
+}
+
+// What the program writes by words, from a source and to a sink that move so many bytes a call.
+fn by_pieces(alloc: Global, texts: &[&str], input: &[u8], piece: usize) -> Result<Vec<u8>, Fail> {
+    let mut source = MemSource::new(Vec::from_slice(alloc, input)?, piece, Vec::new(alloc));
+    let mut sink = MemSink::new(alloc, piece, Vec::new(alloc));
+    sink.reserve(alloc, 6000)?;
+    between(alloc, &words(alloc, texts)?, &mut source, &mut sink, 100)?;
+    Ok(sink.into_bytes())
+}
+
+// Whether a text is sealed to one stream, which opens to the text, by pieces of each size.
+fn cuts_alike(alloc: Global, template: &str) -> Result<bool, Fail> {
+    let keyset = made(alloc, &["keygen", template, SEED])?;
+    let stream = sealed(alloc, keyset.as_str(), "00", 5000)?;
+    let text = counted(alloc, 5000)?;
+    let mut alike = true;
+    for piece in [1usize, 35, 5000] {
+        let again = by_pieces(alloc, &["seal", keyset.as_str(), "00", SEED], &text, piece)?;
+        let opened = by_pieces(alloc, &["open", keyset.as_str(), "00"], &stream, piece)?;
+        alike = alike && again.as_slice() == stream.as_slice() && is_counted(&opened, 5000);
+    }
+    Ok(alike)
+}
+
+#[test]
+fn each_template_of_streams_seals_and_opens_in_pieces(rt: HostRuntime) -> Result<(), Fail> {
+    for template in &STREAMS {
+        is(&rt, cuts_alike(rt.alloc(), template)?, template);
     }
     Ok(())
 }
