@@ -1,6 +1,6 @@
 -- From the calls that measure a large text and write its lines to their answers.
 use Rattle.std.proofs.Common.{◌≡◌, ◌∙◌, ℕ, List, refl, ap, subst, arith}
-use Rattle.std.specs.Prelude.{Ok, Err, Option, Result, Vec, IfErr, IfOk, OnErr, OnOk, replicate}
+use Rattle.std.specs.Prelude.{Ok, Err, Option, Result, Vec, IfErr, IfOk, OnErr, OnOk}
 use Rattle.std.specs.Io.KnownBytes.{Appends}
 use Rattle.tink_io.specs.Faults.{Rose}
 use Rattle.tink_io.specs.Written.{AppendsFront}
@@ -10,18 +10,19 @@ use Rattle.tink_io.specs.declared.error.TinkError.{TinkError}
 use Rattle.tink_large.specs.Large.{large_lines, large_output, IsMeasured, MeasureRefused}
 use Rattle.tink_large.specs.declared.measuring.Measured.{Measured}
 use Rattle.tink_large.proofs.LargeFacts.{measured_lines}
+use Rattle.tink_run.specs.Draws.{draws_in}
 use Rattle.tink_run.specs.Large.{lines_of, large_draws, RefusesLarge, WritesLarge}
 use Rattle.tink_run.proofs.ProgramLemmas.{length-draws_in}
 
-only_want : (left : List ℕ) (kind : Kind) → MeasureRefused large_draws left kind → kind ≡ OutOfMemory
-only_want left OutOfMemory m = refl
-only_want left RandomFault m = absurd (omega (arith, m.0, length-draws_in (replicate 32 0) 256))
-only_want left _ m = absurd m
+-- the draws of a seed suffice
+enough : (seed left : List ℕ) (kind : Kind) → MeasureRefused (draws_in seed 256) left kind → kind ≡ OutOfMemory
+enough seed left OutOfMemory m = refl
+enough seed left RandomFault m = absurd (omega (arith, m.0, length-draws_in seed 256))
+enough seed left _ m = absurd m
 
--- the draws of the seed suffice
-pub no_few_draws : (draws left : List ℕ) (e : TinkError) → draws ≡ large_draws → MeasureRefused draws left e.kind → e ≡ record { kind = OutOfMemory }
-no_few_draws draws left e same m =
-    ap (λ (k : Kind). let x : TinkError = record { kind = k } in x) (only_want left e.kind (subst (λ d. MeasureRefused d left e.kind) same m))
+pub only_want : (seed draws left : List ℕ) (e : TinkError) → draws ≡ draws_in seed 256 → MeasureRefused draws left e.kind → e ≡ record { kind = OutOfMemory }
+only_want seed draws left e same m =
+    ap (λ (k : Kind). let x : TinkError = record { kind = k } in x) (enough seed left e.kind (subst (λ d. MeasureRefused d left e.kind) same m))
 
 -- the lines of what was measured are those of the number
 pub lines_are : {G : Type 0} (n : ℕ) (draws left : List ℕ) (m : Measured) (result : Result (Vec ℕ G) TinkError) → draws ≡ large_draws → IsMeasured n draws left m
