@@ -1,5 +1,5 @@
 -- Small edits, by computing.
-use Rattle.std.proofs.Common.{◌≡◌, ℕ, pos, List, [], ◌∷◌, Some, None, true, false, Ok, Err, refl}
+use Rattle.std.proofs.Common.{◌≡◌, pos, List, [], ◌∷◌, Some, None, true, false, Ok, Err, refl}
 use Rattle.tink_io.specs.declared.error.Kind.TheVariants.{KeyNotFound, IsPrimary, WrongStatus, NotEnabled, RandomFault, NoFreshId}
 use Rattle.tink_proto.specs.declared.messages.keys.Key.{Key}
 use Rattle.tink_proto.specs.declared.messages.keys.KeyData.{KeyData}

@@ -1,5 +1,5 @@
 -- The takes of an id, one by one, and that the id is fresh.
-use Rattle.std.proofs.Common.{◌≡◌, ◌||◌, ℕ, zero, suc, ◌+◌, ◌-◌, ◌<◌, ◌≤◌, List, [], ◌∷◌, drop, length, Bool, true, false, Ok, Err, Result, cond, leb, refl, arith, subst, sym, ap, ◌∙◌}
+use Rattle.std.proofs.Common.{◌≡◌, ◌||◌, ℕ, zero, suc, ◌+◌, ◌-◌, ◌*◌, ◌<◌, ◌≤◌, List, [], ◌∷◌, drop, length, length-drop, drop-drop, Bool, true, false, Ok, Err, Result, cond, leb, refl, arith, subst, sym, ap, ◌∙◌}
 use Rattle.std.specs.Prelude.{All, nat_eq}
 use Rattle.std.specs.List.{list_any}
 use Rattle.std.proofs.lemmas.Bool.Decides.{nat_tests}
@@ -11,7 +11,7 @@ use Rattle.tink_proto.specs.declared.messages.keys.KeyTemplate.{KeyTemplate}
 use Rattle.tink_proto.specs.declared.messages.keys.Keyset.{Keyset}
 use Rattle.keyset_model.specs.Keys.{has_id}
 use Rattle.keyset_model.specs.Adding.{drawn_id, is_taken, fresh_id, IsFresh, added_by_data, added_by_id}
-use Rattle.keyset_model.specs.Laws.{AddsFreshIds, RefusedAddingLeaves}
+use Rattle.keyset_model.specs.Laws.{AddsFreshIds, RefusedAddingLeaves, RefusesTakenIds}
 
 -- one take more
 one_take : (keys : List Key) (n : ℕ) (d : List ℕ)
@@ -81,6 +81,46 @@ given_id keys (suc n) d id e =
     fresh_by keys (drawn_id d) id (is_taken keys (drawn_id d)) (leb 4 (length d)) (fresh_id keys n (drop 4 d)) d (drop 4 d) refl
     (given_id keys n (drop 4 d) id)
     (ap (λ (r : Result ℕ Kind × List ℕ). r.0) (sym (one_take keys n d)) ∙ e)
+
+-- ---- where no id is fresh
+
+abbrev Ends : ℕ → List Key → List ℕ → Type 0
+Ends n keys d = (4 * n ≤ length d) × ((i : ℕ) → i < n → is_taken keys (drawn_id (drop (4 * i) d)) ≡ true)
+
+-- after the first take
+later : (keys : List Key) (d : List ℕ) (i : ℕ) → is_taken keys (drawn_id (drop (4 * i) (drop 4 d))) ≡ is_taken keys (drawn_id (drop (4 * suc i) d))
+later keys d i = ap (λ x. is_taken keys (drawn_id x)) (drop-drop (4 * i) 4 d ∙ ap (λ k. drop k d) (omega arith))
+
+one_more : (n : ℕ) (keys : List Key) (d : List ℕ) → 4 ≤ length d → is_taken keys (drawn_id d) ≡ true → Ends n keys (drop 4 d) → Ends (suc n) keys d
+one_more n keys d long first rest = (let l = length-drop 4 d in let r = rest.0 in omega arith, by_place)
+  where
+    by_place : (i : ℕ) → i < suc n → is_taken keys (drawn_id (drop (4 * i) d)) ≡ true
+    by_place zero lt = first
+    by_place (suc i) lt = sym (later keys d i) ∙ rest.1 i (omega arith)
+
+one_less : (n : ℕ) (keys : List Key) (d : List ℕ) → Ends (suc n) keys d → Ends n keys (drop 4 d)
+one_less n keys d ends = (let l = length-drop 4 d in let r = ends.0 in omega arith, λ i lt. later keys d i ∙ ends.1 (suc i) (omega arith))
+
+where_taken : (n : ℕ) (keys : List Key) (d : List ℕ) (enough taken : Bool) → leb 4 (length d) ≡ enough → is_taken keys (drawn_id d) ≡ taken
+    → ((fresh_id keys n (drop 4 d)).0 ≡ Err NoFreshId → Ends n keys (drop 4 d))
+    → (cond enough (cond taken (fresh_id keys n (drop 4 d)) (Ok (drawn_id d), drop 4 d)) (Err RandomFault, d)).0 ≡ Err NoFreshId → Ends (suc n) keys d
+where_taken n keys d true true long first rest is = one_more n keys d (grind (arith, nat_tests)) first (rest is)
+where_taken n keys d true false long first rest is = absurd (cc)
+where_taken n keys d false taken long first rest is = absurd (cc)
+
+all_taken : (n : ℕ) (keys : List Key) (d : List ℕ) → (fresh_id keys n d).0 ≡ Err NoFreshId → Ends n keys d
+all_taken zero keys d is = (omega arith, λ i lt. absurd (omega arith))
+all_taken (suc n) keys d is =
+    where_taken n keys d (leb 4 (length d)) (is_taken keys (drawn_id d)) refl refl (all_taken n keys (drop 4 d)) (ap (λ (r : Result ℕ Kind × List ℕ). r.0) (sym (one_take keys n d)) ∙ is)
+
+none_fresh : (n : ℕ) (keys : List Key) (d : List ℕ) → Ends n keys d → (fresh_id keys n d).0 ≡ Err NoFreshId
+none_fresh zero keys d ends = ap (λ (r : Result ℕ Kind × List ℕ). r.0) (no_takes keys d)
+none_fresh (suc n) keys d ends =
+    let long : leb 4 (length d) ≡ true = let l = ends.0 in grind (arith, nat_tests) in
+    rw (one_take keys n d, long, ends.1 0 (omega arith)) (none_fresh n keys (drop 4 d) (one_less n keys d ends))
+
+pub refuses_taken_ids : RefusesTakenIds
+refuses_taken_ids keys draws = (all_taken 128 keys draws, none_fresh 128 keys draws)
 
 -- ---- the laws of adding
 

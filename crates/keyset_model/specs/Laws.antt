@@ -1,14 +1,15 @@
 -- Laws of the commands.
-use Rattle.std.specs.Prelude.{◌≡◌, ◌⊎◌, ℕ, ℤ, List, Bool, Some, None, Result, Ok, Err, All, Any, Contains, IsTrue, nat_eq}
+use Rattle.std.specs.Prelude.{◌≡◌, ◌⊎◌, ◌↔◌, ◌*◌, ◌<◌, ◌≤◌, ℕ, ℤ, List, drop, length, Bool, Some, None, Result, Ok, Err, All, Any, Contains, IsTrue, nat_eq}
 use Rattle.std.specs.List.{IsDistinct}
 use Rattle.tink_io.specs.declared.error.Kind.{Kind}
+use Rattle.tink_io.specs.declared.error.Kind.TheVariants.{NoFreshId}
 use Rattle.tink_proto.specs.declared.enums.KeyStatusType.TheVariants as statuses
 use Rattle.tink_proto.specs.declared.messages.keys.Key.{Key}
 use Rattle.tink_proto.specs.declared.messages.keys.KeyData.{KeyData}
 use Rattle.tink_proto.specs.declared.messages.keys.KeyTemplate.{KeyTemplate}
 use Rattle.tink_proto.specs.declared.messages.keys.Keyset.{Keyset}
 use Rattle.tink_proto.specs.Enums.{status_number}
-use Rattle.keyset_model.specs.Adding.{added, IsFresh}
+use Rattle.keyset_model.specs.Adding.{added, drawn_id, fresh_id, is_taken, most_ids, IsFresh}
 use Rattle.keyset_model.specs.Commands.{Maker, Command, Add, Rotate, Enable, Disable, Destroy, Delete, SetPrimary, Managed, edit, keyset_after, after_all}
 use Rattle.keyset_model.specs.Keys.{ids_of}
 use Rattle.keyset_model.specs.Entries.{is_known_prefix}
@@ -19,6 +20,13 @@ abbrev pub AddsFreshIds : Type 0
 AddsFreshIds =
     (ks : Keyset) (kt : KeyTemplate) (as_primary : Bool) (made : Result KeyData Kind × List ℕ) (id : ℕ)
     → (added ks kt as_primary made).answer ≡ Ok id → IsFresh ks.key id
+
+-- there is no fresh id exactly where draws suffice for all 128 ids, and each of these is 0 or a key's
+abbrev pub RefusesTakenIds : Type 0
+RefusesTakenIds =
+    (keys : List Key) (draws : List ℕ)
+    → ((fresh_id keys most_ids draws).0 ≡ Err NoFreshId)
+    ↔ ((4 * most_ids ≤ length draws) × ((i : ℕ) → i < most_ids → IsTrue (is_taken keys (drawn_id (drop (4 * i) draws)))))
 
 -- a key that is not added leaves the keyset
 abbrev pub RefusedAddingLeaves : Type 0

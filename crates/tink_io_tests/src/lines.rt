@@ -1,26 +1,38 @@
 //! Bytes that are written whole, and the texts of refusals.
 
+ghost use Rattle.std.specs.Io.KnownBytes.{Appends};
+ghost use Rattle.std.specs.Prelude.{OnOk, ◌++◌, ◌∷◌, []};
+
 use crate::expect::{expect, expect_bytes};
 use std::alloc::Global;
 use std::test::Fail;
-use tink_io::{Cause, Kind, MemSink, SureSink, TinkError, write_all, write_line};
+use tink_io::{Cause, Kind, MemSink, Sink, SureSink, TinkError, write_all, write_line};
 
-// What a sink of two bytes a call has taken of six where that call fails, and the answer.
+// Writes a text and a newline.
+fn write_text<K: Sink>(sink: &mut K, text: &[u8]) -> Result<(), TinkError>
+    ensures { OnOk result (Appends (K.got sink.old) (K.got sink.new) (text.now ++ 10 ∷ [])) }
+{
+    write_all(sink, text)?;
+    write_all(sink, b"\n")
+}
+
+// What a sink of two bytes a call has taken of five and a newline where that call fails, and the answer.
 fn written(alloc: Global, fails: u32) -> Result<(Vec<u8>, Result<(), TinkError>), TinkError> {
     let mut sink = MemSink::new(alloc, 2, Vec::from_slice(alloc, &[fails])?);
     sink.reserve(alloc, 6)?;
-    let answer = write_all(&mut sink, b"abcdef");
+    let answer = write_text(&mut sink, b"abcde");
     Ok((sink.into_bytes(), answer))
 }
 
 #[test]
 fn all_is_written_unless_a_call_fails(rt: HostRuntime) -> Result<(), Fail> {
     let fault = Err(TinkError::new(Kind::WriteFault));
-    let rows: [(u32, &[u8], Result<(), TinkError>); 4] = [
+    let rows: [(u32, &[u8], Result<(), TinkError>); 5] = [
         (1, b"", fault),
         (2, b"ab", fault),
         (3, b"abcd", fault),
-        (4, b"abcdef", Ok(())),
+        (4, b"abcde", fault),
+        (5, b"abcde\n", Ok(())),
     ];
     for (fails, front, want) in rows {
         let (bytes, answer) = written(rt.alloc(), fails)?;

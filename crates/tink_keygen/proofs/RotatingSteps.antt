@@ -20,7 +20,7 @@ use Rattle.tink_keysets.specs.Managed.{added_by}
 use Rattle.tink.specs.Managers.{row_of}
 use Rattle.tink.specs.Registered.{with_everything}
 use Rattle.tink.specs.declared.managers.Managers.{Managers}
-use Rattle.tink_keygen.specs.Rotating.{data_by_all, rotated, rotated_by, rotated_where, template_named, valid_or_refused, IsNotRotated}
+use Rattle.tink_keygen.specs.Rotating.{data_by_all, rotated, rotated_by, rotated_where, template_named, IsNotRotated}
 use Rattle.tink_keygen.proofs.IdFacts.{refused_by_ids}
 use Rattle.tink_keygen.proofs.TemplateFacts.{named_makes, MakesKeys}
 use Rattle.tink_keygen.proofs.ValidatedFacts.{formed_of, validated}
@@ -130,15 +130,6 @@ pub start_refused : (name : List ℕ) (kt : KeyTemplate) (start : Result Keyset 
     → (e.kind ≡ OutOfMemory) ⊎ (start ≡ Err e.kind) → (e.kind ≡ OutOfMemory) ⊎ (rotated_by name start draws ≡ Err e.kind)
 start_refused name kt start draws e named (inl want) = inl want
 start_refused name kt start draws e named (inr is) = inr (rw (named, is) refl)
-
-valid_by_test : (ks h : Keyset) (valid : Bool) → is_valid ks ≡ valid → cond valid (Ok ks) (Err InvalidKeyset) ≡ Ok h → is_valid h ≡ true
-valid_by_test ks h true valid is = let same : ks ≡ h = cc in subst (λ x. is_valid x ≡ true) same valid
-valid_by_test ks h false valid is = absurd (cc)
-
--- a keyset that was checked is valid
-pub answers_valid : (ks : Keyset) (result : Result Keyset TinkError) → Answers result (valid_or_refused ks) → IfOk result IsValid
-answers_valid ks (Ok h) is = valid_by_test ks h (is_valid ks) refl is
-answers_valid ks (Err e) is = tt
 
 -- a manager of a valid keyset has well-formed keys
 pub formed_manager : (h m : Keyset) → is_valid h ≡ true → m ≡ h → are_well_formed m ≡ true

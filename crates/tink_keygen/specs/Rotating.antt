@@ -1,16 +1,14 @@
 -- New and rotated keysets, by the name of a template.
 use Rattle.std.specs.Prelude.{◌≡◌, ◌⊎◌, ◌++◌, ◌∷◌, ℕ, List, [], Option, Some, None, Result, Ok, Err, true, if◌then◌else◌}
 use Rattle.hex.specs.Hex.{encode_lower}
-use Rattle.wire_format.specs.Message.{decoded, encoded}
+use Rattle.wire_format.specs.Message.{encoded}
 use Rattle.tink_io.specs.declared.error.Kind.{Kind}
-use Rattle.tink_io.specs.declared.error.Kind.TheVariants.{BadKeyset, InvalidKeyset, NoFreshId, UnknownTemplate}
-use Rattle.tink_io.specs.Told.{or_refused}
+use Rattle.tink_io.specs.declared.error.Kind.TheVariants.{NoFreshId, UnknownTemplate}
 use Rattle.tink_proto.specs.Messages.{keyset}
 use Rattle.tink_proto.specs.declared.messages.keys.KeyData.{KeyData}
 use Rattle.tink_proto.specs.declared.messages.keys.KeyTemplate.{KeyTemplate}
 use Rattle.tink_proto.specs.declared.messages.keys.Keyset.{Keyset}
 use Rattle.keyset_model.specs.Adding.{added, keyset_reply}
-use Rattle.keyset_model.specs.Validity.{is_valid}
 use Rattle.tink_registry.specs.Listed.{template_of}
 use Rattle.tink_keysets.specs.Encrypted.{chained}
 use Rattle.tink_keysets.specs.Managed.{data_by}
@@ -36,14 +34,6 @@ rotated_where (Some kt) start draws = chained (rotated kt draws) start
 
 abbrev pub rotated_by : List ℕ → Result Keyset Kind → List ℕ → Result Keyset Kind
 rotated_by name start draws = rotated_where (template_named name) start draws
-
--- a keyset that is valid
-abbrev pub valid_or_refused : Keyset → Result Keyset Kind
-valid_or_refused ks = if is_valid ks then Ok ks else Err InvalidKeyset
-
--- the valid keyset that bytes spell
-abbrev pub valid_keyset : List ℕ → Result Keyset Kind
-valid_keyset bytes = chained valid_or_refused (or_refused BadKeyset (decoded keyset.read bytes))
 
 -- why a keyset isn't made where draws suffice
 abbrev pub IsNotRotated : List ℕ → Result Keyset Kind → Kind → Type 0

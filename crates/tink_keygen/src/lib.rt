@@ -7,10 +7,11 @@ ghost use Rattle.tink_io.specs.Told.{Answers};
 ghost use Rattle.keyset_model.specs.Validity.{IsValid, are_well_formed};
 ghost use Rattle.tink_keysets.specs.Managed.{no_keys};
 ghost use Rattle.tink.specs.Registered.{with_everything};
-ghost use Rattle.tink_keygen.specs.Rotating.{IsNotRotated, key_line, rotated, rotated_by, template_named, valid_keyset, valid_or_refused};
+ghost use Rattle.tink_keygen.specs.Rotating.{IsNotRotated, key_line, rotated, rotated_by, template_named};
+ghost use Rattle.tink_keysets.specs.Valid.{valid_keyset};
 
 use std::alloc::Global;
-use tink::keyset::{Handle, Manager, insecure, validate};
+use tink::keyset::{Manager, insecure};
 use tink::{Draws, Kind, Managers, Registry, TinkError, registry};
 use tink_proto::{KeyTemplate, Keyset, Message};
 
@@ -90,7 +91,7 @@ fn rotated_keyset(
 {
     let registry = registry(alloc)?;
     let kt = named(&registry, template)?;
-    let handle = valid_handle(alloc, keyset)?;
+    let handle = insecure::valid_handle(alloc, keyset)?;
     with_new_key(
         alloc,
         Manager::new_from_handle(handle),
@@ -110,24 +111,6 @@ fn named<'r>(registry: &'r Registry<Managers>, name: &str) -> Result<&'r KeyTemp
         Some(kt) => Ok(kt),
         None => Err(TinkError::new(Kind::UnknownTemplate)),
     }
-}
-
-// A handle of the valid keyset that bytes spell.
-fn valid_handle(alloc: Global, keyset: &[u8]) -> Result<Handle, TinkError>
-    ensures answer { Answers result (valid_keyset keyset.now) }
-    ensures valid { IfOk result IsValid }
-{
-    let keyset = insecure::decode(alloc, keyset)?;
-    checked(keyset)
-}
-
-// A handle of a keyset that is valid.
-fn checked(keyset: Keyset) -> Result<Handle, TinkError>
-    ensures { Answers result (valid_or_refused keyset) }
-{
-    validate(&keyset)?;
-    let handle = insecure::new_handle(keyset)?;
-    Ok(handle)
 }
 
 // A manager's keyset with a new key by a template as its primary one.

@@ -2,3 +2,4 @@ pub mod FirstPlaces
 pub mod GivenData
 pub mod Masters
 pub mod ReadBack
+pub mod ValidFacts

@@ -6,3 +6,4 @@ pub mod Managed
 pub mod Places
 pub mod Through
 pub mod Told
+pub mod Valid

@@ -21,8 +21,8 @@ pub use enabled_law::law_enabled_keys_stay;
 pub use encrypted_laws::law_written_is_read;
 pub use handle_type::Handle;
 pub use laws::{
-    law_fresh_id, law_ids_stay_distinct, law_keys_stay, law_managers_give_held, law_primary_stays,
-    law_refused_adding, law_refused_command, law_valid_stays,
+    law_fresh_id, law_ids_stay_distinct, law_keys_stay, law_managers_give_held, law_no_fresh_id,
+    law_primary_stays, law_refused_adding, law_refused_command, law_valid_stays,
 };
 pub use manager_type::Manager;
 pub use memory::MemReaderWriter;

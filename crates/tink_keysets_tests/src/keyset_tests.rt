@@ -10,8 +10,8 @@ use tink_io::{Kind, TinkError};
 use tink_keysets::keyset::insecure::{decode, keyset_material};
 use tink_keysets::keyset::{
     Handle, Manager, MemReaderWriter, Reader, Writer, law_fresh_id, law_ids_stay_distinct,
-    law_keys_stay, law_primary_stays, law_refused_adding, law_refused_command, law_valid_stays,
-    validate, validate_key, validate_key_version,
+    law_keys_stay, law_no_fresh_id, law_primary_stays, law_refused_adding, law_refused_command,
+    law_valid_stays, validate, validate_key, validate_key_version,
 };
 use tink_keysets::random::{get_random_bytes, get_random_uint32};
 use tink_proto::{Bytes, EncryptedKeyset, Key, KeyInfo, Keyset, KeysetInfo};
@@ -268,6 +268,7 @@ fn keysets_are_validated(rt: HostRuntime) -> Result<(), Fail> {
 #[test]
 fn laws_can_be_called(_rt: HostRuntime) -> Result<(), Fail> {
     law_fresh_id();
+    law_no_fresh_id();
     law_keys_stay();
     law_ids_stay_distinct();
     law_primary_stays();

@@ -14,7 +14,8 @@ use Rattle.tink_proto.specs.declared.messages.keys.Keyset.{Keyset}
 use Rattle.keyset_model.specs.Validity.{is_valid}
 use Rattle.tink_keysets.specs.Encrypted.{chained}
 use Rattle.tink_keysets.specs.Managed.{no_keys}
-use Rattle.tink_keygen.specs.Rotating.{key_line, rotated_by, valid_keyset, valid_or_refused, IsNotRotated}
+use Rattle.tink_keysets.specs.Valid.{valid_keyset, valid_or_refused}
+use Rattle.tink_keygen.specs.Rotating.{key_line, rotated_by, IsNotRotated}
 use Rattle.tink_run.specs.Draws.{draws_in}
 use Rattle.tink_run.specs.Keysets.{made_keyset, GivesLine, IsLine, RefusesRotation, IsUnmadeBy, IsUnwritten, RefusesLine, Rotation, WritesLine}
 use Rattle.tink_run.proofs.ProgramLemmas.{length-draws_in}

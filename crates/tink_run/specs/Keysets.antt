@@ -8,7 +8,8 @@ use Rattle.tink_io.specs.declared.error.Kind.TheVariants.{OutOfMemory, WriteFaul
 use Rattle.tink_io.specs.declared.error.TinkError.{TinkError}
 use Rattle.tink_proto.specs.declared.messages.keys.Keyset.{Keyset}
 use Rattle.tink_keysets.specs.Managed.{no_keys}
-use Rattle.tink_keygen.specs.Rotating.{key_line, rotated_by, valid_keyset, IsNotRotated}
+use Rattle.tink_keysets.specs.Valid.{valid_keyset}
+use Rattle.tink_keygen.specs.Rotating.{key_line, rotated_by, IsNotRotated}
 use Rattle.tink_run.specs.Draws.{draws_in}
 use Rattle.tink_run.specs.Outside.{Outside, IsUntouched}
 use Rattle.tink_run.specs.Words.{KeygenWords, RotateWords}

@@ -9,7 +9,6 @@ pub mod Keysets
 pub mod Large
 pub mod Program
 pub mod OpenSteps
-pub mod Valid
 pub mod AllKeys
 pub mod HeldKeys
 pub mod Rotation

@@ -6,14 +6,12 @@ ghost use Rattle.keyset_model.specs.Validity.{IsValid};
 ghost use Rattle.tink_run.specs.AllKeys.{load, rows, rows_by};
 ghost use Rattle.tink_run.specs.HeldKeys.{held, keys_held};
 ghost use Rattle.loading_model.specs.Loading.{load_keys};
-ghost use Rattle.tink_run.specs.Valid.{valid_or_refused};
 
 use std::alloc::Global;
 use tink_factory::typed_primitives;
 use tink_io::TinkError;
-use tink_keysets::keyset::{Handle, insecure, validate};
+use tink_keysets::keyset::{Handle, insecure};
 use tink_primitives::Kinds;
-use tink_proto::Keyset;
 use tink_registry::{KeyManager, Registry};
 use tink_sets::TypedPrimitiveSet;
 use tink_sets::sorts::StreamingAeads;
@@ -30,18 +28,8 @@ pub fn load(alloc: Global, bytes: &[u8]) -> Result<TypedPrimitiveSet<StreamKind>
     ensures answer { Answers (keys_held result) (made_of held (load bytes.now)) }
     ensures primary { IfOk result (λ set. is_some set.primary ≡ true) }
 {
-    let keyset = insecure::decode(alloc, bytes)?;
-    let handle = checked(keyset)?;
+    let handle = insecure::valid_handle(alloc, bytes)?;
     build_all(alloc, &handle)
-}
-
-// A handle of a keyset that is valid.
-fn checked(keyset: Keyset) -> Result<Handle, TinkError>
-    ensures { Answers result (valid_or_refused keyset) }
-{
-    validate(&keyset)?;
-    let handle = insecure::new_handle(keyset)?;
-    Ok(handle)
 }
 
 // The keys of streams of a valid keyset, by the managers of all types of keys.

@@ -213,6 +213,33 @@ fn a_fault_leaves_a_prefix_of_the_line(rt: HostRuntime) -> Result<(), Fail> {
     Ok(())
 }
 
+// K after so many rotations by one seed: each draws the ids of those before it, and then one that is free.
+fn rotated_often(alloc: Global, times: usize) -> Result<String, Fail> {
+    let mut word = String::from_str(alloc, KEYSET)?;
+    for place in 0..times {
+        let _ = place;
+        word = made(alloc, &["rotate", word.as_str(), STREAMING, SEED])?;
+    }
+    Ok(word)
+}
+
+#[test]
+fn a_seed_has_ids_for_128_rotations(rt: HostRuntime) -> Result<(), Fail> {
+    let alloc = rt.alloc();
+    let word = rotated_often(alloc, 128)?;
+    let told = by_words(
+        alloc,
+        &["rotate", word.as_str(), STREAMING, SEED],
+        Vec::new(alloc),
+    )?;
+    is(
+        &rt,
+        told.tells(25, b"", "no fresh id\n"),
+        "the rotation after these",
+    );
+    Ok(())
+}
+
 // By which kind draws of zeros, so many, are refused.
 fn zeros(alloc: Global, count: usize) -> Result<Option<Kind>, Fail> {
     let mut draws = Draws::new(vec![in alloc; 0u8; count]?);

@@ -79,7 +79,7 @@ pub fn roomy(alloc: Global, room: usize) -> Result<SureSink, Fail> {
 pub fn by_words(alloc: Global, texts: &[&str], input: Vec<u8>) -> Result<Told, Fail> {
     let words = words(alloc, texts)?;
     let mut source = SureSource::new(input);
-    let mut sink = roomy(alloc, 20000)?;
+    let mut sink = roomy(alloc, 40000)?;
     let (status, line) = between(alloc, &words, &mut source, &mut sink, 200)?;
     Ok(Told {
         status,

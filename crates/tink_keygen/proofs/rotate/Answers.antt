@@ -1,4 +1,4 @@
-use Rattle.tink_keygen.specs.Rotating.{valid_keyset}
+use Rattle.tink_keysets.specs.Valid.{valid_keyset}
 use Rattle.tink_keygen.proofs.RotatingSteps.{causes}
 use Rattle.tink_keygen.proofs.rotate.Goals as goal
 

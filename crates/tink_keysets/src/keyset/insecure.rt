@@ -5,13 +5,14 @@ ghost use Rattle.tink_io.specs.declared.error.Kind.TheVariants.{BadKeyset, OutOf
 ghost use Rattle.tink_io.specs.Told.{Answers, or_refused, Tells};
 ghost use Rattle.tink_proto.specs.Messages.{keyset};
 ghost use Rattle.wire_format.specs.Message.{decoded};
-ghost use Rattle.keyset_model.specs.Validity.{MayBeHeld};
+ghost use Rattle.keyset_model.specs.Validity.{IsValid, MayBeHeld};
 ghost use Rattle.tink_keysets.specs.Ends.{HasWritten};
 ghost use Rattle.tink_keysets.specs.Handles.{handle_of_keys};
 ghost use Rattle.tink_keysets.specs.Through.{GivesBy};
+ghost use Rattle.tink_keysets.specs.Valid.{valid_keyset, valid_or_refused};
 
 use crate::keyset::copies::copy;
-use crate::keyset::{Handle, Reader, Writer};
+use crate::keyset::{Handle, Reader, Writer, validate};
 use std::alloc::Global;
 use tink_io::{Kind, TinkError};
 use tink_proto::{Keyset, Message, ProtoError};
@@ -40,6 +41,28 @@ pub fn decode(alloc: Global, bytes: &[u8]) -> Result<Keyset, TinkError>
         Err(ProtoError::OutOfMemory) => Err(TinkError::new(Kind::OutOfMemory)),
         Err(_) => Err(TinkError::new(Kind::BadKeyset)),
     }
+}
+
+/// A handle of the valid keyset that bytes spell in the wire format.
+///
+/// # Errors
+/// `BadKeyset` exactly where they spell none; `InvalidKeyset` exactly where the keyset is not valid;
+/// `OutOfMemory`.
+pub fn valid_handle(alloc: Global, bytes: &[u8]) -> Result<Handle, TinkError>
+    ensures answer { Answers result (valid_keyset bytes.now) }
+    ensures valid { IfOk result IsValid }
+{
+    let keyset = decode(alloc, bytes)?;
+    validated(keyset)
+}
+
+// A handle of a keyset that is valid.
+fn validated(keyset: Keyset) -> Result<Handle, TinkError>
+    ensures { Answers result (valid_or_refused keyset) }
+{
+    validate(&keyset)?;
+    let handle = new_handle(keyset)?;
+    Ok(handle)
 }
 
 /// A handle of a keyset, whatever its keys are.

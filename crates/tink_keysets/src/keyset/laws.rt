@@ -1,6 +1,6 @@
 //! What holds of a manager's commands. These functions do nothing: their contracts are the laws.
 
-ghost use Rattle.keyset_model.specs.Laws.{AddsFreshIds, GivesHeld, KeepsIds, KeepsKeys, KeepsPrimary, KeepsValid, RefusedAddingLeaves, RefusedEditLeaves};
+ghost use Rattle.keyset_model.specs.Laws.{AddsFreshIds, GivesHeld, KeepsIds, KeepsKeys, KeepsPrimary, KeepsValid, RefusedAddingLeaves, RefusedEditLeaves, RefusesTakenIds};
 ghost use Rattle.tink_keysets.specs.Managed.{data_by};
 
 use tink_registry::{KeyManager, Registry};
@@ -9,6 +9,12 @@ use tink_registry::{KeyManager, Registry};
 #[tactic(auto, using(keyset_model::proofs::FreshIds::adds_fresh_ids))]
 pub fn law_fresh_id()
     ensures { AddsFreshIds }
+{}
+
+/// Where draws suffice for 128 ids, there is no fresh one exactly where each of them is 0 or a key has it.
+#[tactic(auto, using(keyset_model::proofs::FreshIds::refuses_taken_ids))]
+pub fn law_no_fresh_id()
+    ensures { RefusesTakenIds }
 {}
 
 /// A refused adding leaves the keyset.

@@ -2,7 +2,7 @@ use Rattle.std.proofs.Common.{◌∙◌, ap}
 use Rattle.std.specs.Prelude.{string_bytes}
 use Rattle.std.proofs.lemmas.Result.{err_from_is_err_and}
 use Rattle.tink_io.specs.declared.error.TinkError.{TinkError}
-use Rattle.tink_keygen.specs.Rotating.{valid_keyset}
+use Rattle.tink_keysets.specs.Valid.{valid_keyset}
 use Rattle.tink_run.specs.Keysets.{of_keyset}
 use Rattle.tink_run.proofs.KeysetSteps.{keyset_given, line, refusal, want_refusal}
 use Rattle.tink_run.proofs.keysets.rotated_line.Goals as goal

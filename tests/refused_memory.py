@@ -1,0 +1,114 @@
+"""Runs the program with refused memory and failing ends: see refused-memory.sh."""
+import os
+import subprocess
+import sys
+
+tool, folder = sys.argv[1:3]
+URL = b"type.googleapis.com/google.crypto.tink.AesCtrHmacStreamingKey"
+GCM = b"type.googleapis.com/google.crypto.tink.AesGcmHkdfStreamingKey"
+SEED = "0" * 64
+TEMPLATE = "AES128_CTR_HMAC_SHA256_4KB"
+NO_MEMORY, READ_FAULT, WRITE_FAULT = (10, b"out of memory\n"), (11, b"read fault\n"), (12, b"write fault\n")
+
+
+def varint(n):
+    return bytes([n]) if n < 128 else bytes([n % 128 + 128]) + varint(n // 128)
+
+
+def body(number, data):
+    return varint(number * 8 + 2) + varint(len(data)) + data
+
+
+def key(number, url, value):
+    data = body(1, url) + body(2, value) + b"\x18\x01"
+    return body(2, body(1, data) + b"\x10\x01\x18" + varint(number) + b"\x20\x03")
+
+
+def keyset(primary, *keys):
+    return (b"\x08" + varint(primary) + b"".join(keys)).hex()
+
+
+MAIN = body(3, bytes(range(16)))
+K = key(0x01020304, URL, body(2, bytes.fromhex("0880201010180322040803" "1020")) + MAIN)
+G = key(7, GCM, body(2, bytes.fromhex("0880804010101803")) + MAIN)
+ONE, TWO = keyset(0x01020304, K), keyset(0x01020304, G, K)
+TEXT = bytes(7 * i % 251 for i in range(12168))
+
+
+def run(words, text, **settings):
+    """The status, what was written, the line, and the counts of memory, reads and writes."""
+    counts = f"{folder}/counts"
+    env = {"LD_PRELOAD": f"{folder}/refused.so", "COUNTS": counts, **{name: str(n) for name, n in settings.items()}}
+    ran = subprocess.run([tool, *words], input=text, capture_output=True, env=env)
+    with open(counts) as it:
+        return ran.returncode, ran.stdout, ran.stderr, [int(n) for n in it.read().split()]
+
+
+class Row:
+    """A command with its input, and what it tells where nothing fails."""
+
+    def __init__(self, name, words, text):
+        self.name, self.words, self.text = name, words, text
+        self.status, self.written, self.line, self.counts = run(words, text)
+        self.tally = {"memory": 0, "reads": 0, "writes": 0, "pieces": 0}
+        self.wrong = []
+
+    def told(self, ran):
+        return ran[:3] == (self.status, self.written, self.line)
+
+    def judge(self, kind, number, ran, holds):
+        self.tally[kind] += 1
+        if not holds:
+            self.wrong.append(f"{self.name}: {kind} {number}: status {ran[0]}, {len(ran[1])} bytes, {ran[2]!r}")
+
+    def all(self, fronts):
+        memory, reads, writes = self.counts
+        for number in range(1, memory + 1):
+            ran = run(self.words, self.text, REFUSE_MEMORY=number)
+            # Out of memory comes before anything is written; a line that has no memory is not told.
+            refused = ran[0] == NO_MEMORY[0] and ran[1] == b"" and ran[2] in (NO_MEMORY[1], b"")
+            self.judge("memory", number, ran, refused or ran[:2] == (self.status, self.written))
+        for kind, count, setting, fault in (("reads", reads, "FAIL_READ", READ_FAULT), ("writes", writes, "FAIL_WRITE", WRITE_FAULT)):
+            for number in range(1, count + 1):
+                ran = run(self.words, self.text, **{setting: number})
+                stands = len(ran[1]) in fronts[kind] if fronts[kind] else self.written.startswith(ran[1])
+                self.judge(kind, number, ran, (ran[0], ran[2]) == fault and self.written.startswith(ran[1]) and stands)
+        for piece in (1, 7, 4096):
+            ran = run(self.words, self.text, PIECE=piece)
+            self.judge("pieces", piece, ran, self.told(ran))
+
+
+def main():
+    anything = {"reads": None, "writes": None}
+    # What stands after a failed read: the header and whole segments of a seal, whole texts of an open.
+    sealed = {"reads": {24, 4096, 8192}, "writes": None}
+    opened = {"reads": {0, 4040, 8104}, "writes": None}
+    stream = run(["seal", ONE, "-", SEED], TEXT[:4041])[1]
+    long = run(["seal", ONE, "-", SEED], TEXT)[1]
+    rows = [
+        (Row("seal 4,040 bytes", ["seal", ONE, "-", SEED], TEXT[:4040]), sealed),
+        (Row("seal 4,041 bytes", ["seal", ONE, "-", SEED], TEXT[:4041]), sealed),
+        (Row("open 4,129 bytes", ["open", ONE, "-"], stream), opened),
+        (Row("open 4,128 bytes, cut", ["open", ONE, "-"], stream[:-1]), opened),
+        (Row("open 12,288 bytes, two keys", ["open", TWO, "-"], long), opened),
+        (Row("keygen", ["keygen", TEMPLATE, SEED], b""), anything),
+        (Row("rotate", ["rotate", ONE, TEMPLATE, SEED], b""), anything),
+        (Row("large 0", ["large", "0"], b""), anything),
+    ]
+    wrong, total = [], {}
+    print("| command | requests for memory refused | reads that failed | writes that failed | small pieces |")
+    print("|---|---|---|---|---|")
+    for row, fronts in rows:
+        row.all(fronts)
+        wrong += row.wrong
+        for kind, count in row.tally.items():
+            total[kind] = total.get(kind, 0) + count
+        print(f"| {row.name} | " + " | ".join(str(n) for n in row.tally.values()) + " |", flush=True)
+    print("| all | " + " | ".join(str(n) for n in total.values()) + " |")
+    for line in wrong:
+        print(line)
+    print(f"{len(wrong)} of {sum(total.values())} lost or released something, or told it wrongly")
+    return 1 if wrong else 0
+
+
+sys.exit(main())
