@@ -84,7 +84,8 @@ const SMALL_CUTS: [(usize, usize, Answer); 8] = [
 ];
 
 // The parts of that stream and of the zeros behind it that are put together.
-const SMALL_MOVED: [([Part; 3], Answer); 6] = [
+const SMALL_MOVED: [([Part; 3], Answer); 7] = [
+    ([(0, 124), (0, 124), (0, 0)], BAD_3),
     ([(0, 125), (0, 0), (0, 0)], BAD_3),
     ([(0, 140), (0, 0), (0, 0)], BAD_3),
     ([(0, 141), (0, 0), (0, 0)], BAD_3),
@@ -103,6 +104,56 @@ const CHANGES: [(usize, u8, Answer); 8] = [
     (35, 1, BAD_1),
     (104, 1, BAD_2),
     (123, 1, BAD_3),
+];
+
+// A raw key by AES-GCM with segments of 48 bytes, which cut the same text into 8, 32 and 20 bytes.
+const SMALL_GCM: &str =
+    "088586880812680a5d0a3d747970652e676f6f676c65617069732e636f6d2f676f6f676c652e63727970746f2e74696e6b2e41657347636d486b646653747265616d696e674b6579121a12060830101018031a10101112131415161718191a1b1c1d1e1f1801100118858688082003";
+
+const GCM_1: Answer = (Err(Kind::BadSegment(1)), 22, 8, "bad segment 1\n");
+
+const GCM_2: Answer = (Err(Kind::BadSegment(2)), 22, 40, "bad segment 2\n");
+
+const GCM_CUTS: [(usize, usize, Answer); 6] = [
+    (0, 48, NO_KEY),
+    (49, 63, (Err(Kind::Truncated(1)), 23, 8, "truncated 1\n")),
+    (64, 96, GCM_1),
+    (97, 111, (Err(Kind::Truncated(2)), 23, 40, "truncated 2\n")),
+    (112, 131, GCM_2),
+    (
+        132,
+        132,
+        (
+            Ok(Report {
+                segments: 3,
+                bytes: 60,
+            }),
+            0,
+            60,
+            "",
+        ),
+    ),
+];
+
+const GCM_MOVED: [([Part; 3], Answer); 7] = [
+    ([(0, 132), (0, 132), (0, 0)], GCM_2),
+    ([(0, 133), (0, 0), (0, 0)], GCM_2),
+    ([(0, 148), (0, 0), (0, 0)], GCM_2),
+    ([(0, 149), (0, 0), (0, 0)], GCM_2),
+    ([(0, 48), (96, 36), (48, 48)], GCM_1),
+    ([(0, 48), (96, 36), (0, 0)], GCM_1),
+    ([(0, 96), (48, 48), (0, 0)], GCM_2),
+];
+
+const GCM_CHANGES: [(usize, u8, Answer); 8] = [
+    (0, 56, NO_KEY),
+    (1, 1, NO_KEY),
+    (23, 1, NO_KEY),
+    (24, 1, NO_KEY),
+    (47, 128, NO_KEY),
+    (48, 1, GCM_1),
+    (95, 1, GCM_1),
+    (131, 1, GCM_2),
 ];
 
 // The stream of a counted text, and 17 zeros behind it.
@@ -131,38 +182,45 @@ fn tells(
     )
 }
 
-// Whether `run` answers so to a stream under the small key.
+// Whether `run` answers so to a stream under a keyset.
 fn answers(
     alloc: Global,
+    keyset: &str,
     stream: Vec<u8>,
     (answer, written): (Result<Report, Kind>, usize),
 ) -> Result<bool, Fail> {
-    let found = by_run(alloc, Command::Open, SMALL, 3, stream)?;
+    let found = by_run(alloc, Command::Open, keyset, 3, stream)?;
     Ok(found.answer == answer && found.draws == 3 && is_counted(&found.written, written))
 }
 
-// Compares what `run` and the program answer to parts of a stream under the small key.
+// Compares what `run` and the program answer to parts of a stream under a keyset.
 fn both(
     rt: &impl Abort,
     alloc: Global,
+    keyset: &str,
     (stream, places): (&[u8], &[Part]),
     wanted: &Answer,
 ) -> Result<(), Fail> {
     let (answer, status, written, line) = *wanted;
-    let by_run = answers(alloc, parts(alloc, stream, places)?, (answer, written))?;
+    let by_run = answers(
+        alloc,
+        keyset,
+        parts(alloc, stream, places)?,
+        (answer, written),
+    )?;
     is(rt, by_run, line);
     opens(
         rt,
         alloc,
-        (SMALL, "-"),
+        (keyset, "-"),
         parts(alloc, stream, places)?,
         (status, written, line),
     )
 }
 
-// The stream of 60 bytes under the small key, with a byte changed.
-fn changed(alloc: Global, place: usize, by: u8) -> Result<Vec<u8>, Fail> {
-    let mut stream = sealed(alloc, SMALL, "-", 60)?;
+// The stream of 60 bytes under a keyset, with a byte changed.
+fn changed(alloc: Global, keyset: &str, place: usize, by: u8) -> Result<Vec<u8>, Fail> {
+    let mut stream = sealed(alloc, keyset, "-", 60)?;
     if let Some(byte) = stream.get_mut(place) {
         *byte ^= by;
     }
@@ -173,21 +231,23 @@ fn changed(alloc: Global, place: usize, by: u8) -> Result<Vec<u8>, Fail> {
 fn is_changed(
     rt: &impl Abort,
     alloc: Global,
+    keyset: &str,
     (place, by, wanted): &(usize, u8, Answer),
 ) -> Result<(), Fail> {
-    let stream = changed(alloc, *place, *by)?;
-    both(rt, alloc, (&stream, &[(0, 124)]), wanted)
+    let stream = changed(alloc, keyset, *place, *by)?;
+    both(rt, alloc, keyset, (&stream, &[(0, stream.len())]), wanted)
 }
 
 // Compares each count of bytes in a range.
 fn each_cut(
     rt: &impl Abort,
     alloc: Global,
+    keyset: &str,
     stream: &[u8],
     (from, to, wanted): &(usize, usize, Answer),
 ) -> Result<(), Fail> {
     for count in *from..=*to {
-        both(rt, alloc, (stream, &[(0, count)]), wanted)?;
+        both(rt, alloc, keyset, (stream, &[(0, count)]), wanted)?;
     }
     Ok(())
 }
@@ -231,28 +291,53 @@ fn moved_segments_are_told(rt: HostRuntime) -> Result<(), Fail> {
     Ok(())
 }
 
-#[test]
-fn a_stream_of_small_segments_is_cut(rt: HostRuntime) -> Result<(), Fail> {
-    let stream = lengthened(rt.alloc(), SMALL, "-", 60)?;
-    for row in &SMALL_CUTS {
-        each_cut(&rt, rt.alloc(), &stream, row)?;
+// Compares the cuts of the stream of 60 bytes under a keyset.
+fn all_cuts(
+    rt: &impl Abort,
+    alloc: Global,
+    keyset: &str,
+    rows: &[(usize, usize, Answer)],
+) -> Result<(), Fail> {
+    let stream = sealed(alloc, keyset, "-", 60)?;
+    for row in rows {
+        each_cut(rt, alloc, keyset, &stream, row)?;
+    }
+    Ok(())
+}
+
+// Compares what is answered to parts of that stream and of zeros behind it.
+fn all_moved(
+    rt: &impl Abort,
+    alloc: Global,
+    keyset: &str,
+    rows: &[([Part; 3], Answer)],
+) -> Result<(), Fail> {
+    let stream = lengthened(alloc, keyset, "-", 60)?;
+    for (places, wanted) in rows {
+        both(rt, alloc, keyset, (&stream, places), wanted)?;
     }
     Ok(())
 }
 
 #[test]
+fn a_stream_of_small_segments_is_cut(rt: HostRuntime) -> Result<(), Fail> {
+    all_cuts(&rt, rt.alloc(), SMALL, &SMALL_CUTS)?;
+    all_cuts(&rt, rt.alloc(), SMALL_GCM, &GCM_CUTS)
+}
+
+#[test]
 fn moved_small_segments_are_told(rt: HostRuntime) -> Result<(), Fail> {
-    let stream = lengthened(rt.alloc(), SMALL, "-", 60)?;
-    for (places, wanted) in &SMALL_MOVED {
-        both(&rt, rt.alloc(), (&stream, places), wanted)?;
-    }
-    Ok(())
+    all_moved(&rt, rt.alloc(), SMALL, &SMALL_MOVED)?;
+    all_moved(&rt, rt.alloc(), SMALL_GCM, &GCM_MOVED)
 }
 
 #[test]
 fn a_changed_byte_is_told_by_its_segment(rt: HostRuntime) -> Result<(), Fail> {
     for row in &CHANGES {
-        is_changed(&rt, rt.alloc(), row)?;
+        is_changed(&rt, rt.alloc(), SMALL, row)?;
+    }
+    for row in &GCM_CHANGES {
+        is_changed(&rt, rt.alloc(), SMALL_GCM, row)?;
     }
     Ok(())
 }
