@@ -1,5 +1,5 @@
 /* Loaded before the C library of the process: refuses one request for memory, or lets one read or write
-   fail, and tells how many there were. For tests/refused-memory.sh; no part of the program. */
+   fail, and tells how many there were. For tests/refused-memory; no part of the program. */
 #define _GNU_SOURCE
 #include <errno.h>
 #include <fcntl.h>

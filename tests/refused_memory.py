@@ -1,4 +1,4 @@
-"""Runs the program with refused memory and failing ends: see refused-memory.sh."""
+"""Runs the program with refused memory and failing ends: see refused-memory."""
 import os
 import subprocess
 import sys
@@ -32,6 +32,9 @@ MAIN = body(3, bytes(range(16)))
 K = key(0x01020304, URL, body(2, bytes.fromhex("0880201010180322040803" "1020")) + MAIN)
 G = key(7, GCM, body(2, bytes.fromhex("0880804010101803")) + MAIN)
 ONE, TWO = keyset(0x01020304, K), keyset(0x01020304, G, K)
+# Keys of small segments: of 35 bytes in counter mode with tags of 10, and of 48 bytes by AES-GCM.
+SMALL = keyset(1, key(1, URL, body(2, bytes.fromhex("08231010180322040803100a")) + MAIN))
+SMALL_GCM = keyset(1, key(1, GCM, body(2, bytes.fromhex("083010101803")) + MAIN))
 TEXT = bytes(7 * i % 251 for i in range(12168))
 
 
@@ -51,7 +54,7 @@ class Row:
         self.name, self.words, self.text = name, words, text
         self.status, self.written, self.line, self.counts = run(words, text)
         self.tally = {"memory": 0, "reads": 0, "writes": 0, "pieces": 0}
-        self.wrong = []
+        self.refused, self.wrong = 0, []
 
     def told(self, ran):
         return ran[:3] == (self.status, self.written, self.line)
@@ -65,9 +68,10 @@ class Row:
         memory, reads, writes = self.counts
         for number in range(1, memory + 1):
             ran = run(self.words, self.text, REFUSE_MEMORY=number)
-            # Out of memory comes before anything is written; a line that has no memory is not told.
-            refused = ran[0] == NO_MEMORY[0] and ran[1] == b"" and ran[2] in (NO_MEMORY[1], b"")
-            self.judge("memory", number, ran, refused or ran[:2] == (self.status, self.written))
+            # Out of memory comes before anything is read or written.
+            refused = (ran[0], ran[2]) == NO_MEMORY and ran[1] == b"" and ran[3][1:] == [0, 0]
+            self.refused += refused
+            self.judge("memory", number, ran, refused or self.told(ran))
         for kind, count, setting, fault in (("reads", reads, "FAIL_READ", READ_FAULT), ("writes", writes, "FAIL_WRITE", WRITE_FAULT)):
             for number in range(1, count + 1):
                 ran = run(self.words, self.text, **{setting: number})
@@ -76,6 +80,32 @@ class Row:
         for piece in (1, 7, 4096):
             ran = run(self.words, self.text, PIECE=piece)
             self.judge("pieces", piece, ran, self.told(ran))
+
+
+def damages(stream):
+    """The stream with each bit changed, cut at each length, and with something behind it."""
+    for at in range(len(stream)):
+        for bit in range(8):
+            yield "a bit changed", stream[:at] + bytes([stream[at] ^ 1 << bit]) + stream[at + 1 :]
+    for length in range(len(stream)):
+        yield "cut", stream[:length]
+    for more in (b"\0", bytes(16), bytes(17), stream):
+        yield "lengthened", stream + more
+
+
+def damaged(name, keyset, ends):
+    """How many damaged streams were tried, by kind, and those that were not refused as they must be."""
+    text = TEXT[:60]
+    tally, wrong = {}, []
+    for kind, stream in damages(run(["seal", keyset, "-", SEED], text)[1]):
+        status, written, line, _ = run(["open", keyset, "-"], stream)
+        segment = ends.index(len(written)) if len(written) in ends else -1
+        lines = {21: b"no matching key\n", 22: b"bad segment %d\n" % segment, 23: b"truncated %d\n" % segment}
+        holds = lines.get(status) == line and written == text[: len(written)] and (status == 21) == (segment == 0)
+        tally[kind] = tally.get(kind, 0) + 1
+        if not holds:
+            wrong.append(f"{name}: {kind}: status {status}, {len(written)} bytes, {line!r}")
+    return tally, wrong
 
 
 def main():
@@ -96,15 +126,25 @@ def main():
         (Row("large 0", ["large", "0"], b""), anything),
     ]
     wrong, total = [], {}
-    print("| command | requests for memory refused | reads that failed | writes that failed | small pieces |")
-    print("|---|---|---|---|---|")
+    print("| command | status 10 | requests for memory refused | reads that failed | writes that failed | small pieces |")
+    print("|---|---|---|---|---|---|")
     for row, fronts in rows:
         row.all(fronts)
         wrong += row.wrong
         for kind, count in row.tally.items():
             total[kind] = total.get(kind, 0) + count
-        print(f"| {row.name} | " + " | ".join(str(n) for n in row.tally.values()) + " |", flush=True)
-    print("| all | " + " | ".join(str(n) for n in total.values()) + " |")
+        total["refused"] = total.get("refused", 0) + row.refused
+        print(f"| {row.name} | {row.refused} | " + " | ".join(str(n) for n in row.tally.values()) + " |", flush=True)
+    refused = total.pop("refused")
+    print(f"| all | {refused} | " + " | ".join(str(n) for n in total.values()) + " |")
+    print("\n| stream of 60 bytes | bits changed | cuts | lengthened |")
+    print("|---|---|---|---|")
+    for name, small, ends in (("counter mode, segments of 35", SMALL, [0, 1, 26, 51]), ("AES-GCM, segments of 48", SMALL_GCM, [0, 8, 40])):
+        tally, more = damaged(name, small, ends)
+        wrong += more
+        total[name] = sum(tally.values())
+        print(f"| {name} | " + " | ".join(str(n) for n in tally.values()) + " |", flush=True)
+    print()
     for line in wrong:
         print(line)
     print(f"{len(wrong)} of {sum(total.values())} lost or released something, or told it wrongly")
