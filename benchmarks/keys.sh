@@ -1,21 +1,25 @@
 #!/usr/bin/env bash
 # Times the opening of a stream under a keyset of many enabled raw keys, of which the last one made it, and prints
 # what a key costs beside what a segment costs: the best of five rounds, or of as many as the first word says.
-# docs/BENCHMARKS.md says what is measured. First proves and builds what is due.
+# docs/BENCHMARKS.md says what is measured. First proves and builds what is due. It needs gcc and python3.
 set -euo pipefail
 root=$(dirname -- "$(dirname -- "$(readlink -f -- "${BASH_SOURCE[0]}")")")
 status=0
 "$root/tink" </dev/null >&2 || status=$?
 ((status == 2))
-python3 - "$root/crates/tink_tool/out/tink_tool" "${1:-5}" <<'PY'
-import subprocess, sys, time
+folder=$(mktemp -d)
+trap 'rm -rf "$folder"' EXIT
+gcc -O1 -shared -fPIC -Wall -o "$folder/words.so" "$root/benchmarks/words.c" -ldl
+python3 - "$root/crates/tink_tool/out/tink_tool" "${1:-5}" "$folder" <<'PY'
+import os, subprocess, sys, time
 
-tool, rounds = sys.argv[1], int(sys.argv[2])
+tool, rounds, folder = sys.argv[1], int(sys.argv[2]), sys.argv[3]
 URL = b"type.googleapis.com/google.crypto.tink.AesCtrHmacStreamingKey"
 # Segments of 4,096 bytes, derived keys of 16, SHA-256 for both hashes, tags of 32.
 PARAMS = bytes.fromhex("088020" "1010" "1803" "2204" "08031020")
-# A word of a command line has 128 KiB at most, which is the keyset of some 560 keys.
-KEYS, SEGMENTS = 500, 1000
+KEYS, SEGMENTS = 1000, 1000
+# A word of a command line has 128 KiB at most, which is the keyset of some 560 keys: the words come by a file.
+BY_FILE = {**os.environ, "LD_PRELOAD": f"{folder}/words.so", "WORDS": f"{folder}/words"}
 
 
 def varint(n):
@@ -38,7 +42,9 @@ def keyset(count):
 
 
 def run(words, text):
-    return subprocess.run([tool, *words], input=text, stdout=subprocess.PIPE, check=True).stdout
+    with open(f"{folder}/words", "w") as it:
+        it.write("".join(word + "\0" for word in words))
+    return subprocess.run([tool], input=text, stdout=subprocess.PIPE, check=True, env=BY_FILE).stdout
 
 
 def microseconds(count, stream, text):

@@ -2,7 +2,7 @@
 use Rattle.std.specs.Prelude.{ℕ, List, [], ◌∷◌, ◌++◌, codes, decimal}
 use Rattle.std.specs.Fmt.{signed_decimal}
 use Rattle.tink_io.specs.declared.error.Kind.{Kind}
-use Rattle.tink_io.specs.declared.error.Kind.TheVariants.{OutOfMemory, ReadFault, WriteFault, RandomFault, BadKeyset, BadJson, KeysetTooLong, NoKeyset, InvalidKeyset, UnsupportedKeyType, InvalidKey, InvalidFormat, NoPrimary, WrongPrimitive, NotRawOnly, UnsupportedHash, UnknownHash, UnknownPrefix, BadVersion, HasSecrets, NotPrivate, NoPrivateKeys, MasterFailed, KeyNotFound, IsPrimary, WrongStatus, NotEnabled, NoFreshId, AlreadyRegistered, TagTooSmall, OutputTooLong, BadKeySize, BadTagSize, MacMismatch, TooShort, TextTooLong, DataTooLong, BadIvSize, DecryptFailed, LengthOverU32, NonceTooShort, OffsetTooBig, SegmentTooSmall, Closed, FailedBefore, TooManySegments, NoMatchingKey, BadSegment, Truncated, UnknownTemplate}
+use Rattle.tink_io.specs.declared.error.Kind.TheVariants.{OutOfMemory, ReadFault, WriteFault, RandomFault, BadKeyset, BadJson, KeysetTooLong, NoKeyset, InvalidKeyset, UnsupportedKeyType, InvalidKey, InvalidFormat, NoPrimary, WrongPrimitive, NotRawOnly, UnsupportedHash, UnknownHash, UnknownPrefix, BadVersion, HasSecrets, NotPrivate, NoPrivateKeys, MasterFailed, KeyNotFound, IsPrimary, WrongStatus, NotEnabled, NoFreshId, AlreadyRegistered, TagTooSmall, OutputTooLong, BadKeySize, BadTagSize, MacMismatch, TooShort, TextTooLong, DataTooLong, BadIvSize, DecryptFailed, LengthOverU32, NonceTooShort, OffsetTooBig, SegmentTooSmall, Closed, FailedBefore, TooManySegments, NoMatchingKey, BadSegment, Truncated, UnknownTemplate, BadToken}
 use Rattle.tink_io.specs.declared.error.Cause as cause
 use Rattle.tink_io.specs.declared.error.Cause.TheVariants as causes
 
@@ -77,6 +77,7 @@ kind_words NoMatchingKey = codes "no matching key"
 kind_words (BadSegment _) = codes "bad segment "
 kind_words (Truncated _) = codes "truncated "
 kind_words UnknownTemplate = codes "unknown template"
+kind_words BadToken = codes "bad token"
 
 -- a kind's number in decimal digits, or the text of its cause
 abbrev pub kind_rest : Kind → List ℕ

@@ -110,6 +110,8 @@ pub enum Kind {
     Truncated(u32),
     /// No template has the name.
     UnknownTemplate,
+    /// The bytes are no signed token.
+    BadToken,
 }
 
 /// By what a writer or a reader of a stream failed before.
@@ -199,6 +201,7 @@ impl Kind {
             Kind::BadSegment(_) => "bad segment ",
             Kind::Truncated(_) => "truncated ",
             Kind::UnknownTemplate => "unknown template",
+            Kind::BadToken => "bad token",
         }
     }
 }
