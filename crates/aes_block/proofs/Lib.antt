@@ -12,3 +12,5 @@ pub mod LinearSteps
 pub mod MixedPlanes
 pub mod RoundKeyPlanes
 pub mod EachBlock
+pub mod SpreadPlanes
+pub mod InverseColumns

@@ -1,17 +1,19 @@
 -- The linear steps, bit by bit.
-use Rattle.std.proofs.Common.{◌≡◌, ℕ, ◌+◌, ◌-◌, ◌%◌, ◌<◌, ◌≤◌, T, ltb, ltb→lt, List, [], ◌∷◌, length, map, get_or, slice_index, bit_xor, sym, ap, ◌∙◌, subst, arith, refl}
+use Rattle.std.proofs.Common.{◌≡◌, ℕ, ◌+◌, ◌-◌, ◌%◌, ◌<◌, ◌≤◌, T, ltb, ltb→lt, List, [], length, map, get_or, slice_index, bit_xor, sym, ap, ◌∙◌, subst, arith}
 use Rattle.std.specs.Int.{bit_at}
 use Rattle.std.proofs.lemmas.List.{ext_get_or, get_or-map, length-map}
 use Rattle.std.proofs.lemmas.Nat.{xor_lt}
 use Rattle.std.proofs.lemmas.Nat.Bits.{bit_at_xor, same_from_bits_below}
 use Rattle.std.proofs.lemmas.Simd.{get_or-zip2, length-zip2, map-map}
 use lib.Lanes.{zip2}
-use Rattle.standards.specs.Aes.{add_round_key, key_at, mix_columns, shift_rows, state_after, sub_byte, sub_bytes}
-use Rattle.aes_block.specs.BitPlanes.{AT_SHIFT, AreBlocks, IsKey, byte_of, picked_at}
+use Rattle.standards.specs.Aes.{add_round_key, key_at, mix_columns, shift_rows, state_after, sub_bytes}
+use Rattle.standards.specs.AesInverse.{inv_mix_columns, inv_shift_rows, inv_state_after, inv_sub_bytes}
+use Rattle.aes_block.specs.BitPlanes.{AreBlocks, IsKey, byte_of, picked_at}
 use Rattle.aes_block.specs.Transposition.{IsTransposed}
 use Rattle.aes_block.specs.Wires.{AreBelow, ArePlanes}
 use Rattle.standards.proofs.Bytes.{all_below, every_below}
-use Rattle.aes_block.proofs.Rounds.{state_step}
+use Rattle.aes_block.proofs.EachBlock.{map_same}
+use Rattle.aes_block.proofs.Rounds.{inv_state_step, state_step}
 
 -- bit i of byte k of a vector
 pub record IsBit (v : List ℕ) (f : ℕ → ℕ → ℕ) : Type 0 where
@@ -51,35 +53,42 @@ same_bit v f g e h = record { size = h.size; bits = λ k i l m. h.bits k i l m �
 pub planes_of : (Z : ℕ → ℕ → ℕ) (r : List (List ℕ)) → AreBelow Z → length r ≡ 8 → ((j : ℕ) → j < 8 → IsBit (get_or r j []) (λ k i. bit_at (Z k i) j)) → ArePlanes Z r
 planes_of Z r low e h = record { below = low; count = e; size = λ j l. (h j l).size; bits = λ j k i l m n. (h j l).bits k i m n }
 
+-- planes of equal bytes
+pub same_planes : (X Y : ℕ → ℕ → ℕ) (q : List (List ℕ)) → ((k i : ℕ) → k < 16 → i < 8 → X k i ≡ Y k i) → ArePlanes X q → ArePlanes Y q
+same_planes X Y q same h =
+    record {
+      below = λ k i l m. subst (λ n. n < 256) (same k i l m) (h.below k i l m);
+      count = h.count;
+      size = h.size;
+      bits = λ j k i n l m. h.bits j k i n l m ∙ ap (λ x. bit_at x j) (same k i l m);
+    }
+
 -- a step f of each block, whose bytes are Z
 pub mapped : (b r : List (List ℕ)) (f : List ℕ → List ℕ) (Z : ℕ → ℕ → ℕ) → length b ≡ 8 → ((i : ℕ) → i < 8 → length (get_or b i []) ≡ 16) → ((s : List ℕ) → length s ≡ 16 → length (f s) ≡ 16)
     → ((k i : ℕ) → k < 16 → i < 8 → get_or (f (get_or b i [])) k 0 ≡ Z k i) → ArePlanes Z r → AreBlocks (map f b) r
 mapped b r f Z count size keeps same h =
     let at = λ (i : ℕ) (m : i < 8). get_or-map f b i [] [] (omega (arith, count)) in
-    let byte : (k i : ℕ) → k < 16 → i < 8 → byte_of (map f b) k i ≡ Z k i = λ k i l m. ap (λ s. get_or s k 0) (at i m) ∙ same k i l m in
     record {
       count = length-map b f ∙ count;
       size = λ i m. ap length (at i m) ∙ keeps (get_or b i []) (size i m);
-      planes = record {
-        below = λ k i l m. subst (λ n. n < 256) (sym (byte k i l m)) (h.below k i l m);
-        count = h.count;
-        size = h.size;
-        bits = λ j k i n l m. h.bits j k i n l m ∙ ap (λ x. bit_at x j) (sym (byte k i l m));
-      };
+      planes = same_planes Z (byte_of (map f b)) r (λ k i l m. sym (ap (λ s. get_or s k 0) (at i m) ∙ same k i l m)) h;
     }
 
-pub substituted : (b q r : List (List ℕ)) → AreBlocks b q → ArePlanes (λ k i. sub_byte (byte_of b k i)) r → AreBlocks (map sub_bytes b) r
-substituted b q r h z =
-    mapped b r sub_bytes (λ k i. sub_byte (byte_of b k i)) h.count h.size (λ s e. length-map s sub_byte ∙ e)
-    (λ k i l m. get_or-map sub_byte (get_or b i []) k 0 0 (omega (arith, l, h.size i m))) z
+-- a step g of each byte
+pub substituted : (g : ℕ → ℕ) (b q r : List (List ℕ)) → AreBlocks b q → ArePlanes (λ k i. g (byte_of b k i)) r → AreBlocks (map (map g) b) r
+substituted g b q r h z =
+    mapped b r (map g) (λ k i. g (byte_of b k i)) h.count h.size (λ s e. length-map s g ∙ e)
+    (λ k i l m. get_or-map g (get_or b i []) k 0 0 (omega (arith, l, h.size i m))) z
 
-pub shifted_rows : (b q r : List (List ℕ)) → AreBlocks b q → length r ≡ 8 → ((j : ℕ) → j < 8 → get_or r j [] ≡ picked_at (get_or q j []) AT_SHIFT) → AreBlocks (map shift_rows b) r
-shifted_rows b q r h e each =
-    let Z : ℕ → ℕ → ℕ = λ k i. byte_of b (get_or AT_SHIFT k 0) i in
-    mapped b r shift_rows Z h.count h.size (λ s e. refl)
-    (λ k i l m. get_or-map (λ k. slice_index (get_or b i []) k) AT_SHIFT k 0 0 l)
-    (planes_of Z r (λ k i l m. h.planes.below (get_or AT_SHIFT k 0) i (places AT_SHIFT tt k l) m) e
-    (λ j n. picked_bit AT_SHIFT refl tt (get_or q j []) (get_or r j []) _ (each j n) (plane_bit (byte_of b) q h.planes j n)))
+-- bytes that are moved alike in each plane
+pub moved_bytes : (at : List ℕ) → length at ≡ 16 → T (all_below (λ k. ltb (get_or at k 0) 16) 16) → (b q r : List (List ℕ)) → AreBlocks b q → length r ≡ 8
+    → ((j : ℕ) → j < 8 → get_or r j [] ≡ picked_at (get_or q j []) at) → AreBlocks (map (λ s. picked_at s at) b) r
+moved_bytes at sixteen t b q r h e each =
+    let Z : ℕ → ℕ → ℕ = λ k i. byte_of b (get_or at k 0) i in
+    mapped b r (λ s. picked_at s at) Z h.count h.size (λ s e. length-map at (λ k. slice_index s k) ∙ sixteen)
+    (λ k i l m. get_or-map (λ k. slice_index (get_or b i []) k) at k 0 0 (omega (arith, l, sixteen)))
+    (planes_of Z r (λ k i l m. h.planes.below (get_or at k 0) i (places at t k l) m) e
+    (λ j n. picked_bit at sixteen t (get_or q j []) (get_or r j []) _ (each j n) (plane_bit (byte_of b) q h.planes j n)))
 
 pub added : (b q k r : List (List ℕ)) (key : List ℕ) → AreBlocks b q → IsKey key k → length r ≡ 8 → ((j : ℕ) → j < 8 → get_or r j [] ≡ zip2 bit_xor (get_or q j []) (get_or k j [])) → AreBlocks (map (λ v. add_round_key v key) b) r
 added b q ks r key h g e each =
@@ -122,8 +131,8 @@ transposed_back b q r h t =
 -- one whole round more of each block
 pub step_all : (ks b : List (List ℕ)) (i : ℕ) → 1 ≤ i
     → map (λ v. add_round_key (mix_columns (shift_rows (sub_bytes (state_after ks v (i - 1))))) (key_at ks i)) b ≡ map (λ v. state_after ks v (i + 1 - 1)) b
-step_all ks b i h = go b
-  where
-    go : (b : List (List ℕ)) → map (λ v. add_round_key (mix_columns (shift_rows (sub_bytes (state_after ks v (i - 1))))) (key_at ks i)) b ≡ map (λ v. state_after ks v (i + 1 - 1)) b
-    go [] = refl
-    go (v ∷ vs) = ap (λ w. w ∷ map (λ v. add_round_key (mix_columns (shift_rows (sub_bytes (state_after ks v (i - 1))))) (key_at ks i)) vs) (state_step ks v i h) ∙ ap (λ ws. state_after ks v (i + 1 - 1) ∷ ws) (go vs)
+step_all ks b i h = map_same _ _ (λ v. state_step ks v i h) b
+
+pub inv_step_all : (r : ℕ) (ks b : List (List ℕ)) (i : ℕ) → 1 ≤ i
+    → map (λ v. inv_mix_columns (add_round_key (inv_sub_bytes (inv_shift_rows (inv_state_after r ks v (i - 1)))) (key_at ks (r - i)))) b ≡ map (λ v. inv_state_after r ks v (i + 1 - 1)) b
+inv_step_all r ks b i h = map_same _ _ (λ v. inv_state_step r ks v i h) b

@@ -155,24 +155,27 @@ abbrev pub mixed_of : List (List ℕ) → ℕ → ℕ → ℕ
 mixed_of b k i =
     mix_byte (byte_of b k i) (byte_of b (get_or AT_FIRST k 0) i) (byte_of b (get_or AT_SECOND k 0) i) (byte_of b (get_or AT_FIRST (get_or AT_SECOND k 0) 0) i)
 
+pub below_16 : (P : ℕ → Type 0) → P 0 → P 1 → P 2 → P 3 → P 4 → P 5 → P 6 → P 7 → P 8 → P 9 → P 10 → P 11 → P 12 → P 13 → P 14 → P 15 → (n : ℕ) → n < 16 → P n
+below_16 P p0 p1 p2 p3 p4 p5 p6 p7 p8 p9 p10 p11 p12 p13 p14 p15 zero l = p0
+below_16 P p0 p1 p2 p3 p4 p5 p6 p7 p8 p9 p10 p11 p12 p13 p14 p15 (suc zero) l = p1
+below_16 P p0 p1 p2 p3 p4 p5 p6 p7 p8 p9 p10 p11 p12 p13 p14 p15 (suc (suc zero)) l = p2
+below_16 P p0 p1 p2 p3 p4 p5 p6 p7 p8 p9 p10 p11 p12 p13 p14 p15 (suc (suc (suc zero))) l = p3
+below_16 P p0 p1 p2 p3 p4 p5 p6 p7 p8 p9 p10 p11 p12 p13 p14 p15 (suc (suc (suc (suc zero)))) l = p4
+below_16 P p0 p1 p2 p3 p4 p5 p6 p7 p8 p9 p10 p11 p12 p13 p14 p15 (suc (suc (suc (suc (suc zero))))) l = p5
+below_16 P p0 p1 p2 p3 p4 p5 p6 p7 p8 p9 p10 p11 p12 p13 p14 p15 (suc (suc (suc (suc (suc (suc zero)))))) l = p6
+below_16 P p0 p1 p2 p3 p4 p5 p6 p7 p8 p9 p10 p11 p12 p13 p14 p15 (suc (suc (suc (suc (suc (suc (suc zero))))))) l = p7
+below_16 P p0 p1 p2 p3 p4 p5 p6 p7 p8 p9 p10 p11 p12 p13 p14 p15 (suc (suc (suc (suc (suc (suc (suc (suc zero)))))))) l = p8
+below_16 P p0 p1 p2 p3 p4 p5 p6 p7 p8 p9 p10 p11 p12 p13 p14 p15 (suc (suc (suc (suc (suc (suc (suc (suc (suc zero))))))))) l = p9
+below_16 P p0 p1 p2 p3 p4 p5 p6 p7 p8 p9 p10 p11 p12 p13 p14 p15 (suc (suc (suc (suc (suc (suc (suc (suc (suc (suc zero)))))))))) l = p10
+below_16 P p0 p1 p2 p3 p4 p5 p6 p7 p8 p9 p10 p11 p12 p13 p14 p15 (suc (suc (suc (suc (suc (suc (suc (suc (suc (suc (suc zero))))))))))) l = p11
+below_16 P p0 p1 p2 p3 p4 p5 p6 p7 p8 p9 p10 p11 p12 p13 p14 p15 (suc (suc (suc (suc (suc (suc (suc (suc (suc (suc (suc (suc zero)))))))))))) l = p12
+below_16 P p0 p1 p2 p3 p4 p5 p6 p7 p8 p9 p10 p11 p12 p13 p14 p15 (suc (suc (suc (suc (suc (suc (suc (suc (suc (suc (suc (suc (suc zero))))))))))))) l = p13
+below_16 P p0 p1 p2 p3 p4 p5 p6 p7 p8 p9 p10 p11 p12 p13 p14 p15 (suc (suc (suc (suc (suc (suc (suc (suc (suc (suc (suc (suc (suc (suc zero)))))))))))))) l = p14
+below_16 P p0 p1 p2 p3 p4 p5 p6 p7 p8 p9 p10 p11 p12 p13 p14 p15 (suc (suc (suc (suc (suc (suc (suc (suc (suc (suc (suc (suc (suc (suc (suc zero))))))))))))))) l = p15
+below_16 P p0 p1 p2 p3 p4 p5 p6 p7 p8 p9 p10 p11 p12 p13 p14 p15 (suc (suc (suc (suc (suc (suc (suc (suc (suc (suc (suc (suc (suc (suc (suc (suc n)))))))))))))))) l = absurd (omega arith)
+
 column : (s : List ℕ) (k : ℕ) → k < 16 → get_or (mix_columns s) k 0 ≡ mix_byte (get_or s k 0) (get_or s (get_or AT_FIRST k 0) 0) (get_or s (get_or AT_SECOND k 0) 0) (get_or s (get_or AT_FIRST (get_or AT_SECOND k 0) 0) 0)
-column s zero l = refl
-column s (suc zero) l = refl
-column s (suc (suc zero)) l = refl
-column s (suc (suc (suc zero))) l = refl
-column s (suc (suc (suc (suc zero)))) l = refl
-column s (suc (suc (suc (suc (suc zero))))) l = refl
-column s (suc (suc (suc (suc (suc (suc zero)))))) l = refl
-column s (suc (suc (suc (suc (suc (suc (suc zero))))))) l = refl
-column s (suc (suc (suc (suc (suc (suc (suc (suc zero)))))))) l = refl
-column s (suc (suc (suc (suc (suc (suc (suc (suc (suc zero))))))))) l = refl
-column s (suc (suc (suc (suc (suc (suc (suc (suc (suc (suc zero)))))))))) l = refl
-column s (suc (suc (suc (suc (suc (suc (suc (suc (suc (suc (suc zero))))))))))) l = refl
-column s (suc (suc (suc (suc (suc (suc (suc (suc (suc (suc (suc (suc zero)))))))))))) l = refl
-column s (suc (suc (suc (suc (suc (suc (suc (suc (suc (suc (suc (suc (suc zero))))))))))))) l = refl
-column s (suc (suc (suc (suc (suc (suc (suc (suc (suc (suc (suc (suc (suc (suc zero)))))))))))))) l = refl
-column s (suc (suc (suc (suc (suc (suc (suc (suc (suc (suc (suc (suc (suc (suc (suc zero))))))))))))))) l = refl
-column s (suc (suc (suc (suc (suc (suc (suc (suc (suc (suc (suc (suc (suc (suc (suc (suc k)))))))))))))))) l = absurd (omega arith)
+column s = below_16 (λ k. get_or (mix_columns s) k 0 ≡ mix_byte (get_or s k 0) (get_or s (get_or AT_FIRST k 0) 0) (get_or s (get_or AT_SECOND k 0) 0) (get_or s (get_or AT_FIRST (get_or AT_SECOND k 0) 0) 0)) refl refl refl refl refl refl refl refl refl refl refl refl refl refl refl refl
 
 pub mixed : (b q r : List (List ℕ)) → AreBlocks b q → length r ≡ 8 → ((j : ℕ) → j < 8 → IsBit (get_or r j []) (λ k i. bit_at (mixed_of b k i) j)) → AreBlocks (map mix_columns b) r
 mixed b q r h e each =

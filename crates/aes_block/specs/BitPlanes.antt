@@ -1,5 +1,6 @@
 -- Eight blocks of 16 bytes, and round keys, by their bit planes.
-use Rattle.std.specs.Prelude.{◌≡◌, ◌<◌, ◌≤◌, ℕ, List, [], ◌∷◌, map, length, get_or, slice_index}
+use Rattle.std.specs.Prelude.{◌≡◌, ◌<◌, ◌≤◌, ℕ, List, [], ◌∷◌, ◌+◌, ◌++◌, map, length, get_or, slice_index, bit_xor}
+use Rattle.standards.specs.Aes.{times}
 use Rattle.aes_block.specs.declared.planes.KeyPlanes.{KeyPlanes}
 use Rattle.aes_block.specs.Wires.{ArePlanes}
 
@@ -36,3 +37,22 @@ AT_FIRST = 1 ∷ 2 ∷ 3 ∷ 0 ∷ 5 ∷ 6 ∷ 7 ∷ 4 ∷ 9 ∷ 10 ∷ 11 ∷ 8
 
 abbrev pub AT_SECOND : List ℕ
 AT_SECOND = 2 ∷ 3 ∷ 0 ∷ 1 ∷ 6 ∷ 7 ∷ 4 ∷ 5 ∷ 10 ∷ 11 ∷ 8 ∷ 9 ∷ 14 ∷ 15 ∷ 12 ∷ 13 ∷ []
+
+abbrev pub AT_INV_SHIFT : List ℕ
+AT_INV_SHIFT = 0 ∷ 13 ∷ 10 ∷ 7 ∷ 4 ∷ 1 ∷ 14 ∷ 11 ∷ 8 ∷ 5 ∷ 2 ∷ 15 ∷ 12 ∷ 9 ∷ 6 ∷ 3 ∷ []
+
+-- a and 4 times its sum with c
+abbrev pub spread_byte : ℕ → ℕ → ℕ
+spread_byte a c = bit_xor a (times 4 (bit_xor a c))
+
+abbrev pub spread_at : List ℕ → ℕ → List ℕ
+spread_at s i =
+    let a = slice_index s i in
+    let b = slice_index s (i + 1) in
+    let c = slice_index s (i + 2) in
+    let d = slice_index s (i + 3) in
+    spread_byte a c ∷ spread_byte b d ∷ spread_byte c a ∷ spread_byte d b ∷ []
+
+-- the circulant 5, 0, 4, 0 on each column
+abbrev pub spread : List ℕ → List ℕ
+spread s = spread_at s 0 ++ spread_at s 4 ++ spread_at s 8 ++ spread_at s 12

@@ -99,3 +99,16 @@ SUBSTITUTED =
     ∷ 0x21e0b833255917823f6bcb91b30db559e4851b3bf3ab2560980a3cc2c2fdb4ff
     ∷ 0x52379de7b844e3e14cb3770196ca0329e7bac28f866aac825caa2ec7bf977090
     ∷ []
+
+-- the bits of the inverse of the affine map, from the lowest
+abbrev pub UNDONE : List ℕ
+UNDONE =
+    0xf0f0f0ff0f0f0f00f0f0f0ff0f0f0f0f0f0f0f00f0f0f0ff0f0f0f00f0f0f0f
+    ∷ 0xaa55aa55aa55aa5555aa55aa55aa55aaaa55aa55aa55aa5555aa55aa55aa55aa
+    ∷ 0x3333cccc3333cccc3333cccc3333cccccccc3333cccc3333cccc3333cccc3333
+    ∷ 0xa5a5a5a55a5a5a5aa5a5a5a55a5a5a5aa5a5a5a55a5a5a5aa5a5a5a55a5a5a5a
+    ∷ 0xcc33cc33cc33cc3333cc33cc33cc33cccc33cc33cc33cc3333cc33cc33cc33cc
+    ∷ 0xf0f00f0ff0f00f0ff0f00f0ff0f00f0f0f0ff0f00f0ff0f00f0ff0f00f0ff0f0
+    ∷ 0xaa55aa5555aa55aaaa55aa5555aa55aaaa55aa5555aa55aaaa55aa5555aa55aa
+    ∷ 0xcccc3333cccc33333333cccc3333cccccccc3333cccc33333333cccc3333cccc
+    ∷ []

@@ -1,13 +1,17 @@
 // AES of eight blocks together by their bit planes: circuits of ands, xors and moves of bytes, which read no table.
 ghost use Rattle.std.specs.Prelude.{◌≡◌, ◌+◌, ◌<◌, ◌≤◌, ℕ, List, map, length};
 ghost use Rattle.standards.specs.Aes.{cipher};
+ghost use Rattle.standards.specs.AesInverse.{inv_cipher};
 ghost use Rattle.aes_block.specs.BitPlanes.{AreKeys, IsKey};
 
+mod inverse_rounds;
+mod inverse_substitution;
 mod rounds;
 mod substitution;
 mod transposition;
 mod vectors;
 
+use inverse_rounds::decipher_planes;
 use rounds::encipher_planes;
 use std::simd::prelude::*;
 use transposition::transpose;
@@ -68,4 +72,28 @@ pub(crate) fn encipher_blocks(
     ensures { (ks : List (List ℕ)) → AreKeys rounds ks keys.now → result ≡ map (cipher rounds ks) blocks.now }
 {
     arrays(encipher_vectors(keys, rounds, vectors(blocks)))
+}
+
+// Eight vectors, each deciphered.
+#[inline(always)]
+fn decipher_vectors(keys: &[KeyPlanes; 15], rounds: usize, v: [u8x16; 8]) -> [u8x16; 8]
+    requires some { 1 ≤ rounds }
+    requires few { rounds ≤ 14 }
+    ensures { (ks : List (List ℕ)) → AreKeys rounds ks keys.now → result ≡ map (inv_cipher rounds ks) v }
+{
+    transpose(decipher_planes(keys, rounds, transpose(v)))
+}
+
+// Eight blocks, each deciphered in so many rounds, with the planes of the cipher's round keys.
+pub(crate) fn decipher_blocks(
+    keys: &[KeyPlanes; 15],
+    rounds: usize,
+    blocks: &[[u8; 16]],
+) -> [[u8; 16]; 8]
+    requires some { 1 ≤ rounds }
+    requires few { rounds ≤ 14 }
+    requires eight { length blocks.now ≡ 8 }
+    ensures { (ks : List (List ℕ)) → AreKeys rounds ks keys.now → result ≡ map (inv_cipher rounds ks) blocks.now }
+{
+    arrays(decipher_vectors(keys, rounds, vectors(blocks)))
 }

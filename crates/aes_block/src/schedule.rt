@@ -7,7 +7,7 @@ ghost use Rattle.aes_block.specs.Ciphers.{IsKeySize};
 use crate::decryption::decipher;
 use crate::encryption::encipher;
 use crate::key_expansion::{expand, round_keys};
-use crate::planes::{KeyPlanes, encipher_blocks, round_key_planes};
+use crate::planes::{KeyPlanes, decipher_blocks, encipher_blocks, round_key_planes};
 use std::alloc::AllocError;
 use std::marker::Model;
 
@@ -63,15 +63,12 @@ impl Schedule {
         output.copy_from_slice(&enciphered);
     }
 
-    // Encrypts at most eight blocks, as above, as the first of eight.
+    // Encrypts at most eight blocks as above, by one call: they are the first of eight.
     pub(crate) fn encrypt_some(&self, output: &mut [[u8; 16]], input: &[[u8; 16]])
         requires { length output.old ≤ 8 }
         ensures { output.new ≡ map (aes self.now) (pick input.now output.old) }
     {
         let n = output.len();
-        if n == 0 {
-            return;
-        }
         let mut blocks = [[0; 16]; 8];
         blocks[..n].copy_from_slice(read_all(output, input));
         let enciphered = encipher_blocks(&self.planes, self.rounds, &blocks);
@@ -83,6 +80,27 @@ impl Schedule {
         ensures { output.new ≡ aes_inverse self.now (slice_index_or input.now 0 output.old) }
     {
         *output = decipher(&self.round_keys, self.rounds, read(output, input));
+    }
+
+    // Decrypts the eight blocks that are read, or, where as many are not read, those that stand in the output.
+    pub(crate) fn decrypt_eight(&self, output: &mut [[u8; 16]], input: &[[u8; 16]])
+        requires { length output.old ≡ 8 }
+        ensures { output.new ≡ map (aes_inverse self.now) (pick input.now output.old) }
+    {
+        let deciphered = decipher_blocks(&self.planes, self.rounds, read_all(output, input));
+        output.copy_from_slice(&deciphered);
+    }
+
+    // Decrypts at most eight blocks as above, by one call: they are the first of eight.
+    pub(crate) fn decrypt_some(&self, output: &mut [[u8; 16]], input: &[[u8; 16]])
+        requires { length output.old ≤ 8 }
+        ensures { output.new ≡ map (aes_inverse self.now) (pick input.now output.old) }
+    {
+        let n = output.len();
+        let mut blocks = [[0; 16]; 8];
+        blocks[..n].copy_from_slice(read_all(output, input));
+        let deciphered = decipher_blocks(&self.planes, self.rounds, &blocks);
+        output.copy_from_slice(&deciphered[..n]);
     }
 }
 

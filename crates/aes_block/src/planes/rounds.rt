@@ -27,7 +27,7 @@ fn first_on(v: u8x16) -> u8x16
 
 // Each byte takes the one two further in its column.
 #[inline(always)]
-fn second_on(v: u8x16) -> u8x16
+pub(crate) fn second_on(v: u8x16) -> u8x16
     ensures { result ≡ picked_at v AT_SECOND }
 {
     v.swizzle([2, 3, 0, 1, 6, 7, 4, 5, 10, 11, 8, 9, 14, 15, 12, 13])
@@ -53,7 +53,7 @@ fn shift_planes(q: Planes) -> Planes
 
 // MixColumns. The product with x moves each bit up by one, and adds bit 7 to bits 0, 1, 3 and 4.
 #[inline(always)]
-fn mix_planes(q: Planes) -> Planes
+pub(crate) fn mix_planes(q: Planes) -> Planes
     ensures { (b : List (List ℕ)) → AreBlocks b q → AreBlocks (map mix_columns b) result }
 {
     let [q0, q1, q2, q3, q4, q5, q6, q7] = q;
@@ -87,7 +87,7 @@ fn mix_planes(q: Planes) -> Planes
 
 // AddRoundKey.
 #[inline(always)]
-fn add_planes(q: Planes, k: Planes) -> Planes
+pub(crate) fn add_planes(q: Planes, k: Planes) -> Planes
     ensures { (b : List (List ℕ)) (key : List ℕ) → AreBlocks b q → IsKey key k → AreBlocks (map (λ v. add_round_key v key) b) result }
 {
     let [a, b, c, d, e, f, g, h] = q;
@@ -122,7 +122,7 @@ fn last_round(q: Planes, k: Planes) -> Planes
 }
 
 #[inline(always)]
-fn key_at(keys: &[KeyPlanes; 15], i: usize) -> Planes
+pub(crate) fn key_at(keys: &[KeyPlanes; 15], i: usize) -> Planes
     requires { i < 15 }
     ensures { result ≡ planes_at keys.now i }
 {

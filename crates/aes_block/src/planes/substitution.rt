@@ -1,5 +1,5 @@
-// SubBytes of eight bit planes (FIPS 197, 5.1.1) by the circuit of Boyar and Peralta, in five steps. Plane j has bit j
-// of each byte, block i being bit i of the plane's byte.
+// SubBytes of eight bit planes (FIPS 197, 5.1.1) by the circuit of Boyar and Peralta (2010, 115 gates), in five steps. Its
+// wires have the names of the paper, where x0 is the highest bit of the byte, and s0 that of the result.
 ghost use Rattle.std.specs.Prelude.{◌≡◌, ℕ};
 ghost use Rattle.aes_block.specs.Wires.{AreWires, AreBelow, ArePlanes};
 ghost use Rattle.aes_block.specs.TruthTables.{BITS, FACTORS, SUMS, INVERSE, TERMS, SUBSTITUTED};
