@@ -14,10 +14,11 @@ BITS =
     ∷ 0xffffffffffffffffffffffffffffffff00000000000000000000000000000000
     ∷ []
 
--- y1, y2, y3, y4, y5, y6, y7, y8, y9, y10, y11, y12, y13, y14, y15, y16, y17, y18, y19, y20, y21, x7
+-- x7, y1, y2, y3, y4, y5, y6, y7, y8, y9, y10, y11, y12, y13, y14, y15, y16, y17, y18, y19, y20, y21
 abbrev pub FACTORS : List ℕ
 FACTORS =
-    0xaaaaaaaa5555555555555555aaaaaaaaaaaaaaaa5555555555555555aaaaaaaa
+    0xaaaaaaaaaaaaaaaaaaaaaaaaaaaaaaaaaaaaaaaaaaaaaaaaaaaaaaaaaaaaaaaa
+    ∷ 0xaaaaaaaa5555555555555555aaaaaaaaaaaaaaaa5555555555555555aaaaaaaa
     ∷ 0x55555555aaaaaaaaaaaaaaaa55555555aaaaaaaa5555555555555555aaaaaaaa
     ∷ 0x6969696996969696969696966969696996969696696969696969696996969696
     ∷ 0x5555aaaaaaaa5555aaaa55555555aaaa5555aaaaaaaa5555aaaa55555555aaaa
@@ -38,7 +39,6 @@ FACTORS =
     ∷ 0x3cc3c33cc33c3cc3c33c3cc33cc3c33c3cc3c33cc33c3cc3c33c3cc33cc3c33c
     ∷ 0x3cc3c33c3cc3c33cc33c3cc3c33c3cc3c33c3cc3c33c3cc33cc3c33c3cc3c33c
     ∷ 0xff00ff0f00ff00f0ff00ff0f00ff00ff00ff00f0ff00ff0f00ff00f0ff00ff0
-    ∷ 0xaaaaaaaaaaaaaaaaaaaaaaaaaaaaaaaaaaaaaaaaaaaaaaaaaaaaaaaaaaaaaaaa
     ∷ []
 
 -- t21, t22, t23, t24

@@ -6,14 +6,14 @@ use Rattle.aes_block.proofs.planes.substitution.factors.Goals as goal
 
 pub returns : goal.returns
 returns c X in_q =
-    let x7 : IsWire X 0xaaaaaaaaaaaaaaaaaaaaaaaaaaaaaaaaaaaaaaaaaaaaaaaaaaaaaaaaaaaaaaaa _ = wire_at X BITS c.args.q in_q 0 (lit< tt) in
-    let x6 : IsWire X 0xcccccccccccccccccccccccccccccccccccccccccccccccccccccccccccccccc _ = wire_at X BITS c.args.q in_q 1 (lit< tt) in
-    let x5 : IsWire X 0xf0f0f0f0f0f0f0f0f0f0f0f0f0f0f0f0f0f0f0f0f0f0f0f0f0f0f0f0f0f0f0f0 _ = wire_at X BITS c.args.q in_q 2 (lit< tt) in
-    let x4 : IsWire X 0xff00ff00ff00ff00ff00ff00ff00ff00ff00ff00ff00ff00ff00ff00ff00ff00 _ = wire_at X BITS c.args.q in_q 3 (lit< tt) in
-    let x3 : IsWire X 0xffff0000ffff0000ffff0000ffff0000ffff0000ffff0000ffff0000ffff0000 _ = wire_at X BITS c.args.q in_q 4 (lit< tt) in
-    let x2 : IsWire X 0xffffffff00000000ffffffff00000000ffffffff00000000ffffffff00000000 _ = wire_at X BITS c.args.q in_q 5 (lit< tt) in
-    let x1 : IsWire X 0xffffffffffffffff0000000000000000ffffffffffffffff0000000000000000 _ = wire_at X BITS c.args.q in_q 6 (lit< tt) in
-    let x0 : IsWire X 0xffffffffffffffffffffffffffffffff00000000000000000000000000000000 _ = wire_at X BITS c.args.q in_q 7 (lit< tt) in
+    let x7 = wire_at X BITS c.args.q in_q 0 (lit< tt) in
+    let x6 = wire_at X BITS c.args.q in_q 1 (lit< tt) in
+    let x5 = wire_at X BITS c.args.q in_q 2 (lit< tt) in
+    let x4 = wire_at X BITS c.args.q in_q 3 (lit< tt) in
+    let x3 = wire_at X BITS c.args.q in_q 4 (lit< tt) in
+    let x2 = wire_at X BITS c.args.q in_q 5 (lit< tt) in
+    let x1 = wire_at X BITS c.args.q in_q 6 (lit< tt) in
+    let x0 = wire_at X BITS c.args.q in_q 7 (lit< tt) in
     let y14 : IsWire X 0xf0ff0f00f0ff0f00f0ff0f00f0ff0f00f0ff0f00f0ff0f00f0ff0f00f0ff0f0 _ = xor_wire X _ _ _ _ x3 x5 in
     let y13 : IsWire X 0x33333333333333333333333333333333cccccccccccccccccccccccccccccccc _ = xor_wire X _ _ _ _ x0 x6 in
     let y9 : IsWire X 0xffff0000ffff0000ffff0000ffffffff0000ffff0000ffff0000ffff0000 _ = xor_wire X _ _ _ _ x0 x3 in
@@ -37,4 +37,4 @@ returns c X in_q =
     let y16 : IsWire X 0x3cc33cc3c33cc33c3cc33cc3c33cc33c3cc33cc3c33cc33c3cc33cc3c33cc33c _ = xor_wire X _ _ _ _ t0 y11 in
     let y21 : IsWire X 0xff00ff0f00ff00f0ff00ff0f00ff00ff00ff00f0ff00ff0f00ff00f0ff00ff0 _ = xor_wire X _ _ _ _ y13 y16 in
     let y18 : IsWire X 0xc33cc33c3cc33cc3c33cc33c3cc33cc33cc33cc3c33cc33c3cc33cc3c33cc33c _ = xor_wire X _ _ _ _ x0 y16 in
-    (y1, (y2, (y3, (y4, (y5, (y6, (y7, (y8, (y9, (y10, (y11, (y12, (y13, (y14, (y15, (y16, (y17, (y18, (y19, (y20, (y21, (x7, refl))))))))))))))))))))))
+    (x7, (y1, (y2, (y3, (y4, (y5, (y6, (y7, (y8, (y9, (y10, (y11, (y12, (y13, (y14, (y15, (y16, (y17, (y18, (y19, (y20, (y21, refl))))))))))))))))))))))

@@ -6,10 +6,10 @@ use Rattle.aes_block.proofs.planes.substitution.inverse.Goals as goal
 
 pub returns : goal.returns
 returns c X in_t =
-    let t21 : IsWire X 0xaa0af059cc9396c6c39c99cfa505ff5396c9cc950faf55f5ff5fa50366393c6 _ = wire_at X SUMS c.args.t in_t 0 (lit< tt) in
-    let t22 : IsWire X 0xfc399555599c30f55993cf00fc366aa0033695aa596ccff5a69ccffffcc695a _ = wire_at X SUMS c.args.t in_t 1 (lit< tt) in
-    let t23 : IsWire X 0x12ded1e2e22edeed21ed1d2ed11d1221e22edeeded212e1d2ee2edde21ed1d2e _ = wire_at X SUMS c.args.t in_t 2 (lit< tt) in
-    let t24 : IsWire X 0xe472d7beb1d88214d7be1b8d7debb1d84ed882eb1b72d74182ebb12728be1b72 _ = wire_at X SUMS c.args.t in_t 3 (lit< tt) in
+    let t21 = wire_at X SUMS c.args.t in_t 0 (lit< tt) in
+    let t22 = wire_at X SUMS c.args.t in_t 1 (lit< tt) in
+    let t23 = wire_at X SUMS c.args.t in_t 2 (lit< tt) in
+    let t24 = wire_at X SUMS c.args.t in_t 3 (lit< tt) in
     let t25 : IsWire X 0x5633650c950fa6339a0f56cf593395f395ff593f56c39a0059c36afc9affa9c _ = xor_wire X _ _ _ _ t21 t22 in
     let t26 : IsWire X 0x28081008008186c2029090cd0101221202c9cc94020241d0ee0e85020611106 _ = and_wire X _ _ _ _ t21 t23 in
     let t27 : IsWire X 0xe6f256be31d09a78f7971281adfba3f96ef41e225b52f35c8c0b597708df0a74 _ = xor_wire X _ _ _ _ t24 t26 in
