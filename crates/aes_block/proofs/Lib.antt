@@ -14,3 +14,5 @@ pub mod RoundKeyPlanes
 pub mod EachBlock
 pub mod SpreadPlanes
 pub mod InverseColumns
+pub mod Cases
+pub mod ColumnSums

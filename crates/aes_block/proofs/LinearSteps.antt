@@ -1,5 +1,5 @@
 -- The linear steps, bit by bit.
-use Rattle.std.proofs.Common.{◌≡◌, ℕ, ◌+◌, ◌-◌, ◌%◌, ◌<◌, ◌≤◌, T, ltb, ltb→lt, List, [], length, map, get_or, slice_index, bit_xor, sym, ap, ◌∙◌, subst, arith}
+use Rattle.std.proofs.Common.{◌≡◌, ℕ, ◌+◌, ◌-◌, ◌%◌, ◌<◌, ◌≤◌, T, ltb, ltb→lt, List, [], ◌∷◌, refl, length, map, get_or, slice_index, bit_xor, sym, ap, ◌∙◌, subst, arith}
 use Rattle.std.specs.Int.{bit_at}
 use Rattle.std.proofs.lemmas.List.{ext_get_or, get_or-map, length-map}
 use Rattle.std.proofs.lemmas.Nat.{xor_lt}
@@ -12,6 +12,7 @@ use Rattle.aes_block.specs.BitPlanes.{AreBlocks, IsKey, byte_of, picked_at}
 use Rattle.aes_block.specs.Transposition.{IsTransposed}
 use Rattle.aes_block.specs.Wires.{AreBelow, ArePlanes}
 use Rattle.standards.proofs.Bytes.{all_below, every_below}
+use Rattle.aes_block.proofs.Cases.{below_8}
 use Rattle.aes_block.proofs.EachBlock.{map_same}
 use Rattle.aes_block.proofs.Rounds.{inv_state_step, state_step}
 
@@ -90,12 +91,20 @@ moved_bytes at sixteen t b q r h e each =
     (planes_of Z r (λ k i l m. h.planes.below (get_or at k 0) i (places at t k l) m) e
     (λ j n. picked_bit at sixteen t (get_or q j []) (get_or r j []) _ (each j n) (plane_bit (byte_of b) q h.planes j n)))
 
-pub added : (b q k r : List (List ℕ)) (key : List ℕ) → AreBlocks b q → IsKey key k → length r ≡ 8 → ((j : ℕ) → j < 8 → get_or r j [] ≡ zip2 bit_xor (get_or q j []) (get_or k j [])) → AreBlocks (map (λ v. add_round_key v key) b) r
-added b q ks r key h g e each =
+-- each plane and that of its place added
+abbrev pub plane_sums : List (List ℕ) → List (List ℕ) → List (List ℕ)
+plane_sums q k =
+    let sum = λ (j : ℕ). zip2 bit_xor (get_or q j []) (get_or k j []) in
+    sum 0 ∷ sum 1 ∷ sum 2 ∷ sum 3 ∷ sum 4 ∷ sum 5 ∷ sum 6 ∷ sum 7 ∷ []
+
+pub added : (b q k : List (List ℕ)) (key : List ℕ) → AreBlocks b q → IsKey key k → AreBlocks (map (λ v. add_round_key v key) b) (plane_sums q k)
+added b q ks key h g =
+    let r = plane_sums q ks in
+    let each = below_8 (λ j. get_or r j [] ≡ zip2 bit_xor (get_or q j []) (get_or ks j [])) refl refl refl refl refl refl refl refl in
     let Z : ℕ → ℕ → ℕ = λ k i. bit_xor (byte_of b k i) (get_or key k 0) in
     mapped b r (λ v. add_round_key v key) Z h.count h.size (λ s f. length-zip2 bit_xor s key (f ∙ sym g.size) ∙ f)
     (λ k i l m. get_or-zip2 bit_xor (get_or b i []) key k 0 0 0 (omega (arith, l, h.size i m)) (omega (arith, l, g.size)))
-    (planes_of Z r (λ k i l m. xor_lt 8 (byte_of b k i) (get_or key k 0) (h.planes.below k i l m) (g.planes.below k i l m)) e
+    (planes_of Z r (λ k i l m. xor_lt 8 (byte_of b k i) (get_or key k 0) (h.planes.below k i l m) (g.planes.below k i l m)) refl
     (λ j n. same_bit (get_or r j []) (λ k i. (bit_at (byte_of b k i) j + bit_at (get_or key k 0) j) % 2) (λ k i. bit_at (Z k i) j)
     (λ k i l m. sym (bit_at_xor (byte_of b k i) (get_or key k 0) j))
     (subst (λ v. IsBit v (λ k i. (bit_at (byte_of b k i) j + bit_at (get_or key k 0) j) % 2)) (sym (each j n))

@@ -1,186 +1,76 @@
--- MixColumns, bit by bit.
-use Rattle.std.proofs.Common.{◌≡◌, ℕ, zero, suc, ◌+◌, ◌%◌, ◌<◌, eqb, eqb→eq, ltb, ltb→lt, List, [], length, map, get_or, bit_xor, sym, ap, ◌∙◌, arith, refl}
+-- MixColumns, bit by bit: to 2 times the sum of a byte and the next of its column that next and the two behind it.
+use Rattle.std.proofs.Common.{◌≡◌, ℕ, Bool, zero, suc, ◌+◌, ◌%◌, ◌<◌, eqb, eqb→eq, List, [], ◌∷◌, map, get_or, bit_xor, sym, ap, ◌∙◌, refl}
 use Rattle.std.specs.Int.{bit_at}
-use Rattle.std.proofs.lemmas.Nat.{xor_lt}
+use Rattle.std.specs.Int.Bits.{xor_assoc}
 use Rattle.std.proofs.lemmas.Nat.Bits.{bit_at_xor}
+use lib.Lanes.{zip2}
 use Rattle.standards.specs.Aes.{mix_byte, mix_columns, times, times_terms}
-use Rattle.aes_block.specs.BitPlanes.{AT_FIRST, AT_SECOND, AreBlocks, byte_of}
-use Rattle.standards.proofs.Bytes.{every_below}
-use Rattle.aes_block.proofs.LinearSteps.{IsBit, mapped, places, planes_of}
+use Rattle.standards.proofs.AesBytes.{mix_byte_below}
+use Rattle.standards.proofs.AesUndo.{times_linear}
+use Rattle.standards.proofs.Bytes.{agree, all_below, every_below}
+use Rattle.aes_block.specs.BitPlanes.{AT_FIRST, AT_SECOND, AreBlocks, byte_of, picked_at}
+use Rattle.aes_block.proofs.Cases.{below_16, below_8}
+use Rattle.aes_block.proofs.ColumnSums.{sum_below, sum_of, taken_below, taken_of}
+use Rattle.aes_block.proofs.LinearSteps.{IsBit, mapped, picked_bit, places, planes_of, same_bit, xor_bit}
 
-plain : (a b e c d : ℕ) → (((a + b) % 2 + e) % 2 + (c + d) % 2) % 2 ≡ (((a + (b + e) % 2) % 2 + c) % 2 + d) % 2
-plain a b e c d = omega arith
+-- bit j of 2 times x
+abbrev pub two_bit : ℕ → ℕ → ℕ
+two_bit x zero = bit_at x 7
+two_bit x (suc zero) = (bit_at x 0 + bit_at x 7) % 2
+two_bit x (suc (suc zero)) = bit_at x 1
+two_bit x (suc (suc (suc zero))) = (bit_at x 2 + bit_at x 7) % 2
+two_bit x (suc (suc (suc (suc zero)))) = (bit_at x 3 + bit_at x 7) % 2
+two_bit x (suc (suc (suc (suc (suc j))))) = bit_at x (4 + j)
 
-carried : (a b p q e c d : ℕ) → ((((a + b) % 2 + (p + q) % 2) % 2 + e) % 2 + (c + d) % 2) % 2 ≡ ((((a + p) % 2 + ((b + q) % 2 + e) % 2) % 2 + c) % 2 + d) % 2
-carried a b p q e c d = omega arith
+abbrev has_two : ℕ → ℕ → Bool
+has_two x j = eqb (two_bit x j) (bit_at (times 2 x) j)
 
-mix_bits : (a b c d j : ℕ) → bit_at (mix_byte a b c d) j ≡ (((bit_at (times 2 a) j + bit_at (times 3 b) j) % 2 + bit_at c j) % 2 + bit_at d j) % 2
-mix_bits a b c d j =
-    bit_at_xor (bit_xor (bit_xor (times 2 a) (times 3 b)) c) d j
-    ∙ ap (λ n. (n + bit_at d j) % 2) (bit_at_xor (bit_xor (times 2 a) (times 3 b)) c j ∙ ap (λ n. (n + bit_at c j) % 2) (bit_at_xor (times 2 a) (times 3 b) j))
-
-twice_below : (x : ℕ) → x < 256 → times 2 x < 256
+two_are : (x j : ℕ) → x < 256 → j < 8 → two_bit x j ≡ bit_at (times 2 x) j
 unfolding times times_terms
-twice_below x h = ltb→lt _ _ (every_below (λ x. ltb (times 2 x) 256) 256 tt x h)
+two_are x j h l = eqb→eq _ _ (every_below (has_two x) 8 (every_below (λ x. all_below (has_two x) 8) 256 tt x h) j l)
 
-thrice_below : (x : ℕ) → x < 256 → times 3 x < 256
+thrice : (x : ℕ) → x < 256 → bit_xor (times 2 x) x ≡ times 3 x
 unfolding times times_terms
-thrice_below x h = ltb→lt _ _ (every_below (λ x. ltb (times 3 x) 256) 256 tt x h)
+thrice = agree (λ x. bit_xor (times 2 x) x) (times 3) tt
 
-mix_below : (a b c d : ℕ) → a < 256 → b < 256 → c < 256 → d < 256 → mix_byte a b c d < 256
-mix_below a b c d p q r s =
-    xor_lt 8 (bit_xor (bit_xor (times 2 a) (times 3 b)) c) d (xor_lt 8 (bit_xor (times 2 a) (times 3 b)) c (xor_lt 8 (times 2 a) (times 3 b) (twice_below a p) (thrice_below b q)) r) s
+by_sum : (a b c d : ℕ) → b < 256 → bit_xor (bit_xor (times 2 (bit_xor a b)) b) (bit_xor c d) ≡ mix_byte a b c d
+by_sum a b c d l =
+    ap (λ v. bit_xor (bit_xor v b) (bit_xor c d)) (times_linear 2 a b)
+    ∙ ap (λ v. bit_xor v (bit_xor c d)) (xor_assoc (times 2 a) (times 2 b) b ∙ ap (bit_xor (times 2 a)) (thrice b l))
+    ∙ sym (xor_assoc (bit_xor (times 2 a) (times 3 b)) c d)
 
-twice_0 : (x : ℕ) → x < 256 → bit_at (times 2 x) 0 ≡ bit_at x 7
-unfolding times times_terms
-twice_0 x h = eqb→eq _ _ (every_below (λ x. eqb (bit_at (times 2 x) 0) (bit_at x 7)) 256 tt x h)
+abbrev next_of : List (List ℕ) → ℕ → ℕ → ℕ
+next_of b k i = taken_of AT_FIRST b k i
 
-thrice_0 : (x : ℕ) → x < 256 → bit_at (times 3 x) 0 ≡ (bit_at x 7 + bit_at x 0) % 2
-unfolding times times_terms
-thrice_0 x h = eqb→eq _ _ (every_below (λ x. eqb (bit_at (times 3 x) 0) ((bit_at x 7 + bit_at x 0) % 2)) 256 tt x h)
+abbrev mixed_of : List (List ℕ) → ℕ → ℕ → ℕ
+mixed_of b k i = mix_byte (byte_of b k i) (next_of b k i) (byte_of b (get_or AT_SECOND k 0) i) (next_of b (get_or AT_SECOND k 0) i)
 
-pub mix_0 : (a b c d : ℕ) → a < 256 → b < 256 → (((bit_at a 7 + bit_at b 7) % 2 + bit_at b 0) % 2 + (bit_at c 0 + bit_at d 0) % 2) % 2 ≡ bit_at (mix_byte a b c d) 0
-mix_0 a b c d p q =
-    plain (bit_at a 7) (bit_at b 7) (bit_at b 0) (bit_at c 0) (bit_at d 0)
-    ∙ ap (λ n. (((n + (bit_at b 7 + bit_at b 0) % 2) % 2 + bit_at c 0) % 2 + bit_at d 0) % 2) (sym (twice_0 a p))
-    ∙ ap (λ n. (((bit_at (times 2 a) 0 + n) % 2 + bit_at c 0) % 2 + bit_at d 0) % 2) (sym (thrice_0 b q))
-    ∙ sym (mix_bits a b c d 0)
-
-twice_1 : (x : ℕ) → x < 256 → bit_at (times 2 x) 1 ≡ (bit_at x 0 + bit_at x 7) % 2
-unfolding times times_terms
-twice_1 x h = eqb→eq _ _ (every_below (λ x. eqb (bit_at (times 2 x) 1) ((bit_at x 0 + bit_at x 7) % 2)) 256 tt x h)
-
-thrice_1 : (x : ℕ) → x < 256 → bit_at (times 3 x) 1 ≡ (((bit_at x 0 + bit_at x 7) % 2) + bit_at x 1) % 2
-unfolding times times_terms
-thrice_1 x h = eqb→eq _ _ (every_below (λ x. eqb (bit_at (times 3 x) 1) ((((bit_at x 0 + bit_at x 7) % 2) + bit_at x 1) % 2)) 256 tt x h)
-
-pub mix_1 : (a b c d : ℕ) → a < 256 → b < 256 → ((((bit_at a 0 + bit_at b 0) % 2 + (bit_at a 7 + bit_at b 7) % 2) % 2 + bit_at b 1) % 2 + (bit_at c 1 + bit_at d 1) % 2) % 2 ≡ bit_at (mix_byte a b c d) 1
-mix_1 a b c d p q =
-    carried (bit_at a 0) (bit_at b 0) (bit_at a 7) (bit_at b 7) (bit_at b 1) (bit_at c 1) (bit_at d 1)
-    ∙ ap (λ n. (((n + (((bit_at b 0 + bit_at b 7) % 2) + bit_at b 1) % 2) % 2 + bit_at c 1) % 2 + bit_at d 1) % 2) (sym (twice_1 a p))
-    ∙ ap (λ n. (((bit_at (times 2 a) 1 + n) % 2 + bit_at c 1) % 2 + bit_at d 1) % 2) (sym (thrice_1 b q))
-    ∙ sym (mix_bits a b c d 1)
-
-twice_2 : (x : ℕ) → x < 256 → bit_at (times 2 x) 2 ≡ bit_at x 1
-unfolding times times_terms
-twice_2 x h = eqb→eq _ _ (every_below (λ x. eqb (bit_at (times 2 x) 2) (bit_at x 1)) 256 tt x h)
-
-thrice_2 : (x : ℕ) → x < 256 → bit_at (times 3 x) 2 ≡ (bit_at x 1 + bit_at x 2) % 2
-unfolding times times_terms
-thrice_2 x h = eqb→eq _ _ (every_below (λ x. eqb (bit_at (times 3 x) 2) ((bit_at x 1 + bit_at x 2) % 2)) 256 tt x h)
-
-pub mix_2 : (a b c d : ℕ) → a < 256 → b < 256 → (((bit_at a 1 + bit_at b 1) % 2 + bit_at b 2) % 2 + (bit_at c 2 + bit_at d 2) % 2) % 2 ≡ bit_at (mix_byte a b c d) 2
-mix_2 a b c d p q =
-    plain (bit_at a 1) (bit_at b 1) (bit_at b 2) (bit_at c 2) (bit_at d 2)
-    ∙ ap (λ n. (((n + (bit_at b 1 + bit_at b 2) % 2) % 2 + bit_at c 2) % 2 + bit_at d 2) % 2) (sym (twice_2 a p))
-    ∙ ap (λ n. (((bit_at (times 2 a) 2 + n) % 2 + bit_at c 2) % 2 + bit_at d 2) % 2) (sym (thrice_2 b q))
-    ∙ sym (mix_bits a b c d 2)
-
-twice_3 : (x : ℕ) → x < 256 → bit_at (times 2 x) 3 ≡ (bit_at x 2 + bit_at x 7) % 2
-unfolding times times_terms
-twice_3 x h = eqb→eq _ _ (every_below (λ x. eqb (bit_at (times 2 x) 3) ((bit_at x 2 + bit_at x 7) % 2)) 256 tt x h)
-
-thrice_3 : (x : ℕ) → x < 256 → bit_at (times 3 x) 3 ≡ (((bit_at x 2 + bit_at x 7) % 2) + bit_at x 3) % 2
-unfolding times times_terms
-thrice_3 x h = eqb→eq _ _ (every_below (λ x. eqb (bit_at (times 3 x) 3) ((((bit_at x 2 + bit_at x 7) % 2) + bit_at x 3) % 2)) 256 tt x h)
-
-pub mix_3 : (a b c d : ℕ) → a < 256 → b < 256 → ((((bit_at a 2 + bit_at b 2) % 2 + (bit_at a 7 + bit_at b 7) % 2) % 2 + bit_at b 3) % 2 + (bit_at c 3 + bit_at d 3) % 2) % 2 ≡ bit_at (mix_byte a b c d) 3
-mix_3 a b c d p q =
-    carried (bit_at a 2) (bit_at b 2) (bit_at a 7) (bit_at b 7) (bit_at b 3) (bit_at c 3) (bit_at d 3)
-    ∙ ap (λ n. (((n + (((bit_at b 2 + bit_at b 7) % 2) + bit_at b 3) % 2) % 2 + bit_at c 3) % 2 + bit_at d 3) % 2) (sym (twice_3 a p))
-    ∙ ap (λ n. (((bit_at (times 2 a) 3 + n) % 2 + bit_at c 3) % 2 + bit_at d 3) % 2) (sym (thrice_3 b q))
-    ∙ sym (mix_bits a b c d 3)
-
-twice_4 : (x : ℕ) → x < 256 → bit_at (times 2 x) 4 ≡ (bit_at x 3 + bit_at x 7) % 2
-unfolding times times_terms
-twice_4 x h = eqb→eq _ _ (every_below (λ x. eqb (bit_at (times 2 x) 4) ((bit_at x 3 + bit_at x 7) % 2)) 256 tt x h)
-
-thrice_4 : (x : ℕ) → x < 256 → bit_at (times 3 x) 4 ≡ (((bit_at x 3 + bit_at x 7) % 2) + bit_at x 4) % 2
-unfolding times times_terms
-thrice_4 x h = eqb→eq _ _ (every_below (λ x. eqb (bit_at (times 3 x) 4) ((((bit_at x 3 + bit_at x 7) % 2) + bit_at x 4) % 2)) 256 tt x h)
-
-pub mix_4 : (a b c d : ℕ) → a < 256 → b < 256 → ((((bit_at a 3 + bit_at b 3) % 2 + (bit_at a 7 + bit_at b 7) % 2) % 2 + bit_at b 4) % 2 + (bit_at c 4 + bit_at d 4) % 2) % 2 ≡ bit_at (mix_byte a b c d) 4
-mix_4 a b c d p q =
-    carried (bit_at a 3) (bit_at b 3) (bit_at a 7) (bit_at b 7) (bit_at b 4) (bit_at c 4) (bit_at d 4)
-    ∙ ap (λ n. (((n + (((bit_at b 3 + bit_at b 7) % 2) + bit_at b 4) % 2) % 2 + bit_at c 4) % 2 + bit_at d 4) % 2) (sym (twice_4 a p))
-    ∙ ap (λ n. (((bit_at (times 2 a) 4 + n) % 2 + bit_at c 4) % 2 + bit_at d 4) % 2) (sym (thrice_4 b q))
-    ∙ sym (mix_bits a b c d 4)
-
-twice_5 : (x : ℕ) → x < 256 → bit_at (times 2 x) 5 ≡ bit_at x 4
-unfolding times times_terms
-twice_5 x h = eqb→eq _ _ (every_below (λ x. eqb (bit_at (times 2 x) 5) (bit_at x 4)) 256 tt x h)
-
-thrice_5 : (x : ℕ) → x < 256 → bit_at (times 3 x) 5 ≡ (bit_at x 4 + bit_at x 5) % 2
-unfolding times times_terms
-thrice_5 x h = eqb→eq _ _ (every_below (λ x. eqb (bit_at (times 3 x) 5) ((bit_at x 4 + bit_at x 5) % 2)) 256 tt x h)
-
-pub mix_5 : (a b c d : ℕ) → a < 256 → b < 256 → (((bit_at a 4 + bit_at b 4) % 2 + bit_at b 5) % 2 + (bit_at c 5 + bit_at d 5) % 2) % 2 ≡ bit_at (mix_byte a b c d) 5
-mix_5 a b c d p q =
-    plain (bit_at a 4) (bit_at b 4) (bit_at b 5) (bit_at c 5) (bit_at d 5)
-    ∙ ap (λ n. (((n + (bit_at b 4 + bit_at b 5) % 2) % 2 + bit_at c 5) % 2 + bit_at d 5) % 2) (sym (twice_5 a p))
-    ∙ ap (λ n. (((bit_at (times 2 a) 5 + n) % 2 + bit_at c 5) % 2 + bit_at d 5) % 2) (sym (thrice_5 b q))
-    ∙ sym (mix_bits a b c d 5)
-
-twice_6 : (x : ℕ) → x < 256 → bit_at (times 2 x) 6 ≡ bit_at x 5
-unfolding times times_terms
-twice_6 x h = eqb→eq _ _ (every_below (λ x. eqb (bit_at (times 2 x) 6) (bit_at x 5)) 256 tt x h)
-
-thrice_6 : (x : ℕ) → x < 256 → bit_at (times 3 x) 6 ≡ (bit_at x 5 + bit_at x 6) % 2
-unfolding times times_terms
-thrice_6 x h = eqb→eq _ _ (every_below (λ x. eqb (bit_at (times 3 x) 6) ((bit_at x 5 + bit_at x 6) % 2)) 256 tt x h)
-
-pub mix_6 : (a b c d : ℕ) → a < 256 → b < 256 → (((bit_at a 5 + bit_at b 5) % 2 + bit_at b 6) % 2 + (bit_at c 6 + bit_at d 6) % 2) % 2 ≡ bit_at (mix_byte a b c d) 6
-mix_6 a b c d p q =
-    plain (bit_at a 5) (bit_at b 5) (bit_at b 6) (bit_at c 6) (bit_at d 6)
-    ∙ ap (λ n. (((n + (bit_at b 5 + bit_at b 6) % 2) % 2 + bit_at c 6) % 2 + bit_at d 6) % 2) (sym (twice_6 a p))
-    ∙ ap (λ n. (((bit_at (times 2 a) 6 + n) % 2 + bit_at c 6) % 2 + bit_at d 6) % 2) (sym (thrice_6 b q))
-    ∙ sym (mix_bits a b c d 6)
-
-twice_7 : (x : ℕ) → x < 256 → bit_at (times 2 x) 7 ≡ bit_at x 6
-unfolding times times_terms
-twice_7 x h = eqb→eq _ _ (every_below (λ x. eqb (bit_at (times 2 x) 7) (bit_at x 6)) 256 tt x h)
-
-thrice_7 : (x : ℕ) → x < 256 → bit_at (times 3 x) 7 ≡ (bit_at x 6 + bit_at x 7) % 2
-unfolding times times_terms
-thrice_7 x h = eqb→eq _ _ (every_below (λ x. eqb (bit_at (times 3 x) 7) ((bit_at x 6 + bit_at x 7) % 2)) 256 tt x h)
-
-pub mix_7 : (a b c d : ℕ) → a < 256 → b < 256 → (((bit_at a 6 + bit_at b 6) % 2 + bit_at b 7) % 2 + (bit_at c 7 + bit_at d 7) % 2) % 2 ≡ bit_at (mix_byte a b c d) 7
-mix_7 a b c d p q =
-    plain (bit_at a 6) (bit_at b 6) (bit_at b 7) (bit_at c 7) (bit_at d 7)
-    ∙ ap (λ n. (((n + (bit_at b 6 + bit_at b 7) % 2) % 2 + bit_at c 7) % 2 + bit_at d 7) % 2) (sym (twice_7 a p))
-    ∙ ap (λ n. (((bit_at (times 2 a) 7 + n) % 2 + bit_at c 7) % 2 + bit_at d 7) % 2) (sym (thrice_7 b q))
-    ∙ sym (mix_bits a b c d 7)
-
-abbrev pub mixed_of : List (List ℕ) → ℕ → ℕ → ℕ
-mixed_of b k i =
-    mix_byte (byte_of b k i) (byte_of b (get_or AT_FIRST k 0) i) (byte_of b (get_or AT_SECOND k 0) i) (byte_of b (get_or AT_FIRST (get_or AT_SECOND k 0) 0) i)
-
-pub below_16 : (P : ℕ → Type 0) → P 0 → P 1 → P 2 → P 3 → P 4 → P 5 → P 6 → P 7 → P 8 → P 9 → P 10 → P 11 → P 12 → P 13 → P 14 → P 15 → (n : ℕ) → n < 16 → P n
-below_16 P p0 p1 p2 p3 p4 p5 p6 p7 p8 p9 p10 p11 p12 p13 p14 p15 zero l = p0
-below_16 P p0 p1 p2 p3 p4 p5 p6 p7 p8 p9 p10 p11 p12 p13 p14 p15 (suc zero) l = p1
-below_16 P p0 p1 p2 p3 p4 p5 p6 p7 p8 p9 p10 p11 p12 p13 p14 p15 (suc (suc zero)) l = p2
-below_16 P p0 p1 p2 p3 p4 p5 p6 p7 p8 p9 p10 p11 p12 p13 p14 p15 (suc (suc (suc zero))) l = p3
-below_16 P p0 p1 p2 p3 p4 p5 p6 p7 p8 p9 p10 p11 p12 p13 p14 p15 (suc (suc (suc (suc zero)))) l = p4
-below_16 P p0 p1 p2 p3 p4 p5 p6 p7 p8 p9 p10 p11 p12 p13 p14 p15 (suc (suc (suc (suc (suc zero))))) l = p5
-below_16 P p0 p1 p2 p3 p4 p5 p6 p7 p8 p9 p10 p11 p12 p13 p14 p15 (suc (suc (suc (suc (suc (suc zero)))))) l = p6
-below_16 P p0 p1 p2 p3 p4 p5 p6 p7 p8 p9 p10 p11 p12 p13 p14 p15 (suc (suc (suc (suc (suc (suc (suc zero))))))) l = p7
-below_16 P p0 p1 p2 p3 p4 p5 p6 p7 p8 p9 p10 p11 p12 p13 p14 p15 (suc (suc (suc (suc (suc (suc (suc (suc zero)))))))) l = p8
-below_16 P p0 p1 p2 p3 p4 p5 p6 p7 p8 p9 p10 p11 p12 p13 p14 p15 (suc (suc (suc (suc (suc (suc (suc (suc (suc zero))))))))) l = p9
-below_16 P p0 p1 p2 p3 p4 p5 p6 p7 p8 p9 p10 p11 p12 p13 p14 p15 (suc (suc (suc (suc (suc (suc (suc (suc (suc (suc zero)))))))))) l = p10
-below_16 P p0 p1 p2 p3 p4 p5 p6 p7 p8 p9 p10 p11 p12 p13 p14 p15 (suc (suc (suc (suc (suc (suc (suc (suc (suc (suc (suc zero))))))))))) l = p11
-below_16 P p0 p1 p2 p3 p4 p5 p6 p7 p8 p9 p10 p11 p12 p13 p14 p15 (suc (suc (suc (suc (suc (suc (suc (suc (suc (suc (suc (suc zero)))))))))))) l = p12
-below_16 P p0 p1 p2 p3 p4 p5 p6 p7 p8 p9 p10 p11 p12 p13 p14 p15 (suc (suc (suc (suc (suc (suc (suc (suc (suc (suc (suc (suc (suc zero))))))))))))) l = p13
-below_16 P p0 p1 p2 p3 p4 p5 p6 p7 p8 p9 p10 p11 p12 p13 p14 p15 (suc (suc (suc (suc (suc (suc (suc (suc (suc (suc (suc (suc (suc (suc zero)))))))))))))) l = p14
-below_16 P p0 p1 p2 p3 p4 p5 p6 p7 p8 p9 p10 p11 p12 p13 p14 p15 (suc (suc (suc (suc (suc (suc (suc (suc (suc (suc (suc (suc (suc (suc (suc zero))))))))))))))) l = p15
-below_16 P p0 p1 p2 p3 p4 p5 p6 p7 p8 p9 p10 p11 p12 p13 p14 p15 (suc (suc (suc (suc (suc (suc (suc (suc (suc (suc (suc (suc (suc (suc (suc (suc n)))))))))))))))) l = absurd (omega arith)
+-- plane j, of that of twice the sums, of the next bytes and of the sums two further
+pub mixed_bit : (b q : List (List ℕ)) (j : ℕ) (w r d s : List ℕ) → AreBlocks b q → j < 8 → IsBit w (λ k i. two_bit (sum_of AT_FIRST b k i) j)
+    → IsBit r (λ k i. bit_at (next_of b k i) j) → IsBit d (λ k i. bit_at (sum_of AT_FIRST b k i) j) → s ≡ picked_at d AT_SECOND
+    → IsBit (zip2 bit_xor (zip2 bit_xor w r) s) (λ k i. bit_at (mixed_of b k i) j)
+mixed_bit b q j w r d s h l twice next sums is =
+    let far = picked_bit AT_SECOND refl tt d s _ is sums in
+    same_bit _ _ _ (λ k i n m.
+    let sum = sum_of AT_FIRST b k i in
+    let far_sum = sum_of AT_FIRST b (get_or AT_SECOND k 0) i in
+    ap (λ z. ((z + bit_at (next_of b k i) j) % 2 + bit_at far_sum j) % 2) (two_are sum j (sum_below AT_FIRST refl tt b q h k i n m) l)
+    ∙ ap (λ z. (z + bit_at far_sum j) % 2) (sym (bit_at_xor (times 2 sum) (next_of b k i) j))
+    ∙ sym (bit_at_xor (bit_xor (times 2 sum) (next_of b k i)) far_sum j)
+    ∙ ap (λ z. bit_at z j) (by_sum (byte_of b k i) (next_of b k i) (byte_of b (get_or AT_SECOND k 0) i) (next_of b (get_or AT_SECOND k 0) i) (taken_below AT_FIRST refl tt b q h k i n m)))
+    (xor_bit _ _ _ _ (xor_bit _ _ _ _ twice next) far)
 
 column : (s : List ℕ) (k : ℕ) → k < 16 → get_or (mix_columns s) k 0 ≡ mix_byte (get_or s k 0) (get_or s (get_or AT_FIRST k 0) 0) (get_or s (get_or AT_SECOND k 0) 0) (get_or s (get_or AT_FIRST (get_or AT_SECOND k 0) 0) 0)
 column s = below_16 (λ k. get_or (mix_columns s) k 0 ≡ mix_byte (get_or s k 0) (get_or s (get_or AT_FIRST k 0) 0) (get_or s (get_or AT_SECOND k 0) 0) (get_or s (get_or AT_FIRST (get_or AT_SECOND k 0) 0) 0)) refl refl refl refl refl refl refl refl refl refl refl refl refl refl refl refl
 
-pub mixed : (b q r : List (List ℕ)) → AreBlocks b q → length r ≡ 8 → ((j : ℕ) → j < 8 → IsBit (get_or r j []) (λ k i. bit_at (mixed_of b k i) j)) → AreBlocks (map mix_columns b) r
-mixed b q r h e each =
-    let low = h.planes.below in
-    let f = places AT_FIRST tt in
-    let s = places AT_SECOND tt in
+pub mixed_blocks : (b q : List (List ℕ)) (r0 r1 r2 r3 r4 r5 r6 r7 : List ℕ) → AreBlocks b q
+    → IsBit r0 (λ k i. bit_at (mixed_of b k i) 0) → IsBit r1 (λ k i. bit_at (mixed_of b k i) 1) → IsBit r2 (λ k i. bit_at (mixed_of b k i) 2) → IsBit r3 (λ k i. bit_at (mixed_of b k i) 3)
+    → IsBit r4 (λ k i. bit_at (mixed_of b k i) 4) → IsBit r5 (λ k i. bit_at (mixed_of b k i) 5) → IsBit r6 (λ k i. bit_at (mixed_of b k i) 6) → IsBit r7 (λ k i. bit_at (mixed_of b k i) 7)
+    → AreBlocks (map mix_columns b) (r0 ∷ r1 ∷ r2 ∷ r3 ∷ r4 ∷ r5 ∷ r6 ∷ r7 ∷ [])
+mixed_blocks b q r0 r1 r2 r3 r4 r5 r6 r7 h a0 a1 a2 a3 a4 a5 a6 a7 =
+    let r = r0 ∷ r1 ∷ r2 ∷ r3 ∷ r4 ∷ r5 ∷ r6 ∷ r7 ∷ [] in
+    let next = taken_below AT_FIRST refl tt b q h in
+    let far = places AT_SECOND tt in
     mapped b r mix_columns (mixed_of b) h.count h.size (λ s e. refl) (λ k i l m. column (get_or b i []) k l)
-    (planes_of (mixed_of b) r (λ k i l m. mix_below _ _ _ _ (low k i l m) (low _ i (f k l) m) (low _ i (s k l) m) (low _ i (f _ (s k l)) m)) e each)
+    (planes_of (mixed_of b) r (λ k i l m. mix_byte_below _ _ _ _ (h.planes.below k i l m) (next k i l m) (h.planes.below _ i (far k l) m) (next _ i (far k l) m)) refl
+    (below_8 (λ j. IsBit (get_or r j []) (λ k i. bit_at (mixed_of b k i) j)) a0 a1 a2 a3 a4 a5 a6 a7))

@@ -6,10 +6,11 @@ use Rattle.std.proofs.lemmas.Nat.Bits.{bit_at_xor}
 use lib.Lanes.{zip2}
 use Rattle.standards.specs.Aes.{times, times_terms}
 use Rattle.standards.proofs.Bytes.{all_below, every_below}
-use Rattle.aes_block.specs.BitPlanes.{AT_SECOND, AreBlocks, byte_of, picked_at, spread, spread_byte}
-use Rattle.aes_block.proofs.Exchanges.{below_8}
-use Rattle.aes_block.proofs.LinearSteps.{IsBit, mapped, picked_bit, places, plane_bit, planes_of, same_bit, xor_bit}
-use Rattle.aes_block.proofs.MixedPlanes.{below_16}
+use Rattle.aes_block.specs.BitPlanes.{AT_SECOND, AreBlocks, byte_of, spread, spread_byte}
+use Rattle.aes_block.proofs.Cases.{below_8}
+use Rattle.aes_block.proofs.ColumnSums.{sum_below, sum_of, taken_of}
+use Rattle.aes_block.proofs.LinearSteps.{IsBit, mapped, plane_bit, planes_of, same_bit, xor_bit}
+use Rattle.aes_block.proofs.Cases.{below_16}
 
 -- bit j of 4 times x
 abbrev pub four_bit : ℕ → ℕ → ℕ
@@ -33,38 +34,16 @@ four_below : (x : ℕ) → x < 256 → times 4 x < 256
 unfolding times times_terms
 four_below x h = ltb→lt _ _ (every_below (λ x. ltb (times 4 x) 256) 256 tt x h)
 
--- the byte two further in its column
-abbrev far_of : List (List ℕ) → ℕ → ℕ → ℕ
-far_of b k i = byte_of b (get_or AT_SECOND k 0) i
-
-abbrev sum_of : List (List ℕ) → ℕ → ℕ → ℕ
-sum_of b k i = bit_xor (byte_of b k i) (far_of b k i)
-
 abbrev spread_of : List (List ℕ) → ℕ → ℕ → ℕ
-spread_of b k i = spread_byte (byte_of b k i) (far_of b k i)
+spread_of b k i = spread_byte (byte_of b k i) (taken_of AT_SECOND b k i)
 
-far_below : (b q : List (List ℕ)) → AreBlocks b q → (k i : ℕ) → k < 16 → i < 8 → far_of b k i < 256
-far_below b q h k i l m = h.planes.below (get_or AT_SECOND k 0) i (places AT_SECOND tt k l) m
-
-sum_below : (b q : List (List ℕ)) → AreBlocks b q → (k i : ℕ) → k < 16 → i < 8 → sum_of b k i < 256
-sum_below b q h k i l m = xor_lt 8 (byte_of b k i) (far_of b k i) (h.planes.below k i l m) (far_below b q h k i l m)
-
--- plane j of the sums
-pub sum_bit : (b q : List (List ℕ)) (j : ℕ) (r : List ℕ) → AreBlocks b q → j < 8 → r ≡ picked_at (get_or q j []) AT_SECOND
-    → IsBit (zip2 bit_xor (get_or q j []) r) (λ k i. bit_at (sum_of b k i) j)
-sum_bit b q j r h l is =
-    let near = plane_bit (byte_of b) q h.planes j l in
-    let far = picked_bit AT_SECOND refl tt (get_or q j []) r _ is near in
-    same_bit _ _ _ (λ k i l m. sym (bit_at_xor (byte_of b k i) (far_of b k i) j)) (xor_bit (get_or q j []) r _ _ near far)
-
--- plane j of what is made of them
-pub spread_bit : (b q : List (List ℕ)) (j : ℕ) (w : List ℕ) → AreBlocks b q → j < 8 → IsBit w (λ k i. four_bit (sum_of b k i) j)
+-- plane j of what is made of the sums
+pub spread_bit : (b q : List (List ℕ)) (j : ℕ) (w : List ℕ) → AreBlocks b q → j < 8 → IsBit w (λ k i. four_bit (sum_of AT_SECOND b k i) j)
     → IsBit (zip2 bit_xor (get_or q j []) w) (λ k i. bit_at (spread_of b k i) j)
 spread_bit b q j w h l is =
-    let near = plane_bit (byte_of b) q h.planes j l in
     same_bit _ _ _ (λ k i n m.
-    ap (λ z. (bit_at (byte_of b k i) j + z) % 2) (four_are (sum_of b k i) j (sum_below b q h k i n m) l)
-    ∙ sym (bit_at_xor (byte_of b k i) (times 4 (sum_of b k i)) j)) (xor_bit (get_or q j []) w _ _ near is)
+    ap (λ z. (bit_at (byte_of b k i) j + z) % 2) (four_are (sum_of AT_SECOND b k i) j (sum_below AT_SECOND refl tt b q h k i n m) l)
+    ∙ sym (bit_at_xor (byte_of b k i) (times 4 (sum_of AT_SECOND b k i)) j)) (xor_bit (get_or q j []) w _ _ (plane_bit (byte_of b) q h.planes j l) is)
 
 column : (s : List ℕ) (k : ℕ) → k < 16 → get_or (spread s) k 0 ≡ spread_byte (get_or s k 0) (get_or s (get_or AT_SECOND k 0) 0)
 column s = below_16 (λ k. get_or (spread s) k 0 ≡ spread_byte (get_or s k 0) (get_or s (get_or AT_SECOND k 0) 0)) refl refl refl refl refl refl refl refl refl refl refl refl refl refl refl refl
@@ -76,5 +55,5 @@ pub spread_blocks : (b q : List (List ℕ)) (r0 r1 r2 r3 r4 r5 r6 r7 : List ℕ)
 spread_blocks b q r0 r1 r2 r3 r4 r5 r6 r7 h a0 a1 a2 a3 a4 a5 a6 a7 =
     let r = r0 ∷ r1 ∷ r2 ∷ r3 ∷ r4 ∷ r5 ∷ r6 ∷ r7 ∷ [] in
     mapped b r spread (spread_of b) h.count h.size (λ s e. refl) (λ k i l m. column (get_or b i []) k l)
-    (planes_of (spread_of b) r (λ k i l m. xor_lt 8 (byte_of b k i) (times 4 (sum_of b k i)) (h.planes.below k i l m) (four_below (sum_of b k i) (sum_below b q h k i l m))) refl
+    (planes_of (spread_of b) r (λ k i l m. xor_lt 8 (byte_of b k i) (times 4 (sum_of AT_SECOND b k i)) (h.planes.below k i l m) (four_below (sum_of AT_SECOND b k i) (sum_below AT_SECOND refl tt b q h k i l m))) refl
     (below_8 (λ j. IsBit (get_or r j []) (λ k i. bit_at (spread_of b k i) j)) a0 a1 a2 a3 a4 a5 a6 a7))

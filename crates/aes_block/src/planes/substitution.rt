@@ -161,18 +161,14 @@ fn bits(z: [u8x16; 18]) -> Planes
     let t65 = t61 ^ t62;
     let t66 = z[1] ^ t63;
     let s0 = t59 ^ t63;
-    let n62 = t62 ^ ones;
-    let s6 = t56 ^ n62;
-    let n60 = t60 ^ ones;
-    let s7 = t48 ^ n60;
+    let s6 = t56 ^ (t62 ^ ones);
+    let s7 = t48 ^ (t60 ^ ones);
     let t67 = t64 ^ t65;
     let s3 = t53 ^ t66;
     let s4 = t51 ^ t66;
     let s5 = t47 ^ t65;
-    let n3 = s3 ^ ones;
-    let s1 = t64 ^ n3;
-    let n67 = t67 ^ ones;
-    let s2 = t55 ^ n67;
+    let s1 = t64 ^ (s3 ^ ones);
+    let s2 = t55 ^ (t67 ^ ones);
     [s7, s6, s5, s4, s3, s2, s1, s0]
 }
 

@@ -1,7 +1,7 @@
 use Rattle.std.proofs.Common.{◌≡◌, List, ℕ, [], ◌∷◌, get_or, refl}
 use Rattle.aes_block.specs.BitPlanes.{AT_SHIFT, picked_at}
 use Rattle.aes_block.proofs.LinearSteps.{moved_bytes}
-use Rattle.aes_block.proofs.Exchanges.{below_8}
+use Rattle.aes_block.proofs.Cases.{below_8}
 use Rattle.aes_block.proofs.planes.rounds.shift_planes.Goals as goal
 
 pub returns : goal.returns

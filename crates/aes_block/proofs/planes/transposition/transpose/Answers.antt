@@ -1,7 +1,7 @@
 use Rattle.std.proofs.Common.{◌≡◌, ◌<◌, ℕ, List, [], ◌∷◌, get_or, lit<, refl, ◌∙◌}
 use Rattle.std.specs.Int.{bit_at}
 use Rattle.aes_block.specs.Transposition.{IsVector}
-use Rattle.aes_block.proofs.Exchanges.{below_8}
+use Rattle.aes_block.proofs.Cases.{below_8}
 use Rattle.aes_block.proofs.planes.transposition.transpose.Goals as goal
 
 pub returns : goal.returns
