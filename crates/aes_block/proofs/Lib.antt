@@ -4,3 +4,15 @@ pub mod Rounds
 pub mod KeyWords
 pub mod RoundKeys
 pub mod KeyedBlocks
+pub mod Gates
+pub mod TableBits
+pub mod PlaneWires
+pub mod Exchanges
+pub mod LinearSteps
+pub mod MixedPlanes
+pub mod RoundKeyPlanes
+pub mod EachBlock
+pub mod SpreadPlanes
+pub mod InverseColumns
+pub mod Cases
+pub mod ColumnSums

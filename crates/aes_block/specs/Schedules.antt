@@ -1,6 +1,8 @@
 -- Round keys as they are held.
 use Rattle.std.specs.Prelude.{◌≡◌, ◌⊎◌, ◌+◌, ◌-◌, ◌*◌, ℕ, List, [], ◌++◌, length, take, get_or}
 use Rattle.standards.specs.AesKeys.{keys_of}
+use Rattle.aes_block.specs.declared.planes.KeyPlanes.{KeyPlanes}
+use Rattle.aes_block.specs.BitPlanes.{AreKeys}
 
 -- the key, which stands in the first two round keys: four bytes for each round beyond the sixth
 abbrev pub key_of : List (List ℕ) → ℕ → List ℕ
@@ -11,3 +13,8 @@ pub record IsSchedule (round_keys : List (List ℕ)) (rounds : ℕ) : Type 0 whe
   pub size : length (key_of round_keys rounds) ≡ 4 * (rounds - 6)
   pub count : (rounds ≡ 10) ⊎ (rounds ≡ 12) ⊎ (rounds ≡ 14)
   pub keys : take (rounds + 1) round_keys ≡ keys_of (key_of round_keys rounds)
+
+-- and their planes
+pub record IsHeld (round_keys : List (List ℕ)) (planes : List KeyPlanes) (rounds : ℕ) : Type 0 where
+  pub schedule : IsSchedule round_keys rounds
+  pub of_keys : AreKeys rounds round_keys planes

@@ -8,14 +8,14 @@ ghost use Rattle.aes_block.specs.Lengths.{length-decrypted, length-encrypted};
 use crate::schedule::Schedule;
 use cipher::{
     AlgorithmName, BlockCipherDecBackend, BlockCipherDecClosure, BlockCipherDecrypt,
-    BlockCipherEncBackend, BlockCipherEncClosure, BlockCipherEncrypt, InOut, KeyInit,
+    BlockCipherEncBackend, BlockCipherEncClosure, BlockCipherEncrypt, InOut, InOutBuf, KeyInit,
 };
 use std::alloc::AllocError;
 use std::fmt;
 use std::marker::Model;
 
-/// AES under a key of 24 bytes, which contracts see as the key (FIPS 197, 5). It is its own backend, of one block at
-/// a time.
+/// AES under a key of 24 bytes, which contracts see as the key (FIPS 197, 5). It is its own backend: eight blocks
+/// together go by bit planes, fewer than eight as the first of eight, and one alone by tables.
 #[derive(Drop)]
 pub struct Aes192 {
     schedule: Schedule,
@@ -46,14 +46,24 @@ impl KeyInit<24> for Aes192 {
 impl BlockCipherEncBackend<16> for Aes192 {
     ghost encrypts = { encrypted 24 };
 
-    ghost lanes = { λ _. 1 };
+    ghost lanes = { λ _. 8 };
 
     fn width(&self) -> usize {
-        1
+        8
     }
 
     fn encrypt_block(&self, block: &mut InOut<'_, '_, [u8; 16]>) {
         self.schedule.encrypt(&mut *block.output, block.input);
+    }
+
+    fn encrypt_par_blocks(&self, blocks: &mut InOutBuf<'_, '_, [u8; 16]>) {
+        self.schedule
+            .encrypt_eight(&mut *blocks.output, blocks.input);
+    }
+
+    fn encrypt_tail_blocks(&self, blocks: &mut InOutBuf<'_, '_, [u8; 16]>) {
+        self.schedule
+            .encrypt_some(&mut *blocks.output, blocks.input);
     }
 
     ghost block_size = { (lit≤ tt, lit< tt) };
@@ -74,14 +84,24 @@ impl BlockCipherEncrypt<16> for Aes192 {
 impl BlockCipherDecBackend<16> for Aes192 {
     ghost decrypts = { decrypted 24 };
 
-    ghost lanes = { λ _. 1 };
+    ghost lanes = { λ _. 8 };
 
     fn width(&self) -> usize {
-        1
+        8
     }
 
     fn decrypt_block(&self, block: &mut InOut<'_, '_, [u8; 16]>) {
         self.schedule.decrypt(&mut *block.output, block.input);
+    }
+
+    fn decrypt_par_blocks(&self, blocks: &mut InOutBuf<'_, '_, [u8; 16]>) {
+        self.schedule
+            .decrypt_eight(&mut *blocks.output, blocks.input);
+    }
+
+    fn decrypt_tail_blocks(&self, blocks: &mut InOutBuf<'_, '_, [u8; 16]>) {
+        self.schedule
+            .decrypt_some(&mut *blocks.output, blocks.input);
     }
 
     ghost block_size = { (lit≤ tt, lit< tt) };

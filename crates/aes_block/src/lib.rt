@@ -1,4 +1,5 @@
-//! AES (FIPS 197): the block ciphers with keys of 16, 24 and 32 bytes, by tables of bytes.
+//! AES (FIPS 197): the block ciphers with keys of 16, 24 and 32 bytes, of eight blocks together by bit planes, and of one
+//! block and a key by tables of bytes.
 #![tactic(auto)]
 
 ghost use Rattle.std.specs.Prelude.{◌≡◌, ◌≤◌, ◌<◌, ℕ, List, length};
@@ -12,6 +13,7 @@ mod aes256;
 mod decryption;
 mod encryption;
 mod key_expansion;
+mod planes;
 mod schedule;
 mod tables;
 

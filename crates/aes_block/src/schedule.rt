@@ -1,4 +1,5 @@
-ghost use Rattle.std.specs.Prelude.{◌≡◌, ◌⊎◌, ◌+◌, ◌-◌, ◌*◌, ◌/◌, ◌<◌, ◌≤◌, ⊤, length, slice_index_or};
+ghost use Rattle.std.specs.Prelude.{◌≡◌, ◌⊎◌, ◌+◌, ◌-◌, ◌*◌, ◌/◌, ◌<◌, ◌≤◌, ⊤, length, map, slice_index_or};
+ghost use Rattle.cipher.specs.Buffers.{pick};
 ghost use Rattle.standards.specs.AesKeys.{aes};
 ghost use Rattle.standards.specs.AesInverse.{aes_inverse};
 ghost use Rattle.aes_block.specs.Ciphers.{IsKeySize};
@@ -6,25 +7,27 @@ ghost use Rattle.aes_block.specs.Ciphers.{IsKeySize};
 use crate::decryption::decipher;
 use crate::encryption::encipher;
 use crate::key_expansion::{expand, round_keys};
+use crate::planes::{KeyPlanes, decipher_blocks, encipher_blocks, round_key_planes};
 use std::alloc::AllocError;
 use std::marker::Model;
 
-// The round keys of a key of 16, 24 or 32 bytes, which contracts see as the key.
+// The round keys of a key of 16, 24 or 32 bytes and their planes, which contracts see as the key.
 #[derive(Drop)]
 pub(crate) struct Schedule {
     round_keys: [[u8; 16]; 15],
+    planes: [KeyPlanes; 15],
     rounds: usize,
 }
 
 impl Model for Schedule {
     ghost use Rattle.std.specs.Prelude.{List, ℕ};
-    ghost use Rattle.aes_block.specs.Schedules.{IsSchedule, key_of};
+    ghost use Rattle.aes_block.specs.Schedules.{IsHeld, key_of};
 
     ghost Value = { List ℕ };
 
     ghost view = { λ s. key_of s.round_keys s.rounds };
 
-    ghost invariant = { λ s. IsSchedule s.round_keys s.rounds };
+    ghost invariant = { λ s. IsHeld s.round_keys s.planes s.rounds };
 }
 
 impl Schedule {
@@ -36,7 +39,12 @@ impl Schedule {
         let rounds = n + 6;
         let words = expand(n, key);
         let round_keys = round_keys(&words, rounds);
-        Schedule { round_keys, rounds }
+        let planes = round_key_planes(&round_keys, rounds);
+        Schedule {
+            round_keys,
+            planes,
+            rounds,
+        }
     }
 
     // Encrypts what is read, or, where nothing is read, what stands in the output.
@@ -46,11 +54,53 @@ impl Schedule {
         *output = encipher(&self.round_keys, self.rounds, read(output, input));
     }
 
+    // Encrypts the eight blocks that are read, or, where as many are not read, those that stand in the output.
+    pub(crate) fn encrypt_eight(&self, output: &mut [[u8; 16]], input: &[[u8; 16]])
+        requires { length output.old ≡ 8 }
+        ensures { output.new ≡ map (aes self.now) (pick input.now output.old) }
+    {
+        let enciphered = encipher_blocks(&self.planes, self.rounds, read_all(output, input));
+        output.copy_from_slice(&enciphered);
+    }
+
+    // Encrypts at most eight blocks as above, by one call: they are the first of eight.
+    pub(crate) fn encrypt_some(&self, output: &mut [[u8; 16]], input: &[[u8; 16]])
+        requires { length output.old ≤ 8 }
+        ensures { output.new ≡ map (aes self.now) (pick input.now output.old) }
+    {
+        let n = output.len();
+        let mut blocks = [[0; 16]; 8];
+        blocks[..n].copy_from_slice(read_all(output, input));
+        let enciphered = encipher_blocks(&self.planes, self.rounds, &blocks);
+        output.copy_from_slice(&enciphered[..n]);
+    }
+
     // Decrypts what is read, or, where nothing is read, what stands in the output.
     pub(crate) fn decrypt(&self, output: &mut [u8; 16], input: &[[u8; 16]])
         ensures { output.new ≡ aes_inverse self.now (slice_index_or input.now 0 output.old) }
     {
         *output = decipher(&self.round_keys, self.rounds, read(output, input));
+    }
+
+    // Decrypts the eight blocks that are read, or, where as many are not read, those that stand in the output.
+    pub(crate) fn decrypt_eight(&self, output: &mut [[u8; 16]], input: &[[u8; 16]])
+        requires { length output.old ≡ 8 }
+        ensures { output.new ≡ map (aes_inverse self.now) (pick input.now output.old) }
+    {
+        let deciphered = decipher_blocks(&self.planes, self.rounds, read_all(output, input));
+        output.copy_from_slice(&deciphered);
+    }
+
+    // Decrypts at most eight blocks as above, by one call: they are the first of eight.
+    pub(crate) fn decrypt_some(&self, output: &mut [[u8; 16]], input: &[[u8; 16]])
+        requires { length output.old ≤ 8 }
+        ensures { output.new ≡ map (aes_inverse self.now) (pick input.now output.old) }
+    {
+        let n = output.len();
+        let mut blocks = [[0; 16]; 8];
+        blocks[..n].copy_from_slice(read_all(output, input));
+        let deciphered = decipher_blocks(&self.planes, self.rounds, &blocks);
+        output.copy_from_slice(&deciphered[..n]);
     }
 }
 
@@ -63,6 +113,17 @@ fn read<'a>(output: &'a [u8; 16], input: &'a [[u8; 16]]) -> &'a [u8; 16]
     }
 }
 
+fn read_all<'a>(output: &'a [[u8; 16]], input: &'a [[u8; 16]]) -> &'a [[u8; 16]]
+    ensures value { result.now ≡ pick input.now output.now }
+    ensures size { length result.now ≡ length output.now }
+{
+    if input.len() == output.len() {
+        input
+    } else {
+        output
+    }
+}
+
 impl Clone for Schedule {
     ghost is_clone = { λ s t. t ≡ s };
 
@@ -71,6 +132,7 @@ impl Clone for Schedule {
     fn clone(&self) -> Result<Schedule, AllocError> {
         Ok(Schedule {
             round_keys: self.round_keys,
+            planes: self.planes,
             rounds: self.rounds,
         })
     }

@@ -83,6 +83,7 @@ fn encrypt_par<const B: usize, K: BlockCipherEncBackend<B>>(
     backend.encrypt_par_blocks(&mut InOutBuf { output, input });
 }
 
+// the rest, if there is one
 fn encrypt_tail<const B: usize, K: BlockCipherEncBackend<B>>(
     output: &mut [[u8; B]],
     input: &[[u8; B]],
@@ -91,6 +92,9 @@ fn encrypt_tail<const B: usize, K: BlockCipherEncBackend<B>>(
     requires { length output.old < K.lanes backend.now }
     ensures value { output.new ≡ map (K.encrypts backend.now) (pick input.now output.old) }
 {
+    if output.is_empty() {
+        return;
+    }
     backend.encrypt_tail_blocks(&mut InOutBuf { output, input });
 }
 
@@ -157,6 +161,7 @@ fn decrypt_par<const B: usize, K: BlockCipherDecBackend<B>>(
     backend.decrypt_par_blocks(&mut InOutBuf { output, input });
 }
 
+// the rest, if there is one
 fn decrypt_tail<const B: usize, K: BlockCipherDecBackend<B>>(
     output: &mut [[u8; B]],
     input: &[[u8; B]],
@@ -165,6 +170,9 @@ fn decrypt_tail<const B: usize, K: BlockCipherDecBackend<B>>(
     requires { length output.old < K.lanes backend.now }
     ensures value { output.new ≡ map (K.decrypts backend.now) (pick input.now output.old) }
 {
+    if output.is_empty() {
+        return;
+    }
     backend.decrypt_tail_blocks(&mut InOutBuf { output, input });
 }
 

@@ -68,7 +68,20 @@ fn write_in_parts<K: StreamCipherBackend<B>, const B: usize>(
         backend.gen_par_ks_blocks(&mut blocks[at..at + width]);
         at += width;
     }
-    backend.gen_tail_blocks(&mut blocks[at..]);
+    gen_rest(&mut blocks[at..], backend);
+}
+
+// the rest, if there is one
+fn gen_rest<K: StreamCipherBackend<B>, const B: usize>(blocks: &mut [[u8; B]], backend: &mut K)
+    requires { length blocks.old < K.lanes backend.old }
+    ensures kept { K.keeps backend.old backend.new }
+    ensures value { blocks.new ≡ next (length blocks.old) (K.keystream backend.old) }
+    ensures is_moved { IsMoved (K.keystream backend.old) (length blocks.old) (K.keystream backend.new) }
+{
+    if blocks.is_empty() {
+        return;
+    }
+    backend.gen_tail_blocks(blocks);
 }
 
 impl<const B: usize> StreamCipherClosure<B> for ApplyBlockCtx<'_, '_, B> {

@@ -49,11 +49,14 @@ fn apply_all<T: StreamCipherCore<B>, const B: usize>(core: T, bytes: &mut [u8])
     apply_last(&mut core, &mut bytes[whole..]);
 }
 
-// fewer bytes than a block has
+// fewer bytes than a block has: none of them need no block
 fn apply_last<T: StreamCipherCore<B>, const B: usize>(core: &mut T, bytes: &mut [u8])
     requires { length bytes.old < B }
     ensures value { bytes.new ≡ xored (bytes_of B (T.keystream core.old)) bytes.old }
 {
+    if bytes.is_empty() {
+        return;
+    }
     let mut key = [0; B];
     core.write_keystream_block(&mut key);
     xor_part(bytes, &key);

@@ -7,4 +7,4 @@ pub returns : goal.returns
 returns c =
     let keys = c.self.inside.round_keys in
     let rounds = c.self.inside.rounds in
-    c.decipher.ensures ∙ ap (inv_cipher rounds keys) c.read.ensures ∙ deciphered keys rounds c.args.self.now _ c.self.invariant c.self.view_is
+    c.decipher.ensures ∙ ap (inv_cipher rounds keys) c.read.ensures ∙ deciphered keys rounds c.args.self.now _ c.self.invariant.schedule c.self.view_is

@@ -37,7 +37,7 @@ returns-clause-value g c =
     let old = k.keystream c.args.backend.now in
     let mid = k.keystream c.loop-at.backend in
     let ln : length (take (length c.loop-at.blocks - at) (drop at c.loop-at.blocks)) ≡ length c.args.blocks.now - at = rest_length c.loop-at.blocks c.args.blocks.now at c.loop-at.auto.blocks in
-    write_last old mid c.args.blocks.now c.loop-at.blocks c.gen_tail_blocks.new.blocks at _ c.loop-at.invariant.within c.loop-at.auto.blocks c.loop-at.invariant.so_far c.loop-at.invariant.is_moved ln c.gen_tail_blocks.ensures.value
+    write_last old mid c.args.blocks.now c.loop-at.blocks c.gen_rest.new.blocks at _ c.loop-at.invariant.within c.loop-at.auto.blocks c.loop-at.invariant.so_far c.loop-at.invariant.is_moved ln c.gen_rest.ensures.value
 
 pub returns-clause-is_moved : goal.returns-clause-is_moved
 returns-clause-is_moved g c =
@@ -45,7 +45,7 @@ returns-clause-is_moved g c =
     let at = c.loop-at.at in
     let old = k.keystream c.args.backend.now in
     let mid = k.keystream c.loop-at.backend in
-    let new = k.keystream c.gen_tail_blocks.new.self in
+    let new = k.keystream c.gen_rest.new.backend in
     let ln : length (take (length c.loop-at.blocks - at) (drop at c.loop-at.blocks)) ≡ length c.args.blocks.now - at = rest_length c.loop-at.blocks c.args.blocks.now at c.loop-at.auto.blocks in
     let all : at + length (take (length c.loop-at.blocks - at) (drop at c.loop-at.blocks)) ≡ length c.args.blocks.now = omega arith in
-    subst (λ n. IsMoved old n new) all (moved_both old mid new at _ c.loop-at.invariant.is_moved c.gen_tail_blocks.ensures.is_moved)
+    subst (λ n. IsMoved old n new) all (moved_both old mid new at _ c.loop-at.invariant.is_moved c.gen_rest.ensures.is_moved)

@@ -1,0 +1,7 @@
+use Rattle.std.proofs.Common.{◌-◌, List, ℕ, map}
+use Rattle.standards.specs.Aes.{state_after}
+use Rattle.aes_block.specs.BitPlanes.{AreBlocks, AreKeys}
+use Rattle.aes_block.proofs.planes.rounds.encipher_planes.Given as goal
+
+abbrev pub invariant-rounds : goal.invariant-rounds
+invariant-rounds l = (b ks : List (List ℕ)) → AreBlocks b l.fn.q → AreKeys l.rounds ks l.keys → AreBlocks (map (λ v. state_after ks v (l.i - 1)) b) l.s

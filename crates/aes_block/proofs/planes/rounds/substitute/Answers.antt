@@ -1,0 +1,7 @@
+use Rattle.standards.specs.Aes.{sub_byte}
+use Rattle.aes_block.specs.BitPlanes.{byte_of}
+use Rattle.aes_block.proofs.LinearSteps.{substituted}
+use Rattle.aes_block.proofs.planes.rounds.substitute.Goals as goal
+
+pub returns : goal.returns
+returns c b h = substituted sub_byte b c.args.q c.sub_planes.result h (c.sub_planes.ensures (byte_of b) h.planes)
