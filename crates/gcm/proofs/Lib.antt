@@ -4,3 +4,4 @@ pub mod Hashes
 pub mod GcmFacts
 pub mod SivFacts
 pub mod OpenedParts
+pub mod FourBits

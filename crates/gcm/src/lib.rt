@@ -9,6 +9,7 @@ mod errors;
 mod field;
 mod hashing;
 mod limits;
+mod multiples;
 mod opened;
 mod order;
 mod sealing;

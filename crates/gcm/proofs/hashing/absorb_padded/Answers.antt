@@ -10,6 +10,6 @@ loop-i-init c = refl
 pub loop-i-preserved : goal.loop-i-preserved
 unfolding over_blocks
 loop-i-preserved c =
-    let f = absorb c.args.order c.args.h in
+    let f = absorb c.args.order c.args.key.now in
     let next : suc c.loop-i.i ≡ c.loop-i.i + 1 = omega arith in
     c.absorb-next.ensures ∙ ap₂ f c.loop-i.invariant c.padded_block.ensures ∙ ap (over_blocks f c.args.y (zero_padded c.args.bytes.now)) next
