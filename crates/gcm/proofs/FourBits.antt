@@ -1,5 +1,5 @@
 -- The product with x is linear, and four steps of one bit are one of four.
-use Rattle.std.proofs.Common.{◌≡◌, ℕ, zero, suc, ◌+◌, ◌-◌, ◌*◌, ◌/◌, ◌%◌, ◌^◌, ◌<◌, Bool, true, ◌&&◌, T, eqb, get_or, bit_xor, refl, sym, ap, ◌∙◌, subst, inl, inr, arith, eq-zero-or-pos, eqb→eq}
+use Rattle.std.proofs.Common.{◌≡◌, ℕ, zero, suc, ◌+◌, ◌*◌, ◌/◌, ◌%◌, ◌^◌, ◌<◌, eqb, get_or, bit_xor, refl, sym, ap, ◌∙◌, arith, eqb→eq}
 use Rattle.std.proofs.lemmas.Nat.{shr-shr, xor_comm, xor_mod, xor_shr}
 use Rattle.std.specs.Int.Bits.{xor_assoc, xor_zero_l, xor_zero_r}
 use lib.Bits.{xor_shifted}

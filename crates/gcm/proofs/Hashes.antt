@@ -1,10 +1,9 @@
 -- GHASH and POLYVAL from the states after their parts.
-use Rattle.std.proofs.Common.{◌≡◌, ◌+◌, ◌*◌, ◌/◌, ◌%◌, ◌^◌, ℕ, zero, suc, List, length, bit_xor, ap, refl, sym, ◌∙◌}
+use Rattle.std.proofs.Common.{◌≡◌, ◌+◌, ◌/◌, ℕ, zero, suc, List, length, bit_xor, ap, refl, sym, ◌∙◌, arith}
 use Rattle.std.specs.Int.{w128, from_be_bytes, from_le_bytes, to_be_bytes, to_le_bytes}
 use Rattle.standards.specs.Blocks.{block_at, over_blocks, zero_padded}
-use Rattle.standards.specs.Ghash.{ghash, length_block, times_x}
+use Rattle.standards.specs.Ghash.{ghash, times_x}
 use Rattle.standards.specs.Polyval.{length_block_le, polyval}
-use Rattle.standards.specs.Ghash as G
 use Rattle.standards.specs.Polyval as P
 use Rattle.standards.proofs.BlockFacts.{ghash_in_parts, polyval_in_parts}
 use Rattle.standards.proofs.Products.{dot_is_product}
@@ -20,6 +19,21 @@ over_blocks_same f g a m (suc n) same = same (over_blocks f a m n) (block_at m n
 -- the state over padded data and then over padded text
 abbrev pub over_both : (ℕ → List ℕ → ℕ) → List ℕ → List ℕ → ℕ
 over_both f aad text = over_blocks f (over_blocks f 0 (zero_padded aad) ((length aad + 15) / 16)) (zero_padded text) ((length text + 15) / 16)
+
+-- four blocks more
+pub four_more : (f : ℕ → List ℕ → ℕ) (y s : ℕ) (m : List ℕ) (n : ℕ) → s ≡ over_blocks f y m n
+    → f (f (f (f s (block_at m n)) (block_at m (n + 1))) (block_at m (n + 2))) (block_at m (n + 3)) ≡ over_blocks f y m (n + 4)
+unfolding over_blocks
+four_more f y s m n s_is =
+    let one : n + 1 ≡ suc n = omega arith in
+    let two : n + 2 ≡ suc (suc n) = omega arith in
+    let three : n + 3 ≡ suc (suc (suc n)) = omega arith in
+    let all : suc (suc (suc (suc n))) ≡ n + 4 = omega arith in
+    ap (λ a. f (f (f (f a (block_at m n)) (block_at m (n + 1))) (block_at m (n + 2))) (block_at m (n + 3))) s_is
+    ∙ ap (λ k. f (f (f (over_blocks f y m (suc n)) (block_at m k)) (block_at m (n + 2))) (block_at m (n + 3))) one
+    ∙ ap (λ k. f (f (over_blocks f y m (suc (suc n))) (block_at m k)) (block_at m (n + 3))) two
+    ∙ ap (λ k. f (over_blocks f y m (suc (suc (suc n)))) (block_at m k)) three
+    ∙ ap (over_blocks f y m) all
 
 -- GHASH by the element of its key
 pub ghash_of : (key aad text : List ℕ) (h : ℕ) → h ≡ from_be_bytes w128 key → block_of BigEndian (hash_of BigEndian h aad text) ≡ ghash key aad text

@@ -5,3 +5,4 @@ pub mod GcmFacts
 pub mod SivFacts
 pub mod OpenedParts
 pub mod FourBits
+pub mod Ring

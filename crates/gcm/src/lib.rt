@@ -7,6 +7,7 @@ mod bytes;
 mod counter;
 mod errors;
 mod field;
+mod hash_key;
 mod hashing;
 mod limits;
 mod multiples;

@@ -61,7 +61,7 @@ fn nibble(x: u128) -> usize
 
 // The product with x^4.
 #[inline(always)]
-fn shift(z: u128) -> u128
+pub(crate) fn shift(z: u128) -> u128
     ensures { result ≡ four z }
 {
     (z >> 4) ^ (u128::from(REDUCED[nibble(z)]) << 112)
@@ -79,7 +79,7 @@ impl Multiples {
 
     // The multiple by the lowest four bits.
     #[inline(always)]
-    fn entry(&self, x: u128) -> u128
+    pub(crate) fn entry(&self, x: u128) -> u128
         ensures { result ≡ multiple self.now (x % 16) }
     {
         self.table[nibble(x)]

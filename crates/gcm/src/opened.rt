@@ -5,8 +5,8 @@ ghost use Rattle.standards.specs.Counter.{ctr, plus_le};
 ghost use Rattle.gcm.specs.Orders.{absorbed, block_of, counted, hash_of};
 
 use crate::counter::apply_keystream;
+use crate::hash_key::HashKey;
 use crate::hashing::{absorb_lengths, absorb_padded};
-use crate::multiples::Multiples;
 use crate::order::{ByteOrder, block_of, counted};
 use cipher::BlockCipherEncrypt;
 
@@ -19,7 +19,7 @@ const PART: usize = 128;
 fn absorb_part<C: BlockCipherEncrypt<16>>(
     c: &C,
     block: &[u8; 16],
-    key: &Multiples,
+    key: &HashKey,
     state: u128,
     part: &[u8],
 ) -> u128
@@ -38,7 +38,7 @@ fn absorb_part<C: BlockCipherEncrypt<16>>(
 fn absorb_opened<C: BlockCipherEncrypt<16>>(
     c: &C,
     block: &[u8; 16],
-    key: &Multiples,
+    key: &HashKey,
     y: u128,
     ciphertext: &[u8],
 ) -> u128
@@ -60,7 +60,7 @@ fn absorb_opened<C: BlockCipherEncrypt<16>>(
 pub(crate) fn hashed_as_opened<C: BlockCipherEncrypt<16>>(
     c: &C,
     block: &[u8; 16],
-    key: &Multiples,
+    key: &HashKey,
     aad: &[u8],
     ciphertext: &[u8],
 ) -> [u8; 16]

@@ -9,9 +9,9 @@ ghost use Rattle.gcm.specs.Limits.{MOST_GCM};
 use crate::bytes::{is_same, xored};
 use crate::counter::apply_keystream;
 use crate::errors::{GcmError, GcmResult};
+use crate::hash_key::HashKey;
 use crate::hashing::{ghash_key, hashed};
 use crate::limits::check_lengths;
-use crate::multiples::Multiples;
 use crate::order::{ByteOrder, counted};
 use cipher::BlockCipherEncrypt;
 
@@ -23,7 +23,7 @@ const MOST_TEXT: usize = (1 << 36) - 32;
 pub struct Gcm<C: BlockCipherEncrypt<16>> {
     cipher: C,
     // of the hash subkey H (6.4)
-    subkey: Multiples,
+    subkey: HashKey,
     ghost subkey_of: { subkey ≡ from_be_bytes w128 (C.encrypts cipher (replicate 16 0)) },
 }
 

@@ -11,9 +11,9 @@ ghost use Rattle.gcm.specs.Siv.{IsSivKeySize, cipher_of, sealed_under, tag_under
 use crate::bytes::{is_same, xored};
 use crate::counter::apply_keystream;
 use crate::errors::{GcmError, GcmResult};
+use crate::hash_key::HashKey;
 use crate::hashing::{hashed, polyval_key};
 use crate::limits::check_lengths;
-use crate::multiples::Multiples;
 use crate::opened::hashed_as_opened;
 use crate::order::ByteOrder;
 use cipher::{BlockCipherEncrypt, KeyInit};
@@ -36,7 +36,7 @@ pub struct GcmSiv<C, const K: usize> {
 struct MessageKeys<C> {
     authentication: [u8; 16],
     // of the authentication key
-    element: Multiples,
+    element: HashKey,
     cipher: C,
     ghost element_of: { element ≡ times_x (from_le_bytes w128 authentication) },
 }

@@ -1,5 +1,5 @@
 use Rattle.std.proofs.Common.{◌≡◌, ◌+◌, ◌*◌, ◌/◌, ◌%◌, ◌^◌, length, ap, sym, ◌∙◌}
-use Rattle.std.specs.Int.{w32, to_le_bytes, w128}
+use Rattle.std.specs.Int.{w32}
 use Rattle.standards.specs.Blocks.{over_blocks, zero_padded}
 use Rattle.standards.specs.Counter.{ctr, plus_le}
 use Rattle.standards.proofs.Keystream.{length-ctr}
