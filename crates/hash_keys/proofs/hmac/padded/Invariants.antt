@@ -1,5 +1,5 @@
 use Rattle.std.proofs.Common.{◌≡◌, ◌<◌, ℕ, get_or, length, bit_xor}
-use Rattle.hash_keys.proofs.padded.Given as goal
+use Rattle.hash_keys.proofs.hmac.padded.Given as goal
 
 -- the bytes so far are padded
 abbrev pub invariant-loop-i : goal.invariant-loop-i
