@@ -3,3 +3,4 @@ pub mod Parts
 pub mod Chunks
 pub mod UnderTweak
 pub mod Alike
+pub mod Lanes

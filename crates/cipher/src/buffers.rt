@@ -6,6 +6,7 @@ ghost use Rattle.std.specs.Mem.{FitsInMemory};
 ghost use Rattle.cipher.specs.Buffers.{part_of, pick, read_of, read_all, message_of};
 ghost use Rattle.standards.specs.Lists.{xor_bytes};
 
+use crate::xor::xor_in_place;
 use std::fmt;
 
 /// One place: it is read and written, or another place is read.
@@ -272,7 +273,7 @@ fn xor_array<const N: usize>(output: &mut [u8; N], input: &[[u8; N]], bytes: &[u
     if let Some(input) = input.first() {
         *output = *input;
     }
-    xor_with(output, bytes);
+    xor_in_place(output, bytes);
 }
 
 fn xor_slices(output: &mut [u8], input: &[u8], bytes: &[u8])
@@ -282,16 +283,7 @@ fn xor_slices(output: &mut [u8], input: &[u8], bytes: &[u8])
     if input.len() == output.len() {
         output.copy_from_slice(input);
     }
-    xor_with(output, bytes);
-}
-
-fn xor_with(output: &mut [u8], bytes: &[u8])
-    requires { length bytes.now ≡ length output.old }
-    ensures value { output.new ≡ xor_bytes output.old bytes.now }
-{
-    for i in 0..output.len() {
-        output[i] ^= bytes[i];
-    }
+    xor_in_place(output, bytes);
 }
 
 impl<'i, 'o, T> InOutBufReserved<'i, 'o, T> {

@@ -6,6 +6,7 @@ mod buffers;
 pub mod dev;
 mod init;
 mod tweaks;
+mod xor;
 
 pub use blocks::backends::{
     BlockCipherDecBackend, BlockCipherDecClosure, BlockCipherEncBackend, BlockCipherEncClosure,
@@ -21,6 +22,7 @@ pub use tweaks::{
     Tweak, TweakBlockCipherDecBackend, TweakBlockCipherDecClosure, TweakBlockCipherDecrypt,
     TweakBlockCipherEncBackend, TweakBlockCipherEncClosure, TweakBlockCipherEncrypt, TweakSizeUser,
 };
+pub use xor::xor_in_place;
 
 /// A block of B bytes.
 pub type Block<const B: usize> = [u8; B];

@@ -1,7 +1,6 @@
 pub mod Streams
 pub mod Led
 pub mod Applied
-pub mod Lanes
 pub mod BlockBytes
 pub mod Places
 pub mod Rests

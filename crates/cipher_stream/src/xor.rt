@@ -1,10 +1,10 @@
-//! Bytes xor bytes, sixteen at a time.
+//! Bytes and blocks xor others.
 
 ghost use Rattle.std.specs.Prelude.{◌≡◌, ◌≤◌, ◌+◌, List, length, slice_index, slice_index_or};
 ghost use Rattle.standards.specs.Lists.{xor_bytes};
 ghost use Rattle.cipher_stream.specs.Keystream.{combined, xored};
 
-use std::simd::prelude::*;
+use cipher::xor_in_place;
 
 // writes bytes xor the first of others, which are no fewer
 #[inline(always)]
@@ -12,15 +12,8 @@ pub(crate) fn xor_into(out: &mut [u8], with: &[u8])
     requires { length out.old ≤ length with.now }
     ensures value { out.new ≡ xored (slice_index with.now) out.old }
 {
-    let whole = out.len() / 16;
-    'lanes: for i in 0..whole {
-        let at = 16 * i;
-        let v = u8x16::from_slice(&out[at..]) ^ u8x16::from_slice(&with[at..]);
-        v.copy_to_slice(&mut out[at..]);
-    }
-    'rest: for i in 16 * whole..out.len() {
-        out[i] ^= with[i];
-    }
+    let n = out.len();
+    xor_in_place(out, &with[..n]);
 }
 
 // writes at most B bytes xor a block
@@ -46,7 +39,7 @@ pub(crate) fn xor_block<const B: usize>(output: &mut [u8; B], input: &[[u8; B]],
     ensures value { output.new ≡ xor_bytes (slice_index_or input.now 0 output.old) key.now }
 {
     read_block(output, input);
-    xor_into(output, key);
+    xor_in_place(output, key);
 }
 
 // the block that is read, if there is one

@@ -4,3 +4,5 @@ pub mod Hashes
 pub mod GcmFacts
 pub mod SivFacts
 pub mod OpenedParts
+pub mod FourBits
+pub mod Ring

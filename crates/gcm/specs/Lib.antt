@@ -4,3 +4,4 @@ pub mod Texts
 pub mod Limits
 pub mod Siv
 pub mod Laws
+pub mod Multiples

@@ -2,15 +2,15 @@
 ghost use Rattle.std.specs.Prelude.{◌≡◌, ◌↔◌, ◌≤◌, length, IsTrue};
 ghost use Rattle.standards.specs.Lists.{xor_bytes};
 
+use cipher::xor_in_place;
+
 // A block with bytes added to its front.
 pub(crate) fn xored(block: &[u8; 16], bytes: &[u8]) -> [u8; 16]
     requires { length bytes.now ≤ 16 }
     ensures { result ≡ xor_bytes block.now bytes.now }
 {
     let mut out = *block;
-    for i in 0..bytes.len() {
-        out[i] ^= bytes[i];
-    }
+    xor_in_place(&mut out, bytes);
     out
 }
 

@@ -7,7 +7,7 @@ ghost use Rattle.cipher_stream.specs.Keystream.{xored};
 ghost use Rattle.gcm.specs.Orders.{counted};
 
 use crate::order::{ByteOrder, counted};
-use cipher::{BlockCipherEncrypt, InnerIvInit};
+use cipher::{BlockCipherEncrypt, InnerIvInit, xor_in_place};
 use cipher_stream::{StreamCipher, StreamCipherCore, StreamCipherCoreWrapper};
 use ctr::{CtrCore, flavors};
 
@@ -86,9 +86,8 @@ fn apply_block<C: BlockCipherEncrypt<16>>(
     ensures { bytes.new ≡ ctr (C.encrypts c.now) (counted order) block.now bytes.old }
 {
     let stream = first_block(c, order, block);
-    for i in 0..bytes.len() {
-        bytes[i] ^= stream[i];
-    }
+    let n = bytes.len();
+    xor_in_place(bytes, &stream[..n]);
 }
 
 // Adds the keystream that begins with the cipher's block of `block`. Where all 2^32 blocks are wanted, the last is had

@@ -2,14 +2,14 @@
 // the highest bit is the coefficient of x^0. Those of POLYVAL (RFC 8452, 3) are the same field with the bits
 // in the other order, bit i being the coefficient of x^i, and a factor of x^-127 in each product.
 ghost use Rattle.std.specs.Prelude.{◌≡◌, ◌*◌, ◌%◌};
-ghost use Rattle.standards.specs.Ghash.{product, times_x};
+ghost use Rattle.standards.specs.Ghash.{times_x};
 
 // x^128 reduced: x^7 + x^2 + x + 1.
 const REDUCED: u128 = 0xe100_0000_0000_0000_0000_0000_0000_0000;
 
 // The term if the number is odd, and else 0.
 #[inline(always)]
-fn if_odd(n: u128, term: u128) -> u128
+pub(crate) fn if_odd(n: u128, term: u128) -> u128
     ensures { result ≡ n % 2 * term }
 {
     if n % 2 == 1 { term } else { 0 }
@@ -21,17 +21,4 @@ pub(crate) fn times_x(v: u128) -> u128
     ensures { result ≡ times_x v }
 {
     (v >> 1) ^ if_odd(v, REDUCED)
-}
-
-// The product, one bit of `x` at a time, the highest power first.
-pub(crate) fn product(x: u128, y: u128) -> u128
-    ensures { result ≡ product x y }
-{
-    let mut z = 0u128;
-    let mut rest = x;
-    for i in 0..128u32 {
-        z = times_x(z) ^ if_odd(rest, y);
-        rest >>= 1;
-    }
-    z
 }

@@ -1,12 +1,14 @@
 // GHASH (SP 800-38D, 6.4) and POLYVAL (RFC 8452, 3) of data and text, each padded, and their lengths.
 ghost use Rattle.std.specs.Prelude.{◌≡◌, ◌≤◌, ◌<◌, ◌+◌, ◌*◌, ◌/◌, ◌%◌, ◌^◌, length};
 ghost use Rattle.standards.specs.Blocks.{block_at, zero_padded};
-ghost use Rattle.standards.specs.Ghash.{ghash};
+ghost use Rattle.standards.specs.Ghash.{ghash, times_x};
+ghost use Rattle.std.specs.Int.{w128, from_be_bytes, from_le_bytes};
 ghost use Rattle.standards.specs.Polyval.{polyval};
-ghost use Rattle.gcm.specs.Orders.{absorb, absorbed, pair_of};
+ghost use Rattle.gcm.specs.Orders.{absorb, absorbed, block_of, four_absorbed, hash_of, number_of, pair_of};
 
-use crate::field::{product, times_x};
-use crate::order::{ByteOrder, number_of, pair_of};
+use crate::field::times_x;
+use crate::hash_key::HashKey;
+use crate::order::{ByteOrder, block_of, number_of, pair_of};
 
 // Block i of the bytes, with zeros up to a whole block.
 fn padded_block(bytes: &[u8], i: usize) -> [u8; 16]
@@ -19,32 +21,93 @@ fn padded_block(bytes: &[u8], i: usize) -> [u8; 16]
     block
 }
 
-// One block more after y, under h.
-pub(crate) fn absorb(order: ByteOrder, h: u128, y: u128, block: [u8; 16]) -> u128
-    ensures { result ≡ absorb order h y block }
+// One block more after y, under the key.
+fn absorb(order: ByteOrder, key: &HashKey, y: u128, block: [u8; 16]) -> u128
+    ensures { result ≡ absorb order key.now y block }
 {
-    product(y ^ number_of(order, block), h)
+    key.times(y ^ number_of(order, block))
 }
 
-// All bytes after y, padded, under h.
-pub(crate) fn absorb_padded(order: ByteOrder, h: u128, y: u128, bytes: &[u8]) -> u128
-    ensures { result ≡ absorbed order h y bytes.now (length bytes.now) }
+// The number of block i of the bytes, which is whole.
+#[inline(always)]
+fn whole_block(order: ByteOrder, bytes: &[u8], i: usize) -> u128
+    requires { 16 * i + 16 ≤ length bytes.now }
+    ensures { result ≡ number_of order (block_at (zero_padded bytes.now) i) }
 {
+    let mut block = [0u8; 16];
+    block.copy_from_slice(&bytes[16 * i..16 * i + 16]);
+    number_of(order, block)
+}
+
+// The four blocks from block i on after y, under the key.
+fn absorb_four(order: ByteOrder, key: &HashKey, y: u128, bytes: &[u8], i: usize) -> u128
+    requires { 16 * i + 64 ≤ length bytes.now }
+    ensures { result ≡ four_absorbed order key.now y bytes.now i }
+{
+    key.horner([
+        y ^ whole_block(order, bytes, i),
+        whole_block(order, bytes, i + 1),
+        whole_block(order, bytes, i + 2),
+        whole_block(order, bytes, i + 3),
+    ])
+}
+
+// All bytes after y, padded, under the key, four blocks in a pass while there are as many.
+pub(crate) fn absorb_padded(order: ByteOrder, key: &HashKey, y: u128, bytes: &[u8]) -> u128
+    ensures { result ≡ absorbed order key.now y bytes.now (length bytes.now) }
+{
+    let fours = bytes.len() / 64;
     let mut state = y;
-    for i in 0..bytes.len().div_ceil(16) {
-        let next = absorb(order, h, state, padded_block(bytes, i));
+    'fours: for i in 0..fours {
+        let next = absorb_four(order, key, state, bytes, 4 * i);
+        state = next;
+    }
+    'rest: for i in 4 * fours..bytes.len().div_ceil(16) {
+        let next = absorb(order, key, state, padded_block(bytes, i));
         state = next;
     }
     state
 }
 
-// The lengths in bits, modulo 2^64, after y, under h.
-pub(crate) fn absorb_lengths(order: ByteOrder, h: u128, y: u128, aad: usize, text: usize) -> u128
-    ensures { result ≡ absorb order h y (pair_of order (8 * aad % 2 ^ 64) (8 * text % 2 ^ 64)) }
+// The lengths in bits, modulo 2^64, after y, under the key.
+pub(crate) fn absorb_lengths(
+    order: ByteOrder,
+    key: &HashKey,
+    y: u128,
+    aad: usize,
+    text: usize,
+) -> u128
+    ensures { result ≡ absorb order key.now y (pair_of order (8 * aad % 2 ^ 64) (8 * text % 2 ^ 64)) }
 {
     let aad_bits = 8u64.wrapping_mul(aad as u64);
     let text_bits = 8u64.wrapping_mul(text as u64);
-    absorb(order, h, y, pair_of(order, aad_bits, text_bits))
+    absorb(order, key, y, pair_of(order, aad_bits, text_bits))
+}
+
+// Data, text and their lengths under the key.
+pub(crate) fn hashed(order: ByteOrder, key: &HashKey, aad: &[u8], text: &[u8]) -> [u8; 16]
+    ensures { result ≡ block_of order (hash_of order key.now aad.now text.now) }
+{
+    let data = absorb_padded(order, key, 0, aad);
+    let both = absorb_padded(order, key, data, text);
+    block_of(
+        order,
+        absorb_lengths(order, key, both, aad.len(), text.len()),
+    )
+}
+
+// The element of a key of GHASH.
+pub(crate) fn ghash_key(key: &[u8; 16]) -> HashKey
+    ensures { result ≡ from_be_bytes w128 key.now }
+{
+    HashKey::new(u128::from_be_bytes(*key))
+}
+
+// The element of a key of POLYVAL, with the factor x that its products lack.
+pub(crate) fn polyval_key(key: &[u8; 16]) -> HashKey
+    ensures { result ≡ times_x (from_le_bytes w128 key.now) }
+{
+    HashKey::new(times_x(u128::from_le_bytes(*key)))
 }
 
 /// GHASH under the key, of data and text, each with zeros up to whole blocks of 16 bytes, and of their lengths in bits
@@ -52,11 +115,7 @@ pub(crate) fn absorb_lengths(order: ByteOrder, h: u128, y: u128, aad: usize, tex
 pub fn ghash(key: &[u8; 16], aad: &[u8], text: &[u8]) -> [u8; 16]
     ensures value { result ≡ ghash key.now aad.now text.now }
 {
-    let h = u128::from_be_bytes(*key);
-    let order = ByteOrder::BigEndian;
-    let data = absorb_padded(order, h, 0, aad);
-    let both = absorb_padded(order, h, data, text);
-    absorb_lengths(order, h, both, aad.len(), text.len()).to_be_bytes()
+    hashed(ByteOrder::BigEndian, &ghash_key(key), aad, text)
 }
 
 /// POLYVAL under the key, of data and text, each with zeros up to whole blocks of 16 bytes, and of their lengths in
@@ -64,9 +123,5 @@ pub fn ghash(key: &[u8; 16], aad: &[u8], text: &[u8]) -> [u8; 16]
 pub fn polyval(key: &[u8; 16], aad: &[u8], text: &[u8]) -> [u8; 16]
     ensures value { result ≡ polyval key.now aad.now text.now }
 {
-    let h = times_x(u128::from_le_bytes(*key));
-    let order = ByteOrder::LittleEndian;
-    let data = absorb_padded(order, h, 0, aad);
-    let both = absorb_padded(order, h, data, text);
-    absorb_lengths(order, h, both, aad.len(), text.len()).to_le_bytes()
+    hashed(ByteOrder::LittleEndian, &polyval_key(key), aad, text)
 }

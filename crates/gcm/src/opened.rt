@@ -2,13 +2,12 @@
 ghost use Rattle.std.specs.Prelude.{◌≡◌, ◌≤◌, ◌<◌, ◌+◌, ◌*◌, ◌/◌, ◌^◌, length};
 ghost use Rattle.std.specs.Int.{w32};
 ghost use Rattle.standards.specs.Counter.{ctr, plus_le};
-ghost use Rattle.standards.specs.Polyval.{polyval};
-ghost use Rattle.gcm.specs.Orders.{absorbed, counted};
+ghost use Rattle.gcm.specs.Orders.{absorbed, block_of, counted, hash_of};
 
 use crate::counter::apply_keystream;
-use crate::field::times_x;
+use crate::hash_key::HashKey;
 use crate::hashing::{absorb_lengths, absorb_padded};
-use crate::order::{ByteOrder, counted};
+use crate::order::{ByteOrder, block_of, counted};
 use cipher::BlockCipherEncrypt;
 
 // The blocks of a part, and their bytes.
@@ -20,30 +19,30 @@ const PART: usize = 128;
 fn absorb_part<C: BlockCipherEncrypt<16>>(
     c: &C,
     block: &[u8; 16],
-    h: u128,
+    key: &HashKey,
     state: u128,
     part: &[u8],
 ) -> u128
     requires { length part.now ≤ 128 }
-    ensures { result ≡ absorbed ByteOrder.LittleEndian h state
+    ensures { result ≡ absorbed ByteOrder.LittleEndian key.now state
         (ctr (C.encrypts c.now) (counted ByteOrder.LittleEndian) block.now part.now) (length part.now) }
 {
     let n = part.len();
     let mut text = [0u8; PART];
     text[..n].copy_from_slice(part);
     apply_keystream(c, ByteOrder::LittleEndian, block, &mut text[..n]);
-    absorb_padded(ByteOrder::LittleEndian, h, state, &text[..n])
+    absorb_padded(ByteOrder::LittleEndian, key, state, &text[..n])
 }
 
-// The whole text after y, under h.
+// The whole text after y, under the key.
 fn absorb_opened<C: BlockCipherEncrypt<16>>(
     c: &C,
     block: &[u8; 16],
-    h: u128,
+    key: &HashKey,
     y: u128,
     ciphertext: &[u8],
 ) -> u128
-    ensures { result ≡ absorbed ByteOrder.LittleEndian h y
+    ensures { result ≡ absorbed ByteOrder.LittleEndian key.now y
         (ctr (C.encrypts c.now) (counted ByteOrder.LittleEndian) block.now ciphertext.now) (length ciphertext.now) }
 {
     let mut state = y;
@@ -51,25 +50,28 @@ fn absorb_opened<C: BlockCipherEncrypt<16>>(
         let start = PART * i;
         let n = (ciphertext.len() - start).min(PART);
         let from = counted(ByteOrder::LittleEndian, block, (LANES * i) as u64);
-        let next = absorb_part(c, &from, h, state, &ciphertext[start..start + n]);
+        let next = absorb_part(c, &from, key, state, &ciphertext[start..start + n]);
         state = next;
     }
     state
 }
 
-// POLYVAL under the key, of data and of the ciphertext in counter mode from `block` on.
-pub(crate) fn polyval_of_opened<C: BlockCipherEncrypt<16>>(
+// The hash of data and of the ciphertext in counter mode from `block` on, under the key.
+pub(crate) fn hashed_as_opened<C: BlockCipherEncrypt<16>>(
     c: &C,
     block: &[u8; 16],
-    key: &[u8; 16],
+    key: &HashKey,
     aad: &[u8],
     ciphertext: &[u8],
 ) -> [u8; 16]
-    ensures { result ≡ polyval key.now aad.now (ctr (C.encrypts c.now) (plus_le w32) block.now ciphertext.now) }
+    ensures { result ≡ block_of ByteOrder.LittleEndian (hash_of ByteOrder.LittleEndian key.now aad.now
+        (ctr (C.encrypts c.now) (plus_le w32) block.now ciphertext.now)) }
 {
-    let h = times_x(u128::from_le_bytes(*key));
     let order = ByteOrder::LittleEndian;
-    let data = absorb_padded(order, h, 0, aad);
-    let both = absorb_opened(c, block, h, data, ciphertext);
-    absorb_lengths(order, h, both, aad.len(), ciphertext.len()).to_le_bytes()
+    let data = absorb_padded(order, key, 0, aad);
+    let both = absorb_opened(c, block, key, data, ciphertext);
+    block_of(
+        order,
+        absorb_lengths(order, key, both, aad.len(), ciphertext.len()),
+    )
 }

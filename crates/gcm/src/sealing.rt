@@ -1,6 +1,7 @@
 //! GCM (SP 800-38D) with nonces of 12 bytes and tags of 16.
 
-ghost use Rattle.std.specs.Prelude.{◌≡◌, ◌≤◌, ◌<◌, ◌+◌, ◌-◌, ◌*◌, ◌^◌, length};
+ghost use Rattle.std.specs.Prelude.{◌≡◌, ◌≤◌, ◌<◌, ◌+◌, ◌-◌, ◌*◌, ◌^◌, length, replicate};
+ghost use Rattle.std.specs.Int.{w128, from_be_bytes};
 ghost use Rattle.standards.specs.Gcm.{first_block, gcm, gcm_tag, gcm_text};
 ghost use Rattle.gcm.specs.Answers.{IsOpened, IsSealed, IsTried};
 ghost use Rattle.gcm.specs.Limits.{MOST_GCM};
@@ -8,7 +9,8 @@ ghost use Rattle.gcm.specs.Limits.{MOST_GCM};
 use crate::bytes::{is_same, xored};
 use crate::counter::apply_keystream;
 use crate::errors::{GcmError, GcmResult};
-use crate::hashing::ghash;
+use crate::hash_key::HashKey;
+use crate::hashing::{ghash_key, hashed};
 use crate::limits::check_lengths;
 use crate::order::{ByteOrder, counted};
 use cipher::BlockCipherEncrypt;
@@ -18,8 +20,11 @@ const MOST_TEXT: usize = (1 << 36) - 32;
 
 /// GCM (SP 800-38D) under a cipher with blocks of 16 bytes.
 #[derive(Drop)]
-pub struct Gcm<C> {
+pub struct Gcm<C: BlockCipherEncrypt<16>> {
     cipher: C,
+    // of the hash subkey H (6.4)
+    subkey: HashKey,
+    ghost subkey_of: { subkey ≡ from_be_bytes w128 (C.encrypts cipher (replicate 16 0)) },
 }
 
 // The first counter block, under which the tag is sealed (7.1, step 2).
@@ -44,34 +49,44 @@ fn apply_text<C: BlockCipherEncrypt<16>>(c: &C, nonce: &[u8], bytes: &mut [u8])
 }
 
 // The tag of data and ciphertext (7.1, steps 1 and 4 to 6).
-fn tag_of<C: BlockCipherEncrypt<16>>(c: &C, nonce: &[u8], aad: &[u8], ciphertext: &[u8]) -> [u8; 16]
+fn tag_of<C: BlockCipherEncrypt<16>>(
+    g: &Gcm<C>,
+    nonce: &[u8],
+    aad: &[u8],
+    ciphertext: &[u8],
+) -> [u8; 16]
     requires nonce { length nonce.now ≡ 12 }
-    ensures { result ≡ gcm_tag (C.encrypts c.now) nonce.now aad.now ciphertext.now }
+    ensures { result ≡ gcm_tag (C.encrypts g.now.cipher) nonce.now aad.now ciphertext.now }
 {
-    let mut key = [0u8; 16];
-    c.encrypt_block(&mut key);
     let mut mask = first_block(nonce);
-    c.encrypt_block(&mut mask);
-    xored(&ghash(&key, aad, ciphertext), &mask)
+    g.cipher.encrypt_block(&mut mask);
+    let sum = hashed(ByteOrder::BigEndian, &g.subkey, aad, ciphertext);
+    xored(&sum, &mask)
 }
 
 // Ciphertext and tag of a text whose blocks are counted.
-fn seal<C: BlockCipherEncrypt<16>>(c: &C, nonce: &[u8], aad: &[u8], text: &[u8], out: &mut [u8])
+fn seal<C: BlockCipherEncrypt<16>>(
+    g: &Gcm<C>,
+    nonce: &[u8],
+    aad: &[u8],
+    text: &[u8],
+    out: &mut [u8],
+)
     requires nonce { length nonce.now ≡ 12 }
     requires text { length text.now ≤ 2 ^ 36 }
     requires room { length out.old ≡ length text.now + 16 }
-    ensures { out.new ≡ gcm (C.encrypts c.now) nonce.now aad.now text.now }
+    ensures { out.new ≡ gcm (C.encrypts g.now.cipher) nonce.now aad.now text.now }
 {
     let n = text.len();
     out[..n].copy_from_slice(text);
-    apply_text(c, nonce, &mut out[..n]);
-    let tag = tag_of(c, nonce, aad, &out[..n]);
+    apply_text(&g.cipher, nonce, &mut out[..n]);
+    let tag = tag_of(g, nonce, aad, &out[..n]);
     out[n..].copy_from_slice(&tag);
 }
 
 // Opens what has no more blocks than are counted: false where no text is sealed so, and then nothing is written.
 fn open<C: BlockCipherEncrypt<16>>(
-    c: &C,
+    g: &Gcm<C>,
     nonce: &[u8],
     aad: &[u8],
     sealed: &[u8],
@@ -80,27 +95,32 @@ fn open<C: BlockCipherEncrypt<16>>(
     requires nonce { length nonce.now ≡ 12 }
     requires sealed { length sealed.now ≤ 2 ^ 36 }
     requires room { length out.old ≡ length sealed.now - 16 }
-    ensures { IsTried (gcm (C.encrypts c.now) nonce.now aad.now) sealed.now out.old out.new result }
+    ensures { IsTried (gcm (C.encrypts g.now.cipher) nonce.now aad.now) sealed.now out.old out.new result }
 {
     if sealed.len() < 16 {
         return false;
     }
     let n = out.len();
-    let tag = tag_of(c, nonce, aad, &sealed[..n]);
+    let tag = tag_of(g, nonce, aad, &sealed[..n]);
     if !is_same(&tag, &sealed[n..]) {
         return false;
     }
     out.copy_from_slice(&sealed[..n]);
-    apply_text(c, nonce, out);
+    apply_text(&g.cipher, nonce, out);
     true
 }
 
 impl<C: BlockCipherEncrypt<16>> Gcm<C> {
-    /// GCM under this cipher.
+    /// GCM under this cipher, with the table of its hash subkey.
     pub fn new(c: C) -> Gcm<C>
         ensures { result.cipher ≡ c }
     {
-        Gcm { cipher: c }
+        let mut key = [0u8; 16];
+        c.encrypt_block(&mut key);
+        Gcm {
+            cipher: c,
+            subkey: ghash_key(&key),
+        }
     }
 
     /// Writes the ciphertext of `text` and its tag of 16 bytes into `out`, under a nonce of 12 bytes and with the
@@ -116,7 +136,7 @@ impl<C: BlockCipherEncrypt<16>> Gcm<C> {
             aad.now text.now out.old out.new result }
     {
         check_lengths(aad.len(), text.len(), MOST_TEXT)?;
-        seal(&self.cipher, nonce, aad, text, out);
+        seal(self, nonce, aad, text, out);
         Ok(())
     }
 
@@ -133,7 +153,7 @@ impl<C: BlockCipherEncrypt<16>> Gcm<C> {
             aad.now sealed.now out.old out.new result }
     {
         check_lengths(aad.len(), sealed.len().saturating_sub(16), MOST_TEXT)?;
-        if !open(&self.cipher, nonce, aad, sealed, out) {
+        if !open(self, nonce, aad, sealed, out) {
             return Err(GcmError::DecryptFailed);
         }
         Ok(())

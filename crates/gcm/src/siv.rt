@@ -1,7 +1,8 @@
 //! GCM-SIV (RFC 8452).
 
 ghost use Rattle.std.specs.Prelude.{◌≡◌, ◌≤◌, ◌<◌, ◌+◌, ◌-◌, ◌*◌, ◌/◌, ◌^◌, ◌++◌, length, take};
-ghost use Rattle.std.specs.Int.{w32, to_le_bytes};
+ghost use Rattle.std.specs.Int.{w32, w128, from_le_bytes, to_le_bytes};
+ghost use Rattle.standards.specs.Ghash.{times_x};
 ghost use Rattle.standards.specs.GcmSiv.{authentication_key, counter_block, derived, encryption_key, gcm_siv};
 ghost use Rattle.gcm.specs.Answers.{IsOpened, IsSealed, IsTried};
 ghost use Rattle.gcm.specs.Limits.{MOST_GCM_SIV};
@@ -10,9 +11,10 @@ ghost use Rattle.gcm.specs.Siv.{IsSivKeySize, cipher_of, sealed_under, tag_under
 use crate::bytes::{is_same, xored};
 use crate::counter::apply_keystream;
 use crate::errors::{GcmError, GcmResult};
-use crate::hashing::polyval;
+use crate::hash_key::HashKey;
+use crate::hashing::{hashed, polyval_key};
 use crate::limits::check_lengths;
-use crate::opened::polyval_of_opened;
+use crate::opened::hashed_as_opened;
 use crate::order::ByteOrder;
 use cipher::{BlockCipherEncrypt, KeyInit};
 use std::marker::PhantomData;
@@ -33,7 +35,10 @@ pub struct GcmSiv<C, const K: usize> {
 #[derive(Drop)]
 struct MessageKeys<C> {
     authentication: [u8; 16],
+    // of the authentication key
+    element: HashKey,
     cipher: C,
+    ghost element_of: { element ≡ times_x (from_le_bytes w128 authentication) },
 }
 
 // Half of the cipher's block of a number and the nonce (4).
@@ -97,7 +102,7 @@ fn seal<C: BlockCipherEncrypt<16>>(
     ensures { out.new ≡ sealed_under (C.encrypts keys.now.cipher) keys.now.authentication nonce.now aad.now text.now }
 {
     let n = text.len();
-    let sum = polyval(&keys.authentication, aad, text);
+    let sum = hashed(ByteOrder::LittleEndian, &keys.element, aad, text);
     let tag = tag_of(&keys.cipher, &sum, nonce);
     out[..n].copy_from_slice(text);
     apply_keystream(
@@ -130,13 +135,7 @@ fn open<C: BlockCipherEncrypt<16>>(
     let mut tag = [0u8; 16];
     tag.copy_from_slice(&sealed[n..]);
     let block = counter_block(&tag);
-    let sum = polyval_of_opened(
-        &keys.cipher,
-        &block,
-        &keys.authentication,
-        aad,
-        &sealed[..n],
-    );
+    let sum = hashed_as_opened(&keys.cipher, &block, &keys.element, aad, &sealed[..n]);
     if !is_same(&tag_of(&keys.cipher, &sum, nonce), &tag) {
         return false;
     }
@@ -171,6 +170,7 @@ impl<C: KeyInit<K> + BlockCipherEncrypt<16> + Drop, const K: usize> GcmSiv<C, K>
         derive_into(&c, nonce, 2, &mut encryption[..]);
         MessageKeys {
             authentication,
+            element: polyval_key(&authentication),
             cipher: C::new(&encryption),
         }
     }

@@ -1,10 +1,9 @@
 //! CMAC (SP 800-38B) over any cipher with blocks of 16 bytes.
 
 ghost use Rattle.std.specs.Prelude.{◌≡◌, ◌≤◌, ◌*◌, length};
-ghost use Rattle.standards.specs.Lists.{xor_bytes};
 ghost use Rattle.standards.specs.Cmac.{chain_after, cmac, double_block, last_block, subkey_1};
 
-use cipher::BlockCipherEncrypt;
+use cipher::{BlockCipherEncrypt, xor_in_place};
 
 // What is added where doubling shifts a bit out (5.3).
 const REDUCTION: u128 = 0x87;
@@ -19,16 +18,6 @@ fn doubled(block: [u8; 16]) -> [u8; 16]
     let n = u128::from_be_bytes(block);
     let out = n >> 127;
     ((n << 1) ^ (out * REDUCTION)).to_be_bytes()
-}
-
-// Adds bytes to the prefix of a block.
-fn xor_block(block: &mut [u8; 16], bytes: &[u8])
-    requires { length bytes.now ≤ 16 }
-    ensures { block.new ≡ xor_bytes block.old bytes.now }
-{
-    for i in 0..bytes.len() {
-        block[i] ^= bytes[i];
-    }
 }
 
 // K1 (6.1).
@@ -47,7 +36,7 @@ fn chain<C: BlockCipherEncrypt<16>>(c: &C, text: &[u8], n: usize) -> [u8; 16]
 {
     let mut block = [0u8; 16];
     for i in 0..n {
-        xor_block(&mut block, &text[16 * i..16 * i + 16]);
+        xor_in_place(&mut block, &text[16 * i..16 * i + 16]);
         c.encrypt_block(&mut block);
     }
     block
@@ -64,11 +53,11 @@ fn masked<C: BlockCipherEncrypt<16>>(c: &C, rest: &[u8]) -> [u8; 16]
     let mut block = [0u8; 16];
     block[..n].copy_from_slice(rest);
     if n == 16 {
-        xor_block(&mut block, &first);
+        xor_in_place(&mut block, &first);
         return block;
     }
     block[n] = END;
-    xor_block(&mut block, &second);
+    xor_in_place(&mut block, &second);
     block
 }
 
@@ -79,7 +68,7 @@ pub fn cmac_into<C: BlockCipherEncrypt<16>>(c: &C, text: &[u8], out: &mut [u8; 1
     let n = text.len().saturating_sub(1) / 16;
     let last = masked(c, &text[16 * n..]);
     let mut block = chain(c, text, n);
-    xor_block(&mut block, &last);
+    xor_in_place(&mut block, &last);
     c.encrypt_block(&mut block);
     *out = block;
 }

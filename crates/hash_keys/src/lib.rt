@@ -8,29 +8,25 @@
 //! ```
 #![tactic(auto)]
 
-ghost use Rattle.std.specs.Prelude.{◌≡◌, ◌≤◌, ◌<◌, ◌+◌, ◌*◌, ◌/◌, ◌-◌, ◌↔◌, ◌++◌, length, take, codes, Some, IsOk, OnOk, OnErr};
-ghost use Rattle.standards.specs.Hmac.{block_key, pad};
+ghost use Rattle.std.specs.Prelude.{◌≡◌, ◌≤◌, ◌<◌, ◌+◌, ◌*◌, ◌/◌, ◌-◌, ◌↔◌, length, take, codes, Some, IsOk, OnOk, OnErr};
 ghost use Rattle.standards.specs.Hkdf.{expand};
-ghost use Rattle.hash_keys.specs.Hash.{hash_of, block_size, digest_size, hmac_of, hkdf_of};
+ghost use Rattle.hash_keys.specs.Hash.{hash_of, block_size, digest_size, hkdf_of};
 
-use sha1::Sha1;
-use sha2::{Digest, Sha224, Sha256, Sha384, Sha512};
+use crate::hmac::digest_of;
 use std::error::Error;
 use std::fmt;
 
 mod cmac;
+mod hasher;
+mod hmac;
 
 pub use cmac::cmac_into;
+pub use hmac::{HmacKey, hmac_into};
 
 // The bytes of the largest digest and of the largest block.
 const MAX_DIGEST: usize = 64;
 
 const MAX_BLOCK: usize = 128;
-
-// The bytes of HMAC's inner and outer pads (FIPS 198-1, section 2.3).
-const INNER_PAD: u8 = 0x36;
-
-const OUTER_PAD: u8 = 0x5c;
 
 /// A hash function by name (FIPS 180-4).
 #[derive(Clone, Copy, Debug, PartialEq, Eq)]
@@ -80,99 +76,9 @@ impl Hash {
         requires { length out.old ≤ digest_size self }
         ensures written { out.new ≡ take (length out.old) (hash_of self message.now) }
     {
-        let digest = digest_of_parts(self, message, &[], &[], &[]);
+        let digest = digest_of(self, message);
         out.copy_from_slice(&digest[..out.len()]);
     }
-}
-
-// The digest of the joined parts, by a hasher of the SHA-2 family.
-fn sha2_of_parts<D: Digest>(a: &[u8], b: &[u8], c: &[u8], d: &[u8]) -> D::Output
-    ensures { D.digest_of (a.now ++ b.now ++ c.now ++ d.now) result }
-{
-    let mut hasher = D::new();
-    hasher.update(a);
-    hasher.update(b);
-    hasher.update(c);
-    hasher.update(d);
-    hasher.finalize()
-}
-
-// The digest of the joined parts, by SHA-1.
-fn sha1_of_parts(a: &[u8], b: &[u8], c: &[u8], d: &[u8]) -> [u8; 20]
-    ensures { result ≡ hash_of Hash.Sha1 (a.now ++ b.now ++ c.now ++ d.now) }
-{
-    let mut hasher = Sha1::new();
-    hasher.update(a);
-    hasher.update(b);
-    hasher.update(c);
-    hasher.update(d);
-    hasher.finalize()
-}
-
-// The digest of the joined parts, as a prefix of the result.
-fn digest_of_parts(h: Hash, a: &[u8], b: &[u8], c: &[u8], d: &[u8]) -> [u8; MAX_DIGEST]
-    ensures { take (digest_size h) result ≡ hash_of h (a.now ++ b.now ++ c.now ++ d.now) }
-{
-    let mut out = [0u8; MAX_DIGEST];
-    match h {
-        Hash::Sha1 => out[..20].copy_from_slice(&sha1_of_parts(a, b, c, d)),
-        Hash::Sha224 => out[..28].copy_from_slice(&sha2_of_parts::<Sha224>(a, b, c, d)),
-        Hash::Sha256 => out[..32].copy_from_slice(&sha2_of_parts::<Sha256>(a, b, c, d)),
-        Hash::Sha384 => out[..48].copy_from_slice(&sha2_of_parts::<Sha384>(a, b, c, d)),
-        Hash::Sha512 => out.copy_from_slice(&sha2_of_parts::<Sha512>(a, b, c, d)),
-    }
-    out
-}
-
-// The key as one block, as a prefix of the result.
-fn key_block(h: Hash, key: &[u8]) -> [u8; MAX_BLOCK]
-    ensures { take (block_size h) result ≡ block_key (hash_of h) (block_size h) key.now }
-{
-    let mut block = [0u8; MAX_BLOCK];
-    if key.len() > h.block_size() {
-        let size = h.digest_size();
-        let digest = digest_of_parts(h, key, &[], &[], &[]);
-        block[..size].copy_from_slice(&digest[..size]);
-    } else {
-        block[..key.len()].copy_from_slice(key);
-    }
-    block
-}
-
-// Each byte xor one byte.
-fn padded(block: &[u8; MAX_BLOCK], byte: u8) -> [u8; MAX_BLOCK]
-    ensures { result ≡ pad block.now byte }
-{
-    let mut out = [0u8; MAX_BLOCK];
-    for i in 0..MAX_BLOCK {
-        out[i] = block[i] ^ byte;
-    }
-    out
-}
-
-// HMAC of the joined parts, as a prefix of the result.
-fn hmac_of_parts(h: Hash, key: &[u8], a: &[u8], b: &[u8], c: &[u8]) -> [u8; MAX_DIGEST]
-    ensures { take (digest_size h) result ≡ hmac_of h key.now (a.now ++ b.now ++ c.now) }
-{
-    let size = h.block_size();
-    let block = key_block(h, key);
-    let inner_pad = padded(&block, INNER_PAD);
-    let outer_pad = padded(&block, OUTER_PAD);
-    let inner = digest_of_parts(h, &inner_pad[..size], a, b, c);
-    let inner = &inner[..h.digest_size()];
-    digest_of_parts(h, &outer_pad[..size], inner, &[], &[])
-}
-
-/// Fills `out`, of at most a digest's bytes, with a prefix of HMAC (FIPS 198-1) under `key` of the
-/// text that `a`, `b` and `c` make joined.
-///
-/// Each part goes to the hash as it is, so that no part is copied.
-pub fn hmac_into(h: Hash, key: &[u8], a: &[u8], b: &[u8], c: &[u8], out: &mut [u8])
-    requires { length out.old ≤ digest_size h }
-    ensures written { out.new ≡ take (length out.old) (hmac_of h key.now (a.now ++ b.now ++ c.now)) }
-{
-    let code = hmac_of_parts(h, key, a, b, c);
-    out.copy_from_slice(&code[..out.len()]);
 }
 
 /// More bytes were asked of HKDF than 255 digests have.
@@ -208,7 +114,7 @@ pub fn hkdf_into(
     if out.len() > 255 * h.digest_size() {
         return Err(OutputTooLong);
     }
-    let key = hmac_of_parts(h, salt, ikm, &[], &[]);
+    let key = HmacKey::new(h, salt).code_of(ikm, &[], &[]);
     expand_into(h, &key[..h.digest_size()], info, out);
     Ok(())
 }
@@ -220,13 +126,14 @@ fn expand_into(h: Hash, key: &[u8], info: &[u8], out: &mut [u8])
         (expand (hash_of h) (block_size h) key.now info.now ((length out.old + digest_size h - 1) / digest_size h)) }
 {
     let size = h.digest_size();
+    let kept = HmacKey::new(h, key);
     let mut last = [0u8; MAX_DIGEST];
     let mut have = 0;
     let mut done = 0;
     let mut number: u8 = 0;
     while done < out.len() {
         number += 1;
-        let next = hmac_of_parts(h, key, &last[..have], info, &[number]);
+        let next = kept.code_of(&last[..have], info, &[number]);
         last = next;
         have = size;
         let n = (out.len() - done).min(size);

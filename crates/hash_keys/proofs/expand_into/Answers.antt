@@ -35,25 +35,27 @@ front_more before block out next written done n end size at_end front next_is bl
 
 pub loop-done-init : goal.loop-done-init
 unfolding expand_block
-loop-done-init c = record { within = omega arith; count = omega arith; few = omega arith; block = refl; front = refl }
+loop-done-init c = record { kept = c.new-kept.ensures.of_key; within = omega arith; count = omega arith; few = omega arith; block = refl; front = refl }
 
 pub loop-done-preserved : goal.loop-done-preserved
 loop-done-preserved c =
     let h = c.args.h in
     let so_far = c.loop-done.invariant in
-    let block = next_block h c.args.key.now c.args.info.now c.loop-done.last (take (digest_size h) c.hmac_of_parts-next.result) c.loop-done.have c.loop-done.number so_far.block c.hmac_of_parts-next.ensures in
+    let next_is = c.code_of-next.ensures h c.args.key.now so_far.kept in
+    let block = next_block h c.args.key.now c.args.info.now c.loop-done.last (take (digest_size h) c.code_of-next.result) c.loop-done.have c.loop-done.number so_far.block next_is in
     let same_length = same_len_mid c.loop-done.done (c.loop-done.done + c.min-n.result - c.loop-done.done) c.loop-done.out c.copy_from_slice.new.self c.copy_from_slice.ensures.len in
     let at_end : c.loop-done.done ≡ length (expand (hash_of h) (block_size h) c.args.key.now c.args.info.now c.loop-done.number) =
     omega (arith, length-expand h c.args.key.now c.args.info.now c.loop-done.number) in
-    let block_length = ap length (sym block) ∙ ap length c.hmac_of_parts-next.ensures ∙ length-hmac_of h c.args.key.now _ in
+    let block_length = ap length (sym block) ∙ ap length next_is ∙ length-hmac_of h c.args.key.now _ in
     let in_block : c.min-n.result ≤ digest_size h = omega arith in
     record {
+      kept = so_far.kept;
       within = omega arith;
       count = omega (arith, same_length);
       few = omega (arith, same_length);
-      block = ap (λ n. take n c.hmac_of_parts-next.result) c.digest_size-size.ensures.value ∙ block;
+      block = ap (λ n. take n c.code_of-next.result) c.digest_size-size.ensures.value ∙ block;
       front =
-          front_more _ _ c.loop-done.out c.hmac_of_parts-next.result c.copy_from_slice.new.self c.loop-done.done c.min-n.result _ (digest_size h) at_end so_far.front block block_length c.copy_from_slice.ensures.after in_block (omega arith)
+          front_more _ _ c.loop-done.out c.code_of-next.result c.copy_from_slice.new.self c.loop-done.done c.min-n.result _ (digest_size h) at_end so_far.front block block_length c.copy_from_slice.ensures.after in_block (omega arith)
           ∙ ap (take _) (sym (expand_more h c.args.key.now c.args.info.now c.loop-done.number));
     }
 

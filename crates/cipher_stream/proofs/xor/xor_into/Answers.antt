@@ -1,22 +1,15 @@
-use Rattle.std.proofs.Common.{◌≡◌, ◌+◌, ◌*◌, ◌∙◌, ap, arith, bit_xor, get_or, set}
-use lib.Lanes.{chunk, put_chunk, zip2}
-use Rattle.cipher_stream.proofs.Lanes.{all_done, chunk_step, done, set_step, zip2-applied}
+use Rattle.std.proofs.Common.{◌∙◌, length, take, get_or, bit_xor, arith}
+use Rattle.std.proofs.lemmas.List.{get_or-take, length-take}
+use Rattle.cipher_stream.proofs.Applied.{applied-same, xor_bytes-applied}
 use Rattle.cipher_stream.proofs.xor.xor_into.Goals as goal
 
-pub lanes-preserved : goal.lanes-preserved
-lanes-preserved c =
-    let n = 16 * c.lanes.i in
-    let ws = c.args.with.now in
-    let e : n + 16 ≡ 16 * (c.lanes.i + 1) = omega arith in
-    ap (λ l. put_chunk n l (zip2 bit_xor (chunk n 16 l) (chunk n 16 ws))) c.lanes.invariant
-    ∙ chunk_step bit_xor n 16 c.args.out.now ws c.requires (omega arith)
-    ∙ ap (λ m. done bit_xor m c.args.out.now ws) e
-
-pub rest-preserved : goal.rest-preserved
-rest-preserved c =
-    let n = c.rest.i in
-    let ws = c.args.with.now in
-    ap (λ l. set l n (bit_xor (get_or l n 0) (get_or ws n 0))) c.rest.invariant ∙ set_step bit_xor n c.args.out.now ws c.requires (omega arith)
-
 pub returns : goal.returns
-returns c = record { value = c.rest.invariant ∙ (all_done bit_xor c.rest.i c.args.out.now c.args.with.now c.requires (omega arith) ∙ zip2-applied bit_xor c.args.out.now c.args.with.now c.requires) }
+returns c =
+    let out = c.args.out.now in
+    let ws = c.args.with.now in
+    let n = length out in
+    record {
+      value =
+          c.xor_in_place.ensures.value ∙ xor_bytes-applied out (take n ws) (omega (arith, c.requires, length-take n ws))
+          ∙ applied-same bit_xor (λ j. get_or (take n ws) j 0) (λ j. get_or ws j 0) out (λ j h. get_or-take n ws j 0 h);
+    }

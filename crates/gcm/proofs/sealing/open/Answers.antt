@@ -7,12 +7,12 @@ use Rattle.gcm.proofs.sealing.open.Goals as goal
 
 pub returns-then-sealed-lt16 : goal.returns-then-sealed-lt16
 returns-then-sealed-lt16 g c =
-    let E = g.C.BlockCipherEncrypt.encrypts c.args.c.now in
+    let E = g.C.BlockCipherEncrypt.encrypts c.args.g.now.cipher in
     (λ text e. omega (arith, ap length e, length-gcm E c.args.nonce.now c.args.aad.now text), refl)
 
 pub returns-then-not-is_same : goal.returns-then-not-is_same
 returns-then-not-is_same g c =
-    let E = g.C.BlockCipherEncrypt.encrypts c.args.c.now in
+    let E = g.C.BlockCipherEncrypt.encrypts c.args.g.now.cipher in
     let sealed = c.args.sealed.now in
     let n = length c.args.out.now in
     let n_is : length sealed - 16 ≡ n = omega arith in
@@ -28,7 +28,7 @@ returns-then-not-is_same g c =
 
 pub returns : goal.returns
 returns g c =
-    let E = g.C.BlockCipherEncrypt.encrypts c.args.c.now in
+    let E = g.C.BlockCipherEncrypt.encrypts c.args.g.now.cipher in
     let sealed = c.args.sealed.now in
     let n = length c.args.out.now in
     let all : take (length sealed - n) (drop n sealed) ≡ drop n sealed = take_all (length sealed - n) (drop n sealed) (omega (arith, length-drop n sealed)) in

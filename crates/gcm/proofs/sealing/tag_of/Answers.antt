@@ -1,13 +1,14 @@
-use Rattle.std.proofs.Common.{ap, ap₂, ◌∙◌}
+use Rattle.std.proofs.Common.{ap, ap₂, replicate, ◌∙◌}
 use Rattle.standards.specs.Gcm.{gcm_tag}
-use Rattle.standards.specs.Ghash.{ghash}
 use Rattle.standards.specs.Lists.{xor_bytes}
+use Rattle.gcm.proofs.Hashes.{ghash_of}
 use Rattle.gcm.proofs.sealing.tag_of.Goals as goal
 
 pub returns : goal.returns
 unfolding gcm_tag
 returns g c =
-    let E = g.C.BlockCipherEncrypt.encrypts c.args.c.now in
+    let gcm = c.args.g.now in
+    let E = g.C.BlockCipherEncrypt.encrypts gcm.cipher in
     c.xored.ensures
-    ∙ ap₂ xor_bytes (c.ghash.ensures.value ∙ ap (λ key. ghash key c.args.aad.now c.args.ciphertext.now) c.encrypt_block.ensures.value)
-    (c.encrypt_block-2.ensures.value ∙ ap E c.first_block-mask.ensures)
+    ∙ ap₂ xor_bytes (c.hashed-sum.ensures ∙ ghash_of (E (replicate 16 0)) c.args.aad.now c.args.ciphertext.now gcm.subkey gcm.subkey_of)
+    (c.encrypt_block.ensures.value ∙ ap E c.first_block-mask.ensures)

@@ -5,6 +5,7 @@ use Rattle.standards.specs.Counter.{ctr, plus_le}
 use Rattle.standards.specs.GcmSiv.{counter_block}
 use Rattle.standards.specs.Polyval.{polyval}
 use Rattle.gcm.specs.Siv.{tag_under}
+use Rattle.gcm.proofs.Hashes.{polyval_of}
 use Rattle.gcm.proofs.SivFacts.{length-sealed_under, opened, tag_of_sealed}
 use Rattle.gcm.proofs.siv.open.Goals as goal
 
@@ -26,7 +27,9 @@ returns-then-not-is_same g c =
     let tag : c.copy_from_slice.new.self ≡ drop n sealed = c.copy_from_slice.ensures.after ∙ take_all (length sealed - n) (drop n sealed) (omega (arith, length-drop n sealed)) in
     let block : c.counter_block-block.result ≡ counter_block (drop n sealed) = c.counter_block-block.ensures ∙ ap counter_block tag in
     let made : c.tag_of.result ≡ tag_under E (polyval keys.authentication aad (ctr E (plus_le w32) (counter_block (drop n sealed)) (take n sealed))) nonce =
-    c.tag_of.ensures ∙ ap (λ s. tag_under E s nonce) (c.polyval_of_opened-sum.ensures ∙ ap (λ b. polyval keys.authentication aad (ctr E (plus_le w32) b (take n sealed))) block) in (
+    c.tag_of.ensures ∙ ap (λ s. tag_under E s nonce) (c.hashed_as_opened-sum.ensures
+    ∙ polyval_of keys.authentication aad (ctr E (plus_le w32) c.counter_block-block.result (take n sealed)) keys.element keys.element_of
+    ∙ ap (λ b. polyval keys.authentication aad (ctr E (plus_le w32) b (take n sealed))) block) in (
       λ text e.
           let told : c.is_same.result ≡ true = c.is_same.ensures.1 (made ∙ tag_of_sealed E keys.authentication nonce aad text sealed n (g.met.C.BlockCipherEncrypt.sized keys.cipher) n_is e ∙ sym tag) in
           let not : c.is_same.result ≡ _ = c.if-not-is_same.true in
@@ -46,4 +49,4 @@ returns g c =
     let block : c.counter_block-block.result ≡ counter_block (drop n sealed) = c.counter_block-block.ensures ∙ ap counter_block tag in
     let front : c.apply_keystream.new.bytes ≡ ctr E (plus_le w32) c.counter_block-block.result (take n sealed) = c.apply_keystream.ensures ∙ ap (ctr E (plus_le w32) c.counter_block-block.result) c.copy_from_slice-2.ensures.after in
     opened E keys.authentication nonce aad sealed c.apply_keystream.new.bytes n (front ∙ ap (λ b. ctr E (plus_le w32) b (take n sealed)) block)
-    (ap (λ s. tag_under E (polyval keys.authentication aad s) nonce) front ∙ ap (λ s. tag_under E s nonce) (sym c.polyval_of_opened-sum.ensures) ∙ sym c.tag_of.ensures ∙ c.is_same.ensures.0 c.if-not-is_same.false ∙ tag)
+    (ap (λ s. tag_under E (polyval keys.authentication aad s) nonce) front ∙ ap (λ s. tag_under E s nonce) (sym (c.hashed_as_opened-sum.ensures ∙ polyval_of keys.authentication aad (ctr E (plus_le w32) c.counter_block-block.result (take n sealed)) keys.element keys.element_of)) ∙ sym c.tag_of.ensures ∙ c.is_same.ensures.0 c.if-not-is_same.false ∙ tag)

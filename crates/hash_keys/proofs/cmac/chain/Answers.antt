@@ -16,5 +16,5 @@ loop-i-preserved g c =
     let size : 16 * i + 16 - 16 * i ≡ 16 = omega arith in
     let next : suc i ≡ i + 1 = omega arith in
     c.encrypt_block.ensures.value
-    ∙ ap E (c.xor_block.ensures ∙ ap₂ (λ b k. xor_bytes b (take k (drop (16 * i) c.args.text.now))) c.loop-i.invariant size)
+    ∙ ap E (c.xor_in_place.ensures.value ∙ ap₂ (λ b k. xor_bytes b (take k (drop (16 * i) c.args.text.now))) c.loop-i.invariant size)
     ∙ ap (chain_after E c.args.text.now) next

@@ -23,4 +23,4 @@ returns g c =
     let short : length rest < 16 = omega arith in
     let padded = ended c.copy_from_slice.new.self rest c.copy_from_slice.ensures.after short in
     rw (ne_eqb (length rest) 16 c.if-n-eq16.false)
-    (c.xor_block-2.ensures ∙ ap₂ xor_bytes padded (c.doubled-second.ensures ∙ ap double_block c.subkey-first.ensures))
+    (c.xor_in_place-2.ensures.value ∙ ap₂ xor_bytes padded (c.doubled-second.ensures ∙ ap double_block c.subkey-first.ensures))

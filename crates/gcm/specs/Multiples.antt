@@ -1,0 +1,29 @@
+-- The multiples of a number by four bits.
+use Rattle.std.specs.Prelude.{◌≡◌, ℕ, ◌*◌, ◌/◌, ◌%◌, ◌^◌, ◌<◌, List, bit_xor, get_or}
+use Rattle.standards.specs.Ghash.{product, times_x}
+
+-- the product with x ^ 4
+abbrev pub four : ℕ → ℕ
+four z = times_x (times_x (times_x (times_x z)))
+
+-- the product of y and the polynomial of four bits, the highest of them the coefficient of x ^ 0
+abbrev pub multiple : ℕ → ℕ → ℕ
+multiple y n = bit_xor (bit_xor (bit_xor (n % 2 * times_x (times_x (times_x y))) (n / 2 % 2 * times_x (times_x y))) (n / 4 % 2 * times_x y)) (n / 8 % 2 * y)
+
+-- the table holds the 16 multiples of y
+abbrev pub IsTable : ℕ → List ℕ → Type 0
+IsTable y t = (n : ℕ) → n < 16 → get_or t n 0 ≡ multiple y n
+
+abbrev pub sum4 : ℕ → ℕ → ℕ → ℕ → ℕ
+sum4 a b c d = bit_xor (bit_xor (bit_xor a b) c) d
+
+-- (((a h + b) h + c) h + d) h
+abbrev pub horner : ℕ → ℕ → ℕ → ℕ → ℕ → ℕ
+horner h a b c d = product (bit_xor (product (bit_xor (product (bit_xor (product a h) b) h) c) h) d) h
+
+-- h, which is a block's number, and its powers
+pub record ArePowers (h h2 h3 h4 : ℕ) : Type 0 where
+  pub fits : h < 2 ^ 128
+  pub second : h2 ≡ product h h
+  pub third : h3 ≡ product h2 h
+  pub fourth : h4 ≡ product h3 h
