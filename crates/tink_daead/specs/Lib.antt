@@ -1,0 +1,4 @@
+pub mod CmacParts
+pub mod AesSiv
+pub mod AesSivLaws
+pub mod SivCiphers
