@@ -1,5 +1,5 @@
 -- Which inputs AES-SIV decrypts.
-use Rattle.std.proofs.Common.{◌≡◌, ◌≤◌, ◌<◌, ◌+◌, ◌/◌, inl, inr, ℕ, Bool, true, false, List, ◌++◌, length, take, drop, ap, refl, sym, ◌∙◌, arith, length-append}
+use Rattle.std.proofs.Common.{◌≡◌, ◌≤◌, ◌/◌, inl, inr, ℕ, Bool, true, false, List, ◌++◌, length, take, drop, ap, refl, sym, ◌∙◌, arith, length-append}
 use Rattle.std.specs.Prelude.{Result, Ok, Err, if◌then◌else◌, nat_lt}
 use Rattle.std.specs.Int.{w128}
 use Rattle.std.specs.Str.{bytes_eq}

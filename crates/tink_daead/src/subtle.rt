@@ -3,4 +3,4 @@
 mod aes_siv;
 mod siv;
 
-pub use aes_siv::{AesSiv, law_aes_siv};
+pub use aes_siv::{AES_SIV_KEY_SIZE, AesSiv, law_aes_siv};

@@ -17,6 +17,9 @@ use tink_io::{Kind, TinkError};
 use tink_primitives::{CloneIn, DeterministicAead};
 use tink_proto::Bytes;
 
+/// The size of the keys of a keyset in bytes.
+pub const AES_SIV_KEY_SIZE: usize = 64;
+
 // AES under the halves of a key of either size.
 #[derive(Drop)]
 enum SivCiphers {
