@@ -4,3 +4,4 @@ pub mod AesCtrHmac
 pub mod Mac
 pub mod Prf
 pub mod Envelope
+pub mod Daead

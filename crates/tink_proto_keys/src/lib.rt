@@ -4,6 +4,7 @@
 
 mod aead;
 mod aes_ctr_hmac;
+mod daead;
 mod envelope;
 mod fields;
 mod mac;
@@ -14,6 +15,7 @@ pub use aead::{AesGcmKey, AesGcmKeyFormat, AesGcmSivKey, AesGcmSivKeyFormat};
 pub use aes_ctr_hmac::{
     AesCtrHmacAeadKey, AesCtrHmacAeadKeyFormat, AesCtrKey, AesCtrKeyFormat, AesCtrParams,
 };
+pub use daead::{AesSivKey, AesSivKeyFormat};
 pub use envelope::KmsEnvelopeAeadKeyFormat;
 pub use mac::{AesCmacKey, AesCmacKeyFormat, AesCmacParams, HmacKey, HmacKeyFormat, HmacParams};
 pub use prf::{

@@ -1,0 +1,2 @@
+pub mod CmacParts
+pub mod SivFacts

@@ -1,0 +1,8 @@
+pub mod CmacParts
+pub mod AesSiv
+pub mod AesSivLaws
+pub mod SivCiphers
+pub mod KeyTypes
+pub mod Templates
+pub mod Wrapped
+pub mod WrappedTold

@@ -1,0 +1,193 @@
+//! AES-SIV (RFC 5297).
+
+ghost use Rattle.std.specs.Prelude.{◌≡◌, ◌+◌, ◌↔◌, false, length, IsTrue, MatchOption, MatchResult};
+ghost use Rattle.standards.specs.AesKeys.{aes};
+ghost use Rattle.standards.specs.Siv.{s2v};
+ghost use Rattle.tink_io.specs.Told.{Answers, Tells};
+ghost use Rattle.tink_daead.specs.AesSiv.{aes_siv, aes_siv_decrypts, aes_siv_decrypts_told, aes_siv_encrypts};
+ghost use Rattle.tink_daead.specs.AesSiv.{is_siv_key_size, mac_half, siv_key, text_behind};
+ghost use Rattle.tink_daead.specs.AesSivLaws.{AcceptsExactly, HasOneText, RefusesOthers, RefusesShort};
+ghost use Rattle.tink_daead.specs.SivCiphers.{whole_key, FitsCiphers, IsKeyed};
+
+use crate::subtle::siv::{SIV_SIZE, SivPair, pair_of};
+use aes_block::{Aes128, Aes256};
+use std::alloc::{AllocError, Global};
+use std::marker::Model;
+use tink_io::{Kind, TinkError};
+use tink_primitives::{CloneIn, DeterministicAead};
+use tink_proto::Bytes;
+
+/// The size of the keys of a keyset in bytes.
+pub const AES_SIV_KEY_SIZE: usize = 64;
+
+// AES under the halves of a key of either size.
+#[derive(Drop)]
+enum SivCiphers {
+    Aes128(SivPair<Aes128>),
+    Aes256(SivPair<Aes256>),
+}
+
+impl SivCiphers {
+    // The ciphers under the halves of a key, where it has one of the two sizes.
+    fn new(key: &[u8]) -> Option<SivCiphers>
+        ensures { MatchOption result (is_siv_key_size (length key.now) ≡ false) (λ ciphers. IsKeyed ciphers key.now) }
+    {
+        let n = key.len() / 2;
+        if let Some(pair) = pair_of::<Aes128, 16>(&key[..n], &key[n..]) {
+            return Some(SivCiphers::Aes128(pair));
+        }
+        match pair_of::<Aes256, 32>(&key[..n], &key[n..]) {
+            Some(pair) => Some(SivCiphers::Aes256(pair)),
+            None => None,
+        }
+    }
+
+    // Fills `out` with V and the ciphertext.
+    fn seal_into(&self, aad: &[u8], text: &[u8], out: &mut [u8])
+        requires fits { FitsCiphers self.now }
+        requires room { length out.old ≡ 16 + length text.now }
+        ensures { out.new ≡ aes_siv (whole_key self.now) aad.now text.now }
+    {
+        match self {
+            SivCiphers::Aes128(pair) => pair.seal_into(aad, text, out),
+            SivCiphers::Aes256(pair) => pair.seal_into(aad, text, out),
+        }
+    }
+
+    // Puts the text of a ciphertext into its place, and answers whether V is that of the text.
+    fn open(&self, aad: &[u8], v: &[u8; SIV_SIZE], bytes: &mut [u8]) -> bool
+        requires fits { FitsCiphers self.now }
+        ensures text { bytes.new ≡ text_behind (whole_key self.now) v.now bytes.old }
+        ensures value { IsTrue result ↔ (s2v (aes (mac_half (whole_key self.now))) aad.now bytes.new ≡ v.now) }
+    {
+        match self {
+            SivCiphers::Aes128(pair) => pair.open(aad, v, bytes),
+            SivCiphers::Aes256(pair) => pair.open(aad, v, bytes),
+        }
+    }
+
+    // The text of which the input is the encryption.
+    fn decrypt(&self, alloc: Global, input: &[u8], aad: &[u8]) -> Result<Bytes, TinkError>
+        requires { FitsCiphers self.now }
+        ensures { Answers result (aes_siv_decrypts (whole_key self.now) input.now aad.now) }
+    {
+        if input.len() < SIV_SIZE {
+            return Err(TinkError::new(Kind::TooShort));
+        }
+        let mut text = input[SIV_SIZE..].to_vec(alloc)?;
+        let mut v = [0u8; SIV_SIZE];
+        v.copy_from_slice(&input[..SIV_SIZE]);
+        if !self.open(aad, &v, &mut text) {
+            return Err(TinkError::new(Kind::DecryptFailed));
+        }
+        Ok(Bytes::from_vec(text))
+    }
+
+    fn clone(&self) -> Result<SivCiphers, AllocError>
+        ensures { MatchResult result (λ copy. copy ≡ self.now) (λ _. ⊥) }
+    {
+        Ok(match self {
+            SivCiphers::Aes128(pair) => SivCiphers::Aes128(SivPair {
+                mac: pair.mac.clone()?,
+                counter: pair.counter.clone()?,
+            }),
+            SivCiphers::Aes256(pair) => SivCiphers::Aes256(SivPair {
+                mac: pair.mac.clone()?,
+                counter: pair.counter.clone()?,
+            }),
+        })
+    }
+}
+
+/// AES-SIV (RFC 5297) under a key of 32 or 64 bytes, which contracts see as the key. The first half is the key of CMAC,
+/// the second that of the counter mode. What it makes of a text is V, of 16 bytes, and the ciphertext.
+///
+/// Equal texts with equal associated data give equal bytes, and who sees two ciphertexts sees that.
+#[derive(Drop)]
+pub struct AesSiv {
+    ciphers: SivCiphers,
+}
+
+impl Model for AesSiv {
+    ghost use Rattle.std.specs.Prelude.{List, ℕ};
+    ghost use Rattle.tink_daead.specs.SivCiphers.{whole_key, FitsCiphers};
+
+    ghost Value = { List ℕ };
+
+    ghost view = { λ a. whole_key a.ciphers };
+
+    ghost invariant = { λ a. FitsCiphers a.ciphers };
+}
+
+impl AesSiv {
+    /// The AEAD under this key. No memory is needed.
+    ///
+    /// # Errors
+    /// `BadKeySize` exactly where the key has neither 32 nor 64 bytes.
+    pub fn new(_alloc: Global, key: &[u8]) -> Result<AesSiv, TinkError>
+        ensures { Tells result (siv_key key.now) }
+    {
+        match SivCiphers::new(key) {
+            Some(ciphers) => Ok(AesSiv { ciphers }),
+            None => Err(TinkError::new(Kind::BadKeySize)),
+        }
+    }
+}
+
+impl CloneIn for AesSiv {
+    fn try_clone(&self, _alloc: Global) -> Result<Self, TinkError> {
+        Ok(AesSiv {
+            ciphers: self.ciphers.clone()?,
+        })
+    }
+}
+
+impl DeterministicAead for AesSiv {
+    ghost encrypts = { aes_siv_encrypts };
+
+    ghost decrypts = { aes_siv_decrypts };
+
+    /// V and the ciphertext (RFC 5297, 2.6): 16 bytes more than the text has. Empty associated data is one empty
+    /// component.
+    ///
+    /// # Errors
+    /// `OutOfMemory` alone.
+    fn encrypt_deterministically(
+        &self,
+        alloc: Global,
+        plaintext: &[u8],
+        additional_data: &[u8],
+    ) -> Result<Bytes, TinkError> {
+        let mut out = vec![in alloc; 0u8; SIV_SIZE + plaintext.len()]?;
+        self.ciphers.seal_into(additional_data, plaintext, &mut out);
+        Ok(Bytes::from_vec(out))
+    }
+
+    /// The text of which `ciphertext` is the encryption with this associated data (RFC 5297, 2.7).
+    ///
+    /// # Errors
+    /// `TooShort` exactly where it has fewer than 16 bytes, and else `DecryptFailed` exactly where it is the encryption
+    /// of no text; `OutOfMemory`.
+    fn decrypt_deterministically(
+        &self,
+        alloc: Global,
+        ciphertext: &[u8],
+        additional_data: &[u8],
+    ) -> Result<Bytes, TinkError> {
+        self.ciphers.decrypt(alloc, ciphertext, additional_data)
+    }
+
+    ghost encrypts_told = { λ _ _ _. tt };
+
+    ghost decrypts_told = { aes_siv_decrypts_told };
+}
+
+/// AES-SIV decrypts an input to a text exactly where the input is the text's encryption with this data; it refuses by
+/// `TooShort` exactly an input of fewer than 16 bytes, and by `DecryptFailed` exactly any other that is the encryption
+/// of no text. No input is the encryption of two.
+pub fn law_aes_siv()
+    ensures accepts { AcceptsExactly }
+    ensures too_short { RefusesShort }
+    ensures decrypt_failed { RefusesOthers }
+    ensures one_text { HasOneText }
+{}
