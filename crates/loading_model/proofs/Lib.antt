@@ -1,5 +1,6 @@
 pub mod KeyFacts
 pub mod UsableKeys
 pub mod ChoosingFacts
+pub mod AloneFacts
 pub mod PlaceFacts
 pub mod RotationFacts

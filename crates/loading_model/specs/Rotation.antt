@@ -1,6 +1,6 @@
 -- Streams and the commands of a manager: which key of a keyset is chosen for a stream, and what commands leave of that.
 -- A key is named by its place in the keyset, since ids may be equal.
-use Rattle.std.specs.Prelude.{◌≡◌, ◌↔◌, ◌⊎◌, ◌≤◌, ◌-◌, ⊤, ℕ, zero, suc, true, if◌then◌else◌, nat_eq, nat_lt, List, [], ◌∷◌, All, Option, Some, None, Ok, IsTrue}
+use Rattle.std.specs.Prelude.{◌≡◌, ◌↔◌, ◌⊎◌, ◌≤◌, ◌-◌, ⊤, ℕ, zero, suc, true, if◌then◌else◌, nat_eq, nat_lt, List, [], ◌∷◌, All, Option, Some, None, Ok, IsTrue, slice_get}
 use Rattle.std.specs.Option.{option_map}
 use Rattle.tink_proto.specs.declared.messages.keys.Key.{Key}
 use Rattle.tink_proto.specs.declared.messages.keys.Keyset.{Keyset}
@@ -127,6 +127,17 @@ HasItsPlace =
     (rows : List LoadingRow) (ks : Keyset) (l : Loaded) (aad S : List ℕ) (k : OpeningKey) → load_keyset rows ks ≡ Ok l
     → IsChosen (opening_keys aad l) S (Some k)
     ↔ ((place id : ℕ) × (key : StreamKey) × IsChosenAt rows aad S ks.key place id key × (k ≡ opening_key aad key))
+
+-- the keyset of one key, which is its primary one
+abbrev pub alone : Key → Keyset
+alone k = record { primary_key_id = k.key_id; key = k ∷ [] }
+
+-- of a keyset that loads, the key that is chosen for a stream is by itself a keyset that loads, as this key alone
+abbrev pub LoadsAlone : Type 0
+LoadsAlone =
+    (rows : List LoadingRow) (ks : Keyset) (l : Loaded) (aad S : List ℕ) (place id : ℕ) (key : StreamKey) (k : Key)
+    → load_keyset rows ks ≡ Ok l → IsChosenAt rows aad S ks.key place id key → slice_get ks.key place ≡ Some k
+    → (m : Loaded) × (load_keyset rows (alone k) ≡ Ok m) × (opening_keys aad m ≡ opening_key aad key ∷ [])
 
 -- after commands that only add keys or choose the primary one, each stream opens to the text that it opened to
 abbrev pub StreamsStay : Type 0

@@ -1,6 +1,6 @@
 //! What a keyset opens after a manager's commands. These functions do nothing: their contracts are the laws.
 
-ghost use Rattle.loading_model.specs.Rotation.{EditedLoads, HasItsPlace, OpeningStays, StaysChosen, StaysChosenByAll, StreamsOutlive, StreamsOutliveById, StreamsStay};
+ghost use Rattle.loading_model.specs.Rotation.{EditedLoads, HasItsPlace, LoadsAlone, OpeningStays, StaysChosen, StaysChosenByAll, StreamsOutlive, StreamsOutliveById, StreamsStay};
 
 /// The bytes of the keyset that any commands make load as this keyset, where it fits the wire format, as every keyset
 /// does that was encoded.
@@ -14,6 +14,12 @@ pub fn law_edited_loads()
 #[tactic(auto, using(crate::proofs::ChoosingFacts::has_its_place))]
 pub fn law_chosen_place()
     ensures { HasItsPlace }
+{}
+
+/// Of a keyset that loads, the key that is chosen for a stream is by itself a keyset that loads, and is then the one key
+/// that may be chosen.
+pub fn law_chosen_alone()
+    ensures { LoadsAlone }
 {}
 
 /// After any commands of which each adds a key, rotates or chooses the primary key, each stream opens to the text that

@@ -5,3 +5,4 @@ pub mod OpeningFacts
 pub mod KeyFacts
 pub mod SealingFacts
 pub mod SegmentFacts
+pub mod BlockFacts

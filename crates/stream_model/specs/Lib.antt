@@ -3,3 +3,4 @@ pub mod Agree
 pub mod Key
 pub mod Sealing
 pub mod Opening
+pub mod Blocks

@@ -287,6 +287,7 @@ keyset_makes words old new (Refused by) m = λ r spelled. record {
 keyset_promised : (words : List (List ℕ)) (old new : Outside) (r : Rotation) (outcome : Outcome) → SpellRotation words r → KeysetMeans words old new outcome → Promised words old new (status_of outcome)
 keyset_promised words old new r outcome spelled m = record {
   sealed = λ k a s other. absurd (not_sealed words r k a s spelled other);
+  stopped = λ k a s other. absurd (not_sealed words r k a s spelled other);
   opened = λ k a other. absurd (not_opened words r k a spelled other);
   written = λ k a other. absurd (not_opened words r k a spelled other);
   succeeds = record {

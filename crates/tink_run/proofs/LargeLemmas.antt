@@ -182,6 +182,7 @@ pub large_promised : (words : List (List ℕ)) (old new : Outside) (n : ℕ) (an
     → WritesLarge n old.got new.got old.write_faults new.write_faults answer → Promised words old new (status_of (answer_outcome answer))
 large_promised words old new n answer spelled left faults m = record {
   sealed = λ k a s other. absurd (large_not_sealed words n k a s spelled other);
+  stopped = λ k a s other. absurd (large_not_sealed words n k a s spelled other);
   opened = λ k a other. absurd (large_not_opened words n k a spelled other);
   written = λ k a other. absurd (large_not_opened words n k a spelled other);
   succeeds = record {

@@ -21,3 +21,4 @@ pub mod LoadSteps
 mod StandardFacts
 pub mod RotationLaws
 pub mod FitFacts
+pub mod OneKeyFacts

@@ -5,7 +5,7 @@ use Rattle.std.specs.Io.KnownBytes.{Appends}
 use Rattle.tink_io.specs.Faults.{Rose}
 use Rattle.tink_io.specs.Written.{AppendsFront, WritesOrFaults}
 use Rattle.tink_io.specs.declared.error.Kind.{Kind}
-use Rattle.tink_io.specs.declared.error.Kind.TheVariants.{OutOfMemory, RandomFault, UnknownTemplate, NoFreshId}
+use Rattle.tink_io.specs.declared.error.Kind.TheVariants.{OutOfMemory, RandomFault, ReadFault, UnknownTemplate, NoFreshId}
 use Rattle.tink_io.specs.declared.error.TinkError.{TinkError}
 use Rattle.stream_model.specs.Key.{IsUsable}
 use Rattle.stream_model.specs.Sealing.{drawn}
@@ -20,7 +20,7 @@ use Rattle.tink_run.specs.declared.report.Report.{Report}
 use Rattle.tink_run.specs.Draws.{draws_in}
 use Rattle.tink_run.specs.Outside.{Outside}
 use Rattle.tink_run.specs.Run.{AnswerMeans, IsEarly, IsOkOrWant, LeavesEnds}
-use Rattle.tink_run.specs.Program.{kind_status, status_of, answer_outcome, StreamMeans, Answered, IsEarlyKind, IsUsage, Leaves, Ran, Promised, SealsWhole, OpensWhole, WritesAgreeing, SealSucceeds, OpenSucceeds}
+use Rattle.tink_run.specs.Program.{kind_status, status_of, answer_outcome, StreamMeans, Answered, IsEarlyKind, IsUsage, Leaves, Ran, Promised, SealsWhole, StopsUnmarked, OpensWhole, WritesAgreeing, SealSucceeds, OpenSucceeds}
 use Rattle.tink_run.specs.Words.{SealWords, OpenWords, SpellNothing}
 use Rattle.tink_run.proofs.KeysetWords.{not_nothing, not_opened, not_sealed}
 use Rattle.tink_run.proofs.LargeWordFacts.{large_not_opened, large_not_sealed}
@@ -93,6 +93,7 @@ stream_usage words old new (Refused kind) m = record { cause = λ is. absurd (om
 pub usage_promised : (words : List (List ℕ)) (old new : Outside) (status : ℕ) → SpellNothing words → Promised words old new status
 usage_promised words old new status nothing = record {
   sealed = λ keyset aad seed spelled. absurd (nothing.no_seal keyset aad seed spelled);
+  stopped = λ keyset aad seed spelled. absurd (nothing.no_seal keyset aad seed spelled);
   opened = λ keyset aad spelled. absurd (nothing.no_open keyset aad spelled);
   written = λ keyset aad spelled. absurd (nothing.no_open keyset aad spelled);
   succeeds = record {
@@ -111,6 +112,17 @@ seals_whole : (keyset aad seed : List ℕ) (old new : Outside) (answer : Result 
     → SealsWhole keyset aad seed old new (status_of (answer_outcome answer))
 seals_whole keyset aad seed old new (Ok report) ran = λ T G told is. (report, ran.left_draws, ran.ok T G told)
 seals_whole keyset aad seed old new (Err e) ran = λ T G told is. absurd (omega (arith, is, kind_status-above e.kind))
+
+stops_by : (keyset aad seed left_draws : List ℕ) (old new : Outside) (kind : Kind)
+    → AnswerMeans Seal keyset aad (draws_in seed 256) left_draws old new (Err (record { kind = kind }))
+    → StopsUnmarked keyset aad seed old new (kind_status kind)
+stops_by keyset aad seed left_draws old new ReadFault m = λ is. (m.loaded, m.loads, m.means)
+stops_by keyset aad seed left_draws old new _ m = λ is. absurd (omega (arith, is))
+
+stops_unmarked : (keyset aad seed : List ℕ) (old new : Outside) (answer : Result Report TinkError) → Ran Seal keyset aad (draws_in seed 256) old new answer
+    → StopsUnmarked keyset aad seed old new (status_of (answer_outcome answer))
+stops_unmarked keyset aad seed old new (Ok report) ran = λ is. absurd (omega (arith, is))
+stops_unmarked keyset aad seed old new (Err e) ran = stops_by keyset aad seed ran.left_draws old new e.kind ran.means
 
 opens_whole : (keyset aad : List ℕ) (old new : Outside) (answer : Result Report TinkError) → Ran Open keyset aad [] old new answer
     → OpensWhole keyset aad old new (status_of (answer_outcome answer))
@@ -146,6 +158,8 @@ pub seal_promised : (words : List (List ℕ)) (keyset aad seed : List ℕ) (old 
 seal_promised words keyset aad seed old new answer spelled ran = record {
   sealed = λ k a s other. along_seal (λ x y z. SealsWhole x y z old new (status_of (answer_outcome answer))) keyset aad seed k a s
       (seal-same words keyset aad seed k a s spelled other) (seals_whole keyset aad seed old new answer ran);
+  stopped = λ k a s other. along_seal (λ x y z. StopsUnmarked x y z old new (status_of (answer_outcome answer))) keyset aad seed k a s
+      (seal-same words keyset aad seed k a s spelled other) (stops_unmarked keyset aad seed old new answer ran);
   opened = λ k a other. absurd (not_both words keyset aad seed k a spelled other);
   written = λ k a other. absurd (not_both words keyset aad seed k a spelled other);
   succeeds = record {
@@ -162,6 +176,7 @@ pub open_promised : (words : List (List ℕ)) (keyset aad : List ℕ) (old new :
     → Ran Open keyset aad [] old new answer → Promised words old new (status_of (answer_outcome answer))
 open_promised words keyset aad old new answer spelled ran = record {
   sealed = λ k a s other. absurd (not_both words k a s keyset aad other spelled);
+  stopped = λ k a s other. absurd (not_both words k a s keyset aad other spelled);
   opened = λ k a other. along_open (λ x y. OpensWhole x y old new (status_of (answer_outcome answer))) keyset aad k a
       (open-same words keyset aad k a spelled other) (opens_whole keyset aad old new answer ran);
   written = λ k a other. along_open (λ x y. WritesAgreeing x y old new) keyset aad k a (open-same words keyset aad k a spelled other) ran.written;

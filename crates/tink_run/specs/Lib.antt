@@ -13,3 +13,4 @@ pub mod AllKeys
 pub mod HeldKeys
 pub mod Rotation
 pub mod Fitting
+pub mod OneKey

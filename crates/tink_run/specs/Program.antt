@@ -1,7 +1,10 @@
 -- What the program says by its status and its line.
 use Rattle.std.specs.Prelude.{◌≡◌, ◌⊎◌, ℕ, List, [], ◌∷◌, ◌++◌, codes, ◌==◌, IsTrue, Option, Result, Ok, Err, IfOk}
 use Rattle.std.specs.List.{list_any}
+use Rattle.stream_model.specs.Sealing.{prefix_of, salt_of}
+use Rattle.loading_model.specs.Loading.{Loaded}
 use Rattle.tink_run.specs.AllKeys.{load}
+use Rattle.tink_run.specs.SealAnswers.{SourceFailed}
 use Rattle.tink_io.specs.Faults.{Rose}
 use Rattle.tink_io.specs.Texts.{kind_line}
 use Rattle.tink_io.specs.Written.{WritesOrFaults}
@@ -216,6 +219,13 @@ abbrev pub SealsWhole : List ℕ → List ℕ → List ℕ → Outside → Outsi
 SealsWhole keyset aad seed old new status = (T G : List ℕ) → Told old T G → status ≡ 0
     → (report : Report) × (left_draws : List ℕ) × IsWholeStream keyset aad (draws_in seed 256) left_draws T G new report
 
+-- a seal with status 11 has written exactly the front and the unmarked segments of what it read
+abbrev pub StopsUnmarked : List ℕ → List ℕ → List ℕ → Outside → Outside → ℕ → Type 0
+StopsUnmarked keyset aad seed old new status = status ≡ 11
+    → (loaded : Loaded) × (load keyset ≡ Ok loaded)
+    × SourceFailed loaded.primary aad (salt_of loaded.primary (draws_in seed 256))
+    (prefix_of loaded.primary (draws_in seed 256)) old new
+
 -- told bytes: an open with status 0 had exactly a stream of the chosen key, and has written its text
 abbrev pub OpensWhole : List ℕ → List ℕ → Outside → Outside → ℕ → Type 0
 OpensWhole keyset aad old new status = (S G : List ℕ) → Told old S G → status ≡ 0
@@ -225,9 +235,13 @@ OpensWhole keyset aad old new status = (S G : List ℕ) → Told old S G → sta
 abbrev pub WritesAgreeing : List ℕ → List ℕ → Outside → Outside → Type 0
 WritesAgreeing keyset aad old new = (S G : List ℕ) → Told old S G → IsOfAgreeing keyset aad S old new
 
--- these three, of what the words spell
+-- these four, of what the words spell
 abbrev pub SealsAsSpelled : List (List ℕ) → Outside → Outside → ℕ → Type 0
 SealsAsSpelled words old new status = (keyset aad seed : List ℕ) → SealWords words keyset aad seed → SealsWhole keyset aad seed old new status
+
+abbrev pub StopsAsSpelled : List (List ℕ) → Outside → Outside → ℕ → Type 0
+StopsAsSpelled words old new status =
+    (keyset aad seed : List ℕ) → SealWords words keyset aad seed → StopsUnmarked keyset aad seed old new status
 
 abbrev pub OpensAsSpelled : List (List ℕ) → Outside → Outside → ℕ → Type 0
 OpensAsSpelled words old new status = (keyset aad : List ℕ) → OpenWords words keyset aad → OpensWhole keyset aad old new status
@@ -281,6 +295,8 @@ MeasuresAsSpelled words old new status = (n : ℕ) → LargeWords words n → Me
 pub record Promised (words : List (List ℕ)) (old new : Outside) (status : ℕ) : Type 0 where
   -- what 0 promises of a seal
   pub sealed : SealsAsSpelled words old new status
+  -- what a seal has written whose source failed, told or not
+  pub stopped : StopsAsSpelled words old new status
   -- what 0 promises of an open
   pub opened : OpensAsSpelled words old new status
   -- what an open has written by any status

@@ -1,6 +1,7 @@
-//! What `run` opens after a keyset was edited. These functions do nothing: their contracts are the laws.
+//! What `run` opens after a keyset was edited, and that it opens as under the chosen key alone. These functions do
+//! nothing: their contracts are the laws.
 //!
-//! How the pieces fit: each call of a `Manager` is the command of its name on the keyset and the draws (`edit` of
+//! How the pieces of editing fit: each call of a `Manager` is the command of its name on the keyset and the draws (`edit` of
 //! keyset_model; `add` as the primary key is `Rotate`), so that calls one after another make `after_all` of them.
 //! `handle` gives a handle of that keyset, `insecure::keyset_material` its message, and `encode` the message's bytes,
 //! where it fits the wire format. Under these bytes `run` opens a stream as its contract says; what that is for the
@@ -9,6 +10,7 @@
 //! opening, by any rows of types of keys, are laws of loading_model.
 
 ghost use Rattle.tink_run.specs.Fitting.{KeepsFit};
+ghost use Rattle.tink_run.specs.OneKey.{OpensAsOneKey, RunOpensAlone};
 ghost use Rattle.tink_run.specs.Rotation.{RunOpensAfterAdding, RunOpensAfterAll, RunOpensById, RunOpensEdited};
 
 /// What `run` opens under the encoding of the keyset that any list of commands makes, and to what text, is what this
@@ -36,4 +38,15 @@ pub fn law_run_opens_after_rotation()
 
     // Where none enables a key, or disables, destroys or deletes one of that key's id.
     ensures ids { RunOpensById }
+{}
+
+/// A stream that tells its bytes, and begins first under one of some keys, is opened as under this key alone: what an
+/// open answers, has written and has read under the keys it does under that key, whatever other keys were tried and
+/// however large their segments are. That this key is by itself a keyset that loads is a law of loading_model
+/// (`law_chosen_alone`).
+pub fn law_one_key()
+    ensures keys { OpensAsOneKey }
+
+    // So under a keyset `run` answers as under each keyset whose one raw key is the key that is chosen.
+    ensures keysets { RunOpensAlone }
 {}

@@ -70,7 +70,8 @@ pub fn program<S: Source, K: Sink, E: Sink>(
     ensures kept { LeavesSource (words_of words.now) source.old source.new }
 
     // Told bytes: what status 0 promises of a seal, and of an open; what an open has written by any status; when a
-    // command succeeds. Told or not: what the other commands have written, and when they succeed.
+    // command succeeds. Told or not: what a seal has written by 11; what the other commands have written, and when they
+    // succeed.
     ensures promised { Promised (words_of words.now)
         (outside_of S.left S.faults K.got K.faults source.old sink.old)
         (outside_of S.left S.faults K.got K.faults source.new sink.new) result }

@@ -5,3 +5,4 @@ pub mod SealedFacts
 pub mod WholeReadingFacts
 pub mod KeyMost
 pub mod WrappedFacts
+pub mod OneKeyFacts

@@ -5,3 +5,4 @@ pub mod DecryptReaders
 pub mod DecryptStages
 pub mod Wrapped
 pub mod WholeReading
+pub mod OneKey

@@ -12,7 +12,10 @@ ghost use Rattle.tink_streams.specs.Writing.{ClosedBy, WriterMoment, Wrote};
 ghost use Rattle.tink_streaming_aead.specs.DecryptReaders.{GivesFirst};
 ghost use Rattle.tink_stream_keys.specs.Decrypting.{IsNewReader};
 ghost use Rattle.tink_stream_keys.specs.Encrypting.{IsNewStream};
+ghost use Rattle.tink_streaming_aead.specs.OneKey.{FirstReadIsOk, ReadsAsAlone, ReadsAsReader};
 ghost use Rattle.tink_streaming_aead.specs.WholeReading.{IsTextOfChosen, IsTextOfStream};
+
+use tink_io::Source;
 
 /// A new writer that is given a text, however the text is cut into writes, and is closed has written exactly the
 /// stream of the text: the front under the first draws, and then a segment for each chunk, the last one marked. One
@@ -36,6 +39,20 @@ pub fn law_first_read()
         (a b overhead : ℕ) (new : reading.TextMoment) (before after : List ℕ) (n : ℕ)
         → (first : GivesFirst keys all seg a b overhead new before after n)
         → Gave seg a b first.rest (take n after) new }
+{}
+
+/// A keyset's reader of a stream, from a source that tells its bytes, is that of the key that is chosen for it, whatever
+/// other keys were tried and however large their segments are.
+pub fn law_one_key<S: Source>()
+    // What the first read says of the keys, it says of the chosen key alone.
+    ensures alone { ReadsAsAlone S.left S.faults }
+
+    // It is Ok where the source does not fail.
+    ensures opens { FirstReadIsOk S.left S.faults }
+
+    // It is then that of a new reader of the key, which has read a header and no more. Each later read is that of this
+    // reader, by `DecryptReader::read`.
+    ensures reader { ReadsAsReader }
 {}
 
 /// What reads up to the end have given: of a key's reader, the whole source was a stream of the key; of a keyset's

@@ -17,7 +17,9 @@ pub use key_templates::{
     aes256_ctr_hmac_sha256_segment_4kb_key_template, aes256_gcm_hkdf_1mb_key_template,
     aes256_gcm_hkdf_4kb_key_template,
 };
-pub use laws::{law_first_read, law_sealed_opens, law_whole_reading, law_whole_stream};
+pub use laws::{
+    law_first_read, law_one_key, law_sealed_opens, law_whole_reading, law_whole_stream,
+};
 pub use registering::init;
 pub use tink_primitives::UPSTREAM_VERSION;
 pub use tink_segment_traits::{SegmentDecrypter, SegmentEncrypter, generate_segment_nonce};
