@@ -1,5 +1,5 @@
-//! An example, for benchmarks: prints to standard error how fast AES is over many blocks, alone and in counter mode, and
-//! beside it block by block.
+//! An example, for benchmarks: prints to standard error how fast AES is block by block, over many blocks together, and
+//! in counter mode.
 #![tactic(auto)]
 
 use aes_block::Aes128;
