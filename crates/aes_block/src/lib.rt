@@ -1,5 +1,5 @@
-//! AES (FIPS 197): the block ciphers with keys of 16, 24 and 32 bytes, of eight blocks together by bit planes, and of one
-//! block and a key by tables of bytes.
+//! AES (FIPS 197): the block ciphers with keys of 16, 24 and 32 bytes. Eight blocks together go by bit planes, one alone
+//! and the key expansion by tables of bytes.
 #![tactic(auto)]
 
 ghost use Rattle.std.specs.Prelude.{◌≡◌, ◌≤◌, ◌<◌, ℕ, List, length};

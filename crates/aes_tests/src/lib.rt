@@ -4,6 +4,8 @@
 #[cfg(test)]
 mod aes_vectors;
 #[cfg(test)]
+mod block_by_block;
+#[cfg(test)]
 mod cbc_vectors;
 #[cfg(test)]
 mod cmac_vectors;

@@ -1,5 +1,5 @@
-//! An example, for benchmarks: prints to standard error how fast AES is over many blocks, alone and in counter mode, and
-//! beside it block by block.
+//! An example, for benchmarks: prints to standard error how fast AES is block by block, over many blocks together, and
+//! in counter mode.
 #![tactic(auto)]
 
 use aes_block::Aes128;
@@ -80,7 +80,7 @@ fn print(rt: HostRuntime, times: &Times) -> io::Result<()> {
     eprintln!(rt; "encrypt_block   {} MB/s", speed(times.encrypt_block))?;
     let part = hundredths(times.encrypt_block, times.encrypt_blocks);
     eprintln!(rt;
-        "encrypt_blocks  {} MB/s, {}.{:02} of encrypt_block",
+        "encrypt_blocks  {} MB/s, {}.{:02} times encrypt_block",
         speed(times.encrypt_blocks),
         part / 100,
         part % 100
@@ -88,14 +88,14 @@ fn print(rt: HostRuntime, times: &Times) -> io::Result<()> {
     eprintln!(rt; "decrypt_block   {} MB/s", speed(times.decrypt_block))?;
     let part = hundredths(times.decrypt_block, times.decrypt_blocks);
     eprintln!(rt;
-        "decrypt_blocks  {} MB/s, {}.{:02} of decrypt_block",
+        "decrypt_blocks  {} MB/s, {}.{:02} times decrypt_block",
         speed(times.decrypt_blocks),
         part / 100,
         part % 100
     )?;
     let part = hundredths(times.encrypt_blocks, times.apply_keystream);
     eprintln!(rt;
-        "apply_keystream {} MB/s, {}.{:02} of encrypt_blocks",
+        "apply_keystream {} MB/s, {}.{:02} times encrypt_blocks",
         speed(times.apply_keystream),
         part / 100,
         part % 100

@@ -1,4 +1,4 @@
-// The rounds of the inverse cipher on bit planes (FIPS 197, 5.3), which takes the round keys from the last to the first.
+// The rounds of the inverse cipher on bit planes (FIPS 197, 5.3). It takes the round keys from the last to the first.
 ghost use Rattle.std.specs.Prelude.{◌≡◌, ◌≤◌, ℕ, List, map};
 ghost use Rattle.standards.specs.Aes.{add_round_key};
 ghost use Rattle.standards.specs.AesInverse.{inv_cipher, inv_mix_columns, inv_shift_rows, inv_sub_bytes};
@@ -100,7 +100,8 @@ fn round(q: Planes, k: Planes) -> Planes
 pub(crate) fn decipher_planes(keys: &[KeyPlanes; 15], rounds: usize, q: Planes) -> Planes
     requires some { 1 ≤ rounds }
     requires few { rounds ≤ 14 }
-    ensures { (b ks : List (List ℕ)) → AreBlocks b q → AreKeys rounds ks keys.now → AreBlocks (map (inv_cipher rounds ks) b) result }
+    ensures { (b ks : List (List ℕ)) → AreBlocks b q → AreKeys rounds ks keys.now
+        → AreBlocks (map (inv_cipher rounds ks) b) result }
 {
     let mut s = add_planes(q, key_at(keys, rounds));
     'rounds: for i in 1..rounds {

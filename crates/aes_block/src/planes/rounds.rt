@@ -88,7 +88,8 @@ pub(crate) fn mix_planes(q: Planes) -> Planes
 // AddRoundKey.
 #[inline(always)]
 pub(crate) fn add_planes(q: Planes, k: Planes) -> Planes
-    ensures { (b : List (List ℕ)) (key : List ℕ) → AreBlocks b q → IsKey key k → AreBlocks (map (λ v. add_round_key v key) b) result }
+    ensures { (b : List (List ℕ)) (key : List ℕ) → AreBlocks b q → IsKey key k
+        → AreBlocks (map (λ v. add_round_key v key) b) result }
 {
     let [a, b, c, d, e, f, g, h] = q;
     let [s, t, u, v, w, x, y, z] = k;
@@ -133,7 +134,8 @@ pub(crate) fn key_at(keys: &[KeyPlanes; 15], i: usize) -> Planes
 pub(crate) fn encipher_planes(keys: &[KeyPlanes; 15], rounds: usize, q: Planes) -> Planes
     requires some { 1 ≤ rounds }
     requires few { rounds ≤ 14 }
-    ensures { (b ks : List (List ℕ)) → AreBlocks b q → AreKeys rounds ks keys.now → AreBlocks (map (cipher rounds ks) b) result }
+    ensures { (b ks : List (List ℕ)) → AreBlocks b q → AreKeys rounds ks keys.now
+        → AreBlocks (map (cipher rounds ks) b) result }
 {
     let mut s = add_planes(q, key_at(keys, 0));
     'rounds: for i in 1..rounds {

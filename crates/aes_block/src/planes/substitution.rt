@@ -1,5 +1,5 @@
-// SubBytes of eight bit planes (FIPS 197, 5.1.1) by the circuit of Boyar and Peralta (2010, 115 gates), in five steps. Its
-// wires have the names of the paper, where x0 is the highest bit of the byte, and s0 that of the result.
+// SubBytes of eight bit planes (FIPS 197, 5.1.1) by the circuit of Boyar and Peralta (2010), 115 gates in five steps.
+// x0 is the highest bit of a byte, and s0 that of the byte in its place.
 ghost use Rattle.std.specs.Prelude.{◌≡◌, ℕ};
 ghost use Rattle.aes_block.specs.Wires.{AreWires, AreBelow, ArePlanes};
 ghost use Rattle.aes_block.specs.TruthTables.{BITS, FACTORS, SUMS, INVERSE, TERMS, SUBSTITUTED};
@@ -43,7 +43,7 @@ fn factors(q: Planes) -> [u8x16; 22]
     ]
 }
 
-// The byte in a field over that of 16 elements, of which these four bits are to be inverted.
+// Four bits, an element of the field of 16, whose inverse gives that of the byte.
 #[inline(always)]
 fn sums(y: [u8x16; 22]) -> [u8x16; 4]
     ensures { (X : ℕ → ℕ → ℕ) → AreWires X FACTORS y → AreWires X SUMS result }
@@ -74,7 +74,7 @@ fn sums(y: [u8x16; 22]) -> [u8x16; 4]
     [t21, t22, t23, t24]
 }
 
-// The inverse in the field of 16 elements, and sums of its bits.
+// The inverse in the field of 16, and sums of its bits.
 #[inline(always)]
 fn inverse(t: [u8x16; 4]) -> [u8x16; 9]
     ensures { (X : ℕ → ℕ → ℕ) → AreWires X SUMS t → AreWires X INVERSE result }
@@ -104,7 +104,7 @@ fn inverse(t: [u8x16; 4]) -> [u8x16; 9]
     [t29, t33, t37, t40, t41, t42, t43, t44, t45]
 }
 
-// The products that the inverse of the byte is a sum of.
+// Products of both, of which the inverse of the byte has sums.
 #[inline(always)]
 fn terms(y: [u8x16; 22], t: [u8x16; 9]) -> [u8x16; 18]
     ensures { (X : ℕ → ℕ → ℕ) → AreWires X FACTORS y → AreWires X INVERSE t → AreWires X TERMS result }
