@@ -14,6 +14,8 @@ mod expected;
 #[cfg(test)]
 mod gcm_vectors;
 #[cfg(test)]
+mod hash_by_bits;
+#[cfg(test)]
 mod hash_vectors;
 #[cfg(test)]
 mod refusals;
