@@ -1,6 +1,6 @@
 //! Tags of GCM and GCM-SIV over texts of each length, against products of one bit at a time (SP 800-38D, 6.3).
 
-ghost use Rattle.std.specs.Prelude.{◌≡◌, ◌≤◌, length};
+ghost use Rattle.std.specs.Prelude.{◌≡◌, ◌≤◌, ◌+◌, length};
 
 use crate::expected::check_at;
 use aes_block::Aes128;
@@ -119,18 +119,32 @@ fn text() -> [u8; MOST] {
     bytes
 }
 
+// Whether GCM's tag of a text is that.
+fn gcm_is(aad: &[u8], text: &[u8], out: &mut [u8]) -> bool
+    requires { length out.old ≡ length text.now + 16 }
+{
+    let n = text.len();
+    let sealed = Gcm::new(Aes128::new(KEY)).seal_into(NONCE, aad, text, out);
+    let want = gcm_tag(aad, &out[..n]);
+    sealed.is_ok() && out[n..].starts_with(&want)
+}
+
+// Whether GCM-SIV's tag of a text is that.
+fn siv_is(aad: &[u8], text: &[u8], out: &mut [u8]) -> bool
+    requires { length out.old ≡ length text.now + 16 }
+{
+    let sealed = GcmSiv::<Aes128, 16>::new(KEY).seal_into(NONCE, aad, text, out);
+    sealed.is_ok() && out[text.len()..].starts_with(&siv_tag(aad, text))
+}
+
 // Whether the tags of a text of n bytes, with data of half as many, are those.
 fn tags_are(n: usize) -> bool
     requires { n ≤ 300 }
 {
     let bytes = text();
-    let aad = &bytes[..n / 2];
     let mut out = [0u8; MOST + 16];
-    let sealed = Gcm::new(Aes128::new(KEY)).seal_into(NONCE, aad, &bytes[..n], &mut out[..n + 16]);
-    let gcm = sealed.is_ok() && out[n..].starts_with(&gcm_tag(aad, &out[..n]));
-    let siv = GcmSiv::<Aes128, 16>::new(KEY);
-    let sealed = siv.seal_into(NONCE, aad, &bytes[..n], &mut out[..n + 16]);
-    gcm && sealed.is_ok() && out[n..].starts_with(&siv_tag(aad, &bytes[..n]))
+    let gcm = gcm_is(&bytes[..n / 2], &bytes[..n], &mut out[..n + 16]);
+    gcm && siv_is(&bytes[..n / 2], &bytes[..n], &mut out[..n + 16])
 }
 
 #[test]

@@ -18,6 +18,8 @@ mod hash_by_bits;
 #[cfg(test)]
 mod hash_vectors;
 #[cfg(test)]
+mod kept_keys;
+#[cfg(test)]
 mod refusals;
 #[cfg(test)]
 mod seals;
