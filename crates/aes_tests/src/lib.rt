@@ -16,7 +16,11 @@ mod expected;
 #[cfg(test)]
 mod gcm_vectors;
 #[cfg(test)]
+mod hash_by_bits;
+#[cfg(test)]
 mod hash_vectors;
+#[cfg(test)]
+mod kept_keys;
 #[cfg(test)]
 mod refusals;
 #[cfg(test)]

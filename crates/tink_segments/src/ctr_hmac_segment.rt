@@ -1,9 +1,10 @@
-ghost use Rattle.std.specs.Prelude.{◌≡◌, ◌⊎◌, ◌≤◌, ◌↔◌, ◌++◌, length, take, IsTrue};
+ghost use Rattle.std.specs.Prelude.{◌≡◌, ◌⊎◌, ◌≤◌, ◌↔◌, ◌++◌, ℕ, List, length, take, IsTrue};
 ghost use Rattle.hash_keys.specs.Hash.{digest_size, hmac_of};
+ghost use Rattle.hash_keys.specs.Hashers.{IsHmacKey};
 ghost use Rattle.tink_segments.specs.SegmentKeys.{segment_under, overhead_under};
 
 use crate::segment_cipher::SegmentCipher;
-use hash_keys::{Hash, hmac_into};
+use hash_keys::{Hash, HmacKey};
 use std::marker::Model;
 use tink_io::{Kind, TinkError};
 use tink_segment_traits::{SegmentDecrypter, SegmentEncrypter};
@@ -28,6 +29,8 @@ const MAX_TAG: usize = 64;
 pub struct CtrHmacSegment {
     cipher: SegmentCipher,
     hmac_key: [u8; 32],
+    // of that key under the hash
+    mac: HmacKey,
     tag_hash: Hash,
     tag_size: usize,
 }
@@ -35,6 +38,7 @@ pub struct CtrHmacSegment {
 impl Model for CtrHmacSegment {
     ghost use Rattle.std.specs.Prelude.{◌≤◌};
     ghost use Rattle.hash_keys.specs.Hash.{digest_size};
+    ghost use Rattle.hash_keys.specs.Hashers.{IsHmacKey};
     ghost use Rattle.tink_segments.specs.SegmentCiphers.{FitsCipher, cipher_key};
     ghost use Rattle.tink_segments.specs.SegmentKeys.{SegmentKeys};
 
@@ -47,7 +51,8 @@ impl Model for CtrHmacSegment {
       tag = s.tag_size;
     } };
 
-    ghost invariant = { λ s. (s.tag_size ≤ digest_size s.tag_hash) × FitsCipher s.cipher };
+    ghost invariant = { λ s. (s.tag_size ≤ digest_size s.tag_hash) × FitsCipher s.cipher
+        × IsHmacKey s.mac s.tag_hash s.hmac_key };
 }
 
 impl CtrHmacSegment {
@@ -65,6 +70,7 @@ impl CtrHmacSegment {
         CtrHmacSegment {
             cipher: SegmentCipher::new(aes_key),
             hmac_key: key,
+            mac: HmacKey::new(tag_hash, hmac_key),
             tag_hash,
             tag_size,
         }
@@ -89,13 +95,7 @@ impl SegmentEncrypter for CtrHmacSegment {
     fn encrypt_segment_into(&self, segment: &[u8], nonce: &[u8], out: &mut [u8]) {
         let n = segment.len();
         self.cipher.apply(&block_of(nonce), segment, &mut out[..n]);
-        let tag = tag_of(
-            self.tag_hash,
-            self.tag_size,
-            &self.hmac_key,
-            nonce,
-            &out[..n],
-        );
+        let tag = tag_of(&self.mac, self.tag_size, nonce, &out[..n]);
         out[n..].copy_from_slice(&tag[..self.tag_size]);
     }
 }
@@ -128,13 +128,7 @@ impl SegmentDecrypter for CtrHmacSegment {
             return Err(TinkError::new(Kind::DecryptFailed));
         }
         let n = segment.len() - self.tag_size;
-        let tag = tag_of(
-            self.tag_hash,
-            self.tag_size,
-            &self.hmac_key,
-            nonce,
-            &segment[..n],
-        );
+        let tag = tag_of(&self.mac, self.tag_size, nonce, &segment[..n]);
         if !is_same(&segment[n..], &tag[..self.tag_size]) {
             return Err(TinkError::new(Kind::DecryptFailed));
         }
@@ -160,11 +154,12 @@ fn is_same(a: &[u8], b: &[u8]) -> bool
 }
 
 // The first bytes of HMAC over nonce and ciphertext, as the first of the result.
-fn tag_of(hash: Hash, size: usize, key: &[u8; 32], nonce: &[u8], ciphertext: &[u8]) -> [u8; MAX_TAG]
-    requires { size ≤ digest_size hash }
-    ensures { take size result ≡ take size (hmac_of hash key.now (nonce.now ++ ciphertext.now)) }
+fn tag_of(mac: &HmacKey, size: usize, nonce: &[u8], ciphertext: &[u8]) -> [u8; MAX_TAG]
+    requires { size ≤ digest_size mac.now.hash }
+    ensures { (h : Hash) (key : List ℕ) → IsHmacKey mac.now h key
+        → take size result ≡ take size (hmac_of h key (nonce.now ++ ciphertext.now)) }
 {
     let mut tag = [0u8; MAX_TAG];
-    hmac_into(hash, key, nonce, ciphertext, &[], &mut tag[..size]);
+    mac.tag_into(nonce, ciphertext, &[], &mut tag[..size]);
     tag
 }

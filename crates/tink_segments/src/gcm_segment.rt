@@ -4,8 +4,8 @@ ghost use Rattle.std.specs.Prelude.{◌≡◌, ◌⊎◌, ◌<◌, ◌+◌, ◌-
 ghost use Rattle.standards.specs.Gcm.{gcm};
 ghost use Rattle.tink_io.specs.declared.error.Kind.TheVariants.{DecryptFailed};
 
-use crate::segment_cipher::SegmentCipher;
-use cipher::BlockCipherEncrypt;
+use aes_block::{Aes128, Aes256};
+use cipher::{BlockCipherEncrypt, KeyInit};
 use gcm::Gcm;
 use std::marker::Model;
 use tink_io::{Kind, TinkError};
@@ -26,18 +26,25 @@ pub const AES_GCM_HKDF_TAG_SIZE_IN_BYTES: usize = 16;
 /// A contract sees the key.
 #[derive(Drop)]
 pub struct GcmSegment {
-    cipher: SegmentCipher,
+    aead: SegmentAead,
+}
+
+// AES-GCM under a key of 16 or of 32 bytes, with the table of its hash key.
+#[derive(Drop)]
+enum SegmentAead {
+    Small(Gcm<Aes128>),
+    Large(Gcm<Aes256>),
 }
 
 impl Model for GcmSegment {
     ghost use Rattle.std.specs.Prelude.{ℕ, List};
-    ghost use Rattle.tink_segments.specs.SegmentCiphers.{FitsCipher, cipher_key};
+    ghost use Rattle.tink_segments.specs.SegmentCiphers.{FitsAead, aead_key};
 
     ghost Value = { List ℕ };
 
-    ghost view = { λ s. cipher_key s.cipher };
+    ghost view = { λ s. aead_key s.aead };
 
-    ghost invariant = { λ s. FitsCipher s.cipher };
+    ghost invariant = { λ s. FitsAead s.aead };
 }
 
 impl GcmSegment {
@@ -46,9 +53,25 @@ impl GcmSegment {
         requires { (length aes_key.now ≡ 16) ⊎ (length aes_key.now ≡ 32) }
         ensures { result ≡ aes_key.now }
     {
-        GcmSegment {
-            cipher: SegmentCipher::new(aes_key),
+        match Aes128::new_from_slice(aes_key) {
+            Ok(cipher) => GcmSegment {
+                aead: SegmentAead::Small(Gcm::new(cipher)),
+            },
+            Err(_) => large(aes_key),
         }
+    }
+}
+
+// The same under a key of 32 bytes.
+fn large(aes_key: &[u8]) -> GcmSegment
+    requires { length aes_key.now ≡ 32 }
+    ensures { result ≡ aes_key.now }
+{
+    match Aes256::new_from_slice(aes_key) {
+        Ok(cipher) => GcmSegment {
+            aead: SegmentAead::Large(Gcm::new(cipher)),
+        },
+        Err(_) => unreachable!(),
     }
 }
 
@@ -69,9 +92,9 @@ impl SegmentEncrypter for GcmSegment {
     }
 
     fn encrypt_segment_into(&self, segment: &[u8], nonce: &[u8], out: &mut [u8]) {
-        match &self.cipher {
-            SegmentCipher::Small(cipher) => seal(&Gcm::new(cipher), segment, nonce, out),
-            SegmentCipher::Large(cipher) => seal(&Gcm::new(cipher), segment, nonce, out),
+        match &self.aead {
+            SegmentAead::Small(aead) => seal(aead, segment, nonce, out),
+            SegmentAead::Large(aead) => seal(aead, segment, nonce, out),
         }
     }
 }
@@ -101,9 +124,9 @@ impl SegmentDecrypter for GcmSegment {
         nonce: &[u8],
         out: &mut [u8],
     ) -> Result<(), TinkError> {
-        match &self.cipher {
-            SegmentCipher::Small(cipher) => open(&Gcm::new(cipher), segment, nonce, out),
-            SegmentCipher::Large(cipher) => open(&Gcm::new(cipher), segment, nonce, out),
+        match &self.aead {
+            SegmentAead::Small(aead) => open(aead, segment, nonce, out),
+            SegmentAead::Large(aead) => open(aead, segment, nonce, out),
         }
     }
 }

@@ -5,7 +5,7 @@ ghost use Rattle.tink_core.specs.Subtle.{hash_named};
 ghost use Rattle.tink_io.specs.Told.{Answers, Tells};
 ghost use Rattle.tink_prf.specs.Hmac.{hmac_key, hmac_output, hmac_output_told, hmac_params};
 
-use hash_keys::{Hash, hmac_into};
+use hash_keys::{Hash, HmacKey};
 use std::alloc::Global;
 use std::marker::Model;
 use tink_core::subtle::get_hash_func;
@@ -20,14 +20,19 @@ const MIN_HMAC_KEY_SIZE_IN_BYTES: usize = 16;
 pub struct HmacPrf {
     hash: Hash,
     key: Bytes,
+    // of that key under the hash
+    mac: HmacKey,
 }
 
 impl Model for HmacPrf {
+    ghost use Rattle.hash_keys.specs.Hashers.{IsHmacKey};
     ghost use Rattle.tink_prf.specs.Hmac.{HmacKey};
 
     ghost Value = { HmacKey };
 
     ghost view = { λ prf. record { hash = prf.hash; key = prf.key } };
+
+    ghost invariant = { λ prf. IsHmacKey prf.mac prf.hash prf.key };
 }
 
 impl HmacPrf {
@@ -44,6 +49,7 @@ impl HmacPrf {
         Ok(HmacPrf {
             hash: func.hash,
             key: Bytes::from_slice(alloc, key)?,
+            mac: HmacKey::new(func.hash, key),
         })
     }
 }
@@ -69,6 +75,7 @@ impl CloneIn for HmacPrf {
         Ok(HmacPrf {
             hash: self.hash,
             key: self.key.try_clone(alloc)?,
+            mac: self.mac.clone()?,
         })
     }
 }
@@ -86,7 +93,7 @@ impl Prf for HmacPrf {
             return Err(TinkError::new(Kind::OutputTooLong));
         }
         let mut out = vec![in alloc; 0u8; output_length]?;
-        hmac_into(self.hash, self.key.as_slice(), input, &[], &[], &mut out);
+        self.mac.tag_into(input, &[], &[], &mut out);
         Ok(Bytes::from_vec(out))
     }
 

@@ -9,11 +9,11 @@ returns-then-segment-self-clause-refused c t e =
 
 pub returns-then-not-is_same-clause-refused : goal.returns-then-not-is_same-clause-refused
 returns-then-not-is_same-clause-refused c t e =
-    let same = ends_in_tag _ c.args.nonce.now c.args.segment.now c.tag_of-tag.result t c.self.invariant.0 c.tag_of-tag.ensures (ap (λ (s : SegmentKeys). segment_under s c.args.nonce.now t) c.self.view_is ∙ e) in
+    let same = ends_in_tag _ c.args.nonce.now c.args.segment.now c.tag_of-tag.result t c.self.invariant.0 (c.tag_of-tag.ensures c.self.inside.tag_hash c.self.inside.hmac_key c.self.invariant.2) (ap (λ (s : SegmentKeys). segment_under s c.args.nonce.now t) c.self.view_is ∙ e) in
     let both = c.is_same.ensures.1 same in
     cc both
 
 pub returns-clause-ok : goal.returns-clause-ok
 returns-clause-ok c =
     let same = c.is_same.ensures.0 c.if-not-is_same.false in
-    ap (λ (s : SegmentKeys). segment_under s c.args.nonce.now c.apply.new.out) (sym c.self.view_is) ∙ opened _ c.args.nonce.now c.args.segment.now c.tag_of-tag.result c.apply.new.out c.block_of.result c.tag_of-tag.ensures same c.block_of.ensures c.apply.ensures
+    ap (λ (s : SegmentKeys). segment_under s c.args.nonce.now c.apply.new.out) (sym c.self.view_is) ∙ opened _ c.args.nonce.now c.args.segment.now c.tag_of-tag.result c.apply.new.out c.block_of.result (c.tag_of-tag.ensures c.self.inside.tag_hash c.self.inside.hmac_key c.self.invariant.2) same c.block_of.ensures c.apply.ensures
