@@ -16,8 +16,8 @@ pub fn law_chosen_place()
     ensures { HasItsPlace }
 {}
 
-/// Of a keyset that loads, the key that is chosen for a stream is by itself a keyset that loads, and is then the one key
-/// that may be chosen.
+/// Of a keyset that loads, the key that is chosen for a stream is by itself a keyset that loads, and is then the one
+/// key that may be chosen.
 pub fn law_chosen_alone()
     ensures { LoadsAlone }
 {}

@@ -1,8 +1,9 @@
 //! What `run` opens after a keyset was edited, and that it opens as under the chosen key alone. These functions do
 //! nothing: their contracts are the laws.
 //!
-//! How the pieces of editing fit: each call of a `Manager` is the command of its name on the keyset and the draws (`edit` of
-//! keyset_model; `add` as the primary key is `Rotate`), so that calls one after another make `after_all` of them.
+//! How the pieces of editing fit: each call of a `Manager` is the command of its name on the keyset and the draws
+//! (`edit` of keyset_model; `add` as the primary key is `Rotate`), so that calls one after another make `after_all` of
+//! them.
 //! `handle` gives a handle of that keyset, `insecure::keyset_material` its message, and `encode` the message's bytes,
 //! where it fits the wire format. Under these bytes `run` opens a stream as its contract says; what that is for the
 //! edited keyset, the laws here say. That an id that is added is new, and that a refused command leaves the keyset, are

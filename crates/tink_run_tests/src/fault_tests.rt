@@ -1,5 +1,6 @@
 //! Sources and sinks that fail at a call, sinks with too little room, and pieces of other sizes.
 
+use crate::all_types_tests::BOTH_KINDS;
 use crate::support::{KEYSET, SEED, Told, between, counted, sealed, words};
 use std::alloc::Global;
 use std::process::Abort;
@@ -281,6 +282,23 @@ fn pieces_and_rooms_change_no_byte_of_a_seal(rt: HostRuntime) -> Result<(), Fail
 fn pieces_and_rooms_change_no_byte_of_an_open(rt: HostRuntime) -> Result<(), Fail> {
     let both = text_and_stream(rt.alloc())?;
     all_pieces(&rt, rt.alloc(), opening(&both))
+}
+
+// The first key of the keyset has larger segments than the second, which made the stream.
+#[test]
+fn pieces_change_no_byte_where_a_larger_key_is_tried(rt: HostRuntime) -> Result<(), Fail> {
+    let alloc = rt.alloc();
+    let text = counted(alloc, 12168)?;
+    let stream = sealed(alloc, KEYSET, "-", 12168)?;
+    let work = Work {
+        texts: &["open", BOTH_KINDS, "-"],
+        input: &stream,
+        whole: &text,
+    };
+    for piece in &PIECES {
+        in_room(&rt, alloc, work, *piece, 12168)?;
+    }
+    Ok(())
 }
 
 // Behind the header stand whole segments, and never the last.

@@ -41,8 +41,8 @@ pub fn law_first_read()
         → Gave seg a b first.rest (take n after) new }
 {}
 
-/// A keyset's reader of a stream, from a source that tells its bytes, is that of the key that is chosen for it, whatever
-/// other keys were tried and however large their segments are.
+/// A keyset's reader of a stream, from a source that tells its bytes, is that of the key that is chosen for it,
+/// whatever other keys were tried and however large their segments are.
 pub fn law_one_key<S: Source>()
     // What the first read says of the keys, it says of the chosen key alone.
     ensures alone { ReadsAsAlone S.left S.faults }
