@@ -19,8 +19,10 @@ use std::error::Error;
 use std::fmt;
 
 mod cmac;
+mod s2v;
 
 pub use cmac::cmac_into;
+pub use s2v::s2v_into;
 
 // The bytes of the largest digest and of the largest block.
 const MAX_DIGEST: usize = 64;

@@ -1,6 +1,6 @@
 use Rattle.std.proofs.Common.{◌≡◌, ◌*◌, ◌+◌, ◌-◌, suc, ap, ap₂, ◌∙◌, take, drop, refl, arith}
 use Rattle.standards.specs.Blocks.{over_blocks}
-use Rattle.standards.specs.Cmac.{chain_after}
+use Rattle.standards.specs.Cmac.{chain_step}
 use Rattle.standards.specs.Lists.{xor_bytes}
 use Rattle.hash_keys.proofs.cmac.chain.Goals as goal
 
@@ -16,5 +16,5 @@ loop-i-preserved g c =
     let size : 16 * i + 16 - 16 * i ≡ 16 = omega arith in
     let next : suc i ≡ i + 1 = omega arith in
     c.encrypt_block.ensures.value
-    ∙ ap E (c.xor_block.ensures ∙ ap₂ (λ b k. xor_bytes b (take k (drop (16 * i) c.args.text.now))) c.loop-i.invariant size)
-    ∙ ap (chain_after E c.args.text.now) next
+    ∙ ap E (c.xor_front.ensures ∙ ap₂ (λ b k. xor_bytes b (take k (drop (16 * i) c.args.text.now))) c.loop-i.invariant size)
+    ∙ ap (over_blocks (chain_step E) c.args.start c.args.text.now) next

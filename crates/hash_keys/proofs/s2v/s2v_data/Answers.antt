@@ -2,7 +2,7 @@ use Rattle.std.proofs.Common.{ap, ap₂, ◌∙◌}
 use Rattle.standards.specs.Cmac.{double_block}
 use Rattle.standards.specs.Lists.{xor_bytes}
 use Rattle.standards.specs.Siv.{s2v_data}
-use Rattle.tink_daead.proofs.s2v.s2v_data.Goals as goal
+use Rattle.hash_keys.proofs.s2v.s2v_data.Goals as goal
 
 pub returns : goal.returns
 unfolding s2v_data

@@ -3,8 +3,8 @@ use Rattle.std.proofs.lemmas.List.{take_all, length-drop}
 use Rattle.standards.specs.Blocks.{over_blocks}
 use Rattle.standards.specs.Cmac.{chain_step, last_block}
 use Rattle.standards.specs.Lists.{xor_bytes}
-use Rattle.tink_daead.specs.CmacParts.{cmac_from}
-use Rattle.tink_daead.proofs.cmac.cmac_from.Goals as goal
+use Rattle.hash_keys.specs.CmacParts.{cmac_from}
+use Rattle.hash_keys.proofs.cmac.cmac_from.Goals as goal
 
 -- the chain and the last block, where m is one less than the length, make the tag
 whole : (E : List ℕ → List ℕ) (start text chain last mixed out : List ℕ) (m : ℕ) → m ≡ length text - 1

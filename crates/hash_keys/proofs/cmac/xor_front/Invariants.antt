@@ -1,6 +1,6 @@
 use Rattle.std.proofs.Common.{◌≡◌, ℕ, ◌<◌, ◌≤◌, get_or, length}
 use Rattle.std.specs.Prelude.{bit_xor}
-use Rattle.tink_daead.proofs.cmac.xor_front.Given as goal
+use Rattle.hash_keys.proofs.cmac.xor_front.Given as goal
 
 -- the bytes so far are added
 abbrev pub invariant-loop-i : goal.invariant-loop-i

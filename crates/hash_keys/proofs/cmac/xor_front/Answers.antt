@@ -1,6 +1,6 @@
 use Rattle.std.proofs.Common.{arith}
 use Rattle.standards.proofs.ListFacts.{xor_prefix}
-use Rattle.tink_daead.proofs.cmac.xor_front.Goals as goal
+use Rattle.hash_keys.proofs.cmac.xor_front.Goals as goal
 
 pub returns : goal.returns
 returns c =
