@@ -19,9 +19,11 @@ use std::fmt;
 mod cmac;
 mod hasher;
 mod hmac;
+mod s2v;
 
 pub use cmac::cmac_into;
 pub use hmac::{HmacKey, hmac_into};
+pub use s2v::s2v_into;
 
 // The bytes of the largest digest and of the largest block.
 const MAX_DIGEST: usize = 64;

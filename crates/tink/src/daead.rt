@@ -2,6 +2,6 @@
 
 pub use tink_daead::{
     AES_SIV_KEY_VERSION, AES_SIV_TYPE_URL, AesSivKeyManager, AesSivKeys, DaeadKinds,
-    UPSTREAM_VERSION, WrappedDeterministicAead, aes_siv_key_template, init, law_aes_siv, new,
-    subtle,
+    UPSTREAM_VERSION, WrappedDeterministicAead, aes_siv_key_template, init, law_aes_siv,
+    law_keysets_decrypt_exactly, new, subtle,
 };

@@ -1,2 +1,2 @@
-pub mod CmacParts
 pub mod SivFacts
+pub mod KeysetFacts

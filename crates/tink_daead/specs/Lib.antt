@@ -1,4 +1,3 @@
-pub mod CmacParts
 pub mod AesSiv
 pub mod AesSivLaws
 pub mod SivCiphers
@@ -6,3 +5,4 @@ pub mod KeyTypes
 pub mod Templates
 pub mod Wrapped
 pub mod WrappedTold
+pub mod KeysetLaws

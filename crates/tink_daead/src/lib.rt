@@ -8,15 +8,15 @@ pub use aes_siv_key_manager::{
 pub use daead_kinds::DaeadKinds;
 pub use factory::{WrappedDeterministicAead, new};
 pub use key_templates::aes_siv_key_template;
+pub use laws::law_keysets_decrypt_exactly;
 pub use registering::init;
 pub use subtle::law_aes_siv;
 pub use tink_primitives::UPSTREAM_VERSION;
 
 mod aes_siv_key_manager;
-mod cmac;
 mod daead_kinds;
 mod factory;
 mod key_templates;
+mod laws;
 mod registering;
-mod s2v;
 pub mod subtle;

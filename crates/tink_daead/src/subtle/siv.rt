@@ -7,10 +7,10 @@ ghost use Rattle.standards.specs.Siv.{s2v, siv, siv_counter};
 ghost use Rattle.cipher_stream.specs.ByteStream.{HasRoom, bytes_from, to_come};
 ghost use Rattle.cipher_stream.specs.Keystream.{xored};
 
-use crate::s2v::s2v_into;
 use cipher::{BlockCipherEncrypt, InnerIvInit, KeyInit};
 use cipher_stream::{StreamCipher, StreamCipherCore, StreamCipherCoreWrapper};
 use ctr::{CtrCore, flavors};
+use hash_keys::s2v_into;
 
 // The bytes of V.
 pub const SIV_SIZE: usize = 16;

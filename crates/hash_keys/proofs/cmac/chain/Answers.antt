@@ -1,6 +1,6 @@
 use Rattle.std.proofs.Common.{◌≡◌, ◌*◌, ◌+◌, ◌-◌, suc, ap, ap₂, ◌∙◌, take, drop, refl, arith}
 use Rattle.standards.specs.Blocks.{over_blocks}
-use Rattle.standards.specs.Cmac.{chain_after}
+use Rattle.standards.specs.Cmac.{chain_step}
 use Rattle.standards.specs.Lists.{xor_bytes}
 use Rattle.hash_keys.proofs.cmac.chain.Goals as goal
 
@@ -17,4 +17,4 @@ loop-i-preserved g c =
     let next : suc i ≡ i + 1 = omega arith in
     c.encrypt_block.ensures.value
     ∙ ap E (c.xor_in_place.ensures.value ∙ ap₂ (λ b k. xor_bytes b (take k (drop (16 * i) c.args.text.now))) c.loop-i.invariant size)
-    ∙ ap (chain_after E c.args.text.now) next
+    ∙ ap (over_blocks (chain_step E) c.args.start c.args.text.now) next

@@ -1,5 +1,5 @@
 use Rattle.standards.specs.Cmac.{cmac}
-use Rattle.tink_daead.proofs.cmac.cmac_of.Goals as goal
+use Rattle.hash_keys.proofs.cmac.cmac_of.Goals as goal
 
 pub returns : goal.returns
 unfolding cmac

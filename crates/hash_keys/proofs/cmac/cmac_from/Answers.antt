@@ -3,8 +3,8 @@ use Rattle.std.proofs.lemmas.List.{take_all, length-drop}
 use Rattle.standards.specs.Blocks.{over_blocks}
 use Rattle.standards.specs.Cmac.{chain_step, last_block}
 use Rattle.standards.specs.Lists.{xor_bytes}
-use Rattle.tink_daead.specs.CmacParts.{cmac_from}
-use Rattle.tink_daead.proofs.cmac.cmac_from.Goals as goal
+use Rattle.hash_keys.specs.CmacParts.{cmac_from}
+use Rattle.hash_keys.proofs.cmac.cmac_from.Goals as goal
 
 -- the chain and the last block, where m is one less than the length, make the tag
 whole : (E : List ℕ → List ℕ) (start text chain last mixed out : List ℕ) (m : ℕ) → m ≡ length text - 1
@@ -20,5 +20,5 @@ whole E start text chain last mixed out m m_is chain_is last_is mixed_is out_is 
 
 pub returns : goal.returns
 returns g c =
-    whole (g.C.BlockCipherEncrypt.encrypts c.args.c.now) c.args.start c.args.text.now c.chain-block.result c.masked-last.result c.xor_front.new.bytes _ c.saturating_sub-n.result
-    c.saturating_sub-n.ensures c.chain-block.ensures c.masked-last.ensures c.xor_front.ensures c.encrypt_block.ensures.value
+    whole (g.C.BlockCipherEncrypt.encrypts c.args.c.now) c.args.start c.args.text.now c.chain-block.result c.masked-last.result c.xor_in_place.new.output _ c.saturating_sub-n.result
+    c.saturating_sub-n.ensures c.chain-block.ensures c.masked-last.ensures c.xor_in_place.ensures.value c.encrypt_block.ensures.value

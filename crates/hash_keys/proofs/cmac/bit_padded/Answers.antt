@@ -3,7 +3,7 @@ use Rattle.std.proofs.Math.ListN.{set}
 use Rattle.std.proofs.Math.Seq.{set-append_seam}
 use Rattle.std.proofs.lemmas.List.{drop-replicate}
 use Rattle.standards.specs.Blocks.{bit_padded}
-use Rattle.tink_daead.proofs.cmac.bit_padded.Goals as goal
+use Rattle.hash_keys.proofs.cmac.bit_padded.Goals as goal
 
 -- the bit behind the rest, and zeros up to a block
 ended : (front rest : List ℕ) → front ≡ rest → length rest < 16 → set (front ++ drop (length rest) (replicate 16 0)) (length rest) 0x80 ≡ bit_padded rest

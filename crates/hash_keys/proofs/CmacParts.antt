@@ -7,7 +7,7 @@ use Rattle.standards.specs.Lists.{xor_bytes}
 use Rattle.standards.specs.Siv.{xor_end}
 use Rattle.standards.proofs.BlockFacts.{over_blocks-append, over_blocks-front}
 use Rattle.standards.proofs.ListFacts.{length-xor_bytes}
-use Rattle.tink_daead.specs.CmacParts.{cmac_from}
+use Rattle.hash_keys.specs.CmacParts.{cmac_from}
 
 pub cmac-append : (E : List ℕ → List ℕ) (xs ys : List ℕ) (k : ℕ) → length xs ≡ 16 * k → 0 < length ys → cmac E (xs ++ ys) ≡ cmac_from E (chain_after E xs k) ys
 unfolding cmac

@@ -6,8 +6,8 @@ ghost use Rattle.standards.specs.Cmac.{cmac, double_block};
 ghost use Rattle.standards.specs.Lists.{xor_bytes};
 ghost use Rattle.standards.specs.Siv.{s2v, s2v_data, xor_end};
 
-use crate::cmac::{bit_padded, chain, cmac_from, cmac_of, doubled, xor_front};
-use cipher::BlockCipherEncrypt;
+use crate::cmac::{bit_padded, chain, cmac_from, cmac_of, doubled};
+use cipher::{BlockCipherEncrypt, xor_in_place};
 
 // D after the data, which is a component also where it is empty.
 fn s2v_data<C: BlockCipherEncrypt<16>>(c: &C, aad: &[u8]) -> [u8; 16]
@@ -15,7 +15,7 @@ fn s2v_data<C: BlockCipherEncrypt<16>>(c: &C, aad: &[u8]) -> [u8; 16]
 {
     let code = cmac_of(c, aad);
     let mut d = doubled(cmac_of(c, &[0u8; 16]));
-    xor_front(&mut d, &code);
+    xor_in_place(&mut d, &code);
     d
 }
 
@@ -25,7 +25,7 @@ fn cmac_padded<C: BlockCipherEncrypt<16>>(c: &C, d: [u8; 16], text: &[u8]) -> [u
     ensures { result ≡ cmac (C.encrypts c.now) (xor_bytes (double_block d) (bit_padded text.now)) }
 {
     let mut block = doubled(d);
-    xor_front(&mut block, &bit_padded(text));
+    xor_in_place(&mut block, &bit_padded(text));
     cmac_of(c, &block)
 }
 
@@ -37,7 +37,7 @@ fn xor_end(d: &[u8; 16], text: &[u8], out: &mut [u8])
 {
     let front = text.len() - 16;
     out.copy_from_slice(text);
-    xor_front(&mut out[front..], d);
+    xor_in_place(&mut out[front..], d);
 }
 
 // The CMAC of a text of a block or more with D added to its last 16 bytes. The blocks before these are chained as they

@@ -1,9 +1,9 @@
 use Rattle.std.proofs.Common.{◌≡◌, ◌≤◌, ◌+◌, ◌-◌, ◌*◌, ◌/◌, ℕ, List, length, take, drop, ap, ap₂, sym, ◌∙◌, arith, length-drop}
 use Rattle.std.proofs.lemmas.List.{take_all, take_at}
 use Rattle.standards.specs.Siv.{xor_end}
-use Rattle.tink_daead.specs.CmacParts.{cmac_from}
-use Rattle.tink_daead.proofs.CmacParts.{cmac-xor_end, length-xor_end}
-use Rattle.tink_daead.proofs.s2v.cmac_xor_end.Goals as goal
+use Rattle.hash_keys.specs.CmacParts.{cmac_from}
+use Rattle.hash_keys.proofs.CmacParts.{cmac-xor_end, length-xor_end}
+use Rattle.hash_keys.proofs.s2v.cmac_xor_end.Goals as goal
 
 pub returns : goal.returns
 returns g c =

@@ -4,7 +4,7 @@ use Rattle.standards.specs.Blocks.{bit_padded}
 use Rattle.standards.specs.Cmac.{cmac, double_block}
 use Rattle.standards.specs.Lists.{xor_bytes}
 use Rattle.standards.specs.Siv.{s2v, s2v_data, xor_end}
-use Rattle.tink_daead.proofs.s2v.s2v_into.Goals as goal
+use Rattle.hash_keys.proofs.s2v.s2v_into.Goals as goal
 
 short : (E : List ℕ → List ℕ) (aad text d out : List ℕ) → d ≡ s2v_data E aad → length text < 16 → out ≡ cmac E (xor_bytes (double_block d) (bit_padded text)) → out ≡ s2v E aad text
 unfolding s2v
