@@ -2,7 +2,7 @@
 use Rattle.std.specs.Prelude.{ℕ, List, [], ◌∷◌, ◌++◌, codes, decimal}
 use Rattle.std.specs.Fmt.{signed_decimal}
 use Rattle.tink_io.specs.declared.error.Kind.{Kind}
-use Rattle.tink_io.specs.declared.error.Kind.TheVariants.{OutOfMemory, ReadFault, WriteFault, RandomFault, BadKeyset, BadJson, KeysetTooLong, NoKeyset, InvalidKeyset, UnsupportedKeyType, InvalidKey, InvalidFormat, NoPrimary, WrongPrimitive, NotRawOnly, UnsupportedHash, UnknownHash, UnknownPrefix, BadVersion, HasSecrets, NotPrivate, NoPrivateKeys, MasterFailed, KeyNotFound, IsPrimary, WrongStatus, NotEnabled, NoFreshId, AlreadyRegistered, TagTooSmall, OutputTooLong, BadKeySize, BadTagSize, MacMismatch, TooShort, TextTooLong, DataTooLong, BadIvSize, DecryptFailed, LengthOverU32, NonceTooShort, OffsetTooBig, SegmentTooSmall, Closed, FailedBefore, TooManySegments, NoMatchingKey, BadSegment, Truncated, UnknownTemplate}
+use Rattle.tink_io.specs.declared.error.Kind.TheVariants.{OutOfMemory, ReadFault, WriteFault, RandomFault, BadKeyset, BadJson, KeysetTooLong, NoKeyset, InvalidKeyset, UnsupportedKeyType, InvalidKey, InvalidFormat, NoPrimary, WrongPrimitive, NotRawOnly, UnsupportedHash, UnknownHash, UnknownPrefix, BadVersion, HasSecrets, NotPrivate, NoPrivateKeys, MasterFailed, KeyNotFound, IsPrimary, WrongStatus, NotEnabled, NoFreshId, AlreadyRegistered, TagTooSmall, OutputTooLong, BadKeySize, BadTagSize, MacMismatch, BadToken, TooShort, TextTooLong, DataTooLong, BadIvSize, DecryptFailed, LengthOverU32, NonceTooShort, OffsetTooBig, SegmentTooSmall, Closed, FailedBefore, TooManySegments, NoMatchingKey, BadSegment, Truncated, UnknownTemplate}
 use Rattle.tink_io.specs.declared.error.Cause as cause
 use Rattle.tink_io.specs.declared.error.Cause.TheVariants as causes
 
@@ -61,6 +61,7 @@ kind_words OutputTooLong = codes "output too long"
 kind_words BadKeySize = codes "bad key size"
 kind_words BadTagSize = codes "bad tag size"
 kind_words MacMismatch = codes "mac mismatch"
+kind_words BadToken = codes "bad token"
 kind_words TooShort = codes "too short"
 kind_words TextTooLong = codes "text too long"
 kind_words DataTooLong = codes "data too long"

@@ -78,6 +78,8 @@ pub enum Kind {
     BadTagSize,
     /// The MAC is not that of the data.
     MacMismatch,
+    /// The text is no signed token.
+    BadToken,
     /// The ciphertext is shorter than any can be.
     TooShort,
     /// The text is longer than the cipher takes.
@@ -183,6 +185,7 @@ impl Kind {
             Kind::BadKeySize => "bad key size",
             Kind::BadTagSize => "bad tag size",
             Kind::MacMismatch => "mac mismatch",
+            Kind::BadToken => "bad token",
             Kind::TooShort => "too short",
             Kind::TextTooLong => "text too long",
             Kind::DataTooLong => "data too long",

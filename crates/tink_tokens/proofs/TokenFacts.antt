@@ -1,43 +1,16 @@
 -- What is known of a token once it is read.
-use Rattle.std.proofs.Common.{◌≡◌, ◌∙◌, ◌↔◌, ◌⊎◌, ◌++◌, ◌∷◌, ℕ, List, Option, Result, Ok, Err, IfOk, IfErr, refl, sym, ap, ap₂, subst, inl, inr}
-use Rattle.base64.specs.Engines.{url_safe_no_pad}
-use Rattle.base64.specs.GeneralPurpose.{decode_of, IsBytes, IsStrict}
-use Rattle.base64.specs.declared.decode.DecodeError.{DecodeError}
+use Rattle.std.proofs.Common.{◌≡◌, ◌∙◌, ◌++◌, ◌∷◌, ℕ, List, Option, Result, Ok, Err, IfOk, IfErr, refl, sym, ap, ap₂, subst, inl, inr}
+use Rattle.base64.specs.GeneralPurpose.{IsBytes}
 use Rattle.tink_io.specs.declared.error.Kind.{Kind}
 use Rattle.tink_io.specs.declared.error.Kind.TheVariants.{MacMismatch, OutOfMemory}
 use Rattle.tink_io.specs.declared.error.TinkError.{TinkError}
-use Rattle.tink_io.specs.Told.{Answers}
+use Rattle.tink_io.specs.Told.{Answers, made_of}
 use Rattle.tink_primitives.specs.Meaning.{IsMatch}
 use Rattle.tink_sets.specs.declared.entry.TypedEntry.{TypedEntry}
 use Rattle.tink_mac.specs.Wrapped.{any_verifies, primary_mac, Computes, Verifies}
 use Rattle.tink_mac.specs.WrappedLaws.{any_verifies_told}
 use Rattle.tink_tokens.specs.Reading.{IsRead, IsSpelling, IsSplit}
 use Rattle.tink_tokens.specs.Tokens.{dot, spelled, IsAccepted, IsAnswered, IsOneToken, IsRefused, IsSigning, IsTokenOf, IsVerifying}
-
--- ---- spellings
-
-abbrev Strict : List ℕ → Type 0
-Strict text = (b : List ℕ) → IsBytes b → (decode_of url_safe_no_pad text ≡ Ok b) ↔ (text ≡ spelled b)
-
-pub strict_engine : IsStrict url_safe_no_pad
-strict_engine = (refl, refl)
-
-same_ok : (b v : List ℕ) (r : Result (List ℕ) DecodeError) → r ≡ Ok b → r ≡ Ok v → b ≡ v
-same_ok b v r first second = let two = sym first ∙ second in cc
-
-pub is_spelling : (text bytes : List ℕ) → Strict text → IsBytes bytes → decode_of url_safe_no_pad text ≡ Ok bytes
-    → IsSpelling text bytes
-is_spelling text bytes strict fit decoded = record {
-  fit = fit;
-  is = (strict bytes fit).0 decoded;
-  alone = λ b fits is. same_ok b bytes (decode_of url_safe_no_pad text) ((strict b fits).1 is) decoded;
-}
-
-pub no_spelling : (text : List ℕ) (e : DecodeError) → Strict text → decode_of url_safe_no_pad text ≡ Err e
-    → (b : List ℕ) → IsBytes b → text ≡ spelled b → ⊥
-no_spelling text e strict failed b fits is = let two = sym failed ∙ (strict b fits).1 is in absurd (cc)
-
--- ---- tokens
 
 pub one_token : (token front back payload mac : List ℕ) → IsSplit token front back → IsSpelling front payload
     → IsSpelling back mac → IsOneToken token payload mac
@@ -65,7 +38,7 @@ signing computes primary payload front mac tag (Ok token) fits mac_fits is same 
 signing computes primary payload front mac tag (Err e) fits mac_fits is same made text cause = inl cause
 
 module _ {P : Type 0} (verifies : Verifies P) (group : List ℕ → List (TypedEntry P)) (token : List ℕ) where
-  pub answered : (front back payload mac : List ℕ) (answer : Result (Unit {0}) Kind) → IsSplit token front back
+  answered : (front back payload mac : List ℕ) (answer : Result (Unit {0}) Kind) → IsSplit token front back
       → IsSpelling front payload → IsSpelling back mac → any_verifies verifies group mac front ≡ answer
       → IsAnswered verifies group token answer payload
   answered front back payload mac answer split first second told = record {
@@ -82,22 +55,26 @@ module _ {P : Type 0} (verifies : Verifies P) (group : List ℕ → List (TypedE
   unread text e (inr bad) part =
       inr (inl (bad.0, λ p m is. let b = part p m is in bad.1 b.0 b.1.0 b.1.1))
 
-  -- there is one refusal
-  mismatch : (r : Result (Unit {0}) Kind) (kind : Kind) → IsMatch r → r ≡ Err kind → kind ≡ MacMismatch
-  mismatch (Ok v) kind is e = absurd (cc)
-  mismatch (Err MacMismatch) kind is e = cc e
-  mismatch (Err _) kind is e = absurd is
+  by_answer : (answer : Result (Unit {0}) Kind) (payload : List ℕ) (result : Result (List ℕ) TinkError) → IsMatch answer
+      → IsAnswered verifies group token answer payload → Answers result (made_of (λ _. payload) answer)
+      → IsVerifying verifies group token result
+  by_answer (Ok tt) payload (Ok p) is a told = let same : payload ≡ p = cc told in subst (IsAnswered verifies group token (Ok tt)) same a
+  by_answer (Ok tt) payload (Err e) is a (inl memory) = inl memory
+  by_answer (Ok tt) payload (Err e) is a (inr told) = absurd (cc)
+  by_answer (Err MacMismatch) payload (Ok p) is a told = absurd (cc)
+  by_answer (Err MacMismatch) payload (Err e) is a (inl memory) = inl memory
+  by_answer (Err MacMismatch) payload (Err e) is a (inr told) =
+      let kind : e.kind ≡ MacMismatch = cc told in inr (inr (kind, (payload, a)))
+  by_answer (Err _) payload result is a told = absurd is
 
-  -- why the entries accept no MAC
-  pub refused : (front back payload mac asked : List ℕ) (e : TinkError) → IsSplit token front back
-      → IsSpelling front payload → IsSpelling back mac → asked ≡ mac
-      → (e.kind ≡ OutOfMemory) ⊎ (any_verifies verifies group asked front ≡ Err e.kind)
-      → IsRefused verifies group token e.kind
-  refused front back payload mac asked e split first second same (inl memory) = inl memory
-  refused front back payload mac asked e split first second same (inr told) =
-      let kind = mismatch (any_verifies verifies group asked front) e.kind (any_verifies_told verifies group asked front) told in
-      let answer = ap (λ m. any_verifies verifies group m front) (sym same) ∙ told ∙ ap Err kind in
-      inr (inr (kind, (payload, answered front back payload mac (Err MacMismatch) split first second answer)))
+  -- what the entries answer on a token that was read
+  pub checked : (front back payload mac : List ℕ) (result : Result (List ℕ) TinkError) → IsSplit token front back
+      → IsSpelling front payload → IsSpelling back mac
+      → Answers result (made_of (λ _. payload) (any_verifies verifies group mac front))
+      → IsVerifying verifies group token result
+  checked front back payload mac result split first second told =
+      let answer = any_verifies verifies group mac front in
+      by_answer answer payload result (any_verifies_told verifies group mac front) (answered front back payload mac answer split first second refl) told
 
   -- ---- a token that is accepted
 

@@ -1,7 +1,7 @@
 -- How a token is read.
 use Rattle.std.specs.Prelude.{◌≡◌, ◌⊎◌, ◌++◌, ◌∷◌, ℕ, List, Result, Ok, Err}
 use Rattle.base64.specs.GeneralPurpose.{IsBytes}
-use Rattle.tink_io.specs.declared.error.Kind.TheVariants.{BadKeyset, OutOfMemory}
+use Rattle.tink_io.specs.declared.error.Kind.TheVariants.{BadToken, OutOfMemory}
 use Rattle.tink_io.specs.declared.error.TinkError.{TinkError}
 use Rattle.tink_tokens.specs.Tokens.{dot, spelled, token_of}
 
@@ -20,4 +20,4 @@ pub record IsSpelling (text bytes : List ℕ) : Type 0 where
 abbrev pub IsRead : List ℕ → Result (List ℕ) TinkError → Type 0
 IsRead text (Ok bytes) = IsSpelling text bytes
 IsRead text (Err e) =
-    (e.kind ≡ OutOfMemory) ⊎ ((e.kind ≡ BadKeyset) × ((b : List ℕ) → IsBytes b → text ≡ spelled b → ⊥))
+    (e.kind ≡ OutOfMemory) ⊎ ((e.kind ≡ BadToken) × ((b : List ℕ) → IsBytes b → text ≡ spelled b → ⊥))

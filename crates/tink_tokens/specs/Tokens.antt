@@ -3,7 +3,7 @@ use Rattle.std.specs.Prelude.{◌≡◌, ◌⊎◌, ◌++◌, ◌∷◌, ℕ, Li
 use Rattle.base64.specs.Engines.{url_safe_no_pad}
 use Rattle.base64.specs.GeneralPurpose.{encode_of, IsBytes}
 use Rattle.tink_io.specs.declared.error.Kind.{Kind}
-use Rattle.tink_io.specs.declared.error.Kind.TheVariants.{BadKeyset, MacMismatch, OutOfMemory}
+use Rattle.tink_io.specs.declared.error.Kind.TheVariants.{BadToken, MacMismatch, OutOfMemory}
 use Rattle.tink_io.specs.declared.error.TinkError.{TinkError}
 use Rattle.tink_sets.specs.declared.entry.TypedEntry.{TypedEntry}
 use Rattle.tink_mac.specs.Wrapped.{any_verifies, primary_mac, Computes, Verifies}
@@ -67,7 +67,7 @@ module _ {P : Type 0} (verifies : Verifies P) (group : List ℕ → List (TypedE
   -- why a token is refused
   abbrev pub IsRefused : Kind → Type 0
   IsRefused kind =
-      (kind ≡ OutOfMemory) ⊎ ((kind ≡ BadKeyset) × IsNoToken token)
+      (kind ≡ OutOfMemory) ⊎ ((kind ≡ BadToken) × IsNoToken token)
       ⊎ ((kind ≡ MacMismatch) × ((payload : List ℕ) × IsAnswered (Err MacMismatch) payload))
 
   abbrev pub IsVerifying : Result (List ℕ) TinkError → Type 0

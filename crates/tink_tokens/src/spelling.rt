@@ -35,6 +35,6 @@ pub fn read(alloc: Global, text: &[u8]) -> Result<Bytes, TinkError>
     match URL_SAFE_NO_PAD.decode(alloc, text) {
         Ok(bytes) => Ok(Bytes::from_vec(bytes)),
         Err(DecodeAllocError::OutOfMemory) => Err(TinkError::new(Kind::OutOfMemory)),
-        Err(DecodeAllocError::DecodeError(_)) => Err(TinkError::new(Kind::BadKeyset)),
+        Err(DecodeAllocError::DecodeError(_)) => Err(TinkError::new(Kind::BadToken)),
     }
 }

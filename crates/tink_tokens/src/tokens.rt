@@ -3,8 +3,9 @@
 ghost use Rattle.std.specs.Prelude.{◌≡◌, ◌++◌, ◌∷◌, Ok, List, ℕ, IfOk, IfErr, string_bytes};
 ghost use Rattle.base64.specs.GeneralPurpose.{IsBytes};
 ghost use Rattle.tink_io.specs.declared.error.Kind.TheVariants.{OutOfMemory};
-ghost use Rattle.tink_io.specs.Told.{Answers};
+ghost use Rattle.tink_io.specs.Told.{Answers, made_of};
 ghost use Rattle.tink_sets.specs.Groups.{group_of};
+ghost use Rattle.tink_mac.specs.Wrapped.{any_verifies};
 ghost use Rattle.tink_tokens.specs.Tokens.{dot, spelled, IsAccepted, IsSigning, IsVerifying};
 
 use crate::spelling::{halves, read};
@@ -24,7 +25,8 @@ pub fn sign<P: Mac>(alloc: Global, mac: &WrappedMac<P>, payload: &[u8]) -> Resul
     ensures answer { IsSigning P.computes mac.now.ps.primary payload.now result }
 {
     let front = URL_SAFE_NO_PAD.encode(alloc, payload)?;
-    let tag = mac.compute_mac(alloc, front.as_bytes())?;
+    let message = front.as_bytes();
+    let tag = mac.compute_mac(alloc, message)?;
     with_mac(front, tag.as_slice())
 }
 
@@ -58,10 +60,26 @@ fn verified<P: Mac>(alloc: Global, mac: &WrappedMac<P>, token: &[u8]) -> Result<
     ensures { IsVerifying P.verifies (group_of mac.now.ps.entries) token.now result }
 {
     let Some((front, back)) = halves(token) else {
-        return Err(TinkError::new(Kind::BadKeyset));
+        return Err(TinkError::new(Kind::BadToken));
     };
     let payload = read(alloc, front)?;
     let tag = read(alloc, back)?;
-    mac.verify_mac(alloc, tag.as_slice(), front)?;
-    Ok(payload)
+    checked(alloc, mac, payload, &tag, front)
+}
+
+// A payload, where the MAC is accepted for its spelling.
+fn checked<P: Mac>(
+    alloc: Global,
+    mac: &WrappedMac<P>,
+    payload: Bytes,
+    tag: &Bytes,
+    front: &[u8],
+) -> Result<Bytes, TinkError>
+    ensures { Answers result
+        (made_of (λ _. payload) (any_verifies P.verifies (group_of mac.now.ps.entries) tag.now front.now)) }
+{
+    match mac.verify_mac(alloc, tag.as_slice(), front) {
+        Ok(()) => Ok(payload),
+        Err(e) => Err(e),
+    }
 }
