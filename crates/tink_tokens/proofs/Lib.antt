@@ -1,0 +1,3 @@
+pub mod DotFacts
+pub mod LastingFacts
+pub mod TokenFacts
