@@ -1,19 +1,22 @@
 -- From the steps of a first read to its answer.
-use Rattle.std.proofs.Common.{◌≡◌, ◌≤◌, ℕ, Bool, List, [], ◌∷◌, take, drop, refl, ap, subst, ◌∙◌, arith, Some, None, IfSome}
+use Rattle.std.proofs.Common.{◌≡◌, ◌<◌, ◌≤◌, ℕ, Bool, List, [], ◌∷◌, length, map, take, drop, Result, refl, ap, subst, ◌∙◌, arith, Some, None, IfSome}
 use Rattle.std.specs.declared.option.Option.{Option}
 use Rattle.std.specs.Io.KnownBytes.{prepend_known}
 use Rattle.std.proofs.KnownBytes.{prepend_known-nil}
 use Rattle.tink_io.proofs.FaultLemmas.{Rose-earlier}
 use Rattle.tink_io.specs.declared.error.Kind.{Kind}
+use Rattle.tink_io.specs.declared.error.TinkError.{TinkError}
 use Rattle.tink_io.specs.declared.error.Kind.TheVariants.{BadSegment, FailedBefore, NoMatchingKey, ReadFault, TooManySegments, Truncated}
 use Rattle.stream_model.specs.Cut.{cut}
 use Rattle.stream_model.specs.Agree.{Agree}
-use Rattle.stream_model.specs.Opening.{AgreeBy, FirstAgrees, IsChosen, OpeningKey, chunks_of}
+use Rattle.stream_model.specs.Key.{StreamKey}
+use Rattle.stream_model.specs.Opening.{AgreeBy, FirstAgrees, IsChosen, OpeningKey, chunks_of, opening_key}
 use Rattle.tink_segment_traits.specs.declared.segment_traits.SegmentDecrypter.{Ghosts}
 use Rattle.tink_streams.specs.Choosing.{Started, StartRefused}
 use Rattle.tink_streams.specs.Openers.{reader_rest}
 use Rattle.tink_streams.specs.declared.reading.SegmentReader.{SegmentReader}
-use Rattle.tink_streaming_aead.specs.DecryptReaders.{FirstReadRefused, GivesFirst, first_refusal}
+use Rattle.tink_streaming_aead.specs.DecryptReaders.{DecryptMeans, DecryptState, FirstReadMeans, FirstReadRefused, GivesFirst, first_refusal}
+use Rattle.tink_streaming_aead.specs.DecryptReaders.DecryptState.{Unread}
 use Rattle.tink_streams.specs.TextReading.{Gave, GivesText, TextMoment, ReadRefused}
 use Rattle.tink_streams.specs.declared.progress.Progress.TheVariants.{Running}
 use Rattle.tink_streams.proofs.TextLaws.{gave_more, gave_none}
@@ -52,6 +55,12 @@ never_nothing ks (Some X) rest seg first size overhead s n =
     let k = s.found.key in
     let agree : Agree seg 0 (cut first size (drop s.header X)) [] = subst (λ (r : Option (List ℕ)). IfSome r (λ Y. Agree seg 0 (cut first size Y) [])) s.rest n in
     absurd (not_both (k.seg (take k.header X)) (chunks_of k X) (chosen_begins ks X k s.found.chosen).first (stream_agreed ks X seg s.header first size overhead [] s.found agree))
+
+-- a first read to a buffer with room
+pub first_read : {S : Type 0} (left : S → Option (List ℕ)) (faults : S → ℕ) (keys : List StreamKey) (aad : List ℕ) (room : ℕ) (source : S) (new : DecryptState S) (before after : List ℕ) (r : Result ℕ TinkError) → 0 < length before
+    → FirstReadMeans left faults (map (opening_key aad) keys) source new before after r → DecryptMeans left faults (Unread keys aad room source) new before after r
+first_read left faults keys aad room source new [] after r some is = absurd (omega arith)
+first_read left faults keys aad room source new (b ∷ before) after r some is = is
 
 -- a refusal of the chosen key's reader at its first read
 pub first_refused : (ks : List OpeningKey) (all rest : Option (List ℕ)) (seg : ℕ → Bool → List ℕ → List ℕ) (a b overhead before faults room : ℕ) (n : TextMoment) (kind : Kind) → IfSome all (λ X. Started ks X rest seg a b overhead) → before ≤ faults

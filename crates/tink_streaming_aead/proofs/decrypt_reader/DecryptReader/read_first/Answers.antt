@@ -1,0 +1,18 @@
+use Rattle.std.proofs.Common.{Ok, ap, map, subst, sym, vec_len, ◌∙◌}
+use Rattle.tink_stream_keys.specs.StreamKinds.{key_of}
+use Rattle.tink_streaming_aead.specs.DecryptReaders.{DecryptMeans, DecryptState}
+use Rattle.tink_streaming_aead.specs.DecryptStages.{state_of}
+use Rattle.tink_streaming_aead.specs.declared.decrypt_reader.Stage.{Stage}
+use Rattle.tink_streaming_aead.specs.declared.decrypt_reader.Stage.TheVariants.{Chosen}
+use Rattle.tink_streaming_aead.proofs.DecryptSteps.{first_read}
+use Rattle.tink_streaming_aead.proofs.decrypt_reader.DecryptReader.read_first.Goals as goal
+
+pub returns-in-Ok-clause-answer : goal.returns-in-Ok-clause-answer
+returns-in-Ok-clause-answer g c =
+    let left = g.S.Source.left in
+    let faults = g.S.Source.faults in
+    let choice = c.in-Unread.choice in
+    let new : DecryptState g.row.S.Denot = state_of (Chosen c.in-Ok.text) c.give_first.new.source in
+    subst (λ (s : DecryptState g.row.S.Denot). DecryptMeans left faults s new c.args.buf.now c.give_first.new.buf (Ok c.in-Ok.n))
+    (ap (λ (st : Stage). state_of st c.self.inside.source) (sym c.in-Unread.is ∙ c.replace-stage.ensures.value) ∙ c.self.view_is)
+    (first_read left faults (map key_of choice.keys.items) choice.data.items (vec_len choice.trial.kept.buffer) c.self.inside.source new c.args.buf.now c.give_first.new.buf (Ok c.in-Ok.n) c.requires.some c.in-Ok.ensures.answer)
