@@ -81,19 +81,35 @@ impl HmacKey {
         }
     }
 
-    // HMAC of the joined parts, as a prefix of the result.
-    pub(crate) fn code_of(&self, a: &[u8], b: &[u8], c: &[u8]) -> [u8; MAX_DIGEST]
-        ensures { (h : Hash) (key : List ℕ) → IsHmacKey self.now h key
+    // HMAC of the joined parts, as a prefix of the result, by the kept states themselves.
+    pub(crate) fn finish(self, a: &[u8], b: &[u8], c: &[u8]) -> [u8; MAX_DIGEST]
+        ensures { (h : Hash) (key : List ℕ) → IsHmacKey self h key
             → take (digest_size h) result ≡ hmac_of h key (a.now ++ b.now ++ c.now) }
     {
-        let mut inner = copy_of(&self.inner);
+        let HmacKey {
+            hash,
+            mut inner,
+            mut outer,
+        } = self;
         inner.update(a);
         inner.update(b);
         inner.update(c);
         let digest = inner.finalize();
-        let mut outer = copy_of(&self.outer);
-        outer.update(&digest[..self.hash.digest_size()]);
+        outer.update(&digest[..hash.digest_size()]);
         outer.finalize()
+    }
+
+    // The same by copies of them.
+    pub(crate) fn code_of(&self, a: &[u8], b: &[u8], c: &[u8]) -> [u8; MAX_DIGEST]
+        ensures { (h : Hash) (key : List ℕ) → IsHmacKey self.now h key
+            → take (digest_size h) result ≡ hmac_of h key (a.now ++ b.now ++ c.now) }
+    {
+        let copy = HmacKey {
+            hash: self.hash,
+            inner: copy_of(&self.inner),
+            outer: copy_of(&self.outer),
+        };
+        copy.finish(a, b, c)
     }
 
     /// Fills `out`, of at most a digest's bytes, with a prefix of HMAC under the key of the text that `a`, `b` and `c`
@@ -130,5 +146,6 @@ pub fn hmac_into(h: Hash, key: &[u8], a: &[u8], b: &[u8], c: &[u8], out: &mut [u
     requires { length out.old ≤ digest_size h }
     ensures written { out.new ≡ take (length out.old) (hmac_of h key.now (a.now ++ b.now ++ c.now)) }
 {
-    HmacKey::new(h, key).tag_into(a, b, c, out);
+    let code = HmacKey::new(h, key).finish(a, b, c);
+    out.copy_from_slice(&code[..out.len()]);
 }

@@ -116,7 +116,7 @@ pub fn hkdf_into(
     if out.len() > 255 * h.digest_size() {
         return Err(OutputTooLong);
     }
-    let key = HmacKey::new(h, salt).code_of(ikm, &[], &[]);
+    let key = HmacKey::new(h, salt).finish(ikm, &[], &[]);
     expand_into(h, &key[..h.digest_size()], info, out);
     Ok(())
 }

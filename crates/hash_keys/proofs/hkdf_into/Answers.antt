@@ -17,5 +17,5 @@ expanded h ikm salt info code out size len size_is code_is out_is =
 
 pub returns-clause-ok : goal.returns-clause-ok
 returns-clause-ok c =
-    expanded c.args.h c.args.ikm.now c.args.salt.now c.args.info.now c.code_of-key.result c.expand_into.new.out c.digest_size-2.result (length c.args.out.now)
-    c.digest_size-2.ensures.value (c.code_of-key.ensures c.args.h c.args.salt.now c.new.ensures.of_key) c.expand_into.ensures
+    expanded c.args.h c.args.ikm.now c.args.salt.now c.args.info.now c.finish-key.result c.expand_into.new.out c.digest_size-2.result (length c.args.out.now)
+    c.digest_size-2.ensures.value (c.finish-key.ensures c.args.h c.args.salt.now c.new.ensures.of_key) c.expand_into.ensures
