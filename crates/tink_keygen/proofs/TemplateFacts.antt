@@ -24,6 +24,7 @@ use Rattle.tink_proto_keys.specs.Mac as mac_messages
 use Rattle.tink_proto_keys.specs.Aead as aead_messages
 use Rattle.tink_proto_keys.specs.AesCtrHmac as composed_messages
 use Rattle.tink_proto_keys.specs.Streaming as streaming_messages
+use Rattle.tink_proto_keys.specs.Daead as daead_messages
 use Rattle.tink_proto_keys.specs.declared.aes_ctr_hmac.AesCtrHmacAeadKeyFormat.{AesCtrHmacAeadKeyFormat}
 use Rattle.tink_proto_keys.specs.declared.aes_ctr_hmac.AesCtrKeyFormat.{AesCtrKeyFormat}
 use Rattle.tink_proto_keys.specs.declared.prf.AesCmacPrfKeyFormat.{AesCmacPrfKeyFormat}
@@ -35,6 +36,7 @@ use Rattle.tink_proto_keys.specs.declared.aead.AesGcmSivKeyFormat.{AesGcmSivKeyF
 use Rattle.tink_proto_keys.specs.declared.streaming.AesCtrHmacStreamingKeyFormat.{AesCtrHmacStreamingKeyFormat}
 use Rattle.tink_proto_keys.specs.declared.streaming.AesGcmHkdfStreamingKeyFormat.{AesGcmHkdfStreamingKeyFormat}
 use Rattle.tink_proto_keys.specs.declared.mac.HmacKeyFormat.{HmacKeyFormat}
+use Rattle.tink_proto_keys.specs.declared.daead.AesSivKeyFormat.{AesSivKeyFormat}
 use Rattle.tink_prf.specs.KeyTypes as prf_keys
 use Rattle.tink_prf.specs.Templates.{prf_templates}
 use Rattle.tink_mac.specs.KeyTypes as mac_keys
@@ -46,8 +48,10 @@ use Rattle.tink_aead_subtle.specs.KeySizes.{is_aes_key_size}
 use Rattle.loading_model.specs.Building.{aes_ctr_hmac_url, aes_gcm_hkdf_url}
 use Rattle.tink_streaming_aead.specs.KeyTypes as streaming_keys
 use Rattle.tink_streaming_aead.specs.Templates.{streaming_templates}
+use Rattle.tink_daead.specs.KeyTypes as daead_keys
+use Rattle.tink_daead.specs.Templates.{daead_templates}
 use Rattle.tink.specs.Managers.{row_of}
-use Rattle.tink.specs.Registered.{with_aeads, with_everything, with_macs, with_prfs}
+use Rattle.tink.specs.Registered.{with_aeads, with_everything, with_macs, with_prfs, with_streaming_aeads}
 use Rattle.tink.specs.declared.managers.Managers.{Managers}
 use Rattle.tink.specs.declared.managers.Managers.TheVariants as managers
 use Rattle.tink_keygen.specs.Rotating.{data_by_all, template_named}
@@ -309,6 +313,21 @@ streaming_aeads_make = (
   ),
 )
 
+-- ---- deterministic AEADs
+
+abbrev is_good_aes_siv : AesSivKeyFormat → Bool
+is_good_aes_siv f = is_good daead_messages.aes_siv_key_format (λ f. nat_eq f.key_size 64) (λ f. f.key_size) f
+
+aes_siv_makes : (f : AesSivKeyFormat) → is_good_aes_siv f ≡ true → MakesKeys (template_of daead_keys.aes_siv_url daead_messages.aes_siv_key_format f Tink)
+aes_siv_makes f good =
+    by_manager managers.AesSiv (template_of daead_keys.aes_siv_url daead_messages.aes_siv_key_format f Tink) refl refl
+    (made_by_format daead_keys.aes_siv_url daead_messages.aes_siv_key daead_messages.aes_siv_key_format
+    (λ f. nat_eq f.key_size 64) (λ f. f.key_size) (λ f. daead_keys.new_aes_siv_key) f good)
+
+daeads_make : AllNamed MakesKeys daead_templates
+unfolding spelling field varint varint_within
+daeads_make = (aes_siv_makes (record { key_size = 64; version = 0 }) refl, tt)
+
 -- ---- all of them
 
 -- a template that has a name
@@ -325,5 +344,8 @@ named_makes name kt is = of_name MakesKeys name kt with_everything.templates all
     aeads : AllNamed MakesKeys with_aeads.templates
     aeads = with_more MakesKeys with_macs.templates aead_templates macs aeads_make
 
+    streams : AllNamed MakesKeys with_streaming_aeads.templates
+    streams = with_more MakesKeys with_aeads.templates streaming_templates aeads streaming_aeads_make
+
     all : AllNamed MakesKeys with_everything.templates
-    all = with_more MakesKeys with_aeads.templates streaming_templates aeads streaming_aeads_make
+    all = with_more MakesKeys with_streaming_aeads.templates daead_templates streams daeads_make

@@ -19,7 +19,7 @@ use Rattle.tink.specs.Registered.{with_everything}
 unfoldable pub template_named : List ℕ → Option KeyTemplate
 template_named name = template_of name with_everything.templates
 
--- the data of a new key by a template and the ten managers, and the draws that are left
+-- the data of a new key by a template and the eleven managers, and the draws that are left
 unfoldable pub data_by_all : KeyTemplate → List ℕ → Result KeyData Kind × List ℕ
 data_by_all kt draws = data_by (λ m. (row_of m).url) (λ m. (row_of m).made_data) with_everything.managers kt draws
 

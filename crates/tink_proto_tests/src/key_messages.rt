@@ -13,9 +13,9 @@ use tink_proto_keys::{
     AesCtrHmacAeadKey, AesCtrHmacAeadKeyFormat, AesCtrHmacStreamingKey,
     AesCtrHmacStreamingKeyFormat, AesCtrHmacStreamingParams, AesCtrKey, AesCtrKeyFormat,
     AesCtrParams, AesGcmHkdfStreamingKey, AesGcmHkdfStreamingKeyFormat, AesGcmHkdfStreamingParams,
-    AesGcmKey, AesGcmKeyFormat, AesGcmSivKey, AesGcmSivKeyFormat, HkdfPrfKey, HkdfPrfKeyFormat,
-    HkdfPrfParams, HmacKey, HmacKeyFormat, HmacParams, HmacPrfKey, HmacPrfKeyFormat, HmacPrfParams,
-    KmsEnvelopeAeadKeyFormat,
+    AesGcmKey, AesGcmKeyFormat, AesGcmSivKey, AesGcmSivKeyFormat, AesSivKey, AesSivKeyFormat,
+    HkdfPrfKey, HkdfPrfKeyFormat, HkdfPrfParams, HmacKey, HmacKeyFormat, HmacParams, HmacPrfKey,
+    HmacPrfKeyFormat, HmacPrfParams, KmsEnvelopeAeadKeyFormat,
 };
 
 /// A key of AES-CTR and HMAC with id 01020304.
@@ -288,6 +288,23 @@ fn aes_gcm_siv_key_format(alloc: Global) -> Result<bool, ProtoError> {
     spells(alloc, message, b"\x08\x01\x10\x10")
 }
 
+fn aes_siv_key(alloc: Global) -> Result<bool, ProtoError> {
+    let key_value = seven(alloc)?;
+    let message = AesSivKey {
+        version: 1,
+        key_value,
+    };
+    spells(alloc, message, b"\x08\x01\x12\x01\x07")
+}
+
+fn aes_siv_key_format(alloc: Global) -> Result<bool, ProtoError> {
+    let message = AesSivKeyFormat {
+        key_size: 64,
+        version: 1,
+    };
+    spells(alloc, message, b"\x08\x40\x10\x01")
+}
+
 fn kms_envelope_aead_key_format(alloc: Global) -> Result<bool, ProtoError> {
     let kek_uri = Text::from_str(alloc, "x")?;
     let message = KmsEnvelopeAeadKeyFormat {
@@ -315,6 +332,8 @@ fn keys_of_aead(rt: HostRuntime) {
         Ok(true),
         "AesGcmSivKeyFormat",
     );
+    expect(&rt, aes_siv_key(alloc), Ok(true), "AesSivKey");
+    expect(&rt, aes_siv_key_format(alloc), Ok(true), "AesSivKeyFormat");
     expect(
         &rt,
         kms_envelope_aead_key_format(alloc),

@@ -1,18 +1,19 @@
--- The ten types of keys build usable keys of streams, or refuse as no key of their type.
+-- The eleven types of keys build usable keys of streams, or refuse as no key of their type.
 use Rattle.std.proofs.Common.{◌≡◌, ◌++◌, ℕ, List, [], ◌∷◌, Bool, true, false, cond, refl, sym, ap, subst, Some, None, length}
 use Rattle.std.specs.declared.option.Option.{Option}
 use Rattle.std.specs.Prelude.{Result, Ok, Err, is_ok, nat_eq}
 use Rattle.tink_io.specs.declared.error.Kind.{Kind}
 use Rattle.tink_io.specs.declared.error.Kind.TheVariants.{InvalidKey}
 use Rattle.tink_io.specs.Told.{made_of, or_refused}
-use Rattle.tink_primitives.specs.Sorts.{as_aead, as_mac, as_prf, as_streaming_aead}
-use Rattle.tink_primitives.specs.declared.primitive.Primitive.TheVariants.{Aead, Mac, Prf, StreamingAead}
+use Rattle.tink_primitives.specs.Sorts.{as_aead, as_deterministic_aead, as_mac, as_prf, as_streaming_aead}
+use Rattle.tink_primitives.specs.declared.primitive.Primitive.TheVariants.{Aead, DeterministicAead, Mac, Prf, StreamingAead}
 use Rattle.tink_proto.specs.Messages.{keyset}
 use Rattle.tink_proto_keys.specs.Aead as aead_messages
 use Rattle.tink_proto_keys.specs.AesCtrHmac as composed_messages
 use Rattle.tink_proto_keys.specs.Mac as mac_messages
 use Rattle.tink_proto_keys.specs.Prf as prf_messages
 use Rattle.tink_proto_keys.specs.Streaming as streaming_messages
+use Rattle.tink_proto_keys.specs.Daead as daead_messages
 use Rattle.tink_proto_keys.specs.declared.aes_ctr_hmac.AesCtrKey.{AesCtrKey}
 use Rattle.tink_proto_keys.specs.declared.aes_ctr_hmac.AesCtrParams.{AesCtrParams}
 use Rattle.tink_proto_keys.specs.declared.aes_ctr_hmac.AesCtrHmacAeadKey.{AesCtrHmacAeadKey}
@@ -43,9 +44,10 @@ use Rattle.tink_aead.specs.declared.aead_kind.AeadKind.TheVariants as aead_kinds
 use Rattle.tink_stream_keys.specs.declared.stream_kind.StreamKind.{StreamKind}
 use Rattle.tink_stream_keys.specs.declared.stream_kind.StreamKind.TheVariants as stream_kinds
 use Rattle.tink_stream_keys.specs.StreamKinds.{key_of}
+use Rattle.tink_daead.specs.KeyTypes.{is_accepted}
 use Rattle.tink.specs.Rows.{widened}
-use Rattle.tink.specs.Managers.{AeadBuilt, MacBuilt, PrfBuilt, StreamBuilt, as_built_aead, as_built_mac, as_built_prf, as_built_stream, row_of}
-use Rattle.tink.specs.Registered.{aead_managers, mac_managers, prf_managers, streaming_managers, with_everything}
+use Rattle.tink.specs.Managers.{AeadBuilt, DaeadBuilt, MacBuilt, PrfBuilt, StreamBuilt, as_built_aead, as_built_daead, as_built_mac, as_built_prf, as_built_stream, row_of}
+use Rattle.tink.specs.Registered.{aead_managers, daead_managers, mac_managers, prf_managers, streaming_managers, with_everything}
 use Rattle.tink.specs.declared.managers.Managers.{Managers}
 use Rattle.tink_registry.specs.Listed.{Registered}
 use Rattle.loading_model.specs.Loading.{Loaded, LoadingRow, AreUsable}
@@ -122,6 +124,10 @@ aead_sound_if : (b : Bool) (a : AeadKind) → IsSound (made_of built_key (widene
 aead_sound_if true a = tt
 aead_sound_if false a = refl
 
+daead_sound_if : (b : Bool) (key : List ℕ) → IsSound (made_of built_key (widened as_deterministic_aead as_built_daead (built_if {P = DaeadBuilt} b (DeterministicAead key))))
+daead_sound_if true key = tt
+daead_sound_if false key = refl
+
 stream_sound : (kind : StreamKey → StreamKind) → ((k : StreamKey) → key_of (kind k) ≡ k) → (o : Option StreamKey) → ((k : StreamKey) → o ≡ Some k → IsUsable k)
     → IsSound (made_of built_key (widened as_streaming_aead as_built_stream (made_of {T = StreamBuilt} (λ k. StreamingAead (kind k)) (or_refused InvalidKey o))))
 stream_sound kind same None usable = refl
@@ -158,6 +164,14 @@ aead_row_if {Key} keys accepted kind value = by_message (message_of keys value)
     by_message : (o : Option Key) → IsSound (made_of built_key (widened as_aead as_built_aead (built_by (λ k. built_if {P = AeadBuilt} (accepted k) (Aead (kind k))) o)))
     by_message None = refl
     by_message (Some k) = aead_sound_if (accepted k) (kind k)
+
+daead_row_if : {Key : Type 0} (keys : Column Key) (accepted : Key → Bool) (value_of : Key → List ℕ) (value : List ℕ)
+    → IsSound (made_of built_key (widened as_deterministic_aead as_built_daead (builds keys (λ k. built_if {P = DaeadBuilt} (accepted k) (DeterministicAead (value_of k))) value)))
+daead_row_if {Key} keys accepted value_of value = by_message (message_of keys value)
+  where
+    by_message : (o : Option Key) → IsSound (made_of built_key (widened as_deterministic_aead as_built_daead (built_by (λ k. built_if {P = DaeadBuilt} (accepted k) (DeterministicAead (value_of k))) o)))
+    by_message None = refl
+    by_message (Some k) = daead_sound_if (accepted k) (value_of k)
 
 stream_row : {Key : Type 0} (keys : Column Key) (key : Key → Option StreamKey) (kind : StreamKey → StreamKind) → ((k : StreamKey) → key_of (kind k) ≡ k) → ((m : Key) (k : StreamKey) → key m ≡ Some k → IsUsable k) → (value : List ℕ)
     → IsSound (made_of built_key (widened as_streaming_aead as_built_stream (builds keys (λ m. made_of {T = StreamBuilt} (λ k. StreamingAead (kind k)) (or_refused InvalidKey (key m))) value)))
@@ -200,6 +214,9 @@ streaming_rows = (
   (stream_row streaming_messages.aes_gcm_hkdf_streaming_key gcm_hkdf_of (λ key. stream_kinds.GcmHkdf key) (λ key. refl) gcm_hkdf_of_usable, tt),
 )
 
+daead_rows : AreSound (rows_of daead_managers)
+daead_rows = (daead_row_if daead_messages.aes_siv_key (λ k. is_accepted k.version k.key_value) (λ k. k.key_value), tt)
+
 -- rows of more than one sort
 also : (more rest : List LoadingRow) → AreSound more → AreSound rest → AreSound (more ++ rest)
 also [] rest p q = q
@@ -208,9 +225,10 @@ also (row ∷ more) rest p q = (p.0, also more rest p.1 q)
 rows_sound : AreSound rows
 unfolding rows
 rows_sound =
-    also (rows_of prf_managers) (rows_of mac_managers ++ (rows_of aead_managers ++ rows_of streaming_managers)) prf_rows
-    (also (rows_of mac_managers) (rows_of aead_managers ++ rows_of streaming_managers) mac_rows
-    (also (rows_of aead_managers) (rows_of streaming_managers) aead_rows streaming_rows))
+    also (rows_of prf_managers) (rows_of mac_managers ++ (rows_of aead_managers ++ (rows_of streaming_managers ++ rows_of daead_managers))) prf_rows
+    (also (rows_of mac_managers) (rows_of aead_managers ++ (rows_of streaming_managers ++ rows_of daead_managers)) mac_rows
+    (also (rows_of aead_managers) (rows_of streaming_managers ++ rows_of daead_managers) aead_rows
+    (also (rows_of streaming_managers) (rows_of daead_managers) streaming_rows daead_rows)))
 
 -- the rows of the registry of all managers
 pub rows_of_all : (r : Registered Managers) → r ≡ with_everything → rows_of r.managers ≡ rows

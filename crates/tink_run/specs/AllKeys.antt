@@ -24,7 +24,7 @@ module _ {M K A D HD HE Mc P S V : Type 0} (url : M → List ℕ) (builds : M �
   abbrev pub rows_by : List M → List LoadingRow
   rows_by managers = map loading_row managers
 
--- the ten types of keys
+-- the eleven types of keys
 unfoldable pub rows : List LoadingRow
 rows = rows_by (λ m. (row_of m).url) (λ m. (row_of m).built) with_everything.managers
 

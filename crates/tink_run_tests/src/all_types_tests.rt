@@ -35,7 +35,7 @@ const ROUNDS: [(&str, &str, usize, usize); 6] = [
 ];
 
 // What a keyset has, by what `load` refuses it, the status of a seal of no text, and the bytes of the stream.
-const KEYSETS: [(&str, Option<Kind>, (u8, usize), &str); 13] = [
+const KEYSETS: [(&str, Option<Kind>, (u8, usize), &str); 15] = [
     (
         "an AES-GCM key",
         Some(Kind::WrongPrimitive),
@@ -83,6 +83,18 @@ const KEYSETS: [(&str, Option<Kind>, (u8, usize), &str); 13] = [
         Some(Kind::WrongPrimitive),
         (18, 0),
         "088486880812670a5c0a34747970652e676f6f676c65617069732e636f6d2f676f6f676c652e63727970746f2e74696e6b2e416573436d61635072664b657912221220000102030405060708090a0b0c0d0e0f101112131415161718191a1b1c1d1e1f1801100118848688082003",
+    ),
+    (
+        "an AES-SIV key",
+        Some(Kind::WrongPrimitive),
+        (18, 0),
+        "08848688081283010a780a30747970652e676f6f676c65617069732e636f6d2f676f6f676c652e63727970746f2e74696e6b2e4165735369764b657912421240000102030405060708090a0b0c0d0e0f101112131415161718191a1b1c1d1e1f202122232425262728292a2b2c2d2e2f303132333435363738393a3b3c3d3e3f1801100118848688082003",
+    ),
+    (
+        "an AES-SIV key of 32 bytes",
+        Some(Kind::InvalidKey),
+        (16, 0),
+        "088486880812630a580a30747970652e676f6f676c65617069732e636f6d2f676f6f676c652e63727970746f2e74696e6b2e4165735369764b657912221220000102030405060708090a0b0c0d0e0f101112131415161718191a1b1c1d1e1f1801100118848688082003",
     ),
     (
         "an AES-GCM key of 24 bytes",

@@ -5,8 +5,10 @@ use crate::support::{
 };
 use std::alloc::Global;
 use std::test::Fail;
+use tink::daead::WrappedDeterministicAead;
+use tink::daead::subtle::AesSiv;
 use tink::keyset::{Handle, insecure};
-use tink::{Draws, TinkError, registry};
+use tink::{DeterministicAead, Draws, TinkError, registry};
 use tink_io::{Kind, MemSink, MemSource, SureSource};
 use tink_keygen::keygen;
 
@@ -18,7 +20,14 @@ const ID: &str = "08b8b3c8ee0b";
 const KEY: &str =
     "12700a640a3d747970652e676f6f676c65617069732e636f6d2f676f6f676c652e63727970746f2e74696e6b2e416573437472486d616353747265616d696e674b65791221120d088020101018032204080310201a1076b8e0ada0f13d90405d6ae55386bd281801100118b8b3c8ee0b2003";
 
-const NOT_STREAMING: [&str; 17] = [
+// What it gives for keys of AES-SIV, of which the primary id is 9f07e7be.
+const SIV_KEYSET: &str =
+    "08becf9ff8091284010a780a30747970652e676f6f676c65617069732e636f6d2f676f6f676c652e63727970746f2e74696e6b2e4165735369764b65791242124076b8e0ada0f13d90405d6ae55386bd28bdd219b8a08ded1aa836efcc8b770dc7da41597c5157488d7724e03fb8d84a376a43b8f41518a11cc387b669b2ee65861801100118becf9ff8092001";
+
+// What pyca/cryptography 48 makes of `abc` under that key, behind its prefix.
+const SIV_ABC: &str = "019f07e7bed6368d963d5164bd5b1c4f7b386ba81783fe05";
+
+const NOT_STREAMING: [&str; 18] = [
     "HKDF_SHA256",
     "HMAC_SHA256_PRF",
     "HMAC_SHA512_PRF",
@@ -36,6 +45,7 @@ const NOT_STREAMING: [&str; 17] = [
     "AES256_GCM_SIV_NO_PREFIX",
     "AES128_CTR_HMAC_SHA256",
     "AES256_CTR_HMAC_SHA256",
+    "AES256_SIV",
 ];
 
 const STREAMS: [&str; 8] = [
@@ -136,6 +146,37 @@ fn each_template_makes_a_keyset_that_builds(rt: HostRuntime) -> Result<(), Fail>
     for template in &STREAMS {
         is(&rt, builds(rt.alloc(), template)?, template);
     }
+    Ok(())
+}
+
+// The deterministic AEAD of the keyset of AES-SIV.
+fn siv(alloc: Global) -> Result<WrappedDeterministicAead<AesSiv>, Fail> {
+    let handle = handle_of(alloc, SIV_KEYSET)?;
+    Ok(tink::daead::new(alloc, &handle, &registry(alloc)?)?)
+}
+
+// Whether `abc` is encrypted to these bytes at each call, and they alone are decrypted.
+fn siv_is_of_the_model(alloc: Global) -> Result<bool, Fail> {
+    let aead = siv(alloc)?;
+    let mut want = hex::decode(alloc, SIV_ABC)?;
+    let once = aead.encrypt_deterministically(alloc, b"abc", &[])?;
+    let again = aead.encrypt_deterministically(alloc, b"abc", &[])?;
+    let same = once.as_slice() == want && again.as_slice() == want;
+    let opened = aead.decrypt_deterministically(alloc, &want, &[])?;
+    want.push(0)?;
+    let longer = aead.decrypt_deterministically(alloc, &want, &[]);
+    let failed = longer.err().map(|e| e.kind) == Some(Kind::DecryptFailed);
+    Ok(same && opened.as_slice() == b"abc" && failed)
+}
+
+#[test]
+fn a_keyset_of_aes_siv_is_made_and_seals_no_stream(rt: HostRuntime) -> Result<(), Fail> {
+    let alloc = rt.alloc();
+    let new = makes(alloc, &["keygen", "AES256_SIV", SEED], &[SIV_KEYSET])?;
+    is(&rt, new, "the keyset");
+    is(&rt, siv_is_of_the_model(alloc)?, "what it encrypts");
+    let told = by_words(alloc, &["seal", SIV_KEYSET, "-", SEED], Vec::new(alloc))?;
+    is(&rt, told.tells(18, b"", "wrong primitive\n"), "a seal");
     Ok(())
 }
 

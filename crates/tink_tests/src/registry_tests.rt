@@ -59,5 +59,5 @@ fn all_templates(alloc: Global) -> Result<(usize, bool), TinkError> {
 #[test]
 fn each_template_makes_a_key_that_builds(rt: HostRuntime) {
     let told = all_templates(rt.alloc());
-    expect(&rt, told, (25, true), "templates, and whether all build");
+    expect(&rt, told, (26, true), "templates, and whether all build");
 }
