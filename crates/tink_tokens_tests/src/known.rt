@@ -4,7 +4,8 @@ ghost use Rattle.std.specs.Prelude.{◌≡◌, IfOk};
 
 use crate::support::{DRAWS, ID, PAYLOAD, TOKEN, answer, is, macs, macs_by, macs_of, rotate};
 use std::alloc::Global;
-use tink_core::keyset::Manager;
+use tink_core::keyset::{Handle, Manager};
+use tink_core::registry::Registry;
 use tink_core::{Kind, Mac, TinkError};
 use tink_mac::{
     AesCmacKeyManager, HmacKeyManager, MacKind, WrappedMac, aes_cmac_tag128_key_template, new,
@@ -106,13 +107,20 @@ fn come_back(alloc: Global, macs: &WrappedMac<MacKind>) -> Result<bool, TinkErro
     Ok(true)
 }
 
-// The same of a key of AES-CMAC, whose MACs have 21 bytes too.
-fn come_back_by_cmac(alloc: Global) -> Result<bool, TinkError> {
-    let registry = registry_of(alloc, AesCmacKeyManager::new())?;
+// A handle of a new key of AES-CMAC.
+fn cmac_handle(alloc: Global, registry: &Registry<AesCmacKeyManager>) -> Result<Handle, TinkError> {
     let kt = aes_cmac_tag128_key_template(alloc)?;
-    let mut manager = Manager::new(alloc);
-    let _id = manager.rotate(alloc, &kt, &registry, &mut draws_of(alloc, DRAWS)?)?;
-    come_back(alloc, &new(alloc, &manager.handle(alloc)?, &registry)?)
+    Handle::new(alloc, &kt, registry, &mut draws_of(alloc, DRAWS)?)
+}
+
+// Its MACs, which have 21 bytes too.
+fn cmacs(alloc: Global) -> Result<WrappedMac<MacKind>, TinkError> {
+    let registry = registry_of(alloc, AesCmacKeyManager::new())?;
+    new(alloc, &cmac_handle(alloc, &registry)?, &registry)
+}
+
+fn come_back_by_cmac(alloc: Global) -> Result<bool, TinkError> {
+    come_back(alloc, &cmacs(alloc)?)
 }
 
 fn come_back_by_hmac(alloc: Global) -> Result<bool, TinkError> {
@@ -131,33 +139,34 @@ fn told(alloc: Global, manager: &Manager) -> Result<Option<Kind>, TinkError> {
     Ok(answer(alloc, &macs, TOKEN))
 }
 
-// The same after a rotation by the same draws, which makes the key 5157488d; then once the old key is disabled, enabled
-// again, and deleted.
-fn answers(alloc: Global) -> Result<[Option<Kind>; 4], TinkError> {
+// A keyset after a rotation by the same draws, which makes the key 5157488d.
+fn rotated(alloc: Global) -> Result<Manager, TinkError> {
     let mut manager = Manager::new(alloc);
     let _first = rotate(alloc, &mut manager, DRAWS)?;
     let _second = rotate(alloc, &mut manager, DRAWS)?;
-    let rotated = told(alloc, &manager)?;
+    Ok(manager)
+}
+
+// What it answers; then once the old key is disabled, enabled again, and deleted.
+fn answers(alloc: Global, manager: &mut Manager) -> Result<[Option<Kind>; 4], TinkError> {
+    let rotated = told(alloc, manager)?;
     manager.disable(ID)?;
-    let disabled = told(alloc, &manager)?;
+    let disabled = told(alloc, manager)?;
     manager.enable(ID)?;
-    let enabled = told(alloc, &manager)?;
+    let enabled = told(alloc, manager)?;
     manager.delete(ID)?;
-    let deleted = told(alloc, &manager)?;
+    let deleted = told(alloc, manager)?;
     Ok([rotated, disabled, enabled, deleted])
 }
 
 fn are_told(alloc: Global) -> Result<bool, TinkError> {
     let refused = Some(Kind::MacMismatch);
-    Ok(answers(alloc)? == [None, refused, None, refused])
+    Ok(answers(alloc, &mut rotated(alloc)?)? == [None, refused, None, refused])
 }
 
 // Whether the new key signs by its own id.
 fn is_signed_anew(alloc: Global) -> Result<bool, TinkError> {
-    let mut manager = Manager::new(alloc);
-    let _first = rotate(alloc, &mut manager, DRAWS)?;
-    let _second = rotate(alloc, &mut manager, DRAWS)?;
-    let macs = macs_by(alloc, &manager.handle(alloc)?)?;
+    let macs = macs_by(alloc, &rotated(alloc)?.handle(alloc)?)?;
     is_signed(
         alloc,
         &macs,

@@ -86,17 +86,27 @@ fn is_refused_changed(
     Ok(true)
 }
 
-// Whether each text that is one byte from the token is refused, and each that begins it.
-fn is_refused_otherwise(alloc: Global) -> Result<bool, TinkError> {
-    let macs = macs(alloc)?;
+// Whether what begins the token is refused, and the token without a byte there, with another and with one more.
+fn is_refused_at(alloc: Global, macs: &WrappedMac<MacKind>, at: usize) -> Result<bool, TinkError> {
+    let front = &TOKEN[..at.min(TOKEN.len())];
+    let back = &TOKEN[at.saturating_add(1).min(TOKEN.len())..];
+    let cut = is_refused(alloc, macs, front, b"", b"")?;
+    let left_out = is_refused(alloc, macs, front, b"", back)?;
+    Ok(cut && left_out && is_refused_changed(alloc, macs, at)?)
+}
+
+fn are_refused_at_all(alloc: Global, macs: &WrappedMac<MacKind>) -> Result<bool, TinkError> {
     for at in 0..TOKEN.len() {
-        let cut = is_refused(alloc, &macs, &TOKEN[..at], b"", b"")?;
-        let left_out = is_refused(alloc, &macs, &TOKEN[..at], b"", &TOKEN[at + 1..])?;
-        if !(cut && left_out && is_refused_changed(alloc, &macs, at)?) {
+        if !is_refused_at(alloc, macs, at)? {
             return Ok(false);
         }
     }
-    is_refused_changed(alloc, &macs, TOKEN.len())
+    is_refused_changed(alloc, macs, TOKEN.len())
+}
+
+// Whether each text that is one byte from the token is refused, and each that begins it.
+fn is_refused_otherwise(alloc: Global) -> Result<bool, TinkError> {
+    are_refused_at_all(alloc, &macs(alloc)?)
 }
 
 // Whether the token is refused under another prefix, and under the key by another id.
