@@ -8,7 +8,7 @@ use Rattle.standards.specs.AesInverse.{aes_inverse, inv_cipher}
 use Rattle.standards.specs.AesKeys.{aes, key_words, keys_of, round_key, round_keys, schedule, word_after, word_at}
 use Rattle.standards.proofs.AesLengths.{get_or-round_keys, length-key_words, length-schedule}
 use Rattle.aes_block.specs.Ciphers.{IsKeySize}
-use Rattle.aes_block.specs.Schedules.{IsSchedule, key_of}
+use Rattle.aes_block.specs.Schedules.{IsSchedule, cipher_key}
 use Rattle.aes_block.proofs.Rounds.{cipher-take, inv_cipher-take}
 
 -- one round key more
@@ -59,7 +59,7 @@ round_keys-take ws m (suc r) h =
     let same : round_key (take m ws) r ≡ round_key ws r = rw (here (4 * r) (omega arith), here (4 * r + 1) (omega arith), here (4 * r + 2) (omega arith), here (4 * r + 3) (omega arith)) refl in
     ap (λ k. round_keys (take m ws) r ++ k ∷ []) same ∙ ap (λ ks. ks ++ round_key ws r ∷ []) (round_keys-take ws m r (omega arith))
 
-rounds_of_key : (ks : List (List ℕ)) (rounds : ℕ) (key : List ℕ) → IsSchedule ks rounds → key_of ks rounds ≡ key → rounds ≡ length key / 4 + 6
+rounds_of_key : (ks : List (List ℕ)) (rounds : ℕ) (key : List ℕ) → IsSchedule ks rounds → cipher_key ks rounds ≡ key → rounds ≡ length key / 4 + 6
 rounds_of_key ks rounds key s v =
     elim s.count [
       | inl a ↦ omega (arith, s.size, ap length v)
@@ -67,20 +67,20 @@ rounds_of_key ks rounds key s v =
     ]
 
 -- a block enciphered under the round keys of a key
-pub enciphered : (ks : List (List ℕ)) (rounds : ℕ) (key block : List ℕ) → IsSchedule ks rounds → key_of ks rounds ≡ key → cipher rounds ks block ≡ aes key block
+pub enciphered : (ks : List (List ℕ)) (rounds : ℕ) (key block : List ℕ) → IsSchedule ks rounds → cipher_key ks rounds ≡ key → cipher rounds ks block ≡ aes key block
 unfolding aes
 enciphered ks rounds key block s v =
     sym (cipher-take ks block rounds) ∙ ap (λ k. cipher rounds k block) (s.keys ∙ ap keys_of v) ∙ ap (λ r. cipher r (keys_of key) block) (rounds_of_key ks rounds key s v)
 
 -- a block deciphered under them
-pub deciphered : (ks : List (List ℕ)) (rounds : ℕ) (key block : List ℕ) → IsSchedule ks rounds → key_of ks rounds ≡ key → inv_cipher rounds ks block ≡ aes_inverse key block
+pub deciphered : (ks : List (List ℕ)) (rounds : ℕ) (key block : List ℕ) → IsSchedule ks rounds → cipher_key ks rounds ≡ key → inv_cipher rounds ks block ≡ aes_inverse key block
 unfolding aes_inverse
 deciphered ks rounds key block s v =
     sym (inv_cipher-take ks block rounds) ∙ ap (λ k. inv_cipher rounds k block) (s.keys ∙ ap keys_of v) ∙ ap (λ r. inv_cipher r (keys_of key) block) (rounds_of_key ks rounds key s v)
 
 -- the key in front of the round keys
 key_in_front : (ks ws : List (List ℕ)) (key : List ℕ) (n : ℕ) → IsKeySize (length key) → n ≡ length key / 4 → take (n + 6 + 1) ks ≡ round_keys ws (n + 6 + 1)
-    → Begins ws key n → key_of ks (n + 6) ≡ key
+    → Begins ws key n → cipher_key ks (n + 6) ≡ key
 key_in_front ks ws key n sizes count keys b =
     let at = λ (i : ℕ) (h : i < n + 6 + 1). sym (get_or-take (n + 6 + 1) ks i [] h) ∙ ap (λ k. get_or k i []) keys ∙ get_or-round_keys ws (n + 6 + 1) i h in
     let here = ap (λ k. take (4 * (n + 6 - 6)) (k ++ get_or ks 1 [])) (at 0 (omega arith)) ∙ ap (λ k. take (4 * (n + 6 - 6)) (round_key ws 0 ++ k)) (at 1 (omega arith)) in
@@ -99,7 +99,7 @@ scheduled words key n r front h keys = keys ∙ sym (round_keys-take words (4 * 
 
 -- a schedule as a prefix of a buffer, joined to round keys
 pub view_of_new : (ks words : List (List ℕ)) (key : List ℕ) (n : ℕ) → IsKeySize (length key) → n ≡ length key / 4 → take (n + 6 + 1) ks ≡ round_keys words (n + 6 + 1)
-    → take (4 * n + 28) words ≡ schedule n key (3 * n + 28) → key_of ks (n + 6) ≡ key
+    → take (4 * n + 28) words ≡ schedule n key (3 * n + 28) → cipher_key ks (n + 6) ≡ key
 view_of_new ks words key n sizes count keys front =
     key_in_front ks (schedule n key (3 * n + 28)) key n sizes count (scheduled words key n (n + 6 + 1) front (omega arith) keys) (λ i h. word_of_schedule n key (3 * n + 28) i h)
 

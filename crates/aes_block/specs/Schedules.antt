@@ -5,14 +5,14 @@ use Rattle.aes_block.specs.declared.planes.KeyPlanes.{KeyPlanes}
 use Rattle.aes_block.specs.BitPlanes.{AreKeys}
 
 -- the key, which stands in the first two round keys: four bytes for each round beyond the sixth
-abbrev pub key_of : List (List ℕ) → ℕ → List ℕ
-key_of round_keys rounds = take (4 * (rounds - 6)) (get_or round_keys 0 [] ++ get_or round_keys 1 [])
+abbrev pub cipher_key : List (List ℕ) → ℕ → List ℕ
+cipher_key round_keys rounds = take (4 * (rounds - 6)) (get_or round_keys 0 [] ++ get_or round_keys 1 [])
 
 -- the round keys of that key, one for each round and one before them
 pub record IsSchedule (round_keys : List (List ℕ)) (rounds : ℕ) : Type 0 where
-  pub size : length (key_of round_keys rounds) ≡ 4 * (rounds - 6)
+  pub size : length (cipher_key round_keys rounds) ≡ 4 * (rounds - 6)
   pub count : (rounds ≡ 10) ⊎ (rounds ≡ 12) ⊎ (rounds ≡ 14)
-  pub keys : take (rounds + 1) round_keys ≡ keys_of (key_of round_keys rounds)
+  pub keys : take (rounds + 1) round_keys ≡ keys_of (cipher_key round_keys rounds)
 
 -- and their planes
 pub record IsHeld (round_keys : List (List ℕ)) (planes : List KeyPlanes) (rounds : ℕ) : Type 0 where

@@ -21,11 +21,11 @@ pub(crate) struct Schedule {
 
 impl Model for Schedule {
     ghost use Rattle.std.specs.Prelude.{List, ℕ};
-    ghost use Rattle.aes_block.specs.Schedules.{IsHeld, key_of};
+    ghost use Rattle.aes_block.specs.Schedules.{IsHeld, cipher_key};
 
     ghost Value = { List ℕ };
 
-    ghost view = { λ s. key_of s.round_keys s.rounds };
+    ghost view = { λ s. cipher_key s.round_keys s.rounds };
 
     ghost invariant = { λ s. IsHeld s.round_keys s.planes s.rounds };
 }
