@@ -6,12 +6,14 @@ pub mod aead;
 mod building;
 pub mod daead;
 pub mod keyset;
+mod laws;
 pub mod mac;
 mod managers;
 pub mod prf;
 mod registering;
 pub mod streaming_aead;
 
+pub use laws::law_macs_are_sound;
 pub use managers::{Managers, TinkKinds};
 pub use registering::registry;
 pub use tink_core::registry::{KeyManager, Registry};
