@@ -1,12 +1,12 @@
--- The ten managers, a row each.
-use Rattle.std.specs.Prelude.{is_some, nat_eq}
+-- The eleven managers, a row each.
+use Rattle.std.specs.Prelude.{ℕ, List, is_some, nat_eq}
 use Rattle.tink_io.specs.declared.error.Kind.TheVariants.{InvalidKey}
 use Rattle.tink_io.specs.Told.{made_of, or_refused}
 use Rattle.tink_primitives.specs.declared.kinds.Never.{Never}
 use Rattle.tink_primitives.specs.declared.primitive.Primitive.{Primitive}
-use Rattle.tink_primitives.specs.declared.primitive.Primitive.TheVariants.{Aead, Mac, Prf, StreamingAead}
+use Rattle.tink_primitives.specs.declared.primitive.Primitive.TheVariants.{Aead, DeterministicAead, Mac, Prf, StreamingAead}
 use Rattle.tink_primitives.specs.Meaning.{IsTold}
-use Rattle.tink_primitives.specs.Sorts.{as_aead, as_mac, as_prf, as_streaming_aead}
+use Rattle.tink_primitives.specs.Sorts.{as_aead, as_deterministic_aead, as_mac, as_prf, as_streaming_aead}
 use Rattle.tink_key_types.specs.Manager.{built_if, made_if}
 use Rattle.tink_key_types.specs.ManagerLaws.{built_if_told, made_if_told}
 use Rattle.tink_proto_keys.specs.Prf as prf_messages
@@ -14,6 +14,7 @@ use Rattle.tink_proto_keys.specs.Mac as mac_messages
 use Rattle.tink_proto_keys.specs.Aead as aead_messages
 use Rattle.tink_proto_keys.specs.AesCtrHmac as composed_messages
 use Rattle.tink_proto_keys.specs.Streaming as streaming_messages
+use Rattle.tink_proto_keys.specs.Daead as daead_messages
 use Rattle.tink_prf.specs.declared.prf_kind.PrfKind.{PrfKind}
 use Rattle.tink_prf.specs.declared.prf_kind.PrfKind.TheVariants as prf_kinds
 use Rattle.tink_prf.specs.declared.prf_kind.PrfKinds.{PrfKinds}
@@ -36,14 +37,16 @@ use Rattle.tink_stream_keys.specs.declared.stream_kind.StreamKind.TheVariants as
 use Rattle.tink_stream_keys.specs.declared.stream_kind.StreamKinds.{StreamKinds}
 use Rattle.tink_streaming_aead.specs.KeyTypes as streaming_keys
 use Rattle.tink_streaming_aead.specs.KeyTypeLaws.{made_or_invalid_told}
+use Rattle.tink_daead.specs.declared.daead_kinds.DaeadKinds.{DaeadKinds}
+use Rattle.tink_daead.specs.KeyTypes as daead_keys
 use Rattle.tink.specs.declared.managers.TinkKinds.{TinkKinds}
 use Rattle.tink.specs.declared.managers.Managers.{Managers}
 use Rattle.tink.specs.declared.managers.Managers.TheVariants as managers
 use Rattle.tink.specs.Rows.{Row, row_of_type}
 
--- the primitives of all sorts, and those of one
+-- the primitives of all sorts, and those of one; a deterministic AEAD is its key
 abbrev pub Built : Type 0
-Built = Primitive TinkKinds AeadKind Never Never Never MacKind PrfKind Never StreamKind Never
+Built = Primitive TinkKinds AeadKind (List ℕ) Never Never MacKind PrfKind Never StreamKind Never
 
 abbrev pub AeadBuilt : Type 0
 AeadBuilt = Primitive AeadKinds AeadKind Never Never Never Never Never Never Never Never
@@ -56,6 +59,9 @@ PrfBuilt = Primitive PrfKinds Never Never Never Never Never PrfKind Never Never 
 
 abbrev pub StreamBuilt : Type 0
 StreamBuilt = Primitive StreamKinds Never Never Never Never Never Never Never StreamKind Never
+
+abbrev pub DaeadBuilt : Type 0
+DaeadBuilt = Primitive DaeadKinds Never (List ℕ) Never Never Never Never Never Never Never
 
 pub aead_told : (p : AeadBuilt) → IsTold (as_aead p)
 aead_told (Aead p) = tt
@@ -73,6 +79,10 @@ pub stream_told : (p : StreamBuilt) → IsTold (as_streaming_aead p)
 stream_told (StreamingAead p) = tt
 stream_told _ = tt
 
+pub daead_told : (p : DaeadBuilt) → IsTold (as_deterministic_aead p)
+daead_told (DeterministicAead p) = tt
+daead_told _ = tt
+
 abbrev pub as_built_aead : AeadKind → Built
 as_built_aead p = Aead p
 
@@ -84,6 +94,9 @@ as_built_prf p = Prf p
 
 abbrev pub as_built_stream : StreamKind → Built
 as_built_stream p = StreamingAead p
+
+abbrev pub as_built_daead : List ℕ → Built
+as_built_daead p = DeterministicAead p
 
 abbrev pub row_of : Managers → Row Built
 row_of managers.AesCmacPrf =
@@ -146,3 +159,9 @@ row_of managers.AesGcmHkdf =
     (λ k. made_or_invalid_told (λ key. StreamingAead (stream_kinds.GcmHkdf key)) (building.gcm_hkdf_of k))
     (λ f draws. made_if (streaming_keys.is_gcm_hkdf_format f) f.key_size (streaming_keys.new_gcm_hkdf_key f) draws)
     (λ f draws. made_if_told (streaming_keys.is_gcm_hkdf_format f) f.key_size (streaming_keys.new_gcm_hkdf_key f) draws)
+row_of managers.AesSiv =
+    row_of_type as_deterministic_aead as_built_daead daead_told daead_keys.aes_siv_url daead_messages.aes_siv_key daead_messages.aes_siv_key_format
+    (λ k. built_if (daead_keys.is_accepted k.version k.key_value) (DeterministicAead k.key_value))
+    (λ k. built_if_told (daead_keys.is_accepted k.version k.key_value) _)
+    (λ f draws. made_if (nat_eq f.key_size 64) f.key_size daead_keys.new_aes_siv_key draws)
+    (λ f draws. made_if_told (nat_eq f.key_size 64) f.key_size daead_keys.new_aes_siv_key draws)

@@ -2,9 +2,9 @@
 
 ghost use Rattle.std.specs.Prelude.{◌≡◌};
 ghost use Rattle.tink_io.specs.Told.{Answers, Replies};
-ghost use Rattle.tink_primitives.specs.Sorts.{as_aead, as_mac, as_prf, as_streaming_aead};
+ghost use Rattle.tink_primitives.specs.Sorts.{as_aead, as_deterministic_aead, as_mac, as_prf, as_streaming_aead};
 ghost use Rattle.tink_key_types.specs.Manager.{builds, makes, makes_data};
-ghost use Rattle.tink.specs.Managers.{as_built_aead, as_built_mac, as_built_prf, as_built_stream};
+ghost use Rattle.tink.specs.Managers.{as_built_aead, as_built_daead, as_built_mac, as_built_prf, as_built_stream};
 ghost use Rattle.tink.specs.Rows.{widened};
 
 use crate::managers::TinkKinds;
@@ -12,6 +12,7 @@ use std::alloc::Global;
 use tink_aead::AeadKinds;
 use tink_core::registry::KeyManager;
 use tink_core::{Draws, Primitive, TinkError};
+use tink_daead::DaeadKinds;
 use tink_key_types::{KeyType, SymmetricKeyManager};
 use tink_mac::MacKinds;
 use tink_prf::PrfKinds;
@@ -60,6 +61,17 @@ pub fn build_streaming_aead<T: KeyType<Family = StreamKinds>>(
 {
     let built = SymmetricKeyManager::<T>::new().primitive(alloc, key)?;
     Ok(Primitive::StreamingAead(built.into_streaming_aead()?))
+}
+
+// The deterministic AEAD of a key's bytes.
+pub fn build_deterministic_aead<T: KeyType<Family = DaeadKinds>>(
+    alloc: Global,
+    key: &[u8],
+) -> Result<Primitive<TinkKinds>, TinkError>
+    ensures { Answers result (widened as_deterministic_aead as_built_daead (builds T.Key.table T.built key.now)) }
+{
+    let built = SymmetricKeyManager::<T>::new().primitive(alloc, key)?;
+    Ok(Primitive::DeterministicAead(built.into_deterministic_aead()?))
 }
 
 // The bytes of a new key of a format's bytes.

@@ -1,9 +1,10 @@
-//! Tink: keysets, and over them pseudorandom functions, MACs, AEADs and streaming AEADs, with the managers of all their
-//! keys as one type, and their registry.
+//! Tink: keysets, and over them pseudorandom functions, MACs, AEADs, streaming and deterministic AEADs, with the
+//! managers of all their keys as one type, and their registry.
 #![tactic(auto)]
 
 pub mod aead;
 mod building;
+pub mod daead;
 pub mod keyset;
 pub mod mac;
 mod managers;
@@ -15,6 +16,6 @@ pub use managers::{Managers, TinkKinds};
 pub use registering::registry;
 pub use tink_core::registry::{KeyManager, Registry};
 pub use tink_core::{
-    Aead, Cause, Draws, Kind, Kinds, Lent, Mac, MemSink, MemSource, Prf, Primitive, Sink, Source,
-    StdSink, StdSource, SureSink, SureSource, TinkError,
+    Aead, Cause, DeterministicAead, Draws, Kind, Kinds, Lent, Mac, MemSink, MemSource, Prf,
+    Primitive, Sink, Source, StdSink, StdSource, SureSink, SureSource, TinkError,
 };

@@ -7,7 +7,10 @@ ghost use Rattle.tink_key_types.specs.ManagerLaws.{no_public_always, no_public_k
 ghost use Rattle.tink.specs.Managers.{row_of};
 ghost use Rattle.tink.specs.declared.managers.Managers.TheVariants as managers;
 
-use crate::building::{build_aead, build_mac, build_prf, build_streaming_aead, make, make_data};
+use crate::building::{
+    build_aead, build_deterministic_aead, build_mac, build_prf, build_streaming_aead, make,
+    make_data,
+};
 use std::alloc::Global;
 use tink_aead::{
     AeadKind, AesCtrHmacAeadKeyManager, AesCtrHmacAeadKeys, AesGcmKeyManager, AesGcmKeys,
@@ -15,6 +18,8 @@ use tink_aead::{
 };
 use tink_core::registry::KeyManager;
 use tink_core::{Draws, Kind, Kinds, Never, Primitive, TinkError};
+use tink_daead::subtle::AesSiv;
+use tink_daead::{AesSivKeyManager, AesSivKeys};
 use tink_key_types::KeyType;
 use tink_mac::{AesCmacKeyManager, AesCmacKeys, HmacKeyManager, HmacKeys, MacKind};
 use tink_prf::{
@@ -26,13 +31,13 @@ use tink_streaming_aead::{
     AesCtrHmacKeyManager, AesCtrHmacKeys, AesGcmHkdfKeyManager, AesGcmHkdfKeys, StreamKind,
 };
 
-/// The family of all primitives that are here: pseudorandom functions, MACs, AEADs and streaming AEADs.
+/// The family of all primitives that are here: pseudorandom functions, MACs, AEADs, streaming and deterministic AEADs.
 pub struct TinkKinds;
 
 impl Kinds for TinkKinds {
     type Aead = AeadKind;
 
-    type DeterministicAead = Never;
+    type DeterministicAead = AesSiv;
 
     type HybridDecrypt = Never;
 
@@ -49,7 +54,7 @@ impl Kinds for TinkKinds {
     type Verifier = Never;
 }
 
-/// The manager of one of the ten types of keys.
+/// The manager of one of the eleven types of keys.
 #[derive(Clone, Copy, Debug, PartialEq)]
 pub enum Managers {
     /// Keys of pseudorandom functions by AES-CMAC.
@@ -72,6 +77,8 @@ pub enum Managers {
     AesCtrHmac,
     /// Keys of streaming AEADs by AES-GCM.
     AesGcmHkdf,
+    /// Keys of deterministic AEADs by AES-SIV.
+    AesSiv,
 }
 
 impl From<AesCmacPrfKeyManager> for Managers {
@@ -154,6 +161,14 @@ impl From<AesGcmHkdfKeyManager> for Managers {
     }
 }
 
+impl From<AesSivKeyManager> for Managers {
+    ghost from_gives = { λ _ m. m ≡ managers.AesSiv };
+
+    fn from(_manager: AesSivKeyManager) -> Self {
+        Managers::AesSiv
+    }
+}
+
 impl KeyManager for Managers {
     type Family = TinkKinds;
 
@@ -189,6 +204,7 @@ impl KeyManager for Managers {
             Managers::AesCtrHmacAead => build_aead::<AesCtrHmacAeadKeys>(alloc, serialized_key),
             Managers::AesCtrHmac => build_streaming_aead::<AesCtrHmacKeys>(alloc, serialized_key),
             Managers::AesGcmHkdf => build_streaming_aead::<AesGcmHkdfKeys>(alloc, serialized_key),
+            Managers::AesSiv => build_deterministic_aead::<AesSivKeys>(alloc, serialized_key),
         }
     }
 
@@ -213,6 +229,7 @@ impl KeyManager for Managers {
             ),
             Managers::AesCtrHmac => make::<AesCtrHmacKeys>(alloc, serialized_key_format, draws),
             Managers::AesGcmHkdf => make::<AesGcmHkdfKeys>(alloc, serialized_key_format, draws),
+            Managers::AesSiv => make::<AesSivKeys>(alloc, serialized_key_format, draws),
         }
     }
 
@@ -232,6 +249,7 @@ impl KeyManager for Managers {
             Managers::AesCtrHmacAead => AesCtrHmacAeadKeys::url(),
             Managers::AesCtrHmac => AesCtrHmacKeys::url(),
             Managers::AesGcmHkdf => AesGcmHkdfKeys::url(),
+            Managers::AesSiv => AesSivKeys::url(),
         }
     }
 
@@ -272,6 +290,7 @@ impl KeyManager for Managers {
                 serialized_key_format,
                 draws,
             ),
+            Managers::AesSiv => make_data::<AesSivKeys>(alloc, serialized_key_format, draws),
         }
     }
 

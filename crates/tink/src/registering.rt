@@ -2,14 +2,14 @@
 
 ghost use Rattle.std.specs.Prelude.{◌≡◌, IfErr, IfOk, OnOk};
 ghost use Rattle.tink_io.specs.declared.error.Kind.TheVariants.{OutOfMemory};
-ghost use Rattle.tink.specs.Registered.{nothing, with_aeads, with_everything, with_macs, with_prfs};
+ghost use Rattle.tink.specs.Registered.{nothing, with_aeads, with_everything, with_macs, with_prfs, with_streaming_aeads};
 
 use crate::Managers;
 use std::alloc::Global;
 use tink_core::TinkError;
 use tink_core::registry::Registry;
 
-/// A registry of all ten managers and of the 25 templates that have a name.
+/// A registry of all eleven managers and of the 26 templates that have a name.
 ///
 /// # Errors
 /// `OutOfMemory` alone.
@@ -22,6 +22,7 @@ pub fn registry(alloc: Global) -> Result<Registry<Managers>, TinkError>
     add_macs(alloc, &mut registry)?;
     add_aeads(alloc, &mut registry)?;
     add_streaming_aeads(alloc, &mut registry)?;
+    add_deterministic_aeads(alloc, &mut registry)?;
     Ok(registry)
 }
 
@@ -51,8 +52,19 @@ fn add_aeads(alloc: Global, registry: &mut Registry<Managers>) -> Result<(), Tin
 
 fn add_streaming_aeads(alloc: Global, registry: &mut Registry<Managers>) -> Result<(), TinkError>
     requires { registry.old ≡ with_aeads }
-    ensures ok { OnOk result (registry.new ≡ with_everything) }
+    ensures ok { OnOk result (registry.new ≡ with_streaming_aeads) }
     ensures cause { IfErr result (λ e. e.kind ≡ OutOfMemory) }
 {
     tink_streaming_aead::init(alloc, registry)
+}
+
+fn add_deterministic_aeads(
+    alloc: Global,
+    registry: &mut Registry<Managers>,
+) -> Result<(), TinkError>
+    requires { registry.old ≡ with_streaming_aeads }
+    ensures ok { OnOk result (registry.new ≡ with_everything) }
+    ensures cause { IfErr result (λ e. e.kind ≡ OutOfMemory) }
+{
+    tink_daead::init(alloc, registry)
 }

@@ -6,20 +6,20 @@ use Rattle.tink_streaming_aead.specs.Templates.{streaming_templates}
 use Rattle.tink.specs.declared.managers.Managers.{Managers}
 use Rattle.tink.specs.declared.managers.Managers.TheVariants.{AesCtrHmac, AesGcmHkdf}
 use Rattle.tink.specs.Managers.{row_of}
-use Rattle.tink.specs.Registered.{streaming_managers, with_aeads, with_everything}
+use Rattle.tink.specs.Registered.{streaming_managers, with_aeads, with_streaming_aeads}
 use Rattle.tink.proofs.Making.{leaves_err, leaves_ok, registered, Leaves}
 use Rattle.tink.proofs.registering.add_streaming_aeads.Goals as goal
 
 left : (A B : Type 0) (old new : Registered Managers) (r : Result (Unit {0}) TinkError) → old ≡ with_aeads
     → Registers (AreMade (IsMade {A = A} (λ _ m. m ≡ AesCtrHmac) ∷ IsMade {A = B} (λ _ m. m ≡ AesGcmHkdf) ∷ [])) (λ m. (row_of m).url) streaming_templates old new r
-    → Leaves with_everything r new
+    → Leaves with_streaming_aeads r new
 left A B old new r is registers =
     registered (λ m. (row_of m).url) (IsMade {A = A} (λ _ m. m ≡ AesCtrHmac) ∷ IsMade {A = B} (λ _ m. m ≡ AesGcmHkdf) ∷ []) streaming_managers streaming_templates with_aeads new r
     ((λ x made. made.1), ((λ x made. made.1), tt)) refl
     (subst (λ o. Registers (AreMade (IsMade {A = A} (λ _ m. m ≡ AesCtrHmac) ∷ IsMade {A = B} (λ _ m. m ≡ AesGcmHkdf) ∷ [])) (λ m. (row_of m).url) streaming_templates o new r) is registers)
 
 pub returns-clause-ok : goal.returns-clause-ok
-returns-clause-ok c = leaves_ok with_everything c.init.new.registry c.init.result (left _ _ c.args.registry.now c.init.new.registry c.init.result c.requires c.init.ensures)
+returns-clause-ok c = leaves_ok with_streaming_aeads c.init.new.registry c.init.result (left _ _ c.args.registry.now c.init.new.registry c.init.result c.requires c.init.ensures)
 
 pub returns-clause-cause : goal.returns-clause-cause
-returns-clause-cause c = leaves_err with_everything c.init.new.registry c.init.result (left _ _ c.args.registry.now c.init.new.registry c.init.result c.requires c.init.ensures)
+returns-clause-cause c = leaves_err with_streaming_aeads c.init.new.registry c.init.result (left _ _ c.args.registry.now c.init.new.registry c.init.result c.requires c.init.ensures)

@@ -1,0 +1,25 @@
+use Rattle.std.proofs.Common.{◌≡◌, ◌∷◌, [], refl, subst, Result}
+use Rattle.tink_io.specs.declared.error.TinkError.{TinkError}
+use Rattle.tink_registry.specs.Listed.{Registered}
+use Rattle.tink_registry.specs.Registering.{AreMade, IsMade, Registers}
+use Rattle.tink_daead.specs.Templates.{daead_templates}
+use Rattle.tink.specs.declared.managers.Managers.{Managers}
+use Rattle.tink.specs.declared.managers.Managers.TheVariants.{AesSiv}
+use Rattle.tink.specs.Managers.{row_of}
+use Rattle.tink.specs.Registered.{daead_managers, with_everything, with_streaming_aeads}
+use Rattle.tink.proofs.Making.{leaves_err, leaves_ok, registered, Leaves}
+use Rattle.tink.proofs.registering.add_deterministic_aeads.Goals as goal
+
+left : (A : Type 0) (old new : Registered Managers) (r : Result (Unit {0}) TinkError) → old ≡ with_streaming_aeads
+    → Registers (AreMade (IsMade {A = A} (λ _ m. m ≡ AesSiv) ∷ [])) (λ m. (row_of m).url) daead_templates old new r
+    → Leaves with_everything r new
+left A old new r is registers =
+    registered (λ m. (row_of m).url) (IsMade {A = A} (λ _ m. m ≡ AesSiv) ∷ []) daead_managers daead_templates with_streaming_aeads new r
+    ((λ x made. made.1), tt) refl
+    (subst (λ o. Registers (AreMade (IsMade {A = A} (λ _ m. m ≡ AesSiv) ∷ [])) (λ m. (row_of m).url) daead_templates o new r) is registers)
+
+pub returns-clause-ok : goal.returns-clause-ok
+returns-clause-ok c = leaves_ok with_everything c.init.new.registry c.init.result (left _ c.args.registry.now c.init.new.registry c.init.result c.requires c.init.ensures)
+
+pub returns-clause-cause : goal.returns-clause-cause
+returns-clause-cause c = leaves_err with_everything c.init.new.registry c.init.result (left _ c.args.registry.now c.init.new.registry c.init.result c.requires c.init.ensures)
