@@ -73,7 +73,6 @@ fn sealer_of<T: DerivesStreams>(
 }
 
 // Writes a front: what stands before a header, and the header.
-#[tactic(auto, using(tink_io::proofs::WrittenLemmas::front_of_more, tink_io::proofs::WrittenLemmas::then_front, std::proofs::KnownBytes::Appends-trans))]
 fn write_front<K: Sink>(sink: &mut K, out: &[u8], header: &[u8]) -> Result<(), TinkError>
     ensures written { OnOk result (Appends (K.got sink.old) (K.got sink.new) (out.now ++ header.now)) }
     ensures front { OnErr result (AppendsFront (K.got sink.old) (K.got sink.new) (out.now ++ header.now)) }

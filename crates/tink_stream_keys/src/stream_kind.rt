@@ -37,7 +37,10 @@ impl DerivesStreams for StreamKind {
     }
 
     fn output_prefix(&self) -> &[u8] {
-        &[]
+        match self {
+            StreamKind::CtrHmac(key) => key.output_prefix(),
+            StreamKind::GcmHkdf(key) => key.output_prefix(),
+        }
     }
 }
 
@@ -56,7 +59,7 @@ impl DerivesStreams for TypedEntry<StreamKind> {
     }
 
     fn output_prefix(&self) -> &[u8] {
-        &self.prefix
+        self.prefix.as_slice()
     }
 }
 

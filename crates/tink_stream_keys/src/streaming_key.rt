@@ -120,7 +120,7 @@ impl<C> DerivesStreams for StreamingKey<C> {
     }
 
     fn output_prefix(&self) -> &[u8] {
-        &[]
+        &self.main_key[..0]
     }
 }
 

@@ -8,7 +8,7 @@ use Rattle.tink_io.specs.declared.error.Kind.{Kind}
 use Rattle.tink_io.specs.declared.error.Kind.TheVariants.{BadSegment, FailedBefore, NoMatchingKey, ReadFault, TooManySegments, Truncated}
 use Rattle.stream_model.specs.Cut.{cut}
 use Rattle.stream_model.specs.Agree.{Agree}
-use Rattle.stream_model.specs.Opening.{AgreeBy, FirstAgrees, IsChosen, OpeningKey, chunks_of}
+use Rattle.stream_model.specs.Opening.{AgreeBy, FirstAgrees, IsChosen, OpeningKey, chunks_of, header_of}
 use Rattle.tink_segment_traits.specs.declared.segment_traits.SegmentDecrypter.{Ghosts}
 use Rattle.tink_streams.specs.Choosing.{Started, StartRefused}
 use Rattle.tink_streams.specs.Openers.{reader_rest}
@@ -50,8 +50,8 @@ never_nothing : (ks : List OpeningKey) (all rest : Option (List ℕ)) (seg : ℕ
 never_nothing ks None rest seg first size overhead s n = tt
 never_nothing ks (Some X) rest seg first size overhead s n =
     let k = s.found.key in
-    let agree : Agree seg 0 (cut first size (drop s.header X)) [] = subst (λ (r : Option (List ℕ)). IfSome r (λ Y. Agree seg 0 (cut first size Y) [])) s.rest n in
-    absurd (not_both (k.seg (take k.header X)) (chunks_of k X) (chosen_begins ks X k s.found.chosen).first (stream_agreed ks X seg s.header first size overhead [] s.found agree))
+    let agree : Agree seg 0 (cut first size (drop s.front X)) [] = subst (λ (r : Option (List ℕ)). IfSome r (λ Y. Agree seg 0 (cut first size Y) [])) s.rest n in
+    absurd (not_both (k.seg (header_of k X)) (chunks_of k X) (chosen_begins ks X k s.found.chosen).first (stream_agreed ks X seg s.front first size overhead [] s.found agree))
 
 -- a refusal of the chosen key's reader at its first read
 pub first_refused : (ks : List OpeningKey) (all rest : Option (List ℕ)) (seg : ℕ → Bool → List ℕ → List ℕ) (a b overhead before faults room : ℕ) (n : TextMoment) (kind : Kind) → IfSome all (λ X. Started ks X rest seg a b overhead) → before ≤ faults
