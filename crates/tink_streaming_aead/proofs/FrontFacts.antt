@@ -1,5 +1,5 @@
 -- A stream of a key without its output prefix, and the same behind the prefix.
-use Rattle.std.proofs.Common.{◌≡◌, ◌∙◌, ◌+◌, ℕ, Bool, true, false, List, [], ◌∷◌, ◌++◌, length, take, drop, refl, sym, ap, subst, arith, Some, ◌&&◌, nat_eq, slice_index, bytes_eq, length-append, length-drop, get_or}
+use Rattle.std.proofs.Common.{◌≡◌, ◌∙◌, ◌+◌, ◌-◌, ℕ, Bool, true, false, List, [], ◌∷◌, ◌++◌, length, take, drop, refl, sym, ap, subst, arith, Some, ◌&&◌, nat_eq, slice_index, bytes_eq, length-append, length-drop, get_or}
 use Rattle.std.specs.declared.option.Option.{Option}
 use Rattle.std.specs.Cmp.Lexicographic.{bytes_decides}
 use Rattle.std.proofs.lemmas.Bool.{false≢true}
@@ -24,6 +24,10 @@ fronted_front k aad X h =
       mark = ap (λ b. b && nat_eq (slice_index (k.out ++ X) (length k.out)) (header_length k)) own ∙ ap (λ n. nat_eq n (header_length k)) mark ∙ right;
     }
 
+-- a front without a prefix is a header
+pub no_prefix : (h : ℕ) → h ≡ 0 + h
+no_prefix h = omega arith
+
 pub fronted_stream : (k : StreamKey) (aad X : List ℕ) (texts : List (List ℕ)) → IsStream (opening_key aad (fronted [] k)) X texts → IsStream (opening_key aad k) (k.out ++ X) texts
 fronted_stream k aad X texts s =
     let o : OpeningKey = opening_key aad k in
@@ -31,8 +35,9 @@ fronted_stream k aad X texts s =
     let rest : behind_front o (k.out ++ X) ≡ drop (header_length k) X = drop-append-add k.out X (header_length k) in
     record {
       front = fronted_front k aad X s.front;
-      segments = subst (λ H. AreSegmentsBy (o.seg H) _ _ (behind_front o (k.out ++ X)) texts) (sym head)
-          (subst (λ Y. AreSegmentsBy (o.seg (take (header_length k) X)) _ _ Y texts) (sym rest) s.segments);
+      segments = subst (λ H. AreSegmentsBy (o.seg H) (o.first - o.overhead) (o.size - o.overhead) (behind_front o (k.out ++ X)) texts) (sym head)
+          (subst (λ Y. AreSegmentsBy (o.seg (take (header_length k) X)) (o.first - o.overhead) (o.size - o.overhead) Y texts) (sym rest)
+          (subst (λ n. AreSegmentsBy (o.seg (take (header_length k) X)) (o.first - o.overhead) (o.size - o.overhead) (drop n X) texts) (sym (no_prefix (header_length k))) s.segments));
     }
 
 -- the byte that tells a header's length stands behind the prefix

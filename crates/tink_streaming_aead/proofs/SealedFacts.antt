@@ -12,7 +12,7 @@ use Rattle.stream_model.specs.Sealing.{chunk_count, stream}
 use Rattle.stream_model.proofs.CutFacts.{cut_fits, cut_more, cut_none, cut_some}
 use Rattle.stream_model.proofs.KeyFacts.{CanOpen, IsLawful, opening_key_lawful}
 use Rattle.stream_model.proofs.OpeningFacts.{Agree-unique, IsChosen-unique, all_agree, leads_on}
-use Rattle.tink_streaming_aead.proofs.FrontFacts.{fronted_stream}
+use Rattle.tink_streaming_aead.proofs.FrontFacts.{fronted_stream, no_prefix}
 use Rattle.tink_streaming_aead.proofs.StreamLaws.{stream_is}
 use Rattle.tink_streaming_aead.specs.WholeReading.{IsTextOfChosen, IsTextOfStream}
 
@@ -124,8 +124,9 @@ parts_are_stream k aad salt prefix keys text u s p e few =
     record {
       front = record { long = omega (arith, length-append (header_length k ∷ salt ++ prefix) Z, length-append salt prefix); mark = same_number (header_length k) };
       segments =
-          subst (λ (o : Option (ℕ → Bool → List ℕ → List ℕ)). AreSegmentsBy o (first_room k) (room k) (drop (header_length k) X) (chunks (first_room k) (room k) text)) (sym map)
-          (subst (λ Y. AreSegments (segment_at k keys prefix) 0 (first_room k) (room k) Y (chunks (first_room k) (room k) text)) (sym behind) are);
+          subst (λ n. AreSegmentsBy ((opening_key aad k).seg (take (header_length k) X)) (first_room k) (room k) (drop n X) (chunks (first_room k) (room k) text)) (no_prefix (header_length k))
+          (subst (λ (o : Option (ℕ → Bool → List ℕ → List ℕ)). AreSegmentsBy o (first_room k) (room k) (drop (header_length k) X) (chunks (first_room k) (room k) text)) (sym map)
+          (subst (λ Y. AreSegments (segment_at k keys prefix) 0 (first_room k) (room k) Y (chunks (first_room k) (room k) text)) (sym behind) are));
     }
 
 -- the sealed stream of a text is a stream of the key

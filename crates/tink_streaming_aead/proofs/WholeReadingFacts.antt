@@ -16,6 +16,7 @@ use Rattle.tink_streams.specs.TextReading.{AtEnd, Gave, TextMoment}
 use Rattle.tink_streams.proofs.ChosenFacts.{stream_opened}
 use Rattle.tink_streams.proofs.TextLaws.{gave_all, text_of_whole}
 use Rattle.tink_stream_keys.specs.Decrypting.{IsNewReader}
+use Rattle.tink_streaming_aead.proofs.FrontFacts.{no_prefix}
 use Rattle.tink_streaming_aead.specs.DecryptReaders.{GivesFirst}
 use Rattle.tink_streaming_aead.specs.WholeReading.{IsTextOfChosen, IsTextOfStream}
 
@@ -36,8 +37,9 @@ joined_stream k aad H X Y seg texts long mark all map are =
         mark = let first : slice_index X 0 ≡ header_length k = ap (λ xs. slice_index xs 0) all ∙ first_byte H Y (header_length k) (omega arith) mark in grind (arith, nat_tests);
       };
       segments =
-          subst (λ (o : Option (ℕ → Bool → List ℕ → List ℕ)). AreSegmentsBy o (first_segment k - overhead k) (k.segment - overhead k) (drop (header_length k) X) texts) (sym (ap (opening_key aad k).seg front ∙ map))
-          (subst (λ zs. AreSegments seg 0 (first_segment k - overhead k) (k.segment - overhead k) zs texts) (sym behind) are);
+          subst (λ n. AreSegmentsBy ((opening_key aad k).seg (take (header_length k) X)) (first_segment k - overhead k) (k.segment - overhead k) (drop n X) texts) (no_prefix (header_length k))
+          (subst (λ (o : Option (ℕ → Bool → List ℕ → List ℕ)). AreSegmentsBy o (first_segment k - overhead k) (k.segment - overhead k) (drop (header_length k) X) texts) (sym (ap (opening_key aad k).seg front ∙ map))
+          (subst (λ zs. AreSegments seg 0 (first_segment k - overhead k) (k.segment - overhead k) zs texts) (sym behind) are));
     }
 
 told_stream : (k : StreamKey) (aad H : List ℕ) (before rest : Option (List ℕ)) (seg : ℕ → Bool → List ℕ → List ℕ) (texts : List (List ℕ)) → length H ≡ header_length k → slice_index H 0 ≡ header_length k → Consumes before rest H

@@ -1,10 +1,10 @@
 -- The streaming AEADs of a keyset as one.
-use Rattle.std.specs.Prelude.{◌≡◌, ℕ, List, Vec, map, Option, Some, None}
+use Rattle.std.specs.Prelude.{◌≡◌, ◌++◌, ◌∷◌, ℕ, List, [], Vec, map, Option, Some, None}
 use Rattle.std.specs.BTreeMap.{BTreeMap, values}
-use Rattle.std.specs.List.{concat}
 use Rattle.stream_model.specs.Key.{StreamKey}
 use Rattle.stream_model.specs.Order.{HaveSameOrder}
-use Rattle.tink_sets.specs.Entries.{entry_of_id}
+use Rattle.tink_sets.specs.Entries.{entry_of_id, typed_prefix_of}
+use Rattle.tink_sets.specs.Groups.{AreGroupsOf}
 use Rattle.tink_sets.specs.declared.entry.TypedEntry.{TypedEntry}
 use Rattle.tink_stream_keys.specs.StreamKinds.{key_in_set}
 use Rattle.tink_stream_keys.specs.declared.stream_kind.StreamKind.{StreamKind}
@@ -28,9 +28,20 @@ key_in (Some e) = Some (key_in_set e)
 abbrev pub keys_in : List (TypedEntry StreamKind) → List StreamKey
 keys_in entries = map key_in_set entries
 
+-- lists joined in order
+abbrev pub joined_lists : {E : Type 0} → List (List E) → List E
+joined_lists [] = []
+joined_lists (xs ∷ lists) = xs ++ joined_lists lists
+
 -- all entries of a set, prefix by prefix
 abbrev pub all_entries : {G : Type 0} → BTreeMap (Vec ℕ G) (List (TypedEntry StreamKind)) → List (TypedEntry StreamKind)
-all_entries groups = concat (values groups)
+all_entries groups = joined_lists (values groups)
+
+-- whichever entries a set has, these are they, those of one prefix in their order
+abbrev pub KeepsOrder : {G : Type 0} → BTreeMap (Vec ℕ G) (List (TypedEntry StreamKind)) → Type 0
+KeepsOrder groups =
+    (entries : List (TypedEntry StreamKind)) → AreGroupsOf typed_prefix_of entries groups
+    → HaveSameOrder (keys_in (all_entries groups)) (keys_in entries)
 
 -- what a set of entries has
 abbrev pub set_keys : {G : Type 0} → Option (TypedEntry StreamKind) → BTreeMap (Vec ℕ G) (List (TypedEntry StreamKind)) → Wrapped

@@ -11,7 +11,7 @@ ghost use Rattle.tink_factory.specs.Typing.{typed_entries};
 ghost use Rattle.tink_streaming_aead.specs.DecryptReaders.{largest};
 ghost use Rattle.tink_streaming_aead.specs.DecryptReaders.DecryptState.{Unread};
 ghost use Rattle.tink_stream_keys.specs.Encrypting.{NewWriterMeans, sink_of};
-ghost use Rattle.tink_streaming_aead.specs.Wrapped.{AreKeysOf, ByPrimary, all_entries, keys_in};
+ghost use Rattle.tink_streaming_aead.specs.Wrapped.{AreKeysOf, ByPrimary, KeepsOrder, all_entries, keys_in};
 
 use crate::decrypt_reader::{Choice, DecryptReader};
 use std::alloc::Global;
@@ -62,9 +62,19 @@ where
         registry.now.managers None h.now)) }
 {
     match typed_primitives::<M, StreamingAeads>(alloc, h, registry) {
-        Ok(ps) => Ok(WrappedStreamingAead { ps }),
+        Ok(ps) => {
+            keeps_order(&ps);
+            Ok(WrappedStreamingAead { ps })
+        }
         Err(e) => Err(e),
     }
+}
+
+// The lists of a set are of one prefix each, so that all entries are in order prefix by prefix.
+fn keeps_order(ps: &TypedPrimitiveSet<StreamKind>)
+    ensures { KeepsOrder ps.now.entries }
+{
+    let _ = (&ps.entries).into_iter();
 }
 
 /// The entries of a set, those of one prefix in their order.
@@ -76,8 +86,10 @@ pub fn entries_of(
     ps: &TypedPrimitiveSet<StreamKind>,
 ) -> Result<Vec<&TypedEntry<StreamKind>>, TinkError>
     ensures value { IfOk result (λ es. map (λ e. e.now) es.items ≡ all_entries ps.now.entries) }
+    ensures order { KeepsOrder ps.now.entries }
     ensures cause { IfErr result (λ e. e ≡ record { kind = OutOfMemory }) }
 {
+    keeps_order(ps);
     let mut entries = Vec::new(alloc);
     for group in ps.entries.values() {
         add_group(&mut entries, group.as_slice())?;
@@ -110,7 +122,7 @@ fn copied(
 {
     let mut keys = Vec::new(alloc);
     for entry in entries {
-        keys.push(entry.try_clone(alloc)?)?;
+        keys.push((*entry).try_clone(alloc)?)?;
     }
     Ok(keys)
 }
@@ -192,9 +204,7 @@ impl WrappedStreamingAead {
         ensures ends { IsEndOf draws.new draws.old }
     {
         match &self.ps.primary {
-            Some(primary) => {
-                new_encrypting_writer(alloc, primary, draws, w, additional_data)
-            }
+            Some(primary) => { new_encrypting_writer(alloc, primary, draws, w, additional_data) }
             None => unreachable!(),
         }
     }
