@@ -58,10 +58,10 @@ module _ (rows : List LoadingRow) (aad : List ℕ) (k : Key) (key : StreamKey) w
   by_itself = record { keys = one ∷ []; primary = key }
 
   loads : BuildsKey rows k key → load_keys rows (alone k) ≡ Ok by_itself
-  loads b = rw (b.enabled, b.built, same_id k.key_id) refl
+  loads b = rw (b.is) (rw (b.enabled, b.built, same_id k.key_id) refl)
 
-  opens : BuildsKey rows k key → opening_keys aad by_itself ≡ opening_key aad key ∷ []
-  opens b = rw b.raw refl
+  opens : opening_keys aad by_itself ≡ opening_key aad key ∷ []
+  opens = refl
 
 if_ok : (v : Bool) (r : Result Loaded Kind) (l : Loaded) → cond v r (Err InvalidKeyset) ≡ Ok l → v ≡ true
 if_ok true r l e = refl
@@ -76,4 +76,4 @@ loads_alone rows ks l aad S place id key k e chosen at =
     let b = builds_at rows aad S ks.key place id key k chosen at in
     let valid = valid_alone k (passes_at is_held ks.key place k parts.0 at)
     (passes_at is_well_formed ks.key place k parts.1 at) b.enabled in
-    (by_itself rows aad k key, rw valid (loads rows aad k key b), opens rows aad k key b)
+    (by_itself rows aad k key, rw valid (loads rows aad k key b), opens rows aad k key)

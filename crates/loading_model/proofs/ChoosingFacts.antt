@@ -7,21 +7,24 @@ use Rattle.tink_io.specs.declared.error.Kind.TheVariants.{InvalidKeyset, NoPrima
 use Rattle.tink_proto.specs.declared.messages.keys.Key.{Key}
 use Rattle.tink_proto.specs.declared.messages.keys.Keyset.{Keyset}
 use Rattle.keyset_model.specs.Keys.{enabled, is_enabled}
-use Rattle.keyset_model.specs.Keys as keys
 use Rattle.keyset_model.specs.Validity.{is_valid}
-use Rattle.stream_model.specs.Key.{StreamKey}
+use Rattle.stream_model.specs.Key.{StreamKey, fronted}
 use Rattle.stream_model.specs.Opening.{OpeningKey, Begins, IsChosen, opening_key}
-use Rattle.loading_model.specs.Loading.{BuiltKey, EnabledKey, Loaded, LoadedKey, LoadingRow, ◌then◌, build_data, build_key, build_keys, is_raw, key_of_id, load_keys, load_keyset, opening_keys, streaming_key, streaming_keys, with_primary}
+use Rattle.loading_model.specs.Loading.{BuiltKey, EnabledKey, Loaded, LoadedKey, LoadingRow, ◌then◌, build_data, build_key, build_keys, key_of_id, load_keys, load_keyset, opening_keys, out_of, streaming_key, streaming_keys, with_primary}
 use Rattle.loading_model.specs.Loading.BuiltKey.{Streaming, Other}
-use Rattle.loading_model.specs.Rotation.{BeginsUnder, HasItsPlace, IsChosenAt}
+use Rattle.loading_model.specs.Rotation.{BeginsUnder, BuildsKey, HasItsPlace, IsChosenAt}
 use Rattle.loading_model.proofs.UsableKeys.{followed, passed}
+
+-- what stands before the header of the key's streams
+abbrev own_out : Key → List ℕ
+own_out k = out_of k.output_prefix_type k.key_id
 
 module _ (rows : List LoadingRow) where
   -- an enabled key that loads builds a key of streams
   pub record LoadsAs (k : Key) (ls rest : List LoadedKey) : Type 0 where
     pub key : StreamKey
     pub built : build_data rows k.key_data ≡ Ok (Streaming key)
-    pub first : ls ≡ record { id = k.key_id; prefix_type = k.output_prefix_type; key = key } ∷ rest
+    pub first : ls ≡ record { id = k.key_id; prefix_type = k.output_prefix_type; key = fronted (own_out k) key } ∷ rest
 
   -- the enabled keys load as these, in order
   abbrev pub Load : List Key → List LoadedKey → Type 0
@@ -37,7 +40,7 @@ module _ (rows : List LoadingRow) where
   head_loads k (Streaming key) one l ls rest made is streams e =
       let told : streaming_key (record { id = k.key_id; prefix_type = k.output_prefix_type; built = Streaming key })
       ≡ Ok l = ap streaming_key is ∙ streams in
-      let same : record { id = k.key_id; prefix_type = k.output_prefix_type; key = key } ≡ l = cc in
+      let same : record { id = k.key_id; prefix_type = k.output_prefix_type; key = fronted (own_out k) key } ≡ l = cc in
       record { key = key; built = made; first = sym e ∙ ap (λ x. x ∷ rest) (sym same) }
   head_loads k Other one l ls rest made is streams e =
       let told : streaming_key (record { id = k.key_id; prefix_type = k.output_prefix_type; built = Other })
@@ -89,34 +92,35 @@ module _ (rows : List LoadingRow) where
 
   module _ (aad S : List ℕ) where
     abbrev opened : List LoadedKey → List OpeningKey
-    opened ls = map (λ k. opening_key aad k.key) (filter is_raw ls)
+    opened ls = map (λ k. opening_key aad k.key) ls
 
-    same_key : (d : _) (a b : StreamKey) → build_data rows d ≡ Ok (Streaming a) → build_data rows d ≡ Ok (Streaming b)
+    same_bare : (d : _) (a b : StreamKey) → build_data rows d ≡ Ok (Streaming a) → build_data rows d ≡ Ok (Streaming b)
         → a ≡ b
-    same_key d a b p q = cc
+    same_bare d a b p q = cc
 
-    -- a loaded key, raw or not, before others
-    abbrev first_by : (raw : Bool) (l : LoadedKey) (rest : List LoadedKey) → List OpeningKey
-    first_by raw l rest = map (λ k. opening_key aad k.key) (cond raw (l ∷ filter is_raw rest) (filter is_raw rest))
-
-    passed_by : (raw : Bool) (l : LoadedKey) (rest : List LoadedKey) (c : _)
-        → (raw ≡ true → Begins (opening_key aad l.key) S → ⊥) → IsChosen (opened rest) S c
-        → IsChosen (first_by raw l rest) S c
-    passed_by true l rest c begins h = inr (begins refl, h)
-    passed_by false l rest c begins h = h
+    -- the key that loads is the one that is built
+    same_key : (k : Key) (bare key : StreamKey) → build_data rows k.key_data ≡ Ok (Streaming bare) → BuildsKey rows k key
+        → fronted (own_out k) bare ≡ key
+    same_key k bare key p b = ap (fronted (own_out k)) (same_bare k.key_data bare b.bare p b.built) ∙ sym b.is
 
     at_by : (ks : List Key) (ls : List LoadedKey) (place id : ℕ) (key : StreamKey) → Load ks ls
         → IsChosenAt rows aad S ks place id key → IsChosen (opened ls) S (Some (opening_key aad key))
     at_by [] ls place id key load at = absurd at
     at_by (k ∷ ks) ls zero id key (inl load) at =
         let one = load.1.1 in
-        let same : one.key ≡ key = same_key k.key_data one.key key one.built at.1.built in
-        rw (one.first) (rw (at.1.raw) (rw same (inl (at.2, refl))))
+        let same = same_key k one.key key one.built at.1 in
+        rw (one.first)
+        (inl (subst (λ x. Begins (opening_key aad x) S) (sym same) at.2, ap (λ x. Some (opening_key aad x)) (sym same)))
     at_by (k ∷ ks) ls (suc place) id key (inl load) at =
         let one = load.1.1 in
-        rw (one.first) (passed_by (keys.is_raw k) _ load.1.0 _
-        (λ raw begins. at.0 (one.key, record { enabled = load.0; raw = raw; built = one.built }, begins))
-        (at_by ks load.1.0 place id key load.1.2 at.1))
+        rw (one.first) (inr (
+          λ begins. at.0 (
+            fronted (own_out k) one.key,
+            record { enabled = load.0; bare = one.key; built = one.built; is = refl },
+            begins,
+          ),
+          at_by ks load.1.0 place id key load.1.2 at.1,
+        ))
     at_by (k ∷ ks) ls zero id key (inr load) at = absurd (false≢true (sym load.0 ∙ at.1.enabled))
     at_by (k ∷ ks) ls (suc place) id key (inr load) at = at_by ks ls place id key load.1 at.1
 
@@ -128,18 +132,17 @@ module _ (rows : List LoadingRow) where
         → HasPlace (k ∷ ks) o
     one_later k ks o not h = (suc h.0, h.1, h.2, (not, h.3), h.4)
 
-    place_by : (raw : Bool) (k : Key) (ks : List Key) (key : StreamKey) (rest : List LoadedKey) (o : OpeningKey)
-        → keys.is_raw k ≡ raw → is_enabled k ≡ true
-        → build_data rows k.key_data ≡ Ok (Streaming key)
-        → IsChosen (first_by raw (record { id = k.key_id; prefix_type = k.output_prefix_type; key = key }) rest) S
-        (Some o)
+    place_by : (k : Key) (ks : List Key) (bare : StreamKey) (rest : List LoadedKey) (o : OpeningKey)
+        → is_enabled k ≡ true → build_data rows k.key_data ≡ Ok (Streaming bare)
+        → IsChosen (opening_key aad (fronted (own_out k) bare) ∷ opened rest) S (Some o)
         → (IsChosen (opened rest) S (Some o) → HasPlace ks o) → HasPlace (k ∷ ks) o
-    place_by true k ks key rest o raw on built (inl h) more =
-        (0, k.key_id, key, (refl, record { enabled = on; raw = raw; built = built }, h.0), (let e = h.1 in cc))
-    place_by true k ks key rest o raw on built (inr h) more =
+    place_by k ks bare rest o on built (inl h) more =
+        let built_is : BuildsKey rows k (fronted (own_out k) bare) =
+        record { enabled = on; bare = bare; built = built; is = refl } in
+        (0, k.key_id, fronted (own_out k) bare, (refl, built_is, h.0), (let e = h.1 in cc))
+    place_by k ks bare rest o on built (inr h) more =
         one_later k ks o (λ b. h.0 (subst (λ x. Begins (opening_key aad x) S)
-        (same_key k.key_data b.0 key b.1.built built) b.2)) (more h.1)
-    place_by false k ks key rest o raw on built h more = one_later k ks o (λ b. false≢true (sym raw ∙ b.1.raw)) (more h)
+        (sym (same_key k bare b.0 built b.1)) b.2)) (more h.1)
 
     place_of_chosen : (ks : List Key) (ls : List LoadedKey) (o : OpeningKey) → Load ks ls
         → IsChosen (opened ls) S (Some o) → HasPlace ks o
@@ -148,7 +151,7 @@ module _ (rows : List LoadingRow) where
         absurd (cc)
     place_of_chosen (k ∷ ks) ls o (inl load) h =
         let one = load.1.1 in
-        place_by (keys.is_raw k) k ks one.key load.1.0 o refl load.0 one.built
+        place_by k ks one.key load.1.0 o load.0 one.built
         (subst (λ x. IsChosen (opened x) S (Some o)) one.first h)
         (place_of_chosen ks load.1.0 o load.1.2)
     place_of_chosen (k ∷ ks) ls o (inr load) h = one_later k ks o (λ b. false≢true (sym load.0 ∙ b.1.enabled))

@@ -102,7 +102,7 @@ module _ (rows : List LoadingRow) (aad S : List ℕ) where
       by false (suc place) more other at = (at.0, more place (λ e. other (ap (option_map suc) e)) at.1)
 
   enabled_begins : (k : Key) (key : StreamKey) → BuildsKey rows k key → BuildsKey rows (with_status Enabled k) key
-  enabled_begins k key h = record { enabled = refl; raw = h.raw; built = h.built }
+  enabled_begins k key h = record { enabled = refl; bare = h.bare; built = h.built; is = h.is }
 
   -- a key enabled, that one or one behind it
   pub at_enabled : (id : ℕ) (keys : List Key) (place chosen : ℕ) (key : StreamKey)

@@ -1,8 +1,9 @@
 -- What loads is usable, and by which kinds loading refuses.
-use Rattle.std.proofs.Common.{◌≡◌, ℕ, List, [], ◌∷◌, Bool, true, false, cond, length, refl, sym, subst, Some, None}
+use Rattle.std.proofs.Common.{◌≡◌, inl, inr, ℕ, ℤ, List, [], ◌∷◌, Bool, true, false, cond, length, refl, sym, subst, arith, Some, None, unwrap_or}
 use Rattle.std.specs.declared.option.Option.{Option}
 use Rattle.std.specs.Prelude.{Result, Ok, Err, find, nat_eq}
 use Rattle.std.specs.List.{list_any}
+use Rattle.std.specs.Ordering.{int_eq}
 use Rattle.std.specs.Str.{bytes_eq}
 use Rattle.std.proofs.lemmas.Bool.{cond_both}
 use Rattle.tink_io.specs.declared.error.Kind.{Kind}
@@ -10,10 +11,14 @@ use Rattle.tink_io.specs.declared.error.Kind.TheVariants.{BadKeyset, InvalidKeys
 use Rattle.tink_proto.specs.declared.messages.keys.Key.{Key}
 use Rattle.tink_proto.specs.declared.messages.keys.KeyData.{KeyData}
 use Rattle.tink_proto.specs.declared.messages.keys.Keyset.{Keyset}
+use Rattle.tink_proto.specs.declared.enums.OutputPrefixType.TheVariants.{Tink, Legacy, Raw, Crunchy}
+use Rattle.tink_proto.specs.Enums.{prefix_number}
+use Rattle.keyset_model.specs.Entries.{byte_and_id}
 use Rattle.keyset_model.specs.Keys.{enabled}
 use Rattle.keyset_model.specs.Validity.{is_valid}
-use Rattle.stream_model.specs.Key.{StreamKey, IsUsable}
-use Rattle.loading_model.specs.Loading.{BuiltKey, EnabledKey, Loaded, LoadedKey, LoadingRow, AreUsable, ◌then◌, build, build_data, build_key, build_keys, built_by, key_of_id, load_built, load_decoded, load_keys, streaming_key, streaming_keys, streaming_part, with_primary}
+use Rattle.stream_model.specs.Key.{StreamKey, IsUsable, fronted}
+use Rattle.stream_model.specs.Order.{IsOfKeyset, IsOutputPrefix}
+use Rattle.loading_model.specs.Loading.{BuiltKey, EnabledKey, Loaded, LoadedKey, LoadingRow, AreUsable, ◌then◌, build, build_data, build_key, build_keys, built_by, key_of_id, load_built, load_decoded, load_keys, out_of, streaming_key, streaming_keys, streaming_part, with_primary}
 use Rattle.loading_model.specs.Loading.BuiltKey.{Streaming, Other}
 
 -- what a sequence of steps ends in, its last step does
@@ -56,10 +61,30 @@ found_usable here (row ∷ rows) u value built e =
     (λ _ h. found_usable here rows u.1 value built h)
     e
 
-part_usable : (k : EnabledKey) (b : BuiltKey) (l : LoadedKey) → IsUsableKey b → streaming_part k b ≡ Ok l → IsUsable l.key
+-- each output prefix is empty, or has five bytes of which the first is 0 or 1
+prefix_by : (tink legacy crunchy raw : Bool) (id : ℕ)
+    → IsOutputPrefix (unwrap_or (cond tink (Some (byte_and_id 1 id)) (cond legacy (Some (byte_and_id 0 id)) (cond crunchy (Some (byte_and_id 0 id)) (cond raw (Some []) None)))) [])
+prefix_by true legacy crunchy raw id = inr (refl, omega arith)
+prefix_by false true crunchy raw id = inr (refl, omega arith)
+prefix_by false false true raw id = inr (refl, omega arith)
+prefix_by false false false true id = inl refl
+prefix_by false false false false id = inl refl
+
+pub out_is_prefix : (prefix_type : ℤ) (id : ℕ) → IsOutputPrefix (out_of prefix_type id)
+out_is_prefix prefix_type id =
+    prefix_by (int_eq prefix_type (prefix_number Tink)) (int_eq prefix_type (prefix_number Legacy))
+    (int_eq prefix_type (prefix_number Crunchy)) (int_eq prefix_type (prefix_number Raw)) id
+
+-- a usable key is so with any output prefix
+pub fronted_usable : (out : List ℕ) (k : StreamKey) → IsUsable k → IsUsable (fronted out k)
+fronted_usable out k u = record { derived = u.derived; tag = u.tag; room = u.room; segment = u.segment }
+
+part_usable : (k : EnabledKey) (b : BuiltKey) (l : LoadedKey) → IsUsableKey b → streaming_part k b ≡ Ok l → IsOfKeyset l.key
 part_usable k (Streaming key) l u e =
-    let same : record { id = k.id; prefix_type = k.prefix_type; key = key } ≡ l = cc in
-    subst (λ (x : LoadedKey). IsUsable x.key) same u
+    let out : List ℕ = out_of k.prefix_type k.id in
+    let same : record { id = k.id; prefix_type = k.prefix_type; key = fronted out key } ≡ l = cc in
+    subst (λ (x : LoadedKey). IsOfKeyset x.key) same
+    (record { usable = fronted_usable out key u; out = out_is_prefix k.prefix_type k.id })
 part_usable k Other l u e = absurd (cc)
 
 parts_usable : (ks : List EnabledKey) (ls : List LoadedKey) → AreUsableBuilt ks → streaming_keys ks ≡ Ok ls → AreUsable ls
@@ -70,17 +95,17 @@ parts_usable (k ∷ ks) ls u e =
     let both : one.0 ∷ rest.0 ≡ ls = let h = rest.2 in cc in
     subst AreUsable both (part_usable k k.built one.0 u.0 one.1, parts_usable ks rest.0 u.1 rest.1)
 
-key_of_id_usable : (id : ℕ) (ls : List LoadedKey) (k : StreamKey) → AreUsable ls → key_of_id id ls ≡ Some k → IsUsable k
+key_of_id_usable : (id : ℕ) (ls : List LoadedKey) (k : StreamKey) → AreUsable ls → key_of_id id ls ≡ Some k → IsOfKeyset k
 key_of_id_usable id [] k u e = absurd (cc)
 key_of_id_usable id (l ∷ ls) k u e =
-    cond_both (nat_eq l.id id) (Some l.key) (key_of_id id ls) (λ o. o ≡ Some k → IsUsable k)
-    (λ _ h. let same : l.key ≡ k = cc in subst IsUsable same u.0)
+    cond_both (nat_eq l.id id) (Some l.key) (key_of_id id ls) (λ o. o ≡ Some k → IsOfKeyset k)
+    (λ _ h. let same : l.key ≡ k = cc in subst IsOfKeyset same u.0)
     (λ _ h. key_of_id_usable id ls k u.1 h)
     e
 
 -- both halves of what loads
 abbrev IsUsableLoaded : Loaded → Type 0
-IsUsableLoaded l = AreUsable l.keys × IsUsable l.primary
+IsUsableLoaded l = AreUsable l.keys × IsOfKeyset l.primary
 
 with_primary_usable : (id : ℕ) (keys : List LoadedKey) (o : Option StreamKey) (l : Loaded) → key_of_id id keys ≡ o → AreUsable keys → with_primary keys o ≡ Ok l → IsUsableLoaded l
 with_primary_usable id keys None l found u e = absurd (cc)
@@ -125,7 +150,7 @@ module _ (rows : List LoadingRow) (all : AreSound rows) where
       load_built_usable ks.primary_key_id built.0 l (build_keys_usable (enabled ks) built.0 built.1) built.2
 
   -- what loads is usable
-  pub load_decoded_usable : (o : Option Keyset) (l : Loaded) → load_decoded rows o ≡ Ok l → AreUsable l.keys × IsUsable l.primary
+  pub load_decoded_usable : (o : Option Keyset) (l : Loaded) → load_decoded rows o ≡ Ok l → AreUsable l.keys × IsOfKeyset l.primary
   load_decoded_usable None l e = absurd (cc)
   load_decoded_usable (Some ks) l e = load_keys_usable ks l (passed (is_valid ks) InvalidKeyset (load_keys rows ks) l e)
 

@@ -1,7 +1,6 @@
 -- What a keyset's bytes load as, by rows: one for each type of keys that is known.
-use Rattle.std.specs.Prelude.{ℕ, List, [], ◌∷◌, map, filter, ℤ, pos, Bool, if◌then◌else◌, nat_eq, length, find, Option, Some, None, Result, Ok, Err}
+use Rattle.std.specs.Prelude.{ℕ, List, [], ◌∷◌, map, ℤ, Bool, if◌then◌else◌, nat_eq, length, find, unwrap_or, Option, Some, None, Result, Ok, Err}
 use Rattle.std.specs.List.{list_any}
-use Rattle.std.specs.Ordering.{int_eq}
 use Rattle.std.specs.Str.{bytes_eq}
 use Rattle.tink_io.specs.declared.error.Kind.{Kind}
 use Rattle.tink_io.specs.declared.error.Kind.TheVariants.{BadKeyset, InvalidKeyset, UnsupportedKeyType, InvalidKey, NoPrimary, WrongPrimitive}
@@ -10,10 +9,12 @@ use Rattle.tink_proto.specs.declared.messages.keys.KeyData.{KeyData}
 use Rattle.tink_proto.specs.declared.messages.keys.Keyset.{Keyset}
 use Rattle.tink_proto.specs.Messages.{keyset}
 use Rattle.wire_format.specs.Message.{decoded}
+use Rattle.keyset_model.specs.Entries.{prefix_of}
 use Rattle.keyset_model.specs.Keys.{enabled}
 use Rattle.keyset_model.specs.Validity.{is_valid}
-use Rattle.stream_model.specs.Key.{StreamKey, IsUsable}
+use Rattle.stream_model.specs.Key.{StreamKey, fronted}
 use Rattle.stream_model.specs.Opening.{OpeningKey, opening_key}
+use Rattle.stream_model.specs.Order.{IsOfKeyset}
 
 -- what a key builds: a key of streams, or a primitive of another sort
 pub data BuiltKey : Type 0 where
@@ -31,7 +32,7 @@ pub record EnabledKey : Type 0 where
   pub prefix_type : ℤ
   pub built : BuiltKey
 
--- the same of a key of streams
+-- the same of a key of streams, which has its output prefix
 pub record LoadedKey : Type 0 where
   pub id : ℕ
   pub prefix_type : ℤ
@@ -41,18 +42,18 @@ pub record Loaded : Type 0 where
   pub keys : List LoadedKey
   pub primary : StreamKey
 
--- an output prefix type of 3: streams of the key have nothing before their header
-abbrev pub is_raw : LoadedKey → Bool
-is_raw k = int_eq k.prefix_type (pos 3)
+-- what stands before the header of a key's streams: its output prefix, by the type and the id
+abbrev pub out_of : ℤ → ℕ → List ℕ
+out_of prefix_type id = unwrap_or (prefix_of prefix_type id) []
 
--- the raw keys in order, as opening sees them
+-- the keys in order, as opening sees them
 abbrev pub opening_keys : List ℕ → Loaded → List OpeningKey
-opening_keys aad l = map (λ k. opening_key aad k.key) (filter is_raw l.keys)
+opening_keys aad l = map (λ k. opening_key aad k.key) l.keys
 
 -- each key keeps to what a key of the product keeps to
 abbrev pub AreUsable : List LoadedKey → Type 0
 AreUsable [] = Unit {0}
-AreUsable (k ∷ ks) = IsUsable k.key × AreUsable ks
+AreUsable (k ∷ ks) = IsOfKeyset k.key × AreUsable ks
 
 infixl 10 ◌then◌
 abbrev pub ◌then◌ : {A B : Type 0} → Result A Kind → (A → Result B Kind) → Result B Kind
@@ -66,7 +67,8 @@ built_by value (Some row) = row.built value
 
 -- the key of streams that an enabled key built
 abbrev pub streaming_part : EnabledKey → BuiltKey → Result LoadedKey Kind
-streaming_part k (Streaming key) = Ok (record { id = k.id; prefix_type = k.prefix_type; key = key })
+streaming_part k (Streaming key) =
+    Ok (record { id = k.id; prefix_type = k.prefix_type; key = fronted (out_of k.prefix_type k.id) key })
 streaming_part k Other = Err WrongPrimitive
 
 abbrev pub streaming_key : EnabledKey → Result LoadedKey Kind

@@ -7,12 +7,12 @@ use Rattle.tink_proto.specs.declared.messages.keys.Keyset.{Keyset}
 use Rattle.tink_proto.specs.Messages.{keyset}
 use Rattle.wire_format.specs.Message.{encoded}
 use Rattle.keyset_model.specs.Commands.{Maker, Command, Add, Rotate, Enable, Disable, Destroy, Delete, SetPrimary, Managed, after, after_all}
-use Rattle.keyset_model.specs.Keys.{has_id, is_enabled, is_raw}
+use Rattle.keyset_model.specs.Keys.{has_id, is_enabled}
 use Rattle.keyset_model.specs.Spared.{Spares}
 use Rattle.stream_model.specs.Agree.{joined}
-use Rattle.stream_model.specs.Key.{StreamKey}
+use Rattle.stream_model.specs.Key.{StreamKey, fronted}
 use Rattle.stream_model.specs.Opening.{OpeningKey, Begins, IsChosen, IsStream, opening_key}
-use Rattle.loading_model.specs.Loading.{Loaded, LoadingRow, build_data, load_by, load_keyset, opening_keys}
+use Rattle.loading_model.specs.Loading.{Loaded, LoadingRow, build_data, load_by, load_keyset, opening_keys, out_of}
 use Rattle.loading_model.specs.Loading.BuiltKey.{Streaming}
 
 -- the loaded keys open the stream to the text: it is a stream of the chosen key, and its texts make this one
@@ -30,13 +30,14 @@ abbrev pub place_of : ℕ → List Key → Option ℕ
 place_of id [] = None
 place_of id (k ∷ ks) = if has_id id k then Some 0 else option_map suc (place_of id ks)
 
--- an enabled raw key that builds this key of streams
+-- an enabled key whose data builds this key of streams, but for its output prefix
 pub record BuildsKey (rows : List LoadingRow) (k : Key) (key : StreamKey) : Type 0 where
   pub enabled : is_enabled k ≡ true
-  pub raw : is_raw k ≡ true
-  pub built : build_data rows k.key_data ≡ Ok (Streaming key)
+  pub bare : StreamKey
+  pub built : build_data rows k.key_data ≡ Ok (Streaming bare)
+  pub is : key ≡ fronted (out_of k.output_prefix_type k.key_id) bare
 
--- an enabled raw key that builds a key of streams under which the stream begins
+-- an enabled key that builds a key of streams under which the stream begins
 abbrev pub BeginsUnder : List LoadingRow → List ℕ → List ℕ → Key → Type 0
 BeginsUnder rows aad S k = (key : StreamKey) × BuildsKey rows k key × Begins (opening_key aad key) S
 

@@ -9,8 +9,8 @@ pub fn law_edited_loads()
     ensures { EditedLoads }
 {}
 
-/// Of a keyset that loads, the key that is chosen for a stream is the first in order that is enabled and raw and under
-/// which the stream begins.
+/// Of a keyset that loads, the key that is chosen for a stream is the first in order that is enabled and under which the
+/// stream begins.
 #[tactic(auto, using(crate::proofs::ChoosingFacts::has_its_place))]
 pub fn law_chosen_place()
     ensures { HasItsPlace }

@@ -2,6 +2,7 @@ pub mod CutFacts
 pub mod AgreeFacts
 pub mod WholeFacts
 pub mod OpeningFacts
+pub mod OrderFacts
 pub mod KeyFacts
 pub mod SealingFacts
 pub mod SegmentFacts

@@ -27,6 +27,10 @@ pub record StreamKey : Type 0 where
   -- what stands before the header of a stream
   pub out : List ℕ
 
+-- the key with this before the header of its streams
+abbrev pub fronted : List ℕ → StreamKey → StreamKey
+fronted out k = record k { out = out }
+
 -- the bytes that a segment has more than its text
 abbrev pub overhead_of : SegmentKind → ℕ
 overhead_of (CtrHmac hash tag) = tag

@@ -3,4 +3,5 @@ pub mod Agree
 pub mod Key
 pub mod Sealing
 pub mod Opening
+pub mod Order
 pub mod Blocks

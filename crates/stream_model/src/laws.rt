@@ -1,6 +1,8 @@
-//! Which blocks AES is asked for under a stream's derived key. This function does nothing: its contract is the law.
+//! Which blocks AES is asked for under a stream's derived key, and in which order keys may be tried. These functions do
+//! nothing: their contracts are the laws.
 
 ghost use Rattle.stream_model.specs.Blocks.{AsksForItsOwn, BlocksDiffer, NoneIsZero, StreamBlocksDiffer};
+ghost use Rattle.stream_model.specs.Order.{ChooseTheSame};
 
 /// No block is used twice in one stream, of either kind of keys: two blocks that are asked for under one prefix are
 /// equal only where they are the same block of the same segment, number and mark. By GCM the block 0 of a segment
@@ -16,4 +18,11 @@ pub fn law_counter_blocks()
     // Of the segments of any text that has at most 2^32 of them.
     ensures stream { StreamBlocksDiffer }
     ensures none_is_zero { NoneIsZero }
+{}
+
+/// Of keys in any order among their prefixes the same one is chosen for a stream: a prefix begins with 0 or 1 and a
+/// header with 24 or 40, so that keys of different prefixes never open one stream.
+#[tactic(auto, using(crate::proofs::OrderFacts::choose_the_same))]
+pub fn law_order_of_trial()
+    ensures { ChooseTheSame }
 {}

@@ -6,7 +6,7 @@ use Rattle.sha2.specs.Hashers.{Holds256}
 use Rattle.stream_model.specs.Agree.{joined}
 use Rattle.stream_model.specs.Cut.{chunks, sealed}
 use Rattle.stream_model.specs.Key.{StreamKey, first_room, front, keys_of, room, segment_at}
-use Rattle.stream_model.specs.Opening.{AreSegments, AreSegmentsBy, IsChosen, IsStream, OpeningKey, opening_key}
+use Rattle.stream_model.specs.Opening.{AreSegments, AreSegmentsBy, IsChosen, IsStream, OpeningKey, behind_front, opening_key}
 use Rattle.stream_model.specs.Sealing.{chunk_count, drawn, prefix_of, salt_of}
 use Rattle.stream_model.proofs.KeyFacts.{CanOpen, lawful_at, opening_key_lawful}
 use Rattle.stream_model.proofs.OpeningFacts.{IsChosen-unique, all_agree}
@@ -121,7 +121,7 @@ large_is_stream : (n : ℕ) (draws : List ℕ) → drawn large_key ≤ length dr
     → IsStream (opening_key [] large_key) (large_stream n draws) (chunks (first_room large_key) (room large_key) (large_text n))
 unfolding large_stream
 large_is_stream n draws enough small =
-    sealed_stream large_key [] (salt_of large_key draws) (prefix_of large_key draws) (large_keys (salt_of large_key draws)) (large_text n) large_usable refl (length-salt draws enough) (length-prefix draws enough)
+    sealed_stream large_key [] (salt_of large_key draws) (prefix_of large_key draws) (large_keys (salt_of large_key draws)) (large_text n) large_usable (length-salt draws enough) (length-prefix draws enough)
     (large_keys_are (salt_of large_key draws)) (omega (arith, few_chunks n))
 
 is_stream : (n : ℕ) (S : List ℕ) → IsLargeStream n S → n < 2 ^ 32 → IsStream (opening_key [] large_key) S (chunks (first_room large_key) (room large_key) (large_text n))
@@ -137,7 +137,7 @@ only_key k key S (inr c) = absurd (let e = c.1 in cc)
 remains_of : (k : OpeningKey) (S : List ℕ) (texts : List (List ℕ)) (rest : Option (List ℕ)) (seg : ℕ → Bool → List ℕ → List ℕ) (header first size over total count : ℕ) → CanOpen k → IsStream k S texts → IsOpenerOf k S seg header first size over
     → rest ≡ Some (drop header S) → length (joined texts) ≡ total → length texts ≡ count → 0 < count → Remains seg first size 0 rest 0 total count
 remains_of k S texts rest seg header first size over total count can st op rest_is bytes segments some =
-    let X : List ℕ = drop k.header S in
+    let X : List ℕ = behind_front k S in
     let a : (k.first - k.overhead) + k.overhead ≡ k.first = omega (arith, can.room) in
     let b : (k.size - k.overhead) + k.overhead ≡ k.size = omega (arith, can.room, can.fits) in
     let are : AreSegments seg 0 (k.first - k.overhead) (k.size - k.overhead) X texts =
@@ -156,7 +156,7 @@ remains_of k S texts rest seg header first size over total count can st op rest_
     } in
     let first_is : (k.first - k.overhead) + k.overhead ≡ first = a ∙ sym op.first_is in
     let size_is : (k.size - k.overhead) + k.overhead ≡ size = b ∙ sym op.size_is in
-    let left : Some X ≡ rest = ap (λ h. Some (drop h S)) (sym op.header_is) ∙ sym rest_is in
+    let left : Some X ≡ rest = ap (λ h. Some (drop h S)) (sym op.front_is) ∙ sym rest_is in
     subst (λ (x : ℕ). Remains seg x size 0 rest 0 total count) first_is
     (subst (λ (y : ℕ). Remains seg ((k.first - k.overhead) + k.overhead) y 0 rest 0 total count) size_is
     (subst (λ (z : Option (List ℕ)). Remains seg ((k.first - k.overhead) + k.overhead) ((k.size - k.overhead) + k.overhead) 0 z 0 total count) left sized))
@@ -170,9 +170,9 @@ pub started : (n : ℕ) (S : List ℕ) (rest : Option (List ℕ)) (seg : ℕ →
 started n S rest seg first size over large small st =
     let k : OpeningKey = opening_key [] large_key in
     let same : st.found.key ≡ k = only_key k st.found.key S st.found.chosen in
-    let op : IsOpenerOf k S seg st.header first size over = subst (λ (j : OpeningKey). IsOpenerOf j S seg st.header first size over) same st.found.opener in
+    let op : IsOpenerOf k S seg st.front first size over = subst (λ (j : OpeningKey). IsOpenerOf j S seg st.front first size over) same st.found.opener in
     record {
-      remains = remains_of k S (chunks (first_room large_key) (room large_key) (large_text n)) rest seg st.header first size over (length (large_text n)) (chunk_count large_key (large_text n))
+      remains = remains_of k S (chunks (first_room large_key) (room large_key) (large_text n)) rest seg st.front first size over (length (large_text n)) (chunk_count large_key (large_text n))
           (opening_key_lawful [] large_key large_usable) (is_stream n S large small) op st.rest (ap length (joined_text large_key (large_text n) large_usable)) refl
           (omega (arith, length-chunks (first_room large_key) (room large_key) (large_text n)));
       overhead_is = op.overhead_is;

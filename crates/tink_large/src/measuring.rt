@@ -40,7 +40,11 @@ pub fn measure(alloc: Global, n: u32, draws: &mut Draws) -> Result<Measured, Tin
     ensures refused { IfErr result (λ e. MeasureRefused draws.old draws.new e.kind) }
 {
     let key = large_key(alloc)?;
-    let trial = Trial::reserve(alloc, SEGMENT_SIZE, AES_CTR_HMAC_NONCE_SIZE_IN_BYTES)?;
+    let trial = Trial::reserve(
+        alloc,
+        SEGMENT_SIZE as usize + 1,
+        AES_CTR_HMAC_NONCE_SIZE_IN_BYTES,
+    )?;
     let piece = Vec::with_capacity(alloc, PIECE)?;
     let mut pending = Pending::reserve(alloc, PENDING)?;
     let writer = begin(alloc, &key, draws, &mut pending)?;

@@ -2,7 +2,7 @@
 use Rattle.std.proofs.Common.{◌≡◌, inl, inr, ◌∙◌, ℕ, List, Bool, true, false, cond, refl, ap}
 use Rattle.std.specs.declared.option.Option.{Option}
 use Rattle.std.specs.Prelude.{Result, Ok, Err, Some, None}
-use Rattle.tink_io.specs.Told.{Answers, made_of, or_refused}
+use Rattle.tink_io.specs.Told.{Answers, or_refused}
 use Rattle.tink_io.specs.declared.error.Kind.{Kind}
 use Rattle.tink_io.specs.declared.error.Kind.TheVariants.{BadKeyset, InvalidKeyset}
 use Rattle.tink_io.specs.declared.error.TinkError.{TinkError}
@@ -12,10 +12,9 @@ use Rattle.wire_format.specs.Message.{decoded}
 use Rattle.keyset_model.specs.Validity.{is_valid}
 use Rattle.tink_keysets.specs.Encrypted.{chained}
 use Rattle.tink_keysets.specs.Valid.{valid_keyset, valid_or_refused}
-use Rattle.tink_streaming_aead.specs.Wrapped.{Wrapped}
 use Rattle.loading_model.specs.Loading.{Loaded, load_decoded, load_keys, ◌then◌}
 use Rattle.tink_run.specs.AllKeys.{load, rows}
-use Rattle.tink_run.specs.HeldKeys.{held}
+use Rattle.tink_run.specs.HeldKeys.{GivesHeld}
 
 -- what is loaded are the keys of the valid keyset
 load_then : (bytes : List ℕ) → load bytes ≡ (valid_keyset bytes then load_keys rows)
@@ -31,9 +30,9 @@ load_then bytes = by_decoded (decoded keyset.read bytes)
     by_decoded (Some ks) = by_valid ks (is_valid ks)
 
 -- a refused keyset is not loaded
-pub is_refused : (bytes : List ℕ) (e : TinkError) → Answers {T = Keyset} (Err e) (valid_keyset bytes) → Answers {T = Wrapped} (Err e) (made_of held (load bytes))
+pub is_refused : (bytes : List ℕ) (e : TinkError) → Answers {T = Keyset} (Err e) (valid_keyset bytes) → GivesHeld (Err e) (load bytes)
 is_refused bytes e (inl want) = inl want
-is_refused bytes e (inr cause) = inr (ap (made_of held) (load_then bytes ∙ ap (λ r. r then load_keys rows) cause))
+is_refused bytes e (inr cause) = inr (load_then bytes ∙ ap (λ r. r then load_keys rows) cause)
 
 -- a valid keyset loads as its keys
 pub load_valid : (bytes : List ℕ) (ks : Keyset) → valid_keyset bytes ≡ Ok ks → load bytes ≡ load_keys rows ks

@@ -32,54 +32,17 @@ use Rattle.tink_factory.specs.Typing.{typed_entries}
 use Rattle.keyset_model.specs.Entries.{byte_and_id, prefix_of}
 use Rattle.keyset_model.specs.Keys.{is_enabled}
 use Rattle.keyset_model.specs.Validity.{has_its_data, is_from_to, is_held_keyset, is_validated, is_well_formed, IsValid}
-use Rattle.stream_model.specs.Key.{StreamKey}
+use Rattle.stream_model.specs.Key.{StreamKey, fronted}
 use Rattle.tink_stream_keys.specs.declared.stream_kind.StreamKind.{StreamKind}
-use Rattle.tink_stream_keys.specs.StreamKinds.{key_of}
-use Rattle.tink_streaming_aead.specs.Wrapped.{Wrapped, key_in, keys_in, set_keys}
-use Rattle.loading_model.specs.Loading.{EnabledKey, Loaded, LoadedKey, LoadingRow, ◌then◌, build, build_data, build_key, build_keys, built_by, is_raw, key_of_id, load_built, load_keys, streaming_key, streaming_keys, streaming_part, with_primary}
+use Rattle.tink_stream_keys.specs.StreamKinds.{key_in_set, key_of}
+use Rattle.tink_streaming_aead.specs.Wrapped.{key_in, keys_in}
+use Rattle.loading_model.specs.Loading.{EnabledKey, Loaded, LoadedKey, LoadingRow, ◌then◌, build, build_data, build_key, build_keys, built_by, key_of_id, out_of, load_built, load_keys, streaming_key, streaming_keys, streaming_part, with_primary}
 use Rattle.tink_run.specs.AllKeys.{built_key, loading_row, rows_by}
-use Rattle.tink_run.specs.HeldKeys.{held, keys_held}
+use Rattle.tink_run.specs.HeldKeys.{GivesHeld, IsHeld}
 
 and_parts : (a b : Bool) → (a && b) ≡ true → (a ≡ true) × (b ≡ true)
 and_parts true b e = (refl, e)
 and_parts false b e = absurd (cc)
-
--- ---- the prefix of a key is empty where its type is 3
-
--- a number from 1 to 4 is that of a known type
-ranged : (n : ℤ) → is_from_to (pos 1) (pos 4) n ≡ true → (int_eq n (pos 1) || (int_eq n (pos 2) || (int_eq n (pos 4) || int_eq n (pos 3)))) ≡ true
-ranged (negsuc k) e = absurd (cc e)
-ranged (pos zero) e = absurd (cc e)
-ranged (pos (suc zero)) e = refl
-ranged (pos (suc (suc zero))) e = refl
-ranged (pos (suc (suc (suc zero)))) e = refl
-ranged (pos (suc (suc (suc (suc zero))))) e = refl
-ranged (pos (suc (suc (suc (suc (suc k)))))) e =
-    let above : int_le (pos (suc (suc (suc (suc (suc k)))))) (pos 4) ≡ true = (and_parts (int_le (pos 1) (pos (suc (suc (suc (suc (suc k))))))) (int_le (pos (suc (suc (suc (suc (suc k)))))) (pos 4)) e).1 in
-    absurd (grind (arith, nat_tests))
-
-empty_prefix : (tink legacy crunchy raw : Bool) (id : ℕ) → (tink ≡ true → raw ≡ false) → (legacy ≡ true → raw ≡ false) → (crunchy ≡ true → raw ≡ false) → (tink || (legacy || (crunchy || raw))) ≡ true
-    → bytes_eq (unwrap_or (cond tink (Some (byte_and_id 1 id)) (cond legacy (Some (byte_and_id 0 id)) (cond crunchy (Some (byte_and_id 0 id)) (cond raw (Some []) None)))) []) [] ≡ raw
-empty_prefix true legacy crunchy raw id p q r some = sym (p refl)
-empty_prefix false true crunchy raw id p q r some = sym (q refl)
-empty_prefix false false true raw id p q r some = sym (r refl)
-empty_prefix false false false true id p q r some = refl
-empty_prefix false false false false id p q r some = absurd (cc some)
-
-raw_type : (n : ℤ) (id : ℕ) → is_from_to (pos 1) (pos 4) n ≡ true → bytes_eq (unwrap_or (prefix_of n id) []) [] ≡ int_eq n (pos 3)
-raw_type n id known =
-    empty_prefix (int_eq n (pos 1)) (int_eq n (pos 2)) (int_eq n (pos 4)) (int_eq n (pos 3)) id
-    (λ e. ap (λ m. int_eq m (pos 3)) ((Decides-int_eq n (pos 1)).0 e))
-    (λ e. ap (λ m. int_eq m (pos 3)) ((Decides-int_eq n (pos 2)).0 e))
-    (λ e. ap (λ m. int_eq m (pos 3)) ((Decides-int_eq n (pos 4)).0 e))
-    (ranged n known)
-
--- the prefix of a well formed key
-raw_key : (k : Key) → is_well_formed k ≡ true → bytes_eq (own_prefix k) [] ≡ int_eq k.output_prefix_type (pos 3)
-raw_key k formed =
-    let first = (and_parts _ (is_from_to (pos 1) (pos 3) k.status) formed).0 in
-    let second = and_parts (has_its_data k && not (nat_eq k.key_id 0)) (is_from_to (pos 1) (pos 4) k.output_prefix_type) first in
-    raw_type k.output_prefix_type k.key_id second.1
 
 module _ {M K A D HD HE Mc P S V : Type 0} (url : M → List ℕ) (supports : M → List ℕ → Bool) (builds : M → List ℕ → Result (Primitive K A D HD HE Mc P S StreamKind V) Kind) (managers : List M) where
   abbrev Made : Type 0
@@ -117,7 +80,7 @@ module _ {M K A D HD HE Mc P S V : Type 0} (url : M → List ℕ) (supports : M 
   record IsAlike (e : One) (b : EnabledKey) : Type 0 where
     id : e.key_id ≡ b.id
     built : b.built ≡ built_key e.primitive
-    raw : bytes_eq e.prefix [] ≡ int_eq b.prefix_type (pos 3)
+    out : e.prefix ≡ out_of b.prefix_type b.id
 
   abbrev AreAlike : List One → List EnabledKey → Type 0
   AreAlike [] [] = Unit {0}
@@ -136,7 +99,7 @@ module _ {M K A D HD HE Mc P S V : Type 0} (url : M → List ℕ) (supports : M 
   entry_same k formed = by_data k.key_data
     where
       by_built : (r : Result Made Kind) → Same (made_of (λ p. entry_of p k) r) (made_of built_key r then λ built. Ok (record { id = k.key_id; prefix_type = k.output_prefix_type; built = built }))
-      by_built (Ok p) = (record { id = k.key_id; prefix_type = k.output_prefix_type; built = built_key p }, refl, record { id = refl; built = refl; raw = raw_key k formed })
+      by_built (Ok p) = (record { id = k.key_id; prefix_type = k.output_prefix_type; built = built_key p }, refl, record { id = refl; built = refl; out = refl })
       by_built (Err kind) = refl
 
       by_data : (o : Option KeyData) → Same (made_of (λ p. entry_of p k) (built_data url supports builds managers None o)) (build_data rows o then λ built. Ok (record { id = k.key_id; prefix_type = k.output_prefix_type; built = built }))
@@ -166,8 +129,7 @@ module _ {M K A D HD HE Mc P S V : Type 0} (url : M → List ℕ) (supports : M 
 
   record IsKey (t : Typed) (l : LoadedKey) : Type 0 where
     id : t.key_id ≡ l.id
-    key : key_of t.primitive ≡ l.key
-    raw : bytes_eq t.prefix [] ≡ is_raw l
+    key : key_in_set t ≡ l.key
 
   abbrev AreKeys : List Typed → List LoadedKey → Type 0
   AreKeys [] [] = Unit {0}
@@ -183,7 +145,11 @@ module _ {M K A D HD HE Mc P S V : Type 0} (url : M → List ℕ) (supports : M 
   AllKeys (Err kind) keys = keys ≡ Err kind
 
   by_sort : (e : One) (b : EnabledKey) (p : Made) → IsAlike e b → OneKey (made_of (with_primitive e) (as_streaming_aead p)) (streaming_part b (built_key p))
-  by_sort e b (StreamingAead key) a = (record { id = b.id; prefix_type = b.prefix_type; key = key_of key }, refl, record { id = a.id; key = refl; raw = a.raw })
+  by_sort e b (StreamingAead key) a = (
+    record { id = b.id; prefix_type = b.prefix_type; key = fronted (out_of b.prefix_type b.id) (key_of key) },
+    refl,
+    record { id = a.id; key = ap (λ out. fronted out (key_of key)) a.out },
+  )
   by_sort e b _ a = refl
 
   key_same : (e : One) (b : EnabledKey) → IsAlike e b → OneKey (typed_by as_streaming_aead e) (streaming_key b)
@@ -200,7 +166,7 @@ module _ {M K A D HD HE Mc P S V : Type 0} (url : M → List ℕ) (supports : M 
   keys_same (e ∷ es) [] a = absurd a
   keys_same (e ∷ es) (b ∷ bs) a = key_more _ _ _ _ (key_same e b a.0) (keys_same es bs a.1)
 
-  -- ---- the primary key, and the raw ones
+  -- ---- the primary key, and all
 
   some_has_id : (id : ℕ) (es : List One) (bs : List EnabledKey) → AreAlike es bs → is_some (find (λ e. nat_eq e.key_id id) es) ≡ list_any (λ b. nat_eq b.id id) bs
   some_has_id id [] [] a = refl
@@ -223,18 +189,11 @@ module _ {M K A D HD HE Mc P S V : Type 0} (url : M → List ℕ) (supports : M 
       here true later = ap Some a.0.key
       here false later = later
 
-  raw_same : (ts : List Typed) (ls : List LoadedKey) → AreKeys ts ls → keys_in (filter (λ t. bytes_eq (typed_prefix_of t) []) ts) ≡ map (λ l. l.key) (filter is_raw ls)
-  raw_same [] [] a = refl
-  raw_same [] (l ∷ ls) a = absurd a
-  raw_same (t ∷ ts) [] a = absurd a
-  raw_same (t ∷ ts) (l ∷ ls) a = rw (sym a.0.raw) (here (bytes_eq t.prefix []) (raw_same ts ls a.1))
-    where
-      raws : List Typed
-      raws = filter (λ x. bytes_eq (typed_prefix_of x) []) ts
-
-      here : (b : Bool) → keys_in raws ≡ map (λ x. x.key) (filter is_raw ls) → keys_in (cond b (t ∷ raws) raws) ≡ map (λ x. x.key) (cond b (l ∷ filter is_raw ls) (filter is_raw ls))
-      here true later = ap (λ k. k ∷ keys_in raws) a.0.key ∙ ap (λ ks. l.key ∷ ks) later
-      here false later = later
+  all_keys_same : (ts : List Typed) (ls : List LoadedKey) → AreKeys ts ls → keys_in ts ≡ map (λ l. l.key) ls
+  all_keys_same [] [] a = refl
+  all_keys_same [] (l ∷ ls) a = absurd a
+  all_keys_same (t ∷ ts) [] a = absurd a
+  all_keys_same (t ∷ ts) (l ∷ ls) a = ap (λ k. k ∷ keys_in ts) a.0.key ∙ ap (λ ks. l.key ∷ ks) (all_keys_same ts ls a.1)
 
   -- ---- the whole
 
@@ -264,34 +223,31 @@ module _ {M K A D HD HE Mc P S V : Type 0} (url : M → List ℕ) (supports : M 
       rw validated (from_entries ks.primary_key_id _ _ (all_same ks.key (well_formed_keys ks validated)))
 
   -- the set of what was built has the keys that are loaded
-  module _ {G : Type 0} (id : ℕ) (primary : Option Typed) (groups : BTreeMap (Vec ℕ G) (List Typed)) (there : is_some primary ≡ true) where
-    is_held_by : (ts : List Typed) (ls : List LoadedKey) (loaded : Result Loaded Kind) → HasEntries typed_prefix_of (λ t. t.key_id) id ts primary groups → AreKeys ts ls → loaded ≡ with_primary ls (key_of_id id ls) → made_of held loaded ≡ Ok (set_keys primary groups)
-    is_held_by ts ls loaded has are is = by_primary primary there (ap key_in has.by_id ∙ primary_same id ts ls are)
-      where
-        raw : map (λ l. l.key) (filter is_raw ls) ≡ keys_in (group_of groups [])
-        raw = sym (ap keys_in (has.by_prefix []) ∙ raw_same ts ls are)
+  is_held_by : (id : ℕ) (set : TypedPrimitiveSet StreamKind) → is_some set.primary ≡ true → (ts : List Typed) (ls : List LoadedKey) (loaded : Result Loaded Kind)
+      → HasEntries typed_prefix_of (λ t. t.key_id) id ts set.primary set.entries → AreKeys ts ls → loaded ≡ with_primary ls (key_of_id id ls) → GivesHeld (Ok set) loaded
+  is_held_by id set there ts ls loaded has are is = by_primary set.primary refl there (ap key_in has.by_id ∙ primary_same id ts ls are)
+    where
+      by_primary : (o : Option Typed) → set.primary ≡ o → is_some o ≡ true → key_in o ≡ key_of_id id ls → GivesHeld (Ok set) loaded
+      by_primary None own some same = absurd (cc)
+      by_primary (Some t) own some same = (
+        record { keys = ls; primary = key_in_set t },
+        is ∙ ap (with_primary ls) (sym same),
+        record { primary = ap key_in own; entries = ts; groups = has.by_prefix; keys = all_keys_same ts ls are },
+      )
 
-        by_primary : (o : Option Typed) → is_some o ≡ true → key_in o ≡ key_of_id id ls → made_of held loaded ≡ Ok (set_keys o groups)
-        by_primary None some same = absurd (cc)
-        by_primary (Some t) some same =
-            let with_raw : List StreamKey → Result Wrapped Kind = λ ks. Ok (record { primary = Some (key_of t.primitive); raw = ks }) in
-            ap (made_of held) (is ∙ ap (with_primary ls) (sym same)) ∙ ap with_raw raw
+  set_loaded : (set : TypedPrimitiveSet StreamKind) → is_some set.primary ≡ true → (ks : Keyset) → IsValid ks → (ts : List Typed)
+      → typed_entries as_streaming_aead ks.primary_key_id (built_entries url supports builds entry_of managers None ks) ≡ Ok ts
+      → HasEntries typed_prefix_of (λ t. t.key_id) ks.primary_key_id ts set.primary set.entries → GivesHeld (Ok set) (load_keys rows ks)
+  set_loaded set there ks valid ts told has =
+      let all = subst (λ r. LoadsAs ks.primary_key_id r (load_keys rows ks)) told (loads_as ks valid) in
+      is_held_by ks.primary_key_id set there ts all.0 (load_keys rows ks) has all.2 all.1
 
-    pub set_loaded : (ks : Keyset) → IsValid ks → id ≡ ks.primary_key_id → (ts : List Typed)
-        → typed_entries as_streaming_aead ks.primary_key_id (built_entries url supports builds entry_of managers None ks) ≡ Ok ts
-        → HasEntries typed_prefix_of (λ t. t.key_id) id ts primary groups → made_of held (load_keys rows ks) ≡ Ok (set_keys primary groups)
-    set_loaded ks valid same ts told has =
-        let all = subst (λ r. LoadsAs ks.primary_key_id r (load_keys rows ks)) told (loads_as ks valid) in
-        is_held_by ts all.0 (load_keys rows ks) has all.2 (rw same all.1)
-
-  pub not_loaded : (ks : Keyset) (kind : Kind) → IsValid ks → typed_entries as_streaming_aead ks.primary_key_id (built_entries url supports builds entry_of managers None ks) ≡ Err kind → made_of held (load_keys rows ks) ≡ Err kind
-  not_loaded ks kind valid told =
-      let all : load_keys rows ks ≡ Err kind = subst (λ r. LoadsAs ks.primary_key_id r (load_keys rows ks)) told (loads_as ks valid) in
-      ap (made_of held) all
+  not_loaded : (ks : Keyset) (kind : Kind) → IsValid ks → typed_entries as_streaming_aead ks.primary_key_id (built_entries url supports builds entry_of managers None ks) ≡ Err kind → load_keys rows ks ≡ Err kind
+  not_loaded ks kind valid told = subst (λ r. LoadsAs ks.primary_key_id r (load_keys rows ks)) told (loads_as ks valid)
 
   -- what the typed set of a valid keyset answers
   pub set_answers : (ks : Keyset) → IsValid ks → (r : Result (TypedPrimitiveSet StreamKind) TinkError)
       → GivesSet (λ ts set. HasEntries typed_prefix_of (λ t. t.key_id) ks.primary_key_id ts set.primary set.entries) r (typed_entries as_streaming_aead ks.primary_key_id (built_entries url supports builds entry_of managers None ks))
-      → IfOk r (λ set. is_some set.primary ≡ true) → Answers (keys_held r) (made_of held (load_keys rows ks))
-  set_answers ks valid (Ok set) given there = set_loaded ks.primary_key_id set.primary set.entries there ks valid refl given.0 given.1 given.2
+      → IfOk r (λ set. is_some set.primary ≡ true) → GivesHeld r (load_keys rows ks)
+  set_answers ks valid (Ok set) given there = set_loaded set there ks valid given.0 given.1 given.2
   set_answers ks valid (Err e) given there = ⊎_elim inl (λ is. inr (not_loaded ks e.kind valid is)) given

@@ -1,5 +1,5 @@
 -- Opening under the chosen key alone.
-use Rattle.std.proofs.Common.{◌≡◌, ℕ, List, [], ◌∷◌, Some, None, Ok, Err, Result, subst}
+use Rattle.std.proofs.Common.{◌≡◌, ℕ, List, [], ◌∷◌, Some, None, Ok, Err, Result, refl, sym, subst}
 use Rattle.std.specs.Prelude.{IfSome}
 use Rattle.std.specs.declared.option.Option.{Option}
 use Rattle.tink_io.specs.declared.error.Kind.{Kind}
@@ -14,81 +14,87 @@ use Rattle.tink_run.specs.OpenAnswers.{AgreesUntil, IsBroken, IsOfChosen, Lead, 
 use Rattle.tink_run.specs.Outside.{Outside}
 use Rattle.tink_run.specs.declared.report.Report.{Report}
 
-module _ (ks js : List OpeningKey) (S : List ℕ) (k : OpeningKey) (p : IsChosen ks S (Some k)) (q : IsChosen js S (Some k)) where
-  whole_by : (texts : List (List ℕ)) → IsOfChosen ks S texts → IsOfChosen js S texts
-  whole_by texts h = record { key = h.key; chosen = same_choice ks js S k (Some h.key) p q h.chosen; stream = h.stream }
+if_told : (o : Option (List ℕ)) (P Q : List ℕ → Type 0) → ((S : List ℕ) → o ≡ Some S → P S → Q S) → IfSome o P → IfSome o Q
+if_told None P Q f h = tt
+if_told (Some S) P Q f h = f S refl h
 
-  until_by : (texts : List (List ℕ)) (P : OpeningKey → Type 0) → AgreesUntil ks S texts P → AgreesUntil js S texts P
-  until_by texts P h = record {
+-- where the same is chosen of two lists of keys for the bytes that are told
+module _ (ks js : List OpeningKey) (old new : Outside) (same : (S : List ℕ) → old.left ≡ Some S → (c : Option OpeningKey) → IsChosen ks S c → IsChosen js S c) where
+  whole_by : (texts : List (List ℕ)) (S : List ℕ) → old.left ≡ Some S → IsOfChosen ks S texts → IsOfChosen js S texts
+  whole_by texts S e h = record { key = h.key; chosen = same S e (Some h.key) h.chosen; stream = h.stream }
+
+  until_by : (texts : List (List ℕ)) (S : List ℕ) → old.left ≡ Some S → (P : OpeningKey → Type 0) → AgreesUntil ks S texts P → AgreesUntil js S texts P
+  until_by texts S e P h = record {
     key = h.key;
-    chosen = same_choice ks js S k (Some h.key) p q h.chosen;
+    chosen = same S e (Some h.key) h.chosen;
     agreed = h.agreed;
     then = h.then;
   }
 
-  lead_by : (texts : List (List ℕ)) → Lead ks S texts → Lead js S texts
-  lead_by [] h = tt
-  lead_by (t ∷ ts) h = (h.0, same_choice ks js S k (Some h.0) p q h.1, h.2)
+  lead_by : (texts : List (List ℕ)) (S : List ℕ) → old.left ≡ Some S → Lead ks S texts → Lead js S texts
+  lead_by [] S e h = tt
+  lead_by (t ∷ ts) S e h = (h.0, same S e (Some h.0) h.1, h.2)
 
-  -- where the source told its bytes, what is so of the one choice is so of the other
-  told_by : (left : Option (List ℕ)) (P Q : List ℕ → Type 0) → left ≡ Some S → (P S → Q S) → IfSome left P → IfSome left Q
-  told_by left P Q e f h = rw e (f (rw e at h))
-
-  broken_by : (old new : Outside) → old.left ≡ Some S → IsBroken ks old new → IsBroken js old new
-  broken_by old new e h = record {
+  broken_by : IsBroken ks old new → IsBroken js old new
+  broken_by h = record {
     texts = h.texts;
-    lead = told_by old.left (λ X. Lead ks X h.texts) (λ X. Lead js X h.texts) e (lead_by h.texts) h.lead;
+    lead = if_told old.left (λ X. Lead ks X h.texts) (λ X. Lead js X h.texts) (lead_by h.texts) h.lead;
     written = h.written;
   }
 
-  refused_by : (old new : Outside) (kind : Kind) → old.left ≡ Some S
-      → OpeningRefused ks old new kind → OpeningRefused js old new kind
-  refused_by old new NoMatchingKey e h = record {
-    none = told_by old.left (λ X. IsChosen ks X None) (λ X. IsChosen js X None) e (same_choice ks js S k None p q) h.none;
+  refused_by : (kind : Kind) → OpeningRefused ks old new kind → OpeningRefused js old new kind
+  refused_by NoMatchingKey h = record {
+    none = if_told old.left (λ X. IsChosen ks X None) (λ X. IsChosen js X None) (λ S e. same S e None) h.none;
     written = h.written;
   }
-  refused_by old new (Truncated n) e h = record {
+  refused_by (Truncated n) h = record {
     texts = h.texts;
     number = h.number;
     some = h.some;
-    stream = told_by old.left _ _ e (until_by h.texts _) h.stream;
+    stream = if_told old.left _ _ (λ S e. until_by h.texts S e _) h.stream;
     written = h.written;
   }
-  refused_by old new (BadSegment n) e h = record {
+  refused_by (BadSegment n) h = record {
     texts = h.texts;
     number = h.number;
     some = h.some;
-    stream = told_by old.left _ _ e (until_by h.texts _) h.stream;
+    stream = if_told old.left _ _ (λ S e. until_by h.texts S e _) h.stream;
     written = h.written;
   }
-  refused_by old new TooManySegments e h = record {
+  refused_by TooManySegments h = record {
     texts = h.texts;
     number = h.number;
-    stream = told_by old.left _ _ e (until_by h.texts _) h.stream;
+    stream = if_told old.left _ _ (λ S e. until_by h.texts S e _) h.stream;
     written = h.written;
   }
-  refused_by old new ReadFault e h = (broken_by old new e h.0, h.1)
-  refused_by old new WriteFault e h = (broken_by old new e h.0, h.1)
-  refused_by old new _ e h = absurd h
+  refused_by ReadFault h = (broken_by h.0, h.1)
+  refused_by WriteFault h = (broken_by h.0, h.1)
+  refused_by _ h = absurd h
 
-  means_by : (old new : Outside) (answer : Result Report TinkError) → old.left ≡ Some S
-      → OpeningMeans ks old new answer → OpeningMeans js old new answer
-  means_by old new (Ok report) e h = record {
+  pub means_by : (answer : Result Report TinkError) → OpeningMeans ks old new answer → OpeningMeans js old new answer
+  means_by (Ok report) h = record {
     texts = h.texts;
-    stream = told_by old.left (λ X. IsOfChosen ks X h.texts) (λ X. IsOfChosen js X h.texts) e (whole_by h.texts) h.stream;
+    stream = if_told old.left (λ X. IsOfChosen ks X h.texts) (λ X. IsOfChosen js X h.texts) (whole_by h.texts) h.stream;
     stays_told = h.stays_told;
     at_end = h.at_end;
     written = h.written;
     segments = h.segments;
     bytes = h.bytes;
   }
-  means_by old new (Err error) e h = refused_by old new error.kind e h
+  means_by (Err error) h = refused_by error.kind h
+
+-- so it is where one key is chosen of both
+same_of : (ks js : List OpeningKey) (S : List ℕ) (k : OpeningKey) → IsChosen ks S (Some k) → IsChosen js S (Some k) → (left : Option (List ℕ)) → left ≡ Some S
+    → (X : List ℕ) → left ≡ Some X → (c : Option OpeningKey) → IsChosen ks X c → IsChosen js X c
+same_of ks js S k p q left e X t c h =
+    let one : S ≡ X = cc in
+    subst (λ Y. IsChosen js Y c) one (same_choice ks js S k c p q (subst (λ Y. IsChosen ks Y c) (sym one) h))
 
 pub opens_as_one_key : OpensAsOneKey
 opens_as_one_key keys key S old new answer e chosen =
     let itself = chosen_alone keys S key chosen in (
-      means_by keys (key ∷ []) S key chosen itself old new answer e,
-      means_by (key ∷ []) keys S key itself chosen old new answer e,
+      means_by keys (key ∷ []) old new (same_of keys (key ∷ []) S key chosen itself old.left e) answer,
+      means_by (key ∷ []) keys old new (same_of (key ∷ []) keys S key itself chosen old.left e) answer,
     )
 
 module _ (keyset other aad draws left_draws S : List ℕ) (l m : Loaded) (key : OpeningKey)
@@ -105,7 +111,7 @@ module _ (keyset other aad draws left_draws S : List ℕ) (l m : Loaded) (key : 
   loaded_by old new answer e h = record {
     loaded = m;
     loads = second;
-    means = means_by (opening_keys aad l) (opening_keys aad m) S key p q old new answer e
+    means = means_by (opening_keys aad l) (opening_keys aad m) old new (same_of (opening_keys aad l) (opening_keys aad m) S key p q old.left e) answer
         (subst (λ n. OpeningMeans (opening_keys aad n) old new answer) (same_loaded h.loaded h.loads) h.means);
   }
 

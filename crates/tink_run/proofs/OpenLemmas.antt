@@ -13,11 +13,11 @@ use Rattle.std.proofs.lemmas.List.{append-nil}
 use Rattle.std.proofs.Math.Seq.{take-length}
 use Rattle.stream_model.specs.Cut.{cut}
 use Rattle.stream_model.specs.Agree.{AreTexts, joined}
-use Rattle.stream_model.specs.Opening.{OpeningKey, opening_key, IsChosen, IsAgreed, IsStream, AgreeBy, AreSegmentsBy, chunks_of}
+use Rattle.stream_model.specs.Opening.{OpeningKey, opening_key, IsChosen, IsAgreed, IsStream, AgreeBy, AreSegmentsBy, behind_front, chunks_of, header_of}
 use Rattle.stream_model.proofs.AgreeFacts.{joined-append}
 use Rattle.stream_model.proofs.KeyFacts.{CanOpen as Lawful, IsLawful, opening_key_lawful}
 use Rattle.stream_model.proofs.OpeningFacts.{IsChosen-unique, goes_on, Agree-unique, all_agree}
-use Rattle.loading_model.specs.Loading.{Loaded, LoadedKey, AreUsable, is_raw, opening_keys}
+use Rattle.loading_model.specs.Loading.{Loaded, LoadedKey, AreUsable, opening_keys}
 use Rattle.tink_run.specs.AllKeys.{load}
 use Rattle.tink_run.proofs.RowFacts.{loaded_usable}
 use Rattle.tink_run.specs.declared.report.Report.{Report}
@@ -33,19 +33,11 @@ take_none (suc n) = refl
 -- the chosen key is one of the loaded ones
 chosen_of : (aad : List ℕ) (ks : List LoadedKey) (S : List ℕ) (k : OpeningKey) → AreUsable ks → IsChosen (map (λ e. opening_key aad e.key) ks) S (Some k) → Lawful k
 chosen_of aad [] S k u h = absurd (cc)
-chosen_of aad (e ∷ ks) S k u (inl h) = let same : opening_key aad e.key ≡ k = cc in subst Lawful same (opening_key_lawful aad e.key u.0)
+chosen_of aad (e ∷ ks) S k u (inl h) = let same : opening_key aad e.key ≡ k = cc in subst Lawful same (opening_key_lawful aad e.key u.0.usable)
 chosen_of aad (e ∷ ks) S k u (inr h) = chosen_of aad ks S k u.1 h.1
 
-usable_raw : (ks : List LoadedKey) → AreUsable ks → AreUsable (filter is_raw ks)
-usable_raw [] u = tt
-usable_raw (k ∷ ks) u = go (usable_raw ks u.1) (is_raw k)
-  where
-    go : AreUsable (filter is_raw ks) → (b : Bool) → AreUsable (cond b (k ∷ filter is_raw ks) (filter is_raw ks))
-    go rest true = (u.0, rest)
-    go rest false = rest
-
 pub chosen_lawful : (keyset aad S : List ℕ) (l : Loaded) (k : OpeningKey) → load keyset ≡ Ok l → IsChosen (opening_keys aad l) S (Some k) → Lawful k
-chosen_lawful keyset aad S l k e h = chosen_of aad (filter is_raw l.keys) S k (usable_raw l.keys (loaded_usable keyset l e).0) h
+chosen_lawful keyset aad S l k e h = chosen_of aad l.keys S k (loaded_usable keyset l e).0 h
 
 -- the whole told stream was opened
 pub open_succeeds : (keyset aad S G : List ℕ) (old new : Outside) (report : Report) → OpensLoaded keyset aad old new (Ok report) → Told old S G → IsWholeText keyset aad S G new report
@@ -90,14 +82,14 @@ whole_agrees (Some seg) first size over X ts law room fits some p =
     let P : ℕ → ℕ → Type 0 = λ m n. AreTexts seg 0 (cut m n X) ts × (length (cut m n X) ≡ length ts) in
     subst (λ (n : ℕ). P first n) b (subst (λ (m : ℕ). P m (size - over + over)) a (all_agree seg over 0 (first - over) (size - over) ts X (law seg refl).longer (omega arith) (omega arith) some p))
 
-stream_agrees : (k : OpeningKey) (S : List ℕ) (ts : List (List ℕ)) → Lawful k → IsStream k S ts → AreTextsBy (k.seg (take k.header S)) (chunks_of k S) ts × (length (chunks_of k S) ≡ length ts)
-stream_agrees k S ts law s = whole_agrees (k.seg (take k.header S)) k.first k.size k.overhead (drop k.header S) ts (law.lawful (take k.header S)) law.room (omega (arith, law.fits)) law.some s.segments
+stream_agrees : (k : OpeningKey) (S : List ℕ) (ts : List (List ℕ)) → Lawful k → IsStream k S ts → AreTextsBy (k.seg (header_of k S)) (chunks_of k S) ts × (length (chunks_of k S) ≡ length ts)
+stream_agrees k S ts law s = whole_agrees (k.seg (header_of k S)) k.first k.size k.overhead (behind_front k S) ts (law.lawful (header_of k S)) law.room (omega (arith, law.fits)) law.some s.segments
 
 -- a prefix of texts that lead is a prefix of texts that agree
-front_of_agreed : (k : OpeningKey) (S : List ℕ) (ts all : List (List ℕ)) (a b : Option (List ℕ)) → Lawful k → AreTextsBy (k.seg (take k.header S)) (chunks_of k S) ts → IsAgreed k S all
+front_of_agreed : (k : OpeningKey) (S : List ℕ) (ts all : List (List ℕ)) (a b : Option (List ℕ)) → Lawful k → AreTextsBy (k.seg (header_of k S)) (chunks_of k S) ts → IsAgreed k S all
     → AppendsFront a b (joined ts) → AppendsFront a b (joined all)
 front_of_agreed k S ts all a b law p q w =
-    let begins = begins_agreed (k.seg (take k.header S)) (chunks_of k S) ts all k.overhead (law.lawful (take k.header S)) p q in
+    let begins = begins_agreed (k.seg (header_of k S)) (chunks_of k S) ts all k.overhead (law.lawful (header_of k S)) p q in
     subst (AppendsFront a b) (sym (ap joined begins.1 ∙ joined-append ts begins.0)) (front_of_more a b (joined ts) (joined begins.0) w)
 
 pub whole_front : (a b : Option (List ℕ)) (xs : List ℕ) → Appends a b xs → AppendsFront a b xs
@@ -132,7 +124,7 @@ written_lead keyset aad S l (t ∷ ts) old new e lead w = record {
       let chosen : IsChosen (opening_keys aad l) S (Some k) = subst (λ (x : Loaded). IsChosen (opening_keys aad x) S (Some k)) same q in
       let one : Some k ≡ Some lead.0 = IsChosen-unique (opening_keys aad l) S (Some k) (Some lead.0) chosen lead.1 in
       let key : lead.0 ≡ k = cc in
-      front_of_agreed k S (t ∷ ts) all old.got new.got (chosen_lawful keyset aad S l k e chosen) (subst (λ (x : OpeningKey). AreTextsBy (x.seg (take x.header S)) (chunks_of x S) (t ∷ ts)) key lead.2) r w;
+      front_of_agreed k S (t ∷ ts) all old.got new.got (chosen_lawful keyset aad S l k e chosen) (subst (λ (x : OpeningKey). AreTextsBy (x.seg (header_of x S)) (chunks_of x S) (t ∷ ts)) key lead.2) r w;
   under_none = λ m p q.
       let same : m ≡ l = same_loaded keyset m l p e in
       let none : IsChosen (opening_keys aad l) S None = subst (λ (x : Loaded). IsChosen (opening_keys aad x) S None) same q in
@@ -144,7 +136,7 @@ written_lead keyset aad S l (t ∷ ts) old new e lead w = record {
 -- texts that agree, and are some, lead
 agreed_leads : (keys : List OpeningKey) (S : List ℕ) (k : OpeningKey) (ts : List (List ℕ)) → IsChosen keys S (Some k) → IsAgreed k S ts → 0 < length ts → Lead keys S ts
 agreed_leads keys S k [] c a some = absurd (omega arith)
-agreed_leads keys S k (t ∷ ts) c a some = (k, c, go (k.seg (take k.header S)) a)
+agreed_leads keys S k (t ∷ ts) c a some = (k, c, go (k.seg (header_of k S)) a)
   where
     go : (o : Option (ℕ → Bool → List ℕ → List ℕ)) → AgreeBy o (chunks_of k S) (t ∷ ts) → AreTextsBy o (chunks_of k S) (t ∷ ts)
     go None h = absurd (cc)
@@ -215,8 +207,8 @@ open_agreeing keyset aad draws left_draws S G old new (Err e) t m = go e.kind re
 texts_left : (k : OpeningKey) (S : List ℕ) (all ts : List (List ℕ)) → Lawful k → IsStream k S all → IsAgreed k S ts → length ts ≡ length (chunks_of k S)
 texts_left k S all ts law s a =
     let w = stream_agrees k S all law s in
-    let g = begins_agreed (k.seg (take k.header S)) (chunks_of k S) all ts k.overhead (law.lawful (take k.header S)) w.0 a in
-    omega (arith, w.1, ap length g.1, length-append all g.0, at_most (k.seg (take k.header S)) (chunks_of k S) ts a)
+    let g = begins_agreed (k.seg (header_of k S)) (chunks_of k S) all ts k.overhead (law.lawful (header_of k S)) w.0 a in
+    omega (arith, w.1, ap length g.1, length-append all g.0, at_most (k.seg (header_of k S)) (chunks_of k S) ts a)
   where
     few : (seg : ℕ → Bool → List ℕ → List ℕ) (i : ℕ) (cs ts : List (List ℕ)) → AreTexts seg i cs ts → length ts ≤ length cs
     few seg i cs [] h = omega arith

@@ -43,8 +43,8 @@ module _ (keys : List OpeningKey) (seg : ℕ → Bool → List ℕ → List ℕ)
   abbrev chunks : ℕ → List ℕ → List (List ℕ)
   chunks header X = cut first size (drop header X)
 
-  -- what is told of what is behind the header
-  behind : (old mid : Option (List ℕ)) (P Q : List ℕ → Type 0) → ((X : List ℕ) (s : Begun mid X) → P (drop s.header X) → Q X) → IfSome old (Begun mid) → IfSome mid P → IfSome old Q
+  -- what is told of what is behind the front
+  behind : (old mid : Option (List ℕ)) (P Q : List ℕ → Type 0) → ((X : List ℕ) (s : Begun mid X) → P (drop s.front X) → Q X) → IfSome old (Begun mid) → IfSome mid P → IfSome old Q
   behind None mid P Q f s h = tt
   behind (Some X) mid P Q f s h = f X s (subst (λ (o : Option (List ℕ)). IfSome o P) s.rest h)
 
@@ -79,14 +79,14 @@ module _ (keys : List OpeningKey) (seg : ℕ → Bool → List ℕ → List ℕ)
   breaks_under : (old mid new : Outside) → mid.got ≡ old.got → IfSome old.left (Begun mid.left) → Breaks seg first size mid new → IsBroken keys old new
   breaks_under old mid new got started b = record {
     texts = b.texts;
-    lead = behind old.left mid.left (λ Y. AreTexts seg 0 (cut first size Y) b.texts) (λ X. Lead keys X b.texts) (λ X s p. leads_under s.header X b.texts s.found p) started b.lead;
+    lead = behind old.left mid.left (λ Y. AreTexts seg 0 (cut first size Y) b.texts) (λ X. Lead keys X b.texts) (λ X s p. leads_under s.front X b.texts s.found p) started b.lead;
     written = subst (λ (o : Option (List ℕ)). AppendsFront o new.got (joined b.texts)) got b.written;
   }
 
   refused_under : (old mid new : Outside) (kind : Kind) → mid.got ≡ old.got → old.read_faults ≤ mid.read_faults → old.write_faults ≤ mid.write_faults → IfSome old.left (Begun mid.left)
       → ReaderRefused seg first size overhead mid new kind → OpeningRefused keys old new kind
   refused_under old mid new NoMatchingKey got reads writes started x = record {
-    none = behind old.left mid.left (λ Y. Agree seg 0 (cut first size Y) []) (λ X. IsChosen keys X None) (λ X s p. absurd (some_agrees s.header X s.found p)) started x.nothing;
+    none = behind old.left mid.left (λ Y. Agree seg 0 (cut first size Y) []) (λ X. IsChosen keys X None) (λ X s p. absurd (some_agrees s.front X s.found p)) started x.nothing;
     written = subst (λ (o : Option (List ℕ)). Keeps o new.got) got x.written;
   }
   refused_under old mid new (Truncated n) got reads writes started x = record {
@@ -95,7 +95,7 @@ module _ (keys : List OpeningKey) (seg : ℕ → Bool → List ℕ → List ℕ)
     some = x.some;
     stream = behind old.left mid.left (λ Y. Agree seg 0 (cut first size Y) x.texts × HasShort n overhead (cut first size Y))
         (λ X. AgreesUntil keys X x.texts (λ k. (0 < length (chunk_of k X n)) × (length (chunk_of k X n) < k.overhead)))
-        (λ X s h. agrees_under s.header X x.texts (HasShort n overhead) (λ k. (0 < length (chunk_of k X n)) × (length (chunk_of k X n) < k.overhead)) s.found (λ p. (p.0, omega (arith, p.1, s.found.opener.overhead_is))) h) started x.agree;
+        (λ X s h. agrees_under s.front X x.texts (HasShort n overhead) (λ k. (0 < length (chunk_of k X n)) × (length (chunk_of k X n) < k.overhead)) s.found (λ p. (p.0, omega (arith, p.1, s.found.opener.overhead_is))) h) started x.agree;
     written = subst (λ (o : Option (List ℕ)). Appends o new.got (joined x.texts)) got x.written;
   }
   refused_under old mid new (BadSegment n) got reads writes started x = record {
@@ -104,7 +104,7 @@ module _ (keys : List OpeningKey) (seg : ℕ → Bool → List ℕ → List ℕ)
     some = x.some;
     stream = behind old.left mid.left (λ Y. Agree seg 0 (cut first size Y) x.texts × HasLong n overhead (cut first size Y))
         (λ X. AgreesUntil keys X x.texts (λ k. k.overhead ≤ length (chunk_of k X n)))
-        (λ X s h. agrees_under s.header X x.texts (HasLong n overhead) (λ k. k.overhead ≤ length (chunk_of k X n)) s.found (λ p. omega (arith, p, s.found.opener.overhead_is)) h) started x.agree;
+        (λ X s h. agrees_under s.front X x.texts (HasLong n overhead) (λ k. k.overhead ≤ length (chunk_of k X n)) s.found (λ p. omega (arith, p, s.found.opener.overhead_is)) h) started x.agree;
     written = subst (λ (o : Option (List ℕ)). Appends o new.got (joined x.texts)) got x.written;
   }
   refused_under old mid new TooManySegments got reads writes started x = record {
@@ -112,7 +112,7 @@ module _ (keys : List OpeningKey) (seg : ℕ → Bool → List ℕ → List ℕ)
     number = sym x.number;
     stream = behind old.left mid.left (λ Y. Agree seg 0 (cut first size Y) x.texts × HasMore (2 ^ 32) (cut first size Y))
         (λ X. AgreesUntil keys X x.texts (λ k. 2 ^ 32 < length (chunks_of k X)))
-        (λ X s h. agrees_under s.header X x.texts (HasMore (2 ^ 32)) (λ k. 2 ^ 32 < length (chunks_of k X)) s.found (λ p. p) h) started x.agree;
+        (λ X s h. agrees_under s.front X x.texts (HasMore (2 ^ 32)) (λ k. 2 ^ 32 < length (chunks_of k X)) s.found (λ p. p) h) started x.agree;
     written = subst (λ (o : Option (List ℕ)). Appends o new.got (joined x.texts)) got x.written;
   }
   refused_under old mid new ReadFault got reads writes started x = (breaks_under old mid new got started x.0, Rose-earlier old.read_faults mid.read_faults new.read_faults reads x.1)
@@ -124,7 +124,7 @@ module _ (keys : List OpeningKey) (seg : ℕ → Bool → List ℕ → List ℕ)
   opened_under old mid new report fits longer got started x = record {
     texts = x.texts;
     stream = behind old.left mid.left (λ Y. Leads seg 0 (cut first size Y) x.texts []) (λ X. IsOfChosen keys X x.texts)
-        (λ X s p. record { key = s.found.key; chosen = s.found.chosen; stream = stream_opened keys X seg s.header first size overhead x.texts s.found longer fits x.some p }) started x.leads;
+        (λ X s p. record { key = s.found.key; chosen = s.found.chosen; stream = stream_opened keys X seg s.front first size overhead x.texts s.found longer fits x.some p }) started x.leads;
     stays_told = behind old.left mid.left (λ _. IsSome new.left) (λ _. IsSome new.left) (λ X s p. p) started x.stays_told;
     at_end = x.at_end;
     written = subst (λ (o : Option (List ℕ)). Appends o new.got (joined x.texts)) got x.written;
@@ -144,7 +144,7 @@ start_refused keys old new NoMatchingKey w x = record { none = x; written = w }
 start_refused keys old new ReadFault w x = (record { texts = []; lead = any_told old.left; written = kept_front old.got new.got [] w }, x)
 start_refused keys old new _ w x = absurd x
 
--- an open under the raw keys is an open under the keyset
+-- an open under all keys is an open under the keyset
 pub under_keyset : (keyset aad draws : List ℕ) (l : Loaded) (old new : Outside) (answer : Result Report TinkError) → load keyset ≡ Ok l → OpensUnder (opening_keys aad l) old new answer → OpenMeans keyset aad draws draws old new answer
 under_keyset keyset aad draws l old new (Ok report) e u = record { loaded = l; loads = e; means = u }
 under_keyset keyset aad draws l old new (Err err) e u = go err.kind refl u

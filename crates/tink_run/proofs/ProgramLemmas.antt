@@ -33,7 +33,7 @@ length-draws_in seed (suc n) = omega (arith, length-draws_in seed n, length-appe
 
 -- a keyset's primary key keeps to what every key of the product keeps to
 pub primary_usable : (keyset : List ℕ) (loaded : Loaded) → load keyset ≡ Ok loaded → IsUsable loaded.primary
-primary_usable keyset loaded loads = (loaded_usable keyset loaded loads).1
+primary_usable keyset loaded loads = (loaded_usable keyset loaded loads).1.usable
 
 -- a seed's draws suffice for a salt and a prefix
 draws_suffice : (keyset seed : List ℕ) (loaded : Loaded) → load keyset ≡ Ok loaded → drawn loaded.primary ≤ length (draws_in seed 256)

@@ -24,6 +24,7 @@ use Rattle.tink_proto_keys.specs.declared.mac.HmacParams.{HmacParams}
 use Rattle.wire_format.specs.Columns.{Column}
 use Rattle.wire_format.specs.Message.{decoded}
 use Rattle.stream_model.specs.Key.{StreamKey, IsUsable}
+use Rattle.stream_model.specs.Order.{IsOfKeyset}
 use Rattle.loading_model.specs.Building.{streaming_of, gcm_hkdf_of}
 use Rattle.tink_core.specs.Subtle.{hash_named}
 use Rattle.tink_key_types.specs.HashTypes.{hash_type_of}
@@ -236,7 +237,7 @@ unfolding rows
 rows_of_all r e = ap (λ (x : Registered Managers). rows_of x.managers) e
 
 -- the sizes of each key that loads, and of the primary
-pub loaded_usable : (bytes : List ℕ) (l : Loaded) → load bytes ≡ Ok l → AreUsable l.keys × IsUsable l.primary
+pub loaded_usable : (bytes : List ℕ) (l : Loaded) → load bytes ≡ Ok l → AreUsable l.keys × IsOfKeyset l.primary
 unfolding load
 loaded_usable bytes l e = load_decoded_usable rows rows_sound (decoded keyset.read bytes) l e
 

@@ -83,7 +83,7 @@ sealing_complete keyset aad draws left_draws T G old new e kind same s t n c = g
         let k = s.loaded.primary in
         let few : chunk_count k T ≤ 2 ^ 32 = subst (λ (l : Loaded). chunk_count l.primary T ≤ 2 ^ 32) (sym loaded_same) c.few in
         let rest = told_consumed old.left new.left T r.text t.left r.read in
-        let some = room_some k (loaded_usable keyset s.loaded s.loads).1 in
+        let some = room_some k (loaded_usable keyset s.loaded s.loads).1.usable in
         omega (arith, r.many, few, chunks_more (first_room k) (room k) r.text rest.0 some.0 some.1, ap (chunk_count k) rest.2)
     go _ r = r
 

@@ -1,26 +1,31 @@
 -- From the answers of loading, sealing and opening to what a run answers.
-use Rattle.std.proofs.Common.{◌≡◌, ◌∙◌, inl, inr, ℕ, List, refl, sym, ap, subst, Some}
+use Rattle.std.proofs.Common.{◌≡◌, ◌∙◌, inl, inr, ℕ, List, [], ◌∷◌, All, refl, sym, ap, subst, Some}
 use Rattle.std.proofs.lemmas.Simd.{map-map}
 use Rattle.std.specs.Prelude.{Result, Ok, Err, map}
-use Rattle.std.specs.List.{filter}
-use Rattle.tink_io.specs.Told.{Answers, made_of}
+use Rattle.std.proofs.lemmas.List.Elements.{All-cons, All-nil}
+use Rattle.std.specs.declared.option.Option.{Option}
 use Rattle.tink_io.specs.declared.error.Kind.{Kind}
-use Rattle.tink_io.specs.declared.error.Kind.TheVariants.{BadKeyset, InvalidKeyset, UnsupportedKeyType, InvalidKey, NoPrimary, WrongPrimitive}
+use Rattle.tink_io.specs.declared.error.Kind.TheVariants.{OutOfMemory, BadKeyset, InvalidKeyset, UnsupportedKeyType, InvalidKey, NoPrimary, WrongPrimitive}
 use Rattle.tink_io.specs.declared.error.TinkError.{TinkError}
 use Rattle.stream_model.specs.Key.{StreamKey}
-use Rattle.stream_model.specs.Opening.{OpeningKey, opening_key}
-use Rattle.tink_streaming_aead.specs.Wrapped.{Wrapped}
-use Rattle.loading_model.specs.Loading.{Loaded, is_raw, opening_keys}
+use Rattle.stream_model.specs.Opening.{IsChosen, OpeningKey, opening_key}
+use Rattle.stream_model.specs.Order.{HaveSameOrder, IsOfKeyset}
+use Rattle.stream_model.proofs.OrderFacts.{choose_the_same}
+use Rattle.tink_sets.specs.declared.typed_set.TypedPrimitiveSet.{TypedPrimitiveSet}
+use Rattle.tink_stream_keys.specs.declared.stream_kind.StreamKind.{StreamKind}
+use Rattle.tink_streaming_aead.specs.Wrapped.{KeepsOrder, all_entries, key_in, keys_in}
+use Rattle.loading_model.specs.Loading.{AreUsable, Loaded, LoadedKey, opening_keys}
 use Rattle.tink_run.specs.AllKeys.{load}
-use Rattle.tink_run.specs.HeldKeys.{held}
+use Rattle.tink_run.specs.HeldKeys.{GivesHeld}
 use Rattle.tink_run.specs.declared.report.Command.{Command}
 use Rattle.tink_run.specs.declared.report.Command.TheVariants.{Seal, Open}
 use Rattle.tink_run.specs.declared.report.Report.{Report}
-use Rattle.tink_run.specs.OpenAnswers.{OpenRefused}
-use Rattle.tink_run.specs.OpenSteps.{OpensUnder}
+use Rattle.tink_run.specs.OpenAnswers.{OpenRefused, OpeningRefused}
+use Rattle.tink_run.specs.OpenSteps.{OpensUnder, OpensUnderRefused}
 use Rattle.tink_run.proofs.OpenSteps as opening
 use Rattle.tink_run.proofs.SealSteps as sealing
-use Rattle.tink_run.proofs.RowFacts.{load_refuses}
+use Rattle.tink_run.proofs.RowFacts.{load_refuses, loaded_usable}
+use Rattle.tink_run.proofs.OneKeyFacts.{means_by}
 use Rattle.loading_model.proofs.UsableKeys.{IsOfLoading}
 use Rattle.tink_run.specs.Outside.{Outside, IsUntouched}
 use Rattle.tink_run.specs.Run.{AnswerMeans, LeavesEnds}
@@ -50,16 +55,11 @@ unloaded : (command : Command) (keyset aad draws : List ℕ) (old new : Outside)
 unloaded Seal keyset aad draws old new e u l = seal_unloaded keyset aad draws old new e e.kind u l (load_refuses keyset e.kind l)
 unloaded Open keyset aad draws old new e u l = (open_unloaded keyset aad draws old new e e.kind u l (load_refuses keyset e.kind l), refl)
 
--- a refusal is that of loading
-refused : (r : Result Loaded Kind) (kind : Kind) → made_of held r ≡ Err kind → r ≡ Err kind
-refused (Ok l) kind e = absurd (cc)
-refused (Err k) kind e = let same : k ≡ kind = cc in ap Err same
-
 -- what a run answers where the keyset does not load, or there is no memory for it
-pub not_loaded : (command : Command) (keyset aad draws : List ℕ) (old new : Outside) (e : TinkError) → IsUntouched old new → Answers {T = Wrapped} (Err e) (made_of held (load keyset)) → AnswerMeans command keyset aad draws draws old new (Err e)
+pub not_loaded : (command : Command) (keyset aad draws : List ℕ) (old new : Outside) (e : TinkError) → IsUntouched old new → GivesHeld (Err e) (load keyset) → AnswerMeans command keyset aad draws draws old new (Err e)
 not_loaded Seal keyset aad draws old new e u (inl m) = subst (SealRefused keyset aad draws draws old new e) (sym m) (record { untouched = u; undrawn = refl })
 not_loaded Open keyset aad draws old new e u (inl m) = (subst (OpenRefused keyset aad draws draws old new e) (sym m) (record { untouched = u; undrawn = refl }), refl)
-not_loaded command keyset aad draws old new e u (inr l) = unloaded command keyset aad draws old new e u (refused (load keyset) e.kind l)
+not_loaded command keyset aad draws old new e u (inr l) = unloaded command keyset aad draws old new e u l
 
 pub untouched : (m : Outside) → IsUntouched m m
 untouched m = refl
@@ -69,26 +69,38 @@ pub leaves_same : {S K : Type 0} (answer : Result Report TinkError) (source : S)
 leaves_same (Ok report) source sink = tt
 leaves_same (Err e) source sink = λ early. (refl, refl)
 
--- what was loaded has the keys that are held
-loaded_as : (r : Result Loaded Kind) (w : Wrapped) → made_of held r ≡ Ok w → (l : Loaded) × (r ≡ Ok l) × (held l ≡ w)
-loaded_as (Ok l) w e = let same : held l ≡ w = cc in (l, refl, same)
-loaded_as (Err k) w e = absurd (cc)
-
 -- a seal under the primary key is a seal under the keyset
-pub seals_keyset : (keyset aad draws left_draws : List ℕ) (w : Wrapped) (key : StreamKey) (old new : Outside) (answer : Result Report TinkError) → made_of held (load keyset) ≡ Ok w → w.primary ≡ Some key
+pub seals_keyset : (keyset aad draws left_draws : List ℕ) (set : TypedPrimitiveSet StreamKind) (key : StreamKey) (old new : Outside) (answer : Result Report TinkError) → GivesHeld (Ok set) (load keyset) → key_in set.primary ≡ Some key
     → SealsUnder key aad draws left_draws old new answer → AnswerMeans Seal keyset aad draws left_draws old new answer
-seals_keyset keyset aad draws left_draws w key old new answer loads primary r =
-    let l = loaded_as (load keyset) w loads in
-    let one : Some key ≡ Some l.0.primary = sym (ap (λ (x : Wrapped). x.primary) l.2 ∙ primary) in
-    let same : key ≡ l.0.primary = cc in
-    sealing.under_keyset keyset aad draws left_draws l.0 old new answer l.1 (subst (λ k. SealsUnder k aad draws left_draws old new answer) same r)
+seals_keyset keyset aad draws left_draws set key old new answer loads primary r =
+    let one : Some key ≡ Some loads.0.primary = sym primary ∙ loads.2.primary in
+    let same : key ≡ loads.0.primary = cc in
+    sealing.under_keyset keyset aad draws left_draws loads.0 old new answer loads.1 (subst (λ k. SealsUnder k aad draws left_draws old new answer) same r)
 
--- an open under the raw keys is an open under the keyset
-pub opens_keyset : (keyset aad draws : List ℕ) (w : Wrapped) (keys : List StreamKey) (old new : Outside) (answer : Result Report TinkError) → made_of held (load keyset) ≡ Ok w → w.raw ≡ keys
-    → OpensUnder (map (opening_key aad) keys) old new answer → AnswerMeans Open keyset aad draws draws old new answer
-opens_keyset keyset aad draws w keys old new answer loads raw r =
-    let l = loaded_as (load keyset) w loads in
-    let same : map (opening_key aad) keys ≡ opening_keys aad l.0 =
-    ap (map (opening_key aad)) (sym (ap (λ (x : Wrapped). x.raw) l.2 ∙ raw)) ∙ map-map (opening_key aad) (λ k. k.key) (filter is_raw l.0.keys)
+-- each loaded key is one of a keyset
+are_of_keyset : (ks : List LoadedKey) → AreUsable ks → All IsOfKeyset (map (λ k. k.key) ks)
+are_of_keyset [] u = All-nil IsOfKeyset
+are_of_keyset (k ∷ ks) u = All-cons IsOfKeyset k.key (map (λ l. l.key) ks) u.0 (are_of_keyset ks u.1)
+
+-- what an open says under keys, it says under others of which the same is chosen
+opens_same : (ks js : List OpeningKey) (old new : Outside) → ((S : List ℕ) (c : Option OpeningKey) → IsChosen ks S c → IsChosen js S c) → (answer : Result Report TinkError)
+    → OpensUnder ks old new answer → OpensUnder js old new answer
+opens_same ks js old new same (Ok report) r = means_by ks js old new (λ S e. same S) (Ok report) r
+opens_same ks js old new same (Err e) r = go e.kind refl r
+  where
+    go : (kind : Kind) → e.kind ≡ kind → OpensUnderRefused ks old new kind → OpensUnderRefused js old new kind
+    go OutOfMemory is r = r
+    go _ is r = subst (OpeningRefused js old new) is (means_by ks js old new (λ S e. same S) (Err e) (subst (OpeningRefused ks old new) (sym is) r))
+
+-- an open under all keys of the set is an open under the keyset
+pub opens_keyset : (keyset aad draws : List ℕ) (set : TypedPrimitiveSet StreamKind) (old new : Outside) (answer : Result Report TinkError) → GivesHeld (Ok set) (load keyset) → KeepsOrder set.entries
+    → OpensUnder (map (opening_key aad) (keys_in (all_entries set.entries))) old new answer → AnswerMeans Open keyset aad draws draws old new answer
+opens_keyset keyset aad draws set old new answer loads order r =
+    let l : Loaded = loads.0 in
+    let own : List StreamKey = map (λ k. k.key) l.keys in
+    let ordered : HaveSameOrder (keys_in (all_entries set.entries)) own = subst (HaveSameOrder (keys_in (all_entries set.entries))) loads.2.keys (order loads.2.entries loads.2.groups) in
+    let under : OpensUnder (map (opening_key aad) own) old new answer =
+    opens_same (map (opening_key aad) (keys_in (all_entries set.entries))) (map (opening_key aad) own) old new
+    (λ S c. (choose_the_same aad S (keys_in (all_entries set.entries)) own c (are_of_keyset l.keys (loaded_usable keyset l loads.1).0) ordered).0) answer r
     in
-    (opening.under_keyset keyset aad draws l.0 old new answer l.1 (subst (λ (ks : List OpeningKey). OpensUnder ks old new answer) same r), refl)
+    (opening.under_keyset keyset aad draws l old new answer loads.1 (subst (λ (ks : List OpeningKey). OpensUnder ks old new answer) (map-map (opening_key aad) (λ k. k.key) l.keys) under), refl)

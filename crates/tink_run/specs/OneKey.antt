@@ -15,7 +15,7 @@ OpensAsOneKey =
     → old.left ≡ Some S → IsChosen keys S (Some key)
     → OpeningMeans keys old new answer ↔ OpeningMeans (key ∷ []) old new answer
 
--- so what `run` says under a keyset, it says under each keyset whose one raw key is the key that is chosen
+-- so what `run` says under a keyset, it says under each keyset whose one key is the key that is chosen
 abbrev pub RunOpensAlone : Type 0
 RunOpensAlone =
     (keyset alone aad draws left_draws S : List ℕ) (l m : Loaded) (key : OpeningKey) (old new : Outside)

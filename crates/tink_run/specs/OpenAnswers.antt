@@ -7,14 +7,14 @@ use Rattle.tink_io.specs.declared.error.Kind.{Kind}
 use Rattle.tink_io.specs.declared.error.Kind.TheVariants.{OutOfMemory, ReadFault, WriteFault, BadKeyset, InvalidKeyset, UnsupportedKeyType, InvalidKey, NoPrimary, WrongPrimitive, TooManySegments, NoMatchingKey, BadSegment, Truncated}
 use Rattle.tink_io.specs.declared.error.TinkError.{TinkError}
 use Rattle.stream_model.specs.Agree.{AreTexts, joined}
-use Rattle.stream_model.specs.Opening.{OpeningKey, chunks_of, IsAgreed, IsChosen, IsStream}
+use Rattle.stream_model.specs.Opening.{OpeningKey, chunks_of, header_of, IsAgreed, IsChosen, IsStream}
 use Rattle.loading_model.specs.Loading.{Loaded, opening_keys}
 use Rattle.tink_run.specs.AllKeys.{load}
 use Rattle.tink_run.specs.declared.report.Report.{Report}
 use Rattle.tink_run.specs.Outside.{Outside}
 use Rattle.tink_run.specs.SealAnswers.{IsRefused, WantsMemory}
 
--- chunk n of the stream behind its header
+-- chunk n of the stream behind its front
 abbrev pub chunk_of : OpeningKey → List ℕ → ℕ → List ℕ
 chunk_of k S n = slice_index_or (chunks_of k S) n []
 
@@ -38,7 +38,7 @@ AreTextsBy (Some seg) chunks texts = AreTexts seg 0 chunks texts
 -- no text, or texts whose segments lead the chunks under the chosen key
 abbrev pub Lead : List OpeningKey → List ℕ → List (List ℕ) → Type 0
 Lead keys S [] = Unit {0}
-Lead keys S (t ∷ ts) = (k : OpeningKey) × IsChosen keys S (Some k) × AreTextsBy (k.seg (take k.header S)) (chunks_of k S) (t ∷ ts)
+Lead keys S (t ∷ ts) = (k : OpeningKey) × IsChosen keys S (Some k) × AreTextsBy (k.seg (header_of k S)) (chunks_of k S) (t ∷ ts)
 
 -- the whole text was written
 pub record IsOpenedWhole (keys : List OpeningKey) (old new : Outside) (report : Report) : Type 0 where

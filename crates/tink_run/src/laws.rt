@@ -48,6 +48,6 @@ pub fn law_run_opens_after_rotation()
 pub fn law_one_key()
     ensures keys { OpensAsOneKey }
 
-    // So under a keyset `run` answers as under each keyset whose one raw key is the key that is chosen.
+    // So under a keyset `run` answers as under each keyset whose one key is the key that is chosen.
     ensures keysets { RunOpensAlone }
 {}

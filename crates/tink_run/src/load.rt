@@ -1,10 +1,9 @@
 //! Loading: from the bytes of a keyset to the set of its keys of streams.
 
 ghost use Rattle.std.specs.Prelude.{◌≡◌, true, is_some, IfOk};
-ghost use Rattle.tink_io.specs.Told.{Answers, made_of};
 ghost use Rattle.keyset_model.specs.Validity.{IsValid};
 ghost use Rattle.tink_run.specs.AllKeys.{load, rows, rows_by};
-ghost use Rattle.tink_run.specs.HeldKeys.{held, keys_held};
+ghost use Rattle.tink_run.specs.HeldKeys.{GivesHeld};
 ghost use Rattle.loading_model.specs.Loading.{load_keys};
 
 use std::alloc::Global;
@@ -25,7 +24,7 @@ use tink_streaming_aead::StreamKind;
 /// `NoPrimary` where no enabled key has the primary id, and `WrongPrimitive` where an enabled key is
 /// none of streams. `OutOfMemory` may come in place of each.
 pub fn load(alloc: Global, bytes: &[u8]) -> Result<TypedPrimitiveSet<StreamKind>, TinkError>
-    ensures answer { Answers (keys_held result) (made_of held (load bytes.now)) }
+    ensures answer { GivesHeld result (load bytes.now) }
     ensures primary { IfOk result (λ set. is_some set.primary ≡ true) }
 {
     let handle = insecure::valid_handle(alloc, bytes)?;
@@ -35,7 +34,7 @@ pub fn load(alloc: Global, bytes: &[u8]) -> Result<TypedPrimitiveSet<StreamKind>
 // The keys of streams of a valid keyset, by the managers of all types of keys.
 fn build_all(alloc: Global, handle: &Handle) -> Result<TypedPrimitiveSet<StreamKind>, TinkError>
     requires { IsValid handle.now }
-    ensures answer { Answers (keys_held result) (made_of held (load_keys rows handle.now)) }
+    ensures answer { GivesHeld result (load_keys rows handle.now) }
     ensures primary { IfOk result (λ set. is_some set.primary ≡ true) }
 {
     let registry = tink::registry(alloc)?;
@@ -51,8 +50,8 @@ fn build<M: KeyManager>(
 where
     M::Family: Kinds<StreamingAead = StreamKind>,
     requires { IsValid handle.now }
-    ensures answer { Answers (keys_held result)
-        (made_of held (load_keys (rows_by M.url M.builds registry.now.managers) handle.now)) }
+    ensures answer { GivesHeld result
+        (load_keys (rows_by M.url M.builds registry.now.managers) handle.now) }
     ensures primary { IfOk result (λ set. is_some set.primary ≡ true) }
 {
     typed_primitives::<M, StreamingAeads>(alloc, handle, registry)

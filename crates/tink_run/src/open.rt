@@ -1,12 +1,10 @@
-ghost use Rattle.std.specs.Prelude.{◌≡◌, ◌≤◌, ◌<◌, ◌^◌, map, All, IfOk, IfErr, vec_len, vec_capacity};
+ghost use Rattle.std.specs.Prelude.{◌≡◌, ◌≤◌, ◌<◌, ◌+◌, ◌^◌, length, map, All, vec_len, vec_capacity};
 ghost use Rattle.stream_model.specs.Key.{nonce_size};
 ghost use Rattle.stream_model.specs.Opening as opening;
-ghost use Rattle.tink_io.specs.declared.error.Kind.TheVariants.{OutOfMemory};
 ghost use Rattle.tink_streams.specs.declared.progress.Progress.TheVariants.{Running};
 ghost use Rattle.tink_streams.specs.Openers.{reader_moment, segment_map};
-ghost use Rattle.tink_stream_keys.specs.StreamKinds.{key_of};
 ghost use Rattle.tink_run.specs.Outside.{outside_of};
-ghost use Rattle.tink_streaming_aead.specs.Wrapped.{keys_in};
+ghost use Rattle.tink_streaming_aead.specs.Wrapped.{KeepsOrder, all_entries, keys_in};
 ghost use Rattle.tink_run.specs.OpenAnswers.{OpeningMeans};
 ghost use Rattle.tink_run.specs.Run.{LeavesEnds};
 ghost use Rattle.tink_run.specs.OpenSteps.{FirstMeans, OpensUnder, ReaderMeans, held_outside};
@@ -14,13 +12,13 @@ ghost use Rattle.tink_run.specs.OpenSteps.{FirstMeans, OpensUnder, ReaderMeans, 
 use crate::report::Report;
 use std::alloc::Global;
 use tink_io::{Kind, Sink, Source, TinkError, write_all};
-use tink_sets::TypedEntry;
+use tink_sets::TypedPrimitiveSet;
 use tink_streaming_aead::{
     AES_CTR_HMAC_NONCE_SIZE_IN_BYTES, DerivesStreams, Progress, SegmentDecrypter, SegmentReader,
-    StreamKind, Trial, largest_segment, start,
+    StreamKind, Trial, entries_of, room_of, start,
 };
 
-/// Opens what the source has left under the first key of some entries that it begins under.
+/// Opens what the source has left under the first key of a set that it begins under.
 ///
 /// # Errors
 /// OutOfMemory before anything was read or written; NoMatchingKey where the stream begins under no
@@ -29,44 +27,23 @@ use tink_streaming_aead::{
 /// text is written once its tag was compared, and stays written.
 pub fn open<S: Source, K: Sink>(
     alloc: Global,
-    entries: &[TypedEntry<StreamKind>],
+    set: &TypedPrimitiveSet<StreamKind>,
     aad: &[u8],
     source: &mut S,
     sink: &mut K,
 ) -> Result<Report, TinkError>
-    ensures answer { OpensUnder (map (opening.opening_key aad.now) (keys_in entries.now))
+    ensures answer { OpensUnder (map (opening.opening_key aad.now) (keys_in (all_entries set.now.entries)))
         (outside_of S.left S.faults K.got K.faults source.old sink.old)
         (outside_of S.left S.faults K.got K.faults source.new sink.new)
         result }
+    ensures order { KeepsOrder set.now.entries }
     ensures early { LeavesEnds result source.old source.new sink.old sink.new }
     ensures source { S.same source.old source.new }
     ensures sink { K.same sink.old sink.new }
 {
-    let keys = keys_of(alloc, entries)?;
-    let trial = Trial::reserve(
-        alloc,
-        largest_segment(&keys),
-        AES_CTR_HMAC_NONCE_SIZE_IN_BYTES,
-    )?;
+    let keys = entries_of(alloc, set)?;
+    let trial = Trial::reserve(alloc, room_of(&keys), AES_CTR_HMAC_NONCE_SIZE_IN_BYTES)?;
     open_under(&keys, aad, trial, source, sink)
-}
-
-/// The keys of some entries.
-///
-/// # Errors
-/// OutOfMemory.
-fn keys_of<'a>(
-    alloc: Global,
-    entries: &'a [TypedEntry<StreamKind>],
-) -> Result<Vec<&'a StreamKind>, TinkError>
-    ensures keys { IfOk result (λ keys. map (λ k. key_of k.now) keys.items ≡ keys_in entries.now) }
-    ensures refused { IfErr result (λ e. e ≡ record { kind = OutOfMemory }) }
-{
-    let mut keys = Vec::new(alloc);
-    for entry in entries {
-        keys.push(&entry.primitive)?;
-    }
-    Ok(keys)
 }
 
 /// Opens what the source has left under the first key that it begins under.
@@ -81,7 +58,7 @@ fn open_under<S: Source, K: Sink, T: DerivesStreams>(
     sink: &mut K,
 ) -> Result<Report, TinkError>
     requires filled { trial.kept.filled ≡ 0 }
-    requires buffer { All (λ k. (T.key_of k).segment < vec_len trial.kept.buffer) keys.now }
+    requires buffer { All (λ k. length (T.key_of k).out + (T.key_of k).segment < vec_len trial.kept.buffer) keys.now }
     requires room { All (λ k. (T.key_of k).segment ≤ vec_capacity trial.opened) keys.now }
     requires nonce { All (λ k. nonce_size (T.key_of k) ≤ vec_len trial.nonce) keys.now }
     requires prefix { 7 ≤ vec_capacity trial.prefix }

@@ -2,7 +2,7 @@ ghost use Rattle.std.specs.Prelude.{◌≡◌, ℕ, List, IfOk};
 ghost use Rattle.tink_run.specs.Outside.{outside_of};
 ghost use Rattle.tink_run.specs.Run.{AnswerMeans, IsComplete, LeavesEnds, OnlyAgreeing, OkMeans, Told};
 
-use crate::keys::{primary_key, raw_entries};
+use crate::keys::primary_key;
 use crate::load::load;
 use crate::open::open;
 use crate::report::{Command, Report};
@@ -73,6 +73,6 @@ fn answer<S: Source, K: Sink>(
     let keys = load(alloc, keyset)?;
     match command {
         Command::Seal => seal(alloc, primary_key(&keys), aad, draws, source, sink),
-        Command::Open => open(alloc, raw_entries(&keys), aad, source, sink),
+        Command::Open => open(alloc, &keys, aad, source, sink),
     }
 }

@@ -1,6 +1,6 @@
 ghost use Rattle.std.specs.Prelude.{◌≡◌, ◌≤◌, ◌<◌, [], length};
 ghost use Rattle.tink_streams.specs.declared.writing.Mode.TheVariants.{Open};
-ghost use Rattle.tink_stream_keys.specs.StreamKinds.{key_of};
+ghost use Rattle.tink_stream_keys.specs.StreamKinds.{key_in_set};
 ghost use Rattle.tink_streams.specs.Sealers.{segment_map, writer_moment};
 ghost use Rattle.tink_run.specs.Outside.{outside_of};
 ghost use Rattle.tink_run.specs.Run.{LeavesEnds};
@@ -9,6 +9,7 @@ ghost use Rattle.tink_run.specs.SealSteps.{PourMeans, SealsUnder, kind_not_begun
 use crate::report::Report;
 use std::alloc::Global;
 use tink_io::{Draws, Kind, Sink, Source, TinkError};
+use tink_sets::TypedEntry;
 use tink_streaming_aead::{SegmentEncrypter, SegmentWriter, StreamKind, begin_stream};
 
 /// Bytes that are read at once.
@@ -22,13 +23,13 @@ const PIECE: usize = 65536;
 /// TooManySegments where the text has more than 2^32 chunks.
 pub fn seal<S: Source, K: Sink>(
     alloc: Global,
-    key: &StreamKind,
+    key: &TypedEntry<StreamKind>,
     aad: &[u8],
     draws: &mut Draws,
     source: &mut S,
     sink: &mut K,
 ) -> Result<Report, TinkError>
-    ensures answer { SealsUnder (key_of key.now) aad.now draws.old draws.new
+    ensures answer { SealsUnder (key_in_set key.now) aad.now draws.old draws.new
         (outside_of S.left S.faults K.got K.faults source.old sink.old)
         (outside_of S.left S.faults K.got K.faults source.new sink.new)
         result }

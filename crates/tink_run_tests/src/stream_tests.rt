@@ -72,6 +72,20 @@ const SHA224_BEFORE: &str =
 const PREFIXED: &str =
     "0884868808126f0a640a3d747970652e676f6f676c65617069732e636f6d2f676f6f676c652e63727970746f2e74696e6b2e416573437472486d616353747265616d696e674b65791221120d088020101018032204080310201a10000102030405060708090a0b0c0d0e0f1801100118848688082001";
 
+// A LEGACY key of another main key, and a CRUNCHY key, both of one id.
+const LEGACY: &str =
+    "0884868808126f0a640a3d747970652e676f6f676c65617069732e636f6d2f676f6f676c652e63727970746f2e74696e6b2e416573437472486d616353747265616d696e674b65791221120d088020101018032204080310201a10101112131415161718191a1b1c1d1e1f1801100118848688082002";
+const CRUNCHY: &str =
+    "0884868808126f0a640a3d747970652e676f6f676c65617069732e636f6d2f676f6f676c652e63727970746f2e74696e6b2e416573437472486d616353747265616d696e674b65791221120d088020101018032204080310201a10000102030405060708090a0b0c0d0e0f1801100118848688082004";
+
+// A TINK key, and a RAW key of another id, which is the primary one.
+const BOTH: &str =
+    "0886868808126f0a640a3d747970652e676f6f676c65617069732e636f6d2f676f6f676c652e63727970746f2e74696e6b2e416573437472486d616353747265616d696e674b65791221120d088020101018032204080310201a10000102030405060708090a0b0c0d0e0f1801100118848688082001126f0a640a3d747970652e676f6f676c65617069732e636f6d2f676f6f676c652e63727970746f2e74696e6b2e416573437472486d616353747265616d696e674b65791221120d088020101018032204080310201a10000102030405060708090a0b0c0d0e0f1801100118868688082003";
+
+// The LEGACY and the CRUNCHY key of one id, and a RAW key, which is the primary one.
+const SHARED: &str =
+    "0886868808126f0a640a3d747970652e676f6f676c65617069732e636f6d2f676f6f676c652e63727970746f2e74696e6b2e416573437472486d616353747265616d696e674b65791221120d088020101018032204080310201a10101112131415161718191a1b1c1d1e1f1801100118848688082002126f0a640a3d747970652e676f6f676c65617069732e636f6d2f676f6f676c652e63727970746f2e74696e6b2e416573437472486d616353747265616d696e674b65791221120d088020101018032204080310201a10000102030405060708090a0b0c0d0e0f1801100118848688082004126f0a640a3d747970652e676f6f676c65617069732e636f6d2f676f6f676c652e63727970746f2e74696e6b2e416573437472486d616353747265616d696e674b65791221120d088020101018032204080310201a10000102030405060708090a0b0c0d0e0f1801100118868688082003";
+
 // What is sealed and opened, the keyset and associated data of each, the bytes of the text and of its stream, and what
 // the open tells: its status, the bytes of text and the line.
 type Round = (
@@ -82,7 +96,7 @@ type Round = (
     (u8, usize, &'static str),
 );
 
-const ROUNDS: [Round; 11] = [
+const ROUNDS: [Round; 19] = [
     (
         "no text",
         (KEYSET, "00ff"),
@@ -142,6 +156,62 @@ const ROUNDS: [Round; 11] = [
     (
         "a prefixed key",
         (PREFIXED, "-"),
+        (PREFIXED, "-"),
+        (0, 61),
+        (0, 0, ""),
+    ),
+    (
+        "a prefixed key, two segments",
+        (PREFIXED, "-"),
+        (PREFIXED, "-"),
+        (4041, 4134),
+        (0, 4041, ""),
+    ),
+    (
+        "a prefix among others",
+        (PREFIXED, "-"),
+        (BOTH, "-"),
+        (10, 71),
+        (0, 10, ""),
+    ),
+    (
+        "no prefix among others",
+        (BOTH, "-"),
+        (BOTH, "-"),
+        (10, 66),
+        (0, 10, ""),
+    ),
+    (
+        "a LEGACY key that shares its prefix",
+        (LEGACY, "-"),
+        (SHARED, "-"),
+        (10, 71),
+        (0, 10, ""),
+    ),
+    (
+        "a CRUNCHY key that shares its prefix",
+        (CRUNCHY, "-"),
+        (SHARED, "-"),
+        (10, 71),
+        (0, 10, ""),
+    ),
+    (
+        "a prefix under the raw key",
+        (PREFIXED, "-"),
+        (KEYSET, "-"),
+        (0, 61),
+        (21, 0, "no matching key\n"),
+    ),
+    (
+        "a prefix of another type",
+        (PREFIXED, "-"),
+        (CRUNCHY, "-"),
+        (0, 61),
+        (21, 0, "no matching key\n"),
+    ),
+    (
+        "no prefix under the prefixed key",
+        (KEYSET, "-"),
         (PREFIXED, "-"),
         (0, 56),
         (21, 0, "no matching key\n"),
@@ -230,6 +300,59 @@ fn small_segments_seal_and_open(rt: HostRuntime) -> Result<(), Fail> {
 fn an_empty_last_segment_opens(rt: HostRuntime) -> Result<(), Fail> {
     let stream = hex::decode(rt.alloc(), EMPTY_LAST)?;
     opens(&rt, rt.alloc(), (SMALL, "-"), stream, (0, 26, ""))
+}
+
+// The keyset, the prefix of its streams, and the bytes of a text; how far its stream is cut, and what an open tells then.
+type Front = (
+    &'static str,
+    &'static [u8],
+    usize,
+    usize,
+    (u8, usize, &'static str),
+);
+
+const NONE: (u8, usize, &str) = (21, 0, "no matching key\n");
+
+const FRONTS: [Front; 8] = [
+    (PREFIXED, &[1, 1, 2, 3, 4], 0, 5, NONE),
+    (PREFIXED, &[1, 1, 2, 3, 4], 0, 29, NONE),
+    (PREFIXED, &[1, 1, 2, 3, 4], 0, 45, NONE),
+    (LEGACY, &[0, 1, 2, 3, 4], 0, 4, NONE),
+    (CRUNCHY, &[0, 1, 2, 3, 4], 0, 60, NONE),
+    (PREFIXED, &[1, 1, 2, 3, 4], 4041, 4101, NONE),
+    (
+        PREFIXED,
+        &[1, 1, 2, 3, 4],
+        4041,
+        4102,
+        (23, 4040, "truncated 1\n"),
+    ),
+    (
+        PREFIXED,
+        &[1, 1, 2, 3, 4],
+        4041,
+        4133,
+        (22, 4040, "bad segment 1\n"),
+    ),
+];
+
+// Compares the first bytes of a stream with the prefix, and what an open of the cut stream tells.
+fn begins_by(rt: &impl Abort, alloc: Global, row: &Front) -> Result<(), Fail> {
+    let (keyset, prefix, count, cut, told) = *row;
+    let stream = sealed(alloc, keyset, "-", count)?;
+    is(rt, stream[..5] == prefix[..5], "prefix");
+    opens(rt, alloc, (keyset, "-"), stream[..cut].to_vec(alloc)?, told)
+}
+
+#[test]
+fn streams_begin_by_the_prefix_of_their_key(rt: HostRuntime) -> Result<(), Fail> {
+    for row in &FRONTS {
+        begins_by(&rt, rt.alloc(), row)?;
+    }
+    let plain = sealed(rt.alloc(), KEYSET, "-", 10)?;
+    let prefixed = sealed(rt.alloc(), PREFIXED, "-", 10)?;
+    is(&rt, prefixed[5..] == plain[..], "behind the prefix");
+    Ok(())
 }
 
 #[test]

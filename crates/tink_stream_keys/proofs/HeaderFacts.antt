@@ -3,7 +3,7 @@ use Rattle.std.proofs.Common.{◌≡◌, ◌≤◌, ◌<◌, ◌+◌, ℕ, zero,
 use Rattle.std.proofs.lemmas.List.{take-append-drop, length-take-le, take-take, drop-take}
 use Rattle.std.proofs.Math.Seq.{take-append_seam}
 use Rattle.stream_model.specs.Cut.{numbered}
-use Rattle.stream_model.specs.Key.{StreamKey, front, header_length, nonce_size, segment_at, segment_of}
+use Rattle.stream_model.specs.Key.{StreamKey, header, header_length, nonce_size, segment_at, segment_of}
 use Rattle.stream_model.specs.Sealing.{drawn, prefix_of, salt_of}
 use Rattle.tink_segments.specs.declared.stream_segment.StreamSegment.{StreamSegment}
 use Rattle.tink_segments.specs.StreamSegments.{segment_by}
@@ -14,13 +14,13 @@ use Rattle.tink_stream_keys.proofs.DerivedKeys.{derived_segments}
 pub header_bytes : (n h : ℕ) (xs ys zs : List ℕ) → n ≡ suc (length xs) → xs ≡ zs → take n (h ∷ (xs ++ ys)) ≡ h ∷ zs
 header_bytes n h xs ys zs l same = ap (λ m. take m (h ∷ (xs ++ ys))) l ∙ ap (λ z. h ∷ z) (take-append_seam xs ys ∙ same)
 
--- the header is the first part of a stream with nothing before it
-pub header_front : (k : StreamKey) (H : List ℕ) → k.out ≡ [] → length H ≡ header_length k → get_or H 0 0 ≡ header_length k → H ≡ front k (take k.derived (drop 1 H)) (drop (k.derived + 1) H)
-header_front k [] out l m = absurd (omega arith)
-header_front k (x ∷ H) out l m =
+-- a header is its byte, its salt and its prefix
+pub header_parts : (k : StreamKey) (H : List ℕ) → length H ≡ header_length k → get_or H 0 0 ≡ header_length k → H ≡ header k (take k.derived (drop 1 H)) (drop (k.derived + 1) H)
+header_parts k [] l m = absurd (omega arith)
+header_parts k (x ∷ H) l m =
     let rest : drop (k.derived + 1) (x ∷ H) ≡ drop k.derived H = rw add-one refl in
     let whole : H ≡ take k.derived H ++ drop (k.derived + 1) (x ∷ H) = sym (take-append-drop k.derived H) ∙ ap (λ ys. take k.derived H ++ ys) (sym rest) in
-    ap (λ b. b ∷ H) m ∙ ap (λ ys. header_length k ∷ ys) whole ∙ ap (λ o. o ++ (header_length k ∷ take k.derived H ++ drop (k.derived + 1) (x ∷ H))) (sym out)
+    ap (λ b. b ∷ H) m ∙ ap (λ ys. header_length k ∷ ys) whole
 
 -- the derived cipher's segments are the key's
 pub seg_is : (k : StreamKey) (aad salt prefix : List ℕ) (cipher encrypter : StreamSegment) (size : ℕ) (given : List ℕ) (d : IsDerived k aad salt cipher) → encrypter ≡ cipher → size ≡ nonce_size k → given ≡ prefix

@@ -12,7 +12,7 @@ use Rattle.tink_io.specs.Written.{AppendsFront}
 use Rattle.tink_io.specs.declared.error.Kind.{Kind}
 use Rattle.tink_io.specs.declared.error.Kind.TheVariants.{OutOfMemory, RandomFault, UnknownHash, UnsupportedHash, WriteFault}
 use Rattle.tink_primitives.specs.Meaning.{IsEndOf}
-use Rattle.stream_model.specs.Key.{StreamKey, first_room, front, header_length, keys_of, nonce_size, room}
+use Rattle.stream_model.specs.Key.{StreamKey, first_room, front, header, header_length, keys_of, nonce_size, room}
 use Rattle.stream_model.specs.Sealing.{drawn, prefix_of, salt_of}
 use Rattle.tink_segments.specs.declared.stream_segment.StreamSegment.{StreamSegment}
 use Rattle.tink_streams.specs.declared.writing.Mode.TheVariants.{Open}
@@ -20,7 +20,7 @@ use Rattle.tink_stream_keys.specs.Encrypting.{DrewHeader, IsNewStream, NewWriter
 use Rattle.tink_segments.specs.StreamSegments.{segment_by}
 use Rattle.tink_stream_keys.specs.StreamingKeys.{IsDerived, deriving_hash}
 use Rattle.tink_streams.specs.Writing.{WriterMoment}
-use Rattle.tink_stream_keys.proofs.HeaderFacts.{drawn_header, enough_drawn, header_front, seg_is}
+use Rattle.tink_stream_keys.proofs.HeaderFacts.{drawn_header, enough_drawn, header_parts, seg_is}
 use Rattle.stream_model.specs.Cut.{numbered}
 
 -- a draw that was not refused took a salt and a prefix
@@ -48,14 +48,17 @@ hash_refused got faults k aad draws left old kind drew e = elim (hash_refusal k.
 ]
 
 -- a header that was drawn, and the cipher that is derived under its salt
-module _ (k : StreamKey) (aad draws left h : List ℕ) (n m : ℕ) (cipher : StreamSegment) (drew : DrewHeader k draws left) (bare : k.out ≡ []) (size : n ≡ header_length k) (t : take n h ≡ header_length k ∷ take (drawn k) draws)
+module _ (k : StreamKey) (aad draws left h : List ℕ) (n m : ℕ) (cipher : StreamSegment) (drew : DrewHeader k draws left) (out : List ℕ) (out_is : out ≡ k.out) (size : n ≡ header_length k) (t : take n h ≡ header_length k ∷ take (drawn k) draws)
     (salt : m ≡ k.derived) (d : IsDerived k aad (take m (drop 1 (take n h))) cipher) where
   abbrev parts : (length (take n h) ≡ header_length k) × (get_or (take n h) 0 0 ≡ header_length k) × (take k.derived (drop 1 (take n h)) ≡ salt_of k draws) × (drop (k.derived + 1) (take n h) ≡ prefix_of k draws)
   parts = drawn_header k draws h n size drew.enough t
 
-  -- its bytes are the front
-  front_is : take n h ≡ front k (salt_of k draws) (prefix_of k draws)
-  front_is = header_front k (take n h) bare parts.0 parts.1 ∙ ap (λ s. front k s (drop (k.derived + 1) (take n h))) parts.2 ∙ ap (front k (salt_of k draws)) parts.3
+  header_is : take n h ≡ header k (salt_of k draws) (prefix_of k draws)
+  header_is = header_parts k (take n h) parts.0 parts.1 ∙ ap (λ s. header k s (drop (k.derived + 1) (take n h))) parts.2 ∙ ap (header k (salt_of k draws)) parts.3
+
+  -- its bytes behind what stands before a header are the front
+  front_is : out ++ take n h ≡ front k (salt_of k draws) (prefix_of k draws)
+  front_is = ap (λ xs. xs ++ take n h) out_is ∙ ap (λ xs. k.out ++ xs) header_is
 
   salt_is : take m (drop 1 (take n h)) ≡ salt_of k draws
   salt_is = ap (λ x. take x (drop 1 (take n h))) salt ∙ parts.2
@@ -64,7 +67,7 @@ module _ (k : StreamKey) (aad draws left h : List ℕ) (n m : ℕ) (cipher : Str
   keys_are = subst (λ s. keys_of k aad s ≡ Some d.keys) salt_is d.keys_are
 
   -- the sink failed
-  pub front_failed : {W : Type 0} (got : W → Option (List ℕ)) (faults : W → ℕ) (old new : W) → AppendsFront (got old) (got new) (take n h) → Rose (faults old) (faults new) → WroteFrontPart got faults k aad draws left old new
+  pub front_failed : {W : Type 0} (got : W → Option (List ℕ)) (faults : W → ℕ) (old new : W) → AppendsFront (got old) (got new) (out ++ take n h) → Rose (faults old) (faults new) → WroteFrontPart got faults k aad draws left old new
   front_failed got faults old new w rose = record {
     drew = drew;
     keys = d.keys;
@@ -75,7 +78,7 @@ module _ (k : StreamKey) (aad draws left h : List ℕ) (n m : ℕ) (cipher : Str
 
   -- the front was written
   pub new_stream : (before : Option (List ℕ)) (encrypter : StreamSegment) (size : ℕ) (prefix : List ℕ) (a b : ℕ) (o : WriterMoment) → encrypter ≡ cipher → size ≡ nonce_size k → prefix ≡ drop (k.derived + 1) (take n h) → a ≡ first_room k → b ≡ room k
-      → Appends before o.got (take n h) → o.mode ≡ Open → o.number ≡ 0 → o.held ≡ []
+      → Appends before o.got (out ++ take n h) → o.mode ≡ Open → o.number ≡ 0 → o.held ≡ []
       → IsNewStream k aad draws left before (numbered (segment_by encrypter) size prefix) a b o
   new_stream before encrypter size prefix a b o e s p first later w mode number held = record {
     drew = drew;

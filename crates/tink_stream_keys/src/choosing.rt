@@ -1,4 +1,4 @@
-ghost use Rattle.std.specs.Prelude.{◌≡◌, ◌≤◌, ◌<◌, map, All, IfOk, OnErr, vec_len, vec_capacity};
+ghost use Rattle.std.specs.Prelude.{◌≡◌, ◌≤◌, ◌<◌, ◌+◌, length, map, All, IfOk, OnErr, vec_len, vec_capacity};
 ghost use Rattle.stream_model.specs.Key.{nonce_size};
 ghost use Rattle.stream_model.specs.Opening.{opening_key};
 ghost use Rattle.tink_io.specs.Faults.{Rose};
@@ -25,7 +25,7 @@ pub fn choose<S: Source, T: DerivesStreams>(
     nonce: &mut Vec<u8>,
     opened: &mut Vec<u8>,
 ) -> Result<Option<Begun<StreamSegment>>, Failed>
-    requires buffer { All (λ k. (T.key_of k).segment < vec_len kept.old.buffer) keys.now }
+    requires buffer { All (λ k. length (T.key_of k).out + (T.key_of k).segment < vec_len kept.old.buffer) keys.now }
     requires room { All (λ k. (T.key_of k).segment ≤ vec_capacity opened.old) keys.now }
     requires nonce { All (λ k. nonce_size (T.key_of k) ≤ vec_len nonce.old) keys.now }
     requires prefix { 7 ≤ vec_capacity prefix }

@@ -1,10 +1,13 @@
 //! New streams under a key.
 
-ghost use Rattle.std.specs.Prelude.{◌≡◌, ◌≤◌, ◌<◌, ◌+◌, ◌∷◌, ◌↔◌, [], length, take, drop, slice_index, IfOk, IfErr, IsErr, OnOk, OnErr, MatchResult, vec_len, vec_capacity};
+ghost use Rattle.std.specs.Prelude.{◌≡◌, ◌≤◌, ◌<◌, ◌+◌, ◌∷◌, ◌++◌, ◌↔◌, [], length, take, drop, slice_index, IfOk, IfErr, IsErr, OnOk, OnErr, MatchResult, vec_len, vec_capacity};
+ghost use Rattle.std.specs.Io.KnownBytes.{Appends};
 ghost use Rattle.stream_model.specs.Cut.{numbered};
 ghost use Rattle.stream_model.specs.Key.{IsUsable, first_room, header_length, nonce_size, overhead, room};
 ghost use Rattle.stream_model.specs.Sealing.{drawn};
-ghost use Rattle.tink_io.specs.declared.error.Kind.TheVariants.{OutOfMemory, RandomFault};
+ghost use Rattle.tink_io.specs.declared.error.Kind.TheVariants.{OutOfMemory, RandomFault, WriteFault};
+ghost use Rattle.tink_io.specs.Faults.{Rose};
+ghost use Rattle.tink_io.specs.Written.{AppendsFront};
 ghost use Rattle.tink_primitives.specs.Meaning.{IsEndOf};
 ghost use Rattle.tink_stream_keys.specs.Encrypting.{IsNewStream, NewWriterMeans, NewWriterRefused, sink_of};
 ghost use Rattle.tink_segments.specs.StreamSegments.{nonce_length_by, overhead_by, segment_by};
@@ -69,14 +72,27 @@ fn sealer_of<T: DerivesStreams>(
     }
 }
 
-/// A writer of a new stream whose header was written to a sink, before any text. Salt and prefix
+// Writes a front: what stands before a header, and the header.
+fn write_front<K: Sink>(sink: &mut K, out: &[u8], header: &[u8]) -> Result<(), TinkError>
+    ensures written { OnOk result (Appends (K.got sink.old) (K.got sink.new) (out.now ++ header.now)) }
+    ensures front { OnErr result (AppendsFront (K.got sink.old) (K.got sink.new) (out.now ++ header.now)) }
+    ensures refused { IfErr result (λ e. e ≡ record { kind = WriteFault }) }
+    ensures cause { OnErr result (Rose (K.faults sink.old) (K.faults sink.new)) }
+    ensures later { K.faults sink.old ≤ K.faults sink.new }
+    ensures same { K.same sink.old sink.new }
+{
+    write_all(sink, out)?;
+    write_all(sink, header)
+}
+
+/// A writer of a new stream whose front was written to a sink, before any text. Salt and prefix
 /// are the first draws: 23 of them, or 39 where the derived key has 32 bytes.
 ///
 /// # Errors
 /// `OutOfMemory` before anything was drawn or written; `RandomFault` exactly where fewer draws are
 /// left than these, which stay; `UnknownHash` where HKDF's hash is unknown and `UnsupportedHash`
 /// where it is SHA-224, of which the draws were taken and nothing was written; `WriteFault` where
-/// the sink failed, and has a prefix of the header.
+/// the sink failed, and has a prefix of the front.
 pub fn begin_stream<T: DerivesStreams, K: Sink>(
     alloc: Global,
     key: &T,
@@ -106,11 +122,11 @@ pub fn begin_stream<T: DerivesStreams, K: Sink>(
     let header = &header[..size];
     let cipher = key.derive(&header[1..size - PREFIX], aad)?;
     let sealer = sealer_of(key, cipher, header, memory.prefix);
-    write_all(sink, header)?;
+    write_front(sink, key.output_prefix(), header)?;
     Ok(SegmentWriter::made(sealer, memory.buffers))
 }
 
-/// A writer of a new stream into `w`, whose header is written.
+/// A writer of a new stream into `w`, whose front is written.
 ///
 /// # Errors
 /// Those of `begin_stream`. The refusal hands back `w`.

@@ -20,6 +20,10 @@ impl<'a, T: DerivesStreams> OpensStreams<StreamSegment> for KeyUnder<'a, T> {
 
     ghost nonce_of = { λ k. keys.nonce_size (T.key_of k.key.now) };
 
+    fn output_prefix(&self) -> &[u8] {
+        self.key.output_prefix()
+    }
+
     fn header_length(&self) -> usize {
         self.key.header_length()
     }

@@ -1,4 +1,4 @@
-ghost use Rattle.std.specs.Prelude.{◌≡◌, ◌≤◌, ◌<◌, ◌+◌, [], map, All, IfSome, IfOk, IfErr, vec_len, vec_capacity};
+ghost use Rattle.std.specs.Prelude.{◌≡◌, ◌≤◌, ◌<◌, ◌+◌, [], length, map, All, IfSome, IfOk, IfErr, vec_len, vec_capacity};
 ghost use Rattle.stream_model.specs.Key.{nonce_size};
 ghost use Rattle.stream_model.specs.Opening.{opening_key};
 ghost use Rattle.tink_io.specs.declared.error.Kind.TheVariants.{OutOfMemory};
@@ -26,34 +26,33 @@ pub struct Trial {
 }
 
 impl Trial {
-    /// Memory for keys with segments of so many bytes at most, and nonces of so many.
+    /// Memory for keys whose output prefix and segment have fewer bytes than `room`, and for nonces of so many.
     ///
     /// # Errors
     /// `OutOfMemory`.
-    pub fn reserve(alloc: Global, segment: u32, nonce: usize) -> Result<Trial, TinkError>
+    pub fn reserve(alloc: Global, room: usize, nonce: usize) -> Result<Trial, TinkError>
         ensures filled { IfOk result (λ t. t.kept.filled ≡ 0) }
-        ensures buffer { IfOk result (λ t. vec_len t.kept.buffer ≡ segment + 1) }
-        ensures opened { IfOk result (λ t. vec_capacity t.opened ≡ segment + 1) }
+        ensures buffer { IfOk result (λ t. vec_len t.kept.buffer ≡ room) }
+        ensures opened { IfOk result (λ t. vec_capacity t.opened ≡ room) }
         ensures nonce { IfOk result (λ t. vec_len t.nonce ≡ nonce) }
         ensures prefix { IfOk result (λ t. 7 ≤ vec_capacity t.prefix) }
         ensures refused { IfErr result (λ e. e ≡ record { kind = OutOfMemory }) }
     {
-        let buffers = Buffers::reserve(alloc, segment, nonce)?;
+        let opened = Vec::with_capacity(alloc, room)?;
+        let buffer = vec![in alloc; 0u8; room]?;
+        let nonce = vec![in alloc; 0u8; nonce]?;
         let prefix = Vec::with_capacity(alloc, PREFIX)?;
         Ok(Trial {
-            kept: Kept {
-                buffer: buffers.sealed,
-                filled: 0,
-            },
+            kept: Kept { buffer, filled: 0 },
             prefix,
-            nonce: buffers.nonce,
-            opened: buffers.text,
+            nonce,
+            opened,
         })
     }
 }
 
 /// The reader of the first key under which the stream begins with the associated data, over what is
-/// behind its header.
+/// behind its front.
 ///
 /// # Errors
 /// NoMatchingKey where the stream begins under none, ReadFault where the source failed.
@@ -63,7 +62,7 @@ pub fn start<S: Source, T: DerivesStreams>(
     trial: Trial,
     source: &mut S,
 ) -> Result<SegmentReader<StreamSegment>, TinkError>
-    requires buffer { All (λ k. (T.key_of k).segment < vec_len trial.kept.buffer) keys.now }
+    requires buffer { All (λ k. length (T.key_of k).out + (T.key_of k).segment < vec_len trial.kept.buffer) keys.now }
     requires room { All (λ k. (T.key_of k).segment ≤ vec_capacity trial.opened) keys.now }
     requires nonce { All (λ k. nonce_size (T.key_of k) ≤ vec_len trial.nonce) keys.now }
     requires prefix { 7 ≤ vec_capacity trial.prefix }
@@ -94,16 +93,16 @@ pub fn start<S: Source, T: DerivesStreams>(
     ) {
         Err(_) => Err(TinkError::new(Kind::ReadFault)),
         Ok(None) => Err(TinkError::new(Kind::NoMatchingKey)),
-        Ok(Some(Begun { opener, header })) => {
+        Ok(Some(Begun { opener, front })) => {
             let filled = kept.filled;
-            carry(&mut kept.buffer, header, filled);
+            carry(&mut kept.buffer, front, filled);
             opened.clear();
             let buffers = Buffers {
                 text: opened,
                 sealed: kept.buffer,
                 nonce,
             };
-            Ok(SegmentReader::made(opener, buffers, filled - header))
+            Ok(SegmentReader::made(opener, buffers, filled - front))
         }
     }
 }

@@ -6,6 +6,7 @@ use crate::stream_params::{DerivesStreams, StreamParams};
 use std::alloc::Global;
 use tink_core::{CloneIn, Kinds, Never};
 use tink_io::TinkError;
+use tink_sets::TypedEntry;
 
 /// A key of streams.
 #[derive(Drop)]
@@ -33,6 +34,32 @@ impl DerivesStreams for StreamKind {
             StreamKind::CtrHmac(key) => key.params(),
             StreamKind::GcmHkdf(key) => key.params(),
         }
+    }
+
+    fn output_prefix(&self) -> &[u8] {
+        match self {
+            StreamKind::CtrHmac(key) => key.output_prefix(),
+            StreamKind::GcmHkdf(key) => key.output_prefix(),
+        }
+    }
+}
+
+/// A key of a set, with its output prefix before the header of its streams.
+impl DerivesStreams for TypedEntry<StreamKind> {
+    ghost use Rattle.tink_stream_keys.specs.StreamKinds as kinds;
+
+    ghost key_of = { kinds.key_in_set };
+
+    fn main_key(&self) -> &[u8] {
+        self.primitive.main_key()
+    }
+
+    fn params(&self) -> &StreamParams {
+        self.primitive.params()
+    }
+
+    fn output_prefix(&self) -> &[u8] {
+        self.prefix.as_slice()
     }
 }
 

@@ -1,7 +1,7 @@
 //! What a key of streams has besides its main key.
 
 ghost use Rattle.std.specs.Prelude.{◌≡◌, ◌⊎◌, ◌≤◌, ◌<◌, ◌+◌, [], Ok, length, nat_le};
-ghost use Rattle.stream_model.specs.Key.{IsTag, IsUsable, StreamKey, derived_bytes_of, first_segment, header_length, nonce_size, nonce_size_of, overhead, overhead_of};
+ghost use Rattle.stream_model.specs.Key.{IsTag, IsUsable, StreamKey, derived_bytes_of, first_segment, fronted, header_length, nonce_size, nonce_size_of, overhead, overhead_of};
 ghost use Rattle.tink_core.specs.Subtle.{hash_named};
 ghost use Rattle.tink_io.specs.Told.{Tells};
 ghost use Rattle.tink_stream_keys.specs.StreamingKeys.{Derives, IsDerived, cipher_of, deriving_hash, empty_key, is_key_size, kind_of, with_main};
@@ -202,14 +202,18 @@ pub trait DerivesStreams {
 
     /// The hashes and sizes.
     fn params(&self) -> &StreamParams
-        ensures value { key_of self.now ≡ with_main (key_of self.now).main result.now }
+        ensures value { key_of self.now
+            ≡ fronted (key_of self.now).out (with_main (key_of self.now).main result.now) }
         ensures usable { IsUsable (key_of self.now) };
+
+    /// The output prefix, which stands before the header of a stream.
+    fn output_prefix(&self) -> &[u8]
+        ensures { result.now ≡ (key_of self.now).out };
 
     /// The bytes of a stream's header: a byte, a salt and a prefix of seven.
     final fn header_length(&self) -> usize
         ensures value { result ≡ header_length (key_of self.now) }
         ensures usable { IsUsable (key_of self.now) }
-        ensures bare { (key_of self.now).out ≡ [] }
     {
         self.params().derived + 8
     }
@@ -278,5 +282,9 @@ impl<T: DerivesStreams> DerivesStreams for &T {
 
     fn params(&self) -> &StreamParams {
         T::params(*self)
+    }
+
+    fn output_prefix(&self) -> &[u8] {
+        T::output_prefix(*self)
     }
 }

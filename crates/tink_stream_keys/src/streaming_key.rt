@@ -118,6 +118,10 @@ impl<C> DerivesStreams for StreamingKey<C> {
     fn params(&self) -> &StreamParams {
         &self.params
     }
+
+    fn output_prefix(&self) -> &[u8] {
+        &self.main_key[..0]
+    }
 }
 
 impl<C> CloneIn for StreamingKey<C> {

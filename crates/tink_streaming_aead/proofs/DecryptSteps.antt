@@ -10,7 +10,7 @@ use Rattle.tink_io.specs.declared.error.Kind.TheVariants.{BadSegment, FailedBefo
 use Rattle.stream_model.specs.Cut.{cut}
 use Rattle.stream_model.specs.Agree.{Agree}
 use Rattle.stream_model.specs.Key.{StreamKey}
-use Rattle.stream_model.specs.Opening.{AgreeBy, FirstAgrees, IsChosen, OpeningKey, chunks_of, opening_key}
+use Rattle.stream_model.specs.Opening.{AgreeBy, FirstAgrees, IsChosen, OpeningKey, chunks_of, header_of, opening_key}
 use Rattle.tink_segment_traits.specs.declared.segment_traits.SegmentDecrypter.{Ghosts}
 use Rattle.tink_streams.specs.Choosing.{Started, StartRefused}
 use Rattle.tink_streams.specs.Openers.{reader_rest}
@@ -53,8 +53,8 @@ never_nothing : (ks : List OpeningKey) (all rest : Option (List ℕ)) (seg : ℕ
 never_nothing ks None rest seg first size overhead s n = tt
 never_nothing ks (Some X) rest seg first size overhead s n =
     let k = s.found.key in
-    let agree : Agree seg 0 (cut first size (drop s.header X)) [] = subst (λ (r : Option (List ℕ)). IfSome r (λ Y. Agree seg 0 (cut first size Y) [])) s.rest n in
-    absurd (not_both (k.seg (take k.header X)) (chunks_of k X) (chosen_begins ks X k s.found.chosen).first (stream_agreed ks X seg s.header first size overhead [] s.found agree))
+    let agree : Agree seg 0 (cut first size (drop s.front X)) [] = subst (λ (r : Option (List ℕ)). IfSome r (λ Y. Agree seg 0 (cut first size Y) [])) s.rest n in
+    absurd (not_both (k.seg (header_of k X)) (chunks_of k X) (chosen_begins ks X k s.found.chosen).first (stream_agreed ks X seg s.front first size overhead [] s.found agree))
 
 -- a first read to a buffer with room
 pub first_read : {S : Type 0} (left : S → Option (List ℕ)) (faults : S → ℕ) (keys : List StreamKey) (aad : List ℕ) (room : ℕ) (source : S) (new : DecryptState S) (before after : List ℕ) (r : Result ℕ TinkError) → 0 < length before

@@ -6,29 +6,29 @@ use Rattle.std.proofs.lemmas.List.Recursion.{max_push}
 use Rattle.stream_model.specs.Key.{IsUsable, StreamKey}
 use Rattle.tink_streaming_aead.specs.DecryptReaders.{largest}
 
--- of these keys this is the largest segment, and each is usable
+-- this is a byte more than the most that one of these keys has, and each is usable
 pub record IsMost (keys : List StreamKey) (n : ℕ) : Type 0 where
-  pub value : n ≡ largest keys
+  pub value : n ≡ largest keys + 1
   pub usable : All IsUsable keys
 
-pub none_most : IsMost [] 0
+pub none_most : IsMost [] 1
 none_most = record { value = refl; usable = All-nil IsUsable }
 
 -- one key more
-one_most : (keys : List StreamKey) (k : StreamKey) (n : ℕ) → IsMost keys n → IsUsable k → IsMost (keys ++ k ∷ []) (max n k.segment)
+one_most : (keys : List StreamKey) (k : StreamKey) (n : ℕ) → IsMost keys n → IsUsable k → IsMost (keys ++ k ∷ []) (max n (length k.out + k.segment + 1))
 one_most keys k n m u = record {
-  value = ap (λ x. max x k.segment) m.value ∙ sym (max_push largest (λ (j : StreamKey). j.segment) refl (λ j js. refl) keys k);
+  value = let most : largest (keys ++ k ∷ []) ≡ max (largest keys) (length k.out + k.segment) = max_push largest (λ (j : StreamKey). length j.out + j.segment) refl (λ j js. refl) keys k in omega (arith, m.value, most);
   usable = All-append IsUsable keys (k ∷ []) m.usable (All-cons IsUsable k [] u (All-nil IsUsable));
 }
 
 -- one turn of the loop
-pub next_most : {X : Type 0} (f : X → StreamKey) (xs : List X) (i : ℕ) (x : X) (n m : ℕ) → i < length xs → x ≡ get_or xs i x → IsMost (map f (take i xs)) n → IsUsable (f x) → m ≡ max n (f x).segment → IsMost (map f (take (i + 1) xs)) m
+pub next_most : {X : Type 0} (f : X → StreamKey) (xs : List X) (i : ℕ) (x : X) (n m : ℕ) → i < length xs → x ≡ get_or xs i x → IsMost (map f (take i xs)) n → IsUsable (f x) → m ≡ max n (length (f x).out + (f x).segment + 1) → IsMost (map f (take (i + 1) xs)) m
 next_most f xs i x n m h is most u e =
     let front = map f (take i xs) in
     let more : map f (take (i + 1) xs) ≡ front ++ f x ∷ [] = map_more f xs i x h ∙ ap (λ y. front ++ f y ∷ []) (sym is) in
     subst (λ ks. IsMost ks m) (sym more) (subst (IsMost (front ++ f x ∷ [])) (sym e) (one_most front (f x) n most u))
 
--- no segment is larger than the largest
-pub all_within : {X : Type 0} (f : X → StreamKey) (xs : List X) (n : ℕ) → largest (map f xs) ≤ n → All (λ x. (f x).segment ≤ n) xs
-all_within f [] n h = All-nil (λ x. (f x).segment ≤ n)
-all_within f (x ∷ xs) n h = All-cons (λ y. (f y).segment ≤ n) x xs (omega (arith, h)) (all_within f xs n (omega (arith, h)))
+-- no key has more
+pub all_within : {X : Type 0} (f : X → StreamKey) (xs : List X) (n : ℕ) → largest (map f xs) + 1 ≤ n → All (λ x. length (f x).out + (f x).segment < n) xs
+all_within f [] n h = All-nil (λ x. length (f x).out + (f x).segment < n)
+all_within f (x ∷ xs) n h = All-cons (λ y. length (f y).out + (f y).segment < n) x xs (omega (arith, h)) (all_within f xs n (omega (arith, h)))

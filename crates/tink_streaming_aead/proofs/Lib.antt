@@ -4,5 +4,6 @@ pub mod DecryptSteps
 pub mod SealedFacts
 pub mod WholeReadingFacts
 pub mod KeyMost
+pub mod FrontFacts
 pub mod WrappedFacts
 pub mod OneKeyFacts

@@ -1,19 +1,20 @@
 -- A keyset's reader is that of the chosen key.
-use Rattle.std.proofs.Common.{◌≡◌, ◌∙◌, inl, ◌<◌, ℕ, zero, suc, Bool, List, [], ◌∷◌, take, drop, map, Some, None, refl, sym, ap, subst, arith}
+use Rattle.std.proofs.Common.{◌≡◌, ◌∙◌, inl, ◌<◌, ℕ, zero, suc, Bool, List, [], ◌∷◌, ◌+◌, length, length-drop, take, drop, map, Some, None, refl, sym, ap, subst, arith}
 use Rattle.std.specs.Prelude.{Ok, Err, Result, IsOk, slice_index}
 use Rattle.std.specs.declared.option.Option.{Option}
-use Rattle.std.proofs.lemmas.List.{take-append-drop, length-take-le}
+use Rattle.std.proofs.lemmas.List.{drop-drop, take-append-drop, length-take-le}
 use Rattle.tink_io.specs.Faults.{Rose}
 use Rattle.tink_io.specs.declared.error.Kind.{Kind}
 use Rattle.tink_io.specs.declared.error.Kind.TheVariants.{NoMatchingKey, ReadFault}
 use Rattle.tink_io.specs.declared.error.TinkError.{TinkError}
 use Rattle.stream_model.specs.Key.{StreamKey, header_length, overhead}
-use Rattle.stream_model.specs.Opening.{IsChosen, OpeningKey, opening_key}
+use Rattle.stream_model.specs.Opening.{IsChosen, OpeningKey, front_length, header_of, opening_key}
 use Rattle.stream_model.proofs.OpeningFacts.{IsChosen-begins, IsChosen-unique}
 use Rattle.tink_streams.specs.Choosing.{Started}
 use Rattle.tink_streams.specs.TextReading.{TextMoment}
 use Rattle.tink_streams.specs.declared.progress.Progress.TheVariants.{Running}
 use Rattle.tink_stream_keys.specs.Decrypting.{IsNewReader}
+use Rattle.tink_streaming_aead.proofs.FrontFacts.{front_mark}
 use Rattle.tink_streaming_aead.specs.DecryptReaders.{DecryptState, FirstReadMeans, FirstReadRefused, GivesFirst, source_in}
 use Rattle.tink_streaming_aead.specs.DecryptReaders.DecryptState.{Chosen, Stopped, Unread}
 use Rattle.tink_streaming_aead.specs.OneKey.{FirstReadIsOk, ReadsAsAlone, ReadsAsReader}
@@ -31,7 +32,7 @@ module _ (ks js : List OpeningKey) (X : List ℕ) (k : OpeningKey) (p : IsChosen
   started_by : (rest : Option (List ℕ)) (seg : ℕ → Bool → List ℕ → List ℕ) (a b over : ℕ)
       → Started ks X rest seg a b over → Started js X rest seg a b over
   started_by rest seg a b over s = record {
-    header = s.header;
+    front = s.front;
     found = record {
       key = s.found.key;
       chosen = same_choice ks js X k (Some s.found.key) p q s.found.chosen;
@@ -108,7 +109,7 @@ first_stays (suc n) (x ∷ X) h = refl
 reader_of : (keys : List OpeningKey) (key : StreamKey) (aad X : List ℕ) (rest : Option (List ℕ)) (faults : ℕ)
     (seg : ℕ → Bool → List ℕ → List ℕ) (a b overhead : ℕ) → IsChosen keys X (Some (opening_key aad key))
     → Started keys X rest seg a b overhead
-    → IsNewReader key aad (Some X) seg a b overhead []
+    → IsNewReader key aad (Some (drop (length key.out) X)) seg a b overhead []
     (record { progress = Running; number = 0; pending = []; rest = rest; faults = faults })
 reader_of keys key aad X rest faults seg a b overhead chosen s =
     let k = opening_key aad key in
@@ -117,17 +118,18 @@ reader_of keys key aad X rest faults seg a b overhead chosen s =
     let same : s.found.key ≡ k = cc in
     let begins = IsChosen-begins keys X k chosen in
     let opener = s.found.opener in
-    let header = take (header_length key) X in
-    let at : s.header ≡ header_length key = opener.header_is ∙ ap (λ (j : OpeningKey). j.header) same in
-    let told : rest ≡ Some (drop (header_length key) X) = s.rest ∙ ap (λ n. Some (drop n X)) at in
+    let behind : List ℕ = drop (length key.out) X in
+    let at : s.front ≡ length key.out + header_length key = opener.front_is ∙ ap front_length same in
+    let told : rest ≡ Some (drop (header_length key) behind) =
+    s.rest ∙ ap (λ n. Some (drop n X)) at ∙ ap Some (sym (drop-drop (header_length key) (length key.out) X)) in
     record {
-      header = header;
+      header = take (header_length key) behind;
       reads = record {
-        long = length-take-le (header_length key) X begins.header.long;
-        mark = first_stays (header_length key) X (omega arith) ∙ begins.header.mark;
-        read = rw told (sym (take-append-drop (header_length key) X));
+        long = length-take-le (header_length key) behind (omega (arith, begins.front.long, length-drop (length key.out) X));
+        mark = first_stays (header_length key) behind (omega arith) ∙ front_mark k X begins.front;
+        read = rw told (sym (take-append-drop (header_length key) behind));
       };
-      segments = ap (λ (j : OpeningKey). j.seg (take j.header X)) (sym same) ∙ opener.map;
+      segments = ap (λ (j : OpeningKey). j.seg (header_of j X)) (sym same) ∙ opener.map;
       first_is = opener.first_is ∙ ap (λ (j : OpeningKey). j.first) same;
       size_is = opener.size_is ∙ ap (λ (j : OpeningKey). j.size) same;
       overhead_is = opener.overhead_is ∙ ap (λ (j : OpeningKey). j.overhead) same;

@@ -1,16 +1,18 @@
 -- A sealed stream is a stream, and has one text.
-use Rattle.std.proofs.Common.{◌≡◌, ◌⊎◌, inl, inr, ◌<◌, ◌≤◌, ◌+◌, ◌-◌, ◌^◌, ℕ, zero, suc, Bool, List, [], ◌∷◌, ◌++◌, length, take, drop, refl, sym, ap, subst, ◌∙◌, arith, Some, None, length-append, length-drop, length-take-le, add-one}
+use Rattle.std.proofs.Common.{◌≡◌, ◌⊎◌, inl, inr, ◌<◌, ◌≤◌, ◌+◌, ◌-◌, ◌^◌, ℕ, zero, suc, Bool, List, [], ◌∷◌, ◌++◌, length, take, drop, refl, sym, ap, subst, ◌∙◌, arith, Some, None, length-append, length-drop, length-take-le, add-one, nat_eq, true}
 use Rattle.std.specs.declared.option.Option.{Option}
-use Rattle.std.proofs.lemmas.List.{append-nil, take-append-drop}
+use Rattle.std.proofs.lemmas.Bool.Decides.{nat_tests}
+use Rattle.std.proofs.lemmas.List.{append-nil, append_assoc, take-append-drop}
 use Rattle.std.proofs.Math.Seq.{take-append_seam, drop-append_seam}
 use Rattle.stream_model.specs.Agree.{AreTexts, Agree, joined}
 use Rattle.stream_model.specs.Cut.{chunks, cut, or_one, sealed, segments}
-use Rattle.stream_model.specs.Key.{IsUsable, StreamKey, first_room, front, header_length, keys_of, room, segment_at}
-use Rattle.stream_model.specs.Opening.{AreSegments, AreSegmentsBy, Begins, FirstAgrees, IsChosen, IsStream, OpeningKey, opening_key, under}
+use Rattle.stream_model.specs.Key.{IsUsable, StreamKey, first_room, fronted, header_length, keys_of, room, segment_at}
+use Rattle.stream_model.specs.Opening.{AreSegments, AreSegmentsBy, Begins, FirstAgrees, IsChosen, IsStream, OpeningKey, behind_front, header_of, opening_key, under}
 use Rattle.stream_model.specs.Sealing.{chunk_count, stream}
 use Rattle.stream_model.proofs.CutFacts.{cut_fits, cut_more, cut_none, cut_some}
 use Rattle.stream_model.proofs.KeyFacts.{CanOpen, IsLawful, opening_key_lawful}
 use Rattle.stream_model.proofs.OpeningFacts.{Agree-unique, IsChosen-unique, all_agree, leads_on}
+use Rattle.tink_streaming_aead.proofs.FrontFacts.{fronted_stream, no_prefix}
 use Rattle.tink_streaming_aead.proofs.StreamLaws.{stream_is}
 use Rattle.tink_streaming_aead.specs.WholeReading.{IsTextOfChosen, IsTextOfStream}
 
@@ -102,15 +104,17 @@ map_under k aad salt prefix keys s e =
     ∙ ap (λ o. under o (λ ks. segment_at k ks (drop (k.derived + 1) (header_length k ∷ salt ++ prefix)))) e
     ∙ ap (λ p. Some (segment_at k keys p)) (prefix_dropped k salt prefix s)
 
--- a stream with nothing before it
-stream_parts : (k : StreamKey) (aad salt prefix keys text : List ℕ) → k.out ≡ [] → keys_of k aad salt ≡ Some keys
-    → stream k aad salt prefix text ≡ behind_header k salt prefix (sealed (segment_at k keys prefix) (first_room k) (room k) text)
-stream_parts k aad salt prefix keys text out e =
-    let bare : front k salt prefix ≡ header_length k ∷ salt ++ prefix = ap (λ o. o ++ (header_length k ∷ salt ++ prefix)) out in
-    sym (stream_is k aad salt prefix keys text e) ∙ ap (λ f. f ++ sealed (segment_at k keys prefix) (first_room k) (room k) text) bare
+-- the stream of a text, behind what stands before its header
+stream_parts : (k : StreamKey) (aad salt prefix keys text : List ℕ) → keys_of k aad salt ≡ Some keys
+    → stream k aad salt prefix text ≡ k.out ++ behind_header k salt prefix (sealed (segment_at k keys prefix) (first_room k) (room k) text)
+stream_parts k aad salt prefix keys text e =
+    sym (stream_is k aad salt prefix keys text e) ∙ append_assoc k.out (header_length k ∷ salt ++ prefix) (sealed (segment_at k keys prefix) (first_room k) (room k) text)
+
+same_number : (n : ℕ) → nat_eq n n ≡ true
+same_number n = grind (arith, nat_tests)
 
 parts_are_stream : (k : StreamKey) (aad salt prefix keys text : List ℕ) → IsUsable k → length salt ≡ k.derived → length prefix ≡ 7 → keys_of k aad salt ≡ Some keys → chunk_count k text ≤ 2 ^ 32
-    → IsStream (opening_key aad k) (behind_header k salt prefix (sealed (segment_at k keys prefix) (first_room k) (room k) text)) (chunks (first_room k) (room k) text)
+    → IsStream (opening_key aad (fronted [] k)) (behind_header k salt prefix (sealed (segment_at k keys prefix) (first_room k) (room k) text)) (chunks (first_room k) (room k) text)
 parts_are_stream k aad salt prefix keys text u s p e few =
     let Z : List ℕ = sealed (segment_at k keys prefix) (first_room k) (room k) text in
     let X : List ℕ = behind_header k salt prefix Z in
@@ -118,17 +122,19 @@ parts_are_stream k aad salt prefix keys text u s p e few =
     let behind : drop (header_length k) X ≡ Z = header_drops k salt prefix Z s p in
     let are = sealed_segments (segment_at k keys prefix) (first_room k) (room k) text (omega (arith, u.room)) (omega (arith, u.room)) few in
     record {
-      header = record { long = omega (arith, length-append (header_length k ∷ salt ++ prefix) Z, length-append salt prefix); mark = refl };
+      front = record { long = omega (arith, length-append (header_length k ∷ salt ++ prefix) Z, length-append salt prefix); mark = same_number (header_length k) };
       segments =
-          subst (λ (o : Option (ℕ → Bool → List ℕ → List ℕ)). AreSegmentsBy o (first_room k) (room k) (drop (header_length k) X) (chunks (first_room k) (room k) text)) (sym map)
-          (subst (λ Y. AreSegments (segment_at k keys prefix) 0 (first_room k) (room k) Y (chunks (first_room k) (room k) text)) (sym behind) are);
+          subst (λ n. AreSegmentsBy ((opening_key aad k).seg (take (header_length k) X)) (first_room k) (room k) (drop n X) (chunks (first_room k) (room k) text)) (no_prefix (header_length k))
+          (subst (λ (o : Option (ℕ → Bool → List ℕ → List ℕ)). AreSegmentsBy o (first_room k) (room k) (drop (header_length k) X) (chunks (first_room k) (room k) text)) (sym map)
+          (subst (λ Y. AreSegments (segment_at k keys prefix) 0 (first_room k) (room k) Y (chunks (first_room k) (room k) text)) (sym behind) are));
     }
 
 -- the sealed stream of a text is a stream of the key
-pub sealed_stream : (k : StreamKey) (aad salt prefix keys text : List ℕ) → IsUsable k → k.out ≡ [] → length salt ≡ k.derived → length prefix ≡ 7 → keys_of k aad salt ≡ Some keys → chunk_count k text ≤ 2 ^ 32
+pub sealed_stream : (k : StreamKey) (aad salt prefix keys text : List ℕ) → IsUsable k → length salt ≡ k.derived → length prefix ≡ 7 → keys_of k aad salt ≡ Some keys → chunk_count k text ≤ 2 ^ 32
     → IsStream (opening_key aad k) (stream k aad salt prefix text) (chunks (first_room k) (room k) text)
-sealed_stream k aad salt prefix keys text u out s p e few =
-    subst (λ X. IsStream (opening_key aad k) X (chunks (first_room k) (room k) text)) (sym (stream_parts k aad salt prefix keys text out e)) (parts_are_stream k aad salt prefix keys text u s p e few)
+sealed_stream k aad salt prefix keys text u s p e few =
+    subst (λ X. IsStream (opening_key aad k) X (chunks (first_room k) (room k) text)) (sym (stream_parts k aad salt prefix keys text e))
+    (fronted_stream k aad _ _ (parts_are_stream k aad salt prefix keys text u s p e few))
 
 -- all chunks are agreed on
 all_agreed : (seg : ℕ → Bool → List ℕ → List ℕ) (o a b : ℕ) (ts : List (List ℕ)) (X : List ℕ) → IsLawful o seg → 0 < a → 0 < b → 0 < o → AreSegments seg 0 a b X ts → Agree seg 0 (cut (a + o) (b + o) X) ts
@@ -146,13 +152,13 @@ one_by (Some seg) over a b X ts us lawful p q s h g =
 -- a stream has one list of texts
 pub one_list : (k : OpeningKey) (S : List ℕ) (ts us : List (List ℕ)) → CanOpen k → IsStream k S ts → IsStream k S us → us ≡ ts
 one_list k S ts us can h g =
-    one_by (k.seg (take k.header S)) k.overhead (k.first - k.overhead) (k.size - k.overhead) (drop k.header S) ts us (can.lawful (take k.header S)) (omega (arith, can.room)) (omega (arith, can.room, can.fits)) can.some h.segments g.segments
+    one_by (k.seg (header_of k S)) k.overhead (k.first - k.overhead) (k.size - k.overhead) (behind_front k S) ts us (can.lawful (header_of k S)) (omega (arith, can.room)) (omega (arith, can.room, can.fits)) can.some h.segments g.segments
 
 -- what was read of a sealed stream is its text
-pub read_sealed : (k : StreamKey) (aad salt prefix keys text given : List ℕ) → IsUsable k → k.out ≡ [] → length salt ≡ k.derived → length prefix ≡ 7 → keys_of k aad salt ≡ Some keys → chunk_count k text ≤ 2 ^ 32
+pub read_sealed : (k : StreamKey) (aad salt prefix keys text given : List ℕ) → IsUsable k → length salt ≡ k.derived → length prefix ≡ 7 → keys_of k aad salt ≡ Some keys → chunk_count k text ≤ 2 ^ 32
     → IsTextOfStream (opening_key aad k) (Some (stream k aad salt prefix text)) given → given ≡ text
-read_sealed k aad salt prefix keys text given u out s p e few r =
-    let same = one_list (opening_key aad k) (stream k aad salt prefix text) (chunks (first_room k) (room k) text) r.texts (opening_key_lawful aad k u) (sealed_stream k aad salt prefix keys text u out s p e few) r.stream in
+read_sealed k aad salt prefix keys text given u s p e few r =
+    let same = one_list (opening_key aad k) (stream k aad salt prefix text) (chunks (first_room k) (room k) text) r.texts (opening_key_lawful aad k u) (sealed_stream k aad salt prefix keys text u s p e few) r.stream in
     r.given_is ∙ ap joined same ∙ joined_chunks (first_room k) (room k) text (omega (arith, u.room)) (omega (arith, u.room))
 
 first_by : (o : Option (ℕ → Bool → List ℕ → List ℕ)) (over a b : ℕ) (X : List ℕ) (ts : List (List ℕ)) → ((seg : ℕ → Bool → List ℕ → List ℕ) → o ≡ Some seg → IsLawful over seg) → 0 < a → 0 < b → 0 < over
@@ -170,11 +176,11 @@ pub stream_begins : (k : OpeningKey) (S : List ℕ) (ts : List (List ℕ)) → C
 stream_begins k S ts can h =
     let first : (k.first - k.overhead) + k.overhead ≡ k.first = omega (arith, can.room) in
     let size : (k.size - k.overhead) + k.overhead ≡ k.size = omega (arith, can.room, can.fits) in
-    let agrees = first_by (k.seg (take k.header S)) k.overhead (k.first - k.overhead) (k.size - k.overhead) (drop k.header S) ts (can.lawful (take k.header S)) (omega (arith, can.room)) (omega (arith, can.room, can.fits)) can.some h.segments in
+    let agrees = first_by (k.seg (header_of k S)) k.overhead (k.first - k.overhead) (k.size - k.overhead) (behind_front k S) ts (can.lawful (header_of k S)) (omega (arith, can.room)) (omega (arith, can.room, can.fits)) can.some h.segments in
     record {
-      header = h.header;
-      first = subst (λ n. FirstAgrees (k.seg (take k.header S)) (cut n k.size (drop k.header S))) first
-          (subst (λ n. FirstAgrees (k.seg (take k.header S)) (cut ((k.first - k.overhead) + k.overhead) n (drop k.header S))) size agrees);
+      front = h.front;
+      first = subst (λ n. FirstAgrees (k.seg (header_of k S)) (cut n k.size (behind_front k S))) first
+          (subst (λ n. FirstAgrees (k.seg (header_of k S)) (cut ((k.first - k.overhead) + k.overhead) n (behind_front k S))) size agrees);
     }
 
 -- the first key that begins is chosen
@@ -194,14 +200,14 @@ pub joined_text : (k : StreamKey) (text : List ℕ) → IsUsable k → joined (c
 joined_text k text u = joined_chunks (first_room k) (room k) text (omega (arith, u.room)) (omega (arith, u.room))
 
 -- the chosen key is this one, and its texts are those that were sealed
-pub read_chosen : (k : StreamKey) (aad salt prefix keys text given : List ℕ) (earlier others : List OpeningKey) → IsUsable k → k.out ≡ [] → length salt ≡ k.derived → length prefix ≡ 7
+pub read_chosen : (k : StreamKey) (aad salt prefix keys text given : List ℕ) (earlier others : List OpeningKey) → IsUsable k → length salt ≡ k.derived → length prefix ≡ 7
     → keys_of k aad salt ≡ Some keys → chunk_count k text ≤ 2 ^ 32 → IsChosen earlier (stream k aad salt prefix text) None
     → IsTextOfChosen (earlier ++ opening_key aad k ∷ others) (Some (stream k aad salt prefix text)) given → given ≡ text
-read_chosen k aad salt prefix keys text given earlier others u out s p e few none r =
+read_chosen k aad salt prefix keys text given earlier others u s p e few none r =
     let S : List ℕ = stream k aad salt prefix text in
-    let own = sealed_stream k aad salt prefix keys text u out s p e few in
+    let own = sealed_stream k aad salt prefix keys text u s p e few in
     let chosen = chosen_stream k aad S (chunks (first_room k) (room k) text) earlier others u own none in
     let both : Some r.stream.0 ≡ Some (opening_key aad k) = IsChosen-unique (earlier ++ opening_key aad k ∷ others) S (Some r.stream.0) (Some (opening_key aad k)) r.stream.1 chosen in
     let same : r.stream.0 ≡ opening_key aad k = cc in
     let stream_of : IsStream (opening_key aad k) S r.texts = subst (λ (j : OpeningKey). IsStream j S r.texts) same r.stream.2 in
-    read_sealed k aad salt prefix keys text given u out s p e few (record { texts = r.texts; stream = stream_of; given_is = r.given_is })
+    read_sealed k aad salt prefix keys text given u s p e few (record { texts = r.texts; stream = stream_of; given_is = r.given_is })

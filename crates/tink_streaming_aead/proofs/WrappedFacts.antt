@@ -1,20 +1,127 @@
 -- What a set of entries has, by its entries.
-use Rattle.std.proofs.Common.{◌≡◌, ℕ, List, [], ap, ◌∙◌}
-use Rattle.std.specs.Prelude.{Vec, Option}
-use Rattle.std.specs.BTreeMap.{BTreeMap}
+use Rattle.std.proofs.Common.{◌≡◌, ◌∙◌, ◌++◌, ℕ, List, [], ◌∷◌, Bool, true, false, cond, map, filter, All, Some, None, refl, sym, ap, subst, bytes_eq, ⊎_elim, unwrap_or, Option}
+use Rattle.std.specs.Prelude.{Vec}
+use Rattle.std.specs.declared.cmp.Ordering.{Ordering}
+use Rattle.std.specs.declared.cmp.Ordering.TheVariants.{Less}
+use Rattle.std.specs.BTreeMap.{BTreeMap, IsOrdered, is_at}
+use Rattle.std.specs.Cmp.Lexicographic.{slice_cmp, bytes_decides, nat_list_eq_equiv}
+use Rattle.std.specs.List.Sorted.{IsStrictlySortedBy}
+use Rattle.std.specs.Map.{keys_of, lookup, values_of}
+use Rattle.std.specs.Ordering.{is_eq, nat_cmp}
+use Rattle.std.proofs.lemmas.Bool.{cases_Bool, cond-true, cond-false, false≢true}
+use Rattle.std.proofs.lemmas.List.{append-nil}
+use Rattle.std.proofs.lemmas.List.Elements.{All-head, All-tail, All-weaker, filter-append, filter_passes}
+use Rattle.std.proofs.lemmas.Map.Keys.{sorted_tail}
+use Rattle.std.proofs.lemmas.Map.Views.{All-after_first}
+use Rattle.std.proofs.lemmas.Map.Text.{is_eq-slice_cmp}
 use Rattle.stream_model.specs.Key.{StreamKey}
+use Rattle.stream_model.specs.Order.{with_prefix}
 use Rattle.tink_keysets.specs.Built.{HasEntries}
 use Rattle.tink_sets.specs.Entries.{entry_of_id, typed_prefix_of}
-use Rattle.tink_sets.specs.Groups.{group_of}
+use Rattle.tink_sets.specs.Groups.{AreGroupsOf, group_at, group_of}
 use Rattle.tink_sets.specs.declared.entry.TypedEntry.{TypedEntry}
+use Rattle.tink_stream_keys.specs.StreamKinds.{key_in_set}
 use Rattle.tink_stream_keys.specs.declared.stream_kind.StreamKind.{StreamKind}
-use Rattle.tink_streaming_aead.specs.Wrapped.{Wrapped, key_in, keys_in, keys_of_entries, set_keys}
+use Rattle.tink_streaming_aead.specs.Wrapped.{AreKeysOf, KeepsOrder, all_entries, joined_lists, key_in, keys_in, set_keys}
 
-abbrev wrapped : Option StreamKey → List StreamKey → Wrapped
-wrapped primary raw = record { primary = primary; raw = raw }
+abbrev One : Type 0
+One = TypedEntry StreamKind
 
--- the keys of a set of entries are those of the entries
-pub keys_kept : {A : Type 0} (id : ℕ) (entries : List (TypedEntry StreamKind)) (primary : Option (TypedEntry StreamKind)) (groups : BTreeMap (Vec ℕ A) (List (TypedEntry StreamKind)))
-    → HasEntries typed_prefix_of (λ e. e.key_id) id entries primary groups → set_keys primary groups ≡ keys_of_entries id entries
-keys_kept id entries primary groups h =
-    ap (λ p. wrapped (key_in p) (keys_in (group_of groups []))) h.by_id ∙ ap (λ es. wrapped (key_in (entry_of_id id entries)) (keys_in es)) (h.by_prefix [])
+-- whether an entry has the prefix
+abbrev has : List ℕ → One → Bool
+has prefix e = bytes_eq e.prefix prefix
+
+-- the keys of a prefix are those of its entries
+filtered_keys : (prefix : List ℕ) (es : List One) → with_prefix prefix (keys_in es) ≡ keys_in (filter (has prefix) es)
+filtered_keys prefix [] = refl
+filtered_keys prefix (e ∷ es) = by (has prefix e) (filtered_keys prefix es)
+  where
+    by : (b : Bool) → with_prefix prefix (keys_in es) ≡ keys_in (filter (has prefix) es)
+        → cond b (key_in_set e ∷ with_prefix prefix (keys_in es)) (with_prefix prefix (keys_in es)) ≡ keys_in (cond b (e ∷ filter (has prefix) es) (filter (has prefix) es))
+    by true later = ap (λ ks. key_in_set e ∷ ks) later
+    by false later = later
+
+-- a list whose elements pass is kept whole
+kept_whole : (test : One → Bool) (es : List One) → All (λ e. test e ≡ true) es → filter test es ≡ es
+kept_whole test [] all = refl
+kept_whole test (e ∷ es) all =
+    cond-true (test e) (e ∷ filter test es) (filter test es) (All-head (λ x. test x ≡ true) e es all)
+    ∙ ap (λ xs. e ∷ xs) (kept_whole test es (All-tail (λ x. test x ≡ true) e es all))
+
+-- and one of which none passes is dropped
+dropped_whole : (test : One → Bool) (es : List One) → All (λ e. test e ≡ false) es → filter test es ≡ []
+dropped_whole test [] all = refl
+dropped_whole test (e ∷ es) all =
+    cond-false (test e) (e ∷ filter test es) (filter test es) (All-head (λ x. test x ≡ false) e es all)
+    ∙ dropped_whole test es (All-tail (λ x. test x ≡ false) e es all)
+
+module _ {A : Type 0} where
+  abbrev cmp : Vec ℕ A → Vec ℕ A → Ordering
+  cmp a b = slice_cmp nat_cmp a.items b.items
+
+  abbrev left_at : List (Vec ℕ A × List One) → List ℕ → Option (List One)
+  left_at es prefix = lookup (is_at (λ k. slice_cmp nat_cmp prefix k.items)) es
+
+  -- each entry of a list has its prefix
+  abbrev IsPure : Vec ℕ A × List One → Type 0
+  IsPure e = All (λ x. x.prefix ≡ e.0.items) e.1
+
+  abbrev IsBelow : Vec ℕ A → Vec ℕ A → Type 0
+  IsBelow k q = cmp k q ≡ Less
+
+  -- a key that stands before others is none of them
+  not_later : (k : Vec ℕ A) (prefix : List ℕ) (es : List (Vec ℕ A × List One)) → bytes_eq k.items prefix ≡ true → All (IsBelow k) (keys_of es) → left_at es prefix ≡ None
+  not_later k prefix [] same all = refl
+  not_later k prefix (e ∷ es) same all =
+      let here : is_eq (slice_cmp nat_cmp k.items e.0.items) ≡ false = ap is_eq (All-head (IsBelow k) e.0 (keys_of es) all) in
+      let there : is_eq (slice_cmp nat_cmp prefix e.0.items) ≡ false = subst (λ l. is_eq (slice_cmp nat_cmp l e.0.items) ≡ false) ((bytes_decides k.items prefix).0 same) here in
+      cond-false (is_eq (slice_cmp nat_cmp prefix e.0.items)) (Some e.1) (left_at es prefix) there
+      ∙ not_later k prefix es same (All-tail (IsBelow k) e.0 (keys_of es) all)
+
+  tested : (prefix : List ℕ) (k : Vec ℕ A) (b : Bool) → bytes_eq k.items prefix ≡ b → is_eq (slice_cmp nat_cmp prefix k.items) ≡ b
+  tested prefix k b e = is_eq-slice_cmp prefix k.items ∙ nat_list_eq_equiv.symm prefix k.items ∙ e
+
+  -- of all entries those of a prefix are its list
+  joined_has : (es : List (Vec ℕ A × List One)) → IsStrictlySortedBy cmp (keys_of es) → All IsPure es → (prefix : List ℕ) → filter (has prefix) (joined_lists (values_of es)) ≡ unwrap_or (left_at es prefix) []
+  joined_has [] sorted pure prefix = refl
+  joined_has (e ∷ es) sorted pure prefix =
+      let rest : List One = joined_lists (values_of es) in
+      let later : filter (has prefix) rest ≡ unwrap_or (left_at es prefix) [] = joined_has es (sorted_tail cmp e.0 (keys_of es) sorted) (All-tail IsPure e es pure) prefix in
+      let own : All (λ x. x.prefix ≡ e.0.items) e.1 = All-head IsPure e es pure in
+      let goal : List One = unwrap_or (cond (is_eq (slice_cmp nat_cmp prefix e.0.items)) (Some e.1) (left_at es prefix)) [] in
+      let split : filter (has prefix) (e.1 ++ rest) ≡ filter (has prefix) e.1 ++ filter (has prefix) rest = filter-append (has prefix) e.1 rest in
+      let here : (bytes_eq e.0.items prefix ≡ true) → filter (has prefix) e.1 ++ filter (has prefix) rest ≡ goal =
+      λ y.
+      let none : filter (has prefix) rest ≡ [] = later ∙ ap (λ o. unwrap_or o []) (not_later e.0 prefix es y (All-after_first cmp e.0 (keys_of es) sorted)) in
+      let mine : filter (has prefix) e.1 ≡ e.1 = kept_whole (has prefix) e.1 (All-weaker (λ x. x.prefix ≡ e.0.items) (λ x. has prefix x ≡ true) (λ x same. subst (λ l. bytes_eq l prefix ≡ true) (sym same) y) e.1 own) in
+      ap (λ xs. xs ++ filter (has prefix) rest) mine ∙ ap (λ xs. e.1 ++ xs) none ∙ append-nil e.1
+      ∙ sym (ap (λ o. unwrap_or o []) (cond-true (is_eq (slice_cmp nat_cmp prefix e.0.items)) (Some e.1) (left_at es prefix) (tested prefix e.0 true y)))
+      in
+      let there : (bytes_eq e.0.items prefix ≡ false) → filter (has prefix) e.1 ++ filter (has prefix) rest ≡ goal =
+      λ n.
+      let none : filter (has prefix) e.1 ≡ [] = dropped_whole (has prefix) e.1 (All-weaker (λ x. x.prefix ≡ e.0.items) (λ x. has prefix x ≡ false) (λ x same. subst (λ l. bytes_eq l prefix ≡ false) (sym same) n) e.1 own) in
+      ap (λ xs. xs ++ filter (has prefix) rest) none ∙ later
+      ∙ sym (ap (λ o. unwrap_or o []) (cond-false (is_eq (slice_cmp nat_cmp prefix e.0.items)) (Some e.1) (left_at es prefix) (tested prefix e.0 false n)))
+      in
+      split ∙ ⊎_elim here there (cases_Bool (bytes_eq e.0.items prefix))
+
+  abbrev IsFound : BTreeMap (Vec ℕ A) (List One) → Vec ℕ A × List One → Type 0
+  IsFound m e = group_at m e.0.items ≡ Some e.1
+
+  pure_of : (entries : List One) (m : BTreeMap (Vec ℕ A) (List One)) → AreGroupsOf typed_prefix_of entries m → (e : Vec ℕ A × List One) → IsFound m e → IsPure e
+  pure_of entries m groups e found =
+      let is : e.1 ≡ filter (has e.0.items) entries = sym (ap (λ o. unwrap_or o []) found) ∙ groups e.0.items in
+      subst (All (λ x. x.prefix ≡ e.0.items)) (sym is)
+      (All-weaker (λ x. has e.0.items x ≡ true) (λ x. x.prefix ≡ e.0.items) (λ x p. (bytes_decides x.prefix e.0.items).0 p) (filter (has e.0.items) entries) (filter_passes (has e.0.items) entries))
+
+  -- all entries of a set are those that it has, those of one prefix in their order
+  pub keeps_order : (m : BTreeMap (Vec ℕ A) (List One)) → IsOrdered cmp m → All (IsFound m) m.entries → KeepsOrder m
+  keeps_order m ordered found entries groups prefix =
+      filtered_keys prefix (all_entries m)
+      ∙ ap keys_in (joined_has m.entries ordered (All-weaker (IsFound m) IsPure (pure_of entries m groups) m.entries found) prefix ∙ groups prefix)
+      ∙ sym (filtered_keys prefix entries)
+
+  -- the keys of a set of entries are those of the entries
+  pub keys_kept : (id : ℕ) (entries : List One) (primary : Option One) (groups : BTreeMap (Vec ℕ A) (List One)) → KeepsOrder groups
+      → HasEntries typed_prefix_of (λ e. e.key_id) id entries primary groups → AreKeysOf id entries (set_keys primary groups)
+  keys_kept id entries primary groups order h = record { primary = ap key_in h.by_id; order = order entries h.by_prefix }

@@ -1,5 +1,5 @@
 -- A reader of a keyset's streams: what a contract sees of it, and what its reads say.
-use Rattle.std.specs.Prelude.{◌≡◌, ℕ, Bool, List, [], ◌∷◌, map, max, Result, Ok, Err, IfSome, None}
+use Rattle.std.specs.Prelude.{◌≡◌, ◌+◌, ℕ, Bool, List, [], ◌∷◌, length, map, max, Result, Ok, Err, IfSome, None}
 use Rattle.std.specs.declared.option.Option.{Option}
 use Rattle.tink_io.specs.Faults.{Rose}
 use Rattle.tink_io.specs.declared.error.Cause.{Cause}
@@ -46,10 +46,10 @@ room_of (Unread keys aad room source) = room
 room_of (Chosen r) = r.room
 room_of (Stopped c source) = 0
 
--- the bytes of the largest segment
+-- the most bytes of a key's output prefix and a segment
 abbrev pub largest : List StreamKey → ℕ
 largest [] = 0
-largest (k ∷ keys) = max k.segment (largest keys)
+largest (k ∷ keys) = max (length k.out + k.segment) (largest keys)
 
 abbrev pub IsUnread : {S : Type 0} → DecryptState S → Type 0
 IsUnread (Unread keys aad room source) = Unit {0}

@@ -1,5 +1,5 @@
 -- A keyset's reader is that of the chosen key.
-use Rattle.std.specs.Prelude.{◌≡◌, ◌↔◌, ℕ, Bool, List, [], ◌∷◌, map, Result, Ok, Some, IsOk}
+use Rattle.std.specs.Prelude.{◌≡◌, ◌↔◌, ℕ, Bool, List, [], ◌∷◌, length, drop, map, Result, Ok, Some, IsOk}
 use Rattle.std.specs.declared.option.Option.{Option}
 use Rattle.tink_io.specs.Faults.{Rose}
 use Rattle.tink_io.specs.declared.error.TinkError.{TinkError}
@@ -32,11 +32,12 @@ module _ {S : Type 0} (left : S → Option (List ℕ)) (faults : S → ℕ) wher
       → (Rose (faults source) (faults (source_in new)) → ⊥)
       → DecryptMeans left faults (Unread keys aad room source) new (b ∷ before) after r → IsOk r
 
--- a first read that is Ok is that of a new reader of the chosen key, which has read the key's header and no more
+-- a first read that is Ok is that of a new reader of the chosen key on what is behind the key's output prefix, which has
+-- read a header and no more
 abbrev pub ReadsAsReader : Type 0
 ReadsAsReader =
     (keys : List StreamKey) (key : StreamKey) (aad X : List ℕ) (seg : ℕ → Bool → List ℕ → List ℕ) (a b overhead : ℕ)
     (new : TextMoment) (before after : List ℕ) (n : ℕ) → Chooses keys aad X key
     → GivesFirst (map (opening_key aad) keys) (Some X) seg a b overhead new before after n
-    → (m : TextMoment) × IsNewReader key aad (Some X) seg a b overhead [] m
+    → (m : TextMoment) × IsNewReader key aad (Some (drop (length key.out) X)) seg a b overhead [] m
     × ReadMeans seg a b overhead m new before after (Ok n)

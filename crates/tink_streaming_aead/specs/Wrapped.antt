@@ -1,18 +1,18 @@
 -- The streaming AEADs of a keyset as one.
-use Rattle.std.specs.Prelude.{ℕ, List, [], Vec, filter, map, Option, Some, None}
-use Rattle.std.specs.BTreeMap.{BTreeMap}
-use Rattle.std.specs.Str.{bytes_eq}
+use Rattle.std.specs.Prelude.{◌≡◌, ◌++◌, ◌∷◌, ℕ, List, [], Vec, map, Option, Some, None}
+use Rattle.std.specs.BTreeMap.{BTreeMap, values}
 use Rattle.stream_model.specs.Key.{StreamKey}
+use Rattle.stream_model.specs.Order.{HaveSameOrder}
 use Rattle.tink_sets.specs.Entries.{entry_of_id, typed_prefix_of}
-use Rattle.tink_sets.specs.Groups.{group_of}
+use Rattle.tink_sets.specs.Groups.{AreGroupsOf}
 use Rattle.tink_sets.specs.declared.entry.TypedEntry.{TypedEntry}
-use Rattle.tink_stream_keys.specs.StreamKinds.{key_of}
+use Rattle.tink_stream_keys.specs.StreamKinds.{key_in_set}
 use Rattle.tink_stream_keys.specs.declared.stream_kind.StreamKind.{StreamKind}
 
--- the primary key, by which streams are made, and the keys without a prefix, in their order, by which they are opened
+-- the primary key, by which streams are made, and all keys, by which they are opened, those of one prefix in their order
 pub record Wrapped : Type 0 where
   pub primary : Option StreamKey
-  pub raw : List StreamKey
+  pub keys : List StreamKey
 
 -- there is a primary key, and this holds of it
 abbrev pub ByPrimary : Option StreamKey → (StreamKey → Type 0) → Type 0
@@ -22,16 +22,32 @@ ByPrimary (Some k) P = P k
 -- the key of an entry, where there is one
 abbrev pub key_in : Option (TypedEntry StreamKind) → Option StreamKey
 key_in None = None
-key_in (Some e) = Some (key_of e.primitive)
+key_in (Some e) = Some (key_in_set e)
 
 -- the keys of entries, in their order
 abbrev pub keys_in : List (TypedEntry StreamKind) → List StreamKey
-keys_in entries = map (λ e. key_of e.primitive) entries
+keys_in entries = map key_in_set entries
+
+-- lists joined in order
+abbrev pub joined_lists : {E : Type 0} → List (List E) → List E
+joined_lists [] = []
+joined_lists (xs ∷ lists) = xs ++ joined_lists lists
+
+-- all entries of a set, prefix by prefix
+abbrev pub all_entries : {G : Type 0} → BTreeMap (Vec ℕ G) (List (TypedEntry StreamKind)) → List (TypedEntry StreamKind)
+all_entries groups = joined_lists (values groups)
+
+-- whichever entries a set has, these are they, those of one prefix in their order
+abbrev pub KeepsOrder : {G : Type 0} → BTreeMap (Vec ℕ G) (List (TypedEntry StreamKind)) → Type 0
+KeepsOrder groups =
+    (entries : List (TypedEntry StreamKind)) → AreGroupsOf typed_prefix_of entries groups
+    → HaveSameOrder (keys_in (all_entries groups)) (keys_in entries)
 
 -- what a set of entries has
 abbrev pub set_keys : {G : Type 0} → Option (TypedEntry StreamKind) → BTreeMap (Vec ℕ G) (List (TypedEntry StreamKind)) → Wrapped
-set_keys primary groups = record { primary = key_in primary; raw = keys_in (group_of groups []) }
+set_keys primary groups = record { primary = key_in primary; keys = keys_in (all_entries groups) }
 
--- what a list of entries has: the primary one is the first of this id
-abbrev pub keys_of_entries : ℕ → List (TypedEntry StreamKind) → Wrapped
-keys_of_entries id entries = record { primary = key_in (entry_of_id id entries); raw = keys_in (filter (λ e. bytes_eq (typed_prefix_of e) []) entries) }
+-- a list of entries has these keys: the primary one is the first of this id, and those of each prefix are in their order
+pub record AreKeysOf (id : ℕ) (entries : List (TypedEntry StreamKind)) (w : Wrapped) : Type 0 where
+  pub primary : w.primary ≡ key_in (entry_of_id id entries)
+  pub order : HaveSameOrder w.keys (keys_in entries)

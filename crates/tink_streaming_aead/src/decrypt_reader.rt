@@ -1,11 +1,11 @@
 //! Readers of a keyset's streams.
 
-ghost use Rattle.std.specs.Prelude.{◌≡◌, ◌≤◌, ◌<◌, [], length, map, All, IfOk, MatchResult, vec_len, vec_capacity};
+ghost use Rattle.std.specs.Prelude.{◌≡◌, ◌≤◌, ◌<◌, ◌+◌, [], length, map, All, IfOk, MatchResult, vec_len, vec_capacity};
 ghost use Rattle.stream_model.specs.Key.{nonce_size};
 ghost use Rattle.stream_model.specs.Opening.{opening_key};
 ghost use Rattle.tink_streaming_aead.specs.DecryptReaders.{DecryptMeans, FirstReadRefused, GivesFirst, IsUnread, cause_of, first_refusal, kept_of, number_of, room_of, source_in, ReadsNoMore};
 ghost use Rattle.tink_streaming_aead.specs.DecryptReaders.DecryptState.{Unread};
-ghost use Rattle.tink_stream_keys.specs.StreamKinds.{key_of};
+ghost use Rattle.tink_stream_keys.specs.StreamKinds.{key_in_set};
 ghost use Rattle.tink_streams.specs.Openers.{EndsEmpty, segment_map, text_moment};
 
 use std::marker::Model;
@@ -13,19 +13,20 @@ use std::mem;
 use tink_io::{Cause, Kind, Source, TinkError};
 use tink_primitives::DecryptingRead;
 use tink_segments::StreamSegment;
+use tink_sets::TypedEntry;
 use tink_stream_keys::{StreamKind, Trial, start};
 use tink_streams::TextReader;
 
 // The keys of which one may open the stream, with its associated data and memory for the choice.
 #[derive(Drop)]
 pub struct Choice {
-    pub keys: Vec<StreamKind>,
+    pub keys: Vec<TypedEntry<StreamKind>>,
     pub data: Vec<u8>,
     pub trial: Trial,
     ghost unread: { trial.kept.filled ≡ 0 },
-    ghost buffer: { All (λ k. (key_of k).segment < vec_len trial.kept.buffer) keys.items },
-    ghost room: { All (λ k. (key_of k).segment ≤ vec_capacity trial.opened) keys.items },
-    ghost nonce: { All (λ k. nonce_size (key_of k) ≤ vec_len trial.nonce) keys.items },
+    ghost buffer: { All (λ k. length (key_in_set k).out + (key_in_set k).segment < vec_len trial.kept.buffer) keys.items },
+    ghost room: { All (λ k. (key_in_set k).segment ≤ vec_capacity trial.opened) keys.items },
+    ghost nonce: { All (λ k. nonce_size (key_in_set k) ≤ vec_len trial.nonce) keys.items },
     ghost prefix: { 7 ≤ vec_capacity trial.prefix },
 }
 
@@ -37,8 +38,7 @@ pub enum Stage {
     Stopped(Cause),
 }
 
-/// A reader of the text of a stream by the first of a keyset's keys, of those without a prefix, under which the stream
-/// begins. The first read chooses it.
+/// A reader of the text of a stream by the first of a keyset's keys under which the stream begins. The first read chooses it.
 #[derive(Drop)]
 pub struct DecryptReader<S: Source> {
     source: S,
@@ -64,11 +64,11 @@ fn give_first<S: Source>(
 ) -> Result<(TextReader<StreamSegment>, usize), TinkError>
     requires some { 0 < length buf.old }
     ensures answer { MatchResult result
-        (λ given. GivesFirst (map (opening_key choice.data.items) (map key_of choice.keys.items)) (S.left source.old)
+        (λ given. GivesFirst (map (opening_key choice.data.items) (map key_in_set choice.keys.items)) (S.left source.old)
         (segment_map given.0.reader.opener) given.0.reader.opener.first given.0.reader.opener.size
         given.0.reader.opener.overhead (text_moment S.left S.faults given.0 source.new) buf.old buf.new given.1)
         (λ e. (buf.new ≡ buf.old)
-        × FirstReadRefused (map (opening_key choice.data.items) (map key_of choice.keys.items)) (S.left source.old)
+        × FirstReadRefused (map (opening_key choice.data.items) (map key_in_set choice.keys.items)) (S.left source.old)
         (S.faults source.old) (S.faults source.new) e.kind) }
     ensures within { IfOk result (λ given. given.1 ≤ length buf.new) }
     ensures room { IfOk result (λ given. vec_len given.0.reader.buffer ≡ vec_len choice.trial.kept.buffer) }
@@ -109,7 +109,7 @@ fn cause_of(kind: Kind) -> Cause
 impl<S: Source + Drop> DecryptReader<S> {
     // A reader that has read nothing.
     pub(crate) fn unread(choice: Choice, source: S) -> DecryptReader<S>
-        ensures { result ≡ Unread (map key_of choice.keys.items) choice.data.items
+        ensures { result ≡ Unread (map key_in_set choice.keys.items) choice.data.items
             (vec_len choice.trial.kept.buffer) source }
     {
         DecryptReader {
@@ -120,7 +120,7 @@ impl<S: Source + Drop> DecryptReader<S> {
 
     /// Gives the next bytes of the text, as many as are opened and `buf` has room for, and answers how many. The first
     /// read to a buffer with room chooses the key, the first under which the stream begins: the source begins in its
-    /// header, and the first segment is that of some text. Then each read is that of the key's `Reader`. It takes no
+    /// front, and the first segment is that of some text. Then each read is that of the key's `Reader`. It takes no
     /// memory.
     ///
     /// # Errors

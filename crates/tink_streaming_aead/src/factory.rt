@@ -1,19 +1,17 @@
 //! The streaming AEADs of a keyset as one.
 
-ghost use Rattle.std.specs.Prelude.{◌≡◌, ◌≤◌, ◌+◌, [], None, true, is_some, map, max, vec_len, All, IfOk, IfErr};
+ghost use Rattle.std.specs.Prelude.{◌≡◌, ◌≤◌, ◌<◌, ◌+◌, ◌++◌, None, true, is_some, length, map, max, vec_len, All, IfOk, IfErr, OnOk};
 ghost use Rattle.tink_io.specs.declared.error.Kind.TheVariants.{OutOfMemory};
 ghost use Rattle.stream_model.specs.Key.{IsUsable};
 ghost use Rattle.tink_primitives.specs.Meaning.{IsEndOf};
 ghost use Rattle.tink_primitives.specs.Sorts.{as_streaming_aead};
 ghost use Rattle.tink_sets.specs.Entries.{entry_of};
-ghost use Rattle.tink_sets.specs.Groups.{group_of};
 ghost use Rattle.tink_keysets.specs.Built.{built_entries, GivesSet};
 ghost use Rattle.tink_factory.specs.Typing.{typed_entries};
 ghost use Rattle.tink_streaming_aead.specs.DecryptReaders.{largest};
 ghost use Rattle.tink_streaming_aead.specs.DecryptReaders.DecryptState.{Unread};
 ghost use Rattle.tink_stream_keys.specs.Encrypting.{NewWriterMeans, sink_of};
-ghost use Rattle.tink_stream_keys.specs.StreamKinds.{key_of};
-ghost use Rattle.tink_streaming_aead.specs.Wrapped.{ByPrimary, keys_in, keys_of_entries};
+ghost use Rattle.tink_streaming_aead.specs.Wrapped.{AreKeysOf, ByPrimary, KeepsOrder, all_entries, keys_in};
 
 use crate::decrypt_reader::{Choice, DecryptReader};
 use std::alloc::Global;
@@ -30,9 +28,9 @@ use tink_sets::{TypedEntry, TypedPrimitiveSet};
 use tink_stream_keys::{DerivesStreams, StreamKind, Trial, new_encrypting_writer};
 use tink_streams::Writer;
 
-/// The streaming AEADs of a keyset as one: streams are made by the primary key, and opened by the first of the keys
-/// without a prefix under which they begin. A contract sees the primary key, which there is, and the keys without a
-/// prefix, in their order.
+/// The streaming AEADs of a keyset as one: streams are made by the primary key, and opened by the first of the keys under
+/// which they begin. A contract sees the primary key, which there is, and all keys, those of one prefix in their order;
+/// each has its output prefix before the header of its streams.
 #[derive(Drop)]
 pub struct WrappedStreamingAead {
     ps: TypedPrimitiveSet<StreamKind>,
@@ -59,92 +57,139 @@ pub fn new<M: KeyManager>(
 ) -> Result<WrappedStreamingAead, TinkError>
 where
     M::Family: Kinds<StreamingAead = StreamKind>,
-    ensures { GivesSet (λ entries w. w ≡ keys_of_entries h.now.primary_key_id entries) result (
+    ensures { GivesSet (AreKeysOf h.now.primary_key_id) result (
         typed_entries as_streaming_aead h.now.primary_key_id (built_entries M.url M.supports M.builds entry_of
         registry.now.managers None h.now)) }
 {
     match typed_primitives::<M, StreamingAeads>(alloc, h, registry) {
-        Ok(ps) => Ok(WrappedStreamingAead { ps }),
+        Ok(ps) => {
+            keeps_order(&ps);
+            Ok(WrappedStreamingAead { ps })
+        }
         Err(e) => Err(e),
     }
 }
 
-// The entries without a prefix.
-fn raw_entries(ps: &TypedPrimitiveSet<StreamKind>) -> &[TypedEntry<StreamKind>]
-    ensures value { result.now ≡ group_of ps.now.entries [] }
+// The lists of a set are of one prefix each, so that all entries are in order prefix by prefix.
+fn keeps_order(ps: &TypedPrimitiveSet<StreamKind>)
+    ensures { KeepsOrder ps.now.entries }
 {
-    match ps.raw_entries() {
-        Some(entries) => entries,
-        None => &[],
-    }
+    let _ = (&ps.entries).into_iter();
 }
 
-// Copies of the keys of some entries.
-fn copied_keys(
+/// The entries of a set, those of one prefix in their order.
+///
+/// # Errors
+/// `OutOfMemory`.
+pub fn entries_of(
     alloc: Global,
-    entries: &[TypedEntry<StreamKind>],
-) -> Result<Vec<StreamKind>, TinkError>
-    ensures value { IfOk result (λ keys. keys.items ≡ map (λ e. e.primitive) entries.now) }
+    ps: &TypedPrimitiveSet<StreamKind>,
+) -> Result<Vec<&TypedEntry<StreamKind>>, TinkError>
+    ensures value { IfOk result (λ es. map (λ e. e.now) es.items ≡ all_entries ps.now.entries) }
+    ensures order { KeepsOrder ps.now.entries }
+    ensures cause { IfErr result (λ e. e ≡ record { kind = OutOfMemory }) }
+{
+    keeps_order(ps);
+    let mut entries = Vec::new(alloc);
+    for group in ps.entries.values() {
+        add_group(&mut entries, group.as_slice())?;
+    }
+    Ok(entries)
+}
+
+// Adds the entries of one prefix.
+fn add_group<'a>(
+    entries: &mut Vec<&'a TypedEntry<StreamKind>>,
+    group: &'a [TypedEntry<StreamKind>],
+) -> Result<(), TinkError>
+    ensures value { OnOk result (map (λ e. e.now) entries.new.items
+        ≡ map (λ e. e.now) entries.old.items ++ group.now) }
+    ensures cause { IfErr result (λ e. e ≡ record { kind = OutOfMemory }) }
+{
+    for entry in group {
+        entries.push(entry)?;
+    }
+    Ok(())
+}
+
+// Copies of some entries.
+fn copied(
+    alloc: Global,
+    entries: &[&TypedEntry<StreamKind>],
+) -> Result<Vec<TypedEntry<StreamKind>>, TinkError>
+    ensures value { IfOk result (λ keys. keys.items ≡ map (λ e. e.now) entries.now) }
     ensures cause { IfErr result (λ e. e.kind ≡ OutOfMemory) }
 {
     let mut keys = Vec::new(alloc);
     for entry in entries {
-        keys.push(entry.primitive.try_clone(alloc)?)?;
+        keys.push((*entry).try_clone(alloc)?)?;
     }
     Ok(keys)
 }
 
-fn greater(a: u32, b: u32) -> u32
+fn greater(a: usize, b: usize) -> usize
     ensures { result ≡ max a b }
 {
     if a < b { b } else { a }
 }
 
-/// The bytes of the largest segment of some keys, 0 for none.
-pub fn largest_segment<T: DerivesStreams>(keys: &[T]) -> u32
-    ensures most { All (λ k. (T.key_of k).segment ≤ result) keys.now }
-    ensures value { result ≡ largest (map T.key_of keys.now) }
+/// A byte more than the most that one of some keys has of its output prefix and a segment.
+pub fn room_of<T: DerivesStreams>(keys: &[T]) -> usize
+    ensures most { All (λ k. length (T.key_of k).out + (T.key_of k).segment < result) keys.now }
+    ensures value { result ≡ largest (map T.key_of keys.now) + 1 }
     ensures usable { All IsUsable (map T.key_of keys.now) }
 {
-    let mut largest = 0;
+    let mut room = 1;
     for key in keys {
-        largest = greater(largest, key.segment_size());
+        let own = key.output_prefix().len() + key.segment_size() as usize + 1;
+        room = greater(room, own);
     }
-    largest
+    room
 }
 
 // What is needed to choose one of the keys of some entries.
 pub fn choice_of(
     alloc: Global,
-    entries: &[TypedEntry<StreamKind>],
+    entries: &[&TypedEntry<StreamKind>],
     aad: &[u8],
 ) -> Result<Choice, TinkError>
-    ensures keys { IfOk result (λ c. c.keys.items ≡ map (λ e. e.primitive) entries.now) }
+    ensures keys { IfOk result (λ c. c.keys.items ≡ map (λ e. e.now) entries.now) }
     ensures data { IfOk result (λ c. c.data.items ≡ aad.now) }
-    ensures usable { IfOk result (λ _. All IsUsable (keys_in entries.now)) }
-    ensures room { IfOk result (λ c. vec_len c.trial.kept.buffer ≡ largest (keys_in entries.now) + 1) }
+    ensures usable { IfOk result (λ c. All IsUsable (keys_in c.keys.items)) }
+    ensures room { IfOk result (λ c. vec_len c.trial.kept.buffer ≡ largest (keys_in c.keys.items) + 1) }
     ensures cause { IfErr result (λ e. e.kind ≡ OutOfMemory) }
 {
-    let keys = copied_keys(alloc, entries)?;
+    let keys = copied(alloc, entries)?;
     let data = aad.to_vec(alloc)?;
-    let trial = Trial::reserve(
-        alloc,
-        largest_segment(&keys),
-        AES_CTR_HMAC_NONCE_SIZE_IN_BYTES,
-    )?;
+    let trial = Trial::reserve(alloc, room_of(&keys), AES_CTR_HMAC_NONCE_SIZE_IN_BYTES)?;
     Ok(Choice { keys, data, trial })
 }
 
+// What is needed to choose one of the keys of a set.
+fn choice_in(
+    alloc: Global,
+    ps: &TypedPrimitiveSet<StreamKind>,
+    aad: &[u8],
+) -> Result<Choice, TinkError>
+    ensures keys { IfOk result (λ c. c.keys.items ≡ all_entries ps.now.entries) }
+    ensures data { IfOk result (λ c. c.data.items ≡ aad.now) }
+    ensures usable { IfOk result (λ c. All IsUsable (keys_in c.keys.items)) }
+    ensures room { IfOk result (λ c. vec_len c.trial.kept.buffer ≡ largest (keys_in c.keys.items) + 1) }
+    ensures cause { IfErr result (λ e. e.kind ≡ OutOfMemory) }
+{
+    let entries = entries_of(alloc, ps)?;
+    choice_of(alloc, &entries, aad)
+}
+
 impl WrappedStreamingAead {
-    /// A writer of a new stream into `w` by the primary key, whose header is written: nothing stands before it, also
-    /// where the key has a prefix. The salt and the prefix of the nonces are the first draws. All memory is taken
-    /// first.
+    /// A writer of a new stream into `w` by the primary key, whose front is written: the key's output prefix and a
+    /// header. The salt and the prefix of the nonces are the first draws. All memory is taken first.
     ///
     /// # Errors
     /// The refusal hands back `w`. `OutOfMemory`, with nothing drawn or written; then the first that applies:
     /// `RandomFault` exactly where fewer draws are left than a salt and seven bytes, none of which is taken;
     /// `UnknownHash` exactly where HKDF's hash is unknown, and `UnsupportedHash` exactly where it is SHA-224, with
-    /// the draws taken and nothing written; `WriteFault` where the sink failed, which has a prefix of the header.
+    /// the draws taken and nothing written; `WriteFault` where the sink failed, which has a prefix of the front.
     pub fn new_encrypting_writer<K: Sink + Drop>(
         &self,
         alloc: Global,
@@ -159,16 +204,14 @@ impl WrappedStreamingAead {
         ensures ends { IsEndOf draws.new draws.old }
     {
         match &self.ps.primary {
-            Some(primary) => {
-                new_encrypting_writer(alloc, &primary.primitive, draws, w, additional_data)
-            }
+            Some(primary) => { new_encrypting_writer(alloc, primary, draws, w, additional_data) }
             None => unreachable!(),
         }
     }
 
-    /// A reader of the stream in `r` by the keys without a prefix, in their order, of which it has copies. Nothing is
+    /// A reader of the stream in `r` by all keys, those of one prefix in their order, of which it has copies. Nothing is
     /// read, and all memory is taken: as long as no key is chosen, a byte more than the largest of their segments is
-    /// kept at most.
+    /// kept at most, with the output prefix before it.
     ///
     /// # Errors
     /// `OutOfMemory`, which hands back `r`.
@@ -178,13 +221,13 @@ impl WrappedStreamingAead {
         r: S,
         additional_data: &[u8],
     ) -> Result<DecryptReader<S>, Refused<S>>
-        ensures unread { IfOk result (λ made. made ≡ Unread self.now.raw additional_data.now
-            (largest self.now.raw + 1) r) }
-        ensures usable { IfOk result (λ _. All IsUsable self.now.raw) }
+        ensures unread { IfOk result (λ made. made ≡ Unread self.now.keys additional_data.now
+            (largest self.now.keys + 1) r) }
+        ensures usable { IfOk result (λ _. All IsUsable self.now.keys) }
         ensures cause { IfErr result (λ refused. refused.error.kind ≡ OutOfMemory) }
         ensures inner { IfErr result (λ refused. refused.inner ≡ r) }
     {
-        match choice_of(alloc, raw_entries(&self.ps), additional_data) {
+        match choice_in(alloc, &self.ps, additional_data) {
             Ok(choice) => Ok(DecryptReader::unread(choice, r)),
             Err(error) => Err(Refused { error, inner: r }),
         }
@@ -218,9 +261,9 @@ impl<S: Source + Drop, K: Sink + Drop> StreamingAead<S, K> for WrappedStreamingA
         r: S,
         additional_data: &[u8],
     ) -> Result<DecryptReader<S>, Refused<S>>
-        ensures unread { IfOk result (λ made. made ≡ Unread self.now.raw additional_data.now
-            (largest self.now.raw + 1) r) }
-        ensures usable { IfOk result (λ _. All IsUsable self.now.raw) }
+        ensures unread { IfOk result (λ made. made ≡ Unread self.now.keys additional_data.now
+            (largest self.now.keys + 1) r) }
+        ensures usable { IfOk result (λ _. All IsUsable self.now.keys) }
         ensures cause { IfErr result (λ refused. refused.error.kind ≡ OutOfMemory) }
         ensures inner { IfErr result (λ refused. refused.inner ≡ r) }
         ensures same { IfErr result (λ refused. S.same r refused.inner) }

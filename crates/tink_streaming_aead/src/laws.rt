@@ -3,7 +3,7 @@ ghost use Rattle.std.specs.declared.option.Option.{Option};
 ghost use Rattle.std.specs.Io.KnownBytes.{Appends};
 ghost use Rattle.stream_model.specs.Agree.{joined};
 ghost use Rattle.stream_model.specs.Cut.{chunks};
-ghost use Rattle.stream_model.specs.Key.{IsUsable, StreamKey, first_room, keys_of, room};
+ghost use Rattle.stream_model.specs.Key.{IsUsable, StreamKey, first_room, fronted, keys_of, room};
 ghost use Rattle.stream_model.specs.Opening.{IsChosen, IsStream, OpeningKey, opening_key};
 ghost use Rattle.stream_model.specs.Sealing.{chunk_count, prefix_of, salt_of, stream};
 ghost use Rattle.tink_streams.specs.TextReading.{AtEnd, Gave};
@@ -32,7 +32,7 @@ pub fn law_whole_stream()
 {}
 
 /// The first read of a keyset's reader that is Ok has chosen the first key under which the stream begins, and has
-/// given the prefix of the text of the key's segments behind the header. Later reads go on from there, as
+/// given the prefix of the text of the key's segments behind the front. Later reads go on from there, as
 /// `law_whole_text` says.
 pub fn law_first_read()
     ensures gave { (keys : List OpeningKey) (all : Option (List ℕ)) (seg : ℕ → Bool → List ℕ → List ℕ)
@@ -50,19 +50,20 @@ pub fn law_one_key<S: Source>()
     // It is Ok where the source does not fail.
     ensures opens { FirstReadIsOk S.left S.faults }
 
-    // It is then that of a new reader of the key, which has read a header and no more. Each later read is that of this
-    // reader, by `DecryptReader::read`.
+    // It is then that of a new reader of the key on what is behind the key's output prefix, which has read a header and
+    // no more. Each later read is that of this reader, by `DecryptReader::read`.
     ensures reader { ReadsAsReader }
 {}
 
-/// What reads up to the end have given: of a key's reader, the whole source was a stream of the key; of a keyset's
+/// What reads up to the end have given: of a key's reader, the whole source was a stream of the key without an output
+/// prefix; of a keyset's
 /// reader, it was a stream of the first of the keys under which it begins. What was given is the texts of the stream,
 /// joined.
 pub fn law_whole_reading()
     ensures key { (k : StreamKey) (aad : List ℕ) (all : Option (List ℕ)) (seg : ℕ → Bool → List ℕ → List ℕ)
         (a b overhead : ℕ) (held given : List ℕ) (m n : reading.TextMoment)
         → IsUsable k → IsNewReader k aad all seg a b overhead held m → Gave seg a b m.rest given n → AtEnd n
-        → IsTextOfStream (opening_key aad k) all given }
+        → IsTextOfStream (opening_key aad (fronted [] k)) all given }
     ensures keyset { (keys : List StreamKey) (aad : List ℕ) (all : Option (List ℕ)) (seg : ℕ → Bool → List ℕ → List ℕ)
         (a b overhead : ℕ) (m n : reading.TextMoment) (before after given : List ℕ) (count : ℕ)
         → All IsUsable keys → (first : GivesFirst (map (opening_key aad) keys) all seg a b overhead m before after
@@ -75,7 +76,7 @@ pub fn law_whole_reading()
 /// up to its end is the text that was sealed; and of some keys this one is chosen where none before it begins the
 /// stream.
 pub fn law_sealed_opens()
-    ensures stream { (k : StreamKey) (aad salt prefix keys text : List ℕ) → IsUsable k → k.out ≡ []
+    ensures stream { (k : StreamKey) (aad salt prefix keys text : List ℕ) → IsUsable k
         → length salt ≡ k.derived → length prefix ≡ 7
         → keys_of k aad salt ≡ Some keys → chunk_count k text ≤ 2 ^ 32
         → IsStream (opening_key aad k) (stream k aad salt prefix text) (chunks (first_room k) (room k) text) }
@@ -83,7 +84,7 @@ pub fn law_sealed_opens()
     ensures one { (k : StreamKey) (aad S : List ℕ) (texts others : List (List ℕ)) → IsUsable k
         → IsStream (opening_key aad k) S texts → IsStream (opening_key aad k) S others
         → others ≡ texts }
-    ensures read { (k : StreamKey) (aad salt prefix keys text given : List ℕ) → IsUsable k → k.out ≡ []
+    ensures read { (k : StreamKey) (aad salt prefix keys text given : List ℕ) → IsUsable k
         → length salt ≡ k.derived → length prefix ≡ 7
         → keys_of k aad salt ≡ Some keys → chunk_count k text ≤ 2 ^ 32
         → IsTextOfStream (opening_key aad k) (Some (stream k aad salt prefix text)) given → given ≡ text }
@@ -91,7 +92,7 @@ pub fn law_sealed_opens()
         → IsUsable k → IsStream (opening_key aad k) S texts
         → IsChosen earlier S None → IsChosen (earlier ++ opening_key aad k ∷ others) S (Some (opening_key aad k)) }
     ensures read_chosen { (k : StreamKey) (aad salt prefix keys text given : List ℕ)
-        (earlier others : List OpeningKey) → IsUsable k → k.out ≡ [] → length salt ≡ k.derived → length prefix ≡ 7
+        (earlier others : List OpeningKey) → IsUsable k → length salt ≡ k.derived → length prefix ≡ 7
         → keys_of k aad salt ≡ Some keys → chunk_count k text ≤ 2 ^ 32
         → IsChosen earlier (stream k aad salt prefix text) None
         → IsTextOfChosen (earlier ++ opening_key aad k ∷ others) (Some (stream k aad salt prefix text)) given

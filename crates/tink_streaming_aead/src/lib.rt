@@ -9,7 +9,7 @@ pub use aes_gcm_hkdf_key_manager::{
     AES_GCM_HKDF_KEY_VERSION, AES_GCM_HKDF_TYPE_URL, AesGcmHkdfKeyManager, AesGcmHkdfKeys,
 };
 pub use decrypt_reader::DecryptReader;
-pub use factory::{WrappedStreamingAead, largest_segment, new};
+pub use factory::{WrappedStreamingAead, entries_of, new, room_of};
 pub use key_templates::{
     aes128_ctr_hmac_sha256_segment_1mb_key_template,
     aes128_ctr_hmac_sha256_segment_4kb_key_template, aes128_gcm_hkdf_1mb_key_template,

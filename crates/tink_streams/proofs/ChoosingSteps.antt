@@ -35,13 +35,13 @@ told_before None s P k h = tt
 told_before (Some X) None P k h = absurd k
 told_before (Some X) (Some Y) P k h = subst P k h
 
--- what is held behind the header of the chosen key, and what the source has left, is all that is left to open
-pub started : (ks : List OpeningKey) (seg : ℕ → Bool → List ℕ → List ℕ) (header first size overhead : ℕ) (all left : Option (List ℕ)) (held rest : List ℕ) → IfSome all (λ X. Found ks X seg header first size overhead)
-    → Keeps all (prepend_known held left) → header ≤ length held → rest ≡ drop header held → IfSome all (λ X. Started ks X (prepend_known rest left) seg first size overhead)
-started ks seg header first size overhead None left held rest f k l e = tt
-started ks seg header first size overhead (Some X) None held rest f k l e = absurd k
-started ks seg header first size overhead (Some X) (Some Y) held rest f k l e = record {
-  header = header;
+-- what is held behind the front of the chosen key, and what the source has left, is all that is left to open
+pub started : (ks : List OpeningKey) (seg : ℕ → Bool → List ℕ → List ℕ) (front first size overhead : ℕ) (all left : Option (List ℕ)) (held rest : List ℕ) → IfSome all (λ X. Found ks X seg front first size overhead)
+    → Keeps all (prepend_known held left) → front ≤ length held → rest ≡ drop front held → IfSome all (λ X. Started ks X (prepend_known rest left) seg first size overhead)
+started ks seg front first size overhead None left held rest f k l e = tt
+started ks seg front first size overhead (Some X) None held rest f k l e = absurd k
+started ks seg front first size overhead (Some X) (Some Y) held rest f k l e = record {
+  front = front;
   found = f;
-  rest = ap (λ x. Some (x ++ Y)) e ∙ ap Some (sym (drop-append-le header held Y l) ∙ ap (drop header) k);
+  rest = ap (λ x. Some (x ++ Y)) e ∙ ap Some (sym (drop-append-le front held Y l) ∙ ap (drop front) k);
 }

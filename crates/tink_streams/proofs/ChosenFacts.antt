@@ -3,7 +3,7 @@ use Rattle.std.proofs.Common.{◌≡◌, inl, inr, ◌<◌, ◌+◌, ◌-◌, �
 use Rattle.std.specs.declared.option.Option.{Option}
 use Rattle.stream_model.specs.Cut.{cut}
 use Rattle.stream_model.specs.Agree.{Leads, Agree}
-use Rattle.stream_model.specs.Opening.{OpeningKey, Begins, IsChosen, chunks_of, AgreeBy, IsAgreed, AreSegmentsBy, IsStream}
+use Rattle.stream_model.specs.Opening.{OpeningKey, Begins, IsChosen, behind_front, chunks_of, AgreeBy, IsAgreed, AreSegmentsBy, IsStream}
 use Rattle.stream_model.proofs.WholeFacts.{stream_of_leads}
 use Rattle.tink_streams.specs.Choosing.{IsOpenerOf, Found}
 
@@ -17,35 +17,35 @@ chosen_begins [] X k h = absurd (let e = h in cc)
 chosen_begins (l ∷ ks) X k (inl h) = subst (λ (x : OpeningKey). Begins x X) (sym (ap (key_or k) h.1)) h.0
 chosen_begins (l ∷ ks) X k (inr h) = chosen_begins ks X k h.1
 
-pub chunks_are : (k : OpeningKey) (X : List ℕ) (seg : ℕ → Bool → List ℕ → List ℕ) (header first size overhead : ℕ) → IsOpenerOf k X seg header first size overhead → cut first size (drop header X) ≡ chunks_of k X
-chunks_are k X seg header first size overhead o =
-    ap (λ n. cut first size (drop n X)) o.header_is ∙ ap (λ n. cut n size (drop k.header X)) o.first_is ∙ ap (λ n. cut k.first n (drop k.header X)) o.size_is
+pub chunks_are : (k : OpeningKey) (X : List ℕ) (seg : ℕ → Bool → List ℕ → List ℕ) (front first size overhead : ℕ) → IsOpenerOf k X seg front first size overhead → cut first size (drop front X) ≡ chunks_of k X
+chunks_are k X seg front first size overhead o =
+    ap (λ n. cut first size (drop n X)) o.front_is ∙ ap (λ n. cut n size (behind_front k X)) o.first_is ∙ ap (λ n. cut k.first n (behind_front k X)) o.size_is
 
 -- texts that lead to the end make the whole a stream of the chosen key
-pub stream_opened : (ks : List OpeningKey) (X : List ℕ) (seg : ℕ → Bool → List ℕ → List ℕ) (header first size overhead : ℕ) (texts : List (List ℕ)) (f : Found ks X seg header first size overhead)
+pub stream_opened : (ks : List OpeningKey) (X : List ℕ) (seg : ℕ → Bool → List ℕ → List ℕ) (front first size overhead : ℕ) (texts : List (List ℕ)) (f : Found ks X seg front first size overhead)
     → ((i : ℕ) (last : Bool) (t : List ℕ) → length (seg i last t) ≡ length t + overhead) → overhead < first → 0 < length texts
-    → Leads seg 0 (cut first size (drop header X)) texts [] → IsStream f.key X texts
-stream_opened ks X seg header first size overhead texts f longer fits some leads =
+    → Leads seg 0 (cut first size (drop front X)) texts [] → IsStream f.key X texts
+stream_opened ks X seg front first size overhead texts f longer fits some leads =
     let k : OpeningKey = f.key in
     let o = f.opener in
     let a : ℕ = k.first - k.overhead in
     let b : ℕ = k.size - k.overhead in
     let first_size : first ≡ a + overhead = omega (arith, o.first_is, o.overhead_is) in
     let later_size : size ≡ b + overhead = omega (arith, o.first_is, o.overhead_is, o.size_is, o.fits) in
-    let sized : Leads seg 0 (cut (a + overhead) (b + overhead) (drop k.header X)) texts [] =
-    subst (λ (n : ℕ). Leads seg 0 (cut (a + overhead) n (drop k.header X)) texts []) later_size
-    (subst (λ (n : ℕ). Leads seg 0 (cut n size (drop k.header X)) texts []) first_size
-    (subst (λ (n : ℕ). Leads seg 0 (cut first size (drop n X)) texts []) o.header_is leads)) in
+    let sized : Leads seg 0 (cut (a + overhead) (b + overhead) (behind_front k X)) texts [] =
+    subst (λ (n : ℕ). Leads seg 0 (cut (a + overhead) n (behind_front k X)) texts []) later_size
+    (subst (λ (n : ℕ). Leads seg 0 (cut n size (behind_front k X)) texts []) first_size
+    (subst (λ (n : ℕ). Leads seg 0 (cut first size (drop n X)) texts []) o.front_is leads)) in
     record {
-      header = (chosen_begins ks X k f.chosen).header;
-      segments = subst (λ (s : Option (ℕ → Bool → List ℕ → List ℕ)). AreSegmentsBy s a b (drop k.header X) texts) (sym o.map)
-          (stream_of_leads seg overhead 0 a b texts (drop k.header X) longer (omega arith) (omega (arith, o.first_is, o.overhead_is, o.fits)) some sized);
+      front = (chosen_begins ks X k f.chosen).front;
+      segments = subst (λ (s : Option (ℕ → Bool → List ℕ → List ℕ)). AreSegmentsBy s a b (behind_front k X) texts) (sym o.map)
+          (stream_of_leads seg overhead 0 a b texts (behind_front k X) longer (omega arith) (omega (arith, o.first_is, o.overhead_is, o.fits)) some sized);
     }
 
 -- texts that agree are those of the whole under the chosen key
-pub stream_agreed : (ks : List OpeningKey) (X : List ℕ) (seg : ℕ → Bool → List ℕ → List ℕ) (header first size overhead : ℕ) (texts : List (List ℕ)) (f : Found ks X seg header first size overhead)
-    → Agree seg 0 (cut first size (drop header X)) texts → IsAgreed f.key X texts
-stream_agreed ks X seg header first size overhead texts f agree =
+pub stream_agreed : (ks : List OpeningKey) (X : List ℕ) (seg : ℕ → Bool → List ℕ → List ℕ) (front first size overhead : ℕ) (texts : List (List ℕ)) (f : Found ks X seg front first size overhead)
+    → Agree seg 0 (cut first size (drop front X)) texts → IsAgreed f.key X texts
+stream_agreed ks X seg front first size overhead texts f agree =
     let k : OpeningKey = f.key in
     subst (λ (s : Option (ℕ → Bool → List ℕ → List ℕ)). AgreeBy s (chunks_of k X) texts) (sym f.opener.map)
-    (subst (λ (cs : List (List ℕ)). Agree seg 0 cs texts) (chunks_are k X seg header first size overhead f.opener) agree)
+    (subst (λ (cs : List (List ℕ)). Agree seg 0 cs texts) (chunks_are k X seg front first size overhead f.opener) agree)

@@ -27,20 +27,20 @@ pub record IsOfNone (ks : List OpeningKey) (old new : Option (List ℕ)) : Type 
   pub rest : Keeps old new
 
 module _ {D : Type 0} {g : Ghosts D} where
-  -- the stream begins under the key and is opened so, none of its bytes is lost, and its header is kept
+  -- the stream begins under the key and is opened so, none of its bytes is lost, and its front is kept
   pub record DoesBegin (k : OpeningKey) (nonce_size : ℕ) (old new : Option (List ℕ)) (filled : ℕ) (b : Begun D g) : Type 0 where
-    pub found : IfSome old (λ X. Begins k X × IsOpenerOf k X (segment_map b.opener) b.header b.opener.first b.opener.size b.opener.overhead)
+    pub found : IfSome old (λ X. Begins k X × IsOpenerOf k X (segment_map b.opener) b.front b.opener.first b.opener.size b.opener.overhead)
     pub rest : Keeps old new
-    pub header : b.header ≤ filled
+    pub front : b.front ≤ filled
     pub size : b.opener.size ≡ k.size
     pub nonce : b.opener.nonce_size ≡ nonce_size
 
-  -- the stream begins first under this key of those and is opened so, none of its bytes is lost, its header is kept,
+  -- the stream begins first under this key of those and is opened so, none of its bytes is lost, its front is kept,
   -- and a segment, its nonce and its text have room
   pub record IsOfFirst {Z : Type 0} (ks : List OpeningKey) (old new : Option (List ℕ)) (kept : Kept) (nonces texts : Vec ℕ Z) (b : Begun D g) : Type 0 where
-    pub found : IfSome old (λ X. Found ks X (segment_map b.opener) b.header b.opener.first b.opener.size b.opener.overhead)
+    pub found : IfSome old (λ X. Found ks X (segment_map b.opener) b.front b.opener.first b.opener.size b.opener.overhead)
     pub rest : Keeps old new
-    pub header : b.header ≤ kept.filled
+    pub front : b.front ≤ kept.filled
     pub size : b.opener.size < vec_len kept.buffer
     pub nonce : b.opener.nonce_size ≤ vec_len nonces
     pub text : b.opener.size ≤ vec_capacity texts

@@ -1,6 +1,6 @@
 ghost use Rattle.std.specs.Prelude.{◌≡◌, ◌≤◌, ◌<◌, ◌+◌, ◌-◌, ℕ, length, take, drop, max, Some, None, IfSome, IsNone, IfOk, IfErr, MatchResult, OnOk, OnErr, false, true, vec_len, vec_capacity};
 ghost use Rattle.stream_model.specs.Cut.{numbered};
-ghost use Rattle.stream_model.specs.Opening.{OpeningKey, HasHeader};
+ghost use Rattle.stream_model.specs.Opening.{OpeningKey, HasFront, begins_front, front_length, header_of};
 ghost use Rattle.tink_io.specs.Faults.{Rose};
 ghost use Rattle.tink_streams.specs.Choosing.{HasSizesOf};
 ghost use Rattle.tink_streams.specs.Keeping.{kept_rest};
@@ -15,11 +15,15 @@ use tink_segment_traits::SegmentDecrypter;
 
 /// A key that may have made a stream, under its associated data.
 pub trait OpensStreams<D: SegmentDecrypter> {
-    // its header, its sizes, and its segments under a header
+    // its output prefix, its header, its sizes, and its segments under a header
     ghost opening_key: { Self → OpeningKey };
 
     // the bytes of its nonces
     ghost nonce_of: { Self → ℕ };
+
+    /// What stands before the header.
+    fn output_prefix(&self) -> &[u8]
+        ensures is { result.now ≡ (opening_key self.now).out };
 
     /// The bytes of the header: a byte, a salt, and a prefix of seven bytes.
     fn header_length(&self) -> usize
@@ -51,11 +55,11 @@ pub trait OpensStreams<D: SegmentDecrypter> {
         ensures overhead { IfSome result (λ d. D.overhead_of d ≡ (opening_key self.now).overhead) };
 }
 
-/// How a stream is opened that begins under a key, and the bytes of its header.
+/// How a stream is opened that begins under a key, and the bytes of its front.
 #[derive(Drop)]
 pub struct Begun<D: SegmentDecrypter> {
     pub opener: Opener<D>,
-    pub header: usize,
+    pub front: usize,
 }
 
 // How the key's stream under a header is opened, or the memory of its prefix again.
@@ -93,52 +97,65 @@ fn opener_under<D: SegmentDecrypter + Drop, T: OpensStreams<D>>(
     })
 }
 
-// How a stream that begins in `held` is opened, if it begins in a header of the key from which keys are derived;
-// else the memory of its prefix again.
-fn header_opener<D: SegmentDecrypter + Drop, T: OpensStreams<D>>(
+// Whether these bytes are those of the key's front: its output prefix, and the byte that tells a header's length.
+fn begins_front<D: SegmentDecrypter, T: OpensStreams<D>>(key: &T, held: &[u8]) -> bool
+    requires { front_length (T.opening_key key.now) ≤ length held.now }
+    ensures { result ≡ begins_front (T.opening_key key.now) held.now }
+{
+    let out = key.output_prefix();
+    let length = key.header_length();
+    held.starts_with(out) && usize::from(held[out.len()]) == length
+}
+
+// How a stream that begins in `held` is opened, if it begins in a front of the key, which has so many bytes, and keys are
+// derived from its header; else the memory of its prefix again.
+fn front_opener<D: SegmentDecrypter + Drop, T: OpensStreams<D>>(
     key: &T,
     held: &[u8],
+    front: usize,
     prefix: Vec<u8>,
 ) -> Result<Opener<D>, Vec<u8>>
+    requires front { front ≡ front_length (T.opening_key key.now) }
     requires prefix { 7 ≤ vec_capacity prefix }
-    ensures header { IfOk result (λ o. HasHeader (T.opening_key key.now) held.now) }
-    ensures map { IfOk result (λ o. (T.opening_key key.now).seg (take (T.opening_key key.now).header held.now)
+    ensures front { IfOk result (λ o. HasFront (T.opening_key key.now) held.now) }
+    ensures map { IfOk result (λ o. (T.opening_key key.now).seg (header_of (T.opening_key key.now) held.now)
         ≡ Some (segment_map o)) }
     ensures sizes { IfOk result (λ o. HasSizesOf (T.opening_key key.now) o.first o.size o.overhead) }
     ensures nonce { IfOk result (λ o. o.nonce_size ≡ T.nonce_of key.now) }
     ensures prefix_room { IfOk result (λ o. 7 ≤ vec_capacity o.prefix) }
-    ensures none { IfErr result (λ _. HasHeader (T.opening_key key.now) held.now
-        → (T.opening_key key.now).seg (take (T.opening_key key.now).header held.now) ≡ None) }
+    ensures none { IfErr result (λ _. HasFront (T.opening_key key.now) held.now
+        → (T.opening_key key.now).seg (header_of (T.opening_key key.now) held.now) ≡ None) }
     ensures room { IfErr result (λ p. 7 ≤ vec_capacity p) }
 {
-    let h = key.header_length();
-    if held.len() < h {
+    let out = key.output_prefix().len();
+    let end = out + key.header_length();
+    if held.len() < front {
         return Err(prefix);
     }
-    if usize::from(held[0]) != h {
+    if !begins_front(key, held) {
         return Err(prefix);
     }
-    opener_under(key, &held[..h], prefix)
+    opener_under(key, &held[out..end], prefix)
 }
 
-// How a stream is opened that begins in a header of so many bytes, or the memory of its prefix again.
+// How a stream is opened that begins in a front of so many bytes, or the memory of its prefix again.
 fn begun_if<D: SegmentDecrypter + Drop>(
     begins: bool,
     opener: Opener<D>,
-    header: usize,
+    front: usize,
 ) -> Result<Begun<D>, Vec<u8>>
     ensures { MatchResult result
-        (λ b. (begins ≡ true) × (b ≡ record { opener = opener; header = header }))
+        (λ b. (begins ≡ true) × (b ≡ record { opener = opener; front = front }))
         (λ prefix. (begins ≡ false) × (prefix ≡ opener.prefix)) }
 {
     if begins {
-        Ok(Begun { opener, header })
+        Ok(Begun { opener, front })
     } else {
         Err(opener.prefix)
     }
 }
 
-/// How the stream of a source is opened, if it begins in a header of the key and in the segment of some text;
+/// How the stream of a source is opened, if it begins in a front of the key and then in the segment of some text;
 /// else the memory of its prefix again. No more is read than tells it.
 ///
 /// # Errors
@@ -151,14 +168,14 @@ pub fn try_key<S: Source, D: SegmentDecrypter + Drop, T: OpensStreams<D>>(
     nonce: &mut Vec<u8>,
     opened: &mut Vec<u8>,
 ) -> Result<Result<Begun<D>, Vec<u8>>, Failed>
-    requires buffer { (T.opening_key key.now).size < vec_len kept.old.buffer }
+    requires buffer { length (T.opening_key key.now).out + (T.opening_key key.now).size < vec_len kept.old.buffer }
     requires room { (T.opening_key key.now).size ≤ vec_capacity opened.old }
     requires nonce { T.nonce_of key.now ≤ vec_len nonce.old }
     requires prefix { 7 ≤ vec_capacity prefix }
     ensures answer { IfOk result (TrialMeans (T.opening_key key.now) (T.nonce_of key.now)
         (kept_rest S.left kept.old source.old) (kept_rest S.left kept.new source.new) kept.new.filled) }
     ensures most { OnOk result (kept.new.filled ≤ max kept.old.filled
-        ((T.opening_key key.now).header + (T.opening_key key.now).first + 1)) }
+        (front_length (T.opening_key key.now) + (T.opening_key key.now).first + 1)) }
     ensures room { KeepsRoom kept.old kept.new nonce.old nonce.new opened.old opened.new }
     ensures later { S.faults source.old ≤ S.faults source.new }
     ensures rose { OnErr result (Rose (S.faults source.old) (S.faults source.new)) }
@@ -166,12 +183,13 @@ pub fn try_key<S: Source, D: SegmentDecrypter + Drop, T: OpensStreams<D>>(
 {
     let h = key.header_length();
     let _ = key.first_segment_size();
-    kept.keep(source, h)?;
-    let opener = match header_opener(key, &kept.buffer[..kept.filled], prefix) {
+    let front = key.output_prefix().len() + h;
+    kept.keep(source, front)?;
+    let opener = match front_opener(key, &kept.buffer[..kept.filled], front, prefix) {
         Ok(opener) => opener,
         Err(memory) => return Ok(Err(memory)),
     };
-    kept.keep(source, h + opener.first)?;
-    let begins = open_front(&opener, 0, &kept.buffer[h..kept.filled], nonce, opened);
-    Ok(begun_if(begins, opener, h))
+    kept.keep(source, front + opener.first)?;
+    let begins = open_front(&opener, 0, &kept.buffer[front..kept.filled], nonce, opened);
+    Ok(begun_if(begins, opener, front))
 }

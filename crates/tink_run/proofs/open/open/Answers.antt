@@ -1,8 +1,8 @@
 use Rattle.std.proofs.Common.{◌≡◌, List, map, ap, sym, ◌∙◌, subst}
 use Rattle.std.proofs.lemmas.Simd.{map-map}
 use Rattle.stream_model.specs.Opening.{OpeningKey, opening_key}
-use Rattle.tink_stream_keys.specs.StreamKinds.{key_of}
-use Rattle.tink_streaming_aead.specs.Wrapped.{keys_in}
+use Rattle.tink_stream_keys.specs.StreamKinds.{key_in_set}
+use Rattle.tink_streaming_aead.specs.Wrapped.{all_entries, keys_in}
 use Rattle.tink_run.specs.OpenSteps.{OpensUnder}
 use Rattle.tink_run.specs.Outside.{Outside}
 use Rattle.tink_run.proofs.OpenSteps.{leaves_under, opens_under}
@@ -12,9 +12,10 @@ use Rattle.tink_run.proofs.open.open.Goals as goal
 pub returns-clause-answer : goal.returns-clause-answer
 returns-clause-answer g c =
     let aad = c.args.aad.now in
-    let same : map (λ k. opening_key aad (key_of k.now)) c.deref-2.result.now ≡ map (opening_key aad) (keys_in c.args.entries.now) =
-    ap (map (λ k. opening_key aad (key_of k.now))) c.deref-2.ensures.value ∙ sym (map-map (opening_key aad) (λ k. key_of k.now) c.in_ok-keys.keys.items)
-    ∙ ap (map (opening_key aad)) c.in_ok-keys.ensures.keys
+    let all = all_entries c.args.set.now.entries in
+    let same : map (λ k. opening_key aad (key_in_set k.now)) c.deref-2.result.now ≡ map (opening_key aad) (keys_in all) =
+    ap (map (λ k. opening_key aad (key_in_set k.now))) c.deref-2.ensures.value ∙ sym (map-map (λ e. opening_key aad (key_in_set e)) (λ k. k.now) c.in_ok-keys.keys.items)
+    ∙ ap (map (λ e. opening_key aad (key_in_set e))) c.in_ok-keys.ensures.value ∙ sym (map-map (opening_key aad) key_in_set all)
     in
     let before : Outside = record { left = g.S.Source.left c.args.source.now; read_faults = g.S.Source.faults c.args.source.now; got = g.K.Sink.got c.args.sink.now; write_faults = g.K.Sink.faults c.args.sink.now } in
     let after : Outside = record { left = g.S.Source.left c.open_under.new.source; read_faults = g.S.Source.faults c.open_under.new.source; got = g.K.Sink.got c.open_under.new.sink; write_faults = g.K.Sink.faults c.open_under.new.sink } in

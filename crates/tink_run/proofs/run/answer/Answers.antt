@@ -1,6 +1,4 @@
-use Rattle.std.proofs.Common.{ap, sym}
 use Rattle.std.proofs.lemmas.Result.{err_from_is_err_and}
-use Rattle.tink_streaming_aead.specs.Wrapped.{keys_in}
 use Rattle.tink_run.proofs.RunSteps.{leaves_same, not_loaded, opens_keyset, seals_keyset, untouched}
 use Rattle.tink_run.proofs.run.answer.Goals as goal
 
@@ -18,4 +16,4 @@ returns-in-Seal-clause-answer g c = rw c.in-Seal.is
 
 pub returns-clause-answer : goal.returns-clause-answer
 returns-clause-answer g c = rw c.in-Open.is
-    (opens_keyset c.args.keyset.now c.args.aad.now c.args.draws.now _ (keys_in c.raw_entries.result.now) _ _ c.open.result c.in_ok-keys.ensures.answer (sym (ap keys_in c.raw_entries.ensures)) c.open.ensures.answer)
+    (opens_keyset c.args.keyset.now c.args.aad.now c.args.draws.now c.in_ok-keys.keys _ _ c.open.result c.in_ok-keys.ensures.answer c.open.ensures.order c.open.ensures.answer)

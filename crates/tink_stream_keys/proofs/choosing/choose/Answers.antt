@@ -1,4 +1,4 @@
-use Rattle.std.proofs.Common.{◌≡◌, ◌≤◌, ◌<◌, ◌+◌, ℕ, Bool, List, All, map, sym, subst, ◌∙◌, vec_len, vec_capacity, arith}
+use Rattle.std.proofs.Common.{◌≡◌, ◌≤◌, ◌<◌, ◌+◌, ℕ, Bool, List, length, All, map, sym, subst, ◌∙◌, vec_len, vec_capacity, arith}
 use Rattle.std.proofs.lemmas.List.Elements.{All-get_or}
 use Rattle.std.specs.declared.option.Option.{Option}
 use Rattle.std.proofs.KnownBytes.{Keeps-trans}
@@ -24,17 +24,17 @@ returns-in-Ok-clause-answer g c =
     let tried = rw c.in-Ok.is at called.answer in
     let keyed : g.row.T.Denot → StreamKey = g.T.DerivesStreams.key_of in
     let so : (P : g.row.T.Denot → Type 0) → All P keys → P key = λ P h. subst P (sym c.key-item.is) (All-get_or P keys c.loop-key.key-index key (omega arith) h) in
-    let sealed : (keyed key).segment < vec_len c.args.kept.now.buffer = so (λ k. (keyed k).segment < vec_len c.args.kept.now.buffer) c.requires.buffer in
+    let sealed : length (keyed key).out + (keyed key).segment < vec_len c.args.kept.now.buffer = so (λ k. length (keyed k).out + (keyed k).segment < vec_len c.args.kept.now.buffer) c.requires.buffer in
     let nonce : nonce_size (keyed key) ≤ vec_len c.args.nonce.now = so (λ k. nonce_size (keyed k) ≤ vec_len c.args.nonce.now) c.requires.nonce in
     let text : (keyed key).segment ≤ vec_capacity c.args.opened.now = so (λ k. (keyed k).segment ≤ vec_capacity c.args.opened.now) c.requires.room in
     let split = key_split keys c.loop-key.key-index key (omega arith) c.key-item.is in
     record {
-      found = both_told told (λ X. Begins (of key) X × IsOpenerOf (of key) X seg b.header o.first o.size o.overhead) (ChosenFrom of keys c.loop-key.key-index) (λ X. Found (map of keys) X seg b.header o.first o.size o.overhead)
+      found = both_told told (λ X. Begins (of key) X × IsOpenerOf (of key) X seg b.front o.first o.size o.overhead) (ChosenFrom of keys c.loop-key.key-index) (λ X. Found (map of keys) X seg b.front o.first o.size o.overhead)
           (λ X p h. record { key = of key; chosen = take_key of keys c.loop-key.key-index key X split p.0 h; opener = p.1 })
-          (told_before told _ (λ X. Begins (of key) X × IsOpenerOf (of key) X seg b.header o.first o.size o.overhead) inv.rest tried.found)
+          (told_before told _ (λ X. Begins (of key) X × IsOpenerOf (of key) X seg b.front o.first o.size o.overhead) inv.rest tried.found)
           inv.chosen;
       rest = Keeps-trans _ _ _ inv.rest tried.rest;
-      header = tried.header;
+      front = tried.front;
       size = omega (arith, tried.size, sealed, called.room.len, inv.len);
       nonce = omega (arith, tried.nonce, nonce, called.room.nonce_len, inv.nonce_len);
       text = omega (arith, tried.size, text, called.room.capacity, inv.capacity);

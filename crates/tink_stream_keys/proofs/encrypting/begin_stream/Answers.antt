@@ -11,18 +11,18 @@ returns-in_err-cipher-clause-answer g c =
     let drew = drew_header k c.args.draws.now c.draw_header.new.draws d.random_fault.1 d.rest in
     rw (p.1, p.2) (hash_refused g.K.Sink.got g.K.Sink.faults k c.args.aad.now _ _ _ _ drew c.in_err-cipher.ensures)
 
-pub returns-in_err-write_all-clause-answer : goal.returns-in_err-write_all-clause-answer
-returns-in_err-write_all-clause-answer g c =
-    let p = err_from_is_err_and c.from_residual-in_err-write_all.result c.from_residual-in_err-write_all.ensures.1 in
+pub returns-in_err-write_front-clause-answer : goal.returns-in_err-write_front-clause-answer
+returns-in_err-write_front-clause-answer g c =
+    let p = err_from_is_err_and c.from_residual-in_err-write_front.result c.from_residual-in_err-write_front.ensures.1 in
     let k = g.T.DerivesStreams.key_of c.args.key.now in
     let d = c.in_ok-header.ensures in
     let n = c.header_length-size.result in
     let size = c.header_length-size.ensures.value in
     let drew = drew_header k c.args.draws.now c.draw_header.new.draws d.random_fault.1 d.rest in
     let salt : n - 7 - 1 ≡ k.derived = omega arith in
-    let w = c.in_err-write_all.ensures in
-    rw (p.1, p.2, w.refused) (front_failed k c.args.aad.now c.args.draws.now c.draw_header.new.draws c.in_ok-header.header n (n - 7 - 1) c.in_ok-cipher.cipher drew c.header_length-size.ensures.bare size (rw size d.ok) salt c.in_ok-cipher.ensures
-    g.K.Sink.got g.K.Sink.faults c.args.sink.now c.write_all.new.sink w.front w.cause)
+    let w = c.in_err-write_front.ensures in
+    rw (p.1, p.2, w.refused) (front_failed k c.args.aad.now c.args.draws.now c.draw_header.new.draws c.in_ok-header.header n (n - 7 - 1) c.in_ok-cipher.cipher drew c.output_prefix.result.now c.output_prefix.ensures size (rw size d.ok) salt c.in_ok-cipher.ensures
+    g.K.Sink.got g.K.Sink.faults c.args.sink.now c.write_front.new.sink w.front w.cause)
 
 pub returns-clause-answer : goal.returns-clause-answer
 returns-clause-answer g c =
@@ -34,9 +34,9 @@ returns-clause-answer g c =
     let salt : n - 7 - 1 ≡ k.derived = omega arith in
     let s = c.sealer_of-sealer.ensures in
     let made = c.made.ensures in
-    new_stream k c.args.aad.now c.args.draws.now c.draw_header.new.draws c.in_ok-header.header n (n - 7 - 1) c.in_ok-cipher.cipher drew c.header_length-size.ensures.bare size (rw size d.ok) salt c.in_ok-cipher.ensures
+    new_stream k c.args.aad.now c.args.draws.now c.draw_header.new.draws c.in_ok-header.header n (n - 7 - 1) c.in_ok-cipher.cipher drew c.output_prefix.result.now c.output_prefix.ensures size (rw size d.ok) salt c.in_ok-cipher.ensures
     (g.K.Sink.got c.args.sink.now) c.made.result.sealer.encrypter c.made.result.sealer.nonce_size c.made.result.sealer.prefix.items c.made.result.sealer.first c.made.result.sealer.room
-    (record { mode = c.made.result.mode; number = c.made.result.segments; held = c.made.result.held.items; got = g.K.Sink.got c.write_all.new.sink; faults = g.K.Sink.faults c.write_all.new.sink })
+    (record { mode = c.made.result.mode; number = c.made.result.segments; held = c.made.result.held.items; got = g.K.Sink.got c.write_front.new.sink; faults = g.K.Sink.faults c.write_front.new.sink })
     (ap (λ x. x.encrypter) made.sealer ∙ s.encrypter) (ap (λ x. x.nonce_size) made.sealer ∙ s.nonce_size) (ap (λ x. x.prefix.items) made.sealer ∙ s.prefix)
     (ap (λ x. x.first) made.sealer ∙ s.first) (ap (λ x. x.room) made.sealer ∙ s.room)
-    c.in_ok-write_all.ensures.written made.mode made.segments made.held
+    c.in_ok-write_front.ensures.written made.mode made.segments made.held

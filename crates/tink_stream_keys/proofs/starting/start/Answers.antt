@@ -9,5 +9,5 @@ returns-in-Ok-Some-clause-started g c =
     let o = begun.opener in
     let kept = c.choose.new.kept in
     let chosen = rw c.in-Ok-Some.field-0-is at c.in-Ok-Some.ensures.answer in
-    let held : begun.header ≤ length (take kept.filled kept.buffer.items) = omega (arith, chosen.header, kept.filled_in, kept.buffer.ok.0, length-take kept.filled kept.buffer.items) in
-    rw c.made.ensures.opener (started _ _ begun.header o.first o.size o.overhead _ _ (take kept.filled kept.buffer.items) _ chosen.found chosen.rest held (c.made.ensures.held ∙ c.carry.ensures.bytes))
+    let held : begun.front ≤ length (take kept.filled kept.buffer.items) = omega (arith, chosen.front, kept.filled_in, kept.buffer.ok.0, length-take kept.filled kept.buffer.items) in
+    rw c.made.ensures.opener (started _ _ begun.front o.first o.size o.overhead _ _ (take kept.filled kept.buffer.items) _ chosen.found chosen.rest held (c.made.ensures.held ∙ c.carry.ensures.bytes))

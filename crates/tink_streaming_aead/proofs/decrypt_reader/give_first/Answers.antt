@@ -2,7 +2,7 @@ use Rattle.std.proofs.Common.{◌≡◌, ℕ, Bool, List, length, map, refl, sym
 use Rattle.std.proofs.lemmas.Result.{err_from_is_err_and}
 use Rattle.std.proofs.lemmas.Simd.{map-map}
 use Rattle.stream_model.specs.Opening.{opening_key}
-use Rattle.tink_stream_keys.specs.StreamKinds.{key_of}
+use Rattle.tink_stream_keys.specs.StreamKinds.{key_in_set}
 use Rattle.tink_streams.specs.Openers.{segment_map, text_moment}
 use Rattle.tink_streams.specs.TextReading.{TextMoment, ReadRefused}
 use Rattle.tink_streaming_aead.proofs.DecryptSteps.{first_moment, first_refused, fresh_gives, fresh_refused, start_refused, unread}
@@ -12,7 +12,7 @@ pub returns-in_err-reader-clause-answer : goal.returns-in_err-reader-clause-answ
 returns-in_err-reader-clause-answer g c =
     let p = err_from_is_err_and c.from_residual.result c.from_residual.ensures.1 in
     let choice = c.args.choice in
-    let keys : map (λ k. opening_key choice.data.items (key_of k)) choice.keys.items ≡ map (opening_key choice.data.items) (map key_of choice.keys.items) = sym (map-map (opening_key choice.data.items) key_of choice.keys.items) in
+    let keys : map (λ k. opening_key choice.data.items (key_in_set k)) choice.keys.items ≡ map (opening_key choice.data.items) (map key_in_set choice.keys.items) = sym (map-map (opening_key choice.data.items) key_in_set choice.keys.items) in
     let told = unread choice.trial.kept.filled choice.trial.kept.buffer.items (g.S.Source.left c.args.source.now) choice.unread in
     let refused = rw told at (rw (c.deref.ensures.value, c.deref-2.ensures.value) at c.in_err-reader.ensures.refused) in
     rw (p.1, p.2) (refl, start_refused _ _ _ _ _ (rw keys at refused))
@@ -20,7 +20,7 @@ returns-in_err-reader-clause-answer g c =
 pub returns-in-Ok-clause-answer : goal.returns-in-Ok-clause-answer
 returns-in-Ok-clause-answer g c =
     let choice = c.args.choice in
-    let keys : map (λ k. opening_key choice.data.items (key_of k)) choice.keys.items ≡ map (opening_key choice.data.items) (map key_of choice.keys.items) = sym (map-map (opening_key choice.data.items) key_of choice.keys.items) in
+    let keys : map (λ k. opening_key choice.data.items (key_in_set k)) choice.keys.items ≡ map (opening_key choice.data.items) (map key_in_set choice.keys.items) = sym (map-map (opening_key choice.data.items) key_in_set choice.keys.items) in
     let told = unread choice.trial.kept.filled choice.trial.kept.buffer.items (g.S.Source.left c.args.source.now) choice.unread in
     let started = rw told at (rw (c.deref.ensures.value, c.deref-2.ensures.value) at c.in_ok-reader.ensures.started) in
     let fresh = c.in_ok-reader.ensures.fresh in
@@ -39,7 +39,7 @@ returns-in-Ok-clause-answer g c =
 pub returns : goal.returns
 returns g c =
     let choice = c.args.choice in
-    let keys : map (λ k. opening_key choice.data.items (key_of k)) choice.keys.items ≡ map (opening_key choice.data.items) (map key_of choice.keys.items) = sym (map-map (opening_key choice.data.items) key_of choice.keys.items) in
+    let keys : map (λ k. opening_key choice.data.items (key_in_set k)) choice.keys.items ≡ map (opening_key choice.data.items) (map key_in_set choice.keys.items) = sym (map-map (opening_key choice.data.items) key_in_set choice.keys.items) in
     let told = unread choice.trial.kept.filled choice.trial.kept.buffer.items (g.S.Source.left c.args.source.now) choice.unread in
     let started = rw told at (rw (c.deref.ensures.value, c.deref-2.ensures.value) at c.in_ok-reader.ensures.started) in
     let fresh = c.in_ok-reader.ensures.fresh in

@@ -2,4 +2,6 @@ use Rattle.tink_streaming_aead.proofs.WrappedFacts.{keys_kept}
 use Rattle.tink_streaming_aead.proofs.factory.new.Goals as goal
 
 pub returns-in-Ok : goal.returns-in-Ok
-returns-in-Ok g c = let s = c.in-Ok.ensures.set in (s.0, s.1, keys_kept c.args.h.now.primary_key_id s.0 c.in-Ok.ps.primary c.in-Ok.ps.entries s.2)
+returns-in-Ok g c =
+    let s = c.in-Ok.ensures.set in
+    (s.0, s.1, keys_kept c.args.h.now.primary_key_id s.0 c.in-Ok.ps.primary c.in-Ok.ps.entries c.keeps_order.ensures s.2)
