@@ -1,125 +1,112 @@
 #!/usr/bin/env bash
-# Times the kit's SHA-256, sealing and opening side by side, over texts of 16 and 64 MiB, and prints
-# a table: the best of three rounds, or of as many as the first word says. docs/BENCHMARKS.md says
-# what is measured. First proves and builds what is due.
+# Times the kit's SHA-256, sealing and opening side by side, over texts of 16 and 64 MiB, under keys of both
+# kinds, and what OpenSSL does without the processor's instructions for AES and SHA: the best of three rounds,
+# or of as many as the first word says. docs/BENCHMARKS.md says what is measured. First proves and builds what
+# is due. It needs python3; without openssl its lines are left out.
 set -euo pipefail
-export LC_ALL=C
-rounds=${1:-3}
 root=$(dirname -- "$(dirname -- "$(readlink -f -- "${BASH_SOURCE[0]}")")")
-tool=$root/crates/tink_tool/out/tink_tool
 hasher=$root/crates/speed/out/speed
-seed=000102030405060708090a0b0c0d0e0f101112131415161718191a1b1c1d1e1f
-mib=1048576
-sizes=(16 64)
-segments=(4kib 1mib)
-declare -A keyset=(
-    [4kib]=$(<"$root/examples/keyset.hex")
-    [1mib]=$(<"$root/examples/keyset-1mib.hex")
-)
-declare -A label=([4kib]="4 KiB" [1mib]="1 MiB")
-declare -A best
 
 # Messages of the build go to standard error. With no words the tool prints how it is used.
-build() {
-    local status=0
-    "$root/tink" </dev/null >&2 || status=$?
-    ((status == 2)) || return
-    if [[ ! -x $hasher || -n $(find "$root/crates.txt" "$root/crates/speed" \
-        -name out -prune -o -newer "$hasher" -print -quit) ]]; then
-        rm -f "$hasher"
-        (cd "$root/crates/speed" && rt run </dev/null >&2)
-    fi
-    [[ -x $hasher ]]
-}
-
-seal() { "$tool" seal "${keyset[$1]}" - "$seed"; }
-
-open() { "$tool" open "${keyset[$1]}" -; }
-
-digest() { "$hasher" 2>/dev/null; }
-
-# Runs the words after the first with standard output dropped, and keeps the least microseconds
-# under the first.
-timed() {
-    local name=$1 start=${EPOCHREALTIME/./} time
-    shift
-    "$@" >/dev/null
-    time=$((${EPOCHREALTIME/./} - start))
-    if [[ -z ${best[$name]:-} ]] || ((time < best[$name])); then
-        best[$name]=$time
-    fi
-}
-
-# The texts, and their streams, each opened again to the text that was sealed.
-warm_up() {
-    local size segment
-    for size in "${sizes[@]}"; do
-        head -c $((size * mib)) < <(seq 100000000 199999999) >"$folder/$size.txt"
-        digest <"$folder/$size.txt" >"$folder/digest"
-        sha256sum <"$folder/$size.txt" | cut -c 1-64 | cmp - "$folder/digest"
-        for segment in "${segments[@]}"; do
-            seal "$segment" <"$folder/$size.txt" >"$folder/$size.$segment"
-            open "$segment" <"$folder/$size.$segment" | cmp - "$folder/$size.txt"
-        done
-    done
-}
-
-round() {
-    local size segment
-    for size in "${sizes[@]}"; do
-        timed "digest.$size" digest <"$folder/$size.txt"
-        for segment in "${segments[@]}"; do
-            timed "seal.$segment.$size" seal "$segment" <"$folder/$size.txt"
-            timed "open.$segment.$size" open "$segment" <"$folder/$size.$segment"
-        done
-    done
-}
-
-# One microsecond count over another, to two places.
-over() { awk -v a="$1" -v b="$2" 'BEGIN { printf "%.2f", a / b }'; }
-
-speed_line() {
-    awk -v label="$1" -v mib="$mib" -v short="${best[$2.16]}" -v long="${best[$2.64]}" 'BEGIN {
-        printf "| %s | %.3f s | %.3f s | %.1f MB/s | %.1f MB/s |\n",
-            label, short / 1e6, long / 1e6, 16 * mib / short, 64 * mib / long
-    }'
-}
-
-print_tables() {
-    local segment
-    echo "| ratio | SHA-256 | 4 KiB segments | 1 MiB segments | aim |"
-    echo "|---|---|---|---|---|"
-    echo "| speed of seal / speed of SHA-256, 64 MiB |" \
-        "| $(over "${best[digest.64]}" "${best[seal.4kib.64]}")" \
-        "| $(over "${best[digest.64]}" "${best[seal.1mib.64]}") | at least 0.18 |"
-    echo "| speed of open / speed of seal, 64 MiB |" \
-        "| $(over "${best[seal.4kib.64]}" "${best[open.4kib.64]}")" \
-        "| $(over "${best[seal.1mib.64]}" "${best[open.1mib.64]}") | at least 0.9 |"
-    echo "| time of 64 MiB / time of 16 MiB, hash and seal" \
-        "| $(over "${best[digest.64]}" "${best[digest.16]}")" \
-        "| $(over "${best[seal.4kib.64]}" "${best[seal.4kib.16]}")" \
-        "| $(over "${best[seal.1mib.64]}" "${best[seal.1mib.16]}") | 3.5 to 4.5 |"
-    echo "| time of 64 MiB / time of 16 MiB, open |" \
-        "| $(over "${best[open.4kib.64]}" "${best[open.4kib.16]}")" \
-        "| $(over "${best[open.1mib.64]}" "${best[open.1mib.16]}") | 3.5 to 4.5 |"
-    echo
-    echo "| work | 16 MiB | 64 MiB | 16 MiB | 64 MiB |"
-    echo "|---|---|---|---|---|"
-    speed_line "SHA-256" digest
-    for segment in "${segments[@]}"; do
-        speed_line "seal, ${label[$segment]} segments" "seal.$segment"
-        speed_line "open, ${label[$segment]} segments" "open.$segment"
-    done
-}
-
-if ! build; then
-    echo "speed: the programs could not be built" >&2
-    exit 70
+status=0
+"$root/tink" </dev/null >&2 || status=$?
+((status == 2))
+if [[ ! -x $hasher || -n $(find "$root/crates.txt" "$root/crates/speed" \
+    -name out -prune -o -newer "$hasher" -print -quit) ]]; then
+    rm -f "$hasher"
+    (cd "$root/crates/speed" && rt run </dev/null >&2)
 fi
 folder=$(mktemp -d)
 trap 'rm -rf "$folder"' EXIT
-warm_up
-for ((i = 0; i < rounds; i++)); do
-    round
-done
-print_tables
+python3 - "$root/crates/tink_tool/out/tink_tool" "$hasher" "${1:-3}" "$folder" <<'PY'
+import hashlib, os, shutil, subprocess, sys, time
+
+tool, hasher, rounds, folder = sys.argv[1], sys.argv[2], int(sys.argv[3]), sys.argv[4]
+SEED, MIB = bytes(range(32)).hex(), 1 << 20
+TEMPLATES = [f"AES{size}_{kind}_{segment}" for kind in ("CTR_HMAC_SHA256", "GCM_HKDF") for size in (128, 256) for segment in ("4KB", "1MB")]
+best = {}
+
+
+def out(*words, text=None, **env):
+    return subprocess.run(words, input=text, stdout=subprocess.PIPE, stderr=subprocess.DEVNULL, check=True, env={**os.environ, **env}).stdout
+
+
+def timed(name, words, file):
+    """Runs the words with standard output dropped, and keeps the least time under the name."""
+    with open(file, "rb") as text:
+        start = time.perf_counter()
+        subprocess.run(words, stdin=text, stdout=subprocess.DEVNULL, stderr=subprocess.DEVNULL, check=True)
+        took = time.perf_counter() - start
+    best[name] = min(took, best.get(name, took))
+
+
+def seal(template):
+    return [tool, "seal", keys[template], "-", SEED]
+
+
+def open_(template):
+    return [tool, "open", keys[template], "-"]
+
+
+keys = {it: out(tool, "keygen", it, SEED).decode().strip() for it in TEMPLATES}
+lines = b"".join(b"%d\n" % it for it in range(10**8, 10**8 + 64 * MIB // 10 + 1))
+for size in (16, 64):
+    text = lines[: size * MIB]
+    with open(f"{folder}/{size}", "wb") as it:
+        it.write(text)
+    assert out(hasher, text=text).decode().split()[0] == hashlib.sha256(text).hexdigest()
+    for template in TEMPLATES:
+        stream = out(*seal(template), text=text)
+        assert out(*open_(template), text=stream) == text
+        with open(f"{folder}/{size}.{template}", "wb") as it:
+            it.write(stream)
+open(f"{folder}/0", "wb").close()
+
+for _ in range(rounds):
+    timed("nothing", ["true"], f"{folder}/0")
+    for size in (16, 64):
+        timed(f"sha.{size}", [hasher], f"{folder}/{size}")
+        for template in TEMPLATES:
+            timed(f"seal.{template}.{size}", seal(template), f"{folder}/{size}")
+            timed(f"open.{template}.{size}", open_(template), f"{folder}/{size}.{template}")
+for _ in range(50):
+    timed("nothing", ["true"], f"{folder}/0")
+    timed("empty", seal(TEMPLATES[0]), f"{folder}/0")
+
+
+def speed(name):
+    return 64 * MIB / best[f"{name}.64"] / 1e6
+
+
+def growth(name):
+    return best[f"{name}.64"] / best[f"{name}.16"]
+
+
+sha = speed("sha")
+print("| work | MB/s | part of SHA-256's speed | time of 64 MiB / time of 16 MiB |")
+print("|---|---|---|---|")
+print(f"| SHA-256 of the kit | {sha:.0f} | 1.00 | {growth('sha'):.2f} |")
+for template in TEMPLATES:
+    for way in ("seal", "open"):
+        name = f"{way}.{template}"
+        print(f"| {way}, {template} | {speed(name):.0f} | {speed(name) / sha:.2f} | {growth(name):.2f} |")
+print(f"\nA seal of no text takes {best['empty'] * 1000:.2f} ms, a program that does nothing {best['nothing'] * 1000:.2f} ms.")
+
+if shutil.which("openssl"):
+    # No AES, no carry-less products, no SHA by instructions of the processor.
+    plain = {"OPENSSL_ia32cap": "~0x200000200000000:~0x20000000"}
+
+    def openssl(cipher, size):
+        words = ["openssl", "speed", "-elapsed", "-mr", "-seconds", "1", "-bytes", str(size), "-evp", cipher]
+        line = [it for it in out(*words, **plain).decode().split("\n") if it.startswith("+F:")][-1]
+        return float(line.split(":")[-1]) / 1e6
+
+    hashed = openssl("sha256", 4096)
+    print("\n| OpenSSL without the processor's instructions, 4,096 bytes a call | MB/s | seal under the same cipher as a part of it |")
+    print("|---|---|---|")
+    for size in (128, 256):
+        ctr, gcm = openssl(f"aes-{size}-ctr", 4096), openssl(f"aes-{size}-gcm", 4096)
+        both = 1 / (1 / ctr + 1 / hashed)
+        print(f"| AES-{size}-CTR at {ctr:.0f} and SHA-256 at {hashed:.0f}, one after the other | {both:.0f} | {speed(f'seal.AES{size}_CTR_HMAC_SHA256_4KB') / both:.2f} |")
+        print(f"| AES-{size}-GCM | {gcm:.0f} | {speed(f'seal.AES{size}_GCM_HKDF_4KB') / gcm:.2f} |")
+PY
