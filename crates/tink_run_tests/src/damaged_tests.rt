@@ -1,11 +1,12 @@
 //! Streams that are cut, lengthened, put together anew or changed, through the program and through `run`.
 
-use crate::support::{KEYSET, SMALL, by_run, is, is_counted, opens, parts, sealed};
+use crate::support::{KEYSET, SMALL, counted, is, is_counted, opens, parts, sealed};
 use std::alloc::Global;
 use std::process::Abort;
 use std::test::Fail;
-use tink_io::Kind;
+use tink_io::{Draws, Kind, MemSink, MemSource};
 use tink_run::report::{Command, Report};
+use tink_run::run::run;
 
 // How many bytes are left of the stream of 4,041, the status, the bytes of text written, and the line.
 const CUTS: [(usize, u8, usize, &str); 9] = [
@@ -182,15 +183,44 @@ fn tells(
     )
 }
 
-// Whether `run` answers so to a stream under a keyset.
+// What an open of a stream answers by `run`, how many draws it leaves, and what it writes, where so many bytes move in a
+// call.
+fn opened_in(
+    alloc: Global,
+    keyset: &[u8],
+    stream: &[u8],
+    piece: usize,
+) -> Result<(Result<Report, Kind>, usize, Vec<u8>), Fail> {
+    let mut draws = Draws::new(counted(alloc, 3)?);
+    let mut source = MemSource::new(Vec::from_slice(alloc, stream)?, piece, Vec::new(alloc));
+    let mut sink = MemSink::new(alloc, piece, Vec::new(alloc));
+    sink.reserve(alloc, 100)?;
+    let answer = run(
+        alloc,
+        Command::Open,
+        keyset,
+        &[],
+        &mut draws,
+        &mut source,
+        &mut sink,
+    );
+    Ok((answer.map_err(|e| e.kind), draws.left(), sink.into_bytes()))
+}
+
+// Whether `run` answers so to a stream under a keyset, by pieces of each size.
 fn answers(
     alloc: Global,
     keyset: &str,
-    stream: Vec<u8>,
+    stream: &[u8],
     (answer, written): (Result<Report, Kind>, usize),
 ) -> Result<bool, Fail> {
-    let found = by_run(alloc, Command::Open, keyset, 3, stream)?;
-    Ok(found.answer == answer && found.draws == 3 && is_counted(&found.written, written))
+    let keyset = hex::decode(alloc, keyset)?;
+    let mut alike = true;
+    for piece in [1usize, 7, 4096] {
+        let (told, draws, bytes) = opened_in(alloc, &keyset, stream, piece)?;
+        alike = alike && told == answer && draws == 3 && is_counted(&bytes, written);
+    }
+    Ok(alike)
 }
 
 // Compares what `run` and the program answer to parts of a stream under a keyset.
@@ -205,7 +235,7 @@ fn both(
     let by_run = answers(
         alloc,
         keyset,
-        parts(alloc, stream, places)?,
+        &parts(alloc, stream, places)?,
         (answer, written),
     )?;
     is(rt, by_run, line);

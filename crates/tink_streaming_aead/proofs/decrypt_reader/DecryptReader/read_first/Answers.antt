@@ -1,5 +1,5 @@
 use Rattle.std.proofs.Common.{Ok, ap, map, subst, sym, vec_len, ◌∙◌}
-use Rattle.tink_stream_keys.specs.StreamKinds.{key_of}
+use Rattle.tink_stream_keys.specs.StreamKinds.{key_in_set}
 use Rattle.tink_streaming_aead.specs.DecryptReaders.{DecryptMeans, DecryptState}
 use Rattle.tink_streaming_aead.specs.DecryptStages.{state_of}
 use Rattle.tink_streaming_aead.specs.declared.decrypt_reader.Stage.{Stage}
@@ -15,4 +15,4 @@ returns-in-Ok-clause-answer g c =
     let new : DecryptState g.row.S.Denot = state_of (Chosen c.in-Ok.text) c.give_first.new.source in
     subst (λ (s : DecryptState g.row.S.Denot). DecryptMeans left faults s new c.args.buf.now c.give_first.new.buf (Ok c.in-Ok.n))
     (ap (λ (st : Stage). state_of st c.self.inside.source) (sym c.in-Unread.is ∙ c.replace-stage.ensures.value) ∙ c.self.view_is)
-    (first_read left faults (map key_of choice.keys.items) choice.data.items (vec_len choice.trial.kept.buffer) c.self.inside.source new c.args.buf.now c.give_first.new.buf (Ok c.in-Ok.n) c.requires.some c.in-Ok.ensures.answer)
+    (first_read left faults (map key_in_set choice.keys.items) choice.data.items (vec_len choice.trial.kept.buffer) c.self.inside.source new c.args.buf.now c.give_first.new.buf (Ok c.in-Ok.n) c.requires.some c.in-Ok.ensures.answer)
