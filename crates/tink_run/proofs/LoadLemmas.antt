@@ -1,9 +1,8 @@
 -- Loading, step by step.
 use Rattle.std.proofs.Common.{◌≡◌, inl, inr, ◌∙◌, ℕ, List, Bool, true, false, cond, refl, ap}
 use Rattle.std.specs.declared.option.Option.{Option}
-use Rattle.std.specs.Prelude.{Result, Ok, Err, Some, None}
+use Rattle.std.specs.Prelude.{Ok, Err, Some, None}
 use Rattle.tink_io.specs.Told.{Answers, or_refused}
-use Rattle.tink_io.specs.declared.error.Kind.{Kind}
 use Rattle.tink_io.specs.declared.error.Kind.TheVariants.{BadKeyset, InvalidKeyset}
 use Rattle.tink_io.specs.declared.error.TinkError.{TinkError}
 use Rattle.tink_proto.specs.declared.messages.keys.Keyset.{Keyset}
@@ -12,7 +11,7 @@ use Rattle.wire_format.specs.Message.{decoded}
 use Rattle.keyset_model.specs.Validity.{is_valid}
 use Rattle.tink_keysets.specs.Encrypted.{chained}
 use Rattle.tink_keysets.specs.Valid.{valid_keyset, valid_or_refused}
-use Rattle.loading_model.specs.Loading.{Loaded, load_decoded, load_keys, ◌then◌}
+use Rattle.loading_model.specs.Loading.{load_decoded, load_keys, ◌then◌}
 use Rattle.tink_run.specs.AllKeys.{load, rows}
 use Rattle.tink_run.specs.HeldKeys.{GivesHeld}
 

@@ -1,16 +1,13 @@
 -- From the set of the streaming keys of a handle to what its keyset loads as.
-use Rattle.std.proofs.Common.{◌≡◌, inl, inr, ◌∙◌, ◌&&◌, ◌||◌, ℕ, zero, suc, ℤ, pos, negsuc, arith, ⊎_elim, List, [], ◌∷◌, Bool, true, false, cond, not, map, refl, sym, ap, subst, Some, None, Vec}
+use Rattle.std.proofs.Common.{◌≡◌, inl, inr, ◌∙◌, ◌&&◌, ◌||◌, ℕ, ⊎_elim, List, [], ◌∷◌, Bool, true, false, cond, map, refl, sym, ap, subst, Some, None}
 use Rattle.std.specs.declared.option.Option.{Option}
-use Rattle.std.specs.Prelude.{Result, Ok, Err, IfOk, filter, find, int_le, is_some, nat_eq, unwrap_or, length}
-use Rattle.std.specs.BTreeMap.{BTreeMap}
+use Rattle.std.specs.Prelude.{Result, Ok, Err, IfOk, filter, find, is_some, nat_eq, length}
 use Rattle.std.specs.List.{list_all, list_any}
-use Rattle.std.specs.Ordering.{int_eq}
 use Rattle.std.specs.Str.{bytes_eq}
-use Rattle.std.proofs.lemmas.Bool.Decides.{Decides-int_eq, nat_tests}
 use Rattle.tink_io.specs.declared.error.Kind.{Kind}
 use Rattle.tink_io.specs.declared.error.Kind.TheVariants.{InvalidKey, NoPrimary}
 use Rattle.tink_io.specs.declared.error.TinkError.{TinkError}
-use Rattle.tink_io.specs.Told.{Answers, made_of}
+use Rattle.tink_io.specs.Told.{made_of}
 use Rattle.tink_primitives.specs.declared.primitive.Primitive.{Primitive}
 use Rattle.tink_primitives.specs.declared.primitive.Primitive.TheVariants.{StreamingAead}
 use Rattle.tink_primitives.specs.Sorts.{as_streaming_aead}
@@ -21,24 +18,22 @@ use Rattle.tink_registry.specs.Listed.{builds_by, manager_of, registry_builds}
 use Rattle.tink_sets.specs.declared.entry.Entry.{Entry}
 use Rattle.tink_sets.specs.declared.entry.TypedEntry.{TypedEntry}
 use Rattle.tink_sets.specs.declared.typed_set.TypedPrimitiveSet.{TypedPrimitiveSet}
-use Rattle.tink_sets.specs.Entries.{entry_of, entry_of_id, own_prefix, typed_by, typed_prefix_of, with_primitive}
+use Rattle.tink_sets.specs.Entries.{entry_of, entry_of_id, typed_by, typed_prefix_of, with_primitive}
 use Rattle.tink_sets.specs.Converting.{converted}
 use Rattle.tink_sets.specs.Converting as converting
-use Rattle.tink_sets.specs.Groups.{group_of}
 use Rattle.tink_building.specs.Given.{before, given_each}
 use Rattle.tink_building.proofs.BuildingFacts.{well_formed_keys}
 use Rattle.tink_keysets.specs.Built.{built_data, built_entries, built_entry, GivesSet, HasEntries}
 use Rattle.tink_factory.specs.Typing.{typed_entries}
-use Rattle.keyset_model.specs.Entries.{byte_and_id, prefix_of}
 use Rattle.keyset_model.specs.Keys.{is_enabled}
-use Rattle.keyset_model.specs.Validity.{has_its_data, is_from_to, is_held_keyset, is_validated, is_well_formed, IsValid}
-use Rattle.stream_model.specs.Key.{StreamKey, fronted}
+use Rattle.keyset_model.specs.Validity.{is_held_keyset, is_validated, is_well_formed, IsValid}
+use Rattle.stream_model.specs.Key.{fronted}
 use Rattle.tink_stream_keys.specs.declared.stream_kind.StreamKind.{StreamKind}
 use Rattle.tink_stream_keys.specs.StreamKinds.{key_in_set, key_of}
 use Rattle.tink_streaming_aead.specs.Wrapped.{key_in, keys_in}
 use Rattle.loading_model.specs.Loading.{EnabledKey, Loaded, LoadedKey, LoadingRow, ◌then◌, build, build_data, build_key, build_keys, built_by, key_of_id, out_of, load_built, load_keys, streaming_key, streaming_keys, streaming_part, with_primary}
 use Rattle.tink_run.specs.AllKeys.{built_key, loading_row, rows_by}
-use Rattle.tink_run.specs.HeldKeys.{GivesHeld, IsHeld}
+use Rattle.tink_run.specs.HeldKeys.{GivesHeld}
 
 and_parts : (a b : Bool) → (a && b) ≡ true → (a ≡ true) × (b ≡ true)
 and_parts true b e = (refl, e)

@@ -1,5 +1,5 @@
 -- From the table of an open's answers to its promises.
-use Rattle.std.proofs.Common.{◌≡◌, inl, inr, ◌≤◌, ◌<◌, ◌+◌, ◌-◌, ℕ, zero, suc, Bool, true, false, cond, List, [], ◌∷◌, ◌++◌, length, take, drop, map, refl, sym, ap, subst, ◌∙◌, arith, Some, None, length-append, filter}
+use Rattle.std.proofs.Common.{◌≡◌, inl, inr, ◌≤◌, ◌<◌, ◌+◌, ◌-◌, ℕ, zero, suc, Bool, List, [], ◌∷◌, ◌++◌, length, take, map, refl, sym, ap, subst, ◌∙◌, arith, Some, None, length-append}
 use Rattle.std.specs.declared.option.Option.{Option}
 use Rattle.std.specs.Prelude.{Result, Ok, Err, IsSome, slice_index_or}
 use Rattle.std.proofs.KnownBytes.{Keeps-refl}

@@ -1,5 +1,5 @@
 -- From the answers of loading, sealing and opening to what a run answers.
-use Rattle.std.proofs.Common.{◌≡◌, ◌∙◌, inl, inr, ℕ, List, [], ◌∷◌, All, refl, sym, ap, subst, Some}
+use Rattle.std.proofs.Common.{◌≡◌, ◌∙◌, inl, inr, ℕ, List, [], ◌∷◌, All, refl, sym, subst, Some}
 use Rattle.std.proofs.lemmas.Simd.{map-map}
 use Rattle.std.specs.Prelude.{Result, Ok, Err, map}
 use Rattle.std.proofs.lemmas.List.Elements.{All-cons, All-nil}
@@ -14,7 +14,7 @@ use Rattle.stream_model.proofs.OrderFacts.{choose_the_same}
 use Rattle.tink_sets.specs.declared.typed_set.TypedPrimitiveSet.{TypedPrimitiveSet}
 use Rattle.tink_stream_keys.specs.declared.stream_kind.StreamKind.{StreamKind}
 use Rattle.tink_streaming_aead.specs.Wrapped.{KeepsOrder, all_entries, key_in, keys_in}
-use Rattle.loading_model.specs.Loading.{AreUsable, Loaded, LoadedKey, opening_keys}
+use Rattle.loading_model.specs.Loading.{AreUsable, Loaded, LoadedKey}
 use Rattle.tink_run.specs.AllKeys.{load}
 use Rattle.tink_run.specs.HeldKeys.{GivesHeld}
 use Rattle.tink_run.specs.declared.report.Command.{Command}

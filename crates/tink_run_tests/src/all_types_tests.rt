@@ -205,7 +205,7 @@ fn keysets_of_all_types_have_statuses(rt: HostRuntime) -> Result<(), Fail> {
 fn a_key_of_another_type_opens_nothing(rt: HostRuntime) -> Result<(), Fail> {
     let alloc = rt.alloc();
     let stream = sealed(alloc, KEYSET, "-", 100)?;
-    let (_, _, _, keyset) = KEYSETS[9];
+    let (_, _, _, keyset) = KEYSETS[11];
     opens(
         &rt,
         alloc,

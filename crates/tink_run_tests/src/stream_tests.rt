@@ -1,6 +1,6 @@
 //! Whole streams through the program. Bytes and digests of streams are those of an independent model in Python.
 
-use crate::support::{KEYSET, SEED, SMALL, by_words, is, opens, sealed};
+use crate::support::{KEYSET, SEED, SMALL, by_words, is, opens, parts, sealed};
 use hash_keys::Hash;
 use std::alloc::Global;
 use std::process::Abort;
@@ -341,8 +341,19 @@ const FRONTS: [Front; 8] = [
 fn begins_by(rt: &impl Abort, alloc: Global, row: &Front) -> Result<(), Fail> {
     let (keyset, prefix, count, cut, told) = *row;
     let stream = sealed(alloc, keyset, "-", count)?;
-    is(rt, stream[..5] == prefix[..5], "prefix");
-    opens(rt, alloc, (keyset, "-"), stream[..cut].to_vec(alloc)?, told)
+    is(rt, stream.starts_with(prefix), "prefix");
+    let front = parts(alloc, &stream, &[(0, cut)])?;
+    opens(rt, alloc, (keyset, "-"), front, told)
+}
+
+// No prefix of the stream of no text opens.
+fn is_opened_whole(rt: &impl Abort, alloc: Global, keyset: &str) -> Result<(), Fail> {
+    let stream = sealed(alloc, keyset, "-", 0)?;
+    for cut in 0..stream.len() {
+        let front = parts(alloc, &stream, &[(0, cut)])?;
+        opens(rt, alloc, (keyset, "-"), front, NONE)?;
+    }
+    Ok(())
 }
 
 #[test]
@@ -350,9 +361,18 @@ fn streams_begin_by_the_prefix_of_their_key(rt: HostRuntime) -> Result<(), Fail>
     for row in &FRONTS {
         begins_by(&rt, rt.alloc(), row)?;
     }
+    for keyset in [PREFIXED, LEGACY, CRUNCHY] {
+        is_opened_whole(&rt, rt.alloc(), keyset)?;
+    }
+    Ok(())
+}
+
+#[test]
+fn a_raw_stream_is_behind_the_prefix(rt: HostRuntime) -> Result<(), Fail> {
     let plain = sealed(rt.alloc(), KEYSET, "-", 10)?;
     let prefixed = sealed(rt.alloc(), PREFIXED, "-", 10)?;
-    is(&rt, prefixed[5..] == plain[..], "behind the prefix");
+    let behind = prefixed.get(5..).unwrap_or(&[]);
+    is(&rt, behind == plain.as_slice(), "behind the prefix");
     Ok(())
 }
 

@@ -180,40 +180,53 @@ fn write_text(writer: &mut Writer<MemSink, StreamSegment>) -> Result<(), TinkErr
     writer.close()
 }
 
-// The stream of the text by the primary key of this prefix, and how far the keys open it.
+// The stream of the text by the primary key of this type of prefix, which begins with the prefix and is opened by the keys
+// whole; and what they answer to the stream without its prefix.
 fn expect_sealed(
     rt: &impl Abort,
     alloc: Global,
     prefix: OutputPrefixType,
-    bytes: usize,
-    wanted: Option<Kind>,
-    segments: u64,
+    out: &[u8],
+    bare: (usize, Option<Kind>, u64),
 ) -> Result<(), TinkError> {
     let aeads = aeads(alloc, prefix)?;
-    expect_stream(rt, alloc, &aeads)?;
-    let mut reader = reader_by(alloc, &aeads, BY_GCM, &[])?;
-    expect_given(rt, alloc, &mut reader, bytes, wanted, segments)
+    let mut want = Vec::from_slice(alloc, out)?;
+    want.extend_from_slice(BY_GCM)?;
+    expect_bytes(rt, &sealed(alloc, &aeads)?, &want, "the stream");
+    expect_opened(rt, alloc, &aeads, &want, (60, None, 3))?;
+    expect_opened(rt, alloc, &aeads, BY_GCM, bare)
 }
 
-fn expect_stream(
+// How far the keys open a stream.
+fn expect_opened(
     rt: &impl Abort,
     alloc: Global,
     aeads: &WrappedStreamingAead,
+    stream: &[u8],
+    (bytes, wanted, segments): (usize, Option<Kind>, u64),
 ) -> Result<(), TinkError> {
-    let stream = sealed(alloc, aeads)?;
-    expect_bytes(rt, &stream, BY_GCM, "the stream");
-    Ok(())
+    let mut reader = reader_by(alloc, aeads, stream, &[])?;
+    expect_given(rt, alloc, &mut reader, bytes, wanted, segments)
 }
 
 #[test]
-fn the_primary_key_seals_and_a_raw_key_opens(rt: HostRuntime) -> Result<(), Fail> {
-    expect_sealed(&rt, rt.alloc(), OutputPrefixType::Raw, 60, None, 3)?;
-    Ok(())
-}
-
-#[test]
-fn a_key_with_a_prefix_seals_and_does_not_open(rt: HostRuntime) -> Result<(), Fail> {
-    let refused = Some(Kind::NoMatchingKey);
-    expect_sealed(&rt, rt.alloc(), OutputPrefixType::Tink, 0, refused, 0)?;
+fn a_stream_begins_with_the_prefix_of_its_key(rt: HostRuntime) -> Result<(), Fail> {
+    let alloc = rt.alloc();
+    let refused = (0, Some(Kind::NoMatchingKey), 0);
+    expect_sealed(&rt, alloc, OutputPrefixType::Raw, b"", (60, None, 3))?;
+    expect_sealed(
+        &rt,
+        alloc,
+        OutputPrefixType::Tink,
+        b"\x01\0\0\0\x03",
+        refused,
+    )?;
+    expect_sealed(
+        &rt,
+        alloc,
+        OutputPrefixType::Legacy,
+        b"\0\0\0\0\x03",
+        refused,
+    )?;
     Ok(())
 }

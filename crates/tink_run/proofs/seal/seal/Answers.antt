@@ -2,12 +2,12 @@ use Rattle.std.proofs.Common.{refl, arith}
 use Rattle.std.proofs.lemmas.Result.{err_from_is_err_and}
 use Rattle.tink_run.proofs.SealSteps.{begin_leaves, begin_refusal, close_leaves, closed, not_closed, not_poured, pour_leaves}
 use Rattle.tink_run.proofs.RunSteps.{leaves_same}
-use Rattle.tink_stream_keys.specs.StreamKinds.{key_of}
+use Rattle.tink_stream_keys.specs.StreamKinds.{key_in_set}
 use Rattle.tink_run.proofs.seal.seal.Goals as goal
 
 pub returns-in-Err-clause-answer : goal.returns-in-Err-clause-answer
 returns-in-Err-clause-answer g c =
-    begin_refusal g.K.Sink.got g.K.Sink.faults (key_of c.args.key.now) c.args.aad.now c.args.draws.now c.begin_stream.new.draws c.args.sink.now c.begin_stream.new.sink
+    begin_refusal g.K.Sink.got g.K.Sink.faults (key_in_set c.args.key.now) c.args.aad.now c.args.draws.now c.begin_stream.new.draws c.args.sink.now c.begin_stream.new.sink
     (g.S.Source.left c.args.source.now) (g.S.Source.faults c.args.source.now) c.in-Err.error.kind c.not_begun.result c.not_begun.ensures c.in-Err.ensures.answer
 
 pub returns-in-Err-clause-source : goal.returns-in-Err-clause-source
@@ -50,7 +50,7 @@ returns-in_err-piece-clause-early g c = leaves_same c.from_residual.result c.arg
 
 pub returns-in-Err-clause-early : goal.returns-in-Err-clause-early
 returns-in-Err-clause-early g c =
-    begin_leaves g.K.Sink.got g.K.Sink.faults (key_of c.args.key.now) c.args.aad.now c.args.draws.now c.begin_stream.new.draws c.args.sink.now c.begin_stream.new.sink
+    begin_leaves g.K.Sink.got g.K.Sink.faults (key_in_set c.args.key.now) c.args.aad.now c.args.draws.now c.begin_stream.new.draws c.args.sink.now c.begin_stream.new.sink
     (g.S.Source.left c.args.source.now) (g.S.Source.faults c.args.source.now) c.args.source.now c.in-Err.error.kind c.not_begun.result c.not_begun.ensures c.in-Err.ensures.answer
 
 pub returns-in_err-bytes-clause-early : goal.returns-in_err-bytes-clause-early
