@@ -20,7 +20,7 @@ use Rattle.tink_io.specs.declared.error.Kind.TheVariants.{DecryptFailed, TooShor
 use Rattle.tink_daead.specs.declared.subtle.aes_siv.SivCiphers.{SivCiphers}
 use Rattle.tink_daead.specs.declared.subtle.aes_siv.SivCiphers.TheVariants.{Aes128, Aes256}
 use Rattle.tink_daead.specs.AesSiv.{aes_siv, aes_siv_decrypts, counter_half, mac_half, text_behind, tried}
-use Rattle.tink_daead.specs.AesSivLaws.{AcceptsExactly, HasOneText, IsSivKey, RefusesOthers, RefusesShort}
+use Rattle.tink_daead.specs.AesSivLaws.{DecryptsExactly, HasOneText, IsSivKey, RefusesOthers, RefusesShort}
 use Rattle.tink_daead.specs.SivCiphers.{whole_key, FitsCiphers}
 
 -- ---- SIV over any map
@@ -147,7 +147,7 @@ module _ (key : List ℕ) (half : 16 ≤ length (mac_half key)) where
 
 -- ---- the laws
 
-pub accepts_exactly : AcceptsExactly
+pub accepts_exactly : DecryptsExactly
 accepts_exactly = λ key input aad text is. (is_sealed key (long_half key is) input aad text, opens key (long_half key is) input aad text)
 
 pub refuses_short : RefusesShort

@@ -8,8 +8,8 @@ abbrev pub IsSivKey : List ℕ → Type 0
 IsSivKey key = IsTrue (is_siv_key_size (length key))
 
 -- an input is decrypted to a text exactly where it is the text's encryption with this data
-abbrev pub AcceptsExactly : Type 0
-AcceptsExactly = (key input aad text : List ℕ) → IsSivKey key → (aes_siv_decrypts key input aad ≡ Ok text) ↔ (input ≡ aes_siv key aad text)
+abbrev pub DecryptsExactly : Type 0
+DecryptsExactly = (key input aad text : List ℕ) → IsSivKey key → (aes_siv_decrypts key input aad ≡ Ok text) ↔ (input ≡ aes_siv key aad text)
 
 -- it is too short exactly where it has fewer than 16 bytes
 abbrev pub RefusesShort : Type 0

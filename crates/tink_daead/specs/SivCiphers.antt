@@ -14,6 +14,6 @@ FitsCiphers (Aes128 pair) = (length pair.mac ≡ 16) × (length pair.counter ≡
 FitsCiphers (Aes256 pair) = (length pair.mac ≡ 32) × (length pair.counter ≡ 32)
 
 -- the ciphers are under this key
-pub record IsKeyed (ciphers : SivCiphers) (key : List ℕ) : Type 0 where
+pub record AreKeyed (ciphers : SivCiphers) (key : List ℕ) : Type 0 where
   pub same : whole_key ciphers ≡ key
   pub sized : FitsCiphers ciphers

@@ -19,7 +19,8 @@ use tink_proto::{KeyTemplate, Text};
 pub fn init<M>(alloc: Global, registry: &mut Registry<M>) -> Result<(), TinkError>
 where
     M: KeyManager + Drop + From<AesSivKeyManager>,
-    ensures { Registers (AreMade (IsMade M.From.from_gives ∷ [])) M.url daead_templates registry.old registry.new result }
+    ensures { Registers (AreMade (IsMade M.From.from_gives ∷ [])) M.url daead_templates
+        registry.old registry.new result }
 {
     let managers = managers(alloc)?;
     let templates = templates(alloc)?;

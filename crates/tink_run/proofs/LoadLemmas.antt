@@ -13,7 +13,7 @@ use Rattle.tink_keysets.specs.Encrypted.{chained}
 use Rattle.tink_keysets.specs.Valid.{valid_keyset, valid_or_refused}
 use Rattle.loading_model.specs.Loading.{load_decoded, load_keys, ◌then◌}
 use Rattle.tink_run.specs.AllKeys.{load, rows}
-use Rattle.tink_run.specs.HeldKeys.{GivesHeld}
+use Rattle.tink_run.specs.HeldKeys.{GivesLoaded}
 
 -- what is loaded are the keys of the valid keyset
 load_then : (bytes : List ℕ) → load bytes ≡ (valid_keyset bytes then load_keys rows)
@@ -29,7 +29,7 @@ load_then bytes = by_decoded (decoded keyset.read bytes)
     by_decoded (Some ks) = by_valid ks (is_valid ks)
 
 -- a refused keyset is not loaded
-pub is_refused : (bytes : List ℕ) (e : TinkError) → Answers {T = Keyset} (Err e) (valid_keyset bytes) → GivesHeld (Err e) (load bytes)
+pub is_refused : (bytes : List ℕ) (e : TinkError) → Answers {T = Keyset} (Err e) (valid_keyset bytes) → GivesLoaded (Err e) (load bytes)
 is_refused bytes e (inl want) = inl want
 is_refused bytes e (inr cause) = inr (load_then bytes ∙ ap (λ r. r then load_keys rows) cause)
 

@@ -33,7 +33,7 @@ use Rattle.tink_stream_keys.specs.StreamKinds.{key_in_set, key_of}
 use Rattle.tink_streaming_aead.specs.Wrapped.{key_in, keys_in}
 use Rattle.loading_model.specs.Loading.{EnabledKey, Loaded, LoadedKey, LoadingRow, ◌then◌, build, build_data, build_key, build_keys, built_by, key_of_id, out_of, load_built, load_keys, streaming_key, streaming_keys, streaming_part, with_primary}
 use Rattle.tink_run.specs.AllKeys.{built_key, loading_row, rows_by}
-use Rattle.tink_run.specs.HeldKeys.{GivesHeld}
+use Rattle.tink_run.specs.HeldKeys.{GivesLoaded}
 
 and_parts : (a b : Bool) → (a && b) ≡ true → (a ≡ true) × (b ≡ true)
 and_parts true b e = (refl, e)
@@ -219,10 +219,10 @@ module _ {M K A D HD HE Mc P S V : Type 0} (url : M → List ℕ) (supports : M 
 
   -- the set of what was built has the keys that are loaded
   is_held_by : (id : ℕ) (set : TypedPrimitiveSet StreamKind) → is_some set.primary ≡ true → (ts : List Typed) (ls : List LoadedKey) (loaded : Result Loaded Kind)
-      → HasEntries typed_prefix_of (λ t. t.key_id) id ts set.primary set.entries → AreKeys ts ls → loaded ≡ with_primary ls (key_of_id id ls) → GivesHeld (Ok set) loaded
+      → HasEntries typed_prefix_of (λ t. t.key_id) id ts set.primary set.entries → AreKeys ts ls → loaded ≡ with_primary ls (key_of_id id ls) → GivesLoaded (Ok set) loaded
   is_held_by id set there ts ls loaded has are is = by_primary set.primary refl there (ap key_in has.by_id ∙ primary_same id ts ls are)
     where
-      by_primary : (o : Option Typed) → set.primary ≡ o → is_some o ≡ true → key_in o ≡ key_of_id id ls → GivesHeld (Ok set) loaded
+      by_primary : (o : Option Typed) → set.primary ≡ o → is_some o ≡ true → key_in o ≡ key_of_id id ls → GivesLoaded (Ok set) loaded
       by_primary None own some same = absurd (cc)
       by_primary (Some t) own some same = (
         record { keys = ls; primary = key_in_set t },
@@ -232,7 +232,7 @@ module _ {M K A D HD HE Mc P S V : Type 0} (url : M → List ℕ) (supports : M 
 
   set_loaded : (set : TypedPrimitiveSet StreamKind) → is_some set.primary ≡ true → (ks : Keyset) → IsValid ks → (ts : List Typed)
       → typed_entries as_streaming_aead ks.primary_key_id (built_entries url supports builds entry_of managers None ks) ≡ Ok ts
-      → HasEntries typed_prefix_of (λ t. t.key_id) ks.primary_key_id ts set.primary set.entries → GivesHeld (Ok set) (load_keys rows ks)
+      → HasEntries typed_prefix_of (λ t. t.key_id) ks.primary_key_id ts set.primary set.entries → GivesLoaded (Ok set) (load_keys rows ks)
   set_loaded set there ks valid ts told has =
       let all = subst (λ r. LoadsAs ks.primary_key_id r (load_keys rows ks)) told (loads_as ks valid) in
       is_held_by ks.primary_key_id set there ts all.0 (load_keys rows ks) has all.2 all.1
@@ -243,6 +243,6 @@ module _ {M K A D HD HE Mc P S V : Type 0} (url : M → List ℕ) (supports : M 
   -- what the typed set of a valid keyset answers
   pub set_answers : (ks : Keyset) → IsValid ks → (r : Result (TypedPrimitiveSet StreamKind) TinkError)
       → GivesSet (λ ts set. HasEntries typed_prefix_of (λ t. t.key_id) ks.primary_key_id ts set.primary set.entries) r (typed_entries as_streaming_aead ks.primary_key_id (built_entries url supports builds entry_of managers None ks))
-      → IfOk r (λ set. is_some set.primary ≡ true) → GivesHeld r (load_keys rows ks)
+      → IfOk r (λ set. is_some set.primary ≡ true) → GivesLoaded r (load_keys rows ks)
   set_answers ks valid (Ok set) given there = set_loaded set there ks valid given.0 given.1 given.2
   set_answers ks valid (Err e) given there = ⊎_elim inl (λ is. inr (not_loaded ks e.kind valid is)) given

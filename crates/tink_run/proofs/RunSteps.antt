@@ -16,7 +16,7 @@ use Rattle.tink_stream_keys.specs.declared.stream_kind.StreamKind.{StreamKind}
 use Rattle.tink_streaming_aead.specs.Wrapped.{KeepsOrder, all_entries, key_in, keys_in}
 use Rattle.loading_model.specs.Loading.{AreUsable, Loaded, LoadedKey}
 use Rattle.tink_run.specs.AllKeys.{load}
-use Rattle.tink_run.specs.HeldKeys.{GivesHeld}
+use Rattle.tink_run.specs.HeldKeys.{GivesLoaded}
 use Rattle.tink_run.specs.declared.report.Command.{Command}
 use Rattle.tink_run.specs.declared.report.Command.TheVariants.{Seal, Open}
 use Rattle.tink_run.specs.declared.report.Report.{Report}
@@ -56,7 +56,7 @@ unloaded Seal keyset aad draws old new e u l = seal_unloaded keyset aad draws ol
 unloaded Open keyset aad draws old new e u l = (open_unloaded keyset aad draws old new e e.kind u l (load_refuses keyset e.kind l), refl)
 
 -- what a run answers where the keyset does not load, or there is no memory for it
-pub not_loaded : (command : Command) (keyset aad draws : List ℕ) (old new : Outside) (e : TinkError) → IsUntouched old new → GivesHeld (Err e) (load keyset) → AnswerMeans command keyset aad draws draws old new (Err e)
+pub not_loaded : (command : Command) (keyset aad draws : List ℕ) (old new : Outside) (e : TinkError) → IsUntouched old new → GivesLoaded (Err e) (load keyset) → AnswerMeans command keyset aad draws draws old new (Err e)
 not_loaded Seal keyset aad draws old new e u (inl m) = subst (SealRefused keyset aad draws draws old new e) (sym m) (record { untouched = u; undrawn = refl })
 not_loaded Open keyset aad draws old new e u (inl m) = (subst (OpenRefused keyset aad draws draws old new e) (sym m) (record { untouched = u; undrawn = refl }), refl)
 not_loaded command keyset aad draws old new e u (inr l) = unloaded command keyset aad draws old new e u l
@@ -70,7 +70,7 @@ leaves_same (Ok report) source sink = tt
 leaves_same (Err e) source sink = λ early. (refl, refl)
 
 -- a seal under the primary key is a seal under the keyset
-pub seals_keyset : (keyset aad draws left_draws : List ℕ) (set : TypedPrimitiveSet StreamKind) (key : StreamKey) (old new : Outside) (answer : Result Report TinkError) → GivesHeld (Ok set) (load keyset) → key_in set.primary ≡ Some key
+pub seals_keyset : (keyset aad draws left_draws : List ℕ) (set : TypedPrimitiveSet StreamKind) (key : StreamKey) (old new : Outside) (answer : Result Report TinkError) → GivesLoaded (Ok set) (load keyset) → key_in set.primary ≡ Some key
     → SealsUnder key aad draws left_draws old new answer → AnswerMeans Seal keyset aad draws left_draws old new answer
 seals_keyset keyset aad draws left_draws set key old new answer loads primary r =
     let one : Some key ≡ Some loads.0.primary = sym primary ∙ loads.2.primary in
@@ -93,7 +93,7 @@ opens_same ks js old new same (Err e) r = go e.kind refl r
     go _ is r = subst (OpeningRefused js old new) is (means_by ks js old new (λ S e. same S) (Err e) (subst (OpeningRefused ks old new) (sym is) r))
 
 -- an open under all keys of the set is an open under the keyset
-pub opens_keyset : (keyset aad draws : List ℕ) (set : TypedPrimitiveSet StreamKind) (old new : Outside) (answer : Result Report TinkError) → GivesHeld (Ok set) (load keyset) → KeepsOrder set.entries
+pub opens_keyset : (keyset aad draws : List ℕ) (set : TypedPrimitiveSet StreamKind) (old new : Outside) (answer : Result Report TinkError) → GivesLoaded (Ok set) (load keyset) → KeepsOrder set.entries
     → OpensUnder (map (opening_key aad) (keys_in (all_entries set.entries))) old new answer → AnswerMeans Open keyset aad draws draws old new answer
 opens_keyset keyset aad draws set old new answer loads order r =
     let l : Loaded = loads.0 in

@@ -3,7 +3,7 @@
 ghost use Rattle.std.specs.Prelude.{◌≡◌, true, is_some, IfOk};
 ghost use Rattle.keyset_model.specs.Validity.{IsValid};
 ghost use Rattle.tink_run.specs.AllKeys.{load, rows, rows_by};
-ghost use Rattle.tink_run.specs.HeldKeys.{GivesHeld};
+ghost use Rattle.tink_run.specs.HeldKeys.{GivesLoaded};
 ghost use Rattle.loading_model.specs.Loading.{load_keys};
 
 use std::alloc::Global;
@@ -24,7 +24,7 @@ use tink_streaming_aead::StreamKind;
 /// `NoPrimary` where no enabled key has the primary id, and `WrongPrimitive` where an enabled key is
 /// none of streams. `OutOfMemory` may come in place of each.
 pub fn load(alloc: Global, bytes: &[u8]) -> Result<TypedPrimitiveSet<StreamKind>, TinkError>
-    ensures answer { GivesHeld result (load bytes.now) }
+    ensures answer { GivesLoaded result (load bytes.now) }
     ensures primary { IfOk result (λ set. is_some set.primary ≡ true) }
 {
     let handle = insecure::valid_handle(alloc, bytes)?;
@@ -34,7 +34,7 @@ pub fn load(alloc: Global, bytes: &[u8]) -> Result<TypedPrimitiveSet<StreamKind>
 // The keys of streams of a valid keyset, by the managers of all types of keys.
 fn build_all(alloc: Global, handle: &Handle) -> Result<TypedPrimitiveSet<StreamKind>, TinkError>
     requires { IsValid handle.now }
-    ensures answer { GivesHeld result (load_keys rows handle.now) }
+    ensures answer { GivesLoaded result (load_keys rows handle.now) }
     ensures primary { IfOk result (λ set. is_some set.primary ≡ true) }
 {
     let registry = tink::registry(alloc)?;
@@ -50,7 +50,7 @@ fn build<M: KeyManager>(
 where
     M::Family: Kinds<StreamingAead = StreamKind>,
     requires { IsValid handle.now }
-    ensures answer { GivesHeld result
+    ensures answer { GivesLoaded result
         (load_keys (rows_by M.url M.builds registry.now.managers) handle.now) }
     ensures primary { IfOk result (λ set. is_some set.primary ≡ true) }
 {

@@ -10,7 +10,7 @@ use Rattle.tink_sets.specs.declared.entry.TypedEntry.{TypedEntry}
 use Rattle.tink_mac.specs.Wrapped.{any_verifies, primary_mac, Computes, Verifies}
 use Rattle.tink_mac.specs.WrappedLaws.{any_verifies_told}
 use Rattle.tink_tokens.specs.Reading.{IsRead, IsSpelling, IsSplit}
-use Rattle.tink_tokens.specs.Tokens.{dot, spelled, IsAccepted, IsAnswered, IsOneToken, IsRefused, IsSigning, IsTokenOf, IsVerifying}
+use Rattle.tink_tokens.specs.Tokens.{dot, spelled, IsAccepted, IsAnswered, IsOneToken, IsTokenRefused, IsSigning, IsTokenOf, IsVerifying}
 
 pub one_token : (token front back payload mac : List ℕ) → IsSplit token front back → IsSpelling front payload
     → IsSpelling back mac → IsOneToken token payload mac
@@ -50,7 +50,7 @@ module _ {P : Type 0} (verifies : Verifies P) (group : List ℕ → List (TypedE
   -- `OutOfMemory`, or what a part that is no spelling shows
   pub unread : (text : List ℕ) (e : TinkError) → IsRead text (Err e)
       → ((p m : List ℕ) → IsTokenOf token p m → (b : List ℕ) × (IsBytes b × (text ≡ spelled b)))
-      → IsRefused verifies group token e.kind
+      → IsTokenRefused verifies group token e.kind
   unread text e (inl memory) part = inl memory
   unread text e (inr bad) part =
       inr (inl (bad.0, λ p m is. let b = part p m is in bad.1 b.0 b.1.0 b.1.1))

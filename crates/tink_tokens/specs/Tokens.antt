@@ -65,11 +65,11 @@ module _ {P : Type 0} (verifies : Verifies P) (group : List ℕ → List (TypedE
     pub answered : any_verifies verifies group mac (spelled payload) ≡ answer
 
   -- why a token is refused
-  abbrev pub IsRefused : Kind → Type 0
-  IsRefused kind =
+  abbrev pub IsTokenRefused : Kind → Type 0
+  IsTokenRefused kind =
       (kind ≡ OutOfMemory) ⊎ ((kind ≡ BadToken) × IsNoToken token)
       ⊎ ((kind ≡ MacMismatch) × ((payload : List ℕ) × IsAnswered (Err MacMismatch) payload))
 
   abbrev pub IsVerifying : Result (List ℕ) TinkError → Type 0
   IsVerifying (Ok payload) = IsAnswered (Ok tt) payload
-  IsVerifying (Err e) = IsRefused e.kind
+  IsVerifying (Err e) = IsTokenRefused e.kind

@@ -6,8 +6,8 @@ ghost use Rattle.standards.specs.Siv.{s2v};
 ghost use Rattle.tink_io.specs.Told.{Answers, Tells};
 ghost use Rattle.tink_daead.specs.AesSiv.{aes_siv, aes_siv_decrypts, aes_siv_decrypts_told, aes_siv_encrypts};
 ghost use Rattle.tink_daead.specs.AesSiv.{is_siv_key_size, mac_half, siv_key, text_behind};
-ghost use Rattle.tink_daead.specs.AesSivLaws.{AcceptsExactly, HasOneText, RefusesOthers, RefusesShort};
-ghost use Rattle.tink_daead.specs.SivCiphers.{whole_key, FitsCiphers, IsKeyed};
+ghost use Rattle.tink_daead.specs.AesSivLaws.{DecryptsExactly, HasOneText, RefusesOthers, RefusesShort};
+ghost use Rattle.tink_daead.specs.SivCiphers.{whole_key, FitsCiphers, AreKeyed};
 
 use crate::subtle::siv::{SIV_SIZE, SivPair, pair_of};
 use aes_block::{Aes128, Aes256};
@@ -30,7 +30,7 @@ enum SivCiphers {
 impl SivCiphers {
     // The ciphers under the halves of a key, where it has one of the two sizes.
     fn new(key: &[u8]) -> Option<SivCiphers>
-        ensures { MatchOption result (is_siv_key_size (length key.now) ≡ false) (λ ciphers. IsKeyed ciphers key.now) }
+        ensures { MatchOption result (is_siv_key_size (length key.now) ≡ false) (λ ciphers. AreKeyed ciphers key.now) }
     {
         let n = key.len() / 2;
         if let Some(pair) = pair_of::<Aes128, 16>(&key[..n], &key[n..]) {
@@ -186,7 +186,7 @@ impl DeterministicAead for AesSiv {
 /// `TooShort` exactly an input of fewer than 16 bytes, and by `DecryptFailed` exactly any other that is the encryption
 /// of no text. No input is the encryption of two.
 pub fn law_aes_siv()
-    ensures accepts { AcceptsExactly }
+    ensures accepts { DecryptsExactly }
     ensures too_short { RefusesShort }
     ensures decrypt_failed { RefusesOthers }
     ensures one_text { HasOneText }

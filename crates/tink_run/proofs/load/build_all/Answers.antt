@@ -1,7 +1,7 @@
 use Rattle.std.proofs.Common.{inl, ap, ◌∙◌, subst}
 use Rattle.std.proofs.lemmas.Result.{err_from_is_err_and}
 use Rattle.tink_io.specs.declared.error.TinkError.{TinkError}
-use Rattle.tink_run.specs.HeldKeys.{GivesHeld}
+use Rattle.tink_run.specs.HeldKeys.{GivesLoaded}
 use Rattle.loading_model.specs.Loading.{load_keys}
 use Rattle.tink_run.proofs.RowFacts.{rows_of_all}
 use Rattle.tink_run.proofs.load.build_all.Goals as goal
@@ -13,4 +13,4 @@ returns-in_err-registry-clause-answer c =
 
 pub returns-clause-answer : goal.returns-clause-answer
 returns-clause-answer c =
-    subst (λ rs. GivesHeld c.build.result (load_keys rs c.args.handle.now)) (rows_of_all c.in_ok-registry.registry c.in_ok-registry.ensures.ok) c.build.ensures.answer
+    subst (λ rs. GivesLoaded c.build.result (load_keys rs c.args.handle.now)) (rows_of_all c.in_ok-registry.registry c.in_ok-registry.ensures.ok) c.build.ensures.answer
