@@ -205,11 +205,10 @@ fn keysets_of_all_types_have_statuses(rt: HostRuntime) -> Result<(), Fail> {
 fn a_key_of_another_type_opens_nothing(rt: HostRuntime) -> Result<(), Fail> {
     let alloc = rt.alloc();
     let stream = sealed(alloc, KEYSET, "-", 100)?;
-    let (_, _, _, keyset) = KEYSETS[11];
     opens(
         &rt,
         alloc,
-        (keyset, "-"),
+        (TWO_TYPES, "-"),
         stream,
         (18, 0, "wrong primitive\n"),
     )
