@@ -3,7 +3,7 @@
 use crate::expected::{check, expect};
 use aes_block::{Aes128, Aes256};
 use cbc::{Decryptor, Encryptor};
-use cipher::{InnerIvInit, IvState, KeyInit, SetIvState};
+use cipher::{BlockCipherEncrypt, InnerIvInit, IvState, KeyInit, SetIvState};
 use cipher_modes::BlockModeEncrypt;
 use cipher_modes::dev::block_mode::{TestVector, decrypt, encrypt};
 
@@ -76,17 +76,26 @@ fn a_changed_vector_is_told(rt: HostRuntime) {
     );
 }
 
-// whether three blocks of a mode after three others are those of another under its state
+// Blocks enciphered in their places.
+fn chained<C: BlockCipherEncrypt<16> + Drop>(cipher: C, iv: &[u8; 16], blocks: &mut [[u8; 16]]) {
+    let mut mode = Encryptor::inner_iv_init(cipher, iv);
+    mode.encrypt_blocks(blocks);
+}
+
+// whether three blocks of a mode after three others are those of others under its state
 fn goes_on() -> bool {
     let mut first = Encryptor::inner_iv_init(Aes128::new(&[7; 16]), &IV);
     let mut second = Encryptor::inner_iv_init(Aes128::new(&[7; 16]), &[0; 16]);
     first.encrypt_blocks(&mut [[1; 16]; 3]);
-    second.set_iv(&first.iv_state());
+    let iv = first.iv_state();
+    second.set_iv(&iv);
     let mut one = [[2; 16]; 3];
     let mut other = one;
     first.encrypt_blocks(&mut one);
     second.encrypt_blocks(&mut other);
-    one == other
+    let mut third = [[2; 16]; 3];
+    chained(Aes128::new(&[7; 16]), &iv, &mut third);
+    one == other && one == third
 }
 
 #[test]
