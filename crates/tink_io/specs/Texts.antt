@@ -2,7 +2,7 @@
 use Rattle.std.specs.Prelude.{ℕ, List, [], ◌∷◌, ◌++◌, codes, decimal}
 use Rattle.std.specs.Fmt.{signed_decimal}
 use Rattle.tink_io.specs.declared.error.Kind.{Kind}
-use Rattle.tink_io.specs.declared.error.Kind.TheVariants.{OutOfMemory, ReadFault, WriteFault, RandomFault, BadKeyset, BadJson, KeysetTooLong, NoKeyset, InvalidKeyset, UnsupportedKeyType, InvalidKey, InvalidFormat, NoPrimary, WrongPrimitive, NotRawOnly, UnsupportedHash, UnknownHash, UnknownPrefix, BadVersion, HasSecrets, NotPrivate, NoPrivateKeys, MasterFailed, KeyNotFound, IsPrimary, WrongStatus, NotEnabled, NoFreshId, AlreadyRegistered, TagTooSmall, OutputTooLong, BadKeySize, BadTagSize, MacMismatch, TooShort, TextTooLong, DataTooLong, BadIvSize, DecryptFailed, LengthOverU32, NonceTooShort, OffsetTooBig, SegmentTooSmall, Closed, FailedBefore, TooManySegments, NoMatchingKey, BadSegment, Truncated, UnknownTemplate, BadToken}
+use Rattle.tink_io.specs.declared.error.Kind.TheVariants.{OutOfMemory, ReadFault, WriteFault, RandomFault, BadKeyset, BadJson, KeysetTooLong, NoKeyset, InvalidKeyset, UnsupportedKeyType, InvalidKey, InvalidFormat, NoPrimary, WrongPrimitive, NotRawOnly, UnsupportedHash, UnknownHash, UnknownPrefix, BadVersion, HasSecrets, NotPrivate, NoPrivateKeys, MasterFailed, KeyNotFound, IsPrimary, WrongStatus, NotEnabled, NoFreshId, AlreadyRegistered, TagTooSmall, OutputTooLong, BadKeySize, BadTagSize, MacMismatch, TooShort, TextTooLong, DataTooLong, BadIvSize, DecryptFailed, LengthOverU32, NonceTooShort, OffsetTooBig, SegmentTooSmall, Closed, FailedBefore, TooManySegments, NoMatchingKey, BadSegment, Truncated, UnknownTemplate, BadToken, InputTooLong}
 use Rattle.tink_io.specs.declared.error.Cause as cause
 use Rattle.tink_io.specs.declared.error.Cause.TheVariants as causes
 
@@ -78,6 +78,7 @@ kind_words (BadSegment _) = codes "bad segment "
 kind_words (Truncated _) = codes "truncated "
 kind_words UnknownTemplate = codes "unknown template"
 kind_words BadToken = codes "bad token"
+kind_words InputTooLong = codes "input too long"
 
 -- a kind's number in decimal digits, or the text of its cause
 abbrev pub kind_rest : Kind → List ℕ

@@ -112,6 +112,8 @@ pub enum Kind {
     UnknownTemplate,
     /// The bytes are no signed token.
     BadToken,
+    /// The input is longer than the command reads.
+    InputTooLong,
 }
 
 /// By what a writer or a reader of a stream failed before.
@@ -202,6 +204,7 @@ impl Kind {
             Kind::Truncated(_) => "truncated ",
             Kind::UnknownTemplate => "unknown template",
             Kind::BadToken => "bad token",
+            Kind::InputTooLong => "input too long",
         }
     }
 }

@@ -52,9 +52,10 @@ fn line(alloc: Global, kind: Kind) -> Result<Vec<u8>, TinkError> {
 
 #[test]
 fn lines_are_texts(rt: HostRuntime) -> Result<(), Fail> {
-    let rows: [(Kind, &[u8]); 7] = [
+    let rows: [(Kind, &[u8]); 8] = [
         (Kind::OutOfMemory, b"out of memory\n"),
         (Kind::BadToken, b"bad token\n"),
+        (Kind::InputTooLong, b"input too long\n"),
         (Kind::LengthOverU32, b"length over u32\n"),
         (Kind::WrongStatus(-1), b"wrong status -1\n"),
         (Kind::BadSegment(7), b"bad segment 7\n"),
