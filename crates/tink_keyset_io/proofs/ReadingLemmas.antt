@@ -36,10 +36,10 @@ fault_later k before then now later (inl memory) = inl memory
 fault_later k before then now later (inr fault) = inr (fault.0, Rose-earlier before then now later fault.1)
 
 -- a text of which more than the most was read is too long
-pub too_long : (a b : Option (List ℕ)) (text : List ℕ) → Consumes a b text → 2 ^ 26 < length text → IfSome a (λ all. 2 ^ 26 < length all)
-too_long None b text h long = tt
-too_long (Some all) None text h long = absurd h
-too_long (Some all) (Some rest) text h long = omega (arith, ap length h, length-append text rest)
+pub too_long : (a b : Option (List ℕ)) (text : List ℕ) (most : ℕ) → Consumes a b text → most < length text → IfSome a (λ all. most < length all)
+too_long None b text most h long = tt
+too_long (Some all) None text most h long = absurd h
+too_long (Some all) (Some rest) text most h long = omega (arith, ap length h, length-append text rest)
 
 -- what is read at the end of known bytes is all of them
 pub whole : (a b : Option (List ℕ)) (text : List ℕ) → Consumes a b text → IsAtEnd b → IfSome a (λ all. all ≡ text)
@@ -55,7 +55,7 @@ told_of refusal message (Some all) text given same is fits = rw (same, is, le-lt
 
 -- why a text could not be had is why the read is refused
 pub refused_of : {M : Type 0} (refusal : Kind) (message : List ℕ → Option M) (a : Option (List ℕ)) (k : Kind) (before now : ℕ)
-    → IsUnreadText a k before now → IsReadRefusal (told refusal message a) k before now
+    → IsUnreadText (2 ^ 26) KeysetTooLong a k before now → IsReadRefusal (told refusal message a) k before now
 refused_of refusal message a k before now (inl (inl memory)) = rw memory tt
 refused_of refusal message a k before now (inl (inr fault)) = rw fault.0 fault.1
 refused_of refusal message None k before now (inr long) = rw long.0 tt

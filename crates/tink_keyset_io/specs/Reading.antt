@@ -18,9 +18,10 @@ told refusal message left = option_map (reading refusal message) left
 abbrev pub IsFault : Kind → ℕ → ℕ → Type 0
 IsFault kind before now = (kind ≡ OutOfMemory) ⊎ ((kind ≡ ReadFault) × Rose before now)
 
--- why a text could not be had: the same, or too many bytes
-abbrev pub IsUnreadText : Option (List ℕ) → Kind → ℕ → ℕ → Type 0
-IsUnreadText left kind before now = IsFault kind before now ⊎ ((kind ≡ KeysetTooLong) × IfSome left (λ text. 2 ^ 26 < length text))
+-- why a text could not be had: the same, or it has more than the most bytes
+abbrev pub IsUnreadText : ℕ → Kind → Option (List ℕ) → Kind → ℕ → ℕ → Type 0
+IsUnreadText most refusal left kind before now =
+    IsFault kind before now ⊎ ((kind ≡ refusal) × IfSome left (λ text. most < length text))
 
 -- known bytes lose a prefix of at most so many
 abbrev pub LosesAtMost : ℕ → Option (List ℕ) → Option (List ℕ) → Type 0

@@ -8,3 +8,4 @@ mod text;
 
 pub use binary_io::{BinaryReader, BinaryWriter};
 pub use json_io::{JsonReader, JsonWriter};
+pub use text::read_whole;

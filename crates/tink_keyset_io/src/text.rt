@@ -39,27 +39,36 @@ fn read_piece<S: Source>(
     }
 }
 
-// All bytes that the source has left. Of a longer text one byte more than the most is read.
-fn read_text<S: Source>(alloc: Global, source: &mut S) -> Result<Vec<u8>, TinkError>
+/// All bytes that the source has left, `most` at most. Of a longer text one byte more is read.
+///
+/// # Errors
+/// `ReadFault` where the source failed; `refusal` exactly where more than `most` bytes are left; `OutOfMemory`.
+pub fn read_whole<S: Source>(
+    alloc: Global,
+    source: &mut S,
+    most: usize,
+    refusal: Kind,
+) -> Result<Vec<u8>, TinkError>
+    requires small { most < 2 ^ 32 }
     ensures text { IfOk result (λ text. Consumes (S.left source.old) (S.left source.new) text.items) }
-    ensures fits { IfOk result (λ text. length text.items ≤ 2 ^ 26) }
+    ensures fits { IfOk result (λ text. length text.items ≤ most) }
     ensures end { OnOk result (IsAtEnd (S.left source.new)) }
     ensures refused { IfErr result (λ e.
-        IsUnreadText (S.left source.old) e.kind (S.faults source.old) (S.faults source.new)) }
-    ensures taken { LosesAtMost (2 ^ 26 + 1) (S.left source.old) (S.left source.new) }
+        IsUnreadText most refusal (S.left source.old) e.kind (S.faults source.old) (S.faults source.new)) }
+    ensures taken { LosesAtMost (most + 1) (S.left source.old) (S.left source.new) }
     ensures later { S.faults source.old ≤ S.faults source.new }
     ensures same { S.same source.old source.new }
 {
     let mut piece = [0u8; PIECE];
     let mut text = Vec::new(alloc);
-    'pieces: while text.len() <= MAX_TEXT {
-        let room = (MAX_TEXT + 1 - text.len()).min(PIECE);
+    'pieces: while text.len() <= most {
+        let room = (most + 1 - text.len()).min(PIECE);
         let count = read_piece(source, &mut piece[..room], &mut text)?;
         if count == 0 {
             return Ok(text);
         }
     }
-    Err(TinkError::new(Kind::KeysetTooLong))
+    Err(TinkError::new(refusal))
 }
 
 // The message of the text that the source has left.
@@ -74,7 +83,7 @@ pub fn read_as<F: Format<M>, M: Drop, S: Source>(
     ensures count { S.faults source.old ≤ S.faults source.new }
     ensures same { S.same source.old source.new }
 {
-    let text = read_text(alloc, source)?;
+    let text = read_whole(alloc, source, MAX_TEXT, Kind::KeysetTooLong)?;
     F::decode(alloc, &text)
 }
 

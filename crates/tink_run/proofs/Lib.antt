@@ -4,15 +4,6 @@ pub mod Promises
 pub mod PourSteps
 pub mod SealSteps
 pub mod LoadLemmas
-pub mod WordLemmas
-pub mod KeysetWords
-pub mod LargeWordFacts
-pub mod KeysetLemmas
-pub mod KeysetSteps
-pub mod ProgramLemmas
-pub mod LargeLemmas
-pub mod LargeSteps
-pub mod StatusLemmas
 pub mod ReadOut
 pub mod OpenSteps
 pub mod RunSteps

@@ -182,7 +182,7 @@ stream_row {Key} keys key kind same usable value = by_message (message_of keys v
     by_message None = refl
     by_message (Some m) = stream_sound kind same (key m) (usable m)
 
-abbrev rows_of : List Managers → List LoadingRow
+abbrev pub rows_of : List Managers → List LoadingRow
 rows_of managers = rows_by (λ m. (row_of m).url) (λ m. (row_of m).built) managers
 
 prf_rows : AreSound (rows_of prf_managers)
@@ -230,6 +230,11 @@ rows_sound =
     (also (rows_of mac_managers) (rows_of aead_managers ++ (rows_of streaming_managers ++ rows_of daead_managers)) mac_rows
     (also (rows_of aead_managers) (rows_of streaming_managers ++ rows_of daead_managers) aead_rows
     (also (rows_of streaming_managers) (rows_of daead_managers) streaming_rows daead_rows)))
+
+-- those of the registered managers
+pub managers_sound : AreSound (rows_of with_everything.managers)
+unfolding rows
+managers_sound = rows_sound
 
 -- the rows of the registry of all managers
 pub rows_of_all : (r : Registered Managers) → r ≡ with_everything → rows_of r.managers ≡ rows

@@ -3,11 +3,6 @@ pub mod SealAnswers
 pub mod OpenAnswers
 pub mod Run
 pub mod SealSteps
-pub mod Draws
-pub mod Words
-pub mod Keysets
-pub mod Large
-pub mod Program
 pub mod OpenSteps
 pub mod AllKeys
 pub mod HeldKeys

@@ -1,15 +1,10 @@
-//! Seals and opens streams under Tink keysets, from any source to any sink, and the program's words, statuses and
-//! lines.
+//! Seals and opens streams under Tink keysets, from any source to any sink.
 #![tactic(auto)]
 
 mod keys;
-mod keysets;
-mod large;
 pub mod laws;
 pub mod load;
 mod open;
-pub mod program;
 pub mod report;
 pub mod run;
 mod seal;
-mod words;

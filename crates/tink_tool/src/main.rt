@@ -5,7 +5,7 @@ use std::env;
 use std::io::ErrorKind;
 use std::process::ExitCode;
 use tink_io::{Kind, StdSink, StdSource};
-use tink_run::program::{Outcome, program, status, tell};
+use tink_program::program::{Outcome, program, status, tell};
 
 fn main(rt: HostRuntime) -> ExitCode {
     let mut faults = StdSink::new(rt.stderr());

@@ -1,0 +1,12 @@
+pub mod WordLemmas
+pub mod LargeWordFacts
+pub mod Spelling
+pub mod StatusLemmas
+pub mod StreamLemmas
+pub mod KeysetLemmas
+pub mod KeysetSteps
+pub mod LargeLemmas
+pub mod LargeSteps
+pub mod MacFacts
+pub mod TokenCalls
+pub mod TokenLemmas

@@ -1,0 +1,130 @@
+-- The commands of tokens, from their calls to their answers.
+use Rattle.std.proofs.Common.{◌≡◌, ◌⊎◌, inl, inr, ◌<◌, ◌^◌, ℕ, List, length, true, Some, None, refl, sym, ◌∙◌, ap, subst}
+use Rattle.std.specs.Prelude.{Option, Result, Ok, Err, is_some, IfErr, IfOk, OnErr, OnOk}
+use Rattle.std.specs.Io.KnownBytes.{Appends, Consumes, IsAtEnd}
+use Rattle.tink_io.specs.Faults.{Rose}
+use Rattle.tink_io.specs.Written.{AppendsFront}
+use Rattle.tink_io.specs.declared.error.Kind.{Kind}
+use Rattle.tink_io.specs.declared.error.Kind.TheVariants.{OutOfMemory, ReadFault, WriteFault, BadKeyset, InvalidKeyset, UnsupportedKeyType, InvalidKey, NoPrimary, WrongPrimitive, InputTooLong, BadToken, MacMismatch}
+use Rattle.tink_io.specs.declared.error.TinkError.{TinkError}
+use Rattle.tink_sets.specs.Entries.{entry_of_id}
+use Rattle.tink_sets.specs.Groups.{group_of}
+use Rattle.tink_sets.specs.declared.entry.TypedEntry.{TypedEntry}
+use Rattle.tink_keyset_io.specs.Reading.{IsUnreadText}
+use Rattle.tink_factory.specs.Accepting.{entries_of}
+use Rattle.loading_model.proofs.UsableKeys.{IsOfLoading}
+use Rattle.tink_mac.specs.MacKinds.{kind_computes, kind_verifies}
+use Rattle.tink_mac.specs.Wrapped.{primary_mac}
+use Rattle.tink_mac.specs.declared.factory.WrappedMac.{WrappedMac}
+use Rattle.tink_mac.specs.declared.mac_kind.MacKind.{MacKind}
+use Rattle.tink_tokens.specs.Tokens.{spelled, IsAnswered, IsSigned, IsSigning, IsVerifying}
+use Rattle.tink_run.specs.Outside.{Outside}
+use Rattle.tink_program.specs.Program.{answer_outcome}
+use Rattle.tink_program.specs.TokenSteps.{AreLoadedMacs, GivesMacs, MakesNothing, MakesOfInput, ReadsInput}
+use Rattle.tink_program.specs.Tokens.{input_limit, macs_of, HasInput, Macs, RefusesSigning, RefusesVerifying, SignsTo, TokenMeans, TokenRefused, VerifiesTo}
+use Rattle.tink_program.proofs.MacFacts.{macs_refuse}
+
+-- ---- what is made of the input
+
+-- nothing of an input that could not be read
+pub unread : (Gives : List ℕ → List ℕ → Type 0) (Refuses : List ℕ → Kind → Type 0) (a b : Option (List ℕ)) (kind : Kind) (before now : ℕ)
+    → IsUnreadText input_limit InputTooLong a kind before now → MakesNothing Gives Refuses a b before now kind
+unread Gives Refuses a b kind before now (inl (inl want)) = rw want tt
+unread Gives Refuses a b kind before now (inl (inr fault)) = rw fault.0 fault.1
+unread Gives Refuses a b kind before now (inr long) = rw long.0 long.1
+
+-- a primary MAC is computed
+no_refusal : (primary : Option (TypedEntry MacKind)) (message : List ℕ) (kind : Kind) → is_some primary ≡ true → primary_mac kind_computes primary message ≡ Err kind → ⊥
+no_refusal None message kind there is = cc there
+no_refusal (Some e) message kind there is = cc is
+
+-- the token of the input
+pub signed : (m : Macs) (w : WrappedMac MacKind) (a b : Option (List ℕ)) (before now : ℕ) (input text : List ℕ) (result : Result (List ℕ) TinkError) → is_some w.ps.primary ≡ true
+    → ReadsInput a b input → text ≡ input → IsSigning kind_computes w.ps.primary text result → AreLoadedMacs m w → MakesOfInput (SignsTo m) (RefusesSigning m) a b before now result
+signed m w a b before now input text (Ok token) there read same is macs =
+    (input, read, subst (λ p. IsSigned kind_computes p input token) macs.has.by_id (subst (λ x. IsSigned kind_computes w.ps.primary x token) same is))
+signed m w a b before now input text (Err e) there read same (inl want) macs = rw want tt
+signed m w a b before now input text (Err e) there read same (inr refused) macs = absurd (no_refusal w.ps.primary (spelled text) e.kind there refused)
+
+-- what the keys answer is what the entries answer
+entries_answer : (m : Macs) (w : WrappedMac MacKind) (token payload : List ℕ) (answer : Result (Unit {0}) Kind) → AreLoadedMacs m w
+    → IsAnswered kind_verifies (group_of w.ps.entries) token answer payload → IsAnswered kind_verifies (entries_of m.entries) token answer payload
+entries_answer m w token payload answer macs a =
+    record { mac = a.mac; is = a.is; answered = sym (macs.verified a.mac (spelled payload)) ∙ a.answered }
+
+-- the payload of the input
+pub verified : (m : Macs) (w : WrappedMac MacKind) (a b : Option (List ℕ)) (before now : ℕ) (input text : List ℕ) (result : Result (List ℕ) TinkError)
+    → ReadsInput a b input → text ≡ input → IsVerifying kind_verifies (group_of w.ps.entries) text result → AreLoadedMacs m w → MakesOfInput (VerifiesTo m) (RefusesVerifying m) a b before now result
+verified m w a b before now input text result read same is macs = by_result result (subst (λ x. IsVerifying kind_verifies (group_of w.ps.entries) x result) same is)
+  where
+    by_result : (result : Result (List ℕ) TinkError) → IsVerifying kind_verifies (group_of w.ps.entries) input result → MakesOfInput (VerifiesTo m) (RefusesVerifying m) a b before now result
+    by_result (Ok payload) is =
+        let one = entries_answer m w input payload (Ok tt) macs is in
+        (input, read, record { mac = one.mac; is = one.is.is; accepted = one.answered })
+    by_result (Err e) (inl want) = rw want tt
+    by_result (Err e) (inr (inl bad)) = rw bad.0 (input, read, bad.1)
+    by_result (Err e) (inr (inr other)) = rw other.0 (input, read, (other.1.0, entries_answer m w input other.1.0 (Err MacMismatch) macs other.1.1))
+
+-- ---- of a keyset
+
+module _ (Gives : Macs → List ℕ → List ℕ → Type 0) (Refuses : Macs → List ℕ → Kind → Type 0) (keyset : List ℕ) where
+  unloaded : (o : Outside) (kind : Kind) → macs_of keyset ≡ Err kind → IsOfLoading kind → TokenRefused Gives Refuses keyset o o kind
+  unloaded o BadKeyset is of = record { cause = is; untouched = refl }
+  unloaded o InvalidKeyset is of = record { cause = is; untouched = refl }
+  unloaded o UnsupportedKeyType is of = record { cause = is; untouched = refl }
+  unloaded o InvalidKey is of = record { cause = is; untouched = refl }
+  unloaded o NoPrimary is of = record { cause = is; untouched = refl }
+  unloaded o WrongPrimitive is of = record { cause = is; untouched = refl }
+  unloaded o _ is of = absurd of
+
+  -- a keyset whose MACs do not load
+  pub not_loaded : (o : Outside) (e : TinkError) → GivesMacs (Err e) (macs_of keyset) → TokenMeans Gives Refuses keyset o o (answer_outcome {T = Unit {0}} (Err e))
+  not_loaded o e (inl want) = rw want (record { got = refl; faults = refl })
+  not_loaded o e (inr is) = unloaded o e.kind is (macs_refuse keyset e.kind is)
+
+  has_input : (old new : Outside) (input : List ℕ) → ReadsInput old.left new.left input → HasInput old new input
+  has_input old new input read = record { read = read.read; at_end = read.at_end; fits = read.fits }
+
+  -- nothing was made of the input
+  pub not_made : (only : (macs : Macs) (input : List ℕ) (kind : Kind) → Refuses macs input kind → (kind ≡ BadToken) ⊎ (kind ≡ MacMismatch))
+      → (old new : Outside) (macs : Macs) (kind : Kind) → macs_of keyset ≡ Ok macs → new.got ≡ old.got → new.write_faults ≡ old.write_faults
+      → MakesNothing (Gives macs) (Refuses macs) old.left new.left old.read_faults new.read_faults kind → TokenRefused Gives Refuses keyset old new kind
+  not_made only old new macs OutOfMemory loads got faults m = record { got = got; faults = faults }
+  not_made only old new macs ReadFault loads got faults m = ((macs, loads), (record { got = got; faults = faults }, m))
+  not_made only old new macs InputTooLong loads got faults m = ((macs, loads), (record { got = got; faults = faults }, m))
+  not_made only old new macs BadToken loads got faults m = record { macs = macs; loads = loads; input = m.0; has = has_input old new m.0 m.1; refuses = m.2; sink = record { got = got; faults = faults } }
+  not_made only old new macs MacMismatch loads got faults m = record { macs = macs; loads = loads; input = m.0; has = has_input old new m.0 m.1; refuses = m.2; sink = record { got = got; faults = faults } }
+  not_made only old new macs _ loads got faults m = elim (only macs m.0 _ m.2) [ inl is ↦ absurd (cc is) | inr is ↦ absurd (cc is) ]
+
+  -- what was made was written, or a prefix of it
+  pub made : (old new : Outside) (macs : Macs) (output written : List ℕ) (answer : Result (Unit {0}) TinkError) → macs_of keyset ≡ Ok macs
+      → MakesOfInput (Gives macs) (Refuses macs) old.left new.left old.read_faults new.read_faults (Ok output) → written ≡ output
+      → OnOk answer (Appends old.got new.got written) → OnErr answer (AppendsFront old.got new.got written) → OnErr answer (Rose old.write_faults new.write_faults)
+      → IfErr answer (λ e. e ≡ record { kind = WriteFault }) → TokenMeans Gives Refuses keyset old new (answer_outcome answer)
+  made old new macs output written (Ok done) loads m same whole front rose fault = record {
+    macs = macs;
+    loads = loads;
+    input = m.0;
+    has = has_input old new m.0 m.1;
+    output = output;
+    gives = m.2;
+    written = subst (λ x. Appends old.got new.got x) same whole;
+  }
+  made old new macs output written (Err e) loads m same whole front rose fault =
+      rw (ap (λ (x : TinkError). x.kind) fault) (record {
+        macs = macs;
+        loads = loads;
+        input = m.0;
+        has = has_input old new m.0 m.1;
+        output = output;
+        gives = m.2;
+        written = subst (λ x. AppendsFront old.got new.got x) same front;
+      }, rose)
+
+pub signing_only : (macs : Macs) (input : List ℕ) (kind : Kind) → RefusesSigning macs input kind → (kind ≡ BadToken) ⊎ (kind ≡ MacMismatch)
+signing_only macs input kind refuses = absurd refuses
+
+pub verifying_only : (macs : Macs) (input : List ℕ) (kind : Kind) → RefusesVerifying macs input kind → (kind ≡ BadToken) ⊎ (kind ≡ MacMismatch)
+verifying_only macs input BadToken refuses = inl refl
+verifying_only macs input MacMismatch refuses = inr refl
+verifying_only macs input _ refuses = absurd refuses

@@ -1,0 +1,112 @@
+-- Words, and what they spell.
+use Rattle.std.proofs.Common.{◌≡◌, ◌<◌, ℕ, zero, suc, List, [], ◌∷◌, length, map, sym, ◌∙◌, ap, subst, arith, slice_index_or, Global}
+use Rattle.std.specs.Prelude.{String, string_bytes, codes, Ok}
+use Rattle.hex.specs.Hex.{decode_sized}
+use Rattle.hex.proofs.HexLemmas.{decode_sized-ok, decode_sized-twice}
+use Rattle.tink_program.specs.Words.{IsBytesWord, IsSeedWord, KeygenWords, OpenWords, RotateWords, SealWords, SignWords, VerifyWords}
+
+abbrev pub texts : List (String Global) → List (List ℕ)
+texts ws = map (λ w. string_bytes w) ws
+
+-- the text of the word at a place
+pub slice_index-texts : (ws : List (String Global)) (n : ℕ) (w : String Global) → n < length ws → w ≡ slice_index_or ws n w → slice_index_or (texts ws) n [] ≡ string_bytes w
+slice_index-texts [] n w below is = absurd (omega arith)
+slice_index-texts (v ∷ vs) zero w below is = ap string_bytes (sym is)
+slice_index-texts (v ∷ vs) (suc n) w below is = slice_index-texts vs n w (omega arith) is
+
+-- the word at a place of a spelling
+pub spelled_at : (ws : List (String Global)) (n : ℕ) (w : String Global) (spelling : List (List ℕ)) → n < length ws → w ≡ slice_index_or ws n w → texts ws ≡ spelling → slice_index_or spelling n [] ≡ string_bytes w
+spelled_at ws n w spelling below is spelled = ap (λ xs. slice_index_or xs n []) (sym spelled) ∙ slice_index-texts ws n w below is
+
+pub two_texts : (ws : List (String Global)) (a b : String Global) → length ws ≡ 2 → a ≡ slice_index_or ws 0 a → b ≡ slice_index_or ws 1 b → texts ws ≡ string_bytes a ∷ string_bytes b ∷ []
+two_texts [] a b l p q = absurd (omega arith)
+two_texts (v ∷ []) a b l p q = absurd (omega arith)
+two_texts (v ∷ w ∷ []) a b l p q = cc
+two_texts (v ∷ w ∷ x ∷ more) a b l p q = absurd (omega arith)
+
+three_texts : (ws : List (String Global)) (a b c : String Global) → length ws ≡ 3 → a ≡ slice_index_or ws 0 a → b ≡ slice_index_or ws 1 b → c ≡ slice_index_or ws 2 c
+    → texts ws ≡ string_bytes a ∷ string_bytes b ∷ string_bytes c ∷ []
+three_texts [] a b c l p q r = absurd (omega arith)
+three_texts (v ∷ []) a b c l p q r = absurd (omega arith)
+three_texts (v ∷ w ∷ []) a b c l p q r = absurd (omega arith)
+three_texts (v ∷ w ∷ x ∷ []) a b c l p q r = cc
+three_texts (v ∷ w ∷ x ∷ y ∷ more) a b c l p q r = absurd (omega arith)
+
+four_texts : (ws : List (String Global)) (a b c d : String Global) → length ws ≡ 4 → a ≡ slice_index_or ws 0 a → b ≡ slice_index_or ws 1 b → c ≡ slice_index_or ws 2 c → d ≡ slice_index_or ws 3 d
+    → texts ws ≡ string_bytes a ∷ string_bytes b ∷ string_bytes c ∷ string_bytes d ∷ []
+four_texts [] a b c d l p q r s = absurd (omega arith)
+four_texts (v ∷ ws) a b c d l p q r s = let rest = three_texts ws b c d (omega arith) q r s in cc
+
+-- sixty-four digits are those of 32 bytes
+pub seed_word : (word seed : List ℕ) → decode_sized word 32 ≡ Ok seed → IsSeedWord word seed
+seed_word word seed is = let long = decode_sized-ok word 32 seed is in (long, sym (decode_sized-twice word 32 long) ∙ is)
+
+pub seed_decodes : (word seed : List ℕ) → IsSeedWord word seed → decode_sized word 32 ≡ Ok seed
+seed_decodes word seed spelled = decode_sized-twice word 32 spelled.0 ∙ spelled.1
+
+pub seal_words : (ws : List (String Global)) (a b c d : String Global) (keyset aad seed : List ℕ) → length ws ≡ 4
+    → a ≡ slice_index_or ws 0 a → b ≡ slice_index_or ws 1 b → c ≡ slice_index_or ws 2 c → d ≡ slice_index_or ws 3 d
+    → string_bytes a ≡ codes "seal" → IsBytesWord (string_bytes b) keyset → IsBytesWord (string_bytes c) aad → decode_sized (string_bytes d) 32 ≡ Ok seed
+    → SealWords (texts ws) keyset aad seed
+seal_words ws a b c d keyset aad seed l p q r s is keyset_is aad_is decodes = record {
+  keyset_word = string_bytes b;
+  aad_word = string_bytes c;
+  seed_word = string_bytes d;
+  spelled = four_texts ws a b c d l p q r s ∙ ap (λ x. x ∷ string_bytes b ∷ string_bytes c ∷ string_bytes d ∷ []) is;
+  keyset_is = keyset_is;
+  aad_is = aad_is;
+  seed_is = seed_word (string_bytes d) seed decodes;
+}
+
+pub open_words : (ws : List (String Global)) (a b c : String Global) (keyset aad : List ℕ) → length ws ≡ 3
+    → a ≡ slice_index_or ws 0 a → b ≡ slice_index_or ws 1 b → c ≡ slice_index_or ws 2 c
+    → string_bytes a ≡ codes "open" → IsBytesWord (string_bytes b) keyset → IsBytesWord (string_bytes c) aad
+    → OpenWords (texts ws) keyset aad
+open_words ws a b c keyset aad l p q r is keyset_is aad_is = record {
+  keyset_word = string_bytes b;
+  aad_word = string_bytes c;
+  spelled = three_texts ws a b c l p q r ∙ ap (λ x. x ∷ string_bytes b ∷ string_bytes c ∷ []) is;
+  keyset_is = keyset_is;
+  aad_is = aad_is;
+}
+
+pub keygen_words : (ws : List (String Global)) (a b c : String Global) (template seed : List ℕ) → length ws ≡ 3
+    → a ≡ slice_index_or ws 0 a → b ≡ slice_index_or ws 1 b → c ≡ slice_index_or ws 2 c
+    → string_bytes a ≡ codes "keygen" → template ≡ string_bytes b → decode_sized (string_bytes c) 32 ≡ Ok seed
+    → KeygenWords (texts ws) template seed
+keygen_words ws a b c template seed l p q r is same decodes = record {
+  seed_word = string_bytes c;
+  spelled = three_texts ws a b c l p q r ∙ ap (λ x. x ∷ string_bytes b ∷ string_bytes c ∷ []) is ∙ ap (λ x. codes "keygen" ∷ x ∷ string_bytes c ∷ []) (sym same);
+  seed_is = seed_word (string_bytes c) seed decodes;
+}
+
+pub rotate_words : (ws : List (String Global)) (a b c d : String Global) (keyset template seed : List ℕ) → length ws ≡ 4
+    → a ≡ slice_index_or ws 0 a → b ≡ slice_index_or ws 1 b → c ≡ slice_index_or ws 2 c → d ≡ slice_index_or ws 3 d
+    → string_bytes a ≡ codes "rotate" → IsBytesWord (string_bytes b) keyset → template ≡ string_bytes c → decode_sized (string_bytes d) 32 ≡ Ok seed
+    → RotateWords (texts ws) keyset template seed
+rotate_words ws a b c d keyset template seed l p q r s is keyset_is same decodes = record {
+  keyset_word = string_bytes b;
+  seed_word = string_bytes d;
+  spelled = four_texts ws a b c d l p q r s ∙ ap (λ x. x ∷ string_bytes b ∷ string_bytes c ∷ string_bytes d ∷ []) is
+      ∙ ap (λ x. codes "rotate" ∷ string_bytes b ∷ x ∷ string_bytes d ∷ []) (sym same);
+  keyset_is = keyset_is;
+  seed_is = seed_word (string_bytes d) seed decodes;
+}
+
+pub sign_words : (ws : List (String Global)) (a b : String Global) (keyset : List ℕ) → length ws ≡ 2
+    → a ≡ slice_index_or ws 0 a → b ≡ slice_index_or ws 1 b → string_bytes a ≡ codes "sign" → IsBytesWord (string_bytes b) keyset
+    → SignWords (texts ws) keyset
+sign_words ws a b keyset l p q is keyset_is = record {
+  keyset_word = string_bytes b;
+  spelled = two_texts ws a b l p q ∙ ap (λ x. x ∷ string_bytes b ∷ []) is;
+  keyset_is = keyset_is;
+}
+
+pub verify_words : (ws : List (String Global)) (a b : String Global) (keyset : List ℕ) → length ws ≡ 2
+    → a ≡ slice_index_or ws 0 a → b ≡ slice_index_or ws 1 b → string_bytes a ≡ codes "verify" → IsBytesWord (string_bytes b) keyset
+    → VerifyWords (texts ws) keyset
+verify_words ws a b keyset l p q is keyset_is = record {
+  keyset_word = string_bytes b;
+  spelled = two_texts ws a b l p q ∙ ap (λ x. x ∷ string_bytes b ∷ []) is;
+  keyset_is = keyset_is;
+}

@@ -1,0 +1,100 @@
+-- The commands of streams: what a run gave, and what it promises by the status.
+use Rattle.std.specs.Prelude.{◌≡◌, ◌⊎◌, ℕ, List, Result, Ok, Err, IfOk}
+use Rattle.stream_model.specs.Sealing.{prefix_of, salt_of}
+use Rattle.loading_model.specs.Loading.{Loaded}
+use Rattle.tink_io.specs.declared.error.Kind.{Kind}
+use Rattle.tink_io.specs.declared.error.Kind.TheVariants.{OutOfMemory, RandomFault}
+use Rattle.tink_io.specs.declared.error.TinkError.{TinkError}
+use Rattle.tink_run.specs.AllKeys.{load}
+use Rattle.tink_run.specs.Outside.{Outside, IsUntouched, HasNoFault}
+use Rattle.tink_run.specs.Run.{AnswerMeans, Told, OkMeans, IsWholeStream, IsWholeText, IsOfAgreeing, OnlyAgreeing, CanSeal, CanOpen, IsComplete}
+use Rattle.tink_run.specs.SealAnswers.{SourceFailed}
+use Rattle.tink_run.specs.declared.report.Command.{Command}
+use Rattle.tink_run.specs.declared.report.Report.{Report}
+use Rattle.tink_program.specs.Draws.{draws_in}
+use Rattle.tink_program.specs.declared.program.Outcome.{Outcome}
+use Rattle.tink_program.specs.declared.program.Outcome.TheVariants.{Done, Usage, Refused}
+
+-- what a run with these draws says by its answer, whatever draws it leaves
+pub record Ran (command : Command) (keyset aad draws : List ℕ) (old new : Outside) (answer : Result Report TinkError)
+    : Type 0 where
+  pub left_draws : List ℕ
+  pub means : AnswerMeans command keyset aad draws left_draws old new answer
+  pub ok : IfOk answer
+      (λ report. (T G : List ℕ) → Told old T G → OkMeans command keyset aad draws left_draws T G new report)
+  pub written : OnlyAgreeing command keyset aad old new
+  pub succeeds : IsComplete command keyset aad draws old new answer
+
+-- some run gave this answer
+abbrev pub Answered : Command → List ℕ → List ℕ → List ℕ → Outside → Outside → Result Report TinkError → Type 0
+Answered command keyset aad draws old new answer =
+    (left_draws : List ℕ) × AnswerMeans command keyset aad draws left_draws old new answer
+
+-- what stands after each outcome of a seal or of an open, and why it came. A seed's draws always suffice; `OutOfMemory`
+-- is free.
+abbrev pub StreamMeans : Command → List ℕ → List ℕ → List ℕ → Outside → Outside → Outcome → Type 0
+StreamMeans command keyset aad draws old new Done =
+    (report : Report) × Answered command keyset aad draws old new (Ok report)
+StreamMeans command keyset aad draws old new Usage = ⊥
+StreamMeans command keyset aad draws old new (Refused OutOfMemory) = IsUntouched old new
+StreamMeans command keyset aad draws old new (Refused RandomFault) = ⊥
+StreamMeans command keyset aad draws old new (Refused kind) =
+    Answered command keyset aad draws old new (Err (record { kind = kind }))
+
+-- the status is 0, or 10 by `OutOfMemory`
+abbrev pub IsDoneOrWant : ℕ → Type 0
+IsDoneOrWant status = (status ≡ 0) ⊎ (status ≡ 10)
+
+-- ---- a seal
+
+-- told bytes: a seal with status 0 has written exactly the stream of the whole text under the seed's draws
+abbrev pub SealsWhole : List ℕ → List ℕ → List ℕ → Outside → Outside → ℕ → Type 0
+SealsWhole keyset aad seed old new status = (T G : List ℕ) → Told old T G → status ≡ 0
+    → (report : Report) × (left_draws : List ℕ)
+    × IsWholeStream keyset aad (draws_in seed 256) left_draws T G new report
+
+-- a seal with status 11 has written exactly the front and the unmarked segments of what it read
+abbrev pub StopsUnmarked : List ℕ → List ℕ → List ℕ → Outside → Outside → ℕ → Type 0
+StopsUnmarked keyset aad seed old new status = status ≡ 11
+    → (loaded : Loaded) × (load keyset ≡ Ok loaded)
+    × SourceFailed loaded.primary aad (salt_of loaded.primary (draws_in seed 256))
+    (prefix_of loaded.primary (draws_in seed 256)) old new
+
+-- told bytes: a seal that can succeed where neither end fails does, or there is no memory
+abbrev pub SealSucceeds : List ℕ → List ℕ → List ℕ → Outside → Outside → ℕ → Type 0
+SealSucceeds keyset aad seed old new status = (T G : List ℕ) → Told old T G → HasNoFault old new
+    → CanSeal keyset aad (draws_in seed 256) T → IsDoneOrWant status
+
+-- what a status promises of a seal
+pub record SealPromises (keyset aad seed : List ℕ) (old new : Outside) (status : ℕ) : Type 0 where
+  -- what 0 promises
+  pub sealed : SealsWhole keyset aad seed old new status
+  -- what was written where the source failed, told or not
+  pub stopped : StopsUnmarked keyset aad seed old new status
+  -- when it succeeds
+  pub succeeds : SealSucceeds keyset aad seed old new status
+
+-- ---- an open
+
+-- told bytes: an open with status 0 had exactly a stream of the chosen key, and has written its text
+abbrev pub OpensWhole : List ℕ → List ℕ → Outside → Outside → ℕ → Type 0
+OpensWhole keyset aad old new status = (S G : List ℕ) → Told old S G → status ≡ 0
+    → (report : Report) × IsWholeText keyset aad S G new report
+
+-- told bytes: an open, whatever its status, has written only a prefix of the texts that agree under the chosen key
+abbrev pub WritesAgreeing : List ℕ → List ℕ → Outside → Outside → Type 0
+WritesAgreeing keyset aad old new = (S G : List ℕ) → Told old S G → IsOfAgreeing keyset aad S old new
+
+-- told bytes: an open that can succeed where neither end fails does, or there is no memory
+abbrev pub OpenSucceeds : List ℕ → List ℕ → Outside → Outside → ℕ → Type 0
+OpenSucceeds keyset aad old new status = (S G : List ℕ) → Told old S G → HasNoFault old new
+    → CanOpen keyset aad S → IsDoneOrWant status
+
+-- what a status promises of an open
+pub record OpenPromises (keyset aad : List ℕ) (old new : Outside) (status : ℕ) : Type 0 where
+  -- what 0 promises
+  pub opened : OpensWhole keyset aad old new status
+  -- what was written by any status
+  pub written : WritesAgreeing keyset aad old new
+  -- when it succeeds
+  pub succeeds : OpenSucceeds keyset aad old new status

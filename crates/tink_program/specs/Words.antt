@@ -1,0 +1,111 @@
+-- The words that spell a command.
+use Rattle.std.specs.Prelude.{◌≡◌, ◌⊎◌, ◌≤◌, ◌<◌, ℕ, List, [], ◌∷◌, length, map, codes, decimal, String, string_bytes, Ok, Vec}
+use Rattle.hex.specs.Hex.{decode_of}
+use Rattle.tink_program.specs.declared.words.Parsed.{Parsed}
+use Rattle.tink_program.specs.declared.words.Parsed.TheVariants.{Keygen, Large, Open, Rotate, Seal, Sign, Verify}
+
+-- two hexadecimal digits or more, an even number in either case, or a dash for no bytes
+abbrev pub IsBytesWord : List ℕ → List ℕ → Type 0
+IsBytesWord word bytes = ((word ≡ codes "-") × (bytes ≡ [])) ⊎ ((2 ≤ length word) × (decode_of word ≡ Ok bytes))
+
+-- 64 hexadecimal digits
+abbrev pub IsSeedWord : List ℕ → List ℕ → Type 0
+IsSeedWord word bytes = (length word ≡ 64) × (decode_of word ≡ Ok bytes)
+
+-- `seal KEYSET AAD SEED`, and what it spells
+pub record SealWords (words : List (List ℕ)) (keyset aad seed : List ℕ) : Type 0 where
+  pub keyset_word : List ℕ
+  pub aad_word : List ℕ
+  pub seed_word : List ℕ
+  pub spelled : words ≡ codes "seal" ∷ keyset_word ∷ aad_word ∷ seed_word ∷ []
+  pub keyset_is : IsBytesWord keyset_word keyset
+  pub aad_is : IsBytesWord aad_word aad
+  pub seed_is : IsSeedWord seed_word seed
+
+-- `open KEYSET AAD`, and what it spells
+pub record OpenWords (words : List (List ℕ)) (keyset aad : List ℕ) : Type 0 where
+  pub keyset_word : List ℕ
+  pub aad_word : List ℕ
+  pub spelled : words ≡ codes "open" ∷ keyset_word ∷ aad_word ∷ []
+  pub keyset_is : IsBytesWord keyset_word keyset
+  pub aad_is : IsBytesWord aad_word aad
+
+-- `keygen TEMPLATE SEED`, and what it spells: the template is any word
+pub record KeygenWords (words : List (List ℕ)) (template seed : List ℕ) : Type 0 where
+  pub seed_word : List ℕ
+  pub spelled : words ≡ codes "keygen" ∷ template ∷ seed_word ∷ []
+  pub seed_is : IsSeedWord seed_word seed
+
+-- `rotate KEYSET TEMPLATE SEED`, and what it spells
+pub record RotateWords (words : List (List ℕ)) (keyset template seed : List ℕ) : Type 0 where
+  pub keyset_word : List ℕ
+  pub seed_word : List ℕ
+  pub spelled : words ≡ codes "rotate" ∷ keyset_word ∷ template ∷ seed_word ∷ []
+  pub keyset_is : IsBytesWord keyset_word keyset
+  pub seed_is : IsSeedWord seed_word seed
+
+-- a number below 1,000,000 in decimal digits, without a leading zero unless it is 0
+pub record IsNumberWord (word : List ℕ) (n : ℕ) : Type 0 where
+  pub digits : word ≡ decimal n
+  pub small : n < 1000000
+
+-- `large N`, and what it spells
+pub record LargeWords (words : List (List ℕ)) (n : ℕ) : Type 0 where
+  pub number_word : List ℕ
+  pub spelled : words ≡ codes "large" ∷ number_word ∷ []
+  pub number_is : IsNumberWord number_word n
+
+-- `sign KEYSET`, and what it spells
+pub record SignWords (words : List (List ℕ)) (keyset : List ℕ) : Type 0 where
+  pub keyset_word : List ℕ
+  pub spelled : words ≡ codes "sign" ∷ keyset_word ∷ []
+  pub keyset_is : IsBytesWord keyset_word keyset
+
+-- `verify KEYSET`, and what it spells
+pub record VerifyWords (words : List (List ℕ)) (keyset : List ℕ) : Type 0 where
+  pub keyset_word : List ℕ
+  pub spelled : words ≡ codes "verify" ∷ keyset_word ∷ []
+  pub keyset_is : IsBytesWord keyset_word keyset
+
+-- what a command line asks for: a keyset and associated data, and the seed of a new stream; a template and a seed; the
+-- number of a large text; a keyset of MACs
+pub data Asked : Type 0 where
+  Sealing : (keyset aad seed : List ℕ) → Asked
+  Opening : (keyset aad : List ℕ) → Asked
+  Making : (template seed : List ℕ) → Asked
+  Rotating : (keyset template seed : List ℕ) → Asked
+  Measuring : ℕ → Asked
+  Signing : (keyset : List ℕ) → Asked
+  Verifying : (keyset : List ℕ) → Asked
+
+-- the words of each command
+abbrev pub Spells : List (List ℕ) → Asked → Type 0
+Spells words (Sealing keyset aad seed) = SealWords words keyset aad seed
+Spells words (Opening keyset aad) = OpenWords words keyset aad
+Spells words (Making template seed) = KeygenWords words template seed
+Spells words (Rotating keyset template seed) = RotateWords words keyset template seed
+Spells words (Measuring n) = LargeWords words n
+Spells words (Signing keyset) = SignWords words keyset
+Spells words (Verifying keyset) = VerifyWords words keyset
+
+-- the words ask for nothing
+abbrev pub SpellNothing : List (List ℕ) → Type 0
+SpellNothing words = (a : Asked) → Spells words a → ⊥
+
+-- the bytes of each word of a command line
+abbrev pub words_in : {A : Type 0} → List (String A) → List (List ℕ)
+words_in words = map (λ w. string_bytes w) words
+
+-- the words of a command line
+abbrev pub words_of : {A G : Type 0} → Vec (String A) G → List (List ℕ)
+words_of words = words_in words.items
+
+-- what was read asks for this
+abbrev pub asked_of : Parsed → Asked
+asked_of (Seal args) = Sealing args.keyset.items args.aad.items args.seed
+asked_of (Open args) = Opening args.keyset.items args.aad.items
+asked_of (Keygen args) = Making (string_bytes args.template) args.seed
+asked_of (Rotate args) = Rotating args.keyset.items (string_bytes args.template) args.seed
+asked_of (Large n) = Measuring n
+asked_of (Sign keyset) = Signing keyset.items
+asked_of (Verify keyset) = Verifying keyset.items

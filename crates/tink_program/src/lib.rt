@@ -1,0 +1,9 @@
+//! The program's words, statuses and lines, and all of its commands, over any source and any sinks.
+#![tactic(auto)]
+
+mod keysets;
+mod large;
+pub mod program;
+mod streams;
+mod tokens;
+mod words;

@@ -1,0 +1,197 @@
+//! All that the program does, over any source and any sinks.
+
+ghost use Rattle.std.specs.Prelude.{◌≡◌, ◌≤◌, true};
+ghost use Rattle.tink_io.specs.Written.{WritesOrFaults};
+ghost use Rattle.tink_run.specs.Outside.{outside_of};
+ghost use Rattle.tink_program.specs.Program.{CommandMeans, KeepsEnds, Leaves, LeavesSource, OutcomeMeans, ProgramMeans, Promised, Promises, StatusMeans, answer_outcome, line_of, reads_first, status_of, takes_no_input};
+ghost use Rattle.tink_program.specs.Words.{asked_of, words_of};
+
+use crate::keysets::{write_new, write_rotated};
+use crate::large::write_large;
+use crate::streams::{run_open, run_seal};
+use crate::tokens::{write_payload, write_token};
+use crate::words::{Parsed, parse};
+use std::alloc::Global;
+use tink_io::{Kind, Sink, Source, TinkError, write_all, write_line};
+
+const USAGE: &[u8] =
+    b"usage: seal KEYSET AAD SEED | open KEYSET AAD | keygen TEMPLATE SEED | rotate KEYSET TEMPLATE SEED | large N | sign KEYSET | verify KEYSET\n";
+
+/// How the program ended.
+#[derive(Clone, Copy, Debug, PartialEq, Eq)]
+pub enum Outcome {
+    /// The command did what it was to do.
+    Done,
+    /// The words spell no command.
+    Usage,
+    /// The command was refused.
+    Refused(Kind),
+}
+
+/// Does what the words say, from `source` to `sink`, and answers the status:
+///
+/// - 0: it was done, and nothing is told to `faults`.
+/// - 2: the words are none of `seal KEYSET AAD SEED`, `open KEYSET AAD`, `keygen TEMPLATE SEED`,
+///   `rotate KEYSET TEMPLATE SEED`, `large N`, `sign KEYSET` and `verify KEYSET`; the usage line is told.
+/// - 10 to 28: it was refused; the line of the refusal's kind is told.
+///
+/// KEYSET and AAD are hexadecimal, in either case and at least two digits, or `-` for no bytes; TEMPLATE is any word;
+/// SEED is 64 hexadecimal digits, and draws are the first 256 words of its ChaCha20 stream; N is a decimal number
+/// below 1,000,000, without a leading zero unless it is 0. `keygen` writes the line of a keyset of one new key by the
+/// template of that name, `rotate` that of KEYSET with such a key as its primary one, `large` the four lines of the
+/// large text of N under the draws of the seed of zeros; they leave the source as it is. `sign` writes the token of the
+/// source's bytes, at most 16,777,216 of them, and `verify` the payload of the token that the source has. A fault of
+/// `faults` ends the line where it stands, and changes no status.
+pub fn program<S: Source, K: Sink, E: Sink>(
+    alloc: Global,
+    words: &Vec<String>,
+    source: &mut S,
+    sink: &mut K,
+    faults: &mut E,
+) -> u8
+    // The status is that of an outcome, which says why it came and what stands after it.
+    ensures means { ProgramMeans (words_of words.now)
+        (outside_of S.left S.faults K.got K.faults source.old sink.old)
+        (outside_of S.left S.faults K.got K.faults source.new sink.new)
+        (E.got faults.old) (E.got faults.new) (E.faults faults.old) (E.faults faults.new) result }
+
+    // When status 2 comes, which statuses a command has, what a keyset gets that does not load or is not made and why,
+    // and what stands after a status of 10, 11 or 12.
+    ensures status { StatusMeans (words_of words.now)
+        (outside_of S.left S.faults K.got K.faults source.old sink.old)
+        (outside_of S.left S.faults K.got K.faults source.new sink.new) result }
+
+    // The ends themselves: a status of 2, 13 to 19, 24 or 25 leaves both as they were, and one of 10 or 26 to 28 the
+    // sink; one of 10 the source too, unless the command reads before it writes.
+    ensures early { KeepsEnds (words_of words.now) result source.old source.new sink.old sink.new }
+
+    // A command that makes a keyset, or measures a large text, leaves the source itself as it was.
+    ensures kept { LeavesSource (words_of words.now) source.old source.new }
+
+    // What a status promises of the command that the words ask for: what was written by 0, and by others, over told
+    // bytes or not; when the command succeeds.
+    ensures promised { Promised (words_of words.now)
+        (outside_of S.left S.faults K.got K.faults source.old sink.old)
+        (outside_of S.left S.faults K.got K.faults source.new sink.new) result }
+    ensures source { S.same source.old source.new }
+    ensures sink { K.same sink.old sink.new }
+    ensures faults { E.same faults.old faults.new }
+{
+    let outcome = command(alloc, words, source, sink);
+    tell(faults, outcome);
+    status(outcome)
+}
+
+/// The status of an outcome.
+pub fn status(outcome: Outcome) -> u8
+    ensures { result ≡ status_of outcome }
+{
+    match outcome {
+        Outcome::Done => 0,
+        Outcome::Usage => 2,
+        Outcome::Refused(Kind::OutOfMemory) => 10,
+        Outcome::Refused(Kind::ReadFault) => 11,
+        Outcome::Refused(Kind::WriteFault) => 12,
+        Outcome::Refused(Kind::BadKeyset) => 13,
+        Outcome::Refused(Kind::InvalidKeyset) => 14,
+        Outcome::Refused(Kind::UnsupportedKeyType) => 15,
+        Outcome::Refused(Kind::InvalidKey) => 16,
+        Outcome::Refused(Kind::NoPrimary) => 17,
+        Outcome::Refused(Kind::WrongPrimitive) => 18,
+        Outcome::Refused(Kind::UnsupportedHash) => 19,
+        Outcome::Refused(Kind::TooManySegments) => 20,
+        Outcome::Refused(Kind::NoMatchingKey) => 21,
+        Outcome::Refused(Kind::BadSegment(_)) => 22,
+        Outcome::Refused(Kind::Truncated(_)) => 23,
+        Outcome::Refused(Kind::UnknownTemplate) => 24,
+        Outcome::Refused(Kind::NoFreshId) => 25,
+        Outcome::Refused(Kind::InputTooLong) => 26,
+        Outcome::Refused(Kind::BadToken) => 27,
+        Outcome::Refused(Kind::MacMismatch) => 28,
+        Outcome::Refused(_) => 255,
+    }
+}
+
+/// Writes the line of an outcome. It takes no memory.
+pub fn tell<E: Sink>(faults: &mut E, outcome: Outcome)
+    ensures line { WritesOrFaults (E.got faults.old) (E.got faults.new) (E.faults faults.old) (E.faults faults.new)
+        (line_of outcome) }
+    ensures later { E.faults faults.old ≤ E.faults faults.new }
+    ensures same { E.same faults.old faults.new }
+{
+    match outcome {
+        Outcome::Done => {}
+        Outcome::Usage => {
+            let _ = write_all(faults, USAGE);
+        }
+        Outcome::Refused(kind) => write_line(faults, kind),
+    }
+}
+
+// Does what the words say.
+fn command<S: Source, K: Sink>(
+    alloc: Global,
+    words: &Vec<String>,
+    source: &mut S,
+    sink: &mut K,
+) -> Outcome
+    ensures means { OutcomeMeans (words_of words.now)
+        (outside_of S.left S.faults K.got K.faults source.old sink.old)
+        (outside_of S.left S.faults K.got K.faults source.new sink.new)
+        result }
+    ensures early { KeepsEnds (words_of words.now) (status_of result) source.old source.new sink.old sink.new }
+    ensures kept { LeavesSource (words_of words.now) source.old source.new }
+    ensures promised { Promised (words_of words.now)
+        (outside_of S.left S.faults K.got K.faults source.old sink.old)
+        (outside_of S.left S.faults K.got K.faults source.new sink.new)
+        (status_of result) }
+    ensures source { S.same source.old source.new }
+    ensures sink { K.same sink.old sink.new }
+{
+    match parse(alloc, words) {
+        Err(e) => Outcome::Refused(e.kind),
+        Ok(None) => Outcome::Usage,
+        Ok(Some(parsed)) => done(alloc, parsed, source, sink),
+    }
+}
+
+// Does what was read of the words.
+fn done<S: Source, K: Sink>(
+    alloc: Global,
+    parsed: Parsed,
+    source: &mut S,
+    sink: &mut K,
+) -> Outcome
+    ensures means { CommandMeans (asked_of parsed)
+        (outside_of S.left S.faults K.got K.faults source.old sink.old)
+        (outside_of S.left S.faults K.got K.faults source.new sink.new)
+        result }
+    ensures early { Leaves (reads_first (asked_of parsed)) result source.old source.new sink.old sink.new }
+    ensures kept { takes_no_input (asked_of parsed) ≡ true → source.new ≡ source.old }
+    ensures promised { Promises (asked_of parsed)
+        (outside_of S.left S.faults K.got K.faults source.old sink.old)
+        (outside_of S.left S.faults K.got K.faults source.new sink.new)
+        (status_of result) }
+    ensures source { S.same source.old source.new }
+    ensures sink { K.same sink.old sink.new }
+{
+    match parsed {
+        Parsed::Seal(args) => outcome_of(run_seal(alloc, &args, source, sink)),
+        Parsed::Open(args) => outcome_of(run_open(alloc, &args, source, sink)),
+        Parsed::Keygen(args) => outcome_of(write_new(alloc, &args, sink)),
+        Parsed::Rotate(args) => outcome_of(write_rotated(alloc, &args, sink)),
+        Parsed::Large(n) => outcome_of(write_large(alloc, n, sink)),
+        Parsed::Sign(keyset) => outcome_of(write_token(alloc, &keyset, source, sink)),
+        Parsed::Verify(keyset) => outcome_of(write_payload(alloc, &keyset, source, sink)),
+    }
+}
+
+// The outcome that an answer comes to.
+fn outcome_of<T: Copy>(answer: Result<T, TinkError>) -> Outcome
+    ensures { result ≡ answer_outcome answer }
+{
+    match answer {
+        Ok(_) => Outcome::Done,
+        Err(e) => Outcome::Refused(e.kind),
+    }
+}

@@ -1,0 +1,69 @@
+//! The two commands of streams.
+
+ghost use Rattle.std.specs.Prelude.{[]};
+ghost use Rattle.tink_run.specs.declared.report.Command.TheVariants.{Seal, Open};
+ghost use Rattle.tink_run.specs.Outside.{outside_of};
+ghost use Rattle.tink_run.specs.Run.{LeavesEnds};
+ghost use Rattle.tink_program.specs.Draws.{draws_in};
+ghost use Rattle.tink_program.specs.Streams.{Ran};
+
+use crate::words::{OpenArgs, SealArgs, first_draws};
+use std::alloc::Global;
+use tink_io::{Draws, Sink, Source, TinkError};
+use tink_run::report::{Command, Report};
+use tink_run::run::run;
+
+/// Seals with the draws of the seed.
+pub fn run_seal<S: Source, K: Sink>(
+    alloc: Global,
+    args: &SealArgs,
+    source: &mut S,
+    sink: &mut K,
+) -> Result<Report, TinkError>
+    ensures ran { Ran Seal args.now.keyset.items args.now.aad.items (draws_in args.now.seed 256)
+        (outside_of S.left S.faults K.got K.faults source.old sink.old)
+        (outside_of S.left S.faults K.got K.faults source.new sink.new)
+        result }
+    ensures early { LeavesEnds result source.old source.new sink.old sink.new }
+    ensures source { S.same source.old source.new }
+    ensures sink { K.same sink.old sink.new }
+{
+    let mut draws = Draws::new(first_draws(alloc, args.seed)?);
+    run(
+        alloc,
+        Command::Seal,
+        &args.keyset,
+        &args.aad,
+        &mut draws,
+        source,
+        sink,
+    )
+}
+
+/// Opens with no draws.
+pub fn run_open<S: Source, K: Sink>(
+    alloc: Global,
+    args: &OpenArgs,
+    source: &mut S,
+    sink: &mut K,
+) -> Result<Report, TinkError>
+    ensures ran { Ran Open args.now.keyset.items args.now.aad.items []
+        (outside_of S.left S.faults K.got K.faults source.old sink.old)
+        (outside_of S.left S.faults K.got K.faults source.new sink.new)
+        result }
+    ensures early { LeavesEnds result source.old source.new sink.old sink.new }
+    ensures source { S.same source.old source.new }
+    ensures sink { K.same sink.old sink.new }
+{
+    let none = Vec::new(alloc);
+    let mut draws = Draws::new(none);
+    run(
+        alloc,
+        Command::Open,
+        &args.keyset,
+        &args.aad,
+        &mut draws,
+        source,
+        sink,
+    )
+}

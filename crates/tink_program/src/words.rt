@@ -1,0 +1,262 @@
+//! The words of the program.
+
+ghost use Rattle.std.specs.Prelude.{◌≡◌, List, ℕ, IfOk, IfErr, IfSome, IfNone, string_bytes};
+ghost use Rattle.tink_io.specs.declared.error.Kind.TheVariants.{OutOfMemory};
+ghost use Rattle.tink_program.specs.Draws.{draws_in};
+ghost use Rattle.tink_program.specs.Words.{IsBytesWord, IsNumberWord, KeygenWords, LargeWords, OpenWords, RotateWords, SealWords, SignWords, SpellNothing, Spells, VerifyWords, asked_of, words_of};
+
+use hex::{FromHex, FromHexError};
+use rand_chacha::ChaCha20Rng;
+use rand_core::SeedableRng;
+use rand_core::utils::NextWord;
+use std::alloc::Global;
+use tink_io::{Kind, TinkError};
+
+// So many numbers have a large text: those of six digits at most.
+const NUMBERS: u32 = 1_000_000;
+
+/// What `seal KEYSET AAD SEED` spells.
+#[derive(Drop)]
+pub struct SealArgs {
+    pub keyset: Vec<u8>,
+    pub aad: Vec<u8>,
+    pub seed: [u8; 32],
+}
+
+/// What `open KEYSET AAD` spells.
+#[derive(Drop)]
+pub struct OpenArgs {
+    pub keyset: Vec<u8>,
+    pub aad: Vec<u8>,
+}
+
+/// What `keygen TEMPLATE SEED` spells.
+#[derive(Drop)]
+pub struct KeygenArgs {
+    pub template: String,
+    pub seed: [u8; 32],
+}
+
+/// What `rotate KEYSET TEMPLATE SEED` spells.
+#[derive(Drop)]
+pub struct RotateArgs {
+    pub keyset: Vec<u8>,
+    pub template: String,
+    pub seed: [u8; 32],
+}
+
+/// A command with its values.
+#[derive(Drop)]
+pub enum Parsed {
+    Seal(SealArgs),
+    Open(OpenArgs),
+    Keygen(KeygenArgs),
+    Rotate(RotateArgs),
+    Large(u32),
+    Sign(Vec<u8>),
+    Verify(Vec<u8>),
+}
+
+/// Reads the words of a command; `None` where they spell none. Refuses by `OutOfMemory` alone.
+pub fn parse(alloc: Global, words: &Vec<String>) -> Result<Option<Parsed>, TinkError>
+    ensures found { IfOk result (λ o. IfSome o (λ p. Spells (words_of words.now) (asked_of p))) }
+    ensures none { IfOk result (λ o. IfNone o (SpellNothing (words_of words.now))) }
+    ensures refused { IfErr result (λ e. e ≡ record { kind = OutOfMemory }) }
+{
+    if let Some(args) = parse_seal(alloc, words)? {
+        return Ok(Some(Parsed::Seal(args)));
+    }
+    if let Some(args) = parse_open(alloc, words)? {
+        return Ok(Some(Parsed::Open(args)));
+    }
+    if let Some(args) = parse_keygen(alloc, words)? {
+        return Ok(Some(Parsed::Keygen(args)));
+    }
+    if let Some(args) = parse_rotate(alloc, words)? {
+        return Ok(Some(Parsed::Rotate(args)));
+    }
+    if let Some(n) = parse_large(alloc, words)? {
+        return Ok(Some(Parsed::Large(n)));
+    }
+    if let Some(keyset) = parse_sign(alloc, words)? {
+        return Ok(Some(Parsed::Sign(keyset)));
+    }
+    if let Some(keyset) = parse_verify(alloc, words)? {
+        return Ok(Some(Parsed::Verify(keyset)));
+    }
+    Ok(None)
+}
+
+// Reads the words of `seal`.
+fn parse_seal(alloc: Global, words: &Vec<String>) -> Result<Option<SealArgs>, TinkError>
+    ensures found { IfOk result
+        (λ o. IfSome o (λ a. SealWords (words_of words.now) a.keyset.items a.aad.items a.seed)) }
+    ensures none { IfOk result (λ o. IfNone o
+        ((keyset aad seed : List ℕ) → SealWords (words_of words.now) keyset aad seed → ⊥)) }
+    ensures refused { IfErr result (λ e. e ≡ record { kind = OutOfMemory }) }
+{
+    if words.len() != 4 || words[0].as_str() != "seal" {
+        return Ok(None);
+    }
+    let Some(keyset) = bytes_of(alloc, words[1].as_str())? else {
+        return Ok(None);
+    };
+    let Some(aad) = bytes_of(alloc, words[2].as_str())? else {
+        return Ok(None);
+    };
+    let Ok(seed) = <[u8; 32] as FromHex>::from_hex(words[3].as_str()) else {
+        return Ok(None);
+    };
+    Ok(Some(SealArgs { keyset, aad, seed }))
+}
+
+// Reads the words of `open`.
+fn parse_open(alloc: Global, words: &Vec<String>) -> Result<Option<OpenArgs>, TinkError>
+    ensures found { IfOk result
+        (λ o. IfSome o (λ a. OpenWords (words_of words.now) a.keyset.items a.aad.items)) }
+    ensures none { IfOk result (λ o. IfNone o ((keyset aad : List ℕ) → OpenWords (words_of words.now) keyset aad → ⊥)) }
+    ensures refused { IfErr result (λ e. e ≡ record { kind = OutOfMemory }) }
+{
+    if words.len() != 3 || words[0].as_str() != "open" {
+        return Ok(None);
+    }
+    let Some(keyset) = bytes_of(alloc, words[1].as_str())? else {
+        return Ok(None);
+    };
+    let Some(aad) = bytes_of(alloc, words[2].as_str())? else {
+        return Ok(None);
+    };
+    Ok(Some(OpenArgs { keyset, aad }))
+}
+
+// Reads the words of `keygen`.
+fn parse_keygen(alloc: Global, words: &Vec<String>) -> Result<Option<KeygenArgs>, TinkError>
+    ensures found { IfOk result
+        (λ o. IfSome o (λ a. KeygenWords (words_of words.now) (string_bytes a.template) a.seed)) }
+    ensures none { IfOk result (λ o. IfNone o
+        ((template seed : List ℕ) → KeygenWords (words_of words.now) template seed → ⊥)) }
+    ensures refused { IfErr result (λ e. e ≡ record { kind = OutOfMemory }) }
+{
+    if words.len() != 3 || words[0].as_str() != "keygen" {
+        return Ok(None);
+    }
+    let Ok(seed) = <[u8; 32] as FromHex>::from_hex(words[2].as_str()) else {
+        return Ok(None);
+    };
+    let template = String::from_str(alloc, words[1].as_str())?;
+    Ok(Some(KeygenArgs { template, seed }))
+}
+
+// Reads the words of `rotate`.
+fn parse_rotate(alloc: Global, words: &Vec<String>) -> Result<Option<RotateArgs>, TinkError>
+    ensures found { IfOk result
+        (λ o. IfSome o (λ a. RotateWords (words_of words.now) a.keyset.items (string_bytes a.template) a.seed)) }
+    ensures none { IfOk result (λ o. IfNone o
+        ((keyset template seed : List ℕ) → RotateWords (words_of words.now) keyset template seed → ⊥)) }
+    ensures refused { IfErr result (λ e. e ≡ record { kind = OutOfMemory }) }
+{
+    if words.len() != 4 || words[0].as_str() != "rotate" {
+        return Ok(None);
+    }
+    let Ok(seed) = <[u8; 32] as FromHex>::from_hex(words[3].as_str()) else {
+        return Ok(None);
+    };
+    let Some(keyset) = bytes_of(alloc, words[1].as_str())? else {
+        return Ok(None);
+    };
+    let template = String::from_str(alloc, words[2].as_str())?;
+    Ok(Some(RotateArgs {
+        keyset,
+        template,
+        seed,
+    }))
+}
+
+// Reads the words of `large`.
+fn parse_large(alloc: Global, words: &Vec<String>) -> Result<Option<u32>, TinkError>
+    ensures found { IfOk result (λ o. IfSome o (λ n. LargeWords (words_of words.now) n)) }
+    ensures none { IfOk result (λ o. IfNone o ((n : ℕ) → LargeWords (words_of words.now) n → ⊥)) }
+    ensures refused { IfErr result (λ e. e ≡ record { kind = OutOfMemory }) }
+{
+    if words.len() != 2 || words[0].as_str() != "large" {
+        return Ok(None);
+    }
+    let Some(n) = number_of(alloc, words[1].as_str())? else {
+        return Ok(None);
+    };
+    Ok(Some(n))
+}
+
+// Reads the words of `sign`.
+fn parse_sign(alloc: Global, words: &Vec<String>) -> Result<Option<Vec<u8>>, TinkError>
+    ensures found { IfOk result (λ o. IfSome o (λ keyset. SignWords (words_of words.now) keyset.items)) }
+    ensures none { IfOk result (λ o. IfNone o ((keyset : List ℕ) → SignWords (words_of words.now) keyset → ⊥)) }
+    ensures refused { IfErr result (λ e. e ≡ record { kind = OutOfMemory }) }
+{
+    if words.len() != 2 || words[0].as_str() != "sign" {
+        return Ok(None);
+    }
+    bytes_of(alloc, words[1].as_str())
+}
+
+// Reads the words of `verify`.
+fn parse_verify(alloc: Global, words: &Vec<String>) -> Result<Option<Vec<u8>>, TinkError>
+    ensures found { IfOk result (λ o. IfSome o (λ keyset. VerifyWords (words_of words.now) keyset.items)) }
+    ensures none { IfOk result (λ o. IfNone o ((keyset : List ℕ) → VerifyWords (words_of words.now) keyset → ⊥)) }
+    ensures refused { IfErr result (λ e. e ≡ record { kind = OutOfMemory }) }
+{
+    if words.len() != 2 || words[0].as_str() != "verify" {
+        return Ok(None);
+    }
+    bytes_of(alloc, words[1].as_str())
+}
+
+// The number of a word that writes it as it is printed, below the limit.
+fn number_of(alloc: Global, word: &str) -> Result<Option<u32>, TinkError>
+    ensures found { IfOk result (λ o. IfSome o (λ n. IsNumberWord word.now n)) }
+    ensures none { IfOk result (λ o. IfNone o ((n : ℕ) → IsNumberWord word.now n → ⊥)) }
+    ensures refused { IfErr result (λ e. e ≡ record { kind = OutOfMemory }) }
+{
+    let Ok(n) = word.parse::<u32>() else {
+        return Ok(None);
+    };
+    let printed = n.to_string(alloc)?;
+    if n >= NUMBERS || printed.as_str() != word {
+        return Ok(None);
+    }
+    Ok(Some(n))
+}
+
+// The bytes of a hexadecimal word, or none of a dash.
+fn bytes_of(alloc: Global, word: &str) -> Result<Option<Vec<u8>>, TinkError>
+    ensures found { IfOk result (λ o. IfSome o (λ v. IsBytesWord word.now v.items)) }
+    ensures none { IfOk result (λ o. IfNone o ((v : List ℕ) → IsBytesWord word.now v → ⊥)) }
+    ensures refused { IfErr result (λ e. e ≡ record { kind = OutOfMemory }) }
+{
+    if word == "-" {
+        return Ok(Some(Vec::new(alloc)));
+    }
+    if word.len() < 2 {
+        return Ok(None);
+    }
+    match hex::decode(alloc, word) {
+        Ok(bytes) => Ok(Some(bytes)),
+        Err(FromHexError::OutOfMemory) => Err(TinkError::new(Kind::OutOfMemory)),
+        Err(_) => Ok(None),
+    }
+}
+
+/// The bytes of the first 256 words of the seed's ChaCha20 stream, 1,024 in all. Refuses by
+/// `OutOfMemory` alone.
+pub fn first_draws(alloc: Global, seed: [u8; 32]) -> Result<Vec<u8>, TinkError>
+    ensures draws { IfOk result (λ v. v.items ≡ draws_in seed 256) }
+    ensures refused { IfErr result (λ e. e ≡ record { kind = OutOfMemory }) }
+{
+    let mut rng = ChaCha20Rng::from_seed(seed);
+    let mut bytes = Vec::new(alloc);
+    for place in 0..256u32 {
+        let _ = place;
+        bytes.extend_from_slice(&rng.next_word().to_le_bytes())?;
+    }
+    Ok(bytes)
+}
