@@ -45,7 +45,7 @@ unwritten _ early = tt
 -- and what it left
 pub line_leaves : {S K : Type 0} (answer : Result (Unit {0}) TinkError) (source : S) (k l : K) → IfErr answer (λ e. IsUnwritten e.kind → l ≡ k) → Leaves false (answer_outcome answer) source source k l
 line_leaves (Ok done) source k l left = tt
-line_leaves (Err e) source k l left = (λ _. refl, (λ early. left (unwritten e.kind early), λ _. inr refl))
+line_leaves (Err e) source k l left = (λ _. refl, λ early. left (unwritten e.kind early), λ _. inr refl)
 
 -- ---- which statuses come
 

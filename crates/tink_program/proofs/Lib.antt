@@ -10,3 +10,4 @@ pub mod LargeSteps
 pub mod MacFacts
 pub mod TokenCalls
 pub mod TokenLemmas
+pub mod ProgramLemmas

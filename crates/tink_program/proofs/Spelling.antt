@@ -107,13 +107,13 @@ along P words a b p q holds = subst P (one_asked words a b p q) holds
 pub nothing_spelled : (words : List (List ℕ)) → ((k a s : List ℕ) → SealWords words k a s → ⊥) → ((k a : List ℕ) → OpenWords words k a → ⊥)
     → ((t s : List ℕ) → KeygenWords words t s → ⊥) → ((k t s : List ℕ) → RotateWords words k t s → ⊥) → ((n : ℕ) → LargeWords words n → ⊥)
     → ((k : List ℕ) → SignWords words k → ⊥) → ((k : List ℕ) → VerifyWords words k → ⊥) → SpellNothing words
-nothing_spelled words seal open keygen rotate large sign verify = λ asked. by_asked asked
+nothing_spelled words no_seal no_open no_keygen no_rotate no_large no_sign no_verify = λ asked. by_asked asked
   where
     by_asked : (asked : Asked) → Spells words asked → ⊥
-    by_asked (Sealing k a s) p = seal k a s p
-    by_asked (Opening k a) p = open k a p
-    by_asked (Making t s) p = keygen t s p
-    by_asked (Rotating k t s) p = rotate k t s p
-    by_asked (Measuring n) p = large n p
-    by_asked (Signing k) p = sign k p
-    by_asked (Verifying k) p = verify k p
+    by_asked (Sealing k a s) p = no_seal k a s p
+    by_asked (Opening k a) p = no_open k a p
+    by_asked (Making t s) p = no_keygen t s p
+    by_asked (Rotating k t s) p = no_rotate k t s p
+    by_asked (Measuring n) p = no_large n p
+    by_asked (Signing k) p = no_sign k p
+    by_asked (Verifying k) p = no_verify k p

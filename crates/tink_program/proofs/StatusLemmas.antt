@@ -9,6 +9,7 @@ use Rattle.tink_program.specs.declared.program.Outcome.TheVariants.{Done, Usage,
 use Rattle.tink_program.specs.Program.{early_statuses, kind_status, own_statuses, reads_first, refused_statuses, status_of, unwritten_statuses, AsksNothing, HasCause, HasDone, HasNoRoom, HasOwnStatus, HasRefusedCause, IsAmong, IsCause, IsEarlyKind, IsReadingFirst, IsRefusedBy, IsUnwrittenKind, IsUsage, KeepsEnds, Leaves, OutcomeMeans, Refuses, StatusMeans}
 use Rattle.tink_program.specs.Tokens.{LeavesSink}
 use Rattle.tink_program.specs.Words.{Asked, SpellNothing, Spells}
+use Rattle.tink_program.specs.Words.Asked.{Making, Measuring, Opening, Rotating, Sealing, Signing, Verifying}
 use Rattle.tink_program.proofs.Spelling.{along}
 
 pub above_2 : (kind : Kind) → 2 < kind_status kind
@@ -50,7 +51,7 @@ command_status words a old new status spelled facts = record {
 
 -- ---- words that ask for nothing, and no memory for what they say
 
-nothing_status : (words : List (List ℕ)) (old new : Outside) → SpellNothing words → StatusMeans words old new 2
+pub nothing_status : (words : List (List ℕ)) (old new : Outside) → SpellNothing words → StatusMeans words old new 2
 nothing_status words old new nothing = record {
   usage = record { cause = λ _. nothing; comes = λ _. inl refl };
   own = λ a spelled. absurd (nothing a spelled);
@@ -64,9 +65,15 @@ nothing_status words old new nothing = record {
 }
 
 own_ten : (a : Asked) → IsAmong (own_statuses a) 10
-own_ten _ = refl
+own_ten (Sealing keyset aad seed) = refl
+own_ten (Opening keyset aad) = refl
+own_ten (Making template seed) = refl
+own_ten (Rotating keyset template seed) = refl
+own_ten (Measuring n) = refl
+own_ten (Signing keyset) = refl
+own_ten (Verifying keyset) = refl
 
-want_status : (words : List (List ℕ)) (old new : Outside) → IsUntouched old new → StatusMeans words old new 10
+pub want_status : (words : List (List ℕ)) (old new : Outside) → IsUntouched old new → StatusMeans words old new 10
 want_status words old new same = record {
   usage = record { cause = λ is. absurd (omega (arith, is)); comes = λ _. inr refl };
   own = λ a spelled. own_ten a;
@@ -117,21 +124,21 @@ want_kind _ is = absurd (omega (arith, is))
 pub command_keeps : {S K : Type 0} (words : List (List ℕ)) (a : Asked) (outcome : Outcome) (s t : S) (k l : K) → Spells words a → Leaves (reads_first a) outcome s t k l
     → KeepsEnds words (status_of outcome) s t k l
 command_keeps words a Done s t k l spelled left = record {
-  source = λ is. absurd (cc is);
-  sink = λ is. absurd (cc is);
+  unread = λ is. absurd (cc is);
+  unwritten = λ is. absurd (cc is);
   want = λ is. absurd (omega (arith, is));
 }
 command_keeps words a Usage s t k l spelled left = record {
-  source = λ _. left.0;
-  sink = λ _. left.1;
+  unread = λ _. left.0;
+  unwritten = λ _. left.1;
   want = λ is. absurd (omega (arith, is));
 }
 command_keeps words a (Refused kind) s t k l spelled left = record {
-  source = λ is. left.0 (early_kind kind is);
-  sink = λ is. left.1.0 (unwritten_kind kind is);
-  want = λ is. elim (left.1.1 (want_kind kind is)) [ inl reads ↦ inl (a, spelled, reads) | inr same ↦ inr same ];
+  unread = λ is. left.0 (early_kind kind is);
+  unwritten = λ is. left.1 (unwritten_kind kind is);
+  want = λ is. elim (left.2 (want_kind kind is)) [ inl reads ↦ inl (a, spelled, reads) | inr same ↦ inr same ];
 }
 
 -- nothing was touched
 pub all_kept : {S K : Type 0} (words : List (List ℕ)) (status : ℕ) (s : S) (k : K) → KeepsEnds words status s s k k
-all_kept words status s k = record { source = λ _. refl; sink = λ _. refl; want = λ _. inr refl }
+all_kept words status s k = record { unread = λ _. refl; unwritten = λ _. refl; want = λ _. inr refl }

@@ -75,12 +75,14 @@ early_run Seal keyset aad draws left_draws old new NoFreshId m early = absurd m
 early_run Seal keyset aad draws left_draws old new InputTooLong m early = absurd m
 early_run Seal keyset aad draws left_draws old new BadToken m early = absurd m
 early_run Seal keyset aad draws left_draws old new MacMismatch m early = absurd m
+early_run Seal keyset aad draws left_draws old new RandomFault m early = tt
 early_run Seal keyset aad draws left_draws old new _ m early = early
 early_run Open keyset aad draws left_draws old new UnknownTemplate m early = absurd m.0
 early_run Open keyset aad draws left_draws old new NoFreshId m early = absurd m.0
 early_run Open keyset aad draws left_draws old new InputTooLong m early = absurd m.0
 early_run Open keyset aad draws left_draws old new BadToken m early = absurd m.0
 early_run Open keyset aad draws left_draws old new MacMismatch m early = absurd m.0
+early_run Open keyset aad draws left_draws old new RandomFault m early = tt
 early_run Open keyset aad draws left_draws old new _ m early = early
 
 unwritten_early : (kind : Kind) → IsEarlyKind kind → IsUnwrittenKind kind
@@ -97,7 +99,8 @@ leaves_by command keyset aad draws old new (Ok report) s t k l ran h = tt
 leaves_by command keyset aad draws old new (Err e) s t k l ran h =
     let early = early_run command keyset aad draws ran.left_draws old new e.kind ran.means in (
       λ is. (h (early (unwritten_early e.kind is))).0,
-      (λ is. (h (early is)).1, λ is. inr (h (early (rw is tt))).0),
+      λ is. (h (early is)).1,
+      λ is. inr (h (early (rw is tt))).0,
     )
 
 -- ---- what a status says

@@ -7,22 +7,64 @@ use Rattle.tink_io.specs.Written.{AppendsFront}
 use Rattle.tink_io.specs.declared.error.Kind.{Kind}
 use Rattle.tink_io.specs.declared.error.Kind.TheVariants.{OutOfMemory, ReadFault, WriteFault, BadKeyset, InvalidKeyset, UnsupportedKeyType, InvalidKey, NoPrimary, WrongPrimitive, InputTooLong, BadToken, MacMismatch}
 use Rattle.tink_io.specs.declared.error.TinkError.{TinkError}
-use Rattle.tink_sets.specs.Entries.{entry_of_id}
+use Rattle.tink_io.specs.Told.{made_of, Answers}
+use Rattle.tink_proto.specs.declared.messages.keys.Keyset.{Keyset}
+use Rattle.tink_registry.specs.Listed.{Registered}
+use Rattle.tink_building.specs.Built.{GivesSet}
+use Rattle.tink_keysets.specs.Encrypted.{chained}
+use Rattle.tink_keysets.specs.Valid.{valid_keyset}
+use Rattle.tink_mac.specs.Rotation.{mac_entries}
+use Rattle.tink.specs.Managers.{row_of, Built}
+use Rattle.tink.specs.Registered.{with_everything}
+use Rattle.tink.specs.declared.managers.Managers.{Managers}
 use Rattle.tink_sets.specs.Groups.{group_of}
 use Rattle.tink_sets.specs.declared.entry.TypedEntry.{TypedEntry}
 use Rattle.tink_keyset_io.specs.Reading.{IsUnreadText}
 use Rattle.tink_factory.specs.Accepting.{entries_of}
 use Rattle.loading_model.proofs.UsableKeys.{IsOfLoading}
 use Rattle.tink_mac.specs.MacKinds.{kind_computes, kind_verifies}
-use Rattle.tink_mac.specs.Wrapped.{primary_mac}
+use Rattle.tink_mac.specs.Wrapped.{primary_mac, IsMacOf}
 use Rattle.tink_mac.specs.declared.factory.WrappedMac.{WrappedMac}
 use Rattle.tink_mac.specs.declared.mac_kind.MacKind.{MacKind}
 use Rattle.tink_tokens.specs.Tokens.{spelled, IsAnswered, IsSigned, IsSigning, IsVerifying}
 use Rattle.tink_run.specs.Outside.{Outside}
 use Rattle.tink_program.specs.Program.{answer_outcome}
 use Rattle.tink_program.specs.TokenSteps.{AreLoadedMacs, GivesMacs, MakesNothing, MakesOfInput, ReadsInput}
-use Rattle.tink_program.specs.Tokens.{input_limit, macs_of, HasInput, Macs, RefusesSigning, RefusesVerifying, SignsTo, TokenMeans, TokenRefused, VerifiesTo}
+use Rattle.tink_program.specs.Tokens.{input_limit, macs_in, macs_of, supports_own, with_id, HasInput, Macs, RefusesSigning, RefusesVerifying, SignsTo, TokenMeans, TokenRefused, VerifiesTo}
 use Rattle.tink_program.proofs.MacFacts.{macs_refuse}
+
+-- ---- what loads
+
+-- a refused keyset has no MACs
+pub keyset_refused : (bytes : List ℕ) (e : TinkError) → Answers {T = Keyset} (Err e) (valid_keyset bytes) → GivesMacs (Err e) (macs_of bytes)
+unfolding macs_of
+keyset_refused bytes e (inl want) = inl want
+keyset_refused bytes e (inr is) = inr (ap (chained macs_in) is)
+
+-- a valid keyset has its own
+pub keyset_macs : (bytes : List ℕ) (ks : Keyset) (result : Result (WrappedMac MacKind) TinkError) → valid_keyset bytes ≡ Ok ks → GivesMacs result (macs_in ks) → GivesMacs result (macs_of bytes)
+unfolding macs_of
+keyset_macs bytes ks result is gives = rw is gives
+
+abbrev url : Managers → List ℕ
+url m = (row_of m).url
+
+abbrev builds : Managers → List ℕ → Result Built Kind
+builds m value = (row_of m).built value
+
+-- what the managers of the registry give
+pub built_macs : (ks : Keyset) (r : Registered Managers) (result : Result (WrappedMac MacKind) TinkError) → r ≡ with_everything
+    → GivesSet (λ es w. IsMacOf kind_computes kind_verifies ks.primary_key_id es w.ps.primary w.ps.entries) result (mac_entries url supports_own builds r.managers ks)
+    → GivesMacs result (macs_in ks)
+built_macs ks r result same gives =
+    by_result result (subst (λ (x : Registered Managers). GivesSet (λ es w. IsMacOf kind_computes kind_verifies ks.primary_key_id es w.ps.primary w.ps.entries) result (mac_entries url supports_own builds x.managers ks)) same gives)
+  where
+    by_result : (result : Result (WrappedMac MacKind) TinkError)
+        → GivesSet (λ es w. IsMacOf kind_computes kind_verifies ks.primary_key_id es w.ps.primary w.ps.entries) result (mac_entries url supports_own builds with_everything.managers ks)
+        → GivesMacs result (macs_in ks)
+    by_result (Ok w) g = (with_id ks.primary_key_id g.0, ap (made_of (with_id ks.primary_key_id)) g.1, g.2)
+    by_result (Err e) (inl want) = inl want
+    by_result (Err e) (inr is) = inr (ap (made_of (with_id ks.primary_key_id)) is)
 
 -- ---- what is made of the input
 
@@ -90,8 +132,8 @@ module _ (Gives : Macs → List ℕ → List ℕ → Type 0) (Refuses : Macs →
       → (old new : Outside) (macs : Macs) (kind : Kind) → macs_of keyset ≡ Ok macs → new.got ≡ old.got → new.write_faults ≡ old.write_faults
       → MakesNothing (Gives macs) (Refuses macs) old.left new.left old.read_faults new.read_faults kind → TokenRefused Gives Refuses keyset old new kind
   not_made only old new macs OutOfMemory loads got faults m = record { got = got; faults = faults }
-  not_made only old new macs ReadFault loads got faults m = ((macs, loads), (record { got = got; faults = faults }, m))
-  not_made only old new macs InputTooLong loads got faults m = ((macs, loads), (record { got = got; faults = faults }, m))
+  not_made only old new macs ReadFault loads got faults m = ((macs, loads), record { got = got; faults = faults }, m)
+  not_made only old new macs InputTooLong loads got faults m = ((macs, loads), record { got = got; faults = faults }, m)
   not_made only old new macs BadToken loads got faults m = record { macs = macs; loads = loads; input = m.0; has = has_input old new m.0 m.1; refuses = m.2; sink = record { got = got; faults = faults } }
   not_made only old new macs MacMismatch loads got faults m = record { macs = macs; loads = loads; input = m.0; has = has_input old new m.0 m.1; refuses = m.2; sink = record { got = got; faults = faults } }
   not_made only old new macs _ loads got faults m = elim (only macs m.0 _ m.2) [ inl is ↦ absurd (cc is) | inr is ↦ absurd (cc is) ]

@@ -27,7 +27,7 @@ use Rattle.tink_program.proofs.StatusLemmas.{above_2, CommandFacts}
 pub token_leaves : {S K : Type 0} (answer : Result (Unit {0}) TinkError) (s t : S) (k l : K) → IfErr answer (λ e. IsEarlyKind e.kind → t ≡ s)
     → IfErr answer (λ e. IsUnwrittenKind e.kind → l ≡ k) → Leaves true (answer_outcome answer) s t k l
 token_leaves (Ok done) s t k l unread unwritten = tt
-token_leaves (Err e) s t k l unread unwritten = (unread, (unwritten, λ _. inl refl))
+token_leaves (Err e) s t k l unread unwritten = (unread, unwritten, λ _. inl refl)
 
 -- a keyset has one refusal, and none where its MACs load
 one_refusal : (keyset : List ℕ) (kind other : Kind) → macs_of keyset ≡ Err kind → macs_of keyset ≡ Err other → kind_status other ≡ kind_status kind

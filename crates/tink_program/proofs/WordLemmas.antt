@@ -1,6 +1,7 @@
 -- Words, and what they spell.
 use Rattle.std.proofs.Common.{◌≡◌, ◌<◌, ℕ, zero, suc, List, [], ◌∷◌, length, map, sym, ◌∙◌, ap, subst, arith, slice_index_or, Global}
-use Rattle.std.specs.Prelude.{String, string_bytes, codes, Ok}
+use Rattle.std.specs.Prelude.{String, string_bytes, codes, Option, Some, None, Result, Ok, Err, Vec, IfOk, IfSome, IfNone}
+use Rattle.tink_io.specs.declared.error.TinkError.{TinkError}
 use Rattle.hex.specs.Hex.{decode_sized}
 use Rattle.hex.proofs.HexLemmas.{decode_sized-ok, decode_sized-twice}
 use Rattle.tink_program.specs.Words.{IsBytesWord, IsSeedWord, KeygenWords, OpenWords, RotateWords, SealWords, SignWords, VerifyWords}
@@ -110,3 +111,35 @@ verify_words ws a b keyset l p q is keyset_is = record {
   spelled = two_texts ws a b l p q ∙ ap (λ x. x ∷ string_bytes b ∷ []) is;
   keyset_is = keyset_is;
 }
+
+-- what the one word behind `sign` spells, or that it spells nothing
+pub found_sign : {G : Type 0} (ws : List (String Global)) (a b : String Global) (word : List ℕ) (r : Result (Option (Vec ℕ G)) TinkError) → length ws ≡ 2
+    → a ≡ slice_index_or ws 0 a → b ≡ slice_index_or ws 1 b → string_bytes a ≡ codes "sign" → word ≡ string_bytes b
+    → IfOk r (λ o. IfSome o (λ v. IsBytesWord word v.items)) → IfOk r (λ o. IfSome o (λ v. SignWords (texts ws) v.items))
+found_sign ws a b word (Ok (Some v)) l p q is same found = sign_words ws a b v.items l p q is (subst (λ w. IsBytesWord w v.items) same found)
+found_sign ws a b word (Ok None) l p q is same found = tt
+found_sign ws a b word (Err e) l p q is same found = tt
+
+pub none_sign : {G : Type 0} (ws : List (String Global)) (b : String Global) (word : List ℕ) (r : Result (Option (Vec ℕ G)) TinkError) → length ws ≡ 2
+    → b ≡ slice_index_or ws 1 b → word ≡ string_bytes b
+    → IfOk r (λ o. IfNone o ((v : List ℕ) → IsBytesWord word v → ⊥)) → IfOk r (λ o. IfNone o ((v : List ℕ) → SignWords (texts ws) v → ⊥))
+none_sign ws b word (Ok (Some v)) l q same none = tt
+none_sign ws b word (Ok None) l q same none = λ v h.
+    none v (subst (λ w. IsBytesWord w v) (spelled_at ws 1 b _ (omega (arith, l)) q h.spelled ∙ sym same) h.keyset_is)
+none_sign ws b word (Err e) l q same none = tt
+
+-- what the one word behind `verify` spells, or that it spells nothing
+pub found_verify : {G : Type 0} (ws : List (String Global)) (a b : String Global) (word : List ℕ) (r : Result (Option (Vec ℕ G)) TinkError) → length ws ≡ 2
+    → a ≡ slice_index_or ws 0 a → b ≡ slice_index_or ws 1 b → string_bytes a ≡ codes "verify" → word ≡ string_bytes b
+    → IfOk r (λ o. IfSome o (λ v. IsBytesWord word v.items)) → IfOk r (λ o. IfSome o (λ v. VerifyWords (texts ws) v.items))
+found_verify ws a b word (Ok (Some v)) l p q is same found = verify_words ws a b v.items l p q is (subst (λ w. IsBytesWord w v.items) same found)
+found_verify ws a b word (Ok None) l p q is same found = tt
+found_verify ws a b word (Err e) l p q is same found = tt
+
+pub none_verify : {G : Type 0} (ws : List (String Global)) (b : String Global) (word : List ℕ) (r : Result (Option (Vec ℕ G)) TinkError) → length ws ≡ 2
+    → b ≡ slice_index_or ws 1 b → word ≡ string_bytes b
+    → IfOk r (λ o. IfNone o ((v : List ℕ) → IsBytesWord word v → ⊥)) → IfOk r (λ o. IfNone o ((v : List ℕ) → VerifyWords (texts ws) v → ⊥))
+none_verify ws b word (Ok (Some v)) l q same none = tt
+none_verify ws b word (Ok None) l q same none = λ v h.
+    none v (subst (λ w. IsBytesWord w v) (spelled_at ws 1 b _ (omega (arith, l)) q h.spelled ∙ sym same) h.keyset_is)
+none_verify ws b word (Err e) l q same none = tt

@@ -199,8 +199,8 @@ unwritten_statuses = 10 ∷ 26 ∷ 27 ∷ 28 ∷ early_statuses
 -- the ends themselves after a status that comes before they are touched
 pub record KeepsEnds {S K : Type 0} (words : List (List ℕ)) (status : ℕ) (source source_after : S) (sink sink_after : K)
     : Type 0 where
-  pub source : IsAmong early_statuses status → source_after ≡ source
-  pub sink : IsAmong unwritten_statuses status → sink_after ≡ sink
+  pub unread : IsAmong early_statuses status → source_after ≡ source
+  pub unwritten : IsAmong unwritten_statuses status → sink_after ≡ sink
   pub want : status ≡ 10 → IsReadingFirst words ⊎ (source_after ≡ source)
 
 -- kinds by which a command is refused before it reads, or writes

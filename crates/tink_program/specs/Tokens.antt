@@ -33,6 +33,9 @@ pub record Macs : Type 0 where
   pub id : ℕ
   pub entries : List (TypedEntry MacKind)
 
+abbrev pub with_id : ℕ → List (TypedEntry MacKind) → Macs
+with_id id entries = record { id = id; entries = entries }
+
 -- a manager takes the URL that is its own
 abbrev pub supports_own : Managers → List ℕ → Bool
 supports_own m url = bytes_eq (row_of m).url url
@@ -41,7 +44,7 @@ supports_own m url = bytes_eq (row_of m).url url
 -- without a primary key, or of the first key that is no MAC
 abbrev pub macs_in : Keyset → Result Macs Kind
 macs_in ks =
-    made_of (λ es. record { id = ks.primary_key_id; entries = es })
+    made_of (with_id ks.primary_key_id)
     (mac_entries (λ m. (row_of m).url) supports_own (λ m. (row_of m).built) with_everything.managers ks)
 
 -- the MACs that a keyset's bytes load as, or the first refusal
