@@ -2,14 +2,14 @@
 //! lines.
 #![tactic(auto)]
 
-mod keys;
+pub mod keys;
 mod keysets;
 mod large;
 pub mod laws;
 pub mod load;
-mod open;
+pub mod open;
 pub mod program;
 pub mod report;
 pub mod run;
-mod seal;
+pub mod seal;
 mod words;
