@@ -35,7 +35,7 @@ module _ (ks js : List OpeningKey) (old new : Outside) (same : (S : List ℕ) �
   lead_by [] S e h = tt
   lead_by (t ∷ ts) S e h = (h.0, same S e (Some h.0) h.1, h.2)
 
-  broken_by : IsBroken ks old new → IsBroken js old new
+  pub broken_by : IsBroken ks old new → IsBroken js old new
   broken_by h = record {
     texts = h.texts;
     lead = if_told old.left (λ X. Lead ks X h.texts) (λ X. Lead js X h.texts) (lead_by h.texts) h.lead;

@@ -82,7 +82,7 @@ whole_agrees (Some seg) first size over X ts law room fits some p =
     let P : ℕ → ℕ → Type 0 = λ m n. AreTexts seg 0 (cut m n X) ts × (length (cut m n X) ≡ length ts) in
     subst (λ (n : ℕ). P first n) b (subst (λ (m : ℕ). P m (size - over + over)) a (all_agree seg over 0 (first - over) (size - over) ts X (law seg refl).longer (omega arith) (omega arith) some p))
 
-stream_agrees : (k : OpeningKey) (S : List ℕ) (ts : List (List ℕ)) → Lawful k → IsStream k S ts → AreTextsBy (k.seg (header_of k S)) (chunks_of k S) ts × (length (chunks_of k S) ≡ length ts)
+pub stream_agrees : (k : OpeningKey) (S : List ℕ) (ts : List (List ℕ)) → Lawful k → IsStream k S ts → AreTextsBy (k.seg (header_of k S)) (chunks_of k S) ts × (length (chunks_of k S) ≡ length ts)
 stream_agrees k S ts law s = whole_agrees (k.seg (header_of k S)) k.first k.size k.overhead (behind_front k S) ts (law.lawful (header_of k S)) law.room (omega (arith, law.fits)) law.some s.segments
 
 -- a prefix of texts that lead is a prefix of texts that agree
@@ -103,7 +103,7 @@ kept_front a b xs w = (0, omega arith, go a b w)
     go (Some xs) None w = absurd w
     go (Some xs) (Some ys) w = w ∙ sym (append-nil xs)
 
-same_loaded : (keyset : List ℕ) (l m : Loaded) → load keyset ≡ Ok l → load keyset ≡ Ok m → l ≡ m
+pub same_loaded : (keyset : List ℕ) (l m : Loaded) → load keyset ≡ Ok l → load keyset ≡ Ok m → l ≡ m
 same_loaded keyset l m p q = cc
 
 -- what stands by a prefix of leading texts

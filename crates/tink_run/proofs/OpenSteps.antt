@@ -76,7 +76,7 @@ module _ (keys : List OpeningKey) (seg : ℕ → Bool → List ℕ → List ℕ)
     then = g (subst P (chunks_are f.key X seg header first size overhead f.opener) p.1);
   }
 
-  breaks_under : (old mid new : Outside) → mid.got ≡ old.got → IfSome old.left (Begun mid.left) → Breaks seg first size mid new → IsBroken keys old new
+  pub breaks_under : (old mid new : Outside) → mid.got ≡ old.got → IfSome old.left (Begun mid.left) → Breaks seg first size mid new → IsBroken keys old new
   breaks_under old mid new got started b = record {
     texts = b.texts;
     lead = behind old.left mid.left (λ Y. AreTexts seg 0 (cut first size Y) b.texts) (λ X. Lead keys X b.texts) (λ X s p. leads_under s.front X b.texts s.found p) started b.lead;

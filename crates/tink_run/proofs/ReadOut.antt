@@ -191,7 +191,8 @@ next_refused seg a b overhead old new now m n bytes (Truncated k) p q r w later 
 }
 next_refused seg a b overhead old new now m n bytes _ p q r w later more x = absurd x
 
-any_told : (all : Option (List ℕ)) → IfSome all (λ X. Unit {0})
+-- what says nothing holds of what is told
+pub any_told : (all : Option (List ℕ)) → IfSome all (λ X. Unit {0})
 any_told None = tt
 any_told (Some X) = tt
 

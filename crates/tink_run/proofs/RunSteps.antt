@@ -78,7 +78,7 @@ seals_keyset keyset aad draws left_draws set key old new answer loads primary r 
     sealing.under_keyset keyset aad draws left_draws loads.0 old new answer loads.1 (subst (λ k. SealsUnder k aad draws left_draws old new answer) same r)
 
 -- each loaded key is one of a keyset
-are_of_keyset : (ks : List LoadedKey) → AreUsable ks → All IsOfKeyset (map (λ k. k.key) ks)
+pub are_of_keyset : (ks : List LoadedKey) → AreUsable ks → All IsOfKeyset (map (λ k. k.key) ks)
 are_of_keyset [] u = All-nil IsOfKeyset
 are_of_keyset (k ∷ ks) u = All-cons IsOfKeyset k.key (map (λ l. l.key) ks) u.0 (are_of_keyset ks u.1)
 

@@ -33,15 +33,15 @@ module _ (k : StreamKey) (aad salt prefix keys : List ℕ) (e : keys_of k aad sa
   abbrev seg : ℕ → Bool → List ℕ → List ℕ
   seg = segment_at k keys prefix
 
-  stream_is : (text : List ℕ) → front k salt prefix ++ sealed seg (first_room k) (room k) text ≡ stream k aad salt prefix text
+  pub stream_is : (text : List ℕ) → front k salt prefix ++ sealed seg (first_room k) (room k) text ≡ stream k aad salt prefix text
   unfolding stream
   stream_is text = ap (λ o. front k salt prefix ++ sealed_under k o prefix text) (sym e)
 
-  part_is : (text : List ℕ) → front k salt prefix ++ unmarked seg 0 (full_chunks (first_room k) (room k) text) ≡ part k aad salt prefix text
+  pub part_is : (text : List ℕ) → front k salt prefix ++ unmarked seg 0 (full_chunks (first_room k) (room k) text) ≡ part k aad salt prefix text
   unfolding part
   part_is text = ap (λ o. front k salt prefix ++ unmarked_under k o prefix (full_chunks (first_room k) (room k) text)) (sym e)
 
-  longest_is : (text : List ℕ) → front k salt prefix ++ unmarked seg 0 (take (2 ^ 32 - 1) (full_chunks (first_room k) (room k) text)) ≡ longest_part k aad salt prefix text
+  pub longest_is : (text : List ℕ) → front k salt prefix ++ unmarked seg 0 (take (2 ^ 32 - 1) (full_chunks (first_room k) (room k) text)) ≡ longest_part k aad salt prefix text
   unfolding longest_part
   longest_is text = ap (λ o. front k salt prefix ++ unmarked_under k o prefix (take (2 ^ 32 - 1) (full_chunks (first_room k) (room k) text))) (sym e)
 
@@ -199,7 +199,7 @@ under_way k aad draws left_draws old new (Err e) w = go e.kind w.means
     go _ m = absurd m
 
 -- the draws were taken and the hash derives no keys
-no_keys : (k : StreamKey) (aad draws left_draws : List ℕ) (old new : Outside) (kind : Kind) → DrewHeader k draws left_draws → deriving_hash k.hkdf_hash ≡ Err kind → IsUntouched old new → HasNoKeys k aad draws left_draws old new
+pub no_keys : (k : StreamKey) (aad draws left_draws : List ℕ) (old new : Outside) (kind : Kind) → DrewHeader k draws left_draws → deriving_hash k.hkdf_hash ≡ Err kind → IsUntouched old new → HasNoKeys k aad draws left_draws old new
 no_keys k aad draws left_draws old new kind drew e untouched = record {
   enough = drew.enough;
   rest = drew.rest;

@@ -1,10 +1,10 @@
 //! Seals and opens streams under Tink keysets, from any source to any sink.
 #![tactic(auto)]
 
-mod keys;
+pub mod keys;
 pub mod laws;
 pub mod load;
-mod open;
+pub mod open;
 pub mod report;
 pub mod run;
-mod seal;
+pub mod seal;

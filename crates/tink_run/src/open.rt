@@ -116,7 +116,7 @@ fn open_stream<S: Source, K: Sink, D: SegmentDecrypter + Drop>(
 /// # Errors
 /// ReadFault; NoMatchingKey where it is the segment of no text. The trial saw it open, so the source
 /// went on after it had said that it was at its end.
-fn open_first<S: Source, D: SegmentDecrypter + Drop>(
+pub fn open_first<S: Source, D: SegmentDecrypter + Drop>(
     reader: &mut SegmentReader<D>,
     source: &mut S,
 ) -> Result<(), TinkError>

@@ -51,7 +51,7 @@ pub fn seal<S: Source, K: Sink>(
 }
 
 /// Why a stream that was not begun is not sealed: a hash that is unknown is unsupported too.
-fn not_begun(error: TinkError) -> TinkError
+pub fn not_begun(error: TinkError) -> TinkError
     ensures { result ≡ record { kind = kind_not_begun error.kind } }
 {
     match error.kind {

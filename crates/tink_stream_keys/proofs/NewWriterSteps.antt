@@ -1,5 +1,5 @@
 -- From the steps of a new writer to its answer.
-use Rattle.std.proofs.Common.{◌≡◌, ◌⊎◌, inl, inr, ◌+◌, ◌<◌, ℕ, false, true, List, [], ◌∷◌, ◌++◌, length, take, drop, refl, sym, ap, subst, ◌∙◌, Some, None, get_or}
+use Rattle.std.proofs.Common.{◌≡◌, ◌⊎◌, inl, inr, ◌+◌, ◌<◌, ℕ, Bool, false, true, List, [], ◌∷◌, ◌++◌, length, take, drop, refl, sym, ap, subst, ◌∙◌, Some, None, get_or}
 use Rattle.std.specs.Prelude.{Err}
 use Rattle.std.proofs.lemmas.Bool.{false≢true}
 use Rattle.std.proofs.lemmas.List.{take-append-drop}
@@ -15,11 +15,12 @@ use Rattle.tink_primitives.specs.Meaning.{IsEndOf}
 use Rattle.stream_model.specs.Key.{StreamKey, first_room, front, header, header_length, keys_of, nonce_size, room}
 use Rattle.stream_model.specs.Sealing.{drawn, prefix_of, salt_of}
 use Rattle.tink_segments.specs.declared.stream_segment.StreamSegment.{StreamSegment}
+use Rattle.tink_streams.specs.declared.writing.Mode.{Mode}
 use Rattle.tink_streams.specs.declared.writing.Mode.TheVariants.{Open}
 use Rattle.tink_stream_keys.specs.Encrypting.{DrewHeader, IsNewStream, NewWriterRefused, WroteFrontPart}
+use Rattle.tink_stream_keys.specs.NewStreams.{IsPrepared, NotPrepared}
 use Rattle.tink_segments.specs.StreamSegments.{segment_by}
 use Rattle.tink_stream_keys.specs.StreamingKeys.{IsDerived, deriving_hash}
-use Rattle.tink_streams.specs.Writing.{WriterMoment}
 use Rattle.tink_stream_keys.proofs.HeaderFacts.{drawn_header, enough_drawn, header_parts, seg_is}
 use Rattle.stream_model.specs.Cut.{numbered}
 
@@ -40,11 +41,10 @@ hash_refusal (Some Sha384) kind e = absurd (cc)
 hash_refusal (Some Sha512) kind e = absurd (cc)
 
 -- the hash is refused
-pub hash_refused : {W : Type 0} (got : W → Option (List ℕ)) (faults : W → ℕ) (k : StreamKey) (aad draws left : List ℕ) (old : W) (kind : Kind) → DrewHeader k draws left → deriving_hash k.hkdf_hash ≡ Err kind
-    → NewWriterRefused got faults k aad draws left old old kind
-hash_refused got faults k aad draws left old kind drew e = elim (hash_refusal k.hkdf_hash kind e) [
-  | inl unknown ↦ subst (NewWriterRefused got faults k aad draws left old old) (sym unknown) (record { drew = drew; hash = subst (λ x. deriving_hash k.hkdf_hash ≡ Err x) unknown e; same = refl })
-  | inr unsupported ↦ subst (NewWriterRefused got faults k aad draws left old old) (sym unsupported) (record { drew = drew; hash = subst (λ x. deriving_hash k.hkdf_hash ≡ Err x) unsupported e; same = refl })
+pub hash_refused : (k : StreamKey) (draws left : List ℕ) (kind : Kind) → DrewHeader k draws left → deriving_hash k.hkdf_hash ≡ Err kind → NotPrepared k draws left kind
+hash_refused k draws left kind drew e = elim (hash_refusal k.hkdf_hash kind e) [
+  | inl unknown ↦ subst (NotPrepared k draws left) (sym unknown) (record { drew = drew; hash = subst (λ x. deriving_hash k.hkdf_hash ≡ Err x) unknown e })
+  | inr unsupported ↦ subst (NotPrepared k draws left) (sym unsupported) (record { drew = drew; hash = subst (λ x. deriving_hash k.hkdf_hash ≡ Err x) unsupported e })
 ]
 
 -- a header that was drawn, and the cipher that is derived under its salt
@@ -66,31 +66,21 @@ module _ (k : StreamKey) (aad draws left h : List ℕ) (n m : ℕ) (cipher : Str
   keys_are : keys_of k aad (salt_of k draws) ≡ Some d.keys
   keys_are = subst (λ s. keys_of k aad s ≡ Some d.keys) salt_is d.keys_are
 
-  -- the sink failed
-  pub front_failed : {W : Type 0} (got : W → Option (List ℕ)) (faults : W → ℕ) (old new : W) → AppendsFront (got old) (got new) (out ++ take n h) → Rose (faults old) (faults new) → WroteFrontPart got faults k aad draws left old new
-  front_failed got faults old new w rose = record {
+  -- a fresh writer by the cipher is that of the key's new stream
+  pub prepared : (encrypter : StreamSegment) (size : ℕ) (prefix : List ℕ) (a b : ℕ) (mode : Mode) (number : ℕ) (held : List ℕ) → encrypter ≡ cipher → size ≡ nonce_size k → prefix ≡ drop (k.derived + 1) (take n h) → a ≡ first_room k → b ≡ room k
+      → mode ≡ Open → number ≡ 0 → held ≡ []
+      → IsPrepared k aad draws left (out ++ take n h) (numbered (segment_by encrypter) size prefix) a b mode number held
+  prepared encrypter size prefix a b mode number held e s p first later is_open none_written none_held = record {
     drew = drew;
     keys = d.keys;
     keys_are = keys_are;
-    begun = subst (AppendsFront (got old) (got new)) front_is w;
-    rose = rose;
-  }
-
-  -- the front was written
-  pub new_stream : (before : Option (List ℕ)) (encrypter : StreamSegment) (size : ℕ) (prefix : List ℕ) (a b : ℕ) (o : WriterMoment) → encrypter ≡ cipher → size ≡ nonce_size k → prefix ≡ drop (k.derived + 1) (take n h) → a ≡ first_room k → b ≡ room k
-      → Appends before o.got (out ++ take n h) → o.mode ≡ Open → o.number ≡ 0 → o.held ≡ []
-      → IsNewStream k aad draws left before (numbered (segment_by encrypter) size prefix) a b o
-  new_stream before encrypter size prefix a b o e s p first later w mode number held = record {
-    drew = drew;
-    keys = d.keys;
-    keys_are = keys_are;
-    written = subst (Appends before o.got) front_is w;
+    front_is = front_is;
     segments = seg_is k aad (take m (drop 1 (take n h))) (prefix_of k draws) cipher encrypter size prefix d e s (p ∙ parts.3);
     first_is = first;
     later_is = later;
-    is_open = mode;
-    number = number;
-    held = held;
+    is_open = is_open;
+    none_written = none_written;
+    none_held = none_held;
   }
 
 -- ---- the draws that are left are an end of those that there were

@@ -1,4 +1,5 @@
 pub mod StreamingKeys
 pub mod StreamKinds
 pub mod Encrypting
+pub mod NewStreams
 pub mod Decrypting

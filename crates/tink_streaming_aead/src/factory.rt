@@ -1,6 +1,6 @@
 //! The streaming AEADs of a keyset as one.
 
-ghost use Rattle.std.specs.Prelude.{◌≡◌, ◌≤◌, ◌<◌, ◌+◌, ◌++◌, None, true, is_some, length, map, max, vec_len, All, IfOk, IfErr, OnOk};
+ghost use Rattle.std.specs.Prelude.{◌≡◌, ◌≤◌, ◌<◌, ◌+◌, ◌++◌, None, Some, true, is_some, length, map, max, vec_len, All, IfOk, IfErr, OnOk};
 ghost use Rattle.tink_io.specs.declared.error.Kind.TheVariants.{OutOfMemory};
 ghost use Rattle.stream_model.specs.Key.{IsUsable};
 ghost use Rattle.tink_primitives.specs.Meaning.{IsEndOf};
@@ -11,6 +11,7 @@ ghost use Rattle.tink_factory.specs.Typing.{typed_entries};
 ghost use Rattle.tink_streaming_aead.specs.DecryptReaders.{largest};
 ghost use Rattle.tink_streaming_aead.specs.DecryptReaders.DecryptState.{Unread};
 ghost use Rattle.tink_stream_keys.specs.Encrypting.{NewWriterMeans, sink_of};
+ghost use Rattle.tink_stream_keys.specs.StreamKinds.{key_in_set};
 ghost use Rattle.tink_streaming_aead.specs.Wrapped.{AreKeysOf, ByPrimary, KeepsOrder, all_entries, keys_in};
 
 use crate::decrypt_reader::{Choice, DecryptReader};
@@ -182,6 +183,16 @@ fn choice_in(
 }
 
 impl WrappedStreamingAead {
+    /// The entry of the primary key, by which streams are made.
+    pub fn primary(&self) -> &TypedEntry<StreamKind>
+        ensures { self.now.primary ≡ Some (key_in_set result.now) }
+    {
+        match &self.ps.primary {
+            Some(primary) => primary,
+            None => unreachable!(),
+        }
+    }
+
     /// A writer of a new stream into `w` by the primary key, whose front is written: the key's output prefix and a
     /// header. The salt and the prefix of the nonces are the first draws. All memory is taken first.
     ///

@@ -3,7 +3,7 @@ use Rattle.std.proofs.lemmas.List.{length-take-le}
 use Rattle.stream_model.specs.Key.{header_length}
 use Rattle.stream_model.specs.Sealing.{drawn}
 use Rattle.tink_stream_keys.proofs.HeaderFacts.{header_bytes}
-use Rattle.tink_stream_keys.proofs.encrypting.draw_header.Goals as goal
+use Rattle.tink_stream_keys.proofs.new_stream.draw_header.Goals as goal
 
 pub returns-clause-ok : goal.returns-clause-ok
 returns-clause-ok g c =

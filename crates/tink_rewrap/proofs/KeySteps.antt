@@ -1,0 +1,131 @@
+-- From what a reader finds and a writer makes to keys.
+use Rattle.std.proofs.Common.{◌≡◌, ◌+◌, inl, inr, ◌≤◌, ◌<◌, ◌^◌, ℕ, Bool, List, [], ◌++◌, length, refl, sym, subst, ap, arith, Some, None, IfSome}
+use Rattle.std.specs.declared.option.Option.{Option}
+use Rattle.std.specs.Prelude.{Result, Ok, Err}
+use Rattle.std.specs.Io.KnownBytes.{Appends, Keeps}
+use Rattle.tink_io.specs.Written.{AppendsFront}
+use Rattle.tink_io.specs.declared.error.Kind.{Kind}
+use Rattle.tink_io.specs.declared.error.Kind.TheVariants.{ReadFault, WriteFault, TooManySegments, NoMatchingKey, BadSegment, Truncated}
+use Rattle.tink_io.specs.declared.error.TinkError.{TinkError}
+use Rattle.stream_model.specs.Opening.{OpeningKey, IsChosen}
+use Rattle.tink_streams.specs.Choosing.{Started, StartRefused}
+use Rattle.tink_run.specs.declared.report.Report.{Report}
+use Rattle.tink_run.specs.Outside.{Outside}
+use Rattle.tink_run.specs.OpenAnswers.{IsBroken, OpeningMeans}
+use Rattle.tink_run.specs.OpenSteps.{Breaks, ReaderMeans}
+use Rattle.tink_run.specs.Run.{IsEarly, LeavesEnds}
+use Rattle.tink_run.proofs.OpenSteps.{breaks_under, means_under, start_refused}
+use Rattle.tink_rewrap.specs.Passing.{NewBytes, anywhere, into, BreaksAtEnd, PassMeans, PassRefused, StopsBy}
+use Rattle.tink_rewrap.specs.Rewrapping.{HasKey}
+
+-- the same is made of each text
+pub record MakeTheSame (b c : NewBytes) : Type 0 where
+  pub whole : (text : List ℕ) → b.whole text ≡ c.whole text
+  pub part : (text : List ℕ) → b.part text ≡ c.part text
+  pub longest : (text : List ℕ) → b.longest text ≡ c.longest text
+  pub count : (text : List ℕ) → b.count text ≡ c.count text
+
+pub itself : (b : NewBytes) → MakeTheSame b b
+itself b = record { whole = λ text. refl; part = λ text. refl; longest = λ text. refl; count = λ text. refl }
+
+-- what an open says, what is said of the text and of the source, and what is made of it, each follow from another
+module _ (opens opens' : Outside → Outside → Result Report TinkError → Type 0) (leads leads' : Outside → Outside → Type 0) (begins begins' : Outside → Type 0) (b c : NewBytes) (old mid new : Outside) (got : mid.got ≡ old.got)
+    (opened : (text : List ℕ) (answer : Result Report TinkError) → opens (into [] mid) (into text new) answer → opens' (into [] old) (into text new) answer)
+    (led : (text : List ℕ) → leads (into [] mid) (into text new) → leads' (into [] old) (into text new))
+    (begun : begins mid → begins' old) (same : MakeTheSame b c) where
+  appends : (xs ys : List ℕ) → xs ≡ ys → Appends mid.got new.got xs → Appends old.got new.got ys
+  appends xs ys e w = subst (λ (g : Option (List ℕ)). Appends g new.got ys) got (subst (Appends mid.got new.got) e w)
+
+  fronts : (xs ys : List ℕ) → xs ≡ ys → AppendsFront mid.got new.got xs → AppendsFront old.got new.got ys
+  fronts xs ys e w = subst (λ (g : Option (List ℕ)). AppendsFront g new.got ys) got (subst (AppendsFront mid.got new.got) e w)
+
+  keeps : Keeps mid.got new.got → Keeps old.got new.got
+  keeps w = subst (λ (g : Option (List ℕ)). Keeps g new.got) got w
+
+  stops : (kind : Kind) → StopsBy opens leads begins b mid new kind → StopsBy opens' leads' begins' c old new kind
+  stops kind x = record {
+    text = x.text;
+    opened = opened x.text (Err (record { kind = kind })) x.opened;
+    few = omega (arith, x.few, same.count x.text);
+    written = appends (b.part x.text) (c.part x.text) (same.part x.text) x.written;
+  }
+
+  at_end : (text : List ℕ) → BreaksAtEnd opens leads begins b mid new text → BreaksAtEnd opens' leads' begins' c old new text
+  at_end text x = record {
+    accepted = x.accepted;
+    opened = opened text (Ok (record { segments = x.accepted; bytes = length text })) x.opened;
+    written = fronts (b.whole text) (c.whole text) (same.whole text) x.written;
+  }
+
+  refused : (kind : Kind) → PassRefused opens leads begins b mid new kind → PassRefused opens' leads' begins' c old new kind
+  refused NoMatchingKey x = record { opened = opened [] (Err (record { kind = NoMatchingKey })) x.opened; written = keeps x.written }
+  refused TooManySegments (inl x) = inl (record {
+    text = x.text;
+    opened = led x.text x.opened;
+    many = omega (arith, x.many, same.count x.text);
+    written = appends (b.longest x.text) (c.longest x.text) (same.longest x.text) x.written;
+  })
+  refused TooManySegments (inr x) = inr (stops TooManySegments x)
+  refused (Truncated n) x = stops (Truncated n) x
+  refused (BadSegment n) x = stops (BadSegment n) x
+  refused ReadFault x = record {
+    text = x.text;
+    opened = opened x.text (Err (record { kind = ReadFault })) x.opened;
+    written = elim x.written [ inl w ↦ inl (keeps w) | inr w ↦ inr (begun w.0, appends (b.part x.text) (c.part x.text) (same.part x.text) w.1) ];
+  }
+  refused WriteFault x = record {
+    text = x.text;
+    begun = begun x.begun;
+    opened = opened x.text (Err (record { kind = WriteFault })) x.opened;
+    written = elim x.written [ inl w ↦ inl (fronts (b.part x.text) (c.part x.text) (same.part x.text) w) | inr w ↦ inr (at_end x.text w) ];
+  }
+  refused _ x = absurd x
+
+  pub pass_by : (answer : Result Report TinkError) → PassMeans opens leads begins b mid new answer → PassMeans opens' leads' begins' c old new answer
+  pass_by (Ok report) x = record {
+    text = x.text;
+    accepted = x.accepted;
+    opened = opened x.text (Ok (record { segments = x.accepted; bytes = length x.text })) x.opened;
+    few = omega (arith, x.few, same.count x.text);
+    written = appends (b.whole x.text) (c.whole x.text) (same.whole x.text) x.written;
+    segments = omega (arith, x.segments, same.count x.text);
+    bytes = x.bytes;
+  }
+  pass_by (Err e) x = refused e.kind x
+
+-- what a reader for the chosen key finds
+pub pass_started : (keys : List OpeningKey) (seg : ℕ → Bool → List ℕ → List ℕ) (first size overhead : ℕ) (b : NewBytes) (old mid new : Outside) (answer : Result Report TinkError) → overhead < first
+    → ((i : ℕ) (last : Bool) (t : List ℕ) → length (seg i last t) ≡ length t + overhead) → mid.got ≡ old.got → old.read_faults ≤ mid.read_faults → old.write_faults ≤ mid.write_faults
+    → IfSome old.left (λ X. Started keys X mid.left seg first size overhead)
+    → PassMeans (ReaderMeans seg first size overhead) (Breaks seg first size) anywhere b mid new answer → PassMeans (OpeningMeans keys) (IsBroken keys) (HasKey keys) b old new answer
+pass_started keys seg first size overhead b old mid new answer fits longer got reads writes started x =
+    pass_by (ReaderMeans seg first size overhead) (OpeningMeans keys) (Breaks seg first size) (IsBroken keys) anywhere (HasKey keys) b b old mid new got
+    (λ text answer. means_under keys seg first size overhead (into [] old) (into [] mid) (into text new) answer fits longer refl reads writes started)
+    (λ text. breaks_under keys seg first size overhead (into [] old) (into [] mid) (into text new) refl started)
+    (λ _. chosen old.left started) (itself b) answer x
+  where
+    chosen : (left : Option (List ℕ)) → IfSome left (λ X. Started keys X mid.left seg first size overhead) → IfSome left (λ S. (key : OpeningKey) × IsChosen keys S (Some key))
+    chosen None s = tt
+    chosen (Some X) s = (s.found.key, s.found.chosen)
+
+-- no reader was started
+pub pass_not_started : (keys : List OpeningKey) (b : NewBytes) (old new : Outside) (kind : Kind) → Keeps old.got new.got → StartRefused keys old.left old.read_faults new.read_faults kind
+    → PassRefused (OpeningMeans keys) (IsBroken keys) (HasKey keys) b old new kind
+pass_not_started keys b old new NoMatchingKey w x = record { opened = start_refused keys (into [] old) (into [] new) NoMatchingKey refl x; written = w }
+pass_not_started keys b old new ReadFault w x = record { text = []; opened = start_refused keys (into [] old) (into [] new) ReadFault refl x; written = inl w }
+pass_not_started keys b old new _ w x = absurd x
+
+-- a text that is passed on is not refused early
+pub pass_leaves : {S K : Type 0} (opens : Outside → Outside → Result Report TinkError → Type 0) (leads : Outside → Outside → Type 0) (begins : Outside → Type 0) (b : NewBytes) (old new : Outside) (answer : Result Report TinkError) (s t : S) (k l : K)
+    → PassMeans opens leads begins b old new answer → LeavesEnds answer s t k l
+pass_leaves opens leads begins b old new (Ok report) s t k l m = tt
+pass_leaves opens leads begins b old new (Err e) s t k l m = go e.kind m
+  where
+    go : (kind : Kind) → PassRefused opens leads begins b old new kind → IsEarly kind → (t ≡ s) × (l ≡ k)
+    go NoMatchingKey m early = absurd early
+    go TooManySegments m early = absurd early
+    go (Truncated n) m early = absurd early
+    go (BadSegment n) m early = absurd early
+    go ReadFault m early = absurd early
+    go WriteFault m early = absurd early
+    go _ m early = absurd m

@@ -1,0 +1,4 @@
+pub mod PassSteps
+pub mod KeySteps
+pub mod RewrapSteps
+pub mod PromiseSteps

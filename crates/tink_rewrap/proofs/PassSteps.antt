@@ -1,0 +1,242 @@
+-- Passing texts on, one after the other: what was read, as an open into a list sees it, and what was written.
+use Rattle.std.proofs.Common.{◌≡◌, inl, inr, ◌≤◌, ◌<◌, ◌+◌, ◌-◌, ◌^◌, ℕ, Bool, List, [], ◌++◌, length, take, refl, sym, ap, subst, ◌∙◌, arith, Some, length-append}
+use Rattle.std.specs.declared.option.Option.{Option}
+use Rattle.std.specs.Prelude.{Result, Ok, Err}
+use Rattle.std.specs.Io.KnownBytes.{Appends, Keeps, prepend_known}
+use Rattle.std.proofs.KnownBytes.{Appends-trans}
+use Rattle.tink_io.specs.Faults.{Rose}
+use Rattle.tink_io.specs.Written.{AppendsFront}
+use Rattle.tink_io.proofs.FaultLemmas.{Rose-later, Rose-earlier}
+use Rattle.tink_io.proofs.WrittenLemmas.{then_front, front_of_more}
+use Rattle.tink_io.specs.declared.error.Kind.{Kind}
+use Rattle.tink_io.specs.declared.error.Kind.TheVariants.{ReadFault, WriteFault, TooManySegments, NoMatchingKey, BadSegment, Truncated, FailedBefore}
+use Rattle.tink_io.specs.declared.error.Kind.TheVariants as kind
+use Rattle.tink_io.specs.declared.error.TinkError.{TinkError}
+use Rattle.stream_model.specs.Cut.{chunks, full_chunks, sealed, unmarked}
+use Rattle.stream_model.proofs.SealingFacts.{length-chunks}
+use Rattle.tink_streams.specs.declared.progress.Progress.TheVariants.{Ended}
+use Rattle.tink_streams.specs.Reading.{ReaderMoment, OpensNext, OpenNextRefused}
+use Rattle.tink_streams.specs.Writing.{WriterMoment, Wrote, WroteFront, WroteAll, WriteRefused, ClosedBy, ClosedShort, CloseMeans, CloseRefused}
+use Rattle.tink_streams.proofs.WritingFacts.{IsFresh, fresh_filled, wrote_nothing, wrote_more, refused_more, closed_whole, closed_front, stops_front}
+use Rattle.tink_run.specs.declared.report.Report.{Report}
+use Rattle.tink_run.specs.Outside.{Outside}
+use Rattle.tink_run.specs.OpenSteps.{Breaks, FirstRefused, ReaderMeans}
+use Rattle.tink_run.proofs.OpenLemmas.{kept_front, whole_front}
+use Rattle.tink_run.proofs.ReadOut.{IsReading, any_told, first_refused, next_refused, read_out, reading_first, reading_next, write_failed}
+use Rattle.tink_rewrap.specs.Passing.{FinishMeans, NewBytes, anywhere, bytes_by, into, PassMeans, PassRefused}
+
+-- what a fresh writer behind a front wrote
+module _ (front : List ℕ) (seg : ℕ → Bool → List ℕ → List ℕ) (a b : ℕ) (got : Option (List ℕ)) (m : WriterMoment) (f : IsFresh m) (w : Appends got m.got front) where
+  abbrev bytes : NewBytes
+  bytes = bytes_by front seg a b
+
+  -- of a text all chunks but the last
+  wrote_part : (n : WriterMoment) (text : List ℕ) → Wrote seg a b m n text → Appends got n.got (bytes.part text)
+  wrote_part n text p =
+      subst (Appends got n.got) (ap (λ i. front ++ unmarked seg i (full_chunks a b text)) f.number)
+      (Appends-trans got m.got n.got front (unmarked seg m.number (full_chunks a b text)) w (subst (λ (cs : List (List ℕ)). Appends m.got n.got (unmarked seg m.number cs)) (fresh_filled a b m text f) p.appended))
+
+  few_chunks : (n : WriterMoment) (text : List ℕ) → Wrote seg a b m n text → bytes.count text ≤ 2 ^ 32
+  few_chunks n text p = omega (arith, p.few, p.counted, f.number, ap length (fresh_filled a b m text f), length-chunks a b text)
+
+  -- a prefix of these
+  wrote_less : (n : WriterMoment) (text : List ℕ) → WroteFront seg a b m n text → AppendsFront got n.got (bytes.part text)
+  wrote_less n text p =
+      subst (AppendsFront got n.got) (ap (λ i. front ++ unmarked seg i (full_chunks a b text)) f.number)
+      (then_front got m.got n.got front (unmarked seg m.number (full_chunks a b text)) w
+      (subst (λ (cs : List (List ℕ)). AppendsFront m.got n.got (unmarked seg m.number cs)) (fresh_filled a b m text f) (stops_front seg m.number n.number _ m.got n.got p.stops)))
+
+  -- as many as there are numbers for
+  wrote_longest : (n : WriterMoment) (text : List ℕ) → WroteAll seg a b m n text → Appends got n.got (bytes.longest text)
+  wrote_longest n text p =
+      Appends-trans got m.got n.got front _ w
+      (subst (λ (i : ℕ). Appends m.got n.got (unmarked seg i (take (2 ^ 32 - 1 - i) (full_chunks a b text)))) f.number
+      (subst (λ (cs : List (List ℕ)). Appends m.got n.got (unmarked seg m.number (take (2 ^ 32 - 1 - m.number) cs))) (fresh_filled a b m text f) p.appended))
+
+  many_chunks : (n : WriterMoment) (text : List ℕ) → WroteAll seg a b m n text → 2 ^ 32 < bytes.count text
+  many_chunks n text p = omega (arith, p.many, f.number, ap length (fresh_filled a b m text f), length-chunks a b text)
+
+  -- the whole stream
+  wrote_whole : (n o : WriterMoment) (text : List ℕ) → Wrote seg a b m n text → ClosedBy seg n o → Appends got o.got (bytes.whole text) × (o.number ≡ bytes.count text)
+  wrote_whole n o text p c =
+      let whole = closed_whole seg a b m n o text f p c in
+      (Appends-trans got m.got o.got front (sealed seg a b text) w whole.0, whole.1)
+
+  wrote_whole_less : (n o : WriterMoment) (text : List ℕ) → Wrote seg a b m n text → ClosedShort seg n o → AppendsFront got o.got (bytes.whole text)
+  wrote_whole_less n o text p c = then_front got m.got o.got front (sealed seg a b text) w (closed_front seg a b m n o text f p c)
+
+-- Of the texts that were opened all but the last went to the writer, which began behind the front.
+pub record IsUnderWay (read : ℕ → Bool → List ℕ → List ℕ) (first size : ℕ) (front : List ℕ) (seg : ℕ → Bool → List ℕ → List ℕ) (a b : ℕ) (old : Outside) (m : ReaderMoment) (w : WriterMoment) (bytes : ℕ) : Type 0 where
+  pub text : List ℕ
+  pub reading : IsReading read first size old.left (Some []) (Some text) m bytes
+  pub start : WriterMoment
+  pub fresh : IsFresh start
+  pub begun : Appends old.got start.got front
+  pub later : old.write_faults ≤ start.faults
+  pub wrote : Wrote seg a b start w text
+  pub since : start.faults ≤ w.faults
+
+module _ (read : ℕ → Bool → List ℕ → List ℕ) (first size overhead : ℕ) (front : List ℕ) (seg : ℕ → Bool → List ℕ → List ℕ) (a b : ℕ) where
+  abbrev made : NewBytes
+  made = bytes_by front seg a b
+
+  abbrev Refused : Outside → Outside → Kind → Type 0
+  Refused old new kind = PassRefused (ReaderMeans read first size overhead) (Breaks read first size) anywhere made old new kind
+
+  -- the reader refused the first segment
+  pub first_failed : (old new : Outside) (m n : ReaderMoment) (kind : Kind) → m.number ≡ 0 → m.rest ≡ old.left → old.read_faults ≤ m.faults → n.faults ≤ new.read_faults → Keeps old.got new.got → FirstRefused read first size m n kind
+      → Refused old new kind
+  first_failed old new m n NoMatchingKey z same later more w x = record {
+    opened = first_refused read first size overhead (into [] old) (into [] new) m n NoMatchingKey z same later more refl x;
+    written = w;
+  }
+  first_failed old new m n ReadFault z same later more w x = record {
+    text = [];
+    opened = first_refused read first size overhead (into [] old) (into [] new) m n ReadFault z same later more refl x;
+    written = inl w;
+  }
+  first_failed old new m n _ z same later more w x = absurd x
+
+  -- the sink failed in the front
+  pub front_failed : (old new : Outside) → AppendsFront old.got new.got front → Rose old.write_faults new.write_faults → Refused old new WriteFault
+  front_failed old new w rose = record {
+    text = [];
+    begun = tt;
+    opened = (record { texts = []; lead = any_told old.left; written = kept_front (Some []) (Some []) [] refl }, rose);
+    written = inl (front_of_more old.got new.got front _ w);
+  }
+
+  -- the first segment was opened, and the front was written
+  pub under_way : (old : Outside) (m n : ReaderMoment) (w : WriterMoment) → m.number ≡ 0 → m.rest ≡ old.left → OpensNext read first size m n → length n.opened < 2 ^ 32 → IsFresh w → Appends old.got w.got front → old.write_faults ≤ w.faults
+      → IsUnderWay read first size front seg a b old n w 0
+  under_way old m n w z same next small fresh begun later = record {
+    text = [];
+    reading = subst (λ (all : Option (List ℕ)). IsReading read first size all (Some []) (Some []) n 0) same (reading_first read first size (Some []) m n z next small);
+    start = w;
+    fresh = fresh;
+    begun = begun;
+    later = later;
+    wrote = wrote_nothing seg a b w fresh;
+    since = omega arith;
+  }
+
+  module _ (old : Outside) (m : ReaderMoment) (w : WriterMoment) (bytes : ℕ) (u : IsUnderWay read first size front seg a b old m w bytes) (p : 0 < a) (q : 0 < b) where
+    abbrev text : List ℕ
+    text = u.text ++ m.opened
+
+    -- the text that was opened last went to the writer too
+    wrote_text : (v : WriterMoment) → Wrote seg a b w v m.opened → Wrote seg a b u.start v text
+    wrote_text v wrote = wrote_more seg a b u.start w v u.text m.opened p q u.wrote wrote
+
+    -- and one more segment was opened
+    pub one_more : (n : ReaderMoment) (v : WriterMoment) → Wrote seg a b w v m.opened → w.faults ≤ v.faults → OpensNext read first size m n → length n.opened < 2 ^ 32
+        → IsUnderWay read first size front seg a b old n v (bytes + length m.opened)
+    one_more n v wrote later next small = record {
+      text = text;
+      reading = reading_next read first size old.left (Some []) (Some u.text) (Some text) m n bytes u.reading refl next small;
+      start = u.start;
+      fresh = u.fresh;
+      begun = u.begun;
+      later = u.later;
+      wrote = wrote_text v wrote;
+      since = omega (arith, u.since, later);
+    }
+
+    -- the sink failed, as that of the open would have
+    abbrev broke : (new : Outside) → Rose w.faults new.write_faults → Breaks read first size (into [] old) (into text new) × Rose old.write_faults new.write_faults
+    broke new rose =
+        write_failed read first size (into [] old) (into text new) (Some u.text) m bytes w.faults u.reading
+        (whole_front (Some u.text) (Some text) m.opened refl) (omega (arith, u.later, u.since)) rose
+
+    -- the text leads
+    led : (new : Outside) → Breaks read first size (into [] old) (into text new)
+    led new =
+        let x = write_failed read first size
+        (record { left = old.left; read_faults = 0; got = Some []; write_faults = 0 }) (record { left = new.left; read_faults = 0; got = Some text; write_faults = 1 })
+        (Some u.text) m bytes 0 u.reading (whole_front (Some u.text) (Some text) m.opened refl) (omega arith) (omega arith)
+        in
+        record { texts = x.0.texts; lead = x.0.lead; written = x.0.written }
+
+    -- the writer refused the text
+    pub text_refused : (v : WriterMoment) (new : Outside) (why : Kind) → new.got ≡ v.got → v.faults ≤ new.write_faults → WriteRefused seg a b w v m.opened why → Refused old new why
+    text_refused v new why got more r = go why (refused_more seg a b u.start w v u.text m.opened why p q u.since u.wrote r) r
+      where
+        go : (why : Kind) → WriteRefused seg a b u.start v text why → WriteRefused seg a b w v m.opened why → Refused old new why
+        go WriteFault x r = record {
+          text = text;
+          begun = tt;
+          opened = broke new (Rose-later w.faults v.faults new.write_faults r.rose more);
+          written = inl (subst (λ (g : Option (List ℕ)). AppendsFront old.got g (made.part text)) (sym got) (wrote_less front seg a b old.got u.start u.fresh u.begun v text x));
+        }
+        go TooManySegments x r = inl (record {
+          text = text;
+          opened = led new;
+          many = many_chunks front seg a b old.got u.start u.fresh u.begun v text x;
+          written = subst (λ (g : Option (List ℕ)). Appends old.got g (made.longest text)) (sym got) (wrote_longest front seg a b old.got u.start u.fresh u.begun v text x);
+        })
+        go kind.Closed x r = absurd (let e = sym u.wrote.is_open ∙ r.0 in cc)
+        go (FailedBefore c) x r = absurd (let e = sym u.wrote.is_open ∙ r.0 in cc)
+        go _ x r = absurd x
+
+    -- the reader refused the next segment
+    pub next_failed : (n : ReaderMoment) (v : WriterMoment) (new : Outside) (kind : Kind) → 0 < first → 0 < size → new.got ≡ v.got → old.read_faults ≤ m.faults → n.faults ≤ new.read_faults → Wrote seg a b w v m.opened
+        → OpenNextRefused read first size overhead m n kind → Refused old new kind
+    next_failed n v new kind x y got later more wrote r = go kind (next_refused read first size overhead (into [] old) (into text new) (Some u.text) m n bytes kind x y u.reading refl later more r) r
+      where
+        part : Appends old.got new.got (made.part text)
+        part = subst (λ (g : Option (List ℕ)). Appends old.got g (made.part text)) (sym got) (wrote_part front seg a b old.got u.start u.fresh u.begun v text (wrote_text v wrote))
+
+        few : made.count text ≤ 2 ^ 32
+        few = few_chunks front seg a b old.got u.start u.fresh u.begun v text (wrote_text v wrote)
+
+        go : (kind : Kind) → ReaderMeans read first size overhead (into [] old) (into text new) (Err (record { kind = kind })) → OpenNextRefused read first size overhead m n kind → Refused old new kind
+        go ReadFault o r = record { text = text; opened = o; written = inr (tt, part) }
+        go TooManySegments o r = inr (record { text = text; opened = o; few = few; written = part })
+        go (BadSegment i) o r = record { text = text; opened = o; few = few; written = part }
+        go (Truncated i) o r = record { text = text; opened = o; few = few; written = part }
+        go _ o r = absurd r
+
+    -- the last text went to the writer
+    module _ (v : WriterMoment) (wrote : Wrote seg a b w v m.opened) (new : Outside) (held : List ℕ) (ended : m.progress ≡ Ended) (rest : m.rest ≡ prepend_known held new.left) (o : WriterMoment) (got : new.got ≡ o.got) where
+      whole : (accepted : ℕ) → accepted ≡ m.number → ReaderMeans read first size overhead (into [] old) (into text new) (Ok (record { segments = accepted; bytes = length text }))
+      whole accepted number =
+          read_out read first size (into [] old) (into text new) (Some u.text) m bytes held (record { segments = accepted; bytes = length text }) u.reading refl ended rest number
+          (omega (arith, length-append u.text m.opened, text_bytes))
+        where
+          text_bytes : bytes ≡ length u.text
+          text_bytes = u.reading.bytes_are ∙ ap length (sym u.reading.written)
+
+      -- the sink failed in the last segment, or the writer was closed
+      not_closed : (kind : Kind) → v.faults ≤ o.faults → w.faults ≤ v.faults → o.faults ≤ new.write_faults → CloseRefused seg v o kind → Refused old new kind
+      not_closed WriteFault later since more r = record {
+        text = text;
+        begun = tt;
+        opened = broke new (Rose-later w.faults o.faults new.write_faults (Rose-earlier w.faults v.faults o.faults since r.rose) more);
+        written = inr (record {
+            accepted = m.number;
+            opened = whole m.number refl;
+            written = subst (λ (g : Option (List ℕ)). AppendsFront old.got g (made.whole text)) (sym got) (wrote_whole_less front seg a b old.got u.start u.fresh u.begun v o text (wrote_text v wrote) r);
+          });
+      }
+      not_closed (FailedBefore c) later since more r = absurd (let e = sym wrote.is_open ∙ r.0 in cc)
+      not_closed _ later since more r = absurd r
+
+      closed : (report : Report) → report.segments ≡ o.number → report.bytes ≡ bytes + length m.opened → CloseMeans seg v o (Ok tt)
+          → PassMeans (ReaderMeans read first size overhead) (Breaks read first size) anywhere made old new (Ok report)
+      closed report segments total (inl c) =
+          let all = wrote_whole front seg a b old.got u.start u.fresh u.begun v o text (wrote_text v wrote) c in
+          record {
+            text = text;
+            accepted = m.number;
+            opened = whole m.number refl;
+            few = few_chunks front seg a b old.got u.start u.fresh u.begun v text (wrote_text v wrote);
+            written = subst (λ (g : Option (List ℕ)). Appends old.got g (made.whole text)) (sym got) all.0;
+            segments = segments ∙ all.1;
+            bytes = omega (arith, total, u.reading.bytes_are, ap length (sym u.reading.written), length-append u.text m.opened);
+          }
+      closed report segments total (inr c) = absurd (let e = sym wrote.is_open ∙ c.0 in cc)
+
+      pub finished : (total : ℕ) (answer : Result Report TinkError) → total ≡ bytes + length m.opened → v.faults ≤ o.faults → w.faults ≤ v.faults → o.faults ≤ new.write_faults → FinishMeans seg v o total answer
+          → PassMeans (ReaderMeans read first size overhead) (Breaks read first size) anywhere made old new answer
+      finished total (Ok report) all later since more x = closed report x.1 (x.2 ∙ all) x.0
+      finished total (Err e) all later since more x = not_closed e.kind later since more x

@@ -1,0 +1,198 @@
+-- From the answers of loading, preparing and passing on to what a rewrap answers.
+use Rattle.std.proofs.Common.{◌≡◌, ◌∙◌, inl, inr, ℕ, Bool, List, [], map, refl, sym, subst, Some, None, IfSome}
+use Rattle.std.proofs.lemmas.Simd.{map-map}
+use Rattle.std.specs.declared.option.Option.{Option}
+use Rattle.std.specs.Prelude.{Result, Ok, Err}
+use Rattle.tink_io.specs.declared.error.Kind.{Kind}
+use Rattle.tink_io.specs.declared.error.Kind.TheVariants.{OutOfMemory, ReadFault, WriteFault, RandomFault, BadKeyset, InvalidKeyset, UnsupportedKeyType, InvalidKey, NoPrimary, WrongPrimitive, UnknownHash, UnsupportedHash, TooManySegments, NoMatchingKey, BadSegment, Truncated}
+use Rattle.tink_io.specs.declared.error.TinkError.{TinkError}
+use Rattle.stream_model.specs.Key.{StreamKey, first_room, front, room, segment_at}
+use Rattle.stream_model.specs.Opening.{IsChosen, OpeningKey, opening_key}
+use Rattle.stream_model.specs.Order.{HaveSameOrder}
+use Rattle.stream_model.specs.Sealing.{drawn, prefix_of, salt_of}
+use Rattle.stream_model.proofs.OrderFacts.{choose_the_same}
+use Rattle.tink_sets.specs.declared.typed_set.TypedPrimitiveSet.{TypedPrimitiveSet}
+use Rattle.tink_streams.specs.declared.writing.Mode.{Mode}
+use Rattle.tink_stream_keys.specs.declared.stream_kind.StreamKind.{StreamKind}
+use Rattle.tink_stream_keys.specs.NewStreams.{IsPrepared, NotPrepared}
+use Rattle.tink_streaming_aead.specs.Wrapped.{KeepsOrder, all_entries, key_in, keys_in}
+use Rattle.loading_model.specs.Loading.{Loaded, opening_keys}
+use Rattle.loading_model.proofs.UsableKeys.{IsOfLoading}
+use Rattle.tink_run.specs.AllKeys.{load}
+use Rattle.tink_run.specs.HeldKeys.{GivesLoaded}
+use Rattle.tink_run.specs.declared.report.Report.{Report}
+use Rattle.tink_run.specs.OpenAnswers.{IsBroken, OpeningMeans}
+use Rattle.tink_run.specs.Outside.{Outside, IsUntouched}
+use Rattle.tink_run.specs.SealSteps.{HasNoKeys, kind_not_begun}
+use Rattle.tink_run.proofs.OneKeyFacts.{broken_by, means_by}
+use Rattle.tink_run.proofs.RowFacts.{load_refuses, loaded_usable}
+use Rattle.tink_run.proofs.RunSteps.{are_of_keyset}
+use Rattle.tink_run.proofs.SealSteps.{longest_is, no_keys, part_is, stream_is}
+use Rattle.tink_rewrap.specs.Passing.{bytes_by, bytes_under, into, PassMeans, PassRefused}
+use Rattle.tink_rewrap.specs.Rewrapping.{HasKey, IsPassing, IsUnloaded, RewrapMeans, RewrapRefused, RewrapsLoaded, RewrapsUnder, RewrapsUnderRefused, Sides}
+use Rattle.tink_rewrap.proofs.KeySteps.{MakeTheSame, itself, pass_by}
+
+-- ---- to a key
+
+-- a text that is passed on is passed on whatever is answered
+pub passes : (keys : List OpeningKey) (k : StreamKey) (aad draws left_draws : List ℕ) (old new : Outside) (answer : Result Report TinkError) → IsPassing keys k aad draws left_draws old new answer → RewrapsUnder keys k aad draws left_draws old new answer
+passes keys k aad draws left_draws old new (Ok report) p = p
+passes keys k aad draws left_draws old new (Err e) p = go e.kind p.means
+  where
+    go : (kind : Kind) → PassRefused (OpeningMeans keys) (IsBroken keys) (HasKey keys) (bytes_under k aad draws) old new kind → RewrapsUnderRefused keys k aad draws left_draws old new e kind
+    go NoMatchingKey m = p
+    go TooManySegments m = p
+    go (Truncated n) m = p
+    go (BadSegment n) m = p
+    go ReadFault m = p
+    go WriteFault m = p
+    go _ m = absurd m
+
+-- a stream that was prepared
+module _ (k : StreamKey) (aad draws left_draws bytes : List ℕ) (seg : ℕ → Bool → List ℕ → List ℕ) (a b : ℕ) (mode : Mode) (number : ℕ) (held : List ℕ) (p : IsPrepared k aad draws left_draws bytes seg a b mode number held) where
+  abbrev salt : List ℕ
+  salt = salt_of k draws
+
+  abbrev prefix : List ℕ
+  prefix = prefix_of k draws
+
+  -- is of the key
+  made_under : MakeTheSame (bytes_by bytes seg a b) (bytes_under k aad draws)
+  made_under =
+      subst (λ (f : List ℕ). MakeTheSame (bytes_by f seg a b) (bytes_under k aad draws)) (sym p.front_is)
+      (subst (λ (s : ℕ → Bool → List ℕ → List ℕ). MakeTheSame (bytes_by (front k salt prefix) s a b) (bytes_under k aad draws)) (sym p.segments)
+      (subst (λ (x : ℕ). MakeTheSame (bytes_by (front k salt prefix) (segment_at k p.keys prefix) x b) (bytes_under k aad draws)) (sym p.first_is)
+      (subst (λ (y : ℕ). MakeTheSame (bytes_by (front k salt prefix) (segment_at k p.keys prefix) (first_room k) y) (bytes_under k aad draws)) (sym p.later_is)
+      (record {
+        whole = stream_is k aad salt prefix p.keys p.keys_are;
+        part = part_is k aad salt prefix p.keys p.keys_are;
+        longest = longest_is k aad salt prefix p.keys p.keys_are;
+        count = λ text. refl;
+      }))))
+
+  -- and the text is passed on to it
+  pub passes_prepared : (keys : List OpeningKey) (old new : Outside) (answer : Result Report TinkError) → PassMeans (OpeningMeans keys) (IsBroken keys) (HasKey keys) (bytes_by bytes seg a b) old new answer → RewrapsUnder keys k aad draws left_draws old new answer
+  passes_prepared keys old new answer m = passes keys k aad draws left_draws old new answer (record {
+    enough = p.drew.enough;
+    rest = p.drew.rest;
+    derives = λ none. let some = p.keys_are in cc;
+    means = pass_by (OpeningMeans keys) (OpeningMeans keys) (IsBroken keys) (IsBroken keys) (HasKey keys) (HasKey keys) (bytes_by bytes seg a b) (bytes_under k aad draws) old old new refl
+        (λ text answer x. x) (λ text x. x) (λ x. x) made_under answer m;
+  })
+
+-- no stream was prepared
+pub not_prepared : (keys : List OpeningKey) (k : StreamKey) (aad draws left_draws : List ℕ) (m : Outside) (kind : Kind) (e : TinkError) → e ≡ record { kind = kind_not_begun kind } → NotPrepared k draws left_draws kind
+    → RewrapsUnder keys k aad draws left_draws m m (Err e)
+not_prepared keys k aad draws left_draws m kind e same r = subst (λ (x : TinkError). RewrapsUnder keys k aad draws left_draws m m (Err x)) (sym same) (go kind r)
+  where
+    go : (kind : Kind) → NotPrepared k draws left_draws kind → RewrapsUnder keys k aad draws left_draws m m (Err (record { kind = kind_not_begun kind }))
+    go OutOfMemory r = record { untouched = refl; undrawn = r }
+    go RandomFault r = record { few = r.few; untouched = refl; undrawn = r.undrawn }
+    go UnknownHash r = no_keys k aad draws left_draws m m UnknownHash r.drew r.hash refl
+    go UnsupportedHash r = no_keys k aad draws left_draws m m UnsupportedHash r.drew r.hash refl
+    go _ r = absurd r
+
+-- ---- from keysets
+
+-- what is said of keys is said of others of which the same is chosen
+module _ (ks js : List OpeningKey) (same : (S : List ℕ) (c : Option OpeningKey) → IsChosen ks S c → IsChosen js S c) (k : StreamKey) (aad draws left_draws : List ℕ) (old new : Outside) where
+  has_key : HasKey ks old → HasKey js old
+  has_key x = go old.left x
+    where
+      go : (left : Option (List ℕ)) → IfSome left (λ S. (key : OpeningKey) × IsChosen ks S (Some key)) → IfSome left (λ S. (key : OpeningKey) × IsChosen js S (Some key))
+      go None x = tt
+      go (Some S) x = (x.0, same S (Some x.0) x.1)
+
+  passing_by : (answer : Result Report TinkError) → IsPassing ks k aad draws left_draws old new answer → IsPassing js k aad draws left_draws old new answer
+  passing_by answer p = record {
+    enough = p.enough;
+    rest = p.rest;
+    derives = p.derives;
+    means = pass_by (OpeningMeans ks) (OpeningMeans js) (IsBroken ks) (IsBroken js) (HasKey ks) (HasKey js) (bytes_under k aad draws) (bytes_under k aad draws) old old new refl
+        (λ text answer. means_by ks js (into [] old) (into text new) (λ S e. same S) answer)
+        (λ text. broken_by ks js (into [] old) (into text new) (λ S e. same S))
+        has_key (itself (bytes_under k aad draws)) answer p.means;
+  }
+
+  pub rewraps_by : (answer : Result Report TinkError) → RewrapsUnder ks k aad draws left_draws old new answer → RewrapsUnder js k aad draws left_draws old new answer
+  rewraps_by (Ok report) r = passing_by (Ok report) r
+  rewraps_by (Err e) r = go e.kind r
+    where
+      go : (kind : Kind) → RewrapsUnderRefused ks k aad draws left_draws old new e kind → RewrapsUnderRefused js k aad draws left_draws old new e kind
+      go OutOfMemory r = r
+      go RandomFault r = r
+      go UnsupportedHash r = r
+      go NoMatchingKey r = passing_by (Err e) r
+      go TooManySegments r = passing_by (Err e) r
+      go (Truncated n) r = passing_by (Err e) r
+      go (BadSegment n) r = passing_by (Err e) r
+      go ReadFault r = passing_by (Err e) r
+      go WriteFault r = passing_by (Err e) r
+      go _ r = absurd r
+
+-- a rewrap between loaded keys is one between keysets
+under_keysets : (s : Sides) (draws left_draws : List ℕ) (old new : Outside) (answer : Result Report TinkError) → RewrapsLoaded s draws left_draws old new answer → RewrapMeans s draws left_draws old new answer
+under_keysets s draws left_draws old new (Ok report) r = r
+under_keysets s draws left_draws old new (Err e) r = go e.kind r.means
+  where
+    go : (kind : Kind) → RewrapsUnderRefused (opening_keys s.from_aad r.from_loaded) r.to_loaded.primary s.to_aad draws left_draws old new e kind → RewrapRefused s draws left_draws old new e kind
+    go OutOfMemory m = m
+    go RandomFault m = r
+    go UnsupportedHash m = r
+    go NoMatchingKey m = r
+    go TooManySegments m = r
+    go (Truncated n) m = r
+    go (BadSegment n) m = r
+    go ReadFault m = r
+    go WriteFault m = r
+    go _ m = absurd m
+
+-- a rewrap from all keys of one set to the primary key of another is one between the keysets
+pub rewraps_keysets : (s : Sides) (draws left_draws : List ℕ) (set others : TypedPrimitiveSet StreamKind) (key : StreamKey) (old new : Outside) (answer : Result Report TinkError)
+    → GivesLoaded (Ok set) (load s.from) → GivesLoaded (Ok others) (load s.to) → key_in others.primary ≡ Some key → KeepsOrder set.entries
+    → RewrapsUnder (map (opening_key s.from_aad) (keys_in (all_entries set.entries))) key s.to_aad draws left_draws old new answer → RewrapMeans s draws left_draws old new answer
+rewraps_keysets s draws left_draws set others key old new answer from to primary order r =
+    let l : Loaded = from.0 in
+    let all : List StreamKey = keys_in (all_entries set.entries) in
+    let own : List StreamKey = map (λ k. k.key) l.keys in
+    let ordered : HaveSameOrder all own = subst (HaveSameOrder all) from.2.keys (order from.2.entries from.2.groups) in
+    let one : Some key ≡ Some to.0.primary = sym primary ∙ to.2.primary in
+    let same : key ≡ to.0.primary = cc in
+    let under : RewrapsUnder (map (opening_key s.from_aad) own) key s.to_aad draws left_draws old new answer =
+    rewraps_by (map (opening_key s.from_aad) all) (map (opening_key s.from_aad) own)
+    (λ S c. (choose_the_same s.from_aad S all own c (are_of_keyset l.keys (loaded_usable s.from l from.1).0) ordered).0) key s.to_aad draws left_draws old new answer r
+    in
+    under_keysets s draws left_draws old new answer (record {
+      from_loaded = l;
+      from_loads = from.1;
+      to_loaded = to.0;
+      to_loads = to.1;
+      means = subst (λ (ks : List OpeningKey). RewrapsUnder ks to.0.primary s.to_aad draws left_draws old new answer) (map-map (opening_key s.from_aad) (λ k. k.key) l.keys)
+          (subst (λ (k : StreamKey). RewrapsUnder (map (opening_key s.from_aad) own) k s.to_aad draws left_draws old new answer) same under);
+    })
+
+unloaded : (s : Sides) (draws : List ℕ) (m : Outside) (e : TinkError) (kind : Kind) → IsOfLoading kind → IsUnloaded s kind draws draws m m → RewrapRefused s draws draws m m e kind
+unloaded s draws m e BadKeyset is u = u
+unloaded s draws m e InvalidKeyset is u = u
+unloaded s draws m e UnsupportedKeyType is u = u
+unloaded s draws m e InvalidKey is u = u
+unloaded s draws m e NoPrimary is u = u
+unloaded s draws m e WrongPrimitive is u = u
+unloaded s draws m e _ is u = absurd is
+
+wants_memory : (s : Sides) (draws : List ℕ) (m : Outside) (e : TinkError) → e.kind ≡ OutOfMemory → RewrapMeans s draws draws m m (Err e)
+wants_memory s draws m e same = subst (RewrapRefused s draws draws m m e) (sym same) (record { untouched = refl; undrawn = refl })
+
+-- the first keyset was refused, or there was no memory for it
+pub from_not_loaded : (s : Sides) (draws : List ℕ) (m : Outside) (e : TinkError) → GivesLoaded (Err e) (load s.from) → RewrapMeans s draws draws m m (Err e)
+from_not_loaded s draws m e (inl want) = wants_memory s draws m e want
+from_not_loaded s draws m e (inr l) = unloaded s draws m e e.kind (load_refuses s.from e.kind l) (record { cause = inl l; untouched = refl; undrawn = refl })
+
+-- the second one
+pub to_not_loaded : (s : Sides) (draws : List ℕ) (set : TypedPrimitiveSet StreamKind) (m : Outside) (e : TinkError) → GivesLoaded (Ok set) (load s.from) → GivesLoaded (Err e) (load s.to) → RewrapMeans s draws draws m m (Err e)
+to_not_loaded s draws set m e from (inl want) = wants_memory s draws m e want
+to_not_loaded s draws set m e from (inr l) = unloaded s draws m e e.kind (load_refuses s.to e.kind l) (record {
+  cause = inr (record { from_loaded = from.0; from_loads = from.1; cause = l });
+  untouched = refl;
+  undrawn = refl;
+})

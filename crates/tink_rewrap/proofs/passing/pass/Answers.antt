@@ -1,0 +1,102 @@
+use Rattle.std.proofs.Common.{[], ◌∷◌, take, refl, sym, ap, length, length-append, ◌∙◌, arith}
+use Rattle.std.proofs.KnownBytes.{Keeps-refl}
+use Rattle.std.proofs.lemmas.Result.{err_from_is_err_and}
+use Rattle.std.specs.Io.KnownBytes.{prepend_known}
+use Rattle.tink_streams.specs.Reading.{ReaderMoment}
+use Rattle.tink_streams.specs.Writing.{WriterMoment}
+use Rattle.tink_rewrap.proofs.PassSteps.{finished, first_failed, front_failed, next_failed, one_more, text_refused, under_way}
+use Rattle.tink_rewrap.proofs.passing.pass.Goals as goal
+
+pub returns-in_err-open_first-clause-answer : goal.returns-in_err-open_first-clause-answer
+returns-in_err-open_first-clause-answer g c =
+    let p = err_from_is_err_and c.from_residual.result c.from_residual.ensures.1 in
+    let before = c.args.reader.now in
+    let after = c.open_first.new.reader in
+    let m : ReaderMoment = record { progress = before.progress; number = before.segments; opened = before.opened.items; rest = prepend_known (take before.filled before.buffer.items) (g.S.Source.left c.args.source.now); faults = g.S.Source.faults c.args.source.now } in
+    let n : ReaderMoment = record { progress = after.progress; number = after.segments; opened = after.opened.items; rest = prepend_known (take after.filled after.buffer.items) (g.S.Source.left c.open_first.new.source); faults = g.S.Source.faults c.open_first.new.source } in
+    rw (p.1, p.2) (first_failed _ _ _ _ _ _ _ _ _ _ m n _ c.requires.first refl (omega arith) (omega arith) (Keeps-refl _) c.in_err-open_first.ensures.answer)
+
+pub returns-in_err-write-clause-answer : goal.returns-in_err-write-clause-answer
+returns-in_err-write-clause-answer g c =
+    let p = err_from_is_err_and c.from_residual-in_err-write.result c.from_residual-in_err-write.ensures.1 in
+    rw (p.1, p.2, c.in_err-write.ensures.refused) (front_failed _ _ _ _ _ _ _ _ _ _ c.in_err-write.ensures.front c.in_err-write.ensures.cause)
+
+pub loop-bytes-init : goal.loop-bytes-init
+loop-bytes-init g c =
+    let before = c.args.reader.now in
+    let m : ReaderMoment = record { progress = before.progress; number = before.segments; opened = before.opened.items; rest = prepend_known (take before.filled before.buffer.items) (g.S.Source.left c.args.source.now); faults = g.S.Source.faults c.args.source.now } in
+    record {
+      under_way = under_way _ _ _ 0 _ _ _ _ _ m _ _ c.requires.first refl c.in_ok-open_first.ensures.answer (omega (arith, c.open_first.ensures.small, c.open_first.new.reader.opened.ok.0))
+          (record { mode = c.requires.open; number = c.requires.fresh; held = c.requires.empty }) c.in_ok-write.ensures.written c.write.ensures.later;
+      opener = c.open_first.ensures.opener;
+      sealer = refl;
+      reads = c.open_first.ensures.later;
+      same_source = c.open_first.ensures.same;
+      same_sink = c.write.ensures.same;
+    }
+
+pub returns-in_err-write-2-clause-answer : goal.returns-in_err-write-2-clause-answer
+returns-in_err-write-2-clause-answer g c =
+    let p = err_from_is_err_and c.from_residual-in_err-write-2.result c.from_residual-in_err-write-2.ensures.1 in
+    let sealer = c.args.writer.now.sealer in
+    let r = rw (c.loop-bytes.invariant.sealer, c.opened-text.ensures) at c.in_err-write-2.ensures.answer in
+    rw (p.1, p.2) (text_refused _ _ _ _ _ _ _ _ _ _ _ _ c.loop-bytes.invariant.under_way sealer.some (omega (arith, sealer.some, sealer.first_fits)) _ _ _ refl (omega arith) r)
+
+pub returns-in_err-write-2-clause-source : goal.returns-in_err-write-2-clause-source
+returns-in_err-write-2-clause-source g c = c.loop-bytes.invariant.same_source
+
+pub returns-in_err-write-2-clause-sink : goal.returns-in_err-write-2-clause-sink
+returns-in_err-write-2-clause-sink g c = g.met.K.Sink.same_trans _ _ _ c.loop-bytes.invariant.same_sink c.write-in-loop-bytes.ensures.same
+
+pub overflow_add-bytes : goal.overflow_add-bytes
+overflow_add-bytes g c =
+    let reading = c.loop-bytes.invariant.under_way.reading in
+    omega (arith, reading.few, reading.small, reading.opened.number, length-append reading.texts (c.loop-bytes.reader.opened.items ∷ []), c.loop-bytes.reader.few, ap length c.opened-text.ensures)
+
+pub returns-in-Ended-clause-answer : goal.returns-in-Ended-clause-answer
+returns-in-Ended-clause-answer g c =
+    let sealer = c.args.writer.now.sealer in
+    let reader = c.loop-bytes.reader in
+    let written = c.write-in-loop-bytes.new.self in
+    let v : WriterMoment = record { mode = written.mode; number = written.segments; held = written.held.items; got = g.K.Sink.got c.write-in-loop-bytes.new.sink; faults = g.K.Sink.faults c.write-in-loop-bytes.new.sink } in
+    let ended = c.finish.new.writer in
+    let o : WriterMoment = record { mode = ended.mode; number = ended.segments; held = ended.held.items; got = g.K.Sink.got c.finish.new.sink; faults = g.K.Sink.faults c.finish.new.sink } in
+    let w = rw (c.loop-bytes.invariant.sealer, c.opened-text.ensures) at c.in_ok-write-2.ensures.answer in
+    let r = rw (c.write-in-loop-bytes.ensures.sealer ∙ c.loop-bytes.invariant.sealer) at c.finish.ensures.answer in
+    finished _ _ _ c.args.reader.now.opener.overhead _ _ _ _ _ _ _ _ c.loop-bytes.invariant.under_way sealer.some (omega (arith, sealer.some, sealer.first_fits)) v w.0 _ (take reader.filled reader.buffer.items) (sym c.in-Ended.ensures) refl o refl
+    _ c.finish.result (omega (arith, ap length c.opened-text.ensures)) c.finish.ensures.later c.write-in-loop-bytes.ensures.later (omega arith) r
+
+pub returns-in-Ended-clause-source : goal.returns-in-Ended-clause-source
+returns-in-Ended-clause-source g c = c.loop-bytes.invariant.same_source
+
+pub returns-in-Ended-clause-sink : goal.returns-in-Ended-clause-sink
+returns-in-Ended-clause-sink g c = g.met.K.Sink.same_trans _ _ _ (g.met.K.Sink.same_trans _ _ _ c.loop-bytes.invariant.same_sink c.write-in-loop-bytes.ensures.same) c.finish.ensures.same
+
+pub loop-bytes-preserved : goal.loop-bytes-preserved
+loop-bytes-preserved g c =
+    let sealer = c.args.writer.now.sealer in
+    let w = rw (c.loop-bytes.invariant.sealer, c.opened-text.ensures) at c.in_ok-write-2.ensures.answer in
+    let next = rw c.loop-bytes.invariant.opener at c.in-Ok.ensures.answer in
+    record {
+      under_way = rw c.opened-text.ensures
+          (one_more _ _ _ 0 _ _ _ _ _ _ _ _ c.loop-bytes.invariant.under_way sealer.some (omega (arith, sealer.some, sealer.first_fits)) _ _ w.0 c.write-in-loop-bytes.ensures.later next
+          (omega (arith, c.open_next.ensures.small, c.open_next.new.self.opened.ok.0)));
+      opener = c.open_next.ensures.opener ∙ c.loop-bytes.invariant.opener;
+      sealer = c.write-in-loop-bytes.ensures.sealer ∙ c.loop-bytes.invariant.sealer;
+      reads = omega (arith, c.loop-bytes.invariant.reads, c.open_next.ensures.later);
+      same_source = g.met.S.Source.same_trans _ _ _ c.loop-bytes.invariant.same_source c.open_next.ensures.same;
+      same_sink = g.met.K.Sink.same_trans _ _ _ c.loop-bytes.invariant.same_sink c.write-in-loop-bytes.ensures.same;
+    }
+
+pub returns-in-Err : goal.returns-in-Err
+returns-in-Err g c =
+    let sealer = c.args.writer.now.sealer in
+    let opener = c.args.reader.now.opener in
+    let w = rw (c.loop-bytes.invariant.sealer, c.opened-text.ensures) at c.in_ok-write-2.ensures.answer in
+    let refused = rw c.loop-bytes.invariant.opener at c.in-Err.ensures.answer in
+    record {
+      answer = next_failed _ _ _ _ _ _ _ _ _ _ _ _ c.loop-bytes.invariant.under_way sealer.some (omega (arith, sealer.some, sealer.first_fits)) _ _ _ _ (omega (arith, opener.some)) (omega (arith, opener.some, opener.first_fits)) refl
+          c.loop-bytes.invariant.reads (omega arith) w.0 refused;
+      source = g.met.S.Source.same_trans _ _ _ c.loop-bytes.invariant.same_source c.open_next.ensures.same;
+      sink = g.met.K.Sink.same_trans _ _ _ c.loop-bytes.invariant.same_sink c.write-in-loop-bytes.ensures.same;
+    }

@@ -1,0 +1,30 @@
+use Rattle.std.proofs.Common.{◌+◌, ℕ, Bool, List, take, length, refl, sym, ap, ◌∙◌, arith}
+use Rattle.std.specs.Io.KnownBytes.{prepend_known}
+use Rattle.std.proofs.KnownBytes.{Keeps-refl}
+use Rattle.std.proofs.lemmas.Result.{err_from_is_err_and}
+use Rattle.stream_model.specs.Cut.{numbered}
+use Rattle.tink_streams.proofs.ReadingFacts.{numbered_longer}
+use Rattle.tink_segments.specs.StreamSegments.{length-segment_by, segment_by}
+use Rattle.tink_run.specs.Outside.{Outside}
+use Rattle.tink_run.proofs.OpenSteps.{unread}
+use Rattle.tink_rewrap.proofs.KeySteps.{pass_not_started, pass_started}
+use Rattle.tink_rewrap.proofs.passing.pass_under.Goals as goal
+
+pub returns-in_err-reader-clause-answer : goal.returns-in_err-reader-clause-answer
+returns-in_err-reader-clause-answer g c =
+    let p = err_from_is_err_and c.from_residual.result c.from_residual.ensures.1 in
+    let kept = c.args.trial.kept in
+    let none_held = unread kept.filled kept.buffer.items (g.S.Source.left c.args.source.now) c.requires.filled in
+    rw (p.1, p.2) (pass_not_started _ _ _ _ _ (Keeps-refl _) (rw none_held at c.in_err-reader.ensures.refused))
+
+pub returns-clause-answer : goal.returns-clause-answer
+returns-clause-answer g c =
+    let kept = c.args.trial.kept in
+    let none_held = unread kept.filled kept.buffer.items (g.S.Source.left c.args.source.now) c.requires.filled in
+    let reader = c.in_ok-reader.reader in
+    let opener = reader.opener in
+    let seg : ℕ → Bool → List ℕ → List ℕ = numbered (segment_by opener.decrypter) opener.nonce_size opener.prefix.items in
+    let started : Outside = record { left = prepend_known (take reader.filled reader.buffer.items) (g.S.Source.left c.start.new.source); read_faults = g.S.Source.faults c.start.new.source; got = g.K.Sink.got c.args.sink.now; write_faults = g.K.Sink.faults c.args.sink.now } in
+    pass_started _ seg opener.first opener.size opener.overhead _ _ started _ _ (omega (arith, opener.some))
+    (numbered_longer (segment_by opener.decrypter) opener.nonce_size opener.prefix.items opener.overhead (λ n t. length-segment_by opener.decrypter n t ∙ ap (λ x. length t + x) (sym opener.overhead_is)))
+    refl c.start.ensures.later (omega arith) (rw none_held at c.in_ok-reader.ensures.started) c.pass.ensures.answer

@@ -1,0 +1,3 @@
+pub mod Passing
+pub mod Rewrapping
+pub mod Promises

@@ -1,0 +1,124 @@
+//! The text of one stream into another, segment by segment.
+
+ghost use Rattle.std.specs.Prelude.{◌≡◌, ◌≤◌, ◌<◌, ◌+◌, [], length, map, All, vec_len, vec_capacity};
+ghost use Rattle.stream_model.specs.Key.{nonce_size};
+ghost use Rattle.stream_model.specs.Opening as opening;
+ghost use Rattle.tink_streams.specs.Openers as openers;
+ghost use Rattle.tink_streams.specs.Sealers as sealers;
+ghost use Rattle.tink_streams.specs.declared.progress.Progress.TheVariants.{Running};
+ghost use Rattle.tink_streams.specs.declared.writing.Mode.TheVariants.{Open};
+ghost use Rattle.tink_run.specs.OpenAnswers.{IsBroken, OpeningMeans};
+ghost use Rattle.tink_run.specs.OpenSteps.{Breaks, ReaderMeans, held_outside};
+ghost use Rattle.tink_run.specs.Outside.{outside_of};
+ghost use Rattle.tink_rewrap.specs.Passing.{FinishMeans, PassMeans, anywhere, bytes_by};
+ghost use Rattle.tink_rewrap.specs.Rewrapping.{HasKey};
+
+use tink_io::{Sink, Source, TinkError};
+use tink_run::open::open_first;
+use tink_run::report::Report;
+use tink_stream_keys::{DerivesStreams, Front, NewStream, Trial, start};
+use tink_streams::{Progress, SegmentReader, SegmentWriter};
+use tink_segment_traits::{SegmentDecrypter, SegmentEncrypter};
+
+// Writes the last segment of a text of so many bytes.
+fn finish<K: Sink, E: SegmentEncrypter + Drop>(
+    writer: &mut SegmentWriter<E>,
+    bytes: u64,
+    sink: &mut K,
+) -> Result<Report, TinkError>
+    ensures answer { FinishMeans (sealers.segment_map writer.old.sealer)
+        (sealers.writer_moment K.got K.faults writer.old sink.old)
+        (sealers.writer_moment K.got K.faults writer.new sink.new) bytes result }
+    ensures later { K.faults sink.old ≤ K.faults sink.new }
+    ensures same { K.same sink.old sink.new }
+{
+    writer.close(sink)?;
+    Ok(Report {
+        segments: writer.segments(),
+        bytes,
+    })
+}
+
+/// Passes all texts that a reader opens on to a new stream, whose front is written once the first
+/// of them was opened.
+///
+/// # Errors
+/// ReadFault and NoMatchingKey of `open_first`, with nothing written; then WriteFault; those of the
+/// reader behind the first segment, with the new stream left without a last one; TooManySegments
+/// of the writer.
+pub fn pass<S: Source, K: Sink, D: SegmentDecrypter + Drop, E: SegmentEncrypter + Drop>(
+    reader: &mut SegmentReader<D>,
+    front: &Front<'_>,
+    writer: &mut SegmentWriter<E>,
+    source: &mut S,
+    sink: &mut K,
+) -> Result<Report, TinkError>
+    requires running { reader.old.progress ≡ Running }
+    requires first { reader.old.segments ≡ 0 }
+    requires open { writer.old.mode ≡ Open }
+    requires fresh { writer.old.segments ≡ 0 }
+    requires empty { writer.old.held.items ≡ [] }
+    ensures answer { PassMeans
+        (ReaderMeans (openers.segment_map reader.old.opener) reader.old.opener.first reader.old.opener.size
+        reader.old.opener.overhead)
+        (Breaks (openers.segment_map reader.old.opener) reader.old.opener.first reader.old.opener.size) anywhere
+        (bytes_by front.now (sealers.segment_map writer.old.sealer) writer.old.sealer.first
+        writer.old.sealer.room)
+        (held_outside S.left S.faults K.got K.faults reader.old source.old sink.old)
+        (outside_of S.left S.faults K.got K.faults source.new sink.new)
+        result }
+    ensures source { S.same source.old source.new }
+    ensures sink { K.same sink.old sink.new }
+{
+    open_first(reader, source)?;
+    front.write(sink)?;
+    let mut bytes: u64 = 0;
+    loop {
+        let text = reader.opened();
+        writer.write(sink, text)?;
+        bytes += text.len() as u64;
+        match reader.progress() {
+            Progress::Ended => return finish(writer, bytes, sink),
+            _ => match reader.open_next(source) {
+                Ok(()) => {}
+                // The new stream is left without a last segment.
+                Err(error) => return Err(error),
+            },
+        }
+    }
+}
+
+/// Passes the text of a source on to a new stream, by the first key that the source begins under.
+///
+/// # Errors
+/// NoMatchingKey where it begins under none, ReadFault, and those of `pass`.
+pub fn pass_under<S: Source, K: Sink, T: DerivesStreams>(
+    keys: &[T],
+    aad: &[u8],
+    trial: Trial,
+    stream: &mut NewStream<'_>,
+    source: &mut S,
+    sink: &mut K,
+) -> Result<Report, TinkError>
+    requires filled { trial.kept.filled ≡ 0 }
+    requires buffer { All (λ k. length (T.key_of k).out + (T.key_of k).segment < vec_len trial.kept.buffer) keys.now }
+    requires room { All (λ k. (T.key_of k).segment ≤ vec_capacity trial.opened) keys.now }
+    requires nonce { All (λ k. nonce_size (T.key_of k) ≤ vec_len trial.nonce) keys.now }
+    requires prefix { 7 ≤ vec_capacity trial.prefix }
+    requires open { stream.old.writer.mode ≡ Open }
+    requires fresh { stream.old.writer.segments ≡ 0 }
+    requires empty { stream.old.writer.held.items ≡ [] }
+    ensures answer { PassMeans (OpeningMeans (map (λ k. opening.opening_key aad.now (T.key_of k)) keys.now))
+        (IsBroken (map (λ k. opening.opening_key aad.now (T.key_of k)) keys.now))
+        (HasKey (map (λ k. opening.opening_key aad.now (T.key_of k)) keys.now))
+        (bytes_by stream.old.front (sealers.segment_map stream.old.writer.sealer) stream.old.writer.sealer.first
+        stream.old.writer.sealer.room)
+        (outside_of S.left S.faults K.got K.faults source.old sink.old)
+        (outside_of S.left S.faults K.got K.faults source.new sink.new)
+        result }
+    ensures source { S.same source.old source.new }
+    ensures sink { K.same sink.old sink.new }
+{
+    let mut reader = start(keys, aad, trial, source)?;
+    pass(&mut reader, &stream.front, &mut stream.writer, source, sink)
+}
