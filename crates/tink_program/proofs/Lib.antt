@@ -10,4 +10,5 @@ pub mod LargeSteps
 pub mod MacFacts
 pub mod TokenCalls
 pub mod TokenLemmas
+pub mod RewrapLemmas
 pub mod ProgramLemmas

@@ -6,8 +6,9 @@ use Rattle.std.proofs.lemmas.Bool.{false≢true}
 use Rattle.std.proofs.lemmas.Fmt.{decimal_is_IsNumeral}
 use Rattle.std.proofs.lemmas.Slice.Eq.{bytes_eq-Decides}
 use Rattle.hex.proofs.HexLemmas.{decode_of-same}
-use Rattle.tink_program.specs.Words.{Asked, IsBytesWord, IsNumberWord, IsSeedWord, KeygenWords, LargeWords, OpenWords, RotateWords, SealWords, SignWords, SpellNothing, Spells, VerifyWords}
-use Rattle.tink_program.specs.Words.Asked.{Making, Measuring, Opening, Rotating, Sealing, Signing, Verifying}
+use Rattle.tink_rewrap.specs.Rewrapping.{Sides}
+use Rattle.tink_program.specs.Words.{Asked, IsBytesWord, IsNumberWord, IsSeedWord, KeygenWords, LargeWords, OpenWords, RewrapWords, RotateWords, SealWords, SignWords, SpellNothing, Spells, VerifyWords}
+use Rattle.tink_program.specs.Words.Asked.{Making, Measuring, Opening, Rewrapping, Rotating, Sealing, Signing, Verifying}
 
 -- words that begin otherwise
 apart : (words us vs : List (List ℕ)) (u v : List ℕ) → words ≡ u ∷ us → words ≡ v ∷ vs → bytes_eq u v ≡ false → ⊥
@@ -86,6 +87,25 @@ verify-same words k l p q =
     let second : p.keyset_word ≡ q.keyset_word = cc same in
     ap (λ x. Verifying x) (keysets-same p.keyset_word q.keyset_word k l second p.keyset_is q.keyset_is)
 
+pub sides-same : (a b c d e f g h : List ℕ) → a ≡ e → b ≡ f → c ≡ g → d ≡ h
+    → ◌≡◌ {A = Sides} (record { from = a; from_aad = b; to = c; to_aad = d }) (record { from = e; from_aad = f; to = g; to_aad = h })
+sides-same a b c d e f g h p q r s = rw (p, q, r, s) refl
+
+rewrap-same : (words : List (List ℕ)) (s u : Sides) (t v : List ℕ) → RewrapWords words s t → RewrapWords words u v → Rewrapping s t ≡ Rewrapping u v
+rewrap-same words s u t v p q =
+    let same = sym p.spelled ∙ q.spelled in
+    let second : p.from_word ≡ q.from_word = cc same in
+    let third : p.from_aad_word ≡ q.from_aad_word = cc same in
+    let fourth : p.to_word ≡ q.to_word = cc same in
+    let fifth : p.to_aad_word ≡ q.to_aad_word = cc same in
+    let sixth : p.seed_word ≡ q.seed_word = cc same in
+    let sides : s ≡ u = sides-same s.from s.from_aad s.to s.to_aad u.from u.from_aad u.to u.to_aad
+    (keysets-same p.from_word q.from_word s.from u.from second p.from_is q.from_is)
+    (keysets-same p.from_aad_word q.from_aad_word s.from_aad u.from_aad third p.from_aad_is q.from_aad_is)
+    (keysets-same p.to_word q.to_word s.to u.to fourth p.to_is q.to_is)
+    (keysets-same p.to_aad_word q.to_aad_word s.to_aad u.to_aad fifth p.to_aad_is q.to_aad_is) in
+    ap (λ x. Rewrapping x t) sides ∙ ap (λ x. Rewrapping u x) (seeds-same p.seed_word q.seed_word t v sixth p.seed_is q.seed_is)
+
 -- ---- and those of two commands differ
 
 pub one_asked : (words : List (List ℕ)) (a b : Asked) → Spells words a → Spells words b → a ≡ b
@@ -96,6 +116,7 @@ one_asked words (Rotating k t s) (Rotating l u v) p q = rotate-same words k t s 
 one_asked words (Measuring n) (Measuring m) p q = large-same words n m p q
 one_asked words (Signing k) (Signing l) p q = sign-same words k l p q
 one_asked words (Verifying k) (Verifying l) p q = verify-same words k l p q
+one_asked words (Rewrapping s t) (Rewrapping u v) p q = rewrap-same words s u t v p q
 one_asked words _ _ p q = absurd (apart words _ _ _ _ p.spelled q.spelled refl)
 
 -- what holds of what the words ask for
@@ -105,8 +126,8 @@ along P words a b p q holds = subst P (one_asked words a b p q) holds
 -- words that spell none of the commands
 pub nothing_spelled : (words : List (List ℕ)) → ((k a s : List ℕ) → SealWords words k a s → ⊥) → ((k a : List ℕ) → OpenWords words k a → ⊥)
     → ((t s : List ℕ) → KeygenWords words t s → ⊥) → ((k t s : List ℕ) → RotateWords words k t s → ⊥) → ((n : ℕ) → LargeWords words n → ⊥)
-    → ((k : List ℕ) → SignWords words k → ⊥) → ((k : List ℕ) → VerifyWords words k → ⊥) → SpellNothing words
-nothing_spelled words no_seal no_open no_keygen no_rotate no_large no_sign no_verify = λ asked. by_asked asked
+    → ((k : List ℕ) → SignWords words k → ⊥) → ((k : List ℕ) → VerifyWords words k → ⊥) → ((s : Sides) (t : List ℕ) → RewrapWords words s t → ⊥) → SpellNothing words
+nothing_spelled words no_seal no_open no_keygen no_rotate no_large no_sign no_verify no_rewrap = λ asked. by_asked asked
   where
     by_asked : (asked : Asked) → Spells words asked → ⊥
     by_asked (Sealing k a s) p = no_seal k a s p
@@ -116,3 +137,4 @@ nothing_spelled words no_seal no_open no_keygen no_rotate no_large no_sign no_ve
     by_asked (Measuring n) p = no_large n p
     by_asked (Signing k) p = no_sign k p
     by_asked (Verifying k) p = no_verify k p
+    by_asked (Rewrapping s t) p = no_rewrap s t p

@@ -9,7 +9,7 @@ use Rattle.tink_program.specs.declared.program.Outcome.TheVariants.{Done, Usage,
 use Rattle.tink_program.specs.Program.{early_statuses, kind_status, own_statuses, reads_first, refused_statuses, status_of, unwritten_statuses, IsAmong, IsCause, IsEarlyKind, IsReadingFirst, IsUnusableBy, IsUnwrittenKind, KeepsEnds, Leaves, StatusMeans}
 use Rattle.tink_program.specs.Tokens.{LeavesSink}
 use Rattle.tink_program.specs.Words.{Asked, SpellNothing, Spells}
-use Rattle.tink_program.specs.Words.Asked.{Making, Measuring, Opening, Rotating, Sealing, Signing, Verifying}
+use Rattle.tink_program.specs.Words.Asked.{Making, Measuring, Opening, Rewrapping, Rotating, Sealing, Signing, Verifying}
 use Rattle.tink_program.proofs.Spelling.{along}
 
 pub above_2 : (kind : Kind) → 2 < kind_status kind
@@ -72,6 +72,7 @@ own_ten (Rotating keyset template seed) = refl
 own_ten (Measuring n) = refl
 own_ten (Signing keyset) = refl
 own_ten (Verifying keyset) = refl
+own_ten (Rewrapping sides seed) = refl
 
 pub want_status : (words : List (List ℕ)) (old new : Outside) → IsUntouched old new → StatusMeans words old new 10
 want_status words old new same = record {

@@ -17,6 +17,7 @@ use Rattle.tink_run.specs.Run.{AnswerMeans, IsEarly, IsOkOrWant, LeavesEnds}
 use Rattle.tink_run.specs.declared.report.Command.{Command}
 use Rattle.tink_run.specs.declared.report.Command.TheVariants.{Seal, Open}
 use Rattle.tink_run.specs.declared.report.Report.{Report}
+use Rattle.tink_run.proofs.Promises.{only_agreeing}
 use Rattle.tink_run.proofs.RowFacts.{loaded_usable}
 use Rattle.tink_program.specs.Draws.{draws_in}
 use Rattle.tink_program.specs.Program.{answer_outcome, kind_status, own_statuses, refused_statuses, status_of, IsAmong, IsEarlyKind, IsUnwrittenKind, Leaves}
@@ -36,7 +37,7 @@ primary_usable : (keyset : List ℕ) (loaded : Loaded) → load keyset ≡ Ok lo
 primary_usable keyset loaded loads = (loaded_usable keyset loaded loads).1.usable
 
 -- a seed's draws suffice for a salt and a prefix
-draws_suffice : (keyset seed : List ℕ) (loaded : Loaded) → load keyset ≡ Ok loaded → drawn loaded.primary ≤ length (draws_in seed 256)
+pub draws_suffice : (keyset seed : List ℕ) (loaded : Loaded) → load keyset ≡ Ok loaded → drawn loaded.primary ≤ length (draws_in seed 256)
 draws_suffice keyset seed loaded loads =
     elim (primary_usable keyset loaded loads).derived [ inl is ↦ omega (arith, length-draws_in seed 256) | inr is ↦ omega (arith, length-draws_in seed 256) ]
 
@@ -84,7 +85,7 @@ early_run Open keyset aad draws left_draws old new MacMismatch m early = absurd 
 early_run Open keyset aad draws left_draws old new RandomFault m early = tt
 early_run Open keyset aad draws left_draws old new _ m early = early
 
-unwritten_early : (kind : Kind) → IsEarlyKind kind → IsUnwrittenKind kind
+pub unwritten_early : (kind : Kind) → IsEarlyKind kind → IsUnwrittenKind kind
 unwritten_early OutOfMemory early = tt
 unwritten_early InputTooLong early = tt
 unwritten_early BadToken early = tt
@@ -105,10 +106,10 @@ leaves_by command keyset aad draws old new (Err e) s t k l ran h =
 -- ---- what a status says
 
 -- a keyset has one refusal, and none where it loads
-one_refusal : (keyset : List ℕ) (kind other : Kind) → load keyset ≡ Err kind → load keyset ≡ Err other → kind_status other ≡ kind_status kind
+pub one_refusal : (keyset : List ℕ) (kind other : Kind) → load keyset ≡ Err kind → load keyset ≡ Err other → kind_status other ≡ kind_status kind
 one_refusal keyset kind other p q = let same = sym q ∙ p in ap kind_status (cc same)
 
-not_loaded : (keyset : List ℕ) (kind : Kind) (loaded : Loaded) → load keyset ≡ Err kind → load keyset ≡ Ok loaded → ⊥
+pub not_loaded : (keyset : List ℕ) (kind : Kind) (loaded : Loaded) → load keyset ≡ Err kind → load keyset ≡ Ok loaded → ⊥
 not_loaded keyset kind loaded p q = let same = sym q ∙ p in cc same
 
 -- which statuses come
@@ -273,7 +274,7 @@ open_facts keyset aad old new (Refused kind) m = record {
 
 -- ---- what a status promises
 
-ok_or_want : (answer : Result Report TinkError) → IsOkOrWant answer → IsDoneOrWant (status_of (answer_outcome answer))
+pub ok_or_want : (answer : Result Report TinkError) → IsOkOrWant answer → IsDoneOrWant (status_of (answer_outcome answer))
 ok_or_want (Ok report) is = inl refl
 ok_or_want (Err e) is = inr (ap kind_status is)
 
@@ -333,6 +334,18 @@ want_ran keyset aad draws outside e is = record {
   written = tt;
   succeeds = λ T G told faultless can. is;
 }
+
+-- the same before an open
+pub want_opened : (keyset aad : List ℕ) (outside : Outside) → Ran Open keyset aad [] outside outside (Err (record { kind = OutOfMemory }))
+want_opened keyset aad outside =
+    let means : AnswerMeans Open keyset aad [] [] outside outside (Err (record { kind = OutOfMemory })) = (record { untouched = refl; undrawn = refl }, refl) in
+    record {
+      left_draws = [];
+      means = means;
+      ok = tt;
+      written = only_agreeing Open keyset aad [] [] outside outside (Err (record { kind = OutOfMemory })) means;
+      succeeds = λ S G told faultless can. refl;
+    }
 
 -- a line that was written, or whose writing failed
 pub line_written : (a b : Option (List ℕ)) (i j : ℕ) (answer : Result (Unit {0}) TinkError) (bs : List ℕ)

@@ -4,7 +4,8 @@ use Rattle.std.specs.Prelude.{String, string_bytes, codes, Option, Some, None, R
 use Rattle.tink_io.specs.declared.error.TinkError.{TinkError}
 use Rattle.hex.specs.Hex.{decode_sized}
 use Rattle.hex.proofs.HexLemmas.{decode_sized-ok, decode_sized-twice}
-use Rattle.tink_program.specs.Words.{IsBytesWord, IsSeedWord, KeygenWords, OpenWords, RotateWords, SealWords, SignWords, VerifyWords}
+use Rattle.tink_program.specs.Words.{IsBytesWord, IsSeedWord, KeygenWords, OpenWords, RewrapWords, RotateWords, SealWords, SignWords, VerifyWords}
+use Rattle.tink_rewrap.specs.Rewrapping.{Sides}
 
 abbrev pub texts : List (String Global) → List (List ℕ)
 texts ws = map (λ w. string_bytes w) ws
@@ -37,6 +38,13 @@ four_texts : (ws : List (String Global)) (a b c d : String Global) → length ws
     → texts ws ≡ string_bytes a ∷ string_bytes b ∷ string_bytes c ∷ string_bytes d ∷ []
 four_texts [] a b c d l p q r s = absurd (omega arith)
 four_texts (v ∷ ws) a b c d l p q r s = let rest = three_texts ws b c d (omega arith) q r s in cc
+
+six_texts : (ws : List (String Global)) (a b c d e f : String Global) → length ws ≡ 6 → a ≡ slice_index_or ws 0 a → b ≡ slice_index_or ws 1 b → c ≡ slice_index_or ws 2 c → d ≡ slice_index_or ws 3 d
+    → e ≡ slice_index_or ws 4 e → f ≡ slice_index_or ws 5 f
+    → texts ws ≡ string_bytes a ∷ string_bytes b ∷ string_bytes c ∷ string_bytes d ∷ string_bytes e ∷ string_bytes f ∷ []
+six_texts [] a b c d e f l p q r s u v = absurd (omega arith)
+six_texts (x ∷ []) a b c d e f l p q r s u v = absurd (omega arith)
+six_texts (x ∷ y ∷ ws) a b c d e f l p q r s u v = let rest = four_texts ws c d e f (omega arith) r s u v in cc
 
 -- sixty-four digits are those of 32 bytes
 pub seed_word : (word seed : List ℕ) → decode_sized word 32 ≡ Ok seed → IsSeedWord word seed
@@ -92,6 +100,24 @@ rotate_words ws a b c d keyset template seed l p q r s is keyset_is same decodes
       ∙ ap (λ x. codes "rotate" ∷ string_bytes b ∷ x ∷ string_bytes d ∷ []) (sym same);
   keyset_is = keyset_is;
   seed_is = seed_word (string_bytes d) seed decodes;
+}
+
+pub rewrap_words : (ws : List (String Global)) (a b c d e f : String Global) (sides : Sides) (seed : List ℕ) → length ws ≡ 6
+    → a ≡ slice_index_or ws 0 a → b ≡ slice_index_or ws 1 b → c ≡ slice_index_or ws 2 c → d ≡ slice_index_or ws 3 d → e ≡ slice_index_or ws 4 e → f ≡ slice_index_or ws 5 f
+    → string_bytes a ≡ codes "rewrap" → IsBytesWord (string_bytes b) sides.from → IsBytesWord (string_bytes c) sides.from_aad → IsBytesWord (string_bytes d) sides.to → IsBytesWord (string_bytes e) sides.to_aad
+    → decode_sized (string_bytes f) 32 ≡ Ok seed → RewrapWords (texts ws) sides seed
+rewrap_words ws a b c d e f sides seed l p q r s u v is from_is from_aad_is to_is to_aad_is decodes = record {
+  from_word = string_bytes b;
+  from_aad_word = string_bytes c;
+  to_word = string_bytes d;
+  to_aad_word = string_bytes e;
+  seed_word = string_bytes f;
+  spelled = six_texts ws a b c d e f l p q r s u v ∙ ap (λ x. x ∷ string_bytes b ∷ string_bytes c ∷ string_bytes d ∷ string_bytes e ∷ string_bytes f ∷ []) is;
+  from_is = from_is;
+  from_aad_is = from_aad_is;
+  to_is = to_is;
+  to_aad_is = to_aad_is;
+  seed_is = seed_word (string_bytes f) seed decodes;
 }
 
 pub sign_words : (ws : List (String Global)) (a b : String Global) (keyset : List ℕ) → length ws ≡ 2

@@ -15,10 +15,10 @@ use Rattle.tink_program.specs.declared.program.Outcome.TheVariants.{Done, Usage,
 use Rattle.tink_program.specs.Draws.{draws_in}
 use Rattle.tink_program.specs.Keysets.{made_keyset, of_keyset, of_no_keys, IsUnmadeBy, KeysetMeans, MakesKeyset}
 use Rattle.tink_program.specs.Large.{LargeMeans, MeasuresLarge}
-use Rattle.tink_program.specs.Streams.{OpenPromises, SealPromises, StreamMeans}
+use Rattle.tink_program.specs.Streams.{IsUnmovable, OpenPromises, RewrapOutcome, RewrapPromises, SealPromises, StreamMeans}
 use Rattle.tink_program.specs.Tokens.{macs_of, LeavesSink, RefusesSigning, RefusesVerifying, SignsTo, TokenMeans, TokenPromises, VerifiesTo}
 use Rattle.tink_program.specs.Words.{Asked, SpellNothing, Spells}
-use Rattle.tink_program.specs.Words.Asked.{Making, Measuring, Opening, Rotating, Sealing, Signing, Verifying}
+use Rattle.tink_program.specs.Words.Asked.{Making, Measuring, Opening, Rewrapping, Rotating, Sealing, Signing, Verifying}
 
 -- ---- statuses and lines
 
@@ -54,7 +54,7 @@ status_of (Refused kind) = kind_status kind
 abbrev pub line_of : Outcome → List ℕ
 line_of Done = []
 line_of Usage =
-    codes "usage: seal KEYSET AAD SEED | open KEYSET AAD | keygen TEMPLATE SEED | rotate KEYSET TEMPLATE SEED | large N | sign KEYSET | verify KEYSET"
+    codes "usage: seal KEYSET AAD SEED | open KEYSET AAD | keygen TEMPLATE SEED | rotate KEYSET TEMPLATE SEED | large N | rewrap KEYSET AAD KEYSET AAD SEED | sign KEYSET | verify KEYSET"
     ++ 10 ∷ []
 line_of (Refused kind) = kind_line kind
 
@@ -62,6 +62,10 @@ line_of (Refused kind) = kind_line kind
 abbrev pub answer_outcome : {T : Type 0} → Result T TinkError → Outcome
 answer_outcome (Ok _) = Done
 answer_outcome (Err e) = Refused e.kind
+
+-- the status of an answer
+abbrev pub status_by : {T : Type 0} → Result T TinkError → ℕ
+status_by answer = status_of (answer_outcome answer)
 
 -- ---- what an outcome says
 
@@ -76,6 +80,7 @@ CommandMeans (Rotating keyset template seed) old new outcome =
 CommandMeans (Measuring n) old new outcome = LargeMeans n old new outcome
 CommandMeans (Signing keyset) old new outcome = TokenMeans SignsTo RefusesSigning keyset old new outcome
 CommandMeans (Verifying keyset) old new outcome = TokenMeans VerifiesTo RefusesVerifying keyset old new outcome
+CommandMeans (Rewrapping sides seed) old new outcome = RewrapOutcome sides (draws_in seed 256) old new outcome
 
 -- what the words ask for came to this outcome
 pub record HasDone (words : List (List ℕ)) (old new : Outside) (outcome : Outcome) : Type 0 where
@@ -125,6 +130,8 @@ own_statuses (Rotating keyset template seed) = 0 ∷ 10 ∷ 12 ∷ 13 ∷ 14 ∷
 own_statuses (Measuring n) = 0 ∷ 10 ∷ 12 ∷ []
 own_statuses (Signing keyset) = 0 ∷ 10 ∷ 11 ∷ 12 ∷ 13 ∷ 14 ∷ 15 ∷ 16 ∷ 17 ∷ 18 ∷ 26 ∷ []
 own_statuses (Verifying keyset) = 0 ∷ 10 ∷ 11 ∷ 12 ∷ 13 ∷ 14 ∷ 15 ∷ 16 ∷ 17 ∷ 18 ∷ 26 ∷ 27 ∷ 28 ∷ []
+own_statuses (Rewrapping sides seed) =
+    0 ∷ 10 ∷ 11 ∷ 12 ∷ 13 ∷ 14 ∷ 15 ∷ 16 ∷ 17 ∷ 18 ∷ 19 ∷ 20 ∷ 21 ∷ 22 ∷ 23 ∷ []
 
 abbrev pub HasOwnStatus : List (List ℕ) → ℕ → Type 0
 HasOwnStatus words status = (a : Asked) → Spells words a → IsAmong (own_statuses a) status
@@ -138,6 +145,7 @@ IsUnusableBy (Rotating keyset template seed) kind = made_keyset (of_keyset keyse
 IsUnusableBy (Measuring n) kind = ⊥
 IsUnusableBy (Signing keyset) kind = macs_of keyset ≡ Err kind
 IsUnusableBy (Verifying keyset) kind = macs_of keyset ≡ Err kind
+IsUnusableBy (Rewrapping sides seed) kind = IsUnmovable sides kind
 
 -- it gets its refusal's status, or `OutOfMemory`
 abbrev pub Refuses : List (List ℕ) → ℕ → Type 0
@@ -254,6 +262,7 @@ Promises (Rotating keyset template seed) old new status = MakesKeyset (of_keyset
 Promises (Measuring n) old new status = MeasuresLarge n old new status
 Promises (Signing keyset) old new status = TokenPromises SignsTo RefusesSigning keyset kind_status old new status
 Promises (Verifying keyset) old new status = TokenPromises VerifiesTo RefusesVerifying keyset kind_status old new status
+Promises (Rewrapping sides seed) old new status = RewrapPromises status_by sides seed old new status
 
 abbrev pub Promised : List (List ℕ) → Outside → Outside → ℕ → Type 0
 Promised words old new status = (a : Asked) → Spells words a → Promises a old new status

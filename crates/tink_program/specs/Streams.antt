@@ -2,12 +2,16 @@
 use Rattle.std.specs.Prelude.{◌≡◌, ◌⊎◌, ℕ, List, Result, Ok, Err, IfOk}
 use Rattle.stream_model.specs.Sealing.{prefix_of, salt_of}
 use Rattle.loading_model.specs.Loading.{Loaded}
+use Rattle.tink_io.specs.declared.error.Kind.{Kind}
 use Rattle.tink_io.specs.declared.error.Kind.TheVariants.{OutOfMemory, RandomFault}
 use Rattle.tink_io.specs.declared.error.TinkError.{TinkError}
 use Rattle.tink_run.specs.AllKeys.{load}
 use Rattle.tink_run.specs.Outside.{Outside, IsUntouched, HasNoFault}
 use Rattle.tink_run.specs.Run.{AnswerMeans, Told, OkMeans, IsWholeStream, IsWholeText, IsOfAgreeing, OnlyAgreeing, CanSeal, CanOpen, IsComplete}
 use Rattle.tink_run.specs.SealAnswers.{SourceFailed}
+use Rattle.tink_rewrap.specs.Promises.{CanRewrap, IsWholeRewrap, LeavesUnended}
+use Rattle.tink_rewrap.specs.Promises as rewraps
+use Rattle.tink_rewrap.specs.Rewrapping.{RewrapMeans, SecondRefused, Sides}
 use Rattle.tink_run.specs.declared.report.Command.{Command}
 use Rattle.tink_run.specs.declared.report.Report.{Report}
 use Rattle.tink_program.specs.Draws.{draws_in}
@@ -97,3 +101,57 @@ pub record OpenPromises (keyset aad : List ℕ) (old new : Outside) (status : �
   pub written : WritesAgreeing keyset aad old new
   -- when it succeeds
   pub succeeds : OpenSucceeds keyset aad old new status
+
+-- ---- a rewrap
+
+-- what a rewrap with these draws says by its answer, whatever draws it leaves
+pub record Moved (sides : Sides) (draws : List ℕ) (old new : Outside) (answer : Result Report TinkError) : Type 0 where
+  pub left_draws : List ℕ
+  pub means : RewrapMeans sides draws left_draws old new answer
+  pub ok : IfOk answer
+      (λ report. (S G : List ℕ) → Told old S G → IsWholeRewrap sides draws left_draws S G new report)
+  pub unended : LeavesUnended sides draws old new answer
+  pub succeeds : rewraps.IsComplete sides draws old new answer
+
+-- some rewrap gave this answer
+abbrev pub HasMoved : Sides → List ℕ → Outside → Outside → Result Report TinkError → Type 0
+HasMoved sides draws old new answer = (left_draws : List ℕ) × RewrapMeans sides draws left_draws old new answer
+
+-- what stands after each outcome of a rewrap, and why it came
+abbrev pub RewrapOutcome : Sides → List ℕ → Outside → Outside → Outcome → Type 0
+RewrapOutcome sides draws old new Done = (report : Report) × HasMoved sides draws old new (Ok report)
+RewrapOutcome sides draws old new Usage = ⊥
+RewrapOutcome sides draws old new (Refused OutOfMemory) = IsUntouched old new
+RewrapOutcome sides draws old new (Refused RandomFault) = ⊥
+RewrapOutcome sides draws old new (Refused kind) = HasMoved sides draws old new (Err (record { kind = kind }))
+
+-- a keyset of the two does not load, the first before the second
+abbrev pub IsUnmovable : Sides → Kind → Type 0
+IsUnmovable sides kind = (load sides.from ≡ Err kind) ⊎ SecondRefused sides kind
+
+-- told bytes: a rewrap with status 0 had exactly a stream of the chosen key of the first keyset, and has written exactly the
+-- stream of its text under the primary key of the second one and the seed's draws
+abbrev pub MovesWhole : Sides → List ℕ → Outside → Outside → ℕ → Type 0
+MovesWhole sides seed old new status = (S G : List ℕ) → Told old S G → status ≡ 0
+    → (report : Report) × (left_draws : List ℕ) × IsWholeRewrap sides (draws_in seed 256) left_draws S G new report
+
+-- told bytes: a status is that of an answer, and by all but success and a fault of the sink no last segment was written,
+-- nor by these where the source is no stream of the chosen key
+abbrev pub EndsNone : (Result Report TinkError → ℕ) → Sides → List ℕ → Outside → Outside → ℕ → Type 0
+EndsNone status_by sides seed old new status =
+    (answer : Result Report TinkError) × (status ≡ status_by answer) × LeavesUnended sides (draws_in seed 256) old new answer
+
+-- told bytes: a rewrap that can succeed where neither end fails does, or there is no memory
+abbrev pub RewrapSucceeds : Sides → List ℕ → Outside → Outside → ℕ → Type 0
+RewrapSucceeds sides seed old new status = (S G : List ℕ) → Told old S G → HasNoFault old new
+    → CanRewrap sides (draws_in seed 256) S → IsDoneOrWant status
+
+-- what a status promises of a rewrap
+pub record RewrapPromises (status_by : Result Report TinkError → ℕ) (sides : Sides) (seed : List ℕ) (old new : Outside)
+    (status : ℕ) : Type 0 where
+  -- what 0 promises
+  pub rewrapped : MovesWhole sides seed old new status
+  -- what was written by any other status
+  pub unended : EndsNone status_by sides seed old new status
+  -- when it succeeds
+  pub succeeds : RewrapSucceeds sides seed old new status

@@ -2,7 +2,9 @@
 use Rattle.std.specs.Prelude.{◌≡◌, ◌⊎◌, ◌≤◌, ◌<◌, ℕ, List, [], ◌∷◌, length, map, codes, decimal, String, string_bytes, Ok, Vec}
 use Rattle.hex.specs.Hex.{decode_of}
 use Rattle.tink_program.specs.declared.words.Parsed.{Parsed}
-use Rattle.tink_program.specs.declared.words.Parsed.TheVariants.{Keygen, Large, Open, Rotate, Seal, Sign, Verify}
+use Rattle.tink_program.specs.declared.words.Parsed.TheVariants.{Keygen, Large, Open, Rewrap, Rotate, Seal, Sign, Verify}
+use Rattle.tink_program.specs.declared.words.RewrapArgs.{RewrapArgs}
+use Rattle.tink_rewrap.specs.Rewrapping.{Sides}
 
 -- two hexadecimal digits or more, an even number in either case, or a dash for no bytes
 abbrev pub IsBytesWord : List ℕ → List ℕ → Type 0
@@ -67,8 +69,23 @@ pub record VerifyWords (words : List (List ℕ)) (keyset : List ℕ) : Type 0 wh
   pub spelled : words ≡ codes "verify" ∷ keyset_word ∷ []
   pub keyset_is : IsBytesWord keyset_word keyset
 
+-- `rewrap KEYSET AAD KEYSET AAD SEED`, and what it spells: the keyset and the associated data of a stream, and those that it
+-- is moved to
+pub record RewrapWords (words : List (List ℕ)) (sides : Sides) (seed : List ℕ) : Type 0 where
+  pub from_word : List ℕ
+  pub from_aad_word : List ℕ
+  pub to_word : List ℕ
+  pub to_aad_word : List ℕ
+  pub seed_word : List ℕ
+  pub spelled : words ≡ codes "rewrap" ∷ from_word ∷ from_aad_word ∷ to_word ∷ to_aad_word ∷ seed_word ∷ []
+  pub from_is : IsBytesWord from_word sides.from
+  pub from_aad_is : IsBytesWord from_aad_word sides.from_aad
+  pub to_is : IsBytesWord to_word sides.to
+  pub to_aad_is : IsBytesWord to_aad_word sides.to_aad
+  pub seed_is : IsSeedWord seed_word seed
+
 -- what a command line asks for: a keyset and associated data, and the seed of a new stream; a template and a seed; the
--- number of a large text; a keyset of MACs
+-- number of a large text; a keyset of MACs; what a stream is moved between, and a seed
 pub data Asked : Type 0 where
   Sealing : (keyset aad seed : List ℕ) → Asked
   Opening : (keyset aad : List ℕ) → Asked
@@ -77,6 +94,7 @@ pub data Asked : Type 0 where
   Measuring : ℕ → Asked
   Signing : (keyset : List ℕ) → Asked
   Verifying : (keyset : List ℕ) → Asked
+  Rewrapping : (sides : Sides) (seed : List ℕ) → Asked
 
 -- the words of each command
 abbrev pub Spells : List (List ℕ) → Asked → Type 0
@@ -87,6 +105,7 @@ Spells words (Rotating keyset template seed) = RotateWords words keyset template
 Spells words (Measuring n) = LargeWords words n
 Spells words (Signing keyset) = SignWords words keyset
 Spells words (Verifying keyset) = VerifyWords words keyset
+Spells words (Rewrapping sides seed) = RewrapWords words sides seed
 
 -- the words ask for nothing
 abbrev pub SpellNothing : List (List ℕ) → Type 0
@@ -100,6 +119,15 @@ words_in words = map (λ w. string_bytes w) words
 abbrev pub words_of : {A G : Type 0} → Vec (String A) G → List (List ℕ)
 words_of words = words_in words.items
 
+-- what a stream is moved between
+abbrev pub sides_of : RewrapArgs → Sides
+sides_of args = record {
+  from = args.from.items;
+  from_aad = args.from_aad.items;
+  to = args.to.items;
+  to_aad = args.to_aad.items;
+}
+
 -- what was read asks for this
 abbrev pub asked_of : Parsed → Asked
 asked_of (Seal args) = Sealing args.keyset.items args.aad.items args.seed
@@ -109,3 +137,4 @@ asked_of (Rotate args) = Rotating args.keyset.items (string_bytes args.template)
 asked_of (Large n) = Measuring n
 asked_of (Sign keyset) = Signing keyset.items
 asked_of (Verify keyset) = Verifying keyset.items
+asked_of (Rewrap args) = Rewrapping (sides_of args) args.seed

@@ -1,15 +1,17 @@
-//! The two commands of streams.
+//! The three commands of streams.
 
 ghost use Rattle.std.specs.Prelude.{[]};
 ghost use Rattle.tink_run.specs.declared.report.Command.TheVariants.{Seal, Open};
 ghost use Rattle.tink_run.specs.Outside.{outside_of};
 ghost use Rattle.tink_run.specs.Run.{LeavesEnds};
 ghost use Rattle.tink_program.specs.Draws.{draws_in};
-ghost use Rattle.tink_program.specs.Streams.{Ran};
+ghost use Rattle.tink_program.specs.Streams.{Moved, Ran};
+ghost use Rattle.tink_program.specs.Words.{sides_of};
 
-use crate::words::{OpenArgs, SealArgs, first_draws};
+use crate::words::{OpenArgs, RewrapArgs, SealArgs, first_draws};
 use std::alloc::Global;
 use tink_io::{Draws, Sink, Source, TinkError};
+use tink_rewrap::rewrap;
 use tink_run::report::{Command, Report};
 use tink_run::run::run;
 
@@ -62,6 +64,34 @@ pub fn run_open<S: Source, K: Sink>(
         Command::Open,
         &args.keyset,
         &args.aad,
+        &mut draws,
+        source,
+        sink,
+    )
+}
+
+/// Moves a stream with the draws of the seed.
+pub fn run_rewrap<S: Source, K: Sink>(
+    alloc: Global,
+    args: &RewrapArgs,
+    source: &mut S,
+    sink: &mut K,
+) -> Result<Report, TinkError>
+    ensures moved { Moved (sides_of args.now) (draws_in args.now.seed 256)
+        (outside_of S.left S.faults K.got K.faults source.old sink.old)
+        (outside_of S.left S.faults K.got K.faults source.new sink.new)
+        result }
+    ensures early { LeavesEnds result source.old source.new sink.old sink.new }
+    ensures source { S.same source.old source.new }
+    ensures sink { K.same sink.old sink.new }
+{
+    let mut draws = Draws::new(first_draws(alloc, args.seed)?);
+    rewrap(
+        alloc,
+        &args.from,
+        &args.from_aad,
+        &args.to,
+        &args.to_aad,
         &mut draws,
         source,
         sink,

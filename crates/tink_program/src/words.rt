@@ -3,7 +3,8 @@
 ghost use Rattle.std.specs.Prelude.{◌≡◌, List, ℕ, IfOk, IfErr, IfSome, IfNone, string_bytes};
 ghost use Rattle.tink_io.specs.declared.error.Kind.TheVariants.{OutOfMemory};
 ghost use Rattle.tink_program.specs.Draws.{draws_in};
-ghost use Rattle.tink_program.specs.Words.{IsBytesWord, IsNumberWord, KeygenWords, LargeWords, OpenWords, RotateWords, SealWords, SignWords, SpellNothing, Spells, VerifyWords, asked_of, words_of};
+ghost use Rattle.tink_program.specs.Words.{IsBytesWord, IsNumberWord, KeygenWords, LargeWords, OpenWords, RewrapWords, RotateWords, SealWords, SignWords, SpellNothing, Spells, VerifyWords, asked_of, sides_of, words_of};
+ghost use Rattle.tink_rewrap.specs.Rewrapping.{Sides};
 
 use hex::{FromHex, FromHexError};
 use rand_chacha::ChaCha20Rng;
@@ -45,6 +46,16 @@ pub struct RotateArgs {
     pub seed: [u8; 32],
 }
 
+/// What `rewrap KEYSET AAD KEYSET AAD SEED` spells.
+#[derive(Drop)]
+pub struct RewrapArgs {
+    pub from: Vec<u8>,
+    pub from_aad: Vec<u8>,
+    pub to: Vec<u8>,
+    pub to_aad: Vec<u8>,
+    pub seed: [u8; 32],
+}
+
 /// A command with its values.
 #[derive(Drop)]
 pub enum Parsed {
@@ -55,6 +66,7 @@ pub enum Parsed {
     Large(u32),
     Sign(Vec<u8>),
     Verify(Vec<u8>),
+    Rewrap(RewrapArgs),
 }
 
 /// Reads the words of a command; `None` where they spell none. Refuses by `OutOfMemory` alone.
@@ -83,6 +95,9 @@ pub fn parse(alloc: Global, words: &Vec<String>) -> Result<Option<Parsed>, TinkE
     }
     if let Some(keyset) = parse_verify(alloc, words)? {
         return Ok(Some(Parsed::Verify(keyset)));
+    }
+    if let Some(args) = parse_rewrap(alloc, words)? {
+        return Ok(Some(Parsed::Rewrap(args)));
     }
     Ok(None)
 }
@@ -209,6 +224,40 @@ fn parse_verify(alloc: Global, words: &Vec<String>) -> Result<Option<Vec<u8>>, T
         return Ok(None);
     }
     bytes_of(alloc, words[1].as_str())
+}
+
+// Reads the words of `rewrap`.
+fn parse_rewrap(alloc: Global, words: &Vec<String>) -> Result<Option<RewrapArgs>, TinkError>
+    ensures found { IfOk result (λ o. IfSome o (λ a. RewrapWords (words_of words.now) (sides_of a) a.seed)) }
+    ensures none { IfOk result (λ o. IfNone o
+        ((sides : Sides) (seed : List ℕ) → RewrapWords (words_of words.now) sides seed → ⊥)) }
+    ensures refused { IfErr result (λ e. e ≡ record { kind = OutOfMemory }) }
+{
+    if words.len() != 6 || words[0].as_str() != "rewrap" {
+        return Ok(None);
+    }
+    let Ok(seed) = <[u8; 32] as FromHex>::from_hex(words[5].as_str()) else {
+        return Ok(None);
+    };
+    let Some(from) = bytes_of(alloc, words[1].as_str())? else {
+        return Ok(None);
+    };
+    let Some(from_aad) = bytes_of(alloc, words[2].as_str())? else {
+        return Ok(None);
+    };
+    let Some(to) = bytes_of(alloc, words[3].as_str())? else {
+        return Ok(None);
+    };
+    let Some(to_aad) = bytes_of(alloc, words[4].as_str())? else {
+        return Ok(None);
+    };
+    Ok(Some(RewrapArgs {
+        from,
+        from_aad,
+        to,
+        to_aad,
+        seed,
+    }))
 }
 
 // The number of a word that writes it as it is printed, below the limit.

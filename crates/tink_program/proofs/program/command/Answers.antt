@@ -2,7 +2,7 @@ use Rattle.std.proofs.Common.{inl, inr, refl, ap}
 use Rattle.tink_io.specs.declared.error.TinkError.{TinkError}
 use Rattle.tink_program.specs.declared.program.Outcome.TheVariants.{Refused}
 use Rattle.tink_program.specs.Words.{asked_of}
-use Rattle.tink_program.proofs.ProgramLemmas.{words_promised}
+use Rattle.tink_program.proofs.ProgramLemmas.{want_promised, words_promised}
 use Rattle.tink_program.proofs.StatusLemmas.{command_keeps}
 use Rattle.tink_program.proofs.program.command.Goals as goal
 
@@ -24,3 +24,6 @@ pub returns-in-Ok-Some-clause-promised : goal.returns-in-Ok-Some-clause-promised
 returns-in-Ok-Some-clause-promised g c =
     let spelled = rw c.in-Ok-Some.field-0-is at c.in-Ok-Some.ensures.found in
     words_promised _ (asked_of c.in-Ok-Some.parsed) _ _ _ spelled c.done.ensures.promised
+
+pub returns-in-Err-clause-promised : goal.returns-in-Err-clause-promised
+returns-in-Err-clause-promised g c = want_promised _ _ c.in-Err.e.kind (ap (λ (e : TinkError). e.kind) c.in-Err.ensures.refused)

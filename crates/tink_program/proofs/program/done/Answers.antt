@@ -1,5 +1,6 @@
 use Rattle.std.proofs.Common.{refl}
 use Rattle.tink_program.proofs.KeysetLemmas.{keyset_promised, line_outcome}
+use Rattle.tink_program.proofs.RewrapLemmas.{rewrap_leaves, rewrap_outcome, rewrap_promised}
 use Rattle.tink_program.proofs.StreamLemmas.{open_promised, seal_outcome, seal_promised}
 use Rattle.tink_program.proofs.TokenLemmas.{verify_promised}
 use Rattle.tink_program.proofs.program.done.Goals as goal
@@ -20,3 +21,13 @@ returns-in-Rotate-clause-promised g c =
 pub returns-in-Verify-clause-promised : goal.returns-in-Verify-clause-promised
 returns-in-Verify-clause-promised g c =
     rw (c.in-Verify.is, c.outcome_of-in-Verify.ensures) (verify_promised _ _ _ _ (rw c.deref-in-Verify.ensures.value at c.write_payload.ensures.answer))
+
+pub returns-in-Rewrap-clause-means : goal.returns-in-Rewrap-clause-means
+returns-in-Rewrap-clause-means g c = rw (c.in-Rewrap.is, c.outcome_of-in-Rewrap.ensures) (rewrap_outcome _ _ _ _ c.run_rewrap.result c.run_rewrap.ensures.moved)
+
+pub returns-in-Rewrap-clause-early : goal.returns-in-Rewrap-clause-early
+returns-in-Rewrap-clause-early g c =
+    rw (c.in-Rewrap.is, c.outcome_of-in-Rewrap.ensures) (rewrap_leaves _ _ _ _ c.run_rewrap.result _ _ _ _ c.run_rewrap.ensures.moved c.run_rewrap.ensures.early)
+
+pub returns-in-Rewrap-clause-promised : goal.returns-in-Rewrap-clause-promised
+returns-in-Rewrap-clause-promised g c = rw (c.in-Rewrap.is, c.outcome_of-in-Rewrap.ensures) (rewrap_promised _ _ _ _ c.run_rewrap.result c.run_rewrap.ensures.moved)
