@@ -1,5 +1,5 @@
 -- What a set of entries has, by its entries.
-use Rattle.std.proofs.Common.{◌≡◌, ◌∙◌, ◌++◌, ℕ, List, [], ◌∷◌, Bool, true, false, cond, map, filter, All, Some, None, refl, sym, ap, subst, bytes_eq, ⊎_elim, unwrap_or, Option}
+use Rattle.std.proofs.Common.{◌≡◌, ◌∙◌, ◌++◌, ℕ, List, [], ◌∷◌, Bool, true, false, cond, filter, All, Some, None, refl, sym, ap, subst, bytes_eq, ⊎_elim, unwrap_or, Option}
 use Rattle.std.specs.Prelude.{Vec}
 use Rattle.std.specs.declared.cmp.Ordering.{Ordering}
 use Rattle.std.specs.declared.cmp.Ordering.TheVariants.{Less}
@@ -8,7 +8,7 @@ use Rattle.std.specs.Cmp.Lexicographic.{slice_cmp, bytes_decides, nat_list_eq_eq
 use Rattle.std.specs.List.Sorted.{IsStrictlySortedBy}
 use Rattle.std.specs.Map.{keys_of, lookup, values_of}
 use Rattle.std.specs.Ordering.{is_eq, nat_cmp}
-use Rattle.std.proofs.lemmas.Bool.{cases_Bool, cond-true, cond-false, false≢true}
+use Rattle.std.proofs.lemmas.Bool.{cases_Bool, cond-true, cond-false}
 use Rattle.std.proofs.lemmas.List.{append-nil}
 use Rattle.std.proofs.lemmas.List.Elements.{All-append, All-cons, All-filter, All-head, All-map, All-nil, All-tail, All-weaker, filter-append, filter_passes}
 use Rattle.std.proofs.lemmas.Map.Keys.{sorted_tail}
@@ -18,8 +18,8 @@ use Rattle.stream_model.specs.Key.{StreamKey, IsUsable}
 use Rattle.stream_model.specs.Order.{IsOfKeyset, with_prefix}
 use Rattle.stream_model.proofs.OrderFacts.{choose_the_same}
 use Rattle.tink_keysets.specs.Built.{HasEntries}
-use Rattle.tink_sets.specs.Entries.{entry_of_id, typed_prefix_of}
-use Rattle.tink_sets.specs.Groups.{AreGroupsOf, group_at, group_of}
+use Rattle.tink_sets.specs.Entries.{typed_prefix_of}
+use Rattle.tink_sets.specs.Groups.{AreGroupsOf, group_at}
 use Rattle.tink_sets.specs.declared.entry.TypedEntry.{TypedEntry}
 use Rattle.tink_stream_keys.specs.StreamKinds.{key_in_set}
 use Rattle.tink_stream_keys.specs.declared.stream_kind.StreamKind.{StreamKind}

@@ -213,8 +213,8 @@ impl WrappedStreamingAead {
     }
 
     /// A reader of the stream in `r` by all keys, those of one prefix in their order, of which it has copies. Nothing is
-    /// read, and all memory is taken: as long as no key is chosen, a byte more than the largest of their segments is
-    /// kept at most, with the output prefix before it.
+    /// read, and all memory is taken: a byte more than the largest of their segments with the output prefix before it
+    /// may be kept, which is at most six bytes more than the largest segment.
     ///
     /// # Errors
     /// `OutOfMemory`, which hands back `r`.
