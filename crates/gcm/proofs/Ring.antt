@@ -2,12 +2,13 @@
 use Rattle.std.proofs.Common.{◌≡◌, ℕ, zero, suc, ◌+◌, ◌*◌, ◌/◌, ◌%◌, ◌^◌, ◌<◌, ◌≤◌, eqb, bit_xor, refl, subst, sym, ap, ◌∙◌, arith, eqb→eq}
 use Rattle.std.proofs.lemmas.Nat.{mod_below, pow_pos, shr-shr, shr_below, shr_split, xor_comm, xor_lt, xor_mod, xor_shr}
 use Rattle.std.proofs.lemmas.Nat.Bits.{bit_at-zero, bit_at_cat_low}
-use Rattle.std.specs.Int.Bits.{xor_assoc, xor_self, xor_zero_l, xor_zero_r}
+use Rattle.std.specs.Int.Bits.{xor_assoc, xor_zero_l, xor_zero_r}
 use lib.Bits.{xor_shifted}
 use Rattle.standards.specs.Ghash.{product, product_low, times_x}
 use Rattle.standards.proofs.Bytes.{every_below}
+use Rattle.standards.proofs.Xor.{bits_times, exchange}
 use Rattle.gcm.specs.Multiples.{ArePowers, four, horner, multiple, sum4}
-use Rattle.gcm.proofs.FourBits.{at_zero, exchange, four_bits, four_linear, linear, push}
+use Rattle.gcm.proofs.FourBits.{at_zero, four_bits, four_linear, linear, push}
 
 -- one bit more
 one_more : (y x m : ℕ) → product_low y x (suc m) ≡ bit_xor (times_x (product_low y x m)) (x / 2 ^ m % 2 * y)
@@ -45,23 +46,6 @@ low_bound y x (suc m) h = xor_lt 128 _ _ (step_bound _ (low_bound y x m h)) (bit
 -- linear in the first factor
 bit_sum : (a b m : ℕ) → bit_xor a b / 2 ^ m % 2 ≡ bit_xor (a / 2 ^ m % 2) (b / 2 ^ m % 2)
 bit_sum a b m = ap (λ v. v % 2) (xor_shr a b m) ∙ xor_mod (a / 2 ^ m) (b / 2 ^ m) 1
-
-bits_times : (p q y : ℕ) → p < 2 → q < 2 → bit_xor p q * y ≡ bit_xor (p * y) (q * y)
-bits_times zero zero y h k =
-    let e : 0 * y ≡ 0 = omega arith in
-    e ∙ sym (ap (λ v. bit_xor v v) e)
-bits_times zero (suc zero) y h k =
-    let e : 0 * y ≡ 0 = omega arith in
-    sym (ap (λ v. bit_xor v (1 * y)) e ∙ xor_zero_l (1 * y))
-bits_times (suc zero) zero y h k =
-    let e : 0 * y ≡ 0 = omega arith in
-    sym (ap (λ v. bit_xor (1 * y) v) e ∙ xor_zero_r (1 * y))
-bits_times (suc zero) (suc zero) y h k =
-    let e : 0 * y ≡ 0 = omega arith in
-    e ∙ sym (xor_self (1 * y))
-bits_times (suc (suc p)) q y h k = absurd (omega arith)
-bits_times zero (suc (suc q)) y h k = absurd (omega arith)
-bits_times (suc zero) (suc (suc q)) y h k = absurd (omega arith)
 
 pub linear_first : (y a b m : ℕ) → product_low y (bit_xor a b) m ≡ bit_xor (product_low y a m) (product_low y b m)
 unfolding product_low
