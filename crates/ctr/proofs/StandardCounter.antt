@@ -1,10 +1,11 @@
 -- A core's keystream is counter mode (SP 800-38A, 2001, 6.5), on blocks of 16 bytes.
-use Rattle.std.proofs.Common.{◌≡◌, ◌<◌, ℕ, zero, suc, ◌+◌, ◌/◌, ◌%◌, List, [], ◌∷◌, length, get_or, bit_xor, refl, ap, ap₂, sym, ◌*◌, ◌-◌, ◌∙◌, arith}
+use Rattle.std.proofs.Common.{◌≡◌, ◌<◌, ◌≤◌, ℕ, zero, suc, ◌+◌, ◌/◌, ◌%◌, List, [], ◌∷◌, length, get_or, bit_xor, refl, ap, ap₂, sym, ◌*◌, ◌-◌, ◌∙◌, arith}
 use Rattle.std.proofs.lemmas.Grind.{same_number_lists}
-use Rattle.std.specs.Int.{Width, w32}
+use Rattle.std.specs.Int.{Width, byte_len, w32}
 use Rattle.standards.specs.Counter.{ctr, plus_be, plus_le}
 use Rattle.standards.specs.Gcm.{first_block, gcm_text}
 use Rattle.standards.specs.GcmSiv.{counter_block, encryption_key, gcm_siv_text}
+use Rattle.standards.proofs.CounterFacts.{length-plus_be, length-plus_le}
 use Rattle.standards.proofs.Keystream.{get_or-ctr, length-ctr}
 use Rattle.cipher_stream.specs.ByteStream.{bytes_from, to_come}
 use Rattle.cipher_stream.specs.Keystream.{Keystream, bytes_of, xored}
@@ -79,3 +80,16 @@ xored_buffered k text =
     get_or-xored (to_come (bytes_from 16 k 0)) text j within
     ∙ ap (bit_xor (get_or text j 0)) (ap₂ (λ b i. get_or (k.block_at (b % k.period)) i 0) block byte)
     ∙ sym (get_or-xored (bytes_of 16 k) text j within))
+
+-- The same by a cipher over a core with no rest, of a block cipher under which blocks keep their size.
+module _ (w : Width) (E : List ℕ → List ℕ) (nonce text : List ℕ) (sized : (block : List ℕ) → length block ≡ 16 → length (E block) ≡ 16)
+    (fits : byte_len w ≤ 16) (long : length nonce ≡ 16) where
+  pub buffered_be : xored (to_come (bytes_from 16 (counter_stream E (plus last w) nonce (field_size w) 0) 0)) text ≡ ctr E (plus_be w) nonce text
+  buffered_be =
+      xored_buffered (counter_stream E (plus last w) nonce (field_size w) 0) text
+      ∙ xored_be w E nonce text (λ i. sized (plus_be w nonce i) (length-plus_be w nonce i (omega (arith, fits, long)) ∙ long))
+
+  pub buffered_le : xored (to_come (bytes_from 16 (counter_stream E (plus first w) nonce (field_size w) 0) 0)) text ≡ ctr E (plus_le w) nonce text
+  buffered_le =
+      xored_buffered (counter_stream E (plus first w) nonce (field_size w) 0) text
+      ∙ xored_le w E nonce text (λ i. sized (plus_le w nonce i) (length-plus_le w nonce i (omega (arith, fits, long)) ∙ long))

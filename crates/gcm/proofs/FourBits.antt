@@ -1,56 +1,20 @@
--- The product with x is linear, and four steps of one bit are one of four.
-use Rattle.std.proofs.Common.{◌≡◌, ℕ, zero, suc, ◌+◌, ◌*◌, ◌/◌, ◌%◌, ◌^◌, ◌<◌, eqb, get_or, bit_xor, refl, sym, ap, ◌∙◌, arith, eqb→eq}
-use Rattle.std.proofs.lemmas.Nat.{shr-shr, xor_comm, xor_mod, xor_shr}
+-- Four steps of one bit are one of four.
+use Rattle.std.proofs.Common.{◌≡◌, ℕ, suc, ◌+◌, ◌*◌, ◌/◌, ◌%◌, ◌^◌, ◌<◌, eqb, get_or, bit_xor, refl, sym, ap, ◌∙◌, arith, eqb→eq}
+use Rattle.std.proofs.lemmas.Nat.{shr-shr}
 use Rattle.std.specs.Int.Bits.{xor_assoc, xor_zero_l, xor_zero_r}
 use lib.Bits.{xor_shifted}
 use Rattle.standards.proofs.Bytes.{every_below}
+use Rattle.standards.proofs.Products.{times_x_bit, times_x_linear}
 use Rattle.gcm.specs.declared.multiples.TheConstants.{REDUCED}
 use Rattle.standards.specs.Ghash.{product_low, times_x}
 use Rattle.gcm.specs.Multiples.{four, multiple}
-
-pub exchange : (a b c d : ℕ) → bit_xor (bit_xor a b) (bit_xor c d) ≡ bit_xor (bit_xor a c) (bit_xor b d)
-exchange a b c d =
-    xor_assoc a b (bit_xor c d)
-    ∙ ap (λ v. bit_xor a v) (sym (xor_assoc b c d) ∙ ap (λ v. bit_xor v d) (xor_comm b c) ∙ xor_assoc c b d)
-    ∙ sym (xor_assoc a c (bit_xor b d))
-
-reduced_bits : (p q : ℕ) → p < 2 → q < 2
-    → bit_xor p q * 0xe1000000000000000000000000000000 ≡ bit_xor (p * 0xe1000000000000000000000000000000) (q * 0xe1000000000000000000000000000000)
-reduced_bits zero zero h k = refl
-reduced_bits zero (suc zero) h k = refl
-reduced_bits (suc zero) zero h k = refl
-reduced_bits (suc zero) (suc zero) h k = refl
-reduced_bits (suc (suc p)) q h k = absurd (omega arith)
-reduced_bits zero (suc (suc q)) h k = absurd (omega arith)
-reduced_bits (suc zero) (suc (suc q)) h k = absurd (omega arith)
-
-pub linear : (a b : ℕ) → times_x (bit_xor a b) ≡ bit_xor (times_x a) (times_x b)
-unfolding times_x
-linear a b =
-    let r : ℕ = 0xe1000000000000000000000000000000 in
-    ap (λ v. bit_xor v (bit_xor a b % 2 * r)) (xor_shr a b 1)
-    ∙ ap (λ v. bit_xor (bit_xor (a / 2) (b / 2)) (v * r)) (xor_mod a b 1)
-    ∙ ap (λ v. bit_xor (bit_xor (a / 2) (b / 2)) v) (reduced_bits (a % 2) (b % 2) (omega arith) (omega arith))
-    ∙ exchange (a / 2) (b / 2) (a % 2 * r) (b % 2 * r)
 
 pub at_zero : times_x 0 ≡ 0
 unfolding times_x
 at_zero = refl
 
--- the product with a bit
-pub scaled : (b y : ℕ) → b < 2 → times_x (b * y) ≡ b * times_x y
-scaled zero y h =
-    let e : 0 * y ≡ 0 = omega arith in
-    let f : 0 * times_x y ≡ 0 = omega arith in
-    ap times_x e ∙ at_zero ∙ sym f
-scaled (suc zero) y h =
-    let e : 1 * y ≡ y = omega arith in
-    let f : 1 * times_x y ≡ times_x y = omega arith in
-    ap times_x e ∙ sym f
-scaled (suc (suc b)) y h = absurd (omega arith)
-
 pub push : (a b y : ℕ) → b < 2 → times_x (bit_xor a (b * y)) ≡ bit_xor (times_x a) (b * times_x y)
-push a b y h = linear a (b * y) ∙ ap (λ v. bit_xor (times_x a) v) (scaled b y h)
+push a b y h = times_x_linear a (b * y) ∙ ap (λ v. bit_xor (times_x a) v) (times_x_bit b y h)
 
 pub halved : (a : ℕ) → times_x (a * 2) ≡ a
 unfolding times_x
@@ -61,10 +25,10 @@ halved a =
 
 pub four_linear : (a b : ℕ) → four (bit_xor a b) ≡ bit_xor (four a) (four b)
 four_linear a b =
-    ap (λ v. times_x (times_x (times_x v))) (linear a b)
-    ∙ ap (λ v. times_x (times_x v)) (linear (times_x a) (times_x b))
-    ∙ ap times_x (linear (times_x (times_x a)) (times_x (times_x b)))
-    ∙ linear (times_x (times_x (times_x a))) (times_x (times_x (times_x b)))
+    ap (λ v. times_x (times_x (times_x v))) (times_x_linear a b)
+    ∙ ap (λ v. times_x (times_x v)) (times_x_linear (times_x a) (times_x b))
+    ∙ ap times_x (times_x_linear (times_x (times_x a)) (times_x (times_x b)))
+    ∙ times_x_linear (times_x (times_x (times_x a))) (times_x (times_x (times_x b)))
 
 four_high : (a : ℕ) → four (a * 16) ≡ a
 four_high a =

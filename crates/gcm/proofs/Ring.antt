@@ -1,13 +1,15 @@
 -- Products are linear in both factors, and associative.
 use Rattle.std.proofs.Common.{◌≡◌, ℕ, zero, suc, ◌+◌, ◌*◌, ◌/◌, ◌%◌, ◌^◌, ◌<◌, ◌≤◌, eqb, bit_xor, refl, subst, sym, ap, ◌∙◌, arith, eqb→eq}
-use Rattle.std.proofs.lemmas.Nat.{mod_below, pow_pos, shr-shr, shr_below, shr_split, xor_comm, xor_lt, xor_mod, xor_shr}
+use Rattle.std.proofs.lemmas.Nat.{mod_below, pow_pos, shr-shr, shr_below, shr_split, xor_comm, xor_mod, xor_shr}
 use Rattle.std.proofs.lemmas.Nat.Bits.{bit_at-zero, bit_at_cat_low}
-use Rattle.std.specs.Int.Bits.{xor_assoc, xor_self, xor_zero_l, xor_zero_r}
+use Rattle.std.specs.Int.Bits.{xor_assoc, xor_zero_l, xor_zero_r}
 use lib.Bits.{xor_shifted}
 use Rattle.standards.specs.Ghash.{product, product_low, times_x}
 use Rattle.standards.proofs.Bytes.{every_below}
+use Rattle.standards.proofs.Products.{product_low_below, times_x_linear}
+use Rattle.standards.proofs.Xor.{bits_times, exchange}
 use Rattle.gcm.specs.Multiples.{ArePowers, four, horner, multiple, sum4}
-use Rattle.gcm.proofs.FourBits.{at_zero, exchange, four_bits, four_linear, linear, push}
+use Rattle.gcm.proofs.FourBits.{at_zero, four_bits, four_linear, push}
 
 -- one bit more
 one_more : (y x m : ℕ) → product_low y x (suc m) ≡ bit_xor (times_x (product_low y x m)) (x / 2 ^ m % 2 * y)
@@ -27,41 +29,9 @@ at_bit f g o p e (suc zero) h =
     ap f z ∙ e ∙ ap g (sym z)
 at_bit f g o p e (suc (suc b)) h = absurd (omega arith)
 
--- bounds
-step_bound : (v : ℕ) → v < 2 ^ 128 → times_x v < 2 ^ 128
-unfolding times_x
-step_bound v h = xor_lt 128 (v / 2) (v % 2 * 0xe1000000000000000000000000000000) (omega arith) (omega arith)
-
-bit_bound : (b y : ℕ) → b < 2 → y < 2 ^ 128 → b * y < 2 ^ 128
-bit_bound zero y h k = omega arith
-bit_bound (suc zero) y h k = omega arith
-bit_bound (suc (suc b)) y h k = absurd (omega arith)
-
-pub low_bound : (y x m : ℕ) → y < 2 ^ 128 → product_low y x m < 2 ^ 128
-unfolding product_low
-low_bound y x zero h = omega arith
-low_bound y x (suc m) h = xor_lt 128 _ _ (step_bound _ (low_bound y x m h)) (bit_bound (x / 2 ^ m % 2) y (omega arith) h)
-
 -- linear in the first factor
 bit_sum : (a b m : ℕ) → bit_xor a b / 2 ^ m % 2 ≡ bit_xor (a / 2 ^ m % 2) (b / 2 ^ m % 2)
 bit_sum a b m = ap (λ v. v % 2) (xor_shr a b m) ∙ xor_mod (a / 2 ^ m) (b / 2 ^ m) 1
-
-bits_times : (p q y : ℕ) → p < 2 → q < 2 → bit_xor p q * y ≡ bit_xor (p * y) (q * y)
-bits_times zero zero y h k =
-    let e : 0 * y ≡ 0 = omega arith in
-    e ∙ sym (ap (λ v. bit_xor v v) e)
-bits_times zero (suc zero) y h k =
-    let e : 0 * y ≡ 0 = omega arith in
-    sym (ap (λ v. bit_xor v (1 * y)) e ∙ xor_zero_l (1 * y))
-bits_times (suc zero) zero y h k =
-    let e : 0 * y ≡ 0 = omega arith in
-    sym (ap (λ v. bit_xor (1 * y) v) e ∙ xor_zero_r (1 * y))
-bits_times (suc zero) (suc zero) y h k =
-    let e : 0 * y ≡ 0 = omega arith in
-    e ∙ sym (xor_self (1 * y))
-bits_times (suc (suc p)) q y h k = absurd (omega arith)
-bits_times zero (suc (suc q)) y h k = absurd (omega arith)
-bits_times (suc zero) (suc (suc q)) y h k = absurd (omega arith)
 
 pub linear_first : (y a b m : ℕ) → product_low y (bit_xor a b) m ≡ bit_xor (product_low y a m) (product_low y b m)
 unfolding product_low
@@ -70,7 +40,7 @@ linear_first y a b (suc m) =
     let p = a / 2 ^ m % 2 in
     let q = b / 2 ^ m % 2 in
     ap (λ v. bit_xor (times_x v) (bit_xor a b / 2 ^ m % 2 * y)) (linear_first y a b m)
-    ∙ ap (λ v. bit_xor v (bit_xor a b / 2 ^ m % 2 * y)) (linear (product_low y a m) (product_low y b m))
+    ∙ ap (λ v. bit_xor v (bit_xor a b / 2 ^ m % 2 * y)) (times_x_linear (product_low y a m) (product_low y b m))
     ∙ ap (λ v. bit_xor (bit_xor (times_x (product_low y a m)) (times_x (product_low y b m))) v)
     (ap (λ v. v * y) (bit_sum a b m) ∙ bits_times p q y (omega arith) (omega arith))
     ∙ exchange (times_x (product_low y a m)) (times_x (product_low y b m)) (p * y) (q * y)
@@ -109,7 +79,7 @@ power_more n z = refl
 powers_linear : (n a b : ℕ) → powers n (bit_xor a b) ≡ bit_xor (powers n a) (powers n b)
 unfolding powers
 powers_linear zero a b = refl
-powers_linear (suc n) a b = ap times_x (powers_linear n a b) ∙ linear (powers n a) (powers n b)
+powers_linear (suc n) a b = ap times_x (powers_linear n a b) ∙ times_x_linear (powers n a) (powers n b)
 
 -- 1 + x + x^2 + x^7, times z
 abbrev rest : ℕ → ℕ
@@ -178,7 +148,7 @@ unfolding powers
 top8 y u e =
     let z : 0 * y ≡ 0 = omega arith in
     let o : 1 * y ≡ y = omega arith in
-    simp (e, z, o, at_zero, xor_zero_l, xor_zero_r, linear)
+    simp (e, z, o, at_zero, xor_zero_l, xor_zero_r, times_x_linear)
 
 reduced : (y : ℕ) → product_low y 0xe1000000000000000000000000000000 128 ≡ rest y
 unfolding product_low
@@ -229,7 +199,7 @@ associates a h k (suc m) hh hk =
     let b = a / 2 ^ m % 2 in
     let l = product_low h a m in
     linear_first k (times_x l) (b * h) 128
-    ∙ ap (λ v. bit_xor v (product_low k (b * h) 128)) (times_first k l hk (low_bound h a m hh) ∙ ap times_x (associates a h k m hh hk))
+    ∙ ap (λ v. bit_xor v (product_low k (b * h) 128)) (times_first k l hk (product_low_below h a m hh) ∙ ap times_x (associates a h k m hh hk))
     ∙ ap (λ v. bit_xor (times_x (product_low (product_low k h 128) a m)) v) (bit_first k b h 128 (omega arith))
 
 -- the product of a sum
@@ -247,14 +217,14 @@ horner_is h u b c d hh =
     let three = linear_first h (product (bit_xor (product u h) b) h) c 128
     ∙ ap (λ v. bit_xor (product v h) (product c h)) two
     ∙ ap (λ v. bit_xor v (product c h)) (linear_first h (product u h2) (product b h) 128
-    ∙ ap (λ v. bit_xor v (product (product b h) h)) (associates u h2 h 128 (low_bound h h 128 hh) hh)
+    ∙ ap (λ v. bit_xor v (product (product b h) h)) (associates u h2 h 128 (product_low_below h h 128 hh) hh)
     ∙ ap (λ v. bit_xor (product u h3) v) (associates b h h 128 hh hh)) in
     linear_first h (product (bit_xor (product (bit_xor (product u h) b) h) c) h) d 128
     ∙ ap (λ v. bit_xor (product v h) (product d h)) three
     ∙ ap (λ v. bit_xor v (product d h)) (linear_first h (bit_xor (product u h3) (product b h2)) (product c h) 128
     ∙ ap (λ v. bit_xor v (product (product c h) h)) (linear_first h (product u h3) (product b h2) 128
-    ∙ ap (λ v. bit_xor v (product (product b h2) h)) (associates u h3 h 128 (low_bound h h2 128 hh) hh)
-    ∙ ap (λ v. bit_xor (product u (product h3 h)) v) (associates b h2 h 128 (low_bound h h 128 hh) hh))
+    ∙ ap (λ v. bit_xor v (product (product b h2) h)) (associates u h3 h 128 (product_low_below h h2 128 hh) hh)
+    ∙ ap (λ v. bit_xor (product u (product h3 h)) v) (associates b h2 h 128 (product_low_below h h 128 hh) hh))
     ∙ ap (λ v. bit_xor (bit_xor (product u (product h3 h)) (product b h3)) v) (associates c h h 128 hh hh))
 
 pub by_powers : (h h2 h3 h4 u b c d : ℕ) → ArePowers h h2 h3 h4 → sum4 (product u h4) (product b h3) (product c h2) (product d h) ≡ horner h u b c d

@@ -1,13 +1,22 @@
 //! The primitives of a keyset of test keys.
 
+ghost use Rattle.std.specs.Prelude.{Some, IsTrue, filter};
+ghost use Rattle.std.specs.List.{list_all};
+ghost use Rattle.keyset_model.specs.Keys.{is_enabled};
+ghost use Rattle.keyset_model.specs.Validity.{is_well_formed};
+ghost use Rattle.tink_building.specs.Built.{GivesSet, IsSetOf, built_entry};
+ghost use Rattle.tink_building.specs.Given.{given_each};
+ghost use Rattle.tink_sets.specs.Entries.{entry_of};
+
 use crate::expecting::expect;
 use std::alloc::Global;
 use std::test::Fail;
+use tink_building::build_set;
 use tink_io::{Kind, TinkError};
 use tink_keysets::keyset::Handle;
 use tink_primitives::Primitive;
 use tink_proto::{Key, OutputPrefixType};
-use tink_registry::Registry;
+use tink_registry::{KeyManager, Registry};
 use tink_sets::{Entry, PrimitiveSet};
 use tink_testutil::{
     TestKinds, TestManager, URL, bare, enabled_key, handle_of, key, kind_of, registry_of,
@@ -24,6 +33,23 @@ const STRICT: TestManager = TestManager {
     private: false,
     any_length: false,
 };
+
+// The set of what the enabled keys build, with the primary entry of the id. The given manager alone decides each key
+// for whose URL its `does_support` says true, and a registry's manager each other one.
+pub fn set_of_keys<M: KeyManager>(
+    alloc: Global,
+    keys: &[Key],
+    id: u32,
+    registry: &Registry<M>,
+    km: &M,
+) -> Result<PrimitiveSet<M::Family>, TinkError>
+    requires { IsTrue (list_all is_well_formed keys.now) }
+    ensures { GivesSet (IsSetOf id) result (given_each
+        (built_entry M.url M.supports M.builds entry_of registry.now.managers (Some km.now))
+        (filter is_enabled keys.now)) }
+{
+    build_set(alloc, keys, id, registry, Some(km))
+}
 
 // Whether there is one entry, of the id and the key's value.
 fn is_entry(entries: &[Entry<TestKinds>], id: u32, want: &[u8]) -> bool {

@@ -4,6 +4,7 @@ ghost use Rattle.std.specs.Prelude.{◌≡◌, ◌≤◌, length};
 ghost use Rattle.tink_segments.specs.SegmentKeys.{overhead_under};
 ghost use Rattle.tink_segments.specs.StreamSegments.{nonce_length_by};
 
+use crate::callers::segment_by_gcm;
 use crate::comparing::{expect, expect_bytes};
 use hash_keys::Hash;
 use std::alloc::Global;
@@ -111,10 +112,6 @@ fn expect_made(rt: &impl Abort, made: Bytes, want: &[u8], label: &str) {
     expect_bytes(rt, made.as_slice(), want, label);
 }
 
-fn small_sealed(alloc: Global) -> Result<Bytes, TinkError> {
-    GcmSegment::new(&SMALL_KEY).encrypt_segment(alloc, TEXT, &NONCE)
-}
-
 fn small_opened(alloc: Global) -> Result<Bytes, TinkError> {
     GcmSegment::new(&SMALL_KEY).decrypt_segment(alloc, &SMALL, &NONCE)
 }
@@ -122,7 +119,12 @@ fn small_opened(alloc: Global) -> Result<Bytes, TinkError> {
 #[test]
 fn segments_in_memory_of_their_own(rt: HostRuntime) -> Result<(), Fail> {
     let alloc = rt.alloc();
-    expect_made(&rt, small_sealed(alloc)?, &SMALL, "the segment");
+    expect_made(
+        &rt,
+        segment_by_gcm(alloc, &SMALL_KEY, &NONCE, TEXT)?,
+        &SMALL,
+        "the segment",
+    );
     expect_made(&rt, small_opened(alloc)?, TEXT, "the text");
     Ok(())
 }

@@ -2,6 +2,8 @@
 #![tactic(auto)]
 
 #[cfg(test)]
+mod callers;
+#[cfg(test)]
 mod comparing;
 #[cfg(test)]
 mod ctr_hmac_tests;

@@ -1,13 +1,12 @@
 -- A stream of a key without its output prefix, and the same behind the prefix.
-use Rattle.std.proofs.Common.{◌≡◌, ◌∙◌, ◌+◌, ◌-◌, ℕ, Bool, true, false, List, [], ◌∷◌, ◌++◌, length, take, drop, refl, sym, ap, subst, arith, Some, ◌&&◌, nat_eq, slice_index, bytes_eq, length-append, length-drop, get_or}
-use Rattle.std.specs.declared.option.Option.{Option}
+use Rattle.std.proofs.Common.{◌≡◌, ◌∙◌, ◌+◌, ◌-◌, ℕ, Bool, true, false, List, [], ◌++◌, length, take, drop, refl, sym, ap, subst, arith, ◌&&◌, nat_eq, slice_index, bytes_eq, length-append}
 use Rattle.std.specs.Cmp.Lexicographic.{bytes_decides}
 use Rattle.std.proofs.lemmas.Bool.{false≢true}
 use Rattle.std.proofs.lemmas.Bool.Decides.{nat_tests}
-use Rattle.std.proofs.lemmas.List.{drop-drop, get_or-drop, get_or-append-add}
+use Rattle.std.proofs.lemmas.List.{get_or-drop, get_or-append-add}
 use Rattle.std.proofs.Math.Seq.{drop-append-add, drop-append_seam, take-append_seam}
 use Rattle.stream_model.specs.Key.{StreamKey, fronted, header_length}
-use Rattle.stream_model.specs.Opening.{AreSegmentsBy, HasFront, IsStream, OpeningKey, begins_front, behind_front, front_length, header_of, opening_key}
+use Rattle.stream_model.specs.Opening.{AreSegmentsBy, HasFront, IsStream, OpeningKey, behind_front, header_of, opening_key}
 
 both_true : (a b : Bool) → (a && b) ≡ true → (a ≡ true) × (b ≡ true)
 both_true true b e = (refl, e)

@@ -7,3 +7,4 @@ pub mod KeyMost
 pub mod FrontFacts
 pub mod WrappedFacts
 pub mod OneKeyFacts
+pub mod PrefixFacts

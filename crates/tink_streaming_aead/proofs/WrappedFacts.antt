@@ -1,5 +1,5 @@
 -- What a set of entries has, by its entries.
-use Rattle.std.proofs.Common.{◌≡◌, ◌∙◌, ◌++◌, ℕ, List, [], ◌∷◌, Bool, true, false, cond, map, filter, All, Some, None, refl, sym, ap, subst, bytes_eq, ⊎_elim, unwrap_or, Option}
+use Rattle.std.proofs.Common.{◌≡◌, ◌∙◌, ◌++◌, ℕ, List, [], ◌∷◌, Bool, true, false, cond, filter, All, Some, None, refl, sym, ap, subst, bytes_eq, ⊎_elim, unwrap_or, Option}
 use Rattle.std.specs.Prelude.{Vec}
 use Rattle.std.specs.declared.cmp.Ordering.{Ordering}
 use Rattle.std.specs.declared.cmp.Ordering.TheVariants.{Less}
@@ -8,21 +8,22 @@ use Rattle.std.specs.Cmp.Lexicographic.{slice_cmp, bytes_decides, nat_list_eq_eq
 use Rattle.std.specs.List.Sorted.{IsStrictlySortedBy}
 use Rattle.std.specs.Map.{keys_of, lookup, values_of}
 use Rattle.std.specs.Ordering.{is_eq, nat_cmp}
-use Rattle.std.proofs.lemmas.Bool.{cases_Bool, cond-true, cond-false, false≢true}
+use Rattle.std.proofs.lemmas.Bool.{cases_Bool, cond-true, cond-false}
 use Rattle.std.proofs.lemmas.List.{append-nil}
-use Rattle.std.proofs.lemmas.List.Elements.{All-head, All-tail, All-weaker, filter-append, filter_passes}
+use Rattle.std.proofs.lemmas.List.Elements.{All-append, All-cons, All-filter, All-head, All-map, All-nil, All-tail, All-weaker, filter-append, filter_passes}
 use Rattle.std.proofs.lemmas.Map.Keys.{sorted_tail}
 use Rattle.std.proofs.lemmas.Map.Views.{All-after_first}
 use Rattle.std.proofs.lemmas.Map.Text.{is_eq-slice_cmp}
-use Rattle.stream_model.specs.Key.{StreamKey}
-use Rattle.stream_model.specs.Order.{with_prefix}
+use Rattle.stream_model.specs.Key.{StreamKey, IsUsable}
+use Rattle.stream_model.specs.Order.{IsOfKeyset, with_prefix}
+use Rattle.stream_model.proofs.OrderFacts.{choose_the_same}
 use Rattle.tink_keysets.specs.Built.{HasEntries}
-use Rattle.tink_sets.specs.Entries.{entry_of_id, typed_prefix_of}
-use Rattle.tink_sets.specs.Groups.{AreGroupsOf, group_at, group_of}
+use Rattle.tink_sets.specs.Entries.{typed_prefix_of}
+use Rattle.tink_sets.specs.Groups.{AreGroupsOf, group_at}
 use Rattle.tink_sets.specs.declared.entry.TypedEntry.{TypedEntry}
 use Rattle.tink_stream_keys.specs.StreamKinds.{key_in_set}
 use Rattle.tink_stream_keys.specs.declared.stream_kind.StreamKind.{StreamKind}
-use Rattle.tink_streaming_aead.specs.Wrapped.{AreKeysOf, KeepsOrder, all_entries, joined_lists, key_in, keys_in, set_keys}
+use Rattle.tink_streaming_aead.specs.Wrapped.{AreKeysOf, ChoosesInOrder, HasOutputPrefix, KeepsOrder, KeepsPrefixes, all_entries, joined_lists, key_in, keys_in, set_keys}
 
 abbrev One : Type 0
 One = TypedEntry StreamKind
@@ -30,6 +31,9 @@ One = TypedEntry StreamKind
 -- whether an entry has the prefix
 abbrev has : List ℕ → One → Bool
 has prefix e = bytes_eq e.prefix prefix
+
+abbrev EntryHasPrefix : One → Type 0
+EntryHasPrefix e = HasOutputPrefix (key_in_set e)
 
 -- the keys of a prefix are those of its entries
 filtered_keys : (prefix : List ℕ) (es : List One) → with_prefix prefix (keys_in es) ≡ keys_in (filter (has prefix) es)
@@ -108,10 +112,13 @@ module _ {A : Type 0} where
   abbrev IsFound : BTreeMap (Vec ℕ A) (List One) → Vec ℕ A × List One → Type 0
   IsFound m e = group_at m e.0.items ≡ Some e.1
 
+  list_is : (entries : List One) (m : BTreeMap (Vec ℕ A) (List One)) → AreGroupsOf typed_prefix_of entries m → (e : Vec ℕ A × List One) → IsFound m e
+      → filter (has e.0.items) entries ≡ e.1
+  list_is entries m groups e found = sym (groups e.0.items) ∙ ap (λ o. unwrap_or o []) found
+
   pure_of : (entries : List One) (m : BTreeMap (Vec ℕ A) (List One)) → AreGroupsOf typed_prefix_of entries m → (e : Vec ℕ A × List One) → IsFound m e → IsPure e
   pure_of entries m groups e found =
-      let is : e.1 ≡ filter (has e.0.items) entries = sym (ap (λ o. unwrap_or o []) found) ∙ groups e.0.items in
-      subst (All (λ x. x.prefix ≡ e.0.items)) (sym is)
+      subst (All (λ x. x.prefix ≡ e.0.items)) (list_is entries m groups e found)
       (All-weaker (λ x. has e.0.items x ≡ true) (λ x. x.prefix ≡ e.0.items) (λ x p. (bytes_decides x.prefix e.0.items).0 p) (filter (has e.0.items) entries) (filter_passes (has e.0.items) entries))
 
   -- all entries of a set are those that it has, those of one prefix in their order
@@ -121,7 +128,34 @@ module _ {A : Type 0} where
       ∙ ap keys_in (joined_has m.entries ordered (All-weaker (IsFound m) IsPure (pure_of entries m groups) m.entries found) prefix ∙ groups prefix)
       ∙ sym (filtered_keys prefix entries)
 
+  abbrev AllHavePrefix : Vec ℕ A × List One → Type 0
+  AllHavePrefix e = All EntryHasPrefix e.1
+
+  joined_have : (es : List (Vec ℕ A × List One)) → All AllHavePrefix es → All EntryHasPrefix (joined_lists (values_of es))
+  joined_have [] all = All-nil EntryHasPrefix
+  joined_have (e ∷ es) all =
+      All-append EntryHasPrefix e.1 (joined_lists (values_of es)) (All-head AllHavePrefix e es all) (joined_have es (All-tail AllHavePrefix e es all))
+
+  -- and their prefixes are those of the entries
+  pub keeps_prefixes : (m : BTreeMap (Vec ℕ A) (List One)) → All (IsFound m) m.entries → KeepsPrefixes m
+  keeps_prefixes m found entries groups all =
+      let each : (e : Vec ℕ A × List One) → IsFound m e → AllHavePrefix e =
+      λ e there. subst (All EntryHasPrefix) (list_is entries m groups e there) (All-filter (has e.0.items) EntryHasPrefix entries all)
+      in
+      All-map HasOutputPrefix key_in_set (all_entries m) (joined_have m.entries (All-weaker (IsFound m) AllHavePrefix each m.entries found))
+
   -- the keys of a set of entries are those of the entries
   pub keys_kept : (id : ℕ) (entries : List One) (primary : Option One) (groups : BTreeMap (Vec ℕ A) (List One)) → KeepsOrder groups
       → HasEntries typed_prefix_of (λ e. e.key_id) id entries primary groups → AreKeysOf id entries (set_keys primary groups)
   keys_kept id entries primary groups order h = record { primary = ap key_in h.by_id; order = order entries h.by_prefix }
+
+are_of_keyset : (keys : List StreamKey) → All HasOutputPrefix keys → All IsUsable keys → All IsOfKeyset keys
+are_of_keyset [] prefixes usable = All-nil IsOfKeyset
+are_of_keyset (k ∷ keys) prefixes usable =
+    All-cons IsOfKeyset k keys (record { usable = All-head IsUsable k keys usable; out = All-head HasOutputPrefix k keys prefixes })
+    (are_of_keyset keys (All-tail HasOutputPrefix k keys prefixes) (All-tail IsUsable k keys usable))
+
+pub chooses_in_order : ChoosesInOrder
+chooses_in_order id entries w aad X chosen are prefixes usable =
+    let same = choose_the_same aad X (keys_in entries) w.keys chosen (are_of_keyset w.keys prefixes usable) (λ prefix. sym (are.order prefix)) in
+    (same.1, same.0)

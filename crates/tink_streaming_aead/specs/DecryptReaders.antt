@@ -51,6 +51,11 @@ abbrev pub largest : List StreamKey → ℕ
 largest [] = 0
 largest (k ∷ keys) = max (length k.out + k.segment) (largest keys)
 
+-- the largest segment of some keys
+abbrev pub largest_segment : List StreamKey → ℕ
+largest_segment [] = 0
+largest_segment (k ∷ keys) = max k.segment (largest_segment keys)
+
 abbrev pub IsUnread : {S : Type 0} → DecryptState S → Type 0
 IsUnread (Unread keys aad room source) = Unit {0}
 IsUnread _ = ⊥

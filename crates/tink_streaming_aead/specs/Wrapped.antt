@@ -1,8 +1,9 @@
 -- The streaming AEADs of a keyset as one.
-use Rattle.std.specs.Prelude.{◌≡◌, ◌++◌, ◌∷◌, ℕ, List, [], Vec, map, Option, Some, None}
+use Rattle.std.specs.Prelude.{◌≡◌, ◌↔◌, ◌++◌, ◌∷◌, ℕ, List, [], Vec, map, All, Option, Some, None}
 use Rattle.std.specs.BTreeMap.{BTreeMap, values}
-use Rattle.stream_model.specs.Key.{StreamKey}
-use Rattle.stream_model.specs.Order.{HaveSameOrder}
+use Rattle.stream_model.specs.Key.{StreamKey, IsUsable}
+use Rattle.stream_model.specs.Opening.{IsChosen, OpeningKey, opening_key}
+use Rattle.stream_model.specs.Order.{HaveSameOrder, IsOutputPrefix}
 use Rattle.tink_sets.specs.Entries.{entry_of_id, typed_prefix_of}
 use Rattle.tink_sets.specs.Groups.{AreGroupsOf}
 use Rattle.tink_sets.specs.declared.entry.TypedEntry.{TypedEntry}
@@ -43,6 +44,16 @@ KeepsOrder groups =
     (entries : List (TypedEntry StreamKind)) → AreGroupsOf typed_prefix_of entries groups
     → HaveSameOrder (keys_in (all_entries groups)) (keys_in entries)
 
+-- what stands before the header of a key's streams is an output prefix
+abbrev pub HasOutputPrefix : StreamKey → Type 0
+HasOutputPrefix k = IsOutputPrefix k.out
+
+-- whichever entries a set has, where they have output prefixes, so have all that it has
+abbrev pub KeepsPrefixes : {G : Type 0} → BTreeMap (Vec ℕ G) (List (TypedEntry StreamKind)) → Type 0
+KeepsPrefixes groups =
+    (entries : List (TypedEntry StreamKind)) → AreGroupsOf typed_prefix_of entries groups
+    → All (λ e. HasOutputPrefix (key_in_set e)) entries → All HasOutputPrefix (keys_in (all_entries groups))
+
 -- what a set of entries has
 abbrev pub set_keys : {G : Type 0} → Option (TypedEntry StreamKind) → BTreeMap (Vec ℕ G) (List (TypedEntry StreamKind)) → Wrapped
 set_keys primary groups = record { primary = key_in primary; keys = keys_in (all_entries groups) }
@@ -51,3 +62,11 @@ set_keys primary groups = record { primary = key_in primary; keys = keys_in (all
 pub record AreKeysOf (id : ℕ) (entries : List (TypedEntry StreamKind)) (w : Wrapped) : Type 0 where
   pub primary : w.primary ≡ key_in (entry_of_id id entries)
   pub order : HaveSameOrder w.keys (keys_in entries)
+
+-- of the keys of a list of entries the one is chosen for a stream that is the first in the order of the list under which
+-- the stream begins
+abbrev pub ChoosesInOrder : Type 0
+ChoosesInOrder =
+    (id : ℕ) (entries : List (TypedEntry StreamKind)) (w : Wrapped) (aad X : List ℕ) (chosen : Option OpeningKey)
+    → AreKeysOf id entries w → All HasOutputPrefix w.keys → All IsUsable w.keys
+    → IsChosen (map (opening_key aad) w.keys) X chosen ↔ IsChosen (map (opening_key aad) (keys_in entries)) X chosen

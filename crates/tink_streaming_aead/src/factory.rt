@@ -8,11 +8,11 @@ ghost use Rattle.tink_primitives.specs.Sorts.{as_streaming_aead};
 ghost use Rattle.tink_sets.specs.Entries.{entry_of};
 ghost use Rattle.tink_keysets.specs.Built.{built_entries, GivesSet};
 ghost use Rattle.tink_factory.specs.Typing.{typed_entries};
-ghost use Rattle.tink_streaming_aead.specs.DecryptReaders.{largest};
+ghost use Rattle.tink_streaming_aead.specs.DecryptReaders.{largest, largest_segment, room_of};
 ghost use Rattle.tink_streaming_aead.specs.DecryptReaders.DecryptState.{Unread};
 ghost use Rattle.tink_stream_keys.specs.Encrypting.{NewWriterMeans, sink_of};
 ghost use Rattle.tink_stream_keys.specs.StreamKinds.{key_in_set};
-ghost use Rattle.tink_streaming_aead.specs.Wrapped.{AreKeysOf, ByPrimary, KeepsOrder, all_entries, keys_in};
+ghost use Rattle.tink_streaming_aead.specs.Wrapped.{AreKeysOf, ByPrimary, HasOutputPrefix, KeepsOrder, KeepsPrefixes, all_entries, keys_in};
 
 use crate::decrypt_reader::{Choice, DecryptReader};
 use std::alloc::Global;
@@ -36,6 +36,7 @@ use tink_streams::Writer;
 pub struct WrappedStreamingAead {
     ps: TypedPrimitiveSet<StreamKind>,
     ghost has_primary: { is_some ps.primary ≡ true },
+    ghost most: { largest (keys_in (all_entries ps.entries)) ≤ largest_segment (keys_in (all_entries ps.entries)) + 5 },
 }
 
 impl Model for WrappedStreamingAead {
@@ -58,9 +59,10 @@ pub fn new<M: KeyManager>(
 ) -> Result<WrappedStreamingAead, TinkError>
 where
     M::Family: Kinds<StreamingAead = StreamKind>,
-    ensures { GivesSet (AreKeysOf h.now.primary_key_id) result (
+    ensures set { GivesSet (AreKeysOf h.now.primary_key_id) result (
         typed_entries as_streaming_aead h.now.primary_key_id (built_entries M.url M.supports M.builds entry_of
         registry.now.managers None h.now)) }
+    ensures prefixes { IfOk result (λ w. All HasOutputPrefix w.keys) }
 {
     match typed_primitives::<M, StreamingAeads>(alloc, h, registry) {
         Ok(ps) => {
@@ -71,9 +73,10 @@ where
     }
 }
 
-// The lists of a set are of one prefix each, so that all entries are in order prefix by prefix.
+// The lists of a set are of one prefix each, so that all entries are in order prefix by prefix, and are what the set has.
 fn keeps_order(ps: &TypedPrimitiveSet<StreamKind>)
-    ensures { KeepsOrder ps.now.entries }
+    ensures order { KeepsOrder ps.now.entries }
+    ensures prefixes { KeepsPrefixes ps.now.entries }
 {
     let _ = (&ps.entries).into_iter();
 }
@@ -221,8 +224,8 @@ impl WrappedStreamingAead {
     }
 
     /// A reader of the stream in `r` by all keys, those of one prefix in their order, of which it has copies. Nothing is
-    /// read, and all memory is taken: as long as no key is chosen, a byte more than the largest of their segments is
-    /// kept at most, with the output prefix before it.
+    /// read, and all memory is taken: a byte more than the largest of their segments with the output prefix before it
+    /// may be kept, which is at most six bytes more than the largest segment.
     ///
     /// # Errors
     /// `OutOfMemory`, which hands back `r`.
@@ -234,6 +237,7 @@ impl WrappedStreamingAead {
     ) -> Result<DecryptReader<S>, Refused<S>>
         ensures unread { IfOk result (λ made. made ≡ Unread self.now.keys additional_data.now
             (largest self.now.keys + 1) r) }
+        ensures room { IfOk result (λ made. room_of made ≤ largest_segment self.now.keys + 6) }
         ensures usable { IfOk result (λ _. All IsUsable self.now.keys) }
         ensures cause { IfErr result (λ refused. refused.error.kind ≡ OutOfMemory) }
         ensures inner { IfErr result (λ refused. refused.inner ≡ r) }
@@ -274,6 +278,7 @@ impl<S: Source + Drop, K: Sink + Drop> StreamingAead<S, K> for WrappedStreamingA
     ) -> Result<DecryptReader<S>, Refused<S>>
         ensures unread { IfOk result (λ made. made ≡ Unread self.now.keys additional_data.now
             (largest self.now.keys + 1) r) }
+        ensures room { IfOk result (λ made. room_of made ≤ largest_segment self.now.keys + 6) }
         ensures usable { IfOk result (λ _. All IsUsable self.now.keys) }
         ensures cause { IfErr result (λ refused. refused.error.kind ≡ OutOfMemory) }
         ensures inner { IfErr result (λ refused. refused.inner ≡ r) }

@@ -13,6 +13,7 @@ ghost use Rattle.tink_streaming_aead.specs.DecryptReaders.{GivesFirst};
 ghost use Rattle.tink_stream_keys.specs.Decrypting.{IsNewReader};
 ghost use Rattle.tink_stream_keys.specs.Encrypting.{IsNewStream};
 ghost use Rattle.tink_streaming_aead.specs.OneKey.{FirstReadIsOk, ReadsAsAlone, ReadsAsReader};
+ghost use Rattle.tink_streaming_aead.specs.Wrapped.{ChoosesInOrder};
 ghost use Rattle.tink_streaming_aead.specs.WholeReading.{IsTextOfChosen, IsTextOfStream};
 
 use tink_io::Source;
@@ -53,6 +54,14 @@ pub fn law_one_key<S: Source>()
     // It is then that of a new reader of the key on what is behind the key's output prefix, which has read a header and
     // no more. Each later read is that of this reader, by `DecryptReader::read`.
     ensures reader { ReadsAsReader }
+{}
+
+/// Of the keys of a keyset's streaming AEADs the one that is chosen for a stream is the first in the order of the keyset
+/// under which the stream begins, though they are tried prefix by prefix. That they have output prefixes is a clause of
+/// `new`, and that they are usable one of `new_decrypting_reader`.
+#[tactic(auto, using(crate::proofs::WrappedFacts::chooses_in_order))]
+pub fn law_keyset_order()
+    ensures { ChoosesInOrder }
 {}
 
 /// What reads up to the end have given: of a key's reader, the whole source was a stream of the key without an output

@@ -1,20 +1,20 @@
-//! A handle of a template, whose streams are written and read in pieces, and a writer that is dropped.
+//! Handles of the templates, whose streams are written and read in pieces, and a writer that is dropped.
 
-use crate::comparing::expect_bytes;
+use crate::comparing::{expect, expect_bytes};
 use crate::one_of::Streams;
-use crate::streams::{give_into, reader_by, registry};
+use crate::streams::{TEXT, give_into, reader_by, registry};
 use std::alloc::Global;
 use std::process::Abort;
 use std::test::Fail;
 use tink_core::keyset::Handle;
 use tink_core::registry::Registry;
 use tink_io::{Kind, Lent, MemSink, TinkError};
-use tink_proto::KeyTemplate;
+use tink_proto::{KeyTemplate, OutputPrefixType};
 use tink_streaming_aead::{
     StreamSegment, WrappedStreamingAead, Writer, aes128_ctr_hmac_sha256_segment_4kb_key_template,
     aes128_gcm_hkdf_4kb_key_template, new,
 };
-use tink_testutil::draws_of;
+use tink_testutil::{draws_of, template};
 
 // The streaming AEADs of a handle of a template, whose keys are drawn as sevens.
 fn aeads(alloc: Global, kt: &KeyTemplate) -> Result<WrappedStreamingAead, TinkError> {
@@ -56,7 +56,7 @@ fn writer_into<'a>(
     sink: &'a mut MemSink,
 ) -> Result<Writer<Lent<'a, MemSink>, StreamSegment>, TinkError> {
     sink.reserve(alloc, 9000)?;
-    let mut draws = draws_of(alloc, &[9; 23])?;
+    let mut draws = draws_of(alloc, &[9; 39])?;
     match aeads.new_encrypting_writer(alloc, &mut draws, Lent(sink), b"data") {
         Ok(writer) => Ok(writer),
         Err(refused) => Err(refused.error),
@@ -131,8 +131,7 @@ fn open_into(
     stream: &[u8],
     text: &mut Vec<u8>,
 ) -> Result<Option<Kind>, TinkError> {
-    let mut reader = reader_by(alloc, &aeads(alloc, kt)?, stream, &[])?;
-    give_into(&mut reader, text)
+    open_by(alloc, &aeads(alloc, kt)?, stream, text)
 }
 
 // Whether these are the first bytes of the text.
@@ -175,4 +174,102 @@ fn a_dropped_writer_leaves_no_marked_segment(rt: HostRuntime) -> Result<(), Fail
 fn expect_front(rt: &impl Abort, front: &[u8], stream: &[u8]) {
     assert!(rt; front.len() == 4096 && stream.len() == 4129);
     expect_bytes(rt, front, stream.get(..4096).unwrap_or(&[]), "the front");
+}
+
+// A template's name, how many bytes the stream of 60 bytes of text has without a prefix, which are those of the header,
+// the text and a tag, and the length of the header, with which it begins.
+const STREAMS: [(&str, usize, u8); 8] = [
+    ("AES128_CTR_HMAC_SHA256_4KB", 116, 24),
+    ("AES128_CTR_HMAC_SHA256_1MB", 116, 24),
+    ("AES256_CTR_HMAC_SHA256_4KB", 132, 40),
+    ("AES256_CTR_HMAC_SHA256_1MB", 132, 40),
+    ("AES128_GCM_HKDF_4KB", 100, 24),
+    ("AES128_GCM_HKDF_1MB", 100, 24),
+    ("AES256_GCM_HKDF_4KB", 116, 40),
+    ("AES256_GCM_HKDF_1MB", 116, 40),
+];
+
+// The prefix of each type, where the id is drawn as sevens.
+const PREFIXES: [(OutputPrefixType, &[u8]); 4] = [
+    (OutputPrefixType::Tink, b"\x01\x07\x07\x07\x07"),
+    (OutputPrefixType::Legacy, b"\0\x07\x07\x07\x07"),
+    (OutputPrefixType::Crunchy, b"\0\x07\x07\x07\x07"),
+    (OutputPrefixType::Raw, b""),
+];
+
+// The streaming AEADs of a handle of the template of a name, with a prefix of this type.
+fn aeads_named(
+    alloc: Global,
+    name: &str,
+    prefix: OutputPrefixType,
+) -> Result<WrappedStreamingAead, TinkError> {
+    let registry = registry(alloc)?;
+    let kt = with_prefix(alloc, &registry, name, prefix)?;
+    aeads_by(alloc, &kt, &registry)
+}
+
+fn with_prefix(
+    alloc: Global,
+    registry: &Registry<Streams>,
+    name: &str,
+    prefix: OutputPrefixType,
+) -> Result<KeyTemplate, TinkError> {
+    match registry.get_template_generator(name) {
+        Some(kt) => template(
+            alloc,
+            kt.type_url.as_str(),
+            kt.value.as_slice(),
+            prefix as i32,
+        ),
+        None => Err(TinkError::new(Kind::UnknownTemplate)),
+    }
+}
+
+// Whether a stream of the text by these keys begins so, and whether they open it to the text; how long it is.
+fn sealed_and_opened(
+    alloc: Global,
+    aeads: &WrappedStreamingAead,
+    out: &[u8],
+    header: u8,
+) -> Result<(usize, bool, bool), TinkError> {
+    let stream = written(alloc, aeads, TEXT, true)?;
+    let mut text = Vec::new(alloc);
+    let refused = open_by(alloc, aeads, &stream, &mut text)?;
+    let begins = stream.starts_with(out) && stream.get(out.len()) == Some(&header);
+    Ok((
+        stream.len(),
+        begins,
+        refused.is_none() && text.as_slice() == TEXT.as_slice(),
+    ))
+}
+
+fn open_by(
+    alloc: Global,
+    aeads: &WrappedStreamingAead,
+    stream: &[u8],
+    text: &mut Vec<u8>,
+) -> Result<Option<Kind>, TinkError> {
+    let mut reader = reader_by(alloc, aeads, stream, &[])?;
+    give_into(&mut reader, text)
+}
+
+// What comes of a template with a prefix.
+fn told(
+    alloc: Global,
+    name: &str,
+    header: u8,
+    (prefix, out): (OutputPrefixType, &[u8]),
+) -> Result<(usize, bool, bool), TinkError> {
+    let aeads = aeads_named(alloc, name, prefix)?;
+    sealed_and_opened(alloc, &aeads, out, header)
+}
+
+#[test]
+fn each_template_seals_and_opens_with_each_prefix(rt: HostRuntime) {
+    for (name, length, header) in &STREAMS {
+        for row in &PREFIXES {
+            let want = Ok((*length + row.1.len(), true, true));
+            expect(&rt, told(rt.alloc(), name, *header, *row), want, name);
+        }
+    }
 }

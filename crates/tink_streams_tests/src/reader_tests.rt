@@ -284,9 +284,7 @@ fn an_empty_buffer_reads_nothing(rt: HostRuntime) -> Result<(), Fail> {
 // Why no reader is made with these sizes. Nonces have 16 bytes, or 11.
 fn refusal(
     alloc: Global,
-    is_short: bool,
-    size: u32,
-    offset: u32,
+    (is_short, size, offset): (bool, u32, u32),
 ) -> Result<Option<Kind>, TinkError> {
     let nonce_size = if is_short { 11 } else { 16 };
     let prefix = [3u8; 7].to_vec(alloc)?;
@@ -298,36 +296,21 @@ fn refusal(
     }
 }
 
-// That the sizes are refused so.
-fn expect_refusal(
-    rt: &impl Abort,
-    alloc: Global,
-    is_short: bool,
-    size: u32,
-    offset: u32,
-    wanted: Option<Kind>,
-) -> Result<(), TinkError> {
-    let told = refusal(alloc, is_short, size, offset)?;
-    expect(rt, told, wanted, "the refusal");
-    Ok(())
-}
+// Whether nonces have 11 bytes, the sizes of a segment and of its offset, and why no reader is made with them.
+const SIZES: [((bool, u32, u32), Option<Kind>); 8] = [
+    ((true, 30, 31), Some(Kind::NonceTooShort)),
+    ((true, 30, 10), Some(Kind::NonceTooShort)),
+    ((false, 30, 31), Some(Kind::OffsetTooBig)),
+    ((false, 30, 30), Some(Kind::SegmentTooSmall)),
+    ((false, 30, 20), Some(Kind::SegmentTooSmall)),
+    ((false, 0, 0), Some(Kind::SegmentTooSmall)),
+    ((false, 30, 19), None),
+    ((false, 11, 0), None),
+];
 
 #[test]
-fn sizes_of_a_reader_without_room_are_refused(rt: HostRuntime) -> Result<(), Fail> {
-    let alloc = rt.alloc();
-    expect_refusal(&rt, alloc, true, 30, 31, Some(Kind::NonceTooShort))?;
-    expect_refusal(&rt, alloc, true, 30, 10, Some(Kind::NonceTooShort))?;
-    expect_refusal(&rt, alloc, false, 30, 31, Some(Kind::OffsetTooBig))?;
-    expect_refusal(&rt, alloc, false, 30, 30, Some(Kind::SegmentTooSmall))?;
-    expect_refusal(&rt, alloc, false, 30, 20, Some(Kind::SegmentTooSmall))?;
-    expect_refusal(&rt, alloc, false, 0, 0, Some(Kind::SegmentTooSmall))?;
-    Ok(())
-}
-
-#[test]
-fn sizes_of_a_reader_with_room_are_taken(rt: HostRuntime) -> Result<(), Fail> {
-    let alloc = rt.alloc();
-    expect_refusal(&rt, alloc, false, 30, 19, None)?;
-    expect_refusal(&rt, alloc, false, 11, 0, None)?;
-    Ok(())
+fn a_reader_has_room_or_is_refused(rt: HostRuntime) {
+    for (sizes, wanted) in SIZES {
+        expect(&rt, refusal(rt.alloc(), sizes), Ok(wanted), "the refusal");
+    }
 }
