@@ -1,5 +1,5 @@
 -- From what a reader finds and a writer makes to keys.
-use Rattle.std.proofs.Common.{◌≡◌, ◌+◌, inl, inr, ◌≤◌, ◌<◌, ◌^◌, ℕ, Bool, List, [], ◌++◌, length, refl, sym, subst, ap, arith, Some, None, IfSome}
+use Rattle.std.proofs.Common.{◌≡◌, ◌+◌, inl, inr, ◌≤◌, ◌<◌, ℕ, Bool, List, [], length, refl, subst, arith, Some, None, IfSome}
 use Rattle.std.specs.declared.option.Option.{Option}
 use Rattle.std.specs.Prelude.{Result, Ok, Err}
 use Rattle.std.specs.Io.KnownBytes.{Appends, Keeps}

@@ -12,7 +12,7 @@ use Rattle.tink_io.specs.declared.error.Kind.{Kind}
 use Rattle.tink_io.specs.declared.error.Kind.TheVariants.{ReadFault, WriteFault, TooManySegments, NoMatchingKey, BadSegment, Truncated, FailedBefore}
 use Rattle.tink_io.specs.declared.error.Kind.TheVariants as kind
 use Rattle.tink_io.specs.declared.error.TinkError.{TinkError}
-use Rattle.stream_model.specs.Cut.{chunks, full_chunks, sealed, unmarked}
+use Rattle.stream_model.specs.Cut.{full_chunks, sealed, unmarked}
 use Rattle.stream_model.proofs.SealingFacts.{length-chunks}
 use Rattle.tink_streams.specs.declared.progress.Progress.TheVariants.{Ended}
 use Rattle.tink_streams.specs.Reading.{ReaderMoment, OpensNext, OpenNextRefused}

@@ -14,7 +14,7 @@ use Rattle.stream_model.specs.Agree.{joined}
 use Rattle.stream_model.specs.Cut.{full_chunks, open_chunk, room_at, unmarked}
 use Rattle.stream_model.specs.Key.{StreamKey, first_room, front, keys_of, room, segment_at}
 use Rattle.stream_model.specs.Opening.{OpeningKey, AgreeBy, IsAgreed, IsChosen, IsStream, chunks_of, header_of}
-use Rattle.stream_model.specs.Sealing.{chunk_count, drawn, longest_part, part, prefix_of, salt_of, stream, unmarked_under}
+use Rattle.stream_model.specs.Sealing.{chunk_count, longest_part, part, prefix_of, salt_of, stream, unmarked_under}
 use Rattle.stream_model.proofs.CutFacts.{full_chunks-append, full_chunks_fits, unmarked-append}
 use Rattle.stream_model.proofs.KeyFacts.{CanOpen as Lawful}
 use Rattle.stream_model.proofs.OpeningFacts.{IsChosen-unique, leads_on}
@@ -24,7 +24,7 @@ use Rattle.tink_run.specs.AllKeys.{load}
 use Rattle.tink_run.specs.declared.report.Report.{Report}
 use Rattle.tink_run.specs.OpenAnswers.{AgreesUntil, AreTextsBy, IsBroken, Lead, OpeningMeans, OpeningRefused}
 use Rattle.tink_run.specs.Outside.{Outside, HasNoFault, IsUntouched}
-use Rattle.tink_run.specs.Run.{IsOfAgreeing, IsOkOrWant, IsWholeText, Told}
+use Rattle.tink_run.specs.Run.{IsOfAgreeing, IsWholeText, Told}
 use Rattle.tink_run.proofs.OpenLemmas.{chosen_lawful, kept_front, open_agreeing, open_succeeds, same_loaded, stream_agreeing, stream_agrees, stream_complete, whole_front}
 use Rattle.tink_run.proofs.RowFacts.{loaded_usable}
 use Rattle.tink_run.proofs.RunLemmas.{told_appended, told_if}

@@ -6,10 +6,10 @@ use Rattle.std.specs.Prelude.{Result, Ok, Err}
 use Rattle.tink_io.specs.declared.error.Kind.{Kind}
 use Rattle.tink_io.specs.declared.error.Kind.TheVariants.{OutOfMemory, ReadFault, WriteFault, RandomFault, BadKeyset, InvalidKeyset, UnsupportedKeyType, InvalidKey, NoPrimary, WrongPrimitive, UnknownHash, UnsupportedHash, TooManySegments, NoMatchingKey, BadSegment, Truncated}
 use Rattle.tink_io.specs.declared.error.TinkError.{TinkError}
-use Rattle.stream_model.specs.Key.{StreamKey, first_room, front, room, segment_at}
+use Rattle.stream_model.specs.Key.{StreamKey, first_room, front, segment_at}
 use Rattle.stream_model.specs.Opening.{IsChosen, OpeningKey, opening_key}
 use Rattle.stream_model.specs.Order.{HaveSameOrder}
-use Rattle.stream_model.specs.Sealing.{drawn, prefix_of, salt_of}
+use Rattle.stream_model.specs.Sealing.{prefix_of, salt_of}
 use Rattle.stream_model.proofs.OrderFacts.{choose_the_same}
 use Rattle.tink_sets.specs.declared.typed_set.TypedPrimitiveSet.{TypedPrimitiveSet}
 use Rattle.tink_streams.specs.declared.writing.Mode.{Mode}
@@ -22,8 +22,8 @@ use Rattle.tink_run.specs.AllKeys.{load}
 use Rattle.tink_run.specs.HeldKeys.{GivesLoaded}
 use Rattle.tink_run.specs.declared.report.Report.{Report}
 use Rattle.tink_run.specs.OpenAnswers.{IsBroken, OpeningMeans}
-use Rattle.tink_run.specs.Outside.{Outside, IsUntouched}
-use Rattle.tink_run.specs.SealSteps.{HasNoKeys, kind_not_begun}
+use Rattle.tink_run.specs.Outside.{Outside}
+use Rattle.tink_run.specs.SealSteps.{kind_not_begun}
 use Rattle.tink_run.proofs.OneKeyFacts.{broken_by, means_by}
 use Rattle.tink_run.proofs.RowFacts.{load_refuses, loaded_usable}
 use Rattle.tink_run.proofs.RunSteps.{are_of_keyset}
