@@ -1,5 +1,7 @@
 //! The commands on files of keys.
 
+ghost use Rattle.std.specs.Prelude.{◌≡◌, OnOk};
+
 use crate::outside::{draws, read_keys};
 use crate::real_place::RealPlace;
 use crate::trouble::Trouble;
@@ -71,7 +73,9 @@ fn read_or_end<'w>(
     rt: &HostRuntime,
     path: &'w str,
     place: &mut RealPlace<'_>,
-) -> Result<Vec<u8>, Trouble<'w>> {
+) -> Result<Vec<u8>, Trouble<'w>>
+    ensures { OnOk result (place.new.is_drafted ≡ place.old.is_drafted) }
+{
     match read_keys(rt, path) {
         Ok(file) => Ok(file),
         Err(trouble) => {

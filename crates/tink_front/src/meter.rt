@@ -15,7 +15,11 @@ pub struct Meter {
 impl Meter {
     /// A meter of so many bytes, where it is known, that tells something only if it may.
     pub fn new(rt: &HostRuntime, total: Option<u64>, may_tell: bool) -> Meter {
-        let start = if may_tell { Instant::now(rt).ok() } else { None };
+        let start = if may_tell {
+            Instant::now(rt).ok()
+        } else {
+            None
+        };
         Meter {
             start,
             total,
@@ -65,13 +69,13 @@ fn tell(rt: &HostRuntime, done: u64, total: Option<u64>, seconds: u64) {
 
 /// A source whose bytes are counted.
 #[derive(Drop)]
-pub struct Watched<'a, S> {
+pub struct Watched<S> {
     pub source: S,
-    pub rt: &'a HostRuntime,
+    pub rt: HostRuntime,
     pub meter: Meter,
 }
 
-impl<'a, S: Source> Source for Watched<'a, S> {
+impl<S: Source> Source for Watched<S> {
     ghost left = { λ w. S.left w.source };
 
     ghost faults = { λ w. S.faults w.source };
@@ -81,7 +85,7 @@ impl<'a, S: Source> Source for Watched<'a, S> {
     fn read(&mut self, buf: &mut [u8]) -> Result<usize, Failed> {
         let got = self.source.read(buf);
         match got {
-            Ok(count) => self.meter.add(self.rt, count as u64),
+            Ok(count) => self.meter.add(&self.rt, count as u64),
             Err(_) => {}
         }
         got

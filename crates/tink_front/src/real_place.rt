@@ -1,13 +1,12 @@
 //! A file of the system that appears whole or not at all: the edge that is trusted. It tells no bytes.
 
-ghost use Rattle.std.specs.Prelude.{◌≡◌, None, true, false};
+ghost use Rattle.std.specs.Prelude.{◌≡◌, IfOk, None, true};
 
 use crate::trouble::{Trouble, unwritable};
-use std::fs;
 use std::fs::{File, OpenFile, OpenOptions};
-use std::io;
 use std::os::unix::fs::OpenOptionsExt;
 use std::random::RandomSource;
+use std::{fs, io};
 use tink_io::{Failed, Sink, StdSink};
 use tink_place::Place;
 
@@ -26,7 +25,9 @@ pub struct RealPlace<'a> {
 
 impl<'a> RealPlace<'a> {
     /// A draft for a file that may be there, and is replaced then.
-    pub fn over<'w>(rt: &'a HostRuntime, name: &'w str) -> Result<RealPlace<'a>, Trouble<'w>> {
+    pub fn over<'w>(rt: &'a HostRuntime, name: &'w str) -> Result<RealPlace<'a>, Trouble<'w>>
+        ensures { IfOk result (λ p. p.is_drafted ≡ true) }
+    {
         require_file(rt, name)?;
         let target = target_of(rt, name)?;
         match random_draft(rt, target.as_str()) {
@@ -36,7 +37,9 @@ impl<'a> RealPlace<'a> {
     }
 
     /// A draft for a file that is not there yet.
-    pub fn fresh<'w>(rt: &'a HostRuntime, name: &'w str) -> Result<RealPlace<'a>, Trouble<'w>> {
+    pub fn fresh<'w>(rt: &'a HostRuntime, name: &'w str) -> Result<RealPlace<'a>, Trouble<'w>>
+        ensures { IfOk result (λ p. p.is_drafted ≡ true) }
+    {
         if fs::symlink_metadata(rt, name).is_ok() {
             return Err(Trouble::Unusable(
                 name,
@@ -55,7 +58,9 @@ impl<'a> RealPlace<'a> {
     }
 
     /// A draft for a file that is there, of which there is one at a time.
-    pub fn only<'w>(rt: &'a HostRuntime, name: &'w str) -> Result<RealPlace<'a>, Trouble<'w>> {
+    pub fn only<'w>(rt: &'a HostRuntime, name: &'w str) -> Result<RealPlace<'a>, Trouble<'w>>
+        ensures { IfOk result (λ p. p.is_drafted ≡ true) }
+    {
         require_file(rt, name)?;
         let target = target_of(rt, name)?;
         match format!(in rt.alloc(); "{target}.part") {
@@ -105,7 +110,9 @@ fn begin<'a, 'w>(
     target: String,
     draft: String,
     is_replacing: bool,
-) -> Result<RealPlace<'a>, Trouble<'w>> {
+) -> Result<RealPlace<'a>, Trouble<'w>>
+    ensures { IfOk result (λ p. p.is_drafted ≡ true) }
+{
     match open_twice(rt, draft.as_str()) {
         Ok((file, other)) => Ok(RealPlace {
             rt,
@@ -162,6 +169,8 @@ impl<'a> Sink for RealPlace<'a> {
 }
 
 impl<'a> Place for RealPlace<'a> {
+    ghost use Rattle.std.proofs.Common.{refl};
+
     ghost shown = { λ _. None };
 
     ghost has_draft = { λ p. p.is_drafted };
@@ -169,7 +178,13 @@ impl<'a> Place for RealPlace<'a> {
     ghost replaces = { λ p. p.is_replacing };
 
     fn show(&mut self) -> Result<(), Failed> {
-        match put_in_place(self.rt, &self.file, self.draft.as_str(), self.name.as_str(), self.is_replacing) {
+        match put_in_place(
+            self.rt,
+            &self.file,
+            self.draft.as_str(),
+            self.name.as_str(),
+            self.is_replacing,
+        ) {
             Ok(()) => {
                 self.is_drafted = false;
                 Ok(())

@@ -39,11 +39,7 @@ pub fn decrypt<'w>(rt: &HostRuntime, line: &Line<'w>) -> Result<(), Trouble<'w>>
 }
 
 // Reads the keys, and what else the words say.
-fn job_of<'w>(
-    rt: &HostRuntime,
-    command: Command,
-    line: &Line<'w>,
-) -> Result<Job<'w>, Trouble<'w>> {
+fn job_of<'w>(rt: &HostRuntime, command: Command, line: &Line<'w>) -> Result<Job<'w>, Trouble<'w>> {
     let Some(keys) = line.keys() else {
         return Err(Trouble::Usage);
     };
@@ -104,7 +100,14 @@ fn write_to<'w, S: Source + Drop>(
     meter: Meter,
 ) -> Result<(), Trouble<'w>> {
     let mut draws = draws;
-    let mut source = Watched { source, rt, meter };
+    let Ok(own) = rt.clone() else {
+        return Err(Trouble::Refused("tink", Kind::OutOfMemory));
+    };
+    let mut source = Watched {
+        source,
+        rt: own,
+        meter,
+    };
     let answer = match job.output {
         Some(output) => to_file(rt, job, &mut draws, &mut source, output)?,
         None => to_output(rt, job, &mut draws, &mut source),
@@ -144,7 +147,9 @@ fn to_output<S: Source>(
     source: &mut S,
 ) -> Result<Report, TinkError> {
     if rt.stdout().is_terminal() && !job.is_quiet {
-        let _told = eprintln!(rt; "tink: this goes to the terminal, piece by piece; `-o FILE` writes it whole or not at all");
+        let _told = eprintln!(rt;
+            "tink: this goes to the terminal, piece by piece; `-o FILE` writes it whole or not at all"
+        );
     }
     let mut sink = StdSink::new(rt.stdout());
     run(

@@ -44,7 +44,9 @@ pub fn unwritable(file: &str, e: io::Error) -> Trouble<'_> {
 pub fn tell(rt: &HostRuntime, trouble: Trouble<'_>) -> u8 {
     match trouble {
         Trouble::Usage => {
-            let _told = eprintln!(rt; "tink: these words are no command: `tink help` shows them all");
+            let _told = eprintln!(rt;
+                "tink: these words are no command: `tink help` shows them all"
+            );
             2
         }
         Trouble::Refused(file, kind) => {
@@ -53,7 +55,9 @@ pub fn tell(rt: &HostRuntime, trouble: Trouble<'_>) -> u8 {
             status(kind)
         }
         Trouble::NoMatch(file, keys) => {
-            let _told = eprintln!(rt; "tink: {file}: no key of {keys} opens this stream: another keyset, other associated data, or a damaged beginning");
+            let _told = eprintln!(rt;
+                "tink: {file}: no key of {keys} opens this stream: another keyset, other associated data, or a damaged beginning"
+            );
             21
         }
         Trouble::Unusable(file, why, status) => {

@@ -34,6 +34,9 @@ impl MemPlace {
     /// # Errors
     /// `OutOfMemory`.
     pub fn new(alloc: Global, room: usize, shown: Option<Vec<u8>>) -> Result<MemPlace, TinkError>
+        ensures draft { IfOk result (λ p. (p.draft.items ≡ []) × (p.has_draft ≡ true) × (p.room ≡ room)) }
+        ensures name { IfOk result (λ p. (p.shown ≡ shown) × (p.replaces ≡ true) × (p.can_show ≡ true)) }
+        ensures faults { IfOk result (λ p. p.faults ≡ 0) }
         ensures refused { IfErr result (λ e. e ≡ record { kind = OutOfMemory }) }
     {
         let draft = Vec::with_capacity(alloc, room)?;
