@@ -5,7 +5,7 @@
 set -euo pipefail
 root=$(dirname -- "$(dirname -- "$(readlink -f -- "${BASH_SOURCE[0]}")")")
 status=0
-"$root/tink" </dev/null >&2 || status=$?
+"$root/tink" seal </dev/null >&2 || status=$?
 ((status == 2))
 folder=$(mktemp -d)
 trap 'rm -rf "$folder"' EXIT

@@ -5,7 +5,7 @@
 set -euo pipefail
 root=$(dirname -- "$(dirname -- "$(readlink -f -- "${BASH_SOURCE[0]}")")")
 status=0
-"$root/tink" </dev/null >&2 || status=$?
+"$root/tink" seal </dev/null >&2 || status=$?
 ((status == 2))
 python3 - "$root/crates/tink_tool/out/tink_tool" "$root/examples" <<'PY'
 import hashlib, re, subprocess, sys, threading, time

@@ -9,7 +9,7 @@ hasher=$root/crates/speed/out/speed
 
 # Messages of the build go to standard error. With no words the tool prints how it is used.
 status=0
-"$root/tink" </dev/null >&2 || status=$?
+"$root/tink" seal </dev/null >&2 || status=$?
 ((status == 2))
 if [[ ! -x $hasher || -n $(find "$root/crates.txt" "$root/crates/speed" \
     -name out -prune -o -newer "$hasher" -print -quit) ]]; then

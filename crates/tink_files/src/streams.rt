@@ -1,0 +1,46 @@
+//! Streams are sealed and opened into a place.
+
+ghost use Rattle.std.specs.Prelude.{◌≡◌, ℕ, List, true, false, IfOk, OnErr};
+ghost use Rattle.tink_run.specs.Outside.{outside_of};
+ghost use Rattle.tink_run.specs.Run.{Told};
+ghost use Rattle.tink_files.specs.Streams.{IsShownWhole, RanAndEnded};
+
+use std::alloc::Global;
+use tink_io::{Draws, Source, TinkError};
+use tink_place::{Place, finish};
+use tink_run::report::{Command, Report};
+use tink_run::run::run;
+
+/// Seals or opens a stream under a keyset into a draft, which is shown where all of it was done, and else taken away.
+///
+/// # Errors
+/// Those of `run` of `tink_run`, and `WriteFault` where the draft could not be shown: what was shown stays.
+pub fn run_to<S: Source, P: Place>(
+    alloc: Global,
+    command: Command,
+    keyset: &[u8],
+    aad: &[u8],
+    draws: &mut Draws,
+    source: &mut S,
+    place: &mut P,
+) -> Result<Report, TinkError>
+    requires { P.has_draft place.old ≡ true }
+
+    // `run` wrote the draft, and by its answer the draft was shown or taken away.
+    ensures ran { RanAndEnded command keyset.now aad.now draws.old draws.new
+        (outside_of S.left S.faults P.got P.faults source.old place.old)
+        (S.left source.new) (S.faults source.new) (P.replaces place.old) (P.shown place.old) (P.shown place.new)
+        (P.faults place.new) result }
+
+    // Told bytes: what is shown is the stream of the whole input, or the text of the whole stream that was the input.
+    ensures ok { IfOk result (λ report. (T G : List ℕ)
+        → Told (outside_of S.left S.faults P.got P.faults source.old place.old) T G
+        → IsShownWhole command keyset.now aad.now draws.old draws.new T G
+        (P.replaces place.old) (P.shown place.old) (P.shown place.new) report) }
+    ensures err { OnErr result (P.shown place.new ≡ P.shown place.old) }
+    ensures gone { P.has_draft place.new ≡ false }
+    ensures source { S.same source.old source.new }
+{
+    let answer = run(alloc, command, keyset, aad, draws, source, place);
+    finish(place, answer)
+}

@@ -1,0 +1,69 @@
+use std::alloc::Global;
+use tink_io::Kind;
+use tink_place::{MemPlace, finish, save};
+
+// What is there before, and what is written.
+const BEFORE: &[u8] = b"before";
+const TEXT: &[u8] = b"a text";
+
+// A place with so much room under whose name a file stands.
+fn place_of(alloc: Global, room: usize, replaces: bool, can_show: bool) -> Option<MemPlace> {
+    let shown = Vec::from_slice(alloc, BEFORE).ok()?;
+    let mut place = MemPlace::new(alloc, room, Some(shown)).ok()?;
+    place.replaces = replaces;
+    place.can_show = can_show;
+    Some(place)
+}
+
+// Whether the text is shown, or what was before; a draft is none.
+fn shows(place: &MemPlace, text: &[u8]) -> bool {
+    match &place.shown {
+        Some(bytes) => !place.has_draft && bytes.as_slice() == text,
+        None => false,
+    }
+}
+
+// Whether a save shows the text, and else what was before.
+fn saves(alloc: Global, room: usize, replaces: bool, can_show: bool) -> Option<bool> {
+    let mut place = place_of(alloc, room, replaces, can_show)?;
+    if !place.has_draft {
+        return None;
+    }
+    match save(&mut place, TEXT) {
+        Ok(()) if shows(&place, TEXT) => Some(true),
+        Err(e) if e.kind == Kind::WriteFault && shows(&place, BEFORE) => Some(false),
+        _ => None,
+    }
+}
+
+#[test]
+fn a_text_is_shown_whole_or_not_at_all(rt: HostRuntime) {
+    let table = [
+        (6, true, true, true),
+        (5, true, true, false),
+        (6, false, true, false),
+        (6, true, false, false),
+    ];
+    for (room, replaces, can_show, is_shown) in table {
+        assert_eq!(rt; saves(rt.alloc(), room, replaces, can_show), Some(is_shown));
+    }
+}
+
+#[test]
+fn a_refusal_takes_the_draft_away(rt: HostRuntime) {
+    let refused = match place_of(rt.alloc(), 6, true, true) {
+        Some(mut place) => refuses(&mut place),
+        None => false,
+    };
+    assert!(rt; refused);
+}
+
+// Whether a refusal is given on, and leaves what was before.
+fn refuses(place: &mut MemPlace) -> bool {
+    if !place.has_draft {
+        return false;
+    }
+    let refusal = tink_io::TinkError::new(Kind::NoMatchingKey);
+    let answer: Result<u8, tink_io::TinkError> = finish(place, Err(refusal));
+    answer == Err(refusal) && shows(place, BEFORE)
+}

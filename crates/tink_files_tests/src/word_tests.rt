@@ -1,0 +1,50 @@
+use std::alloc::Global;
+use tink_words::{Action, parse};
+
+// Lines, and which command each spells.
+const LINES: [(&str, Option<Action>); 22] = [
+    ("new AES256_GCM_HKDF_1MB -o keys", Some(Action::New)),
+    ("new -o keys --format binary T", Some(Action::New)),
+    ("new T", None),
+    ("new T -o", None),
+    ("new T -o a -o b", None),
+    ("keys a", Some(Action::Keys)),
+    ("keys a b", None),
+    ("rotate keys T", Some(Action::Rotate)),
+    ("delete keys 5", Some(Action::Delete)),
+    ("delete keys", None),
+    ("encrypt -k keys", Some(Action::Encrypt)),
+    ("encrypt -k keys -o out --aad -x in -q", Some(Action::Encrypt)),
+    ("encrypt in", None),
+    ("encrypt -k keys --format json in", None),
+    ("decrypt --keys keys - --quiet", Some(Action::Decrypt)),
+    ("decrypt -k keys --no-such", None),
+    ("decrypt -k keys a b", None),
+    ("decrypt --help", Some(Action::Decrypt)),
+    ("--help", Some(Action::Help)),
+    ("help new", Some(Action::Help)),
+    ("--version", Some(Action::Version)),
+    ("nonsense", None),
+];
+
+// The command that a line spells; `None` where there is no memory.
+fn spelled(alloc: Global, line: &str) -> Option<Option<Action>> {
+    let mut words = Vec::new(alloc);
+    for word in line.split(' ') {
+        let word = String::from_str(alloc, word).ok()?;
+        if words.push(word).is_err() {
+            return None;
+        }
+    }
+    match parse(&words) {
+        Some(given) => Some(Some(given.action)),
+        None => Some(None),
+    }
+}
+
+#[test]
+fn lines_spell_commands(rt: HostRuntime) {
+    for (line, action) in LINES {
+        assert_eq!(rt; spelled(rt.alloc(), line), Some(action), "{line}");
+    }
+}

@@ -1,0 +1,109 @@
+//! What the commands are.
+
+use crate::trouble::Trouble;
+use tink_words::{Action, Line};
+
+const ALL: &str = "\
+tink: keys in files, and files encrypted under them
+
+  tink new TEMPLATE -o KEYS [--format json|binary]       make a file with a new key
+  tink encrypt -k KEYS [--aad TEXT] [-o OUT] [IN]        encrypt a file
+  tink decrypt -k KEYS [--aad TEXT] [-o OUT] [IN]        decrypt it
+  tink keys KEYS                                         list the keys of a file
+  tink rotate KEYS TEMPLATE                              add a key, by which is encrypted from now on
+  tink promote|enable|disable|destroy|delete KEYS ID     change one key
+  tink help [COMMAND], tink --version
+
+  tink seal|open|keygen|large, tink rotate KEYSET TEMPLATE SEED
+                                                         the same over the standard streams, with keys in hexadecimal
+
+From nothing to a restored file:
+  tink new AES256_GCM_HKDF_1MB -o keys.json
+  tink encrypt -k keys.json -o notes.tink notes.txt
+  tink decrypt -k keys.json -o notes.again notes.tink
+";
+
+const NEW: &str = "\
+tink new TEMPLATE -o KEYS [--format json|binary]
+
+Makes a file with one new key, from the system's random bytes. Only you may read the file. A file that is there already
+is never replaced. Keep a copy of it: without it nothing is decrypted again.
+
+Templates for files: AES128_GCM_HKDF_4KB, AES128_GCM_HKDF_1MB, AES128_CTR_HMAC_SHA256_4KB, AES128_CTR_HMAC_SHA256_1MB,
+and the same with AES256. The 1MB ones are for large files.
+
+  tink new AES256_GCM_HKDF_1MB -o keys.json
+";
+
+const STREAM: &str = "\
+tink encrypt -k KEYS [--aad TEXT] [-o OUT] [--quiet] [IN]
+tink decrypt -k KEYS [--aad TEXT] [-o OUT] [--quiet] [IN]
+
+Encrypts IN by the primary key of KEYS, and decrypts it by the key of KEYS that encrypted it. IN and OUT are files, or
+standard input and output where they are left out or `-`. A file OUT appears when all of it is done, and not before; a
+file that was there is replaced then. TEXT is no secret and is not written: the same has to be given to decrypt.
+
+  tink encrypt -k keys.json -o notes.tink notes.txt
+  tar c work | tink encrypt -k keys.json -o work.tink
+  tink decrypt -k keys.json work.tink | tar x
+";
+
+const KEYS: &str = "\
+tink keys KEYS
+
+One line a key, with no key material: its id, its status, its prefix type, its type, and whether it is the primary key.
+";
+
+const ROTATE: &str = "\
+tink rotate KEYS TEMPLATE
+
+Adds a new key to the file, which encrypts from now on. What the others encrypted is still decrypted.
+
+  tink rotate keys.json AES256_GCM_HKDF_1MB
+";
+
+const EDIT: &str = "\
+tink promote KEYS ID     the key encrypts from now on
+tink enable KEYS ID      the key is used again
+tink disable KEYS ID     what the key encrypted is not decrypted for now
+tink destroy KEYS ID     the key's bytes are taken away: what it encrypted is lost
+tink delete KEYS ID      the key is taken out: what it encrypted is lost
+
+`tink keys KEYS` tells the ids. The primary key can only be promoted or enabled: promote another one first.
+";
+
+/// Tells how a command is used, or all of them.
+pub fn show(rt: &HostRuntime, action: Option<Action>) -> Result<(), Trouble<'static>> {
+    let text = match action {
+        Some(Action::New) => NEW,
+        Some(Action::Encrypt | Action::Decrypt) => STREAM,
+        Some(Action::Keys) => KEYS,
+        Some(Action::Rotate) => ROTATE,
+        Some(
+            Action::Promote | Action::Enable | Action::Disable | Action::Destroy | Action::Delete,
+        ) => EDIT,
+        _ => ALL,
+    };
+    put(rt, text)
+}
+
+/// The command that help is asked of.
+pub fn topic(line: &Line<'_>) -> Option<Action> {
+    match line.first() {
+        Some(name) => Action::of_name(name),
+        None => None,
+    }
+}
+
+/// Tells the version.
+pub fn version(rt: &HostRuntime) -> Result<(), Trouble<'static>> {
+    put(rt, "tink of Wandrefona 1.0\n")
+}
+
+// Writes to standard output.
+fn put(rt: &HostRuntime, text: &str) -> Result<(), Trouble<'static>> {
+    match print!(rt; "{text}") {
+        Ok(()) => Ok(()),
+        Err(_) => Err(Trouble::Unusable("standard output", "it could not be written", 12)),
+    }
+}

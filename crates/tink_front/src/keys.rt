@@ -1,0 +1,129 @@
+//! The commands on files of keys.
+
+ghost use Rattle.std.specs.Prelude.{◌≡◌, OnOk};
+
+use crate::outside::{draws, read_keys};
+use crate::real_place::RealPlace;
+use crate::trouble::Trouble;
+use tink_files::{edit_keys, new_keys, rotate_keys};
+use tink_io::{Kind, StdSink, TinkError, write_all};
+use tink_key_files::{Edit, Format, list, wire_bytes};
+use tink_place::Place;
+use tink_proto::Bytes;
+use tink_words::{Action, Line};
+
+/// `new TEMPLATE -o KEYS`
+pub fn make<'w>(rt: &HostRuntime, line: &Line<'w>) -> Result<(), Trouble<'w>> {
+    let (Some(template), Some(output)) = (line.first(), line.output()) else {
+        return Err(Trouble::Usage);
+    };
+    let format = format_of(line)?;
+    let mut draws = draws(rt)?;
+    let mut place = RealPlace::fresh(rt, output)?;
+    match new_keys(rt.alloc(), template, format, &mut draws, &mut place) {
+        Ok(()) => Ok(()),
+        Err(e) => Err(blamed(e, template, output)),
+    }
+}
+
+/// `keys KEYS`
+pub fn show<'w>(rt: &HostRuntime, line: &Line<'w>) -> Result<(), Trouble<'w>> {
+    let Some(path) = line.first() else {
+        return Err(Trouble::Usage);
+    };
+    let file = read_keys(rt, path)?;
+    match lines_of(rt, file) {
+        Ok(lines) => put(rt, lines.as_slice()),
+        Err(e) => Err(Trouble::Refused(path, e.kind)),
+    }
+}
+
+/// `rotate KEYS TEMPLATE`
+pub fn rotate<'w>(rt: &HostRuntime, line: &Line<'w>) -> Result<(), Trouble<'w>> {
+    let (Some(path), Some(template)) = (line.first(), line.second()) else {
+        return Err(Trouble::Usage);
+    };
+    let mut draws = draws(rt)?;
+    let mut place = RealPlace::only(rt, path)?;
+    let file = read_or_end(rt, path, &mut place)?;
+    match rotate_keys(rt.alloc(), file, template, &mut draws, &mut place) {
+        Ok(()) => Ok(()),
+        Err(e) => Err(blamed(e, template, path)),
+    }
+}
+
+/// `promote KEYS ID`, and the same of `enable`, `disable`, `destroy` and `delete`
+pub fn edit<'w>(rt: &HostRuntime, action: Action, line: &Line<'w>) -> Result<(), Trouble<'w>> {
+    let (Some(path), Some(word)) = (line.first(), line.second()) else {
+        return Err(Trouble::Usage);
+    };
+    let (Some(edit), Ok(id)) = (edit_of(action), word.parse::<u32>()) else {
+        return Err(Trouble::Usage);
+    };
+    let mut place = RealPlace::only(rt, path)?;
+    let file = read_or_end(rt, path, &mut place)?;
+    match edit_keys(rt.alloc(), file, edit, id, &mut place) {
+        Ok(()) => Ok(()),
+        Err(e) => Err(Trouble::Refused(path, e.kind)),
+    }
+}
+
+// Reads a file of keys. Where that fails the draft is taken away.
+fn read_or_end<'w>(
+    rt: &HostRuntime,
+    path: &'w str,
+    place: &mut RealPlace<'_>,
+) -> Result<Vec<u8>, Trouble<'w>>
+    ensures { OnOk result (place.new.is_drafted ≡ place.old.is_drafted) }
+{
+    match read_keys(rt, path) {
+        Ok(file) => Ok(file),
+        Err(trouble) => {
+            place.discard();
+            Err(trouble)
+        }
+    }
+}
+
+// The lines of a file's keys.
+fn lines_of(rt: &HostRuntime, file: Vec<u8>) -> Result<Bytes, TinkError> {
+    let keyset = wire_bytes(rt.alloc(), file)?;
+    list(rt.alloc(), keyset.as_slice())
+}
+
+// Writes to standard output.
+fn put(rt: &HostRuntime, text: &[u8]) -> Result<(), Trouble<'static>> {
+    let mut sink = StdSink::new(rt.stdout());
+    match write_all(&mut sink, text) {
+        Ok(()) => Ok(()),
+        Err(e) => Err(Trouble::Refused("standard output", e.kind)),
+    }
+}
+
+// The file, or the template where its name is the cause.
+fn blamed<'w>(e: TinkError, template: &'w str, path: &'w str) -> Trouble<'w> {
+    match e.kind {
+        Kind::UnknownTemplate => Trouble::Refused(template, e.kind),
+        _ => Trouble::Refused(path, e.kind),
+    }
+}
+
+// The format of a new file: JSON unless another is named.
+fn format_of(line: &Line<'_>) -> Result<Format, Trouble<'static>> {
+    match line.format() {
+        None | Some("json") => Ok(Format::Json),
+        Some("binary") => Ok(Format::Binary),
+        Some(_) => Err(Trouble::Usage),
+    }
+}
+
+fn edit_of(action: Action) -> Option<Edit> {
+    match action {
+        Action::Promote => Some(Edit::Promote),
+        Action::Enable => Some(Edit::Enable),
+        Action::Disable => Some(Edit::Disable),
+        Action::Destroy => Some(Edit::Destroy),
+        Action::Delete => Some(Edit::Delete),
+        _ => None,
+    }
+}
