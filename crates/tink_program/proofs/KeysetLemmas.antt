@@ -10,8 +10,7 @@ use Rattle.tink_keysets.specs.Managed.{no_keys}
 use Rattle.tink_keygen.specs.Rotating.{IsNotRotated}
 use Rattle.tink_run.specs.Outside.{Outside, IsUntouched}
 use Rattle.tink_program.specs.Keysets.{made_keyset, of_keyset, of_no_keys, IsLine, IsUnmadeBy, IsUnwritten, KeysetMeans, MakesKeyset, RefusesLine, RefusesRotation, Rotation, WritesLine, WrotePrefix}
-use Rattle.tink_program.specs.Program.{answer_outcome, kind_status, own_statuses, refused_statuses, status_of, IsAmong, IsEarlyKind, IsUnwrittenKind, Leaves}
-use Rattle.tink_program.specs.Words.{Asked}
+use Rattle.tink_program.specs.Program.{answer_outcome, kind_status, own_statuses, refused_statuses, status_of, IsAmong, IsUnwrittenKind, Leaves}
 use Rattle.tink_program.specs.Words.Asked.{Making, Rotating}
 use Rattle.tink_program.specs.declared.program.Outcome.{Outcome}
 use Rattle.tink_program.specs.declared.program.Outcome.TheVariants.{Done, Usage, Refused}

@@ -1,5 +1,5 @@
 -- What the command that measures a large text says by its answer, it says by its status.
-use Rattle.std.proofs.Common.{◌≡◌, inl, inr, ℕ, List, refl, arith}
+use Rattle.std.proofs.Common.{◌≡◌, inl, inr, ℕ, refl, arith}
 use Rattle.std.specs.Prelude.{Ok, Err, Result}
 use Rattle.tink_io.specs.Faults.{Rose}
 use Rattle.tink_io.specs.declared.error.Kind.{Kind}
@@ -9,7 +9,6 @@ use Rattle.tink_run.specs.Outside.{Outside, IsUntouched}
 use Rattle.tink_program.specs.Keysets.{WrotePrefix}
 use Rattle.tink_program.specs.Large.{lines_of, LargeMeans, MeasuresLarge, RefusesLarge, WritesLarge}
 use Rattle.tink_program.specs.Program.{answer_outcome, kind_status, own_statuses, refused_statuses, status_of, IsAmong}
-use Rattle.tink_program.specs.Words.{Asked}
 use Rattle.tink_program.specs.Words.Asked.{Measuring}
 use Rattle.tink_program.specs.declared.program.Outcome.{Outcome}
 use Rattle.tink_program.specs.declared.program.Outcome.TheVariants.{Done, Usage, Refused}

@@ -1,7 +1,7 @@
 -- By which kinds the MACs of a keyset are refused.
-use Rattle.std.proofs.Common.{◌≡◌, ℕ, List, [], ◌∷◌, Bool, true, false, cond, refl, sym, subst, Some, None}
+use Rattle.std.proofs.Common.{◌≡◌, ℕ, List, [], ◌∷◌, Bool, true, false, cond, sym, subst, Some, None}
 use Rattle.std.specs.declared.option.Option.{Option}
-use Rattle.std.specs.Prelude.{Result, Ok, Err, filter, find, is_some, nat_eq, length}
+use Rattle.std.specs.Prelude.{Result, Ok, Err, find, is_some, nat_eq, length}
 use Rattle.std.specs.Str.{bytes_eq}
 use Rattle.wire_format.specs.Message.{decoded}
 use Rattle.tink_io.specs.Told.{made_of, or_refused}
@@ -12,14 +12,12 @@ use Rattle.tink_proto.specs.declared.messages.keys.Key.{Key}
 use Rattle.tink_proto.specs.declared.messages.keys.KeyData.{KeyData}
 use Rattle.tink_proto.specs.declared.messages.keys.Keyset.{Keyset}
 use Rattle.tink_primitives.specs.Sorts.{as_mac}
-use Rattle.tink_primitives.specs.declared.primitive.Primitive.{Primitive}
 use Rattle.tink_primitives.specs.declared.primitive.Primitive.TheVariants.{Mac}
-use Rattle.tink_registry.specs.Listed.{builds_by, manager_of, registry_builds}
+use Rattle.tink_registry.specs.Listed.{builds_by, manager_of}
 use Rattle.tink_sets.specs.Converting.{converted}
 use Rattle.tink_sets.specs.Converting as converting
 use Rattle.tink_sets.specs.Entries.{entry_of, typed_by, with_primitive}
 use Rattle.tink_sets.specs.declared.entry.Entry.{Entry}
-use Rattle.tink_sets.specs.declared.entry.TypedEntry.{TypedEntry}
 use Rattle.tink_building.specs.Given.{before, given_each}
 use Rattle.tink_keysets.specs.Built.{built_data, built_entries, built_entry}
 use Rattle.tink_keysets.specs.Encrypted.{chained}
@@ -40,7 +38,7 @@ use Rattle.tink.specs.Registered.{with_everything}
 use Rattle.tink.specs.declared.managers.Managers.{Managers}
 use Rattle.tink_run.specs.AllKeys.{built_key}
 use Rattle.tink_run.proofs.RowFacts.{managers_sound, rows_of}
-use Rattle.tink_program.specs.Tokens.{macs_in, macs_of, supports_own, Macs}
+use Rattle.tink_program.specs.Tokens.{macs_in, macs_of, supports_own}
 
 -- a result refuses by a kind of loading
 abbrev Refuses : {A : Type 0} → Result A Kind → Type 0

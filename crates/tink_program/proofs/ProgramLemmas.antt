@@ -1,7 +1,6 @@
 -- From the command that the words ask for to the program.
-use Rattle.std.proofs.Common.{◌≡◌, inl, inr, ℕ, List}
+use Rattle.std.proofs.Common.{inl, inr, ℕ, List}
 use Rattle.tink_run.specs.Outside.{Outside}
-use Rattle.tink_run.specs.declared.report.Command.TheVariants.{Seal, Open}
 use Rattle.tink_program.specs.declared.program.Outcome.{Outcome}
 use Rattle.tink_program.specs.Program.{status_of, CommandMeans, OutcomeMeans, Promised, Promises, StatusMeans}
 use Rattle.tink_program.specs.Words.{Asked, Spells}

@@ -1,12 +1,12 @@
 -- What the words' command says by its outcome, the program says by its status.
-use Rattle.std.proofs.Common.{◌≡◌, ◌⊎◌, inl, inr, ◌<◌, ℕ, List, Bool, true, refl, sym, ◌∙◌, ap, subst, arith}
+use Rattle.std.proofs.Common.{◌≡◌, ◌⊎◌, inl, inr, ◌<◌, ℕ, List, true, refl, ap, arith}
 use Rattle.tink_io.specs.Faults.{Rose}
 use Rattle.tink_io.specs.declared.error.Kind.{Kind}
-use Rattle.tink_io.specs.declared.error.Kind.TheVariants.{OutOfMemory, RandomFault, BadKeyset, InvalidKeyset, UnsupportedKeyType, InvalidKey, NoPrimary, WrongPrimitive, UnsupportedHash, UnknownTemplate, NoFreshId, InputTooLong, BadToken, MacMismatch}
+use Rattle.tink_io.specs.declared.error.Kind.TheVariants.{OutOfMemory, BadKeyset, InvalidKeyset, UnsupportedKeyType, InvalidKey, NoPrimary, WrongPrimitive, UnsupportedHash, UnknownTemplate, NoFreshId, InputTooLong, BadToken, MacMismatch}
 use Rattle.tink_run.specs.Outside.{Outside, IsUntouched}
 use Rattle.tink_program.specs.declared.program.Outcome.{Outcome}
 use Rattle.tink_program.specs.declared.program.Outcome.TheVariants.{Done, Usage, Refused}
-use Rattle.tink_program.specs.Program.{early_statuses, kind_status, own_statuses, reads_first, refused_statuses, status_of, unwritten_statuses, AsksNothing, HasCause, HasDone, HasNoRoom, HasOwnStatus, HasRefusedCause, IsAmong, IsCause, IsEarlyKind, IsReadingFirst, IsRefusedBy, IsUnwrittenKind, IsUsage, KeepsEnds, Leaves, OutcomeMeans, Refuses, StatusMeans}
+use Rattle.tink_program.specs.Program.{early_statuses, kind_status, own_statuses, reads_first, refused_statuses, status_of, unwritten_statuses, IsAmong, IsCause, IsEarlyKind, IsReadingFirst, IsUnusableBy, IsUnwrittenKind, KeepsEnds, Leaves, StatusMeans}
 use Rattle.tink_program.specs.Tokens.{LeavesSink}
 use Rattle.tink_program.specs.Words.{Asked, SpellNothing, Spells}
 use Rattle.tink_program.specs.Words.Asked.{Making, Measuring, Opening, Rotating, Sealing, Signing, Verifying}
@@ -20,7 +20,7 @@ above_2 _ = omega arith
 pub record CommandFacts (a : Asked) (old new : Outside) (status : ℕ) : Type 0 where
   pub not_usage : status ≡ 2 → ⊥
   pub own : IsAmong (own_statuses a) status
-  pub refused : (kind : Kind) → IsRefusedBy a kind → (status ≡ kind_status kind) ⊎ (status ≡ 10)
+  pub refused : (kind : Kind) → IsUnusableBy a kind → (status ≡ kind_status kind) ⊎ (status ≡ 10)
   pub cause : IsAmong refused_statuses status → (kind : Kind) × (status ≡ kind_status kind) × IsCause a kind
   pub want : status ≡ 10 → LeavesSink old new × ((reads_first a ≡ true) ⊎ IsUntouched old new)
   pub read_fault : status ≡ 11 → Rose old.read_faults new.read_faults
@@ -36,7 +36,7 @@ command_status words a old new status spelled facts = record {
   usage = record { cause = λ is. absurd (facts.not_usage is); comes = λ nothing. absurd (nothing a spelled) };
   own = λ b other. along (λ x. IsAmong (own_statuses x) status) words a b spelled other facts.own;
   refused = λ b kind other is.
-      along (λ x. IsRefusedBy x kind → (status ≡ kind_status kind) ⊎ (status ≡ 10)) words a b spelled other (facts.refused kind) is;
+      along (λ x. IsUnusableBy x kind → (status ≡ kind_status kind) ⊎ (status ≡ 10)) words a b spelled other (facts.refused kind) is;
   refused_cause = λ b other among.
       along (λ x. (kind : Kind) × (status ≡ kind_status kind) × IsCause x kind) words a b spelled other (facts.cause among);
   cause = record {

@@ -1,5 +1,5 @@
 -- What a command of streams says by its answer, it says by its status.
-use Rattle.std.proofs.Common.{◌≡◌, ◌⊎◌, inl, inr, ◌≤◌, ◌+◌, ◌*◌, ◌++◌, ℕ, zero, suc, List, [], length, length-append, false, refl, sym, ◌∙◌, ap, subst, arith}
+use Rattle.std.proofs.Common.{◌≡◌, ◌⊎◌, inl, inr, ◌≤◌, ◌*◌, ℕ, zero, suc, List, [], length, length-append, false, refl, sym, ◌∙◌, ap, subst, arith}
 use Rattle.std.specs.declared.option.Option.{Option}
 use Rattle.std.specs.Prelude.{Result, Ok, Err, OnErr, OnOk}
 use Rattle.std.specs.Io.KnownBytes.{Appends}
@@ -20,8 +20,7 @@ use Rattle.tink_run.specs.declared.report.Report.{Report}
 use Rattle.tink_run.proofs.RowFacts.{loaded_usable}
 use Rattle.tink_program.specs.Draws.{draws_in}
 use Rattle.tink_program.specs.Program.{answer_outcome, kind_status, own_statuses, refused_statuses, status_of, IsAmong, IsEarlyKind, IsUnwrittenKind, Leaves}
-use Rattle.tink_program.specs.Streams.{Answered, IsDoneOrWant, OpenPromises, OpensWhole, Ran, SealPromises, SealsWhole, StopsUnmarked, StreamMeans}
-use Rattle.tink_program.specs.Words.{Asked}
+use Rattle.tink_program.specs.Streams.{IsDoneOrWant, OpenPromises, OpensWhole, Ran, SealPromises, SealsWhole, StopsUnmarked, StreamMeans}
 use Rattle.tink_program.specs.Words.Asked.{Opening, Sealing}
 use Rattle.tink_program.specs.declared.program.Outcome.{Outcome}
 use Rattle.tink_program.specs.declared.program.Outcome.TheVariants.{Done, Usage, Refused}

@@ -1,7 +1,7 @@
 -- The commands of tokens, from their calls to their answers.
-use Rattle.std.proofs.Common.{◌≡◌, ◌⊎◌, inl, inr, ◌<◌, ◌^◌, ℕ, List, length, true, Some, None, refl, sym, ◌∙◌, ap, subst}
-use Rattle.std.specs.Prelude.{Option, Result, Ok, Err, is_some, IfErr, IfOk, OnErr, OnOk}
-use Rattle.std.specs.Io.KnownBytes.{Appends, Consumes, IsAtEnd}
+use Rattle.std.proofs.Common.{◌≡◌, ◌⊎◌, inl, inr, ℕ, List, true, Some, None, refl, sym, ◌∙◌, ap, subst}
+use Rattle.std.specs.Prelude.{Option, Result, Ok, Err, is_some, IfErr, OnErr, OnOk}
+use Rattle.std.specs.Io.KnownBytes.{Appends}
 use Rattle.tink_io.specs.Faults.{Rose}
 use Rattle.tink_io.specs.Written.{AppendsFront}
 use Rattle.tink_io.specs.declared.error.Kind.{Kind}
@@ -153,15 +153,18 @@ module _ (Gives : Macs → List ℕ → List ℕ → Type 0) (Refuses : Macs →
     written = subst (λ x. Appends old.got new.got x) same whole;
   }
   made old new macs output written (Err e) loads m same whole front rose fault =
-      rw (ap (λ (x : TinkError). x.kind) fault) (record {
-        macs = macs;
-        loads = loads;
-        input = m.0;
-        has = has_input old new m.0 m.1;
-        output = output;
-        gives = m.2;
-        written = subst (λ x. AppendsFront old.got new.got x) same front;
-      }, rose)
+      rw (ap (λ (x : TinkError). x.kind) fault) (
+        record {
+          macs = macs;
+          loads = loads;
+          input = m.0;
+          has = has_input old new m.0 m.1;
+          output = output;
+          gives = m.2;
+          written = subst (λ x. AppendsFront old.got new.got x) same front;
+        },
+        rose,
+      )
 
 pub signing_only : (macs : Macs) (input : List ℕ) (kind : Kind) → RefusesSigning macs input kind → (kind ≡ BadToken) ⊎ (kind ≡ MacMismatch)
 signing_only macs input kind refuses = absurd refuses

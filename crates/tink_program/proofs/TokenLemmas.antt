@@ -1,6 +1,6 @@
 -- What a command of tokens says by its answer, it says by its status.
-use Rattle.std.proofs.Common.{◌≡◌, ◌⊎◌, inl, inr, ◌≤◌, ◌<◌, ℕ, List, length, Bool, true, refl, sym, ◌∙◌, ap, subst, arith}
-use Rattle.std.specs.Prelude.{Option, Some, Result, Ok, Err, IfErr, IfSome}
+use Rattle.std.proofs.Common.{◌≡◌, ◌⊎◌, inl, inr, ◌≤◌, ◌<◌, ℕ, List, length, true, refl, sym, ◌∙◌, ap, subst, arith}
+use Rattle.std.specs.Prelude.{Result, Ok, Err, IfErr, IfSome}
 use Rattle.std.specs.Io.KnownBytes.{Appends}
 use Rattle.tink_io.specs.Faults.{Rose}
 use Rattle.tink_io.specs.declared.error.Kind.{Kind}
@@ -9,15 +9,12 @@ use Rattle.tink_io.specs.declared.error.TinkError.{TinkError}
 use Rattle.tink_factory.specs.Accepting.{entries_of}
 use Rattle.tink_mac.specs.MacKinds.{kind_verifies}
 use Rattle.tink_mac.specs.Wrapped.{any_verifies}
-use Rattle.tink_mac.specs.declared.mac_kind.MacKind.{MacKind}
-use Rattle.tink_tokens.specs.Tokens.{spelled, IsAccepted, IsAnswered, IsNoToken}
-use Rattle.tink_run.specs.Outside.{Outside, HasNoFault, IsUntouched}
+use Rattle.tink_tokens.specs.Tokens.{spelled, IsAnswered}
+use Rattle.tink_run.specs.Outside.{Outside, HasNoFault}
 use Rattle.tink_run.specs.Run.{Told}
 use Rattle.tink_run.proofs.RunLemmas.{told_appended, told_if, told_whole}
 use Rattle.tink_program.specs.Program.{answer_outcome, kind_status, own_statuses, refused_statuses, status_of, IsAmong, IsEarlyKind, IsUnwrittenKind, Leaves}
-use Rattle.tink_program.specs.Streams.{IsDoneOrWant}
 use Rattle.tink_program.specs.Tokens.{input_limit, macs_of, CanAnswer, CannotAnswer, HasAnswered, HasInput, HasTooMuch, IsAnsweredWhole, LeavesSink, Macs, RefusesSigning, RefusesVerifying, SignsTo, TokenMeans, TokenPromises, TokenRefused, VerifiesTo}
-use Rattle.tink_program.specs.Words.{Asked}
 use Rattle.tink_program.specs.Words.Asked.{Signing, Verifying}
 use Rattle.tink_program.specs.declared.program.Outcome.{Outcome}
 use Rattle.tink_program.specs.declared.program.Outcome.TheVariants.{Done, Usage, Refused}
@@ -286,8 +283,8 @@ mismatch_apart : (macs : Macs) (token payload other : List ℕ) → VerifiesTo m
 mismatch_apart macs token payload other accepted a =
     let same = a.is.alone payload accepted.mac accepted.is in
     let one : any_verifies kind_verifies (entries_of macs.entries) a.mac (spelled other) ≡ Ok tt =
-        subst (λ p. any_verifies kind_verifies (entries_of macs.entries) a.mac (spelled p) ≡ Ok tt) same.0
-        (subst (λ m. any_verifies kind_verifies (entries_of macs.entries) m (spelled payload) ≡ Ok tt) same.1 accepted.accepted) in
+    subst (λ p. any_verifies kind_verifies (entries_of macs.entries) a.mac (spelled p) ≡ Ok tt) same.0
+    (subst (λ m. any_verifies kind_verifies (entries_of macs.entries) m (spelled payload) ≡ Ok tt) same.1 accepted.accepted) in
     let two = sym one ∙ a.answered in
     cc two
 

@@ -12,7 +12,7 @@ use Rattle.tink_run.specs.Outside.{Outside, IsUntouched}
 use Rattle.tink_program.specs.Keysets.{WroteText, WrotePrefix}
 use Rattle.tink_program.specs.Streams.{IsDoneOrWant}
 use Rattle.tink_program.specs.declared.program.Outcome.{Outcome}
-use Rattle.tink_program.specs.declared.program.Outcome.TheVariants.{Done, Usage, Refused}
+use Rattle.tink_program.specs.declared.program.Outcome.TheVariants.{Done, Refused}
 
 -- the draws of every large text: those of the seed of zeros
 abbrev pub large_draws : List ℕ

@@ -5,7 +5,7 @@ use Rattle.tink_io.specs.Faults.{Rose}
 use Rattle.tink_io.specs.Texts.{kind_line}
 use Rattle.tink_io.specs.Written.{WritesOrFaults}
 use Rattle.tink_io.specs.declared.error.Kind.{Kind}
-use Rattle.tink_io.specs.declared.error.Kind.TheVariants.{OutOfMemory, ReadFault, WriteFault, RandomFault, BadKeyset, InvalidKeyset, UnsupportedKeyType, InvalidKey, NoPrimary, WrongPrimitive, UnsupportedHash, TooManySegments, NoMatchingKey, BadSegment, Truncated, UnknownTemplate, NoFreshId, InputTooLong, BadToken, MacMismatch}
+use Rattle.tink_io.specs.declared.error.Kind.TheVariants.{OutOfMemory, ReadFault, WriteFault, BadKeyset, InvalidKeyset, UnsupportedKeyType, InvalidKey, NoPrimary, WrongPrimitive, UnsupportedHash, TooManySegments, NoMatchingKey, BadSegment, Truncated, UnknownTemplate, NoFreshId, InputTooLong, BadToken, MacMismatch}
 use Rattle.tink_io.specs.declared.error.TinkError.{TinkError}
 use Rattle.tink_run.specs.AllKeys.{load}
 use Rattle.tink_run.specs.Outside.{Outside, IsUntouched}
@@ -130,18 +130,18 @@ abbrev pub HasOwnStatus : List (List ℕ) → ℕ → Type 0
 HasOwnStatus words status = (a : Asked) → Spells words a → IsAmong (own_statuses a) status
 
 -- a keyset does not load, or is not made, by this kind: nothing is read or written
-abbrev pub IsRefusedBy : Asked → Kind → Type 0
-IsRefusedBy (Sealing keyset aad seed) kind = load keyset ≡ Err kind
-IsRefusedBy (Opening keyset aad) kind = load keyset ≡ Err kind
-IsRefusedBy (Making template seed) kind = made_keyset (of_no_keys template seed) ≡ Err kind
-IsRefusedBy (Rotating keyset template seed) kind = made_keyset (of_keyset keyset template seed) ≡ Err kind
-IsRefusedBy (Measuring n) kind = ⊥
-IsRefusedBy (Signing keyset) kind = macs_of keyset ≡ Err kind
-IsRefusedBy (Verifying keyset) kind = macs_of keyset ≡ Err kind
+abbrev pub IsUnusableBy : Asked → Kind → Type 0
+IsUnusableBy (Sealing keyset aad seed) kind = load keyset ≡ Err kind
+IsUnusableBy (Opening keyset aad) kind = load keyset ≡ Err kind
+IsUnusableBy (Making template seed) kind = made_keyset (of_no_keys template seed) ≡ Err kind
+IsUnusableBy (Rotating keyset template seed) kind = made_keyset (of_keyset keyset template seed) ≡ Err kind
+IsUnusableBy (Measuring n) kind = ⊥
+IsUnusableBy (Signing keyset) kind = macs_of keyset ≡ Err kind
+IsUnusableBy (Verifying keyset) kind = macs_of keyset ≡ Err kind
 
 -- it gets its refusal's status, or `OutOfMemory`
 abbrev pub Refuses : List (List ℕ) → ℕ → Type 0
-Refuses words status = (a : Asked) (kind : Kind) → Spells words a → IsRefusedBy a kind
+Refuses words status = (a : Asked) (kind : Kind) → Spells words a → IsUnusableBy a kind
     → (status ≡ kind_status kind) ⊎ (status ≡ 10)
 
 -- why it is refused: of a keyset that is not made 13 and 14 are the given keyset's refusals, for 24 no template has the
@@ -149,7 +149,7 @@ Refuses words status = (a : Asked) (kind : Kind) → Spells words a → IsRefuse
 abbrev pub IsCause : Asked → Kind → Type 0
 IsCause (Making template seed) kind = IsUnmadeBy (of_no_keys template seed) kind
 IsCause (Rotating keyset template seed) kind = IsUnmadeBy (of_keyset keyset template seed) kind
-IsCause a kind = IsRefusedBy a kind
+IsCause a kind = IsUnusableBy a kind
 
 -- the statuses of such keysets, which no other keyset gets
 abbrev pub refused_statuses : List ℕ

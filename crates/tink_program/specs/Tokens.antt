@@ -110,7 +110,7 @@ module _ (Gives : Macs → List ℕ → List ℕ → Type 0) (Refuses : Macs →
     pub written : Written old.got new.got output
 
   -- nothing is made of the input, and nothing was written
-  pub record HasRefused (old new : Outside) (kind : Kind) : Type 0 where
+  pub record RefusesInput (old new : Outside) (kind : Kind) : Type 0 where
     pub macs : Macs
     pub loads : macs_of keyset ≡ Ok macs
     pub input : List ℕ
@@ -132,8 +132,8 @@ module _ (Gives : Macs → List ℕ → List ℕ → Type 0) (Refuses : Macs →
   TokenRefused old new InputTooLong =
       LoadsMacs keyset × LeavesSink old new × IfSome old.left (λ input. input_limit < length input)
   TokenRefused old new WriteFault = HasAnswered old new AppendsFront × Rose old.write_faults new.write_faults
-  TokenRefused old new BadToken = HasRefused old new BadToken
-  TokenRefused old new MacMismatch = HasRefused old new MacMismatch
+  TokenRefused old new BadToken = RefusesInput old new BadToken
+  TokenRefused old new MacMismatch = RefusesInput old new MacMismatch
   TokenRefused old new _ = ⊥
 
   -- what stands after each outcome, and why it came

@@ -156,12 +156,7 @@ fn command<S: Source, K: Sink>(
 }
 
 // Does what was read of the words.
-fn done<S: Source, K: Sink>(
-    alloc: Global,
-    parsed: Parsed,
-    source: &mut S,
-    sink: &mut K,
-) -> Outcome
+fn done<S: Source, K: Sink>(alloc: Global, parsed: Parsed, source: &mut S, sink: &mut K) -> Outcome
     ensures means { CommandMeans (asked_of parsed)
         (outside_of S.left S.faults K.got K.faults source.old sink.old)
         (outside_of S.left S.faults K.got K.faults source.new sink.new)

@@ -1,6 +1,4 @@
 use Rattle.std.proofs.Common.{refl}
-use Rattle.tink_program.specs.Keysets.{of_keyset}
-use Rattle.tink_program.specs.Tokens.{RefusesVerifying, TokenMeans, VerifiesTo}
 use Rattle.tink_program.proofs.KeysetLemmas.{keyset_promised, line_outcome}
 use Rattle.tink_program.proofs.StreamLemmas.{open_promised, seal_outcome, seal_promised}
 use Rattle.tink_program.proofs.TokenLemmas.{verify_promised}
