@@ -1,17 +1,19 @@
-//! Callers of `run` and of `keygen`, whose clauses follow from those of the calls.
+//! Callers of `run`, `keygen` and `program`, whose clauses follow from those of the calls.
 
 ghost use Rattle.std.specs.Prelude.{◌≡◌, [], codes, Ok, Some, IfOk};
 ghost use Rattle.tink_keygen.specs.Rotating.{key_line, rotated_by};
 ghost use Rattle.tink_keysets.specs.Managed.{no_keys};
+ghost use Rattle.tink_program.specs.Program.{Promised};
+ghost use Rattle.tink_program.specs.Words.{words_of};
 ghost use Rattle.tink_proto.specs.declared.messages.keys.Keyset.{Keyset};
 ghost use Rattle.tink_run.specs.Outside.{Outside};
 ghost use Rattle.tink_run.specs.Run.{IsWholeStream};
 
-use crate::support::{KEYSET, counted, is, roomy};
+use crate::bytes::{of_digits, put_counted};
 use std::alloc::Global;
-use std::test::Fail;
 use tink_io::{Draws, SureSink, SureSource, TinkError};
 use tink_keygen::{key_line, keygen};
+use tink_program::program::program;
 use tink_run::report::{Command, Report};
 use tink_run::run::run;
 
@@ -40,36 +42,18 @@ fn new_line(alloc: Global, draws: &mut Draws) -> Result<Vec<u8>, TinkError>
     key_line(alloc, &keyset)
 }
 
-#[test]
-fn a_new_key_has_its_line(rt: HostRuntime) -> Result<(), Fail> {
-    let alloc = rt.alloc();
-    let line = new_line(alloc, &mut Draws::new(counted(alloc, 20)?))?;
-    is(&rt, line.ends_with(b"\n") && line.len() == 185, "a line");
-    Ok(())
-}
-
-#[test]
-fn a_text_is_sealed_in_memory(rt: HostRuntime) -> Result<(), Fail> {
-    let alloc = rt.alloc();
-    let keyset = hex::decode(alloc, KEYSET)?;
-    let mut draws = Draws::new(counted(alloc, 23)?);
-    let mut stream = roomy(alloc, 56)?;
-    let sealed = seal_text(
-        alloc,
-        &keyset,
-        &mut draws,
-        &mut SureSource::new(Vec::new(alloc)),
-        &mut stream,
-    );
-    is(
-        &rt,
-        sealed
-            == Ok(Report {
-                segments: 1,
-                bytes: 0,
-            }),
-        "one segment",
-    );
-    is(&rt, stream.into_bytes().len() == 56, "a header and a tag");
-    Ok(())
+// Does what the words say over memory, and answers the status. What it promises is promised of what the sink got.
+fn in_memory(
+    alloc: Global,
+    words: &Vec<String>,
+    input: &mut SureSource,
+    output: &mut SureSink,
+    line: &mut SureSink,
+) -> u8
+    ensures promised { Promised (words_of words.now)
+        (record { left = Some input.old; read_faults = 0; got = Some output.old.got; write_faults = output.old.faults })
+        (record { left = Some input.new; read_faults = 0; got = Some output.new.got; write_faults = output.new.faults })
+        result }
+{
+    program(alloc, words, input, output, line)
 }

@@ -1,0 +1,56 @@
+//! The tables of rows, in the order in which they are run: a row may name what rows before it kept.
+
+mod commands;
+mod damaged;
+mod faults;
+mod keysets;
+mod names;
+mod runs;
+mod streams;
+mod tokens;
+
+/// Rows, as the driver reads them.
+pub type Rows = &'static [&'static str];
+
+// As the rows say.
+const PLAIN: Rows = &[""];
+
+// By the bytes that move in a call.
+const PIECES: Rows = &["piece=1 ", "piece=35 ", "piece=5000 "];
+
+const PIECES_IN_ROOMS: Rows = &["piece=1 ", "piece=35 ", "piece=4000 ", "piece=5000 "];
+
+// Through the program, and through `run` by the bytes that move in a call.
+const BOTH: Rows = &[
+    "",
+    "draws=3 left=3 piece=1 ",
+    "draws=3 left=3 piece=7 ",
+    "draws=3 left=3 piece=4096 ",
+];
+
+// By a seal, and by `load`.
+const LOADS: Rows = &["", "load=1 "];
+
+/// The tables, each with the ways in which it is run: settings that stand before each row.
+pub const TABLES: &[(Rows, Rows)] = &[
+    (PLAIN, names::NAMES),
+    (PLAIN, streams::KNOWN),
+    (PLAIN, streams::ROUNDS),
+    (PLAIN, streams::FRONTS),
+    (PLAIN, streams::TEMPLATES),
+    (PIECES, streams::PIECES),
+    (PLAIN, damaged::LARGE),
+    (BOTH, damaged::SMALL),
+    (PLAIN, faults::CALLS),
+    (PIECES_IN_ROOMS, faults::ROOMS),
+    (PLAIN, commands::KEYSETS),
+    (PLAIN, commands::WORDS),
+    (LOADS, keysets::REFUSED),
+    (PLAIN, keysets::LOADED),
+    (PLAIN, runs::REPORTS),
+    (PLAIN, tokens::KNOWN),
+    (PLAIN, tokens::REFUSED),
+    (PLAIN, tokens::PAYLOADS),
+    (PLAIN, tokens::CALLS),
+    (PLAIN, tokens::CHANGED),
+];
