@@ -107,7 +107,7 @@ fn filled(alloc: Global, row: &str, n: usize, m: usize) -> Result<String, TinkEr
     Ok(filled.replace(alloc, '*', URL)?)
 }
 
-// The one place that asserts.
+// Tries a row at these numbers.
 fn try_row(
     rt: &impl Abort,
     alloc: Global,
@@ -115,13 +115,11 @@ fn try_row(
     row: &str,
     (n, m): (usize, usize),
 ) {
-    match filled(alloc, row, n, m) {
-        Ok(row) => {
-            let answer = holds(alloc, kept, row.as_str());
-            assert!(rt; answer == Ok(true), "{row}");
-        }
-        Err(_) => {}
-    }
+    let answer = match filled(alloc, row, n, m) {
+        Ok(row) => holds(alloc, kept, row.as_str()),
+        Err(e) => Err(e),
+    };
+    assert!(rt; answer == Ok(true), "{row} at {n} and {m}");
 }
 
 // Tries a row at each number of its ranges, in a way.
@@ -151,7 +149,8 @@ fn rows_hold(rt: HostRuntime) {
     for (ways, rows) in TABLES {
         for way in *ways {
             for row in *rows {
-                let _ = try_all(&rt, alloc, &mut kept, way, row);
+                let tried = try_all(&rt, alloc, &mut kept, way, row);
+                assert!(rt; tried == Ok(()), "{row}");
             }
         }
     }

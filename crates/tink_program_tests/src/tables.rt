@@ -5,6 +5,7 @@ mod damaged;
 mod faults;
 mod keysets;
 mod names;
+mod rewraps;
 mod runs;
 mod streams;
 mod tokens;
@@ -48,6 +49,7 @@ pub const TABLES: &[(Rows, Rows)] = &[
     (LOADS, keysets::REFUSED),
     (PLAIN, keysets::LOADED),
     (PLAIN, runs::REPORTS),
+    (PLAIN, rewraps::REWRAPS),
     (PLAIN, tokens::KNOWN),
     (PLAIN, tokens::REFUSED),
     (PLAIN, tokens::PAYLOADS),
