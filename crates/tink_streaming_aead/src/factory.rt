@@ -11,9 +11,12 @@ ghost use Rattle.tink_factory.specs.Typing.{typed_entries};
 ghost use Rattle.tink_streaming_aead.specs.DecryptReaders.{largest};
 ghost use Rattle.tink_streaming_aead.specs.DecryptReaders.DecryptState.{Unread};
 ghost use Rattle.tink_stream_keys.specs.Encrypting.{NewWriterMeans, sink_of};
-ghost use Rattle.tink_streaming_aead.specs.Wrapped.{AreKeysOf, ByPrimary, KeepsOrder, all_entries, keys_in};
+ghost use Rattle.tink_streaming_aead.specs.Wrapped.{AreKeysOf, ArePure, ByPrimary, KeepsOrder, all_entries, keys_in};
+
+mod candidates;
 
 use crate::decrypt_reader::{Choice, DecryptReader};
+use candidates::own_groups;
 use std::alloc::Global;
 use std::marker::Model;
 use tink_core::CloneIn;
@@ -35,6 +38,7 @@ use tink_streams::Writer;
 pub struct WrappedStreamingAead {
     ps: TypedPrimitiveSet<StreamKind>,
     ghost has_primary: { is_some ps.primary ≡ true },
+    ghost pure: { ArePure ps.entries },
 }
 
 impl Model for WrappedStreamingAead {
@@ -64,6 +68,7 @@ where
     match typed_primitives::<M, StreamingAeads>(alloc, h, registry) {
         Ok(ps) => {
             keeps_order(&ps);
+            own_groups(&ps);
             Ok(WrappedStreamingAead { ps })
         }
         Err(e) => Err(e),
