@@ -1,1 +1,7 @@
 pub mod MemoryAt
+pub mod Ranges
+pub mod Shapes
+pub mod Slices
+pub mod Objects
+pub mod ChunkReading
+pub mod RangeCores

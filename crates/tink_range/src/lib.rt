@@ -1,10 +1,17 @@
 //! Ranges of a stream's text, from an object that is read in any place.
 #![tactic(auto)]
 
+pub use laws::{law_range_of_stream, law_shape_of_any};
 pub use memory_at::{MemAt, SureAt};
 pub use read_at::ReadAt;
 pub use steps::Steps;
 
+mod chunks;
+mod laws;
 mod memory_at;
+mod opening_at;
 mod read_at;
+mod reading_at;
+mod shape;
 mod steps;
+mod writing_part;

@@ -1,0 +1,5 @@
+pub mod ShapeFacts
+pub mod GivesFacts
+pub mod SliceFacts
+pub mod ReadingFacts
+pub mod PlaceFacts
