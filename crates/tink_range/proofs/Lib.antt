@@ -3,3 +3,5 @@ pub mod GivesFacts
 pub mod SliceFacts
 pub mod ReadingFacts
 pub mod PlaceFacts
+pub mod GivingSteps
+pub mod GivingTold

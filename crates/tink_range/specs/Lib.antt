@@ -4,4 +4,5 @@ pub mod Shapes
 pub mod Slices
 pub mod Objects
 pub mod ChunkReading
+pub mod Giving
 pub mod RangeCores

@@ -3,6 +3,8 @@ use Rattle.std.specs.Prelude.{◌≡◌, ℕ, ◌+◌, ◌-◌}
 use Rattle.stream_model.specs.Cut.{room_at}
 use Rattle.tink_segment_traits.specs.declared.segment_traits.SegmentDecrypter.{Ghosts}
 use Rattle.tink_range.specs.ChunkReading.{ChunkAt}
+use Rattle.tink_range.specs.Giving.{Cutting}
+use Rattle.tink_streams.specs.Openers.{segment_map}
 use Rattle.tink_range.specs.declared.chunks.RangeCore.{RangeCore}
 
 module _ {D : Type 0} {g : Ghosts D} where
@@ -19,4 +21,14 @@ module _ {D : Type 0} {g : Ghosts D} where
     start = core.front + start;
     rest = core.behind - start;
     room = room_at core.opener.first core.opener.size number;
+  }
+
+  -- how a core cuts its object
+  abbrev pub cutting_of : RangeCore D g → Cutting
+  cutting_of core = record {
+    seg = segment_map core.opener;
+    front = core.front;
+    first = core.opener.first;
+    size = core.opener.size;
+    over = core.opener.overhead;
   }

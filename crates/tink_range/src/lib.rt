@@ -7,6 +7,7 @@ pub use read_at::ReadAt;
 pub use steps::Steps;
 
 mod chunks;
+mod giving;
 mod laws;
 mod memory_at;
 mod opening_at;
