@@ -5,3 +5,4 @@ pub mod ReadingFacts
 pub mod PlaceFacts
 pub mod GivingSteps
 pub mod GivingTold
+pub mod GivingEnds
