@@ -20,8 +20,9 @@ use Rattle.tink_range.specs.Giving.{Cutting, GaveAll, GaveSome, GaveUpTo, GiveMe
 use Rattle.tink_range.specs.RangeCores.{IsSameCore, chunk_in, cutting_of}
 use Rattle.tink_range.specs.Ranges.{AllGive, SomeGive, StopsAt, within}
 use Rattle.tink_range.specs.declared.chunks.RangeCore.{RangeCore}
+use Rattle.tink_range.proofs.GivesFacts.{none_touched}
 use Rattle.tink_range.proofs.GivingSteps.{HasGiven, ended}
-use Rattle.tink_range.proofs.GivingTold.{Giving, IsNext, told_one, told_stops, chunk}
+use Rattle.tink_range.proofs.GivingTold.{Appends-none, Giving, IsNext, told_one, told_stops, chunk}
 
 -- all that was written is a front of it
 front_whole : (a b : Option (List ℕ)) (xs : List ℕ) → Appends a b xs → AppendsFront a b xs
@@ -81,3 +82,17 @@ same_one {W} {D} {g} got faults old core number start lo hi at all known before 
     (subst (λ (f : ℕ). of core.opener f old.behind all) same.front
     (subst (λ (b : ℕ). of core.opener core.front b all) same.behind
     (subst (λ (k : Option (List ℕ)). of core.opener core.front core.behind k) told one)))
+
+-- an empty range gives nothing
+pub nothing_to_give : {W : Type 0} (got : W → Option (List ℕ)) (faults : W → ℕ) (c : Cutting) (lo hi : ℕ) (all : Option (List ℕ)) (before after : ℕ) (w : W) → hi ≤ lo
+    → GaveAll got faults c lo hi (record { all = all; reads_before = before; reads_after = after; old = w; new = w }) 0
+nothing_to_give got faults c lo hi all before after w empty = record {
+  bytes = [];
+  gives = by all;
+  written = Appends-none (got w);
+  count = refl;
+}
+  where
+    by : (o : Option (List ℕ)) → IfSome o (λ S. AllGive c.seg c.over lo hi (chunks_in c S) [])
+    by None = tt
+    by (Some S) = (_, none_touched c.seg c.over lo hi 0 0 (chunks_in c S) (omega arith))

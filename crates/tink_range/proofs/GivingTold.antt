@@ -32,7 +32,7 @@ pub record Ticks (lo hi p from number text before now : ℕ) : Type 0 where
   pub bound : number - from ≤ (hi - lo + p - 1) / p + 1
   pub spaced : from < number → text < hi → lo + (number - from - 1) * p < text
 
-Appends-none : (a : Option (List ℕ)) → Appends a a []
+pub Appends-none : (a : Option (List ℕ)) → Appends a a []
 Appends-none None = tt
 Appends-none (Some xs) = sym (append-nil xs)
 

@@ -6,3 +6,5 @@ pub mod PlaceFacts
 pub mod GivingSteps
 pub mod GivingTold
 pub mod GivingEnds
+pub mod LastFacts
+pub mod RangeSteps

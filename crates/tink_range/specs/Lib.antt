@@ -5,4 +5,5 @@ pub mod Slices
 pub mod Objects
 pub mod ChunkReading
 pub mod Giving
+pub mod RangeReading
 pub mod RangeCores

@@ -21,3 +21,8 @@ pub record IsPlace (first size over behind lo number start text : ℕ) : Type 0 
   pub text_is : text ≡ start_at (first - over) (size - over) number
   pub inside : start < behind
   pub reached : lo < start_at (first - over) (size - over) (number + 1)
+
+-- the last chunk has this number and begins here
+pub record IsLast (a b : ℕ) (X : List ℕ) (number start : ℕ) : Type 0 where
+  pub chunks : length (cut a b X) ≡ number + 1
+  pub last_is : last_chunk (cut a b X) ≡ drop start X

@@ -62,3 +62,45 @@ fn give_from<A: ReadAt, D: SegmentDecrypter, K: Sink, L: Ledger>(
     }
     Ok(given)
 }
+
+// Writes the range's parts of the texts of the chunks that it touches, none where it is empty.
+pub fn give_range<A: ReadAt, D: SegmentDecrypter, K: Sink, L: Ledger>(
+    core: &mut RangeCore<D>,
+    object: &mut A,
+    lo: u64,
+    hi: u64,
+    sink: &mut K,
+    steps: &mut Steps<L>,
+) -> Result<u64, TinkError>
+    requires object { core.old.front + core.old.behind ≡ A.length_of object.old }
+    requires chunks { chunk_count core.old.opener.first core.old.opener.size core.old.behind ≤ 2 ^ 32 }
+    requires within { hi ≤ text_length core.old.opener.first core.old.opener.size core.old.opener.overhead core.old.behind }
+    ensures answer { GiveMeans K.got K.faults (cutting_of core.old) lo hi
+        (record {
+          all = A.bytes object.old;
+          reads_before = A.faults object.old;
+          reads_after = A.faults object.new;
+          old = sink.old;
+          new = sink.new;
+        })
+        result }
+    ensures ticks { steps.new ≤ steps.old + (hi - lo + (core.old.opener.size - core.old.opener.overhead) - 1)
+        / (core.old.opener.size - core.old.opener.overhead) + 1 }
+    ensures core { IsSameCore core.old core.new }
+    ensures kept { IsKept A.length_of A.bytes A.faults object.old object.new }
+    ensures later { K.faults sink.old ≤ K.faults sink.new }
+    ensures object { A.same object.old object.new }
+    ensures sink { K.same sink.old sink.new }
+{
+    if hi <= lo {
+        return Ok(0);
+    }
+    let from = place_of(
+        core.opener.first as u64,
+        core.opener.size as u64,
+        core.opener.overhead as u64,
+        core.behind,
+        lo,
+    );
+    give_from(core, object, from, lo, hi, sink, steps)
+}

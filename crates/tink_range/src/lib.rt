@@ -11,6 +11,7 @@ mod giving;
 mod laws;
 mod memory_at;
 mod opening_at;
+mod range_reading;
 mod read_at;
 mod reading_at;
 mod shape;

@@ -6,6 +6,7 @@ ghost use Rattle.tink_range.specs.Ranges.{text_length};
 ghost use Rattle.tink_range.specs.Shapes.{HasShape, IsPlace};
 
 // The number of chunks of some bytes, the places of their text, and what is before the last chunk.
+#[derive(Clone, Copy)]
 pub struct Shape {
     pub count: u64,
     pub text: u64,
@@ -29,7 +30,7 @@ pub fn shape_of(first: u64, size: u64, over: u64, behind: u64) -> Shape
     ensures shape { (X : List ℕ) → length X ≡ behind
         → HasShape first size over X result.count result.text result.last }
     ensures inside { result.last < behind }
-    ensures last_fits { behind ≤ result.last + size }
+    ensures room { behind ≤ result.last + room_at first size (result.count - 1) }
     ensures some { 0 < result.count }
     ensures text { result.text ≤ behind }
 {

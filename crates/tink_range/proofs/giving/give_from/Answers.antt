@@ -24,7 +24,7 @@ loop-place-init g c =
       low = omega (arith, text_before o.first o.size o.overhead from.number, c.requires.place.start_is, c.requires.place.text_is);
       start_in = omega (arith, c.requires.place.inside);
       few = omega arith;
-      ticks = record { count = omega arith; later = omega arith; bound = omega arith; spaced = λ some more. absurd (omega arith) };
+      ticks = record { count = omega arith; later = omega arith; bound = omega arith; spaced = λ some more. omega arith };
       core = record { opener = refl; front = refl; behind = refl };
       kept = record { length_is = refl; bytes_are = refl; later = omega arith };
       later = omega arith;
