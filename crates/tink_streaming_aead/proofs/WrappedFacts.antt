@@ -8,16 +8,15 @@ use Rattle.std.specs.Cmp.Lexicographic.{slice_cmp, bytes_decides, nat_list_eq_eq
 use Rattle.std.specs.List.Sorted.{IsStrictlySortedBy}
 use Rattle.std.specs.Map.{keys_of, lookup, values_of}
 use Rattle.std.specs.Ordering.{is_eq, nat_cmp}
-use Rattle.std.proofs.lemmas.Bool.{cases_Bool, cond-true, cond-false, false≢true}
+use Rattle.std.proofs.lemmas.Bool.{cases_Bool, cond-true, cond-false}
 use Rattle.std.proofs.lemmas.List.{append-nil}
 use Rattle.std.proofs.lemmas.List.Elements.{All-head, All-tail, All-weaker, filter-append, filter_passes}
 use Rattle.std.proofs.lemmas.Map.Keys.{sorted_tail}
 use Rattle.std.proofs.lemmas.Map.Views.{All-after_first}
 use Rattle.std.proofs.lemmas.Map.Text.{is_eq-slice_cmp}
-use Rattle.stream_model.specs.Key.{StreamKey}
 use Rattle.stream_model.specs.Order.{with_prefix}
 use Rattle.tink_keysets.specs.Built.{HasEntries}
-use Rattle.tink_sets.specs.Entries.{entry_of_id, typed_prefix_of}
+use Rattle.tink_sets.specs.Entries.{typed_prefix_of}
 use Rattle.tink_sets.specs.Groups.{AreGroupsOf, group_at, group_of}
 use Rattle.tink_sets.specs.declared.entry.TypedEntry.{TypedEntry}
 use Rattle.tink_stream_keys.specs.StreamKinds.{key_in_set}

@@ -1,4 +1,4 @@
-use Rattle.std.proofs.Common.{◌≡◌, ap, ◌∙◌}
+use Rattle.std.proofs.Common.{ap, ◌∙◌}
 use Rattle.tink_streaming_aead.specs.Wrapped.{Wrapped, keys_in}
 use Rattle.tink_streaming_aead.proofs.WrappedFacts.{lent_keys}
 use Rattle.tink_streaming_aead.proofs.factory.WrappedStreamingAead.entries.Goals as goal

@@ -1,4 +1,4 @@
-use Rattle.std.proofs.Common.{◌≡◌, ◌+◌, map, ap, subst, vec_len, All, ◌∙◌}
+use Rattle.std.proofs.Common.{◌≡◌, ◌+◌, ap, subst, vec_len, All, ◌∙◌}
 use Rattle.stream_model.specs.Key.{IsUsable}
 use Rattle.tink_streaming_aead.specs.DecryptReaders.{largest}
 use Rattle.tink_streaming_aead.specs.DecryptReaders.DecryptState.{Unread}
