@@ -21,7 +21,7 @@ use Rattle.tink_range.proofs.GivesFacts.{Gives-trans, gives_length, none_touched
 use Rattle.tink_range.proofs.PlaceFacts.{cut_step, fits_or_not}
 
 -- a chunk is the last one where no bytes are behind its room
-is_last_cut : (r b : ℕ) (Y : List ℕ) → is_last (cut b b (drop r Y)) ≡ nat_le (length Y) r
+pub is_last_cut : (r b : ℕ) (Y : List ℕ) → is_last (cut b b (drop r Y)) ≡ nat_le (length Y) r
 is_last_cut r b Y = elim (fits_or_not (length Y) r) [
   | inl fits ↦ ap (λ X. is_last (cut b b X)) (drop_all r Y fits) ∙ ap is_last (cut_none b b) ∙ sym (le-leb (length Y) r fits)
   | inr more ↦

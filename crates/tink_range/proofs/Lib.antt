@@ -8,3 +8,4 @@ pub mod GivingTold
 pub mod GivingEnds
 pub mod LastFacts
 pub mod RangeSteps
+pub mod TrialAtFacts

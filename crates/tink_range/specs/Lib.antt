@@ -6,4 +6,5 @@ pub mod Objects
 pub mod ChunkReading
 pub mod Giving
 pub mod RangeReading
+pub mod ChoosingAt
 pub mod RangeCores

@@ -6,6 +6,7 @@ pub use memory_at::{MemAt, SureAt};
 pub use read_at::ReadAt;
 pub use steps::Steps;
 
+mod choosing_at;
 mod chunks;
 mod giving;
 mod laws;

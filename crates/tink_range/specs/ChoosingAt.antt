@@ -1,0 +1,38 @@
+-- The key of an object's stream.
+use Rattle.std.specs.Prelude.{◌≡◌, ◌⊎◌, ℕ, ◌+◌, ◌≤◌, ◌<◌, Bool, ◌&&◌, nat_lt, is_some, if◌then◌else◌, List, [], ◌∷◌, length, Option, None, Some, IfSome, Result, Ok, Err, Vec, vec_len, vec_capacity}
+use Rattle.stream_model.specs.Opening.{Begins, HasFront, IsChosen, OpeningKey, begins_front, front_length, header_of}
+use Rattle.tink_streams.specs.Choosing.{Found, IsOpenerOf}
+
+-- whether the first segment of a stream is opened to try a key: the stream begins in a front of the key and goes on, and
+-- keys are derived from its header
+abbrev pub is_tried : OpeningKey → List ℕ → Bool
+is_tried k S = nat_lt (front_length k) (length S) && (begins_front k S && is_some (k.seg (header_of k S)))
+
+abbrev pub one_if : Bool → ℕ
+one_if b = if b then 1 else 0
+
+-- so many of the keys are tried, up to the first one under which the stream begins
+abbrev pub Tries : List OpeningKey → List ℕ → ℕ → Type 0
+Tries [] S n = n ≡ 0
+Tries (k ∷ ks) S n = (Begins k S × (n ≡ 1)) ⊎ ((Begins k S → ⊥) × ((m : ℕ) × (n ≡ one_if (is_tried k S) + m) × Tries ks S m))
+
+-- how the segments of a stream under a key are opened: the map, the bytes of a nonce, and the sizes
+pub record OpenedBy (k : OpeningKey) (nonce first size over nonce_bytes : ℕ) : Type 0 where
+  pub first_is : first ≡ k.first
+  pub size_is : size ≡ k.size
+  pub overhead_is : over ≡ k.overhead
+  pub nonce_is : nonce_bytes ≡ nonce
+
+-- the stream begins under the key, and is opened so, in one step
+pub record DoesBeginAt (k : OpeningKey) (nonce length_of : ℕ) (all : Option (List ℕ)) (seg : ℕ → Bool → List ℕ → List ℕ) (front first size over nonce_bytes before now : ℕ) : Type 0 where
+  pub found : IfSome all (λ S. Begins k S × IsOpenerOf k S seg front first size over)
+  pub opened : OpenedBy k nonce first size over nonce_bytes
+  pub front_is : front ≡ front_length k
+  pub inside : front < length_of
+  pub ticked : now ≡ before + 1
+
+-- the stream does not begin under the key, and there was a step where its first segment was opened to see this
+pub record DoesNotBeginAt (k : OpeningKey) (all : Option (List ℕ)) (before now memory : ℕ) : Type 0 where
+  pub none : IfSome all (λ S. Begins k S → ⊥)
+  pub ticked : IfSome all (λ S. now ≡ before + one_if (is_tried k S))
+  pub room : 7 ≤ memory
