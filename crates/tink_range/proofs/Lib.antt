@@ -9,3 +9,4 @@ pub mod GivingEnds
 pub mod LastFacts
 pub mod RangeSteps
 pub mod TrialAtFacts
+pub mod TriesFacts

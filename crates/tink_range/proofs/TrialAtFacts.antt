@@ -9,6 +9,8 @@ use Rattle.stream_model.specs.Cut.{cut}
 use Rattle.stream_model.specs.Opening.{Begins, FirstAgrees, HasFront, OpeningKey, behind_front, begins_front, chunks_of, front_length, header_of}
 use Rattle.stream_model.proofs.CutFacts.{cut_none}
 use Rattle.tink_streams.specs.Choosing.{IsOpenerOf}
+use Rattle.std.specs.Prelude.{Result, Ok, Err, MatchResult}
+use Rattle.tink_stream_keys.specs.Decrypters.{OpensBehind}
 use Rattle.tink_range.specs.ChoosingAt.{is_tried, one_if}
 use Rattle.tink_range.specs.ChunkReading.{ChunkAt, OpensAt}
 use Rattle.tink_range.proofs.GivingSteps.{is_last_cut}
@@ -97,3 +99,78 @@ is_tried_one k S seg inside front map =
     ap (λ l. one_if (l && (begins_front k S && is_some (k.seg (header_of k S))))) there
     ∙ ap (λ b. one_if (b && is_some (k.seg (header_of k S)))) front.mark
     ∙ ap (λ o. one_if (is_some o)) map
+
+-- ---- the same of an object that may tell its bytes
+
+module _ (k : OpeningKey) (held : List ℕ) (n len : ℕ) (some : 0 < k.header) (n_is : n ≡ front_length k) (inside : front_length k ≤ len) where
+  held_is : (S : List ℕ) → held ≡ take n S → held ≡ take (front_length k) S
+  held_is S read = read ∙ ap (λ m. take m S) n_is
+
+  none_by : (S : List ℕ) → length S ≡ len → held ≡ take n S → (HasFront k held → k.seg (header_of k held) ≡ None) → HasFront k S → k.seg (header_of k S) ≡ None
+  none_by S long read none front =
+      sym (seg_same k S some (omega arith)) ∙ subst (λ (H : List ℕ). HasFront k H → k.seg (header_of k H) ≡ None) (held_is S read) none (front_of_held k S some (omega arith) front)
+
+  pub told_underived : (all : Option (List ℕ)) (before : ℕ) → IfSome all (λ S. length S ≡ len) → IfSome all (λ S. held ≡ take n S) → (HasFront k held → k.seg (header_of k held) ≡ None)
+      → IfSome all (λ S. Begins k S → ⊥) × IfSome all (λ S. before ≡ before + one_if (is_tried k S))
+  told_underived None before long read none = (tt, tt)
+  told_underived (Some S) before long read none =
+      let derived = none_by S long read none in
+      let count : one_if (is_tried k S) ≡ 0 = none_untried k S (omega arith) derived in
+      (none_not k S derived, omega (arith, count))
+
+  module _ (seg : ℕ → Bool → List ℕ → List ℕ) (front first size over nonce nonce_bytes rest : ℕ) (opens : OpensBehind k nonce held seg first size over nonce_bytes) (front_is : front ≡ front_length k) (first_some : 0 < k.first) (size_some : 0 < k.size) (fits : k.header + k.first ≤ k.size) (more : front < len) (rest_is : rest ≡ len - front) where
+    abbrev at : ChunkAt
+    at = record { number = 0; start = front; rest = rest; room = first }
+
+    whole_front : (S : List ℕ) → length S ≡ len → held ≡ take n S → HasFront k S
+    whole_front S long read = front_of_whole k S some (omega arith) (subst (HasFront k) (held_is S read) opens.front)
+
+    whole_map : (S : List ℕ) → length S ≡ len → held ≡ take n S → k.seg (header_of k S) ≡ Some seg
+    whole_map S long read = sym (seg_same k S some (omega arith)) ∙ subst (λ (H : List ℕ). k.seg (header_of k H) ≡ Some seg) (held_is S read) opens.map
+
+    mark_is : (S : List ℕ) → length S ≡ len → nat_le rest first ≡ nat_le (length S - front_length k) k.first
+    mark_is S long =
+        let count : rest ≡ length S - front_length k = omega (arith, rest_is, front_is) in
+        ap (λ m. nat_le m first) count ∙ ap (nat_le (length S - front_length k)) opens.first_is
+
+    chunk_is : (S : List ℕ) → take first (drop front S) ≡ take k.first (behind_front k S)
+    chunk_is S = ap (λ m. take m (drop front S)) opens.first_is ∙ ap (λ m. take k.first (drop m S)) front_is
+
+    does_by : (S t : List ℕ) → length S ≡ len → held ≡ take n S → seg 0 (nat_le rest first) t ≡ take first (drop front S) → Begins k S × IsOpenerOf k S seg front first size over
+    does_by S t long read e =
+        let map = whole_map S long read in (
+          record {
+            front = whole_front S long read;
+            first = subst (λ (o : Option (ℕ → Bool → List ℕ → List ℕ)). FirstAgrees o (chunks_of k S)) (sym map) (first_agrees k S seg first_some size_some (omega (arith, front_is)) t (ap (λ m. seg 0 m t) (sym (mark_is S long)) ∙ e ∙ chunk_is S));
+          },
+          record { map = map; front_is = front_is; first_is = opens.first_is; size_is = opens.size_is; overhead_is = opens.overhead_is; fits = fits },
+        )
+
+    not_by : (S : List ℕ) → length S ≡ len → held ≡ take n S → ((t : List ℕ) → seg 0 (nat_le rest first) t ≡ take first (drop front S) → ⊥) → Begins k S → ⊥
+    not_by S long read none b =
+        first_disagrees k S seg first_some size_some (omega (arith, front_is)) (λ t e. none t (ap (λ m. seg 0 m t) (mark_is S long) ∙ e ∙ sym (chunk_is S)))
+        (subst (λ (o : Option (ℕ → Bool → List ℕ → List ℕ)). FirstAgrees o (chunks_of k S)) (whole_map S long read) b.first)
+
+    pub told_does : (all known : Option (List ℕ)) (t : List ℕ) (ok : Bool) → known ≡ all → ok ≡ true → IfSome all (λ S. length S ≡ len) → IfSome all (λ S. held ≡ take n S) → OpensAt seg at known ok t
+        → IfSome all (λ S. Begins k S × IsOpenerOf k S seg front first size over)
+    told_does all known t ok same agrees long read answer = by all long read (subst (λ (o : Option (List ℕ)). OpensAt seg at o true t) same (subst (λ (b : Bool). OpensAt seg at known b t) agrees answer))
+      where
+        by : (o : Option (List ℕ)) → IfSome o (λ S. length S ≡ len) → IfSome o (λ S. held ≡ take n S) → OpensAt seg at o true t → IfSome o (λ S. Begins k S × IsOpenerOf k S seg front first size over)
+        by None l r e = tt
+        by (Some S) l r e = does_by S t l r e
+
+    pub told_not : (all known : Option (List ℕ)) (t : List ℕ) (ok : Bool) (before now : ℕ) → known ≡ all → ok ≡ false → now ≡ before + 1 → IfSome all (λ S. length S ≡ len) → IfSome all (λ S. held ≡ take n S) → OpensAt seg at known ok t
+        → IfSome all (λ S. Begins k S → ⊥) × IfSome all (λ S. now ≡ before + one_if (is_tried k S))
+    told_not all known t ok before now same differs ticked long read answer = by all long read (subst (λ (o : Option (List ℕ)). OpensAt seg at o false t) same (subst (λ (b : Bool). OpensAt seg at known b t) differs answer))
+      where
+        by : (o : Option (List ℕ)) → IfSome o (λ S. length S ≡ len) → IfSome o (λ S. held ≡ take n S) → OpensAt seg at o false t → IfSome o (λ S. Begins k S → ⊥) × IfSome o (λ S. now ≡ before + one_if (is_tried k S))
+        by None l r e = (tt, tt)
+        by (Some S) l r e =
+            let count : one_if (is_tried k S) ≡ 1 = is_tried_one k S seg (omega (arith, front_is)) (whole_front S l r) (whole_map S l r) in
+            (not_by S l r e, omega (arith, count, ticked))
+
+-- the answer of a call by a test that was made before
+pub by_test : {T E : Type 0} (P : T → Type 0) (Q : E → Type 0) (begins : Bool) (t : T) (e : E) (r : Result T E) → MatchResult r (λ b. (begins ≡ true) × (b ≡ t)) (λ p. (begins ≡ false) × (p ≡ e))
+    → (begins ≡ true → P t) → (begins ≡ false → Q e) → MatchResult r P Q
+by_test P Q begins t e (Ok b) is does not = subst P (sym is.1) (does is.0)
+by_test P Q begins t e (Err p) is does not = subst Q (sym is.1) (not is.0)

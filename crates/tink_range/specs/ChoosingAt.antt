@@ -36,3 +36,14 @@ pub record DoesNotBeginAt (k : OpeningKey) (all : Option (List ℕ)) (before now
   pub none : IfSome all (λ S. Begins k S → ⊥)
   pub ticked : IfSome all (λ S. now ≡ before + one_if (is_tried k S))
   pub room : 7 ≤ memory
+
+-- the key that is chosen, how its stream is opened, and that some bytes are behind its front
+pub record IsFirstAt (ks : List OpeningKey) (length_of : ℕ) (all : Option (List ℕ)) (seg : ℕ → Bool → List ℕ → List ℕ) (front first size over : ℕ) : Type 0 where
+  pub found : IfSome all (λ S. Found ks S seg front first size over)
+  pub inside : front < length_of
+
+-- a segment, its nonce and its text have room
+pub record HasRoomFor (size nonce_bytes sealed text nonce : ℕ) : Type 0 where
+  pub sealed_room : size ≤ sealed
+  pub text_room : size ≤ text
+  pub nonce_room : nonce_bytes ≤ nonce

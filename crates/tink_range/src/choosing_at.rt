@@ -1,9 +1,9 @@
-ghost use Rattle.std.specs.Prelude.{◌≡◌, ◌≤◌, ◌<◌, ◌+◌, ◌^◌, length, take, map, All, None, true, false, IfOk, IfErr, IfSome, MatchResult, OnErr, vec_len, vec_capacity};
+ghost use Rattle.std.specs.Prelude.{◌≡◌, ◌≤◌, ◌<◌, ◌+◌, ◌-◌, ◌^◌, length, take, map, All, None, true, false, IfOk, IfErr, IfSome, MatchResult, OnErr, vec_len, vec_capacity};
 ghost use Rattle.stream_model.specs.Cut.{numbered};
 ghost use Rattle.stream_model.specs.Key.{nonce_size};
-ghost use Rattle.stream_model.specs.Opening.{Begins, HasFront, front_length, header_of, opening_key};
+ghost use Rattle.stream_model.specs.Opening.{HasFront, IsChosen, header_of, opening_key};
 ghost use Rattle.tink_io.specs.Faults.{Rose};
-ghost use Rattle.tink_range.specs.ChoosingAt.{DoesBeginAt, DoesNotBeginAt};
+ghost use Rattle.tink_range.specs.ChoosingAt.{DoesBeginAt, DoesNotBeginAt, HasRoomFor, IsFirstAt, Tries};
 ghost use Rattle.tink_range.specs.Objects.{IsKept};
 ghost use Rattle.tink_segments.specs.StreamSegments.{segment_by};
 ghost use Rattle.tink_stream_keys.specs.Decrypters.{OpensBehind};
@@ -91,7 +91,7 @@ fn try_at<A: ReadAt, T: DerivesStreams, L: Ledger>(
         b.front b.opener.first b.opener.size b.opener.overhead b.opener.nonce_size steps.old steps.new)
         (λ memory. DoesNotBeginAt (opening_key aad.now (T.key_of key.now)) (A.bytes object.old) steps.old steps.new
         (vec_capacity memory))) }
-    ensures ticks { steps.new ≤ steps.old + 1 }
+    ensures ticks { (steps.old ≤ steps.new) × (steps.new ≤ steps.old + 1) }
     ensures sealed { vec_len sealed.new ≡ vec_len sealed.old }
     ensures text { vec_capacity text.old ≤ vec_capacity text.new }
     ensures nonce { vec_len nonce.new ≡ vec_len nonce.old }
@@ -122,4 +122,44 @@ fn try_at<A: ReadAt, T: DerivesStreams, L: Ledger>(
         }
         Err(memory) => Ok(Err(memory)),
     }
+}
+
+// How the stream of an object is opened: by the first key under which it begins with the associated data, or none.
+pub fn choose_at<A: ReadAt, T: DerivesStreams, L: Ledger>(
+    keys: &[T],
+    aad: &[u8],
+    object: &mut A,
+    sealed: &mut Vec<u8>,
+    text: &mut Vec<u8>,
+    nonce: &mut Vec<u8>,
+    prefix: Vec<u8>,
+    steps: &mut Steps<L>,
+) -> Result<Option<BegunAt>, Failed>
+    requires prefix { 7 ≤ vec_capacity prefix }
+    requires sealed { All (λ k. length (T.key_of k).out + (T.key_of k).segment < vec_len sealed.old) keys.now }
+    requires text { All (λ k. (T.key_of k).segment ≤ vec_capacity text.old) keys.now }
+    requires nonce { All (λ k. nonce_size (T.key_of k) ≤ vec_len nonce.old) keys.now }
+    ensures none { IfOk result (λ o. o ≡ None → IfSome (A.bytes object.old)
+        (λ S. IsChosen (map (λ k. opening_key aad.now (T.key_of k)) keys.now) S None)) }
+    ensures found { IfOk result (λ o. IfSome o (λ b.
+        IsFirstAt (map (λ k. opening_key aad.now (T.key_of k)) keys.now) (A.length_of object.old) (A.bytes object.old)
+        (numbered (segment_by b.opener.decrypter) b.opener.nonce_size b.opener.prefix.items) b.front
+        b.opener.first b.opener.size b.opener.overhead)) }
+    ensures room { IfOk result (λ o. IfSome o (λ b. HasRoomFor b.opener.size b.opener.nonce_size (vec_len sealed.new)
+        (vec_capacity text.new) (vec_len nonce.new))) }
+    ensures tries { IfOk result (λ _. IfSome (A.bytes object.old)
+        (λ S. Tries (map (λ k. opening_key aad.now (T.key_of k)) keys.now) S (steps.new - steps.old))) }
+    ensures ticks { (steps.old ≤ steps.new) × (steps.new ≤ steps.old + length keys.now) }
+    ensures kept { IsKept A.length_of A.bytes A.faults object.old object.new }
+    ensures rose { OnErr result (Rose (A.faults object.old) (A.faults object.new)) }
+    ensures same { A.same object.old object.new }
+{
+    let mut prefix = prefix;
+    for key in keys {
+        match try_at(key, aad, object, sealed, text, nonce, prefix, steps)? {
+            Ok(begun) => return Ok(Some(begun)),
+            Err(memory) => prefix = memory,
+        }
+    }
+    Ok(None)
 }
