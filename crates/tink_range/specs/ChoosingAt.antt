@@ -1,5 +1,9 @@
 -- The key of an object's stream.
 use Rattle.std.specs.Prelude.{◌≡◌, ◌⊎◌, ℕ, ◌+◌, ◌≤◌, ◌<◌, Bool, ◌&&◌, nat_lt, is_some, if◌then◌else◌, List, [], ◌∷◌, length, Option, None, Some, IfSome, Result, Ok, Err, Vec, vec_len, vec_capacity}
+use Rattle.tink_io.specs.Faults.{Rose}
+use Rattle.tink_io.specs.declared.error.Kind.{Kind}
+use Rattle.tink_io.specs.declared.error.Kind.TheVariants.{NoMatchingKey, OutOfMemory, ReadFault}
+use Rattle.tink_io.specs.declared.error.TinkError.{TinkError}
 use Rattle.stream_model.specs.Opening.{Begins, HasFront, IsChosen, OpeningKey, begins_front, front_length, header_of}
 use Rattle.tink_streams.specs.Choosing.{Found, IsOpenerOf}
 
@@ -47,3 +51,15 @@ pub record HasRoomFor (size nonce_bytes sealed text nonce : ℕ) : Type 0 where
   pub sealed_room : size ≤ sealed
   pub text_room : size ≤ text
   pub nonce_room : nonce_bytes ≤ nonce
+
+-- each refusal of a new reader of ranges
+abbrev pub NewRefused : {A : Type 0} → (A → Option (List ℕ)) → (A → ℕ) → List OpeningKey → A → A → Kind → Type 0
+NewRefused bytes faults ks old new OutOfMemory = new ≡ old
+NewRefused bytes faults ks old new ReadFault = Rose (faults old) (faults new)
+NewRefused bytes faults ks old new NoMatchingKey = IfSome (bytes old) (λ S. IsChosen ks S None)
+NewRefused bytes faults ks old new _ = ⊥
+
+-- where a key was chosen or none, so many were tried
+abbrev pub HasTried : {T : Type 0} → Result T TinkError → Option (List ℕ) → List OpeningKey → ℕ → Type 0
+HasTried (Ok _) all ks n = IfSome all (λ S. Tries ks S n)
+HasTried (Err e) all ks n = e.kind ≡ NoMatchingKey → IfSome all (λ S. Tries ks S n)

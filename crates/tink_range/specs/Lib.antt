@@ -8,3 +8,4 @@ pub mod Giving
 pub mod RangeReading
 pub mod ChoosingAt
 pub mod RangeCores
+pub mod RangeReaders

@@ -16,5 +16,6 @@ mod range_reading;
 mod read_at;
 mod reading_at;
 mod shape;
+mod starting_at;
 mod steps;
 mod writing_part;
