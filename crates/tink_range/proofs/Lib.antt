@@ -10,3 +10,4 @@ pub mod LastFacts
 pub mod RangeSteps
 pub mod TrialAtFacts
 pub mod TriesFacts
+pub mod StartAtFacts

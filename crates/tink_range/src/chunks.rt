@@ -6,6 +6,7 @@ ghost use Rattle.tink_io.specs.Faults.{Rose};
 ghost use Rattle.tink_range.specs.ChunkReading.{OneMeans, OpensAt};
 ghost use Rattle.tink_range.specs.Objects.{IsKept};
 ghost use Rattle.tink_range.specs.RangeReading.{LastMeans};
+ghost use Rattle.tink_range.specs.Ranges.{text_length};
 ghost use Rattle.tink_range.specs.Shapes.{HasShape, IsLast};
 ghost use Rattle.tink_streams.specs.Openers.{segment_map};
 
@@ -127,6 +128,14 @@ impl<D: SegmentDecrypter> RangeCore<D> {
             self.opener.overhead as u64,
             self.behind,
         )
+    }
+
+    // How many bytes the text has.
+    pub fn text_len(&self) -> u64
+        ensures { result ≡ text_length self.now.opener.first self.now.opener.size self.now.opener.overhead self.now.behind }
+    {
+        let shape = self.shape();
+        shape.text
     }
 
     // Opens the last chunk, which begins at `start` behind the front, in one step.

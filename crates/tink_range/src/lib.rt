@@ -3,6 +3,7 @@
 
 pub use laws::{law_range_of_stream, law_shape_of_any};
 pub use memory_at::{MemAt, SureAt};
+pub use range_reader::RangeReader;
 pub use read_at::ReadAt;
 pub use steps::Steps;
 
@@ -12,6 +13,7 @@ mod giving;
 mod laws;
 mod memory_at;
 mod opening_at;
+mod range_reader;
 mod range_reading;
 mod read_at;
 mod reading_at;
