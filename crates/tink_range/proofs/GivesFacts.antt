@@ -1,11 +1,11 @@
 -- What ranges give, chunk by chunk.
-use Rattle.std.proofs.Common.{◌≡◌, ◌<◌, ◌≤◌, ◌+◌, ◌-◌, ◌*◌, max, min, nat_lt, ℕ, zero, suc, Bool, true, false, List, [], ◌∷◌, ◌++◌, length, take, drop, refl, sym, ap, subst, ◌∙◌, arith, add-zero, append_assoc, length-drop}
+use Rattle.std.proofs.Common.{◌≡◌, ◌<◌, ◌≤◌, ◌+◌, ◌-◌, ◌*◌, max, min, ℕ, zero, suc, Bool, false, List, [], ◌∷◌, ◌++◌, length, take, drop, refl, sym, ap, subst, ◌∙◌, arith, add-zero, append_assoc, length-drop}
 use Rattle.std.proofs.lemmas.Bool.Decides.{nat_tests}
-use Rattle.std.proofs.lemmas.List.{append-nil, length-take-le, drop-drop}
+use Rattle.std.proofs.lemmas.List.{length-take-le, drop-drop}
 use Rattle.stream_model.specs.Cut.{cut, room_at}
 use Rattle.stream_model.specs.Agree.{is_last}
-use Rattle.stream_model.proofs.CutFacts.{cut_fits, cut_more, cut_some}
-use Rattle.tink_range.specs.Ranges.{AllGive, Gives, GivesOne, all_places, is_touched, places, within}
+use Rattle.stream_model.proofs.CutFacts.{cut_more}
+use Rattle.tink_range.specs.Ranges.{Gives, GivesOne, all_places, is_touched, places}
 use Rattle.tink_range.specs.Shapes.{start_at}
 
 -- the parts of equal size begin at multiples of it

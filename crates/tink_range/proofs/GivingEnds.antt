@@ -1,10 +1,9 @@
 -- How giving a range ends.
-use Rattle.std.proofs.Common.{◌≡◌, ◌<◌, ◌≤◌, ◌+◌, ◌-◌, max, ℕ, Bool, true, false, List, [], ◌++◌, length, take, refl, sym, ap, subst, ◌∙◌, arith, Some, None, IfSome}
-use Rattle.std.specs.Prelude.{Result, Ok, Err}
+use Rattle.std.proofs.Common.{◌≡◌, ◌≤◌, ◌+◌, ◌-◌, max, ℕ, List, [], ◌++◌, length, refl, sym, subst, arith, Some, None, IfSome}
+use Rattle.std.specs.Prelude.{Result}
 use Rattle.std.proofs.Math.Seq.{take-length}
 use Rattle.std.specs.declared.option.Option.{Option}
 use Rattle.std.specs.Io.KnownBytes.{Appends}
-use Rattle.tink_io.specs.Faults.{Rose}
 use Rattle.tink_io.specs.Written.{AppendsFront}
 use Rattle.tink_io.proofs.FaultLemmas.{Rose-earlier}
 use Rattle.tink_io.proofs.WrittenLemmas.{then_front}
@@ -15,9 +14,9 @@ use Rattle.tink_segment_traits.specs.declared.segment_traits.SegmentDecrypter.{G
 use Rattle.tink_streams.specs.Openers.{segment_map}
 use Rattle.tink_streams.specs.declared.opener.Opener.{Opener}
 use Rattle.stream_model.specs.Cut.{room_at}
-use Rattle.tink_range.specs.ChunkReading.{ChunkAt, Ends, GaveFront, GaveNothing, GaveOne, FindsNone, OneMeans, OneRefused, OpensAt}
-use Rattle.tink_range.specs.Giving.{Cutting, GaveAll, GaveSome, GaveUpTo, GiveMeans, GiveRefused, chunks_in}
-use Rattle.tink_range.specs.RangeCores.{IsSameCore, chunk_in, cutting_of}
+use Rattle.tink_range.specs.ChunkReading.{Ends, OneMeans, OneRefused}
+use Rattle.tink_range.specs.Giving.{Cutting, GaveAll, GiveRefused, chunks_in}
+use Rattle.tink_range.specs.RangeCores.{IsSameCore, chunk_in}
 use Rattle.tink_range.specs.Ranges.{AllGive, SomeGive, StopsAt, within}
 use Rattle.tink_range.specs.declared.chunks.RangeCore.{RangeCore}
 use Rattle.tink_range.proofs.GivesFacts.{none_touched}

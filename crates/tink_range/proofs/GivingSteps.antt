@@ -1,21 +1,13 @@
 -- Giving a range, chunk by chunk.
-use Rattle.std.proofs.Common.{◌≡◌, ◌⊎◌, inl, inr, ◌<◌, ◌≤◌, ◌+◌, ◌-◌, max, min, nat_lt, nat_le, ℕ, zero, suc, Bool, true, false, List, [], ◌∷◌, ◌++◌, length, take, drop, refl, sym, ap, subst, ◌∙◌, arith, Some, None, IfSome, length-append, length-drop}
-use Rattle.std.specs.declared.option.Option.{Option}
-use Rattle.std.specs.Io.KnownBytes.{Appends}
-use Rattle.std.proofs.KnownBytes.{Appends-trans}
+use Rattle.std.proofs.Common.{◌≡◌, inl, inr, ◌<◌, ◌≤◌, ◌+◌, ◌-◌, max, min, nat_le, ℕ, Bool, true, List, [], ◌∷◌, ◌++◌, length, take, drop, refl, sym, ap, subst, ◌∙◌, arith, length-drop}
 use Rattle.std.proofs.lemmas.Bool.{le-leb, lt-leb}
 use Rattle.std.proofs.lemmas.Bool.Decides.{nat_tests}
 use Rattle.std.proofs.lemmas.List.{append-nil, drop_all, drop-drop, length-take}
-use Rattle.tink_io.specs.Faults.{Rose}
-use Rattle.tink_io.specs.Written.{AppendsFront}
-use Rattle.tink_io.proofs.FaultLemmas.{Rose-earlier}
-use Rattle.tink_io.proofs.WrittenLemmas.{then_front}
 use Rattle.stream_model.specs.Cut.{cut, room_at}
 use Rattle.stream_model.specs.Agree.{is_last}
 use Rattle.stream_model.proofs.CutFacts.{cut_none, cut_some, room_at_next}
-use Rattle.tink_range.specs.ChunkReading.{ChunkAt, OpensAt}
 use Rattle.tink_range.specs.Giving.{Cutting, chunks_in}
-use Rattle.tink_range.specs.Ranges.{AllGive, Gives, GivesOne, SomeGive, StopsAt, all_places, is_touched, places, within}
+use Rattle.tink_range.specs.Ranges.{AllGive, Gives, GivesOne, StopsAt, all_places, is_touched, places, within}
 use Rattle.tink_range.specs.Shapes.{start_at}
 use Rattle.tink_range.proofs.GivesFacts.{Gives-trans, gives_length, none_touched, skipped}
 use Rattle.tink_range.proofs.PlaceFacts.{cut_step, fits_or_not}

@@ -1,22 +1,16 @@
 -- Giving a range, said of an object that may tell its bytes.
-use Rattle.std.proofs.Common.{◌≡◌, ◌⊎◌, inl, inr, ◌<◌, ◌≤◌, ◌+◌, ◌-◌, ◌*◌, ◌/◌, max, min, nat_le, ℕ, zero, suc, Bool, true, false, List, [], ◌∷◌, ◌++◌, length, take, drop, refl, sym, ap, subst, ◌∙◌, arith, Some, None, IfSome, length-append, length-drop}
+use Rattle.std.proofs.Common.{◌≡◌, ◌⊎◌, inl, inr, ◌<◌, ◌≤◌, ◌+◌, ◌-◌, ◌*◌, ◌/◌, min, ℕ, zero, suc, true, false, List, [], ◌++◌, length, take, refl, sym, subst, arith, Some, None, IfSome, length-append, length-drop}
 use Rattle.std.specs.declared.option.Option.{Option}
 use Rattle.std.specs.Io.KnownBytes.{Appends}
 use Rattle.std.proofs.KnownBytes.{Appends-trans}
 use Rattle.std.proofs.lemmas.List.{append-nil, length-take}
-use Rattle.tink_io.specs.Faults.{Rose}
-use Rattle.tink_io.specs.Written.{AppendsFront}
-use Rattle.tink_io.proofs.FaultLemmas.{Rose-earlier}
-use Rattle.tink_io.proofs.WrittenLemmas.{then_front}
-use Rattle.tink_io.specs.declared.error.TinkError.{TinkError}
-use Rattle.tink_io.specs.declared.error.Kind.{Kind}
 use Rattle.stream_model.specs.Cut.{room_at}
-use Rattle.tink_range.specs.ChunkReading.{ChunkAt, Ends, OneMeans, OneRefused, OpensAt}
-use Rattle.tink_range.specs.Giving.{Cutting, GiveMeans, GiveRefused, chunks_in}
-use Rattle.tink_range.specs.Ranges.{AllGive, SomeGive, StopsAt, text_length, within}
-use Rattle.tink_range.specs.Shapes.{IsPlace, start_at}
-use Rattle.tink_range.proofs.GivingSteps.{HasGiven, begins, ended, given_one, stops}
-use Rattle.tink_range.proofs.PlaceFacts.{fits_or_not, goes_on, is_reached, last_text, room_some, start_next, ticks_few}
+use Rattle.tink_range.specs.ChunkReading.{ChunkAt, OpensAt}
+use Rattle.tink_range.specs.Giving.{Cutting, chunks_in}
+use Rattle.tink_range.specs.Ranges.{StopsAt, text_length, within}
+use Rattle.tink_range.specs.Shapes.{IsPlace}
+use Rattle.tink_range.proofs.GivingSteps.{HasGiven, begins, given_one, stops}
+use Rattle.tink_range.proofs.PlaceFacts.{fits_or_not, goes_on, is_reached, last_text, room_some, ticks_few}
 
 -- what was given and written so far
 pub record Giving (c : Cutting) (lo hi : ℕ) (all got now : Option (List ℕ)) (given number start text : ℕ) : Type 0 where

@@ -1,9 +1,9 @@
 -- The last chunk of an object.
-use Rattle.std.proofs.Common.{◌≡◌, ◌<◌, ◌≤◌, ◌+◌, ◌-◌, nat_le, ℕ, Bool, true, false, List, length, take, drop, replicate, refl, sym, ap, subst, ◌∙◌, arith, Some, None, IfSome, length-drop}
+use Rattle.std.proofs.Common.{◌≡◌, ◌<◌, ◌≤◌, ◌+◌, ◌-◌, nat_le, ℕ, true, false, List, length, take, drop, replicate, sym, ap, subst, ◌∙◌, arith, Some, None, IfSome, length-drop}
 use Rattle.std.specs.declared.option.Option.{Option}
 use Rattle.std.proofs.lemmas.Bool.{le-leb}
 use Rattle.std.proofs.lemmas.List.{drop-drop, length-replicate, take_all}
-use Rattle.stream_model.specs.Cut.{cut, last_chunk}
+use Rattle.stream_model.specs.Cut.{last_chunk}
 use Rattle.tink_range.specs.ChunkReading.{ChunkAt, OpensAt}
 use Rattle.tink_range.specs.Giving.{Cutting, chunks_in}
 use Rattle.tink_range.specs.RangeReading.{RefusesLast}

@@ -6,7 +6,7 @@ use Rattle.std.proofs.lemmas.Nat.{le-div}
 use Rattle.stream_model.specs.Cut.{cut, room_at}
 use Rattle.stream_model.proofs.CutFacts.{cut_fits, cut_more, cut_none, cut_some}
 use Rattle.tink_range.specs.Ranges.{all_places, chunk_count, places, text_length}
-use Rattle.tink_range.specs.Shapes.{HasShape, IsPlace, start_at}
+use Rattle.tink_range.specs.Shapes.{IsPlace, start_at}
 
 pub fits_or_not : (m n : ℕ) → (m ≤ n) ⊎ (n < m)
 fits_or_not zero n = inl (omega arith)

@@ -1,10 +1,7 @@
 -- From the last chunk's opening and the giving of a range to the answer.
-use Rattle.std.proofs.Common.{◌≡◌, ◌⊎◌, inl, inr, ◌<◌, ◌≤◌, ◌+◌, ◌-◌, ◌^◌, min, ℕ, Bool, List, [], length, refl, sym, ap, subst, ◌∙◌, arith, Some, None, IfSome}
+use Rattle.std.proofs.Common.{◌≡◌, inl, inr, ◌≤◌, ◌^◌, ℕ, List, [], refl, ap, subst, ◌∙◌, arith, Some, None, IfSome}
 use Rattle.std.specs.Prelude.{Result, Ok, Err}
 use Rattle.std.specs.declared.option.Option.{Option}
-use Rattle.std.specs.Io.KnownBytes.{Appends}
-use Rattle.tink_io.specs.Faults.{Rose}
-use Rattle.tink_io.specs.Written.{AppendsFront}
 use Rattle.tink_io.proofs.FaultLemmas.{Rose-earlier}
 use Rattle.tink_io.specs.declared.error.TinkError.{TinkError}
 use Rattle.tink_io.specs.declared.error.Kind.{Kind}
@@ -13,7 +10,7 @@ use Rattle.tink_segment_traits.specs.declared.segment_traits.SegmentDecrypter.{G
 use Rattle.tink_streams.specs.Openers.{segment_map}
 use Rattle.tink_streams.specs.declared.opener.Opener.{Opener}
 use Rattle.tink_range.specs.ChunkReading.{Ends}
-use Rattle.tink_range.specs.Giving.{Cutting, GaveAll, GaveSome, GaveUpTo, GiveMeans, GiveRefused, chunks_in}
+use Rattle.tink_range.specs.Giving.{Cutting, GiveMeans, GiveRefused, chunks_in}
 use Rattle.tink_range.specs.RangeCores.{IsSameCore, cutting_of}
 use Rattle.tink_range.specs.RangeReading.{LastRefused, RangeMeans, RangeRefused, range_end, range_start}
 use Rattle.tink_range.specs.Ranges.{LastAgrees, SomeGive, chunk_count}

@@ -1,7 +1,6 @@
 -- How many chunks and places so many bytes have, and where the last chunk begins.
 use Rattle.std.proofs.Common.{◌≡◌, ◌⊎◌, inl, inr, ◌<◌, ◌≤◌, ◌+◌, ◌-◌, ◌*◌, ℕ, zero, suc, List, [], ◌∷◌, length, take, drop, replicate, refl, sym, ap, subst, ◌∙◌, arith, length-drop}
 use Rattle.std.proofs.lemmas.List.{length-replicate, length-take-le, drop-drop}
-use Rattle.std.proofs.Math.Nat.{mul-le-mul_left}
 use Rattle.stream_model.specs.Cut.{cut, last_chunk}
 use Rattle.stream_model.proofs.CutFacts.{cut_fits, cut_more, cut_some}
 use Rattle.tink_range.specs.Ranges.{all_places, places}

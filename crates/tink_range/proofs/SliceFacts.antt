@@ -1,14 +1,12 @@
 -- The bytes of a range are a slice of the stream's text.
-use Rattle.std.proofs.Common.{◌≡◌, ◌⊎◌, inl, inr, ◌<◌, ◌≤◌, ◌+◌, ◌-◌, max, min, nat_lt, ℕ, zero, suc, Bool, true, false, List, [], ◌∷◌, ◌++◌, length, take, drop, refl, sym, ap, subst, ◌∙◌, arith, Some, None}
+use Rattle.std.proofs.Common.{◌≡◌, ◌⊎◌, inl, inr, ◌<◌, ◌≤◌, ◌+◌, ◌-◌, max, min, ℕ, zero, suc, Bool, true, false, List, [], ◌∷◌, ◌++◌, length, take, drop, sym, ap, subst, ◌∙◌, arith, Some, None}
 use Rattle.std.specs.declared.option.Option.{Option}
-use Rattle.std.proofs.lemmas.Bool.{cases_Bool}
 use Rattle.std.proofs.lemmas.Bool.Decides.{nat_tests}
 use Rattle.std.proofs.lemmas.List.{append-nil, drop-append-le, drop_all, drop-take, length-take, take-append-le, take_all}
 use Rattle.std.proofs.Math.Seq.{drop-append-add, take-append-add, take-nil, drop-nil}
 use Rattle.stream_model.specs.Cut.{cut}
 use Rattle.stream_model.specs.Agree.{AreTexts, is_last, joined}
-use Rattle.stream_model.specs.Key.{StreamKey, IsUsable}
-use Rattle.stream_model.specs.Opening.{AreSegments, AreSegmentsBy, IsStream, OpeningKey, behind_front, chunks_of, header_of, opening_key}
+use Rattle.stream_model.specs.Opening.{AreSegments, AreSegmentsBy, OpeningKey, behind_front, header_of, opening_key}
 use Rattle.stream_model.proofs.KeyFacts.{CanOpen, IsLawful, opening_key_lawful}
 use Rattle.stream_model.proofs.OpeningFacts.{all_agree}
 use Rattle.tink_range.specs.Ranges.{AllGive, Gives, GivesOne, is_touched, places, within}

@@ -1,9 +1,8 @@
 -- Whether the stream of an object begins under a key.
-use Rattle.std.proofs.Common.{◌≡◌, ◌⊎◌, inl, inr, ◌<◌, ◌≤◌, ◌+◌, ◌-◌, ◌^◌, min, nat_le, nat_lt, nat_eq, ℕ, zero, suc, Bool, true, false, ◌&&◌, List, [], ◌∷◌, length, take, drop, refl, sym, ap, subst, ◌∙◌, arith, Some, None, IfSome, is_some, bytes_eq, slice_index, length-drop}
+use Rattle.std.proofs.Common.{◌≡◌, ◌<◌, ◌≤◌, ◌+◌, ◌-◌, nat_le, nat_lt, nat_eq, ℕ, Bool, true, false, ◌&&◌, List, [], ◌∷◌, length, take, drop, refl, sym, ap, subst, ◌∙◌, arith, Some, None, IfSome, is_some, bytes_eq, slice_index, length-drop}
 use Rattle.std.specs.declared.option.Option.{Option}
-use Rattle.std.proofs.lemmas.Bool.{cases_Bool, false≢true, lt-ltb, le-leb}
 use Rattle.std.proofs.lemmas.Bool.Decides.{nat_tests}
-use Rattle.std.proofs.lemmas.List.{drop-take, drop_all, get_or-take, length-take, length-take-le, take-take, take_all}
+use Rattle.std.proofs.lemmas.List.{drop-take, drop_all, get_or-take, length-take-le, take-take}
 use Rattle.stream_model.specs.Agree.{AreTexts, is_last}
 use Rattle.stream_model.specs.Cut.{cut}
 use Rattle.stream_model.specs.Opening.{Begins, FirstAgrees, HasFront, OpeningKey, behind_front, begins_front, chunks_of, front_length, header_of}

@@ -1,6 +1,5 @@
 -- How many keys were tried, step by step.
-use Rattle.std.proofs.Common.{◌≡◌, inl, inr, ◌+◌, ◌-◌, ◌≤◌, ℕ, List, [], ◌∷◌, length, drop, map, Some, None, IfSome, sym, refl, ap, ◌∙◌, subst, arith, add-zero}
-use Rattle.std.specs.declared.option.Option.{Option}
+use Rattle.std.proofs.Common.{◌≡◌, inl, inr, ◌+◌, ◌≤◌, ℕ, List, ◌∷◌, length, drop, map, sym, refl, subst, arith, add-zero}
 use Rattle.std.proofs.Math.ListN.{drop_of_length-le}
 use Rattle.stream_model.specs.Opening.{Begins, OpeningKey}
 use Rattle.tink_range.specs.ChoosingAt.{Tries, is_tried, one_if}

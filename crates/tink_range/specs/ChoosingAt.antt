@@ -1,10 +1,10 @@
 -- The key of an object's stream.
-use Rattle.std.specs.Prelude.{◌≡◌, ◌⊎◌, ℕ, ◌+◌, ◌≤◌, ◌<◌, Bool, ◌&&◌, nat_lt, is_some, if◌then◌else◌, List, [], ◌∷◌, length, Option, None, Some, IfSome, Result, Ok, Err, Vec, vec_len, vec_capacity}
+use Rattle.std.specs.Prelude.{◌≡◌, ◌⊎◌, ℕ, ◌+◌, ◌≤◌, ◌<◌, Bool, ◌&&◌, nat_lt, is_some, if◌then◌else◌, List, [], ◌∷◌, length, Option, None, IfSome, Result, Ok, Err}
 use Rattle.tink_io.specs.Faults.{Rose}
 use Rattle.tink_io.specs.declared.error.Kind.{Kind}
 use Rattle.tink_io.specs.declared.error.Kind.TheVariants.{NoMatchingKey, OutOfMemory, ReadFault}
 use Rattle.tink_io.specs.declared.error.TinkError.{TinkError}
-use Rattle.stream_model.specs.Opening.{Begins, HasFront, IsChosen, OpeningKey, begins_front, front_length, header_of}
+use Rattle.stream_model.specs.Opening.{Begins, IsChosen, OpeningKey, begins_front, front_length, header_of}
 use Rattle.tink_streams.specs.Choosing.{Found, IsOpenerOf}
 
 -- whether the first segment of a stream is opened to try a key: the stream begins in a front of the key and goes on, and

@@ -1,5 +1,5 @@
 -- What opening one chunk of an object says.
-use Rattle.std.specs.Prelude.{◌≡◌, ℕ, ◌≤◌, ◌<◌, ◌+◌, min, Bool, true, false, List, length, take, drop, nat_le, IfSome, [], Result, Ok, Err}
+use Rattle.std.specs.Prelude.{◌≡◌, ℕ, ◌+◌, min, Bool, true, false, List, length, take, drop, nat_le, IfSome, [], Result, Ok, Err}
 use Rattle.std.specs.declared.option.Option.{Option}
 use Rattle.std.specs.Io.KnownBytes.{Appends}
 use Rattle.tink_io.specs.Faults.{Rose}

@@ -1,5 +1,5 @@
 -- Ranges of the text of a stream, by the stream's chunks.
-use Rattle.std.specs.Prelude.{◌≡◌, ◌⊎◌, ℕ, zero, suc, ◌+◌, ◌-◌, ◌*◌, ◌<◌, max, min, nat_lt, Bool, true, false, List, [], ◌∷◌, ◌++◌, length, take, drop, replicate}
+use Rattle.std.specs.Prelude.{◌≡◌, ℕ, zero, suc, ◌+◌, ◌-◌, max, min, nat_lt, Bool, true, false, List, [], ◌∷◌, ◌++◌, length, take, drop, replicate}
 use Rattle.stream_model.specs.Cut.{cut, last_chunk}
 use Rattle.stream_model.specs.Agree.{is_last}
 

@@ -4,7 +4,7 @@ use Rattle.stream_model.specs.Agree.{joined}
 use Rattle.stream_model.specs.Cut.{cut}
 use Rattle.stream_model.specs.Key.{StreamKey, IsUsable}
 use Rattle.stream_model.specs.Opening.{IsStream, chunks_of, header_of, opening_key}
-use Rattle.tink_range.specs.Ranges.{AllGive, LastAgrees, all_places, chunk_count, text_length}
+use Rattle.tink_range.specs.Ranges.{AllGive, all_places, chunk_count, text_length}
 
 -- of a stream of these texts a range gives that slice of the joined texts
 abbrev pub IsSliceOfStream : Type 0

@@ -1,4 +1,4 @@
-use Rattle.std.proofs.Common.{◌≡◌, ◌≤◌, ◌<◌, ◌+◌, ◌-◌, ℕ, Bool, true, false, List, length, take, IfSome, ap, sym, refl, ◌∙◌, vec_capacity, arith}
+use Rattle.std.proofs.Common.{◌≡◌, ◌≤◌, ◌<◌, ◌+◌, ◌-◌, ℕ, Bool, List, length, take, ap, vec_capacity, arith}
 use Rattle.std.proofs.lemmas.List.{length-take}
 use Rattle.std.specs.declared.option.Option.{Option}
 use Rattle.stream_model.specs.Cut.{numbered}

@@ -1,9 +1,7 @@
-use Rattle.std.proofs.Common.{◌≡◌, ◌≤◌, ◌<◌, ◌+◌, ◌-◌, min, ℕ, List, length, IfSome, refl, sym, ap, subst, ◌∙◌, arith}
+use Rattle.std.proofs.Common.{◌≡◌, ◌+◌, ℕ, List, length, IfSome, refl, sym, ap, ◌∙◌, arith}
 use Rattle.std.specs.Prelude.{Ok, Err}
 use Rattle.std.specs.declared.option.Option.{Option}
 use Rattle.stream_model.specs.Cut.{room_at}
-use Rattle.tink_range.specs.ChunkReading.{Ends, OneMeans}
-use Rattle.tink_range.specs.Giving.{Cutting}
 use Rattle.tink_range.specs.RangeCores.{cutting_of}
 use Rattle.tink_range.proofs.GivingEnds.{gave_all, gave_refused, same_one}
 use Rattle.tink_range.proofs.GivingTold.{IsNext, next_giving, next_place_is, next_ticks, nothing_given, within_few}

@@ -1,5 +1,5 @@
 -- What was given so far, by the chunk that comes next.
-use Rattle.std.proofs.Common.{◌≡◌, ◌≤◌, ◌<◌, ◌+◌, ◌-◌, ◌*◌}
+use Rattle.std.proofs.Common.{◌≤◌, ◌<◌, ◌-◌}
 use Rattle.tink_range.specs.Objects.{IsKept}
 use Rattle.tink_range.specs.RangeCores.{IsSameCore, cutting_of}
 use Rattle.tink_range.specs.Shapes.{IsPlace}

@@ -1,4 +1,4 @@
-use Rattle.std.proofs.Common.{◌≡◌, ◌≤◌, ◌+◌, ℕ, Bool, List, length, take, ap, arith}
+use Rattle.std.proofs.Common.{ℕ, Bool, List, length, ap, arith}
 use Rattle.std.proofs.lemmas.List.{length-take}
 use Rattle.stream_model.specs.Cut.{room_at}
 use Rattle.tink_streams.specs.Openers.{segment_map}

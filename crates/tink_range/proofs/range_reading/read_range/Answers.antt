@@ -1,6 +1,5 @@
-use Rattle.std.proofs.Common.{◌≡◌, ◌≤◌, ◌+◌, ◌^◌, min, ℕ, List, length, replicate, ap, ◌∙◌, arith}
+use Rattle.std.proofs.Common.{◌≡◌, ◌≤◌, ◌^◌, ℕ, replicate, arith}
 use Rattle.std.proofs.lemmas.List.{length-replicate}
-use Rattle.std.specs.declared.option.Option.{Option}
 use Rattle.tink_range.specs.RangeCores.{cutting_of}
 use Rattle.tink_range.specs.RangeReading.{range_end, range_start}
 use Rattle.tink_range.specs.Ranges.{chunk_count}

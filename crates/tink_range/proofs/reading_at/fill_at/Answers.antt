@@ -1,4 +1,4 @@
-use Rattle.std.proofs.Common.{◌≡◌, ◌≤◌, ◌-◌, ◌+◌, ◌∙◌, ℕ, length, arith, length-drop, take}
+use Rattle.std.proofs.Common.{◌≤◌, ◌-◌, ◌∙◌, ℕ, length, arith, length-drop}
 use Rattle.std.proofs.lemmas.List.{length-take}
 use Rattle.tink_range.proofs.ReadingFacts.{told_read_on}
 use Rattle.tink_range.proofs.reading_at.fill_at.Goals as goal

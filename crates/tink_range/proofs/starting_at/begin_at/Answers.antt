@@ -1,6 +1,5 @@
-use Rattle.std.proofs.Common.{◌≡◌, ◌-◌, ℕ, List, map, IfSome, ap, subst, ◌∙◌}
+use Rattle.std.proofs.Common.{◌-◌, List, map, IfSome, ap, subst, ◌∙◌}
 use Rattle.std.specs.Prelude.{IfErr, IfOk}
-use Rattle.std.specs.declared.option.Option.{Option}
 use Rattle.stream_model.specs.Opening.{OpeningKey, opening_key}
 use Rattle.tink_stream_keys.specs.StreamKinds.{key_in_set}
 use Rattle.tink_streams.specs.Choosing.{Found, StartRefused}

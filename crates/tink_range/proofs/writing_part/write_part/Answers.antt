@@ -1,7 +1,6 @@
-use Rattle.std.proofs.Common.{◌≡◌, ◌-◌, List, ℕ, take, drop, subst, ap, sym}
+use Rattle.std.proofs.Common.{subst}
 use Rattle.std.specs.Io.KnownBytes.{Appends}
 use Rattle.tink_io.specs.Written.{AppendsFront}
-use Rattle.tink_range.specs.Ranges.{within}
 use Rattle.tink_range.proofs.SliceFacts.{part_is}
 use Rattle.tink_range.proofs.writing_part.write_part.Goals as goal
 

@@ -3,7 +3,6 @@ use Rattle.std.specs.declared.option.Option.{Option}
 use Rattle.stream_model.specs.Cut.{room_at}
 use Rattle.tink_range.specs.ChunkReading.{OpensAt}
 use Rattle.tink_range.specs.RangeCores.{chunk_in, cutting_of}
-use Rattle.tink_range.specs.RangeReading.{LastRefused}
 use Rattle.tink_range.proofs.LastFacts.{told_agrees, told_refused}
 use Rattle.tink_range.proofs.ReadingFacts.{told_weaker}
 use Rattle.tink_range.proofs.chunks.RangeCore.check_last.Goals as goal
