@@ -24,7 +24,12 @@ const BY_GCM: &[u8; 26] =
 const LENGTHS: &[u64; 10] = &[0, 1, 2, 24, 25, 26, 35, 60, 200, 18446744073709551615];
 
 fn by_counter_mode(alloc: Global, value: &[u8]) -> Result<WrappedStreamingAead, TinkError> {
-    aeads_by(alloc, AesCtrHmacKeyManager::new(), AES_CTR_HMAC_TYPE_URL, value)
+    aeads_by(
+        alloc,
+        AesCtrHmacKeyManager::new(),
+        AES_CTR_HMAC_TYPE_URL,
+        value,
+    )
 }
 
 // Whether each range of a text of so many bytes is its slice, in pieces of so many bytes.
@@ -43,11 +48,36 @@ fn is_whole(
 #[test]
 fn every_range_is_a_slice(rt: HostRuntime) -> Result<(), Fail> {
     let aeads = by_counter_mode(rt.alloc(), SMALL)?;
-    let gcm = aeads_by(rt.alloc(), AesGcmHkdfKeyManager::new(), AES_GCM_HKDF_TYPE_URL, BY_GCM)?;
-    expect(&rt, is_whole(rt.alloc(), &aeads, 76, 0)?, true, "four segments of 35");
-    expect(&rt, is_whole(rt.alloc(), &aeads, 70, 7)?, true, "in pieces of 7");
-    expect(&rt, is_whole(rt.alloc(), &gcm, 112, 0)?, true, "four segments of 50");
-    expect(&rt, is_whole(rt.alloc(), &gcm, 80, 1)?, true, "in pieces of 1");
+    let gcm = aeads_by(
+        rt.alloc(),
+        AesGcmHkdfKeyManager::new(),
+        AES_GCM_HKDF_TYPE_URL,
+        BY_GCM,
+    )?;
+    expect(
+        &rt,
+        is_whole(rt.alloc(), &aeads, 76, 0)?,
+        true,
+        "four segments of 35",
+    );
+    expect(
+        &rt,
+        is_whole(rt.alloc(), &aeads, 70, 7)?,
+        true,
+        "in pieces of 7",
+    );
+    expect(
+        &rt,
+        is_whole(rt.alloc(), &gcm, 112, 0)?,
+        true,
+        "four segments of 50",
+    );
+    expect(
+        &rt,
+        is_whole(rt.alloc(), &gcm, 80, 1)?,
+        true,
+        "in pieces of 1",
+    );
     expect(&rt, is_whole(rt.alloc(), &gcm, 0, 0)?, true, "no text");
     Ok(())
 }
@@ -67,21 +97,47 @@ fn of_large(
     if changed < stream.len() {
         stream[changed] ^= 1;
     }
-    range_of(alloc, &aeads, MemAt::new(stream, 0, Vec::new(alloc)), start, len)
+    range_of(
+        alloc,
+        &aeads,
+        MemAt::new(stream, 0, Vec::new(alloc)),
+        start,
+        len,
+    )
 }
 
 #[test]
 fn ranges_of_three_segments(rt: HostRuntime) -> Result<(), Fail> {
     let alloc = rt.alloc();
     let (bytes, refused) = of_large(alloc, 12288, 99999, 4030, 20)?;
-    expect(&rt, (bytes.first().copied(), bytes.len(), refused), (Some(14), 20, None), "4030 20");
+    expect(
+        &rt,
+        (bytes.first().copied(), bytes.len(), refused),
+        (Some(14), 20, None),
+        "4030 20",
+    );
     let (bytes, refused) = of_large(alloc, 12288, 99999, 12160, 100)?;
-    expect(&rt, (bytes.first().copied(), bytes.len(), refused), (Some(112), 8, None), "12160 100");
+    expect(
+        &rt,
+        (bytes.first().copied(), bytes.len(), refused),
+        (Some(112), 8, None),
+        "12160 100",
+    );
     let (bytes, refused) = of_large(alloc, 12288, 99999, 20000, 5)?;
-    expect(&rt, (bytes.first().copied(), bytes.len(), refused), (None, 0, None), "20000 5");
+    expect(
+        &rt,
+        (bytes.first().copied(), bytes.len(), refused),
+        (None, 0, None),
+        "20000 5",
+    );
     let (bytes, refused) = of_large(alloc, 12287, 99999, 0, 10)?;
     let last = Some(Kind::BadSegment(2));
-    expect(&rt, (bytes.first().copied(), bytes.len(), refused), (None, 0, last), "cut");
+    expect(
+        &rt,
+        (bytes.first().copied(), bytes.len(), refused),
+        (None, 0, last),
+        "cut",
+    );
     Ok(())
 }
 
@@ -89,15 +145,35 @@ fn ranges_of_three_segments(rt: HostRuntime) -> Result<(), Fail> {
 fn damaged_segments(rt: HostRuntime) -> Result<(), Fail> {
     let alloc = rt.alloc();
     let (bytes, refused) = of_large(alloc, 12288, 5000, 0, 10)?;
-    expect(&rt, (bytes.first().copied(), bytes.len(), refused), (Some(0), 10, None), "untouched");
+    expect(
+        &rt,
+        (bytes.first().copied(), bytes.len(), refused),
+        (Some(0), 10, None),
+        "untouched",
+    );
     let (bytes, refused) = of_large(alloc, 12288, 5000, 4040, 1)?;
     let bad = Some(Kind::BadSegment(1));
-    expect(&rt, (bytes.first().copied(), bytes.len(), refused), (None, 0, bad), "touched");
+    expect(
+        &rt,
+        (bytes.first().copied(), bytes.len(), refused),
+        (None, 0, bad),
+        "touched",
+    );
     let (bytes, refused) = of_large(alloc, 12288, 5000, 4030, 20)?;
-    expect(&rt, (bytes.first().copied(), bytes.len(), refused), (Some(14), 10, bad), "touched second");
+    expect(
+        &rt,
+        (bytes.first().copied(), bytes.len(), refused),
+        (Some(14), 10, bad),
+        "touched second",
+    );
     let (bytes, refused) = of_large(alloc, 12288, 5, 0, 10)?;
     let none = Some(Kind::NoMatchingKey);
-    expect(&rt, (bytes.first().copied(), bytes.len(), refused), (None, 0, none), "another salt");
+    expect(
+        &rt,
+        (bytes.first().copied(), bytes.len(), refused),
+        (None, 0, none),
+        "another salt",
+    );
     Ok(())
 }
 
@@ -116,9 +192,19 @@ fn an_object_that_fails(rt: HostRuntime) -> Result<(), Fail> {
     for call in 1..8 {
         let (bytes, refused) = failing(rt.alloc(), call)?;
         let given = [0, 0, 0, 0, 1, 26, 51].get(call as usize - 1).copied();
-        expect(&rt, (Some(bytes.len()), refused), (given, fault), "a read that fails");
+        expect(
+            &rt,
+            (Some(bytes.len()), refused),
+            (given, fault),
+            "a read that fails",
+        );
     }
     let (bytes, refused) = failing(rt.alloc(), 8)?;
-    expect(&rt, (Some(bytes.len()), refused), (Some(76), None), "no read fails");
+    expect(
+        &rt,
+        (Some(bytes.len()), refused),
+        (Some(76), None),
+        "no read fails",
+    );
     Ok(())
 }
