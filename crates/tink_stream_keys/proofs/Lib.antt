@@ -1,4 +1,5 @@
 pub mod DerivedKeys
+pub mod DecrypterFacts
 pub mod HeaderFacts
 pub mod NewWriterSteps
 pub mod NewReaderSteps

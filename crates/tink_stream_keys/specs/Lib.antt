@@ -3,3 +3,4 @@ pub mod StreamKinds
 pub mod Encrypting
 pub mod NewStreams
 pub mod Decrypting
+pub mod Decrypters

@@ -43,7 +43,7 @@ fn read_header<T: DerivesStreams, S: Source>(
 }
 
 // How a key's segments under a header are opened.
-fn opener_of<T: DerivesStreams>(
+pub fn opener_of<T: DerivesStreams>(
     key: &T,
     cipher: StreamSegment,
     header: &[u8],
@@ -55,6 +55,7 @@ fn opener_of<T: DerivesStreams>(
     requires prefix { 7 ≤ vec_capacity prefix }
     ensures decrypter { result.decrypter ≡ cipher }
     ensures prefix { result.prefix.items ≡ drop ((T.key_of key.now).derived + 1) header.now }
+    ensures room { 7 ≤ vec_capacity result.prefix }
     ensures nonce_size { result.nonce_size ≡ nonce_size (T.key_of key.now) }
     ensures overhead { result.overhead ≡ overhead (T.key_of key.now) }
     ensures first { result.first ≡ first_segment (T.key_of key.now) }

@@ -3,7 +3,9 @@
 
 mod aes_ctr_hmac;
 mod aes_gcm_hkdf;
+mod behind_front;
 mod choosing;
+mod decrypter;
 mod decrypting;
 mod encrypting;
 mod key_under;
@@ -16,7 +18,9 @@ mod streaming_key;
 
 pub use aes_ctr_hmac::AesCtrHmac;
 pub use aes_gcm_hkdf::AesGcmHkdf;
+pub use behind_front::opener_behind;
 pub use choosing::choose;
+pub use decrypter::{StreamDecrypter, decrypter_of};
 pub use encrypting::{begin_stream, new_encrypting_writer};
 pub use new_stream::{Front, NewStream, prepare_stream};
 pub use starting::{Trial, start};

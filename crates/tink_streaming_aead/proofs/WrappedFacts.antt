@@ -19,11 +19,11 @@ use Rattle.stream_model.specs.Order.{IsOfKeyset, with_prefix}
 use Rattle.stream_model.proofs.OrderFacts.{choose_the_same}
 use Rattle.tink_keysets.specs.Built.{HasEntries}
 use Rattle.tink_sets.specs.Entries.{typed_prefix_of}
-use Rattle.tink_sets.specs.Groups.{AreGroupsOf, group_at}
+use Rattle.tink_sets.specs.Groups.{AreGroupsOf, group_at, group_of}
 use Rattle.tink_sets.specs.declared.entry.TypedEntry.{TypedEntry}
 use Rattle.tink_stream_keys.specs.StreamKinds.{key_in_set}
 use Rattle.tink_stream_keys.specs.declared.stream_kind.StreamKind.{StreamKind}
-use Rattle.tink_streaming_aead.specs.Wrapped.{AreKeysOf, ChoosesInOrder, HasOutputPrefix, KeepsOrder, KeepsPrefixes, all_entries, joined_lists, key_in, keys_in, set_keys}
+use Rattle.tink_streaming_aead.specs.Wrapped.{AreKeysOf, ArePure, ChoosesInOrder, HasOutputPrefix, IsPure, KeepsOrder, KeepsPrefixes, all_entries, joined_lists, key_in, keys_in, set_keys}
 
 abbrev One : Type 0
 One = TypedEntry StreamKind
@@ -45,6 +45,11 @@ filtered_keys prefix (e ∷ es) = by (has prefix e) (filtered_keys prefix es)
     by true later = ap (λ ks. key_in_set e ∷ ks) later
     by false later = later
 
+-- the keys of entries that are lent
+pub lent_keys : {B : Type 0} (now : B → One) (es : List B) → map (λ e. key_in_set (now e)) es ≡ keys_in (map now es)
+lent_keys now [] = refl
+lent_keys now (e ∷ es) = ap (λ ks. key_in_set (now e) ∷ ks) (lent_keys now es)
+
 -- a list whose elements pass is kept whole
 kept_whole : (test : One → Bool) (es : List One) → All (λ e. test e ≡ true) es → filter test es ≡ es
 kept_whole test [] all = refl
@@ -65,10 +70,6 @@ module _ {A : Type 0} where
 
   abbrev left_at : List (Vec ℕ A × List One) → List ℕ → Option (List One)
   left_at es prefix = lookup (is_at (λ k. slice_cmp nat_cmp prefix k.items)) es
-
-  -- each entry of a list has its prefix
-  abbrev IsPure : Vec ℕ A × List One → Type 0
-  IsPure e = All (λ x. x.prefix ≡ e.0.items) e.1
 
   abbrev IsBelow : Vec ℕ A → Vec ℕ A → Type 0
   IsBelow k q = cmp k q ≡ Less
@@ -120,6 +121,14 @@ module _ {A : Type 0} where
   pure_of entries m groups e found =
       subst (All (λ x. x.prefix ≡ e.0.items)) (list_is entries m groups e found)
       (All-weaker (λ x. has e.0.items x ≡ true) (λ x. x.prefix ≡ e.0.items) (λ x p. (bytes_decides x.prefix e.0.items).0 p) (filter (has e.0.items) entries) (filter_passes (has e.0.items) entries))
+
+  -- the lists of a set that has some entries are of one prefix each
+  pub pure_groups : (m : BTreeMap (Vec ℕ A) (List One)) → All (IsFound m) m.entries → (entries : List One) → AreGroupsOf typed_prefix_of entries m → ArePure m
+  pure_groups m found entries groups = All-weaker (IsFound m) IsPure (pure_of entries m groups) m.entries found
+
+  -- and each has all keys of its prefix
+  pub group_keys : (m : BTreeMap (Vec ℕ A) (List One)) → IsOrdered cmp m → ArePure m → (prefix : List ℕ) → keys_in (group_of m prefix) ≡ with_prefix prefix (keys_in (all_entries m))
+  group_keys m ordered pure prefix = sym (filtered_keys prefix (all_entries m) ∙ ap keys_in (joined_has m.entries ordered pure prefix))
 
   -- all entries of a set are those that it has, those of one prefix in their order
   pub keeps_order : (m : BTreeMap (Vec ℕ A) (List One)) → IsOrdered cmp m → All (IsFound m) m.entries → KeepsOrder m

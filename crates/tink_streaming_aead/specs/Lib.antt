@@ -6,3 +6,4 @@ pub mod DecryptStages
 pub mod Wrapped
 pub mod WholeReading
 pub mod OneKey
+pub mod Candidates

@@ -38,6 +38,13 @@ joined_lists (xs ∷ lists) = xs ++ joined_lists lists
 abbrev pub all_entries : {G : Type 0} → BTreeMap (Vec ℕ G) (List (TypedEntry StreamKind)) → List (TypedEntry StreamKind)
 all_entries groups = joined_lists (values groups)
 
+-- each list of a set has entries of the prefix under which it stands
+abbrev pub IsPure : {G : Type 0} → Vec ℕ G × List (TypedEntry StreamKind) → Type 0
+IsPure group = All (λ e. e.prefix ≡ group.0.items) group.1
+
+abbrev pub ArePure : {G : Type 0} → BTreeMap (Vec ℕ G) (List (TypedEntry StreamKind)) → Type 0
+ArePure groups = All IsPure groups.entries
+
 -- whichever entries a set has, these are they, those of one prefix in their order
 abbrev pub KeepsOrder : {G : Type 0} → BTreeMap (Vec ℕ G) (List (TypedEntry StreamKind)) → Type 0
 KeepsOrder groups =

@@ -12,9 +12,12 @@ ghost use Rattle.tink_streaming_aead.specs.DecryptReaders.{largest, largest_segm
 ghost use Rattle.tink_streaming_aead.specs.DecryptReaders.DecryptState.{Unread};
 ghost use Rattle.tink_stream_keys.specs.Encrypting.{NewWriterMeans, sink_of};
 ghost use Rattle.tink_stream_keys.specs.StreamKinds.{key_in_set};
-ghost use Rattle.tink_streaming_aead.specs.Wrapped.{AreKeysOf, ByPrimary, HasOutputPrefix, KeepsOrder, KeepsPrefixes, all_entries, keys_in};
+ghost use Rattle.tink_streaming_aead.specs.Wrapped.{AreKeysOf, ArePure, ByPrimary, HasOutputPrefix, KeepsOrder, KeepsPrefixes, all_entries, keys_in};
+
+mod candidates;
 
 use crate::decrypt_reader::{Choice, DecryptReader};
+use candidates::own_groups;
 use std::alloc::Global;
 use std::marker::Model;
 use tink_core::CloneIn;
@@ -37,6 +40,7 @@ pub struct WrappedStreamingAead {
     ps: TypedPrimitiveSet<StreamKind>,
     ghost has_primary: { is_some ps.primary ≡ true },
     ghost most: { largest (keys_in (all_entries ps.entries)) ≤ largest_segment (keys_in (all_entries ps.entries)) + 5 },
+    ghost pure: { ArePure ps.entries },
 }
 
 impl Model for WrappedStreamingAead {
@@ -67,6 +71,7 @@ where
     match typed_primitives::<M, StreamingAeads>(alloc, h, registry) {
         Ok(ps) => {
             keeps_order(&ps);
+            own_groups(&ps);
             Ok(WrappedStreamingAead { ps })
         }
         Err(e) => Err(e),

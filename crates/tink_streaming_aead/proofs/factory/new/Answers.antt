@@ -10,7 +10,7 @@ invariant_of-result g c =
     let prefixes = c.keeps_order.ensures.prefixes s.0 s.2.by_prefix
     (have_prefixes as_streaming_aead g.M.KeyManager.url g.M.KeyManager.supports g.M.KeyManager.builds c.args.registry.now.managers c.args.h.now.primary_key_id c.args.h.now s.0 s.1)
     in
-    (c.in-Ok.ensures.primary, (most_more (keys_in (all_entries c.in-Ok.ps.entries)) prefixes, tt))
+    (c.in-Ok.ensures.primary, (most_more (keys_in (all_entries c.in-Ok.ps.entries)) prefixes, (c.own_groups.ensures.pure s.0 s.2.by_prefix, tt)))
 
 pub returns-in-Ok-clause-set : goal.returns-in-Ok-clause-set
 returns-in-Ok-clause-set g c =

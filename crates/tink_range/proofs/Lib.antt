@@ -1,0 +1,13 @@
+pub mod ShapeFacts
+pub mod GivesFacts
+pub mod SliceFacts
+pub mod ReadingFacts
+pub mod PlaceFacts
+pub mod GivingSteps
+pub mod GivingTold
+pub mod GivingEnds
+pub mod LastFacts
+pub mod RangeSteps
+pub mod TrialAtFacts
+pub mod TriesFacts
+pub mod StartAtFacts

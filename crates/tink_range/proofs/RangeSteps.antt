@@ -1,0 +1,81 @@
+-- From the last chunk's opening and the giving of a range to the answer.
+use Rattle.std.proofs.Common.{◌≡◌, inl, inr, ◌≤◌, ◌^◌, ℕ, List, [], refl, ap, subst, ◌∙◌, arith, Some, None, IfSome}
+use Rattle.std.specs.Prelude.{Result, Ok, Err}
+use Rattle.std.specs.declared.option.Option.{Option}
+use Rattle.tink_io.proofs.FaultLemmas.{Rose-earlier}
+use Rattle.tink_io.specs.declared.error.TinkError.{TinkError}
+use Rattle.tink_io.specs.declared.error.Kind.{Kind}
+use Rattle.tink_io.specs.declared.error.Kind.TheVariants.{BadSegment, ReadFault, Truncated, WriteFault}
+use Rattle.tink_segment_traits.specs.declared.segment_traits.SegmentDecrypter.{Ghosts}
+use Rattle.tink_streams.specs.Openers.{segment_map}
+use Rattle.tink_streams.specs.declared.opener.Opener.{Opener}
+use Rattle.tink_range.specs.ChunkReading.{Ends}
+use Rattle.tink_range.specs.Giving.{Cutting, GiveMeans, GiveRefused, chunks_in}
+use Rattle.tink_range.specs.RangeCores.{IsSameCore, cutting_of}
+use Rattle.tink_range.specs.RangeReading.{LastRefused, RangeMeans, RangeRefused, range_end, range_start}
+use Rattle.tink_range.specs.Ranges.{LastAgrees, SomeGive, chunk_count}
+use Rattle.tink_range.specs.declared.chunks.RangeCore.{RangeCore}
+use Rattle.tink_range.proofs.GivingTold.{Appends-none}
+
+-- cores that open alike cut alike
+pub same_cutting : {D : Type 0} {g : Ghosts D} (old core : RangeCore D g) → IsSameCore old core → cutting_of core ≡ cutting_of old
+same_cutting {D} {g} old core same =
+    let of : Opener D g → ℕ → Cutting = λ o f. record { seg = segment_map o; front = f; first = o.first; size = o.size; over = o.overhead } in
+    ap (λ o. of o core.front) same.opener ∙ ap (of old.opener) same.front
+
+module _ {W : Type 0} (got : W → Option (List ℕ)) (faults : W → ℕ) (c : Cutting) (behind start len : ℕ) (few : chunk_count c.first c.size behind ≤ 2 ^ 32) where
+  none_given : (lo hi : ℕ) (all : Option (List ℕ)) → IfSome all (λ S. SomeGive c.seg c.over lo hi (chunks_in c S) [])
+  none_given lo hi None = tt
+  none_given lo hi (Some S) = (0, 0, chunks_in c S, (refl, refl, refl))
+
+  -- the last chunk is refused, and nothing was written
+  pub last_refused : (all : Option (List ℕ)) (before after : ℕ) (w : W) (kind : Kind) → LastRefused c behind all before after kind
+      → RangeRefused got faults c behind start len (record { all = all; reads_before = before; reads_after = after; old = w; new = w }) kind
+  last_refused all before after w ReadFault rose = record {
+    few = few;
+    gave = record { rose = rose; bytes = []; gives = none_given (range_start c behind start) (range_end c behind start len) all; written = (0, omega arith, Appends-none (got w)) };
+    checked = inl refl;
+  }
+  last_refused all before after w (Truncated n) last = record { few = few; last = last; same = refl }
+  last_refused all before after w (BadSegment n) last = inl (record { few = few; last = last; same = refl })
+  last_refused all before after w _ none = absurd none
+
+  given_refused : (e : Ends W) (then : ℕ) (kind : Kind) → e.reads_before ≤ then → IfSome e.all (λ S. LastAgrees c.seg (chunks_in c S))
+      → GiveRefused got faults c (range_start c behind start) (range_end c behind start len) (record e { reads_before = then }) kind → RangeRefused got faults c behind start len e kind
+  given_refused e then ReadFault before checked gave = record {
+    few = few;
+    gave = record { rose = Rose-earlier _ _ _ before gave.rose; bytes = gave.bytes; gives = gave.gives; written = gave.written };
+    checked = inr checked;
+  }
+  given_refused e then WriteFault before checked gave = record {
+    few = few;
+    gave = record { rose = gave.rose; bytes = gave.bytes; gives = gave.gives; written = gave.written };
+    checked = inr checked;
+  }
+  given_refused e then (BadSegment n) before checked gave = inr (record {
+    few = few;
+    checked = checked;
+    gave = record { bytes = gave.bytes; stops = gave.stops; written = gave.written };
+  })
+  given_refused e then _ before checked gave = absurd gave
+
+  given_here : (e : Ends W) (then : ℕ) (r : Result ℕ TinkError) → e.reads_before ≤ then → IfSome e.all (λ S. LastAgrees c.seg (chunks_in c S))
+      → GiveMeans got faults c (range_start c behind start) (range_end c behind start len) (record e { reads_before = then }) r → RangeMeans got faults c behind start len e r
+  given_here e then (Ok n) before checked gave = record {
+    few = few;
+    checked = checked;
+    gave = record { bytes = gave.bytes; gives = gave.gives; written = gave.written; count = gave.count };
+  }
+  given_here e then (Err error) before checked gave = given_refused e then error.kind before checked gave
+
+  -- what giving the range answers once the last chunk was opened
+  pub range_given : (e : Ends W) (other : Cutting) (known : Option (List ℕ)) (then lo hi : ℕ) (r : Result ℕ TinkError) → other ≡ c → known ≡ e.all → lo ≡ range_start c behind start → hi ≡ range_end c behind start len
+      → e.reads_before ≤ then → IfSome e.all (λ S. LastAgrees c.seg (chunks_in c S))
+      → GiveMeans got faults other lo hi (record { all = known; reads_before = then; reads_after = e.reads_after; old = e.old; new = e.new }) r → RangeMeans got faults c behind start len e r
+  range_given e other known then lo hi r cuts told l h before checked gave =
+      let of : Cutting → Option (List ℕ) → ℕ → ℕ → Type 0 = λ k all a b. GiveMeans got faults k a b (record { all = all; reads_before = then; reads_after = e.reads_after; old = e.old; new = e.new }) r in
+      given_here e then r before checked
+      (subst (λ (k : Cutting). of k e.all (range_start c behind start) (range_end c behind start len)) cuts
+      (subst (λ (k : Option (List ℕ)). of other k (range_start c behind start) (range_end c behind start len)) told
+      (subst (λ (k : ℕ). of other known k (range_end c behind start len)) l
+      (subst (λ (k : ℕ). of other known lo k) h gave))))

@@ -1,0 +1,25 @@
+-- From the keys of a list to those of a keyset.
+use Rattle.std.proofs.Common.{◌≡◌, ℕ, List, [], ◌∷◌, map, refl, ap}
+use Rattle.std.specs.Prelude.{Result, Ok, Err, IfErr}
+use Rattle.std.specs.declared.option.Option.{Option}
+use Rattle.tink_io.specs.declared.error.Kind.{Kind}
+use Rattle.tink_io.specs.declared.error.Kind.TheVariants.{NoMatchingKey, ReadFault}
+use Rattle.tink_io.specs.declared.error.TinkError.{TinkError}
+use Rattle.stream_model.specs.Opening.{OpeningKey}
+use Rattle.tink_streams.specs.Choosing.{StartRefused}
+use Rattle.tink_range.specs.ChoosingAt.{NewRefused}
+
+pub fused : {B C D : Type 0} (f : C → D) (h : B → C) (xs : List B) → map (λ k. f (h k)) xs ≡ map f (map h xs)
+fused f h [] = refl
+fused f h (x ∷ xs) = ap (λ ys. f (h x) ∷ ys) (fused f h xs)
+
+-- the refusal of a start is one of a new reader
+by_kind : {A : Type 0} (bytes : A → Option (List ℕ)) (faults : A → ℕ) (ks : List OpeningKey) (old new : A) (kind : Kind) → StartRefused ks (bytes old) (faults old) (faults new) kind → NewRefused bytes faults ks old new kind
+by_kind bytes faults ks old new ReadFault h = h
+by_kind bytes faults ks old new NoMatchingKey h = h
+by_kind bytes faults ks old new _ h = absurd h
+
+pub new_refused : {A T : Type 0} (bytes : A → Option (List ℕ)) (faults : A → ℕ) (ks : List OpeningKey) (old new : A) (r : Result T TinkError)
+    → IfErr r (λ e. StartRefused ks (bytes old) (faults old) (faults new) e.kind) → IfErr r (λ e. NewRefused bytes faults ks old new e.kind)
+new_refused bytes faults ks old new (Ok v) h = tt
+new_refused bytes faults ks old new (Err e) h = by_kind bytes faults ks old new e.kind h

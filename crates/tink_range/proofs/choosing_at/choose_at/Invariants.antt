@@ -1,0 +1,23 @@
+-- What is chosen of the rest of the keys is chosen, and so many of those before were tried.
+use Rattle.std.proofs.Common.{◌≡◌, ◌≤◌, ◌+◌, ◌-◌, IfSome, vec_len, vec_capacity}
+use Rattle.stream_model.specs.Opening.{opening_key}
+use Rattle.tink_streams.proofs.ChoosingSteps.{ChosenFrom}
+use Rattle.tink_range.specs.Objects.{IsKept}
+use Rattle.tink_range.proofs.TriesFacts.{TriesFrom}
+use Rattle.tink_range.proofs.choosing_at.choose_at.Given as goal
+
+abbrev pub invariant-loop-key : goal.invariant-loop-key
+invariant-loop-key g l =
+    let object = g.A.ReadAt in
+    record {
+      sealed_len : vec_len l.sealed ≡ vec_len l.fn.sealed;
+      text_room : vec_capacity l.fn.text ≤ vec_capacity l.text;
+      nonce_len : vec_len l.nonce ≡ vec_len l.fn.nonce;
+      prefix_room : 7 ≤ vec_capacity l.prefix;
+      chosen : IfSome (object.bytes l.fn.object) (ChosenFrom (λ k. opening_key l.fn.aad (g.T.DerivesStreams.key_of k)) l.keys l.key-index);
+      tried : IfSome (object.bytes l.fn.object) (TriesFrom (λ k. opening_key l.fn.aad (g.T.DerivesStreams.key_of k)) l.keys l.key-index (l.steps - l.fn.steps));
+      ticked : l.fn.steps ≤ l.steps;
+      few : l.steps ≤ l.fn.steps + l.key-index;
+      kept : IsKept object.length_of object.bytes object.faults l.fn.object l.object;
+      same : object.same l.fn.object l.object;
+    }

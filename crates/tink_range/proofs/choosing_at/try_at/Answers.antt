@@ -1,0 +1,82 @@
+use Rattle.std.proofs.Common.{◌≡◌, ◌≤◌, ◌<◌, ◌+◌, ◌-◌, ℕ, Bool, List, length, take, ap, vec_capacity, arith}
+use Rattle.std.proofs.lemmas.List.{length-take}
+use Rattle.std.specs.declared.option.Option.{Option}
+use Rattle.stream_model.specs.Cut.{numbered}
+use Rattle.stream_model.specs.Key.{StreamKey, nonce_size}
+use Rattle.stream_model.specs.Opening.{Begins, OpeningKey, front_length, opening_key}
+use Rattle.stream_model.proofs.KeyFacts.{opening_key_lawful}
+use Rattle.tink_segments.specs.StreamSegments.{segment_by}
+use Rattle.tink_range.specs.ChoosingAt.{DoesBeginAt, DoesNotBeginAt, is_tried, one_if}
+use Rattle.tink_range.specs.declared.choosing_at.BegunAt.{BegunAt}
+use Rattle.tink_range.proofs.ReadingFacts.{told_weaker}
+use Rattle.tink_range.proofs.TrialAtFacts.{by_test, short_not, short_untried, told_does, told_not, told_underived}
+use Rattle.tink_range.proofs.choosing_at.try_at.Goals as goal
+
+pub returns-then-size-front-clause-answer : goal.returns-then-size-front-clause-answer
+returns-then-size-front-clause-answer g c =
+    let key : StreamKey = g.T.DerivesStreams.key_of c.args.key.now in
+    let k : OpeningKey = opening_key c.args.aad.now key in
+    let all : Option (List ℕ) = g.A.ReadAt.bytes c.args.object.now in
+    let len : ℕ = g.A.ReadAt.length_of c.args.object.now in
+    let short : len ≤ front_length k = omega (arith, ap length c.output_prefix.ensures, c.header_length.ensures.value, c.size-size.ensures, c.if-size-front.true) in
+    record {
+      none = told_weaker all (λ S. length S ≡ len) (λ S. Begins k S → ⊥) (λ S e. short_not k S (omega (arith, e, short))) (g.met.A.ReadAt.told c.args.object.now);
+      ticked = told_weaker all (λ S. length S ≡ len) (λ S. c.args.steps.now ≡ c.args.steps.now + one_if (is_tried k S)) (λ S e. omega (arith, short_untried k S (omega (arith, e, short)))) (g.met.A.ReadAt.told c.args.object.now);
+      room = c.requires.prefix;
+    }
+
+pub returns-in-Err-clause-answer : goal.returns-in-Err-clause-answer
+returns-in-Err-clause-answer g c =
+    let key : StreamKey = g.T.DerivesStreams.key_of c.args.key.now in
+    let k : OpeningKey = opening_key c.args.aad.now key in
+    let all : Option (List ℕ) = g.A.ReadAt.bytes c.args.object.now in
+    let len : ℕ = g.A.ReadAt.length_of c.args.object.now in
+    let front : ℕ = length c.output_prefix.result.now + c.header_length.result in
+    let front_is : front ≡ front_length k = omega (arith, ap length c.output_prefix.ensures, c.header_length.ensures.value) in
+    let some : 0 < k.header = omega arith in
+    let inside : front_length k ≤ len = omega (arith, front_is, c.size-size.ensures, c.if-size-front.false) in
+    let usable = opening_key_lawful c.args.aad.now key c.header_length.ensures.usable in
+    let called = c.in_ok-opener.ensures in
+    let n : ℕ = length (take front c.deref_mut.result.now) in
+    let n_is : n ≡ front_length k = omega (arith, front_is, length-take front c.deref_mut.result.now, ap length c.deref_mut.ensures.value, c.requires.sealed, usable.fits) in
+    let none = told_underived k c.front_at.new.held n len some n_is inside all c.args.steps.now
+    (g.met.A.ReadAt.told c.args.object.now) called.read (rw c.in-Err.is at called.answer) in
+    record { none = none.0; ticked = none.1; room = rw c.in-Err.is at called.room }
+
+pub returns-in_ok-begins-in-Ok-clause-answer : goal.returns-in_ok-begins-in-Ok-clause-answer
+returns-in_ok-begins-in-Ok-clause-answer g c =
+    let key : StreamKey = g.T.DerivesStreams.key_of c.args.key.now in
+    let k : OpeningKey = opening_key c.args.aad.now key in
+    let all : Option (List ℕ) = g.A.ReadAt.bytes c.args.object.now in
+    let len : ℕ = g.A.ReadAt.length_of c.args.object.now in
+    let front : ℕ = length c.output_prefix.result.now + c.header_length.result in
+    let front_is : front ≡ front_length k = omega (arith, ap length c.output_prefix.ensures, c.header_length.ensures.value) in
+    let some : 0 < k.header = omega arith in
+    let more : front < len = omega (arith, c.size-size.ensures, c.if-size-front.false) in
+    let inside : front_length k ≤ len = omega (arith, front_is, more) in
+    let usable = opening_key_lawful c.args.aad.now key c.header_length.ensures.usable in
+    let called = c.in_ok-opener.ensures in
+    let opens = rw c.in-Ok.is at called.answer in
+    let o = c.in-Ok.opener in
+    let seg : ℕ → Bool → List ℕ → List ℕ = numbered (segment_by o.decrypter) o.nonce_size o.prefix.items in
+    let rest_is : c.size-size.result - front ≡ len - front = omega (arith, c.size-size.ensures) in
+    let n : ℕ = length (take front c.deref_mut.result.now) in
+    let n_is : n ≡ front_length k = omega (arith, front_is, length-take front c.deref_mut.result.now, ap length c.deref_mut.ensures.value, c.requires.sealed, usable.fits) in
+    let opened = c.in_ok-begins-in-Ok.ensures in
+    by_test (λ (b : BegunAt). DoesBeginAt k (nonce_size key) len all (numbered (segment_by b.opener.decrypter) b.opener.nonce_size b.opener.prefix.items) b.front b.opener.first b.opener.size b.opener.overhead b.opener.nonce_size c.args.steps.now c.open_at.new.steps)
+    (λ memory. DoesNotBeginAt k all c.args.steps.now c.open_at.new.steps (vec_capacity memory))
+    c.in_ok-begins-in-Ok.begins (record { opener = o; front = front }) o.prefix c.begun_if.result c.begun_if.ensures
+    (λ agrees. record {
+      found = told_does k c.front_at.new.held n len some n_is inside seg front o.first o.size o.overhead (nonce_size key) o.nonce_size (c.size-size.result - front) opens front_is
+          (omega (arith, usable.room)) (omega (arith, usable.room, usable.fits)) usable.fits more rest_is all (g.A.ReadAt.bytes c.front_at.new.object) c.open_at.new.text.items c.in_ok-begins-in-Ok.begins
+          called.kept.bytes_are agrees (g.met.A.ReadAt.told c.args.object.now) called.read opened.answer;
+      opened = record { first_is = opens.first_is; size_is = opens.size_is; overhead_is = opens.overhead_is; nonce_is = opens.nonce_is };
+      front_is = front_is;
+      inside = more;
+      ticked = opened.ticks;
+    })
+    (λ differs.
+    let not = told_not k c.front_at.new.held n len some n_is inside seg front o.first o.size o.overhead (nonce_size key) o.nonce_size (c.size-size.result - front) opens front_is
+    (omega (arith, usable.room)) (omega (arith, usable.room, usable.fits)) usable.fits more rest_is all (g.A.ReadAt.bytes c.front_at.new.object) c.open_at.new.text.items c.in_ok-begins-in-Ok.begins c.args.steps.now c.open_at.new.steps
+    called.kept.bytes_are differs opened.ticks (g.met.A.ReadAt.told c.args.object.now) called.read opened.answer in
+    record { none = not.0; ticked = not.1; room = rw c.in-Ok.is at called.room })

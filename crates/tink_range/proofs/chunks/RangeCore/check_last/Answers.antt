@@ -1,0 +1,38 @@
+use Rattle.std.proofs.Common.{◌≡◌, ◌≤◌, ◌<◌, ◌+◌, ◌-◌, ℕ, Bool, List, length, IfSome, ap, sym, subst, ◌∙◌, arith}
+use Rattle.std.specs.declared.option.Option.{Option}
+use Rattle.stream_model.specs.Cut.{room_at}
+use Rattle.tink_range.specs.ChunkReading.{OpensAt}
+use Rattle.tink_range.specs.RangeCores.{chunk_in, cutting_of}
+use Rattle.tink_range.proofs.LastFacts.{told_agrees, told_refused}
+use Rattle.tink_range.proofs.ReadingFacts.{told_weaker}
+use Rattle.tink_range.proofs.chunks.RangeCore.check_last.Goals as goal
+
+pub returns-in-Ok-true-clause-answer : goal.returns-in-Ok-true-clause-answer
+returns-in-Ok-true-clause-answer g c =
+    let core = c.args.self.now in
+    let all : Option (List ℕ) = g.A.ReadAt.bytes c.args.object.now in
+    let long : IfSome all (λ S. length S ≡ core.front + core.behind) = told_weaker all (λ S. length S ≡ g.A.ReadAt.length_of c.args.object.now) (λ S. length S ≡ core.front + core.behind) (λ S e. e ∙ sym c.requires.object) (g.met.A.ReadAt.told c.args.object.now) in
+    told_agrees (cutting_of core) core.behind c.args.number c.args.start (room_at core.opener.first core.opener.size c.args.number) c.requires.start c.requires.room c.requires.shape all c.open_chunk.new.self.buffers.text.items long
+    (subst (λ (b : Bool). OpensAt (cutting_of core).seg (chunk_in core c.args.number c.args.start) all b c.open_chunk.new.self.buffers.text.items) c.in-Ok-true.field-0-test c.in-Ok-true.ensures.answer)
+
+pub returns-then-self-start-clause-answer : goal.returns-then-self-start-clause-answer
+returns-then-self-start-clause-answer g c =
+    let core = c.args.self.now in
+    let all : Option (List ℕ) = g.A.ReadAt.bytes c.args.object.now in
+    let long : IfSome all (λ S. length S ≡ core.front + core.behind) = told_weaker all (λ S. length S ≡ g.A.ReadAt.length_of c.args.object.now) (λ S. length S ≡ core.front + core.behind) (λ S e. e ∙ sym c.requires.object) (g.met.A.ReadAt.told c.args.object.now) in
+    rw c.new.ensures
+    (told_refused (cutting_of core) core.behind c.args.number c.args.start (room_at core.opener.first core.opener.size c.args.number) c.requires.start c.requires.room c.requires.shape all c.open_chunk.new.self.buffers.text.items
+    (λ len. len < core.opener.overhead) (omega (arith, c.if-self-start.true, c.in-Ok-false.ensures.core.behind, ap (λ o. o.overhead) c.in-Ok-false.ensures.core.opener)) long
+    (subst (λ (b : Bool). OpensAt (cutting_of core).seg (chunk_in core c.args.number c.args.start) all b c.open_chunk.new.self.buffers.text.items) c.in-Ok-false.field-0-test c.in-Ok-false.ensures.answer))
+
+pub returns-else-self-start-clause-answer : goal.returns-else-self-start-clause-answer
+returns-else-self-start-clause-answer g c =
+    let core = c.args.self.now in
+    let all : Option (List ℕ) = g.A.ReadAt.bytes c.args.object.now in
+    let long : IfSome all (λ S. length S ≡ core.front + core.behind) = told_weaker all (λ S. length S ≡ g.A.ReadAt.length_of c.args.object.now) (λ S. length S ≡ core.front + core.behind) (λ S e. e ∙ sym c.requires.object) (g.met.A.ReadAt.told c.args.object.now) in
+    let same = c.in-Ok-false.ensures.core in
+    let size : core.opener.overhead ≤ core.behind - c.args.start = omega (arith, c.if-self-start.false, same.behind, ap (λ o. o.overhead) same.opener) in
+    rw c.new-in-Ok-false.ensures
+    (told_refused (cutting_of core) core.behind c.args.number c.args.start (room_at core.opener.first core.opener.size c.args.number) c.requires.start c.requires.room c.requires.shape all c.open_chunk.new.self.buffers.text.items
+    (λ len. core.opener.overhead ≤ len) size long
+    (subst (λ (b : Bool). OpensAt (cutting_of core).seg (chunk_in core c.args.number c.args.start) all b c.open_chunk.new.self.buffers.text.items) c.in-Ok-false.field-0-test c.in-Ok-false.ensures.answer))

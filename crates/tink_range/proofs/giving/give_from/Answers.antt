@@ -1,0 +1,105 @@
+use Rattle.std.proofs.Common.{◌≡◌, ◌+◌, ℕ, List, length, IfSome, refl, sym, ap, ◌∙◌, arith}
+use Rattle.std.specs.Prelude.{Ok, Err}
+use Rattle.std.specs.declared.option.Option.{Option}
+use Rattle.stream_model.specs.Cut.{room_at}
+use Rattle.tink_range.specs.RangeCores.{cutting_of}
+use Rattle.tink_range.proofs.GivingEnds.{gave_all, gave_refused, same_one}
+use Rattle.tink_range.proofs.GivingTold.{IsNext, next_giving, next_place_is, next_ticks, nothing_given, within_few}
+use Rattle.tink_range.proofs.PlaceFacts.{is_reached, number_few, text_before}
+use Rattle.tink_range.proofs.ReadingFacts.{told_weaker}
+use Rattle.tink_range.proofs.giving.give_from.Goals as goal
+
+pub loop-place-init : goal.loop-place-init
+loop-place-init g c =
+    let core = c.args.core.now in
+    let o = core.opener in
+    let from = c.args.from in
+    let all : Option (List ℕ) = g.A.ReadAt.bytes c.args.object.now in
+    let long : IfSome all (λ S. length S ≡ core.front + core.behind) = told_weaker all (λ S. length S ≡ g.A.ReadAt.length_of c.args.object.now) (λ S. length S ≡ core.front + core.behind) (λ S e. e ∙ sym c.requires.object) (g.met.A.ReadAt.told c.args.object.now) in
+    record {
+      giving = nothing_given (cutting_of core) c.args.lo c.args.hi all (g.K.Sink.got c.args.sink.now) from.number from.start from.text core.behind o.some o.first_fits long c.requires.place c.requires.low;
+      going = λ _. c.requires.place;
+      low = omega (arith, text_before o.first o.size o.overhead from.number, c.requires.place.start_is, c.requires.place.text_is);
+      start_in = omega (arith, c.requires.place.inside);
+      few = omega arith;
+      ticks = record { count = omega arith; later = omega arith; bound = omega arith; spaced = λ some more. omega arith };
+      core = record { opener = refl; front = refl; behind = refl };
+      kept = record { length_is = refl; bytes_are = refl; later = omega arith };
+      later = omega arith;
+      object_same = g.met.A.ReadAt.same_refl c.args.object.now;
+      sink_same = g.met.K.Sink.same_refl c.args.sink.now;
+    }
+
+pub give_chunk-requires-clause-number : goal.give_chunk-requires-clause-number
+give_chunk-requires-clause-number g c =
+    let o = c.args.core.now.opener in
+    let place = c.loop-place.place in
+    number_few o.first o.size o.overhead c.args.core.now.behind c.args.lo o.some o.first_fits place.number place.start place.text (c.loop-place.invariant.going c.loop-place-test.true) c.requires.chunks
+
+pub give_chunk-requires-clause-touched : goal.give_chunk-requires-clause-touched
+give_chunk-requires-clause-touched g c =
+    let core = c.args.core.now in
+    let o = core.opener in
+    let place = c.loop-place.place in
+    let inv = c.loop-place.invariant in
+    let reached = is_reached o.first o.size o.overhead core.behind c.args.lo o.some o.first_fits place.number place.start place.text (inv.going c.loop-place-test.true) (omega (arith, c.requires.range, c.requires.within)) in
+    omega (arith, reached, ap (λ x. room_at x.first x.size place.number) inv.core.opener, ap (λ x. x.overhead) inv.core.opener, inv.core.behind)
+
+pub next_place-place-requires-clause-number : goal.next_place-place-requires-clause-number
+next_place-place-requires-clause-number g c =
+    let o = c.args.core.now.opener in
+    let place = c.loop-place.place in
+    number_few o.first o.size o.overhead c.args.core.now.behind c.args.lo o.some o.first_fits place.number place.start place.text (c.loop-place.invariant.going c.loop-place-test.true) c.requires.chunks
+
+pub returns-in-Err-clause-answer : goal.returns-in-Err-clause-answer
+returns-in-Err-clause-answer g c =
+    let core = c.args.core.now in
+    let o = core.opener in
+    let place = c.loop-place.place in
+    let inv = c.loop-place.invariant in
+    let all : Option (List ℕ) = g.A.ReadAt.bytes c.args.object.now in
+    let long : IfSome all (λ S. length S ≡ core.front + core.behind) = told_weaker all (λ S. length S ≡ g.A.ReadAt.length_of c.args.object.now) (λ S. length S ≡ core.front + core.behind) (λ S e. e ∙ sym c.requires.object) (g.met.A.ReadAt.told c.args.object.now) in
+    let here : IsNext (cutting_of core) c.args.lo c.args.hi core.behind place.number place.start place.text =
+    record { over = o.some; sizes = o.first_fits; place = inv.going c.loop-place-test.true; range = c.requires.range; within = c.requires.within; before = c.loop-place-test.true } in
+    let one = same_one g.K.Sink.got g.K.Sink.faults core c.loop-place.core place.number place.start c.args.lo c.args.hi place.text all (g.A.ReadAt.bytes c.loop-place.object)
+    (g.A.ReadAt.faults c.loop-place.object) (g.A.ReadAt.faults c.give_chunk.new.object) c.loop-place.sink c.give_chunk.new.sink (Err c.in-Err.e) inv.core inv.kept.bytes_are c.in-Err.ensures.answer in
+    gave_refused g.K.Sink.got g.K.Sink.faults (cutting_of core) c.args.lo c.args.hi
+    (record { all = all; reads_before = g.A.ReadAt.faults c.args.object.now; reads_after = g.A.ReadAt.faults c.give_chunk.new.object; old = c.args.sink.now; new = c.give_chunk.new.sink })
+    c.loop-place.sink core.behind c.loop-place.given place.number place.start place.text (g.A.ReadAt.faults c.loop-place.object) c.in-Err.e.kind inv.kept.later inv.later here long inv.giving one
+
+pub loop-place-preserved : goal.loop-place-preserved
+loop-place-preserved g c =
+    let core = c.args.core.now in
+    let o = core.opener in
+    let place = c.loop-place.place in
+    let inv = c.loop-place.invariant in
+    let gave = c.in-Ok.ensures in
+    let next = c.next_place-place.ensures in
+    let all : Option (List ℕ) = g.A.ReadAt.bytes c.args.object.now in
+    let long : IfSome all (λ S. length S ≡ core.front + core.behind) = told_weaker all (λ S. length S ≡ g.A.ReadAt.length_of c.args.object.now) (λ S. length S ≡ core.front + core.behind) (λ S e. e ∙ sym c.requires.object) (g.met.A.ReadAt.told c.args.object.now) in
+    let here : IsNext (cutting_of core) c.args.lo c.args.hi core.behind place.number place.start place.text =
+    record { over = o.some; sizes = o.first_fits; place = inv.going c.loop-place-test.true; range = c.requires.range; within = c.requires.within; before = c.loop-place-test.true } in
+    let one = same_one g.K.Sink.got g.K.Sink.faults core c.loop-place.core place.number place.start c.args.lo c.args.hi place.text all (g.A.ReadAt.bytes c.loop-place.object)
+    (g.A.ReadAt.faults c.loop-place.object) (g.A.ReadAt.faults c.give_chunk.new.object) c.loop-place.sink c.give_chunk.new.sink (Ok c.in-Ok.count) inv.core inv.kept.bytes_are gave.answer in
+    record {
+      giving = next_giving (cutting_of core) c.args.lo c.args.hi core.behind place.number place.start place.text here all (g.K.Sink.got c.args.sink.now) (g.K.Sink.got c.loop-place.sink) (g.K.Sink.got c.give_chunk.new.sink)
+          c.loop-place.given c.in-Ok.count _ _ _ _ one.text refl next.number next.start next.text long inv.giving one.opens one.written one.count;
+      going = λ more. next_place_is (cutting_of core) c.args.lo c.args.hi core.behind place.number place.start place.text here _ _ _ next.number next.start next.text more;
+      low = omega (arith, inv.low, next.start, next.text);
+      start_in = omega (arith, next.start, here.place.inside);
+      few = omega (arith, inv.few, one.count, within_few c.args.lo c.args.hi place.text one.text, one.fits, next.text);
+      ticks = next_ticks (cutting_of core) c.args.lo c.args.hi core.behind place.number place.start place.text here c.args.from.number _ _ _ _ _ next.number next.text inv.ticks.later gave.ticks inv.ticks;
+      core = record { opener = gave.core.opener ∙ inv.core.opener; front = gave.core.front ∙ inv.core.front; behind = gave.core.behind ∙ inv.core.behind };
+      kept = record { length_is = gave.kept.length_is ∙ inv.kept.length_is; bytes_are = gave.kept.bytes_are ∙ inv.kept.bytes_are; later = omega (arith, gave.kept.later, inv.kept.later) };
+      later = omega (arith, gave.later, inv.later);
+      object_same = g.met.A.ReadAt.same_trans _ _ _ inv.object_same gave.object;
+      sink_same = g.met.K.Sink.same_trans _ _ _ inv.sink_same gave.sink;
+    }
+
+pub returns-clause-answer : goal.returns-clause-answer
+returns-clause-answer g c =
+    let place = c.loop-place.place in
+    let inv = c.loop-place.invariant in
+    gave_all g.K.Sink.got g.K.Sink.faults (cutting_of c.args.core.now) c.args.lo c.args.hi
+    (record { all = g.A.ReadAt.bytes c.args.object.now; reads_before = g.A.ReadAt.faults c.args.object.now; reads_after = g.A.ReadAt.faults c.loop-place.object; old = c.args.sink.now; new = c.loop-place.sink })
+    c.loop-place.given place.number place.start place.text c.loop-place-test.false inv.giving

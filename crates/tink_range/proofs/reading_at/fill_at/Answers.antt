@@ -1,0 +1,21 @@
+use Rattle.std.proofs.Common.{◌≤◌, ◌-◌, ◌∙◌, ℕ, length, arith, length-drop}
+use Rattle.std.proofs.lemmas.List.{length-take}
+use Rattle.tink_range.proofs.ReadingFacts.{told_read_on}
+use Rattle.tink_range.proofs.reading_at.fill_at.Goals as goal
+
+pub loop-done-preserved : goal.loop-done-preserved
+loop-done-preserved g c =
+    let inv = c.loop-done.invariant in
+    let read = c.in-Ok.ensures in
+    let piece : c.in-Ok.count ≤ length c.read_at.new.buf = omega (arith, read.room, c.read_at.auto.buf) in
+    record {
+      within = omega (arith, read.room, c.read_at.auto.buf, length-take {A = ℕ}, length-drop {A = ℕ});
+      given = told_read_on (g.A.ReadAt.bytes c.args.object.now) (g.A.ReadAt.bytes c.loop-done.object) c.loop-done.done (length c.loop-done.buf - c.loop-done.done) c.in-Ok.count c.args.at c.loop-done.buf c.read_at.new.buf
+          inv.kept.bytes_are (omega arith) piece inv.given read.given;
+      kept = record {
+        length_is = read.length ∙ inv.kept.length_is;
+        bytes_are = read.bytes ∙ inv.kept.bytes_are;
+        later = omega (arith, read.cause.later, inv.kept.later);
+      };
+      same = g.met.A.ReadAt.same_trans _ _ _ inv.same read.same;
+    }

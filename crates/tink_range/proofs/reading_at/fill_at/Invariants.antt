@@ -1,0 +1,17 @@
+use Rattle.std.proofs.Common.{◌≡◌, ◌≤◌, ◌-◌, IfSome, length, take, drop}
+use Rattle.tink_range.specs.Objects.{IsKept}
+use Rattle.tink_range.proofs.reading_at.fill_at.Given as goal
+
+-- the bytes so far are those of the object
+abbrev pub invariant-loop-done : goal.invariant-loop-done
+invariant-loop-done g l =
+    let object = g.A.ReadAt in
+    record {
+      within : l.done ≤ length l.buf;
+      given : IfSome (object.bytes l.fn.object) (λ S. take l.done l.buf ≡ take l.done (drop l.at S));
+      kept : IsKept object.length_of object.bytes object.faults l.fn.object l.object;
+      same : object.same l.fn.object l.object;
+    }
+
+abbrev pub decreases-loop-done : goal.decreases-loop-done
+decreases-loop-done g l = length l.buf - l.done

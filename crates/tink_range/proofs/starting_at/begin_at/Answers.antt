@@ -1,0 +1,29 @@
+use Rattle.std.proofs.Common.{◌-◌, List, map, IfSome, ap, subst, ◌∙◌}
+use Rattle.std.specs.Prelude.{IfErr, IfOk}
+use Rattle.stream_model.specs.Opening.{OpeningKey, opening_key}
+use Rattle.tink_stream_keys.specs.StreamKinds.{key_in_set}
+use Rattle.tink_streams.specs.Choosing.{Found, StartRefused}
+use Rattle.tink_streams.specs.Openers.{segment_map}
+use Rattle.tink_range.specs.ChoosingAt.{HasTried}
+use Rattle.tink_range.proofs.StartAtFacts.{fused, new_refused}
+use Rattle.tink_range.proofs.starting_at.begin_at.Goals as goal
+
+pub returns-in-Ok-reserve-clause-found : goal.returns-in-Ok-reserve-clause-found
+returns-in-Ok-reserve-clause-found g c =
+    let of = opening_key c.args.aad.now in
+    let keys = fused of (λ e. key_in_set e.now) c.deref-in-Ok-reserve.result.now ∙ ap (map of) (ap (map (λ e. key_in_set e.now)) c.deref-in-Ok-reserve.ensures.value ∙ c.in-Ok.ensures.keys) in
+    subst (λ (ks : List OpeningKey). IfOk c.start_at.result (λ core. IfSome (g.A.ReadAt.bytes c.args.object.now) (λ S. Found ks S (segment_map core.opener) core.front core.opener.first core.opener.size core.opener.overhead)))
+    keys c.start_at.ensures.found
+
+pub returns-in-Ok-reserve-clause-refused : goal.returns-in-Ok-reserve-clause-refused
+returns-in-Ok-reserve-clause-refused g c =
+    let of = opening_key c.args.aad.now in
+    let keys = fused of (λ e. key_in_set e.now) c.deref-in-Ok-reserve.result.now ∙ ap (map of) (ap (map (λ e. key_in_set e.now)) c.deref-in-Ok-reserve.ensures.value ∙ c.in-Ok.ensures.keys) in
+    new_refused g.A.ReadAt.bytes g.A.ReadAt.faults (map of c.args.w.now.keys) c.args.object.now c.start_at.new.object c.start_at.result
+    (subst (λ (ks : List OpeningKey). IfErr c.start_at.result (λ e. StartRefused ks (g.A.ReadAt.bytes c.args.object.now) (g.A.ReadAt.faults c.args.object.now) (g.A.ReadAt.faults c.start_at.new.object) e.kind)) keys c.start_at.ensures.refused)
+
+pub returns-in-Ok-reserve-clause-tried : goal.returns-in-Ok-reserve-clause-tried
+returns-in-Ok-reserve-clause-tried g c =
+    let of = opening_key c.args.aad.now in
+    let keys = fused of (λ e. key_in_set e.now) c.deref-in-Ok-reserve.result.now ∙ ap (map of) (ap (map (λ e. key_in_set e.now)) c.deref-in-Ok-reserve.ensures.value ∙ c.in-Ok.ensures.keys) in
+    subst (λ (ks : List OpeningKey). HasTried c.start_at.result (g.A.ReadAt.bytes c.args.object.now) ks (c.start_at.new.steps - c.args.steps.now)) keys c.start_at.ensures.tried

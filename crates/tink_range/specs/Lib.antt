@@ -1,0 +1,11 @@
+pub mod MemoryAt
+pub mod Ranges
+pub mod Shapes
+pub mod Slices
+pub mod Objects
+pub mod ChunkReading
+pub mod Giving
+pub mod RangeReading
+pub mod ChoosingAt
+pub mod RangeCores
+pub mod RangeReaders

@@ -1,0 +1,46 @@
+-- What a contract sees of a reader of ranges.
+use Rattle.std.specs.Prelude.{ℕ, Result, Ok, Err}
+use Rattle.tink_primitives.specs.declared.streams.Refused.{Refused}
+use Rattle.tink_segment_traits.specs.declared.segment_traits.SegmentDecrypter.{Ghosts}
+use Rattle.tink_segments.specs.StreamSegments.{segment_by}
+use Rattle.tink_segments.specs.declared.stream_segment.StreamSegment.{StreamSegment}
+use Rattle.tink_streams.specs.Readers.{SegmentOpening, seg_of}
+use Rattle.tink_range.specs.Giving.{Cutting}
+use Rattle.tink_range.specs.declared.chunks.RangeCore.{RangeCore}
+
+-- a reader of ranges: how the segments are opened, the bytes of the front and those behind it, and the object
+pub record RangeState (A : Type 0) : Type 0 where
+  pub opening : SegmentOpening StreamSegment
+  pub front : ℕ
+  pub behind : ℕ
+  pub object : A
+
+-- how the object is cut
+abbrev pub cut_by : {A : Type 0} → RangeState A → Cutting
+cut_by r = record {
+  seg = seg_of segment_by r.opening;
+  front = r.front;
+  first = r.opening.first;
+  size = r.opening.size;
+  over = r.opening.overhead;
+}
+
+abbrev pub range_state : {A : Type 0} {g : Ghosts StreamSegment} → RangeCore StreamSegment g → A → RangeState A
+range_state core object = record {
+  opening = record {
+    decrypter = core.opener.decrypter;
+    prefix = core.opener.prefix.items;
+    nonce_size = core.opener.nonce_size;
+    overhead = core.opener.overhead;
+    first = core.opener.first;
+    size = core.opener.size;
+  };
+  front = core.front;
+  behind = core.behind;
+  object = object;
+}
+
+-- the object, in the reader or handed back
+abbrev pub object_of : {A : Type 0} → Result (RangeState A) (Refused A) → A
+object_of (Ok r) = r.object
+object_of (Err refused) = refused.inner

@@ -1,0 +1,28 @@
+-- Where the chunks of bytes begin, and how many there are.
+use Rattle.std.specs.Prelude.{◌≡◌, ℕ, zero, suc, ◌+◌, ◌-◌, ◌*◌, ◌<◌, List, length, drop}
+use Rattle.stream_model.specs.Cut.{cut, last_chunk}
+use Rattle.tink_range.specs.Ranges.{all_places}
+
+-- what is before part i, where the first part has a and each later one b
+abbrev pub start_at : ℕ → ℕ → ℕ → ℕ
+start_at a b zero = 0
+start_at a b (suc i) = a + i * b
+
+-- the shape of bytes that are cut: their number of chunks, their places, and what is before the last chunk
+pub record HasShape (a b over : ℕ) (X : List ℕ) (count text last : ℕ) : Type 0 where
+  pub chunks : length (cut a b X) ≡ count
+  pub places : all_places over (cut a b X) ≡ text
+  pub last_is : last_chunk (cut a b X) ≡ drop last X
+
+-- a chunk inside of so many bytes: its number, what is before it, and the places of the text before it; the range begins
+-- before the next chunk's places
+pub record IsPlace (first size over behind lo number start text : ℕ) : Type 0 where
+  pub start_is : start ≡ start_at first size number
+  pub text_is : text ≡ start_at (first - over) (size - over) number
+  pub inside : start < behind
+  pub reached : lo < start_at (first - over) (size - over) (number + 1)
+
+-- the last chunk has this number and begins here
+pub record IsLast (a b : ℕ) (X : List ℕ) (number start : ℕ) : Type 0 where
+  pub chunks : length (cut a b X) ≡ number + 1
+  pub last_is : last_chunk (cut a b X) ≡ drop start X

@@ -1,0 +1,109 @@
+ghost use Rattle.std.specs.Prelude.{◌≡◌, ◌≤◌, ◌<◌, ◌+◌, ◌^◌, min, true, length, take, drop, vec_len, vec_capacity, IfOk, IfSome, MatchResult, OnErr};
+ghost use Rattle.stream_model.specs.Cut.{room_at};
+ghost use Rattle.tink_io.specs.Faults.{Rose};
+ghost use Rattle.tink_range.specs.ChunkReading.{OpensAt, OpensTo};
+ghost use Rattle.tink_range.specs.Objects.{IsKept};
+ghost use Rattle.tink_streams.specs.Openers.{segment_map};
+
+use crate::read_at::ReadAt;
+use crate::reading_at::fill_at;
+use crate::steps::Steps;
+use std::sync::ledger::Ledger;
+use tink_io::Failed;
+use tink_segment_traits::SegmentDecrypter;
+use tink_streams::{Opener, open_held};
+
+// The size of a segment that others follow.
+pub fn room_of<D: SegmentDecrypter>(opener: &Opener<D>, number: u64) -> usize
+    ensures value { result ≡ room_at opener.now.first opener.now.size number }
+    ensures most { result ≤ opener.now.size }
+{
+    if number == 0 {
+        opener.first
+    } else {
+        opener.size
+    }
+}
+
+// Reads a chunk that begins at place `at`, and opens it as the segment of that number, in one step.
+fn open_into<A: ReadAt, D: SegmentDecrypter, L: Ledger>(
+    opener: &Opener<D>,
+    object: &mut A,
+    chunk: &mut [u8],
+    text: &mut Vec<u8>,
+    nonce: &mut Vec<u8>,
+    number: u64,
+    at: u64,
+    last: bool,
+    steps: &mut Steps<L>,
+) -> Result<bool, Failed>
+    requires number { number < 2 ^ 32 }
+    requires object { at + length chunk.old ≤ A.length_of object.old }
+    requires fits { at + length chunk.old < 2 ^ 64 }
+    requires size { length chunk.old ≤ opener.now.size }
+    requires text { opener.now.size ≤ vec_capacity text.old }
+    requires nonce { opener.now.nonce_size ≤ vec_len nonce.old }
+    ensures answer { IfOk result (λ ok. IfSome (A.bytes object.old) (λ S. OpensTo (segment_map opener.now) number last
+        (take (length chunk.old) (drop at S)) ok text.new.items)) }
+    ensures length { IfOk result (λ ok. ok ≡ true
+        → vec_len text.new + opener.now.overhead ≡ length chunk.old) }
+    ensures ticks { MatchResult result (λ _. steps.new ≡ steps.old + 1) (λ _. steps.new ≡ steps.old) }
+    ensures text { vec_capacity text.old ≤ vec_capacity text.new }
+    ensures nonce { vec_len nonce.new ≡ vec_len nonce.old }
+    ensures kept { IsKept A.length_of A.bytes A.faults object.old object.new }
+    ensures rose { OnErr result (Rose (A.faults object.old) (A.faults object.new)) }
+    ensures same { A.same object.old object.new }
+{
+    fill_at(object, at, chunk)?;
+    steps.tick();
+    Ok(open_held(opener, number, last, chunk, nonce, text))
+}
+
+// Opens the chunk of that number, from whose place `at` the object has `rest` bytes, in one step. It is the last one where
+// these are no more than its room.
+pub fn open_at<A: ReadAt, D: SegmentDecrypter, L: Ledger>(
+    opener: &Opener<D>,
+    object: &mut A,
+    sealed: &mut Vec<u8>,
+    text: &mut Vec<u8>,
+    nonce: &mut Vec<u8>,
+    number: u64,
+    at: u64,
+    rest: u64,
+    steps: &mut Steps<L>,
+) -> Result<bool, Failed>
+    requires number { number < 2 ^ 32 }
+    requires object { at + rest ≡ A.length_of object.old }
+    requires fits { at + rest < 2 ^ 64 }
+    requires sealed { opener.now.size ≤ vec_len sealed.old }
+    requires text { opener.now.size ≤ vec_capacity text.old }
+    requires nonce { opener.now.nonce_size ≤ vec_len nonce.old }
+    ensures answer { IfOk result (λ ok. OpensAt (segment_map opener.now)
+        (record { number = number; start = at; rest = rest; room = room_at opener.now.first opener.now.size number })
+        (A.bytes object.old) ok text.new.items) }
+    ensures length { IfOk result (λ ok. ok ≡ true → vec_len text.new + opener.now.overhead
+        ≡ min rest (room_at opener.now.first opener.now.size number)) }
+    ensures ticks { MatchResult result (λ _. steps.new ≡ steps.old + 1) (λ _. steps.new ≡ steps.old) }
+    ensures sealed { vec_len sealed.new ≡ vec_len sealed.old }
+    ensures text { vec_capacity text.old ≤ vec_capacity text.new }
+    ensures nonce { vec_len nonce.new ≡ vec_len nonce.old }
+    ensures kept { IsKept A.length_of A.bytes A.faults object.old object.new }
+    ensures rose { OnErr result (Rose (A.faults object.old) (A.faults object.new)) }
+    ensures same { A.same object.old object.new }
+{
+    let room = room_of(opener, number);
+    let len = rest.min(room as u64) as usize;
+    let last = rest <= room as u64;
+    let opens = open_into(
+        opener,
+        object,
+        &mut sealed[..len],
+        text,
+        nonce,
+        number,
+        at,
+        last,
+        steps,
+    )?;
+    Ok(opens)
+}

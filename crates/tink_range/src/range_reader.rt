@@ -1,0 +1,139 @@
+//! Readers of ranges of a stream's text.
+
+ghost use Rattle.std.specs.Prelude.{◌≡◌, ◌≤◌, ◌+◌, ◌-◌, ◌/◌, length, map, IfOk, IfErr, IfSome};
+ghost use Rattle.stream_model.specs.Opening.{opening_key};
+ghost use Rattle.tink_io.specs.declared.error.Kind.TheVariants.{NoMatchingKey};
+ghost use Rattle.tink_range.specs.ChoosingAt.{NewRefused, Tries};
+ghost use Rattle.tink_range.specs.Objects.{IsKept};
+ghost use Rattle.tink_range.specs.RangeReaders.{cut_by, object_of};
+ghost use Rattle.tink_range.specs.RangeReading.{RangeMeans, range_end, range_start};
+ghost use Rattle.tink_range.specs.Ranges.{text_length};
+ghost use Rattle.tink_streams.specs.Choosing.{Found};
+
+use crate::chunks::RangeCore;
+use crate::range_reading::read_range;
+use crate::read_at::ReadAt;
+use crate::starting_at::begin_at;
+use crate::steps::Steps;
+use std::alloc::Global;
+use std::marker::Model;
+use std::sync::ledger::Ledger;
+use tink_io::{Sink, TinkError};
+use tink_primitives::Refused;
+use tink_segments::StreamSegment;
+use tink_streaming_aead::WrappedStreamingAead;
+
+/// A reader of ranges of the text of the stream that an object is. Each range is opened from the chunks that it touches,
+/// after the last chunk, so that an object which was cut gives nothing.
+#[derive(Drop)]
+pub struct RangeReader<A: ReadAt> {
+    object: A,
+    core: RangeCore<StreamSegment>,
+}
+
+impl<A: ReadAt> Model for RangeReader<A> {
+    ghost use Rattle.std.specs.Prelude.{◌≡◌, ◌+◌};
+    ghost use Rattle.tink_range.specs.RangeReaders.{RangeState, range_state};
+
+    ghost Value = { RangeState A };
+
+    ghost view = { λ r. range_state r.core r.object };
+
+    ghost invariant = { λ r. r.core.front + r.core.behind ≡ A.length_of r.object };
+}
+
+impl<A: ReadAt> RangeReader<A> {
+    /// A reader of the stream of `object` under the first key of `w` under which it begins with the associated data. All
+    /// memory is taken first. It takes one step for each key whose front the object begins with, up to the chosen one:
+    /// the first segment is opened.
+    ///
+    /// # Errors
+    /// The refusal hands back the object. `OutOfMemory`, with nothing read; `ReadFault` where the object failed;
+    /// `NoMatchingKey` exactly where the stream begins under none of the keys.
+    pub fn new<L: Ledger>(
+        alloc: Global,
+        w: &WrappedStreamingAead,
+        object: A,
+        aad: &[u8],
+        steps: &mut Steps<L>,
+    ) -> Result<RangeReader<A>, Refused<A>>
+        ensures found { IfOk result (λ r. IfSome (A.bytes object) (λ S.
+            Found (map (opening_key aad.now) w.now.keys) S (cut_by r).seg (cut_by r).front (cut_by r).first (cut_by r).size
+            (cut_by r).over)) }
+        ensures whole { IfOk result (λ r. r.front + r.behind ≡ A.length_of r.object) }
+        ensures refused { IfErr result (λ refused. NewRefused A.bytes A.faults (map (opening_key aad.now) w.now.keys)
+            object refused.inner refused.error.kind) }
+        ensures tried { IfOk result (λ _. IfSome (A.bytes object)
+            (λ S. Tries (map (opening_key aad.now) w.now.keys) S (steps.new - steps.old))) }
+        ensures tried_all { IfErr result (λ refused. refused.error.kind ≡ NoMatchingKey → IfSome (A.bytes object)
+            (λ S. Tries (map (opening_key aad.now) w.now.keys) S (steps.new - steps.old))) }
+        ensures ticks { steps.new ≤ steps.old + length w.now.keys }
+        ensures kept { IsKept A.length_of A.bytes A.faults object (object_of result) }
+        ensures same { A.same object (object_of result) }
+    {
+        let mut object = object;
+        match begin_at(alloc, w, &mut object, aad, steps) {
+            Ok(core) => Ok(RangeReader { object, core }),
+            Err(error) => Err(Refused {
+                error,
+                inner: object,
+            }),
+        }
+    }
+
+    /// How many bytes the text has. A last chunk that is shorter than any segment counts as 0.
+    pub fn text_len(&self) -> u64
+        ensures { result ≡ text_length self.now.opening.first self.now.opening.size self.now.opening.overhead
+            self.now.behind }
+    {
+        self.core.text_len()
+    }
+
+    /// Writes the bytes of the text from place `start` on and below `start + len`, as far as there are such, and answers
+    /// how many. The last chunk is opened first, and then each chunk that the range touches, each in one step. It takes
+    /// no memory, and after a refusal the reader is as before.
+    ///
+    /// # Errors
+    /// `ReadFault` or `WriteFault` where the object or the sink failed, with a prefix written of what the touched chunks
+    /// give that were opened; `TooManySegments` exactly where there are more than 2^32 chunks, with nothing written;
+    /// `Truncated` or `BadSegment` where the last chunk is the segment of no text, with nothing written, the first where
+    /// it is shorter than any segment; `BadSegment` of the first touched chunk that is the segment of no text, with the
+    /// range's bytes before it written.
+    pub fn read_range<K: Sink, L: Ledger>(
+        &mut self,
+        start: u64,
+        len: u64,
+        sink: &mut K,
+        steps: &mut Steps<L>,
+    ) -> Result<u64, TinkError>
+        ensures answer { RangeMeans K.got K.faults (cut_by self.old) self.old.behind start len
+            (record {
+              all = A.bytes self.old.object;
+              reads_before = A.faults self.old.object;
+              reads_after = A.faults self.new.object;
+              old = sink.old;
+              new = sink.new;
+            })
+            result }
+        ensures ticks { steps.new ≤ steps.old + (range_end (cut_by self.old) self.old.behind start len
+            - range_start (cut_by self.old) self.old.behind start + (self.old.opening.size - self.old.opening.overhead) - 1)
+            / (self.old.opening.size - self.old.opening.overhead) + 2 }
+        ensures opening { self.new.opening ≡ self.old.opening }
+        ensures front { self.new.front ≡ self.old.front }
+        ensures behind { self.new.behind ≡ self.old.behind }
+        ensures kept { IsKept A.length_of A.bytes A.faults self.old.object self.new.object }
+        ensures later { K.faults sink.old ≤ K.faults sink.new }
+        ensures object { A.same self.old.object self.new.object }
+        ensures sink { K.same sink.old sink.new }
+    {
+        read_range(&mut self.core, &mut self.object, start, len, sink, steps)
+    }
+
+    /// The object.
+    pub fn into_inner(self) -> A
+        ensures { result ≡ self.object }
+    {
+        let RangeReader { object, core: _ } = self;
+        object
+    }
+}

@@ -1,0 +1,56 @@
+ghost use Rattle.std.specs.Prelude.{◌≡◌, ◌≤◌, ◌<◌, ◌+◌, ◌-◌, ◌/◌};
+ghost use Rattle.tink_range.specs.Objects.{IsKept};
+ghost use Rattle.tink_range.specs.RangeCores.{IsSameCore, cutting_of};
+ghost use Rattle.tink_range.specs.RangeReading.{RangeMeans, range_end, range_start};
+
+use crate::chunks::RangeCore;
+use crate::giving::give_range;
+use crate::read_at::ReadAt;
+use crate::steps::Steps;
+use std::sync::ledger::Ledger;
+use tink_io::{Kind, Sink, TinkError};
+use tink_segment_traits::SegmentDecrypter;
+
+// Writes a range of the text of an object's chunks, once the last chunk is opened.
+pub fn read_range<A: ReadAt, D: SegmentDecrypter, K: Sink, L: Ledger>(
+    core: &mut RangeCore<D>,
+    object: &mut A,
+    start: u64,
+    len: u64,
+    sink: &mut K,
+    steps: &mut Steps<L>,
+) -> Result<u64, TinkError>
+    requires object { core.old.front + core.old.behind ≡ A.length_of object.old }
+    ensures answer { RangeMeans K.got K.faults (cutting_of core.old) core.old.behind start len
+        (record {
+          all = A.bytes object.old;
+          reads_before = A.faults object.old;
+          reads_after = A.faults object.new;
+          old = sink.old;
+          new = sink.new;
+        })
+        result }
+    ensures ticks { steps.new ≤ steps.old + (range_end (cutting_of core.old) core.old.behind start len
+        - range_start (cutting_of core.old) core.old.behind start
+        + (core.old.opener.size - core.old.opener.overhead) - 1)
+        / (core.old.opener.size - core.old.opener.overhead) + 2 }
+    ensures core { IsSameCore core.old core.new }
+    ensures kept { IsKept A.length_of A.bytes A.faults object.old object.new }
+    ensures later { K.faults sink.old ≤ K.faults sink.new }
+    ensures object { A.same object.old object.new }
+    ensures sink { K.same sink.old sink.new }
+{
+    let shape = core.shape();
+    let number = shape.count - 1;
+    if number > u64::from(u32::MAX) {
+        return Err(TinkError::new(Kind::TooManySegments));
+    }
+    match core.check_last(object, number, shape.last, steps) {
+        Ok(()) => {
+            let lo = start.min(shape.text);
+            let hi = start.saturating_add(len).min(shape.text);
+            give_range(core, object, lo, hi, sink, steps)
+        }
+        Err(e) => Err(e),
+    }
+}

@@ -1,0 +1,26 @@
+ghost use Rattle.std.specs.Prelude.{◌≡◌, ◌≤◌, ◌<◌, ◌+◌, ◌^◌, length, take, drop, IfSome, OnOk, OnErr};
+ghost use Rattle.tink_io.specs.Faults.{Rose};
+ghost use Rattle.tink_range.specs.Objects.{IsKept};
+
+use crate::read_at::ReadAt;
+use tink_io::Failed;
+
+// Fills `buf` with the bytes of an object from `at` on.
+pub fn fill_at<A: ReadAt>(object: &mut A, at: u64, buf: &mut [u8]) -> Result<(), Failed>
+    requires within { at + length buf.old ≤ A.length_of object.old }
+    requires fits { at + length buf.old < 2 ^ 64 }
+    ensures given { OnOk result (IfSome (A.bytes object.old)
+        (λ S. buf.new ≡ take (length buf.old) (drop at S))) }
+    ensures kept { IsKept A.length_of A.bytes A.faults object.old object.new }
+    ensures rose { OnErr result (Rose (A.faults object.old) (A.faults object.new)) }
+    ensures same { A.same object.old object.new }
+{
+    let mut done = 0;
+    while done < buf.len() {
+        match object.read_at(at + done as u64, &mut buf[done..]) {
+            Ok(count) => done += count,
+            Err(e) => return Err(e),
+        }
+    }
+    Ok(())
+}

@@ -1,0 +1,96 @@
+//! How many chunks so many bytes have, and where they begin.
+
+ghost use Rattle.std.specs.Prelude.{◌≡◌, ◌≤◌, ◌<◌, ◌+◌, ◌-◌, ◌^◌, ℕ, List, length, min};
+ghost use Rattle.stream_model.specs.Cut.{room_at};
+ghost use Rattle.tink_range.specs.Ranges.{text_length};
+ghost use Rattle.tink_range.specs.Shapes.{HasShape, IsPlace};
+
+// The number of chunks of some bytes, the places of their text, and what is before the last chunk.
+#[derive(Clone, Copy)]
+pub struct Shape {
+    pub count: u64,
+    pub text: u64,
+    pub last: u64,
+}
+
+// Where a chunk begins: its number, the bytes before it, and the places of the text before it.
+#[derive(Clone, Copy)]
+pub struct Place {
+    pub number: u64,
+    pub start: u64,
+    pub text: u64,
+}
+
+// The shape of so many bytes, of which the first chunk has `first` at most and each later one `size`, `over` of them
+// without text.
+pub fn shape_of(first: u64, size: u64, over: u64, behind: u64) -> Shape
+    requires over { over < first }
+    requires fits { first ≤ size }
+    requires some { 0 < behind }
+    ensures shape { (X : List ℕ) → length X ≡ behind
+        → HasShape first size over X result.count result.text result.last }
+    ensures inside { result.last < behind }
+    ensures room { behind ≤ result.last + room_at first size (result.count - 1) }
+    ensures some { 0 < result.count }
+    ensures text { result.text ≤ behind }
+{
+    if behind <= first {
+        return Shape {
+            count: 1,
+            text: behind.saturating_sub(over),
+            last: 0,
+        };
+    }
+    let more = (behind - first - 1) / size;
+    let last = first + more * size;
+    let text = (first - over) + more * (size - over) + (behind - last).saturating_sub(over);
+    Shape {
+        count: more + 2,
+        text,
+        last,
+    }
+}
+
+// The chunk that has a place of the text.
+pub fn place_of(first: u64, size: u64, over: u64, behind: u64, lo: u64) -> Place
+    requires over { over < first }
+    requires fits { first ≤ size }
+    requires inside { lo < text_length first size over behind }
+    ensures place { IsPlace first size over behind lo result.number result.start result.text }
+    ensures low { result.text ≤ lo }
+{
+    let _ = behind;
+    let room = first - over;
+    if lo < room {
+        return Place {
+            number: 0,
+            start: 0,
+            text: 0,
+        };
+    }
+    let more = (lo - room) / (size - over);
+    Place {
+        number: more + 1,
+        start: first + more * size,
+        text: room + more * (size - over),
+    }
+}
+
+// Where the next chunk begins, or the end.
+pub fn next_place(first: u64, size: u64, over: u64, behind: u64, place: Place) -> Place
+    requires number { place.number < 2 ^ 32 }
+    requires start { place.start < behind }
+    requires text { place.text ≤ place.start }
+    ensures number { result.number ≡ place.number + 1 }
+    ensures start { result.start ≡ place.start + min (behind - place.start) (room_at first size place.number) }
+    ensures text { result.text ≡ place.text
+        + (min (behind - place.start) (room_at first size place.number) - over) }
+{
+    let room = if place.number == 0 { first } else { size };
+    let len = (behind - place.start).min(room);
+    Place {
+        number: place.number + 1,
+        start: place.start + len,
+        text: place.text + len.saturating_sub(over),
+    }
+}

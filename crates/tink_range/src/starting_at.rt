@@ -1,0 +1,112 @@
+ghost use Rattle.std.specs.Prelude.{◌≡◌, ◌≤◌, ◌<◌, ◌+◌, ◌-◌, length, map, All, IfOk, IfErr, IfSome, vec_len, vec_capacity};
+ghost use Rattle.stream_model.specs.Key.{nonce_size};
+ghost use Rattle.stream_model.specs.Opening.{opening_key};
+ghost use Rattle.tink_range.specs.ChoosingAt.{HasTried, NewRefused};
+ghost use Rattle.tink_range.specs.Objects.{IsKept};
+ghost use Rattle.tink_streams.specs.Choosing.{Found, StartRefused};
+ghost use Rattle.tink_streams.specs.Openers.{segment_map};
+
+use crate::choosing_at::{BegunAt, choose_at};
+use crate::chunks::RangeCore;
+use crate::read_at::ReadAt;
+use crate::steps::Steps;
+use std::alloc::Global;
+use std::sync::ledger::Ledger;
+use tink_io::{Kind, TinkError};
+use tink_segments::{AES_CTR_HMAC_NONCE_SIZE_IN_BYTES, StreamSegment};
+use tink_stream_keys::{DerivesStreams, Trial};
+use tink_streaming_aead::{WrappedStreamingAead, room_of};
+use tink_streams::{Buffers, Kept};
+
+// The chunks of an object behind the front of the first key under which its stream begins.
+fn start_at<A: ReadAt, T: DerivesStreams, L: Ledger>(
+    keys: &[T],
+    aad: &[u8],
+    trial: Trial,
+    object: &mut A,
+    steps: &mut Steps<L>,
+) -> Result<RangeCore<StreamSegment>, TinkError>
+    requires buffer { All (λ k. length (T.key_of k).out + (T.key_of k).segment < vec_len trial.kept.buffer) keys.now }
+    requires room { All (λ k. (T.key_of k).segment ≤ vec_capacity trial.opened) keys.now }
+    requires nonce { All (λ k. nonce_size (T.key_of k) ≤ vec_len trial.nonce) keys.now }
+    requires prefix { 7 ≤ vec_capacity trial.prefix }
+    ensures found { IfOk result (λ core. IfSome (A.bytes object.old) (λ S.
+        Found (map (λ k. opening_key aad.now (T.key_of k)) keys.now) S (segment_map core.opener) core.front
+        core.opener.first core.opener.size core.opener.overhead)) }
+    ensures whole { IfOk result (λ core. core.front + core.behind ≡ A.length_of object.old) }
+    ensures refused { IfErr result (λ e. StartRefused (map (λ k. opening_key aad.now (T.key_of k)) keys.now)
+        (A.bytes object.old) (A.faults object.old) (A.faults object.new) e.kind) }
+    ensures tried { HasTried result (A.bytes object.old) (map (λ k. opening_key aad.now (T.key_of k)) keys.now)
+        (steps.new - steps.old) }
+    ensures ticks { (steps.old ≤ steps.new) × (steps.new ≤ steps.old + length keys.now) }
+    ensures kept { IsKept A.length_of A.bytes A.faults object.old object.new }
+    ensures same { A.same object.old object.new }
+{
+    let Trial {
+        kept,
+        prefix,
+        mut nonce,
+        opened: mut text,
+    } = trial;
+    let Kept {
+        buffer: mut sealed,
+        filled: _,
+    } = kept;
+    match choose_at(
+        keys,
+        aad,
+        object,
+        &mut sealed,
+        &mut text,
+        &mut nonce,
+        prefix,
+        steps,
+    ) {
+        Err(_) => Err(TinkError::new(Kind::ReadFault)),
+        Ok(None) => Err(TinkError::new(Kind::NoMatchingKey)),
+        Ok(Some(BegunAt { opener, front })) => {
+            let behind = object.size() - front;
+            Ok(RangeCore {
+                opener,
+                front,
+                behind,
+                buffers: Buffers {
+                    text,
+                    sealed,
+                    nonce,
+                },
+            })
+        }
+    }
+}
+
+// The same of the keys of a keyset. All memory is taken first.
+pub fn begin_at<A: ReadAt, L: Ledger>(
+    alloc: Global,
+    w: &WrappedStreamingAead,
+    object: &mut A,
+    aad: &[u8],
+    steps: &mut Steps<L>,
+) -> Result<RangeCore<StreamSegment>, TinkError>
+    ensures found { IfOk result (λ core. IfSome (A.bytes object.old) (λ S.
+        Found (map (opening_key aad.now) w.now.keys) S (segment_map core.opener) core.front
+        core.opener.first core.opener.size core.opener.overhead)) }
+    ensures whole { IfOk result (λ core. core.front + core.behind ≡ A.length_of object.old) }
+    ensures refused { IfErr result (λ e. NewRefused A.bytes A.faults (map (opening_key aad.now) w.now.keys)
+        object.old object.new e.kind) }
+    ensures tried { HasTried result (A.bytes object.old) (map (opening_key aad.now) w.now.keys)
+        (steps.new - steps.old) }
+    ensures ticks { (steps.old ≤ steps.new) × (steps.new ≤ steps.old + length w.now.keys) }
+    ensures kept { IsKept A.length_of A.bytes A.faults object.old object.new }
+    ensures same { A.same object.old object.new }
+{
+    match w.entries(alloc) {
+        Ok(entries) => {
+            match Trial::reserve(alloc, room_of(&entries), AES_CTR_HMAC_NONCE_SIZE_IN_BYTES) {
+                Ok(trial) => start_at(&entries, aad, trial, object, steps),
+                Err(e) => Err(e),
+            }
+        }
+        Err(e) => Err(e),
+    }
+}
