@@ -66,7 +66,7 @@ def look(pid):
 
 began, checks = time.time(), {}
 with open(sys.argv[1], "w") as log:
-    gate = subprocess.Popen(["rt", "ci", "--anew"], stdout=log, stderr=subprocess.STDOUT, stdin=subprocess.DEVNULL)
+    gate = subprocess.Popen(["rt", "ci"], stdout=log, stderr=subprocess.STDOUT, stdin=subprocess.DEVNULL)
     while gate.poll() is None:
         for pid in filter(str.isdigit, os.listdir("/proc")):
             try:
