@@ -1,5 +1,5 @@
 -- What a set of entries has, by its entries.
-use Rattle.std.proofs.Common.{◌≡◌, ◌∙◌, ◌++◌, ℕ, List, [], ◌∷◌, Bool, true, false, cond, filter, All, Some, None, refl, sym, ap, subst, bytes_eq, ⊎_elim, unwrap_or, Option}
+use Rattle.std.proofs.Common.{◌≡◌, ◌∙◌, ◌++◌, ℕ, List, [], ◌∷◌, Bool, true, false, cond, filter, map, All, Some, None, refl, sym, ap, subst, bytes_eq, ⊎_elim, unwrap_or, Option}
 use Rattle.std.specs.Prelude.{Vec}
 use Rattle.std.specs.declared.cmp.Ordering.{Ordering}
 use Rattle.std.specs.declared.cmp.Ordering.TheVariants.{Less}
