@@ -151,8 +151,8 @@ fn decrypts_less(alloc: Global) -> Result<bool, TinkError> {
     }
 }
 
-/// Each row; a changed bit at each place is refused by the MAC; and a tag over less than a vector is accepted by the MAC,
-/// and then the cipher refuses.
+/// Each row; a changed bit at each place is refused by the MAC; and a tag over less than a vector is accepted by the
+/// MAC, and then the cipher refuses.
 #[test]
 fn encrypts_and_authenticates(rt: HostRuntime) {
     let alloc = rt.alloc();

@@ -163,7 +163,8 @@ enum Of {
     Ctr,
 }
 
-// The name, the AEAD or the mode, the key, the nonce or the vector, the data, the text, and what stands behind the nonce.
+// The name, the AEAD or the mode, the key, the nonce or the vector, the data, the text, and what stands behind the
+// nonce.
 type Vector = (
     &'static str,
     Of,

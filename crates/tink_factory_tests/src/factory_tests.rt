@@ -139,8 +139,8 @@ fn answers(
 
 const NO_MEMORY: Answer = Err(Kind::OutOfMemory);
 
-// An input, and the id of the entry that answers: one of the prefix on the rest, the first without a prefix on the whole,
-// or none. Five bytes are no prefix.
+// An input, and the id of the entry that answers: one of the prefix on the rest, the first without a prefix on the
+// whole, or none. Five bytes are no prefix.
 const INPUTS: &[(&str, Asked, &[u8], u32, Answer)] = &[
     (
         "by the prefix",
@@ -306,8 +306,8 @@ fn gives_set(alloc: Global, rows: &[KeyRow], of_macs: bool) -> Result<bool, Tink
 
 const WRONG: Answer = Err(Kind::WrongPrimitive);
 
-// Keys, and whether MACs are asked for, and else AEADs. A streaming key of another id than the primary one is refused for
-// that first.
+// Keys, and whether MACs are asked for, and else AEADs. A streaming key of another id than the primary one is refused
+// for that first.
 const HANDLES: &[(&str, &[KeyRow], bool, Answer)] = &[
     (
         "two AEADs",

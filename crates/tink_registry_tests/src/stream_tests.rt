@@ -124,7 +124,8 @@ fn written(alloc: Global, additional_data: &[u8]) -> Result<Vec<u8>, TinkError> 
     }
 }
 
-// What a read of four bytes gives, with the four; or the refusal, with the first byte of the source that is handed back.
+// What a read of four bytes gives, with the four; or the refusal, with the first byte of the source that is handed
+// back.
 fn first_read(made: Reading) -> (Result<usize, Kind>, [u8; 4]) {
     let mut buf = [0u8; 4];
     match made {

@@ -40,7 +40,8 @@ fn tag_of(alloc: Global, data: &[u8]) -> Result<Bytes, TinkError> {
     Hmac::new(alloc, HashType::Sha256, &[5; 16], 16)?.compute_mac(alloc, data)
 }
 
-// The MAC of `abc` that a key of id 7 makes: behind the id, but for a RAW key, and of one zero byte more for a LEGACY one.
+// The MAC of `abc` that a key of id 7 makes: behind the id, but for a RAW key, and of one zero byte more for a LEGACY
+// one.
 fn own_mac(alloc: Global, prefix: OutputPrefixType) -> Result<Vec<u8>, TinkError> {
     let (front, data): (&[u8], &[u8]) = match prefix {
         OutputPrefixType::Raw => (b"", b"abc"),
