@@ -1,28 +1,16 @@
-//! What the tests share.
+//! The one place that compares: a test function with many `assert_eq!` takes long to prove.
 
-use std::fmt::Debug;
 use std::process::Abort;
 use tink_core::{Kind, TinkError};
-use tink_proto::Bytes;
-use tink_testutil::kind_of;
 
-/// The one place that compares: a test function with many `assert_eq!` takes long to prove.
-pub fn expect<T>(rt: &impl Abort, got: Result<T, TinkError>, want: T, label: &str)
-where
-    T: PartialEq + Debug + Drop,
-{
-    assert_eq!(rt; got, Ok(want), "{label}");
-}
+/// Whether a row is as it says, or how its call is refused.
+pub type Answer = Result<bool, Kind>;
 
-/// The same of an answer that is to be refused.
-pub fn expect_refusal<T: Drop>(rt: &impl Abort, got: Result<T, TinkError>, want: Kind) {
-    expect(rt, Ok(kind_of(got)), Some(want), "the refusal");
-}
-
-/// Whether the answer is these bytes.
-pub fn is_bytes(answer: Result<Bytes, TinkError>, want: &[u8]) -> Result<bool, TinkError> {
-    match answer {
-        Ok(bytes) => Ok(bytes.as_slice() == want),
-        Err(e) => Err(e),
-    }
+/// Stops where a row answers another thing than is wanted, by the row's name.
+pub fn expect(rt: &impl Abort, got: Result<bool, TinkError>, want: Answer, row: &str) {
+    let got = match got {
+        Ok(holds) => Ok(holds),
+        Err(e) => Err(e.kind),
+    };
+    assert_eq!(rt; got, want, "{row}");
 }

@@ -4,7 +4,7 @@ ghost use Rattle.std.specs.Prelude.{[]};
 ghost use Rattle.tink_io.specs.Told.{Replies};
 ghost use Rattle.tink_aead.specs.Wrapped.{primary_encrypts};
 
-use crate::common::{expect, expect_refusal, is_bytes};
+use crate::common::{Answer, expect};
 use std::alloc::Global;
 use tink_aead::{
     AES_GCM_TYPE_URL, AeadKind, AesCtrHmacAeadKeyManager, AesGcmKeyManager, AesGcmSivKeyManager,
@@ -16,7 +16,7 @@ use tink_core::keyset::{Handle, Manager};
 use tink_core::registry::{KeyManager, Registry};
 use tink_core::{Aead, Draws, Kind, Kinds, TinkError};
 use tink_proto::{Bytes, Key, KeyTemplate, OutputPrefixType};
-use tink_testutil::{draws_of, enabled_key, handle_of, kind_of, registry_of};
+use tink_testutil::{draws_of, enabled_key, gives, handle_of, registry_of};
 
 /// Encrypts a text without associated data by the primary key.
 fn sealed_by<P: Aead>(
@@ -33,173 +33,199 @@ fn sealed_by<P: Aead>(
 
 // ---- texts by new keys
 
-// A handle of one new key of a template.
-fn new_handle<M: KeyManager>(
+// The AEAD of one new key.
+fn aead_in<M: KeyManager, P: Aead>(
     alloc: Global,
     registry: &Registry<M>,
     kt: &KeyTemplate,
-) -> Result<Handle, TinkError> {
-    Handle::new(alloc, kt, registry, &mut draws_of(alloc, &[3; 128])?)
-}
-
-// Whether these bytes are `abc`, and with other data nothing.
-fn is_abc<P: Aead>(alloc: Global, aead: &WrappedAead<P>, sealed: &[u8]) -> Result<bool, TinkError> {
-    let other = kind_of(aead.decrypt(alloc, sealed, b"dat"));
-    let same = is_bytes(aead.decrypt(alloc, sealed, b"data"), b"abc")?;
-    Ok(same && other == Some(Kind::DecryptFailed))
-}
-
-// The bytes that `abc` is encrypted to, where they are decrypted again, and none with other data.
-fn size_of_abc<P: Aead>(alloc: Global, aead: &WrappedAead<P>) -> Result<usize, TinkError> {
-    let mut draws = draws_of(alloc, &[5; 16])?;
-    let sealed = aead.encrypt(alloc, b"abc", b"data", &mut draws)?;
-    if is_abc(alloc, aead, sealed.as_slice())? {
-        Ok(sealed.as_slice().len())
-    } else {
-        Ok(0)
-    }
-}
-
-// The same of a keyset.
-fn size_by_keyset<M: KeyManager, P: Aead>(
-    alloc: Global,
-    registry: &Registry<M>,
-    h: &Handle,
-) -> Result<usize, TinkError>
+) -> Result<WrappedAead<P>, TinkError>
 where
     M::Family: Kinds<Aead = P>,
 {
-    match new(alloc, h, registry) {
-        Ok(aead) => size_of_abc(alloc, &aead),
-        Err(e) => Err(e),
-    }
-}
-
-// The same of a new key of a template.
-fn size_by_key<M: KeyManager, P: Aead>(
-    alloc: Global,
-    registry: &Registry<M>,
-    kt: &KeyTemplate,
-) -> Result<usize, TinkError>
-where
-    M::Family: Kinds<Aead = P>,
-{
-    match new_handle(alloc, registry, kt) {
-        Ok(h) => size_by_keyset(alloc, registry, &h),
+    match Handle::new(alloc, kt, registry, &mut draws_of(alloc, &[3; 128])?) {
+        Ok(h) => new(alloc, &h, registry),
         Err(e) => Err(e),
     }
 }
 
 // The same in a registry of its manager.
-fn size_in<M: KeyManager + Drop, P: Aead>(
+fn aead_by<M: KeyManager + Drop, P: Aead>(
     alloc: Global,
     manager: M,
     kt: &KeyTemplate,
-) -> Result<usize, TinkError>
+) -> Result<WrappedAead<P>, TinkError>
 where
     M::Family: Kinds<Aead = P>,
 {
     match registry_of(alloc, manager) {
-        Ok(registry) => size_by_key(alloc, &registry, kt),
+        Ok(registry) => aead_in(alloc, &registry, kt),
         Err(e) => Err(e),
     }
 }
 
-fn size_by<M: KeyManager + Drop, P: Aead>(
+// Whether `abc` is encrypted to so many bytes, and these are decrypted.
+fn has_size(
     alloc: Global,
-    manager: M,
-    kt: Result<KeyTemplate, TinkError>,
-) -> Result<usize, TinkError>
-where
-    M::Family: Kinds<Aead = P>,
-{
-    match kt {
-        Ok(kt) => size_in(alloc, manager, &kt),
+    aead: &WrappedAead<AeadKind>,
+    size: usize,
+    data: &[u8],
+) -> Result<bool, TinkError> {
+    let mut draws = draws_of(alloc, &[5; 16])?;
+    let sealed = aead.encrypt(alloc, b"abc", b"data", &mut draws)?;
+    let opens = gives(aead.decrypt(alloc, sealed.as_slice(), data), b"abc")?;
+    Ok(opens && sealed.as_slice().len() == size)
+}
+
+fn of_size(
+    alloc: Global,
+    made: Result<WrappedAead<AeadKind>, TinkError>,
+    size: usize,
+    data: &[u8],
+) -> Result<bool, TinkError> {
+    match made {
+        Ok(aead) => has_size(alloc, &aead, size, data),
         Err(e) => Err(e),
     }
 }
 
-#[test]
-fn texts_by_new_keys_of_gcm(rt: HostRuntime) {
-    let alloc = rt.alloc();
-    let prefixed = size_by(
-        alloc,
-        AesGcmKeyManager::new(),
-        aes256_gcm_key_template(alloc),
-    );
-    expect(&rt, prefixed, 36, "with a prefix");
-    let raw = aes256_gcm_no_prefix_key_template(alloc);
-    let raw = size_by(alloc, AesGcmKeyManager::new(), raw);
-    expect(&rt, raw, 31, "without");
+#[derive(Clone, Copy)]
+enum Template {
+    Gcm,
+    RawGcm,
+    RawGcmSiv,
+    CtrHmacSha256,
+    CtrHmacSha512,
 }
 
-#[test]
-fn texts_by_new_keys_of_gcm_siv(rt: HostRuntime) {
-    let alloc = rt.alloc();
-    let raw = aes256_gcm_siv_no_prefix_key_template(alloc);
-    let raw = size_by(alloc, AesGcmSivKeyManager::new(), raw);
-    expect(&rt, raw, 31, "without a prefix");
+fn template_of(alloc: Global, template: Template) -> Result<KeyTemplate, TinkError> {
+    match template {
+        Template::Gcm => aes256_gcm_key_template(alloc),
+        Template::RawGcm => aes256_gcm_no_prefix_key_template(alloc),
+        Template::RawGcmSiv => aes256_gcm_siv_no_prefix_key_template(alloc),
+        Template::CtrHmacSha256 => aes128_ctr_hmac_sha256_key_template(alloc),
+        Template::CtrHmacSha512 => aes256_ctr_hmac_sha512_key_template(alloc),
+    }
 }
 
+fn new_aead(alloc: Global, template: Template) -> Result<WrappedAead<AeadKind>, TinkError> {
+    let kt = template_of(alloc, template)?;
+    match template {
+        Template::Gcm | Template::RawGcm => aead_by(alloc, AesGcmKeyManager::new(), &kt),
+        Template::RawGcmSiv => aead_by(alloc, AesGcmSivKeyManager::new(), &kt),
+        _ => aead_by(alloc, AesCtrHmacAeadKeyManager::new(), &kt),
+    }
+}
+
+const FAILED: Answer = Err(Kind::DecryptFailed);
+
+// The size of what is made of `abc` with the associated data `data`, by a new key, and the data that it is opened with.
+const NEW_KEYS: &[(&str, Template, usize, &[u8], Answer)] = &[
+    (
+        "AES-GCM with a prefix",
+        Template::Gcm,
+        36,
+        b"data",
+        Ok(true),
+    ),
+    (
+        "AES-GCM with a prefix, other data",
+        Template::Gcm,
+        36,
+        b"dat",
+        FAILED,
+    ),
+    ("AES-GCM without", Template::RawGcm, 31, b"data", Ok(true)),
+    (
+        "AES-GCM without, other data",
+        Template::RawGcm,
+        31,
+        b"dat",
+        FAILED,
+    ),
+    (
+        "AES-GCM-SIV without a prefix",
+        Template::RawGcmSiv,
+        31,
+        b"data",
+        Ok(true),
+    ),
+    (
+        "AES-GCM-SIV without a prefix, other data",
+        Template::RawGcmSiv,
+        31,
+        b"dat",
+        FAILED,
+    ),
+    (
+        "CTR and SHA-256",
+        Template::CtrHmacSha256,
+        40,
+        b"data",
+        Ok(true),
+    ),
+    (
+        "CTR and SHA-256, other data",
+        Template::CtrHmacSha256,
+        40,
+        b"dat",
+        FAILED,
+    ),
+    (
+        "CTR and SHA-512",
+        Template::CtrHmacSha512,
+        88,
+        b"data",
+        Ok(true),
+    ),
+    (
+        "CTR and SHA-512, other data",
+        Template::CtrHmacSha512,
+        88,
+        b"dat",
+        FAILED,
+    ),
+];
+
 #[test]
-fn texts_by_new_keys_of_two_parts(rt: HostRuntime) {
+fn texts_by_new_keys(rt: HostRuntime) {
     let alloc = rt.alloc();
-    let small = aes128_ctr_hmac_sha256_key_template(alloc);
-    let small = size_by(alloc, AesCtrHmacAeadKeyManager::new(), small);
-    expect(&rt, small, 40, "SHA-256");
-    let large = aes256_ctr_hmac_sha512_key_template(alloc);
-    let large = size_by(alloc, AesCtrHmacAeadKeyManager::new(), large);
-    expect(&rt, large, 88, "SHA-512");
+    for (row, template, size, data, want) in NEW_KEYS {
+        let got = of_size(alloc, new_aead(alloc, *template), *size, data);
+        expect(&rt, got, *want, row);
+    }
 }
 
 // ---- keysets of two keys
 
-// An enabled AES-GCM key, of which each byte is its id. Its bytes are field 3 of the message.
-fn gcm_key(alloc: Global, prefix: OutputPrefixType, id: u8) -> Result<Key, TinkError> {
-    let mut value = [id; 18];
-    value[0] = 0x1a;
-    value[1] = 16;
-    enabled_key(alloc, AES_GCM_TYPE_URL, &value, prefix, u32::from(id))
-}
-
 // A key's prefix and its id.
 type Named = (OutputPrefixType, u8);
 
-fn add_key(alloc: Global, keys: &mut Vec<Key>, named: Named) -> Result<(), TinkError> {
-    keys.push(gcm_key(alloc, named.0, named.1)?)?;
+// Adds an enabled AES-GCM key, of which each byte is its id. Its bytes are field 3 of the message.
+fn push(alloc: Global, keys: &mut Vec<Key>, named: Named) -> Result<(), TinkError> {
+    let (prefix, id) = named;
+    let mut value = [id; 18];
+    value[0] = 0x1a;
+    value[1] = 16;
+    let key = enabled_key(alloc, AES_GCM_TYPE_URL, &value, prefix, u32::from(id))?;
+    keys.push(key)?;
     Ok(())
 }
 
-fn add_two(alloc: Global, keys: &mut Vec<Key>, a: Named, b: Named) -> Result<(), TinkError> {
-    add_key(alloc, keys, a)?;
-    add_key(alloc, keys, b)
-}
-
 // Two keys, of which the first is primary.
-fn two_keys(alloc: Global, a: Named, b: Named) -> Result<Handle, TinkError> {
+fn two_keys(alloc: Global, named: [Named; 2]) -> Result<Handle, TinkError> {
     let mut keys = Vec::new(alloc);
-    match add_two(alloc, &mut keys, a, b) {
-        Ok(()) => handle_of(u32::from(a.1), keys),
-        Err(e) => Err(e),
-    }
-}
-
-// A prefixed key of this id, which is primary, and a raw one of the next.
-fn prefixed_first(alloc: Global, id: u8) -> Result<Handle, TinkError> {
-    let raw = (OutputPrefixType::Raw, id.wrapping_add(1));
-    two_keys(alloc, (OutputPrefixType::Tink, id), raw)
-}
-
-// The same two keys, of which the raw one is primary.
-fn raw_first(alloc: Global, id: u8) -> Result<Handle, TinkError> {
-    let raw = (OutputPrefixType::Raw, id.wrapping_add(1));
-    two_keys(alloc, raw, (OutputPrefixType::Tink, id))
+    push(alloc, &mut keys, named[0])?;
+    push(alloc, &mut keys, named[1])?;
+    handle_of(u32::from(named[0].1), keys)
 }
 
 // The AEADs of these keys.
-fn aead_of(alloc: Global, h: &Handle) -> Result<WrappedAead<AeadKind>, TinkError> {
-    match registry_of(alloc, AesGcmKeyManager::new()) {
-        Ok(registry) => new(alloc, h, &registry),
+fn aead_of(
+    alloc: Global,
+    h: Result<Handle, TinkError>,
+) -> Result<WrappedAead<AeadKind>, TinkError> {
+    match h {
+        Ok(h) => new(alloc, &h, &registry_of(alloc, AesGcmKeyManager::new())?),
         Err(e) => Err(e),
     }
 }
@@ -210,194 +236,222 @@ fn abc_from(alloc: Global, aead: &WrappedAead<AeadKind>, n: usize) -> Result<Byt
     sealed_by(aead, alloc, b"abc", &mut draws)
 }
 
-fn abc_of(alloc: Global, h: &Handle, n: usize) -> Result<Bytes, TinkError> {
-    match aead_of(alloc, h) {
+fn sealed(alloc: Global, named: [Named; 2], n: usize) -> Result<Bytes, TinkError> {
+    match aead_of(alloc, two_keys(alloc, named)) {
         Ok(aead) => abc_from(alloc, &aead, n),
         Err(e) => Err(e),
     }
 }
 
-fn abc_by(alloc: Global, h: Result<Handle, TinkError>, n: usize) -> Result<Bytes, TinkError> {
-    match h {
-        Ok(h) => abc_of(alloc, &h, n),
-        Err(e) => Err(e),
-    }
-}
-
-// What the keys make of a ciphertext.
-fn opened(alloc: Global, h: &Handle, sealed: &[u8]) -> Result<Bytes, TinkError> {
-    match aead_of(alloc, h) {
+fn opened(alloc: Global, named: [Named; 2], sealed: &[u8]) -> Result<Bytes, TinkError> {
+    match aead_of(alloc, two_keys(alloc, named)) {
         Ok(aead) => aead.decrypt(alloc, sealed, &[]),
         Err(e) => Err(e),
     }
 }
 
-fn opened_by(
+// Whether the first keys make of `abc`, with so many draws, so many bytes that begin so, and the second open them.
+fn goes_there_and_back(
     alloc: Global,
-    h: Result<Handle, TinkError>,
-    sealed: &[u8],
-) -> Result<Bytes, TinkError> {
-    match h {
-        Ok(h) => opened(alloc, &h, sealed),
-        Err(e) => Err(e),
-    }
+    keys: [Named; 2],
+    n: usize,
+    front: &[u8],
+    size: usize,
+    others: [Named; 2],
+) -> Result<bool, TinkError> {
+    let sealed = sealed(alloc, keys, n)?;
+    let bytes = sealed.as_slice();
+    Ok(
+        gives(opened(alloc, others, bytes), b"abc")?
+            && bytes.starts_with(front)
+            && bytes.len() == size,
+    )
 }
 
-// Whether both orders of the keys decrypt it, and other keys do not.
-fn opens_by_its_keys(alloc: Global, sealed: &[u8]) -> Result<bool, TinkError> {
-    let other = kind_of(opened_by(alloc, prefixed_first(alloc, 3), sealed));
-    let first = is_bytes(opened_by(alloc, prefixed_first(alloc, 1), sealed), b"abc")?;
-    let second = is_bytes(opened_by(alloc, raw_first(alloc, 1), sealed), b"abc")?;
-    Ok(first && second && other == Some(Kind::DecryptFailed))
-}
+const PREFIXED_FIRST: [Named; 2] = [(OutputPrefixType::Tink, 1), (OutputPrefixType::Raw, 2)];
 
-// Whether what the prefixed key makes of `abc` begins so, and is decrypted.
-fn begins_and_opens(alloc: Global, prefix: &[u8]) -> Result<(bool, bool), TinkError> {
-    let sealed = abc_by(alloc, prefixed_first(alloc, 1), 12)?;
-    let opens = opens_by_its_keys(alloc, sealed.as_slice())?;
-    Ok((sealed.as_slice().starts_with(prefix), opens))
-}
+const RAW_FIRST: [Named; 2] = [(OutputPrefixType::Raw, 2), (OutputPrefixType::Tink, 1)];
+
+const OTHERS: [Named; 2] = [(OutputPrefixType::Tink, 3), (OutputPrefixType::Raw, 4)];
+
+const PREFIX: &[u8] = b"\x01\x00\x00\x00\x01";
+
+// The keys that make it, the draws, what it begins with, its size, and the keys that open it.
+type Sealing = (
+    &'static str,
+    [Named; 2],
+    usize,
+    &'static [u8],
+    usize,
+    [Named; 2],
+    Answer,
+);
+
+const SEALINGS: &[Sealing] = &[
+    (
+        "a prefixed key's, by its keyset",
+        PREFIXED_FIRST,
+        12,
+        PREFIX,
+        36,
+        PREFIXED_FIRST,
+        Ok(true),
+    ),
+    (
+        "a prefixed key's, by a raw one first",
+        PREFIXED_FIRST,
+        12,
+        PREFIX,
+        36,
+        RAW_FIRST,
+        Ok(true),
+    ),
+    (
+        "a prefixed key's, by other keys",
+        PREFIXED_FIRST,
+        12,
+        PREFIX,
+        36,
+        OTHERS,
+        FAILED,
+    ),
+    (
+        "a raw key's, by its keyset",
+        RAW_FIRST,
+        12,
+        b"",
+        31,
+        RAW_FIRST,
+        Ok(true),
+    ),
+    (
+        "a raw key's, by a prefixed one first",
+        RAW_FIRST,
+        12,
+        b"",
+        31,
+        PREFIXED_FIRST,
+        Ok(true),
+    ),
+    (
+        "a raw key's, by other keys",
+        RAW_FIRST,
+        12,
+        b"",
+        31,
+        OTHERS,
+        FAILED,
+    ),
+    (
+        "too few draws",
+        PREFIXED_FIRST,
+        11,
+        PREFIX,
+        36,
+        PREFIXED_FIRST,
+        Err(Kind::RandomFault),
+    ),
+];
 
 #[test]
-fn a_prefixed_key_of_a_keyset_decrypts(rt: HostRuntime) {
-    let told = begins_and_opens(rt.alloc(), b"\x01\x00\x00\x00\x01");
-    expect(&rt, told, (true, true), "the prefix, and the text");
-}
-
-// How many bytes the raw key makes of `abc`, and whether they are decrypted.
-fn size_and_opens(alloc: Global) -> Result<(usize, bool), TinkError> {
-    let sealed = abc_by(alloc, raw_first(alloc, 1), 12)?;
-    let opens = opens_by_its_keys(alloc, sealed.as_slice())?;
-    Ok((sealed.as_slice().len(), opens))
-}
-
-#[test]
-fn a_raw_key_of_a_keyset_decrypts(rt: HostRuntime) {
-    let told = size_and_opens(rt.alloc());
-    expect(&rt, told, (31, true), "the size, and the text");
-}
-
-#[test]
-fn a_prefix_alone_and_few_draws_are_refused(rt: HostRuntime) {
+fn keys_of_a_keyset_decrypt(rt: HostRuntime) {
     let alloc = rt.alloc();
-    let prefix = opened_by(alloc, prefixed_first(alloc, 1), b"\x01\x00\x00\x00\x01");
-    expect_refusal(&rt, prefix, Kind::DecryptFailed);
-    let few = abc_by(alloc, prefixed_first(alloc, 1), 11);
-    expect_refusal(&rt, few, Kind::RandomFault);
+    for (row, keys, n, front, size, others, want) in SEALINGS {
+        let got = goes_there_and_back(alloc, *keys, *n, front, *size, *others);
+        expect(&rt, got, *want, row);
+    }
+    let alone = gives(opened(alloc, PREFIXED_FIRST, PREFIX), b"");
+    expect(&rt, alone, FAILED, "a prefix alone");
 }
 
 // ---- a rotation
 
-fn rotate_in(
+// The keys after a rotation by the template.
+fn rotated(
     alloc: Global,
-    manager: &mut Manager,
     registry: &Registry<AesGcmKeyManager>,
     kt: &KeyTemplate,
-) -> Result<(), TinkError> {
-    let mut draws = draws_of(alloc, &[4; 20])?;
-    match manager.rotate(alloc, kt, registry, &mut draws) {
-        Ok(_) => Ok(()),
-        Err(e) => Err(e),
-    }
-}
-
-fn rotate_by(alloc: Global, manager: &mut Manager, kt: &KeyTemplate) -> Result<(), TinkError> {
-    match registry_of(alloc, AesGcmKeyManager::new()) {
-        Ok(registry) => rotate_in(alloc, manager, &registry, kt),
-        Err(e) => Err(e),
-    }
-}
-
-fn rotate(alloc: Global, manager: &mut Manager) -> Result<(), TinkError> {
-    match aes128_gcm_key_template(alloc) {
-        Ok(kt) => rotate_by(alloc, manager, &kt),
-        Err(e) => Err(e),
-    }
-}
-
-// The keys after a rotation.
-fn rotated(alloc: Global, h: Handle) -> Result<Handle, TinkError> {
+    h: Handle,
+) -> Result<Handle, TinkError> {
     let mut manager = Manager::new_from_handle(h);
-    match rotate(alloc, &mut manager) {
-        Ok(()) => manager.handle(alloc),
-        Err(e) => Err(e),
-    }
+    manager.rotate(alloc, kt, registry, &mut draws_of(alloc, &[4; 20])?)?;
+    manager.handle(alloc)
 }
 
-// What a copy makes of a ciphertext.
-fn opened_by_a_copy(
+// Whether these AEADs decrypt both ciphertexts.
+fn opens(
     alloc: Global,
     aead: &WrappedAead<AeadKind>,
-    sealed: &[u8],
-) -> Result<Bytes, TinkError> {
-    match aead.try_clone(alloc) {
-        Ok(copy) => copy.decrypt(alloc, sealed, &[]),
-        Err(e) => Err(e),
-    }
-}
-
-// Whether it is decrypted to `abc`, and by a copy too.
-fn opens_twice(
-    alloc: Global,
-    aead: &WrappedAead<AeadKind>,
-    sealed: &[u8],
+    old: &[u8],
+    newer: &[u8],
 ) -> Result<bool, TinkError> {
-    let copied = is_bytes(opened_by_a_copy(alloc, aead, sealed), b"abc")?;
-    let opened = is_bytes(aead.decrypt(alloc, sealed, &[]), b"abc")?;
-    Ok(copied && opened)
+    let opens_old = gives(aead.decrypt(alloc, old, &[]), b"abc")?;
+    Ok(gives(aead.decrypt(alloc, newer, &[]), b"abc")? && opens_old && newer != old)
 }
 
-fn opens(alloc: Global, h: &Handle, sealed: &[u8]) -> Result<bool, TinkError> {
-    match aead_of(alloc, h) {
-        Ok(aead) => opens_twice(alloc, &aead, sealed),
+fn copy_opens(
+    alloc: Global,
+    aead: &WrappedAead<AeadKind>,
+    old: &[u8],
+    newer: &[u8],
+) -> Result<bool, TinkError> {
+    match aead.try_clone(alloc) {
+        Ok(copy) => opens(alloc, &copy, old, newer),
         Err(e) => Err(e),
     }
 }
 
-// Whether the keys decrypt what they make, which is another ciphertext, and the old one.
-fn opens_both(alloc: Global, h: &Handle, old: &[u8]) -> Result<bool, TinkError> {
-    let newer = abc_of(alloc, h, 12)?;
-    let opens_newer = opens(alloc, h, newer.as_slice())?;
-    let opens_old = opens(alloc, h, old)?;
-    Ok(newer.as_slice() != old && opens_newer && opens_old)
+// Whether the AEADs decrypt what they make, which is another ciphertext, and the old one, and a copy both.
+fn opens_both(alloc: Global, aead: &WrappedAead<AeadKind>, old: &[u8]) -> Result<bool, TinkError> {
+    let newer = abc_from(alloc, aead, 12)?;
+    let copied = copy_opens(alloc, aead, old, newer.as_slice())?;
+    Ok(opens(alloc, aead, old, newer.as_slice())? && copied)
 }
 
-fn opens_both_by(
+fn opens_both_of(
     alloc: Global,
-    h: Result<Handle, TinkError>,
+    later: Result<WrappedAead<AeadKind>, TinkError>,
     old: &[u8],
 ) -> Result<bool, TinkError> {
-    match h {
-        Ok(h) => opens_both(alloc, &h, old),
+    match later {
+        Ok(aead) => opens_both(alloc, &aead, old),
         Err(e) => Err(e),
     }
 }
 
-// The same after a rotation of these keys, of what they made before it.
-fn outlives_a_rotation(alloc: Global, h: Handle) -> Result<bool, TinkError> {
-    match abc_of(alloc, &h, 12) {
-        Ok(old) => opens_both_by(alloc, rotated(alloc, h), old.as_slice()),
+// What a handle's keys make of `abc`.
+fn abc_by(
+    alloc: Global,
+    registry: &Registry<AesGcmKeyManager>,
+    h: &Handle,
+) -> Result<Bytes, TinkError> {
+    match new(alloc, h, registry) {
+        Ok(aead) => abc_from(alloc, &aead, 12),
         Err(e) => Err(e),
     }
 }
 
-// One new key.
-fn one_key(alloc: Global) -> Result<Handle, TinkError> {
-    let kt = aes128_gcm_key_template(alloc)?;
-    match registry_of(alloc, AesGcmKeyManager::new()) {
-        Ok(registry) => new_handle(alloc, &registry, &kt),
-        Err(e) => Err(e),
-    }
+// The same of one new key, of what it made before the rotation.
+fn outlives_a_rotation(
+    alloc: Global,
+    registry: &Registry<AesGcmKeyManager>,
+    kt: &KeyTemplate,
+) -> Result<bool, TinkError> {
+    let h = Handle::new(alloc, kt, registry, &mut draws_of(alloc, &[3; 128])?)?;
+    let old = abc_by(alloc, registry, &h)?;
+    let later = rotated(alloc, registry, kt, h);
+    opens_both_of(alloc, aead_of(alloc, later), old.as_slice())
 }
 
 fn rotates(alloc: Global) -> Result<bool, TinkError> {
-    match one_key(alloc) {
-        Ok(h) => outlives_a_rotation(alloc, h),
+    let registry = registry_of(alloc, AesGcmKeyManager::new())?;
+    match aes128_gcm_key_template(alloc) {
+        Ok(kt) => outlives_a_rotation(alloc, &registry, &kt),
         Err(e) => Err(e),
     }
 }
 
 #[test]
 fn old_ciphertexts_are_decrypted_after_a_rotation(rt: HostRuntime) {
-    expect(&rt, rotates(rt.alloc()), true, "both ciphertexts");
+    expect(&rt, rotates(rt.alloc()), Ok(true), "both ciphertexts");
 }

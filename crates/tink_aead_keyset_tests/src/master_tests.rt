@@ -1,6 +1,6 @@
 //! Keysets under an AES-GCM master key, over memory and over ends in the wire format and in JSON.
 
-use crate::common::{expect, expect_refusal, is_bytes};
+use crate::common::{Answer, expect};
 use std::alloc::Global;
 use tink_aead::subtle::AesGcm;
 use tink_core::keyset::insecure::{decode, new_handle};
@@ -9,7 +9,7 @@ use tink_core::{Kind, MemSink, MemSource, TinkError};
 use tink_keyset_io::{BinaryReader, BinaryWriter, JsonReader, JsonWriter};
 use tink_proto::wire::Message;
 use tink_proto::{Bytes, EncryptedKeyset, KeysetInfo};
-use tink_testutil::{bytes_of, draws_of};
+use tink_testutil::{bytes_of, draws_of, gives};
 
 // A keyset of one raw key for streams.
 const KEYSET: &[u8] =
@@ -38,91 +38,39 @@ fn is_info(alloc: Global, info: &KeysetInfo) -> Result<bool, TinkError> {
     }
 }
 
-fn has_the_info(alloc: Global, h: &Handle) -> Result<bool, TinkError> {
-    match h.keyset_info(alloc) {
-        Ok(info) => is_info(alloc, &info),
-        Err(e) => Err(e),
-    }
-}
-
-fn holds_the_keyset(alloc: Global, h: &Handle) -> Result<bool, TinkError> {
-    let has_info = has_the_info(alloc, h)?;
-    Ok(is_bytes(bytes_of(alloc, h), KEYSET)? && has_info)
-}
-
 // Whether it is a handle of the keyset, with its info.
 fn is_the_keyset(alloc: Global, read: Result<Handle, TinkError>) -> Result<bool, TinkError> {
-    match read {
-        Ok(h) => holds_the_keyset(alloc, &h),
-        Err(e) => Err(e),
-    }
+    let h = read?;
+    let info = h.keyset_info(alloc)?;
+    Ok(gives(bytes_of(alloc, &h), KEYSET)? && is_info(alloc, &info)?)
 }
 
-// Writes the keyset under the master key, by twelve draws of 7.
-fn write_by<W: Writer>(
-    alloc: Global,
-    h: &Handle,
-    writer: &mut W,
-    master: &AesGcm,
-) -> Result<(), TinkError> {
+// Writes the keyset under the master key, by twelve draws of 7, with this data where there are some.
+fn write<W: Writer>(alloc: Global, writer: &mut W, data: Option<&[u8]>) -> Result<(), TinkError> {
+    let master = master(alloc)?;
+    let h = handle(alloc)?;
     let mut draws = draws_of(alloc, &[7; 12])?;
-    h.write(alloc, writer, master, &mut draws)
-}
-
-fn write<W: Writer>(alloc: Global, writer: &mut W) -> Result<(), TinkError> {
-    let master = master(alloc)?;
-    match handle(alloc) {
-        Ok(h) => write_by(alloc, &h, writer, &master),
-        Err(e) => Err(e),
+    match data {
+        Some(data) => h.write_with_associated_data(alloc, writer, &master, data, &mut draws),
+        None => h.write(alloc, writer, &master, &mut draws),
     }
 }
 
-// The same with this data.
-fn write_by_data<W: Writer>(
+// Whether the keyset is read under the master key, with this data where there are some.
+fn is_read<R: Reader>(
     alloc: Global,
-    h: &Handle,
-    writer: &mut W,
-    master: &AesGcm,
-    data: &[u8],
-) -> Result<(), TinkError> {
-    let mut draws = draws_of(alloc, &[7; 12])?;
-    h.write_with_associated_data(alloc, writer, master, data, &mut draws)
-}
-
-fn write_with<W: Writer>(alloc: Global, writer: &mut W, data: &[u8]) -> Result<(), TinkError> {
+    reader: &mut R,
+    data: Option<&[u8]>,
+) -> Result<bool, TinkError> {
     let master = master(alloc)?;
-    match handle(alloc) {
-        Ok(h) => write_by_data(alloc, &h, writer, &master, data),
-        Err(e) => Err(e),
-    }
-}
-
-// Whether the keyset is read under the master key.
-fn is_read<R: Reader>(alloc: Global, reader: &mut R) -> Result<bool, TinkError> {
-    let master = master(alloc)?;
-    is_the_keyset(alloc, Handle::read(alloc, reader, &master))
+    let read = match data {
+        Some(data) => Handle::read_with_associated_data(alloc, reader, &master, data),
+        None => Handle::read(alloc, reader, &master),
+    };
+    is_the_keyset(alloc, read)
 }
 
 // ---- memory
-
-// Whether the keyset is read back, and none lies beside it.
-fn is_kept(alloc: Global, ends: &mut MemReaderWriter) -> Result<bool, TinkError> {
-    let read = is_read(alloc, ends)?;
-    Ok(read && ends.keyset.is_none())
-}
-
-fn is_kept_in_memory(alloc: Global) -> Result<bool, TinkError> {
-    let mut ends = MemReaderWriter::default();
-    match write(alloc, &mut ends) {
-        Ok(()) => is_kept(alloc, &mut ends),
-        Err(e) => Err(e),
-    }
-}
-
-#[test]
-fn a_keyset_is_kept_in_memory(rt: HostRuntime) {
-    expect(&rt, is_kept_in_memory(rt.alloc()), true, "the keyset");
-}
 
 // Whether it is the outside encryption of the keyset, beside its info.
 fn is_encrypted(alloc: Global, ends: &Option<EncryptedKeyset>) -> Result<bool, TinkError> {
@@ -137,113 +85,142 @@ fn is_encrypted(alloc: Global, ends: &Option<EncryptedKeyset>) -> Result<bool, T
     }
 }
 
-fn is_encrypted_in_memory(alloc: Global) -> Result<bool, TinkError> {
-    let mut ends = MemReaderWriter::default();
-    match write(alloc, &mut ends) {
-        Ok(()) => is_encrypted(alloc, &ends.encrypted_keyset),
-        Err(e) => Err(e),
-    }
+// Whether it is written to memory as that, and read back, and no keyset lies beside it.
+fn is_kept(alloc: Global, ends: &mut MemReaderWriter) -> Result<bool, TinkError> {
+    write(alloc, ends, None)?;
+    let encrypted = is_encrypted(alloc, &ends.encrypted_keyset)?;
+    Ok(encrypted && is_read(alloc, ends, None)? && ends.keyset.is_none())
 }
 
 #[test]
-fn what_is_written_is_the_encryption_and_the_info(rt: HostRuntime) {
-    let told = is_encrypted_in_memory(rt.alloc());
-    expect(&rt, told, true, "the encryption and the info");
+fn a_keyset_is_kept_in_memory(rt: HostRuntime) {
+    let kept = is_kept(rt.alloc(), &mut MemReaderWriter::default());
+    expect(&rt, kept, Ok(true), "the encryption and the info");
 }
 
-// ---- the wire format
-
-// A sink of 50 bytes a call, with room for n.
-fn sink_of(alloc: Global, n: usize) -> Result<MemSink, TinkError> {
-    let mut sink = MemSink::new(alloc, 50, Vec::new(alloc));
-    match sink.reserve(alloc, n) {
-        Ok(()) => Ok(sink),
-        Err(e) => Err(e),
-    }
-}
-
-fn source_of(alloc: Global, text: &[u8]) -> Result<MemSource, TinkError> {
-    Ok(MemSource::new(text.to_vec(alloc)?, 50, Vec::new(alloc)))
-}
-
-// The bytes of the keyset under the master key and this data.
-fn binary(alloc: Global, data: &[u8]) -> Result<Bytes, TinkError> {
-    let mut writer = BinaryWriter::new(sink_of(alloc, 300)?);
-    match write_with(alloc, &mut writer, data) {
-        Ok(()) => Ok(Bytes::from_vec(writer.into_inner().into_bytes())),
-        Err(e) => Err(e),
-    }
-}
-
-// The keyset of these bytes under this data.
-fn of_binary(alloc: Global, text: &[u8], data: &[u8]) -> Result<Handle, TinkError> {
-    let master = master(alloc)?;
-    match source_of(alloc, text) {
-        Ok(source) => Handle::read_with_associated_data(
-            alloc,
-            &mut BinaryReader::new(source),
-            &master,
-            data,
-        ),
-        Err(e) => Err(e),
-    }
-}
-
-fn is_kept_in_binary(alloc: Global) -> Result<bool, TinkError> {
-    let text = binary(alloc, &[])?;
-    let text = text.as_slice();
-    let framed = text.starts_with(b"\x12\x92\x01\x07\x07") && text.ends_with(INFO);
-    Ok(is_the_keyset(alloc, of_binary(alloc, text, &[]))? && framed)
-}
-
-#[test]
-fn a_keyset_is_kept_in_the_wire_format(rt: HostRuntime) {
-    expect(&rt, is_kept_in_binary(rt.alloc()), true, "the keyset");
-}
-
-// Whether what was written with the data `aa` is read with this data.
-fn is_read_with(alloc: Global, data: &[u8]) -> Result<bool, TinkError> {
-    let text = binary(alloc, b"\xaa")?;
-    is_the_keyset(alloc, of_binary(alloc, text.as_slice(), data))
-}
-
-#[test]
-fn other_data_are_refused(rt: HostRuntime) {
-    let alloc = rt.alloc();
-    expect(&rt, is_read_with(alloc, b"\xaa"), true, "the same data");
-    expect_refusal(&rt, is_read_with(alloc, b"\xab"), Kind::MasterFailed);
-    expect_refusal(&rt, is_read_with(alloc, b""), Kind::MasterFailed);
-}
-
-// ---- JSON
+// ---- the wire format and JSON
 
 // The first member, whose bytes are base64.
 const JSON: &[u8] =
     b"{\n  \"encryptedKeyset\": \"BwcHBwcHBwcHBwcHn+jWc2iRUiVAKH7wrrKdxoEeCeHO1Ioy0YvpPehR1vkJVn/T2HRVoBKvAUfMpqPz2huS2IF0l6fEJIEelYKyk1pDPCLvxjls0UAFgdNGP6v4QLExoEnL3GoSf8sYOoxRvCWCShvlw63XZsVXR9xYbJHyswVksFhagl00F52L2gzo6P7Fzfk=\",\n  \"keysetInfo\": {";
 
-// The JSON of the keyset under the master key.
-fn json(alloc: Global) -> Result<Bytes, TinkError> {
-    let mut writer = JsonWriter::new(sink_of(alloc, 600)?);
-    match write(alloc, &mut writer) {
-        Ok(()) => Ok(Bytes::from_vec(writer.into_inner().into_bytes())),
-        Err(e) => Err(e),
+#[derive(Clone, Copy)]
+enum Format {
+    Wire,
+    Json,
+}
+
+// A sink of 50 bytes a call, with room for 600.
+fn sink_of(alloc: Global) -> Result<MemSink, TinkError> {
+    let mut sink = MemSink::new(alloc, 50, Vec::new(alloc));
+    sink.reserve(alloc, 600)?;
+    Ok(sink)
+}
+
+fn in_wire(alloc: Global, data: Option<&[u8]>) -> Result<Bytes, TinkError> {
+    let mut writer = BinaryWriter::new(sink_of(alloc)?);
+    write(alloc, &mut writer, data)?;
+    Ok(Bytes::from_vec(writer.into_inner().into_bytes()))
+}
+
+fn in_json(alloc: Global, data: Option<&[u8]>) -> Result<Bytes, TinkError> {
+    let mut writer = JsonWriter::new(sink_of(alloc)?);
+    write(alloc, &mut writer, data)?;
+    Ok(Bytes::from_vec(writer.into_inner().into_bytes()))
+}
+
+// Whether this text is one of the keyset.
+fn is_read_of(
+    alloc: Global,
+    format: Format,
+    text: &[u8],
+    data: Option<&[u8]>,
+) -> Result<bool, TinkError> {
+    let source = MemSource::new(text.to_vec(alloc)?, 50, Vec::new(alloc));
+    match format {
+        Format::Wire => is_read(alloc, &mut BinaryReader::new(source), data),
+        Format::Json => is_read(alloc, &mut JsonReader::new(source), data),
     }
 }
 
-fn is_read_of_json(alloc: Global, text: &[u8]) -> Result<bool, TinkError> {
-    match source_of(alloc, text) {
-        Ok(source) => is_read(alloc, &mut JsonReader::new(source)),
-        Err(e) => Err(e),
-    }
+// Whether the keyset is written so that its text begins and ends so, and read from it.
+fn is_kept_as(alloc: Global, format: Format, row: &Row) -> Result<bool, TinkError> {
+    let text = match format {
+        Format::Wire => in_wire(alloc, row.written_with),
+        Format::Json => in_json(alloc, row.written_with),
+    };
+    let text = text?;
+    let text = text.as_slice();
+    let framed = text.starts_with(row.begins) && text.ends_with(row.ends);
+    Ok(is_read_of(alloc, format, text, row.read_with)? && framed)
 }
 
-fn is_kept_in_json(alloc: Global) -> Result<bool, TinkError> {
-    let text = json(alloc)?;
-    let begins = text.as_slice().starts_with(JSON);
-    Ok(is_read_of_json(alloc, text.as_slice())? && begins)
+struct Row {
+    name: &'static str,
+    format: Format,
+    written_with: Option<&'static [u8]>,
+    read_with: Option<&'static [u8]>,
+    begins: &'static [u8],
+    ends: &'static [u8],
+    want: Answer,
 }
+
+const BEGINS: &[u8] = b"\x12\x92\x01\x07\x07";
+
+const FAILED: Answer = Err(Kind::MasterFailed);
+
+const ROWS: &[Row] = &[
+    Row {
+        name: "the wire format",
+        format: Format::Wire,
+        written_with: Some(b""),
+        read_with: Some(b""),
+        begins: BEGINS,
+        ends: INFO,
+        want: Ok(true),
+    },
+    Row {
+        name: "JSON",
+        format: Format::Json,
+        written_with: None,
+        read_with: None,
+        begins: JSON,
+        ends: b"",
+        want: Ok(true),
+    },
+    Row {
+        name: "the same data",
+        format: Format::Wire,
+        written_with: Some(b"\xaa"),
+        read_with: Some(b"\xaa"),
+        begins: BEGINS,
+        ends: INFO,
+        want: Ok(true),
+    },
+    Row {
+        name: "other data",
+        format: Format::Wire,
+        written_with: Some(b"\xaa"),
+        read_with: Some(b"\xab"),
+        begins: BEGINS,
+        ends: INFO,
+        want: FAILED,
+    },
+    Row {
+        name: "no data",
+        format: Format::Wire,
+        written_with: Some(b"\xaa"),
+        read_with: Some(b""),
+        begins: BEGINS,
+        ends: INFO,
+        want: FAILED,
+    },
+];
 
 #[test]
-fn a_keyset_is_kept_in_json(rt: HostRuntime) {
-    expect(&rt, is_kept_in_json(rt.alloc()), true, "the keyset");
+fn a_keyset_is_kept_in_a_text(rt: HostRuntime) {
+    for row in ROWS {
+        let got = is_kept_as(rt.alloc(), row.format, row);
+        expect(&rt, got, row.want, row.name);
+    }
 }

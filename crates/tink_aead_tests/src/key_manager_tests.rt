@@ -1,6 +1,6 @@
 //! Which keys the managers build, and which formats make keys.
 
-use crate::comparing::expect;
+use crate::comparing::{Answer, expect, made};
 use std::alloc::Global;
 use tink_aead::{
     AES_CTR_HMAC_AEAD_KEY_VERSION, AES_GCM_KEY_VERSION, AES_GCM_SIV_KEY_VERSION,
@@ -8,277 +8,284 @@ use tink_aead::{
 };
 use tink_core::registry::KeyManager;
 use tink_core::{Kind, TinkError};
-use tink_proto::Bytes;
-use tink_proto::wire::Message;
-use tink_proto_keys::{
-    AesCtrHmacAeadKey, AesCtrHmacAeadKeyFormat, AesCtrKey, AesCtrKeyFormat, AesCtrParams,
-    AesGcmKey, AesGcmSivKey, HmacKey, HmacKeyFormat, HmacParams,
-};
-use tink_testutil::{draws_of, kind_of};
+use tink_testutil::draws_of;
 
-#[test]
-fn the_versions_are_0(rt: HostRuntime) {
-    expect(&rt, Ok(AES_GCM_KEY_VERSION), 0, "GCM");
-    expect(&rt, Ok(AES_GCM_SIV_KEY_VERSION), 0, "GCM-SIV");
-    expect(&rt, Ok(AES_CTR_HMAC_AEAD_KEY_VERSION), 0, "two parts");
+// What is asked of a manager.
+enum Asked {
+    // To build a key of a message.
+    Build(&'static [u8]),
+    // To make a key of a format by so many draws, of which so many are left.
+    Make(&'static [u8], usize, usize),
 }
 
-// So many bytes of this value.
-fn bytes_of(alloc: Global, byte: u8, size: usize) -> Result<Bytes, TinkError> {
-    Ok(Bytes::from_vec(vec![in alloc; byte; size]?))
+#[derive(Clone, Copy)]
+enum Manager {
+    Gcm,
+    GcmSiv,
+    CtrHmac,
 }
 
-fn encoded<T: Message>(alloc: Global, message: &T) -> Result<Bytes, TinkError> {
-    match message.encode(alloc) {
-        Ok(bytes) => Ok(bytes),
-        Err(_) => Err(TinkError::new(Kind::OutOfMemory)),
-    }
-}
-
-// What a manager answers on the bytes of a key.
-fn built_by<M: KeyManager>(
-    alloc: Global,
-    km: &M,
-    key: Result<Bytes, TinkError>,
-) -> Result<Option<Kind>, TinkError> {
-    match key {
-        Ok(key) => Ok(kind_of(km.primitive(alloc, key.as_slice()))),
-        Err(e) => Err(e),
-    }
-}
-
-// ---- keys of one part
-
-// The bytes of a key of GCM, of a version and size.
-fn gcm_key(alloc: Global, version: u32, size: usize) -> Result<Bytes, TinkError> {
-    let key_value = bytes_of(alloc, 1, size)?;
-    encoded(alloc, &AesGcmKey { version, key_value })
-}
-
-// And of GCM-SIV.
-fn gcm_siv_key(alloc: Global, version: u32, size: usize) -> Result<Bytes, TinkError> {
-    let key_value = bytes_of(alloc, 1, size)?;
-    encoded(alloc, &AesGcmSivKey { version, key_value })
-}
-
-type Both = (Option<Kind>, Option<Kind>);
-
-// What the two managers answer.
-fn both_built(alloc: Global, version: u32, size: usize) -> Result<Both, TinkError> {
-    let key = gcm_key(alloc, version, size);
-    let gcm = built_by(alloc, &AesGcmKeyManager::new(), key)?;
-    let key = gcm_siv_key(alloc, version, size);
-    let siv = built_by(alloc, &AesGcmSivKeyManager::new(), key)?;
-    Ok((gcm, siv))
-}
-
-#[test]
-fn keys_of_one_part_that_build(rt: HostRuntime) {
-    let alloc = rt.alloc();
-    let built = (None, None);
-    expect(&rt, both_built(alloc, 0, 16), built, "16 bytes");
-    expect(&rt, both_built(alloc, 0, 32), built, "32 bytes");
-    let invalid = (Some(Kind::InvalidKey), Some(Kind::InvalidKey));
-    expect(&rt, both_built(alloc, 0, 24), invalid, "24 bytes");
-    expect(&rt, both_built(alloc, 0, 0), invalid, "no bytes");
-    expect(&rt, both_built(alloc, 1, 16), invalid, "version 1");
-}
-
-// What a manager answers on a format, and the draws left of n.
-fn made_by<M: KeyManager>(
+fn makes<M: KeyManager>(
     alloc: Global,
     km: &M,
     format: &[u8],
     n: usize,
-) -> Result<(Option<Kind>, usize), TinkError> {
+    left: usize,
+) -> Result<bool, TinkError> {
     let mut draws = draws_of(alloc, &[7; 50][..n.min(50)])?;
-    let answer = km.new_key(alloc, format, &mut draws);
-    Ok((kind_of(answer), draws.left()))
+    let answer = made(km.new_key(alloc, format, &mut draws));
+    if draws.left() == left {
+        answer
+    } else {
+        Ok(false)
+    }
 }
 
-#[test]
-fn formats_and_draws_of_one_part_are_refused(rt: HostRuntime) {
-    let alloc = rt.alloc();
-    let few = made_by(alloc, &AesGcmKeyManager::new(), b"\x10\x10", 15);
-    expect(&rt, few, (Some(Kind::RandomFault), 15), "15 draws");
-    let size = made_by(alloc, &AesGcmKeyManager::new(), b"\x10\x18", 15);
-    expect(&rt, size, (Some(Kind::InvalidFormat), 15), "24 bytes");
+fn does<M: KeyManager + Drop>(alloc: Global, km: M, asked: &Asked) -> Result<bool, TinkError> {
+    match asked {
+        Asked::Build(key) => made(km.primitive(alloc, key)),
+        Asked::Make(format, n, left) => makes(alloc, &km, format, *n, *left),
+    }
 }
 
-// ---- keys of two parts
-
-fn cipher_part(version: u32, iv_size: u32, key_value: Bytes) -> Option<AesCtrKey> {
-    Some(AesCtrKey {
-        version,
-        params: Some(AesCtrParams { iv_size }),
-        key_value,
-    })
+fn answered(alloc: Global, manager: Manager, asked: &Asked) -> Result<bool, TinkError> {
+    match manager {
+        Manager::Gcm => does(alloc, AesGcmKeyManager::new(), asked),
+        Manager::GcmSiv => does(alloc, AesGcmSivKeyManager::new(), asked),
+        Manager::CtrHmac => does(alloc, AesCtrHmacAeadKeyManager::new(), asked),
+    }
 }
 
-// HMAC-SHA256 with tags of 16 bytes.
-fn mac_part(version: u32, key_value: Bytes) -> Option<HmacKey> {
-    Some(HmacKey {
-        version,
-        params: Some(HmacParams {
-            hash: 3,
-            tag_size: 16,
-        }),
-        key_value,
-    })
-}
+const NO_KEY: Answer = Err(Kind::InvalidKey);
 
-// The bytes of a key of these versions and sizes.
-fn key_of(
-    alloc: Global,
-    versions: [u32; 3],
-    aes_size: usize,
-    iv_size: u32,
-    hmac_size: usize,
-) -> Result<Bytes, TinkError> {
-    let aes_key = bytes_of(alloc, 1, aes_size)?;
-    let hmac_key = bytes_of(alloc, 2, hmac_size)?;
-    let key = AesCtrHmacAeadKey {
-        version: versions[0],
-        aes_ctr_key: cipher_part(versions[1], iv_size, aes_key),
-        hmac_key: mac_part(versions[2], hmac_key),
-    };
-    encoded(alloc, &key)
-}
+const NO_FORMAT: Answer = Err(Kind::InvalidFormat);
 
-fn built(alloc: Global, key: Result<Bytes, TinkError>) -> Result<Option<Kind>, TinkError> {
-    built_by(alloc, &AesCtrHmacAeadKeyManager::new(), key)
-}
+const NO_DRAWS: Answer = Err(Kind::RandomFault);
 
-#[test]
-fn keys_of_two_parts_that_build(rt: HostRuntime) {
-    let alloc = rt.alloc();
-    let least = built(alloc, key_of(alloc, [0, 0, 0], 16, 12, 16));
-    expect(&rt, least, None, "16 bytes, vectors of 12");
-    let most = built(alloc, key_of(alloc, [0, 0, 0], 32, 16, 40));
-    expect(&rt, most, None, "32 bytes, vectors of 16");
-}
+type Row = (&'static str, Manager, Asked, Answer);
 
-#[test]
-fn keys_of_later_versions_do_not_build(rt: HostRuntime) {
-    let alloc = rt.alloc();
-    let invalid = Some(Kind::InvalidKey);
-    let whole = built(alloc, key_of(alloc, [1, 0, 0], 16, 12, 16));
-    expect(&rt, whole, invalid, "the key");
-    let cipher = built(alloc, key_of(alloc, [0, 1, 0], 16, 12, 16));
-    expect(&rt, cipher, invalid, "the cipher's key");
-    let mac = built(alloc, key_of(alloc, [0, 0, 1], 16, 12, 16));
-    expect(&rt, mac, invalid, "the MAC's key");
-}
+// The version is field 1 of a key, and its value field 3. The size is field 2 of a format.
+const ONE_PART: &[Row] = &[
+    (
+        "GCM, 16 bytes",
+        Manager::Gcm,
+        Asked::Build(b"\x1a\x100123456789abcdef"),
+        Ok(true),
+    ),
+    (
+        "GCM-SIV, 16 bytes",
+        Manager::GcmSiv,
+        Asked::Build(b"\x1a\x100123456789abcdef"),
+        Ok(true),
+    ),
+    (
+        "GCM, 32 bytes",
+        Manager::Gcm,
+        Asked::Build(b"\x1a\x200123456789abcdefghijklmnopqrstuv"),
+        Ok(true),
+    ),
+    (
+        "GCM-SIV, 32 bytes",
+        Manager::GcmSiv,
+        Asked::Build(b"\x1a\x200123456789abcdefghijklmnopqrstuv"),
+        Ok(true),
+    ),
+    (
+        "GCM, 24 bytes",
+        Manager::Gcm,
+        Asked::Build(b"\x1a\x180123456789abcdefghijklmn"),
+        NO_KEY,
+    ),
+    (
+        "GCM-SIV, 24 bytes",
+        Manager::GcmSiv,
+        Asked::Build(b"\x1a\x180123456789abcdefghijklmn"),
+        NO_KEY,
+    ),
+    ("GCM, no bytes", Manager::Gcm, Asked::Build(b""), NO_KEY),
+    (
+        "GCM-SIV, no bytes",
+        Manager::GcmSiv,
+        Asked::Build(b""),
+        NO_KEY,
+    ),
+    (
+        "GCM, version 1",
+        Manager::Gcm,
+        Asked::Build(b"\x08\x01\x1a\x100123456789abcdef"),
+        NO_KEY,
+    ),
+    (
+        "GCM-SIV, version 1",
+        Manager::GcmSiv,
+        Asked::Build(b"\x08\x01\x1a\x100123456789abcdef"),
+        NO_KEY,
+    ),
+    (
+        "GCM format, 15 draws",
+        Manager::Gcm,
+        Asked::Make(b"\x10\x10", 15, 15),
+        NO_DRAWS,
+    ),
+    (
+        "GCM format, 24 bytes",
+        Manager::Gcm,
+        Asked::Make(b"\x10\x18", 15, 15),
+        NO_FORMAT,
+    ),
+];
 
-#[test]
-fn keys_of_two_parts_of_other_sizes_do_not_build(rt: HostRuntime) {
-    let alloc = rt.alloc();
-    let invalid = Some(Kind::InvalidKey);
-    let aes = built(alloc, key_of(alloc, [0, 0, 0], 24, 12, 16));
-    expect(&rt, aes, invalid, "AES keys of 24 bytes");
-    let short = built(alloc, key_of(alloc, [0, 0, 0], 16, 11, 16));
-    expect(&rt, short, invalid, "vectors of 11 bytes");
-    let long = built(alloc, key_of(alloc, [0, 0, 0], 16, 17, 16));
-    expect(&rt, long, invalid, "vectors of 17 bytes");
-    let mac = built(alloc, key_of(alloc, [0, 0, 0], 16, 12, 15));
-    expect(&rt, mac, invalid, "HMAC keys of 15 bytes");
-}
-
-// The bytes of a key without a MAC's key.
-fn key_without_mac(alloc: Global) -> Result<Bytes, TinkError> {
-    let aes_key = bytes_of(alloc, 1, 16)?;
-    let key = AesCtrHmacAeadKey {
-        version: 0,
-        aes_ctr_key: cipher_part(0, 12, aes_key),
-        hmac_key: None,
-    };
-    encoded(alloc, &key)
-}
-
-// And without a cipher's.
-fn key_without_cipher(alloc: Global) -> Result<Bytes, TinkError> {
-    let hmac_key = bytes_of(alloc, 2, 16)?;
-    let key = AesCtrHmacAeadKey {
-        version: 0,
-        aes_ctr_key: None,
-        hmac_key: mac_part(0, hmac_key),
-    };
-    encoded(alloc, &key)
-}
-
-#[test]
-fn keys_without_a_part_do_not_build(rt: HostRuntime) {
-    let alloc = rt.alloc();
-    let invalid = Some(Kind::InvalidKey);
-    let mac = built(alloc, key_without_mac(alloc));
-    expect(&rt, mac, invalid, "no MAC");
-    let cipher = built(alloc, key_without_cipher(alloc));
-    expect(&rt, cipher, invalid, "no cipher");
-}
-
-// The bytes of a format of these sizes.
-fn format_of(
-    alloc: Global,
-    key_size: u32,
-    iv_size: u32,
-    hmac_key_size: u32,
-) -> Result<Bytes, TinkError> {
-    let format = AesCtrHmacAeadKeyFormat {
-        aes_ctr_key_format: Some(AesCtrKeyFormat {
-            params: Some(AesCtrParams { iv_size }),
-            key_size,
-        }),
-        hmac_key_format: Some(HmacKeyFormat {
-            params: Some(HmacParams {
-                hash: 3,
-                tag_size: 16,
-            }),
-            key_size: hmac_key_size,
-            version: 7,
-        }),
-    };
-    encoded(alloc, &format)
-}
-
-// What the manager answers on it, and the draws left of 50.
-fn made(
-    alloc: Global,
-    key_size: u32,
-    iv_size: u32,
-    hmac_key_size: u32,
-) -> Result<(Option<Kind>, usize), TinkError> {
-    let format = format_of(alloc, key_size, iv_size, hmac_key_size)?;
-    made_by(
-        alloc,
-        &AesCtrHmacAeadKeyManager::new(),
-        format.as_slice(),
-        50,
-    )
-}
-
-#[test]
-fn the_aes_key_is_drawn_first(rt: HostRuntime) {
-    let alloc = rt.alloc();
-    expect(&rt, made(alloc, 16, 12, 34), (None, 0), "50 draws");
-    let few = (Some(Kind::RandomFault), 34);
-    expect(&rt, made(alloc, 16, 12, 35), few, "51 draws");
-}
-
-#[test]
-fn formats_of_other_sizes_are_refused(rt: HostRuntime) {
-    let alloc = rt.alloc();
-    let invalid = (Some(Kind::InvalidFormat), 50);
-    expect(
-        &rt,
-        made(alloc, 24, 12, 32),
-        invalid,
+// A cipher's key is field 2 and has vectors of field 1 of its params; a MAC's key is field 3. Their values are field 3.
+// Of a format, the cipher's is field 1 and the MAC's field 2, and sizes of keys are field 2 of both.
+const TWO_PARTS: &[Row] = &[
+    (
+        "16 bytes, vectors of 12",
+        Manager::CtrHmac,
+        Asked::Build(
+            b"\x12\x16\x12\x02\x08\x0c\x1a\x100123456789abcdef\x1a\x18\x12\x04\x08\x03\x10\x10\x1a\x100123456789abcdef",
+        ),
+        Ok(true),
+    ),
+    (
+        "32 bytes, vectors of 16",
+        Manager::CtrHmac,
+        Asked::Build(
+            b"\x12\x26\x12\x02\x08\x10\x1a\x200123456789abcdefghijklmnopqrstuv\x1a\x30\x12\x04\x08\x03\x10\x10\x1a\x280123456789abcdefghijklmnopqrstuvwxyzABCD",
+        ),
+        Ok(true),
+    ),
+    (
+        "version 1 of the key",
+        Manager::CtrHmac,
+        Asked::Build(
+            b"\x08\x01\x12\x16\x12\x02\x08\x0c\x1a\x100123456789abcdef\x1a\x18\x12\x04\x08\x03\x10\x10\x1a\x100123456789abcdef",
+        ),
+        NO_KEY,
+    ),
+    (
+        "version 1 of the cipher's key",
+        Manager::CtrHmac,
+        Asked::Build(
+            b"\x12\x18\x08\x01\x12\x02\x08\x0c\x1a\x100123456789abcdef\x1a\x18\x12\x04\x08\x03\x10\x10\x1a\x100123456789abcdef",
+        ),
+        NO_KEY,
+    ),
+    (
+        "version 1 of the MAC's key",
+        Manager::CtrHmac,
+        Asked::Build(
+            b"\x12\x16\x12\x02\x08\x0c\x1a\x100123456789abcdef\x1a\x1a\x08\x01\x12\x04\x08\x03\x10\x10\x1a\x100123456789abcdef",
+        ),
+        NO_KEY,
+    ),
+    (
         "AES keys of 24 bytes",
-    );
-    expect(&rt, made(alloc, 16, 11, 32), invalid, "vectors of 11 bytes");
-    expect(
-        &rt,
-        made(alloc, 16, 12, 15),
-        invalid,
+        Manager::CtrHmac,
+        Asked::Build(
+            b"\x12\x1e\x12\x02\x08\x0c\x1a\x180123456789abcdefghijklmn\x1a\x18\x12\x04\x08\x03\x10\x10\x1a\x100123456789abcdef",
+        ),
+        NO_KEY,
+    ),
+    (
+        "vectors of 11 bytes",
+        Manager::CtrHmac,
+        Asked::Build(
+            b"\x12\x16\x12\x02\x08\x0b\x1a\x100123456789abcdef\x1a\x18\x12\x04\x08\x03\x10\x10\x1a\x100123456789abcdef",
+        ),
+        NO_KEY,
+    ),
+    (
+        "vectors of 17 bytes",
+        Manager::CtrHmac,
+        Asked::Build(
+            b"\x12\x16\x12\x02\x08\x11\x1a\x100123456789abcdef\x1a\x18\x12\x04\x08\x03\x10\x10\x1a\x100123456789abcdef",
+        ),
+        NO_KEY,
+    ),
+    (
         "HMAC keys of 15 bytes",
-    );
+        Manager::CtrHmac,
+        Asked::Build(
+            b"\x12\x16\x12\x02\x08\x0c\x1a\x100123456789abcdef\x1a\x17\x12\x04\x08\x03\x10\x10\x1a\x0f0123456789abcde",
+        ),
+        NO_KEY,
+    ),
+    (
+        "no MAC's key",
+        Manager::CtrHmac,
+        Asked::Build(b"\x12\x16\x12\x02\x08\x0c\x1a\x100123456789abcdef"),
+        NO_KEY,
+    ),
+    (
+        "no cipher's key",
+        Manager::CtrHmac,
+        Asked::Build(b"\x1a\x18\x12\x04\x08\x03\x10\x10\x1a\x100123456789abcdef"),
+        NO_KEY,
+    ),
+    (
+        "50 draws of a format",
+        Manager::CtrHmac,
+        Asked::Make(
+            b"\x0a\x06\x0a\x02\x08\x0c\x10\x10\x12\x0a\x0a\x04\x08\x03\x10\x10\x10\x22\x18\x07",
+            50,
+            0,
+        ),
+        Ok(true),
+    ),
+    (
+        "51 draws of a format, the AES key first",
+        Manager::CtrHmac,
+        Asked::Make(
+            b"\x0a\x06\x0a\x02\x08\x0c\x10\x10\x12\x0a\x0a\x04\x08\x03\x10\x10\x10\x23\x18\x07",
+            50,
+            34,
+        ),
+        NO_DRAWS,
+    ),
+    (
+        "a format of AES keys of 24 bytes",
+        Manager::CtrHmac,
+        Asked::Make(
+            b"\x0a\x06\x0a\x02\x08\x0c\x10\x18\x12\x0a\x0a\x04\x08\x03\x10\x10\x10\x20\x18\x07",
+            50,
+            50,
+        ),
+        NO_FORMAT,
+    ),
+    (
+        "a format of vectors of 11 bytes",
+        Manager::CtrHmac,
+        Asked::Make(
+            b"\x0a\x06\x0a\x02\x08\x0b\x10\x10\x12\x0a\x0a\x04\x08\x03\x10\x10\x10\x20\x18\x07",
+            50,
+            50,
+        ),
+        NO_FORMAT,
+    ),
+    (
+        "a format of HMAC keys of 15 bytes",
+        Manager::CtrHmac,
+        Asked::Make(
+            b"\x0a\x06\x0a\x02\x08\x0c\x10\x10\x12\x0a\x0a\x04\x08\x03\x10\x10\x10\x0f\x18\x07",
+            50,
+            50,
+        ),
+        NO_FORMAT,
+    ),
+];
+
+#[test]
+fn keys_and_formats_by_their_messages(rt: HostRuntime) {
+    let alloc = rt.alloc();
+    for rows in [ONE_PART, TWO_PARTS] {
+        for (row, manager, asked, want) in rows {
+            expect(&rt, answered(alloc, *manager, asked), *want, row);
+        }
+    }
+    let versions = [
+        AES_GCM_KEY_VERSION,
+        AES_GCM_SIV_KEY_VERSION,
+        AES_CTR_HMAC_AEAD_KEY_VERSION,
+    ];
+    expect(&rt, Ok(versions == [0; 3]), Ok(true), "the versions");
 }

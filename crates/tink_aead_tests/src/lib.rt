@@ -10,8 +10,6 @@ mod envelope_tests;
 #[cfg(test)]
 mod key_manager_tests;
 #[cfg(test)]
-mod registering_tests;
-#[cfg(test)]
 mod subtle_tests;
 #[cfg(test)]
 mod template_tests;

@@ -4,17 +4,17 @@ ghost use Rattle.std.specs.Prelude.{[]};
 ghost use Rattle.tink_io.specs.Told.{Answers};
 ghost use Rattle.tink_aead_subtle.specs.AesAeads.{gcm_decrypts};
 
-use crate::comparing::{expect, expect_at};
+use crate::comparing::{Answer, expect};
 use std::alloc::Global;
 use tink_aead_subtle::{
     AES_BLOCK_SIZE_IN_BYTES, AES_CTR_MIN_IV_SIZE, AES_GCM_IV_SIZE, AES_GCM_SIV_NONCE_SIZE,
     AES_GCM_SIV_TAG_SIZE, AES_GCM_TAG_SIZE, AesCtr, AesGcm, AesGcmSiv, IndCpaCipher,
     validate_aes_key_size,
 };
-use tink_io::{Draws, Kind, TinkError};
+use tink_io::{Kind, TinkError};
 use tink_primitives::{Aead, CloneIn};
 use tink_proto::Bytes;
-use tink_testutil::{draws_of, kind_of};
+use tink_testutil::{draws_of, gives, kind_of};
 
 /// The text of a ciphertext without associated data.
 fn opened_by(aead: &AesGcm, alloc: Global, ciphertext: &[u8]) -> Result<Bytes, TinkError>
@@ -102,94 +102,9 @@ fn refuses_changes_of<A: Aead>(alloc: Global, aead: &A, sealed: &[u8]) -> Result
     Ok(same && less && other)
 }
 
-fn refuses_changes<A: Aead + Drop>(
-    alloc: Global,
-    aead: Result<A, TinkError>,
-) -> Result<bool, TinkError> {
-    match aead {
-        Ok(aead) => refuses_changes_by(alloc, &aead),
-        Err(e) => Err(e),
-    }
-}
-
 fn refuses_changes_by<A: Aead>(alloc: Global, aead: &A) -> Result<bool, TinkError> {
     let sealed = sealed_by(alloc, aead, b"twelve bytes", b"data", b"text")?;
     refuses_changes_of(alloc, aead, sealed.as_slice())
-}
-
-// Test cases 4 and 16 of the GCM specification share all but the key.
-fn gcm_seals(alloc: Global, key: &[u8], want: &[u8]) -> Result<bool, TinkError> {
-    let nonce = b"\xca\xfe\xba\xbe\xfa\xce\xdb\xad\xde\xca\xf8\x88";
-    let data = b"\xfe\xed\xfa\xce\xde\xad\xbe\xef\xfe\xed\xfa\xce\xde\xad\xbe\xef\xab\xad\xda\xd2";
-    let text =
-        b"\xd9\x31\x32\x25\xf8\x84\x06\xe5\xa5\x59\x09\xc5\xaf\xf5\x26\x9a\x86\xa7\xa9\x53\x15\x34\xf7\xda\x2e\x4c\x30\x3d\x8a\x31\x8a\x72\x1c\x3c\x0c\x95\x95\x68\x09\x53\x2f\xcf\x0e\x24\x49\xa6\xb5\x25\xb1\x6a\xed\xf5\xaa\x0d\xe6\x57\xba\x63\x7b\x39";
-    encrypts_to(alloc, &AesGcm::new(alloc, key)?, nonce, data, text, want)
-}
-
-#[test]
-fn gcm_of_the_specification(rt: HostRuntime) {
-    let alloc = rt.alloc();
-    let small = gcm_seals(
-        alloc,
-        b"\xfe\xff\xe9\x92\x86\x65\x73\x1c\x6d\x6a\x8f\x94\x67\x30\x83\x08",
-        b"\x42\x83\x1e\xc2\x21\x77\x74\x24\x4b\x72\x21\xb7\x84\xd0\xd4\x9c\xe3\xaa\x21\x2f\x2c\x02\xa4\xe0\x35\xc1\x7e\x23\x29\xac\xa1\x2e\x21\xd5\x14\xb2\x54\x66\x93\x1c\x7d\x8f\x6a\x5a\xac\x84\xaa\x05\x1b\xa3\x0b\x39\x6a\x0a\xac\x97\x3d\x58\xe0\x91\x5b\xc9\x4f\xbc\x32\x21\xa5\xdb\x94\xfa\xe9\x5a\xe7\x12\x1a\x47",
-    );
-    expect(&rt, small, true, "the small key");
-    let large = gcm_seals(
-        alloc,
-        b"\xfe\xff\xe9\x92\x86\x65\x73\x1c\x6d\x6a\x8f\x94\x67\x30\x83\x08\xfe\xff\xe9\x92\x86\x65\x73\x1c\x6d\x6a\x8f\x94\x67\x30\x83\x08",
-        b"\x52\x2d\xc1\xf0\x99\x56\x7d\x07\xf4\x7f\x37\xa3\x2a\x84\x42\x7d\x64\x3a\x8c\xdc\xbf\xe5\xc0\xc9\x75\x98\xa2\xbd\x25\x55\xd1\xaa\x8c\xb0\x8e\x48\x59\x0d\xbb\x3d\xa7\xb0\x8b\x10\x56\x82\x88\x38\xc5\xf6\x1e\x63\x93\xba\x7a\x0a\xbc\xc9\xf6\x62\x76\xfc\x6e\xce\x0f\x4e\x17\x68\xcd\xdf\x88\x53\xbb\x2d\x55\x1b",
-    );
-    expect(&rt, large, true, "the large key");
-}
-
-// The size of the text of these bytes under a key of zeros.
-fn size_by_zeros(alloc: Global, input: &[u8]) -> Result<usize, TinkError> {
-    match AesGcm::new(alloc, &[0; 16]) {
-        Ok(aead) => size_of(opened_by(&aead, alloc, input)),
-        Err(e) => Err(e),
-    }
-}
-
-// Test case 1: a nonce of zeros, and the tag.
-#[test]
-fn an_empty_text_is_opened_without_data(rt: HostRuntime) {
-    let input =
-        b"\x00\x00\x00\x00\x00\x00\x00\x00\x00\x00\x00\x00\x58\xe2\xfc\xce\xfa\x7e\x30\x61\x36\x7f\x1d\x57\xa4\xe7\x45\x5a";
-    expect(&rt, size_by_zeros(rt.alloc(), input), 0, "the size");
-}
-
-// RFC 8452, C.1 and C.2, under their nonce.
-fn siv_seals(
-    alloc: Global,
-    key: &[u8],
-    data: &[u8],
-    text: &[u8],
-    want: &[u8],
-) -> Result<bool, TinkError> {
-    let nonce = b"\x03\x00\x00\x00\x00\x00\x00\x00\x00\x00\x00\x00";
-    encrypts_to(alloc, &AesGcmSiv::new(alloc, key)?, nonce, data, text, want)
-}
-
-#[test]
-fn gcm_siv_of_the_specification(rt: HostRuntime) {
-    let alloc = rt.alloc();
-    let small = siv_seals(
-        alloc,
-        b"\x01\x00\x00\x00\x00\x00\x00\x00\x00\x00\x00\x00\x00\x00\x00\x00",
-        b"",
-        b"\x01\x00\x00\x00\x00\x00\x00\x00",
-        b"\xb5\xd8\x39\x33\x0a\xc7\xb7\x86\x57\x87\x82\xff\xf6\x01\x3b\x81\x5b\x28\x7c\x22\x49\x3a\x36\x4c",
-    );
-    expect(&rt, small, true, "the small key");
-    let large = siv_seals(
-        alloc,
-        b"\x01\x00\x00\x00\x00\x00\x00\x00\x00\x00\x00\x00\x00\x00\x00\x00\x00\x00\x00\x00\x00\x00\x00\x00\x00\x00\x00\x00\x00\x00\x00\x00",
-        b"\x01",
-        b"\x02\x00\x00\x00\x00\x00\x00\x00",
-        b"\x1d\xe2\x29\x67\x23\x7a\x81\x32\x91\x21\x3f\x26\x7e\x3b\x45\x2f\x02\xd0\x1a\xe3\x3e\x4e\xc8\x54",
-    );
-    expect(&rt, large, true, "the large key");
 }
 
 // What the cipher makes of a text by these draws, where it takes all of them.
@@ -241,54 +156,151 @@ fn applies(
     }
 }
 
-// SP 800-38A, F.5, shares all but the key.
-fn standard_text_is(alloc: Global, key: &[u8], want: &[u8]) -> Result<bool, TinkError> {
-    let iv = b"\xf0\xf1\xf2\xf3\xf4\xf5\xf6\xf7\xf8\xf9\xfa\xfb\xfc\xfd\xfe\xff";
-    let text =
-        b"\x6b\xc1\xbe\xe2\x2e\x40\x9f\x96\xe9\x3d\x7e\x11\x73\x93\x17\x2a\xae\x2d\x8a\x57\x1e\x03\xac\x9c\x9e\xb7\x6f\xac\x45\xaf\x8e\x51\x30\xc8\x1c\x46\xa3\x5c\xe4\x11\xe5\xfb\xc1\x19\x1a\x0a\x52\xef\xf6\x9f\x24\x45\xdf\x4f\x9b\x17\xad\x2b\x41\x7b\xe6\x6c\x37\x10";
-    applies(alloc, key, iv, text, want)
+#[derive(Clone, Copy)]
+enum Of {
+    Gcm,
+    GcmSiv,
+    Ctr,
 }
 
-// F.5.1 and F.5.5.
-#[test]
-fn counter_mode_of_the_specification(rt: HostRuntime) {
-    let alloc = rt.alloc();
-    let small = standard_text_is(
-        alloc,
+// The name, the AEAD or the mode, the key, the nonce or the vector, the data, the text, and what stands behind the
+// nonce.
+type Vector = (
+    &'static str,
+    Of,
+    &'static [u8],
+    &'static [u8],
+    &'static [u8],
+    &'static [u8],
+    &'static [u8],
+);
+
+const GCM_NONCE: &[u8] = b"\xca\xfe\xba\xbe\xfa\xce\xdb\xad\xde\xca\xf8\x88";
+
+const GCM_DATA: &[u8] =
+    b"\xfe\xed\xfa\xce\xde\xad\xbe\xef\xfe\xed\xfa\xce\xde\xad\xbe\xef\xab\xad\xda\xd2";
+
+const GCM_TEXT: &[u8] =
+    b"\xd9\x31\x32\x25\xf8\x84\x06\xe5\xa5\x59\x09\xc5\xaf\xf5\x26\x9a\x86\xa7\xa9\x53\x15\x34\xf7\xda\x2e\x4c\x30\x3d\x8a\x31\x8a\x72\x1c\x3c\x0c\x95\x95\x68\x09\x53\x2f\xcf\x0e\x24\x49\xa6\xb5\x25\xb1\x6a\xed\xf5\xaa\x0d\xe6\x57\xba\x63\x7b\x39";
+
+const SIV_NONCE: &[u8] = b"\x03\x00\x00\x00\x00\x00\x00\x00\x00\x00\x00\x00";
+
+const CTR_VECTOR: &[u8] = b"\xf0\xf1\xf2\xf3\xf4\xf5\xf6\xf7\xf8\xf9\xfa\xfb\xfc\xfd\xfe\xff";
+
+const CTR_TEXT: &[u8] =
+    b"\x6b\xc1\xbe\xe2\x2e\x40\x9f\x96\xe9\x3d\x7e\x11\x73\x93\x17\x2a\xae\x2d\x8a\x57\x1e\x03\xac\x9c\x9e\xb7\x6f\xac\x45\xaf\x8e\x51\x30\xc8\x1c\x46\xa3\x5c\xe4\x11\xe5\xfb\xc1\x19\x1a\x0a\x52\xef\xf6\x9f\x24\x45\xdf\x4f\x9b\x17\xad\x2b\x41\x7b\xe6\x6c\x37\x10";
+
+const VECTORS: &[Vector] = &[
+    // Test cases 4 and 16 of the GCM specification share all but the key.
+    (
+        "GCM, the small key",
+        Of::Gcm,
+        b"\xfe\xff\xe9\x92\x86\x65\x73\x1c\x6d\x6a\x8f\x94\x67\x30\x83\x08",
+        GCM_NONCE,
+        GCM_DATA,
+        GCM_TEXT,
+        b"\x42\x83\x1e\xc2\x21\x77\x74\x24\x4b\x72\x21\xb7\x84\xd0\xd4\x9c\xe3\xaa\x21\x2f\x2c\x02\xa4\xe0\x35\xc1\x7e\x23\x29\xac\xa1\x2e\x21\xd5\x14\xb2\x54\x66\x93\x1c\x7d\x8f\x6a\x5a\xac\x84\xaa\x05\x1b\xa3\x0b\x39\x6a\x0a\xac\x97\x3d\x58\xe0\x91\x5b\xc9\x4f\xbc\x32\x21\xa5\xdb\x94\xfa\xe9\x5a\xe7\x12\x1a\x47",
+    ),
+    (
+        "GCM, the large key",
+        Of::Gcm,
+        b"\xfe\xff\xe9\x92\x86\x65\x73\x1c\x6d\x6a\x8f\x94\x67\x30\x83\x08\xfe\xff\xe9\x92\x86\x65\x73\x1c\x6d\x6a\x8f\x94\x67\x30\x83\x08",
+        GCM_NONCE,
+        GCM_DATA,
+        GCM_TEXT,
+        b"\x52\x2d\xc1\xf0\x99\x56\x7d\x07\xf4\x7f\x37\xa3\x2a\x84\x42\x7d\x64\x3a\x8c\xdc\xbf\xe5\xc0\xc9\x75\x98\xa2\xbd\x25\x55\xd1\xaa\x8c\xb0\x8e\x48\x59\x0d\xbb\x3d\xa7\xb0\x8b\x10\x56\x82\x88\x38\xc5\xf6\x1e\x63\x93\xba\x7a\x0a\xbc\xc9\xf6\x62\x76\xfc\x6e\xce\x0f\x4e\x17\x68\xcd\xdf\x88\x53\xbb\x2d\x55\x1b",
+    ),
+    // RFC 8452, C.1 and C.2.
+    (
+        "GCM-SIV, the small key",
+        Of::GcmSiv,
+        b"\x01\x00\x00\x00\x00\x00\x00\x00\x00\x00\x00\x00\x00\x00\x00\x00",
+        SIV_NONCE,
+        b"",
+        b"\x01\x00\x00\x00\x00\x00\x00\x00",
+        b"\xb5\xd8\x39\x33\x0a\xc7\xb7\x86\x57\x87\x82\xff\xf6\x01\x3b\x81\x5b\x28\x7c\x22\x49\x3a\x36\x4c",
+    ),
+    (
+        "GCM-SIV, the large key",
+        Of::GcmSiv,
+        b"\x01\x00\x00\x00\x00\x00\x00\x00\x00\x00\x00\x00\x00\x00\x00\x00\x00\x00\x00\x00\x00\x00\x00\x00\x00\x00\x00\x00\x00\x00\x00\x00",
+        SIV_NONCE,
+        b"\x01",
+        b"\x02\x00\x00\x00\x00\x00\x00\x00",
+        b"\x1d\xe2\x29\x67\x23\x7a\x81\x32\x91\x21\x3f\x26\x7e\x3b\x45\x2f\x02\xd0\x1a\xe3\x3e\x4e\xc8\x54",
+    ),
+    // SP 800-38A, F.5.1 and F.5.5, share all but the key.
+    (
+        "counter mode, the small key",
+        Of::Ctr,
         b"\x2b\x7e\x15\x16\x28\xae\xd2\xa6\xab\xf7\x15\x88\x09\xcf\x4f\x3c",
+        CTR_VECTOR,
+        b"",
+        CTR_TEXT,
         b"\x87\x4d\x61\x91\xb6\x20\xe3\x26\x1b\xef\x68\x64\x99\x0d\xb6\xce\x98\x06\xf6\x6b\x79\x70\xfd\xff\x86\x17\x18\x7b\xb9\xff\xfd\xff\x5a\xe4\xdf\x3e\xdb\xd5\xd3\x5e\x5b\x4f\x09\x02\x0d\xb0\x3e\xab\x1e\x03\x1d\xda\x2f\xbe\x03\xd1\x79\x21\x70\xa0\xf3\x00\x9c\xee",
-    );
-    expect(&rt, small, true, "the small key");
-    let large = standard_text_is(
-        alloc,
+    ),
+    (
+        "counter mode, the large key",
+        Of::Ctr,
         b"\x60\x3d\xeb\x10\x15\xca\x71\xbe\x2b\x73\xae\xf0\x85\x7d\x77\x81\x1f\x35\x2c\x07\x3b\x61\x08\xd7\x2d\x98\x10\xa3\x09\x14\xdf\xf4",
+        CTR_VECTOR,
+        b"",
+        CTR_TEXT,
         b"\x60\x1e\xc3\x13\x77\x57\x89\xa5\xb7\xa7\xf5\x04\xbb\xf3\xd2\x28\xf4\x43\xe3\xca\x4d\x62\xb5\x9a\xca\x84\xe9\x90\xca\xca\xf5\xc5\x2b\x09\x30\xda\xa2\x3d\xe9\x4c\xe8\x70\x17\xba\x2d\x84\x98\x8d\xdf\xc9\xc5\x8d\xb6\x7a\xad\xa6\x13\xc2\xdd\x08\x45\x79\x41\xa6",
-    );
-    expect(&rt, large, true, "the large key");
+    ),
+    // By pyca/cryptography 48.
+    (
+        "a vector of 12 bytes, the small key",
+        Of::Ctr,
+        b"\x00\x01\x02\x03\x04\x05\x06\x07\x08\x09\x0a\x0b\x0c\x0d\x0e\x0f",
+        b"\x64\x65\x66\x67\x68\x69\x6a\x6b\x6c\x6d\x6e\x6f",
+        b"",
+        b"twenty bytes of text",
+        b"\x3a\x35\x3e\x49\x84\xb5\xf0\x38\x5c\x13\x71\xe8\xec\xfb\x3d\xc2\x11\xe7\xd4\x71",
+    ),
+    (
+        "a vector of 12 bytes, the large key",
+        Of::Ctr,
+        b"\x00\x01\x02\x03\x04\x05\x06\x07\x08\x09\x0a\x0b\x0c\x0d\x0e\x0f\x10\x11\x12\x13\x14\x15\x16\x17\x18\x19\x1a\x1b\x1c\x1d\x1e\x1f",
+        b"\x64\x65\x66\x67\x68\x69\x6a\x6b\x6c\x6d\x6e\x6f",
+        b"",
+        b"twenty bytes of text",
+        b"\x13\xac\x47\xc4\x27\x35\x69\xb4\x59\xd1\x8e\x0a\x04\x30\x76\x3e\x14\xfe\xad\x7b",
+    ),
+];
+
+// Whether a vector's text is encrypted to its bytes, and decrypted again.
+fn seals(alloc: Global, vector: &Vector) -> Result<bool, TinkError> {
+    let (_, of, key, nonce, data, text, want) = *vector;
+    match of {
+        Of::Gcm => encrypts_to(alloc, &AesGcm::new(alloc, key)?, nonce, data, text, want),
+        Of::GcmSiv => encrypts_to(alloc, &AesGcmSiv::new(alloc, key)?, nonce, data, text, want),
+        Of::Ctr => applies(alloc, key, nonce, text, want),
+    }
 }
 
-// By pyca/cryptography 48.
-fn twenty_bytes_are(alloc: Global, key: &[u8], want: &[u8]) -> Result<bool, TinkError> {
-    let iv = b"\x64\x65\x66\x67\x68\x69\x6a\x6b\x6c\x6d\x6e\x6f";
-    applies(alloc, key, iv, b"twenty bytes of text", want)
+// Test case 1: a nonce of zeros, and the tag.
+const EMPTY: &[u8] =
+    b"\x00\x00\x00\x00\x00\x00\x00\x00\x00\x00\x00\x00\x58\xe2\xfc\xce\xfa\x7e\x30\x61\x36\x7f\x1d\x57\xa4\xe7\x45\x5a";
+
+// Whether the empty text is opened without data.
+fn opens_empty(alloc: Global) -> Result<bool, TinkError> {
+    match AesGcm::new(alloc, &[0; 16]) {
+        Ok(aead) => gives(opened_by(&aead, alloc, EMPTY), b""),
+        Err(e) => Err(e),
+    }
 }
 
 #[test]
-fn counter_mode_under_vectors_of_12_bytes(rt: HostRuntime) {
+fn ciphertexts_are_those_of_the_specifications(rt: HostRuntime) {
     let alloc = rt.alloc();
-    let small = twenty_bytes_are(
-        alloc,
-        b"\x00\x01\x02\x03\x04\x05\x06\x07\x08\x09\x0a\x0b\x0c\x0d\x0e\x0f",
-        b"\x3a\x35\x3e\x49\x84\xb5\xf0\x38\x5c\x13\x71\xe8\xec\xfb\x3d\xc2\x11\xe7\xd4\x71",
-    );
-    expect(&rt, small, true, "the small key");
-    let large = twenty_bytes_are(
-        alloc,
-        b"\x00\x01\x02\x03\x04\x05\x06\x07\x08\x09\x0a\x0b\x0c\x0d\x0e\x0f\x10\x11\x12\x13\x14\x15\x16\x17\x18\x19\x1a\x1b\x1c\x1d\x1e\x1f",
-        b"\x13\xac\x47\xc4\x27\x35\x69\xb4\x59\xd1\x8e\x0a\x04\x30\x76\x3e\x14\xfe\xad\x7b",
-    );
-    expect(&rt, large, true, "the large key");
+    for vector in VECTORS {
+        expect(&rt, seals(alloc, vector), Ok(true), vector.0);
+    }
+    expect(&rt, opens_empty(alloc), Ok(true), "an empty text");
 }
+
+// ---- sizes
 
 // Whether each call that takes a key answers this on it.
 fn answers_on_a_key(alloc: Global, key: &[u8], want: Option<Kind>) -> bool {
@@ -308,16 +320,6 @@ fn told_of_keys(n: usize) -> Option<Kind> {
     }
 }
 
-#[test]
-fn keys_of_16_and_32_bytes_alone(rt: HostRuntime) {
-    let alloc = rt.alloc();
-    let key = [7u8; 64];
-    for n in 0..64usize {
-        let told = answers_on_a_key(alloc, &key[..n], told_of_keys(n));
-        expect_at(&rt, told, true, n);
-    }
-}
-
 // And of vectors of n bytes.
 fn told_of_vectors(n: usize) -> Option<Kind> {
     if n >= 12 && n <= 16 {
@@ -327,13 +329,11 @@ fn told_of_vectors(n: usize) -> Option<Kind> {
     }
 }
 
-#[test]
-fn vectors_of_12_to_16_bytes_alone(rt: HostRuntime) {
-    let alloc = rt.alloc();
-    for n in 0..32usize {
-        let told = kind_of(AesCtr::new(alloc, &[0; 16], n));
-        expect_at(&rt, told, told_of_vectors(n), n);
-    }
+// Whether keys and vectors of n bytes are taken or refused.
+fn are_taken(alloc: Global, n: usize) -> bool {
+    let key = [7u8; 64];
+    let vector = kind_of(AesCtr::new(alloc, &[0; 16], n));
+    answers_on_a_key(alloc, &key[..n.min(64)], told_of_keys(n)) && vector == told_of_vectors(n)
 }
 
 // The size of a cipher's key.
@@ -344,24 +344,32 @@ fn key_len(cipher: Result<AesCtr, TinkError>) -> Result<usize, TinkError> {
     }
 }
 
-#[test]
-fn keys_have_their_size(rt: HostRuntime) {
-    let alloc = rt.alloc();
-    let small = key_len(AesCtr::new(alloc, &[0; 16], 12));
-    expect(&rt, small, 16, "the small key");
-    let large = key_len(AesCtr::new(alloc, &[0; 32], 16));
-    expect(&rt, large, 32, "the large key");
+// Whether keys have their size, and nonces, vectors, tags and blocks theirs.
+fn have_their_sizes(alloc: Global) -> Result<bool, TinkError> {
+    let small = key_len(AesCtr::new(alloc, &[0; 16], 12))?;
+    let large = key_len(AesCtr::new(alloc, &[0; 32], 16))?;
+    let sizes = [
+        AES_GCM_IV_SIZE,
+        AES_GCM_TAG_SIZE,
+        AES_GCM_SIV_NONCE_SIZE,
+        AES_GCM_SIV_TAG_SIZE,
+        AES_CTR_MIN_IV_SIZE,
+        AES_BLOCK_SIZE_IN_BYTES,
+    ];
+    Ok(small == 16 && large == 32 && sizes == [12, 16, 12, 16, 12, 16])
 }
 
 #[test]
-fn sizes_of_vectors_nonces_and_tags(rt: HostRuntime) {
-    expect_at(&rt, AES_GCM_IV_SIZE, 12, 0);
-    expect_at(&rt, AES_GCM_TAG_SIZE, 16, 1);
-    expect_at(&rt, AES_GCM_SIV_NONCE_SIZE, 12, 2);
-    expect_at(&rt, AES_GCM_SIV_TAG_SIZE, 16, 3);
-    expect_at(&rt, AES_CTR_MIN_IV_SIZE, 12, 4);
-    expect_at(&rt, AES_BLOCK_SIZE_IN_BYTES, 16, 5);
+fn sizes_are_taken_or_refused(rt: HostRuntime) {
+    let alloc = rt.alloc();
+    for n in 0..64usize {
+        let taken = are_taken(alloc, n);
+        expect(&rt, Ok(taken), Ok(true), "a key and a vector of a size");
+    }
+    expect(&rt, have_their_sizes(alloc), Ok(true), "the sizes");
 }
+
+// ---- the size of vectors
 
 // A cipher whose size of vectors was set.
 fn cipher_of(alloc: Global, iv_size: usize) -> Result<AesCtr, TinkError> {
@@ -370,68 +378,95 @@ fn cipher_of(alloc: Global, iv_size: usize) -> Result<AesCtr, TinkError> {
     Ok(cipher)
 }
 
-// How many bytes there are.
-fn size_of(answer: Result<Bytes, TinkError>) -> Result<usize, TinkError> {
+// What is asked of a cipher whose size of vectors was set.
+#[derive(Clone, Copy)]
+enum Asked {
+    // To encrypt `abc` by fifteen draws, of which so many are left, to so many bytes.
+    Encrypt(usize, usize),
+    // To decrypt so many zeros, to so many bytes.
+    Decrypt(usize, usize),
+}
+
+// Whether there are so many bytes.
+fn has_size(answer: Result<Bytes, TinkError>, size: usize) -> Result<bool, TinkError> {
     match answer {
-        Ok(bytes) => Ok(bytes.as_slice().len()),
+        Ok(bytes) => Ok(bytes.as_slice().len() == size),
         Err(e) => Err(e),
     }
 }
 
-// What it makes of `abc`.
-fn sealed_abc(alloc: Global, iv_size: usize, draws: &mut Draws) -> Result<Bytes, TinkError> {
-    match cipher_of(alloc, iv_size) {
-        Ok(cipher) => cipher.encrypt(alloc, b"abc", draws),
-        Err(e) => Err(e),
-    }
-}
-
-// How many bytes these are, or the refusal, and how many of fifteen draws are left.
-fn size_of_abc(
+fn encrypts_abc(
     alloc: Global,
-    iv_size: usize,
-) -> Result<(Result<usize, TinkError>, usize), TinkError> {
+    cipher: &AesCtr,
+    left: usize,
+    size: usize,
+) -> Result<bool, TinkError> {
     let mut draws = draws_of(alloc, &[1; 15])?;
-    let told = size_of(sealed_abc(alloc, iv_size, &mut draws));
-    Ok((told, draws.left()))
-}
-
-#[test]
-fn counter_mode_encrypts_by_its_size_of_vectors(rt: HostRuntime) {
-    let alloc = rt.alloc();
-    let few = Err(TinkError::new(Kind::RandomFault));
-    expect(&rt, size_of_abc(alloc, 16), (few, 15), "vectors of 16");
-    let long = Err(TinkError::new(Kind::BadIvSize));
-    expect(&rt, size_of_abc(alloc, 17), (long, 15), "vectors of 17");
-    expect(&rt, size_of_abc(alloc, 4), (Ok(7), 11), "vectors of 4");
-}
-
-// How many bytes it makes of these.
-fn size_opened(alloc: Global, iv_size: usize, input: &[u8]) -> Result<usize, TinkError> {
-    match cipher_of(alloc, iv_size) {
-        Ok(cipher) => size_of(cipher.decrypt(alloc, input)),
-        Err(e) => Err(e),
+    let told = has_size(cipher.encrypt(alloc, b"abc", &mut draws), size);
+    if draws.left() == left {
+        told
+    } else {
+        Ok(false)
     }
 }
 
-#[test]
-fn counter_mode_decrypts_by_its_size_of_vectors(rt: HostRuntime) {
-    let alloc = rt.alloc();
-    let short = Err(TinkError::new(Kind::TooShort));
-    expect_at(&rt, size_opened(alloc, 16, &[0; 15]), short, 15);
-    expect_at(&rt, size_opened(alloc, 16, &[0; 16]), Ok(0), 16);
-    let long = Err(TinkError::new(Kind::BadIvSize));
-    expect_at(&rt, size_opened(alloc, 17, &[0; 40]), long, 40);
+fn does(alloc: Global, iv_size: usize, asked: Asked) -> Result<bool, TinkError> {
+    let cipher = cipher_of(alloc, iv_size)?;
+    match asked {
+        Asked::Encrypt(left, size) => encrypts_abc(alloc, &cipher, left, size),
+        Asked::Decrypt(n, size) => has_size(cipher.decrypt(alloc, &[0; 40][..n.min(40)]), size),
+    }
 }
 
+const BAD_SIZE: Answer = Err(Kind::BadIvSize);
+
+const IV_SIZES: &[(&str, usize, Asked, Answer)] = &[
+    (
+        "15 draws for vectors of 16",
+        16,
+        Asked::Encrypt(15, 0),
+        Err(Kind::RandomFault),
+    ),
+    (
+        "encryption by vectors of 17",
+        17,
+        Asked::Encrypt(15, 0),
+        BAD_SIZE,
+    ),
+    (
+        "encryption by vectors of 4",
+        4,
+        Asked::Encrypt(11, 7),
+        Ok(true),
+    ),
+    (
+        "15 bytes for vectors of 16",
+        16,
+        Asked::Decrypt(15, 0),
+        Err(Kind::TooShort),
+    ),
+    (
+        "16 bytes for vectors of 16",
+        16,
+        Asked::Decrypt(16, 0),
+        Ok(true),
+    ),
+    (
+        "decryption by vectors of 17",
+        17,
+        Asked::Decrypt(40, 0),
+        BAD_SIZE,
+    ),
+];
+
 #[test]
-fn changes_are_refused(rt: HostRuntime) {
-    let alloc = rt.alloc();
-    let gcm = refuses_changes(alloc, AesGcm::new(alloc, &[1; 16]));
-    expect(&rt, gcm, true, "GCM");
-    let siv = refuses_changes(alloc, AesGcmSiv::new(alloc, &[1; 32]));
-    expect(&rt, siv, true, "GCM-SIV");
+fn counter_mode_goes_by_its_size_of_vectors(rt: HostRuntime) {
+    for (row, iv_size, asked, want) in IV_SIZES {
+        expect(&rt, does(rt.alloc(), *iv_size, *asked), *want, row);
+    }
 }
+
+// ---- refusals
 
 // What is made of zeros, with no data.
 fn zeros_are<A: Aead>(alloc: Global, aead: &A, zeros: &[u8], want: Kind) -> bool {
@@ -447,21 +482,23 @@ fn keeps_its_sizes_by<A: Aead>(alloc: Global, aead: &A) -> Result<bool, TinkErro
     Ok(short && long && few == Some(Kind::RandomFault) && draws.left() == 11)
 }
 
-fn keeps_its_sizes<A: Aead + Drop>(
-    alloc: Global,
-    aead: Result<A, TinkError>,
-) -> Result<bool, TinkError> {
+// Whether an AEAD refuses changes, short inputs and few draws.
+fn refuses<A: Aead + Drop>(alloc: Global, aead: Result<A, TinkError>) -> Result<bool, TinkError> {
     match aead {
-        Ok(aead) => keeps_its_sizes_by(alloc, &aead),
+        Ok(aead) => Ok(refuses_changes_by(alloc, &aead)? && keeps_its_sizes_by(alloc, &aead)?),
         Err(e) => Err(e),
     }
 }
 
 #[test]
-fn short_inputs_and_few_draws_are_refused(rt: HostRuntime) {
+fn changes_short_inputs_and_few_draws_are_refused(rt: HostRuntime) {
     let alloc = rt.alloc();
-    let gcm = keeps_its_sizes(alloc, AesGcm::new(alloc, &[1; 32]));
-    expect(&rt, gcm, true, "GCM");
-    let siv = keeps_its_sizes(alloc, AesGcmSiv::new(alloc, &[1; 16]));
-    expect(&rt, siv, true, "GCM-SIV");
+    let small = refuses(alloc, AesGcm::new(alloc, &[1; 16]));
+    expect(&rt, small, Ok(true), "GCM, the small key");
+    let large = refuses(alloc, AesGcm::new(alloc, &[1; 32]));
+    expect(&rt, large, Ok(true), "GCM, the large key");
+    let small = refuses(alloc, AesGcmSiv::new(alloc, &[1; 16]));
+    expect(&rt, small, Ok(true), "GCM-SIV, the small key");
+    let large = refuses(alloc, AesGcmSiv::new(alloc, &[1; 32]));
+    expect(&rt, large, Ok(true), "GCM-SIV, the large key");
 }

@@ -8,9 +8,8 @@ ghost use Rattle.tink_building.specs.Built.{GivesSet, IsSetOf, built_entry};
 ghost use Rattle.tink_building.specs.Given.{given_each};
 ghost use Rattle.tink_sets.specs.Entries.{entry_of};
 
-use crate::expecting::expect;
+use crate::expecting::{Answer, expect};
 use std::alloc::Global;
-use std::test::Fail;
 use tink_building::build_set;
 use tink_io::{Kind, TinkError};
 use tink_keysets::keyset::Handle;
@@ -18,21 +17,16 @@ use tink_primitives::Primitive;
 use tink_proto::{Key, OutputPrefixType};
 use tink_registry::{KeyManager, Registry};
 use tink_sets::{Entry, PrimitiveSet};
-use tink_testutil::{
-    TestKinds, TestManager, URL, bare, enabled_key, handle_of, key, kind_of, registry_of,
-};
+use tink_testutil::{TestKinds, TestManager, URL, bare, enabled_key, handle_of, key, registry_of};
 
-const LENIENT: TestManager = TestManager {
-    url: URL,
-    private: false,
-    any_length: true,
-};
-
-const STRICT: TestManager = TestManager {
-    url: URL,
-    private: false,
-    any_length: false,
-};
+// The manager of the test URL, which takes keys of any length or not.
+fn manager(any_length: bool) -> TestManager {
+    TestManager {
+        url: URL,
+        private: false,
+        any_length,
+    }
+}
 
 // The set of what the enabled keys build, with the primary entry of the id. The given manager alone decides each key
 // for whose URL its `does_support` says true, and a registry's manager each other one.
@@ -73,127 +67,153 @@ fn has_primary(set: &PrimitiveSet<TestKinds>, id: u32, want: &[u8]) -> bool {
     }
 }
 
-// An enabled RAW key of the test URL.
-fn raw_key(alloc: Global, value: &[u8], id: u32) -> Result<Key, TinkError> {
-    enabled_key(alloc, URL, value, OutputPrefixType::Raw, id)
+// An enabled RAW key of this URL.
+fn raw_key(alloc: Global, type_url: &str, value: &[u8], id: u32) -> Result<Key, TinkError> {
+    enabled_key(alloc, type_url, value, OutputPrefixType::Raw, id)
 }
 
-// An enabled raw key of id 8, a disabled and an enabled key of ids 9 and 7 with a prefix, and a destroyed one.
-fn four_keys(alloc: Global) -> Result<Handle, TinkError> {
-    let keys = vec![in alloc;
-        bare(3, 8),
-        raw_key(alloc, b"rr", 8)?,
-        key(alloc, 1, 2, 9)?,
-        key(alloc, 1, 1, 7)?,
-    ]?;
-    handle_of(7, keys)
+// Which keys a handle has.
+#[derive(Clone, Copy)]
+enum Keys {
+    // An enabled raw key of id 8, a disabled and an enabled key of ids 9 and 7 with a prefix, and a destroyed one.
+    Four,
+    // A RAW key of sixteen bytes and another one of the URL and the value.
+    WithSecond(&'static str, &'static [u8]),
+    // One key, which is not the primary one.
+    WithoutPrimary,
 }
 
-// The set of a handle's primitives, built by the manager.
-fn set_of(
-    alloc: Global,
-    h: &Handle,
-    manager: TestManager,
-) -> Result<PrimitiveSet<TestKinds>, TinkError> {
-    let registry = registry_of(alloc, manager)?;
-    h.primitives(alloc, &registry)
-}
-
-fn set_of_four(alloc: Global) -> Result<PrimitiveSet<TestKinds>, TinkError> {
-    let h = four_keys(alloc)?;
-    set_of(alloc, &h, LENIENT)
-}
-
-#[test]
-fn enabled_keys_stand_by_their_prefix(rt: HostRuntime) -> Result<(), Fail> {
-    let set = set_of_four(rt.alloc())?;
-    let raw = is_entry(set.raw_entries(), 8, b"rr");
-    expect(&rt, raw, true, "the RAW key");
-    let tink = set.entries_for_prefix(b"\x01\x00\x00\x00\x07");
-    expect(&rt, is_entry(tink, 7, b"\xaa\xbb"), true, "the TINK key");
-    let disabled = set.entries_for_prefix(b"\x01\x00\x00\x00\x09");
-    expect(&rt, disabled.len(), 0, "the disabled key");
-    let primary = has_primary(&set, 7, b"\xaa\xbb");
-    expect(&rt, primary, true, "the primary key");
-    Ok(())
-}
-
-// The handle of two keys, the second one of which has the URL and the value.
-fn with_second(alloc: Global, type_url: &str, value: &[u8]) -> Result<Handle, TinkError> {
-    let keys = vec![in alloc;
-        raw_key(alloc, &[5; 16], 7)?,
-        enabled_key(alloc, type_url, value, OutputPrefixType::Raw, 8)?,
-    ]?;
-    handle_of(7, keys)
-}
-
-// The kind by which the set of a handle is refused.
-fn refusal_of(alloc: Global, h: Result<Handle, TinkError>) -> Option<Kind> {
-    match h {
-        Ok(h) => kind_of(set_of(alloc, &h, STRICT)),
-        Err(e) => Some(e.kind),
+fn handle(alloc: Global, keys: Keys) -> Result<Handle, TinkError> {
+    match keys {
+        Keys::Four => {
+            let keys = vec![in alloc;
+                bare(3, 8),
+                raw_key(alloc, URL, b"rr", 8)?,
+                key(alloc, 1, 2, 9)?,
+                key(alloc, 1, 1, 7)?,
+            ]?;
+            handle_of(7, keys)
+        }
+        Keys::WithSecond(type_url, value) => {
+            let keys = vec![in alloc;
+                raw_key(alloc, URL, &[5; 16], 7)?,
+                raw_key(alloc, type_url, value, 8)?,
+            ]?;
+            handle_of(7, keys)
+        }
+        Keys::WithoutPrimary => handle_of(9, vec![in alloc; key(alloc, 1, 1, 7)?]?),
     }
 }
 
-#[test]
-fn the_first_key_that_does_not_build_refuses(rt: HostRuntime) -> Result<(), Fail> {
-    for (type_url, value, want) in [
-        ("x", b"".as_slice(), Kind::InvalidKey),
-        ("x", b"v", Kind::UnsupportedKeyType),
-        (URL, b"v", Kind::InvalidKey),
-    ] {
-        let h = with_second(rt.alloc(), type_url, value);
-        let refused = refusal_of(rt.alloc(), h);
-        expect(&rt, refused, Some(want), type_url);
+// By what the primitives are built: a registry of the manager, or the manager itself beside a registry of nothing. It
+// takes keys of any length or not.
+#[derive(Clone, Copy)]
+enum By {
+    Registry(bool),
+    Manager(bool),
+}
+
+fn built(alloc: Global, h: &Handle, by: By) -> Result<PrimitiveSet<TestKinds>, TinkError> {
+    match by {
+        By::Registry(any_length) => {
+            h.primitives(alloc, &registry_of(alloc, manager(any_length))?)
+        }
+        By::Manager(any_length) => {
+            let nothing: Registry<TestManager> = Registry::new(alloc);
+            h.primitives_with_key_manager(alloc, &nothing, Some(&manager(any_length)))
+        }
     }
-    Ok(())
 }
 
-// A handle whose primary id no key has.
-fn without_primary(alloc: Global) -> Result<Handle, TinkError> {
-    let keys = vec![in alloc; key(alloc, 1, 1, 7)?]?;
-    handle_of(9, keys)
+// Whether the enabled keys of four stand by their prefix.
+fn are_four(set: &PrimitiveSet<TestKinds>) -> bool {
+    is_entry(set.raw_entries(), 8, b"rr")
+        && is_entry(
+            set.entries_for_prefix(b"\x01\x00\x00\x00\x07"),
+            7,
+            b"\xaa\xbb",
+        )
+        && set.entries_for_prefix(b"\x01\x00\x00\x00\x09").is_empty()
+        && has_primary(set, 7, b"\xaa\xbb")
 }
 
-#[test]
-fn a_keyset_without_primary_gives_no_set(rt: HostRuntime) -> Result<(), Fail> {
-    let refused = refusal_of(rt.alloc(), without_primary(rt.alloc()));
-    let want = Some(Kind::InvalidKeyset);
-    expect(&rt, refused, want, "no primary");
-    Ok(())
+// Whether a set is that of the keys.
+fn is_set(set: Result<PrimitiveSet<TestKinds>, TinkError>, keys: Keys) -> Result<bool, TinkError> {
+    let set = set?;
+    Ok(match keys {
+        Keys::Four => are_four(&set),
+        Keys::WithSecond(_, _) => set.raw_entries().len() == 2,
+        Keys::WithoutPrimary => false,
+    })
 }
 
-// The set that a given manager builds of a handle beside a registry of nothing.
-fn set_by(
-    alloc: Global,
-    h: &Handle,
-    manager: &TestManager,
-) -> Result<PrimitiveSet<TestKinds>, TinkError> {
-    let nothing: Registry<TestManager> = Registry::new(alloc);
-    h.primitives_with_key_manager(alloc, &nothing, Some(manager))
-}
-
-// The number of RAW entries that a given manager builds of two keys.
-fn given(
-    alloc: Global,
-    type_url: &str,
-    value: &[u8],
-    manager: &TestManager,
-) -> Result<usize, TinkError> {
-    let h = with_second(alloc, type_url, value)?;
-    match set_by(alloc, &h, manager) {
-        Ok(set) => Ok(set.raw_entries().len()),
+fn answered(alloc: Global, keys: Keys, by: By) -> Result<bool, TinkError> {
+    match handle(alloc, keys) {
+        Ok(h) => is_set(built(alloc, &h, by), keys),
         Err(e) => Err(e),
     }
 }
 
+const INVALID: Answer = Err(Kind::InvalidKey);
+
+const UNSUPPORTED: Answer = Err(Kind::UnsupportedKeyType);
+
+const ROWS: &[(&str, Keys, By, Answer)] = &[
+    (
+        "enabled keys stand by their prefix",
+        Keys::Four,
+        By::Registry(true),
+        Ok(true),
+    ),
+    // The first key that does not build refuses.
+    (
+        "no bytes of another URL",
+        Keys::WithSecond("x", b""),
+        By::Registry(false),
+        INVALID,
+    ),
+    (
+        "a byte of another URL",
+        Keys::WithSecond("x", b"v"),
+        By::Registry(false),
+        UNSUPPORTED,
+    ),
+    (
+        "a byte of the URL",
+        Keys::WithSecond(URL, b"v"),
+        By::Registry(false),
+        INVALID,
+    ),
+    (
+        "a keyset without its primary key",
+        Keys::WithoutPrimary,
+        By::Registry(false),
+        Err(Kind::InvalidKeyset),
+    ),
+    // A given manager decides alone.
+    (
+        "one that takes any length",
+        Keys::WithSecond(URL, b""),
+        By::Manager(true),
+        Ok(true),
+    ),
+    (
+        "one that does not",
+        Keys::WithSecond(URL, b""),
+        By::Manager(false),
+        INVALID,
+    ),
+    (
+        "one of another URL",
+        Keys::WithSecond("x", b"v"),
+        By::Manager(true),
+        UNSUPPORTED,
+    ),
+];
+
 #[test]
-fn a_given_manager_decides_alone(rt: HostRuntime) -> Result<(), Fail> {
-    let lenient = given(rt.alloc(), URL, b"", &LENIENT);
-    expect(&rt, lenient, Ok(2), "one that takes any length");
-    let strict = kind_of(given(rt.alloc(), URL, b"", &STRICT));
-    expect(&rt, strict, Some(Kind::InvalidKey), "one that does not");
-    let refused = kind_of(given(rt.alloc(), "x", b"v", &LENIENT));
-    expect(&rt, refused, Some(Kind::UnsupportedKeyType), "another URL");
-    Ok(())
+fn keysets_give_sets(rt: HostRuntime) {
+    for (row, keys, by, want) in ROWS {
+        expect(&rt, answered(rt.alloc(), *keys, *by), *want, row);
+    }
 }

@@ -4,9 +4,9 @@ ghost use Rattle.std.specs.Prelude.{◌≡◌, true, is_some, IfOk, Err};
 ghost use Rattle.tink_io.specs.declared.error.Kind.TheVariants.{MacMismatch};
 ghost use Rattle.tink_factory_tests.specs.TestKeys as test_keys;
 
-use crate::expecting::expect;
+use crate::expecting::{Answer, expect};
 use std::alloc::Global;
-use std::test::Fail;
+use std::process::Abort;
 use tink_factory::{Question, ask_behind_prefix, ask_entries, typed_primitives};
 use tink_io::{Kind, TinkError};
 use tink_keysets::keyset::Handle;
@@ -16,7 +16,7 @@ use tink_registry::{KeyManager, Registry};
 use tink_sets::sorts::{Aeads, Macs};
 use tink_sets::{PrimitiveSet, TypedEntry, TypedPrimitiveSet};
 use tink_testutil::{
-    TestAead, TestKinds, TestManager, URL, data_of, enabled_key, handle_of, kind_of, registry_of,
+    TestAead, TestKinds, TestManager, URL, data_of, enabled_key, handle_of, registry_of,
 };
 
 // The id of the entry whose key is the input.
@@ -108,55 +108,139 @@ fn set_of_six(alloc: Global) -> Result<TypedPrimitiveSet<TestAead>, TinkError> {
     TypedPrimitiveSet::from_set_aead(alloc, set)
 }
 
-#[test]
-fn entries_are_asked_in_order(rt: HostRuntime) -> Result<(), Fail> {
-    let alloc = rt.alloc();
-    let set = set_of_six(alloc)?;
-    let none = Kind::DecryptFailed;
-    // By an entry of the prefix on the rest, by the first without a prefix on the whole, by none, and five bytes, which are
-    // no prefix.
-    for (input, want) in [
-        (b"\x01\x00\x00\x00\x07ab".as_slice(), Ok(7)),
-        (b"\x01\x00\x00\x00\x07cd", Ok(5)),
-        (b"\x01\x00\x00\x00\x07ef", Err(TinkError::new(none))),
-        (b"\x01\x00\x00\x00\x09", Ok(4)),
-    ] {
-        let answer = ask_entries(alloc, &set, &Holds, input, none);
-        expect(&rt, answer, want, "an input");
-    }
-    Ok(())
+// What a set of one sort is asked.
+#[derive(Clone, Copy)]
+enum Asked {
+    // Its entries in order, or those behind the prefix alone.
+    Entries,
+    BehindPrefix,
+    // The same, where there is no memory.
+    Starved,
 }
 
-#[test]
-fn entries_are_asked_behind_a_prefix(rt: HostRuntime) -> Result<(), Fail> {
-    let alloc = rt.alloc();
-    let set = set_of_six(alloc)?;
-    let none = Kind::MacMismatch;
-    for (input, want) in [
-        (b"\x01\x00\x00\x00\x07ab".as_slice(), Ok(7)),
-        (b"\x01\x00\x00\x00\x09", Err(TinkError::new(none))),
-    ] {
-        let answer = ask_behind_prefix(alloc, &set, &Holds, input, none);
-        expect(&rt, answer, want, "an input");
+// Whether the entry of the id answers.
+fn answers(
+    alloc: Global,
+    set: &TypedPrimitiveSet<TestAead>,
+    asked: Asked,
+    input: &[u8],
+    id: u32,
+) -> Result<bool, TinkError> {
+    let answer = match asked {
+        Asked::Entries => ask_entries(alloc, set, &Holds, input, Kind::DecryptFailed),
+        Asked::BehindPrefix => ask_behind_prefix(alloc, set, &Holds, input, Kind::MacMismatch),
+        Asked::Starved => ask_behind_prefix(alloc, set, &Starved, input, Kind::MacMismatch),
+    };
+    match answer {
+        Ok(found) => Ok(found == id),
+        Err(e) => Err(e),
     }
-    Ok(())
 }
 
-#[test]
-fn out_of_memory_ends_the_call(rt: HostRuntime) -> Result<(), Fail> {
-    let alloc = rt.alloc();
-    let set = set_of_six(alloc)?;
-    for input in [
-        b"\x01\x00\x00\x00\x07ab".as_slice(),
+const NO_MEMORY: Answer = Err(Kind::OutOfMemory);
+
+// An input, and the id of the entry that answers: one of the prefix on the rest, the first without a prefix on the
+// whole, or none. Five bytes are no prefix.
+const INPUTS: &[(&str, Asked, &[u8], u32, Answer)] = &[
+    (
+        "by the prefix",
+        Asked::Entries,
+        b"\x01\x00\x00\x00\x07ab",
+        7,
+        Ok(true),
+    ),
+    (
+        "by the first without one",
+        Asked::Entries,
+        b"\x01\x00\x00\x00\x07cd",
+        5,
+        Ok(true),
+    ),
+    (
+        "by none",
+        Asked::Entries,
+        b"\x01\x00\x00\x00\x07ef",
+        0,
+        Err(Kind::DecryptFailed),
+    ),
+    (
+        "five bytes",
+        Asked::Entries,
+        b"\x01\x00\x00\x00\x09",
+        4,
+        Ok(true),
+    ),
+    (
+        "behind a prefix",
+        Asked::BehindPrefix,
+        b"\x01\x00\x00\x00\x07ab",
+        7,
+        Ok(true),
+    ),
+    (
+        "five bytes, behind a prefix",
+        Asked::BehindPrefix,
+        b"\x01\x00\x00\x00\x09",
+        0,
+        Err(Kind::MacMismatch),
+    ),
+    (
+        "no memory by a prefix",
+        Asked::Starved,
+        b"\x01\x00\x00\x00\x07ab",
+        0,
+        NO_MEMORY,
+    ),
+    (
+        "no memory by none",
+        Asked::Starved,
         b"\x01\x00\x00\x00\x03ab",
-    ] {
-        let starved = ask_behind_prefix(alloc, &set, &Starved, input, Kind::MacMismatch);
-        expect(&rt, kind_of(starved), Some(Kind::OutOfMemory), "an input");
+        0,
+        NO_MEMORY,
+    ),
+];
+
+fn ask_all(rt: &impl Abort, alloc: Global, set: &TypedPrimitiveSet<TestAead>) {
+    for (row, asked, input, id, want) in INPUTS {
+        expect(rt, answers(alloc, set, *asked, input, *id), *want, row);
     }
+}
+
+#[test]
+fn entries_are_asked_in_order(rt: HostRuntime) {
+    match set_of_six(rt.alloc()) {
+        Ok(set) => ask_all(&rt, rt.alloc(), &set),
+        Err(e) => expect(&rt, Err(e), Ok(true), "a set of six"),
+    }
+}
+
+// ---- sets of one sort of a handle
+
+// A key: its value, its id, the number of its prefix type and that of its material.
+type KeyRow = (&'static [u8], u32, i32, i32);
+
+fn push(alloc: Global, keys: &mut Vec<Key>, row: KeyRow) -> Result<(), TinkError> {
+    let (value, key_id, output_prefix_type, material) = row;
+    let key_data = data_of(alloc, URL, value, material)?;
+    keys.push(Key {
+        key_data: Some(key_data),
+        status: 1,
+        key_id,
+        output_prefix_type,
+    })?;
     Ok(())
 }
 
-// A registry whose manager takes keys of any length.
+// The handle of the keys, whose primary id is 7.
+fn handle(alloc: Global, rows: &[KeyRow]) -> Result<Handle, TinkError> {
+    let mut keys = Vec::new(alloc);
+    for row in rows {
+        push(alloc, &mut keys, *row)?;
+    }
+    handle_of(7, keys)
+}
+
+// A registry whose manager takes keys of any length, and builds a streaming AEAD of one byte.
 fn registry(alloc: Global) -> Result<Registry<TestManager>, TinkError> {
     let manager = TestManager {
         url: URL,
@@ -166,92 +250,100 @@ fn registry(alloc: Global) -> Result<Registry<TestManager>, TinkError> {
     registry_of(alloc, manager)
 }
 
-// The set of AEADs of a handle.
-fn aeads_of(alloc: Global, h: &Handle) -> Result<TypedPrimitiveSet<TestAead>, TinkError> {
-    let registry = registry(alloc)?;
-    typed_primitives::<TestManager, Aeads>(alloc, h, &registry)
-}
-
-// A TINK key of id 7, and a RAW key of id 8 with the value.
-fn two_keys(alloc: Global, value: &[u8]) -> Result<Handle, TinkError> {
-    let keys = vec![in alloc;
-        enabled_key(alloc, URL, value, OutputPrefixType::Raw, 8)?,
-        enabled_key(alloc, URL, b"cd", OutputPrefixType::Tink, 7)?,
-    ]?;
-    handle_of(7, keys)
-}
-
-fn has_primary(set: &TypedPrimitiveSet<TestAead>, want: &[u8]) -> bool {
-    match &set.primary {
-        Some(primary) => primary.primitive.key.as_slice() == want,
+// Whether the primary entry holds `cd`, and the one of id 8 holds `ab`.
+fn has_both(alloc: Global, set: &TypedPrimitiveSet<TestAead>) -> Result<bool, TinkError> {
+    let is_primary = match &set.primary {
+        Some(primary) => primary.primitive.key.as_slice() == b"cd".as_slice(),
         None => false,
-    }
-}
-
-fn two_aeads(alloc: Global) -> Result<TypedPrimitiveSet<TestAead>, TinkError> {
-    let h = two_keys(alloc, b"ab")?;
-    aeads_of(alloc, &h)
-}
-
-#[test]
-fn a_handle_gives_a_set_of_one_sort(rt: HostRuntime) -> Result<(), Fail> {
-    let set = two_aeads(rt.alloc())?;
-    expect(&rt, has_primary(&set, b"cd"), true, "the primary one");
-    let answer = ask_entries(rt.alloc(), &set, &Holds, b"ab", Kind::DecryptFailed);
-    expect(&rt, answer, Ok(8), "the other one");
-    Ok(())
-}
-
-// How the set of AEADs of a handle is refused.
-fn refusal_as_aeads(alloc: Global, h: Result<Handle, TinkError>) -> Option<Kind> {
-    match h {
-        Ok(h) => kind_of(aeads_of(alloc, &h)),
-        Err(e) => Some(e.kind),
-    }
-}
-
-// How that of MACs is refused.
-fn refusal_as_macs(alloc: Global, h: &Handle) -> Result<Option<Kind>, TinkError> {
-    let registry = registry(alloc)?;
-    Ok(kind_of(macs_of(alloc, h, &registry)))
-}
-
-#[test]
-fn a_streaming_aead_is_no_aead(rt: HostRuntime) -> Result<(), Fail> {
-    let refused = refusal_as_aeads(rt.alloc(), two_keys(rt.alloc(), b"a"));
-    let wrong = Some(Kind::WrongPrimitive);
-    expect(&rt, refused, wrong, "a streaming AEAD");
-    Ok(())
-}
-
-#[test]
-fn aeads_are_no_macs(rt: HostRuntime) -> Result<(), Fail> {
-    let h = two_keys(rt.alloc(), b"ab")?;
-    let refused = refusal_as_macs(rt.alloc(), &h);
-    let wrong = Some(Kind::WrongPrimitive);
-    expect(&rt, refused, Ok(wrong), "no MACs");
-    Ok(())
-}
-
-// A RAW streaming key of id 8 and this material, where the primary id is 7.
-fn streaming_key(alloc: Global, material: i32) -> Result<Handle, TinkError> {
-    let key_data = data_of(alloc, URL, b"a", material)?;
-    let key = Key {
-        key_data: Some(key_data),
-        status: 1,
-        key_id: 8,
-        output_prefix_type: 3,
     };
-    let keys = vec![in alloc; key]?;
-    handle_of(7, keys)
+    Ok(is_primary && answers(alloc, set, Asked::Entries, b"ab", 8)?)
 }
 
-#[test]
-fn no_primary_stands_before_another_sort(rt: HostRuntime) -> Result<(), Fail> {
-    for (material, want) in [(3, Kind::NoPrimary), (1, Kind::InvalidKeyset)] {
-        let h = streaming_key(rt.alloc(), material);
-        let refused = refusal_as_aeads(rt.alloc(), h);
-        expect(&rt, refused, Some(want), "without its primary key");
+fn are_aeads(
+    alloc: Global,
+    set: Result<TypedPrimitiveSet<TestAead>, TinkError>,
+) -> Result<bool, TinkError> {
+    match set {
+        Ok(set) => has_both(alloc, &set),
+        Err(e) => Err(e),
     }
-    Ok(())
+}
+
+fn are_macs(
+    alloc: Global,
+    h: &Handle,
+    registry: &Registry<TestManager>,
+) -> Result<bool, TinkError> {
+    match macs_of(alloc, h, registry) {
+        Ok(_) => Ok(true),
+        Err(e) => Err(e),
+    }
+}
+
+fn gives_set_in(
+    alloc: Global,
+    registry: &Registry<TestManager>,
+    rows: &[KeyRow],
+    of_macs: bool,
+) -> Result<bool, TinkError> {
+    let h = handle(alloc, rows)?;
+    if of_macs {
+        are_macs(alloc, &h, registry)
+    } else {
+        are_aeads(
+            alloc,
+            typed_primitives::<TestManager, Aeads>(alloc, &h, registry),
+        )
+    }
+}
+
+fn gives_set(alloc: Global, rows: &[KeyRow], of_macs: bool) -> Result<bool, TinkError> {
+    match registry(alloc) {
+        Ok(registry) => gives_set_in(alloc, &registry, rows, of_macs),
+        Err(e) => Err(e),
+    }
+}
+
+const WRONG: Answer = Err(Kind::WrongPrimitive);
+
+// Keys, and whether MACs are asked for, and else AEADs. A streaming key of another id than the primary one is refused
+// for that first.
+const HANDLES: &[(&str, &[KeyRow], bool, Answer)] = &[
+    (
+        "two AEADs",
+        &[(b"ab", 8, 3, 1), (b"cd", 7, 1, 1)],
+        false,
+        Ok(true),
+    ),
+    (
+        "a streaming AEAD",
+        &[(b"a", 8, 3, 1), (b"cd", 7, 1, 1)],
+        false,
+        WRONG,
+    ),
+    (
+        "AEADs as MACs",
+        &[(b"ab", 8, 3, 1), (b"cd", 7, 1, 1)],
+        true,
+        WRONG,
+    ),
+    (
+        "no primary key, of public ones",
+        &[(b"a", 8, 3, 3)],
+        false,
+        Err(Kind::NoPrimary),
+    ),
+    (
+        "no primary key",
+        &[(b"a", 8, 3, 1)],
+        false,
+        Err(Kind::InvalidKeyset),
+    ),
+];
+
+#[test]
+fn a_handle_gives_a_set_of_one_sort(rt: HostRuntime) {
+    for (row, keys, of_macs, want) in HANDLES {
+        expect(&rt, gives_set(rt.alloc(), keys, *of_macs), *want, row);
+    }
 }

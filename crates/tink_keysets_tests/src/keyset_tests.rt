@@ -3,10 +3,10 @@
 ghost use Rattle.keyset_model.specs.Edits as edits;
 ghost use Rattle.tink_keysets.specs.Told.{Edits};
 
-use crate::expecting::{expect, expect_bytes};
+use crate::expecting::{Answer, expect, made};
 use std::alloc::Global;
-use std::test::Fail;
-use tink_io::{Kind, TinkError};
+use std::process::Abort;
+use tink_io::{Draws, Kind, TinkError};
 use tink_keysets::keyset::insecure::{decode, keyset_material};
 use tink_keysets::keyset::{
     Handle, Manager, MemReaderWriter, Reader, Writer, law_fresh_id, law_ids_stay_distinct,
@@ -27,76 +27,146 @@ const DISABLED: i32 = 2;
 
 const DESTROYED: i32 = 3;
 
-// The kind that refuses a handle of one key, if one does.
-fn refusal_of(alloc: Global, only: Key) -> Result<Option<Kind>, TinkError> {
-    let keys = vec![in alloc; only]?;
-    Ok(kind_of(handle_of(7, keys)))
-}
+// ---- keysets of some keys
 
-// The same of a destroyed key whose material no one knows.
-fn unknown_refusal(alloc: Global) -> Result<Option<Kind>, TinkError> {
-    refusal_of(alloc, key(alloc, 5, DESTROYED, 7)?)
-}
+// The material of a key, if it has data, its status and its id.
+type KeyRow = (Option<i32>, i32, u32);
 
-#[test]
-fn a_handle_holds_keys_of_known_material(rt: HostRuntime) -> Result<(), Fail> {
-    let alloc = rt.alloc();
-    let invalid = Some(Kind::InvalidKeyset);
-    let destroyed = refusal_of(alloc, bare(DESTROYED, 7));
-    expect(&rt, destroyed, Ok(None), "destroyed");
-    let disabled = refusal_of(alloc, bare(DISABLED, 7));
-    expect(&rt, disabled, Ok(invalid), "without data");
-    let unknown = unknown_refusal(alloc);
-    expect(&rt, unknown, Ok(invalid), "of an unknown material");
-    let no_keys = kind_of(handle_of(7, Vec::new(alloc)));
-    expect(&rt, no_keys, invalid, "no keys");
-    Ok(())
-}
-
-// The kind that refuses a handle without secrets of one key, if one does.
-fn secret_refusal_of(alloc: Global, material: i32, status: i32) -> Result<Option<Kind>, TinkError> {
-    let keys = vec![in alloc; key(alloc, material, status, 7)?]?;
-    Ok(kind_of(Handle::new_with_no_secrets(keyset(7, keys))))
-}
-
-// The same of two keys, of which the second has no data.
-fn secret_refusal_of_two(alloc: Global) -> Result<Option<Kind>, TinkError> {
-    let keys = vec![in alloc; key(alloc, SYMMETRIC, ENABLED, 7)?, bare(ENABLED, 8)]?;
-    Ok(kind_of(Handle::new_with_no_secrets(keyset(7, keys))))
-}
-
-#[test]
-fn secrets_need_the_insecure_calls(rt: HostRuntime) -> Result<(), Fail> {
-    for (material, status, want) in [
-        (PUBLIC, ENABLED, None),
-        (SYMMETRIC, DESTROYED, Some(Kind::HasSecrets)),
-    ] {
-        let refused = secret_refusal_of(rt.alloc(), material, status);
-        expect(&rt, refused, Ok(want), "one key");
+fn keys_of(alloc: Global, rows: &[KeyRow]) -> Result<Vec<Key>, TinkError> {
+    let mut keys = Vec::new(alloc);
+    for (material, status, id) in rows {
+        let key = match material {
+            Some(material) => key(alloc, *material, *status, *id)?,
+            None => bare(*status, *id),
+        };
+        keys.push(key)?;
     }
-    let refused = secret_refusal_of_two(rt.alloc());
-    let invalid = Some(Kind::InvalidKeyset);
-    expect(&rt, refused, Ok(invalid), "a key without data");
-    Ok(())
+    Ok(keys)
 }
+
+// What is asked of keys with this primary id.
+#[derive(Clone, Copy)]
+enum Asked {
+    // Whether there is a handle of them, and one without secrets.
+    Handle,
+    WithoutSecrets,
+    // Whether they are valid.
+    Validity,
+    // Whether a destroyed key of the primary id is.
+    KeyValidity,
+    // Whether the number is that of a version of at most 1.
+    Version,
+}
+
+fn answered(alloc: Global, asked: Asked, primary: u32, rows: &[KeyRow]) -> Result<bool, TinkError> {
+    let keys = keys_of(alloc, rows)?;
+    match asked {
+        Asked::Handle => made(handle_of(primary, keys)),
+        Asked::WithoutSecrets => made(Handle::new_with_no_secrets(keyset(primary, keys))),
+        Asked::Validity => made(validate(&keyset(primary, keys))),
+        Asked::KeyValidity => made(validate_key(&bare(DESTROYED, primary))),
+        Asked::Version => made(validate_key_version(primary, 1)),
+    }
+}
+
+const INVALID: Answer = Err(Kind::InvalidKeyset);
+
+const KEYSETS: &[(&str, Asked, u32, &[KeyRow], Answer)] = &[
+    // A handle holds keys of known material.
+    (
+        "destroyed",
+        Asked::Handle,
+        7,
+        &[(None, DESTROYED, 7)],
+        Ok(true),
+    ),
+    (
+        "disabled without data",
+        Asked::Handle,
+        7,
+        &[(None, DISABLED, 7)],
+        INVALID,
+    ),
+    (
+        "destroyed, of an unknown material",
+        Asked::Handle,
+        7,
+        &[(Some(5), DESTROYED, 7)],
+        INVALID,
+    ),
+    ("no keys", Asked::Handle, 7, &[], INVALID),
+    // Secrets need the insecure calls.
+    (
+        "public",
+        Asked::WithoutSecrets,
+        7,
+        &[(Some(PUBLIC), ENABLED, 7)],
+        Ok(true),
+    ),
+    (
+        "symmetric and destroyed",
+        Asked::WithoutSecrets,
+        7,
+        &[(Some(SYMMETRIC), DESTROYED, 7)],
+        Err(Kind::HasSecrets),
+    ),
+    (
+        "symmetric, and a key without data",
+        Asked::WithoutSecrets,
+        7,
+        &[(Some(SYMMETRIC), ENABLED, 7), (None, ENABLED, 8)],
+        INVALID,
+    ),
+    // Keysets are validated.
+    (
+        "of its primary key",
+        Asked::Validity,
+        7,
+        &[(Some(SYMMETRIC), ENABLED, 7)],
+        Ok(true),
+    ),
+    (
+        "of another primary key",
+        Asked::Validity,
+        8,
+        &[(Some(SYMMETRIC), ENABLED, 7)],
+        INVALID,
+    ),
+    ("a key of id 7", Asked::KeyValidity, 7, &[], Ok(true)),
+    ("a key of id 0", Asked::KeyValidity, 0, &[], INVALID),
+    ("version 1", Asked::Version, 1, &[], Ok(true)),
+    ("version 2", Asked::Version, 2, &[], Err(Kind::BadVersion)),
+];
+
+#[test]
+fn keysets_are_held_or_refused(rt: HostRuntime) {
+    let alloc = rt.alloc();
+    for (row, asked, primary, keys, want) in KEYSETS {
+        expect(&rt, answered(alloc, *asked, *primary, keys), *want, row);
+    }
+}
+
+// ---- what a handle tells
 
 // A handle of an enabled symmetric key of id 7 and of a destroyed key of id 8.
 fn two_keys(alloc: Global) -> Result<Handle, TinkError> {
-    let keys = vec![in alloc; key(alloc, SYMMETRIC, ENABLED, 7)?, bare(DESTROYED, 8)]?;
-    handle_of(7, keys)
+    handle_of(
+        7,
+        keys_of(
+            alloc,
+            &[(Some(SYMMETRIC), ENABLED, 7), (None, DESTROYED, 8)],
+        )?,
+    )
 }
 
-fn printed(alloc: Global, h: Handle) -> Result<String, Fail> {
-    Ok(format!(in alloc; "{h:?}")?)
-}
+const PRINTED: &str =
+    "KeysetInfo { primary_key_id: 7, key_info: [KeyInfo { type_url: \"type.test/key\", status: Enabled, key_id: 7, output_prefix_type: Tink }, KeyInfo { type_url: \"\", status: Destroyed, key_id: 8, output_prefix_type: Raw }] }";
 
-#[test]
-fn a_handle_prints_no_key_material(rt: HostRuntime) -> Result<(), Fail> {
-    let text = printed(rt.alloc(), two_keys(rt.alloc())?)?;
-    let want =
-        "KeysetInfo { primary_key_id: 7, key_info: [KeyInfo { type_url: \"type.test/key\", status: Enabled, key_id: 7, output_prefix_type: Tink }, KeyInfo { type_url: \"\", status: Destroyed, key_id: 8, output_prefix_type: Raw }] }";
-    expect_bytes(&rt, text.as_bytes(), want.as_bytes(), "the text");
-    Ok(())
+fn prints(alloc: Global, h: &Handle) -> Result<bool, TinkError> {
+    match format!(in alloc; "{h:?}") {
+        Ok(text) => Ok(text.as_str() == PRINTED),
+        Err(_) => Err(TinkError::new(Kind::OutOfMemory)),
+    }
 }
 
 fn tells_key(info: &KeyInfo, type_url: &str, status: i32, id: u32, prefix: i32) -> bool {
@@ -115,38 +185,41 @@ fn tells_two_keys(info: &KeysetInfo) -> bool {
     }
 }
 
-// What a handle tells of its keys.
-fn info_of(alloc: Global, h: Handle) -> Result<KeysetInfo, TinkError> {
-    h.keyset_info(alloc)
-}
-
-#[test]
-fn a_handle_tells_its_info(rt: HostRuntime) -> Result<(), Fail> {
-    let info = info_of(rt.alloc(), two_keys(rt.alloc())?)?;
-    expect(&rt, info.primary_key_id, 7, "the primary id");
-    expect(&rt, tells_two_keys(&info), true, "the keys");
-    Ok(())
-}
-
-fn spelled(alloc: Global, h: Handle) -> Result<Bytes, TinkError> {
-    bytes_of(alloc, &h)
-}
-
-// Whether bytes spell a keyset of the primary id 7 and two keys.
-fn spell_two_keys(alloc: Global, bytes: &[u8]) -> Result<bool, TinkError> {
-    let ks = decode(alloc, bytes)?;
+// Whether the bytes of a handle spell a keyset of the primary id 7 and two keys.
+fn spells_two_keys(alloc: Global, h: &Handle) -> Result<bool, TinkError> {
+    let bytes = bytes_of(alloc, h)?;
+    let ks = decode(alloc, bytes.as_slice())?;
     Ok(ks.primary_key_id == 7 && ks.key.as_slice().len() == 2)
 }
 
-#[test]
-fn bytes_are_decoded(rt: HostRuntime) -> Result<(), Fail> {
-    let bytes = spelled(rt.alloc(), two_keys(rt.alloc())?)?;
-    let whole = spell_two_keys(rt.alloc(), bytes.as_slice());
-    expect(&rt, whole, Ok(true), "two keys");
-    let cut = kind_of(spell_two_keys(rt.alloc(), b"\x08"));
-    expect(&rt, cut, Some(Kind::BadKeyset), "no keyset");
-    Ok(())
+// Whether it prints no key material, tells its info, and its bytes are decoded.
+fn tells_all(alloc: Global, h: &Handle) -> Result<[bool; 3], TinkError> {
+    let prints = prints(alloc, h)?;
+    let spells = spells_two_keys(alloc, h)?;
+    let info = h.keyset_info(alloc)?;
+    Ok([
+        prints,
+        spells,
+        info.primary_key_id == 7 && tells_two_keys(&info),
+    ])
 }
+
+fn two_keys_tell(alloc: Global) -> Result<bool, TinkError> {
+    match two_keys(alloc) {
+        Ok(h) => Ok(tells_all(alloc, &h)? == [true; 3]),
+        Err(e) => Err(e),
+    }
+}
+
+#[test]
+fn a_handle_tells_no_key_material(rt: HostRuntime) {
+    let alloc = rt.alloc();
+    expect(&rt, two_keys_tell(alloc), Ok(true), "text, bytes and info");
+    let cut = made(decode(alloc, b"\x08"));
+    expect(&rt, cut, Err(Kind::BadKeyset), "no keyset");
+}
+
+// ---- the commands of a manager
 
 // A caller of a command: its contract is the definition's edit.
 fn retire(manager: &mut Manager, id: u32) -> Result<(), TinkError>
@@ -157,11 +230,39 @@ fn retire(manager: &mut Manager, id: u32) -> Result<(), TinkError>
 
 // The manager of two keys of this status and id 2. The primary id is 1.
 fn manager_of(alloc: Global, status: i32) -> Result<Manager, TinkError> {
-    let keys = vec![in alloc;
-        key(alloc, SYMMETRIC, status, 2)?,
-        key(alloc, SYMMETRIC, status, 2)?,
-    ]?;
+    let keys = keys_of(
+        alloc,
+        &[(Some(SYMMETRIC), status, 2), (Some(SYMMETRIC), status, 2)],
+    )?;
     Ok(Manager::new_from_handle(handle_of(1, keys)?))
+}
+
+// A command on the keys of an id, or what is asked after it.
+#[derive(Clone, Copy)]
+enum Step {
+    Retire(u32),
+    Enable(u32),
+    Disable(u32),
+    Destroy(u32),
+    Delete(u32),
+    SetPrimary(u32),
+    // The first key has this status, and data or none.
+    First(i32, bool),
+    // There are so many keys.
+    Count(usize),
+}
+
+fn first_key_is(
+    alloc: Global,
+    manager: &Manager,
+    status: i32,
+    has_data: bool,
+) -> Result<bool, TinkError> {
+    let material = material_of(alloc, manager)?;
+    Ok(match material.key.as_slice().first() {
+        Some(key) => key.status == status && key.key_data.is_some() == has_data,
+        None => false,
+    })
 }
 
 fn material_of(alloc: Global, manager: &Manager) -> Result<Keyset, TinkError> {
@@ -169,104 +270,119 @@ fn material_of(alloc: Global, manager: &Manager) -> Result<Keyset, TinkError> {
     keyset_material(alloc, &h)
 }
 
-// The status of the first key and whether it has data.
-fn first_key(alloc: Global, manager: &Manager) -> Result<Option<(i32, bool)>, TinkError> {
-    let material = material_of(alloc, manager)?;
-    Ok(match material.key.as_slice().first() {
-        Some(key) => Some((key.status, key.key_data.is_some())),
-        None => None,
-    })
+fn does(alloc: Global, manager: &mut Manager, step: Step) -> Result<bool, TinkError> {
+    match step {
+        Step::Retire(id) => made(retire(manager, id)),
+        Step::Enable(id) => made(manager.enable(id)),
+        Step::Disable(id) => made(manager.disable(id)),
+        Step::Destroy(id) => made(manager.destroy(id)),
+        Step::Delete(id) => made(manager.delete(id)),
+        Step::SetPrimary(id) => made(manager.set_primary(id)),
+        Step::First(status, has_data) => first_key_is(alloc, manager, status, has_data),
+        Step::Count(n) => Ok(manager.key_count() == n),
+    }
+}
+
+type Row = (&'static str, Step, Answer);
+
+const NONE: Answer = Err(Kind::KeyNotFound);
+
+const PRIMARY: Answer = Err(Kind::IsPrimary);
+
+// The status of the keys, and the steps of their manager.
+const MANAGERS: &[(i32, &[Row])] = &[
+    // The first key of an id is changed.
+    (
+        ENABLED,
+        &[
+            ("a retirement", Step::Retire(2), Ok(true)),
+            (
+                "the first one is disabled",
+                Step::First(DISABLED, true),
+                Ok(true),
+            ),
+            ("it as primary", Step::SetPrimary(2), Err(Kind::NotEnabled)),
+            ("its return", Step::Enable(2), Ok(true)),
+            (
+                "the first one is enabled",
+                Step::First(ENABLED, true),
+                Ok(true),
+            ),
+        ],
+    ),
+    // The first key of an id is deleted.
+    (
+        ENABLED,
+        &[
+            ("the first one is deleted", Step::Delete(2), Ok(true)),
+            ("one key is left", Step::Count(1), Ok(true)),
+            ("the other one as primary", Step::SetPrimary(2), Ok(true)),
+            ("the primary one is deleted", Step::Delete(2), PRIMARY),
+        ],
+    ),
+    // A destroyed key has no data and stays.
+    (
+        ENABLED,
+        &[
+            ("the first one is destroyed", Step::Destroy(2), Ok(true)),
+            ("it has no data", Step::First(DESTROYED, false), Ok(true)),
+            (
+                "it is enabled",
+                Step::Enable(2),
+                Err(Kind::WrongStatus(DESTROYED)),
+            ),
+            (
+                "it is disabled",
+                Step::Disable(2),
+                Err(Kind::WrongStatus(DESTROYED)),
+            ),
+            ("it is destroyed again", Step::Destroy(2), Ok(true)),
+        ],
+    ),
+    // A refused command names its cause.
+    (
+        0,
+        &[
+            ("the primary id is disabled", Step::Disable(1), PRIMARY),
+            ("the primary id is destroyed", Step::Destroy(1), PRIMARY),
+            ("the primary id is deleted", Step::Delete(1), PRIMARY),
+            ("the primary id is enabled", Step::Enable(1), NONE),
+            ("the primary id as primary", Step::SetPrimary(1), NONE),
+            ("no key is disabled", Step::Disable(5), NONE),
+            ("no key is destroyed", Step::Destroy(5), NONE),
+            ("no key is deleted", Step::Delete(5), NONE),
+            ("no key is enabled", Step::Enable(5), NONE),
+            ("no key as primary", Step::SetPrimary(5), NONE),
+            (
+                "a key of an unknown status",
+                Step::Destroy(2),
+                Err(Kind::WrongStatus(0)),
+            ),
+        ],
+    ),
+];
+
+fn walk(rt: &impl Abort, alloc: Global, status: i32, rows: &[Row]) -> Result<(), TinkError> {
+    let mut manager = manager_of(alloc, status)?;
+    for (row, step, want) in rows {
+        expect(rt, does(alloc, &mut manager, *step), *want, row);
+    }
+    Ok(())
 }
 
 #[test]
-fn a_manager_changes_the_first_key_of_an_id(rt: HostRuntime) -> Result<(), Fail> {
+fn a_manager_edits_its_keys(rt: HostRuntime) {
     let alloc = rt.alloc();
-    let mut manager = manager_of(alloc, ENABLED)?;
-    expect(&rt, retire(&mut manager, 2), Ok(()), "a retirement");
-    let first = first_key(alloc, &manager);
-    expect(&rt, first, Ok(Some((DISABLED, true))), "disabled");
-    let refused = kind_of(manager.set_primary(2));
-    expect(&rt, refused, Some(Kind::NotEnabled), "as primary");
-    expect(&rt, manager.enable(2), Ok(()), "its return");
-    let first = first_key(alloc, &manager);
-    expect(&rt, first, Ok(Some((ENABLED, true))), "enabled");
-    Ok(())
-}
-
-#[test]
-fn a_manager_deletes_the_first_key_of_an_id(rt: HostRuntime) -> Result<(), Fail> {
-    let mut manager = manager_of(rt.alloc(), ENABLED)?;
-    expect(&rt, manager.delete(2), Ok(()), "the first one");
-    expect(&rt, manager.key_count(), 1, "keys");
-    expect(&rt, manager.set_primary(2), Ok(()), "the other one");
-    let refused = kind_of(manager.delete(2));
-    expect(&rt, refused, Some(Kind::IsPrimary), "the primary one");
-    Ok(())
-}
-
-#[test]
-fn a_new_manager_has_no_keys(rt: HostRuntime) -> Result<(), Fail> {
-    let count = Manager::new(rt.alloc()).key_count();
-    expect(&rt, count, 0, "keys");
-    Ok(())
-}
-
-#[test]
-fn a_destroyed_key_has_no_data_and_stays(rt: HostRuntime) -> Result<(), Fail> {
-    let alloc = rt.alloc();
-    let mut manager = manager_of(alloc, ENABLED)?;
-    expect(&rt, manager.destroy(2), Ok(()), "the first one");
-    let first = first_key(alloc, &manager);
-    expect(&rt, first, Ok(Some((DESTROYED, false))), "destroyed");
-    let wrong = Some(Kind::WrongStatus(DESTROYED));
-    expect(&rt, kind_of(manager.enable(2)), wrong, "enabled again");
-    expect(&rt, kind_of(manager.disable(2)), wrong, "disabled");
-    expect(&rt, kind_of(manager.destroy(2)), None, "destroyed again");
-    Ok(())
-}
-
-#[test]
-fn a_refused_command_names_its_cause(rt: HostRuntime) -> Result<(), Fail> {
-    let mut manager = manager_of(rt.alloc(), 0)?;
-    for (id, want) in [(1, Kind::IsPrimary), (5, Kind::KeyNotFound)] {
-        expect(&rt, kind_of(manager.disable(id)), Some(want), "disable");
-        expect(&rt, kind_of(manager.destroy(id)), Some(want), "destroy");
-        expect(&rt, kind_of(manager.delete(id)), Some(want), "delete");
-        let none = Some(Kind::KeyNotFound);
-        expect(&rt, kind_of(manager.enable(id)), none, "enable");
-        expect(&rt, kind_of(manager.set_primary(id)), none, "set_primary");
+    for (status, rows) in MANAGERS {
+        let walked = made(walk(&rt, alloc, *status, rows));
+        expect(&rt, walked, Ok(true), "a manager");
     }
-    let refused = kind_of(manager.destroy(2));
-    let unknown = Some(Kind::WrongStatus(0));
-    expect(&rt, refused, unknown, "an unknown status");
-    Ok(())
-}
-
-// How the keyset of one key of id 7 is refused under a primary id.
-fn invalidity_of(alloc: Global, primary: u32) -> Result<Option<Kind>, TinkError> {
-    let keys = vec![in alloc; key(alloc, SYMMETRIC, ENABLED, 7)?]?;
-    Ok(kind_of(validate(&keyset(primary, keys))))
+    let is_empty = Manager::new(alloc).key_count() == 0;
+    expect(&rt, Ok(is_empty), Ok(true), "a new one has no keys");
 }
 
 #[test]
-fn keysets_are_validated(rt: HostRuntime) -> Result<(), Fail> {
-    for (primary, want) in [(7, None), (8, Some(Kind::InvalidKeyset))] {
-        let refused = invalidity_of(rt.alloc(), primary);
-        expect(&rt, refused, Ok(want), "a keyset");
-    }
-    for (id, want) in [(7, None), (0, Some(Kind::InvalidKeyset))] {
-        let refused = kind_of(validate_key(&bare(DESTROYED, id)));
-        expect(&rt, refused, want, "a key");
-    }
-    for (version, want) in [(1, None), (2, Some(Kind::BadVersion))] {
-        let refused = kind_of(validate_key_version(version, 1));
-        expect(&rt, refused, want, "a version");
-    }
-    Ok(())
-}
-
-#[test]
-fn laws_can_be_called(_rt: HostRuntime) -> Result<(), Fail> {
+fn laws_can_be_called(_rt: HostRuntime) {
     law_fresh_id();
     law_no_fresh_id();
     law_keys_stay();
@@ -275,66 +391,57 @@ fn laws_can_be_called(_rt: HostRuntime) -> Result<(), Fail> {
     law_valid_stays();
     law_refused_adding();
     law_refused_command();
-    Ok(())
 }
 
-#[test]
-fn random_bytes_are_the_next_draws(rt: HostRuntime) -> Result<(), Fail> {
-    let alloc = rt.alloc();
-    let mut draws = draws_of(alloc, b"\x01\x02\x03\x04\x05\x06\x07")?;
-    let number = get_random_uint32(&mut draws);
-    expect(&rt, number, Ok(0x01020304), "a number");
+// ---- random bytes and memory
+
+// Whether a number of four draws, no other number, not four bytes, and two of three bytes are drawn from seven.
+fn are_drawn(alloc: Global, draws: &mut Draws) -> Result<bool, TinkError> {
     let fault = Some(Kind::RandomFault);
-    let number = kind_of(get_random_uint32(&mut draws));
-    expect(&rt, number, fault, "no number");
-    let four = get_random_bytes(alloc, &mut draws, 4);
-    expect(&rt, kind_of(four), fault, "four bytes");
-    let two = get_random_bytes(alloc, &mut draws, 2);
-    expect(&rt, gives(two, b"\x05\x06"), Ok(true), "two bytes");
-    expect(&rt, draws.left(), 1, "draws");
-    Ok(())
+    let number = get_random_uint32(draws)?;
+    let refused = kind_of(get_random_uint32(draws)) == fault
+        && kind_of(get_random_bytes(alloc, draws, 4)) == fault;
+    let two = gives(get_random_bytes(alloc, draws, 2), b"\x05\x06")?;
+    Ok(number == 0x01020304 && refused && two && draws.left() == 1)
+}
+
+fn seven_are_drawn(alloc: Global) -> Result<bool, TinkError> {
+    let mut draws = draws_of(alloc, b"\x01\x02\x03\x04\x05\x06\x07")?;
+    are_drawn(alloc, &mut draws)
 }
 
 // Whether two keys are read after the keyset of two was written.
 fn passes_two_keys<E: Reader + Writer>(alloc: Global, end: &mut E) -> Result<bool, TinkError> {
-    let keys = vec![in alloc; bare(DESTROYED, 7), bare(DESTROYED, 8)]?;
+    let keys = keys_of(alloc, &[(None, DESTROYED, 7), (None, DESTROYED, 8)])?;
     end.write(alloc, &keyset(7, keys))?;
     let read = end.read(alloc)?;
     Ok(read.key.as_slice().len() == 2)
 }
 
-// The encryption that is read after it was written.
-fn passed<E: Reader + Writer>(
-    alloc: Global,
-    end: &mut E,
-    encryption: &[u8],
-) -> Result<Bytes, TinkError> {
+// Whether the encryption 01 02 is read after it was written.
+fn passes_encryption<E: Reader + Writer>(alloc: Global, end: &mut E) -> Result<bool, TinkError> {
     let encrypted = EncryptedKeyset {
-        encrypted_keyset: Bytes::from_slice(alloc, encryption)?,
+        encrypted_keyset: Bytes::from_slice(alloc, b"\x01\x02")?,
         keyset_info: None,
     };
     end.write_encrypted(alloc, &encrypted)?;
-    Ok(end.read_encrypted(alloc)?.encrypted_keyset)
+    let read = end.read_encrypted(alloc)?;
+    Ok(read.encrypted_keyset.as_slice() == b"\x01\x02".as_slice())
 }
 
-#[test]
-fn memory_holds_what_was_written(rt: HostRuntime) -> Result<(), Fail> {
-    let alloc = rt.alloc();
-    let mut memory = MemReaderWriter::default();
+// Whether memory holds nothing, then an encryption alone, and then what was written.
+fn holds(alloc: Global, memory: &mut MemReaderWriter) -> Result<bool, TinkError> {
     let none = Some(Kind::NoKeyset);
-    expect(&rt, kind_of(memory.read(alloc)), none, "no keyset");
-    let encrypted = kind_of(memory.read_encrypted(alloc));
-    expect(&rt, encrypted, none, "no encrypted keyset");
-    let two = passes_two_keys(alloc, &mut memory);
-    expect(&rt, two, Ok(true), "keys");
-    Ok(())
+    let empty = kind_of(memory.read(alloc)) == none
+        && kind_of(memory.read_encrypted(alloc)) == none;
+    let encrypted = passes_encryption(alloc, memory)? && memory.keyset.is_none();
+    Ok(empty && encrypted && passes_two_keys(alloc, memory)?)
 }
 
 #[test]
-fn memory_holds_what_was_encrypted(rt: HostRuntime) -> Result<(), Fail> {
-    let mut memory = MemReaderWriter::default();
-    let bytes = passed(rt.alloc(), &mut memory, b"\x01\x02");
-    expect(&rt, gives(bytes, b"\x01\x02"), Ok(true), "the bytes");
-    expect(&rt, memory.keyset.is_none(), true, "a keyset as it is");
-    Ok(())
+fn random_bytes_and_memory(rt: HostRuntime) {
+    let alloc = rt.alloc();
+    expect(&rt, seven_are_drawn(alloc), Ok(true), "the next draws");
+    let held = holds(alloc, &mut MemReaderWriter::default());
+    expect(&rt, held, Ok(true), "what was written and encrypted");
 }

@@ -1,34 +1,24 @@
-//! What the tests compare by.
+//! The one place that compares: a test function with many `assert_eq!` takes long to prove.
 
 use std::process::Abort;
 use tink_core::{Kind, TinkError};
-use tink_proto::Bytes;
 
-/// The one place that compares: a test function with many `assert_eq!` takes long to prove.
-pub fn is(rt: &impl Abort, holds: bool, label: &str) {
-    assert!(rt; holds, "{label}");
+/// Whether a row is as it says, or how its call is refused.
+pub type Answer = Result<bool, Kind>;
+
+/// Stops where a row answers another thing than is wanted, by the row's name.
+pub fn expect(rt: &impl Abort, got: Result<bool, TinkError>, want: Answer, row: &str) {
+    let got = match got {
+        Ok(holds) => Ok(holds),
+        Err(e) => Err(e.kind),
+    };
+    assert_eq!(rt; got, want, "{row}");
 }
 
-/// Whether something is known, and holds.
-pub fn holds(told: Result<bool, TinkError>) -> bool {
-    match told {
-        Ok(told) => told,
-        Err(_) => false,
-    }
-}
-
-/// Whether these bytes were made.
-pub fn gives(made: Result<Bytes, TinkError>, want: &[u8]) -> bool {
-    match made {
-        Ok(bytes) => bytes.as_slice() == want,
-        Err(_) => false,
-    }
-}
-
-/// Whether a refusal of this kind was given, or none.
-pub fn refuses(told: Result<Option<Kind>, TinkError>, want: Option<Kind>) -> bool {
-    match told {
-        Ok(kind) => kind == want,
-        Err(_) => false,
+/// Whether something was made, and no refusal.
+pub fn made<T: Drop>(answer: Result<T, TinkError>) -> Result<bool, TinkError> {
+    match answer {
+        Ok(_) => Ok(true),
+        Err(e) => Err(e),
     }
 }

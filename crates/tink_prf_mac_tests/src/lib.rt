@@ -4,6 +4,12 @@
 #[cfg(test)]
 mod expecting;
 #[cfg(test)]
+mod keys;
+#[cfg(test)]
 mod mac;
 #[cfg(test)]
 mod prf;
+#[cfg(test)]
+mod registering;
+#[cfg(test)]
+mod sizes;

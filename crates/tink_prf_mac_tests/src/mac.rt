@@ -1,7 +1,4 @@
 //! MACs.
 
-mod keys;
-mod registering;
-mod sizes;
-mod vectors;
+pub mod vectors;
 mod wrapped;

@@ -4,10 +4,9 @@ ghost use Rattle.std.specs.Prelude.{◌≡◌, [], Ok};
 ghost use Rattle.tink_io.specs.Told.{Replies};
 ghost use Rattle.tink_primitives.specs.Sorts.{as_aead};
 
-use crate::expecting::expect;
+use crate::expecting::{Answer, expect, made};
 use crate::plain::{Plain, Plains};
 use std::alloc::Global;
-use std::test::Fail;
 use tink_io::{Draws, Kind, TinkError};
 use tink_primitives::{Aead, CloneIn, Kinds, Primitive};
 use tink_proto::Bytes;
@@ -15,7 +14,7 @@ use tink_sets::sorts::{
     Aeads, DeterministicAeads, HybridDecrypters, HybridEncrypters, Macs, Prfs, Signers, Sort,
     StreamingAeads, Verifiers,
 };
-use tink_testutil::{gives, kind_of};
+use tink_testutil::gives;
 
 /// Encrypts where the primitive is an AEAD.
 fn encrypt_by<K: Kinds>(
@@ -31,80 +30,150 @@ fn encrypt_by<K: Kinds>(
     aead.encrypt(alloc, text, &[], draws)
 }
 
-// How the conversion to a sort refuses a primitive, if it does.
-fn refusal_as<S: Sort<Plains>>(p: Primitive<Plains>) -> Option<Kind> {
-    kind_of(S::pick(p))
+// The nine sorts.
+#[derive(Clone, Copy)]
+enum Name {
+    Aead,
+    DeterministicAead,
+    HybridDecrypt,
+    HybridEncrypt,
+    Mac,
+    Prf,
+    Signer,
+    StreamingAead,
+    Verifier,
 }
 
-#[test]
-fn a_primitive_of_the_sort_is_handed_out(rt: HostRuntime) -> Result<(), Fail> {
-    let refused = refusal_as::<Aeads>(Primitive::Aead(Plain));
-    expect(&rt, refused, None, "AEAD");
-    let refused = refusal_as::<DeterministicAeads>(Primitive::DeterministicAead(Plain));
-    expect(&rt, refused, None, "deterministic AEAD");
-    let refused = refusal_as::<HybridDecrypters>(Primitive::HybridDecrypt(Plain));
-    expect(&rt, refused, None, "hybrid decryption");
-    let refused = refusal_as::<HybridEncrypters>(Primitive::HybridEncrypt(Plain));
-    expect(&rt, refused, None, "hybrid encryption");
-    let refused = refusal_as::<Macs>(Primitive::Mac(Plain));
-    expect(&rt, refused, None, "MAC");
-    let refused = refusal_as::<Prfs>(Primitive::Prf(Plain));
-    expect(&rt, refused, None, "PRF");
-    let refused = refusal_as::<Signers>(Primitive::Signer(Plain));
-    expect(&rt, refused, None, "signer");
-    let refused = refusal_as::<StreamingAeads>(Primitive::StreamingAead(Plain));
-    expect(&rt, refused, None, "streaming AEAD");
-    let refused = refusal_as::<Verifiers>(Primitive::Verifier(Plain));
-    expect(&rt, refused, None, "verifier");
-    Ok(())
+fn primitive(of: Name) -> Primitive<Plains> {
+    match of {
+        Name::Aead => Primitive::Aead(Plain),
+        Name::DeterministicAead => Primitive::DeterministicAead(Plain),
+        Name::HybridDecrypt => Primitive::HybridDecrypt(Plain),
+        Name::HybridEncrypt => Primitive::HybridEncrypt(Plain),
+        Name::Mac => Primitive::Mac(Plain),
+        Name::Prf => Primitive::Prf(Plain),
+        Name::Signer => Primitive::Signer(Plain),
+        Name::StreamingAead => Primitive::StreamingAead(Plain),
+        Name::Verifier => Primitive::Verifier(Plain),
+    }
 }
 
-#[test]
-fn a_primitive_of_another_sort_is_refused(rt: HostRuntime) -> Result<(), Fail> {
-    let wrong = Some(Kind::WrongPrimitive);
-    let refused = refusal_as::<Aeads>(Primitive::DeterministicAead(Plain));
-    expect(&rt, refused, wrong, "AEAD");
-    let refused = refusal_as::<DeterministicAeads>(Primitive::Aead(Plain));
-    expect(&rt, refused, wrong, "deterministic AEAD");
-    let refused = refusal_as::<HybridDecrypters>(Primitive::HybridEncrypt(Plain));
-    expect(&rt, refused, wrong, "hybrid decryption");
-    let refused = refusal_as::<HybridEncrypters>(Primitive::HybridDecrypt(Plain));
-    expect(&rt, refused, wrong, "hybrid encryption");
-    let refused = refusal_as::<Macs>(Primitive::Prf(Plain));
-    expect(&rt, refused, wrong, "MAC");
-    let refused = refusal_as::<Prfs>(Primitive::Mac(Plain));
-    expect(&rt, refused, wrong, "PRF");
-    let refused = refusal_as::<Signers>(Primitive::Verifier(Plain));
-    expect(&rt, refused, wrong, "signer");
-    let refused = refusal_as::<StreamingAeads>(Primitive::Aead(Plain));
-    expect(&rt, refused, wrong, "streaming AEAD");
-    let refused = refusal_as::<Verifiers>(Primitive::Signer(Plain));
-    expect(&rt, refused, wrong, "verifier");
-    Ok(())
+fn picked_by<S: Sort<Plains>>(p: Primitive<Plains>) -> Result<bool, TinkError> {
+    made(S::pick(p))
 }
 
-#[test]
-fn a_copy_is_of_the_same_sort(rt: HostRuntime) -> Result<(), Fail> {
-    let p = Primitive::Mac(Plain);
-    let copy = p.try_clone(rt.alloc())?;
-    expect(&rt, refusal_as::<Macs>(copy), None, "the copy");
-    let refused = refusal_as::<Aeads>(p);
-    expect(&rt, refused, Some(Kind::WrongPrimitive), "as another");
-    Ok(())
+// Whether the conversion to a sort hands the primitive out.
+fn picked(p: Primitive<Plains>, sort: Name) -> Result<bool, TinkError> {
+    match sort {
+        Name::Aead => picked_by::<Aeads>(p),
+        Name::DeterministicAead => picked_by::<DeterministicAeads>(p),
+        Name::HybridDecrypt => picked_by::<HybridDecrypters>(p),
+        Name::HybridEncrypt => picked_by::<HybridEncrypters>(p),
+        Name::Mac => picked_by::<Macs>(p),
+        Name::Prf => picked_by::<Prfs>(p),
+        Name::Signer => picked_by::<Signers>(p),
+        Name::StreamingAead => picked_by::<StreamingAeads>(p),
+        Name::Verifier => picked_by::<Verifiers>(p),
+    }
 }
 
+fn copy_picked(alloc: Global, p: &Primitive<Plains>, sort: Name) -> Result<bool, TinkError> {
+    match p.try_clone(alloc) {
+        Ok(copy) => picked(copy, sort),
+        Err(e) => Err(e),
+    }
+}
+
+const WRONG: Answer = Err(Kind::WrongPrimitive);
+
+// A primitive's sort, and the sort that it is asked for as.
+const CONVERSIONS: &[(&str, Name, Name, Answer)] = &[
+    ("AEAD", Name::Aead, Name::Aead, Ok(true)),
+    (
+        "deterministic AEAD",
+        Name::DeterministicAead,
+        Name::DeterministicAead,
+        Ok(true),
+    ),
+    (
+        "hybrid decryption",
+        Name::HybridDecrypt,
+        Name::HybridDecrypt,
+        Ok(true),
+    ),
+    (
+        "hybrid encryption",
+        Name::HybridEncrypt,
+        Name::HybridEncrypt,
+        Ok(true),
+    ),
+    ("MAC", Name::Mac, Name::Mac, Ok(true)),
+    ("PRF", Name::Prf, Name::Prf, Ok(true)),
+    ("signer", Name::Signer, Name::Signer, Ok(true)),
+    (
+        "streaming AEAD",
+        Name::StreamingAead,
+        Name::StreamingAead,
+        Ok(true),
+    ),
+    ("verifier", Name::Verifier, Name::Verifier, Ok(true)),
+    (
+        "deterministic AEAD as AEAD",
+        Name::DeterministicAead,
+        Name::Aead,
+        WRONG,
+    ),
+    (
+        "AEAD as deterministic AEAD",
+        Name::Aead,
+        Name::DeterministicAead,
+        WRONG,
+    ),
+    (
+        "hybrid encryption as decryption",
+        Name::HybridEncrypt,
+        Name::HybridDecrypt,
+        WRONG,
+    ),
+    (
+        "hybrid decryption as encryption",
+        Name::HybridDecrypt,
+        Name::HybridEncrypt,
+        WRONG,
+    ),
+    ("PRF as MAC", Name::Prf, Name::Mac, WRONG),
+    ("MAC as PRF", Name::Mac, Name::Prf, WRONG),
+    ("MAC as AEAD", Name::Mac, Name::Aead, WRONG),
+    ("verifier as signer", Name::Verifier, Name::Signer, WRONG),
+    (
+        "AEAD as streaming AEAD",
+        Name::Aead,
+        Name::StreamingAead,
+        WRONG,
+    ),
+    ("signer as verifier", Name::Signer, Name::Verifier, WRONG),
+];
+
+/// A primitive and its copy are handed out as their sort, and refused as another.
 #[test]
-fn encrypts_by_the_primitive(rt: HostRuntime) -> Result<(), Fail> {
+fn a_primitive_is_handed_out_as_its_sort(rt: HostRuntime) {
     let alloc = rt.alloc();
+    for (row, of, sort, want) in CONVERSIONS {
+        let copied = copy_picked(alloc, &primitive(*of), *sort);
+        expect(&rt, copied, *want, row);
+        expect(&rt, picked(primitive(*of), *sort), *want, row);
+    }
+}
+
+// Whether the text is what the primitive makes of it.
+fn encrypted(alloc: Global, of: Name) -> Result<bool, TinkError> {
     let mut draws = Draws::new(Vec::new(alloc));
-    let sealed = encrypt_by(Primitive::<Plains>::Aead(Plain), alloc, b"abc", &mut draws);
-    expect(&rt, gives(sealed, b"abc"), Ok(true), "the text itself");
-    let refused = encrypt_by(Primitive::<Plains>::Prf(Plain), alloc, b"abc", &mut draws);
-    expect(
-        &rt,
-        kind_of(refused),
-        Some(Kind::WrongPrimitive),
-        "another sort",
-    );
-    Ok(())
+    gives(encrypt_by(primitive(of), alloc, b"abc", &mut draws), b"abc")
+}
+
+#[test]
+fn encrypts_by_the_primitive(rt: HostRuntime) {
+    let alloc = rt.alloc();
+    expect(&rt, encrypted(alloc, Name::Aead), Ok(true), "an AEAD");
+    expect(&rt, encrypted(alloc, Name::Prf), WRONG, "another sort");
 }

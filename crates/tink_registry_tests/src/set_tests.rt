@@ -4,10 +4,10 @@ ghost use Rattle.std.specs.Prelude.{◌≡◌, ◌∷◌, [], IfOk, OnOk, OnErr}
 ghost use Rattle.tink_sets.specs.Groups.{AddsLast, AreGroupsOf, HaveSameGroups};
 ghost use Rattle.tink_sets.specs.Entries.{entry_of, prefix_of};
 
-use crate::expecting::expect;
+use crate::expecting::{Answer, expect, made};
 use std::alloc::Global;
 use std::collections::BTreeMap;
-use std::test::Fail;
+use std::process::Abort;
 use tink_io::{Kind, TinkError};
 use tink_primitives::{KeyId, Kinds, Primitive};
 use tink_proto::{Bytes, Key, KeyStatusType, OutputPrefixType};
@@ -16,7 +16,7 @@ use tink_sets::cryptofmt::{
     TINK_PREFIX_SIZE, TINK_START_BYTE, output_prefix,
 };
 use tink_sets::{Entry, PrimitiveSet, TypedPrimitiveSet};
-use tink_testutil::{TestAead, TestKinds, gives, kind_of};
+use tink_testutil::{TestAead, TestKinds, gives};
 
 // An AEAD that is known by the one byte of its key.
 fn numbered(alloc: Global, number: u8) -> Result<TestAead, TinkError> {
@@ -81,144 +81,196 @@ fn number_of(entry: &Entry<TestKinds>) -> Option<u8> {
     }
 }
 
-// The number of the entry that is added.
-fn added_number(
-    alloc: Global,
-    set: &mut PrimitiveSet<TestKinds>,
-    number: u8,
-    key: &Key,
-) -> Result<Option<u8>, TinkError> {
-    let p = aead(alloc, number)?;
-    Ok(number_of(set.add(alloc, p, key)?))
-}
-
-/// The prefixes of keys with the id 01020304.
-#[test]
-fn a_prefix_is_a_byte_and_the_id(rt: HostRuntime) -> Result<(), Fail> {
-    for (prefix, want) in [
-        (
-            OutputPrefixType::Tink,
-            [TINK_START_BYTE, 1, 2, 3, 4].as_slice(),
-        ),
-        (OutputPrefixType::Crunchy, &[0, 1, 2, 3, 4]),
-        (OutputPrefixType::Legacy, &[LEGACY_START_BYTE, 1, 2, 3, 4]),
-        (OutputPrefixType::Raw, &RAW_PREFIX),
-    ] {
-        let made = output_prefix(rt.alloc(), &key_of(prefix));
-        expect(&rt, gives(made, want), Ok(true), "a known type");
-    }
-    let unknown = output_prefix(rt.alloc(), &key_of(OutputPrefixType::UnknownPrefix));
-    let want = Some(Kind::UnknownPrefix);
-    expect(&rt, kind_of(unknown), want, "an unknown type");
-    Ok(())
-}
-
-#[test]
-fn constants_have_their_numbers(rt: HostRuntime) -> Result<(), Fail> {
-    for (got, want) in [
-        (NON_RAW_PREFIX_SIZE, 5),
-        (TINK_PREFIX_SIZE, 5),
-        (LEGACY_PREFIX_SIZE, 5),
-        (RAW_PREFIX_SIZE, 0),
-    ] {
-        expect(&rt, got, want, "a size");
-    }
-    expect(&rt, TINK_START_BYTE, 1, "the first byte of TINK");
-    expect(&rt, LEGACY_START_BYTE, 0, "that of LEGACY");
-    Ok(())
+// What is asked of a set.
+enum Step {
+    // An entry of the number is put.
+    Put(u8, OutputPrefixType),
+    // One is added for a RAW key, and lent; and added with the key's id.
+    Lends(u8),
+    AddsId(u8),
+    // A key of this status and of no known prefix is put.
+    PutKey(i32),
+    // The RAW entries have these numbers, and those of a copy.
+    Raws(u8, u8),
+    CopiedRaws(u8, u8),
+    // So many entries have the prefix.
+    Count(&'static [u8], usize),
+    // A key of the type has the prefix.
+    Prefix(OutputPrefixType, &'static [u8]),
 }
 
 fn put(
     alloc: Global,
     set: &mut PrimitiveSet<TestKinds>,
     number: u8,
-    prefix: OutputPrefixType,
-) -> Result<(), TinkError> {
+    key: &Key,
+) -> Result<bool, TinkError> {
     let p = aead(alloc, number)?;
-    set.put(alloc, p, &key_of(prefix))
+    made(set.put(alloc, p, key))
 }
 
-// Puts two RAW entries, of the numbers 7 and 9, and a TINK one between them.
-fn put_three(alloc: Global, set: &mut PrimitiveSet<TestKinds>) -> Result<(), TinkError> {
-    put(alloc, set, 7, OutputPrefixType::Raw)?;
-    put(alloc, set, 8, OutputPrefixType::Tink)?;
-    put(alloc, set, 9, OutputPrefixType::Raw)
-}
-
-fn two_numbers(entries: &[Entry<TestKinds>]) -> Option<(Option<u8>, Option<u8>)> {
-    match entries {
-        [a, b] => Some((number_of(a), number_of(b))),
-        _ => None,
+fn lends(alloc: Global, set: &mut PrimitiveSet<TestKinds>, number: u8) -> Result<bool, TinkError> {
+    let p = aead(alloc, number)?;
+    match set.add(alloc, p, &key_of(OutputPrefixType::Raw)) {
+        Ok(entry) => Ok(number_of(entry) == Some(number)),
+        Err(e) => Err(e),
     }
 }
 
-// The numbers of the RAW entries of a copy.
-fn copied_numbers(
-    alloc: Global,
-    set: &PrimitiveSet<TestKinds>,
-) -> Result<Option<(Option<u8>, Option<u8>)>, TinkError> {
-    let copy = set.try_clone(alloc)?;
-    Ok(two_numbers(copy.raw_entries()))
-}
-
-#[test]
-fn entries_stand_in_the_order_of_adding(rt: HostRuntime) -> Result<(), Fail> {
-    let mut set = PrimitiveSet::new(rt.alloc());
-    expect(&rt, put_three(rt.alloc(), &mut set), Ok(()), "the entries");
-    let want = Some((Some(7), Some(9)));
-    expect(&rt, two_numbers(set.raw_entries()), want, "RAW entries");
-    let tink = set.entries_for_prefix(&[1, 1, 2, 3, 4]).len();
-    expect(&rt, tink, 1, "a TINK entry");
-    let legacy = set.entries_for_prefix(&[0, 1, 2, 3, 4]).len();
-    expect(&rt, legacy, 0, "no LEGACY entry");
-    let copied = copied_numbers(rt.alloc(), &set);
-    expect(&rt, copied, Ok(want), "RAW entries of a copy");
-    Ok(())
-}
-
-// The id of the entry that is added for an AEAD of the number.
-fn id_of_added(
+fn adds_id(
     alloc: Global,
     set: &mut PrimitiveSet<TestKinds>,
     number: u8,
-    key: &Key,
-) -> Result<KeyId, TinkError> {
+) -> Result<bool, TinkError> {
     let p = aead(alloc, number)?;
-    added_id(alloc, set, p, key)
+    let id = added_id(alloc, set, p, &key_of(OutputPrefixType::Raw))?;
+    Ok(id == 0x01020304)
 }
 
-#[test]
-fn an_added_entry_is_lent(rt: HostRuntime) -> Result<(), Fail> {
-    let mut set = PrimitiveSet::new(rt.alloc());
-    let raw = key_of(OutputPrefixType::Raw);
-    let added = added_number(rt.alloc(), &mut set, 5, &raw);
-    expect(&rt, added, Ok(Some(5)), "its number");
-    let id = id_of_added(rt.alloc(), &mut set, 6, &raw);
-    expect(&rt, id, Ok(0x01020304), "its id");
-    Ok(())
+fn are_numbers(entries: &[Entry<TestKinds>], one: u8, other: u8) -> bool {
+    match entries {
+        [a, b] => number_of(a) == Some(one) && number_of(b) == Some(other),
+        _ => false,
+    }
 }
 
-// How a key of this status and of no known prefix is refused.
-fn refusal_of(alloc: Global, set: &mut PrimitiveSet<TestKinds>, status: i32) -> Option<Kind> {
-    let key = Key {
-        status,
-        ..key_of(OutputPrefixType::UnknownPrefix)
-    };
-    match aead(alloc, 7) {
-        Ok(p) => kind_of(set.put(alloc, p, &key)),
-        Err(e) => Some(e.kind),
+fn copied_are_numbers(
+    alloc: Global,
+    set: &PrimitiveSet<TestKinds>,
+    one: u8,
+    other: u8,
+) -> Result<bool, TinkError> {
+    match set.try_clone(alloc) {
+        Ok(copy) => Ok(are_numbers(copy.raw_entries(), one, other)),
+        Err(e) => Err(e),
+    }
+}
+
+fn shows(alloc: Global, set: &PrimitiveSet<TestKinds>, step: &Step) -> Result<bool, TinkError> {
+    match step {
+        Step::Raws(one, other) => Ok(are_numbers(set.raw_entries(), *one, *other)),
+        Step::CopiedRaws(one, other) => copied_are_numbers(alloc, set, *one, *other),
+        Step::Count(prefix, n) => Ok(set.entries_for_prefix(prefix).len() == *n),
+        Step::Prefix(prefix, want) => gives(output_prefix(alloc, &key_of(*prefix)), want),
+        _ => Ok(false),
+    }
+}
+
+fn answered(
+    alloc: Global,
+    set: &mut PrimitiveSet<TestKinds>,
+    step: &Step,
+) -> Result<bool, TinkError> {
+    match step {
+        Step::Put(number, prefix) => put(alloc, set, *number, &key_of(*prefix)),
+        Step::Lends(number) => lends(alloc, set, *number),
+        Step::AddsId(number) => adds_id(alloc, set, *number),
+        Step::PutKey(status) => {
+            let key = Key {
+                status: *status,
+                ..key_of(OutputPrefixType::UnknownPrefix)
+            };
+            put(alloc, set, 7, &key)
+        }
+        _ => shows(alloc, set, step),
+    }
+}
+
+// The steps of a new set. The keys have the id 01020304.
+const STEPS: &[(&str, Step, Answer)] = &[
+    // A prefix is a byte and the id.
+    (
+        "TINK",
+        Step::Prefix(OutputPrefixType::Tink, &[TINK_START_BYTE, 1, 2, 3, 4]),
+        Ok(true),
+    ),
+    (
+        "CRUNCHY",
+        Step::Prefix(OutputPrefixType::Crunchy, &[0, 1, 2, 3, 4]),
+        Ok(true),
+    ),
+    (
+        "LEGACY",
+        Step::Prefix(OutputPrefixType::Legacy, &[LEGACY_START_BYTE, 1, 2, 3, 4]),
+        Ok(true),
+    ),
+    (
+        "RAW",
+        Step::Prefix(OutputPrefixType::Raw, &RAW_PREFIX),
+        Ok(true),
+    ),
+    (
+        "an unknown type",
+        Step::Prefix(OutputPrefixType::UnknownPrefix, &[]),
+        Err(Kind::UnknownPrefix),
+    ),
+    // A key that may not stand is refused.
+    (
+        "a key of no prefix",
+        Step::PutKey(1),
+        Err(Kind::UnknownPrefix),
+    ),
+    (
+        "a disabled key of no prefix",
+        Step::PutKey(2),
+        Err(Kind::NotEnabled),
+    ),
+    ("no entry of a refused key", Step::Count(b"", 0), Ok(true)),
+    // Entries stand in the order of adding.
+    ("a RAW entry", Step::Put(7, OutputPrefixType::Raw), Ok(true)),
+    (
+        "a TINK entry",
+        Step::Put(8, OutputPrefixType::Tink),
+        Ok(true),
+    ),
+    (
+        "another RAW entry",
+        Step::Put(9, OutputPrefixType::Raw),
+        Ok(true),
+    ),
+    ("the RAW entries", Step::Raws(7, 9), Ok(true)),
+    (
+        "one TINK entry",
+        Step::Count(b"\x01\x01\x02\x03\x04", 1),
+        Ok(true),
+    ),
+    (
+        "no LEGACY entry",
+        Step::Count(b"\x00\x01\x02\x03\x04", 0),
+        Ok(true),
+    ),
+    (
+        "the RAW entries of a copy",
+        Step::CopiedRaws(7, 9),
+        Ok(true),
+    ),
+    // An added entry is lent.
+    ("the number of an entry", Step::Lends(5), Ok(true)),
+    ("the id of an entry", Step::AddsId(6), Ok(true)),
+];
+
+fn walk(rt: &impl Abort, alloc: Global, set: &mut PrimitiveSet<TestKinds>) {
+    for (row, step, want) in STEPS {
+        expect(rt, answered(alloc, set, step), *want, row);
     }
 }
 
 #[test]
-fn a_key_that_may_not_stand_is_refused(rt: HostRuntime) -> Result<(), Fail> {
-    let mut set = PrimitiveSet::new(rt.alloc());
-    for (status, want) in [(1, Kind::UnknownPrefix), (2, Kind::NotEnabled)] {
-        let refused = refusal_of(rt.alloc(), &mut set, status);
-        expect(&rt, refused, Some(want), "a refusal");
-    }
-    expect(&rt, set.raw_entries().len(), 0, "entries");
-    Ok(())
+fn a_set_goes_by_its_steps(rt: HostRuntime) {
+    walk(&rt, rt.alloc(), &mut PrimitiveSet::new(rt.alloc()));
+}
+
+/// The sizes of prefixes and their first bytes.
+#[test]
+fn constants_have_their_numbers(rt: HostRuntime) {
+    let sizes = [
+        NON_RAW_PREFIX_SIZE,
+        TINK_PREFIX_SIZE,
+        LEGACY_PREFIX_SIZE,
+        RAW_PREFIX_SIZE,
+    ];
+    let holds = sizes == [5, 5, 5, 0] && TINK_START_BYTE == 1 && LEGACY_START_BYTE == 0;
+    expect(&rt, Ok(holds), Ok(true), "the constants");
 }
 
 // Whether an entry is added, by `add` or by `put`.
@@ -237,65 +289,36 @@ fn is_added(
     }
 }
 
-/// A call that is refused for `OutOfMemory` adds nothing, and one that isn't adds one entry.
-#[test]
-fn an_entry_is_added_or_the_set_is_left(rt: HostRuntime) -> Result<(), Fail> {
-    let mut set = PrimitiveSet::new(rt.alloc());
-    let mut raws: usize = 0;
-    let mut tinks: usize = 0;
-    for number in 0..9 {
-        let raw = is_added(rt.alloc(), &mut set, number, OutputPrefixType::Raw);
-        raws = raws.wrapping_add(raw as usize);
-        let tink = is_added(rt.alloc(), &mut set, number, OutputPrefixType::Tink);
-        tinks = tinks.wrapping_add(tink as usize);
-        expect(&rt, set.raw_entries().len(), raws, "RAW entries");
-        let held = set.entries_for_prefix(&[1, 1, 2, 3, 4]).len();
-        expect(&rt, held, tinks, "TINK entries");
-    }
-    let nearly_all = 17 <= raws.wrapping_add(tinks);
-    expect(&rt, nearly_all, true, "nearly all are added");
-    Ok(())
+// Whether there are so many RAW entries and so many TINK ones.
+fn has_entries(set: &PrimitiveSet<TestKinds>, raws: usize, tinks: usize) -> bool {
+    set.raw_entries().len() == raws && set.entries_for_prefix(&[1, 1, 2, 3, 4]).len() == tinks
 }
 
-// The number of the first RAW entry of a set of one sort.
-fn first_number(typed: &TypedPrimitiveSet<TestAead>) -> Option<u8> {
-    match typed.raw_entries() {
-        Some([entry, ..]) => number_in(&entry.primitive),
-        _ => None,
+/// A call that is refused for `OutOfMemory` adds nothing, and one that isn't adds one entry.
+#[test]
+fn an_entry_is_added_or_the_set_is_left(rt: HostRuntime) {
+    let alloc = rt.alloc();
+    let mut set = PrimitiveSet::new(alloc);
+    let mut raws: usize = 0;
+    let mut tinks: usize = 0;
+    let mut holds = true;
+    for number in 0..9 {
+        let raw = is_added(alloc, &mut set, number, OutputPrefixType::Raw);
+        raws = raws.wrapping_add(raw as usize);
+        let tink = is_added(alloc, &mut set, number, OutputPrefixType::Tink);
+        tinks = tinks.wrapping_add(tink as usize);
+        holds = holds && has_entries(&set, raws, tinks);
     }
+    let nearly_all = 17 <= raws.wrapping_add(tinks);
+    expect(&rt, Ok(holds && nearly_all), Ok(true), "the entries");
 }
+
+// ---- sets of one sort
 
 // The set of a RAW AEAD of the number 7.
 fn set_of_seven(alloc: Global) -> Result<PrimitiveSet<TestKinds>, TinkError> {
     let p = aead(alloc, 7)?;
     set_of_one(alloc, p, &key_of(OutputPrefixType::Raw))
-}
-
-// The number of the first entry of a copy.
-fn copied_number(
-    alloc: Global,
-    typed: &TypedPrimitiveSet<TestAead>,
-) -> Result<Option<u8>, TinkError> {
-    let copy = typed.try_clone(alloc)?;
-    Ok(first_number(&copy))
-}
-
-#[test]
-fn a_set_is_of_one_sort(rt: HostRuntime) -> Result<(), Fail> {
-    let typed = TypedPrimitiveSet::from_set_aead(rt.alloc(), set_of_seven(rt.alloc())?)?;
-    expect(&rt, first_number(&typed), Some(7), "its entry");
-    let other = typed.entries_for_prefix(&[1]).is_none();
-    expect(&rt, other, true, "another prefix");
-    let copied = copied_number(rt.alloc(), &typed);
-    expect(&rt, copied, Ok(Some(7)), "the entry of a copy");
-    Ok(())
-}
-
-#[test]
-fn a_set_of_another_sort_is_refused(rt: HostRuntime) -> Result<(), Fail> {
-    let refused = TypedPrimitiveSet::from_set_mac(rt.alloc(), set_of_seven(rt.alloc())?);
-    expect(&rt, kind_of(refused), Some(Kind::WrongPrimitive), "as MACs");
-    Ok(())
 }
 
 // A set whose primary entry is a streaming AEAD, and that has no other one.
@@ -313,53 +336,142 @@ fn set_of_a_primary(alloc: Global) -> Result<PrimitiveSet<TestKinds>, TinkError>
     })
 }
 
-#[test]
-fn a_primary_of_the_sort_is_taken(rt: HostRuntime) -> Result<(), Fail> {
-    let set = set_of_a_primary(rt.alloc())?;
-    let typed = TypedPrimitiveSet::from_set_streaming_aead(rt.alloc(), set);
-    expect(&rt, kind_of(typed), None, "a streaming AEAD");
-    Ok(())
+#[derive(Clone, Copy)]
+enum Held {
+    Nothing,
+    Seven,
+    StreamingPrimary,
 }
 
-#[test]
-fn a_primary_of_another_sort_is_refused(rt: HostRuntime) -> Result<(), Fail> {
-    let set = set_of_a_primary(rt.alloc())?;
-    let refused = TypedPrimitiveSet::from_set_aead(rt.alloc(), set);
-    expect(&rt, kind_of(refused), Some(Kind::WrongPrimitive), "no AEAD");
-    Ok(())
+fn set_of(alloc: Global, held: Held) -> Result<PrimitiveSet<TestKinds>, TinkError> {
+    match held {
+        Held::Nothing => Ok(PrimitiveSet::new(alloc)),
+        Held::Seven => set_of_seven(alloc),
+        Held::StreamingPrimary => set_of_a_primary(alloc),
+    }
 }
 
-fn empty(alloc: Global) -> PrimitiveSet<TestKinds> {
-    PrimitiveSet::new(alloc)
+#[derive(Clone, Copy)]
+enum Sorted {
+    Aead,
+    DeterministicAead,
+    HybridDecrypt,
+    HybridEncrypt,
+    Mac,
+    Prf,
+    Signer,
+    StreamingAead,
+    Verifier,
 }
 
-/// A set of nothing is one of each sort.
+// Whether the set is one of the sort.
+fn is_of(alloc: Global, set: PrimitiveSet<TestKinds>, sort: Sorted) -> Result<bool, TinkError> {
+    match sort {
+        Sorted::Aead => made(TypedPrimitiveSet::from_set_aead(alloc, set)),
+        Sorted::DeterministicAead => {
+            made(TypedPrimitiveSet::from_set_deterministic_aead(alloc, set))
+        }
+        Sorted::HybridDecrypt => made(TypedPrimitiveSet::from_set_hybrid_decrypt(alloc, set)),
+        Sorted::HybridEncrypt => made(TypedPrimitiveSet::from_set_hybrid_encrypt(alloc, set)),
+        Sorted::Mac => made(TypedPrimitiveSet::from_set_mac(alloc, set)),
+        Sorted::Prf => made(TypedPrimitiveSet::from_set_prf(alloc, set)),
+        Sorted::Signer => made(TypedPrimitiveSet::from_set_signer(alloc, set)),
+        Sorted::StreamingAead => made(TypedPrimitiveSet::from_set_streaming_aead(alloc, set)),
+        Sorted::Verifier => made(TypedPrimitiveSet::from_set_verifier(alloc, set)),
+    }
+}
+
+fn held_is_of(alloc: Global, held: Held, sort: Sorted) -> Result<bool, TinkError> {
+    match set_of(alloc, held) {
+        Ok(set) => is_of(alloc, set, sort),
+        Err(e) => Err(e),
+    }
+}
+
+// Each sort of a set of nothing, and of sets of one primitive.
+const SORTS: &[(&str, Held, Sorted, Answer)] = &[
+    ("no AEADs", Held::Nothing, Sorted::Aead, Ok(true)),
+    (
+        "no deterministic AEADs",
+        Held::Nothing,
+        Sorted::DeterministicAead,
+        Ok(true),
+    ),
+    (
+        "no hybrid decryptions",
+        Held::Nothing,
+        Sorted::HybridDecrypt,
+        Ok(true),
+    ),
+    (
+        "no hybrid encryptions",
+        Held::Nothing,
+        Sorted::HybridEncrypt,
+        Ok(true),
+    ),
+    ("no MACs", Held::Nothing, Sorted::Mac, Ok(true)),
+    (
+        "no pseudorandom functions",
+        Held::Nothing,
+        Sorted::Prf,
+        Ok(true),
+    ),
+    ("no signers", Held::Nothing, Sorted::Signer, Ok(true)),
+    (
+        "no streaming AEADs",
+        Held::Nothing,
+        Sorted::StreamingAead,
+        Ok(true),
+    ),
+    ("no verifiers", Held::Nothing, Sorted::Verifier, Ok(true)),
+    (
+        "an AEAD as MACs",
+        Held::Seven,
+        Sorted::Mac,
+        Err(Kind::WrongPrimitive),
+    ),
+    (
+        "a primary streaming AEAD",
+        Held::StreamingPrimary,
+        Sorted::StreamingAead,
+        Ok(true),
+    ),
+    (
+        "a primary streaming AEAD as AEADs",
+        Held::StreamingPrimary,
+        Sorted::Aead,
+        Err(Kind::WrongPrimitive),
+    ),
+];
+
 #[test]
-fn an_empty_set_is_of_each_sort(rt: HostRuntime) -> Result<(), Fail> {
+fn a_set_is_of_one_sort(rt: HostRuntime) {
     let alloc = rt.alloc();
-    let typed = TypedPrimitiveSet::from_set_aead(alloc, empty(alloc));
-    expect(&rt, kind_of(typed), None, "AEADs");
-    let typed = TypedPrimitiveSet::from_set_deterministic_aead(alloc, empty(alloc));
-    expect(&rt, kind_of(typed), None, "deterministic AEADs");
-    let typed = TypedPrimitiveSet::from_set_mac(alloc, empty(alloc));
-    expect(&rt, kind_of(typed), None, "MACs");
-    let typed = TypedPrimitiveSet::from_set_prf(alloc, empty(alloc));
-    expect(&rt, kind_of(typed), None, "pseudorandom functions");
-    let typed = TypedPrimitiveSet::from_set_streaming_aead(alloc, empty(alloc));
-    expect(&rt, kind_of(typed), None, "streaming AEADs");
-    Ok(())
+    for (row, held, sort, want) in SORTS {
+        expect(&rt, held_is_of(alloc, *held, *sort), *want, row);
+    }
+    let told = is_sorted(alloc, set_of_seven(alloc));
+    expect(&rt, told, Ok(true), "an AEAD, by the set and a copy");
 }
 
-#[test]
-fn an_empty_set_is_of_each_sort_with_two_keys(rt: HostRuntime) -> Result<(), Fail> {
-    let alloc = rt.alloc();
-    let typed = TypedPrimitiveSet::from_set_hybrid_decrypt(alloc, empty(alloc));
-    expect(&rt, kind_of(typed), None, "hybrid decryptions");
-    let typed = TypedPrimitiveSet::from_set_hybrid_encrypt(alloc, empty(alloc));
-    expect(&rt, kind_of(typed), None, "hybrid encryptions");
-    let typed = TypedPrimitiveSet::from_set_signer(alloc, empty(alloc));
-    expect(&rt, kind_of(typed), None, "signers");
-    let typed = TypedPrimitiveSet::from_set_verifier(alloc, empty(alloc));
-    expect(&rt, kind_of(typed), None, "verifiers");
-    Ok(())
+// Whether the number of the first RAW entry is 7, and there is none of another prefix.
+fn has_seven(typed: &TypedPrimitiveSet<TestAead>) -> bool {
+    match typed.raw_entries() {
+        Some([entry, ..]) => {
+            number_in(&entry.primitive) == Some(7) && typed.entries_for_prefix(&[1]).is_none()
+        }
+        _ => false,
+    }
+}
+
+// Whether the AEADs of a set and their copy have the number 7.
+fn is_sorted(
+    alloc: Global,
+    set: Result<PrimitiveSet<TestKinds>, TinkError>,
+) -> Result<bool, TinkError> {
+    let typed = TypedPrimitiveSet::from_set_aead(alloc, set?)?;
+    match typed.try_clone(alloc) {
+        Ok(copy) => Ok(has_seven(&typed) && has_seven(&copy)),
+        Err(e) => Err(e),
+    }
 }

@@ -3,9 +3,8 @@
 ghost use Rattle.std.specs.Prelude.{[]};
 ghost use Rattle.std.proofs.Common.{refl};
 
-use crate::expecting::{expect, expect_bytes};
+use crate::expecting::{expect, made};
 use std::alloc::Global;
-use std::test::Fail;
 use tink_io::{Draws, Kind, Sink, Source, SureSink, SureSource, TinkError};
 use tink_primitives::{DecryptingRead, EncryptingWrite, Refused, StreamingAead};
 
@@ -89,6 +88,7 @@ type Writing = Result<CopyingWriter<SureSink>, Refused<SureSink>>;
 
 type Reading = Result<CopyingReader<SureSource>, Refused<SureSource>>;
 
+// A writer to a sink with room for eight bytes.
 fn new_writer(alloc: Global, additional_data: &[u8]) -> Result<Writing, TinkError> {
     let mut sink = SureSink::new(alloc);
     sink.reserve(alloc, 8)?;
@@ -111,66 +111,55 @@ fn new_reader(alloc: Global, bytes: Vec<u8>, additional_data: &[u8]) -> Reading 
     )
 }
 
-// The bytes of a stream of the text, if each call was Ok.
-fn written(made: Writing, text: &[u8]) -> Option<Vec<u8>> {
-    let Ok(writer) = made else {
-        return None;
-    };
-    let mut writer = writer;
-    let done = writer.write(text) == Ok(text.len())
-        && writer.flush() == Ok(())
-        && writer.close() == Ok(());
-    let CopyingWriter { sink } = writer;
-    if done { Some(sink.into_bytes()) } else { None }
+// The bytes of a stream of abc, if each call was Ok, or how the writer is refused.
+fn written(alloc: Global, additional_data: &[u8]) -> Result<Vec<u8>, TinkError> {
+    match new_writer(alloc, additional_data)? {
+        Ok(mut writer) => {
+            writer.write(b"abc")?;
+            writer.flush()?;
+            writer.close()?;
+            Ok(writer.sink.into_bytes())
+        }
+        Err(refused) => Err(refused.error),
+    }
 }
 
-// The number of bytes that a read of four gives, and all four.
-fn first_read(made: Reading) -> Option<(usize, [u8; 4])> {
-    let Ok(reader) = made else {
-        return None;
-    };
-    let mut reader = reader;
+// What a read of four bytes gives, with the four; or the refusal, with the first byte of the source that is handed
+// back.
+fn first_read(made: Reading) -> (Result<usize, Kind>, [u8; 4]) {
     let mut buf = [0u8; 4];
-    match reader.read(&mut buf) {
-        Ok(n) => Some((n, buf)),
-        Err(_) => None,
+    match made {
+        Ok(mut reader) => match reader.read(&mut buf) {
+            Ok(n) => (Ok(n), buf),
+            Err(e) => (Err(e.kind), buf),
+        },
+        Err(mut refused) => match refused.inner.read(&mut buf[..1]) {
+            Ok(_) => (Err(refused.error.kind), buf),
+            Err(_) => (Err(Kind::ReadFault), buf),
+        },
     }
 }
 
-// The kind of a refusal, and the first byte of the source that it hands back.
-fn handed_back(made: Reading) -> Option<(Kind, u8)> {
-    let Err(refused) = made else {
-        return None;
-    };
-    let Refused { error, inner } = refused;
-    let mut source = inner;
-    let mut buf = [0u8; 1];
-    match source.read(&mut buf) {
-        Ok(_) => Some((error.kind, buf[0])),
-        Err(_) => None,
-    }
+// Whether a stream is written and read, and each is refused with data, the source as it was.
+fn goes_there_and_back(alloc: Global) -> Result<bool, TinkError> {
+    let stream = written(alloc, b"")?;
+    let is_stream = stream.as_slice() == b"abc".as_slice();
+    let read = first_read(new_reader(alloc, stream, b""));
+    Ok(is_stream && read == (Ok(3), [b'a', b'b', b'c', 0]))
+}
+
+fn hands_the_source_back(alloc: Global) -> Result<bool, TinkError> {
+    let bytes = vec![in alloc; 7u8]?;
+    let read = first_read(new_reader(alloc, bytes, b"x"));
+    Ok(read == (Err(Kind::DataTooLong), [7, 0, 0, 0]))
 }
 
 #[test]
-fn a_stream_is_written_and_read(rt: HostRuntime) -> Result<(), Fail> {
+fn a_stream_is_written_and_read(rt: HostRuntime) {
     let alloc = rt.alloc();
-    let bytes = written(new_writer(alloc, b"")?, b"abc").unwrap_or(Vec::new(alloc));
-    expect_bytes(&rt, &bytes, b"abc", "the stream");
-    let read = first_read(new_reader(alloc, bytes, b""));
-    expect(&rt, read, Some((3, [b'a', b'b', b'c', 0])), "the text");
-    Ok(())
-}
-
-#[test]
-fn a_refusal_hands_the_source_back(rt: HostRuntime) -> Result<(), Fail> {
-    let alloc = rt.alloc();
-    let refused = handed_back(new_reader(alloc, vec![in alloc; 7u8]?, b"x"));
-    expect(&rt, refused, Some((Kind::DataTooLong, 7)), "a reader");
-    expect(
-        &rt,
-        written(new_writer(alloc, b"x")?, b"").is_none(),
-        true,
-        "a writer",
-    );
-    Ok(())
+    expect(&rt, goes_there_and_back(alloc), Ok(true), "abc");
+    let back = hands_the_source_back(alloc);
+    expect(&rt, back, Ok(true), "a reader with data, and its source");
+    let refused = made(written(alloc, b"x"));
+    expect(&rt, refused, Err(Kind::DataTooLong), "a writer with data");
 }

@@ -4,8 +4,10 @@
 #[cfg(test)]
 mod comparing;
 #[cfg(test)]
-mod registry_tests;
-#[cfg(test)]
-mod rotation_tests;
+mod rotation;
 #[cfg(test)]
 mod tasks;
+#[cfg(test)]
+mod templates;
+#[cfg(test)]
+mod tests;

@@ -1,14 +1,11 @@
-//! Five tasks, each from nothing.
+//! Five tasks, each under a new keyset.
 
-use crate::comparing::expect;
 use std::alloc::Global;
 use tink::aead::{AeadKind, WrappedAead, aes128_gcm_key_template};
 use tink::keyset::{BinaryReader, BinaryWriter, Handle, JsonReader, JsonWriter, Manager, insecure};
-use tink::mac::{MacKind, WrappedMac, hmac_sha256_tag128_key_template};
-use tink::streaming_aead::{
-    DecryptReader, StreamSegment, WrappedStreamingAead, Writer, aes128_gcm_hkdf_4kb_key_template,
-};
-use tink::{Aead, Draws, Lent, Mac, Managers, Registry, SureSink, SureSource, TinkError, registry};
+use tink::mac::{MacKind, WrappedMac};
+use tink::streaming_aead::{DecryptReader, StreamSegment, WrappedStreamingAead, Writer};
+use tink::{Aead, Draws, Lent, Mac, Managers, Registry, SureSink, SureSource, TinkError};
 use tink_proto::{Bytes, KeyTemplate};
 
 // Random bytes. A program reads them from the system's random source; a test counts.
@@ -20,26 +17,86 @@ fn draws(alloc: Global, n: u8) -> Result<Draws, TinkError> {
     Ok(Draws::new(bytes))
 }
 
-// A keyset of one new key.
-fn new_keyset_in(
+/// A keyset of one new key.
+pub fn new_keyset(
     alloc: Global,
-    kt: &KeyTemplate,
     registry: &Registry<Managers>,
+    kt: &KeyTemplate,
 ) -> Result<Handle, TinkError> {
     let mut draws = draws(alloc, 100)?;
     Handle::new(alloc, kt, registry, &mut draws)
 }
 
-fn new_keyset(alloc: Global, kt: Result<KeyTemplate, TinkError>) -> Result<Handle, TinkError> {
-    match kt {
-        Ok(kt) => new_keyset_in(alloc, &kt, &registry(alloc)?),
+// ---- a value is encrypted and decrypted
+
+const VALUE: &[u8] = b"a value";
+
+fn encrypted(
+    alloc: Global,
+    registry: &Registry<Managers>,
+    keyset: &Handle,
+) -> Result<Bytes, TinkError> {
+    let mut draws = draws(alloc, 12)?;
+    match tink::aead::new(alloc, keyset, registry) {
+        Ok(aead) => aead.encrypt(alloc, VALUE, b"its column", &mut draws),
         Err(e) => Err(e),
     }
 }
 
-// Whether bytes are those of a text.
-fn is_text(bytes: &[u8], text: &str) -> bool {
-    bytes == text.as_bytes()
+// Whether a ciphertext is decrypted to the value.
+fn is_value(
+    alloc: Global,
+    registry: &Registry<Managers>,
+    keyset: &Handle,
+    ciphertext: &[u8],
+) -> Result<bool, TinkError> {
+    match tink::aead::new(alloc, keyset, registry) {
+        Ok(aead) => Ok(aead.decrypt(alloc, ciphertext, b"its column")?.as_slice() == VALUE),
+        Err(e) => Err(e),
+    }
+}
+
+/// A value is encrypted to a prefix, a nonce, the text and a tag, and decrypted.
+pub fn a_value_is_encrypted(
+    alloc: Global,
+    registry: &Registry<Managers>,
+    keyset: &Handle,
+) -> Result<bool, TinkError> {
+    let sealed = encrypted(alloc, registry, keyset)?;
+    let sealed = sealed.as_slice();
+    Ok(is_value(alloc, registry, keyset, sealed)? && sealed.len() == 5 + 12 + 7 + 16)
+}
+
+// ---- a key is rotated, and old data decrypted
+
+fn rotate(
+    alloc: Global,
+    manager: &mut Manager,
+    registry: &Registry<Managers>,
+) -> Result<u32, TinkError> {
+    let mut draws = draws(alloc, 200)?;
+    match aes128_gcm_key_template(alloc) {
+        Ok(kt) => manager.rotate(alloc, &kt, registry, &mut draws),
+        Err(e) => Err(e),
+    }
+}
+
+fn rotated(
+    alloc: Global,
+    registry: &Registry<Managers>,
+    keyset: Handle,
+) -> Result<Handle, TinkError> {
+    let mut manager = Manager::new_from_handle(keyset);
+    match rotate(alloc, &mut manager, registry) {
+        Ok(_) => manager.handle(alloc),
+        Err(e) => Err(e),
+    }
+}
+
+// A copy of a keyset in JSON.
+fn copied(alloc: Global, keyset: &Handle) -> Result<Handle, TinkError> {
+    let text = in_json(alloc, keyset)?;
+    insecure::read(alloc, &mut JsonReader::new(SureSource::new(text)))
 }
 
 // Whether two ciphertexts have one prefix.
@@ -50,250 +107,131 @@ fn begins_alike(one: &[u8], other: &[u8]) -> bool {
     }
 }
 
-// ---- a value is encrypted and decrypted
-
-fn aead_of(alloc: Global, keyset: &Handle) -> Result<WrappedAead<AeadKind>, TinkError> {
-    tink::aead::new(alloc, keyset, &registry(alloc)?)
-}
-
-fn encrypted(alloc: Global, keyset: &Handle, value: &[u8]) -> Result<Bytes, TinkError> {
-    let mut draws = draws(alloc, 12)?;
-    aead_of(alloc, keyset)?.encrypt(alloc, value, b"its column", &mut draws)
-}
-
-fn decrypted(alloc: Global, keyset: &Handle, ciphertext: &[u8]) -> Result<Bytes, TinkError> {
-    aead_of(alloc, keyset)?.decrypt(alloc, ciphertext, b"its column")
-}
-
-// How many bytes a value is encrypted to, and whether they are decrypted to it.
-fn through(alloc: Global, keyset: &Handle) -> Result<(usize, bool), TinkError> {
-    let sealed = encrypted(alloc, keyset, b"a value")?;
-    let text = decrypted(alloc, keyset, sealed.as_slice())?;
-    Ok((sealed.as_slice().len(), is_text(text.as_slice(), "a value")))
-}
-
-fn through_a_new_keyset(alloc: Global) -> Result<(usize, bool), TinkError> {
-    through(alloc, &new_keyset(alloc, aes128_gcm_key_template(alloc))?)
-}
-
-#[test]
-fn a_value_is_encrypted(rt: HostRuntime) {
-    let told = through_a_new_keyset(rt.alloc());
-    expect(
-        &rt,
-        told,
-        (5 + 12 + 7 + 16, true),
-        "prefix, nonce, text and tag",
-    );
-}
-
-// ---- a key is rotated, and old data decrypted
-
-fn rotate_in(
-    alloc: Global,
-    manager: &mut Manager,
-    registry: &Registry<Managers>,
-    template: &KeyTemplate,
-) -> Result<(), TinkError> {
-    let mut draws = draws(alloc, 200)?;
-    match manager.rotate(alloc, template, registry, &mut draws) {
-        Ok(_) => Ok(()),
-        Err(e) => Err(e),
-    }
-}
-
-fn rotate(alloc: Global, manager: &mut Manager) -> Result<(), TinkError> {
-    let template = aes128_gcm_key_template(alloc)?;
-    match registry(alloc) {
-        Ok(registry) => rotate_in(alloc, manager, &registry, &template),
-        Err(e) => Err(e),
-    }
-}
-
-fn rotated(alloc: Global, keyset: Handle) -> Result<Handle, TinkError> {
-    let mut manager = Manager::new_from_handle(keyset);
-    match rotate(alloc, &mut manager) {
-        Ok(()) => manager.handle(alloc),
-        Err(e) => Err(e),
-    }
-}
-
 // Whether old data are decrypted, and new ones have another prefix.
-fn opens_old_data(alloc: Global, keyset: &Handle, old: &[u8]) -> Result<bool, TinkError> {
-    let new = encrypted(alloc, keyset, b"a value")?;
-    let text = decrypted(alloc, keyset, old)?;
-    Ok(!begins_alike(old, new.as_slice()) && is_text(text.as_slice(), "a value"))
-}
-
-fn opens_old_data_by(
+fn opens_old_data(
     alloc: Global,
-    keyset: Result<Handle, TinkError>,
+    registry: &Registry<Managers>,
+    keyset: &Handle,
     old: &[u8],
 ) -> Result<bool, TinkError> {
-    match keyset {
-        Ok(keyset) => opens_old_data(alloc, &keyset, old),
+    let new = encrypted(alloc, registry, keyset)?;
+    Ok(is_value(alloc, registry, keyset, old)? && !begins_alike(old, new.as_slice()))
+}
+
+/// What a keyset encrypts is decrypted by it after a rotation, and new data have another prefix.
+pub fn old_data_opens_after_a_rotation(
+    alloc: Global,
+    registry: &Registry<Managers>,
+    keyset: &Handle,
+) -> Result<bool, TinkError> {
+    let old = encrypted(alloc, registry, keyset)?;
+    match rotated(alloc, registry, copied(alloc, keyset)?) {
+        Ok(later) => opens_old_data(alloc, registry, &later, old.as_slice()),
         Err(e) => Err(e),
     }
-}
-
-fn opens_after_a_rotation(alloc: Global, keyset: Handle) -> Result<bool, TinkError> {
-    match encrypted(alloc, &keyset, b"a value") {
-        Ok(old) => opens_old_data_by(alloc, rotated(alloc, keyset), old.as_slice()),
-        Err(e) => Err(e),
-    }
-}
-
-fn outlives_a_rotation(alloc: Global) -> Result<bool, TinkError> {
-    opens_after_a_rotation(alloc, new_keyset(alloc, aes128_gcm_key_template(alloc))?)
-}
-
-#[test]
-fn old_data_opens_after_a_rotation(rt: HostRuntime) {
-    expect(
-        &rt,
-        outlives_a_rotation(rt.alloc()),
-        true,
-        "old and new data",
-    );
 }
 
 // ---- a MAC is computed and verified
 
-fn mac_of(alloc: Global, keyset: &Handle) -> Result<WrappedMac<MacKind>, TinkError> {
-    tink::mac::new(alloc, keyset, &registry(alloc)?)
+// Whether a MAC is a prefix and a tag, and accepted for its message and not for another.
+fn is_of_its_message(alloc: Global, mac: &WrappedMac<MacKind>) -> Result<bool, TinkError> {
+    let tag = mac.compute_mac(alloc, b"a message")?;
+    let tag = tag.as_slice();
+    let is_accepted = mac.verify_mac(alloc, tag, b"a message").is_ok();
+    let other = mac.verify_mac(alloc, tag, b"another").is_ok();
+    Ok(tag.len() == 5 + 16 && is_accepted && !other)
 }
 
-fn computed(alloc: Global, keyset: &Handle, message: &[u8]) -> Result<Bytes, TinkError> {
-    mac_of(alloc, keyset)?.compute_mac(alloc, message)
-}
-
-fn is_accepted(
+/// A MAC is accepted for its message alone.
+pub fn a_mac_is_of_its_message(
     alloc: Global,
+    registry: &Registry<Managers>,
     keyset: &Handle,
-    tag: &[u8],
-    message: &[u8],
 ) -> Result<bool, TinkError> {
-    match mac_of(alloc, keyset) {
-        Ok(mac) => Ok(mac.verify_mac(alloc, tag, message).is_ok()),
+    match tink::mac::new(alloc, keyset, registry) {
+        Ok(mac) => is_of_its_message(alloc, &mac),
         Err(e) => Err(e),
     }
-}
-
-// How many bytes a MAC has, and whether it is accepted for its message and for another.
-fn verified(alloc: Global, keyset: &Handle) -> Result<(usize, bool, bool), TinkError> {
-    let tag = computed(alloc, keyset, b"a message")?;
-    let own = is_accepted(alloc, keyset, tag.as_slice(), b"a message")?;
-    let other = is_accepted(alloc, keyset, tag.as_slice(), b"another")?;
-    Ok((tag.as_slice().len(), own, other))
-}
-
-fn verified_by_a_new_keyset(alloc: Global) -> Result<(usize, bool, bool), TinkError> {
-    verified(
-        alloc,
-        &new_keyset(alloc, hmac_sha256_tag128_key_template(alloc))?,
-    )
-}
-
-#[test]
-fn a_mac_is_of_its_message(rt: HostRuntime) {
-    let told = verified_by_a_new_keyset(rt.alloc());
-    expect(&rt, told, (5 + 16, true, false), "prefix and tag");
 }
 
 // ---- a keyset in JSON is read, and written encrypted
 
 fn sink_of(alloc: Global) -> Result<SureSink, TinkError> {
     let mut sink = SureSink::new(alloc);
-    match sink.reserve(alloc, 1000) {
-        Ok(()) => Ok(sink),
-        Err(e) => Err(e),
-    }
+    sink.reserve(alloc, 1000)?;
+    Ok(sink)
 }
 
 fn in_json(alloc: Global, keyset: &Handle) -> Result<Vec<u8>, TinkError> {
     let mut writer = JsonWriter::new(sink_of(alloc)?);
-    match insecure::write(alloc, keyset, &mut writer) {
-        Ok(()) => Ok(writer.into_inner().into_bytes()),
-        Err(e) => Err(e),
-    }
-}
-
-fn new_in_json(alloc: Global) -> Result<Vec<u8>, TinkError> {
-    in_json(alloc, &new_keyset(alloc, aes128_gcm_key_template(alloc))?)
-}
-
-fn from_json(alloc: Global, text: Vec<u8>) -> Result<Handle, TinkError> {
-    insecure::read(alloc, &mut JsonReader::new(SureSource::new(text)))
-}
-
-fn write<A: Aead>(
-    alloc: Global,
-    keyset: &Handle,
-    writer: &mut BinaryWriter<SureSink>,
-    master: &A,
-) -> Result<(), TinkError> {
-    let mut draws = draws(alloc, 12)?;
-    keyset.write(alloc, writer, master, &mut draws)
+    insecure::write(alloc, keyset, &mut writer)?;
+    Ok(writer.into_inner().into_bytes())
 }
 
 // The keyset under the AEAD of a master key, in the wire format.
-fn written<A: Aead>(alloc: Global, keyset: &Handle, master: &A) -> Result<Vec<u8>, TinkError> {
+fn written(
+    alloc: Global,
+    keyset: &Handle,
+    master: &WrappedAead<AeadKind>,
+) -> Result<Vec<u8>, TinkError> {
+    let mut draws = draws(alloc, 12)?;
     let mut writer = BinaryWriter::new(sink_of(alloc)?);
-    match write(alloc, keyset, &mut writer, master) {
-        Ok(()) => Ok(writer.into_inner().into_bytes()),
-        Err(e) => Err(e),
-    }
+    keyset.write(alloc, &mut writer, master, &mut draws)?;
+    Ok(writer.into_inner().into_bytes())
 }
 
-fn read<A: Aead>(alloc: Global, stored: Vec<u8>, master: &A) -> Result<Handle, TinkError> {
+// The keyset, after it was written and read so.
+fn kept(
+    alloc: Global,
+    keyset: &Handle,
+    master: &WrappedAead<AeadKind>,
+) -> Result<Handle, TinkError> {
+    let stored = written(alloc, keyset, master)?;
     let mut reader = BinaryReader::new(SureSource::new(stored));
     Handle::read(alloc, &mut reader, master)
 }
 
-// The keyset, after it was written and read so.
-fn kept_by<A: Aead>(alloc: Global, keyset: &Handle, master: &A) -> Result<Handle, TinkError> {
-    match written(alloc, keyset, master) {
-        Ok(stored) => read(alloc, stored, master),
+// The same by the AEAD of a master keyset.
+fn kept_under(
+    alloc: Global,
+    registry: &Registry<Managers>,
+    keyset: &Handle,
+    master: &Handle,
+) -> Result<Handle, TinkError> {
+    match tink::aead::new(alloc, master, registry) {
+        Ok(master) => kept(alloc, keyset, &master),
         Err(e) => Err(e),
     }
 }
 
-fn kept(alloc: Global, keyset: &Handle) -> Result<Handle, TinkError> {
-    let master = new_keyset(alloc, aes128_gcm_key_template(alloc))?;
-    match aead_of(alloc, &master) {
-        Ok(master) => kept_by(alloc, keyset, &master),
+// Whether a keyset that was kept so decrypts what it encrypted before.
+fn decrypts_when_kept(
+    alloc: Global,
+    registry: &Registry<Managers>,
+    keyset: &Handle,
+    master: &Handle,
+) -> Result<bool, TinkError> {
+    let sealed = encrypted(alloc, registry, keyset)?;
+    match kept_under(alloc, registry, keyset, master) {
+        Ok(kept) => is_value(alloc, registry, &kept, sealed.as_slice()),
         Err(e) => Err(e),
     }
 }
 
-// Whether it decrypts what it encrypted before.
-fn decrypts_when_kept(alloc: Global, keyset: &Handle) -> Result<bool, TinkError> {
-    let sealed = encrypted(alloc, keyset, b"a value")?;
-    match kept(alloc, keyset) {
-        Ok(kept) => is_value(alloc, &kept, sealed.as_slice()),
+/// A keyset that was read from JSON decrypts what it encrypted, after it was written and read under a master keyset.
+/// The master keyset is here the one in JSON itself.
+pub fn a_keyset_in_json_is_encrypted(
+    alloc: Global,
+    registry: &Registry<Managers>,
+    master: &Handle,
+) -> Result<bool, TinkError> {
+    match copied(alloc, master) {
+        Ok(keyset) => decrypts_when_kept(alloc, registry, &keyset, master),
         Err(e) => Err(e),
     }
-}
-
-fn is_value(alloc: Global, keyset: &Handle, sealed: &[u8]) -> Result<bool, TinkError> {
-    let text = decrypted(alloc, keyset, sealed)?;
-    Ok(is_text(text.as_slice(), "a value"))
-}
-
-fn decrypts_from_json(alloc: Global) -> Result<bool, TinkError> {
-    decrypts_when_kept(alloc, &from_json(alloc, new_in_json(alloc)?)?)
-}
-
-#[test]
-fn a_keyset_in_json_is_encrypted(rt: HostRuntime) {
-    expect(&rt, decrypts_from_json(rt.alloc()), true, "the value");
 }
 
 // ---- a stream is sealed, and read in pieces
-
-fn streams_of(alloc: Global, keyset: &Handle) -> Result<WrappedStreamingAead, TinkError> {
-    tink::streaming_aead::new(alloc, keyset, &registry(alloc)?)
-}
 
 fn write_whole(
     writer: &mut Writer<Lent<'_, SureSink>, StreamSegment>,
@@ -313,19 +251,6 @@ fn seal(
     match streams.new_encrypting_writer(alloc, &mut draws, Lent(sink), b"its name") {
         Ok(mut writer) => write_whole(&mut writer, text),
         Err(refused) => Err(refused.error),
-    }
-}
-
-// The stream of a text.
-fn sealed(
-    alloc: Global,
-    streams: &WrappedStreamingAead,
-    text: &[u8],
-) -> Result<Vec<u8>, TinkError> {
-    let mut sink = sink_of(alloc)?;
-    match seal(alloc, streams, &mut sink, text) {
-        Ok(()) => Ok(sink.into_bytes()),
-        Err(e) => Err(e),
     }
 }
 
@@ -355,42 +280,25 @@ fn open(
     }
 }
 
-// Whether the text of a stream is this one.
-fn opens_to(
-    alloc: Global,
-    streams: &WrappedStreamingAead,
-    stream: Vec<u8>,
-    want: &str,
-) -> Result<bool, TinkError> {
+const TEXT: &[u8] = b"a text of more than ten bytes";
+
+// Whether a text is sealed to a stream that opens to it.
+fn opens_again(alloc: Global, streams: &WrappedStreamingAead) -> Result<bool, TinkError> {
     let mut text = Vec::new(alloc);
-    match open(alloc, streams, stream, &mut text) {
-        Ok(()) => Ok(is_text(&text, want)),
-        Err(e) => Err(e),
-    }
+    let mut sink = sink_of(alloc)?;
+    seal(alloc, streams, &mut sink, TEXT)?;
+    open(alloc, streams, sink.into_bytes(), &mut text)?;
+    Ok(text.as_slice() == TEXT)
 }
 
-fn opens_again(
+/// A stream is written whole, and read ten bytes at a time.
+pub fn a_stream_is_read_in_pieces(
     alloc: Global,
-    streams: &WrappedStreamingAead,
-    text: &str,
+    registry: &Registry<Managers>,
+    keyset: &Handle,
 ) -> Result<bool, TinkError> {
-    match sealed(alloc, streams, text.as_bytes()) {
-        Ok(stream) => opens_to(alloc, streams, stream, text),
+    match tink::streaming_aead::new(alloc, keyset, registry) {
+        Ok(streams) => opens_again(alloc, &streams),
         Err(e) => Err(e),
     }
-}
-
-fn opens_by(alloc: Global, keyset: &Handle, text: &str) -> Result<bool, TinkError> {
-    opens_again(alloc, &streams_of(alloc, keyset)?, text)
-}
-
-fn opens_by_a_new_keyset(alloc: Global, text: &str) -> Result<bool, TinkError> {
-    let kt = aes128_gcm_hkdf_4kb_key_template(alloc);
-    opens_by(alloc, &new_keyset(alloc, kt)?, text)
-}
-
-#[test]
-fn a_stream_is_read_in_pieces(rt: HostRuntime) {
-    let told = opens_by_a_new_keyset(rt.alloc(), "a text of more than ten bytes");
-    expect(&rt, told, true, "the text");
 }

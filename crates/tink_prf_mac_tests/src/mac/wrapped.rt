@@ -3,18 +3,19 @@
 ghost use Rattle.tink_io.specs.Told.{Answers};
 ghost use Rattle.tink_mac.specs.Wrapped.{primary_mac};
 
-use crate::expecting::{gives, holds, is, refuses};
+use crate::expecting::{Answer, expect, made};
 use std::alloc::Global;
 use tink_core::keyset::{Handle, Manager};
-use tink_core::{KeyId, Kind, Mac, TinkError};
+use tink_core::registry::Registry;
+use tink_core::{Kind, Mac, TinkError};
 use tink_mac::subtle::Hmac;
 use tink_mac::{
     HMAC_TYPE_URL, HmacKeyManager, MacKind, WrappedMac, hmac_sha256_tag128_key_template,
     law_built_macs_are_sound, law_macs_outlive_commands, law_old_macs_verify,
     law_own_tags_accepted, new,
 };
-use tink_proto::{Bytes, HashType, OutputPrefixType};
-use tink_testutil::{draws_of, enabled_key, handle_of, kind_of, registry_of};
+use tink_proto::{Bytes, HashType, KeyTemplate, OutputPrefixType};
+use tink_testutil::{draws_of, enabled_key, gives, handle_of, registry_of};
 
 // The MAC of a message by the primary key.
 fn mac_of<P: Mac>(alloc: Global, mac: &WrappedMac<P>, message: &[u8]) -> Result<Bytes, TinkError>
@@ -39,7 +40,8 @@ fn tag_of(alloc: Global, data: &[u8]) -> Result<Bytes, TinkError> {
     Hmac::new(alloc, HashType::Sha256, &[5; 16], 16)?.compute_mac(alloc, data)
 }
 
-// The MAC of `abc` that a key of id 7 makes: behind the id, but for a RAW key, and of one zero byte more for a LEGACY one.
+// The MAC of `abc` that a key of id 7 makes: behind the id, but for a RAW key, and of one zero byte more for a LEGACY
+// one.
 fn own_mac(alloc: Global, prefix: OutputPrefixType) -> Result<Vec<u8>, TinkError> {
     let (front, data): (&[u8], &[u8]) = match prefix {
         OutputPrefixType::Raw => (b"", b"abc"),
@@ -52,171 +54,167 @@ fn own_mac(alloc: Global, prefix: OutputPrefixType) -> Result<Vec<u8>, TinkError
     Ok(mac)
 }
 
-// Whether a set makes this MAC of `abc`.
-fn makes(alloc: Global, macs: &WrappedMac<MacKind>, want: &[u8]) -> bool {
-    gives(mac_of(alloc, macs, b"abc"), want)
+// What is asked of the MACs of one such key.
+#[derive(Clone, Copy)]
+enum Asked {
+    // Whether they make its MAC.
+    Make,
+    // Whether they accept the MAC of a key of this prefix type, cut to so many bytes.
+    Accept(OutputPrefixType, usize),
+    // Both, of a copy.
+    Copy,
 }
 
-// What a set answers on a MAC of `abc`.
-fn answer_on(alloc: Global, macs: &WrappedMac<MacKind>, mac: &[u8]) -> Option<Kind> {
-    kind_of(macs.verify_mac(alloc, mac, b"abc"))
-}
-
-// Whether the keyset of such a key makes its MAC.
-fn makes_own(alloc: Global, prefix: OutputPrefixType) -> Result<bool, TinkError> {
-    let want = own_mac(alloc, prefix)?;
-    Ok(makes(alloc, &macs_of(alloc, prefix)?, &want))
-}
-
-#[test]
-fn a_mac_stands_behind_its_prefix(rt: HostRuntime) {
-    let legacy = makes_own(rt.alloc(), OutputPrefixType::Legacy);
-    is(&rt, holds(legacy), "LEGACY");
-    let crunchy = makes_own(rt.alloc(), OutputPrefixType::Crunchy);
-    is(&rt, holds(crunchy), "CRUNCHY");
-    let raw = makes_own(rt.alloc(), OutputPrefixType::Raw);
-    is(&rt, holds(raw), "RAW");
-}
-
-// What the keyset of one such key answers on the MAC of another, cut to so many bytes.
 fn answer_by(
     alloc: Global,
-    prefix: OutputPrefixType,
-    other: OutputPrefixType,
-    size: usize,
-) -> Result<Option<Kind>, TinkError> {
-    let mac = own_mac(alloc, other)?;
-    let macs = macs_of(alloc, prefix)?;
-    Ok(answer_on(alloc, &macs, &mac[..mac.len().min(size)]))
+    macs: &WrappedMac<MacKind>,
+    mac: &[u8],
+    asked: Asked,
+) -> Result<bool, TinkError> {
+    match asked {
+        Asked::Make => gives(mac_of(alloc, macs, b"abc"), mac),
+        Asked::Accept(_, size) => {
+            made(macs.verify_mac(alloc, &mac[..mac.len().min(size)], b"abc"))
+        }
+        Asked::Copy => {
+            let copy = macs.try_clone(alloc)?;
+            copy.verify_mac(alloc, mac, b"abc")?;
+            gives(mac_of(alloc, &copy, b"abc"), mac)
+        }
+    }
 }
 
-// What keys there are, their prefix type, that of the key that made a MAC, and what the first answer. LEGACY and
-// CRUNCHY keys of an id have one prefix.
-const PREFIXES: [(&str, OutputPrefixType, OutputPrefixType, Option<Kind>); 5] = [
-    (
-        "LEGACY",
-        OutputPrefixType::Legacy,
-        OutputPrefixType::Legacy,
-        None,
-    ),
+fn answer(alloc: Global, prefix: OutputPrefixType, asked: Asked) -> Result<bool, TinkError> {
+    let other = match asked {
+        Asked::Accept(other, _) => other,
+        _ => prefix,
+    };
+    let mac = own_mac(alloc, other)?;
+    match macs_of(alloc, prefix) {
+        Ok(macs) => answer_by(alloc, &macs, &mac, asked),
+        Err(e) => Err(e),
+    }
+}
+
+const LEGACY: OutputPrefixType = OutputPrefixType::Legacy;
+
+const CRUNCHY: OutputPrefixType = OutputPrefixType::Crunchy;
+
+const RAW: OutputPrefixType = OutputPrefixType::Raw;
+
+const MISMATCH: Answer = Err(Kind::MacMismatch);
+
+// LEGACY and CRUNCHY keys of an id have one prefix.
+const ROWS: &[(&str, OutputPrefixType, Asked, Answer)] = &[
+    ("a LEGACY key's MAC", LEGACY, Asked::Make, Ok(true)),
+    ("a CRUNCHY key's MAC", CRUNCHY, Asked::Make, Ok(true)),
+    ("a RAW key's MAC", RAW, Asked::Make, Ok(true)),
+    ("LEGACY", LEGACY, Asked::Accept(LEGACY, 21), Ok(true)),
     (
         "LEGACY on CRUNCHY",
-        OutputPrefixType::Legacy,
-        OutputPrefixType::Crunchy,
-        Some(Kind::MacMismatch),
+        LEGACY,
+        Asked::Accept(CRUNCHY, 21),
+        MISMATCH,
     ),
-    (
-        "CRUNCHY",
-        OutputPrefixType::Crunchy,
-        OutputPrefixType::Crunchy,
-        None,
-    ),
+    ("CRUNCHY", CRUNCHY, Asked::Accept(CRUNCHY, 21), Ok(true)),
     (
         "CRUNCHY on LEGACY",
-        OutputPrefixType::Crunchy,
-        OutputPrefixType::Legacy,
-        Some(Kind::MacMismatch),
+        CRUNCHY,
+        Asked::Accept(LEGACY, 21),
+        MISMATCH,
     ),
-    ("RAW", OutputPrefixType::Raw, OutputPrefixType::Raw, None),
+    ("RAW", RAW, Asked::Accept(RAW, 21), Ok(true)),
+    ("a MAC cut to nothing", RAW, Asked::Accept(RAW, 0), MISMATCH),
+    ("a MAC cut to 1 byte", RAW, Asked::Accept(RAW, 1), MISMATCH),
+    ("a MAC cut to 2 bytes", RAW, Asked::Accept(RAW, 2), MISMATCH),
+    ("a MAC cut to 3 bytes", RAW, Asked::Accept(RAW, 3), MISMATCH),
+    ("a MAC cut to 4 bytes", RAW, Asked::Accept(RAW, 4), MISMATCH),
+    ("a MAC cut to 5 bytes", RAW, Asked::Accept(RAW, 5), MISMATCH),
+    ("a copy", LEGACY, Asked::Copy, Ok(true)),
 ];
 
 #[test]
-fn a_key_accepts_its_own_alone(rt: HostRuntime) {
-    for (what, prefix, other, want) in &PREFIXES {
-        let answer = answer_by(rt.alloc(), *prefix, *other, 21);
-        is(&rt, refuses(answer, *want), what);
+fn a_key_makes_its_mac_and_accepts_its_own_alone(rt: HostRuntime) {
+    for (row, prefix, asked, want) in ROWS {
+        expect(&rt, answer(rt.alloc(), *prefix, *asked), *want, row);
     }
 }
 
-#[test]
-fn a_cut_mac_is_refused(rt: HostRuntime) {
-    let raw = OutputPrefixType::Raw;
-    for size in 0..6usize {
-        let answer = answer_by(rt.alloc(), raw, raw, size);
-        is(&rt, refuses(answer, Some(Kind::MacMismatch)), "a cut MAC");
-    }
-}
+// ---- a rotation
 
 // A handle of one key by the template.
-fn first_handle(alloc: Global) -> Result<Handle, TinkError> {
-    let registry = registry_of(alloc, HmacKeyManager::new())?;
-    let kt = hmac_sha256_tag128_key_template(alloc)?;
-    Handle::new(alloc, &kt, &registry, &mut draws_of(alloc, &[3; 36])?)
+fn first_handle(
+    alloc: Global,
+    registry: &Registry<HmacKeyManager>,
+    kt: &KeyTemplate,
+) -> Result<Handle, TinkError> {
+    Handle::new(alloc, kt, registry, &mut draws_of(alloc, &[3; 36])?)
 }
 
-// A new primary key by the template.
-fn rotate(alloc: Global, manager: &mut Manager) -> Result<KeyId, TinkError> {
-    let registry = registry_of(alloc, HmacKeyManager::new())?;
-    let kt = hmac_sha256_tag128_key_template(alloc)?;
-    manager.rotate(alloc, &kt, &registry, &mut draws_of(alloc, &[4; 36])?)
-}
-
-// The handle after a rotation.
-fn later_handle(alloc: Global) -> Result<Handle, TinkError> {
-    let mut manager = Manager::new_from_handle(first_handle(alloc)?);
-    let _id = rotate(alloc, &mut manager)?;
+// The handle with a new primary key by the template.
+fn rotated(
+    alloc: Global,
+    registry: &Registry<HmacKeyManager>,
+    kt: &KeyTemplate,
+    h: Handle,
+) -> Result<Handle, TinkError> {
+    let mut manager = Manager::new_from_handle(h);
+    manager.rotate(alloc, kt, registry, &mut draws_of(alloc, &[4; 36])?)?;
     manager.handle(alloc)
 }
 
-fn macs_by(alloc: Global, h: &Handle) -> Result<WrappedMac<MacKind>, TinkError> {
-    new(alloc, h, &registry_of(alloc, HmacKeyManager::new())?)
+fn mac_by(
+    alloc: Global,
+    registry: &Registry<HmacKeyManager>,
+    h: &Handle,
+) -> Result<Bytes, TinkError> {
+    mac_of(alloc, &new(alloc, h, registry)?, b"abc")
 }
 
-// The MACs of `abc` before the rotation and after it.
-fn old_mac(alloc: Global) -> Result<Bytes, TinkError> {
-    mac_of(alloc, &macs_by(alloc, &first_handle(alloc)?)?, b"abc")
+// Whether MACs make another one of `abc` than an old one, both of 21 bytes, and accept both.
+fn accept_both(alloc: Global, macs: &WrappedMac<MacKind>, old: &[u8]) -> Result<bool, TinkError> {
+    let newer = mac_of(alloc, macs, b"abc")?;
+    let newer = newer.as_slice();
+    let accepted = macs.verify_mac(alloc, old, b"abc") == Ok(())
+        && macs.verify_mac(alloc, newer, b"abc") == Ok(());
+    Ok(accepted && newer != old && newer.len() == 21 && old.len() == 21)
 }
 
-fn new_mac(alloc: Global) -> Result<Bytes, TinkError> {
-    mac_of(alloc, &macs_by(alloc, &later_handle(alloc)?)?, b"abc")
+fn accepts_both(
+    alloc: Global,
+    registry: &Registry<HmacKeyManager>,
+    h: &Handle,
+    old: &[u8],
+) -> Result<bool, TinkError> {
+    match new(alloc, h, registry) {
+        Ok(macs) => accept_both(alloc, &macs, old),
+        Err(e) => Err(e),
+    }
 }
 
-// What the later handle answers on a MAC of `abc`.
-fn later_answer(alloc: Global, mac: &[u8]) -> Result<Option<Kind>, TinkError> {
-    let macs = macs_by(alloc, &later_handle(alloc)?)?;
-    Ok(answer_on(alloc, &macs, mac))
+fn outlives_a_rotation(
+    alloc: Global,
+    registry: &Registry<HmacKeyManager>,
+    kt: &KeyTemplate,
+) -> Result<bool, TinkError> {
+    let h = first_handle(alloc, registry, kt)?;
+    let old = mac_by(alloc, registry, &h)?;
+    let later = rotated(alloc, registry, kt, h)?;
+    accepts_both(alloc, registry, &later, old.as_slice())
 }
 
-// Whether the later handle accepts a MAC, which has 21 bytes.
-fn is_later_accepted(alloc: Global, made: Result<Bytes, TinkError>) -> Result<bool, TinkError> {
-    let mac = made?;
-    let answer = later_answer(alloc, mac.as_slice())?;
-    Ok(answer.is_none() && mac.as_slice().len() == 21)
-}
-
-#[test]
-fn a_mac_of_a_template_verifies_after_a_rotation(rt: HostRuntime) {
-    let old = is_later_accepted(rt.alloc(), old_mac(rt.alloc()));
-    is(&rt, holds(old), "the old MAC");
-}
-
-fn are_others(alloc: Global) -> Result<bool, TinkError> {
-    let old = old_mac(alloc)?;
-    Ok(new_mac(alloc)?.as_slice() != old.as_slice())
-}
-
-#[test]
-fn the_new_key_makes_another_mac(rt: HostRuntime) {
-    let new = is_later_accepted(rt.alloc(), new_mac(rt.alloc()));
-    is(&rt, holds(new), "the new MAC");
-    is(&rt, holds(are_others(rt.alloc())), "another MAC");
-}
-
-// A copy of the MACs of a LEGACY key.
-fn copy(alloc: Global) -> Result<WrappedMac<MacKind>, TinkError> {
-    macs_of(alloc, OutputPrefixType::Legacy)?.try_clone(alloc)
-}
-
-// Whether it makes and accepts the key's own MAC.
-fn is_copied(alloc: Global) -> Result<bool, TinkError> {
-    let own = own_mac(alloc, OutputPrefixType::Legacy)?;
-    let macs = copy(alloc)?;
-    Ok(makes(alloc, &macs, &own) && answer_on(alloc, &macs, &own).is_none())
+fn outlives_a_rotation_by_the_template(alloc: Global) -> Result<bool, TinkError> {
+    let registry = registry_of(alloc, HmacKeyManager::new())?;
+    match hmac_sha256_tag128_key_template(alloc) {
+        Ok(kt) => outlives_a_rotation(alloc, &registry, &kt),
+        Err(e) => Err(e),
+    }
 }
 
 #[test]
-fn a_copy_does_the_same(rt: HostRuntime) {
-    is(&rt, holds(is_copied(rt.alloc())), "a copy");
+fn a_mac_verifies_after_a_rotation(rt: HostRuntime) {
+    let told = outlives_a_rotation_by_the_template(rt.alloc());
+    expect(&rt, told, Ok(true), "the old MAC, and another new one");
 }
 
 // The laws hold of these types.

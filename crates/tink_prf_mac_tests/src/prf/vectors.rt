@@ -5,12 +5,15 @@ ghost use Rattle.hash_keys.specs.declared.Hash.TheVariants as hashes;
 ghost use Rattle.hash_keys.specs.Hash.{hmac_of};
 ghost use Rattle.tink_io.specs.Told.{Answers};
 
-use crate::expecting::{gives, holds, is};
+use crate::expecting::expect;
+use crate::keys::COUNT;
+use hash_keys::{Hash, hmac_into};
 use std::alloc::Global;
 use tink_core::{CloneIn, Prf, Primitive, TinkError};
 use tink_prf::subtle::{AesCmacPrf, HkdfPrf, HmacPrf};
 use tink_prf::{PrfKind, PrfKinds};
 use tink_proto::{Bytes, HashType};
+use tink_testutil::gives;
 
 // The first 16 bytes of HMAC with SHA-256.
 fn code_of(alloc: Global, key: &[u8], text: &[u8]) -> Result<Bytes, TinkError>
@@ -21,8 +24,10 @@ fn code_of(alloc: Global, key: &[u8], text: &[u8]) -> Result<Bytes, TinkError>
 }
 
 // RFC 4493, section 4, and SP 800-38B, D.1 to D.3.
-const CMAC_TEXT: [u8; 40] =
-    *b"\x6b\xc1\xbe\xe2\x2e\x40\x9f\x96\xe9\x3d\x7e\x11\x73\x93\x17\x2a\xae\x2d\x8a\x57\x1e\x03\xac\x9c\x9e\xb7\x6f\xac\x45\xaf\x8e\x51\x30\xc8\x1c\x46\xa3\x5c\xe4\x11";
+const CMAC_40: &[u8] =
+    b"\x6b\xc1\xbe\xe2\x2e\x40\x9f\x96\xe9\x3d\x7e\x11\x73\x93\x17\x2a\xae\x2d\x8a\x57\x1e\x03\xac\x9c\x9e\xb7\x6f\xac\x45\xaf\x8e\x51\x30\xc8\x1c\x46\xa3\x5c\xe4\x11";
+
+const CMAC_16: &[u8] = b"\x6b\xc1\xbe\xe2\x2e\x40\x9f\x96\xe9\x3d\x7e\x11\x73\x93\x17\x2a";
 
 const KEY_16: &[u8] = b"\x2b\x7e\x15\x16\x28\xae\xd2\xa6\xab\xf7\x15\x88\x09\xcf\x4f\x3c";
 
@@ -32,122 +37,168 @@ const KEY_24: &[u8] =
 const KEY_32: &[u8] =
     b"\x60\x3d\xeb\x10\x15\xca\x71\xbe\x2b\x73\xae\xf0\x85\x7d\x77\x81\x1f\x35\x2c\x07\x3b\x61\x08\xd7\x2d\x98\x10\xa3\x09\x14\xdf\xf4";
 
-fn cmac_of(alloc: Global, key: &[u8], text: &[u8], length: usize) -> Result<Bytes, TinkError> {
-    AesCmacPrf::new(alloc, key)?.compute_prf(alloc, text, length)
-}
-
-const CMAC_CASES: [(&[u8], usize, &[u8]); 6] = [
-    (
-        KEY_16,
-        0,
-        b"\xbb\x1d\x69\x29\xe9\x59\x37\x28\x7f\xa3\x7d\x12\x9b\x75\x67\x46",
-    ),
-    (
-        KEY_16,
-        16,
-        b"\x07\x0a\x16\xb4\x6b\x4d\x41\x44\xf7\x9b\xdd\x9d\xd0\x4a\x28\x7c",
-    ),
-    (
-        KEY_16,
-        40,
-        b"\xdf\xa6\x67\x47\xde\x9a\xe6\x30\x30\xca\x32\x61\x14\x97\xc8\x27",
-    ),
-    (
-        KEY_24,
-        40,
-        b"\x8a\x1d\xe5\xbe\x2e\xb3\x1a\xad\x08\x9a\x82\xe6\xee\x90\x8b\x0e",
-    ),
-    (
-        KEY_32,
-        40,
-        b"\xaa\xf3\xd8\xf1\xde\x56\x40\xc2\x32\xf5\xb1\x69\xb9\xc9\x11\xe6",
-    ),
-    (KEY_16, 16, b"\x07\x0a\x16\xb4\x6b"),
-];
-
-#[test]
-fn aes_cmac_of_the_standard(rt: HostRuntime) {
-    for (key, size, want) in &CMAC_CASES {
-        let text = &CMAC_TEXT[..(*size).min(40)];
-        let made = cmac_of(rt.alloc(), key, text, want.len());
-        is(&rt, gives(made, want), "AES-CMAC");
-    }
-}
-
 // RFC 5869, A.1 and A.4: the salt and the info of both.
 const SALT: &[u8] = b"\x00\x01\x02\x03\x04\x05\x06\x07\x08\x09\x0a\x0b\x0c";
 
 const INFO: &[u8] = b"\xf0\xf1\xf2\xf3\xf4\xf5\xf6\xf7\xf8\xf9";
 
-fn hkdf_of(alloc: Global, hash: HashType, key: &[u8], length: usize) -> Result<Bytes, TinkError> {
-    HkdfPrf::new(alloc, hash, key, SALT)?.compute_prf(alloc, INFO, length)
-}
-
-const HKDF_CASES: [(HashType, &[u8], &[u8]); 2] = [
-    (
-        HashType::Sha256,
-        &[0x0b; 22],
-        b"\x3c\xb2\x5f\x25\xfa\xac\xd5\x7a\x90\x43\x4f\x64\xd0\x36\x2f\x2a\x2d\x2d\x0a\x90\xcf\x1a\x5a\x4c\x5d\xb0\x2d\x56\xec\xc4\xc5\xbf\x34\x00\x72\x08\xd5\xb8\x87\x18\x58\x65",
-    ),
-    (
-        HashType::Sha1,
-        &[0x0b; 11],
-        b"\x08\x5a\x01\xea\x1b\x10\xf3\x69\x33\x06\x8b\x56\xef\xa5\xad\x81\xa4\xf1\x4b\x82\x2f\x5b\x09\x15\x68\xa9\xcd\xd4\xf1\x55\xfd\xa2\xc2\x2e\x42\x24\x78\xd3\x05\xf3\xf8\x96",
-    ),
-];
-
-#[test]
-fn hkdf_of_the_standard(rt: HostRuntime) {
-    for (hash, key, want) in &HKDF_CASES {
-        let made = hkdf_of(rt.alloc(), *hash, key, want.len());
-        is(&rt, gives(made, want), "HKDF");
+/// So many bytes of what a function makes of a text.
+pub fn computed<P: Prf + Drop>(
+    made: Result<P, TinkError>,
+    alloc: Global,
+    text: &[u8],
+    length: usize,
+) -> Result<Bytes, TinkError> {
+    match made {
+        Ok(prf) => prf.compute_prf(alloc, text, length),
+        Err(e) => Err(e),
     }
 }
 
-// Test case 1 of RFC 2202 (SHA-1) and of RFC 4231, a prefix of each output.
-const HMAC_CASES: [(HashType, &[u8]); 5] = [
+#[derive(Clone, Copy)]
+enum Of {
+    AesCmac,
+    Hkdf(HashType),
+    Hmac(HashType),
+}
+
+fn output(
+    alloc: Global,
+    of: Of,
+    key: &[u8],
+    text: &[u8],
+    length: usize,
+) -> Result<Bytes, TinkError> {
+    match of {
+        Of::AesCmac => computed(AesCmacPrf::new(alloc, key), alloc, text, length),
+        Of::Hkdf(hash) => computed(HkdfPrf::new(alloc, hash, key, SALT), alloc, text, length),
+        Of::Hmac(hash) => computed(HmacPrf::new(alloc, hash, key), alloc, text, length),
+    }
+}
+
+// The name of a row, the function, the key, the text, and the output.
+const VECTORS: &[(&str, Of, &[u8], &[u8], &[u8])] = &[
+    // RFC 4493, section 4, and SP 800-38B, D.1 to D.3.
     (
-        HashType::Sha1,
+        "AES-CMAC with a key of 16, of 0 bytes",
+        Of::AesCmac,
+        KEY_16,
+        b"",
+        b"\xbb\x1d\x69\x29\xe9\x59\x37\x28\x7f\xa3\x7d\x12\x9b\x75\x67\x46",
+    ),
+    (
+        "AES-CMAC with a key of 16, of 16 bytes",
+        Of::AesCmac,
+        KEY_16,
+        CMAC_16,
+        b"\x07\x0a\x16\xb4\x6b\x4d\x41\x44\xf7\x9b\xdd\x9d\xd0\x4a\x28\x7c",
+    ),
+    (
+        "AES-CMAC with a key of 16, of 40 bytes",
+        Of::AesCmac,
+        KEY_16,
+        CMAC_40,
+        b"\xdf\xa6\x67\x47\xde\x9a\xe6\x30\x30\xca\x32\x61\x14\x97\xc8\x27",
+    ),
+    (
+        "AES-CMAC with a key of 24, of 40 bytes",
+        Of::AesCmac,
+        KEY_24,
+        CMAC_40,
+        b"\x8a\x1d\xe5\xbe\x2e\xb3\x1a\xad\x08\x9a\x82\xe6\xee\x90\x8b\x0e",
+    ),
+    (
+        "AES-CMAC with a key of 32, of 40 bytes",
+        Of::AesCmac,
+        KEY_32,
+        CMAC_40,
+        b"\xaa\xf3\xd8\xf1\xde\x56\x40\xc2\x32\xf5\xb1\x69\xb9\xc9\x11\xe6",
+    ),
+    (
+        "AES-CMAC with a key of 16, of 16 bytes, cut",
+        Of::AesCmac,
+        KEY_16,
+        CMAC_16,
+        b"\x07\x0a\x16\xb4\x6b",
+    ),
+    // RFC 5869, A.1 and A.4.
+    (
+        "HKDF with SHA-256",
+        Of::Hkdf(HashType::Sha256),
+        &[0x0b; 22],
+        INFO,
+        b"\x3c\xb2\x5f\x25\xfa\xac\xd5\x7a\x90\x43\x4f\x64\xd0\x36\x2f\x2a\x2d\x2d\x0a\x90\xcf\x1a\x5a\x4c\x5d\xb0\x2d\x56\xec\xc4\xc5\xbf\x34\x00\x72\x08\xd5\xb8\x87\x18\x58\x65",
+    ),
+    (
+        "HKDF with SHA-1",
+        Of::Hkdf(HashType::Sha1),
+        &[0x0b; 11],
+        INFO,
+        b"\x08\x5a\x01\xea\x1b\x10\xf3\x69\x33\x06\x8b\x56\xef\xa5\xad\x81\xa4\xf1\x4b\x82\x2f\x5b\x09\x15\x68\xa9\xcd\xd4\xf1\x55\xfd\xa2\xc2\x2e\x42\x24\x78\xd3\x05\xf3\xf8\x96",
+    ),
+    // Test case 1 of RFC 2202 (SHA-1) and of RFC 4231, a prefix of each output.
+    (
+        "HMAC with SHA-1",
+        Of::Hmac(HashType::Sha1),
+        &[0x0b; 20],
+        b"Hi There",
         b"\xb6\x17\x31\x86\x55\x05\x72\x64\xe2\x8b\xc0\xb6\xfb\x37\x8c\x8e\xf1\x46\xbe\x00",
     ),
     (
-        HashType::Sha224,
+        "HMAC with SHA-224",
+        Of::Hmac(HashType::Sha224),
+        &[0x0b; 20],
+        b"Hi There",
         b"\x89\x6f\xb1\x12\x8a\xbb\xdf\x19\x68\x32\x10\x7c\xd4\x9d\xf3\x3f",
     ),
     (
-        HashType::Sha256,
+        "HMAC with SHA-256",
+        Of::Hmac(HashType::Sha256),
+        &[0x0b; 20],
+        b"Hi There",
         b"\xb0\x34\x4c\x61\xd8\xdb\x38\x53\x5c\xa8\xaf\xce\xaf\x0b\xf1\x2b\x88\x1d\xc2\x00\xc9\x83\x3d\xa7\x26\xe9\x37\x6c\x2e\x32\xcf\xf7",
     ),
     (
-        HashType::Sha384,
+        "HMAC with SHA-384",
+        Of::Hmac(HashType::Sha384),
+        &[0x0b; 20],
+        b"Hi There",
         b"\xaf\xd0\x39\x44\xd8\x48\x95\x62\x6b\x08\x25\xf4\xab\x46\x90\x7f",
     ),
     (
-        HashType::Sha512,
+        "HMAC with SHA-512",
+        Of::Hmac(HashType::Sha512),
+        &[0x0b; 20],
+        b"Hi There",
         b"\x87\xaa\x7c\xde\xa5\xef\x61\x9d\x4f\xf0\xb4\x24\x1a\x1d\x6c\xb0",
     ),
 ];
 
-fn hmac_of(alloc: Global, hash: HashType, length: usize) -> Result<Bytes, TinkError> {
-    HmacPrf::new(alloc, hash, &[0x0b; 20])?.compute_prf(alloc, b"Hi There", length)
-}
-
 #[test]
-fn hmac_of_the_standard(rt: HostRuntime) {
-    for (hash, want) in &HMAC_CASES {
-        let made = hmac_of(rt.alloc(), *hash, want.len());
-        is(&rt, gives(made, want), "HMAC");
+fn outputs_are_those_of_the_standards(rt: HostRuntime) {
+    let alloc = rt.alloc();
+    for (row, of, key, text, want) in VECTORS {
+        let got = gives(output(alloc, *of, key, text, want.len()), want);
+        expect(&rt, got, Ok(true), row);
     }
 }
 
+// A code is a prefix of HMAC: that of RFC 4231, and that of the hash alone.
 #[test]
 fn a_code_is_a_prefix_of_hmac(rt: HostRuntime) {
     let code = code_of(rt.alloc(), &[0x0b; 20], b"Hi There");
-    is(&rt, gives(code, &HMAC_CASES[2].1[..16]), "a code");
+    let want = b"\xb0\x34\x4c\x61\xd8\xdb\x38\x53\x5c\xa8\xaf\xce\xaf\x0b\xf1\x2b";
+    expect(&rt, gives(code, want), Ok(true), "a code of the standard");
+    let code = code_of(rt.alloc(), &COUNT[..32], b"abc");
+    let got = gives(code, &code_by_hash(&COUNT[..32])[..16]);
+    expect(&rt, got, Ok(true), "a code by the hash alone");
 }
 
-fn output_of(alloc: Global, prf: &PrfKind) -> Result<Bytes, TinkError> {
-    prf.compute_prf(alloc, b"abc", 16)
+/// HMAC of `abc` with SHA-256, by the hash alone.
+pub fn code_by_hash(key: &[u8]) -> [u8; 32] {
+    let mut code = [0u8; 32];
+    hmac_into(Hash::Sha256, key, b"abc", &[], &[], &mut code);
+    code
 }
 
 // A copy, which was a primitive on its way.
@@ -155,40 +206,33 @@ fn copy_of(alloc: Global, prf: &PrfKind) -> Result<PrfKind, TinkError> {
     Primitive::<PrfKinds>::Prf(prf.try_clone(alloc)?).into_prf()
 }
 
-fn output_of_copy(alloc: Global, prf: &PrfKind) -> Result<Bytes, TinkError> {
-    output_of(alloc, &copy_of(alloc, prf)?)
+fn new_prf(alloc: Global, of: Of, key: &[u8]) -> Result<PrfKind, TinkError> {
+    match of {
+        Of::AesCmac => Ok(PrfKind::AesCmac(AesCmacPrf::new(alloc, key)?)),
+        Of::Hkdf(hash) => Ok(PrfKind::Hkdf(HkdfPrf::new(alloc, hash, key, b"salt")?)),
+        Of::Hmac(hash) => Ok(PrfKind::Hmac(HmacPrf::new(alloc, hash, key)?)),
+    }
 }
 
 // Whether a function's copy gives what its source gives.
-fn is_copied(alloc: Global, made: Result<PrfKind, TinkError>) -> Result<bool, TinkError> {
-    let prf = made?;
-    let output = output_of(alloc, &prf)?;
-    Ok(gives(output_of_copy(alloc, &prf), output.as_slice()))
+fn is_copied(alloc: Global, of: Of, key: &[u8]) -> Result<bool, TinkError> {
+    let prf = new_prf(alloc, of, key)?;
+    let output = prf.compute_prf(alloc, b"abc", 16)?;
+    let copied = computed(copy_of(alloc, &prf), alloc, b"abc", 16);
+    gives(copied, output.as_slice())
 }
 
-fn cmac(alloc: Global, key: &[u8]) -> Result<PrfKind, TinkError> {
-    Ok(PrfKind::AesCmac(AesCmacPrf::new(alloc, key)?))
-}
+const COPIES: &[(&str, Of, &[u8])] = &[
+    ("AES-CMAC with 16 bytes", Of::AesCmac, KEY_16),
+    ("AES-CMAC with 24 bytes", Of::AesCmac, KEY_24),
+    ("AES-CMAC with 32 bytes", Of::AesCmac, KEY_32),
+    ("HKDF", Of::Hkdf(HashType::Sha256), KEY_32),
+    ("HMAC", Of::Hmac(HashType::Sha512), KEY_32),
+];
 
-fn hkdf(alloc: Global) -> Result<PrfKind, TinkError> {
-    let prf = HkdfPrf::new(alloc, HashType::Sha256, KEY_32, b"salt")?;
-    Ok(PrfKind::Hkdf(prf))
-}
-
-fn hmac(alloc: Global) -> Result<PrfKind, TinkError> {
-    let prf = HmacPrf::new(alloc, HashType::Sha512, KEY_32)?;
-    Ok(PrfKind::Hmac(prf))
-}
-
-// A copy of each kind gives what its source gives.
 #[test]
 fn copies_give_the_same(rt: HostRuntime) {
-    for key in &[KEY_16, KEY_24, KEY_32] {
-        let copied = is_copied(rt.alloc(), cmac(rt.alloc(), key));
-        is(&rt, holds(copied), "AES-CMAC");
+    for (row, of, key) in COPIES {
+        expect(&rt, is_copied(rt.alloc(), *of, key), Ok(true), row);
     }
-    let hkdf = is_copied(rt.alloc(), hkdf(rt.alloc()));
-    is(&rt, holds(hkdf), "HKDF");
-    let hmac = is_copied(rt.alloc(), hmac(rt.alloc()));
-    is(&rt, holds(hmac), "HMAC");
 }

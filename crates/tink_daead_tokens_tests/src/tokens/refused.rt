@@ -1,6 +1,6 @@
 //! What is no token, and tokens that no key accepts.
 
-use crate::support::{ID, TOKEN, answer, is, macs, macs_of};
+use crate::tokens::support::{ID, TOKEN, answer, is, macs, macs_of};
 use std::alloc::Global;
 use tink_core::{Kind, TinkError};
 use tink_mac::{MacKind, WrappedMac};

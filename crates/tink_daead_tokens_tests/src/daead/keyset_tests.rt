@@ -3,7 +3,7 @@
 ghost use Rattle.tink_io.specs.Told.{Answers};
 ghost use Rattle.tink_daead.specs.Wrapped.{primary_encrypts};
 
-use crate::common::{expect, refusal_of};
+use crate::daead::common::{expect, refusal_of};
 use std::alloc::Global;
 use tink_core::keyset::Handle;
 use tink_core::registry::{KeyManager, Registry};

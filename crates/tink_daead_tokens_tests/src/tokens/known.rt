@@ -2,7 +2,9 @@
 
 ghost use Rattle.std.specs.Prelude.{◌≡◌, IfOk};
 
-use crate::support::{DRAWS, ID, PAYLOAD, TOKEN, answer, is, macs, macs_by, macs_of, rotate};
+use crate::tokens::support::{
+    DRAWS, ID, PAYLOAD, TOKEN, answer, is, macs, macs_by, macs_of, rotate,
+};
 use std::alloc::Global;
 use tink_core::keyset::{Handle, Manager};
 use tink_core::registry::Registry;

@@ -4,7 +4,7 @@ ghost use Rattle.std.specs.Prelude.{Ok};
 ghost use Rattle.tink_io.specs.Told.{Answers};
 ghost use Rattle.tink_daead.specs.AesSiv.{aes_siv};
 
-use crate::common::{expect, expect_at, refusal_of};
+use crate::daead::common::{expect, expect_at, refusal_of};
 use hash_keys::Hash;
 use std::alloc::Global;
 use tink_core::{CloneIn, DeterministicAead, Kind, TinkError};

@@ -1,0 +1,5 @@
+//! AES-SIV under one key, its keys and template, and the deterministic AEADs of keysets.
+
+mod common;
+mod keyset_tests;
+mod siv_tests;

@@ -1,0 +1,7 @@
+//! Tests of deterministic AEADs and of signed tokens, by their public calls.
+#![tactic(auto)]
+
+#[cfg(test)]
+mod daead;
+#[cfg(test)]
+mod tokens;

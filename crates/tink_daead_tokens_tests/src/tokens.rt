@@ -1,0 +1,5 @@
+//! Signed tokens.
+
+mod known;
+mod refused;
+mod support;

@@ -1,0 +1,87 @@
+//! Each task over one registry of all managers.
+
+use crate::comparing::expect;
+use crate::rotation::edited_keyset_runs;
+use crate::tasks::{
+    a_keyset_in_json_is_encrypted, a_mac_is_of_its_message, a_stream_is_read_in_pieces,
+    a_value_is_encrypted, new_keyset, old_data_opens_after_a_rotation,
+};
+use crate::templates::templates_build;
+use std::alloc::Global;
+use std::process::Abort;
+use tink::aead::aes128_gcm_key_template;
+use tink::keyset::Handle;
+use tink::mac::hmac_sha256_tag128_key_template;
+use tink::streaming_aead::aes128_gcm_hkdf_4kb_key_template;
+use tink::{Managers, Registry, TinkError, registry};
+use tink_proto::KeyTemplate;
+
+#[derive(Clone, Copy)]
+enum Task {
+    Encrypt,
+    Rotate,
+    Mac,
+    Json,
+    Stream,
+}
+
+fn template(alloc: Global, task: Task) -> Result<KeyTemplate, TinkError> {
+    match task {
+        Task::Mac => hmac_sha256_tag128_key_template(alloc),
+        Task::Stream => aes128_gcm_hkdf_4kb_key_template(alloc),
+        _ => aes128_gcm_key_template(alloc),
+    }
+}
+
+// Whether a task is done under a keyset.
+fn is_done_under(
+    alloc: Global,
+    registry: &Registry<Managers>,
+    keyset: &Handle,
+    task: Task,
+) -> Result<bool, TinkError> {
+    match task {
+        Task::Encrypt => a_value_is_encrypted(alloc, registry, keyset),
+        Task::Rotate => old_data_opens_after_a_rotation(alloc, registry, keyset),
+        Task::Mac => a_mac_is_of_its_message(alloc, registry, keyset),
+        Task::Json => a_keyset_in_json_is_encrypted(alloc, registry, keyset),
+        Task::Stream => a_stream_is_read_in_pieces(alloc, registry, keyset),
+    }
+}
+
+// The same under a new keyset.
+fn is_done(alloc: Global, registry: &Registry<Managers>, task: Task) -> Result<bool, TinkError> {
+    let kt = template(alloc, task)?;
+    match new_keyset(alloc, registry, &kt) {
+        Ok(keyset) => is_done_under(alloc, registry, &keyset, task),
+        Err(e) => Err(e),
+    }
+}
+
+const TASKS: &[(&str, Task)] = &[
+    ("a value is encrypted", Task::Encrypt),
+    ("old data opens after a rotation", Task::Rotate),
+    ("a MAC is of its message", Task::Mac),
+    ("a keyset in JSON is encrypted", Task::Json),
+    ("a stream is read in pieces", Task::Stream),
+];
+
+fn do_all(rt: &impl Abort, alloc: Global, registry: &Registry<Managers>) {
+    for (row, task) in TASKS {
+        expect(rt, is_done(alloc, registry, *task), row);
+    }
+    let all = templates_build(alloc, registry);
+    expect(rt, all, "26 templates make keys that build");
+    let destroyed = edited_keyset_runs(alloc, registry, false);
+    expect(rt, destroyed, "a key is added and destroyed");
+    let rotated = edited_keyset_runs(alloc, registry, true);
+    expect(rt, rotated, "a stream opens after a rotation");
+}
+
+#[test]
+fn each_task_is_done(rt: HostRuntime) {
+    match registry(rt.alloc()) {
+        Ok(registry) => do_all(&rt, rt.alloc(), &registry),
+        Err(e) => expect(&rt, Err(e), "the registry"),
+    }
+}
