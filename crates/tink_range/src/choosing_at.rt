@@ -45,7 +45,8 @@ fn front_at<A: ReadAt, T: DerivesStreams>(
         (λ memory. (HasFront (opening_key aad.now (T.key_of key.now)) held.new
         → (opening_key aad.now (T.key_of key.now)).seg
         (header_of (opening_key aad.now (T.key_of key.now)) held.new) ≡ None))) }
-    ensures room { IfOk result (λ r. MatchResult r (λ o. 7 ≤ vec_capacity o.prefix) (λ memory. 7 ≤ vec_capacity memory)) }
+    ensures room { IfOk result (λ r. MatchResult r
+        (λ o. 7 ≤ vec_capacity o.prefix) (λ memory. 7 ≤ vec_capacity memory)) }
     ensures kept { IsKept A.length_of A.bytes A.faults object.old object.new }
     ensures rose { OnErr result (Rose (A.faults object.old) (A.faults object.new)) }
     ensures same { A.same object.old object.new }
@@ -86,8 +87,8 @@ fn try_at<A: ReadAt, T: DerivesStreams, L: Ledger>(
     requires text { (T.key_of key.now).segment ≤ vec_capacity text.old }
     requires nonce { nonce_size (T.key_of key.now) ≤ vec_len nonce.old }
     ensures answer { IfOk result (λ r. MatchResult r
-        (λ b. DoesBeginAt (opening_key aad.now (T.key_of key.now)) (nonce_size (T.key_of key.now)) (A.length_of object.old)
-        (A.bytes object.old) (numbered (segment_by b.opener.decrypter) b.opener.nonce_size b.opener.prefix.items)
+        (λ b. DoesBeginAt (opening_key aad.now (T.key_of key.now)) (nonce_size (T.key_of key.now))
+        (A.length_of object.old) (A.bytes object.old) (numbered (segment_by b.opener.decrypter) b.opener.nonce_size b.opener.prefix.items)
         b.front b.opener.first b.opener.size b.opener.overhead b.opener.nonce_size steps.old steps.new)
         (λ memory. DoesNotBeginAt (opening_key aad.now (T.key_of key.now)) (A.bytes object.old) steps.old steps.new
         (vec_capacity memory))) }

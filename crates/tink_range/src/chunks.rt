@@ -88,8 +88,8 @@ impl<D: SegmentDecrypter> RangeCore<D> {
         requires before { place.text < hi }
         requires touched { lo < place.text + (min (self.old.behind - place.start)
             (room_at self.old.opener.first self.old.opener.size place.number) - self.old.opener.overhead) }
-        ensures answer { OneMeans K.got K.faults (segment_map self.old.opener) (chunk_in self.old place.number place.start)
-            self.old.opener.overhead lo hi place.text
+        ensures answer { OneMeans K.got K.faults (segment_map self.old.opener)
+            (chunk_in self.old place.number place.start) self.old.opener.overhead lo hi place.text
             (record {
               all = A.bytes object.old;
               reads_before = A.faults object.old;
@@ -132,7 +132,8 @@ impl<D: SegmentDecrypter> RangeCore<D> {
 
     // How many bytes the text has.
     pub fn text_len(&self) -> u64
-        ensures { result ≡ text_length self.now.opener.first self.now.opener.size self.now.opener.overhead self.now.behind }
+        ensures { result ≡ text_length self.now.opener.first self.now.opener.size self.now.opener.overhead
+            self.now.behind }
     {
         let shape = self.shape();
         shape.text
@@ -149,9 +150,11 @@ impl<D: SegmentDecrypter> RangeCore<D> {
         requires number { number < 2 ^ 32 }
         requires start { start < self.old.behind }
         requires object { self.old.front + self.old.behind ≡ A.length_of object.old }
-        requires shape { (X : List ℕ) → length X ≡ self.old.behind → IsLast self.old.opener.first self.old.opener.size X number start }
+        requires shape { (X : List ℕ) → length X ≡ self.old.behind
+            → IsLast self.old.opener.first self.old.opener.size X number start }
         requires room { self.old.behind ≤ start + room_at self.old.opener.first self.old.opener.size number }
-        ensures answer { LastMeans (cutting_of self.old) self.old.behind (A.bytes object.old) (A.faults object.old) (A.faults object.new) result }
+        ensures answer { LastMeans (cutting_of self.old) self.old.behind (A.bytes object.old)
+            (A.faults object.old) (A.faults object.new) result }
         ensures ticks { steps.new ≤ steps.old + 1 }
         ensures core { IsSameCore self.old self.new }
         ensures kept { IsKept A.length_of A.bytes A.faults object.old object.new }

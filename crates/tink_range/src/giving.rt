@@ -26,7 +26,8 @@ fn give_from<A: ReadAt, D: SegmentDecrypter, K: Sink, L: Ledger>(
     requires object { core.old.front + core.old.behind ≡ A.length_of object.old }
     requires chunks { chunk_count core.old.opener.first core.old.opener.size core.old.behind ≤ 2 ^ 32 }
     requires range { lo < hi }
-    requires within { hi ≤ text_length core.old.opener.first core.old.opener.size core.old.opener.overhead core.old.behind }
+    requires within { hi ≤ text_length core.old.opener.first core.old.opener.size core.old.opener.overhead
+        core.old.behind }
     requires place { IsPlace core.old.opener.first core.old.opener.size core.old.opener.overhead core.old.behind lo
         from.number from.start from.text }
     requires low { from.text ≤ lo }
@@ -74,7 +75,8 @@ pub fn give_range<A: ReadAt, D: SegmentDecrypter, K: Sink, L: Ledger>(
 ) -> Result<u64, TinkError>
     requires object { core.old.front + core.old.behind ≡ A.length_of object.old }
     requires chunks { chunk_count core.old.opener.first core.old.opener.size core.old.behind ≤ 2 ^ 32 }
-    requires within { hi ≤ text_length core.old.opener.first core.old.opener.size core.old.opener.overhead core.old.behind }
+    requires within { hi ≤ text_length core.old.opener.first core.old.opener.size core.old.opener.overhead
+        core.old.behind }
     ensures answer { GiveMeans K.got K.faults (cutting_of core.old) lo hi
         (record {
           all = A.bytes object.old;

@@ -23,8 +23,8 @@ use tink_primitives::Refused;
 use tink_segments::StreamSegment;
 use tink_streaming_aead::WrappedStreamingAead;
 
-/// A reader of ranges of the text of the stream that an object is. Each range is opened from the chunks that it touches,
-/// after the last chunk, so that an object which was cut gives nothing.
+/// A reader of ranges of the text of the stream that an object is. Each range is opened from the chunks that it
+/// touches, after the last chunk, so that an object which was cut gives nothing.
 #[derive(Drop)]
 pub struct RangeReader<A: ReadAt> {
     object: A,
@@ -58,8 +58,8 @@ impl<A: ReadAt> RangeReader<A> {
         steps: &mut Steps<L>,
     ) -> Result<RangeReader<A>, Refused<A>>
         ensures found { IfOk result (λ r. IfSome (A.bytes object) (λ S.
-            Found (map (opening_key aad.now) w.now.keys) S (cut_by r).seg (cut_by r).front (cut_by r).first (cut_by r).size
-            (cut_by r).over)) }
+            Found (map (opening_key aad.now) w.now.keys) S (cut_by r).seg (cut_by r).front (cut_by r).first
+            (cut_by r).size (cut_by r).over)) }
         ensures whole { IfOk result (λ r. r.front + r.behind ≡ A.length_of r.object) }
         ensures refused { IfErr result (λ refused. NewRefused A.bytes A.faults (map (opening_key aad.now) w.now.keys)
             object refused.inner refused.error.kind) }
@@ -116,8 +116,8 @@ impl<A: ReadAt> RangeReader<A> {
             })
             result }
         ensures ticks { steps.new ≤ steps.old + (range_end (cut_by self.old) self.old.behind start len
-            - range_start (cut_by self.old) self.old.behind start + (self.old.opening.size - self.old.opening.overhead) - 1)
-            / (self.old.opening.size - self.old.opening.overhead) + 2 }
+            - range_start (cut_by self.old) self.old.behind start + (self.old.opening.size
+            - self.old.opening.overhead) - 1) / (self.old.opening.size - self.old.opening.overhead) + 2 }
         ensures opening { self.new.opening ≡ self.old.opening }
         ensures front { self.new.front ≡ self.old.front }
         ensures behind { self.new.behind ≡ self.old.behind }
