@@ -1,4 +1,4 @@
-//! Tests of the commands over files: words, places and files of keys.
+//! Tests of the commands over files, over memory: words, places, files of keys and streams.
 #![tactic(auto)]
 
 #[cfg(test)]
@@ -6,9 +6,6 @@ mod key_file_tests;
 #[cfg(test)]
 mod place_tests;
 #[cfg(test)]
+mod stream_tests;
+#[cfg(test)]
 mod word_tests;
-
-/// Whether two texts are the same.
-pub fn is_same(one: &[u8], other: &[u8]) -> bool {
-    one == other
-}
