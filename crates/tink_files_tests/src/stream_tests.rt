@@ -1,3 +1,5 @@
+ghost use Rattle.std.specs.Prelude.{◌≡◌, IfSome, true};
+
 use std::alloc::Global;
 use tink_files::{edit_keys, new_keys, rotate_keys, run_to};
 use tink_io::{Draws, Kind, SureSource};
@@ -24,7 +26,9 @@ fn draws_from(alloc: Global, first: u8) -> Option<Draws> {
 }
 
 // A place where nothing stands.
-fn place(alloc: Global) -> Option<MemPlace> {
+fn place(alloc: Global) -> Option<MemPlace>
+    ensures { IfSome result (λ p. p.has_draft ≡ true) }
+{
     MemPlace::new(alloc, ROOM, None).ok()
 }
 
