@@ -1,4 +1,4 @@
-//! Tests of the commands over files: words, places and files of keys.
+//! Tests of the commands over files, over memory: words, places and files of keys.
 #![tactic(auto)]
 
 #[cfg(test)]
@@ -7,8 +7,3 @@ mod key_file_tests;
 mod place_tests;
 #[cfg(test)]
 mod word_tests;
-
-/// Whether two texts are the same.
-pub fn is_same(one: &[u8], other: &[u8]) -> bool {
-    one == other
-}

@@ -4,6 +4,7 @@ use tink_place::{MemPlace, finish, save};
 
 // What is there before, and what is written.
 const BEFORE: &[u8] = b"before";
+
 const TEXT: &[u8] = b"a text";
 
 // A place with so much room under whose name a file stands.

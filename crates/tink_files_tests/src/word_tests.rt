@@ -14,7 +14,10 @@ const LINES: [(&str, Option<Action>); 22] = [
     ("delete keys 5", Some(Action::Delete)),
     ("delete keys", None),
     ("encrypt -k keys", Some(Action::Encrypt)),
-    ("encrypt -k keys -o out --aad -x in -q", Some(Action::Encrypt)),
+    (
+        "encrypt -k keys -o out --aad -x in -q",
+        Some(Action::Encrypt),
+    ),
     ("encrypt in", None),
     ("encrypt -k keys --format json in", None),
     ("decrypt --keys keys - --quiet", Some(Action::Decrypt)),
