@@ -1,0 +1,49 @@
+//! A caller of `rewrap`, whose clause follows from that of the call.
+
+ghost use Rattle.std.specs.Prelude.{[], Some, IfOk};
+ghost use Rattle.tink_rewrap.specs.Promises.{IsWholeRewrap};
+ghost use Rattle.tink_run.specs.Outside.{Outside};
+
+use crate::support::{CTR_35, GCM_41, counted, is, roomy, sealed};
+use std::alloc::Global;
+use std::test::Fail;
+use tink_io::{Draws, SureSink, SureSource, TinkError};
+use tink_rewrap::rewrap;
+use tink_run::report::Report;
+
+// Moves a stream in memory, without associated data. After `Ok` it was exactly a stream of the chosen key of the one
+// keyset, and the sink got exactly the stream of its text under the primary key of the other and the first draws.
+fn move_stream(
+    alloc: Global,
+    from: &[u8],
+    to: &[u8],
+    draws: &mut Draws,
+    stream: &mut SureSource,
+    moved: &mut SureSink,
+) -> Result<Report, TinkError>
+    ensures moved { IfOk result (λ report. IsWholeRewrap
+        (record { from = from.now; from_aad = []; to = to.now; to_aad = [] })
+        draws.old draws.new stream.old moved.old.got
+        (record { left = Some stream.new; read_faults = 0; got = Some moved.new.got; write_faults = moved.new.faults })
+        report) }
+{
+    rewrap(alloc, from, &[], to, &[], draws, stream, moved)
+}
+
+#[test]
+fn a_stream_is_moved_in_memory(rt: HostRuntime) -> Result<(), Fail> {
+    let alloc = rt.alloc();
+    let from = hex::decode(alloc, CTR_35)?;
+    let to = hex::decode(alloc, GCM_41)?;
+    let mut draws = Draws::new(counted(alloc, 23)?);
+    let mut stream = SureSource::new(sealed(alloc, (CTR_35, ""), 1)?.written);
+    let mut sink = roomy(alloc, 41)?;
+    let moved = move_stream(alloc, &from, &to, &mut draws, &mut stream, &mut sink);
+    let want = Report {
+        segments: 1,
+        bytes: 1,
+    };
+    is(&rt, moved == Ok(want), "one segment");
+    is(&rt, sink.into_bytes().len() == 41, "a front, a byte and a tag");
+    Ok(())
+}
