@@ -1,6 +1,6 @@
 //! Bytes and words by their text.
 
-use std::alloc::Global;
+use std::alloc::{AllocError, Global};
 use tink_io::{Kind, TinkError};
 
 /// The templates of streams, and then the others, by their number.
@@ -64,48 +64,57 @@ pub fn of_digits(alloc: Global, digits: &[u8]) -> Result<Vec<u8>, TinkError> {
     }
 }
 
-/// The words of a text, apart by blanks: a name stands for the digits of its bytes, `@n` for a template, `''` for no
-/// text and `␣` for a blank.
-pub fn words_of(alloc: Global, kept: &[Named], text: &str) -> Result<Vec<String>, TinkError> {
-    let mut words = Vec::new(alloc);
+/// Puts the words of a text, apart by blanks: a name stands for the digits of its bytes, `@n` for a template, `''` for
+/// no text and `␣` for a blank.
+pub fn put_words(
+    alloc: Global,
+    kept: &[Named],
+    text: &str,
+    words: &mut Vec<String>,
+) -> Result<(), TinkError> {
     if !text.is_empty() {
         for word in text.split(' ') {
             words.push(word_of(alloc, kept, word)?)?;
         }
     }
-    Ok(words)
+    Ok(())
 }
 
-fn word_of(alloc: Global, kept: &[Named], word: &str) -> Result<String, TinkError> {
-    if let Some(bytes) = known(kept, word) {
-        return Ok(hex::encode(alloc, bytes)?);
+fn word_of(alloc: Global, kept: &[Named], word: &str) -> Result<String, AllocError> {
+    match known(kept, word) {
+        Some(bytes) => hex::encode(alloc, bytes),
+        None => spelled(word).replace(alloc, '␣', " "),
     }
-    if let Some(place) = word.strip_prefix('@') {
-        let template = TEMPLATES.get(number(place)).copied().unwrap_or("");
-        return Ok(String::from_str(alloc, template)?);
-    }
+}
+
+fn spelled(word: &str) -> &str {
     if word == "''" {
-        return Ok(String::new(alloc));
+        return "";
     }
-    Ok(word.replace(alloc, '␣', " ")?)
+    match word.strip_prefix('@') {
+        Some(place) => TEMPLATES.get(number(place)).copied().unwrap_or(""),
+        None => word,
+    }
 }
 
-/// The bytes of a text: of `'` and letters these; else of terms apart by blanks, one behind the other.
-pub fn bytes_of(alloc: Global, kept: &[Named], text: &str) -> Result<Vec<u8>, TinkError> {
-    let mut bytes = Vec::new(alloc);
+/// Puts the bytes of a text: of `'` and letters these; else of terms apart by blanks.
+pub fn put_bytes(
+    alloc: Global,
+    kept: &[Named],
+    text: &str,
+    bytes: &mut Vec<u8>,
+) -> Result<(), TinkError> {
     if let Some(letters) = text.strip_prefix('\'') {
-        bytes.extend_from_slice(letters.as_bytes())?;
-    } else if !text.is_empty() {
-        for term in text.split(' ') {
-            put_term(alloc, kept, term, &mut bytes)?;
-        }
+        return Ok(bytes.extend_from_slice(letters.as_bytes())?);
     }
-    Ok(bytes)
+    for term in text.split(' ') {
+        put_term(alloc, kept, term, bytes)?;
+    }
+    Ok(())
 }
 
-// The bytes of a term: of `#n` the counted text of n bytes; of `.n` the byte n; of a name or of hexadecimal digits
-// these bytes, of which `/at/count/mask` takes so many from a place, each changed by a mask; a count of `-n` leaves out
-// the last n.
+// Puts the bytes of a term: of `#n` the counted text of n bytes; of a name or of hexadecimal digits these bytes, of which
+// `/at/count/mask` takes so many from a place, each changed by a mask; a count of `-n` leaves out the last n.
 fn put_term(
     alloc: Global,
     kept: &[Named],
@@ -115,9 +124,6 @@ fn put_term(
     if let Some(count) = term.strip_prefix('#') {
         return put_counted(bytes, number(count));
     }
-    if let Some(byte) = term.strip_prefix('.') {
-        return Ok(bytes.push(byte.parse::<u8>().unwrap_or(0))?);
-    }
     let (name, cut) = term.split_once('/').unwrap_or((term, "0/-0"));
     match known(kept, name) {
         Some(whole) => put_part(bytes, whole, cut),
@@ -125,17 +131,26 @@ fn put_term(
     }
 }
 
-// The part of bytes from a place.
+// Puts the part of bytes from a place.
 fn put_part(bytes: &mut Vec<u8>, whole: &[u8], cut: &str) -> Result<(), TinkError> {
-    let mut numbers = cut.split('/');
-    let at = number(numbers.next().unwrap_or(""));
-    let count = numbers.next().unwrap_or("");
-    let count = match count.strip_prefix('-') {
-        Some(last) => whole.len().saturating_sub(number(last)),
+    let (at, rest) = cut.split_once('/').unwrap_or((cut, ""));
+    let (count, mask) = rest.split_once('/').unwrap_or((rest, "0"));
+    let at = number(at).min(whole.len());
+    let end = at
+        .saturating_add(count_of(count, whole.len()))
+        .min(whole.len());
+    put_masked(bytes, &whole[at..end], mask.parse::<u8>().unwrap_or(0))
+}
+
+fn count_of(count: &str, all: usize) -> usize {
+    match count.strip_prefix('-') {
+        Some(last) => all.saturating_sub(number(last)),
         None => number(count),
-    };
-    let mask = numbers.next().unwrap_or("").parse::<u8>().unwrap_or(0);
-    for byte in whole.iter().skip(at).take(count) {
+    }
+}
+
+fn put_masked(bytes: &mut Vec<u8>, part: &[u8], mask: u8) -> Result<(), TinkError> {
+    for byte in part {
         bytes.push(*byte ^ mask)?;
     }
     Ok(())

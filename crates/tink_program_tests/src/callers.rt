@@ -9,13 +9,18 @@ ghost use Rattle.tink_proto.specs.declared.messages.keys.Keyset.{Keyset};
 ghost use Rattle.tink_run.specs.Outside.{Outside};
 ghost use Rattle.tink_run.specs.Run.{IsWholeStream};
 
-use crate::bytes::{of_digits, put_counted};
+use crate::bytes::of_digits;
+use crate::calls::draws_of;
 use std::alloc::Global;
 use tink_io::{Draws, SureSink, SureSource, TinkError};
 use tink_keygen::{key_line, keygen};
 use tink_program::program::program;
 use tink_run::report::{Command, Report};
 use tink_run::run::run;
+
+// The usual raw key.
+const KEYSET: &[u8] =
+    b"0884868808126f0a640a3d747970652e676f6f676c65617069732e636f6d2f676f6f676c652e63727970746f2e74696e6b2e416573437472486d616353747265616d696e674b65791221120d088020101018032204080310201a10000102030405060708090a0b0c0d0e0f1801100118848688082003";
 
 // Seals a text in memory, without associated data. After `Ok` the sink got exactly the stream of the text under the
 // keyset's primary key and the first draws.
@@ -56,4 +61,35 @@ fn in_memory(
         result }
 {
     program(alloc, words, input, output, line)
+}
+
+// Whether they do what they are to do.
+fn are_callers(alloc: Global) -> Result<bool, TinkError> {
+    let line = new_line(alloc, &mut draws_of(alloc, 20)?)?;
+    let mut text = SureSource::new(Vec::new(alloc));
+    let mut stream = SureSink::new(alloc);
+    stream.reserve(alloc, 56)?;
+    let keyset = of_digits(alloc, KEYSET)?;
+    let report = seal_text(
+        alloc,
+        &keyset,
+        &mut draws_of(alloc, 23)?,
+        &mut text,
+        &mut stream,
+    )?;
+    let status = in_memory(
+        alloc,
+        &Vec::new(alloc),
+        &mut text,
+        &mut stream,
+        &mut SureSink::new(alloc),
+    );
+    let is_line = line.ends_with(b"\n") && line.len() == 185;
+    let is_report = report.segments == 1 && report.bytes == 0;
+    Ok(is_line && is_report && stream.bytes().len() == 56 && status == 2)
+}
+
+#[test]
+fn callers_do_what_they_say(rt: HostRuntime) {
+    assert!(rt; are_callers(rt.alloc()) == Ok(true), "a caller");
 }

@@ -10,6 +10,7 @@ use tink_keyset_io::read_whole;
 use tink_keysets::keyset::insecure;
 use tink_primitives::DeterministicAead;
 use tink_program::program::{Outcome, program, status};
+use tink_proto::Bytes;
 use tink_run::load::load;
 use tink_run::report::{Command, Report};
 use tink_run::run::run;
@@ -51,44 +52,60 @@ fn failing(alloc: Global, settings: &str, name: &str) -> Result<Vec<u32>, TinkEr
     Ok(vec![in alloc; call.unwrap_or(0)]?)
 }
 
-/// Ends by their settings: how many bytes move in a call (`piece`), which call fails (`read`, `write`), and the room for
-/// bytes and for the line (`room`, `lines`).
+/// Ends by their settings: how many bytes move in a call (`piece`), and which call fails (`read`, `write`).
 pub fn ends_of(alloc: Global, input: Vec<u8>, settings: &str) -> Result<Ends, TinkError> {
     let piece = number_of(settings, "piece", 0);
-    let mut line = SureSink::new(alloc);
-    line.reserve(alloc, number_of(settings, "lines", 200))?;
-    let mut sink = MemSink::new(alloc, piece, failing(alloc, settings, "write")?);
-    sink.reserve(alloc, number_of(settings, "room", 40000))?;
-    let source = MemSource::new(input, piece, failing(alloc, settings, "read")?);
-    Ok(Ends { source, sink, line })
+    let (reads, writes) = (
+        failing(alloc, settings, "read")?,
+        failing(alloc, settings, "write")?,
+    );
+    Ok(Ends {
+        source: MemSource::new(input, piece, reads),
+        sink: MemSink::new(alloc, piece, writes),
+        line: SureSink::new(alloc),
+    })
 }
 
-/// The status of the call that the settings ask for, by these words.
+/// Makes the room of the settings for bytes and for the line (`room`, `lines`).
+pub fn make_room(alloc: Global, ends: &mut Ends, settings: &str) -> Result<(), TinkError> {
+    ends.line.reserve(alloc, number_of(settings, "lines", 200))?;
+    ends.sink.reserve(alloc, number_of(settings, "room", 40000))
+}
+
+/// The status of a call by these words: of one below the program where the settings or the first word ask for it, else
+/// of the program.
 pub fn call(
     alloc: Global,
     words: &Vec<String>,
     settings: &str,
     ends: &mut Ends,
 ) -> Result<u8, TinkError> {
-    if setting(settings, "load").is_some() {
-        return by_load(alloc, &keyset_of(alloc, words)?, ends);
-    }
     if let Some(draws) = setting(settings, "draws") {
         return by_run(alloc, words, settings, number(draws), ends);
     }
     if let Some(count) = setting(settings, "zeros") {
         return by_keygen(alloc, words, number(count), ends);
     }
-    if let Some(way) = setting(settings, "daead") {
-        return by_siv(alloc, words, way == "encrypt", ends);
+    if setting(settings, "load").is_some() {
+        return by_load(alloc, words, ends);
     }
-    Ok(program(
-        alloc,
-        words,
-        &mut ends.source,
-        &mut ends.sink,
-        &mut ends.line,
-    ))
+    match first_of(words) {
+        "bytes" | "encrypt" | "decrypt" => by_input(alloc, words, ends),
+        _ => Ok(program(
+            alloc,
+            words,
+            &mut ends.source,
+            &mut ends.sink,
+            &mut ends.line,
+        )),
+    }
+}
+
+fn first_of(words: &[String]) -> &str {
+    match words.first() {
+        Some(word) => word.as_str(),
+        None => "",
+    }
 }
 
 // The bytes of the second word, which is a keyset; of a dash none.
@@ -120,13 +137,8 @@ fn by_run(
     ends: &mut Ends,
 ) -> Result<u8, TinkError> {
     let keyset = keyset_of(alloc, words)?;
-    let mut bytes = Vec::new(alloc);
-    put_counted(&mut bytes, draws)?;
-    let mut draws = Draws::new(bytes);
-    let is_seal = words
-        .first()
-        .map(|it| it.as_str() == "seal")
-        .unwrap_or(false);
+    let mut draws = draws_of(alloc, draws)?;
+    let is_seal = first_of(words) == "seal";
     let command = if is_seal {
         Command::Seal
     } else {
@@ -160,33 +172,41 @@ fn is_reported(answer: &Result<Report, TinkError>, settings: &str) -> bool {
 }
 
 // The status of what `load` answers; what it loads is written.
-fn by_load(alloc: Global, keyset: &[u8], ends: &mut Ends) -> Result<u8, TinkError> {
-    match load(alloc, keyset) {
-        Ok(keys) => {
-            let text = described(alloc, &keys)?;
-            Ok(answered(write_all(&mut ends.sink, text.as_bytes()), ends))
-        }
+fn by_load(alloc: Global, words: &[String], ends: &mut Ends) -> Result<u8, TinkError> {
+    let keyset = keyset_of(alloc, words)?;
+    match load(alloc, &keyset) {
+        Ok(keys) => put_keys(alloc, &keys, ends),
         Err(e) => Ok(answered::<u8>(Err(e), ends)),
     }
 }
 
-// Of each raw key the id, the number of its prefix type and the bytes of a header and of a segment; then of the primary
-// key the bytes of a header and those that a segment has beside its text.
-fn described(alloc: Global, keys: &TypedPrimitiveSet<StreamKind>) -> Result<String, TinkError> {
-    let mut text = String::new(alloc);
-    for entry in keys.raw_entries().unwrap_or(&[]) {
-        let (id, prefix) = (entry.key_id, entry.prefix_type as i32);
-        let (header, segment) = (
-            entry.primitive.header_length(),
-            entry.primitive.segment_size(),
-        );
-        text.push_str(format!(in alloc; "{id} {prefix} {header} {segment} ")?.as_str())?;
+// Writes of the only raw key the id, the number of its prefix type and the bytes of a header and of a segment; then of
+// the primary key the bytes of a header and those that a segment has beside its text.
+fn put_keys(
+    alloc: Global,
+    keys: &TypedPrimitiveSet<StreamKind>,
+    ends: &mut Ends,
+) -> Result<u8, TinkError> {
+    match (keys.raw_entries(), keys.primary.as_ref()) {
+        (Some([it]), Some(primary)) => {
+            let (id, prefix) = (it.key_id, it.prefix_type as i32);
+            let (header, segment) = (it.primitive.header_length(), it.primitive.segment_size());
+            let key = &primary.primitive;
+            let (whole, beside) = (key.header_length(), key.overhead());
+            let text = format!(in alloc;
+                "{id} {prefix} {header} {segment} primary {whole} {beside}"
+            )?;
+            Ok(answered(write_all(&mut ends.sink, text.as_bytes()), ends))
+        }
+        _ => Ok(1),
     }
-    if let Some(entry) = keys.primary.as_ref() {
-        let (header, overhead) = (entry.primitive.header_length(), entry.primitive.overhead());
-        text.push_str(format!(in alloc; "primary {header} {overhead}")?.as_str())?;
-    }
-    Ok(text)
+}
+
+/// Draws that count up.
+pub fn draws_of(alloc: Global, count: usize) -> Result<Draws, TinkError> {
+    let mut bytes = Vec::new(alloc);
+    put_counted(&mut bytes, count)?;
+    Ok(Draws::new(bytes))
 }
 
 // The status of what `keygen` answers, by so many draws of zeros.
@@ -204,24 +224,34 @@ fn by_keygen(
     }
 }
 
-// What the AEAD of a keyset of AES-SIV makes of the input, which is written.
-fn by_siv(alloc: Global, words: &[String], seals: bool, ends: &mut Ends) -> Result<u8, TinkError> {
-    let aead = siv_of(alloc, &keyset_of(alloc, words)?)?;
-    let input = read_whole(alloc, &mut ends.source, 1000, Kind::InputTooLong)?;
-    let answer = if seals {
-        aead.encrypt_deterministically(alloc, &input, &[])
-    } else {
-        aead.decrypt_deterministically(alloc, &input, &[])
-    };
-    match answer {
-        Ok(bytes) => Ok(answered(write_all(&mut ends.sink, bytes.as_slice()), ends)),
-        Err(e) => Ok(answered::<u8>(Err(e), ends)),
+// Writes the input as it is, or what the deterministic AEAD of a keyset makes of it, by the first word.
+fn by_input(alloc: Global, words: &[String], ends: &mut Ends) -> Result<u8, TinkError> {
+    let input = read_whole(alloc, &mut ends.source, 100_000, Kind::InputTooLong)?;
+    match first_of(words) {
+        "bytes" => Ok(answered(write_all(&mut ends.sink, &input), ends)),
+        way => match siv_makes(alloc, words, &input, way == "encrypt") {
+            Ok(bytes) => Ok(answered(write_all(&mut ends.sink, bytes.as_slice()), ends)),
+            Err(e) => Ok(answered::<u8>(Err(e), ends)),
+        },
     }
 }
 
-// The deterministic AEAD of a keyset of AES-SIV.
-fn siv_of(alloc: Global, keyset: &[u8]) -> Result<WrappedDeterministicAead<AesSiv>, TinkError> {
-    let handle = insecure::valid_handle(alloc, keyset)?;
+// What the deterministic AEAD of a keyset of AES-SIV makes of an input.
+fn siv_makes(
+    alloc: Global,
+    words: &[String],
+    input: &[u8],
+    seals: bool,
+) -> Result<Bytes, TinkError> {
+    match siv_of(alloc, words) {
+        Ok(aead) if seals => aead.encrypt_deterministically(alloc, input, &[]),
+        Ok(aead) => aead.decrypt_deterministically(alloc, input, &[]),
+        Err(e) => Err(e),
+    }
+}
+
+fn siv_of(alloc: Global, words: &[String]) -> Result<WrappedDeterministicAead<AesSiv>, TinkError> {
+    let handle = insecure::valid_handle(alloc, &keyset_of(alloc, words)?)?;
     let registry = registry_of(alloc, AesSivKeyManager::new())?;
     tink_daead::new(alloc, &handle, &registry)
 }

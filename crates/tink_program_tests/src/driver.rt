@@ -5,13 +5,13 @@
 //! stands for `%` in the row, and for each of a second range, which stands for `~`. A setting `keep=NAME` gives what was
 //! written a name, and `line=NAME` the bytes whose digits were written as a line; the words `bytes` write their input.
 
-use crate::bytes::{Named, bytes_of, number, of_digits, words_of};
-use crate::calls::{call, ends_of, number_of, setting};
+use crate::bytes::{Named, number, of_digits, put_bytes, put_words};
+use crate::calls::{Ends, call, ends_of, make_room, number_of, setting};
 use crate::tables::TABLES;
-use crate::wanted::{Told, is_told, is_written};
-use std::alloc::Global;
+use crate::wanted::{is_told, is_written};
+use std::alloc::{AllocError, Global};
 use std::process::Abort;
-use tink_io::{Kind, TinkError};
+use tink_io::TinkError;
 
 // The URL of the keys of streams in counter mode, as a keyset has it; `*` stands for it.
 const URL: &str =
@@ -24,56 +24,64 @@ fn part(row: &str, place: usize) -> &str {
 
 // The first or the second range of a phrase; 0 alone where it has none.
 fn range(phrase: &str, place: usize) -> (usize, usize) {
-    let ranges = phrase.split(' ').filter_map(|it| it.split_once(".."));
-    match ranges.skip(place).next() {
-        Some((from, to)) => (number(from), number(to)),
-        None => (0, 0),
+    let mut passed = 0usize;
+    for word in phrase.split(' ') {
+        if let Some((from, to)) = word.split_once("..") {
+            if passed == place {
+                return (number(from), number(to));
+            }
+            passed = passed.saturating_add(1);
+        }
     }
+    (0, 0)
 }
 
-// What is told by words from an input.
-fn told(
-    alloc: Global,
-    kept: &[Named],
-    words: &str,
-    input: Vec<u8>,
-    settings: &str,
-) -> Result<Told, TinkError> {
-    if words == "bytes" {
-        return Ok(Told {
-            status: 0,
-            written: input,
-            line: Vec::new(alloc),
-        });
-    }
-    let words = words_of(alloc, kept, words)?;
-    let mut ends = ends_of(alloc, input, settings)?;
-    let status = call(alloc, &words, settings, &mut ends)?;
-    Ok(Told {
-        status,
-        written: ends.sink.into_bytes(),
-        line: ends.line.into_bytes(),
-    })
+// The ends of a row, which has this input.
+fn ends_of_row(alloc: Global, kept: &[Named], row: &str) -> Result<Ends, TinkError> {
+    let mut input = Vec::new(alloc);
+    put_bytes(alloc, kept, part(row, 2), &mut input)?;
+    ends_of(alloc, input, row)
 }
 
-// Gives what was written, or the bytes of the line of digits that was written, the name that a setting says.
-fn keep(
+// The status of the row's call.
+fn status_of(alloc: Global, kept: &[Named], row: &str, ends: &mut Ends) -> Result<u8, TinkError> {
+    let mut words = Vec::new(alloc);
+    put_words(alloc, kept, part(row, 1), &mut words)?;
+    make_room(alloc, ends, row)?;
+    call(alloc, &words, row, ends)
+}
+
+// Whether a status, and what was told and written, are what the row wants; what was written is kept.
+fn is_wanted(
     alloc: Global,
     kept: &mut Vec<Named>,
     row: &str,
-    written: Vec<u8>,
-) -> Result<(), TinkError> {
+    status: u8,
+    ends: &Ends,
+) -> Result<bool, TinkError> {
+    let told = (status, ends.line.bytes());
+    let is_told = is_told(alloc, told, part(row, 3), number_of(row, "lines", 200))?;
+    let is_written = is_written(alloc, kept, ends.sink.bytes(), part(row, 4))?;
+    keep(alloc, kept, row, ends.sink.bytes())?;
+    Ok(is_told && is_written)
+}
+
+// Whether all is as the row wants.
+fn holds(alloc: Global, kept: &mut Vec<Named>, row: &str) -> Result<bool, TinkError> {
+    let mut ends = ends_of_row(alloc, kept, row)?;
+    let status = status_of(alloc, kept, row, &mut ends)?;
+    is_wanted(alloc, kept, row, status, &ends)
+}
+
+// Gives what was written, or the bytes of the line of digits that was written, the name that a setting says.
+fn keep(alloc: Global, kept: &mut Vec<Named>, row: &str, written: &[u8]) -> Result<(), TinkError> {
     if let Some(name) = setting(row, "keep") {
-        return put_named(alloc, kept, name, written);
+        return put_named(alloc, kept, name, written.to_vec(alloc)?);
     }
     match (setting(row, "line"), written.split_last()) {
-        (Some(name), Some((b'\n', digits))) => put_named(
-            alloc,
-            kept,
-            name,
-            of_digits(alloc, digits)?,
-        ),
-        (Some(_), _) => Err(TinkError::new(Kind::BadJson)),
+        (Some(name), Some((_, digits))) => {
+            put_named(alloc, kept, name, of_digits(alloc, digits)?)
+        }
         _ => Ok(()),
     }
 }
@@ -88,58 +96,54 @@ fn put_named(
     Ok(kept.push(Named { name, bytes })?)
 }
 
-// Whether what is told and written is what the row wants.
-fn holds(alloc: Global, kept: &mut Vec<Named>, row: &str) -> Result<bool, TinkError> {
-    let input = bytes_of(alloc, kept, part(row, 2))?;
-    let told = told(alloc, kept, part(row, 1), input, row)?;
-    let as_wanted = is_told(alloc, &told, part(row, 3), number_of(row, "lines", 200))?
-        && is_written(alloc, kept, &told.written, part(row, 4))?;
-    keep(alloc, kept, row, told.written)?;
-    Ok(as_wanted)
-}
-
-// The row with numbers and the URL in the place of their marks.
-fn filled(alloc: Global, row: &str, n: usize, m: usize) -> Result<String, TinkError> {
-    let first = n.to_string(alloc)?;
-    let second = m.to_string(alloc)?;
-    let filled = row.replace(alloc, '%', first.as_str())?;
-    let filled = filled.replace(alloc, '~', second.as_str())?;
-    Ok(filled.replace(alloc, '*', URL)?)
-}
-
-// Tries a row at these numbers.
-fn try_row(
-    rt: &impl Abort,
-    alloc: Global,
-    kept: &mut Vec<Named>,
-    row: &str,
-    (n, m): (usize, usize),
-) {
-    let answer = match filled(alloc, row, n, m) {
-        Ok(row) => holds(alloc, kept, row.as_str()),
-        Err(e) => Err(e),
-    };
-    assert!(rt; answer == Ok(true), "{row} at {n} and {m}");
-}
-
-// Tries a row at each number of its ranges, in a way.
-fn try_all(
-    rt: &impl Abort,
-    alloc: Global,
-    kept: &mut Vec<Named>,
-    way: &str,
-    row: &str,
-) -> Result<(), TinkError> {
-    let row = format!(in alloc; "{way}{row}")?;
-    let phrase = part(row.as_str(), 0);
-    let (from, to) = range(phrase, 0);
-    let (low, high) = range(phrase, 1);
-    for n in from..=to {
-        for m in low..=high {
-            try_row(rt, alloc, kept, row.as_str(), (n, m));
+// Puts the row with numbers and the URL in the place of their marks.
+fn put_filled(row: &str, first: &str, second: &str, text: &mut String) -> Result<(), AllocError> {
+    for letter in row.chars() {
+        match letter {
+            '%' => text.push_str(first)?,
+            '~' => text.push_str(second)?,
+            '*' => text.push_str(URL)?,
+            _ => text.push(letter)?,
         }
     }
     Ok(())
+}
+
+// Puts a row in a way, at two numbers.
+fn put_row(
+    alloc: Global,
+    way: &str,
+    row: &str,
+    (n, m): (usize, usize),
+    text: &mut String,
+) -> Result<(), AllocError> {
+    let (first, second) = (n.to_string(alloc)?, m.to_string(alloc)?);
+    text.push_str(way)?;
+    put_filled(row, first.as_str(), second.as_str(), text)
+}
+
+// Whether a row holds in a way, at two numbers.
+fn holds_at(
+    alloc: Global,
+    kept: &mut Vec<Named>,
+    (way, row): (&str, &str),
+    numbers: (usize, usize),
+) -> Result<bool, TinkError> {
+    let mut text = String::new(alloc);
+    put_row(alloc, way, row, numbers, &mut text)?;
+    holds(alloc, kept, text.as_str())
+}
+
+// Tries a row in a way at each number of its ranges. It is the one place that asserts.
+fn try_row(rt: &impl Abort, alloc: Global, kept: &mut Vec<Named>, way: &str, row: &str) {
+    let (from, to) = range(part(row, 0), 0);
+    let (low, high) = range(part(row, 0), 1);
+    for n in from..=to {
+        for m in low..=high {
+            let answer = holds_at(alloc, kept, (way, row), (n, m));
+            assert!(rt; answer == Ok(true), "{way}{row}, at {n} and {m}");
+        }
+    }
 }
 
 #[test]
@@ -149,8 +153,7 @@ fn rows_hold(rt: HostRuntime) {
     for (ways, rows) in TABLES {
         for way in *ways {
             for row in *rows {
-                let tried = try_all(&rt, alloc, &mut kept, way, row);
-                assert!(rt; tried == Ok(()), "{row}");
+                try_row(&rt, alloc, &mut kept, way, row);
             }
         }
     }

@@ -1,6 +1,6 @@
 //! Whether what was told and written is what a row wants.
 
-use crate::bytes::{Named, bytes_of, known, number};
+use crate::bytes::{Named, known, number, of_digits, put_bytes};
 use hash_keys::Hash;
 use std::alloc::Global;
 use tink_io::TinkError;
@@ -34,33 +34,34 @@ const LINES: [(u8, &str); 21] = [
     (255, ""),
 ];
 
-/// A status, and what was written and told.
-#[derive(Drop)]
-pub struct Told {
-    pub status: u8,
-    pub written: Vec<u8>,
-    pub line: Vec<u8>,
-}
-
-/// Whether the status is one of these, and its line was told as far as there was room. Behind statuses with a bar
-/// between them stands a segment's number.
-pub fn is_told(alloc: Global, told: &Told, wanted: &str, room: usize) -> Result<bool, TinkError> {
-    let (statuses, segment) = wanted.split_once(' ').unwrap_or((wanted, ""));
-    let line = line_of(alloc, told.status, segment)?;
-    let status = told.status.to_string(alloc)?;
-    let told_line = line.as_bytes().starts_with(&told.line)
-        && told.line.len() == room.min(line.as_bytes().len());
-    Ok(told_line && statuses.split('/').any(|it| it == status.as_str()))
-}
-
-// The line of a status, which ends by a segment's number.
-fn line_of(alloc: Global, status: u8, segment: &str) -> Result<String, TinkError> {
+// The text of the line of a status.
+fn text_of(status: u8) -> &'static str {
     for (of, text) in &LINES {
         if *of == status {
-            return Ok(format!(in alloc; "{text}{segment}\n")?);
+            return text;
         }
     }
-    Ok(String::new(alloc))
+    ""
+}
+
+/// Whether a status is one of these, of which there are two at most with a bar between them, and its line was told, as
+/// far as there was room. Behind the statuses stands how the line ends.
+pub fn is_told(
+    alloc: Global,
+    (status, line): (u8, &[u8]),
+    wanted: &str,
+    room: usize,
+) -> Result<bool, TinkError> {
+    let (statuses, end) = wanted.split_once(' ').unwrap_or((wanted, ""));
+    let (one, other) = statuses.split_once('/').unwrap_or((statuses, statuses));
+    let is_one = number(one) == usize::from(status) || number(other) == usize::from(status);
+    if status == 0 {
+        return Ok(is_one && line.is_empty());
+    }
+    let text = text_of(status);
+    let whole = format!(in alloc; "{text}{end}\n")?;
+    let whole = whole.as_bytes();
+    Ok(is_one && whole.starts_with(line) && line.len() == room.min(whole.len()))
 }
 
 /// Whether this was written: `any` bytes, `length n sha256 digest`, the `line` of the digits of bytes, what `begins` the
@@ -75,17 +76,29 @@ pub fn is_written(
     match form {
         "any" => Ok(true),
         "length" => is_sized(alloc, written, rest),
-        "line" => Ok(written == line_of_digits(alloc, &bytes_of(alloc, kept, rest)?)?.as_bytes()),
+        "line" => is_line(alloc, kept, written, rest),
         "begins" => Ok(is_front(kept, written, rest)),
-        _ => Ok(written == bytes_of(alloc, kept, wanted)?.as_slice()),
+        _ => is_text(alloc, kept, written, wanted),
     }
 }
 
-// The digits of bytes, and a newline.
-fn line_of_digits(alloc: Global, bytes: &[u8]) -> Result<String, TinkError> {
-    let mut line = hex::encode(alloc, bytes)?;
-    line.push('\n')?;
-    Ok(line)
+// Whether these are the bytes of a text.
+fn is_text(alloc: Global, kept: &[Named], bytes: &[u8], text: &str) -> Result<bool, TinkError> {
+    let mut wanted = Vec::new(alloc);
+    put_bytes(alloc, kept, text, &mut wanted)?;
+    Ok(bytes == wanted.as_slice())
+}
+
+// Whether these are the digits of the bytes of a text, and a newline.
+fn is_line(alloc: Global, kept: &[Named], bytes: &[u8], text: &str) -> Result<bool, TinkError> {
+    match bytes.split_last() {
+        Some((b'\n', digits)) => {
+            let spelled = of_digits(alloc, digits)?;
+            let small = digits.iter().all(|digit| !digit.is_ascii_uppercase());
+            Ok(small && is_text(alloc, kept, &spelled, text)?)
+        }
+        _ => Ok(false),
+    }
 }
 
 // Whether these are so many bytes, with this SHA-256 where one is given.
@@ -101,6 +114,9 @@ fn is_sized(alloc: Global, bytes: &[u8], wanted: &str) -> Result<bool, TinkError
 fn is_front(kept: &[Named], bytes: &[u8], wanted: &str) -> bool {
     let (name, lengths) = wanted.split_once(' ').unwrap_or((wanted, ""));
     let whole = known(kept, name).unwrap_or(&[]);
-    let one = lengths.is_empty() || lengths.split(' ').any(|it| number(it) == bytes.len());
+    let mut one = lengths.is_empty();
+    for length in lengths.split(' ') {
+        one = one || number(length) == bytes.len();
+    }
     one && whole.starts_with(bytes) && bytes.len() < whole.len()
 }

@@ -20,9 +20,9 @@ pub const KEYSETS: Rows = &[
     "they build too, 8..25 | seal rotated% - zero | | 18 |",
     "a keyset of AES-SIV | keygen AES256_SIV zero | | 0 | line siv",
     "a keyset of AES-SIV seals no stream | seal siv - zero | | 18 |",
-    "what it encrypts, 0..1 | siv siv | 'abc | 0 | 019f07e7bed6368d963d5164bd5b1c4f7b386ba81783fe05 | daead=encrypt",
-    "what it decrypts | siv siv | 019f07e7bed6368d963d5164bd5b1c4f7b386ba81783fe05 | 0 | 'abc | daead=decrypt",
-    "what it does not decrypt | siv siv | 019f07e7bed6368d963d5064bd5b1c4f7b386ba81783fe05 | 255 decrypt failed | | daead=decrypt",
+    "what it encrypts, 0..1 | encrypt siv | 'abc | 0 | 019f07e7bed6368d963d5164bd5b1c4f7b386ba81783fe05",
+    "what it decrypts | decrypt siv | 019f07e7bed6368d963d5164bd5b1c4f7b386ba81783fe05 | 0 | 'abc",
+    "what it does not decrypt | decrypt siv | 019f07e7bed6368d963d5064bd5b1c4f7b386ba81783fe05 | 255 decrypt failed |",
     "the third write of 100 bytes of a keyset | keygen AES128_CTR_HMAC_SHA256_4KB zero | | 12 | begins newline 200 | piece=100 write=3 room=300",
     "the write of the newline of a keyset | keygen AES128_CTR_HMAC_SHA256_4KB zero | | 12 | begins newline 240 | piece=1 write=241 room=300",
     "the usual keyset | bytes | raw | 0 | raw | keep=often",
@@ -34,8 +34,8 @@ pub const KEYSETS: Rows = &[
 
 /// The lines of the large text, which a model in Python made, and words that spell no command.
 pub const WORDS: Rows = &[
-    "a large text, 0..1 | large 0 | | 0 | 'text 1000000\nstream 1007928\nsegments 247\nsha256 a4400b50bb2795d6e36e1b6114ea3f3ec97e2a5ce22b42d860264b622e4b217a\n| keep=large",
-    "the third write of 30 bytes of its lines | large 0 | | 12 | begins large 60 | piece=30 write=3 room=200",
+    "a large text, 0..1 | large 0 | | 0 | 'text 1000000\nstream 1007928\nsegments 247\nsha256 a4400b50bb2795d6e36e1b6114ea3f3ec97e2a5ce22b42d860264b622e4b217a\n| keep=measured",
+    "the third write of 30 bytes of its lines | large 0 | | 12 | begins measured 60 | piece=30 write=3 room=200",
     "no number | large 00 | | 2 |",
     "no number | large 01 | | 2 |",
     "no number | large 1000000 | | 2 |",

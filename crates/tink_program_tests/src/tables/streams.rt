@@ -113,7 +113,7 @@ pub const TEMPLATES: Rows = &[
     "a new stream of the rotated templates 0..7 | seal rotated% 00 zero | #5000 | 0 | any | keep=later%",
     "a new stream under the rotated templates 0..7 | open rotated% 00 | later% | 0 | #5000",
     "a new stream under the old key of the templates 0..7 | open new% 00 | later% | 21 |",
-    "keys of the templates 0..7 with prefixes 1..4 | bytes | new%/0/-1 .~ | 0 | any | keep=key%.~",
+    "keys of the templates 0..7 with prefixes 1..4 | bytes | new%/0/-1 00/0/1/~ | 0 | any | keep=key%.~",
     "a text under the templates 0..7 with prefixes 1..4 | seal key%.~ 00 zero | #5000 | 0 | any | keep=front%.~",
     "it opens under the templates 0..7 with prefixes 1..4 | open key%.~ 00 | front%.~ | 0 | #5000",
     "without its prefix under the templates 0..7 with prefixes 1..2 | open key%.~ 00 | stream% | 21 |",

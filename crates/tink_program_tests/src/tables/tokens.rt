@@ -5,7 +5,7 @@ use crate::tables::Rows;
 /// Known tokens, what is no token, and what a rotated keyset says.
 pub const KNOWN: Rows = &[
     "the keyset of HMAC | keygen HMAC_SHA256_128BITTAG zero | | 0 | line 08fcb285d20d12680a5c0a2e747970652e676f6f676c65617069732e636f6d2f676f6f676c652e63727970746f2e74696e6b2e486d61634b657912281204080310101a2076b8e0ada0f13d90405d6ae55386bd28bdd219b8a08ded1aa836efcc8b770dc71801100118fcb285d20d2001 | line=hmac",
-    "the keyset of AES-CMAC | keygen AES_CMAC zero | | 0 | line 08fcb285d20d12690a5d0a31747970652e676f6f676c65617069732e636f6d2f676f6f676c652e63727970746f2e74696e6b2e416573436d61634b657912260a2076b8e0ada0f13d90405d6ae55386bd28bdd219b8a08ded1aa836efcc8b770dc7120208101801100118fcb285d20d2001 | line=cmac",
+    "the keyset of AES-CMAC | keygen AES_CMAC zero | | 0 | line 08fcb285d20d12690a5d0a31747970652e676f6f676c65617069732e636f6d2f676f6f676c652e63727970746f2e74696e6b2e416573436d61634b65791226122076b8e0ada0f13d90405d6ae55386bd28bdd219b8a08ded1aa836efcc8b770dc71a0208101801100118fcb285d20d2001 | line=cmac",
     "the known token | sign hmac | '{\"sub\":1} | 0 | 'eyJzdWIiOjF9.AdpBWXyINi9jd9wXbJ4V_sGWBPqU | keep=token",
     "the known payload | verify hmac | token | 0 | '{\"sub\":1} | keep=payload",
     "this without its first byte | bytes | token/1/99 | 0 | length 40 | keep=rest",
@@ -56,8 +56,8 @@ pub const REFUSED: Rows = &[
     "HMAC with tags of 33 bytes of a digest of 32, for a token | verify 08fcb285d20d12680a5c0a2e747970652e676f6f676c65617069732e636f6d2f676f6f676c652e63727970746f2e74696e6b2e486d61634b657912281204080310211a2076b8e0ada0f13d90405d6ae55386bd28bdd219b8a08ded1aa836efcc8b770dc71801100118fcb285d20d2001 | token | 16 |",
     "HMAC with a key of 15 bytes | sign 08fcb285d20d12570a4b0a2e747970652e676f6f676c65617069732e636f6d2f676f6f676c652e63727970746f2e74696e6b2e486d61634b657912171204080310101a0f76b8e0ada0f13d90405d6ae55386bd1801100118fcb285d20d2001 | payload | 16 |",
     "HMAC with a key of 15 bytes, for a token | verify 08fcb285d20d12570a4b0a2e747970652e676f6f676c65617069732e636f6d2f676f6f676c652e63727970746f2e74696e6b2e486d61634b657912171204080310101a0f76b8e0ada0f13d90405d6ae55386bd1801100118fcb285d20d2001 | token | 16 |",
-    "AES-CMAC with a key of 31 bytes | sign 08fcb285d20d12680a5c0a31747970652e676f6f676c65617069732e636f6d2f676f6f676c652e63727970746f2e74696e6b2e416573436d61634b657912250a1f76b8e0ada0f13d90405d6ae55386bd28bdd219b8a08ded1aa836efcc8b770d120208101801100118fcb285d20d2001 | payload | 16 |",
-    "AES-CMAC with a key of 31 bytes, for a token | verify 08fcb285d20d12680a5c0a31747970652e676f6f676c65617069732e636f6d2f676f6f676c652e63727970746f2e74696e6b2e416573436d61634b657912250a1f76b8e0ada0f13d90405d6ae55386bd28bdd219b8a08ded1aa836efcc8b770d120208101801100118fcb285d20d2001 | token | 16 |",
+    "AES-CMAC with a key of 31 bytes | sign 08fcb285d20d12680a5c0a31747970652e676f6f676c65617069732e636f6d2f676f6f676c652e63727970746f2e74696e6b2e416573436d61634b65791225121f76b8e0ada0f13d90405d6ae55386bd28bdd219b8a08ded1aa836efcc8b770d1a0208101801100118fcb285d20d2001 | payload | 16 |",
+    "AES-CMAC with a key of 31 bytes, for a token | verify 08fcb285d20d12680a5c0a31747970652e676f6f676c65617069732e636f6d2f676f6f676c652e63727970746f2e74696e6b2e416573436d61634b65791225121f76b8e0ada0f13d90405d6ae55386bd28bdd219b8a08ded1aa836efcc8b770d1a0208101801100118fcb285d20d2001 | token | 16 |",
     "a MAC, and an AES-GCM key that does not build | sign 08fcb285d20d12680a5c0a2e747970652e676f6f676c65617069732e636f6d2f676f6f676c652e63727970746f2e74696e6b2e486d61634b657912281204080310101a2076b8e0ada0f13d90405d6ae55386bd28bdd219b8a08ded1aa836efcc8b770dc71801100118fcb285d20d2001123e0a360a30747970652e676f6f676c65617069732e636f6d2f676f6f676c652e63727970746f2e74696e6b2e41657347636d4b657912001801100118052003 | payload | 16 |",
     "a MAC, and an AES-GCM key that does not build, for a token | verify 08fcb285d20d12680a5c0a2e747970652e676f6f676c65617069732e636f6d2f676f6f676c652e63727970746f2e74696e6b2e486d61634b657912281204080310101a2076b8e0ada0f13d90405d6ae55386bd28bdd219b8a08ded1aa836efcc8b770dc71801100118fcb285d20d2001123e0a360a30747970652e676f6f676c65617069732e636f6d2f676f6f676c652e63727970746f2e74696e6b2e41657347636d4b657912001801100118052003 | token | 16 |",
     "a public key of MACs, of another id than the primary one | sign 08fcb285d20d12640a5c0a2e747970652e676f6f676c65617069732e636f6d2f676f6f676c652e63727970746f2e74696e6b2e486d61634b657912281204080310101a2076b8e0ada0f13d90405d6ae55386bd28bdd219b8a08ded1aa836efcc8b770dc71803100118052001 | payload | 17 |",
@@ -75,8 +75,8 @@ pub const REFUSED: Rows = &[
 /// Each type of key and each prefix, and how long payloads and tokens may be.
 pub const PAYLOADS: Rows = &[
     "a MAC, and a disabled AES-GCM key | sign 08fcb285d20d12680a5c0a2e747970652e676f6f676c65617069732e636f6d2f676f6f676c652e63727970746f2e74696e6b2e486d61634b657912281204080310101a2076b8e0ada0f13d90405d6ae55386bd28bdd219b8a08ded1aa836efcc8b770dc71801100118fcb285d20d200112500a480a30747970652e676f6f676c65617069732e636f6d2f676f6f676c652e63727970746f2e74696e6b2e41657347636d4b657912121a10000102030405060708090a0b0c0d0e0f1801100218052003 | payload | 0 | token",
-    "keys of HMAC with prefixes 1..4 | bytes | hmac/0/-1 .% | 0 | any | keep=hmac.%",
-    "keys of AES-CMAC with prefixes 1..4 | bytes | cmac/0/-1 .% | 0 | any | keep=cmac.%",
+    "keys of HMAC with prefixes 1..4 | bytes | hmac/0/-1 00/0/1/% | 0 | any | keep=hmac.%",
+    "keys of AES-CMAC with prefixes 1..4 | bytes | cmac/0/-1 00/0/1/% | 0 | any | keep=cmac.%",
     "no payload by hmac and TINK | sign hmac.1 | | 0 | '.AdpBWXzoDZ7HjcOtIc3efh8YC0Os",
     "70 bytes by hmac and TINK | sign hmac.1 | #70 | 0 | 'AAECAwQFBgcICQoLDA0ODxAREhMUFRYXGBkaGxwdHh8gISIjJCUmJygpKissLS4vMDEyMzQ1Njc4OTo7PD0-P0BBQkNERQ.AdpBWXzdHC9MnTTywi22MyhwpvRK",
     "no payload by hmac and LEGACY | sign hmac.2 | | 0 | '.ANpBWXxBEZuPTk3I2fnUP_lmxHd7",
@@ -151,5 +151,5 @@ pub const CHANGED: Rows = &[
     "0..40 bytes of the token | verify hmac | token/0/% | 27/28 |",
     "without the byte 0..40 | verify hmac | token/0/% rest/%/99 | 27/28 |",
     "the byte 0..40 changed by 1..255 | verify hmac | token/0/% token/%/1/~ rest/%/99 | 27/28 |",
-    "before the byte 0..41 one of 0..255 | verify hmac | token/0/% .~ token/%/99 | 27/28 |",
+    "before the byte 0..41 one of 0..255 | verify hmac | token/0/% 00/0/1/~ token/%/99 | 27/28 |",
 ];
