@@ -1,5 +1,5 @@
 #!/usr/bin/env bash
-# Times the kit's SHA-256, sealing and opening side by side, over texts of 16 and 64 MiB, under keys of both
+# Times the kit's SHA-256, sealing, opening and moving streams side by side, over texts of 16 and 64 MiB, under keys of both
 # kinds, and what OpenSSL does without the processor's instructions for AES and SHA: the best of three rounds,
 # or of as many as the first word says. docs/BENCHMARKS.md says what is measured. First proves and builds what
 # is due. It needs python3; without openssl its lines are left out.
@@ -48,6 +48,10 @@ def open_(template):
     return [tool, "open", keys[template], "-"]
 
 
+def rewrap(template):
+    return [tool, "rewrap", keys[template], "-", keys[template], "aa", SEED]
+
+
 keys = {it: out(tool, "keygen", it, SEED).decode().strip() for it in TEMPLATES}
 lines = b"".join(b"%d\n" % it for it in range(10**8, 10**8 + 64 * MIB // 10 + 1))
 for size in (16, 64):
@@ -58,6 +62,7 @@ for size in (16, 64):
     for template in TEMPLATES:
         stream = out(*seal(template), text=text)
         assert out(*open_(template), text=stream) == text
+        assert out(*open_(template)[:-1], "aa", text=out(*rewrap(template), text=stream)) == text
         with open(f"{folder}/{size}.{template}", "wb") as it:
             it.write(stream)
 open(f"{folder}/0", "wb").close()
@@ -69,6 +74,7 @@ for _ in range(rounds):
         for template in TEMPLATES:
             timed(f"seal.{template}.{size}", seal(template), f"{folder}/{size}")
             timed(f"open.{template}.{size}", open_(template), f"{folder}/{size}.{template}")
+            timed(f"rewrap.{template}.{size}", rewrap(template), f"{folder}/{size}.{template}")
 for _ in range(50):
     timed("nothing", ["true"], f"{folder}/0")
     timed("empty", seal(TEMPLATES[0]), f"{folder}/0")
@@ -87,7 +93,7 @@ print("| work | MB/s | part of SHA-256's speed | time of 64 MiB / time of 16 MiB
 print("|---|---|---|---|")
 print(f"| SHA-256 of the kit | {sha:.0f} | 1.00 | {growth('sha'):.2f} |")
 for template in TEMPLATES:
-    for way in ("seal", "open"):
+    for way in ("seal", "open", "rewrap"):
         name = f"{way}.{template}"
         print(f"| {way}, {template} | {speed(name):.0f} | {speed(name) / sha:.2f} | {growth(name):.2f} |")
 print(f"\nA seal of no text takes {best['empty'] * 1000:.2f} ms, a program that does nothing {best['nothing'] * 1000:.2f} ms.")
