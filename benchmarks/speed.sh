@@ -1,6 +1,6 @@
 #!/usr/bin/env bash
-# Times the kit's SHA-256, sealing, opening and moving streams side by side, over texts of 16 and 64 MiB, under keys of both
-# kinds, and what OpenSSL does without the processor's instructions for AES and SHA: the best of three rounds,
+# Times the kit's SHA-256, sealing, opening and moving streams side by side, over texts of 16 and 64 MiB, under keys of
+# both kinds, and what OpenSSL does without the processor's instructions for AES and SHA: the best of three rounds,
 # or of as many as the first word says. docs/BENCHMARKS.md says what is measured. First proves and builds what
 # is due. It needs python3; without openssl its lines are left out.
 set -euo pipefail
