@@ -213,10 +213,10 @@ module _ (read : ℕ → Bool → List ℕ → List ℕ) (first size overhead : 
         begun = tt;
         opened = broke new (Rose-later w.faults o.faults new.write_faults (Rose-earlier w.faults v.faults o.faults since r.rose) more);
         written = inr (record {
-            accepted = m.number;
-            opened = whole m.number refl;
-            written = subst (λ (g : Option (List ℕ)). AppendsFront old.got g (made.whole text)) (sym got) (wrote_whole_less front seg a b old.got u.start u.fresh u.begun v o text (wrote_text v wrote) r);
-          });
+          accepted = m.number;
+          opened = whole m.number refl;
+          written = subst (λ (g : Option (List ℕ)). AppendsFront old.got g (made.whole text)) (sym got) (wrote_whole_less front seg a b old.got u.start u.fresh u.begun v o text (wrote_text v wrote) r);
+        });
       }
       not_closed (FailedBefore c) later since more r = absurd (let e = sym wrote.is_open ∙ r.0 in cc)
       not_closed _ later since more r = absurd r

@@ -16,9 +16,9 @@ ghost use Rattle.tink_rewrap.specs.Rewrapping.{HasKey};
 use tink_io::{Sink, Source, TinkError};
 use tink_run::open::open_first;
 use tink_run::report::Report;
+use tink_segment_traits::{SegmentDecrypter, SegmentEncrypter};
 use tink_stream_keys::{DerivesStreams, Front, NewStream, Trial, start};
 use tink_streams::{Progress, SegmentReader, SegmentWriter};
-use tink_segment_traits::{SegmentDecrypter, SegmentEncrypter};
 
 // Writes the last segment of a text of so many bytes.
 fn finish<K: Sink, E: SegmentEncrypter + Drop>(

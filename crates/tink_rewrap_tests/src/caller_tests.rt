@@ -44,6 +44,10 @@ fn a_stream_is_moved_in_memory(rt: HostRuntime) -> Result<(), Fail> {
         bytes: 1,
     };
     is(&rt, moved == Ok(want), "one segment");
-    is(&rt, sink.into_bytes().len() == 41, "a front, a byte and a tag");
+    is(
+        &rt,
+        sink.into_bytes().len() == 41,
+        "a front, a byte and a tag",
+    );
     Ok(())
 }

@@ -56,7 +56,11 @@ fn each_read_may_fail(rt: HostRuntime) -> Result<(), Fail> {
             let ran = failing(alloc, &stream, *piece, read, 0)?;
             let at_stop = STOPS.contains(&ran.written.len());
             let stopped = stops(&ran, Kind::ReadFault, &whole) && at_stop && read - 1 == failed;
-            is(&rt, stopped || is_whole(&ran, &whole), "a read fails, or none");
+            is(
+                &rt,
+                stopped || is_whole(&ran, &whole),
+                "a read fails, or none",
+            );
             failed = if stopped { read } else { failed };
         }
         is(&rt, *least <= failed && failed < 200, "reads");
@@ -74,7 +78,11 @@ fn each_write_may_fail(rt: HostRuntime) -> Result<(), Fail> {
         for write in 1..=200 {
             let ran = failing(alloc, &stream, *piece, 0, write)?;
             let stopped = stops(&ran, Kind::WriteFault, &whole) && write - 1 == failed;
-            is(&rt, stopped || is_whole(&ran, &whole), "a write fails, or none");
+            is(
+                &rt,
+                stopped || is_whole(&ran, &whole),
+                "a write fails, or none",
+            );
             failed = if stopped { write } else { failed };
         }
         is(&rt, *least <= failed && failed < 200, "writes");

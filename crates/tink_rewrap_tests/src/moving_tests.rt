@@ -19,7 +19,11 @@ const DIRECTIONS: [((&str, &str), (&str, &str), [usize; 4]); 9] = [
     ((CTR_5000, ""), (CTR_35, ""), [34, 35, 124, 5695]),
     ((GCM_41, ""), (GCM_PREFIXED, "aabb"), [61, 62, 137, 4870]),
     ((GCM_PREFIXED, ""), (GCM_41, ""), [40, 41, 148, 6673]),
-    ((GCM_PREFIXED, ""), (GCM_PREFIXED, "00"), [61, 62, 137, 4870]),
+    (
+        (GCM_PREFIXED, ""),
+        (GCM_PREFIXED, "00"),
+        [61, 62, 137, 4870],
+    ),
 ];
 
 const COUNTS: [usize; 4] = [0, 1, 60, 4041];
