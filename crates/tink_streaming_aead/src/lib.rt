@@ -31,7 +31,7 @@ pub use tink_segments::{
     GcmSegment, StreamSegment, validate_aes_key_size,
 };
 pub use tink_stream_keys::{
-    DerivesStreams, StreamKind, StreamKinds, Trial, begin_stream, choose, start,
+    DerivesStreams, StreamEncrypter, StreamKind, StreamKinds, Trial, begin_stream, choose, start,
 };
 pub use tink_streams::{
     Begun, Buffers, Kept, Mode, Opener, Progress, Reader, ReaderParams, Sealer, SegmentReader,
