@@ -8,3 +8,4 @@ pub mod FrontFacts
 pub mod WrappedFacts
 pub mod OneKeyFacts
 pub mod PrefixFacts
+pub mod CandidateFacts

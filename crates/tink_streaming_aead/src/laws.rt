@@ -1,3 +1,4 @@
+ghost use Rattle.tink_streaming_aead.specs.Candidates.{ChoosesCandidate};
 ghost use Rattle.std.specs.Prelude.{◌≡◌, ◌≤◌, ◌^◌, ◌++◌, ◌∷◌, ℕ, Bool, List, [], All, None, Some, length, map, take};
 ghost use Rattle.std.specs.declared.option.Option.{Option};
 ghost use Rattle.std.specs.Io.KnownBytes.{Appends};
@@ -106,4 +107,10 @@ pub fn law_sealed_opens()
         → IsChosen earlier (stream k aad salt prefix text) None
         → IsTextOfChosen (earlier ++ opening_key aad k ∷ others) (Some (stream k aad salt prefix text)) given
         → given ≡ text }
+{}
+
+/// The key that is chosen of all keys of a keyset is the one that is chosen of its candidates alone: a prefix begins with
+/// 0 or 1 and a header with 24 or 40, so that a key opens streams of its own prefix alone.
+pub fn law_candidates()
+    ensures { ChoosesCandidate }
 {}

@@ -18,8 +18,8 @@ pub use key_templates::{
     aes256_gcm_hkdf_4kb_key_template,
 };
 pub use laws::{
-    law_first_read, law_keyset_order, law_one_key, law_sealed_opens, law_whole_reading,
-    law_whole_stream,
+    law_candidates, law_first_read, law_keyset_order, law_one_key, law_sealed_opens,
+    law_whole_reading, law_whole_stream,
 };
 pub use registering::init;
 pub use tink_primitives::UPSTREAM_VERSION;
