@@ -81,19 +81,20 @@ pub fn put_words(
 }
 
 fn word_of(alloc: Global, kept: &[Named], word: &str) -> Result<String, AllocError> {
-    match known(kept, word) {
-        Some(bytes) => hex::encode(alloc, bytes),
-        None => spelled(word).replace(alloc, '␣', " "),
+    if let Some(bytes) = known(kept, word) {
+        return hex::encode(alloc, bytes);
+    }
+    match word.strip_prefix('@') {
+        Some(place) => String::from_str(alloc, template(number(place))),
+        None if word == "''" => Ok(String::new(alloc)),
+        None => word.replace(alloc, '␣', " "),
     }
 }
 
-fn spelled(word: &str) -> &str {
-    if word == "''" {
-        return "";
-    }
-    match word.strip_prefix('@') {
-        Some(place) => TEMPLATES.get(number(place)).copied().unwrap_or(""),
-        None => word,
+fn template(place: usize) -> &'static str {
+    match TEMPLATES.get(place) {
+        Some(name) => name,
+        None => "",
     }
 }
 

@@ -63,30 +63,32 @@ fn in_memory(
     program(alloc, words, input, output, line)
 }
 
-// Whether they do what they are to do.
-fn are_callers(alloc: Global) -> Result<bool, TinkError> {
+// Whether a new keyset has its line.
+fn is_line(alloc: Global) -> Result<bool, TinkError> {
     let line = new_line(alloc, &mut draws_of(alloc, 20)?)?;
+    Ok(line.ends_with(b"\n") && line.len() == 185)
+}
+
+// Whether no text is sealed to a header and a tag.
+fn is_sealed(alloc: Global, stream: &mut SureSink) -> Result<bool, TinkError> {
+    let keyset = of_digits(alloc, KEYSET)?;
+    let mut draws = draws_of(alloc, 23)?;
     let mut text = SureSource::new(Vec::new(alloc));
+    let report = seal_text(alloc, &keyset, &mut draws, &mut text, stream)?;
+    Ok(report.segments == 1 && report.bytes == 0 && stream.bytes().len() == 56)
+}
+
+// The status of no words.
+fn status_of_none(alloc: Global) -> u8 {
+    let (words, mut input) = (Vec::new(alloc), SureSource::new(Vec::new(alloc)));
+    let (mut output, mut line) = (SureSink::new(alloc), SureSink::new(alloc));
+    in_memory(alloc, &words, &mut input, &mut output, &mut line)
+}
+
+fn are_callers(alloc: Global) -> Result<bool, TinkError> {
     let mut stream = SureSink::new(alloc);
     stream.reserve(alloc, 56)?;
-    let keyset = of_digits(alloc, KEYSET)?;
-    let report = seal_text(
-        alloc,
-        &keyset,
-        &mut draws_of(alloc, 23)?,
-        &mut text,
-        &mut stream,
-    )?;
-    let status = in_memory(
-        alloc,
-        &Vec::new(alloc),
-        &mut text,
-        &mut stream,
-        &mut SureSink::new(alloc),
-    );
-    let is_line = line.ends_with(b"\n") && line.len() == 185;
-    let is_report = report.segments == 1 && report.bytes == 0;
-    Ok(is_line && is_report && stream.bytes().len() == 56 && status == 2)
+    Ok(is_sealed(alloc, &mut stream)? && is_line(alloc)? && status_of_none(alloc) == 2)
 }
 
 #[test]

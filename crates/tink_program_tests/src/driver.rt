@@ -96,13 +96,14 @@ fn put_named(
     Ok(kept.push(Named { name, bytes })?)
 }
 
-// Puts the row with numbers and the URL in the place of their marks.
+// Puts the row with numbers, the URL and newlines in the place of their marks.
 fn put_filled(row: &str, first: &str, second: &str, text: &mut String) -> Result<(), AllocError> {
     for letter in row.chars() {
         match letter {
             '%' => text.push_str(first)?,
             '~' => text.push_str(second)?,
             '*' => text.push_str(URL)?,
+            '¶' => text.push('\n')?,
             _ => text.push(letter)?,
         }
     }
@@ -146,15 +147,21 @@ fn try_row(rt: &impl Abort, alloc: Global, kept: &mut Vec<Named>, way: &str, row
     }
 }
 
+fn try_rows(rt: &impl Abort, alloc: Global, kept: &mut Vec<Named>, way: &str, rows: &str) {
+    for row in rows.split('\n') {
+        if !row.is_empty() {
+            try_row(rt, alloc, kept, way, row);
+        }
+    }
+}
+
 #[test]
 fn rows_hold(rt: HostRuntime) {
     let alloc = rt.alloc();
     let mut kept = Vec::new(alloc);
     for (ways, rows) in TABLES {
-        for way in *ways {
-            for row in *rows {
-                try_row(&rt, alloc, &mut kept, way, row);
-            }
+        for way in ways.split(';') {
+            try_rows(&rt, alloc, &mut kept, way, rows);
         }
     }
 }

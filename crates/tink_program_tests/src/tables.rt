@@ -10,30 +10,23 @@ mod runs;
 mod streams;
 mod tokens;
 
-/// Rows, as the driver reads them.
-pub type Rows = &'static [&'static str];
-
 // As the rows say.
-const PLAIN: Rows = &[""];
+const PLAIN: &str = "";
 
 // By the bytes that move in a call.
-const PIECES: Rows = &["piece=1 ", "piece=35 ", "piece=5000 "];
+const PIECES: &str = "piece=1 ;piece=35 ;piece=5000 ";
 
-const PIECES_IN_ROOMS: Rows = &["piece=1 ", "piece=35 ", "piece=4000 ", "piece=5000 "];
+const PIECES_IN_ROOMS: &str = "piece=1 ;piece=35 ;piece=4000 ;piece=5000 ";
 
 // Through the program, and through `run` by the bytes that move in a call.
-const BOTH: Rows = &[
-    "",
-    "draws=3 left=3 piece=1 ",
-    "draws=3 left=3 piece=7 ",
-    "draws=3 left=3 piece=4096 ",
-];
+const BOTH: &str = ";draws=3 left=3 piece=1 ;draws=3 left=3 piece=7 ;draws=3 left=3 piece=4096 ";
 
 // By a seal, and by `load`.
-const LOADS: Rows = &["", "load=1 "];
+const LOADS: &str = ";load=1 ";
 
-/// The tables, each with the ways in which it is run: settings that stand before each row.
-pub const TABLES: &[(Rows, Rows)] = &[
+/// The tables, of a row a line, each with the ways in which it is run: settings that stand before each row, with
+/// semicolons between the ways.
+pub const TABLES: [(&str, &str); 20] = [
     (PLAIN, names::NAMES),
     (PLAIN, streams::KNOWN),
     (PLAIN, streams::ROUNDS),
