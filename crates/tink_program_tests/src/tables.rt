@@ -26,7 +26,7 @@ const LOADS: &str = ";load=1 ";
 
 /// The tables, of a row a line, each with the ways in which it is run: settings that stand before each row, with
 /// semicolons between the ways.
-pub const TABLES: [(&str, &str); 20] = [
+pub const TABLES: [(&str, &str); 21] = [
     (PLAIN, names::NAMES),
     (PLAIN, streams::KNOWN),
     (PLAIN, streams::ROUNDS),
