@@ -50,8 +50,8 @@ def run(words, text, **settings):
 class Row:
     """A command with its input, and what it tells where nothing fails."""
 
-    def __init__(self, name, words, text):
-        self.name, self.words, self.text = name, words, text
+    def __init__(self, name, words, text, reads_first=False):
+        self.name, self.words, self.text, self.reads_first = name, words, text, reads_first
         self.status, self.written, self.line, self.counts = run(words, text)
         self.tally = {"memory": 0, "reads": 0, "writes": 0, "pieces": 0}
         self.refused, self.wrong = 0, []
@@ -68,8 +68,8 @@ class Row:
         memory, reads, writes = self.counts
         for number in range(1, memory + 1):
             ran = run(self.words, self.text, REFUSE_MEMORY=number)
-            # Out of memory comes before anything is read or written.
-            refused = (ran[0], ran[2]) == NO_MEMORY and ran[1] == b"" and ran[3][1:] == [0, 0]
+            # Out of memory comes before anything is written, and before anything is read where the text is not held whole.
+            refused = (ran[0], ran[2]) == NO_MEMORY and ran[1] == b"" and ran[3][2] == 0 and (self.reads_first or ran[3][1] == 0)
             self.refused += refused
             self.judge("memory", number, ran, refused or self.told(ran))
         for kind, count, setting, fault in (("reads", reads, "FAIL_READ", READ_FAULT), ("writes", writes, "FAIL_WRITE", WRITE_FAULT)):
@@ -110,9 +110,14 @@ def damaged(name, keyset, ends):
 
 def main():
     anything = {"reads": None, "writes": None}
-    # What stands after a failed read: the header and whole segments of a seal, whole texts of an open.
+    # What stands after a failed read: the header and whole segments of a seal, whole texts of an open, nothing or the
+    # header and whole segments of a rewrap, and nothing of a token or a payload.
     sealed = {"reads": {24, 4096, 8192}, "writes": None}
     opened = {"reads": {0, 4040, 8104}, "writes": None}
+    moved = {"reads": {0, 24, 4096, 8192}, "writes": None}
+    held = {"reads": {0}, "writes": None}
+    macs = run(["keygen", "HMAC_SHA256_128BITTAG", SEED], b"")[1].decode().strip()
+    token = run(["sign", macs], TEXT)[1]
     stream = run(["seal", ONE, "-", SEED], TEXT[:4041])[1]
     long = run(["seal", ONE, "-", SEED], TEXT)[1]
     rows = [
@@ -124,6 +129,10 @@ def main():
         (Row("keygen", ["keygen", TEMPLATE, SEED], b""), anything),
         (Row("rotate", ["rotate", ONE, TEMPLATE, SEED], b""), anything),
         (Row("large 0", ["large", "0"], b""), anything),
+        (Row("rewrap 12,288 bytes", ["rewrap", TWO, "-", ONE, "aabb", SEED], long), moved),
+        (Row("rewrap 4,128 bytes, cut", ["rewrap", ONE, "-", ONE, "aabb", SEED], stream[:-1]), moved),
+        (Row("sign 12,168 bytes", ["sign", macs], TEXT, True), held),
+        (Row("verify their token", ["verify", macs], token, True), held),
     ]
     wrong, total = [], {}
     print("| command | status 10 | requests for memory refused | reads that failed | writes that failed | small pieces |")
