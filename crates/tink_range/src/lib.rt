@@ -4,6 +4,7 @@
 pub use laws::{law_range_of_stream, law_shape_of_any};
 pub use memory_at::{MemAt, SureAt};
 pub use range_reader::RangeReader;
+pub use range_under::range_under;
 pub use read_at::ReadAt;
 pub use steps::Steps;
 
@@ -15,6 +16,7 @@ mod memory_at;
 mod opening_at;
 mod range_reader;
 mod range_reading;
+mod range_under;
 mod read_at;
 mod reading_at;
 mod shape;

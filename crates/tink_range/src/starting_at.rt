@@ -19,7 +19,7 @@ use tink_streaming_aead::{WrappedStreamingAead, room_of};
 use tink_streams::{Buffers, Kept};
 
 // The chunks of an object behind the front of the first key under which its stream begins.
-fn start_at<A: ReadAt, T: DerivesStreams, L: Ledger>(
+pub fn start_at<A: ReadAt, T: DerivesStreams, L: Ledger>(
     keys: &[T],
     aad: &[u8],
     trial: Trial,
