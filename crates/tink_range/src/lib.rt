@@ -4,9 +4,9 @@
 pub use laws::{law_range_of_stream, law_shape_of_any};
 pub use memory_at::{MemAt, SureAt};
 pub use range_reader::RangeReader;
-pub use range_under::range_under;
 pub use read_at::ReadAt;
 pub use steps::Steps;
+pub use under_keys::range_under;
 
 mod choosing_at;
 mod chunks;
@@ -16,10 +16,10 @@ mod memory_at;
 mod opening_at;
 mod range_reader;
 mod range_reading;
-mod range_under;
 mod read_at;
 mod reading_at;
 mod shape;
 mod starting_at;
 mod steps;
+mod under_keys;
 mod writing_part;
