@@ -1,5 +1,5 @@
 -- From a start and a range to a range under keys.
-use Rattle.std.proofs.Common.{◌≡◌, ◌⊎◌, inl, inr, ◌≤◌, ℕ, List, refl, arith, Some, None, IfSome}
+use Rattle.std.proofs.Common.{◌≡◌, inl, inr, ◌≤◌, ◌+◌, ◌-◌, ◌/◌, ℕ, List, length, subst, arith, Some, None, IfSome}
 use Rattle.std.specs.Prelude.{Result, Ok, Err}
 use Rattle.std.specs.declared.option.Option.{Option}
 use Rattle.tink_io.proofs.FaultLemmas.{Rose-earlier}
@@ -7,11 +7,11 @@ use Rattle.tink_io.specs.declared.error.Kind.{Kind}
 use Rattle.tink_io.specs.declared.error.Kind.TheVariants.{BadSegment, NoMatchingKey, ReadFault, TooManySegments, Truncated, WriteFault}
 use Rattle.tink_io.specs.declared.error.TinkError.{TinkError}
 use Rattle.stream_model.specs.Opening.{IsChosen, OpeningKey}
-use Rattle.tink_streams.specs.Choosing.{Found, StartRefused}
+use Rattle.tink_streams.specs.Choosing.{Found}
 use Rattle.tink_range.specs.ChunkReading.{Moments}
 use Rattle.tink_range.specs.Giving.{Cutting}
-use Rattle.tink_range.specs.KeyRanges.{CutRefused, IsCutUnder, RangesUnder, RangesUnderRefused}
-use Rattle.tink_range.specs.RangeReading.{GaveRange, RangeMeans, RangeRefused}
+use Rattle.tink_range.specs.KeyRanges.{IsCutUnder, RangesUnder, RangesUnderRefused, TakesRangeSteps}
+use Rattle.tink_range.specs.RangeReading.{GaveRange, RangeMeans, RangeRefused, range_end, range_start}
 
 module _ {W : Type 0} (got : W → Option (List ℕ)) (faults : W → ℕ) (c : Cutting) (behind start len : ℕ) (e : Moments W) (then : ℕ) (before : e.reads_before ≤ then) where
   gave_earlier : (n : ℕ) → GaveRange got faults c behind start len (record e { reads_before = then }) n → GaveRange got faults c behind start len e n
@@ -57,12 +57,28 @@ module _ {W : Type 0} (got : W → Option (List ℕ)) (faults : W → ℕ) (c : 
     under_key (Ok n) r = record { cutting = c; behind = behind; found = found; whole_is = whole_is; then = gave_earlier n r }
     under_key (Err error) r = refused_under error.kind r
 
--- no key was chosen
-pub not_begun : {W : Type 0} (got : W → Option (List ℕ)) (faults : W → ℕ) (keys : List OpeningKey) (whole start len : ℕ) (all : Option (List ℕ)) (before after : ℕ) (w : W) (kind : Kind) → StartRefused keys all before after kind
-    → RangesUnderRefused got faults keys whole start len (record { all = all; reads_before = before; reads_after = after; old = w; new = w }) kind
-not_begun got faults keys whole start len all before after w NoMatchingKey r = record { none = r; same = refl }
-not_begun got faults keys whole start len all before after w ReadFault r = inl (record { rose = r; same = refl })
-not_begun got faults keys whole start len all before after w _ r = absurd r
+-- what a range answers behind the front of the chosen key, whose start left the bytes as they were
+pub under_chosen : {W : Type 0} (got : W → Option (List ℕ)) (faults : W → ℕ) (c : Cutting) (behind start len : ℕ) (e : Moments W) (then : ℕ) (known : Option (List ℕ)) (keys : List OpeningKey) (whole : ℕ) (r : Result ℕ TinkError) → e.reads_before ≤ then → known ≡ e.all
+    → c.front + behind ≡ whole → IfSome e.all (λ S. Found keys S c.seg c.front c.first c.size c.over)
+    → RangeMeans got faults c behind start len (record { all = known; reads_before = then; reads_after = e.reads_after; old = e.old; new = e.new }) r → RangesUnder got faults keys whole start len e r
+under_chosen got faults c behind start len e then known keys whole r before told whole_is found m =
+    under_key got faults c behind start len e then before keys whole whole_is found r
+    (subst (λ (all : Option (List ℕ)). RangeMeans got faults c behind start len (record { all = all; reads_before = then; reads_after = e.reads_after; old = e.old; new = e.new }) r) told m)
+
+-- the steps of a start and of the range
+pub takes_steps : (c : Cutting) (behind start len old mid new n whole : ℕ) (all : Option (List ℕ)) (keys : List OpeningKey) → n ≡ length keys → c.front + behind ≡ whole → IfSome all (λ S. Found keys S c.seg c.front c.first c.size c.over)
+    → mid ≤ old + n → new ≤ mid + (range_end c behind start len - range_start c behind start + (c.size - c.over) - 1) / (c.size - c.over) + 2 → TakesRangeSteps keys all whole start len old new
+takes_steps c behind start len old mid new n whole all keys count whole_is found tried given =
+    inr (record {
+      cutting = c;
+      behind = behind;
+      found = found;
+      whole_is = whole_is;
+      then = added old mid new n (length keys) ((range_end c behind start len - range_start c behind start + (c.size - c.over) - 1) / (c.size - c.over)) count tried given;
+    })
+  where
+    added : (old mid new n m q : ℕ) → n ≡ m → mid ≤ old + n → new ≤ mid + q + 2 → new ≤ old + m + (q + 2)
+    added old mid new n m q count tried given = omega arith
 
 if_told : (o : Option (List ℕ)) (P Q : List ℕ → Type 0) → ((S : List ℕ) → P S → Q S) → IfSome o P → IfSome o Q
 if_told None P Q f h = tt

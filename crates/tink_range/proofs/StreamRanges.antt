@@ -56,7 +56,9 @@ few_segments seg i a b X (t ∷ u ∷ ts) h = (omega arith, omega (arith, (few_s
 
 few_by : (o : Option (ℕ → Bool → List ℕ → List ℕ)) (a b : ℕ) (X : List ℕ) (ts : List (List ℕ)) → AreSegmentsBy o a b X ts → (0 < length ts) × (length ts ≤ 2 ^ 32)
 few_by None a b X ts h = absurd h
-few_by (Some seg) a b X ts h = few_segments seg 0 a b X ts h
+few_by (Some seg) a b X ts h =
+    let few = few_segments seg 0 a b X ts h in
+    (few.0, omega (arith, few.1))
 
 -- the last of the segments of texts is one
 last_of_texts : (seg : ℕ → Bool → List ℕ → List ℕ) (i n : ℕ) (cs ts : List (List ℕ)) → AreTexts seg i cs ts → length cs ≡ length ts → n + 1 ≡ length cs → (t : List ℕ) × (seg (i + n) true t ≡ last_chunk cs)
@@ -125,12 +127,14 @@ module _ (k : OpeningKey) (S : List ℕ) (texts : List (List ℕ)) (c : Cutting)
   last_is_one : (n : ℕ) → n + 1 ≡ chunk_count c.first c.size behind → ((t : List ℕ) → c.seg n true t ≡ last_chunk (chunks_in c S) → ⊥) → ⊥
   last_is_one n count none =
       let last = last_of_texts c.seg 0 n (chunks_in c S) texts are.0 are.1 (count ∙ shape.1) in
-      none last.0 last.1
+      let number : n ≡ 0 + n = omega arith in
+      none last.0 (ap (λ j. c.seg j true last.0) number ∙ last.1)
 
   next_is_one : (lo hi n : ℕ) (bytes : List ℕ) → StopsAtChunk c.seg c.over lo hi (chunks_in c S) bytes n → ⊥
   next_is_one lo hi n bytes s =
       let next = next_of_texts c.seg c.over lo hi 0 0 (chunks_in c S) texts n bytes s.at s.chunk s.behind are.0 are.1 s.before in
-      s.none next.0 next.1
+      let number : n ≡ 0 + n = omega arith in
+      s.none next.0 (ap (λ j. c.seg j (is_last s.behind) next.0) number ∙ next.1)
 
   module _ {W : Type 0} (got : W → Option (List ℕ)) (faults : W → ℕ) (start len : ℕ) (e : Moments W) (told : e.all ≡ Some S) (reads : Rose e.reads_before e.reads_after → ⊥) (writes : Rose (faults e.old) (faults e.new) → ⊥) where
     -- and it is refused for no other cause than a fault
