@@ -1,5 +1,5 @@
 -- From the keys of a list to those of a set, and to those that were loaded.
-use Rattle.std.proofs.Common.{◌≡◌, inl, inr, ℕ, List, map, refl, subst, Some, None}
+use Rattle.std.proofs.Common.{◌≡◌, ℕ, List, map, refl, subst}
 use Rattle.std.proofs.lemmas.Simd.{map-map}
 use Rattle.std.specs.Prelude.{Result, Ok, Err}
 use Rattle.std.specs.declared.option.Option.{Option}
