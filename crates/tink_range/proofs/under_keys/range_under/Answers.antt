@@ -1,6 +1,6 @@
 use Rattle.std.proofs.Common.{length, map, sym}
 use Rattle.std.proofs.lemmas.List.{length-map}
-use Rattle.stream_model.specs.Opening.{OpeningKey, opening_key}
+use Rattle.stream_model.specs.Opening.{opening_key}
 use Rattle.tink_range.specs.RangeCores.{cutting_of}
 use Rattle.tink_range.proofs.KeyRangeSteps.{takes_steps, under_chosen}
 use Rattle.tink_range.proofs.under_keys.range_under.Goals as goal
