@@ -1,29 +1,28 @@
-//! The two commands of tokens.
+//! Tokens from a source to a sink.
 
-ghost use Rattle.std.specs.Prelude.{◌≡◌, IfErr};
+ghost use Rattle.std.specs.Prelude.{◌≡◌, ◌+◌, IfErr};
+ghost use Rattle.tink_keyset_io.specs.Reading.{LosesAtMost};
 ghost use Rattle.tink_run.specs.Outside.{outside_of};
-ghost use Rattle.tink_program.specs.Program.{IsEarlyKind, IsUnwrittenKind, answer_outcome};
-ghost use Rattle.tink_program.specs.TokenSteps.{AreLoadedMacs, GivesMacs, MakesOfInput};
-ghost use Rattle.tink_program.specs.Tokens.{Macs, RefusesSigning, RefusesVerifying, SignsTo, TokenMeans, VerifiesTo, macs_in, macs_of};
+ghost use Rattle.tink_run_tokens.specs.Inputs.{IsUnloadable, IsUnwritten, input_limit};
+ghost use Rattle.tink_run_tokens.specs.TokenSteps.{AreLoadedMacs, GivesMacs, MakesOfInput};
+ghost use Rattle.tink_run_tokens.specs.Tokens.{Macs, RefusesSigning, RefusesVerifying, SignsTo, TokenMeans, VerifiesTo, macs_in, macs_of};
 
+use crate::input::read_input;
 use std::alloc::Global;
 use tink::{Managers, registry};
-use tink_io::{Kind, Sink, Source, TinkError, write_all};
-use tink_keyset_io::read_whole;
+use tink_io::{Sink, Source, TinkError, write_all};
 use tink_keysets::keyset::{Handle, insecure};
 use tink_mac::{MacKind, WrappedMac};
 use tink_proto::{Bytes, Text};
 use tink_tokens::{sign, verify};
 
-// The most bytes of input.
-const MOST: usize = 16_777_216;
-
 /// Writes the token of the source's bytes by the primary key of a keyset of MACs.
 ///
 /// # Errors
-/// The first that applies: those of `load_macs`; `ReadFault`; `InputTooLong` exactly where the source has more than
-/// 16,777,216 bytes; `WriteFault` after a prefix of the token. `OutOfMemory` may come in place of each, and leaves the
-/// sink as it is.
+/// The first that applies: `BadKeyset`, `InvalidKeyset`, `UnsupportedKeyType`, `InvalidKey`, `NoPrimary` or
+/// `WrongPrimitive`, why the keyset does not load as MACs, with nothing read; `ReadFault`; `InputTooLong` exactly where
+/// the source has more than 16,777,216 bytes, of which one more was taken; `WriteFault` after a prefix of the token.
+/// `OutOfMemory` may come in place of each. Each but `WriteFault` leaves the sink as it is.
 pub fn write_token<S: Source, K: Sink>(
     alloc: Global,
     keyset: &[u8],
@@ -33,9 +32,10 @@ pub fn write_token<S: Source, K: Sink>(
     ensures answer { TokenMeans SignsTo RefusesSigning keyset.now
         (outside_of S.left S.faults K.got K.faults source.old sink.old)
         (outside_of S.left S.faults K.got K.faults source.new sink.new)
-        (answer_outcome result) }
-    ensures unread { IfErr result (λ e. IsEarlyKind e.kind → source.new ≡ source.old) }
-    ensures unwritten { IfErr result (λ e. IsUnwrittenKind e.kind → sink.new ≡ sink.old) }
+        result }
+    ensures taken { LosesAtMost (input_limit + 1) (S.left source.old) (S.left source.new) }
+    ensures unread { IfErr result (λ e. IsUnloadable e.kind → source.new ≡ source.old) }
+    ensures unwritten { IfErr result (λ e. IsUnwritten e.kind → sink.new ≡ sink.old) }
     ensures source { S.same source.old source.new }
     ensures sink { K.same sink.old sink.new }
 {
@@ -58,9 +58,10 @@ pub fn write_payload<S: Source, K: Sink>(
     ensures answer { TokenMeans VerifiesTo RefusesVerifying keyset.now
         (outside_of S.left S.faults K.got K.faults source.old sink.old)
         (outside_of S.left S.faults K.got K.faults source.new sink.new)
-        (answer_outcome result) }
-    ensures unread { IfErr result (λ e. IsEarlyKind e.kind → source.new ≡ source.old) }
-    ensures unwritten { IfErr result (λ e. IsUnwrittenKind e.kind → sink.new ≡ sink.old) }
+        result }
+    ensures taken { LosesAtMost (input_limit + 1) (S.left source.old) (S.left source.new) }
+    ensures unread { IfErr result (λ e. IsUnloadable e.kind → source.new ≡ source.old) }
+    ensures unwritten { IfErr result (λ e. IsUnwritten e.kind → sink.new ≡ sink.old) }
     ensures source { S.same source.old source.new }
     ensures sink { K.same sink.old sink.new }
 {
@@ -77,9 +78,10 @@ fn signed_input<S: Source>(
 ) -> Result<Text, TinkError>
     ensures answer { (m : Macs) → AreLoadedMacs m macs.now → MakesOfInput (SignsTo m) (RefusesSigning m)
         (S.left source.old) (S.left source.new) (S.faults source.old) (S.faults source.new) result }
+    ensures taken { LosesAtMost (input_limit + 1) (S.left source.old) (S.left source.new) }
     ensures same { S.same source.old source.new }
 {
-    let payload = read_whole(alloc, source, MOST, Kind::InputTooLong)?;
+    let payload = read_input(alloc, source)?;
     sign(alloc, macs, &payload)
 }
 
@@ -91,9 +93,10 @@ fn verified_input<S: Source>(
 ) -> Result<Bytes, TinkError>
     ensures answer { (m : Macs) → AreLoadedMacs m macs.now → MakesOfInput (VerifiesTo m) (RefusesVerifying m)
         (S.left source.old) (S.left source.new) (S.faults source.old) (S.faults source.new) result }
+    ensures taken { LosesAtMost (input_limit + 1) (S.left source.old) (S.left source.new) }
     ensures same { S.same source.old source.new }
 {
-    let token = read_whole(alloc, source, MOST, Kind::InputTooLong)?;
+    let token = read_input(alloc, source)?;
     verify(alloc, macs, &token)
 }
 

@@ -1,6 +1,5 @@
--- The commands of tokens, step by step.
-use Rattle.std.specs.Prelude.{◌≡◌, ◌⊎◌, ◌≤◌, ◌<◌, ℕ, List, length, Option, Result, Ok, Err, IfSome}
-use Rattle.std.specs.Io.KnownBytes.{Consumes, IsAtEnd}
+-- Tokens of what a source has, step by step.
+use Rattle.std.specs.Prelude.{◌≡◌, ◌⊎◌, ℕ, List, Option, Result, Ok, Err}
 use Rattle.tink_io.specs.Faults.{Rose}
 use Rattle.tink_io.specs.declared.error.Kind.{Kind}
 use Rattle.tink_io.specs.declared.error.Kind.TheVariants.{OutOfMemory, ReadFault, InputTooLong}
@@ -9,7 +8,8 @@ use Rattle.tink_mac.specs.MacKinds.{kind_computes, kind_verifies}
 use Rattle.tink_mac.specs.Wrapped.{IsMacOf}
 use Rattle.tink_mac.specs.declared.mac_kind.MacKind.{MacKind}
 use Rattle.tink_mac.specs.declared.factory.WrappedMac.{WrappedMac}
-use Rattle.tink_program.specs.Tokens.{input_limit, Macs}
+use Rattle.tink_run_tokens.specs.Inputs.{ExceedsLimit, ReadsInput}
+use Rattle.tink_run_tokens.specs.Tokens.{Macs}
 
 -- the MACs of a set are those that loaded
 abbrev pub AreLoadedMacs : Macs → WrappedMac MacKind → Type 0
@@ -20,19 +20,13 @@ abbrev pub GivesMacs : Result (WrappedMac MacKind) TinkError → Result Macs Kin
 GivesMacs (Ok w) told = (macs : Macs) × (told ≡ Ok macs) × AreLoadedMacs macs w
 GivesMacs (Err e) told = (e.kind ≡ OutOfMemory) ⊎ (told ≡ Err e.kind)
 
--- the whole input was read
-pub record ReadsInput (old new : Option (List ℕ)) (input : List ℕ) : Type 0 where
-  pub read : Consumes old new input
-  pub at_end : IsAtEnd new
-  pub fits : length input ≤ input_limit
-
 module _ (Gives : List ℕ → List ℕ → Type 0) (Refuses : List ℕ → Kind → Type 0) (old new : Option (List ℕ))
     (before now : ℕ) where
   -- why nothing is made of the input that a source has. `OutOfMemory` is free.
   abbrev pub MakesNothing : Kind → Type 0
   MakesNothing OutOfMemory = Unit {0}
   MakesNothing ReadFault = Rose before now
-  MakesNothing InputTooLong = IfSome old (λ input. input_limit < length input)
+  MakesNothing InputTooLong = ExceedsLimit old
   MakesNothing kind = (input : List ℕ) × ReadsInput old new input × Refuses input kind
 
   -- what is made of it

@@ -1,11 +1,11 @@
--- The commands of tokens, from their calls to their answers.
+-- Tokens of what a source has, from the calls to the answers.
 use Rattle.std.proofs.Common.{◌≡◌, ◌⊎◌, inl, inr, ℕ, List, true, Some, None, refl, sym, ◌∙◌, ap, subst}
 use Rattle.std.specs.Prelude.{Option, Result, Ok, Err, is_some, IfErr, OnErr, OnOk}
 use Rattle.std.specs.Io.KnownBytes.{Appends}
 use Rattle.tink_io.specs.Faults.{Rose}
 use Rattle.tink_io.specs.Written.{AppendsFront}
 use Rattle.tink_io.specs.declared.error.Kind.{Kind}
-use Rattle.tink_io.specs.declared.error.Kind.TheVariants.{OutOfMemory, ReadFault, WriteFault, BadKeyset, InvalidKeyset, UnsupportedKeyType, InvalidKey, NoPrimary, WrongPrimitive, InputTooLong, BadToken, MacMismatch}
+use Rattle.tink_io.specs.declared.error.Kind.TheVariants.{OutOfMemory, ReadFault, WriteFault, InputTooLong, BadToken, MacMismatch}
 use Rattle.tink_io.specs.declared.error.TinkError.{TinkError}
 use Rattle.tink_io.specs.Told.{made_of, Answers}
 use Rattle.tink_proto.specs.declared.messages.keys.Keyset.{Keyset}
@@ -21,17 +21,17 @@ use Rattle.tink_sets.specs.Groups.{group_of}
 use Rattle.tink_sets.specs.declared.entry.TypedEntry.{TypedEntry}
 use Rattle.tink_keyset_io.specs.Reading.{IsUnreadText}
 use Rattle.tink_factory.specs.Accepting.{entries_of}
-use Rattle.loading_model.proofs.UsableKeys.{IsOfLoading}
 use Rattle.tink_mac.specs.MacKinds.{kind_computes, kind_verifies}
 use Rattle.tink_mac.specs.Wrapped.{primary_mac, IsMacOf}
 use Rattle.tink_mac.specs.declared.factory.WrappedMac.{WrappedMac}
 use Rattle.tink_mac.specs.declared.mac_kind.MacKind.{MacKind}
 use Rattle.tink_tokens.specs.Tokens.{spelled, IsAnswered, IsSigned, IsSigning, IsVerifying}
 use Rattle.tink_run.specs.Outside.{Outside}
-use Rattle.tink_program.specs.Program.{answer_outcome}
-use Rattle.tink_program.specs.TokenSteps.{AreLoadedMacs, GivesMacs, MakesNothing, MakesOfInput, ReadsInput}
-use Rattle.tink_program.specs.Tokens.{input_limit, macs_in, macs_of, supports_own, with_id, HasInput, Macs, RefusesSigning, RefusesVerifying, SignsTo, TokenMeans, TokenRefused, VerifiesTo}
-use Rattle.tink_program.proofs.MacFacts.{macs_refuse}
+use Rattle.tink_run_tokens.specs.Inputs.{input_limit, HasInput, IsOfInput, LeavesSink, ReadsInput}
+use Rattle.tink_run_tokens.specs.TokenSteps.{AreLoadedMacs, GivesMacs, MakesNothing, MakesOfInput}
+use Rattle.tink_run_tokens.specs.Tokens.{macs_in, macs_of, supports_own, with_id, Macs, RefusesSigning, RefusesVerifying, SignsTo, TokenMeans, TokenRefused, TokenRefuses, VerifiesTo}
+use Rattle.tink_run_tokens.proofs.InputSteps.{unloaded}
+use Rattle.tink_run_tokens.proofs.MacFacts.{macs_refuse}
 
 -- ---- what loads
 
@@ -110,22 +110,14 @@ verified m w a b before now input text result read same is macs = by_result resu
 -- ---- of a keyset
 
 module _ (Gives : Macs → List ℕ → List ℕ → Type 0) (Refuses : Macs → List ℕ → Kind → Type 0) (keyset : List ℕ) where
-  unloaded : (o : Outside) (kind : Kind) → macs_of keyset ≡ Err kind → IsOfLoading kind → TokenRefused Gives Refuses keyset o o kind
-  unloaded o BadKeyset is of = record { cause = is; untouched = refl }
-  unloaded o InvalidKeyset is of = record { cause = is; untouched = refl }
-  unloaded o UnsupportedKeyType is of = record { cause = is; untouched = refl }
-  unloaded o InvalidKey is of = record { cause = is; untouched = refl }
-  unloaded o NoPrimary is of = record { cause = is; untouched = refl }
-  unloaded o WrongPrimitive is of = record { cause = is; untouched = refl }
-  unloaded o _ is of = absurd of
-
   -- a keyset whose MACs do not load
-  pub not_loaded : (o : Outside) (e : TinkError) → GivesMacs (Err e) (macs_of keyset) → TokenMeans Gives Refuses keyset o o (answer_outcome {T = Unit {0}} (Err e))
+  pub not_loaded : (o : Outside) (e : TinkError) → GivesMacs (Err e) (macs_of keyset) → TokenMeans Gives Refuses keyset o o (Err e)
   not_loaded o e (inl want) = rw want (record { got = refl; faults = refl })
-  not_loaded o e (inr is) = unloaded o e.kind is (macs_refuse keyset e.kind is)
+  not_loaded o e (inr is) = unloaded (macs_of keyset) (TokenRefuses Gives Refuses o o) o e.kind is (macs_refuse keyset e.kind is)
 
-  has_input : (old new : Outside) (input : List ℕ) → ReadsInput old.left new.left input → HasInput old new input
-  has_input old new input read = record { read = read.read; at_end = read.at_end; fits = read.fits }
+  refused : (old new : Outside) (macs : Macs) (kind : Kind) → macs_of keyset ≡ Ok macs → LeavesSink old new → (input : List ℕ) × HasInput old new input × Refuses macs input kind
+      → IsOfInput (macs_of keyset) old new (λ m input. Refuses m input kind × LeavesSink old new)
+  refused old new macs kind loads sink m = record { loaded = macs; loads = loads; input = m.0; has = m.1; then = (m.2, sink) }
 
   -- nothing was made of the input
   pub not_made : (only : (macs : Macs) (input : List ℕ) (kind : Kind) → Refuses macs input kind → (kind ≡ BadToken) ⊎ (kind ≡ MacMismatch))
@@ -134,37 +126,30 @@ module _ (Gives : Macs → List ℕ → List ℕ → Type 0) (Refuses : Macs →
   not_made only old new macs OutOfMemory loads got faults m = record { got = got; faults = faults }
   not_made only old new macs ReadFault loads got faults m = ((macs, loads), record { got = got; faults = faults }, m)
   not_made only old new macs InputTooLong loads got faults m = ((macs, loads), record { got = got; faults = faults }, m)
-  not_made only old new macs BadToken loads got faults m = record { macs = macs; loads = loads; input = m.0; has = has_input old new m.0 m.1; refuses = m.2; sink = record { got = got; faults = faults } }
-  not_made only old new macs MacMismatch loads got faults m = record { macs = macs; loads = loads; input = m.0; has = has_input old new m.0 m.1; refuses = m.2; sink = record { got = got; faults = faults } }
+  not_made only old new macs BadToken loads got faults m = refused old new macs BadToken loads (record { got = got; faults = faults }) m
+  not_made only old new macs MacMismatch loads got faults m = refused old new macs MacMismatch loads (record { got = got; faults = faults }) m
   not_made only old new macs _ loads got faults m = elim (only macs m.0 _ m.2) [ inl is ↦ absurd (cc is) | inr is ↦ absurd (cc is) ]
 
   -- what was made was written, or a prefix of it
   pub made : (old new : Outside) (macs : Macs) (output written : List ℕ) (answer : Result (Unit {0}) TinkError) → macs_of keyset ≡ Ok macs
       → MakesOfInput (Gives macs) (Refuses macs) old.left new.left old.read_faults new.read_faults (Ok output) → written ≡ output
       → OnOk answer (Appends old.got new.got written) → OnErr answer (AppendsFront old.got new.got written) → OnErr answer (Rose old.write_faults new.write_faults)
-      → IfErr answer (λ e. e ≡ record { kind = WriteFault }) → TokenMeans Gives Refuses keyset old new (answer_outcome answer)
+      → IfErr answer (λ e. e ≡ record { kind = WriteFault }) → TokenMeans Gives Refuses keyset old new answer
   made old new macs output written (Ok done) loads m same whole front rose fault = record {
-    macs = macs;
+    loaded = macs;
     loads = loads;
     input = m.0;
-    has = has_input old new m.0 m.1;
-    output = output;
-    gives = m.2;
-    written = subst (λ x. Appends old.got new.got x) same whole;
+    has = m.1;
+    then = record { output = output; gives = m.2; written = subst (λ x. Appends old.got new.got x) same whole };
   }
   made old new macs output written (Err e) loads m same whole front rose fault =
-      rw (ap (λ (x : TinkError). x.kind) fault) (
-        record {
-          macs = macs;
-          loads = loads;
-          input = m.0;
-          has = has_input old new m.0 m.1;
-          output = output;
-          gives = m.2;
-          written = subst (λ x. AppendsFront old.got new.got x) same front;
-        },
-        rose,
-      )
+      rw (ap (λ (x : TinkError). x.kind) fault) (record {
+        loaded = macs;
+        loads = loads;
+        input = m.0;
+        has = m.1;
+        then = (record { output = output; gives = m.2; written = subst (λ x. AppendsFront old.got new.got x) same front }, rose);
+      })
 
 pub signing_only : (macs : Macs) (input : List ℕ) (kind : Kind) → RefusesSigning macs input kind → (kind ≡ BadToken) ⊎ (kind ≡ MacMismatch)
 signing_only macs input kind refuses = absurd refuses
