@@ -253,9 +253,9 @@ text_wrote seg a b w v text e k l x = go e.kind x
     go (FailedBefore c) x unwritten = absurd unwritten
     go _ x unwritten = absurd x
 
-pub finish_wrote : {K : Type 0} (seg : ℕ → Bool → List ℕ → List ℕ) (w v : WriterMoment) (bytes : ℕ) (answer : Result Report TinkError) (k l : K) → FinishMeans seg w v bytes answer → LeavesSinkItself answer k l
-finish_wrote seg w v bytes (Ok report) k l x = tt
-finish_wrote seg w v bytes (Err e) k l x = go e.kind x
+pub finish_wrote : {K : Type 0} (seg : ℕ → Bool → List ℕ → List ℕ) (w v : WriterMoment) (total : ℕ) (answer : Result Report TinkError) (k l : K) → FinishMeans seg w v total answer → LeavesSinkItself answer k l
+finish_wrote seg w v total (Ok report) k l x = tt
+finish_wrote seg w v total (Err e) k l x = go e.kind x
   where
     go : (kind : Kind) → CloseRefused seg w v kind → WritesNothing kind → l ≡ k
     go WriteFault x unwritten = absurd unwritten
