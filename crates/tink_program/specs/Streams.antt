@@ -9,8 +9,7 @@ use Rattle.tink_run.specs.AllKeys.{load}
 use Rattle.tink_run.specs.Outside.{Outside, IsUntouched, HasNoFault}
 use Rattle.tink_run.specs.Run.{AnswerMeans, Told, OkMeans, IsWholeStream, IsWholeText, IsOfAgreeing, OnlyAgreeing, CanSeal, CanOpen, IsComplete}
 use Rattle.tink_run.specs.SealAnswers.{SourceFailed}
-use Rattle.tink_rewrap.specs.Promises.{CanRewrap, IsWholeRewrap, LeavesUnended}
-use Rattle.tink_rewrap.specs.Promises as rewraps
+use Rattle.tink_rewrap.specs.Promises.{CanRewrap, CompletesRewrap, IsWholeRewrap, LeavesUnended}
 use Rattle.tink_rewrap.specs.Rewrapping.{RewrapMeans, SecondRefused, Sides}
 use Rattle.tink_run.specs.declared.report.Command.{Command}
 use Rattle.tink_run.specs.declared.report.Report.{Report}
@@ -111,7 +110,7 @@ pub record Moved (sides : Sides) (draws : List ℕ) (old new : Outside) (answer 
   pub ok : IfOk answer
       (λ report. (S G : List ℕ) → Told old S G → IsWholeRewrap sides draws left_draws S G new report)
   pub unended : LeavesUnended sides draws old new answer
-  pub succeeds : rewraps.IsComplete sides draws old new answer
+  pub succeeds : CompletesRewrap sides draws old new answer
 
 -- some rewrap gave this answer
 abbrev pub HasRewrapped : Sides → List ℕ → Outside → Outside → Result Report TinkError → Type 0

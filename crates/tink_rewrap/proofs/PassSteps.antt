@@ -21,6 +21,7 @@ use Rattle.tink_streams.proofs.WritingFacts.{IsFresh, fresh_filled, wrote_nothin
 use Rattle.tink_run.specs.declared.report.Report.{Report}
 use Rattle.tink_run.specs.Outside.{Outside}
 use Rattle.tink_run.specs.OpenSteps.{Breaks, FirstRefused, ReaderMeans}
+use Rattle.tink_run.specs.Run.{LeavesSinkItself, WritesNothing}
 use Rattle.tink_run.proofs.OpenLemmas.{kept_front, whole_front}
 use Rattle.tink_run.proofs.ReadOut.{IsReading, any_told, first_refused, next_refused, read_out, reading_first, reading_next, write_failed}
 use Rattle.tink_rewrap.specs.Passing.{FinishMeans, NewBytes, anywhere, bytes_by, into, PassMeans, PassRefused}
@@ -240,3 +241,23 @@ module _ (read : ℕ → Bool → List ℕ → List ℕ) (first size overhead : 
           → PassMeans (ReaderMeans read first size overhead) (Breaks read first size) anywhere made old new answer
       finished total (Ok report) all later since more x = closed report x.1 (x.2 ∙ all) x.0
       finished total (Err e) all later since more x = not_closed e.kind later since more x
+
+-- a writer is refused by no kind that leaves the sink
+pub text_wrote : {K : Type 0} (seg : ℕ → Bool → List ℕ → List ℕ) (a b : ℕ) (w v : WriterMoment) (text : List ℕ) (e : TinkError) (k l : K) → WriteRefused seg a b w v text e.kind → LeavesSinkItself (Err e) k l
+text_wrote seg a b w v text e k l x = go e.kind x
+  where
+    go : (kind : Kind) → WriteRefused seg a b w v text kind → WritesNothing kind → l ≡ k
+    go WriteFault x unwritten = absurd unwritten
+    go TooManySegments x unwritten = absurd unwritten
+    go kind.Closed x unwritten = absurd unwritten
+    go (FailedBefore c) x unwritten = absurd unwritten
+    go _ x unwritten = absurd x
+
+pub finish_wrote : {K : Type 0} (seg : ℕ → Bool → List ℕ → List ℕ) (w v : WriterMoment) (total : ℕ) (answer : Result Report TinkError) (k l : K) → FinishMeans seg w v total answer → LeavesSinkItself answer k l
+finish_wrote seg w v total (Ok report) k l x = tt
+finish_wrote seg w v total (Err e) k l x = go e.kind x
+  where
+    go : (kind : Kind) → CloseRefused seg w v kind → WritesNothing kind → l ≡ k
+    go WriteFault x unwritten = absurd unwritten
+    go (FailedBefore c) x unwritten = absurd unwritten
+    go _ x unwritten = absurd x

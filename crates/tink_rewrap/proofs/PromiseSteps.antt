@@ -30,7 +30,7 @@ use Rattle.tink_run.proofs.RowFacts.{loaded_usable}
 use Rattle.tink_run.proofs.RunLemmas.{told_appended, told_if}
 use Rattle.tink_rewrap.specs.Passing.{bytes_under, into, PassMeans, PassRefused, StopsBy}
 use Rattle.tink_rewrap.specs.Rewrapping.{HasKey, IsUnloaded, RewrapMeans, RewrapRefused, RewrapsLoaded, RewrapsUnder, RewrapsUnderRefused, Sides}
-use Rattle.tink_rewrap.specs.Promises.{CanRewrap, IsComplete, IsUnended, IsWholeRewrap, LeavesUnended, MayEnd}
+use Rattle.tink_rewrap.specs.Promises.{CanRewrap, CompletesRewrap, IsUnended, IsWholeRewrap, LeavesUnended, MayEnd}
 
 -- ---- what is made of a longer text
 
@@ -396,6 +396,6 @@ module _ (s : Sides) (draws left_draws S G : List ℕ) (old new : Outside) (e : 
   wants _ same x = absurd x
 
 -- a stream that can be moved is, or there is no memory
-pub complete : (s : Sides) (draws left_draws : List ℕ) (old new : Outside) (answer : Result Report TinkError) → RewrapMeans s draws left_draws old new answer → IsComplete s draws old new answer
+pub complete : (s : Sides) (draws left_draws : List ℕ) (old new : Outside) (answer : Result Report TinkError) → RewrapMeans s draws left_draws old new answer → CompletesRewrap s draws old new answer
 complete s draws left_draws old new (Ok report) r = λ S G t n c. tt
 complete s draws left_draws old new (Err e) r = λ S G t n c. wants s draws left_draws S G old new e t n c e.kind refl r

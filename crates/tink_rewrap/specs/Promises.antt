@@ -67,5 +67,5 @@ pub record CanRewrap (s : Sides) (draws S : List ℕ) : Type 0 where
   pub few : chunk_count to_loaded.primary (joined texts) ≤ 2 ^ 32
 
 -- where neither count rose and the stream can be moved, it is, or there is no memory
-abbrev pub IsComplete : Sides → List ℕ → Outside → Outside → Result Report TinkError → Type 0
-IsComplete s draws old new answer = (S G : List ℕ) → Told old S G → HasNoFault old new → CanRewrap s draws S → IsOkOrWant answer
+abbrev pub CompletesRewrap : Sides → List ℕ → Outside → Outside → Result Report TinkError → Type 0
+CompletesRewrap s draws old new answer = (S G : List ℕ) → Told old S G → HasNoFault old new → CanRewrap s draws S → IsOkOrWant answer

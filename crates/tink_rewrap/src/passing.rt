@@ -1,7 +1,6 @@
 //! The text of one stream into another, segment by segment.
 
-ghost use Rattle.std.specs.Prelude.{◌≡◌, ◌≤◌, ◌<◌, ◌+◌, [], length, map, All, vec_len, vec_capacity};
-ghost use Rattle.stream_model.specs.Key.{nonce_size};
+ghost use Rattle.std.specs.Prelude.{◌≡◌, ◌≤◌, [], map};
 ghost use Rattle.stream_model.specs.Opening as opening;
 ghost use Rattle.tink_streams.specs.Openers as openers;
 ghost use Rattle.tink_streams.specs.Sealers as sealers;
@@ -9,8 +8,9 @@ ghost use Rattle.tink_streams.specs.declared.progress.Progress.TheVariants.{Runn
 ghost use Rattle.tink_streams.specs.declared.writing.Mode.TheVariants.{Open};
 ghost use Rattle.tink_run.specs.OpenAnswers.{IsBroken, OpeningMeans};
 ghost use Rattle.tink_run.specs.OpenSteps.{Breaks, ReaderMeans, held_outside};
-ghost use Rattle.tink_run.specs.Outside.{outside_of};
-ghost use Rattle.tink_rewrap.specs.Passing.{FinishMeans, PassMeans, anywhere, bytes_by};
+ghost use Rattle.tink_run.specs.Outside.{FaultsStay, outside_of};
+ghost use Rattle.tink_run.specs.Run.{LeavesSinkItself};
+ghost use Rattle.tink_rewrap.specs.Passing.{FinishMeans, FitsKeys, IsUnbegun, PassMeans, anywhere, bytes_by};
 ghost use Rattle.tink_rewrap.specs.Rewrapping.{HasKey};
 
 use tink_io::{Sink, Source, TinkError};
@@ -67,6 +67,9 @@ pub fn pass<S: Source, K: Sink, D: SegmentDecrypter + Drop, E: SegmentEncrypter 
         (held_outside S.left S.faults K.got K.faults reader.old source.old sink.old)
         (outside_of S.left S.faults K.got K.faults source.new sink.new)
         result }
+    ensures unwritten { LeavesSinkItself result sink.old sink.new }
+    ensures later { FaultsStay (outside_of S.left S.faults K.got K.faults source.old sink.old)
+        (outside_of S.left S.faults K.got K.faults source.new sink.new) }
     ensures source { S.same source.old source.new }
     ensures sink { K.same sink.old sink.new }
 {
@@ -100,14 +103,8 @@ pub fn pass_under<S: Source, K: Sink, T: DerivesStreams>(
     source: &mut S,
     sink: &mut K,
 ) -> Result<Report, TinkError>
-    requires filled { trial.kept.filled ≡ 0 }
-    requires buffer { All (λ k. length (T.key_of k).out + (T.key_of k).segment < vec_len trial.kept.buffer) keys.now }
-    requires room { All (λ k. (T.key_of k).segment ≤ vec_capacity trial.opened) keys.now }
-    requires nonce { All (λ k. nonce_size (T.key_of k) ≤ vec_len trial.nonce) keys.now }
-    requires prefix { 7 ≤ vec_capacity trial.prefix }
-    requires open { stream.old.writer.mode ≡ Open }
-    requires fresh { stream.old.writer.segments ≡ 0 }
-    requires empty { stream.old.writer.held.items ≡ [] }
+    requires trial { FitsKeys T.key_of keys.now trial }
+    requires stream { IsUnbegun stream.old.writer.mode stream.old.writer.segments stream.old.writer.held.items }
     ensures answer { PassMeans (OpeningMeans (map (λ k. opening.opening_key aad.now (T.key_of k)) keys.now))
         (IsBroken (map (λ k. opening.opening_key aad.now (T.key_of k)) keys.now))
         (HasKey (map (λ k. opening.opening_key aad.now (T.key_of k)) keys.now))
@@ -116,6 +113,9 @@ pub fn pass_under<S: Source, K: Sink, T: DerivesStreams>(
         (outside_of S.left S.faults K.got K.faults source.old sink.old)
         (outside_of S.left S.faults K.got K.faults source.new sink.new)
         result }
+    ensures unwritten { LeavesSinkItself result sink.old sink.new }
+    ensures later { FaultsStay (outside_of S.left S.faults K.got K.faults source.old sink.old)
+        (outside_of S.left S.faults K.got K.faults source.new sink.new) }
     ensures source { S.same source.old source.new }
     ensures sink { K.same sink.old sink.new }
 {

@@ -1,10 +1,10 @@
 //! A stream from a keyset to another.
 
 ghost use Rattle.std.specs.Prelude.{◌≡◌, ℕ, List, IfOk};
-ghost use Rattle.tink_run.specs.Outside.{outside_of};
-ghost use Rattle.tink_run.specs.Run.{LeavesEnds, Told};
+ghost use Rattle.tink_run.specs.Outside.{FaultsStay, outside_of};
+ghost use Rattle.tink_run.specs.Run.{LeavesEnds, LeavesSinkItself, Told};
 ghost use Rattle.tink_rewrap.specs.Rewrapping.{RewrapMeans, Sides};
-ghost use Rattle.tink_rewrap.specs.Promises.{IsComplete, IsWholeRewrap, LeavesUnended};
+ghost use Rattle.tink_rewrap.specs.Promises.{CompletesRewrap, IsWholeRewrap, LeavesUnended};
 
 use crate::between::rewrap_between;
 use std::alloc::Global;
@@ -70,15 +70,19 @@ pub fn rewrap<S: Source, K: Sink>(
         result }
 
     // Told bytes: where neither end fails and the stream can be moved, it is, or there is no memory.
-    ensures succeeds { IsComplete
+    ensures succeeds { CompletesRewrap
         (record { from = from.now; from_aad = from_aad.now; to = to.now; to_aad = to_aad.now })
         draws.old
         (outside_of S.left S.faults K.got K.faults source.old sink.old)
         (outside_of S.left S.faults K.got K.faults source.new sink.new)
         result }
 
-    // A refusal that comes before anything was read or written leaves the ends themselves as they were.
+    // A refusal that comes before anything was read or written leaves the ends themselves as they were, and
+    // `NoMatchingKey` the sink.
     ensures early { LeavesEnds result source.old source.new sink.old sink.new }
+    ensures unwritten { LeavesSinkItself result sink.old sink.new }
+    ensures later { FaultsStay (outside_of S.left S.faults K.got K.faults source.old sink.old)
+        (outside_of S.left S.faults K.got K.faults source.new sink.new) }
     ensures source { S.same source.old source.new }
     ensures sink { K.same sink.old sink.new }
 {
@@ -103,6 +107,9 @@ fn answer<S: Source, K: Sink>(
         (outside_of S.left S.faults K.got K.faults source.new sink.new)
         result }
     ensures early { LeavesEnds result source.old source.new sink.old sink.new }
+    ensures unwritten { LeavesSinkItself result sink.old sink.new }
+    ensures later { FaultsStay (outside_of S.left S.faults K.got K.faults source.old sink.old)
+        (outside_of S.left S.faults K.got K.faults source.new sink.new) }
     ensures source { S.same source.old source.new }
     ensures sink { K.same sink.old sink.new }
 {

@@ -90,6 +90,20 @@ fn each_write_may_fail(rt: HostRuntime) -> Result<(), Fail> {
     Ok(())
 }
 
+// A sink that would fail at its first call has none.
+#[test]
+fn a_source_of_no_key_leaves_the_sink(rt: HostRuntime) -> Result<(), Fail> {
+    let alloc = rt.alloc();
+    let ran = failing(alloc, &counted(alloc, 60)?, 7, 0, 1)?;
+    let left = ran.answer == Err(Kind::NoMatchingKey) && ran.draws == 1001;
+    is(
+        &rt,
+        left && ran.written.is_empty(),
+        "the sink was not called",
+    );
+    Ok(())
+}
+
 // With memory the stream is moved, and without nothing was read, written or drawn.
 #[test]
 fn want_of_memory_leaves_all(rt: HostRuntime) -> Result<(), Fail> {

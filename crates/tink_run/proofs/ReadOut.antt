@@ -2,7 +2,7 @@
 use Rattle.std.proofs.Common.{◌≡◌, ◌⊎◌, inl, inr, ◌≤◌, ◌<◌, ◌+◌, ◌-◌, ◌*◌, ◌^◌, ℕ, zero, suc, Bool, List, [], ◌∷◌, ◌++◌, length, get_or, refl, sym, ap, subst, ◌∙◌, arith, Some, None, IfSome, length-append}
 use Rattle.std.proofs.lemmas.List.{append-nil, length-take}
 use Rattle.std.specs.declared.option.Option.{Option}
-use Rattle.std.specs.Prelude.{IsSome}
+use Rattle.std.specs.Prelude.{Err, IsSome}
 use Rattle.std.specs.Io.KnownBytes.{Appends, Keeps, IsAtEnd, prepend_known}
 use Rattle.std.proofs.KnownBytes.{Appends-nil, Appends-trans}
 use Rattle.tink_io.specs.Faults.{Rose}
@@ -11,6 +11,7 @@ use Rattle.tink_io.proofs.FaultLemmas.{Rose-later, Rose-earlier}
 use Rattle.tink_io.proofs.WrittenLemmas.{then_front}
 use Rattle.tink_io.specs.declared.error.Kind.{Kind}
 use Rattle.tink_io.specs.declared.error.Kind.TheVariants.{ReadFault, TooManySegments, NoMatchingKey, BadSegment, Truncated}
+use Rattle.tink_io.specs.declared.error.TinkError.{TinkError}
 use Rattle.stream_model.specs.Cut.{cut, room_at}
 use Rattle.stream_model.specs.Agree.{AreTexts, Agree, Leads, joined}
 use Rattle.stream_model.proofs.CutFacts.{cut_some}
@@ -21,6 +22,7 @@ use Rattle.tink_streams.proofs.ReadingFacts.{Opened, opened_none, opened_more, o
 use Rattle.tink_run.specs.declared.report.Report.{Report}
 use Rattle.tink_run.specs.Outside.{Outside}
 use Rattle.tink_run.specs.OpenSteps.{FirstRefused, IsReadOut, Breaks, ReaderRefused}
+use Rattle.tink_run.specs.Run.{LeavesSinkItself, WritesNothing}
 use Rattle.tink_run.proofs.OpenLemmas.{whole_front, kept_front}
 
 -- of the texts that were opened, all but the last were written
@@ -190,6 +192,17 @@ next_refused seg a b overhead old new now m n bytes (Truncated k) p q r w later 
   written = written_one r.texts m.opened old.got now new.got r.written w;
 }
 next_refused seg a b overhead old new now m n bytes _ p q r w later more x = absurd x
+
+-- a reader behind the first segment is refused by no kind that leaves the sink
+pub next_wrote : {K : Type 0} (seg : ℕ → Bool → List ℕ → List ℕ) (a b overhead : ℕ) (m n : ReaderMoment) (e : TinkError) (k l : K) → OpenNextRefused seg a b overhead m n e.kind → LeavesSinkItself (Err e) k l
+next_wrote seg a b overhead m n e k l x = go e.kind x
+  where
+    go : (kind : Kind) → OpenNextRefused seg a b overhead m n kind → WritesNothing kind → l ≡ k
+    go ReadFault x unwritten = absurd unwritten
+    go TooManySegments x unwritten = absurd unwritten
+    go (BadSegment i) x unwritten = absurd unwritten
+    go (Truncated i) x unwritten = absurd unwritten
+    go _ x unwritten = absurd x
 
 -- what says nothing holds of what is told
 pub any_told : (all : Option (List ℕ)) → IfSome all (λ X. Unit {0})

@@ -5,7 +5,7 @@ use Rattle.std.specs.Prelude.{Result, Ok, Err, map}
 use Rattle.std.proofs.lemmas.List.Elements.{All-cons, All-nil}
 use Rattle.std.specs.declared.option.Option.{Option}
 use Rattle.tink_io.specs.declared.error.Kind.{Kind}
-use Rattle.tink_io.specs.declared.error.Kind.TheVariants.{OutOfMemory, BadKeyset, InvalidKeyset, UnsupportedKeyType, InvalidKey, NoPrimary, WrongPrimitive}
+use Rattle.tink_io.specs.declared.error.Kind.TheVariants.{OutOfMemory, BadKeyset, InvalidKeyset, UnsupportedKeyType, InvalidKey, NoPrimary, WrongPrimitive, NoMatchingKey}
 use Rattle.tink_io.specs.declared.error.TinkError.{TinkError}
 use Rattle.stream_model.specs.Key.{StreamKey}
 use Rattle.stream_model.specs.Opening.{IsChosen, OpeningKey, opening_key}
@@ -28,9 +28,9 @@ use Rattle.tink_run.proofs.RowFacts.{load_refuses, loaded_usable}
 use Rattle.tink_run.proofs.OneKeyFacts.{means_by}
 use Rattle.loading_model.proofs.UsableKeys.{IsOfLoading}
 use Rattle.tink_run.specs.Outside.{Outside, IsUntouched}
-use Rattle.tink_run.specs.Run.{AnswerMeans, LeavesEnds}
+use Rattle.tink_run.specs.Run.{AnswerMeans, IsEarly, LeavesEnds, LeavesSinkItself, WritesNothing}
 use Rattle.tink_run.specs.SealAnswers.{SealRefused}
-use Rattle.tink_run.specs.SealSteps.{SealsUnder}
+use Rattle.tink_run.specs.SealSteps.{SealsUnder, SealsUnderRefused}
 
 seal_unloaded : (keyset aad draws : List ℕ) (old new : Outside) (e : TinkError) (kind : Kind) → IsUntouched old new → load keyset ≡ Err kind → IsOfLoading kind → SealRefused keyset aad draws draws old new e kind
 seal_unloaded keyset aad draws old new e BadKeyset u l is = record { cause = l; untouched = u; undrawn = refl }
@@ -68,6 +68,16 @@ untouched m = refl
 pub leaves_same : {S K : Type 0} (answer : Result Report TinkError) (source : S) (sink : K) → LeavesEnds answer source source sink sink
 leaves_same (Ok report) source sink = tt
 leaves_same (Err e) source sink = λ early. (refl, refl)
+
+-- a seal finds no key wanting, so that it leaves the sink where it is refused early
+pub seal_unwritten : {S K : Type 0} (k : StreamKey) (aad draws left_draws : List ℕ) (old new : Outside) (answer : Result Report TinkError) (s t : S) (i j : K)
+    → SealsUnder k aad draws left_draws old new answer → LeavesEnds answer s t i j → LeavesSinkItself answer i j
+seal_unwritten k aad draws left_draws old new (Ok report) s t i j m early = tt
+seal_unwritten k aad draws left_draws old new (Err e) s t i j m early = go e.kind m early
+  where
+    go : (kind : Kind) → SealsUnderRefused k aad draws left_draws old new e kind → (IsEarly kind → (t ≡ s) × (j ≡ i)) → WritesNothing kind → j ≡ i
+    go NoMatchingKey m early unwritten = absurd m
+    go _ m early unwritten = (early unwritten).1
 
 -- a seal under the primary key is a seal under the keyset
 pub seals_keyset : (keyset aad draws left_draws : List ℕ) (set : TypedPrimitiveSet StreamKind) (key : StreamKey) (old new : Outside) (answer : Result Report TinkError) → GivesLoaded (Ok set) (load keyset) → key_in set.primary ≡ Some key

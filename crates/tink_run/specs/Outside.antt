@@ -1,5 +1,5 @@
 -- What is outside at one moment.
-use Rattle.std.specs.Prelude.{◌≡◌, ℕ, List}
+use Rattle.std.specs.Prelude.{◌≡◌, ℕ, ◌≤◌, List}
 use Rattle.std.specs.declared.option.Option.{Option}
 use Rattle.tink_io.specs.Faults.{Rose}
 
@@ -22,3 +22,8 @@ IsUntouched old new = new ≡ old
 pub record HasNoFault (old new : Outside) : Type 0 where
   pub reads : Rose old.read_faults new.read_faults → ⊥
   pub writes : Rose old.write_faults new.write_faults → ⊥
+
+-- neither count fell
+pub record FaultsStay (old new : Outside) : Type 0 where
+  pub reads : old.read_faults ≤ new.read_faults
+  pub writes : old.write_faults ≤ new.write_faults

@@ -3,7 +3,7 @@ use Rattle.std.specs.Prelude.{◌≡◌, ℕ, ◌≤◌, ◌^◌, List, [], ◌+
 use Rattle.std.specs.Io.KnownBytes.{Keeps}
 use Rattle.tink_io.specs.Written.{AppendsFront}
 use Rattle.tink_io.specs.declared.error.Kind.{Kind}
-use Rattle.tink_io.specs.declared.error.Kind.TheVariants.{OutOfMemory, RandomFault, BadKeyset, InvalidKeyset, UnsupportedKeyType, InvalidKey, NoPrimary, WrongPrimitive, UnsupportedHash}
+use Rattle.tink_io.specs.declared.error.Kind.TheVariants.{OutOfMemory, RandomFault, BadKeyset, InvalidKeyset, UnsupportedKeyType, InvalidKey, NoPrimary, WrongPrimitive, UnsupportedHash, NoMatchingKey}
 use Rattle.tink_io.specs.declared.error.TinkError.{TinkError}
 use Rattle.stream_model.specs.Agree.{joined}
 use Rattle.stream_model.specs.Key.{keys_of}
@@ -40,6 +40,16 @@ IsEarly _ = ⊥
 abbrev pub LeavesEnds : {S K : Type 0} → Result Report TinkError → S → S → K → K → Type 0
 LeavesEnds (Ok report) source source_after sink sink_after = Unit {0}
 LeavesEnds (Err e) source source_after sink sink_after = IsEarly e.kind → (source_after ≡ source) × (sink_after ≡ sink)
+
+-- kinds by which a command is refused before it writes
+abbrev pub WritesNothing : Kind → Type 0
+WritesNothing NoMatchingKey = Unit {0}
+WritesNothing kind = IsEarly kind
+
+-- a refusal by such a kind leaves the sink exactly as it was, whatever the sink tells
+abbrev pub LeavesSinkItself : {K : Type 0} → Result Report TinkError → K → K → Type 0
+LeavesSinkItself (Ok report) sink sink_after = Unit {0}
+LeavesSinkItself (Err e) sink sink_after = WritesNothing e.kind → sink_after ≡ sink
 
 -- the source told these bytes and the sink these
 pub record Told (m : Outside) (T G : List ℕ) : Type 0 where

@@ -3,10 +3,10 @@ ghost use Rattle.stream_model.specs.Key.{nonce_size};
 ghost use Rattle.stream_model.specs.Opening as opening;
 ghost use Rattle.tink_streams.specs.declared.progress.Progress.TheVariants.{Running};
 ghost use Rattle.tink_streams.specs.Openers.{reader_moment, segment_map};
-ghost use Rattle.tink_run.specs.Outside.{outside_of};
+ghost use Rattle.tink_run.specs.Outside.{FaultsStay, outside_of};
 ghost use Rattle.tink_streaming_aead.specs.Wrapped.{KeepsOrder, all_entries, keys_in};
 ghost use Rattle.tink_run.specs.OpenAnswers.{OpeningMeans};
-ghost use Rattle.tink_run.specs.Run.{LeavesEnds};
+ghost use Rattle.tink_run.specs.Run.{LeavesEnds, LeavesSinkItself};
 ghost use Rattle.tink_run.specs.OpenSteps.{FirstMeans, OpensUnder, ReaderMeans, held_outside};
 
 use crate::report::Report;
@@ -38,6 +38,9 @@ pub fn open<S: Source, K: Sink>(
         result }
     ensures order { KeepsOrder set.now.entries }
     ensures early { LeavesEnds result source.old source.new sink.old sink.new }
+    ensures unwritten { LeavesSinkItself result sink.old sink.new }
+    ensures later { FaultsStay (outside_of S.left S.faults K.got K.faults source.old sink.old)
+        (outside_of S.left S.faults K.got K.faults source.new sink.new) }
     ensures source { S.same source.old source.new }
     ensures sink { K.same sink.old sink.new }
 {
@@ -66,6 +69,9 @@ fn open_under<S: Source, K: Sink, T: DerivesStreams>(
         (outside_of S.left S.faults K.got K.faults source.old sink.old)
         (outside_of S.left S.faults K.got K.faults source.new sink.new)
         result }
+    ensures unwritten { LeavesSinkItself result sink.old sink.new }
+    ensures later { FaultsStay (outside_of S.left S.faults K.got K.faults source.old sink.old)
+        (outside_of S.left S.faults K.got K.faults source.new sink.new) }
     ensures source { S.same source.old source.new }
     ensures sink { K.same sink.old sink.new }
 {
@@ -90,6 +96,9 @@ fn open_stream<S: Source, K: Sink, D: SegmentDecrypter + Drop>(
         (held_outside S.left S.faults K.got K.faults reader.old source.old sink.old)
         (outside_of S.left S.faults K.got K.faults source.new sink.new)
         result }
+    ensures unwritten { LeavesSinkItself result sink.old sink.new }
+    ensures later { FaultsStay (outside_of S.left S.faults K.got K.faults source.old sink.old)
+        (outside_of S.left S.faults K.got K.faults source.new sink.new) }
     ensures source { S.same source.old source.new }
     ensures sink { K.same sink.old sink.new }
 {

@@ -1,6 +1,6 @@
 ghost use Rattle.std.specs.Prelude.{◌≡◌, ℕ, List, IfOk};
-ghost use Rattle.tink_run.specs.Outside.{outside_of};
-ghost use Rattle.tink_run.specs.Run.{AnswerMeans, IsComplete, LeavesEnds, OnlyAgreeing, OkMeans, Told};
+ghost use Rattle.tink_run.specs.Outside.{FaultsStay, outside_of};
+ghost use Rattle.tink_run.specs.Run.{AnswerMeans, IsComplete, LeavesEnds, LeavesSinkItself, OnlyAgreeing, OkMeans, Told};
 
 use crate::keys::primary_key;
 use crate::load::load;
@@ -44,8 +44,12 @@ pub fn run<S: Source, K: Sink>(
         (outside_of S.left S.faults K.got K.faults source.new sink.new)
         result }
 
-    // A refusal that comes before anything was read or written leaves the ends themselves as they were.
+    // A refusal that comes before anything was read or written leaves the ends themselves as they were, and
+    // `NoMatchingKey` the sink.
     ensures early { LeavesEnds result source.old source.new sink.old sink.new }
+    ensures unwritten { LeavesSinkItself result sink.old sink.new }
+    ensures later { FaultsStay (outside_of S.left S.faults K.got K.faults source.old sink.old)
+        (outside_of S.left S.faults K.got K.faults source.new sink.new) }
     ensures source { S.same source.old source.new }
     ensures sink { K.same sink.old sink.new }
 {
@@ -67,6 +71,9 @@ fn answer<S: Source, K: Sink>(
         (outside_of S.left S.faults K.got K.faults source.new sink.new)
         result }
     ensures early { LeavesEnds result source.old source.new sink.old sink.new }
+    ensures unwritten { LeavesSinkItself result sink.old sink.new }
+    ensures later { FaultsStay (outside_of S.left S.faults K.got K.faults source.old sink.old)
+        (outside_of S.left S.faults K.got K.faults source.new sink.new) }
     ensures source { S.same source.old source.new }
     ensures sink { K.same sink.old sink.new }
 {

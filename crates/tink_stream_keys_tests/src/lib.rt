@@ -10,6 +10,8 @@ mod comparing;
 #[cfg(test)]
 mod damage_tests;
 #[cfg(test)]
+mod header_tests;
+#[cfg(test)]
 mod key_tests;
 #[cfg(test)]
 mod stream_tests;

@@ -139,6 +139,7 @@ fn a_closed_writer_writes_nothing(rt: HostRuntime) -> Result<(), Fail> {
         (Call::Close, Ok(0)),
         (Call::Close, Ok(0)),
         (Call::Write(b"more"), Err(Kind::Closed)),
+        (Call::Write(&[]), Err(Kind::Closed)),
         (Call::Close, Ok(0)),
     ];
     expect_calls(&rt, opened(rt.alloc(), &[])?, &calls, 3, SEALED);

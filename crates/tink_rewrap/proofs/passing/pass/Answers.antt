@@ -4,7 +4,8 @@ use Rattle.std.proofs.lemmas.Result.{err_from_is_err_and}
 use Rattle.std.specs.Io.KnownBytes.{prepend_known}
 use Rattle.tink_streams.specs.Reading.{ReaderMoment}
 use Rattle.tink_streams.specs.Writing.{WriterMoment}
-use Rattle.tink_rewrap.proofs.PassSteps.{finished, first_failed, front_failed, next_failed, one_more, text_refused, under_way}
+use Rattle.tink_run.proofs.ReadOut.{next_wrote}
+use Rattle.tink_rewrap.proofs.PassSteps.{finish_wrote, finished, first_failed, front_failed, next_failed, one_more, text_refused, text_wrote, under_way}
 use Rattle.tink_rewrap.proofs.passing.pass.Goals as goal
 
 pub returns-in_err-open_first-clause-answer : goal.returns-in_err-open_first-clause-answer
@@ -31,6 +32,7 @@ loop-bytes-init g c =
       opener = c.open_first.ensures.opener;
       sealer = refl;
       reads = c.open_first.ensures.later;
+      writes = c.write.ensures.later;
       same_source = c.open_first.ensures.same;
       same_sink = c.write.ensures.same;
     }
@@ -41,6 +43,11 @@ returns-in_err-write-2-clause-answer g c =
     let sealer = c.args.writer.now.sealer in
     let r = rw (c.loop-bytes.invariant.sealer, c.opened-text.ensures) at c.in_err-write-2.ensures.answer in
     rw (p.1, p.2) (text_refused _ _ _ _ _ _ _ _ _ _ _ _ c.loop-bytes.invariant.under_way sealer.some (omega (arith, sealer.some, sealer.first_fits)) _ _ _ refl (omega arith) r)
+
+pub returns-in_err-write-2-clause-unwritten : goal.returns-in_err-write-2-clause-unwritten
+returns-in_err-write-2-clause-unwritten g c =
+    let p = err_from_is_err_and c.from_residual-in_err-write-2.result c.from_residual-in_err-write-2.ensures.1 in
+    rw (p.1, p.2) (text_wrote _ _ _ _ _ _ _ _ _ c.in_err-write-2.ensures.answer)
 
 pub returns-in_err-write-2-clause-source : goal.returns-in_err-write-2-clause-source
 returns-in_err-write-2-clause-source g c = c.loop-bytes.invariant.same_source
@@ -66,6 +73,9 @@ returns-in-Ended-clause-answer g c =
     finished _ _ _ c.args.reader.now.opener.overhead _ _ _ _ _ _ _ _ c.loop-bytes.invariant.under_way sealer.some (omega (arith, sealer.some, sealer.first_fits)) v w.0 _ (take reader.filled reader.buffer.items) (sym c.in-Ended.ensures) refl o refl
     _ c.finish.result (omega (arith, ap length c.opened-text.ensures)) c.finish.ensures.later c.write-in-loop-bytes.ensures.later (omega arith) r
 
+pub returns-in-Ended-clause-unwritten : goal.returns-in-Ended-clause-unwritten
+returns-in-Ended-clause-unwritten g c = finish_wrote _ _ _ _ c.finish.result _ _ c.finish.ensures.answer
+
 pub returns-in-Ended-clause-source : goal.returns-in-Ended-clause-source
 returns-in-Ended-clause-source g c = c.loop-bytes.invariant.same_source
 
@@ -84,6 +94,7 @@ loop-bytes-preserved g c =
       opener = c.open_next.ensures.opener ∙ c.loop-bytes.invariant.opener;
       sealer = c.write-in-loop-bytes.ensures.sealer ∙ c.loop-bytes.invariant.sealer;
       reads = omega (arith, c.loop-bytes.invariant.reads, c.open_next.ensures.later);
+      writes = omega (arith, c.loop-bytes.invariant.writes, c.write-in-loop-bytes.ensures.later);
       same_source = g.met.S.Source.same_trans _ _ _ c.loop-bytes.invariant.same_source c.open_next.ensures.same;
       same_sink = g.met.K.Sink.same_trans _ _ _ c.loop-bytes.invariant.same_sink c.write-in-loop-bytes.ensures.same;
     }
@@ -97,6 +108,8 @@ returns-in-Err g c =
     record {
       answer = next_failed _ _ _ _ _ _ _ _ _ _ _ _ c.loop-bytes.invariant.under_way sealer.some (omega (arith, sealer.some, sealer.first_fits)) _ _ _ _ (omega (arith, opener.some)) (omega (arith, opener.some, opener.first_fits)) refl
           c.loop-bytes.invariant.reads (omega arith) w.0 refused;
+      unwritten = next_wrote _ _ _ _ _ _ _ _ _ c.in-Err.ensures.answer;
+      later = record { reads = omega (arith, c.loop-bytes.invariant.reads, c.open_next.ensures.later); writes = omega (arith, c.loop-bytes.invariant.writes, c.write-in-loop-bytes.ensures.later) };
       source = g.met.S.Source.same_trans _ _ _ c.loop-bytes.invariant.same_source c.open_next.ensures.same;
       sink = g.met.K.Sink.same_trans _ _ _ c.loop-bytes.invariant.same_sink c.write-in-loop-bytes.ensures.same;
     }

@@ -22,6 +22,7 @@ invariant-loop-bytes g l = record {
   opener : l.reader.opener ≡ l.fn.reader.opener;
   sealer : l.writer.sealer ≡ l.fn.writer.sealer;
   reads : g.S.Source.faults l.fn.source ≤ g.S.Source.faults l.source;
+  writes : g.K.Sink.faults l.fn.sink ≤ g.K.Sink.faults l.sink;
   same_source : g.S.Source.same l.fn.source l.source;
   same_sink : g.K.Sink.same l.fn.sink l.sink;
 }

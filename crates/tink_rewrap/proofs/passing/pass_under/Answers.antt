@@ -14,13 +14,13 @@ pub returns-in_err-reader-clause-answer : goal.returns-in_err-reader-clause-answ
 returns-in_err-reader-clause-answer g c =
     let p = err_from_is_err_and c.from_residual.result c.from_residual.ensures.1 in
     let kept = c.args.trial.kept in
-    let none_held = unread kept.filled kept.buffer.items (g.S.Source.left c.args.source.now) c.requires.filled in
+    let none_held = unread kept.filled kept.buffer.items (g.S.Source.left c.args.source.now) c.requires.trial.0 in
     rw (p.1, p.2) (pass_not_started _ _ _ _ _ (Keeps-refl _) (rw none_held at c.in_err-reader.ensures.refused))
 
 pub returns-clause-answer : goal.returns-clause-answer
 returns-clause-answer g c =
     let kept = c.args.trial.kept in
-    let none_held = unread kept.filled kept.buffer.items (g.S.Source.left c.args.source.now) c.requires.filled in
+    let none_held = unread kept.filled kept.buffer.items (g.S.Source.left c.args.source.now) c.requires.trial.0 in
     let reader = c.in_ok-reader.reader in
     let opener = reader.opener in
     let seg : ℕ → Bool → List ℕ → List ℕ = numbered (segment_by opener.decrypter) opener.nonce_size opener.prefix.items in

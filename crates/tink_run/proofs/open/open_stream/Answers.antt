@@ -3,7 +3,7 @@ use Rattle.std.proofs.KnownBytes.{Keeps-refl}
 use Rattle.std.proofs.lemmas.Result.{err_from_is_err_and}
 use Rattle.std.specs.Io.KnownBytes.{prepend_known}
 use Rattle.tink_streams.specs.Reading.{ReaderMoment}
-use Rattle.tink_run.proofs.ReadOut.{reading_first, reading_next, read_out, write_failed, next_refused, first_refused}
+use Rattle.tink_run.proofs.ReadOut.{reading_first, reading_next, read_out, write_failed, next_refused, next_wrote, first_refused}
 use Rattle.tink_run.proofs.open.open_stream.Goals as goal
 
 pub returns-in_err-open_first-clause-answer : goal.returns-in_err-open_first-clause-answer
@@ -58,6 +58,8 @@ returns-in_err-open_next-in_default g c =
     record {
       answer = rw (p.1, p.2) (next_refused _ _ _ _ _ _ _ _ _ _ _ (omega (arith, opener.some)) (omega (arith, opener.some, opener.first_fits)) c.loop-bytes.invariant.reading (rw c.opened-text.ensures at c.in_ok-write_all.ensures.written)
           c.loop-bytes.invariant.reads (omega arith) refused);
+      unwritten = rw (p.1, p.2) (next_wrote _ _ _ _ _ _ _ _ _ c.in_err-open_next-in_default.ensures.answer);
+      later = record { reads = omega (arith, c.loop-bytes.invariant.reads, c.open_next.ensures.later); writes = omega (arith, c.loop-bytes.invariant.writes, c.write_all.ensures.later) };
       source = g.met.S.Source.same_trans _ _ _ c.loop-bytes.invariant.same_source c.open_next.ensures.same;
       sink = g.met.K.Sink.same_trans _ _ _ c.loop-bytes.invariant.same_sink c.write_all.ensures.same;
     }

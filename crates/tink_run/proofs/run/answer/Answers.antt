@@ -1,5 +1,5 @@
 use Rattle.std.proofs.lemmas.Result.{err_from_is_err_and}
-use Rattle.tink_run.proofs.RunSteps.{leaves_same, not_loaded, opens_keyset, seals_keyset, untouched}
+use Rattle.tink_run.proofs.RunSteps.{leaves_same, not_loaded, opens_keyset, seal_unwritten, seals_keyset, untouched}
 use Rattle.tink_run.proofs.run.answer.Goals as goal
 
 pub returns-in_err-keys-clause-answer : goal.returns-in_err-keys-clause-answer
@@ -13,6 +13,9 @@ returns-in_err-keys-clause-early g c = leaves_same c.from_residual.result c.args
 pub returns-in-Seal-clause-answer : goal.returns-in-Seal-clause-answer
 returns-in-Seal-clause-answer g c = rw c.in-Seal.is
     (seals_keyset c.args.keyset.now c.args.aad.now c.args.draws.now c.seal.new.draws _ _ _ _ c.seal.result c.in_ok-keys.ensures.answer c.primary_key.ensures c.seal.ensures.answer)
+
+pub returns-in-Seal-clause-unwritten : goal.returns-in-Seal-clause-unwritten
+returns-in-Seal-clause-unwritten g c = seal_unwritten _ _ _ _ _ _ c.seal.result _ _ _ _ c.seal.ensures.answer c.seal.ensures.early
 
 pub returns-clause-answer : goal.returns-clause-answer
 returns-clause-answer g c = rw c.in-Open.is
