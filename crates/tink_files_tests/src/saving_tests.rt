@@ -9,28 +9,41 @@ use tink_place::MemPlace;
 use tink_wrap::load_master;
 
 // A master keyset: an AES-GCM key of the id MMMM, under TINK.
-const MASTER: &[u8] =
-    b"\x08\xcd\x9a\xb5\xea\x04\x12T\x0aH\x0a0type.googleapis.com/google.crypto.tink.AesGcmKey\x12\x12\x1a\x100123456789abcdef\x18\x01\x10\x01\x18\xcd\x9a\xb5\xea\x04 \x01";
+const MASTER: &[u8] = b"\
+    \x08\xcd\x9a\xb5\xea\x04\x12T\x0aH\x0a0type.googleapis.com/google.crypto.tink.AesGcmKey\x12\x12\x1a\x1001234\
+    56789abcdef\x18\x01\x10\x01\x18\xcd\x9a\xb5\xea\x04 \x01";
 
 // A keyset of one key without a prefix, of the id YYYY.
-const KEYS: &[u8] =
-    b"\x08\xd9\xb2\xe5\xca\x05\x12T\x0aH\x0a0type.googleapis.com/google.crypto.tink.AesGcmKey\x12\x12\x1a\x10fedcba9876543210\x18\x01\x10\x01\x18\xd9\xb2\xe5\xca\x05 \x03";
+const KEYS: &[u8] = b"\
+    \x08\xd9\xb2\xe5\xca\x05\x12T\x0aH\x0a0type.googleapis.com/google.crypto.tink.AesGcmKey\x12\x12\x1a\x10fedcb\
+    a9876543210\x18\x01\x10\x01\x18\xd9\xb2\xe5\xca\x05 \x03";
 
 // It under the master with the data `data` and the nonce `twelve bytes`, by Python's `cryptography`.
-const WRAPPED: &[u8] =
-    b"\x12}\x01MMMMtwelve bytesv;\xcf\xadt\x02FaDX7\xf3\xc1\x00\xbc\xed\x05g\x0e\xbdl\xaf76`\xa4\x8d\x1f\x0d\x1c\xaa\xcfYg\x81vo\x85\xce\x17Oo\x95t\xb2\x95\xfa\xa8\x9d\"\x0d\xc1\xec\x9f\xb0J\x92<\xd3=\xfb]\xa2\xa0\x88Dz\xf6 \x89\xaa\xfb'^\x91{\x03\xc7\xbe\xc9\xe5S\x9e\x0f\xe0\x91\x01\x84{\xa3\xed\x04\xc4\x19\x83\xbb\x8f\x98\xb7?\x18\xf4K\xaeQu\x94\xe6\x1aD\x08\xd9\xb2\xe5\xca\x05\x12<\x0a0type.googleapis.com/google.crypto.tink.AesGcmKey\x10\x01\x18\xd9\xb2\xe5\xca\x05 \x03";
-
-// With a new primary key of the id ZZZZ.
-const ROTATED: &[u8] =
-    b"\x08\xda\xb4\xe9\xd2\x05\x12T\x0aH\x0a0type.googleapis.com/google.crypto.tink.AesGcmKey\x12\x12\x1a\x10fedcba9876543210\x18\x01\x10\x01\x18\xd9\xb2\xe5\xca\x05 \x03\x12T\x0aH\x0a0type.googleapis.com/google.crypto.tink.AesGcmKey\x12\x12\x1a\x100123456789abcdef\x18\x01\x10\x01\x18\xda\xb4\xe9\xd2\x05 \x01";
-
-// With the first one as the primary key again.
-const PROMOTED: &[u8] =
-    b"\x08\xd9\xb2\xe5\xca\x05\x12T\x0aH\x0a0type.googleapis.com/google.crypto.tink.AesGcmKey\x12\x12\x1a\x10fedcba9876543210\x18\x01\x10\x01\x18\xd9\xb2\xe5\xca\x05 \x03\x12T\x0aH\x0a0type.googleapis.com/google.crypto.tink.AesGcmKey\x12\x12\x1a\x100123456789abcdef\x18\x01\x10\x01\x18\xda\xb4\xe9\xd2\x05 \x01";
+const WRAPPED: &[u8] = b"\
+    \x12}\x01MMMMtwelve bytesv;\xcf\xadt\x02FaDX7\xf3\xc1\x00\xbc\xed\x05g\x0e\xbdl\xaf76`\xa4\x8d\x1f\x0d\x1c\
+    \xaa\xcfYg\x81vo\x85\xce\x17Oo\x95t\xb2\x95\xfa\xa8\x9d\"\x0d\xc1\xec\x9f\xb0J\x92<\xd3=\xfb]\xa2\xa0\x88Dz\
+    \xf6 \x89\xaa\xfb'^\x91{\x03\xc7\xbe\xc9\xe5S\x9e\x0f\xe0\x91\x01\x84{\xa3\xed\x04\xc4\x19\x83\xbb\x8f\x98\
+    \xb7?\x18\xf4K\xaeQu\x94\xe6\x1aD\x08\xd9\xb2\xe5\xca\x05\x12<\x0a0type.googleapis.com/google.crypto.tink.Ae\
+    sGcmKey\x10\x01\x18\xd9\xb2\xe5\xca\x05 \x03";
 
 // The same file in JSON.
-const WRAPPED_JSON: &[u8] =
-    b"{\"encryptedKeyset\": \"AU1NTU10d2VsdmUgYnl0ZXN2O8+tdAJGYURYN/PBALztBWcOvWyvNzZgpI0fDRyqz1lngXZvhc4XT2+VdLKV+qidIg3B7J+wSpI80z37XaKgiER69iCJqvsnXpF7A8e+yeVTng/gkQGEe6PtBMQZg7uPmLc/GPRLrlF1lOY=\",\"keysetInfo\": {\"primaryKeyId\": 1499027801,\"keyInfo\": [{\"typeUrl\": \"type.googleapis.com/google.crypto.tink.AesGcmKey\",\"status\": \"ENABLED\",\"keyId\": 1499027801,\"outputPrefixType\": \"RAW\"}]}}";
+const WRAPPED_JSON: &[u8] = b"\
+    {\"encryptedKeyset\": \"AU1NTU10d2VsdmUgYnl0ZXN2O8+tdAJGYURYN/PBALztBWcOvWyvNzZgpI0fDRyqz1lngXZvhc4XT2+VdLKV\
+    +qidIg3B7J+wSpI80z37XaKgiER69iCJqvsnXpF7A8e+yeVTng/gkQGEe6PtBMQZg7uPmLc/GPRLrlF1lOY=\",\"keysetInfo\": {\"pr\
+    imaryKeyId\": 1499027801,\"keyInfo\": [{\"typeUrl\": \"type.googleapis.com/google.crypto.tink.AesGcmKey\",\"\
+    status\": \"ENABLED\",\"keyId\": 1499027801,\"outputPrefixType\": \"RAW\"}]}}";
+
+// The keyset with a new primary key of the id ZZZZ.
+const ROTATED: &[u8] = b"\
+    \x08\xda\xb4\xe9\xd2\x05\x12T\x0aH\x0a0type.googleapis.com/google.crypto.tink.AesGcmKey\x12\x12\x1a\x10fedcb\
+    a9876543210\x18\x01\x10\x01\x18\xd9\xb2\xe5\xca\x05 \x03\x12T\x0aH\x0a0type.googleapis.com/google.crypto.tin\
+    k.AesGcmKey\x12\x12\x1a\x100123456789abcdef\x18\x01\x10\x01\x18\xda\xb4\xe9\xd2\x05 \x01";
+
+// The same with the first one as the primary key.
+const PROMOTED: &[u8] = b"\
+    \x08\xd9\xb2\xe5\xca\x05\x12T\x0aH\x0a0type.googleapis.com/google.crypto.tink.AesGcmKey\x12\x12\x1a\x10fedcb\
+    a9876543210\x18\x01\x10\x01\x18\xd9\xb2\xe5\xca\x05 \x03\x12T\x0aH\x0a0type.googleapis.com/google.crypto.tin\
+    k.AesGcmKey\x12\x12\x1a\x100123456789abcdef\x18\x01\x10\x01\x18\xda\xb4\xe9\xd2\x05 \x01";
 
 // What is asked: templates, files, draws and associated data.
 #[derive(Clone, Copy)]
@@ -105,7 +118,7 @@ const ROWS: [(&str, Asked, usize, Result<&[u8], Kind>); 17] = [
         Err(Kind::WriteFault),
     ),
     (
-        "wrap without draws",
+        "wrap with few draws",
         Asked::Wrap(MASTER, KEYS, b"data", b"eleven byte"),
         999,
         Err(Kind::MasterFailed),
