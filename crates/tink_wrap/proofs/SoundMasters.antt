@@ -239,7 +239,7 @@ entry_sound ks es e all there =
     let p = made_ok (with_primitive b.0) (as_aead b.0.primitive) e b.2 in
     let first : q.0 ≡ b.0.primitive = ap (λ (x : One). x.primitive) {x = entry_of q.0 k.0} q.2 in
     let aead : b.0.primitive ≡ Aead p.0 = is_aead b.0.primitive p.0 p.1 in
-    let same : p.0 ≡ e.primitive = ap (λ (x : TypedEntry AeadKind). x.primitive) p.2 in
+    let same : p.0 ≡ e.primitive = ap (λ (x : TypedEntry AeadKind). x.primitive) {x = with_primitive b.0 p.0} p.2 in
     let whole : q.0 ≡ Aead e.primitive = first ∙ aead ∙ ap (λ x. Aead x) same in
     let built : built_data url supports builds all_managers None k.0.key_data ≡ Ok (Aead e.primitive) = subst (λ x. built_data url supports builds all_managers None k.0.key_data ≡ Ok x) whole q.1 in
     by_data k.0.key_data e.primitive built

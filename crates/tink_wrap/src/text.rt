@@ -33,7 +33,8 @@ pub fn wrapped_text(
     encrypted: &EncryptedKeyset,
 ) -> Result<Bytes, TinkError>
     ensures text { IfOk result (λ b. b ≡ wrapped_text format encrypted.now) }
-    ensures again { IfOk result (λ b. format ≡ Binary → or_refused BadKeyset (decoded encrypted_keyset.read b) ≡ Ok encrypted.now) }
+    ensures again { IfOk result (λ b. format ≡ Binary
+        → or_refused BadKeyset (decoded encrypted_keyset.read b) ≡ Ok encrypted.now) }
     ensures err { IfErr result (λ e. e ≡ record { kind = OutOfMemory }) }
 {
     match format {
