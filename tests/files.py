@@ -141,6 +141,36 @@ def streams():
     check(tink("decrypt", "-k", "keys.json", "empty") == b"", "an empty text")
 
 
+def wrapping():
+    for name in ("master.json", "other.json"):
+        tink("new", "AES256_GCM", "-o", name)
+    for keys, form in (("keys.json", "json"), ("keys.bin", "binary")):
+        tink("wrap", "-k", "master.json", "--aad", "host", "--format", form, "-o", f"{keys}.wrapped", keys)
+        wrapped = read(f"{keys}.wrapped")
+        check(mode(f"{keys}.wrapped") == 0o600 and (wrapped[:1] == b"{") == (form == "json"), "a wrapped file")
+        held = re.findall(rb'"value": "([^"]*)"', read(keys)) if form == "json" else [read(keys)[-40:]]
+        check(held and not any(part in wrapped for part in held), "a wrapped file has no key in clear")
+        tink("unwrap", "-k", "master.json", "--aad", "host", "--format", form, "-o", f"{keys}.again", f"{keys}.wrapped")
+        check(read(f"{keys}.again") == read(keys) and mode(f"{keys}.again") == 0o600, "a file of keys comes back")
+        for words in (("-k", "master.json"), ("-k", "master.json", "--aad", "Host"), ("-k", "other.json", "--aad", "host")):
+            tink("unwrap", *words, "-o", "none.json", f"{keys}.wrapped", status=34, says=f"{keys}.wrapped: master failed")
+        tink("unwrap", "-k", keys, "--aad", "host", "-o", "none.json", f"{keys}.wrapped", status=18, says=f"{keys}: wrong")
+        tink("wrap", "-k", "master.json", "-o", f"{keys}.wrapped", keys, status=12, says=".wrapped: it is there already")
+        tink("unwrap", "-k", "master.json", "-o", keys, f"{keys}.wrapped", status=12, says=f"{keys}: it is there already")
+        check(read(f"{keys}.wrapped") == wrapped, "a refusal leaves what is there")
+    write("damaged", wrapped[:40] + bytes([wrapped[40] ^ 1]) + wrapped[41:])
+    tink("unwrap", "-k", "master.json", "--aad", "host", "-o", "none.json", "damaged", status=34, says="damaged: master failed")
+    tink("unwrap", "-k", "master.json", "-o", "none.json", "keys.json", status=34, says="keys.json: master failed")
+    tink("wrap", "-k", "master.json", "-o", "none.json", "text", status=13, says="text: bad keyset")
+    tink("wrap", "-k", "text", "-o", "none.json", "keys.json", status=13, says="text: bad keyset")
+    tink("wrap", "-k", "none", "-o", "none.json", "keys.json", status=11, says="none: there is no such file")
+    check(not os.path.exists("none.json") and drafts() == [], "a refusal leaves nothing")
+    tink("rotate", "master.json", "AES256_GCM")
+    tink("unwrap", "-k", "master.json", "--aad", "host", "-o", "later.json", "keys.json.wrapped")
+    check(read("later.json") == read("keys.json"), "a rotated master unwraps what the old key wrapped")
+    check(b"wrap -k MASTER" in tink("help", "unwrap") == tink("wrap", "--help"), "help of wrap")
+
+
 def damage():
     sealed = tink("encrypt", "-k", "keys.bin", stdin=TEXT)
     primary = "keys.bin"
@@ -196,7 +226,8 @@ def words():
     check(b"Templates" in tink("help", "new") and b"Templates" in tink("new", "--help"), "help of a command")
     check(tink("--version").startswith(b"tink"), "the version")
     for line in ("", "nonsense", "new", "new X", "encrypt text", "encrypt -k", "encrypt -k a -k b", "keys", "keys a b c",
-                 "decrypt -k keys.json --unknown", "encrypt -k keys.json a b", "rotate keys.json", "delete keys.json"):
+                 "decrypt -k keys.json --unknown", "encrypt -k keys.json a b", "rotate keys.json", "delete keys.json", "wrap keys.json", "wrap -k keys.json keys.json",
+                 "unwrap -k keys.json -o none.json", "wrap -k keys.json -o none.json --format yaml keys.json"):
         tink(*line.split(), status=2)
 
 
@@ -365,7 +396,7 @@ def documents():
     return tried
 
 
-for case in (key_files, edits, streams, damage, wrong_files, words, former_words, closed_pipes, killed, two_at_once, terminals):
+for case in (key_files, edits, streams, wrapping, damage, wrong_files, words, former_words, closed_pipes, killed, two_at_once, terminals):
     before = CHECKS
     case()
     print(f"{case.__name__}: {CHECKS - before} checks")

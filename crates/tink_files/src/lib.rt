@@ -1,13 +1,15 @@
 //! What the commands over files do, over any place where a file appears: keysets are made and changed, and streams
-//! sealed and opened, whole or not at all.
+//! sealed and opened, and files of keys wrapped and unwrapped, whole or not at all.
 #![tactic(auto)]
 
 mod key_files;
 mod refusals;
 mod saved;
 mod streams;
+mod wrapping;
 
 pub use key_files::{edit_keys, new_keys, rotate_keys};
 pub use refusals::advice;
 pub use saved::save_answer;
 pub use streams::run_to;
+pub use wrapping::{unwrap_keys, wrap_keys};

@@ -19,6 +19,8 @@ pub fn advice(kind: Kind) -> &'static str {
             "its keyset is not valid: `tink keys` shows its keys; one of them has to be enabled and the primary one",
         Kind::UnsupportedKeyType => "it has a key of a type that is not known here",
         Kind::InvalidKey => "it has a key with a value that is none of its type",
+        Kind::MasterFailed =>
+            "no key of MASTER opens it: other keys, other associated data, or no wrapped file",
         Kind::NoPrimary =>
             "none of its keys is the primary one and enabled: `tink promote` makes one so",
         Kind::WrongPrimitive =>

@@ -3,12 +3,12 @@ use tink_io::Kind;
 use tink_place::{MemPlace, finish, save};
 
 // What is there before, and what is written.
-const BEFORE: &[u8] = b"before";
+pub const BEFORE: &[u8] = b"before";
 
 const TEXT: &[u8] = b"a text";
 
 // A place with so much room under whose name a file stands.
-fn place_of(alloc: Global, room: usize, replaces: bool, can_show: bool) -> Option<MemPlace> {
+pub fn place_of(alloc: Global, room: usize, replaces: bool, can_show: bool) -> Option<MemPlace> {
     let shown = Vec::from_slice(alloc, BEFORE).ok()?;
     let mut place = MemPlace::new(alloc, room, Some(shown)).ok()?;
     place.replaces = replaces;
@@ -17,7 +17,7 @@ fn place_of(alloc: Global, room: usize, replaces: bool, can_show: bool) -> Optio
 }
 
 // Whether the text is shown, or what was before; a draft is none.
-fn shows(place: &MemPlace, text: &[u8]) -> bool {
+pub fn shows(place: &MemPlace, text: &[u8]) -> bool {
     match &place.shown {
         Some(bytes) => !place.has_draft && bytes.as_slice() == text,
         None => false,

@@ -12,6 +12,8 @@ tink: keys in files, and files encrypted under them
   tink keys KEYS                                         list the keys of a file
   tink rotate KEYS TEMPLATE                              add a key, by which is encrypted from now on
   tink promote|enable|disable|destroy|delete KEYS ID     change one key
+  tink wrap -k MASTER -o WRAPPED KEYS                    encrypt a file of keys under other keys
+  tink unwrap -k MASTER -o KEYS WRAPPED                  decrypt it
   tink help [COMMAND], tink --version
 
   tink seal|open|keygen|large, tink rotate KEYSET TEMPLATE SEED
@@ -48,6 +50,19 @@ file that was there is replaced then. TEXT is no secret and is not written: the 
   tink decrypt -k keys.json work.tink | tar x
 ";
 
+const WRAP: &str = "\
+tink wrap -k MASTER -o WRAPPED [--aad TEXT] [--format json|binary] KEYS
+tink unwrap -k MASTER -o KEYS [--aad TEXT] [--format json|binary] WRAPPED
+
+Encrypts the file KEYS by the primary key of MASTER, and decrypts it by the key of MASTER that encrypted it. MASTER is a
+file of keys that are AEADs: `tink new AES256_GCM -o master.json` makes one. WRAPPED tells the ids, states and types of
+the keys, and no key. Only you may read the file that is made; one that is there already is never replaced. TEXT is no
+secret and is not written: the same has to be given to unwrap.
+
+  tink wrap -k master.json -o keys.wrapped keys.json
+  tink unwrap -k master.json -o keys.again keys.wrapped
+";
+
 const KEYS: &str = "\
 tink keys KEYS
 
@@ -77,6 +92,7 @@ pub fn show(rt: &HostRuntime, action: Option<Action>) -> Result<(), Trouble<'sta
     let text = match action {
         Some(Action::New) => NEW,
         Some(Action::Encrypt | Action::Decrypt) => STREAM,
+        Some(Action::Wrap | Action::Unwrap) => WRAP,
         Some(Action::Keys) => KEYS,
         Some(Action::Rotate) => ROTATE,
         Some(

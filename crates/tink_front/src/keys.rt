@@ -108,8 +108,8 @@ fn blamed<'w>(e: TinkError, template: &'w str, path: &'w str) -> Trouble<'w> {
     }
 }
 
-// The format of a new file: JSON unless another is named.
-fn format_of(line: &Line<'_>) -> Result<Format, Trouble<'static>> {
+/// The format of a new file: JSON unless another is named.
+pub fn format_of(line: &Line<'_>) -> Result<Format, Trouble<'static>> {
     match line.format() {
         None | Some("json") => Ok(Format::Json),
         Some("binary") => Ok(Format::Binary),

@@ -8,6 +8,7 @@ mod outside;
 mod real_place;
 mod streams;
 mod trouble;
+mod wrapping;
 
 use crate::trouble::{Trouble, tell};
 use std::env;
@@ -69,6 +70,8 @@ fn command<'w>(rt: &HostRuntime, given: &Given<'w>) -> Result<(), Trouble<'w>> {
         Action::Keys => keys::show(rt, line),
         Action::Encrypt => streams::encrypt(rt, line),
         Action::Decrypt => streams::decrypt(rt, line),
+        Action::Wrap => wrapping::wrap(rt, line),
+        Action::Unwrap => wrapping::unwrap(rt, line),
         Action::Help => help::show(rt, help::topic(line)),
         Action::Version => help::version(rt),
         Action::Rotate => keys::rotate(rt, line),

@@ -223,5 +223,29 @@ fn put_in_place(
         fs::hard_link(rt, draft, name)?;
         let _removed = fs::remove_file(rt, draft);
     }
+    keep_name(rt, name);
     Ok(())
+}
+
+// The folder of the name reaches the disk. The name is shown by now, so that a failure is told and is no refusal.
+fn keep_name(rt: &HostRuntime, name: &str) {
+    if sync_folder(rt, folder_of(name)).is_err() {
+        let _told = eprintln!(rt;
+            "tink: {name}: it stands there, but its folder did not reach the disk: a power cut may undo it"
+        );
+    }
+}
+
+fn sync_folder(rt: &HostRuntime, folder: &str) -> io::Result<()> {
+    let folder = File::open(rt, folder)?;
+    folder.sync_all()
+}
+
+// The folder in which a name stands.
+fn folder_of(name: &str) -> &str {
+    match name.rsplit_once('/') {
+        None => ".",
+        Some(("", _)) => "/",
+        Some((folder, _)) => folder,
+    }
 }

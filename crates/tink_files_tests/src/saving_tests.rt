@@ -1,0 +1,288 @@
+ghost use Rattle.std.specs.Prelude.{◌≡◌, true};
+
+use crate::place_tests::{BEFORE, place_of, shows};
+use std::alloc::Global;
+use tink_files::{edit_keys, new_keys, rotate_keys, unwrap_keys, wrap_keys};
+use tink_io::{Draws, Kind, TinkError};
+use tink_key_files::{Edit, Format};
+use tink_place::MemPlace;
+use tink_wrap::load_master;
+
+// A master keyset: an AES-GCM key of the id MMMM, under TINK.
+const MASTER: &[u8] = b"\
+    \x08\xcd\x9a\xb5\xea\x04\x12T\x0aH\x0a0type.googleapis.com/google.crypto.tink.AesGcmKey\x12\x12\x1a\x1001234\
+    56789abcdef\x18\x01\x10\x01\x18\xcd\x9a\xb5\xea\x04 \x01";
+
+// A keyset of one key without a prefix, of the id YYYY.
+const KEYS: &[u8] = b"\
+    \x08\xd9\xb2\xe5\xca\x05\x12T\x0aH\x0a0type.googleapis.com/google.crypto.tink.AesGcmKey\x12\x12\x1a\x10fedcb\
+    a9876543210\x18\x01\x10\x01\x18\xd9\xb2\xe5\xca\x05 \x03";
+
+// It under the master with the data `data` and the nonce `twelve bytes`, by Python's `cryptography`.
+const WRAPPED: &[u8] = b"\
+    \x12}\x01MMMMtwelve bytesv;\xcf\xadt\x02FaDX7\xf3\xc1\x00\xbc\xed\x05g\x0e\xbdl\xaf76`\xa4\x8d\x1f\x0d\x1c\
+    \xaa\xcfYg\x81vo\x85\xce\x17Oo\x95t\xb2\x95\xfa\xa8\x9d\"\x0d\xc1\xec\x9f\xb0J\x92<\xd3=\xfb]\xa2\xa0\x88Dz\
+    \xf6 \x89\xaa\xfb'^\x91{\x03\xc7\xbe\xc9\xe5S\x9e\x0f\xe0\x91\x01\x84{\xa3\xed\x04\xc4\x19\x83\xbb\x8f\x98\
+    \xb7?\x18\xf4K\xaeQu\x94\xe6\x1aD\x08\xd9\xb2\xe5\xca\x05\x12<\x0a0type.googleapis.com/google.crypto.tink.Ae\
+    sGcmKey\x10\x01\x18\xd9\xb2\xe5\xca\x05 \x03";
+
+// The same file in JSON.
+const WRAPPED_JSON: &[u8] = b"\
+    {\"encryptedKeyset\": \"AU1NTU10d2VsdmUgYnl0ZXN2O8+tdAJGYURYN/PBALztBWcOvWyvNzZgpI0fDRyqz1lngXZvhc4XT2+VdLKV\
+    +qidIg3B7J+wSpI80z37XaKgiER69iCJqvsnXpF7A8e+yeVTng/gkQGEe6PtBMQZg7uPmLc/GPRLrlF1lOY=\",\"keysetInfo\": {\"pr\
+    imaryKeyId\": 1499027801,\"keyInfo\": [{\"typeUrl\": \"type.googleapis.com/google.crypto.tink.AesGcmKey\",\"\
+    status\": \"ENABLED\",\"keyId\": 1499027801,\"outputPrefixType\": \"RAW\"}]}}";
+
+// The keyset with a new primary key of the id ZZZZ.
+const ROTATED: &[u8] = b"\
+    \x08\xda\xb4\xe9\xd2\x05\x12T\x0aH\x0a0type.googleapis.com/google.crypto.tink.AesGcmKey\x12\x12\x1a\x10fedcb\
+    a9876543210\x18\x01\x10\x01\x18\xd9\xb2\xe5\xca\x05 \x03\x12T\x0aH\x0a0type.googleapis.com/google.crypto.tin\
+    k.AesGcmKey\x12\x12\x1a\x100123456789abcdef\x18\x01\x10\x01\x18\xda\xb4\xe9\xd2\x05 \x01";
+
+// The same with the first one as the primary key.
+const PROMOTED: &[u8] = b"\
+    \x08\xd9\xb2\xe5\xca\x05\x12T\x0aH\x0a0type.googleapis.com/google.crypto.tink.AesGcmKey\x12\x12\x1a\x10fedcb\
+    a9876543210\x18\x01\x10\x01\x18\xd9\xb2\xe5\xca\x05 \x03\x12T\x0aH\x0a0type.googleapis.com/google.crypto.tin\
+    k.AesGcmKey\x12\x12\x1a\x100123456789abcdef\x18\x01\x10\x01\x18\xda\xb4\xe9\xd2\x05 \x01";
+
+// What is asked: templates, files, draws and associated data.
+#[derive(Clone, Copy)]
+enum Asked {
+    New(&'static str, &'static [u8]),
+    Rotate(&'static [u8], &'static str, &'static [u8]),
+    Change(&'static [u8], Edit, u32),
+    Wrap(&'static [u8], &'static [u8], &'static [u8], &'static [u8]),
+    Unwrap(&'static [u8], &'static [u8], &'static [u8]),
+}
+
+// How much room the draft has, and which file is shown, or how the call is refused.
+const ROWS: [(&str, Asked, usize, Result<&[u8], Kind>); 17] = [
+    (
+        "new",
+        Asked::New("AES128_GCM", b"0123456789abcdefMMMM"),
+        999,
+        Ok(MASTER),
+    ),
+    (
+        "no template",
+        Asked::New("NONE", b""),
+        999,
+        Err(Kind::UnknownTemplate),
+    ),
+    (
+        "few draws",
+        Asked::New("AES128_GCM", b"0123456789abcde"),
+        999,
+        Err(Kind::RandomFault),
+    ),
+    (
+        "no room",
+        Asked::New("AES128_GCM", b"0123456789abcdefMMMM"),
+        91,
+        Err(Kind::WriteFault),
+    ),
+    (
+        "rotate",
+        Asked::Rotate(KEYS, "AES128_GCM", b"0123456789abcdefYYYYZZZZ"),
+        999,
+        Ok(ROTATED),
+    ),
+    (
+        "rotate none",
+        Asked::Rotate(b"none", "AES128_GCM", b""),
+        999,
+        Err(Kind::BadKeyset),
+    ),
+    (
+        "promote",
+        Asked::Change(ROTATED, Edit::Promote, 0x59595959),
+        999,
+        Ok(PROMOTED),
+    ),
+    (
+        "delete the primary key",
+        Asked::Change(KEYS, Edit::Delete, 0x59595959),
+        999,
+        Err(Kind::IsPrimary),
+    ),
+    (
+        "wrap",
+        Asked::Wrap(MASTER, KEYS, b"data", b"twelve bytes"),
+        999,
+        Ok(WRAPPED),
+    ),
+    (
+        "wrap without room",
+        Asked::Wrap(MASTER, KEYS, b"data", b"twelve bytes"),
+        9,
+        Err(Kind::WriteFault),
+    ),
+    (
+        "wrap with few draws",
+        Asked::Wrap(MASTER, KEYS, b"data", b"eleven byte"),
+        999,
+        Err(Kind::MasterFailed),
+    ),
+    (
+        "wrap none",
+        Asked::Wrap(MASTER, b"{}", b"", b"twelve bytes"),
+        999,
+        Err(Kind::InvalidKeyset),
+    ),
+    (
+        "unwrap",
+        Asked::Unwrap(MASTER, WRAPPED, b"data"),
+        999,
+        Ok(KEYS),
+    ),
+    (
+        "unwrap JSON",
+        Asked::Unwrap(MASTER, WRAPPED_JSON, b"data"),
+        999,
+        Ok(KEYS),
+    ),
+    (
+        "unwrap with other data",
+        Asked::Unwrap(MASTER, WRAPPED, b"date"),
+        999,
+        Err(Kind::MasterFailed),
+    ),
+    (
+        "unwrap under other keys",
+        Asked::Unwrap(KEYS, WRAPPED, b"data"),
+        999,
+        Err(Kind::MasterFailed),
+    ),
+    (
+        "unwrap none",
+        Asked::Unwrap(MASTER, b"{", b"data"),
+        999,
+        Err(Kind::BadJson),
+    ),
+];
+
+// A call into the place. New files have the wire format.
+fn answered(alloc: Global, asked: Asked, place: &mut MemPlace) -> Result<(), TinkError>
+    requires { place.old.has_draft ≡ true }
+{
+    match asked {
+        Asked::New(template, draws) => made(alloc, template, draws, place),
+        Asked::Rotate(file, template, draws) => rotated(alloc, file, template, draws, place),
+        Asked::Change(file, edit, id) => changed(alloc, file, edit, id, place),
+        Asked::Wrap(master, keys, aad, draws) => wrap(alloc, master, keys, aad, draws, place),
+        Asked::Unwrap(master, file, aad) => unwrap(alloc, master, file, aad, place),
+    }
+}
+
+fn draws_of(alloc: Global, bytes: &[u8]) -> Result<Draws, TinkError> {
+    Ok(Draws::new(Vec::from_slice(alloc, bytes)?))
+}
+
+fn made(alloc: Global, template: &str, draws: &[u8], place: &mut MemPlace) -> Result<(), TinkError>
+    requires { place.old.has_draft ≡ true }
+{
+    let mut draws = draws_of(alloc, draws)?;
+    new_keys(alloc, template, Format::Binary, &mut draws, place)
+}
+
+fn rotated(
+    alloc: Global,
+    file: &[u8],
+    template: &str,
+    draws: &[u8],
+    place: &mut MemPlace,
+) -> Result<(), TinkError>
+    requires { place.old.has_draft ≡ true }
+{
+    let mut draws = draws_of(alloc, draws)?;
+    let file = Vec::from_slice(alloc, file)?;
+    rotate_keys(alloc, file, template, &mut draws, place)
+}
+
+fn changed(
+    alloc: Global,
+    file: &[u8],
+    edit: Edit,
+    id: u32,
+    place: &mut MemPlace,
+) -> Result<(), TinkError>
+    requires { place.old.has_draft ≡ true }
+{
+    edit_keys(alloc, Vec::from_slice(alloc, file)?, edit, id, place)
+}
+
+fn wrap(
+    alloc: Global,
+    master: &[u8],
+    keys: &[u8],
+    aad: &[u8],
+    draws: &[u8],
+    place: &mut MemPlace,
+) -> Result<(), TinkError>
+    requires { place.old.has_draft ≡ true }
+{
+    let mut draws = draws_of(alloc, draws)?;
+    let keys = Vec::from_slice(alloc, keys)?;
+    let master = load_master(alloc, Vec::from_slice(alloc, master)?)?;
+    wrap_keys(alloc, &master, keys, aad, Format::Binary, &mut draws, place)
+}
+
+fn unwrap(
+    alloc: Global,
+    master: &[u8],
+    file: &[u8],
+    aad: &[u8],
+    place: &mut MemPlace,
+) -> Result<(), TinkError>
+    requires { place.old.has_draft ≡ true }
+{
+    let master = load_master(alloc, Vec::from_slice(alloc, master)?)?;
+    unwrap_keys(alloc, &master, file, aad, Format::Binary, place)
+}
+
+// Whether a call shows the file and leaves no draft, or is refused so and leaves what stood there.
+fn is_answered(alloc: Global, asked: Asked, room: usize, want: Result<&[u8], Kind>) -> bool {
+    let Some(mut place) = place_of(alloc, room, true, true) else {
+        return false;
+    };
+    if !place.has_draft {
+        return false;
+    }
+    match (answered(alloc, asked, &mut place), want) {
+        (Ok(()), Ok(file)) => shows(&place, file),
+        (Err(e), Err(kind)) => e.kind == kind && shows(&place, BEFORE),
+        _ => false,
+    }
+}
+
+#[test]
+fn files_of_keys_are_saved_whole_or_not_at_all(rt: HostRuntime) {
+    for (row, asked, room, want) in ROWS {
+        assert!(rt; is_answered(rt.alloc(), asked, room, want), "{row}");
+    }
+}
+
+#[test]
+fn a_master_has_aeads_alone(rt: HostRuntime) {
+    let kind = match place_of(rt.alloc(), 999, true, true) {
+        Some(mut place) => refusal_of_master(rt.alloc(), &mut place),
+        None => None,
+    };
+    assert!(rt; kind == Some(Kind::WrongPrimitive));
+}
+
+// By which kind a new file of a key of streams is refused as a master.
+fn refusal_of_master(alloc: Global, place: &mut MemPlace) -> Option<Kind> {
+    if !place.has_draft {
+        return None;
+    }
+    let draws = b"0123456789abcdefMMMM";
+    match made(alloc, "AES128_GCM_HKDF_4KB", draws, place) {
+        Ok(()) => {}
+        Err(_) => return None,
+    }
+    match load_master(alloc, place.shown.take()?) {
+        Ok(_) => None,
+        Err(e) => Some(e.kind),
+    }
+}

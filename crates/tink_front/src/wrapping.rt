@@ -1,0 +1,93 @@
+//! The commands that keep a file of keys under a master keyset.
+
+use crate::keys::format_of;
+use crate::outside::{draws, read_keys};
+use crate::real_place::RealPlace;
+use crate::trouble::Trouble;
+use tink_files::{unwrap_keys, wrap_keys};
+use tink_io::Kind;
+use tink_key_files::Format;
+use tink_words::Line;
+use tink_wrap::{Master, load_master};
+
+// What the words say.
+#[derive(Clone, Copy)]
+struct Words<'w> {
+    master: &'w str,
+    input: &'w str,
+    output: &'w str,
+    aad: &'w str,
+    format: Format,
+}
+
+/// `wrap -k MASTER -o WRAPPED [--aad TEXT] [--format NAME] KEYS`
+pub fn wrap<'w>(rt: &HostRuntime, line: &Line<'w>) -> Result<(), Trouble<'w>> {
+    let words = words_of(line)?;
+    let master = load(rt, words.master)?;
+    let keys = read_keys(rt, words.input)?;
+    let mut draws = draws(rt)?;
+    let mut place = RealPlace::fresh(rt, words.output)?;
+    match wrap_keys(
+        rt.alloc(),
+        &master,
+        keys,
+        words.aad.as_bytes(),
+        words.format,
+        &mut draws,
+        &mut place,
+    ) {
+        Ok(()) => Ok(()),
+        Err(e) => Err(blamed(words, e.kind)),
+    }
+}
+
+/// `unwrap -k MASTER -o KEYS [--aad TEXT] [--format NAME] WRAPPED`
+pub fn unwrap<'w>(rt: &HostRuntime, line: &Line<'w>) -> Result<(), Trouble<'w>> {
+    let words = words_of(line)?;
+    let master = load(rt, words.master)?;
+    let file = read_keys(rt, words.input)?;
+    let mut place = RealPlace::fresh(rt, words.output)?;
+    match unwrap_keys(
+        rt.alloc(),
+        &master,
+        &file,
+        words.aad.as_bytes(),
+        words.format,
+        &mut place,
+    ) {
+        Ok(()) => Ok(()),
+        Err(e) => Err(blamed(words, e.kind)),
+    }
+}
+
+fn words_of<'w>(line: &Line<'w>) -> Result<Words<'w>, Trouble<'w>> {
+    let (Some(master), Some(output), Some(input)) = (line.keys(), line.output(), line.first())
+    else {
+        return Err(Trouble::Usage);
+    };
+    let format = format_of(line)?;
+    Ok(Words {
+        master,
+        input,
+        output,
+        aad: line.aad().unwrap_or(""),
+        format,
+    })
+}
+
+// The AEADs of the file MASTER.
+fn load<'w>(rt: &HostRuntime, path: &'w str) -> Result<Master, Trouble<'w>> {
+    let file = read_keys(rt, path)?;
+    match load_master(rt.alloc(), file) {
+        Ok(master) => Ok(master),
+        Err(e) => Err(Trouble::Refused(path, e.kind)),
+    }
+}
+
+// The output, or the input, where it is the cause.
+fn blamed<'w>(words: Words<'w>, kind: Kind) -> Trouble<'w> {
+    match kind {
+        Kind::WriteFault => Trouble::Refused(words.output, kind),
+        _ => Trouble::Refused(words.input, kind),
+    }
+}

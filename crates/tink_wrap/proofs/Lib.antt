@@ -1,0 +1,3 @@
+mod WrapLemmas
+mod SoundMasters
+mod BackFacts

@@ -1,0 +1,45 @@
+//! A keyset that an AEAD encrypts and decrypts.
+
+ghost use Rattle.std.specs.Prelude.{◌≡◌, Ok, OnOk};
+ghost use Rattle.wire_format.specs.Message.{encoded};
+ghost use Rattle.tink_io.specs.Told.{Answers};
+ghost use Rattle.tink_proto.specs.Messages.{keyset};
+ghost use Rattle.tink_keysets.specs.Encrypted.{decrypted, encrypted, handle_of_bytes};
+
+use std::alloc::Global;
+use tink_io::{Draws, TinkError};
+use tink_keysets::keyset::{Handle, MemReaderWriter, Reader};
+use tink_primitives::Aead;
+use tink_proto::EncryptedKeyset;
+
+// The keyset of a handle, encrypted with the associated data.
+pub fn encrypt<A: Aead>(
+    alloc: Global,
+    handle: &Handle,
+    master: &A,
+    aad: &[u8],
+    draws: &mut Draws,
+) -> Result<EncryptedKeyset, TinkError>
+    ensures answer { Answers result (encrypted (A.encrypts master.now) aad.now draws.old handle.now).0 }
+    ensures again { OnOk result (handle_of_bytes (encoded keyset.write handle.now) ≡ Ok handle.now) }
+{
+    let mut memory = MemReaderWriter::default();
+    handle.write_with_associated_data(alloc, &mut memory, master, aad, draws)?;
+    memory.read_encrypted(alloc)
+}
+
+// A handle of the keyset that was encrypted with the associated data.
+pub fn decrypt<A: Aead>(
+    alloc: Global,
+    encrypted: EncryptedKeyset,
+    master: &A,
+    aad: &[u8],
+) -> Result<Handle, TinkError>
+    ensures { Answers result (decrypted (A.decrypts master.now) aad.now encrypted) }
+{
+    let mut memory = MemReaderWriter {
+        keyset: None,
+        encrypted_keyset: Some(encrypted),
+    };
+    Handle::read_with_associated_data(alloc, &mut memory, master, aad)
+}
