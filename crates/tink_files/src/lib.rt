@@ -10,4 +10,4 @@ mod streams;
 pub use key_files::{edit_keys, new_keys, rotate_keys};
 pub use refusals::advice;
 pub use saved::save_answer;
-pub use streams::run_to;
+pub use streams::{rewrap_to, run_to};
