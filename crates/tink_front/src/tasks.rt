@@ -1,0 +1,65 @@
+//! The work of a job, into a place or a sink.
+
+ghost use Rattle.std.specs.Prelude.{◌≡◌, true};
+
+use crate::job::{Job, Side, Task};
+use std::alloc::Global;
+use tink_files::{rewrap_to, run_to, sign_to, verify_to};
+use tink_io::{Draws, Kind, Sink, Source, TinkError};
+use tink_place::Place;
+use tink_rewrap::rewrap;
+use tink_run::report::Report;
+use tink_run::run::run;
+use tink_run_tokens::{write_payload, write_token};
+
+/// Into a draft, which is shown where all was done, and else taken away.
+pub fn into_place<S: Source, P: Place>(
+    alloc: Global,
+    job: &Job<'_>,
+    draws: &mut Draws,
+    source: &mut S,
+    place: &mut P,
+) -> Result<(), TinkError>
+    requires { P.has_draft place.old ≡ true }
+{
+    let keyset = job.side.keyset.as_slice();
+    let aad = job.side.aad.as_bytes();
+    match &job.task {
+        Task::Run(command) => told(run_to(alloc, *command, keyset, aad, draws, source, place)),
+        Task::Rewrap(to) => {
+            let (new, new_aad) = (to.keyset.as_slice(), to.aad.as_bytes());
+            told(rewrap_to(alloc, keyset, aad, new, new_aad, draws, source, place))
+        }
+        Task::Sign => sign_to(alloc, keyset, source, place),
+        _ => verify_to(alloc, keyset, source, place),
+    }
+}
+
+/// Into a sink, as it comes.
+pub fn into_sink<S: Source, K: Sink>(
+    alloc: Global,
+    job: &Job<'_>,
+    draws: &mut Draws,
+    source: &mut S,
+    sink: &mut K,
+) -> Result<(), TinkError> {
+    let keyset = job.side.keyset.as_slice();
+    let aad = job.side.aad.as_bytes();
+    match &job.task {
+        Task::Run(command) => told(run(alloc, *command, keyset, aad, draws, source, sink)),
+        Task::Rewrap(to) => {
+            let (new, new_aad) = (to.keyset.as_slice(), to.aad.as_bytes());
+            told(rewrap(alloc, keyset, aad, new, new_aad, draws, source, sink))
+        }
+        Task::Sign => write_token(alloc, keyset, source, sink),
+        _ => write_payload(alloc, keyset, source, sink),
+    }
+}
+
+// An answer without its report.
+fn told(answer: Result<Report, TinkError>) -> Result<(), TinkError> {
+    match answer {
+        Ok(_) => Ok(()),
+        Err(e) => Err(e),
+    }
+}
