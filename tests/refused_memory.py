@@ -111,7 +111,7 @@ def damaged(name, keyset, ends):
 def main():
     anything = {"reads": None, "writes": None}
     # What stands after a failed read: the header and whole segments of a seal, whole texts of an open, nothing or the
-    # header and whole segments of a rewrap, and nothing of a token or a payload.
+    # header and whole segments of a rewrap, and nothing of a range, a token or a payload.
     sealed = {"reads": {24, 4096, 8192}, "writes": None}
     opened = {"reads": {0, 4040, 8104}, "writes": None}
     moved = {"reads": {0, 24, 4096, 8192}, "writes": None}
@@ -131,6 +131,8 @@ def main():
         (Row("large 0", ["large", "0"], b""), anything),
         (Row("rewrap 12,288 bytes", ["rewrap", TWO, "-", ONE, "aabb", SEED], long), moved),
         (Row("rewrap 4,128 bytes, cut", ["rewrap", ONE, "-", ONE, "aabb", SEED], stream[:-1]), moved),
+        (Row("range of 100 bytes of 12,168", ["range", ONE, "-", "4000", "100"], long, True), held),
+        (Row("range of 12,287 bytes, cut", ["range", TWO, "-", "4000", "100"], long[:-1], True), held),
         (Row("sign 12,168 bytes", ["sign", macs], TEXT, True), held),
         (Row("verify their token", ["verify", macs], token, True), held),
     ]

@@ -9,12 +9,13 @@ use Rattle.tink_proto.specs.declared.messages.keys.Keyset.{Keyset}
 use Rattle.tink_keysets.specs.Managed.{no_keys}
 use Rattle.tink_keygen.specs.Rotating.{IsNotRotated}
 use Rattle.tink_run.specs.Outside.{Outside, IsUntouched}
-use Rattle.tink_program.specs.Keysets.{made_keyset, of_keyset, of_no_keys, IsLine, IsUnmadeBy, IsUnwritten, KeysetMeans, MakesKeyset, RefusesLine, RefusesRotation, Rotation, WritesLine, WrotePrefix}
+use Rattle.tink_run_tokens.specs.Inputs.{IsUnwritten}
+use Rattle.tink_program.specs.Keysets.{made_keyset, of_keyset, of_no_keys, IsLine, IsUnmadeBy, KeysetMeans, MakesKeyset, RefusesLine, RefusesRotation, Rotation, WritesLine, WrotePrefix}
 use Rattle.tink_program.specs.Program.{answer_outcome, kind_status, own_statuses, refused_statuses, status_of, IsAmong, IsUnwrittenKind, Leaves}
 use Rattle.tink_program.specs.Words.Asked.{Making, Rotating}
 use Rattle.tink_program.specs.declared.program.Outcome.{Outcome}
 use Rattle.tink_program.specs.declared.program.Outcome.TheVariants.{Done, Usage, Refused}
-use Rattle.tink_program.proofs.StatusLemmas.{above_2, sink_left, CommandFacts}
+use Rattle.tink_program.proofs.StatusLemmas.{above_2, sink_left, unwritten_kinds, CommandFacts}
 
 -- ---- from the call to the outcome
 
@@ -37,14 +38,10 @@ pub line_outcome : (old new : Outside) (r : Rotation) (answer : Result (Unit {0}
 line_outcome old new r (Ok done) left faults m = (m.0, m.1, record { left = left; read_faults = faults; written = m.2 })
 line_outcome old new r (Err e) left faults m = refused_outcome old new r e.kind left faults m
 
-unwritten : (kind : Kind) → IsUnwrittenKind kind → IsUnwritten kind
-unwritten WriteFault early = early
-unwritten _ early = tt
-
 -- and what it left
-pub line_leaves : {S K : Type 0} (answer : Result (Unit {0}) TinkError) (source : S) (k l : K) → IfErr answer (λ e. IsUnwritten e.kind → l ≡ k) → Leaves false (answer_outcome answer) source source k l
+pub line_leaves : {S K : Type 0} (answer : Result (Unit {0}) TinkError) (source : S) (k l : K) → IfErr answer (λ e. IsUnwritten e.kind → l ≡ k) → Leaves false (λ kind. IsUnwrittenKind kind) (answer_outcome answer) source source k l
 line_leaves (Ok done) source k l left = tt
-line_leaves (Err e) source k l left = (λ _. refl, λ early. left (unwritten e.kind early), λ _. inr refl)
+line_leaves (Err e) source k l left = (λ _. refl, λ early. left (unwritten_kinds e.kind early), λ _. inr refl)
 
 -- ---- which statuses come
 

@@ -17,7 +17,8 @@ use Rattle.tink_keysets.specs.Managed.{no_keys}
 use Rattle.tink_keysets.specs.Valid.{valid_keyset, valid_or_refused}
 use Rattle.tink_keygen.specs.Rotating.{key_line, rotated_by, IsNotRotated}
 use Rattle.tink_program.specs.Draws.{draws_in}
-use Rattle.tink_program.specs.Keysets.{made_keyset, GivesLine, IsLine, RefusesRotation, IsUnmadeBy, IsUnwritten, RefusesLine, Rotation, WritesLine}
+use Rattle.tink_run_tokens.specs.Inputs.{IsUnwritten}
+use Rattle.tink_program.specs.Keysets.{made_keyset, GivesLine, IsLine, RefusesRotation, IsUnmadeBy, RefusesLine, Rotation, WritesLine}
 use Rattle.tink_program.proofs.StreamLemmas.{length-draws_in}
 
 -- ---- by which kinds a keyset is not made

@@ -7,8 +7,9 @@ pub mod KeysetLemmas
 pub mod KeysetSteps
 pub mod LargeLemmas
 pub mod LargeSteps
-pub mod MacFacts
-pub mod TokenCalls
+pub mod InputLemmas
 pub mod TokenLemmas
+pub mod RangeSteps
+pub mod RangeLemmas
 pub mod RewrapLemmas
 pub mod ProgramLemmas

@@ -4,15 +4,17 @@ use Rattle.std.specs.Prelude.{Err}
 use Rattle.tink_io.specs.declared.error.Kind.{Kind}
 use Rattle.tink_io.specs.declared.error.Kind.TheVariants.{OutOfMemory}
 use Rattle.tink_run.specs.Outside.{Outside}
+use Rattle.tink_run_tokens.proofs.InputSteps.{none_taken}
 use Rattle.tink_program.specs.declared.program.Outcome.{Outcome}
 use Rattle.tink_program.specs.declared.program.Outcome.TheVariants.{Refused}
 use Rattle.tink_program.specs.Draws.{draws_in}
 use Rattle.tink_program.specs.Keysets.{of_keyset, of_no_keys}
 use Rattle.tink_program.specs.Program.{kind_status, status_of, CommandMeans, OutcomeMeans, Promised, Promises, StatusMeans}
 use Rattle.tink_program.specs.Words.{Asked, Spells}
-use Rattle.tink_program.specs.Words.Asked.{Making, Measuring, Opening, Rewrapping, Rotating, Sealing, Signing, Verifying}
+use Rattle.tink_program.specs.Words.Asked.{Making, Measuring, Opening, Ranging, Rewrapping, Rotating, Sealing, Signing, Verifying}
 use Rattle.tink_program.proofs.KeysetLemmas.{keygen_facts, keyset_promised, rotate_facts}
 use Rattle.tink_program.proofs.LargeLemmas.{large_facts, large_promised}
+use Rattle.tink_program.proofs.RangeLemmas.{range_facts, range_promised}
 use Rattle.tink_program.proofs.RewrapLemmas.{rewrap_facts, rewrap_promised, want_moved}
 use Rattle.tink_program.proofs.Spelling.{along}
 use Rattle.tink_program.proofs.StatusLemmas.{command_status, nothing_status, want_status, CommandFacts}
@@ -25,6 +27,7 @@ command_facts (Opening keyset aad) old new outcome m = open_facts keyset aad old
 command_facts (Making template seed) old new outcome m = keygen_facts template seed old new outcome m
 command_facts (Rotating keyset template seed) old new outcome m = rotate_facts keyset template seed old new outcome m
 command_facts (Measuring n) old new outcome m = large_facts n old new outcome m
+command_facts (Ranging keyset aad start len) old new outcome m = range_facts keyset aad start len old new outcome m
 command_facts (Signing keyset) old new outcome m = sign_facts keyset old new outcome m
 command_facts (Verifying keyset) old new outcome m = verify_facts keyset old new outcome m
 command_facts (Rewrapping sides seed) old new outcome m = rewrap_facts sides seed old new outcome m
@@ -46,8 +49,9 @@ want_promises (Opening keyset aad) o = open_promised keyset aad o o (Err (record
 want_promises (Making template seed) o = keyset_promised (of_no_keys template seed) o o (Refused OutOfMemory) refl
 want_promises (Rotating keyset template seed) o = keyset_promised (of_keyset keyset template seed) o o (Refused OutOfMemory) refl
 want_promises (Measuring n) o = large_promised n o o (Refused OutOfMemory) refl
-want_promises (Signing keyset) o = sign_promised keyset o o (Refused OutOfMemory) (record { got = refl; faults = refl })
-want_promises (Verifying keyset) o = verify_promised keyset o o (Refused OutOfMemory) (record { got = refl; faults = refl })
+want_promises (Ranging keyset aad start len) o = range_promised keyset aad start len o o (Refused OutOfMemory) (record { got = refl; faults = refl }) (none_taken o.left)
+want_promises (Signing keyset) o = sign_promised keyset o o (Refused OutOfMemory) (record { got = refl; faults = refl }) (none_taken o.left)
+want_promises (Verifying keyset) o = verify_promised keyset o o (Refused OutOfMemory) (record { got = refl; faults = refl }) (none_taken o.left)
 want_promises (Rewrapping sides seed) o = rewrap_promised sides seed o o (Err (record { kind = OutOfMemory })) (want_moved sides (draws_in seed 256) o (record { kind = OutOfMemory }) refl)
 
 pub want_promised : (words : List (List ℕ)) (o : Outside) (kind : Kind) → kind ≡ OutOfMemory → Promised words o o (kind_status kind)

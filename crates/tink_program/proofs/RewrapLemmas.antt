@@ -44,7 +44,7 @@ early_rewrap sides draws left_draws old new _ m early = early
 
 -- an outcome leaves what its answer leaves
 pub rewrap_leaves : {S K : Type 0} (sides : Sides) (draws : List ℕ) (old new : Outside) (answer : Result Report TinkError) (s t : S) (k l : K)
-    → Moved sides draws old new answer → LeavesEnds answer s t k l → Leaves false (answer_outcome answer) s t k l
+    → Moved sides draws old new answer → LeavesEnds answer s t k l → Leaves false (λ kind. IsUnwrittenKind kind) (answer_outcome answer) s t k l
 rewrap_leaves sides draws old new (Ok report) s t k l moved h = tt
 rewrap_leaves sides draws old new (Err e) s t k l moved h =
     let early = early_rewrap sides draws moved.left_draws old new e.kind moved.means in (

@@ -1,5 +1,5 @@
 -- Words ask for one thing at most.
-use Rattle.std.proofs.Common.{◌≡◌, inl, inr, ℕ, List, ◌∷◌, length, false, sym, ◌∙◌, ap, subst, refl, arith}
+use Rattle.std.proofs.Common.{◌≡◌, inl, inr, ◌<◌, ◌^◌, ◌-◌, ℕ, List, ◌∷◌, length, false, sym, ◌∙◌, ap, subst, refl, arith}
 use Rattle.std.specs.Str.{bytes_eq}
 use Rattle.std.specs.Str.Parse.{digits_value}
 use Rattle.std.proofs.lemmas.Bool.{false≢true}
@@ -7,8 +7,8 @@ use Rattle.std.proofs.lemmas.Fmt.{decimal_is_IsNumeral}
 use Rattle.std.proofs.lemmas.Slice.Eq.{bytes_eq-Decides}
 use Rattle.hex.proofs.HexLemmas.{decode_of-same}
 use Rattle.tink_rewrap.specs.Rewrapping.{Sides}
-use Rattle.tink_program.specs.Words.{Asked, IsBytesWord, IsNumberWord, IsSeedWord, KeygenWords, LargeWords, OpenWords, RewrapWords, RotateWords, SealWords, SignWords, SpellNothing, Spells, VerifyWords}
-use Rattle.tink_program.specs.Words.Asked.{Making, Measuring, Opening, Rewrapping, Rotating, Sealing, Signing, Verifying}
+use Rattle.tink_program.specs.Words.{Asked, IsBytesWord, IsNumberWord, IsSeedWord, KeygenWords, LargeWords, OpenWords, RangeWords, RewrapWords, RotateWords, SealWords, SignWords, SpellNothing, Spells, VerifyWords}
+use Rattle.tink_program.specs.Words.Asked.{Making, Measuring, Opening, Ranging, Rewrapping, Rotating, Sealing, Signing, Verifying}
 
 -- words that begin otherwise
 apart : (words us vs : List (List ℕ)) (u v : List ℕ) → words ≡ u ∷ us → words ≡ v ∷ vs → bytes_eq u v ≡ false → ⊥
@@ -32,10 +32,10 @@ keysets-same v w xs ys same p q = bytes-same v xs ys p (subst (λ x. IsBytesWord
 seeds-same : (v w s t : List ℕ) → v ≡ w → IsSeedWord v s → IsSeedWord w t → s ≡ t
 seeds-same v w s t same p q = decode_of-same v s t p.1 (subst (λ x. IsSeedWord x t) (sym same) q).1
 
-numbers-same : (v w : List ℕ) (n m : ℕ) → v ≡ w → IsNumberWord v n → IsNumberWord w m → n ≡ m
-numbers-same v w n m same p q =
+numbers-same : (most : ℕ) (v w : List ℕ) (n m : ℕ) → most < 2 ^ 64 → v ≡ w → IsNumberWord most v n → IsNumberWord most w m → n ≡ m
+numbers-same most v w n m fits same p q =
     let digits = sym p.digits ∙ same ∙ q.digits in
-    sym (decimal_is_IsNumeral n (omega (arith, p.small))).1 ∙ ap (digits_value 10) digits ∙ (decimal_is_IsNumeral m (omega (arith, q.small))).1
+    sym (decimal_is_IsNumeral n (omega (arith, fits, p.small))).1 ∙ ap (digits_value 10) digits ∙ (decimal_is_IsNumeral m (omega (arith, fits, q.small))).1
 
 -- ---- the words of a command spell one thing
 
@@ -73,7 +73,18 @@ large-same : (words : List (List ℕ)) (n m : ℕ) → LargeWords words n → La
 large-same words n m p q =
     let same = sym p.spelled ∙ q.spelled in
     let second : p.number_word ≡ q.number_word = cc same in
-    ap (λ x. Measuring x) (numbers-same p.number_word q.number_word n m second p.number_is q.number_is)
+    ap (λ x. Measuring x) (numbers-same 999999 p.number_word q.number_word n m (omega arith) second p.number_is q.number_is)
+
+range-same : (words : List (List ℕ)) (k a l b : List ℕ) (i n j m : ℕ) → RangeWords words k a i n → RangeWords words l b j m → Ranging k a i n ≡ Ranging l b j m
+range-same words k a l b i n j m p q =
+    let same = sym p.spelled ∙ q.spelled in
+    let second : p.keyset_word ≡ q.keyset_word = cc same in
+    let third : p.aad_word ≡ q.aad_word = cc same in
+    let fourth : p.start_word ≡ q.start_word = cc same in
+    let fifth : p.len_word ≡ q.len_word = cc same in
+    let start_is = numbers-same (2 ^ 64 - 1) p.start_word q.start_word i j (omega arith) fourth p.start_is q.start_is in
+    let len_is = numbers-same (2 ^ 64 - 1) p.len_word q.len_word n m (omega arith) fifth p.len_is q.len_is in
+    rw (keysets-same p.keyset_word q.keyset_word k l second p.keyset_is q.keyset_is, keysets-same p.aad_word q.aad_word a b third p.aad_is q.aad_is, start_is, len_is) refl
 
 sign-same : (words : List (List ℕ)) (k l : List ℕ) → SignWords words k → SignWords words l → Signing k ≡ Signing l
 sign-same words k l p q =
@@ -114,6 +125,7 @@ one_asked words (Opening k a) (Opening l b) p q = open-same words k a l b p q
 one_asked words (Making t s) (Making u v) p q = keygen-same words t s u v p q
 one_asked words (Rotating k t s) (Rotating l u v) p q = rotate-same words k t s l u v p q
 one_asked words (Measuring n) (Measuring m) p q = large-same words n m p q
+one_asked words (Ranging k a i n) (Ranging l b j m) p q = range-same words k a l b i n j m p q
 one_asked words (Signing k) (Signing l) p q = sign-same words k l p q
 one_asked words (Verifying k) (Verifying l) p q = verify-same words k l p q
 one_asked words (Rewrapping s t) (Rewrapping u v) p q = rewrap-same words s u t v p q
@@ -126,8 +138,8 @@ along P words a b p q holds = subst P (one_asked words a b p q) holds
 -- words that spell none of the commands
 pub nothing_spelled : (words : List (List ℕ)) → ((k a s : List ℕ) → SealWords words k a s → ⊥) → ((k a : List ℕ) → OpenWords words k a → ⊥)
     → ((t s : List ℕ) → KeygenWords words t s → ⊥) → ((k t s : List ℕ) → RotateWords words k t s → ⊥) → ((n : ℕ) → LargeWords words n → ⊥)
-    → ((k : List ℕ) → SignWords words k → ⊥) → ((k : List ℕ) → VerifyWords words k → ⊥) → ((s : Sides) (t : List ℕ) → RewrapWords words s t → ⊥) → SpellNothing words
-nothing_spelled words no_seal no_open no_keygen no_rotate no_large no_sign no_verify no_rewrap = λ asked. by_asked asked
+    → ((k a : List ℕ) (i n : ℕ) → RangeWords words k a i n → ⊥) → ((k : List ℕ) → SignWords words k → ⊥) → ((k : List ℕ) → VerifyWords words k → ⊥) → ((s : Sides) (t : List ℕ) → RewrapWords words s t → ⊥) → SpellNothing words
+nothing_spelled words no_seal no_open no_keygen no_rotate no_large no_range no_sign no_verify no_rewrap = λ asked. by_asked asked
   where
     by_asked : (asked : Asked) → Spells words asked → ⊥
     by_asked (Sealing k a s) p = no_seal k a s p
@@ -135,6 +147,7 @@ nothing_spelled words no_seal no_open no_keygen no_rotate no_large no_sign no_ve
     by_asked (Making t s) p = no_keygen t s p
     by_asked (Rotating k t s) p = no_rotate k t s p
     by_asked (Measuring n) p = no_large n p
+    by_asked (Ranging k a i n) p = no_range k a i n p
     by_asked (Signing k) p = no_sign k p
     by_asked (Verifying k) p = no_verify k p
     by_asked (Rewrapping s t) p = no_rewrap s t p

@@ -2,14 +2,15 @@
 use Rattle.std.proofs.Common.{◌≡◌, ◌⊎◌, inl, inr, ◌<◌, ℕ, List, true, refl, ap, arith}
 use Rattle.tink_io.specs.Faults.{Rose}
 use Rattle.tink_io.specs.declared.error.Kind.{Kind}
-use Rattle.tink_io.specs.declared.error.Kind.TheVariants.{OutOfMemory, BadKeyset, InvalidKeyset, UnsupportedKeyType, InvalidKey, NoPrimary, WrongPrimitive, UnsupportedHash, UnknownTemplate, NoFreshId, InputTooLong, BadToken, MacMismatch}
+use Rattle.tink_io.specs.declared.error.Kind.TheVariants.{OutOfMemory, WriteFault, BadKeyset, InvalidKeyset, UnsupportedKeyType, InvalidKey, NoPrimary, WrongPrimitive, UnsupportedHash, TooManySegments, NoMatchingKey, BadSegment, Truncated, UnknownTemplate, NoFreshId, InputTooLong, BadToken, MacMismatch}
 use Rattle.tink_run.specs.Outside.{Outside, IsUntouched}
 use Rattle.tink_program.specs.declared.program.Outcome.{Outcome}
 use Rattle.tink_program.specs.declared.program.Outcome.TheVariants.{Done, Usage, Refused}
-use Rattle.tink_program.specs.Program.{early_statuses, kind_status, own_statuses, reads_first, refused_statuses, status_of, unwritten_statuses, IsAmong, IsCause, IsEarlyKind, IsReadingFirst, IsUnusableBy, IsUnwrittenKind, KeepsEnds, Leaves, StatusMeans}
-use Rattle.tink_program.specs.Tokens.{LeavesSink}
+use Rattle.tink_program.specs.Program.{early_statuses, is_ranging, kind_status, own_statuses, reads_first, refused_statuses, status_of, unranged_statuses, unwritten_statuses, IsAmong, IsCause, IsEarlyKind, IsRanging, IsReadingFirst, IsUnusableBy, IsUnwrittenBy, IsUnwrittenKind, KeepsEnds, Leaves, StatusMeans}
+use Rattle.tink_run_tokens.specs.Inputs.{IsUnwritten, LeavesSink}
+use Rattle.tink_program.specs.Ranges.{IsUnranged}
 use Rattle.tink_program.specs.Words.{Asked, SpellNothing, Spells}
-use Rattle.tink_program.specs.Words.Asked.{Making, Measuring, Opening, Rewrapping, Rotating, Sealing, Signing, Verifying}
+use Rattle.tink_program.specs.Words.Asked.{Making, Measuring, Opening, Ranging, Rewrapping, Rotating, Sealing, Signing, Verifying}
 use Rattle.tink_program.proofs.Spelling.{along}
 
 pub above_2 : (kind : Kind) → 2 < kind_status kind
@@ -70,6 +71,7 @@ own_ten (Opening keyset aad) = refl
 own_ten (Making template seed) = refl
 own_ten (Rotating keyset template seed) = refl
 own_ten (Measuring n) = refl
+own_ten (Ranging keyset aad start len) = refl
 own_ten (Signing keyset) = refl
 own_ten (Verifying keyset) = refl
 own_ten (Rewrapping sides seed) = refl
@@ -88,6 +90,11 @@ want_status words old new same = record {
 }
 
 -- ---- the ends themselves
+
+-- a kind by which nothing is written is no fault of the sink
+pub unwritten_kinds : (kind : Kind) → IsUnwrittenKind kind → IsUnwritten kind
+unwritten_kinds WriteFault early = early
+unwritten_kinds _ early = tt
 
 early_kind : (kind : Kind) → IsAmong early_statuses (kind_status kind) → IsEarlyKind kind
 early_kind BadKeyset is = tt
@@ -117,29 +124,53 @@ unwritten_kind UnknownTemplate is = tt
 unwritten_kind NoFreshId is = tt
 unwritten_kind _ is = absurd (cc is)
 
+-- by such a kind nothing of a range is written
+unranged_kinds : (kind : Kind) → IsUnwrittenKind kind → IsUnranged kind
+unranged_kinds WriteFault unwritten = unwritten
+unranged_kinds (BadSegment n) unwritten = unwritten
+unranged_kinds _ unwritten = tt
+
+unwritten_by : (a : Asked) (kind : Kind) → IsUnwrittenKind kind → IsUnwrittenBy a kind
+unwritten_by (Ranging keyset aad start len) kind unwritten = unranged_kinds kind unwritten
+unwritten_by _ kind unwritten = unwritten
+
+-- nor by the kinds of these statuses
+unranged_by : (a : Asked) (kind : Kind) → is_ranging a ≡ true → IsAmong unranged_statuses (kind_status kind) → IsUnwrittenBy a kind
+unranged_by (Ranging keyset aad start len) NoMatchingKey is among = tt
+unranged_by (Ranging keyset aad start len) TooManySegments is among = tt
+unranged_by (Ranging keyset aad start len) (Truncated n) is among = tt
+unranged_by (Ranging keyset aad start len) _ is among = absurd (cc among)
+unranged_by _ kind is among = absurd (cc is)
+
+is_ranging_words : (words : List (List ℕ)) (a : Asked) → Spells words a → IsRanging words → is_ranging a ≡ true
+is_ranging_words words a spelled (b, other, is) = along (λ x. is_ranging x ≡ true) words b a other spelled is
+
 want_kind : (kind : Kind) → kind_status kind ≡ 10 → kind ≡ OutOfMemory
 want_kind OutOfMemory is = refl
 want_kind _ is = absurd (omega (arith, is))
 
 -- what a command's outcome leaves
-pub command_keeps : {S K : Type 0} (words : List (List ℕ)) (a : Asked) (outcome : Outcome) (s t : S) (k l : K) → Spells words a → Leaves (reads_first a) outcome s t k l
+pub command_keeps : {S K : Type 0} (words : List (List ℕ)) (a : Asked) (outcome : Outcome) (s t : S) (k l : K) → Spells words a → Leaves (reads_first a) (λ kind. IsUnwrittenBy a kind) outcome s t k l
     → KeepsEnds words (status_of outcome) s t k l
 command_keeps words a Done s t k l spelled left = record {
   unread = λ is. absurd (cc is);
   unwritten = λ is. absurd (cc is);
+  unranged = λ ranging is. absurd (cc is);
   want = λ is. absurd (omega (arith, is));
 }
 command_keeps words a Usage s t k l spelled left = record {
   unread = λ _. left.0;
   unwritten = λ _. left.1;
+  unranged = λ _ _. left.1;
   want = λ is. absurd (omega (arith, is));
 }
 command_keeps words a (Refused kind) s t k l spelled left = record {
   unread = λ is. left.0 (early_kind kind is);
-  unwritten = λ is. left.1 (unwritten_kind kind is);
+  unwritten = λ is. left.1 (unwritten_by a kind (unwritten_kind kind is));
+  unranged = λ ranging is. left.1 (unranged_by a kind (is_ranging_words words a spelled ranging) is);
   want = λ is. elim (left.2 (want_kind kind is)) [ inl reads ↦ inl (a, spelled, reads) | inr same ↦ inr same ];
 }
 
 -- nothing was touched
 pub all_kept : {S K : Type 0} (words : List (List ℕ)) (status : ℕ) (s : S) (k : K) → KeepsEnds words status s s k k
-all_kept words status s k = record { unread = λ _. refl; unwritten = λ _. refl; want = λ _. inr refl }
+all_kept words status s k = record { unread = λ _. refl; unwritten = λ _. refl; unranged = λ _ _. refl; want = λ _. inr refl }

@@ -94,7 +94,7 @@ unwritten_early _ early = early
 
 -- an outcome leaves what its answer leaves
 pub leaves_by : {S K : Type 0} (command : Command) (keyset aad draws : List ℕ) (old new : Outside) (answer : Result Report TinkError) (s t : S) (k l : K)
-    → Ran command keyset aad draws old new answer → LeavesEnds answer s t k l → Leaves false (answer_outcome answer) s t k l
+    → Ran command keyset aad draws old new answer → LeavesEnds answer s t k l → Leaves false (λ kind. IsUnwrittenKind kind) (answer_outcome answer) s t k l
 leaves_by command keyset aad draws old new (Ok report) s t k l ran h = tt
 leaves_by command keyset aad draws old new (Err e) s t k l ran h =
     let early = early_run command keyset aad draws ran.left_draws old new e.kind ran.means in (

@@ -1,10 +1,10 @@
 -- Words, and what they spell.
-use Rattle.std.proofs.Common.{◌≡◌, ◌<◌, ℕ, zero, suc, List, [], ◌∷◌, length, map, sym, ◌∙◌, ap, subst, arith, slice_index_or, Global}
+use Rattle.std.proofs.Common.{◌≡◌, ◌<◌, ◌^◌, ◌-◌, ℕ, zero, suc, List, [], ◌∷◌, length, map, sym, ◌∙◌, ap, subst, arith, slice_index_or, Global}
 use Rattle.std.specs.Prelude.{String, string_bytes, codes, Option, Some, None, Result, Ok, Err, Vec, IfOk, IfSome, IfNone}
 use Rattle.tink_io.specs.declared.error.TinkError.{TinkError}
 use Rattle.hex.specs.Hex.{decode_sized}
 use Rattle.hex.proofs.HexLemmas.{decode_sized-ok, decode_sized-twice}
-use Rattle.tink_program.specs.Words.{IsBytesWord, IsSeedWord, KeygenWords, OpenWords, RewrapWords, RotateWords, SealWords, SignWords, VerifyWords}
+use Rattle.tink_program.specs.Words.{IsBytesWord, IsNumberWord, IsSeedWord, KeygenWords, OpenWords, RangeWords, RewrapWords, RotateWords, SealWords, SignWords, VerifyWords}
 use Rattle.tink_rewrap.specs.Rewrapping.{Sides}
 
 abbrev pub texts : List (String Global) → List (List ℕ)
@@ -38,6 +38,11 @@ four_texts : (ws : List (String Global)) (a b c d : String Global) → length ws
     → texts ws ≡ string_bytes a ∷ string_bytes b ∷ string_bytes c ∷ string_bytes d ∷ []
 four_texts [] a b c d l p q r s = absurd (omega arith)
 four_texts (v ∷ ws) a b c d l p q r s = let rest = three_texts ws b c d (omega arith) q r s in cc
+
+five_texts : (ws : List (String Global)) (a b c d e : String Global) → length ws ≡ 5 → a ≡ slice_index_or ws 0 a → b ≡ slice_index_or ws 1 b → c ≡ slice_index_or ws 2 c → d ≡ slice_index_or ws 3 d
+    → e ≡ slice_index_or ws 4 e → texts ws ≡ string_bytes a ∷ string_bytes b ∷ string_bytes c ∷ string_bytes d ∷ string_bytes e ∷ []
+five_texts [] a b c d e l p q r s u = absurd (omega arith)
+five_texts (v ∷ ws) a b c d e l p q r s u = let rest = four_texts ws b c d e (omega arith) q r s u in cc
 
 six_texts : (ws : List (String Global)) (a b c d e f : String Global) → length ws ≡ 6 → a ≡ slice_index_or ws 0 a → b ≡ slice_index_or ws 1 b → c ≡ slice_index_or ws 2 c → d ≡ slice_index_or ws 3 d
     → e ≡ slice_index_or ws 4 e → f ≡ slice_index_or ws 5 f
@@ -118,6 +123,22 @@ rewrap_words ws a b c d e f sides seed l p q r s u v is from_is from_aad_is to_i
   to_is = to_is;
   to_aad_is = to_aad_is;
   seed_is = seed_word (string_bytes f) seed decodes;
+}
+
+pub range_words : (ws : List (String Global)) (a b c d e : String Global) (keyset aad : List ℕ) (start len : ℕ) → length ws ≡ 5
+    → a ≡ slice_index_or ws 0 a → b ≡ slice_index_or ws 1 b → c ≡ slice_index_or ws 2 c → d ≡ slice_index_or ws 3 d → e ≡ slice_index_or ws 4 e
+    → string_bytes a ≡ codes "range" → IsBytesWord (string_bytes b) keyset → IsBytesWord (string_bytes c) aad → IsNumberWord (2 ^ 64 - 1) (string_bytes d) start
+    → IsNumberWord (2 ^ 64 - 1) (string_bytes e) len → RangeWords (texts ws) keyset aad start len
+range_words ws a b c d e keyset aad start len l p q r s u is keyset_is aad_is start_is len_is = record {
+  keyset_word = string_bytes b;
+  aad_word = string_bytes c;
+  start_word = string_bytes d;
+  len_word = string_bytes e;
+  spelled = five_texts ws a b c d e l p q r s u ∙ ap (λ x. x ∷ string_bytes b ∷ string_bytes c ∷ string_bytes d ∷ string_bytes e ∷ []) is;
+  keyset_is = keyset_is;
+  aad_is = aad_is;
+  start_is = start_is;
+  len_is = len_is;
 }
 
 pub sign_words : (ws : List (String Global)) (a b : String Global) (keyset : List ℕ) → length ws ≡ 2

@@ -68,11 +68,6 @@ abbrev pub WritesLine : Rotation → Option (List ℕ) → Option (List ℕ) →
 WritesLine r old new before now (Ok _) = (text : List ℕ) × IsLine r text × Appends old new text
 WritesLine r old new before now (Err e) = RefusesLine r old new before now e.kind
 
--- kinds by which nothing is written
-abbrev pub IsUnwritten : Kind → Type 0
-IsUnwritten WriteFault = ⊥
-IsUnwritten _ = Unit {0}
-
 -- a text was written, and the source is as before
 pub record WroteText (old new : Outside) (text : List ℕ) : Type 0 where
   pub left : new.left ≡ old.left

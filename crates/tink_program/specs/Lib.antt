@@ -3,6 +3,6 @@ pub mod Words
 pub mod Streams
 pub mod Keysets
 pub mod Large
-pub mod Tokens
-pub mod TokenSteps
+pub mod Ranges
+pub mod TokenPromises
 pub mod Program

@@ -10,15 +10,18 @@ use Rattle.tink_io.specs.declared.error.TinkError.{TinkError}
 use Rattle.tink_run.specs.AllKeys.{load}
 use Rattle.tink_run.specs.Outside.{Outside, IsUntouched}
 use Rattle.tink_run.specs.declared.report.Command.TheVariants.{Seal, Open}
+use Rattle.tink_run_tokens.specs.Inputs.{LeavesSink}
+use Rattle.tink_run_tokens.specs.Tokens.{macs_of, RefusesSigning, RefusesVerifying, SignsTo, VerifiesTo}
 use Rattle.tink_program.specs.declared.program.Outcome.{Outcome}
 use Rattle.tink_program.specs.declared.program.Outcome.TheVariants.{Done, Usage, Refused}
 use Rattle.tink_program.specs.Draws.{draws_in}
 use Rattle.tink_program.specs.Keysets.{made_keyset, of_keyset, of_no_keys, IsUnmadeBy, KeysetMeans, MakesKeyset}
 use Rattle.tink_program.specs.Large.{LargeMeans, MeasuresLarge}
+use Rattle.tink_program.specs.Ranges.{IsUnranged, RangeOutcome, RangePromises}
 use Rattle.tink_program.specs.Streams.{IsUnmovable, OpenPromises, RewrapOutcome, RewrapPromises, SealPromises, StreamMeans}
-use Rattle.tink_program.specs.Tokens.{macs_of, LeavesSink, RefusesSigning, RefusesVerifying, SignsTo, TokenMeans, TokenPromises, VerifiesTo}
+use Rattle.tink_program.specs.TokenPromises.{TokenOutcome, TokenPromises}
 use Rattle.tink_program.specs.Words.{Asked, SpellNothing, Spells}
-use Rattle.tink_program.specs.Words.Asked.{Making, Measuring, Opening, Rewrapping, Rotating, Sealing, Signing, Verifying}
+use Rattle.tink_program.specs.Words.Asked.{Making, Measuring, Opening, Ranging, Rewrapping, Rotating, Sealing, Signing, Verifying}
 
 -- ---- statuses and lines
 
@@ -54,7 +57,7 @@ status_of (Refused kind) = kind_status kind
 abbrev pub line_of : Outcome → List ℕ
 line_of Done = []
 line_of Usage =
-    codes "usage: seal KEYSET AAD SEED | open KEYSET AAD | keygen TEMPLATE SEED | rotate KEYSET TEMPLATE SEED | large N | rewrap KEYSET AAD KEYSET AAD SEED | sign KEYSET | verify KEYSET"
+    codes "usage: seal KEYSET AAD SEED | open KEYSET AAD | keygen TEMPLATE SEED | rotate KEYSET TEMPLATE SEED | large N | range KEYSET AAD START LEN | rewrap KEYSET AAD KEYSET AAD SEED | sign KEYSET | verify KEYSET"
     ++ 10 ∷ []
 line_of (Refused kind) = kind_line kind
 
@@ -78,8 +81,9 @@ CommandMeans (Making template seed) old new outcome = KeysetMeans (of_no_keys te
 CommandMeans (Rotating keyset template seed) old new outcome =
     KeysetMeans (of_keyset keyset template seed) old new outcome
 CommandMeans (Measuring n) old new outcome = LargeMeans n old new outcome
-CommandMeans (Signing keyset) old new outcome = TokenMeans SignsTo RefusesSigning keyset old new outcome
-CommandMeans (Verifying keyset) old new outcome = TokenMeans VerifiesTo RefusesVerifying keyset old new outcome
+CommandMeans (Ranging keyset aad start len) old new outcome = RangeOutcome keyset aad start len old new outcome
+CommandMeans (Signing keyset) old new outcome = TokenOutcome SignsTo RefusesSigning keyset old new outcome
+CommandMeans (Verifying keyset) old new outcome = TokenOutcome VerifiesTo RefusesVerifying keyset old new outcome
 CommandMeans (Rewrapping sides seed) old new outcome = RewrapOutcome sides (draws_in seed 256) old new outcome
 
 -- what the words ask for came to this outcome
@@ -128,6 +132,8 @@ own_statuses (Opening keyset aad) =
 own_statuses (Making template seed) = 0 ∷ 10 ∷ 12 ∷ 24 ∷ 25 ∷ []
 own_statuses (Rotating keyset template seed) = 0 ∷ 10 ∷ 12 ∷ 13 ∷ 14 ∷ 24 ∷ 25 ∷ []
 own_statuses (Measuring n) = 0 ∷ 10 ∷ 12 ∷ []
+own_statuses (Ranging keyset aad start len) =
+    0 ∷ 10 ∷ 11 ∷ 12 ∷ 13 ∷ 14 ∷ 15 ∷ 16 ∷ 17 ∷ 18 ∷ 20 ∷ 21 ∷ 22 ∷ 23 ∷ 26 ∷ []
 own_statuses (Signing keyset) = 0 ∷ 10 ∷ 11 ∷ 12 ∷ 13 ∷ 14 ∷ 15 ∷ 16 ∷ 17 ∷ 18 ∷ 26 ∷ []
 own_statuses (Verifying keyset) = 0 ∷ 10 ∷ 11 ∷ 12 ∷ 13 ∷ 14 ∷ 15 ∷ 16 ∷ 17 ∷ 18 ∷ 26 ∷ 27 ∷ 28 ∷ []
 own_statuses (Rewrapping sides seed) =
@@ -143,6 +149,7 @@ IsUnusableBy (Opening keyset aad) kind = load keyset ≡ Err kind
 IsUnusableBy (Making template seed) kind = made_keyset (of_no_keys template seed) ≡ Err kind
 IsUnusableBy (Rotating keyset template seed) kind = made_keyset (of_keyset keyset template seed) ≡ Err kind
 IsUnusableBy (Measuring n) kind = ⊥
+IsUnusableBy (Ranging keyset aad start len) kind = load keyset ≡ Err kind
 IsUnusableBy (Signing keyset) kind = macs_of keyset ≡ Err kind
 IsUnusableBy (Verifying keyset) kind = macs_of keyset ≡ Err kind
 IsUnusableBy (Rewrapping sides seed) kind = IsUnmovable sides kind
@@ -169,6 +176,7 @@ HasRefusedCause words status = (a : Asked) → Spells words a → IsAmong refuse
 
 -- a command that reads its input before it writes anything
 abbrev pub reads_first : Asked → Bool
+reads_first (Ranging keyset aad start len) = true
 reads_first (Signing keyset) = true
 reads_first (Verifying keyset) = true
 reads_first _ = false
@@ -204,11 +212,23 @@ early_statuses = 2 ∷ 13 ∷ 14 ∷ 15 ∷ 16 ∷ 17 ∷ 18 ∷ 19 ∷ 24 ∷ 2
 abbrev pub unwritten_statuses : List ℕ
 unwritten_statuses = 10 ∷ 26 ∷ 27 ∷ 28 ∷ early_statuses
 
+-- the statuses of a range that has written nothing besides
+abbrev pub unranged_statuses : List ℕ
+unranged_statuses = 20 ∷ 21 ∷ 23 ∷ []
+
+abbrev pub is_ranging : Asked → Bool
+is_ranging (Ranging keyset aad start len) = true
+is_ranging _ = false
+
+abbrev pub IsRanging : List (List ℕ) → Type 0
+IsRanging words = (a : Asked) × Spells words a × (is_ranging a ≡ true)
+
 -- the ends themselves after a status that comes before they are touched
 pub record KeepsEnds {S K : Type 0} (words : List (List ℕ)) (status : ℕ) (source source_after : S) (sink sink_after : K)
     : Type 0 where
   pub unread : IsAmong early_statuses status → source_after ≡ source
   pub unwritten : IsAmong unwritten_statuses status → sink_after ≡ sink
+  pub unranged : IsRanging words → IsAmong unranged_statuses status → sink_after ≡ sink
   pub want : status ≡ 10 → IsReadingFirst words ⊎ (source_after ≡ source)
 
 -- kinds by which a command is refused before it reads, or writes
@@ -231,12 +251,18 @@ IsUnwrittenKind BadToken = Unit {0}
 IsUnwrittenKind MacMismatch = Unit {0}
 IsUnwrittenKind kind = IsEarlyKind kind
 
--- what an outcome leaves of the ends themselves, of a command that reads first or not
-abbrev pub Leaves : {S K : Type 0} → Bool → Outcome → S → S → K → K → Type 0
-Leaves reads Done source source_after sink sink_after = Unit {0}
-Leaves reads Usage source source_after sink sink_after = (source_after ≡ source) × (sink_after ≡ sink)
-Leaves reads (Refused kind) source source_after sink sink_after =
-    (IsEarlyKind kind → source_after ≡ source) × (IsUnwrittenKind kind → sink_after ≡ sink)
+-- kinds by which a command has written nothing
+abbrev pub IsUnwrittenBy : Asked → Kind → Type 0
+IsUnwrittenBy (Ranging keyset aad start len) kind = IsUnranged kind
+IsUnwrittenBy _ kind = IsUnwrittenKind kind
+
+-- what an outcome leaves of the ends themselves, of a command that reads first or not, and has written nothing by some
+-- kinds
+abbrev pub Leaves : {S K : Type 0} → Bool → (Kind → Type 0) → Outcome → S → S → K → K → Type 0
+Leaves reads Unwritten Done source source_after sink sink_after = Unit {0}
+Leaves reads Unwritten Usage source source_after sink sink_after = (source_after ≡ source) × (sink_after ≡ sink)
+Leaves reads Unwritten (Refused kind) source source_after sink sink_after =
+    (IsEarlyKind kind → source_after ≡ source) × (Unwritten kind → sink_after ≡ sink)
     × (kind ≡ OutOfMemory → (reads ≡ true) ⊎ (source_after ≡ source))
 
 -- a command that makes a keyset, or measures a large text
@@ -260,6 +286,8 @@ Promises (Opening keyset aad) old new status = OpenPromises keyset aad old new s
 Promises (Making template seed) old new status = MakesKeyset (of_no_keys template seed) old new status
 Promises (Rotating keyset template seed) old new status = MakesKeyset (of_keyset keyset template seed) old new status
 Promises (Measuring n) old new status = MeasuresLarge n old new status
+Promises (Ranging keyset aad start len) old new status =
+    RangePromises keyset aad start len kind_status old new status
 Promises (Signing keyset) old new status = TokenPromises SignsTo RefusesSigning keyset kind_status old new status
 Promises (Verifying keyset) old new status = TokenPromises VerifiesTo RefusesVerifying keyset kind_status old new status
 Promises (Rewrapping sides seed) old new status = RewrapPromises status_by sides seed old new status

@@ -114,16 +114,16 @@ pub record Moved (sides : Sides) (draws : List ℕ) (old new : Outside) (answer 
   pub succeeds : rewraps.IsComplete sides draws old new answer
 
 -- some rewrap gave this answer
-abbrev pub HasMoved : Sides → List ℕ → Outside → Outside → Result Report TinkError → Type 0
-HasMoved sides draws old new answer = (left_draws : List ℕ) × RewrapMeans sides draws left_draws old new answer
+abbrev pub HasRewrapped : Sides → List ℕ → Outside → Outside → Result Report TinkError → Type 0
+HasRewrapped sides draws old new answer = (left_draws : List ℕ) × RewrapMeans sides draws left_draws old new answer
 
 -- what stands after each outcome of a rewrap, and why it came
 abbrev pub RewrapOutcome : Sides → List ℕ → Outside → Outside → Outcome → Type 0
-RewrapOutcome sides draws old new Done = (report : Report) × HasMoved sides draws old new (Ok report)
+RewrapOutcome sides draws old new Done = (report : Report) × HasRewrapped sides draws old new (Ok report)
 RewrapOutcome sides draws old new Usage = ⊥
 RewrapOutcome sides draws old new (Refused OutOfMemory) = IsUntouched old new
 RewrapOutcome sides draws old new (Refused RandomFault) = ⊥
-RewrapOutcome sides draws old new (Refused kind) = HasMoved sides draws old new (Err (record { kind = kind }))
+RewrapOutcome sides draws old new (Refused kind) = HasRewrapped sides draws old new (Err (record { kind = kind }))
 
 -- a keyset of the two does not load, the first before the second
 abbrev pub IsUnmovable : Sides → Kind → Type 0

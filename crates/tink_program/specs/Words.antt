@@ -1,8 +1,8 @@
 -- The words that spell a command.
-use Rattle.std.specs.Prelude.{◌≡◌, ◌⊎◌, ◌≤◌, ◌<◌, ℕ, List, [], ◌∷◌, length, map, codes, decimal, String, string_bytes, Ok, Vec}
+use Rattle.std.specs.Prelude.{◌≡◌, ◌⊎◌, ◌≤◌, ◌^◌, ◌-◌, ℕ, List, [], ◌∷◌, length, map, codes, decimal, String, string_bytes, Ok, Vec}
 use Rattle.hex.specs.Hex.{decode_of}
 use Rattle.tink_program.specs.declared.words.Parsed.{Parsed}
-use Rattle.tink_program.specs.declared.words.Parsed.TheVariants.{Keygen, Large, Open, Rewrap, Rotate, Seal, Sign, Verify}
+use Rattle.tink_program.specs.declared.words.Parsed.TheVariants.{Keygen, Large, Open, Range, Rewrap, Rotate, Seal, Sign, Verify}
 use Rattle.tink_program.specs.declared.words.RewrapArgs.{RewrapArgs}
 use Rattle.tink_rewrap.specs.Rewrapping.{Sides}
 
@@ -46,16 +46,28 @@ pub record RotateWords (words : List (List ℕ)) (keyset template seed : List �
   pub keyset_is : IsBytesWord keyset_word keyset
   pub seed_is : IsSeedWord seed_word seed
 
--- a number below 1,000,000 in decimal digits, without a leading zero unless it is 0
-pub record IsNumberWord (word : List ℕ) (n : ℕ) : Type 0 where
+-- a number of at most so many in decimal digits, without a leading zero unless it is 0
+pub record IsNumberWord (most : ℕ) (word : List ℕ) (n : ℕ) : Type 0 where
   pub digits : word ≡ decimal n
-  pub small : n < 1000000
+  pub small : n ≤ most
 
 -- `large N`, and what it spells
 pub record LargeWords (words : List (List ℕ)) (n : ℕ) : Type 0 where
   pub number_word : List ℕ
   pub spelled : words ≡ codes "large" ∷ number_word ∷ []
-  pub number_is : IsNumberWord number_word n
+  pub number_is : IsNumberWord 999999 number_word n
+
+-- `range KEYSET AAD START LEN`, and what it spells
+pub record RangeWords (words : List (List ℕ)) (keyset aad : List ℕ) (start len : ℕ) : Type 0 where
+  pub keyset_word : List ℕ
+  pub aad_word : List ℕ
+  pub start_word : List ℕ
+  pub len_word : List ℕ
+  pub spelled : words ≡ codes "range" ∷ keyset_word ∷ aad_word ∷ start_word ∷ len_word ∷ []
+  pub keyset_is : IsBytesWord keyset_word keyset
+  pub aad_is : IsBytesWord aad_word aad
+  pub start_is : IsNumberWord (2 ^ 64 - 1) start_word start
+  pub len_is : IsNumberWord (2 ^ 64 - 1) len_word len
 
 -- `sign KEYSET`, and what it spells
 pub record SignWords (words : List (List ℕ)) (keyset : List ℕ) : Type 0 where
@@ -85,13 +97,14 @@ pub record RewrapWords (words : List (List ℕ)) (sides : Sides) (seed : List �
   pub seed_is : IsSeedWord seed_word seed
 
 -- what a command line asks for: a keyset and associated data, and the seed of a new stream; a template and a seed; the
--- number of a large text; a keyset of MACs; what a stream is moved between, and a seed
+-- number of a large text; a keyset and associated data, and the places of a range; a keyset of MACs; what a stream is moved between, and a seed
 pub data Asked : Type 0 where
   Sealing : (keyset aad seed : List ℕ) → Asked
   Opening : (keyset aad : List ℕ) → Asked
   Making : (template seed : List ℕ) → Asked
   Rotating : (keyset template seed : List ℕ) → Asked
   Measuring : ℕ → Asked
+  Ranging : (keyset aad : List ℕ) (start len : ℕ) → Asked
   Signing : (keyset : List ℕ) → Asked
   Verifying : (keyset : List ℕ) → Asked
   Rewrapping : (sides : Sides) (seed : List ℕ) → Asked
@@ -103,6 +116,7 @@ Spells words (Opening keyset aad) = OpenWords words keyset aad
 Spells words (Making template seed) = KeygenWords words template seed
 Spells words (Rotating keyset template seed) = RotateWords words keyset template seed
 Spells words (Measuring n) = LargeWords words n
+Spells words (Ranging keyset aad start len) = RangeWords words keyset aad start len
 Spells words (Signing keyset) = SignWords words keyset
 Spells words (Verifying keyset) = VerifyWords words keyset
 Spells words (Rewrapping sides seed) = RewrapWords words sides seed
@@ -135,6 +149,7 @@ asked_of (Open args) = Opening args.keyset.items args.aad.items
 asked_of (Keygen args) = Making (string_bytes args.template) args.seed
 asked_of (Rotate args) = Rotating args.keyset.items (string_bytes args.template) args.seed
 asked_of (Large n) = Measuring n
+asked_of (Range args) = Ranging args.keyset.items args.aad.items args.start args.len
 asked_of (Sign keyset) = Signing keyset.items
 asked_of (Verify keyset) = Verifying keyset.items
 asked_of (Rewrap args) = Rewrapping (sides_of args) args.seed

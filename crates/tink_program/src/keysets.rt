@@ -1,7 +1,8 @@
 //! The two commands that make keysets.
 
 ghost use Rattle.std.specs.Prelude.{◌≡◌, IfErr, string_bytes};
-ghost use Rattle.tink_program.specs.Keysets.{GivesLine, IsUnwritten, WritesLine, of_keyset, of_no_keys};
+ghost use Rattle.tink_program.specs.Keysets.{GivesLine, WritesLine, of_keyset, of_no_keys};
+ghost use Rattle.tink_run_tokens.specs.Inputs.{IsUnwritten};
 
 use crate::words::{KeygenArgs, RotateArgs, first_draws};
 use std::alloc::Global;

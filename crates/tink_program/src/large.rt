@@ -2,8 +2,8 @@
 
 ghost use Rattle.std.specs.Prelude.{◌≡◌, IfErr, IfOk};
 ghost use Rattle.tink_io.specs.declared.error.Kind.TheVariants.{OutOfMemory};
-ghost use Rattle.tink_program.specs.Keysets.{IsUnwritten};
 ghost use Rattle.tink_program.specs.Large.{WritesLarge, lines_of};
+ghost use Rattle.tink_run_tokens.specs.Inputs.{IsUnwritten};
 
 use crate::words::first_draws;
 use std::alloc::Global;

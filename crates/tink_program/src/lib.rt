@@ -4,6 +4,6 @@
 mod keysets;
 mod large;
 pub mod program;
+mod ranges;
 mod streams;
-mod tokens;
 mod words;

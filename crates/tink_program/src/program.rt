@@ -3,19 +3,20 @@
 ghost use Rattle.std.specs.Prelude.{◌≡◌, ◌≤◌, true};
 ghost use Rattle.tink_io.specs.Written.{WritesOrFaults};
 ghost use Rattle.tink_run.specs.Outside.{outside_of};
-ghost use Rattle.tink_program.specs.Program.{CommandMeans, KeepsEnds, Leaves, LeavesSource, OutcomeMeans, ProgramMeans, Promised, Promises, StatusMeans, answer_outcome, line_of, reads_first, status_of, takes_no_input};
+ghost use Rattle.tink_program.specs.Program.{CommandMeans, IsUnwrittenBy, KeepsEnds, Leaves, LeavesSource, OutcomeMeans, ProgramMeans, Promised, Promises, StatusMeans, answer_outcome, line_of, reads_first, status_of, takes_no_input};
 ghost use Rattle.tink_program.specs.Words.{asked_of, words_of};
 
 use crate::keysets::{write_new, write_rotated};
 use crate::large::write_large;
+use crate::ranges::write_range;
 use crate::streams::{run_open, run_rewrap, run_seal};
-use crate::tokens::{write_payload, write_token};
 use crate::words::{Parsed, parse};
 use std::alloc::Global;
 use tink_io::{Kind, Sink, Source, TinkError, write_all, write_line};
+use tink_run_tokens::{write_payload, write_token};
 
 const USAGE: &[u8] =
-    b"usage: seal KEYSET AAD SEED | open KEYSET AAD | keygen TEMPLATE SEED | rotate KEYSET TEMPLATE SEED | large N | rewrap KEYSET AAD KEYSET AAD SEED | sign KEYSET | verify KEYSET\n";
+    b"usage: seal KEYSET AAD SEED | open KEYSET AAD | keygen TEMPLATE SEED | rotate KEYSET TEMPLATE SEED | large N | range KEYSET AAD START LEN | rewrap KEYSET AAD KEYSET AAD SEED | sign KEYSET | verify KEYSET\n";
 
 /// How the program ended.
 #[derive(Clone, Copy, Debug, PartialEq, Eq)]
@@ -32,15 +33,17 @@ pub enum Outcome {
 ///
 /// - 0: it was done, and nothing is told to `faults`.
 /// - 2: the words are none of `seal KEYSET AAD SEED`, `open KEYSET AAD`, `keygen TEMPLATE SEED`,
-///   `rotate KEYSET TEMPLATE SEED`, `large N`, `rewrap KEYSET AAD KEYSET AAD SEED`, `sign KEYSET` and
-///   `verify KEYSET`; the usage line is told.
+///   `rotate KEYSET TEMPLATE SEED`, `large N`, `range KEYSET AAD START LEN`, `rewrap KEYSET AAD KEYSET AAD SEED`,
+///   `sign KEYSET` and `verify KEYSET`; the usage line is told.
 /// - 10 to 28: it was refused; the line of the refusal's kind is told.
 ///
 /// KEYSET and AAD are hexadecimal, in either case and at least two digits, or `-` for no bytes; TEMPLATE is any word;
 /// SEED is 64 hexadecimal digits, and draws are the first 256 words of its ChaCha20 stream; N is a decimal number
-/// below 1,000,000, without a leading zero unless it is 0. `keygen` writes the line of a keyset of one new key by the
+/// below 1,000,000, and START and LEN are such numbers below 2^64, without a leading zero unless it is 0. `keygen` writes the line of a keyset of one new key by the
 /// template of that name, `rotate` that of KEYSET with such a key as its primary one, `large` the four lines of the
-/// large text of N under the draws of the seed of zeros; they leave the source as it is. `rewrap` moves the stream that the
+/// large text of N under the draws of the seed of zeros; they leave the source as it is. `range` writes the bytes
+/// of the text from place START on and below START + LEN, of the stream that the source has in at most 16,777,216 bytes,
+/// once the last chunk and those that the range touches were opened. `rewrap` moves the stream that the
 /// source has from the first keyset to the second. `sign` writes the token of the
 /// source's bytes, at most 16,777,216 of them, and `verify` the payload of the token that the source has. A fault of
 /// `faults` ends the line where it stands, and changes no status.
@@ -163,7 +166,7 @@ fn done<S: Source, K: Sink>(alloc: Global, parsed: Parsed, source: &mut S, sink:
         (outside_of S.left S.faults K.got K.faults source.old sink.old)
         (outside_of S.left S.faults K.got K.faults source.new sink.new)
         result }
-    ensures early { Leaves (reads_first (asked_of parsed)) result source.old source.new sink.old sink.new }
+    ensures early { Leaves (reads_first (asked_of parsed)) (λ kind. IsUnwrittenBy (asked_of parsed) kind) result source.old source.new sink.old sink.new }
     ensures kept { takes_no_input (asked_of parsed) ≡ true → source.new ≡ source.old }
     ensures promised { Promises (asked_of parsed)
         (outside_of S.left S.faults K.got K.faults source.old sink.old)
@@ -178,6 +181,7 @@ fn done<S: Source, K: Sink>(alloc: Global, parsed: Parsed, source: &mut S, sink:
         Parsed::Keygen(args) => outcome_of(write_new(alloc, &args, sink)),
         Parsed::Rotate(args) => outcome_of(write_rotated(alloc, &args, sink)),
         Parsed::Large(n) => outcome_of(write_large(alloc, n, sink)),
+        Parsed::Range(args) => outcome_of(write_range(alloc, &args, source, sink)),
         Parsed::Sign(keyset) => outcome_of(write_token(alloc, &keyset, source, sink)),
         Parsed::Verify(keyset) => outcome_of(write_payload(alloc, &keyset, source, sink)),
         Parsed::Rewrap(args) => outcome_of(run_rewrap(alloc, &args, source, sink)),

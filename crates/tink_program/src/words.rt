@@ -3,7 +3,7 @@
 ghost use Rattle.std.specs.Prelude.{◌≡◌, List, ℕ, IfOk, IfErr, IfSome, IfNone, string_bytes};
 ghost use Rattle.tink_io.specs.declared.error.Kind.TheVariants.{OutOfMemory};
 ghost use Rattle.tink_program.specs.Draws.{draws_in};
-ghost use Rattle.tink_program.specs.Words.{IsBytesWord, IsNumberWord, KeygenWords, LargeWords, OpenWords, RewrapWords, RotateWords, SealWords, SignWords, SpellNothing, Spells, VerifyWords, asked_of, sides_of, words_of};
+ghost use Rattle.tink_program.specs.Words.{IsBytesWord, IsNumberWord, KeygenWords, LargeWords, OpenWords, RangeWords, RewrapWords, RotateWords, SealWords, SignWords, SpellNothing, Spells, VerifyWords, asked_of, sides_of, words_of};
 ghost use Rattle.tink_rewrap.specs.Rewrapping.{Sides};
 
 use hex::{FromHex, FromHexError};
@@ -13,8 +13,8 @@ use rand_core::utils::NextWord;
 use std::alloc::Global;
 use tink_io::{Kind, TinkError};
 
-// So many numbers have a large text: those of six digits at most.
-const NUMBERS: u32 = 1_000_000;
+// The last number of a large text.
+const LAST_LARGE: u64 = 999_999;
 
 /// What `seal KEYSET AAD SEED` spells.
 #[derive(Drop)]
@@ -46,6 +46,15 @@ pub struct RotateArgs {
     pub seed: [u8; 32],
 }
 
+/// What `range KEYSET AAD START LEN` spells.
+#[derive(Drop)]
+pub struct RangeArgs {
+    pub keyset: Vec<u8>,
+    pub aad: Vec<u8>,
+    pub start: u64,
+    pub len: u64,
+}
+
 /// What `rewrap KEYSET AAD KEYSET AAD SEED` spells.
 #[derive(Drop)]
 pub struct RewrapArgs {
@@ -64,6 +73,7 @@ pub enum Parsed {
     Keygen(KeygenArgs),
     Rotate(RotateArgs),
     Large(u32),
+    Range(RangeArgs),
     Sign(Vec<u8>),
     Verify(Vec<u8>),
     Rewrap(RewrapArgs),
@@ -89,6 +99,9 @@ pub fn parse(alloc: Global, words: &Vec<String>) -> Result<Option<Parsed>, TinkE
     }
     if let Some(n) = parse_large(alloc, words)? {
         return Ok(Some(Parsed::Large(n)));
+    }
+    if let Some(args) = parse_range(alloc, words)? {
+        return Ok(Some(Parsed::Range(args)));
     }
     if let Some(keyset) = parse_sign(alloc, words)? {
         return Ok(Some(Parsed::Sign(keyset)));
@@ -196,10 +209,41 @@ fn parse_large(alloc: Global, words: &Vec<String>) -> Result<Option<u32>, TinkEr
     if words.len() != 2 || words[0].as_str() != "large" {
         return Ok(None);
     }
-    let Some(n) = number_of(alloc, words[1].as_str())? else {
+    let Some(n) = number_of(alloc, words[1].as_str(), LAST_LARGE)? else {
         return Ok(None);
     };
-    Ok(Some(n))
+    Ok(Some(n as u32))
+}
+
+// Reads the words of `range`.
+fn parse_range(alloc: Global, words: &Vec<String>) -> Result<Option<RangeArgs>, TinkError>
+    ensures found { IfOk result (λ o. IfSome o
+        (λ a. RangeWords (words_of words.now) a.keyset.items a.aad.items a.start a.len)) }
+    ensures none { IfOk result (λ o. IfNone o
+        ((keyset aad : List ℕ) (start len : ℕ) → RangeWords (words_of words.now) keyset aad start len → ⊥)) }
+    ensures refused { IfErr result (λ e. e ≡ record { kind = OutOfMemory }) }
+{
+    if words.len() != 5 || words[0].as_str() != "range" {
+        return Ok(None);
+    }
+    let Some(start) = number_of(alloc, words[3].as_str(), u64::MAX)? else {
+        return Ok(None);
+    };
+    let Some(len) = number_of(alloc, words[4].as_str(), u64::MAX)? else {
+        return Ok(None);
+    };
+    let Some(keyset) = bytes_of(alloc, words[1].as_str())? else {
+        return Ok(None);
+    };
+    let Some(aad) = bytes_of(alloc, words[2].as_str())? else {
+        return Ok(None);
+    };
+    Ok(Some(RangeArgs {
+        keyset,
+        aad,
+        start,
+        len,
+    }))
 }
 
 // Reads the words of `sign`.
@@ -260,17 +304,17 @@ fn parse_rewrap(alloc: Global, words: &Vec<String>) -> Result<Option<RewrapArgs>
     }))
 }
 
-// The number of a word that writes it as it is printed, below the limit.
-fn number_of(alloc: Global, word: &str) -> Result<Option<u32>, TinkError>
-    ensures found { IfOk result (λ o. IfSome o (λ n. IsNumberWord word.now n)) }
-    ensures none { IfOk result (λ o. IfNone o ((n : ℕ) → IsNumberWord word.now n → ⊥)) }
+// The number of a word that writes it as it is printed, of at most so many.
+fn number_of(alloc: Global, word: &str, most: u64) -> Result<Option<u64>, TinkError>
+    ensures found { IfOk result (λ o. IfSome o (λ n. IsNumberWord most word.now n)) }
+    ensures none { IfOk result (λ o. IfNone o ((n : ℕ) → IsNumberWord most word.now n → ⊥)) }
     ensures refused { IfErr result (λ e. e ≡ record { kind = OutOfMemory }) }
 {
-    let Ok(n) = word.parse::<u32>() else {
+    let Ok(n) = word.parse::<u64>() else {
         return Ok(None);
     };
     let printed = n.to_string(alloc)?;
-    if n >= NUMBERS || printed.as_str() != word {
+    if n > most || printed.as_str() != word {
         return Ok(None);
     }
     Ok(Some(n))

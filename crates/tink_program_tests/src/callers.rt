@@ -1,4 +1,4 @@
-//! Callers of `run`, `keygen` and `program`, whose clauses follow from those of the calls.
+//! Callers of `run`, `keygen`, `write_payload` and `program`, whose clauses follow from those of the calls.
 
 ghost use Rattle.std.specs.Prelude.{◌≡◌, [], codes, Ok, Some, IfOk};
 ghost use Rattle.tink_keygen.specs.Rotating.{key_line, rotated_by};
@@ -8,15 +8,17 @@ ghost use Rattle.tink_program.specs.Words.{words_of};
 ghost use Rattle.tink_proto.specs.declared.messages.keys.Keyset.{Keyset};
 ghost use Rattle.tink_run.specs.Outside.{Outside};
 ghost use Rattle.tink_run.specs.Run.{IsWholeStream};
+ghost use Rattle.tink_run_tokens.specs.Tokens.{RefusesVerifying, TokenMeans, VerifiesTo};
 
 use crate::bytes::of_digits;
 use crate::calls::draws_of;
 use std::alloc::Global;
-use tink_io::{Draws, SureSink, SureSource, TinkError};
+use tink_io::{Draws, Kind, SureSink, SureSource, TinkError};
 use tink_keygen::{key_line, keygen};
 use tink_program::program::program;
 use tink_run::report::{Command, Report};
 use tink_run::run::run;
+use tink_run_tokens::write_payload;
 
 // The usual raw key.
 const KEYSET: &[u8] =
@@ -45,6 +47,22 @@ fn new_line(alloc: Global, draws: &mut Draws) -> Result<Vec<u8>, TinkError>
 {
     let keyset = keygen(alloc, "AES128_GCM", draws)?;
     key_line(alloc, &keyset)
+}
+
+// Writes the payload of a token in memory. By `Ok` a key of the keyset accepts the token, and exactly its payload was
+// written; each refusal has its cause.
+fn payload_in_memory(
+    alloc: Global,
+    keyset: &[u8],
+    token: &mut SureSource,
+    payload: &mut SureSink,
+) -> Result<(), TinkError>
+    ensures { TokenMeans VerifiesTo RefusesVerifying keyset.now
+        (record { left = Some token.old; read_faults = 0; got = Some payload.old.got; write_faults = payload.old.faults })
+        (record { left = Some token.new; read_faults = 0; got = Some payload.new.got; write_faults = payload.new.faults })
+        result }
+{
+    write_payload(alloc, keyset, token, payload)
 }
 
 // Does what the words say over memory, and answers the status. What it promises is promised of what the sink got.
@@ -78,6 +96,12 @@ fn is_sealed(alloc: Global, stream: &mut SureSink) -> Result<bool, TinkError> {
     Ok(report.segments == 1 && report.bytes == 0 && stream.bytes().len() == 56)
 }
 
+// How a token is refused under no keyset.
+fn no_payload(alloc: Global) -> Result<(), TinkError> {
+    let (mut input, mut output) = (SureSource::new(Vec::new(alloc)), SureSink::new(alloc));
+    payload_in_memory(alloc, b"no", &mut input, &mut output)
+}
+
 // The status of no words.
 fn status_of_none(alloc: Global) -> u8 {
     let (words, mut input) = (Vec::new(alloc), SureSource::new(Vec::new(alloc)));
@@ -88,7 +112,8 @@ fn status_of_none(alloc: Global) -> u8 {
 fn are_callers(alloc: Global) -> Result<bool, TinkError> {
     let mut stream = SureSink::new(alloc);
     stream.reserve(alloc, 56)?;
-    Ok(is_sealed(alloc, &mut stream)? && is_line(alloc)? && status_of_none(alloc) == 2)
+    let refused = no_payload(alloc) == Err(TinkError::new(Kind::BadKeyset));
+    Ok(is_sealed(alloc, &mut stream)? && is_line(alloc)? && refused && status_of_none(alloc) == 2)
 }
 
 #[test]

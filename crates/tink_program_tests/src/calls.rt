@@ -68,7 +68,7 @@ pub fn ends_of(alloc: Global, input: Vec<u8>, settings: &str) -> Result<Ends, Ti
 
 /// Makes the room of the settings for bytes and for the line (`room`, `lines`).
 pub fn make_room(alloc: Global, ends: &mut Ends, settings: &str) -> Result<(), TinkError> {
-    ends.line.reserve(alloc, number_of(settings, "lines", 200))?;
+    ends.line.reserve(alloc, number_of(settings, "lines", 300))?;
     ends.sink.reserve(alloc, number_of(settings, "room", 40000))
 }
 

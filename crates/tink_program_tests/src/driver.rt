@@ -60,7 +60,7 @@ fn is_wanted(
     ends: &Ends,
 ) -> Result<bool, TinkError> {
     let told = (status, ends.line.bytes());
-    let is_told = is_told(alloc, told, part(row, 3), number_of(row, "lines", 200))?;
+    let is_told = is_told(alloc, told, part(row, 3), number_of(row, "lines", 300))?;
     let is_written = is_written(alloc, kept, ends.sink.bytes(), part(row, 4))?;
     keep(alloc, kept, row, ends.sink.bytes())?;
     Ok(is_told && is_written)

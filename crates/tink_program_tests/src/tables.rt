@@ -5,6 +5,7 @@ mod damaged;
 mod faults;
 mod keysets;
 mod names;
+mod ranges;
 mod rewraps;
 mod runs;
 mod streams;
@@ -26,7 +27,7 @@ const LOADS: &str = ";load=1 ";
 
 /// The tables, of a row a line, each with the ways in which it is run: settings that stand before each row, with
 /// semicolons between the ways.
-pub const TABLES: [(&str, &str); 21] = [
+pub const TABLES: [(&str, &str); 22] = [
     (PLAIN, names::NAMES),
     (PLAIN, streams::KNOWN),
     (PLAIN, streams::ROUNDS),
@@ -43,6 +44,7 @@ pub const TABLES: [(&str, &str); 21] = [
     (PLAIN, keysets::LOADED),
     (PLAIN, runs::REPORTS),
     (PLAIN, rewraps::REWRAPS),
+    (PLAIN, ranges::RANGES),
     (PLAIN, tokens::KNOWN),
     (PLAIN, tokens::REFUSED),
     (PLAIN, tokens::PAYLOADS),

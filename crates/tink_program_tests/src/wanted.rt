@@ -9,7 +9,7 @@ use tink_io::TinkError;
 const LINES: [(u8, &str); 21] = [
     (
         2,
-        "usage: seal KEYSET AAD SEED | open KEYSET AAD | keygen TEMPLATE SEED | rotate KEYSET TEMPLATE SEED | large N | rewrap KEYSET AAD KEYSET AAD SEED | sign KEYSET | verify KEYSET",
+        "usage: seal KEYSET AAD SEED | open KEYSET AAD | keygen TEMPLATE SEED | rotate KEYSET TEMPLATE SEED | large N | range KEYSET AAD START LEN | rewrap KEYSET AAD KEYSET AAD SEED | sign KEYSET | verify KEYSET",
     ),
     (10, "out of memory"),
     (11, "read fault"),

@@ -14,10 +14,10 @@ use Rattle.tink_segment_traits.specs.declared.segment_traits.SegmentDecrypter.{G
 use Rattle.tink_streams.specs.Openers.{segment_map}
 use Rattle.tink_streams.specs.declared.opener.Opener.{Opener}
 use Rattle.stream_model.specs.Cut.{room_at}
-use Rattle.tink_range.specs.ChunkReading.{Ends, OneMeans, OneRefused}
+use Rattle.tink_range.specs.ChunkReading.{Moments, OneMeans, OneRefused}
 use Rattle.tink_range.specs.Giving.{Cutting, GaveAll, GiveRefused, chunks_in}
 use Rattle.tink_range.specs.RangeCores.{IsSameCore, chunk_in}
-use Rattle.tink_range.specs.Ranges.{AllGive, SomeGive, StopsAt, within}
+use Rattle.tink_range.specs.Ranges.{AllGive, SomeGive, StopsAtChunk, within}
 use Rattle.tink_range.specs.declared.chunks.RangeCore.{RangeCore}
 use Rattle.tink_range.proofs.GivesFacts.{none_touched}
 use Rattle.tink_range.proofs.GivingSteps.{HasGiven, ended}
@@ -35,7 +35,7 @@ all_given : (c : Cutting) (lo hi : ℕ) (all : Option (List ℕ)) (number start 
 all_given c lo hi None number start text bytes past given = tt
 all_given c lo hi (Some S) number start text bytes past given = ended c lo hi number start text bytes S past given
 
-module _ {W : Type 0} (got : W → Option (List ℕ)) (faults : W → ℕ) (c : Cutting) (lo hi : ℕ) (e : Ends W) where
+module _ {W : Type 0} (got : W → Option (List ℕ)) (faults : W → ℕ) (c : Cutting) (lo hi : ℕ) (e : Moments W) where
   -- the range's end was reached
   pub gave_all : (given number start text : ℕ) → hi ≤ text → Giving c lo hi e.all (got e.old) (got e.new) given number start text → GaveAll got faults c lo hi e given
   gave_all given number start text past state = record {
@@ -64,7 +64,7 @@ module _ {W : Type 0} (got : W → Option (List ℕ)) (faults : W → ℕ) (c : 
   }
   gave_refused mid behind given number start text reads (BadSegment n) before later here long state one = record {
     bytes = state.bytes;
-    stops = subst (λ (m : ℕ). IfSome e.all (λ S. StopsAt c.seg c.over lo hi (chunks_in c S) state.bytes m)) (sym one.number) (told_stops c lo hi behind number start text here e.all state.bytes long state.gives one.none);
+    stops = subst (λ (m : ℕ). IfSome e.all (λ S. StopsAtChunk c.seg c.over lo hi (chunks_in c S) state.bytes m)) (sym one.number) (told_stops c lo hi behind number start text here e.all state.bytes long state.gives one.none);
     written = subst (λ (w : W). Appends (got e.old) (got w) state.bytes) (sym one.same) state.written;
   }
   gave_refused mid behind given number start text reads _ before later here long state one = absurd one

@@ -7,7 +7,7 @@ use Rattle.stream_model.specs.Cut.{cut, room_at}
 use Rattle.stream_model.specs.Agree.{is_last}
 use Rattle.stream_model.proofs.CutFacts.{cut_none, cut_some, room_at_next}
 use Rattle.tink_range.specs.Giving.{Cutting, chunks_in}
-use Rattle.tink_range.specs.Ranges.{AllGive, Gives, GivesOne, StopsAt, all_places, is_touched, places, within}
+use Rattle.tink_range.specs.Ranges.{AllGive, Gives, GivesOne, StopsAtChunk, all_places, is_touched, places, within}
 use Rattle.tink_range.specs.Shapes.{start_at}
 use Rattle.tink_range.proofs.GivesFacts.{Gives-trans, gives_length, none_touched, skipped}
 use Rattle.tink_range.proofs.PlaceFacts.{cut_step, fits_or_not}
@@ -96,7 +96,7 @@ module _ (c : Cutting) (lo hi : ℕ) (p : c.over < c.first) (q : c.first ≤ c.s
 
     -- the next chunk is the segment of no text
     pub stops : (bytes : List ℕ) → 0 < own → HasGiven c lo hi number start text bytes S → ((t : List ℕ) → c.seg number (nat_le rest room) t ≡ take room (drop (c.front + start) S) → ⊥)
-        → StopsAt c.seg c.over lo hi (chunks_in c S) bytes number
+        → StopsAtChunk c.seg c.over lo hi (chunks_in c S) bytes number
     stops bytes n given none = record {
       at = text;
       chunk = take room Y;

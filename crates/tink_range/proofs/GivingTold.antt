@@ -7,8 +7,8 @@ use Rattle.std.proofs.lemmas.List.{append-nil, length-take}
 use Rattle.stream_model.specs.Cut.{room_at}
 use Rattle.tink_range.specs.ChunkReading.{ChunkAt, OpensAt}
 use Rattle.tink_range.specs.Giving.{Cutting, chunks_in}
-use Rattle.tink_range.specs.Ranges.{StopsAt, text_length, within}
-use Rattle.tink_range.specs.Shapes.{IsPlace}
+use Rattle.tink_range.specs.Ranges.{StopsAtChunk, text_length, within}
+use Rattle.tink_range.specs.Shapes.{IsChunkPlace}
 use Rattle.tink_range.proofs.GivingSteps.{HasGiven, begins, given_one, stops}
 use Rattle.tink_range.proofs.PlaceFacts.{fits_or_not, goes_on, is_reached, last_text, room_some, ticks_few}
 
@@ -32,7 +32,7 @@ Appends-none (Some xs) = sym (append-nil xs)
 
 -- nothing was given yet
 pub nothing_given : (c : Cutting) (lo hi : ℕ) (all got : Option (List ℕ)) (number start text behind : ℕ) → c.over < c.first → c.first ≤ c.size
-    → IfSome all (λ S. length S ≡ c.front + behind) → IsPlace c.first c.size c.over behind lo number start text → text ≤ lo
+    → IfSome all (λ S. length S ≡ c.front + behind) → IsChunkPlace c.first c.size c.over behind lo number start text → text ≤ lo
     → Giving c lo hi all got got 0 number start text
 nothing_given c lo hi all got number start text behind p q long place low = record { bytes = []; gives = by all long; written = Appends-none got; count = refl }
   where
@@ -44,7 +44,7 @@ nothing_given c lo hi all got number start text behind p q long place low = reco
 pub record IsNext (c : Cutting) (lo hi behind number start text : ℕ) : Type 0 where
   pub over : c.over < c.first
   pub sizes : c.first ≤ c.size
-  pub place : IsPlace c.first c.size c.over behind lo number start text
+  pub place : IsChunkPlace c.first c.size c.over behind lo number start text
   pub range : lo < hi
   pub within : hi ≤ text_length c.first c.size c.over behind
   pub before : text < hi
@@ -81,7 +81,7 @@ module _ (c : Cutting) (lo hi behind number start text : ℕ) (here : IsNext c l
       given_one c lo hi here.over here.sizes number start text (behind - start) S (long_by S long) (omega (arith, here.place.inside)) reached here.before here.range roomy bytes t own_some given opens
 
   pub told_stops : (all : Option (List ℕ)) (bytes : List ℕ) → IfSome all (λ S. length S ≡ c.front + behind) → IfSome all (HasGiven c lo hi number start text bytes) → OpensAt c.seg chunk all false []
-      → IfSome all (λ S. StopsAt c.seg c.over lo hi (chunks_in c S) bytes number)
+      → IfSome all (λ S. StopsAtChunk c.seg c.over lo hi (chunks_in c S) bytes number)
   told_stops None bytes long given opens = tt
   told_stops (Some S) bytes long given opens =
       stops c lo hi here.over here.sizes number start text (behind - start) S (long_by S long) (omega (arith, here.place.inside)) reached here.before here.range roomy bytes own_some given opens
@@ -105,12 +105,12 @@ module _ (c : Cutting) (lo hi behind number start text : ℕ) (here : IsNext c l
 
   -- the chunk behind it is a place of the range too, where the range goes on
   pub next_place_is : (first after text_after : ℕ) → first ≡ number + 1 → after ≡ start + min (behind - start) room → text_after ≡ text + own → text_after < hi
-      → IsPlace c.first c.size c.over behind lo first after text_after
+      → IsChunkPlace c.first c.size c.over behind lo first after text_after
   next_place_is first after text_after f a x more =
       let next = goes_on c.first c.size c.over behind lo here.over here.sizes number start text here.place hi here.within (omega (arith, x, more)) in
-      subst (λ (i : ℕ). IsPlace c.first c.size c.over behind lo i after text_after) (sym f)
-      (subst (λ (i : ℕ). IsPlace c.first c.size c.over behind lo (number + 1) i text_after) (sym a)
-      (subst (λ (i : ℕ). IsPlace c.first c.size c.over behind lo (number + 1) (start + min (behind - start) room) i) (sym x) next))
+      subst (λ (i : ℕ). IsChunkPlace c.first c.size c.over behind lo i after text_after) (sym f)
+      (subst (λ (i : ℕ). IsChunkPlace c.first c.size c.over behind lo (number + 1) i text_after) (sym a)
+      (subst (λ (i : ℕ). IsChunkPlace c.first c.size c.over behind lo (number + 1) (start + min (behind - start) room) i) (sym x) next))
 
   -- one chunk more was opened
   pub next_ticks : (from first text_after before then now : ℕ) → first ≡ number + 1 → text_after ≡ text + own → from ≤ number → now ≤ then + 1

@@ -11,3 +11,5 @@ pub mod RangeSteps
 pub mod TrialAtFacts
 pub mod TriesFacts
 pub mod StartAtFacts
+pub mod StreamRanges
+pub mod KeyRangeSteps

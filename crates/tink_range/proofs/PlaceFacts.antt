@@ -6,7 +6,7 @@ use Rattle.std.proofs.lemmas.Nat.{le-div}
 use Rattle.stream_model.specs.Cut.{cut, room_at}
 use Rattle.stream_model.proofs.CutFacts.{cut_fits, cut_more, cut_none, cut_some}
 use Rattle.tink_range.specs.Ranges.{all_places, chunk_count, places, text_length}
-use Rattle.tink_range.specs.Shapes.{IsPlace, start_at}
+use Rattle.tink_range.specs.Shapes.{IsChunkPlace, start_at}
 
 pub fits_or_not : (m n : ℕ) → (m ≤ n) ⊎ (n < m)
 fits_or_not zero n = inl (omega arith)
@@ -109,7 +109,7 @@ module _ (first size over behind lo : ℕ) (p : over < first) (q : first ≤ siz
   long : length zeros ≡ behind
   long = length-replicate {A = ℕ} behind 0
 
-  module _ (number start text : ℕ) (here : IsPlace first size over behind lo number start text) where
+  module _ (number start text : ℕ) (here : IsChunkPlace first size over behind lo number start text) where
     abbrev room : ℕ
     room = room_at first size number
 
@@ -155,7 +155,7 @@ module _ (first size over behind lo : ℕ) (p : over < first) (q : first ≤ siz
 
     -- the next chunk, where the range goes on
     pub goes_on : (hi : ℕ) → hi ≤ text_length first size over behind → text + (min (behind - start) room - over) < hi
-        → IsPlace first size over behind lo (number + 1) (start + min (behind - start) room) (text + (min (behind - start) room - over))
+        → IsChunkPlace first size over behind lo (number + 1) (start + min (behind - start) room) (text + (min (behind - start) room - over))
     goes_on hi within more = elim (fits_or_not (behind - start) room) [
       | inl fits ↦ absurd (omega (arith, last_text fits))
       | inr longer ↦

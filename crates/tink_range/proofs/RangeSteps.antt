@@ -9,7 +9,7 @@ use Rattle.tink_io.specs.declared.error.Kind.TheVariants.{BadSegment, ReadFault,
 use Rattle.tink_segment_traits.specs.declared.segment_traits.SegmentDecrypter.{Ghosts}
 use Rattle.tink_streams.specs.Openers.{segment_map}
 use Rattle.tink_streams.specs.declared.opener.Opener.{Opener}
-use Rattle.tink_range.specs.ChunkReading.{Ends}
+use Rattle.tink_range.specs.ChunkReading.{Moments}
 use Rattle.tink_range.specs.Giving.{Cutting, GiveMeans, GiveRefused, chunks_in}
 use Rattle.tink_range.specs.RangeCores.{IsSameCore, cutting_of}
 use Rattle.tink_range.specs.RangeReading.{LastRefused, RangeMeans, RangeRefused, range_end, range_start}
@@ -40,7 +40,7 @@ module _ {W : Type 0} (got : W → Option (List ℕ)) (faults : W → ℕ) (c : 
   last_refused all before after w (BadSegment n) last = inl (record { few = few; last = last; same = refl })
   last_refused all before after w _ none = absurd none
 
-  given_refused : (e : Ends W) (then : ℕ) (kind : Kind) → e.reads_before ≤ then → IfSome e.all (λ S. LastAgrees c.seg (chunks_in c S))
+  given_refused : (e : Moments W) (then : ℕ) (kind : Kind) → e.reads_before ≤ then → IfSome e.all (λ S. LastAgrees c.seg (chunks_in c S))
       → GiveRefused got faults c (range_start c behind start) (range_end c behind start len) (record e { reads_before = then }) kind → RangeRefused got faults c behind start len e kind
   given_refused e then ReadFault before checked gave = record {
     few = few;
@@ -59,7 +59,7 @@ module _ {W : Type 0} (got : W → Option (List ℕ)) (faults : W → ℕ) (c : 
   })
   given_refused e then _ before checked gave = absurd gave
 
-  given_here : (e : Ends W) (then : ℕ) (r : Result ℕ TinkError) → e.reads_before ≤ then → IfSome e.all (λ S. LastAgrees c.seg (chunks_in c S))
+  given_here : (e : Moments W) (then : ℕ) (r : Result ℕ TinkError) → e.reads_before ≤ then → IfSome e.all (λ S. LastAgrees c.seg (chunks_in c S))
       → GiveMeans got faults c (range_start c behind start) (range_end c behind start len) (record e { reads_before = then }) r → RangeMeans got faults c behind start len e r
   given_here e then (Ok n) before checked gave = record {
     few = few;
@@ -69,7 +69,7 @@ module _ {W : Type 0} (got : W → Option (List ℕ)) (faults : W → ℕ) (c : 
   given_here e then (Err error) before checked gave = given_refused e then error.kind before checked gave
 
   -- what giving the range answers once the last chunk was opened
-  pub range_given : (e : Ends W) (other : Cutting) (known : Option (List ℕ)) (then lo hi : ℕ) (r : Result ℕ TinkError) → other ≡ c → known ≡ e.all → lo ≡ range_start c behind start → hi ≡ range_end c behind start len
+  pub range_given : (e : Moments W) (other : Cutting) (known : Option (List ℕ)) (then lo hi : ℕ) (r : Result ℕ TinkError) → other ≡ c → known ≡ e.all → lo ≡ range_start c behind start → hi ≡ range_end c behind start len
       → e.reads_before ≤ then → IfSome e.all (λ S. LastAgrees c.seg (chunks_in c S))
       → GiveMeans got faults other lo hi (record { all = known; reads_before = then; reads_after = e.reads_after; old = e.old; new = e.new }) r → RangeMeans got faults c behind start len e r
   range_given e other known then lo hi r cuts told l h before checked gave =

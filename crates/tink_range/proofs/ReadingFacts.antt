@@ -5,7 +5,7 @@ use Rattle.std.proofs.lemmas.List.{drop-drop, length-take, take-append-le, take_
 use Rattle.std.proofs.Math.Seq.{take-append-add}
 use borrow.Rule.Slice.PartMut.{put_mid}
 use Rattle.std.specs.declared.option.Option.{Option}
-use Rattle.tink_range.specs.ChunkReading.{OpensAt, OpensTo}
+use Rattle.tink_range.specs.ChunkReading.{OpensAt, ChunkOpensTo}
 
 -- the bytes of a buffer up to n are those of an object from a place on
 abbrev pub AreRead : ℕ → ℕ → List ℕ → List ℕ → Type 0
@@ -40,7 +40,7 @@ told_weaker (Some S) P Q f p = f S p
 -- what was read of a chunk was opened, or is the segment of no text
 pub opened_as : (all : Option (List ℕ)) (seg : ℕ → Bool → List ℕ → List ℕ) (number : ℕ) (last : Bool) (chunk : List ℕ) (of : List ℕ → List ℕ) (ok : Bool) (text : List ℕ)
     → IfSome all (λ S. chunk ≡ of S) → (ok ≡ true → seg number last text ≡ chunk) → (ok ≡ false → (t : List ℕ) → seg number last t ≡ chunk → ⊥)
-    → IfSome all (λ S. OpensTo seg number last (of S) ok text)
+    → IfSome all (λ S. ChunkOpensTo seg number last (of S) ok text)
 opened_as None seg number last chunk of ok text read opens none = tt
 opened_as (Some S) seg number last chunk of true text read opens none = opens refl ∙ read
 opened_as (Some S) seg number last chunk of false text read opens none = λ t e. none refl t (e ∙ sym read)
@@ -53,14 +53,14 @@ fits_or_not (suc m) (suc n) = elim (fits_or_not m n) [ inl h ↦ inl (omega arit
 -- the chunk that was read is the one at that place
 pub opened_at : (all : Option (List ℕ)) (seg : ℕ → Bool → List ℕ → List ℕ) (number at rest room size len n total : ℕ) (ok : Bool) (text : List ℕ)
     → size ≡ room → len ≡ min rest size → n ≡ len → at + rest ≡ total → IfSome all (λ S. length S ≡ total)
-    → IfSome all (λ S. OpensTo seg number (nat_le rest size) (take n (drop at S)) ok text)
+    → IfSome all (λ S. ChunkOpensTo seg number (nat_le rest size) (take n (drop at S)) ok text)
     → OpensAt seg (record { number = number; start = at; rest = rest; room = room }) all ok text
 opened_at None seg number at rest room size len n total ok text e l m sum long opens = tt
 opened_at (Some S) seg number at rest room size len n total ok text e l m sum long opens =
     let count : n ≡ min rest room = omega arith in
     let same : take n (drop at S) ≡ take room (drop at S) = ap (λ k. take k (drop at S)) count ∙ take_least rest room (drop at S) (omega (arith, length-drop at S)) in
-    subst (λ (c : List ℕ). OpensTo seg number (nat_le rest room) c ok text) same
-    (subst (λ (k : ℕ). OpensTo seg number (nat_le rest k) (take n (drop at S)) ok text) e opens)
+    subst (λ (c : List ℕ). ChunkOpensTo seg number (nat_le rest room) c ok text) same
+    (subst (λ (k : ℕ). ChunkOpensTo seg number (nat_le rest k) (take n (drop at S)) ok text) e opens)
   where
     take_least : (rest room : ℕ) (X : List ℕ) → length X ≡ rest → take (min rest room) X ≡ take room X
     take_least rest room X long = elim (fits_or_not rest room) [

@@ -12,7 +12,7 @@ use Rattle.stream_model.proofs.OpeningFacts.{all_agree}
 use Rattle.tink_range.specs.Ranges.{AllGive, Gives, GivesOne, is_touched, places, within}
 use Rattle.tink_range.specs.Slices.{IsSliceOfStream}
 
-fits_or_not : (m n : ℕ) → (m ≤ n) ⊎ (n < m)
+pub fits_or_not : (m n : ℕ) → (m ≤ n) ⊎ (n < m)
 fits_or_not zero n = inl (omega arith)
 fits_or_not (suc m) zero = inr (omega arith)
 fits_or_not (suc m) (suc n) = elim (fits_or_not m n) [ inl h ↦ inl (omega arith) | inr h ↦ inr (omega arith) ]
@@ -65,7 +65,7 @@ module _ (seg : ℕ → Bool → List ℕ → List ℕ) (over lo hi : ℕ) (lawf
   one_given false i at last t here e given = given ∙ sym (no_part lo hi at t e)
 
   -- what all chunks of some texts give is the range's part of the joined texts
-  all_given : (i at : ℕ) (cs ts : List (List ℕ)) (bytes : List ℕ) (end : ℕ) → AreTexts seg i cs ts → length cs ≡ length ts
+  pub all_given : (i at : ℕ) (cs ts : List (List ℕ)) (bytes : List ℕ) (end : ℕ) → AreTexts seg i cs ts → length cs ≡ length ts
       → Gives seg over lo hi i at cs (length cs) bytes end [] → bytes ≡ within lo hi at (joined ts)
   all_given i at [] [] bytes end are size given = given.0 ∙ sym (ap (drop (lo - at)) (take-nil (hi - at)) ∙ drop-nil (lo - at))
   all_given i at [] (t ∷ ts) bytes end are size given = absurd are
@@ -78,16 +78,22 @@ module _ (seg : ℕ → Bool → List ℕ → List ℕ) (over lo hi : ℕ) (lawf
       given.2 ∙ ap (λ x. x ++ given.1) here ∙ ap (λ x. within lo hi at t ++ x) (later ∙ ap (λ n. within lo hi (at + n) (joined ts)) long)
       ∙ sym (part_of_joined lo hi at t (joined ts))
 
-slice_by : (k : OpeningKey) (o : Option (ℕ → Bool → List ℕ → List ℕ)) (seg : ℕ → Bool → List ℕ → List ℕ) (X bytes : List ℕ) (texts : List (List ℕ)) (lo hi : ℕ) → CanOpen k → IsLawful k.overhead seg → o ≡ Some seg
-    → AreSegmentsBy o (k.first - k.overhead) (k.size - k.overhead) X texts → AllGive seg k.overhead lo hi (cut k.first k.size X) bytes → bytes ≡ within lo hi 0 (joined texts)
-slice_by k None seg X bytes texts lo hi can lawful e segments given = absurd segments
-slice_by k (Some own) seg X bytes texts lo hi can lawful e segments given =
+-- the chunks behind the front of a stream are the segments of its texts
+pub agree_by : (k : OpeningKey) (o : Option (ℕ → Bool → List ℕ → List ℕ)) (seg : ℕ → Bool → List ℕ → List ℕ) (X : List ℕ) (texts : List (List ℕ)) → CanOpen k → IsLawful k.overhead seg → o ≡ Some seg
+    → AreSegmentsBy o (k.first - k.overhead) (k.size - k.overhead) X texts → AreTexts seg 0 (cut k.first k.size X) texts × (length (cut k.first k.size X) ≡ length texts)
+agree_by k None seg X texts can lawful e segments = absurd segments
+agree_by k (Some own) seg X texts can lawful e segments =
     let same : own ≡ seg = cc in
     let are : AreSegments seg 0 (k.first - k.overhead) (k.size - k.overhead) X texts = subst (λ (s : ℕ → Bool → List ℕ → List ℕ). AreSegments s 0 (k.first - k.overhead) (k.size - k.overhead) X texts) same segments in
     let agree = all_agree seg k.overhead 0 (k.first - k.overhead) (k.size - k.overhead) texts X lawful.longer (omega (arith, can.room)) (omega (arith, can.room, can.fits)) can.some are in
     let first : (k.first - k.overhead) + k.overhead ≡ k.first = omega (arith, can.room) in
     let size : (k.size - k.overhead) + k.overhead ≡ k.size = omega (arith, can.room, can.fits) in
-    let here = rw (first, size) at agree in
+    rw (first, size) at agree
+
+slice_by : (k : OpeningKey) (o : Option (ℕ → Bool → List ℕ → List ℕ)) (seg : ℕ → Bool → List ℕ → List ℕ) (X bytes : List ℕ) (texts : List (List ℕ)) (lo hi : ℕ) → CanOpen k → IsLawful k.overhead seg → o ≡ Some seg
+    → AreSegmentsBy o (k.first - k.overhead) (k.size - k.overhead) X texts → AllGive seg k.overhead lo hi (cut k.first k.size X) bytes → bytes ≡ within lo hi 0 (joined texts)
+slice_by k o seg X bytes texts lo hi can lawful e segments given =
+    let here = agree_by k o seg X texts can lawful e segments in
     all_given seg k.overhead lo hi lawful 0 0 (cut k.first k.size X) texts bytes given.0 here.0 here.1 given.1
 
 pub slice_of_stream : IsSliceOfStream

@@ -10,9 +10,9 @@ use Rattle.tink_io.specs.declared.error.TinkError.{TinkError}
 use Rattle.tink_range.specs.Ranges.{within}
 
 -- the chunk is the segment of this text, or of no text
-abbrev pub OpensTo : (ℕ → Bool → List ℕ → List ℕ) → ℕ → Bool → List ℕ → Bool → List ℕ → Type 0
-OpensTo seg number last chunk true text = seg number last text ≡ chunk
-OpensTo seg number last chunk false text = (t : List ℕ) → seg number last t ≡ chunk → ⊥
+abbrev pub ChunkOpensTo : (ℕ → Bool → List ℕ → List ℕ) → ℕ → Bool → List ℕ → Bool → List ℕ → Type 0
+ChunkOpensTo seg number last chunk true text = seg number last text ≡ chunk
+ChunkOpensTo seg number last chunk false text = (t : List ℕ) → seg number last t ≡ chunk → ⊥
 
 -- a chunk of an object that is read: its number, where it begins, the bytes from there on, and its room
 pub record ChunkAt : Type 0 where
@@ -23,17 +23,17 @@ pub record ChunkAt : Type 0 where
 
 -- the same, where the object tells its bytes: the last chunk has no more than its room
 abbrev pub OpensAt : (ℕ → Bool → List ℕ → List ℕ) → ChunkAt → Option (List ℕ) → Bool → List ℕ → Type 0
-OpensAt seg c all opens text = IfSome all (λ S. OpensTo seg c.number (nat_le c.rest c.room) (take c.room (drop c.start S)) opens text)
+OpensAt seg c all opens text = IfSome all (λ S. ChunkOpensTo seg c.number (nat_le c.rest c.room) (take c.room (drop c.start S)) opens text)
 
 -- what stands of an object and a sink, before and after a call
-pub record Ends (W : Type 0) : Type 0 where
+pub record Moments (W : Type 0) : Type 0 where
   pub all : Option (List ℕ)
   pub reads_before : ℕ
   pub reads_after : ℕ
   pub old : W
   pub new : W
 
-module _ {W : Type 0} (got : W → Option (List ℕ)) (faults : W → ℕ) (seg : ℕ → Bool → List ℕ → List ℕ) (c : ChunkAt) (over lo hi at : ℕ) (e : Ends W) where
+module _ {W : Type 0} (got : W → Option (List ℕ)) (faults : W → ℕ) (seg : ℕ → Bool → List ℕ → List ℕ) (c : ChunkAt) (over lo hi at : ℕ) (e : Moments W) where
   -- the chunk is the segment of a text, and the range's part of it was written
   pub record GaveOne (n : ℕ) : Type 0 where
     pub text : List ℕ
@@ -68,6 +68,6 @@ module _ {W : Type 0} (got : W → Option (List ℕ)) (faults : W → ℕ) (seg 
   OneRefused _ = ⊥
 
 -- what giving the range's part of one chunk answers
-abbrev pub OneMeans : {W : Type 0} → (W → Option (List ℕ)) → (W → ℕ) → (ℕ → Bool → List ℕ → List ℕ) → ChunkAt → ℕ → ℕ → ℕ → ℕ → Ends W → Result ℕ TinkError → Type 0
+abbrev pub OneMeans : {W : Type 0} → (W → Option (List ℕ)) → (W → ℕ) → (ℕ → Bool → List ℕ → List ℕ) → ChunkAt → ℕ → ℕ → ℕ → ℕ → Moments W → Result ℕ TinkError → Type 0
 OneMeans got faults seg c over lo hi at e (Ok n) = GaveOne got faults seg c over lo hi at e n
 OneMeans got faults seg c over lo hi at e (Err error) = OneRefused got faults seg c over lo hi at e error.kind

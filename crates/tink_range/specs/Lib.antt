@@ -9,3 +9,4 @@ pub mod RangeReading
 pub mod ChoosingAt
 pub mod RangeCores
 pub mod RangeReaders
+pub mod KeyRanges

@@ -6,7 +6,7 @@ use Rattle.tink_io.specs.declared.error.Kind.{Kind}
 use Rattle.tink_io.specs.declared.error.Kind.TheVariants.{BadSegment, ReadFault, TooManySegments, Truncated, WriteFault}
 use Rattle.tink_io.specs.declared.error.TinkError.{TinkError}
 use Rattle.stream_model.specs.Cut.{last_chunk}
-use Rattle.tink_range.specs.ChunkReading.{Ends}
+use Rattle.tink_range.specs.ChunkReading.{Moments}
 use Rattle.tink_range.specs.Giving.{Cutting, GaveAll, GaveSome, GaveUpTo, chunks_in}
 use Rattle.tink_range.specs.Ranges.{LastAgrees, chunk_count, text_length}
 
@@ -34,7 +34,7 @@ range_start c behind start = min start (text_length c.first c.size c.over behind
 abbrev pub range_end : Cutting → ℕ → ℕ → ℕ → ℕ
 range_end c behind start len = min (start + len) (text_length c.first c.size c.over behind)
 
-module _ {W : Type 0} (got : W → Option (List ℕ)) (faults : W → ℕ) (c : Cutting) (behind start len : ℕ) (e : Ends W) where
+module _ {W : Type 0} (got : W → Option (List ℕ)) (faults : W → ℕ) (c : Cutting) (behind start len : ℕ) (e : Moments W) where
   -- the last chunk is the segment of a text
   abbrev pub Checked : Type 0
   Checked = IfSome e.all (λ S. LastAgrees c.seg (chunks_in c S))
@@ -52,7 +52,7 @@ module _ {W : Type 0} (got : W → Option (List ℕ)) (faults : W → ℕ) (c : 
     pub checked : (gave.bytes ≡ []) ⊎ Checked
 
   -- there are more chunks than numbers, and nothing was written
-  pub record HasTooMany : Type 0 where
+  pub record HasTooManyChunks : Type 0 where
     pub many : 2 ^ 32 < chunk_count c.first c.size behind
     pub same : e.new ≡ e.old
 
@@ -72,12 +72,12 @@ module _ {W : Type 0} (got : W → Option (List ℕ)) (faults : W → ℕ) (c : 
   abbrev pub RangeRefused : Kind → Type 0
   RangeRefused ReadFault = GaveFrontOfRange e.reads_before e.reads_after
   RangeRefused WriteFault = GaveFrontOfRange (faults e.old) (faults e.new)
-  RangeRefused TooManySegments = HasTooMany
+  RangeRefused TooManySegments = HasTooManyChunks
   RangeRefused (Truncated n) = StopsAtLast n (λ size. size < c.over)
   RangeRefused (BadSegment n) = StopsAtLast n (λ size. c.over ≤ size) ⊎ StopsInRange n
   RangeRefused _ = ⊥
 
 -- what reading a range answers
-abbrev pub RangeMeans : {W : Type 0} → (W → Option (List ℕ)) → (W → ℕ) → Cutting → ℕ → ℕ → ℕ → Ends W → Result ℕ TinkError → Type 0
+abbrev pub RangeMeans : {W : Type 0} → (W → Option (List ℕ)) → (W → ℕ) → Cutting → ℕ → ℕ → ℕ → Moments W → Result ℕ TinkError → Type 0
 RangeMeans got faults c behind start len e (Ok n) = GaveRange got faults c behind start len e n
 RangeMeans got faults c behind start len e (Err error) = RangeRefused got faults c behind start len e error.kind

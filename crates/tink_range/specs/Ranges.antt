@@ -57,7 +57,7 @@ SomeGive seg over lo hi chunks bytes =
     (n : ℕ) × (end : ℕ) × (rest : List (List ℕ)) × Gives seg over lo hi 0 0 chunks n bytes end rest
 
 -- chunk n is the first one that is touched and the segment of no text, and the chunks before it give these bytes
-pub record StopsAt (seg : ℕ → Bool → List ℕ → List ℕ) (over lo hi : ℕ) (chunks : List (List ℕ)) (bytes : List ℕ) (n : ℕ) : Type 0 where
+pub record StopsAtChunk (seg : ℕ → Bool → List ℕ → List ℕ) (over lo hi : ℕ) (chunks : List (List ℕ)) (bytes : List ℕ) (n : ℕ) : Type 0 where
   pub at : ℕ
   pub chunk : List ℕ
   pub behind : List (List ℕ)

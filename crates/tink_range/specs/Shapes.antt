@@ -16,7 +16,7 @@ pub record HasShape (a b over : ℕ) (X : List ℕ) (count text last : ℕ) : Ty
 
 -- a chunk inside of so many bytes: its number, what is before it, and the places of the text before it; the range begins
 -- before the next chunk's places
-pub record IsPlace (first size over behind lo number start text : ℕ) : Type 0 where
+pub record IsChunkPlace (first size over behind lo number start text : ℕ) : Type 0 where
   pub start_is : start ≡ start_at first size number
   pub text_is : text ≡ start_at (first - over) (size - over) number
   pub inside : start < behind

@@ -4,7 +4,7 @@ ghost use Rattle.stream_model.specs.Key.{nonce_size};
 ghost use Rattle.stream_model.specs.Opening.{HasFront, IsChosen, header_of, opening_key};
 ghost use Rattle.tink_io.specs.Faults.{Rose};
 ghost use Rattle.tink_range.specs.ChoosingAt.{DoesBeginAt, DoesNotBeginAt, HasRoomFor, IsFirstAt, Tries};
-ghost use Rattle.tink_range.specs.Objects.{IsKept};
+ghost use Rattle.tink_range.specs.Objects.{KeepsObject};
 ghost use Rattle.tink_segments.specs.StreamSegments.{segment_by};
 ghost use Rattle.tink_stream_keys.specs.Decrypters.{OpensBehind};
 ghost use Rattle.tink_streams.specs.Choosing.{IsOpenerOf};
@@ -47,7 +47,7 @@ fn front_at<A: ReadAt, T: DerivesStreams>(
         (header_of (opening_key aad.now (T.key_of key.now)) held.new) ≡ None))) }
     ensures room { IfOk result (λ r. MatchResult r
         (λ o. 7 ≤ vec_capacity o.prefix) (λ memory. 7 ≤ vec_capacity memory)) }
-    ensures kept { IsKept A.length_of A.bytes A.faults object.old object.new }
+    ensures kept { KeepsObject A.length_of A.bytes A.faults object.old object.new }
     ensures rose { OnErr result (Rose (A.faults object.old) (A.faults object.new)) }
     ensures same { A.same object.old object.new }
 {
@@ -96,7 +96,7 @@ fn try_at<A: ReadAt, T: DerivesStreams, L: Ledger>(
     ensures sealed { vec_len sealed.new ≡ vec_len sealed.old }
     ensures text { vec_capacity text.old ≤ vec_capacity text.new }
     ensures nonce { vec_len nonce.new ≡ vec_len nonce.old }
-    ensures kept { IsKept A.length_of A.bytes A.faults object.old object.new }
+    ensures kept { KeepsObject A.length_of A.bytes A.faults object.old object.new }
     ensures rose { OnErr result (Rose (A.faults object.old) (A.faults object.new)) }
     ensures same { A.same object.old object.new }
 {
@@ -151,7 +151,7 @@ pub fn choose_at<A: ReadAt, T: DerivesStreams, L: Ledger>(
     ensures tries { IfOk result (λ _. IfSome (A.bytes object.old)
         (λ S. Tries (map (λ k. opening_key aad.now (T.key_of k)) keys.now) S (steps.new - steps.old))) }
     ensures ticks { (steps.old ≤ steps.new) × (steps.new ≤ steps.old + length keys.now) }
-    ensures kept { IsKept A.length_of A.bytes A.faults object.old object.new }
+    ensures kept { KeepsObject A.length_of A.bytes A.faults object.old object.new }
     ensures rose { OnErr result (Rose (A.faults object.old) (A.faults object.new)) }
     ensures same { A.same object.old object.new }
 {

@@ -4,7 +4,7 @@ ghost use Rattle.std.specs.Prelude.{◌≡◌, ◌≤◌, ◌<◌, ◌+◌, ◌-
 ghost use Rattle.stream_model.specs.Cut.{room_at};
 ghost use Rattle.tink_io.specs.Faults.{Rose};
 ghost use Rattle.tink_range.specs.ChunkReading.{OneMeans, OpensAt};
-ghost use Rattle.tink_range.specs.Objects.{IsKept};
+ghost use Rattle.tink_range.specs.Objects.{KeepsObject};
 ghost use Rattle.tink_range.specs.RangeReading.{LastMeans};
 ghost use Rattle.tink_range.specs.Ranges.{text_length};
 ghost use Rattle.tink_range.specs.Shapes.{HasShape, IsLast};
@@ -54,7 +54,7 @@ impl<D: SegmentDecrypter> RangeCore<D> {
             ≡ min (self.old.behind - start) (room_at self.old.opener.first self.old.opener.size number)) }
         ensures ticks { MatchResult result (λ _. steps.new ≡ steps.old + 1) (λ _. steps.new ≡ steps.old) }
         ensures core { IsSameCore self.old self.new }
-        ensures kept { IsKept A.length_of A.bytes A.faults object.old object.new }
+        ensures kept { KeepsObject A.length_of A.bytes A.faults object.old object.new }
         ensures rose { OnErr result (Rose (A.faults object.old) (A.faults object.new)) }
         ensures same { A.same object.old object.new }
     {
@@ -100,7 +100,7 @@ impl<D: SegmentDecrypter> RangeCore<D> {
             result }
         ensures ticks { steps.new ≤ steps.old + 1 }
         ensures core { IsSameCore self.old self.new }
-        ensures kept { IsKept A.length_of A.bytes A.faults object.old object.new }
+        ensures kept { KeepsObject A.length_of A.bytes A.faults object.old object.new }
         ensures later { K.faults sink.old ≤ K.faults sink.new }
         ensures object { A.same object.old object.new }
         ensures sink { K.same sink.old sink.new }
@@ -157,7 +157,7 @@ impl<D: SegmentDecrypter> RangeCore<D> {
             (A.faults object.old) (A.faults object.new) result }
         ensures ticks { steps.new ≤ steps.old + 1 }
         ensures core { IsSameCore self.old self.new }
-        ensures kept { IsKept A.length_of A.bytes A.faults object.old object.new }
+        ensures kept { KeepsObject A.length_of A.bytes A.faults object.old object.new }
         ensures same { A.same object.old object.new }
     {
         match self.open_chunk(object, number, start, steps) {

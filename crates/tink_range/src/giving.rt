@@ -1,9 +1,9 @@
 ghost use Rattle.std.specs.Prelude.{◌≡◌, ◌≤◌, ◌<◌, ◌+◌, ◌-◌, ◌/◌, ◌^◌};
 ghost use Rattle.tink_range.specs.Giving.{GiveMeans};
-ghost use Rattle.tink_range.specs.Objects.{IsKept};
+ghost use Rattle.tink_range.specs.Objects.{KeepsObject};
 ghost use Rattle.tink_range.specs.RangeCores.{IsSameCore, cutting_of};
 ghost use Rattle.tink_range.specs.Ranges.{chunk_count, text_length};
-ghost use Rattle.tink_range.specs.Shapes.{IsPlace};
+ghost use Rattle.tink_range.specs.Shapes.{IsChunkPlace};
 
 use crate::chunks::RangeCore;
 use crate::read_at::ReadAt;
@@ -28,7 +28,7 @@ fn give_from<A: ReadAt, D: SegmentDecrypter, K: Sink, L: Ledger>(
     requires range { lo < hi }
     requires within { hi ≤ text_length core.old.opener.first core.old.opener.size core.old.opener.overhead
         core.old.behind }
-    requires place { IsPlace core.old.opener.first core.old.opener.size core.old.opener.overhead core.old.behind lo
+    requires place { IsChunkPlace core.old.opener.first core.old.opener.size core.old.opener.overhead core.old.behind lo
         from.number from.start from.text }
     requires low { from.text ≤ lo }
     ensures answer { GiveMeans K.got K.faults (cutting_of core.old) lo hi
@@ -43,7 +43,7 @@ fn give_from<A: ReadAt, D: SegmentDecrypter, K: Sink, L: Ledger>(
     ensures ticks { steps.new ≤ steps.old + (hi - lo + (core.old.opener.size - core.old.opener.overhead) - 1)
         / (core.old.opener.size - core.old.opener.overhead) + 1 }
     ensures core { IsSameCore core.old core.new }
-    ensures kept { IsKept A.length_of A.bytes A.faults object.old object.new }
+    ensures kept { KeepsObject A.length_of A.bytes A.faults object.old object.new }
     ensures later { K.faults sink.old ≤ K.faults sink.new }
     ensures object { A.same object.old object.new }
     ensures sink { K.same sink.old sink.new }
@@ -89,7 +89,7 @@ pub fn give_range<A: ReadAt, D: SegmentDecrypter, K: Sink, L: Ledger>(
     ensures ticks { steps.new ≤ steps.old + (hi - lo + (core.old.opener.size - core.old.opener.overhead) - 1)
         / (core.old.opener.size - core.old.opener.overhead) + 1 }
     ensures core { IsSameCore core.old core.new }
-    ensures kept { IsKept A.length_of A.bytes A.faults object.old object.new }
+    ensures kept { KeepsObject A.length_of A.bytes A.faults object.old object.new }
     ensures later { K.faults sink.old ≤ K.faults sink.new }
     ensures object { A.same object.old object.new }
     ensures sink { K.same sink.old sink.new }

@@ -1,8 +1,8 @@
 ghost use Rattle.std.specs.Prelude.{◌≡◌, ◌≤◌, ◌<◌, ◌+◌, ◌^◌, min, true, length, take, drop, vec_len, vec_capacity, IfOk, IfSome, MatchResult, OnErr};
 ghost use Rattle.stream_model.specs.Cut.{room_at};
 ghost use Rattle.tink_io.specs.Faults.{Rose};
-ghost use Rattle.tink_range.specs.ChunkReading.{OpensAt, OpensTo};
-ghost use Rattle.tink_range.specs.Objects.{IsKept};
+ghost use Rattle.tink_range.specs.ChunkReading.{OpensAt, ChunkOpensTo};
+ghost use Rattle.tink_range.specs.Objects.{KeepsObject};
 ghost use Rattle.tink_streams.specs.Openers.{segment_map};
 
 use crate::read_at::ReadAt;
@@ -43,14 +43,14 @@ fn open_into<A: ReadAt, D: SegmentDecrypter, L: Ledger>(
     requires size { length chunk.old ≤ opener.now.size }
     requires text { opener.now.size ≤ vec_capacity text.old }
     requires nonce { opener.now.nonce_size ≤ vec_len nonce.old }
-    ensures answer { IfOk result (λ ok. IfSome (A.bytes object.old) (λ S. OpensTo (segment_map opener.now) number last
+    ensures answer { IfOk result (λ ok. IfSome (A.bytes object.old) (λ S. ChunkOpensTo (segment_map opener.now) number last
         (take (length chunk.old) (drop at S)) ok text.new.items)) }
     ensures length { IfOk result (λ ok. ok ≡ true
         → vec_len text.new + opener.now.overhead ≡ length chunk.old) }
     ensures ticks { MatchResult result (λ _. steps.new ≡ steps.old + 1) (λ _. steps.new ≡ steps.old) }
     ensures text { vec_capacity text.old ≤ vec_capacity text.new }
     ensures nonce { vec_len nonce.new ≡ vec_len nonce.old }
-    ensures kept { IsKept A.length_of A.bytes A.faults object.old object.new }
+    ensures kept { KeepsObject A.length_of A.bytes A.faults object.old object.new }
     ensures rose { OnErr result (Rose (A.faults object.old) (A.faults object.new)) }
     ensures same { A.same object.old object.new }
 {
@@ -87,7 +87,7 @@ pub fn open_at<A: ReadAt, D: SegmentDecrypter, L: Ledger>(
     ensures sealed { vec_len sealed.new ≡ vec_len sealed.old }
     ensures text { vec_capacity text.old ≤ vec_capacity text.new }
     ensures nonce { vec_len nonce.new ≡ vec_len nonce.old }
-    ensures kept { IsKept A.length_of A.bytes A.faults object.old object.new }
+    ensures kept { KeepsObject A.length_of A.bytes A.faults object.old object.new }
     ensures rose { OnErr result (Rose (A.faults object.old) (A.faults object.new)) }
     ensures same { A.same object.old object.new }
 {

@@ -1,6 +1,6 @@
 ghost use Rattle.std.specs.Prelude.{◌≡◌, ◌≤◌, ◌<◌, ◌+◌, ◌^◌, length, take, drop, IfSome, OnOk, OnErr};
 ghost use Rattle.tink_io.specs.Faults.{Rose};
-ghost use Rattle.tink_range.specs.Objects.{IsKept};
+ghost use Rattle.tink_range.specs.Objects.{KeepsObject};
 
 use crate::read_at::ReadAt;
 use tink_io::Failed;
@@ -11,7 +11,7 @@ pub fn fill_at<A: ReadAt>(object: &mut A, at: u64, buf: &mut [u8]) -> Result<(),
     requires fits { at + length buf.old < 2 ^ 64 }
     ensures given { OnOk result (IfSome (A.bytes object.old)
         (λ S. buf.new ≡ take (length buf.old) (drop at S))) }
-    ensures kept { IsKept A.length_of A.bytes A.faults object.old object.new }
+    ensures kept { KeepsObject A.length_of A.bytes A.faults object.old object.new }
     ensures rose { OnErr result (Rose (A.faults object.old) (A.faults object.new)) }
     ensures same { A.same object.old object.new }
 {

@@ -3,7 +3,7 @@
 ghost use Rattle.std.specs.Prelude.{◌≡◌, ◌≤◌, ◌<◌, ◌+◌, ◌-◌, ◌^◌, ℕ, List, length, min};
 ghost use Rattle.stream_model.specs.Cut.{room_at};
 ghost use Rattle.tink_range.specs.Ranges.{text_length};
-ghost use Rattle.tink_range.specs.Shapes.{HasShape, IsPlace};
+ghost use Rattle.tink_range.specs.Shapes.{HasShape, IsChunkPlace};
 
 // The number of chunks of some bytes, the places of their text, and what is before the last chunk.
 #[derive(Clone, Copy)]
@@ -56,7 +56,7 @@ pub fn place_of(first: u64, size: u64, over: u64, behind: u64, lo: u64) -> Place
     requires over { over < first }
     requires fits { first ≤ size }
     requires inside { lo < text_length first size over behind }
-    ensures place { IsPlace first size over behind lo result.number result.start result.text }
+    ensures place { IsChunkPlace first size over behind lo result.number result.start result.text }
     ensures low { result.text ≤ lo }
 {
     let _ = behind;

@@ -2,7 +2,7 @@ ghost use Rattle.std.specs.Prelude.{◌≡◌, ◌≤◌, ◌<◌, ◌+◌, ◌-
 ghost use Rattle.stream_model.specs.Key.{nonce_size};
 ghost use Rattle.stream_model.specs.Opening.{opening_key};
 ghost use Rattle.tink_range.specs.ChoosingAt.{HasTried, NewRefused};
-ghost use Rattle.tink_range.specs.Objects.{IsKept};
+ghost use Rattle.tink_range.specs.Objects.{KeepsObject};
 ghost use Rattle.tink_streams.specs.Choosing.{Found, StartRefused};
 ghost use Rattle.tink_streams.specs.Openers.{segment_map};
 
@@ -19,7 +19,7 @@ use tink_streaming_aead::{WrappedStreamingAead, room_of};
 use tink_streams::{Buffers, Kept};
 
 // The chunks of an object behind the front of the first key under which its stream begins.
-fn start_at<A: ReadAt, T: DerivesStreams, L: Ledger>(
+pub fn start_at<A: ReadAt, T: DerivesStreams, L: Ledger>(
     keys: &[T],
     aad: &[u8],
     trial: Trial,
@@ -39,7 +39,7 @@ fn start_at<A: ReadAt, T: DerivesStreams, L: Ledger>(
     ensures tried { HasTried result (A.bytes object.old) (map (λ k. opening_key aad.now (T.key_of k)) keys.now)
         (steps.new - steps.old) }
     ensures ticks { (steps.old ≤ steps.new) × (steps.new ≤ steps.old + length keys.now) }
-    ensures kept { IsKept A.length_of A.bytes A.faults object.old object.new }
+    ensures kept { KeepsObject A.length_of A.bytes A.faults object.old object.new }
     ensures same { A.same object.old object.new }
 {
     let Trial {
@@ -97,7 +97,7 @@ pub fn begin_at<A: ReadAt, L: Ledger>(
     ensures tried { HasTried result (A.bytes object.old) (map (opening_key aad.now) w.now.keys)
         (steps.new - steps.old) }
     ensures ticks { (steps.old ≤ steps.new) × (steps.new ≤ steps.old + length w.now.keys) }
-    ensures kept { IsKept A.length_of A.bytes A.faults object.old object.new }
+    ensures kept { KeepsObject A.length_of A.bytes A.faults object.old object.new }
     ensures same { A.same object.old object.new }
 {
     match w.entries(alloc) {

@@ -10,7 +10,7 @@ use Rattle.tink_program.proofs.words.parse_large.Goals as goal
 pub returns-in_default-clause-none : goal.returns-in_default-clause-none
 returns-in_default-clause-none c = λ n h.
     let none = rw (c.in_default.is, c.as_str-2.ensures.value) at c.in_ok-n.ensures.none in
-    none n (subst (λ w. IsNumberWord w n) (spelled_at _ 1 _ _ (omega arith) c.index-2.ensures h.spelled) h.number_is)
+    none n (subst (λ w. IsNumberWord 999999 w n) (spelled_at _ 1 _ _ (omega arith) c.index-2.ensures h.spelled) h.number_is)
 
 pub returns-clause-found : goal.returns-clause-found
 returns-clause-found c =

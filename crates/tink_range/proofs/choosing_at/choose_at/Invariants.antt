@@ -2,7 +2,7 @@
 use Rattle.std.proofs.Common.{◌≡◌, ◌≤◌, ◌+◌, ◌-◌, IfSome, vec_len, vec_capacity}
 use Rattle.stream_model.specs.Opening.{opening_key}
 use Rattle.tink_streams.proofs.ChoosingSteps.{ChosenFrom}
-use Rattle.tink_range.specs.Objects.{IsKept}
+use Rattle.tink_range.specs.Objects.{KeepsObject}
 use Rattle.tink_range.proofs.TriesFacts.{TriesFrom}
 use Rattle.tink_range.proofs.choosing_at.choose_at.Given as goal
 
@@ -18,6 +18,6 @@ invariant-loop-key g l =
       tried : IfSome (object.bytes l.fn.object) (TriesFrom (λ k. opening_key l.fn.aad (g.T.DerivesStreams.key_of k)) l.keys l.key-index (l.steps - l.fn.steps));
       ticked : l.fn.steps ≤ l.steps;
       few : l.steps ≤ l.fn.steps + l.key-index;
-      kept : IsKept object.length_of object.bytes object.faults l.fn.object l.object;
+      kept : KeepsObject object.length_of object.bytes object.faults l.fn.object l.object;
       same : object.same l.fn.object l.object;
     }

@@ -1,8 +1,8 @@
 -- What was given so far, by the chunk that comes next.
 use Rattle.std.proofs.Common.{◌≤◌, ◌<◌, ◌-◌}
-use Rattle.tink_range.specs.Objects.{IsKept}
+use Rattle.tink_range.specs.Objects.{KeepsObject}
 use Rattle.tink_range.specs.RangeCores.{IsSameCore, cutting_of}
-use Rattle.tink_range.specs.Shapes.{IsPlace}
+use Rattle.tink_range.specs.Shapes.{IsChunkPlace}
 use Rattle.tink_range.proofs.GivingTold.{Giving, Ticks}
 use Rattle.tink_range.proofs.giving.give_from.Given as goal
 
@@ -13,13 +13,13 @@ invariant-loop-place g l =
     let o = l.fn.core.opener in
     record {
       giving : Giving (cutting_of l.fn.core) l.lo l.hi (object.bytes l.fn.object) (sink.got l.fn.sink) (sink.got l.sink) l.given l.place.number l.place.start l.place.text;
-      going : l.place.text < l.hi → IsPlace o.first o.size o.overhead l.fn.core.behind l.lo l.place.number l.place.start l.place.text;
+      going : l.place.text < l.hi → IsChunkPlace o.first o.size o.overhead l.fn.core.behind l.lo l.place.number l.place.start l.place.text;
       low : l.place.text ≤ l.place.start;
       start_in : l.place.start ≤ l.fn.core.behind;
       few : l.given ≤ l.place.text;
       ticks : Ticks l.lo l.hi (o.size - o.overhead) l.fn.from.number l.place.number l.place.text l.fn.steps l.steps;
       core : IsSameCore l.fn.core l.core;
-      kept : IsKept object.length_of object.bytes object.faults l.fn.object l.object;
+      kept : KeepsObject object.length_of object.bytes object.faults l.fn.object l.object;
       later : sink.faults l.fn.sink ≤ sink.faults l.sink;
       object_same : object.same l.fn.object l.object;
       sink_same : sink.same l.fn.sink l.sink;

@@ -1,5 +1,5 @@
 use Rattle.std.proofs.Common.{◌≡◌, ◌≤◌, ◌-◌, IfSome, length, take, drop}
-use Rattle.tink_range.specs.Objects.{IsKept}
+use Rattle.tink_range.specs.Objects.{KeepsObject}
 use Rattle.tink_range.proofs.reading_at.fill_at.Given as goal
 
 -- the bytes so far are those of the object
@@ -9,7 +9,7 @@ invariant-loop-done g l =
     record {
       within : l.done ≤ length l.buf;
       given : IfSome (object.bytes l.fn.object) (λ S. take l.done l.buf ≡ take l.done (drop l.at S));
-      kept : IsKept object.length_of object.bytes object.faults l.fn.object l.object;
+      kept : KeepsObject object.length_of object.bytes object.faults l.fn.object l.object;
       same : object.same l.fn.object l.object;
     }
 

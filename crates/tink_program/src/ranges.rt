@@ -1,0 +1,51 @@
+//! The command of ranges.
+
+ghost use Rattle.std.specs.Prelude.{◌≡◌, ◌+◌, IfErr};
+ghost use Rattle.tink_keyset_io.specs.Reading.{LosesAtMost};
+ghost use Rattle.tink_program.specs.Ranges.{IsUnranged, RangeAnswer};
+ghost use Rattle.tink_run.specs.Outside.{outside_of};
+ghost use Rattle.tink_run_tokens.specs.Inputs.{IsUnloadable, input_limit};
+
+use crate::words::RangeArgs;
+use std::alloc::Global;
+use tink_io::{Sink, Source, TinkError};
+use tink_range::SureAt;
+use tink_run::load::load;
+use tink_run_range::range_of_set;
+use tink_run_tokens::read_input;
+
+/// Writes a range of the text of the stream that the source has, which is held whole, and answers how many bytes.
+///
+/// # Errors
+/// The first that applies: why the keyset does not load, with nothing read; `ReadFault`; `InputTooLong` exactly where the
+/// source has more than 16,777,216 bytes; those of `range_of_set`. `OutOfMemory` may come in place of each. Each but
+/// `WriteFault` and `BadSegment` leaves the sink as it is.
+pub fn write_range<S: Source, K: Sink>(
+    alloc: Global,
+    args: &RangeArgs,
+    source: &mut S,
+    sink: &mut K,
+) -> Result<u64, TinkError>
+    ensures answer { RangeAnswer args.now.keyset.items args.now.aad.items args.now.start args.now.len
+        (outside_of S.left S.faults K.got K.faults source.old sink.old)
+        (outside_of S.left S.faults K.got K.faults source.new sink.new)
+        result }
+    ensures taken { LosesAtMost (input_limit + 1) (S.left source.old) (S.left source.new) }
+    ensures unread { IfErr result (λ e. IsUnloadable e.kind → source.new ≡ source.old) }
+    ensures unwritten { IfErr result (λ e. IsUnranged e.kind → sink.new ≡ sink.old) }
+    ensures source { S.same source.old source.new }
+    ensures sink { K.same sink.old sink.new }
+{
+    let keys = load(alloc, &args.keyset)?;
+    let input = read_input(alloc, source)?;
+    let mut object = SureAt::new(input);
+    range_of_set(
+        alloc,
+        &keys,
+        &args.aad,
+        &mut object,
+        args.start,
+        args.len,
+        sink,
+    )
+}

@@ -1,0 +1,20 @@
+use Rattle.std.proofs.Common.{length, map, sym}
+use Rattle.std.proofs.lemmas.List.{length-map}
+use Rattle.stream_model.specs.Opening.{OpeningKey, opening_key}
+use Rattle.tink_range.specs.RangeCores.{cutting_of}
+use Rattle.tink_range.proofs.KeyRangeSteps.{takes_steps, under_chosen}
+use Rattle.tink_range.proofs.under_keys.range_under.Goals as goal
+
+pub returns-in-Ok-clause-answer : goal.returns-in-Ok-clause-answer
+returns-in-Ok-clause-answer g c =
+    let core = c.in-Ok.core in
+    under_chosen g.K.Sink.got g.K.Sink.faults (cutting_of core) core.behind c.args.start c.args.len
+    (record { all = g.A.ReadAt.bytes c.args.object.now; reads_before = g.A.ReadAt.faults c.args.object.now; reads_after = g.A.ReadAt.faults c.read_range.new.object; old = c.args.sink.now; new = c.read_range.new.sink })
+    (g.A.ReadAt.faults c.start_at.new.object) (g.A.ReadAt.bytes c.start_at.new.object) (map (λ k. opening_key c.args.aad.now (g.T.DerivesStreams.key_of k)) c.args.keys.now) (g.A.ReadAt.length_of c.args.object.now) c.read_range.result
+    c.in-Ok.ensures.kept.later c.in-Ok.ensures.kept.bytes_are c.in-Ok.ensures.whole c.in-Ok.ensures.found c.read_range.ensures.answer
+
+pub returns-in-Ok-clause-ticks : goal.returns-in-Ok-clause-ticks
+returns-in-Ok-clause-ticks g c =
+    let core = c.in-Ok.core in
+    takes_steps (cutting_of core) core.behind c.args.start c.args.len c.args.steps.now c.start_at.new.steps c.read_range.new.steps (length c.args.keys.now) (g.A.ReadAt.length_of c.args.object.now) (g.A.ReadAt.bytes c.args.object.now)
+    (map (λ k. opening_key c.args.aad.now (g.T.DerivesStreams.key_of k)) c.args.keys.now) (sym (length-map c.args.keys.now (λ k. opening_key c.args.aad.now (g.T.DerivesStreams.key_of k)))) c.in-Ok.ensures.whole c.in-Ok.ensures.found c.in-Ok.ensures.ticks.1 c.read_range.ensures.ticks

@@ -1,0 +1,56 @@
+ghost use Rattle.std.specs.Prelude.{◌≡◌, ◌≤◌, ◌<◌, ◌+◌, length, map, All, vec_len, vec_capacity};
+ghost use Rattle.stream_model.specs.Key.{nonce_size};
+ghost use Rattle.stream_model.specs.Opening.{opening_key};
+ghost use Rattle.tink_range.specs.KeyRanges.{RangesUnder, TakesRangeSteps};
+ghost use Rattle.tink_range.specs.Objects.{KeepsObject};
+
+use crate::range_reading::read_range;
+use crate::read_at::ReadAt;
+use crate::starting_at::start_at;
+use crate::steps::Steps;
+use std::sync::ledger::Ledger;
+use tink_io::{Sink, TinkError};
+use tink_stream_keys::{DerivesStreams, Trial};
+
+/// Writes a range of the text of the stream that an object is, under the first of the keys that it begins under, in
+/// memory that was taken before. It answers how many bytes, as `RangeReader::read_range` does.
+///
+/// # Errors
+/// `NoMatchingKey` where the object begins under none of the keys, `ReadFault` where it failed before one was chosen, both
+/// with nothing written; and those of `RangeReader::read_range`.
+pub fn range_under<A: ReadAt, T: DerivesStreams, K: Sink, L: Ledger>(
+    keys: &[T],
+    aad: &[u8],
+    trial: Trial,
+    object: &mut A,
+    start: u64,
+    len: u64,
+    sink: &mut K,
+    steps: &mut Steps<L>,
+) -> Result<u64, TinkError>
+    requires buffer { All (λ k. length (T.key_of k).out + (T.key_of k).segment < vec_len trial.kept.buffer) keys.now }
+    requires room { All (λ k. (T.key_of k).segment ≤ vec_capacity trial.opened) keys.now }
+    requires nonce { All (λ k. nonce_size (T.key_of k) ≤ vec_len trial.nonce) keys.now }
+    requires prefix { 7 ≤ vec_capacity trial.prefix }
+    ensures answer { RangesUnder K.got K.faults (map (λ k. opening_key aad.now (T.key_of k)) keys.now)
+        (A.length_of object.old) start len
+        (record {
+          all = A.bytes object.old;
+          reads_before = A.faults object.old;
+          reads_after = A.faults object.new;
+          old = sink.old;
+          new = sink.new;
+        })
+        result }
+    ensures ticks { TakesRangeSteps (map (λ k. opening_key aad.now (T.key_of k)) keys.now) (A.bytes object.old)
+        (A.length_of object.old) start len steps.old steps.new }
+    ensures kept { KeepsObject A.length_of A.bytes A.faults object.old object.new }
+    ensures later { K.faults sink.old ≤ K.faults sink.new }
+    ensures object { A.same object.old object.new }
+    ensures sink { K.same sink.old sink.new }
+{
+    match start_at(keys, aad, trial, object, steps) {
+        Ok(mut core) => read_range(&mut core, object, start, len, sink, steps),
+        Err(e) => Err(e),
+    }
+}

@@ -1,0 +1,2 @@
+pub mod SetSteps
+pub mod KeysetSteps

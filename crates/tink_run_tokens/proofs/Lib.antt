@@ -1,0 +1,4 @@
+pub mod InputSteps
+pub mod MacFacts
+pub mod ToldLemmas
+pub mod TokenCalls
