@@ -11,8 +11,8 @@ use tink_place::{Place, finish};
 use tink_range::ReadAt;
 use tink_run_range::run_range;
 
-/// Writes a range of the text of the stream that an object is, as `run_range` of `tink_run_range`, into a draft, which is
-/// shown where all of it was done, and else taken away.
+/// Writes a range of the text of the stream that an object is, as `run_range` of `tink_run_range`, into a draft, which
+/// is shown where all of it was done, and else taken away.
 ///
 /// # Errors
 /// Those of `run_range`, and `WriteFault` where the draft could not be shown: what was shown stays.

@@ -49,8 +49,8 @@ pub fn run_to<S: Source, P: Place>(
     finish(place, answer)
 }
 
-/// Moves a stream from one keyset to another, as `rewrap` of `tink_rewrap`, into a draft, which is shown where all of it
-/// was done, and else taken away.
+/// Moves a stream from one keyset to another, as `rewrap` of `tink_rewrap`, into a draft, which is shown where all of
+/// it was done, and else taken away.
 ///
 /// # Errors
 /// Those of `rewrap`, and `WriteFault` where the draft could not be shown: what was shown stays.
@@ -73,8 +73,8 @@ pub fn rewrap_to<S: Source, P: Place>(
         (outside_of S.left S.faults P.got P.faults source.new draft) answer)
         (P.replaces place.old) (P.shown place.old) (P.shown place.new) (P.faults place.new) result }
 
-    // Told bytes: what is shown is the stream, under the primary key of the second keyset, of the text of the whole stream
-    // that was the input.
+    // Told bytes: what is shown is the stream, under the primary key of the second keyset, of the text of the whole
+    // stream that was the input.
     ensures ok { IfOk result (λ report. IsShownWhole P.got (λ draft value. (T G : List ℕ)
         → Told (outside_of S.left S.faults P.got P.faults source.old place.old) T G
         → IsWholeRewrap

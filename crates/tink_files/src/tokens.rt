@@ -3,7 +3,8 @@
 ghost use Rattle.std.specs.Prelude.{◌≡◌, ℕ, List, true, false, IfOk, OnErr};
 ghost use Rattle.tink_run.specs.Outside.{outside_of};
 ghost use Rattle.tink_run.specs.Run.{Told};
-ghost use Rattle.tink_run_tokens.specs.Tokens.{IsAnsweredWhole, RefusesSigning, RefusesVerifying, SignsTo, TokenMeans, VerifiesTo};
+ghost use Rattle.tink_run_tokens.specs.Tokens.{IsAnsweredWhole, TokenMeans};
+ghost use Rattle.tink_run_tokens.specs.Tokens.{RefusesSigning, RefusesVerifying, SignsTo, VerifiesTo};
 ghost use Rattle.tink_files.specs.Streams.{IsShownWhole, RanAndEnded};
 
 use std::alloc::Global;
@@ -11,8 +12,8 @@ use tink_io::{Source, TinkError};
 use tink_place::{Place, finish};
 use tink_run_tokens::{write_payload, write_token};
 
-/// Writes the token of the source's bytes, as `write_token` of `tink_run_tokens`, into a draft, which is shown where all of it
-/// was done, and else taken away.
+/// Writes the token of the source's bytes, as `write_token` of `tink_run_tokens`, into a draft, which is shown where all
+/// of it was done, and else taken away.
 ///
 /// # Errors
 /// Those of `write_token`, and `WriteFault` where the draft could not be shown: what was shown stays.
@@ -44,8 +45,8 @@ pub fn sign_to<S: Source, P: Place>(
     finish(place, answer)
 }
 
-/// Writes the payload of the token that the source has, as `write_payload` of `tink_run_tokens`, into a draft, which is shown
-/// where all of it was done, and else taken away.
+/// Writes the payload of the token that the source has, as `write_payload` of `tink_run_tokens`, into a draft, which is
+/// shown where all of it was done, and else taken away.
 ///
 /// # Errors
 /// Those of `write_payload`, and `WriteFault` where the draft could not be shown: what was shown stays.

@@ -17,7 +17,7 @@ fn place_of(alloc: Global, room: usize, replaces: bool, can_show: bool) -> Optio
 }
 
 // Whether the text is shown, or what was before; a draft is none.
-fn shows(place: &MemPlace, text: &[u8]) -> bool {
+pub fn shows(place: &MemPlace, text: &[u8]) -> bool {
     match &place.shown {
         Some(bytes) => !place.has_draft && bytes.as_slice() == text,
         None => false,

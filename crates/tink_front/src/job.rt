@@ -1,4 +1,4 @@
-//! What a command over a stream or a token is to do.
+//! What the words of a command over a stream or a token say, and how its refusals are told.
 
 use crate::outside::read_keys;
 use crate::trouble::Trouble;
@@ -7,18 +7,7 @@ use tink_io::Kind;
 use tink_key_files::wire_bytes;
 use tink_proto::Bytes;
 use tink_run::load::load;
-use tink_run::report::Command;
 use tink_words::Line;
-
-/// What is made of the input.
-#[derive(Drop)]
-pub enum Task<'w> {
-    Run(Command),
-    Rewrap(Side<'w>),
-    Sign,
-    Verify,
-    Range,
-}
 
 /// A keyset and its associated data, and the file that it is in.
 #[derive(Drop)]
@@ -28,26 +17,22 @@ pub struct Side<'w> {
     pub keys: &'w str,
 }
 
-/// What is to be done, and the names by which it is told.
+/// The keys, and the names of what is read and written.
 #[derive(Drop)]
 pub struct Job<'w> {
-    pub task: Task<'w>,
     pub side: Side<'w>,
+    pub new_keys: Option<&'w str>,
     pub input: &'w str,
     pub output: Option<&'w str>,
     pub is_quiet: bool,
 }
 
-/// What the words of a command say besides its task. The keys are read.
-pub fn job_of<'w>(
-    rt: &HostRuntime,
-    task: Task<'w>,
-    line: &Line<'w>,
-) -> Result<Job<'w>, Trouble<'w>> {
+/// What the words of a command say. Its keys are read.
+pub fn job_of<'w>(rt: &HostRuntime, line: &Line<'w>) -> Result<Job<'w>, Trouble<'w>> {
     let side = side_of(rt, line.keys(), line.aad())?;
     Ok(Job {
-        task,
         side,
+        new_keys: line.to(),
         input: line.first().unwrap_or("-"),
         output: named(line.output()),
         is_quiet: line.is_quiet(),
@@ -93,13 +78,9 @@ impl<'w> Job<'w> {
         !self.is_quiet && rt.stderr().is_terminal()
     }
 
-    /// Warns where a text comes to a terminal before the whole of it is known to be right.
+    /// Warns where what comes to a terminal is not known to be whole.
     pub fn warn(&self, rt: &HostRuntime) {
-        let comes_whole = match self.task {
-            Task::Sign | Task::Verify => true,
-            _ => false,
-        };
-        if !comes_whole && !self.is_quiet && rt.stdout().is_terminal() {
+        if !self.is_quiet && rt.stdout().is_terminal() {
             let _told = eprintln!(rt;
                 "tink: this goes to the terminal, piece by piece; `-o FILE` writes it whole or not at all"
             );
@@ -122,14 +103,14 @@ impl<'w> Job<'w> {
         }
     }
 
-    // The file of keys that is refused: the second one only where the first one loads.
+    // The file of keys that is refused: that of a new stream only where the first one loads.
     fn refused_keys(&self, rt: &HostRuntime) -> &'w str {
-        match &self.task {
-            Task::Rewrap(to) => match load(rt.alloc(), self.side.keyset.as_slice()) {
-                Ok(_) => to.keys,
-                Err(_) => self.side.keys,
-            },
-            _ => self.side.keys,
+        let Some(new_keys) = self.new_keys else {
+            return self.side.keys;
+        };
+        match load(rt.alloc(), self.side.keyset.as_slice()) {
+            Ok(_) => new_keys,
+            Err(_) => self.side.keys,
         }
     }
 }

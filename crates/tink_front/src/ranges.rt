@@ -1,6 +1,6 @@
 //! The command over a range of a stream's text.
 
-use crate::job::{Job, Task, job_of, named};
+use crate::job::{Job, job_of, named};
 use crate::real_at::RealAt;
 use crate::real_place::RealPlace;
 use crate::trouble::Trouble;
@@ -14,7 +14,7 @@ pub fn range<'w>(rt: &HostRuntime, line: &Line<'w>) -> Result<(), Trouble<'w>> {
     let (Some(start), Some(length)) = (number_of(line.start()), number_of(line.length())) else {
         return Err(Trouble::Usage);
     };
-    let job = job_of(rt, Task::Range, line)?;
+    let job = job_of(rt, line)?;
     if named(Some(job.input)).is_none() {
         return Err(Trouble::Unusable(
             "-",
@@ -46,15 +46,7 @@ fn to_file<'w>(
     let mut place = RealPlace::over(rt, output)?;
     let keyset = job.side.keyset.as_slice();
     let aad = job.side.aad.as_bytes();
-    Ok(range_to(
-        rt.alloc(),
-        keyset,
-        aad,
-        object,
-        start,
-        length,
-        &mut place,
-    ))
+    Ok(range_to(rt.alloc(), keyset, aad, object, start, length, &mut place))
 }
 
 // To standard output, as it comes.
@@ -69,15 +61,7 @@ fn to_output(
     let mut sink = StdSink::new(rt.stdout());
     let keyset = job.side.keyset.as_slice();
     let aad = job.side.aad.as_bytes();
-    run_range(
-        rt.alloc(),
-        keyset,
-        aad,
-        object,
-        start,
-        length,
-        &mut sink,
-    )
+    run_range(rt.alloc(), keyset, aad, object, start, length, &mut sink)
 }
 
 // The number of a word in decimal digits, without a zero before them.

@@ -1,10 +1,10 @@
 //! The commands over streams and tokens.
 
-use crate::job::{Job, Task, job_of, named, side_of};
+use crate::job::{Job, job_of, named, side_of};
 use crate::meter::{Meter, Watched};
 use crate::outside::draws;
 use crate::real_place::RealPlace;
-use crate::tasks::{into_place, into_sink};
+use crate::tasks::{Task, into_place, into_sink};
 use crate::trouble::{Trouble, unreadable};
 use std::fs::{File, OpenFile};
 use std::io::BufReader;
@@ -17,44 +17,49 @@ const ROOM: usize = 65_536;
 
 /// `encrypt -k KEYS [--aad TEXT] [-o OUT] [IN]`
 pub fn encrypt<'w>(rt: &HostRuntime, line: &Line<'w>) -> Result<(), Trouble<'w>> {
-    let job = job_of(rt, Task::Run(Command::Seal), line)?;
-    read_from(rt, &job, draws(rt)?)
+    let job = job_of(rt, line)?;
+    read_from(rt, &Task::Run(Command::Seal), &job, draws(rt)?)
 }
 
 /// `decrypt -k KEYS [--aad TEXT] [-o OUT] [IN]`
 pub fn decrypt<'w>(rt: &HostRuntime, line: &Line<'w>) -> Result<(), Trouble<'w>> {
-    undrawn(rt, Task::Run(Command::Open), line)
+    undrawn(rt, &Task::Run(Command::Open), line)
 }
 
 /// `rewrap -k KEYS [--aad TEXT] -t NEWKEYS [--to-aad TEXT] [-o OUT] [IN]`
 pub fn rewrap<'w>(rt: &HostRuntime, line: &Line<'w>) -> Result<(), Trouble<'w>> {
+    let job = job_of(rt, line)?;
     let to = side_of(rt, line.to(), line.to_aad())?;
-    let job = job_of(rt, Task::Rewrap(to), line)?;
-    read_from(rt, &job, draws(rt)?)
+    read_from(rt, &Task::Rewrap(to), &job, draws(rt)?)
 }
 
 /// `sign -k KEYS [-o OUT] [IN]`
 pub fn sign<'w>(rt: &HostRuntime, line: &Line<'w>) -> Result<(), Trouble<'w>> {
-    undrawn(rt, Task::Sign, line)
+    undrawn(rt, &Task::Sign, line)
 }
 
 /// `verify -k KEYS [-o OUT] [IN]`
 pub fn verify<'w>(rt: &HostRuntime, line: &Line<'w>) -> Result<(), Trouble<'w>> {
-    undrawn(rt, Task::Verify, line)
+    undrawn(rt, &Task::Verify, line)
 }
 
 // A task that draws nothing.
-fn undrawn<'w>(rt: &HostRuntime, task: Task<'w>, line: &Line<'w>) -> Result<(), Trouble<'w>> {
-    let job = job_of(rt, task, line)?;
-    read_from(rt, &job, Draws::new(Vec::new(rt.alloc())))
+fn undrawn<'w>(rt: &HostRuntime, task: &Task<'w>, line: &Line<'w>) -> Result<(), Trouble<'w>> {
+    let job = job_of(rt, line)?;
+    read_from(rt, task, &job, Draws::new(Vec::new(rt.alloc())))
 }
 
 // Takes the input from its file, or from standard input.
-fn read_from<'w>(rt: &HostRuntime, job: &Job<'w>, draws: Draws) -> Result<(), Trouble<'w>> {
+fn read_from<'w>(
+    rt: &HostRuntime,
+    task: &Task<'w>,
+    job: &Job<'w>,
+    draws: Draws,
+) -> Result<(), Trouble<'w>> {
     let may_tell = job.may_tell(rt);
     if named(Some(job.input)).is_none() {
         let meter = Meter::new(rt, None, may_tell);
-        return write_to(rt, job, draws, StdSource::new(rt.stdin()), meter);
+        return write_to(rt, task, job, draws, StdSource::new(rt.stdin()), meter);
     }
     let file = match File::open(rt, job.input) {
         Ok(file) => file,
@@ -62,7 +67,7 @@ fn read_from<'w>(rt: &HostRuntime, job: &Job<'w>, draws: Draws) -> Result<(), Tr
     };
     let meter = Meter::new(rt, size_of(&file), may_tell);
     match BufReader::with_capacity(rt.alloc(), ROOM, file) {
-        Ok(reader) => write_to(rt, job, draws, StdSource::new(reader), meter),
+        Ok(reader) => write_to(rt, task, job, draws, StdSource::new(reader), meter),
         Err(e) => Err(unreadable(job.input, e)),
     }
 }
@@ -78,6 +83,7 @@ fn size_of(file: &File) -> Option<u64> {
 // Gives the output to its file, or to standard output.
 fn write_to<'w, S: Source + Drop>(
     rt: &HostRuntime,
+    task: &Task<'w>,
     job: &Job<'w>,
     draws: Draws,
     source: S,
@@ -93,8 +99,8 @@ fn write_to<'w, S: Source + Drop>(
         meter,
     };
     let answer = match job.output {
-        Some(output) => to_file(rt, job, &mut draws, &mut source, output)?,
-        None => to_output(rt, job, &mut draws, &mut source),
+        Some(output) => to_file(rt, task, job, &mut draws, &mut source, output)?,
+        None => to_output(rt, task, job, &mut draws, &mut source),
     };
     source.meter.end(rt);
     match answer {
@@ -106,23 +112,27 @@ fn write_to<'w, S: Source + Drop>(
 // Into a draft, which is shown where all was done.
 fn to_file<'w, S: Source>(
     rt: &HostRuntime,
+    task: &Task<'w>,
     job: &Job<'w>,
     draws: &mut Draws,
     source: &mut S,
     output: &'w str,
 ) -> Result<Result<(), TinkError>, Trouble<'w>> {
     let mut place = RealPlace::over(rt, output)?;
-    Ok(into_place(rt.alloc(), job, draws, source, &mut place))
+    Ok(into_place(rt.alloc(), task, job, draws, source, &mut place))
 }
 
 // To standard output, as it comes.
 fn to_output<S: Source>(
     rt: &HostRuntime,
+    task: &Task<'_>,
     job: &Job<'_>,
     draws: &mut Draws,
     source: &mut S,
 ) -> Result<(), TinkError> {
-    job.warn(rt);
+    if !task.comes_whole() {
+        job.warn(rt);
+    }
     let mut sink = StdSink::new(rt.stdout());
-    into_sink(rt.alloc(), job, draws, source, &mut sink)
+    into_sink(rt.alloc(), task, job, draws, source, &mut sink)
 }
