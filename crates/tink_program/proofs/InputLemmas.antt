@@ -1,10 +1,9 @@
 -- What a command that holds its input says by its answer, it says by its status.
-use Rattle.std.proofs.Common.{◌≡◌, ◌⊎◌, inl, inr, ◌<◌, ℕ, List, length, true, refl, ap, arith}
-use Rattle.std.specs.Prelude.{Result, Ok, Err, IfErr}
+use Rattle.std.proofs.Common.{◌≡◌, ◌⊎◌, inl, inr, ◌≤◌, ◌<◌, ℕ, List, length, true, refl, ap, arith}
+use Rattle.std.specs.Prelude.{Result, Ok, Err}
 use Rattle.tink_io.specs.Faults.{Rose}
 use Rattle.tink_io.specs.declared.error.Kind.{Kind}
 use Rattle.tink_io.specs.declared.error.Kind.TheVariants.{OutOfMemory, ReadFault, WriteFault, BadKeyset, InvalidKeyset, UnsupportedKeyType, InvalidKey, NoPrimary, WrongPrimitive, UnsupportedHash, UnknownTemplate, NoFreshId, InputTooLong}
-use Rattle.tink_io.specs.declared.error.TinkError.{TinkError}
 use Rattle.tink_run.specs.Outside.{Outside, HasNoFault}
 use Rattle.tink_run.specs.Run.{Told}
 use Rattle.tink_run_tokens.specs.Inputs.{input_limit, HasTooMuch, InputRefused, IsOfInput, IsUnloadable, IsUnwritten, LeavesSink}

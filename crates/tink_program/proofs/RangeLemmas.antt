@@ -1,12 +1,11 @@
 -- What a range says by its answer, it says by its status.
-use Rattle.std.proofs.Common.{◌≡◌, ◌⊎◌, inl, inr, ◌≤◌, ◌<◌, ◌+◌, ◌++◌, ℕ, List, length, true, Some, refl, sym, ap, subst, arith}
-use Rattle.std.specs.Prelude.{Result, Ok, Err, IfErr}
+use Rattle.std.proofs.Common.{◌≡◌, ◌⊎◌, inl, inr, ◌≤◌, ◌<◌, ◌+◌, ◌++◌, ℕ, List, length, true, Some, refl, subst, arith}
+use Rattle.std.specs.Prelude.{Option, Result, Ok, Err, IfErr}
 use Rattle.tink_io.specs.Faults.{Rose}
 use Rattle.tink_io.specs.declared.error.Kind.{Kind}
 use Rattle.tink_io.specs.declared.error.Kind.TheVariants.{OutOfMemory, ReadFault, WriteFault, BadKeyset, InvalidKeyset, UnsupportedKeyType, InvalidKey, NoPrimary, WrongPrimitive, TooManySegments, NoMatchingKey, BadSegment, Truncated, InputTooLong}
 use Rattle.tink_io.specs.declared.error.TinkError.{TinkError}
-use Rattle.stream_model.specs.Agree.{joined}
-use Rattle.stream_model.specs.Opening.{IsChosen, IsStream, OpeningKey}
+use Rattle.stream_model.specs.Opening.{IsChosen, IsStream}
 use Rattle.loading_model.specs.Loading.{Loaded, opening_keys}
 use Rattle.tink_keyset_io.specs.Reading.{LosesAtMost}
 use Rattle.tink_range.proofs.StreamRanges.{gives_slice, under_not_refused}
@@ -16,7 +15,7 @@ use Rattle.tink_run.specs.Run.{CanOpen, Told}
 use Rattle.tink_run.proofs.OpenLemmas.{chosen_lawful}
 use Rattle.tink_run.proofs.RunLemmas.{told_appended}
 use Rattle.tink_run_range.specs.KeysetRanges.{GivesSlice}
-use Rattle.tink_run_tokens.specs.Inputs.{input_limit, InputRefused, IsOfInput, IsReadWhole, IsUnloadable}
+use Rattle.tink_run_tokens.specs.Inputs.{input_limit, InputRefused, IsOfInput, IsUnloadable}
 use Rattle.tink_run_tokens.proofs.ToldLemmas.{not_long, of_loaded, of_told, one_load}
 use Rattle.tink_program.specs.Program.{answer_outcome, kind_status, own_statuses, status_of, IsAmong, IsEarlyKind, Leaves}
 use Rattle.tink_program.specs.Ranges.{IsRangeWhole, IsUnranged, RangeAnswer, RangeOutcome, RangePromises, RangesInput, RefusesRange, SinkAt, StopsRange, moments_of}

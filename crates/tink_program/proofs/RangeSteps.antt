@@ -102,21 +102,53 @@ module _ (keyset aad : List ℕ) (start len : ℕ) where
   not_read old new loaded e loads got faults unread =
       input_unread (load keyset) (RefusesRange aad start len old new) old new loaded e.kind loads (record { got = got; faults = faults }) unread
 
-  -- a range of an input
-  module _ {W : Type 0} (got : W → Option (List ℕ)) (faults : W → ℕ) (left left_after : Option (List ℕ)) (reads reads_after : ℕ) (k l : W) (loaded : Loaded) (input : List ℕ) where
+-- a range of an input
+module _ (aad : List ℕ) (start len : ℕ) {W : Type 0} (got : W → Option (List ℕ)) (faults : W → ℕ) (k l : W) (loaded : Loaded) (input : List ℕ) where
+  abbrev held : Moments W
+  held = record { all = Some input; reads_before = 0; reads_after = 0; old = k; new = l }
+
+  -- an input that is held never fails
+  no_fault : {A : Type 0} → RangesUnderRefused got faults (opening_keys aad loaded) (length input) start len held ReadFault → A
+  no_fault (inl x) = absurd (omega (arith, x.rose))
+  no_fault (inr x) = absurd (omega (arith, x.then.gave.rose))
+
+  -- what is left of the ends
+  sink_left : {O : Type 0} (o p : O) (kind : Kind) → RangesOfRefused got faults (opening_keys aad loaded) (length input) start len held kind
+      → (IsEarly kind → (p ≡ o) × (l ≡ k)) → (WritesNoRange kind → l ≡ k) → IsUnranged kind → l ≡ k
+  sink_left o p OutOfMemory x early none is = (early tt).1
+  sink_left o p ReadFault x early none is = no_fault x
+  sink_left o p NoMatchingKey x early none is = none tt
+  sink_left o p TooManySegments x early none is = none tt
+  sink_left o p (Truncated n) x early none is = none tt
+  sink_left o p WriteFault x early none is = absurd is
+  sink_left o p (BadSegment n) x early none is = absurd is
+  sink_left o p _ x early none is = absurd x
+
+  pub unranged : {O : Type 0} (o p : O) (answer : Result ℕ TinkError) → RangesOf got faults (opening_keys aad loaded) (length input) start len held answer
+      → LeavesRangeEnds answer o p k l → LeavesUnwritten answer k l → IfErr answer (λ e. IsUnranged e.kind → l ≡ k)
+  unranged o p (Ok n) x early none = tt
+  unranged o p (Err e) x early none = sink_left o p e.kind x early none
+
+  not_unloadable : {A : Type 0} (kind : Kind) → RangesOfRefused got faults (opening_keys aad loaded) (length input) start len held kind → IsUnloadable kind → A
+  not_unloadable BadKeyset x is = absurd x
+  not_unloadable InvalidKeyset x is = absurd x
+  not_unloadable UnsupportedKeyType x is = absurd x
+  not_unloadable InvalidKey x is = absurd x
+  not_unloadable NoPrimary x is = absurd x
+  not_unloadable WrongPrimitive x is = absurd x
+  not_unloadable _ x is = absurd is
+
+  pub range_unread : {O : Type 0} (o p : O) (answer : Result ℕ TinkError) → RangesOf got faults (opening_keys aad loaded) (length input) start len held answer
+      → IfErr answer (λ e. IsUnloadable e.kind → p ≡ o)
+  range_unread o p (Ok n) x = tt
+  range_unread o p (Err e) x = λ is. not_unloadable e.kind x is
+
+  module _ (keyset : List ℕ) (left left_after : Option (List ℕ)) (reads reads_after : ℕ) where
     abbrev before : Outside
     before = record { left = left; read_faults = reads; got = got k; write_faults = faults k }
 
     abbrev after : Outside
     after = record { left = left_after; read_faults = reads_after; got = got l; write_faults = faults l }
-
-    abbrev held : Moments W
-    held = record { all = Some input; reads_before = 0; reads_after = 0; old = k; new = l }
-
-    -- an input that is held never fails
-    no_fault : {A : Type 0} → RangesUnderRefused got faults (opening_keys aad loaded) (length input) start len held ReadFault → A
-    no_fault (inl x) = absurd (omega (arith, x.rose))
-    no_fault (inr x) = absurd (omega (arith, x.then.gave.rose))
 
     refused : (kind : Kind) → load keyset ≡ Ok loaded → ReadsInput left left_after input → RangesOfRefused got faults (opening_keys aad loaded) (length input) start len held kind
         → InputRefused (load keyset) (RefusesRange aad start len before after) before after kind
@@ -133,37 +165,6 @@ module _ (keyset aad : List ℕ) (start len : ℕ) where
         → RangeAnswer keyset aad start len before after answer
     ranged (Ok n) loads has x = record { loaded = loaded; loads = loads; input = input; has = has; then = under got faults (opening_keys aad loaded) (length input) start len held n x }
     ranged (Err e) loads has x = refused e.kind loads has x
-
-    -- what is left of the ends
-    sink_left : {O : Type 0} (o p : O) (kind : Kind) → RangesOfRefused got faults (opening_keys aad loaded) (length input) start len held kind
-        → (IsEarly kind → (p ≡ o) × (l ≡ k)) → (WritesNoRange kind → l ≡ k) → IsUnranged kind → l ≡ k
-    sink_left o p OutOfMemory x early none is = (early tt).1
-    sink_left o p ReadFault x early none is = no_fault x
-    sink_left o p NoMatchingKey x early none is = none tt
-    sink_left o p TooManySegments x early none is = none tt
-    sink_left o p (Truncated n) x early none is = none tt
-    sink_left o p WriteFault x early none is = absurd is
-    sink_left o p (BadSegment n) x early none is = absurd is
-    sink_left o p _ x early none is = absurd x
-
-    pub unranged : {O : Type 0} (o p : O) (answer : Result ℕ TinkError) → RangesOf got faults (opening_keys aad loaded) (length input) start len held answer
-        → LeavesRangeEnds answer o p k l → LeavesUnwritten answer k l → IfErr answer (λ e. IsUnranged e.kind → l ≡ k)
-    unranged o p (Ok n) x early none = tt
-    unranged o p (Err e) x early none = sink_left o p e.kind x early none
-
-    not_unloadable : {A : Type 0} (kind : Kind) → RangesOfRefused got faults (opening_keys aad loaded) (length input) start len held kind → IsUnloadable kind → A
-    not_unloadable BadKeyset x is = absurd x
-    not_unloadable InvalidKeyset x is = absurd x
-    not_unloadable UnsupportedKeyType x is = absurd x
-    not_unloadable InvalidKey x is = absurd x
-    not_unloadable NoPrimary x is = absurd x
-    not_unloadable WrongPrimitive x is = absurd x
-    not_unloadable _ x is = absurd is
-
-    pub range_unread : {O : Type 0} (o p : O) (answer : Result ℕ TinkError) → RangesOf got faults (opening_keys aad loaded) (length input) start len held answer
-        → IfErr answer (λ e. IsUnloadable e.kind → p ≡ o)
-    range_unread o p (Ok n) x = tt
-    range_unread o p (Err e) x = λ is. not_unloadable e.kind x is
 
 -- an input that could not be read is refused by no kind by which a keyset does not load
 pub unread_late : {A : Type 0} (left : Option (List ℕ)) (kind : Kind) (before now : ℕ) → IsUnreadText input_limit InputTooLong left kind before now → IsUnloadable kind → A

@@ -16,8 +16,8 @@ use tink_stream_keys::{DerivesStreams, Trial};
 /// memory that was taken before. It answers how many bytes, as `RangeReader::read_range` does.
 ///
 /// # Errors
-/// `NoMatchingKey` where the object begins under none of the keys, `ReadFault` where it failed before one was chosen, both
-/// with nothing written; and those of `RangeReader::read_range`.
+/// `NoMatchingKey` where the object begins under none of the keys, `ReadFault` where it failed before one was chosen,
+/// both with nothing written; and those of `RangeReader::read_range`.
 pub fn range_under<A: ReadAt, T: DerivesStreams, K: Sink, L: Ledger>(
     keys: &[T],
     aad: &[u8],

@@ -12,8 +12,8 @@ use tink_range::ReadAt;
 use tink_run::load::load;
 
 /// Writes the bytes of the text from place `start` on and below `start + len`, as far as there are such, of the stream
-/// that `object` is under the first key of a keyset in the wire format that it begins under, with the associated data. It
-/// answers how many.
+/// that `object` is under the first key of a keyset in the wire format that it begins under, with the associated data.
+/// It answers how many.
 ///
 /// # Errors
 /// The first that applies: the refusals of loading the keyset, `BadKeyset`, `InvalidKeyset`, `UnsupportedKeyType`,
@@ -62,8 +62,8 @@ pub fn run_range<A: ReadAt, K: Sink>(
         })
         result }
 
-    // A refusal that comes before anything was read leaves the ends themselves as they were, and one before anything was
-    // written the sink.
+    // A refusal that comes before anything was read leaves the ends themselves as they were, and one that comes before
+    // anything was written the sink.
     ensures early { LeavesRangeEnds result object.old object.new sink.old sink.new }
     ensures unwritten { LeavesUnwritten result sink.old sink.new }
     ensures kept { KeepsObject A.length_of A.bytes A.faults object.old object.new }

@@ -23,9 +23,9 @@ use tink_streaming_aead::{AES_CTR_HMAC_NONCE_SIZE_IN_BYTES, entries_of, room_of}
 ///
 /// # Errors
 /// `OutOfMemory` before anything was read or written; `NoMatchingKey` where the object begins under no key,
-/// `TooManySegments` where it has more than 2^32 chunks, `Truncated` or `BadSegment` where the last chunk is the segment of
-/// no text, all with nothing written; `BadSegment` of the first touched chunk that is the segment of no text, with the
-/// range's bytes before it written; `ReadFault` and `WriteFault` where an end failed.
+/// `TooManySegments` where it has more than 2^32 chunks, `Truncated` or `BadSegment` where the last chunk is the
+/// segment of no text, all with nothing written; `BadSegment` of the first touched chunk that is the segment of no
+/// text, with the range's bytes before it written; `ReadFault` and `WriteFault` where an end failed.
 pub fn range_of_set<A: ReadAt, K: Sink>(
     alloc: Global,
     set: &TypedPrimitiveSet<StreamKind>,

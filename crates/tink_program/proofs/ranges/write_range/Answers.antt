@@ -33,5 +33,18 @@ returns-in_err-input-clause-unread g c =
 pub returns-clause-answer : goal.returns-clause-answer
 returns-clause-answer g c =
     let loaded = c.in_ok-keys.ensures.answer in
-    ranged _ _ _ _ _ _ _ _ _ _ _ _ loaded.0 _ c.range_of_set.result loaded.1 c.in_ok-input.ensures.input
+    ranged _ _ _ _ _ _ _ loaded.0 _ _ _ _ _ _ c.range_of_set.result loaded.1 c.in_ok-input.ensures.input
     (c.range_of_set.ensures.answer loaded.0 (loaded_usable _ loaded.0 loaded.1).0 loaded.2)
+
+pub returns-clause-unread : goal.returns-clause-unread
+returns-clause-unread g c =
+    let loaded = c.in_ok-keys.ensures.answer in
+    range_unread _ _ _ _ _ _ _ loaded.0 _ _ _ c.range_of_set.result
+    (c.range_of_set.ensures.answer loaded.0 (loaded_usable _ loaded.0 loaded.1).0 loaded.2)
+
+pub returns-clause-unwritten : goal.returns-clause-unwritten
+returns-clause-unwritten g c =
+    let loaded = c.in_ok-keys.ensures.answer in
+    unranged _ _ _ _ _ _ _ loaded.0 _ _ _ c.range_of_set.result
+    (c.range_of_set.ensures.answer loaded.0 (loaded_usable _ loaded.0 loaded.1).0 loaded.2)
+    c.range_of_set.ensures.early c.range_of_set.ensures.unwritten
