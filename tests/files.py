@@ -1,7 +1,11 @@
 """files.py PROGRAM FOLDER ROOT: the commands over files, on real files in FOLDER."""
+import base64
 import hashlib
+import hmac
+import json
 import os
 import pty
+import random
 import re
 import resource
 import signal
@@ -221,6 +225,158 @@ def wrong_files():
     check(read(spaced) == TEXT, "names with spaces")
 
 
+def rewraps():
+    tink("new", "AES128_GCM_HKDF_4KB", "-o", "later.json")
+    for keys in ("keys.json", "keys.bin"):
+        sealed = tink("encrypt", "-k", keys, "--aad", "May", stdin=TEXT)
+        write("old", sealed)
+        write("moved", b"what was there")
+        tink("rewrap", "-k", keys, "--aad", "May", "-t", "later.json", "--to-aad", "June", "-o", "moved", "old")
+        check(mode("moved") == 0o600 and read("old") == sealed, "a moved file")
+        check(tink("decrypt", "-k", "later.json", "--aad", "June", "moved") == TEXT, "a stream is moved")
+        tink("decrypt", "-k", "later.json", "--aad", "May", "moved", status=21)
+        tink("decrypt", "-k", keys, "--aad", "May", "moved", status=21)
+        moved = tink("rewrap", "--keys", keys, "--aad", "May", "--to", "later.json", stdin=sealed)
+        check(tink("decrypt", "-k", "later.json", stdin=moved) == TEXT, "by pipes, and without data where none is given")
+        tink("rewrap", "-k", keys, "--aad", "May", "-t", "later.json", "-o", "old", "old")
+        check(tink("decrypt", "-k", "later.json", "old") == TEXT, "a stream onto itself")
+        for name, data in (("cut", sealed[:-1]), ("flipped", sealed[:-20] + bytes([sealed[-20] ^ 1]) + sealed[-19:])):
+            write(name, data)
+            done = subprocess.run([PROGRAM, "rewrap", "-k", keys, "--aad", "May", "-t", "later.json", "-o", "whole", name], capture_output=True)
+            check(done.returncode in (21, 22, 23) and f"tink: {name}: ".encode() in done.stderr, f"{name}: {done}")
+            check(not os.path.exists("whole") and drafts() == [], "nothing of a damaged stream is shown")
+            done = subprocess.run([PROGRAM, "rewrap", "-k", keys, "--aad", "May", "-t", "later.json", name], capture_output=True)
+            check(done.returncode in (21, 22, 23), f"{name}: {done}")
+            opened = subprocess.run([PROGRAM, "decrypt", "-k", "later.json"], input=done.stdout, capture_output=True)
+            check(opened.returncode in (21, 22, 23), "what is left of it has no end")
+    sealed = tink("encrypt", "-k", "keys.json", stdin=TEXT)
+    write("old", sealed)
+    write("moved", b"what was there")
+    rewrap = ("rewrap", "-o", "moved", "old")
+    tink(*rewrap, "-k", "keys.json", "-t", "prose", status=13, says="prose: bad keyset")
+    tink(*rewrap, "-k", "prose", "-t", "later.json", status=13, says="prose: bad keyset")
+    tink(*rewrap, "-k", "keys.json", "-t", "broken.json", status=30, says="broken.json: bad json")
+    tink(*rewrap, "-k", "keys.json", "-t", "aead.json", status=18, says="aead.json: wrong primitive")
+    tink(*rewrap, "-k", "aead.json", "-t", "later.json", status=18, says="aead.json: wrong primitive")
+    tink(*rewrap, "-k", "keys.json", "-t", "none", status=11, says="none: there is no such file")
+    tink(*rewrap, "-k", "later.json", "-t", "keys.json", status=21, says="old: no key of later.json opens this stream")
+    tink("rewrap", "-k", "keys.json", "-t", "later.json", "-o", "moved", "none", status=11, says="none: there is no such file")
+    tink(*rewrap, "-k", "keys.json", status=2)
+    tink(*rewrap, "-k", "keys.json", "-t", "later.json", "-t", "later.json", status=2)
+    check(read("moved") == b"what was there" and drafts() == [], "a refusal leaves the output")
+    spaced = "a folder with spaces/moved to June"
+    tink("rewrap", "-k", "keys.json", "-t", "later.json", "-o", spaced, "old")
+    check(tink("decrypt", "-k", "later.json", spaced) == TEXT, "names with spaces")
+
+
+def token_of(keys, payload):
+    """The token of a payload by the primary key of a file in JSON, which is one of HMAC-SHA256 with a tag of 16 bytes."""
+    keyset = json.loads(read(keys))
+    key = [key for key in keyset["key"] if key["keyId"] == keyset["primaryKeyId"]][0]
+    value = base64.b64decode(key["keyData"]["value"])
+    body = base64.urlsafe_b64encode(payload).rstrip(b"=")
+    tag = hmac.new(value[-32:], body, "sha256").digest()[:16]
+    mac = b"\x01" + int(key["keyId"]).to_bytes(4, "big") + tag
+    return body + b"." + base64.urlsafe_b64encode(mac).rstrip(b"=")
+
+
+def tokens():
+    tink("new", "HMAC_SHA256_128BITTAG", "-o", "macs.json")
+    tink("new", "HMAC_SHA256_128BITTAG", "-o", "others.bin", "--format", "binary")
+    payload = b"a release, and its sum\n" * 100
+    write("payload", payload)
+    tink("sign", "-k", "macs.json", "-o", "token", "payload")
+    token = read("token")
+    check(mode("token") == 0o600 and token == token_of("macs.json", payload), "a token is that of its bytes")
+    write("given", b"what was there")
+    tink("verify", "-k", "macs.json", "-o", "given", "token")
+    check(read("given") == payload and mode("given") == 0o600, "a payload comes back")
+    check(tink("sign", "--keys", "macs.json", stdin=payload) == token, "by pipes")
+    check(tink("verify", "-k", "macs.json", "-", stdin=token) == payload, "a dash")
+    check(tink("verify", "-k", "others.bin", stdin=tink("sign", "-k", "others.bin", "/dev/null")) == b"", "an empty payload")
+    tink("rotate", "macs.json", "HMAC_SHA256_128BITTAG")
+    check(tink("verify", "-k", "macs.json", "token") == payload, "a rotation keeps its tokens")
+    check(tink("sign", "-k", "macs.json", "payload") == token_of("macs.json", payload) != token, "the new key signs")
+    write("given", b"what was there")
+    verify = ("verify", "-o", "given")
+    tink(*verify, "-k", "others.bin", "token", status=28, says="token: mac mismatch")
+    for place in (0, len(token) // 2, len(token) - 2):
+        changed = bytes([token[place] ^ 1]) if token[place] ^ 1 in b"ABCDEFGHIJKLMNOPQRSTUVWXYZabcdefghijklmnopqrstuvwxyz0123456789-_" else b"Q"
+        write("changed", token[:place] + changed + token[place + 1:])
+        tink(*verify, "-k", "macs.json", "changed", status=28, says="changed: mac mismatch")
+    write("cut", token[:-1])
+    done = subprocess.run([PROGRAM, *verify, "-k", "macs.json", "cut"], capture_output=True)
+    check(done.returncode in (27, 28), f"a cut token: {done}")
+    tink(*verify, "-k", "macs.json", "payload", status=27, says="payload: bad token")
+    tink(*verify, "-k", "macs.json", "/dev/null", status=27, says="bad token")
+    with open("long", "wb") as file:
+        file.truncate(2**24 + 1)
+    tink("sign", "-k", "macs.json", "-o", "given", "long", status=26, says="long: input too long")
+    tink(*verify, "-k", "macs.json", "long", status=26, says="long: input too long")
+    os.remove("long")
+    tink("sign", "-k", "keys.json", "-o", "given", "payload", status=18, says="keys.json: wrong primitive")
+    tink("sign", "-k", "prose", "-o", "given", "payload", status=13, says="prose: bad keyset")
+    tink("encrypt", "-k", "macs.json", "-o", "given", "payload", status=18, says="macs.json: wrong primitive")
+    tink("sign", "-k", "macs.json", "-o", "given", "none", status=11, says="none: there is no such file")
+    tink("sign", "-k", "macs.json", "--aad", "x", "payload", status=2)
+    check(read("given") == b"what was there" and drafts() == [], "a refusal leaves the output")
+    spaced = "a folder with spaces/the token of today"
+    tink("sign", "-k", "macs.json", "-o", spaced, "payload")
+    check(tink("verify", "-k", "macs.json", spaced) == payload, "names with spaces")
+
+
+def ranges():
+    tink("new", "AES256_GCM_HKDF_4KB", "-o", "gcm.json")
+    tink("new", "AES128_CTR_HMAC_SHA256_4KB", "-o", "ctr.json")
+    draw = random.Random(7)
+    for keys in ("gcm.json", "ctr.json", "keys.json"):
+        for size in (0, 1, 4000, len(TEXT)):
+            text = TEXT[:size]
+            write("text of it", text)
+            tink("encrypt", "-k", keys, "--aad", "May", "-o", "sealed", "text of it")
+            places = [(0, 0), (0, 1), (0, size), (1, 2**64 - 1), (2**64 - 1, 2**64 - 1), (size, 1), (size + 1, 1)]
+            if size > 4000:
+                places += [(4055, 2), (4000, 100), (size - 1, 1), (size - 1, 5), (8000, 9000)]
+                places += [(draw.randrange(size), draw.randrange(size)) for _ in range(12)]
+            for start, length in places:
+                given = tink("range", "-k", keys, "--aad", "May", "--start", str(start), "--length", str(length), "sealed")
+                check(given == text[start:start + length], f"{length} bytes from {start} on of {size} under {keys}")
+        write("given", b"what was there")
+        some = ("range", "-k", keys, "--aad", "May", "--start", "5000", "--length", "7000", "-o", "given")
+        tink(*some, "sealed")
+        check(read("given") == TEXT[5000:12000] and mode("given") == 0o600, "a range into a file")
+        sealed = read("sealed")
+        spaced = "a folder with spaces/a sealed one"
+        write(spaced, sealed)
+        check(tink(*some[:-2], spaced) == TEXT[5000:12000], "names with spaces")
+        write("given", b"what was there")
+        for name, data in (("cut", sealed[:-1]), ("short", sealed[:9000]), ("shorter", sealed[:10]), ("nothing", b"")):
+            write(name, data)
+            for extra in (("-o", "given"), ()):
+                done = subprocess.run([PROGRAM, *some[:-2], *extra, name], capture_output=True)
+                check(done.returncode in (21, 22, 23) and done.stdout == b"", f"a cut file gives nothing: {name} {done}")
+        write("flipped", sealed[:6000] + bytes([sealed[6000] ^ 1]) + sealed[6001:])
+        if keys != "keys.json":
+            tink(*some, "flipped", status=22, says="flipped: bad segment 1")
+            check(tink(*some[:5], "--start", "9000", "--length", "9", "flipped") == TEXT[9000:9009], "what it touches")
+        tink(*some[:3], *some[5:], "sealed", status=21, says=f"sealed: no key of {keys} opens this stream")
+        check(read("given") == b"what was there" and drafts() == [], "a refusal leaves the output")
+    some = ("range", "-k", "keys.json", "--aad", "May", "--start", "0", "--length", "9")
+    tink(*some, "-o", "given", "none", status=11, says="none: there is no such file")
+    tink(*some, "-o", "given", "folder", status=11, says="folder: it is no regular file")
+    tink(*some, "/dev/null", status=11, says="no regular file")
+    tink(*some, "-", status=2, says="not from standard input")
+    tink(*some, status=2)
+    tink("range", "-k", "prose", "--start", "0", "--length", "9", "sealed", status=13, says="prose: bad keyset")
+    tink("range", "-k", "macs.json", "--start", "0", "--length", "9", "sealed", status=18, says="macs.json: wrong primitive")
+    for word in ("", "-1", "+1", "01", "00", "1e3", " 1", "0x1", "1.0", str(2**64), "9" * 30):
+        tink("range", "-k", "keys.json", "--start", word, "--length", "9", "sealed", status=2)
+        tink("range", "-k", "keys.json", "--start", "0", "--length", word, "sealed", status=2)
+    tink("range", "-k", "keys.json", "--start", "0", "sealed", status=2)
+    tink("range", "-k", "keys.json", "--length", "0", "sealed", status=2)
+    check(read("given") == b"what was there" and drafts() == [], "a refusal leaves the output")
+
+
 def words():
     check(b"tink encrypt -k KEYS" in tink("help") == tink("--help"), "help")
     check(b"Templates" in tink("help", "new") and b"Templates" in tink("new", "--help"), "help of a command")
@@ -242,18 +398,39 @@ def former_words():
     tink("open", rotated, "-", stdin=sealed[:-1], status=22)
     write("former.bin", bytes.fromhex(rotated))
     check(tink("decrypt", "-k", "former.bin", stdin=sealed) == TEXT, "one format of streams and keysets")
+    other = tink("keygen", "AES256_GCM_HKDF_4KB", "33" * 32).decode().strip()
+    moved = tink("rewrap", rotated, "-", other, "6d61", "44" * 32, stdin=sealed)
+    check(tink("open", other, "6d61", stdin=moved) == TEXT, "rewrap with keysets as words")
+    mac = tink("keygen", "HMAC_SHA256_128BITTAG", "55" * 32).decode().strip()
+    check(tink("verify", mac, stdin=tink("sign", mac, stdin=TEXT)) == TEXT, "sign and verify with a keyset as a word")
+    for line in ("rewrap", "sign", "verify", "range", "sign x", "range a - 1"):
+        tink(*line.split(), status=2, says="usage: ")
+    for line in ("rewrap -k", "sign -q", "verify --no-such", "range --start 0", "rewrap a -k b"):
+        tink(*line.split(), status=2, says="tink help")
 
 
 def full_disks():
+    tink("encrypt", "-k", "keys.json", "-o", "sealed", "text")
+    tink("sign", "-k", "macs.json", "-o", "token", "text")
+    to_full = [
+        ("encrypt", "-k", "keys.json", "text"),
+        ("rewrap", "-k", "keys.json", "-t", "later.json", "sealed"),
+        ("sign", "-k", "macs.json", "payload"),
+        ("verify", "-k", "macs.json", "token"),
+        ("range", "-k", "keys.json", "--start", "9", "--length", "90000", "sealed"),
+    ]
     with open("/dev/full", "wb") as full:
-        done = subprocess.run([PROGRAM, "encrypt", "-k", "keys.json", "text"], stdout=full, stderr=subprocess.PIPE)
-        check(done.returncode == 12 and b"standard output: write fault" in done.stderr, f"a full device: {done}")
+        for command in to_full:
+            done = subprocess.run([PROGRAM, *command], stdout=full, stderr=subprocess.PIPE)
+            check(done.returncode == 12 and b"standard output: write fault" in done.stderr, f"a full device: {done}")
     os.mkdir("small")
     mounted = subprocess.run(["mount", "-t", "tmpfs", "-o", "size=64k", "none", "small"], capture_output=True).returncode == 0
     if mounted:
         write("small/out", b"what was there")
-        tink("encrypt", "-k", "keys.json", "-o", "small/out", "text", status=12, says="small/out: write fault")
-        check(read("small/out") == b"what was there" and os.listdir("small") == ["out"], "a full disk")
+        for command in to_full:
+            if command != ("sign", "-k", "macs.json", "payload"):
+                tink(*command, "-o", "small/out", status=12, says="small/out: write fault")
+                check(read("small/out") == b"what was there" and os.listdir("small") == ["out"], "a full disk")
         tink("new", "AES256_GCM_HKDF_1MB", "-o", "small/keys.json")
         write("small/fill", b"") ; fill = open("small/fill", "wb", buffering=0)
         try:
@@ -271,25 +448,41 @@ def full_disks():
         signal.signal(signal.SIGXFSZ, signal.SIG_IGN)
         resource.setrlimit(resource.RLIMIT_FSIZE, (4096, 4096))
 
-    tink("encrypt", "-k", "keys.json", "-o", "limited", "text", status=12, says="limited: write fault", preexec_fn=limited)
-    check(not os.path.exists("limited") and drafts() == [], "a file that may not grow")
+    for command in to_full:
+        if command != ("sign", "-k", "macs.json", "payload"):
+            tink(*command, "-o", "limited", status=12, says="limited: write fault", preexec_fn=limited)
+            check(not os.path.exists("limited") and drafts() == [], "a file that may not grow")
     return mounted
 
 
 def closed_pipes():
-    for command, data in (("encrypt", TEXT * 20), ("decrypt", tink("encrypt", "-k", "keys.json", stdin=TEXT * 20))):
+    sealed = tink("encrypt", "-k", "keys.json", stdin=TEXT * 20)
+    write("long sealed", sealed)
+    for words, data in (
+        (("encrypt",), TEXT * 20),
+        (("decrypt",), sealed),
+        (("rewrap", "-t", "later.json"), sealed),
+        (("range", "--start", "7", "--length", "2000000", "long sealed"), b""),
+    ):
         end, start = os.pipe()
         os.close(end)
-        run = subprocess.Popen([PROGRAM, command, "-k", "keys.json"], stdin=subprocess.PIPE, stdout=start, stderr=subprocess.PIPE)
+        run = subprocess.Popen([PROGRAM, *words, "-k", "keys.json"], stdin=subprocess.PIPE, stdout=start, stderr=subprocess.PIPE)
         os.close(start)
         _, error = run.communicate(data)
         check(run.returncode == 12 and b"write fault" in error, f"a closed pipe: {run.returncode} {error}")
 
 
 def killed():
+    sealed = tink("encrypt", "-k", "keys.bin", stdin=TEXT)
+    killed_in(["encrypt", "-k", "keys.bin"], TEXT)
+    killed_in(["decrypt", "-k", "keys.bin"], sealed[:-9])
+    killed_in(["rewrap", "-k", "keys.bin", "-t", "later.json"], sealed[:-9])
+
+
+def killed_in(words, data):
     write("killed", b"what was there")
-    run = subprocess.Popen([PROGRAM, "encrypt", "-k", "keys.bin", "-o", "killed"], stdin=subprocess.PIPE)
-    run.stdin.write(TEXT)
+    run = subprocess.Popen([PROGRAM, *words, "-o", "killed"], stdin=subprocess.PIPE)
+    run.stdin.write(data)
     run.stdin.flush()
     for _ in range(200):
         if drafts() and os.path.getsize(drafts()[0]) > 10000:
@@ -369,6 +562,10 @@ def terminals():
     warned = on_terminal(["decrypt", "-k", "keys.json"], "sealed")
     check(b"goes to the terminal" in warned and b"the first line" in warned, "a warning on a terminal")
     check(b"goes to the terminal" not in on_terminal(["decrypt", "-k", "keys.json", "--quiet"], "sealed"), "--quiet")
+    ranged = on_terminal(["range", "-k", "keys.json", "--start", "4", "--length", "5", "sealed"], "/dev/null")
+    check(b"goes to the terminal" in ranged and b"first" in ranged, "a range on a terminal")
+    shown = on_terminal(["sign", "-k", "macs.json", "payload"], "/dev/null")
+    check(shown == tink("sign", "-k", "macs.json", "payload"), "a token on a terminal")
     with open("zeros", "wb") as file:
         file.truncate(400_000_000)
     check(b"MiB/s" in on_terminal(["encrypt", "-k", "keys.json", "-o", "out", "zeros"], "/dev/null"), "progress")
@@ -396,7 +593,7 @@ def documents():
     return tried
 
 
-for case in (key_files, edits, streams, wrapping, damage, wrong_files, words, former_words, closed_pipes, killed, two_at_once, terminals):
+for case in (key_files, edits, streams, damage, wrong_files, rewraps, tokens, ranges, wrapping, words, former_words, closed_pipes, killed, two_at_once, terminals):
     before = CHECKS
     case()
     print(f"{case.__name__}: {CHECKS - before} checks")

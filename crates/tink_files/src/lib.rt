@@ -1,15 +1,20 @@
-//! What the commands over files do, over any place where a file appears: keysets are made and changed, and streams
-//! sealed and opened, and files of keys wrapped and unwrapped, whole or not at all.
+//! What the commands over files do, over any place where a file appears: files of keys are made, changed, wrapped and
+//! unwrapped, streams sealed, opened and moved to other keys, ranges of them read, and tokens signed and verified, whole or
+//! not at all.
 #![tactic(auto)]
 
 mod key_files;
+mod ranges;
 mod refusals;
 mod saved;
 mod streams;
+mod tokens;
 mod wrapping;
 
 pub use key_files::{edit_keys, new_keys, rotate_keys};
+pub use ranges::range_to;
 pub use refusals::advice;
 pub use saved::save_answer;
-pub use streams::run_to;
+pub use streams::{rewrap_to, run_to};
+pub use tokens::{sign_to, verify_to};
 pub use wrapping::{unwrap_keys, wrap_keys};

@@ -24,7 +24,7 @@ pub fn advice(kind: Kind) -> &'static str {
         Kind::NoPrimary =>
             "none of its keys is the primary one and enabled: `tink promote` makes one so",
         Kind::WrongPrimitive =>
-            "it has a key for another use: only keys of streams encrypt files, and only AEADs wrap keys",
+            "it has a key for another use: only keys of streams encrypt files, only MACs sign, and only AEADs wrap keys",
         Kind::UnsupportedHash =>
             "its primary key derives by a hash that no stream takes: rotate it",
         Kind::TooManySegments =>
@@ -33,6 +33,10 @@ pub fn advice(kind: Kind) -> &'static str {
             "no key opens this stream: another keyset, other associated data, or a damaged beginning",
         Kind::BadSegment(_) => "the stream was changed, or two were mixed: take an intact copy",
         Kind::Truncated(_) => "the stream was cut off: take a whole copy",
+        Kind::InputTooLong => "it has more than 16,777,216 bytes: only shorter files are signed",
+        Kind::BadToken => "it is no token: give a whole one that `tink sign` made",
+        Kind::MacMismatch =>
+            "no key accepts this token: it was changed, or signed by the keys of another file",
         Kind::UnknownTemplate => "no template has this name: `tink help new` lists them",
         Kind::NoFreshId => "no unused id was drawn: try again",
         Kind::KeyNotFound => "no key has this id: `tink keys` lists them",

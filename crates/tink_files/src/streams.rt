@@ -1,13 +1,16 @@
-//! Streams are sealed and opened into a place.
+//! Streams, tokens and texts are written into a place.
 
 ghost use Rattle.std.specs.Prelude.{◌≡◌, ℕ, List, true, false, IfOk, OnErr};
 ghost use Rattle.tink_run.specs.Outside.{outside_of};
-ghost use Rattle.tink_run.specs.Run.{Told};
+ghost use Rattle.tink_run.specs.Run.{AnswerMeans, OkMeans, Told};
+ghost use Rattle.tink_rewrap.specs.Promises.{IsWholeRewrap};
+ghost use Rattle.tink_rewrap.specs.Rewrapping.{RewrapMeans, Sides};
 ghost use Rattle.tink_files.specs.Streams.{IsShownWhole, RanAndEnded};
 
 use std::alloc::Global;
 use tink_io::{Draws, Source, TinkError};
 use tink_place::{Place, finish};
+use tink_rewrap::rewrap;
 use tink_run::report::{Command, Report};
 use tink_run::run::run;
 
@@ -27,20 +30,61 @@ pub fn run_to<S: Source, P: Place>(
     requires { P.has_draft place.old ≡ true }
 
     // `run` wrote the draft, and by its answer the draft was shown or taken away.
-    ensures ran { RanAndEnded command keyset.now aad.now draws.old draws.new
+    ensures ran { RanAndEnded P.got P.faults (λ draft answer. AnswerMeans command keyset.now aad.now draws.old draws.new
         (outside_of S.left S.faults P.got P.faults source.old place.old)
-        (S.left source.new) (S.faults source.new) (P.replaces place.old) (P.shown place.old) (P.shown place.new)
-        (P.faults place.new) result }
+        (outside_of S.left S.faults P.got P.faults source.new draft) answer)
+        (P.replaces place.old) (P.shown place.old) (P.shown place.new) (P.faults place.new) result }
 
     // Told bytes: what is shown is the stream of the whole input, or the text of the whole stream that was the input.
-    ensures ok { IfOk result (λ report. (T G : List ℕ)
+    ensures ok { IfOk result (λ report. IsShownWhole P.got (λ draft value. (T G : List ℕ)
         → Told (outside_of S.left S.faults P.got P.faults source.old place.old) T G
-        → IsShownWhole command keyset.now aad.now draws.old draws.new T G
+        → OkMeans command keyset.now aad.now draws.old draws.new T G
+        (outside_of S.left S.faults P.got P.faults source.new draft) value)
         (P.replaces place.old) (P.shown place.old) (P.shown place.new) report) }
     ensures err { OnErr result (P.shown place.new ≡ P.shown place.old) }
     ensures gone { P.has_draft place.new ≡ false }
     ensures source { S.same source.old source.new }
 {
     let answer = run(alloc, command, keyset, aad, draws, source, place);
+    finish(place, answer)
+}
+
+/// Moves a stream from one keyset to another, as `rewrap` of `tink_rewrap`, into a draft, which is shown where all of
+/// it was done, and else taken away.
+///
+/// # Errors
+/// Those of `rewrap`, and `WriteFault` where the draft could not be shown: what was shown stays.
+pub fn rewrap_to<S: Source, P: Place>(
+    alloc: Global,
+    from: &[u8],
+    from_aad: &[u8],
+    to: &[u8],
+    to_aad: &[u8],
+    draws: &mut Draws,
+    source: &mut S,
+    place: &mut P,
+) -> Result<Report, TinkError>
+    requires { P.has_draft place.old ≡ true }
+
+    // `rewrap` wrote the draft, and by its answer the draft was shown or taken away.
+    ensures ran { RanAndEnded P.got P.faults (λ draft answer. RewrapMeans
+        (record { from = from.now; from_aad = from_aad.now; to = to.now; to_aad = to_aad.now })
+        draws.old draws.new (outside_of S.left S.faults P.got P.faults source.old place.old)
+        (outside_of S.left S.faults P.got P.faults source.new draft) answer)
+        (P.replaces place.old) (P.shown place.old) (P.shown place.new) (P.faults place.new) result }
+
+    // Told bytes: what is shown is the stream, under the primary key of the second keyset, of the text of the whole
+    // stream that was the input.
+    ensures ok { IfOk result (λ report. IsShownWhole P.got (λ draft value. (T G : List ℕ)
+        → Told (outside_of S.left S.faults P.got P.faults source.old place.old) T G
+        → IsWholeRewrap
+        (record { from = from.now; from_aad = from_aad.now; to = to.now; to_aad = to_aad.now })
+        draws.old draws.new T G (outside_of S.left S.faults P.got P.faults source.new draft) value)
+        (P.replaces place.old) (P.shown place.old) (P.shown place.new) report) }
+    ensures err { OnErr result (P.shown place.new ≡ P.shown place.old) }
+    ensures gone { P.has_draft place.new ≡ false }
+    ensures source { S.same source.old source.new }
+{
+    let answer = rewrap(alloc, from, from_aad, to, to_aad, draws, source, place);
     finish(place, answer)
 }

@@ -1,4 +1,4 @@
-//! Tests of the commands over files, over memory: words, places, files of keys, and what is saved.
+//! Tests of the commands over files, over memory: words, places, files of keys, and what stands in a place.
 #![tactic(auto)]
 
 #[cfg(test)]
@@ -7,5 +7,7 @@ mod key_file_tests;
 mod place_tests;
 #[cfg(test)]
 mod saving_tests;
+#[cfg(test)]
+mod task_tests;
 #[cfg(test)]
 mod word_tests;

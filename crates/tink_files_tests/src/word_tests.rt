@@ -2,7 +2,7 @@ use std::alloc::Global;
 use tink_words::{Action, parse};
 
 // Lines, and which command each spells.
-const LINES: [(&str, Option<Action>); 22] = [
+const LINES: [(&str, Option<Action>); 33] = [
     ("new AES256_GCM_HKDF_1MB -o keys", Some(Action::New)),
     ("new -o keys --format binary T", Some(Action::New)),
     ("new T", None),
@@ -24,6 +24,20 @@ const LINES: [(&str, Option<Action>); 22] = [
     ("decrypt -k keys --no-such", None),
     ("decrypt -k keys a b", None),
     ("decrypt --help", Some(Action::Decrypt)),
+    (
+        "rewrap -k a --aad x -t b --to-aad y -o c d",
+        Some(Action::Rewrap),
+    ),
+    ("rewrap -k a --to b", Some(Action::Rewrap)),
+    ("rewrap -k a b", None),
+    ("encrypt -k a -t b", None),
+    ("sign -k a b", Some(Action::Sign)),
+    ("verify -k a -o b", Some(Action::Verify)),
+    ("sign -k a --aad x b", None),
+    ("range -k a --start 1 --length 2 b", Some(Action::Range)),
+    ("range -k a --start 1 --length 2", None),
+    ("range -k a --start 1 b", None),
+    ("decrypt -k a --start 1 b", None),
     ("--help", Some(Action::Help)),
     ("help new", Some(Action::Help)),
     ("--version", Some(Action::Version)),

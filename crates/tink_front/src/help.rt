@@ -9,6 +9,9 @@ tink: keys in files, and files encrypted under them
   tink new TEMPLATE -o KEYS [--format json|binary]       make a file with a new key
   tink encrypt -k KEYS [--aad TEXT] [-o OUT] [IN]        encrypt a file
   tink decrypt -k KEYS [--aad TEXT] [-o OUT] [IN]        decrypt it
+  tink rewrap -k KEYS -t NEWKEYS [-o OUT] [IN]           move an encrypted file to other keys
+  tink range -k KEYS --start N --length N [-o OUT] IN    decrypt a range of it
+  tink sign|verify -k KEYS [-o OUT] [IN]                 make a signed token, and take its payload
   tink keys KEYS                                         list the keys of a file
   tink rotate KEYS TEMPLATE                              add a key, by which is encrypted from now on
   tink promote|enable|disable|destroy|delete KEYS ID     change one key
@@ -16,7 +19,7 @@ tink: keys in files, and files encrypted under them
   tink unwrap -k MASTER -o KEYS WRAPPED                  decrypt it
   tink help [COMMAND], tink --version
 
-  tink seal|open|keygen|large, tink rotate KEYSET TEMPLATE SEED
+  tink seal|open|keygen|large, tink rotate KEYSET TEMPLATE SEED, and rewrap, sign, verify and range with no option
                                                          the same over the standard streams, with keys in hexadecimal
 
 From nothing to a restored file:
@@ -32,7 +35,7 @@ Makes a file with one new key, from the system's random bytes. Only you may read
 is never replaced. Keep a copy of it: without it nothing is decrypted again.
 
 Templates for files: AES128_GCM_HKDF_4KB, AES128_GCM_HKDF_1MB, AES128_CTR_HMAC_SHA256_4KB, AES128_CTR_HMAC_SHA256_1MB,
-and the same with AES256. The 1MB ones are for large files.
+and the same with AES256. The 1MB ones are for large files. For `sign`: HMAC_SHA256_128BITTAG.
 
   tink new AES256_GCM_HKDF_1MB -o keys.json
 ";
@@ -61,6 +64,38 @@ secret and is not written: the same has to be given to unwrap.
 
   tink wrap -k master.json -o keys.wrapped keys.json
   tink unwrap -k master.json -o keys.again keys.wrapped
+";
+
+const REWRAP: &str = "\
+tink rewrap -k KEYS [--aad TEXT] -t NEWKEYS [--to-aad TEXT] [-o OUT] [--quiet] [IN]
+
+Decrypts IN by the key of KEYS that encrypted it, and encrypts it by the primary key of NEWKEYS, in one pass: the text is
+written nowhere. IN and OUT are as those of `encrypt`. TEXT behind --to-aad is the associated data of OUT, which has none
+where it is left out.
+
+  tink rewrap -k old.json -t new.json -o moved.tink notes.tink
+";
+
+const RANGE: &str = "\
+tink range -k KEYS [--aad TEXT] [-o OUT] [--quiet] --start N --length N IN
+
+Decrypts a part of what IN encrypts: as many bytes as --length says, from the one with the number of --start on, counted
+from 0, and fewer where the text ends before. IN is a file, of which little more is read. A file that was cut gives
+nothing, and one that was changed nothing but what stands in intact segments.
+
+  tink range -k keys.json --start 1000000 --length 512 notes.tink
+";
+
+const TOKEN: &str = "\
+tink sign -k KEYS [-o OUT] [IN]
+tink verify -k KEYS [-o OUT] [IN]
+
+Makes a token of IN by the primary key of KEYS, and gives the payload of a token that a key of KEYS accepts. Who has the
+token can read its payload; who has the keys sees whether it was changed. IN has 16 MiB at most. The keys are MACs:
+
+  tink new HMAC_SHA256_128BITTAG -o macs.json
+  tink sign -k macs.json -o notes.token notes.txt
+  tink verify -k macs.json notes.token
 ";
 
 const KEYS: &str = "\
@@ -92,6 +127,9 @@ pub fn show(rt: &HostRuntime, action: Option<Action>) -> Result<(), Trouble<'sta
     let text = match action {
         Some(Action::New) => NEW,
         Some(Action::Encrypt | Action::Decrypt) => STREAM,
+        Some(Action::Rewrap) => REWRAP,
+        Some(Action::Range) => RANGE,
+        Some(Action::Sign | Action::Verify) => TOKEN,
         Some(Action::Wrap | Action::Unwrap) => WRAP,
         Some(Action::Keys) => KEYS,
         Some(Action::Rotate) => ROTATE,

@@ -1,12 +1,17 @@
 //! tink: keys in files, and files encrypted under them.
 #![tactic(auto)]
 
+mod gathered;
 mod help;
+mod job;
 mod keys;
 mod meter;
 mod outside;
+mod ranges;
+mod real_at;
 mod real_place;
 mod streams;
+mod tasks;
 mod trouble;
 mod wrapping;
 
@@ -16,7 +21,7 @@ use std::io::ErrorKind;
 use std::process::ExitCode;
 use tink_io::{Kind, StdSink, StdSource};
 use tink_program::program::program;
-use tink_words::{Action, Given, parse};
+use tink_words::{Action, Given, is_option, parse};
 
 fn main(rt: HostRuntime) -> ExitCode {
     match words_of(&rt) {
@@ -41,14 +46,25 @@ fn run(rt: &HostRuntime, words: &Vec<String>) -> u8 {
 
 // Whether the words are those of the program over the streams of the process.
 fn is_of_streams(words: &Vec<String>) -> bool {
-    match words.first() {
-        Some(word) => match word.as_str() {
-            "seal" | "open" | "keygen" | "large" | "rewrap" | "sign" | "verify" => true,
-            "rotate" => words.len() == 4,
-            _ => false,
-        },
-        None => false,
+    let Some(word) = words.first() else {
+        return false;
+    };
+    match word.as_str() {
+        "seal" | "open" | "keygen" | "large" => true,
+        "rotate" => words.len() == 4,
+        "rewrap" | "sign" | "verify" | "range" => !has_option(words),
+        _ => false,
     }
+}
+
+// Whether a word is an option.
+fn has_option(words: &Vec<String>) -> bool {
+    for word in words {
+        if is_option(word.as_str()) {
+            return true;
+        }
+    }
+    false
 }
 
 // Does what the words of that program say.
@@ -70,6 +86,10 @@ fn command<'w>(rt: &HostRuntime, given: &Given<'w>) -> Result<(), Trouble<'w>> {
         Action::Keys => keys::show(rt, line),
         Action::Encrypt => streams::encrypt(rt, line),
         Action::Decrypt => streams::decrypt(rt, line),
+        Action::Rewrap => streams::rewrap(rt, line),
+        Action::Sign => streams::sign(rt, line),
+        Action::Verify => streams::verify(rt, line),
+        Action::Range => ranges::range(rt, line),
         Action::Wrap => wrapping::wrap(rt, line),
         Action::Unwrap => wrapping::unwrap(rt, line),
         Action::Help => help::show(rt, help::topic(line)),

@@ -2,21 +2,22 @@
 
 ghost use Rattle.std.specs.Prelude.{◌≡◌, IfOk, None, true};
 
+use crate::gathered::Gathered;
 use crate::trouble::{Trouble, unwritable};
 use std::fs::{File, OpenFile, OpenOptions};
 use std::os::unix::fs::OpenOptionsExt;
 use std::random::RandomSource;
 use std::{fs, io};
-use tink_io::{Failed, Sink, StdSink};
+use tink_io::{Failed, Sink};
 use tink_place::Place;
 
-/// A draft beside the file that it is to become. Only its owner may read it.
+/// A draft beside the file that it is to become. Only its owner may read it. One that failed is never shown.
 #[derive(Drop)]
 pub struct RealPlace<'a> {
     rt: &'a HostRuntime,
     name: String,
     draft: String,
-    sink: StdSink<File>,
+    sink: Gathered,
     file: File,
     is_drafted: bool,
     is_replacing: bool,
@@ -70,6 +71,30 @@ impl<'a> RealPlace<'a> {
     }
 }
 
+impl<'a> RealPlace<'a> {
+    // Writes what waits, and gives the draft its name.
+    fn end(&mut self) -> Result<(), Failed>
+        ensures drafted { self.new.is_drafted ≡ self.old.is_drafted }
+        ensures replacing { self.new.is_replacing ≡ self.old.is_replacing }
+        ensures faults { self.new.faults ≡ self.old.faults }
+    {
+        if self.faults > 0 {
+            return Err(Failed);
+        }
+        self.sink.flush()?;
+        match put_in_place(
+            self.rt,
+            &self.file,
+            self.draft.as_str(),
+            self.name.as_str(),
+            self.is_replacing,
+        ) {
+            Ok(()) => Ok(()),
+            Err(_) => Err(Failed),
+        }
+    }
+}
+
 // Something else than a file under the name is not replaced.
 fn require_file<'w>(rt: &HostRuntime, name: &'w str) -> Result<(), Trouble<'w>> {
     match fs::metadata(rt, name) {
@@ -114,11 +139,11 @@ fn begin<'a, 'w>(
     ensures { IfOk result (λ p. p.is_drafted ≡ true) }
 {
     match open_twice(rt, draft.as_str()) {
-        Ok((file, other)) => Ok(RealPlace {
+        Ok((file, sink)) => Ok(RealPlace {
             rt,
             name: target,
             draft,
-            sink: StdSink::new(other),
+            sink,
             file,
             is_drafted: true,
             is_replacing,
@@ -133,15 +158,16 @@ fn begin<'a, 'w>(
     }
 }
 
-// A new file that its owner alone may read, and another handle of it.
-fn open_twice(rt: &HostRuntime, path: &str) -> io::Result<(File, File)> {
+// A new file that its owner alone may read, and another handle of it that is written to.
+fn open_twice(rt: &HostRuntime, path: &str) -> io::Result<(File, Gathered)> {
+    let room = Gathered::room(rt.alloc())?;
     let file = OpenOptions::new()
         .write(true)
         .create_new(true)
         .mode(0o600)
         .open(rt, path)?;
     let other = file.try_clone()?;
-    Ok((file, other))
+    Ok((file, Gathered::new(other, room)))
 }
 
 impl<'a> Sink for RealPlace<'a> {
@@ -178,13 +204,7 @@ impl<'a> Place for RealPlace<'a> {
     ghost replaces = { λ p. p.is_replacing };
 
     fn show(&mut self) -> Result<(), Failed> {
-        match put_in_place(
-            self.rt,
-            &self.file,
-            self.draft.as_str(),
-            self.name.as_str(),
-            self.is_replacing,
-        ) {
+        match self.end() {
             Ok(()) => {
                 self.is_drafted = false;
                 Ok(())

@@ -1,84 +1,73 @@
-//! The commands that encrypt and decrypt.
+//! The commands over streams and tokens.
 
+use crate::job::{Job, job_of, named, side_of};
 use crate::meter::{Meter, Watched};
-use crate::outside::{draws, read_keys};
+use crate::outside::draws;
 use crate::real_place::RealPlace;
+use crate::tasks::{Task, into_place, into_sink};
 use crate::trouble::{Trouble, unreadable};
 use std::fs::{File, OpenFile};
-use std::io::IsTerminal;
-use tink_files::run_to;
+use std::io::BufReader;
 use tink_io::{Draws, Kind, Source, StdSink, StdSource, TinkError};
-use tink_key_files::wire_bytes;
-use tink_proto::Bytes;
-use tink_run::report::{Command, Report};
-use tink_run::run::run;
+use tink_run::report::Command;
 use tink_words::Line;
 
-// What is to be done, and the names by which it is told.
-#[derive(Drop)]
-struct Job<'w> {
-    command: Command,
-    keyset: Bytes,
-    aad: &'w str,
-    is_quiet: bool,
-    keys: &'w str,
-    input: &'w str,
-    output: Option<&'w str>,
-}
+// So many bytes of a file are read at once, where less is asked for.
+const ROOM: usize = 65_536;
 
 /// `encrypt -k KEYS [--aad TEXT] [-o OUT] [IN]`
 pub fn encrypt<'w>(rt: &HostRuntime, line: &Line<'w>) -> Result<(), Trouble<'w>> {
-    let job = job_of(rt, Command::Seal, line)?;
-    read_from(rt, &job, draws(rt)?)
+    let job = job_of(rt, line)?;
+    read_from(rt, &Task::Run(Command::Seal), &job, draws(rt)?)
 }
 
 /// `decrypt -k KEYS [--aad TEXT] [-o OUT] [IN]`
 pub fn decrypt<'w>(rt: &HostRuntime, line: &Line<'w>) -> Result<(), Trouble<'w>> {
-    let job = job_of(rt, Command::Open, line)?;
-    read_from(rt, &job, Draws::new(Vec::new(rt.alloc())))
+    undrawn(rt, &Task::Run(Command::Open), line)
 }
 
-// Reads the keys, and what else the words say.
-fn job_of<'w>(rt: &HostRuntime, command: Command, line: &Line<'w>) -> Result<Job<'w>, Trouble<'w>> {
-    let Some(keys) = line.keys() else {
-        return Err(Trouble::Usage);
-    };
-    let file = read_keys(rt, keys)?;
-    let keyset = match wire_bytes(rt.alloc(), file) {
-        Ok(keyset) => keyset,
-        Err(e) => return Err(Trouble::Refused(keys, e.kind)),
-    };
-    Ok(Job {
-        command,
-        keyset,
-        aad: line.aad().unwrap_or(""),
-        is_quiet: line.is_quiet(),
-        keys,
-        input: line.first().unwrap_or("-"),
-        output: named(line.output()),
-    })
+/// `rewrap -k KEYS [--aad TEXT] -t NEWKEYS [--to-aad TEXT] [-o OUT] [IN]`
+pub fn rewrap<'w>(rt: &HostRuntime, line: &Line<'w>) -> Result<(), Trouble<'w>> {
+    let job = job_of(rt, line)?;
+    let to = side_of(rt, line.to(), line.to_aad())?;
+    read_from(rt, &Task::Rewrap(to), &job, draws(rt)?)
 }
 
-// A name of a file; a dash is none.
-fn named(name: Option<&str>) -> Option<&str> {
-    match name {
-        None | Some("-") => None,
-        Some(name) => Some(name),
-    }
+/// `sign -k KEYS [-o OUT] [IN]`
+pub fn sign<'w>(rt: &HostRuntime, line: &Line<'w>) -> Result<(), Trouble<'w>> {
+    undrawn(rt, &Task::Sign, line)
+}
+
+/// `verify -k KEYS [-o OUT] [IN]`
+pub fn verify<'w>(rt: &HostRuntime, line: &Line<'w>) -> Result<(), Trouble<'w>> {
+    undrawn(rt, &Task::Verify, line)
+}
+
+// A task that draws nothing.
+fn undrawn<'w>(rt: &HostRuntime, task: &Task<'w>, line: &Line<'w>) -> Result<(), Trouble<'w>> {
+    let job = job_of(rt, line)?;
+    read_from(rt, task, &job, Draws::new(Vec::new(rt.alloc())))
 }
 
 // Takes the input from its file, or from standard input.
-fn read_from<'w>(rt: &HostRuntime, job: &Job<'w>, draws: Draws) -> Result<(), Trouble<'w>> {
-    let may_tell = !job.is_quiet && rt.stderr().is_terminal();
+fn read_from<'w>(
+    rt: &HostRuntime,
+    task: &Task<'w>,
+    job: &Job<'w>,
+    draws: Draws,
+) -> Result<(), Trouble<'w>> {
+    let may_tell = job.may_tell(rt);
     if named(Some(job.input)).is_none() {
         let meter = Meter::new(rt, None, may_tell);
-        return write_to(rt, job, draws, StdSource::new(rt.stdin()), meter);
+        return write_to(rt, task, job, draws, StdSource::new(rt.stdin()), meter);
     }
-    match File::open(rt, job.input) {
-        Ok(file) => {
-            let meter = Meter::new(rt, size_of(&file), may_tell);
-            write_to(rt, job, draws, StdSource::new(file), meter)
-        }
+    let file = match File::open(rt, job.input) {
+        Ok(file) => file,
+        Err(e) => return Err(unreadable(job.input, e)),
+    };
+    let meter = Meter::new(rt, size_of(&file), may_tell);
+    match BufReader::with_capacity(rt.alloc(), ROOM, file) {
+        Ok(reader) => write_to(rt, task, job, draws, StdSource::new(reader), meter),
         Err(e) => Err(unreadable(job.input, e)),
     }
 }
@@ -94,6 +83,7 @@ fn size_of(file: &File) -> Option<u64> {
 // Gives the output to its file, or to standard output.
 fn write_to<'w, S: Source + Drop>(
     rt: &HostRuntime,
+    task: &Task<'w>,
     job: &Job<'w>,
     draws: Draws,
     source: S,
@@ -109,73 +99,40 @@ fn write_to<'w, S: Source + Drop>(
         meter,
     };
     let answer = match job.output {
-        Some(output) => to_file(rt, job, &mut draws, &mut source, output)?,
-        None => to_output(rt, job, &mut draws, &mut source),
+        Some(output) => to_file(rt, task, job, &mut draws, &mut source, output)?,
+        None => to_output(rt, task, job, &mut draws, &mut source),
     };
     source.meter.end(rt);
     match answer {
-        Ok(_) => Ok(()),
-        Err(e) => Err(blamed(job, e.kind)),
+        Ok(()) => Ok(()),
+        Err(e) => Err(job.blamed(rt, e.kind)),
     }
 }
 
 // Into a draft, which is shown where all was done.
 fn to_file<'w, S: Source>(
     rt: &HostRuntime,
+    task: &Task<'w>,
     job: &Job<'w>,
     draws: &mut Draws,
     source: &mut S,
     output: &'w str,
-) -> Result<Result<Report, TinkError>, Trouble<'w>> {
+) -> Result<Result<(), TinkError>, Trouble<'w>> {
     let mut place = RealPlace::over(rt, output)?;
-    Ok(run_to(
-        rt.alloc(),
-        job.command,
-        job.keyset.as_slice(),
-        job.aad.as_bytes(),
-        draws,
-        source,
-        &mut place,
-    ))
+    Ok(into_place(rt.alloc(), task, job, draws, source, &mut place))
 }
 
 // To standard output, as it comes.
 fn to_output<S: Source>(
     rt: &HostRuntime,
+    task: &Task<'_>,
     job: &Job<'_>,
     draws: &mut Draws,
     source: &mut S,
-) -> Result<Report, TinkError> {
-    if rt.stdout().is_terminal() && !job.is_quiet {
-        let _told = eprintln!(rt;
-            "tink: this goes to the terminal, piece by piece; `-o FILE` writes it whole or not at all"
-        );
+) -> Result<(), TinkError> {
+    if !task.comes_whole() {
+        job.warn(rt);
     }
     let mut sink = StdSink::new(rt.stdout());
-    run(
-        rt.alloc(),
-        job.command,
-        job.keyset.as_slice(),
-        job.aad.as_bytes(),
-        draws,
-        source,
-        &mut sink,
-    )
-}
-
-// A refusal, and the file that it is of.
-fn blamed<'w>(job: &Job<'w>, kind: Kind) -> Trouble<'w> {
-    match kind {
-        Kind::NoMatchingKey => Trouble::NoMatch(input_name(job), job.keys),
-        Kind::ReadFault | Kind::BadSegment(_) | Kind::Truncated(_) | Kind::TooManySegments => {
-            Trouble::Refused(input_name(job), kind)
-        }
-        Kind::WriteFault => Trouble::Refused(job.output.unwrap_or("standard output"), kind),
-        _ => Trouble::Refused(job.keys, kind),
-    }
-}
-
-// How the input is called.
-fn input_name<'w>(job: &Job<'w>) -> &'w str {
-    named(Some(job.input)).unwrap_or("standard input")
+    into_sink(rt.alloc(), task, job, draws, source, &mut sink)
 }

@@ -1,7 +1,7 @@
 //! Which words a command wants.
 
 ghost use Rattle.std.specs.Prelude.{◌≡◌, ◌&&◌, ◌||◌, not, is_some, codes, Some, None};
-ghost use Rattle.tink_words.specs.Forms.{action_of, are_fitting, edit_of, fits, form_of, is_usable};
+ghost use Rattle.tink_words.specs.Forms.{action_of, are_fitting, are_named, are_placed, edit_of, fits, form_of, is_usable, one_word, stream_of, stream_words};
 
 use crate::Line;
 
@@ -28,6 +28,14 @@ pub enum Action {
     Encrypt,
     /// `decrypt -k KEYS [--aad TEXT] [-o OUT] [IN]`
     Decrypt,
+    /// `rewrap -k KEYS [--aad TEXT] -t NEWKEYS [--to-aad TEXT] [-o OUT] [IN]`
+    Rewrap,
+    /// `sign -k KEYS [-o OUT] [IN]`
+    Sign,
+    /// `verify -k KEYS [-o OUT] [IN]`
+    Verify,
+    /// `range -k KEYS [--aad TEXT] [-o OUT] --start N --length N IN`
+    Range,
     /// `wrap -k MASTER -o WRAPPED [--aad TEXT] [--format NAME] KEYS`
     Wrap,
     /// `unwrap -k MASTER -o KEYS [--aad TEXT] [--format NAME] WRAPPED`
@@ -53,6 +61,10 @@ pub(crate) struct Form {
     pub output: Need,
     pub aad: Need,
     pub format: Need,
+    pub to: Need,
+    pub to_aad: Need,
+    pub start: Need,
+    pub length: Need,
     pub first: Need,
     pub second: Need,
 }
@@ -78,17 +90,14 @@ impl Action {
         if let Some(action) = edit_of(name) {
             return Some(action);
         }
+        if let Some(action) = stream_of(name) {
+            return Some(action);
+        }
         if name == "new" {
             return Some(Action::New);
         }
         if name == "keys" {
             return Some(Action::Keys);
-        }
-        if name == "encrypt" {
-            return Some(Action::Encrypt);
-        }
-        if name == "decrypt" {
-            return Some(Action::Decrypt);
         }
         if name == "wrap" {
             return Some(Action::Wrap);
@@ -109,49 +118,35 @@ impl Action {
     fn form(self) -> Form
         ensures { result ≡ form_of self }
     {
-        let none = Form {
-            keys: Need::Never,
-            output: Need::Never,
-            aad: Need::Never,
-            format: Need::Never,
-            first: Need::Never,
-            second: Need::Never,
-        };
         match self {
             Action::New => Form {
                 output: Need::Must,
                 format: Need::May,
-                first: Need::Must,
-                ..none
+                ..one_word(Need::Must)
             },
-            Action::Keys => Form {
-                first: Need::Must,
-                ..none
+            Action::Keys => one_word(Need::Must),
+            Action::Encrypt | Action::Decrypt => stream_words(Need::May, Need::May),
+            Action::Rewrap => Form {
+                to: Need::Must,
+                to_aad: Need::May,
+                ..stream_words(Need::May, Need::May)
             },
-            Action::Encrypt | Action::Decrypt => Form {
-                keys: Need::Must,
-                output: Need::May,
-                aad: Need::May,
-                first: Need::May,
-                ..none
+            Action::Sign | Action::Verify => stream_words(Need::Never, Need::May),
+            Action::Range => Form {
+                start: Need::Must,
+                length: Need::Must,
+                ..stream_words(Need::May, Need::Must)
             },
             Action::Wrap | Action::Unwrap => Form {
-                keys: Need::Must,
                 output: Need::Must,
-                aad: Need::May,
                 format: Need::May,
-                first: Need::Must,
-                ..none
+                ..stream_words(Need::May, Need::Must)
             },
-            Action::Help => Form {
-                first: Need::May,
-                ..none
-            },
-            Action::Version => none,
+            Action::Help => one_word(Need::May),
+            Action::Version => one_word(Need::Never),
             _ => Form {
-                first: Need::Must,
                 second: Need::Must,
-                ..none
+                ..one_word(Need::Must)
             },
         }
     }
@@ -161,6 +156,36 @@ impl Action {
         ensures { result ≡ is_usable self line.now }
     {
         !line.is_bad() && (line.asks_help() || are_fitting(self.form(), line))
+    }
+}
+
+// Up to one word beside the options, of which there is none.
+fn one_word(first: Need) -> Form
+    ensures { result ≡ one_word first }
+{
+    Form {
+        keys: Need::Never,
+        output: Need::Never,
+        aad: Need::Never,
+        format: Need::Never,
+        to: Need::Never,
+        to_aad: Need::Never,
+        start: Need::Never,
+        length: Need::Never,
+        first,
+        second: Need::Never,
+    }
+}
+
+// A file of keys, an input and an output.
+fn stream_words(aad: Need, first: Need) -> Form
+    ensures { result ≡ stream_words aad first }
+{
+    Form {
+        keys: Need::Must,
+        output: Need::May,
+        aad,
+        ..one_word(first)
     }
 }
 
@@ -189,9 +214,41 @@ fn edit_of(name: &str) -> Option<Action>
     None
 }
 
+// The command of a name that reads or writes a stream or a token.
+fn stream_of(name: &str) -> Option<Action>
+    ensures { result ≡ stream_of name.now }
+{
+    if name == "encrypt" {
+        return Some(Action::Encrypt);
+    }
+    if name == "decrypt" {
+        return Some(Action::Decrypt);
+    }
+    if name == "rewrap" {
+        return Some(Action::Rewrap);
+    }
+    if name == "sign" {
+        return Some(Action::Sign);
+    }
+    if name == "verify" {
+        return Some(Action::Verify);
+    }
+    if name == "range" {
+        return Some(Action::Range);
+    }
+    None
+}
+
 // Whether the words are those of a form.
 fn are_fitting(form: Form, line: &Line<'_>) -> bool
     ensures { result ≡ are_fitting form line.now }
+{
+    are_named(form, line) && are_placed(form, line)
+}
+
+// Whether the options that several commands take, and the words beside them, are those of a form.
+fn are_named(form: Form, line: &Line<'_>) -> bool
+    ensures { result ≡ are_named form line.now }
 {
     form.keys.fits(line.keys().is_some())
         && form.output.fits(line.output().is_some())
@@ -199,4 +256,14 @@ fn are_fitting(form: Form, line: &Line<'_>) -> bool
         && form.format.fits(line.format().is_some())
         && form.first.fits(line.first().is_some())
         && form.second.fits(line.second().is_some())
+}
+
+// Whether the options of a new stream and of a range are those of a form.
+fn are_placed(form: Form, line: &Line<'_>) -> bool
+    ensures { result ≡ are_placed form line.now }
+{
+    form.to.fits(line.to().is_some())
+        && form.to_aad.fits(line.to_aad().is_some())
+        && form.start.fits(line.start().is_some())
+        && form.length.fits(line.length().is_some())
 }

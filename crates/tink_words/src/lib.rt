@@ -7,4 +7,4 @@ mod reading;
 
 pub use commands::{Given, parse};
 pub use form::Action;
-pub use reading::{Line, Slot};
+pub use reading::{Line, Slot, is_option};

@@ -1,7 +1,7 @@
 //! The words behind a command's name, one after another.
 
 ghost use Rattle.std.specs.Prelude.{◌≡◌, ◌==◌, ◌&&◌, ◌||◌, not, Bool, true, false, ℕ, List, codes, Some, None, is_some, option_map};
-ghost use Rattle.tink_words.specs.Lines.{is_option, slot_of, step, with_operand, with_value};
+ghost use Rattle.tink_words.specs.Lines.{is_option, slot_of, step, value_of, with_operand, with_value};
 
 use std::marker::Model;
 
@@ -16,6 +16,14 @@ pub enum Slot {
     Aad,
     /// `--format NAME`
     Format,
+    /// `-t FILE`
+    To,
+    /// `--to-aad TEXT`
+    ToAad,
+    /// `--start N`
+    Start,
+    /// `--length N`
+    Length,
 }
 
 /// What the words behind a command's name say. A contract sees the texts.
@@ -26,6 +34,10 @@ pub struct Line<'w> {
     output: Option<&'w str>,
     aad: Option<&'w str>,
     format: Option<&'w str>,
+    to: Option<&'w str>,
+    to_aad: Option<&'w str>,
+    start: Option<&'w str>,
+    length: Option<&'w str>,
     first: Option<&'w str>,
     second: Option<&'w str>,
     quiet: bool,
@@ -35,9 +47,9 @@ pub struct Line<'w> {
 
 impl<'w> Model for Line<'w> {
     ghost use Rattle.std.specs.Prelude.{option_map};
-    ghost use Rattle.tink_words.specs.Lines.{Read};
+    ghost use Rattle.tink_words.specs.Lines.{LineRead};
 
-    ghost Value = { Read };
+    ghost Value = { LineRead };
 
     ghost view = { λ l. record {
       next = l.next;
@@ -45,6 +57,10 @@ impl<'w> Model for Line<'w> {
       output = option_map (λ s. s.now) l.output;
       aad = option_map (λ s. s.now) l.aad;
       format = option_map (λ s. s.now) l.format;
+      to = option_map (λ s. s.now) l.to;
+      to_aad = option_map (λ s. s.now) l.to_aad;
+      start = option_map (λ s. s.now) l.start;
+      length = option_map (λ s. s.now) l.length;
       first = option_map (λ s. s.now) l.first;
       second = option_map (λ s. s.now) l.second;
       quiet = l.quiet;
@@ -66,6 +82,10 @@ impl<'w> Line<'w> {
             output: None,
             aad: None,
             format: None,
+            to: None,
+            to_aad: None,
+            start: None,
+            length: None,
             first: None,
             second: None,
             quiet: false,
@@ -100,6 +120,34 @@ impl<'w> Line<'w> {
         ensures { option_map (λ s. s.now) result ≡ self.now.format }
     {
         self.format
+    }
+
+    /// The file of keys of a new stream.
+    pub fn to(&self) -> Option<&'w str>
+        ensures { option_map (λ s. s.now) result ≡ self.now.to }
+    {
+        self.to
+    }
+
+    /// The associated data of a new stream.
+    pub fn to_aad(&self) -> Option<&'w str>
+        ensures { option_map (λ s. s.now) result ≡ self.now.to_aad }
+    {
+        self.to_aad
+    }
+
+    /// Where a range begins.
+    pub fn start(&self) -> Option<&'w str>
+        ensures { option_map (λ s. s.now) result ≡ self.now.start }
+    {
+        self.start
+    }
+
+    /// How long a range is.
+    pub fn length(&self) -> Option<&'w str>
+        ensures { option_map (λ s. s.now) result ≡ self.now.length }
+    {
+        self.length
     }
 
     /// The first word that is no option and no option's value.
@@ -172,28 +220,38 @@ impl<'w> Line<'w> {
     fn with_value(self, slot: Slot, word: &'w str) -> Line<'w>
         ensures { result ≡ with_value self.entry slot word.now }
     {
-        let line = Line { next: None, ..self };
+        let is_bad = self.is_bad || self.value(slot).is_some();
+        let mut line = Line {
+            next: None,
+            is_bad,
+            ..self
+        };
         match slot {
-            Slot::Keys => Line {
-                keys: Some(word),
-                is_bad: line.is_bad || line.keys.is_some(),
-                ..line
-            },
-            Slot::Output => Line {
-                output: Some(word),
-                is_bad: line.is_bad || line.output.is_some(),
-                ..line
-            },
-            Slot::Aad => Line {
-                aad: Some(word),
-                is_bad: line.is_bad || line.aad.is_some(),
-                ..line
-            },
-            Slot::Format => Line {
-                format: Some(word),
-                is_bad: line.is_bad || line.format.is_some(),
-                ..line
-            },
+            Slot::Keys => line.keys = Some(word),
+            Slot::Output => line.output = Some(word),
+            Slot::Aad => line.aad = Some(word),
+            Slot::Format => line.format = Some(word),
+            Slot::To => line.to = Some(word),
+            Slot::ToAad => line.to_aad = Some(word),
+            Slot::Start => line.start = Some(word),
+            Slot::Length => line.length = Some(word),
+        }
+        line
+    }
+
+    // The value of an option.
+    fn value(&self, slot: Slot) -> Option<&'w str>
+        ensures { option_map (λ s. s.now) result ≡ value_of self.now slot }
+    {
+        match slot {
+            Slot::Keys => self.keys,
+            Slot::Output => self.output,
+            Slot::Aad => self.aad,
+            Slot::Format => self.format,
+            Slot::To => self.to,
+            Slot::ToAad => self.to_aad,
+            Slot::Start => self.start,
+            Slot::Length => self.length,
         }
     }
 
@@ -231,12 +289,17 @@ fn slot_of(word: &str) -> Option<Slot>
         "--output" => Some(Slot::Output),
         "--aad" => Some(Slot::Aad),
         "--format" => Some(Slot::Format),
+        "-t" => Some(Slot::To),
+        "--to" => Some(Slot::To),
+        "--to-aad" => Some(Slot::ToAad),
+        "--start" => Some(Slot::Start),
+        "--length" => Some(Slot::Length),
         _ => None,
     }
 }
 
-// A word that begins with a dash, and is more.
-fn is_option(word: &str) -> bool
+/// Whether a word begins with a dash, and is more.
+pub fn is_option(word: &str) -> bool
     ensures { result ≡ is_option word.now }
 {
     let bytes = word.as_bytes();

@@ -1,11 +1,18 @@
-use Rattle.tink_files.proofs.StreamLemmas.{shown_whole}
+use Rattle.tink_files.proofs.StreamLemmas.{ran_and_ended, shown_whole}
 use Rattle.tink_files.proofs.streams.run_to.Goals as goal
+
+pub returns-clause-ran : goal.returns-clause-ran
+returns-clause-ran g c =
+    let place = c.args.place.now in
+    let draft = c.run-answer.new.sink in
+    let same = c.run-answer.ensures.sink in
+    ran_and_ended _ _ _ draft _ _ _ _ _ _ c.run-answer.result c.finish.result (g.met.P.Place.same_replaces place draft same)
+    (g.met.P.Place.same_shown place draft same) c.run-answer.ensures.answer c.finish.ensures.ends
 
 pub returns-clause-ok : goal.returns-clause-ok
 returns-clause-ok g c =
     let place = c.args.place.now in
-    let sink = c.run-answer.new.sink in
+    let draft = c.run-answer.new.sink in
     let same = c.run-answer.ensures.sink in
-    shown_whole c.args.command c.args.keyset.now c.args.aad.now c.args.draws.now c.run-answer.new.draws _ _ _ _ _ _ _ _ _
-    c.run-answer.result c.finish.result (g.met.P.Place.same_replaces place sink same)
-    (g.met.P.Place.same_shown place sink same) c.run-answer.ensures.ok c.finish.ensures.ends
+    shown_whole _ _ draft _ _ _ _ _ _ _ c.run-answer.result c.finish.result (g.met.P.Place.same_replaces place draft same)
+    (g.met.P.Place.same_shown place draft same) c.run-answer.ensures.ok c.finish.ensures.ends

@@ -1,0 +1,116 @@
+//! What the words of a command over a stream or a token say, and how its refusals are told.
+
+use crate::outside::read_keys;
+use crate::trouble::Trouble;
+use std::io::IsTerminal;
+use tink_io::Kind;
+use tink_key_files::wire_bytes;
+use tink_proto::Bytes;
+use tink_run::load::load;
+use tink_words::Line;
+
+/// A keyset and its associated data, and the file that it is in.
+#[derive(Drop)]
+pub struct Side<'w> {
+    pub keyset: Bytes,
+    pub aad: &'w str,
+    pub keys: &'w str,
+}
+
+/// The keys, and the names of what is read and written.
+#[derive(Drop)]
+pub struct Job<'w> {
+    pub side: Side<'w>,
+    pub new_keys: Option<&'w str>,
+    pub input: &'w str,
+    pub output: Option<&'w str>,
+    pub is_quiet: bool,
+}
+
+/// What the words of a command say. Its keys are read.
+pub fn job_of<'w>(rt: &HostRuntime, line: &Line<'w>) -> Result<Job<'w>, Trouble<'w>> {
+    let side = side_of(rt, line.keys(), line.aad())?;
+    Ok(Job {
+        side,
+        new_keys: line.to(),
+        input: line.first().unwrap_or("-"),
+        output: named(line.output()),
+        is_quiet: line.is_quiet(),
+    })
+}
+
+/// Reads a file of keys.
+pub fn side_of<'w>(
+    rt: &HostRuntime,
+    keys: Option<&'w str>,
+    aad: Option<&'w str>,
+) -> Result<Side<'w>, Trouble<'w>> {
+    let Some(keys) = keys else {
+        return Err(Trouble::Usage);
+    };
+    let file = read_keys(rt, keys)?;
+    match wire_bytes(rt.alloc(), file) {
+        Ok(keyset) => Ok(Side {
+            keyset,
+            aad: aad.unwrap_or(""),
+            keys,
+        }),
+        Err(e) => Err(Trouble::Refused(keys, e.kind)),
+    }
+}
+
+/// A name of a file; a dash is none.
+pub fn named(name: Option<&str>) -> Option<&str> {
+    match name {
+        None | Some("-") => None,
+        Some(name) => Some(name),
+    }
+}
+
+impl<'w> Job<'w> {
+    /// How the input is called.
+    pub fn input_name(&self) -> &'w str {
+        named(Some(self.input)).unwrap_or("standard input")
+    }
+
+    /// Whether progress may be told.
+    pub fn may_tell(&self, rt: &HostRuntime) -> bool {
+        !self.is_quiet && rt.stderr().is_terminal()
+    }
+
+    /// Warns where what comes to a terminal is not known to be whole.
+    pub fn warn(&self, rt: &HostRuntime) {
+        if !self.is_quiet && rt.stdout().is_terminal() {
+            let _told = eprintln!(rt;
+                "tink: this goes to the terminal, piece by piece; `-o FILE` writes it whole or not at all"
+            );
+        }
+    }
+
+    /// A refusal, and the file that it is of.
+    pub fn blamed(&self, rt: &HostRuntime, kind: Kind) -> Trouble<'w> {
+        match kind {
+            Kind::NoMatchingKey => Trouble::NoMatch(self.input_name(), self.side.keys),
+            Kind::ReadFault
+            | Kind::BadSegment(_)
+            | Kind::Truncated(_)
+            | Kind::TooManySegments
+            | Kind::InputTooLong
+            | Kind::BadToken
+            | Kind::MacMismatch => Trouble::Refused(self.input_name(), kind),
+            Kind::WriteFault => Trouble::Refused(self.output.unwrap_or("standard output"), kind),
+            _ => Trouble::Refused(self.refused_keys(rt), kind),
+        }
+    }
+
+    // The file of keys that is refused: that of a new stream only where the first one loads.
+    fn refused_keys(&self, rt: &HostRuntime) -> &'w str {
+        let Some(new_keys) = self.new_keys else {
+            return self.side.keys;
+        };
+        match load(rt.alloc(), self.side.keyset.as_slice()) {
+            Ok(_) => new_keys,
+            Err(_) => self.side.keys,
+        }
+    }
+}

@@ -1,0 +1,75 @@
+//! The command over a range of a stream's text.
+
+use crate::job::{Job, job_of, named};
+use crate::real_at::RealAt;
+use crate::real_place::RealPlace;
+use crate::trouble::Trouble;
+use tink_files::range_to;
+use tink_io::{StdSink, TinkError};
+use tink_run_range::run_range;
+use tink_words::Line;
+
+/// `range -k KEYS [--aad TEXT] [-o OUT] --start N --length N IN`
+pub fn range<'w>(rt: &HostRuntime, line: &Line<'w>) -> Result<(), Trouble<'w>> {
+    let (Some(start), Some(length)) = (number_of(line.start()), number_of(line.length())) else {
+        return Err(Trouble::Usage);
+    };
+    let job = job_of(rt, line)?;
+    if named(Some(job.input)).is_none() {
+        return Err(Trouble::Unusable(
+            "-",
+            "a range is read from a file, and not from standard input",
+            2,
+        ));
+    }
+    let mut object = RealAt::open(rt, job.input, length, job.may_tell(rt))?;
+    let answer = match job.output {
+        Some(output) => to_file(rt, &job, &mut object, start, length, output)?,
+        None => to_output(rt, &job, &mut object, start, length),
+    };
+    object.end();
+    match answer {
+        Ok(_) => Ok(()),
+        Err(e) => Err(job.blamed(rt, e.kind)),
+    }
+}
+
+// Into a draft, which is shown where all was done.
+fn to_file<'w>(
+    rt: &HostRuntime,
+    job: &Job<'w>,
+    object: &mut RealAt,
+    start: u64,
+    length: u64,
+    output: &'w str,
+) -> Result<Result<u64, TinkError>, Trouble<'w>> {
+    let mut place = RealPlace::over(rt, output)?;
+    let keyset = job.side.keyset.as_slice();
+    let aad = job.side.aad.as_bytes();
+    Ok(range_to(rt.alloc(), keyset, aad, object, start, length, &mut place))
+}
+
+// To standard output, as it comes.
+fn to_output(
+    rt: &HostRuntime,
+    job: &Job<'_>,
+    object: &mut RealAt,
+    start: u64,
+    length: u64,
+) -> Result<u64, TinkError> {
+    job.warn(rt);
+    let mut sink = StdSink::new(rt.stdout());
+    let keyset = job.side.keyset.as_slice();
+    let aad = job.side.aad.as_bytes();
+    run_range(rt.alloc(), keyset, aad, object, start, length, &mut sink)
+}
+
+// The number of a word in decimal digits, without a zero before them.
+fn number_of(word: Option<&str>) -> Option<u64> {
+    let word = word?;
+    match word.as_bytes() {
+        [b'0'] => Some(0),
+        [b'1'..=b'9', ..] => word.parse::<u64>().ok(),
+        _ => None,
+    }
+}
