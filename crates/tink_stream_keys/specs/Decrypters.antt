@@ -49,7 +49,7 @@ pub record OpensBehind (k : OpeningKey) (nonce : ℕ) (held : List ℕ) (seg : �
   pub nonce_is : nonce_bytes ≡ nonce
 
 -- the key's sizes: of a nonce, of the first and of each later segment, and by how much a segment is longer than its text
-pub record HasSizesOf (k : StreamKey) (nonce_bytes over first size : ℕ) : Type 0 where
+pub record HasKeySizes (k : StreamKey) (nonce_bytes over first size : ℕ) : Type 0 where
   pub nonce_is : nonce_bytes ≡ nonce_size k
   pub overhead_is : over ≡ overhead k
   pub first_is : first ≡ first_segment k
