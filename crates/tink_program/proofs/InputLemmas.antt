@@ -1,5 +1,5 @@
 -- What a command that holds its input says by its answer, it says by its status.
-use Rattle.std.proofs.Common.{◌≡◌, ◌⊎◌, inl, inr, ◌≤◌, ◌<◌, ℕ, List, length, true, refl, ap, arith}
+use Rattle.std.proofs.Common.{◌≡◌, ◌⊎◌, inl, inr, ◌≤◌, ℕ, List, length, true, refl, ap, arith}
 use Rattle.std.specs.Prelude.{Result, Ok, Err}
 use Rattle.tink_io.specs.Faults.{Rose}
 use Rattle.tink_io.specs.declared.error.Kind.{Kind}
@@ -26,7 +26,7 @@ module _ {L : Type 0} (loading : Result L Kind) (Refuses : Outside → Outside �
 
   pub refusal_leaves : {S K : Type 0} (old new : Outside) (kind : Kind) (s t : S) (k l : K) → InputRefused loading (Refuses old new) old new kind
       → (IsUnloadable kind → t ≡ s) → (IsUnwritten kind → l ≡ k)
-      → (IsEarlyKind kind → t ≡ s) × ((IsUnwrittenKind kind → l ≡ k) × (kind ≡ OutOfMemory → (true ≡ true) ⊎ (t ≡ s)))
+      → (IsEarlyKind kind → t ≡ s) × (IsUnwrittenKind kind → l ≡ k) × (kind ≡ OutOfMemory → (true ≡ true) ⊎ (t ≡ s))
   refusal_leaves old new kind s t k l m unread unwritten = (
     λ is. unread (early old new kind m is),
     λ none. unwritten (unwritten_kinds kind none),

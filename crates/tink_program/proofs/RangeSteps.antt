@@ -56,6 +56,7 @@ module _ {W : Type 0} (got : W → Option (List ℕ)) (faults : W → ℕ) where
     gave_range n g = record { few = g.few; checked = g.checked; gave = gave_all n g.gave }
 
     gave_front : (before after : ℕ) → GaveFrontOfRange got faults c behind start len e before after → GaveFrontOfRange got_at faults_at c behind start len (told e) before after
+    unfolding gave_some
     gave_front before after g = record { few = g.few; gave = gave_some before after g.gave; checked = g.checked }
 
     at_last : (n : ℕ) (P : ℕ → Type 0) → StopsAtLast got faults c behind start len e n P → StopsAtLast got_at faults_at c behind start len (told e) n P
@@ -112,6 +113,14 @@ module _ (aad : List ℕ) (start len : ℕ) {W : Type 0} (got : W → Option (Li
   no_fault (inl x) = absurd (omega (arith, x.rose))
   no_fault (inr x) = absurd (omega (arith, x.then.gave.rose))
 
+  -- of data and an object that are these
+  pub of_equal : (d object : List ℕ) (answer : Result ℕ TinkError) → d ≡ aad → object ≡ input
+      → RangesOf got faults (opening_keys d loaded) (length object) start len (record { all = Some object; reads_before = 0; reads_after = 0; old = k; new = l }) answer
+      → RangesOf got faults (opening_keys aad loaded) (length input) start len held answer
+  of_equal d object answer about same x =
+      subst (λ i. RangesOf got faults (opening_keys aad loaded) (length i) start len (record { all = Some i; reads_before = 0; reads_after = 0; old = k; new = l }) answer) same
+      (subst (λ a. RangesOf got faults (opening_keys a loaded) (length object) start len (record { all = Some object; reads_before = 0; reads_after = 0; old = k; new = l }) answer) about x)
+
   -- what is left of the ends
   sink_left : {O : Type 0} (o p : O) (kind : Kind) → RangesOfRefused got faults (opening_keys aad loaded) (length input) start len held kind
       → (IsEarly kind → (p ≡ o) × (l ≡ k)) → (WritesNoRange kind → l ≡ k) → IsUnranged kind → l ≡ k
@@ -167,7 +176,7 @@ module _ (aad : List ℕ) (start len : ℕ) {W : Type 0} (got : W → Option (Li
     ranged (Err e) loads has x = refused e.kind loads has x
 
 -- an input that could not be read is refused by no kind by which a keyset does not load
-pub unread_late : {A : Type 0} (left : Option (List ℕ)) (kind : Kind) (before now : ℕ) → IsUnreadText input_limit InputTooLong left kind before now → IsUnloadable kind → A
-unread_late left kind before now (inl (inl want)) is = absurd (subst (λ k. IsUnloadable k) want is)
-unread_late left kind before now (inl (inr fault)) is = absurd (subst (λ k. IsUnloadable k) fault.0 is)
-unread_late left kind before now (inr long) is = absurd (subst (λ k. IsUnloadable k) long.0 is)
+pub unread_late : {A : Type 0} (left : Option (List ℕ)) (kind : Kind) (m n : ℕ) → IsUnreadText input_limit InputTooLong left kind m n → IsUnloadable kind → A
+unread_late left kind m n (inl (inl want)) is = absurd (subst (λ k. IsUnloadable k) want is)
+unread_late left kind m n (inl (inr fault)) is = absurd (subst (λ k. IsUnloadable k) fault.0 is)
+unread_late left kind m n (inr long) is = absurd (subst (λ k. IsUnloadable k) long.0 is)

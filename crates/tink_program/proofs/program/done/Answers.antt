@@ -33,15 +33,15 @@ returns-in-Range-clause-promised g c =
 
 pub returns-in-Sign-clause-means : goal.returns-in-Sign-clause-means
 returns-in-Sign-clause-means g c =
-    rw (c.in-Sign.is, c.outcome_of-in-Sign.ensures) (token_outcome SignsTo RefusesSigning _ _ _ c.write_token.result (rw c.deref-in-Sign.ensures.value at c.write_token.ensures.answer))
+    rw (c.in-Sign.is, c.outcome_of-in-Sign.ensures) (token_outcome SignsTo RefusesSigning _ _ _ c.write_token.result (rw c.deref.ensures.value at c.write_token.ensures.answer))
 
 pub returns-in-Sign-clause-early : goal.returns-in-Sign-clause-early
 returns-in-Sign-clause-early g c =
-    rw (c.in-Sign.is, c.outcome_of-in-Sign.ensures) (sign_leaves _ _ _ c.write_token.result _ _ _ _ (rw c.deref-in-Sign.ensures.value at c.write_token.ensures.answer) c.write_token.ensures.unread c.write_token.ensures.unwritten)
+    rw (c.in-Sign.is, c.outcome_of-in-Sign.ensures) (sign_leaves _ _ _ c.write_token.result _ _ _ _ (rw c.deref.ensures.value at c.write_token.ensures.answer) c.write_token.ensures.unread c.write_token.ensures.unwritten)
 
 pub returns-in-Sign-clause-promised : goal.returns-in-Sign-clause-promised
 returns-in-Sign-clause-promised g c =
-    rw (c.in-Sign.is, c.outcome_of-in-Sign.ensures) (sign_promised _ _ _ _ (token_outcome SignsTo RefusesSigning _ _ _ c.write_token.result (rw c.deref-in-Sign.ensures.value at c.write_token.ensures.answer)) c.write_token.ensures.taken)
+    rw (c.in-Sign.is, c.outcome_of-in-Sign.ensures) (sign_promised _ _ _ _ (token_outcome SignsTo RefusesSigning _ _ _ c.write_token.result (rw c.deref.ensures.value at c.write_token.ensures.answer)) c.write_token.ensures.taken)
 
 pub returns-in-Verify-clause-means : goal.returns-in-Verify-clause-means
 returns-in-Verify-clause-means g c =

@@ -2,7 +2,7 @@ use Rattle.std.proofs.Common.{refl}
 use Rattle.std.proofs.lemmas.Result.{err_from_is_err_and}
 use Rattle.tink_run.proofs.RowFacts.{loaded_usable}
 use Rattle.tink_run_tokens.proofs.InputSteps.{none_taken}
-use Rattle.tink_program.proofs.RangeSteps.{keys_not_loaded, not_read, range_unread, ranged, unranged, unread_late}
+use Rattle.tink_program.proofs.RangeSteps.{keys_not_loaded, not_read, of_equal, range_unread, ranged, unranged, unread_late}
 use Rattle.tink_program.proofs.ranges.write_range.Goals as goal
 
 -- the keyset does not load
@@ -10,7 +10,7 @@ use Rattle.tink_program.proofs.ranges.write_range.Goals as goal
 pub returns-in_err-keys-clause-answer : goal.returns-in_err-keys-clause-answer
 returns-in_err-keys-clause-answer g c =
     let p = err_from_is_err_and c.from_residual.result c.from_residual.ensures.1 in
-    rw (p.1, p.2) (keys_not_loaded _ _ _ _ _ c.in_err-keys.field-0.0 c.in_err-keys.ensures.answer)
+    rw (p.1, p.2) (keys_not_loaded _ _ _ _ _ c.in_err-keys.field-0.0 (rw c.deref.ensures.value at c.in_err-keys.ensures.answer))
 
 pub returns-in_err-keys-clause-taken : goal.returns-in_err-keys-clause-taken
 returns-in_err-keys-clause-taken g c = none_taken _
@@ -20,7 +20,7 @@ returns-in_err-keys-clause-taken g c = none_taken _
 pub returns-in_err-input-clause-answer : goal.returns-in_err-input-clause-answer
 returns-in_err-input-clause-answer g c =
     let p = err_from_is_err_and c.from_residual-in_err-input.result c.from_residual-in_err-input.ensures.1 in
-    let loaded = c.in_ok-keys.ensures.answer in
+    let loaded = rw c.deref.ensures.value at c.in_ok-keys.ensures.answer in
     rw (p.1, p.2) (not_read _ _ _ _ _ _ loaded.0 c.in_err-input.field-0.0 loaded.1 refl refl c.in_err-input.ensures.refused)
 
 pub returns-in_err-input-clause-unread : goal.returns-in_err-input-clause-unread
@@ -32,19 +32,19 @@ returns-in_err-input-clause-unread g c =
 
 pub returns-clause-answer : goal.returns-clause-answer
 returns-clause-answer g c =
-    let loaded = c.in_ok-keys.ensures.answer in
+    let loaded = rw c.deref.ensures.value at c.in_ok-keys.ensures.answer in
     ranged _ _ _ _ _ _ _ loaded.0 _ _ _ _ _ _ c.range_of_set.result loaded.1 c.in_ok-input.ensures.input
-    (c.range_of_set.ensures.answer loaded.0 (loaded_usable _ loaded.0 loaded.1).0 loaded.2)
+    (of_equal _ _ _ _ _ _ _ loaded.0 _ _ _ c.range_of_set.result c.deref-2.ensures.value c.new-object.ensures (c.range_of_set.ensures.answer loaded.0 (loaded_usable _ loaded.0 loaded.1).0 loaded.2))
 
 pub returns-clause-unread : goal.returns-clause-unread
 returns-clause-unread g c =
-    let loaded = c.in_ok-keys.ensures.answer in
+    let loaded = rw c.deref.ensures.value at c.in_ok-keys.ensures.answer in
     range_unread _ _ _ _ _ _ _ loaded.0 _ _ _ c.range_of_set.result
-    (c.range_of_set.ensures.answer loaded.0 (loaded_usable _ loaded.0 loaded.1).0 loaded.2)
+    (of_equal _ _ _ _ _ _ _ loaded.0 _ _ _ c.range_of_set.result c.deref-2.ensures.value c.new-object.ensures (c.range_of_set.ensures.answer loaded.0 (loaded_usable _ loaded.0 loaded.1).0 loaded.2))
 
 pub returns-clause-unwritten : goal.returns-clause-unwritten
 returns-clause-unwritten g c =
-    let loaded = c.in_ok-keys.ensures.answer in
+    let loaded = rw c.deref.ensures.value at c.in_ok-keys.ensures.answer in
     unranged _ _ _ _ _ _ _ loaded.0 _ _ _ c.range_of_set.result
-    (c.range_of_set.ensures.answer loaded.0 (loaded_usable _ loaded.0 loaded.1).0 loaded.2)
+    (of_equal _ _ _ _ _ _ _ loaded.0 _ _ _ c.range_of_set.result c.deref-2.ensures.value c.new-object.ensures (c.range_of_set.ensures.answer loaded.0 (loaded_usable _ loaded.0 loaded.1).0 loaded.2))
     c.range_of_set.ensures.early c.range_of_set.ensures.unwritten
