@@ -69,9 +69,9 @@ secret and is not written: the same has to be given to unwrap.
 const REWRAP: &str = "\
 tink rewrap -k KEYS [--aad TEXT] -t NEWKEYS [--to-aad TEXT] [-o OUT] [--quiet] [IN]
 
-Decrypts IN by the key of KEYS that encrypted it, and encrypts it by the primary key of NEWKEYS, in one pass: the text is
-written nowhere. IN and OUT are as those of `encrypt`. TEXT behind --to-aad is the associated data of OUT, which has none
-where it is left out.
+Decrypts IN by the key of KEYS that encrypted it, and encrypts it by the primary key of NEWKEYS, in one pass: the text
+is written nowhere. IN and OUT are as those of `encrypt`. TEXT behind --to-aad is the associated data of OUT, which has
+none where it is left out.
 
   tink rewrap -k old.json -t new.json -o moved.tink notes.tink
 ";
