@@ -6,18 +6,18 @@ use Rattle.tink_io.specs.declared.error.Kind.{Kind}
 use Rattle.tink_io.specs.declared.error.Kind.TheVariants.{OutOfMemory, ReadFault, WriteFault, RandomFault, BadKeyset, InvalidKeyset, UnsupportedKeyType, InvalidKey, NoPrimary, WrongPrimitive, UnsupportedHash, TooManySegments, NoMatchingKey, BadSegment, Truncated, UnknownTemplate, NoFreshId, InputTooLong, BadToken, MacMismatch}
 use Rattle.tink_io.specs.declared.error.TinkError.{TinkError}
 use Rattle.tink_run.specs.Outside.{Outside, IsUntouched}
-use Rattle.tink_run.specs.Run.{IsEarly, LeavesEnds}
+use Rattle.tink_run.specs.Run.{IsEarly, LeavesEnds, LeavesSinkItself, WritesNothing}
 use Rattle.tink_run.specs.declared.report.Report.{Report}
 use Rattle.tink_rewrap.specs.Rewrapping.{RewrapMeans, RewrapsLoaded, Sides}
 use Rattle.tink_rewrap.proofs.PromiseSteps.{complete, unended}
 use Rattle.tink_program.specs.Draws.{draws_in}
-use Rattle.tink_program.specs.Program.{answer_outcome, kind_status, own_statuses, refused_statuses, status_by, status_of, IsAmong, IsUnwrittenKind, Leaves}
+use Rattle.tink_program.specs.Program.{answer_outcome, kind_status, own_statuses, refused_statuses, status_by, status_of, IsAmong, IsEarlyKind, IsUnwrittenKind, Leaves}
 use Rattle.tink_program.specs.Streams.{IsUnmovable, Moved, MovesWhole, RewrapOutcome, RewrapPromises}
 use Rattle.tink_program.specs.Words.Asked.{Rewrapping}
 use Rattle.tink_program.specs.declared.program.Outcome.{Outcome}
 use Rattle.tink_program.specs.declared.program.Outcome.TheVariants.{Done, Usage, Refused}
 use Rattle.tink_program.proofs.StatusLemmas.{above_2, sink_left, CommandFacts}
-use Rattle.tink_program.proofs.StreamLemmas.{draws_suffice, not_loaded, ok_or_want, one_refusal, unwritten_early}
+use Rattle.tink_program.proofs.StreamLemmas.{draws_suffice, not_loaded, ok_or_want, one_refusal}
 
 -- ---- from the rewrap to the outcome
 
@@ -33,25 +33,31 @@ rewrap_outcome sides seed old new (Ok report) moved = (report, (moved.left_draws
 rewrap_outcome sides seed old new (Err e) moved = refused_outcome sides seed moved.left_draws old new e.kind moved.means
 
 -- a rewrap refuses by none of the kinds of other commands
-early_rewrap : (sides : Sides) (draws left_draws : List ℕ) (old new : Outside) (kind : Kind) → RewrapMeans sides draws left_draws old new (Err (record { kind = kind })) → IsUnwrittenKind kind → IsEarly kind
+early_rewrap : (sides : Sides) (draws left_draws : List ℕ) (old new : Outside) (kind : Kind) → RewrapMeans sides draws left_draws old new (Err (record { kind = kind })) → IsEarlyKind kind → IsEarly kind
 early_rewrap sides draws left_draws old new UnknownTemplate m early = absurd m
 early_rewrap sides draws left_draws old new NoFreshId m early = absurd m
-early_rewrap sides draws left_draws old new InputTooLong m early = absurd m
-early_rewrap sides draws left_draws old new BadToken m early = absurd m
-early_rewrap sides draws left_draws old new MacMismatch m early = absurd m
+early_rewrap sides draws left_draws old new OutOfMemory m early = tt
 early_rewrap sides draws left_draws old new RandomFault m early = tt
 early_rewrap sides draws left_draws old new _ m early = early
 
+unwritten_rewrap : (sides : Sides) (draws left_draws : List ℕ) (old new : Outside) (kind : Kind) → RewrapMeans sides draws left_draws old new (Err (record { kind = kind })) → IsUnwrittenKind kind → WritesNothing kind
+unwritten_rewrap sides draws left_draws old new UnknownTemplate m none = absurd m
+unwritten_rewrap sides draws left_draws old new NoFreshId m none = absurd m
+unwritten_rewrap sides draws left_draws old new InputTooLong m none = absurd m
+unwritten_rewrap sides draws left_draws old new BadToken m none = absurd m
+unwritten_rewrap sides draws left_draws old new MacMismatch m none = absurd m
+unwritten_rewrap sides draws left_draws old new RandomFault m none = tt
+unwritten_rewrap sides draws left_draws old new _ m none = none
+
 -- an outcome leaves what its answer leaves
 pub rewrap_leaves : {S K : Type 0} (sides : Sides) (draws : List ℕ) (old new : Outside) (answer : Result Report TinkError) (s t : S) (k l : K)
-    → Moved sides draws old new answer → LeavesEnds answer s t k l → Leaves false (λ kind. IsUnwrittenKind kind) (answer_outcome answer) s t k l
-rewrap_leaves sides draws old new (Ok report) s t k l moved h = tt
-rewrap_leaves sides draws old new (Err e) s t k l moved h =
-    let early = early_rewrap sides draws moved.left_draws old new e.kind moved.means in (
-      λ is. (h (early (unwritten_early e.kind is))).0,
-      λ is. (h (early is)).1,
-      λ is. inr (h (early (rw is tt))).0,
-    )
+    → Moved sides draws old new answer → LeavesEnds answer s t k l → LeavesSinkItself answer k l → Leaves false (λ kind. IsUnwrittenKind kind) (answer_outcome answer) s t k l
+rewrap_leaves sides draws old new (Ok report) s t k l moved h unwritten = tt
+rewrap_leaves sides draws old new (Err e) s t k l moved h unwritten = (
+  λ is. (h (early_rewrap sides draws moved.left_draws old new e.kind moved.means is)).0,
+  λ is. unwritten (unwritten_rewrap sides draws moved.left_draws old new e.kind moved.means is),
+  λ is. inr (h (rw is tt)).0,
+)
 
 -- ---- what a status says
 

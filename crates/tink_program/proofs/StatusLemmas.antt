@@ -110,6 +110,7 @@ early_kind _ is = absurd (cc is)
 
 unwritten_kind : (kind : Kind) → IsAmong unwritten_statuses (kind_status kind) → IsUnwrittenKind kind
 unwritten_kind OutOfMemory is = tt
+unwritten_kind NoMatchingKey is = tt
 unwritten_kind InputTooLong is = tt
 unwritten_kind BadToken is = tt
 unwritten_kind MacMismatch is = tt
@@ -136,7 +137,6 @@ unwritten_by _ kind unwritten = unwritten
 
 -- nor by the kinds of these statuses
 unranged_by : (a : Asked) (kind : Kind) → is_ranging a ≡ true → IsAmong unranged_statuses (kind_status kind) → IsUnwrittenBy a kind
-unranged_by (Ranging keyset aad start len) NoMatchingKey is among = tt
 unranged_by (Ranging keyset aad start len) TooManySegments is among = tt
 unranged_by (Ranging keyset aad start len) (Truncated n) is among = tt
 unranged_by (Ranging keyset aad start len) _ is among = absurd (cc among)

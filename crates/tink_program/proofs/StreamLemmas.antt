@@ -13,7 +13,7 @@ use Rattle.stream_model.specs.Key.{IsUsable}
 use Rattle.stream_model.specs.Sealing.{drawn}
 use Rattle.tink_run.specs.AllKeys.{load}
 use Rattle.tink_run.specs.Outside.{Outside, IsUntouched}
-use Rattle.tink_run.specs.Run.{AnswerMeans, IsEarly, IsOkOrWant, LeavesEnds}
+use Rattle.tink_run.specs.Run.{AnswerMeans, IsEarly, IsOkOrWant, LeavesEnds, LeavesSinkItself, WritesNothing}
 use Rattle.tink_run.specs.declared.report.Command.{Command}
 use Rattle.tink_run.specs.declared.report.Command.TheVariants.{Seal, Open}
 use Rattle.tink_run.specs.declared.report.Report.{Report}
@@ -69,39 +69,44 @@ open_outcome keyset aad old new (Err e) ran = open_refused keyset aad ran.left_d
 
 -- a run refuses by none of the kinds of other commands
 early_run : (command : Command) (keyset aad draws left_draws : List ℕ) (old new : Outside) (kind : Kind) → AnswerMeans command keyset aad draws left_draws old new (Err (record { kind = kind }))
-    → IsUnwrittenKind kind → IsEarly kind
+    → IsEarlyKind kind → IsEarly kind
 early_run Seal keyset aad draws left_draws old new UnknownTemplate m early = absurd m
 early_run Seal keyset aad draws left_draws old new NoFreshId m early = absurd m
-early_run Seal keyset aad draws left_draws old new InputTooLong m early = absurd m
-early_run Seal keyset aad draws left_draws old new BadToken m early = absurd m
-early_run Seal keyset aad draws left_draws old new MacMismatch m early = absurd m
+early_run Seal keyset aad draws left_draws old new OutOfMemory m early = tt
 early_run Seal keyset aad draws left_draws old new RandomFault m early = tt
 early_run Seal keyset aad draws left_draws old new _ m early = early
 early_run Open keyset aad draws left_draws old new UnknownTemplate m early = absurd m.0
 early_run Open keyset aad draws left_draws old new NoFreshId m early = absurd m.0
-early_run Open keyset aad draws left_draws old new InputTooLong m early = absurd m.0
-early_run Open keyset aad draws left_draws old new BadToken m early = absurd m.0
-early_run Open keyset aad draws left_draws old new MacMismatch m early = absurd m.0
+early_run Open keyset aad draws left_draws old new OutOfMemory m early = tt
 early_run Open keyset aad draws left_draws old new RandomFault m early = tt
 early_run Open keyset aad draws left_draws old new _ m early = early
 
-pub unwritten_early : (kind : Kind) → IsEarlyKind kind → IsUnwrittenKind kind
-unwritten_early OutOfMemory early = tt
-unwritten_early InputTooLong early = tt
-unwritten_early BadToken early = tt
-unwritten_early MacMismatch early = tt
-unwritten_early _ early = early
+unwritten_run : (command : Command) (keyset aad draws left_draws : List ℕ) (old new : Outside) (kind : Kind) → AnswerMeans command keyset aad draws left_draws old new (Err (record { kind = kind }))
+    → IsUnwrittenKind kind → WritesNothing kind
+unwritten_run Seal keyset aad draws left_draws old new UnknownTemplate m none = absurd m
+unwritten_run Seal keyset aad draws left_draws old new NoFreshId m none = absurd m
+unwritten_run Seal keyset aad draws left_draws old new InputTooLong m none = absurd m
+unwritten_run Seal keyset aad draws left_draws old new BadToken m none = absurd m
+unwritten_run Seal keyset aad draws left_draws old new MacMismatch m none = absurd m
+unwritten_run Seal keyset aad draws left_draws old new RandomFault m none = tt
+unwritten_run Seal keyset aad draws left_draws old new _ m none = none
+unwritten_run Open keyset aad draws left_draws old new UnknownTemplate m none = absurd m.0
+unwritten_run Open keyset aad draws left_draws old new NoFreshId m none = absurd m.0
+unwritten_run Open keyset aad draws left_draws old new InputTooLong m none = absurd m.0
+unwritten_run Open keyset aad draws left_draws old new BadToken m none = absurd m.0
+unwritten_run Open keyset aad draws left_draws old new MacMismatch m none = absurd m.0
+unwritten_run Open keyset aad draws left_draws old new RandomFault m none = tt
+unwritten_run Open keyset aad draws left_draws old new _ m none = none
 
 -- an outcome leaves what its answer leaves
 pub leaves_by : {S K : Type 0} (command : Command) (keyset aad draws : List ℕ) (old new : Outside) (answer : Result Report TinkError) (s t : S) (k l : K)
-    → Ran command keyset aad draws old new answer → LeavesEnds answer s t k l → Leaves false (λ kind. IsUnwrittenKind kind) (answer_outcome answer) s t k l
-leaves_by command keyset aad draws old new (Ok report) s t k l ran h = tt
-leaves_by command keyset aad draws old new (Err e) s t k l ran h =
-    let early = early_run command keyset aad draws ran.left_draws old new e.kind ran.means in (
-      λ is. (h (early (unwritten_early e.kind is))).0,
-      λ is. (h (early is)).1,
-      λ is. inr (h (early (rw is tt))).0,
-    )
+    → Ran command keyset aad draws old new answer → LeavesEnds answer s t k l → LeavesSinkItself answer k l → Leaves false (λ kind. IsUnwrittenKind kind) (answer_outcome answer) s t k l
+leaves_by command keyset aad draws old new (Ok report) s t k l ran h unwritten = tt
+leaves_by command keyset aad draws old new (Err e) s t k l ran h unwritten = (
+  λ is. (h (early_run command keyset aad draws ran.left_draws old new e.kind ran.means is)).0,
+  λ is. unwritten (unwritten_run command keyset aad draws ran.left_draws old new e.kind ran.means is),
+  λ is. inr (h (rw is tt)).0,
+)
 
 -- ---- what a status says
 

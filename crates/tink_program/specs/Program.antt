@@ -210,11 +210,11 @@ early_statuses = 2 ∷ 13 ∷ 14 ∷ 15 ∷ 16 ∷ 17 ∷ 18 ∷ 19 ∷ 24 ∷ 2
 
 -- the statuses of a command that has written nothing
 abbrev pub unwritten_statuses : List ℕ
-unwritten_statuses = 10 ∷ 26 ∷ 27 ∷ 28 ∷ early_statuses
+unwritten_statuses = 10 ∷ 21 ∷ 26 ∷ 27 ∷ 28 ∷ early_statuses
 
 -- the statuses of a range that has written nothing besides
 abbrev pub unranged_statuses : List ℕ
-unranged_statuses = 20 ∷ 21 ∷ 23 ∷ []
+unranged_statuses = 20 ∷ 23 ∷ []
 
 abbrev pub is_ranging : Asked → Bool
 is_ranging (Ranging keyset aad start len) = true
@@ -246,6 +246,7 @@ IsEarlyKind _ = ⊥
 
 abbrev pub IsUnwrittenKind : Kind → Type 0
 IsUnwrittenKind OutOfMemory = Unit {0}
+IsUnwrittenKind NoMatchingKey = Unit {0}
 IsUnwrittenKind InputTooLong = Unit {0}
 IsUnwrittenKind BadToken = Unit {0}
 IsUnwrittenKind MacMismatch = Unit {0}

@@ -66,8 +66,8 @@ pub fn program<S: Source, K: Sink, E: Sink>(
         (outside_of S.left S.faults K.got K.faults source.old sink.old)
         (outside_of S.left S.faults K.got K.faults source.new sink.new) result }
 
-    // The ends themselves: a status of 2, 13 to 19, 24 or 25 leaves both as they were, and one of 10 or 26 to 28 the
-    // sink; one of 10 the source too, unless the command reads before it writes.
+    // The ends themselves: a status of 2, 13 to 19, 24 or 25 leaves both as they were, and one of 10, 21 or 26 to 28
+    // the sink, of a range one of 20 or 23 too; one of 10 the source too, unless the command reads before it writes.
     ensures early { KeepsEnds (words_of words.now) result source.old source.new sink.old sink.new }
 
     // A command that makes a keyset, or measures a large text, leaves the source itself as it was.
@@ -166,7 +166,8 @@ fn done<S: Source, K: Sink>(alloc: Global, parsed: Parsed, source: &mut S, sink:
         (outside_of S.left S.faults K.got K.faults source.old sink.old)
         (outside_of S.left S.faults K.got K.faults source.new sink.new)
         result }
-    ensures early { Leaves (reads_first (asked_of parsed)) (λ kind. IsUnwrittenBy (asked_of parsed) kind) result source.old source.new sink.old sink.new }
+    ensures early { Leaves (reads_first (asked_of parsed)) (λ kind. IsUnwrittenBy (asked_of parsed) kind) result
+        source.old source.new sink.old sink.new }
     ensures kept { takes_no_input (asked_of parsed) ≡ true → source.new ≡ source.old }
     ensures promised { Promises (asked_of parsed)
         (outside_of S.left S.faults K.got K.faults source.old sink.old)

@@ -2,7 +2,7 @@ use Rattle.std.proofs.Common.{refl}
 use Rattle.tink_program.proofs.KeysetLemmas.{keyset_promised, line_outcome}
 use Rattle.tink_program.proofs.RangeLemmas.{range_leaves, range_outcome, range_promised}
 use Rattle.tink_program.proofs.RewrapLemmas.{rewrap_leaves, rewrap_outcome, rewrap_promised}
-use Rattle.tink_program.proofs.StreamLemmas.{open_promised, seal_outcome, seal_promised}
+use Rattle.tink_program.proofs.StreamLemmas.{leaves_by, open_promised, seal_outcome, seal_promised}
 use Rattle.tink_program.proofs.TokenLemmas.{sign_leaves, sign_promised, token_outcome, verify_leaves, verify_promised}
 use Rattle.tink_run_tokens.specs.Tokens.{RefusesSigning, RefusesVerifying, SignsTo, VerifiesTo}
 use Rattle.tink_program.proofs.program.done.Goals as goal
@@ -12,6 +12,14 @@ returns-in-Seal-clause-means g c = rw (c.in-Seal.is, c.outcome_of.ensures) (seal
 
 pub returns-in-Seal-clause-promised : goal.returns-in-Seal-clause-promised
 returns-in-Seal-clause-promised g c = rw (c.in-Seal.is, c.outcome_of.ensures) (seal_promised _ _ _ _ _ c.run_seal.result c.run_seal.ensures.ran)
+
+pub returns-in-Seal-clause-early : goal.returns-in-Seal-clause-early
+returns-in-Seal-clause-early g c =
+    rw (c.in-Seal.is, c.outcome_of.ensures) (leaves_by _ _ _ _ _ _ c.run_seal.result _ _ _ _ c.run_seal.ensures.ran c.run_seal.ensures.early c.run_seal.ensures.unwritten)
+
+pub returns-in-Open-clause-early : goal.returns-in-Open-clause-early
+returns-in-Open-clause-early g c =
+    rw (c.in-Open.is, c.outcome_of-in-Open.ensures) (leaves_by _ _ _ _ _ _ c.run_open.result _ _ _ _ c.run_open.ensures.ran c.run_open.ensures.early c.run_open.ensures.unwritten)
 
 pub returns-in-Open-clause-promised : goal.returns-in-Open-clause-promised
 returns-in-Open-clause-promised g c = rw (c.in-Open.is, c.outcome_of-in-Open.ensures) (open_promised _ _ _ _ c.run_open.result c.run_open.ensures.ran)
@@ -60,7 +68,7 @@ returns-in-Rewrap-clause-means g c = rw (c.in-Rewrap.is, c.outcome_of-in-Rewrap.
 
 pub returns-in-Rewrap-clause-early : goal.returns-in-Rewrap-clause-early
 returns-in-Rewrap-clause-early g c =
-    rw (c.in-Rewrap.is, c.outcome_of-in-Rewrap.ensures) (rewrap_leaves _ _ _ _ c.run_rewrap.result _ _ _ _ c.run_rewrap.ensures.moved c.run_rewrap.ensures.early)
+    rw (c.in-Rewrap.is, c.outcome_of-in-Rewrap.ensures) (rewrap_leaves _ _ _ _ c.run_rewrap.result _ _ _ _ c.run_rewrap.ensures.moved c.run_rewrap.ensures.early c.run_rewrap.ensures.unwritten)
 
 pub returns-in-Rewrap-clause-promised : goal.returns-in-Rewrap-clause-promised
 returns-in-Rewrap-clause-promised g c = rw (c.in-Rewrap.is, c.outcome_of-in-Rewrap.ensures) (rewrap_promised _ _ _ _ c.run_rewrap.result c.run_rewrap.ensures.moved)
