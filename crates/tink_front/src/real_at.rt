@@ -1,6 +1,6 @@
 //! A file of the system as an object that is read in any place. It tells no bytes.
 
-ghost use Rattle.std.specs.Prelude.{◌≡◌, ◌≤◌, ◌-◌, length, None, IfOk};
+ghost use Rattle.std.specs.Prelude.{◌≡◌, ◌≤◌, ◌<◌, ◌-◌, ⊤, length, None, IfOk};
 
 use crate::meter::Meter;
 use crate::trouble::{Trouble, unreadable};
