@@ -1,2 +1,3 @@
+pub mod SavedLemmas
 mod StreamLemmas
 mod TokenLemmas

@@ -1,5 +1,5 @@
 -- From the calls of a master to what is told.
-use Rattle.std.proofs.Common.{◌≡◌, inl, inr, ℕ, List, Bool, Result, Ok, Err, sym, ap, subst}
+use Rattle.std.proofs.Common.{◌≡◌, ◌∙◌, inl, inr, ℕ, List, Bool, Result, Ok, Err, sym, ap, subst}
 use Rattle.std.specs.Str.{bytes_eq}
 use Rattle.wire_format.specs.Message.{encoded}
 use Rattle.tink_io.specs.declared.error.Kind.{Kind}
@@ -21,7 +21,7 @@ use Rattle.tink.specs.Managers.{row_of, Built}
 use Rattle.tink.specs.Registered.{with_everything}
 use Rattle.tink.specs.declared.managers.Managers.{Managers}
 use Rattle.tink_wrap.specs.Masters.{GivesMaster, IsMaster, MasterKeys, master_decrypts, master_in, master_keys, master_of, valid_in_file}
-use Rattle.tink_wrap.specs.Wrapping.{unwrapped_keys, wrapped_in, wrapped_keys, wraps}
+use Rattle.tink_wrap.specs.Wrapping.{unspent, unwrapped_keys, wrapped_in, wrapped_keys, wraps}
 
 -- ---- what loads
 
@@ -73,6 +73,10 @@ same_wrap m w aad draws ks is = ap (λ r. made_of (with_info ks) (by_master r.0)
 same_unwrap : (m : MasterKeys) (w : WrappedAead AeadKind) (aad : List ℕ) (e : EncryptedKeyset) → IsMaster m w → decrypted (set_decrypts w) aad e ≡ decrypted (master_decrypts m) aad e
 same_unwrap m w aad e is = ap (λ r. chained handle_of_bytes (by_master r)) (is.decrypted e.encrypted_keyset aad)
 
+-- the draws that are left are the same
+same_draws : (m : MasterKeys) (w : WrappedAead AeadKind) (aad draws : List ℕ) (ks : Keyset) → IsMaster m w → (encrypted (set_encrypts w) aad draws ks).1 ≡ unspent m aad draws ks
+same_draws m w aad draws ks is = ap (λ (r : Result (List ℕ) Kind × List ℕ). r.1) (is.encrypted (encoded keyset.write ks) aad draws)
+
 -- a refusal of the first step is one of both
 pub first_refused : {A B : Type 0} (f : A → Result B Kind) (told : Result A Kind) (e : TinkError) → Answers {T = A} (Err e) told → Answers {T = B} (Err e) (chained f told)
 first_refused f told e (inl want) = inl want
@@ -83,6 +87,13 @@ pub file_wrapped : (m : MasterKeys) (w : WrappedAead AeadKind) (keys aad draws :
     → valid_in_file keys ≡ Ok ks → Answers result (encrypted (set_encrypts w) aad draws ks).0 → Answers result (wrapped_keys m keys aad draws)
 file_wrapped m w keys aad draws ks result is there answers =
     subst (Answers result) (sym (ap (chained (wraps m aad draws)) there)) (subst (Answers result) (same_wrap m w aad draws ks is) answers)
+
+-- the draws that are left of those with which the keyset of a file was encrypted
+pub file_draws : (m : MasterKeys) (w : WrappedAead AeadKind) (keys aad draws left : List ℕ) (ks other : Keyset) → IsMaster m w
+    → valid_in_file keys ≡ Ok ks → left ≡ (encrypted (set_encrypts w) aad draws ks).1 → valid_in_file keys ≡ Ok other → left ≡ unspent m aad draws other
+file_draws m w keys aad draws left ks other is there rest again =
+    let same : ks ≡ other = cc (sym there ∙ again) in
+    rest ∙ same_draws m w aad draws ks is ∙ ap (unspent m aad draws) same
 
 -- the encrypted keyset of a file, decrypted
 pub file_unwrapped : (m : MasterKeys) (w : WrappedAead AeadKind) (file aad : List ℕ) (e : EncryptedKeyset) (result : Result Keyset TinkError) → IsMaster m w

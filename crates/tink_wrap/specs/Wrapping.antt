@@ -33,6 +33,10 @@ wrapped_in file = wrapped_by (format_of file) file
 abbrev pub wraps : MasterKeys → List ℕ → List ℕ → Keyset → Result EncryptedKeyset Kind
 wraps m aad draws ks = (encrypted (master_encrypts m) aad draws ks).0
 
+-- the draws that this leaves
+abbrev pub unspent : MasterKeys → List ℕ → List ℕ → Keyset → List ℕ
+unspent m aad draws ks = (encrypted (master_encrypts m) aad draws ks).1
+
 -- the same of the valid keyset of a file of keys
 abbrev pub wrapped_keys : MasterKeys → List ℕ → List ℕ → List ℕ → Result EncryptedKeyset Kind
 wrapped_keys m keys aad draws = chained (wraps m aad draws) (valid_in_file keys)

@@ -22,6 +22,7 @@ pub fn encrypt<A: Aead>(
 ) -> Result<EncryptedKeyset, TinkError>
     ensures answer { Answers result (encrypted (A.encrypts master.now) aad.now draws.old handle.now).0 }
     ensures again { OnOk result (handle_of_bytes (encoded keyset.write handle.now) ≡ Ok handle.now) }
+    ensures rest { OnOk result (draws.new ≡ (encrypted (A.encrypts master.now) aad.now draws.old handle.now).1) }
 {
     let mut memory = MemReaderWriter::default();
     handle.write_with_associated_data(alloc, &mut memory, master, aad, draws)?;

@@ -8,7 +8,7 @@ ghost use Rattle.tink_proto.specs.declared.messages.keys.Keyset.{Keyset};
 ghost use Rattle.tink_keysets.specs.Encrypted.{handle_of_bytes};
 ghost use Rattle.tink_key_files.specs.declared.formats.Format.TheVariants.{Binary};
 ghost use Rattle.tink_wrap.specs.Masters.{IsMaster, MasterKeys, valid_in_file};
-ghost use Rattle.tink_wrap.specs.Wrapping.{unwrapped_file, unwrapped_keys, wrapped_file, wrapped_in, wrapped_keys};
+ghost use Rattle.tink_wrap.specs.Wrapping.{unspent, unwrapped_file, unwrapped_keys, wrapped_file, wrapped_in, wrapped_keys};
 
 use crate::encrypting::{decrypt, encrypt};
 use crate::master::{Master, valid_in_file};
@@ -44,6 +44,10 @@ pub fn wrapped(
     // What was encrypted are the bytes of a handle of the keyset.
     ensures held { OnOk result ((ks : Keyset) → valid_in_file keys.items ≡ Ok ks
         → handle_of_bytes (encoded keyset.write ks) ≡ Ok ks) }
+
+    // The draws are spent.
+    ensures rest { OnOk result ((m : MasterKeys) (ks : Keyset) → IsMaster m master.now
+        → valid_in_file keys.items ≡ Ok ks → draws.new ≡ unspent m aad.now draws.old ks) }
 {
     let encrypted = encrypted_keys(alloc, master, keys, aad, draws)?;
     wrapped_text(alloc, format, &encrypted)
@@ -83,6 +87,8 @@ fn encrypted_keys(
         → Answers result (wrapped_keys m keys.items aad.now draws.old) }
     ensures held { OnOk result ((ks : Keyset) → valid_in_file keys.items ≡ Ok ks
         → handle_of_bytes (encoded keyset.write ks) ≡ Ok ks) }
+    ensures rest { OnOk result ((m : MasterKeys) (ks : Keyset) → IsMaster m master.now
+        → valid_in_file keys.items ≡ Ok ks → draws.new ≡ unspent m aad.now draws.old ks) }
 {
     let handle = valid_in_file(alloc, keys)?;
     encrypt(alloc, &handle, master, aad, draws)
