@@ -4,7 +4,7 @@ use Rattle.tink_io.specs.declared.error.Kind.{Kind}
 use Rattle.tink_io.specs.declared.error.Kind.TheVariants.{NoMatchingKey, UnknownHash, UnsupportedHash}
 use Rattle.tink_io.specs.declared.error.TinkError.{TinkError}
 use Rattle.stream_model.specs.Cut.{numbered}
-use Rattle.stream_model.specs.Key.{StreamKey, header_length, nonce_size, overhead}
+use Rattle.stream_model.specs.Key.{StreamKey, first_segment, header_length, nonce_size, overhead}
 use Rattle.stream_model.specs.Opening.{HasFront, OpeningKey, header_of, opening_key}
 use Rattle.tink_segments.specs.StreamSegments.{nonce_length_by, overhead_by, segment_by}
 use Rattle.tink_segments.specs.declared.stream_segment.StreamSegment.{StreamSegment}
@@ -47,3 +47,10 @@ pub record OpensBehind (k : OpeningKey) (nonce : ℕ) (held : List ℕ) (seg : �
   pub size_is : size ≡ k.size
   pub overhead_is : over ≡ k.overhead
   pub nonce_is : nonce_bytes ≡ nonce
+
+-- the key's sizes: of a nonce, of the first and of each later segment, and by how much a segment is longer than its text
+pub record HasSizesOf (k : StreamKey) (nonce_bytes over first size : ℕ) : Type 0 where
+  pub nonce_is : nonce_bytes ≡ nonce_size k
+  pub overhead_is : over ≡ overhead k
+  pub first_is : first ≡ first_segment k
+  pub size_is : size ≡ k.segment

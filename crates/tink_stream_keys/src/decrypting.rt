@@ -3,7 +3,8 @@
 ghost use Rattle.std.specs.Prelude.{◌≡◌, ◌≤◌, ◌+◌, length, take, drop, slice_index, IfOk, IfErr, MatchResult, vec_capacity};
 ghost use Rattle.std.specs.Io.KnownBytes.{prepend_known};
 ghost use Rattle.stream_model.specs.Cut.{numbered};
-ghost use Rattle.stream_model.specs.Key.{first_segment, header_length, nonce_size, overhead};
+ghost use Rattle.stream_model.specs.Key.{header_length, nonce_size, overhead};
+ghost use Rattle.tink_stream_keys.specs.Decrypters.{HasSizesOf};
 ghost use Rattle.tink_stream_keys.specs.Decrypting.{HeaderRefused, IsNewReader, NewReaderMeans, NewReaderRefused, ReadsHeader, source_of};
 ghost use Rattle.tink_segments.specs.StreamSegments.{nonce_length_by, overhead_by, segment_by};
 ghost use Rattle.tink_streams.specs.TextReading.{TextMoment};
@@ -56,10 +57,7 @@ pub fn opener_of<T: DerivesStreams>(
     ensures decrypter { result.decrypter ≡ cipher }
     ensures prefix { result.prefix.items ≡ drop ((T.key_of key.now).derived + 1) header.now }
     ensures room { 7 ≤ vec_capacity result.prefix }
-    ensures nonce_size { result.nonce_size ≡ nonce_size (T.key_of key.now) }
-    ensures overhead { result.overhead ≡ overhead (T.key_of key.now) }
-    ensures first { result.first ≡ first_segment (T.key_of key.now) }
-    ensures size { result.size ≡ (T.key_of key.now).segment }
+    ensures sizes { HasSizesOf (T.key_of key.now) result.nonce_size result.overhead result.first result.size }
 {
     prefix.clear();
     match prefix.extend_from_slice(&header[header.len() - PREFIX..]) {

@@ -11,7 +11,7 @@ returns-in-Ok-clause-opens g c =
     (omega (arith, out, c.header_length.ensures.value, c.if-held-end.false))
     (sym c.has_front.ensures ∙ c.if-not-has_front.false)
     (header_at key c.args.aad.now c.args.held.now c.output_prefix-start.result.now c.header_length.result c.output_prefix-start.ensures c.header_length.ensures.value)
-    c.in-Ok.ensures.answer made.decrypter made.nonce_size made.prefix made.first made.size made.overhead
+    c.in-Ok.ensures.answer made.decrypter made.sizes.nonce_is made.prefix made.sizes.first_is made.sizes.size_is made.sizes.overhead_is
 
 pub returns-in-Err-clause-none : goal.returns-in-Err-clause-none
 returns-in-Err-clause-none g c =

@@ -28,6 +28,6 @@ returns-clause-answer g c =
       faults = g.S.Source.faults c.read_header.new.source;
     })
     (rw c.header_length-size.ensures.value c.in_ok-header.ensures.ok) salt c.in_ok-cipher.ensures
-    (ap (λ x. x.decrypter) made.opener ∙ s.decrypter) (ap (λ x. x.nonce_size) made.opener ∙ s.nonce_size) (ap (λ x. x.prefix.items) made.opener ∙ s.prefix)
-    (ap (λ x. x.first) made.opener ∙ s.first) (ap (λ x. x.size) made.opener ∙ s.size) (ap (λ x. x.overhead) made.opener ∙ s.overhead)
+    (ap (λ x. x.decrypter) made.opener ∙ s.decrypter) (ap (λ x. x.nonce_size) made.opener ∙ s.sizes.nonce_is) (ap (λ x. x.prefix.items) made.opener ∙ s.prefix)
+    (ap (λ x. x.first) made.opener ∙ s.sizes.first_is) (ap (λ x. x.size) made.opener ∙ s.sizes.size_is) (ap (λ x. x.overhead) made.opener ∙ s.sizes.overhead_is)
     made.held refl made.progress made.segments made.opened
