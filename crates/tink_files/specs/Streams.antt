@@ -1,5 +1,5 @@
 -- What becomes of a stream, a token or a text that is written into a place.
-use Rattle.std.specs.Prelude.{◌≡◌, ℕ, List, Bool, Result}
+use Rattle.std.specs.Prelude.{ℕ, List, Bool, Result}
 use Rattle.std.specs.declared.option.Option.{Option}
 use Rattle.tink_io.specs.declared.error.TinkError.{TinkError}
 use Rattle.tink_place.specs.Places.{Ends, IsShown}
