@@ -1,5 +1,5 @@
 -- What is saved was made.
-use Rattle.std.proofs.Common.{◌≡◌, inr, ℕ, List, Bool, Result, Ok, Err, refl}
+use Rattle.std.proofs.Common.{inr, ℕ, List, Bool, Result, Ok, Err, refl}
 use Rattle.std.specs.Prelude.{OnOk}
 use Rattle.std.specs.declared.option.Option.{Option}
 use Rattle.tink_io.specs.Told.{Answers}

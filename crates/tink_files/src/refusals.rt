@@ -20,7 +20,7 @@ pub fn advice(kind: Kind) -> &'static str {
         Kind::UnsupportedKeyType => "it has a key of a type that is not known here",
         Kind::InvalidKey => "it has a key with a value that is none of its type",
         Kind::MasterFailed =>
-            "no key of MASTER opens it: other keys, other associated data, or no wrapped file",
+            "MASTER refuses it: other keys, other associated data, no wrapped file, or more than it encrypts",
         Kind::NoPrimary =>
             "none of its keys is the primary one and enabled: `tink promote` makes one so",
         Kind::WrongPrimitive =>
@@ -33,7 +33,8 @@ pub fn advice(kind: Kind) -> &'static str {
             "no key opens this stream: another keyset, other associated data, or a damaged beginning",
         Kind::BadSegment(_) => "the stream was changed, or two were mixed: take an intact copy",
         Kind::Truncated(_) => "the stream was cut off: take a whole copy",
-        Kind::InputTooLong => "it has more than 16,777,216 bytes: only shorter files are signed",
+        Kind::InputTooLong =>
+            "it has more than 16,777,216 bytes: only shorter files are signed and verified",
         Kind::BadToken => "it is no token: give a whole one that `tink sign` made",
         Kind::MacMismatch =>
             "no key accepts this token: it was changed, or signed by the keys of another file",

@@ -80,8 +80,8 @@ const RANGE: &str = "\
 tink range -k KEYS [--aad TEXT] [-o OUT] [--quiet] --start N --length N IN
 
 Decrypts a part of what IN encrypts: as many bytes as --length says, from the one with the number of --start on, counted
-from 0, and fewer where the text ends before. IN is a file, of which little more is read. A file that was cut gives
-nothing, and one that was changed nothing but what stands in intact segments.
+from 0, and fewer where the text ends before. IN is a file, of which little more is read: its first and its last segment,
+and those that the part touches. Where one of these was changed or cut it is refused.
 
   tink range -k keys.json --start 1000000 --length 512 notes.tink
 ";

@@ -41,7 +41,7 @@ pub fn unwritable(file: &str, e: io::Error) -> Trouble<'_> {
     }
 }
 
-/// The status of a refusal: that of the program over streams, and 30 to 34 for those that it has not.
+/// The status of a refusal: that of the program over streams, and 30 to 35 for those that it has not.
 fn status(kind: Kind) -> u8 {
     match kind {
         Kind::BadJson => 30,
@@ -49,6 +49,7 @@ fn status(kind: Kind) -> u8 {
         Kind::IsPrimary => 32,
         Kind::WrongStatus(_) | Kind::NotEnabled => 33,
         Kind::MasterFailed => 34,
+        Kind::RandomFault => 35,
         Kind::KeysetTooLong => 13,
         _ => tink_program::program::status(Outcome::Refused(kind)),
     }

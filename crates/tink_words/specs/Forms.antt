@@ -43,11 +43,12 @@ other_of name =
     else (if is name (codes "help") || is name (codes "--help") || is name (codes "-h") then Some Help
     else (if is name (codes "version") || is name (codes "--version") || is name (codes "-V") then Some Version else None)))))
 
--- the command of a name
+-- the first of two, if it is there
 abbrev pub first_of_both : Option Action → Option Action → Option Action
 first_of_both (Some action) other = Some action
 first_of_both None other = other
 
+-- the command of a name
 abbrev pub action_of : List ℕ → Option Action
 action_of name = first_of_both (edit_of name) (first_of_both (stream_of name) (other_of name))
 
