@@ -170,8 +170,8 @@ def wrapping():
     tink("wrap", "-k", "none", "-o", "none.json", "keys.json", status=11, says="none: there is no such file")
     check(not os.path.exists("none.json") and drafts() == [], "a refusal leaves nothing")
     tink("rotate", "master.json", "AES256_GCM")
-    tink("unwrap", "-k", "master.json", "--aad", "host", "-o", "later.json", "keys.json.wrapped")
-    check(read("later.json") == read("keys.json"), "a rotated master unwraps what the old key wrapped")
+    tink("unwrap", "-k", "master.json", "--aad", "host", "-o", "again.json", "keys.json.wrapped")
+    check(read("again.json") == read("keys.json"), "a rotated master unwraps what the old key wrapped")
     check(b"wrap -k MASTER" in tink("help", "unwrap") == tink("wrap", "--help"), "help of wrap")
 
 
