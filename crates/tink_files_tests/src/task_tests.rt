@@ -118,7 +118,7 @@ struct Keysets {
     macs: Vec<u8>,
 }
 
-fn keysets(alloc: Global) -> Result<Keysets, Fail> {
+fn decoded(alloc: Global) -> Result<Keysets, Fail> {
     Ok(Keysets {
         ctr: hex::decode(alloc, CTR)?,
         gcm: hex::decode(alloc, GCM)?,
@@ -172,7 +172,7 @@ fn holds(alloc: Global, row: &Row) -> Result<bool, Fail> {
     let answer = refusal(
         alloc,
         asked,
-        &keysets(alloc)?,
+        &decoded(alloc)?,
         &mut draws,
         input,
         &mut place,
