@@ -11,7 +11,8 @@ use Rattle.tink_io.specs.declared.error.TinkError.{TinkError}
 use Rattle.tink_io.proofs.FaultLemmas.{Rose-earlier}
 use Rattle.tink_io.specs.Told.{or_refused}
 use Rattle.tink_keysets.specs.Ends.{IsAsTold, IsReadRefusal, HasRead}
-use Rattle.tink_keyset_io.specs.Reading.{told, IsFault, IsUnreadText, LosesAtMost, IsPiece}
+use Rattle.tink_keyset_io.specs.Reading.{told, IsFault, IsUnreadText, IsPiece}
+use Rattle.tink_io.specs.Taken.{LosesAtMost}
 
 -- a piece behind a text
 pub text_goes_on : (a b c : Option (List ℕ)) (before after piece : List ℕ) (n : ℕ) → Consumes a b before → IsPiece b c before after piece n → Consumes a c after

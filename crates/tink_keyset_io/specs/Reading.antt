@@ -23,10 +23,6 @@ abbrev pub IsUnreadText : ℕ → Kind → Option (List ℕ) → Kind → ℕ �
 IsUnreadText most refusal left kind before now =
     IsFault kind before now ⊎ ((kind ≡ refusal) × IfSome left (λ text. most < length text))
 
--- known bytes lose a prefix of at most so many
-abbrev pub LosesAtMost : ℕ → Option (List ℕ) → Option (List ℕ) → Type 0
-LosesAtMost most old new = (front : List ℕ) × (length front ≤ most) × Consumes old new front
-
 -- the first n bytes of a piece went from the known bytes to the end of a text; none only at the end
 pub record IsPiece (old new : Option (List ℕ)) (before after piece : List ℕ) (n : ℕ) : Type 0 where
   pub within : n ≤ length piece

@@ -6,7 +6,8 @@ ghost use Rattle.tink_io.specs.declared.error.Kind.TheVariants.{BadKeyset};
 ghost use Rattle.tink_keysets.specs.Ends.{HasRead, HasWritten};
 ghost use Rattle.tink_proto.specs.Messages.{keyset, encrypted_keyset};
 ghost use Rattle.wire_format.specs.Message.{decoded, encoded};
-ghost use Rattle.tink_keyset_io.specs.Reading.{LosesAtMost, told};
+ghost use Rattle.tink_keyset_io.specs.Reading.{told};
+ghost use Rattle.tink_io.specs.Taken.{LosesAtMost};
 ghost use Rattle.tink_keyset_io.specs.Writing.{IsPartOfText};
 
 use crate::format::Format;

@@ -6,7 +6,8 @@ ghost use Rattle.tink_io.specs.declared.error.Kind.TheVariants.{BadJson};
 ghost use Rattle.tink_keysets.specs.Ends.{HasRead, HasWritten};
 ghost use Rattle.tink_json.specs.Messages.{encrypted_keyset, keyset, message_of};
 ghost use Rattle.tink_json.specs.Written.{encrypted_keyset_value, keyset_value, pretty_text};
-ghost use Rattle.tink_keyset_io.specs.Reading.{LosesAtMost, told};
+ghost use Rattle.tink_keyset_io.specs.Reading.{told};
+ghost use Rattle.tink_io.specs.Taken.{LosesAtMost};
 ghost use Rattle.tink_keyset_io.specs.Writing.{IsPartOfText};
 
 use crate::format::Format;

@@ -3,7 +3,8 @@
 ghost use Rattle.std.specs.Prelude.{◌≤◌, ◌<◌, ◌+◌, ◌^◌, Some, Ok, IfOk, IfErr, OnOk, length};
 ghost use Rattle.std.specs.Io.KnownBytes.{Consumes, IsAtEnd};
 ghost use Rattle.tink_keysets.specs.Ends.{HasRead, HasWritten};
-ghost use Rattle.tink_keyset_io.specs.Reading.{IsFault, IsPiece, IsUnreadText, LosesAtMost, told};
+ghost use Rattle.tink_keyset_io.specs.Reading.{IsFault, IsPiece, IsUnreadText, told};
+ghost use Rattle.tink_io.specs.Taken.{LosesAtMost};
 ghost use Rattle.tink_keyset_io.specs.Writing.{AppendsText, IsPartOf};
 
 use crate::format::Format;

@@ -7,7 +7,7 @@ use Rattle.tink_io.specs.declared.error.Kind.TheVariants.{OutOfMemory, ReadFault
 use Rattle.tink_io.specs.declared.error.TinkError.{TinkError}
 use Rattle.stream_model.specs.Opening.{IsChosen, IsStream}
 use Rattle.loading_model.specs.Loading.{Loaded, opening_keys}
-use Rattle.tink_keyset_io.specs.Reading.{LosesAtMost}
+use Rattle.tink_io.specs.Taken.{LosesAtMost}
 use Rattle.tink_range.proofs.StreamRanges.{gives_slice, under_not_refused}
 use Rattle.tink_run.specs.AllKeys.{load}
 use Rattle.tink_run.specs.Outside.{Outside, HasNoFault}

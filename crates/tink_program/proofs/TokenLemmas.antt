@@ -10,7 +10,7 @@ use Rattle.tink_factory.specs.Accepting.{entries_of}
 use Rattle.tink_mac.specs.MacKinds.{kind_verifies}
 use Rattle.tink_mac.specs.Wrapped.{any_verifies}
 use Rattle.tink_tokens.specs.Tokens.{spelled, IsAnswered}
-use Rattle.tink_keyset_io.specs.Reading.{LosesAtMost}
+use Rattle.tink_io.specs.Taken.{LosesAtMost}
 use Rattle.tink_run.specs.Outside.{Outside, HasNoFault}
 use Rattle.tink_run.specs.Run.{Told}
 use Rattle.tink_run_tokens.specs.Inputs.{input_limit, IsOfInput, IsUnloadable, IsUnwritten}

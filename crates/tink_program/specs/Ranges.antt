@@ -4,7 +4,7 @@ use Rattle.tink_io.specs.declared.error.Kind.{Kind}
 use Rattle.tink_io.specs.declared.error.Kind.TheVariants.{BadSegment, InputTooLong, WriteFault}
 use Rattle.tink_io.specs.declared.error.TinkError.{TinkError}
 use Rattle.loading_model.specs.Loading.{Loaded, opening_keys}
-use Rattle.tink_keyset_io.specs.Reading.{LosesAtMost}
+use Rattle.tink_io.specs.Taken.{LosesAtMost}
 use Rattle.tink_range.specs.ChunkReading.{Moments}
 use Rattle.tink_range.specs.KeyRanges.{RangesUnder}
 use Rattle.tink_run.specs.AllKeys.{load}

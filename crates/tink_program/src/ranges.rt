@@ -1,7 +1,7 @@
 //! The command of ranges.
 
 ghost use Rattle.std.specs.Prelude.{◌≡◌, ◌+◌, IfErr};
-ghost use Rattle.tink_keyset_io.specs.Reading.{LosesAtMost};
+ghost use Rattle.tink_io.specs.Taken.{LosesAtMost};
 ghost use Rattle.tink_program.specs.Ranges.{IsUnranged, RangeAnswer};
 ghost use Rattle.tink_run.specs.Outside.{outside_of};
 ghost use Rattle.tink_run_tokens.specs.Inputs.{IsUnloadable, input_limit};

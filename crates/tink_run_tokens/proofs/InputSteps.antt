@@ -3,7 +3,8 @@ use Rattle.std.proofs.Common.{◌≡◌, inl, inr, ◌+◌, ℕ, List, [], Some,
 use Rattle.std.specs.Prelude.{Option, Result, Ok, Err}
 use Rattle.tink_io.specs.declared.error.Kind.{Kind}
 use Rattle.tink_io.specs.declared.error.Kind.TheVariants.{BadKeyset, InvalidKeyset, UnsupportedKeyType, InvalidKey, NoPrimary, WrongPrimitive, InputTooLong}
-use Rattle.tink_keyset_io.specs.Reading.{IsUnreadText, LosesAtMost}
+use Rattle.tink_keyset_io.specs.Reading.{IsUnreadText}
+use Rattle.tink_io.specs.Taken.{LosesAtMost}
 use Rattle.loading_model.proofs.UsableKeys.{IsOfLoading}
 use Rattle.tink_run.specs.Outside.{Outside}
 use Rattle.tink_run_tokens.specs.Inputs.{input_limit, InputRefused, LeavesSink}
