@@ -98,7 +98,7 @@ pub record AsksNothing (words : List (List ℕ)) (old new : Outside) (outcome : 
   pub nothing : SpellNothing words
   pub untouched : IsUntouched old new
 
--- so does want of memory for what the words say
+-- so does `OutOfMemory` on reading the words
 pub record HasNoRoom (old new : Outside) (outcome : Outcome) : Type 0 where
   pub outcome_is : outcome ≡ Refused OutOfMemory
   pub untouched : IsUntouched old new

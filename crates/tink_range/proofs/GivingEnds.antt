@@ -23,7 +23,7 @@ use Rattle.tink_range.proofs.GivesFacts.{none_touched}
 use Rattle.tink_range.proofs.GivingSteps.{HasGiven, ended}
 use Rattle.tink_range.proofs.GivingTold.{Appends-none, Giving, IsNext, told_one, told_stops, chunk}
 
--- all that was written is a front of it
+-- all that was written is a prefix of it
 front_whole : (a b : Option (List ℕ)) (xs : List ℕ) → Appends a b xs → AppendsFront a b xs
 front_whole a b xs whole = (length xs, omega arith, subst (Appends a b) (sym (take-length xs)) whole)
 

@@ -1,4 +1,4 @@
-//! Sources and sinks that fail at a call, in pieces of several sizes, and want of memory.
+//! Sources and sinks that fail at a call, in pieces of several sizes, and no memory.
 
 use crate::support::{CTR_35, GCM_41, Ran, by_rewrap, counted, is, roomy, sealed};
 use std::alloc::Global;
