@@ -39,12 +39,12 @@ pub enum Outcome {
 ///
 /// KEYSET and AAD are hexadecimal, in either case and at least two digits, or `-` for no bytes; TEMPLATE is any word;
 /// SEED is 64 hexadecimal digits, and draws are the first 256 words of its ChaCha20 stream; N is a decimal number
-/// below 1,000,000, and START and LEN are such numbers below 2^64, without a leading zero unless it is 0. `keygen` writes the line of a keyset of one new key by the
-/// template of that name, `rotate` that of KEYSET with such a key as its primary one, `large` the four lines of the
-/// large text of N under the draws of the seed of zeros; they leave the source as it is. `range` writes the bytes
-/// of the text from place START on and below START + LEN, of the stream that the source has in at most 16,777,216 bytes,
-/// once the last chunk and those that the range touches were opened. `rewrap` moves the stream that the
-/// source has from the first keyset to the second. `sign` writes the token of the
+/// below 1,000,000, and START and LEN are such numbers below 2^64, without a leading zero unless it is 0. `keygen`
+/// writes the line of a keyset of one new key by the template of that name, `rotate` that of KEYSET with such a key as
+/// its primary one, `large` the four lines of the large text of N under the draws of the seed of zeros; they leave the
+/// source as it is. `range` writes the bytes of the text from place START on and below START + LEN, of the stream that
+/// the source has in at most 16,777,216 bytes, once the last chunk and those that the range touches were opened.
+/// `rewrap` moves the stream that the source has from the first keyset to the second. `sign` writes the token of the
 /// source's bytes, at most 16,777,216 of them, and `verify` the payload of the token that the source has. A fault of
 /// `faults` ends the line where it stands, and changes no status.
 pub fn program<S: Source, K: Sink, E: Sink>(
