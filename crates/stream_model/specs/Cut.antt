@@ -2,15 +2,15 @@
 use Rattle.std.specs.Prelude.{ℕ, zero, suc, ◌+◌, ◌-◌, Bool, true, false, List, [], ◌∷◌, ◌++◌, length, take, drop, replicate, nat_le, if◌then◌else◌}
 use Rattle.std.specs.Int.{w32, to_be_bytes}
 
--- no chunk for no text; the whole text where it fits; else the first a bytes, and the rest in chunks of b.
+-- no chunk for no text; the whole text where it fits; else the first chunk fills its size, and the rest is cut by the room of the others.
 -- Each chunk takes a byte, so length R + 1 turns are enough.
 abbrev pub cut_in : ℕ → ℕ → ℕ → List ℕ → List (List ℕ)
-cut_in zero a b R = []
-cut_in (suc turns) a b [] = []
-cut_in (suc turns) a b (x ∷ R) = if nat_le (length (x ∷ R)) a then (x ∷ R) ∷ [] else take a (x ∷ R) ∷ cut_in turns b b (drop a (x ∷ R))
+cut_in zero first room R = []
+cut_in (suc turns) first room [] = []
+cut_in (suc turns) first room (x ∷ R) = if nat_le (length (x ∷ R)) first then (x ∷ R) ∷ [] else take first (x ∷ R) ∷ cut_in turns room room (drop first (x ∷ R))
 
 unfoldable pub cut : ℕ → ℕ → List ℕ → List (List ℕ)
-cut a b R = cut_in (length R + 1) a b R
+cut first room R = cut_in (length R + 1) first room R
 
 -- all chunks but the last
 abbrev pub but_last : List (List ℕ) → List (List ℕ)
@@ -26,15 +26,15 @@ last_chunk (t ∷ u ∷ ts) = last_chunk (u ∷ ts)
 
 -- the chunks that more text can't change, and the one that it may go on
 unfoldable pub full_chunks : ℕ → ℕ → List ℕ → List (List ℕ)
-full_chunks a b R = but_last (cut a b R)
+full_chunks first room R = but_last (cut first room R)
 
 unfoldable pub open_chunk : ℕ → ℕ → List ℕ → List ℕ
-open_chunk a b R = last_chunk (cut a b R)
+open_chunk first room R = last_chunk (cut first room R)
 
--- the room of chunk i: a for the first, b for each later one
+-- the room of chunk i: that of the first, or that of each later one
 abbrev pub room_at : ℕ → ℕ → ℕ → ℕ
-room_at a b zero = a
-room_at a b (suc i) = b
+room_at first room zero = first
+room_at first room (suc i) = room
 
 -- the nonce of segment i: the prefix, i in four bytes, the mark of the last, zeros up to the size
 abbrev pub mark : Bool → ℕ
@@ -63,10 +63,10 @@ abbrev pub or_one : List (List ℕ) → List (List ℕ)
 or_one [] = [] ∷ []
 or_one (t ∷ ts) = t ∷ ts
 
--- the chunks of a text: the first of at most a bytes, each later one of at most b
+-- the chunks of a text: the first of at most `first` bytes, each later one of at most `room`
 unfoldable pub chunks : ℕ → ℕ → List ℕ → List (List ℕ)
-chunks a b R = or_one (cut a b R)
+chunks first room R = or_one (cut first room R)
 
 -- a whole text as segments
 unfoldable pub sealed : (ℕ → Bool → List ℕ → List ℕ) → ℕ → ℕ → List ℕ → List ℕ
-sealed seg a b R = segments seg 0 (chunks a b R)
+sealed seg first room R = segments seg 0 (chunks first room R)

@@ -7,24 +7,24 @@ use Rattle.std.specs.declared.option.Option.{Option}
 use Rattle.std.specs.Io.KnownBytes.{Appends}
 use Rattle.std.proofs.KnownBytes.{Appends-trans}
 use Rattle.tink_io.specs.Faults.{Rose}
-use Rattle.tink_io.specs.Written.{AppendsFront, Writes, WritesOrFaults}
+use Rattle.tink_io.specs.Written.{AppendsPrefix, Writes, WritesOrFaults}
 use Rattle.tink_io.specs.declared.error.Kind.TheVariants.{WriteFault}
 use Rattle.tink_io.specs.declared.error.TinkError.{TinkError}
 use Rattle.tink_io.proofs.FaultLemmas.{Rose-earlier}
 
 -- bytes and then a prefix of more are a prefix of both
-pub then_front : (a b c : Option (List ℕ)) (xs ys : List ℕ) → Appends a b xs → AppendsFront b c ys → AppendsFront a c (xs ++ ys)
-then_front a b c xs ys whole front =
+pub then_prefix : (a b c : Option (List ℕ)) (xs ys : List ℕ) → Appends a b xs → AppendsPrefix b c ys → AppendsPrefix a c (xs ++ ys)
+then_prefix a b c xs ys whole front =
     (length xs + front.0, omega (arith, front.1, length-append xs ys), rw take-append-add (Appends-trans a b c xs (take front.0 ys) whole front.2))
 
 -- a prefix of bytes is a prefix of more
-pub front_of_more : (a b : Option (List ℕ)) (xs ys : List ℕ) → AppendsFront a b xs → AppendsFront a b (xs ++ ys)
-front_of_more a b xs ys front =
+pub prefix_of_more : (a b : Option (List ℕ)) (xs ys : List ℕ) → AppendsPrefix a b xs → AppendsPrefix a b (xs ++ ys)
+prefix_of_more a b xs ys front =
     (front.0, omega (arith, front.1, length-append xs ys), subst (Appends a b) (sym (take-append-le front.0 xs ys front.1)) front.2)
 
 -- the answer of a call that writes bytes whole, from its parts
 pub Writes-of : (a b : Option (List ℕ)) (i j : ℕ) (answer : Result (Unit {0}) TinkError) (xs : List ℕ)
-    → OnOk answer (Appends a b xs) → OnErr answer (AppendsFront a b xs) → OnErr answer (Rose i j) → i ≤ j
+    → OnOk answer (Appends a b xs) → OnErr answer (AppendsPrefix a b xs) → OnErr answer (Rose i j) → i ≤ j
     → IfErr answer (λ e. e ≡ record { kind = WriteFault }) → Writes a b i j answer xs
 Writes-of a b i j (Ok v) xs whole front rose later refused = (whole, later)
 Writes-of a b i j (Err e) xs whole front rose later refused = (front, later, rose, refused)
@@ -36,11 +36,11 @@ Writes-then a b c i j k (Ok v) xs written ys is first second =
     let whole = subst (Appends a b) is first.0 in (Appends-trans a b c xs ys whole second.0, omega (arith, first.1, second.1))
 Writes-then a b c i j k (Err e) xs written ys is first second =
     let whole = subst (Appends a b) is first.0 in
-    (then_front a b c xs ys whole second.0, omega (arith, first.1, second.1), Rose-earlier i j k first.1 second.2, second.3)
+    (then_prefix a b c xs ys whole second.0, omega (arith, first.1, second.1), Rose-earlier i j k first.1 second.2, second.3)
 
 -- a call that was refused before more could be written
 pub Writes-refused : (a b : Option (List ℕ)) (i j : ℕ) (e : TinkError) (xs ys : List ℕ) → Writes a b i j (Err e) xs → Writes a b i j (Err e) (xs ++ ys)
-Writes-refused a b i j e xs ys refused = (front_of_more a b xs ys refused.0, refused.1, refused.2, refused.3)
+Writes-refused a b i j e xs ys refused = (prefix_of_more a b xs ys refused.0, refused.1, refused.2, refused.3)
 
 -- bytes are written, or the sink failed, whatever was answered
 pub WritesOrFaults-of : (a b : Option (List ℕ)) (i j : ℕ) (answer : Result (Unit {0}) TinkError) (xs : List ℕ) → Writes a b i j answer xs → WritesOrFaults a b i j xs

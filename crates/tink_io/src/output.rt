@@ -5,7 +5,7 @@ ghost use Rattle.std.specs.Fmt.{signed_decimal};
 ghost use Rattle.std.specs.Io.KnownBytes.{Appends};
 ghost use Rattle.tink_io.specs.Faults.{Rose};
 ghost use Rattle.tink_io.specs.Texts.{kind_line, kind_rest, kind_text, cause_number, cause_text};
-ghost use Rattle.tink_io.specs.Written.{AppendsFront, WritesOrFaults, WritesTo};
+ghost use Rattle.tink_io.specs.Written.{AppendsPrefix, WritesOrFaults, WritesTo};
 ghost use Rattle.tink_io.specs.declared.error.Kind.TheVariants.{WriteFault};
 
 use crate::{Cause, Kind, Sink, TinkError};
@@ -14,7 +14,7 @@ use crate::{Cause, Kind, Sink, TinkError};
 /// the sink failed: a prefix of them is written then.
 pub fn write_all<K: Sink>(sink: &mut K, bytes: &[u8]) -> Result<(), TinkError>
     ensures written { OnOk result (Appends (K.got sink.old) (K.got sink.new) bytes.now) }
-    ensures front { OnErr result (AppendsFront (K.got sink.old) (K.got sink.new) bytes.now) }
+    ensures prefix { OnErr result (AppendsPrefix (K.got sink.old) (K.got sink.new) bytes.now) }
     ensures refused { IfErr result (λ e. e ≡ record { kind = WriteFault }) }
     ensures cause { OnErr result (Rose (K.faults sink.old) (K.faults sink.new)) }
     ensures later { K.faults sink.old ≤ K.faults sink.new }

@@ -1,7 +1,7 @@
 -- What a writer of keysets did to a sink.
 use Rattle.std.specs.Prelude.{◌≡◌, ◌⊎◌, ℕ, List, Option}
 use Rattle.std.specs.Io.KnownBytes.{Appends, Keeps}
-use Rattle.tink_io.specs.Written.{AppendsFront}
+use Rattle.tink_io.specs.Written.{AppendsPrefix}
 use Rattle.tink_io.specs.declared.error.Kind.{Kind}
 use Rattle.tink_io.specs.declared.error.Kind.TheVariants.{OutOfMemory, WriteFault}
 
@@ -12,7 +12,7 @@ AppendsText IsText old new = (text : List ℕ) × IsText text × Appends old new
 -- by which kind a write was refused, and what it has written: nothing, or a prefix of such a text
 abbrev pub IsPartOf : (List ℕ → Type 0) → Kind → Option (List ℕ) → Option (List ℕ) → Type 0
 IsPartOf IsText kind old new =
-    ((kind ≡ OutOfMemory) × Keeps old new) ⊎ ((kind ≡ WriteFault) × ((text : List ℕ) × IsText text × AppendsFront old new text))
+    ((kind ≡ OutOfMemory) × Keeps old new) ⊎ ((kind ≡ WriteFault) × ((text : List ℕ) × IsText text × AppendsPrefix old new text))
 
 -- the same of one text
 abbrev pub IsPartOfText : List ℕ → Kind → Option (List ℕ) → Option (List ℕ) → Type 0

@@ -96,7 +96,7 @@ pub fn write_as<F: Format<M>, M, K: Sink>(
 ) -> Result<(), TinkError>
     ensures answer { HasWritten result (Some (Ok tt)) (K.faults sink.old) (K.faults sink.new) }
     ensures written { OnOk result (AppendsText (F.spells message.now) (K.got sink.old) (K.got sink.new)) }
-    ensures front { IfErr result (λ e. IsPartOf (F.spells message.now) e.kind (K.got sink.old) (K.got sink.new)) }
+    ensures prefix { IfErr result (λ e. IsPartOf (F.spells message.now) e.kind (K.got sink.old) (K.got sink.new)) }
     ensures count { K.faults sink.old ≤ K.faults sink.new }
     ensures same { K.same sink.old sink.new }
 {

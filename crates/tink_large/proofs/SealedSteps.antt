@@ -6,7 +6,7 @@ use Rattle.std.specs.declared.option.Option.{Option}
 use Rattle.std.specs.Io.KnownBytes.{Appends}
 use Rattle.stream_model.specs.Cut.{full_chunks, open_chunk, room_at, numbered, sealed, unmarked}
 use Rattle.stream_model.proofs.CutFacts.{full_chunks_fits, full_chunks_more, open_chunk_fits, open_chunk_more, room_at_next, sealed_split}
-use Rattle.tink_io.specs.Written.{AppendsFront}
+use Rattle.tink_io.specs.Written.{AppendsPrefix}
 use Rattle.tink_io.specs.declared.error.Kind.{Kind}
 use Rattle.tink_io.specs.declared.error.Kind.TheVariants.{WriteFault, TooManySegments, FailedBefore}
 use Rattle.tink_io.specs.declared.error.Kind.TheVariants as kind
@@ -81,17 +81,17 @@ fills seg a b m piece o long p q some most held h =
     ]
 
 -- a prefix of bytes behind none is no longer than they are
-pub front_short : (G bs : List ℕ) → AppendsFront (Some []) (Some G) bs → length G ≤ length bs
+pub front_short : (G bs : List ℕ) → AppendsPrefix (Some []) (Some G) bs → length G ≤ length bs
 front_short G bs f = omega (arith, ap length f.2, length-take f.0 bs)
 
 -- a writer over a sink with room does not refuse a piece
 pub not_refused : (seg : ℕ → Bool → List ℕ → List ℕ) (a b : ℕ) (m n : WriterMoment) (piece G : List ℕ) (o room : ℕ) (k : Kind) → Fills seg a b m piece o → m.mode ≡ Open → m.got ≡ Some [] → n.got ≡ Some G
     → m.number + 1 < 2 ^ 32 → b + o < room → (0 < n.faults → room ≤ length G) → WriteRefused seg a b m n piece k → ⊥
 not_refused seg a b m n piece G o room WriteFault f is_open got now few wide full r =
-    let front : AppendsFront m.got n.got (unmarked seg m.number (filled a b m piece)) = stops_front seg m.number n.number (filled a b m piece) m.got n.got r.stops in
-    let told : AppendsFront (Some []) (Some G) (unmarked seg m.number (filled a b m piece)) =
-    subst (λ (x : Option (List ℕ)). AppendsFront x (Some G) (unmarked seg m.number (filled a b m piece))) got
-    (subst (λ (y : Option (List ℕ)). AppendsFront m.got y (unmarked seg m.number (filled a b m piece))) now front)
+    let front : AppendsPrefix m.got n.got (unmarked seg m.number (filled a b m piece)) = stops_front seg m.number n.number (filled a b m piece) m.got n.got r.stops in
+    let told : AppendsPrefix (Some []) (Some G) (unmarked seg m.number (filled a b m piece)) =
+    subst (λ (x : Option (List ℕ)). AppendsPrefix x (Some G) (unmarked seg m.number (filled a b m piece))) got
+    (subst (λ (y : Option (List ℕ)). AppendsPrefix m.got y (unmarked seg m.number (filled a b m piece))) now front)
     in
     let rose = r.rose in
     let at_room : room ≤ length G = full (omega arith) in
@@ -105,9 +105,9 @@ not_refused seg a b m n piece G o room _ f is_open got now few wide full r = abs
 pub last_not_refused : (seg : ℕ → Bool → List ℕ → List ℕ) (b : ℕ) (m n : WriterMoment) (G : List ℕ) (o room : ℕ) (k : Kind) → IsLonger seg o → length m.held ≤ b → m.mode ≡ Open → m.got ≡ Some [] → n.got ≡ Some G
     → b + o < room → (0 < n.faults → room ≤ length G) → CloseRefused seg m n k → ⊥
 last_not_refused seg b m n G o room WriteFault long held is_open got now wide full r =
-    let told : AppendsFront (Some []) (Some G) (seg m.number true m.held) =
-    subst (λ (x : Option (List ℕ)). AppendsFront x (Some G) (seg m.number true m.held)) got
-    (subst (λ (y : Option (List ℕ)). AppendsFront m.got y (seg m.number true m.held)) now r.begun)
+    let told : AppendsPrefix (Some []) (Some G) (seg m.number true m.held) =
+    subst (λ (x : Option (List ℕ)). AppendsPrefix x (Some G) (seg m.number true m.held)) got
+    (subst (λ (y : Option (List ℕ)). AppendsPrefix m.got y (seg m.number true m.held)) now r.begun)
     in
     let rose = r.rose in
     let at_room : room ≤ length G = full (omega arith) in

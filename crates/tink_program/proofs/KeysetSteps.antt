@@ -5,7 +5,7 @@ use Rattle.std.specs.Io.KnownBytes.{Appends}
 use Rattle.wire_format.specs.Message.{decoded}
 use Rattle.tink_io.specs.Faults.{Rose}
 use Rattle.tink_io.specs.Told.{or_refused}
-use Rattle.tink_io.specs.Written.{AppendsFront}
+use Rattle.tink_io.specs.Written.{AppendsPrefix}
 use Rattle.tink_io.specs.declared.error.Kind.{Kind}
 use Rattle.tink_io.specs.declared.error.Kind.TheVariants.{OutOfMemory, WriteFault, BadKeyset, InvalidKeyset, UnknownTemplate, NoFreshId}
 use Rattle.tink_io.specs.declared.error.TinkError.{TinkError}
@@ -94,11 +94,11 @@ not_written r got faults _ m = (m, refl, refl)
 
 -- the line was written, or a prefix of it
 pub text_written : (r : Rotation) (old new : Option (List ℕ)) (before now : ℕ) (text written : List ℕ) (result : Result (Unit {0}) TinkError) → IsLine r text → written ≡ text
-    → OnOk result (Appends old new written) → OnErr result (AppendsFront old new written) → OnErr result (Rose before now) → IfErr result (λ e. e ≡ record { kind = WriteFault })
+    → OnOk result (Appends old new written) → OnErr result (AppendsPrefix old new written) → OnErr result (Rose before now) → IfErr result (λ e. e ≡ record { kind = WriteFault })
     → WritesLine r old new before now result
 text_written r old new before now text written (Ok done) is same whole front rose fault = (text, is, subst (λ x. Appends old new x) same whole)
 text_written r old new before now text written (Err e) is same whole front rose fault =
-    rw (ap (λ (x : TinkError). x.kind) fault) (text, is, subst (λ x. AppendsFront old new x) same front, rose)
+    rw (ap (λ (x : TinkError). x.kind) fault) (text, is, subst (λ x. AppendsPrefix old new x) same front, rose)
 
 -- a fault is no kind by which nothing is written
 pub fault_left : {K : Type 0} (old new : K) (result : Result (Unit {0}) TinkError) → IfErr result (λ e. e ≡ record { kind = WriteFault }) → IfErr result (λ e. IsUnwritten e.kind → new ≡ old)

@@ -3,7 +3,7 @@ use Rattle.std.proofs.Common.{◌≡◌, ◌∙◌, ℕ, List, refl, ap, subst, 
 use Rattle.std.specs.Prelude.{Ok, Err, Option, Result, Vec, IfErr, IfOk, OnErr, OnOk}
 use Rattle.std.specs.Io.KnownBytes.{Appends}
 use Rattle.tink_io.specs.Faults.{Rose}
-use Rattle.tink_io.specs.Written.{AppendsFront}
+use Rattle.tink_io.specs.Written.{AppendsPrefix}
 use Rattle.tink_io.specs.declared.error.Kind.{Kind}
 use Rattle.tink_io.specs.declared.error.Kind.TheVariants.{OutOfMemory, RandomFault, WriteFault}
 use Rattle.tink_io.specs.declared.error.TinkError.{TinkError}
@@ -36,8 +36,8 @@ not_written n got faults e is = rw is (refl, refl)
 
 -- the lines were written, or a prefix of them
 pub lines_written : (n : ℕ) (old new : Option (List ℕ)) (before now : ℕ) (written : List ℕ) (result : Result (Unit {0}) TinkError) → written ≡ lines_of n
-    → OnOk result (Appends old new written) → OnErr result (AppendsFront old new written) → OnErr result (Rose before now) → IfErr result (λ e. e ≡ record { kind = WriteFault })
+    → OnOk result (Appends old new written) → OnErr result (AppendsPrefix old new written) → OnErr result (Rose before now) → IfErr result (λ e. e ≡ record { kind = WriteFault })
     → WritesLarge n old new before now result
 lines_written n old new before now written (Ok done) same whole front rose fault = subst (λ x. Appends old new x) same whole
 lines_written n old new before now written (Err e) same whole front rose fault =
-    rw (ap (λ (x : TinkError). x.kind) fault) (subst (λ x. AppendsFront old new x) same front, rose)
+    rw (ap (λ (x : TinkError). x.kind) fault) (subst (λ x. AppendsPrefix old new x) same front, rose)

@@ -10,7 +10,7 @@ use Rattle.tink_keyset_io.specs.Reading.{IsUnreadText}
 use Rattle.tink_range.specs.ChunkReading.{Moments}
 use Rattle.tink_range.specs.Giving.{Cutting, GaveAll, GaveSome, GaveUpTo}
 use Rattle.tink_range.specs.KeyRanges.{IsCutUnder, RangesUnder, RangesUnderRefused}
-use Rattle.tink_range.specs.RangeReading.{GaveFrontOfRange, GaveRange, RangeRefused, StopsAtLast, range_end, range_start}
+use Rattle.tink_range.specs.RangeReading.{GavePrefixOfRange, GaveRange, RangeRefused, StopsAtLast, range_end, range_start}
 use Rattle.tink_run.specs.AllKeys.{load}
 use Rattle.tink_run.specs.HeldKeys.{GivesLoaded}
 use Rattle.tink_run.specs.Outside.{Outside}
@@ -55,7 +55,7 @@ module _ {W : Type 0} (got : W → Option (List ℕ)) (faults : W → ℕ) where
     gave_range : (n : ℕ) → GaveRange got faults c behind start len e n → GaveRange got_at faults_at c behind start len (told e) n
     gave_range n g = record { few = g.few; checked = g.checked; gave = gave_all n g.gave }
 
-    gave_front : (before after : ℕ) → GaveFrontOfRange got faults c behind start len e before after → GaveFrontOfRange got_at faults_at c behind start len (told e) before after
+    gave_front : (before after : ℕ) → GavePrefixOfRange got faults c behind start len e before after → GavePrefixOfRange got_at faults_at c behind start len (told e) before after
     unfolding gave_some
     gave_front before after g = record { few = g.few; gave = gave_some before after g.gave; checked = g.checked }
 

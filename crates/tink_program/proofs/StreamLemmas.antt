@@ -4,7 +4,7 @@ use Rattle.std.specs.declared.option.Option.{Option}
 use Rattle.std.specs.Prelude.{Result, Ok, Err, OnErr, OnOk}
 use Rattle.std.specs.Io.KnownBytes.{Appends}
 use Rattle.tink_io.specs.Faults.{Rose}
-use Rattle.tink_io.specs.Written.{AppendsFront, WritesOrFaults}
+use Rattle.tink_io.specs.Written.{AppendsPrefix, WritesOrFaults}
 use Rattle.tink_io.specs.declared.error.Kind.{Kind}
 use Rattle.tink_io.specs.declared.error.Kind.TheVariants.{OutOfMemory, ReadFault, WriteFault, RandomFault, BadKeyset, InvalidKeyset, UnsupportedKeyType, InvalidKey, NoPrimary, WrongPrimitive, UnsupportedHash, TooManySegments, NoMatchingKey, BadSegment, Truncated, UnknownTemplate, NoFreshId, InputTooLong, BadToken, MacMismatch}
 use Rattle.tink_io.specs.declared.error.TinkError.{TinkError}
@@ -354,6 +354,6 @@ want_opened keyset aad outside =
 
 -- a line that was written, or whose writing failed
 pub line_written : (a b : Option (List ℕ)) (i j : ℕ) (answer : Result (Unit {0}) TinkError) (bs : List ℕ)
-    → OnOk answer (Appends a b bs) → OnErr answer (AppendsFront a b bs) → OnErr answer (Rose i j) → WritesOrFaults a b i j bs
+    → OnOk answer (Appends a b bs) → OnErr answer (AppendsPrefix a b bs) → OnErr answer (Rose i j) → WritesOrFaults a b i j bs
 line_written a b i j (Ok v) bs whole front rose = inl whole
 line_written a b i j (Err e) bs whole front rose = inr (front, rose)

@@ -2,7 +2,7 @@
 use Rattle.std.specs.Prelude.{◌≡◌, ℕ, List, Option, Result, Ok, Err, Vec}
 use Rattle.std.specs.Io.KnownBytes.{Appends}
 use Rattle.tink_io.specs.Faults.{Rose}
-use Rattle.tink_io.specs.Written.{AppendsFront}
+use Rattle.tink_io.specs.Written.{AppendsPrefix}
 use Rattle.tink_io.specs.declared.error.Kind.{Kind}
 use Rattle.tink_io.specs.declared.error.Kind.TheVariants.{OutOfMemory, WriteFault, BadKeyset, InvalidKeyset, UnknownTemplate, NoFreshId}
 use Rattle.tink_io.specs.declared.error.TinkError.{TinkError}
@@ -61,7 +61,7 @@ GivesLine r (Err e) = RefusesRotation r e.kind
 -- a call writes the line, or refuses: after a fault a prefix of it is written, before that nothing
 abbrev pub RefusesLine : Rotation → Option (List ℕ) → Option (List ℕ) → ℕ → ℕ → Kind → Type 0
 RefusesLine r old new before now WriteFault =
-    (text : List ℕ) × IsLine r text × AppendsFront old new text × Rose before now
+    (text : List ℕ) × IsLine r text × AppendsPrefix old new text × Rose before now
 RefusesLine r old new before now kind = RefusesRotation r kind × (new ≡ old) × (now ≡ before)
 
 abbrev pub WritesLine : Rotation → Option (List ℕ) → Option (List ℕ) → ℕ → ℕ → Result (Unit {0}) TinkError → Type 0
@@ -78,7 +78,7 @@ pub record WroteText (old new : Outside) (text : List ℕ) : Type 0 where
 pub record WrotePrefix (old new : Outside) (text : List ℕ) : Type 0 where
   pub left : new.left ≡ old.left
   pub read_faults : new.read_faults ≡ old.read_faults
-  pub written : AppendsFront old.got new.got text
+  pub written : AppendsPrefix old.got new.got text
   pub rose : Rose old.write_faults new.write_faults
 
 -- what stands after each outcome of a command that makes a keyset, and why it came

@@ -2,7 +2,7 @@
 use Rattle.std.specs.Prelude.{◌≡◌, ℕ, List, replicate, Option, Result, Ok, Err}
 use Rattle.std.specs.Io.KnownBytes.{Appends}
 use Rattle.tink_io.specs.Faults.{Rose}
-use Rattle.tink_io.specs.Written.{AppendsFront}
+use Rattle.tink_io.specs.Written.{AppendsPrefix}
 use Rattle.tink_io.specs.declared.error.Kind.{Kind}
 use Rattle.tink_io.specs.declared.error.Kind.TheVariants.{OutOfMemory, WriteFault}
 use Rattle.tink_io.specs.declared.error.TinkError.{TinkError}
@@ -25,7 +25,7 @@ lines_of n = large_output n large_draws
 -- a call writes them, or refuses: after a fault a prefix of them is written, before that nothing. `OutOfMemory` is free.
 abbrev pub RefusesLarge : ℕ → Option (List ℕ) → Option (List ℕ) → ℕ → ℕ → Kind → Type 0
 RefusesLarge n old new before now OutOfMemory = (new ≡ old) × (now ≡ before)
-RefusesLarge n old new before now WriteFault = AppendsFront old new (lines_of n) × Rose before now
+RefusesLarge n old new before now WriteFault = AppendsPrefix old new (lines_of n) × Rose before now
 RefusesLarge n old new before now _ = ⊥
 
 abbrev pub WritesLarge : ℕ → Option (List ℕ) → Option (List ℕ) → ℕ → ℕ → Result (Unit {0}) TinkError → Type 0

@@ -4,9 +4,9 @@ use Rattle.std.specs.Prelude.{Result}
 use Rattle.std.proofs.Math.Seq.{take-length}
 use Rattle.std.specs.declared.option.Option.{Option}
 use Rattle.std.specs.Io.KnownBytes.{Appends}
-use Rattle.tink_io.specs.Written.{AppendsFront}
+use Rattle.tink_io.specs.Written.{AppendsPrefix}
 use Rattle.tink_io.proofs.FaultLemmas.{Rose-earlier}
-use Rattle.tink_io.proofs.WrittenLemmas.{then_front}
+use Rattle.tink_io.proofs.WrittenLemmas.{then_prefix}
 use Rattle.tink_io.specs.declared.error.TinkError.{TinkError}
 use Rattle.tink_io.specs.declared.error.Kind.{Kind}
 use Rattle.tink_io.specs.declared.error.Kind.TheVariants.{BadSegment, ReadFault, WriteFault}
@@ -24,7 +24,7 @@ use Rattle.tink_range.proofs.GivingSteps.{HasGiven, ended}
 use Rattle.tink_range.proofs.GivingTold.{Appends-none, Giving, IsNext, told_one, told_stops, chunk}
 
 -- all that was written is a prefix of it
-front_whole : (a b : Option (List ℕ)) (xs : List ℕ) → Appends a b xs → AppendsFront a b xs
+front_whole : (a b : Option (List ℕ)) (xs : List ℕ) → Appends a b xs → AppendsPrefix a b xs
 front_whole a b xs whole = (length xs, omega arith, subst (Appends a b) (sym (take-length xs)) whole)
 
 some_given : (c : Cutting) (lo hi : ℕ) (all : Option (List ℕ)) (number start text : ℕ) (bytes : List ℕ) → IfSome all (HasGiven c lo hi number start text bytes) → IfSome all (λ S. SomeGive c.seg c.over lo hi (chunks_in c S) bytes)
@@ -54,13 +54,13 @@ module _ {W : Type 0} (got : W → Option (List ℕ)) (faults : W → ℕ) (c : 
     rose = Rose-earlier _ _ _ before one.rose;
     bytes = state.bytes;
     gives = some_given c lo hi e.all number start text state.bytes state.gives;
-    written = subst (λ (w : W). AppendsFront (got e.old) (got w) state.bytes) (sym one.same) (front_whole (got e.old) (got mid) state.bytes state.written);
+    written = subst (λ (w : W). AppendsPrefix (got e.old) (got w) state.bytes) (sym one.same) (front_whole (got e.old) (got mid) state.bytes state.written);
   }
   gave_refused mid behind given number start text reads WriteFault before later here long state one = record {
     rose = Rose-earlier _ _ _ later one.rose;
     bytes = state.bytes ++ within lo hi text one.text;
     gives = some_given c lo hi e.all _ _ _ (state.bytes ++ within lo hi text one.text) (told_one c lo hi behind number start text here e.all state.bytes one.text long state.gives one.opens);
-    written = then_front (got e.old) (got mid) (got e.new) state.bytes (within lo hi text one.text) state.written one.written;
+    written = then_prefix (got e.old) (got mid) (got e.new) state.bytes (within lo hi text one.text) state.written one.written;
   }
   gave_refused mid behind given number start text reads (BadSegment n) before later here long state one = record {
     bytes = state.bytes;

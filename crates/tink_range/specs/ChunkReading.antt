@@ -3,7 +3,7 @@ use Rattle.std.specs.Prelude.{◌≡◌, ℕ, ◌+◌, min, Bool, true, false, L
 use Rattle.std.specs.declared.option.Option.{Option}
 use Rattle.std.specs.Io.KnownBytes.{Appends}
 use Rattle.tink_io.specs.Faults.{Rose}
-use Rattle.tink_io.specs.Written.{AppendsFront}
+use Rattle.tink_io.specs.Written.{AppendsPrefix}
 use Rattle.tink_io.specs.declared.error.Kind.{Kind}
 use Rattle.tink_io.specs.declared.error.Kind.TheVariants.{BadSegment, ReadFault, WriteFault}
 use Rattle.tink_io.specs.declared.error.TinkError.{TinkError}
@@ -47,7 +47,7 @@ module _ {W : Type 0} (got : W → Option (List ℕ)) (faults : W → ℕ) (seg 
     pub text : List ℕ
     pub opens : OpensAt seg c e.all true text
     pub fits : length text + over ≡ min c.rest c.room
-    pub written : AppendsFront (got e.old) (got e.new) (within lo hi at text)
+    pub written : AppendsPrefix (got e.old) (got e.new) (within lo hi at text)
     pub rose : Rose (faults e.old) (faults e.new)
 
   -- the object failed, and nothing was written

@@ -3,7 +3,7 @@ use Rattle.std.specs.Prelude.{◌≡◌, ℕ, Bool, List, length, drop, IfSome, 
 use Rattle.std.specs.declared.option.Option.{Option}
 use Rattle.std.specs.Io.KnownBytes.{Appends}
 use Rattle.tink_io.specs.Faults.{Rose}
-use Rattle.tink_io.specs.Written.{AppendsFront}
+use Rattle.tink_io.specs.Written.{AppendsPrefix}
 use Rattle.tink_io.specs.declared.error.Kind.{Kind}
 use Rattle.tink_io.specs.declared.error.Kind.TheVariants.{BadSegment, ReadFault, WriteFault}
 use Rattle.tink_io.specs.declared.error.TinkError.{TinkError}
@@ -37,7 +37,7 @@ module _ {W : Type 0} (got : W → Option (List ℕ)) (faults : W → ℕ) (c : 
     pub rose : Rose before after
     pub bytes : List ℕ
     pub gives : IfSome e.all (λ S. SomeGive c.seg c.over lo hi (chunks_in c S) bytes)
-    pub written : AppendsFront (got e.old) (got e.new) bytes
+    pub written : AppendsPrefix (got e.old) (got e.new) bytes
 
   -- chunk n is the first touched one that is the segment of no text, and what those before it give was written
   pub record GaveUpTo (n : ℕ) : Type 0 where

@@ -46,7 +46,7 @@ module _ {W : Type 0} (got : W → Option (List ℕ)) (faults : W → ℕ) (c : 
     pub gave : GaveAll got faults c (range_start c behind start) (range_end c behind start len) e n
 
   -- the object or the sink failed: nothing was written where the last chunk is the segment of no text
-  pub record GaveFrontOfRange (before after : ℕ) : Type 0 where
+  pub record GavePrefixOfRange (before after : ℕ) : Type 0 where
     pub few : chunk_count c.first c.size behind ≤ 2 ^ 32
     pub gave : GaveSome got faults c (range_start c behind start) (range_end c behind start len) e before after
     pub checked : (gave.bytes ≡ []) ⊎ Checked
@@ -70,8 +70,8 @@ module _ {W : Type 0} (got : W → Option (List ℕ)) (faults : W → ℕ) (c : 
 
   -- each refusal
   abbrev pub RangeRefused : Kind → Type 0
-  RangeRefused ReadFault = GaveFrontOfRange e.reads_before e.reads_after
-  RangeRefused WriteFault = GaveFrontOfRange (faults e.old) (faults e.new)
+  RangeRefused ReadFault = GavePrefixOfRange e.reads_before e.reads_after
+  RangeRefused WriteFault = GavePrefixOfRange (faults e.old) (faults e.new)
   RangeRefused TooManySegments = HasTooManyChunks
   RangeRefused (Truncated n) = StopsAtLast n (λ size. size < c.over)
   RangeRefused (BadSegment n) = StopsAtLast n (λ size. c.over ≤ size) ⊎ StopsInRange n

@@ -2,7 +2,7 @@ ghost use Rattle.std.specs.Prelude.{◌≡◌, ◌≤◌, ◌<◌, ◌+◌, leng
 ghost use Rattle.std.specs.Io.KnownBytes.{Appends};
 ghost use Rattle.tink_io.specs.declared.error.Kind.TheVariants.{WriteFault};
 ghost use Rattle.tink_io.specs.Faults.{Rose};
-ghost use Rattle.tink_io.specs.Written.{AppendsFront};
+ghost use Rattle.tink_io.specs.Written.{AppendsPrefix};
 ghost use Rattle.tink_range.specs.Ranges.{within};
 
 use tink_io::{Sink, TinkError, write_all};
@@ -20,7 +20,7 @@ pub fn write_part<K: Sink>(
     requires touched { lo ≤ at + length text.now }
     ensures written { OnOk result (Appends (K.got sink.old) (K.got sink.new) (within lo hi at text.now)) }
     ensures count { IfOk result (λ n. n ≡ length (within lo hi at text.now)) }
-    ensures front { OnErr result (AppendsFront (K.got sink.old) (K.got sink.new) (within lo hi at text.now)) }
+    ensures front { OnErr result (AppendsPrefix (K.got sink.old) (K.got sink.new) (within lo hi at text.now)) }
     ensures refused { IfErr result (λ e. e ≡ record { kind = WriteFault }) }
     ensures cause { OnErr result (Rose (K.faults sink.old) (K.faults sink.new)) }
     ensures later { K.faults sink.old ≤ K.faults sink.new }

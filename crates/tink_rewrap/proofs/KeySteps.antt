@@ -3,7 +3,7 @@ use Rattle.std.proofs.Common.{◌≡◌, ◌+◌, inl, inr, ◌≤◌, ◌<◌, 
 use Rattle.std.specs.declared.option.Option.{Option}
 use Rattle.std.specs.Prelude.{Result, Ok, Err}
 use Rattle.std.specs.Io.KnownBytes.{Appends, Keeps}
-use Rattle.tink_io.specs.Written.{AppendsFront}
+use Rattle.tink_io.specs.Written.{AppendsPrefix}
 use Rattle.tink_io.specs.declared.error.Kind.{Kind}
 use Rattle.tink_io.specs.declared.error.Kind.TheVariants.{ReadFault, WriteFault, TooManySegments, NoMatchingKey, BadSegment, Truncated}
 use Rattle.tink_io.specs.declared.error.TinkError.{TinkError}
@@ -36,8 +36,8 @@ module _ (opens opens' : Outside → Outside → Result Report TinkError → Typ
   appends : (xs ys : List ℕ) → xs ≡ ys → Appends mid.got new.got xs → Appends old.got new.got ys
   appends xs ys e w = subst (λ (g : Option (List ℕ)). Appends g new.got ys) got (subst (Appends mid.got new.got) e w)
 
-  fronts : (xs ys : List ℕ) → xs ≡ ys → AppendsFront mid.got new.got xs → AppendsFront old.got new.got ys
-  fronts xs ys e w = subst (λ (g : Option (List ℕ)). AppendsFront g new.got ys) got (subst (AppendsFront mid.got new.got) e w)
+  fronts : (xs ys : List ℕ) → xs ≡ ys → AppendsPrefix mid.got new.got xs → AppendsPrefix old.got new.got ys
+  fronts xs ys e w = subst (λ (g : Option (List ℕ)). AppendsPrefix g new.got ys) got (subst (AppendsPrefix mid.got new.got) e w)
 
   keeps : Keeps mid.got new.got → Keeps old.got new.got
   keeps w = subst (λ (g : Option (List ℕ)). Keeps g new.got) got w

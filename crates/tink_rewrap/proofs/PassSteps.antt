@@ -5,9 +5,9 @@ use Rattle.std.specs.Prelude.{Result, Ok, Err}
 use Rattle.std.specs.Io.KnownBytes.{Appends, Keeps, prepend_known}
 use Rattle.std.proofs.KnownBytes.{Appends-trans}
 use Rattle.tink_io.specs.Faults.{Rose}
-use Rattle.tink_io.specs.Written.{AppendsFront}
+use Rattle.tink_io.specs.Written.{AppendsPrefix}
 use Rattle.tink_io.proofs.FaultLemmas.{Rose-later, Rose-earlier}
-use Rattle.tink_io.proofs.WrittenLemmas.{then_front, front_of_more}
+use Rattle.tink_io.proofs.WrittenLemmas.{then_prefix, prefix_of_more}
 use Rattle.tink_io.specs.declared.error.Kind.{Kind}
 use Rattle.tink_io.specs.declared.error.Kind.TheVariants.{ReadFault, WriteFault, TooManySegments, NoMatchingKey, BadSegment, Truncated, FailedBefore}
 use Rattle.tink_io.specs.declared.error.Kind.TheVariants as kind
@@ -16,7 +16,7 @@ use Rattle.stream_model.specs.Cut.{full_chunks, sealed, unmarked}
 use Rattle.stream_model.proofs.SealingFacts.{length-chunks}
 use Rattle.tink_streams.specs.declared.progress.Progress.TheVariants.{Ended}
 use Rattle.tink_streams.specs.Reading.{ReaderMoment, OpensNext, OpenNextRefused}
-use Rattle.tink_streams.specs.Writing.{WriterMoment, Wrote, WroteFront, WroteAll, WriteRefused, ClosedBy, ClosedShort, CloseMeans, CloseRefused}
+use Rattle.tink_streams.specs.Writing.{WriterMoment, Wrote, WrotePrefix, WroteAll, WriteRefused, ClosedBy, ClosedShort, CloseMeans, CloseRefused}
 use Rattle.tink_streams.proofs.WritingFacts.{IsFresh, fresh_filled, wrote_nothing, wrote_more, refused_more, closed_whole, closed_front, stops_front}
 use Rattle.tink_run.specs.declared.report.Report.{Report}
 use Rattle.tink_run.specs.Outside.{Outside}
@@ -41,11 +41,11 @@ module _ (front : List ℕ) (seg : ℕ → Bool → List ℕ → List ℕ) (a b 
   few_chunks n text p = omega (arith, p.few, p.counted, f.number, ap length (fresh_filled a b m text f), length-chunks a b text)
 
   -- a prefix of these
-  wrote_less : (n : WriterMoment) (text : List ℕ) → WroteFront seg a b m n text → AppendsFront got n.got (bytes.part text)
+  wrote_less : (n : WriterMoment) (text : List ℕ) → WrotePrefix seg a b m n text → AppendsPrefix got n.got (bytes.part text)
   wrote_less n text p =
-      subst (AppendsFront got n.got) (ap (λ i. front ++ unmarked seg i (full_chunks a b text)) f.number)
-      (then_front got m.got n.got front (unmarked seg m.number (full_chunks a b text)) w
-      (subst (λ (cs : List (List ℕ)). AppendsFront m.got n.got (unmarked seg m.number cs)) (fresh_filled a b m text f) (stops_front seg m.number n.number _ m.got n.got p.stops)))
+      subst (AppendsPrefix got n.got) (ap (λ i. front ++ unmarked seg i (full_chunks a b text)) f.number)
+      (then_prefix got m.got n.got front (unmarked seg m.number (full_chunks a b text)) w
+      (subst (λ (cs : List (List ℕ)). AppendsPrefix m.got n.got (unmarked seg m.number cs)) (fresh_filled a b m text f) (stops_front seg m.number n.number _ m.got n.got p.stops)))
 
   -- as many as there are numbers for
   wrote_longest : (n : WriterMoment) (text : List ℕ) → WroteAll seg a b m n text → Appends got n.got (bytes.longest text)
@@ -63,8 +63,8 @@ module _ (front : List ℕ) (seg : ℕ → Bool → List ℕ → List ℕ) (a b 
       let whole = closed_whole seg a b m n o text f p c in
       (Appends-trans got m.got o.got front (sealed seg a b text) w whole.0, whole.1)
 
-  wrote_whole_less : (n o : WriterMoment) (text : List ℕ) → Wrote seg a b m n text → ClosedShort seg n o → AppendsFront got o.got (bytes.whole text)
-  wrote_whole_less n o text p c = then_front got m.got o.got front (sealed seg a b text) w (closed_front seg a b m n o text f p c)
+  wrote_whole_less : (n o : WriterMoment) (text : List ℕ) → Wrote seg a b m n text → ClosedShort seg n o → AppendsPrefix got o.got (bytes.whole text)
+  wrote_whole_less n o text p c = then_prefix got m.got o.got front (sealed seg a b text) w (closed_front seg a b m n o text f p c)
 
 -- Of the texts that were opened all but the last went to the writer, which began behind the front.
 pub record IsUnderWay (read : ℕ → Bool → List ℕ → List ℕ) (first size : ℕ) (front : List ℕ) (seg : ℕ → Bool → List ℕ → List ℕ) (a b : ℕ) (old : Outside) (m : ReaderMoment) (w : WriterMoment) (bytes : ℕ) : Type 0 where
@@ -99,12 +99,12 @@ module _ (read : ℕ → Bool → List ℕ → List ℕ) (first size overhead : 
   first_failed old new m n _ z same later more w x = absurd x
 
   -- the sink failed in the front
-  pub front_failed : (old new : Outside) → AppendsFront old.got new.got front → Rose old.write_faults new.write_faults → Refused old new WriteFault
+  pub front_failed : (old new : Outside) → AppendsPrefix old.got new.got front → Rose old.write_faults new.write_faults → Refused old new WriteFault
   front_failed old new w rose = record {
     text = [];
     begun = tt;
     opened = (record { texts = []; lead = any_told old.left; written = kept_front (Some []) (Some []) [] refl }, rose);
-    written = inl (front_of_more old.got new.got front _ w);
+    written = inl (prefix_of_more old.got new.got front _ w);
   }
 
   -- the first segment was opened, and the front was written
@@ -167,7 +167,7 @@ module _ (read : ℕ → Bool → List ℕ → List ℕ) (first size overhead : 
           text = text;
           begun = tt;
           opened = broke new (Rose-later w.faults v.faults new.write_faults r.rose more);
-          written = inl (subst (λ (g : Option (List ℕ)). AppendsFront old.got g (made.part text)) (sym got) (wrote_less front seg a b old.got u.start u.fresh u.begun v text x));
+          written = inl (subst (λ (g : Option (List ℕ)). AppendsPrefix old.got g (made.part text)) (sym got) (wrote_less front seg a b old.got u.start u.fresh u.begun v text x));
         }
         go TooManySegments x r = inl (record {
           text = text;
@@ -216,7 +216,7 @@ module _ (read : ℕ → Bool → List ℕ → List ℕ) (first size overhead : 
         written = inr (record {
           accepted = m.number;
           opened = whole m.number refl;
-          written = subst (λ (g : Option (List ℕ)). AppendsFront old.got g (made.whole text)) (sym got) (wrote_whole_less front seg a b old.got u.start u.fresh u.begun v o text (wrote_text v wrote) r);
+          written = subst (λ (g : Option (List ℕ)). AppendsPrefix old.got g (made.whole text)) (sym got) (wrote_whole_less front seg a b old.got u.start u.fresh u.begun v o text (wrote_text v wrote) r);
         });
       }
       not_closed (FailedBefore c) later since more r = absurd (let e = sym wrote.is_open ∙ r.0 in cc)

@@ -5,8 +5,8 @@ use Rattle.std.proofs.lemmas.List.{take-append-drop}
 use Rattle.std.specs.declared.option.Option.{Option}
 use Rattle.std.specs.Prelude.{Result, Ok, Err, IfOk}
 use Rattle.std.specs.Io.KnownBytes.{Appends, Keeps}
-use Rattle.tink_io.specs.Written.{AppendsFront}
-use Rattle.tink_io.proofs.WrittenLemmas.{front_of_more}
+use Rattle.tink_io.specs.Written.{AppendsPrefix}
+use Rattle.tink_io.proofs.WrittenLemmas.{prefix_of_more}
 use Rattle.tink_io.specs.declared.error.Kind.{Kind}
 use Rattle.tink_io.specs.declared.error.Kind.TheVariants.{OutOfMemory, ReadFault, WriteFault, RandomFault, BadKeyset, InvalidKeyset, UnsupportedKeyType, InvalidKey, NoPrimary, WrongPrimitive, UnsupportedHash, TooManySegments, NoMatchingKey, BadSegment, Truncated}
 use Rattle.tink_io.specs.declared.error.TinkError.{TinkError}
@@ -62,17 +62,17 @@ module _ (k : StreamKey) (aad salt prefix : List ℕ) where
       let more = chunks_behind (take (2 ^ 32 - 1) all) (drop (2 ^ 32 - 1) all) in
       (more.0, ap (λ cs. front k salt prefix ++ unmarked_under k (keys_of k aad salt) prefix cs) (sym (take-append-drop (2 ^ 32 - 1) all)) ∙ more.1)
 
-  longest_front : (R : List ℕ) (a b : Option (List ℕ)) → Appends a b (longest_part k aad salt prefix R) → AppendsFront a b (part k aad salt prefix R)
+  longest_front : (R : List ℕ) (a b : Option (List ℕ)) → Appends a b (longest_part k aad salt prefix R) → AppendsPrefix a b (part k aad salt prefix R)
   longest_front R a b w =
       let more = longest_begins R in
-      subst (AppendsFront a b) (sym more.1) (front_of_more a b (longest_part k aad salt prefix R) more.0 (whole_front a b (longest_part k aad salt prefix R) w))
+      subst (AppendsPrefix a b) (sym more.1) (prefix_of_more a b (longest_part k aad salt prefix R) more.0 (whole_front a b (longest_part k aad salt prefix R) w))
 
   -- a prefix of the part of a prefix of a text
-  part_front : (n : ℕ) (R J : List ℕ) (a b : Option (List ℕ)) → 0 < first_room k → 0 < room k → R ≡ take n J → AppendsFront a b (part k aad salt prefix R) → AppendsFront a b (part k aad salt prefix J)
+  part_front : (n : ℕ) (R J : List ℕ) (a b : Option (List ℕ)) → 0 < first_room k → 0 < room k → R ≡ take n J → AppendsPrefix a b (part k aad salt prefix R) → AppendsPrefix a b (part k aad salt prefix J)
   part_front n R J a b p q e w =
       let whole : J ≡ R ++ drop n J = sym (take-append-drop n J) ∙ ap (λ xs. xs ++ drop n J) (sym e) in
       let more = part_more R (drop n J) p q in
-      subst (AppendsFront a b) (sym (ap (part k aad salt prefix) whole ∙ more.1)) (front_of_more a b (part k aad salt prefix R) more.0 w)
+      subst (AppendsPrefix a b) (sym (ap (part k aad salt prefix) whole ∙ more.1)) (prefix_of_more a b (part k aad salt prefix R) more.0 w)
 
 -- a prefix of a text has no more chunks
 count_front : (k : StreamKey) (n : ℕ) (R J : List ℕ) → 0 < first_room k → 0 < room k → R ≡ take n J → chunk_count k R ≤ chunk_count k J
@@ -109,7 +109,7 @@ module _ (keyset aad S G : List ℕ) (l : Loaded) (old new : Outside) (told : To
   agreeing text (Err e) o = stream_agreeing keyset aad S [] l (into [] old) (into text new) e.kind loads told_in o
 
   broken_agreeing : (text : List ℕ) (key : OpeningKey) (texts : List (List ℕ)) → IsBroken (opening_keys aad l) (into [] old) (into text new) → IsChosen (opening_keys aad l) S (Some key) → IsAgreed key S texts
-      → AppendsFront (Some []) (Some text) (joined texts)
+      → AppendsPrefix (Some []) (Some text) (joined texts)
   broken_agreeing text key texts b chosen agreed =
       let before : Outside = record { left = old.left; read_faults = 0; got = Some []; write_faults = 0 } in
       let after : Outside = record { left = new.left; read_faults = 0; got = Some text; write_faults = 1 } in
@@ -175,12 +175,12 @@ module _ (s : Sides) (draws S G : List ℕ) (old new : Outside) (told : Told old
 
   -- where a key is chosen
   module _ (key : OpeningKey) (texts : List (List ℕ)) (chosen : IsChosen keys S (Some key)) (agreed : IsAgreed key S texts) where
-    of_agreed : (text : List ℕ) → IsOfAgreeing s.from s.from_aad S (into [] old) (into text new) → AppendsFront old.got new.got (made text) → AppendsFront old.got new.got (made (joined texts))
+    of_agreed : (text : List ℕ) → IsOfAgreeing s.from s.from_aad S (into [] old) (into text new) → AppendsPrefix old.got new.got (made text) → AppendsPrefix old.got new.got (made (joined texts))
     of_agreed text a w =
         let f = a.under_a_key l key texts from chosen agreed in
         part_front m.primary s.to_aad (salt_of m.primary draws) (prefix_of m.primary draws) f.0 text (joined texts) old.got new.got first_some later_some f.2 w
 
-    of_led : (text : List ℕ) → IsBroken keys (into [] old) (into text new) → AppendsFront old.got new.got (made text) → AppendsFront old.got new.got (made (joined texts))
+    of_led : (text : List ℕ) → IsBroken keys (into [] old) (into text new) → AppendsPrefix old.got new.got (made text) → AppendsPrefix old.got new.got (made (joined texts))
     of_led text b w =
         let f = broken_agreeing s.from s.from_aad S G l old new told from text key texts b chosen agreed in
         part_front m.primary s.to_aad (salt_of m.primary draws) (prefix_of m.primary draws) f.0 text (joined texts) old.got new.got first_some later_some f.2 w
@@ -193,10 +193,10 @@ module _ (s : Sides) (draws S G : List ℕ) (old new : Outside) (told : Told old
         let same : w.key ≡ key = cc in
         (w.texts, subst (λ (k : OpeningKey). IsStream k S w.texts) same w.stream)
 
-    stops : (kind : Kind) → StopsBy (OpeningMeans keys) (IsBroken keys) (HasKey keys) (bytes_under m.primary s.to_aad draws) old new kind → AppendsFront old.got new.got (made (joined texts))
+    stops : (kind : Kind) → StopsBy (OpeningMeans keys) (IsBroken keys) (HasKey keys) (bytes_under m.primary s.to_aad draws) old new kind → AppendsPrefix old.got new.got (made (joined texts))
     stops kind x = of_agreed x.text (agreeing s.from s.from_aad S G l old new told from x.text (Err (record { kind = kind })) x.opened) (whole_front old.got new.got (made x.text) x.written)
 
-    refused_unended : (e : TinkError) → (MayEnd (Err e) key S → ⊥) → (kind : Kind) → e.kind ≡ kind → Refused kind → AppendsFront old.got new.got (made (joined texts))
+    refused_unended : (e : TinkError) → (MayEnd (Err e) key S → ⊥) → (kind : Kind) → e.kind ≡ kind → Refused kind → AppendsPrefix old.got new.got (made (joined texts))
     refused_unended e may NoMatchingKey same x = kept_front old.got new.got (made (joined texts)) x.written
     refused_unended e may TooManySegments same (inl x) = of_led x.text x.opened (longest_front m.primary s.to_aad (salt_of m.primary draws) (prefix_of m.primary draws) x.text old.got new.got x.written)
     refused_unended e may TooManySegments same (inr x) = stops TooManySegments x
@@ -212,7 +212,7 @@ module _ (s : Sides) (draws S G : List ℕ) (old new : Outside) (told : Told old
     ]
     refused_unended e may _ same x = absurd x
 
-    pass_unended : (answer : Result Report TinkError) → (MayEnd answer key S → ⊥) → Passes answer → AppendsFront old.got new.got (made (joined texts))
+    pass_unended : (answer : Result Report TinkError) → (MayEnd answer key S → ⊥) → Passes answer → AppendsPrefix old.got new.got (made (joined texts))
     pass_unended (Ok report) may x = absurd (may (is_stream x.text x.accepted x.opened))
     pass_unended (Err e) may x = refused_unended e may e.kind refl x
 
@@ -227,7 +227,7 @@ module _ (s : Sides) (draws S G : List ℕ) (old new : Outside) (told : Told old
     none_until : (texts : List (List ℕ)) (P : List ℕ → OpeningKey → Type 0) → IfSome old.left (λ X. AgreesUntil keys X texts (P X)) → ⊥
     none_until texts P x = let a = told_if (λ X. AgreesUntil keys X texts (P X)) old.left S told.left x in not_chosen a.key a.chosen
 
-    no_lead : (texts : List (List ℕ)) (text : List ℕ) → Lead keys S texts → AppendsFront (Some []) (Some text) (joined texts) → 2 ^ 32 < chunk_count m.primary text → ⊥
+    no_lead : (texts : List (List ℕ)) (text : List ℕ) → Lead keys S texts → AppendsPrefix (Some []) (Some text) (joined texts) → 2 ^ 32 < chunk_count m.primary text → ⊥
     no_lead [] text lead w many =
         let empty : text ≡ [] = w.2 ∙ take_none w.0 in
         omega (arith, many, ap (chunk_count m.primary) empty, length-chunks (first_room m.primary) (room m.primary) [], ap length (full_chunks_fits (first_room m.primary) (room m.primary) [] (omega arith)))
@@ -317,7 +317,7 @@ ended_nowhere s draws S G old new answer t (Passed l m from to x) = record {
   under_a_key = λ i j key texts p q chosen agreed may.
       let of_from : i ≡ l = same_loaded s.from i l p from in
       let of_to : m ≡ j = same_loaded s.to m j to q in
-      subst (λ (y : Loaded). AppendsFront old.got new.got (part y.primary s.to_aad (salt_of y.primary draws) (prefix_of y.primary draws) (joined texts))) of_to
+      subst (λ (y : Loaded). AppendsPrefix old.got new.got (part y.primary s.to_aad (salt_of y.primary draws) (prefix_of y.primary draws) (joined texts))) of_to
       (pass_unended s draws S G old new t l m from to key texts (subst (λ (y : Loaded). IsChosen (opening_keys s.from_aad y) S (Some key)) of_from chosen) agreed answer may x);
   under_none = λ i p none.
       let of_from : i ≡ l = same_loaded s.from i l p from in

@@ -1,7 +1,7 @@
 -- A source whose text goes, as it opens, into a new stream.
 use Rattle.std.specs.Prelude.{◌≡◌, ◌⊎◌, ℕ, ◌<◌, ◌≤◌, ◌+◌, ◌-◌, ◌^◌, Bool, List, [], ◌++◌, All, length, take, Result, Ok, Err, Some, vec_capacity, vec_len}
 use Rattle.std.specs.Io.KnownBytes.{Appends, Keeps}
-use Rattle.tink_io.specs.Written.{AppendsFront}
+use Rattle.tink_io.specs.Written.{AppendsPrefix}
 use Rattle.tink_io.specs.declared.error.Kind.{Kind}
 use Rattle.tink_io.specs.declared.error.Kind.TheVariants.{ReadFault, WriteFault, TooManySegments, NoMatchingKey, BadSegment, Truncated}
 use Rattle.tink_io.specs.declared.error.TinkError.{TinkError}
@@ -91,14 +91,14 @@ module _ (opens : Outside → Outside → Result Report TinkError → Type 0) (l
   pub record BreaksAtEnd (text : List ℕ) : Type 0 where
     pub accepted : ℕ
     pub opened : opens (into [] old) (into text new) (Ok (record { segments = accepted; bytes = length text }))
-    pub written : AppendsFront old.got new.got (b.whole text)
+    pub written : AppendsPrefix old.got new.got (b.whole text)
 
   -- the sink failed, as if it were that of the open, in the stream of a source that begins under a key
   pub record SinkBroke : Type 0 where
     pub text : List ℕ
     pub begun : begins old
     pub opened : opens (into [] old) (into text new) (Err (record { kind = WriteFault }))
-    pub written : AppendsFront old.got new.got (b.part text) ⊎ BreaksAtEnd text
+    pub written : AppendsPrefix old.got new.got (b.part text) ⊎ BreaksAtEnd text
 
   abbrev pub PassRefused : Kind → Type 0
   PassRefused NoMatchingKey = BeginsNowhere NoMatchingKey

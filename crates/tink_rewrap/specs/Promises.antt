@@ -1,7 +1,7 @@
 -- The promises of a rewrap over bytes that are told.
 use Rattle.std.specs.Prelude.{◌≡◌, ℕ, ◌≤◌, ◌^◌, List, [], ◌++◌, length, drop, Some, None, Result, Ok, Err}
 use Rattle.std.specs.Io.KnownBytes.{Keeps}
-use Rattle.tink_io.specs.Written.{AppendsFront}
+use Rattle.tink_io.specs.Written.{AppendsPrefix}
 use Rattle.tink_io.specs.declared.error.Kind.{Kind}
 use Rattle.tink_io.specs.declared.error.Kind.TheVariants.{WriteFault}
 use Rattle.tink_io.specs.declared.error.TinkError.{TinkError}
@@ -43,7 +43,7 @@ MayEnd (Err e) key S = (e.kind ≡ WriteFault) × (texts : List (List ℕ)) × I
 pub record IsUnended (s : Sides) (draws S : List ℕ) (old new : Outside) (answer : Result Report TinkError) : Type 0 where
   pub under_a_key : (l m : Loaded) (key : OpeningKey) (texts : List (List ℕ)) → load s.from ≡ Ok l → load s.to ≡ Ok m
       → IsChosen (opening_keys s.from_aad l) S (Some key) → IsAgreed key S texts → (MayEnd answer key S → ⊥)
-      → AppendsFront old.got new.got (part m.primary s.to_aad (salt_of m.primary draws) (prefix_of m.primary draws) (joined texts))
+      → AppendsPrefix old.got new.got (part m.primary s.to_aad (salt_of m.primary draws) (prefix_of m.primary draws) (joined texts))
   pub under_none : (l : Loaded) → load s.from ≡ Ok l → IsChosen (opening_keys s.from_aad l) S None → Keeps old.got new.got
   pub from_unloaded : (kind : Kind) → load s.from ≡ Err kind → Keeps old.got new.got
   pub to_unloaded : (kind : Kind) → load s.to ≡ Err kind → Keeps old.got new.got

@@ -7,8 +7,8 @@ use Rattle.std.specs.Io.KnownBytes.{Appends, Keeps, IsAtEnd}
 use Rattle.tink_io.specs.declared.error.Kind.{Kind}
 use Rattle.tink_io.specs.declared.error.Kind.TheVariants.{OutOfMemory, ReadFault, WriteFault, BadKeyset, InvalidKeyset, UnsupportedKeyType, InvalidKey, NoPrimary, WrongPrimitive, TooManySegments, NoMatchingKey, BadSegment, Truncated}
 use Rattle.tink_io.specs.declared.error.TinkError.{TinkError}
-use Rattle.tink_io.specs.Written.{AppendsFront}
-use Rattle.tink_io.proofs.WrittenLemmas.{front_of_more}
+use Rattle.tink_io.specs.Written.{AppendsPrefix}
+use Rattle.tink_io.proofs.WrittenLemmas.{prefix_of_more}
 use Rattle.std.proofs.lemmas.List.{append-nil}
 use Rattle.std.proofs.Math.Seq.{take-length}
 use Rattle.stream_model.specs.Cut.{cut}
@@ -87,15 +87,15 @@ stream_agrees k S ts law s = whole_agrees (k.seg (header_of k S)) k.first k.size
 
 -- a prefix of texts that lead is a prefix of texts that agree
 front_of_agreed : (k : OpeningKey) (S : List ℕ) (ts all : List (List ℕ)) (a b : Option (List ℕ)) → Lawful k → AreTextsBy (k.seg (header_of k S)) (chunks_of k S) ts → IsAgreed k S all
-    → AppendsFront a b (joined ts) → AppendsFront a b (joined all)
+    → AppendsPrefix a b (joined ts) → AppendsPrefix a b (joined all)
 front_of_agreed k S ts all a b law p q w =
     let begins = begins_agreed (k.seg (header_of k S)) (chunks_of k S) ts all k.overhead (law.lawful (header_of k S)) p q in
-    subst (AppendsFront a b) (sym (ap joined begins.1 ∙ joined-append ts begins.0)) (front_of_more a b (joined ts) (joined begins.0) w)
+    subst (AppendsPrefix a b) (sym (ap joined begins.1 ∙ joined-append ts begins.0)) (prefix_of_more a b (joined ts) (joined begins.0) w)
 
-pub whole_front : (a b : Option (List ℕ)) (xs : List ℕ) → Appends a b xs → AppendsFront a b xs
+pub whole_front : (a b : Option (List ℕ)) (xs : List ℕ) → Appends a b xs → AppendsPrefix a b xs
 whole_front a b xs w = (length xs, omega arith, subst (Appends a b) (sym (take-length xs)) w)
 
-pub kept_front : (a b : Option (List ℕ)) (xs : List ℕ) → Keeps a b → AppendsFront a b xs
+pub kept_front : (a b : Option (List ℕ)) (xs : List ℕ) → Keeps a b → AppendsPrefix a b xs
 kept_front a b xs w = (0, omega arith, go a b w)
   where
     go : (a b : Option (List ℕ)) → Keeps a b → Appends a b []
@@ -107,14 +107,14 @@ pub same_loaded : (keyset : List ℕ) (l m : Loaded) → load keyset ≡ Ok l �
 same_loaded keyset l m p q = cc
 
 -- what stands by a prefix of leading texts
-written_lead : (keyset aad S : List ℕ) (l : Loaded) (ts : List (List ℕ)) (old new : Outside) → load keyset ≡ Ok l → Lead (opening_keys aad l) S ts → AppendsFront old.got new.got (joined ts) → IsOfAgreeing keyset aad S old new
+written_lead : (keyset aad S : List ℕ) (l : Loaded) (ts : List (List ℕ)) (old new : Outside) → load keyset ≡ Ok l → Lead (opening_keys aad l) S ts → AppendsPrefix old.got new.got (joined ts) → IsOfAgreeing keyset aad S old new
 written_lead keyset aad S l [] old new e lead w = record {
   under_a_key = λ m k all p q r. kept_front old.got new.got (joined all) (nothing old.got new.got w);
   under_none = λ m p q. nothing old.got new.got w;
   unloaded = λ kind p. nothing old.got new.got w;
 }
   where
-    nothing : (a b : Option (List ℕ)) → AppendsFront a b [] → Keeps a b
+    nothing : (a b : Option (List ℕ)) → AppendsPrefix a b [] → Keeps a b
     nothing None b w = tt
     nothing (Some xs) None w = absurd w.2
     nothing (Some xs) (Some ys) w = w.2 ∙ ap (λ z. xs ++ z) (take_none w.0) ∙ append-nil xs
@@ -176,7 +176,7 @@ opened_agreeing keyset aad S G old new report t o =
     let same : o.loaded ≡ w.loaded = same_loaded keyset o.loaded w.loaded o.loads w.loads in
     written_lead keyset aad S w.loaded w.texts old new w.loads lead (told_front old.got new.got G (joined w.texts) t.got w.written)
   where
-    told_front : (a b : Option (List ℕ)) (G xs : List ℕ) → a ≡ Some G → b ≡ Some (G ++ xs) → AppendsFront a b xs
+    told_front : (a b : Option (List ℕ)) (G xs : List ℕ) → a ≡ Some G → b ≡ Some (G ++ xs) → AppendsPrefix a b xs
     told_front a b G xs p q = rw (p, q) (length xs, omega arith, ap (λ ys. G ++ ys) (sym (take-length xs)))
 
     stream_leads : (keys : List OpeningKey) (S : List ℕ) (k : OpeningKey) (ts : List (List ℕ)) → Lawful k → IsChosen keys S (Some k) → IsStream k S ts → Lead keys S ts

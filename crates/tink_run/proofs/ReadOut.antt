@@ -6,9 +6,9 @@ use Rattle.std.specs.Prelude.{Err, IsSome}
 use Rattle.std.specs.Io.KnownBytes.{Appends, Keeps, IsAtEnd, prepend_known}
 use Rattle.std.proofs.KnownBytes.{Appends-nil, Appends-trans}
 use Rattle.tink_io.specs.Faults.{Rose}
-use Rattle.tink_io.specs.Written.{AppendsFront}
+use Rattle.tink_io.specs.Written.{AppendsPrefix}
 use Rattle.tink_io.proofs.FaultLemmas.{Rose-later, Rose-earlier}
-use Rattle.tink_io.proofs.WrittenLemmas.{then_front}
+use Rattle.tink_io.proofs.WrittenLemmas.{then_prefix}
 use Rattle.tink_io.specs.declared.error.Kind.{Kind}
 use Rattle.tink_io.specs.declared.error.Kind.TheVariants.{ReadFault, TooManySegments, NoMatchingKey, BadSegment, Truncated}
 use Rattle.tink_io.specs.declared.error.TinkError.{TinkError}
@@ -42,8 +42,8 @@ joined-one texts t = joined-append texts (t ∷ []) ∙ ap (λ x. joined texts +
 written_one : (texts : List (List ℕ)) (t : List ℕ) (a b c : Option (List ℕ)) → Appends a b (joined texts) → Appends b c t → Appends a c (joined (texts ++ (t ∷ [])))
 written_one texts t a b c p q = subst (Appends a c) (sym (joined-one texts t)) (Appends-trans a b c (joined texts) t p q)
 
-front_one : (texts : List (List ℕ)) (t : List ℕ) (a b c : Option (List ℕ)) → Appends a b (joined texts) → AppendsFront b c t → AppendsFront a c (joined (texts ++ (t ∷ [])))
-front_one texts t a b c p q = subst (AppendsFront a c) (sym (joined-one texts t)) (then_front a b c (joined texts) t p q)
+front_one : (texts : List (List ℕ)) (t : List ℕ) (a b c : Option (List ℕ)) → Appends a b (joined texts) → AppendsPrefix b c t → AppendsPrefix a c (joined (texts ++ (t ∷ [])))
+front_one texts t a b c p q = subst (AppendsPrefix a c) (sym (joined-one texts t)) (then_prefix a b c (joined texts) t p q)
 
 -- texts that lead are texts of leading segments
 leads_are : (seg : ℕ → Bool → List ℕ → List ℕ) (i : ℕ) (cs ts rest : List (List ℕ)) → Leads seg i cs ts rest → AreTexts seg i cs ts
@@ -144,7 +144,7 @@ read_out seg a b old new now m bytes held report r w ended rest segments total =
 }
 
 -- the sink failed in the text that was opened last
-pub write_failed : (seg : ℕ → Bool → List ℕ → List ℕ) (a b : ℕ) (old new : Outside) (now : Option (List ℕ)) (m : ReaderMoment) (bytes faults : ℕ) → IsReading seg a b old.left old.got now m bytes → AppendsFront now new.got m.opened → old.write_faults ≤ faults → Rose faults new.write_faults
+pub write_failed : (seg : ℕ → Bool → List ℕ → List ℕ) (a b : ℕ) (old new : Outside) (now : Option (List ℕ)) (m : ReaderMoment) (bytes faults : ℕ) → IsReading seg a b old.left old.got now m bytes → AppendsPrefix now new.got m.opened → old.write_faults ≤ faults → Rose faults new.write_faults
     → Breaks seg a b old new × Rose old.write_faults new.write_faults
 write_failed seg a b old new now m bytes faults r w later rose = (
   record {

@@ -5,9 +5,9 @@ use Rattle.std.specs.Prelude.{Result, Ok, Err}
 use Rattle.std.specs.Io.KnownBytes.{Appends, Consumes, IsAtEnd}
 use Rattle.std.proofs.KnownBytes.{Appends-trans, Consumes-nil}
 use Rattle.tink_io.specs.Faults.{Rose}
-use Rattle.tink_io.specs.Written.{AppendsFront}
+use Rattle.tink_io.specs.Written.{AppendsPrefix}
 use Rattle.tink_io.proofs.FaultLemmas.{Rose-later, Rose-earlier}
-use Rattle.tink_io.proofs.WrittenLemmas.{then_front, front_of_more}
+use Rattle.tink_io.proofs.WrittenLemmas.{then_prefix, prefix_of_more}
 use Rattle.tink_io.specs.declared.error.Kind.{Kind}
 use Rattle.tink_io.specs.declared.error.Kind.TheVariants.{OutOfMemory, ReadFault, WriteFault, RandomFault, UnknownHash, UnsupportedHash, TooManySegments, FailedBefore}
 use Rattle.tink_io.specs.declared.error.TinkError.{TinkError}
@@ -18,7 +18,7 @@ use Rattle.tink_stream_keys.specs.Encrypting.{DrewHeader, IsNewStream, NewWriter
 use Rattle.tink_stream_keys.specs.StreamingKeys.{deriving_hash}
 use Rattle.stream_model.specs.Sealing.{stream, part, longest_part, sealed_under, unmarked_under, salt_of, prefix_of}
 use Rattle.stream_model.proofs.SealingFacts.{length-chunks}
-use Rattle.tink_streams.specs.Writing.{WriterMoment, Wrote, WroteFront, WroteAll, ClosedBy, ClosedShort, CloseMeans, CloseRefused}
+use Rattle.tink_streams.specs.Writing.{WriterMoment, Wrote, WrotePrefix, WroteAll, ClosedBy, ClosedShort, CloseMeans, CloseRefused}
 use Rattle.tink_streams.proofs.WritingFacts.{IsFresh, fresh_filled, closed_whole, closed_front, stops_front}
 use Rattle.loading_model.specs.Loading.{Loaded}
 use Rattle.tink_run.specs.AllKeys.{load}
@@ -63,28 +63,28 @@ module _ (k : StreamKey) (aad salt prefix keys : List ℕ) (e : keys_of k aad sa
   }
 
   -- the sink failed in an unmarked segment
-  pub sink_failed : (old new : Outside) (m n : WriterMoment) (text : List ℕ) → IsFresh m → Appends old.got m.got (front k salt prefix) → WroteFront seg (first_room k) (room k) m n text → new.got ≡ n.got → Consumes old.left new.left text
+  pub sink_failed : (old new : Outside) (m n : WriterMoment) (text : List ℕ) → IsFresh m → Appends old.got m.got (front k salt prefix) → WrotePrefix seg (first_room k) (room k) m n text → new.got ≡ n.got → Consumes old.left new.left text
       → old.write_faults ≤ m.faults → n.faults ≤ new.write_faults → SinkFailed k aad salt prefix old new
   sink_failed old new m n text f w p same read later more =
       let chunks = fresh_filled (first_room k) (room k) m text f in
-      let begun : AppendsFront m.got n.got (unmarked seg m.number (full_chunks (first_room k) (room k) text)) =
-      subst (λ (cs : List (List ℕ)). AppendsFront m.got n.got (unmarked seg m.number cs)) chunks (stops_front seg m.number n.number _ m.got n.got p.stops)
+      let begun : AppendsPrefix m.got n.got (unmarked seg m.number (full_chunks (first_room k) (room k) text)) =
+      subst (λ (cs : List (List ℕ)). AppendsPrefix m.got n.got (unmarked seg m.number cs)) chunks (stops_front seg m.number n.number _ m.got n.got p.stops)
       in
-      let whole = then_front old.got m.got n.got (front k salt prefix) _ w begun in
+      let whole = then_prefix old.got m.got n.got (front k salt prefix) _ w begun in
       record {
         text = text;
         read = read;
-        written = inl (subst (λ (b : Option (List ℕ)). AppendsFront old.got b (part k aad salt prefix text)) (sym same)
-            (subst (AppendsFront old.got n.got) (ap (λ i. front k salt prefix ++ unmarked seg i (full_chunks (first_room k) (room k) text)) f.number ∙ part_is text) whole));
+        written = inl (subst (λ (b : Option (List ℕ)). AppendsPrefix old.got b (part k aad salt prefix text)) (sym same)
+            (subst (AppendsPrefix old.got n.got) (ap (λ i. front k salt prefix ++ unmarked seg i (full_chunks (first_room k) (room k) text)) f.number ∙ part_is text) whole));
         rose = Rose-later old.write_faults n.faults new.write_faults (Rose-earlier old.write_faults m.faults n.faults later p.rose) more;
       }
 
   -- the sink failed before any segment
-  pub front_failed : (old new : Outside) → old.left ≡ new.left → AppendsFront old.got new.got (front k salt prefix) → Rose old.write_faults new.write_faults → SinkFailed k aad salt prefix old new
+  pub front_failed : (old new : Outside) → old.left ≡ new.left → AppendsPrefix old.got new.got (front k salt prefix) → Rose old.write_faults new.write_faults → SinkFailed k aad salt prefix old new
   front_failed old new same w rose = record {
     text = [];
     read = subst (λ (b : Option (List ℕ)). Consumes old.left b []) same (Consumes-nil old.left);
-    written = inl (subst (AppendsFront old.got new.got) (part_is []) (front_of_more old.got new.got (front k salt prefix) _ w));
+    written = inl (subst (AppendsPrefix old.got new.got) (part_is []) (prefix_of_more old.got new.got (front k salt prefix) _ w));
     rose = rose;
   }
 
@@ -128,8 +128,8 @@ module _ (k : StreamKey) (aad salt prefix keys : List ℕ) (e : keys_of k aad sa
     read = read;
     written = inr (
       end,
-      subst (λ (b : Option (List ℕ)). AppendsFront old.got b (stream k aad salt prefix text)) (sym same)
-          (subst (AppendsFront old.got o.got) (stream_is text) (then_front old.got m.got o.got (front k salt prefix) _ w (closed_front seg (first_room k) (room k) m n o text f p c))),
+      subst (λ (b : Option (List ℕ)). AppendsPrefix old.got b (stream k aad salt prefix text)) (sym same)
+          (subst (AppendsPrefix old.got o.got) (stream_is text) (then_prefix old.got m.got o.got (front k salt prefix) _ w (closed_front seg (first_room k) (room k) m n o text f p c))),
     );
     rose = Rose-later old.write_faults o.faults new.write_faults (Rose-earlier old.write_faults n.faults o.faults later c.rose) more;
   }

@@ -2,7 +2,7 @@
 use Rattle.std.specs.Prelude.{◌≡◌, ℕ, ◌<◌, ◌≤◌, ◌^◌, Bool, List, [], ◌∷◌, length, slice_index_or, Option, Result, Ok, Err, Some, None, IfSome, IsSome}
 use Rattle.std.specs.Io.KnownBytes.{Appends, Keeps, IsAtEnd}
 use Rattle.tink_io.specs.Faults.{Rose}
-use Rattle.tink_io.specs.Written.{AppendsFront}
+use Rattle.tink_io.specs.Written.{AppendsPrefix}
 use Rattle.tink_io.specs.declared.error.Kind.{Kind}
 use Rattle.tink_io.specs.declared.error.Kind.TheVariants.{OutOfMemory, ReadFault, WriteFault, BadKeyset, InvalidKeyset, UnsupportedKeyType, InvalidKey, NoPrimary, WrongPrimitive, TooManySegments, NoMatchingKey, BadSegment, Truncated}
 use Rattle.tink_io.specs.declared.error.TinkError.{TinkError}
@@ -82,7 +82,7 @@ pub record GoesOn (keys : List OpeningKey) (old new : Outside) : Type 0 where
 pub record IsBroken (keys : List OpeningKey) (old new : Outside) : Type 0 where
   pub texts : List (List ℕ)
   pub lead : IfSome old.left (λ S. Lead keys S texts)
-  pub written : AppendsFront old.got new.got (joined texts)
+  pub written : AppendsPrefix old.got new.got (joined texts)
 
 abbrev pub OpeningRefused : List OpeningKey → Outside → Outside → Kind → Type 0
 OpeningRefused keys old new NoMatchingKey = HasNoKey keys old new

@@ -2,7 +2,7 @@
 use Rattle.std.specs.Prelude.{◌≡◌, ℕ, ◌<◌, ◌≤◌, ◌^◌, Bool, List, [], length, slice_index_or, Result, Ok, Err, IfSome, IsSome}
 use Rattle.std.specs.Io.KnownBytes.{Appends, Keeps, IsAtEnd}
 use Rattle.tink_io.specs.Faults.{Rose}
-use Rattle.tink_io.specs.Written.{AppendsFront}
+use Rattle.tink_io.specs.Written.{AppendsPrefix}
 use Rattle.tink_io.specs.declared.error.Kind.{Kind}
 use Rattle.tink_io.specs.declared.error.Kind.TheVariants.{OutOfMemory, ReadFault, WriteFault, TooManySegments, NoMatchingKey, BadSegment, Truncated}
 use Rattle.tink_io.specs.declared.error.TinkError.{TinkError}
@@ -56,7 +56,7 @@ pub record StopsAt (n : ℕ) (P : List (List ℕ) → Type 0) (seg : ℕ → Boo
 pub record Breaks (seg : ℕ → Bool → List ℕ → List ℕ) (a b : ℕ) (old new : Outside) : Type 0 where
   pub texts : List (List ℕ)
   pub lead : IfSome old.left (λ X. AreTexts seg 0 (cut a b X) texts)
-  pub written : AppendsFront old.got new.got (joined texts)
+  pub written : AppendsPrefix old.got new.got (joined texts)
 
 -- chunk n, which is there, is shorter than a tag
 abbrev pub HasShort : ℕ → ℕ → List (List ℕ) → Type 0

@@ -1,7 +1,7 @@
 -- What `run` says, by its command, and the promises that follow from it.
 use Rattle.std.specs.Prelude.{◌≡◌, ℕ, ◌≤◌, ◌^◌, List, [], ◌++◌, length, drop, Some, None, Result, Ok, Err}
 use Rattle.std.specs.Io.KnownBytes.{Keeps}
-use Rattle.tink_io.specs.Written.{AppendsFront}
+use Rattle.tink_io.specs.Written.{AppendsPrefix}
 use Rattle.tink_io.specs.declared.error.Kind.{Kind}
 use Rattle.tink_io.specs.declared.error.Kind.TheVariants.{OutOfMemory, RandomFault, BadKeyset, InvalidKeyset, UnsupportedKeyType, InvalidKey, NoPrimary, WrongPrimitive, UnsupportedHash, NoMatchingKey}
 use Rattle.tink_io.specs.declared.error.TinkError.{TinkError}
@@ -85,7 +85,7 @@ OkMeans Open keyset aad draws left_draws S G new report = IsWholeText keyset aad
 
 -- what was written is a prefix of the texts that agree under the chosen key, and nothing where no key is chosen
 pub record IsOfAgreeing (keyset aad S : List ℕ) (old new : Outside) : Type 0 where
-  pub under_a_key : (loaded : Loaded) (key : OpeningKey) (texts : List (List ℕ)) → load keyset ≡ Ok loaded → IsChosen (opening_keys aad loaded) S (Some key) → IsAgreed key S texts → AppendsFront old.got new.got (joined texts)
+  pub under_a_key : (loaded : Loaded) (key : OpeningKey) (texts : List (List ℕ)) → load keyset ≡ Ok loaded → IsChosen (opening_keys aad loaded) S (Some key) → IsAgreed key S texts → AppendsPrefix old.got new.got (joined texts)
   pub under_none : (loaded : Loaded) → load keyset ≡ Ok loaded → IsChosen (opening_keys aad loaded) S None → Keeps old.got new.got
   pub unloaded : (kind : Kind) → load keyset ≡ Err kind → Keeps old.got new.got
 

@@ -2,7 +2,7 @@
 use Rattle.std.specs.Prelude.{◌≡◌, ◌⊎◌, ℕ, ◌<◌, ◌≤◌, ◌^◌, List, length, drop, Result, Ok, Err, None}
 use Rattle.std.specs.Io.KnownBytes.{Appends, Consumes, IsAtEnd}
 use Rattle.tink_io.specs.Faults.{Rose}
-use Rattle.tink_io.specs.Written.{AppendsFront}
+use Rattle.tink_io.specs.Written.{AppendsPrefix}
 use Rattle.tink_io.specs.declared.error.Kind.{Kind}
 use Rattle.tink_io.specs.declared.error.Kind.TheVariants.{OutOfMemory, ReadFault, WriteFault, RandomFault, BadKeyset, InvalidKeyset, UnsupportedKeyType, InvalidKey, NoPrimary, WrongPrimitive, UnsupportedHash, TooManySegments}
 use Rattle.tink_io.specs.declared.error.TinkError.{TinkError}
@@ -41,7 +41,7 @@ pub record SourceFailed (k : StreamKey) (aad salt prefix : List ℕ) (old new : 
 pub record SinkFailed (k : StreamKey) (aad salt prefix : List ℕ) (old new : Outside) : Type 0 where
   pub text : List ℕ
   pub read : Consumes old.left new.left text
-  pub written : AppendsFront old.got new.got (part k aad salt prefix text) ⊎ (IsAtEnd new.left × AppendsFront old.got new.got (stream k aad salt prefix text))
+  pub written : AppendsPrefix old.got new.got (part k aad salt prefix text) ⊎ (IsAtEnd new.left × AppendsPrefix old.got new.got (stream k aad salt prefix text))
   pub rose : Rose old.write_faults new.write_faults
 
 -- what the stream's sealing answers, once salt and prefix are drawn and keys derived

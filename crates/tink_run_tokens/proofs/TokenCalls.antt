@@ -3,7 +3,7 @@ use Rattle.std.proofs.Common.{◌≡◌, ◌⊎◌, inl, inr, ℕ, List, true, S
 use Rattle.std.specs.Prelude.{Option, Result, Ok, Err, is_some, IfErr, OnErr, OnOk}
 use Rattle.std.specs.Io.KnownBytes.{Appends}
 use Rattle.tink_io.specs.Faults.{Rose}
-use Rattle.tink_io.specs.Written.{AppendsFront}
+use Rattle.tink_io.specs.Written.{AppendsPrefix}
 use Rattle.tink_io.specs.declared.error.Kind.{Kind}
 use Rattle.tink_io.specs.declared.error.Kind.TheVariants.{OutOfMemory, ReadFault, WriteFault, InputTooLong, BadToken, MacMismatch}
 use Rattle.tink_io.specs.declared.error.TinkError.{TinkError}
@@ -133,7 +133,7 @@ module _ (Gives : Macs → List ℕ → List ℕ → Type 0) (Refuses : Macs →
   -- what was made was written, or a prefix of it
   pub made : (old new : Outside) (macs : Macs) (output written : List ℕ) (answer : Result (Unit {0}) TinkError) → macs_of keyset ≡ Ok macs
       → MakesOfInput (Gives macs) (Refuses macs) old.left new.left old.read_faults new.read_faults (Ok output) → written ≡ output
-      → OnOk answer (Appends old.got new.got written) → OnErr answer (AppendsFront old.got new.got written) → OnErr answer (Rose old.write_faults new.write_faults)
+      → OnOk answer (Appends old.got new.got written) → OnErr answer (AppendsPrefix old.got new.got written) → OnErr answer (Rose old.write_faults new.write_faults)
       → IfErr answer (λ e. e ≡ record { kind = WriteFault }) → TokenMeans Gives Refuses keyset old new answer
   made old new macs output written (Ok done) loads m same whole front rose fault = record {
     loaded = macs;
@@ -148,7 +148,7 @@ module _ (Gives : Macs → List ℕ → List ℕ → Type 0) (Refuses : Macs →
         loads = loads;
         input = m.0;
         has = m.1;
-        then = (record { output = output; gives = m.2; written = subst (λ x. AppendsFront old.got new.got x) same front }, rose);
+        then = (record { output = output; gives = m.2; written = subst (λ x. AppendsPrefix old.got new.got x) same front }, rose);
       })
 
 pub signing_only : (macs : Macs) (input : List ℕ) (kind : Kind) → RefusesSigning macs input kind → (kind ≡ BadToken) ⊎ (kind ≡ MacMismatch)

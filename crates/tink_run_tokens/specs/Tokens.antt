@@ -4,7 +4,7 @@ use Rattle.std.specs.Io.KnownBytes.{Appends}
 use Rattle.std.specs.Str.{bytes_eq}
 use Rattle.tink_io.specs.Faults.{Rose}
 use Rattle.tink_io.specs.Told.{made_of}
-use Rattle.tink_io.specs.Written.{AppendsFront}
+use Rattle.tink_io.specs.Written.{AppendsPrefix}
 use Rattle.tink_io.specs.declared.error.Kind.{Kind}
 use Rattle.tink_io.specs.declared.error.Kind.TheVariants.{WriteFault, BadToken, MacMismatch}
 use Rattle.tink_io.specs.declared.error.TinkError.{TinkError}
@@ -82,7 +82,7 @@ module _ (Gives : Macs → List ℕ → List ℕ → Type 0) (Refuses : Macs →
   -- why an input that was read is refused: a fault after a prefix of what is made of it, or nothing is made of it
   abbrev pub TokenRefuses : Outside → Outside → Macs → List ℕ → Kind → Type 0
   TokenRefuses old new macs input WriteFault =
-      GaveOutput Gives macs input old new AppendsFront × Rose old.write_faults new.write_faults
+      GaveOutput Gives macs input old new AppendsPrefix × Rose old.write_faults new.write_faults
   TokenRefuses old new macs input kind = Refuses macs input kind × LeavesSink old new
 
 module _ (Gives : Macs → List ℕ → List ℕ → Type 0) (Refuses : Macs → List ℕ → Kind → Type 0) (keyset : List ℕ) where

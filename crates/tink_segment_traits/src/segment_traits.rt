@@ -74,9 +74,9 @@ pub trait SegmentDecrypter {
     fn overhead(&self) -> usize
         ensures { result ≡ overhead_of self.now };
 
-    /// Writes the text of a segment under a nonce into `out`, which has its length: no bytes where the segment is shorter
-    /// than the overhead. The nonce has the cipher's length, and the text's length fits u32. `DecryptFailed` exactly
-    /// where it is the segment of no text, and nothing is written then.
+    /// Writes the text of a segment under a nonce into `out`, which has its length: no bytes where the segment is
+    /// shorter than the overhead. The nonce has the cipher's length, and the text's length fits u32. `DecryptFailed`
+    /// exactly where it is the segment of no text, and nothing is written then.
     fn decrypt_segment_into(
         &self,
         segment: &[u8],

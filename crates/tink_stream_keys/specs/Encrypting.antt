@@ -3,7 +3,7 @@ use Rattle.std.specs.Prelude.{◌≡◌, ℕ, ◌<◌, ◌≤◌, Bool, List, []
 use Rattle.std.specs.declared.option.Option.{Option}
 use Rattle.std.specs.Io.KnownBytes.{Appends}
 use Rattle.tink_io.specs.Faults.{Rose}
-use Rattle.tink_io.specs.Written.{AppendsFront}
+use Rattle.tink_io.specs.Written.{AppendsPrefix}
 use Rattle.tink_io.specs.declared.error.Kind.{Kind}
 use Rattle.tink_io.specs.declared.error.Kind.TheVariants.{OutOfMemory, RandomFault, UnknownHash, UnsupportedHash, WriteFault}
 use Rattle.tink_primitives.specs.declared.streams.Refused.{Refused}
@@ -57,7 +57,7 @@ module _ {W : Type 0} (got : W → Option (List ℕ)) (faults : W → ℕ) (k : 
     pub drew : DrewHeader k draws left
     pub keys : List ℕ
     pub keys_are : keys_of k aad (salt_of k draws) ≡ Some keys
-    pub begun : AppendsFront (got old) (got new) (front k (salt_of k draws) (prefix_of k draws))
+    pub begun : AppendsPrefix (got old) (got new) (front k (salt_of k draws) (prefix_of k draws))
     pub rose : Rose (faults old) (faults new)
 
   -- each refusal of a new writer

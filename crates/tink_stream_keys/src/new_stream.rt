@@ -7,7 +7,7 @@ ghost use Rattle.stream_model.specs.Key.{IsUsable, first_room, header_length, no
 ghost use Rattle.stream_model.specs.Sealing.{drawn};
 ghost use Rattle.tink_io.specs.declared.error.Kind.TheVariants.{OutOfMemory, RandomFault, WriteFault};
 ghost use Rattle.tink_io.specs.Faults.{Rose};
-ghost use Rattle.tink_io.specs.Written.{AppendsFront};
+ghost use Rattle.tink_io.specs.Written.{AppendsPrefix};
 ghost use Rattle.tink_stream_keys.specs.NewStreams.{IsPrepared, NotPrepared};
 ghost use Rattle.tink_segments.specs.StreamSegments.{nonce_length_by, overhead_by, segment_by};
 
@@ -46,7 +46,7 @@ impl<'a> Front<'a> {
     /// `WriteFault` where the sink failed, and has a prefix of it.
     pub fn write<K: Sink>(&self, sink: &mut K) -> Result<(), TinkError>
         ensures written { OnOk result (Appends (K.got sink.old) (K.got sink.new) self.now) }
-        ensures front { OnErr result (AppendsFront (K.got sink.old) (K.got sink.new) self.now) }
+        ensures front { OnErr result (AppendsPrefix (K.got sink.old) (K.got sink.new) self.now) }
         ensures refused { IfErr result (λ e. e ≡ record { kind = WriteFault }) }
         ensures cause { OnErr result (Rose (K.faults sink.old) (K.faults sink.new)) }
         ensures later { K.faults sink.old ≤ K.faults sink.new }

@@ -7,7 +7,7 @@ use Rattle.stream_model.specs.Cut.{cut, room_at}
 use Rattle.stream_model.specs.Agree.{Leads, joined}
 use Rattle.stream_model.proofs.AgreeFacts.{joined-append}
 use Rattle.tink_io.specs.Faults.{Rose}
-use Rattle.tink_io.specs.Written.{AppendsFront}
+use Rattle.tink_io.specs.Written.{AppendsPrefix}
 use Rattle.tink_io.specs.declared.error.Kind.{Kind}
 use Rattle.tink_io.specs.declared.error.Kind.TheVariants.{ReadFault, TooManySegments, BadSegment, Truncated}
 use Rattle.tink_streams.specs.Reading.{ReaderMoment, TellsLeads, OpenNextRefused, HasNotFailed}
@@ -19,7 +19,7 @@ use Rattle.tink_streams.proofs.ReadingFacts.{Opened, opened_agree, at_next_chunk
 pub joined_more : (texts : List (List ℕ)) (t : List ℕ) → joined (texts ++ (t ∷ [])) ≡ joined texts ++ t
 joined_more texts t = joined-append texts (t ∷ []) ∙ ap (λ x. joined texts ++ x) (append-nil t)
 
-all_front : (old new : Option (List ℕ)) (xs : List ℕ) → Appends old new xs → AppendsFront old new xs
+all_front : (old new : Option (List ℕ)) (xs : List ℕ) → Appends old new xs → AppendsPrefix old new xs
 all_front old new xs p = (length xs, omega arith, subst (Appends old new) (sym (take_all (length xs) xs (omega arith))) p)
 
 leads_some : (seg : ℕ → Bool → List ℕ → List ℕ) (a b : ℕ) (r0 r1 : Option (List ℕ)) (texts : List (List ℕ)) → TellsLeads seg a b 0 r0 texts r1 → IfSome r0 (λ X. (rest : List (List ℕ)) × Leads seg 0 (cut a b X) texts rest)
@@ -27,7 +27,7 @@ leads_some seg a b None r1 texts p = tt
 leads_some seg a b (Some X) None texts p = absurd p
 leads_some seg a b (Some X) (Some Y) texts p = (cut (room_at a b (0 + length texts)) b Y, p)
 
-pub wrote_some : (seg : ℕ → Bool → List ℕ → List ℕ) (a b : ℕ) (all got now : Option (List ℕ)) (texts : List (List ℕ)) (m : ReaderMoment) (before after : ℕ) → Opened seg a b all texts m → Rose before after → AppendsFront got now (joined texts) → WroteSome seg a b all got now before after
+pub wrote_some : (seg : ℕ → Bool → List ℕ → List ℕ) (a b : ℕ) (all got now : Option (List ℕ)) (texts : List (List ℕ)) (m : ReaderMoment) (before after : ℕ) → Opened seg a b all texts m → Rose before after → AppendsPrefix got now (joined texts) → WroteSome seg a b all got now before after
 wrote_some seg a b all got now texts m before after o r w = record { rose = r; texts = texts; leads = leads_some seg a b all m.rest texts o.leads; written = w }
 
 always : (r : Option (List ℕ)) (P : List ℕ → Type 0) → ((X : List ℕ) → P X) → IfSome r P

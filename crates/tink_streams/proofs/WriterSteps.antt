@@ -7,7 +7,7 @@ use Rattle.std.specs.Io.KnownBytes.{Appends}
 use Rattle.std.proofs.KnownBytes.{Appends-trans}
 use Rattle.stream_model.specs.Cut.{full_chunks, open_chunk, room_at, unmarked}
 use Rattle.stream_model.proofs.CutFacts.{full_chunks_fits, open_chunk_fits, full_chunks_more, open_chunk_more, room_at_next, unmarked-append}
-use Rattle.tink_io.specs.Written.{AppendsFront}
+use Rattle.tink_io.specs.Written.{AppendsPrefix}
 
 -- a text R0 from number i0 on has come to number i and R, and these chunks are done
 pub record Proceeds (a b i0 : ℕ) (R0 : List ℕ) (done : List (List ℕ)) (i : ℕ) (R : List ℕ) : Type 0 where
@@ -64,13 +64,13 @@ pub stands : (a b i0 : ℕ) (R0 : List ℕ) (done : List (List ℕ)) (i : ℕ) (
 stands a b i0 R0 done i held rest h e s p q = sym h.chunks ∙ ap (λ x. done ++ x) (full_is a b i held rest e s p q)
 
 -- bytes and then a prefix of more are a prefix of both
-pub then_front : (a b c : Option (List ℕ)) (xs ys : List ℕ) → Appends a b xs → AppendsFront b c ys → AppendsFront a c (xs ++ ys)
-then_front a b c xs ys p q =
+pub then_prefix : (a b c : Option (List ℕ)) (xs ys : List ℕ) → Appends a b xs → AppendsPrefix b c ys → AppendsPrefix a c (xs ++ ys)
+then_prefix a b c xs ys p q =
     (length xs + q.0, omega (arith, q.1, length-append xs ys), rw take-append-add (Appends-trans a b c xs (take q.0 ys) p q.2))
 
 -- a prefix of a text is a prefix of a longer one
-pub front_of_more : (a b : Option (List ℕ)) (xs ys : List ℕ) → AppendsFront a b xs → AppendsFront a b (xs ++ ys)
-front_of_more a b xs ys q =
+pub prefix_of_more : (a b : Option (List ℕ)) (xs ys : List ℕ) → AppendsPrefix a b xs → AppendsPrefix a b (xs ++ ys)
+prefix_of_more a b xs ys q =
     (q.0, omega (arith, q.1, length-append xs ys), subst (Appends a b) (sym (take-append-le q.0 xs ys q.1)) q.2)
 
 -- one more segment
@@ -82,11 +82,11 @@ one_more seg a b c i0 i done held e p q =
 
 -- a prefix of one more segment
 pub one_begun : (seg : ℕ → Bool → List ℕ → List ℕ) (a b c : Option (List ℕ)) (i0 i : ℕ) (done : List (List ℕ)) (held : List ℕ) (more all : List (List ℕ))
-    → i ≡ i0 + length done → all ≡ done ++ (held ∷ more) → Appends a b (unmarked seg i0 done) → AppendsFront b c (seg i false held) → AppendsFront a c (unmarked seg i0 all)
+    → i ≡ i0 + length done → all ≡ done ++ (held ∷ more) → Appends a b (unmarked seg i0 done) → AppendsPrefix b c (seg i false held) → AppendsPrefix a c (unmarked seg i0 all)
 one_begun seg a b c i0 i done held more all e s p q =
     let whole : unmarked seg i0 all ≡ unmarked seg i0 done ++ (seg i false held ++ unmarked seg (i0 + length done + 1) more) =
     ap (unmarked seg i0) s ∙ unmarked-append seg i0 done (held ∷ more) ∙ ap (λ n. unmarked seg i0 done ++ (seg n false held ++ unmarked seg (i0 + length done + 1) more)) (sym e) in
-    subst (AppendsFront a c) (sym whole) (then_front a b c _ _ p (front_of_more b c _ _ q))
+    subst (AppendsPrefix a c) (sym whole) (then_prefix a b c _ _ p (prefix_of_more b c _ _ q))
 
 -- text that is moved in fills the room where more is left
 pub is_full : (room n l m : ℕ) (held new buf : List ℕ) → l ≡ length held → m ≡ length new → new ≡ held ++ take n buf → n ≡ min (room - l) (length buf) → l ≤ room → n < length buf → m ≡ room

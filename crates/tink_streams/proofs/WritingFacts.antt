@@ -9,14 +9,14 @@ use Rattle.std.proofs.KnownBytes.{Appends-trans, Appends-nil}
 use Rattle.stream_model.specs.Cut.{chunks, full_chunks, open_chunk, room_at, unmarked, sealed}
 use Rattle.stream_model.proofs.SealingFacts.{length-chunks}
 use Rattle.stream_model.proofs.CutFacts.{full_chunks_fits, open_chunk_fits, full_chunks_more, room_at_next, unmarked-append, full_chunks-append, open_chunk-append, sealed_split}
-use Rattle.tink_io.specs.Written.{AppendsFront}
+use Rattle.tink_io.specs.Written.{AppendsPrefix}
 use Rattle.tink_io.specs.declared.error.Kind.{Kind}
 use Rattle.tink_io.specs.declared.error.Kind.TheVariants.{WriteFault, TooManySegments, FailedBefore}
 use Rattle.tink_io.specs.declared.error.Kind.TheVariants as kind
 use Rattle.tink_io.specs.declared.error.TinkError.{TinkError}
 use Rattle.tink_streams.specs.declared.writing.Mode.TheVariants.{Open}
-use Rattle.tink_streams.specs.Writing.{WriterMoment, filled, StopsWithin, Wrote, WroteFront, WroteAll, WriteRefused, ClosedBy, ClosedShort, CloseMeans, PutMeans}
-use Rattle.tink_streams.proofs.WriterSteps.{then_front, one_begun}
+use Rattle.tink_streams.specs.Writing.{WriterMoment, filled, StopsWithin, Wrote, WrotePrefix, WroteAll, WriteRefused, ClosedBy, ClosedShort, CloseMeans, PutMeans}
+use Rattle.tink_streams.proofs.WriterSteps.{then_prefix, one_begun}
 use Rattle.tink_streams.proofs.FrontFacts.{fits_or_not}
 
 room_positive : (a b i : ℕ) → 0 < a → 0 < b → 0 < room_at a b i
@@ -73,8 +73,8 @@ wrote_more seg a b m n o R S p q w v =
       few = v.few;
     }
 
-pub wrote_then_front : (seg : ℕ → Bool → List ℕ → List ℕ) (a b : ℕ) (m n o : WriterMoment) (R S : List ℕ) → 0 < a → 0 < b → m.faults ≤ n.faults → Wrote seg a b m n R → WroteFront seg a b n o S → WroteFront seg a b m o (R ++ S)
-wrote_then_front seg a b m n o R S p q later w v =
+pub wrote_then_prefix : (seg : ℕ → Bool → List ℕ → List ℕ) (a b : ℕ) (m n o : WriterMoment) (R S : List ℕ) → 0 < a → 0 < b → m.faults ≤ n.faults → Wrote seg a b m n R → WrotePrefix seg a b n o S → WrotePrefix seg a b m o (R ++ S)
+wrote_then_prefix seg a b m n o R S p q later w v =
     let before : List (List ℕ) = filled a b m R in
     let stops = v.stops in
     record {
@@ -94,7 +94,7 @@ wrote_then_front seg a b m n o R S p q later w v =
     }
 
 -- a prefix of all the segments was written
-pub stops_front : (seg : ℕ → Bool → List ℕ → List ℕ) (first number : ℕ) (chunks : List (List ℕ)) (old new : Option (List ℕ)) → StopsWithin seg first number chunks old new → AppendsFront old new (unmarked seg first chunks)
+pub stops_front : (seg : ℕ → Bool → List ℕ → List ℕ) (first number : ℕ) (chunks : List (List ℕ)) (old new : Option (List ℕ)) → StopsWithin seg first number chunks old new → AppendsPrefix old new (unmarked seg first chunks)
 stops_front seg first number chunks old new s = one_begun seg old s.between new first number s.done s.next s.more chunks s.counted s.split s.whole s.front
 
 -- the chunks below the number that is not there
@@ -119,7 +119,7 @@ wrote_then_all seg a b m n o R S p q w v =
 
 -- a refusal after a text is that of both
 pub refused_more : (seg : ℕ → Bool → List ℕ → List ℕ) (a b : ℕ) (m n o : WriterMoment) (R S : List ℕ) (k : Kind) → 0 < a → 0 < b → m.faults ≤ n.faults → Wrote seg a b m n R → WriteRefused seg a b n o S k → WriteRefused seg a b m o (R ++ S) k
-refused_more seg a b m n o R S WriteFault p q later w v = wrote_then_front seg a b m n o R S p q later w v
+refused_more seg a b m n o R S WriteFault p q later w v = wrote_then_prefix seg a b m n o R S p q later w v
 refused_more seg a b m n o R S TooManySegments p q later w v = wrote_then_all seg a b m n o R S p q w v
 refused_more seg a b m n o R S kind.Closed p q later w v = absurd (let e = sym w.is_open ∙ v.0 in cc)
 refused_more seg a b m n o R S (FailedBefore c) p q later w v = absurd (let e = sym w.is_open ∙ v.0 in cc)
@@ -170,8 +170,8 @@ closed_whole seg a b m n o R f w c = (
 )
 
 -- where the sink failed at the last segment, it has a prefix of them
-pub closed_front : (seg : ℕ → Bool → List ℕ → List ℕ) (a b : ℕ) (m n o : WriterMoment) (R : List ℕ) → IsFresh m → Wrote seg a b m n R → ClosedShort seg n o → AppendsFront m.got o.got (sealed seg a b R)
-closed_front seg a b m n o R f w c = subst (AppendsFront m.got o.got) (whole seg a b m n R f w) (then_front m.got n.got o.got _ _ w.appended c.begun)
+pub closed_front : (seg : ℕ → Bool → List ℕ → List ℕ) (a b : ℕ) (m n o : WriterMoment) (R : List ℕ) → IsFresh m → Wrote seg a b m n R → ClosedShort seg n o → AppendsPrefix m.got o.got (sealed seg a b R)
+closed_front seg a b m n o R f w c = subst (AppendsPrefix m.got o.got) (whole seg a b m n R f w) (then_prefix m.got n.got o.got _ _ w.appended c.begun)
 
 -- putting the last segment closes a writer
 pub put_closes : (seg : ℕ → Bool → List ℕ → List ℕ) (m n : WriterMoment) (r : Result (Unit {0}) TinkError) → m.mode ≡ Open → PutMeans seg true m n r → CloseMeans seg m n r

@@ -3,7 +3,7 @@ use Rattle.std.specs.Prelude.{◌≡◌, ◌⊎◌, ℕ, ◌^◌, ◌<◌, ◌�
 use Rattle.std.specs.declared.option.Option.{Option}
 use Rattle.std.specs.Io.KnownBytes.{Appends}
 use Rattle.tink_io.specs.Faults.{Rose}
-use Rattle.tink_io.specs.Written.{AppendsFront}
+use Rattle.tink_io.specs.Written.{AppendsPrefix}
 use Rattle.tink_io.specs.declared.error.Kind.{Kind}
 use Rattle.tink_io.specs.declared.error.Kind.TheVariants.{ReadFault, WriteFault, TooManySegments, BadSegment, Truncated}
 use Rattle.tink_io.specs.declared.error.TinkError.{TinkError}
@@ -29,7 +29,7 @@ pub record WroteSome (seg : ℕ → Bool → List ℕ → List ℕ) (first size 
   pub rose : Rose before after
   pub texts : List (List ℕ)
   pub leads : IfSome all (λ X. (rest : List (List ℕ)) × Leads seg 0 (cut first size X) texts rest)
-  pub written : AppendsFront got now (joined texts)
+  pub written : AppendsPrefix got now (joined texts)
 
 -- the faults of the source and of the sink, before and after
 pub record Faults : Type 0 where

@@ -11,7 +11,7 @@ use Rattle.tink_io.specs.declared.error.TinkError.{TinkError}
 use Rattle.stream_model.specs.Cut.{full_chunks, open_chunk, room_at, unmarked}
 use Rattle.tink_streams.specs.declared.writing.Mode.{Mode}
 use Rattle.tink_streams.specs.declared.writing.Mode.TheVariants.{Open, Closed, Failed}
-use Rattle.tink_io.specs.Written.{AppendsFront}
+use Rattle.tink_io.specs.Written.{AppendsPrefix}
 
 -- a marked segment closes a writer
 abbrev pub mode_after : Bool → Mode
@@ -48,10 +48,10 @@ pub record StopsWithin (seg : ℕ → Bool → List ℕ → List ℕ) (start num
   pub counted : number ≡ start + length done
   pub between : Option (List ℕ)
   pub whole : Appends old between (unmarked seg start done)
-  pub front : AppendsFront between new (seg number false next)
+  pub front : AppendsPrefix between new (seg number false next)
 
 -- the sink failed in one of those segments
-pub record WroteFront (seg : ℕ → Bool → List ℕ → List ℕ) (first room : ℕ) (old new : WriterMoment) (text : List ℕ) : Type 0 where
+pub record WrotePrefix (seg : ℕ → Bool → List ℕ → List ℕ) (first room : ℕ) (old new : WriterMoment) (text : List ℕ) : Type 0 where
   pub was_open : old.mode ≡ Open
   pub failed : new.mode ≡ Failed cause.WriteFault
   pub stops : StopsWithin seg old.number new.number (filled first room old text) old.got new.got
@@ -67,7 +67,7 @@ pub record WroteAll (seg : ℕ → Bool → List ℕ → List ℕ) (first room :
 
 -- each refusal of a write
 abbrev pub WriteRefused : (ℕ → Bool → List ℕ → List ℕ) → ℕ → ℕ → WriterMoment → WriterMoment → List ℕ → Kind → Type 0
-WriteRefused seg first room old new text WriteFault = WroteFront seg first room old new text
+WriteRefused seg first room old new text WriteFault = WrotePrefix seg first room old new text
 WriteRefused seg first room old new text TooManySegments = WroteAll seg first room old new text
 WriteRefused seg first room old new text kind.Closed = (old.mode ≡ Closed) × (new ≡ old)
 WriteRefused seg first room old new text (FailedBefore c) = (old.mode ≡ Failed c) × (new ≡ old)
@@ -89,7 +89,7 @@ pub record PutShort (seg : ℕ → Bool → List ℕ → List ℕ) (last : Bool)
   pub kind : e ≡ record { kind = WriteFault }
   pub failed : new.mode ≡ Failed cause.WriteFault
   pub counted : new.number ≡ old.number
-  pub begun : AppendsFront old.got new.got (seg old.number last old.held)
+  pub begun : AppendsPrefix old.got new.got (seg old.number last old.held)
   pub rose : Rose old.faults new.faults
 
 abbrev pub PutMeans : (ℕ → Bool → List ℕ → List ℕ) → Bool → WriterMoment → WriterMoment → Result (Unit {0}) TinkError → Type 0
@@ -108,7 +108,7 @@ pub record ClosedShort (seg : ℕ → Bool → List ℕ → List ℕ) (old new :
   pub was_open : old.mode ≡ Open
   pub failed : new.mode ≡ Failed cause.WriteFault
   pub counted : new.number ≡ old.number
-  pub begun : AppendsFront old.got new.got (seg old.number true old.held)
+  pub begun : AppendsPrefix old.got new.got (seg old.number true old.held)
   pub rose : Rose old.faults new.faults
 
 abbrev pub CloseRefused : (ℕ → Bool → List ℕ → List ℕ) → WriterMoment → WriterMoment → Kind → Type 0

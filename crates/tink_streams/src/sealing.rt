@@ -2,7 +2,7 @@
 ghost use Rattle.std.specs.Prelude.{◌≡◌, ◌≤◌, ◌<◌, ◌+◌, ◌^◌, length, OnOk, OnErr, IfErr};
 ghost use Rattle.std.specs.Io.KnownBytes.{Appends};
 ghost use Rattle.tink_io.specs.Faults.{Rose};
-ghost use Rattle.tink_io.specs.Written.{AppendsFront};
+ghost use Rattle.tink_io.specs.Written.{AppendsPrefix};
 ghost use Rattle.tink_io.specs.declared.error.Kind.TheVariants.{WriteFault};
 ghost use Rattle.stream_model.specs.Cut.{room_at};
 ghost use Rattle.tink_streams.specs.Sealers.{segment_map};
@@ -59,7 +59,7 @@ pub fn send<K: Sink, E: SegmentEncrypter>(
     requires room { sealer.now.room + sealer.now.overhead ≤ length sealed.old }
     ensures ok { OnOk result (Appends (K.got sink.old) (K.got sink.new)
         (segment_map sealer.now number last text.now)) }
-    ensures front { OnErr result (AppendsFront (K.got sink.old) (K.got sink.new)
+    ensures front { OnErr result (AppendsPrefix (K.got sink.old) (K.got sink.new)
         (segment_map sealer.now number last text.now)) }
     ensures rose { OnErr result (Rose (K.faults sink.old) (K.faults sink.new)) }
     ensures refused { IfErr result (λ e. e ≡ record { kind = WriteFault }) }

@@ -29,8 +29,8 @@ pub trait Writer {
     // The same of `write_encrypted`.
     ghost writes_encrypted: { Self → EncryptedKeyset → Self → Type 0 };
 
-    // What a refusal of a `write` by a kind left of the state: after a fault no more than a prefix of the keyset's text,
-    // and else nothing.
+    // What a refusal of a `write` by a kind left of the state: after a fault no more than a prefix of the
+    // keyset's text, and else nothing.
     ghost refused: { Self → Keyset → Kind → Self → Type 0 };
 
     // The same of `write_encrypted`.

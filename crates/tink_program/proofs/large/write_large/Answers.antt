@@ -16,7 +16,7 @@ returns-in_err-text-clause-early g c = untouched_left c.args.sink.now c.from_res
 pub returns-clause-answer : goal.returns-clause-answer
 returns-clause-answer g c =
     lines_written c.args.n _ _ _ _ _ c.write_all.result (c.deref.ensures.value ∙ c.in_ok-text.ensures.lines)
-    c.write_all.ensures.written c.write_all.ensures.front c.write_all.ensures.cause c.write_all.ensures.refused
+    c.write_all.ensures.written c.write_all.ensures.prefix c.write_all.ensures.cause c.write_all.ensures.refused
 
 pub returns-clause-early : goal.returns-clause-early
 returns-clause-early g c = fault_left c.args.sink.now c.write_all.new.sink c.write_all.result c.write_all.ensures.refused

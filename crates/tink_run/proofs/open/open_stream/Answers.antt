@@ -29,7 +29,7 @@ pub returns-in_err-write_all-clause-answer : goal.returns-in_err-write_all-claus
 returns-in_err-write_all-clause-answer g c =
     let p = err_from_is_err_and c.from_residual-in_err-write_all.result c.from_residual-in_err-write_all.ensures.1 in
     rw (p.1, p.2, c.in_err-write_all.ensures.refused)
-    (write_failed _ _ _ _ _ _ _ _ _ c.loop-bytes.invariant.reading (rw c.opened-text.ensures at c.in_err-write_all.ensures.front) c.loop-bytes.invariant.writes c.in_err-write_all.ensures.cause)
+    (write_failed _ _ _ _ _ _ _ _ _ c.loop-bytes.invariant.reading (rw c.opened-text.ensures at c.in_err-write_all.ensures.prefix) c.loop-bytes.invariant.writes c.in_err-write_all.ensures.cause)
 
 pub returns-in-Ended-clause-answer : goal.returns-in-Ended-clause-answer
 returns-in-Ended-clause-answer g c =

@@ -4,7 +4,7 @@ use Rattle.std.proofs.KnownBytes.{Appends-nil, Appends-trans}
 use Rattle.tink_streams.specs.Openers.{segment_map}
 use Rattle.tink_streams.proofs.ReadingFacts.{opened_none, opened_more, opened_all}
 use Rattle.tink_streams.proofs.WholeSteps.{joined_more, refused_all, wrote_some, not_running}
-use Rattle.tink_streams.proofs.WriterSteps.{then_front}
+use Rattle.tink_streams.proofs.WriterSteps.{then_prefix}
 use Rattle.tink_streams.proofs.whole.open_rest.Goals as goal
 
 pub loop-reader-init : goal.loop-reader-init
@@ -55,7 +55,7 @@ returns-in_err-write_all-clause-answer g c =
     let next = rw inv.opener at c.in_ok-open_next.ensures.answer in
     rw (p.1, p.2, c.in_err-write_all.ensures.refused) (wrote_some (segment_map first.opener) first.opener.first first.opener.size _ _ _ (inv.texts ++ (c.open_next.new.self.opened.items ∷ [])) _ _ _
     (opened_more (segment_map first.opener) first.opener.first first.opener.size _ inv.texts _ _ inv.opened next)
-    (omega (arith, inv.writes, c.in_err-write_all.ensures.cause)) (rw (joined_more inv.texts c.open_next.new.self.opened.items) (then_front _ _ _ _ _ inv.written (rw c.opened.ensures at c.in_err-write_all.ensures.front))))
+    (omega (arith, inv.writes, c.in_err-write_all.ensures.cause)) (rw (joined_more inv.texts c.open_next.new.self.opened.items) (then_prefix _ _ _ _ _ inv.written (rw c.opened.ensures at c.in_err-write_all.ensures.prefix))))
 
 pub returns-clause-answer : goal.returns-clause-answer
 returns-clause-answer g c =
