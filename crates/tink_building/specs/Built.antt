@@ -48,7 +48,7 @@ module _ {K A D HD HE M P S St V : Type 0} where
   abbrev pub IsSetOf : ℕ → List (Entry K A D HD HE M P S St V) → PrimitiveSet K A D HD HE M P S St V → Type 0
   IsSetOf id entries set = HasEntries prefix_of (λ e. e.key_id) id entries set.primary set.entries
 
--- a call gives a set of the told entries, or refuses by the told kind, or there is no memory
+-- a call gives a set of the given entries, or refuses by the given kind, or there is no memory
 abbrev pub GivesSet : {S E : Type 0} → (List E → S → Type 0) → Result S TinkError → Result (List E) Kind → Type 0
 GivesSet {S} {E} holds (Ok set) told = (entries : List E) × (told ≡ Ok entries) × holds entries set
 GivesSet holds (Err e) told = (e.kind ≡ OutOfMemory) ⊎ (told ≡ Err e.kind)
@@ -71,7 +71,7 @@ module _ {K A D HD HE M P S St V : Type 0} where
   TakesKey id false built old new = new ≡ old
   TakesKey id true built old new = (more : Entry K A D HD HE M P S St V) × (built ≡ Ok more) × HasOneMore id more old new
 
-  -- all keys are taken into a set of nothing: it has the told entries, or the call refuses by the told kind, or there is no memory
+  -- all keys are taken into a set of nothing: it has the given entries, or the call refuses by the given kind, or there is no memory
   abbrev pub FillsSet : ℕ → Result (Unit {0}) TinkError → Result (List (Entry K A D HD HE M P S St V)) Kind → PrimitiveSet K A D HD HE M P S St V → Type 0
   FillsSet id (Ok _) told set = (entries : List (Entry K A D HD HE M P S St V)) × (told ≡ Ok entries) × IsSetOf id entries set
   FillsSet id (Err e) told set = (e.kind ≡ OutOfMemory) ⊎ (told ≡ Err e.kind)

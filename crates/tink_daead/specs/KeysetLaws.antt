@@ -1,4 +1,4 @@
--- What the AES-SIV keys of a keyset decrypt, told by what they encrypt.
+-- What the AES-SIV keys of a keyset decrypt, given by what they encrypt.
 use Rattle.std.specs.Prelude.{◌≡◌, ◌↔◌, ◌⊎◌, ◌<◌, ℕ, List, [], ◌∷◌, length, take, drop, Ok}
 use Rattle.std.specs.List.{All}
 use Rattle.tink_sets.specs.declared.entry.TypedEntry.{TypedEntry}

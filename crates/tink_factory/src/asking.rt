@@ -32,7 +32,7 @@ pub trait Question<P> {
     ) -> Result<Self::Answer, TinkError>
         ensures answer { Answers result (answers self.now entry.now input.now) };
 
-    // Each answer is told.
+    // Each answer is given.
     ghost answers_told: { (q : Self) (entry : TypedEntry P) (input : List ℕ) → IsTold (answers q entry input) };
 }
 

@@ -1,4 +1,4 @@
--- What a call over tokens says of told bytes.
+-- What a call over tokens says of known bytes.
 use Rattle.std.proofs.Common.{ℕ, List}
 use Rattle.std.specs.Prelude.{Result, Ok, Err, IfOk}
 use Rattle.tink_io.specs.declared.error.Kind.{Kind}

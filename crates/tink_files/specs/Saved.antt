@@ -15,7 +15,7 @@ use Rattle.tink_place.specs.Places.{IsSaved}
 use Rattle.tink_key_files.specs.Files.{file_text, format_of, wire_of}
 use Rattle.tink_key_files.specs.declared.formats.Format.{Format}
 
--- The told bytes are shown behind what the draft had.
+-- The known bytes are shown behind what the draft had.
 pub record IsSavedAsTold (told : Result (List ℕ) Kind) (draft : Option (List ℕ)) (replaces : Bool) (before after : Option (Option (List ℕ))) : Type 0 where
   pub bytes : List ℕ
   pub made : told ≡ Ok bytes
@@ -25,7 +25,7 @@ pub record IsSavedAsTold (told : Result (List ℕ) Kind) (draft : Option (List �
 abbrev pub IsNotSaved : Result (List ℕ) Kind → Kind → ℕ → ℕ → Type 0
 IsNotSaved told kind i j = (kind ≡ OutOfMemory) ⊎ (told ≡ Err kind) ⊎ ((kind ≡ WriteFault) × Rose i j)
 
--- what a call answers that saves told bytes: by a refusal, what was shown stays
+-- what a call answers that saves given bytes: by a refusal, what was shown stays
 abbrev pub Saves : Result (List ℕ) Kind → Result (Unit {0}) TinkError → Option (List ℕ) → Bool → Option (Option (List ℕ)) → Option (Option (List ℕ)) → ℕ → ℕ → Type 0
 Saves told (Ok _) draft replaces before after i j = IsSavedAsTold told draft replaces before after
 Saves told (Err e) draft replaces before after i j = IsNotSaved told e.kind i j × (after ≡ before)

@@ -40,7 +40,7 @@ pub fn range_to<A: ReadAt, P: Place>(
         answer)
         (P.replaces place.old) (P.shown place.old) (P.shown place.new) (P.faults place.new) result }
 
-    // Told bytes: of a stream of the chosen key what is shown is that slice of its text.
+    // Known bytes: of a stream of the chosen key what is shown is that slice of its text.
     ensures ok { IfOk result (λ n. IsShownWhole P.got
         (λ draft value. GivesSlice P.got keyset.now aad.now start len
         (record {

@@ -35,7 +35,7 @@ pub fn run_to<S: Source, P: Place>(
         (outside_of S.left S.faults P.got P.faults source.new draft) answer)
         (P.replaces place.old) (P.shown place.old) (P.shown place.new) (P.faults place.new) result }
 
-    // Told bytes: what is shown is the stream of the whole input, or the text of the whole stream that was the input.
+    // Known bytes: what is shown is the stream of the whole input, or the text of the whole stream that was the input.
     ensures ok { IfOk result (λ report. IsShownWhole P.got (λ draft value. (T G : List ℕ)
         → Told (outside_of S.left S.faults P.got P.faults source.old place.old) T G
         → OkMeans command keyset.now aad.now draws.old draws.new T G
@@ -73,7 +73,7 @@ pub fn rewrap_to<S: Source, P: Place>(
         (outside_of S.left S.faults P.got P.faults source.new draft) answer)
         (P.replaces place.old) (P.shown place.old) (P.shown place.new) (P.faults place.new) result }
 
-    // Told bytes: what is shown is the stream, under the primary key of the second keyset, of the text of the whole
+    // Known bytes: what is shown is the stream, under the primary key of the second keyset, of the text of the whole
     // stream that was the input.
     ensures ok { IfOk result (λ report. IsShownWhole P.got (λ draft value. (T G : List ℕ)
         → Told (outside_of S.left S.faults P.got P.faults source.old place.old) T G

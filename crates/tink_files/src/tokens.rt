@@ -31,7 +31,7 @@ pub fn sign_to<S: Source, P: Place>(
         (outside_of S.left S.faults P.got P.faults source.new draft) answer)
         (P.replaces place.old) (P.shown place.old) (P.shown place.new) (P.faults place.new) result }
 
-    // Told bytes: what is shown is the token of the whole input by the primary key.
+    // Known bytes: what is shown is the token of the whole input by the primary key.
     ensures ok { IfOk result (λ done. IsShownWhole P.got (λ draft value. (T G : List ℕ)
         → Told (outside_of S.left S.faults P.got P.faults source.old place.old) T G
         → IsAnsweredWhole SignsTo RefusesSigning keyset.now T G
@@ -64,7 +64,7 @@ pub fn verify_to<S: Source, P: Place>(
         (outside_of S.left S.faults P.got P.faults source.new draft) answer)
         (P.replaces place.old) (P.shown place.old) (P.shown place.new) (P.faults place.new) result }
 
-    // Told bytes: what is shown is the payload of the token that the input was, whose MAC a key accepts.
+    // Known bytes: what is shown is the payload of the token that the input was, whose MAC a key accepts.
     ensures ok { IfOk result (λ done. IsShownWhole P.got (λ draft value. (T G : List ℕ)
         → Told (outside_of S.left S.faults P.got P.faults source.old place.old) T G
         → IsAnsweredWhole VerifiesTo RefusesVerifying keyset.now T G

@@ -1,4 +1,4 @@
--- How the answer of a call is told, and what it leaves of the draws. The told answer is a value or a kind.
+-- How the answer of a call is told, and what it leaves of the draws. The given answer is a value or a kind.
 use Rattle.std.specs.Prelude.{◌≡◌, ◌⊎◌, ◌++◌, ℕ, nat_le, if◌then◌else◌, List, length, drop, Option, Some, None, Result, Ok, Err}
 use Rattle.tink_io.specs.declared.error.Kind.{Kind}
 use Rattle.tink_io.specs.declared.error.Kind.TheVariants.{OutOfMemory, RandomFault}
@@ -14,12 +14,12 @@ abbrev pub or_refused : {T : Type 0} → Kind → Option T → Result T Kind
 or_refused kind None = Err kind
 or_refused kind (Some v) = Ok v
 
--- a call that draws nothing gives the told value, or refuses by the told kind, or there is no memory
+-- a call that draws nothing gives the given value, or refuses by the given kind, or there is no memory
 abbrev pub Answers : {T : Type 0} → Result T TinkError → Result T Kind → Type 0
 Answers (Ok v) told = told ≡ Ok v
 Answers (Err e) told = (e.kind ≡ OutOfMemory) ⊎ (told ≡ Err e.kind)
 
--- a call that needs no memory gives the told value, or refuses by the told kind
+-- a call that needs no memory gives the given value, or refuses by the given kind
 abbrev pub Tells : {T : Type 0} → Result T TinkError → Result T Kind → Type 0
 Tells (Ok v) told = told ≡ Ok v
 Tells (Err e) told = told ≡ Err e.kind
@@ -33,7 +33,7 @@ pub record IsShort (k : Kind) (before now : List ℕ) : Type 0 where
   pub kind : k ≡ OutOfMemory
   pub ends : (taken : List ℕ) × (before ≡ taken ++ now)
 
--- a call that draws gives the told answer and leaves the told draws, or there is no memory
+-- a call that draws gives the given answer and leaves the given draws, or there is no memory
 abbrev pub Replies : {T : Type 0} → Result T TinkError → Result T Kind × List ℕ → List ℕ → List ℕ → Type 0
 Replies (Ok v) told before now = (told.0 ≡ Ok v) × (now ≡ told.1)
 Replies (Err e) told before now = IsShort e.kind before now ⊎ ((told.0 ≡ Err e.kind) × (now ≡ told.1))

@@ -125,7 +125,7 @@ fn put_digit<K: Sink>(sink: &mut K, digit: u32) -> Result<(), TinkError>
     put(sink, &[b'0' + digit as u8])
 }
 
-// Writes all of the bytes, told by one word.
+// Writes all of the bytes, said by one word.
 fn put<K: Sink>(sink: &mut K, bytes: &[u8]) -> Result<(), TinkError>
     ensures writes { WritesTo K.got K.faults sink.old sink.new result bytes.now }
     ensures same { K.same sink.old sink.new }

@@ -1,4 +1,4 @@
--- What the manager of a type of keys keeps: each answer is told, draws are taken in their order, and data that it gives
+-- What the manager of a type of keys keeps: each answer is given, draws are taken in their order, and data that it gives
 -- is symmetric.
 use Rattle.std.specs.Prelude.{◌≡◌, ⊤, ℕ, List, [], Bool, Option, Some, None, Result, Ok, Err, false, true, refl, length, take, nat_le}
 use Rattle.std.proofs.Common.{subst}

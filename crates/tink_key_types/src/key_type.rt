@@ -45,7 +45,7 @@ pub trait KeyType {
     fn make(alloc: Global, format: Self::Format, draws: &mut Draws) -> Result<Self::Key, TinkError>
         ensures replies { Replies result (made format draws.old) draws.old draws.new };
 
-    // Each answer is told, and draws are taken in their order.
+    // Each answer is given, and draws are taken in their order.
     ghost built_told: { (key : Self.Key) → IsTold (built key) };
 
     ghost made_told: { (format : Self.Format) (draws : List ℕ) → IsDrawn draws (made format draws) };

@@ -106,7 +106,7 @@ causes name start draws (Err e) (inr told) enough = inr (unmade name start draws
 
 -- ---- the answers
 
--- a copy of the keyset that is told
+-- a copy of the given keyset
 pub copied : (told : Result Keyset Kind) (ks h : Keyset) (result : Result Keyset TinkError) → told ≡ Ok ks → h ≡ ks → IfOk result (λ x. x ≡ h) → IfErr result (λ e. e ≡ record { kind = OutOfMemory }) → Answers result told
 copied told ks h (Ok x) is same copy want = is ∙ ap (λ (y : Keyset). Ok y) (sym (copy ∙ same))
 copied told ks h (Err e) is same copy want = inl (ap (λ (x : TinkError). x.kind) want)

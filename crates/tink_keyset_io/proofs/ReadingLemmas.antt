@@ -48,7 +48,7 @@ whole None b text h end = tt
 whole (Some all) None text h end = absurd h
 whole (Some all) (Some rest) text h end = h ∙ ap (λ l. text ++ l) end ∙ append-nil text
 
--- the text is what the told answer is of
+-- the text is what the given answer is of
 pub told_of : {M : Type 0} (refusal : Kind) (message : List ℕ → Option M) (a : Option (List ℕ)) (text given : List ℕ)
     → given ≡ text → IfSome a (λ all. all ≡ text) → length text ≤ 2 ^ 26 → IsAsTold (told refusal message a) (or_refused refusal (message given))
 told_of refusal message None text given same is fits = tt

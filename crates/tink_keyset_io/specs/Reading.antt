@@ -10,7 +10,7 @@ use Rattle.tink_io.specs.declared.error.Kind.TheVariants.{OutOfMemory, ReadFault
 abbrev pub reading : {M : Type 0} → Kind → (List ℕ → Option M) → List ℕ → Result M Kind
 reading refusal message text = if nat_lt (2 ^ 26) (length text) then Err KeysetTooLong else or_refused refusal (message text)
 
--- the answer of a read of the bytes left, where they are told
+-- the answer of a read of the bytes left, where they are known
 abbrev pub told : {M : Type 0} → Kind → (List ℕ → Option M) → Option (List ℕ) → Option (Result M Kind)
 told refusal message left = option_map (reading refusal message) left
 

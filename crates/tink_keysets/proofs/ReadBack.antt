@@ -15,7 +15,7 @@ use Rattle.tink_keysets.specs.Ends.{held_or, IsReadRefusal}
 use Rattle.tink_keysets.specs.Handles.{handle_of}
 use Rattle.tink_keysets.specs.Through.{GivesBy, IsTaken}
 
--- where a value is told and no fault can be, there is no refusal but `OutOfMemory`
+-- where a value is given and no fault can be, there is no refusal but `OutOfMemory`
 only_memory : {T : Type 0} (v : T) (kind : Kind) → IsReadRefusal (Some (Ok v)) kind 0 0 → kind ≡ OutOfMemory
 only_memory v OutOfMemory h = refl
 only_memory v ReadFault h = absurd (omega (arith, h))

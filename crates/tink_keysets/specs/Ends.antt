@@ -5,12 +5,12 @@ use Rattle.tink_io.specs.declared.error.Kind.{Kind}
 use Rattle.tink_io.specs.declared.error.Kind.TheVariants.{OutOfMemory, ReadFault, WriteFault, NoKeyset}
 use Rattle.tink_io.specs.declared.error.TinkError.{TinkError}
 
--- the told answer is this one; where none is told, any is
+-- the given answer is this one; where none is told, any is
 abbrev pub IsAsTold : {T : Type 0} → Option (Result T Kind) → Result T Kind → Type 0
 IsAsTold None answer = ⊤
 IsAsTold (Some told) answer = told ≡ answer
 
--- a refusal to read: by `OutOfMemory`, by a fault, which raises the count, or by the told kind
+-- a refusal to read: by `OutOfMemory`, by a fault, which raises the count, or by the given kind
 abbrev pub IsReadRefusal : {T : Type 0} → Option (Result T Kind) → Kind → ℕ → ℕ → Type 0
 IsReadRefusal told OutOfMemory before now = ⊤
 IsReadRefusal told ReadFault before now = Rose before now
@@ -24,12 +24,12 @@ IsWriteRefusal told ReadFault before now = ⊥
 IsWriteRefusal told WriteFault before now = Rose before now
 IsWriteRefusal told kind before now = IsAsTold told (Err kind)
 
--- a call that reads gives the told value, or refuses
+-- a call that reads gives the given value, or refuses
 abbrev pub HasRead : {T : Type 0} → Result T TinkError → Option (Result T Kind) → ℕ → ℕ → Type 0
 HasRead (Ok v) told before now = IsAsTold told (Ok v)
 HasRead (Err e) told before now = IsReadRefusal told e.kind before now
 
--- a call that writes takes the message where it is told so, or refuses
+-- a call that writes takes the message where it is given so, or refuses
 abbrev pub HasWritten : Result (Unit {0}) TinkError → Option (Result (Unit {0}) Kind) → ℕ → ℕ → Type 0
 HasWritten (Ok _) told before now = IsAsTold told (Ok tt)
 HasWritten (Err e) told before now = IsWriteRefusal told e.kind before now

@@ -41,7 +41,7 @@ abbrev pub MakesAndWrites : {S W : Type 0} → (W → S → Option (Result (Unit
 MakesAndWrites answers writes refused faults (Ok _) made old new = IsTaken answers writes made old new
 MakesAndWrites answers writes refused faults (Err e) made old new = IsUnmade made e.kind old new ⊎ IsRefusedByWriter answers refused faults made e.kind old new
 
--- a call leaves the told draws; where there is no memory it may leave any end of what there was
+-- a call leaves the given draws; where there is no memory it may leave any end of what there was
 abbrev pub LeavesDraws : {T : Type 0} → Result T TinkError → List ℕ → List ℕ → List ℕ → Type 0
 LeavesDraws (Ok _) left before now = now ≡ left
 LeavesDraws (Err e) left before now = IsShort e.kind before now ⊎ (now ≡ left)

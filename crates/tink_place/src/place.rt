@@ -10,7 +10,7 @@ use tink_io::{Failed, Sink};
 /// Where one file is to appear under a name. What is written goes to a draft beside it, which is then shown under the
 /// name, or taken away.
 pub trait Place: Sink {
-    // What stands under the name, where it is told: no file, or the bytes of one.
+    // What stands under the name, where it is given: no file, or the bytes of one.
     ghost shown: { Self → Option (Option (List ℕ)) };
 
     // Whether the draft is there.

@@ -13,12 +13,12 @@ pub told_if : {T : Type 0} (b : Bool) (r s : Result T Kind) → IsTold r → IsT
 told_if true r s if_true if_false = if_true
 told_if false r s if_true if_false = if_false
 
--- what is made of a told answer is told
+-- what is made of a given answer is given
 pub made_told : {S T : Type 0} (f : S → T) (r : Result S Kind) → IsTold r → IsTold (made_of f r)
 made_told f (Ok v) told = tt
 made_told f (Err k) told = told
 
--- `OutOfMemory` is told by none
+-- `OutOfMemory` is given by none
 pub told_apart : {T : Type 0} (r : Result T Kind) → IsTold r → r ≡ Err OutOfMemory → ⊥
 told_apart r told is = subst IsTold is told
 

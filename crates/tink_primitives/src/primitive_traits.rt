@@ -38,7 +38,7 @@ pub trait Aead {
     ) -> Result<Bytes, TinkError>
         ensures answer { Answers result (decrypts self.now ciphertext.now additional_data.now) };
 
-    // Each answer is told, and draws are taken in their order.
+    // Each answer is given, and draws are taken in their order.
     ghost encrypts_told: { (p : Self) (plaintext additional_data draws : List ℕ)
         → IsDrawn draws (encrypts p plaintext additional_data draws) };
 
@@ -72,7 +72,7 @@ pub trait DeterministicAead {
     ) -> Result<Bytes, TinkError>
         ensures answer { Answers result (decrypts self.now ciphertext.now additional_data.now) };
 
-    // Each answer is told.
+    // Each answer is given.
     ghost encrypts_told: { (p : Self) (plaintext additional_data : List ℕ)
         → IsTold (encrypts p plaintext additional_data) };
 
@@ -96,7 +96,7 @@ pub trait HybridEncrypt {
         ensures replies { Replies result
             (encrypts self.now plaintext.now context_info.now draws.old) draws.old draws.new };
 
-    // Each answer is told, and draws are taken in their order.
+    // Each answer is given, and draws are taken in their order.
     ghost encrypts_told: { (p : Self) (plaintext context_info draws : List ℕ)
         → IsDrawn draws (encrypts p plaintext context_info draws) };
 }
@@ -115,7 +115,7 @@ pub trait HybridDecrypt {
     ) -> Result<Bytes, TinkError>
         ensures answer { Answers result (decrypts self.now ciphertext.now context_info.now) };
 
-    // Each answer is told.
+    // Each answer is given.
     ghost decrypts_told: { (p : Self) (ciphertext context_info : List ℕ)
         → IsTold (decrypts p ciphertext context_info) };
 }
@@ -136,7 +136,7 @@ pub trait Mac {
     fn verify_mac(&self, alloc: Global, mac: &[u8], message: &[u8]) -> Result<(), TinkError>
         ensures answer { Answers result (verifies self.now mac.now message.now) };
 
-    // Each answer is told.
+    // Each answer is given.
     ghost computes_told: { (p : Self) (message : List ℕ) → IsTold (computes p message) };
 
     // There is one refusal.
@@ -157,7 +157,7 @@ pub trait Prf {
     ) -> Result<Bytes, TinkError>
         ensures answer { Answers result (computes self.now input.now output_length) };
 
-    // Each answer is told.
+    // Each answer is given.
     ghost computes_told: { (p : Self) (input : List ℕ) (output_length : ℕ) → IsTold (computes p input output_length) };
 }
 
@@ -170,7 +170,7 @@ pub trait Signer {
     fn sign(&self, alloc: Global, message: &[u8], draws: &mut Draws) -> Result<Bytes, TinkError>
         ensures replies { Replies result (signs self.now message.now draws.old) draws.old draws.new };
 
-    // Each answer is told, and draws are taken in their order.
+    // Each answer is given, and draws are taken in their order.
     ghost signs_told: { (p : Self) (message draws : List ℕ) → IsDrawn draws (signs p message draws) };
 }
 
@@ -183,6 +183,6 @@ pub trait Verifier {
     fn verify(&self, alloc: Global, signature: &[u8], message: &[u8]) -> Result<(), TinkError>
         ensures answer { Answers result (verifies self.now signature.now message.now) };
 
-    // Each answer is told.
+    // Each answer is given.
     ghost verifies_told: { (p : Self) (signature message : List ℕ) → IsTold (verifies p signature message) };
 }

@@ -53,7 +53,7 @@ status_of Done = 0
 status_of Usage = 2
 status_of (Refused kind) = kind_status kind
 
--- the line that is told, nothing where all went well
+-- the line that is written, nothing where all went well
 abbrev pub line_of : Outcome → List ℕ
 line_of Done = []
 line_of Usage =
@@ -107,7 +107,7 @@ abbrev pub OutcomeMeans : List (List ℕ) → Outside → Outside → Outcome �
 OutcomeMeans words old new outcome =
     HasDone words old new outcome ⊎ AsksNothing words old new outcome ⊎ HasNoRoom old new outcome
 
--- the status is that of an outcome, whose line was told: exactly, or a prefix of it where the count of faults rose
+-- the status is that of an outcome, whose line was written: exactly, or a prefix of it where the count of faults rose
 pub record ProgramMeans (words : List (List ℕ)) (old new : Outside) (told_before told_after : Option (List ℕ)) (faults_before faults_after : ℕ) (status : ℕ) : Type 0 where
   pub outcome : Outcome
   pub status_is : status ≡ status_of outcome

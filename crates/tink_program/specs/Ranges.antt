@@ -54,7 +54,7 @@ module _ (keyset aad : List ℕ) (start len : ℕ) where
   RangeOutcome old new Usage = ⊥
   RangeOutcome old new (Refused kind) = RangeAnswer old new (Err (record { kind = kind }))
 
-  -- ---- told bytes
+  -- ---- known bytes
 
   -- the range of the whole input was written: where the input is a stream of the chosen key, that slice of its text
   pub record IsRangeWhole (T : List ℕ) (old new : Outside) : Type 0 where

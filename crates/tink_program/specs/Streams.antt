@@ -49,7 +49,7 @@ IsDoneOrWant status = (status ≡ 0) ⊎ (status ≡ 10)
 
 -- ---- a seal
 
--- told bytes: a seal with status 0 has written exactly the stream of the whole text under the seed's draws
+-- known bytes: a seal with status 0 has written exactly the stream of the whole text under the seed's draws
 abbrev pub SealsWhole : List ℕ → List ℕ → List ℕ → Outside → Outside → ℕ → Type 0
 SealsWhole keyset aad seed old new status = (T G : List ℕ) → Told old T G → status ≡ 0
     → (report : Report) × (left_draws : List ℕ)
@@ -62,7 +62,7 @@ StopsUnmarked keyset aad seed old new status = status ≡ 11
     × SourceFailed loaded.primary aad (salt_of loaded.primary (draws_in seed 256))
     (prefix_of loaded.primary (draws_in seed 256)) old new
 
--- told bytes: a seal that can succeed where neither end fails does, or there is no memory
+-- known bytes: a seal that can succeed where neither end fails does, or there is no memory
 abbrev pub SealSucceeds : List ℕ → List ℕ → List ℕ → Outside → Outside → ℕ → Type 0
 SealSucceeds keyset aad seed old new status = (T G : List ℕ) → Told old T G → HasNoFault old new
     → CanSeal keyset aad (draws_in seed 256) T → IsDoneOrWant status
@@ -78,16 +78,16 @@ pub record SealPromises (keyset aad seed : List ℕ) (old new : Outside) (status
 
 -- ---- an open
 
--- told bytes: an open with status 0 had exactly a stream of the chosen key, and has written its text
+-- known bytes: an open with status 0 had exactly a stream of the chosen key, and has written its text
 abbrev pub OpensWhole : List ℕ → List ℕ → Outside → Outside → ℕ → Type 0
 OpensWhole keyset aad old new status = (S G : List ℕ) → Told old S G → status ≡ 0
     → (report : Report) × IsWholeText keyset aad S G new report
 
--- told bytes: an open, whatever its status, has written only a prefix of the texts that agree under the chosen key
+-- known bytes: an open, whatever its status, has written only a prefix of the texts that agree under the chosen key
 abbrev pub WritesAgreeing : List ℕ → List ℕ → Outside → Outside → Type 0
 WritesAgreeing keyset aad old new = (S G : List ℕ) → Told old S G → IsOfAgreeing keyset aad S old new
 
--- told bytes: an open that can succeed where neither end fails does, or there is no memory
+-- known bytes: an open that can succeed where neither end fails does, or there is no memory
 abbrev pub OpenSucceeds : List ℕ → List ℕ → Outside → Outside → ℕ → Type 0
 OpenSucceeds keyset aad old new status = (S G : List ℕ) → Told old S G → HasNoFault old new
     → CanOpen keyset aad S → IsDoneOrWant status
@@ -128,19 +128,19 @@ RewrapOutcome sides draws old new (Refused kind) = HasRewrapped sides draws old 
 abbrev pub IsUnmovable : Sides → Kind → Type 0
 IsUnmovable sides kind = (load sides.from ≡ Err kind) ⊎ SecondRefused sides kind
 
--- told bytes: a rewrap with status 0 had exactly a stream of the chosen key of the first keyset, and has written exactly the
+-- known bytes: a rewrap with status 0 had exactly a stream of the chosen key of the first keyset, and has written exactly the
 -- stream of its text under the primary key of the second one and the seed's draws
 abbrev pub MovesWhole : Sides → List ℕ → Outside → Outside → ℕ → Type 0
 MovesWhole sides seed old new status = (S G : List ℕ) → Told old S G → status ≡ 0
     → (report : Report) × (left_draws : List ℕ) × IsWholeRewrap sides (draws_in seed 256) left_draws S G new report
 
--- told bytes: a status is that of an answer, and by all but success and a fault of the sink no last segment was written,
+-- known bytes: a status is that of an answer, and by all but success and a fault of the sink no last segment was written,
 -- nor by these where the source is no stream of the chosen key
 abbrev pub EndsNone : (Result Report TinkError → ℕ) → Sides → List ℕ → Outside → Outside → ℕ → Type 0
 EndsNone status_by sides seed old new status =
     (answer : Result Report TinkError) × (status ≡ status_by answer) × LeavesUnended sides (draws_in seed 256) old new answer
 
--- told bytes: a rewrap that can succeed where neither end fails does, or there is no memory
+-- known bytes: a rewrap that can succeed where neither end fails does, or there is no memory
 abbrev pub RewrapSucceeds : Sides → List ℕ → Outside → Outside → ℕ → Type 0
 RewrapSucceeds sides seed old new status = (S G : List ℕ) → Told old S G → HasNoFault old new
     → CanRewrap sides (draws_in seed 256) S → IsDoneOrWant status

@@ -18,7 +18,7 @@ module _ (Gives : Macs → List ℕ → List ℕ → Type 0) (Refuses : Macs →
   TokenOutcome old new Usage = ⊥
   TokenOutcome old new (Refused kind) = TokenMeans Gives Refuses keyset old new (Err (record { kind = kind }))
 
-  -- told bytes: what 0 promises; where neither end fails, when it comes, and when the input's refusals come; and how
+  -- known bytes: what 0 promises; where neither end fails, when it comes, and when the input's refusals come; and how
   -- much is taken of the source at most, whatever the status
   pub record TokenPromises (status_of_kind : Kind → ℕ) (old new : Outside) (status : ℕ) : Type 0 where
     pub whole : (T G : List ℕ) → Told old T G → status ≡ 0 → IsAnsweredWhole Gives Refuses keyset T G new

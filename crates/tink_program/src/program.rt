@@ -31,11 +31,11 @@ pub enum Outcome {
 
 /// Does what the words say, from `source` to `sink`, and answers the status:
 ///
-/// - 0: it was done, and nothing is told to `faults`.
+/// - 0: it was done, and nothing is written to `faults`.
 /// - 2: the words are none of `seal KEYSET AAD SEED`, `open KEYSET AAD`, `keygen TEMPLATE SEED`,
 ///   `rotate KEYSET TEMPLATE SEED`, `large N`, `range KEYSET AAD START LEN`, `rewrap KEYSET AAD KEYSET AAD SEED`,
-///   `sign KEYSET` and `verify KEYSET`; the usage line is told.
-/// - 10 to 28: it was refused; the line of the refusal's kind is told.
+///   `sign KEYSET` and `verify KEYSET`; the usage line is written.
+/// - 10 to 28: it was refused; the line of the refusal's kind is written.
 ///
 /// KEYSET and AAD are hexadecimal, in either case and at least two digits, or `-` for no bytes; TEMPLATE is any word;
 /// SEED is 64 hexadecimal digits, and draws are the first 256 words of its ChaCha20 stream; N is a decimal number

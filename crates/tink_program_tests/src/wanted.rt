@@ -44,7 +44,7 @@ fn text_of(status: u8) -> &'static str {
     ""
 }
 
-/// Whether a status is one of these, of which there are two at most with a bar between them, and its line was told, as
+/// Whether a status is one of these, of which there are two at most with a bar between them, and its line was written, as
 /// far as there was room. Behind the statuses stands how the line ends.
 pub fn is_told(
     alloc: Global,

@@ -32,7 +32,7 @@ told_read_on old now n k m at buf piece same h e before given = by old before (s
     by None p q = tt
     by (Some S) p q = read_on n k m at buf piece S h e p q
 
--- a fact of told bytes from another
+-- a fact of known bytes from another
 pub told_weaker : (o : Option (List ℕ)) (P Q : List ℕ → Type 0) → ((S : List ℕ) → P S → Q S) → IfSome o P → IfSome o Q
 told_weaker None P Q f p = tt
 told_weaker (Some S) P Q f p = f S p

@@ -19,7 +19,7 @@ module _ (k : OpeningKey) (S : List ℕ) (some : 0 < k.header) (long : front_len
   abbrev held : List ℕ
   held = take (front_length k) S
 
-  -- a front is told by its own bytes
+  -- a front is given by its own bytes
   begins_same : begins_front k held ≡ begins_front k S
   begins_same =
       let out : take (length k.out) held ≡ take (length k.out) S = take-take (length k.out) (front_length k) S (omega arith) in

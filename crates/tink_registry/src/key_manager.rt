@@ -94,7 +94,7 @@ pub trait KeyManager {
     fn public_key_data(&self, alloc: Global, serialized_key: &[u8]) -> Result<KeyData, TinkError>
         ensures answer { Answers result (gives_public self.now serialized_key.now) };
 
-    // Each answer is told, and draws are taken in their order.
+    // Each answer is given, and draws are taken in their order.
     ghost builds_told: { (m : Self) (key : List ℕ) → IsTold (builds m key) };
 
     ghost makes_told: { (m : Self) (format draws : List ℕ) → IsDrawn draws (makes m format draws) };

@@ -93,7 +93,7 @@ stream_is_agreed k S ts law s = let w = stream_agrees k S ts law s in go (k.seg 
       longest = λ others q. omega (arith, e, (leads_on seg 0 (chunks_of k S) others q).2);
     }
 
--- bytes that are told, and a keyset that loads
+-- known bytes, and a keyset that loads
 module _ (keyset aad S G : List ℕ) (l : Loaded) (old new : Outside) (told : Told old S G) (loads : load keyset ≡ Ok l) where
   told_in : Told (into [] old) S []
   told_in = record { left = told.left; got = refl }
@@ -119,7 +119,7 @@ module _ (keyset aad S G : List ℕ) (l : Loaded) (old new : Outside) (told : To
 untouched_keeps : (old new : Outside) → IsUntouched old new → Keeps old.got new.got
 untouched_keeps old new u = subst (λ (m : Outside). Keeps old.got m.got) (sym u) (Keeps-refl old.got)
 
--- a success, over bytes that are told
+-- a success, over known bytes
 rewrapped : (s : Sides) (draws left_draws S G : List ℕ) (old new : Outside) (report : Report) → RewrapMeans s draws left_draws old new (Ok report) → Told old S G → IsWholeRewrap s draws left_draws S G new report
 rewrapped s draws left_draws S G old new report r t =
     let x = r.means.means in
@@ -153,7 +153,7 @@ succeeds s draws left_draws old new (Err e) r = tt
 
 -- ---- no end where there is none
 
--- two keysets that load, and bytes that are told
+-- two keysets that load, and known bytes
 module _ (s : Sides) (draws S G : List ℕ) (old new : Outside) (told : Told old S G) (l m : Loaded) (from : load s.from ≡ Ok l) (to : load s.to ≡ Ok m) where
   abbrev keys : List OpeningKey
   keys = opening_keys s.from_aad l

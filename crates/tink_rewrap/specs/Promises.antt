@@ -1,4 +1,4 @@
--- The promises of a rewrap over bytes that are told.
+-- The promises of a rewrap over known bytes.
 use Rattle.std.specs.Prelude.{◌≡◌, ℕ, ◌≤◌, ◌^◌, List, [], ◌++◌, length, drop, Some, None, Result, Ok, Err}
 use Rattle.std.specs.Io.KnownBytes.{Keeps}
 use Rattle.tink_io.specs.Written.{AppendsPrefix}

@@ -53,14 +53,14 @@ pub fn rewrap<S: Source, K: Sink>(
         (outside_of S.left S.faults K.got K.faults source.new sink.new)
         result }
 
-    // Told bytes: the source was exactly a stream of the chosen key of the first keyset, and exactly the stream of its
+    // Known bytes: the source was exactly a stream of the chosen key of the first keyset, and exactly the stream of its
     // text under the second one's primary key was written.
     ensures rewrapped { IfOk result (λ report. (X G : List ℕ)
         → Told (outside_of S.left S.faults K.got K.faults source.old sink.old) X G
         → IsWholeRewrap (record { from = from.now; from_aad = from_aad.now; to = to.now; to_aad = to_aad.now })
         draws.old draws.new X G (outside_of S.left S.faults K.got K.faults source.new sink.new) report) }
 
-    // Told bytes: where the source is no stream of the chosen key, or the answer is another refusal than WriteFault, no
+    // Known bytes: where the source is no stream of the chosen key, or the answer is another refusal than WriteFault, no
     // last segment was written.
     ensures unended { LeavesUnended
         (record { from = from.now; from_aad = from_aad.now; to = to.now; to_aad = to_aad.now })
@@ -69,7 +69,7 @@ pub fn rewrap<S: Source, K: Sink>(
         (outside_of S.left S.faults K.got K.faults source.new sink.new)
         result }
 
-    // Told bytes: where neither end fails and the stream can be moved, it is, or there is no memory.
+    // Known bytes: where neither end fails and the stream can be moved, it is, or there is no memory.
     ensures succeeds { CompletesRewrap
         (record { from = from.now; from_aad = from_aad.now; to = to.now; to_aad = to_aad.now })
         draws.old

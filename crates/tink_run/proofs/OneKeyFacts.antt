@@ -18,7 +18,7 @@ if_told : (o : Option (List ℕ)) (P Q : List ℕ → Type 0) → ((S : List ℕ
 if_told None P Q f h = tt
 if_told (Some S) P Q f h = f S refl h
 
--- where the same is chosen of two lists of keys for the bytes that are told
+-- where the same is chosen of two lists of keys for the known bytes
 module _ (ks js : List OpeningKey) (old new : Outside) (same : (S : List ℕ) → old.left ≡ Some S → (c : Option OpeningKey) → IsChosen ks S c → IsChosen js S c) where
   whole_by : (texts : List (List ℕ)) (S : List ℕ) → old.left ≡ Some S → IsOfChosen ks S texts → IsOfChosen js S texts
   whole_by texts S e h = record { key = h.key; chosen = same S e (Some h.key) h.chosen; stream = h.stream }

@@ -39,7 +39,7 @@ chosen_of aad (e ∷ ks) S k u (inr h) = chosen_of aad ks S k u.1 h.1
 pub chosen_lawful : (keyset aad S : List ℕ) (l : Loaded) (k : OpeningKey) → load keyset ≡ Ok l → IsChosen (opening_keys aad l) S (Some k) → Lawful k
 chosen_lawful keyset aad S l k e h = chosen_of aad l.keys S k (loaded_usable keyset l e).0 h
 
--- the whole told stream was opened
+-- the whole known stream was opened
 pub open_succeeds : (keyset aad S G : List ℕ) (old new : Outside) (report : Report) → OpensLoaded keyset aad old new (Ok report) → Told old S G → IsWholeText keyset aad S G new report
 open_succeeds keyset aad S G old new report o t =
     let stream = told_if (λ X. IsOfChosen (opening_keys aad o.loaded) X o.means.texts) old.left S t.left o.means.stream in

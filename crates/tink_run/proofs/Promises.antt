@@ -10,7 +10,7 @@ use Rattle.tink_run.specs.Run.{AnswerMeans, Told, OkMeans, OnlyAgreeing, IsCompl
 use Rattle.tink_run.proofs.RunLemmas.{seal_succeeds, seal_complete}
 use Rattle.tink_run.proofs.OpenLemmas.{open_succeeds, open_agreeing, open_complete}
 
--- what a success says of told bytes
+-- what a success says of known bytes
 pub succeeds : (command : Command) (keyset aad draws left_draws : List ℕ) (old new : Outside) (answer : Result Report TinkError) → AnswerMeans command keyset aad draws left_draws old new answer
     → IfOk answer (λ report. (T G : List ℕ) → Told old T G → OkMeans command keyset aad draws left_draws T G new report)
 succeeds Seal keyset aad draws left_draws old new (Ok report) m = λ T G t. seal_succeeds keyset aad draws left_draws T G old new report m t

@@ -17,13 +17,13 @@ use Rattle.tink_run.specs.Outside.{Outside, HasNoFault}
 use Rattle.tink_run.specs.SealAnswers.{SealsLoaded, SealingRefused, SealMeans, SealRefused}
 use Rattle.tink_run.specs.Run.{Told, IsWholeStream, IsOkOrWant, CanSeal}
 
--- what was appended to told bytes
+-- what was appended to known bytes
 pub told_appended : (a b : Option (List ℕ)) (G bs : List ℕ) → a ≡ Some G → Appends a b bs → b ≡ Some (G ++ bs)
 told_appended None b G bs e h = absurd (cc)
 told_appended (Some xs) None G bs e h = absurd h
 told_appended (Some xs) (Some ys) G bs e h = let same : xs ≡ G = cc in ap Some (h ∙ ap (λ x. x ++ bs) same)
 
--- what was read of told bytes, and what is left
+-- what was read of known bytes, and what is left
 pub told_consumed : (a b : Option (List ℕ)) (T R : List ℕ) → a ≡ Some T → Consumes a b R → (rest : List ℕ) × (b ≡ Some rest) × (T ≡ R ++ rest)
 told_consumed None b T R e h = absurd (cc)
 told_consumed (Some xs) None T R e h = absurd h
@@ -47,7 +47,7 @@ told_whole a b T R e h end =
 pub told_if : (P : List ℕ → Type 0) (a : Option (List ℕ)) (S : List ℕ) → a ≡ Some S → IfSome a P → P S
 told_if P a S e h = rw e at h
 
--- a told end can't come to tell nothing
+-- a given end can't come to tell nothing
 pub told_left : (b : Option (List ℕ)) → (S : List ℕ) → b ≡ Some S → IsAtEnd b → b ≡ Some []
 told_left b S e h = e ∙ ap Some (told_end b S e h)
 

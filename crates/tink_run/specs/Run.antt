@@ -89,7 +89,7 @@ pub record IsOfAgreeing (keyset aad S : List ℕ) (old new : Outside) : Type 0 w
   pub under_none : (loaded : Loaded) → load keyset ≡ Ok loaded → IsChosen (opening_keys aad loaded) S None → Keeps old.got new.got
   pub unloaded : (kind : Kind) → load keyset ≡ Err kind → Keeps old.got new.got
 
--- an open of told bytes, whatever it answers
+-- an open of known bytes, whatever it answers
 abbrev pub OnlyAgreeing : Command → List ℕ → List ℕ → Outside → Outside → Type 0
 OnlyAgreeing Seal keyset aad old new = Unit {0}
 OnlyAgreeing Open keyset aad old new = (S G : List ℕ) → Told old S G → IsOfAgreeing keyset aad S old new

@@ -26,19 +26,19 @@ pub fn run<S: Source, K: Sink>(
         (outside_of S.left S.faults K.got K.faults source.new sink.new)
         result }
 
-    // Told bytes: a seal has written the stream of its whole input; an open had as input a stream of the chosen key,
+    // Known bytes: a seal has written the stream of its whole input; an open had as input a stream of the chosen key,
     // and has written its text.
     ensures ok { IfOk result (λ report. (T G : List ℕ)
         → Told (outside_of S.left S.faults K.got K.faults source.old sink.old) T G
         → OkMeans command keyset.now aad.now draws.old draws.new T G
         (outside_of S.left S.faults K.got K.faults source.new sink.new) report) }
 
-    // Told bytes: an open has only written a prefix of the texts that agree under the chosen key.
+    // Known bytes: an open has only written a prefix of the texts that agree under the chosen key.
     ensures written { OnlyAgreeing command keyset.now aad.now
         (outside_of S.left S.faults K.got K.faults source.old sink.old)
         (outside_of S.left S.faults K.got K.faults source.new sink.new) }
 
-    // Told bytes: where neither end fails and the command can succeed, it does, or there is no memory.
+    // Known bytes: where neither end fails and the command can succeed, it does, or there is no memory.
     ensures succeeds { IsComplete command keyset.now aad.now draws.old
         (outside_of S.left S.faults K.got K.faults source.old sink.old)
         (outside_of S.left S.faults K.got K.faults source.new sink.new)

@@ -1,4 +1,4 @@
--- From the keys that were loaded to a keyset, and to what is promised of told bytes.
+-- From the keys that were loaded to a keyset, and to what is promised of known bytes.
 use Rattle.std.proofs.Common.{◌≡◌, inl, inr, ℕ, ◌+◌, List, drop, take, length, refl, sym, subst, Some, IfSome}
 use Rattle.std.specs.Prelude.{Result, Ok, Err, IfOk}
 use Rattle.std.specs.declared.option.Option.{Option}

@@ -56,7 +56,7 @@ pub record WroteSlice (start len : ℕ) (text before : List ℕ) (after : Option
   pub written : after ≡ Some (before ++ slice_of_text start len text)
   pub count : n ≡ length (slice_of_text start len text)
 
--- Told bytes: where the object is a stream of the chosen key, of these texts, the range of their text was written.
+-- Known bytes: where the object is a stream of the chosen key, of these texts, the range of their text was written.
 abbrev pub GivesSlice : {W : Type 0} → (W → Option (List ℕ)) → List ℕ → List ℕ → ℕ → ℕ → Moments W → ℕ → Type 0
 GivesSlice got keyset aad start len e n =
     (S G : List ℕ) (l : Loaded) (key : OpeningKey) (texts : List (List ℕ))
@@ -69,7 +69,7 @@ abbrev pub IsGivenOrWants : Result ℕ TinkError → Type 0
 IsGivenOrWants (Ok n) = Unit {0}
 IsGivenOrWants (Err e) = e.kind ≡ OutOfMemory
 
--- Told bytes: where neither count rose, the keyset loads and the object is a stream of the chosen key, each range is
+-- Known bytes: where neither count rose, the keyset loads and the object is a stream of the chosen key, each range is
 -- given, or there is no memory.
 abbrev pub IsRangeComplete : {W : Type 0} → (W → ℕ) → List ℕ → List ℕ → Moments W → Result ℕ TinkError → Type 0
 IsRangeComplete faults keyset aad e answer =

@@ -39,7 +39,7 @@ pub fn run_range<A: ReadAt, K: Sink>(
         })
         result }
 
-    // Told bytes: of a stream of the chosen key that slice of its text was written.
+    // Known bytes: of a stream of the chosen key that slice of its text was written.
     ensures slice { IfOk result (λ n. GivesSlice K.got keyset.now aad.now start len
         (record {
           all = A.bytes object.old;
@@ -50,7 +50,7 @@ pub fn run_range<A: ReadAt, K: Sink>(
         })
         n) }
 
-    // Told bytes: where neither end fails, the keyset loads and the object is a stream of the chosen key, the range is
+    // Known bytes: where neither end fails, the keyset loads and the object is a stream of the chosen key, the range is
     // given, or there is no memory.
     ensures succeeds { IsRangeComplete K.faults keyset.now aad.now
         (record {

@@ -1,4 +1,4 @@
--- What an answer says of told bytes.
+-- What an answer says of known bytes.
 use Rattle.std.proofs.Common.{◌≡◌, ◌≤◌, ◌<◌, ℕ, List, length, sym, ◌∙◌, subst, arith}
 use Rattle.std.specs.Prelude.{Result, Ok, Err}
 use Rattle.std.specs.Io.KnownBytes.{Appends}
@@ -27,7 +27,7 @@ module _ {L : Type 0} (loading : Result L Kind) where
 not_both : {A : Type 0} (n : ℕ) → n ≤ input_limit → input_limit < n → A
 not_both n fits long = absurd (omega (arith, fits, long))
 
--- told bytes that were read to their end
+-- known bytes that were read to their end
 told_input : (old new : Outside) (T G input : List ℕ) → Told old T G → HasInput old new input → T ≡ input
 told_input old new T G input told has = (told_whole old.left new.left T input told.left has.read has.at_end).0
 
@@ -40,7 +40,7 @@ pub long_told : {A : Type 0} (old : Outside) (T G : List ℕ) → Told old T G �
 long_told old T G told long fits = not_both (length T) fits (told_if (λ x. input_limit < length x) old.left T told.left long)
 
 module _ {L : Type 0} (loading : Result L Kind) (P : L → List ℕ → Type 0) where
-  -- what holds of an input that was read holds of the told bytes
+  -- what holds of an input that was read holds of the known bytes
   pub of_told : (old new : Outside) (T G : List ℕ) → Told old T G → IsOfInput loading old new P → IsReadWhole loading P T new
   of_told old new T G told m =
       let all = told_whole old.left new.left T m.input told.left m.has.read m.has.at_end in

@@ -46,7 +46,7 @@ module _ {L : Type 0} (loading : Result L Kind) where
     pub has : HasInput old new input
     pub then : P loaded input
 
-  -- of told bytes: it loads, the whole input fits and was read, and this holds of both
+  -- of known bytes: it loads, the whole input fits and was read, and this holds of both
   pub record IsReadWhole (P : L → List ℕ → Type 0) (T : List ℕ) (new : Outside) : Type 0 where
     pub loaded : L
     pub loads : loading ≡ Ok loaded

@@ -15,7 +15,7 @@ use Rattle.tink_run_tokens.specs.Tokens.{Macs}
 abbrev pub AreLoadedMacs : Macs → WrappedMac MacKind → Type 0
 AreLoadedMacs macs w = IsMacOf kind_computes kind_verifies macs.id macs.entries w.ps.primary w.ps.entries
 
--- a call gives the told MACs, or refuses by the told kind, or there is no memory
+-- a call gives the given MACs, or refuses by the given kind, or there is no memory
 abbrev pub GivesMacs : Result (WrappedMac MacKind) TinkError → Result Macs Kind → Type 0
 GivesMacs (Ok w) told = (macs : Macs) × (told ≡ Ok macs) × AreLoadedMacs macs w
 GivesMacs (Err e) told = (e.kind ≡ OutOfMemory) ⊎ (told ≡ Err e.kind)

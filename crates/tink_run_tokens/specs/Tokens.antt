@@ -96,7 +96,7 @@ module _ (Gives : Macs → List ℕ → List ℕ → Type 0) (Refuses : Macs →
       IsOfInput (macs_of keyset) old new (λ macs input. GaveOutput Gives macs input old new Appends)
   TokenMeans old new (Err e) = TokenRefused old new e.kind
 
-  -- ---- told bytes
+  -- ---- known bytes
 
   -- exactly what is made of the whole input was written, and nothing is left
   pub record IsAnsweredWhole (T G : List ℕ) (new : Outside) : Type 0 where

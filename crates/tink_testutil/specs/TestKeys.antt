@@ -46,7 +46,7 @@ made_data url private format draws = (data_of url (material_of private) (made fo
 abbrev pub public_of : List ℕ → Bool → List ℕ → Result KeyData Kind
 public_of url private key = if private then data_of url (pos 3) (Ok key) else Err NoPrivateKeys
 
--- ---- each answer is told
+-- ---- each answer is given
 
 pub sealed_told : (key text draws : List ℕ) → IsDrawn draws (sealed key text draws)
 sealed_told key text draws =

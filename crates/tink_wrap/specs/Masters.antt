@@ -55,7 +55,7 @@ master_decrypts m input aad = any_decrypts kind_decrypts (entries_of m.entries) 
 abbrev pub IsMaster : MasterKeys → WrappedAead AeadKind → Type 0
 IsMaster m w = IsAeadOf kind_encrypts kind_decrypts m.id m.entries w.ps.primary w.ps.entries
 
--- a call gives the told AEADs, or refuses by the told kind, or there is no memory
+-- a call gives the given AEADs, or refuses by the given kind, or there is no memory
 abbrev pub GivesMaster : Result (WrappedAead AeadKind) TinkError → Result MasterKeys Kind → Type 0
 GivesMaster (Ok w) told = (m : MasterKeys) × (told ≡ Ok m) × IsMaster m w
 GivesMaster (Err e) told = (e.kind ≡ OutOfMemory) ⊎ (told ≡ Err e.kind)

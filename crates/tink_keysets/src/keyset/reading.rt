@@ -17,7 +17,7 @@ pub trait Reader {
     // How often it has failed. The count never falls, and stands still at the last value of u64.
     ghost faults: { Self → ℕ };
 
-    // The one answer of the next `read`, where it is told, faults and `OutOfMemory` aside.
+    // The one answer of the next `read`, where it is given, faults and `OutOfMemory` aside.
     ghost reads: { Self → Option (Result Keyset Kind) };
 
     // The same of `read_encrypted`.
@@ -32,7 +32,7 @@ pub trait Reader {
     /// The keyset that is read.
     ///
     /// # Errors
-    /// `ReadFault` only where the count of faults rose, `OutOfMemory`, and else the told kind; never `WriteFault`.
+    /// `ReadFault` only where the count of faults rose, `OutOfMemory`, and else the given kind; never `WriteFault`.
     fn read(&mut self, alloc: Global) -> Result<Keyset, TinkError>
         ensures answer { HasRead result (reads self.old) (faults self.old) (faults self.new) }
         ensures count { faults self.old ≤ faults self.new }

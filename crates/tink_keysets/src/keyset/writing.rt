@@ -17,13 +17,13 @@ pub trait Writer {
     // How often it has failed. The count never falls, and stands still at the last value of u64.
     ghost faults: { Self → ℕ };
 
-    // The one answer of the next `write` of a keyset, where it is told, faults and `OutOfMemory` aside.
+    // The one answer of the next `write` of a keyset, where it is given, faults and `OutOfMemory` aside.
     ghost answers: { Self → Keyset → Option (Result (Unit {0}) Kind) };
 
     // The same of `write_encrypted`.
     ghost answers_encrypted: { Self → EncryptedKeyset → Option (Result (Unit {0}) Kind) };
 
-    // What a `write` that was Ok made of the state, where it is told.
+    // What a `write` that was Ok made of the state, where it is given.
     ghost writes: { Self → Keyset → Self → Type 0 };
 
     // The same of `write_encrypted`.
@@ -42,7 +42,7 @@ pub trait Writer {
     /// Writes a keyset.
     ///
     /// # Errors
-    /// `WriteFault` only where the count of faults rose, `OutOfMemory`, and else the told kind; never `ReadFault`.
+    /// `WriteFault` only where the count of faults rose, `OutOfMemory`, and else the given kind; never `ReadFault`.
     fn write(&mut self, alloc: Global, ks: &Keyset) -> Result<(), TinkError>
         ensures answer { HasWritten result (answers self.old ks.now) (faults self.old) (faults self.new) }
         ensures written { OnOk result (writes self.old ks.now self.new) }
