@@ -1,9 +1,9 @@
-ghost use Rattle.std.specs.Prelude.{◌≡◌, ◌≤◌, ◌<◌, ◌+◌, length, map, All, IfOk, OnErr, vec_len, vec_capacity};
+ghost use Rattle.std.specs.Prelude.{◌≡◌, ◌≤◌, ◌<◌, ◌+◌, ◌-◌, length, map, All, IfOk, OnErr, vec_len, vec_capacity};
 ghost use Rattle.stream_model.specs.Key.{nonce_size};
 ghost use Rattle.stream_model.specs.Opening.{opening_key};
-ghost use Rattle.tink_io.specs.Faults.{Rose};
+ghost use Rattle.tink_io.specs.Taken.{LosesAtMost};
 ghost use Rattle.tink_streams.specs.Keeping.{kept_rest};
-ghost use Rattle.tink_streams.specs.Trials.{ChoiceMeans, KeepsRoom};
+ghost use Rattle.tink_streams.specs.Trials.{ChoiceMeans, KeepsRoom, TrialFailed};
 
 use crate::key_under::KeyUnder;
 use crate::stream_params::DerivesStreams;
@@ -15,7 +15,7 @@ use tink_streams::{Begun, Kept, try_key};
 /// data, or none.
 ///
 /// # Errors
-/// Failed where the source failed.
+/// Failed where the source failed. What was read is kept.
 pub fn choose<S: Source, T: DerivesStreams>(
     keys: &[T],
     aad: &[u8],
@@ -31,9 +31,11 @@ pub fn choose<S: Source, T: DerivesStreams>(
     requires prefix { 7 ≤ vec_capacity prefix }
     ensures answer { IfOk result (ChoiceMeans (map (λ k. opening_key aad.now (T.key_of k)) keys.now)
         (kept_rest S.left kept.old source.old) (kept_rest S.left kept.new source.new) kept.new nonce.new opened.new) }
+    ensures failed { OnErr result (TrialFailed (kept_rest S.left kept.old source.old)
+        (kept_rest S.left kept.new source.new) (S.faults source.old) (S.faults source.new)) }
+    ensures read { LosesAtMost (vec_len kept.old.buffer - kept.old.filled) (S.left source.old) (S.left source.new) }
     ensures room { KeepsRoom kept.old kept.new nonce.old nonce.new opened.old opened.new }
     ensures later { S.faults source.old ≤ S.faults source.new }
-    ensures rose { OnErr result (Rose (S.faults source.old) (S.faults source.new)) }
     ensures same { S.same source.old source.new }
 {
     let mut prefix = prefix;

@@ -30,8 +30,9 @@ fn read_header<T: DerivesStreams, S: Source>(
     ensures same { S.same source.old source.new }
 {
     let mut header = [0u8; MAX_HEADER];
+    let mut n: usize = 0;
     let size = key.header_length();
-    let Ok(n) = fill(source, &mut header, 0, size) else {
+    let Ok(()) = fill(source, &mut header, &mut n, size) else {
         return Err(TinkError::new(Kind::ReadFault));
     };
     if n < size {

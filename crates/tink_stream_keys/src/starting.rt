@@ -1,6 +1,7 @@
-ghost use Rattle.std.specs.Prelude.{◌≡◌, ◌≤◌, ◌<◌, ◌+◌, [], length, map, All, IfSome, IfOk, IfErr, vec_len, vec_capacity};
+ghost use Rattle.std.specs.Prelude.{◌≡◌, ◌≤◌, ◌<◌, ◌+◌, ◌-◌, [], length, map, All, IfSome, IfOk, IfErr, vec_len, vec_capacity};
 ghost use Rattle.stream_model.specs.Key.{nonce_size};
 ghost use Rattle.stream_model.specs.Opening.{opening_key};
+ghost use Rattle.tink_io.specs.Taken.{LosesAtMost};
 ghost use Rattle.tink_io.specs.declared.error.Kind.TheVariants.{OutOfMemory};
 ghost use Rattle.tink_streams.specs.declared.progress.Progress.TheVariants.{Running};
 ghost use Rattle.tink_streams.specs.Choosing.{Started, StartRefused};
@@ -55,7 +56,8 @@ impl Trial {
 /// behind its front.
 ///
 /// # Errors
-/// NoMatchingKey where the stream begins under none, ReadFault where the source failed.
+/// NoMatchingKey where the stream begins under none, ReadFault where the source failed. No more was read than the trial
+/// has room for.
 pub fn start<S: Source, T: DerivesStreams>(
     keys: &[T],
     aad: &[u8],
@@ -66,13 +68,14 @@ pub fn start<S: Source, T: DerivesStreams>(
     requires room { All (λ k. (T.key_of k).segment ≤ vec_capacity trial.opened) keys.now }
     requires nonce { All (λ k. nonce_size (T.key_of k) ≤ vec_len trial.nonce) keys.now }
     requires prefix { 7 ≤ vec_capacity trial.prefix }
-    ensures fresh { IfOk result (λ r. (r.progress ≡ Running) × (r.segments ≡ 0) × (r.opened.items ≡ [])) }
+    ensures fresh { IfOk result (λ r. (r.progress ≡ Running) × (r.segments ≡ 0) × (r.opened.items ≡ [])
+        × (vec_len r.buffer ≡ vec_len trial.kept.buffer)) }
     ensures started { IfOk result (λ r. IfSome (kept_rest S.left trial.kept source.old) (λ X.
         Started (map (λ k. opening_key aad.now (T.key_of k)) keys.now) X (reader_rest S.left r source.new)
         (segment_map r.opener) r.opener.first r.opener.size r.opener.overhead)) }
-    ensures room { IfOk result (λ r. vec_len r.buffer ≡ vec_len trial.kept.buffer) }
     ensures refused { IfErr result (λ e. StartRefused (map (λ k. opening_key aad.now (T.key_of k)) keys.now)
         (kept_rest S.left trial.kept source.old) (S.faults source.old) (S.faults source.new) e.kind) }
+    ensures read { LosesAtMost (vec_len trial.kept.buffer - trial.kept.filled) (S.left source.old) (S.left source.new) }
     ensures later { S.faults source.old ≤ S.faults source.new }
     ensures same { S.same source.old source.new }
 {

@@ -1,11 +1,15 @@
 -- Which key is chosen, step by step.
-use Rattle.std.proofs.Common.{◌≡◌, ◌≤◌, ◌<◌, ◌+◌, ℕ, Bool, List, ◌∷◌, ◌++◌, length, drop, map, Some, None, IfSome, ap, sym, refl, ◌∙◌, subst, inl, inr, suc, add-one, get_or, drop-cons}
+use Rattle.std.proofs.Common.{◌≡◌, ◌≤◌, ◌<◌, ◌+◌, ◌-◌, ℕ, Bool, List, [], ◌∷◌, ◌++◌, length, take, drop, map, Some, None, IfSome, ap, sym, refl, ◌∙◌, subst, inl, inr, suc, add-one, get_or, drop-cons, arith, length-drop, vec_len}
 use Rattle.std.proofs.Math.ListN.{drop_of_length-le}
 use Rattle.std.specs.declared.option.Option.{Option}
-use Rattle.std.proofs.lemmas.List.{drop-append-le}
+use Rattle.std.proofs.lemmas.List.{drop-append-le, length-take}
+use Rattle.std.proofs.Math.Seq.{drop-append_seam}
 use Rattle.std.specs.Io.KnownBytes.{Keeps, prepend_known}
+use Rattle.tink_io.specs.Taken.{LosesAtMost}
 use Rattle.stream_model.specs.Opening.{OpeningKey, Begins, IsChosen}
 use Rattle.tink_streams.specs.Choosing.{Found, Started}
+use Rattle.tink_streams.specs.Keeping.{kept_rest}
+use Rattle.tink_streams.specs.declared.kept.Kept.{Kept}
 
 -- what is chosen of the keys from i on is chosen of all
 abbrev pub ChosenFrom : {T : Type 0} → (T → OpeningKey) → List T → ℕ → List ℕ → Type 0
@@ -45,3 +49,18 @@ started ks seg front first size overhead (Some X) (Some Y) held rest f k l e = r
   found = f;
   rest = ap (λ x. Some (x ++ Y)) e ∙ ap Some (sym (drop-append-le front held Y l) ∙ ap (drop front) k);
 }
+
+-- where no byte is lost, and no fewer are held, at most so many were read as more are held
+pub read_held : (most : ℕ) (a b : Option (List ℕ)) (xs ys : List ℕ) → Keeps (prepend_known xs a) (prepend_known ys b) → length xs ≤ length ys → length ys ≤ length xs + most → LosesAtMost most a b
+read_held most None b xs ys kept more few = ([], omega arith, tt)
+read_held most (Some x) None xs ys kept more few = absurd kept
+read_held most (Some x) (Some y) xs ys kept more few =
+    (drop (length xs) ys, omega (arith, length-drop (length xs) ys), sym (drop-append_seam xs x) ∙ ap (drop (length xs)) (sym kept) ∙ drop-append-le (length xs) ys y more)
+
+-- no more was read than the buffer has room for
+pub read_kept : {S : Type 0} (left : S → Option (List ℕ)) (old new : Kept) (s t : S) → Keeps (kept_rest left old s) (kept_rest left new t) → old.filled ≤ new.filled → vec_len new.buffer ≡ vec_len old.buffer
+    → LosesAtMost (vec_len old.buffer - old.filled) (left s) (left t)
+read_kept left old new s t kept more room =
+    let here : length (take old.filled old.buffer.items) ≡ old.filled = omega (arith, old.filled_in, old.buffer.ok.0, length-take old.filled old.buffer.items) in
+    let there : length (take new.filled new.buffer.items) ≡ new.filled = omega (arith, new.filled_in, new.buffer.ok.0, length-take new.filled new.buffer.items) in
+    read_held _ (left s) (left t) (take old.filled old.buffer.items) (take new.filled new.buffer.items) kept (omega (arith, here, there, more)) (omega (arith, here, there, room, new.filled_in))

@@ -1,10 +1,16 @@
 -- Bytes that are held and bytes that are left.
-use Rattle.std.proofs.Common.{◌≡◌, ◌≤◌, ◌+◌, ℕ, List, ◌++◌, length, take, drop, Some, None, ap, sym, ◌∙◌, arith, append_assoc}
+use Rattle.std.proofs.Common.{◌≡◌, ◌≤◌, ◌<◌, ◌+◌, ℕ, List, [], ◌++◌, length, take, drop, Some, None, ap, sym, ◌∙◌, arith, append_assoc, length-append}
 use Rattle.std.proofs.lemmas.List.{length-take, take-append-le}
 use Rattle.std.proofs.Math.Seq.{take-append-add}
+use lib.Seq.{take-append_seam}
 use borrow.Rule.Slice.PartMut.{put_mid}
 use Rattle.std.specs.declared.option.Option.{Option}
-use Rattle.std.specs.Io.KnownBytes.{Keeps, Consumes, prepend_known}
+use Rattle.std.specs.Prelude.{Result, Ok, Err, OnOk}
+use Rattle.std.specs.Io.KnownBytes.{Keeps, Consumes, IsAtEnd, prepend_known}
+use Rattle.std.proofs.KnownBytes.{Consumes-trans}
+use Rattle.tink_io.specs.Taken.{LosesAtMost}
+use Rattle.tink_io.specs.declared.outside.Failed.{Failed}
+use Rattle.tink_streams.specs.Opening.{HoldsOrFails}
 
 -- what was read is held
 pub held_more : (a b c : Option (List ℕ)) (xs ys : List ℕ) → Keeps a (prepend_known xs b) → Consumes b c ys → Keeps a (prepend_known (xs ++ ys) c)
@@ -18,3 +24,25 @@ pub front_read : (n k m : ℕ) (xs ys : List ℕ) → n ≤ length xs → m ≤ 
 front_read n k m xs ys h e =
     let l : length (take n xs) ≡ n = omega (arith, length-take n xs) in
     ap (λ i. take (i + m) (put_mid n k xs ys)) (sym l) ∙ take-append-add (take n xs) (ys ++ drop k (drop n xs)) m ∙ ap (λ x. take n xs ++ x) (take-append-le m ys (drop k (drop n xs)) e)
+
+-- where nothing was read, the prefix stays
+pub front_still : (n k : ℕ) (xs ys : List ℕ) → n ≤ length xs → take n (put_mid n k xs ys) ≡ take n xs
+front_still n k xs ys h =
+    let l : length (take n xs) ≡ n = omega (arith, length-take n xs) in
+    ap (λ i. take i (put_mid n k xs ys)) (sym l) ∙ take-append_seam (take n xs) (ys ++ drop k (drop n xs))
+
+-- nothing was lost
+pub kept_consumes : (a b : Option (List ℕ)) → Keeps a b → Consumes a b []
+kept_consumes None b p = tt
+kept_consumes (Some x) None p = absurd p
+kept_consumes (Some x) (Some y) p = sym p
+
+-- more was lost
+pub loses_more : (m k n : ℕ) (a b c : Option (List ℕ)) (front : List ℕ) → LosesAtMost m a b → Consumes b c front → length front ≤ k → m + k ≤ n → LosesAtMost n a c
+loses_more m k n a b c front lost more few room = (lost.0 ++ front, omega (arith, lost.1, length-append lost.0 front), Consumes-trans a b c lost.0 front lost.2 more)
+
+-- more than a chunk is held, or nothing is left, unless the source failed
+pub holds_or_fails : (size n : ℕ) (all left : Option (List ℕ)) (items : List ℕ) (r : Result (Unit {0}) Failed) → n ≤ length items → Keeps all (prepend_known (take n items) left)
+    → OnOk r (n < size + 1 → IsAtEnd left) → HoldsOrFails size all (take n items) left r
+holds_or_fails size n all left items (Ok v) there kept end = record { all = kept; end = λ few. end (omega (arith, few, there, length-take n items)) }
+holds_or_fails size n all left items (Err e) there kept end = kept

@@ -1,7 +1,7 @@
 -- What a reader's calls say.
 use Rattle.std.specs.Prelude.{◌≡◌, ◌⊎◌, ℕ, ◌+◌, ◌^◌, ◌<◌, ◌≤◌, Bool, List, [], ◌∷◌, length, take, Result, Ok, Err, None, Some, IfSome}
 use Rattle.std.specs.declared.option.Option.{Option}
-use Rattle.std.specs.Io.KnownBytes.{IsAtEnd}
+use Rattle.std.specs.Io.KnownBytes.{Keeps, IsAtEnd}
 use Rattle.tink_io.specs.Faults.{Rose}
 use Rattle.tink_io.specs.declared.error.Cause.{Cause}
 use Rattle.tink_io.specs.declared.error.Cause.TheVariants as cause
@@ -42,11 +42,12 @@ pub record OpensNext (seg : ℕ → Bool → List ℕ → List ℕ) (first size 
   pub goes_on : new.progress ≡ Running → 0 < length new.opened
   pub ends : new.progress ≡ Ended → IsAtEnd new.rest
 
--- the reader has failed for good, and nothing was opened
+-- the reader has failed for good, nothing was opened, and no byte is lost
 pub record FailsBy (c : Cause) (old new : ReaderMoment) : Type 0 where
   pub failed : new.progress ≡ Failed c
   pub number : new.number ≡ old.number
   pub opened : new.opened ≡ []
+  pub kept : Keeps old.rest new.rest
 
 -- the source failed
 pub record ReadFailed (old new : ReaderMoment) : Type 0 where

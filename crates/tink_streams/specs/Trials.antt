@@ -3,23 +3,31 @@ use Rattle.std.specs.Prelude.{◌≡◌, ◌≤◌, ◌<◌, ℕ, List, Vec, Res
 use Rattle.std.specs.declared.option.Option.{Option}
 use Rattle.std.specs.Io.KnownBytes.{Keeps}
 use Rattle.stream_model.specs.Opening.{OpeningKey, Begins, IsChosen}
+use Rattle.tink_io.specs.Faults.{Rose}
 use Rattle.tink_segment_traits.specs.declared.segment_traits.SegmentDecrypter.{Ghosts}
 use Rattle.tink_streams.specs.Choosing.{IsOpenerOf, Found}
 use Rattle.tink_streams.specs.Openers.{segment_map}
 use Rattle.tink_streams.specs.declared.kept.Kept.{Kept}
 use Rattle.tink_streams.specs.declared.trying.Begun.{Begun}
 
--- the buffer of what is kept and that of nonces have the length that they had, and that of texts has no less memory
+-- the buffer of what is kept and that of nonces have the length that they had, that of texts has no less memory, and no
+-- fewer bytes are kept
 pub record KeepsRoom {Z : Type 0} (kept_before kept : Kept) (nonce_before nonce opened_before opened : Vec ℕ Z) : Type 0 where
   pub len : vec_len kept.buffer ≡ vec_len kept_before.buffer
   pub nonce_len : vec_len nonce ≡ vec_len nonce_before
   pub capacity : vec_capacity opened_before ≤ vec_capacity opened
+  pub more : kept_before.filled ≤ kept.filled
 
 -- the stream does not begin under the key, none of its bytes is lost, and the memory of a prefix is handed back
 pub record DoesNotBegin {Z : Type 0} (k : OpeningKey) (old new : Option (List ℕ)) (prefix : Vec ℕ Z) : Type 0 where
   pub none : IfSome old (λ X. Begins k X → ⊥)
   pub rest : Keeps old new
   pub room : 7 ≤ vec_capacity prefix
+
+-- the source failed, and none of its bytes is lost
+pub record TrialFailed (old new : Option (List ℕ)) (before after : ℕ) : Type 0 where
+  pub rest : Keeps old new
+  pub rose : Rose before after
 
 -- the stream begins under none of the keys, and none of its bytes is lost
 pub record IsOfNone (ks : List OpeningKey) (old new : Option (List ℕ)) : Type 0 where

@@ -1,53 +1,56 @@
-ghost use Rattle.std.specs.Prelude.{◌≡◌, ◌≤◌, ◌<◌, ◌+◌, ◌-◌, length, take, drop, max, IfOk, OnErr, vec_len};
+ghost use Rattle.std.specs.Prelude.{◌≡◌, ◌≤◌, ◌<◌, ◌+◌, ◌-◌, length, take, drop, max, OnOk, OnErr, vec_len};
 ghost use Rattle.std.specs.Io.KnownBytes.{Keeps, IsAtEnd, prepend_known};
 ghost use Rattle.tink_io.specs.Faults.{Rose};
-ghost use Rattle.tink_streams.specs.Opening.{HoldsChunk};
+ghost use Rattle.tink_io.specs.Taken.{LosesAtMost};
+ghost use Rattle.tink_streams.specs.Opening.{HoldsOrFails};
 
 use tink_io::{Failed, Source};
 
-// Reads into `buffer`, whose first `filled` bytes are there, up to its place `want` or the source's end.
+// Reads into `buffer`, whose first `filled` bytes are there, up to its place `want` or the source's end. What was read
+// before the source failed is there too.
 pub fn fill<S: Source>(
     source: &mut S,
     buffer: &mut [u8],
-    filled: usize,
+    filled: &mut usize,
     want: usize,
-) -> Result<usize, Failed>
-    requires filled { filled ≤ length buffer.old }
+) -> Result<(), Failed>
+    requires filled { filled.old ≤ length buffer.old }
     requires want { want ≤ length buffer.old }
-    ensures within { IfOk result (λ n. n ≤ max filled want) }
-    ensures more { IfOk result (λ n. filled ≤ n) }
-    ensures end { IfOk result (λ n. n < want → IsAtEnd (S.left source.new)) }
-    ensures rest { IfOk result (λ n. Keeps (prepend_known (take filled buffer.old) (S.left source.old))
-        (prepend_known (take n buffer.new) (S.left source.new))) }
+    ensures within { filled.new ≤ max filled.old want }
+    ensures more { filled.old ≤ filled.new }
+    ensures end { OnOk result (filled.new < want → IsAtEnd (S.left source.new)) }
+    ensures rest { Keeps (prepend_known (take filled.old buffer.old) (S.left source.old))
+        (prepend_known (take filled.new buffer.new) (S.left source.new)) }
+    ensures read { LosesAtMost (want - filled.old) (S.left source.old) (S.left source.new) }
     ensures later { S.faults source.old ≤ S.faults source.new }
     ensures rose { OnErr result (Rose (S.faults source.old) (S.faults source.new)) }
     ensures same { S.same source.old source.new }
 {
-    let mut n = filled;
-    while n < want {
-        match source.read(&mut buffer[n..want]) {
-            Ok(0) => return Ok(n),
-            Ok(count) => n += count,
+    while *filled < want {
+        match source.read(&mut buffer[*filled..want]) {
+            Ok(0) => return Ok(()),
+            Ok(count) => *filled += count,
             Err(e) => return Err(e),
         }
     }
-    Ok(n)
+    Ok(())
 }
 
-// Reads into `buffer`, whose first `filled` bytes are held, until more than `size` are, or to the source's end.
+// Reads into `buffer`, whose first `filled` bytes are held, until more than `size` are, or to the source's end. What was
+// read before the source failed is held too.
+#[tactic(auto, using(crate::proofs::HeldFacts::holds_or_fails))]
 pub fn hold<S: Source>(
     source: &mut S,
     buffer: &mut Vec<u8>,
-    filled: usize,
+    filled: &mut usize,
     size: usize,
-) -> Result<usize, Failed>
-    requires filled { filled ≤ vec_len buffer.old }
+) -> Result<(), Failed>
+    requires filled { filled.old ≤ vec_len buffer.old }
     requires size { size < vec_len buffer.old }
-    ensures in_buffer { IfOk result (λ n. n ≤ vec_len buffer.new) }
-    ensures most { IfOk result (λ n. n ≤ max filled (size + 1)) }
-    ensures more { IfOk result (λ n. filled ≤ n) }
-    ensures held { IfOk result (λ n. HoldsChunk size (prepend_known (take filled buffer.old.items) (S.left source.old))
-        (take n buffer.new.items) (S.left source.new)) }
+    ensures count { (filled.old ≤ filled.new) × (filled.new ≤ max filled.old (size + 1)) }
+    ensures held { HoldsOrFails size (prepend_known (take filled.old buffer.old.items) (S.left source.old))
+        (take filled.new buffer.new.items) (S.left source.new) result }
+    ensures read { LosesAtMost (size + 1 - filled.old) (S.left source.old) (S.left source.new) }
     ensures later { S.faults source.old ≤ S.faults source.new }
     ensures rose { OnErr result (Rose (S.faults source.old) (S.faults source.new)) }
     ensures same { S.same source.old source.new }

@@ -1,4 +1,6 @@
-ghost use Rattle.std.specs.Prelude.{◌≡◌, ◌≤◌, ◌<◌, ◌^◌, [], take, vec_len, vec_capacity};
+ghost use Rattle.std.specs.Prelude.{◌≡◌, ◌≤◌, ◌<◌, ◌+◌, ◌-◌, ◌^◌, [], take, vec_len, vec_capacity};
+ghost use Rattle.stream_model.specs.Cut.{room_at};
+ghost use Rattle.tink_io.specs.Taken.{LosesAtMost};
 ghost use Rattle.tink_streams.specs.Reading.{HasNotFailed};
 ghost use Rattle.tink_streams.specs.declared.progress.Progress.TheVariants.{Running, Ended};
 
@@ -79,7 +81,8 @@ impl<D: SegmentDecrypter + Drop> SegmentReader<D> {
     /// # Errors
     /// ReadFault where the source failed, TooManySegments where bytes follow the segment of number
     /// 2^32 - 1, Truncated where fewer bytes are left than the overhead, BadSegment where the next
-    /// chunk is the segment of no text. The reader has then failed, and has opened nothing.
+    /// chunk is the segment of no text. The reader has then failed, and has opened nothing. It holds what was read: at
+    /// most the next chunk and one byte.
     pub fn open_next<S: Source>(&mut self, source: &mut S) -> Result<(), TinkError>
         requires running { self.old.progress ≡ Running }
         ensures answer { OpenNextMeans (segment_map self.old.opener) self.old.opener.first self.old.opener.size
@@ -88,13 +91,16 @@ impl<D: SegmentDecrypter + Drop> SegmentReader<D> {
         ensures opener { self.new.opener ≡ self.old.opener }
         ensures room { vec_len self.new.buffer ≡ vec_len self.old.buffer }
         ensures small { vec_len self.new.opened < 2 ^ 32 }
+        ensures read { LosesAtMost
+            (room_at self.old.opener.first self.old.opener.size self.old.segments + 1 - self.old.filled)
+            (S.left source.old) (S.left source.new) }
         ensures later { S.faults source.old ≤ S.faults source.new }
         ensures same { S.same source.old source.new }
     {
         self.opened.clear();
         let size = size_of(&self.opener, self.segments);
-        match hold(source, &mut self.buffer, self.filled, size) {
-            Ok(n) => self.filled = n,
+        match hold(source, &mut self.buffer, &mut self.filled, size) {
+            Ok(()) => {}
             Err(_) => {
                 self.progress = Progress::Failed(Cause::ReadFault);
                 return Err(TinkError::new(Kind::ReadFault));

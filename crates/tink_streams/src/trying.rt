@@ -1,11 +1,10 @@
-ghost use Rattle.std.specs.Prelude.{◌≡◌, ◌≤◌, ◌<◌, ◌+◌, ◌-◌, ℕ, length, take, drop, max, Some, None, IfSome, IsNone, IfOk, IfErr, MatchResult, OnOk, OnErr, false, true, vec_len, vec_capacity};
+ghost use Rattle.std.specs.Prelude.{◌≡◌, ◌≤◌, ◌<◌, ◌+◌, ◌-◌, ℕ, length, take, drop, max, Some, None, IfSome, IsNone, IfOk, IfErr, MatchResult, OnErr, false, true, vec_len, vec_capacity};
 ghost use Rattle.stream_model.specs.Cut.{numbered};
 ghost use Rattle.stream_model.specs.Opening.{OpeningKey, HasFront, begins_front, front_length, header_of};
-ghost use Rattle.tink_io.specs.Faults.{Rose};
 ghost use Rattle.tink_streams.specs.Choosing.{HasSizesOf};
 ghost use Rattle.tink_streams.specs.Keeping.{kept_rest};
 ghost use Rattle.tink_streams.specs.Openers.{segment_map};
-ghost use Rattle.tink_streams.specs.Trials.{KeepsRoom, TrialMeans};
+ghost use Rattle.tink_streams.specs.Trials.{KeepsRoom, TrialFailed, TrialMeans};
 
 use crate::kept::Kept;
 use crate::opener::Opener;
@@ -159,7 +158,7 @@ fn begun_if<D: SegmentDecrypter + Drop>(
 /// else the memory of its prefix again. No more is read than tells it.
 ///
 /// # Errors
-/// Failed where the source failed.
+/// Failed where the source failed. What was read is kept.
 pub fn try_key<S: Source, D: SegmentDecrypter + Drop, T: OpensStreams<D>>(
     key: &T,
     kept: &mut Kept,
@@ -174,11 +173,12 @@ pub fn try_key<S: Source, D: SegmentDecrypter + Drop, T: OpensStreams<D>>(
     requires prefix { 7 ≤ vec_capacity prefix }
     ensures answer { IfOk result (TrialMeans (T.opening_key key.now) (T.nonce_of key.now)
         (kept_rest S.left kept.old source.old) (kept_rest S.left kept.new source.new) kept.new.filled) }
-    ensures most { OnOk result (kept.new.filled ≤ max kept.old.filled
-        (front_length (T.opening_key key.now) + (T.opening_key key.now).first + 1)) }
+    ensures failed { OnErr result (TrialFailed (kept_rest S.left kept.old source.old)
+        (kept_rest S.left kept.new source.new) (S.faults source.old) (S.faults source.new)) }
+    ensures most { kept.new.filled ≤ max kept.old.filled
+        (front_length (T.opening_key key.now) + (T.opening_key key.now).first + 1) }
     ensures room { KeepsRoom kept.old kept.new nonce.old nonce.new opened.old opened.new }
     ensures later { S.faults source.old ≤ S.faults source.new }
-    ensures rose { OnErr result (Rose (S.faults source.old) (S.faults source.new)) }
     ensures same { S.same source.old source.new }
 {
     let h = key.header_length();

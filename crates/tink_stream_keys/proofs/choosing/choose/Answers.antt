@@ -2,12 +2,14 @@ use Rattle.std.proofs.Common.{◌≤◌, ◌<◌, ◌+◌, ℕ, Bool, List, leng
 use Rattle.std.proofs.lemmas.List.Elements.{All-get_or}
 use Rattle.std.specs.declared.option.Option.{Option}
 use Rattle.std.proofs.KnownBytes.{Keeps-trans}
+use Rattle.std.proofs.lemmas.Result.{err_from_is_err_and}
+use Rattle.tink_io.proofs.FaultLemmas.{Rose-earlier}
 use Rattle.stream_model.specs.Key.{StreamKey, nonce_size}
 use Rattle.stream_model.specs.Opening.{OpeningKey, Begins, opening_key}
 use Rattle.tink_streams.specs.Choosing.{Found, IsOpenerOf}
 use Rattle.tink_streams.specs.Keeping.{kept_rest}
 use Rattle.tink_streams.specs.Openers.{segment_map}
-use Rattle.tink_streams.proofs.ChoosingSteps.{ChosenFrom, key_split, pass_over, take_key, both_told, told_before}
+use Rattle.tink_streams.proofs.ChoosingSteps.{ChosenFrom, key_split, pass_over, take_key, both_told, read_kept, told_before}
 use Rattle.tink_stream_keys.proofs.choosing.choose.Goals as goal
 
 pub returns-in-Ok-clause-answer : goal.returns-in-Ok-clause-answer
@@ -40,6 +42,31 @@ returns-in-Ok-clause-answer g c =
       text = omega (arith, tried.size, text, called.room.capacity, inv.capacity);
     }
 
+pub returns-in-Ok-clause-read : goal.returns-in-Ok-clause-read
+returns-in-Ok-clause-read g c =
+    let inv = c.loop-key.invariant in
+    let called = c.in_ok-begun.ensures in
+    let tried = rw c.in-Ok.is at called.answer in
+    read_kept g.S.Source.left c.args.kept.now c.try_key.new.kept c.args.source.now c.try_key.new.source (Keeps-trans _ _ _ inv.rest tried.rest) (omega (arith, called.room.more, inv.more)) (called.room.len ∙ inv.len)
+
+pub returns-in_err-begun-clause-read : goal.returns-in_err-begun-clause-read
+returns-in_err-begun-clause-read g c =
+    let inv = c.loop-key.invariant in
+    let called = c.in_err-begun.ensures in
+    read_kept g.S.Source.left c.args.kept.now c.try_key.new.kept c.args.source.now c.try_key.new.source (Keeps-trans _ _ _ inv.rest called.failed.rest) (omega (arith, called.room.more, inv.more)) (called.room.len ∙ inv.len)
+
+pub returns-clause-read : goal.returns-clause-read
+returns-clause-read g c =
+    let inv = c.loop-key.invariant in
+    read_kept g.S.Source.left c.args.kept.now c.loop-key.kept c.args.source.now c.loop-key.source inv.rest inv.more inv.len
+
+pub returns-in_err-begun-clause-failed : goal.returns-in_err-begun-clause-failed
+returns-in_err-begun-clause-failed g c =
+    let p = err_from_is_err_and c.from_residual.result c.from_residual.ensures.1 in
+    let inv = c.loop-key.invariant in
+    let failed = c.in_err-begun.ensures.failed in
+    rw p.1 (record { rest = Keeps-trans _ _ _ inv.rest failed.rest; rose = Rose-earlier _ _ _ inv.later failed.rose })
+
 pub loop-key-preserved : goal.loop-key-preserved
 loop-key-preserved g c =
     let of : g.row.T.Denot → OpeningKey = λ k. opening_key c.args.aad.now (g.T.DerivesStreams.key_of k) in
@@ -54,6 +81,7 @@ loop-key-preserved g c =
       len = called.room.len ∙ inv.len;
       nonce_len = called.room.nonce_len ∙ inv.nonce_len;
       capacity = omega (arith, called.room.capacity, inv.capacity);
+      more = omega (arith, called.room.more, inv.more);
       prefix_room = tried.room;
       rest = Keeps-trans _ _ _ inv.rest tried.rest;
       chosen = both_told told (λ X. Begins (of key) X → ⊥) (ChosenFrom of keys c.loop-key.key-index) (ChosenFrom of keys (c.loop-key.key-index + 1))

@@ -13,6 +13,7 @@ invariant-loop-key g l =
       len : vec_len l.kept.buffer ≡ vec_len l.fn.kept.buffer;
       nonce_len : vec_len l.nonce ≡ vec_len l.fn.nonce;
       capacity : vec_capacity l.fn.opened ≤ vec_capacity l.opened;
+      more : l.fn.kept.filled ≤ l.kept.filled;
       prefix_room : 7 ≤ vec_capacity l.prefix;
       rest : Keeps (kept_rest source.left l.fn.kept l.fn.source) (kept_rest source.left l.kept l.source);
       chosen : IfSome (kept_rest source.left l.fn.kept l.fn.source) (ChosenFrom (λ k. opening_key l.fn.aad (g.T.DerivesStreams.key_of k)) l.keys l.key-index);

@@ -7,18 +7,18 @@ use Rattle.tink_stream_keys.proofs.decrypting.read_header.Goals as goal
 pub returns-then-n-size-clause-refused : goal.returns-then-n-size-clause-refused
 returns-then-n-size-clause-refused g c =
     let k = g.T.DerivesStreams.key_of c.args.key.now in
-    let n = c.in-Ok.n in
+    let n = c.fill.new.filled in
     let buffer = c.fill.new.buffer in
     let short : n < c.header_length-size.result = omega (arith, c.if-n-size.true) in
     let few : length (take n buffer) < header_length k = omega (arith, length-take n buffer, short, c.header_length-size.ensures.value) in
-    rw c.new-then-n-size.ensures (short_header k _ _ _ (take n buffer) refl c.in-Ok.ensures.rest few (c.in-Ok.ensures.end short))
+    rw c.new-then-n-size.ensures (short_header k _ _ _ (take n buffer) refl c.fill.ensures.rest few (c.in-Ok.ensures.end short))
 
 pub returns-then-from-size-clause-refused : goal.returns-then-from-size-clause-refused
 returns-then-from-size-clause-refused g c =
     let k = g.T.DerivesStreams.key_of c.args.key.now in
-    let n = c.in-Ok.n in
+    let n = c.fill.new.filled in
     let buffer = c.fill.new.buffer in
-    let whole : n ≡ header_length k = omega (arith, c.in-Ok.ensures.within, c.if-n-size.false, c.header_length-size.ensures.value) in
+    let whole : n ≡ header_length k = omega (arith, c.fill.ensures.within, c.if-n-size.false, c.header_length-size.ensures.value) in
     let some : 0 < n = omega (arith, whole) in
     let long : length (take n buffer) ≡ header_length k = length-take-le n buffer (omega arith) ∙ whole in
-    rw c.new-then-from-size.ensures (other_header k _ _ _ (take n buffer) refl c.in-Ok.ensures.rest long (λ e. let mark = sym (front_byte n buffer some) ∙ e in omega (arith, mark, c.if-from-size.true, c.from.ensures, c.header_length-size.ensures.value)))
+    rw c.new-then-from-size.ensures (other_header k _ _ _ (take n buffer) refl c.fill.ensures.rest long (λ e. let mark = sym (front_byte n buffer some) ∙ e in omega (arith, mark, c.if-from-size.true, c.from.ensures, c.header_length-size.ensures.value)))
