@@ -3,7 +3,7 @@ use Rattle.std.proofs.Common.{◌≡◌, ◌⊎◌, inl, inr, ◌≤◌, ℕ, Li
 use Rattle.std.specs.declared.option.Option.{Option}
 use Rattle.std.specs.Prelude.{IfErr, IfOk}
 use Rattle.tink_io.specs.declared.error.Kind.{Kind}
-use Rattle.tink_io.specs.declared.error.Kind.TheVariants.{InvalidKeyset, NoFreshId, OutOfMemory, UnknownTemplate, UnknownPrefix}
+use Rattle.tink_io.specs.declared.error.Kind.TheVariants.{NoFreshId, OutOfMemory, UnknownTemplate, UnknownPrefix}
 use Rattle.tink_io.specs.declared.error.TinkError.{TinkError}
 use Rattle.tink_io.specs.Told.{Answers, IsShort}
 use Rattle.tink_proto.specs.declared.messages.keys.KeyData.{KeyData}
