@@ -48,14 +48,14 @@ abbrev pub line_end : Bool → List ℕ
 line_end is_primary = if is_primary then 9 ∷ codes "primary" ++ 10 ∷ [] else 10 ∷ []
 
 -- the id, the status, the prefix type and the type, and whether it is the primary key
-abbrev pub key_line : ℕ → KeyInfo → List ℕ
-key_line primary key =
+abbrev pub line_of : ℕ → KeyInfo → List ℕ
+line_of primary key =
     decimal key.key_id ++ status_word key.status ++ prefix_word key.output_prefix_type
     ++ printed (type_word key.type_url) ++ line_end (key.key_id == primary)
 
 abbrev pub lines_of : ℕ → List KeyInfo → List ℕ
 lines_of primary [] = []
-lines_of primary (key ∷ keys) = key_line primary key ++ lines_of primary keys
+lines_of primary (key ∷ keys) = line_of primary key ++ lines_of primary keys
 
 -- the lines of a keyset's keys
 abbrev pub key_lines : Keyset → List ℕ

@@ -3,7 +3,7 @@
 ghost use Rattle.std.specs.Prelude.{◌≡◌, ◌==◌, ◌<◌, ◌++◌, ◌&&◌, OnOk, IfErr, map, Ok};
 ghost use Rattle.tink_io.specs.Told.{Answers};
 ghost use Rattle.tink_io.specs.declared.error.Kind.TheVariants.{OutOfMemory};
-ghost use Rattle.tink_key_files.specs.Listed.{key_line, key_lines, line_end, lines_of, listed, prefix_word, printed, shown_byte, short_type, status_word, type_word};
+ghost use Rattle.tink_key_files.specs.Listed.{key_lines, line_end, line_of, lines_of, listed, prefix_word, printed, shown_byte, short_type, status_word, type_word};
 
 use std::alloc::Global;
 use tink_io::TinkError;
@@ -48,7 +48,7 @@ fn lines_of(alloc: Global, primary: u32, keys: &[KeyInfo]) -> Result<Bytes, Tink
 
 // Puts the line of a key at the end.
 fn put_key(alloc: Global, text: &mut Vec<u8>, primary: u32, key: &KeyInfo) -> Result<(), TinkError>
-    ensures ok { OnOk result (text.new.items ≡ text.old.items ++ key_line primary key.now) }
+    ensures ok { OnOk result (text.new.items ≡ text.old.items ++ line_of primary key.now) }
     ensures err { IfErr result (λ e. e ≡ record { kind = OutOfMemory }) }
 {
     let id = key.key_id.to_string(alloc)?;

@@ -1,9 +1,9 @@
 -- From the calls of a manager to the keyset that is made.
-use Rattle.std.proofs.Common.{◌≡◌, ◌⊎◌, inl, inr, ◌≤◌, ℕ, List, Bool, true, false, Some, None, Ok, Err, Result, cond, length, refl, arith, ap, subst, sym, ◌∙◌}
+use Rattle.std.proofs.Common.{◌≡◌, ◌⊎◌, inl, inr, ◌≤◌, ℕ, List, [], Bool, true, false, Some, None, Ok, Err, Result, cond, length, refl, arith, ap, subst, sym, ◌∙◌}
 use Rattle.std.specs.declared.option.Option.{Option}
 use Rattle.std.specs.Prelude.{IfErr, IfOk}
 use Rattle.tink_io.specs.declared.error.Kind.{Kind}
-use Rattle.tink_io.specs.declared.error.Kind.TheVariants.{InvalidKeyset, NoFreshId, OutOfMemory, UnknownTemplate, UnknownPrefix}
+use Rattle.tink_io.specs.declared.error.Kind.TheVariants.{NoFreshId, OutOfMemory, UnknownTemplate, UnknownPrefix}
 use Rattle.tink_io.specs.declared.error.TinkError.{TinkError}
 use Rattle.tink_io.specs.Told.{Answers, IsShort}
 use Rattle.tink_proto.specs.declared.messages.keys.KeyData.{KeyData}
@@ -17,10 +17,11 @@ use Rattle.keyset_model.proofs.EditLaws.{joined}
 use Rattle.tink_registry.specs.Listed.{manager_of, template_of, Registered}
 use Rattle.tink_keysets.specs.Encrypted.{chained}
 use Rattle.tink_keysets.specs.Managed.{added_by}
+use Rattle.tink_keysets.specs.Through.{LeavesDraws}
 use Rattle.tink.specs.Managers.{row_of}
 use Rattle.tink.specs.Registered.{with_everything}
 use Rattle.tink.specs.declared.managers.Managers.{Managers}
-use Rattle.tink_keygen.specs.Rotating.{data_by_all, rotated, rotated_by, rotated_where, template_named, IsNotRotated}
+use Rattle.tink_keygen.specs.Rotating.{data_by_all, left_after, left_by, rotated, rotated_by, rotated_where, template_named, IsNotRotated}
 use Rattle.tink_keygen.proofs.IdFacts.{refused_by_ids}
 use Rattle.tink_keygen.proofs.TemplateFacts.{named_makes, MakesKeys}
 use Rattle.tink_keygen.proofs.ValidatedFacts.{formed_of, validated}
@@ -134,3 +135,41 @@ start_refused name kt start draws e named (inr is) = inr (rw (named, is) refl)
 -- a manager of a valid keyset has well-formed keys
 pub formed_manager : (h m : Keyset) → is_valid h ≡ true → m ≡ h → are_well_formed m ≡ true
 formed_manager h m valid same = subst (λ x. are_well_formed x ≡ true) (sym same) (formed_of h valid)
+
+-- ---- the draws that are left
+
+-- what adding leaves
+pub left_told : (r : Registered Managers) (ks : Keyset) (kt : KeyTemplate) (draws now : List ℕ) → r ≡ with_everything
+    → now ≡ (reply (added_of r ks kt draws)).1 → now ≡ left_after kt draws ks
+left_told r ks kt draws now is left = left ∙ ap (λ (a : Added). a.left) (added_by_all r ks kt draws is)
+
+-- what a manager leaves that refuses to rotate
+pub left_refused : (r : Registered Managers) (ks : Keyset) (kt : KeyTemplate) (draws now : List ℕ) (e : TinkError) → r ≡ with_everything
+    → IsShort e.kind draws now ⊎ ((reply (added_of r ks kt draws)).0 ≡ Err e.kind) × (now ≡ (reply (added_of r ks kt draws)).1)
+    → IsShort e.kind draws now ⊎ (now ≡ left_after kt draws ks)
+left_refused r ks kt draws now e is (inl short) = inl short
+left_refused r ks kt draws now e is (inr told) = inr (left_told r ks kt draws now is told.1)
+
+-- whatever is answered, where the told draws are left
+pub leaves_told : {T : Type 0} (result : Result T TinkError) (left before now : List ℕ) → now ≡ left → LeavesDraws result left before now
+leaves_told (Ok v) left before now same = same
+leaves_told (Err e) left before now same = inr same
+
+-- nothing is drawn where there is no memory
+pub undrawn : (kind : Kind) (draws : List ℕ) → kind ≡ OutOfMemory → IsShort kind draws draws
+undrawn kind draws is = record { kind = is; ends = ([], refl) }
+
+-- nor where no template has the name
+pub left_unknown : (name : List ℕ) (start : Result Keyset Kind) (draws : List ℕ) → template_named name ≡ None → draws ≡ left_by name start draws
+left_unknown name start draws none = rw none refl
+
+-- nor where the keyset was refused
+pub left_start : (name : List ℕ) (kt : KeyTemplate) (start : Result Keyset Kind) (draws : List ℕ) (e : TinkError) → template_named name ≡ Some kt
+    → (e.kind ≡ OutOfMemory) ⊎ (start ≡ Err e.kind) → IsShort e.kind draws draws ⊎ (draws ≡ left_by name start draws)
+left_start name kt start draws e named (inl want) = inl (undrawn e.kind draws want)
+left_start name kt start draws e named (inr is) = inr (rw (named, is) refl)
+
+-- else what adding leaves is left
+pub left_known : (name : List ℕ) (kt : KeyTemplate) (start : Result Keyset Kind) (ks m : Keyset) (draws now : List ℕ) (result : Result Keyset TinkError)
+    → template_named name ≡ Some kt → start ≡ Ok ks → m ≡ ks → LeavesDraws result (left_after kt draws m) draws now → LeavesDraws result (left_by name start draws) draws now
+left_known name kt start ks m draws now result named is same leaves = rw (named, is, sym same) leaves

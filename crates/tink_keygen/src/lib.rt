@@ -7,7 +7,8 @@ ghost use Rattle.tink_io.specs.Told.{Answers};
 ghost use Rattle.keyset_model.specs.Validity.{IsValid, are_well_formed};
 ghost use Rattle.tink_keysets.specs.Managed.{no_keys};
 ghost use Rattle.tink.specs.Registered.{with_everything};
-ghost use Rattle.tink_keygen.specs.Rotating.{IsNotRotated, key_line, rotated, rotated_by, template_named};
+ghost use Rattle.tink_keygen.specs.Rotating.{IsNotRotated, key_line, left_after, left_by, rotated, rotated_by, template_named};
+ghost use Rattle.tink_keysets.specs.Through.{LeavesDraws};
 ghost use Rattle.tink_keysets.specs.Valid.{valid_keyset};
 
 use std::alloc::Global;
@@ -23,6 +24,7 @@ use tink_proto::{KeyTemplate, Keyset, Message};
 /// were 0; `RandomFault` where draws are too few, which 576 never are; `OutOfMemory` may come in place of each.
 pub fn keygen(alloc: Global, template: &str, draws: &mut Draws) -> Result<Keyset, TinkError>
     ensures answer { Answers result (rotated_by template.now (Ok no_keys) draws.old) }
+    ensures rest { LeavesDraws result (left_by template.now (Ok no_keys) draws.old) draws.old draws.new }
     ensures valid { IfOk result IsValid }
     ensures cause { 576 ≤ length draws.old
         → IfErr result (λ e. (e.kind ≡ OutOfMemory) ⊎ IsNotRotated template.now (Ok no_keys) e.kind) }
@@ -46,6 +48,7 @@ pub fn rotate(
     draws: &mut Draws,
 ) -> Result<Keyset, TinkError>
     ensures answer { Answers result (rotated_by template.now (valid_keyset keyset.now) draws.old) }
+    ensures rest { LeavesDraws result (left_by template.now (valid_keyset keyset.now) draws.old) draws.old draws.new }
     ensures valid { IfOk result IsValid }
     ensures cause { 576 ≤ length draws.old
         → IfErr result (λ e. (e.kind ≡ OutOfMemory) ⊎ IsNotRotated template.now (valid_keyset keyset.now) e.kind) }
@@ -72,6 +75,7 @@ pub fn key_line(alloc: Global, keyset: &Keyset) -> Result<Vec<u8>, TinkError>
 // What `keygen` answers. Its causes follow from this.
 fn new_keyset(alloc: Global, template: &str, draws: &mut Draws) -> Result<Keyset, TinkError>
     ensures answer { Answers result (rotated_by template.now (Ok no_keys) draws.old) }
+    ensures rest { LeavesDraws result (left_by template.now (Ok no_keys) draws.old) draws.old draws.new }
     ensures valid { IfOk result IsValid }
 {
     let registry = registry(alloc)?;
@@ -87,6 +91,7 @@ fn rotated_keyset(
     draws: &mut Draws,
 ) -> Result<Keyset, TinkError>
     ensures answer { Answers result (rotated_by template.now (valid_keyset keyset.now) draws.old) }
+    ensures rest { LeavesDraws result (left_by template.now (valid_keyset keyset.now) draws.old) draws.old draws.new }
     ensures valid { IfOk result IsValid }
 {
     let registry = registry(alloc)?;
@@ -123,6 +128,7 @@ fn with_new_key(
 ) -> Result<Keyset, TinkError>
     requires { registry.now ≡ with_everything }
     ensures answer { Answers result (rotated kt.now draws.old manager) }
+    ensures rest { LeavesDraws result (left_after kt.now draws.old manager) draws.old draws.new }
     ensures valid { IsTrue (are_well_formed manager) → IfOk result IsValid }
 {
     let mut manager = manager;

@@ -1,7 +1,7 @@
-use Rattle.std.proofs.Common.{inl, ap, ◌∙◌}
+use Rattle.std.proofs.Common.{inl, inr, ap, ◌∙◌}
 use Rattle.std.proofs.lemmas.Result.{err_from_is_err_and}
 use Rattle.tink_io.specs.declared.error.TinkError.{TinkError}
-use Rattle.tink_keygen.proofs.RotatingSteps.{formed_manager, known, start_refused, unknown}
+use Rattle.tink_keygen.proofs.RotatingSteps.{formed_manager, known, left_known, left_start, left_unknown, start_refused, undrawn, unknown}
 use Rattle.tink_keygen.proofs.rotated_keyset.Goals as goal
 
 pub returns-in_err-registry-clause-answer : goal.returns-in_err-registry-clause-answer
@@ -24,3 +24,22 @@ returns-clause-answer c = known c.args.template.now _ _ _ _ c.args.draws.now c.w
 
 pub returns-clause-valid : goal.returns-clause-valid
 returns-clause-valid c = c.with_new_key.ensures.valid (formed_manager _ _ c.in_ok-handle.ensures.valid c.new_from_handle.ensures)
+
+pub returns-in_err-registry-clause-rest : goal.returns-in_err-registry-clause-rest
+returns-in_err-registry-clause-rest c =
+    let returned = err_from_is_err_and c.from_residual.result c.from_residual.ensures.1 in
+    rw returned.1 (inl (undrawn _ c.args.draws.now (ap (λ (e : TinkError). e.kind) returned.2 ∙ c.in_err-registry.ensures.cause)))
+
+pub returns-in_err-kt-clause-rest : goal.returns-in_err-kt-clause-rest
+returns-in_err-kt-clause-rest c =
+    let returned = err_from_is_err_and c.from_residual-in_err-kt.result c.from_residual-in_err-kt.ensures.1 in
+    rw returned.1 (inr (left_unknown c.args.template.now _ c.args.draws.now c.in_err-kt.ensures.1))
+
+pub returns-in_err-handle-clause-rest : goal.returns-in_err-handle-clause-rest
+returns-in_err-handle-clause-rest c =
+    let returned = err_from_is_err_and c.from_residual-in_err-handle.result c.from_residual-in_err-handle.ensures.1 in
+    rw (returned.1, returned.2) (left_start c.args.template.now _ _ c.args.draws.now _ c.in_ok-kt.ensures c.in_err-handle.ensures.answer)
+
+pub returns-clause-rest : goal.returns-clause-rest
+returns-clause-rest c =
+    left_known c.args.template.now _ _ _ _ c.args.draws.now _ c.with_new_key.result c.in_ok-kt.ensures c.in_ok-handle.ensures.answer c.new_from_handle.ensures c.with_new_key.ensures.rest
