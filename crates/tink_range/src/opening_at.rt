@@ -40,8 +40,8 @@ fn open_into<A: ReadAt, D: SegmentDecrypter, L: Ledger>(
 ) -> Result<bool, Failed>
     requires number { number < 2 ^ 32 }
     requires inside { (at + length chunk.old ≤ A.length_of object.old) × (at + length chunk.old < 2 ^ 64) }
-    requires size { length chunk.old ≤ opener.now.size }
-    requires room { (opener.now.size ≤ vec_capacity text.old) × (opener.now.nonce_size ≤ vec_len nonce.old) }
+    requires room { (length chunk.old ≤ opener.now.size) × (opener.now.size ≤ vec_capacity text.old)
+        × (opener.now.nonce_size ≤ vec_len nonce.old) }
     ensures answer { IfOk result (λ ok. IfSome (A.bytes object.old) (λ S. ChunkOpensTo (segment_map opener.now) number
         last (take (length chunk.old) (drop at S)) ok text.new.items)) }
     ensures length { IfOk result (λ ok. ok ≡ true
