@@ -1,14 +1,16 @@
 //! A range of a stream's text is written into a place.
 
 ghost use Rattle.std.specs.Prelude.{◌≡◌, true, false, IfOk, OnErr};
+ghost use Rattle.tink_range.specs.ChunkReading.{ends_of};
 ghost use Rattle.tink_range.specs.Objects.{KeepsObject};
-ghost use Rattle.tink_run_range.specs.KeysetRanges.{GivesSlice, KeysetRangeMeans};
+ghost use Rattle.tink_run_range.specs.KeysetRanges.{GivesSlice, KeysetRangeMeans, TakesKeysetSteps};
 ghost use Rattle.tink_files.specs.Streams.{IsShownWhole, RanAndEnded};
 
 use std::alloc::Global;
+use std::sync::ledger::Ledger;
 use tink_io::TinkError;
 use tink_place::{Place, finish};
-use tink_range::ReadAt;
+use tink_range::{ReadAt, Steps};
 use tink_run_range::run_range;
 
 /// Writes a range of the text of the stream that an object is, as `run_range` of `tink_run_range`, into a draft, which
@@ -16,7 +18,7 @@ use tink_run_range::run_range;
 ///
 /// # Errors
 /// Those of `run_range`, and `WriteFault` where the draft could not be shown: what was shown stays.
-pub fn range_to<A: ReadAt, P: Place>(
+pub fn range_to<A: ReadAt, P: Place, L: Ledger>(
     alloc: Global,
     keyset: &[u8],
     aad: &[u8],
@@ -24,39 +26,30 @@ pub fn range_to<A: ReadAt, P: Place>(
     start: u64,
     len: u64,
     place: &mut P,
+    steps: &mut Steps<L>,
 ) -> Result<u64, TinkError>
     requires { P.has_draft place.old ≡ true }
 
     // `run_range` wrote the draft, and by its answer the draft was shown or taken away.
     ensures ran { RanAndEnded P.got P.faults
         (λ draft answer. KeysetRangeMeans P.got P.faults keyset.now aad.now (A.length_of object.old) start len
-        (record {
-          all = A.bytes object.old;
-          reads_before = A.faults object.old;
-          reads_after = A.faults object.new;
-          old = place.old;
-          new = draft;
-        })
-        answer)
+        object.old object.new (ends_of A.bytes A.faults object.old object.new place.old draft) answer)
         (P.replaces place.old) (P.shown place.old) (P.shown place.new) (P.faults place.new) result }
 
     // Known bytes: of a stream of the chosen key what is shown is that slice of its text.
     ensures ok { IfOk result (λ n. IsShownWhole P.got
         (λ draft value. GivesSlice P.got keyset.now aad.now start len
-        (record {
-          all = A.bytes object.old;
-          reads_before = A.faults object.old;
-          reads_after = A.faults object.new;
-          old = place.old;
-          new = draft;
-        })
-        value)
+        (ends_of A.bytes A.faults object.old object.new place.old draft) value)
         (P.replaces place.old) (P.shown place.old) (P.shown place.new) n) }
+
+    // A step for each chunk that is opened.
+    ensures ticks { TakesKeysetSteps keyset.now aad.now (A.bytes object.old) (A.length_of object.old) start len
+        steps.old steps.new }
     ensures err { OnErr result (P.shown place.new ≡ P.shown place.old) }
     ensures gone { P.has_draft place.new ≡ false }
     ensures kept { KeepsObject A.length_of A.bytes A.faults object.old object.new }
     ensures object { A.same object.old object.new }
 {
-    let answer = run_range(alloc, keyset, aad, object, start, len, place);
+    let answer = run_range(alloc, keyset, aad, object, start, len, place, steps);
     finish(place, answer)
 }

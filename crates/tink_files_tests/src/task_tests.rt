@@ -1,12 +1,16 @@
 //! What streams, tokens and ranges leave in a place over memory.
 
+ghost use Rattle.std.specs.Prelude.{◌≡◌, ◌<◌, true};
+
 use crate::place_tests::shows;
 use std::alloc::Global;
+use std::marker::Brand;
+use std::sync::ledger::{Blank, Ledger};
 use std::test::Fail;
 use tink_files::{range_to, rewrap_to, run_to, sign_to, verify_to};
 use tink_io::{Draws, Kind, SureSource, TinkError};
 use tink_place::MemPlace;
-use tink_range::MemAt;
+use tink_range::{MemAt, Steps};
 use tink_run::report::Command;
 
 // A raw key in counter mode, with segments of 35 bytes and tags of 10.
@@ -150,7 +154,7 @@ fn refusal(
     let (ctr, gcm, macs) = (&keysets.ctr, &keysets.gcm, &keysets.macs);
     if let Asked::Range = asked {
         let mut object = MemAt::new(input, 0, Vec::new(alloc));
-        return told(range_to(alloc, ctr, b"May", &mut object, 0, 9, place));
+        return told(range_of::<Brand>(alloc, ctr, &mut object, place, Blank::new(1)));
     }
     let source = &mut SureSource::new(input);
     match asked {
@@ -160,6 +164,23 @@ fn refusal(
         Asked::Verify => told(verify_to(alloc, macs, source, place)),
         _ => told(run_to(alloc, Command::Open, ctr, b"May", draws, source, place)),
     }
+}
+
+// The first nine bytes of the text, by a ledger of steps.
+fn range_of<L: Ledger>(
+    alloc: Global,
+    ctr: &[u8],
+    object: &mut MemAt,
+    place: &mut MemPlace,
+    blank: Blank,
+) -> Result<u64, TinkError>
+    requires draft { place.old.has_draft ≡ true }
+    requires name { blank.name ≡ L.name }
+    requires parts { blank.parts ≡ L.parts }
+    requires some { 0 < blank.parts }
+{
+    let mut steps = Steps::<L>::new(blank);
+    range_to(alloc, ctr, b"May", object, 0, 9, place, &mut steps)
 }
 
 // Whether what is asked is refused so and leaves what stood there, or shows what is made.

@@ -1,11 +1,16 @@
 //! The command over a range of a stream's text.
 
+ghost use Rattle.std.specs.Prelude.{◌≡◌, ◌<◌};
+
 use crate::job::{Job, job_of, named};
 use crate::real_at::RealAt;
 use crate::real_place::RealPlace;
 use crate::trouble::Trouble;
+use std::marker::Brand;
+use std::sync::ledger::{Blank, Ledger};
 use tink_files::range_to;
 use tink_io::{StdSink, TinkError};
+use tink_range::Steps;
 use tink_run_range::run_range;
 use tink_words::Line;
 
@@ -23,10 +28,7 @@ pub fn range<'w>(rt: &HostRuntime, line: &Line<'w>) -> Result<(), Trouble<'w>> {
         ));
     }
     let mut object = RealAt::open(rt, job.input, length, job.may_tell(rt))?;
-    let answer = match job.output {
-        Some(output) => to_file(rt, &job, &mut object, start, length, output)?,
-        None => to_output(rt, &job, &mut object, start, length),
-    };
+    let answer = counted::<Brand>(rt, &job, &mut object, start, length, Blank::new(1))?;
     object.end();
     match answer {
         Ok(_) => Ok(()),
@@ -34,34 +36,74 @@ pub fn range<'w>(rt: &HostRuntime, line: &Line<'w>) -> Result<(), Trouble<'w>> {
     }
 }
 
+// The range, by a ledger of steps.
+fn counted<'w, L: Ledger>(
+    rt: &HostRuntime,
+    job: &Job<'w>,
+    object: &mut RealAt,
+    start: u64,
+    length: u64,
+    blank: Blank,
+) -> Result<Result<u64, TinkError>, Trouble<'w>>
+    requires name { blank.name ≡ L.name }
+    requires parts { blank.parts ≡ L.parts }
+    requires some { 0 < blank.parts }
+{
+    let mut steps = Steps::<L>::new(blank);
+    match job.output {
+        Some(output) => to_file(rt, job, object, start, length, output, &mut steps),
+        None => Ok(to_output(rt, job, object, start, length, &mut steps)),
+    }
+}
+
 // Into a draft, which is shown where all was done.
-fn to_file<'w>(
+fn to_file<'w, L: Ledger>(
     rt: &HostRuntime,
     job: &Job<'w>,
     object: &mut RealAt,
     start: u64,
     length: u64,
     output: &'w str,
+    steps: &mut Steps<L>,
 ) -> Result<Result<u64, TinkError>, Trouble<'w>> {
     let mut place = RealPlace::over(rt, output)?;
     let keyset = job.side.keyset.as_slice();
     let aad = job.side.aad.as_bytes();
-    Ok(range_to(rt.alloc(), keyset, aad, object, start, length, &mut place))
+    Ok(range_to(
+        rt.alloc(),
+        keyset,
+        aad,
+        object,
+        start,
+        length,
+        &mut place,
+        steps,
+    ))
 }
 
 // To standard output, as it comes.
-fn to_output(
+fn to_output<L: Ledger>(
     rt: &HostRuntime,
     job: &Job<'_>,
     object: &mut RealAt,
     start: u64,
     length: u64,
+    steps: &mut Steps<L>,
 ) -> Result<u64, TinkError> {
     job.warn(rt);
     let mut sink = StdSink::new(rt.stdout());
     let keyset = job.side.keyset.as_slice();
     let aad = job.side.aad.as_bytes();
-    run_range(rt.alloc(), keyset, aad, object, start, length, &mut sink)
+    run_range(
+        rt.alloc(),
+        keyset,
+        aad,
+        object,
+        start,
+        length,
+        &mut sink,
+        steps,
+    )
 }
 
 // The number of a word in decimal digits, without a zero before them.

@@ -1,18 +1,25 @@
 //! The command of ranges.
 
-ghost use Rattle.std.specs.Prelude.{◌≡◌, ◌+◌, IfErr};
+ghost use Rattle.std.specs.Prelude.{◌≡◌, ◌+◌, ◌<◌, IfErr, Some, length};
+ghost use Rattle.loading_model.specs.Loading.{AreUsable, Loaded, opening_keys};
 ghost use Rattle.tink_io.specs.Taken.{LosesAtMost};
 ghost use Rattle.tink_program.specs.Ranges.{IsUnranged, RangeAnswer};
+ghost use Rattle.tink_run.specs.HeldKeys.{HoldsLoaded};
 ghost use Rattle.tink_run.specs.Outside.{outside_of};
+ghost use Rattle.tink_run_range.specs.SetRanges.{LeavesRangeEnds, LeavesUnwritten, RangesOf};
 ghost use Rattle.tink_run_tokens.specs.Inputs.{IsUnloadable, input_limit};
 
 use crate::words::RangeArgs;
 use std::alloc::Global;
+use std::marker::Brand;
+use std::sync::ledger::{Blank, Ledger};
 use tink_io::{Sink, Source, TinkError};
-use tink_range::SureAt;
+use tink_range::{Steps, SureAt};
 use tink_run::load::load;
 use tink_run_range::range_of_set;
 use tink_run_tokens::read_input;
+use tink_sets::TypedPrimitiveSet;
+use tink_stream_keys::StreamKind;
 
 /// Writes a range of the text of the stream that the source has, which is held whole, and answers how many bytes.
 ///
@@ -39,7 +46,7 @@ pub fn write_range<S: Source, K: Sink>(
     let keys = load(alloc, &args.keyset)?;
     let input = read_input(alloc, source)?;
     let mut object = SureAt::new(input);
-    range_of_set(
+    counted_range::<K, Brand>(
         alloc,
         &keys,
         &args.aad,
@@ -47,5 +54,31 @@ pub fn write_range<S: Source, K: Sink>(
         args.start,
         args.len,
         sink,
+        Blank::new(1),
     )
+}
+
+// The range of what is held, by a ledger of steps.
+fn counted_range<K: Sink, L: Ledger>(
+    alloc: Global,
+    keys: &TypedPrimitiveSet<StreamKind>,
+    aad: &[u8],
+    object: &mut SureAt,
+    start: u64,
+    len: u64,
+    sink: &mut K,
+    blank: Blank,
+) -> Result<u64, TinkError>
+    requires name { blank.name ≡ L.name }
+    requires parts { blank.parts ≡ L.parts }
+    requires some { 0 < blank.parts }
+    ensures answer { (l : Loaded) → AreUsable l.keys → HoldsLoaded l keys.now
+        → RangesOf K.got K.faults (opening_keys aad.now l) (length object.old) start len
+        (record { all = Some object.old; reads_before = 0; reads_after = 0; old = sink.old; new = sink.new }) result }
+    ensures early { LeavesRangeEnds result object.old object.new sink.old sink.new }
+    ensures unwritten { LeavesUnwritten result sink.old sink.new }
+    ensures sink { K.same sink.old sink.new }
+{
+    let mut steps = Steps::<L>::new(blank);
+    range_of_set(alloc, keys, aad, object, start, len, sink, &mut steps)
 }

@@ -10,7 +10,7 @@ use Rattle.stream_model.specs.Opening.{IsChosen, OpeningKey}
 use Rattle.tink_streams.specs.Choosing.{Found}
 use Rattle.tink_range.specs.ChunkReading.{Moments}
 use Rattle.tink_range.specs.Giving.{Cutting}
-use Rattle.tink_range.specs.KeyRanges.{IsCutUnder, RangesUnder, RangesUnderRefused, TakesRangeSteps}
+use Rattle.tink_range.specs.KeyRanges.{IsCutUnder, RangesUnder, RangesUnderRefused, TakesRangeSteps, range_steps}
 use Rattle.tink_range.specs.RangeReading.{GaveRange, RangeMeans, RangeRefused, range_end, range_start}
 
 module _ {W : Type 0} (got : W → Option (List ℕ)) (faults : W → ℕ) (c : Cutting) (behind start len : ℕ) (e : Moments W) (then : ℕ) (before : e.reads_before ≤ then) where
@@ -83,6 +83,19 @@ takes_steps c behind start len old mid new n whole all keys count whole_is found
 if_told : (o : Option (List ℕ)) (P Q : List ℕ → Type 0) → ((S : List ℕ) → P S → Q S) → IfSome o P → IfSome o Q
 if_told None P Q f h = tt
 if_told (Some S) P Q f h = f S h
+
+-- where the same key is chosen of as many other keys
+pub steps_by_others : (ks js : List OpeningKey) (all : Option (List ℕ)) (whole start len before now : ℕ) → length ks ≡ length js → ((S : List ℕ) (chosen : Option OpeningKey) → IsChosen ks S chosen → IsChosen js S chosen)
+    → TakesRangeSteps ks all whole start len before now → TakesRangeSteps js all whole start len before now
+steps_by_others ks js all whole start len before now count same (inl few) = inl (omega (arith, count, few))
+steps_by_others ks js all whole start len before now count same (inr r) =
+    inr (record {
+      cutting = r.cutting;
+      behind = r.behind;
+      found = if_told all _ _ (λ S f. record { key = f.key; chosen = same S (Some f.key) f.chosen; opener = f.opener }) r.found;
+      whole_is = r.whole_is;
+      then = subst (λ (n : ℕ). now ≤ before + n + range_steps r.cutting r.behind start len) count r.then;
+    })
 
 -- where the same key is chosen of other keys
 module _ {W : Type 0} (got : W → Option (List ℕ)) (faults : W → ℕ) (ks js : List OpeningKey) (whole start len : ℕ) (e : Moments W) (same : (S : List ℕ) (chosen : Option OpeningKey) → IsChosen ks S chosen → IsChosen js S chosen) where

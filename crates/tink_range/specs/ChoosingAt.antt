@@ -46,12 +46,6 @@ pub record IsFirstAt (ks : List OpeningKey) (length_of : ℕ) (all : Option (Lis
   pub found : IfSome all (λ S. Found ks S seg front first size over)
   pub inside : front < length_of
 
--- a segment, its nonce and its text have room
-pub record HasRoomFor (size nonce_bytes sealed text nonce : ℕ) : Type 0 where
-  pub sealed_room : size ≤ sealed
-  pub text_room : size ≤ text
-  pub nonce_room : nonce_bytes ≤ nonce
-
 -- each refusal of a new reader of ranges
 abbrev pub NewRefused : {A : Type 0} → (A → Option (List ℕ)) → (A → ℕ) → List OpeningKey → A → A → Kind → Type 0
 NewRefused bytes faults ks old new OutOfMemory = new ≡ old

@@ -25,13 +25,23 @@ pub record ChunkAt : Type 0 where
 abbrev pub OpensAt : (ℕ → Bool → List ℕ → List ℕ) → ChunkAt → Option (List ℕ) → Bool → List ℕ → Type 0
 OpensAt seg c all opens text = IfSome all (λ S. ChunkOpensTo seg c.number (nat_le c.rest c.room) (take c.room (drop c.start S)) opens text)
 
--- what stands of an object and a sink, before and after a call
+-- what stands of an object and of a sink, before and after a call
 pub record Moments (W : Type 0) : Type 0 where
   pub all : Option (List ℕ)
   pub reads_before : ℕ
   pub reads_after : ℕ
   pub old : W
   pub new : W
+
+-- the same, by what an object tells and how often it has failed
+abbrev pub ends_of : {A W : Type 0} → (A → Option (List ℕ)) → (A → ℕ) → A → A → W → W → Moments W
+ends_of bytes faults object object_after sink sink_after = record {
+  all = bytes object;
+  reads_before = faults object;
+  reads_after = faults object_after;
+  old = sink;
+  new = sink_after;
+}
 
 module _ {W : Type 0} (got : W → Option (List ℕ)) (faults : W → ℕ) (seg : ℕ → Bool → List ℕ → List ℕ) (c : ChunkAt) (over lo hi at : ℕ) (e : Moments W) where
   -- the chunk is the segment of a text, and the range's part of it was written

@@ -3,6 +3,7 @@ pub mod Ranges
 pub mod Shapes
 pub mod Slices
 pub mod Objects
+pub mod Rooms
 pub mod ChunkReading
 pub mod Giving
 pub mod RangeReading

@@ -1,5 +1,5 @@
 -- Ranges of the text of a stream, by the stream's chunks.
-use Rattle.std.specs.Prelude.{◌≡◌, ℕ, zero, suc, ◌+◌, ◌-◌, max, min, nat_lt, Bool, true, false, List, [], ◌∷◌, ◌++◌, length, take, drop, replicate}
+use Rattle.std.specs.Prelude.{◌≡◌, ℕ, zero, suc, ◌+◌, ◌-◌, ◌<◌, max, min, nat_lt, Bool, true, false, List, [], ◌∷◌, ◌++◌, length, take, drop, replicate}
 use Rattle.stream_model.specs.Cut.{cut, last_chunk}
 use Rattle.stream_model.specs.Agree.{is_last}
 
@@ -29,6 +29,12 @@ within lo hi at text = drop (lo - at) (take (hi - at) text)
 -- whether the range has one of n places from `at` on
 abbrev pub is_touched : ℕ → ℕ → ℕ → ℕ → Bool
 is_touched lo hi at n = nat_lt (max lo at) (min hi (at + n))
+
+-- it has one of them: it is not empty, begins before their end, and ends behind the first
+pub record TouchesPlaces (lo hi at n : ℕ) : Type 0 where
+  pub some : lo < hi
+  pub begins : lo < at + n
+  pub ends : at < hi
 
 -- ---- what a range gives
 

@@ -1,7 +1,7 @@
 -- Where the chunks of bytes begin, and how many there are.
-use Rattle.std.specs.Prelude.{◌≡◌, ℕ, zero, suc, ◌+◌, ◌-◌, ◌*◌, ◌<◌, List, length, drop}
+use Rattle.std.specs.Prelude.{◌≡◌, ℕ, zero, suc, ◌+◌, ◌-◌, ◌*◌, ◌<◌, ◌≤◌, List, length, drop}
 use Rattle.stream_model.specs.Cut.{cut, last_chunk}
-use Rattle.tink_range.specs.Ranges.{all_places}
+use Rattle.tink_range.specs.Ranges.{all_places, text_length}
 
 -- what is before part i, where the first part has a and each later one b
 abbrev pub start_at : ℕ → ℕ → ℕ → ℕ
@@ -21,6 +21,13 @@ pub record IsChunkPlace (first size over behind lo number start text : ℕ) : Ty
   pub text_is : text ≡ start_at (first - over) (size - over) number
   pub inside : start < behind
   pub reached : lo < start_at (first - over) (size - over) (number + 1)
+
+-- a range that is not empty and inside of the text, and the chunk where it begins
+pub record BeginsRange (first size over behind lo hi number start text : ℕ) : Type 0 where
+  pub range : lo < hi
+  pub within : hi ≤ text_length first size over behind
+  pub place : IsChunkPlace first size over behind lo number start text
+  pub low : text ≤ lo
 
 -- the last chunk has this number and begins here
 pub record IsLast (a b : ℕ) (X : List ℕ) (number start : ℕ) : Type 0 where

@@ -1,10 +1,11 @@
-ghost use Rattle.std.specs.Prelude.{◌≡◌, ◌≤◌, ◌<◌, ◌+◌, ◌-◌, ◌^◌, length, take, map, All, None, true, false, IfOk, IfErr, IfSome, MatchResult, OnErr, vec_len, vec_capacity};
+ghost use Rattle.std.specs.Prelude.{◌≡◌, ◌≤◌, ◌<◌, ◌+◌, ◌-◌, ◌^◌, length, take, map, None, true, false, IfOk, IfErr, IfSome, MatchResult, OnErr, vec_len, vec_capacity};
 ghost use Rattle.stream_model.specs.Cut.{numbered};
 ghost use Rattle.stream_model.specs.Key.{nonce_size};
 ghost use Rattle.stream_model.specs.Opening.{HasFront, IsChosen, header_of, opening_key};
 ghost use Rattle.tink_io.specs.Faults.{Rose};
-ghost use Rattle.tink_range.specs.ChoosingAt.{DoesBeginAt, DoesNotBeginAt, HasRoomFor, IsFirstAt, Tries};
+ghost use Rattle.tink_range.specs.ChoosingAt.{DoesBeginAt, DoesNotBeginAt, IsFirstAt, Tries};
 ghost use Rattle.tink_range.specs.Objects.{KeepsObject};
+ghost use Rattle.tink_range.specs.Rooms.{HasRoomFor, HasRoomForEach, KeepsBuffers};
 ghost use Rattle.tink_segments.specs.StreamSegments.{segment_by};
 ghost use Rattle.tink_stream_keys.specs.Decrypters.{OpensBehind};
 ghost use Rattle.tink_streams.specs.Choosing.{IsOpenerOf};
@@ -88,14 +89,14 @@ fn try_at<A: ReadAt, T: DerivesStreams, L: Ledger>(
     requires nonce { nonce_size (T.key_of key.now) ≤ vec_len nonce.old }
     ensures answer { IfOk result (λ r. MatchResult r
         (λ b. DoesBeginAt (opening_key aad.now (T.key_of key.now)) (nonce_size (T.key_of key.now))
-        (A.length_of object.old) (A.bytes object.old) (numbered (segment_by b.opener.decrypter) b.opener.nonce_size b.opener.prefix.items)
-        b.front b.opener.first b.opener.size b.opener.overhead b.opener.nonce_size steps.old steps.new)
+        (A.length_of object.old) (A.bytes object.old)
+        (numbered (segment_by b.opener.decrypter) b.opener.nonce_size b.opener.prefix.items) b.front
+        b.opener.first b.opener.size b.opener.overhead b.opener.nonce_size steps.old steps.new)
         (λ memory. DoesNotBeginAt (opening_key aad.now (T.key_of key.now)) (A.bytes object.old) steps.old steps.new
         (vec_capacity memory))) }
     ensures ticks { (steps.old ≤ steps.new) × (steps.new ≤ steps.old + 1) }
-    ensures sealed { vec_len sealed.new ≡ vec_len sealed.old }
-    ensures text { vec_capacity text.old ≤ vec_capacity text.new }
-    ensures nonce { vec_len nonce.new ≡ vec_len nonce.old }
+    ensures room { KeepsBuffers (vec_len sealed.old) (vec_len sealed.new) (vec_capacity text.old)
+        (vec_capacity text.new) (vec_len nonce.old) (vec_len nonce.new) }
     ensures kept { KeepsObject A.length_of A.bytes A.faults object.old object.new }
     ensures rose { OnErr result (Rose (A.faults object.old) (A.faults object.new)) }
     ensures same { A.same object.old object.new }
@@ -136,10 +137,8 @@ pub fn choose_at<A: ReadAt, T: DerivesStreams, L: Ledger>(
     prefix: Vec<u8>,
     steps: &mut Steps<L>,
 ) -> Result<Option<BegunAt>, Failed>
-    requires prefix { 7 ≤ vec_capacity prefix }
-    requires sealed { All (λ k. length (T.key_of k).out + (T.key_of k).segment < vec_len sealed.old) keys.now }
-    requires text { All (λ k. (T.key_of k).segment ≤ vec_capacity text.old) keys.now }
-    requires nonce { All (λ k. nonce_size (T.key_of k) ≤ vec_len nonce.old) keys.now }
+    requires room { HasRoomForEach T.key_of keys.now (vec_len sealed.old) (vec_capacity text.old) (vec_len nonce.old)
+        (vec_capacity prefix) }
     ensures none { IfOk result (λ o. o ≡ None → IfSome (A.bytes object.old)
         (λ S. IsChosen (map (λ k. opening_key aad.now (T.key_of k)) keys.now) S None)) }
     ensures found { IfOk result (λ o. IfSome o (λ b.

@@ -3,10 +3,10 @@
 ghost use Rattle.std.specs.Prelude.{◌≡◌, ◌≤◌, ◌<◌, ◌+◌, ◌-◌, ◌^◌, ℕ, List, length, min, true, vec_len, vec_capacity, IfOk, MatchResult, OnErr};
 ghost use Rattle.stream_model.specs.Cut.{room_at};
 ghost use Rattle.tink_io.specs.Faults.{Rose};
-ghost use Rattle.tink_range.specs.ChunkReading.{OneMeans, OpensAt};
+ghost use Rattle.tink_range.specs.ChunkReading.{OneMeans, OpensAt, ends_of};
 ghost use Rattle.tink_range.specs.Objects.{KeepsObject};
 ghost use Rattle.tink_range.specs.RangeReading.{LastMeans};
-ghost use Rattle.tink_range.specs.Ranges.{text_length};
+ghost use Rattle.tink_range.specs.Ranges.{TouchesPlaces, text_length};
 ghost use Rattle.tink_range.specs.Shapes.{HasShape, IsLast};
 ghost use Rattle.tink_streams.specs.Openers.{segment_map};
 
@@ -81,23 +81,13 @@ impl<D: SegmentDecrypter> RangeCore<D> {
         sink: &mut K,
         steps: &mut Steps<L>,
     ) -> Result<u64, TinkError>
-        requires number { place.number < 2 ^ 32 }
-        requires start { place.start < self.old.behind }
+        requires place { (place.number < 2 ^ 32) × (place.start < self.old.behind) }
         requires object { self.old.front + self.old.behind ≡ A.length_of object.old }
-        requires range { lo < hi }
-        requires before { place.text < hi }
-        requires touched { lo < place.text + (min (self.old.behind - place.start)
+        requires touched { TouchesPlaces lo hi place.text (min (self.old.behind - place.start)
             (room_at self.old.opener.first self.old.opener.size place.number) - self.old.opener.overhead) }
         ensures answer { OneMeans K.got K.faults (segment_map self.old.opener)
             (chunk_in self.old place.number place.start) self.old.opener.overhead lo hi place.text
-            (record {
-              all = A.bytes object.old;
-              reads_before = A.faults object.old;
-              reads_after = A.faults object.new;
-              old = sink.old;
-              new = sink.new;
-            })
-            result }
+            (ends_of A.bytes A.faults object.old object.new sink.old sink.new) result }
         ensures ticks { steps.new ≤ steps.old + 1 }
         ensures core { IsSameCore self.old self.new }
         ensures kept { KeepsObject A.length_of A.bytes A.faults object.old object.new }

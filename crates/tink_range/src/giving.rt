@@ -1,9 +1,10 @@
 ghost use Rattle.std.specs.Prelude.{◌≡◌, ◌≤◌, ◌<◌, ◌+◌, ◌-◌, ◌/◌, ◌^◌};
+ghost use Rattle.tink_range.specs.ChunkReading.{ends_of};
 ghost use Rattle.tink_range.specs.Giving.{GiveMeans};
 ghost use Rattle.tink_range.specs.Objects.{KeepsObject};
 ghost use Rattle.tink_range.specs.RangeCores.{IsSameCore, cutting_of};
 ghost use Rattle.tink_range.specs.Ranges.{chunk_count, text_length};
-ghost use Rattle.tink_range.specs.Shapes.{IsChunkPlace};
+ghost use Rattle.tink_range.specs.Shapes.{BeginsRange};
 
 use crate::chunks::RangeCore;
 use crate::read_at::ReadAt;
@@ -25,21 +26,10 @@ fn give_from<A: ReadAt, D: SegmentDecrypter, K: Sink, L: Ledger>(
 ) -> Result<u64, TinkError>
     requires object { core.old.front + core.old.behind ≡ A.length_of object.old }
     requires chunks { chunk_count core.old.opener.first core.old.opener.size core.old.behind ≤ 2 ^ 32 }
-    requires range { lo < hi }
-    requires within { hi ≤ text_length core.old.opener.first core.old.opener.size core.old.opener.overhead
-        core.old.behind }
-    requires place { IsChunkPlace core.old.opener.first core.old.opener.size core.old.opener.overhead core.old.behind lo
-        from.number from.start from.text }
-    requires low { from.text ≤ lo }
+    requires begins { BeginsRange core.old.opener.first core.old.opener.size core.old.opener.overhead core.old.behind lo
+        hi from.number from.start from.text }
     ensures answer { GiveMeans K.got K.faults (cutting_of core.old) lo hi
-        (record {
-          all = A.bytes object.old;
-          reads_before = A.faults object.old;
-          reads_after = A.faults object.new;
-          old = sink.old;
-          new = sink.new;
-        })
-        result }
+        (ends_of A.bytes A.faults object.old object.new sink.old sink.new) result }
     ensures ticks { steps.new ≤ steps.old + (hi - lo + (core.old.opener.size - core.old.opener.overhead) - 1)
         / (core.old.opener.size - core.old.opener.overhead) + 1 }
     ensures core { IsSameCore core.old core.new }
@@ -78,14 +68,7 @@ pub fn give_range<A: ReadAt, D: SegmentDecrypter, K: Sink, L: Ledger>(
     requires within { hi ≤ text_length core.old.opener.first core.old.opener.size core.old.opener.overhead
         core.old.behind }
     ensures answer { GiveMeans K.got K.faults (cutting_of core.old) lo hi
-        (record {
-          all = A.bytes object.old;
-          reads_before = A.faults object.old;
-          reads_after = A.faults object.new;
-          old = sink.old;
-          new = sink.new;
-        })
-        result }
+        (ends_of A.bytes A.faults object.old object.new sink.old sink.new) result }
     ensures ticks { steps.new ≤ steps.old + (hi - lo + (core.old.opener.size - core.old.opener.overhead) - 1)
         / (core.old.opener.size - core.old.opener.overhead) + 1 }
     ensures core { IsSameCore core.old core.new }

@@ -102,8 +102,7 @@ impl ReadAt for MemAt {
         ensures cause { CountsFault self.old.faults self.new.faults result }
         ensures same { SameAt self.old self.new }
         ensures moved { IfOk result (λ n. n ≡ read_at_len self.old pos (length buf.old)) }
-        ensures fault { IsErr result ↔ IsTrue (is_at_fault self.old) }
-        ensures after { self.new ≡ after_read_at self.old }
+        ensures after { (IsErr result ↔ IsTrue (is_at_fault self.old)) × (self.new ≡ after_read_at self.old) }
     {
         self.calls = self.calls.saturating_add(1);
         if is_listed(&self.fails, self.calls) {

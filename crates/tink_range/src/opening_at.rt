@@ -3,6 +3,7 @@ ghost use Rattle.stream_model.specs.Cut.{room_at};
 ghost use Rattle.tink_io.specs.Faults.{Rose};
 ghost use Rattle.tink_range.specs.ChunkReading.{OpensAt, ChunkOpensTo};
 ghost use Rattle.tink_range.specs.Objects.{KeepsObject};
+ghost use Rattle.tink_range.specs.Rooms.{HasRoomFor, KeepsBuffers};
 ghost use Rattle.tink_streams.specs.Openers.{segment_map};
 
 use crate::read_at::ReadAt;
@@ -38,18 +39,15 @@ fn open_into<A: ReadAt, D: SegmentDecrypter, L: Ledger>(
     steps: &mut Steps<L>,
 ) -> Result<bool, Failed>
     requires number { number < 2 ^ 32 }
-    requires object { at + length chunk.old ≤ A.length_of object.old }
-    requires fits { at + length chunk.old < 2 ^ 64 }
-    requires size { length chunk.old ≤ opener.now.size }
-    requires text { opener.now.size ≤ vec_capacity text.old }
-    requires nonce { opener.now.nonce_size ≤ vec_len nonce.old }
-    ensures answer { IfOk result (λ ok. IfSome (A.bytes object.old) (λ S. ChunkOpensTo (segment_map opener.now) number last
-        (take (length chunk.old) (drop at S)) ok text.new.items)) }
+    requires inside { (at + length chunk.old ≤ A.length_of object.old) × (at + length chunk.old < 2 ^ 64) }
+    requires room { (length chunk.old ≤ opener.now.size) × (opener.now.size ≤ vec_capacity text.old)
+        × (opener.now.nonce_size ≤ vec_len nonce.old) }
+    ensures answer { IfOk result (λ ok. IfSome (A.bytes object.old) (λ S. ChunkOpensTo (segment_map opener.now) number
+        last (take (length chunk.old) (drop at S)) ok text.new.items)) }
     ensures length { IfOk result (λ ok. ok ≡ true
         → vec_len text.new + opener.now.overhead ≡ length chunk.old) }
     ensures ticks { MatchResult result (λ _. steps.new ≡ steps.old + 1) (λ _. steps.new ≡ steps.old) }
-    ensures text { vec_capacity text.old ≤ vec_capacity text.new }
-    ensures nonce { vec_len nonce.new ≡ vec_len nonce.old }
+    ensures room { (vec_capacity text.old ≤ vec_capacity text.new) × (vec_len nonce.new ≡ vec_len nonce.old) }
     ensures kept { KeepsObject A.length_of A.bytes A.faults object.old object.new }
     ensures rose { OnErr result (Rose (A.faults object.old) (A.faults object.new)) }
     ensures same { A.same object.old object.new }
@@ -73,20 +71,17 @@ pub fn open_at<A: ReadAt, D: SegmentDecrypter, L: Ledger>(
     steps: &mut Steps<L>,
 ) -> Result<bool, Failed>
     requires number { number < 2 ^ 32 }
-    requires object { at + rest ≡ A.length_of object.old }
-    requires fits { at + rest < 2 ^ 64 }
-    requires sealed { opener.now.size ≤ vec_len sealed.old }
-    requires text { opener.now.size ≤ vec_capacity text.old }
-    requires nonce { opener.now.nonce_size ≤ vec_len nonce.old }
+    requires inside { (at + rest ≡ A.length_of object.old) × (at + rest < 2 ^ 64) }
+    requires room { HasRoomFor opener.now.size opener.now.nonce_size (vec_len sealed.old) (vec_capacity text.old)
+        (vec_len nonce.old) }
     ensures answer { IfOk result (λ ok. OpensAt (segment_map opener.now)
         (record { number = number; start = at; rest = rest; room = room_at opener.now.first opener.now.size number })
         (A.bytes object.old) ok text.new.items) }
     ensures length { IfOk result (λ ok. ok ≡ true → vec_len text.new + opener.now.overhead
         ≡ min rest (room_at opener.now.first opener.now.size number)) }
     ensures ticks { MatchResult result (λ _. steps.new ≡ steps.old + 1) (λ _. steps.new ≡ steps.old) }
-    ensures sealed { vec_len sealed.new ≡ vec_len sealed.old }
-    ensures text { vec_capacity text.old ≤ vec_capacity text.new }
-    ensures nonce { vec_len nonce.new ≡ vec_len nonce.old }
+    ensures room { KeepsBuffers (vec_len sealed.old) (vec_len sealed.new) (vec_capacity text.old)
+        (vec_capacity text.new) (vec_len nonce.old) (vec_len nonce.new) }
     ensures kept { KeepsObject A.length_of A.bytes A.faults object.old object.new }
     ensures rose { OnErr result (Rose (A.faults object.old) (A.faults object.new)) }
     ensures same { A.same object.old object.new }

@@ -4,6 +4,7 @@ ghost use Rattle.std.specs.Prelude.{◌≡◌, ◌≤◌, ◌+◌, ◌-◌, ◌/
 ghost use Rattle.stream_model.specs.Opening.{opening_key};
 ghost use Rattle.tink_io.specs.declared.error.Kind.TheVariants.{NoMatchingKey};
 ghost use Rattle.tink_range.specs.ChoosingAt.{NewRefused, Tries};
+ghost use Rattle.tink_range.specs.ChunkReading.{ends_of};
 ghost use Rattle.tink_range.specs.Objects.{KeepsObject};
 ghost use Rattle.tink_range.specs.RangeReaders.{cut_by, object_of};
 ghost use Rattle.tink_range.specs.RangeReading.{RangeMeans, range_end, range_start};
@@ -107,14 +108,7 @@ impl<A: ReadAt> RangeReader<A> {
         steps: &mut Steps<L>,
     ) -> Result<u64, TinkError>
         ensures answer { RangeMeans K.got K.faults (cut_by self.old) self.old.behind start len
-            (record {
-              all = A.bytes self.old.object;
-              reads_before = A.faults self.old.object;
-              reads_after = A.faults self.new.object;
-              old = sink.old;
-              new = sink.new;
-            })
-            result }
+            (ends_of A.bytes A.faults self.old.object self.new.object sink.old sink.new) result }
         ensures ticks { steps.new ≤ steps.old + (range_end (cut_by self.old) self.old.behind start len
             - range_start (cut_by self.old) self.old.behind start + (self.old.opening.size
             - self.old.opening.overhead) - 1) / (self.old.opening.size - self.old.opening.overhead) + 2 }

@@ -1,4 +1,5 @@
 ghost use Rattle.std.specs.Prelude.{◌≡◌, ◌≤◌, ◌<◌, ◌+◌, ◌-◌, ◌/◌};
+ghost use Rattle.tink_range.specs.ChunkReading.{ends_of};
 ghost use Rattle.tink_range.specs.Objects.{KeepsObject};
 ghost use Rattle.tink_range.specs.RangeCores.{IsSameCore, cutting_of};
 ghost use Rattle.tink_range.specs.RangeReading.{RangeMeans, range_end, range_start};
@@ -22,14 +23,7 @@ pub fn read_range<A: ReadAt, D: SegmentDecrypter, K: Sink, L: Ledger>(
 ) -> Result<u64, TinkError>
     requires object { core.old.front + core.old.behind ≡ A.length_of object.old }
     ensures answer { RangeMeans K.got K.faults (cutting_of core.old) core.old.behind start len
-        (record {
-          all = A.bytes object.old;
-          reads_before = A.faults object.old;
-          reads_after = A.faults object.new;
-          old = sink.old;
-          new = sink.new;
-        })
-        result }
+        (ends_of A.bytes A.faults object.old object.new sink.old sink.new) result }
     ensures ticks { steps.new ≤ steps.old + (range_end (cutting_of core.old) core.old.behind start len
         - range_start (cutting_of core.old) core.old.behind start
         + (core.old.opener.size - core.old.opener.overhead) - 1)

@@ -1,8 +1,8 @@
-ghost use Rattle.std.specs.Prelude.{◌≡◌, ◌≤◌, ◌<◌, ◌+◌, ◌-◌, length, map, All, IfOk, IfErr, IfSome, vec_len, vec_capacity};
-ghost use Rattle.stream_model.specs.Key.{nonce_size};
+ghost use Rattle.std.specs.Prelude.{◌≡◌, ◌≤◌, ◌+◌, ◌-◌, length, map, IfOk, IfErr, IfSome, vec_len, vec_capacity};
 ghost use Rattle.stream_model.specs.Opening.{opening_key};
 ghost use Rattle.tink_range.specs.ChoosingAt.{HasTried, NewRefused};
 ghost use Rattle.tink_range.specs.Objects.{KeepsObject};
+ghost use Rattle.tink_range.specs.Rooms.{HasRoomForEach};
 ghost use Rattle.tink_streams.specs.Choosing.{Found, StartRefused};
 ghost use Rattle.tink_streams.specs.Openers.{segment_map};
 
@@ -26,10 +26,8 @@ pub fn start_at<A: ReadAt, T: DerivesStreams, L: Ledger>(
     object: &mut A,
     steps: &mut Steps<L>,
 ) -> Result<RangeCore<StreamSegment>, TinkError>
-    requires buffer { All (λ k. length (T.key_of k).out + (T.key_of k).segment < vec_len trial.kept.buffer) keys.now }
-    requires room { All (λ k. (T.key_of k).segment ≤ vec_capacity trial.opened) keys.now }
-    requires nonce { All (λ k. nonce_size (T.key_of k) ≤ vec_len trial.nonce) keys.now }
-    requires prefix { 7 ≤ vec_capacity trial.prefix }
+    requires room { HasRoomForEach T.key_of keys.now (vec_len trial.kept.buffer) (vec_capacity trial.opened)
+        (vec_len trial.nonce) (vec_capacity trial.prefix) }
     ensures found { IfOk result (λ core. IfSome (A.bytes object.old) (λ S.
         Found (map (λ k. opening_key aad.now (T.key_of k)) keys.now) S (segment_map core.opener) core.front
         core.opener.first core.opener.size core.opener.overhead)) }

@@ -1,8 +1,9 @@
-ghost use Rattle.std.specs.Prelude.{◌≡◌, ◌≤◌, ◌<◌, ◌+◌, length, map, All, vec_len, vec_capacity};
-ghost use Rattle.stream_model.specs.Key.{nonce_size};
+ghost use Rattle.std.specs.Prelude.{◌≡◌, ◌≤◌, map, vec_len, vec_capacity};
 ghost use Rattle.stream_model.specs.Opening.{opening_key};
+ghost use Rattle.tink_range.specs.ChunkReading.{ends_of};
 ghost use Rattle.tink_range.specs.KeyRanges.{RangesUnder, TakesRangeSteps};
 ghost use Rattle.tink_range.specs.Objects.{KeepsObject};
+ghost use Rattle.tink_range.specs.Rooms.{HasRoomForEach};
 
 use crate::range_reading::read_range;
 use crate::read_at::ReadAt;
@@ -28,20 +29,11 @@ pub fn range_under<A: ReadAt, T: DerivesStreams, K: Sink, L: Ledger>(
     sink: &mut K,
     steps: &mut Steps<L>,
 ) -> Result<u64, TinkError>
-    requires buffer { All (λ k. length (T.key_of k).out + (T.key_of k).segment < vec_len trial.kept.buffer) keys.now }
-    requires room { All (λ k. (T.key_of k).segment ≤ vec_capacity trial.opened) keys.now }
-    requires nonce { All (λ k. nonce_size (T.key_of k) ≤ vec_len trial.nonce) keys.now }
-    requires prefix { 7 ≤ vec_capacity trial.prefix }
+    requires room { HasRoomForEach T.key_of keys.now (vec_len trial.kept.buffer) (vec_capacity trial.opened)
+        (vec_len trial.nonce) (vec_capacity trial.prefix) }
     ensures answer { RangesUnder K.got K.faults (map (λ k. opening_key aad.now (T.key_of k)) keys.now)
         (A.length_of object.old) start len
-        (record {
-          all = A.bytes object.old;
-          reads_before = A.faults object.old;
-          reads_after = A.faults object.new;
-          old = sink.old;
-          new = sink.new;
-        })
-        result }
+        (ends_of A.bytes A.faults object.old object.new sink.old sink.new) result }
     ensures ticks { TakesRangeSteps (map (λ k. opening_key aad.now (T.key_of k)) keys.now) (A.bytes object.old)
         (A.length_of object.old) start len steps.old steps.new }
     ensures kept { KeepsObject A.length_of A.bytes A.faults object.old object.new }

@@ -1,5 +1,6 @@
 -- From the keys of a list to those of a set, and to those that were loaded.
-use Rattle.std.proofs.Common.{◌≡◌, ℕ, List, map, refl, subst}
+use Rattle.std.proofs.Common.{◌≡◌, ◌∙◌, ℕ, List, length, map, refl, sym, subst}
+use Rattle.std.proofs.lemmas.List.{length-map}
 use Rattle.std.proofs.lemmas.Simd.{map-map}
 use Rattle.std.specs.Prelude.{Result, Ok, Err}
 use Rattle.std.specs.declared.option.Option.{Option}
@@ -15,11 +16,12 @@ use Rattle.tink_sets.specs.declared.typed_set.TypedPrimitiveSet.{TypedPrimitiveS
 use Rattle.tink_stream_keys.specs.declared.stream_kind.StreamKind.{StreamKind}
 use Rattle.tink_streaming_aead.specs.Wrapped.{KeepsOrder, all_entries, keys_in}
 use Rattle.tink_range.specs.ChunkReading.{Moments}
-use Rattle.tink_range.specs.KeyRanges.{RangesUnder, RangesUnderRefused}
-use Rattle.tink_range.proofs.KeyRangeSteps.{ranges_by_others, refused_by_others}
+use Rattle.tink_range.specs.KeyRanges.{RangesUnder, RangesUnderRefused, TakesRangeSteps}
+use Rattle.tink_range.proofs.KeyRangeSteps.{ranges_by_others, refused_by_others, steps_by_others}
 use Rattle.tink_run.specs.HeldKeys.{HoldsLoaded}
 use Rattle.tink_run.specs.Run.{IsEarly}
 use Rattle.tink_run.proofs.RunSteps.{are_of_keyset}
+use Rattle.tink_run_range.proofs.CountFacts.{same_count}
 use Rattle.tink_run_range.specs.SetRanges.{LeavesRangeEnds, LeavesUnwritten, RangesOf, RangesOfRefused, WritesNoRange}
 
 -- ends that stay as they were are left so by every answer
@@ -78,6 +80,18 @@ chosen_of_loaded aad l set usable holds order S chosen h =
     let ordered : HaveSameOrder (keys_in (all_entries set.entries)) own = subst (HaveSameOrder (keys_in (all_entries set.entries))) holds.keys (order holds.entries holds.groups) in
     subst (λ (ks : List OpeningKey). IsChosen ks S chosen) (map-map (opening_key aad) (λ k. k.key) l.keys)
     ((choose_the_same aad S (keys_in (all_entries set.entries)) own chosen (are_of_keyset l.keys usable) ordered).0 h)
+
+-- and they are as many
+pub steps_of_loaded : (aad : List ℕ) (set : TypedPrimitiveSet StreamKind) (all : Option (List ℕ)) (whole start len before now : ℕ) → KeepsOrder set.entries
+    → TakesRangeSteps (map (opening_key aad) (keys_in (all_entries set.entries))) all whole start len before now
+    → (l : Loaded) → AreUsable l.keys → HoldsLoaded l set → TakesRangeSteps (opening_keys aad l) all whole start len before now
+steps_of_loaded aad set all whole start len before now order takes l usable holds =
+    let keys : List StreamKey = keys_in (all_entries set.entries) in
+    let own : List StreamKey = map (λ k. k.key) l.keys in
+    let ordered : HaveSameOrder keys own = subst (HaveSameOrder keys) holds.keys (order holds.entries holds.groups) in
+    let count : length (map (opening_key aad) keys) ≡ length (opening_keys aad l) =
+    length-map keys (opening_key aad) ∙ same_count keys own ordered ∙ length-map l.keys (λ k. k.key) ∙ sym (length-map l.keys (λ k. opening_key aad k.key)) in
+    steps_by_others (map (opening_key aad) keys) (opening_keys aad l) all whole start len before now count (chosen_of_loaded aad l set usable holds order) takes
 
 -- so a range under the keys of the set is one under those that were loaded
 pub ranges_of_loaded : {W : Type 0} (got : W → Option (List ℕ)) (faults : W → ℕ) (aad : List ℕ) (set : TypedPrimitiveSet StreamKind) (whole start len : ℕ) (e : Moments W) (answer : Result ℕ TinkError) → KeepsOrder set.entries

@@ -1,16 +1,15 @@
 //! A range of a stream's text under the keys of a set.
 
-ghost use Rattle.std.specs.Prelude.{◌≡◌, ◌≤◌, ◌<◌, map};
-ghost use Rattle.stream_model.specs.Opening.{opening_key};
+ghost use Rattle.std.specs.Prelude.{◌≡◌, ◌≤◌};
 ghost use Rattle.loading_model.specs.Loading.{AreUsable, Loaded, opening_keys};
-ghost use Rattle.tink_streaming_aead.specs.Wrapped.{KeepsOrder, all_entries, keys_in};
+ghost use Rattle.tink_range.specs.ChunkReading.{ends_of};
+ghost use Rattle.tink_range.specs.KeyRanges.{TakesRangeSteps};
 ghost use Rattle.tink_range.specs.Objects.{KeepsObject};
 ghost use Rattle.tink_run.specs.HeldKeys.{HoldsLoaded};
 ghost use Rattle.tink_run_range.specs.SetRanges.{LeavesRangeEnds, LeavesUnwritten, RangesOf};
 
 use std::alloc::Global;
-use std::marker::Brand;
-use std::sync::ledger::{Blank, Ledger};
+use std::sync::ledger::Ledger;
 use tink_io::{Sink, TinkError};
 use tink_range::{ReadAt, Steps, range_under};
 use tink_sets::TypedPrimitiveSet;
@@ -19,14 +18,14 @@ use tink_streaming_aead::{AES_CTR_HMAC_NONCE_SIZE_IN_BYTES, entries_of, room_of}
 
 /// Writes the bytes of the text from place `start` on and below `start + len`, as far as there are such, of the stream
 /// that `object` is under the first key of a set that it begins under. It answers how many. The last chunk is opened
-/// first, and then each that the range touches.
+/// first, and then each that the range touches, each in one step.
 ///
 /// # Errors
 /// `OutOfMemory` before anything was read or written; `NoMatchingKey` where the object begins under no key,
 /// `TooManySegments` where it has more than 2^32 chunks, `Truncated` or `BadSegment` where the last chunk is the
 /// segment of no text, all with nothing written; `BadSegment` of the first touched chunk that is the segment of no
 /// text, with the range's bytes before it written; `ReadFault` and `WriteFault` where an end failed.
-pub fn range_of_set<A: ReadAt, K: Sink>(
+pub fn range_of_set<A: ReadAt, K: Sink, L: Ledger>(
     alloc: Global,
     set: &TypedPrimitiveSet<StreamKind>,
     aad: &[u8],
@@ -34,18 +33,15 @@ pub fn range_of_set<A: ReadAt, K: Sink>(
     start: u64,
     len: u64,
     sink: &mut K,
+    steps: &mut Steps<L>,
 ) -> Result<u64, TinkError>
     // Whichever keys the set holds, each answer has its cause under them, and says what stands after it.
     ensures answer { (l : Loaded) → AreUsable l.keys → HoldsLoaded l set.now
         → RangesOf K.got K.faults (opening_keys aad.now l) (A.length_of object.old) start len
-        (record {
-          all = A.bytes object.old;
-          reads_before = A.faults object.old;
-          reads_after = A.faults object.new;
-          old = sink.old;
-          new = sink.new;
-        })
-        result }
+        (ends_of A.bytes A.faults object.old object.new sink.old sink.new) result }
+    ensures ticks { (l : Loaded) → AreUsable l.keys → HoldsLoaded l set.now
+        → TakesRangeSteps (opening_keys aad.now l) (A.bytes object.old) (A.length_of object.old) start len
+        steps.old steps.new }
     ensures early { LeavesRangeEnds result object.old object.new sink.old sink.new }
     ensures unwritten { LeavesUnwritten result sink.old sink.new }
     ensures kept { KeepsObject A.length_of A.bytes A.faults object.old object.new }
@@ -53,42 +49,7 @@ pub fn range_of_set<A: ReadAt, K: Sink>(
     ensures object { A.same object.old object.new }
     ensures sink { K.same sink.old sink.new }
 {
-    counted_range::<A, K, Brand>(alloc, set, aad, object, start, len, sink, Blank::new(1))
-}
-
-// The same, by a ledger of steps.
-fn counted_range<A: ReadAt, K: Sink, L: Ledger>(
-    alloc: Global,
-    set: &TypedPrimitiveSet<StreamKind>,
-    aad: &[u8],
-    object: &mut A,
-    start: u64,
-    len: u64,
-    sink: &mut K,
-    blank: Blank,
-) -> Result<u64, TinkError>
-    requires name { blank.name ≡ L.name }
-    requires parts { blank.parts ≡ L.parts }
-    requires some { 0 < blank.parts }
-    ensures answer { RangesOf K.got K.faults (map (opening_key aad.now) (keys_in (all_entries set.now.entries)))
-        (A.length_of object.old) start len
-        (record {
-          all = A.bytes object.old;
-          reads_before = A.faults object.old;
-          reads_after = A.faults object.new;
-          old = sink.old;
-          new = sink.new;
-        })
-        result }
-    ensures order { KeepsOrder set.now.entries }
-    ensures early { LeavesRangeEnds result object.old object.new sink.old sink.new }
-    ensures kept { KeepsObject A.length_of A.bytes A.faults object.old object.new }
-    ensures later { K.faults sink.old ≤ K.faults sink.new }
-    ensures object { A.same object.old object.new }
-    ensures sink { K.same sink.old sink.new }
-{
     let keys = entries_of(alloc, set)?;
     let trial = Trial::reserve(alloc, room_of(&keys), AES_CTR_HMAC_NONCE_SIZE_IN_BYTES)?;
-    let mut steps = Steps::<L>::new(blank);
-    range_under(&keys, aad, trial, object, start, len, sink, &mut steps)
+    range_under(&keys, aad, trial, object, start, len, sink, steps)
 }

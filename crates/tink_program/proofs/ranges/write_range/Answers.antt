@@ -33,18 +33,18 @@ returns-in_err-input-clause-unread g c =
 pub returns-clause-answer : goal.returns-clause-answer
 returns-clause-answer g c =
     let loaded = rw c.deref.ensures.value at c.in_ok-keys.ensures.answer in
-    ranged _ _ _ _ _ _ _ loaded.0 _ _ _ _ _ _ c.range_of_set.result loaded.1 c.in_ok-input.ensures.input
-    (of_equal _ _ _ _ _ _ _ loaded.0 _ _ _ c.range_of_set.result c.deref-2.ensures.value c.new-object.ensures (c.range_of_set.ensures.answer loaded.0 (loaded_usable _ loaded.0 loaded.1).0 loaded.2))
+    ranged _ _ _ _ _ _ _ loaded.0 _ _ _ _ _ _ c.counted_range.result loaded.1 c.in_ok-input.ensures.input
+    (of_equal _ _ _ _ _ _ _ loaded.0 _ _ _ c.counted_range.result c.deref-2.ensures.value c.new-object.ensures (c.counted_range.ensures.answer loaded.0 (loaded_usable _ loaded.0 loaded.1).0 loaded.2))
 
 pub returns-clause-unread : goal.returns-clause-unread
 returns-clause-unread g c =
     let loaded = rw c.deref.ensures.value at c.in_ok-keys.ensures.answer in
-    range_unread _ _ _ _ _ _ _ loaded.0 _ _ _ c.range_of_set.result
-    (of_equal _ _ _ _ _ _ _ loaded.0 _ _ _ c.range_of_set.result c.deref-2.ensures.value c.new-object.ensures (c.range_of_set.ensures.answer loaded.0 (loaded_usable _ loaded.0 loaded.1).0 loaded.2))
+    range_unread _ _ _ _ _ _ _ loaded.0 _ _ _ c.counted_range.result
+    (of_equal _ _ _ _ _ _ _ loaded.0 _ _ _ c.counted_range.result c.deref-2.ensures.value c.new-object.ensures (c.counted_range.ensures.answer loaded.0 (loaded_usable _ loaded.0 loaded.1).0 loaded.2))
 
 pub returns-clause-unwritten : goal.returns-clause-unwritten
 returns-clause-unwritten g c =
     let loaded = rw c.deref.ensures.value at c.in_ok-keys.ensures.answer in
-    unranged _ _ _ _ _ _ _ loaded.0 _ _ _ c.range_of_set.result
-    (of_equal _ _ _ _ _ _ _ loaded.0 _ _ _ c.range_of_set.result c.deref-2.ensures.value c.new-object.ensures (c.range_of_set.ensures.answer loaded.0 (loaded_usable _ loaded.0 loaded.1).0 loaded.2))
-    c.range_of_set.ensures.early c.range_of_set.ensures.unwritten
+    unranged _ _ _ _ _ _ _ loaded.0 _ _ _ c.counted_range.result
+    (of_equal _ _ _ _ _ _ _ loaded.0 _ _ _ c.counted_range.result c.deref-2.ensures.value c.new-object.ensures (c.counted_range.ensures.answer loaded.0 (loaded_usable _ loaded.0 loaded.1).0 loaded.2))
+    c.counted_range.ensures.early c.counted_range.ensures.unwritten

@@ -17,10 +17,10 @@ loop-place-init g c =
     let all : Option (List ℕ) = g.A.ReadAt.bytes c.args.object.now in
     let long : IfSome all (λ S. length S ≡ core.front + core.behind) = told_weaker all (λ S. length S ≡ g.A.ReadAt.length_of c.args.object.now) (λ S. length S ≡ core.front + core.behind) (λ S e. e ∙ sym c.requires.object) (g.met.A.ReadAt.told c.args.object.now) in
     record {
-      giving = nothing_given (cutting_of core) c.args.lo c.args.hi all (g.K.Sink.got c.args.sink.now) from.number from.start from.text core.behind o.some o.first_fits long c.requires.place c.requires.low;
-      going = λ _. c.requires.place;
-      low = omega (arith, text_before o.first o.size o.overhead from.number, c.requires.place.start_is, c.requires.place.text_is);
-      start_in = omega (arith, c.requires.place.inside);
+      giving = nothing_given (cutting_of core) c.args.lo c.args.hi all (g.K.Sink.got c.args.sink.now) from.number from.start from.text core.behind o.some o.first_fits long c.requires.begins.place c.requires.begins.low;
+      going = λ _. c.requires.begins.place;
+      low = omega (arith, text_before o.first o.size o.overhead from.number, c.requires.begins.place.start_is, c.requires.begins.place.text_is);
+      start_in = omega (arith, c.requires.begins.place.inside);
       few = omega arith;
       ticks = record { count = omega arith; later = omega arith; bound = omega arith; spaced = λ some more. omega arith };
       core = record { opener = refl; front = refl; behind = refl };
@@ -30,11 +30,14 @@ loop-place-init g c =
       sink_same = g.met.K.Sink.same_refl c.args.sink.now;
     }
 
-pub give_chunk-requires-clause-number : goal.give_chunk-requires-clause-number
-give_chunk-requires-clause-number g c =
+pub give_chunk-requires-clause-place : goal.give_chunk-requires-clause-place
+give_chunk-requires-clause-place g c =
     let o = c.args.core.now.opener in
     let place = c.loop-place.place in
-    number_few o.first o.size o.overhead c.args.core.now.behind c.args.lo o.some o.first_fits place.number place.start place.text (c.loop-place.invariant.going c.loop-place-test.true) c.requires.chunks
+    let here = c.loop-place.invariant.going c.loop-place-test.true in (
+      number_few o.first o.size o.overhead c.args.core.now.behind c.args.lo o.some o.first_fits place.number place.start place.text here c.requires.chunks,
+      omega (arith, here.inside, c.loop-place.invariant.core.behind),
+    )
 
 pub give_chunk-requires-clause-touched : goal.give_chunk-requires-clause-touched
 give_chunk-requires-clause-touched g c =
@@ -42,8 +45,12 @@ give_chunk-requires-clause-touched g c =
     let o = core.opener in
     let place = c.loop-place.place in
     let inv = c.loop-place.invariant in
-    let reached = is_reached o.first o.size o.overhead core.behind c.args.lo o.some o.first_fits place.number place.start place.text (inv.going c.loop-place-test.true) (omega (arith, c.requires.range, c.requires.within)) in
-    omega (arith, reached, ap (λ x. room_at x.first x.size place.number) inv.core.opener, ap (λ x. x.overhead) inv.core.opener, inv.core.behind)
+    let reached = is_reached o.first o.size o.overhead core.behind c.args.lo o.some o.first_fits place.number place.start place.text (inv.going c.loop-place-test.true) (omega (arith, c.requires.begins.range, c.requires.begins.within)) in
+    record {
+      some = c.requires.begins.range;
+      begins = omega (arith, reached, ap (λ x. room_at x.first x.size place.number) inv.core.opener, ap (λ x. x.overhead) inv.core.opener, inv.core.behind);
+      ends = c.loop-place-test.true;
+    }
 
 pub next_place-place-requires-clause-number : goal.next_place-place-requires-clause-number
 next_place-place-requires-clause-number g c =
@@ -60,7 +67,7 @@ returns-in-Err-clause-answer g c =
     let all : Option (List ℕ) = g.A.ReadAt.bytes c.args.object.now in
     let long : IfSome all (λ S. length S ≡ core.front + core.behind) = told_weaker all (λ S. length S ≡ g.A.ReadAt.length_of c.args.object.now) (λ S. length S ≡ core.front + core.behind) (λ S e. e ∙ sym c.requires.object) (g.met.A.ReadAt.told c.args.object.now) in
     let here : IsNext (cutting_of core) c.args.lo c.args.hi core.behind place.number place.start place.text =
-    record { over = o.some; sizes = o.first_fits; place = inv.going c.loop-place-test.true; range = c.requires.range; within = c.requires.within; before = c.loop-place-test.true } in
+    record { over = o.some; sizes = o.first_fits; place = inv.going c.loop-place-test.true; range = c.requires.begins.range; within = c.requires.begins.within; before = c.loop-place-test.true } in
     let one = same_one g.K.Sink.got g.K.Sink.faults core c.loop-place.core place.number place.start c.args.lo c.args.hi place.text all (g.A.ReadAt.bytes c.loop-place.object)
     (g.A.ReadAt.faults c.loop-place.object) (g.A.ReadAt.faults c.give_chunk.new.object) c.loop-place.sink c.give_chunk.new.sink (Err c.in-Err.e) inv.core inv.kept.bytes_are c.in-Err.ensures.answer in
     gave_refused g.K.Sink.got g.K.Sink.faults (cutting_of core) c.args.lo c.args.hi
@@ -78,7 +85,7 @@ loop-place-preserved g c =
     let all : Option (List ℕ) = g.A.ReadAt.bytes c.args.object.now in
     let long : IfSome all (λ S. length S ≡ core.front + core.behind) = told_weaker all (λ S. length S ≡ g.A.ReadAt.length_of c.args.object.now) (λ S. length S ≡ core.front + core.behind) (λ S e. e ∙ sym c.requires.object) (g.met.A.ReadAt.told c.args.object.now) in
     let here : IsNext (cutting_of core) c.args.lo c.args.hi core.behind place.number place.start place.text =
-    record { over = o.some; sizes = o.first_fits; place = inv.going c.loop-place-test.true; range = c.requires.range; within = c.requires.within; before = c.loop-place-test.true } in
+    record { over = o.some; sizes = o.first_fits; place = inv.going c.loop-place-test.true; range = c.requires.begins.range; within = c.requires.begins.within; before = c.loop-place-test.true } in
     let one = same_one g.K.Sink.got g.K.Sink.faults core c.loop-place.core place.number place.start c.args.lo c.args.hi place.text all (g.A.ReadAt.bytes c.loop-place.object)
     (g.A.ReadAt.faults c.loop-place.object) (g.A.ReadAt.faults c.give_chunk.new.object) c.loop-place.sink c.give_chunk.new.sink (Ok c.in-Ok.count) inv.core inv.kept.bytes_are gave.answer in
     record {

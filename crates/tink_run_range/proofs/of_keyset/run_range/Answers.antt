@@ -1,12 +1,57 @@
-use Rattle.tink_run_range.proofs.KeysetSteps.{complete, slices}
+use Rattle.std.proofs.Common.{refl}
+use Rattle.std.proofs.lemmas.Result.{err_from_is_err_and}
+use Rattle.std.specs.Prelude.{Err}
+use Rattle.tink_range.specs.ChunkReading.{Moments, ends_of}
+use Rattle.tink_run_range.proofs.KeysetSteps.{complete, loaded, not_loaded, slices, steps_loaded}
 use Rattle.tink_run_range.proofs.of_keyset.run_range.Goals as goal
 
+pub returns-in_err-keys-clause-answer : goal.returns-in_err-keys-clause-answer
+returns-in_err-keys-clause-answer g c =
+    let returned = err_from_is_err_and c.from_residual.result c.from_residual.ensures.1 in
+    let object = c.args.object.now in
+    let e : Moments (g.row.K.Denot) = ends_of g.A.ReadAt.bytes g.A.ReadAt.faults object object c.args.sink.now c.args.sink.now in
+    rw (returned.1, returned.2)
+    (not_loaded g.K.Sink.got g.K.Sink.faults c.args.keyset.now c.args.aad.now (g.A.ReadAt.length_of object) c.args.start c.args.len object object e
+    c.in_err-keys.field-0.0 (record { unread = refl; unmoved = record { reads = refl; same = refl } }) c.in_err-keys.ensures.answer)
+
+pub returns-in_err-keys-clause-succeeds : goal.returns-in_err-keys-clause-succeeds
+returns-in_err-keys-clause-succeeds g c =
+    let returned = err_from_is_err_and c.from_residual.result c.from_residual.ensures.1 in
+    let object = c.args.object.now in
+    let e : Moments (g.row.K.Denot) = ends_of g.A.ReadAt.bytes g.A.ReadAt.faults object object c.args.sink.now c.args.sink.now in
+    let whole = g.A.ReadAt.length_of object in
+    rw (returned.1, returned.2)
+    (complete g.K.Sink.got g.K.Sink.faults c.args.keyset.now c.args.aad.now whole c.args.start c.args.len object object e (g.met.A.ReadAt.told object) (Err c.in_err-keys.field-0.0)
+    (not_loaded g.K.Sink.got g.K.Sink.faults c.args.keyset.now c.args.aad.now whole c.args.start c.args.len object object e
+    c.in_err-keys.field-0.0 (record { unread = refl; unmoved = record { reads = refl; same = refl } }) c.in_err-keys.ensures.answer))
+
+pub returns-clause-answer : goal.returns-clause-answer
+returns-clause-answer g c =
+    let object = c.args.object.now in
+    let e : Moments (g.row.K.Denot) = ends_of g.A.ReadAt.bytes g.A.ReadAt.faults object c.range_of_set.new.object c.args.sink.now c.range_of_set.new.sink in
+    loaded g.K.Sink.got g.K.Sink.faults c.args.keyset.now c.args.aad.now (g.A.ReadAt.length_of object) c.args.start c.args.len object c.range_of_set.new.object e
+    c.in_ok-keys.keys c.range_of_set.result c.in_ok-keys.ensures.answer c.range_of_set.ensures.answer c.range_of_set.ensures.early
+
 pub returns-clause-slice : goal.returns-clause-slice
-returns-clause-slice g c = slices g.K.Sink.got g.K.Sink.faults c.args.keyset.now c.args.aad.now (g.A.ReadAt.length_of c.args.object.now) c.args.start c.args.len
-    (record { all = g.A.ReadAt.bytes c.args.object.now; reads_before = g.A.ReadAt.faults c.args.object.now; reads_after = g.A.ReadAt.faults c.answer.new.object; old = c.args.sink.now; new = c.answer.new.sink })
-    (g.met.A.ReadAt.told c.args.object.now) c.answer.result c.answer.ensures.answer
+returns-clause-slice g c =
+    let object = c.args.object.now in
+    let whole = g.A.ReadAt.length_of object in
+    let e : Moments (g.row.K.Denot) = ends_of g.A.ReadAt.bytes g.A.ReadAt.faults object c.range_of_set.new.object c.args.sink.now c.range_of_set.new.sink in
+    slices g.K.Sink.got g.K.Sink.faults c.args.keyset.now c.args.aad.now whole c.args.start c.args.len object c.range_of_set.new.object e (g.met.A.ReadAt.told object) c.range_of_set.result
+    (loaded g.K.Sink.got g.K.Sink.faults c.args.keyset.now c.args.aad.now whole c.args.start c.args.len object c.range_of_set.new.object e
+    c.in_ok-keys.keys c.range_of_set.result c.in_ok-keys.ensures.answer c.range_of_set.ensures.answer c.range_of_set.ensures.early)
 
 pub returns-clause-succeeds : goal.returns-clause-succeeds
-returns-clause-succeeds g c = complete g.K.Sink.got g.K.Sink.faults c.args.keyset.now c.args.aad.now (g.A.ReadAt.length_of c.args.object.now) c.args.start c.args.len
-    (record { all = g.A.ReadAt.bytes c.args.object.now; reads_before = g.A.ReadAt.faults c.args.object.now; reads_after = g.A.ReadAt.faults c.answer.new.object; old = c.args.sink.now; new = c.answer.new.sink })
-    (g.met.A.ReadAt.told c.args.object.now) c.answer.result c.answer.ensures.answer
+returns-clause-succeeds g c =
+    let object = c.args.object.now in
+    let whole = g.A.ReadAt.length_of object in
+    let e : Moments (g.row.K.Denot) = ends_of g.A.ReadAt.bytes g.A.ReadAt.faults object c.range_of_set.new.object c.args.sink.now c.range_of_set.new.sink in
+    complete g.K.Sink.got g.K.Sink.faults c.args.keyset.now c.args.aad.now whole c.args.start c.args.len object c.range_of_set.new.object e (g.met.A.ReadAt.told object) c.range_of_set.result
+    (loaded g.K.Sink.got g.K.Sink.faults c.args.keyset.now c.args.aad.now whole c.args.start c.args.len object c.range_of_set.new.object e
+    c.in_ok-keys.keys c.range_of_set.result c.in_ok-keys.ensures.answer c.range_of_set.ensures.answer c.range_of_set.ensures.early)
+
+pub returns-clause-ticks : goal.returns-clause-ticks
+returns-clause-ticks g c =
+    let object = c.args.object.now in
+    steps_loaded c.args.keyset.now c.args.aad.now (g.A.ReadAt.bytes object) (g.A.ReadAt.length_of object) c.args.start c.args.len c.args.steps.now c.range_of_set.new.steps
+    c.in_ok-keys.keys c.in_ok-keys.ensures.answer c.range_of_set.ensures.ticks
