@@ -150,7 +150,7 @@ pub left_refused : (r : Registered Managers) (ks : Keyset) (kt : KeyTemplate) (d
 left_refused r ks kt draws now e is (inl short) = inl short
 left_refused r ks kt draws now e is (inr told) = inr (left_told r ks kt draws now is told.1)
 
--- whatever is answered, where the told draws are left
+-- whatever is answered, where the given draws are left
 pub leaves_told : {T : Type 0} (result : Result T TinkError) (left before now : List ℕ) → now ≡ left → LeavesDraws result left before now
 leaves_told (Ok v) left before now same = same
 leaves_told (Err e) left before now same = inr same

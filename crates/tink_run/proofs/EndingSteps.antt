@@ -7,9 +7,9 @@ use Rattle.std.proofs.KnownBytes.{Appends-kept, Keeps-trans, Keeps-refl}
 use Rattle.std.proofs.lemmas.List.{append-nil, length-take, take-take}
 use Rattle.std.proofs.Math.Seq.{take-append_seam}
 use Rattle.tink_io.specs.Faults.{Rose}
-use Rattle.tink_io.specs.Written.{AppendsFront}
+use Rattle.tink_io.specs.Written.{AppendsPrefix}
 use Rattle.tink_io.proofs.FaultLemmas.{Rose-earlier, Rose-later}
-use Rattle.tink_io.proofs.WrittenLemmas.{front_of_more}
+use Rattle.tink_io.proofs.WrittenLemmas.{prefix_of_more}
 use Rattle.tink_io.specs.declared.error.Kind.{Kind}
 use Rattle.tink_io.specs.declared.error.Kind.TheVariants.{OutOfMemory, ReadFault, WriteFault, RandomFault, UnsupportedHash, TooManySegments, NoMatchingKey, BadSegment, Truncated}
 use Rattle.tink_io.specs.declared.error.TinkError.{TinkError}
@@ -45,7 +45,7 @@ front_of [] more waits all e = sym (take-append_seam more waits) ∙ ap (take (l
 front_of (x ∷ xs) more waits all e = front_of xs more waits all (ap (drop 1) e)
 
 -- what the sink behind has got of bytes of which the sink that gathers has told a front
-pub cut_front : (old told got : Option (List ℕ)) (bs : List ℕ) → OnlyGrows old got → IsCutShort told got → AppendsFront old told bs → AppendsFront old got bs
+pub cut_front : (old told got : Option (List ℕ)) (bs : List ℕ) → OnlyGrows old got → IsCutShort told got → AppendsPrefix old told bs → AppendsPrefix old got bs
 cut_front None told got bs grows cut w = (0, omega arith, tt)
 cut_front (Some x) told None bs grows cut w = absurd grows.1
 cut_front (Some x) None (Some y) bs grows cut w = absurd w.2
@@ -59,7 +59,7 @@ cut_front (Some x) (Some t) (Some y) bs grows cut w =
     (length more, omega (arith, few, w.1), grows.1 ∙ ap (λ l. x ++ l) (is ∙ take-take (length more) w.0 bs few))
 
 -- bytes that stay told are a front as before
-pub kept_after : (old told got : Option (List ℕ)) (bs : List ℕ) → Keeps told got → AppendsFront old told bs → AppendsFront old got bs
+pub kept_after : (old told got : Option (List ℕ)) (bs : List ℕ) → Keeps told got → AppendsPrefix old told bs → AppendsPrefix old got bs
 kept_after old told got bs kept w = (w.0, w.1, Appends-kept old told got (take w.0 bs) w.2 kept)
 
 -- the segments of the first 2^32 chunks begin those of all
@@ -75,10 +75,10 @@ longest_leads k aad salt prefix text =
         let seg = segment_at k keys prefix in
         (unmarked seg (0 + length (take n cs)) (drop n cs), ap (unmarked seg 0) (sym (take-append-drop n cs)) ∙ unmarked-append seg 0 (take n cs) (drop n cs))
 
-pub longest_front : (k : StreamKey) (aad salt prefix text : List ℕ) (a b : Option (List ℕ)) → Appends a b (longest_part k aad salt prefix text) → AppendsFront a b (part k aad salt prefix text)
+pub longest_front : (k : StreamKey) (aad salt prefix text : List ℕ) (a b : Option (List ℕ)) → Appends a b (longest_part k aad salt prefix text) → AppendsPrefix a b (part k aad salt prefix text)
 longest_front k aad salt prefix text a b w =
     let more = longest_leads k aad salt prefix text in
-    subst (AppendsFront a b) (sym more.1) (front_of_more a b (longest_part k aad salt prefix text) more.0 (whole_front a b (longest_part k aad salt prefix text) w))
+    subst (AppendsPrefix a b) (sym more.1) (prefix_of_more a b (longest_part k aad salt prefix text) more.0 (whole_front a b (longest_part k aad salt prefix text) w))
 
 -- ---- what was told, and what the sink behind has got in the end
 
@@ -161,10 +161,10 @@ module _ (old : Outside) (left : Option (List ℕ)) (reads : ℕ) (told got : Op
 
   -- ---- a part was handed on
   module _ (grows : OnlyGrows old.got got) (short : IsCutShort told got) (rose : Rose old.write_faults now) where
-    cut : (bs : List ℕ) → AppendsFront old.got told bs → AppendsFront old.got got bs
+    cut : (bs : List ℕ) → AppendsPrefix old.got told bs → AppendsPrefix old.got got bs
     cut bs w = cut_front old.got told got bs grows short w
 
-    cut_whole : (bs : List ℕ) → Appends old.got told bs → AppendsFront old.got got bs
+    cut_whole : (bs : List ℕ) → Appends old.got told bs → AppendsPrefix old.got got bs
     cut_whole bs w = cut bs (whole_front old.got told bs w)
 
     pub sealing_cut : (k : StreamKey) (aad salt prefix : List ℕ) (answer : Result Report TinkError) → SealingMeans k aad salt prefix old in_between answer → SinkFailed k aad salt prefix old in_the_end
@@ -186,7 +186,7 @@ module _ (old : Outside) (left : Option (List ℕ)) (reads : ℕ) (told got : Op
         go TooManySegments r = record { text = r.text; read = r.read; written = inl (cut (part k aad salt prefix r.text) (longest_front k aad salt prefix r.text old.got told r.written)); rose = rose }
         go _ r = absurd r
 
-    broken : (keys : List OpeningKey) (texts : List (List ℕ)) → IfSome old.left (λ S. Lead keys S texts) → AppendsFront old.got told (joined texts) → IsBroken keys old in_the_end
+    broken : (keys : List OpeningKey) (texts : List (List ℕ)) → IfSome old.left (λ S. Lead keys S texts) → AppendsPrefix old.got told (joined texts) → IsBroken keys old in_the_end
     broken keys texts lead w = record { texts = texts; lead = lead; written = cut (joined texts) w }
 
     until : (keys : List OpeningKey) (texts : List (List ℕ)) (P : List ℕ → OpeningKey → Type 0) → IfSome old.left (λ S. AgreesUntil keys S texts (P S)) → Appends old.got told (joined texts) → IsBroken keys old in_the_end
