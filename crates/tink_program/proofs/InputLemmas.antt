@@ -8,9 +8,9 @@ use Rattle.tink_run.specs.Outside.{Outside, HasNoFault}
 use Rattle.tink_run.specs.Run.{Told}
 use Rattle.tink_run_tokens.specs.Inputs.{input_limit, HasTooMuch, InputRefused, IsOfInput, IsUnloadable, IsUnwritten, LeavesSink}
 use Rattle.tink_run_tokens.proofs.ToldLemmas.{long_told, never_loaded, not_long, one_refusal}
-use Rattle.tink_program.specs.Program.{kind_status, own_statuses, reads_first, refused_statuses, IsAmong, IsCause, IsEarlyKind, IsUnusableBy, IsUnwrittenKind}
+use Rattle.tink_program.specs.Program.{kind_status, own_statuses, reads_first, refused_statuses, IsAmong, IsCause, IsEarlyKind, IsUnusableBy}
 use Rattle.tink_program.specs.Words.{Asked}
-use Rattle.tink_program.proofs.StatusLemmas.{above_2, unwritten_kinds, CommandFacts}
+use Rattle.tink_program.proofs.StatusLemmas.{above_2, CommandFacts}
 
 module _ {L : Type 0} (loading : Result L Kind) (Refuses : Outside → Outside → L → List ℕ → Kind → Type 0)
     (late : (old new : Outside) (loaded : L) (input : List ℕ) (kind : Kind) → Refuses old new loaded input kind → IsEarlyKind kind → ⊥)
@@ -26,10 +26,10 @@ module _ {L : Type 0} (loading : Result L Kind) (Refuses : Outside → Outside �
 
   pub refusal_leaves : {S K : Type 0} (old new : Outside) (kind : Kind) (s t : S) (k l : K) → InputRefused loading (Refuses old new) old new kind
       → (IsUnloadable kind → t ≡ s) → (IsUnwritten kind → l ≡ k)
-      → (IsEarlyKind kind → t ≡ s) × (IsUnwrittenKind kind → l ≡ k) × (kind ≡ OutOfMemory → (true ≡ true) ⊎ (t ≡ s))
+      → (IsEarlyKind kind → t ≡ s) × (IsUnwritten kind → l ≡ k) × (kind ≡ OutOfMemory → (true ≡ true) ⊎ (t ≡ s))
   refusal_leaves old new kind s t k l m unread unwritten = (
     λ is. unread (early old new kind m is),
-    λ none. unwritten (unwritten_kinds kind none),
+    unwritten,
     λ _. inl refl,
   )
 

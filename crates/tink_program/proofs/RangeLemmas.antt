@@ -1,5 +1,5 @@
 -- What a range says by its answer, it says by its status.
-use Rattle.std.proofs.Common.{◌≡◌, inl, inr, ◌≤◌, ◌+◌, ℕ, List, length, true, Some, refl, subst, arith}
+use Rattle.std.proofs.Common.{◌≡◌, ◌⊎◌, inl, inr, ◌≤◌, ◌+◌, ℕ, List, length, true, Some, refl, subst, arith}
 use Rattle.std.specs.Prelude.{Option, Result, Ok, Err, IfErr}
 use Rattle.tink_io.specs.Faults.{Rose}
 use Rattle.tink_io.specs.declared.error.Kind.{Kind}
@@ -15,10 +15,11 @@ use Rattle.tink_run.specs.Run.{CanOpen, Told}
 use Rattle.tink_run.proofs.OpenLemmas.{chosen_lawful}
 use Rattle.tink_run.proofs.RunLemmas.{told_appended}
 use Rattle.tink_run_range.specs.KeysetRanges.{GivesSlice}
+use Rattle.tink_run_range.specs.SetRanges.{WritesNoRange}
 use Rattle.tink_run_tokens.specs.Inputs.{input_limit, InputRefused, IsOfInput, IsUnloadable}
 use Rattle.tink_run_tokens.proofs.ToldLemmas.{not_long, of_loaded, of_told, one_load}
-use Rattle.tink_program.specs.Program.{answer_outcome, kind_status, own_statuses, status_of, IsAmong, IsEarlyKind, Leaves}
-use Rattle.tink_program.specs.Ranges.{IsRangeWhole, IsUnranged, RangeAnswer, RangeOutcome, RangePromises, RangesInput, RefusesRange, SinkAt, StopsRange, moments_of}
+use Rattle.tink_program.specs.Program.{answer_outcome, kind_status, own_statuses, status_of, IsAmong, IsEarlyKind, IsUnwrittenBy, Leaves}
+use Rattle.tink_program.specs.Ranges.{HoldsNoInput, IsRangeWhole, RangeAnswer, RangeOutcome, RangePromises, RangesInput, RefusesRange, SinkAt, StopsRange, moments_of}
 use Rattle.tink_program.specs.Words.Asked.{Ranging}
 use Rattle.tink_program.specs.declared.program.Outcome.{Outcome}
 use Rattle.tink_program.specs.declared.program.Outcome.TheVariants.{Done, Usage, Refused}
@@ -52,13 +53,33 @@ module _ (keyset aad : List ℕ) (start len : ℕ) where
   range_outcome old new (Ok n) m = (n, m)
   range_outcome old new (Err e) m = m
 
+  -- where nothing was written, no input was held, or no range of it was written
+  held : (old new : Outside) (kind : Kind) → InputRefused (load keyset) (RefusesRange aad start len old new) old new kind
+      → IsUnwrittenBy (Ranging keyset aad start len) kind → HoldsNoInput kind ⊎ WritesNoRange kind
+  held old new OutOfMemory m none = inl tt
+  held old new BadKeyset m none = inl tt
+  held old new InvalidKeyset m none = inl tt
+  held old new UnsupportedKeyType m none = inl tt
+  held old new InvalidKey m none = inl tt
+  held old new NoPrimary m none = inl tt
+  held old new WrongPrimitive m none = inl tt
+  held old new ReadFault m none = inl tt
+  held old new InputTooLong m none = inl tt
+  held old new NoMatchingKey m none = inr tt
+  held old new TooManySegments m none = inr tt
+  held old new (Truncated n) m none = inr tt
+  held old new WriteFault m none = elim none [ inl is ↦ absurd is | inr is ↦ is ]
+  held old new (BadSegment n) m none = elim none [ inl is ↦ absurd is | inr is ↦ is ]
+  held old new _ m none = absurd m.then
+
   -- what an outcome leaves of the ends themselves
   pub range_leaves : {S K : Type 0} (old new : Outside) (answer : Result ℕ TinkError) (s t : S) (k l : K) → RangeAnswer keyset aad start len old new answer
-      → IfErr answer (λ e. IsUnloadable e.kind → t ≡ s) → IfErr answer (λ e. IsUnranged e.kind → l ≡ k) → Leaves true (λ kind. IsUnranged kind) (answer_outcome answer) s t k l
+      → IfErr answer (λ e. IsUnloadable e.kind → t ≡ s) → IfErr answer (λ e. HoldsNoInput e.kind ⊎ WritesNoRange e.kind → l ≡ k)
+      → Leaves true (λ kind. IsUnwrittenBy (Ranging keyset aad start len) kind) (answer_outcome answer) s t k l
   range_leaves old new (Ok n) s t k l m unread unwritten = tt
   range_leaves old new (Err e) s t k l m unread unwritten = (
     λ is. unread (early (load keyset) refuses late rose old new e.kind m is),
-    λ none. unwritten none,
+    λ none. unwritten (held old new e.kind m none),
     λ _. inl refl,
   )
 

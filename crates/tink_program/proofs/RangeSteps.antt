@@ -1,5 +1,5 @@
 -- A range, from the calls to the answer.
-use Rattle.std.proofs.Common.{◌≡◌, inl, inr, ℕ, List, length, Some, refl, ap, subst, arith}
+use Rattle.std.proofs.Common.{◌≡◌, ◌⊎◌, inl, inr, ℕ, List, length, Some, refl, ap, subst, arith}
 use Rattle.std.specs.Prelude.{Option, Result, Ok, Err, IfErr}
 use Rattle.tink_io.specs.declared.error.Kind.{Kind}
 use Rattle.tink_io.specs.declared.error.Kind.TheVariants.{OutOfMemory, ReadFault, WriteFault, BadKeyset, InvalidKeyset, UnsupportedKeyType, InvalidKey, NoPrimary, WrongPrimitive, InputTooLong, TooManySegments, NoMatchingKey, BadSegment, Truncated}
@@ -19,7 +19,7 @@ use Rattle.tink_run.proofs.RowFacts.{load_refuses}
 use Rattle.tink_run_range.specs.SetRanges.{LeavesRangeEnds, LeavesUnwritten, RangesOf, RangesOfRefused, WritesNoRange}
 use Rattle.tink_run_tokens.specs.Inputs.{input_limit, InputRefused, IsUnloadable, ReadsInput}
 use Rattle.tink_run_tokens.proofs.InputSteps.{input_unread, unloaded}
-use Rattle.tink_program.specs.Ranges.{IsUnranged, RangeAnswer, RefusesRange, SinkAt}
+use Rattle.tink_program.specs.Ranges.{HoldsNoInput, RangeAnswer, RefusesRange, SinkAt}
 
 -- ---- of a sink, and of what it has got
 
@@ -123,18 +123,18 @@ module _ (aad : List ℕ) (start len : ℕ) {W : Type 0} (got : W → Option (Li
 
   -- what is left of the ends
   sink_left : {O : Type 0} (o p : O) (kind : Kind) → RangesOfRefused got faults (opening_keys aad loaded) (length input) start len held kind
-      → (IsEarly kind → (p ≡ o) × (l ≡ k)) → (WritesNoRange kind → l ≡ k) → IsUnranged kind → l ≡ k
+      → (IsEarly kind → (p ≡ o) × (l ≡ k)) → (WritesNoRange kind → l ≡ k) → HoldsNoInput kind ⊎ WritesNoRange kind → l ≡ k
   sink_left o p OutOfMemory x early none is = (early tt).1
   sink_left o p ReadFault x early none is = no_fault x
   sink_left o p NoMatchingKey x early none is = none tt
   sink_left o p TooManySegments x early none is = none tt
   sink_left o p (Truncated n) x early none is = none tt
-  sink_left o p WriteFault x early none is = absurd is
-  sink_left o p (BadSegment n) x early none is = absurd is
+  sink_left o p WriteFault x early none is = elim is [ inl held ↦ absurd held | inr written ↦ absurd written ]
+  sink_left o p (BadSegment n) x early none is = elim is [ inl held ↦ absurd held | inr written ↦ absurd written ]
   sink_left o p _ x early none is = absurd x
 
   pub unranged : {O : Type 0} (o p : O) (answer : Result ℕ TinkError) → RangesOf got faults (opening_keys aad loaded) (length input) start len held answer
-      → LeavesRangeEnds answer o p k l → LeavesUnwritten answer k l → IfErr answer (λ e. IsUnranged e.kind → l ≡ k)
+      → LeavesRangeEnds answer o p k l → LeavesUnwritten answer k l → IfErr answer (λ e. HoldsNoInput e.kind ⊎ WritesNoRange e.kind → l ≡ k)
   unranged o p (Ok n) x early none = tt
   unranged o p (Err e) x early none = sink_left o p e.kind x early none
 

@@ -6,13 +6,13 @@ use Rattle.tink_io.specs.declared.error.Kind.{Kind}
 use Rattle.tink_io.specs.declared.error.Kind.TheVariants.{OutOfMemory, ReadFault, WriteFault, RandomFault, BadKeyset, InvalidKeyset, UnsupportedKeyType, InvalidKey, NoPrimary, WrongPrimitive, UnsupportedHash, TooManySegments, NoMatchingKey, BadSegment, Truncated, UnknownTemplate, NoFreshId, InputTooLong, BadToken, MacMismatch}
 use Rattle.tink_io.specs.declared.error.TinkError.{TinkError}
 use Rattle.tink_run.specs.Outside.{Outside, IsUntouched}
-use Rattle.tink_run.specs.Run.{IsEarly, LeavesEnds, LeavesSinkItself, WritesNothing}
+use Rattle.tink_run.specs.Run.{IsEarly, WritesNothing}
 use Rattle.tink_run.specs.declared.report.Report.{Report}
 use Rattle.tink_rewrap.specs.Rewrapping.{RewrapMeans, RewrapsLoaded, Sides}
 use Rattle.tink_rewrap.proofs.PromiseSteps.{complete, unended}
 use Rattle.tink_program.specs.Draws.{draws_in}
 use Rattle.tink_program.specs.Program.{answer_outcome, kind_status, own_statuses, refused_statuses, status_by, status_of, IsAmong, IsEarlyKind, IsUnwrittenKind, Leaves}
-use Rattle.tink_program.specs.Streams.{IsUnmovable, Moved, MovesWhole, RewrapOutcome, RewrapPromises}
+use Rattle.tink_program.specs.Streams.{IsUnmovable, Moved, MovesWhole, RewrapOutcome, RewrapPromises, SparesEnds}
 use Rattle.tink_program.specs.Words.Asked.{Rewrapping}
 use Rattle.tink_program.specs.declared.program.Outcome.{Outcome}
 use Rattle.tink_program.specs.declared.program.Outcome.TheVariants.{Done, Usage, Refused}
@@ -51,12 +51,12 @@ unwritten_rewrap sides draws left_draws old new _ m none = none
 
 -- an outcome leaves what its answer leaves
 pub rewrap_leaves : {S K : Type 0} (sides : Sides) (draws : List ℕ) (old new : Outside) (answer : Result Report TinkError) (s t : S) (k l : K)
-    → Moved sides draws old new answer → LeavesEnds answer s t k l → LeavesSinkItself answer k l → Leaves false (λ kind. IsUnwrittenKind kind) (answer_outcome answer) s t k l
-rewrap_leaves sides draws old new (Ok report) s t k l moved h unwritten = tt
-rewrap_leaves sides draws old new (Err e) s t k l moved h unwritten = (
-  λ is. (h (early_rewrap sides draws moved.left_draws old new e.kind moved.means is)).0,
-  λ is. unwritten (unwritten_rewrap sides draws moved.left_draws old new e.kind moved.means is),
-  λ is. inr (h (rw is tt)).0,
+    → Moved sides draws old new answer → SparesEnds answer s t k l → Leaves false (λ kind. IsUnwrittenKind kind) (answer_outcome answer) s t k l
+rewrap_leaves sides draws old new (Ok report) s t k l moved spares = tt
+rewrap_leaves sides draws old new (Err e) s t k l moved spares = (
+  λ is. (spares.early (early_rewrap sides draws moved.left_draws old new e.kind moved.means is)).0,
+  λ is. spares.unwritten (unwritten_rewrap sides draws moved.left_draws old new e.kind moved.means is),
+  λ is. inr (spares.early (rw is tt)).0,
 )
 
 -- ---- what a status says

@@ -2,13 +2,12 @@
 use Rattle.std.proofs.Common.{◌≡◌, ◌⊎◌, inl, inr, ◌<◌, ℕ, List, true, refl, ap, arith}
 use Rattle.tink_io.specs.Faults.{Rose}
 use Rattle.tink_io.specs.declared.error.Kind.{Kind}
-use Rattle.tink_io.specs.declared.error.Kind.TheVariants.{OutOfMemory, WriteFault, BadKeyset, InvalidKeyset, UnsupportedKeyType, InvalidKey, NoPrimary, WrongPrimitive, UnsupportedHash, TooManySegments, NoMatchingKey, BadSegment, Truncated, UnknownTemplate, NoFreshId, InputTooLong, BadToken, MacMismatch}
+use Rattle.tink_io.specs.declared.error.Kind.TheVariants.{OutOfMemory, ReadFault, WriteFault, BadKeyset, InvalidKeyset, UnsupportedKeyType, InvalidKey, NoPrimary, WrongPrimitive, UnsupportedHash, TooManySegments, NoMatchingKey, Truncated, UnknownTemplate, NoFreshId, InputTooLong, BadToken, MacMismatch}
 use Rattle.tink_run.specs.Outside.{Outside, IsUntouched}
 use Rattle.tink_program.specs.declared.program.Outcome.{Outcome}
 use Rattle.tink_program.specs.declared.program.Outcome.TheVariants.{Done, Usage, Refused}
-use Rattle.tink_program.specs.Program.{early_statuses, is_ranging, kind_status, own_statuses, reads_first, refused_statuses, status_of, unranged_statuses, unwritten_statuses, IsAmong, IsCause, IsEarlyKind, IsRanging, IsReadingFirst, IsUnusableBy, IsUnwrittenBy, IsUnwrittenKind, KeepsEnds, Leaves, StatusMeans}
+use Rattle.tink_program.specs.Program.{early_statuses, kind_status, late_statuses, own_statuses, reads_first, refused_statuses, status_of, unwritten_statuses, IsAmong, IsCause, IsEarlyKind, IsReadingFirst, IsUnusableBy, IsUnwrittenBy, IsUnwrittenKind, KeepsEnds, Leaves, StatusMeans}
 use Rattle.tink_run_tokens.specs.Inputs.{IsUnwritten, LeavesSink}
-use Rattle.tink_program.specs.Ranges.{IsUnranged}
 use Rattle.tink_program.specs.Words.{Asked, SpellNothing, Spells}
 use Rattle.tink_program.specs.Words.Asked.{Making, Measuring, Opening, Ranging, Rewrapping, Rotating, Sealing, Signing, Verifying}
 use Rattle.tink_program.proofs.Spelling.{along}
@@ -125,25 +124,30 @@ unwritten_kind UnknownTemplate is = tt
 unwritten_kind NoFreshId is = tt
 unwritten_kind _ is = absurd (cc is)
 
--- by such a kind nothing of a range is written
-unranged_kinds : (kind : Kind) → IsUnwrittenKind kind → IsUnranged kind
-unranged_kinds WriteFault unwritten = unwritten
-unranged_kinds (BadSegment n) unwritten = unwritten
-unranged_kinds _ unwritten = tt
-
 unwritten_by : (a : Asked) (kind : Kind) → IsUnwrittenKind kind → IsUnwrittenBy a kind
-unwritten_by (Ranging keyset aad start len) kind unwritten = unranged_kinds kind unwritten
+unwritten_by (Ranging keyset aad start len) kind unwritten = inl unwritten
+unwritten_by (Signing keyset) kind unwritten = unwritten_kinds kind unwritten
+unwritten_by (Verifying keyset) kind unwritten = unwritten_kinds kind unwritten
 unwritten_by _ kind unwritten = unwritten
 
--- nor by the kinds of these statuses
-unranged_by : (a : Asked) (kind : Kind) → is_ranging a ≡ true → IsAmong unranged_statuses (kind_status kind) → IsUnwrittenBy a kind
-unranged_by (Ranging keyset aad start len) TooManySegments is among = tt
-unranged_by (Ranging keyset aad start len) (Truncated n) is among = tt
-unranged_by (Ranging keyset aad start len) _ is among = absurd (cc among)
-unranged_by _ kind is among = absurd (cc is)
+-- by the kinds of the late statuses nothing is written either
+late_by : (a : Asked) (kind : Kind) → IsAmong (late_statuses a) (kind_status kind) → IsUnwrittenBy a kind
+late_by (Ranging keyset aad start len) ReadFault among = inr (inl tt)
+late_by (Ranging keyset aad start len) TooManySegments among = inr (inr tt)
+late_by (Ranging keyset aad start len) (Truncated n) among = inr (inr tt)
+late_by (Ranging keyset aad start len) _ among = absurd (cc among)
+late_by (Signing keyset) ReadFault among = tt
+late_by (Signing keyset) _ among = absurd (cc among)
+late_by (Verifying keyset) ReadFault among = tt
+late_by (Verifying keyset) _ among = absurd (cc among)
+late_by _ kind among = absurd (cc among)
 
-is_ranging_words : (words : List (List ℕ)) (a : Asked) → Spells words a → IsRanging words → is_ranging a ≡ true
-is_ranging_words words a spelled (b, other, is) = along (λ x. is_ranging x ≡ true) words b a other spelled is
+-- 0 is none of them
+none_done : {A : Type 0} (a : Asked) → IsAmong (late_statuses a) 0 → A
+none_done (Ranging keyset aad start len) among = absurd (cc among)
+none_done (Signing keyset) among = absurd (cc among)
+none_done (Verifying keyset) among = absurd (cc among)
+none_done _ among = absurd (cc among)
 
 want_kind : (kind : Kind) → kind_status kind ≡ 10 → kind ≡ OutOfMemory
 want_kind OutOfMemory is = refl
@@ -155,22 +159,22 @@ pub command_keeps : {S K : Type 0} (words : List (List ℕ)) (a : Asked) (outcom
 command_keeps words a Done s t k l spelled left = record {
   unread = λ is. absurd (cc is);
   unwritten = λ is. absurd (cc is);
-  unranged = λ ranging is. absurd (cc is);
+  late = λ b other among. none_done b among;
   want = λ is. absurd (omega (arith, is));
 }
 command_keeps words a Usage s t k l spelled left = record {
   unread = λ _. left.0;
   unwritten = λ _. left.1;
-  unranged = λ _ _. left.1;
+  late = λ b other among. left.1;
   want = λ is. absurd (omega (arith, is));
 }
 command_keeps words a (Refused kind) s t k l spelled left = record {
   unread = λ is. left.0 (early_kind kind is);
   unwritten = λ is. left.1 (unwritten_by a kind (unwritten_kind kind is));
-  unranged = λ ranging is. left.1 (unranged_by a kind (is_ranging_words words a spelled ranging) is);
+  late = λ b other among. left.1 (late_by a kind (along (λ x. IsAmong (late_statuses x) (kind_status kind)) words b a other spelled among));
   want = λ is. elim (left.2 (want_kind kind is)) [ inl reads ↦ inl (a, spelled, reads) | inr same ↦ inr same ];
 }
 
 -- nothing was touched
 pub all_kept : {S K : Type 0} (words : List (List ℕ)) (status : ℕ) (s : S) (k : K) → KeepsEnds words status s s k k
-all_kept words status s k = record { unread = λ _. refl; unwritten = λ _. refl; unranged = λ _ _. refl; want = λ _. inr refl }
+all_kept words status s k = record { unread = λ _. refl; unwritten = λ _. refl; late = λ _ _ _. refl; want = λ _. inr refl }

@@ -13,15 +13,16 @@ use Rattle.stream_model.specs.Key.{IsUsable}
 use Rattle.stream_model.specs.Sealing.{drawn}
 use Rattle.tink_run.specs.AllKeys.{load}
 use Rattle.tink_run.specs.Outside.{Outside, IsUntouched}
-use Rattle.tink_run.specs.Run.{AnswerMeans, IsEarly, IsOkOrWant, LeavesEnds, LeavesSinkItself, WritesNothing}
+use Rattle.tink_run.specs.Run.{AnswerMeans, IsEarly, IsOkOrWant, LeavesSinkItself, WritesNothing}
 use Rattle.tink_run.specs.declared.report.Command.{Command}
 use Rattle.tink_run.specs.declared.report.Command.TheVariants.{Seal, Open}
 use Rattle.tink_run.specs.declared.report.Report.{Report}
 use Rattle.tink_run.proofs.Promises.{only_agreeing}
 use Rattle.tink_run.proofs.RowFacts.{loaded_usable}
+use Rattle.tink_run.proofs.RunSteps.{leaves_same}
 use Rattle.tink_program.specs.Draws.{draws_in}
 use Rattle.tink_program.specs.Program.{answer_outcome, kind_status, own_statuses, refused_statuses, status_of, IsAmong, IsEarlyKind, IsUnwrittenKind, Leaves}
-use Rattle.tink_program.specs.Streams.{IsDoneOrWant, OpenPromises, OpensWhole, Ran, SealPromises, SealsWhole, StopsUnmarked, StreamMeans}
+use Rattle.tink_program.specs.Streams.{IsDoneOrWant, OpenPromises, OpensWhole, Ran, SealPromises, SealsWhole, SparesEnds, StopsUnmarked, StreamMeans}
 use Rattle.tink_program.specs.Words.Asked.{Opening, Sealing}
 use Rattle.tink_program.specs.declared.program.Outcome.{Outcome}
 use Rattle.tink_program.specs.declared.program.Outcome.TheVariants.{Done, Usage, Refused}
@@ -98,14 +99,22 @@ unwritten_run Open keyset aad draws left_draws old new MacMismatch m none = absu
 unwritten_run Open keyset aad draws left_draws old new RandomFault m none = tt
 unwritten_run Open keyset aad draws left_draws old new _ m none = none
 
+-- ends that stay as they were are spared by every answer
+pub spared_same : {S K : Type 0} (answer : Result Report TinkError) (source : S) (sink : K) → SparesEnds answer source source sink sink
+spared_same answer source sink = record { early = leaves_same answer source sink; unwritten = sink_same answer }
+  where
+    sink_same : (given : Result Report TinkError) → LeavesSinkItself given sink sink
+    sink_same (Ok report) = tt
+    sink_same (Err e) = λ none. refl
+
 -- an outcome leaves what its answer leaves
 pub leaves_by : {S K : Type 0} (command : Command) (keyset aad draws : List ℕ) (old new : Outside) (answer : Result Report TinkError) (s t : S) (k l : K)
-    → Ran command keyset aad draws old new answer → LeavesEnds answer s t k l → LeavesSinkItself answer k l → Leaves false (λ kind. IsUnwrittenKind kind) (answer_outcome answer) s t k l
-leaves_by command keyset aad draws old new (Ok report) s t k l ran h unwritten = tt
-leaves_by command keyset aad draws old new (Err e) s t k l ran h unwritten = (
-  λ is. (h (early_run command keyset aad draws ran.left_draws old new e.kind ran.means is)).0,
-  λ is. unwritten (unwritten_run command keyset aad draws ran.left_draws old new e.kind ran.means is),
-  λ is. inr (h (rw is tt)).0,
+    → Ran command keyset aad draws old new answer → SparesEnds answer s t k l → Leaves false (λ kind. IsUnwrittenKind kind) (answer_outcome answer) s t k l
+leaves_by command keyset aad draws old new (Ok report) s t k l ran spares = tt
+leaves_by command keyset aad draws old new (Err e) s t k l ran spares = (
+  λ is. (spares.early (early_run command keyset aad draws ran.left_draws old new e.kind ran.means is)).0,
+  λ is. spares.unwritten (unwritten_run command keyset aad draws ran.left_draws old new e.kind ran.means is),
+  λ is. inr (spares.early (rw is tt)).0,
 )
 
 -- ---- what a status says

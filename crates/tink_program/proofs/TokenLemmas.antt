@@ -16,7 +16,7 @@ use Rattle.tink_run.specs.Run.{Told}
 use Rattle.tink_run_tokens.specs.Inputs.{input_limit, IsOfInput, IsUnloadable, IsUnwritten}
 use Rattle.tink_run_tokens.specs.Tokens.{macs_of, CanAnswer, CannotAnswer, GaveOutput, Macs, RefusesSigning, RefusesVerifying, SignsTo, TokenMeans, TokenRefused, TokenRefuses, VerifiesTo}
 use Rattle.tink_run_tokens.proofs.ToldLemmas.{answered_whole, not_long, of_loaded}
-use Rattle.tink_program.specs.Program.{answer_outcome, kind_status, own_statuses, status_of, IsAmong, IsEarlyKind, IsUnwrittenKind, Leaves}
+use Rattle.tink_program.specs.Program.{answer_outcome, kind_status, own_statuses, status_of, IsAmong, IsEarlyKind, Leaves}
 use Rattle.tink_program.specs.TokenPromises.{TokenOutcome, TokenPromises}
 use Rattle.tink_program.specs.Words.Asked.{Signing, Verifying}
 use Rattle.tink_program.specs.declared.program.Outcome.{Outcome}
@@ -39,7 +39,7 @@ module _ (Gives : Macs → List ℕ → List ℕ → Type 0) (Refuses : Macs →
 
   -- what an outcome leaves of the ends themselves
   leaves : {S K : Type 0} (late : AreLate Gives Refuses) (old new : Outside) (answer : Result (Unit {0}) TinkError) (s t : S) (k l : K) → TokenMeans Gives Refuses keyset old new answer
-      → IfErr answer (λ e. IsUnloadable e.kind → t ≡ s) → IfErr answer (λ e. IsUnwritten e.kind → l ≡ k) → Leaves true (λ kind. IsUnwrittenKind kind) (answer_outcome answer) s t k l
+      → IfErr answer (λ e. IsUnloadable e.kind → t ≡ s) → IfErr answer (λ e. IsUnwritten e.kind → l ≡ k) → Leaves true (λ kind. IsUnwritten kind) (answer_outcome answer) s t k l
   leaves late old new (Ok done) s t k l m unread unwritten = tt
   leaves late old new (Err e) s t k l m unread unwritten =
       refusal_leaves (macs_of keyset) (TokenRefuses Gives Refuses) late (rose Gives Refuses) old new e.kind s t k l m unread unwritten
@@ -131,7 +131,7 @@ sign_facts keyset old new (Refused kind) m =
     refusal_facts (macs_of keyset) (TokenRefuses SignsTo RefusesSigning) sign_late (rose SignsTo RefusesSigning) (Signing keyset) (λ kind is. is) (λ kind is. is) refl (sign_own keyset) old new kind m
 
 pub sign_leaves : {S K : Type 0} (keyset : List ℕ) (old new : Outside) (answer : Result (Unit {0}) TinkError) (s t : S) (k l : K) → TokenMeans SignsTo RefusesSigning keyset old new answer
-    → IfErr answer (λ e. IsUnloadable e.kind → t ≡ s) → IfErr answer (λ e. IsUnwritten e.kind → l ≡ k) → Leaves true (λ kind. IsUnwrittenKind kind) (answer_outcome answer) s t k l
+    → IfErr answer (λ e. IsUnloadable e.kind → t ≡ s) → IfErr answer (λ e. IsUnwritten e.kind → l ≡ k) → Leaves true (λ kind. IsUnwritten kind) (answer_outcome answer) s t k l
 sign_leaves keyset old new answer s t k l m unread unwritten = leaves SignsTo RefusesSigning keyset sign_late old new answer s t k l m unread unwritten
 
 pub sign_promised : (keyset : List ℕ) (old new : Outside) (outcome : Outcome) → TokenOutcome SignsTo RefusesSigning keyset old new outcome → LosesAtMost (input_limit + 1) old.left new.left
@@ -170,7 +170,7 @@ verify_facts keyset old new (Refused kind) m =
     refusal_facts (macs_of keyset) (TokenRefuses VerifiesTo RefusesVerifying) verify_late (rose VerifiesTo RefusesVerifying) (Verifying keyset) (λ kind is. is) (λ kind is. is) refl (verify_own keyset) old new kind m
 
 pub verify_leaves : {S K : Type 0} (keyset : List ℕ) (old new : Outside) (answer : Result (Unit {0}) TinkError) (s t : S) (k l : K) → TokenMeans VerifiesTo RefusesVerifying keyset old new answer
-    → IfErr answer (λ e. IsUnloadable e.kind → t ≡ s) → IfErr answer (λ e. IsUnwritten e.kind → l ≡ k) → Leaves true (λ kind. IsUnwrittenKind kind) (answer_outcome answer) s t k l
+    → IfErr answer (λ e. IsUnloadable e.kind → t ≡ s) → IfErr answer (λ e. IsUnwritten e.kind → l ≡ k) → Leaves true (λ kind. IsUnwritten kind) (answer_outcome answer) s t k l
 verify_leaves keyset old new answer s t k l m unread unwritten = leaves VerifiesTo RefusesVerifying keyset verify_late old new answer s t k l m unread unwritten
 
 -- a token has one answer

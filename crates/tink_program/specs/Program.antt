@@ -10,14 +10,15 @@ use Rattle.tink_io.specs.declared.error.TinkError.{TinkError}
 use Rattle.tink_run.specs.AllKeys.{load}
 use Rattle.tink_run.specs.Outside.{Outside, IsUntouched}
 use Rattle.tink_run.specs.declared.report.Command.TheVariants.{Seal, Open}
-use Rattle.tink_run_tokens.specs.Inputs.{LeavesSink}
+use Rattle.tink_run_range.specs.SetRanges.{WritesNoRange}
+use Rattle.tink_run_tokens.specs.Inputs.{IsUnwritten, LeavesSink}
 use Rattle.tink_run_tokens.specs.Tokens.{macs_of, RefusesSigning, RefusesVerifying, SignsTo, VerifiesTo}
 use Rattle.tink_program.specs.declared.program.Outcome.{Outcome}
 use Rattle.tink_program.specs.declared.program.Outcome.TheVariants.{Done, Usage, Refused}
 use Rattle.tink_program.specs.Draws.{draws_in}
 use Rattle.tink_program.specs.Keysets.{made_keyset, of_keyset, of_no_keys, IsUnmadeBy, KeysetMeans, MakesKeyset}
 use Rattle.tink_program.specs.Large.{LargeMeans, MeasuresLarge}
-use Rattle.tink_program.specs.Ranges.{IsUnranged, RangeOutcome, RangePromises}
+use Rattle.tink_program.specs.Ranges.{HoldsNoInput, RangeOutcome, RangePromises}
 use Rattle.tink_program.specs.Streams.{IsUnmovable, OpenPromises, RewrapOutcome, RewrapPromises, SealPromises, StreamMeans}
 use Rattle.tink_program.specs.TokenPromises.{TokenOutcome, TokenPromises}
 use Rattle.tink_program.specs.Words.{Asked, SpellNothing, Spells}
@@ -212,23 +213,19 @@ early_statuses = 2 ∷ 13 ∷ 14 ∷ 15 ∷ 16 ∷ 17 ∷ 18 ∷ 19 ∷ 24 ∷ 2
 abbrev pub unwritten_statuses : List ℕ
 unwritten_statuses = 10 ∷ 21 ∷ 26 ∷ 27 ∷ 28 ∷ early_statuses
 
--- the statuses of a range that has written nothing besides
-abbrev pub unranged_statuses : List ℕ
-unranged_statuses = 20 ∷ 23 ∷ []
-
-abbrev pub is_ranging : Asked → Bool
-is_ranging (Ranging keyset aad start len) = true
-is_ranging _ = false
-
-abbrev pub IsRanging : List (List ℕ) → Type 0
-IsRanging words = (a : Asked) × Spells words a × (is_ranging a ≡ true)
+-- those by which a command that reads all of its input before it writes has written nothing besides
+abbrev pub late_statuses : Asked → List ℕ
+late_statuses (Ranging keyset aad start len) = 11 ∷ 20 ∷ 23 ∷ []
+late_statuses (Signing keyset) = 11 ∷ []
+late_statuses (Verifying keyset) = 11 ∷ []
+late_statuses _ = []
 
 -- the ends themselves after a status that comes before they are touched
 pub record KeepsEnds {S K : Type 0} (words : List (List ℕ)) (status : ℕ) (source source_after : S) (sink sink_after : K)
     : Type 0 where
   pub unread : IsAmong early_statuses status → source_after ≡ source
   pub unwritten : IsAmong unwritten_statuses status → sink_after ≡ sink
-  pub unranged : IsRanging words → IsAmong unranged_statuses status → sink_after ≡ sink
+  pub late : (a : Asked) → Spells words a → IsAmong (late_statuses a) status → sink_after ≡ sink
   pub want : status ≡ 10 → IsReadingFirst words ⊎ (source_after ≡ source)
 
 -- kinds by which a command is refused before it reads, or writes
@@ -254,7 +251,9 @@ IsUnwrittenKind kind = IsEarlyKind kind
 
 -- kinds by which a command has written nothing
 abbrev pub IsUnwrittenBy : Asked → Kind → Type 0
-IsUnwrittenBy (Ranging keyset aad start len) kind = IsUnranged kind
+IsUnwrittenBy (Ranging keyset aad start len) kind = IsUnwrittenKind kind ⊎ HoldsNoInput kind ⊎ WritesNoRange kind
+IsUnwrittenBy (Signing keyset) kind = IsUnwritten kind
+IsUnwrittenBy (Verifying keyset) kind = IsUnwritten kind
 IsUnwrittenBy _ kind = IsUnwrittenKind kind
 
 -- what an outcome leaves of the ends themselves, of a command that reads first or not, and has written nothing by some

@@ -1,7 +1,7 @@
 -- The command of ranges: each answer with its cause, what stands after each outcome, and what a status promises.
 use Rattle.std.specs.Prelude.{◌≡◌, ◌⊎◌, ◌≤◌, ◌+◌, ℕ, List, length, Option, Some, Result, Ok, Err}
 use Rattle.tink_io.specs.declared.error.Kind.{Kind}
-use Rattle.tink_io.specs.declared.error.Kind.TheVariants.{BadSegment, InputTooLong, WriteFault}
+use Rattle.tink_io.specs.declared.error.Kind.TheVariants.{OutOfMemory, ReadFault, BadSegment, InputTooLong}
 use Rattle.tink_io.specs.declared.error.TinkError.{TinkError}
 use Rattle.loading_model.specs.Loading.{Loaded, opening_keys}
 use Rattle.tink_io.specs.Taken.{LosesAtMost}
@@ -11,7 +11,7 @@ use Rattle.tink_run.specs.AllKeys.{load}
 use Rattle.tink_run.specs.Outside.{Outside, HasNoFault}
 use Rattle.tink_run.specs.Run.{CanOpen, Told}
 use Rattle.tink_run_range.specs.KeysetRanges.{GivesSlice}
-use Rattle.tink_run_tokens.specs.Inputs.{input_limit, HasTooMuch, InputRefused, IsOfInput, IsReadWhole}
+use Rattle.tink_run_tokens.specs.Inputs.{input_limit, HasTooMuch, InputRefused, IsOfInput, IsReadWhole, IsUnloadable}
 use Rattle.tink_program.specs.Streams.{IsDoneOrWant}
 use Rattle.tink_program.specs.declared.program.Outcome.{Outcome}
 use Rattle.tink_program.specs.declared.program.Outcome.TheVariants.{Done, Usage, Refused}
@@ -79,8 +79,9 @@ module _ (keyset aad : List ℕ) (start len : ℕ) where
         → (status ≡ status_of_kind InputTooLong) ⊎ (status ≡ 10)
     pub taken : LosesAtMost (input_limit + 1) old.left new.left
 
--- kinds by which nothing of a range is written
-abbrev pub IsUnranged : Kind → Type 0
-IsUnranged WriteFault = ⊥
-IsUnranged (BadSegment n) = ⊥
-IsUnranged _ = Unit {0}
+-- kinds by which no input is held, so that no range of it is begun
+abbrev pub HoldsNoInput : Kind → Type 0
+HoldsNoInput OutOfMemory = Unit {0}
+HoldsNoInput ReadFault = Unit {0}
+HoldsNoInput InputTooLong = Unit {0}
+HoldsNoInput kind = IsUnloadable kind

@@ -7,7 +7,7 @@ use Rattle.tink_io.specs.declared.error.Kind.TheVariants.{OutOfMemory, RandomFau
 use Rattle.tink_io.specs.declared.error.TinkError.{TinkError}
 use Rattle.tink_run.specs.AllKeys.{load}
 use Rattle.tink_run.specs.Outside.{Outside, IsUntouched, HasNoFault}
-use Rattle.tink_run.specs.Run.{AnswerMeans, Told, OkMeans, IsWholeStream, IsWholeText, IsOfAgreeing, OnlyAgreeing, CanSeal, CanOpen, IsComplete}
+use Rattle.tink_run.specs.Run.{AnswerMeans, Told, OkMeans, IsWholeStream, IsWholeText, IsOfAgreeing, OnlyAgreeing, CanSeal, CanOpen, IsComplete, LeavesEnds, LeavesSinkItself}
 use Rattle.tink_run.specs.SealAnswers.{SourceFailed}
 use Rattle.tink_rewrap.specs.Promises.{CanRewrap, CompletesRewrap, IsWholeRewrap, LeavesUnended}
 use Rattle.tink_rewrap.specs.Rewrapping.{RewrapMeans, SecondRefused, Sides}
@@ -26,6 +26,13 @@ pub record Ran (command : Command) (keyset aad draws : List ℕ) (old new : Outs
       (λ report. (T G : List ℕ) → Told old T G → OkMeans command keyset aad draws left_draws T G new report)
   pub written : OnlyAgreeing command keyset aad old new
   pub succeeds : IsComplete command keyset aad draws old new answer
+
+-- a refusal leaves the ends themselves as they were, where it comes before anything was read, and the sink, where it comes
+-- before anything was written
+pub record SparesEnds {S K : Type 0} (answer : Result Report TinkError) (source source_after : S) (sink sink_after : K)
+    : Type 0 where
+  pub early : LeavesEnds answer source source_after sink sink_after
+  pub unwritten : LeavesSinkItself answer sink sink_after
 
 -- some run gave this answer
 abbrev pub Answered : Command → List ℕ → List ℕ → List ℕ → Outside → Outside → Result Report TinkError → Type 0

@@ -1,5 +1,5 @@
 -- The words that spell a command.
-use Rattle.std.specs.Prelude.{◌≡◌, ◌⊎◌, ◌≤◌, ◌^◌, ◌-◌, ℕ, List, [], ◌∷◌, length, map, codes, decimal, String, string_bytes, Ok, Vec}
+use Rattle.std.specs.Prelude.{◌≡◌, ◌⊎◌, ◌≤◌, ◌^◌, ◌-◌, ℕ, List, [], ◌∷◌, length, codes, decimal, string_bytes, Ok}
 use Rattle.hex.specs.Hex.{decode_of}
 use Rattle.tink_program.specs.declared.words.Parsed.{Parsed}
 use Rattle.tink_program.specs.declared.words.Parsed.TheVariants.{Keygen, Large, Open, Range, Rewrap, Rotate, Seal, Sign, Verify}
@@ -124,14 +124,6 @@ Spells words (Rewrapping sides seed) = RewrapWords words sides seed
 -- the words ask for nothing
 abbrev pub SpellNothing : List (List ℕ) → Type 0
 SpellNothing words = (a : Asked) → Spells words a → ⊥
-
--- the bytes of each word of a command line
-abbrev pub words_in : {A : Type 0} → List (String A) → List (List ℕ)
-words_in words = map (λ w. string_bytes w) words
-
--- the words of a command line
-abbrev pub words_of : {A G : Type 0} → Vec (String A) G → List (List ℕ)
-words_of words = words_in words.items
 
 -- what a stream is moved between
 abbrev pub sides_of : RewrapArgs → Sides

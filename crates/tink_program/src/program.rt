@@ -4,7 +4,8 @@ ghost use Rattle.std.specs.Prelude.{◌≡◌, ◌≤◌, true};
 ghost use Rattle.tink_io.specs.Written.{WritesOrFaults};
 ghost use Rattle.tink_run.specs.Outside.{outside_of};
 ghost use Rattle.tink_program.specs.Program.{CommandMeans, IsUnwrittenBy, KeepsEnds, Leaves, LeavesSource, OutcomeMeans, ProgramMeans, Promised, Promises, StatusMeans, answer_outcome, line_of, reads_first, status_of, takes_no_input};
-ghost use Rattle.tink_program.specs.Words.{asked_of, words_of};
+ghost use Rattle.tink_program.specs.Words.{asked_of};
+ghost use Rattle.tink_words.specs.Forms.{words_of};
 
 use crate::keysets::{write_new, write_rotated};
 use crate::large::write_large;
@@ -38,15 +39,15 @@ pub enum Outcome {
 /// - 10 to 28: it was refused; the line of the refusal's kind is written.
 ///
 /// KEYSET and AAD are hexadecimal, in either case and at least two digits, or `-` for no bytes; TEMPLATE is any word;
-/// SEED is 64 hexadecimal digits, and draws are the first 256 words of its ChaCha20 stream; N is a decimal number
-/// below 1,000,000, and START and LEN are such numbers below 2^64, without a leading zero unless it is 0. `keygen`
-/// writes the line of a keyset of one new key by the template of that name, `rotate` that of KEYSET with such a key as
-/// its primary one, `large` the four lines of the large text of N under the draws of the seed of zeros; they leave the
-/// source as it is. `range` writes the bytes of the text from place START on and below START + LEN, of the stream that
-/// the source has in at most 16,777,216 bytes, once the last chunk and those that the range touches were opened.
-/// `rewrap` moves the stream that the source has from the first keyset to the second. `sign` writes the token of the
-/// source's bytes, at most 16,777,216 of them, and `verify` the payload of the token that the source has. A fault of
-/// `faults` ends the line where it stands, and changes no status.
+/// SEED is 64 hexadecimal digits, and draws are the first 256 words of its ChaCha20 stream; N is a decimal number below
+/// 1,000,000, and START and LEN are such numbers below 2^64, without a leading zero unless it is 0. `keygen` writes the
+/// line of a keyset of one new key by the template of that name, `rotate` that of KEYSET with such a key as its primary
+/// one, `large` the four lines of the large text of N under the draws of the seed of zeros; they leave the source as it
+/// is. `range` writes the bytes of the text from place START on and below START + LEN, of the stream that the source
+/// has in at most 16,777,216 bytes, once the last chunk and those that the range touches were opened. `rewrap` moves
+/// the stream that the source has from the first keyset to the second. `sign` writes the token of the source's bytes,
+/// at most 16,777,216 of them, and `verify` the payload of the token that the source has. A fault of `faults` ends the
+/// line where it stands, and changes no status.
 pub fn program<S: Source, K: Sink, E: Sink>(
     alloc: Global,
     words: &Vec<String>,
@@ -67,7 +68,8 @@ pub fn program<S: Source, K: Sink, E: Sink>(
         (outside_of S.left S.faults K.got K.faults source.new sink.new) result }
 
     // The ends themselves: a status of 2, 13 to 19, 24 or 25 leaves both as they were, and one of 10, 21 or 26 to 28
-    // the sink, of a range one of 20 or 23 too; one of 10 the source too, unless the command reads before it writes.
+    // the sink, of a command that reads all before it writes one of 11 too, and of a range one of 20 or 23; one of 10
+    // the source too, unless the command reads first.
     ensures early { KeepsEnds (words_of words.now) result source.old source.new sink.old sink.new }
 
     // A command that makes a keyset, or measures a large text, leaves the source itself as it was.

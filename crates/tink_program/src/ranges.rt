@@ -1,12 +1,12 @@
 //! The command of ranges.
 
-ghost use Rattle.std.specs.Prelude.{◌≡◌, ◌+◌, ◌<◌, IfErr, Some, length};
+ghost use Rattle.std.specs.Prelude.{◌≡◌, ◌⊎◌, ◌+◌, ◌<◌, IfErr, Some, length};
 ghost use Rattle.loading_model.specs.Loading.{AreUsable, Loaded, opening_keys};
 ghost use Rattle.tink_io.specs.Taken.{LosesAtMost};
-ghost use Rattle.tink_program.specs.Ranges.{IsUnranged, RangeAnswer};
+ghost use Rattle.tink_program.specs.Ranges.{HoldsNoInput, RangeAnswer};
 ghost use Rattle.tink_run.specs.HeldKeys.{HoldsLoaded};
 ghost use Rattle.tink_run.specs.Outside.{outside_of};
-ghost use Rattle.tink_run_range.specs.SetRanges.{LeavesRangeEnds, LeavesUnwritten, RangesOf};
+ghost use Rattle.tink_run_range.specs.SetRanges.{LeavesRangeEnds, LeavesUnwritten, RangesOf, WritesNoRange};
 ghost use Rattle.tink_run_tokens.specs.Inputs.{IsUnloadable, input_limit};
 
 use crate::words::RangeArgs;
@@ -24,9 +24,9 @@ use tink_stream_keys::StreamKind;
 /// Writes a range of the text of the stream that the source has, which is held whole, and answers how many bytes.
 ///
 /// # Errors
-/// The first that applies: why the keyset does not load, with nothing read; `ReadFault`; `InputTooLong` exactly where the
-/// source has more than 16,777,216 bytes; those of `range_of_set`. `OutOfMemory` may come in place of each. Each but
-/// `WriteFault` and `BadSegment` leaves the sink as it is.
+/// The first that applies: why the keyset does not load, with nothing read; `ReadFault`; `InputTooLong` exactly where
+/// the source has more than 16,777,216 bytes; those of `range_of_set`. `OutOfMemory` may come in place of each. Each
+/// but `WriteFault` and `BadSegment` leaves the sink as it is.
 pub fn write_range<S: Source, K: Sink>(
     alloc: Global,
     args: &RangeArgs,
@@ -39,7 +39,7 @@ pub fn write_range<S: Source, K: Sink>(
         result }
     ensures taken { LosesAtMost (input_limit + 1) (S.left source.old) (S.left source.new) }
     ensures unread { IfErr result (λ e. IsUnloadable e.kind → source.new ≡ source.old) }
-    ensures unwritten { IfErr result (λ e. IsUnranged e.kind → sink.new ≡ sink.old) }
+    ensures unwritten { IfErr result (λ e. HoldsNoInput e.kind ⊎ WritesNoRange e.kind → sink.new ≡ sink.old) }
     ensures source { S.same source.old source.new }
     ensures sink { K.same sink.old sink.new }
 {

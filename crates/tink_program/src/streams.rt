@@ -3,9 +3,8 @@
 ghost use Rattle.std.specs.Prelude.{[]};
 ghost use Rattle.tink_run.specs.declared.report.Command.TheVariants.{Seal, Open};
 ghost use Rattle.tink_run.specs.Outside.{outside_of};
-ghost use Rattle.tink_run.specs.Run.{LeavesEnds, LeavesSinkItself};
 ghost use Rattle.tink_program.specs.Draws.{draws_in};
-ghost use Rattle.tink_program.specs.Streams.{Moved, Ran};
+ghost use Rattle.tink_program.specs.Streams.{Moved, Ran, SparesEnds};
 ghost use Rattle.tink_program.specs.Words.{sides_of};
 
 use crate::words::{OpenArgs, RewrapArgs, SealArgs, first_draws};
@@ -26,8 +25,7 @@ pub fn run_seal<S: Source, K: Sink>(
         (outside_of S.left S.faults K.got K.faults source.old sink.old)
         (outside_of S.left S.faults K.got K.faults source.new sink.new)
         result }
-    ensures early { LeavesEnds result source.old source.new sink.old sink.new }
-    ensures unwritten { LeavesSinkItself result sink.old sink.new }
+    ensures ends { SparesEnds result source.old source.new sink.old sink.new }
     ensures source { S.same source.old source.new }
     ensures sink { K.same sink.old sink.new }
 {
@@ -54,8 +52,7 @@ pub fn run_open<S: Source, K: Sink>(
         (outside_of S.left S.faults K.got K.faults source.old sink.old)
         (outside_of S.left S.faults K.got K.faults source.new sink.new)
         result }
-    ensures early { LeavesEnds result source.old source.new sink.old sink.new }
-    ensures unwritten { LeavesSinkItself result sink.old sink.new }
+    ensures ends { SparesEnds result source.old source.new sink.old sink.new }
     ensures source { S.same source.old source.new }
     ensures sink { K.same sink.old sink.new }
 {
@@ -83,8 +80,7 @@ pub fn run_rewrap<S: Source, K: Sink>(
         (outside_of S.left S.faults K.got K.faults source.old sink.old)
         (outside_of S.left S.faults K.got K.faults source.new sink.new)
         result }
-    ensures early { LeavesEnds result source.old source.new sink.old sink.new }
-    ensures unwritten { LeavesSinkItself result sink.old sink.new }
+    ensures ends { SparesEnds result source.old source.new sink.old sink.new }
     ensures source { S.same source.old source.new }
     ensures sink { K.same sink.old sink.new }
 {

@@ -3,8 +3,9 @@
 ghost use Rattle.std.specs.Prelude.{◌≡◌, List, ℕ, IfOk, IfErr, IfSome, IfNone, string_bytes};
 ghost use Rattle.tink_io.specs.declared.error.Kind.TheVariants.{OutOfMemory};
 ghost use Rattle.tink_program.specs.Draws.{draws_in};
-ghost use Rattle.tink_program.specs.Words.{IsBytesWord, IsNumberWord, KeygenWords, LargeWords, OpenWords, RangeWords, RewrapWords, RotateWords, SealWords, SignWords, SpellNothing, Spells, VerifyWords, asked_of, sides_of, words_of};
+ghost use Rattle.tink_program.specs.Words.{IsBytesWord, IsNumberWord, KeygenWords, LargeWords, OpenWords, RangeWords, RewrapWords, RotateWords, SealWords, SignWords, SpellNothing, Spells, VerifyWords, asked_of, sides_of};
 ghost use Rattle.tink_rewrap.specs.Rewrapping.{Sides};
+ghost use Rattle.tink_words.specs.Forms.{words_of};
 
 use hex::{FromHex, FromHexError};
 use rand_chacha::ChaCha20Rng;

@@ -1,5 +1,5 @@
 -- What a new reader of one key's stream says, and what stands after a refusal of one.
-use Rattle.std.specs.Prelude.{◌≡◌, ◌⊎◌, ℕ, ◌<◌, Bool, List, [], length, slice_index, Some, Result, Ok, Err}
+use Rattle.std.specs.Prelude.{◌≡◌, ◌⊎◌, ℕ, ◌<◌, ◌≤◌, Bool, List, [], length, slice_index, Some, Result, Ok, Err}
 use Rattle.std.specs.declared.option.Option.{Option}
 use Rattle.std.specs.Io.KnownBytes.{Consumes, IsAtEnd}
 use Rattle.tink_io.specs.Faults.{Rose}
@@ -72,3 +72,10 @@ NewReaderMeans left faults k aad source (Err refused) = NewReaderRefused left fa
 abbrev pub source_of : {R : Type 0} → Result (ReaderState R StreamSegment) (Refused R) → R
 source_of (Ok r) = r.source
 source_of (Err refused) = refused.inner
+
+-- a call for a new reader of a source: what it answers, that the source's count of faults does not fall, and what it keeps of
+-- the source
+pub record StartsReader {R : Type 0} (left : R → Option (List ℕ)) (faults : R → ℕ) (same : R → R → Type 0) (k : StreamKey) (aad : List ℕ) (source : R) (result : Result (ReaderState R StreamSegment) (Refused R)) : Type 0 where
+  pub means : NewReaderMeans left faults k aad source result
+  pub later : faults source ≤ faults (source_of result)
+  pub kept : same source (source_of result)

@@ -6,6 +6,7 @@ use Rattle.tink_io.specs.Faults.{Rose}
 use Rattle.tink_io.specs.Written.{AppendsPrefix}
 use Rattle.tink_io.specs.declared.error.Kind.{Kind}
 use Rattle.tink_io.specs.declared.error.Kind.TheVariants.{OutOfMemory, RandomFault, UnknownHash, UnsupportedHash, WriteFault}
+use Rattle.tink_primitives.specs.Meaning.{IsEndOf}
 use Rattle.tink_primitives.specs.declared.streams.Refused.{Refused}
 use Rattle.stream_model.specs.Key.{StreamKey, first_room, front, keys_of, room, segment_at}
 use Rattle.stream_model.specs.Sealing.{drawn, prefix_of, salt_of}
@@ -78,3 +79,11 @@ NewWriterMeans got faults k aad draws left sink (Err refused) = NewWriterRefused
 abbrev pub sink_of : {W : Type 0} → Result (WriterState W StreamSegment) (Refused W) → W
 sink_of (Ok w) = w.sink
 sink_of (Err refused) = refused.inner
+
+-- a call for a new writer into a sink: what it answers, that the sink's count of faults does not fall, and what it keeps of
+-- the sink and of the draws
+pub record StartsWriter {W : Type 0} (got : W → Option (List ℕ)) (faults : W → ℕ) (same : W → W → Type 0) (k : StreamKey) (aad draws left : List ℕ) (sink : W) (result : Result (WriterState W StreamSegment) (Refused W)) : Type 0 where
+  pub means : NewWriterMeans got faults k aad draws left sink result
+  pub later : faults sink ≤ faults (sink_of result)
+  pub kept : same sink (sink_of result)
+  pub ends : IsEndOf left draws

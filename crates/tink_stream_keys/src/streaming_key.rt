@@ -1,11 +1,10 @@
 //! A key of streams by one kind of segments.
 
-ghost use Rattle.std.specs.Prelude.{◌≡◌, ◌≤◌, Ok};
+ghost use Rattle.std.specs.Prelude.{◌≡◌, Ok};
 ghost use Rattle.stream_model.specs.Key.{header_length};
 ghost use Rattle.tink_io.specs.Told.{Answers};
-ghost use Rattle.tink_primitives.specs.Meaning.{IsEndOf};
-ghost use Rattle.tink_stream_keys.specs.Decrypting.{NewReaderMeans, source_of};
-ghost use Rattle.tink_stream_keys.specs.Encrypting.{NewWriterMeans, sink_of};
+ghost use Rattle.tink_stream_keys.specs.Decrypting.{StartsReader};
+ghost use Rattle.tink_stream_keys.specs.Encrypting.{StartsWriter};
 ghost use Rattle.tink_stream_keys.specs.StreamingKeys.{with_main};
 
 use crate::decrypting::new_decrypting_reader;
@@ -80,10 +79,7 @@ impl<C> StreamingKey<C> {
         w: K,
         additional_data: &[u8],
     ) -> Result<Writer<K, StreamSegment>, Refused<K>>
-        ensures answer { NewWriterMeans K.got K.faults self.now additional_data.now draws.old draws.new w result }
-        ensures later { K.faults w ≤ K.faults (sink_of result) }
-        ensures same { K.same w (sink_of result) }
-        ensures ends { IsEndOf draws.new draws.old }
+        ensures answer { StartsWriter K.got K.faults K.same self.now additional_data.now draws.old draws.new w result }
     {
         new_encrypting_writer(alloc, self, draws, w, additional_data)
     }
@@ -100,9 +96,7 @@ impl<C> StreamingKey<C> {
         r: S,
         additional_data: &[u8],
     ) -> Result<Reader<S, StreamSegment>, Refused<S>>
-        ensures answer { NewReaderMeans S.left S.faults self.now additional_data.now r result }
-        ensures later { S.faults r ≤ S.faults (source_of result) }
-        ensures same { S.same r (source_of result) }
+        ensures answer { StartsReader S.left S.faults S.same self.now additional_data.now r result }
     {
         new_decrypting_reader(alloc, self, r, additional_data)
     }
@@ -142,10 +136,7 @@ impl<C, S: Source + Drop, K: Sink + Drop> StreamingAead<S, K> for StreamingKey<C
         w: K,
         additional_data: &[u8],
     ) -> Result<Writer<K, StreamSegment>, Refused<K>>
-        ensures answer { NewWriterMeans K.got K.faults self.now additional_data.now draws.old draws.new w result }
-        ensures later { K.faults w ≤ K.faults (sink_of result) }
-        ensures same { K.same w (sink_of result) }
-        ensures ends { IsEndOf draws.new draws.old }
+        ensures answer { StartsWriter K.got K.faults K.same self.now additional_data.now draws.old draws.new w result }
     {
         StreamingKey::new_encrypting_writer(self, alloc, draws, w, additional_data)
     }
@@ -156,9 +147,7 @@ impl<C, S: Source + Drop, K: Sink + Drop> StreamingAead<S, K> for StreamingKey<C
         r: S,
         additional_data: &[u8],
     ) -> Result<Reader<S, StreamSegment>, Refused<S>>
-        ensures answer { NewReaderMeans S.left S.faults self.now additional_data.now r result }
-        ensures later { S.faults r ≤ S.faults (source_of result) }
-        ensures same { S.same r (source_of result) }
+        ensures answer { StartsReader S.left S.faults S.same self.now additional_data.now r result }
     {
         StreamingKey::new_decrypting_reader(self, alloc, r, additional_data)
     }

@@ -1,13 +1,14 @@
 -- A reader of a keyset's streams: what a contract sees of it, and what its reads say.
-use Rattle.std.specs.Prelude.{◌≡◌, ◌+◌, ℕ, Bool, List, [], ◌∷◌, length, map, max, Result, Ok, Err, IfSome, None}
+use Rattle.std.specs.Prelude.{◌≡◌, ◌+◌, ℕ, Bool, List, [], ◌∷◌, length, map, max, All, Result, Ok, Err, IfSome, None}
 use Rattle.std.specs.declared.option.Option.{Option}
 use Rattle.tink_io.specs.Faults.{Rose}
 use Rattle.tink_io.specs.declared.error.Cause.{Cause}
 use Rattle.tink_io.specs.declared.error.Cause.TheVariants as cause
 use Rattle.tink_io.specs.declared.error.Kind.{Kind}
-use Rattle.tink_io.specs.declared.error.Kind.TheVariants.{FailedBefore, NoMatchingKey, ReadFault}
+use Rattle.tink_io.specs.declared.error.Kind.TheVariants.{FailedBefore, NoMatchingKey, OutOfMemory, ReadFault}
 use Rattle.tink_io.specs.declared.error.TinkError.{TinkError}
-use Rattle.stream_model.specs.Key.{StreamKey}
+use Rattle.tink_primitives.specs.declared.streams.Refused.{Refused}
+use Rattle.stream_model.specs.Key.{StreamKey, IsUsable}
 use Rattle.stream_model.specs.Opening.{IsChosen, OpeningKey, opening_key}
 use Rattle.tink_streams.specs.Choosing.{Started}
 use Rattle.tink_streams.specs.Readers.{ReaderState, moment_of, seg_of}
@@ -108,3 +109,19 @@ module _ {S : Type 0} (left : S → Option (List ℕ)) (faults : S → ℕ) wher
   DecryptMeans (Unread keys aad room source) new (b ∷ before) after r = FirstReadMeans (map (opening_key aad) keys) source new (b ∷ before) after r
   DecryptMeans (Chosen old) new before after r = ChosenReadMeans old new before after r
   DecryptMeans (Stopped c source) new before after r = (r ≡ Err (record { kind = FailedBefore c })) × (new ≡ Stopped c source) × (after ≡ before)
+
+-- a reader of these keys that has read nothing, with room for a byte more than the most that one of them has of its output
+-- prefix and a segment
+pub record IsUnreadReader {S : Type 0} (keys : List StreamKey) (aad : List ℕ) (source : S) (reader : DecryptState S) : Type 0 where
+  pub unread : reader ≡ Unread keys aad (largest keys + 1) source
+  pub usable : All IsUsable keys
+
+-- there was no memory for one, and the source is handed back as it was
+pub record HandsBack {S : Type 0} (source : S) (refused : Refused S) : Type 0 where
+  pub cause : refused.error.kind ≡ OutOfMemory
+  pub inner : refused.inner ≡ source
+
+-- what a call for a new reader by some keys answers
+abbrev pub KeysReaderMeans : {S : Type 0} → List StreamKey → List ℕ → S → Result (DecryptState S) (Refused S) → Type 0
+KeysReaderMeans keys aad source (Ok reader) = IsUnreadReader keys aad source reader
+KeysReaderMeans keys aad source (Err refused) = HandsBack source refused

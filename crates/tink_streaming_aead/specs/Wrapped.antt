@@ -1,12 +1,16 @@
 -- The streaming AEADs of a keyset as one.
-use Rattle.std.specs.Prelude.{◌≡◌, ◌↔◌, ◌++◌, ◌∷◌, ℕ, List, [], Vec, map, All, Option, Some, None}
+use Rattle.std.specs.Prelude.{◌≡◌, ◌↔◌, ◌++◌, ◌∷◌, ℕ, List, [], Vec, map, All, Option, Some, None, Result}
 use Rattle.std.specs.BTreeMap.{BTreeMap, values}
+use Rattle.tink_primitives.specs.declared.streams.Refused.{Refused}
 use Rattle.stream_model.specs.Key.{StreamKey, IsUsable}
 use Rattle.stream_model.specs.Opening.{IsChosen, OpeningKey, opening_key}
 use Rattle.stream_model.specs.Order.{HaveSameOrder, IsOutputPrefix}
 use Rattle.tink_sets.specs.Entries.{entry_of_id, typed_prefix_of}
 use Rattle.tink_sets.specs.Groups.{AreGroupsOf}
 use Rattle.tink_sets.specs.declared.entry.TypedEntry.{TypedEntry}
+use Rattle.tink_segments.specs.declared.stream_segment.StreamSegment.{StreamSegment}
+use Rattle.tink_streams.specs.Writers.{WriterState}
+use Rattle.tink_stream_keys.specs.Encrypting.{StartsWriter}
 use Rattle.tink_stream_keys.specs.StreamKinds.{key_in_set}
 use Rattle.tink_stream_keys.specs.declared.stream_kind.StreamKind.{StreamKind}
 
@@ -19,6 +23,11 @@ pub record Wrapped : Type 0 where
 abbrev pub ByPrimary : Option StreamKey → (StreamKey → Type 0) → Type 0
 ByPrimary None P = ⊥
 ByPrimary (Some k) P = P k
+
+-- a call for a new writer by the primary key
+abbrev pub PrimaryStarts : {W : Type 0} → (W → Option (List ℕ)) → (W → ℕ) → (W → W → Type 0) → Wrapped → List ℕ → List ℕ → List ℕ → W → Result (WriterState W StreamSegment) (Refused W) → Type 0
+PrimaryStarts got faults same w aad draws left sink result =
+    ByPrimary w.primary (λ k. StartsWriter got faults same k aad draws left sink result)
 
 -- the key of an entry, where there is one
 abbrev pub key_in : Option (TypedEntry StreamKind) → Option StreamKey

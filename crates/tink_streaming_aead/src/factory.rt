@@ -3,16 +3,13 @@
 ghost use Rattle.std.specs.Prelude.{◌≡◌, ◌≤◌, ◌<◌, ◌+◌, ◌++◌, None, Some, true, is_some, length, map, max, vec_len, All, IfOk, IfErr, OnOk};
 ghost use Rattle.tink_io.specs.declared.error.Kind.TheVariants.{OutOfMemory};
 ghost use Rattle.stream_model.specs.Key.{IsUsable};
-ghost use Rattle.tink_primitives.specs.Meaning.{IsEndOf};
 ghost use Rattle.tink_primitives.specs.Sorts.{as_streaming_aead};
 ghost use Rattle.tink_sets.specs.Entries.{entry_of};
 ghost use Rattle.tink_keysets.specs.Built.{built_entries, GivesSet};
 ghost use Rattle.tink_factory.specs.Typing.{typed_entries};
-ghost use Rattle.tink_streaming_aead.specs.DecryptReaders.{largest, largest_segment, room_of};
-ghost use Rattle.tink_streaming_aead.specs.DecryptReaders.DecryptState.{Unread};
-ghost use Rattle.tink_stream_keys.specs.Encrypting.{NewWriterMeans, sink_of};
+ghost use Rattle.tink_streaming_aead.specs.DecryptReaders.{KeysReaderMeans, largest, largest_segment, room_of};
 ghost use Rattle.tink_stream_keys.specs.StreamKinds.{key_in_set};
-ghost use Rattle.tink_streaming_aead.specs.Wrapped.{AreKeysOf, ArePure, ByPrimary, HasOutputPrefix, KeepsOrder, KeepsPrefixes, all_entries, keys_in};
+ghost use Rattle.tink_streaming_aead.specs.Wrapped.{AreKeysOf, ArePure, HasOutputPrefix, KeepsOrder, KeepsPrefixes, PrimaryStarts, all_entries, keys_in};
 
 mod candidates;
 
@@ -216,11 +213,7 @@ impl WrappedStreamingAead {
         w: K,
         additional_data: &[u8],
     ) -> Result<Writer<K, StreamSegment>, Refused<K>>
-        ensures answer { ByPrimary self.now.primary (λ k. NewWriterMeans K.got K.faults k additional_data.now
-            draws.old draws.new w result) }
-        ensures later { K.faults w ≤ K.faults (sink_of result) }
-        ensures same { K.same w (sink_of result) }
-        ensures ends { IsEndOf draws.new draws.old }
+        ensures answer { PrimaryStarts K.got K.faults K.same self.now additional_data.now draws.old draws.new w result }
     {
         match &self.ps.primary {
             Some(primary) => { new_encrypting_writer(alloc, primary, draws, w, additional_data) }
@@ -240,12 +233,8 @@ impl WrappedStreamingAead {
         r: S,
         additional_data: &[u8],
     ) -> Result<DecryptReader<S>, Refused<S>>
-        ensures unread { IfOk result (λ made. made ≡ Unread self.now.keys additional_data.now
-            (largest self.now.keys + 1) r) }
+        ensures answer { KeysReaderMeans self.now.keys additional_data.now r result }
         ensures room { IfOk result (λ made. room_of made ≤ largest_segment self.now.keys + 6) }
-        ensures usable { IfOk result (λ _. All IsUsable self.now.keys) }
-        ensures cause { IfErr result (λ refused. refused.error.kind ≡ OutOfMemory) }
-        ensures inner { IfErr result (λ refused. refused.inner ≡ r) }
     {
         match choice_in(alloc, &self.ps, additional_data) {
             Ok(choice) => Ok(DecryptReader::unread(choice, r)),
@@ -266,11 +255,7 @@ impl<S: Source + Drop, K: Sink + Drop> StreamingAead<S, K> for WrappedStreamingA
         w: K,
         additional_data: &[u8],
     ) -> Result<Writer<K, StreamSegment>, Refused<K>>
-        ensures answer { ByPrimary self.now.primary (λ k. NewWriterMeans K.got K.faults k additional_data.now
-            draws.old draws.new w result) }
-        ensures later { K.faults w ≤ K.faults (sink_of result) }
-        ensures same { K.same w (sink_of result) }
-        ensures ends { IsEndOf draws.new draws.old }
+        ensures answer { PrimaryStarts K.got K.faults K.same self.now additional_data.now draws.old draws.new w result }
     {
         WrappedStreamingAead::new_encrypting_writer(self, alloc, draws, w, additional_data)
     }
@@ -281,12 +266,8 @@ impl<S: Source + Drop, K: Sink + Drop> StreamingAead<S, K> for WrappedStreamingA
         r: S,
         additional_data: &[u8],
     ) -> Result<DecryptReader<S>, Refused<S>>
-        ensures unread { IfOk result (λ made. made ≡ Unread self.now.keys additional_data.now
-            (largest self.now.keys + 1) r) }
+        ensures answer { KeysReaderMeans self.now.keys additional_data.now r result }
         ensures room { IfOk result (λ made. room_of made ≤ largest_segment self.now.keys + 6) }
-        ensures usable { IfOk result (λ _. All IsUsable self.now.keys) }
-        ensures cause { IfErr result (λ refused. refused.error.kind ≡ OutOfMemory) }
-        ensures inner { IfErr result (λ refused. refused.inner ≡ r) }
         ensures same { IfErr result (λ refused. S.same r refused.inner) }
     {
         WrappedStreamingAead::new_decrypting_reader(self, alloc, r, additional_data)

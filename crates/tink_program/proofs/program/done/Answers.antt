@@ -15,11 +15,11 @@ returns-in-Seal-clause-promised g c = rw (c.in-Seal.is, c.outcome_of.ensures) (s
 
 pub returns-in-Seal-clause-early : goal.returns-in-Seal-clause-early
 returns-in-Seal-clause-early g c =
-    rw (c.in-Seal.is, c.outcome_of.ensures) (leaves_by _ _ _ _ _ _ c.run_seal.result _ _ _ _ c.run_seal.ensures.ran c.run_seal.ensures.early c.run_seal.ensures.unwritten)
+    rw (c.in-Seal.is, c.outcome_of.ensures) (leaves_by _ _ _ _ _ _ c.run_seal.result _ _ _ _ c.run_seal.ensures.ran c.run_seal.ensures.ends)
 
 pub returns-in-Open-clause-early : goal.returns-in-Open-clause-early
 returns-in-Open-clause-early g c =
-    rw (c.in-Open.is, c.outcome_of-in-Open.ensures) (leaves_by _ _ _ _ _ _ c.run_open.result _ _ _ _ c.run_open.ensures.ran c.run_open.ensures.early c.run_open.ensures.unwritten)
+    rw (c.in-Open.is, c.outcome_of-in-Open.ensures) (leaves_by _ _ _ _ _ _ c.run_open.result _ _ _ _ c.run_open.ensures.ran c.run_open.ensures.ends)
 
 pub returns-in-Open-clause-promised : goal.returns-in-Open-clause-promised
 returns-in-Open-clause-promised g c = rw (c.in-Open.is, c.outcome_of-in-Open.ensures) (open_promised _ _ _ _ c.run_open.result c.run_open.ensures.ran)
@@ -68,7 +68,7 @@ returns-in-Rewrap-clause-means g c = rw (c.in-Rewrap.is, c.outcome_of-in-Rewrap.
 
 pub returns-in-Rewrap-clause-early : goal.returns-in-Rewrap-clause-early
 returns-in-Rewrap-clause-early g c =
-    rw (c.in-Rewrap.is, c.outcome_of-in-Rewrap.ensures) (rewrap_leaves _ _ _ _ c.run_rewrap.result _ _ _ _ c.run_rewrap.ensures.moved c.run_rewrap.ensures.early c.run_rewrap.ensures.unwritten)
+    rw (c.in-Rewrap.is, c.outcome_of-in-Rewrap.ensures) (rewrap_leaves _ _ _ _ c.run_rewrap.result _ _ _ _ c.run_rewrap.ensures.moved c.run_rewrap.ensures.ends)
 
 pub returns-in-Rewrap-clause-promised : goal.returns-in-Rewrap-clause-promised
 returns-in-Rewrap-clause-promised g c = rw (c.in-Rewrap.is, c.outcome_of-in-Rewrap.ensures) (rewrap_promised _ _ _ _ c.run_rewrap.result c.run_rewrap.ensures.moved)

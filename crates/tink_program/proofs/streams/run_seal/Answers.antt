@@ -2,8 +2,7 @@ use Rattle.tink_run.specs.declared.report.Command.TheVariants.{Seal}
 use Rattle.std.proofs.Common.{◌∙◌, ap}
 use Rattle.std.proofs.lemmas.Result.{err_from_is_err_and}
 use Rattle.tink_io.specs.declared.error.TinkError.{TinkError}
-use Rattle.tink_program.proofs.StreamLemmas.{ran_along, want_ran}
-use Rattle.tink_run.proofs.RunSteps.{leaves_same}
+use Rattle.tink_program.proofs.StreamLemmas.{ran_along, spared_same, want_ran}
 use Rattle.tink_program.proofs.streams.run_seal.Goals as goal
 
 pub returns-in_err-first_draws-clause-ran : goal.returns-in_err-first_draws-clause-ran
@@ -20,5 +19,5 @@ returns-clause-ran g c = ran_along Seal _ _ _ _ _ _ _ _ _ c.deref.ensures.value 
   succeeds = c.run.ensures.succeeds;
 })
 
-pub returns-in_err-first_draws-clause-early : goal.returns-in_err-first_draws-clause-early
-returns-in_err-first_draws-clause-early g c = leaves_same c.from_residual.result c.args.source.now c.args.sink.now
+pub returns-in_err-first_draws-clause-ends : goal.returns-in_err-first_draws-clause-ends
+returns-in_err-first_draws-clause-ends g c = spared_same c.from_residual.result c.args.source.now c.args.sink.now
