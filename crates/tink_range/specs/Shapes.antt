@@ -3,16 +3,16 @@ use Rattle.std.specs.Prelude.{◌≡◌, ℕ, zero, suc, ◌+◌, ◌-◌, ◌*�
 use Rattle.stream_model.specs.Cut.{cut, last_chunk}
 use Rattle.tink_range.specs.Ranges.{all_places, text_length}
 
--- what is before part i, where the first part has a and each later one b
+-- what is before part i, where the first part has `first` bytes and each later one `size`
 abbrev pub start_at : ℕ → ℕ → ℕ → ℕ
-start_at a b zero = 0
-start_at a b (suc i) = a + i * b
+start_at first size zero = 0
+start_at first size (suc i) = first + i * size
 
 -- the shape of bytes that are cut: their number of chunks, their places, and what is before the last chunk
-pub record HasShape (a b over : ℕ) (X : List ℕ) (count text last : ℕ) : Type 0 where
-  pub chunks : length (cut a b X) ≡ count
-  pub places : all_places over (cut a b X) ≡ text
-  pub last_is : last_chunk (cut a b X) ≡ drop last X
+pub record HasShape (first size over : ℕ) (X : List ℕ) (count text last : ℕ) : Type 0 where
+  pub chunks : length (cut first size X) ≡ count
+  pub places : all_places over (cut first size X) ≡ text
+  pub last_is : last_chunk (cut first size X) ≡ drop last X
 
 -- a chunk inside of so many bytes: its number, what is before it, and the places of the text before it; the range begins
 -- before the next chunk's places
@@ -30,6 +30,6 @@ pub record BeginsRange (first size over behind lo hi number start text : ℕ) : 
   pub low : text ≤ lo
 
 -- the last chunk has this number and begins here
-pub record IsLast (a b : ℕ) (X : List ℕ) (number start : ℕ) : Type 0 where
-  pub chunks : length (cut a b X) ≡ number + 1
-  pub last_is : last_chunk (cut a b X) ≡ drop start X
+pub record IsLast (first size : ℕ) (X : List ℕ) (number start : ℕ) : Type 0 where
+  pub chunks : length (cut first size X) ≡ number + 1
+  pub last_is : last_chunk (cut first size X) ≡ drop start X

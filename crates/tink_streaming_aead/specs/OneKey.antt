@@ -36,8 +36,8 @@ module _ {S : Type 0} (left : S → Option (List ℕ)) (faults : S → ℕ) wher
 -- read a header and no more
 abbrev pub ReadsAsReader : Type 0
 ReadsAsReader =
-    (keys : List StreamKey) (key : StreamKey) (aad X : List ℕ) (seg : ℕ → Bool → List ℕ → List ℕ) (a b overhead : ℕ)
+    (keys : List StreamKey) (key : StreamKey) (aad X : List ℕ) (seg : ℕ → Bool → List ℕ → List ℕ) (first size overhead : ℕ)
     (new : TextMoment) (before after : List ℕ) (n : ℕ) → Chooses keys aad X key
-    → GivesFirst (map (opening_key aad) keys) (Some X) seg a b overhead new before after n
-    → (m : TextMoment) × IsNewReader key aad (Some (drop (length key.out) X)) seg a b overhead [] m
-    × ReadMeans seg a b overhead m new before after (Ok n)
+    → GivesFirst (map (opening_key aad) keys) (Some X) seg first size overhead new before after n
+    → (m : TextMoment) × IsNewReader key aad (Some (drop (length key.out) X)) seg first size overhead [] m
+    × ReadMeans seg first size overhead m new before after (Ok n)

@@ -38,9 +38,9 @@ pub fn law_whole_stream()
 /// `law_whole_text` says.
 pub fn law_first_read()
     ensures gave { (keys : List OpeningKey) (all : Option (List ℕ)) (seg : ℕ → Bool → List ℕ → List ℕ)
-        (a b overhead : ℕ) (new : reading.TextMoment) (before after : List ℕ) (n : ℕ)
-        → (first : GivesFirst keys all seg a b overhead new before after n)
-        → Gave seg a b first.rest (take n after) new }
+        (first size overhead : ℕ) (new : reading.TextMoment) (before after : List ℕ) (n : ℕ)
+        → (begins : GivesFirst keys all seg first size overhead new before after n)
+        → Gave seg first size begins.rest (take n after) new }
 {}
 
 /// A keyset's reader of a stream, from a source that tells its bytes, is that of the key that is chosen for it,
@@ -71,14 +71,14 @@ pub fn law_keyset_order()
 /// joined.
 pub fn law_whole_reading()
     ensures key { (k : StreamKey) (aad : List ℕ) (all : Option (List ℕ)) (seg : ℕ → Bool → List ℕ → List ℕ)
-        (a b overhead : ℕ) (held given : List ℕ) (m n : reading.TextMoment)
-        → IsUsable k → IsNewReader k aad all seg a b overhead held m → Gave seg a b m.rest given n → AtEnd n
+        (first size overhead : ℕ) (held given : List ℕ) (m n : reading.TextMoment)
+        → IsUsable k → IsNewReader k aad all seg first size overhead held m → Gave seg first size m.rest given n → AtEnd n
         → IsTextOfStream (opening_key aad (fronted [] k)) all given }
     ensures keyset { (keys : List StreamKey) (aad : List ℕ) (all : Option (List ℕ)) (seg : ℕ → Bool → List ℕ → List ℕ)
-        (a b overhead : ℕ) (m n : reading.TextMoment) (before after given : List ℕ) (count : ℕ)
-        → All IsUsable keys → (first : GivesFirst (map (opening_key aad) keys) all seg a b overhead m before after
+        (first size overhead : ℕ) (m n : reading.TextMoment) (before after given : List ℕ) (count : ℕ)
+        → All IsUsable keys → (begins : GivesFirst (map (opening_key aad) keys) all seg first size overhead m before after
         count)
-        → Gave seg a b first.rest given n → AtEnd n → IsTextOfChosen (map (opening_key aad) keys) all given }
+        → Gave seg first size begins.rest given n → AtEnd n → IsTextOfChosen (map (opening_key aad) keys) all given }
 {}
 
 /// A stream that was sealed with a key opens to its text: it is a stream of the key with the chunks of the text,
