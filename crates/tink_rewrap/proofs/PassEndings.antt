@@ -6,7 +6,7 @@ use Rattle.std.specs.Io.KnownBytes.{Appends, Keeps, append_known}
 use Rattle.std.proofs.KnownBytes.{Appends-kept, Keeps-trans}
 use Rattle.std.proofs.lemmas.List.{append-nil}
 use Rattle.tink_io.specs.Faults.{Rose}
-use Rattle.tink_io.specs.Written.{AppendsFront}
+use Rattle.tink_io.specs.Written.{AppendsPrefix}
 use Rattle.tink_io.specs.declared.error.Kind.{Kind}
 use Rattle.tink_io.specs.declared.error.Kind.TheVariants.{OutOfMemory, ReadFault, WriteFault, RandomFault, UnsupportedHash, TooManySegments, NoMatchingKey, BadSegment, Truncated}
 use Rattle.tink_io.specs.declared.error.TinkError.{TinkError}
@@ -65,7 +65,7 @@ module _ (keys : List OpeningKey) (k : StreamKey) (aad draws left_draws : List �
     all_of : (bs : List ℕ) → Appends old.got told bs → Appends old.got new.got bs
     all_of bs w = Appends-kept old.got told new.got bs w kept
 
-    front_of : (bs : List ℕ) → AppendsFront old.got told bs → AppendsFront old.got new.got bs
+    front_of : (bs : List ℕ) → AppendsPrefix old.got told bs → AppendsPrefix old.got new.got bs
     front_of bs w = kept_after old.got told new.got bs kept w
 
     stops_kept : (kind : Kind) → StopsBy (OpeningMeans keys) (IsBroken keys) (HasKey keys) (bytes_under k aad draws) old first_end kind → StopsBy (OpeningMeans keys) (IsBroken keys) (HasKey keys) (bytes_under k aad draws) old new kind
@@ -129,14 +129,14 @@ module _ (keys : List OpeningKey) (k : StreamKey) (aad draws left_draws : List �
 
   -- ---- a part was handed on
   module _ (lawful : (S : List ℕ) (key : OpeningKey) → IsChosen keys S (Some key) → Lawful key) (grows : OnlyGrows old.got new.got) (short : IsCutShort told new.got) (rose : Rose old.write_faults new.write_faults) (later : faults ≤ new.write_faults) where
-    cut : (bs : List ℕ) → AppendsFront old.got told bs → AppendsFront old.got new.got bs
+    cut : (bs : List ℕ) → AppendsPrefix old.got told bs → AppendsPrefix old.got new.got bs
     cut bs w = cut_front old.got told new.got bs grows short w
 
-    cut_whole : (bs : List ℕ) → Appends old.got told bs → AppendsFront old.got new.got bs
+    cut_whole : (bs : List ℕ) → Appends old.got told bs → AppendsPrefix old.got new.got bs
     cut_whole bs w = cut bs (whole_front old.got told bs w)
 
     -- a front of what was written before the last segment
-    breaks : HasKey keys old → (text : List ℕ) (answer : Result Report TinkError) → OpeningMeans keys (into [] old) (into text first_end) answer → AppendsFront old.got told (unended text) → Refuses new WriteFault
+    breaks : HasKey keys old → (text : List ℕ) (answer : Result Report TinkError) → OpeningMeans keys (into [] old) (into text first_end) answer → AppendsPrefix old.got told (unended text) → Refuses new WriteFault
     breaks begun text answer o w = record { text = text; begun = begun; opened = opened_till rose lawful text answer o; written = inl (cut (unended text) w) }
 
     end_cut : (text : List ℕ) → BreaksAtEnd (OpeningMeans keys) (IsBroken keys) (HasKey keys) (bytes_under k aad draws) old first_end text → BreaksAtEnd (OpeningMeans keys) (IsBroken keys) (HasKey keys) (bytes_under k aad draws) old new text
