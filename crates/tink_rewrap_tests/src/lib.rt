@@ -2,12 +2,14 @@
 #![tactic(auto)]
 
 #[cfg(test)]
-mod caller_tests;
+mod callers;
 #[cfg(test)]
-mod damaged_tests;
+mod comparing;
 #[cfg(test)]
-mod fault_tests;
+mod faults;
 #[cfg(test)]
-mod moving_tests;
+mod rows;
 #[cfg(test)]
 mod support;
+#[cfg(test)]
+mod tests;

@@ -1,17 +1,14 @@
-//! What tests compare.
+//! The one place that compares.
 
-use std::fmt::Debug;
 use std::process::Abort;
+use tink_io::{Kind, TinkError};
 
-/// The one place that compares: a test function with many `assert_eq!` takes long to prove.
-pub fn expect<T>(rt: &impl Abort, got: T, want: T, label: &str)
-where
-    T: PartialEq + Debug + Drop,
-{
-    assert_eq!(rt; got, want, "{label}");
-}
-
-/// The same of bytes.
-pub fn expect_bytes(rt: &impl Abort, got: &[u8], want: &[u8], label: &str) {
-    assert_eq!(rt; got, want, "{label}");
+/// Stops where a row does not hold, by its name, and shows how it is refused. A test function with many `assert_eq!`
+/// takes long to prove.
+pub fn expect(rt: &impl Abort, got: Result<bool, TinkError>, row: &str) {
+    let got: Result<bool, Kind> = match got {
+        Ok(holds) => Ok(holds),
+        Err(e) => Err(e.kind),
+    };
+    assert_eq!(rt; got, Ok(true), "{row}");
 }

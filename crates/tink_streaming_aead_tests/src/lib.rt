@@ -3,14 +3,16 @@
 #![tactic(auto)]
 
 #[cfg(test)]
+mod asked;
+#[cfg(test)]
 mod callers;
 #[cfg(test)]
 mod comparing;
 #[cfg(test)]
-mod handle_tests;
-#[cfg(test)]
-mod keyset_tests;
+mod keysets;
 #[cfg(test)]
 mod one_of;
 #[cfg(test)]
 mod streams;
+#[cfg(test)]
+mod tests;

@@ -1,38 +1,95 @@
-//! The registry of both managers, readers by the keys of a keyset, and a stream that Python made.
+//! Streams by the keys of a keyset, with the associated data "data": what is written, and what is read.
 
 use crate::callers::stream_in;
-use crate::one_of::Streams;
 use std::alloc::Global;
-use tink_core::registry::Registry;
-use tink_io::{Kind, MemSource, TinkError};
-use tink_streaming_aead::{DecryptReader, WrappedStreamingAead, init};
+use tink_io::{Kind, Lent, MemSink, MemSource, TinkError};
+use tink_streaming_aead::{DecryptReader, StreamSegment, WrappedStreamingAead, Writer};
 
-/// The text.
-pub const TEXT: &[u8; 60] = b"sixty bytes of text, which are in three segments of a stream";
+// Salts and prefixes: 64, 65 and so on.
+const DRAWS: &[u8; 39] =
+    b"\x40\x41\x42\x43\x44\x45\x46\x47\x48\x49\x4a\x4b\x4c\x4d\x4e\x4f\x50\x51\x52\x53\x54\x55\x56\x57\x58\x59\x5a\x5b\x5c\x5d\x5e\x5f\x60\x61\x62\x63\x64\x65\x66";
 
-/// A salt and a prefix: 64, 65, .., 86.
-pub const DRAWS: &[u8; 23] =
-    b"\x40\x41\x42\x43\x44\x45\x46\x47\x48\x49\x4a\x4b\x4c\x4d\x4e\x4f\x50\x51\x52\x53\x54\x55\x56";
-
-/// The text's stream with "data" in segments of 50 bytes: HKDF with SHA-256, AES-128-GCM.
-pub const BY_GCM: &[u8; 132] =
-    b"\x18\x40\x41\x42\x43\x44\x45\x46\x47\x48\x49\x4a\x4b\x4c\x4d\x4e\x4f\x50\x51\x52\x53\x54\x55\x56\xa1\x5b\x4e\xa4\xd6\x54\xd6\xc5\xe9\xa5\x28\xcf\xbb\xbe\xde\x87\x10\xa3\xa3\x2d\xd9\xf0\x17\x84\x99\xf7\x80\x73\xcf\xaf\x9e\xdc\xe4\xf5\x04\xa3\x7b\x7f\x95\xb1\x80\x39\x03\x8b\x23\x25\xbb\xde\xe5\x06\x06\xb0\x11\x5f\x58\x06\xb7\x55\xb7\x7b\xc7\x16\x91\x4c\x88\xfb\x28\x65\x92\x99\x22\x50\xbd\x8e\x94\x4c\xc2\x1d\x03\x62\xd9\xd2\x40\x33\x35\x07\xb1\x7e\x33\x4f\x7b\xca\x4e\x3b\xd7\x66\xf3\x14\xa0\x76\xb2\xaf\x3b\x55\xd3\x2a\x30\xa1";
-
-/// The registry of both managers and their templates.
-pub fn registry(alloc: Global) -> Result<Registry<Streams>, TinkError> {
-    let mut registry = Registry::new(alloc);
-    init(alloc, &mut registry)?;
-    Ok(registry)
+/// How a text is written.
+#[derive(Clone, Copy)]
+pub enum Way {
+    /// At once, and closed.
+    Whole,
+    /// In pieces of ten, each flushed, and closed.
+    Pieces,
+    /// The same, and the writer is dropped.
+    Dropped,
 }
 
-/// A reader of a stream with "data", from a source whose calls of these numbers fail.
+fn write_pieces(
+    writer: &mut Writer<Lent<MemSink>, StreamSegment>,
+    text: &[u8],
+) -> Result<(), TinkError> {
+    for piece in text.chunks(10) {
+        writer.write(piece)?;
+        writer.flush()?;
+    }
+    Ok(())
+}
+
+fn write_by(
+    writer: &mut Writer<Lent<MemSink>, StreamSegment>,
+    text: &[u8],
+    way: Way,
+) -> Result<(), TinkError> {
+    match way {
+        Way::Dropped => return write_pieces(writer, text),
+        Way::Pieces => write_pieces(writer, text)?,
+        Way::Whole => {
+            writer.write(text)?;
+        }
+    }
+    writer.close()
+}
+
+// A sink with room for 9,000 bytes, of which a call takes ten.
+fn sink_of(alloc: Global) -> Result<MemSink, TinkError> {
+    let mut sink = MemSink::new(alloc, 10, Vec::new(alloc));
+    sink.reserve(alloc, 9000)?;
+    Ok(sink)
+}
+
+fn write_into(
+    alloc: Global,
+    aeads: &WrappedStreamingAead,
+    sink: &mut MemSink,
+    text: &[u8],
+    way: Way,
+) -> Result<(), TinkError> {
+    let mut draws = tink_testutil::draws_of(alloc, DRAWS)?;
+    match aeads.new_encrypting_writer(alloc, &mut draws, Lent(sink), b"data") {
+        Ok(mut writer) => write_by(&mut writer, text, way),
+        Err(refused) => Err(refused.error),
+    }
+}
+
+/// What stands in a sink after a text was written by the primary key.
+pub fn written(
+    alloc: Global,
+    aeads: &WrappedStreamingAead,
+    text: &[u8],
+    way: Way,
+) -> Result<Vec<u8>, TinkError> {
+    let mut sink = sink_of(alloc)?;
+    match write_into(alloc, aeads, &mut sink, text, way) {
+        Ok(()) => Ok(sink.into_bytes()),
+        Err(e) => Err(e),
+    }
+}
+
+/// A reader of a stream, from a source that gives ten bytes in a call, of which that one fails.
 pub fn reader_by(
     alloc: Global,
     aeads: &WrappedStreamingAead,
     stream: &[u8],
-    fails: &[u32],
+    fails: u32,
 ) -> Result<DecryptReader<MemSource>, TinkError> {
-    let source = MemSource::new(stream.to_vec(alloc)?, 10, fails.to_vec(alloc)?);
+    let fails = vec![in alloc; fails]?;
+    let source = MemSource::new(stream.to_vec(alloc)?, 10, fails);
     match stream_in(alloc, aeads, source, b"data") {
         Ok(reader) => Ok(reader),
         Err(refused) => Err(refused.error),

@@ -4,9 +4,8 @@ ghost use Rattle.std.specs.Prelude.{[], Some, IfOk};
 ghost use Rattle.tink_rewrap.specs.Promises.{IsWholeRewrap};
 ghost use Rattle.tink_run.specs.Outside.{Outside};
 
-use crate::support::{CTR_35, GCM_41, counted, is, roomy, sealed};
+use crate::support::{CTR_35, GCM_41, counted, stream_of};
 use std::alloc::Global;
-use std::test::Fail;
 use tink_io::{Draws, SureSink, SureSource, TinkError};
 use tink_rewrap::rewrap;
 use tink_run::report::Report;
@@ -30,24 +29,16 @@ fn move_stream(
     rewrap(alloc, from, &[], to, &[], draws, stream, moved)
 }
 
-#[test]
-fn a_stream_is_moved_in_memory(rt: HostRuntime) -> Result<(), Fail> {
-    let alloc = rt.alloc();
-    let from = hex::decode(alloc, CTR_35)?;
-    let to = hex::decode(alloc, GCM_41)?;
+/// Whether a stream of one byte is moved: to a front, a byte and a tag.
+pub fn is_moved(alloc: Global) -> Result<bool, TinkError> {
+    let mut sink = SureSink::new(alloc);
+    sink.reserve(alloc, 41)?;
     let mut draws = Draws::new(counted(alloc, 23)?);
-    let mut stream = SureSource::new(sealed(alloc, (CTR_35, ""), 1)?.written);
-    let mut sink = roomy(alloc, 41)?;
-    let moved = move_stream(alloc, &from, &to, &mut draws, &mut stream, &mut sink);
+    let mut stream = SureSource::new(stream_of(alloc, CTR_35, &[], 1)?);
+    let moved = move_stream(alloc, CTR_35, GCM_41, &mut draws, &mut stream, &mut sink);
     let want = Report {
         segments: 1,
         bytes: 1,
     };
-    is(&rt, moved == Ok(want), "one segment");
-    is(
-        &rt,
-        sink.into_bytes().len() == 41,
-        "a front, a byte and a tag",
-    );
-    Ok(())
+    Ok(moved == Ok(want) && sink.bytes().len() == 41)
 }
