@@ -1,4 +1,5 @@
 pub mod KeySizes
+pub mod GcmKeys
 pub mod NonceAeads
 pub mod NonceAeadLaws
 pub mod NonceAeadTold

@@ -10,10 +10,7 @@ ghost use Rattle.tink_aead_subtle.specs.NonceAeads.{gcm_text_of};
 ghost use Rattle.tink_aead_subtle.specs.AesAeads.{gcm_decrypts, gcm_encrypts};
 
 use crate::aes_key::AesKey;
-use crate::nonce_aead::{decrypt, encrypt};
-use aes_block::{Aes128, Aes256};
-use cipher::KeyInit;
-use gcm::Gcm;
+use crate::gcm_key::GcmKey;
 use std::alloc::Global;
 use tink_io::{Draws, TinkError};
 use tink_primitives::{Aead, CloneIn};
@@ -26,10 +23,11 @@ pub const AES_GCM_IV_SIZE: usize = 12;
 pub const AES_GCM_TAG_SIZE: usize = 16;
 
 /// AES-GCM (SP 800-38D) under a key of 16 or 32 bytes. What it makes of a text is a nonce of 12
-/// draws, the ciphertext and a tag of 16 bytes.
+/// draws, the ciphertext and a tag of 16 bytes. The key schedule and the tables of GHASH, some 3 KB,
+/// are made with it, and again with a copy.
 #[derive(Drop)]
 pub struct AesGcm {
-    key: AesKey,
+    key: GcmKey,
 }
 
 impl AesGcm {
@@ -41,7 +39,7 @@ impl AesGcm {
         ensures { Answers result (sized key.now (record { key = key.now })) }
     {
         Ok(AesGcm {
-            key: AesKey::new(alloc, key)?,
+            key: GcmKey::new(AesKey::new(alloc, key)?),
         })
     }
 }
@@ -71,16 +69,7 @@ impl Aead for AesGcm {
         additional_data: &[u8],
         draws: &mut Draws,
     ) -> Result<Bytes, TinkError> {
-        match self.key.small() {
-            Some(key) => {
-                let aead = Gcm::new(Aes128::new(key));
-                encrypt(&aead, alloc, plaintext, additional_data, draws)
-            }
-            None => {
-                let aead = Gcm::new(Aes256::new(self.key.large()));
-                encrypt(&aead, alloc, plaintext, additional_data, draws)
-            }
-        }
+        self.key.encrypt(alloc, plaintext, additional_data, draws)
     }
 
     /// # Errors
@@ -93,16 +82,7 @@ impl Aead for AesGcm {
         ciphertext: &[u8],
         additional_data: &[u8],
     ) -> Result<Bytes, TinkError> {
-        match self.key.small() {
-            Some(key) => {
-                let aead = Gcm::new(Aes128::new(key));
-                decrypt(&aead, alloc, ciphertext, additional_data)
-            }
-            None => {
-                let aead = Gcm::new(Aes256::new(self.key.large()));
-                decrypt(&aead, alloc, ciphertext, additional_data)
-            }
-        }
+        self.key.decrypt(alloc, ciphertext, additional_data)
     }
 
     ghost encrypts_told = { λ a text aad draws. encryption_told (gcm (aes a.key)) MOST_GCM text aad draws };

@@ -14,6 +14,7 @@ mod aes_gcm;
 mod aes_gcm_siv;
 mod aes_key;
 mod encrypt_then_authenticate;
+mod gcm_key;
 mod ind_cpa;
 mod laws;
 mod nonce_aead;

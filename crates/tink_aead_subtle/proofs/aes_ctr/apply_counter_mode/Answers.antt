@@ -1,4 +1,4 @@
-use Rattle.std.proofs.Common.{◌≡◌, ◌∙◌, arith}
+use Rattle.std.proofs.Common.{◌∙◌, arith}
 use Rattle.std.specs.Int.{w64}
 use Rattle.ctr.proofs.StandardCounter.{buffered_be}
 use Rattle.tink_aead_subtle.proofs.aes_ctr.apply_counter_mode.Goals as goal

@@ -1,0 +1,110 @@
+//! Keys of AES-GCM with their schedules and tables.
+
+ghost use Rattle.std.specs.Prelude.{◌≡◌};
+ghost use Rattle.tink_io.specs.Told.{Answers, Replies};
+ghost use Rattle.tink_aead_subtle.specs.AesAeads.{gcm_decrypts, gcm_encrypts};
+ghost use Rattle.tink_aead_subtle.specs.GcmKeys.{IsKeyedBy};
+
+use crate::aes_key::AesKey;
+use crate::nonce_aead;
+use aes_block::{Aes128, Aes256};
+use cipher::KeyInit;
+use gcm::Gcm;
+use std::alloc::Global;
+use std::marker::Model;
+use tink_io::{Draws, TinkError};
+use tink_primitives::CloneIn;
+use tink_proto::Bytes;
+
+// A key of 16 or 32 bytes, with its schedule and the tables of its hash key. Contracts see its
+// bytes.
+#[derive(Drop)]
+pub struct GcmKey {
+    key: AesKey,
+    aead: KeyedGcm,
+}
+
+// AES-GCM under a key of 16 or of 32 bytes.
+#[derive(Drop)]
+enum KeyedGcm {
+    Short(Gcm<Aes128>),
+    Long(Gcm<Aes256>),
+}
+
+impl Model for GcmKey {
+    ghost use Rattle.std.specs.Prelude.{ℕ, List};
+    ghost use Rattle.tink_aead_subtle.specs.GcmKeys.{IsKeyedBy};
+
+    ghost Value = { List ℕ };
+
+    ghost view = { λ k. k.key };
+
+    ghost invariant = { λ k. IsKeyedBy k.aead k.key };
+}
+
+impl GcmKey {
+    // The key, whose schedule and tables are made here, once.
+    pub fn new(key: AesKey) -> GcmKey
+        ensures { result ≡ key }
+    {
+        let aead = keyed_by(&key);
+        GcmKey { key, aead }
+    }
+
+    // The nonce, which is drawn, and the encryption of the text under it.
+    pub fn encrypt(
+        &self,
+        alloc: Global,
+        plaintext: &[u8],
+        additional_data: &[u8],
+        draws: &mut Draws,
+    ) -> Result<Bytes, TinkError>
+        ensures { Replies result (gcm_encrypts self.now plaintext.now additional_data.now draws.old)
+            draws.old draws.new }
+    {
+        match &self.aead {
+            KeyedGcm::Short(aead) => {
+                nonce_aead::encrypt(aead, alloc, plaintext, additional_data, draws)
+            }
+            KeyedGcm::Long(aead) => {
+                nonce_aead::encrypt(aead, alloc, plaintext, additional_data, draws)
+            }
+        }
+    }
+
+    // The text of a nonce and what is sealed under it.
+    pub fn decrypt(
+        &self,
+        alloc: Global,
+        ciphertext: &[u8],
+        additional_data: &[u8],
+    ) -> Result<Bytes, TinkError>
+        ensures { Answers result (gcm_decrypts self.now ciphertext.now additional_data.now) }
+    {
+        match &self.aead {
+            KeyedGcm::Short(aead) => {
+                nonce_aead::decrypt(aead, alloc, ciphertext, additional_data)
+            }
+            KeyedGcm::Long(aead) => {
+                nonce_aead::decrypt(aead, alloc, ciphertext, additional_data)
+            }
+        }
+    }
+}
+
+// AES-GCM under this key.
+fn keyed_by(key: &AesKey) -> KeyedGcm
+    ensures { IsKeyedBy result key.now }
+{
+    match key.small() {
+        Some(key) => KeyedGcm::Short(Gcm::new(Aes128::new(key))),
+        None => KeyedGcm::Long(Gcm::new(Aes256::new(key.large()))),
+    }
+}
+
+impl CloneIn for GcmKey {
+    // The copy's schedule and tables are made anew.
+    fn try_clone(&self, alloc: Global) -> Result<Self, TinkError> {
+        Ok(GcmKey::new(self.key.try_clone(alloc)?))
+    }
+}
