@@ -11,6 +11,24 @@ pub fn advice(kind: Kind) -> &'static str {
         Kind::WriteFault =>
             "it could not be written: a full disk, a closed pipe, or a folder that you may not change",
         Kind::RandomFault => "the system gave no random bytes",
+        Kind::TooManySegments =>
+            "the text is too long for its segments: take a key of larger ones, as AES256_GCM_HKDF_1MB",
+        Kind::NoMatchingKey =>
+            "no key opens this stream: another keyset, other associated data, or a damaged beginning",
+        Kind::BadSegment(_) => "the stream was changed, or two were mixed: take an intact copy",
+        Kind::Truncated(_) => "the stream was cut off: take a whole copy",
+        Kind::InputTooLong =>
+            "it has more than 16,777,216 bytes: only shorter files are signed and verified",
+        Kind::BadToken => "it is no token: give a whole one that `tink sign` made",
+        Kind::MacMismatch =>
+            "no key accepts this token: it was changed, or signed by the keys of another file",
+        _ => advice_on_keys(kind),
+    }
+}
+
+// The same of a refusal of keys.
+fn advice_on_keys(kind: Kind) -> &'static str {
+    match kind {
         Kind::BadKeyset =>
             "it is no keyset: give a file that `tink new` made, or one of Tink's in JSON or binary",
         Kind::BadJson => "it is no keyset in JSON: a bracket, a name or a number is not right",
@@ -27,17 +45,6 @@ pub fn advice(kind: Kind) -> &'static str {
             "it has a key for another use: only keys of streams encrypt files, only MACs sign, and only AEADs wrap keys",
         Kind::UnsupportedHash =>
             "its primary key derives by a hash that no stream takes: rotate it",
-        Kind::TooManySegments =>
-            "the text is too long for its segments: take a key of larger ones, as AES256_GCM_HKDF_1MB",
-        Kind::NoMatchingKey =>
-            "no key opens this stream: another keyset, other associated data, or a damaged beginning",
-        Kind::BadSegment(_) => "the stream was changed, or two were mixed: take an intact copy",
-        Kind::Truncated(_) => "the stream was cut off: take a whole copy",
-        Kind::InputTooLong =>
-            "it has more than 16,777,216 bytes: only shorter files are signed and verified",
-        Kind::BadToken => "it is no token: give a whole one that `tink sign` made",
-        Kind::MacMismatch =>
-            "no key accepts this token: it was changed, or signed by the keys of another file",
         Kind::UnknownTemplate => "no template has this name: `tink help new` lists them",
         Kind::NoFreshId => "no unused id was drawn: try again",
         Kind::KeyNotFound => "no key has this id: `tink keys` lists them",
