@@ -1,11 +1,18 @@
--- What is saved was made.
-use Rattle.std.proofs.Common.{inr, ℕ, List, Bool, Result, Ok, Err, refl}
-use Rattle.std.specs.Prelude.{OnOk}
+-- What is saved was made, and what its call leaves.
+use Rattle.std.proofs.Common.{◌≡◌, ◌⊎◌, inl, inr, ℕ, List, Bool, true, None, Result, Ok, Err, ap, refl}
+use Rattle.std.specs.Prelude.{IfErr, OnOk}
 use Rattle.std.specs.declared.option.Option.{Option}
-use Rattle.tink_io.specs.Told.{Answers}
+use Rattle.tink_io.specs.Told.{Answers, IsShort}
 use Rattle.tink_io.specs.declared.error.Kind.{Kind}
+use Rattle.tink_io.specs.declared.error.Kind.TheVariants.{OutOfMemory}
 use Rattle.tink_io.specs.declared.error.TinkError.{TinkError}
-use Rattle.tink_files.specs.Saved.{Saves}
+use Rattle.tink_proto.specs.declared.messages.keys.Keyset.{Keyset}
+use Rattle.tink_keysets.specs.Through.{LeavesDraws}
+use Rattle.tink_keysets.specs.Valid.{valid_keyset}
+use Rattle.tink_place.specs.Places.{Ends}
+use Rattle.tink_keygen.specs.Rotating.{left_by}
+use Rattle.tink_keygen.proofs.RotatingSteps.{leaves_told, undrawn}
+use Rattle.tink_files.specs.Saved.{left_from, Saves}
 
 -- where an answer is saved it was Ok, so that what holds of the one holds of the other
 pub saved_made : (P : Type 0) (answer : Result (List ℕ) TinkError) (result : Result (Unit {0}) TinkError) (draft : Option (List ℕ)) (replaces : Bool) (before after : Option (Option (List ℕ))) (i j : ℕ)
@@ -14,3 +21,26 @@ saved_made P (Ok bytes) (Ok done) draft replaces before after i j saves holds = 
 saved_made P (Ok bytes) (Err e) draft replaces before after i j saves holds = tt
 saved_made P (Err e) (Ok done) draft replaces before after i j saves holds = let made = (saves (Err e.kind) (inr refl)).made in absurd (cc made)
 saved_made P (Err e) (Err f) draft replaces before after i j saves holds = tt
+
+-- a refusal ends a draft as it is, whatever the draft has
+pub ended_refused : (answer : Result (List ℕ) TinkError) (before after : Option (Option (List ℕ))) (e : TinkError) (result : Result (Unit {0}) TinkError)
+    → answer ≡ Err e → Ends None true before after 0 0 (Err e) result → IfErr answer (λ f. result ≡ Err f)
+ended_refused answer before after e (Ok done) is ends = absurd ends
+ended_refused answer before after e (Err f) is ends = rw is (ap (λ (x : TinkError). Err x) ends.0)
+
+-- what a call leaves of the draws is left where its answer is saved
+pub saved_draws : (answer : Result (List ℕ) TinkError) (result : Result (Unit {0}) TinkError) (left before now : List ℕ)
+    → IfErr answer (λ e. result ≡ Err e) → LeavesDraws answer left before now → LeavesDraws result left before now
+saved_draws (Ok bytes) result left before now same leaves = leaves_told result left before now leaves
+saved_draws (Err e) result left before now same leaves = rw same leaves
+
+-- nothing is drawn where a file is no keyset
+pub left_unread : (told : Result (List ℕ) Kind) (template draws : List ℕ) (e : TinkError) → (e.kind ≡ OutOfMemory) ⊎ (told ≡ Err e.kind)
+    → IsShort e.kind draws draws ⊎ (draws ≡ left_from told template draws)
+left_unread told template draws e (inl want) = inl (undrawn e.kind draws want)
+left_unread told template draws e (inr is) = inr (rw is refl)
+
+-- else what the rotation leaves is left
+pub left_read : (told : Result (List ℕ) Kind) (bytes template draws now : List ℕ) (result : Result Keyset TinkError) → told ≡ Ok bytes
+    → LeavesDraws result (left_by template (valid_keyset bytes) draws) draws now → LeavesDraws result (left_from told template draws) draws now
+left_read told bytes template draws now result is leaves = rw is leaves

@@ -10,7 +10,7 @@ use Rattle.tink_proto.specs.declared.messages.keys.Keyset.{Keyset}
 use Rattle.tink_keysets.specs.Encrypted.{chained}
 use Rattle.tink_keysets.specs.Managed.{no_keys}
 use Rattle.tink_keysets.specs.Valid.{valid_keyset}
-use Rattle.tink_keygen.specs.Rotating.{rotated_by}
+use Rattle.tink_keygen.specs.Rotating.{left_by, rotated_by}
 use Rattle.tink_place.specs.Places.{IsSaved}
 use Rattle.tink_key_files.specs.Files.{file_text, format_of, wire_of}
 use Rattle.tink_key_files.specs.declared.formats.Format.{Format}
@@ -41,3 +41,11 @@ rotated_keyset file template draws = chained (λ bytes. rotated_by template (val
 -- the same as a file of the same format
 abbrev pub rotated_file : List ℕ → List ℕ → List ℕ → Result (List ℕ) Kind
 rotated_file file template draws = made_of (file_text (format_of file)) (rotated_keyset file template draws)
+
+-- the draws that are left of it: all of them where the file is no keyset
+abbrev pub left_from : Result (List ℕ) Kind → List ℕ → List ℕ → List ℕ
+left_from (Err kind) template draws = draws
+left_from (Ok bytes) template draws = left_by template (valid_keyset bytes) draws
+
+abbrev pub left_of_file : List ℕ → List ℕ → List ℕ → List ℕ
+left_of_file file template draws = left_from (wire_of file) template draws

@@ -1,6 +1,8 @@
 -- What becomes of a stream, a token or a text that is written into a place.
-use Rattle.std.specs.Prelude.{ℕ, List, Bool, Result}
+use Rattle.std.specs.Prelude.{◌≡◌, ℕ, List, Bool, Result, IfErr}
 use Rattle.std.specs.declared.option.Option.{Option}
+use Rattle.tink_io.specs.Faults.{Rose}
+use Rattle.tink_io.specs.declared.error.Kind.TheVariants.{OutOfMemory}
 use Rattle.tink_io.specs.declared.error.TinkError.{TinkError}
 use Rattle.tink_place.specs.Places.{Ends, IsShown}
 
@@ -17,3 +19,8 @@ pub record IsShownWhole {P V : Type 0} (got : P → Option (List ℕ)) (is_whole
   pub draft : P
   pub whole : is_whole draft value
   pub shown : IsShown (got draft) replaces before after
+
+-- Where no end failed, by its count of faults before and after, the call was done and the draft shown, or there is no memory.
+abbrev pub Succeeds : {V : Type 0} → ℕ → ℕ → ℕ → ℕ → Result V TinkError → Type 0
+Succeeds reads reads_after writes writes_after result =
+    (Rose reads reads_after → ⊥) → (Rose writes writes_after → ⊥) → IfErr result (λ e. e.kind ≡ OutOfMemory)

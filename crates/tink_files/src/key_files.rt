@@ -2,11 +2,12 @@
 
 ghost use Rattle.std.specs.Prelude.{◌≡◌, ◌≤◌, true, false, Ok};
 ghost use Rattle.tink_io.specs.Told.{Answers, made_of};
-ghost use Rattle.tink_keygen.specs.Rotating.{rotated_by};
+ghost use Rattle.tink_keygen.specs.Rotating.{left_by, rotated_by};
 ghost use Rattle.tink_keysets.specs.Managed.{no_keys};
+ghost use Rattle.tink_keysets.specs.Through.{LeavesDraws};
 ghost use Rattle.tink_key_files.specs.Edited.{edited_file};
 ghost use Rattle.tink_key_files.specs.Files.{file_text};
-ghost use Rattle.tink_files.specs.Saved.{Saves, new_file, rotated_file, rotated_keyset};
+ghost use Rattle.tink_files.specs.Saved.{Saves, left_of_file, new_file, rotated_file, rotated_keyset};
 
 use crate::saved::save_answer;
 use std::alloc::Global;
@@ -32,6 +33,7 @@ pub fn new_keys<P: Place>(
         (P.got place.old) (P.replaces place.old) (P.shown place.old) (P.shown place.new)
         (P.faults place.old) (P.faults place.new) }
     ensures gone { P.has_draft place.new ≡ false }
+    ensures rest { LeavesDraws result (left_by template.now (Ok no_keys) draws.old) draws.old draws.new }
 {
     let made = new_bytes(alloc, template, format, draws);
     save_answer(place, made)
@@ -75,6 +77,7 @@ pub fn rotate_keys<P: Place>(
         (P.got place.old) (P.replaces place.old) (P.shown place.old) (P.shown place.new)
         (P.faults place.old) (P.faults place.new) }
     ensures gone { P.has_draft place.new ≡ false }
+    ensures rest { LeavesDraws result (left_of_file file.items template.now draws.old) draws.old draws.new }
 {
     let made = rotated_bytes(alloc, file, template, draws);
     save_answer(place, made)
@@ -87,7 +90,8 @@ fn new_bytes(
     format: Format,
     draws: &mut Draws,
 ) -> Result<Bytes, TinkError>
-    ensures { Answers result (new_file template.now format draws.old) }
+    ensures answer { Answers result (new_file template.now format draws.old) }
+    ensures rest { LeavesDraws result (left_by template.now (Ok no_keys) draws.old) draws.old draws.new }
 {
     let keyset = keygen(alloc, template, draws)?;
     as_file(alloc, format, &keyset)
@@ -100,7 +104,8 @@ fn rotated_bytes(
     template: &str,
     draws: &mut Draws,
 ) -> Result<Bytes, TinkError>
-    ensures { Answers result (rotated_file file.items template.now draws.old) }
+    ensures answer { Answers result (rotated_file file.items template.now draws.old) }
+    ensures rest { LeavesDraws result (left_of_file file.items template.now draws.old) draws.old draws.new }
 {
     let format = Format::of_file(&file);
     let keyset = rotated_keyset(alloc, file, template, draws)?;
@@ -114,7 +119,8 @@ fn rotated_keyset(
     template: &str,
     draws: &mut Draws,
 ) -> Result<Keyset, TinkError>
-    ensures { Answers result (rotated_keyset file.items template.now draws.old) }
+    ensures answer { Answers result (rotated_keyset file.items template.now draws.old) }
+    ensures rest { LeavesDraws result (left_of_file file.items template.now draws.old) draws.old draws.new }
 {
     let keyset = wire_bytes(alloc, file)?;
     rotate(alloc, keyset.as_slice(), template, draws)

@@ -1,10 +1,11 @@
 //! A range of a stream's text is written into a place.
 
-ghost use Rattle.std.specs.Prelude.{◌≡◌, true, false, IfOk, OnErr};
+ghost use Rattle.std.specs.Prelude.{◌≡◌, ℕ, List, Some, true, false, IfOk, OnErr};
 ghost use Rattle.tink_range.specs.ChunkReading.{ends_of};
 ghost use Rattle.tink_range.specs.Objects.{KeepsObject};
+ghost use Rattle.tink_run.specs.Run.{CanOpen};
 ghost use Rattle.tink_run_range.specs.KeysetRanges.{GivesSlice, KeysetRangeMeans, TakesKeysetSteps};
-ghost use Rattle.tink_files.specs.Streams.{IsShownWhole, RanAndEnded};
+ghost use Rattle.tink_files.specs.Streams.{IsShownWhole, RanAndEnded, Succeeds};
 
 use std::alloc::Global;
 use std::sync::ledger::Ledger;
@@ -45,6 +46,11 @@ pub fn range_to<A: ReadAt, P: Place, L: Ledger>(
     // A step for each chunk that is opened.
     ensures ticks { TakesKeysetSteps keyset.now aad.now (A.bytes object.old) (A.length_of object.old) start len
         steps.old steps.new }
+
+    // Told bytes: where no end fails, the keyset loads and the object is a stream of the chosen key, the range is shown,
+    // or there is no memory.
+    ensures succeeds { (X : List ℕ) → A.bytes object.old ≡ Some X → CanOpen keyset.now aad.now X
+        → Succeeds (A.faults object.old) (A.faults object.new) (P.faults place.old) (P.faults place.new) result }
     ensures err { OnErr result (P.shown place.new ≡ P.shown place.old) }
     ensures gone { P.has_draft place.new ≡ false }
     ensures kept { KeepsObject A.length_of A.bytes A.faults object.old object.new }

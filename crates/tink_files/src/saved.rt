@@ -1,6 +1,6 @@
 //! What a call made is saved.
 
-ghost use Rattle.std.specs.Prelude.{◌≡◌, ◌≤◌, ℕ, List, true, false, Result};
+ghost use Rattle.std.specs.Prelude.{◌≡◌, ◌≤◌, ℕ, List, true, false, Err, IfErr, Result};
 ghost use Rattle.tink_io.specs.Told.{Answers};
 ghost use Rattle.tink_io.specs.declared.error.Kind.{Kind};
 ghost use Rattle.tink_files.specs.Saved.{Saves};
@@ -21,6 +21,7 @@ pub fn save_answer<P: Place>(
     ensures saves { (told : Result (List ℕ) Kind) → Answers answer told
         → Saves told result (P.got place.old) (P.replaces place.old) (P.shown place.old) (P.shown place.new)
         (P.faults place.old) (P.faults place.new) }
+    ensures refused { IfErr answer (λ e. result ≡ Err e) }
     ensures gone { P.has_draft place.new ≡ false }
     ensures later { P.faults place.old ≤ P.faults place.new }
 {

@@ -2,10 +2,10 @@
 
 ghost use Rattle.std.specs.Prelude.{◌≡◌, ℕ, List, true, false, IfOk, OnErr};
 ghost use Rattle.tink_run.specs.Outside.{outside_of};
-ghost use Rattle.tink_run.specs.Run.{AnswerMeans, OkMeans, Told};
-ghost use Rattle.tink_rewrap.specs.Promises.{IsWholeRewrap};
+ghost use Rattle.tink_run.specs.Run.{AnswerMeans, CanSucceed, OkMeans, Told};
+ghost use Rattle.tink_rewrap.specs.Promises.{CanRewrap, IsWholeRewrap};
 ghost use Rattle.tink_rewrap.specs.Rewrapping.{RewrapMeans, Sides};
-ghost use Rattle.tink_files.specs.Streams.{IsShownWhole, RanAndEnded};
+ghost use Rattle.tink_files.specs.Streams.{IsShownWhole, RanAndEnded, Succeeds};
 
 use std::alloc::Global;
 use tink_io::{Draws, Source, TinkError};
@@ -41,6 +41,12 @@ pub fn run_to<S: Source, P: Place>(
         → OkMeans command keyset.now aad.now draws.old draws.new T G
         (outside_of S.left S.faults P.got P.faults source.new draft) value)
         (P.replaces place.old) (P.shown place.old) (P.shown place.new) report) }
+
+    // Told bytes: where no end fails and the command can succeed, it does, or there is no memory.
+    ensures succeeds { (T G : List ℕ)
+        → Told (outside_of S.left S.faults P.got P.faults source.old place.old) T G
+        → CanSucceed command keyset.now aad.now draws.old T
+        → Succeeds (S.faults source.old) (S.faults source.new) (P.faults place.old) (P.faults place.new) result }
     ensures err { OnErr result (P.shown place.new ≡ P.shown place.old) }
     ensures gone { P.has_draft place.new ≡ false }
     ensures source { S.same source.old source.new }
@@ -81,6 +87,13 @@ pub fn rewrap_to<S: Source, P: Place>(
         (record { from = from.now; from_aad = from_aad.now; to = to.now; to_aad = to_aad.now })
         draws.old draws.new T G (outside_of S.left S.faults P.got P.faults source.new draft) value)
         (P.replaces place.old) (P.shown place.old) (P.shown place.new) report) }
+
+    // Told bytes: where no end fails and the stream can be moved, it is, or there is no memory.
+    ensures succeeds { (T G : List ℕ)
+        → Told (outside_of S.left S.faults P.got P.faults source.old place.old) T G
+        → CanRewrap (record { from = from.now; from_aad = from_aad.now; to = to.now; to_aad = to_aad.now })
+        draws.old T
+        → Succeeds (S.faults source.old) (S.faults source.new) (P.faults place.old) (P.faults place.new) result }
     ensures err { OnErr result (P.shown place.new ≡ P.shown place.old) }
     ensures gone { P.has_draft place.new ≡ false }
     ensures source { S.same source.old source.new }

@@ -1,4 +1,4 @@
-use Rattle.tink_files.proofs.StreamLemmas.{ran_and_ended, shown_whole}
+use Rattle.tink_files.proofs.StreamLemmas.{ran_and_ended, range_done, shown_whole, succeeded}
 use Rattle.tink_files.proofs.ranges.range_to.Goals as goal
 
 pub returns-clause-ran : goal.returns-clause-ran
@@ -16,3 +16,8 @@ returns-clause-ok g c =
     let same = c.run_range-answer.ensures.sink in
     shown_whole _ _ draft _ _ _ _ _ _ _ c.run_range-answer.result c.finish.result (g.met.P.Place.same_replaces place draft same)
     (g.met.P.Place.same_shown place draft same) c.run_range-answer.ensures.slice c.finish.ensures.ends
+
+pub returns-clause-succeeds : goal.returns-clause-succeeds
+returns-clause-succeeds g c = λ X told can.
+    succeeded _ _ _ _ _ _ _ _ _ c.run_range-answer.result c.finish.result c.run_range-answer.ensures.later c.finish.ensures.later c.finish.ensures.ends
+    (range_done c.run_range-answer.result _ _ _ _ (λ unread unwritten. c.run_range-answer.ensures.succeeds X told unread unwritten can))
