@@ -42,7 +42,7 @@ pub fn run_to<S: Source, P: Place>(
         (outside_of S.left S.faults P.got P.faults source.new draft) value)
         (P.replaces place.old) (P.shown place.old) (P.shown place.new) report) }
 
-    // Told bytes: where no end fails and the command can succeed, it does, or there is no memory.
+    // Known bytes: where no end fails and the command can succeed, it does, or there is no memory.
     ensures succeeds { (T G : List ℕ)
         → Told (outside_of S.left S.faults P.got P.faults source.old place.old) T G
         → CanSucceed command keyset.now aad.now draws.old T
@@ -88,7 +88,7 @@ pub fn rewrap_to<S: Source, P: Place>(
         draws.old draws.new T G (outside_of S.left S.faults P.got P.faults source.new draft) value)
         (P.replaces place.old) (P.shown place.old) (P.shown place.new) report) }
 
-    // Told bytes: where no end fails and the stream can be moved, it is, or there is no memory.
+    // Known bytes: where no end fails and the stream can be moved, it is, or there is no memory.
     ensures succeeds { (T G : List ℕ)
         → Told (outside_of S.left S.faults P.got P.faults source.old place.old) T G
         → CanRewrap (record { from = from.now; from_aad = from_aad.now; to = to.now; to_aad = to_aad.now })
