@@ -1,6 +1,11 @@
+ghost use Rattle.tink_io.specs.Told.{Answers};
+ghost use Rattle.tink_key_files.specs.Edited.{edited_file};
+ghost use Rattle.tink_key_files.specs.declared.editing.Edit.TheVariants.{Disable};
+
 use std::alloc::Global;
-use tink_io::Kind;
+use tink_io::{Kind, TinkError};
 use tink_key_files::{Edit, Format, edited_file, list, wire_bytes};
+use tink_proto::Bytes;
 
 // A public keyset of two keys in JSON, of which the second is disabled.
 const KEYS: &[u8] = b" {\"primaryKeyId\": 7, \"key\": [
@@ -40,10 +45,21 @@ fn lists_edited(alloc: Global, edit: Edit, id: u32, lines: &[u8]) -> bool {
     }
 }
 
+// The file with the first key of an id disabled, in the format that it has.
+fn disabled(alloc: Global, file: Vec<u8>, id: u32) -> Result<Bytes, TinkError>
+    ensures { Answers result (edited_file file.items Disable id) }
+{
+    edited_file(alloc, file, Edit::Disable, id)
+}
+
 // By which kind an edit of a file is refused.
 fn refusal(alloc: Global, file: &[u8], edit: Edit, id: u32) -> Option<Kind> {
     let file = Vec::from_slice(alloc, file).ok()?;
-    match edited_file(alloc, file, edit, id) {
+    let answer = match edit {
+        Edit::Disable => disabled(alloc, file, id),
+        _ => edited_file(alloc, file, edit, id),
+    };
+    match answer {
         Ok(_) => None,
         Err(e) => Some(e.kind),
     }

@@ -1,6 +1,8 @@
+ghost use Rattle.std.specs.Prelude.{◌≡◌, true, OnErr};
+
 use std::alloc::Global;
-use tink_io::Kind;
-use tink_place::{MemPlace, finish, save};
+use tink_io::{Kind, TinkError};
+use tink_place::{MemPlace, Place, finish, save};
 
 // What is there before, and what is written.
 pub const BEFORE: &[u8] = b"before";
@@ -24,13 +26,21 @@ pub fn shows(place: &MemPlace, text: &[u8]) -> bool {
     }
 }
 
+// A text in place of what stands under the name. By a refusal that stays.
+fn replaced<P: Place>(place: &mut P, text: &[u8]) -> Result<(), TinkError>
+    requires { P.has_draft place.old ≡ true }
+    ensures { OnErr result (P.shown place.new ≡ P.shown place.old) }
+{
+    save(place, text)
+}
+
 // Whether a save shows the text, and else what was before.
 fn saves(alloc: Global, room: usize, replaces: bool, can_show: bool) -> Option<bool> {
     let mut place = place_of(alloc, room, replaces, can_show)?;
     if !place.has_draft {
         return None;
     }
-    match save(&mut place, TEXT) {
+    match replaced(&mut place, TEXT) {
         Ok(()) if shows(&place, TEXT) => Some(true),
         Err(e) if e.kind == Kind::WriteFault && shows(&place, BEFORE) => Some(false),
         _ => None,
@@ -64,7 +74,7 @@ fn refuses(place: &mut MemPlace) -> bool {
     if !place.has_draft {
         return false;
     }
-    let refusal = tink_io::TinkError::new(Kind::NoMatchingKey);
-    let answer: Result<u8, tink_io::TinkError> = finish(place, Err(refusal));
+    let refusal = TinkError::new(Kind::NoMatchingKey);
+    let answer: Result<u8, TinkError> = finish(place, Err(refusal));
     answer == Err(refusal) && shows(place, BEFORE)
 }

@@ -1,6 +1,6 @@
 //! What streams, tokens and ranges leave in a place over memory.
 
-ghost use Rattle.std.specs.Prelude.{◌≡◌, ◌<◌, true};
+ghost use Rattle.std.specs.Prelude.{◌≡◌, ◌<◌, true, OnErr};
 
 use crate::place_tests::shows;
 use std::alloc::Global;
@@ -8,10 +8,10 @@ use std::marker::Brand;
 use std::sync::ledger::{Blank, Ledger};
 use std::test::Fail;
 use tink_files::{range_to, rewrap_to, run_to, sign_to, verify_to};
-use tink_io::{Draws, Kind, SureSource, TinkError};
-use tink_place::MemPlace;
+use tink_io::{Draws, Kind, Source, SureSource, TinkError};
+use tink_place::{MemPlace, Place};
 use tink_range::{MemAt, Steps};
-use tink_run::report::Command;
+use tink_run::report::{Command, Report};
 
 // A raw key in counter mode, with segments of 35 bytes and tags of 10.
 const CTR: &str =
@@ -139,6 +139,21 @@ fn counted(alloc: Global) -> Result<Draws, Fail> {
     Ok(Draws::new(drawn))
 }
 
+// Encrypts a source to a file that is shown whole. By a refusal what stands there stays.
+fn encrypted<S: Source, P: Place>(
+    alloc: Global,
+    keyset: &[u8],
+    aad: &[u8],
+    draws: &mut Draws,
+    source: &mut S,
+    place: &mut P,
+) -> Result<Report, TinkError>
+    requires { P.has_draft place.old ≡ true }
+    ensures { OnErr result (P.shown place.new ≡ P.shown place.old) }
+{
+    run_to(alloc, Command::Seal, keyset, aad, draws, source, place)
+}
+
 // Does what is asked, and answers how it is refused, if it is.
 fn refusal(
     alloc: Global,
@@ -158,7 +173,7 @@ fn refusal(
     }
     let source = &mut SureSource::new(input);
     match asked {
-        Asked::Seal => told(run_to(alloc, Command::Seal, ctr, b"May", draws, source, place)),
+        Asked::Seal => told(encrypted(alloc, ctr, b"May", draws, source, place)),
         Asked::Rewrap => told(rewrap_to(alloc, ctr, b"May", gcm, b"June", draws, source, place)),
         Asked::Sign => told(sign_to(alloc, macs, source, place)),
         Asked::Verify => told(verify_to(alloc, macs, source, place)),

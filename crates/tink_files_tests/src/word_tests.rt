@@ -1,3 +1,6 @@
+ghost use Rattle.std.specs.Prelude.{◌≡◌, option_map};
+ghost use Rattle.tink_words.specs.Forms.{given, words_of};
+
 use std::alloc::Global;
 use tink_words::{Action, parse};
 
@@ -44,6 +47,16 @@ const LINES: [(&str, Option<Action>); 33] = [
     ("nonsense", None),
 ];
 
+// The command that the words spell.
+fn command(words: &Vec<String>) -> Option<Action>
+    ensures { result ≡ option_map (λ g. g.action) (given (words_of words.now)) }
+{
+    match parse(words) {
+        Some(given) => Some(given.action),
+        None => None,
+    }
+}
+
 // The command that a line spells; `None` where there is no memory.
 fn spelled(alloc: Global, line: &str) -> Option<Option<Action>> {
     let mut words = Vec::new(alloc);
@@ -53,10 +66,7 @@ fn spelled(alloc: Global, line: &str) -> Option<Option<Action>> {
             return None;
         }
     }
-    match parse(&words) {
-        Some(given) => Some(Some(given.action)),
-        None => Some(None),
-    }
+    Some(command(&words))
 }
 
 #[test]
