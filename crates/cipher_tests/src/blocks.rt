@@ -2,12 +2,13 @@
 
 ghost use Rattle.std.specs.Prelude.{◌≡◌, ℕ, map};
 
-use crate::expected::{check, check_at, expect, is_shown};
+use crate::expected::{check, is_shown};
 use crate::shifted::Shift;
 use cipher::dev::block_cipher::{TestVector, decrypt_test, encrypt_decrypt_test, encrypt_test};
 use cipher::{
     BlockCipherDecrypt, BlockCipherEncrypt, InOut, InOutBuf, InvalidLength, KeyInit, NotEqualError,
 };
+use std::alloc::Global;
 use std::test::Fail;
 
 const PLAIN: [[u8; 5]; 10] = [[1, 2, 3, 4, 255]; 10];
@@ -59,12 +60,14 @@ fn shifts(c: &Shift, n: usize) -> bool {
     shifts_in_place(c, n) && shifts_by_a_buffer(c, n) && shifts_elsewhere(c, n)
 }
 
-#[test]
-fn up_to_ten_blocks_are_shifted(rt: HostRuntime) {
+// whether they shift up to ten
+fn up_to_ten_are_shifted() -> bool {
     let c = Shift::new(&[250]);
+    let mut same = true;
     for n in 0..11 {
-        check_at(&rt, shifts(&c, n), n);
+        same = same && shifts(&c, n);
     }
+    same
 }
 
 // whether n blocks for m places are refused, and nothing is written
@@ -74,15 +77,18 @@ fn is_misfit(n: usize, m: usize) -> bool {
     told == Err(NotEqualError) && there == ZEROS
 }
 
-#[test]
-fn unequal_numbers_of_blocks_change_nothing(rt: HostRuntime) {
+// whether other numbers of places are
+fn misfits_change_nothing() -> bool {
+    let mut same = true;
     for n in 0..11 {
-        check_at(&rt, n == 6 || is_misfit(n, 9 - n / 2), n);
+        same = same && (n == 6 || is_misfit(n, 9 - n / 2));
     }
+    same
 }
 
 // a block encrypted in its place, elsewhere and by places, and decrypted likewise
-fn each_way(c: &Shift) -> [[u8; 5]; 6] {
+fn each_way() -> [[u8; 5]; 6] {
+    let c = Shift::new(&[250]);
     let mut made = [PLAIN[0], [0; 5], PLAIN[0], SHIFTED[0], [0; 5], [0; 5]];
     c.encrypt_block(&mut made[0]);
     c.encrypt_block_b2b(&PLAIN[0], &mut made[1]);
@@ -93,30 +99,17 @@ fn each_way(c: &Shift) -> [[u8; 5]; 6] {
     made
 }
 
-#[test]
-fn one_block_is_shifted(rt: HostRuntime) {
+// whether these are shifted there three ways and back three ways
+fn is_shifted_each_way() -> bool {
     let (plain, shifted) = (PLAIN[0], SHIFTED[0]);
-    expect(
-        &rt,
-        each_way(&Shift::new(&[250])),
-        [shifted, shifted, shifted, plain, plain, plain],
-        "encrypted three ways and decrypted three ways",
-    );
+    each_way() == [shifted, shifted, shifted, plain, plain, plain]
 }
 
-#[test]
-fn a_cipher_has_a_name(rt: HostRuntime) -> Result<(), Fail> {
-    check(
-        &rt,
-        is_shown(rt.alloc(), &Shift::new(&[1]), "Shift")?,
-        "name",
-    );
-    check(
-        &rt,
-        is_shown(rt.alloc(), &InvalidLength, "Invalid Length")?,
-        "error",
-    );
-    Ok(())
+// whether a cipher and the error of its key are shown so
+fn texts_are_told(alloc: Global) -> Result<bool, Fail> {
+    let cipher = is_shown(alloc, &Shift::new(&[1]), "Shift")?;
+    let error = is_shown(alloc, &InvalidLength, "Invalid Length")?;
+    Ok(cipher && error)
 }
 
 type Told = Result<(), &'static str>;
@@ -165,30 +158,6 @@ fn told_of_lengths() -> [Told; 3] {
     ]
 }
 
-#[test]
-fn a_vector_is_told(rt: HostRuntime) {
-    expect(
-        &rt,
-        told_of_blocks(),
-        [
-            Ok(()),
-            Err("single block encryption failure"),
-            Err("single block decryption failure"),
-        ],
-        "blocks",
-    );
-    expect(
-        &rt,
-        told_of_lengths(),
-        [
-            Err("unexpected size of ciphertext block"),
-            Err("unexpected size of plaintext block"),
-            Err("cipher initialization failure"),
-        ],
-        "lengths",
-    );
-}
-
 // blocks in their places, by a buffer that is passed by value
 fn in_place<C: BlockCipherEncrypt<5>>(cipher: &C, blocks: &mut [[u8; 5]])
     ensures { blocks.new ≡ map (C.encrypts cipher.now) blocks.old }
@@ -200,19 +169,68 @@ fn in_place<C: BlockCipherEncrypt<5>>(cipher: &C, blocks: &mut [[u8; 5]])
 }
 
 // whether a cipher behind a reference shifts the blocks
-fn shifts_behind_a_reference(c: &Shift) -> bool {
+fn shifts_behind_a_reference() -> bool {
     let mut blocks = PLAIN;
-    in_place(&c, &mut blocks);
+    in_place(&&Shift::new(&[250]), &mut blocks);
     blocks == SHIFTED
 }
 
+// what is asked
+#[derive(Clone, Copy)]
+enum Asked {
+    UpToTen,
+    Misfits,
+    EachWay,
+    VectorsOfBlocks,
+    VectorsOfLengths,
+    Reference,
+    Key,
+    NoKey,
+}
+
+fn answered(asked: Asked) -> bool {
+    match asked {
+        Asked::UpToTen => up_to_ten_are_shifted(),
+        Asked::Misfits => misfits_change_nothing(),
+        Asked::EachWay => is_shifted_each_way(),
+        Asked::VectorsOfBlocks => {
+            told_of_blocks()
+                == [
+                    Ok(()),
+                    Err("single block encryption failure"),
+                    Err("single block decryption failure"),
+                ]
+        }
+        Asked::VectorsOfLengths => {
+            told_of_lengths()
+                == [
+                    Err("unexpected size of ciphertext block"),
+                    Err("unexpected size of plaintext block"),
+                    Err("cipher initialization failure"),
+                ]
+        }
+        Asked::Reference => shifts_behind_a_reference(),
+        Asked::Key => Shift::new_from_slice(&[250]).is_ok(),
+        Asked::NoKey => Shift::new_from_slice(&[]).is_err(),
+    }
+}
+
+const ROWS: &[(&str, Asked)] = &[
+    ("up to ten blocks", Asked::UpToTen),
+    ("unequal numbers of blocks", Asked::Misfits),
+    ("one block each way", Asked::EachWay),
+    ("vectors of blocks", Asked::VectorsOfBlocks),
+    ("vectors of other lengths", Asked::VectorsOfLengths),
+    ("behind a reference", Asked::Reference),
+    ("a key", Asked::Key),
+    ("no key", Asked::NoKey),
+];
+
 #[test]
-fn a_reference_is_a_cipher(rt: HostRuntime) {
-    check(
-        &rt,
-        shifts_behind_a_reference(&Shift::new(&[250])),
-        "shifts",
-    );
-    check(&rt, Shift::new_from_slice(&[250]).is_ok(), "a key");
-    check(&rt, Shift::new_from_slice(&[]).is_err(), "no key");
+fn blocks_are_shifted(rt: HostRuntime) -> Result<(), Fail> {
+    for (row, asked) in ROWS {
+        check(&rt, answered(*asked), row);
+    }
+    check(&rt, texts_are_told(rt.alloc())?, "texts");
+    Ok(())
 }

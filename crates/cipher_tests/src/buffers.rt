@@ -1,6 +1,6 @@
 //! Buffers.
 
-use crate::expected::{check, expect};
+use crate::expected::check;
 use cipher::{InOut, InOutBuf, InOutBufReserved};
 
 // what a buffer reads, and what it writes, xor ones
@@ -12,6 +12,10 @@ fn xored() -> ([u8; 5], [u8; 5]) {
     buffer.xor_in2out(&[1; 5]);
     read.copy_from_slice(buffer.get_in());
     (read, output)
+}
+
+fn are_unequal() -> bool {
+    InOutBuf::new(&[1, 2], &mut [0; 5]).is_err()
 }
 
 // the lengths of the parts before and behind the third place, and whether the second is empty
@@ -28,14 +32,6 @@ fn chunks() -> ([u8; 2], u8) {
     let buffer = InOutBuf::new(&[1, 2, 3], &mut output).unwrap();
     let (chunks, rest) = buffer.into_chunks::<2>();
     (chunks.get_in()[0], rest.get_in()[0])
-}
-
-#[test]
-fn buffers_read_and_write(rt: HostRuntime) {
-    check(&rt, InOutBuf::new(&[1, 2], &mut [0; 5]).is_err(), "unequal");
-    expect(&rt, xored(), ([1, 2, 3, 4, 5], [0, 3, 2, 5, 4]), "xor");
-    expect(&rt, split(), (3, 2, false), "lengths");
-    expect(&rt, chunks(), ([1, 2], 3), "chunks");
 }
 
 // what a place reads, what it holds and what its second part reads
@@ -67,12 +63,8 @@ fn written_singly() -> ([u8; 2], u8) {
     (output, read)
 }
 
-#[test]
-fn places_read_and_write(rt: HostRuntime) {
-    expect(&rt, one_place(), ([1, 2], [0, 3], 2), "one place");
-    expect(&rt, written_in_part(), [0, 5], "a part");
-    expect(&rt, written_singly(), ([4, 6], 5), "two places");
-    check(&rt, !InOutBuf::from(&mut [0; 2][..]).is_empty(), "empty");
+fn is_empty() -> bool {
+    InOutBuf::from(&mut [0; 2][..]).is_empty()
 }
 
 // the length of a message in front, whether it is empty, what is read, and what stands behind after a write
@@ -129,22 +121,67 @@ fn lends_a_message() -> bool {
     lent.len() == 1 && lent.get_in() == [7].as_slice() && output == [0, 6]
 }
 
-#[test]
-fn a_message_is_parted(rt: HostRuntime) {
-    check(&rt, splits(), "behind its first place");
-    check(&rt, chunks_of_a_message(), "pairs");
-    check(&rt, lends_a_message(), "lent");
+// what is asked
+#[derive(Clone, Copy)]
+enum Asked {
+    Unequal,
+    Xor,
+    Lengths,
+    Chunks,
+    OnePlace,
+    APart,
+    TwoPlaces,
+    Empty,
+    BehindItsFirst,
+    Pairs,
+    Lent,
+    TooLongInFront,
+    TooLongElsewhere,
+    InFront,
+    Elsewhere,
 }
 
+fn holds(asked: Asked) -> bool {
+    match asked {
+        Asked::Unequal => are_unequal(),
+        Asked::Xor => xored() == ([1, 2, 3, 4, 5], [0, 3, 2, 5, 4]),
+        Asked::Lengths => split() == (3, 2, false),
+        Asked::Chunks => chunks() == ([1, 2], 3),
+        Asked::OnePlace => one_place() == ([1, 2], [0, 3], 2),
+        Asked::APart => written_in_part() == [0, 5],
+        Asked::TwoPlaces => written_singly() == ([4, 6], 5),
+        Asked::Empty => !is_empty(),
+        Asked::BehindItsFirst => splits(),
+        Asked::Pairs => chunks_of_a_message(),
+        Asked::Lent => lends_a_message(),
+        Asked::TooLongInFront => is_too_long_in_front(),
+        Asked::TooLongElsewhere => is_too_long_elsewhere(),
+        Asked::InFront => message_in_front() == (2, false, [1, 2], [1, 2, 9]),
+        Asked::Elsewhere => message_elsewhere() == ([7], [1, 2, 9]),
+    }
+}
+
+const ROWS: &[(&str, Asked)] = &[
+    ("unequal lengths", Asked::Unequal),
+    ("xor", Asked::Xor),
+    ("the lengths of parts", Asked::Lengths),
+    ("chunks", Asked::Chunks),
+    ("one place", Asked::OnePlace),
+    ("a part of a place", Asked::APart),
+    ("two places", Asked::TwoPlaces),
+    ("two places are not empty", Asked::Empty),
+    ("a message behind its first place", Asked::BehindItsFirst),
+    ("pairs of a message", Asked::Pairs),
+    ("a message that is lent", Asked::Lent),
+    ("too long in front", Asked::TooLongInFront),
+    ("too long elsewhere", Asked::TooLongElsewhere),
+    ("a message in front", Asked::InFront),
+    ("a message elsewhere", Asked::Elsewhere),
+];
+
 #[test]
-fn a_message_has_room_behind_it(rt: HostRuntime) {
-    check(&rt, is_too_long_in_front(), "too long in front");
-    check(&rt, is_too_long_elsewhere(), "too long elsewhere");
-    expect(
-        &rt,
-        message_in_front(),
-        (2, false, [1, 2], [1, 2, 9]),
-        "in front",
-    );
-    expect(&rt, message_elsewhere(), ([7], [1, 2, 9]), "elsewhere");
+fn buffers_read_and_write(rt: HostRuntime) {
+    for (row, asked) in ROWS {
+        check(&rt, holds(*asked), row);
+    }
 }

@@ -4,22 +4,9 @@ use std::alloc::{AllocError, Global};
 use std::fmt::{Debug, Display};
 use std::process::Abort;
 
-/// The one place that compares: a test function with many `assert_eq!` takes long to prove.
-pub fn expect<T>(rt: &impl Abort, got: T, want: T, label: &str)
-where
-    T: PartialEq + Debug + Drop,
-{
-    assert_eq!(rt; got, want, "{label}");
-}
-
-/// The same where the values that differ would say nothing.
+/// The one place that stops.
 pub fn check(rt: &impl Abort, holds: bool, label: &str) {
     assert!(rt; holds, "{label}");
-}
-
-/// The same in a loop, at a number.
-pub fn check_at(rt: &impl Abort, holds: bool, at: usize) {
-    assert!(rt; holds, "at {at}");
 }
 
 /// Whether this is how a value is shown.

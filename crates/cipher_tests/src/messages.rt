@@ -1,7 +1,7 @@
 //! Paddings, and messages that are padded.
 
 use crate::chained::{decrypter, encrypter};
-use crate::expected::{check, expect};
+use crate::expected::check;
 use cipher::{InOutBuf, InOutBufReserved};
 use cipher_modes::{
     BlockModeDecrypt, BlockModeEncrypt, NoPadding, PadError, PaddedVecError, Padding, Pkcs7,
@@ -28,33 +28,8 @@ fn padded<P: Padding>(len: usize) -> ([u8; 10], Result<usize, PadError>) {
     (buffer, told)
 }
 
-#[test]
-fn paddings_fill_whole_blocks(rt: HostRuntime) {
-    expect(
-        &rt,
-        padded::<Pkcs7>(4),
-        ([9, 9, 9, 9, 4, 4, 4, 4, 9, 9], Ok(8)),
-        "PKCS #7 of 4",
-    );
-    expect(
-        &rt,
-        padded::<Pkcs7>(0),
-        ([4, 4, 4, 4, 9, 9, 9, 9, 9, 9], Ok(4)),
-        "PKCS #7 of 0",
-    );
-    expect(
-        &rt,
-        padded::<ZeroPadding>(4),
-        ([9; 10], Ok(4)),
-        "zeros of 4",
-    );
-    expect(
-        &rt,
-        padded::<NoPadding>(5),
-        ([9; 10], Err(PadError)),
-        "none of 5",
-    );
-    expect(&rt, Pkcs7::padded_len(4, 4), Some(8), "length");
+fn fours_come_off() -> bool {
+    gives(Pkcs7::unpad(&[4; 8], 4), &[4; 4])
 }
 
 fn zeros_come_off() -> bool {
@@ -62,13 +37,6 @@ fn zeros_come_off() -> bool {
         ZeroPadding::unpad(&[0, 0, 0, 0, 5, 0, 0, 0], 4),
         &[0, 0, 0, 0, 5],
     )
-}
-
-#[test]
-fn paddings_come_off(rt: HostRuntime) {
-    check(&rt, Pkcs7::unpad(&[], 4).is_err(), "no bytes");
-    check(&rt, gives(Pkcs7::unpad(&[4; 8], 4), &[4; 4]), "PKCS #7");
-    check(&rt, zeros_come_off(), "zeros");
 }
 
 fn encrypts_in_place() -> bool {
@@ -123,21 +91,6 @@ fn refuses_part_blocks() -> bool {
         .is_err()
 }
 
-#[test]
-fn messages_go_there(rt: HostRuntime) {
-    check(&rt, encrypts_in_place(), "in place");
-    check(&rt, encrypts_elsewhere(), "elsewhere");
-    check(&rt, encrypts_with_room(), "with room");
-    check(&rt, refuses_part_blocks(), "five bytes without padding");
-}
-
-#[test]
-fn messages_come_back(rt: HostRuntime) {
-    check(&rt, decrypts_in_place(), "in place");
-    check(&rt, decrypts_elsewhere(), "elsewhere");
-    check(&rt, decrypts_by_places(), "by places");
-}
-
 // a message elsewhere, encrypted in a buffer of nines
 fn encrypted_len() -> ([u8; 9], Result<usize, PadError>) {
     let mut buffer = [9; 9];
@@ -158,22 +111,6 @@ fn without_room() -> ([u8; 8], Result<usize, PadError>) {
     (buffer, told)
 }
 
-#[test]
-fn an_encryption_says_what_stands(rt: HostRuntime) {
-    expect(
-        &rt,
-        encrypted_len(),
-        ([2, 3, 4, 5, 7, 8, 1, 2, 9], Ok(8)),
-        "encrypted",
-    );
-    expect(
-        &rt,
-        without_room(),
-        ([1, 2, 3, 4, 5, 6, 7, 8], Err(PadError)),
-        "without room",
-    );
-}
-
 // the blocks deciphered into the first n bytes of a buffer of nines
 fn deciphered_into(n: usize) -> ([u8; 8], Result<usize, UnpadError>) {
     let mut buffer = [9; 8];
@@ -188,30 +125,8 @@ fn deciphered(bytes: [u8; 8], n: usize) -> ([u8; 8], Result<usize, UnpadError>) 
     (buffer, told)
 }
 
-#[test]
-fn a_decryption_says_what_stands(rt: HostRuntime) {
-    let bad = [2, 3, 4, 5, 7, 8, 1, 3];
-    expect(&rt, deciphered_into(8), (PADDED, Ok(4)), "elsewhere");
-    expect(
-        &rt,
-        deciphered_into(7),
-        ([9; 8], Err(UnpadError)),
-        "too short",
-    );
-    expect(&rt, deciphered(MADE, 8), (PADDED, Ok(4)), "in place");
-    expect(
-        &rt,
-        deciphered(bad, 8),
-        ([1, 2, 3, 4, 4, 4, 4, 7], Err(UnpadError)),
-        "malformed",
-    );
-    expect(
-        &rt,
-        deciphered(bad, 7),
-        (bad, Err(UnpadError)),
-        "part of a block",
-    );
-}
+// the ciphertext with another last byte
+const BAD: [u8; 8] = [2, 3, 4, 5, 7, 8, 1, 3];
 
 // the bytes of the vector that is made, or the error
 fn encrypted_vec(alloc: Global) -> Result<[u8; 8], PaddedVecError> {
@@ -252,19 +167,110 @@ fn refused_vecs(alloc: Global) -> [Option<PaddedVecError>; 2] {
     ]
 }
 
+// whether vectors go there and back, and two are refused
+fn vectors_go(alloc: Global) -> bool {
+    encrypted_vec(alloc) == Ok(MADE)
+        && decrypted_vec(alloc) == Ok([1, 2, 3, 4])
+        && refused_vecs(alloc) == [Some(PaddedVecError::Pad), Some(PaddedVecError::Unpad)]
+}
+
+// what is asked
+#[derive(Clone, Copy)]
+enum Asked {
+    Pkcs7OfFour,
+    Pkcs7OfNone,
+    ZerosOfFour,
+    NoneOfFive,
+    Length,
+    NoBytes,
+    FoursOff,
+    ZerosOff,
+    ThereInPlace,
+    ThereElsewhere,
+    ThereWithRoom,
+    PartBlocks,
+    BackInPlace,
+    BackElsewhere,
+    BackByPlaces,
+    Encrypted,
+    WithoutRoom,
+    Deciphered,
+    TooShort,
+    DecipheredInPlace,
+    Malformed,
+    PartOfABlock,
+}
+
+fn holds(asked: Asked) -> bool {
+    match asked {
+        Asked::Pkcs7OfFour => padded::<Pkcs7>(4) == ([9, 9, 9, 9, 4, 4, 4, 4, 9, 9], Ok(8)),
+        Asked::Pkcs7OfNone => padded::<Pkcs7>(0) == ([4, 4, 4, 4, 9, 9, 9, 9, 9, 9], Ok(4)),
+        Asked::ZerosOfFour => padded::<ZeroPadding>(4) == ([9; 10], Ok(4)),
+        Asked::NoneOfFive => padded::<NoPadding>(5) == ([9; 10], Err(PadError)),
+        Asked::Length => Pkcs7::padded_len(4, 4) == Some(8),
+        Asked::NoBytes => Pkcs7::unpad(&[], 4).is_err(),
+        Asked::FoursOff => fours_come_off(),
+        Asked::ZerosOff => zeros_come_off(),
+        Asked::ThereInPlace => encrypts_in_place(),
+        Asked::ThereElsewhere => encrypts_elsewhere(),
+        Asked::ThereWithRoom => encrypts_with_room(),
+        Asked::PartBlocks => refuses_part_blocks(),
+        _ => holds_of_others(asked),
+    }
+}
+
+fn holds_of_others(asked: Asked) -> bool {
+    match asked {
+        Asked::BackInPlace => decrypts_in_place(),
+        Asked::BackElsewhere => decrypts_elsewhere(),
+        Asked::BackByPlaces => decrypts_by_places(),
+        Asked::Encrypted => encrypted_len() == ([2, 3, 4, 5, 7, 8, 1, 2, 9], Ok(8)),
+        Asked::WithoutRoom => without_room() == ([1, 2, 3, 4, 5, 6, 7, 8], Err(PadError)),
+        Asked::Deciphered => deciphered_into(8) == (PADDED, Ok(4)),
+        Asked::TooShort => deciphered_into(7) == ([9; 8], Err(UnpadError)),
+        Asked::DecipheredInPlace => deciphered(MADE, 8) == (PADDED, Ok(4)),
+        Asked::Malformed => deciphered(BAD, 8) == ([1, 2, 3, 4, 4, 4, 4, 7], Err(UnpadError)),
+        _ => deciphered(BAD, 7) == (BAD, Err(UnpadError)),
+    }
+}
+
+const ROWS: &[(&str, Asked)] = &[
+    ("PKCS #7 of 4", Asked::Pkcs7OfFour),
+    ("PKCS #7 of 0", Asked::Pkcs7OfNone),
+    ("zeros of 4", Asked::ZerosOfFour),
+    ("no padding of 5", Asked::NoneOfFive),
+    ("the length of PKCS #7", Asked::Length),
+    ("no bytes come off", Asked::NoBytes),
+    ("PKCS #7 comes off", Asked::FoursOff),
+    ("zeros come off", Asked::ZerosOff),
+    ("there in place", Asked::ThereInPlace),
+    ("there elsewhere", Asked::ThereElsewhere),
+    ("there with room", Asked::ThereWithRoom),
+    ("five bytes without padding", Asked::PartBlocks),
+    ("back in place", Asked::BackInPlace),
+    ("back elsewhere", Asked::BackElsewhere),
+    ("back by places", Asked::BackByPlaces),
+    ("an encrypted length", Asked::Encrypted),
+    ("without room", Asked::WithoutRoom),
+    ("a decrypted length elsewhere", Asked::Deciphered),
+    ("too short a place", Asked::TooShort),
+    ("a decrypted length in place", Asked::DecipheredInPlace),
+    ("a malformed padding", Asked::Malformed),
+    ("a part of a block", Asked::PartOfABlock),
+];
+
 #[test]
-fn vectors_go_there_and_back(rt: HostRuntime) {
-    expect(&rt, encrypted_vec(rt.alloc()), Ok(MADE), "encrypted");
-    expect(
+fn messages_go_there_and_back(rt: HostRuntime) {
+    for (row, asked) in ROWS {
+        check(&rt, holds(*asked), row);
+    }
+    let alloc = rt.alloc();
+    check(&rt, encrypted_vec(alloc) == Ok(MADE), "a vector there");
+    check(
         &rt,
-        decrypted_vec(rt.alloc()),
-        Ok([1, 2, 3, 4]),
-        "decrypted",
+        decrypted_vec(alloc) == Ok([1, 2, 3, 4]),
+        "a vector back",
     );
-    expect(
-        &rt,
-        refused_vecs(rt.alloc()),
-        [Some(PaddedVecError::Pad), Some(PaddedVecError::Unpad)],
-        "refused",
-    );
+    let refused = [Some(PaddedVecError::Pad), Some(PaddedVecError::Unpad)];
+    check(&rt, refused_vecs(alloc) == refused, "vectors refused");
 }

@@ -4,7 +4,7 @@ ghost use Rattle.std.specs.Prelude.{◌≡◌, ℕ, List};
 ghost use Rattle.cipher_modes.specs.Steps.{run_of, state_after};
 
 use crate::chained::{AddKey, Chained, Unchained, decrypter, encrypter};
-use crate::expected::{check, check_at, expect};
+use crate::expected::check;
 use cipher::{InOut, InOutBuf, InnerIvInit, InvalidLength, IvState, NotEqualError, SetIvState};
 use cipher_modes::dev::block_mode::{TestVector, decrypt, encrypt};
 use cipher_modes::{BlockModeDecrypt, BlockModeEncrypt};
@@ -77,11 +77,13 @@ fn goes(n: usize) -> bool {
     goes_together(n) && goes_in_place(n, &want) && comes_back(n, &want) && goes_elsewhere(n, &want)
 }
 
-#[test]
-fn blocks_go_in_order(rt: HostRuntime) {
+// whether they do up to ten
+fn up_to_ten_go() -> bool {
+    let mut same = true;
     for n in 0..11 {
-        check_at(&rt, goes(n), n);
+        same = same && goes(n);
     }
+    same
 }
 
 const NINES: [[u8; 4]; 2] = [[9; 4]; 2];
@@ -98,12 +100,6 @@ fn refuses_too_few() -> bool {
     let mut mode = decrypter();
     let told = mode.decrypt_blocks_b2b(&BLOCKS[..1], &mut out);
     told == Err(NotEqualError) && out == NINES && mode.iv == [0; 4]
-}
-
-#[test]
-fn unequal_numbers_of_blocks_change_nothing(rt: HostRuntime) {
-    check(&rt, refuses_too_many(), "encryption");
-    check(&rt, refuses_too_few(), "decryption");
 }
 
 const TEXT: [u8; 4] = [1, 2, 3, 4];
@@ -127,12 +123,6 @@ fn decrypted_each_way() -> [[u8; 4]; 3] {
     back
 }
 
-#[test]
-fn one_block_goes_each_way(rt: HostRuntime) {
-    expect(&rt, encrypted_each_way(), [MADE; 2], "encrypted");
-    expect(&rt, decrypted_each_way(), [TEXT; 3], "decrypted");
-}
-
 // whether the blocks of a mode after three are those of another under its state
 fn goes_on() -> bool {
     let mut first = encrypter();
@@ -150,13 +140,6 @@ fn goes_on() -> bool {
 fn state_from(iv: &[u8]) -> Result<[u8; 4], InvalidLength> {
     let mode = Chained::inner_iv_slice_init(AddKey { key: 1 }, iv)?;
     Ok(mode.iv_state())
-}
-
-#[test]
-fn a_state_goes_on_elsewhere(rt: HostRuntime) {
-    check(&rt, goes_on(), "another mode");
-    expect(&rt, state_from(&[5; 4]), Ok([5; 4]), "four bytes");
-    expect(&rt, state_from(&[0; 3]), Err(InvalidLength), "three bytes");
 }
 
 fn encrypts(
@@ -196,22 +179,6 @@ fn told_of_encryption() -> [Result<(), &'static str>; 5] {
     ]
 }
 
-#[test]
-fn a_vector_is_told(rt: HostRuntime) {
-    expect(
-        &rt,
-        told_of_encryption(),
-        [
-            Ok(()),
-            Err("cipher initialization failure"),
-            Err("plaintext/ciphertext length is not multiple of block size"),
-            Err("plaintext/ciphertext length mismatch"),
-            Err("ciphertext is bigger than MAX_MSG_LEN bytes"),
-        ],
-        "encryption",
-    );
-}
-
 // a right vector, one of another block, and one that is too long
 fn told_of_decryption() -> [Result<(), &'static str>; 3] {
     [
@@ -221,16 +188,68 @@ fn told_of_decryption() -> [Result<(), &'static str>; 3] {
     ]
 }
 
+// what is asked
+#[derive(Clone, Copy)]
+enum Asked {
+    InOrder,
+    TooMany,
+    TooFew,
+    There,
+    Back,
+    GoesOn,
+    FourBytes,
+    ThreeBytes,
+    Encryption,
+    Decryption,
+}
+
+fn holds(asked: Asked) -> bool {
+    match asked {
+        Asked::InOrder => up_to_ten_go(),
+        Asked::TooMany => refuses_too_many(),
+        Asked::TooFew => refuses_too_few(),
+        Asked::There => encrypted_each_way() == [MADE; 2],
+        Asked::Back => decrypted_each_way() == [TEXT; 3],
+        Asked::GoesOn => goes_on(),
+        Asked::FourBytes => state_from(&[5; 4]) == Ok([5; 4]),
+        Asked::ThreeBytes => state_from(&[0; 3]) == Err(InvalidLength),
+        Asked::Encryption => {
+            told_of_encryption()
+                == [
+                    Ok(()),
+                    Err("cipher initialization failure"),
+                    Err("plaintext/ciphertext length is not multiple of block size"),
+                    Err("plaintext/ciphertext length mismatch"),
+                    Err("ciphertext is bigger than MAX_MSG_LEN bytes"),
+                ]
+        }
+        Asked::Decryption => {
+            told_of_decryption()
+                == [
+                    Ok(()),
+                    Err("single block decryption failure"),
+                    Err("plaintext is bigger than MAX_MSG_LEN bytes"),
+                ]
+        }
+    }
+}
+
+const ROWS: &[(&str, Asked)] = &[
+    ("up to ten blocks", Asked::InOrder),
+    ("too many blocks", Asked::TooMany),
+    ("too few", Asked::TooFew),
+    ("one block encrypted", Asked::There),
+    ("one block decrypted", Asked::Back),
+    ("another mode under the state", Asked::GoesOn),
+    ("a vector of four bytes", Asked::FourBytes),
+    ("a vector of three", Asked::ThreeBytes),
+    ("vectors of an encryption", Asked::Encryption),
+    ("vectors of a decryption", Asked::Decryption),
+];
+
 #[test]
-fn a_vector_is_told_the_other_way(rt: HostRuntime) {
-    expect(
-        &rt,
-        told_of_decryption(),
-        [
-            Ok(()),
-            Err("single block decryption failure"),
-            Err("plaintext is bigger than MAX_MSG_LEN bytes"),
-        ],
-        "decryption",
-    );
+fn modes_go_in_order(rt: HostRuntime) {
+    for (row, asked) in ROWS {
+        check(&rt, holds(*asked), row);
+    }
 }

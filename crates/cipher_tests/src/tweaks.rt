@@ -3,7 +3,7 @@
 ghost use Rattle.std.proofs.Common.{lit<, lit≤};
 ghost use Rattle.std.specs.Prelude.{◌≡◌, ◌+◌, ◌-◌, ◌%◌, ℕ, [], ◌∷◌, refl, slice_index, slice_index_or, length};
 
-use crate::expected::{check, expect, is_debug};
+use crate::expected::{check, is_debug};
 use cipher::{
     BlockCipherDecrypt, BlockCipherEncrypt, InOut, Tweak, TweakBlockCipherDecBackend,
     TweakBlockCipherDecClosure, TweakBlockCipherDecrypt, TweakBlockCipherEncBackend,
@@ -141,12 +141,6 @@ fn decrypted_each_way() -> [[u8; 4]; 3] {
     back
 }
 
-#[test]
-fn tweaks_are_added_and_subtracted(rt: HostRuntime) {
-    expect(&rt, encrypted_each_way(), [ADDED; 3], "encrypted");
-    expect(&rt, decrypted_each_way(), [PLAIN; 3], "decrypted");
-}
-
 // a block encrypted in its place, and what it is decrypted to elsewhere
 fn by_backends() -> [[u8; 4]; 2] {
     let mut block = PLAIN;
@@ -165,33 +159,29 @@ fn back_by_backends() -> [[u8; 4]; 2] {
     [block, other]
 }
 
-#[test]
-fn a_tweakable_backend_has_three_calls(rt: HostRuntime) {
-    expect(&rt, by_backends(), [ADDED, PLAIN], "there and back");
-    expect(&rt, back_by_backends(), [PLAIN, ADDED], "back and there");
+fn goes_each_way() -> bool {
+    encrypted_each_way() == [ADDED; 3] && decrypted_each_way() == [PLAIN; 3]
 }
 
-fn zero_tweak_encrypted(c: &ZeroTweak<Tweaked, 3>) -> bool {
+fn goes_by_backends() -> bool {
+    by_backends() == [ADDED, PLAIN] && back_by_backends() == [PLAIN, ADDED]
+}
+
+fn zero_tweak_adds_nothing(c: &ZeroTweak<Tweaked, 3>) -> bool {
     let mut blocks = [PLAIN; 2];
     c.encrypt_blocks(&mut blocks);
-    blocks == [PLAIN; 2]
-}
-
-fn zero_tweak_decrypted(c: &ZeroTweak<Tweaked, 3>) -> bool {
-    let mut blocks = [PLAIN; 2];
+    let there = blocks == [PLAIN; 2];
     c.decrypt_blocks(&mut blocks);
-    blocks == [PLAIN; 2]
+    there && blocks == [PLAIN; 2]
 }
 
 #[test]
-fn the_zero_tweak_adds_nothing(rt: HostRuntime) -> Result<(), Fail> {
+fn tweaks_are_added_and_subtracted(rt: HostRuntime) -> Result<(), Fail> {
+    check(&rt, goes_each_way(), "each way");
+    check(&rt, goes_by_backends(), "by backends");
     let c: ZeroTweak<Tweaked, 3> = ZeroTweak(Tweaked).clone()?;
-    check(&rt, zero_tweak_encrypted(&c), "encrypted");
-    check(&rt, zero_tweak_decrypted(&c), "decrypted");
-    check(
-        &rt,
-        is_debug(rt.alloc(), &c, "ZeroTweak(Tweaked)")?,
-        "debug",
-    );
+    check(&rt, zero_tweak_adds_nothing(&c), "the zero tweak");
+    let shown = is_debug(rt.alloc(), &c, "ZeroTweak(Tweaked)")?;
+    check(&rt, shown, "its debug text");
     Ok(())
 }

@@ -1,5 +1,4 @@
 //! AES-SIV under one key, its keys and template, and the deterministic AEADs of keysets.
 
-mod common;
 mod keyset_tests;
 mod siv_tests;

@@ -4,4 +4,6 @@
 #[cfg(test)]
 mod daead;
 #[cfg(test)]
+mod expecting;
+#[cfg(test)]
 mod tokens;

@@ -1,5 +1,5 @@
 //! Signed tokens.
 
-mod known;
-mod refused;
-mod support;
+mod keysets;
+mod rows;
+mod texts;

@@ -3,7 +3,7 @@
 ghost use Rattle.tink_io.specs.Told.{Answers};
 ghost use Rattle.tink_daead.specs.Wrapped.{primary_encrypts};
 
-use crate::daead::common::{expect, refusal_of};
+use crate::expecting::{Answer, expect, made};
 use std::alloc::Global;
 use tink_core::keyset::Handle;
 use tink_core::registry::{KeyManager, Registry};
@@ -14,7 +14,7 @@ use tink_daead::{
     aes_siv_key_template, init, new,
 };
 use tink_proto::{Bytes, Key, KeyTemplate, OutputPrefixType};
-use tink_testutil::{Named, draws_of, enabled_key, gives, handle_of, kind_of, registry_of};
+use tink_testutil::{Named, draws_of, enabled_key, gives, handle_of, registry_of};
 
 /// The primary key's prefix and its encryption of a text with associated data.
 fn sealed_by<P: DeterministicAead>(
@@ -28,48 +28,43 @@ fn sealed_by<P: DeterministicAead>(
     aead.encrypt_deterministically(alloc, text, data)
 }
 
+enum Asked {
+    // To build a key of a message, which ends in so many bytes 7.
+    Build(&'static [u8], usize),
+    // To make a key of a format, with so many draws, of which so many are left.
+    Make(&'static [u8], usize, usize),
+    // The template is of its URL, its format and its prefix.
+    Template,
+    // What is registered stands in the registry, and is registered again.
+    RegisterTwice,
+    // The keys make AEADs, of a primary id.
+    Keyset(u32),
+    // `abc` is encrypted, under this primary id, to so many bytes that begin so, and decrypted under the other.
+    Seal(u32, &'static [u8], usize, u32),
+    // A byte more is decrypted under the other.
+    Lengthen(u32, u32),
+    // These bytes are.
+    Open(u32, &'static [u8]),
+}
+
 // ---- keys
 
-#[test]
-fn the_version_and_the_size(rt: HostRuntime) {
-    let told = (AES_SIV_KEY_VERSION, AES_SIV_KEY_SIZE);
-    expect(&rt, Ok(told), (0, 64), "version and size");
+fn builds(alloc: Global, head: &[u8], size: usize) -> Result<bool, TinkError> {
+    let mut key = head.to_vec(alloc)?;
+    key.extend_from_slice(&[7; 64][..size.min(64)])?;
+    made(AesSivKeyManager::new().primitive(alloc, &key))
 }
 
-// What a key of so many bytes builds. Its bytes are field 2 of the message, and its version, which is 1, field 1.
-fn built(alloc: Global, version: &[u8], size: u8) -> Result<Option<Kind>, TinkError> {
-    let mut key = version.to_vec(alloc)?;
-    key.push(0x12)?;
-    key.push(size)?;
-    for _ in 0..size {
-        key.push(7)?;
-    }
-    Ok(kind_of(AesSivKeyManager::new().primitive(alloc, &key)))
-}
-
-// By what a format is refused with so many draws, and how many are left.
-fn made(alloc: Global, format: &[u8], n: usize) -> Result<(Option<Kind>, usize), TinkError> {
+fn makes(alloc: Global, format: &[u8], n: usize, left: usize) -> Result<bool, TinkError> {
     let mut draws = draws_of(alloc, &[7; 70][..n.min(70)])?;
-    let answer = AesSivKeyManager::new().new_key(alloc, format, &mut draws);
-    Ok((kind_of(answer), draws.left()))
+    let answer = made(AesSivKeyManager::new().new_key(alloc, format, &mut draws));
+    if draws.left() == left {
+        answer
+    } else {
+        Ok(false)
+    }
 }
 
-#[test]
-fn keys_of_64_bytes_alone(rt: HostRuntime) {
-    let alloc = rt.alloc();
-    let invalid = Some(Kind::InvalidKey);
-    expect(&rt, built(alloc, b"", 64), None, "64 bytes");
-    expect(&rt, built(alloc, b"", 32), invalid, "32 bytes");
-    expect(&rt, built(alloc, b"", 48), invalid, "48 bytes");
-    expect(&rt, built(alloc, b"\x08\x01", 64), invalid, "version 1");
-    expect(&rt, made(alloc, b"\x08\x40", 70), (None, 6), "70 draws");
-    let few = (Some(Kind::RandomFault), 63);
-    expect(&rt, made(alloc, b"\x08\x40", 63), few, "63 draws");
-    let size = (Some(Kind::InvalidFormat), 70);
-    expect(&rt, made(alloc, b"\x08\x20", 70), size, "keys of 32 bytes");
-}
-
-// Whether the template is of its URL, its format and its prefix.
 fn is_template(made: Result<KeyTemplate, TinkError>) -> Result<bool, TinkError> {
     match made {
         Ok(kt) => {
@@ -80,23 +75,16 @@ fn is_template(made: Result<KeyTemplate, TinkError>) -> Result<bool, TinkError> 
     }
 }
 
-// What registering twice answers, and whether the template and the manager are there.
-fn registered(alloc: Global) -> Result<(Option<Kind>, bool, bool), TinkError> {
+fn registers_twice(alloc: Global) -> Result<bool, TinkError> {
     let mut registry: Registry<Named<DaeadKinds>> = Registry::new(alloc);
     init(alloc, &mut registry)?;
-    let again = kind_of(init(alloc, &mut registry));
+    let again = made(init(alloc, &mut registry));
     let template = registry.get_template_generator("AES256_SIV").is_some();
-    let manager = registry.get_key_manager(AES_SIV_TYPE_URL).is_ok();
-    Ok((again, template, manager))
-}
-
-#[test]
-fn the_template_and_the_registration(rt: HostRuntime) {
-    let alloc = rt.alloc();
-    let template = is_template(aes_siv_key_template(alloc));
-    expect(&rt, template, true, "the template");
-    let told = (Some(Kind::AlreadyRegistered), true, true);
-    expect(&rt, registered(alloc), told, "the registration");
+    if template && registry.get_key_manager(AES_SIV_TYPE_URL).is_ok() {
+        again
+    } else {
+        Ok(false)
+    }
 }
 
 // ---- keysets
@@ -119,18 +107,23 @@ fn aead_by(
     }
 }
 
-// An enabled key, of which each byte is its id.
-fn siv_key(alloc: Global, prefix: OutputPrefixType, id: u8) -> Result<Key, TinkError> {
+// Adds an enabled key, of which each byte is its id.
+fn push(
+    alloc: Global,
+    keys: &mut Vec<Key>,
+    prefix: OutputPrefixType,
+    id: u8,
+) -> Result<(), TinkError> {
     let mut value = [id; 66];
     value[0] = 0x12;
     value[1] = 64;
-    enabled_key(alloc, AES_SIV_TYPE_URL, &value, prefix, u32::from(id))
+    let key = enabled_key(alloc, AES_SIV_TYPE_URL, &value, prefix, u32::from(id))?;
+    Ok(keys.push(key)?)
 }
 
 fn add_two(alloc: Global, keys: &mut Vec<Key>) -> Result<(), TinkError> {
-    keys.push(siv_key(alloc, OutputPrefixType::Tink, 1)?)?;
-    keys.push(siv_key(alloc, OutputPrefixType::Raw, 2)?)?;
-    Ok(())
+    push(alloc, keys, OutputPrefixType::Tink, 1)?;
+    push(alloc, keys, OutputPrefixType::Raw, 2)
 }
 
 // The AEADs of a prefixed key of id 1 and a raw one of id 2, of which one is primary.
@@ -142,54 +135,127 @@ fn two_keys(alloc: Global, primary: u32) -> Result<WrappedDeterministicAead<AesS
     }
 }
 
-// How many bytes `abc` is encrypted to by the one, where they begin so and a copy of the other decrypts them, but not
-// with a byte more.
-fn size_of_abc(
-    alloc: Global,
-    one: &WrappedDeterministicAead<AesSiv>,
-    other: &WrappedDeterministicAead<AesSiv>,
-    prefix: &[u8],
-) -> Result<usize, TinkError> {
-    let sealed = sealed_by(one, alloc, b"abc", b"data")?;
-    let copy = other.try_clone(alloc)?;
-    let opened = copy.decrypt_deterministically(alloc, sealed.as_slice(), b"data");
-    let opens = gives(opened, b"abc")?;
-    let mut longer = sealed.as_slice().to_vec(alloc)?;
-    longer.push(0)?;
-    let changed = refusal_of(alloc, other, &longer, b"data");
-    let begins = sealed.as_slice().starts_with(prefix);
-    if opens && begins && changed == Some(Kind::DecryptFailed) {
-        Ok(sealed.as_slice().len())
-    } else {
-        Ok(0)
+fn sealed(alloc: Global, primary: u32) -> Result<Bytes, TinkError> {
+    match two_keys(alloc, primary) {
+        Ok(aead) => sealed_by(&aead, alloc, b"abc", b"data"),
+        Err(e) => Err(e),
     }
 }
 
-fn sizes(alloc: Global) -> Result<(usize, usize), TinkError> {
-    let one = two_keys(alloc, 1)?;
-    let two = two_keys(alloc, 2)?;
-    let prefixed = size_of_abc(alloc, &one, &two, b"\x01\x00\x00\x00\x01")?;
-    Ok((prefixed, size_of_abc(alloc, &two, &one, b"")?))
+fn opened(alloc: Global, primary: u32, bytes: &[u8]) -> Result<Bytes, TinkError> {
+    match two_keys(alloc, primary) {
+        Ok(aead) => aead.decrypt_deterministically(alloc, bytes, b"data"),
+        Err(e) => Err(e),
+    }
 }
+
+fn copy_of(
+    alloc: Global,
+    made: Result<WrappedDeterministicAead<AesSiv>, TinkError>,
+) -> Result<WrappedDeterministicAead<AesSiv>, TinkError> {
+    match made {
+        Ok(aead) => aead.try_clone(alloc),
+        Err(e) => Err(e),
+    }
+}
+
+fn opened_by_copy(alloc: Global, primary: u32, bytes: &[u8]) -> Result<Bytes, TinkError> {
+    match copy_of(alloc, two_keys(alloc, primary)) {
+        Ok(copy) => copy.decrypt_deterministically(alloc, bytes, b"data"),
+        Err(e) => Err(e),
+    }
+}
+
+fn seals(
+    alloc: Global,
+    one: u32,
+    prefix: &[u8],
+    size: usize,
+    other: u32,
+) -> Result<bool, TinkError> {
+    let sealed = sealed(alloc, one)?;
+    let bytes = sealed.as_slice();
+    let opens = gives(opened_by_copy(alloc, other, bytes), b"abc")?;
+    Ok(opens && bytes.starts_with(prefix) && bytes.len() == size)
+}
+
+fn opens_a_longer_one(alloc: Global, one: u32, other: u32) -> Result<bool, TinkError> {
+    let mut longer = sealed(alloc, one)?.as_slice().to_vec(alloc)?;
+    longer.push(0)?;
+    made(opened(alloc, other, &longer))
+}
+
+fn answered(alloc: Global, asked: &Asked) -> Result<bool, TinkError> {
+    match asked {
+        Asked::Build(head, size) => builds(alloc, head, *size),
+        Asked::Make(format, n, left) => makes(alloc, format, *n, *left),
+        Asked::Template => is_template(aes_siv_key_template(alloc)),
+        Asked::RegisterTwice => registers_twice(alloc),
+        Asked::Keyset(primary) => made(two_keys(alloc, *primary)),
+        Asked::Seal(one, prefix, size, other) => seals(alloc, *one, prefix, *size, *other),
+        Asked::Lengthen(one, other) => opens_a_longer_one(alloc, *one, *other),
+        Asked::Open(primary, bytes) => made(opened(alloc, *primary, bytes)),
+    }
+}
+
+const INVALID: Answer = Err(Kind::InvalidKey);
+
+const FAILED: Answer = Err(Kind::DecryptFailed);
+
+const PREFIX: &[u8] = b"\x01\x00\x00\x00\x01";
+
+// The bytes of a key are field 2 of its message, and its version field 1; the size of keys is field 1 of a format.
+const ROWS: &[(&str, Asked, Answer)] = &[
+    ("64 bytes", Asked::Build(b"\x12\x40", 64), Ok(true)),
+    ("32 bytes", Asked::Build(b"\x12\x20", 32), INVALID),
+    ("48 bytes", Asked::Build(b"\x12\x30", 48), INVALID),
+    ("version 1", Asked::Build(b"\x08\x01\x12\x40", 64), INVALID),
+    ("70 draws", Asked::Make(b"\x08\x40", 70, 6), Ok(true)),
+    (
+        "63 draws",
+        Asked::Make(b"\x08\x40", 63, 63),
+        Err(Kind::RandomFault),
+    ),
+    (
+        "keys of 32 bytes",
+        Asked::Make(b"\x08\x20", 70, 70),
+        Err(Kind::InvalidFormat),
+    ),
+    ("the template", Asked::Template, Ok(true)),
+    (
+        "the registration",
+        Asked::RegisterTwice,
+        Err(Kind::AlreadyRegistered),
+    ),
+    ("no primary key", Asked::Keyset(3), Err(Kind::InvalidKeyset)),
+    (
+        "a prefixed key's, by a raw one first",
+        Asked::Seal(1, PREFIX, 24, 2),
+        Ok(true),
+    ),
+    (
+        "a raw key's, by a prefixed one first",
+        Asked::Seal(2, b"", 19, 1),
+        Ok(true),
+    ),
+    (
+        "a prefixed key's with a byte more",
+        Asked::Lengthen(1, 2),
+        FAILED,
+    ),
+    (
+        "a raw key's with a byte more",
+        Asked::Lengthen(2, 1),
+        FAILED,
+    ),
+    ("a prefix alone", Asked::Open(1, PREFIX), FAILED),
+];
 
 #[test]
-fn both_keys_of_a_keyset_decrypt(rt: HostRuntime) {
-    expect(&rt, sizes(rt.alloc()), (24, 19), "the sizes");
-}
-
-// By what a keyset without a key of its primary id is refused, and a prefix alone.
-fn refusals(alloc: Global) -> Result<(Option<Kind>, Option<Kind>), TinkError> {
-    let primary = kind_of(two_keys(alloc, 3));
-    let short = match two_keys(alloc, 1) {
-        Ok(aead) => refusal_of(alloc, &aead, b"\x01\x00\x00\x00\x01", b""),
-        Err(e) => Some(e.kind),
-    };
-    Ok((primary, short))
-}
-
-#[test]
-fn what_is_refused(rt: HostRuntime) {
-    let told = refusals(rt.alloc());
-    let want = (Some(Kind::InvalidKeyset), Some(Kind::DecryptFailed));
-    expect(&rt, told, want, "no primary key, and a prefix alone");
+fn keys_and_keysets_are_as_the_rows_say(rt: HostRuntime) {
+    for (row, asked, want) in ROWS {
+        expect(&rt, answered(rt.alloc(), asked), *want, row);
+    }
+    let told = AES_SIV_KEY_VERSION == 0 && AES_SIV_KEY_SIZE == 64;
+    expect(&rt, Ok(told), Ok(true), "the version and the size");
 }

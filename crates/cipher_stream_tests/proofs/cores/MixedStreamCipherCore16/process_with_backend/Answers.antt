@@ -1,6 +1,6 @@
 use Rattle.std.proofs.Common.{◌^◌, arith}
-use Rattle.cipher_tests.proofs.CoreFacts.{spent_counter}
-use Rattle.cipher_tests.proofs.cores.MixedStreamCipherCore16.process_with_backend.Goals as goal
+use Rattle.cipher_stream_tests.proofs.CoreFacts.{spent_counter}
+use Rattle.cipher_stream_tests.proofs.cores.MixedStreamCipherCore16.process_with_backend.Goals as goal
 
 pub returns-clause-fed : goal.returns-clause-fed
 returns-clause-fed g c =

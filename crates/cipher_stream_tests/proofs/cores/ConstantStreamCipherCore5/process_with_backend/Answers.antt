@@ -1,8 +1,8 @@
 use Rattle.std.proofs.Common.{◌^◌, eqb, subst, sym, arith}
 use Rattle.cipher_stream.specs.Keystream.{Spends}
-use Rattle.cipher_tests.specs.CoreStreams.{left_of}
-use Rattle.cipher_tests.proofs.CoreFacts.{spent_left}
-use Rattle.cipher_tests.proofs.cores.ConstantStreamCipherCore5.process_with_backend.Goals as goal
+use Rattle.cipher_stream_tests.specs.CoreStreams.{left_of}
+use Rattle.cipher_stream_tests.proofs.CoreFacts.{spent_left}
+use Rattle.cipher_stream_tests.proofs.cores.ConstantStreamCipherCore5.process_with_backend.Goals as goal
 
 pub returns-clause-fed : goal.returns-clause-fed
 returns-clause-fed g c =

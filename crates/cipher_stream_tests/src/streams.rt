@@ -5,12 +5,13 @@ ghost use Rattle.cipher_stream.specs.Keystream.{xored};
 ghost use Rattle.std.specs.Prelude.{OnOk, ◌≡◌, ◌≤◌};
 
 use crate::cores::{Constant, Mixed, Numbers};
-use crate::expected::{check, check_at, expect, is_debug, is_shown};
+use crate::expected::{check, is_debug, is_shown};
 use cipher::{InOutBuf, KeyIvInit};
 use cipher_stream::dev::stream::{TestVector, stream_cipher_test};
 use cipher_stream::{
     OverflowError, StreamCipher, StreamCipherCoreWrapper, StreamCipherError, StreamCipherSeek,
 };
+use std::alloc::Global;
 use std::test::Fail;
 
 /// A key.
@@ -67,17 +68,6 @@ fn written_from_a_place() -> (Told, Told, [u8; 20], Result<u64, OverflowError>) 
     (sought, told, bytes, cipher.try_current_pos::<u64>())
 }
 
-#[test]
-fn writes_the_keystream(rt: HostRuntime) {
-    expect(&rt, written_and_applied(), [FIRST, BOTH], "from the start");
-    expect(
-        &rt,
-        written_from_a_place(),
-        (Ok(()), Ok(()), LATER, Ok(520)),
-        "from a place",
-    );
-}
-
 fn in_pieces<C: StreamCipher>(cipher: &mut C, bytes: &mut [u8], size: usize) -> Told
     requires { 1 ≤ size }
 {
@@ -97,19 +87,20 @@ fn pieces_give(size: usize, whole: &[u8; 300]) -> bool
     told == Ok(()) && bytes == *whole
 }
 
+// whether pieces of each size do
+fn pieces_give_the_whole() -> bool {
+    let (whole, told) = written_whole();
+    let mut same = told == Ok(());
+    for size in 1..50 {
+        same = same && pieces_give(size, &whole);
+    }
+    same
+}
+
 fn written_whole() -> ([u8; 300], Told) {
     let mut bytes = [0; 300];
     let told = fresh().try_write_keystream(&mut bytes);
     (bytes, told)
-}
-
-#[test]
-fn pieces_give_the_whole(rt: HostRuntime) {
-    let (whole, told) = written_whole();
-    check(&rt, told == Ok(()), "written");
-    for size in 1..50 {
-        check_at(&rt, pieces_give(size, &whole), size);
-    }
 }
 
 fn applied_elsewhere() -> [u8; 20] {
@@ -136,19 +127,6 @@ fn tried_on_unequal_lengths() -> ([u8; 20], Told) {
     (bytes, told)
 }
 
-#[test]
-fn forms_of_one_call(rt: HostRuntime) {
-    expect(&rt, applied_elsewhere(), FIRST, "elsewhere");
-    expect(&rt, applied_to_a_buffer(), [0; 20], "to a buffer");
-    expect(&rt, tried_on_a_buffer(), (FIRST, Ok(())), "tried");
-    expect(
-        &rt,
-        tried_on_unequal_lengths(),
-        ([1; 20], Err(StreamCipherError)),
-        "unequal lengths",
-    );
-}
-
 fn unchecked_in_place() -> [u8; 20] {
     let mut bytes = [0; 20];
     fresh().unchecked_apply_keystream(&mut bytes);
@@ -171,14 +149,6 @@ fn unchecked_written() -> [u8; 20] {
     let mut bytes = [1; 20];
     fresh().unchecked_write_keystream(&mut bytes);
     bytes
-}
-
-#[test]
-fn forms_without_a_test(rt: HostRuntime) {
-    expect(&rt, unchecked_in_place(), FIRST, "in place");
-    expect(&rt, unchecked_elsewhere(), (LATER, true), "elsewhere");
-    expect(&rt, unchecked_by_a_buffer(), BOTH, "by a buffer");
-    expect(&rt, unchecked_written(), FIRST, "written");
 }
 
 // the place of the greatest block, from which no byte is given
@@ -204,17 +174,6 @@ fn tried_at_the_end() -> (
     (one, none, place, cipher.try_current_pos::<u64>())
 }
 
-#[test]
-fn the_end_is_told(rt: HostRuntime) {
-    expect(&rt, sought(END).0, Ok(()), "sought");
-    expect(
-        &rt,
-        tried_at_the_end(),
-        (Err(StreamCipherError), Ok(()), Ok(END), Err(OverflowError)),
-        "tried",
-    );
-}
-
 // what seeks past the end and below 0 answer, and the place after them
 fn sought_outside() -> ([Told; 3], u128) {
     let mut cipher = fresh();
@@ -231,17 +190,6 @@ fn last_byte() -> (bool, Told, u8) {
     let refused = cipher.check_remaining(2).is_err();
     let told = cipher.try_apply_keystream(&mut byte);
     (refused, told, byte[0])
-}
-
-#[test]
-fn seeks_past_the_end_are_refused(rt: HostRuntime) {
-    expect(
-        &rt,
-        sought_outside(),
-        ([Err(StreamCipherError); 3], 0),
-        "outside",
-    );
-    expect(&rt, last_byte(), (true, Ok(()), 9 ^ 60), "the last byte");
 }
 
 // the keystream's last 20 bytes before the greatest block
@@ -271,12 +219,13 @@ fn ends_after(cipher: &mut Cipher, room: usize) -> bool
         && bytes[..room] == LAST[20 - room..]
 }
 
-// from each of the last 20 places, and at the greatest block
-#[test]
-fn no_more_is_left_after_a_seek(rt: HostRuntime) {
+// that from each of the last 20 places, and at the greatest block
+fn no_more_is_left() -> bool {
+    let mut same = true;
     for room in 0..21 {
-        check_at(&rt, gives_no_more(room), room);
+        same = same && gives_no_more(room);
     }
+    same
 }
 
 const GREATEST: u64 = ((1 << 32) - 1) * 4;
@@ -306,34 +255,6 @@ fn place_behind_three() -> Result<i32, OverflowError> {
     cipher.try_current_pos::<i32>()
 }
 
-// a rest of the greatest block, with block 0 behind it
-#[test]
-fn a_place_below_0_is_told(rt: HostRuntime) {
-    expect(
-        &rt,
-        at_the_greatest().0,
-        [Err(StreamCipherError), Ok(())],
-        "sought",
-    );
-    expect(
-        &rt,
-        bytes_behind(3),
-        (
-            Ok(()),
-            [0xff, 0xfe, 0xfd, 0, 0, 0, 0, 0, 0],
-            Err(OverflowError),
-        ),
-        "three bytes",
-    );
-    expect(&rt, place_behind_three(), Err(OverflowError), "as an i32");
-    expect(
-        &rt,
-        bytes_behind(9),
-        (Ok(()), [0xff, 0xfe, 0xfd, 0xfc, 0, 1, 2, 3, 1], Ok(5)),
-        "nine bytes",
-    );
-}
-
 // nine bytes in two pieces, the second behind the rest of the greatest block
 fn two_pieces_behind() -> (Told, Told, [u8; 9]) {
     let (_, mut cipher) = at_the_greatest();
@@ -343,16 +264,6 @@ fn two_pieces_behind() -> (Told, Told, [u8; 9]) {
     (first, second, bytes)
 }
 
-#[test]
-fn a_rest_of_the_greatest_block_is_given(rt: HostRuntime) {
-    expect(
-        &rt,
-        two_pieces_behind(),
-        (Ok(()), Ok(()), [0xff, 0xfe, 0xfd, 0xfc, 0, 1, 2, 3, 1]),
-        "two pieces",
-    );
-}
-
 // bytes in their places, over any cipher
 fn in_place<C: StreamCipher>(cipher: &mut C, bytes: &mut [u8]) -> Result<(), StreamCipherError>
     ensures { OnOk result (bytes.new ≡ xored (to_come (C.stream cipher.old)) bytes.old) }
@@ -360,39 +271,22 @@ fn in_place<C: StreamCipher>(cipher: &mut C, bytes: &mut [u8]) -> Result<(), Str
     cipher.try_apply_keystream(bytes)
 }
 
-// a clone's bytes after seven
-fn cloned() -> Result<([u8; 13], Told), Fail> {
+// whether a clone after seven bytes goes on
+fn a_clone_goes_on() -> Result<bool, Fail> {
     let mut cipher = fresh();
     let _told = cipher.try_apply_keystream(&mut [0; 7]);
     let mut other = cipher.clone()?;
     let mut bytes = [0; 13];
     let told = in_place(&mut other, &mut bytes);
-    Ok((bytes, told))
+    Ok(told == Ok(()) && bytes[..] == FIRST[7..])
 }
 
-#[test]
-fn a_clone_goes_on(rt: HostRuntime) -> Result<(), Fail> {
-    let (bytes, told) = cloned()?;
-    check(&rt, told == Ok(()) && bytes[..] == FIRST[7..], "a clone");
-    expect(&rt, fresh().get_core().next, 0, "the core's place");
-    Ok(())
-}
-
-#[test]
-fn texts(rt: HostRuntime) -> Result<(), Fail> {
-    let wrapper = "StreamCipherCoreWrapper { .. }";
-    check(&rt, is_debug(rt.alloc(), &fresh(), wrapper)?, "wrapper");
-    check(
-        &rt,
-        is_shown(rt.alloc(), &StreamCipherError, "Loop Error")?,
-        "end",
-    );
-    check(
-        &rt,
-        is_shown(rt.alloc(), &OverflowError, "Overflow Error")?,
-        "place",
-    );
-    Ok(())
+// whether the wrapper and the errors are shown so
+fn texts_are_told(alloc: Global) -> Result<bool, Fail> {
+    let wrapper = is_debug(alloc, &fresh(), "StreamCipherCoreWrapper { .. }")?;
+    let end = is_shown(alloc, &StreamCipherError, "Loop Error")?;
+    let place = is_shown(alloc, &OverflowError, "Overflow Error")?;
+    Ok(wrapper && end && place)
 }
 
 type Short = StreamCipherCoreWrapper<Constant, 5>;
@@ -431,25 +325,146 @@ fn told_of_lengths() -> [Result<(), &'static str>; 2] {
     [told(&[], &[1], PLAIN, BAD), told(&[], &[1], &[], BAD)]
 }
 
+// what is asked
+#[derive(Clone, Copy)]
+enum Asked {
+    Written,
+    WrittenFromAPlace,
+    Pieces,
+    AppliedElsewhere,
+    AppliedToABuffer,
+    TriedOnABuffer,
+    TriedOnUnequalLengths,
+    UncheckedInPlace,
+    UncheckedElsewhere,
+    UncheckedByABuffer,
+    UncheckedWritten,
+    FreshPlace,
+    VectorsOfBytes,
+    VectorsOfLengths,
+    SoughtEnd,
+    TriedAtTheEnd,
+    SoughtOutside,
+    LastByte,
+    NoMoreIsLeft,
+    SoughtBehindTheGreatest,
+    ThreeBehindTheGreatest,
+    PlaceBehindThree,
+    NineBehindTheGreatest,
+    TwoPiecesBehind,
+}
+
+fn holds(asked: Asked) -> bool {
+    match asked {
+        Asked::Written => written_and_applied() == [FIRST, BOTH],
+        Asked::WrittenFromAPlace => written_from_a_place() == (Ok(()), Ok(()), LATER, Ok(520)),
+        Asked::Pieces => pieces_give_the_whole(),
+        Asked::AppliedElsewhere => applied_elsewhere() == FIRST,
+        Asked::AppliedToABuffer => applied_to_a_buffer() == [0; 20],
+        Asked::TriedOnABuffer => tried_on_a_buffer() == (FIRST, Ok(())),
+        Asked::TriedOnUnequalLengths => {
+            tried_on_unequal_lengths() == ([1; 20], Err(StreamCipherError))
+        }
+        Asked::UncheckedInPlace => unchecked_in_place() == FIRST,
+        Asked::UncheckedElsewhere => unchecked_elsewhere() == (LATER, true),
+        Asked::UncheckedByABuffer => unchecked_by_a_buffer() == BOTH,
+        Asked::UncheckedWritten => unchecked_written() == FIRST,
+        Asked::FreshPlace => fresh().get_core().next == 0,
+        _ => holds_at_ends(asked),
+    }
+}
+
+fn holds_at_ends(asked: Asked) -> bool {
+    let outside = Err(StreamCipherError);
+    match asked {
+        Asked::SoughtEnd => sought(END).0 == Ok(()),
+        Asked::TriedAtTheEnd => {
+            tried_at_the_end() == (outside, Ok(()), Ok(END), Err(OverflowError))
+        }
+        Asked::SoughtOutside => sought_outside() == ([outside; 3], 0),
+        Asked::LastByte => last_byte() == (true, Ok(()), 9 ^ 60),
+        Asked::NoMoreIsLeft => no_more_is_left(),
+        Asked::SoughtBehindTheGreatest => at_the_greatest().0 == [outside, Ok(())],
+        Asked::ThreeBehindTheGreatest => {
+            bytes_behind(3)
+                == (
+                    Ok(()),
+                    [0xff, 0xfe, 0xfd, 0, 0, 0, 0, 0, 0],
+                    Err(OverflowError),
+                )
+        }
+        Asked::PlaceBehindThree => place_behind_three() == Err(OverflowError),
+        Asked::NineBehindTheGreatest => bytes_behind(9) == (Ok(()), NINE, Ok(5)),
+        Asked::TwoPiecesBehind => two_pieces_behind() == (Ok(()), Ok(()), NINE),
+        _ => vectors_are_told(asked),
+    }
+}
+
+// the rest of the greatest block, with block 0 behind it
+const NINE: [u8; 9] = [0xff, 0xfe, 0xfd, 0xfc, 0, 1, 2, 3, 1];
+
+fn vectors_are_told(asked: Asked) -> bool {
+    match asked {
+        Asked::VectorsOfBytes => {
+            told_of_bytes()
+                == [
+                    Ok(()),
+                    Err("end of keystream reached"),
+                    Err("ciphertext mismatch"),
+                ]
+        }
+        _ => {
+            told_of_lengths()
+                == [
+                    Err("cipher initialization failure"),
+                    Err("mismatch of plaintext and ciphertext lengths"),
+                ]
+        }
+    }
+}
+
+const ROWS: &[(&str, Asked)] = &[
+    ("from the start", Asked::Written),
+    ("from a place", Asked::WrittenFromAPlace),
+    ("in pieces of each size", Asked::Pieces),
+    ("elsewhere", Asked::AppliedElsewhere),
+    ("to a buffer", Asked::AppliedToABuffer),
+    ("tried on a buffer", Asked::TriedOnABuffer),
+    ("unequal lengths", Asked::TriedOnUnequalLengths),
+    ("in place without a test", Asked::UncheckedInPlace),
+    ("elsewhere without a test", Asked::UncheckedElsewhere),
+    ("by a buffer without a test", Asked::UncheckedByABuffer),
+    ("written without a test", Asked::UncheckedWritten),
+    ("the place of a fresh core", Asked::FreshPlace),
+    ("vectors of bytes", Asked::VectorsOfBytes),
+    ("vectors of other lengths", Asked::VectorsOfLengths),
+    ("the end is sought", Asked::SoughtEnd),
+    ("a byte and none at the end", Asked::TriedAtTheEnd),
+    ("seeks past the end and below 0", Asked::SoughtOutside),
+    ("the last byte", Asked::LastByte),
+    ("no more from the last 20 places", Asked::NoMoreIsLeft),
+    (
+        "a seek behind the greatest block",
+        Asked::SoughtBehindTheGreatest,
+    ),
+    (
+        "three bytes from the greatest block",
+        Asked::ThreeBehindTheGreatest,
+    ),
+    ("the place behind three as an i32", Asked::PlaceBehindThree),
+    (
+        "nine bytes from the greatest block",
+        Asked::NineBehindTheGreatest,
+    ),
+    ("nine bytes in two pieces", Asked::TwoPiecesBehind),
+];
+
 #[test]
-fn vectors_are_told(rt: HostRuntime) {
-    expect(
-        &rt,
-        told_of_bytes(),
-        [
-            Ok(()),
-            Err("end of keystream reached"),
-            Err("ciphertext mismatch"),
-        ],
-        "bytes",
-    );
-    expect(
-        &rt,
-        told_of_lengths(),
-        [
-            Err("cipher initialization failure"),
-            Err("mismatch of plaintext and ciphertext lengths"),
-        ],
-        "lengths",
-    );
+fn streams_are_as_the_rows_say(rt: HostRuntime) -> Result<(), Fail> {
+    for (row, asked) in ROWS {
+        check(&rt, holds(*asked), row);
+    }
+    check(&rt, a_clone_goes_on()?, "a clone");
+    check(&rt, texts_are_told(rt.alloc())?, "texts");
+    Ok(())
 }

@@ -3,7 +3,7 @@
 ghost use Rattle.std.proofs.Common.{lit<, lit≤, refl, ◌∙◌};
 ghost use Rattle.std.specs.Prelude.{◌≡◌, ℕ, ◌+◌, ◌-◌, ◌%◌, ◌^◌, ◌++◌, List, Some, None, ⊤, replicate, slice_index};
 ghost use Rattle.std.specs.Int.{w64, from_le_bytes};
-ghost use Rattle.cipher_tests.specs.CoreStreams.{mixed_block, mixed, constant, numbers, left_of};
+ghost use Rattle.cipher_stream_tests.specs.CoreStreams.{mixed_block, mixed, constant, numbers, left_of};
 
 use cipher::KeyIvInit;
 use cipher_stream::{

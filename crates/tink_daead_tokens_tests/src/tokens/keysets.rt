@@ -1,0 +1,149 @@
+//! The MACs of keysets.
+
+use crate::expecting::made;
+use std::alloc::Global;
+use tink_core::TinkError;
+use tink_core::keyset::{Handle, Manager};
+use tink_core::registry::Registry;
+use tink_mac::{
+    AesCmacKeyManager, HMAC_TYPE_URL, HmacKeyManager, MacKind, WrappedMac,
+    aes_cmac_tag128_key_template, new,
+};
+use tink_proto::{KeyTemplate, OutputPrefixType};
+use tink_testutil::{draws_of, enabled_key, handle_of, registry_of};
+
+/// The first draws of the seed of 32 zero bytes (ChaCha20, RFC 8439, A.1): a key of 32 bytes, and the ids da41597c and
+/// 5157488d.
+const DRAWS: &[u8] =
+    b"\x76\xb8\xe0\xad\xa0\xf1\x3d\x90\x40\x5d\x6a\xe5\x53\x86\xbd\x28\xbd\xd2\x19\xb8\xa0\x8d\xed\x1a\xa8\x36\xef\xcc\x8b\x77\x0d\xc7\xda\x41\x59\x7c\x51\x57\x48\x8d";
+
+/// The id of the first key that they make.
+pub const ID: u32 = 0xda41597c;
+
+// HMAC-SHA256 with tags of 16 bytes, and the key of these draws.
+const HMAC_KEY: &[u8] =
+    b"\x12\x04\x08\x03\x10\x10\x1a\x20\x76\xb8\xe0\xad\xa0\xf1\x3d\x90\x40\x5d\x6a\xe5\x53\x86\xbd\x28\xbd\xd2\x19\xb8\xa0\x8d\xed\x1a\xa8\x36\xef\xcc\x8b\x77\x0d\xc7";
+
+/// An edit of a keyset: a new primary key by the template and these draws, or one of the key of the id.
+#[derive(Clone, Copy)]
+pub enum Edit {
+    Rotate,
+    Disable,
+    Enable,
+    Delete,
+}
+
+/// A keyset: after these edits of an empty one, or of one key of the draws with this prefix and id.
+#[derive(Clone, Copy)]
+pub enum Keys {
+    Edited(&'static [Edit]),
+    One(OutputPrefixType, u32),
+}
+
+// A new primary key by the template.
+fn rotate(
+    alloc: Global,
+    registry: &Registry<HmacKeyManager>,
+    kt: &KeyTemplate,
+    manager: &mut Manager,
+) -> Result<bool, TinkError> {
+    match draws_of(alloc, DRAWS) {
+        Ok(mut draws) => made(manager.rotate(alloc, kt, registry, &mut draws)),
+        Err(e) => Err(e),
+    }
+}
+
+fn edit_by(
+    alloc: Global,
+    registry: &Registry<HmacKeyManager>,
+    kt: &KeyTemplate,
+    manager: &mut Manager,
+    edit: Edit,
+) -> Result<bool, TinkError> {
+    match edit {
+        Edit::Rotate => rotate(alloc, registry, kt, manager),
+        Edit::Disable => made(manager.disable(ID)),
+        Edit::Enable => made(manager.enable(ID)),
+        Edit::Delete => made(manager.delete(ID)),
+    }
+}
+
+fn edit_all(
+    alloc: Global,
+    registry: &Registry<HmacKeyManager>,
+    kt: &KeyTemplate,
+    manager: &mut Manager,
+    edits: &[Edit],
+) -> Result<(), TinkError> {
+    for each in edits {
+        edit_by(alloc, registry, kt, manager, *each)?;
+    }
+    Ok(())
+}
+
+fn edited(
+    alloc: Global,
+    registry: &Registry<HmacKeyManager>,
+    kt: &KeyTemplate,
+    edits: &[Edit],
+) -> Result<Handle, TinkError> {
+    let mut manager = Manager::new(alloc);
+    match edit_all(alloc, registry, kt, &mut manager, edits) {
+        Ok(()) => manager.handle(alloc),
+        Err(e) => Err(e),
+    }
+}
+
+fn one_key(alloc: Global, prefix: OutputPrefixType, id: u32) -> Result<Handle, TinkError> {
+    let key = enabled_key(alloc, HMAC_TYPE_URL, HMAC_KEY, prefix, id)?;
+    handle_of(id, vec![in alloc; key]?)
+}
+
+fn handle(
+    alloc: Global,
+    registry: &Registry<HmacKeyManager>,
+    kt: &KeyTemplate,
+    keys: Keys,
+) -> Result<Handle, TinkError> {
+    match keys {
+        Keys::Edited(edits) => edited(alloc, registry, kt, edits),
+        Keys::One(prefix, id) => one_key(alloc, prefix, id),
+    }
+}
+
+/// The MACs of a keyset.
+pub fn macs(
+    alloc: Global,
+    registry: &Registry<HmacKeyManager>,
+    kt: &KeyTemplate,
+    keys: Keys,
+) -> Result<WrappedMac<MacKind>, TinkError> {
+    match handle(alloc, registry, kt, keys) {
+        Ok(h) => new(alloc, &h, registry),
+        Err(e) => Err(e),
+    }
+}
+
+// A handle of a new key of AES-CMAC.
+fn cmac_handle(alloc: Global, registry: &Registry<AesCmacKeyManager>) -> Result<Handle, TinkError> {
+    let kt = aes_cmac_tag128_key_template(alloc)?;
+    Handle::new(alloc, &kt, registry, &mut draws_of(alloc, DRAWS)?)
+}
+
+fn cmacs_in(
+    alloc: Global,
+    registry: &Registry<AesCmacKeyManager>,
+) -> Result<WrappedMac<MacKind>, TinkError> {
+    match cmac_handle(alloc, registry) {
+        Ok(h) => new(alloc, &h, registry),
+        Err(e) => Err(e),
+    }
+}
+
+/// Its MACs, which have 21 bytes too.
+pub fn cmacs(alloc: Global) -> Result<WrappedMac<MacKind>, TinkError> {
+    match registry_of(alloc, AesCmacKeyManager::new()) {
+        Ok(registry) => cmacs_in(alloc, &registry),
+        Err(e) => Err(e),
+    }
+}
