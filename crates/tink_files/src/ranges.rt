@@ -54,8 +54,8 @@ pub fn range_to<A: ReadAt, P: Place>(
         value)
         (P.replaces place.old) (P.shown place.old) (P.shown place.new) n) }
 
-    // Told bytes: where no end fails, the keyset loads and the object is a stream of the chosen key, the range is shown,
-    // or there is no memory.
+    // Told bytes: where no end fails, the keyset loads and the object is a stream of the chosen key, the range is
+    // shown, or there is no memory.
     ensures succeeds { (X : List ℕ) → A.bytes object.old ≡ Some X → CanOpen keyset.now aad.now X
         → Succeeds (A.faults object.old) (A.faults object.new) (P.faults place.old) (P.faults place.new) result }
     ensures err { OnErr result (P.shown place.new ≡ P.shown place.old) }
