@@ -47,8 +47,8 @@ pub fn range_to<A: ReadAt, P: Place, L: Ledger>(
     ensures ticks { TakesKeysetSteps keyset.now aad.now (A.bytes object.old) (A.length_of object.old) start len
         steps.old steps.new }
 
-    // Known bytes: where no end fails, the keyset loads and the object is a stream of the chosen key, the range is shown,
-    // or there is no memory.
+    // Known bytes: where no end fails, the keyset loads and the object is a stream of the chosen key, the range is
+    // shown, or there is no memory.
     ensures succeeds { (X : List ℕ) → A.bytes object.old ≡ Some X → CanOpen keyset.now aad.now X
         → Succeeds (A.faults object.old) (A.faults object.new) (P.faults place.old) (P.faults place.new) result }
     ensures err { OnErr result (P.shown place.new ≡ P.shown place.old) }
