@@ -74,7 +74,7 @@ impl<'a, K: Sink> Sink for Gathered<'a, K> {
 
     ghost faults = { λ s. K.faults s.sink.now };
 
-    // Both loans are the same, and what the sink behind has got stays at the front of what it gets.
+    // Both loans are the same, and what the sink behind has got stays a prefix of what it gets.
     ghost same = { λ s t. (t.sink.ghost_name ≡ s.sink.ghost_name) × (t.waiting.ghost_name ≡ s.waiting.ghost_name)
         × K.same s.sink.now t.sink.now × OnlyGrows (K.got s.sink.now) (K.got t.sink.now) };
 

@@ -26,7 +26,7 @@ fn send<K: Sink>(sink: &mut K, bytes: &[u8]) -> (usize, Result<(), Failed>)
 }
 
 // Takes the first n bytes away.
-fn remove_front(bytes: &mut Vec<u8>, n: usize)
+fn drop_first(bytes: &mut Vec<u8>, n: usize)
     requires { n ≤ vec_len bytes.old }
     ensures items { bytes.new.items ≡ drop n bytes.old.items }
     ensures capacity { vec_capacity bytes.new ≡ vec_capacity bytes.old }
@@ -52,7 +52,7 @@ pub fn drain<K: Sink>(sink: &mut K, waiting: &mut Vec<u8>) -> Result<(), Failed>
         return Ok(());
     }
     let (sent, answer) = send(sink, waiting.as_slice());
-    remove_front(waiting, sent);
+    drop_first(waiting, sent);
     answer
 }
 

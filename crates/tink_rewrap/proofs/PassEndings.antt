@@ -17,7 +17,7 @@ use Rattle.stream_model.proofs.KeyFacts.{CanOpen as Lawful}
 use Rattle.tink_gathered.specs.Gathering.{IsCutShort, OnlyGrows}
 use Rattle.tink_gathered.proofs.GatheringLemmas.{grows_then}
 use Rattle.tink_run.specs.declared.report.Report.{Report}
-use Rattle.tink_run.specs.Endings.{EndsAs, EndsBy, IsRefusedEarly}
+use Rattle.tink_run.specs.Endings.{EndsAs, IsEndedBy, IsRefusedEarly}
 use Rattle.tink_run.specs.OpenAnswers.{IsBroken, IsOfChosen, OpeningMeans}
 use Rattle.tink_run.specs.Outside.{Outside}
 use Rattle.tink_run.specs.Run.{IsEarly}
@@ -224,7 +224,7 @@ rewraps_ended keys lawful k aad draws left_draws old new ended x = go r.ends
         subst (RewrapsUnder keys k aad draws left_draws old new) (sym is)
         (rewraps_cut keys k aad draws left_draws old new r.told r.faults lawful r.grows short rose r.later (Err e) (not_early (Err e) ended (r.told ≡ new.got) (r.faults ≡ new.write_faults) early is) has m)
 
-    go : EndsBy r.told new.got r.faults new.write_faults r.answer ended → RewrapsUnder keys k aad draws left_draws old new ended
+    go : IsEndedBy r.told new.got r.faults new.write_faults r.answer ended → RewrapsUnder keys k aad draws left_draws old new ended
     go (inl w) = subst (RewrapsUnder keys k aad draws left_draws old new) (sym w.is) (rewraps_kept keys k aad draws left_draws old new r.told r.faults w.kept r.later r.answer (λ e. ((r.early e).1, (r.early e).2)) r.meant)
     go (inr w) =
         let rose = failed_once old.write_faults r.faults new.write_faults r.answer
@@ -246,7 +246,7 @@ begun_ends got faults behind waits keys first old (Err e) ended i j k same empty
 -- what was answered over a sink that gathers, for which nothing waited, and how it ended
 pub rewrap_ends_as : (keys : List OpeningKey) (k : StreamKey) (aad draws left_draws : List ℕ) (first old : Outside) (left : Option (List ℕ)) (reads : ℕ) (known told got : Option (List ℕ)) (before now : ℕ) (answer ended : Result Report TinkError)
     → first ≡ old → RewrapsUnder keys k aad draws left_draws first (record { left = left; read_faults = reads; got = told; write_faults = before }) answer
-    → EndsBy told got before now answer ended → OnlyGrows old.got known → OnlyGrows known got → old.write_faults ≤ before → before ≤ now
+    → IsEndedBy told got before now answer ended → OnlyGrows old.got known → OnlyGrows known got → old.write_faults ≤ before → before ≤ now
     → (IsRefusedEarly answer → (ended ≡ answer) × (told ≡ got) × (before ≡ now))
     → IfErr answer (λ e. ((ended ≡ answer) × (told ≡ got) × (before ≡ now)) ⊎ HasKey keys old)
     → RewrapEnds keys k aad draws left_draws old (record { left = left; read_faults = reads; got = got; write_faults = now }) ended

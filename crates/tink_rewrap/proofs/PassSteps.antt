@@ -16,7 +16,7 @@ use Rattle.stream_model.specs.Cut.{full_chunks, sealed, unmarked}
 use Rattle.stream_model.proofs.SealingFacts.{length-chunks}
 use Rattle.tink_streams.specs.declared.progress.Progress.TheVariants.{Ended}
 use Rattle.tink_streams.specs.Reading.{ReaderMoment, OpensNext, OpenNextRefused}
-use Rattle.tink_streams.specs.Writing.{WriterMoment, Wrote, WrotePrefix, WroteAll, WriteRefused, ClosedBy, ClosedShort, CloseMeans, CloseRefused}
+use Rattle.tink_streams.specs.Writing.{WriterMoment, Wrote, WrotePrefixOf, WroteAll, WriteRefused, ClosedBy, ClosedShort, CloseMeans, CloseRefused}
 use Rattle.tink_streams.proofs.WritingFacts.{IsFresh, fresh_filled, wrote_nothing, wrote_more, refused_more, closed_whole, closed_front, stops_front}
 use Rattle.tink_run.specs.declared.report.Report.{Report}
 use Rattle.tink_run.specs.Outside.{Outside}
@@ -41,7 +41,7 @@ module _ (front : List ℕ) (seg : ℕ → Bool → List ℕ → List ℕ) (a b 
   few_chunks n text p = omega (arith, p.few, p.counted, f.number, ap length (fresh_filled a b m text f), length-chunks a b text)
 
   -- a prefix of these
-  wrote_less : (n : WriterMoment) (text : List ℕ) → WrotePrefix seg a b m n text → AppendsPrefix got n.got (bytes.part text)
+  wrote_less : (n : WriterMoment) (text : List ℕ) → WrotePrefixOf seg a b m n text → AppendsPrefix got n.got (bytes.part text)
   wrote_less n text p =
       subst (AppendsPrefix got n.got) (ap (λ i. front ++ unmarked seg i (full_chunks a b text)) f.number)
       (then_prefix got m.got n.got front (unmarked seg m.number (full_chunks a b text)) w

@@ -23,7 +23,7 @@ use Rattle.stream_model.proofs.KeyFacts.{CanOpen as Lawful}
 use Rattle.tink_gathered.specs.Gathering.{IsCutShort, OnlyGrows}
 use Rattle.tink_gathered.proofs.GatheringLemmas.{grows_then}
 use Rattle.tink_run.specs.declared.report.Report.{Report}
-use Rattle.tink_run.specs.Endings.{EndsAs, EndsBy, IsHandedOn, IsHandedShort, IsRefusedEarly}
+use Rattle.tink_run.specs.Endings.{EndsAs, IsEndedBy, IsHandedOn, IsHandedShort, IsRefusedEarly}
 use Rattle.tink_run.specs.OpenAnswers.{AgreesUntil, chunk_of, GoesOn, HasBadSegment, HasNoKey, IsBroken, IsOfChosen, IsOpenedWhole, IsTruncated, Lead, OpeningMeans, OpeningRefused}
 use Rattle.tink_run.specs.OpenSteps.{OpensUnder, OpensUnderRefused}
 use Rattle.tink_run.specs.Outside.{Outside}
@@ -281,7 +281,7 @@ not_early answer ended P Q early is refused = subst IsRefusedEarly (sym (early r
 pub seals_ended : (k : StreamKey) (aad draws left_draws : List ℕ) (old new : Outside) (ended : Result Report TinkError) → EndsAs (SealsUnder k aad draws left_draws old) old new ended → SealsUnder k aad draws left_draws old new ended
 seals_ended k aad draws left_draws old new ended r = go r.ends
   where
-    go : EndsBy r.told new.got r.faults new.write_faults r.answer ended → SealsUnder k aad draws left_draws old new ended
+    go : IsEndedBy r.told new.got r.faults new.write_faults r.answer ended → SealsUnder k aad draws left_draws old new ended
     go (inl w) = subst (SealsUnder k aad draws left_draws old new) (sym w.is) (seals_kept k aad draws left_draws old new r.told r.faults w.kept r.later r.answer (λ e. ((r.early e).1, (r.early e).2)) r.meant)
     go (inr w) =
         let rose = failed_once old.write_faults r.faults new.write_faults r.answer (λ is. (subst (SealsUnder k aad draws left_draws old (record new { got = r.told; write_faults = r.faults })) is r.meant).means.rose) r.earlier r.later w.cause in
@@ -313,7 +313,7 @@ module _ (keys : List OpeningKey) (old new : Outside) (told : Option (List ℕ))
 pub opens_ended : (keys : List OpeningKey) → ((S : List ℕ) (k : OpeningKey) → IsChosen keys S (Some k) → Lawful k) → (old new : Outside) (ended : Result Report TinkError) → EndsAs (OpensUnder keys old) old new ended → OpensUnder keys old new ended
 opens_ended keys lawful old new ended r = go r.ends
   where
-    go : EndsBy r.told new.got r.faults new.write_faults r.answer ended → OpensUnder keys old new ended
+    go : IsEndedBy r.told new.got r.faults new.write_faults r.answer ended → OpensUnder keys old new ended
     go (inl w) = subst (OpensUnder keys old new) (sym w.is) (opens_kept keys old new r.told r.faults w.kept r.later r.answer (λ e. ((r.early e).1, (r.early e).2)) r.meant)
     go (inr w) =
         let rose = failed_once old.write_faults r.faults new.write_faults r.answer (λ is. (subst (OpensUnder keys old (record new { got = r.told; write_faults = r.faults })) is r.meant).1) r.earlier r.later w.cause in
@@ -332,7 +332,7 @@ early_ends got faults behind waits (Err e) ended s t i j k empty leaves still ea
     (end.0, nothing_waits (got (behind j)) (waits j) none ∙ ap got (sym end.1), ap faults (sym end.1))
 
 pub leaves_ended : {S G K : Type 0} (behind : G → K) (waits : G → List ℕ) (told got : Option (List ℕ)) (before now : ℕ) (answer ended : Result Report TinkError) (s t : S) (i j : G) (k l : K) → k ≡ behind i → waits i ≡ [] → LeavesEnds answer s t i j
-    → (waits j ≡ [] → (ended ≡ answer) × (l ≡ behind j)) → EndsBy told got before now answer ended → LeavesEnds ended s t k l
+    → (waits j ≡ [] → (ended ≡ answer) × (l ≡ behind j)) → IsEndedBy told got before now answer ended → LeavesEnds ended s t k l
 leaves_ended behind waits told got before now (Ok report) ended s t i j k l is empty leaves still (inl w) = subst (λ a. LeavesEnds a s t k l) (sym w.is) tt
 leaves_ended behind waits told got before now (Err e) ended s t i j k l is empty leaves still (inl w) = subst (λ a. LeavesEnds a s t k l) (sym w.is) (λ early.
     let same = leaves early in
@@ -340,7 +340,7 @@ leaves_ended behind waits told got before now (Err e) ended s t i j k l is empty
 leaves_ended behind waits told got before now answer ended s t i j k l is empty leaves still (inr w) = subst (λ a. LeavesEnds a s t k l) (sym w.is) (λ early. absurd early)
 
 pub leaves_sink_ended : {G K : Type 0} (behind : G → K) (waits : G → List ℕ) (told got : Option (List ℕ)) (before now : ℕ) (answer ended : Result Report TinkError) (i j : G) (k l : K) → k ≡ behind i → waits i ≡ [] → LeavesSinkItself answer i j
-    → (waits j ≡ [] → (ended ≡ answer) × (l ≡ behind j)) → EndsBy told got before now answer ended → LeavesSinkItself ended k l
+    → (waits j ≡ [] → (ended ≡ answer) × (l ≡ behind j)) → IsEndedBy told got before now answer ended → LeavesSinkItself ended k l
 leaves_sink_ended behind waits told got before now (Ok report) ended i j k l is empty leaves still (inl w) = subst (λ a. LeavesSinkItself a k l) (sym w.is) tt
 leaves_sink_ended behind waits told got before now (Err e) ended i j k l is empty leaves still (inl w) = subst (λ a. LeavesSinkItself a k l) (sym w.is) (λ early.
     let same = leaves early in
@@ -359,7 +359,7 @@ begins_as got faults left reads k l waits same none =
 -- what was answered over a sink that gathers, for which nothing waited, and how it ended
 pub ends_as : (means : Outside → Outside → Result Report TinkError → Type 0) (first old : Outside) (left : Option (List ℕ)) (reads : ℕ) (known told got : Option (List ℕ)) (before now : ℕ) (answer ended : Result Report TinkError)
     → first ≡ old → means first (record { left = left; read_faults = reads; got = told; write_faults = before }) answer
-    → EndsBy told got before now answer ended → OnlyGrows old.got known → OnlyGrows known got → old.write_faults ≤ before → before ≤ now
+    → IsEndedBy told got before now answer ended → OnlyGrows old.got known → OnlyGrows known got → old.write_faults ≤ before → before ≤ now
     → (IsRefusedEarly answer → (ended ≡ answer) × (told ≡ got) × (before ≡ now))
     → EndsAs (means old) old (record { left = left; read_faults = reads; got = got; write_faults = now }) ended
 ends_as means first old left reads known told got before now answer ended is meant ends begins goes_on earlier later early = record {

@@ -18,7 +18,7 @@ use Rattle.tink_stream_keys.specs.Encrypting.{DrewHeader, IsNewStream, NewWriter
 use Rattle.tink_stream_keys.specs.StreamingKeys.{deriving_hash}
 use Rattle.stream_model.specs.Sealing.{stream, part, longest_part, sealed_under, unmarked_under, salt_of, prefix_of}
 use Rattle.stream_model.proofs.SealingFacts.{length-chunks}
-use Rattle.tink_streams.specs.Writing.{WriterMoment, Wrote, WrotePrefix, WroteAll, ClosedBy, ClosedShort, CloseMeans, CloseRefused}
+use Rattle.tink_streams.specs.Writing.{WriterMoment, Wrote, WrotePrefixOf, WroteAll, ClosedBy, ClosedShort, CloseMeans, CloseRefused}
 use Rattle.tink_streams.proofs.WritingFacts.{IsFresh, fresh_filled, closed_whole, closed_front, stops_front}
 use Rattle.loading_model.specs.Loading.{Loaded}
 use Rattle.tink_run.specs.AllKeys.{load}
@@ -63,7 +63,7 @@ module _ (k : StreamKey) (aad salt prefix keys : List ℕ) (e : keys_of k aad sa
   }
 
   -- the sink failed in an unmarked segment
-  pub sink_failed : (old new : Outside) (m n : WriterMoment) (text : List ℕ) → IsFresh m → Appends old.got m.got (front k salt prefix) → WrotePrefix seg (first_room k) (room k) m n text → new.got ≡ n.got → Consumes old.left new.left text
+  pub sink_failed : (old new : Outside) (m n : WriterMoment) (text : List ℕ) → IsFresh m → Appends old.got m.got (front k salt prefix) → WrotePrefixOf seg (first_room k) (room k) m n text → new.got ≡ n.got → Consumes old.left new.left text
       → old.write_faults ≤ m.faults → n.faults ≤ new.write_faults → SinkFailed k aad salt prefix old new
   sink_failed old new m n text f w p same read later more =
       let chunks = fresh_filled (first_room k) (room k) m text f in

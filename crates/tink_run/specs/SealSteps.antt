@@ -8,7 +8,7 @@ use Rattle.tink_io.specs.declared.error.Kind.TheVariants.{OutOfMemory, ReadFault
 use Rattle.tink_io.specs.declared.error.TinkError.{TinkError}
 use Rattle.stream_model.specs.Key.{StreamKey, keys_of}
 use Rattle.stream_model.specs.Sealing.{drawn, salt_of, prefix_of}
-use Rattle.tink_streams.specs.Writing.{WriterMoment, Wrote, WrotePrefix, WroteAll}
+use Rattle.tink_streams.specs.Writing.{WriterMoment, Wrote, WrotePrefixOf, WroteAll}
 use Rattle.tink_run.specs.declared.report.Report.{Report}
 use Rattle.tink_run.specs.Outside.{Outside, IsUntouched}
 use Rattle.tink_run.specs.SealAnswers.{SealingMeans, WantsMemory}
@@ -28,7 +28,7 @@ pub record IsRefusedBy (before after : Option (List ℕ)) (P : List ℕ → Type
 
 abbrev pub PourRefused : (ℕ → Bool → List ℕ → List ℕ) → ℕ → ℕ → Option (List ℕ) → Option (List ℕ) → ℕ → ℕ → WriterMoment → WriterMoment → Kind → Type 0
 PourRefused seg a b before after reads read_again old new ReadFault = IsRefusedBy before after (λ text. Wrote seg a b old new text) × Rose reads read_again
-PourRefused seg a b before after reads read_again old new WriteFault = IsRefusedBy before after (λ text. WrotePrefix seg a b old new text)
+PourRefused seg a b before after reads read_again old new WriteFault = IsRefusedBy before after (λ text. WrotePrefixOf seg a b old new text)
 PourRefused seg a b before after reads read_again old new TooManySegments = IsRefusedBy before after (λ text. WroteAll seg a b old new text)
 PourRefused seg a b before after reads read_again old new _ = ⊥
 

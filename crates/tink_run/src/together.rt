@@ -6,7 +6,7 @@ ghost use Rattle.stream_model.specs.Opening as opening;
 ghost use Rattle.tink_stream_keys.specs.StreamKinds.{key_in_set};
 ghost use Rattle.tink_streaming_aead.specs.Wrapped.{KeepsOrder, all_entries, keys_in};
 ghost use Rattle.tink_gathered.specs.Gathering.{OnlyGrows};
-ghost use Rattle.tink_run.specs.Endings.{EndsAs, EndsBy};
+ghost use Rattle.tink_run.specs.Endings.{EndsAs, IsEndedBy};
 ghost use Rattle.tink_run.specs.OpenSteps.{OpensUnder};
 ghost use Rattle.tink_run.specs.Outside.{FaultsStay, outside_of};
 ghost use Rattle.tink_run.specs.Run.{LeavesEnds, LeavesSinkItself};
@@ -30,8 +30,8 @@ pub fn ended<K: Sink>(
     answer: Result<Report, TinkError>,
     sink: &mut Gathered<'_, K>,
 ) -> Result<Report, TinkError>
-    ensures ends { EndsBy (append_known (K.got sink.old.sink.now) sink.old.waiting.now.items) (K.got sink.new.sink.now)
-        (K.faults sink.old.sink.now) (K.faults sink.new.sink.now) answer result }
+    ensures ends { IsEndedBy (append_known (K.got sink.old.sink.now) sink.old.waiting.now.items)
+        (K.got sink.new.sink.now) (K.faults sink.old.sink.now) (K.faults sink.new.sink.now) answer result }
     ensures still { sink.old.waiting.now.items ≡ [] → (result ≡ answer) × (sink.new.sink.now ≡ sink.old.sink.now) }
     ensures grows { OnlyGrows (K.got sink.old.sink.now) (K.got sink.new.sink.now) }
     ensures later { K.faults sink.old.sink.now ≤ K.faults sink.new.sink.now }
@@ -53,7 +53,7 @@ pub fn ended<K: Sink>(
 }
 
 // `seal` to a sink that gets small pieces together, in memory that is lent.
-pub(crate) fn seal_together<S: Source, K: Sink>(
+pub fn seal_together<S: Source, K: Sink>(
     alloc: Global,
     key: &TypedEntry<StreamKind>,
     aad: &[u8],
@@ -78,7 +78,7 @@ pub(crate) fn seal_together<S: Source, K: Sink>(
 }
 
 // `open` to a sink that gets small pieces together, in memory that is lent.
-pub(crate) fn open_together<S: Source, K: Sink>(
+pub fn open_together<S: Source, K: Sink>(
     alloc: Global,
     set: &TypedPrimitiveSet<StreamKind>,
     aad: &[u8],

@@ -15,7 +15,7 @@ use Rattle.tink_io.specs.declared.error.Kind.TheVariants.{WriteFault, TooManySeg
 use Rattle.tink_io.specs.declared.error.Kind.TheVariants as kind
 use Rattle.tink_io.specs.declared.error.TinkError.{TinkError}
 use Rattle.tink_streams.specs.declared.writing.Mode.TheVariants.{Open}
-use Rattle.tink_streams.specs.Writing.{WriterMoment, filled, StopsWithin, Wrote, WrotePrefix, WroteAll, WriteRefused, ClosedBy, ClosedShort, CloseMeans, PutMeans}
+use Rattle.tink_streams.specs.Writing.{WriterMoment, filled, StopsWithin, Wrote, WrotePrefixOf, WroteAll, WriteRefused, ClosedBy, ClosedShort, CloseMeans, PutMeans}
 use Rattle.tink_streams.proofs.WriterSteps.{then_prefix, one_begun}
 use Rattle.tink_streams.proofs.FrontFacts.{fits_or_not}
 
@@ -73,7 +73,7 @@ wrote_more seg a b m n o R S p q w v =
       few = v.few;
     }
 
-pub wrote_then_prefix : (seg : ℕ → Bool → List ℕ → List ℕ) (a b : ℕ) (m n o : WriterMoment) (R S : List ℕ) → 0 < a → 0 < b → m.faults ≤ n.faults → Wrote seg a b m n R → WrotePrefix seg a b n o S → WrotePrefix seg a b m o (R ++ S)
+pub wrote_then_prefix : (seg : ℕ → Bool → List ℕ → List ℕ) (a b : ℕ) (m n o : WriterMoment) (R S : List ℕ) → 0 < a → 0 < b → m.faults ≤ n.faults → Wrote seg a b m n R → WrotePrefixOf seg a b n o S → WrotePrefixOf seg a b m o (R ++ S)
 wrote_then_prefix seg a b m n o R S p q later w v =
     let before : List (List ℕ) = filled a b m R in
     let stops = v.stops in

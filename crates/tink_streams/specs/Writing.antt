@@ -51,7 +51,7 @@ pub record StopsWithin (seg : ℕ → Bool → List ℕ → List ℕ) (start num
   pub front : AppendsPrefix between new (seg number false next)
 
 -- the sink failed in one of those segments
-pub record WrotePrefix (seg : ℕ → Bool → List ℕ → List ℕ) (first room : ℕ) (old new : WriterMoment) (text : List ℕ) : Type 0 where
+pub record WrotePrefixOf (seg : ℕ → Bool → List ℕ → List ℕ) (first room : ℕ) (old new : WriterMoment) (text : List ℕ) : Type 0 where
   pub was_open : old.mode ≡ Open
   pub failed : new.mode ≡ Failed cause.WriteFault
   pub stops : StopsWithin seg old.number new.number (filled first room old text) old.got new.got
@@ -67,7 +67,7 @@ pub record WroteAll (seg : ℕ → Bool → List ℕ → List ℕ) (first room :
 
 -- each refusal of a write
 abbrev pub WriteRefused : (ℕ → Bool → List ℕ → List ℕ) → ℕ → ℕ → WriterMoment → WriterMoment → List ℕ → Kind → Type 0
-WriteRefused seg first room old new text WriteFault = WrotePrefix seg first room old new text
+WriteRefused seg first room old new text WriteFault = WrotePrefixOf seg first room old new text
 WriteRefused seg first room old new text TooManySegments = WroteAll seg first room old new text
 WriteRefused seg first room old new text kind.Closed = (old.mode ≡ Closed) × (new ≡ old)
 WriteRefused seg first room old new text (FailedBefore c) = (old.mode ≡ Failed c) × (new ≡ old)

@@ -22,8 +22,8 @@ impl Kept {
     /// Failed where the source failed.
     pub fn keep<S: Source>(&mut self, source: &mut S, size: usize) -> Result<(), Failed>
         requires size { size < vec_len self.old.buffer }
-        ensures held { HoldsOrFails size (kept_rest S.left self.old source.old) (kept_bytes self.new) (S.left source.new)
-            result }
+        ensures held { HoldsOrFails size (kept_rest S.left self.old source.old) (kept_bytes self.new)
+            (S.left source.new) result }
         ensures most { self.new.filled ≤ max self.old.filled (size + 1) }
         ensures more { self.old.filled ≤ self.new.filled }
         ensures len { vec_len self.new.buffer ≡ vec_len self.old.buffer }
