@@ -1,5 +1,5 @@
 -- What stays at the front of what a sink gets.
-use Rattle.std.proofs.Common.{◌≡◌, ℕ, List, [], ◌++◌, take}
+use Rattle.std.proofs.Common.{ℕ, List, [], ◌++◌, take}
 use Rattle.std.specs.Prelude.{Result, Ok, Err}
 use Rattle.std.specs.declared.option.Option.{Option}
 use Rattle.std.specs.Io.KnownBytes.{WriteAppends}

@@ -1,5 +1,5 @@
 -- From what a rewrap answered over a sink that gathers to what it answers over the sink behind it.
-use Rattle.std.proofs.Common.{◌≡◌, ◌⊎◌, inl, inr, ◌≤◌, ◌<◌, ◌^◌, ℕ, List, [], ◌++◌, length, refl, sym, ap, subst, ◌∙◌, arith, Some, None, IfSome}
+use Rattle.std.proofs.Common.{◌≡◌, ◌⊎◌, inl, inr, ◌≤◌, ℕ, List, [], length, refl, sym, ap, subst, ◌∙◌, Some, None, IfSome}
 use Rattle.std.specs.declared.option.Option.{Option}
 use Rattle.std.specs.Prelude.{Result, Ok, Err, IfErr}
 use Rattle.std.specs.Io.KnownBytes.{Appends, Keeps, append_known}
@@ -25,7 +25,7 @@ use Rattle.tink_run.specs.SealAnswers.{WantsMemory}
 use Rattle.tink_run.specs.SealSteps.{HasFew, HasNoKeys}
 use Rattle.tink_run.proofs.EndingSteps.{broken_kept, cut_front, failed_once, kept_after, longest_front, not_early, nothing_waits, opening_cut, opening_kept}
 use Rattle.tink_run.proofs.OpenLemmas.{kept_front, whole_front}
-use Rattle.tink_rewrap.specs.Passing.{BreaksAtEnd, PassMeans, PassRefused, SinkBroke, StopsBy, bytes_under, into}
+use Rattle.tink_rewrap.specs.Passing.{BreaksAtEnd, PassMeans, PassRefused, StopsBy, bytes_under, into}
 use Rattle.tink_rewrap.specs.Rewrapping.{HasKey, IsPassing, LeavesOrBegins, RewrapEnds, RewrapsUnder, RewrapsUnderRefused}
 
 module _ (keys : List OpeningKey) (k : StreamKey) (aad draws left_draws : List ℕ) (old new : Outside) (told : Option (List ℕ)) (faults : ℕ) where

@@ -1,9 +1,9 @@
 -- From what was answered over a sink that gathers to what is answered over the sink behind it.
-use Rattle.std.proofs.Common.{◌≡◌, ◌⊎◌, inl, inr, ◌≤◌, ◌<◌, ◌+◌, ◌-◌, ◌^◌, ℕ, zero, suc, List, [], ◌∷◌, ◌++◌, length, take, drop, refl, sym, ap, subst, ◌∙◌, arith, Some, None, IfSome, append_assoc, take-append-drop}
+use Rattle.std.proofs.Common.{◌≡◌, ◌⊎◌, inl, inr, ◌≤◌, ◌<◌, ◌+◌, ◌-◌, ◌^◌, ℕ, List, [], ◌∷◌, ◌++◌, length, take, drop, refl, sym, ap, subst, ◌∙◌, arith, Some, None, IfSome, append_assoc, take-append-drop}
 use Rattle.std.specs.declared.option.Option.{Option}
-use Rattle.std.specs.Prelude.{Result, Ok, Err, IfErr}
+use Rattle.std.specs.Prelude.{Result, Ok, Err}
 use Rattle.std.specs.Io.KnownBytes.{Appends, Keeps, append_known}
-use Rattle.std.proofs.KnownBytes.{Appends-kept, Keeps-trans, Keeps-refl}
+use Rattle.std.proofs.KnownBytes.{Appends-kept, Keeps-trans}
 use Rattle.std.proofs.lemmas.List.{append-nil, length-take, take-take}
 use Rattle.std.proofs.Math.Seq.{take-append_seam}
 use Rattle.tink_io.specs.Faults.{Rose}
@@ -23,12 +23,12 @@ use Rattle.stream_model.proofs.KeyFacts.{CanOpen as Lawful}
 use Rattle.tink_gathered.specs.Gathering.{IsCutShort, OnlyGrows}
 use Rattle.tink_gathered.proofs.GatheringLemmas.{grows_then}
 use Rattle.tink_run.specs.declared.report.Report.{Report}
-use Rattle.tink_run.specs.Endings.{EndsAs, IsEndedBy, IsHandedOn, IsHandedShort, IsRefusedEarly}
-use Rattle.tink_run.specs.OpenAnswers.{AgreesUntil, chunk_of, GoesOn, HasBadSegment, HasNoKey, IsBroken, IsOfChosen, IsOpenedWhole, IsTruncated, Lead, OpeningMeans, OpeningRefused}
+use Rattle.tink_run.specs.Endings.{EndsAs, IsEndedBy, IsRefusedEarly}
+use Rattle.tink_run.specs.OpenAnswers.{AgreesUntil, chunk_of, IsBroken, IsOfChosen, Lead, OpeningMeans, OpeningRefused}
 use Rattle.tink_run.specs.OpenSteps.{OpensUnder, OpensUnderRefused}
 use Rattle.tink_run.specs.Outside.{Outside}
-use Rattle.tink_run.specs.Run.{IsEarly, LeavesEnds, LeavesSinkItself, WritesNothing}
-use Rattle.tink_run.specs.SealAnswers.{IsSealedWhole, IsTooLong, SealingMeans, SealingRefused, SinkFailed, SourceFailed, WantsMemory}
+use Rattle.tink_run.specs.Run.{IsEarly, LeavesEnds, LeavesSinkItself}
+use Rattle.tink_run.specs.SealAnswers.{SealingMeans, SealingRefused, SinkFailed, WantsMemory}
 use Rattle.tink_run.specs.SealSteps.{HasFew, HasNoKeys, IsUnderWay, SealsUnder, SealsUnderRefused}
 use Rattle.tink_run.proofs.OpenLemmas.{agreed_leads, kept_front, stream_agrees, whole_front}
 

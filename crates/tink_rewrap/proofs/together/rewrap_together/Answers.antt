@@ -1,4 +1,4 @@
-use Rattle.std.proofs.Common.{◌≡◌, [], refl, rules, arith, ap, subst, map}
+use Rattle.std.proofs.Common.{refl, rules, arith, ap, subst, map}
 use Rattle.std.specs.Io.KnownBytes.{append_known}
 use Rattle.stream_model.specs.Opening.{opening_key}
 use Rattle.tink_stream_keys.specs.StreamKinds.{key_in_set}

@@ -1,5 +1,4 @@
-use Rattle.std.proofs.Common.{◌≡◌, [], rules, arith, ap, subst, map}
-use Rattle.std.specs.Io.KnownBytes.{append_known}
+use Rattle.std.proofs.Common.{rules, arith, ap, subst}
 use Rattle.tink_gathered.specs.Gathering.{OnlyGrows}
 use Rattle.tink_stream_keys.specs.StreamKinds.{key_in_set}
 use Rattle.tink_run.specs.SealSteps.{SealsUnder}
