@@ -4,6 +4,7 @@ pub mod OpenAnswers
 pub mod Run
 pub mod SealSteps
 pub mod OpenSteps
+pub mod OpenReads
 pub mod AllKeys
 pub mod HeldKeys
 pub mod Rotation
