@@ -1,7 +1,6 @@
 //! tink: keys in files, and files encrypted under them.
 #![tactic(auto)]
 
-mod gathered;
 mod help;
 mod job;
 mod keys;

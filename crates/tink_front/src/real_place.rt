@@ -2,14 +2,18 @@
 
 ghost use Rattle.std.specs.Prelude.{◌≡◌, IfOk, None, true};
 
-use crate::gathered::Gathered;
 use crate::trouble::{Trouble, unwritable};
 use std::fs::{File, OpenFile, OpenOptions};
 use std::os::unix::fs::OpenOptionsExt;
 use std::random::RandomSource;
 use std::{fs, io};
-use tink_io::{Failed, Sink};
+use tink_gathered::Gathered;
+use tink_io::{Failed, Sink, StdSink};
 use tink_place::Place;
+
+// So many bytes wait for the file at most. What a seal or an open hands on together is longer, and does not wait again;
+// the parts of a range do.
+const WAITING: usize = 32_768;
 
 /// A draft beside the file that it is to become. Only its owner may read it. One that failed is never shown.
 #[derive(Drop)]
@@ -17,7 +21,8 @@ pub struct RealPlace<'a> {
     rt: &'a HostRuntime,
     name: String,
     draft: String,
-    sink: Gathered,
+    sink: StdSink<File>,
+    waiting: Vec<u8>,
     file: File,
     is_drafted: bool,
     is_replacing: bool,
@@ -81,7 +86,7 @@ impl<'a> RealPlace<'a> {
         if self.faults > 0 {
             return Err(Failed);
         }
-        self.sink.flush()?;
+        self.hand_on()?;
         match put_in_place(
             self.rt,
             &self.file,
@@ -89,6 +94,24 @@ impl<'a> RealPlace<'a> {
             self.name.as_str(),
             self.is_replacing,
         ) {
+            Ok(()) => Ok(()),
+            Err(_) => Err(Failed),
+        }
+    }
+}
+
+impl<'a> RealPlace<'a> {
+    // Writes what waits.
+    fn hand_on(&mut self) -> Result<(), Failed>
+        ensures drafted { self.new.is_drafted ≡ self.old.is_drafted }
+        ensures replacing { self.new.is_replacing ≡ self.old.is_replacing }
+        ensures faults { self.new.faults ≡ self.old.faults }
+    {
+        let mut gathered = Gathered {
+            sink: &mut self.sink,
+            waiting: &mut self.waiting,
+        };
+        match gathered.flush() {
             Ok(()) => Ok(()),
             Err(_) => Err(Failed),
         }
@@ -139,11 +162,12 @@ fn begin<'a, 'w>(
     ensures { IfOk result (λ p. p.is_drafted ≡ true) }
 {
     match open_twice(rt, draft.as_str()) {
-        Ok((file, sink)) => Ok(RealPlace {
+        Ok((file, other, waiting)) => Ok(RealPlace {
             rt,
             name: target,
             draft,
-            sink,
+            sink: StdSink::new(other),
+            waiting,
             file,
             is_drafted: true,
             is_replacing,
@@ -158,16 +182,16 @@ fn begin<'a, 'w>(
     }
 }
 
-// A new file that its owner alone may read, and another handle of it that is written to.
-fn open_twice(rt: &HostRuntime, path: &str) -> io::Result<(File, Gathered)> {
-    let room = Gathered::room(rt.alloc())?;
+// A new file that its owner alone may read, another handle of it that is written to, and memory for what waits.
+fn open_twice(rt: &HostRuntime, path: &str) -> io::Result<(File, File, Vec<u8>)> {
+    let waiting = Vec::with_capacity(rt.alloc(), WAITING)?;
     let file = OpenOptions::new()
         .write(true)
         .create_new(true)
         .mode(0o600)
         .open(rt, path)?;
     let other = file.try_clone()?;
-    Ok((file, Gathered::new(other, room)))
+    Ok((file, other, waiting))
 }
 
 impl<'a> Sink for RealPlace<'a> {
@@ -180,7 +204,11 @@ impl<'a> Sink for RealPlace<'a> {
     ghost same = { λ p q. (q.is_drafted ≡ p.is_drafted) × (q.is_replacing ≡ p.is_replacing) };
 
     fn write(&mut self, buf: &[u8]) -> Result<usize, Failed> {
-        match self.sink.write(buf) {
+        let mut gathered = Gathered {
+            sink: &mut self.sink,
+            waiting: &mut self.waiting,
+        };
+        match gathered.write(buf) {
             Ok(count) => Ok(count),
             Err(failed) => {
                 self.faults = self.faults.saturating_add(1);

@@ -1,10 +1,12 @@
-//! Tests of `tink_io`.
+//! Tests of `tink_io` and `tink_gathered`.
 #![tactic(auto)]
 
 #[cfg(test)]
 mod adapters;
 #[cfg(test)]
 mod expect;
+#[cfg(test)]
+mod gathered;
 #[cfg(test)]
 mod lines;
 #[cfg(test)]

@@ -16,7 +16,7 @@ use Rattle.tink_run.specs.OpenSteps.{Breaks, ReaderMeans}
 use Rattle.tink_run.specs.Run.{IsEarly, LeavesEnds}
 use Rattle.tink_run.proofs.OpenSteps.{breaks_under, means_under, start_refused}
 use Rattle.tink_rewrap.specs.Passing.{NewBytes, anywhere, into, BreaksAtEnd, PassMeans, PassRefused, StopsBy}
-use Rattle.tink_rewrap.specs.Rewrapping.{HasKey}
+use Rattle.tink_rewrap.specs.Rewrapping.{HasKey, LeavesOrBegins}
 
 -- the same is made of each text
 pub record MakeTheSame (b c : NewBytes) : Type 0 where
@@ -107,6 +107,21 @@ pass_started keys seg first size overhead b old mid new answer fits longer got r
     chosen : (left : Option (List ℕ)) → IfSome left (λ X. Started keys X mid.left seg first size overhead) → IfSome left (λ S. (key : OpeningKey) × IsChosen keys S (Some key))
     chosen None s = tt
     chosen (Some X) s = (s.found.key, s.found.chosen)
+
+-- a reader was started, so that a key was chosen
+pub begun_of : {K : Type 0} (keys : List OpeningKey) (seg : ℕ → Bool → List ℕ → List ℕ) (first size overhead : ℕ) (left : Option (List ℕ)) (old : Outside) (answer : Result Report TinkError) (k l : K)
+    → IfSome old.left (λ X. Started keys X left seg first size overhead) → LeavesOrBegins keys old answer k l
+begun_of keys seg first size overhead left old (Ok report) k l started = tt
+begun_of keys seg first size overhead left old (Err e) k l started = inr (chosen old.left started)
+  where
+    chosen : (told : Option (List ℕ)) → IfSome told (λ X. Started keys X left seg first size overhead) → IfSome told (λ S. (key : OpeningKey) × IsChosen keys S (Some key))
+    chosen None s = tt
+    chosen (Some X) s = (s.found.key, s.found.chosen)
+
+-- a sink that is as it was is left so by every answer
+pub leaves_or_begins_same : {K : Type 0} (keys : List OpeningKey) (old : Outside) (answer : Result Report TinkError) (k : K) → LeavesOrBegins keys old answer k k
+leaves_or_begins_same keys old (Ok report) k = tt
+leaves_or_begins_same keys old (Err e) k = inl refl
 
 -- no reader was started
 pub pass_not_started : (keys : List OpeningKey) (b : NewBytes) (old new : Outside) (kind : Kind) → Keeps old.got new.got → StartRefused keys old.left old.read_faults new.read_faults kind

@@ -1,8 +1,8 @@
 -- From the answers of loading, preparing and passing on to what a rewrap answers.
-use Rattle.std.proofs.Common.{◌≡◌, ◌∙◌, inl, inr, ℕ, Bool, List, [], map, refl, sym, subst, Some, None, IfSome}
+use Rattle.std.proofs.Common.{◌≡◌, ◌⊎◌, ◌∙◌, inl, inr, ℕ, Bool, List, [], map, refl, sym, subst, Some, None, IfSome}
 use Rattle.std.proofs.lemmas.Simd.{map-map}
 use Rattle.std.specs.declared.option.Option.{Option}
-use Rattle.std.specs.Prelude.{Result, Ok, Err}
+use Rattle.std.specs.Prelude.{Result, Ok, Err, IfErr}
 use Rattle.tink_io.specs.declared.error.Kind.{Kind}
 use Rattle.tink_io.specs.declared.error.Kind.TheVariants.{OutOfMemory, ReadFault, WriteFault, RandomFault, BadKeyset, InvalidKeyset, UnsupportedKeyType, InvalidKey, NoPrimary, WrongPrimitive, UnknownHash, UnsupportedHash, TooManySegments, NoMatchingKey, BadSegment, Truncated}
 use Rattle.tink_io.specs.declared.error.TinkError.{TinkError}
@@ -25,12 +25,14 @@ use Rattle.tink_run.specs.OpenAnswers.{IsBroken, OpeningMeans}
 use Rattle.tink_run.specs.Outside.{Outside}
 use Rattle.tink_run.specs.SealSteps.{kind_not_begun}
 use Rattle.tink_run.proofs.OneKeyFacts.{broken_by, means_by}
+use Rattle.tink_run.proofs.OpenLemmas.{chosen_lawful}
 use Rattle.tink_run.proofs.RowFacts.{load_refuses, loaded_usable}
 use Rattle.tink_run.proofs.RunSteps.{are_of_keyset}
 use Rattle.tink_run.proofs.SealSteps.{longest_is, no_keys, part_is, stream_is}
 use Rattle.tink_rewrap.specs.Passing.{bytes_by, bytes_under, into, PassMeans, PassRefused}
-use Rattle.tink_rewrap.specs.Rewrapping.{HasKey, IsPassing, IsUnloaded, RewrapMeans, RewrapRefused, RewrapsLoaded, RewrapsUnder, RewrapsUnderRefused, Sides}
+use Rattle.tink_rewrap.specs.Rewrapping.{HasKey, IsPassing, IsUnloaded, RewrapEnds, RewrapMeans, RewrapRefused, RewrapsLoaded, RewrapsUnder, RewrapsUnderRefused, Sides}
 use Rattle.tink_rewrap.proofs.KeySteps.{MakeTheSame, itself, pass_by}
+use Rattle.tink_rewrap.proofs.PassEndings.{rewraps_ended}
 
 -- ---- to a key
 
@@ -130,6 +132,30 @@ module _ (ks js : List OpeningKey) (same : (S : List ℕ) (c : Option OpeningKey
       go WriteFault r = passing_by (Err e) r
       go _ r = absurd r
 
+-- how it ended, too
+ends_by : (ks js : List OpeningKey) → ((S : List ℕ) (c : Option OpeningKey) → IsChosen ks S c → IsChosen js S c) → (k : StreamKey) (aad draws left_draws : List ℕ) (old new : Outside) (ended : Result Report TinkError)
+    → RewrapEnds ks k aad draws left_draws old new ended → RewrapEnds js k aad draws left_draws old new ended
+ends_by ks js same k aad draws left_draws old new ended r = record {
+  ends = record {
+    told = r.ends.told;
+    faults = r.ends.faults;
+    answer = r.ends.answer;
+    meant = rewraps_by ks js same k aad draws left_draws old (record new { got = r.ends.told; write_faults = r.ends.faults }) r.ends.answer r.ends.meant;
+    ends = r.ends.ends;
+    grows = r.ends.grows;
+    earlier = r.ends.earlier;
+    later = r.ends.later;
+    early = r.ends.early;
+  };
+  begun = go r.ends.answer r.begun;
+}
+  where
+    go : (answer : Result Report TinkError) → IfErr answer (λ e. ((ended ≡ answer) × (r.ends.told ≡ new.got) × (r.ends.faults ≡ new.write_faults)) ⊎ HasKey ks old)
+        → IfErr answer (λ e. ((ended ≡ answer) × (r.ends.told ≡ new.got) × (r.ends.faults ≡ new.write_faults)) ⊎ HasKey js old)
+    go (Ok report) x = tt
+    go (Err e) (inl x) = inl x
+    go (Err e) (inr x) = inr (has_key ks js same k aad draws left_draws old new x)
+
 -- a rewrap between loaded keys is one between keysets
 under_keysets : (s : Sides) (draws left_draws : List ℕ) (old new : Outside) (answer : Result Report TinkError) → RewrapsLoaded s draws left_draws old new answer → RewrapMeans s draws left_draws old new answer
 under_keysets s draws left_draws old new (Ok report) r = r
@@ -150,7 +176,7 @@ under_keysets s draws left_draws old new (Err e) r = go e.kind r.means
 -- a rewrap from all keys of one set to the primary key of another is one between the keysets
 pub rewraps_keysets : (s : Sides) (draws left_draws : List ℕ) (set others : TypedPrimitiveSet StreamKind) (key : StreamKey) (old new : Outside) (answer : Result Report TinkError)
     → GivesLoaded (Ok set) (load s.from) → GivesLoaded (Ok others) (load s.to) → key_in others.primary ≡ Some key → KeepsOrder set.entries
-    → RewrapsUnder (map (opening_key s.from_aad) (keys_in (all_entries set.entries))) key s.to_aad draws left_draws old new answer → RewrapMeans s draws left_draws old new answer
+    → RewrapEnds (map (opening_key s.from_aad) (keys_in (all_entries set.entries))) key s.to_aad draws left_draws old new answer → RewrapMeans s draws left_draws old new answer
 rewraps_keysets s draws left_draws set others key old new answer from to primary order r =
     let l : Loaded = from.0 in
     let all : List StreamKey = keys_in (all_entries set.entries) in
@@ -158,17 +184,20 @@ rewraps_keysets s draws left_draws set others key old new answer from to primary
     let ordered : HaveSameOrder all own = subst (HaveSameOrder all) from.2.keys (order from.2.entries from.2.groups) in
     let one : Some key ≡ Some to.0.primary = sym primary ∙ to.2.primary in
     let same : key ≡ to.0.primary = cc in
-    let under : RewrapsUnder (map (opening_key s.from_aad) own) key s.to_aad draws left_draws old new answer =
-    rewraps_by (map (opening_key s.from_aad) all) (map (opening_key s.from_aad) own)
+    let under : RewrapEnds (map (opening_key s.from_aad) own) key s.to_aad draws left_draws old new answer =
+    ends_by (map (opening_key s.from_aad) all) (map (opening_key s.from_aad) own)
     (λ S c. (choose_the_same s.from_aad S all own c (are_of_keyset l.keys (loaded_usable s.from l from.1).0) ordered).0) key s.to_aad draws left_draws old new answer r
+    in
+    let loaded : RewrapEnds (opening_keys s.from_aad l) to.0.primary s.to_aad draws left_draws old new answer =
+    subst (λ (ks : List OpeningKey). RewrapEnds ks to.0.primary s.to_aad draws left_draws old new answer) (map-map (opening_key s.from_aad) (λ k. k.key) l.keys)
+    (subst (λ (k : StreamKey). RewrapEnds (map (opening_key s.from_aad) own) k s.to_aad draws left_draws old new answer) same under)
     in
     under_keysets s draws left_draws old new answer (record {
       from_loaded = l;
       from_loads = from.1;
       to_loaded = to.0;
       to_loads = to.1;
-      means = subst (λ (ks : List OpeningKey). RewrapsUnder ks to.0.primary s.to_aad draws left_draws old new answer) (map-map (opening_key s.from_aad) (λ k. k.key) l.keys)
-          (subst (λ (k : StreamKey). RewrapsUnder (map (opening_key s.from_aad) own) k s.to_aad draws left_draws old new answer) same under);
+      means = rewraps_ended (opening_keys s.from_aad l) (λ S key. chosen_lawful s.from s.from_aad S l key from.1) to.0.primary s.to_aad draws left_draws old new answer loaded;
     })
 
 unloaded : (s : Sides) (draws : List ℕ) (m : Outside) (e : TinkError) (kind : Kind) → IsOfLoading kind → IsUnloaded s kind draws draws m m → RewrapRefused s draws draws m m e kind
@@ -180,7 +209,7 @@ unloaded s draws m e NoPrimary is u = u
 unloaded s draws m e WrongPrimitive is u = u
 unloaded s draws m e _ is u = absurd is
 
-wants_memory : (s : Sides) (draws : List ℕ) (m : Outside) (e : TinkError) → e.kind ≡ OutOfMemory → RewrapMeans s draws draws m m (Err e)
+pub wants_memory : (s : Sides) (draws : List ℕ) (m : Outside) (e : TinkError) → e.kind ≡ OutOfMemory → RewrapMeans s draws draws m m (Err e)
 wants_memory s draws m e same = subst (RewrapRefused s draws draws m m e) (sym same) (record { untouched = refl; undrawn = refl })
 
 -- the first keyset was refused, or there was no memory for it

@@ -1,5 +1,5 @@
 -- What a rewrap says by each of its answers.
-use Rattle.std.specs.Prelude.{◌≡◌, ◌⊎◌, ℕ, ◌≤◌, List, length, drop, Result, Ok, Err, Some, None, IfSome}
+use Rattle.std.specs.Prelude.{◌≡◌, ◌⊎◌, ℕ, ◌≤◌, List, length, drop, Result, Ok, Err, Some, None, IfErr, IfSome}
 use Rattle.tink_io.specs.declared.error.Kind.{Kind}
 use Rattle.tink_io.specs.declared.error.Kind.TheVariants.{OutOfMemory, ReadFault, WriteFault, RandomFault, BadKeyset, InvalidKeyset, UnsupportedKeyType, InvalidKey, NoPrimary, WrongPrimitive, UnsupportedHash, TooManySegments, NoMatchingKey, BadSegment, Truncated}
 use Rattle.tink_io.specs.declared.error.TinkError.{TinkError}
@@ -9,6 +9,7 @@ use Rattle.stream_model.specs.Sealing.{drawn, salt_of}
 use Rattle.loading_model.specs.Loading.{Loaded, opening_keys}
 use Rattle.tink_run.specs.AllKeys.{load}
 use Rattle.tink_run.specs.declared.report.Report.{Report}
+use Rattle.tink_run.specs.Endings.{EndsAs}
 use Rattle.tink_run.specs.OpenAnswers.{IsBroken, OpeningMeans}
 use Rattle.tink_run.specs.Outside.{Outside, IsUntouched}
 use Rattle.tink_run.specs.SealAnswers.{WantsMemory}
@@ -20,6 +21,11 @@ use Rattle.tink_rewrap.specs.Passing.{PassMeans, bytes_under}
 -- a key is chosen for the source
 abbrev pub HasKey : List OpeningKey → Outside → Type 0
 HasKey keys m = IfSome m.left (λ S. (key : OpeningKey) × IsChosen keys S (Some key))
+
+-- by a refusal a key was chosen, or the sink is itself as it was
+abbrev pub LeavesOrBegins : {K : Type 0} → List OpeningKey → Outside → Result Report TinkError → K → K → Type 0
+LeavesOrBegins keys old (Ok report) sink sink_after = Unit {0}
+LeavesOrBegins keys old (Err e) sink sink_after = (sink_after ≡ sink) ⊎ HasKey keys old
 
 -- salt and prefix were drawn and keys derived, and this is what passing the text on says
 pub record IsPassing (keys : List OpeningKey) (k : StreamKey) (aad draws left_draws : List ℕ) (old new : Outside) (answer : Result Report TinkError) : Type 0 where
@@ -44,6 +50,12 @@ RewrapsUnderRefused keys k aad draws left_draws old new e _ = ⊥
 abbrev pub RewrapsUnder : List OpeningKey → StreamKey → List ℕ → List ℕ → List ℕ → Outside → Outside → Result Report TinkError → Type 0
 RewrapsUnder keys k aad draws left_draws old new (Ok report) = IsPassing keys k aad draws left_draws old new (Ok report)
 RewrapsUnder keys k aad draws left_draws old new (Err e) = RewrapsUnderRefused keys k aad draws left_draws old new e e.kind
+
+-- What such a rewrap answered over a sink that gathered what it got, and how it ended. By a refusal a key was chosen, or
+-- nothing was to be handed on.
+pub record RewrapEnds (keys : List OpeningKey) (k : StreamKey) (aad draws left_draws : List ℕ) (old new : Outside) (ended : Result Report TinkError) : Type 0 where
+  pub ends : EndsAs (RewrapsUnder keys k aad draws left_draws old) old new ended
+  pub begun : IfErr ends.answer (λ e. ((ended ≡ ends.answer) × (ends.told ≡ new.got) × (ends.faults ≡ new.write_faults)) ⊎ HasKey keys old)
 
 -- ---- from a keyset to a keyset
 

@@ -6,7 +6,7 @@ ghost use Rattle.tink_stream_keys.specs.StreamKinds.{key_in_set};
 ghost use Rattle.tink_streaming_aead.specs.Wrapped.{KeepsOrder, all_entries, keys_in};
 ghost use Rattle.tink_run.specs.Outside.{FaultsStay, outside_of};
 ghost use Rattle.tink_run.specs.Run.{LeavesEnds, LeavesSinkItself};
-ghost use Rattle.tink_rewrap.specs.Rewrapping.{RewrapsUnder};
+ghost use Rattle.tink_rewrap.specs.Rewrapping.{LeavesOrBegins, RewrapsUnder};
 
 use crate::passing::pass_under;
 use std::alloc::Global;
@@ -43,6 +43,9 @@ pub fn rewrap_between<S: Source, K: Sink>(
     ensures order { KeepsOrder from.now.entries }
     ensures early { LeavesEnds result source.old source.new sink.old sink.new }
     ensures unwritten { LeavesSinkItself result sink.old sink.new }
+    ensures begun { LeavesOrBegins
+        (map (opening.opening_key from_aad.now) (keys_in (all_entries from.now.entries)))
+        (outside_of S.left S.faults K.got K.faults source.old sink.old) result sink.old sink.new }
     ensures later { FaultsStay (outside_of S.left S.faults K.got K.faults source.old sink.old)
         (outside_of S.left S.faults K.got K.faults source.new sink.new) }
     ensures source { S.same source.old source.new }

@@ -4,6 +4,7 @@
 mod between;
 mod passing;
 mod rewrapping;
+mod together;
 
 pub use between::rewrap_between;
 pub use rewrapping::rewrap;

@@ -11,7 +11,7 @@ ghost use Rattle.tink_run.specs.OpenSteps.{Breaks, ReaderMeans, held_outside};
 ghost use Rattle.tink_run.specs.Outside.{FaultsStay, outside_of};
 ghost use Rattle.tink_run.specs.Run.{LeavesSinkItself};
 ghost use Rattle.tink_rewrap.specs.Passing.{FinishMeans, FitsKeys, IsUnbegun, PassMeans, anywhere, bytes_by};
-ghost use Rattle.tink_rewrap.specs.Rewrapping.{HasKey};
+ghost use Rattle.tink_rewrap.specs.Rewrapping.{HasKey, LeavesOrBegins};
 
 use tink_io::{Sink, Source, TinkError};
 use tink_run::open::open_first;
@@ -114,6 +114,8 @@ pub fn pass_under<S: Source, K: Sink, T: DerivesStreams>(
         (outside_of S.left S.faults K.got K.faults source.new sink.new)
         result }
     ensures unwritten { LeavesSinkItself result sink.old sink.new }
+    ensures begun { LeavesOrBegins (map (λ k. opening.opening_key aad.now (T.key_of k)) keys.now)
+        (outside_of S.left S.faults K.got K.faults source.old sink.old) result sink.old sink.new }
     ensures later { FaultsStay (outside_of S.left S.faults K.got K.faults source.old sink.old)
         (outside_of S.left S.faults K.got K.faults source.new sink.new) }
     ensures source { S.same source.old source.new }

@@ -6,8 +6,9 @@ ghost use Rattle.tink_run.specs.Run.{LeavesEnds, LeavesSinkItself, Told};
 ghost use Rattle.tink_rewrap.specs.Rewrapping.{RewrapMeans, Sides};
 ghost use Rattle.tink_rewrap.specs.Promises.{CompletesRewrap, IsWholeRewrap, LeavesUnended};
 
-use crate::between::rewrap_between;
+use crate::together::rewrap_together;
 use std::alloc::Global;
+use tink_gathered::room;
 use tink_io::{Draws, Sink, Source, TinkError};
 use tink_run::keys::primary_key;
 use tink_run::load::load;
@@ -115,7 +116,8 @@ fn answer<S: Source, K: Sink>(
 {
     let keys = load(alloc, from)?;
     let new_keys = load(alloc, to)?;
-    rewrap_between(
+    let mut waiting = room(alloc)?;
+    rewrap_together(
         alloc,
         &keys,
         from_aad,
@@ -124,5 +126,6 @@ fn answer<S: Source, K: Sink>(
         draws,
         source,
         sink,
+        &mut waiting,
     )
 }

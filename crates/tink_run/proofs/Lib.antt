@@ -1,6 +1,7 @@
 pub mod RunLemmas
 pub mod OpenLemmas
 pub mod Promises
+pub mod EndingSteps
 pub mod PourSteps
 pub mod SealSteps
 pub mod LoadLemmas

@@ -134,7 +134,7 @@ written_lead keyset aad S l (t ∷ ts) old new e lead w = record {
 }
 
 -- texts that agree, and are some, lead
-agreed_leads : (keys : List OpeningKey) (S : List ℕ) (k : OpeningKey) (ts : List (List ℕ)) → IsChosen keys S (Some k) → IsAgreed k S ts → 0 < length ts → Lead keys S ts
+pub agreed_leads : (keys : List OpeningKey) (S : List ℕ) (k : OpeningKey) (ts : List (List ℕ)) → IsChosen keys S (Some k) → IsAgreed k S ts → 0 < length ts → Lead keys S ts
 agreed_leads keys S k [] c a some = absurd (omega arith)
 agreed_leads keys S k (t ∷ ts) c a some = (k, c, go (k.seg (header_of k S)) a)
   where

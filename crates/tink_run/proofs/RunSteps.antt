@@ -1,5 +1,5 @@
 -- From the answers of loading, sealing and opening to what a run answers.
-use Rattle.std.proofs.Common.{◌≡◌, ◌∙◌, inl, inr, ℕ, List, [], ◌∷◌, All, refl, sym, subst, Some}
+use Rattle.std.proofs.Common.{◌≡◌, ◌∙◌, inl, inr, ℕ, List, [], ◌∷◌, All, refl, sym, ap, subst, Some}
 use Rattle.std.proofs.lemmas.Simd.{map-map}
 use Rattle.std.specs.Prelude.{Result, Ok, Err, map}
 use Rattle.std.proofs.lemmas.List.Elements.{All-cons, All-nil}
@@ -14,7 +14,7 @@ use Rattle.stream_model.proofs.OrderFacts.{choose_the_same}
 use Rattle.tink_sets.specs.declared.typed_set.TypedPrimitiveSet.{TypedPrimitiveSet}
 use Rattle.tink_stream_keys.specs.declared.stream_kind.StreamKind.{StreamKind}
 use Rattle.tink_streaming_aead.specs.Wrapped.{KeepsOrder, all_entries, key_in, keys_in}
-use Rattle.loading_model.specs.Loading.{AreUsable, Loaded, LoadedKey}
+use Rattle.loading_model.specs.Loading.{AreUsable, Loaded, LoadedKey, opening_keys}
 use Rattle.tink_run.specs.AllKeys.{load}
 use Rattle.tink_run.specs.HeldKeys.{GivesLoaded}
 use Rattle.tink_run.specs.declared.report.Command.{Command}
@@ -26,6 +26,9 @@ use Rattle.tink_run.proofs.OpenSteps as opening
 use Rattle.tink_run.proofs.SealSteps as sealing
 use Rattle.tink_run.proofs.RowFacts.{load_refuses, loaded_usable}
 use Rattle.tink_run.proofs.OneKeyFacts.{means_by}
+use Rattle.tink_run.proofs.EndingSteps.{ends_mapped, opens_ended}
+use Rattle.tink_run.proofs.OpenLemmas.{chosen_lawful}
+use Rattle.tink_run.specs.Endings.{EndsAs}
 use Rattle.loading_model.proofs.UsableKeys.{IsOfLoading}
 use Rattle.tink_run.specs.Outside.{Outside, IsUntouched}
 use Rattle.tink_run.specs.Run.{AnswerMeans, IsEarly, LeavesEnds, LeavesSinkItself, WritesNothing}
@@ -60,6 +63,11 @@ pub not_loaded : (command : Command) (keyset aad draws : List ℕ) (old new : Ou
 not_loaded Seal keyset aad draws old new e u (inl m) = subst (SealRefused keyset aad draws draws old new e) (sym m) (record { untouched = u; undrawn = refl })
 not_loaded Open keyset aad draws old new e u (inl m) = (subst (OpenRefused keyset aad draws draws old new e) (sym m) (record { untouched = u; undrawn = refl }), refl)
 not_loaded command keyset aad draws old new e u (inr l) = unloaded command keyset aad draws old new e u l
+
+-- what a run answers where there is no memory for what its sink gets together
+pub no_room : (command : Command) (keyset aad draws : List ℕ) (m : Outside) (e : TinkError) → e ≡ record { kind = OutOfMemory } → AnswerMeans command keyset aad draws draws m m (Err e)
+no_room Seal keyset aad draws m e is = subst (SealRefused keyset aad draws draws m m e) (sym (ap (λ x. x.kind) is)) (record { untouched = refl; undrawn = refl })
+no_room Open keyset aad draws m e is = (subst (OpenRefused keyset aad draws draws m m e) (sym (ap (λ x. x.kind) is)) (record { untouched = refl; undrawn = refl }), refl)
 
 pub untouched : (m : Outside) → IsUntouched m m
 untouched m = refl
@@ -104,13 +112,16 @@ opens_same ks js old new same (Err e) r = go e.kind refl r
 
 -- an open under all keys of the set is an open under the keyset
 pub opens_keyset : (keyset aad draws : List ℕ) (set : TypedPrimitiveSet StreamKind) (old new : Outside) (answer : Result Report TinkError) → GivesLoaded (Ok set) (load keyset) → KeepsOrder set.entries
-    → OpensUnder (map (opening_key aad) (keys_in (all_entries set.entries))) old new answer → AnswerMeans Open keyset aad draws draws old new answer
+    → EndsAs (OpensUnder (map (opening_key aad) (keys_in (all_entries set.entries))) old) old new answer → AnswerMeans Open keyset aad draws draws old new answer
 opens_keyset keyset aad draws set old new answer loads order r =
     let l : Loaded = loads.0 in
     let own : List StreamKey = map (λ k. k.key) l.keys in
     let ordered : HaveSameOrder (keys_in (all_entries set.entries)) own = subst (HaveSameOrder (keys_in (all_entries set.entries))) loads.2.keys (order loads.2.entries loads.2.groups) in
-    let under : OpensUnder (map (opening_key aad) own) old new answer =
-    opens_same (map (opening_key aad) (keys_in (all_entries set.entries))) (map (opening_key aad) own) old new
-    (λ S c. (choose_the_same aad S (keys_in (all_entries set.entries)) own c (are_of_keyset l.keys (loaded_usable keyset l loads.1).0) ordered).0) answer r
+    let given : List OpeningKey = map (opening_key aad) (keys_in (all_entries set.entries)) in
+    let held : List OpeningKey = map (opening_key aad) own in
+    let under : EndsAs (OpensUnder held old) old new answer =
+    ends_mapped (OpensUnder given old) (OpensUnder held old) old new answer
+    (λ m a. opens_same given held old m (λ S c. (choose_the_same aad S (keys_in (all_entries set.entries)) own c (are_of_keyset l.keys (loaded_usable keyset l loads.1).0) ordered).0) a) r
     in
-    (opening.under_keyset keyset aad draws l old new answer loads.1 (subst (λ (ks : List OpeningKey). OpensUnder ks old new answer) (map-map (opening_key aad) (λ k. k.key) l.keys) under), refl)
+    let loaded : EndsAs (OpensUnder (opening_keys aad l) old) old new answer = subst (λ (ks : List OpeningKey). EndsAs (OpensUnder ks old) old new answer) (map-map (opening_key aad) (λ k. k.key) l.keys) under in
+    (opening.under_keyset keyset aad draws l old new answer loads.1 (opens_ended (opening_keys aad l) (λ S k. chosen_lawful keyset aad S l k loads.1) old new answer loaded), refl)

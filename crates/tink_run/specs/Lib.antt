@@ -2,6 +2,7 @@ pub mod Outside
 pub mod SealAnswers
 pub mod OpenAnswers
 pub mod Run
+pub mod Endings
 pub mod SealSteps
 pub mod OpenSteps
 pub mod OpenReads

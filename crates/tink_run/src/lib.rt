@@ -8,3 +8,4 @@ pub mod open;
 pub mod report;
 pub mod run;
 pub mod seal;
+pub mod together;

@@ -4,10 +4,10 @@ ghost use Rattle.tink_run.specs.Run.{AnswerMeans, IsComplete, LeavesEnds, Leaves
 
 use crate::keys::primary_key;
 use crate::load::load;
-use crate::open::open;
 use crate::report::{Command, Report};
-use crate::seal::seal;
+use crate::together::{open_together, seal_together};
 use std::alloc::Global;
+use tink_gathered::room;
 use tink_io::{Draws, Sink, Source, TinkError};
 
 /// Seals or opens a stream under a keyset.
@@ -78,8 +78,17 @@ fn answer<S: Source, K: Sink>(
     ensures sink { K.same sink.old sink.new }
 {
     let keys = load(alloc, keyset)?;
+    let mut waiting = room(alloc)?;
     match command {
-        Command::Seal => seal(alloc, primary_key(&keys), aad, draws, source, sink),
-        Command::Open => open(alloc, &keys, aad, source, sink),
+        Command::Seal => seal_together(
+            alloc,
+            primary_key(&keys),
+            aad,
+            draws,
+            source,
+            sink,
+            &mut waiting,
+        ),
+        Command::Open => open_together(alloc, &keys, aad, source, sink, &mut waiting),
     }
 }

@@ -16,14 +16,14 @@ reads 4040..4042 of a seal | seal raw - zero | #10000 | 11 | begins s10000 24 40
 reads 8105..8106 of a seal | seal raw - zero | #10000 | 11 | begins s10000 24 4096 8192 | piece=1 read=% room=20000
 reads 10000..10001 of a seal | seal raw - zero | #10000 | 11 | begins s10000 24 4096 8192 | piece=1 read=% room=20000
 reads 10002..10002 of a seal | seal raw - zero | #10000 | 0 | s10000 | piece=1 read=% room=20000
-writes 1..4 of a seal | seal raw - zero | #10000 | 12 | begins s10000 | piece=5000 write=% room=20000
-writes 5..5 of a seal | seal raw - zero | #10000 | 0 | s10000 | piece=5000 write=% room=20000
-writes 1..6 of a seal | seal raw - zero | #10000 | 12 | begins s10000 | piece=4000 write=% room=20000
-writes 7..7 of a seal | seal raw - zero | #10000 | 0 | s10000 | piece=4000 write=% room=20000
+writes 1..3 of a seal | seal raw - zero | #10000 | 12 | begins s10000 | piece=5000 write=% room=20000
+writes 4..4 of a seal | seal raw - zero | #10000 | 0 | s10000 | piece=5000 write=% room=20000
+writes 1..3 of a seal | seal raw - zero | #10000 | 12 | begins s10000 | piece=4000 write=% room=20000
+writes 4..4 of a seal | seal raw - zero | #10000 | 0 | s10000 | piece=4000 write=% room=20000
 writes 1..3 of a seal | seal raw - zero | #10000 | 12 | begins s10000 | piece=35 write=% room=20000
 writes 118..120 of a seal | seal raw - zero | #10000 | 12 | begins s10000 | piece=35 write=% room=20000
-writes 291..292 of a seal | seal raw - zero | #10000 | 12 | begins s10000 | piece=35 write=% room=20000
-writes 293..293 of a seal | seal raw - zero | #10000 | 0 | s10000 | piece=35 write=% room=20000
+writes 289..290 of a seal | seal raw - zero | #10000 | 12 | begins s10000 | piece=35 write=% room=20000
+writes 291..291 of a seal | seal raw - zero | #10000 | 0 | s10000 | piece=35 write=% room=20000
 writes 1..2 of a seal | seal raw - zero | #10000 | 12 | begins s10000 | piece=1 write=% room=20000
 writes 24..26 of a seal | seal raw - zero | #10000 | 12 | begins s10000 | piece=1 write=% room=20000
 writes 4096..4098 of a seal | seal raw - zero | #10000 | 12 | begins s10000 | piece=1 write=% room=20000
@@ -42,14 +42,14 @@ reads 24..26 of an open | open raw - | s10000 | 11 | begins t10000 0 4040 8104 |
 reads 4096..4098 of an open | open raw - | s10000 | 11 | begins t10000 0 4040 8104 | piece=1 read=% room=20000
 reads 10120..10121 of an open | open raw - | s10000 | 11 | begins t10000 0 4040 8104 | piece=1 read=% room=20000
 reads 10122..10122 of an open | open raw - | s10000 | 0 | t10000 | piece=1 read=% room=20000
-writes 1..3 of an open | open raw - | s10000 | 12 | begins t10000 | piece=5000 write=% room=20000
-writes 4..4 of an open | open raw - | s10000 | 0 | t10000 | piece=5000 write=% room=20000
-writes 1..5 of an open | open raw - | s10000 | 12 | begins t10000 | piece=4000 write=% room=20000
-writes 6..6 of an open | open raw - | s10000 | 0 | t10000 | piece=4000 write=% room=20000
+writes 1..2 of an open | open raw - | s10000 | 12 | begins t10000 | piece=5000 write=% room=20000
+writes 3..3 of an open | open raw - | s10000 | 0 | t10000 | piece=5000 write=% room=20000
+writes 1..3 of an open | open raw - | s10000 | 12 | begins t10000 | piece=4000 write=% room=20000
+writes 4..4 of an open | open raw - | s10000 | 0 | t10000 | piece=4000 write=% room=20000
 writes 1..2 of an open | open raw - | s10000 | 12 | begins t10000 | piece=35 write=% room=20000
 writes 115..117 of an open | open raw - | s10000 | 12 | begins t10000 | piece=35 write=% room=20000
-writes 287..288 of an open | open raw - | s10000 | 12 | begins t10000 | piece=35 write=% room=20000
-writes 289..289 of an open | open raw - | s10000 | 0 | t10000 | piece=35 write=% room=20000
+writes 285..286 of an open | open raw - | s10000 | 12 | begins t10000 | piece=35 write=% room=20000
+writes 287..287 of an open | open raw - | s10000 | 0 | t10000 | piece=35 write=% room=20000
 writes 1..2 of an open | open raw - | s10000 | 12 | begins t10000 | piece=1 write=% room=20000
 writes 4040..4042 of an open | open raw - | s10000 | 12 | begins t10000 | piece=1 write=% room=20000
 writes 8105..8106 of an open | open raw - | s10000 | 12 | begins t10000 | piece=1 write=% room=20000

@@ -3,10 +3,10 @@ use Rattle.std.proofs.lemmas.Simd.{map-map}
 use Rattle.stream_model.specs.Opening.{OpeningKey, opening_key}
 use Rattle.tink_stream_keys.specs.StreamKinds.{key_in_set}
 use Rattle.tink_streaming_aead.specs.Wrapped.{all_entries, keys_in}
-use Rattle.tink_run.specs.Outside.{Outside}
+use Rattle.tink_run.specs.Outside.{Outside, outside_of}
 use Rattle.tink_run.proofs.RunSteps.{leaves_same}
-use Rattle.tink_rewrap.specs.Rewrapping.{RewrapsUnder}
-use Rattle.tink_rewrap.proofs.KeySteps.{pass_leaves}
+use Rattle.tink_rewrap.specs.Rewrapping.{LeavesOrBegins, RewrapsUnder}
+use Rattle.tink_rewrap.proofs.KeySteps.{leaves_or_begins_same, pass_leaves}
 use Rattle.tink_rewrap.proofs.RewrapSteps.{not_prepared, passes_prepared}
 use Rattle.tink_rewrap.proofs.between.rewrap_between.Goals as goal
 
@@ -37,3 +37,23 @@ returns-in_err-keys-clause-early g c = leaves_same c.from_residual.result c.args
 
 pub returns-in_err-trial-clause-early : goal.returns-in_err-trial-clause-early
 returns-in_err-trial-clause-early g c = leaves_same c.from_residual-in_err-trial.result c.args.source.now c.args.sink.now
+
+pub returns-in-Ok-clause-begun : goal.returns-in-Ok-clause-begun
+returns-in-Ok-clause-begun g c =
+    let aad = c.args.from_aad.now in
+    let all = all_entries c.args.from.now.entries in
+    let same : map (λ k. opening_key aad (key_in_set k.now)) c.deref-in-Ok.result.now ≡ map (opening_key aad) (keys_in all) =
+    ap (map (λ k. opening_key aad (key_in_set k.now))) c.deref-in-Ok.ensures.value ∙ sym (map-map (λ e. opening_key aad (key_in_set e)) (λ k. k.now) c.in_ok-keys.keys.items)
+    ∙ ap (map (λ e. opening_key aad (key_in_set e))) c.in_ok-keys.ensures.value ∙ sym (map-map (opening_key aad) key_in_set all)
+    in
+    let before : Outside = record { left = g.S.Source.left c.args.source.now; read_faults = g.S.Source.faults c.args.source.now; got = g.K.Sink.got c.args.sink.now; write_faults = g.K.Sink.faults c.args.sink.now } in
+    subst (λ (ks : List OpeningKey). LeavesOrBegins ks before c.pass_under.result c.args.sink.now c.pass_under.new.sink) same c.pass_under.ensures.begun
+
+pub returns-clause-begun : goal.returns-clause-begun
+returns-clause-begun g c = leaves_or_begins_same _ (outside_of g.S.Source.left g.S.Source.faults g.K.Sink.got g.K.Sink.faults c.args.source.now c.args.sink.now) (Err c.not_begun.result) c.args.sink.now
+
+pub returns-in_err-keys-clause-begun : goal.returns-in_err-keys-clause-begun
+returns-in_err-keys-clause-begun g c = leaves_or_begins_same _ (outside_of g.S.Source.left g.S.Source.faults g.K.Sink.got g.K.Sink.faults c.args.source.now c.args.sink.now) c.from_residual.result c.args.sink.now
+
+pub returns-in_err-trial-clause-begun : goal.returns-in_err-trial-clause-begun
+returns-in_err-trial-clause-begun g c = leaves_or_begins_same _ (outside_of g.S.Source.left g.S.Source.faults g.K.Sink.got g.K.Sink.faults c.args.source.now c.args.sink.now) c.from_residual-in_err-trial.result c.args.sink.now

@@ -1,5 +1,5 @@
 use Rattle.std.proofs.lemmas.Result.{err_from_is_err_and}
-use Rattle.tink_run.proofs.RunSteps.{leaves_same, not_loaded, opens_keyset, seal_unwritten, seals_keyset, untouched}
+use Rattle.tink_run.proofs.RunSteps.{leaves_same, no_room, not_loaded, opens_keyset, seal_unwritten, seals_keyset, untouched}
 use Rattle.tink_run.proofs.run.answer.Goals as goal
 
 pub returns-in_err-keys-clause-answer : goal.returns-in_err-keys-clause-answer
@@ -10,13 +10,21 @@ returns-in_err-keys-clause-answer g c =
 pub returns-in_err-keys-clause-early : goal.returns-in_err-keys-clause-early
 returns-in_err-keys-clause-early g c = leaves_same c.from_residual.result c.args.source.now c.args.sink.now
 
+pub returns-in_err-waiting-clause-answer : goal.returns-in_err-waiting-clause-answer
+returns-in_err-waiting-clause-answer g c =
+    let returned = err_from_is_err_and c.from_residual-in_err-waiting.result c.from_residual-in_err-waiting.ensures.1 in
+    rw (returned.1, returned.2) (no_room c.args.command c.args.keyset.now c.args.aad.now c.args.draws.now _ c.in_err-waiting.field-0.0 c.in_err-waiting.ensures.refused)
+
+pub returns-in_err-waiting-clause-early : goal.returns-in_err-waiting-clause-early
+returns-in_err-waiting-clause-early g c = leaves_same c.from_residual-in_err-waiting.result c.args.source.now c.args.sink.now
+
 pub returns-in-Seal-clause-answer : goal.returns-in-Seal-clause-answer
 returns-in-Seal-clause-answer g c = rw c.in-Seal.is
-    (seals_keyset c.args.keyset.now c.args.aad.now c.args.draws.now c.seal.new.draws _ _ _ _ c.seal.result c.in_ok-keys.ensures.answer c.primary_key.ensures c.seal.ensures.answer)
+    (seals_keyset c.args.keyset.now c.args.aad.now c.args.draws.now c.seal_together.new.draws _ _ _ _ c.seal_together.result c.in_ok-keys.ensures.answer c.primary_key.ensures c.seal_together.ensures.answer)
 
 pub returns-in-Seal-clause-unwritten : goal.returns-in-Seal-clause-unwritten
-returns-in-Seal-clause-unwritten g c = seal_unwritten _ _ _ _ _ _ c.seal.result _ _ _ _ c.seal.ensures.answer c.seal.ensures.early
+returns-in-Seal-clause-unwritten g c = seal_unwritten _ _ _ _ _ _ c.seal_together.result _ _ _ _ c.seal_together.ensures.answer c.seal_together.ensures.early
 
 pub returns-clause-answer : goal.returns-clause-answer
 returns-clause-answer g c = rw c.in-Open.is
-    (opens_keyset c.args.keyset.now c.args.aad.now c.args.draws.now c.in_ok-keys.keys _ _ c.open.result c.in_ok-keys.ensures.answer c.open.ensures.order c.open.ensures.answer)
+    (opens_keyset c.args.keyset.now c.args.aad.now c.args.draws.now c.in_ok-keys.keys _ _ c.open_together.result c.in_ok-keys.ensures.answer c.open_together.ensures.order c.open_together.ensures.answer)

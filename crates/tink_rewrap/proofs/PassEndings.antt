@@ -1,0 +1,266 @@
+-- From what a rewrap answered over a sink that gathers to what it answers over the sink behind it.
+use Rattle.std.proofs.Common.{◌≡◌, ◌⊎◌, inl, inr, ◌≤◌, ℕ, List, [], length, refl, sym, ap, subst, ◌∙◌, Some, None, IfSome}
+use Rattle.std.specs.declared.option.Option.{Option}
+use Rattle.std.specs.Prelude.{Result, Ok, Err, IfErr}
+use Rattle.std.specs.Io.KnownBytes.{Appends, Keeps, append_known}
+use Rattle.std.proofs.KnownBytes.{Appends-kept, Keeps-trans}
+use Rattle.std.proofs.lemmas.List.{append-nil}
+use Rattle.tink_io.specs.Faults.{Rose}
+use Rattle.tink_io.specs.Written.{AppendsFront}
+use Rattle.tink_io.specs.declared.error.Kind.{Kind}
+use Rattle.tink_io.specs.declared.error.Kind.TheVariants.{OutOfMemory, ReadFault, WriteFault, RandomFault, UnsupportedHash, TooManySegments, NoMatchingKey, BadSegment, Truncated}
+use Rattle.tink_io.specs.declared.error.TinkError.{TinkError}
+use Rattle.stream_model.specs.Key.{StreamKey}
+use Rattle.stream_model.specs.Opening.{OpeningKey, IsChosen}
+use Rattle.stream_model.specs.Sealing.{longest_part, part, prefix_of, salt_of, stream}
+use Rattle.stream_model.proofs.KeyFacts.{CanOpen as Lawful}
+use Rattle.tink_gathered.specs.Gathering.{IsCutShort, OnlyGrows}
+use Rattle.tink_gathered.proofs.GatheringLemmas.{grows_then}
+use Rattle.tink_run.specs.declared.report.Report.{Report}
+use Rattle.tink_run.specs.Endings.{EndsAs, EndsBy, IsRefusedEarly}
+use Rattle.tink_run.specs.OpenAnswers.{IsBroken, IsOfChosen, OpeningMeans}
+use Rattle.tink_run.specs.Outside.{Outside}
+use Rattle.tink_run.specs.Run.{IsEarly}
+use Rattle.tink_run.specs.SealAnswers.{WantsMemory}
+use Rattle.tink_run.specs.SealSteps.{HasFew, HasNoKeys}
+use Rattle.tink_run.proofs.EndingSteps.{broken_kept, cut_front, failed_once, kept_after, longest_front, not_early, nothing_waits, opening_cut, opening_kept}
+use Rattle.tink_run.proofs.OpenLemmas.{kept_front, whole_front}
+use Rattle.tink_rewrap.specs.Passing.{BreaksAtEnd, PassMeans, PassRefused, StopsBy, bytes_under, into}
+use Rattle.tink_rewrap.specs.Rewrapping.{HasKey, IsPassing, LeavesOrBegins, RewrapEnds, RewrapsUnder, RewrapsUnderRefused}
+
+module _ (keys : List OpeningKey) (k : StreamKey) (aad draws left_draws : List ℕ) (old new : Outside) (told : Option (List ℕ)) (faults : ℕ) where
+  abbrev first_end : Outside
+  first_end = record new { got = told; write_faults = faults }
+
+  abbrev whole : List ℕ → List ℕ
+  whole text = stream k aad (salt_of k draws) (prefix_of k draws) text
+
+  abbrev unended : List ℕ → List ℕ
+  unended text = part k aad (salt_of k draws) (prefix_of k draws) text
+
+  abbrev longest : List ℕ → List ℕ
+  longest text = longest_part k aad (salt_of k draws) (prefix_of k draws) text
+
+  abbrev Passes : Outside → Result Report TinkError → Type 0
+  Passes m answer = PassMeans (OpeningMeans keys) (IsBroken keys) (HasKey keys) (bytes_under k aad draws) old m answer
+
+  abbrev Refuses : Outside → Kind → Type 0
+  Refuses m kind = PassRefused (OpeningMeans keys) (IsBroken keys) (HasKey keys) (bytes_under k aad draws) old m kind
+
+  -- what an open says of the source does not change while the sink is handed what waits
+  opened_later : faults ≤ new.write_faults → (text : List ℕ) (answer : Result Report TinkError) → OpeningMeans keys (into [] old) (into text first_end) answer → OpeningMeans keys (into [] old) (into text new) answer
+  opened_later later text answer o = opening_kept (into [] old) new.left new.read_faults (Some text) (Some text) faults new.write_faults refl later keys answer o
+
+  broken_later : faults ≤ new.write_faults → (text : List ℕ) → IsBroken keys (into [] old) (into text first_end) → IsBroken keys (into [] old) (into text new)
+  broken_later later text o = broken_kept (into [] old) new.left new.read_faults (Some text) (Some text) faults new.write_faults refl later keys o
+
+  -- nor that a text is of it where the sink fails
+  opened_till : Rose old.write_faults new.write_faults → ((S : List ℕ) (key : OpeningKey) → IsChosen keys S (Some key) → Lawful key) → (text : List ℕ) (answer : Result Report TinkError)
+      → OpeningMeans keys (into [] old) (into text first_end) answer → OpeningMeans keys (into [] old) (into text new) (Err (record { kind = WriteFault }))
+  opened_till rose lawful text answer o =
+      opening_cut (into [] old) new.left new.read_faults (Some text) (Some text) faults new.write_faults (text, refl) ([], append-nil text) rose keys lawful answer o
+
+  -- ---- all was handed on
+  module _ (kept : Keeps told new.got) (later : faults ≤ new.write_faults) where
+    all_of : (bs : List ℕ) → Appends old.got told bs → Appends old.got new.got bs
+    all_of bs w = Appends-kept old.got told new.got bs w kept
+
+    front_of : (bs : List ℕ) → AppendsFront old.got told bs → AppendsFront old.got new.got bs
+    front_of bs w = kept_after old.got told new.got bs kept w
+
+    stops_kept : (kind : Kind) → StopsBy (OpeningMeans keys) (IsBroken keys) (HasKey keys) (bytes_under k aad draws) old first_end kind → StopsBy (OpeningMeans keys) (IsBroken keys) (HasKey keys) (bytes_under k aad draws) old new kind
+    stops_kept kind r = record { text = r.text; opened = opened_later later r.text (Err (record { kind = kind })) r.opened; few = r.few; written = all_of (unended r.text) r.written }
+
+    end_kept : (text : List ℕ) → BreaksAtEnd (OpeningMeans keys) (IsBroken keys) (HasKey keys) (bytes_under k aad draws) old first_end text → BreaksAtEnd (OpeningMeans keys) (IsBroken keys) (HasKey keys) (bytes_under k aad draws) old new text
+    end_kept text r = record { accepted = r.accepted; opened = opened_later later text (Ok (record { segments = r.accepted; bytes = length text })) r.opened; written = front_of (whole text) r.written }
+
+    refused_kept : (kind : Kind) → Refuses first_end kind → Refuses new kind
+    refused_kept NoMatchingKey r = record { opened = opened_later later [] (Err (record { kind = NoMatchingKey })) r.opened; written = Keeps-trans old.got told new.got r.written kept }
+    refused_kept TooManySegments (inl r) = inl (record { text = r.text; opened = broken_later later r.text r.opened; many = r.many; written = all_of (longest r.text) r.written })
+    refused_kept TooManySegments (inr r) = inr (stops_kept TooManySegments r)
+    refused_kept (Truncated n) r = stops_kept (Truncated n) r
+    refused_kept (BadSegment n) r = stops_kept (BadSegment n) r
+    refused_kept ReadFault r = record {
+      text = r.text;
+      opened = opened_later later r.text (Err (record { kind = ReadFault })) r.opened;
+      written = elim r.written [ inl w ↦ inl (Keeps-trans old.got told new.got w kept) | inr w ↦ inr (w.0, all_of (unended r.text) w.1) ];
+    }
+    refused_kept WriteFault r = record {
+      text = r.text;
+      begun = r.begun;
+      opened = opened_later later r.text (Err (record { kind = WriteFault })) r.opened;
+      written = elim r.written [ inl w ↦ inl (front_of (unended r.text) w) | inr w ↦ inr (end_kept r.text w) ];
+    }
+    refused_kept _ r = absurd r
+
+    pass_kept : (answer : Result Report TinkError) → Passes first_end answer → Passes new answer
+    pass_kept (Ok report) r = record {
+      text = r.text;
+      accepted = r.accepted;
+      opened = opened_later later r.text (Ok (record { segments = r.accepted; bytes = length r.text })) r.opened;
+      few = r.few;
+      written = all_of (whole r.text) r.written;
+      segments = r.segments;
+      bytes = r.bytes;
+    }
+    pass_kept (Err e) r = refused_kept e.kind r
+
+    way_kept : (answer : Result Report TinkError) → IsPassing keys k aad draws left_draws old first_end answer → IsPassing keys k aad draws left_draws old new answer
+    way_kept answer r = record { enough = r.enough; rest = r.rest; derives = r.derives; means = pass_kept answer r.means }
+
+    rewraps_kept : (answer : Result Report TinkError) → (IsRefusedEarly answer → (told ≡ new.got) × (faults ≡ new.write_faults)) → RewrapsUnder keys k aad draws left_draws old first_end answer → RewrapsUnder keys k aad draws left_draws old new answer
+    rewraps_kept (Ok report) early r = way_kept (Ok report) r
+    rewraps_kept (Err e) early r = go e.kind early r
+      where
+        same_end : (P : Outside → Type 0) → (told ≡ new.got) × (faults ≡ new.write_faults) → P first_end → P new
+        same_end P e m = subst (λ f. P (record new { write_faults = f })) e.1 (subst (λ t. P (record new { got = t; write_faults = faults })) e.0 m)
+
+        go : (kind : Kind) → (IsEarly kind → (told ≡ new.got) × (faults ≡ new.write_faults)) → RewrapsUnderRefused keys k aad draws left_draws old first_end e kind → RewrapsUnderRefused keys k aad draws left_draws old new e kind
+        go OutOfMemory early r = same_end (WantsMemory draws left_draws old) (early tt) r
+        go RandomFault early r = same_end (HasFew k draws left_draws old) (early tt) r
+        go UnsupportedHash early r = same_end (HasNoKeys k aad draws left_draws old) (early tt) r
+        go NoMatchingKey early r = way_kept (Err e) r
+        go TooManySegments early r = way_kept (Err e) r
+        go (Truncated n) early r = way_kept (Err e) r
+        go (BadSegment n) early r = way_kept (Err e) r
+        go ReadFault early r = way_kept (Err e) r
+        go WriteFault early r = way_kept (Err e) r
+        go _ early r = absurd r
+
+  -- ---- a part was handed on
+  module _ (lawful : (S : List ℕ) (key : OpeningKey) → IsChosen keys S (Some key) → Lawful key) (grows : OnlyGrows old.got new.got) (short : IsCutShort told new.got) (rose : Rose old.write_faults new.write_faults) (later : faults ≤ new.write_faults) where
+    cut : (bs : List ℕ) → AppendsFront old.got told bs → AppendsFront old.got new.got bs
+    cut bs w = cut_front old.got told new.got bs grows short w
+
+    cut_whole : (bs : List ℕ) → Appends old.got told bs → AppendsFront old.got new.got bs
+    cut_whole bs w = cut bs (whole_front old.got told bs w)
+
+    -- a front of what was written before the last segment
+    breaks : HasKey keys old → (text : List ℕ) (answer : Result Report TinkError) → OpeningMeans keys (into [] old) (into text first_end) answer → AppendsFront old.got told (unended text) → Refuses new WriteFault
+    breaks begun text answer o w = record { text = text; begun = begun; opened = opened_till rose lawful text answer o; written = inl (cut (unended text) w) }
+
+    end_cut : (text : List ℕ) → BreaksAtEnd (OpeningMeans keys) (IsBroken keys) (HasKey keys) (bytes_under k aad draws) old first_end text → BreaksAtEnd (OpeningMeans keys) (IsBroken keys) (HasKey keys) (bytes_under k aad draws) old new text
+    end_cut text r = record { accepted = r.accepted; opened = opened_later later text (Ok (record { segments = r.accepted; bytes = length text })) r.opened; written = cut (whole text) r.written }
+
+    refused_cut : HasKey keys old → (kind : Kind) → Refuses first_end kind → Refuses new WriteFault
+    refused_cut begun NoMatchingKey r = breaks begun [] (Err (record { kind = NoMatchingKey })) r.opened (kept_front old.got told (unended []) r.written)
+    refused_cut begun TooManySegments (inl r) = record {
+      text = r.text;
+      begun = begun;
+      opened = (broken_later later r.text r.opened, rose);
+      written = inl (cut (unended r.text) (longest_front k aad (salt_of k draws) (prefix_of k draws) r.text old.got told r.written));
+    }
+    refused_cut begun TooManySegments (inr r) = breaks begun r.text (Err (record { kind = TooManySegments })) r.opened (whole_front old.got told (unended r.text) r.written)
+    refused_cut begun (Truncated n) r = breaks begun r.text (Err (record { kind = Truncated n })) r.opened (whole_front old.got told (unended r.text) r.written)
+    refused_cut begun (BadSegment n) r = breaks begun r.text (Err (record { kind = BadSegment n })) r.opened (whole_front old.got told (unended r.text) r.written)
+    refused_cut begun ReadFault r = breaks begun r.text (Err (record { kind = ReadFault })) r.opened (elim r.written [ inl w ↦ kept_front old.got told (unended r.text) w | inr w ↦ whole_front old.got told (unended r.text) w.1 ])
+    refused_cut begun WriteFault r = record {
+      text = r.text;
+      begun = begun;
+      opened = opened_later later r.text (Err (record { kind = WriteFault })) r.opened;
+      written = elim r.written [ inl w ↦ inl (cut (unended r.text) w) | inr w ↦ inr (end_cut r.text w) ];
+    }
+    refused_cut begun _ r = absurd r
+
+    -- a stream that opens is one of a key
+    has_key : (texts : List (List ℕ)) (left : Option (List ℕ)) → IfSome left (λ S. IsOfChosen keys S texts) → IfSome left (λ S. (key : OpeningKey) × IsChosen keys S (Some key))
+    has_key texts None s = tt
+    has_key texts (Some S) s = (s.key, s.chosen)
+
+    pass_cut : (answer : Result Report TinkError) → IfErr answer (λ e. HasKey keys old) → Passes first_end answer → Refuses new WriteFault
+    pass_cut (Ok report) begun r = record {
+      text = r.text;
+      begun = has_key r.opened.texts old.left r.opened.stream;
+      opened = opened_till rose lawful r.text (Ok (record { segments = r.accepted; bytes = length r.text })) r.opened;
+      written = inr (record {
+        accepted = r.accepted;
+        opened = opened_later later r.text (Ok (record { segments = r.accepted; bytes = length r.text })) r.opened;
+        written = cut_whole (whole r.text) r.written;
+      });
+    }
+    pass_cut (Err e) begun r = refused_cut begun e.kind r
+
+    way_cut : (answer : Result Report TinkError) → IfErr answer (λ e. HasKey keys old) → IsPassing keys k aad draws left_draws old first_end answer → IsPassing keys k aad draws left_draws old new (Err (record { kind = WriteFault }))
+    way_cut answer begun r = record { enough = r.enough; rest = r.rest; derives = r.derives; means = pass_cut answer begun r.means }
+
+    rewraps_cut : (answer : Result Report TinkError) → (IsRefusedEarly answer → ⊥) → IfErr answer (λ e. HasKey keys old) → RewrapsUnder keys k aad draws left_draws old first_end answer → IsPassing keys k aad draws left_draws old new (Err (record { kind = WriteFault }))
+    rewraps_cut (Ok report) early begun r = way_cut (Ok report) begun r
+    rewraps_cut (Err e) early begun r = go e.kind early r
+      where
+        go : (kind : Kind) → (IsEarly kind → ⊥) → RewrapsUnderRefused keys k aad draws left_draws old first_end e kind → IsPassing keys k aad draws left_draws old new (Err (record { kind = WriteFault }))
+        go OutOfMemory early r = absurd (early tt)
+        go RandomFault early r = absurd (early tt)
+        go UnsupportedHash early r = absurd (early tt)
+        go NoMatchingKey early r = way_cut (Err e) begun r
+        go TooManySegments early r = way_cut (Err e) begun r
+        go (Truncated n) early r = way_cut (Err e) begun r
+        go (BadSegment n) early r = way_cut (Err e) begun r
+        go ReadFault early r = way_cut (Err e) begun r
+        go WriteFault early r = way_cut (Err e) begun r
+        go _ early r = absurd r
+
+-- where nothing was to be handed on the answer is that of before
+same_moment : (P : Outside → Result Report TinkError → Type 0) (new : Outside) (told : Option (List ℕ)) (faults : ℕ) (answer ended : Result Report TinkError) → (ended ≡ answer) × (told ≡ new.got) × (faults ≡ new.write_faults)
+    → P (record new { got = told; write_faults = faults }) answer → P new ended
+same_moment P new told faults answer ended e m =
+    subst (P new) (sym e.0) (subst (λ f. P (record new { write_faults = f }) answer) e.2 (subst (λ t. P (record new { got = t; write_faults = faults }) answer) e.1 m))
+
+-- a rewrap to a sink that gathers is one to the sink behind it
+pub rewraps_ended : (keys : List OpeningKey) → ((S : List ℕ) (key : OpeningKey) → IsChosen keys S (Some key) → Lawful key) → (k : StreamKey) (aad draws left_draws : List ℕ) (old new : Outside) (ended : Result Report TinkError)
+    → RewrapEnds keys k aad draws left_draws old new ended → RewrapsUnder keys k aad draws left_draws old new ended
+rewraps_ended keys lawful k aad draws left_draws old new ended x = go r.ends
+  where
+    r : EndsAs (RewrapsUnder keys k aad draws left_draws old) old new ended
+    r = x.ends
+
+    cut_off : IsCutShort r.told new.got → Rose old.write_faults new.write_faults → ended ≡ Err (record { kind = WriteFault })
+        → (answer : Result Report TinkError) → (IsRefusedEarly answer → (ended ≡ answer) × (r.told ≡ new.got) × (r.faults ≡ new.write_faults))
+        → IfErr answer (λ e. ((ended ≡ answer) × (r.told ≡ new.got) × (r.faults ≡ new.write_faults)) ⊎ HasKey keys old)
+        → RewrapsUnder keys k aad draws left_draws old (record new { got = r.told; write_faults = r.faults }) answer → RewrapsUnder keys k aad draws left_draws old new ended
+    cut_off short rose is (Ok report) early begun m =
+        subst (RewrapsUnder keys k aad draws left_draws old new) (sym is) (rewraps_cut keys k aad draws left_draws old new r.told r.faults lawful r.grows short rose r.later (Ok report) (λ e. e) tt m)
+    cut_off short rose is (Err e) early (inl same) m = same_moment (RewrapsUnder keys k aad draws left_draws old) new r.told r.faults (Err e) ended same m
+    cut_off short rose is (Err e) early (inr has) m =
+        subst (RewrapsUnder keys k aad draws left_draws old new) (sym is)
+        (rewraps_cut keys k aad draws left_draws old new r.told r.faults lawful r.grows short rose r.later (Err e) (not_early (Err e) ended (r.told ≡ new.got) (r.faults ≡ new.write_faults) early is) has m)
+
+    go : EndsBy r.told new.got r.faults new.write_faults r.answer ended → RewrapsUnder keys k aad draws left_draws old new ended
+    go (inl w) = subst (RewrapsUnder keys k aad draws left_draws old new) (sym w.is) (rewraps_kept keys k aad draws left_draws old new r.told r.faults w.kept r.later r.answer (λ e. ((r.early e).1, (r.early e).2)) r.meant)
+    go (inr w) =
+        let rose = failed_once old.write_faults r.faults new.write_faults r.answer
+        (λ is. (subst (RewrapsUnder keys k aad draws left_draws old (record new { got = r.told; write_faults = r.faults })) is r.meant).means.opened.1) r.earlier r.later w.cause
+        in
+        cut_off w.short rose w.is r.answer r.early x.begun r.meant
+
+-- by a refusal over a sink that gathers a key was chosen, or nothing was to be handed on
+pub begun_ends : {G K : Type 0} (got : K → Option (List ℕ)) (faults : K → ℕ) (behind : G → K) (waits : G → List ℕ) (keys : List OpeningKey) (first old : Outside) (answer ended : Result Report TinkError) (i j : G) (k : K) → first.left ≡ old.left → waits i ≡ []
+    → LeavesOrBegins keys first answer i j → (waits j ≡ [] → (ended ≡ answer) × (k ≡ behind j))
+    → IfErr answer (λ e. ((ended ≡ answer) × (append_known (got (behind j)) (waits j) ≡ got k) × (faults (behind j) ≡ faults k)) ⊎ HasKey keys old)
+begun_ends got faults behind waits keys first old (Ok report) ended i j k same empty begun still = tt
+begun_ends got faults behind waits keys first old (Err e) ended i j k same empty (inl itself) still =
+    let none : waits j ≡ [] = ap waits itself ∙ empty in
+    let end = still none in
+    inl (end.0, nothing_waits (got (behind j)) (waits j) none ∙ ap got (sym end.1), ap faults (sym end.1))
+begun_ends got faults behind waits keys first old (Err e) ended i j k same empty (inr has) still = inr (subst (λ (left : Option (List ℕ)). IfSome left (λ S. (key : OpeningKey) × IsChosen keys S (Some key))) same has)
+
+-- what was answered over a sink that gathers, for which nothing waited, and how it ended
+pub rewrap_ends_as : (keys : List OpeningKey) (k : StreamKey) (aad draws left_draws : List ℕ) (first old : Outside) (left : Option (List ℕ)) (reads : ℕ) (known told got : Option (List ℕ)) (before now : ℕ) (answer ended : Result Report TinkError)
+    → first ≡ old → RewrapsUnder keys k aad draws left_draws first (record { left = left; read_faults = reads; got = told; write_faults = before }) answer
+    → EndsBy told got before now answer ended → OnlyGrows old.got known → OnlyGrows known got → old.write_faults ≤ before → before ≤ now
+    → (IsRefusedEarly answer → (ended ≡ answer) × (told ≡ got) × (before ≡ now))
+    → IfErr answer (λ e. ((ended ≡ answer) × (told ≡ got) × (before ≡ now)) ⊎ HasKey keys old)
+    → RewrapEnds keys k aad draws left_draws old (record { left = left; read_faults = reads; got = got; write_faults = now }) ended
+rewrap_ends_as keys k aad draws left_draws first old left reads known told got before now answer ended is meant ends begins goes_on earlier later early begun = record {
+  ends = record {
+    told = told;
+    faults = before;
+    answer = answer;
+    meant = subst (λ m. RewrapsUnder keys k aad draws left_draws m (record { left = left; read_faults = reads; got = told; write_faults = before }) answer) is meant;
+    ends = ends;
+    grows = grows_then old.got known got begins goes_on;
+    earlier = earlier;
+    later = later;
+    early = early;
+  };
+  begun = begun;
+}
