@@ -23,8 +23,8 @@ use Rattle.stream_model.proofs.KeyFacts.{CanOpen as Lawful}
 use Rattle.tink_gathered.specs.Gathering.{IsCutShort, OnlyGrows}
 use Rattle.tink_gathered.proofs.GatheringLemmas.{grows_then}
 use Rattle.tink_run.specs.declared.report.Report.{Report}
-use Rattle.tink_run.specs.Endings.{EndsAs, IsEndedBy, IsRefusedEarly}
-use Rattle.tink_run.specs.OpenAnswers.{AgreesUntil, chunk_of, IsBroken, IsOfChosen, Lead, OpeningMeans, OpeningRefused}
+use Rattle.tink_run.specs.Endings.{EndsAs, EndsBy, IsRefusedEarly}
+use Rattle.tink_run.specs.OpenAnswers.{AgreesUntil, chunk_of, IsBroken, IsCutOff, IsOfChosen, Lead, OpeningMeans, OpeningRefused}
 use Rattle.tink_run.specs.OpenSteps.{OpensUnder, OpensUnderRefused}
 use Rattle.tink_run.specs.Outside.{Outside}
 use Rattle.tink_run.specs.Run.{IsEarly, LeavesEnds, LeavesSinkItself}
@@ -138,12 +138,15 @@ module _ (old : Outside) (left : Option (List ℕ)) (reads : ℕ) (told got : Op
     pub broken_kept : (keys : List OpeningKey) → IsBroken keys old in_between → IsBroken keys old in_the_end
     broken_kept keys r = record { texts = r.texts; lead = r.lead; written = kept_after old.got told got (joined r.texts) kept r.written }
 
+    cut_off_kept : (keys : List OpeningKey) → IsCutOff keys old in_between → IsCutOff keys old in_the_end
+    cut_off_kept keys r = record { texts = r.texts; lead = r.lead; written = whole (joined r.texts) r.written }
+
     opening_refused_kept : (keys : List OpeningKey) (kind : Kind) → OpeningRefused keys old in_between kind → OpeningRefused keys old in_the_end kind
     opening_refused_kept keys NoMatchingKey r = record { none = r.none; written = Keeps-trans old.got told got r.written kept }
     opening_refused_kept keys (Truncated n) r = record { texts = r.texts; number = r.number; some = r.some; stream = r.stream; written = whole (joined r.texts) r.written }
     opening_refused_kept keys (BadSegment n) r = record { texts = r.texts; number = r.number; some = r.some; stream = r.stream; written = whole (joined r.texts) r.written }
     opening_refused_kept keys TooManySegments r = record { texts = r.texts; number = r.number; stream = r.stream; written = whole (joined r.texts) r.written }
-    opening_refused_kept keys ReadFault r = (broken_kept keys r.0, r.1)
+    opening_refused_kept keys ReadFault r = (cut_off_kept keys r.0, r.1)
     opening_refused_kept keys WriteFault r = (broken_kept keys r.0, Rose-later old.write_faults before now r.1 later)
     opening_refused_kept keys _ r = r
 
@@ -198,7 +201,7 @@ module _ (old : Outside) (left : Option (List ℕ)) (reads : ℕ) (told got : Op
     opening_refused_cut keys (Truncated n) r = (until keys r.texts (λ S k. (0 < length (chunk_of k S n)) × (length (chunk_of k S n) < k.overhead)) r.stream r.written, rose)
     opening_refused_cut keys (BadSegment n) r = (until keys r.texts (λ S k. k.overhead ≤ length (chunk_of k S n)) r.stream r.written, rose)
     opening_refused_cut keys TooManySegments r = (until keys r.texts (λ S k. 2 ^ 32 < length (chunks_of k S)) r.stream r.written, rose)
-    opening_refused_cut keys ReadFault r = (broken keys r.0.texts r.0.lead r.0.written, rose)
+    opening_refused_cut keys ReadFault r = (broken keys r.0.texts r.0.lead (whole_front old.got told (joined r.0.texts) r.0.written), rose)
     opening_refused_cut keys WriteFault r = (broken keys r.0.texts r.0.lead r.0.written, rose)
     opening_refused_cut keys _ r = absurd r
 

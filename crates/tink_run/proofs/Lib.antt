@@ -7,6 +7,7 @@ pub mod SealSteps
 pub mod LoadLemmas
 pub mod ReadOut
 pub mod OpenSteps
+pub mod ReadsSteps
 pub mod RunSteps
 pub mod RowFacts
 pub mod LoadSteps

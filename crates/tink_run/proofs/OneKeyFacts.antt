@@ -10,7 +10,7 @@ use Rattle.loading_model.specs.Loading.{Loaded, opening_keys}
 use Rattle.tink_streaming_aead.proofs.OneKeyFacts.{chosen_alone, same_choice}
 use Rattle.tink_run.specs.AllKeys.{load}
 use Rattle.tink_run.specs.OneKey.{OpensAsOneKey, RunOpensAlone}
-use Rattle.tink_run.specs.OpenAnswers.{AgreesUntil, IsBroken, IsOfChosen, Lead, OpenMeans, OpenRefused, OpeningMeans, OpeningRefused, OpensLoaded}
+use Rattle.tink_run.specs.OpenAnswers.{AgreesUntil, IsBroken, IsCutOff, IsOfChosen, Lead, OpenMeans, OpenRefused, OpeningMeans, OpeningRefused, OpensLoaded}
 use Rattle.tink_run.specs.Outside.{Outside}
 use Rattle.tink_run.specs.declared.report.Report.{Report}
 
@@ -42,6 +42,13 @@ module _ (ks js : List OpeningKey) (old new : Outside) (same : (S : List ℕ) �
     written = h.written;
   }
 
+  cut_by : IsCutOff ks old new → IsCutOff js old new
+  cut_by h = record {
+    texts = h.texts;
+    lead = if_told old.left (λ X. Lead ks X h.texts) (λ X. Lead js X h.texts) (lead_by h.texts) h.lead;
+    written = h.written;
+  }
+
   refused_by : (kind : Kind) → OpeningRefused ks old new kind → OpeningRefused js old new kind
   refused_by NoMatchingKey h = record {
     none = if_told old.left (λ X. IsChosen ks X None) (λ X. IsChosen js X None) (λ S e. same S e None) h.none;
@@ -67,7 +74,7 @@ module _ (ks js : List OpeningKey) (old new : Outside) (same : (S : List ℕ) �
     stream = if_told old.left _ _ (λ S e. until_by h.texts S e _) h.stream;
     written = h.written;
   }
-  refused_by ReadFault h = (broken_by h.0, h.1)
+  refused_by ReadFault h = (cut_by h.0, h.1)
   refused_by WriteFault h = (broken_by h.0, h.1)
   refused_by _ h = absurd h
 

@@ -95,13 +95,13 @@ front_of_agreed k S ts all a b law p q w =
 pub whole_front : (a b : Option (List ℕ)) (xs : List ℕ) → Appends a b xs → AppendsPrefix a b xs
 whole_front a b xs w = (length xs, omega arith, subst (Appends a b) (sym (take-length xs)) w)
 
-pub kept_front : (a b : Option (List ℕ)) (xs : List ℕ) → Keeps a b → AppendsPrefix a b xs
-kept_front a b xs w = (0, omega arith, go a b w)
-  where
-    go : (a b : Option (List ℕ)) → Keeps a b → Appends a b []
-    go None b w = tt
-    go (Some xs) None w = absurd w
-    go (Some xs) (Some ys) w = w ∙ sym (append-nil xs)
+pub kept_nothing : (a b : Option (List ℕ)) → Keeps a b → Appends a b []
+kept_nothing None b w = tt
+kept_nothing (Some xs) None w = absurd w
+kept_nothing (Some xs) (Some ys) w = w ∙ sym (append-nil xs)
+
+pub kept_front : (a b : Option (List ℕ)) (xs : List ℕ) → Keeps a b → AppendsFront a b xs
+kept_front a b xs w = (0, omega arith, kept_nothing a b w)
 
 pub same_loaded : (keyset : List ℕ) (l m : Loaded) → load keyset ≡ Ok l → load keyset ≡ Ok m → l ≡ m
 same_loaded keyset l m p q = cc
@@ -164,7 +164,7 @@ stream_agreeing keyset aad S G l old new (BadSegment n) e t r =
 stream_agreeing keyset aad S G l old new TooManySegments e t r =
     let a = told_if (λ X. AgreesUntil (opening_keys aad l) X r.texts _) old.left S t.left r.stream in
     written_lead keyset aad S l r.texts old new e (agreed_leads (opening_keys aad l) S a.key r.texts a.chosen a.agreed (omega (arith, r.number))) (whole_front old.got new.got (joined r.texts) r.written)
-stream_agreeing keyset aad S G l old new ReadFault e t r = written_lead keyset aad S l r.0.texts old new e (told_if (λ X. Lead (opening_keys aad l) X r.0.texts) old.left S t.left r.0.lead) r.0.written
+stream_agreeing keyset aad S G l old new ReadFault e t r = written_lead keyset aad S l r.0.texts old new e (told_if (λ X. Lead (opening_keys aad l) X r.0.texts) old.left S t.left r.0.lead) (whole_front old.got new.got (joined r.0.texts) r.0.written)
 stream_agreeing keyset aad S G l old new WriteFault e t r = written_lead keyset aad S l r.0.texts old new e (told_if (λ X. Lead (opening_keys aad l) X r.0.texts) old.left S t.left r.0.lead) r.0.written
 stream_agreeing keyset aad S G l old new _ e t r = absurd r
 

@@ -19,9 +19,9 @@ use Rattle.tink_run.specs.AllKeys.{load}
 use Rattle.tink_run.specs.declared.report.Report.{Report}
 use Rattle.tink_run.specs.Outside.{Outside}
 use Rattle.tink_run.specs.Run.{IsEarly, LeavesEnds}
-use Rattle.tink_run.specs.OpenAnswers.{IsOfChosen, AgreesUntil, Lead, AreTextsBy, chunk_of, IsOpenedWhole, IsBroken, OpeningRefused, OpeningMeans, OpensLoaded, OpenMeans, OpenRefused}
-use Rattle.tink_run.specs.OpenSteps.{IsReadOut, Breaks, HasShort, HasLong, HasMore, ReaderRefused, ReaderMeans, OpensUnderRefused, OpensUnder}
-use Rattle.tink_run.proofs.OpenLemmas.{kept_front}
+use Rattle.tink_run.specs.OpenAnswers.{IsOfChosen, AgreesUntil, Lead, AreTextsBy, chunk_of, IsOpenedWhole, IsBroken, IsCutOff, OpeningRefused, OpeningMeans, OpensLoaded, OpenMeans, OpenRefused}
+use Rattle.tink_run.specs.OpenSteps.{IsReadOut, Breaks, CutsOff, HasShort, HasLong, HasMore, ReaderRefused, ReaderMeans, OpensUnderRefused, OpensUnder}
+use Rattle.tink_run.proofs.OpenLemmas.{kept_nothing}
 
 -- nothing is held before the first read
 pub unread : (n : ℕ) (xs : List ℕ) (left : Option (List ℕ)) → n ≡ 0 → prepend_known (take n xs) left ≡ left
@@ -44,11 +44,11 @@ module _ (keys : List OpeningKey) (seg : ℕ → Bool → List ℕ → List ℕ)
   chunks header X = cut first size (drop header X)
 
   -- what is told of what is behind the front
-  behind : (old mid : Option (List ℕ)) (P Q : List ℕ → Type 0) → ((X : List ℕ) (s : Begun mid X) → P (drop s.front X) → Q X) → IfSome old (Begun mid) → IfSome mid P → IfSome old Q
+  pub behind : (old mid : Option (List ℕ)) (P Q : List ℕ → Type 0) → ((X : List ℕ) (s : Begun mid X) → P (drop s.front X) → Q X) → IfSome old (Begun mid) → IfSome mid P → IfSome old Q
   behind None mid P Q f s h = tt
   behind (Some X) mid P Q f s h = f X s (subst (λ (o : Option (List ℕ)). IfSome o P) s.rest h)
 
-  leads_under : (header : ℕ) (X : List ℕ) (texts : List (List ℕ)) → Chosen header X → AreTexts seg 0 (chunks header X) texts → Lead keys X texts
+  pub leads_under : (header : ℕ) (X : List ℕ) (texts : List (List ℕ)) → Chosen header X → AreTexts seg 0 (chunks header X) texts → Lead keys X texts
   leads_under header X [] f p = tt
   leads_under header X (t ∷ ts) f p =
       let k : OpeningKey = f.key in (
@@ -59,7 +59,7 @@ module _ (keys : List OpeningKey) (seg : ℕ → Bool → List ℕ → List ℕ)
       )
 
   -- the stream begins under the chosen key, so some text agrees
-  some_agrees : (header : ℕ) (X : List ℕ) → Chosen header X → Agree seg 0 (chunks header X) [] → ⊥
+  pub some_agrees : (header : ℕ) (X : List ℕ) → Chosen header X → Agree seg 0 (chunks header X) [] → ⊥
   some_agrees header X f p =
       let k : OpeningKey = f.key in
       let begins = subst (λ (s : Option (ℕ → Bool → List ℕ → List ℕ)). FirstAgrees s (chunks_of k X)) f.opener.map (chosen_begins keys X k f.chosen).first in
@@ -81,6 +81,13 @@ module _ (keys : List OpeningKey) (seg : ℕ → Bool → List ℕ → List ℕ)
     texts = b.texts;
     lead = behind old.left mid.left (λ Y. AreTexts seg 0 (cut first size Y) b.texts) (λ X. Lead keys X b.texts) (λ X s p. leads_under s.front X b.texts s.found p) started b.lead;
     written = subst (λ (o : Option (List ℕ)). AppendsPrefix o new.got (joined b.texts)) got b.written;
+  }
+
+  cut_under : (old mid new : Outside) → mid.got ≡ old.got → IfSome old.left (Begun mid.left) → CutsOff seg first size mid new → IsCutOff keys old new
+  cut_under old mid new got started b = record {
+    texts = b.texts;
+    lead = behind old.left mid.left (λ Y. AreTexts seg 0 (cut first size Y) b.texts) (λ X. Lead keys X b.texts) (λ X s p. leads_under s.front X b.texts s.found p) started b.lead;
+    written = subst (λ (o : Option (List ℕ)). Appends o new.got (joined b.texts)) got b.written;
   }
 
   refused_under : (old mid new : Outside) (kind : Kind) → mid.got ≡ old.got → old.read_faults ≤ mid.read_faults → old.write_faults ≤ mid.write_faults → IfSome old.left (Begun mid.left)
@@ -115,7 +122,7 @@ module _ (keys : List OpeningKey) (seg : ℕ → Bool → List ℕ → List ℕ)
         (λ X s h. agrees_under s.front X x.texts (HasMore (2 ^ 32)) (λ k. 2 ^ 32 < length (chunks_of k X)) s.found (λ p. p) h) started x.agree;
     written = subst (λ (o : Option (List ℕ)). Appends o new.got (joined x.texts)) got x.written;
   }
-  refused_under old mid new ReadFault got reads writes started x = (breaks_under old mid new got started x.0, Rose-earlier old.read_faults mid.read_faults new.read_faults reads x.1)
+  refused_under old mid new ReadFault got reads writes started x = (cut_under old mid new got started x.0, Rose-earlier old.read_faults mid.read_faults new.read_faults reads x.1)
   refused_under old mid new WriteFault got reads writes started x = (breaks_under old mid new got started x.0, Rose-earlier old.write_faults mid.write_faults new.write_faults writes x.1)
   refused_under old mid new _ got reads writes started x = absurd x
 
@@ -141,7 +148,7 @@ module _ (keys : List OpeningKey) (seg : ℕ → Bool → List ℕ → List ℕ)
 -- no reader was started
 pub start_refused : (keys : List OpeningKey) (old new : Outside) (kind : Kind) → Keeps old.got new.got → StartRefused keys old.left old.read_faults new.read_faults kind → OpeningRefused keys old new kind
 start_refused keys old new NoMatchingKey w x = record { none = x; written = w }
-start_refused keys old new ReadFault w x = (record { texts = []; lead = any_told old.left; written = kept_front old.got new.got [] w }, x)
+start_refused keys old new ReadFault w x = (record { texts = []; lead = any_told old.left; written = kept_nothing old.got new.got w }, x)
 start_refused keys old new _ w x = absurd x
 
 -- an open under all keys is an open under the keyset

@@ -23,7 +23,7 @@ use Rattle.tink_run.specs.declared.report.Report.{Report}
 use Rattle.tink_run.specs.Outside.{Outside}
 use Rattle.tink_run.specs.OpenSteps.{FirstRefused, IsReadOut, Breaks, ReaderRefused}
 use Rattle.tink_run.specs.Run.{LeavesSinkItself, WritesNothing}
-use Rattle.tink_run.proofs.OpenLemmas.{whole_front, kept_front}
+use Rattle.tink_run.proofs.OpenLemmas.{kept_nothing}
 
 -- of the texts that were opened, all but the last were written
 pub record IsReading (seg : ℕ → Bool → List ℕ → List ℕ) (a b : ℕ) (all before now : Option (List ℕ)) (m : ReaderMoment) (bytes : ℕ) : Type 0 where
@@ -39,11 +39,11 @@ pub record IsReading (seg : ℕ → Bool → List ℕ → List ℕ) (a b : ℕ) 
 joined-one : (texts : List (List ℕ)) (t : List ℕ) → joined (texts ++ (t ∷ [])) ≡ joined texts ++ t
 joined-one texts t = joined-append texts (t ∷ []) ∙ ap (λ x. joined texts ++ x) (append-nil t)
 
-written_one : (texts : List (List ℕ)) (t : List ℕ) (a b c : Option (List ℕ)) → Appends a b (joined texts) → Appends b c t → Appends a c (joined (texts ++ (t ∷ [])))
+pub written_one : (texts : List (List ℕ)) (t : List ℕ) (a b c : Option (List ℕ)) → Appends a b (joined texts) → Appends b c t → Appends a c (joined (texts ++ (t ∷ [])))
 written_one texts t a b c p q = subst (Appends a c) (sym (joined-one texts t)) (Appends-trans a b c (joined texts) t p q)
 
-front_one : (texts : List (List ℕ)) (t : List ℕ) (a b c : Option (List ℕ)) → Appends a b (joined texts) → AppendsPrefix b c t → AppendsPrefix a c (joined (texts ++ (t ∷ [])))
-front_one texts t a b c p q = subst (AppendsPrefix a c) (sym (joined-one texts t)) (then_prefix a b c (joined texts) t p q)
+pub front_one : (texts : List (List ℕ)) (t : List ℕ) (a b c : Option (List ℕ)) → Appends a b (joined texts) → AppendsFront b c t → AppendsFront a c (joined (texts ++ (t ∷ [])))
+front_one texts t a b c p q = subst (AppendsFront a c) (sym (joined-one texts t)) (then_front a b c (joined texts) t p q)
 
 -- texts that lead are texts of leading segments
 leads_are : (seg : ℕ → Bool → List ℕ → List ℕ) (i : ℕ) (cs ts rest : List (List ℕ)) → Leads seg i cs ts rest → AreTexts seg i cs ts
@@ -56,7 +56,7 @@ leads_length seg i cs [] rest p = omega (arith, ap length p)
 leads_length seg i [] (t ∷ ts) rest p = absurd p
 leads_length seg i (c ∷ cs) (t ∷ ts) rest p = omega (arith, leads_length seg (i + 1) cs ts rest p.2)
 
-lead_of : (seg : ℕ → Bool → List ℕ → List ℕ) (a b : ℕ) (all rest : Option (List ℕ)) (texts : List (List ℕ)) → TellsLeads seg a b 0 all texts rest → IfSome all (λ X. AreTexts seg 0 (cut a b X) texts)
+pub lead_of : (seg : ℕ → Bool → List ℕ → List ℕ) (a b : ℕ) (all rest : Option (List ℕ)) (texts : List (List ℕ)) → TellsLeads seg a b 0 all texts rest → IfSome all (λ X. AreTexts seg 0 (cut a b X) texts)
 lead_of seg a b None rest texts p = tt
 lead_of seg a b (Some X) None texts p = absurd p
 lead_of seg a b (Some X) (Some Y) texts p = leads_are seg 0 (cut a b X) texts (cut (room_at a b (0 + length texts)) b Y) p
@@ -162,7 +162,7 @@ next_refused seg a b overhead old new now m n bytes ReadFault p q r w later more
   record {
     texts = r.texts ++ (m.opened ∷ []);
     lead = lead_of seg a b old.left m.rest (r.texts ++ (m.opened ∷ [])) r.opened.leads;
-    written = whole_front old.got new.got _ (written_one r.texts m.opened old.got now new.got r.written w);
+    written = written_one r.texts m.opened old.got now new.got r.written w;
   },
   Rose-later old.read_faults n.faults new.read_faults (Rose-earlier old.read_faults m.faults n.faults later x.rose) more,
 )
@@ -220,7 +220,7 @@ first_refused seg a b overhead old new m n ReadFault z same later more w x = (
   record {
     texts = [];
     lead = any_told old.left;
-    written = kept_front old.got new.got [] w;
+    written = kept_nothing old.got new.got w;
   },
   Rose-later old.read_faults n.faults new.read_faults (Rose-earlier old.read_faults m.faults n.faults later x) more,
 )

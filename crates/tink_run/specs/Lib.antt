@@ -5,6 +5,7 @@ pub mod Run
 pub mod Endings
 pub mod SealSteps
 pub mod OpenSteps
+pub mod OpenReads
 pub mod AllKeys
 pub mod HeldKeys
 pub mod Rotation

@@ -78,7 +78,13 @@ pub record GoesOn (keys : List OpeningKey) (old new : Outside) : Type 0 where
   pub stream : IfSome old.left (λ S. AgreesUntil keys S texts (λ k. 2 ^ 32 < length (chunks_of k S)))
   pub written : Appends old.got new.got (joined texts)
 
--- an end failed: a prefix of the texts of leading segments was written
+-- the source failed: the texts of leading segments were written whole
+pub record IsCutOff (keys : List OpeningKey) (old new : Outside) : Type 0 where
+  pub texts : List (List ℕ)
+  pub lead : IfSome old.left (λ S. Lead keys S texts)
+  pub written : Appends old.got new.got (joined texts)
+
+-- the sink failed: a prefix of the texts of leading segments was written
 pub record IsBroken (keys : List OpeningKey) (old new : Outside) : Type 0 where
   pub texts : List (List ℕ)
   pub lead : IfSome old.left (λ S. Lead keys S texts)
@@ -89,7 +95,7 @@ OpeningRefused keys old new NoMatchingKey = HasNoKey keys old new
 OpeningRefused keys old new (Truncated n) = IsTruncated keys n old new
 OpeningRefused keys old new (BadSegment n) = HasBadSegment keys n old new
 OpeningRefused keys old new TooManySegments = GoesOn keys old new
-OpeningRefused keys old new ReadFault = IsBroken keys old new × Rose old.read_faults new.read_faults
+OpeningRefused keys old new ReadFault = IsCutOff keys old new × Rose old.read_faults new.read_faults
 OpeningRefused keys old new WriteFault = IsBroken keys old new × Rose old.write_faults new.write_faults
 OpeningRefused keys old new _ = ⊥
 

@@ -52,7 +52,13 @@ pub record StopsAt (n : ℕ) (P : List (List ℕ) → Type 0) (seg : ℕ → Boo
   pub agree : IfSome old.left (λ X. Agree seg 0 (cut a b X) texts × P (cut a b X))
   pub written : Appends old.got new.got (joined texts)
 
--- an end failed: a prefix of texts whose segments lead was written
+-- the source failed: texts whose segments lead were written whole
+pub record CutsOff (seg : ℕ → Bool → List ℕ → List ℕ) (a b : ℕ) (old new : Outside) : Type 0 where
+  pub texts : List (List ℕ)
+  pub lead : IfSome old.left (λ X. AreTexts seg 0 (cut a b X) texts)
+  pub written : Appends old.got new.got (joined texts)
+
+-- the sink failed: a prefix of texts whose segments lead was written
 pub record Breaks (seg : ℕ → Bool → List ℕ → List ℕ) (a b : ℕ) (old new : Outside) : Type 0 where
   pub texts : List (List ℕ)
   pub lead : IfSome old.left (λ X. AreTexts seg 0 (cut a b X) texts)
@@ -73,7 +79,7 @@ ReaderRefused seg a b overhead old new NoMatchingKey = BeginsNot seg a b old new
 ReaderRefused seg a b overhead old new (Truncated n) = StopsAt n (HasShort n overhead) seg a b old new
 ReaderRefused seg a b overhead old new (BadSegment n) = StopsAt n (HasLong n overhead) seg a b old new
 ReaderRefused seg a b overhead old new TooManySegments = StopsAt (2 ^ 32) (HasMore (2 ^ 32)) seg a b old new
-ReaderRefused seg a b overhead old new ReadFault = Breaks seg a b old new × Rose old.read_faults new.read_faults
+ReaderRefused seg a b overhead old new ReadFault = CutsOff seg a b old new × Rose old.read_faults new.read_faults
 ReaderRefused seg a b overhead old new WriteFault = Breaks seg a b old new × Rose old.write_faults new.write_faults
 ReaderRefused seg a b overhead old new _ = ⊥
 

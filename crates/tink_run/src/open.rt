@@ -1,11 +1,13 @@
-ghost use Rattle.std.specs.Prelude.{◌≡◌, ◌≤◌, ◌<◌, ◌+◌, ◌^◌, length, map, All, vec_len, vec_capacity};
+ghost use Rattle.std.specs.Prelude.{◌≡◌, ◌≤◌, ◌<◌, ◌+◌, ◌^◌, length, map, All, OnErr, vec_len, vec_capacity};
 ghost use Rattle.stream_model.specs.Key.{nonce_size};
 ghost use Rattle.stream_model.specs.Opening as opening;
 ghost use Rattle.tink_streams.specs.declared.progress.Progress.TheVariants.{Running};
-ghost use Rattle.tink_streams.specs.Openers.{reader_moment, segment_map};
+ghost use Rattle.tink_io.specs.Taken.{LosesAtMost};
+ghost use Rattle.tink_streams.specs.Openers.{reader_moment, reader_rest, segment_map};
 ghost use Rattle.tink_run.specs.Outside.{FaultsStay, outside_of};
 ghost use Rattle.tink_streaming_aead.specs.Wrapped.{KeepsOrder, all_entries, keys_in};
 ghost use Rattle.tink_run.specs.OpenAnswers.{OpeningMeans};
+ghost use Rattle.tink_run.specs.OpenReads.{ReaderReads, ReadsWithin, room_under};
 ghost use Rattle.tink_run.specs.Run.{LeavesEnds, LeavesSinkItself};
 ghost use Rattle.tink_run.specs.OpenSteps.{FirstMeans, OpensUnder, ReaderMeans, held_outside};
 
@@ -24,7 +26,8 @@ use tink_streaming_aead::{
 /// OutOfMemory before anything was read or written; NoMatchingKey where the stream begins under no
 /// key; Truncated and BadSegment where a later segment is shorter than a tag or the segment of
 /// no text; TooManySegments where bytes follow 2^32 segments; ReadFault and WriteFault. A segment's
-/// text is written once its tag was compared, and stays written.
+/// text is written once its tag was compared, and stays written. No more is read than a byte behind the longest segment of
+/// the keys.
 pub fn open<S: Source, K: Sink>(
     alloc: Global,
     set: &TypedPrimitiveSet<StreamKind>,
@@ -33,6 +36,12 @@ pub fn open<S: Source, K: Sink>(
     sink: &mut K,
 ) -> Result<Report, TinkError>
     ensures answer { OpensUnder (map (opening.opening_key aad.now) (keys_in (all_entries set.now.entries)))
+        (outside_of S.left S.faults K.got K.faults source.old sink.old)
+        (outside_of S.left S.faults K.got K.faults source.new sink.new)
+        result }
+    // How far the source was read by a refusal, and what was written before a fault.
+    ensures read { ReadsWithin (room_under (map (opening.opening_key aad.now) (keys_in (all_entries set.now.entries))))
+        (map (opening.opening_key aad.now) (keys_in (all_entries set.now.entries)))
         (outside_of S.left S.faults K.got K.faults source.old sink.old)
         (outside_of S.left S.faults K.got K.faults source.new sink.new)
         result }
@@ -67,8 +76,10 @@ fn open_under<S: Source, K: Sink, T: DerivesStreams>(
     requires prefix { 7 ≤ vec_capacity trial.prefix }
     ensures answer { OpeningMeans (map (λ k. opening.opening_key aad.now (T.key_of k)) keys.now)
         (outside_of S.left S.faults K.got K.faults source.old sink.old)
-        (outside_of S.left S.faults K.got K.faults source.new sink.new)
-        result }
+        (outside_of S.left S.faults K.got K.faults source.new sink.new) result
+        × ReadsWithin (vec_len trial.kept.buffer) (map (λ k. opening.opening_key aad.now (T.key_of k)) keys.now)
+        (outside_of S.left S.faults K.got K.faults source.old sink.old)
+        (outside_of S.left S.faults K.got K.faults source.new sink.new) result }
     ensures unwritten { LeavesSinkItself result sink.old sink.new }
     ensures later { FaultsStay (outside_of S.left S.faults K.got K.faults source.old sink.old)
         (outside_of S.left S.faults K.got K.faults source.new sink.new) }
@@ -94,6 +105,10 @@ fn open_stream<S: Source, K: Sink, D: SegmentDecrypter + Drop>(
     ensures answer { ReaderMeans (segment_map reader.old.opener) reader.old.opener.first reader.old.opener.size
         reader.old.opener.overhead
         (held_outside S.left S.faults K.got K.faults reader.old source.old sink.old)
+        (outside_of S.left S.faults K.got K.faults source.new sink.new)
+        result }
+    ensures read { ReaderReads (vec_len reader.old.buffer) (segment_map reader.old.opener) reader.old.opener.first
+        reader.old.opener.size (held_outside S.left S.faults K.got K.faults reader.old source.old sink.old)
         (outside_of S.left S.faults K.got K.faults source.new sink.new)
         result }
     ensures unwritten { LeavesSinkItself result sink.old sink.new }
@@ -136,6 +151,9 @@ pub fn open_first<S: Source, D: SegmentDecrypter + Drop>(
         result }
     ensures opener { reader.new.opener ≡ reader.old.opener }
     ensures small { vec_len reader.new.opened < 2 ^ 32 }
+    ensures read { OnErr result (LosesAtMost (vec_len reader.old.buffer) (reader_rest S.left reader.old source.old)
+        (S.left source.new)) }
+    ensures room { vec_len reader.new.buffer ≡ vec_len reader.old.buffer }
     ensures later { S.faults source.old ≤ S.faults source.new }
     ensures same { S.same source.old source.new }
 {

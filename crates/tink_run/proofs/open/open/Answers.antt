@@ -1,11 +1,14 @@
-use Rattle.std.proofs.Common.{◌≡◌, List, map, ap, sym, ◌∙◌, subst}
+use Rattle.std.proofs.Common.{◌≡◌, ◌+◌, ℕ, List, map, ap, sym, ◌∙◌, subst, vec_len}
 use Rattle.std.proofs.lemmas.Simd.{map-map}
 use Rattle.stream_model.specs.Opening.{OpeningKey, opening_key}
 use Rattle.tink_stream_keys.specs.StreamKinds.{key_in_set}
 use Rattle.tink_streaming_aead.specs.Wrapped.{all_entries, keys_in}
+use Rattle.tink_streaming_aead.specs.DecryptReaders.{largest}
+use Rattle.tink_run.specs.OpenReads.{ReadsWithin, room_under}
 use Rattle.tink_run.specs.OpenSteps.{OpensUnder}
 use Rattle.tink_run.specs.Outside.{Outside}
 use Rattle.tink_run.proofs.OpenSteps.{leaves_under, opens_under}
+use Rattle.tink_run.proofs.ReadsSteps.{same_largest}
 use Rattle.tink_run.proofs.RunSteps.{leaves_same}
 use Rattle.tink_run.proofs.open.open.Goals as goal
 
@@ -19,10 +22,29 @@ returns-clause-answer g c =
     in
     let before : Outside = record { left = g.S.Source.left c.args.source.now; read_faults = g.S.Source.faults c.args.source.now; got = g.K.Sink.got c.args.sink.now; write_faults = g.K.Sink.faults c.args.sink.now } in
     let after : Outside = record { left = g.S.Source.left c.open_under.new.source; read_faults = g.S.Source.faults c.open_under.new.source; got = g.K.Sink.got c.open_under.new.sink; write_faults = g.K.Sink.faults c.open_under.new.sink } in
-    subst (λ (ks : List OpeningKey). OpensUnder ks before after c.open_under.result) same (opens_under _ before after c.open_under.result c.open_under.ensures.answer)
+    subst (λ (ks : List OpeningKey). OpensUnder ks before after c.open_under.result) same (opens_under _ before after c.open_under.result c.open_under.ensures.answer.0)
+
+pub returns-clause-read : goal.returns-clause-read
+returns-clause-read g c =
+    let aad = c.args.aad.now in
+    let all = all_entries c.args.set.now.entries in
+    let same : map (λ k. opening_key aad (key_in_set k.now)) c.deref-2.result.now ≡ map (opening_key aad) (keys_in all) =
+    ap (map (λ k. opening_key aad (key_in_set k.now))) c.deref-2.ensures.value ∙ sym (map-map (λ e. opening_key aad (key_in_set e)) (λ k. k.now) c.in_ok-keys.keys.items)
+    ∙ ap (map (λ e. opening_key aad (key_in_set e))) c.in_ok-keys.ensures.value ∙ sym (map-map (opening_key aad) key_in_set all)
+    in
+    let keys_are : map (λ k. key_in_set k.now) c.deref.result.now ≡ keys_in all =
+    ap (map (λ k. key_in_set k.now)) c.deref.ensures.value ∙ sym (map-map key_in_set (λ k. k.now) c.in_ok-keys.keys.items) ∙ ap (map key_in_set) c.in_ok-keys.ensures.value
+    in
+    let room : vec_len c.in_ok-trial.trial.kept.buffer ≡ room_under (map (opening_key aad) (keys_in all)) =
+    c.in_ok-trial.ensures.buffer ∙ c.room_of.ensures.value ∙ ap (λ ks. largest ks + 1) keys_are ∙ ap (λ n. n + 1) (same_largest aad (keys_in all))
+    in
+    let before : Outside = record { left = g.S.Source.left c.args.source.now; read_faults = g.S.Source.faults c.args.source.now; got = g.K.Sink.got c.args.sink.now; write_faults = g.K.Sink.faults c.args.sink.now } in
+    let after : Outside = record { left = g.S.Source.left c.open_under.new.source; read_faults = g.S.Source.faults c.open_under.new.source; got = g.K.Sink.got c.open_under.new.sink; write_faults = g.K.Sink.faults c.open_under.new.sink } in
+    subst (λ (n : ℕ). ReadsWithin n (map (opening_key aad) (keys_in all)) before after c.open_under.result) room
+    (subst (λ (ks : List OpeningKey). ReadsWithin (vec_len c.in_ok-trial.trial.kept.buffer) ks before after c.open_under.result) same c.open_under.ensures.answer.1)
 
 pub returns-clause-early : goal.returns-clause-early
-returns-clause-early g c = leaves_under _ _ _ c.open_under.result _ _ _ _ c.open_under.ensures.answer
+returns-clause-early g c = leaves_under _ _ _ c.open_under.result _ _ _ _ c.open_under.ensures.answer.0
 
 pub returns-in_err-keys-clause-early : goal.returns-in_err-keys-clause-early
 returns-in_err-keys-clause-early g c = leaves_same c.from_residual.result c.args.source.now c.args.sink.now

@@ -4,6 +4,7 @@ use Rattle.std.proofs.lemmas.Result.{err_from_is_err_and}
 use Rattle.std.specs.Io.KnownBytes.{prepend_known}
 use Rattle.tink_streams.specs.Reading.{ReaderMoment}
 use Rattle.tink_run.proofs.ReadOut.{reading_first, reading_next, read_out, write_failed, next_refused, next_wrote, first_refused}
+use Rattle.tink_run.proofs.ReadsSteps.{first_reads, next_reads, reads_held, write_reads}
 use Rattle.tink_run.proofs.open.open_stream.Goals as goal
 
 pub returns-in_err-open_first-clause-answer : goal.returns-in_err-open_first-clause-answer
@@ -15,10 +16,29 @@ returns-in_err-open_first-clause-answer g c =
     let n : ReaderMoment = record { progress = after.progress; number = after.segments; opened = after.opened.items; rest = prepend_known (take after.filled after.buffer.items) (g.S.Source.left c.open_first.new.source); faults = g.S.Source.faults c.open_first.new.source } in
     rw (p.1, p.2) (first_refused _ _ _ _ _ _ m n _ c.requires.fresh refl (omega arith) (omega arith) (Keeps-refl _) c.in_err-open_first.ensures.answer)
 
+pub returns-in_err-open_first-clause-read : goal.returns-in_err-open_first-clause-read
+returns-in_err-open_first-clause-read g c =
+    let p = err_from_is_err_and c.from_residual.result c.from_residual.ensures.1 in
+    let before = c.args.reader.now in
+    let after = c.open_first.new.reader in
+    let m : ReaderMoment = record { progress = before.progress; number = before.segments; opened = before.opened.items; rest = prepend_known (take before.filled before.buffer.items) (g.S.Source.left c.args.source.now); faults = g.S.Source.faults c.args.source.now } in
+    let n : ReaderMoment = record { progress = after.progress; number = after.segments; opened = after.opened.items; rest = prepend_known (take after.filled after.buffer.items) (g.S.Source.left c.open_first.new.source); faults = g.S.Source.faults c.open_first.new.source } in
+    rw (p.1, p.2) (first_reads _ _ _ _ _ _ m n _ (omega (arith, before.opener.some)) (omega (arith, before.opener.some, before.opener.first_fits)) (Keeps-refl _) c.in_err-open_first.ensures.read c.in_err-open_first.ensures.answer)
+
+pub returns-in_err-write_all-clause-read : goal.returns-in_err-write_all-clause-read
+returns-in_err-write_all-clause-read g c =
+    let p = err_from_is_err_and c.from_residual-in_err-write_all.result c.from_residual-in_err-write_all.ensures.1 in
+    let opener = c.args.reader.now.opener in
+    let reader = c.loop-bytes.reader in
+    rw (p.1, p.2, c.in_err-write_all.ensures.refused)
+    (write_reads _ _ _ _ _ _ _ _ _ (omega (arith, opener.some)) (omega (arith, opener.some, opener.first_fits)) c.loop-bytes.invariant.reading (rw c.opened-text.ensures at c.in_err-write_all.ensures.front)
+    (reads_held _ reader.filled _ _ reader.buffer.items (Keeps-refl _) (omega (arith, reader.filled_in, c.loop-bytes.invariant.room))))
+
 pub loop-bytes-init : goal.loop-bytes-init
 loop-bytes-init g c = record {
   reading = reading_first _ _ _ _ _ _ c.requires.fresh c.in_ok-open_first.ensures.answer (omega (arith, c.open_first.ensures.small, c.open_first.new.reader.opened.ok.0));
   opener = c.open_first.ensures.opener;
+  room = c.open_first.ensures.room;
   reads = c.open_first.ensures.later;
   writes = omega arith;
   same_source = c.open_first.ensures.same;
@@ -44,6 +64,7 @@ loop-bytes-preserved g c =
       reading = rw c.opened-text.ensures (reading_next _ _ _ _ _ _ _ _ _ _ c.loop-bytes.invariant.reading (rw c.opened-text.ensures at c.in_ok-write_all.ensures.written) next
           (omega (arith, c.open_next.ensures.small, c.open_next.new.self.opened.ok.0)));
       opener = c.open_next.ensures.opener ∙ c.loop-bytes.invariant.opener;
+      room = c.open_next.ensures.room ∙ c.loop-bytes.invariant.room;
       reads = omega (arith, c.loop-bytes.invariant.reads, c.open_next.ensures.later);
       writes = omega (arith, c.loop-bytes.invariant.writes, c.write_all.ensures.later);
       same_source = g.met.S.Source.same_trans _ _ _ c.loop-bytes.invariant.same_source c.open_next.ensures.same;
@@ -55,9 +76,12 @@ returns-in_err-open_next-in_default g c =
     let p = err_from_is_err_and c.from_residual-in_err-open_next-in_default.result c.from_residual-in_err-open_next-in_default.ensures.1 in
     let opener = c.args.reader.now.opener in
     let refused = rw c.loop-bytes.invariant.opener at c.in_err-open_next-in_default.ensures.answer in
+    let reader = c.open_next.new.self in
     record {
       answer = rw (p.1, p.2) (next_refused _ _ _ _ _ _ _ _ _ _ _ (omega (arith, opener.some)) (omega (arith, opener.some, opener.first_fits)) c.loop-bytes.invariant.reading (rw c.opened-text.ensures at c.in_ok-write_all.ensures.written)
           c.loop-bytes.invariant.reads (omega arith) refused);
+      read = rw (p.1, p.2) (next_reads _ _ _ _ _ _ _ _ _ _ _ _ (omega (arith, opener.some)) (omega (arith, opener.some, opener.first_fits)) c.loop-bytes.invariant.reading (rw c.opened-text.ensures at c.in_ok-write_all.ensures.written)
+          (reads_held _ reader.filled _ _ reader.buffer.items (Keeps-refl _) (omega (arith, reader.filled_in, c.open_next.ensures.room, c.loop-bytes.invariant.room))) refused);
       unwritten = rw (p.1, p.2) (next_wrote _ _ _ _ _ _ _ _ _ c.in_err-open_next-in_default.ensures.answer);
       later = record { reads = omega (arith, c.loop-bytes.invariant.reads, c.open_next.ensures.later); writes = omega (arith, c.loop-bytes.invariant.writes, c.write_all.ensures.later) };
       source = g.met.S.Source.same_trans _ _ _ c.loop-bytes.invariant.same_source c.open_next.ensures.same;

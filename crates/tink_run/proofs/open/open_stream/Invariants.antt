@@ -1,5 +1,5 @@
 -- Of the texts that were opened, all but the last were written.
-use Rattle.std.proofs.Common.{◌≡◌, ◌≤◌, ◌-◌, ◌^◌, take}
+use Rattle.std.proofs.Common.{◌≡◌, ◌≤◌, ◌-◌, ◌^◌, take, vec_len}
 use Rattle.std.specs.Io.KnownBytes.{prepend_known}
 use Rattle.stream_model.specs.Cut.{numbered}
 use Rattle.tink_run.proofs.ReadOut.{IsReading}
@@ -18,6 +18,7 @@ invariant-loop-bytes g l = record {
       })
       l.bytes;
   opener : l.reader.opener ≡ l.fn.reader.opener;
+  room : vec_len l.reader.buffer ≡ vec_len l.fn.reader.buffer;
   reads : g.S.Source.faults l.fn.source ≤ g.S.Source.faults l.source;
   writes : g.K.Sink.faults l.fn.sink ≤ g.K.Sink.faults l.sink;
   same_source : g.S.Source.same l.fn.source l.source;

@@ -7,6 +7,7 @@ use Rattle.tink_streams.proofs.ReadingFacts.{numbered_longer}
 use Rattle.tink_segments.specs.StreamSegments.{length-segment_by, segment_by}
 use Rattle.tink_run.specs.Outside.{Outside}
 use Rattle.tink_run.proofs.OpenSteps.{unread, start_refused, means_under}
+use Rattle.tink_run.proofs.ReadsSteps.{reads_more, reads_under, start_reads}
 use Rattle.tink_run.proofs.open.open_under.Goals as goal
 
 pub returns-in_err-reader-clause-answer : goal.returns-in_err-reader-clause-answer
@@ -14,7 +15,8 @@ returns-in_err-reader-clause-answer g c =
     let p = err_from_is_err_and c.from_residual.result c.from_residual.ensures.1 in
     let kept = c.args.trial.kept in
     let none_held = unread kept.filled kept.buffer.items (g.S.Source.left c.args.source.now) c.requires.filled in
-    rw (p.1, p.2) (start_refused _ _ _ _ (Keeps-refl _) (rw none_held at c.in_err-reader.ensures.refused))
+    let refused = rw none_held at c.in_err-reader.ensures.refused in
+    rw (p.1, p.2) (start_refused _ _ _ _ (Keeps-refl _) refused, start_reads _ _ _ _ _ (Keeps-refl _) (reads_more _ _ _ _ (omega arith) c.start.ensures.read) refused)
 
 pub returns-clause-answer : goal.returns-clause-answer
 returns-clause-answer g c =
@@ -24,6 +26,9 @@ returns-clause-answer g c =
     let opener = reader.opener in
     let seg : ℕ → Bool → List ℕ → List ℕ = numbered (segment_by opener.decrypter) opener.nonce_size opener.prefix.items in
     let started : Outside = record { left = prepend_known (take reader.filled reader.buffer.items) (g.S.Source.left c.start.new.source); read_faults = g.S.Source.faults c.start.new.source; got = g.K.Sink.got c.args.sink.now; write_faults = g.K.Sink.faults c.args.sink.now } in
-    means_under _ seg opener.first opener.size opener.overhead _ started _ _ (omega (arith, opener.some))
-    (numbered_longer (segment_by opener.decrypter) opener.nonce_size opener.prefix.items opener.overhead (λ n t. length-segment_by opener.decrypter n t ∙ ap (λ x. length t + x) (sym opener.overhead_is)))
-    refl c.start.ensures.later (omega arith) (rw none_held at c.in_ok-reader.ensures.started) c.open_stream.ensures.answer
+    let begun = rw none_held at c.in_ok-reader.ensures.started in (
+      means_under _ seg opener.first opener.size opener.overhead _ started _ _ (omega (arith, opener.some))
+          (numbered_longer (segment_by opener.decrypter) opener.nonce_size opener.prefix.items opener.overhead (λ n t. length-segment_by opener.decrypter n t ∙ ap (λ x. length t + x) (sym opener.overhead_is)))
+          refl c.start.ensures.later (omega arith) begun c.open_stream.ensures.answer,
+      reads_under _ _ seg opener.first opener.size opener.overhead _ started _ refl begun _ c.open_stream.ensures.answer (rw c.in_ok-reader.ensures.fresh.3 at c.open_stream.ensures.read),
+    )
