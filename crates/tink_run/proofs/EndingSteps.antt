@@ -23,7 +23,7 @@ use Rattle.stream_model.proofs.KeyFacts.{CanOpen as Lawful}
 use Rattle.tink_gathered.specs.Gathering.{IsCutShort, OnlyGrows}
 use Rattle.tink_gathered.proofs.GatheringLemmas.{grows_then}
 use Rattle.tink_run.specs.declared.report.Report.{Report}
-use Rattle.tink_run.specs.Endings.{EndsAs, EndsBy, IsRefusedEarly}
+use Rattle.tink_run.specs.Endings.{EndsAs, IsEndedBy, IsRefusedEarly}
 use Rattle.tink_run.specs.OpenAnswers.{AgreesUntil, chunk_of, IsBroken, IsCutOff, IsOfChosen, Lead, OpeningMeans, OpeningRefused}
 use Rattle.tink_run.specs.OpenSteps.{OpensUnder, OpensUnderRefused}
 use Rattle.tink_run.specs.Outside.{Outside}

@@ -100,7 +100,7 @@ kept_nothing None b w = tt
 kept_nothing (Some xs) None w = absurd w
 kept_nothing (Some xs) (Some ys) w = w ∙ sym (append-nil xs)
 
-pub kept_front : (a b : Option (List ℕ)) (xs : List ℕ) → Keeps a b → AppendsFront a b xs
+pub kept_front : (a b : Option (List ℕ)) (xs : List ℕ) → Keeps a b → AppendsPrefix a b xs
 kept_front a b xs w = (0, omega arith, kept_nothing a b w)
 
 pub same_loaded : (keyset : List ℕ) (l m : Loaded) → load keyset ≡ Ok l → load keyset ≡ Ok m → l ≡ m

@@ -42,8 +42,8 @@ joined-one texts t = joined-append texts (t ∷ []) ∙ ap (λ x. joined texts +
 pub written_one : (texts : List (List ℕ)) (t : List ℕ) (a b c : Option (List ℕ)) → Appends a b (joined texts) → Appends b c t → Appends a c (joined (texts ++ (t ∷ [])))
 written_one texts t a b c p q = subst (Appends a c) (sym (joined-one texts t)) (Appends-trans a b c (joined texts) t p q)
 
-pub front_one : (texts : List (List ℕ)) (t : List ℕ) (a b c : Option (List ℕ)) → Appends a b (joined texts) → AppendsFront b c t → AppendsFront a c (joined (texts ++ (t ∷ [])))
-front_one texts t a b c p q = subst (AppendsFront a c) (sym (joined-one texts t)) (then_front a b c (joined texts) t p q)
+pub front_one : (texts : List (List ℕ)) (t : List ℕ) (a b c : Option (List ℕ)) → Appends a b (joined texts) → AppendsPrefix b c t → AppendsPrefix a c (joined (texts ++ (t ∷ [])))
+front_one texts t a b c p q = subst (AppendsPrefix a c) (sym (joined-one texts t)) (then_prefix a b c (joined texts) t p q)
 
 -- texts that lead are texts of leading segments
 leads_are : (seg : ℕ → Bool → List ℕ → List ℕ) (i : ℕ) (cs ts rest : List (List ℕ)) → Leads seg i cs ts rest → AreTexts seg i cs ts

@@ -6,7 +6,7 @@ use Rattle.std.specs.Prelude.{Result, Ok, Err}
 use Rattle.std.specs.Io.KnownBytes.{Appends, Keeps, prepend_known}
 use Rattle.std.proofs.KnownBytes.{Keeps-refl}
 use Rattle.tink_io.specs.Taken.{LosesAtMost}
-use Rattle.tink_io.specs.Written.{AppendsFront}
+use Rattle.tink_io.specs.Written.{AppendsPrefix}
 use Rattle.tink_io.specs.declared.error.Kind.{Kind}
 use Rattle.tink_io.specs.declared.error.Kind.TheVariants.{ReadFault, WriteFault, TooManySegments, NoMatchingKey, BadSegment, Truncated}
 use Rattle.tink_io.specs.declared.error.TinkError.{TinkError}
@@ -114,7 +114,7 @@ first_reads room seg a b old new m n _ p q got lost x = absurd x
 
 -- the sink failed in the text that was opened last
 pub write_reads : (room : ℕ) (seg : ℕ → Bool → List ℕ → List ℕ) (a b : ℕ) (old new : Outside) (now : Option (List ℕ)) (m : ReaderMoment) (bytes : ℕ) → 0 < a → 0 < b → IsReading seg a b old.left old.got now m bytes
-    → AppendsFront now new.got m.opened → LosesAtMost room m.rest new.left → ReaderReadsBy room seg a b old new WriteFault
+    → AppendsPrefix now new.got m.opened → LosesAtMost room m.rest new.left → ReaderReadsBy room seg a b old new WriteFault
 write_reads room seg a b old new now m bytes p q r w lost = record {
   texts = r.texts ++ (m.opened ∷ []);
   lead = lead_of seg a b old.left m.rest (r.texts ++ (m.opened ∷ [])) r.opened.leads;
@@ -195,7 +195,7 @@ module _ (room : ℕ) (keys : List OpeningKey) (seg : ℕ → Bool → List ℕ 
   refused (BadSegment n) x h = near n h
   refused TooManySegments x h = near (2 ^ 32) h
   refused ReadFault x h = stops Appends h
-  refused WriteFault x h = stops AppendsFront h
+  refused WriteFault x h = stops AppendsPrefix h
   refused _ x h = absurd x
 
   pub reads_under : (answer : Result Report TinkError) → ReaderMeans seg first size overhead mid new answer → ReaderReads room seg first size mid new answer → ReadsWithin room keys old new answer

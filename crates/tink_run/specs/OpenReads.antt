@@ -3,7 +3,7 @@ use Rattle.std.specs.Prelude.{◌≡◌, ◌⊎◌, ℕ, ◌+◌, ◌^◌, Bool,
 use Rattle.std.specs.declared.option.Option.{Option}
 use Rattle.std.specs.Io.KnownBytes.{Appends}
 use Rattle.tink_io.specs.Taken.{LosesAtMost}
-use Rattle.tink_io.specs.Written.{AppendsFront}
+use Rattle.tink_io.specs.Written.{AppendsPrefix}
 use Rattle.tink_io.specs.declared.error.Kind.{Kind}
 use Rattle.tink_io.specs.declared.error.Kind.TheVariants.{ReadFault, WriteFault, TooManySegments, NoMatchingKey, BadSegment, Truncated}
 use Rattle.tink_io.specs.declared.error.TinkError.{TinkError}
@@ -45,7 +45,7 @@ ReaderReadsBy room seg a b old new (Truncated n) = ReadsFrom room a b n old.left
 ReaderReadsBy room seg a b old new (BadSegment n) = ReadsFrom room a b n old.left new.left
 ReaderReadsBy room seg a b old new TooManySegments = ReadsFrom room a b (2 ^ 32) old.left new.left
 ReaderReadsBy room seg a b old new ReadFault = FailsBehind Appends room seg a b old new
-ReaderReadsBy room seg a b old new WriteFault = FailsBehind AppendsFront room seg a b old new
+ReaderReadsBy room seg a b old new WriteFault = FailsBehind AppendsPrefix room seg a b old new
 ReaderReadsBy room seg a b old new _ = Unit {0}
 
 -- how far a reader that holds at most so many bytes has read by its answer
@@ -75,7 +75,7 @@ ReadsBy room keys old new (Truncated n) = ReadsNear room keys n old.left new.lef
 ReadsBy room keys old new (BadSegment n) = ReadsNear room keys n old.left new.left
 ReadsBy room keys old new TooManySegments = ReadsNear room keys (2 ^ 32) old.left new.left
 ReadsBy room keys old new ReadFault = StopsBehind Appends room keys old new
-ReadsBy room keys old new WriteFault = StopsBehind AppendsFront room keys old new
+ReadsBy room keys old new WriteFault = StopsBehind AppendsPrefix room keys old new
 ReadsBy room keys old new _ = Unit {0}
 
 -- how far an open that holds at most so many bytes has read by its answer

@@ -31,7 +31,7 @@ returns-in_err-write_all-clause-read g c =
     let opener = c.args.reader.now.opener in
     let reader = c.loop-bytes.reader in
     rw (p.1, p.2, c.in_err-write_all.ensures.refused)
-    (write_reads _ _ _ _ _ _ _ _ _ (omega (arith, opener.some)) (omega (arith, opener.some, opener.first_fits)) c.loop-bytes.invariant.reading (rw c.opened-text.ensures at c.in_err-write_all.ensures.front)
+    (write_reads _ _ _ _ _ _ _ _ _ (omega (arith, opener.some)) (omega (arith, opener.some, opener.first_fits)) c.loop-bytes.invariant.reading (rw c.opened-text.ensures at c.in_err-write_all.ensures.prefix)
     (reads_held _ reader.filled _ _ reader.buffer.items (Keeps-refl _) (omega (arith, reader.filled_in, c.loop-bytes.invariant.room))))
 
 pub loop-bytes-init : goal.loop-bytes-init
