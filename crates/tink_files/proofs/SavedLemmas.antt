@@ -1,8 +1,8 @@
--- What is saved was made, and what its call leaves.
-use Rattle.std.proofs.Common.{◌≡◌, ◌⊎◌, inl, inr, ℕ, List, Bool, true, None, Result, Ok, Err, ap, refl}
-use Rattle.std.specs.Prelude.{IfErr, OnOk}
+-- What is saved, and what its call leaves.
+use Rattle.std.proofs.Common.{◌≡◌, ◌⊎◌, inl, inr, ℕ, List, true, None, Result, Ok, Err, ap, refl}
+use Rattle.std.specs.Prelude.{IfErr}
 use Rattle.std.specs.declared.option.Option.{Option}
-use Rattle.tink_io.specs.Told.{Answers, IsShort}
+use Rattle.tink_io.specs.Told.{IsShort}
 use Rattle.tink_io.specs.declared.error.Kind.{Kind}
 use Rattle.tink_io.specs.declared.error.Kind.TheVariants.{OutOfMemory}
 use Rattle.tink_io.specs.declared.error.TinkError.{TinkError}
@@ -12,15 +12,7 @@ use Rattle.tink_keysets.specs.Valid.{valid_keyset}
 use Rattle.tink_place.specs.Places.{Ends}
 use Rattle.tink_keygen.specs.Rotating.{left_by}
 use Rattle.tink_keygen.proofs.RotatingSteps.{leaves_told, undrawn}
-use Rattle.tink_files.specs.Saved.{left_from, Saves}
-
--- where an answer is saved it was Ok, so that what holds of the one holds of the other
-pub saved_made : (P : Type 0) (answer : Result (List ℕ) TinkError) (result : Result (Unit {0}) TinkError) (draft : Option (List ℕ)) (replaces : Bool) (before after : Option (Option (List ℕ))) (i j : ℕ)
-    → ((told : Result (List ℕ) Kind) → Answers answer told → Saves told result draft replaces before after i j) → OnOk answer P → OnOk result P
-saved_made P (Ok bytes) (Ok done) draft replaces before after i j saves holds = holds
-saved_made P (Ok bytes) (Err e) draft replaces before after i j saves holds = tt
-saved_made P (Err e) (Ok done) draft replaces before after i j saves holds = let made = (saves (Err e.kind) (inr refl)).made in absurd (cc made)
-saved_made P (Err e) (Err f) draft replaces before after i j saves holds = tt
+use Rattle.tink_files.specs.Saved.{left_from}
 
 -- a refusal ends a draft as it is, whatever the draft has
 pub ended_refused : (answer : Result (List ℕ) TinkError) (before after : Option (Option (List ℕ))) (e : TinkError) (result : Result (Unit {0}) TinkError)

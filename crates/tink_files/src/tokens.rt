@@ -3,9 +3,9 @@
 ghost use Rattle.std.specs.Prelude.{◌≡◌, ℕ, List, true, false, IfOk, OnErr};
 ghost use Rattle.tink_run.specs.Outside.{outside_of};
 ghost use Rattle.tink_run.specs.Run.{Told};
-ghost use Rattle.tink_run_tokens.specs.Tokens.{IsAnsweredWhole, TokenMeans};
+ghost use Rattle.tink_run_tokens.specs.Tokens.{CanAnswer, IsAnsweredWhole, TokenMeans};
 ghost use Rattle.tink_run_tokens.specs.Tokens.{RefusesSigning, RefusesVerifying, SignsTo, VerifiesTo};
-ghost use Rattle.tink_files.specs.Streams.{IsShownWhole, RanAndEnded};
+ghost use Rattle.tink_files.specs.Streams.{IsShownWhole, RanAndEnded, Succeeds};
 
 use std::alloc::Global;
 use tink_io::{Source, TinkError};
@@ -37,6 +37,12 @@ pub fn sign_to<S: Source, P: Place>(
         → IsAnsweredWhole SignsTo RefusesSigning keyset.now T G
         (outside_of S.left S.faults P.got P.faults source.new draft))
         (P.replaces place.old) (P.shown place.old) (P.shown place.new) done) }
+
+    // Told bytes: where no end fails and the keyset and the input make a token, it is shown, or there is no memory.
+    ensures succeeds { (T G : List ℕ)
+        → Told (outside_of S.left S.faults P.got P.faults source.old place.old) T G
+        → CanAnswer SignsTo RefusesSigning keyset.now T
+        → Succeeds (S.faults source.old) (S.faults source.new) (P.faults place.old) (P.faults place.new) result }
     ensures err { OnErr result (P.shown place.new ≡ P.shown place.old) }
     ensures gone { P.has_draft place.new ≡ false }
     ensures source { S.same source.old source.new }
@@ -70,6 +76,12 @@ pub fn verify_to<S: Source, P: Place>(
         → IsAnsweredWhole VerifiesTo RefusesVerifying keyset.now T G
         (outside_of S.left S.faults P.got P.faults source.new draft))
         (P.replaces place.old) (P.shown place.old) (P.shown place.new) done) }
+
+    // Told bytes: where no end fails and a key accepts the token, its payload is shown, or there is no memory.
+    ensures succeeds { (T G : List ℕ)
+        → Told (outside_of S.left S.faults P.got P.faults source.old place.old) T G
+        → CanAnswer VerifiesTo RefusesVerifying keyset.now T
+        → Succeeds (S.faults source.old) (S.faults source.new) (P.faults place.old) (P.faults place.new) result }
     ensures err { OnErr result (P.shown place.new ≡ P.shown place.old) }
     ensures gone { P.has_draft place.new ≡ false }
     ensures source { S.same source.old source.new }

@@ -1,9 +1,9 @@
 //! Files of keys are encrypted under a master keyset, and decrypted.
 
-ghost use Rattle.std.specs.Prelude.{◌≡◌, true, false, Ok, OnOk};
-ghost use Rattle.tink_proto.specs.declared.messages.keys.Keyset.{Keyset};
-ghost use Rattle.tink_wrap.specs.Masters.{IsMaster, MasterKeys, valid_in_file};
-ghost use Rattle.tink_wrap.specs.Wrapping.{unspent, unwrapped_file, wrapped_file};
+ghost use Rattle.std.specs.Prelude.{◌≡◌, true, false};
+ghost use Rattle.tink_keysets.specs.Through.{LeavesDraws};
+ghost use Rattle.tink_wrap.specs.Masters.{IsMaster, MasterKeys};
+ghost use Rattle.tink_wrap.specs.Wrapping.{unspent_file, unwrapped_file, wrapped_file};
 ghost use Rattle.tink_files.specs.Saved.{Saves};
 
 use crate::saved::save_answer;
@@ -34,9 +34,9 @@ pub fn wrap_keys<P: Place>(
         (P.faults place.old) (P.faults place.new) }
     ensures gone { P.has_draft place.new ≡ false }
 
-    // The draws are spent.
-    ensures rest { OnOk result ((m : MasterKeys) (ks : Keyset) → IsMaster m master.now
-        → valid_in_file keys.items ≡ Ok ks → draws.new ≡ unspent m aad.now draws.old ks) }
+    // Exactly the draws that the encryption took are spent.
+    ensures rest { (m : MasterKeys) → IsMaster m master.now
+        → LeavesDraws result (unspent_file m keys.items aad.now draws.old) draws.old draws.new }
 {
     let made = wrapped(alloc, master, keys, aad, format, draws);
     save_answer(place, made)

@@ -2,6 +2,8 @@
 #![tactic(auto)]
 
 #[cfg(test)]
+mod callers;
+#[cfg(test)]
 mod key_file_tests;
 #[cfg(test)]
 mod place_tests;

@@ -9,12 +9,12 @@ use tink_place::MemPlace;
 use tink_wrap::load_master;
 
 // A master keyset: an AES-GCM key of the id MMMM, under TINK.
-const MASTER: &[u8] = b"\
+pub const MASTER: &[u8] = b"\
     \x08\xcd\x9a\xb5\xea\x04\x12T\x0aH\x0a0type.googleapis.com/google.crypto.tink.AesGcmKey\x12\x12\x1a\x1001234\
     56789abcdef\x18\x01\x10\x01\x18\xcd\x9a\xb5\xea\x04 \x01";
 
 // A keyset of one key without a prefix, of the id YYYY.
-const KEYS: &[u8] = b"\
+pub const KEYS: &[u8] = b"\
     \x08\xd9\xb2\xe5\xca\x05\x12T\x0aH\x0a0type.googleapis.com/google.crypto.tink.AesGcmKey\x12\x12\x1a\x10fedcb\
     a9876543210\x18\x01\x10\x01\x18\xd9\xb2\xe5\xca\x05 \x03";
 

@@ -2,3 +2,4 @@ pub mod InputSteps
 pub mod MacFacts
 pub mod ToldLemmas
 pub mod TokenCalls
+pub mod CompleteFacts

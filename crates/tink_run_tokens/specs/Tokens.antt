@@ -1,12 +1,12 @@
 -- Tokens of what a source has: the MACs that a keyset loads as, what is made of an input, and each answer.
-use Rattle.std.specs.Prelude.{◌≡◌, ◌≤◌, ◌++◌, ℕ, List, [], length, Bool, Option, Some, Result, Ok, Err}
+use Rattle.std.specs.Prelude.{◌≡◌, ◌≤◌, ◌++◌, ℕ, List, [], length, Bool, Option, Some, Result, Ok, Err, IfErr}
 use Rattle.std.specs.Io.KnownBytes.{Appends}
 use Rattle.std.specs.Str.{bytes_eq}
 use Rattle.tink_io.specs.Faults.{Rose}
 use Rattle.tink_io.specs.Told.{made_of}
 use Rattle.tink_io.specs.Written.{AppendsPrefix}
 use Rattle.tink_io.specs.declared.error.Kind.{Kind}
-use Rattle.tink_io.specs.declared.error.Kind.TheVariants.{WriteFault, BadToken, MacMismatch}
+use Rattle.tink_io.specs.declared.error.Kind.TheVariants.{OutOfMemory, WriteFault, BadToken, MacMismatch}
 use Rattle.tink_io.specs.declared.error.TinkError.{TinkError}
 use Rattle.tink_proto.specs.declared.messages.keys.Keyset.{Keyset}
 use Rattle.tink_sets.specs.Entries.{entry_of_id}
@@ -21,7 +21,8 @@ use Rattle.tink_tokens.specs.Tokens.{IsAccepted, IsAnswered, IsNoToken, IsSigned
 use Rattle.tink.specs.Managers.{row_of}
 use Rattle.tink.specs.Registered.{with_everything}
 use Rattle.tink.specs.declared.managers.Managers.{Managers}
-use Rattle.tink_run.specs.Outside.{Outside}
+use Rattle.tink_run.specs.Outside.{HasNoFault, Outside}
+use Rattle.tink_run.specs.Run.{Told}
 use Rattle.tink_run_tokens.specs.Inputs.{input_limit, InputRefused, IsOfInput, LeavesSink}
 
 -- ---- what loads
@@ -115,6 +116,11 @@ module _ (Gives : Macs → List ℕ → List ℕ → Type 0) (Refuses : Macs →
     pub fits : length T ≤ input_limit
     pub output : List ℕ
     pub gives : Gives macs T output
+
+  -- where neither count rose and something is made of the input, the answer is Ok, or there is no memory
+  abbrev pub CompletesToken : Outside → Outside → Result (Unit {0}) TinkError → Type 0
+  CompletesToken old new answer =
+      (T G : List ℕ) → Told old T G → HasNoFault old new → CanAnswer T → IfErr answer (λ e. e.kind ≡ OutOfMemory)
 
   -- the keyset loads, and the input, which is not too long, is refused
   pub record CannotAnswer (T : List ℕ) (kind : Kind) : Type 0 where

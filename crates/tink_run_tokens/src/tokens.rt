@@ -1,11 +1,11 @@
 //! Tokens from a source to a sink.
 
-ghost use Rattle.std.specs.Prelude.{◌≡◌, ◌+◌, IfErr};
+ghost use Rattle.std.specs.Prelude.{◌≡◌, ◌+◌, ◌≤◌, IfErr};
 ghost use Rattle.tink_io.specs.Taken.{LosesAtMost};
 ghost use Rattle.tink_run.specs.Outside.{outside_of};
 ghost use Rattle.tink_run_tokens.specs.Inputs.{IsUnloadable, IsUnwritten, input_limit};
 ghost use Rattle.tink_run_tokens.specs.TokenSteps.{AreLoadedMacs, GivesMacs, MakesOfInput};
-ghost use Rattle.tink_run_tokens.specs.Tokens.{Macs, RefusesSigning, RefusesVerifying, SignsTo, TokenMeans, VerifiesTo, macs_in, macs_of};
+ghost use Rattle.tink_run_tokens.specs.Tokens.{CompletesToken, Macs, RefusesSigning, RefusesVerifying, SignsTo, TokenMeans, VerifiesTo, macs_in, macs_of};
 
 use crate::input::read_input;
 use std::alloc::Global;
@@ -33,9 +33,37 @@ pub fn write_token<S: Source, K: Sink>(
         (outside_of S.left S.faults K.got K.faults source.old sink.old)
         (outside_of S.left S.faults K.got K.faults source.new sink.new)
         result }
+
+    // Told bytes: where neither end fails, and something is made of the input, it is written, or there is no memory.
+    ensures succeeds { CompletesToken SignsTo RefusesSigning keyset.now
+        (outside_of S.left S.faults K.got K.faults source.old sink.old)
+        (outside_of S.left S.faults K.got K.faults source.new sink.new)
+        result }
     ensures taken { LosesAtMost (input_limit + 1) (S.left source.old) (S.left source.new) }
     ensures unread { IfErr result (λ e. IsUnloadable e.kind → source.new ≡ source.old) }
     ensures unwritten { IfErr result (λ e. IsUnwritten e.kind → sink.new ≡ sink.old) }
+    ensures later { K.faults sink.old ≤ K.faults sink.new }
+    ensures source { S.same source.old source.new }
+    ensures sink { K.same sink.old sink.new }
+{
+    answer_token(alloc, keyset, source, sink)
+}
+
+// What `write_token` answers. All that it promises follows from this.
+fn answer_token<S: Source, K: Sink>(
+    alloc: Global,
+    keyset: &[u8],
+    source: &mut S,
+    sink: &mut K,
+) -> Result<(), TinkError>
+    ensures answer { TokenMeans SignsTo RefusesSigning keyset.now
+        (outside_of S.left S.faults K.got K.faults source.old sink.old)
+        (outside_of S.left S.faults K.got K.faults source.new sink.new)
+        result }
+    ensures taken { LosesAtMost (input_limit + 1) (S.left source.old) (S.left source.new) }
+    ensures unread { IfErr result (λ e. IsUnloadable e.kind → source.new ≡ source.old) }
+    ensures unwritten { IfErr result (λ e. IsUnwritten e.kind → sink.new ≡ sink.old) }
+    ensures later { K.faults sink.old ≤ K.faults sink.new }
     ensures source { S.same source.old source.new }
     ensures sink { K.same sink.old sink.new }
 {
@@ -59,9 +87,37 @@ pub fn write_payload<S: Source, K: Sink>(
         (outside_of S.left S.faults K.got K.faults source.old sink.old)
         (outside_of S.left S.faults K.got K.faults source.new sink.new)
         result }
+
+    // Told bytes: where neither end fails, and something is made of the input, it is written, or there is no memory.
+    ensures succeeds { CompletesToken VerifiesTo RefusesVerifying keyset.now
+        (outside_of S.left S.faults K.got K.faults source.old sink.old)
+        (outside_of S.left S.faults K.got K.faults source.new sink.new)
+        result }
     ensures taken { LosesAtMost (input_limit + 1) (S.left source.old) (S.left source.new) }
     ensures unread { IfErr result (λ e. IsUnloadable e.kind → source.new ≡ source.old) }
     ensures unwritten { IfErr result (λ e. IsUnwritten e.kind → sink.new ≡ sink.old) }
+    ensures later { K.faults sink.old ≤ K.faults sink.new }
+    ensures source { S.same source.old source.new }
+    ensures sink { K.same sink.old sink.new }
+{
+    answer_payload(alloc, keyset, source, sink)
+}
+
+// What `write_payload` answers. All that it promises follows from this.
+fn answer_payload<S: Source, K: Sink>(
+    alloc: Global,
+    keyset: &[u8],
+    source: &mut S,
+    sink: &mut K,
+) -> Result<(), TinkError>
+    ensures answer { TokenMeans VerifiesTo RefusesVerifying keyset.now
+        (outside_of S.left S.faults K.got K.faults source.old sink.old)
+        (outside_of S.left S.faults K.got K.faults source.new sink.new)
+        result }
+    ensures taken { LosesAtMost (input_limit + 1) (S.left source.old) (S.left source.new) }
+    ensures unread { IfErr result (λ e. IsUnloadable e.kind → source.new ≡ source.old) }
+    ensures unwritten { IfErr result (λ e. IsUnwritten e.kind → sink.new ≡ sink.old) }
+    ensures later { K.faults sink.old ≤ K.faults sink.new }
     ensures source { S.same source.old source.new }
     ensures sink { K.same sink.old sink.new }
 {

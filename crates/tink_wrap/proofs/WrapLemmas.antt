@@ -1,16 +1,17 @@
 -- From the calls of a master to what is told.
-use Rattle.std.proofs.Common.{◌≡◌, ◌∙◌, inl, inr, ℕ, List, Bool, Result, Ok, Err, sym, ap, subst}
+use Rattle.std.proofs.Common.{◌≡◌, ◌⊎◌, inl, inr, ℕ, List, [], Bool, Result, Ok, Err, refl, sym, ap, subst}
 use Rattle.std.specs.Str.{bytes_eq}
 use Rattle.wire_format.specs.Message.{encoded}
 use Rattle.tink_io.specs.declared.error.Kind.{Kind}
 use Rattle.tink_io.specs.declared.error.TinkError.{TinkError}
-use Rattle.tink_io.specs.Told.{made_of, Answers}
+use Rattle.tink_io.specs.Told.{made_of, Answers, IsShort}
 use Rattle.tink_proto.specs.Messages.{keyset}
 use Rattle.tink_proto.specs.declared.messages.infos.EncryptedKeyset.{EncryptedKeyset}
 use Rattle.tink_proto.specs.declared.messages.keys.Keyset.{Keyset}
 use Rattle.tink_registry.specs.Listed.{Registered}
 use Rattle.tink_building.specs.Built.{GivesSet}
 use Rattle.tink_keysets.specs.Encrypted.{by_master, chained, decrypted, encrypted, handle_of_bytes, with_info}
+use Rattle.tink_keysets.specs.Through.{LeavesDraws}
 use Rattle.tink_aead.specs.AeadKinds.{kind_decrypts, kind_encrypts}
 use Rattle.tink_aead.specs.Rotation.{aead_entries}
 use Rattle.tink_aead.specs.Wrapped.{IsAeadOf, any_decrypts, primary_encrypts}
@@ -21,7 +22,7 @@ use Rattle.tink.specs.Managers.{row_of, Built}
 use Rattle.tink.specs.Registered.{with_everything}
 use Rattle.tink.specs.declared.managers.Managers.{Managers}
 use Rattle.tink_wrap.specs.Masters.{GivesMaster, IsMaster, MasterKeys, master_decrypts, master_in, master_keys, master_of, valid_in_file}
-use Rattle.tink_wrap.specs.Wrapping.{unspent, unwrapped_keys, wrapped_in, wrapped_keys, wraps}
+use Rattle.tink_wrap.specs.Wrapping.{unspent, unspent_by, unspent_file, unwrapped_keys, wrapped_in, wrapped_keys, wraps}
 
 -- ---- what loads
 
@@ -88,12 +89,22 @@ pub file_wrapped : (m : MasterKeys) (w : WrappedAead AeadKind) (keys aad draws :
 file_wrapped m w keys aad draws ks result is there answers =
     subst (Answers result) (sym (ap (chained (wraps m aad draws)) there)) (subst (Answers result) (same_wrap m w aad draws ks is) answers)
 
--- the draws that are left of those with which the keyset of a file was encrypted
-pub file_draws : (m : MasterKeys) (w : WrappedAead AeadKind) (keys aad draws left : List ℕ) (ks other : Keyset) → IsMaster m w
-    → valid_in_file keys ≡ Ok ks → left ≡ (encrypted (set_encrypts w) aad draws ks).1 → valid_in_file keys ≡ Ok other → left ≡ unspent m aad draws other
-file_draws m w keys aad draws left ks other is there rest again =
-    let same : ks ≡ other = cc (sym there ∙ again) in
-    rest ∙ same_draws m w aad draws ks is ∙ ap (unspent m aad draws) same
+-- whatever is answered, where the told draws are left
+pub rest_told : {T : Type 0} (result : Result T TinkError) (left before now : List ℕ) → now ≡ left → LeavesDraws result left before now
+rest_told (Ok v) left before now same = same
+rest_told (Err e) left before now same = inr same
+
+-- the draws that are left of a file whose keyset was encrypted
+pub file_draws : (m : MasterKeys) (w : WrappedAead AeadKind) (keys aad draws now : List ℕ) (ks : Keyset) (result : Result EncryptedKeyset TinkError) → IsMaster m w
+    → valid_in_file keys ≡ Ok ks → LeavesDraws result (encrypted (set_encrypts w) aad draws ks).1 draws now → LeavesDraws result (unspent_file m keys aad draws) draws now
+file_draws m w keys aad draws now ks result is there leaves =
+    subst (λ left. LeavesDraws result left draws now) (sym (ap (unspent_by m aad draws) there)) (subst (λ left. LeavesDraws result left draws now) (same_draws m w aad draws ks is) leaves)
+
+-- none are drawn where it has none
+pub undrawn : (m : MasterKeys) (keys aad draws : List ℕ) (e : TinkError) → Answers {T = Keyset} (Err e) (valid_in_file keys)
+    → IsShort e.kind draws draws ⊎ (draws ≡ unspent_file m keys aad draws)
+undrawn m keys aad draws e (inl want) = inl (record { kind = want; ends = ([], refl) })
+undrawn m keys aad draws e (inr is) = inr (rw is refl)
 
 -- the encrypted keyset of a file, decrypted
 pub file_unwrapped : (m : MasterKeys) (w : WrappedAead AeadKind) (file aad : List ℕ) (e : EncryptedKeyset) (result : Result Keyset TinkError) → IsMaster m w

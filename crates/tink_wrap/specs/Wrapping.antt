@@ -1,5 +1,5 @@
 -- A keyset that is encrypted under a master, as a file.
-use Rattle.std.specs.Prelude.{ℕ, List, Result}
+use Rattle.std.specs.Prelude.{ℕ, List, Result, Ok, Err}
 use Rattle.wire_format.specs.Message.{decoded, encoded}
 use Rattle.tink_io.specs.declared.error.Kind.{Kind}
 use Rattle.tink_io.specs.declared.error.Kind.TheVariants.{BadJson, BadKeyset}
@@ -36,6 +36,14 @@ wraps m aad draws ks = (encrypted (master_encrypts m) aad draws ks).0
 -- the draws that this leaves
 abbrev pub unspent : MasterKeys → List ℕ → List ℕ → Keyset → List ℕ
 unspent m aad draws ks = (encrypted (master_encrypts m) aad draws ks).1
+
+-- the same of a file of keys: all draws where it has no valid keyset
+abbrev pub unspent_by : MasterKeys → List ℕ → List ℕ → Result Keyset Kind → List ℕ
+unspent_by m aad draws (Err kind) = draws
+unspent_by m aad draws (Ok ks) = unspent m aad draws ks
+
+abbrev pub unspent_file : MasterKeys → List ℕ → List ℕ → List ℕ → List ℕ
+unspent_file m keys aad draws = unspent_by m aad draws (valid_in_file keys)
 
 -- the same of the valid keyset of a file of keys
 abbrev pub wrapped_keys : MasterKeys → List ℕ → List ℕ → List ℕ → Result EncryptedKeyset Kind

@@ -5,6 +5,7 @@ ghost use Rattle.wire_format.specs.Message.{encoded};
 ghost use Rattle.tink_io.specs.Told.{Answers};
 ghost use Rattle.tink_proto.specs.Messages.{keyset};
 ghost use Rattle.tink_keysets.specs.Encrypted.{decrypted, encrypted, handle_of_bytes};
+ghost use Rattle.tink_keysets.specs.Through.{LeavesDraws};
 
 use std::alloc::Global;
 use tink_io::{Draws, TinkError};
@@ -22,7 +23,8 @@ pub fn encrypt<A: Aead>(
 ) -> Result<EncryptedKeyset, TinkError>
     ensures answer { Answers result (encrypted (A.encrypts master.now) aad.now draws.old handle.now).0 }
     ensures again { OnOk result (handle_of_bytes (encoded keyset.write handle.now) ≡ Ok handle.now) }
-    ensures rest { OnOk result (draws.new ≡ (encrypted (A.encrypts master.now) aad.now draws.old handle.now).1) }
+    ensures rest { LeavesDraws result (encrypted (A.encrypts master.now) aad.now draws.old handle.now).1
+        draws.old draws.new }
 {
     let mut memory = MemReaderWriter::default();
     handle.write_with_associated_data(alloc, &mut memory, master, aad, draws)?;

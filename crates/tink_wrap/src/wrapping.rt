@@ -6,9 +6,10 @@ ghost use Rattle.tink_io.specs.Told.{Answers};
 ghost use Rattle.tink_proto.specs.Messages.{keyset};
 ghost use Rattle.tink_proto.specs.declared.messages.keys.Keyset.{Keyset};
 ghost use Rattle.tink_keysets.specs.Encrypted.{handle_of_bytes};
+ghost use Rattle.tink_keysets.specs.Through.{LeavesDraws};
 ghost use Rattle.tink_key_files.specs.declared.formats.Format.TheVariants.{Binary};
 ghost use Rattle.tink_wrap.specs.Masters.{IsMaster, MasterKeys, valid_in_file};
-ghost use Rattle.tink_wrap.specs.Wrapping.{unspent, unwrapped_file, unwrapped_keys, wrapped_file, wrapped_in, wrapped_keys};
+ghost use Rattle.tink_wrap.specs.Wrapping.{unspent_file, unwrapped_file, unwrapped_keys, wrapped_file, wrapped_in, wrapped_keys};
 
 use crate::encrypting::{decrypt, encrypt};
 use crate::master::{Master, valid_in_file};
@@ -45,9 +46,9 @@ pub fn wrapped(
     ensures held { OnOk result ((ks : Keyset) → valid_in_file keys.items ≡ Ok ks
         → handle_of_bytes (encoded keyset.write ks) ≡ Ok ks) }
 
-    // The draws are spent.
-    ensures rest { OnOk result ((m : MasterKeys) (ks : Keyset) → IsMaster m master.now
-        → valid_in_file keys.items ≡ Ok ks → draws.new ≡ unspent m aad.now draws.old ks) }
+    // Exactly the draws that the encryption took are spent.
+    ensures rest { (m : MasterKeys) → IsMaster m master.now
+        → LeavesDraws result (unspent_file m keys.items aad.now draws.old) draws.old draws.new }
 {
     let encrypted = encrypted_keys(alloc, master, keys, aad, draws)?;
     wrapped_text(alloc, format, &encrypted)
@@ -87,8 +88,8 @@ fn encrypted_keys(
         → Answers result (wrapped_keys m keys.items aad.now draws.old) }
     ensures held { OnOk result ((ks : Keyset) → valid_in_file keys.items ≡ Ok ks
         → handle_of_bytes (encoded keyset.write ks) ≡ Ok ks) }
-    ensures rest { OnOk result ((m : MasterKeys) (ks : Keyset) → IsMaster m master.now
-        → valid_in_file keys.items ≡ Ok ks → draws.new ≡ unspent m aad.now draws.old ks) }
+    ensures rest { (m : MasterKeys) → IsMaster m master.now
+        → LeavesDraws result (unspent_file m keys.items aad.now draws.old) draws.old draws.new }
 {
     let handle = valid_in_file(alloc, keys)?;
     encrypt(alloc, &handle, master, aad, draws)

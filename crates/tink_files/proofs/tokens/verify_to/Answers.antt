@@ -1,4 +1,4 @@
-use Rattle.tink_files.proofs.StreamLemmas.{ran_and_ended, shown_whole}
+use Rattle.tink_files.proofs.StreamLemmas.{ran_and_ended, shown_whole, succeeded}
 use Rattle.tink_files.proofs.TokenLemmas.{answered}
 use Rattle.tink_files.proofs.tokens.verify_to.Goals as goal
 
@@ -17,3 +17,8 @@ returns-clause-ok g c =
     let same = c.write_payload-answer.ensures.sink in
     shown_whole _ _ draft _ _ _ _ _ _ _ c.write_payload-answer.result c.finish.result (g.met.P.Place.same_replaces place draft same)
     (g.met.P.Place.same_shown place draft same) (answered _ _ _ _ _ c.write_payload-answer.result c.write_payload-answer.ensures.answer) c.finish.ensures.ends
+
+pub returns-clause-succeeds : goal.returns-clause-succeeds
+returns-clause-succeeds g c = λ T G told can.
+    succeeded _ _ _ _ _ _ _ _ _ c.write_payload-answer.result c.finish.result c.write_payload-answer.ensures.later c.finish.ensures.later c.finish.ensures.ends
+    (λ unread unwritten. c.write_payload-answer.ensures.succeeds T G told (record { reads = unread; writes = unwritten }) can)

@@ -1,16 +1,5 @@
-use Rattle.std.proofs.Common.{refl}
-use Rattle.std.proofs.lemmas.Result.{err_from_is_err_and}
-use Rattle.tink_run_tokens.specs.Tokens.{RefusesVerifying, VerifiesTo}
-use Rattle.tink_run_tokens.proofs.TokenCalls.{not_loaded, not_made, verifying_only}
+use Rattle.tink_run_tokens.proofs.CompleteFacts.{verify_completed}
 use Rattle.tink_run_tokens.proofs.tokens.write_payload.Goals as goal
 
-pub returns-in_err-macs-clause-answer : goal.returns-in_err-macs-clause-answer
-returns-in_err-macs-clause-answer g c =
-    let p = err_from_is_err_and c.from_residual.result c.from_residual.ensures.1 in
-    rw (p.1, p.2) (not_loaded VerifiesTo RefusesVerifying c.args.keyset.now _ c.in_err-macs.field-0.0 c.in_err-macs.ensures)
-
-pub returns-in_err-payload-clause-answer : goal.returns-in_err-payload-clause-answer
-returns-in_err-payload-clause-answer g c =
-    let p = err_from_is_err_and c.from_residual-in_err-payload.result c.from_residual-in_err-payload.ensures.1 in
-    let loaded = c.in_ok-macs.ensures in
-    rw (p.1, p.2) (not_made VerifiesTo RefusesVerifying c.args.keyset.now verifying_only _ _ loaded.0 _ loaded.1 refl refl (c.in_err-payload.ensures.answer loaded.0 loaded.2))
+pub returns-clause-succeeds : goal.returns-clause-succeeds
+returns-clause-succeeds g c = verify_completed c.args.keyset.now _ _ c.answer_payload.result c.answer_payload.ensures.answer

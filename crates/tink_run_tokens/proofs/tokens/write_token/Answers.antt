@@ -1,9 +1,5 @@
-use Rattle.std.proofs.lemmas.Result.{err_from_is_err_and}
-use Rattle.tink_run_tokens.specs.Tokens.{RefusesSigning, SignsTo}
-use Rattle.tink_run_tokens.proofs.TokenCalls.{not_loaded}
+use Rattle.tink_run_tokens.proofs.CompleteFacts.{sign_completed}
 use Rattle.tink_run_tokens.proofs.tokens.write_token.Goals as goal
 
-pub returns-in_err-macs-clause-answer : goal.returns-in_err-macs-clause-answer
-returns-in_err-macs-clause-answer g c =
-    let p = err_from_is_err_and c.from_residual.result c.from_residual.ensures.1 in
-    rw (p.1, p.2) (not_loaded SignsTo RefusesSigning c.args.keyset.now _ c.in_err-macs.field-0.0 c.in_err-macs.ensures)
+pub returns-clause-succeeds : goal.returns-clause-succeeds
+returns-clause-succeeds g c = sign_completed c.args.keyset.now _ _ c.answer_token.result c.answer_token.ensures.answer
