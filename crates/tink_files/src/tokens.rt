@@ -38,7 +38,7 @@ pub fn sign_to<S: Source, P: Place>(
         (outside_of S.left S.faults P.got P.faults source.new draft))
         (P.replaces place.old) (P.shown place.old) (P.shown place.new) done) }
 
-    // Told bytes: where no end fails and the keyset and the input make a token, it is shown, or there is no memory.
+    // Known bytes: where no end fails and the keyset and the input make a token, it is shown, or there is no memory.
     ensures succeeds { (T G : List ℕ)
         → Told (outside_of S.left S.faults P.got P.faults source.old place.old) T G
         → CanAnswer SignsTo RefusesSigning keyset.now T
@@ -77,7 +77,7 @@ pub fn verify_to<S: Source, P: Place>(
         (outside_of S.left S.faults P.got P.faults source.new draft))
         (P.replaces place.old) (P.shown place.old) (P.shown place.new) done) }
 
-    // Told bytes: where no end fails and a key accepts the token, its payload is shown, or there is no memory.
+    // Known bytes: where no end fails and a key accepts the token, its payload is shown, or there is no memory.
     ensures succeeds { (T G : List ℕ)
         → Told (outside_of S.left S.faults P.got P.faults source.old place.old) T G
         → CanAnswer VerifiesTo RefusesVerifying keyset.now T

@@ -34,7 +34,7 @@ pub fn write_token<S: Source, K: Sink>(
         (outside_of S.left S.faults K.got K.faults source.new sink.new)
         result }
 
-    // Told bytes: where neither end fails, and something is made of the input, it is written, or there is no memory.
+    // Known bytes: where neither end fails, and something is made of the input, it is written, or there is no memory.
     ensures succeeds { CompletesToken SignsTo RefusesSigning keyset.now
         (outside_of S.left S.faults K.got K.faults source.old sink.old)
         (outside_of S.left S.faults K.got K.faults source.new sink.new)
@@ -88,7 +88,7 @@ pub fn write_payload<S: Source, K: Sink>(
         (outside_of S.left S.faults K.got K.faults source.new sink.new)
         result }
 
-    // Told bytes: where neither end fails, and something is made of the input, it is written, or there is no memory.
+    // Known bytes: where neither end fails, and something is made of the input, it is written, or there is no memory.
     ensures succeeds { CompletesToken VerifiesTo RefusesVerifying keyset.now
         (outside_of S.left S.faults K.got K.faults source.old sink.old)
         (outside_of S.left S.faults K.got K.faults source.new sink.new)

@@ -89,7 +89,7 @@ pub file_wrapped : (m : MasterKeys) (w : WrappedAead AeadKind) (keys aad draws :
 file_wrapped m w keys aad draws ks result is there answers =
     subst (Answers result) (sym (ap (chained (wraps m aad draws)) there)) (subst (Answers result) (same_wrap m w aad draws ks is) answers)
 
--- whatever is answered, where the told draws are left
+-- whatever is answered, where the given draws are left
 pub rest_told : {T : Type 0} (result : Result T TinkError) (left before now : List ℕ) → now ≡ left → LeavesDraws result left before now
 rest_told (Ok v) left before now same = same
 rest_told (Err e) left before now same = inr same
