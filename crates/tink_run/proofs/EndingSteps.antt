@@ -83,15 +83,15 @@ longest_front k aad salt prefix text a b w =
 -- ---- what was told, and what the sink behind has got in the end
 
 -- texts that lead, by those that agree
-leads_agreed : (keys : List OpeningKey) (S : List ℕ) (ts : List (List ℕ)) (P : OpeningKey → Type 0) → AgreesUntil keys S ts P → Lead keys S ts
+pub leads_agreed : (keys : List OpeningKey) (S : List ℕ) (ts : List (List ℕ)) (P : OpeningKey → Type 0) → AgreesUntil keys S ts P → Lead keys S ts
 leads_agreed keys S [] P a = tt
 leads_agreed keys S (t ∷ ts) P a = agreed_leads keys S a.key (t ∷ ts) a.chosen a.agreed (omega arith)
 
-leads_opened : (keys : List OpeningKey) (S : List ℕ) (ts : List (List ℕ)) → ((S : List ℕ) (k : OpeningKey) → IsChosen keys S (Some k) → Lawful k) → IsOfChosen keys S ts → Lead keys S ts
+pub leads_opened : (keys : List OpeningKey) (S : List ℕ) (ts : List (List ℕ)) → ((S : List ℕ) (k : OpeningKey) → IsChosen keys S (Some k) → Lawful k) → IsOfChosen keys S ts → Lead keys S ts
 leads_opened keys S [] lawful s = tt
 leads_opened keys S (t ∷ ts) lawful s = (s.key, s.chosen, (stream_agrees s.key S (t ∷ ts) (lawful S s.key s.chosen) s.stream).0)
 
-if_told : (known : Option (List ℕ)) (P Q : List ℕ → Type 0) → ((S : List ℕ) → P S → Q S) → IfSome known P → IfSome known Q
+pub if_told : (known : Option (List ℕ)) (P Q : List ℕ → Type 0) → ((S : List ℕ) → P S → Q S) → IfSome known P → IfSome known Q
 if_told None P Q f h = tt
 if_told (Some S) P Q f h = f S h
 

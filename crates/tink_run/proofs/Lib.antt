@@ -9,6 +9,7 @@ pub mod ReadOut
 pub mod OpenSteps
 pub mod ReadsSteps
 pub mod RunSteps
+pub mod ReadEndings
 pub mod RowFacts
 pub mod LoadSteps
 mod StandardFacts

@@ -1,5 +1,5 @@
 -- How far an open has read its source, step by step.
-use Rattle.std.proofs.Common.{◌≡◌, inl, inr, ◌≤◌, ◌<◌, ◌+◌, ◌^◌, ℕ, zero, suc, Bool, List, [], ◌∷◌, ◌++◌, length, take, drop, map, max, refl, sym, ap, subst, ◌∙◌, arith, Some, None, IfSome, length-drop, take-append-drop, zero-add}
+use Rattle.std.proofs.Common.{◌≡◌, inl, inr, ◌≤◌, ◌<◌, ◌+◌, ◌^◌, ℕ, zero, suc, Bool, List, [], ◌∷◌, ◌++◌, length, take, drop, map, max, refl, sym, ap, subst, ◌∙◌, arith, Some, None, IfSome, length-drop, take-append-drop}
 use Rattle.std.proofs.lemmas.List.{append-nil, length-take}
 use Rattle.std.specs.declared.option.Option.{Option}
 use Rattle.std.specs.Prelude.{Result, Ok, Err}
@@ -24,7 +24,7 @@ use Rattle.tink_streams.proofs.ReadingFacts.{Opened}
 use Rattle.tink_run.specs.declared.report.Report.{Report}
 use Rattle.tink_run.specs.Outside.{Outside}
 use Rattle.tink_run.specs.OpenAnswers.{Lead}
-use Rattle.tink_run.specs.OpenReads.{FailsBehind, ReaderReads, ReaderReadsBy, ReadsBy, ReadsFrom, ReadsNear, ReadsWithin, StopsBehind, from_chunk, largest_of, room_under}
+use Rattle.tink_run.specs.OpenReads.{FailsBehind, ReaderReads, ReaderReadsBy, ReadsBy, ReadsFrom, ReadsNear, ReadsWithin, StopsBehind, from_chunk, largest_of}
 use Rattle.tink_run.specs.OpenSteps.{FirstRefused, ReaderMeans}
 use Rattle.tink_run.proofs.OpenLemmas.{kept_nothing}
 use Rattle.tink_run.proofs.OpenSteps.{behind, leads_under, some_agrees}

@@ -21,6 +21,7 @@ use Rattle.tink_run.specs.declared.report.Command.{Command}
 use Rattle.tink_run.specs.declared.report.Command.TheVariants.{Seal, Open}
 use Rattle.tink_run.specs.declared.report.Report.{Report}
 use Rattle.tink_run.specs.OpenAnswers.{OpenRefused, OpeningRefused}
+use Rattle.tink_run.specs.OpenReads.{OpensReading}
 use Rattle.tink_run.specs.OpenSteps.{OpensUnder, OpensUnderRefused}
 use Rattle.tink_run.proofs.OpenSteps as opening
 use Rattle.tink_run.proofs.SealSteps as sealing
@@ -101,7 +102,7 @@ are_of_keyset [] u = All-nil IsOfKeyset
 are_of_keyset (k ∷ ks) u = All-cons IsOfKeyset k.key (map (λ l. l.key) ks) u.0 (are_of_keyset ks u.1)
 
 -- what an open says under keys, it says under others of which the same is chosen
-opens_same : (ks js : List OpeningKey) (old new : Outside) → ((S : List ℕ) (c : Option OpeningKey) → IsChosen ks S c → IsChosen js S c) → (answer : Result Report TinkError)
+pub opens_same : (ks js : List OpeningKey) (old new : Outside) → ((S : List ℕ) (c : Option OpeningKey) → IsChosen ks S c → IsChosen js S c) → (answer : Result Report TinkError)
     → OpensUnder ks old new answer → OpensUnder js old new answer
 opens_same ks js old new same (Ok report) r = means_by ks js old new (λ S e. same S) (Ok report) r
 opens_same ks js old new same (Err e) r = go e.kind refl r
@@ -112,7 +113,7 @@ opens_same ks js old new same (Err e) r = go e.kind refl r
 
 -- an open under all keys of the set is an open under the keyset
 pub opens_keyset : (keyset aad draws : List ℕ) (set : TypedPrimitiveSet StreamKind) (old new : Outside) (answer : Result Report TinkError) → GivesLoaded (Ok set) (load keyset) → KeepsOrder set.entries
-    → EndsAs (OpensUnder (map (opening_key aad) (keys_in (all_entries set.entries))) old) old new answer → AnswerMeans Open keyset aad draws draws old new answer
+    → EndsAs (OpensReading (map (opening_key aad) (keys_in (all_entries set.entries))) old) old new answer → AnswerMeans Open keyset aad draws draws old new answer
 opens_keyset keyset aad draws set old new answer loads order r =
     let l : Loaded = loads.0 in
     let own : List StreamKey = map (λ k. k.key) l.keys in
@@ -120,8 +121,8 @@ opens_keyset keyset aad draws set old new answer loads order r =
     let given : List OpeningKey = map (opening_key aad) (keys_in (all_entries set.entries)) in
     let held : List OpeningKey = map (opening_key aad) own in
     let under : EndsAs (OpensUnder held old) old new answer =
-    ends_mapped (OpensUnder given old) (OpensUnder held old) old new answer
-    (λ m a. opens_same given held old m (λ S c. (choose_the_same aad S (keys_in (all_entries set.entries)) own c (are_of_keyset l.keys (loaded_usable keyset l loads.1).0) ordered).0) a) r
+    ends_mapped (OpensReading given old) (OpensUnder held old) old new answer
+    (λ m a h. opens_same given held old m (λ S c. (choose_the_same aad S (keys_in (all_entries set.entries)) own c (are_of_keyset l.keys (loaded_usable keyset l loads.1).0) ordered).0) a h.0) r
     in
     let loaded : EndsAs (OpensUnder (opening_keys aad l) old) old new answer = subst (λ (ks : List OpeningKey). EndsAs (OpensUnder ks old) old new answer) (map-map (opening_key aad) (λ k. k.key) l.keys) under in
     (opening.under_keyset keyset aad draws l old new answer loads.1 (opens_ended (opening_keys aad l) (λ S k. chosen_lawful keyset aad S l k loads.1) old new answer loaded), refl)

@@ -10,8 +10,13 @@ use Rattle.tink_io.specs.declared.error.TinkError.{TinkError}
 use Rattle.stream_model.specs.Cut.{cut}
 use Rattle.stream_model.specs.Agree.{AreTexts, joined}
 use Rattle.stream_model.specs.Opening.{OpeningKey, IsChosen, chunks_of}
+use Rattle.loading_model.specs.Loading.{Loaded, opening_keys}
+use Rattle.tink_run.specs.AllKeys.{load}
+use Rattle.tink_run.specs.declared.report.Command.{Command}
+use Rattle.tink_run.specs.declared.report.Command.TheVariants.{Seal, Open}
 use Rattle.tink_run.specs.declared.report.Report.{Report}
 use Rattle.tink_run.specs.OpenAnswers.{Lead}
+use Rattle.tink_run.specs.OpenSteps.{OpensUnder}
 use Rattle.tink_run.specs.Outside.{Outside}
 
 -- the most bytes that an output prefix and a segment have, of some keys
@@ -82,3 +87,12 @@ ReadsBy room keys old new _ = Unit {0}
 abbrev pub ReadsWithin : ℕ → List OpeningKey → Outside → Outside → Result Report TinkError → Type 0
 ReadsWithin room keys old new (Ok _) = Unit {0}
 ReadsWithin room keys old new (Err e) = ReadsBy room keys old new e.kind
+
+-- what an open under keys answers, and how far it has read by that
+abbrev pub OpensReading : List OpeningKey → Outside → Outside → Result Report TinkError → Type 0
+OpensReading keys old new answer = OpensUnder keys old new answer × ReadsWithin (room_under keys) keys old new answer
+
+-- how far an open under a keyset that loads has read by its answer; of a seal nothing is said
+abbrev pub ReadsNoFurther : Command → List ℕ → List ℕ → Outside → Outside → Result Report TinkError → Type 0
+ReadsNoFurther Seal keyset aad old new answer = Unit {0}
+ReadsNoFurther Open keyset aad old new answer = (l : Loaded) → load keyset ≡ Ok l → ReadsWithin (room_under (opening_keys aad l)) (opening_keys aad l) old new answer

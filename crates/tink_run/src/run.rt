@@ -1,4 +1,5 @@
 ghost use Rattle.std.specs.Prelude.{◌≡◌, ℕ, List, IfOk};
+ghost use Rattle.tink_run.specs.OpenReads.{ReadsNoFurther};
 ghost use Rattle.tink_run.specs.Outside.{FaultsStay, outside_of};
 ghost use Rattle.tink_run.specs.Run.{AnswerMeans, IsComplete, LeavesEnds, LeavesSinkItself, OnlyAgreeing, OkMeans, Told};
 
@@ -44,6 +45,12 @@ pub fn run<S: Source, K: Sink>(
         (outside_of S.left S.faults K.got K.faults source.new sink.new)
         result }
 
+    // How far the source of an open was read by a refusal.
+    ensures read { ReadsNoFurther command keyset.now aad.now
+        (outside_of S.left S.faults K.got K.faults source.old sink.old)
+        (outside_of S.left S.faults K.got K.faults source.new sink.new)
+        result }
+
     // A refusal that comes before anything was read or written leaves the ends themselves as they were, and
     // `NoMatchingKey` the sink.
     ensures early { LeavesEnds result source.old source.new sink.old sink.new }
@@ -67,6 +74,10 @@ fn answer<S: Source, K: Sink>(
     sink: &mut K,
 ) -> Result<Report, TinkError>
     ensures answer { AnswerMeans command keyset.now aad.now draws.old draws.new
+        (outside_of S.left S.faults K.got K.faults source.old sink.old)
+        (outside_of S.left S.faults K.got K.faults source.new sink.new)
+        result }
+    ensures read { ReadsNoFurther command keyset.now aad.now
         (outside_of S.left S.faults K.got K.faults source.old sink.old)
         (outside_of S.left S.faults K.got K.faults source.new sink.new)
         result }

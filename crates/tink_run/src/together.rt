@@ -6,8 +6,8 @@ ghost use Rattle.stream_model.specs.Opening as opening;
 ghost use Rattle.tink_stream_keys.specs.StreamKinds.{key_in_set};
 ghost use Rattle.tink_streaming_aead.specs.Wrapped.{KeepsOrder, all_entries, keys_in};
 ghost use Rattle.tink_gathered.specs.Gathering.{OnlyGrows};
-ghost use Rattle.tink_run.specs.Endings.{EndsAs, IsEndedBy};
-ghost use Rattle.tink_run.specs.OpenSteps.{OpensUnder};
+ghost use Rattle.tink_run.specs.Endings.{EndsAs, EndsBy};
+ghost use Rattle.tink_run.specs.OpenReads.{OpensReading};
 ghost use Rattle.tink_run.specs.Outside.{FaultsStay, outside_of};
 ghost use Rattle.tink_run.specs.Run.{LeavesEnds, LeavesSinkItself};
 ghost use Rattle.tink_run.specs.SealSteps.{SealsUnder};
@@ -86,7 +86,7 @@ pub fn open_together<S: Source, K: Sink>(
     sink: &mut K,
     waiting: &mut Vec<u8>,
 ) -> Result<Report, TinkError>
-    ensures answer { EndsAs (OpensUnder (map (opening.opening_key aad.now) (keys_in (all_entries set.now.entries)))
+    ensures answer { EndsAs (OpensReading (map (opening.opening_key aad.now) (keys_in (all_entries set.now.entries)))
         (outside_of S.left S.faults K.got K.faults source.old sink.old))
         (outside_of S.left S.faults K.got K.faults source.old sink.old)
         (outside_of S.left S.faults K.got K.faults source.new sink.new)

@@ -1,4 +1,4 @@
-use Rattle.std.proofs.Common.{◌≤◌, refl, arith, vec_len}
+use Rattle.std.proofs.Common.{refl, arith, vec_len}
 use Rattle.tink_streams.specs.Openers.{reader_moment, segment_map}
 use Rattle.tink_streams.specs.Reading.{ReaderMoment}
 use Rattle.tink_run.proofs.ReadsSteps.{refused_reads}

@@ -1,4 +1,5 @@
 use Rattle.std.proofs.lemmas.Result.{err_from_is_err_and}
+use Rattle.tink_run.proofs.ReadEndings.{reads_keyset, reads_no_room, reads_unloaded}
 use Rattle.tink_run.proofs.RunSteps.{leaves_same, no_room, not_loaded, opens_keyset, seal_unwritten, seals_keyset, untouched}
 use Rattle.tink_run.proofs.run.answer.Goals as goal
 
@@ -28,3 +29,20 @@ returns-in-Seal-clause-unwritten g c = seal_unwritten _ _ _ _ _ _ c.seal_togethe
 pub returns-clause-answer : goal.returns-clause-answer
 returns-clause-answer g c = rw c.in-Open.is
     (opens_keyset c.args.keyset.now c.args.aad.now c.args.draws.now c.in_ok-keys.keys _ _ c.open_together.result c.in_ok-keys.ensures.answer c.open_together.ensures.order c.open_together.ensures.answer)
+
+pub returns-in_err-keys-clause-read : goal.returns-in_err-keys-clause-read
+returns-in_err-keys-clause-read g c =
+    let returned = err_from_is_err_and c.from_residual.result c.from_residual.ensures.1 in
+    rw (returned.1, returned.2) (reads_unloaded c.args.command c.args.keyset.now c.args.aad.now _ _ c.in_err-keys.field-0.0 c.in_err-keys.ensures.answer)
+
+pub returns-in_err-waiting-clause-read : goal.returns-in_err-waiting-clause-read
+returns-in_err-waiting-clause-read g c =
+    let returned = err_from_is_err_and c.from_residual-in_err-waiting.result c.from_residual-in_err-waiting.ensures.1 in
+    rw (returned.1, returned.2) (reads_no_room c.args.command c.args.keyset.now c.args.aad.now _ _ c.in_err-waiting.field-0.0 c.in_err-waiting.ensures.refused)
+
+pub returns-in-Seal-clause-read : goal.returns-in-Seal-clause-read
+returns-in-Seal-clause-read g c = rw c.in-Seal.is tt
+
+pub returns-clause-read : goal.returns-clause-read
+returns-clause-read g c = rw c.in-Open.is
+    (reads_keyset c.args.keyset.now c.args.aad.now c.in_ok-keys.keys _ _ c.open_together.result c.in_ok-keys.ensures.answer c.open_together.ensures.order c.open_together.ensures.answer)

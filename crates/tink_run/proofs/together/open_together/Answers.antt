@@ -2,7 +2,7 @@ use Rattle.std.proofs.Common.{rules, arith, ap, subst, map}
 use Rattle.tink_gathered.specs.Gathering.{OnlyGrows}
 use Rattle.stream_model.specs.Opening.{opening_key}
 use Rattle.tink_streaming_aead.specs.Wrapped.{all_entries, keys_in}
-use Rattle.tink_run.specs.OpenSteps.{OpensUnder}
+use Rattle.tink_run.specs.OpenReads.{OpensReading}
 use Rattle.tink_run.specs.Endings.{EndsAs}
 use Rattle.tink_run.specs.Outside.{Outside, outside_of}
 use Rattle.tink_run.proofs.EndingSteps.{begins_as, early_ends, ends_as}
@@ -21,7 +21,7 @@ returns-clause-answer g c =
     let same = c.open-answer.ensures.sink in
     let grows : OnlyGrows old.got (got then.sink.now) = subst (λ k. OnlyGrows (got k) (got then.sink.now)) c.new-gathered.ensures.sink same.3 in
     let early = early_ends got faults (λ s. s.sink.now) (λ s. s.waiting.now.items) c.open-answer.result c.ended.result c.args.source.now c.open-answer.new.source first then last.sink.now c.new-gathered.ensures.empty c.open-answer.ensures.early c.ended.ensures.still in
-    subst (λ k. EndsAs (OpensUnder (map (opening_key c.args.aad.now) (keys_in (all_entries c.args.set.now.entries))) old) old (outside_of left reads got faults c.open-answer.new.source k) c.ended.result) (search rules)
-    (ends_as (OpensUnder (map (opening_key c.args.aad.now) (keys_in (all_entries c.args.set.now.entries)))) _ old (left c.open-answer.new.source) (reads c.open-answer.new.source) (got then.sink.now) _ (got last.sink.now) (faults then.sink.now) (faults last.sink.now) c.open-answer.result c.ended.result
+    subst (λ k. EndsAs (OpensReading (map (opening_key c.args.aad.now) (keys_in (all_entries c.args.set.now.entries))) old) old (outside_of left reads got faults c.open-answer.new.source k) c.ended.result) (search rules)
+    (ends_as (OpensReading (map (opening_key c.args.aad.now) (keys_in (all_entries c.args.set.now.entries)))) _ old (left c.open-answer.new.source) (reads c.open-answer.new.source) (got then.sink.now) _ (got last.sink.now) (faults then.sink.now) (faults last.sink.now) c.open-answer.result c.ended.result
     (begins_as got faults (left c.args.source.now) (reads c.args.source.now) first.sink.now c.args.sink.now first.waiting.now.items c.new-gathered.ensures.sink c.new-gathered.ensures.empty)
-    c.open-answer.ensures.answer c.ended.ensures.ends grows c.ended.ensures.grows (omega (arith, ap faults c.new-gathered.ensures.sink, c.open-answer.ensures.later.writes)) c.ended.ensures.later early)
+    (c.open-answer.ensures.answer, c.open-answer.ensures.read) c.ended.ensures.ends grows c.ended.ensures.grows (omega (arith, ap faults c.new-gathered.ensures.sink, c.open-answer.ensures.later.writes)) c.ended.ensures.later early)
