@@ -9,7 +9,7 @@ use Rattle.std.proofs.lemmas.Bool.{false≢true}
 use Rattle.std.proofs.lemmas.List.Elements.{All-contains, All-contains_itself, All-filter, All-head, All-tail, All-weaker, All-cons, All-nil}
 use Rattle.std.proofs.lemmas.Simd.{map-map}
 use Rattle.tink_io.specs.Taken.{LosesAtMost}
-use Rattle.tink_io.specs.Written.{AppendsFront}
+use Rattle.tink_io.specs.Written.{AppendsPrefix}
 use Rattle.tink_io.specs.declared.error.Kind.{Kind}
 use Rattle.tink_io.specs.declared.error.Kind.TheVariants.{OutOfMemory, ReadFault, WriteFault, TooManySegments, NoMatchingKey, BadSegment, Truncated}
 use Rattle.tink_io.specs.declared.error.TinkError.{TinkError}
@@ -30,7 +30,7 @@ use Rattle.tink_run.specs.HeldKeys.{GivesLoaded}
 use Rattle.tink_run.specs.declared.report.Command.{Command}
 use Rattle.tink_run.specs.declared.report.Command.TheVariants.{Seal, Open}
 use Rattle.tink_run.specs.declared.report.Report.{Report}
-use Rattle.tink_run.specs.Endings.{EndsAs, EndsBy, IsRefusedEarly}
+use Rattle.tink_run.specs.Endings.{EndsAs, IsEndedBy, IsRefusedEarly}
 use Rattle.tink_run.specs.OpenAnswers.{AgreesUntil, IsOfChosen, Lead, chunk_of}
 use Rattle.tink_run.specs.OpenReads.{OpensReading, ReadsBy, ReadsNear, ReadsNoFurther, ReadsWithin, StopsBehind, from_chunk, room_under}
 use Rattle.tink_run.specs.OpenSteps.{OpensUnder, OpensUnderRefused}
@@ -77,7 +77,7 @@ module _ (room : ℕ) (keys : List OpeningKey) (old new : Outside) (told : Optio
   kept_by kept (BadSegment n) r = r
   kept_by kept TooManySegments r = r
   kept_by kept ReadFault r = handed Appends Appends (λ bs w. Appends-kept old.got told new.got bs w kept) r
-  kept_by kept WriteFault r = handed AppendsFront AppendsFront (λ bs w. kept_after old.got told new.got bs kept w) r
+  kept_by kept WriteFault r = handed AppendsPrefix AppendsPrefix (λ bs w. kept_after old.got told new.got bs kept w) r
   kept_by kept _ r = tt
 
   reads_handed : Keeps told new.got → (answer : Result Report TinkError) → ReadsWithin room keys old first_end answer → ReadsWithin room keys old new answer
@@ -86,14 +86,14 @@ module _ (room : ℕ) (keys : List OpeningKey) (old new : Outside) (told : Optio
 
   -- a part was handed on
   module _ (grows : OnlyGrows old.got new.got) (short : IsCutShort told new.got) where
-    part : (bs : List ℕ) → AppendsFront old.got told bs → AppendsFront old.got new.got bs
+    part : (bs : List ℕ) → AppendsPrefix old.got told bs → AppendsPrefix old.got new.got bs
     part bs w = cut_front old.got told new.got bs grows short w
 
-    part_of : (bs : List ℕ) → Appends old.got told bs → AppendsFront old.got new.got bs
+    part_of : (bs : List ℕ) → Appends old.got told bs → AppendsPrefix old.got new.got bs
     part_of bs w = part bs (whole_front old.got told bs w)
 
     until : (n : ℕ) (texts : List (List ℕ)) (P : List ℕ → OpeningKey → Type 0) → n ≡ length texts → IfSome old.left (λ S. AgreesUntil keys S texts (P S)) → Appends old.got told (joined texts) → ReadsNear room keys n old.left new.left
-        → StopsBehind AppendsFront room keys old new
+        → StopsBehind AppendsPrefix room keys old new
     until n texts P number stream w near = record {
       texts = texts;
       lead = if_told old.left (λ S. AgreesUntil keys S texts (P S)) (λ S. Lead keys S texts) (λ S a. leads_agreed keys S texts (P S) a) stream;
@@ -101,7 +101,7 @@ module _ (room : ℕ) (keys : List OpeningKey) (old new : Outside) (told : Optio
       written = part_of (joined texts) w;
     }
 
-    cut_by : (kind : Kind) → (IsEarly kind → ⊥) → OpensUnderRefused keys old first_end kind → ReadsBy room keys old first_end kind → StopsBehind AppendsFront room keys old new
+    cut_by : (kind : Kind) → (IsEarly kind → ⊥) → OpensUnderRefused keys old first_end kind → ReadsBy room keys old first_end kind → StopsBehind AppendsPrefix room keys old new
     cut_by OutOfMemory early o r = absurd (early tt)
     cut_by NoMatchingKey early o r = record {
       texts = [];
@@ -112,12 +112,12 @@ module _ (room : ℕ) (keys : List OpeningKey) (old new : Outside) (told : Optio
     cut_by (Truncated n) early o r = until n o.texts (λ S k. (0 < length (chunk_of k S n)) × (length (chunk_of k S n) < k.overhead)) o.number o.stream o.written r
     cut_by (BadSegment n) early o r = until n o.texts (λ S k. k.overhead ≤ length (chunk_of k S n)) o.number o.stream o.written r
     cut_by TooManySegments early o r = until (2 ^ 32) o.texts (λ S k. 2 ^ 32 < length (chunks_of k S)) (sym o.number) o.stream o.written r
-    cut_by ReadFault early o r = handed Appends AppendsFront part_of r
-    cut_by WriteFault early o r = handed AppendsFront AppendsFront part r
+    cut_by ReadFault early o r = handed Appends AppendsPrefix part_of r
+    cut_by WriteFault early o r = handed AppendsPrefix AppendsPrefix part r
     cut_by _ early o r = absurd o
 
     reads_cut : ((S : List ℕ) (k : OpeningKey) → IsChosen keys S (Some k) → Lawful k) → (answer : Result Report TinkError) → (IsRefusedEarly answer → ⊥) → OpensUnder keys old first_end answer → ReadsWithin room keys old first_end answer
-        → StopsBehind AppendsFront room keys old new
+        → StopsBehind AppendsPrefix room keys old new
     reads_cut lawful (Ok report) early o r = record {
       texts = o.texts;
       lead = if_told old.left (λ S. IsOfChosen keys S o.texts) (λ S. Lead keys S o.texts) (λ S s. leads_opened keys S o.texts lawful s) o.stream;
@@ -130,7 +130,7 @@ module _ (room : ℕ) (keys : List OpeningKey) (old new : Outside) (told : Optio
 reads_ended : (keys : List OpeningKey) → ((S : List ℕ) (k : OpeningKey) → IsChosen keys S (Some k) → Lawful k) → (old new : Outside) (ended : Result Report TinkError) → EndsAs (OpensReading keys old) old new ended → ReadsWithin (room_under keys) keys old new ended
 reads_ended keys lawful old new ended r = go r.ends
   where
-    go : EndsBy r.told new.got r.faults new.write_faults r.answer ended → ReadsWithin (room_under keys) keys old new ended
+    go : IsEndedBy r.told new.got r.faults new.write_faults r.answer ended → ReadsWithin (room_under keys) keys old new ended
     go (inl w) = subst (ReadsWithin (room_under keys) keys old new) (sym w.is) (reads_handed (room_under keys) keys old new r.told r.faults w.kept r.answer r.meant.1)
     go (inr w) =
         subst (ReadsWithin (room_under keys) keys old new) (sym w.is)
@@ -160,7 +160,7 @@ module _ (room : ℕ) (ks js : List OpeningKey) (old new : Outside) (same : (S :
   reads_by (BadSegment n) r = near_to n old.left new.left r
   reads_by TooManySegments r = near_to (2 ^ 32) old.left new.left r
   reads_by ReadFault r = stops_to Appends r
-  reads_by WriteFault r = stops_to AppendsFront r
+  reads_by WriteFault r = stops_to AppendsPrefix r
   reads_by _ r = tt
 
   reads_to : (answer : Result Report TinkError) → ReadsWithin room ks old new answer → ReadsWithin room js old new answer

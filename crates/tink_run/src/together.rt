@@ -6,7 +6,7 @@ ghost use Rattle.stream_model.specs.Opening as opening;
 ghost use Rattle.tink_stream_keys.specs.StreamKinds.{key_in_set};
 ghost use Rattle.tink_streaming_aead.specs.Wrapped.{KeepsOrder, all_entries, keys_in};
 ghost use Rattle.tink_gathered.specs.Gathering.{OnlyGrows};
-ghost use Rattle.tink_run.specs.Endings.{EndsAs, EndsBy};
+ghost use Rattle.tink_run.specs.Endings.{EndsAs, IsEndedBy};
 ghost use Rattle.tink_run.specs.OpenReads.{OpensReading};
 ghost use Rattle.tink_run.specs.Outside.{FaultsStay, outside_of};
 ghost use Rattle.tink_run.specs.Run.{LeavesEnds, LeavesSinkItself};
