@@ -12,4 +12,4 @@ returns-in-Ok-clause-written g c =
 pub returns-in-Err-clause-front : goal.returns-in-Err-clause-front
 returns-in-Err-clause-front g c =
     let part = part_is c.args.lo c.args.hi c.args.at _ _ c.args.text.now c.saturating_sub-from.ensures c.min-to.ensures c.requires.range c.requires.touched in
-    subst (AppendsPrefix (g.K.Sink.got c.args.sink.now) (g.K.Sink.got c.write_all.new.sink)) part c.in-Err.ensures.front
+    subst (AppendsPrefix (g.K.Sink.got c.args.sink.now) (g.K.Sink.got c.write_all.new.sink)) part c.in-Err.ensures.prefix
