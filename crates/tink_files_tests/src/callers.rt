@@ -1,17 +1,26 @@
-//! The caller that the README of `tink_wrap` shows.
+//! The callers that the READMEs of `tink_wrap` and `tink_run_range` show.
 
-ghost use Rattle.std.specs.Prelude.{◌≡◌, codes, IfOk, Ok};
+ghost use Rattle.std.specs.Prelude.{◌≡◌, ◌<◌, codes, IfOk, Ok};
 ghost use Rattle.tink_key_files.specs.declared.formats.Format.TheVariants.{Json};
 ghost use Rattle.tink_wrap.specs.Masters.{MasterKeys, master_of};
 ghost use Rattle.tink_wrap.specs.Wrapping.{wrapped_file};
 
 use crate::saving_tests::{KEYS, MASTER};
+use crate::task_tests::{CTR, TEXT};
 use std::alloc::Global;
+use std::marker::Brand;
+use std::sync::ledger::{Blank, Ledger};
 use std::test::Fail;
-use tink_io::{Draws, TinkError};
+use tink_io::{Draws, Sink, SureSink, TinkError};
 use tink_key_files::Format;
 use tink_proto::Bytes;
+use tink_range::{MemAt, ReadAt, Steps};
+use tink_run_range::run_range;
 use tink_wrap::{load_master, unwrapped, wrapped};
+
+// The text of `task_tests` as a stream under its first key, with no associated data, by an independent model.
+const SEALED: &str =
+    "18000102030405060708090a0b0c0d0e0f10111213141516275b866114537f392a3c3a5d7d3112dce59a4783fcd25e0bca55b71b31a3f6a811c345e67c81d439";
 
 // A file of keys, encrypted under those of another file, as JSON.
 fn wrapped_under(
@@ -46,9 +55,56 @@ fn is_wrapped(alloc: Global) -> Result<bool, Fail> {
     Ok(again.as_slice() == KEYS && Format::of_file(wrapped.as_slice()) == Format::Json)
 }
 
+// A page of 4,096 bytes of a sealed file, without associated data.
+fn page<A: ReadAt, K: Sink, L: Ledger>(
+    alloc: Global,
+    keyset: &[u8],
+    file: &mut A,
+    number: u32,
+    sink: &mut K,
+    steps: &mut Steps<L>,
+) -> Result<u64, TinkError> {
+    run_range(
+        alloc,
+        keyset,
+        &[],
+        file,
+        u64::from(number) * 4096,
+        4096,
+        sink,
+        steps,
+    )
+}
+
+// The first page, by a ledger of steps.
+fn page_of<L: Ledger>(
+    alloc: Global,
+    keyset: &[u8],
+    file: &mut MemAt,
+    sink: &mut SureSink,
+    blank: Blank,
+) -> Result<u64, TinkError>
+    requires name { blank.name ≡ L.name }
+    requires parts { blank.parts ≡ L.parts }
+    requires some { 0 < blank.parts }
+{
+    let mut steps = Steps::<L>::new(blank);
+    page(alloc, keyset, file, 0, sink, &mut steps)
+}
+
+// Whether the first page of a sealed file is its text.
+fn is_page(alloc: Global) -> Result<bool, Fail> {
+    let mut file = MemAt::new(hex::decode(alloc, SEALED)?, 0, Vec::new(alloc));
+    let keyset = hex::decode(alloc, CTR)?;
+    let mut sink = SureSink::new(alloc);
+    sink.reserve(alloc, 20)?;
+    let count = page_of::<Brand>(alloc, &keyset, &mut file, &mut sink, Blank::new(1))?;
+    Ok(count == 20 && sink.bytes() == TEXT)
+}
+
 #[test]
-fn a_file_is_wrapped_and_unwrapped(rt: HostRuntime) -> Result<(), Fail> {
-    let is_wrapped = is_wrapped(rt.alloc())?;
-    assert!(rt; is_wrapped);
+fn callers_do_what_they_say(rt: HostRuntime) -> Result<(), Fail> {
+    let (is_wrapped, is_page) = (is_wrapped(rt.alloc())?, is_page(rt.alloc())?);
+    assert!(rt; is_wrapped && is_page);
     Ok(())
 }

@@ -14,7 +14,7 @@ use tink_range::{MemAt, Steps};
 use tink_run::report::{Command, Report};
 
 // A raw key in counter mode, with segments of 35 bytes and tags of 10.
-const CTR: &str =
+pub const CTR: &str =
     "0884868808126e0a630a3d747970652e676f6f676c65617069732e636f6d2f676f6f676c652e63727970746f2e74696e6b2e416573437472486d616353747265616d696e674b65791220120c08231010180322040803100a1a10000102030405060708090a0b0c0d0e0f1801100118848688082003";
 
 // A raw key by GCM, with segments of 41 bytes.
@@ -25,7 +25,7 @@ const GCM: &str =
 const MACS: &str =
     "080712540a4c0a2e747970652e676f6f676c65617069732e636f6d2f676f6f676c652e63727970746f2e74696e6b2e486d61634b657912181204080310101a10202122232425262728292a2b2c2d2e2f1801100118072001";
 
-const TEXT: &[u8] = b"a text of two chunks";
+pub const TEXT: &[u8] = b"a text of two chunks";
 
 // Its streams by an independent model: under the first key with the data `May`, and under the second with `June`.
 const SEALED: &str =
