@@ -1,8 +1,9 @@
 //! The callers that the READMEs of `tink_wrap` and `tink_run_range` show.
 
-ghost use Rattle.std.specs.Prelude.{◌≡◌, ◌<◌, codes, IfOk, Ok};
+ghost use Rattle.std.specs.Prelude.{◌≡◌, ◌<◌};
+ghost use Rattle.tink_io.specs.Told.{Answers};
 ghost use Rattle.tink_key_files.specs.declared.formats.Format.TheVariants.{Json};
-ghost use Rattle.tink_wrap.specs.Masters.{MasterKeys, master_of};
+ghost use Rattle.tink_wrap.specs.Masters.{IsMaster, MasterKeys};
 ghost use Rattle.tink_wrap.specs.Wrapping.{wrapped_file};
 
 use crate::saving_tests::{KEYS, MASTER};
@@ -16,35 +17,32 @@ use tink_key_files::Format;
 use tink_proto::Bytes;
 use tink_range::{MemAt, ReadAt, Steps};
 use tink_run_range::run_range;
-use tink_wrap::{load_master, unwrapped, wrapped};
+use tink_wrap::{Master, load_master, unwrapped, wrapped};
 
 // The text of `task_tests` as a stream under its first key, with no associated data, by an independent model.
 const SEALED: &str =
     "18000102030405060708090a0b0c0d0e0f10111213141516275b866114537f392a3c3a5d7d3112dce59a4783fcd25e0bca55b71b31a3f6a811c345e67c81d439";
 
 // A file of keys, encrypted under those of another file, as JSON.
-fn wrapped_under(
+fn wrapped_as_json(
     alloc: Global,
-    master_file: Vec<u8>,
+    master: &Master,
     keys: Vec<u8>,
+    aad: &[u8],
     draws: &mut Draws,
 ) -> Result<Bytes, TinkError>
-    ensures { IfOk result (λ file. (m : MasterKeys) × (master_of master_file.items ≡ Ok m)
-        × (wrapped_file m keys.items (codes "its name") Json draws.old ≡ Ok file)) }
+    ensures { (m : MasterKeys) → IsMaster m master.now
+        → Answers result (wrapped_file m keys.items aad.now Json draws.old) }
 {
-    let master = load_master(alloc, master_file)?;
-    wrapped(alloc, &master, keys, b"its name", Format::Json, draws)
+    wrapped(alloc, master, keys, aad, Format::Json, draws)
 }
 
 // Whether a file of keys is wrapped as JSON, and unwrapped to the same.
 fn is_wrapped(alloc: Global) -> Result<bool, Fail> {
     let mut draws = Draws::new(Vec::from_slice(alloc, b"twelve bytes")?);
-    let (file, keys) = (
-        Vec::from_slice(alloc, MASTER)?,
-        Vec::from_slice(alloc, KEYS)?,
-    );
-    let wrapped = wrapped_under(alloc, file, keys, &mut draws)?;
     let master = load_master(alloc, Vec::from_slice(alloc, MASTER)?)?;
+    let keys = Vec::from_slice(alloc, KEYS)?;
+    let wrapped = wrapped_as_json(alloc, &master, keys, b"its name", &mut draws)?;
     let again = unwrapped(
         alloc,
         &master,
