@@ -1,8 +1,8 @@
 #!/usr/bin/env bash
 # Times sealing beside the same work by Rust's own ciphers without the processor's instructions: AES-128 in counter
 # mode by eight blocks (`aes`), and HMAC-SHA-256 (`hmac`, `sha2`) over segments of 4 KiB, from Debian's packages
-# librust-aes-dev, librust-hmac-dev and librust-sha2-dev. Prints the best of three rounds, or of as many as the first
-# word says, and nothing but a sentence where cargo or a package is not there. It needs python3.
+# librust-aes-dev, librust-hmac-dev and librust-sha2-dev. Prints the least processor time of three rounds, or of as
+# many as the first word says, and nothing but a sentence where cargo or a package is not there. It needs python3.
 set -euo pipefail
 root=$(dirname -- "$(dirname -- "$(readlink -f -- "${BASH_SOURCE[0]}")")")
 registry=/usr/share/cargo/registry
@@ -104,9 +104,17 @@ fn main() -> io::Result<()> {
 RUST
 (cd "$folder/peer" && cargo build --release --offline >&2)
 python3 - "$root/crates/tink_tool/out/tink_tool" "$folder/peer/target/release/peer" "${1:-3}" "$folder" <<'PY'
-import hashlib, subprocess, sys, time
+import hashlib, resource, subprocess, sys
 
 tool, peer, rounds, folder = sys.argv[1], sys.argv[2], int(sys.argv[3]), sys.argv[4]
+
+
+def spent():
+    """The processor time of all children so far."""
+    it = resource.getrusage(resource.RUSAGE_CHILDREN)
+    return it.ru_utime + it.ru_stime
+
+
 SIZE, SEED = 64 << 20, bytes(range(32)).hex()
 text = b"".join(b"%d\n" % it for it in range(10**8, 10**8 + SIZE // 10 + 1))[:SIZE]
 with open(f"{folder}/text", "wb") as it:
@@ -118,9 +126,9 @@ best = {}
 for _ in range(rounds):
     for name, words in works.items():
         with open(f"{folder}/text", "rb") as file:
-            start = time.perf_counter()
+            before = spent()
             subprocess.run(words, stdin=file, stdout=subprocess.DEVNULL, check=True)
-            best[name] = min(time.perf_counter() - start, best.get(name, 1e9))
+            best[name] = min(spent() - before, best.get(name, 1e9))
 peers = best["AES-128-CTR and HMAC-SHA-256 of `aes`, `hmac`, `sha2`"]
 print("| work, 64 MiB | MB/s | speed as a part of that of Rust's ciphers |")
 print("|---|---|---|")
