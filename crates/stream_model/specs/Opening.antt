@@ -82,13 +82,13 @@ IsChosen (k ∷ ks) S chosen = (Begins k S × (chosen ≡ Some k)) ⊎ ((Begins 
 
 -- the segments of the texts in order, numbered from i: all but the last fill their room, the last fits it, and the last alone is marked
 abbrev pub AreSegments : (ℕ → Bool → List ℕ → List ℕ) → ℕ → ℕ → ℕ → List ℕ → List (List ℕ) → Type 0
-AreSegments seg i a b X [] = ⊥
-AreSegments seg i a b X (t ∷ []) = (i < 2 ^ 32) × (length t ≤ a) × (X ≡ seg i true t)
-AreSegments seg i a b X (t ∷ u ∷ ts) = (i < 2 ^ 32) × (length t ≡ a) × ((Y : List ℕ) × (X ≡ seg i false t ++ Y) × AreSegments seg (i + 1) b b Y (u ∷ ts))
+AreSegments seg i first room X [] = ⊥
+AreSegments seg i first room X (t ∷ []) = (i < 2 ^ 32) × (length t ≤ first) × (X ≡ seg i true t)
+AreSegments seg i first room X (t ∷ u ∷ ts) = (i < 2 ^ 32) × (length t ≡ first) × ((Y : List ℕ) × (X ≡ seg i false t ++ Y) × AreSegments seg (i + 1) room room Y (u ∷ ts))
 
 abbrev pub AreSegmentsBy : Option (ℕ → Bool → List ℕ → List ℕ) → ℕ → ℕ → List ℕ → List (List ℕ) → Type 0
-AreSegmentsBy None a b X texts = ⊥
-AreSegmentsBy (Some seg) a b X texts = AreSegments seg 0 a b X texts
+AreSegmentsBy None first room X texts = ⊥
+AreSegmentsBy (Some seg) first room X texts = AreSegments seg 0 first room X texts
 
 -- the stream is a front of the key and then the segments of these texts
 pub record IsStream (k : OpeningKey) (S : List ℕ) (texts : List (List ℕ)) : Type 0 where

@@ -4,7 +4,7 @@ ghost use Rattle.std.specs.Prelude.{◌≡◌, ℕ, List, true, false, IfOk, OnE
 ghost use Rattle.tink_run.specs.Outside.{outside_of};
 ghost use Rattle.tink_run.specs.Run.{AnswerMeans, CanSucceed, OkMeans, Told};
 ghost use Rattle.tink_rewrap.specs.Promises.{CanRewrap, IsWholeRewrap};
-ghost use Rattle.tink_rewrap.specs.Rewrapping.{RewrapMeans, Sides};
+ghost use Rattle.tink_rewrap.specs.Rewrapping.{RewrapMeans, sides};
 ghost use Rattle.tink_files.specs.Streams.{IsShownWhole, RanAndEnded, Succeeds};
 
 use std::alloc::Global;
@@ -74,7 +74,7 @@ pub fn rewrap_to<S: Source, P: Place>(
 
     // `rewrap` wrote the draft, and by its answer the draft was shown or taken away.
     ensures ran { RanAndEnded P.got P.faults (λ draft answer. RewrapMeans
-        (record { from = from.now; from_aad = from_aad.now; to = to.now; to_aad = to_aad.now })
+        (sides from.now from_aad.now to.now to_aad.now)
         draws.old draws.new (outside_of S.left S.faults P.got P.faults source.old place.old)
         (outside_of S.left S.faults P.got P.faults source.new draft) answer)
         (P.replaces place.old) (P.shown place.old) (P.shown place.new) (P.faults place.new) result }
@@ -84,14 +84,14 @@ pub fn rewrap_to<S: Source, P: Place>(
     ensures ok { IfOk result (λ report. IsShownWhole P.got (λ draft value. (T G : List ℕ)
         → Told (outside_of S.left S.faults P.got P.faults source.old place.old) T G
         → IsWholeRewrap
-        (record { from = from.now; from_aad = from_aad.now; to = to.now; to_aad = to_aad.now })
+        (sides from.now from_aad.now to.now to_aad.now)
         draws.old draws.new T G (outside_of S.left S.faults P.got P.faults source.new draft) value)
         (P.replaces place.old) (P.shown place.old) (P.shown place.new) report) }
 
     // Known bytes: where no end fails and the stream can be moved, it is, or there is no memory.
     ensures succeeds { (T G : List ℕ)
         → Told (outside_of S.left S.faults P.got P.faults source.old place.old) T G
-        → CanRewrap (record { from = from.now; from_aad = from_aad.now; to = to.now; to_aad = to_aad.now })
+        → CanRewrap (sides from.now from_aad.now to.now to_aad.now)
         draws.old T
         → Succeeds (S.faults source.old) (S.faults source.new) (P.faults place.old) (P.faults place.new) result }
     ensures err { OnErr result (P.shown place.new ≡ P.shown place.old) }

@@ -16,7 +16,7 @@ use Rattle.tink_streams.specs.declared.sealer.Sealer.{Sealer}
 use Rattle.tink_streams.specs.declared.writing.SegmentWriter.{SegmentWriter}
 use Rattle.tink_streams.specs.declared.writing.Mode.TheVariants.{Open, Closed}
 use Rattle.tink_streams.specs.Writing.{WriterMoment, filled, Wrote, WriteRefused, CloseRefused, ClosedBy}
-use Rattle.tink_streams.proofs.WritingFacts.{stops_front}
+use Rattle.tink_streams.proofs.WritingFacts.{stops_prefix}
 use Rattle.tink_streams.proofs.ReadingFacts.{numbered_longer}
 use Rattle.tink_segments.specs.StreamSegments.{length-segment_by, overhead_by, segment_by}
 use Rattle.tink_segments.specs.declared.stream_segment.StreamSegment.{StreamSegment}
@@ -88,7 +88,7 @@ front_short G bs f = omega (arith, ap length f.2, length-take f.0 bs)
 pub not_refused : (seg : ℕ → Bool → List ℕ → List ℕ) (a b : ℕ) (m n : WriterMoment) (piece G : List ℕ) (o room : ℕ) (k : Kind) → Fills seg a b m piece o → m.mode ≡ Open → m.got ≡ Some [] → n.got ≡ Some G
     → m.number + 1 < 2 ^ 32 → b + o < room → (0 < n.faults → room ≤ length G) → WriteRefused seg a b m n piece k → ⊥
 not_refused seg a b m n piece G o room WriteFault f is_open got now few wide full r =
-    let front : AppendsPrefix m.got n.got (unmarked seg m.number (filled a b m piece)) = stops_front seg m.number n.number (filled a b m piece) m.got n.got r.stops in
+    let front : AppendsPrefix m.got n.got (unmarked seg m.number (filled a b m piece)) = stops_prefix seg m.number n.number (filled a b m piece) m.got n.got r.stops in
     let told : AppendsPrefix (Some []) (Some G) (unmarked seg m.number (filled a b m piece)) =
     subst (λ (x : Option (List ℕ)). AppendsPrefix x (Some G) (unmarked seg m.number (filled a b m piece))) got
     (subst (λ (y : Option (List ℕ)). AppendsPrefix m.got y (unmarked seg m.number (filled a b m piece))) now front)

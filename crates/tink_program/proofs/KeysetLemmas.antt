@@ -176,9 +176,9 @@ rotate_facts keyset template seed old new (Refused kind) m = record {
 
 -- ---- what is written, and when a keyset is made
 
-front : (r : Rotation) (old new : Outside) (by : Kind) → KeysetMeans r old new (Refused by) → kind_status by ≡ 12 → (text : List ℕ) × IsLine r text × WrotePrefix old new text
-front r old new WriteFault m is = m
-front r old new _ m is = absurd (omega (arith, is))
+prefix : (r : Rotation) (old new : Outside) (by : Kind) → KeysetMeans r old new (Refused by) → kind_status by ≡ 12 → (text : List ℕ) × IsLine r text × WrotePrefix old new text
+prefix r old new WriteFault m is = m
+prefix r old new _ m is = absurd (omega (arith, is))
 
 succeeds : (r : Rotation) (old new : Outside) (by : Kind) → KeysetMeans r old new (Refused by)
     → (keyset : Keyset) → made_keyset r ≡ Ok keyset → (Rose old.write_faults new.write_faults → ⊥) → kind_status by ≡ 10
@@ -191,12 +191,12 @@ succeeds r old new by m keyset made faultless =
 pub keyset_promised : (r : Rotation) (old new : Outside) (outcome : Outcome) → KeysetMeans r old new outcome → MakesKeyset r old new (status_of outcome)
 keyset_promised r old new Done m = record {
   whole = λ _. m;
-  front = λ is. absurd (omega (arith, is));
+  prefix = λ is. absurd (omega (arith, is));
   succeeds = λ _ _ _. inl refl;
 }
 keyset_promised r old new Usage m = absurd m
 keyset_promised r old new (Refused by) m = record {
   whole = λ is. absurd (omega (arith, is, above_2 by));
-  front = front r old new by m;
+  prefix = prefix r old new by m;
   succeeds = λ keyset made faultless. inr (succeeds r old new by m keyset made faultless);
 }

@@ -80,10 +80,10 @@ large_facts n old new (Refused kind) m = record {
 
 -- ---- what is written, and when a large text is measured
 
-front : (n : ℕ) (old new : Outside) (by : Kind) → LargeMeans n old new (Refused by) → kind_status by ≡ 12 → WrotePrefix old new (lines_of n)
-front n old new OutOfMemory m is = absurd (omega (arith, is))
-front n old new WriteFault m is = m
-front n old new _ m is = absurd m
+prefix : (n : ℕ) (old new : Outside) (by : Kind) → LargeMeans n old new (Refused by) → kind_status by ≡ 12 → WrotePrefix old new (lines_of n)
+prefix n old new OutOfMemory m is = absurd (omega (arith, is))
+prefix n old new WriteFault m is = m
+prefix n old new _ m is = absurd m
 
 succeeds : (n : ℕ) (old new : Outside) (by : Kind) → LargeMeans n old new (Refused by) → (Rose old.write_faults new.write_faults → ⊥) → kind_status by ≡ 10
 succeeds n old new OutOfMemory m faultless = refl
@@ -94,12 +94,12 @@ succeeds n old new _ m faultless = absurd m
 pub large_promised : (n : ℕ) (old new : Outside) (outcome : Outcome) → LargeMeans n old new outcome → MeasuresLarge n old new (status_of outcome)
 large_promised n old new Done m = record {
   whole = λ _. m;
-  front = λ is. absurd (omega (arith, is));
+  prefix = λ is. absurd (omega (arith, is));
   succeeds = λ _. inl refl;
 }
 large_promised n old new Usage m = absurd m
 large_promised n old new (Refused by) m = record {
   whole = λ is. absurd (omega (arith, is, above_2 by));
-  front = front n old new by m;
+  prefix = prefix n old new by m;
   succeeds = λ faultless. inr (succeeds n old new by m faultless);
 }

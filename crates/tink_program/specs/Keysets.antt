@@ -92,6 +92,6 @@ KeysetMeans r old new (Refused kind) = RefusesRotation r kind × IsUntouched old
 -- what 0 and 12 promise of a keyset that is made, and when it is: exactly its line was written, or a prefix of it
 pub record MakesKeyset (r : Rotation) (old new : Outside) (status : ℕ) : Type 0 where
   pub whole : status ≡ 0 → (text : List ℕ) × IsLine r text × WroteText old new text
-  pub front : status ≡ 12 → (text : List ℕ) × IsLine r text × WrotePrefix old new text
+  pub prefix : status ≡ 12 → (text : List ℕ) × IsLine r text × WrotePrefix old new text
   pub succeeds : (keyset : Keyset) → made_keyset r ≡ Ok keyset → (Rose old.write_faults new.write_faults → ⊥)
       → IsDoneOrWant status

@@ -42,5 +42,5 @@ LargeMeans n old new _ = ⊥
 -- what 0 and 12 promise of a large text, and when it is measured: exactly its lines were written, or a prefix of them
 pub record MeasuresLarge (n : ℕ) (old new : Outside) (status : ℕ) : Type 0 where
   pub whole : status ≡ 0 → WroteText old new (lines_of n)
-  pub front : status ≡ 12 → WrotePrefix old new (lines_of n)
+  pub prefix : status ≡ 12 → WrotePrefix old new (lines_of n)
   pub succeeds : (Rose old.write_faults new.write_faults → ⊥) → IsDoneOrWant status

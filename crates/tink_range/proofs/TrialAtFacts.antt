@@ -121,8 +121,8 @@ module _ (k : OpeningKey) (held : List ℕ) (n len : ℕ) (some : 0 < k.header) 
     abbrev at : ChunkAt
     at = record { number = 0; start = front; rest = rest; room = first }
 
-    whole_front : (S : List ℕ) → length S ≡ len → held ≡ take n S → HasFront k S
-    whole_front S long read = front_of_whole k S some (omega arith) (subst (HasFront k) (held_is S read) opens.front)
+    whole_prefix : (S : List ℕ) → length S ≡ len → held ≡ take n S → HasFront k S
+    whole_prefix S long read = front_of_whole k S some (omega arith) (subst (HasFront k) (held_is S read) opens.front)
 
     whole_map : (S : List ℕ) → length S ≡ len → held ≡ take n S → k.seg (header_of k S) ≡ Some seg
     whole_map S long read = sym (seg_same k S some (omega arith)) ∙ subst (λ (H : List ℕ). k.seg (header_of k H) ≡ Some seg) (held_is S read) opens.map
@@ -139,7 +139,7 @@ module _ (k : OpeningKey) (held : List ℕ) (n len : ℕ) (some : 0 < k.header) 
     does_by S t long read e =
         let map = whole_map S long read in (
           record {
-            front = whole_front S long read;
+            front = whole_prefix S long read;
             first = subst (λ (o : Option (ℕ → Bool → List ℕ → List ℕ)). FirstAgrees o (chunks_of k S)) (sym map) (first_agrees k S seg first_some size_some (omega (arith, front_is)) t (ap (λ m. seg 0 m t) (sym (mark_is S long)) ∙ e ∙ chunk_is S));
           },
           record { map = map; front_is = front_is; first_is = opens.first_is; size_is = opens.size_is; overhead_is = opens.overhead_is; fits = fits },
@@ -165,7 +165,7 @@ module _ (k : OpeningKey) (held : List ℕ) (n len : ℕ) (some : 0 < k.header) 
         by : (o : Option (List ℕ)) → IfSome o (λ S. length S ≡ len) → IfSome o (λ S. held ≡ take n S) → OpensAt seg at o false t → IfSome o (λ S. Begins k S → ⊥) × IfSome o (λ S. now ≡ before + one_if (is_tried k S))
         by None l r e = (tt, tt)
         by (Some S) l r e =
-            let count : one_if (is_tried k S) ≡ 1 = is_tried_one k S seg (omega (arith, front_is)) (whole_front S l r) (whole_map S l r) in
+            let count : one_if (is_tried k S) ≡ 1 = is_tried_one k S seg (omega (arith, front_is)) (whole_prefix S l r) (whole_map S l r) in
             (not_by S l r e, omega (arith, count, ticked))
 
 -- the answer of a call by a test that was made before

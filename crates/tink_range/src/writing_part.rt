@@ -20,7 +20,7 @@ pub fn write_part<K: Sink>(
     requires touched { lo ≤ at + length text.now }
     ensures written { OnOk result (Appends (K.got sink.old) (K.got sink.new) (within lo hi at text.now)) }
     ensures count { IfOk result (λ n. n ≡ length (within lo hi at text.now)) }
-    ensures front { OnErr result (AppendsPrefix (K.got sink.old) (K.got sink.new) (within lo hi at text.now)) }
+    ensures prefix { OnErr result (AppendsPrefix (K.got sink.old) (K.got sink.new) (within lo hi at text.now)) }
     ensures refused { IfErr result (λ e. e ≡ record { kind = WriteFault }) }
     ensures cause { OnErr result (Rose (K.faults sink.old) (K.faults sink.new)) }
     ensures later { K.faults sink.old ≤ K.faults sink.new }

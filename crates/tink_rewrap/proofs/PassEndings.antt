@@ -23,8 +23,8 @@ use Rattle.tink_run.specs.Outside.{Outside}
 use Rattle.tink_run.specs.Run.{IsEarly}
 use Rattle.tink_run.specs.SealAnswers.{WantsMemory}
 use Rattle.tink_run.specs.SealSteps.{HasFew, HasNoKeys}
-use Rattle.tink_run.proofs.EndingSteps.{broken_kept, cut_front, failed_once, kept_after, longest_front, not_early, nothing_waits, opening_cut, opening_kept}
-use Rattle.tink_run.proofs.OpenLemmas.{kept_front, whole_front}
+use Rattle.tink_run.proofs.EndingSteps.{broken_kept, cut_prefix, failed_once, kept_after, longest_prefix, not_early, nothing_waits, opening_cut, opening_kept}
+use Rattle.tink_run.proofs.OpenLemmas.{kept_prefix, whole_prefix}
 use Rattle.tink_rewrap.specs.Passing.{BreaksAtEnd, PassMeans, PassRefused, StopsBy, bytes_under, into}
 use Rattle.tink_rewrap.specs.Rewrapping.{HasKey, IsPassing, LeavesOrBegins, RewrapEnds, RewrapsUnder, RewrapsUnderRefused}
 
@@ -130,10 +130,10 @@ module _ (keys : List OpeningKey) (k : StreamKey) (aad draws left_draws : List �
   -- ---- a part was handed on
   module _ (lawful : (S : List ℕ) (key : OpeningKey) → IsChosen keys S (Some key) → Lawful key) (grows : OnlyGrows old.got new.got) (short : IsCutShort told new.got) (rose : Rose old.write_faults new.write_faults) (later : faults ≤ new.write_faults) where
     cut : (bs : List ℕ) → AppendsPrefix old.got told bs → AppendsPrefix old.got new.got bs
-    cut bs w = cut_front old.got told new.got bs grows short w
+    cut bs w = cut_prefix old.got told new.got bs grows short w
 
     cut_whole : (bs : List ℕ) → Appends old.got told bs → AppendsPrefix old.got new.got bs
-    cut_whole bs w = cut bs (whole_front old.got told bs w)
+    cut_whole bs w = cut bs (whole_prefix old.got told bs w)
 
     -- a front of what was written before the last segment
     breaks : HasKey keys old → (text : List ℕ) (answer : Result Report TinkError) → OpeningMeans keys (into [] old) (into text first_end) answer → AppendsPrefix old.got told (unended text) → Refuses new WriteFault
@@ -143,17 +143,17 @@ module _ (keys : List OpeningKey) (k : StreamKey) (aad draws left_draws : List �
     end_cut text r = record { accepted = r.accepted; opened = opened_later later text (Ok (record { segments = r.accepted; bytes = length text })) r.opened; written = cut (whole text) r.written }
 
     refused_cut : HasKey keys old → (kind : Kind) → Refuses first_end kind → Refuses new WriteFault
-    refused_cut begun NoMatchingKey r = breaks begun [] (Err (record { kind = NoMatchingKey })) r.opened (kept_front old.got told (unended []) r.written)
+    refused_cut begun NoMatchingKey r = breaks begun [] (Err (record { kind = NoMatchingKey })) r.opened (kept_prefix old.got told (unended []) r.written)
     refused_cut begun TooManySegments (inl r) = record {
       text = r.text;
       begun = begun;
       opened = (broken_later later r.text r.opened, rose);
-      written = inl (cut (unended r.text) (longest_front k aad (salt_of k draws) (prefix_of k draws) r.text old.got told r.written));
+      written = inl (cut (unended r.text) (longest_prefix k aad (salt_of k draws) (prefix_of k draws) r.text old.got told r.written));
     }
-    refused_cut begun TooManySegments (inr r) = breaks begun r.text (Err (record { kind = TooManySegments })) r.opened (whole_front old.got told (unended r.text) r.written)
-    refused_cut begun (Truncated n) r = breaks begun r.text (Err (record { kind = Truncated n })) r.opened (whole_front old.got told (unended r.text) r.written)
-    refused_cut begun (BadSegment n) r = breaks begun r.text (Err (record { kind = BadSegment n })) r.opened (whole_front old.got told (unended r.text) r.written)
-    refused_cut begun ReadFault r = breaks begun r.text (Err (record { kind = ReadFault })) r.opened (elim r.written [ inl w ↦ kept_front old.got told (unended r.text) w | inr w ↦ whole_front old.got told (unended r.text) w.1 ])
+    refused_cut begun TooManySegments (inr r) = breaks begun r.text (Err (record { kind = TooManySegments })) r.opened (whole_prefix old.got told (unended r.text) r.written)
+    refused_cut begun (Truncated n) r = breaks begun r.text (Err (record { kind = Truncated n })) r.opened (whole_prefix old.got told (unended r.text) r.written)
+    refused_cut begun (BadSegment n) r = breaks begun r.text (Err (record { kind = BadSegment n })) r.opened (whole_prefix old.got told (unended r.text) r.written)
+    refused_cut begun ReadFault r = breaks begun r.text (Err (record { kind = ReadFault })) r.opened (elim r.written [ inl w ↦ kept_prefix old.got told (unended r.text) w | inr w ↦ whole_prefix old.got told (unended r.text) w.1 ])
     refused_cut begun WriteFault r = record {
       text = r.text;
       begun = begun;

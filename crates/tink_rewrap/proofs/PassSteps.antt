@@ -17,12 +17,12 @@ use Rattle.stream_model.proofs.SealingFacts.{length-chunks}
 use Rattle.tink_streams.specs.declared.progress.Progress.TheVariants.{Ended}
 use Rattle.tink_streams.specs.Reading.{ReaderMoment, OpensNext, OpenNextRefused}
 use Rattle.tink_streams.specs.Writing.{WriterMoment, Wrote, WrotePrefixOf, WroteAll, WriteRefused, ClosedBy, ClosedShort, CloseMeans, CloseRefused}
-use Rattle.tink_streams.proofs.WritingFacts.{IsFresh, fresh_filled, wrote_nothing, wrote_more, refused_more, closed_whole, closed_front, stops_front}
+use Rattle.tink_streams.proofs.WritingFacts.{IsFresh, fresh_filled, wrote_nothing, wrote_more, refused_more, closed_whole, closed_prefix, stops_prefix}
 use Rattle.tink_run.specs.declared.report.Report.{Report}
 use Rattle.tink_run.specs.Outside.{Outside}
 use Rattle.tink_run.specs.OpenSteps.{Breaks, FirstRefused, ReaderMeans}
 use Rattle.tink_run.specs.Run.{LeavesSinkItself, WritesNothing}
-use Rattle.tink_run.proofs.OpenLemmas.{kept_front, whole_front}
+use Rattle.tink_run.proofs.OpenLemmas.{kept_prefix, whole_prefix}
 use Rattle.tink_run.proofs.ReadOut.{IsReading, any_told, first_refused, next_refused, read_out, reading_first, reading_next, write_failed}
 use Rattle.tink_rewrap.specs.Passing.{FinishMeans, NewBytes, anywhere, bytes_by, into, PassMeans, PassRefused}
 
@@ -45,7 +45,7 @@ module _ (front : List ℕ) (seg : ℕ → Bool → List ℕ → List ℕ) (a b 
   wrote_less n text p =
       subst (AppendsPrefix got n.got) (ap (λ i. front ++ unmarked seg i (full_chunks a b text)) f.number)
       (then_prefix got m.got n.got front (unmarked seg m.number (full_chunks a b text)) w
-      (subst (λ (cs : List (List ℕ)). AppendsPrefix m.got n.got (unmarked seg m.number cs)) (fresh_filled a b m text f) (stops_front seg m.number n.number _ m.got n.got p.stops)))
+      (subst (λ (cs : List (List ℕ)). AppendsPrefix m.got n.got (unmarked seg m.number cs)) (fresh_filled a b m text f) (stops_prefix seg m.number n.number _ m.got n.got p.stops)))
 
   -- as many as there are numbers for
   wrote_longest : (n : WriterMoment) (text : List ℕ) → WroteAll seg a b m n text → Appends got n.got (bytes.longest text)
@@ -64,7 +64,7 @@ module _ (front : List ℕ) (seg : ℕ → Bool → List ℕ → List ℕ) (a b 
       (Appends-trans got m.got o.got front (sealed seg a b text) w whole.0, whole.1)
 
   wrote_whole_less : (n o : WriterMoment) (text : List ℕ) → Wrote seg a b m n text → ClosedShort seg n o → AppendsPrefix got o.got (bytes.whole text)
-  wrote_whole_less n o text p c = then_prefix got m.got o.got front (sealed seg a b text) w (closed_front seg a b m n o text f p c)
+  wrote_whole_less n o text p c = then_prefix got m.got o.got front (sealed seg a b text) w (closed_prefix seg a b m n o text f p c)
 
 -- Of the texts that were opened all but the last went to the writer, which began behind the front.
 pub record IsUnderWay (read : ℕ → Bool → List ℕ → List ℕ) (first size : ℕ) (front : List ℕ) (seg : ℕ → Bool → List ℕ → List ℕ) (a b : ℕ) (old : Outside) (m : ReaderMoment) (w : WriterMoment) (bytes : ℕ) : Type 0 where
@@ -103,7 +103,7 @@ module _ (read : ℕ → Bool → List ℕ → List ℕ) (first size overhead : 
   front_failed old new w rose = record {
     text = [];
     begun = tt;
-    opened = (record { texts = []; lead = any_told old.left; written = kept_front (Some []) (Some []) [] refl }, rose);
+    opened = (record { texts = []; lead = any_told old.left; written = kept_prefix (Some []) (Some []) [] refl }, rose);
     written = inl (prefix_of_more old.got new.got front _ w);
   }
 
@@ -147,14 +147,14 @@ module _ (read : ℕ → Bool → List ℕ → List ℕ) (first size overhead : 
     abbrev broke : (new : Outside) → Rose w.faults new.write_faults → Breaks read first size (into [] old) (into text new) × Rose old.write_faults new.write_faults
     broke new rose =
         write_failed read first size (into [] old) (into text new) (Some u.text) m bytes w.faults u.reading
-        (whole_front (Some u.text) (Some text) m.opened refl) (omega (arith, u.later, u.since)) rose
+        (whole_prefix (Some u.text) (Some text) m.opened refl) (omega (arith, u.later, u.since)) rose
 
     -- the text leads
     led : (new : Outside) → Breaks read first size (into [] old) (into text new)
     led new =
         let x = write_failed read first size
         (record { left = old.left; read_faults = 0; got = Some []; write_faults = 0 }) (record { left = new.left; read_faults = 0; got = Some text; write_faults = 1 })
-        (Some u.text) m bytes 0 u.reading (whole_front (Some u.text) (Some text) m.opened refl) (omega arith) (omega arith)
+        (Some u.text) m bytes 0 u.reading (whole_prefix (Some u.text) (Some text) m.opened refl) (omega arith) (omega arith)
         in
         record { texts = x.0.texts; lead = x.0.lead; written = x.0.written }
 

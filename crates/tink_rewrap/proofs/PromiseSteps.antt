@@ -25,7 +25,7 @@ use Rattle.tink_run.specs.declared.report.Report.{Report}
 use Rattle.tink_run.specs.OpenAnswers.{AgreesUntil, AreTextsBy, IsBroken, Lead, OpeningMeans, OpeningRefused}
 use Rattle.tink_run.specs.Outside.{Outside, HasNoFault, IsUntouched}
 use Rattle.tink_run.specs.Run.{IsOfAgreeing, IsWholeText, Told}
-use Rattle.tink_run.proofs.OpenLemmas.{chosen_lawful, kept_front, open_agreeing, open_succeeds, same_loaded, stream_agreeing, stream_agrees, stream_complete, whole_front}
+use Rattle.tink_run.proofs.OpenLemmas.{chosen_lawful, kept_prefix, open_agreeing, open_succeeds, same_loaded, stream_agreeing, stream_agrees, stream_complete, whole_prefix}
 use Rattle.tink_run.proofs.RowFacts.{loaded_usable}
 use Rattle.tink_run.proofs.RunLemmas.{told_appended, told_if}
 use Rattle.tink_rewrap.specs.Passing.{bytes_under, into, PassMeans, PassRefused, StopsBy}
@@ -62,21 +62,21 @@ module _ (k : StreamKey) (aad salt prefix : List ℕ) where
       let more = chunks_behind (take (2 ^ 32 - 1) all) (drop (2 ^ 32 - 1) all) in
       (more.0, ap (λ cs. front k salt prefix ++ unmarked_under k (keys_of k aad salt) prefix cs) (sym (take-append-drop (2 ^ 32 - 1) all)) ∙ more.1)
 
-  longest_front : (R : List ℕ) (a b : Option (List ℕ)) → Appends a b (longest_part k aad salt prefix R) → AppendsPrefix a b (part k aad salt prefix R)
-  longest_front R a b w =
+  longest_prefix : (R : List ℕ) (a b : Option (List ℕ)) → Appends a b (longest_part k aad salt prefix R) → AppendsPrefix a b (part k aad salt prefix R)
+  longest_prefix R a b w =
       let more = longest_begins R in
-      subst (AppendsPrefix a b) (sym more.1) (prefix_of_more a b (longest_part k aad salt prefix R) more.0 (whole_front a b (longest_part k aad salt prefix R) w))
+      subst (AppendsPrefix a b) (sym more.1) (prefix_of_more a b (longest_part k aad salt prefix R) more.0 (whole_prefix a b (longest_part k aad salt prefix R) w))
 
   -- a prefix of the part of a prefix of a text
-  part_front : (n : ℕ) (R J : List ℕ) (a b : Option (List ℕ)) → 0 < first_room k → 0 < room k → R ≡ take n J → AppendsPrefix a b (part k aad salt prefix R) → AppendsPrefix a b (part k aad salt prefix J)
-  part_front n R J a b p q e w =
+  part_prefix : (n : ℕ) (R J : List ℕ) (a b : Option (List ℕ)) → 0 < first_room k → 0 < room k → R ≡ take n J → AppendsPrefix a b (part k aad salt prefix R) → AppendsPrefix a b (part k aad salt prefix J)
+  part_prefix n R J a b p q e w =
       let whole : J ≡ R ++ drop n J = sym (take-append-drop n J) ∙ ap (λ xs. xs ++ drop n J) (sym e) in
       let more = part_more R (drop n J) p q in
       subst (AppendsPrefix a b) (sym (ap (part k aad salt prefix) whole ∙ more.1)) (prefix_of_more a b (part k aad salt prefix R) more.0 w)
 
 -- a prefix of a text has no more chunks
-count_front : (k : StreamKey) (n : ℕ) (R J : List ℕ) → 0 < first_room k → 0 < room k → R ≡ take n J → chunk_count k R ≤ chunk_count k J
-count_front k n R J p q e =
+count_prefix : (k : StreamKey) (n : ℕ) (R J : List ℕ) → 0 < first_room k → 0 < room k → R ≡ take n J → chunk_count k R ≤ chunk_count k J
+count_prefix k n R J p q e =
     let whole : J ≡ R ++ drop n J = sym (take-append-drop n J) ∙ ap (λ xs. xs ++ drop n J) (sym e) in
     omega (arith, chunks_more (first_room k) (room k) R (drop n J) p q, ap (chunk_count k) whole)
 
@@ -178,12 +178,12 @@ module _ (s : Sides) (draws S G : List ℕ) (old new : Outside) (told : Told old
     of_agreed : (text : List ℕ) → IsOfAgreeing s.from s.from_aad S (into [] old) (into text new) → AppendsPrefix old.got new.got (made text) → AppendsPrefix old.got new.got (made (joined texts))
     of_agreed text a w =
         let f = a.under_a_key l key texts from chosen agreed in
-        part_front m.primary s.to_aad (salt_of m.primary draws) (prefix_of m.primary draws) f.0 text (joined texts) old.got new.got first_some later_some f.2 w
+        part_prefix m.primary s.to_aad (salt_of m.primary draws) (prefix_of m.primary draws) f.0 text (joined texts) old.got new.got first_some later_some f.2 w
 
     of_led : (text : List ℕ) → IsBroken keys (into [] old) (into text new) → AppendsPrefix old.got new.got (made text) → AppendsPrefix old.got new.got (made (joined texts))
     of_led text b w =
         let f = broken_agreeing s.from s.from_aad S G l old new told from text key texts b chosen agreed in
-        part_front m.primary s.to_aad (salt_of m.primary draws) (prefix_of m.primary draws) f.0 text (joined texts) old.got new.got first_some later_some f.2 w
+        part_prefix m.primary s.to_aad (salt_of m.primary draws) (prefix_of m.primary draws) f.0 text (joined texts) old.got new.got first_some later_some f.2 w
 
     is_stream : (text : List ℕ) (accepted : ℕ) → OpeningMeans keys (into [] old) (into text new) (Ok (record { segments = accepted; bytes = length text })) → (ts : List (List ℕ)) × IsStream key S ts
     is_stream text accepted o =
@@ -194,17 +194,17 @@ module _ (s : Sides) (draws S G : List ℕ) (old new : Outside) (told : Told old
         (w.texts, subst (λ (k : OpeningKey). IsStream k S w.texts) same w.stream)
 
     stops : (kind : Kind) → StopsBy (OpeningMeans keys) (IsBroken keys) (HasKey keys) (bytes_under m.primary s.to_aad draws) old new kind → AppendsPrefix old.got new.got (made (joined texts))
-    stops kind x = of_agreed x.text (agreeing s.from s.from_aad S G l old new told from x.text (Err (record { kind = kind })) x.opened) (whole_front old.got new.got (made x.text) x.written)
+    stops kind x = of_agreed x.text (agreeing s.from s.from_aad S G l old new told from x.text (Err (record { kind = kind })) x.opened) (whole_prefix old.got new.got (made x.text) x.written)
 
     refused_unended : (e : TinkError) → (MayEnd (Err e) key S → ⊥) → (kind : Kind) → e.kind ≡ kind → Refused kind → AppendsPrefix old.got new.got (made (joined texts))
-    refused_unended e may NoMatchingKey same x = kept_front old.got new.got (made (joined texts)) x.written
-    refused_unended e may TooManySegments same (inl x) = of_led x.text x.opened (longest_front m.primary s.to_aad (salt_of m.primary draws) (prefix_of m.primary draws) x.text old.got new.got x.written)
+    refused_unended e may NoMatchingKey same x = kept_prefix old.got new.got (made (joined texts)) x.written
+    refused_unended e may TooManySegments same (inl x) = of_led x.text x.opened (longest_prefix m.primary s.to_aad (salt_of m.primary draws) (prefix_of m.primary draws) x.text old.got new.got x.written)
     refused_unended e may TooManySegments same (inr x) = stops TooManySegments x
     refused_unended e may (Truncated n) same x = stops (Truncated n) x
     refused_unended e may (BadSegment n) same x = stops (BadSegment n) x
     refused_unended e may ReadFault same x = elim x.written [
-      | inl w ↦ kept_front old.got new.got (made (joined texts)) w
-      | inr w ↦ of_agreed x.text (agreeing s.from s.from_aad S G l old new told from x.text (Err (record { kind = ReadFault })) x.opened) (whole_front old.got new.got (made x.text) w.1)
+      | inl w ↦ kept_prefix old.got new.got (made (joined texts)) w
+      | inr w ↦ of_agreed x.text (agreeing s.from s.from_aad S G l old new told from x.text (Err (record { kind = ReadFault })) x.opened) (whole_prefix old.got new.got (made x.text) w.1)
     ]
     refused_unended e may WriteFault same x = elim x.written [
       | inl w ↦ of_agreed x.text (agreeing s.from s.from_aad S G l old new told from x.text (Err (record { kind = WriteFault })) x.opened) w
@@ -308,7 +308,7 @@ wrote_of s draws left_draws old new (Err e) r = go e.kind r
 
 ended_nowhere : (s : Sides) (draws S G : List ℕ) (old new : Outside) (answer : Result Report TinkError) → Told old S G → Wrote s draws old new answer → IsUnended s draws S old new answer
 ended_nowhere s draws S G old new answer t (Nothing u) = record {
-  under_a_key = λ l m key texts from to chosen agreed may. kept_front old.got new.got _ (untouched_keeps old new u);
+  under_a_key = λ l m key texts from to chosen agreed may. kept_prefix old.got new.got _ (untouched_keeps old new u);
   under_none = λ l from none. untouched_keeps old new u;
   from_unloaded = λ kind e. untouched_keeps old new u;
   to_unloaded = λ kind e. untouched_keeps old new u;
@@ -349,7 +349,7 @@ pass_complete s draws S G old new kind c t n x = go kind x
         let f = broken_agreeing s.from s.from_aad S G c.from_loaded old new t c.from_loads x.text c.key c.texts x.opened c.chosen (stream_is_agreed c.key S c.texts law c.stream) in
         let k : StreamKey = c.to_loaded.primary in
         let u = (loaded_usable s.to c.to_loaded c.to_loads).1.usable in
-        omega (arith, x.many, c.few, count_front k f.0 x.text (joined c.texts) (omega (arith, u.room)) (omega (arith, u.room)) f.2)
+        omega (arith, x.many, c.few, count_prefix k f.0 x.text (joined c.texts) (omega (arith, u.room)) (omega (arith, u.room)) f.2)
     go TooManySegments (inr x) = refused x.text TooManySegments x.opened
     go (Truncated i) x = refused x.text (Truncated i) x.opened
     go (BadSegment i) x = refused x.text (BadSegment i) x.opened

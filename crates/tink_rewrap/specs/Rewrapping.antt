@@ -66,6 +66,9 @@ pub record Sides : Type 0 where
   pub to : List ℕ
   pub to_aad : List ℕ
 
+abbrev pub sides : List ℕ → List ℕ → List ℕ → List ℕ → Sides
+sides from from_aad to to_aad = record { from = from; from_aad = from_aad; to = to; to_aad = to_aad }
+
 -- both keysets were loaded, and this is what the rewrap from the keys of the one to the primary key of the other says
 pub record RewrapsLoaded (s : Sides) (draws left_draws : List ℕ) (old new : Outside) (answer : Result Report TinkError) : Type 0 where
   pub from_loaded : Loaded

@@ -3,7 +3,7 @@
 ghost use Rattle.std.specs.Prelude.{◌≡◌, ℕ, List, IfOk};
 ghost use Rattle.tink_run.specs.Outside.{FaultsStay, outside_of};
 ghost use Rattle.tink_run.specs.Run.{LeavesEnds, LeavesSinkItself, Told};
-ghost use Rattle.tink_rewrap.specs.Rewrapping.{RewrapMeans, Sides};
+ghost use Rattle.tink_rewrap.specs.Rewrapping.{RewrapMeans, sides};
 ghost use Rattle.tink_rewrap.specs.Promises.{CompletesRewrap, IsWholeRewrap, LeavesUnended};
 
 use crate::together::rewrap_together;
@@ -48,7 +48,7 @@ pub fn rewrap<S: Source, K: Sink>(
 ) -> Result<Report, TinkError>
     // Each answer has its cause, and says what stands after it.
     ensures answer { RewrapMeans
-        (record { from = from.now; from_aad = from_aad.now; to = to.now; to_aad = to_aad.now })
+        (sides from.now from_aad.now to.now to_aad.now)
         draws.old draws.new
         (outside_of S.left S.faults K.got K.faults source.old sink.old)
         (outside_of S.left S.faults K.got K.faults source.new sink.new)
@@ -58,13 +58,13 @@ pub fn rewrap<S: Source, K: Sink>(
     // text under the second one's primary key was written.
     ensures rewrapped { IfOk result (λ report. (X G : List ℕ)
         → Told (outside_of S.left S.faults K.got K.faults source.old sink.old) X G
-        → IsWholeRewrap (record { from = from.now; from_aad = from_aad.now; to = to.now; to_aad = to_aad.now })
+        → IsWholeRewrap (sides from.now from_aad.now to.now to_aad.now)
         draws.old draws.new X G (outside_of S.left S.faults K.got K.faults source.new sink.new) report) }
 
     // Known bytes: where the source is no stream of the chosen key, or the answer is another refusal than WriteFault, no
     // last segment was written.
     ensures unended { LeavesUnended
-        (record { from = from.now; from_aad = from_aad.now; to = to.now; to_aad = to_aad.now })
+        (sides from.now from_aad.now to.now to_aad.now)
         draws.old
         (outside_of S.left S.faults K.got K.faults source.old sink.old)
         (outside_of S.left S.faults K.got K.faults source.new sink.new)
@@ -72,7 +72,7 @@ pub fn rewrap<S: Source, K: Sink>(
 
     // Known bytes: where neither end fails and the stream can be moved, it is, or there is no memory.
     ensures succeeds { CompletesRewrap
-        (record { from = from.now; from_aad = from_aad.now; to = to.now; to_aad = to_aad.now })
+        (sides from.now from_aad.now to.now to_aad.now)
         draws.old
         (outside_of S.left S.faults K.got K.faults source.old sink.old)
         (outside_of S.left S.faults K.got K.faults source.new sink.new)
@@ -102,7 +102,7 @@ fn answer<S: Source, K: Sink>(
     sink: &mut K,
 ) -> Result<Report, TinkError>
     ensures answer { RewrapMeans
-        (record { from = from.now; from_aad = from_aad.now; to = to.now; to_aad = to_aad.now })
+        (sides from.now from_aad.now to.now to_aad.now)
         draws.old draws.new
         (outside_of S.left S.faults K.got K.faults source.old sink.old)
         (outside_of S.left S.faults K.got K.faults source.new sink.new)

@@ -21,7 +21,7 @@ fn move_stream(
     moved: &mut SureSink,
 ) -> Result<Report, TinkError>
     ensures moved { IfOk result (λ report. IsWholeRewrap
-        (record { from = from.now; from_aad = []; to = to.now; to_aad = [] })
+        (sides from.now [] to.now [])
         draws.old draws.new stream.old moved.old.got
         (record { left = Some stream.new; read_faults = 0; got = Some moved.new.got; write_faults = moved.new.faults })
         report) }

@@ -30,7 +30,7 @@ use Rattle.tink_run.specs.Outside.{Outside}
 use Rattle.tink_run.specs.Run.{IsEarly, LeavesEnds, LeavesSinkItself}
 use Rattle.tink_run.specs.SealAnswers.{SealingMeans, SealingRefused, SinkFailed, WantsMemory}
 use Rattle.tink_run.specs.SealSteps.{HasFew, HasNoKeys, IsUnderWay, SealsUnder, SealsUnderRefused}
-use Rattle.tink_run.proofs.OpenLemmas.{agreed_leads, kept_front, stream_agrees, whole_front}
+use Rattle.tink_run.proofs.OpenLemmas.{agreed_leads, kept_prefix, stream_agrees, whole_prefix}
 
 -- ---- bytes that were handed on in part
 
@@ -45,11 +45,11 @@ front_of [] more waits all e = sym (take-append_seam more waits) ∙ ap (take (l
 front_of (x ∷ xs) more waits all e = front_of xs more waits all (ap (drop 1) e)
 
 -- what the sink behind has got of bytes of which the sink that gathers has told a front
-pub cut_front : (old told got : Option (List ℕ)) (bs : List ℕ) → OnlyGrows old got → IsCutShort told got → AppendsPrefix old told bs → AppendsPrefix old got bs
-cut_front None told got bs grows cut w = (0, omega arith, tt)
-cut_front (Some x) told None bs grows cut w = absurd grows.1
-cut_front (Some x) None (Some y) bs grows cut w = absurd w.2
-cut_front (Some x) (Some t) (Some y) bs grows cut w =
+pub cut_prefix : (old told got : Option (List ℕ)) (bs : List ℕ) → OnlyGrows old got → IsCutShort told got → AppendsPrefix old told bs → AppendsPrefix old got bs
+cut_prefix None told got bs grows cut w = (0, omega arith, tt)
+cut_prefix (Some x) told None bs grows cut w = absurd grows.1
+cut_prefix (Some x) None (Some y) bs grows cut w = absurd w.2
+cut_prefix (Some x) (Some t) (Some y) bs grows cut w =
     let more : List ℕ = grows.0 in
     let waits : List ℕ = cut.0 in
     let taken : List ℕ = take w.0 bs in
@@ -75,10 +75,10 @@ longest_leads k aad salt prefix text =
         let seg = segment_at k keys prefix in
         (unmarked seg (0 + length (take n cs)) (drop n cs), ap (unmarked seg 0) (sym (take-append-drop n cs)) ∙ unmarked-append seg 0 (take n cs) (drop n cs))
 
-pub longest_front : (k : StreamKey) (aad salt prefix text : List ℕ) (a b : Option (List ℕ)) → Appends a b (longest_part k aad salt prefix text) → AppendsPrefix a b (part k aad salt prefix text)
-longest_front k aad salt prefix text a b w =
+pub longest_prefix : (k : StreamKey) (aad salt prefix text : List ℕ) (a b : Option (List ℕ)) → Appends a b (longest_part k aad salt prefix text) → AppendsPrefix a b (part k aad salt prefix text)
+longest_prefix k aad salt prefix text a b w =
     let more = longest_leads k aad salt prefix text in
-    subst (AppendsPrefix a b) (sym more.1) (prefix_of_more a b (longest_part k aad salt prefix text) more.0 (whole_front a b (longest_part k aad salt prefix text) w))
+    subst (AppendsPrefix a b) (sym more.1) (prefix_of_more a b (longest_part k aad salt prefix text) more.0 (whole_prefix a b (longest_part k aad salt prefix text) w))
 
 -- ---- what was told, and what the sink behind has got in the end
 
@@ -165,10 +165,10 @@ module _ (old : Outside) (left : Option (List ℕ)) (reads : ℕ) (told got : Op
   -- ---- a part was handed on
   module _ (grows : OnlyGrows old.got got) (short : IsCutShort told got) (rose : Rose old.write_faults now) where
     cut : (bs : List ℕ) → AppendsPrefix old.got told bs → AppendsPrefix old.got got bs
-    cut bs w = cut_front old.got told got bs grows short w
+    cut bs w = cut_prefix old.got told got bs grows short w
 
     cut_whole : (bs : List ℕ) → Appends old.got told bs → AppendsPrefix old.got got bs
-    cut_whole bs w = cut bs (whole_front old.got told bs w)
+    cut_whole bs w = cut bs (whole_prefix old.got told bs w)
 
     pub sealing_cut : (k : StreamKey) (aad salt prefix : List ℕ) (answer : Result Report TinkError) → SealingMeans k aad salt prefix old in_between answer → SinkFailed k aad salt prefix old in_the_end
     sealing_cut k aad salt prefix (Ok report) r =
@@ -186,7 +186,7 @@ module _ (old : Outside) (left : Option (List ℕ)) (reads : ℕ) (told got : Op
           ];
           rose = rose;
         }
-        go TooManySegments r = record { text = r.text; read = r.read; written = inl (cut (part k aad salt prefix r.text) (longest_front k aad salt prefix r.text old.got told r.written)); rose = rose }
+        go TooManySegments r = record { text = r.text; read = r.read; written = inl (cut (part k aad salt prefix r.text) (longest_prefix k aad salt prefix r.text old.got told r.written)); rose = rose }
         go _ r = absurd r
 
     broken : (keys : List OpeningKey) (texts : List (List ℕ)) → IfSome old.left (λ S. Lead keys S texts) → AppendsPrefix old.got told (joined texts) → IsBroken keys old in_the_end
@@ -194,20 +194,20 @@ module _ (old : Outside) (left : Option (List ℕ)) (reads : ℕ) (told got : Op
 
     until : (keys : List OpeningKey) (texts : List (List ℕ)) (P : List ℕ → OpeningKey → Type 0) → IfSome old.left (λ S. AgreesUntil keys S texts (P S)) → Appends old.got told (joined texts) → IsBroken keys old in_the_end
     until keys texts P stream w =
-        broken keys texts (if_told old.left (λ S. AgreesUntil keys S texts (P S)) (λ S. Lead keys S texts) (λ S a. leads_agreed keys S texts (P S) a) stream) (whole_front old.got told (joined texts) w)
+        broken keys texts (if_told old.left (λ S. AgreesUntil keys S texts (P S)) (λ S. Lead keys S texts) (λ S a. leads_agreed keys S texts (P S) a) stream) (whole_prefix old.got told (joined texts) w)
 
     opening_refused_cut : (keys : List OpeningKey) (kind : Kind) → OpeningRefused keys old in_between kind → OpeningRefused keys old in_the_end WriteFault
-    opening_refused_cut keys NoMatchingKey r = (broken keys [] (if_told old.left (λ S. IsChosen keys S None) (λ S. Lead keys S []) (λ S n. tt) r.none) (kept_front old.got told [] r.written), rose)
+    opening_refused_cut keys NoMatchingKey r = (broken keys [] (if_told old.left (λ S. IsChosen keys S None) (λ S. Lead keys S []) (λ S n. tt) r.none) (kept_prefix old.got told [] r.written), rose)
     opening_refused_cut keys (Truncated n) r = (until keys r.texts (λ S k. (0 < length (chunk_of k S n)) × (length (chunk_of k S n) < k.overhead)) r.stream r.written, rose)
     opening_refused_cut keys (BadSegment n) r = (until keys r.texts (λ S k. k.overhead ≤ length (chunk_of k S n)) r.stream r.written, rose)
     opening_refused_cut keys TooManySegments r = (until keys r.texts (λ S k. 2 ^ 32 < length (chunks_of k S)) r.stream r.written, rose)
-    opening_refused_cut keys ReadFault r = (broken keys r.0.texts r.0.lead (whole_front old.got told (joined r.0.texts) r.0.written), rose)
+    opening_refused_cut keys ReadFault r = (broken keys r.0.texts r.0.lead (whole_prefix old.got told (joined r.0.texts) r.0.written), rose)
     opening_refused_cut keys WriteFault r = (broken keys r.0.texts r.0.lead r.0.written, rose)
     opening_refused_cut keys _ r = absurd r
 
     pub opening_cut : (keys : List OpeningKey) → ((S : List ℕ) (k : OpeningKey) → IsChosen keys S (Some k) → Lawful k) → (answer : Result Report TinkError) → OpeningMeans keys old in_between answer → OpeningRefused keys old in_the_end WriteFault
     opening_cut keys lawful (Ok report) r =
-        (broken keys r.texts (if_told old.left (λ S. IsOfChosen keys S r.texts) (λ S. Lead keys S r.texts) (λ S s. leads_opened keys S r.texts lawful s) r.stream) (whole_front old.got told (joined r.texts) r.written), rose)
+        (broken keys r.texts (if_told old.left (λ S. IsOfChosen keys S r.texts) (λ S. Lead keys S r.texts) (λ S s. leads_opened keys S r.texts lawful s) r.stream) (whole_prefix old.got told (joined r.texts) r.written), rose)
     opening_cut keys lawful (Err e) r = opening_refused_cut keys e.kind r
 
 -- ---- from the moment of the answer to the end

@@ -92,16 +92,16 @@ front_of_agreed k S ts all a b law p q w =
     let begins = begins_agreed (k.seg (header_of k S)) (chunks_of k S) ts all k.overhead (law.lawful (header_of k S)) p q in
     subst (AppendsPrefix a b) (sym (ap joined begins.1 ∙ joined-append ts begins.0)) (prefix_of_more a b (joined ts) (joined begins.0) w)
 
-pub whole_front : (a b : Option (List ℕ)) (xs : List ℕ) → Appends a b xs → AppendsPrefix a b xs
-whole_front a b xs w = (length xs, omega arith, subst (Appends a b) (sym (take-length xs)) w)
+pub whole_prefix : (a b : Option (List ℕ)) (xs : List ℕ) → Appends a b xs → AppendsPrefix a b xs
+whole_prefix a b xs w = (length xs, omega arith, subst (Appends a b) (sym (take-length xs)) w)
 
 pub kept_nothing : (a b : Option (List ℕ)) → Keeps a b → Appends a b []
 kept_nothing None b w = tt
 kept_nothing (Some xs) None w = absurd w
 kept_nothing (Some xs) (Some ys) w = w ∙ sym (append-nil xs)
 
-pub kept_front : (a b : Option (List ℕ)) (xs : List ℕ) → Keeps a b → AppendsPrefix a b xs
-kept_front a b xs w = (0, omega arith, kept_nothing a b w)
+pub kept_prefix : (a b : Option (List ℕ)) (xs : List ℕ) → Keeps a b → AppendsPrefix a b xs
+kept_prefix a b xs w = (0, omega arith, kept_nothing a b w)
 
 pub same_loaded : (keyset : List ℕ) (l m : Loaded) → load keyset ≡ Ok l → load keyset ≡ Ok m → l ≡ m
 same_loaded keyset l m p q = cc
@@ -109,7 +109,7 @@ same_loaded keyset l m p q = cc
 -- what stands by a prefix of leading texts
 written_lead : (keyset aad S : List ℕ) (l : Loaded) (ts : List (List ℕ)) (old new : Outside) → load keyset ≡ Ok l → Lead (opening_keys aad l) S ts → AppendsPrefix old.got new.got (joined ts) → IsOfAgreeing keyset aad S old new
 written_lead keyset aad S l [] old new e lead w = record {
-  under_a_key = λ m k all p q r. kept_front old.got new.got (joined all) (nothing old.got new.got w);
+  under_a_key = λ m k all p q r. kept_prefix old.got new.got (joined all) (nothing old.got new.got w);
   under_none = λ m p q. nothing old.got new.got w;
   unloaded = λ kind p. nothing old.got new.got w;
 }
@@ -144,7 +144,7 @@ agreed_leads keys S k (t ∷ ts) c a some = (k, c, go (k.seg (header_of k S)) a)
 
 kept_agreeing : (keyset aad S : List ℕ) (old new : Outside) → Keeps old.got new.got → IsOfAgreeing keyset aad S old new
 kept_agreeing keyset aad S old new u = record {
-  under_a_key = λ m k all p q r. kept_front old.got new.got (joined all) u;
+  under_a_key = λ m k all p q r. kept_prefix old.got new.got (joined all) u;
   under_none = λ m p q. u;
   unloaded = λ kind p. u;
 }
@@ -157,14 +157,14 @@ pub stream_agreeing : (keyset aad S G : List ℕ) (l : Loaded) (old new : Outsid
 stream_agreeing keyset aad S G l old new NoMatchingKey e t r = kept_agreeing keyset aad S old new r.written
 stream_agreeing keyset aad S G l old new (Truncated n) e t r =
     let a = told_if (λ X. AgreesUntil (opening_keys aad l) X r.texts _) old.left S t.left r.stream in
-    written_lead keyset aad S l r.texts old new e (agreed_leads (opening_keys aad l) S a.key r.texts a.chosen a.agreed (omega (arith, r.number, r.some))) (whole_front old.got new.got (joined r.texts) r.written)
+    written_lead keyset aad S l r.texts old new e (agreed_leads (opening_keys aad l) S a.key r.texts a.chosen a.agreed (omega (arith, r.number, r.some))) (whole_prefix old.got new.got (joined r.texts) r.written)
 stream_agreeing keyset aad S G l old new (BadSegment n) e t r =
     let a = told_if (λ X. AgreesUntil (opening_keys aad l) X r.texts _) old.left S t.left r.stream in
-    written_lead keyset aad S l r.texts old new e (agreed_leads (opening_keys aad l) S a.key r.texts a.chosen a.agreed (omega (arith, r.number, r.some))) (whole_front old.got new.got (joined r.texts) r.written)
+    written_lead keyset aad S l r.texts old new e (agreed_leads (opening_keys aad l) S a.key r.texts a.chosen a.agreed (omega (arith, r.number, r.some))) (whole_prefix old.got new.got (joined r.texts) r.written)
 stream_agreeing keyset aad S G l old new TooManySegments e t r =
     let a = told_if (λ X. AgreesUntil (opening_keys aad l) X r.texts _) old.left S t.left r.stream in
-    written_lead keyset aad S l r.texts old new e (agreed_leads (opening_keys aad l) S a.key r.texts a.chosen a.agreed (omega (arith, r.number))) (whole_front old.got new.got (joined r.texts) r.written)
-stream_agreeing keyset aad S G l old new ReadFault e t r = written_lead keyset aad S l r.0.texts old new e (told_if (λ X. Lead (opening_keys aad l) X r.0.texts) old.left S t.left r.0.lead) (whole_front old.got new.got (joined r.0.texts) r.0.written)
+    written_lead keyset aad S l r.texts old new e (agreed_leads (opening_keys aad l) S a.key r.texts a.chosen a.agreed (omega (arith, r.number))) (whole_prefix old.got new.got (joined r.texts) r.written)
+stream_agreeing keyset aad S G l old new ReadFault e t r = written_lead keyset aad S l r.0.texts old new e (told_if (λ X. Lead (opening_keys aad l) X r.0.texts) old.left S t.left r.0.lead) (whole_prefix old.got new.got (joined r.0.texts) r.0.written)
 stream_agreeing keyset aad S G l old new WriteFault e t r = written_lead keyset aad S l r.0.texts old new e (told_if (λ X. Lead (opening_keys aad l) X r.0.texts) old.left S t.left r.0.lead) r.0.written
 stream_agreeing keyset aad S G l old new _ e t r = absurd r
 

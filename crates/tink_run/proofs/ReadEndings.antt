@@ -36,8 +36,8 @@ use Rattle.tink_run.specs.OpenReads.{OpensReading, ReadsBy, ReadsNear, ReadsNoFu
 use Rattle.tink_run.specs.OpenSteps.{OpensUnder, OpensUnderRefused}
 use Rattle.tink_run.specs.Outside.{Outside}
 use Rattle.tink_run.specs.Run.{IsEarly}
-use Rattle.tink_run.proofs.EndingSteps.{cut_front, ends_mapped, if_told, kept_after, leads_agreed, leads_opened, not_early}
-use Rattle.tink_run.proofs.OpenLemmas.{chosen_lawful, kept_front, same_loaded, stream_agrees, whole_front}
+use Rattle.tink_run.proofs.EndingSteps.{cut_prefix, ends_mapped, if_told, kept_after, leads_agreed, leads_opened, not_early}
+use Rattle.tink_run.proofs.OpenLemmas.{chosen_lawful, kept_prefix, same_loaded, stream_agrees, whole_prefix}
 use Rattle.tink_run.proofs.ReadOut.{any_told}
 use Rattle.tink_run.proofs.ReadsSteps.{same_largest}
 use Rattle.tink_run.proofs.RowFacts.{loaded_usable}
@@ -87,10 +87,10 @@ module _ (room : ℕ) (keys : List OpeningKey) (old new : Outside) (told : Optio
   -- a part was handed on
   module _ (grows : OnlyGrows old.got new.got) (short : IsCutShort told new.got) where
     part : (bs : List ℕ) → AppendsPrefix old.got told bs → AppendsPrefix old.got new.got bs
-    part bs w = cut_front old.got told new.got bs grows short w
+    part bs w = cut_prefix old.got told new.got bs grows short w
 
     part_of : (bs : List ℕ) → Appends old.got told bs → AppendsPrefix old.got new.got bs
-    part_of bs w = part bs (whole_front old.got told bs w)
+    part_of bs w = part bs (whole_prefix old.got told bs w)
 
     until : (n : ℕ) (texts : List (List ℕ)) (P : List ℕ → OpeningKey → Type 0) → n ≡ length texts → IfSome old.left (λ S. AgreesUntil keys S texts (P S)) → Appends old.got told (joined texts) → ReadsNear room keys n old.left new.left
         → StopsBehind AppendsPrefix room keys old new
@@ -107,7 +107,7 @@ module _ (room : ℕ) (keys : List OpeningKey) (old new : Outside) (told : Optio
       texts = [];
       lead = any_told old.left;
       read = inr (refl, r);
-      written = part [] (kept_front old.got told [] o.written);
+      written = part [] (kept_prefix old.got told [] o.written);
     }
     cut_by (Truncated n) early o r = until n o.texts (λ S k. (0 < length (chunk_of k S n)) × (length (chunk_of k S n) < k.overhead)) o.number o.stream o.written r
     cut_by (BadSegment n) early o r = until n o.texts (λ S k. k.overhead ≤ length (chunk_of k S n)) o.number o.stream o.written r

@@ -19,7 +19,7 @@ use Rattle.tink_stream_keys.specs.StreamingKeys.{deriving_hash}
 use Rattle.stream_model.specs.Sealing.{stream, part, longest_part, sealed_under, unmarked_under, salt_of, prefix_of}
 use Rattle.stream_model.proofs.SealingFacts.{length-chunks}
 use Rattle.tink_streams.specs.Writing.{WriterMoment, Wrote, WrotePrefixOf, WroteAll, ClosedBy, ClosedShort, CloseMeans, CloseRefused}
-use Rattle.tink_streams.proofs.WritingFacts.{IsFresh, fresh_filled, closed_whole, closed_front, stops_front}
+use Rattle.tink_streams.proofs.WritingFacts.{IsFresh, fresh_filled, closed_whole, closed_prefix, stops_prefix}
 use Rattle.loading_model.specs.Loading.{Loaded}
 use Rattle.tink_run.specs.AllKeys.{load}
 use Rattle.tink_run.specs.declared.report.Report.{Report}
@@ -68,7 +68,7 @@ module _ (k : StreamKey) (aad salt prefix keys : List ℕ) (e : keys_of k aad sa
   sink_failed old new m n text f w p same read later more =
       let chunks = fresh_filled (first_room k) (room k) m text f in
       let begun : AppendsPrefix m.got n.got (unmarked seg m.number (full_chunks (first_room k) (room k) text)) =
-      subst (λ (cs : List (List ℕ)). AppendsPrefix m.got n.got (unmarked seg m.number cs)) chunks (stops_front seg m.number n.number _ m.got n.got p.stops)
+      subst (λ (cs : List (List ℕ)). AppendsPrefix m.got n.got (unmarked seg m.number cs)) chunks (stops_prefix seg m.number n.number _ m.got n.got p.stops)
       in
       let whole = then_prefix old.got m.got n.got (front k salt prefix) _ w begun in
       record {
@@ -129,7 +129,7 @@ module _ (k : StreamKey) (aad salt prefix keys : List ℕ) (e : keys_of k aad sa
     written = inr (
       end,
       subst (λ (b : Option (List ℕ)). AppendsPrefix old.got b (stream k aad salt prefix text)) (sym same)
-          (subst (AppendsPrefix old.got o.got) (stream_is text) (then_prefix old.got m.got o.got (front k salt prefix) _ w (closed_front seg (first_room k) (room k) m n o text f p c))),
+          (subst (AppendsPrefix old.got o.got) (stream_is text) (then_prefix old.got m.got o.got (front k salt prefix) _ w (closed_prefix seg (first_room k) (room k) m n o text f p c))),
     );
     rose = Rose-later old.write_faults o.faults new.write_faults (Rose-earlier old.write_faults n.faults o.faults later c.rose) more;
   }

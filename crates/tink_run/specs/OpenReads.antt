@@ -36,27 +36,27 @@ from_chunk chunks n = joined (drop n chunks)
 
 -- at most so many bytes were read behind the beginning of chunk n
 abbrev pub ReadsFrom : ℕ → ℕ → ℕ → ℕ → Option (List ℕ) → Option (List ℕ) → Type 0
-ReadsFrom room a b n old new = IfSome old (λ X. LosesAtMost room (Some (from_chunk (cut a b X) n)) new)
+ReadsFrom room first size n old new = IfSome old (λ X. LosesAtMost room (Some (from_chunk (cut first size X) n)) new)
 
 -- An end failed: of texts whose segments lead, this was written, and at most so many bytes were read behind their chunks.
-pub record FailsBehind (Wrote : Option (List ℕ) → Option (List ℕ) → List ℕ → Type 0) (room : ℕ) (seg : ℕ → Bool → List ℕ → List ℕ) (a b : ℕ) (old new : Outside) : Type 0 where
+pub record FailsBehind (Wrote : Option (List ℕ) → Option (List ℕ) → List ℕ → Type 0) (room : ℕ) (seg : ℕ → Bool → List ℕ → List ℕ) (first size : ℕ) (old new : Outside) : Type 0 where
   pub texts : List (List ℕ)
-  pub lead : IfSome old.left (λ X. AreTexts seg 0 (cut a b X) texts)
-  pub read : ReadsFrom room a b (length texts) old.left new.left
+  pub lead : IfSome old.left (λ X. AreTexts seg 0 (cut first size X) texts)
+  pub read : ReadsFrom room first size (length texts) old.left new.left
   pub written : Wrote old.got new.got (joined texts)
 
 abbrev pub ReaderReadsBy : ℕ → (ℕ → Bool → List ℕ → List ℕ) → ℕ → ℕ → Outside → Outside → Kind → Type 0
-ReaderReadsBy room seg a b old new (Truncated n) = ReadsFrom room a b n old.left new.left
-ReaderReadsBy room seg a b old new (BadSegment n) = ReadsFrom room a b n old.left new.left
-ReaderReadsBy room seg a b old new TooManySegments = ReadsFrom room a b (2 ^ 32) old.left new.left
-ReaderReadsBy room seg a b old new ReadFault = FailsBehind Appends room seg a b old new
-ReaderReadsBy room seg a b old new WriteFault = FailsBehind AppendsPrefix room seg a b old new
-ReaderReadsBy room seg a b old new _ = Unit {0}
+ReaderReadsBy room seg first size old new (Truncated n) = ReadsFrom room first size n old.left new.left
+ReaderReadsBy room seg first size old new (BadSegment n) = ReadsFrom room first size n old.left new.left
+ReaderReadsBy room seg first size old new TooManySegments = ReadsFrom room first size (2 ^ 32) old.left new.left
+ReaderReadsBy room seg first size old new ReadFault = FailsBehind Appends room seg first size old new
+ReaderReadsBy room seg first size old new WriteFault = FailsBehind AppendsPrefix room seg first size old new
+ReaderReadsBy room seg first size old new _ = Unit {0}
 
 -- how far a reader that holds at most so many bytes has read by its answer
 abbrev pub ReaderReads : ℕ → (ℕ → Bool → List ℕ → List ℕ) → ℕ → ℕ → Outside → Outside → Result Report TinkError → Type 0
-ReaderReads room seg a b old new (Ok _) = Unit {0}
-ReaderReads room seg a b old new (Err e) = ReaderReadsBy room seg a b old new e.kind
+ReaderReads room seg first size old new (Ok _) = Unit {0}
+ReaderReads room seg first size old new (Err e) = ReaderReadsBy room seg first size old new e.kind
 
 -- ---- what an open has read
 

@@ -20,19 +20,19 @@ use Rattle.tink_run.specs.OpenAnswers.{IsOpenedWhole, OpeningRefused}
 
 -- the first segment: where it is the segment of no text, the stream doesn't begin under the reader's key
 abbrev pub FirstRefused : (ℕ → Bool → List ℕ → List ℕ) → ℕ → ℕ → ReaderMoment → ReaderMoment → Kind → Type 0
-FirstRefused seg a b old new NoMatchingKey = NothingComes seg a b old
-FirstRefused seg a b old new ReadFault = Rose old.faults new.faults
-FirstRefused seg a b old new _ = ⊥
+FirstRefused seg first size old new NoMatchingKey = NothingComes seg first size old
+FirstRefused seg first size old new ReadFault = Rose old.faults new.faults
+FirstRefused seg first size old new _ = ⊥
 
 abbrev pub FirstMeans : (ℕ → Bool → List ℕ → List ℕ) → ℕ → ℕ → ReaderMoment → ReaderMoment → Result (Unit {0}) TinkError → Type 0
-FirstMeans seg a b old new (Ok _) = OpensNext seg a b old new
-FirstMeans seg a b old new (Err e) = FirstRefused seg a b old new e.kind
+FirstMeans seg first size old new (Ok _) = OpensNext seg first size old new
+FirstMeans seg first size old new (Err e) = FirstRefused seg first size old new e.kind
 
 -- some texts lead from the first chunk of the old rest to its end, and were written
-pub record IsReadOut (seg : ℕ → Bool → List ℕ → List ℕ) (a b : ℕ) (old new : Outside) (report : Report) : Type 0 where
+pub record IsReadOut (seg : ℕ → Bool → List ℕ → List ℕ) (first size : ℕ) (old new : Outside) (report : Report) : Type 0 where
   pub texts : List (List ℕ)
   pub some : 0 < length texts
-  pub leads : IfSome old.left (λ X. Leads seg 0 (cut a b X) texts [])
+  pub leads : IfSome old.left (λ X. Leads seg 0 (cut first size X) texts [])
   pub stays_told : IfSome old.left (λ _. IsSome new.left)
   pub at_end : IsAtEnd new.left
   pub written : Appends old.got new.got (joined texts)
@@ -40,28 +40,28 @@ pub record IsReadOut (seg : ℕ → Bool → List ℕ → List ℕ) (a b : ℕ) 
   pub bytes : report.bytes ≡ length (joined texts)
 
 -- no text agrees, and nothing was written
-pub record BeginsNot (seg : ℕ → Bool → List ℕ → List ℕ) (a b : ℕ) (old new : Outside) : Type 0 where
-  pub nothing : IfSome old.left (λ X. Agree seg 0 (cut a b X) [])
+pub record BeginsNot (seg : ℕ → Bool → List ℕ → List ℕ) (first size : ℕ) (old new : Outside) : Type 0 where
+  pub nothing : IfSome old.left (λ X. Agree seg 0 (cut first size X) [])
   pub written : Keeps old.got new.got
 
 -- n texts are all that agree, and were written; P holds of the chunks
-pub record StopsAt (n : ℕ) (P : List (List ℕ) → Type 0) (seg : ℕ → Bool → List ℕ → List ℕ) (a b : ℕ) (old new : Outside) : Type 0 where
+pub record StopsAt (n : ℕ) (P : List (List ℕ) → Type 0) (seg : ℕ → Bool → List ℕ → List ℕ) (first size : ℕ) (old new : Outside) : Type 0 where
   pub texts : List (List ℕ)
   pub number : n ≡ length texts
   pub some : 0 < n
-  pub agree : IfSome old.left (λ X. Agree seg 0 (cut a b X) texts × P (cut a b X))
+  pub agree : IfSome old.left (λ X. Agree seg 0 (cut first size X) texts × P (cut first size X))
   pub written : Appends old.got new.got (joined texts)
 
 -- the source failed: texts whose segments lead were written whole
-pub record CutsOff (seg : ℕ → Bool → List ℕ → List ℕ) (a b : ℕ) (old new : Outside) : Type 0 where
+pub record CutsOff (seg : ℕ → Bool → List ℕ → List ℕ) (first size : ℕ) (old new : Outside) : Type 0 where
   pub texts : List (List ℕ)
-  pub lead : IfSome old.left (λ X. AreTexts seg 0 (cut a b X) texts)
+  pub lead : IfSome old.left (λ X. AreTexts seg 0 (cut first size X) texts)
   pub written : Appends old.got new.got (joined texts)
 
 -- the sink failed: a prefix of texts whose segments lead was written
-pub record Breaks (seg : ℕ → Bool → List ℕ → List ℕ) (a b : ℕ) (old new : Outside) : Type 0 where
+pub record Breaks (seg : ℕ → Bool → List ℕ → List ℕ) (first size : ℕ) (old new : Outside) : Type 0 where
   pub texts : List (List ℕ)
-  pub lead : IfSome old.left (λ X. AreTexts seg 0 (cut a b X) texts)
+  pub lead : IfSome old.left (λ X. AreTexts seg 0 (cut first size X) texts)
   pub written : AppendsPrefix old.got new.got (joined texts)
 
 -- chunk n, which is there, is shorter than a tag
@@ -75,13 +75,13 @@ abbrev pub HasMore : ℕ → List (List ℕ) → Type 0
 HasMore n chunks = n < length chunks
 
 abbrev pub ReaderRefused : (ℕ → Bool → List ℕ → List ℕ) → ℕ → ℕ → ℕ → Outside → Outside → Kind → Type 0
-ReaderRefused seg a b overhead old new NoMatchingKey = BeginsNot seg a b old new
-ReaderRefused seg a b overhead old new (Truncated n) = StopsAt n (HasShort n overhead) seg a b old new
-ReaderRefused seg a b overhead old new (BadSegment n) = StopsAt n (HasLong n overhead) seg a b old new
-ReaderRefused seg a b overhead old new TooManySegments = StopsAt (2 ^ 32) (HasMore (2 ^ 32)) seg a b old new
-ReaderRefused seg a b overhead old new ReadFault = CutsOff seg a b old new × Rose old.read_faults new.read_faults
-ReaderRefused seg a b overhead old new WriteFault = Breaks seg a b old new × Rose old.write_faults new.write_faults
-ReaderRefused seg a b overhead old new _ = ⊥
+ReaderRefused seg first size overhead old new NoMatchingKey = BeginsNot seg first size old new
+ReaderRefused seg first size overhead old new (Truncated n) = StopsAt n (HasShort n overhead) seg first size old new
+ReaderRefused seg first size overhead old new (BadSegment n) = StopsAt n (HasLong n overhead) seg first size old new
+ReaderRefused seg first size overhead old new TooManySegments = StopsAt (2 ^ 32) (HasMore (2 ^ 32)) seg first size old new
+ReaderRefused seg first size overhead old new ReadFault = CutsOff seg first size old new × Rose old.read_faults new.read_faults
+ReaderRefused seg first size overhead old new WriteFault = Breaks seg first size old new × Rose old.write_faults new.write_faults
+ReaderRefused seg first size overhead old new _ = ⊥
 
 -- the outside as a reader sees it: what it holds, and then what the source has left
 abbrev pub held_outside : {S K D : Type 0} {g : Ghosts D} → (S → Option (List ℕ)) → (S → ℕ) → (K → Option (List ℕ)) → (K → ℕ)
@@ -91,8 +91,8 @@ held_outside left reads got writes reader source sink =
 
 -- what opening all that a reader finds answers; the old rest is what it holds, and then what the source has left
 abbrev pub ReaderMeans : (ℕ → Bool → List ℕ → List ℕ) → ℕ → ℕ → ℕ → Outside → Outside → Result Report TinkError → Type 0
-ReaderMeans seg a b overhead old new (Ok report) = IsReadOut seg a b old new report
-ReaderMeans seg a b overhead old new (Err e) = ReaderRefused seg a b overhead old new e.kind
+ReaderMeans seg first size overhead old new (Ok report) = IsReadOut seg first size old new report
+ReaderMeans seg first size overhead old new (Err e) = ReaderRefused seg first size overhead old new e.kind
 
 abbrev pub OpensUnderRefused : List OpeningKey → Outside → Outside → Kind → Type 0
 OpensUnderRefused keys old new OutOfMemory = IsUntouched old new

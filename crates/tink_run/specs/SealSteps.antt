@@ -14,10 +14,10 @@ use Rattle.tink_run.specs.Outside.{Outside, IsUntouched}
 use Rattle.tink_run.specs.SealAnswers.{SealingMeans, WantsMemory}
 
 -- all that the source had left was read and written by a writer
-pub record IsPoured (seg : ℕ → Bool → List ℕ → List ℕ) (a b : ℕ) (before after : Option (List ℕ)) (old new : WriterMoment) (bytes : ℕ) : Type 0 where
+pub record IsPoured (seg : ℕ → Bool → List ℕ → List ℕ) (first room : ℕ) (before after : Option (List ℕ)) (old new : WriterMoment) (bytes : ℕ) : Type 0 where
   pub text : List ℕ
   pub read : Consumes before after text
-  pub wrote : Wrote seg a b old new text
+  pub wrote : Wrote seg first room old new text
   pub bytes_are : bytes ≡ length text
 
 -- a writer's refusal of the text read so far
@@ -27,14 +27,14 @@ pub record IsRefusedBy (before after : Option (List ℕ)) (P : List ℕ → Type
   pub refused : P text
 
 abbrev pub PourRefused : (ℕ → Bool → List ℕ → List ℕ) → ℕ → ℕ → Option (List ℕ) → Option (List ℕ) → ℕ → ℕ → WriterMoment → WriterMoment → Kind → Type 0
-PourRefused seg a b before after reads read_again old new ReadFault = IsRefusedBy before after (λ text. Wrote seg a b old new text) × Rose reads read_again
-PourRefused seg a b before after reads read_again old new WriteFault = IsRefusedBy before after (λ text. WrotePrefixOf seg a b old new text)
-PourRefused seg a b before after reads read_again old new TooManySegments = IsRefusedBy before after (λ text. WroteAll seg a b old new text)
-PourRefused seg a b before after reads read_again old new _ = ⊥
+PourRefused seg first room before after reads read_again old new ReadFault = IsRefusedBy before after (λ text. Wrote seg first room old new text) × Rose reads read_again
+PourRefused seg first room before after reads read_again old new WriteFault = IsRefusedBy before after (λ text. WrotePrefixOf seg first room old new text)
+PourRefused seg first room before after reads read_again old new TooManySegments = IsRefusedBy before after (λ text. WroteAll seg first room old new text)
+PourRefused seg first room before after reads read_again old new _ = ⊥
 
 abbrev pub PourMeans : (ℕ → Bool → List ℕ → List ℕ) → ℕ → ℕ → Option (List ℕ) → Option (List ℕ) → ℕ → ℕ → WriterMoment → WriterMoment → Result ℕ TinkError → Type 0
-PourMeans seg a b before after reads read_again old new (Ok bytes) = IsPoured seg a b before after old new bytes × IsAtEnd after
-PourMeans seg a b before after reads read_again old new (Err e) = PourRefused seg a b before after reads read_again old new e.kind
+PourMeans seg first room before after reads read_again old new (Ok bytes) = IsPoured seg first room before after old new bytes × IsAtEnd after
+PourMeans seg first room before after reads read_again old new (Err e) = PourRefused seg first room before after reads read_again old new e.kind
 
 -- by which kind a seal is refused whose stream was not begun by some kind
 abbrev pub kind_not_begun : Kind → Kind

@@ -46,7 +46,7 @@ impl<'a> Front<'a> {
     /// `WriteFault` where the sink failed, and has a prefix of it.
     pub fn write<K: Sink>(&self, sink: &mut K) -> Result<(), TinkError>
         ensures written { OnOk result (Appends (K.got sink.old) (K.got sink.new) self.now) }
-        ensures front { OnErr result (AppendsPrefix (K.got sink.old) (K.got sink.new) self.now) }
+        ensures prefix { OnErr result (AppendsPrefix (K.got sink.old) (K.got sink.new) self.now) }
         ensures refused { IfErr result (λ e. e ≡ record { kind = WriteFault }) }
         ensures cause { OnErr result (Rose (K.faults sink.old) (K.faults sink.new)) }
         ensures later { K.faults sink.old ≤ K.faults sink.new }

@@ -88,14 +88,14 @@ wrote_then_prefix seg a b m n o R S p q later w v =
         counted = omega (arith, w.counted, stops.counted, length-append before stops.done);
         between = stops.between;
         whole = subst (Appends m.got stops.between) (unmarked-follows seg m.number n.number before stops.done w.counted) (Appends-trans m.got n.got stops.between _ _ w.appended stops.whole);
-        front = stops.front;
+        prefix = stops.prefix;
       };
       rose = let r = v.rose in omega arith;
     }
 
 -- a prefix of all the segments was written
-pub stops_front : (seg : ℕ → Bool → List ℕ → List ℕ) (first number : ℕ) (chunks : List (List ℕ)) (old new : Option (List ℕ)) → StopsWithin seg first number chunks old new → AppendsPrefix old new (unmarked seg first chunks)
-stops_front seg first number chunks old new s = one_begun seg old s.between new first number s.done s.next s.more chunks s.counted s.split s.whole s.front
+pub stops_prefix : (seg : ℕ → Bool → List ℕ → List ℕ) (first number : ℕ) (chunks : List (List ℕ)) (old new : Option (List ℕ)) → StopsWithin seg first number chunks old new → AppendsPrefix old new (unmarked seg first chunks)
+stops_prefix seg first number chunks old new s = one_begun seg old s.between new first number s.done s.next s.more chunks s.counted s.split s.whole s.prefix
 
 -- the chunks below the number that is not there
 take_below : (i j : ℕ) (xs ys : List (List ℕ)) → j ≡ i + length xs → j < 2 ^ 32 → take (2 ^ 32 - 1 - i) (xs ++ ys) ≡ xs ++ take (2 ^ 32 - 1 - j) ys
@@ -170,8 +170,8 @@ closed_whole seg a b m n o R f w c = (
 )
 
 -- where the sink failed at the last segment, it has a prefix of them
-pub closed_front : (seg : ℕ → Bool → List ℕ → List ℕ) (a b : ℕ) (m n o : WriterMoment) (R : List ℕ) → IsFresh m → Wrote seg a b m n R → ClosedShort seg n o → AppendsPrefix m.got o.got (sealed seg a b R)
-closed_front seg a b m n o R f w c = subst (AppendsPrefix m.got o.got) (whole seg a b m n R f w) (then_prefix m.got n.got o.got _ _ w.appended c.begun)
+pub closed_prefix : (seg : ℕ → Bool → List ℕ → List ℕ) (a b : ℕ) (m n o : WriterMoment) (R : List ℕ) → IsFresh m → Wrote seg a b m n R → ClosedShort seg n o → AppendsPrefix m.got o.got (sealed seg a b R)
+closed_prefix seg a b m n o R f w c = subst (AppendsPrefix m.got o.got) (whole seg a b m n R f w) (then_prefix m.got n.got o.got _ _ w.appended c.begun)
 
 -- putting the last segment closes a writer
 pub put_closes : (seg : ℕ → Bool → List ℕ → List ℕ) (m n : WriterMoment) (r : Result (Unit {0}) TinkError) → m.mode ≡ Open → PutMeans seg true m n r → CloseMeans seg m n r

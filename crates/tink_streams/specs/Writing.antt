@@ -48,7 +48,7 @@ pub record StopsWithin (seg : ℕ → Bool → List ℕ → List ℕ) (start num
   pub counted : number ≡ start + length done
   pub between : Option (List ℕ)
   pub whole : Appends old between (unmarked seg start done)
-  pub front : AppendsPrefix between new (seg number false next)
+  pub prefix : AppendsPrefix between new (seg number false next)
 
 -- the sink failed in one of those segments
 pub record WrotePrefixOf (seg : ℕ → Bool → List ℕ → List ℕ) (first room : ℕ) (old new : WriterMoment) (text : List ℕ) : Type 0 where

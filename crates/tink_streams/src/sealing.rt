@@ -59,7 +59,7 @@ pub fn send<K: Sink, E: SegmentEncrypter>(
     requires room { sealer.now.room + sealer.now.overhead ≤ length sealed.old }
     ensures ok { OnOk result (Appends (K.got sink.old) (K.got sink.new)
         (segment_map sealer.now number last text.now)) }
-    ensures front { OnErr result (AppendsPrefix (K.got sink.old) (K.got sink.new)
+    ensures prefix { OnErr result (AppendsPrefix (K.got sink.old) (K.got sink.new)
         (segment_map sealer.now number last text.now)) }
     ensures rose { OnErr result (Rose (K.faults sink.old) (K.faults sink.new)) }
     ensures refused { IfErr result (λ e. e ≡ record { kind = WriteFault }) }

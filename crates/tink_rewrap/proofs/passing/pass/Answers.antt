@@ -20,7 +20,7 @@ returns-in_err-open_first-clause-answer g c =
 pub returns-in_err-write-clause-answer : goal.returns-in_err-write-clause-answer
 returns-in_err-write-clause-answer g c =
     let p = err_from_is_err_and c.from_residual-in_err-write.result c.from_residual-in_err-write.ensures.1 in
-    rw (p.1, p.2, c.in_err-write.ensures.refused) (front_failed _ _ _ _ _ _ _ _ _ _ c.in_err-write.ensures.front c.in_err-write.ensures.cause)
+    rw (p.1, p.2, c.in_err-write.ensures.refused) (front_failed _ _ _ _ _ _ _ _ _ _ c.in_err-write.ensures.prefix c.in_err-write.ensures.cause)
 
 pub loop-bytes-init : goal.loop-bytes-init
 loop-bytes-init g c =

@@ -12,7 +12,7 @@ returns-clause-ok g c =
     let l : length c.seal_into.new.sealed ≡ length c.args.text.now + c.args.sealer.now.overhead = omega (arith, length-take {A = ℕ}) in
     rw (written_back (length c.args.text.now + c.args.sealer.now.overhead) c.seal_into.new.sealed c.args.sealed.now _ l c.seal_into.ensures) at c.write_all.ensures.written
 
-pub returns-clause-front : goal.returns-clause-front
-returns-clause-front g c =
+pub returns-clause-prefix : goal.returns-clause-prefix
+returns-clause-prefix g c =
     let l : length c.seal_into.new.sealed ≡ length c.args.text.now + c.args.sealer.now.overhead = omega (arith, length-take {A = ℕ}) in
     rw (written_back (length c.args.text.now + c.args.sealer.now.overhead) c.seal_into.new.sealed c.args.sealed.now _ l c.seal_into.ensures) at c.write_all.ensures.prefix

@@ -63,7 +63,7 @@ returns-in_err-put-clause-answer g c =
         counted = put.counted ∙ inv.proceeds.number;
         between = _;
         whole = inv.written;
-        front = rw (inv.sealer, sym put.counted) at put.begun;
+        prefix = rw (inv.sealer, sym put.counted) at put.begun;
       };
       rose = omega (arith, put.rose);
     })
