@@ -99,7 +99,7 @@ stands_in test ks k passes there =
         later false y h = h
 
 -- what each key of the one list is, each of the other is
-each_too : (P : StreamKey → Type 0) (keys others : List StreamKey) → HaveSameOrder keys others → All P others → All P keys
+pub each_too : (P : StreamKey → Type 0) (keys others : List StreamKey) → HaveSameOrder keys others → All P others → All P keys
 each_too P keys others same all =
     All-weaker (Contains keys) P one keys (All-contains_itself keys)
   where

@@ -2,6 +2,7 @@
 
 ghost use Rattle.std.specs.Prelude.{[], Some, IfOk};
 ghost use Rattle.tink_rewrap.specs.Promises.{IsWholeRewrap};
+ghost use Rattle.tink_rewrap.specs.Rewrapping.{sides};
 ghost use Rattle.tink_run.specs.Outside.{Outside};
 
 use crate::support::{CTR_35, GCM_41, counted, stream_of};

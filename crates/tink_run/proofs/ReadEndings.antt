@@ -1,12 +1,10 @@
 -- How far an open has read its source, once what its sink gathered was handed on, and by the keyset that its keys are of.
-use Rattle.std.proofs.Common.{◌≡◌, inl, inr, ◌≤◌, ◌<◌, ◌+◌, ◌^◌, ℕ, zero, suc, Bool, true, false, cond, List, [], ◌∷◌, length, drop, map, filter, All, Contains, refl, sym, ap, subst, ◌∙◌, arith, bytes_eq, Some, None, IfSome}
+use Rattle.std.proofs.Common.{◌≡◌, inl, inr, ◌≤◌, ◌<◌, ◌+◌, ◌^◌, ℕ, zero, suc, List, [], ◌∷◌, length, drop, map, All, refl, sym, ap, subst, ◌∙◌, arith, Some, None, IfSome}
 use Rattle.std.specs.declared.option.Option.{Option}
 use Rattle.std.specs.Prelude.{Result, Ok, Err, IsSome}
-use Rattle.std.specs.Cmp.Lexicographic.{bytes_decides}
 use Rattle.std.specs.Io.KnownBytes.{Appends, IsAtEnd, Keeps}
 use Rattle.std.proofs.KnownBytes.{Appends-kept}
-use Rattle.std.proofs.lemmas.Bool.{false≢true}
-use Rattle.std.proofs.lemmas.List.Elements.{All-contains, All-contains_itself, All-filter, All-head, All-tail, All-weaker, All-cons, All-nil}
+use Rattle.std.proofs.lemmas.List.Elements.{All-head, All-tail, All-cons, All-nil}
 use Rattle.std.proofs.lemmas.Simd.{map-map}
 use Rattle.tink_io.specs.Taken.{LosesAtMost}
 use Rattle.tink_io.specs.Written.{AppendsPrefix}
@@ -16,9 +14,9 @@ use Rattle.tink_io.specs.declared.error.TinkError.{TinkError}
 use Rattle.stream_model.specs.Agree.{joined}
 use Rattle.stream_model.specs.Key.{StreamKey}
 use Rattle.stream_model.specs.Opening.{OpeningKey, IsChosen, chunks_of, opening_key}
-use Rattle.stream_model.specs.Order.{HaveSameOrder, with_prefix}
+use Rattle.stream_model.specs.Order.{HaveSameOrder}
 use Rattle.stream_model.proofs.KeyFacts.{CanOpen as Lawful}
-use Rattle.stream_model.proofs.OrderFacts.{choose_the_same}
+use Rattle.stream_model.proofs.OrderFacts.{choose_the_same, each_too}
 use Rattle.loading_model.specs.Loading.{Loaded, opening_keys}
 use Rattle.tink_gathered.specs.Gathering.{IsCutShort, OnlyGrows}
 use Rattle.tink_sets.specs.declared.typed_set.TypedPrimitiveSet.{TypedPrimitiveSet}
@@ -173,32 +171,6 @@ opens_reading ks js old new answer same room opens r =
     (opens r.0, subst (λ (n : ℕ). ReadsWithin n js old new answer) room (reads_to (room_under ks) ks js old new same answer r.1))
 
 -- ---- keys in any order among prefixes
-
-stands_in : (test : StreamKey → Bool) (ks : List StreamKey) (k : StreamKey) → test k ≡ true → Contains ks k → Contains (filter test ks) k
-stands_in test ks k passes there = All-contains (λ x. test x ≡ true → Contains (filter test ks) x) ks k (each ks) there passes
-  where
-    each : (xs : List StreamKey) → All (λ x. test x ≡ true → Contains (filter test xs) x) xs
-    each [] = All-nil (λ x. test x ≡ true → Contains (filter test []) x)
-    each (x ∷ xs) = All-cons (λ y. test y ≡ true → Contains (filter test (x ∷ xs)) y) x xs (here (test x)) (All-weaker (λ y. test y ≡ true → Contains (filter test xs) y) (λ y. test y ≡ true → Contains (filter test (x ∷ xs)) y) (λ y h e. later (test x) y (h e)) xs (each xs))
-      where
-        here : (b : Bool) → b ≡ true → Contains (cond b (x ∷ filter test xs) (filter test xs)) x
-        here true e = (0, omega (arith), refl)
-        here false e = absurd (false≢true e)
-
-        later : (b : Bool) (y : StreamKey) → Contains (filter test xs) y → Contains (cond b (x ∷ filter test xs) (filter test xs)) y
-        later true y h = let lt = h.1 in (suc h.0, omega arith, h.2)
-        later false y h = h
-
--- what each key of the one list is, each of the other is
-each_too : (P : StreamKey → Type 0) (keys others : List StreamKey) → HaveSameOrder keys others → All P others → All P keys
-each_too P keys others same all = All-weaker (Contains keys) P one keys (All-contains_itself keys)
-  where
-    one : (k : StreamKey) → Contains keys k → P k
-    one k there =
-        let own : bytes_eq k.out k.out ≡ true = (bytes_decides k.out k.out).1 refl in
-        let mine : Contains (with_prefix k.out keys) k = stands_in (λ x. bytes_eq x.out k.out) keys k own there in
-        let theirs : Contains (with_prefix k.out others) k = subst (λ xs. Contains xs k) (same k.out) mine in
-        All-contains P (with_prefix k.out others) k (All-filter (λ x. bytes_eq x.out k.out) P others all) theirs
 
 abbrev IsWithin : ℕ → StreamKey → Type 0
 IsWithin n k = length k.out + k.segment ≤ n
