@@ -1,6 +1,6 @@
 -- GCM by ciphertext and tag.
-use Rattle.std.proofs.Common.{◌≡◌, ◌-◌, ℕ, List, ◌++◌, length, take, drop, ap, ap₂, sym, ◌∙◌, arith}
-use Rattle.std.proofs.lemmas.List.{take-append-drop, take_at}
+use Rattle.std.proofs.Common.{◌≡◌, ◌≤◌, ◌-◌, ℕ, List, ◌++◌, length, take, drop, ap, ap₂, sym, ◌∙◌, arith}
+use Rattle.std.proofs.lemmas.List.{length-take-le, take-append-drop, take_at}
 use Rattle.std.specs.Int.{w32}
 use Rattle.standards.specs.Counter.{plus_be}
 use Rattle.standards.specs.Gcm.{first_block, gcm, gcm_tag, gcm_text}
@@ -14,19 +14,15 @@ use Rattle.gcm.proofs.Parts.{written}
 pub length-gcm_text : (E : List ℕ → List ℕ) (nonce text : List ℕ) → length (gcm_text E nonce text) ≡ length text
 length-gcm_text E nonce text = length-ctr E (plus_be w32) (plus_be w32 (first_block nonce) 1) text
 
--- a text copied, changed in its place, and its tag behind it
-pub sealed_in_place : (E : List ℕ → List ℕ) (nonce aad text out a b tag t : List ℕ) → let n = length text in
-    a ≡ text → b ≡ gcm_text E nonce (take n (a ++ drop n out)) → tag ≡ gcm_tag E nonce aad (take n (b ++ drop n (a ++ drop n out))) → t ≡ tag
-    → put_mid n (length (b ++ drop n (a ++ drop n out)) - n) (b ++ drop n (a ++ drop n out)) t ≡ gcm E nonce aad text
+-- a text changed in its place, and its tag behind it
+pub sealed_in_place : (E : List ℕ → List ℕ) (nonce aad xs b tag t : List ℕ) (n : ℕ) → n ≤ length xs
+    → b ≡ gcm_text E nonce (take n xs) → tag ≡ gcm_tag E nonce aad (take n (b ++ drop n xs)) → t ≡ tag
+    → put_mid n (length (b ++ drop n xs) - n) (b ++ drop n xs) t ≡ gcm E nonce aad (take n xs)
 unfolding gcm
-sealed_in_place E nonce aad text out a b tag t a_is b_is tag_is t_is =
-    let n = length text in
-    let xs = a ++ drop n out in
-    let front : take n xs ≡ text = take_at a (drop n out) n (ap length a_is) ∙ a_is in
-    let cipher : b ≡ gcm_text E nonce text = b_is ∙ ap (gcm_text E nonce) front in
-    let size : length b ≡ n = ap length cipher ∙ length-gcm_text E nonce text in
-    let tagged : t ≡ gcm_tag E nonce aad (gcm_text E nonce text) = t_is ∙ tag_is ∙ ap (gcm_tag E nonce aad) (take_at b (drop n xs) n size ∙ cipher) in
-    written n xs b t size ∙ ap₂ (λ u v. u ++ v) cipher tagged
+sealed_in_place E nonce aad xs b tag t n fits b_is tag_is t_is =
+    let size : length b ≡ n = ap length b_is ∙ length-gcm_text E nonce (take n xs) ∙ length-take-le n xs fits in
+    let tagged : t ≡ gcm_tag E nonce aad (gcm_text E nonce (take n xs)) = t_is ∙ tag_is ∙ ap (gcm_tag E nonce aad) (take_at b (drop n xs) n size ∙ b_is) in
+    written n xs b t size ∙ ap₂ (λ u v. u ++ v) b_is tagged
 
 -- what is the encryption of a text ends in the tag of its front
 pub tag_of_sealed : (E : List ℕ → List ℕ) (nonce aad text sealed : List ℕ) → gcm E nonce aad text ≡ sealed → gcm_tag E nonce aad (take (length sealed - 16) sealed) ≡ drop (length sealed - 16) sealed

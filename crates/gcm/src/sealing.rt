@@ -1,6 +1,6 @@
 //! GCM (SP 800-38D) with nonces of 12 bytes and tags of 16.
 
-ghost use Rattle.std.specs.Prelude.{◌≡◌, ◌≤◌, ◌<◌, ◌+◌, ◌-◌, ◌*◌, ◌^◌, length, replicate};
+ghost use Rattle.std.specs.Prelude.{◌≡◌, ◌≤◌, ◌<◌, ◌+◌, ◌-◌, ◌*◌, ◌^◌, length, replicate, take};
 ghost use Rattle.std.specs.Int.{w128, from_be_bytes};
 ghost use Rattle.standards.specs.Gcm.{first_block, gcm, gcm_tag, gcm_text};
 ghost use Rattle.gcm.specs.Answers.{IsOpened, IsSealed, IsTried};
@@ -64,7 +64,20 @@ fn tag_of<C: BlockCipherEncrypt<16>>(
     xored(&sum, &mask)
 }
 
-// Ciphertext and tag of a text whose blocks are counted.
+// Ciphertext and tag of a text whose blocks are counted, in its place: `bytes` is the text and room for the tag.
+fn seal_here<C: BlockCipherEncrypt<16>>(g: &Gcm<C>, nonce: &[u8], aad: &[u8], bytes: &mut [u8])
+    requires nonce { length nonce.now ≡ 12 }
+    requires room { 16 ≤ length bytes.old }
+    requires text { length bytes.old - 16 ≤ 2 ^ 36 }
+    ensures { bytes.new ≡ gcm (C.encrypts g.now.cipher) nonce.now aad.now (take (length bytes.old - 16) bytes.old) }
+{
+    let n = bytes.len() - 16;
+    apply_text(&g.cipher, nonce, &mut bytes[..n]);
+    let tag = tag_of(g, nonce, aad, &bytes[..n]);
+    bytes[n..].copy_from_slice(&tag);
+}
+
+// The same of a text that stands elsewhere.
 fn seal<C: BlockCipherEncrypt<16>>(
     g: &Gcm<C>,
     nonce: &[u8],
@@ -77,11 +90,8 @@ fn seal<C: BlockCipherEncrypt<16>>(
     requires room { length out.old ≡ length text.now + 16 }
     ensures { out.new ≡ gcm (C.encrypts g.now.cipher) nonce.now aad.now text.now }
 {
-    let n = text.len();
-    out[..n].copy_from_slice(text);
-    apply_text(&g.cipher, nonce, &mut out[..n]);
-    let tag = tag_of(g, nonce, aad, &out[..n]);
-    out[n..].copy_from_slice(&tag);
+    out[..text.len()].copy_from_slice(text);
+    seal_here(g, nonce, aad, out);
 }
 
 // Opens what has no more blocks than are counted: false where no text is sealed so, and then nothing is written.
@@ -137,6 +147,22 @@ impl<C: BlockCipherEncrypt<16>> Gcm<C> {
     {
         check_lengths(aad.len(), text.len(), MOST_TEXT)?;
         seal(self, nonce, aad, text, out);
+        Ok(())
+    }
+
+    /// Makes the ciphertext and the tag of a text in its place, under a nonce of 12 bytes and with the associated data
+    /// `aad` (7.1). `bytes` is the text and 16 bytes behind it, whatever these are. A nonce serves once under each key.
+    ///
+    /// # Errors
+    /// Those of `seal_into`. `bytes` is then as before.
+    pub fn seal_in_place(&self, nonce: &[u8], aad: &[u8], bytes: &mut [u8]) -> GcmResult
+        requires nonce { length nonce.now ≡ 12 }
+        requires room { 16 ≤ length bytes.old }
+        ensures { IsSealed (gcm (C.encrypts self.now.cipher) nonce.now aad.now) MOST_GCM
+            aad.now (take (length bytes.old - 16) bytes.old) bytes.old bytes.new result }
+    {
+        check_lengths(aad.len(), bytes.len() - 16, MOST_TEXT)?;
+        seal_here(self, nonce, aad, bytes);
         Ok(())
     }
 

@@ -1,7 +1,0 @@
-use Rattle.gcm.proofs.GcmFacts.{sealed_in_place}
-use Rattle.gcm.proofs.sealing.seal.Goals as goal
-
-pub returns : goal.returns
-returns g c =
-    sealed_in_place (g.C.BlockCipherEncrypt.encrypts c.args.g.now.cipher) c.args.nonce.now c.args.aad.now c.args.text.now c.args.out.now c.copy_from_slice.new.self c.apply_text.new.bytes c.tag_of-tag.result c.copy_from_slice-2.new.self
-    c.copy_from_slice.ensures.after c.apply_text.ensures c.tag_of-tag.ensures c.copy_from_slice-2.ensures.after
