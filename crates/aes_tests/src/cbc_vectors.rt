@@ -1,9 +1,9 @@
 //! Vectors of SP 800-38A for cipher block chaining.
 
-use crate::expected::{check, expect};
+use crate::expected::check;
 use aes_block::{Aes128, Aes256};
 use cbc::{Decryptor, Encryptor};
-use cipher::{BlockCipherEncrypt, InnerIvInit, IvState, KeyInit, SetIvState};
+use cipher::{BlockCipherDecrypt, BlockCipherEncrypt, InnerIvInit, IvState, KeyInit, SetIvState};
 use cipher_modes::BlockModeEncrypt;
 use cipher_modes::dev::block_mode::{TestVector, decrypt, encrypt};
 
@@ -39,41 +39,13 @@ const LARGE: TestVector = TestVector {
 
 type Told = Result<(), &'static str>;
 
-// what the tests both ways answer, under a key of 16 bytes
-fn small(vector: &TestVector) -> [Told; 2] {
-    [
-        encrypt::<Encryptor<Aes128, [u8; 16]>, 16, 16, 16>(vector),
-        decrypt::<Decryptor<Aes128, [u8; 16]>, 16, 16, 16>(vector),
-    ]
-}
-
-// the same under a key of 32 bytes
-fn large(vector: &TestVector) -> [Told; 2] {
-    [
-        encrypt::<Encryptor<Aes256, [u8; 16]>, 32, 16, 16>(vector),
-        decrypt::<Decryptor<Aes256, [u8; 16]>, 32, 16, 16>(vector),
-    ]
-}
-
-#[test]
-fn the_standards_vectors(rt: HostRuntime) {
-    expect(&rt, small(&SMALL), [Ok(()); 2], "a key of 16 bytes");
-    expect(&rt, large(&LARGE), [Ok(()); 2], "a key of 32 bytes");
-}
-
-#[test]
-fn a_changed_vector_is_told(rt: HostRuntime) {
-    let mut vector = SMALL;
-    vector.iv = b"\x01\x01\x02\x03\x04\x05\x06\x07\x08\x09\x0a\x0b\x0c\x0d\x0e\x0f";
-    expect(
-        &rt,
-        small(&vector),
-        [
-            Err("single block encryption failure"),
-            Err("single block decryption failure"),
-        ],
-        "another initialization vector",
-    );
+// whether the tests both ways answer this
+fn is_told<C: KeyInit<K> + BlockCipherEncrypt<16> + BlockCipherDecrypt<16> + Drop, const K: usize>(
+    vector: &TestVector,
+    want: &[Told; 2],
+) -> bool {
+    encrypt::<Encryptor<C, [u8; 16]>, K, 16, 16>(vector) == want[0]
+        && decrypt::<Decryptor<C, [u8; 16]>, K, 16, 16>(vector) == want[1]
 }
 
 // Blocks enciphered in their places.
@@ -98,9 +70,24 @@ fn goes_on() -> bool {
     one == other && one == third
 }
 
+const RIGHT: [Told; 2] = [Ok(()); 2];
+
+const WRONG: [Told; 2] = [
+    Err("single block encryption failure"),
+    Err("single block decryption failure"),
+];
+
 #[test]
-fn a_state_goes_on_elsewhere(rt: HostRuntime) {
+fn cipher_block_chaining(rt: HostRuntime) {
+    let small = is_told::<Aes128, 16>(&SMALL, &RIGHT);
+    check(&rt, small, "a key of 16 bytes");
+    let large = is_told::<Aes256, 32>(&LARGE, &RIGHT);
+    check(&rt, large, "a key of 32 bytes");
+    let mut vector = SMALL;
+    vector.iv = b"\x01\x01\x02\x03\x04\x05\x06\x07\x08\x09\x0a\x0b\x0c\x0d\x0e\x0f";
+    let changed = is_told::<Aes128, 16>(&vector, &WRONG);
+    check(&rt, changed, "another initialization vector");
+    check(&rt, goes_on(), "another mode goes on");
     let short = Decryptor::inner_iv_slice_init(Aes128::new(&[7; 16]), &[0; 15]);
-    check(&rt, goes_on(), "another mode");
     check(&rt, short.is_err(), "a vector of 15 bytes");
 }

@@ -5,18 +5,13 @@ ghost use Rattle.std.specs.Int.{w64};
 ghost use Rattle.standards.specs.AesKeys.{aes};
 ghost use Rattle.standards.specs.Counter.{ctr, plus_be};
 
-use crate::expected::{Named, check, expect, is_debug, is_shown};
+use crate::expected::check;
 use aes_block::Aes128;
 use cipher::{InOutBuf, InnerIvInit, IvState, KeyInit, KeyIvInit, SetIvState};
-use cipher_stream::{
-    StreamCipher, StreamCipherCore, StreamCipherError, StreamCipherSeek, StreamCipherSeekCore,
-};
+use cipher_stream::{StreamCipher, StreamCipherCore, StreamCipherSeek, StreamCipherSeekCore};
 use ctr::{Ctr32BE, Ctr32LE, Ctr64BE, CtrCore, CtrFlavor, flavors};
-use std::test::Fail;
 
 const KEY: &[u8; 16] = &[0, 1, 2, 3, 4, 5, 6, 7, 8, 9, 10, 11, 12, 13, 14, 15];
-
-type Told = Result<(), StreamCipherError>;
 
 // A text under AES in counter mode, with the counter in the last eight bytes of the nonce.
 fn encrypt(key: &[u8; 16], nonce: &[u8; 16], text: &mut [u8])
@@ -26,29 +21,31 @@ fn encrypt(key: &[u8; 16], nonce: &[u8; 16], text: &mut [u8])
     cipher.apply_keystream(text);
 }
 
-// the text encrypted under a nonce whose counter wraps
-fn once_and_twice() -> [[u8; 20]; 2] {
-    let nonce = b"\x10\x11\x12\x13\x14\x15\x16\x17\xff\xff\xff\xff\xff\xff\xff\xfe";
+// Under this nonce the counter of a flavour of 64 bits wraps after two blocks.
+const WRAPPING: &[u8; 16] = b"\x10\x11\x12\x13\x14\x15\x16\x17\xff\xff\xff\xff\xff\xff\xff\xfe";
+
+// Whether zeros are encrypted to those bytes, and these to zeros.
+fn goes_and_returns(want: &[u8; 20]) -> bool {
     let mut text = [0; 20];
-    encrypt(KEY, nonce, &mut text);
-    let made = text;
-    encrypt(KEY, nonce, &mut text);
-    [made, text]
+    encrypt(KEY, WRAPPING, &mut text);
+    let same = text == *want;
+    encrypt(KEY, WRAPPING, &mut text);
+    same && text == [0; 20]
 }
 
-// what is answered, four blocks over the wrap, and the place of the next
-fn over_the_wrap() -> (Told, [u8; 64], u32) {
+// Whether four blocks over the wrap are those, and the next is block 4.
+fn goes_past_its_wrap(want: &[u8; 64]) -> bool {
     let mut cipher = Ctr32BE::<Aes128>::new(
         KEY,
         b"\x22\x22\x22\x22\x22\x22\x22\x22\x22\x22\x22\x22\xff\xff\xff\xfe",
     );
     let mut bytes = [0; 64];
     let told = cipher.try_apply_keystream(&mut bytes);
-    (told, bytes, cipher.get_core().get_block_pos())
+    told.is_ok() && bytes == *want && cipher.get_core().get_block_pos() == 4
 }
 
-// the same from block 1 on
-fn from_a_seek() -> ([Told; 2], [u8; 64], u32) {
+// The same from block 1 on.
+fn goes_on_from_a_seek(want: &[u8; 64]) -> bool {
     let mut cipher = Ctr32LE::<Aes128>::new(
         KEY,
         b"\x11\x11\x11\x11\x11\x11\x11\x11\x11\x11\x11\x11\x11\x11\x11\x91",
@@ -56,137 +53,16 @@ fn from_a_seek() -> ([Told; 2], [u8; 64], u32) {
     let mut bytes = [0; 64];
     let sought = cipher.try_seek(16u32);
     let told = cipher.try_apply_keystream(&mut bytes);
-    ([sought, told], bytes, cipher.get_core().get_block_pos())
+    let place = cipher.get_core().get_block_pos();
+    sought.is_ok() && told.is_ok() && bytes == *want && place == 5
 }
 
-#[test]
-fn encrypts_and_decrypts(rt: HostRuntime) {
-    expect(
-        &rt,
-        once_and_twice(),
-        [
-            *b"\x1e\x6a\x05\x6f\x13\xa7\xf2\x0a\x71\xeb\x11\x65\xc2\xf2\x56\x48\x49\x04\x7e\x74",
-            [0; 20],
-        ],
-        "once and twice",
-    );
-}
-
-#[test]
-fn a_big_counter_goes_on_past_its_wrap(rt: HostRuntime) {
-    expect(
-        &rt,
-        over_the_wrap(),
-        (
-            Ok(()),
-            *b"\x58\xfc\x84\x9d\x1c\xf5\x3c\x54\xc6\x3e\x1b\x1d\x15\xcb\x3c\x8a\xaa\x33\x5f\x72\x13\x55\x85\xe9\xff\x94\x3f\x4d\xac\x77\xcb\x63\xbd\x1a\xe8\x71\x6b\xe6\x9c\x3b\x4d\x88\x6b\x22\x2b\x9b\x4e\x1e\x67\x54\x8e\xf8\x96\xa9\x6e\x27\x46\xd8\xca\x64\x76\xd8\xb1\x83",
-            4,
-        ),
-        "over the wrap",
-    );
-}
-
-#[test]
-fn a_little_counter_goes_on_from_a_seek(rt: HostRuntime) {
-    expect(
-        &rt,
-        from_a_seek(),
-        (
-            [Ok(()); 2],
-            *b"\xf1\x8b\x39\xaf\xf6\x93\x0f\xdb\x2d\x9f\xce\x34\x26\x1f\xf6\x99\xeb\x96\x77\x46\x69\xd2\x4b\x56\x0c\x9a\xd0\x28\xc5\xc3\x9c\x45\x80\x77\x5a\x82\x06\x52\x56\xb4\x78\x7d\xc9\x1c\x69\x42\xb7\x00\x15\x64\xdd\xa1\xb0\x7d\xce\xd9\x20\x1a\xb7\x1b\xaf\x06\x90\x5b",
-            5,
-        ),
-        "from a seek",
-    );
-}
-
-// the first three blocks under the key
-fn first_blocks<F: CtrFlavor<16>>(iv: &[u8; 16]) -> [[u8; 16]; 3] {
+// Whether a flavour has this name, and its first blocks are those.
+fn is_flavor<F: CtrFlavor<16>>(name: &str, iv: &[u8; 16], want: &[[u8; 16]; 3]) -> bool {
     let mut core = CtrCore::<Aes128, F, 16>::new(KEY, iv);
     let mut blocks = [[0; 16]; 3];
     core.write_keystream_blocks(&mut blocks);
-    blocks
-}
-
-// expected values by the ECB mode of OpenSSL, on the counter blocks
-#[test]
-fn counters_in_the_last_bytes_wrap_there(rt: HostRuntime) {
-    expect(
-        &rt,
-        first_blocks::<flavors::Ctr32BE>(
-            b"\x10\x11\x12\x13\x14\x15\x16\x17\x18\x19\x1a\x1b\xff\xff\xff\xfe",
-        ),
-        [
-            *b"\x4c\x11\xec\xab\xff\xb3\x93\xb2\x63\x97\x63\x4b\xc7\xbc\x48\x13",
-            *b"\xd2\xec\xa9\x45\x89\xad\x47\xa0\x68\x23\x03\xf5\xb1\xd0\xe7\x77",
-            *b"\x07\x4b\xce\x62\xd9\x8c\xb9\x01\x1c\xec\x69\x58\xeb\xb4\xfc\x36",
-        ],
-        "Ctr32BE",
-    );
-    expect(
-        &rt,
-        first_blocks::<flavors::Ctr64BE>(
-            b"\x10\x11\x12\x13\x14\x15\x16\x17\xff\xff\xff\xff\xff\xff\xff\xfe",
-        ),
-        [
-            *b"\x1e\x6a\x05\x6f\x13\xa7\xf2\x0a\x71\xeb\x11\x65\xc2\xf2\x56\x48",
-            *b"\x49\x04\x7e\x74\xea\x04\xc2\xc9\xf1\xfe\x06\xbe\xe6\x11\x57\x24",
-            *b"\x8d\xe6\xd8\xc0\xdd\x5b\xcc\x98\xdf\x46\x3a\xca\xe0\xf5\x2a\x75",
-        ],
-        "Ctr64BE",
-    );
-    expect(
-        &rt,
-        first_blocks::<flavors::Ctr128BE>(
-            b"\xff\xff\xff\xff\xff\xff\xff\xff\xff\xff\xff\xff\xff\xff\xff\xfe",
-        ),
-        [
-            *b"\xb6\xb5\xc2\xd8\x2d\x8b\xd4\x0f\xcf\x4e\xd8\xf4\xae\x6e\x97\xee",
-            *b"\x3c\x44\x1f\x32\xce\x07\x82\x23\x64\xd7\xa2\x99\x0e\x50\xbb\x13",
-            *b"\xc6\xa1\x3b\x37\x87\x8f\x5b\x82\x6f\x4f\x81\x62\xa1\xc8\xd8\x79",
-        ],
-        "Ctr128BE",
-    );
-}
-
-#[test]
-fn counters_in_the_first_bytes_wrap_there(rt: HostRuntime) {
-    expect(
-        &rt,
-        first_blocks::<flavors::Ctr32LE>(
-            b"\xfe\xff\xff\xff\x10\x11\x12\x13\x14\x15\x16\x17\x18\x19\x1a\x1b",
-        ),
-        [
-            *b"\x6d\x5a\xd3\xff\xc8\xc7\x2f\x9c\x3a\x52\xd2\x7b\x80\xf4\x84\x88",
-            *b"\x64\x71\x36\xc9\x16\xbc\xf3\x76\x1d\x77\x4d\xa0\x51\x90\x10\xbf",
-            *b"\x77\xd9\x30\xbc\x45\xd7\xa5\x70\x52\xe9\x6a\x8c\x74\x08\x07\x42",
-        ],
-        "Ctr32LE",
-    );
-    expect(
-        &rt,
-        first_blocks::<flavors::Ctr64LE>(
-            b"\xfe\xff\xff\xff\xff\xff\xff\xff\x10\x11\x12\x13\x14\x15\x16\x17",
-        ),
-        [
-            *b"\xd1\x46\x1f\xf9\x03\xbc\x7c\x03\x3d\x84\xea\x78\x56\x19\xe2\xd6",
-            *b"\x85\x9e\xa5\xcd\x12\xda\x2b\x5e\x1a\x4f\x7e\xb6\x9c\x11\x0e\x08",
-            *b"\xe1\x66\x53\xb5\xcc\x55\xb3\xb2\xde\xa8\x15\xa6\x5f\x72\x87\xd0",
-        ],
-        "Ctr64LE",
-    );
-    expect(
-        &rt,
-        first_blocks::<flavors::Ctr128LE>(
-            b"\xfe\xff\xff\xff\xff\xff\xff\xff\xff\xff\xff\xff\xff\xff\xff\xff",
-        ),
-        [
-            *b"\xbc\xd7\x2a\xbc\x9f\xe5\xcf\x33\x97\xab\x09\x24\x94\x98\x74\xb6",
-            *b"\x3c\x44\x1f\x32\xce\x07\x82\x23\x64\xd7\xa2\x99\x0e\x50\xbb\x13",
-            *b"\xc6\xa1\x3b\x37\x87\x8f\x5b\x82\x6f\x4f\x81\x62\xa1\xc8\xd8\x79",
-        ],
-        "Ctr128LE",
-    );
+    F::NAME == name && F::flavor_name() == name && blocks == *want
 }
 
 type Core = CtrCore<Aes128, flavors::Ctr32BE, 16>;
@@ -198,49 +74,27 @@ fn near_the_end() -> Core {
     core
 }
 
-// what remains, the place, and what 17 bytes and then 16 answer, with the bytes after the refusal and what remains
-fn at_the_last() -> ([Option<usize>; 2], u32, [Told; 2], [u8; 17]) {
+// Whether one block remains, of which 17 bytes are refused, with no byte changed, and then 16 are given.
+fn gives_its_last_block() -> bool {
     let core = near_the_end();
-    let before = core.remaining_blocks();
-    let place = core.get_block_pos();
+    let before = core.remaining_blocks() == Some(1) && core.get_block_pos() == 4294967294;
     let mut cipher = Ctr32BE::<Aes128>::from_core(core);
     let mut bytes = [0; 17];
     let refused = cipher.try_apply_keystream(&mut bytes);
     let given = cipher.try_apply_keystream(&mut [0; 16]);
     let after = cipher.get_core().remaining_blocks();
-    ([before, after], place, [refused, given], bytes)
+    before && refused.is_err() && given.is_ok() && bytes == [0; 17] && after == Some(0)
 }
 
-// whether n bytes, at most 32, are given at the last block and change
-fn given_in_part(n: usize) -> (Told, bool) {
+// Whether n bytes, at most 32, are given there, and change where they are.
+fn are_given(n: usize) -> bool {
     let mut bytes = [0; 32];
     let told = near_the_end().try_apply_keystream_partial(InOutBuf::from(&mut bytes[..n.min(32)]));
-    (told, bytes != [0; 32])
+    let is_given = n < 32;
+    told.is_ok() == is_given && (bytes != [0; 32]) == is_given
 }
 
-#[test]
-fn one_block_remains_before_the_last(rt: HostRuntime) {
-    expect(
-        &rt,
-        at_the_last(),
-        (
-            [Some(1), Some(0)],
-            4294967294,
-            [Err(StreamCipherError), Ok(())],
-            [0; 17],
-        ),
-        "a block",
-    );
-    expect(&rt, given_in_part(31), (Ok(()), true), "a part more");
-    expect(
-        &rt,
-        given_in_part(32),
-        (Err(StreamCipherError), false),
-        "a block more",
-    );
-}
-
-// what remains from the start and from near the end of a counter of 128 bits
+// What remains from the start and from near the end of a counter of 128 bits.
 fn remaining_of_many() -> [Option<usize>; 2] {
     let mut core = CtrCore::<Aes128, flavors::Ctr128BE, 16>::new(KEY, &[0; 16]);
     let many = core.remaining_blocks();
@@ -248,34 +102,26 @@ fn remaining_of_many() -> [Option<usize>; 2] {
     [many, core.remaining_blocks()]
 }
 
-// the state of a core after one block
+type LongCore = CtrCore<Aes128, flavors::Ctr64BE, 16>;
+
+// The state of a core after one block.
 fn state_after_one() -> [u8; 16] {
-    let mut core = CtrCore::<Aes128, flavors::Ctr64BE, 16>::new(
-        KEY,
-        b"\x10\x11\x12\x13\x14\x15\x16\x17\xff\xff\xff\xff\xff\xff\xff\xfe",
-    );
+    let mut core = LongCore::new(KEY, WRAPPING);
     core.write_keystream_block(&mut [0; 16]);
     core.iv_state()
 }
 
-// another core's next two blocks from a state on
-fn blocks_from(state: &[u8; 16]) -> [[u8; 16]; 2] {
-    let mut core = CtrCore::<Aes128, flavors::Ctr64BE, 16>::new(KEY, &[0; 16]);
+// Whether another core's next two blocks from a state on are those, and its place is 0 where the state is set again.
+fn goes_on(state: &[u8; 16], want: &[[u8; 16]; 2]) -> bool {
+    let mut core = LongCore::new(KEY, &[0; 16]);
     core.set_iv(state);
     let mut blocks = [[0; 16]; 2];
     core.write_keystream_blocks(&mut blocks);
-    blocks
-}
-
-// the place of a core whose state is set after one block
-fn place_after_setting(state: &[u8; 16]) -> u64 {
-    let mut core = CtrCore::<Aes128, flavors::Ctr64BE, 16>::new(KEY, &[0; 16]);
-    core.write_keystream_block(&mut [0; 16]);
     core.set_iv(state);
-    core.get_block_pos()
+    blocks == *want && core.get_block_pos() == 0
 }
 
-// the place, and what remains, after the vector that a core is at was set in the middle of its stream
+// The place, and what remains, after the vector that a core is at was set in the middle of its stream.
 fn set_where_it_is() -> (u32, Option<usize>) {
     let mut core = Core::new(KEY, &[0; 16]);
     core.write_keystream_block(&mut [0; 16]);
@@ -284,72 +130,163 @@ fn set_where_it_is() -> (u32, Option<usize>) {
     (core.get_block_pos(), core.remaining_blocks())
 }
 
-#[test]
-fn another_core_goes_on_from_a_state(rt: HostRuntime) {
-    let state = state_after_one();
-    expect(
-        &rt,
-        state,
-        *b"\x10\x11\x12\x13\x14\x15\x16\x17\xff\xff\xff\xff\xff\xff\xff\xff",
-        "the state",
-    );
-    expect(
-        &rt,
-        blocks_from(&state),
+#[derive(Clone, Copy)]
+enum Flavor {
+    Ctr32BE,
+    Ctr64BE,
+    Ctr128BE,
+    Ctr32LE,
+    Ctr64LE,
+    Ctr128LE,
+}
+
+enum Asked {
+    GoAndReturn(&'static [u8; 20]),
+    GoPastTheWrap(&'static [u8; 64]),
+    Seek(&'static [u8; 64]),
+    GiveTheLast,
+    GivePart(usize),
+    Remain([Option<usize>; 2]),
+    State(&'static [u8; 16]),
+    GoOn(&'static [u8; 16], [[u8; 16]; 2]),
+    Set(u32, Option<usize>),
+}
+
+fn does(asked: &Asked) -> bool {
+    match asked {
+        Asked::GoAndReturn(want) => goes_and_returns(want),
+        Asked::GoPastTheWrap(want) => goes_past_its_wrap(want),
+        Asked::Seek(want) => goes_on_from_a_seek(want),
+        Asked::GiveTheLast => gives_its_last_block(),
+        Asked::GivePart(n) => are_given(*n),
+        Asked::Remain(want) => remaining_of_many() == *want,
+        Asked::State(want) => state_after_one() == **want,
+        Asked::GoOn(state, want) => goes_on(state, want),
+        Asked::Set(place, remaining) => set_where_it_is() == (*place, *remaining),
+    }
+}
+
+// The nonce whose counter wraps, and one more.
+const AFTER_ONE: &[u8; 16] = b"\x10\x11\x12\x13\x14\x15\x16\x17\xff\xff\xff\xff\xff\xff\xff\xff";
+
+const ROWS: &[(&str, Asked)] = &[
+    (
+        "once and twice",
+        Asked::GoAndReturn(
+            b"\x1e\x6a\x05\x6f\x13\xa7\xf2\x0a\x71\xeb\x11\x65\xc2\xf2\x56\x48\x49\x04\x7e\x74",
+        ),
+    ),
+    (
+        "a big counter past its wrap",
+        Asked::GoPastTheWrap(
+            b"\x58\xfc\x84\x9d\x1c\xf5\x3c\x54\xc6\x3e\x1b\x1d\x15\xcb\x3c\x8a\xaa\x33\x5f\x72\x13\x55\x85\xe9\xff\x94\x3f\x4d\xac\x77\xcb\x63\xbd\x1a\xe8\x71\x6b\xe6\x9c\x3b\x4d\x88\x6b\x22\x2b\x9b\x4e\x1e\x67\x54\x8e\xf8\x96\xa9\x6e\x27\x46\xd8\xca\x64\x76\xd8\xb1\x83",
+        ),
+    ),
+    (
+        "a little counter from a seek",
+        Asked::Seek(
+            b"\xf1\x8b\x39\xaf\xf6\x93\x0f\xdb\x2d\x9f\xce\x34\x26\x1f\xf6\x99\xeb\x96\x77\x46\x69\xd2\x4b\x56\x0c\x9a\xd0\x28\xc5\xc3\x9c\x45\x80\x77\x5a\x82\x06\x52\x56\xb4\x78\x7d\xc9\x1c\x69\x42\xb7\x00\x15\x64\xdd\xa1\xb0\x7d\xce\xd9\x20\x1a\xb7\x1b\xaf\x06\x90\x5b",
+        ),
+    ),
+    ("one block before the last", Asked::GiveTheLast),
+    ("a part more", Asked::GivePart(31)),
+    ("a block more", Asked::GivePart(32)),
+    ("what remains of many", Asked::Remain([None, Some(5)])),
+    ("the state after a block", Asked::State(AFTER_ONE)),
+    (
+        "another core from it on",
+        Asked::GoOn(
+            AFTER_ONE,
+            [
+                *b"\x49\x04\x7e\x74\xea\x04\xc2\xc9\xf1\xfe\x06\xbe\xe6\x11\x57\x24",
+                *b"\x8d\xe6\xd8\xc0\xdd\x5b\xcc\x98\xdf\x46\x3a\xca\xe0\xf5\x2a\x75",
+            ],
+        ),
+    ),
+    ("the same vector", Asked::Set(0, Some(4294967295))),
+];
+
+fn holds(flavor: Flavor, name: &str, iv: &[u8; 16], want: &[[u8; 16]; 3]) -> bool {
+    match flavor {
+        Flavor::Ctr32BE => is_flavor::<flavors::Ctr32BE>(name, iv, want),
+        Flavor::Ctr64BE => is_flavor::<flavors::Ctr64BE>(name, iv, want),
+        Flavor::Ctr128BE => is_flavor::<flavors::Ctr128BE>(name, iv, want),
+        Flavor::Ctr32LE => is_flavor::<flavors::Ctr32LE>(name, iv, want),
+        Flavor::Ctr64LE => is_flavor::<flavors::Ctr64LE>(name, iv, want),
+        Flavor::Ctr128LE => is_flavor::<flavors::Ctr128LE>(name, iv, want),
+    }
+}
+
+// Each wraps in its field. Expected values by the ECB mode of OpenSSL, on the counter blocks.
+const FLAVORS: &[(&str, Flavor, &[u8; 16], [[u8; 16]; 3])] = &[
+    (
+        "32BE",
+        Flavor::Ctr32BE,
+        b"\x10\x11\x12\x13\x14\x15\x16\x17\x18\x19\x1a\x1b\xff\xff\xff\xfe",
         [
+            *b"\x4c\x11\xec\xab\xff\xb3\x93\xb2\x63\x97\x63\x4b\xc7\xbc\x48\x13",
+            *b"\xd2\xec\xa9\x45\x89\xad\x47\xa0\x68\x23\x03\xf5\xb1\xd0\xe7\x77",
+            *b"\x07\x4b\xce\x62\xd9\x8c\xb9\x01\x1c\xec\x69\x58\xeb\xb4\xfc\x36",
+        ],
+    ),
+    (
+        "64BE",
+        Flavor::Ctr64BE,
+        b"\x10\x11\x12\x13\x14\x15\x16\x17\xff\xff\xff\xff\xff\xff\xff\xfe",
+        [
+            *b"\x1e\x6a\x05\x6f\x13\xa7\xf2\x0a\x71\xeb\x11\x65\xc2\xf2\x56\x48",
             *b"\x49\x04\x7e\x74\xea\x04\xc2\xc9\xf1\xfe\x06\xbe\xe6\x11\x57\x24",
             *b"\x8d\xe6\xd8\xc0\xdd\x5b\xcc\x98\xdf\x46\x3a\xca\xe0\xf5\x2a\x75",
         ],
-        "the blocks",
-    );
-    expect(&rt, place_after_setting(&state), 0, "the place");
-    expect(
-        &rt,
-        set_where_it_is(),
-        (0, Some(4294967295)),
-        "the same vector",
-    );
-    expect(&rt, remaining_of_many(), [None, Some(5)], "what remains");
-}
+    ),
+    (
+        "128BE",
+        Flavor::Ctr128BE,
+        b"\xff\xff\xff\xff\xff\xff\xff\xff\xff\xff\xff\xff\xff\xff\xff\xfe",
+        [
+            *b"\xb6\xb5\xc2\xd8\x2d\x8b\xd4\x0f\xcf\x4e\xd8\xf4\xae\x6e\x97\xee",
+            *b"\x3c\x44\x1f\x32\xce\x07\x82\x23\x64\xd7\xa2\x99\x0e\x50\xbb\x13",
+            *b"\xc6\xa1\x3b\x37\x87\x8f\x5b\x82\x6f\x4f\x81\x62\xa1\xc8\xd8\x79",
+        ],
+    ),
+    (
+        "32LE",
+        Flavor::Ctr32LE,
+        b"\xfe\xff\xff\xff\x10\x11\x12\x13\x14\x15\x16\x17\x18\x19\x1a\x1b",
+        [
+            *b"\x6d\x5a\xd3\xff\xc8\xc7\x2f\x9c\x3a\x52\xd2\x7b\x80\xf4\x84\x88",
+            *b"\x64\x71\x36\xc9\x16\xbc\xf3\x76\x1d\x77\x4d\xa0\x51\x90\x10\xbf",
+            *b"\x77\xd9\x30\xbc\x45\xd7\xa5\x70\x52\xe9\x6a\x8c\x74\x08\x07\x42",
+        ],
+    ),
+    (
+        "64LE",
+        Flavor::Ctr64LE,
+        b"\xfe\xff\xff\xff\xff\xff\xff\xff\x10\x11\x12\x13\x14\x15\x16\x17",
+        [
+            *b"\xd1\x46\x1f\xf9\x03\xbc\x7c\x03\x3d\x84\xea\x78\x56\x19\xe2\xd6",
+            *b"\x85\x9e\xa5\xcd\x12\xda\x2b\x5e\x1a\x4f\x7e\xb6\x9c\x11\x0e\x08",
+            *b"\xe1\x66\x53\xb5\xcc\x55\xb3\xb2\xde\xa8\x15\xa6\x5f\x72\x87\xd0",
+        ],
+    ),
+    (
+        "128LE",
+        Flavor::Ctr128LE,
+        b"\xfe\xff\xff\xff\xff\xff\xff\xff\xff\xff\xff\xff\xff\xff\xff\xff",
+        [
+            *b"\xbc\xd7\x2a\xbc\x9f\xe5\xcf\x33\x97\xab\x09\x24\x94\x98\x74\xb6",
+            *b"\x3c\x44\x1f\x32\xce\x07\x82\x23\x64\xd7\xa2\x99\x0e\x50\xbb\x13",
+            *b"\xc6\xa1\x3b\x37\x87\x8f\x5b\x82\x6f\x4f\x81\x62\xa1\xc8\xd8\x79",
+        ],
+    ),
+];
 
 #[test]
-fn cores_have_names(rt: HostRuntime) -> Result<(), Fail> {
-    let core = CtrCore::<Aes128, flavors::Ctr128BE, 16>::new(KEY, &[0; 16]);
-    check(
-        &rt,
-        is_debug(rt.alloc(), &core, "Ctr128BE<Aes128> { ... }")?,
-        "debug",
-    );
-    check(
-        &rt,
-        is_shown(rt.alloc(), &Named(core), "Ctr128BE<Aes128>")?,
-        "name",
-    );
-    Ok(())
-}
-
-#[test]
-fn a_nonce_has_a_name(rt: HostRuntime) -> Result<(), Fail> {
-    let nonce = <flavors::Ctr32LE as CtrFlavor<16>>::from_nonce(&[0; 16]).clone()?;
-    check(
-        &rt,
-        is_debug(rt.alloc(), &nonce, "CtrNonce32 { ... }")?,
-        "debug",
-    );
-    Ok(())
-}
-
-// whether a flavour's constant and its call both say this
-fn is_named<F: CtrFlavor<16>>(want: &str) -> bool {
-    F::NAME == want && F::flavor_name() == want
-}
-
-#[test]
-fn flavours_have_names(rt: HostRuntime) {
-    check(&rt, is_named::<flavors::Ctr32BE>("32BE"), "32BE");
-    check(&rt, is_named::<flavors::Ctr32LE>("32LE"), "32LE");
-    check(&rt, is_named::<flavors::Ctr64BE>("64BE"), "64BE");
-    check(&rt, is_named::<flavors::Ctr64LE>("64LE"), "64LE");
-    check(&rt, is_named::<flavors::Ctr128BE>("128BE"), "128BE");
-    check(&rt, is_named::<flavors::Ctr128LE>("128LE"), "128LE");
+fn counters_go_on(rt: HostRuntime) {
+    for (row, asked) in ROWS {
+        check(&rt, does(asked), row);
+    }
+    for (name, flavor, iv, want) in FLAVORS {
+        check(&rt, holds(*flavor, name, iv, want), name);
+    }
 }

@@ -3,6 +3,7 @@
 ghost use Rattle.std.specs.Prelude.{◌≡◌, ◌≤◌, ◌+◌, length};
 
 use crate::expected::check_at;
+use crate::seals::some_bytes;
 use aes_block::Aes128;
 use cipher::{BlockCipherEncrypt, KeyInit};
 use gcm::{Gcm, GcmSiv};
@@ -36,23 +37,20 @@ fn product(x: u128, y: u128) -> u128 {
     z
 }
 
-// The number of a block: its first byte is the highest, or in POLYVAL the lowest (RFC 8452, appendix A).
-fn number(polyval: bool, block: [u8; 16]) -> u128 {
-    if polyval {
-        u128::from_le_bytes(block)
-    } else {
-        u128::from_be_bytes(block)
-    }
-}
-
-// The bytes after y, the last block with zeros behind it.
+// The bytes after y, the last block with zeros behind it. The first byte of a block is its number's highest, or in
+// POLYVAL the lowest (RFC 8452, appendix A).
 fn absorbed(polyval: bool, h: u128, y: u128, bytes: &[u8]) -> u128 {
     let mut state = y;
     for part in bytes.chunks(16) {
         let n = part.len().min(16);
         let mut block = [0u8; 16];
         block[..n].copy_from_slice(&part[..n]);
-        state = product(state ^ number(polyval, block), h);
+        let number = if polyval {
+            u128::from_le_bytes(block)
+        } else {
+            u128::from_be_bytes(block)
+        };
+        state = product(state ^ number, h);
     }
     state
 }
@@ -110,41 +108,43 @@ fn siv_tag(aad: &[u8], text: &[u8]) -> [u8; 16] {
     encrypted(&derived(2), &sum)
 }
 
-// Byte i is 7 i modulo 256.
-fn text() -> [u8; MOST] {
-    let mut bytes = [0u8; MOST];
-    for i in 0..MOST {
-        bytes[i] = (7 * i % 256) as u8;
-    }
-    bytes
-}
-
-// Whether GCM's tag of a text is that.
-fn gcm_is(aad: &[u8], text: &[u8], out: &mut [u8]) -> bool
-    requires { length out.old ≡ length text.now + 16 }
+// Whether GCM's tag of a text is that, and the text is sealed so in its place, and opened again.
+fn gcm_is(aad: &[u8], text: &[u8], out: &mut [u8], other: &mut [u8]) -> bool
+    requires sealed { length out.old ≡ length text.now + 16 }
+    requires place { length other.old ≡ length text.now + 16 }
 {
     let n = text.len();
-    let sealed = Gcm::new(Aes128::new(KEY)).seal_into(NONCE, aad, text, out);
-    let want = gcm_tag(aad, &out[..n]);
-    sealed.is_ok() && out[n..].starts_with(&want)
+    let g = Gcm::new(Aes128::new(KEY));
+    let sealed = g.seal_into(NONCE, aad, text, out);
+    let tag = gcm_tag(aad, &out[..n]);
+    let is_tag = out[n..].starts_with(&tag);
+    other[..n].copy_from_slice(text);
+    let placed = g.seal_in_place(NONCE, aad, other);
+    let is_same = other.starts_with(out);
+    let opened = g.open_into(NONCE, aad, out, &mut other[..n]);
+    let is_text = other.starts_with(text);
+    sealed.is_ok() && placed.is_ok() && opened.is_ok() && is_tag && is_same && is_text
 }
 
 // Whether GCM-SIV's tag of a text is that.
 fn siv_is(aad: &[u8], text: &[u8], out: &mut [u8]) -> bool
     requires { length out.old ≡ length text.now + 16 }
 {
-    let sealed = GcmSiv::<Aes128, 16>::new(KEY).seal_into(NONCE, aad, text, out);
-    sealed.is_ok() && out[text.len()..].starts_with(&siv_tag(aad, text))
+    let told = GcmSiv::<Aes128, 16>::new(KEY).seal_into(NONCE, aad, text, out);
+    told.is_ok() && out[text.len()..].starts_with(&siv_tag(aad, text))
 }
 
 // Whether the tags of a text of n bytes, with data of half as many, are those.
 fn tags_are(n: usize) -> bool
     requires { n ≤ 300 }
 {
-    let bytes = text();
+    let bytes = some_bytes();
     let mut out = [0u8; MOST + 16];
-    let gcm = gcm_is(&bytes[..n / 2], &bytes[..n], &mut out[..n + 16]);
-    gcm && siv_is(&bytes[..n / 2], &bytes[..n], &mut out[..n + 16])
+    let mut other = [9u8; MOST + 16];
+    let aad = &bytes[..n / 2];
+    let text = &bytes[..n];
+    let gcm = gcm_is(aad, text, &mut out[..n + 16], &mut other[..n + 16]);
+    gcm && siv_is(aad, text, &mut out[..n + 16])
 }
 
 #[test]

@@ -1,12 +1,11 @@
 //! Tags under a key of HMAC that is kept, and under its clone.
 
-use crate::expected::check_at;
 use hash_keys::{Hash, HmacKey, hmac_into};
 
 const KEY: &[u8; 16] = &[7, 6, 5, 4, 3, 2, 1, 0, 7, 6, 5, 4, 3, 2, 1, 0];
 
-// Whether a second tag under a kept key, and one under its clone, is that of the call that takes the key's bytes.
-fn tags_are(text: &[u8]) -> bool {
+/// Whether a second tag under a kept key, and one under its clone, is that of the call that takes the key's bytes.
+pub fn tags_are(text: &[u8]) -> bool {
     let mut once = [0u8; 64];
     hmac_into(Hash::Sha512, KEY, text, b"end", &[], &mut once);
     let key = HmacKey::new(Hash::Sha512, KEY);
@@ -18,11 +17,4 @@ fn tags_are(text: &[u8]) -> bool {
         copy.tag_into(text, b"end", &[], &mut copied);
     }
     kept == once && copied == once
-}
-
-#[test]
-fn tags_under_one_key(rt: HostRuntime) {
-    for n in 0..140usize {
-        check_at(&rt, tags_are(&[3; 140][..n]), n);
-    }
 }

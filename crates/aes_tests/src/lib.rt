@@ -22,8 +22,12 @@ mod hash_vectors;
 #[cfg(test)]
 mod kept_keys;
 #[cfg(test)]
+mod names;
+#[cfg(test)]
 mod refusals;
 #[cfg(test)]
 mod seals;
 #[cfg(test)]
 mod siv_vectors;
+#[cfg(test)]
+mod under_keys;

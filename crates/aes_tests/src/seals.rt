@@ -2,7 +2,8 @@
 
 ghost use Rattle.std.specs.Prelude.{◌≡◌, ◌≤◌, ◌+◌, ◌-◌, length};
 
-use crate::expected::{check, expect};
+use crate::expected::check;
+use crate::{refusals, siv_vectors};
 use aes_block::{Aes128, Aes256};
 use cipher::{BlockCipherEncrypt, KeyInit};
 use gcm::{Gcm, GcmError, GcmResult, GcmSiv};
@@ -40,33 +41,20 @@ impl<C: KeyInit<K> + BlockCipherEncrypt<16> + Drop, const K: usize> Sealer for G
     }
 }
 
-// Whether the text, of at most 80 bytes, is sealed to these bytes.
-fn is_sealed<S: Sealer>(s: &S, nonce: &[u8; 12], aad: &[u8], text: &[u8], want: &[u8]) -> bool {
-    let n = text.len().min(80);
-    let mut out = [0u8; 96];
-    s.seal(nonce, aad, &text[..n], &mut out[..n + 16]).is_ok() && out.starts_with(want)
-}
-
-// Whether these bytes, at most 96, are opened to the text.
-fn is_opened<S: Sealer>(s: &S, nonce: &[u8; 12], aad: &[u8], text: &[u8], sealed: &[u8]) -> bool {
-    let n = sealed.len().min(96).saturating_sub(16);
-    let mut out = [0u8; 80];
-    s.open(nonce, aad, &sealed[..sealed.len().min(96)], &mut out[..n])
-        .is_ok()
-        && out.starts_with(text)
-}
-
 /// Whether the text, of at most 80 bytes, is sealed to these bytes, 16 more, and they are opened to it.
 pub fn seals<S: Sealer>(s: &S, nonce: &[u8; 12], aad: &[u8], text: &[u8], want: &[u8]) -> bool {
-    want.len() == text.len().min(80) + 16
-        && is_sealed(s, nonce, aad, text, want)
-        && is_opened(s, nonce, aad, text, want)
+    let n = text.len().min(80);
+    let mut sealed = [0u8; 96];
+    let mut opened = [0u8; 80];
+    let told = s.seal(nonce, aad, &text[..n], &mut sealed[..n + 16]);
+    let back = s.open(nonce, aad, &sealed[..n + 16], &mut opened[..n]);
+    told.is_ok() && back.is_ok() && &sealed[..n + 16] == want && opened[..n] == text[..n]
 }
 
-// Bytes that differ.
-fn some_bytes() -> [u8; 64] {
-    let mut bytes = [0u8; 64];
-    for i in 0..64 {
+/// Byte i is 7 i modulo 256.
+pub fn some_bytes() -> [u8; 300] {
+    let mut bytes = [0u8; 300];
+    for i in 0..300 {
         bytes[i] = (7 * i % 256) as u8;
     }
     bytes
@@ -74,7 +62,7 @@ fn some_bytes() -> [u8; 64] {
 
 // The tag of the first n bytes as a text and the first m as data, each at most 64, under a nonce that is a prefix of a
 // tag.
-fn next_tag<S: Sealer>(s: &S, tag: &[u8; 16], bytes: &[u8; 64], n: usize, m: usize) -> [u8; 16]
+fn next_tag<S: Sealer>(s: &S, tag: &[u8; 16], bytes: &[u8; 300], n: usize, m: usize) -> [u8; 16]
     requires text { n ≤ 64 }
     requires data { m ≤ 64 }
 {
@@ -99,48 +87,92 @@ fn chained<S: Sealer>(s: &S) -> [u8; 16] {
     tag
 }
 
-const KEY: &[u8; 16] = b"\x00\x01\x02\x03\x04\x05\x06\x07\x08\x09\x0a\x0b\x0c\x0d\x0e\x0f";
-
-// By pyca/cryptography.
-#[test]
-fn texts_and_data_of_all_lengths(rt: HostRuntime) {
-    expect(
-        &rt,
-        chained(&Gcm::new(Aes128::new(KEY))),
-        *b"\xfd\x0d\xd9\x3d\x13\xf1\xb0\x73\x6a\x67\x72\xad\x86\xd9\x1e\xb1",
-        "GCM",
-    );
-    expect(
-        &rt,
-        chained(&GcmSiv::<Aes128, 16>::new(KEY)),
-        *b"\x03\xc0\xb2\xc2\x4d\x19\x2c\x43\x5a\x01\x03\xa4\xbc\x05\xd0\xc0",
-        "GCM-SIV",
-    );
-}
-
-// Whether a changed bit at a place of what was sealed is refused, and nothing is written.
-fn refuses_at<S: Sealer>(s: &S, sealed: &[u8; 36], i: usize) -> bool {
-    let mut changed = *sealed;
-    changed[i % 36] ^= 1 << (i % 8);
+// Whether what is given, at most 36 bytes, is refused, and nothing is written.
+fn refuses<S: Sealer>(s: &S, nonce: &[u8; 12], aad: &[u8], sealed: &[u8]) -> bool {
+    let n = sealed.len().min(36);
     let mut out = [9u8; 20];
-    let told = s.open(&[5; 12], b"data", &changed, &mut out);
+    let told = s.open(nonce, aad, &sealed[..n], &mut out[..n.saturating_sub(16)]);
     told == Err(GcmError::DecryptFailed) && out == [9; 20]
 }
 
-// Whether that is so at each place.
+// Whether a changed bit at each place of what was sealed is refused.
 fn refuses_changes<S: Sealer>(s: &S) -> bool {
     let mut sealed = [0u8; 36];
     let mut same = s.seal(&[5; 12], b"data", &[3; 20], &mut sealed).is_ok();
     for i in 0..36 {
-        same = same && refuses_at(s, &sealed, i);
+        let mut changed = sealed;
+        changed[i] ^= 1 << (i % 8);
+        same = same && refuses(s, &[5; 12], b"data", &changed);
     }
     same
 }
 
+/// What is asked of a sealer.
+pub enum Asked {
+    /// To seal under a nonce and with data a text to those bytes, and to open them.
+    Seal(&'static [u8; 12], &'static [u8], &'static [u8], &'static [u8]),
+    /// To end with that tag where each length is sealed.
+    Chain(&'static [u8; 16]),
+    /// To refuse with that data, under a nonce of zeros, those bytes.
+    Refuse(&'static [u8], &'static [u8]),
+    /// To refuse each changed bit.
+    RefuseChanges,
+}
+
+/// The sealer, under a key.
+pub enum Of {
+    /// GCM.
+    Gcm(&'static [u8; 16]),
+    /// GCM-SIV.
+    GcmSiv(&'static [u8; 16]),
+    /// The same under 32 bytes.
+    LargeGcmSiv(&'static [u8; 32]),
+}
+
+/// Its name, the sealer, and what is asked of it.
+pub type Row = (&'static str, Of, Asked);
+
+fn does<S: Sealer>(s: &S, asked: &Asked) -> bool {
+    match asked {
+        Asked::Seal(nonce, aad, text, sealed) => seals(s, nonce, aad, text, sealed),
+        Asked::Chain(tag) => chained(s) == **tag,
+        Asked::Refuse(aad, sealed) => refuses(s, &[0; 12], aad, sealed),
+        Asked::RefuseChanges => refuses_changes(s),
+    }
+}
+
+fn holds(of: &Of, asked: &Asked) -> bool {
+    match of {
+        Of::Gcm(key) => does(&Gcm::new(Aes128::new(key)), asked),
+        Of::GcmSiv(key) => does(&GcmSiv::<Aes128, 16>::new(key), asked),
+        Of::LargeGcmSiv(key) => does(&GcmSiv::<Aes256, 32>::new(key), asked),
+    }
+}
+
+const KEY: &[u8; 16] = b"\x00\x01\x02\x03\x04\x05\x06\x07\x08\x09\x0a\x0b\x0c\x0d\x0e\x0f";
+
+// By pyca/cryptography.
+const ROWS: &[Row] = &[
+    (
+        "GCM, all lengths",
+        Of::Gcm(KEY),
+        Asked::Chain(b"\xfd\x0d\xd9\x3d\x13\xf1\xb0\x73\x6a\x67\x72\xad\x86\xd9\x1e\xb1"),
+    ),
+    (
+        "GCM-SIV, all lengths",
+        Of::GcmSiv(KEY),
+        Asked::Chain(b"\x03\xc0\xb2\xc2\x4d\x19\x2c\x43\x5a\x01\x03\xa4\xbc\x05\xd0\xc0"),
+    ),
+];
+
 #[test]
-fn changes_are_refused(rt: HostRuntime) {
-    let same = refuses_changes(&Gcm::new(Aes128::new(&[1; 16])));
-    check(&rt, same, "GCM");
-    let same = refuses_changes(&GcmSiv::<Aes256, 32>::new(&[1; 32]));
-    check(&rt, same, "GCM-SIV");
+fn texts_are_sealed_opened_or_refused(rt: HostRuntime) {
+    for rows in [siv_vectors::ROWS, refusals::ROWS, ROWS] {
+        for (row, of, asked) in rows {
+            check(&rt, holds(of, asked), row);
+        }
+    }
+    let g = Gcm::new(Aes128::new(&[0; 16]));
+    let four = refusals::seal_four(&g, &[0; 12], &[0; 4]);
+    check(&rt, four == Ok(refusals::SEALED), "four bytes");
 }
