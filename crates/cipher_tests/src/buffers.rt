@@ -121,6 +121,51 @@ fn lends_a_message() -> bool {
     lent.len() == 1 && lent.get_in() == [7].as_slice() && output == [0, 6]
 }
 
+// five places, the first and the last of which were written through the two parts
+fn written_in_parts() -> [u8; 5] {
+    let mut output = [1, 2, 3, 4, 5];
+    let (mut front, mut back) = InOutBuf::from(&mut output[..]).split_at(2);
+    front.get_out()[0] = 7;
+    back.get_out()[2] = 9;
+    output
+}
+
+// five places, of which a pair and the rest were written
+fn written_in_chunks() -> [u8; 5] {
+    let mut output = [1, 2, 3, 4, 5];
+    let (mut chunks, mut rest) = InOutBuf::from(&mut output[..]).into_chunks::<2>();
+    chunks.get_out()[1] = [6, 7];
+    rest.get_out()[0] = 9;
+    output
+}
+
+// four places, of which the third was written
+fn written_in_the_middle() -> [u8; 4] {
+    let mut output = [1, 2, 3, 4];
+    *InOutBuf::from(&mut output[..]).get(2).get_out() = 9;
+    output
+}
+
+// five places, of which a message of three has the first, and the room behind it the last
+fn written_in_message_parts() -> [u8; 5] {
+    let mut output = [1, 2, 3, 4, 5];
+    let buffer = InOutBufReserved::from_mut_slice(&mut output, 3).unwrap();
+    let (mut front, mut back) = buffer.split_at(1);
+    front.get_out()[0] = 7;
+    back.get_out()[3] = 9;
+    output
+}
+
+// five places, of which a message of three has a pair and a rest
+fn written_in_message_chunks() -> [u8; 5] {
+    let mut output = [1, 2, 3, 4, 5];
+    let buffer = InOutBufReserved::from_mut_slice(&mut output, 3).unwrap();
+    let (mut chunks, mut rest) = buffer.into_chunks::<2>();
+    chunks.get_out()[0] = [6, 7];
+    rest.get_out()[0] = 9;
+    output
+}
+
 // what is asked
 #[derive(Clone, Copy)]
 enum Asked {
@@ -139,6 +184,11 @@ enum Asked {
     TooLongElsewhere,
     InFront,
     Elsewhere,
+    Parts,
+    Pair,
+    Middle,
+    MessageParts,
+    MessagePair,
 }
 
 fn holds(asked: Asked) -> bool {
@@ -158,6 +208,11 @@ fn holds(asked: Asked) -> bool {
         Asked::TooLongElsewhere => is_too_long_elsewhere(),
         Asked::InFront => message_in_front() == (2, false, [1, 2], [1, 2, 9]),
         Asked::Elsewhere => message_elsewhere() == ([7], [1, 2, 9]),
+        Asked::Parts => written_in_parts() == [7, 2, 3, 4, 9],
+        Asked::Pair => written_in_chunks() == [1, 2, 6, 7, 9],
+        Asked::Middle => written_in_the_middle() == [1, 2, 9, 4],
+        Asked::MessageParts => written_in_message_parts() == [7, 2, 3, 4, 9],
+        Asked::MessagePair => written_in_message_chunks() == [6, 7, 9, 4, 5],
     }
 }
 
@@ -177,6 +232,11 @@ const ROWS: &[(&str, Asked)] = &[
     ("too long elsewhere", Asked::TooLongElsewhere),
     ("a message in front", Asked::InFront),
     ("a message elsewhere", Asked::Elsewhere),
+    ("writes in two parts", Asked::Parts),
+    ("a write of a pair", Asked::Pair),
+    ("a write between others", Asked::Middle),
+    ("writes in parts of a message", Asked::MessageParts),
+    ("a write of a message's pair", Asked::MessagePair),
 ];
 
 #[test]
