@@ -9,7 +9,7 @@ use std::alloc::Global;
 use tink_aead::subtle::{AesCtr, AesGcm, EncryptThenAuthenticate};
 use tink_aead::{AES_GCM_TYPE_URL, AesGcmKeyManager, KmsEnvelopeAead, aes128_gcm_key_template};
 use tink_core::registry::{KeyManager, Registry};
-use tink_core::{Aead, CloneIn, Draws, Kind, TinkError};
+use tink_core::{Aead, CloneIn, Kind, TinkError};
 use tink_mac::subtle::Hmac;
 use tink_mac::{HmacKeyManager, hmac_sha256_tag128_key_template};
 use tink_proto::{Bytes, HashType, KeyTemplate};
@@ -30,43 +30,9 @@ fn opened_by<A: Aead, M: KeyManager>(
 
 // ---- what an envelope stands on
 
-type Registered<M> = Result<Registry<M>, TinkError>;
-
-type Template = Result<KeyTemplate, TinkError>;
-
-fn gcm_registry(alloc: Global) -> Registered<AesGcmKeyManager> {
-    registry_of(alloc, AesGcmKeyManager::new())
-}
-
-fn mac_registry(alloc: Global) -> Registered<HmacKeyManager> {
-    registry_of(alloc, HmacKeyManager::new())
-}
-
 // A remote key of sixteen bytes of this value.
 fn remote_of(alloc: Global, byte: u8) -> Result<AesGcm, TinkError> {
     AesGcm::new(alloc, &[byte; 16])
-}
-
-// The envelope of these three.
-fn envelope_of<'r, A: Aead + Drop, M: KeyManager>(
-    registry: &'r Registry<M>,
-    kt: Template,
-    remote: Result<A, TinkError>,
-) -> Result<KmsEnvelopeAead<'r, A, M>, TinkError> {
-    let kt = kt?;
-    match remote {
-        Ok(remote) => Ok(KmsEnvelopeAead::new(kt, remote, registry)),
-        Err(e) => Err(e),
-    }
-}
-
-// Draws that count up from 0.
-fn counted(alloc: Global, n: u8) -> Result<Draws, TinkError> {
-    let mut bytes = Vec::new(alloc);
-    for i in 0..n {
-        bytes.push(i)?;
-    }
-    Ok(Draws::new(bytes))
 }
 
 // ---- sealing
@@ -75,32 +41,9 @@ fn counted(alloc: Global, n: u8) -> Result<Draws, TinkError> {
 const SEALED: &[u8; 81] =
     b"\x00\x00\x00\x2e\x10\x11\x12\x13\x14\x15\x16\x17\x18\x19\x1a\x1b\xe5\xd7\x67\x63\xc3\xd2\x73\xa2\xdf\xb4\xaf\x35\xd3\x29\xc9\x0f\xd8\x37\x2a\xa2\x5e\xc2\x4d\xea\x09\xf5\x12\x10\x8a\x4f\x05\xb1\xe4\x8c\x1c\x1d\x1e\x1f\x20\x21\x22\x23\x24\x25\x26\x27\x38\x8b\x7d\xe5\xb5\x0e\xf2\x61\xdd\xdc\x14\x2e\xa7\x98\xd5\xf1\xbb\x50\xff";
 
-// ---- data keys
-
-// A data key, encrypted under a remote key of bytes 9.
-fn encrypted_key(alloc: Global, dek: &[u8]) -> Result<Bytes, TinkError> {
-    let mut draws = draws_of(alloc, &[7; 12])?;
-    match remote_of(alloc, 9) {
-        Ok(remote) => remote.encrypt(alloc, dek, &[], &mut draws),
-        Err(e) => Err(e),
-    }
-}
-
-fn size_of(bytes: &[u8]) -> u8 {
-    match u8::try_from(bytes.len()) {
-        Ok(size) => size,
-        Err(_) => 0,
-    }
-}
-
-// An envelope of a data key, which has fewer than 256 bytes when it is encrypted, and a payload.
-fn put_together(alloc: Global, dek: &[u8]) -> Result<Vec<u8>, TinkError> {
-    let key = encrypted_key(alloc, dek)?;
-    let mut out = [0, 0, 0, size_of(key.as_slice())].to_vec(alloc)?;
-    out.extend_from_slice(key.as_slice())?;
-    out.extend_from_slice(b"payload")?;
-    Ok(out)
-}
+// Draws that count up from 0.
+const DRAWS: &[u8; 60] =
+    b"\x00\x01\x02\x03\x04\x05\x06\x07\x08\x09\x0a\x0b\x0c\x0d\x0e\x0f\x10\x11\x12\x13\x14\x15\x16\x17\x18\x19\x1a\x1b\x1c\x1d\x1e\x1f\x20\x21\x22\x23\x24\x25\x26\x27\x28\x29\x2a\x2b\x2c\x2d\x2e\x2f\x30\x31\x32\x33\x34\x35\x36\x37\x38\x39\x3a\x3b";
 
 // ---- a remote key that refuses
 
@@ -120,12 +63,10 @@ fn remote_that_refuses(alloc: Global) -> Result<Composed, TinkError> {
 #[derive(Clone, Copy)]
 enum Asked {
     // To seal `abc` to those bytes, by so many draws that count up, of which so many are left.
-    Seal(u8, usize),
+    Seal(usize, usize),
     // To open these bytes to `abc`, with data and without.
     Open(&'static [u8], &'static [u8]),
     OpenWithoutData(&'static [u8]),
-    // To open an envelope of this data key without data.
-    OpenDataKey(&'static [u8]),
     // To open those bytes by a copy.
     Copy,
     // To open them with a bit changed at this place.
@@ -135,25 +76,16 @@ enum Asked {
 fn seals<A: Aead, M: KeyManager>(
     alloc: Global,
     envelope: &KmsEnvelopeAead<'_, A, M>,
-    n: u8,
+    n: usize,
     left: usize,
 ) -> Result<bool, TinkError> {
-    let mut draws = counted(alloc, n)?;
+    let mut draws = draws_of(alloc, &DRAWS[..n.min(60)])?;
     let sealed = envelope.encrypt(alloc, b"abc", b"some data", &mut draws);
     if draws.left() == left {
         gives(sealed, SEALED)
     } else {
         Ok(false)
     }
-}
-
-fn opens_data_key<A: Aead, M: KeyManager>(
-    alloc: Global,
-    envelope: &KmsEnvelopeAead<'_, A, M>,
-    dek: &[u8],
-) -> Result<bool, TinkError> {
-    let input = put_together(alloc, dek)?;
-    gives(opened_by(envelope, alloc, &input), b"abc")
 }
 
 fn copy_opens<A: Aead + CloneIn, M: KeyManager>(
@@ -184,7 +116,6 @@ fn does<A: Aead + CloneIn, M: KeyManager>(
         Asked::Seal(n, left) => seals(alloc, envelope, n, left),
         Asked::Open(input, data) => gives(envelope.decrypt(alloc, input, data), b"abc"),
         Asked::OpenWithoutData(input) => gives(opened_by(envelope, alloc, input), b"abc"),
-        Asked::OpenDataKey(dek) => opens_data_key(alloc, envelope, dek),
         Asked::Copy => copy_opens(alloc, envelope),
         Asked::Change(i) => { gives(envelope.decrypt(alloc, &changed(i), b"some data"), b"abc") }
     }
@@ -207,27 +138,31 @@ enum Of {
 fn does_in<A: Aead + CloneIn + Drop, M: KeyManager>(
     alloc: Global,
     registry: &Registry<M>,
-    kt: Template,
+    kt: KeyTemplate,
     remote: Result<A, TinkError>,
     asked: Asked,
 ) -> Result<bool, TinkError> {
-    match envelope_of(registry, kt, remote) {
-        Ok(envelope) => does(alloc, &envelope, asked),
+    match remote {
+        Ok(remote) => does(alloc, &KmsEnvelopeAead::new(kt, remote, registry), asked),
         Err(e) => Err(e),
     }
 }
 
-fn by_gcm(
+fn template_for(alloc: Global, of: Of) -> Result<KeyTemplate, TinkError> {
+    match of {
+        Of::BadFormat => template(alloc, AES_GCM_TYPE_URL, b"\x10\x11", 1),
+        Of::OtherType | Of::Macs => hmac_sha256_tag128_key_template(alloc),
+        _ => aes128_gcm_key_template(alloc),
+    }
+}
+
+fn does_by<M: KeyManager>(
     alloc: Global,
-    registry: &Registry<AesGcmKeyManager>,
+    registry: &Registry<M>,
     of: Of,
     asked: Asked,
 ) -> Result<bool, TinkError> {
-    let kt = match of {
-        Of::BadFormat => template(alloc, AES_GCM_TYPE_URL, b"\x10\x11", 1),
-        Of::OtherType => hmac_sha256_tag128_key_template(alloc),
-        _ => aes128_gcm_key_template(alloc),
-    };
+    let kt = template_for(alloc, of)?;
     match of {
         Of::Gcm(byte) => does_in(alloc, registry, kt, remote_of(alloc, byte), asked),
         Of::Refusing => does_in(alloc, registry, kt, remote_that_refuses(alloc), asked),
@@ -235,25 +170,22 @@ fn by_gcm(
     }
 }
 
-fn by_macs(
+fn does_with<M: KeyManager + Drop>(
     alloc: Global,
-    registry: &Registry<HmacKeyManager>,
+    km: M,
+    of: Of,
     asked: Asked,
 ) -> Result<bool, TinkError> {
-    let kt = hmac_sha256_tag128_key_template(alloc);
-    does_in(alloc, registry, kt, remote_of(alloc, 9), asked)
+    match registry_of(alloc, km) {
+        Ok(registry) => does_by(alloc, &registry, of, asked),
+        Err(e) => Err(e),
+    }
 }
 
 fn answered(alloc: Global, of: Of, asked: Asked) -> Result<bool, TinkError> {
-    if let Of::Macs = of {
-        return match mac_registry(alloc) {
-            Ok(registry) => by_macs(alloc, &registry, asked),
-            Err(e) => Err(e),
-        };
-    }
-    match gcm_registry(alloc) {
-        Ok(registry) => by_gcm(alloc, &registry, of, asked),
-        Err(e) => Err(e),
+    match of {
+        Of::Macs => does_with(alloc, HmacKeyManager::new(), of, asked),
+        _ => does_with(alloc, AesGcmKeyManager::new(), of, asked),
     }
 }
 
@@ -269,11 +201,16 @@ const WRONG: Answer = Err(Kind::WrongPrimitive);
 
 const UNSUPPORTED: Answer = Err(Kind::UnsupportedKeyType);
 
-const DATA: &[u8] = b"some data";
+// By pyca/cryptography 48: envelopes of `payload` whose data keys are nothing, one of version 1, and one of HMAC-SHA256
+// with tags of 16 bytes and the bytes 0 to 31. The remote key has bytes 9, and its nonce bytes 7.
+const OF_NOTHING: &[u8] =
+    b"\x00\x00\x00\x1c\x07\x07\x07\x07\x07\x07\x07\x07\x07\x07\x07\x07\xca\x5b\xf1\x32\x6b\xf2\xeb\x85\x14\x5c\x02\xcf\xca\x21\xa2\x4b\x70\x61\x79\x6c\x6f\x61\x64";
 
-// HMAC-SHA256 with tags of 16 bytes, and the bytes 0 to 31.
-const MAC_KEY: &[u8] =
-    b"\x12\x04\x08\x03\x10\x10\x1a\x20\x00\x01\x02\x03\x04\x05\x06\x07\x08\x09\x0a\x0b\x0c\x0d\x0e\x0f\x10\x11\x12\x13\x14\x15\x16\x17\x18\x19\x1a\x1b\x1c\x1d\x1e\x1f";
+const OF_VERSION_1: &[u8] =
+    b"\x00\x00\x00\x1e\x07\x07\x07\x07\x07\x07\x07\x07\x07\x07\x07\x07\x9f\x6d\x90\x1c\xde\xc8\x4f\xba\x57\x59\xb8\xba\x22\x12\x2a\xa1\x04\xc2\x70\x61\x79\x6c\x6f\x61\x64";
+
+const OF_MACS: &[u8] =
+    b"\x00\x00\x00\x44\x07\x07\x07\x07\x07\x07\x07\x07\x07\x07\x07\x07\x85\x68\x58\xf8\x70\x93\x27\x0f\x24\x23\x41\x87\xd3\xc7\xfe\xef\xee\x78\x6c\x8d\xae\xbc\xe5\x4d\xa8\xe9\xd5\x4d\x93\x29\xef\x89\x7e\x20\x02\xa4\xa1\x47\x28\xcd\x32\x2e\x31\xc4\x2d\xaf\x0f\x70\x48\xe3\x8b\x46\x54\xd3\xb9\xc7\x70\x61\x79\x6c\x6f\x61\x64";
 
 const ROWS: &[(&str, Of, Asked, Answer)] = &[
     (
@@ -282,7 +219,12 @@ const ROWS: &[(&str, Of, Asked, Answer)] = &[
         Asked::Seal(41, 1),
         Ok(true),
     ),
-    ("opened", Of::Gcm(9), Asked::Open(SEALED, DATA), Ok(true)),
+    (
+        "opened",
+        Of::Gcm(9),
+        Asked::Open(SEALED, b"some data"),
+        Ok(true),
+    ),
     ("opened by a copy", Of::Gcm(9), Asked::Copy, Ok(true)),
     // Key, remote and payload draw in this order.
     ("15 draws", Of::Gcm(9), Asked::Seal(15, 15), NO_DRAWS),
@@ -304,7 +246,7 @@ const ROWS: &[(&str, Of, Asked, Answer)] = &[
     (
         "another remote key",
         Of::Gcm(8),
-        Asked::Open(SEALED, DATA),
+        Asked::Open(SEALED, b"some data"),
         FAILED,
     ),
     (
@@ -363,13 +305,13 @@ const ROWS: &[(&str, Of, Asked, Answer)] = &[
     (
         "a data key of no bytes",
         Of::Gcm(9),
-        Asked::OpenDataKey(b""),
+        Asked::OpenWithoutData(OF_NOTHING),
         INVALID,
     ),
     (
         "a data key of version 1",
         Of::Gcm(9),
-        Asked::OpenDataKey(b"\x08\x01"),
+        Asked::OpenWithoutData(OF_VERSION_1),
         INVALID,
     ),
     (
@@ -381,7 +323,7 @@ const ROWS: &[(&str, Of, Asked, Answer)] = &[
     (
         "keys of another type, opening",
         Of::OtherType,
-        Asked::Open(SEALED, DATA),
+        Asked::Open(SEALED, b"some data"),
         UNSUPPORTED,
     ),
     // No draw is taken for a payload.
@@ -394,7 +336,7 @@ const ROWS: &[(&str, Of, Asked, Answer)] = &[
     (
         "a data key of another sort, opening",
         Of::Macs,
-        Asked::OpenDataKey(MAC_KEY),
+        Asked::OpenWithoutData(OF_MACS),
         WRONG,
     ),
     // It refuses after its draws, and none is taken after them.
@@ -407,7 +349,7 @@ const ROWS: &[(&str, Of, Asked, Answer)] = &[
     (
         "a remote key refuses, opening",
         Of::Refusing,
-        Asked::Open(SEALED, DATA),
+        Asked::Open(SEALED, b"some data"),
         Err(Kind::MacMismatch),
     ),
 ];

@@ -16,49 +16,57 @@ use tink_core::{Kind, TinkError};
 use tink_proto::KeyTemplate;
 use tink_testutil::{Named, registry_of};
 
-// A template's name, its URL, its format and the number of its prefix.
-type Template = (&'static str, &'static str, &'static [u8], i32);
+// A template's name, its URL, its format, the number of its prefix, and whether it is registered.
+type Template = (&'static str, &'static str, &'static [u8], i32, bool);
 
 // The sizes of keys are field 2, and those of vectors and tags in the params.
 const TEMPLATES: &[Template] = &[
-    ("AES128_GCM", AES_GCM_TYPE_URL, b"\x10\x10", 1),
-    ("AES256_GCM", AES_GCM_TYPE_URL, b"\x10\x20", 1),
-    ("AES256_GCM_NO_PREFIX", AES_GCM_TYPE_URL, b"\x10\x20", 3),
-    ("AES128_GCM_SIV", AES_GCM_SIV_TYPE_URL, b"\x10\x10", 1),
-    ("AES256_GCM_SIV", AES_GCM_SIV_TYPE_URL, b"\x10\x20", 1),
+    ("AES128_GCM", AES_GCM_TYPE_URL, b"\x10\x10", 1, true),
+    ("AES256_GCM", AES_GCM_TYPE_URL, b"\x10\x20", 1, true),
+    (
+        "AES256_GCM_NO_PREFIX",
+        AES_GCM_TYPE_URL,
+        b"\x10\x20",
+        3,
+        true,
+    ),
+    ("AES128_GCM_SIV", AES_GCM_SIV_TYPE_URL, b"\x10\x10", 1, true),
+    ("AES256_GCM_SIV", AES_GCM_SIV_TYPE_URL, b"\x10\x20", 1, true),
     (
         "AES256_GCM_SIV_NO_PREFIX",
         AES_GCM_SIV_TYPE_URL,
         b"\x10\x20",
         3,
+        true,
     ),
     (
         "AES128_CTR_HMAC_SHA256",
         AES_CTR_HMAC_AEAD_TYPE_URL,
         b"\x0a\x06\x0a\x02\x08\x10\x10\x10\x12\x08\x0a\x04\x08\x03\x10\x10\x10\x20",
         1,
+        true,
     ),
     (
         "AES256_CTR_HMAC_SHA256",
         AES_CTR_HMAC_AEAD_TYPE_URL,
         b"\x0a\x06\x0a\x02\x08\x10\x10\x20\x12\x08\x0a\x04\x08\x03\x10\x20\x10\x20",
         1,
+        true,
     ),
-];
-
-// A template that is not registered, and that of envelopes with AES128_GCM and its URL of 48 bytes.
-const OTHERS: &[Template] = &[
+    // That of envelopes has AES128_GCM and its URL of 48 bytes.
     (
         "AES256_CTR_HMAC_SHA512",
         AES_CTR_HMAC_AEAD_TYPE_URL,
         b"\x0a\x06\x0a\x02\x08\x10\x10\x20\x12\x08\x0a\x04\x08\x04\x10\x40\x10\x40",
         1,
+        false,
     ),
     (
         "an envelope",
         KMS_ENVELOPE_AEAD_TYPE_URL,
         b"\x0a\x05a://b\x12\x38\x0a\x30type.googleapis.com/google.crypto.tink.AesGcmKey\x12\x02\x10\x10\x18\x01",
         3,
+        false,
     ),
 ];
 
@@ -84,7 +92,7 @@ fn envelope_template(alloc: Global) -> Result<KeyTemplate, TinkError> {
 }
 
 fn is_template(kt: &KeyTemplate, template: &Template) -> bool {
-    let (_, url, format, prefix) = *template;
+    let (_, url, format, prefix, _) = *template;
     kt.type_url.as_str() == url && kt.value.as_slice() == format && kt.output_prefix_type == prefix
 }
 
@@ -123,27 +131,29 @@ fn registers(rt: &impl Abort, alloc: Global, registry: &mut Registered) {
         let got = is_made(template_of(alloc, template.0), template);
         expect(rt, got, Ok(true), template.0);
         let there = is_registered(registry, template);
-        expect(rt, Ok(there), Ok(true), template.0);
-    }
-    for template in OTHERS {
-        let got = is_made(template_of(alloc, template.0), template);
-        expect(rt, got, Ok(true), template.0);
-        let there = is_registered(registry, template);
-        expect(rt, Ok(there), Ok(false), template.0);
+        expect(rt, Ok(there), Ok(template.4), template.0);
     }
     expect(rt, made(init(alloc, registry)), THERE, "again");
     let eight = has_names(alloc, registry, 8);
     expect(rt, eight, Ok(true), "eight templates");
 }
 
-// How registering beside a manager of GCM-SIV is refused, if it leaves no template and no other manager.
-fn beside(alloc: Global) -> Result<bool, TinkError> {
-    let mut taken: Registered = registry_of(alloc, Named::new(AES_GCM_SIV_TYPE_URL))?;
-    let refused = made(init(alloc, &mut taken));
-    if has_names(alloc, &taken, 0)? && taken.get_key_manager(AES_GCM_TYPE_URL).is_err() {
+// How registering is refused, if it leaves no template and no other manager.
+fn refuses(alloc: Global, taken: &mut Registered) -> Result<bool, TinkError> {
+    let refused = made(init(alloc, taken));
+    let is_left = has_names(alloc, taken, 0)?;
+    if is_left && taken.get_key_manager(AES_GCM_TYPE_URL).is_err() {
         refused
     } else {
         Ok(false)
+    }
+}
+
+// The same beside a manager of GCM-SIV.
+fn beside(alloc: Global) -> Result<bool, TinkError> {
+    match registry_of(alloc, Named::new(AES_GCM_SIV_TYPE_URL)) {
+        Ok(mut taken) => refuses(alloc, &mut taken),
+        Err(e) => Err(e),
     }
 }
 
