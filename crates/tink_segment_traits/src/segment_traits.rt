@@ -1,4 +1,4 @@
-ghost use Rattle.std.specs.Prelude.{◌≡◌, ◌⊎◌, ◌≤◌, ◌<◌, ◌+◌, ◌-◌, ◌^◌, ℕ, List, length, OnOk, OnErr, IfOk, IfErr, vec_len};
+ghost use Rattle.std.specs.Prelude.{◌≡◌, ◌⊎◌, ◌≤◌, ◌<◌, ◌+◌, ◌-◌, ◌^◌, ℕ, List, length, take, OnOk, OnErr, IfOk, IfErr, vec_len};
 ghost use Rattle.tink_io.specs.declared.error.Kind.TheVariants.{DecryptFailed, OutOfMemory};
 
 use std::alloc::Global;
@@ -18,13 +18,26 @@ pub trait SegmentEncrypter {
     fn overhead(&self) -> usize
         ensures { result ≡ overhead_of self.now };
 
+    /// Makes the segment of a text under a nonce in the text's place: `segment` is the text and behind it as many bytes
+    /// as a segment has more, whatever these are. The nonce has the cipher's length, and the text's length fits u32.
+    /// Nothing is refused.
+    fn encrypt_segment_in_place(&self, segment: &mut [u8], nonce: &[u8])
+        requires nonce { length nonce.now ≡ nonce_length self.now }
+        requires room { overhead_of self.now ≤ length segment.old }
+        requires size { length segment.old - overhead_of self.now < 2 ^ 32 }
+        ensures { segment.new ≡ seg self.now nonce.now (take (length segment.old - overhead_of self.now) segment.old) };
+
     /// Writes the segment of a text under a nonce into `out`, which has its length. The nonce has the cipher's length,
     /// and the text's length fits u32. Nothing is refused.
-    fn encrypt_segment_into(&self, segment: &[u8], nonce: &[u8], out: &mut [u8])
+    final fn encrypt_segment_into(&self, segment: &[u8], nonce: &[u8], out: &mut [u8])
         requires nonce { length nonce.now ≡ nonce_length self.now }
         requires size { length segment.now < 2 ^ 32 }
         requires room { length out.old ≡ length segment.now + overhead_of self.now }
-        ensures { out.new ≡ seg self.now nonce.now segment.now };
+        ensures { out.new ≡ seg self.now nonce.now segment.now }
+    {
+        out[..segment.len()].copy_from_slice(segment);
+        self.encrypt_segment_in_place(out, nonce);
+    }
 
     ghost longer: { (e : Self) (n t : List ℕ) → length (seg e n t) ≡ length t + overhead_of e };
 
