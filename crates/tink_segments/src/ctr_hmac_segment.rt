@@ -92,11 +92,11 @@ impl SegmentEncrypter for CtrHmacSegment {
         self.tag_size
     }
 
-    fn encrypt_segment_into(&self, segment: &[u8], nonce: &[u8], out: &mut [u8]) {
-        let n = segment.len();
-        self.cipher.apply(&block_of(nonce), segment, &mut out[..n]);
-        let tag = tag_of(&self.mac, self.tag_size, nonce, &out[..n]);
-        out[n..].copy_from_slice(&tag[..self.tag_size]);
+    fn encrypt_segment_in_place(&self, segment: &mut [u8], nonce: &[u8]) {
+        let n = segment.len() - self.tag_size;
+        self.cipher.apply_in_place(&block_of(nonce), &mut segment[..n]);
+        let tag = tag_of(&self.mac, self.tag_size, nonce, &segment[..n]);
+        segment[n..].copy_from_slice(&tag[..self.tag_size]);
     }
 }
 
@@ -132,7 +132,8 @@ impl SegmentDecrypter for CtrHmacSegment {
         if !is_same(&segment[n..], &tag[..self.tag_size]) {
             return Err(TinkError::new(Kind::DecryptFailed));
         }
-        self.cipher.apply(&block_of(nonce), &segment[..n], out);
+        out.copy_from_slice(&segment[..n]);
+        self.cipher.apply_in_place(&block_of(nonce), out);
         Ok(())
     }
 }

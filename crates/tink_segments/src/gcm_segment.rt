@@ -1,6 +1,6 @@
 //! Segments by AES-GCM.
 
-ghost use Rattle.std.specs.Prelude.{◌≡◌, ◌⊎◌, ◌<◌, ◌+◌, ◌-◌, ◌^◌, ℕ, List, [], length, OnOk, OnErr, IfErr};
+ghost use Rattle.std.specs.Prelude.{◌≡◌, ◌⊎◌, ◌≤◌, ◌<◌, ◌-◌, ◌^◌, ℕ, List, [], length, take, OnOk, OnErr, IfErr};
 ghost use Rattle.standards.specs.Gcm.{gcm};
 ghost use Rattle.tink_io.specs.declared.error.Kind.TheVariants.{DecryptFailed};
 
@@ -91,10 +91,10 @@ impl SegmentEncrypter for GcmSegment {
         AES_GCM_HKDF_TAG_SIZE_IN_BYTES
     }
 
-    fn encrypt_segment_into(&self, segment: &[u8], nonce: &[u8], out: &mut [u8]) {
+    fn encrypt_segment_in_place(&self, segment: &mut [u8], nonce: &[u8]) {
         match &self.aead {
-            SegmentAead::Small(aead) => seal(aead, segment, nonce, out),
-            SegmentAead::Large(aead) => seal(aead, segment, nonce, out),
+            SegmentAead::Small(aead) => seal(aead, segment, nonce),
+            SegmentAead::Large(aead) => seal(aead, segment, nonce),
         }
     }
 }
@@ -131,14 +131,14 @@ impl SegmentDecrypter for GcmSegment {
     }
 }
 
-// Writes the segment of a text under a nonce.
-fn seal<C: BlockCipherEncrypt<16>>(aead: &Gcm<C>, text: &[u8], nonce: &[u8], out: &mut [u8])
+// Makes the segment of a text under a nonce in its place: `bytes` is the text and room for the tag.
+fn seal<C: BlockCipherEncrypt<16>>(aead: &Gcm<C>, bytes: &mut [u8], nonce: &[u8])
     requires nonce { length nonce.now ≡ 12 }
-    requires size { length text.now < 2 ^ 32 }
-    requires room { length out.old ≡ length text.now + 16 }
-    ensures { out.new ≡ gcm (C.encrypts aead.now.cipher) nonce.now [] text.now }
+    requires room { 16 ≤ length bytes.old }
+    requires size { length bytes.old - 16 < 2 ^ 32 }
+    ensures { bytes.new ≡ gcm (C.encrypts aead.now.cipher) nonce.now [] (take (length bytes.old - 16) bytes.old) }
 {
-    match aead.seal_into(nonce, &[], text, out) {
+    match aead.seal_in_place(nonce, &[], bytes) {
         Ok(()) => {}
         Err(_) => unreachable!(),
     }

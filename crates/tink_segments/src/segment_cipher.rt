@@ -31,15 +31,14 @@ impl SegmentCipher {
         }
     }
 
-    // Writes the text in counter mode from `nonce` on; twice gives the text back.
-    pub fn apply(&self, nonce: &[u8; 16], text: &[u8], out: &mut [u8])
-        requires size { length out.old ≡ length text.now }
-        requires sized { FitsCipher self.now }
-        ensures { out.new ≡ ctr (aes (cipher_key self.now)) (plus_be w64) nonce.now text.now }
+    // Applies counter mode from `nonce` on to bytes in their place; twice gives them back.
+    pub fn apply_in_place(&self, nonce: &[u8; 16], bytes: &mut [u8])
+        requires { FitsCipher self.now }
+        ensures { bytes.new ≡ ctr (aes (cipher_key self.now)) (plus_be w64) nonce.now bytes.old }
     {
         match self {
-            SegmentCipher::Small(cipher) => apply_counter_mode(cipher, nonce, text, out),
-            SegmentCipher::Large(cipher) => apply_counter_mode(cipher, nonce, text, out),
+            SegmentCipher::Small(cipher) => apply_counter_mode(cipher, nonce, bytes),
+            SegmentCipher::Large(cipher) => apply_counter_mode(cipher, nonce, bytes),
         }
     }
 }
@@ -55,18 +54,12 @@ fn large(key: &[u8]) -> SegmentCipher
     }
 }
 
-fn apply_counter_mode<C: BlockCipherEncrypt<16>>(
-    cipher: &C,
-    nonce: &[u8; 16],
-    text: &[u8],
-    out: &mut [u8],
-)
-    requires { length out.old ≡ length text.now }
-    ensures { out.new ≡ ctr (C.encrypts cipher.now) (plus_be w64) nonce.now text.now }
+fn apply_counter_mode<C: BlockCipherEncrypt<16>>(cipher: &C, nonce: &[u8; 16], bytes: &mut [u8])
+    ensures { bytes.new ≡ ctr (C.encrypts cipher.now) (plus_be w64) nonce.now bytes.old }
 {
     let core = CtrCore::<&C, Ctr64BE, 16>::inner_iv_init(cipher, nonce);
     core.apply_keystream_partial(InOutBuf {
-        output: out,
-        input: text,
+        output: bytes,
+        input: &[],
     });
 }

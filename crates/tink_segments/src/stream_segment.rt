@@ -34,10 +34,10 @@ impl SegmentEncrypter for StreamSegment {
         }
     }
 
-    fn encrypt_segment_into(&self, segment: &[u8], nonce: &[u8], out: &mut [u8]) {
+    fn encrypt_segment_in_place(&self, segment: &mut [u8], nonce: &[u8]) {
         match self {
-            StreamSegment::CtrHmac(cipher) => cipher.encrypt_segment_into(segment, nonce, out),
-            StreamSegment::Gcm(cipher) => cipher.encrypt_segment_into(segment, nonce, out),
+            StreamSegment::CtrHmac(cipher) => cipher.encrypt_segment_in_place(segment, nonce),
+            StreamSegment::Gcm(cipher) => cipher.encrypt_segment_in_place(segment, nonce),
         }
     }
 }

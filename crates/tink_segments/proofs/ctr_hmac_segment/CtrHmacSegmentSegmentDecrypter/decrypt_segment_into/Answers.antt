@@ -1,4 +1,8 @@
 use Rattle.std.proofs.Common.{◌∙◌, ap, sym}
+use Rattle.std.specs.Int.{w64}
+use Rattle.standards.specs.AesKeys.{aes}
+use Rattle.standards.specs.Counter.{ctr, plus_be}
+use Rattle.tink_segments.specs.SegmentCiphers.{cipher_key}
 use Rattle.tink_segments.specs.SegmentKeys.{SegmentKeys, segment_under}
 use Rattle.tink_segments.proofs.SegmentSteps.{ends_in_tag, opened, too_short}
 use Rattle.tink_segments.proofs.ctr_hmac_segment.CtrHmacSegmentSegmentDecrypter.decrypt_segment_into.Goals as goal
@@ -16,4 +20,5 @@ returns-then-not-is_same-clause-refused c t e =
 pub returns-clause-ok : goal.returns-clause-ok
 returns-clause-ok c =
     let same = c.is_same.ensures.0 c.if-not-is_same.false in
-    ap (λ (s : SegmentKeys). segment_under s c.args.nonce.now c.apply.new.out) (sym c.self.view_is) ∙ opened _ c.args.nonce.now c.args.segment.now c.tag_of-tag.result c.apply.new.out c.block_of.result (c.tag_of-tag.ensures c.self.inside.tag_hash c.self.inside.hmac_key c.self.invariant.2) same c.block_of.ensures c.apply.ensures
+    ap (λ (s : SegmentKeys). segment_under s c.args.nonce.now c.apply_in_place.new.bytes) (sym c.self.view_is) ∙ opened _ c.args.nonce.now c.args.segment.now c.tag_of-tag.result c.apply_in_place.new.bytes c.block_of.result (c.tag_of-tag.ensures c.self.inside.tag_hash c.self.inside.hmac_key c.self.invariant.2) same c.block_of.ensures
+    (c.apply_in_place.ensures ∙ ap (ctr (aes (cipher_key c.self.inside.cipher)) (plus_be w64) c.block_of.result) c.copy_from_slice.ensures.after)
