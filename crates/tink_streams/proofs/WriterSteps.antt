@@ -1,6 +1,6 @@
--- How a write goes on, over plain lists.
+-- How a write goes on.
 use Rattle.std.proofs.Common.{◌≡◌, ◌<◌, ◌≤◌, ◌+◌, ◌-◌, ◌^◌, ℕ, zero, suc, Bool, false, List, [], ◌∷◌, ◌++◌, length, take, drop, sym, ap, subst, ◌∙◌, arith, length-append, length-drop, append_assoc, min}
-use Rattle.std.proofs.lemmas.List.{take-append-drop, append-nil, take-append-le, length-take, take_all, drop-drop}
+use Rattle.std.proofs.lemmas.List.{take-append-drop, append-nil, take-append-le, length-take-le, take_all, drop-drop}
 use Rattle.std.proofs.Math.Seq.{take-append_seam, drop-append_seam, take-append-add}
 use Rattle.std.specs.declared.option.Option.{Option}
 use Rattle.std.specs.Io.KnownBytes.{Appends}
@@ -8,6 +8,9 @@ use Rattle.std.proofs.KnownBytes.{Appends-trans}
 use Rattle.stream_model.specs.Cut.{full_chunks, open_chunk, room_at, unmarked}
 use Rattle.stream_model.proofs.CutFacts.{full_chunks_fits, open_chunk_fits, full_chunks_more, open_chunk_more, room_at_next, unmarked-append}
 use Rattle.tink_io.specs.Written.{AppendsPrefix}
+use Rattle.tink_segment_traits.specs.declared.segment_traits.SegmentEncrypter.{Ghosts}
+use Rattle.tink_streams.specs.Sealers.{held_text}
+use Rattle.tink_streams.specs.declared.writing.SegmentWriter.{SegmentWriter}
 
 -- a text R0 from number i0 on has come to number i and R, and these chunks are done
 pub record Proceeds (a b i0 : ℕ) (R0 : List ℕ) (done : List (List ℕ)) (i : ℕ) (R : List ℕ) : Type 0 where
@@ -89,8 +92,8 @@ one_begun seg a b c i0 i done held more all e s p q =
     subst (AppendsPrefix a c) (sym whole) (then_prefix a b c _ _ p (prefix_of_more b c _ _ q))
 
 -- text that is moved in fills the room where more is left
-pub is_full : (room n l m : ℕ) (held new buf : List ℕ) → l ≡ length held → m ≡ length new → new ≡ held ++ take n buf → n ≡ min (room - l) (length buf) → l ≤ room → n < length buf → m ≡ room
-is_full room n l m held new buf p q e c f h = omega (arith, ap length e, length-append held (take n buf), length-take n buf)
+pub is_full : (room n l m : ℕ) (buf : List ℕ) → m ≡ l + n → n ≡ min (room - l) (length buf) → l ≤ room → n < length buf → m ≡ room
+is_full room n l m buf p c f h = omega arith
 
 -- the rest of the text, cut at its own length
 pub whole_rest : (d : ℕ) (xs : List ℕ) → take (length xs - d) (drop d xs) ≡ drop d xs
@@ -119,3 +122,13 @@ all_done i0 i done held more all e m s =
 pub room_some : (a b i : ℕ) → 0 < a → a ≤ b → 0 < room_at a b i
 room_some a b zero p q = p
 room_some a b (suc i) p q = omega arith
+
+-- bytes that the next segment has room for are in the buffer
+held_length : (a b i n over : ℕ) (segment : List ℕ) → n ≤ room_at a b i → a ≤ b → b + over ≤ length segment → length (take n segment) ≡ n
+held_length a b zero n over segment f p r = length-take-le n segment (omega arith)
+held_length a b (suc i) n over segment f p r = length-take-le n segment (omega arith)
+
+-- the text that is held has as many bytes as are filled
+pub text_length : {E : Type 0} {g : Ghosts E} (w : SegmentWriter E g) → length (held_text w) ≡ w.filled
+text_length w =
+    held_length w.sealer.first w.sealer.room w.segments w.filled w.sealer.overhead w.segment.items w.held_fits w.sealer.first_fits (omega (arith, w.segment_fits, w.segment.ok.0))

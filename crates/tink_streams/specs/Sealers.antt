@@ -1,5 +1,5 @@
 -- What a contract sees of a writer that is handed its sink at each call.
-use Rattle.std.specs.Prelude.{ℕ, Bool, List}
+use Rattle.std.specs.Prelude.{ℕ, Bool, List, take}
 use Rattle.std.specs.declared.option.Option.{Option}
 use Rattle.stream_model.specs.Cut.{numbered}
 use Rattle.tink_segment_traits.specs.declared.segment_traits.SegmentEncrypter.{Ghosts}
@@ -13,9 +13,13 @@ module _ {E : Type 0} {g : Ghosts E} where
   abbrev pub segment_map : Sealer E g → ℕ → Bool → List ℕ → List ℕ
   segment_map s = numbered (g.seg s.encrypter) s.nonce_size s.prefix.items
 
+  -- the text that is held
+  abbrev pub held_text : SegmentWriter E g → List ℕ
+  held_text w = take w.filled w.segment.items
+
   -- the writer at this moment, by what the sink got and by its faults
   abbrev pub writer_moment : {K : Type 0} → (K → Option (List ℕ)) → (K → ℕ) → SegmentWriter E g → K → WriterMoment
-  writer_moment got faults w sink = record { mode = w.mode; number = w.segments; held = w.held.items; got = got sink; faults = faults sink }
+  writer_moment got faults w sink = record { mode = w.mode; number = w.segments; held = held_text w; got = got sink; faults = faults sink }
 
   -- the writer with a sink that it owns
   abbrev pub writer_state : {K : Type 0} → SegmentWriter E g → K → WriterState K E
@@ -29,6 +33,6 @@ module _ {E : Type 0} {g : Ghosts E} where
     };
     mode = w.mode;
     number = w.segments;
-    held = w.held.items;
+    held = held_text w;
     sink = sink;
   }

@@ -4,7 +4,7 @@ ghost use Rattle.tink_io.specs.declared.error.Kind.TheVariants.{OutOfMemory};
 use std::alloc::Global;
 use tink_io::TinkError;
 
-/// The memory of a writer or a reader: a text, a segment and a nonce.
+/// The memory of a reader: a text, a segment and a nonce.
 #[derive(Drop)]
 pub struct Buffers {
     pub text: Vec<u8>,
@@ -32,5 +32,28 @@ impl Buffers {
             sealed,
             nonce,
         })
+    }
+}
+
+/// The memory of a writer: a segment, in whose place its text is held, and a nonce.
+#[derive(Drop)]
+pub struct WriterBuffers {
+    pub segment: Vec<u8>,
+    pub nonce: Vec<u8>,
+}
+
+impl WriterBuffers {
+    /// Room for a segment of `c` bytes, and for a nonce.
+    ///
+    /// # Errors
+    /// OutOfMemory.
+    pub fn reserve(alloc: Global, c: u32, nonce_size: usize) -> Result<WriterBuffers, TinkError>
+        ensures segment { IfOk result (λ b. vec_len b.segment ≡ c) }
+        ensures nonce { IfOk result (λ b. vec_len b.nonce ≡ nonce_size) }
+        ensures refused { IfErr result (λ e. e ≡ record { kind = OutOfMemory }) }
+    {
+        let segment = vec![in alloc; 0u8; c as usize]?;
+        let nonce = vec![in alloc; 0u8; nonce_size]?;
+        Ok(WriterBuffers { segment, nonce })
     }
 }

@@ -19,7 +19,7 @@ mod whole;
 mod writer;
 mod writing;
 
-pub use buffers::Buffers;
+pub use buffers::{Buffers, WriterBuffers};
 pub use held::{carry, fill};
 pub use kept::Kept;
 pub use laws::{law_any_cutting, law_full_segments};

@@ -1,8 +1,8 @@
-ghost use Rattle.std.specs.Prelude.{◌≡◌, ◌≤◌, ◌<◌, ◌+◌, ◌-◌, [], None, Some, Ok, IfOk, IfErr, OnOk, vec_len, vec_capacity};
+ghost use Rattle.std.specs.Prelude.{◌≡◌, ◌≤◌, ◌<◌, ◌+◌, ◌-◌, [], None, Some, Ok, IfOk, IfErr, OnOk, vec_len};
 ghost use Rattle.tink_segment_traits.specs.Sizes.{sizes_fault};
 ghost use Rattle.tink_streams.specs.declared.writing.Mode.TheVariants.{Open};
 
-use crate::buffers::Buffers;
+use crate::buffers::WriterBuffers;
 use crate::sealer::Sealer;
 use crate::writing::SegmentWriter;
 use std::marker::Model;
@@ -51,16 +51,17 @@ impl<W: Sink + Drop, E: SegmentEncrypter + Drop> Writer<W, E> {
     ghost use Rattle.tink_streams.specs.Writers.{moment_of, seg_of};
     ghost use Rattle.tink_streams.specs.Sealers.{writer_state};
 
-    /// A writer that has written nothing, with memory by `Buffers::reserve` for these sizes. The
+    /// A writer that has written nothing, with memory by `WriterBuffers::reserve` for these sizes. The
     /// nonce's size, where it is not too short, is that of the encrypter.
     ///
     /// # Errors
     /// NonceTooShort where a nonce has not five bytes more than its prefix, OffsetTooBig where the
     /// offset is beyond the segment, SegmentTooSmall where the first segment has no room for text.
-    pub fn new(params: WriterParams<W, E>, buffers: Buffers) -> Result<Writer<W, E>, TinkError>
-        requires text { buffers.text.items ≡ [] }
-        requires text_room { params.ciphertext_segment_size < vec_capacity buffers.text }
-        requires sealed_room { params.ciphertext_segment_size < vec_len buffers.sealed }
+    pub fn new(
+        params: WriterParams<W, E>,
+        buffers: WriterBuffers,
+    ) -> Result<Writer<W, E>, TinkError>
+        requires segment_room { params.ciphertext_segment_size ≤ vec_len buffers.segment }
         requires nonce_room { vec_len buffers.nonce ≡ params.nonce_size }
         requires nonce { vec_len params.nonce_prefix + 5 ≤ params.nonce_size
             → params.nonce_size ≡ E.nonce_length params.segment_encrypter }

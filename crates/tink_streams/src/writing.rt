@@ -1,8 +1,8 @@
-ghost use Rattle.std.specs.Prelude.{◌≡◌, ◌≤◌, ◌<◌, ◌+◌, ◌-◌, ◌^◌, ◌++◌, [], false, length, take, min, vec_len, vec_capacity};
+ghost use Rattle.std.specs.Prelude.{◌≡◌, ◌≤◌, ◌<◌, ◌+◌, ◌-◌, ◌^◌, ◌++◌, [], false, length, take, min, vec_len};
 ghost use Rattle.stream_model.specs.Cut.{room_at};
 ghost use Rattle.tink_streams.specs.declared.writing.Mode.TheVariants.{Open};
 
-use crate::buffers::Buffers;
+use crate::buffers::WriterBuffers;
 use crate::sealer::Sealer;
 use crate::sealing::{room_of, send};
 use tink_io::{Cause, Kind, Sink, TinkError};
@@ -21,18 +21,18 @@ pub enum Mode {
 
 /// A writer of segments, to a sink that each call is given.
 ///
-/// A full chunk is held until more text comes, since the last segment is marked.
+/// The text of the next segment is held where the segment is made. A full chunk is held until more text comes, since
+/// the last segment is marked.
 #[derive(Drop)]
 pub struct SegmentWriter<E: SegmentEncrypter> {
     pub sealer: Sealer<E>,
     pub mode: Mode,
     pub segments: u64,
-    pub held: Vec<u8>,
-    pub sealed: Vec<u8>,
+    pub segment: Vec<u8>,
+    pub filled: usize,
     pub nonce: Vec<u8>,
-    ghost held_fits: { vec_len held ≤ room_at sealer.first sealer.room segments },
-    ghost reserved: { sealer.room ≤ vec_capacity held },
-    ghost sealed_fits: { sealer.room + sealer.overhead ≤ vec_len sealed },
+    ghost held_fits: { filled ≤ room_at sealer.first sealer.room segments },
+    ghost segment_fits: { sealer.room + sealer.overhead ≤ vec_len segment },
     ghost nonce_fits: { vec_len nonce ≡ sealer.nonce_size },
     ghost few: { segments ≤ 2 ^ 32 },
     ghost open_few: { mode ≡ Open → segments < 2 ^ 32 },
@@ -40,25 +40,23 @@ pub struct SegmentWriter<E: SegmentEncrypter> {
 
 impl<E: SegmentEncrypter + Drop> SegmentWriter<E> {
     ghost use Rattle.tink_streams.specs.Writing.{CloseMeans, PutMeans, WriteMeans};
-    ghost use Rattle.tink_streams.specs.Sealers.{segment_map, writer_moment};
+    ghost use Rattle.tink_streams.specs.Sealers.{held_text, segment_map, writer_moment};
 
     /// A writer that has written nothing, of parts that fit.
-    pub fn made(sealer: Sealer<E>, buffers: Buffers) -> SegmentWriter<E>
-        requires text { buffers.text.items ≡ [] }
-        requires text_room { sealer.room ≤ vec_capacity buffers.text }
-        requires sealed_room { sealer.room + sealer.overhead ≤ vec_len buffers.sealed }
+    pub fn made(sealer: Sealer<E>, buffers: WriterBuffers) -> SegmentWriter<E>
+        requires segment_room { sealer.room + sealer.overhead ≤ vec_len buffers.segment }
         requires nonce_room { vec_len buffers.nonce ≡ sealer.nonce_size }
         ensures mode { result.mode ≡ Open }
         ensures segments { result.segments ≡ 0 }
-        ensures held { result.held.items ≡ [] }
+        ensures held { held_text result ≡ [] }
         ensures sealer { result.sealer ≡ sealer }
     {
         SegmentWriter {
             sealer,
             mode: Mode::Open,
             segments: 0,
-            held: buffers.text,
-            sealed: buffers.sealed,
+            segment: buffers.segment,
+            filled: 0,
             nonce: buffers.nonce,
         }
     }
@@ -66,17 +64,18 @@ impl<E: SegmentEncrypter + Drop> SegmentWriter<E> {
     // Holds text of `buf`, as much as the next segment has room for.
     fn hold(&mut self, buf: &[u8]) -> usize
         ensures count { result ≡ min (room_at self.old.sealer.first self.old.sealer.room self.old.segments
-            - vec_len self.old.held) (length buf.now) }
-        ensures held { self.new.held.items ≡ self.old.held.items ++ take result buf.now }
+            - self.old.filled) (length buf.now) }
+        ensures filled { self.new.filled ≡ self.old.filled + result }
+        ensures held { held_text self.new ≡ held_text self.old ++ take result buf.now }
         ensures sealer { self.new.sealer ≡ self.old.sealer }
         ensures mode { self.new.mode ≡ self.old.mode }
         ensures segments { self.new.segments ≡ self.old.segments }
     {
-        let n = (room_of(&self.sealer, self.segments) - self.held.len()).min(buf.len());
-        match self.held.extend_from_slice(&buf[..n]) {
-            Ok(()) => n,
-            Err(_) => unreachable!(),
-        }
+        let at = self.filled;
+        let n = (room_of(&self.sealer, self.segments) - at).min(buf.len());
+        self.segment[at..at + n].copy_from_slice(&buf[..n]);
+        self.filled = at + n;
+        n
     }
 
     // Writes the segment of what is held.
@@ -94,12 +93,12 @@ impl<E: SegmentEncrypter + Drop> SegmentWriter<E> {
             &self.sealer,
             self.segments,
             last,
-            &self.held,
+            self.filled,
             &mut self.nonce,
-            &mut self.sealed,
+            &mut self.segment,
         ) {
             Ok(()) => {
-                self.held.clear();
+                self.filled = 0;
                 self.segments += 1;
                 if last {
                     self.mode = Mode::Closed;
@@ -107,6 +106,7 @@ impl<E: SegmentEncrypter + Drop> SegmentWriter<E> {
                 Ok(())
             }
             Err(e) => {
+                self.filled = 0;
                 self.mode = Mode::Failed(Cause::WriteFault);
                 Err(e)
             }

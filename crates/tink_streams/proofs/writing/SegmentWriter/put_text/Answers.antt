@@ -3,8 +3,8 @@ use Rattle.std.proofs.lemmas.Result.{err_from_is_err_and}
 use Rattle.std.proofs.KnownBytes.{Appends-nil}
 use Rattle.std.proofs.Math.ListN.{drop_of_length-le}
 use Rattle.stream_model.specs.Cut.{room_at}
-use Rattle.tink_streams.specs.Sealers.{segment_map}
-use Rattle.tink_streams.proofs.WriterSteps.{proceeds_start, proceeds_step, proceeds_end, proceeds_at, stands, one_more, is_full, whole_rest, went_on, all_done, room_some}
+use Rattle.tink_streams.specs.Sealers.{held_text, segment_map}
+use Rattle.tink_streams.proofs.WriterSteps.{proceeds_start, proceeds_step, proceeds_end, proceeds_at, stands, one_more, is_full, whole_rest, went_on, all_done, room_some, text_length}
 use Rattle.tink_streams.proofs.writing.SegmentWriter.put_text.Goals as goal
 
 pub loop-at-init : goal.loop-at-init
@@ -14,13 +14,13 @@ loop-at-init g c =
     let room : ℕ → ℕ = room_at self.sealer.first self.sealer.room in
     record {
       within = omega (arith, h.ensures.count);
-      full = λ more. is_full (room self.segments) h.result _ _ self.held.items h.new.self.held.items c.args.buf.now self.held.ok.0 h.new.self.held.ok.0 h.ensures.held h.ensures.count self.held_fits more ∙ ap room (sym h.ensures.segments);
+      full = λ more. is_full (room self.segments) h.result self.filled h.new.self.filled c.args.buf.now h.ensures.filled h.ensures.count self.held_fits more ∙ ap room (sym h.ensures.segments);
       is_open = h.ensures.mode ∙ c.requires;
       sealer = h.ensures.sealer;
       done = [];
       written = Appends-nil _;
       proceeds = proceeds_at self.sealer.first self.sealer.room self.segments _ [] self.segments _ _ _
-          (proceeds_start self.sealer.first self.sealer.room self.segments self.held.items c.args.buf.now h.result)
+          (proceeds_start self.sealer.first self.sealer.room self.segments (held_text self) c.args.buf.now h.result)
           h.ensures.segments (ap (λ x. x ++ drop h.result c.args.buf.now) h.ensures.held);
       later = omega arith;
       same = g.met.K.Sink.same_refl _;
@@ -32,9 +32,9 @@ returns-then-self-eq-LAST_NUMBER-clause-answer g c =
     let self = c.loop-at.self in
     let inv = c.loop-at.invariant in
     let some = room_some first.sealer.first first.sealer.room self.segments first.sealer.some first.sealer.first_fits in
-    let all = all_done first.segments self.segments inv.done self.held.items _ _ inv.proceeds.number c.if-self-eq-LAST_NUMBER.true
-    (stands first.sealer.first first.sealer.room first.segments _ inv.done self.segments self.held.items (drop c.loop-at.at c.args.buf.now) inv.proceeds
-    (sym self.held.ok.0 ∙ inv.full c.loop-at-test.true) (omega (arith, length-drop c.loop-at.at c.args.buf.now)) some (omega arith)) in
+    let all = all_done first.segments self.segments inv.done (held_text self) _ _ inv.proceeds.number c.if-self-eq-LAST_NUMBER.true
+    (stands first.sealer.first first.sealer.room first.segments _ inv.done self.segments (held_text self) (drop c.loop-at.at c.args.buf.now) inv.proceeds
+    (text_length self ∙ inv.full c.loop-at-test.true) (omega (arith, length-drop c.loop-at.at c.args.buf.now)) some (omega arith)) in
     rw c.new.ensures (record {
       was_open = c.requires;
       failed = refl;
@@ -56,10 +56,10 @@ returns-in_err-put-clause-answer g c =
       failed = put.failed;
       stops = record {
         done = inv.done;
-        next = self.held.items;
+        next = held_text self;
         more = _;
-        split = stands first.sealer.first first.sealer.room first.segments _ inv.done self.segments self.held.items (drop c.loop-at.at c.args.buf.now) inv.proceeds
-            (sym self.held.ok.0 ∙ inv.full c.loop-at-test.true) (omega (arith, length-drop c.loop-at.at c.args.buf.now)) some (omega arith);
+        split = stands first.sealer.first first.sealer.room first.segments _ inv.done self.segments (held_text self) (drop c.loop-at.at c.args.buf.now) inv.proceeds
+            (text_length self ∙ inv.full c.loop-at-test.true) (omega (arith, length-drop c.loop-at.at c.args.buf.now)) some (omega arith);
         counted = put.counted ∙ inv.proceeds.number;
         between = _;
         whole = inv.written;
@@ -81,20 +81,20 @@ loop-at-preserved g c =
     let rest : List ℕ = drop c.loop-at.at c.args.buf.now in
     let part : List ℕ = take (length c.args.buf.now - c.loop-at.at) rest in
     let part_is : part ≡ rest = whole_rest c.loop-at.at c.args.buf.now in
-    let held_full : length self.held.items ≡ room self.segments = sym self.held.ok.0 ∙ inv.full c.loop-at-test.true in
+    let held_full : length (held_text self) ≡ room self.segments = text_length self ∙ inv.full c.loop-at-test.true in
     let some : 0 < room self.segments = room_some first.sealer.first first.sealer.room self.segments first.sealer.some first.sealer.first_fits in
     record {
       within = omega (arith, h.ensures.count, ap length part_is, length-drop c.loop-at.at c.args.buf.now);
-      full = λ more. is_full (room_at then.sealer.first then.sealer.room then.segments) h.result _ _ then.held.items h.new.self.held.items part then.held.ok.0 h.new.self.held.ok.0 h.ensures.held h.ensures.count then.held_fits
+      full = λ more. is_full (room_at then.sealer.first then.sealer.room then.segments) h.result then.filled h.new.self.filled part h.ensures.filled h.ensures.count then.held_fits
           (omega (arith, ap length part_is, length-drop c.loop-at.at c.args.buf.now))
           ∙ ap (λ s. room_at s.first s.room then.segments) (put.sealer ∙ inv.sealer) ∙ ap room (sym h.ensures.segments);
       is_open = h.ensures.mode ∙ done.mode;
       sealer = h.ensures.sealer ∙ put.sealer ∙ inv.sealer;
-      done = inv.done ++ self.held.items ∷ [];
-      written = one_more (segment_map first.sealer) _ _ _ first.segments self.segments inv.done self.held.items inv.proceeds.number inv.written (rw inv.sealer at done.appended);
-      proceeds = proceeds_at first.sealer.first first.sealer.room first.segments _ (inv.done ++ self.held.items ∷ []) (self.segments + 1) _ rest _
-          (proceeds_step first.sealer.first first.sealer.room first.segments _ inv.done self.segments self.held.items rest inv.proceeds held_full (omega (arith, length-drop c.loop-at.at c.args.buf.now)) some (omega arith))
-          (h.ensures.segments ∙ done.counted) (went_on c.loop-at.at h.result c.args.buf.now then.held.items h.new.self.held.items part done.held h.ensures.held part_is);
+      done = inv.done ++ (held_text self) ∷ [];
+      written = one_more (segment_map first.sealer) _ _ _ first.segments self.segments inv.done (held_text self) inv.proceeds.number inv.written (rw inv.sealer at done.appended);
+      proceeds = proceeds_at first.sealer.first first.sealer.room first.segments _ (inv.done ++ (held_text self) ∷ []) (self.segments + 1) _ rest _
+          (proceeds_step first.sealer.first first.sealer.room first.segments _ inv.done self.segments (held_text self) rest inv.proceeds held_full (omega (arith, length-drop c.loop-at.at c.args.buf.now)) some (omega arith))
+          (h.ensures.segments ∙ done.counted) (went_on c.loop-at.at h.result c.args.buf.now (held_text then) (held_text h.new.self) part done.held h.ensures.held part_is);
       later = omega (arith, put.later);
       same = g.met.K.Sink.same_trans _ _ _ inv.same put.same;
     }
@@ -104,9 +104,9 @@ returns-clause-answer g c =
     let first = c.args.self.now in
     let self = c.loop-at.self in
     let inv = c.loop-at.invariant in
-    let fits : length self.held.items ≤ room_at first.sealer.first first.sealer.room self.segments =
-    rw inv.sealer at (let f : length self.held.items ≤ room_at self.sealer.first self.sealer.room self.segments = omega (arith, self.held.ok.0, self.held_fits) in f) in
-    let done = proceeds_end first.sealer.first first.sealer.room first.segments _ inv.done self.segments self.held.items (drop c.loop-at.at c.args.buf.now) inv.proceeds
+    let fits : length (held_text self) ≤ room_at first.sealer.first first.sealer.room self.segments =
+    rw inv.sealer at (let f : length (held_text self) ≤ room_at self.sealer.first self.sealer.room self.segments = omega (arith, text_length self, self.held_fits) in f) in
+    let done = proceeds_end first.sealer.first first.sealer.room first.segments _ inv.done self.segments (held_text self) (drop c.loop-at.at c.args.buf.now) inv.proceeds
     (drop_of_length-le c.args.buf.now {i = c.loop-at.at} (omega arith)) fits in (
       record {
         was_open = c.requires;

@@ -1,7 +1,7 @@
-use Rattle.std.proofs.Common.{◌≡◌, ◌≤◌, ◌<◌, ◌-◌, ◌++◌, ℕ, List, length, drop, vec_len}
+use Rattle.std.proofs.Common.{◌≡◌, ◌≤◌, ◌<◌, ◌-◌, ◌++◌, ℕ, List, length, drop}
 use Rattle.std.specs.Io.KnownBytes.{Appends}
 use Rattle.stream_model.specs.Cut.{room_at, unmarked}
-use Rattle.tink_streams.specs.Sealers.{segment_map}
+use Rattle.tink_streams.specs.Sealers.{held_text, segment_map}
 use Rattle.tink_streams.proofs.WriterSteps.{Proceeds}
 use Rattle.tink_streams.specs.declared.writing.Mode.TheVariants.{Open}
 use Rattle.tink_streams.proofs.writing.SegmentWriter.put_text.Given as goal
@@ -12,12 +12,12 @@ invariant-loop-at g l =
     let sink = g.K.Sink in
     record {
       within : l.at ≤ length l.buf;
-      full : l.at < length l.buf → vec_len l.self.held ≡ room_at l.fn.self.sealer.first l.fn.self.sealer.room l.self.segments;
+      full : l.at < length l.buf → l.self.filled ≡ room_at l.fn.self.sealer.first l.fn.self.sealer.room l.self.segments;
       is_open : l.self.mode ≡ Open;
       sealer : l.self.sealer ≡ l.fn.self.sealer;
       done : List (List ℕ);
       written : Appends (sink.got l.fn.sink) (sink.got l.sink) (unmarked (segment_map l.fn.self.sealer) l.fn.self.segments done);
-      proceeds : Proceeds l.fn.self.sealer.first l.fn.self.sealer.room l.fn.self.segments (l.fn.self.held.items ++ l.buf) done l.self.segments (l.self.held.items ++ drop l.at l.buf);
+      proceeds : Proceeds l.fn.self.sealer.first l.fn.self.sealer.room l.fn.self.segments (held_text l.fn.self ++ l.buf) done l.self.segments (held_text l.self ++ drop l.at l.buf);
       later : sink.faults l.fn.sink ≤ sink.faults l.sink;
       same : sink.same l.fn.sink l.sink;
     }
