@@ -159,6 +159,43 @@ fn the_kind_of_gcm_is_that_cipher(rt: HostRuntime) -> Result<(), Fail> {
     Ok(())
 }
 
+// Whether the segment of a text of so many bytes is the same made in the text's place, with bytes of no meaning behind it.
+fn is_same_in_place<E: SegmentEncrypter>(cipher: &E, nonce: &[u8], n: usize) -> bool
+    requires nonce { length nonce.now ≡ E.nonce_length cipher.now }
+    requires overhead { E.overhead_of cipher.now ≤ 20 }
+{
+    let n = n.min(300);
+    let size = n + cipher.overhead();
+    let mut text = [0u8; 300];
+    for i in 0..300 {
+        text[i] = (i % 251) as u8;
+    }
+    let mut want = [0u8; 320];
+    cipher.encrypt_segment_into(&text[..n], nonce, &mut want[..size]);
+    let mut got = [0xa5u8; 320];
+    got[..n].copy_from_slice(&text[..n]);
+    cipher.encrypt_segment_in_place(&mut got[..size], nonce);
+    got[..size] == want[..size]
+}
+
+// By both ciphers.
+fn are_same_in_place(n: usize) -> (bool, bool) {
+    (
+        is_same_in_place(&GcmSegment::new(&SMALL_KEY), &NONCE, n),
+        is_same_in_place(&ctr_hmac(), &SMALL_KEY, n),
+    )
+}
+
+// No bytes, a part of a block, whole blocks, and many.
+const SIZES: [usize; 6] = [0, 1, 15, 16, 17, 300];
+
+#[test]
+fn a_segment_is_made_in_its_place(rt: HostRuntime) {
+    for n in SIZES {
+        expect(&rt, are_same_in_place(n), (true, true), "the segment");
+    }
+}
+
 // Segments in counter mode with tags of 12 bytes.
 fn ctr_hmac() -> CtrHmacSegment
     ensures { overhead_under result ≡ 12 }
