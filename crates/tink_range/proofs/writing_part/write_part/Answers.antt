@@ -9,7 +9,7 @@ returns-in-Ok-clause-written g c =
     let part = part_is c.args.lo c.args.hi c.args.at _ _ c.args.text.now c.saturating_sub-from.ensures c.min-to.ensures c.requires.range c.requires.touched in
     subst (Appends (g.K.Sink.got c.args.sink.now) (g.K.Sink.got c.write_all.new.sink)) part c.in-Ok.ensures.written
 
-pub returns-in-Err-clause-front : goal.returns-in-Err-clause-front
-returns-in-Err-clause-front g c =
+pub returns-in-Err-clause-prefix : goal.returns-in-Err-clause-prefix
+returns-in-Err-clause-prefix g c =
     let part = part_is c.args.lo c.args.hi c.args.at _ _ c.args.text.now c.saturating_sub-from.ensures c.min-to.ensures c.requires.range c.requires.touched in
     subst (AppendsPrefix (g.K.Sink.got c.args.sink.now) (g.K.Sink.got c.write_all.new.sink)) part c.in-Err.ensures.prefix

@@ -5,8 +5,8 @@ use Rattle.tink_io.proofs.WrittenLemmas.{then_prefix}
 use Rattle.tink_io.specs.Written.{AppendsPrefix}
 use Rattle.tink_stream_keys.proofs.new_stream.Front.write.Goals as goal
 
-pub returns-clause-front : goal.returns-clause-front
-returns-clause-front g c =
+pub returns-clause-prefix : goal.returns-clause-prefix
+returns-clause-prefix g c =
     let f = c.self.inside in
     subst (λ (bytes : List ℕ). OnErr c.write_all-2.result (AppendsPrefix (g.K.Sink.got c.args.sink.now) (g.K.Sink.got c.write_all-2.new.sink) bytes)) c.self.view_is
     (on_err_weaker c.write_all-2.result
