@@ -9,7 +9,7 @@ ghost use Rattle.tink_stream_keys.specs.Decrypting.{HeaderRefused, IsNewReader, 
 ghost use Rattle.tink_segments.specs.StreamSegments.{nonce_length_by, overhead_by, segment_by};
 ghost use Rattle.tink_streams.specs.TextReading.{TextMoment};
 
-use crate::stream_memory::{MAX_HEADER, PREFIX, StreamMemory};
+use crate::stream_memory::{MAX_HEADER, PREFIX, ReaderMemory};
 use crate::stream_params::DerivesStreams;
 use std::alloc::Global;
 use tink_io::{Kind, Source, TinkError};
@@ -98,7 +98,7 @@ fn begin<T: DerivesStreams, S: Source>(
     ensures later { S.faults source.old ≤ S.faults source.new }
     ensures same { S.same source.old source.new }
 {
-    let memory = StreamMemory::reserve(alloc, key)?;
+    let memory = ReaderMemory::reserve(alloc, key)?;
     let header = read_header(key, source)?;
     let size = key.header_length();
     let header = &header[..size];

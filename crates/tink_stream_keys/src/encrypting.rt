@@ -5,6 +5,7 @@ ghost use Rattle.stream_model.specs.Cut.{numbered};
 ghost use Rattle.tink_primitives.specs.Meaning.{IsEndOf};
 ghost use Rattle.tink_stream_keys.specs.Encrypting.{IsNewStream, NewWriterMeans, NewWriterRefused, sink_of};
 ghost use Rattle.tink_segments.specs.StreamSegments.{segment_by};
+ghost use Rattle.tink_streams.specs.Sealers.{held_text};
 ghost use Rattle.tink_streams.specs.Writing.{WriterMoment};
 
 use crate::new_stream::{NewStream, prepare_stream};
@@ -37,7 +38,7 @@ pub fn begin_stream<T: DerivesStreams, K: Sink>(
         (record {
           mode = w.mode;
           number = w.segments;
-          held = w.held.items;
+          held = held_text w;
           got = K.got sink.new;
           faults = K.faults
               sink.new;

@@ -10,8 +10,9 @@ ghost use Rattle.tink_io.specs.Faults.{Rose};
 ghost use Rattle.tink_io.specs.Written.{AppendsPrefix};
 ghost use Rattle.tink_stream_keys.specs.NewStreams.{IsPrepared, NotPrepared};
 ghost use Rattle.tink_segments.specs.StreamSegments.{nonce_length_by, overhead_by, segment_by};
+ghost use Rattle.tink_streams.specs.Sealers.{held_text};
 
-use crate::stream_memory::{MAX_HEADER, PREFIX, StreamMemory};
+use crate::stream_memory::{MAX_HEADER, PREFIX, WriterMemory};
 use crate::stream_params::DerivesStreams;
 use std::alloc::Global;
 use std::marker::Model;
@@ -133,10 +134,10 @@ pub fn prepare_stream<'a, T: DerivesStreams>(
         (λ s. IsPrepared (T.key_of key.now) aad.now draws.old draws.new s.front
         (numbered (segment_by s.writer.sealer.encrypter) s.writer.sealer.nonce_size
         s.writer.sealer.prefix.items) s.writer.sealer.first s.writer.sealer.room s.writer.mode
-        s.writer.segments s.writer.held.items)
+        s.writer.segments (held_text s.writer))
         (λ e. NotPrepared (T.key_of key.now) draws.old draws.new e.kind) }
 {
-    let memory = StreamMemory::reserve(alloc, key)?;
+    let memory = WriterMemory::reserve(alloc, key)?;
     let header = draw_header(key, draws)?;
     let size = key.header_length();
     let bytes = &header[..size];

@@ -1,5 +1,6 @@
 use Rattle.std.proofs.Common.{◌≡◌, ◌-◌, ap, ◌∙◌, arith}
 use Rattle.std.proofs.lemmas.Result.{err_from_is_err_and}
+use Rattle.tink_streams.specs.Sealers.{held_text}
 use Rattle.tink_stream_keys.proofs.NewWriterSteps.{drew_header, hash_refused, prepared}
 use Rattle.tink_stream_keys.proofs.new_stream.prepare_stream.Goals as goal
 
@@ -22,7 +23,7 @@ returns g c =
     let s = c.sealer_of-sealer.ensures in
     let made = c.made.ensures in
     prepared k c.args.aad.now c.args.draws.now c.draw_header.new.draws c.in_ok-header.header n (n - 7 - 1) c.in_ok-cipher.cipher drew c.output_prefix.result.now c.output_prefix.ensures size (rw size d.ok) salt c.in_ok-cipher.ensures
-    c.made.result.sealer.encrypter c.made.result.sealer.nonce_size c.made.result.sealer.prefix.items c.made.result.sealer.first c.made.result.sealer.room c.made.result.mode c.made.result.segments c.made.result.held.items
+    c.made.result.sealer.encrypter c.made.result.sealer.nonce_size c.made.result.sealer.prefix.items c.made.result.sealer.first c.made.result.sealer.room c.made.result.mode c.made.result.segments (held_text c.made.result)
     (ap (λ x. x.encrypter) made.sealer ∙ s.encrypter) (ap (λ x. x.nonce_size) made.sealer ∙ s.nonce_size) (ap (λ x. x.prefix.items) made.sealer ∙ s.prefix)
     (ap (λ x. x.first) made.sealer ∙ s.first) (ap (λ x. x.room) made.sealer ∙ s.room)
     made.mode made.segments made.held
