@@ -1,13 +1,15 @@
 //! A writer and a reader of segments by AES-GCM as the kind of either cipher.
 
-ghost use Rattle.std.specs.Prelude.{◌≡◌, [], IfOk, vec_len, vec_capacity};
+ghost use Rattle.std.specs.Prelude.{◌≡◌, vec_len};
 
 use crate::comparing::expect_bytes;
 use std::alloc::Global;
 use std::test::Fail;
 use tink_io::{SureSink, SureSource, TinkError};
 use tink_segments::{GcmSegment, StreamSegment};
-use tink_streams::{Buffers, Opener, Sealer, SegmentReader, SegmentWriter, open_rest};
+use tink_streams::{
+    Buffers, Opener, Sealer, SegmentReader, SegmentWriter, WriterBuffers, open_rest,
+};
 
 const TEXT: &[u8; 38] = b"a text of more than two blocks, by ten";
 
@@ -62,22 +64,11 @@ fn sink(alloc: Global, n: usize) -> Result<SureSink, TinkError> {
     Ok(sink)
 }
 
-// The memory of a writer or a reader, and the first part of its nonces.
-fn memory(alloc: Global) -> Result<(Buffers, Vec<u8>), TinkError>
-    ensures text { IfOk result (λ m. (m.0.text.items ≡ []) × (vec_capacity m.0.text ≡ 37)) }
-    ensures sealed { IfOk result (λ m. vec_len m.0.sealed ≡ 37) }
-    ensures nonce { IfOk result (λ m. vec_len m.0.nonce ≡ 12) }
-    ensures prefix { IfOk result (λ m. vec_len m.1 ≡ 7) }
-{
-    let buffers = Buffers::reserve(alloc, 36, 12)?;
-    let prefix = PREFIX.to_vec(alloc)?;
-    Ok((buffers, prefix))
-}
-
 // The text's stream.
 fn sealed(alloc: Global) -> Result<SureSink, TinkError> {
     let mut sink = sink(alloc, 86)?;
-    let (buffers, prefix) = memory(alloc)?;
+    let buffers = WriterBuffers::reserve(alloc, 36, 12)?;
+    let prefix = PREFIX.to_vec(alloc)?;
     let mut writer = SegmentWriter::made(sealer(prefix), buffers);
     writer.write(&mut sink, TEXT)?;
     writer.close(&mut sink)?;
@@ -94,7 +85,8 @@ fn a_writer_takes_either_kind(rt: HostRuntime) -> Result<(), Fail> {
 fn opened(alloc: Global) -> Result<SureSink, TinkError> {
     let mut sink = sink(alloc, 38)?;
     let mut source = SureSource::new(STREAM.to_vec(alloc)?);
-    let (buffers, prefix) = memory(alloc)?;
+    let buffers = Buffers::reserve(alloc, 36, 12)?;
+    let prefix = PREFIX.to_vec(alloc)?;
     let mut reader = SegmentReader::made(opener(prefix), buffers, 0);
     open_rest(&mut reader, &mut source, &mut sink)?;
     Ok(sink)

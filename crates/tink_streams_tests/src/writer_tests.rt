@@ -1,6 +1,6 @@
 //! Writers to memory, and a stream that Python made.
 
-ghost use Rattle.std.specs.Prelude.{◌≡◌, ◌⊎◌, ◌<◌, ◌+◌, [], vec_len, vec_capacity};
+ghost use Rattle.std.specs.Prelude.{◌≡◌, ◌⊎◌, ◌<◌, vec_len};
 
 use crate::comparing::{expect, expect_bytes};
 use hash_keys::Hash;
@@ -9,7 +9,7 @@ use std::process::Abort;
 use std::test::Fail;
 use tink_io::{Cause, Kind, MemSink, TinkError};
 use tink_segments::CtrHmacSegment;
-use tink_streams::{Buffers, Writer, WriterParams};
+use tink_streams::{Writer, WriterBuffers, WriterParams};
 
 type MemWriter = Writer<MemSink, CtrHmacSegment>;
 
@@ -23,15 +23,13 @@ const SEALED: &[u8; 100] =
 // A writer to the sink by this memory; what `new` refuses.
 fn made(
     w: MemSink,
-    buffers: Buffers,
+    buffers: WriterBuffers,
     nonce_prefix: Vec<u8>,
     nonce_size: usize,
     size: u32,
     offset: u32,
 ) -> Result<MemWriter, TinkError>
-    requires text { buffers.text.items ≡ [] }
-    requires text_room { vec_capacity buffers.text ≡ size + 1 }
-    requires sealed_room { vec_len buffers.sealed ≡ size + 1 }
+    requires segment_room { vec_len buffers.segment ≡ size }
     requires nonce_room { vec_len buffers.nonce ≡ nonce_size }
     requires prefix { vec_len nonce_prefix ≡ 7 }
     requires nonce { (nonce_size ≡ 16) ⊎ (nonce_size < 12) }
@@ -58,7 +56,7 @@ fn sink(alloc: Global, fails: &[u32]) -> Result<MemSink, TinkError> {
 fn opened(alloc: Global, fails: &[u32]) -> Result<MemWriter, TinkError> {
     let sink = sink(alloc, fails)?;
     let prefix = [3u8; 7].to_vec(alloc)?;
-    let buffers = Buffers::reserve(alloc, 40, 16)?;
+    let buffers = WriterBuffers::reserve(alloc, 40, 16)?;
     made(sink, buffers, prefix, 16, 40, 12)
 }
 
@@ -194,7 +192,7 @@ fn refusal(
 ) -> Result<Option<Kind>, TinkError> {
     let nonce_size = if is_short { 11 } else { 16 };
     let prefix = [3u8; 7].to_vec(alloc)?;
-    let buffers = Buffers::reserve(alloc, size, nonce_size)?;
+    let buffers = WriterBuffers::reserve(alloc, size, nonce_size)?;
     let sink = MemSink::new(alloc, 0, Vec::new(alloc));
     match made(sink, buffers, prefix, nonce_size, size, offset) {
         Ok(_) => Ok(None),
