@@ -159,7 +159,8 @@ fn the_kind_of_gcm_is_that_cipher(rt: HostRuntime) -> Result<(), Fail> {
     Ok(())
 }
 
-// Whether the segment of a text of so many bytes is the same made in the text's place, with bytes of no meaning behind it.
+// Whether the segment of a text of so many bytes is the same where it is made in the text's place, whatever stands
+// behind the text.
 fn is_same_in_place<E: SegmentEncrypter>(cipher: &E, nonce: &[u8], n: usize) -> bool
     requires nonce { length nonce.now ≡ E.nonce_length cipher.now }
     requires overhead { E.overhead_of cipher.now ≤ 20 }
