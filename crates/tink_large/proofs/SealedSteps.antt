@@ -11,7 +11,7 @@ use Rattle.tink_io.specs.declared.error.Kind.{Kind}
 use Rattle.tink_io.specs.declared.error.Kind.TheVariants.{WriteFault, TooManySegments, FailedBefore}
 use Rattle.tink_io.specs.declared.error.Kind.TheVariants as kind
 use Rattle.tink_segment_traits.specs.declared.segment_traits.SegmentEncrypter.{Ghosts}
-use Rattle.tink_streams.specs.Sealers.{segment_map}
+use Rattle.tink_streams.specs.Sealers.{held_text, segment_map}
 use Rattle.tink_streams.specs.declared.sealer.Sealer.{Sealer}
 use Rattle.tink_streams.specs.declared.writing.SegmentWriter.{SegmentWriter}
 use Rattle.tink_streams.specs.declared.writing.Mode.TheVariants.{Open, Closed}
@@ -189,13 +189,13 @@ wide_at a b (suc i) p q = omega arith
 
 module _ {E : Type 0} {g : Ghosts E} where
   -- what comes of a writer, by the sealer that it has kept
-  pub come_under : (w : SegmentWriter E g) (s : Sealer E g) (text : List ℕ) → w.sealer ≡ s → comes w text ≡ come_of (segment_map s) s.first s.room w.mode w.segments w.held.items text
-  come_under w s text e = ap (λ (x : Sealer E g). come_of (segment_map x) x.first x.room w.mode w.segments w.held.items text) e
+  pub come_under : (w : SegmentWriter E g) (s : Sealer E g) (text : List ℕ) → w.sealer ≡ s → comes w text ≡ come_of (segment_map s) s.first s.room w.mode w.segments (held_text w) text
+  come_under w s text e = ap (λ (x : Sealer E g). come_of (segment_map x) x.first x.room w.mode w.segments (held_text w) text) e
 
 -- a writer at this moment, by what its sink has
 module _ {E : Type 0} {g : Ghosts E} where
   abbrev pub moment_at : SegmentWriter E g → Pending → WriterMoment
-  moment_at w p = record { mode = w.mode; number = w.segments; held = w.held.items; got = Some p.bytes.items; faults = p.faults }
+  moment_at w p = record { mode = w.mode; number = w.segments; held = held_text w; got = Some p.bytes.items; faults = p.faults }
 
 -- A source that had nothing pending, and a writer and a sink behind its next step.
 module _ {E : Type 0} {g : Ghosts E} (n at : ℕ) (before after : SegmentWriter E g) (p q : Pending) (none : pending_bytes p ≡ []) (given : q.given ≡ 0) where

@@ -19,7 +19,7 @@ use Rattle.tink_stream_keys.specs.Encrypting.{IsNewStream, NewWriterRefused}
 use Rattle.tink_streaming_aead.proofs.SealedFacts.{chosen_stream, joined_text, sealed_stream}
 use Rattle.tink_streaming_aead.proofs.StreamLaws.{stream_is}
 use Rattle.tink_streams.specs.Choosing.{IsOpenerOf, Started, StartRefused}
-use Rattle.tink_streams.specs.Sealers.{segment_map}
+use Rattle.tink_streams.specs.Sealers.{held_text, segment_map}
 use Rattle.tink_streams.specs.declared.writing.SegmentWriter.{SegmentWriter}
 use Rattle.tink_large.specs.Coming.{come_of, comes, left_of, to_come}
 use Rattle.tink_large.specs.Large.{MeasureRefused, large_key, large_stream, large_text, text_from, text_length}
@@ -49,8 +49,8 @@ module _ {E : Type 0} {g : Ghosts E} (draws left : List ℕ) (w : SegmentWriter 
       let seg : ℕ → Bool → List ℕ → List ℕ = segment_map w.sealer in
       let a : ℕ = w.sealer.first in
       let b : ℕ = w.sealer.room in
-      ap (λ m. come_of seg a b m w.segments w.held.items T) s.is_open
-      ∙ ap (λ i. to_come seg a b i (w.held.items ++ T)) s.number
+      ap (λ m. come_of seg a b m w.segments (held_text w) T) s.is_open
+      ∙ ap (λ i. to_come seg a b i (held_text w ++ T)) s.number
       ∙ ap (λ x. to_come seg a b 0 (x ++ T)) s.held
       ∙ all_comes seg a b T
       ∙ ap (λ f. sealed f a b T) s.segments

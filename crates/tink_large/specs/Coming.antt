@@ -2,7 +2,7 @@
 use Rattle.std.specs.Prelude.{◌≡◌, ◌<◌, ℕ, ◌+◌, ◌-◌, Bool, true, List, [], ◌++◌, length, drop}
 use Rattle.stream_model.specs.Cut.{full_chunks, open_chunk, room_at, unmarked}
 use Rattle.tink_segment_traits.specs.declared.segment_traits.SegmentEncrypter.{Ghosts}
-use Rattle.tink_streams.specs.Sealers.{segment_map}
+use Rattle.tink_streams.specs.Sealers.{held_text, segment_map}
 use Rattle.tink_streams.specs.declared.writing.Mode.{Mode}
 use Rattle.tink_streams.specs.declared.writing.Mode.TheVariants.{Open, Closed, Failed}
 use Rattle.tink_streams.specs.declared.writing.SegmentWriter.{SegmentWriter}
@@ -36,7 +36,7 @@ module _ {E : Type 0} {g : Ghosts E} where
 
   -- what comes of a text behind what a writer holds
   abbrev pub comes : SegmentWriter E g → List ℕ → List ℕ
-  comes w text = come_of (segment_map w.sealer) w.sealer.first w.sealer.room w.mode w.segments w.held.items text
+  comes w text = come_of (segment_map w.sealer) w.sealer.first w.sealer.room w.mode w.segments (held_text w) text
 
   -- what is pending, and what comes of the text from a place on
   abbrev pub left_of : ℕ → ℕ → SegmentWriter E g → Pending → List ℕ

@@ -6,6 +6,7 @@ use Rattle.stream_model.specs.Cut.{cut, room_at}
 use Rattle.stream_model.specs.Key.{first_room, overhead, room}
 use Rattle.stream_model.specs.Sealing.{chunk_count, drawn}
 use Rattle.tink_segment_traits.specs.declared.segment_traits.SegmentEncrypter.{Ghosts}
+use Rattle.tink_streams.specs.Sealers.{held_text}
 use Rattle.tink_streams.specs.declared.writing.SegmentWriter.{SegmentWriter}
 use Rattle.tink_stream_keys.specs.declared.starting.Trial.{Trial}
 use Rattle.tink_large.specs.Coming.{left_of}
@@ -45,4 +46,4 @@ module _ {E : Type 0} {g : Ghosts E} where
     pub later : w.sealer.room ≡ room large_key
     pub overhead_is : w.sealer.overhead ≡ overhead large_key
     pub number : w.segments ≡ 0
-    pub held : w.held.items ≡ []
+    pub held : held_text w ≡ []

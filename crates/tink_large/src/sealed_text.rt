@@ -1,6 +1,7 @@
 //! The stream of a large text, made while it is read.
 
-ghost use Rattle.std.specs.Prelude.{◌≡◌, ◌≤◌, ◌<◌, ◌+◌, ◌*◌, ◌-◌, ◌^◌, ◌++◌, ℕ, List, [], true, false, Some, length, vec_len, vec_capacity};
+ghost use Rattle.std.specs.Prelude.{◌≡◌, ◌≤◌, ◌<◌, ◌+◌, ◌*◌, ◌-◌, ◌^◌, ◌++◌, ℕ, List, [], true, false, Some, length, vec_capacity};
+ghost use Rattle.tink_streams.specs.Sealers.{held_text};
 ghost use Rattle.tink_streams.specs.declared.writing.Mode.TheVariants.{Open, Closed};
 ghost use Rattle.tink_large.specs.Coming.{KeepsPlace, TakesSegment, comes, left_of, pending_bytes};
 ghost use Rattle.tink_large.specs.Large.{text_from, text_length};
@@ -31,7 +32,7 @@ pub struct SealedText {
     ghost piece_room: { 2048 ≤ vec_capacity piece },
     ghost wide: { 2048 ≤ writer.sealer.first },
     ghost pending_room: { writer.sealer.room + writer.sealer.overhead < pending.room },
-    ghost few: { writer.mode ≡ Open → 2 * writer.segments + vec_len writer.held ≤ at },
+    ghost few: { writer.mode ≡ Open → 2 * writer.segments + writer.filled ≤ at },
     ghost bounded: { count + length (left_of n at writer pending) < 2 ^ 64 },
 }
 
@@ -44,8 +45,8 @@ fn seal_piece(writer: &mut SegmentWriter<StreamSegment>, pending: &mut Pending, 
     requires few { writer.old.segments + 1 < 2 ^ 32 }
     ensures left { (text : List ℕ) → pending.new.bytes.items ++ comes writer.new text
         ≡ comes writer.old (piece.now ++ text) }
-    ensures few { 2 * writer.new.segments + vec_len writer.new.held
-        ≤ 2 * writer.old.segments + vec_len writer.old.held + length piece.now }
+    ensures few { 2 * writer.new.segments + writer.new.filled
+        ≤ 2 * writer.old.segments + writer.old.filled + length piece.now }
     ensures open { writer.new.mode ≡ Open }
     ensures sealer { writer.new.sealer ≡ writer.old.sealer }
     ensures kept { KeepsPlace pending.old pending.new }
@@ -87,7 +88,7 @@ impl SealedText {
         requires wide { 2048 ≤ writer.sealer.first }
         requires room { writer.sealer.room + writer.sealer.overhead < pending.room }
         requires number { writer.segments ≡ 0 }
-        requires held { writer.held.items ≡ [] }
+        requires held { held_text writer ≡ [] }
         requires bounded { length (left_of n 0 writer pending) < 2 ^ 64 }
         ensures left { stream_left result ≡ left_of n 0 writer pending }
         ensures number { result.n ≡ n }

@@ -1,7 +1,8 @@
 use Rattle.std.proofs.Common.{◌≤◌, [], ◌++◌, length, refl, ap, ◌∙◌, arith, Some}
 use Rattle.stream_model.specs.Cut.{room_at}
-use Rattle.tink_streams.specs.Sealers.{segment_map}
+use Rattle.tink_streams.specs.Sealers.{held_text, segment_map}
 use Rattle.tink_streams.proofs.FrontFacts.{size_most}
+use Rattle.tink_streams.proofs.WriterSteps.{text_length}
 use Rattle.tink_large.proofs.SealedSteps.{cipher_longer, come_under, is_closed, last_not_refused, last_step, moment_at}
 use Rattle.tink_large.proofs.sealed_text.seal_last.Goals as goal
 
@@ -13,7 +14,7 @@ unreachable-requires c =
     let q = c.close.new.sink in
     let long = cipher_longer s.encrypter s.prefix.items s.nonce_size s.overhead s.overhead_is in
     let most = size_most s.first s.room w.segments s.first_fits in
-    let held : length w.held.items ≤ s.room = omega (arith, w.held_fits, w.held.ok.0, most) in
+    let held : length (held_text w) ≤ s.room = omega (arith, w.held_fits, text_length w, most) in
     last_not_refused (segment_map s) s.room (moment_at w p) (moment_at c.close.new.self q) q.bytes.items s.overhead p.room _ long held c.requires.open (ap Some c.requires.takes.0) refl c.requires.takes.1
     (λ rose. omega (arith, q.full rose, c.close.ensures.same.0, q.bytes.ok.0)) c.in-Err.ensures.answer
 
@@ -23,7 +24,7 @@ returns-clause-left c =
     let s = w.sealer in
     let q = c.close.new.sink in
     let after = c.close.new.self in
-    let held : length w.held.items ≤ room_at s.first s.room w.segments = omega (arith, w.held_fits, w.held.ok.0) in
+    let held : length (held_text w) ≤ room_at s.first s.room w.segments = omega (arith, w.held_fits, text_length w) in
     let closed = is_closed (segment_map s) (moment_at w c.args.pending.now) (moment_at after q) c.requires.open c.in-Ok.ensures.answer in
     ap (λ x. q.bytes.items ++ x) (come_under after s [] c.close.ensures.sealer)
     ∙ last_step (segment_map s) s.first s.room (moment_at w c.args.pending.now) (moment_at after q) q.bytes.items held (ap Some c.requires.takes.0) refl closed
