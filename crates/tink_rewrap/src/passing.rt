@@ -57,7 +57,7 @@ pub fn pass<S: Source, K: Sink, D: SegmentDecrypter + Drop, E: SegmentEncrypter 
     requires first { reader.old.segments ≡ 0 }
     requires open { writer.old.mode ≡ Open }
     requires fresh { writer.old.segments ≡ 0 }
-    requires empty { writer.old.held.items ≡ [] }
+    requires empty { sealers.held_text writer.old ≡ [] }
     ensures answer { PassMeans
         (ReaderMeans (openers.segment_map reader.old.opener) reader.old.opener.first reader.old.opener.size
         reader.old.opener.overhead)
@@ -104,7 +104,8 @@ pub fn pass_under<S: Source, K: Sink, T: DerivesStreams>(
     sink: &mut K,
 ) -> Result<Report, TinkError>
     requires trial { FitsKeys T.key_of keys.now trial }
-    requires stream { IsUnbegun stream.old.writer.mode stream.old.writer.segments stream.old.writer.held.items }
+    requires stream { IsUnbegun stream.old.writer.mode stream.old.writer.segments
+        (sealers.held_text stream.old.writer) }
     ensures answer { PassMeans (OpeningMeans (map (λ k. opening.opening_key aad.now (T.key_of k)) keys.now))
         (IsBroken (map (λ k. opening.opening_key aad.now (T.key_of k)) keys.now))
         (HasKey (map (λ k. opening.opening_key aad.now (T.key_of k)) keys.now))

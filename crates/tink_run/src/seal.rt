@@ -1,7 +1,7 @@
 ghost use Rattle.std.specs.Prelude.{◌≡◌, ◌≤◌, ◌<◌, [], length};
 ghost use Rattle.tink_streams.specs.declared.writing.Mode.TheVariants.{Open};
 ghost use Rattle.tink_stream_keys.specs.StreamKinds.{key_in_set};
-ghost use Rattle.tink_streams.specs.Sealers.{segment_map, writer_moment};
+ghost use Rattle.tink_streams.specs.Sealers.{held_text, segment_map, writer_moment};
 ghost use Rattle.tink_run.specs.Outside.{FaultsStay, outside_of};
 ghost use Rattle.tink_run.specs.Run.{LeavesEnds};
 ghost use Rattle.tink_run.specs.SealSteps.{PourMeans, SealsUnder, kind_not_begun};
@@ -74,7 +74,7 @@ fn pour<S: Source, K: Sink, E: SegmentEncrypter + Drop>(
 ) -> Result<u64, TinkError>
     requires open { writer.old.mode ≡ Open }
     requires fresh { writer.old.segments ≡ 0 }
-    requires empty { writer.old.held.items ≡ [] }
+    requires empty { held_text writer.old ≡ [] }
     requires piece { 0 < length piece.old }
     ensures answer { PourMeans (segment_map writer.old.sealer) writer.old.sealer.first writer.old.sealer.room
         (S.left source.old) (S.left source.new) (S.faults source.old) (S.faults source.new)

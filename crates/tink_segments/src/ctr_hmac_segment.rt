@@ -94,7 +94,8 @@ impl SegmentEncrypter for CtrHmacSegment {
 
     fn encrypt_segment_in_place(&self, segment: &mut [u8], nonce: &[u8]) {
         let n = segment.len() - self.tag_size;
-        self.cipher.apply_in_place(&block_of(nonce), &mut segment[..n]);
+        self.cipher
+            .apply_in_place(&block_of(nonce), &mut segment[..n]);
         let tag = tag_of(&self.mac, self.tag_size, nonce, &segment[..n]);
         segment[n..].copy_from_slice(&tag[..self.tag_size]);
     }

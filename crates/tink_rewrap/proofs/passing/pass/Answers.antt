@@ -3,6 +3,7 @@ use Rattle.std.proofs.KnownBytes.{Keeps-refl}
 use Rattle.std.proofs.lemmas.Result.{err_from_is_err_and}
 use Rattle.std.specs.Io.KnownBytes.{prepend_known}
 use Rattle.tink_streams.specs.Reading.{ReaderMoment}
+use Rattle.tink_streams.specs.Sealers.{held_text}
 use Rattle.tink_streams.specs.Writing.{WriterMoment}
 use Rattle.tink_run.proofs.ReadOut.{next_wrote}
 use Rattle.tink_rewrap.proofs.PassSteps.{finish_wrote, finished, first_failed, front_failed, next_failed, one_more, text_refused, text_wrote, under_way}
@@ -65,9 +66,9 @@ returns-in-Ended-clause-answer g c =
     let sealer = c.args.writer.now.sealer in
     let reader = c.loop-bytes.reader in
     let written = c.write-in-loop-bytes.new.self in
-    let v : WriterMoment = record { mode = written.mode; number = written.segments; held = written.held.items; got = g.K.Sink.got c.write-in-loop-bytes.new.sink; faults = g.K.Sink.faults c.write-in-loop-bytes.new.sink } in
+    let v : WriterMoment = record { mode = written.mode; number = written.segments; held = held_text written; got = g.K.Sink.got c.write-in-loop-bytes.new.sink; faults = g.K.Sink.faults c.write-in-loop-bytes.new.sink } in
     let ended = c.finish.new.writer in
-    let o : WriterMoment = record { mode = ended.mode; number = ended.segments; held = ended.held.items; got = g.K.Sink.got c.finish.new.sink; faults = g.K.Sink.faults c.finish.new.sink } in
+    let o : WriterMoment = record { mode = ended.mode; number = ended.segments; held = held_text ended; got = g.K.Sink.got c.finish.new.sink; faults = g.K.Sink.faults c.finish.new.sink } in
     let w = rw (c.loop-bytes.invariant.sealer, c.opened-text.ensures) at c.in_ok-write-2.ensures.answer in
     let r = rw (c.write-in-loop-bytes.ensures.sealer ∙ c.loop-bytes.invariant.sealer) at c.finish.ensures.answer in
     finished _ _ _ c.args.reader.now.opener.overhead _ _ _ _ _ _ _ _ c.loop-bytes.invariant.under_way sealer.some (omega (arith, sealer.some, sealer.first_fits)) v w.0 _ (take reader.filled reader.buffer.items) (sym c.in-Ended.ensures) refl o refl

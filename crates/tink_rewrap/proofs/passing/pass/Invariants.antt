@@ -2,6 +2,7 @@
 use Rattle.std.proofs.Common.{◌≡◌, ◌≤◌, ◌-◌, ◌^◌, take}
 use Rattle.std.specs.Io.KnownBytes.{prepend_known}
 use Rattle.stream_model.specs.Cut.{numbered}
+use Rattle.tink_streams.specs.Sealers.{held_text}
 use Rattle.tink_rewrap.proofs.PassSteps.{IsUnderWay}
 use Rattle.tink_rewrap.proofs.passing.pass.Given as goal
 
@@ -17,7 +18,7 @@ invariant-loop-bytes g l = record {
         rest = prepend_known (take l.reader.filled l.reader.buffer.items) (g.S.Source.left l.source);
         faults = g.S.Source.faults l.source;
       })
-      (record { mode = l.writer.mode; number = l.writer.segments; held = l.writer.held.items; got = g.K.Sink.got l.sink; faults = g.K.Sink.faults l.sink })
+      (record { mode = l.writer.mode; number = l.writer.segments; held = held_text l.writer; got = g.K.Sink.got l.sink; faults = g.K.Sink.faults l.sink })
       l.bytes;
   opener : l.reader.opener ≡ l.fn.reader.opener;
   sealer : l.writer.sealer ≡ l.fn.writer.sealer;

@@ -1,6 +1,7 @@
 -- The text so far was read and written.
 use Rattle.std.proofs.Common.{◌≡◌, ◌≤◌, ◌-◌, ◌^◌}
 use Rattle.stream_model.specs.Cut.{numbered}
+use Rattle.tink_streams.specs.Sealers.{held_text}
 use Rattle.tink_run.specs.SealSteps.{IsPoured}
 use Rattle.tink_run.proofs.seal.pour.Given as goal
 
@@ -8,8 +9,8 @@ abbrev pub invariant-loop-n : goal.invariant-loop-n
 invariant-loop-n g l = record {
   poured : IsPoured (numbered (g.E.SegmentEncrypter.seg l.fn.writer.sealer.encrypter) l.fn.writer.sealer.nonce_size l.fn.writer.sealer.prefix.items) l.fn.writer.sealer.first l.fn.writer.sealer.room
       (g.S.Source.left l.fn.source) (g.S.Source.left l.source)
-      (record { mode = l.fn.writer.mode; number = l.fn.writer.segments; held = l.fn.writer.held.items; got = g.K.Sink.got l.fn.sink; faults = g.K.Sink.faults l.fn.sink })
-      (record { mode = l.writer.mode; number = l.writer.segments; held = l.writer.held.items; got = g.K.Sink.got l.sink; faults = g.K.Sink.faults l.sink })
+      (record { mode = l.fn.writer.mode; number = l.fn.writer.segments; held = held_text l.fn.writer; got = g.K.Sink.got l.fn.sink; faults = g.K.Sink.faults l.fn.sink })
+      (record { mode = l.writer.mode; number = l.writer.segments; held = held_text l.writer; got = g.K.Sink.got l.sink; faults = g.K.Sink.faults l.sink })
       l.bytes;
   sealer : l.writer.sealer ≡ l.fn.writer.sealer;
   reads : g.S.Source.faults l.fn.source ≤ g.S.Source.faults l.source;

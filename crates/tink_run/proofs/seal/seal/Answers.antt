@@ -3,6 +3,7 @@ use Rattle.std.proofs.lemmas.Result.{err_from_is_err_and}
 use Rattle.tink_run.proofs.SealSteps.{begin_leaves, begin_refusal, close_leaves, closed, not_closed, not_poured, pour_leaves}
 use Rattle.tink_run.proofs.RunSteps.{leaves_same}
 use Rattle.tink_stream_keys.specs.StreamKinds.{key_in_set}
+use Rattle.tink_streams.specs.Sealers.{held_text}
 use Rattle.tink_run.proofs.seal.seal.Goals as goal
 
 pub returns-in-Err-clause-answer : goal.returns-in-Err-clause-answer
@@ -29,7 +30,7 @@ returns-in_err-close-clause-answer g c =
     let poured = c.in_ok-bytes.ensures in
     let r = rw poured.sealer at c.in_err-close.ensures.answer in
     rw (p.1, p.2) (not_closed _ _ _ _ _ _ _ _ _ begun.answer _ _ _ _ _ _
-    (record { mode = c.close.new.self.mode; number = c.close.new.self.segments; held = c.close.new.self.held.items; got = g.K.Sink.got c.close.new.sink; faults = g.K.Sink.faults c.close.new.sink })
+    (record { mode = c.close.new.self.mode; number = c.close.new.self.segments; held = held_text c.close.new.self; got = g.K.Sink.got c.close.new.sink; faults = g.K.Sink.faults c.close.new.sink })
     c.in_ok-bytes.bytes poured.answer.0 poured.answer.1 (omega (arith, begun.later, poured.write_count)) c.in_err-close.field-0.0 r)
 
 pub returns-in_err-close-clause-sink : goal.returns-in_err-close-clause-sink
