@@ -26,12 +26,13 @@ fn encrypt_by<K: Kinds>(
     ensures { (aead : K.Aead) → as_aead p ≡ Ok aead
         → Replies result (K.Aead.encrypts aead text.now [] draws.old) draws.old draws.new }
 {
-    let aead = p.into_aead()?;
-    aead.encrypt(alloc, text, &[], draws)
+    match p.into_aead() {
+        Ok(aead) => aead.encrypt(alloc, text, &[], draws),
+        Err(e) => Err(e),
+    }
 }
 
 // The nine sorts.
-#[derive(Clone, Copy)]
 enum Name {
     Aead,
     DeterministicAead,
@@ -42,11 +43,13 @@ enum Name {
     Signer,
     StreamingAead,
     Verifier,
+    // As an AEAD that encrypts abc to itself.
+    Encrypting,
 }
 
-fn primitive(of: Name) -> Primitive<Plains> {
+fn primitive(of: &Name) -> Primitive<Plains> {
     match of {
-        Name::Aead => Primitive::Aead(Plain),
+        Name::Aead | Name::Encrypting => Primitive::Aead(Plain),
         Name::DeterministicAead => Primitive::DeterministicAead(Plain),
         Name::HybridDecrypt => Primitive::HybridDecrypt(Plain),
         Name::HybridEncrypt => Primitive::HybridEncrypt(Plain),
@@ -63,7 +66,7 @@ fn picked_by<S: Sort<Plains>>(p: Primitive<Plains>) -> Result<bool, TinkError> {
 }
 
 // Whether the conversion to a sort hands the primitive out.
-fn picked(p: Primitive<Plains>, sort: Name) -> Result<bool, TinkError> {
+fn picked(alloc: Global, p: Primitive<Plains>, sort: &Name) -> Result<bool, TinkError> {
     match sort {
         Name::Aead => picked_by::<Aeads>(p),
         Name::DeterministicAead => picked_by::<DeterministicAeads>(p),
@@ -74,12 +77,16 @@ fn picked(p: Primitive<Plains>, sort: Name) -> Result<bool, TinkError> {
         Name::Signer => picked_by::<Signers>(p),
         Name::StreamingAead => picked_by::<StreamingAeads>(p),
         Name::Verifier => picked_by::<Verifiers>(p),
+        Name::Encrypting => gives(
+            encrypt_by(p, alloc, b"abc", &mut Draws::new(Vec::new(alloc))),
+            b"abc",
+        ),
     }
 }
 
-fn copy_picked(alloc: Global, p: &Primitive<Plains>, sort: Name) -> Result<bool, TinkError> {
+fn copy_picked(alloc: Global, p: &Primitive<Plains>, sort: &Name) -> Result<bool, TinkError> {
     match p.try_clone(alloc) {
-        Ok(copy) => picked(copy, sort),
+        Ok(copy) => picked(alloc, copy, sort),
         Err(e) => Err(e),
     }
 }
@@ -152,6 +159,13 @@ const CONVERSIONS: &[(&str, Name, Name, Answer)] = &[
         WRONG,
     ),
     ("signer as verifier", Name::Signer, Name::Verifier, WRONG),
+    ("an AEAD encrypts", Name::Aead, Name::Encrypting, Ok(true)),
+    (
+        "another sort does not encrypt",
+        Name::Prf,
+        Name::Encrypting,
+        WRONG,
+    ),
 ];
 
 /// A primitive and its copy are handed out as their sort, and refused as another.
@@ -159,21 +173,8 @@ const CONVERSIONS: &[(&str, Name, Name, Answer)] = &[
 fn a_primitive_is_handed_out_as_its_sort(rt: HostRuntime) {
     let alloc = rt.alloc();
     for (row, of, sort, want) in CONVERSIONS {
-        let copied = copy_picked(alloc, &primitive(*of), *sort);
+        let copied = copy_picked(alloc, &primitive(of), sort);
         expect(&rt, copied, *want, row);
-        expect(&rt, picked(primitive(*of), *sort), *want, row);
+        expect(&rt, picked(alloc, primitive(of), sort), *want, row);
     }
-}
-
-// Whether the text is what the primitive makes of it.
-fn encrypted(alloc: Global, of: Name) -> Result<bool, TinkError> {
-    let mut draws = Draws::new(Vec::new(alloc));
-    gives(encrypt_by(primitive(of), alloc, b"abc", &mut draws), b"abc")
-}
-
-#[test]
-fn encrypts_by_the_primitive(rt: HostRuntime) {
-    let alloc = rt.alloc();
-    expect(&rt, encrypted(alloc, Name::Aead), Ok(true), "an AEAD");
-    expect(&rt, encrypted(alloc, Name::Prf), WRONG, "another sort");
 }

@@ -7,12 +7,11 @@ ghost use Rattle.tink_registry.specs.Listed.{manager_of};
 use crate::expecting::{Answer, expect, made};
 use std::alloc::Global;
 use std::process::Abort;
-use std::test::Fail;
 use tink_io::{Draws, Kind, TinkError};
 use tink_primitives::{Aead, Primitive};
 use tink_proto::{Bytes, KeyData, KeyMaterialType, KeyTemplate, Text};
 use tink_registry::{KeyManager, Registry};
-use tink_testutil::{TestKinds, TestManager, URL, draws_of, gives, registry_of, template};
+use tink_testutil::{TestAead, TestKinds, TestManager, URL, draws_of, gives, template};
 
 /// What a manager that a registry finds builds of a key.
 fn built_by<M: KeyManager>(
@@ -23,17 +22,16 @@ fn built_by<M: KeyManager>(
 ) -> Result<Primitive<M::Family>, TinkError>
     ensures { (m : M) → manager_of M.url url.now registry.now.managers ≡ Some m → Answers result (M.builds m key.now) }
 {
-    registry.get_key_manager(url)?.primitive(alloc, key)
+    match registry.get_key_manager(url) {
+        Ok(manager) => manager.primitive(alloc, key),
+        Err(e) => Err(e),
+    }
 }
 
 // What is asked of a registry, and of what it hands out.
 enum Step {
-    // A manager of the URL is registered.
-    Manage(&'static str),
-    // Managers of both URLs and a template of each name are registered.
-    ManageBoth(&'static str, &'static str),
-    // A template of the URL is put under the name.
-    Name(&'static str, &'static str),
+    // Something is registered.
+    Register(Added),
     // The URL's manager says of itself what one of symmetric keys does.
     IsManaged(&'static str),
     // The URL's manager gives the public part of a key.
@@ -42,20 +40,35 @@ enum Step {
     HasTemplate(&'static str, &'static str),
     // The names of the templates are these.
     HasNames(&'static str, &'static str),
-    // There is a manager of the URL, and a template of the name.
-    HasBoth(&'static str),
-    HasNeither(&'static str),
-    // A new key of the URL is sixteen bytes of the digit 7; and so are its data, of the material 1.
-    MakesKey(&'static str),
-    MakesData(&'static str),
+    // There is a manager of the URL and a template of the name, or neither.
+    HasBoth(&'static str, bool),
+    // A new key of the URL.
+    Makes(&'static str, Made),
     // So many draws are left.
     Left(usize),
     // The URL and the key build an AEAD, by the registry and by the manager that it finds.
     Builds(&'static str, &'static [u8]),
     FindsAndBuilds(&'static str, &'static [u8]),
-    // The AEAD of a key opens this to abc, and that of new data seals abc to this.
+    // The AEAD of a key opens this to abc.
     Opens(&'static [u8], &'static [u8]),
-    Seals(&'static [u8]),
+}
+
+enum Added {
+    // A manager of the URL.
+    Manager(&'static str),
+    // Managers of both URLs and a template of each name.
+    Both(&'static str, &'static str),
+    // A template of the URL under the name.
+    Template(&'static str, &'static str),
+}
+
+enum Made {
+    // Its bytes are sixteen digits 7.
+    Key,
+    // And so are its data, of the material 1.
+    Data,
+    // The AEAD of its data seals abc to this.
+    Sealing(&'static [u8]),
 }
 
 // Puts a template of the URL under a name.
@@ -71,9 +84,16 @@ fn put_template(
     }
 }
 
-// A name's template whose URL is the name.
-fn named(alloc: Global, name: &str) -> Result<(Text, KeyTemplate), TinkError> {
-    Ok((Text::from_str(alloc, name)?, template(alloc, name, &[], 1)?))
+// A template whose URL is the name.
+fn push_named(
+    alloc: Global,
+    kts: &mut Vec<(Text, KeyTemplate)>,
+    name: &str,
+) -> Result<(), TinkError> {
+    match template(alloc, name, &[], 1) {
+        Ok(kt) => Ok(kts.push((Text::from_str(alloc, name)?, kt))?),
+        Err(e) => Err(e),
+    }
 }
 
 // Registers managers of both URLs and a template of each name.
@@ -83,21 +103,22 @@ fn register_two(
     one: &'static str,
     other: &'static str,
 ) -> Result<(), TinkError> {
-    let kts = vec![in alloc; named(alloc, one)?, named(alloc, other)?]?;
+    let mut kts = Vec::new(alloc);
+    push_named(alloc, &mut kts, one)?;
+    push_named(alloc, &mut kts, other)?;
     let kms = vec![in alloc; TestManager::new(one), TestManager::new(other)]?;
     registry.register_all(alloc, kms, kts)
 }
 
-fn changed(
+fn register(
     alloc: Global,
     registry: &mut Registry<TestManager>,
-    step: &Step,
-) -> Result<bool, TinkError> {
-    match step {
-        Step::Manage(url) => made(registry.register_key_manager(alloc, TestManager::new(url))),
-        Step::ManageBoth(one, other) => made(register_two(alloc, registry, one, other)),
-        Step::Name(name, url) => made(put_template(alloc, registry, name, url)),
-        _ => Ok(false),
+    added: &Added,
+) -> Result<(), TinkError> {
+    match added {
+        Added::Manager(url) => registry.register_key_manager(alloc, TestManager::new(url)),
+        Added::Both(one, other) => register_two(alloc, registry, one, other),
+        Added::Template(name, url) => put_template(alloc, registry, name, url),
     }
 }
 
@@ -151,44 +172,6 @@ fn has(registry: &Registry<TestManager>, name: &str, wanted: bool) -> bool {
         && registry.get_template_generator(name).is_some() == wanted
 }
 
-fn held(alloc: Global, registry: &Registry<TestManager>, step: &Step) -> Result<bool, TinkError> {
-    match step {
-        Step::IsManaged(url) => is_symmetric(registry.get_key_manager(url), url),
-        Step::GivesPublic(url) => gives_public(alloc, registry.get_key_manager(url)),
-        Step::HasTemplate(name, url) => Ok(has_template(registry, name, url)),
-        Step::HasNames(one, other) => are_names(registry.template_names(alloc), one, other),
-        Step::HasBoth(name) => Ok(has(registry, name, true)),
-        Step::HasNeither(name) => Ok(has(registry, name, false)),
-        _ => Ok(false),
-    }
-}
-
-// The data of a new key of the URL.
-fn new_data(
-    alloc: Global,
-    registry: &Registry<TestManager>,
-    url: &str,
-    draws: &mut Draws,
-) -> Result<KeyData, TinkError> {
-    match template(alloc, url, &[], 1) {
-        Ok(kt) => registry.new_key_data(alloc, &kt, draws),
-        Err(e) => Err(e),
-    }
-}
-
-// The bytes of one.
-fn new_key(
-    alloc: Global,
-    registry: &Registry<TestManager>,
-    url: &str,
-    draws: &mut Draws,
-) -> Result<Bytes, TinkError> {
-    match template(alloc, url, &[], 1) {
-        Ok(kt) => registry.new_key(alloc, &kt, draws),
-        Err(e) => Err(e),
-    }
-}
-
 // Whether the data are the test URL's, with sixteen digits 7 and of the material 1.
 fn are_sevens(data: Result<KeyData, TinkError>) -> Result<bool, TinkError> {
     match data {
@@ -203,72 +186,82 @@ fn are_sevens(data: Result<KeyData, TinkError>) -> Result<bool, TinkError> {
 
 type Built = Result<Primitive<TestKinds>, TinkError>;
 
-fn is_aead(built: Built) -> Result<bool, TinkError> {
+fn aead_of(built: Built) -> Result<TestAead, TinkError> {
     match built {
-        Ok(p) => made(p.into_aead()),
+        Ok(p) => p.into_aead(),
         Err(e) => Err(e),
     }
 }
 
 fn opened_by(alloc: Global, built: Built, sealed: &[u8]) -> Result<Bytes, TinkError> {
-    let aead = built?.into_aead()?;
-    aead.decrypt(alloc, sealed, b"")
+    match aead_of(built) {
+        Ok(aead) => aead.decrypt(alloc, sealed, b""),
+        Err(e) => Err(e),
+    }
 }
 
-// The text abc, sealed by the primitive of data.
-fn sealed_by(
+// The text abc, sealed by a primitive.
+fn sealed_by(alloc: Global, built: Built, draws: &mut Draws) -> Result<Bytes, TinkError> {
+    match aead_of(built) {
+        Ok(aead) => aead.encrypt(alloc, b"abc", b"", draws),
+        Err(e) => Err(e),
+    }
+}
+
+// The primitive of the data of a new key.
+fn new_primitive(
     alloc: Global,
     registry: &Registry<TestManager>,
-    data: Result<KeyData, TinkError>,
+    kt: &KeyTemplate,
     draws: &mut Draws,
-) -> Result<Bytes, TinkError> {
-    let aead = registry
-        .primitive_from_key_data(alloc, &data?)?
-        .into_aead()?;
-    aead.encrypt(alloc, b"abc", b"", draws)
+) -> Built {
+    match registry.new_key_data(alloc, kt, draws) {
+        Ok(data) => registry.primitive_from_key_data(alloc, &data),
+        Err(e) => Err(e),
+    }
 }
 
-fn drawn(
+fn makes(
+    alloc: Global,
+    registry: &Registry<TestManager>,
+    kt: &KeyTemplate,
+    of: &Made,
+    draws: &mut Draws,
+) -> Result<bool, TinkError> {
+    match of {
+        Made::Key => gives(registry.new_key(alloc, kt, draws), &[b'7'; 16]),
+        Made::Data => are_sevens(registry.new_key_data(alloc, kt, draws)),
+        Made::Sealing(want) => {
+            let built = new_primitive(alloc, registry, kt, draws);
+            gives(sealed_by(alloc, built, draws), want)
+        }
+    }
+}
+
+fn held(
     alloc: Global,
     registry: &Registry<TestManager>,
     step: &Step,
     draws: &mut Draws,
 ) -> Result<bool, TinkError> {
     match step {
-        Step::MakesKey(url) => gives(new_key(alloc, registry, url, draws), &[b'7'; 16]),
-        Step::MakesData(url) => are_sevens(new_data(alloc, registry, url, draws)),
+        Step::IsManaged(url) => is_symmetric(registry.get_key_manager(url), url),
+        Step::GivesPublic(url) => gives_public(alloc, registry.get_key_manager(url)),
+        Step::HasTemplate(name, url) => Ok(has_template(registry, name, url)),
+        Step::HasNames(one, other) => are_names(registry.template_names(alloc), one, other),
+        Step::HasBoth(name, wanted) => Ok(has(registry, name, *wanted)),
+        Step::Makes(url, of) => match template(alloc, url, &[], 1) {
+            Ok(kt) => makes(alloc, registry, &kt, of, draws),
+            Err(e) => Err(e),
+        },
         Step::Left(n) => Ok(draws.left() == *n),
-        Step::Builds(url, key) => is_aead(registry.primitive(alloc, url, key)),
-        Step::FindsAndBuilds(url, key) => is_aead(built_by(registry, alloc, url, key)),
+        Step::Builds(url, key) => made(aead_of(registry.primitive(alloc, url, key))),
+        Step::FindsAndBuilds(url, key) => made(aead_of(built_by(registry, alloc, url, key))),
         Step::Opens(key, sealed) => gives(
             opened_by(alloc, registry.primitive(alloc, URL, key), sealed),
             b"abc",
         ),
-        Step::Seals(want) => {
-            let data = new_data(alloc, registry, URL, draws);
-            gives(sealed_by(alloc, registry, data, draws), want)
-        }
-        _ => Ok(false),
-    }
-}
-
-fn answered(
-    alloc: Global,
-    registry: &mut Registry<TestManager>,
-    step: &Step,
-    draws: &mut Draws,
-) -> Result<bool, TinkError> {
-    match step {
-        Step::Manage(_) | Step::ManageBoth(_, _) | Step::Name(_, _) => changed(
-            alloc, registry, step,
-        ),
-        Step::IsManaged(_)
-        | Step::GivesPublic(_)
-        | Step::HasTemplate(_, _)
-        | Step::HasNames(_, _)
-        | Step::HasBoth(_)
-        | Step::HasNeither(_) => held(alloc, registry, step),
-        _ => drawn(alloc, registry, step, draws),
+        Step::Register(_) => Ok(false),
     }
 }
 
@@ -280,22 +273,39 @@ const INVALID: Answer = Err(Kind::InvalidKey);
 
 const NO_DRAWS: Answer = Err(Kind::RandomFault);
 
-// The steps of a registry of one manager, that of the test URL, with draws for a key and a nonce and 47 digits 7.
+// The steps of a new registry, with draws for a key and a nonce and 47 digits 7.
 const STEPS: &[(&str, Step, Answer)] = &[
+    ("a URL", Step::Register(Added::Manager(URL)), Ok(true)),
     (
         "new data seal",
-        Step::Seals(b"dabc0123456789abcdef"),
+        Step::Makes(URL, Made::Sealing(b"dabc0123456789abcdef")),
         Ok(true),
     ),
     // A key is made.
-    ("the data of a new key", Step::MakesData(URL), Ok(true)),
-    ("the bytes of a new key", Step::MakesKey(URL), Ok(true)),
+    (
+        "the data of a new key",
+        Step::Makes(URL, Made::Data),
+        Ok(true),
+    ),
+    (
+        "the bytes of a new key",
+        Step::Makes(URL, Made::Key),
+        Ok(true),
+    ),
     ("of 47 draws 15 are left", Step::Left(15), Ok(true)),
     // Refusals to make stand in their order.
-    ("a key of an unknown URL", Step::MakesKey("x"), UNSUPPORTED),
-    ("data of an unknown URL", Step::MakesData("x"), UNSUPPORTED),
-    ("a key from 15 draws", Step::MakesKey(URL), NO_DRAWS),
-    ("data from 15 draws", Step::MakesData(URL), NO_DRAWS),
+    (
+        "a key of an unknown URL",
+        Step::Makes("x", Made::Key),
+        UNSUPPORTED,
+    ),
+    (
+        "data of an unknown URL",
+        Step::Makes("x", Made::Data),
+        UNSUPPORTED,
+    ),
+    ("a key from 15 draws", Step::Makes(URL, Made::Key), NO_DRAWS),
+    ("data from 15 draws", Step::Makes(URL, Made::Data), NO_DRAWS),
     ("a refusal draws nothing", Step::Left(15), Ok(true)),
     // Refusals to build stand in their order.
     ("no key and no URL", Step::Builds("x", b""), INVALID),
@@ -313,8 +323,12 @@ const STEPS: &[(&str, Step, Answer)] = &[
         Ok(true),
     ),
     // A URL is registered once.
-    ("the URL again", Step::Manage(URL), THERE),
-    ("another URL", Step::Manage("another"), Ok(true)),
+    ("the URL again", Step::Register(Added::Manager(URL)), THERE),
+    (
+        "another URL",
+        Step::Register(Added::Manager("another")),
+        Ok(true),
+    ),
     ("its manager", Step::IsManaged("another"), Ok(true)),
     (
         "a URL that is not there",
@@ -327,72 +341,107 @@ const STEPS: &[(&str, Step, Answer)] = &[
         Err(Kind::NoPrivateKeys),
     ),
     // Names are sorted and stand once.
-    ("a template", Step::Name("n", "1"), Ok(true)),
-    ("one of an earlier name", Step::Name("m", "2"), Ok(true)),
-    ("one of the same name", Step::Name("n", "3"), Ok(true)),
+    (
+        "a template",
+        Step::Register(Added::Template("n", "1")),
+        Ok(true),
+    ),
+    (
+        "one of an earlier name",
+        Step::Register(Added::Template("m", "2")),
+        Ok(true),
+    ),
+    (
+        "one of the same name",
+        Step::Register(Added::Template("n", "3")),
+        Ok(true),
+    ),
     ("the names", Step::HasNames("m", "n"), Ok(true)),
     ("the template of m", Step::HasTemplate("m", "2"), Ok(true)),
     ("the newer one of n", Step::HasTemplate("n", "3"), Ok(true)),
     ("none of o", Step::HasTemplate("o", ""), Ok(false)),
     // All are registered, or none.
-    ("a URL twice", Step::ManageBoth("a", "a"), THERE),
+    ("a URL twice", Step::Register(Added::Both("a", "a")), THERE),
     (
         "nothing of a URL that stands twice",
-        Step::HasNeither("a"),
+        Step::HasBoth("a", false),
         Ok(true),
     ),
-    ("a URL that is there", Step::ManageBoth("a", URL), THERE),
+    (
+        "a URL that is there",
+        Step::Register(Added::Both("a", URL)),
+        THERE,
+    ),
     (
         "nothing beside a URL that was there",
-        Step::HasNeither("a"),
+        Step::HasBoth("a", false),
         Ok(true),
     ),
-    ("two of each", Step::ManageBoth("a", "b"), Ok(true)),
-    ("the first of two", Step::HasBoth("a"), Ok(true)),
-    ("the second of two", Step::HasBoth("b"), Ok(true)),
+    (
+        "two of each",
+        Step::Register(Added::Both("a", "b")),
+        Ok(true),
+    ),
+    ("the first of two", Step::HasBoth("a", true), Ok(true)),
+    ("the second of two", Step::HasBoth("b", true), Ok(true)),
 ];
 
 // The draws of STEPS.
 const DRAWS: &[u8] = b"0123456789abcdefd77777777777777777777777777777777777777777777777";
 
-// A registry of the manager of the test URL.
-fn one_manager(alloc: Global) -> Result<Registry<TestManager>, TinkError> {
-    registry_of(alloc, TestManager::new(URL))
-}
-
 fn walk(rt: &impl Abort, alloc: Global, registry: &mut Registry<TestManager>, draws: &mut Draws) {
     for (row, step, want) in STEPS {
-        expect(rt, answered(alloc, registry, step, draws), *want, row);
+        let got = match step {
+            Step::Register(added) => made(register(alloc, registry, added)),
+            _ => held(alloc, registry, step, draws),
+        };
+        expect(rt, got, *want, row);
     }
 }
 
 #[test]
-fn a_registry_goes_by_its_steps(rt: HostRuntime) -> Result<(), Fail> {
-    let mut draws = draws_of(rt.alloc(), DRAWS)?;
-    let mut registry = one_manager(rt.alloc())?;
-    walk(&rt, rt.alloc(), &mut registry, &mut draws);
-    Ok(())
+fn a_registry_goes_by_its_steps(rt: HostRuntime) {
+    let alloc = rt.alloc();
+    match draws_of(alloc, DRAWS) {
+        Ok(mut draws) => walk(&rt, alloc, &mut Registry::new(alloc), &mut draws),
+        Err(e) => expect(&rt, Err(e), Ok(true), "the draws"),
+    }
 }
+
+// Whether what was registered is there, or is not.
+fn is_there(registry: &Registry<TestManager>, added: &Added, wanted: bool) -> bool {
+    match added {
+        Added::Manager(url) => registry.get_key_manager(url).is_ok() == wanted,
+        Added::Both(one, other) => has(registry, one, wanted) && has(registry, other, wanted),
+        Added::Template(name, url) => has_template(registry, name, url) == wanted,
+    }
+}
+
+const FIRST: Added = Added::Manager(URL);
+
+const BEFORE: Added = Added::Template("a", URL);
+
+const BEHIND: &[Added] = &[
+    Added::Manager("b"),
+    Added::Template("b", "b"),
+    Added::Both("c", "d"),
+];
 
 // Whether a registration that is refused registers nothing, and one that isn't registers all, beside what was there.
 fn is_whole_or_nothing(alloc: Global, registry: &mut Registry<TestManager>) -> bool {
-    let before = changed(alloc, registry, &Step::Name("a", URL)).is_ok();
-    let managed = changed(alloc, registry, &Step::Manage("b")).is_ok();
-    let named = changed(alloc, registry, &Step::Name("b", "b")).is_ok();
-    let both = changed(alloc, registry, &Step::ManageBoth("c", "d")).is_ok();
-    registry.get_key_manager("b").is_ok() == managed
-        && has_template(registry, "b", "b") == named
-        && has(registry, "c", both)
-        && has(registry, "d", both)
-        && has_template(registry, "a", URL) == before
-        && registry.get_key_manager(URL).is_ok()
+    let first = register(alloc, registry, &FIRST).is_ok();
+    let before = register(alloc, registry, &BEFORE).is_ok();
+    let mut holds = true;
+    for added in BEHIND {
+        let done = register(alloc, registry, added).is_ok();
+        holds = holds && is_there(registry, added, done);
+    }
+    holds && is_there(registry, &FIRST, first) && is_there(registry, &BEFORE, before)
 }
 
 /// A call that is refused for `OutOfMemory` registers nothing, and one that isn't registers all.
 #[test]
-fn a_registration_is_whole_or_nothing(rt: HostRuntime) -> Result<(), Fail> {
-    let mut registry = one_manager(rt.alloc())?;
-    let holds = is_whole_or_nothing(rt.alloc(), &mut registry);
+fn a_registration_is_whole_or_nothing(rt: HostRuntime) {
+    let holds = is_whole_or_nothing(rt.alloc(), &mut Registry::new(rt.alloc()));
     expect(&rt, Ok(holds), Ok(true), "what was registered");
-    Ok(())
 }

@@ -29,10 +29,10 @@ fn aead(alloc: Global, number: u8) -> Result<Primitive<TestKinds>, TinkError> {
     Ok(Primitive::Aead(numbered(alloc, number)?))
 }
 
-fn key_of(prefix: OutputPrefixType) -> Key {
+fn key_of(prefix: OutputPrefixType, status: i32) -> Key {
     Key {
         key_data: None,
-        status: KeyStatusType::Enabled as i32,
+        status,
         key_id: 0x01020304,
         output_prefix_type: prefix as i32,
     }
@@ -47,8 +47,10 @@ fn set_of_one<K: Kinds>(
     ensures { IfOk result (λ set. AreGroupsOf prefix_of (entry_of p key.now ∷ []) set.entries) }
 {
     let mut set = PrimitiveSet::new(alloc);
-    set.put(alloc, p, key)?;
-    Ok(set)
+    match set.put(alloc, p, key) {
+        Ok(()) => Ok(set),
+        Err(e) => Err(e),
+    }
 }
 
 /// The id of the entry that a key adds.
@@ -62,8 +64,10 @@ fn added_id<K: Kinds>(
     ensures err { OnErr result (HaveSameGroups set.old.entries set.new.entries) }
     ensures primary { set.new.primary ≡ set.old.primary }
 {
-    let entry = set.add(alloc, p, key)?;
-    Ok(entry.key_id)
+    match set.add(alloc, p, key) {
+        Ok(entry) => Ok(entry.key_id),
+        Err(e) => Err(e),
+    }
 }
 
 // The first byte of a key.
@@ -81,15 +85,20 @@ fn number_of(entry: &Entry<TestKinds>) -> Option<u8> {
     }
 }
 
+// By what call an entry is added.
+enum How {
+    // It answers nothing.
+    Put,
+    // It lends the entry.
+    Lend,
+    // It answers the key's id.
+    Id,
+}
+
 // What is asked of a set.
 enum Step {
-    // An entry of the number is put.
-    Put(u8, OutputPrefixType),
-    // One is added for a RAW key, and lent; and added with the key's id.
-    Lends(u8),
-    AddsId(u8),
-    // A key of this status and of no known prefix is put.
-    PutKey(i32),
+    // An entry of the number is added for a key of the type and the status.
+    Add(How, u8, OutputPrefixType, i32),
     // The RAW entries have these numbers, and those of a copy.
     Raws(u8, u8),
     CopiedRaws(u8, u8),
@@ -99,32 +108,47 @@ enum Step {
     Prefix(OutputPrefixType, &'static [u8]),
 }
 
-fn put(
-    alloc: Global,
-    set: &mut PrimitiveSet<TestKinds>,
-    number: u8,
-    key: &Key,
-) -> Result<bool, TinkError> {
-    let p = aead(alloc, number)?;
-    made(set.put(alloc, p, key))
-}
-
-fn lends(alloc: Global, set: &mut PrimitiveSet<TestKinds>, number: u8) -> Result<bool, TinkError> {
-    let p = aead(alloc, number)?;
-    match set.add(alloc, p, &key_of(OutputPrefixType::Raw)) {
+// Whether an entry that is lent has the number.
+fn is_numbered(entry: Result<&Entry<TestKinds>, TinkError>, number: u8) -> Result<bool, TinkError> {
+    match entry {
         Ok(entry) => Ok(number_of(entry) == Some(number)),
         Err(e) => Err(e),
     }
 }
 
-fn adds_id(
+fn is_id(id: Result<KeyId, TinkError>) -> Result<bool, TinkError> {
+    match id {
+        Ok(id) => Ok(id == 0x01020304),
+        Err(e) => Err(e),
+    }
+}
+
+fn added(
     alloc: Global,
     set: &mut PrimitiveSet<TestKinds>,
+    how: &How,
+    p: Primitive<TestKinds>,
     number: u8,
+    key: &Key,
 ) -> Result<bool, TinkError> {
-    let p = aead(alloc, number)?;
-    let id = added_id(alloc, set, p, &key_of(OutputPrefixType::Raw))?;
-    Ok(id == 0x01020304)
+    match how {
+        How::Put => made(set.put(alloc, p, key)),
+        How::Lend => is_numbered(set.add(alloc, p, key), number),
+        How::Id => is_id(added_id(alloc, set, p, key)),
+    }
+}
+
+fn add(
+    alloc: Global,
+    set: &mut PrimitiveSet<TestKinds>,
+    how: &How,
+    number: u8,
+    key: &Key,
+) -> Result<bool, TinkError> {
+    match aead(alloc, number) {
+        Ok(p) => added(alloc, set, how, p, number, key),
+        Err(e) => Err(e),
+    }
 }
 
 fn are_numbers(entries: &[Entry<TestKinds>], one: u8, other: u8) -> bool {
@@ -146,42 +170,34 @@ fn copied_are_numbers(
     }
 }
 
-fn shows(alloc: Global, set: &PrimitiveSet<TestKinds>, step: &Step) -> Result<bool, TinkError> {
-    match step {
-        Step::Raws(one, other) => Ok(are_numbers(set.raw_entries(), *one, *other)),
-        Step::CopiedRaws(one, other) => copied_are_numbers(alloc, set, *one, *other),
-        Step::Count(prefix, n) => Ok(set.entries_for_prefix(prefix).len() == *n),
-        Step::Prefix(prefix, want) => gives(output_prefix(alloc, &key_of(*prefix)), want),
-        _ => Ok(false),
-    }
-}
-
 fn answered(
     alloc: Global,
     set: &mut PrimitiveSet<TestKinds>,
     step: &Step,
 ) -> Result<bool, TinkError> {
     match step {
-        Step::Put(number, prefix) => put(alloc, set, *number, &key_of(*prefix)),
-        Step::Lends(number) => lends(alloc, set, *number),
-        Step::AddsId(number) => adds_id(alloc, set, *number),
-        Step::PutKey(status) => {
-            let key = Key {
-                status: *status,
-                ..key_of(OutputPrefixType::UnknownPrefix)
-            };
-            put(alloc, set, 7, &key)
+        Step::Add(how, number, prefix, status) => {
+            add(alloc, set, how, *number, &key_of(*prefix, *status))
         }
-        _ => shows(alloc, set, step),
+        Step::Raws(one, other) => Ok(are_numbers(set.raw_entries(), *one, *other)),
+        Step::CopiedRaws(one, other) => copied_are_numbers(alloc, set, *one, *other),
+        Step::Count(prefix, n) => Ok(set.entries_for_prefix(prefix).len() == *n),
+        Step::Prefix(prefix, want) => gives(output_prefix(alloc, &key_of(*prefix, 1)), want),
     }
 }
+
+const TINK: OutputPrefixType = OutputPrefixType::Tink;
+
+const RAW: OutputPrefixType = OutputPrefixType::Raw;
+
+const UNKNOWN: OutputPrefixType = OutputPrefixType::UnknownPrefix;
 
 // The steps of a new set. The keys have the id 01020304.
 const STEPS: &[(&str, Step, Answer)] = &[
     // A prefix is a byte and the id.
     (
         "TINK",
-        Step::Prefix(OutputPrefixType::Tink, &[TINK_START_BYTE, 1, 2, 3, 4]),
+        Step::Prefix(TINK, &[TINK_START_BYTE, 1, 2, 3, 4]),
         Ok(true),
     ),
     (
@@ -194,38 +210,30 @@ const STEPS: &[(&str, Step, Answer)] = &[
         Step::Prefix(OutputPrefixType::Legacy, &[LEGACY_START_BYTE, 1, 2, 3, 4]),
         Ok(true),
     ),
-    (
-        "RAW",
-        Step::Prefix(OutputPrefixType::Raw, &RAW_PREFIX),
-        Ok(true),
-    ),
+    ("RAW", Step::Prefix(RAW, &RAW_PREFIX), Ok(true)),
     (
         "an unknown type",
-        Step::Prefix(OutputPrefixType::UnknownPrefix, &[]),
+        Step::Prefix(UNKNOWN, &[]),
         Err(Kind::UnknownPrefix),
     ),
     // A key that may not stand is refused.
     (
         "a key of no prefix",
-        Step::PutKey(1),
+        Step::Add(How::Put, 7, UNKNOWN, 1),
         Err(Kind::UnknownPrefix),
     ),
     (
         "a disabled key of no prefix",
-        Step::PutKey(2),
+        Step::Add(How::Put, 7, UNKNOWN, 2),
         Err(Kind::NotEnabled),
     ),
     ("no entry of a refused key", Step::Count(b"", 0), Ok(true)),
     // Entries stand in the order of adding.
-    ("a RAW entry", Step::Put(7, OutputPrefixType::Raw), Ok(true)),
-    (
-        "a TINK entry",
-        Step::Put(8, OutputPrefixType::Tink),
-        Ok(true),
-    ),
+    ("a RAW entry", Step::Add(How::Put, 7, RAW, 1), Ok(true)),
+    ("a TINK entry", Step::Add(How::Put, 8, TINK, 1), Ok(true)),
     (
         "another RAW entry",
-        Step::Put(9, OutputPrefixType::Raw),
+        Step::Add(How::Put, 9, RAW, 1),
         Ok(true),
     ),
     ("the RAW entries", Step::Raws(7, 9), Ok(true)),
@@ -245,8 +253,16 @@ const STEPS: &[(&str, Step, Answer)] = &[
         Ok(true),
     ),
     // An added entry is lent.
-    ("the number of an entry", Step::Lends(5), Ok(true)),
-    ("the id of an entry", Step::AddsId(6), Ok(true)),
+    (
+        "the number of an entry",
+        Step::Add(How::Lend, 5, RAW, 1),
+        Ok(true),
+    ),
+    (
+        "the id of an entry",
+        Step::Add(How::Id, 6, RAW, 1),
+        Ok(true),
+    ),
 ];
 
 fn walk(rt: &impl Abort, alloc: Global, set: &mut PrimitiveSet<TestKinds>) {
@@ -273,52 +289,42 @@ fn constants_have_their_numbers(rt: HostRuntime) {
     expect(&rt, Ok(holds), Ok(true), "the constants");
 }
 
-// Whether an entry is added, by `add` or by `put`.
-fn is_added(
-    alloc: Global,
-    set: &mut PrimitiveSet<TestKinds>,
-    number: u8,
-    prefix: OutputPrefixType,
-) -> bool {
-    match aead(alloc, number) {
-        Ok(p) => match prefix {
-            OutputPrefixType::Raw => set.put(alloc, p, &key_of(prefix)).is_ok(),
-            _ => set.add(alloc, p, &key_of(prefix)).is_ok(),
-        },
-        Err(_) => false,
-    }
-}
-
 // Whether there are so many RAW entries and so many TINK ones.
 fn has_entries(set: &PrimitiveSet<TestKinds>, raws: usize, tinks: usize) -> bool {
     set.raw_entries().len() == raws && set.entries_for_prefix(&[1, 1, 2, 3, 4]).len() == tinks
+}
+
+// Whether each entry is added, or the set is left; and nearly all are added.
+fn adds_or_leaves(alloc: Global, set: &mut PrimitiveSet<TestKinds>) -> bool {
+    let mut raws: usize = 0;
+    let mut tinks: usize = 0;
+    let mut holds = true;
+    for number in 0..9 {
+        let raw = add(alloc, set, &How::Put, number, &key_of(RAW, 1));
+        raws = raws.wrapping_add(raw.is_ok() as usize);
+        let tink = add(alloc, set, &How::Lend, number, &key_of(TINK, 1));
+        tinks = tinks.wrapping_add(tink.is_ok() as usize);
+        holds = holds && has_entries(set, raws, tinks);
+    }
+    holds && 17 <= raws.wrapping_add(tinks)
 }
 
 /// A call that is refused for `OutOfMemory` adds nothing, and one that isn't adds one entry.
 #[test]
 fn an_entry_is_added_or_the_set_is_left(rt: HostRuntime) {
     let alloc = rt.alloc();
-    let mut set = PrimitiveSet::new(alloc);
-    let mut raws: usize = 0;
-    let mut tinks: usize = 0;
-    let mut holds = true;
-    for number in 0..9 {
-        let raw = is_added(alloc, &mut set, number, OutputPrefixType::Raw);
-        raws = raws.wrapping_add(raw as usize);
-        let tink = is_added(alloc, &mut set, number, OutputPrefixType::Tink);
-        tinks = tinks.wrapping_add(tink as usize);
-        holds = holds && has_entries(&set, raws, tinks);
-    }
-    let nearly_all = 17 <= raws.wrapping_add(tinks);
-    expect(&rt, Ok(holds && nearly_all), Ok(true), "the entries");
+    let holds = adds_or_leaves(alloc, &mut PrimitiveSet::new(alloc));
+    expect(&rt, Ok(holds), Ok(true), "the entries");
 }
 
 // ---- sets of one sort
 
 // The set of a RAW AEAD of the number 7.
 fn set_of_seven(alloc: Global) -> Result<PrimitiveSet<TestKinds>, TinkError> {
-    let p = aead(alloc, 7)?;
-    set_of_one(alloc, p, &key_of(OutputPrefixType::Raw))
+    match aead(alloc, 7) {
+        Ok(p) => set_of_one(alloc, p, &key_of(RAW, 1)),
+        Err(e) => Err(e),
+    }
 }
 
 // A set whose primary entry is a streaming AEAD, and that has no other one.
@@ -336,14 +342,13 @@ fn set_of_a_primary(alloc: Global) -> Result<PrimitiveSet<TestKinds>, TinkError>
     })
 }
 
-#[derive(Clone, Copy)]
 enum Held {
     Nothing,
     Seven,
     StreamingPrimary,
 }
 
-fn set_of(alloc: Global, held: Held) -> Result<PrimitiveSet<TestKinds>, TinkError> {
+fn set_of(alloc: Global, held: &Held) -> Result<PrimitiveSet<TestKinds>, TinkError> {
     match held {
         Held::Nothing => Ok(PrimitiveSet::new(alloc)),
         Held::Seven => set_of_seven(alloc),
@@ -351,7 +356,6 @@ fn set_of(alloc: Global, held: Held) -> Result<PrimitiveSet<TestKinds>, TinkErro
     }
 }
 
-#[derive(Clone, Copy)]
 enum Sorted {
     Aead,
     DeterministicAead,
@@ -362,10 +366,36 @@ enum Sorted {
     Signer,
     StreamingAead,
     Verifier,
+    // AEADs, of which the first RAW one and that of a copy have the number 7.
+    Sevens,
+}
+
+// Whether the number of the first RAW entry is 7, and there is none of another prefix.
+fn has_seven(typed: &TypedPrimitiveSet<TestAead>) -> bool {
+    match typed.raw_entries() {
+        Some([entry, ..]) => {
+            number_in(&entry.primitive) == Some(7) && typed.entries_for_prefix(&[1]).is_none()
+        }
+        _ => false,
+    }
+}
+
+// Whether the AEADs of a set and their copy have the number 7.
+fn have_seven(
+    alloc: Global,
+    typed: Result<TypedPrimitiveSet<TestAead>, TinkError>,
+) -> Result<bool, TinkError> {
+    match typed {
+        Ok(typed) => match typed.try_clone(alloc) {
+            Ok(copy) => Ok(has_seven(&typed) && has_seven(&copy)),
+            Err(e) => Err(e),
+        },
+        Err(e) => Err(e),
+    }
 }
 
 // Whether the set is one of the sort.
-fn is_of(alloc: Global, set: PrimitiveSet<TestKinds>, sort: Sorted) -> Result<bool, TinkError> {
+fn is_of(alloc: Global, set: PrimitiveSet<TestKinds>, sort: &Sorted) -> Result<bool, TinkError> {
     match sort {
         Sorted::Aead => made(TypedPrimitiveSet::from_set_aead(alloc, set)),
         Sorted::DeterministicAead => {
@@ -378,10 +408,11 @@ fn is_of(alloc: Global, set: PrimitiveSet<TestKinds>, sort: Sorted) -> Result<bo
         Sorted::Signer => made(TypedPrimitiveSet::from_set_signer(alloc, set)),
         Sorted::StreamingAead => made(TypedPrimitiveSet::from_set_streaming_aead(alloc, set)),
         Sorted::Verifier => made(TypedPrimitiveSet::from_set_verifier(alloc, set)),
+        Sorted::Sevens => have_seven(alloc, TypedPrimitiveSet::from_set_aead(alloc, set)),
     }
 }
 
-fn held_is_of(alloc: Global, held: Held, sort: Sorted) -> Result<bool, TinkError> {
+fn held_is_of(alloc: Global, held: &Held, sort: &Sorted) -> Result<bool, TinkError> {
     match set_of(alloc, held) {
         Ok(set) => is_of(alloc, set, sort),
         Err(e) => Err(e),
@@ -442,36 +473,17 @@ const SORTS: &[(&str, Held, Sorted, Answer)] = &[
         Sorted::Aead,
         Err(Kind::WrongPrimitive),
     ),
+    (
+        "an AEAD, by the set and a copy",
+        Held::Seven,
+        Sorted::Sevens,
+        Ok(true),
+    ),
 ];
 
 #[test]
 fn a_set_is_of_one_sort(rt: HostRuntime) {
-    let alloc = rt.alloc();
     for (row, held, sort, want) in SORTS {
-        expect(&rt, held_is_of(alloc, *held, *sort), *want, row);
-    }
-    let told = is_sorted(alloc, set_of_seven(alloc));
-    expect(&rt, told, Ok(true), "an AEAD, by the set and a copy");
-}
-
-// Whether the number of the first RAW entry is 7, and there is none of another prefix.
-fn has_seven(typed: &TypedPrimitiveSet<TestAead>) -> bool {
-    match typed.raw_entries() {
-        Some([entry, ..]) => {
-            number_in(&entry.primitive) == Some(7) && typed.entries_for_prefix(&[1]).is_none()
-        }
-        _ => false,
-    }
-}
-
-// Whether the AEADs of a set and their copy have the number 7.
-fn is_sorted(
-    alloc: Global,
-    set: Result<PrimitiveSet<TestKinds>, TinkError>,
-) -> Result<bool, TinkError> {
-    let typed = TypedPrimitiveSet::from_set_aead(alloc, set?)?;
-    match typed.try_clone(alloc) {
-        Ok(copy) => Ok(has_seven(&typed) && has_seven(&copy)),
-        Err(e) => Err(e),
+        expect(&rt, held_is_of(rt.alloc(), held, sort), *want, row);
     }
 }

@@ -3,7 +3,7 @@
 ghost use Rattle.std.specs.Prelude.{[]};
 ghost use Rattle.std.proofs.Common.{refl};
 
-use crate::expecting::{expect, made};
+use crate::expecting::{Answer, expect};
 use std::alloc::Global;
 use tink_io::{Draws, Kind, Sink, Source, SureSink, SureSource, TinkError};
 use tink_primitives::{DecryptingRead, EncryptingWrite, Refused, StreamingAead};
@@ -88,78 +88,101 @@ type Writing = Result<CopyingWriter<SureSink>, Refused<SureSink>>;
 
 type Reading = Result<CopyingReader<SureSource>, Refused<SureSource>>;
 
-// A writer to a sink with room for eight bytes.
-fn new_writer(alloc: Global, additional_data: &[u8]) -> Result<Writing, TinkError> {
-    let mut sink = SureSink::new(alloc);
-    sink.reserve(alloc, 8)?;
-    let mut draws = Draws::new(Vec::new(alloc));
-    Ok(<Copying as StreamingAead<SureSource, SureSink>>::new_encrypting_writer(
-        &Copying,
-        alloc,
-        &mut draws,
-        sink,
-        additional_data,
-    ))
-}
-
-fn new_reader(alloc: Global, bytes: Vec<u8>, additional_data: &[u8]) -> Reading {
-    <Copying as StreamingAead<SureSource, SureSink>>::new_decrypting_reader(
-        &Copying,
-        alloc,
-        SureSource::new(bytes),
-        additional_data,
-    )
+fn write_abc(writer: &mut CopyingWriter<SureSink>) -> Result<(), TinkError> {
+    writer.write(b"abc")?;
+    writer.flush()?;
+    writer.close()
 }
 
 // The bytes of a stream of abc, if each call was Ok, or how the writer is refused.
-fn written(alloc: Global, additional_data: &[u8]) -> Result<Vec<u8>, TinkError> {
-    match new_writer(alloc, additional_data)? {
-        Ok(mut writer) => {
-            writer.write(b"abc")?;
-            writer.flush()?;
-            writer.close()?;
-            Ok(writer.sink.into_bytes())
-        }
+fn bytes_by(writing: Writing) -> Result<Vec<u8>, TinkError> {
+    match writing {
+        Ok(mut writer) => match write_abc(&mut writer) {
+            Ok(()) => Ok(writer.sink.into_bytes()),
+            Err(e) => Err(e),
+        },
         Err(refused) => Err(refused.error),
     }
 }
 
-// What a read of four bytes gives, with the four; or the refusal, with the first byte of the source that is handed
-// back.
-fn first_read(made: Reading) -> (Result<usize, Kind>, [u8; 4]) {
-    let mut buf = [0u8; 4];
-    match made {
-        Ok(mut reader) => match reader.read(&mut buf) {
-            Ok(n) => (Ok(n), buf),
-            Err(e) => (Err(e.kind), buf),
-        },
-        Err(mut refused) => match refused.inner.read(&mut buf[..1]) {
-            Ok(_) => (Err(refused.error.kind), buf),
-            Err(_) => (Err(Kind::ReadFault), buf),
-        },
+// Those of a writer to a sink with room for eight bytes.
+fn written(alloc: Global, additional_data: &[u8]) -> Result<Vec<u8>, TinkError> {
+    let mut sink = SureSink::new(alloc);
+    match sink.reserve(alloc, 8) {
+        Ok(()) => bytes_by(<Copying as StreamingAead<SureSource, SureSink>>::new_encrypting_writer(
+            &Copying,
+            alloc,
+            &mut Draws::new(Vec::new(alloc)),
+            sink,
+            additional_data,
+        )),
+        Err(e) => Err(e),
     }
 }
 
-// Whether a stream is written and read, and each is refused with data, the source as it was.
-fn goes_there_and_back(alloc: Global) -> Result<bool, TinkError> {
-    let stream = written(alloc, b"")?;
-    let is_stream = stream.as_slice() == b"abc".as_slice();
-    let read = first_read(new_reader(alloc, stream, b""));
-    Ok(is_stream && read == (Ok(3), [b'a', b'b', b'c', 0]))
+// Whether a read of four bytes gives three, and the four are these. Or the refusal, if the first byte of the source that
+// is handed back is as here.
+fn first_read(reading: Reading, want: &[u8]) -> Result<bool, TinkError> {
+    let mut buf = [0u8; 4];
+    match reading {
+        Ok(mut reader) => match reader.read(&mut buf) {
+            Ok(n) => Ok(n == 3 && buf.as_slice() == want),
+            Err(e) => Err(e),
+        },
+        Err(mut refused) => {
+            if refused.inner.read(&mut buf[..1]).is_ok() && buf.as_slice() == want {
+                Err(refused.error)
+            } else {
+                Ok(false)
+            }
+        }
+    }
 }
 
-fn hands_the_source_back(alloc: Global) -> Result<bool, TinkError> {
-    let bytes = vec![in alloc; 7u8]?;
-    let read = first_read(new_reader(alloc, bytes, b"x"));
-    Ok(read == (Err(Kind::DataTooLong), [7, 0, 0, 0]))
+fn read_of(
+    alloc: Global,
+    stream: Result<Vec<u8>, TinkError>,
+    additional_data: &[u8],
+    want: &[u8],
+) -> Result<bool, TinkError> {
+    match stream {
+        Ok(bytes) => first_read(
+            <Copying as StreamingAead<SureSource, SureSink>>::new_decrypting_reader(
+                &Copying,
+                alloc,
+                SureSource::new(bytes),
+                additional_data,
+            ),
+            want,
+        ),
+        Err(e) => Err(e),
+    }
 }
+
+const DATA: Answer = Err(Kind::DataTooLong);
+
+// The data of the writer and of the reader, and what is read.
+const ROWS: &[(&str, &[u8], &[u8], &[u8], Answer)] = &[
+    ("abc", b"", b"", b"abc\x00", Ok(true)),
+    (
+        "a reader with data, and its source",
+        b"",
+        b"x",
+        b"a\x00\x00\x00",
+        DATA,
+    ),
+    ("a writer with data", b"x", b"", b"", DATA),
+];
 
 #[test]
 fn a_stream_is_written_and_read(rt: HostRuntime) {
     let alloc = rt.alloc();
-    expect(&rt, goes_there_and_back(alloc), Ok(true), "abc");
-    let back = hands_the_source_back(alloc);
-    expect(&rt, back, Ok(true), "a reader with data, and its source");
-    let refused = made(written(alloc, b"x"));
-    expect(&rt, refused, Err(Kind::DataTooLong), "a writer with data");
+    for (row, one, other, read, want) in ROWS {
+        expect(
+            &rt,
+            read_of(alloc, written(alloc, one), other, read),
+            *want,
+            row,
+        );
+    }
 }
