@@ -1,18 +1,16 @@
 //! Keys of pseudorandom functions and of MACs: what builds, and what is made.
 
 use crate::expecting::{Answer, expect, made};
-use crate::mac::vectors::accepted_tag;
+use crate::mac::vectors::is_tag_of;
+use crate::prf::vectors::computed;
+use crate::registering::template_of;
 use std::alloc::Global;
 use tink_core::registry::KeyManager;
-use tink_core::{Draws, Kind, Prf, TinkError};
-use tink_mac::{AesCmacKeyManager, HmacKeyManager, aes_cmac_tag128_key_template};
-use tink_prf::{
-    AesCmacPrfKeyManager, HkdfPrfKeyManager, HmacPrfKeyManager, PrfKind,
-    hkdf_sha256_prf_key_template,
-};
-use tink_proto::{Bytes, KeyTemplate, Message};
-use tink_proto_keys::HkdfPrfKey;
-use tink_testutil::draws_of;
+use tink_core::{Draws, Kind, TinkError};
+use tink_mac::{AesCmacKeyManager, HmacKeyManager, MacKind};
+use tink_prf::{AesCmacPrfKeyManager, HkdfPrfKeyManager, HmacPrfKeyManager, PrfKind};
+use tink_proto::{Bytes, KeyTemplate};
+use tink_testutil::{draws_of, gives};
 
 // What is asked of a manager.
 enum Asked {
@@ -20,9 +18,11 @@ enum Asked {
     Build(&'static [u8], usize),
     // To make a key of a format, with so many draws.
     Make(&'static [u8], usize),
+    // To make a key by the template of this name, from so many of the draws 1, 2, 3 and so on, of which so many are left;
+    // and what the key's primitive makes of `abc`.
+    New(&'static str, usize, usize, &'static [u8]),
 }
 
-#[derive(Clone, Copy)]
 enum Manager {
     HmacPrf,
     HkdfPrf,
@@ -31,41 +31,112 @@ enum Manager {
     AesCmac,
 }
 
-fn builds<M: KeyManager>(
-    alloc: Global,
-    manager: &M,
-    head: &[u8],
-    length: usize,
-) -> Result<bool, TinkError> {
+/// Bytes of which each is its place.
+pub const COUNT: [u8; 40] = [
+    1, 2, 3, 4, 5, 6, 7, 8, 9, 10, 11, 12, 13, 14, 15, 16, 17, 18, 19, 20, 21, 22, 23, 24, 25, 26,
+    27, 28, 29, 30, 31, 32, 33, 34, 35, 36, 37, 38, 39, 40,
+];
+
+// A message that ends in so many bytes 7.
+fn key_of(alloc: Global, head: &[u8], length: usize) -> Result<Vec<u8>, TinkError> {
     let mut key = head.to_vec(alloc)?;
     key.extend_from_slice(&[7; 64][..length.min(64)])?;
-    made(manager.primitive(alloc, &key))
+    Ok(key)
 }
 
-fn makes<M: KeyManager>(
-    alloc: Global,
-    manager: &M,
-    format: &[u8],
-    n: usize,
-) -> Result<bool, TinkError> {
-    let mut draws = draws_of(alloc, &[7; 100][..n.min(100)])?;
-    made(manager.new_key(alloc, format, &mut draws))
-}
-
-fn does<M: KeyManager + Drop>(alloc: Global, manager: M, asked: &Asked) -> Result<bool, TinkError> {
-    match asked {
-        Asked::Build(head, length) => builds(alloc, &manager, head, *length),
-        Asked::Make(format, n) => makes(alloc, &manager, format, *n),
+fn build(alloc: Global, manager: &Manager, key: &[u8]) -> Result<bool, TinkError> {
+    match manager {
+        Manager::HmacPrf => made(HmacPrfKeyManager::new().primitive(alloc, key)),
+        Manager::HkdfPrf => made(HkdfPrfKeyManager::new().primitive(alloc, key)),
+        Manager::AesCmacPrf => made(AesCmacPrfKeyManager::new().primitive(alloc, key)),
+        Manager::Hmac => made(HmacKeyManager::new().primitive(alloc, key)),
+        Manager::AesCmac => made(AesCmacKeyManager::new().primitive(alloc, key)),
     }
 }
 
-fn answered(alloc: Global, manager: Manager, asked: &Asked) -> Result<bool, TinkError> {
+fn new_key(
+    alloc: Global,
+    manager: &Manager,
+    format: &[u8],
+    draws: &mut Draws,
+) -> Result<Bytes, TinkError> {
     match manager {
-        Manager::HmacPrf => does(alloc, HmacPrfKeyManager::new(), asked),
-        Manager::HkdfPrf => does(alloc, HkdfPrfKeyManager::new(), asked),
-        Manager::AesCmacPrf => does(alloc, AesCmacPrfKeyManager::new(), asked),
-        Manager::Hmac => does(alloc, HmacKeyManager::new(), asked),
-        Manager::AesCmac => does(alloc, AesCmacKeyManager::new(), asked),
+        Manager::HmacPrf => HmacPrfKeyManager::new().new_key(alloc, format, draws),
+        Manager::HkdfPrf => HkdfPrfKeyManager::new().new_key(alloc, format, draws),
+        Manager::AesCmacPrf => AesCmacPrfKeyManager::new().new_key(alloc, format, draws),
+        Manager::Hmac => HmacKeyManager::new().new_key(alloc, format, draws),
+        Manager::AesCmac => AesCmacKeyManager::new().new_key(alloc, format, draws),
+    }
+}
+
+// The MAC of a key of AES-CMAC, and the function of one of HKDF.
+fn mac_by(alloc: Global, key: &[u8]) -> Result<MacKind, TinkError> {
+    match AesCmacKeyManager::new().primitive(alloc, key) {
+        Ok(p) => p.into_mac(),
+        Err(e) => Err(e),
+    }
+}
+
+fn prf_by(alloc: Global, key: &[u8]) -> Result<PrfKind, TinkError> {
+    match HkdfPrfKeyManager::new().primitive(alloc, key) {
+        Ok(p) => p.into_prf(),
+        Err(e) => Err(e),
+    }
+}
+
+// Whether this is a key's tag of `abc`, or 16 bytes of its function's output.
+fn has_output(
+    alloc: Global,
+    manager: &Manager,
+    key: Result<Bytes, TinkError>,
+    want: &[u8],
+) -> Result<bool, TinkError> {
+    match key {
+        Ok(key) => match manager {
+            Manager::AesCmac => is_tag_of(alloc, mac_by(alloc, key.as_slice()), want, b"abc"),
+            _ => gives(
+                computed(alloc, prf_by(alloc, key.as_slice()), b"abc", 16),
+                want,
+            ),
+        },
+        Err(e) => Err(e),
+    }
+}
+
+// Whether a new key has the output, and so many draws are left, also of a refusal.
+fn draws_key(
+    alloc: Global,
+    manager: &Manager,
+    kt: Result<KeyTemplate, TinkError>,
+    draws: &mut Draws,
+    left: usize,
+    want: &[u8],
+) -> Result<bool, TinkError> {
+    let key = match kt {
+        Ok(kt) => new_key(alloc, manager, kt.value.as_slice(), draws),
+        Err(e) => Err(e),
+    };
+    let got = has_output(alloc, manager, key, want);
+    if draws.left() == left { got } else { Ok(false) }
+}
+
+fn answered(alloc: Global, manager: &Manager, asked: &Asked) -> Result<bool, TinkError> {
+    match asked {
+        Asked::Build(head, length) => match key_of(alloc, head, *length) {
+            Ok(key) => build(alloc, manager, &key),
+            Err(e) => Err(e),
+        },
+        Asked::Make(format, n) => match draws_of(alloc, &[7; 100][..(*n).min(100)]) {
+            Ok(mut draws) => made(new_key(alloc, manager, format, &mut draws)),
+            Err(e) => Err(e),
+        },
+        Asked::New(name, n, left, want) => match draws_of(alloc, &COUNT[..(*n).min(40)]) {
+            Ok(mut draws) => {
+                let kt = template_of(alloc, name);
+                draws_key(alloc, manager, kt, &mut draws, *left, want)
+            }
+            Err(e) => Err(e),
+        },
     }
 }
 
@@ -464,87 +535,44 @@ const AES_CMAC: &[Row] = &[
     ),
 ];
 
+// New keys hold their draws, so that their outputs are known; too few draws stay. By OpenSSL and by Python's HMAC.
+const NEW_KEYS: &[Row] = &[
+    (
+        "a key of AES-CMAC",
+        Manager::AesCmac,
+        Asked::New(
+            "AES_CMAC",
+            33,
+            1,
+            b"\xe9\x07\x33\x69\xa2\x4b\x0d\xf2\x70\x39\x52\xca\xe1\x00\x60\xba",
+        ),
+        Ok(true),
+    ),
+    (
+        "a key of HKDF by its draws",
+        Manager::HkdfPrf,
+        Asked::New(
+            "HKDF_SHA256",
+            40,
+            8,
+            b"\xa7\x73\xb7\xee\xf8\x1d\xa3\x69\x4b\x17\xb3\x8f\xb4\x14\x9a\x53",
+        ),
+        Ok(true),
+    ),
+    (
+        "too few draws stay",
+        Manager::HkdfPrf,
+        Asked::New("HKDF_SHA256", 8, 8, b""),
+        Err(Kind::RandomFault),
+    ),
+];
+
 #[test]
 fn keys_and_formats_by_their_messages(rt: HostRuntime) {
     let alloc = rt.alloc();
-    for rows in [HMAC_PRF, HKDF_PRF, AES_CMAC_PRF, HMAC, AES_CMAC] {
+    for rows in [HMAC_PRF, HKDF_PRF, AES_CMAC_PRF, HMAC, AES_CMAC, NEW_KEYS] {
         for (row, manager, asked, want) in rows {
-            expect(&rt, answered(alloc, *manager, asked), *want, row);
+            expect(&rt, answered(alloc, manager, asked), *want, row);
         }
     }
-}
-
-// ---- new keys
-
-/// Bytes of which each is its place.
-pub const COUNT: [u8; 40] = [
-    1, 2, 3, 4, 5, 6, 7, 8, 9, 10, 11, 12, 13, 14, 15, 16, 17, 18, 19, 20, 21, 22, 23, 24, 25, 26,
-    27, 28, 29, 30, 31, 32, 33, 34, 35, 36, 37, 38, 39, 40,
-];
-
-// A key by a template.
-fn new_key<M: KeyManager>(
-    alloc: Global,
-    manager: &M,
-    kt: Result<KeyTemplate, TinkError>,
-    draws: &mut Draws,
-) -> Result<Bytes, TinkError> {
-    match kt {
-        Ok(kt) => manager.new_key(alloc, kt.value.as_slice(), draws),
-        Err(e) => Err(e),
-    }
-}
-
-// The tag of `abc` by a new key of AES-CMAC, which it accepts.
-fn tag_by_new_key(alloc: Global, draws: &mut Draws) -> Result<Bytes, TinkError> {
-    let manager = AesCmacKeyManager::new();
-    let key = new_key(alloc, &manager, aes_cmac_tag128_key_template(alloc), draws)?;
-    let mac = manager.primitive(alloc, key.as_slice())?.into_mac()?;
-    accepted_tag(&mac, alloc, b"abc")
-}
-
-// Whether the tag has 16 bytes, and the key took 32 of 33 draws.
-fn has_tags_of_16(alloc: Global) -> Result<bool, TinkError> {
-    let mut draws = draws_of(alloc, &COUNT[..33])?;
-    let tag = tag_by_new_key(alloc, &mut draws)?;
-    Ok(tag.as_slice().len() == 16 && draws.left() == 1)
-}
-
-// Whether a key's message has the draws 1 to 32 for its value, and builds a function of HKDF.
-fn is_hkdf_of_draws(alloc: Global, key: &[u8]) -> Result<bool, TinkError> {
-    let built = HkdfPrfKeyManager::new().primitive(alloc, key)?.into_prf()?;
-    let is_hkdf = match built {
-        PrfKind::Hkdf(_) => true,
-        _ => false,
-    };
-    match HkdfPrfKey::decode(alloc, key) {
-        Ok(key) => Ok(is_hkdf && key.key_value.as_slice() == &COUNT[..32]),
-        Err(_) => Ok(false),
-    }
-}
-
-// Whether a new key of HKDF holds its draws, so many of which are left; eight draws are too few, and stay.
-fn holds_its_draws(alloc: Global, n: usize, left: usize) -> Result<bool, TinkError> {
-    let mut draws = draws_of(alloc, &COUNT[..n.min(40)])?;
-    let kt = hkdf_sha256_prf_key_template(alloc);
-    match new_key(alloc, &HkdfPrfKeyManager::new(), kt, &mut draws) {
-        Ok(key) => Ok(is_hkdf_of_draws(alloc, key.as_slice())? && draws.left() == left),
-        Err(e) => {
-            if draws.left() == left {
-                Err(e)
-            } else {
-                Ok(false)
-            }
-        }
-    }
-}
-
-#[test]
-fn a_new_key_builds(rt: HostRuntime) {
-    let alloc = rt.alloc();
-    expect(&rt, has_tags_of_16(alloc), Ok(true), "a key of AES-CMAC");
-    let of_hkdf = holds_its_draws(alloc, 40, 8);
-    expect(&rt, of_hkdf, Ok(true), "a key of HKDF by its draws");
-    let few = holds_its_draws(alloc, 8, 8);
-    expect(&rt, few, Err(Kind::RandomFault), "too few draws stay");
 }

@@ -15,8 +15,8 @@ use tink_prf::{
     HMAC_PRF_KEY_VERSION, HMAC_PRF_TYPE_URL, aes_cmac_prf_key_template,
     hkdf_sha256_prf_key_template, hmac_sha256_prf_key_template, hmac_sha512_prf_key_template,
 };
-use tink_proto::KeyTemplate;
-use tink_testutil::{Named, registry_of};
+use tink_proto::{KeyTemplate, Text};
+use tink_testutil::Named;
 
 const TEXTS: &[(&str, &str)] = &[
     (tink_mac::UPSTREAM_VERSION, "1.6.0"),
@@ -54,60 +54,26 @@ const VERSIONS: [u32; 5] = [
 // A template's name, its URL, its format and its number of a prefix type.
 type Template = (&'static str, &'static str, &'static [u8], i32);
 
-// Formats that were spelled by hand.
-const MACS: &[Template] = &[
-    (
-        "HMAC_SHA256_128BITTAG",
-        HMAC_TYPE_URL,
-        b"\x0a\x04\x08\x03\x10\x10\x10\x20",
-        1,
-    ),
-    (
-        "HMAC_SHA256_256BITTAG",
-        HMAC_TYPE_URL,
-        b"\x0a\x04\x08\x03\x10\x20\x10\x20",
-        1,
-    ),
-    (
-        "HMAC_SHA512_256BITTAG",
-        HMAC_TYPE_URL,
-        b"\x0a\x04\x08\x04\x10\x20\x10\x40",
-        1,
-    ),
-    (
-        "HMAC_SHA512_512BITTAG",
-        HMAC_TYPE_URL,
-        b"\x0a\x04\x08\x04\x10\x40\x10\x40",
-        1,
-    ),
-    ("AES_CMAC", CMAC_TYPE_URL, b"\x08\x20\x12\x02\x08\x10", 1),
-];
+enum Sort {
+    Macs,
+    Prfs,
+}
 
-// Params are field 1 of the first three formats, and the size of keys field 2; for AES-CMAC the size is field 1.
-const PRFS: &[Template] = &[
-    (
-        "HKDF_SHA256",
-        HKDF_PRF_TYPE_URL,
-        &[0x0a, 2, 0x08, 3, 0x10, 32],
-        3,
-    ),
-    (
-        "HMAC_SHA256_PRF",
-        HMAC_PRF_TYPE_URL,
-        &[0x0a, 2, 0x08, 3, 0x10, 32],
-        3,
-    ),
-    (
-        "HMAC_SHA512_PRF",
-        HMAC_PRF_TYPE_URL,
-        &[0x0a, 2, 0x08, 4, 0x10, 64],
-        3,
-    ),
-    ("AES_CMAC_PRF", AES_CMAC_PRF_TYPE_URL, &[0x08, 32], 3),
-];
+enum Step {
+    // A manager of the URL is registered.
+    Manage(&'static str),
+    // All of a sort are.
+    Init(Sort),
+    // The call of a template's name makes it, and it stands under its name beside its manager.
+    Template(Template),
+    // There are so many templates, of which this name is the first.
+    Names(usize, &'static str),
+    // There is no manager of the URL.
+    HasNot(&'static str),
+}
 
-// The template of a name, as its call makes it.
-fn template_of(alloc: Global, name: &str) -> Result<KeyTemplate, TinkError> {
+/// The template of a name, as its call makes it.
+pub fn template_of(alloc: Global, name: &str) -> Result<KeyTemplate, TinkError> {
     match name {
         "HMAC_SHA256_128BITTAG" => hmac_sha256_tag128_key_template(alloc),
         "HMAC_SHA256_256BITTAG" => hmac_sha256_tag256_key_template(alloc),
@@ -144,44 +110,182 @@ fn is_made_and_registered(
     }
 }
 
-// Whether a registry has so many templates, of which this name is the first.
-fn has_names(
-    alloc: Global,
-    registry: &Registry<Named<MacKinds>>,
+// Whether these are so many names, of which this is the first.
+fn are_names(
+    names: Result<Vec<Text>, TinkError>,
     n: usize,
     first: &str,
 ) -> Result<bool, TinkError> {
-    let names = registry.template_names(alloc)?;
-    Ok(match names.first() {
-        Some(name) => names.len() == n && name.as_str() == first,
-        None => n == 0,
-    })
-}
-
-fn init(
-    alloc: Global,
-    registry: &mut Registry<Named<MacKinds>>,
-    of_macs: bool,
-) -> Result<bool, TinkError> {
-    if of_macs {
-        made(tink_mac::init(alloc, registry))
-    } else {
-        made(tink_prf::init(alloc, registry))
+    match names {
+        Ok(names) => match names.as_slice() {
+            [name, ..] => Ok(names.len() == n && name.as_str() == first),
+            [] => Ok(n == 0),
+        },
+        Err(e) => Err(e),
     }
 }
 
-// How a call is refused where the URL is taken, if it leaves the registry without templates and without the other URL.
-fn beside(alloc: Global, url: &'static str, other: &str, of_macs: bool) -> Result<bool, TinkError> {
-    let mut registry = registry_of(alloc, Named::new(url))?;
-    let refused = init(alloc, &mut registry, of_macs);
-    if has_names(alloc, &registry, 0, "")? && registry.get_key_manager(other).is_err() {
-        refused
-    } else {
-        Ok(false)
+fn answered(
+    alloc: Global,
+    registry: &mut Registry<Named<MacKinds>>,
+    step: &Step,
+) -> Result<bool, TinkError> {
+    match step {
+        Step::Manage(url) => made(registry.register_key_manager(alloc, Named::new(url))),
+        Step::Init(Sort::Macs) => made(tink_mac::init(alloc, registry)),
+        Step::Init(Sort::Prfs) => made(tink_prf::init(alloc, registry)),
+        Step::Template(template) => is_made_and_registered(alloc, registry, template),
+        Step::Names(n, first) => are_names(registry.template_names(alloc), *n, first),
+        Step::HasNot(url) => Ok(registry.get_key_manager(url).is_err()),
     }
 }
 
 const THERE: Answer = Err(Kind::AlreadyRegistered);
+
+type Row = (&'static str, Step, Answer);
+
+// Formats that were spelled by hand.
+const MACS: &[Row] = &[
+    ("the MACs", Step::Init(Sort::Macs), Ok(true)),
+    (
+        "HMAC_SHA256_128BITTAG",
+        Step::Template((
+            "HMAC_SHA256_128BITTAG",
+            HMAC_TYPE_URL,
+            b"\x0a\x04\x08\x03\x10\x10\x10\x20",
+            1,
+        )),
+        Ok(true),
+    ),
+    (
+        "HMAC_SHA256_256BITTAG",
+        Step::Template((
+            "HMAC_SHA256_256BITTAG",
+            HMAC_TYPE_URL,
+            b"\x0a\x04\x08\x03\x10\x20\x10\x20",
+            1,
+        )),
+        Ok(true),
+    ),
+    (
+        "HMAC_SHA512_256BITTAG",
+        Step::Template((
+            "HMAC_SHA512_256BITTAG",
+            HMAC_TYPE_URL,
+            b"\x0a\x04\x08\x04\x10\x20\x10\x40",
+            1,
+        )),
+        Ok(true),
+    ),
+    (
+        "HMAC_SHA512_512BITTAG",
+        Step::Template((
+            "HMAC_SHA512_512BITTAG",
+            HMAC_TYPE_URL,
+            b"\x0a\x04\x08\x04\x10\x40\x10\x40",
+            1,
+        )),
+        Ok(true),
+    ),
+    (
+        "AES_CMAC",
+        Step::Template(("AES_CMAC", CMAC_TYPE_URL, b"\x08\x20\x12\x02\x08\x10", 1)),
+        Ok(true),
+    ),
+    (
+        "the templates of MACs, and no more",
+        Step::Names(5, "AES_CMAC"),
+        Ok(true),
+    ),
+    ("the MACs again", Step::Init(Sort::Macs), THERE),
+];
+
+// Params are field 1 of the first three formats, and the size of keys field 2; for AES-CMAC the size is field 1.
+const PRFS: &[Row] = &[
+    ("the PRFs", Step::Init(Sort::Prfs), Ok(true)),
+    (
+        "HKDF_SHA256",
+        Step::Template((
+            "HKDF_SHA256",
+            HKDF_PRF_TYPE_URL,
+            &[0x0a, 2, 0x08, 3, 0x10, 32],
+            3,
+        )),
+        Ok(true),
+    ),
+    (
+        "HMAC_SHA256_PRF",
+        Step::Template((
+            "HMAC_SHA256_PRF",
+            HMAC_PRF_TYPE_URL,
+            &[0x0a, 2, 0x08, 3, 0x10, 32],
+            3,
+        )),
+        Ok(true),
+    ),
+    (
+        "HMAC_SHA512_PRF",
+        Step::Template((
+            "HMAC_SHA512_PRF",
+            HMAC_PRF_TYPE_URL,
+            &[0x0a, 2, 0x08, 4, 0x10, 64],
+            3,
+        )),
+        Ok(true),
+    ),
+    (
+        "AES_CMAC_PRF",
+        Step::Template(("AES_CMAC_PRF", AES_CMAC_PRF_TYPE_URL, &[0x08, 32], 3)),
+        Ok(true),
+    ),
+    (
+        "the templates of PRFs, and no more",
+        Step::Names(4, "AES_CMAC_PRF"),
+        Ok(true),
+    ),
+    ("the PRFs again", Step::Init(Sort::Prfs), THERE),
+];
+
+// What is refused registers nothing.
+const MACS_BESIDE: &[Row] = &[
+    ("a URL of MACs", Step::Manage(CMAC_TYPE_URL), Ok(true)),
+    ("MACs where a URL is taken", Step::Init(Sort::Macs), THERE),
+    ("no templates beside it", Step::Names(0, ""), Ok(true)),
+    (
+        "no other URL beside it",
+        Step::HasNot(HMAC_TYPE_URL),
+        Ok(true),
+    ),
+];
+
+const PRFS_BESIDE: &[Row] = &[
+    (
+        "a URL of PRFs",
+        Step::Manage(AES_CMAC_PRF_TYPE_URL),
+        Ok(true),
+    ),
+    ("PRFs where a URL is taken", Step::Init(Sort::Prfs), THERE),
+    ("no templates beside it", Step::Names(0, ""), Ok(true)),
+    (
+        "no other URL beside it",
+        Step::HasNot(HMAC_PRF_TYPE_URL),
+        Ok(true),
+    ),
+];
+
+fn walk(rt: &impl Abort, alloc: Global, registry: &mut Registry<Named<MacKinds>>, rows: &[Row]) {
+    for (row, step, want) in rows {
+        expect(rt, answered(alloc, registry, step), *want, row);
+    }
+}
+
+/// The tables are of a new registry each.
+#[test]
+fn templates_and_managers_are_registered_once(rt: HostRuntime) {
+    for rows in [MACS, PRFS, MACS_BESIDE, PRFS_BESIDE] {
+        walk(&rt, rt.alloc(), &mut Registry::new(rt.alloc()), rows);
+    }
+}
 
 #[test]
 fn constants_have_these_values(rt: HostRuntime) {
@@ -189,42 +293,4 @@ fn constants_have_these_values(rt: HostRuntime) {
         expect(&rt, Ok(found == want), Ok(true), want);
     }
     expect(&rt, Ok(VERSIONS == [0; 5]), Ok(true), "the versions");
-}
-
-// Whether the MACs, a URL of the sort, another one, the templates, and the first of their names.
-type Sort = (
-    bool,
-    &'static str,
-    &'static str,
-    &'static [Template],
-    &'static str,
-);
-
-const MAC_SORT: Sort = (true, CMAC_TYPE_URL, HMAC_TYPE_URL, MACS, "AES_CMAC");
-
-const PRF_SORT: Sort = (
-    false,
-    AES_CMAC_PRF_TYPE_URL,
-    HMAC_PRF_TYPE_URL,
-    PRFS,
-    "AES_CMAC_PRF",
-);
-
-fn registers(rt: &impl Abort, alloc: Global, registry: &mut Registry<Named<MacKinds>>, sort: Sort) {
-    let (of_macs, url, other, templates, first) = sort;
-    expect(rt, init(alloc, registry, of_macs), Ok(true), first);
-    for template in templates {
-        let got = is_made_and_registered(alloc, registry, template);
-        expect(rt, got, Ok(true), template.0);
-    }
-    let named = has_names(alloc, registry, templates.len(), first);
-    expect(rt, named, Ok(true), "the templates, and no more");
-    expect(rt, init(alloc, registry, of_macs), THERE, "again");
-    expect(rt, beside(alloc, url, other, of_macs), THERE, url);
-}
-
-#[test]
-fn templates_and_managers_are_registered_once(rt: HostRuntime) {
-    registers(&rt, rt.alloc(), &mut Registry::new(rt.alloc()), MAC_SORT);
-    registers(&rt, rt.alloc(), &mut Registry::new(rt.alloc()), PRF_SORT);
 }

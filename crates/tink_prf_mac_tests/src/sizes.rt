@@ -1,32 +1,28 @@
 //! The sizes of keys, of tags and of outputs.
 
 use crate::expecting::{Answer, expect, made};
-use crate::prf::vectors::computed;
+use crate::mac::vectors as macs;
+use crate::prf::vectors as prfs;
 use std::alloc::Global;
 use tink_core::{Kind, TinkError};
-use tink_mac::subtle::{AesCmac, Hmac, validate_cmac_params, validate_hmac_params};
+use tink_mac::subtle::{validate_cmac_params, validate_hmac_params};
 use tink_prf::subtle::{
-    AesCmacPrf, HkdfPrf, HmacPrf, validate_aes_cmac_prf_params, validate_hkdf_prf_params,
-    validate_hmac_prf_params,
+    validate_aes_cmac_prf_params, validate_hkdf_prf_params, validate_hmac_prf_params,
 };
 use tink_proto::{Bytes, HashType};
 
-// What is asked, of a hash, a key's size and the size of tags or outputs.
-#[derive(Clone, Copy)]
+// What is asked, of a key's size and the size of tags or outputs.
 enum Asked {
     // Params of a key that is made.
-    HmacParams,
+    HmacParams(HashType),
     CmacParams,
     CmacPrfParams,
-    HkdfPrfParams,
-    HmacPrfParams,
+    HkdfPrfParams(HashType),
+    HmacPrfParams(HashType),
     // A new MAC.
-    Hmac,
-    Cmac,
+    Mac(macs::Of),
     // A new function, and its output of this size.
-    CmacPrf,
-    HkdfPrf,
-    HmacPrf,
+    Prf(prfs::Of),
 }
 
 // Whether so many bytes were made.
@@ -37,49 +33,24 @@ fn has_length(output: Result<Bytes, TinkError>, length: usize) -> Result<bool, T
     }
 }
 
-fn new_answer(
-    alloc: Global,
-    asked: Asked,
-    hash: HashType,
-    key: &[u8],
-    size: usize,
-) -> Result<bool, TinkError> {
-    match asked {
-        Asked::Hmac => made(Hmac::new(alloc, hash, key, size)),
-        Asked::Cmac => made(AesCmac::new(alloc, key, size)),
-        Asked::CmacPrf => {
-            has_length(
-                computed(AesCmacPrf::new(alloc, key), alloc, b"abc", size),
-                size,
-            )
-        }
-        Asked::HkdfPrf => {
-            let made = HkdfPrf::new(alloc, hash, key, b"");
-            has_length(computed(made, alloc, b"abc", size), size)
-        }
-        _ => {
-            has_length(
-                computed(HmacPrf::new(alloc, hash, key), alloc, b"abc", size),
-                size,
-            )
-        }
-    }
+// Whether a new function's output has this size.
+fn computes(alloc: Global, of: &prfs::Of, key: &[u8], size: usize) -> Result<bool, TinkError> {
+    has_length(
+        prfs::computed(alloc, prfs::new_prf(alloc, of, key), b"abc", size),
+        size,
+    )
 }
 
-fn answer(
-    alloc: Global,
-    asked: Asked,
-    hash: HashType,
-    key_size: usize,
-    size: usize,
-) -> Result<bool, TinkError> {
+fn answer(alloc: Global, asked: &Asked, key_size: usize, size: usize) -> Result<bool, TinkError> {
+    let key = &[7; 64][..key_size.min(64)];
     match asked {
-        Asked::HmacParams => made(validate_hmac_params(hash, key_size, size)),
+        Asked::HmacParams(hash) => made(validate_hmac_params(*hash, key_size, size)),
         Asked::CmacParams => made(validate_cmac_params(key_size, size)),
         Asked::CmacPrfParams => made(validate_aes_cmac_prf_params(key_size)),
-        Asked::HkdfPrfParams => made(validate_hkdf_prf_params(hash, key_size, b"")),
-        Asked::HmacPrfParams => made(validate_hmac_prf_params(hash, key_size)),
-        _ => new_answer(alloc, asked, hash, &[7; 64][..key_size.min(64)], size),
+        Asked::HkdfPrfParams(hash) => made(validate_hkdf_prf_params(*hash, key_size, b"")),
+        Asked::HmacPrfParams(hash) => made(validate_hmac_prf_params(*hash, key_size)),
+        Asked::Mac(of) => made(macs::new_mac(alloc, of, key, size)),
+        Asked::Prf(of) => computes(alloc, of, key, size),
     }
 }
 
@@ -95,78 +66,75 @@ const TOO_LONG: Answer = Err(Kind::OutputTooLong);
 
 const NO_HASH: HashType = HashType::UnknownHash;
 
-// A row's name, what is asked, a hash, a key's size and the size of tags or outputs.
-const SIZES: &[(&str, Asked, HashType, usize, usize, Answer)] = &[
+// A row's name, what is asked, a key's size and the size of tags or outputs.
+const SIZES: &[(&str, Asked, usize, usize, Answer)] = &[
     // Params of HMAC, and a new HMAC.
     (
         "params of HMAC with SHA-1",
-        Asked::HmacParams,
-        HashType::Sha1,
+        Asked::HmacParams(HashType::Sha1),
         16,
         20,
         Ok(true),
     ),
     (
         "params of HMAC, no hash",
-        Asked::HmacParams,
-        NO_HASH,
+        Asked::HmacParams(NO_HASH),
         15,
         9,
         UNKNOWN,
     ),
     (
         "params of HMAC with SHA-1, tags of 21",
-        Asked::HmacParams,
-        HashType::Sha1,
+        Asked::HmacParams(HashType::Sha1),
         15,
         21,
         BAD_TAG,
     ),
     (
         "params of HMAC with SHA-512, tags of 9",
-        Asked::HmacParams,
-        HashType::Sha512,
+        Asked::HmacParams(HashType::Sha512),
         15,
         9,
         BAD_TAG,
     ),
     (
         "params of HMAC with SHA-512, 15 bytes",
-        Asked::HmacParams,
-        HashType::Sha512,
+        Asked::HmacParams(HashType::Sha512),
         15,
         64,
         BAD_KEY,
     ),
     (
         "HMAC with SHA-1",
-        Asked::Hmac,
-        HashType::Sha1,
+        Asked::Mac(macs::Of::Hmac(HashType::Sha1)),
         16,
         20,
         Ok(true),
     ),
-    ("HMAC, no hash", Asked::Hmac, NO_HASH, 15, 9, UNKNOWN),
+    (
+        "HMAC, no hash",
+        Asked::Mac(macs::Of::Hmac(NO_HASH)),
+        15,
+        9,
+        UNKNOWN,
+    ),
     (
         "HMAC with SHA-1, tags of 21",
-        Asked::Hmac,
-        HashType::Sha1,
+        Asked::Mac(macs::Of::Hmac(HashType::Sha1)),
         15,
         21,
         BAD_TAG,
     ),
     (
         "HMAC with SHA-512, tags of 9",
-        Asked::Hmac,
-        HashType::Sha512,
+        Asked::Mac(macs::Of::Hmac(HashType::Sha512)),
         15,
         9,
         BAD_TAG,
     ),
     (
         "HMAC with SHA-512, 15 bytes",
-        Asked::Hmac,
-        HashType::Sha512,
+        Asked::Mac(macs::Of::Hmac(HashType::Sha512)),
         15,
         64,
         BAD_KEY,
@@ -174,64 +142,50 @@ const SIZES: &[(&str, Asked, HashType, usize, usize, Answer)] = &[
     // A new AES-CMAC, and params of the keys that are made.
     (
         "AES-CMAC, 16 bytes, tags of 10",
-        Asked::Cmac,
-        NO_HASH,
+        Asked::Mac(macs::Of::AesCmac),
         16,
         10,
         Ok(true),
     ),
     (
         "AES-CMAC, 24 bytes, tags of 16",
-        Asked::Cmac,
-        NO_HASH,
+        Asked::Mac(macs::Of::AesCmac),
         24,
         16,
         Ok(true),
     ),
     (
         "AES-CMAC, 15 bytes, tags of 9",
-        Asked::Cmac,
-        NO_HASH,
+        Asked::Mac(macs::Of::AesCmac),
         15,
         9,
         BAD_KEY,
     ),
     (
         "AES-CMAC, 17 bytes, tags of 9",
-        Asked::Cmac,
-        NO_HASH,
+        Asked::Mac(macs::Of::AesCmac),
         17,
         9,
         BAD_TAG,
     ),
     (
         "AES-CMAC, 16 bytes, tags of 17",
-        Asked::Cmac,
-        NO_HASH,
+        Asked::Mac(macs::Of::AesCmac),
         16,
         17,
         BAD_TAG,
     ),
     (
         "AES-CMAC, 33 bytes, tags of 16",
-        Asked::Cmac,
-        NO_HASH,
+        Asked::Mac(macs::Of::AesCmac),
         33,
         16,
         BAD_KEY,
     ),
-    (
-        "params of AES-CMAC",
-        Asked::CmacParams,
-        NO_HASH,
-        32,
-        10,
-        Ok(true),
-    ),
+    ("params of AES-CMAC", Asked::CmacParams, 32, 10, Ok(true)),
     (
         "params of AES-CMAC, 16 bytes",
         Asked::CmacParams,
-        NO_HASH,
         16,
         9,
         BAD_KEY,
@@ -239,7 +193,6 @@ const SIZES: &[(&str, Asked, HashType, usize, usize, Answer)] = &[
     (
         "params of AES-CMAC, tags of 9",
         Asked::CmacParams,
-        NO_HASH,
         32,
         9,
         BAD_TAG,
@@ -247,7 +200,6 @@ const SIZES: &[(&str, Asked, HashType, usize, usize, Answer)] = &[
     (
         "params of AES-CMAC, tags of 17",
         Asked::CmacParams,
-        NO_HASH,
         32,
         17,
         BAD_TAG,
@@ -256,7 +208,6 @@ const SIZES: &[(&str, Asked, HashType, usize, usize, Answer)] = &[
     (
         "params of the AES-CMAC PRF",
         Asked::CmacPrfParams,
-        NO_HASH,
         32,
         0,
         Ok(true),
@@ -264,7 +215,6 @@ const SIZES: &[(&str, Asked, HashType, usize, usize, Answer)] = &[
     (
         "params of the AES-CMAC PRF, 16 bytes",
         Asked::CmacPrfParams,
-        NO_HASH,
         16,
         0,
         BAD_KEY,
@@ -272,7 +222,6 @@ const SIZES: &[(&str, Asked, HashType, usize, usize, Answer)] = &[
     (
         "params of the AES-CMAC PRF, 24 bytes",
         Asked::CmacPrfParams,
-        NO_HASH,
         24,
         0,
         BAD_KEY,
@@ -280,7 +229,6 @@ const SIZES: &[(&str, Asked, HashType, usize, usize, Answer)] = &[
     (
         "params of the AES-CMAC PRF, 31 bytes",
         Asked::CmacPrfParams,
-        NO_HASH,
         31,
         0,
         BAD_KEY,
@@ -288,7 +236,6 @@ const SIZES: &[(&str, Asked, HashType, usize, usize, Answer)] = &[
     (
         "params of the AES-CMAC PRF, 33 bytes",
         Asked::CmacPrfParams,
-        NO_HASH,
         33,
         0,
         BAD_KEY,
@@ -296,48 +243,42 @@ const SIZES: &[(&str, Asked, HashType, usize, usize, Answer)] = &[
     // Those of HKDF, of some sizes and hashes.
     (
         "params of HKDF with SHA-256",
-        Asked::HkdfPrfParams,
-        HashType::Sha256,
+        Asked::HkdfPrfParams(HashType::Sha256),
         32,
         0,
         Ok(true),
     ),
     (
         "params of HKDF with SHA-512",
-        Asked::HkdfPrfParams,
-        HashType::Sha512,
+        Asked::HkdfPrfParams(HashType::Sha512),
         64,
         0,
         Ok(true),
     ),
     (
         "params of HKDF, 31 bytes",
-        Asked::HkdfPrfParams,
-        NO_HASH,
+        Asked::HkdfPrfParams(NO_HASH),
         31,
         0,
         BAD_KEY,
     ),
     (
         "params of HKDF, no hash",
-        Asked::HkdfPrfParams,
-        NO_HASH,
+        Asked::HkdfPrfParams(NO_HASH),
         32,
         0,
         UNKNOWN,
     ),
     (
         "params of HKDF with SHA-1",
-        Asked::HkdfPrfParams,
-        HashType::Sha1,
+        Asked::HkdfPrfParams(HashType::Sha1),
         32,
         0,
         UNSUPPORTED,
     ),
     (
         "params of HKDF with SHA-384",
-        Asked::HkdfPrfParams,
-        HashType::Sha384,
+        Asked::HkdfPrfParams(HashType::Sha384),
         32,
         0,
         UNSUPPORTED,
@@ -345,24 +286,21 @@ const SIZES: &[(&str, Asked, HashType, usize, usize, Answer)] = &[
     // And those of HMAC.
     (
         "params of the HMAC PRF",
-        Asked::HmacPrfParams,
-        HashType::Sha224,
+        Asked::HmacPrfParams(HashType::Sha224),
         16,
         0,
         Ok(true),
     ),
     (
         "params of the HMAC PRF, 15 bytes",
-        Asked::HmacPrfParams,
-        NO_HASH,
+        Asked::HmacPrfParams(NO_HASH),
         15,
         0,
         BAD_KEY,
     ),
     (
         "params of the HMAC PRF, no hash",
-        Asked::HmacPrfParams,
-        NO_HASH,
+        Asked::HmacPrfParams(NO_HASH),
         16,
         0,
         UNKNOWN,
@@ -370,32 +308,28 @@ const SIZES: &[(&str, Asked, HashType, usize, usize, Answer)] = &[
     // Functions with other hashes are refused.
     (
         "HKDF, no hash",
-        Asked::HkdfPrf,
-        NO_HASH,
+        Asked::Prf(prfs::Of::Hkdf(NO_HASH, b"")),
         40,
         16,
         UNSUPPORTED,
     ),
     (
         "HKDF with SHA-224",
-        Asked::HkdfPrf,
-        HashType::Sha224,
+        Asked::Prf(prfs::Of::Hkdf(HashType::Sha224, b"")),
         40,
         16,
         UNSUPPORTED,
     ),
     (
         "HKDF with SHA-384",
-        Asked::HkdfPrf,
-        HashType::Sha384,
+        Asked::Prf(prfs::Of::Hkdf(HashType::Sha384, b"")),
         40,
         16,
         UNSUPPORTED,
     ),
     (
         "the HMAC PRF, no hash",
-        Asked::HmacPrf,
-        NO_HASH,
+        Asked::Prf(prfs::Of::Hmac(NO_HASH)),
         40,
         16,
         UNKNOWN,
@@ -403,56 +337,49 @@ const SIZES: &[(&str, Asked, HashType, usize, usize, Answer)] = &[
     // The lengths of outputs.
     (
         "16 bytes of AES-CMAC",
-        Asked::CmacPrf,
-        NO_HASH,
+        Asked::Prf(prfs::Of::AesCmac),
         32,
         16,
         Ok(true),
     ),
     (
         "16320 bytes of HKDF",
-        Asked::HkdfPrf,
-        HashType::Sha512,
+        Asked::Prf(prfs::Of::Hkdf(HashType::Sha512, b"")),
         32,
         16320,
         Ok(true),
     ),
     (
         "48 bytes of HMAC",
-        Asked::HmacPrf,
-        HashType::Sha384,
+        Asked::Prf(prfs::Of::Hmac(HashType::Sha384)),
         32,
         48,
         Ok(true),
     ),
     (
         "no bytes of HMAC",
-        Asked::HmacPrf,
-        HashType::Sha384,
+        Asked::Prf(prfs::Of::Hmac(HashType::Sha384)),
         32,
         0,
         Ok(true),
     ),
     (
         "17 bytes of AES-CMAC",
-        Asked::CmacPrf,
-        NO_HASH,
+        Asked::Prf(prfs::Of::AesCmac),
         32,
         17,
         TOO_LONG,
     ),
     (
         "16321 bytes of HKDF",
-        Asked::HkdfPrf,
-        HashType::Sha512,
+        Asked::Prf(prfs::Of::Hkdf(HashType::Sha512, b"")),
         32,
         16321,
         TOO_LONG,
     ),
     (
         "49 bytes of HMAC",
-        Asked::HmacPrf,
-        HashType::Sha384,
+        Asked::Prf(prfs::Of::Hmac(HashType::Sha384)),
         32,
         49,
         TOO_LONG,
@@ -463,14 +390,13 @@ const SIZES: &[(&str, Asked, HashType, usize, usize, Answer)] = &[
 #[test]
 fn sizes_are_taken_or_refused(rt: HostRuntime) {
     let alloc = rt.alloc();
-    for (row, asked, hash, key_size, size, want) in SIZES {
-        let got = answer(alloc, *asked, *hash, *key_size, *size);
-        expect(&rt, got, *want, row);
+    for (row, asked, key_size, size, want) in SIZES {
+        expect(&rt, answer(alloc, asked, *key_size, *size), *want, row);
     }
     for size in 0..41usize {
         let is_known = size == 16 || size == 24 || size == 32;
         let want = if is_known { Ok(true) } else { BAD_KEY };
-        let got = answer(alloc, Asked::CmacPrf, NO_HASH, size, 16);
+        let got = answer(alloc, &Asked::Prf(prfs::Of::AesCmac), size, 16);
         expect(&rt, got, want, "a key of the AES-CMAC PRF");
     }
 }

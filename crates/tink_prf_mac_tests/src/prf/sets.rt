@@ -1,9 +1,8 @@
 //! Sets of a keyset's pseudorandom functions.
 
-use crate::expecting::{Answer, expect, made};
+use crate::expecting::{Answer, expect};
 use crate::keys::COUNT;
 use crate::prf::test_keys::TestKeys;
-use crate::prf::vectors::code_by_hash;
 use std::alloc::Global;
 use std::collections::BTreeMap;
 use tink_core::keyset::Handle;
@@ -45,127 +44,210 @@ fn handle(alloc: Global, rows: &[KeyRow]) -> Result<Handle, TinkError> {
 }
 
 fn set_of(alloc: Global, rows: &[KeyRow]) -> Result<Set<HmacPrf>, TinkError> {
-    let h = handle(alloc, rows)?;
-    let registry = registry_of(alloc, SymmetricKeyManager::<TestKeys>::new())?;
-    Set::new(alloc, &h, &registry)
-}
-
-// Keysets, and whether they have a set. A keyset of public keys may lack a primary one.
-const KEYSETS: &[(&str, &[KeyRow], Answer)] = &[
-    ("a RAW primary key", &[(K, 7, 3, 1)], Ok(true)),
-    (
-        "a primary key of no bytes",
-        &[(b"", 7, 1, 1)],
-        Err(Kind::InvalidKey),
-    ),
-    (
-        "a primary verifier",
-        &[(VERIFIER, 7, 1, 1)],
-        Err(Kind::WrongPrimitive),
-    ),
-    ("a TINK primary key", &[(K, 7, 1, 1)], Err(Kind::NotRawOnly)),
-    ("a second RAW key", &[(K, 7, 3, 1), (K, 8, 3, 1)], Ok(true)),
-    (
-        "a second TINK key",
-        &[(K, 7, 3, 1), (K, 8, 1, 1)],
-        Err(Kind::NotRawOnly),
-    ),
-    (
-        "a second TINK key, of a verifier",
-        &[(K, 7, 3, 1), (VERIFIER, 8, 1, 1)],
-        Err(Kind::NotRawOnly),
-    ),
-    (
-        "a second RAW key, of a verifier",
-        &[(K, 7, 3, 1), (VERIFIER, 8, 3, 1)],
-        Err(Kind::WrongPrimitive),
-    ),
-    ("a public key alone", &[(K, 8, 3, 3)], Err(Kind::NoPrimary)),
-];
-
-#[test]
-fn keysets_have_sets_or_are_refused_in_order(rt: HostRuntime) {
-    let alloc = rt.alloc();
-    for (row, keys, want) in KEYSETS {
-        expect(&rt, made(set_of(alloc, keys)), *want, row);
+    match handle(alloc, rows) {
+        Ok(h) => Set::new(
+            alloc,
+            &h,
+            &registry_of(alloc, SymmetricKeyManager::<TestKeys>::new())?,
+        ),
+        Err(e) => Err(e),
     }
 }
 
+// A handle of one key by the template of HMAC, from the draws 1 to 36.
+fn new_handle(alloc: Global, registry: &Registry<HmacPrfKeyManager>) -> Result<Handle, TinkError> {
+    match hmac_sha256_prf_key_template(alloc) {
+        Ok(kt) => Handle::new(alloc, &kt, registry, &mut draws_of(alloc, &COUNT[..36])?),
+        Err(e) => Err(e),
+    }
+}
+
+// The set of its keyset.
+fn new_set(
+    alloc: Global,
+    registry: &Registry<HmacPrfKeyManager>,
+) -> Result<Set<PrfKind>, TinkError> {
+    match new_handle(alloc, registry) {
+        Ok(h) => Set::new(alloc, &h, registry),
+        Err(e) => Err(e),
+    }
+}
+
+// The keyset of a set.
+enum Keys {
+    // Of test keys.
+    Rows(&'static [KeyRow]),
+    // A new one.
+    New,
+    // No functions, and the primary id 7.
+    Nothing,
+}
+
+// What is asked of a set.
+enum Asked {
+    // Whether it has so many functions, and this primary id.
+    Has(usize, u32),
+    // What the function of an id gives for `abc`, and what the primary one does.
+    Of(u32, &'static [u8]),
+    Primary(usize, &'static [u8]),
+}
+
 // What the function of an id gives for `abc`, nothing where there is none.
-fn output_of(alloc: Global, set: &Set<HmacPrf>, id: u32) -> Result<Bytes, TinkError> {
+fn output_of<P: Prf + Drop>(alloc: Global, set: &Set<P>, id: u32) -> Result<Bytes, TinkError> {
     match set.prfs.get(&id) {
         Some(prf) => prf.compute_prf(alloc, b"abc", 32),
         None => Ok(Bytes::new(alloc)),
     }
 }
 
-// A primary key between two of another id.
-const THREE: &[KeyRow] = &[
+fn answered<P: Prf + Drop>(
+    alloc: Global,
+    set: Result<Set<P>, TinkError>,
+    asked: &Asked,
+) -> Result<bool, TinkError> {
+    match set {
+        Ok(set) => match asked {
+            Asked::Has(n, id) => Ok(set.prfs.len() == *n && set.primary_id == *id),
+            Asked::Of(id, want) => gives(output_of(alloc, &set, *id), want),
+            Asked::Primary(length, want) => {
+                gives(set.compute_primary_prf(alloc, b"abc", *length), want)
+            }
+        },
+        Err(e) => Err(e),
+    }
+}
+
+fn answered_by(alloc: Global, keys: &Keys, asked: &Asked) -> Result<bool, TinkError> {
+    match keys {
+        Keys::Rows(rows) => answered(alloc, set_of(alloc, rows), asked),
+        Keys::New => match registry_of(alloc, HmacPrfKeyManager::new()) {
+            Ok(registry) => answered(alloc, new_set(alloc, &registry), asked),
+            Err(e) => Err(e),
+        },
+        Keys::Nothing => {
+            let prfs: BTreeMap<u32, HmacPrf> = BTreeMap::new(alloc);
+            let primary_id = 7;
+            answered(alloc, Ok(Set { primary_id, prfs }), asked)
+        }
+    }
+}
+
+const THREE: Keys = Keys::Rows(&[
     (b"\x12\x03one", 8, 3, 1),
     (b"\x12\x07primary", 7, 3, 1),
     (b"\x12\x03two", 8, 3, 1),
+]);
+
+// Keysets, and whether they have a set, whose outputs are by Python's HMAC. A keyset of public keys may lack a primary
+// one.
+const ROWS: &[(&str, Keys, Asked, Answer)] = &[
+    (
+        "a RAW primary key",
+        Keys::Rows(&[(K, 7, 3, 1)]),
+        Asked::Has(1, 7),
+        Ok(true),
+    ),
+    (
+        "a primary key of no bytes",
+        Keys::Rows(&[(b"", 7, 1, 1)]),
+        Asked::Has(1, 7),
+        Err(Kind::InvalidKey),
+    ),
+    (
+        "a primary verifier",
+        Keys::Rows(&[(VERIFIER, 7, 1, 1)]),
+        Asked::Has(1, 7),
+        Err(Kind::WrongPrimitive),
+    ),
+    (
+        "a TINK primary key",
+        Keys::Rows(&[(K, 7, 1, 1)]),
+        Asked::Has(1, 7),
+        Err(Kind::NotRawOnly),
+    ),
+    (
+        "a second RAW key",
+        Keys::Rows(&[(K, 7, 3, 1), (K, 8, 3, 1)]),
+        Asked::Has(2, 7),
+        Ok(true),
+    ),
+    (
+        "a second TINK key",
+        Keys::Rows(&[(K, 7, 3, 1), (K, 8, 1, 1)]),
+        Asked::Has(2, 7),
+        Err(Kind::NotRawOnly),
+    ),
+    (
+        "a second TINK key, of a verifier",
+        Keys::Rows(&[(K, 7, 3, 1), (VERIFIER, 8, 1, 1)]),
+        Asked::Has(2, 7),
+        Err(Kind::NotRawOnly),
+    ),
+    (
+        "a second RAW key, of a verifier",
+        Keys::Rows(&[(K, 7, 3, 1), (VERIFIER, 8, 3, 1)]),
+        Asked::Has(2, 7),
+        Err(Kind::WrongPrimitive),
+    ),
+    (
+        "a public key alone",
+        Keys::Rows(&[(K, 8, 3, 3)]),
+        Asked::Has(1, 7),
+        Err(Kind::NoPrimary),
+    ),
+    // A primary key between two of another id, which has one function, that of the last of its keys.
+    ("two ids of three keys", THREE, Asked::Has(2, 7), Ok(true)),
+    (
+        "the function of the last of two keys",
+        THREE,
+        Asked::Of(
+            8,
+            b"\x95\x9f\xe0\x20\xcf\x96\x6a\x15\x9a\x74\x29\x92\x89\x22\xc6\x77\x7b\xfe\x17\xca\x7b\x1f\x10\x5b\x18\xa1\x8f\xcc\x95\xf7\x06\x18",
+        ),
+        Ok(true),
+    ),
+    (
+        "the primary function",
+        THREE,
+        Asked::Primary(
+            16,
+            b"\xbf\x48\x0b\x38\x49\x6d\xb1\xca\x20\x7b\x7d\x54\x0c\x2a\x30\x7d",
+        ),
+        Ok(true),
+    ),
+    (
+        "a primary key between two others",
+        THREE,
+        Asked::Primary(33, b""),
+        Err(Kind::OutputTooLong),
+    ),
+    (
+        "no primary function",
+        Keys::Nothing,
+        Asked::Primary(16, b""),
+        Err(Kind::NoPrimary),
+    ),
+    // The draws are the bytes of the key and its id.
+    (
+        "the id of a new keyset",
+        Keys::New,
+        Asked::Has(1, 0x2122_2324),
+        Ok(true),
+    ),
+    (
+        "a new keyset",
+        Keys::New,
+        Asked::Primary(
+            16,
+            b"\xa2\x1b\x1f\x5d\x4c\xf4\xf7\x3a\x4d\xd9\x39\x75\x0f\x7a\x06\x6a",
+        ),
+        Ok(true),
+    ),
 ];
 
-// Whether the other id has one function, that of the last of its keys, and the set computes by its primary one.
-fn has_last_and_primary(alloc: Global, set: &Set<HmacPrf>) -> Result<bool, TinkError> {
-    let last = gives(output_of(alloc, set, 8), &code_by_hash(b"two"))?;
-    let primary = set.compute_primary_prf(alloc, b"abc", 16);
-    let primary = gives(primary, &code_by_hash(b"primary")[..16])?;
-    Ok(set.prfs.len() == 2 && last && set.primary_id == 7 && primary)
-}
-
-// How 33 bytes are refused, where the set is as above.
-fn longer_output(alloc: Global, set: Result<Set<HmacPrf>, TinkError>) -> Result<bool, TinkError> {
-    match set {
-        Ok(set) => {
-            if has_last_and_primary(alloc, &set)? {
-                made(set.compute_primary_prf(alloc, b"abc", 33))
-            } else {
-                Ok(false)
-            }
-        }
-        Err(e) => Err(e),
-    }
-}
-
-// Whether a set without functions computes.
-fn empty_computes(alloc: Global) -> Result<bool, TinkError> {
-    let empty: Set<HmacPrf> = Set {
-        primary_id: 7,
-        prfs: BTreeMap::new(alloc),
-    };
-    made(empty.compute_primary_prf(alloc, b"abc", 16))
-}
-
-// A handle of one key by the template of HMAC, from the draws 1 to 36.
-fn new_handle(alloc: Global, registry: &Registry<HmacPrfKeyManager>) -> Result<Handle, TinkError> {
-    let kt = hmac_sha256_prf_key_template(alloc)?;
-    Handle::new(alloc, &kt, registry, &mut draws_of(alloc, &COUNT[..36])?)
-}
-
-// The set of its keyset.
-fn new_set(alloc: Global) -> Result<Set<PrfKind>, TinkError> {
-    let registry = registry_of(alloc, HmacPrfKeyManager::new())?;
-    match new_handle(alloc, &registry) {
-        Ok(h) => Set::new(alloc, &h, &registry),
-        Err(e) => Err(e),
-    }
-}
-
-// Whether its primary function is that of the draws.
-fn is_set_of_draws(alloc: Global) -> Result<bool, TinkError> {
-    let set = new_set(alloc)?;
-    let output = set.compute_primary_prf(alloc, b"abc", 16);
-    Ok(gives(output, &code_by_hash(&COUNT[..32])[..16])? && set.primary_id == 0x2122_2324)
-}
-
 #[test]
-fn sets_compute_by_their_functions(rt: HostRuntime) {
-    let alloc = rt.alloc();
-    let longer = longer_output(alloc, set_of(alloc, THREE));
-    let too_long = Err(Kind::OutputTooLong);
-    expect(&rt, longer, too_long, "a primary key between two others");
-    let none = empty_computes(alloc);
-    expect(&rt, none, Err(Kind::NoPrimary), "no primary function");
-    expect(&rt, is_set_of_draws(alloc), Ok(true), "a new keyset");
+fn keysets_have_sets_or_are_refused_in_order(rt: HostRuntime) {
+    for (row, keys, asked, want) in ROWS {
+        expect(&rt, answered_by(rt.alloc(), keys, asked), *want, row);
+    }
 }

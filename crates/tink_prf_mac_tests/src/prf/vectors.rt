@@ -42,37 +42,39 @@ const SALT: &[u8] = b"\x00\x01\x02\x03\x04\x05\x06\x07\x08\x09\x0a\x0b\x0c";
 
 const INFO: &[u8] = b"\xf0\xf1\xf2\xf3\xf4\xf5\xf6\xf7\xf8\xf9";
 
+/// The functions by their standards, that of HKDF with its salt.
+pub enum Of {
+    AesCmac,
+    Hkdf(HashType, &'static [u8]),
+    Hmac(HashType),
+}
+
+pub fn new_prf(alloc: Global, of: &Of, key: &[u8]) -> Result<PrfKind, TinkError> {
+    match of {
+        Of::AesCmac => Ok(PrfKind::AesCmac(AesCmacPrf::new(alloc, key)?)),
+        Of::Hkdf(hash, salt) => Ok(PrfKind::Hkdf(HkdfPrf::new(alloc, *hash, key, salt)?)),
+        Of::Hmac(hash) => Ok(PrfKind::Hmac(HmacPrf::new(alloc, *hash, key)?)),
+    }
+}
+
 /// So many bytes of what a function makes of a text.
-pub fn computed<P: Prf + Drop>(
-    made: Result<P, TinkError>,
+pub fn computed(
     alloc: Global,
+    prf: Result<PrfKind, TinkError>,
     text: &[u8],
     length: usize,
 ) -> Result<Bytes, TinkError> {
-    match made {
+    match prf {
         Ok(prf) => prf.compute_prf(alloc, text, length),
         Err(e) => Err(e),
     }
 }
 
-#[derive(Clone, Copy)]
-enum Of {
-    AesCmac,
-    Hkdf(HashType),
-    Hmac(HashType),
-}
-
-fn output(
-    alloc: Global,
-    of: Of,
-    key: &[u8],
-    text: &[u8],
-    length: usize,
-) -> Result<Bytes, TinkError> {
-    match of {
-        Of::AesCmac => computed(AesCmacPrf::new(alloc, key), alloc, text, length),
-        Of::Hkdf(hash) => computed(HkdfPrf::new(alloc, hash, key, SALT), alloc, text, length),
-        Of::Hmac(hash) => computed(HmacPrf::new(alloc, hash, key), alloc, text, length),
+// A copy, which was a primitive on its way.
+fn copy_of(alloc: Global, prf: Result<PrfKind, TinkError>) -> Result<PrfKind, TinkError> {
+    match prf {
+        Ok(prf) => Primitive::<PrfKinds>::Prf(prf.try_clone(alloc)?).into_prf(),
+        Err(e) => Err(e),
     }
 }
 
@@ -124,14 +126,14 @@ const VECTORS: &[(&str, Of, &[u8], &[u8], &[u8])] = &[
     // RFC 5869, A.1 and A.4.
     (
         "HKDF with SHA-256",
-        Of::Hkdf(HashType::Sha256),
+        Of::Hkdf(HashType::Sha256, SALT),
         &[0x0b; 22],
         INFO,
         b"\x3c\xb2\x5f\x25\xfa\xac\xd5\x7a\x90\x43\x4f\x64\xd0\x36\x2f\x2a\x2d\x2d\x0a\x90\xcf\x1a\x5a\x4c\x5d\xb0\x2d\x56\xec\xc4\xc5\xbf\x34\x00\x72\x08\xd5\xb8\x87\x18\x58\x65",
     ),
     (
         "HKDF with SHA-1",
-        Of::Hkdf(HashType::Sha1),
+        Of::Hkdf(HashType::Sha1, SALT),
         &[0x0b; 11],
         INFO,
         b"\x08\x5a\x01\xea\x1b\x10\xf3\x69\x33\x06\x8b\x56\xef\xa5\xad\x81\xa4\xf1\x4b\x82\x2f\x5b\x09\x15\x68\xa9\xcd\xd4\xf1\x55\xfd\xa2\xc2\x2e\x42\x24\x78\xd3\x05\xf3\xf8\x96",
@@ -172,14 +174,54 @@ const VECTORS: &[(&str, Of, &[u8], &[u8], &[u8])] = &[
         b"Hi There",
         b"\x87\xaa\x7c\xde\xa5\xef\x61\x9d\x4f\xf0\xb4\x24\x1a\x1d\x6c\xb0",
     ),
+    // Outputs of `abc`, by OpenSSL and by Python's HMAC.
+    (
+        "AES-CMAC with 16 bytes",
+        Of::AesCmac,
+        KEY_16,
+        b"abc",
+        b"\xbe\x68\x60\xf8\x86\x01\x59\x7b\x64\x7d\xc5\xb2\xa0\x7f\xc0\xad",
+    ),
+    (
+        "AES-CMAC with 24 bytes",
+        Of::AesCmac,
+        KEY_24,
+        b"abc",
+        b"\xaa\xd4\x00\x56\xd7\x43\xe9\x8e\xab\xe1\xf5\xe7\x1e\xa7\x09\x09",
+    ),
+    (
+        "AES-CMAC with 32 bytes",
+        Of::AesCmac,
+        KEY_32,
+        b"abc",
+        b"\xad\xb6\xf4\xd4\x56\xc0\x7a\xe5\xf7\xcb\x2b\xc0\xcb\xc6\x5c\x4d",
+    ),
+    (
+        "HKDF",
+        Of::Hkdf(HashType::Sha256, b"salt"),
+        KEY_32,
+        b"abc",
+        b"\x01\x24\xe7\xf5\xcb\xad\xcc\xb0\x32\x2f\x28\x54\xae\xe9\x8c\xe3",
+    ),
+    (
+        "HMAC",
+        Of::Hmac(HashType::Sha512),
+        KEY_32,
+        b"abc",
+        b"\xf8\x7a\x7d\x3b\x9c\xbf\x0a\xdd\xac\xed\x44\x79\x6f\xe5\x6d\x93",
+    ),
 ];
 
+/// A function and its copy give the outputs.
 #[test]
 fn outputs_are_those_of_the_standards(rt: HostRuntime) {
     let alloc = rt.alloc();
     for (row, of, key, text, want) in VECTORS {
-        let got = gives(output(alloc, *of, key, text, want.len()), want);
-        expect(&rt, got, Ok(true), row);
+        let own = computed(alloc, new_prf(alloc, of, key), text, want.len());
+        expect(&rt, gives(own, want), Ok(true), row);
+        let copy = copy_of(alloc, new_prf(alloc, of, key));
+        let copied = computed(alloc, copy, text, want.len());
+        expect(&rt, gives(copied, want), Ok(true), row);
     }
 }
 
@@ -199,40 +241,4 @@ pub fn code_by_hash(key: &[u8]) -> [u8; 32] {
     let mut code = [0u8; 32];
     hmac_into(Hash::Sha256, key, b"abc", &[], &[], &mut code);
     code
-}
-
-// A copy, which was a primitive on its way.
-fn copy_of(alloc: Global, prf: &PrfKind) -> Result<PrfKind, TinkError> {
-    Primitive::<PrfKinds>::Prf(prf.try_clone(alloc)?).into_prf()
-}
-
-fn new_prf(alloc: Global, of: Of, key: &[u8]) -> Result<PrfKind, TinkError> {
-    match of {
-        Of::AesCmac => Ok(PrfKind::AesCmac(AesCmacPrf::new(alloc, key)?)),
-        Of::Hkdf(hash) => Ok(PrfKind::Hkdf(HkdfPrf::new(alloc, hash, key, b"salt")?)),
-        Of::Hmac(hash) => Ok(PrfKind::Hmac(HmacPrf::new(alloc, hash, key)?)),
-    }
-}
-
-// Whether a function's copy gives what its source gives.
-fn is_copied(alloc: Global, of: Of, key: &[u8]) -> Result<bool, TinkError> {
-    let prf = new_prf(alloc, of, key)?;
-    let output = prf.compute_prf(alloc, b"abc", 16)?;
-    let copied = computed(copy_of(alloc, &prf), alloc, b"abc", 16);
-    gives(copied, output.as_slice())
-}
-
-const COPIES: &[(&str, Of, &[u8])] = &[
-    ("AES-CMAC with 16 bytes", Of::AesCmac, KEY_16),
-    ("AES-CMAC with 24 bytes", Of::AesCmac, KEY_24),
-    ("AES-CMAC with 32 bytes", Of::AesCmac, KEY_32),
-    ("HKDF", Of::Hkdf(HashType::Sha256), KEY_32),
-    ("HMAC", Of::Hmac(HashType::Sha512), KEY_32),
-];
-
-#[test]
-fn copies_give_the_same(rt: HostRuntime) {
-    for (row, of, key) in COPIES {
-        expect(&rt, is_copied(rt.alloc(), *of, key), Ok(true), row);
-    }
 }
