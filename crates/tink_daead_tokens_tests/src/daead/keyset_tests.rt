@@ -39,12 +39,11 @@ enum Asked {
     RegisterTwice,
     // The keys make AEADs, of a primary id.
     Keyset(u32),
-    // `abc` is encrypted, under this primary id, to so many bytes that begin so, and decrypted under the other.
-    Seal(u32, &'static [u8], usize, u32),
-    // A byte more is decrypted under the other.
-    Lengthen(u32, u32),
-    // These bytes are.
+    // `abc` is encrypted to these bytes under this primary id.
+    Seal(u32, &'static [u8]),
+    // These bytes are decrypted to it, and by a copy.
     Open(u32, &'static [u8]),
+    Copy(u32, &'static [u8]),
 }
 
 // ---- keys
@@ -75,10 +74,12 @@ fn is_template(made: Result<KeyTemplate, TinkError>) -> Result<bool, TinkError> 
     }
 }
 
-fn registers_twice(alloc: Global) -> Result<bool, TinkError> {
-    let mut registry: Registry<Named<DaeadKinds>> = Registry::new(alloc);
-    init(alloc, &mut registry)?;
-    let again = made(init(alloc, &mut registry));
+fn registers_twice(
+    alloc: Global,
+    registry: &mut Registry<Named<DaeadKinds>>,
+) -> Result<bool, TinkError> {
+    init(alloc, registry)?;
+    let again = made(init(alloc, registry));
     let template = registry.get_template_generator("AES256_SIV").is_some();
     if template && registry.get_key_manager(AES_SIV_TYPE_URL).is_ok() {
         again
@@ -142,13 +143,6 @@ fn sealed(alloc: Global, primary: u32) -> Result<Bytes, TinkError> {
     }
 }
 
-fn opened(alloc: Global, primary: u32, bytes: &[u8]) -> Result<Bytes, TinkError> {
-    match two_keys(alloc, primary) {
-        Ok(aead) => aead.decrypt_deterministically(alloc, bytes, b"data"),
-        Err(e) => Err(e),
-    }
-}
-
 fn copy_of(
     alloc: Global,
     made: Result<WrappedDeterministicAead<AesSiv>, TinkError>,
@@ -159,30 +153,15 @@ fn copy_of(
     }
 }
 
-fn opened_by_copy(alloc: Global, primary: u32, bytes: &[u8]) -> Result<Bytes, TinkError> {
-    match copy_of(alloc, two_keys(alloc, primary)) {
-        Ok(copy) => copy.decrypt_deterministically(alloc, bytes, b"data"),
+fn opened(
+    alloc: Global,
+    made: Result<WrappedDeterministicAead<AesSiv>, TinkError>,
+    bytes: &[u8],
+) -> Result<Bytes, TinkError> {
+    match made {
+        Ok(aead) => aead.decrypt_deterministically(alloc, bytes, b"data"),
         Err(e) => Err(e),
     }
-}
-
-fn seals(
-    alloc: Global,
-    one: u32,
-    prefix: &[u8],
-    size: usize,
-    other: u32,
-) -> Result<bool, TinkError> {
-    let sealed = sealed(alloc, one)?;
-    let bytes = sealed.as_slice();
-    let opens = gives(opened_by_copy(alloc, other, bytes), b"abc")?;
-    Ok(opens && bytes.starts_with(prefix) && bytes.len() == size)
-}
-
-fn opens_a_longer_one(alloc: Global, one: u32, other: u32) -> Result<bool, TinkError> {
-    let mut longer = sealed(alloc, one)?.as_slice().to_vec(alloc)?;
-    longer.push(0)?;
-    made(opened(alloc, other, &longer))
 }
 
 fn answered(alloc: Global, asked: &Asked) -> Result<bool, TinkError> {
@@ -190,11 +169,16 @@ fn answered(alloc: Global, asked: &Asked) -> Result<bool, TinkError> {
         Asked::Build(head, size) => builds(alloc, head, *size),
         Asked::Make(format, n, left) => makes(alloc, format, *n, *left),
         Asked::Template => is_template(aes_siv_key_template(alloc)),
-        Asked::RegisterTwice => registers_twice(alloc),
+        Asked::RegisterTwice => registers_twice(alloc, &mut Registry::new(alloc)),
         Asked::Keyset(primary) => made(two_keys(alloc, *primary)),
-        Asked::Seal(one, prefix, size, other) => seals(alloc, *one, prefix, *size, *other),
-        Asked::Lengthen(one, other) => opens_a_longer_one(alloc, *one, *other),
-        Asked::Open(primary, bytes) => made(opened(alloc, *primary, bytes)),
+        Asked::Seal(primary, want) => gives(sealed(alloc, *primary), want),
+        Asked::Open(primary, bytes) => {
+            gives(opened(alloc, two_keys(alloc, *primary), bytes), b"abc")
+        }
+        Asked::Copy(primary, bytes) => {
+            let copy = copy_of(alloc, two_keys(alloc, *primary));
+            gives(opened(alloc, copy, bytes), b"abc")
+        }
     }
 }
 
@@ -202,7 +186,17 @@ const INVALID: Answer = Err(Kind::InvalidKey);
 
 const FAILED: Answer = Err(Kind::DecryptFailed);
 
-const PREFIX: &[u8] = b"\x01\x00\x00\x00\x01";
+// What pyca/cryptography 48 makes of `abc` under both keys, and a byte more.
+const TINK: &[u8] =
+    b"\x01\x00\x00\x00\x01\x49\xca\xf5\xe5\x8d\x86\x90\x7b\x6a\xba\xfc\x00\x40\xd5\x1f\x01\x1e\x3b\x80";
+
+const TINK_LONGER: &[u8] =
+    b"\x01\x00\x00\x00\x01\x49\xca\xf5\xe5\x8d\x86\x90\x7b\x6a\xba\xfc\x00\x40\xd5\x1f\x01\x1e\x3b\x80\x00";
+
+const RAW: &[u8] = b"\x6a\x95\x95\x15\x87\xa6\xe3\x5e\x92\x37\xc9\x0c\x76\x42\x47\x37\x53\x41\x3c";
+
+const RAW_LONGER: &[u8] =
+    b"\x6a\x95\x95\x15\x87\xa6\xe3\x5e\x92\x37\xc9\x0c\x76\x42\x47\x37\x53\x41\x3c\x00";
 
 // The bytes of a key are field 2 of its message, and its version field 1; the size of keys is field 1 of a format.
 const ROWS: &[(&str, Asked, Answer)] = &[
@@ -228,27 +222,39 @@ const ROWS: &[(&str, Asked, Answer)] = &[
         Err(Kind::AlreadyRegistered),
     ),
     ("no primary key", Asked::Keyset(3), Err(Kind::InvalidKeyset)),
+    ("a prefixed key's", Asked::Seal(1, TINK), Ok(true)),
     (
         "a prefixed key's, by a raw one first",
-        Asked::Seal(1, PREFIX, 24, 2),
+        Asked::Open(2, TINK),
         Ok(true),
     ),
+    (
+        "a prefixed key's, by a copy",
+        Asked::Copy(2, TINK),
+        Ok(true),
+    ),
+    ("a raw key's", Asked::Seal(2, RAW), Ok(true)),
     (
         "a raw key's, by a prefixed one first",
-        Asked::Seal(2, b"", 19, 1),
+        Asked::Open(1, RAW),
         Ok(true),
     ),
+    ("a raw key's, by a copy", Asked::Copy(1, RAW), Ok(true)),
     (
         "a prefixed key's with a byte more",
-        Asked::Lengthen(1, 2),
+        Asked::Open(2, TINK_LONGER),
         FAILED,
     ),
     (
         "a raw key's with a byte more",
-        Asked::Lengthen(2, 1),
+        Asked::Open(1, RAW_LONGER),
         FAILED,
     ),
-    ("a prefix alone", Asked::Open(1, PREFIX), FAILED),
+    (
+        "a prefix alone",
+        Asked::Open(1, b"\x01\x00\x00\x00\x01"),
+        FAILED,
+    ),
 ];
 
 #[test]

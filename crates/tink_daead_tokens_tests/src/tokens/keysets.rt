@@ -7,9 +7,9 @@ use tink_core::keyset::{Handle, Manager};
 use tink_core::registry::Registry;
 use tink_mac::{
     AesCmacKeyManager, HMAC_TYPE_URL, HmacKeyManager, MacKind, WrappedMac,
-    aes_cmac_tag128_key_template, new,
+    aes_cmac_tag128_key_template, hmac_sha256_tag128_key_template, new,
 };
-use tink_proto::{KeyTemplate, OutputPrefixType};
+use tink_proto::OutputPrefixType;
 use tink_testutil::{draws_of, enabled_key, handle_of, registry_of};
 
 /// The first draws of the seed of 32 zero bytes (ChaCha20, RFC 8439, A.1): a key of 32 bytes, and the ids da41597c and
@@ -25,7 +25,6 @@ const HMAC_KEY: &[u8] =
     b"\x12\x04\x08\x03\x10\x10\x1a\x20\x76\xb8\xe0\xad\xa0\xf1\x3d\x90\x40\x5d\x6a\xe5\x53\x86\xbd\x28\xbd\xd2\x19\xb8\xa0\x8d\xed\x1a\xa8\x36\xef\xcc\x8b\x77\x0d\xc7";
 
 /// An edit of a keyset: a new primary key by the template and these draws, or one of the key of the id.
-#[derive(Clone, Copy)]
 pub enum Edit {
     Rotate,
     Disable,
@@ -34,7 +33,6 @@ pub enum Edit {
 }
 
 /// A keyset: after these edits of an empty one, or of one key of the draws with this prefix and id.
-#[derive(Clone, Copy)]
 pub enum Keys {
     Edited(&'static [Edit]),
     One(OutputPrefixType, u32),
@@ -44,11 +42,10 @@ pub enum Keys {
 fn rotate(
     alloc: Global,
     registry: &Registry<HmacKeyManager>,
-    kt: &KeyTemplate,
     manager: &mut Manager,
-) -> Result<bool, TinkError> {
-    match draws_of(alloc, DRAWS) {
-        Ok(mut draws) => made(manager.rotate(alloc, kt, registry, &mut draws)),
+) -> Result<u32, TinkError> {
+    match hmac_sha256_tag128_key_template(alloc) {
+        Ok(kt) => manager.rotate(alloc, &kt, registry, &mut draws_of(alloc, DRAWS)?),
         Err(e) => Err(e),
     }
 }
@@ -56,12 +53,11 @@ fn rotate(
 fn edit_by(
     alloc: Global,
     registry: &Registry<HmacKeyManager>,
-    kt: &KeyTemplate,
     manager: &mut Manager,
-    edit: Edit,
+    edit: &Edit,
 ) -> Result<bool, TinkError> {
     match edit {
-        Edit::Rotate => rotate(alloc, registry, kt, manager),
+        Edit::Rotate => made(rotate(alloc, registry, manager)),
         Edit::Disable => made(manager.disable(ID)),
         Edit::Enable => made(manager.enable(ID)),
         Edit::Delete => made(manager.delete(ID)),
@@ -71,12 +67,11 @@ fn edit_by(
 fn edit_all(
     alloc: Global,
     registry: &Registry<HmacKeyManager>,
-    kt: &KeyTemplate,
     manager: &mut Manager,
     edits: &[Edit],
 ) -> Result<(), TinkError> {
     for each in edits {
-        edit_by(alloc, registry, kt, manager, *each)?;
+        edit_by(alloc, registry, manager, each)?;
     }
     Ok(())
 }
@@ -84,30 +79,30 @@ fn edit_all(
 fn edited(
     alloc: Global,
     registry: &Registry<HmacKeyManager>,
-    kt: &KeyTemplate,
     edits: &[Edit],
 ) -> Result<Handle, TinkError> {
     let mut manager = Manager::new(alloc);
-    match edit_all(alloc, registry, kt, &mut manager, edits) {
+    match edit_all(alloc, registry, &mut manager, edits) {
         Ok(()) => manager.handle(alloc),
         Err(e) => Err(e),
     }
 }
 
 fn one_key(alloc: Global, prefix: OutputPrefixType, id: u32) -> Result<Handle, TinkError> {
-    let key = enabled_key(alloc, HMAC_TYPE_URL, HMAC_KEY, prefix, id)?;
-    handle_of(id, vec![in alloc; key]?)
+    match enabled_key(alloc, HMAC_TYPE_URL, HMAC_KEY, prefix, id) {
+        Ok(key) => handle_of(id, vec![in alloc; key]?),
+        Err(e) => Err(e),
+    }
 }
 
 fn handle(
     alloc: Global,
     registry: &Registry<HmacKeyManager>,
-    kt: &KeyTemplate,
-    keys: Keys,
+    keys: &Keys,
 ) -> Result<Handle, TinkError> {
     match keys {
-        Keys::Edited(edits) => edited(alloc, registry, kt, edits),
-        Keys::One(prefix, id) => one_key(alloc, prefix, id),
+        Keys::Edited(edits) => edited(alloc, registry, edits),
+        Keys::One(prefix, id) => one_key(alloc, *prefix, *id),
     }
 }
 
@@ -115,10 +110,9 @@ fn handle(
 pub fn macs(
     alloc: Global,
     registry: &Registry<HmacKeyManager>,
-    kt: &KeyTemplate,
-    keys: Keys,
+    keys: &Keys,
 ) -> Result<WrappedMac<MacKind>, TinkError> {
-    match handle(alloc, registry, kt, keys) {
+    match handle(alloc, registry, keys) {
         Ok(h) => new(alloc, &h, registry),
         Err(e) => Err(e),
     }
@@ -126,8 +120,10 @@ pub fn macs(
 
 // A handle of a new key of AES-CMAC.
 fn cmac_handle(alloc: Global, registry: &Registry<AesCmacKeyManager>) -> Result<Handle, TinkError> {
-    let kt = aes_cmac_tag128_key_template(alloc)?;
-    Handle::new(alloc, &kt, registry, &mut draws_of(alloc, DRAWS)?)
+    match aes_cmac_tag128_key_template(alloc) {
+        Ok(kt) => Handle::new(alloc, &kt, registry, &mut draws_of(alloc, DRAWS)?),
+        Err(e) => Err(e),
+    }
 }
 
 fn cmacs_in(

@@ -5,13 +5,10 @@ use crate::tokens::keysets::{Edit, ID, Keys, cmacs, macs};
 use crate::tokens::texts::{Asked, TOKEN, answered};
 use std::alloc::Global;
 use std::process::Abort;
-use std::test::Fail;
 use tink_core::registry::Registry;
 use tink_core::{Kind, TinkError};
-use tink_mac::{
-    AesCmacKeyManager, HmacKeyManager, MacKind, WrappedMac, hmac_sha256_tag128_key_template,
-};
-use tink_proto::{KeyTemplate, OutputPrefixType};
+use tink_mac::{AesCmacKeyManager, HmacKeyManager, MacKind, WrappedMac};
+use tink_proto::OutputPrefixType;
 use tink_testutil::registry_of;
 use tink_tokens::{law_old_tokens_verify, law_signed_tokens_verify, law_tokens_outlive_commands};
 
@@ -187,22 +184,22 @@ fn answered_of(
     }
 }
 
-fn walk(rt: &impl Abort, alloc: Global, registry: &Registry<HmacKeyManager>, kt: &KeyTemplate) {
+fn walk(rt: &impl Abort, alloc: Global, registry: &Registry<HmacKeyManager>) {
     for rows in [KNOWN, REFUSED] {
         for (row, keys, asked, want) in rows {
-            let got = answered_of(alloc, macs(alloc, registry, kt, *keys), asked);
+            let got = answered_of(alloc, macs(alloc, registry, keys), asked);
             expect(rt, got, *want, row);
         }
     }
 }
 
 #[test]
-fn tokens_are_as_the_rows_say(rt: HostRuntime) -> Result<(), Fail> {
+fn tokens_are_as_the_rows_say(rt: HostRuntime) {
     let alloc = rt.alloc();
-    let registry = registry_of(alloc, HmacKeyManager::new())?;
-    let kt = hmac_sha256_tag128_key_template(alloc)?;
-    walk(&rt, alloc, &registry, &kt);
-    Ok(())
+    match registry_of(alloc, HmacKeyManager::new()) {
+        Ok(registry) => walk(&rt, alloc, &registry),
+        Err(e) => expect(&rt, Err(e), Ok(true), "the registry"),
+    }
 }
 
 #[test]
