@@ -18,7 +18,7 @@ enum Asked {
     Build(&'static [u8], usize),
     // To make a key of a format, with so many draws.
     Make(&'static [u8], usize),
-    // To make a key by the template of this name, from so many of the draws 1, 2, 3 and so on, of which so many are left;
+    // To make a key by the template of this name, from so many of the draws 1, 2, 3 .., of which so many are left;
     // and what the key's primitive makes of `abc`.
     New(&'static str, usize, usize, &'static [u8]),
 }

@@ -120,8 +120,8 @@ fn written(alloc: Global, additional_data: &[u8]) -> Result<Vec<u8>, TinkError> 
     }
 }
 
-// Whether a read of four bytes gives three, and the four are these. Or the refusal, if the first byte of the source that
-// is handed back is as here.
+// Whether a read of four bytes gives three, and the four are these. Or the refusal, if the first byte of the source
+// that is handed back is as here.
 fn first_read(reading: Reading, want: &[u8]) -> Result<bool, TinkError> {
     let mut buf = [0u8; 4];
     match reading {

@@ -135,8 +135,8 @@ const RAW: Keys = Keys::One(OutputPrefixType::Raw);
 
 const MISMATCH: Answer = Err(Kind::MacMismatch);
 
-// The MACs of `abc` by Python's HMAC: that of a LEGACY key is of one zero byte more. LEGACY and CRUNCHY keys of an id have
-// one prefix.
+// The MACs of `abc` by Python's HMAC: that of a LEGACY key is of one zero byte more. LEGACY and CRUNCHY keys of an id
+// have one prefix.
 const LEGACY_MAC: &[u8] =
     b"\x00\x00\x00\x00\x07\x3a\xa9\xa2\x71\x63\xe7\xae\x40\x21\xe6\x8f\x2d\x18\xb5\xff\x5d";
 
