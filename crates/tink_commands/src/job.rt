@@ -1,12 +1,12 @@
 //! What the words of a command over a stream or a token say, and how its refusals are told.
 
-use crate::outside::read_keys;
-use crate::trouble::Trouble;
 use std::io::IsTerminal;
 use tink_io::Kind;
 use tink_key_files::wire_bytes;
 use tink_proto::Bytes;
 use tink_run::load::load;
+use tink_system::outside::read_keys;
+use tink_system::trouble::Trouble;
 use tink_words::Line;
 
 /// A keyset and its associated data, and the file that it is in.

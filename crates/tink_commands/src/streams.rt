@@ -1,15 +1,15 @@
 //! The commands over streams and tokens.
 
 use crate::job::{Job, job_of, named, side_of};
-use crate::meter::{Meter, Watched};
-use crate::outside::draws;
-use crate::real_place::RealPlace;
 use crate::tasks::{Task, into_place, into_sink};
-use crate::trouble::{Trouble, unreadable};
 use std::fs::{File, OpenFile};
 use std::io::BufReader;
 use tink_io::{Draws, Kind, Source, StdSink, StdSource, TinkError};
 use tink_run::report::Command;
+use tink_system::meter::{Meter, Watched};
+use tink_system::outside::draws;
+use tink_system::real_place::RealPlace;
+use tink_system::trouble::{Trouble, unreadable};
 use tink_words::Line;
 
 // So many bytes of a file are read at once, where less is asked for.

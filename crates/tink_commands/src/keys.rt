@@ -2,14 +2,14 @@
 
 ghost use Rattle.std.specs.Prelude.{◌≡◌, OnOk};
 
-use crate::outside::{draws, read_keys};
-use crate::real_place::RealPlace;
-use crate::trouble::Trouble;
 use tink_files::{edit_keys, new_keys, rotate_keys};
 use tink_io::{Kind, StdSink, TinkError, write_all};
 use tink_key_files::{Edit, Format, list, wire_bytes};
 use tink_place::Place;
 use tink_proto::Bytes;
+use tink_system::outside::{draws, read_keys};
+use tink_system::real_place::RealPlace;
+use tink_system::trouble::Trouble;
 use tink_words::{Action, Line};
 
 /// `new TEMPLATE -o KEYS`

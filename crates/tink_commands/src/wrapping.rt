@@ -1,12 +1,12 @@
 //! The commands that keep a file of keys under a master keyset.
 
 use crate::keys::format_of;
-use crate::outside::{draws, read_keys};
-use crate::real_place::RealPlace;
-use crate::trouble::Trouble;
 use tink_files::{unwrap_keys, wrap_keys};
 use tink_io::Kind;
 use tink_key_files::Format;
+use tink_system::outside::{draws, read_keys};
+use tink_system::real_place::RealPlace;
+use tink_system::trouble::Trouble;
 use tink_words::Line;
 use tink_wrap::{Master, load_master};
 

@@ -3,15 +3,15 @@
 ghost use Rattle.std.specs.Prelude.{◌≡◌, ◌<◌};
 
 use crate::job::{Job, job_of, named};
-use crate::real_at::RealAt;
-use crate::real_place::RealPlace;
-use crate::trouble::Trouble;
 use std::marker::Brand;
 use std::sync::ledger::{Blank, Ledger};
 use tink_files::range_to;
 use tink_io::{StdSink, TinkError};
 use tink_range::Steps;
 use tink_run_range::run_range;
+use tink_system::real_at::RealAt;
+use tink_system::real_place::RealPlace;
+use tink_system::trouble::Trouble;
 use tink_words::Line;
 
 /// `range -k KEYS [--aad TEXT] [-o OUT] --start N --length N IN`

@@ -1,6 +1,6 @@
 //! What the commands are.
 
-use crate::trouble::Trouble;
+use tink_system::trouble::Trouble;
 use tink_words::{Action, Line};
 
 const ALL: &str = "\

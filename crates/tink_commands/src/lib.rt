@@ -1,0 +1,13 @@
+//! The commands over files, and those over the standard streams, by their words.
+#![tactic(auto)]
+
+mod commands;
+mod help;
+mod job;
+mod keys;
+mod ranges;
+mod streams;
+mod tasks;
+mod wrapping;
+
+pub use commands::run;
