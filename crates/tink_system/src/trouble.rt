@@ -1,5 +1,8 @@
 //! Why a command ended without success, and what is told of it.
 
+ghost use Rattle.std.specs.Prelude.{◌≡◌};
+ghost use Rattle.tink_system.specs.Statuses.{refusal_status, trouble_status};
+
 use std::io;
 use std::io::ErrorKind;
 use tink_files::advice;
@@ -42,7 +45,9 @@ pub fn unwritable(file: &str, e: io::Error) -> Trouble<'_> {
 }
 
 /// The status of a refusal: that of the program over streams, and 30 to 35 for those that it has not.
-fn status(kind: Kind) -> u8 {
+fn status(kind: Kind) -> u8
+    ensures { result ≡ refusal_status kind }
+{
     match kind {
         Kind::BadJson => 30,
         Kind::KeyNotFound => 31,
@@ -56,7 +61,9 @@ fn status(kind: Kind) -> u8 {
 }
 
 /// Tells it on standard error, and answers the status.
-pub fn tell(rt: &HostRuntime, trouble: Trouble<'_>) -> u8 {
+pub fn tell(rt: &HostRuntime, trouble: Trouble<'_>) -> u8
+    ensures { result ≡ trouble_status trouble.entry }
+{
     match trouble {
         Trouble::Usage => {
             let _told = eprintln!(rt;
