@@ -148,7 +148,7 @@ def main():
         print(f"| {row.name} | {row.refused} | " + " | ".join(str(n) for n in row.tally.values()) + " |", flush=True)
     refused = total.pop("refused")
     print(f"| all | {refused} | " + " | ".join(str(n) for n in total.values()) + " |")
-    print("\n| stream of 60 bytes | bits changed | cuts | lengthened |")
+    print("\n| stream of a text of 60 bytes | bits changed | cuts | lengthened |")
     print("|---|---|---|---|")
     for name, small, ends in (("counter mode, segments of 35", SMALL, [0, 1, 26, 51]), ("AES-GCM, segments of 48", SMALL_GCM, [0, 8, 40])):
         tally, more = damaged(name, small, ends)
