@@ -39,12 +39,12 @@ pub nothing_waits : (known : Option (List ℕ)) (waits : List ℕ) → waits ≡
 nothing_waits None waits e = refl
 nothing_waits (Some xs) waits e = ap Some (ap (λ l. xs ++ l) e ∙ append-nil xs)
 
--- a front of bytes begins each of which it is a front
-front_of : (xs more waits all : List ℕ) → xs ++ (more ++ waits) ≡ xs ++ all → more ≡ take (length more) all
-front_of [] more waits all e = sym (take-append_seam more waits) ∙ ap (take (length more)) e
-front_of (x ∷ xs) more waits all e = front_of xs more waits all (ap (drop 1) e)
+-- bytes with which others begin, by those that follow
+is_prefix : (xs more waits all : List ℕ) → xs ++ (more ++ waits) ≡ xs ++ all → more ≡ take (length more) all
+is_prefix [] more waits all e = sym (take-append_seam more waits) ∙ ap (take (length more)) e
+is_prefix (x ∷ xs) more waits all e = is_prefix xs more waits all (ap (drop 1) e)
 
--- what the sink behind has got of bytes of which the sink that gathers has told a front
+-- what the sink behind has got of bytes of which the sink that gathers was given a prefix
 pub cut_prefix : (old told got : Option (List ℕ)) (bs : List ℕ) → OnlyGrows old got → IsCutShort told got → AppendsPrefix old told bs → AppendsPrefix old got bs
 cut_prefix None told got bs grows cut w = (0, omega arith, tt)
 cut_prefix (Some x) told None bs grows cut w = absurd grows.1
@@ -54,11 +54,11 @@ cut_prefix (Some x) (Some t) (Some y) bs grows cut w =
     let waits : List ℕ = cut.0 in
     let taken : List ℕ = take w.0 bs in
     let whole : x ++ (more ++ waits) ≡ x ++ taken = sym (append_assoc x more waits) ∙ ap (λ l. l ++ waits) (sym grows.1) ∙ cut.1 ∙ w.2 in
-    let is : more ≡ take (length more) taken = front_of x more waits taken whole in
+    let is : more ≡ take (length more) taken = is_prefix x more waits taken whole in
     let few : length more ≤ w.0 = omega (arith, ap length is, length-take (length more) taken, length-take w.0 bs) in
     (length more, omega (arith, few, w.1), grows.1 ∙ ap (λ l. x ++ l) (is ∙ take-take (length more) w.0 bs few))
 
--- bytes that stay told are a front as before
+-- a prefix that was given stays one
 pub kept_after : (old told got : Option (List ℕ)) (bs : List ℕ) → Keeps told got → AppendsPrefix old told bs → AppendsPrefix old got bs
 kept_after old told got bs kept w = (w.0, w.1, Appends-kept old told got (take w.0 bs) w.2 kept)
 

@@ -41,6 +41,8 @@ pub trait SegmentEncrypter {
 
     ghost longer: { (e : Self) (n t : List ℕ) → length (seg e n t) ≡ length t + overhead_of e };
 
+    ghost one_text: { (e : Self) (n t u : List ℕ) → seg e n t ≡ seg e n u → t ≡ u };
+
     /// The segment of a text under a nonce, in memory of its own, with the conditions of `encrypt_segment_into`.
     /// `OutOfMemory` is the one refusal.
     final fn encrypt_segment(

@@ -78,7 +78,7 @@ impl CtrHmacSegment {
 }
 
 impl SegmentEncrypter for CtrHmacSegment {
-    ghost use Rattle.stream_model.proofs.SegmentFacts.{length-ctr_hmac_segment};
+    ghost use Rattle.stream_model.proofs.SegmentFacts.{length-ctr_hmac_segment, ctr_hmac_segment_same};
 
     ghost seg = { segment_under };
 
@@ -87,6 +87,8 @@ impl SegmentEncrypter for CtrHmacSegment {
     ghost nonce_length = { λ s. 16 };
 
     ghost longer = { λ e n t. length-ctr_hmac_segment e.hash e.tag e.aes_key e.hmac_key n t };
+
+    ghost one_text = { λ d n t u e. ctr_hmac_segment_same d.hash d.tag d.aes_key d.hmac_key n t u e };
 
     fn overhead(&self) -> usize {
         self.tag_size

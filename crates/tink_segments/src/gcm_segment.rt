@@ -77,7 +77,7 @@ fn large(aes_key: &[u8]) -> GcmSegment
 
 impl SegmentEncrypter for GcmSegment {
     ghost use Rattle.stream_model.specs.Key.{gcm_segment};
-    ghost use Rattle.stream_model.proofs.SegmentFacts.{length-gcm_segment};
+    ghost use Rattle.stream_model.proofs.SegmentFacts.{gcm_segment_same, length-gcm_segment};
 
     ghost seg = { gcm_segment };
 
@@ -86,6 +86,8 @@ impl SegmentEncrypter for GcmSegment {
     ghost nonce_length = { λ s. 12 };
 
     ghost longer = { length-gcm_segment };
+
+    ghost one_text = { gcm_segment_same };
 
     fn overhead(&self) -> usize {
         AES_GCM_HKDF_TAG_SIZE_IN_BYTES

@@ -17,7 +17,7 @@ pub enum StreamSegment {
 }
 
 impl SegmentEncrypter for StreamSegment {
-    ghost use Rattle.tink_segments.specs.StreamSegments.{length-segment_by, nonce_length_by, overhead_by, segment_by};
+    ghost use Rattle.tink_segments.specs.StreamSegments.{length-segment_by, nonce_length_by, overhead_by, segment_by, segment_by_same};
 
     ghost seg = { segment_by };
 
@@ -26,6 +26,8 @@ impl SegmentEncrypter for StreamSegment {
     ghost nonce_length = { nonce_length_by };
 
     ghost longer = { length-segment_by };
+
+    ghost one_text = { segment_by_same };
 
     fn overhead(&self) -> usize {
         match self {

@@ -66,6 +66,12 @@ pub stands : (a b i0 : ℕ) (R0 : List ℕ) (done : List (List ℕ)) (i : ℕ) (
     → length held ≡ room_at a b i → 0 < length rest → 0 < room_at a b i → 0 < b → full_chunks (room_at a b i0) b R0 ≡ done ++ (held ∷ full_chunks b b rest)
 stands a b i0 R0 done i held rest h e s p q = sym h.chunks ∙ ap (λ x. done ++ x) (full_is a b i held rest e s p q)
 
+-- a chunk that is full and has text behind it is due
+pub is_due : (a b i0 : ℕ) (R0 : List ℕ) (done : List (List ℕ)) (i : ℕ) (held rest : List ℕ) → Proceeds a b i0 R0 done i (held ++ rest)
+    → length held ≡ room_at a b i → 0 < length rest → 0 < room_at a b i → 0 < b → full_chunks (room_at a b i0) b R0 ≡ [] → ⊥
+is_due a b i0 R0 done i held rest h e s p q none =
+    omega (arith, ap length (sym none ∙ stands a b i0 R0 done i held rest h e s p q), length-append done (held ∷ full_chunks b b rest))
+
 -- bytes and then a prefix of more are a prefix of both
 pub then_prefix : (a b c : Option (List ℕ)) (xs ys : List ℕ) → Appends a b xs → AppendsPrefix b c ys → AppendsPrefix a c (xs ++ ys)
 then_prefix a b c xs ys p q =

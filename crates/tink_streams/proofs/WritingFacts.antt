@@ -80,6 +80,7 @@ wrote_then_prefix seg a b m n o R S p q later w v =
     record {
       was_open = w.was_open;
       failed = v.failed;
+      held = v.held;
       stops = record {
         done = before ++ stops.done;
         next = stops.next;
@@ -110,6 +111,7 @@ wrote_then_all seg a b m n o R S p q w v =
     record {
       was_open = w.was_open;
       failed = v.failed;
+      held = v.held;
       counted = v.counted;
       many = omega (arith, v.many, w.counted, ap length all, length-append (filled a b m R) (filled a b n S));
       appended = subst (Appends m.got o.got)
@@ -175,8 +177,8 @@ closed_prefix seg a b m n o R f w c = subst (AppendsPrefix m.got o.got) (whole s
 
 -- putting the last segment closes a writer
 pub put_closes : (seg : ℕ → Bool → List ℕ → List ℕ) (m n : WriterMoment) (r : Result (Unit {0}) TinkError) → m.mode ≡ Open → PutMeans seg true m n r → CloseMeans seg m n r
-put_closes seg m n (Ok u) was p = inl (record { was_open = was; is_closed = p.mode; appended = p.appended; counted = p.counted })
-put_closes seg m n (Err e) was p = rw p.kind (record { was_open = was; failed = p.failed; counted = p.counted; begun = p.begun; rose = p.rose })
+put_closes seg m n (Ok u) was p = inl (record { was_open = was; is_closed = p.mode; held = p.held; appended = p.appended; counted = p.counted })
+put_closes seg m n (Err e) was p = rw p.kind (record { was_open = was; failed = p.failed; held = p.held; counted = p.counted; begun = p.begun; rose = p.rose })
 
 -- closing that went well after a text
 pub close_ok : (seg : ℕ → Bool → List ℕ → List ℕ) (a b : ℕ) (m n o : WriterMoment) (R : List ℕ) (r : Result (Unit {0}) TinkError) → IsFresh m → Wrote seg a b m n R → CloseMeans seg n o r

@@ -30,6 +30,10 @@ pub record WriterMoment : Type 0 where
 abbrev pub filled : ℕ → ℕ → WriterMoment → List ℕ → List (List ℕ)
 filled first room m text = full_chunks (room_at first room m.number) room (m.held ++ text)
 
+-- no chunk is full that has text behind it, so that the text is held and no segment is due
+abbrev pub IsAllHeld : ℕ → ℕ → WriterMoment → List ℕ → Type 0
+IsAllHeld first room m text = filled first room m text ≡ []
+
 -- the full chunks were written, unmarked, and the last chunk is held
 pub record Wrote (seg : ℕ → Bool → List ℕ → List ℕ) (first room : ℕ) (old new : WriterMoment) (text : List ℕ) : Type 0 where
   pub was_open : old.mode ≡ Open
@@ -50,17 +54,19 @@ pub record StopsWithin (seg : ℕ → Bool → List ℕ → List ℕ) (start num
   pub whole : Appends old between (unmarked seg start done)
   pub prefix : AppendsPrefix between new (seg number false next)
 
--- the sink failed in one of those segments
+-- the sink failed in one of those segments, and no text is held
 pub record WrotePrefixOf (seg : ℕ → Bool → List ℕ → List ℕ) (first room : ℕ) (old new : WriterMoment) (text : List ℕ) : Type 0 where
   pub was_open : old.mode ≡ Open
   pub failed : new.mode ≡ Failed cause.WriteFault
+  pub held : new.held ≡ []
   pub stops : StopsWithin seg old.number new.number (filled first room old text) old.got new.got
   pub rose : Rose old.faults new.faults
 
--- the text needs a number above 2^32 - 1: all unmarked segments with lower numbers were written
+-- the text needs a number above 2^32 - 1: all unmarked segments with lower numbers were written, and no text is held
 pub record WroteAll (seg : ℕ → Bool → List ℕ → List ℕ) (first room : ℕ) (old new : WriterMoment) (text : List ℕ) : Type 0 where
   pub was_open : old.mode ≡ Open
   pub failed : new.mode ≡ Failed cause.TooManySegments
+  pub held : new.held ≡ []
   pub many : 2 ^ 32 ≤ old.number + length (filled first room old text)
   pub counted : new.number ≡ 2 ^ 32 - 1
   pub appended : Appends old.got new.got (unmarked seg old.number (take (2 ^ 32 - 1 - old.number) (filled first room old text)))
@@ -88,6 +94,7 @@ pub record Put (seg : ℕ → Bool → List ℕ → List ℕ) (last : Bool) (old
 pub record PutShort (seg : ℕ → Bool → List ℕ → List ℕ) (last : Bool) (old new : WriterMoment) (e : TinkError) : Type 0 where
   pub kind : e ≡ record { kind = WriteFault }
   pub failed : new.mode ≡ Failed cause.WriteFault
+  pub held : new.held ≡ []
   pub counted : new.number ≡ old.number
   pub begun : AppendsPrefix old.got new.got (seg old.number last old.held)
   pub rose : Rose old.faults new.faults
@@ -100,6 +107,7 @@ PutMeans seg last old new (Err e) = PutShort seg last old new e
 pub record ClosedBy (seg : ℕ → Bool → List ℕ → List ℕ) (old new : WriterMoment) : Type 0 where
   pub was_open : old.mode ≡ Open
   pub is_closed : new.mode ≡ Closed
+  pub held : new.held ≡ []
   pub appended : Appends old.got new.got (seg old.number true old.held)
   pub counted : new.number ≡ old.number + 1
 
@@ -107,6 +115,7 @@ pub record ClosedBy (seg : ℕ → Bool → List ℕ → List ℕ) (old new : Wr
 pub record ClosedShort (seg : ℕ → Bool → List ℕ → List ℕ) (old new : WriterMoment) : Type 0 where
   pub was_open : old.mode ≡ Open
   pub failed : new.mode ≡ Failed cause.WriteFault
+  pub held : new.held ≡ []
   pub counted : new.number ≡ old.number
   pub begun : AppendsPrefix old.got new.got (seg old.number true old.held)
   pub rose : Rose old.faults new.faults

@@ -47,7 +47,7 @@ impl<W, E: SegmentEncrypter> Model for Writer<W, E> {
 }
 
 impl<W: Sink + Drop, E: SegmentEncrypter + Drop> Writer<W, E> {
-    ghost use Rattle.tink_streams.specs.Writing.{WriteMeans, CloseMeans};
+    ghost use Rattle.tink_streams.specs.Writing.{CloseMeans, IsAllHeld, WriteMeans};
     ghost use Rattle.tink_streams.specs.Writers.{moment_of, seg_of};
     ghost use Rattle.tink_streams.specs.Sealers.{writer_state};
 
@@ -133,6 +133,9 @@ impl<W: Sink + Drop, E: SegmentEncrypter + Drop> Writer<W, E> {
     pub fn write(&mut self, buf: &[u8]) -> Result<usize, TinkError>
         ensures answer { WriteMeans (seg_of E.seg self.old.sealing) self.old.sealing.first self.old.sealing.room
             (moment_of W.got W.faults self.old) (moment_of W.got W.faults self.new) buf.now result }
+        // where no segment is due its sink stays as it is
+        ensures still { IsAllHeld self.old.sealing.first self.old.sealing.room (moment_of W.got W.faults self.old)
+            buf.now → self.new.sink ≡ self.old.sink }
         // a writer that takes no text stays as it is, and its sink too
         ensures idle { (self.old.mode ≡ Open → ⊥) → self.new ≡ self.old }
         ensures sealing { self.new.sealing ≡ self.old.sealing }
@@ -186,13 +189,15 @@ impl<W: Sink + Drop, E: SegmentEncrypter + Drop> Writer<W, E> {
 
 impl<W: Sink + Drop, E: SegmentEncrypter + Drop> EncryptingWrite for Writer<W, E> {
     ghost use Rattle.std.specs.Io.{WritesAtMost};
-    ghost use Rattle.tink_streams.specs.Writing.{WriteMeans, CloseMeans};
+    ghost use Rattle.tink_streams.specs.Writing.{CloseMeans, IsAllHeld, WriteMeans};
     ghost use Rattle.tink_streams.specs.Writers.{moment_of, seg_of};
 
     fn write(&mut self, buf: &[u8]) -> Result<usize, TinkError>
         ensures bound { WritesAtMost result buf.now }
         ensures answer { WriteMeans (seg_of E.seg self.old.sealing) self.old.sealing.first self.old.sealing.room
             (moment_of W.got W.faults self.old) (moment_of W.got W.faults self.new) buf.now result }
+        ensures still { IsAllHeld self.old.sealing.first self.old.sealing.room (moment_of W.got W.faults self.old)
+            buf.now → self.new.sink ≡ self.old.sink }
         ensures idle { (self.old.mode ≡ Open → ⊥) → self.new ≡ self.old }
         ensures sealing { self.new.sealing ≡ self.old.sealing }
         ensures rooms { (0 < self.new.sealing.first) × (self.new.sealing.first ≤ self.new.sealing.room) }

@@ -19,7 +19,8 @@ pub enum Mode {
     Failed(Cause),
 }
 
-/// A writer of segments, to a sink that each call is given.
+/// A writer of segments, to a sink that each call is given. A caller that sets its fields may have two segments made
+/// under one nonce.
 ///
 /// The text of the next segment is held where the segment is made. A full chunk is held until more text comes, since
 /// the last segment is marked.
@@ -39,7 +40,7 @@ pub struct SegmentWriter<E: SegmentEncrypter> {
 }
 
 impl<E: SegmentEncrypter + Drop> SegmentWriter<E> {
-    ghost use Rattle.tink_streams.specs.Writing.{CloseMeans, PutMeans, WriteMeans};
+    ghost use Rattle.tink_streams.specs.Writing.{CloseMeans, IsAllHeld, PutMeans, WriteMeans};
     ghost use Rattle.tink_streams.specs.Sealers.{held_text, segment_map, writer_moment};
 
     /// A writer that has written nothing, of parts that fit.
@@ -88,7 +89,7 @@ impl<E: SegmentEncrypter + Drop> SegmentWriter<E> {
         ensures later { K.faults sink.old ≤ K.faults sink.new }
         ensures same { K.same sink.old sink.new }
     {
-        match send(
+        let sent = send(
             sink,
             &self.sealer,
             self.segments,
@@ -96,9 +97,10 @@ impl<E: SegmentEncrypter + Drop> SegmentWriter<E> {
             self.filled,
             &mut self.nonce,
             &mut self.segment,
-        ) {
+        );
+        self.filled = 0;
+        match sent {
             Ok(()) => {
-                self.filled = 0;
                 self.segments += 1;
                 if last {
                     self.mode = Mode::Closed;
@@ -106,7 +108,6 @@ impl<E: SegmentEncrypter + Drop> SegmentWriter<E> {
                 Ok(())
             }
             Err(e) => {
-                self.filled = 0;
                 self.mode = Mode::Failed(Cause::WriteFault);
                 Err(e)
             }
@@ -119,6 +120,8 @@ impl<E: SegmentEncrypter + Drop> SegmentWriter<E> {
         ensures answer { WriteMeans (segment_map self.old.sealer) self.old.sealer.first self.old.sealer.room
             (writer_moment K.got K.faults self.old sink.old) (writer_moment K.got K.faults self.new sink.new)
             buf.now result }
+        ensures still { IsAllHeld self.old.sealer.first self.old.sealer.room
+            (writer_moment K.got K.faults self.old sink.old) buf.now → sink.new ≡ sink.old }
         ensures sealer { self.new.sealer ≡ self.old.sealer }
         ensures later { K.faults sink.old ≤ K.faults sink.new }
         ensures same { K.same sink.old sink.new }
@@ -126,6 +129,7 @@ impl<E: SegmentEncrypter + Drop> SegmentWriter<E> {
         let mut at = self.hold(buf);
         while at < buf.len() {
             if self.segments == LAST_NUMBER {
+                self.filled = 0;
                 self.mode = Mode::Failed(Cause::TooManySegments);
                 return Err(TinkError::new(Kind::TooManySegments));
             }
@@ -145,6 +149,9 @@ impl<E: SegmentEncrypter + Drop> SegmentWriter<E> {
         ensures answer { WriteMeans (segment_map self.old.sealer) self.old.sealer.first self.old.sealer.room
             (writer_moment K.got K.faults self.old sink.old) (writer_moment K.got K.faults self.new sink.new)
             buf.now result }
+        // where no segment is due the sink stays as it is
+        ensures still { IsAllHeld self.old.sealer.first self.old.sealer.room
+            (writer_moment K.got K.faults self.old sink.old) buf.now → sink.new ≡ sink.old }
         // a writer that takes no text, and the sink, stay as they are
         ensures idle { (self.old.mode ≡ Open → ⊥) → (self.new ≡ self.old) × (sink.new ≡ sink.old) }
         ensures sealer { self.new.sealer ≡ self.old.sealer }

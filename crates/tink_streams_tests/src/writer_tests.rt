@@ -9,7 +9,7 @@ use std::process::Abort;
 use std::test::Fail;
 use tink_io::{Cause, Kind, MemSink, TinkError};
 use tink_segments::CtrHmacSegment;
-use tink_streams::{Writer, WriterBuffers, WriterParams};
+use tink_streams::{Mode, Sealer, SegmentWriter, Writer, WriterBuffers, WriterParams};
 
 type MemWriter = Writer<MemSink, CtrHmacSegment>;
 
@@ -182,6 +182,49 @@ fn a_close_that_fails_is_kept(rt: HostRuntime) -> Result<(), Fail> {
         (Call::Write(&[]), failed_before),
     ];
     expect_calls(&rt, opened(rt.alloc(), &[1])?, &calls, 0, &[]);
+    Ok(())
+}
+
+// A writer of such a stream whose next segment has the last number that there is.
+fn at_the_last_number(alloc: Global) -> Result<MemWriter, TinkError> {
+    let sink = sink(alloc, &[])?;
+    let prefix = [3u8; 7].to_vec(alloc)?;
+    let WriterBuffers { segment, nonce } = WriterBuffers::reserve(alloc, 40, 16)?;
+    let sealer = Sealer {
+        encrypter: CtrHmacSegment::new(&[1; 16], &[2; 32], Hash::Sha256, 10),
+        prefix,
+        nonce_size: 16,
+        overhead: 10,
+        first: 18,
+        room: 30,
+    };
+    let inner = SegmentWriter {
+        sealer,
+        mode: Mode::Open,
+        segments: 4294967295,
+        segment,
+        filled: 0,
+        nonce,
+    };
+    Ok(Writer::over(sink, inner))
+}
+
+#[test]
+fn text_behind_the_last_number_is_refused(rt: HostRuntime) -> Result<(), Fail> {
+    let failed_before = Err(Kind::FailedBefore(Cause::TooManySegments));
+    let calls = [
+        (Call::Write(&TEXT[..30]), Ok(30)),
+        (Call::Write(b"t"), Err(Kind::TooManySegments)),
+        (Call::Write(&[]), failed_before),
+        (Call::Close, failed_before),
+    ];
+    expect_calls(
+        &rt,
+        at_the_last_number(rt.alloc())?,
+        &calls,
+        4294967295,
+        &[],
+    );
     Ok(())
 }
 

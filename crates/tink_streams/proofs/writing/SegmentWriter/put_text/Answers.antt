@@ -1,10 +1,10 @@
-use Rattle.std.proofs.Common.{◌≡◌, ◌+◌, ◌-◌, ◌<◌, ◌≤◌, ℕ, List, [], ◌∷◌, ◌++◌, length, take, drop, ap, sym, refl, ◌∙◌, arith, length-drop}
+use Rattle.std.proofs.Common.{◌≡◌, ◌+◌, ◌-◌, ◌<◌, ◌≤◌, ℕ, List, [], ◌∷◌, ◌++◌, length, take, drop, ap, sym, refl, ◌∙◌, arith, length-drop, length-append}
 use Rattle.std.proofs.lemmas.Result.{err_from_is_err_and}
 use Rattle.std.proofs.KnownBytes.{Appends-nil}
 use Rattle.std.proofs.Math.ListN.{drop_of_length-le}
 use Rattle.stream_model.specs.Cut.{room_at}
 use Rattle.tink_streams.specs.Sealers.{held_text, segment_map}
-use Rattle.tink_streams.proofs.WriterSteps.{proceeds_start, proceeds_step, proceeds_end, proceeds_at, stands, one_more, is_full, whole_rest, went_on, all_done, room_some, text_length}
+use Rattle.tink_streams.proofs.WriterSteps.{proceeds_start, proceeds_step, proceeds_end, proceeds_at, stands, one_more, is_full, whole_rest, went_on, is_due, all_done, room_some, text_length}
 use Rattle.tink_streams.proofs.writing.SegmentWriter.put_text.Goals as goal
 
 pub loop-at-init : goal.loop-at-init
@@ -22,6 +22,7 @@ loop-at-init g c =
       proceeds = proceeds_at self.sealer.first self.sealer.room self.segments _ [] self.segments _ _ _
           (proceeds_start self.sealer.first self.sealer.room self.segments (held_text self) c.args.buf.now h.result)
           h.ensures.segments (ap (λ x. x ++ drop h.result c.args.buf.now) h.ensures.held);
+      still = λ e. refl;
       later = omega arith;
       same = g.met.K.Sink.same_refl _;
     }
@@ -38,10 +39,20 @@ returns-then-self-eq-LAST_NUMBER-clause-answer g c =
     rw c.new.ensures (record {
       was_open = c.requires;
       failed = refl;
+      held = refl;
       many = all.0;
       counted = c.if-self-eq-LAST_NUMBER.true;
       appended = rw all.1 inv.written;
     })
+
+pub returns-then-self-eq-LAST_NUMBER-clause-still : goal.returns-then-self-eq-LAST_NUMBER-clause-still
+returns-then-self-eq-LAST_NUMBER-clause-still g c none =
+    let first = c.args.self.now in
+    let self = c.loop-at.self in
+    let inv = c.loop-at.invariant in
+    let some = room_some first.sealer.first first.sealer.room self.segments first.sealer.some first.sealer.first_fits in
+    absurd (is_due first.sealer.first first.sealer.room first.segments _ inv.done self.segments (held_text self) (drop c.loop-at.at c.args.buf.now) inv.proceeds
+    (text_length self ∙ inv.full c.loop-at-test.true) (omega (arith, length-drop c.loop-at.at c.args.buf.now)) some (omega arith) none)
 
 pub returns-in_err-put-clause-answer : goal.returns-in_err-put-clause-answer
 returns-in_err-put-clause-answer g c =
@@ -54,6 +65,7 @@ returns-in_err-put-clause-answer g c =
     rw (p.1, p.2, put.kind) (record {
       was_open = c.requires;
       failed = put.failed;
+      held = put.held;
       stops = record {
         done = inv.done;
         next = held_text self;
@@ -67,6 +79,15 @@ returns-in_err-put-clause-answer g c =
       };
       rose = omega (arith, put.rose);
     })
+
+pub returns-in_err-put-clause-still : goal.returns-in_err-put-clause-still
+returns-in_err-put-clause-still g c none =
+    let first = c.args.self.now in
+    let self = c.loop-at.self in
+    let inv = c.loop-at.invariant in
+    let some = room_some first.sealer.first first.sealer.room self.segments first.sealer.some first.sealer.first_fits in
+    absurd (is_due first.sealer.first first.sealer.room first.segments _ inv.done self.segments (held_text self) (drop c.loop-at.at c.args.buf.now) inv.proceeds
+    (text_length self ∙ inv.full c.loop-at-test.true) (omega (arith, length-drop c.loop-at.at c.args.buf.now)) some (omega arith) none)
 
 pub loop-at-preserved : goal.loop-at-preserved
 loop-at-preserved g c =
@@ -95,6 +116,7 @@ loop-at-preserved g c =
       proceeds = proceeds_at first.sealer.first first.sealer.room first.segments _ (inv.done ++ (held_text self) ∷ []) (self.segments + 1) _ rest _
           (proceeds_step first.sealer.first first.sealer.room first.segments _ inv.done self.segments (held_text self) rest inv.proceeds held_full (omega (arith, length-drop c.loop-at.at c.args.buf.now)) some (omega arith))
           (h.ensures.segments ∙ done.counted) (went_on c.loop-at.at h.result c.args.buf.now (held_text then) (held_text h.new.self) part done.held h.ensures.held part_is);
+      still = λ e. absurd (omega (arith, e, length-append inv.done (held_text self ∷ [])));
       later = omega (arith, put.later);
       same = g.met.K.Sink.same_trans _ _ _ inv.same put.same;
     }
@@ -118,3 +140,14 @@ returns-clause-answer g c =
       },
       refl,
     )
+
+pub returns-clause-still : goal.returns-clause-still
+returns-clause-still g c none =
+    let first = c.args.self.now in
+    let self = c.loop-at.self in
+    let inv = c.loop-at.invariant in
+    let fits : length (held_text self) ≤ room_at first.sealer.first first.sealer.room self.segments =
+    rw inv.sealer at (let f : length (held_text self) ≤ room_at self.sealer.first self.sealer.room self.segments = omega (arith, text_length self, self.held_fits) in f) in
+    let done = proceeds_end first.sealer.first first.sealer.room first.segments _ inv.done self.segments (held_text self) (drop c.loop-at.at c.args.buf.now) inv.proceeds
+    (drop_of_length-le c.args.buf.now {i = c.loop-at.at} (omega arith)) fits in
+    inv.still (ap length (done.0 ∙ none))

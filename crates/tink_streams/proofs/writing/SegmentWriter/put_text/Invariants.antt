@@ -18,6 +18,7 @@ invariant-loop-at g l =
       done : List (List ℕ);
       written : Appends (sink.got l.fn.sink) (sink.got l.sink) (unmarked (segment_map l.fn.self.sealer) l.fn.self.segments done);
       proceeds : Proceeds l.fn.self.sealer.first l.fn.self.sealer.room l.fn.self.segments (held_text l.fn.self ++ l.buf) done l.self.segments (held_text l.self ++ drop l.at l.buf);
+      still : length done ≡ 0 → l.sink ≡ l.fn.sink;
       later : sink.faults l.fn.sink ≤ sink.faults l.sink;
       same : sink.same l.fn.sink l.sink;
     }
