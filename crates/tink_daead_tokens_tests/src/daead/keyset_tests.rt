@@ -21,11 +21,11 @@ fn sealed_by<P: DeterministicAead>(
     aead: &WrappedDeterministicAead<P>,
     alloc: Global,
     text: &[u8],
-    data: &[u8],
+    aad: &[u8],
 ) -> Result<Bytes, TinkError>
-    ensures { Answers result (primary_encrypts P.encrypts aead.now.ps.primary text.now data.now) }
+    ensures { Answers result (primary_encrypts P.encrypts aead.now.ps.primary text.now aad.now) }
 {
-    aead.encrypt_deterministically(alloc, text, data)
+    aead.encrypt_deterministically(alloc, text, aad)
 }
 
 enum Asked {

@@ -13,10 +13,10 @@ use tink_proto::Bytes;
 use tink_testutil::{gives, kind_of};
 
 /// V and the ciphertext of a text with associated data.
-fn sealed_by(aead: &AesSiv, alloc: Global, text: &[u8], data: &[u8]) -> Result<Bytes, TinkError>
-    ensures { Answers result (Ok (aes_siv aead.now data.now text.now)) }
+fn sealed_by(aead: &AesSiv, alloc: Global, text: &[u8], aad: &[u8]) -> Result<Bytes, TinkError>
+    ensures { Answers result (Ok (aes_siv aead.now aad.now text.now)) }
 {
-    aead.encrypt_deterministically(alloc, text, data)
+    aead.encrypt_deterministically(alloc, text, aad)
 }
 
 // What is made of a text with associated data, where a copy decrypts it to the text.
