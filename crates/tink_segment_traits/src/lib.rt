@@ -6,5 +6,5 @@ mod segment_traits;
 mod sizes;
 
 pub use nonce::generate_segment_nonce;
-pub use segment_traits::{SegmentDecrypter, SegmentEncrypter};
+pub use segment_traits::{SegmentDecrypter, SegmentEncrypter, zeros};
 pub use sizes::check_sizes;

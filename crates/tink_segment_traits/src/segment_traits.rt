@@ -1,4 +1,4 @@
-ghost use Rattle.std.specs.Prelude.{◌≡◌, ◌⊎◌, ◌≤◌, ◌<◌, ◌+◌, ◌-◌, ◌^◌, ℕ, List, length, take, OnOk, OnErr, IfOk, IfErr, vec_len};
+ghost use Rattle.std.specs.Prelude.{◌≡◌, ◌⊎◌, ◌≤◌, ◌<◌, ◌+◌, ◌-◌, ◌^◌, ℕ, List, length, replicate, take, OnOk, OnErr, IfOk, IfErr, vec_len, vec_capacity};
 ghost use Rattle.tink_io.specs.declared.error.Kind.TheVariants.{DecryptFailed, OutOfMemory};
 
 use std::alloc::Global;
@@ -65,15 +65,20 @@ pub trait SegmentEncrypter {
     }
 }
 
-// so many zeros
-fn zeros(alloc: Global, n: usize) -> Result<Vec<u8>, TinkError>
-    ensures value { IfOk result (λ bytes. vec_len bytes ≡ n) }
+/// So many zeros, in memory for no more.
+///
+/// # Errors
+/// `OutOfMemory`.
+pub fn zeros(alloc: Global, n: usize) -> Result<Vec<u8>, TinkError>
+    ensures value { IfOk result (λ bytes. bytes.items ≡ replicate n 0) }
+    ensures exact { IfOk result (λ bytes. (vec_len bytes ≡ n) × (vec_capacity bytes ≡ n)) }
     ensures memory { IfErr result (λ e. e ≡ record { kind = OutOfMemory }) }
 {
-    match vec![in alloc; 0u8; n] {
-        Ok(bytes) => Ok(bytes),
-        Err(_) => Err(TinkError::new(Kind::OutOfMemory)),
+    let mut bytes = Vec::with_capacity(alloc, n)?;
+    while bytes.len() < n {
+        bytes.push_reserved(0);
     }
+    Ok(bytes)
 }
 
 /// A one-shot map from a nonce and a text to a segment, by its inverse.

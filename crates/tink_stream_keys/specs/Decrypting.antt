@@ -1,12 +1,12 @@
 -- What a new reader of one key's stream says, and what stands after a refusal of one.
-use Rattle.std.specs.Prelude.{◌≡◌, ◌⊎◌, ℕ, ◌<◌, ◌≤◌, Bool, List, [], length, slice_index, Some, Result, Ok, Err}
+use Rattle.std.specs.Prelude.{◌≡◌, ◌⊎◌, ℕ, ◌+◌, ◌<◌, ◌≤◌, Bool, List, [], length, slice_index, Some, Result, Ok, Err, IfOk}
 use Rattle.std.specs.declared.option.Option.{Option}
 use Rattle.std.specs.Io.KnownBytes.{Consumes, IsAtEnd}
 use Rattle.tink_io.specs.Faults.{Rose}
 use Rattle.tink_io.specs.declared.error.Kind.{Kind}
 use Rattle.tink_io.specs.declared.error.Kind.TheVariants.{OutOfMemory, ReadFault, NoMatchingKey, UnknownHash, UnsupportedHash}
 use Rattle.tink_primitives.specs.declared.streams.Refused.{Refused}
-use Rattle.stream_model.specs.Key.{StreamKey, first_segment, header_length, overhead}
+use Rattle.stream_model.specs.Key.{StreamKey, first_segment, header_length, nonce_size, overhead}
 use Rattle.stream_model.specs.Opening.{opening_key}
 use Rattle.tink_streams.specs.Readers.{ReaderState, moment_of, seg_of}
 use Rattle.tink_segments.specs.StreamSegments.{segment_by}
@@ -73,9 +73,14 @@ abbrev pub source_of : {R : Type 0} → Result (ReaderState R StreamSegment) (Re
 source_of (Ok r) = r.source
 source_of (Err refused) = refused.inner
 
--- a call for a new reader of a source: what it answers, that the source's count of faults does not fall, and what it keeps of
--- the source
+-- the memory for a segment of a key and a byte more, for its text, and for its nonce, in bytes
+abbrev pub reader_room : StreamKey → ℕ
+reader_room k = (k.segment + 1) + (k.segment + 1) + nonce_size k
+
+-- a call for a new reader of a source: what it answers, that the source's count of faults does not fall, what it keeps of
+-- the source, and the memory that the reader has
 pub record StartsReader {R : Type 0} (left : R → Option (List ℕ)) (faults : R → ℕ) (same : R → R → Type 0) (k : StreamKey) (aad : List ℕ) (source : R) (result : Result (ReaderState R StreamSegment) (Refused R)) : Type 0 where
   pub means : NewReaderMeans left faults k aad source result
   pub later : faults source ≤ faults (source_of result)
   pub kept : same source (source_of result)
+  pub memory : IfOk result (λ r. r.memory ≡ reader_room k)

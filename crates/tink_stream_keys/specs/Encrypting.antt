@@ -1,5 +1,5 @@
 -- What a new writer of a key's stream says, and what stands after a refusal of one.
-use Rattle.std.specs.Prelude.{◌≡◌, ℕ, ◌<◌, ◌≤◌, Bool, List, [], length, drop, Some, Result, Ok, Err}
+use Rattle.std.specs.Prelude.{◌≡◌, ℕ, ◌+◌, ◌<◌, ◌≤◌, Bool, List, [], length, drop, Some, Result, Ok, Err, IfOk}
 use Rattle.std.specs.declared.option.Option.{Option}
 use Rattle.std.specs.Io.KnownBytes.{Appends}
 use Rattle.tink_io.specs.Faults.{Rose}
@@ -8,7 +8,7 @@ use Rattle.tink_io.specs.declared.error.Kind.{Kind}
 use Rattle.tink_io.specs.declared.error.Kind.TheVariants.{OutOfMemory, RandomFault, UnknownHash, UnsupportedHash, WriteFault}
 use Rattle.tink_primitives.specs.Meaning.{IsEndOf}
 use Rattle.tink_primitives.specs.declared.streams.Refused.{Refused}
-use Rattle.stream_model.specs.Key.{StreamKey, first_room, front, keys_of, room, segment_at}
+use Rattle.stream_model.specs.Key.{StreamKey, first_room, front, keys_of, nonce_size, room, segment_at}
 use Rattle.stream_model.specs.Sealing.{drawn, prefix_of, salt_of}
 use Rattle.tink_segments.specs.StreamSegments.{segment_by}
 use Rattle.tink_stream_keys.specs.StreamingKeys.{DerivesNothing}
@@ -80,10 +80,11 @@ abbrev pub sink_of : {W : Type 0} → Result (WriterState W StreamSegment) (Refu
 sink_of (Ok w) = w.sink
 sink_of (Err refused) = refused.inner
 
--- a call for a new writer into a sink: what it answers, that the sink's count of faults does not fall, and what it keeps of
--- the sink and of the draws
+-- a call for a new writer into a sink: what it answers, that the sink's count of faults does not fall, what it keeps of the
+-- sink and of the draws, and that the writer has memory for a segment and its nonce
 pub record StartsWriter {W : Type 0} (got : W → Option (List ℕ)) (faults : W → ℕ) (same : W → W → Type 0) (k : StreamKey) (aad draws left : List ℕ) (sink : W) (result : Result (WriterState W StreamSegment) (Refused W)) : Type 0 where
   pub means : NewWriterMeans got faults k aad draws left sink result
   pub later : faults sink ≤ faults (sink_of result)
   pub kept : same sink (sink_of result)
+  pub memory : IfOk result (λ w. w.memory ≡ k.segment + nonce_size k)
   pub ends : IsEndOf left draws

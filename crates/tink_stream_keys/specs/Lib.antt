@@ -4,3 +4,4 @@ pub mod Encrypting
 pub mod NewStreams
 pub mod Decrypting
 pub mod Decrypters
+pub mod Memory

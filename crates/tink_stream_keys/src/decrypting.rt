@@ -5,8 +5,9 @@ ghost use Rattle.std.specs.Io.KnownBytes.{prepend_known};
 ghost use Rattle.stream_model.specs.Cut.{numbered};
 ghost use Rattle.stream_model.specs.Key.{header_length, nonce_size, overhead};
 ghost use Rattle.tink_stream_keys.specs.Decrypters.{HasKeySizes};
-ghost use Rattle.tink_stream_keys.specs.Decrypting.{HeaderRefused, IsNewReader, NewReaderMeans, NewReaderRefused, ReadsHeader, source_of};
+ghost use Rattle.tink_stream_keys.specs.Decrypting.{HeaderRefused, IsNewReader, NewReaderMeans, NewReaderRefused, ReadsHeader, reader_room, source_of};
 ghost use Rattle.tink_segments.specs.StreamSegments.{nonce_length_by, overhead_by, segment_by};
+ghost use Rattle.tink_streams.specs.Openers.{reader_memory};
 ghost use Rattle.tink_streams.specs.TextReading.{TextMoment};
 
 use crate::stream_memory::{MAX_HEADER, PREFIX, ReaderMemory};
@@ -95,6 +96,7 @@ fn begin<T: DerivesStreams, S: Source>(
           faults = S.faults source.new;
         }))
         (λ e. NewReaderRefused S.left S.faults (T.key_of key.now) source.old source.new e.kind) }
+    ensures memory { IfOk result (λ r. reader_memory r ≡ reader_room (T.key_of key.now)) }
     ensures later { S.faults source.old ≤ S.faults source.new }
     ensures same { S.same source.old source.new }
 {
@@ -115,6 +117,7 @@ pub fn new_decrypting_reader<T: DerivesStreams, S: Source + Drop>(
     aad: &[u8],
 ) -> Result<Reader<S, StreamSegment>, Refused<S>>
     ensures answer { NewReaderMeans S.left S.faults (T.key_of key.now) aad.now r result }
+    ensures memory { IfOk result (λ made. made.memory ≡ reader_room (T.key_of key.now)) }
     ensures later { S.faults r ≤ S.faults (source_of result) }
     ensures same { S.same r (source_of result) }
 {

@@ -10,7 +10,7 @@ ghost use Rattle.tink_io.specs.Faults.{Rose};
 ghost use Rattle.tink_io.specs.Written.{AppendsPrefix};
 ghost use Rattle.tink_stream_keys.specs.NewStreams.{IsPrepared, NotPrepared};
 ghost use Rattle.tink_segments.specs.StreamSegments.{nonce_length_by, overhead_by, segment_by};
-ghost use Rattle.tink_streams.specs.Sealers.{held_text};
+ghost use Rattle.tink_streams.specs.Sealers.{held_text, writer_memory};
 
 use crate::stream_memory::{MAX_HEADER, PREFIX, WriterMemory};
 use crate::stream_params::DerivesStreams;
@@ -130,12 +130,14 @@ pub fn prepare_stream<'a, T: DerivesStreams>(
     draws: &mut Draws,
     aad: &[u8],
 ) -> Result<NewStream<'a>, TinkError>
-    ensures { MatchResult result
+    ensures answer { MatchResult result
         (λ s. IsPrepared (T.key_of key.now) aad.now draws.old draws.new s.front
         (numbered (segment_by s.writer.sealer.encrypter) s.writer.sealer.nonce_size
         s.writer.sealer.prefix.items) s.writer.sealer.first s.writer.sealer.room s.writer.mode
         s.writer.segments (held_text s.writer))
         (λ e. NotPrepared (T.key_of key.now) draws.old draws.new e.kind) }
+    ensures memory { IfOk result (λ s. writer_memory s.writer ≡ (T.key_of key.now).segment + nonce_size
+        (T.key_of key.now)) }
 {
     let memory = WriterMemory::reserve(alloc, key)?;
     let header = draw_header(key, draws)?;

@@ -4,15 +4,17 @@ ghost use Rattle.stream_model.specs.Opening.{opening_key};
 ghost use Rattle.tink_io.specs.Taken.{LosesAtMost};
 ghost use Rattle.tink_io.specs.declared.error.Kind.TheVariants.{OutOfMemory};
 ghost use Rattle.tink_streams.specs.declared.progress.Progress.TheVariants.{Running};
+ghost use Rattle.tink_stream_keys.specs.Memory.{trial_memory};
 ghost use Rattle.tink_streams.specs.Choosing.{Started, StartRefused};
 ghost use Rattle.tink_streams.specs.Keeping.{kept_rest};
-ghost use Rattle.tink_streams.specs.Openers.{reader_rest, segment_map};
+ghost use Rattle.tink_streams.specs.Openers.{reader_memory, reader_rest, segment_map};
 
 use crate::choosing::choose;
 use crate::stream_memory::PREFIX;
 use crate::stream_params::DerivesStreams;
 use std::alloc::Global;
 use tink_io::{Kind, Source, TinkError};
+use tink_segment_traits::zeros;
 use tink_segments::StreamSegment;
 use tink_streams::{Begun, Buffers, Kept, SegmentReader, carry};
 
@@ -27,7 +29,8 @@ pub struct Trial {
 }
 
 impl Trial {
-    /// Memory for keys whose output prefix and segment have fewer bytes than `room`, and for nonces of so many.
+    /// Memory for keys whose output prefix and segment have fewer bytes than `room`, for a text of as many, and for
+    /// nonces of so many, and no more than that.
     ///
     /// # Errors
     /// `OutOfMemory`.
@@ -36,12 +39,13 @@ impl Trial {
         ensures buffer { IfOk result (λ t. vec_len t.kept.buffer ≡ room) }
         ensures opened { IfOk result (λ t. vec_capacity t.opened ≡ room) }
         ensures nonce { IfOk result (λ t. vec_len t.nonce ≡ nonce) }
+        ensures memory { IfOk result (λ t. trial_memory t ≡ room + room + nonce) }
         ensures prefix { IfOk result (λ t. 7 ≤ vec_capacity t.prefix) }
         ensures refused { IfErr result (λ e. e ≡ record { kind = OutOfMemory }) }
     {
         let opened = Vec::with_capacity(alloc, room)?;
-        let buffer = vec![in alloc; 0u8; room]?;
-        let nonce = vec![in alloc; 0u8; nonce]?;
+        let buffer = zeros(alloc, room)?;
+        let nonce = zeros(alloc, nonce)?;
         let prefix = Vec::with_capacity(alloc, PREFIX)?;
         Ok(Trial {
             kept: Kept { buffer, filled: 0 },
@@ -70,6 +74,7 @@ pub fn start<S: Source, T: DerivesStreams>(
     requires prefix { 7 ≤ vec_capacity trial.prefix }
     ensures fresh { IfOk result (λ r. (r.progress ≡ Running) × (r.segments ≡ 0) × (r.opened.items ≡ [])
         × (vec_len r.buffer ≡ vec_len trial.kept.buffer)) }
+    ensures memory { IfOk result (λ r. reader_memory r ≡ trial_memory trial) }
     ensures started { IfOk result (λ r. IfSome (kept_rest S.left trial.kept source.old) (λ X.
         Started (map (λ k. opening_key aad.now (T.key_of k)) keys.now) X (reader_rest S.left r source.new)
         (segment_map r.opener) r.opener.first r.opener.size r.opener.overhead)) }

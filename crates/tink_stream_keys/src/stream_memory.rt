@@ -25,8 +25,10 @@ impl ReaderMemory {
     pub fn reserve<T: DerivesStreams>(alloc: Global, key: &T) -> Result<ReaderMemory, TinkError>
         ensures text { IfOk result (λ m. (m.buffers.text.items ≡ [])
             × (vec_capacity m.buffers.text ≡ (T.key_of key.now).segment + 1)) }
-        ensures sealed { IfOk result (λ m. vec_len m.buffers.sealed ≡ (T.key_of key.now).segment + 1) }
-        ensures nonce { IfOk result (λ m. vec_len m.buffers.nonce ≡ nonce_size (T.key_of key.now)) }
+        ensures sealed { IfOk result (λ m. (vec_len m.buffers.sealed ≡ (T.key_of key.now).segment + 1)
+            × (vec_capacity m.buffers.sealed ≡ (T.key_of key.now).segment + 1)) }
+        ensures nonce { IfOk result (λ m. (vec_len m.buffers.nonce ≡ nonce_size (T.key_of key.now))
+            × (vec_capacity m.buffers.nonce ≡ nonce_size (T.key_of key.now))) }
         ensures prefix { IfOk result (λ m. 7 ≤ vec_capacity m.prefix) }
         ensures refused { IfErr result (λ e. e ≡ record { kind = OutOfMemory }) }
     {
@@ -46,8 +48,10 @@ pub struct WriterMemory {
 impl WriterMemory {
     // The memory of the key's sizes.
     pub fn reserve<T: DerivesStreams>(alloc: Global, key: &T) -> Result<WriterMemory, TinkError>
-        ensures segment { IfOk result (λ m. vec_len m.buffers.segment ≡ (T.key_of key.now).segment) }
-        ensures nonce { IfOk result (λ m. vec_len m.buffers.nonce ≡ nonce_size (T.key_of key.now)) }
+        ensures segment { IfOk result (λ m. (vec_len m.buffers.segment ≡ (T.key_of key.now).segment)
+            × (vec_capacity m.buffers.segment ≡ (T.key_of key.now).segment)) }
+        ensures nonce { IfOk result (λ m. (vec_len m.buffers.nonce ≡ nonce_size (T.key_of key.now))
+            × (vec_capacity m.buffers.nonce ≡ nonce_size (T.key_of key.now))) }
         ensures prefix { IfOk result (λ m. 7 ≤ vec_capacity m.prefix) }
         ensures refused { IfErr result (λ e. e ≡ record { kind = OutOfMemory }) }
     {

@@ -3,10 +3,11 @@
 ghost use Rattle.std.specs.Prelude.{◌≡◌, ◌≤◌, ◌<◌, ◌+◌, [], length, map, All, IfOk, MatchResult, vec_len, vec_capacity};
 ghost use Rattle.stream_model.specs.Key.{nonce_size};
 ghost use Rattle.stream_model.specs.Opening.{opening_key};
-ghost use Rattle.tink_streaming_aead.specs.DecryptReaders.{DecryptMeans, FirstReadRefused, GivesFirst, IsUnread, cause_of, first_refusal, kept_of, number_of, room_of, source_in, ReadsNoMore};
+ghost use Rattle.tink_streaming_aead.specs.DecryptReaders.{DecryptMeans, FirstReadRefused, GivesFirst, IsUnread, cause_of, first_refusal, kept_of, memory_for, memory_of, number_of, room_of, source_in, ReadsNoMore};
 ghost use Rattle.tink_streaming_aead.specs.DecryptReaders.DecryptState.{Unread};
+ghost use Rattle.tink_stream_keys.specs.Memory.{trial_memory};
 ghost use Rattle.tink_stream_keys.specs.StreamKinds.{key_in_set};
-ghost use Rattle.tink_streams.specs.Openers.{EndsEmpty, segment_map, text_moment};
+ghost use Rattle.tink_streams.specs.Openers.{EndsEmpty, reader_memory, segment_map, text_moment};
 
 use std::marker::Model;
 use std::mem;
@@ -28,6 +29,7 @@ pub struct Choice {
     ghost room: { All (λ k. (key_in_set k).segment ≤ vec_capacity trial.opened) keys.items },
     ghost nonce: { All (λ k. nonce_size (key_in_set k) ≤ vec_len trial.nonce) keys.items },
     ghost prefix: { 7 ≤ vec_capacity trial.prefix },
+    ghost memory: { trial_memory trial ≡ memory_for (vec_len trial.kept.buffer) },
 }
 
 // How far a reader has come.
@@ -72,6 +74,7 @@ fn give_first<S: Source>(
         (S.faults source.old) (S.faults source.new) e.kind) }
     ensures within { IfOk result (λ given. given.1 ≤ length buf.new) }
     ensures room { IfOk result (λ given. vec_len given.0.reader.buffer ≡ vec_len choice.trial.kept.buffer) }
+    ensures memory { IfOk result (λ given. reader_memory given.0.reader ≡ trial_memory choice.trial) }
     ensures at_end { IfOk result (λ given. EndsEmpty S.left given.0.reader source.new) }
     ensures later { S.faults source.old ≤ S.faults source.new }
     ensures same { S.same source.old source.new }
@@ -120,8 +123,8 @@ impl<S: Source + Drop> DecryptReader<S> {
 
     /// Gives the next bytes of the text, as many as are opened and `buf` has room for, and answers how many. The first
     /// read to a buffer with room chooses the key, the first under which the stream begins: the source begins in its
-    /// front, and the first segment is that of some text. Then each read is that of the key's `Reader`. It takes no
-    /// memory.
+    /// front, and the first segment is that of some text. Then each read is that of the key's `Reader`. It keeps no
+    /// more memory than it has.
     ///
     /// # Errors
     /// `NoMatchingKey` where the stream begins under none of the keys; `ReadFault` where the source failed; those of
@@ -132,6 +135,7 @@ impl<S: Source + Drop> DecryptReader<S> {
         ensures idle { ReadsNoMore S.left S.faults self.old self.new (length buf.old) }
         ensures kept { length (kept_of self.new) ≤ room_of self.new }
         ensures room { room_of self.new ≤ room_of self.old }
+        ensures memory { memory_of self.new ≤ memory_of self.old }
         ensures later { S.faults (source_in self.old) ≤ S.faults (source_in self.new) }
         ensures same { S.same (source_in self.old) (source_in self.new) }
     {
@@ -157,6 +161,7 @@ impl<S: Source + Drop> DecryptReader<S> {
         ensures idle { ReadsNoMore S.left S.faults self.old self.new (length buf.old) }
         ensures kept { length (kept_of self.new) ≤ room_of self.new }
         ensures room { room_of self.new ≤ room_of self.old }
+        ensures memory { memory_of self.new ≤ memory_of self.old }
         ensures later { S.faults (source_in self.old) ≤ S.faults (source_in self.new) }
         ensures same { S.same (source_in self.old) (source_in self.new) }
     {
@@ -203,6 +208,7 @@ impl<S: Source + Drop> DecryptingRead for DecryptReader<S> {
         ensures idle { ReadsNoMore S.left S.faults self.old self.new (length buf.old) }
         ensures kept { length (kept_of self.new) ≤ room_of self.new }
         ensures room { room_of self.new ≤ room_of self.old }
+        ensures memory { memory_of self.new ≤ memory_of self.old }
         ensures later { S.faults (source_in self.old) ≤ S.faults (source_in self.new) }
         ensures same { S.same (source_in self.old) (source_in self.new) }
     {

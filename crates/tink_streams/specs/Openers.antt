@@ -1,5 +1,5 @@
 -- What a contract sees of readers that are handed their source at each call.
-use Rattle.std.specs.Prelude.{◌≡◌, ℕ, Bool, List, [], drop, take, vec_len}
+use Rattle.std.specs.Prelude.{◌≡◌, ℕ, ◌+◌, Bool, List, [], drop, take, vec_len, vec_capacity}
 use Rattle.std.specs.Option.{ForSome}
 use Rattle.std.specs.declared.option.Option.{Option}
 use Rattle.std.specs.Io.KnownBytes.{prepend_known}
@@ -21,6 +21,10 @@ module _ {D : Type 0} {g : Ghosts D} where
   -- the bytes that a reader holds
   abbrev pub held_bytes : SegmentReader D g → List ℕ
   held_bytes r = take r.filled r.buffer.items
+
+  -- the memory that is kept for a segment, its text and its nonce, in bytes
+  abbrev pub reader_memory : SegmentReader D g → ℕ
+  reader_memory r = vec_capacity r.buffer + vec_capacity r.opened + vec_capacity r.nonce
 
   -- the bytes that a reader holds, and those that the source still gives
   abbrev pub reader_rest : {S : Type 0} → (S → Option (List ℕ)) → SegmentReader D g → S → Option (List ℕ)
@@ -58,5 +62,6 @@ module _ {D : Type 0} {g : Ghosts D} where
     pending = pending;
     held = held_bytes r;
     room = vec_len r.buffer;
+    memory = reader_memory r;
     source = source;
   }

@@ -17,7 +17,8 @@ pub record SegmentOpening (D : Type 0) : Type 0 where
   pub size : ℕ
 
 -- a reader: how it opens segments, how far it has come, the next segment's number, the text that was opened and is not
--- yet given, the bytes that are held, how many it has room to hold, and its source
+-- yet given, the bytes that are held, how many it has room to hold, the bytes of memory that it keeps for a segment, its
+-- text and its nonce, and its source
 pub record ReaderState (R D : Type 0) : Type 0 where
   pub opening : SegmentOpening D
   pub progress : Progress
@@ -25,6 +26,7 @@ pub record ReaderState (R D : Type 0) : Type 0 where
   pub pending : List ℕ
   pub held : List ℕ
   pub room : ℕ
+  pub memory : ℕ
   pub source : R
 
 -- the segment of a text by its number and its mark

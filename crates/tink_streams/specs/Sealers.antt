@@ -1,5 +1,5 @@
 -- What a contract sees of a writer that is handed its sink at each call.
-use Rattle.std.specs.Prelude.{ℕ, Bool, List, take}
+use Rattle.std.specs.Prelude.{ℕ, ◌+◌, Bool, List, take, vec_capacity}
 use Rattle.std.specs.declared.option.Option.{Option}
 use Rattle.stream_model.specs.Cut.{numbered}
 use Rattle.tink_segment_traits.specs.declared.segment_traits.SegmentEncrypter.{Ghosts}
@@ -16,6 +16,10 @@ module _ {E : Type 0} {g : Ghosts E} where
   -- the text that is held
   abbrev pub held_text : SegmentWriter E g → List ℕ
   held_text w = take w.filled w.segment.items
+
+  -- the memory that is kept for a segment and its nonce, in bytes
+  abbrev pub writer_memory : SegmentWriter E g → ℕ
+  writer_memory w = vec_capacity w.segment + vec_capacity w.nonce
 
   -- the writer at this moment, by what the sink got and by its faults
   abbrev pub writer_moment : {K : Type 0} → (K → Option (List ℕ)) → (K → ℕ) → SegmentWriter E g → K → WriterMoment
@@ -34,5 +38,6 @@ module _ {E : Type 0} {g : Ghosts E} where
     mode = w.mode;
     number = w.segments;
     held = held_text w;
+    memory = writer_memory w;
     sink = sink;
   }

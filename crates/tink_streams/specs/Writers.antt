@@ -13,12 +13,14 @@ pub record SegmentSealing (E : Type 0) : Type 0 where
   pub first : ℕ
   pub room : ℕ
 
--- a writer: how it makes segments, whether it is open, the next segment's number, the text that is held, and its sink
+-- a writer: how it makes segments, whether it is open, the next segment's number, the text that is held, the bytes of memory
+-- that it keeps for a segment and its nonce, and its sink
 pub record WriterState (W E : Type 0) : Type 0 where
   pub sealing : SegmentSealing E
   pub mode : Mode
   pub number : ℕ
   pub held : List ℕ
+  pub memory : ℕ
   pub sink : W
 
 -- the segment of a text by its number and its mark

@@ -3,6 +3,7 @@ ghost use Rattle.tink_io.specs.declared.error.Kind.TheVariants.{OutOfMemory};
 
 use std::alloc::Global;
 use tink_io::TinkError;
+use tink_segment_traits::zeros;
 
 /// The memory of a reader: a text, a segment and a nonce.
 #[derive(Drop)]
@@ -13,20 +14,20 @@ pub struct Buffers {
 }
 
 impl Buffers {
-    /// Room for a segment of `c` bytes and one more, and for a nonce.
+    /// Room for a segment of `c` bytes and one more, for its text, and for a nonce, and no more than that.
     ///
     /// # Errors
     /// OutOfMemory.
     pub fn reserve(alloc: Global, c: u32, nonce_size: usize) -> Result<Buffers, TinkError>
         ensures text { IfOk result (λ b. (b.text.items ≡ []) × (vec_capacity b.text ≡ c + 1)) }
-        ensures sealed { IfOk result (λ b. vec_len b.sealed ≡ c + 1) }
-        ensures nonce { IfOk result (λ b. vec_len b.nonce ≡ nonce_size) }
+        ensures sealed { IfOk result (λ b. (vec_len b.sealed ≡ c + 1) × (vec_capacity b.sealed ≡ c + 1)) }
+        ensures nonce { IfOk result (λ b. (vec_len b.nonce ≡ nonce_size) × (vec_capacity b.nonce ≡ nonce_size)) }
         ensures refused { IfErr result (λ e. e ≡ record { kind = OutOfMemory }) }
     {
         let size = c as usize + 1;
         let text = Vec::with_capacity(alloc, size)?;
-        let sealed = vec![in alloc; 0u8; size]?;
-        let nonce = vec![in alloc; 0u8; nonce_size]?;
+        let sealed = zeros(alloc, size)?;
+        let nonce = zeros(alloc, nonce_size)?;
         Ok(Buffers {
             text,
             sealed,
@@ -43,17 +44,17 @@ pub struct WriterBuffers {
 }
 
 impl WriterBuffers {
-    /// Room for a segment of `c` bytes, and for a nonce.
+    /// Room for a segment of `c` bytes, and for a nonce, and no more than that.
     ///
     /// # Errors
     /// OutOfMemory.
     pub fn reserve(alloc: Global, c: u32, nonce_size: usize) -> Result<WriterBuffers, TinkError>
-        ensures segment { IfOk result (λ b. vec_len b.segment ≡ c) }
-        ensures nonce { IfOk result (λ b. vec_len b.nonce ≡ nonce_size) }
+        ensures segment { IfOk result (λ b. (vec_len b.segment ≡ c) × (vec_capacity b.segment ≡ c)) }
+        ensures nonce { IfOk result (λ b. (vec_len b.nonce ≡ nonce_size) × (vec_capacity b.nonce ≡ nonce_size)) }
         ensures refused { IfErr result (λ e. e ≡ record { kind = OutOfMemory }) }
     {
-        let segment = vec![in alloc; 0u8; c as usize]?;
-        let nonce = vec![in alloc; 0u8; nonce_size]?;
+        let segment = zeros(alloc, c as usize)?;
+        let nonce = zeros(alloc, nonce_size)?;
         Ok(WriterBuffers { segment, nonce })
     }
 }

@@ -1,4 +1,4 @@
-ghost use Rattle.std.specs.Prelude.{◌≡◌, ◌≤◌, ◌<◌, ◌+◌, ◌-◌, length, take, drop, max, OnOk, OnErr, vec_len};
+ghost use Rattle.std.specs.Prelude.{◌≡◌, ◌≤◌, ◌<◌, ◌+◌, ◌-◌, length, take, drop, max, OnOk, OnErr, vec_len, vec_capacity};
 ghost use Rattle.std.specs.Io.KnownBytes.{Keeps, IsAtEnd, prepend_known};
 ghost use Rattle.tink_io.specs.Faults.{Rose};
 ghost use Rattle.tink_io.specs.Taken.{LosesAtMost};
@@ -55,6 +55,7 @@ pub fn hold<S: Source>(
     ensures rose { OnErr result (Rose (S.faults source.old) (S.faults source.new)) }
     ensures same { S.same source.old source.new }
     ensures len { vec_len buffer.new ≡ vec_len buffer.old }
+    ensures capacity { vec_capacity buffer.new ≡ vec_capacity buffer.old }
 {
     fill(source, buffer, filled, size + 1)
 }
@@ -65,6 +66,7 @@ pub fn carry(buffer: &mut Vec<u8>, place: usize, filled: usize)
     requires filled { filled ≤ vec_len buffer.old }
     ensures bytes { take (filled - place) buffer.new.items ≡ drop place (take filled buffer.old.items) }
     ensures len { vec_len buffer.new ≡ vec_len buffer.old }
+    ensures capacity { vec_capacity buffer.new ≡ vec_capacity buffer.old }
 {
     buffer.copy_within(place..filled, 0);
 }

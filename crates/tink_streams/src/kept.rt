@@ -1,4 +1,4 @@
-ghost use Rattle.std.specs.Prelude.{◌≡◌, ◌≤◌, ◌<◌, ◌+◌, max, OnErr, vec_len};
+ghost use Rattle.std.specs.Prelude.{◌≡◌, ◌≤◌, ◌<◌, ◌+◌, max, OnErr, vec_len, vec_capacity};
 ghost use Rattle.tink_io.specs.Faults.{Rose};
 ghost use Rattle.tink_streams.specs.Opening.{HoldsOrFails};
 
@@ -27,6 +27,7 @@ impl Kept {
         ensures most { self.new.filled ≤ max self.old.filled (size + 1) }
         ensures more { self.old.filled ≤ self.new.filled }
         ensures len { vec_len self.new.buffer ≡ vec_len self.old.buffer }
+        ensures capacity { vec_capacity self.new.buffer ≡ vec_capacity self.old.buffer }
         ensures later { S.faults source.old ≤ S.faults source.new }
         ensures rose { OnErr result (Rose (S.faults source.old) (S.faults source.new)) }
         ensures same { S.same source.old source.new }

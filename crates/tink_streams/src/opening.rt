@@ -17,6 +17,18 @@ pub fn size_of<D: SegmentDecrypter>(opener: &Opener<D>, number: u64) -> usize
     }
 }
 
+// Gives `bytes` this length, whatever they are, in the memory that they have.
+fn set_length(bytes: &mut Vec<u8>, n: usize)
+    requires { n ≤ vec_capacity bytes.old }
+    ensures len { vec_len bytes.new ≡ n }
+    ensures capacity { vec_capacity bytes.new ≡ vec_capacity bytes.old }
+{
+    bytes.truncate(n);
+    while bytes.len() < n {
+        bytes.push_reserved(0);
+    }
+}
+
 // Opens a segment into `opened`, which is cleared where it is the segment of no text.
 fn open_into<D: SegmentDecrypter>(
     opener: &Opener<D>,
@@ -34,16 +46,13 @@ fn open_into<D: SegmentDecrypter>(
     ensures length { result ≡ true → vec_len opened.new + opener.now.overhead ≡ length segment.now }
     ensures refused { result ≡ false → (t : List ℕ) → segment_map opener.now number last t ≡ segment.now → ⊥ }
     ensures cleared { result ≡ false → opened.new.items ≡ [] }
-    ensures capacity { vec_capacity opened.old ≤ vec_capacity opened.new }
+    ensures capacity { vec_capacity opened.new ≡ vec_capacity opened.old }
 {
-    opened.clear();
     if segment.len() < opener.overhead {
+        opened.clear();
         return false;
     }
-    match opened.resize(segment.len() - opener.overhead, 0) {
-        Ok(()) => {}
-        Err(_) => unreachable!(),
-    }
+    set_length(opened, segment.len() - opener.overhead);
     match generate_segment_nonce(nonce, &opener.prefix, number, last) {
         Ok(()) => {}
         Err(_) => unreachable!(),
@@ -77,8 +86,9 @@ pub fn open_held<D: SegmentDecrypter>(
     ensures length { result ≡ true → vec_len opened.new + opener.now.overhead ≡ length segment.now }
     ensures refused { result ≡ false → (t : List ℕ) → segment_map opener.now number last t ≡ segment.now → ⊥ }
     ensures cleared { result ≡ false → opened.new.items ≡ [] }
-    ensures capacity { vec_capacity opened.old ≤ vec_capacity opened.new }
+    ensures capacity { vec_capacity opened.new ≡ vec_capacity opened.old }
     ensures nonce_len { vec_len nonce.new ≡ vec_len nonce.old }
+    ensures nonce_capacity { vec_capacity nonce.new ≡ vec_capacity nonce.old }
 {
     open_into(
         opener,
@@ -110,8 +120,9 @@ pub fn open_front<D: SegmentDecrypter>(
     ensures refused { result ≡ false → (t : List ℕ) → HeadOpensTo (segment_map opener.now) number
         (room_at opener.now.first opener.now.size number) held.now t → ⊥ }
     ensures cleared { result ≡ false → opened.new.items ≡ [] }
-    ensures capacity { vec_capacity opened.old ≤ vec_capacity opened.new }
+    ensures capacity { vec_capacity opened.new ≡ vec_capacity opened.old }
     ensures nonce_len { vec_len nonce.new ≡ vec_len nonce.old }
+    ensures nonce_capacity { vec_capacity nonce.new ≡ vec_capacity nonce.old }
 {
     let size = size_of(opener, number);
     let n = held.len().min(size);

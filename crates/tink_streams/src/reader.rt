@@ -80,6 +80,7 @@ impl<R: Source + Drop, D: SegmentDecrypter + Drop> Reader<R, D> {
           pending = [];
           held = [];
           room = vec_len buffers.sealed;
+          memory = vec_capacity buffers.sealed + vec_capacity buffers.text + vec_capacity buffers.nonce;
           source = params.r;
         }) }
         ensures refused { IfErr result (λ e. sizes_fault params.nonce_size
@@ -133,7 +134,7 @@ impl<R: Source + Drop, D: SegmentDecrypter + Drop> Reader<R, D> {
 
     /// Gives the next bytes of the text, as many as are opened and `buf` has room for, and answers
     /// how many. Where no opened text is left, the next segment is opened first. `Ok(0)` comes on an
-    /// empty buffer, which reads nothing, and at the end, for good. It takes no memory.
+    /// empty buffer, which reads nothing, and at the end, for good. It keeps the memory that it has.
     ///
     /// # Errors
     /// ReadFault where the source failed, TooManySegments where bytes follow the segment of number
@@ -149,6 +150,7 @@ impl<R: Source + Drop, D: SegmentDecrypter + Drop> Reader<R, D> {
             → (self.new.source ≡ self.old.source) × (self.new.held ≡ self.old.held) }
         ensures opening { self.new.opening ≡ self.old.opening }
         ensures room { self.new.room ≡ self.old.room }
+        ensures memory { self.new.memory ≡ self.old.memory }
         ensures kept { length self.new.held ≤ self.new.room }
         ensures later { R.faults self.old.source ≤ R.faults self.new.source }
         ensures same { R.same self.old.source self.new.source }
@@ -185,6 +187,7 @@ impl<R: Source + Drop, D: SegmentDecrypter + Drop> DecryptingRead for Reader<R, 
             → (self.new.source ≡ self.old.source) × (self.new.held ≡ self.old.held) }
         ensures opening { self.new.opening ≡ self.old.opening }
         ensures room { self.new.room ≡ self.old.room }
+        ensures memory { self.new.memory ≡ self.old.memory }
         ensures kept { length self.new.held ≤ self.new.room }
         ensures later { R.faults self.old.source ≤ R.faults self.new.source }
         ensures same { R.same self.old.source self.new.source }

@@ -50,7 +50,7 @@ fn progress_after(filled: usize) -> Progress
 
 impl<D: SegmentDecrypter + Drop> SegmentReader<D> {
     ghost use Rattle.tink_streams.specs.Reading.{OpenNextMeans};
-    ghost use Rattle.tink_streams.specs.Openers.{held_bytes, reader_moment, segment_map};
+    ghost use Rattle.tink_streams.specs.Openers.{held_bytes, reader_memory, reader_moment, segment_map};
 
     /// A reader that has opened nothing, and holds the first `filled` bytes of `buffers.sealed`.
     pub fn made(opener: Opener<D>, buffers: Buffers, filled: usize) -> SegmentReader<D>
@@ -63,6 +63,8 @@ impl<D: SegmentDecrypter + Drop> SegmentReader<D> {
         ensures held { held_bytes result ≡ take filled buffers.sealed.items }
         ensures room { vec_len result.buffer ≡ vec_len buffers.sealed }
         ensures opened { result.opened.items ≡ [] }
+        ensures memory { reader_memory result ≡ vec_capacity buffers.sealed + vec_capacity buffers.text + vec_capacity
+            buffers.nonce }
         ensures opener { result.opener ≡ opener }
     {
         SegmentReader {
@@ -90,6 +92,7 @@ impl<D: SegmentDecrypter + Drop> SegmentReader<D> {
             (reader_moment S.left S.faults self.new source.new) result }
         ensures opener { self.new.opener ≡ self.old.opener }
         ensures room { vec_len self.new.buffer ≡ vec_len self.old.buffer }
+        ensures memory { reader_memory self.new ≡ reader_memory self.old }
         ensures small { vec_len self.new.opened < 2 ^ 32 }
         ensures read { LosesAtMost
             (room_at self.old.opener.first self.old.opener.size self.old.segments + 1 - self.old.filled)
@@ -97,16 +100,17 @@ impl<D: SegmentDecrypter + Drop> SegmentReader<D> {
         ensures later { S.faults source.old ≤ S.faults source.new }
         ensures same { S.same source.old source.new }
     {
-        self.opened.clear();
         let size = size_of(&self.opener, self.segments);
         match hold(source, &mut self.buffer, &mut self.filled, size) {
             Ok(()) => {}
             Err(_) => {
+                self.opened.clear();
                 self.progress = Progress::Failed(Cause::ReadFault);
                 return Err(TinkError::new(Kind::ReadFault));
             }
         }
         let Ok(number) = u32::try_from(self.segments) else {
+            self.opened.clear();
             self.progress = Progress::Failed(Cause::TooManySegments);
             return Err(TinkError::new(Kind::TooManySegments));
         };

@@ -28,7 +28,7 @@ fn give(text: &[u8], buf: &mut [u8]) -> usize
 
 impl<D: SegmentDecrypter + Drop> TextReader<D> {
     ghost use Rattle.tink_streams.specs.TextReading.{IsDue, ReadMeans, ReadyMeans};
-    ghost use Rattle.tink_streams.specs.Openers.{EndsEmpty, held_bytes, segment_map, text_moment};
+    ghost use Rattle.tink_streams.specs.Openers.{EndsEmpty, held_bytes, reader_memory, segment_map, text_moment};
 
     // Opens the next segment where no opened text is left to give and more may come.
     fn make_ready<S: Source>(&mut self, source: &mut S) -> Result<(), TinkError>
@@ -43,6 +43,7 @@ impl<D: SegmentDecrypter + Drop> TextReader<D> {
             → (source.new ≡ source.old) × (held_bytes self.new.reader ≡ held_bytes self.old.reader) }
         ensures opener { self.new.reader.opener ≡ self.old.reader.opener }
         ensures room { vec_len self.new.reader.buffer ≡ vec_len self.old.reader.buffer }
+        ensures memory { reader_memory self.new.reader ≡ reader_memory self.old.reader }
         ensures later { S.faults source.old ≤ S.faults source.new }
         ensures same { S.same source.old source.new }
     {
@@ -60,7 +61,7 @@ impl<D: SegmentDecrypter + Drop> TextReader<D> {
 
     /// Gives the next bytes of the text, as many as are opened and `buf` has room for, and answers how many. Where no
     /// opened text is left, the next segment is opened first. `Ok(0)` comes on an empty buffer, which reads nothing,
-    /// and at the end, for good. No memory is taken.
+    /// and at the end, for good. The reader keeps the memory that it has.
     ///
     /// # Errors
     /// ReadFault, TooManySegments, BadSegment and Truncated where the next segment was not opened, as in
@@ -78,6 +79,7 @@ impl<D: SegmentDecrypter + Drop> TextReader<D> {
             → (source.new ≡ source.old) × (held_bytes self.new.reader ≡ held_bytes self.old.reader) }
         ensures opener { self.new.reader.opener ≡ self.old.reader.opener }
         ensures room { vec_len self.new.reader.buffer ≡ vec_len self.old.reader.buffer }
+        ensures memory { reader_memory self.new.reader ≡ reader_memory self.old.reader }
         ensures later { S.faults source.old ≤ S.faults source.new }
         ensures same { S.same source.old source.new }
     {

@@ -1,4 +1,4 @@
-ghost use Rattle.std.specs.Prelude.{◌≡◌, ◌≤◌, ◌<◌, ◌+◌, ◌-◌, [], None, Some, Ok, IfOk, IfErr, OnOk, vec_len};
+ghost use Rattle.std.specs.Prelude.{◌≡◌, ◌≤◌, ◌<◌, ◌+◌, ◌-◌, [], None, Some, Ok, IfOk, IfErr, OnOk, vec_len, vec_capacity};
 ghost use Rattle.tink_segment_traits.specs.Sizes.{sizes_fault};
 ghost use Rattle.tink_streams.specs.declared.writing.Mode.TheVariants.{Open};
 
@@ -80,6 +80,7 @@ impl<W: Sink + Drop, E: SegmentEncrypter + Drop> Writer<W, E> {
           mode = Open;
           number = 0;
           held = [];
+          memory = vec_capacity buffers.segment + vec_capacity buffers.nonce;
           sink = params.w;
         }) }
         ensures refused { IfErr result (λ e. sizes_fault params.nonce_size
@@ -125,7 +126,7 @@ impl<W: Sink + Drop, E: SegmentEncrypter + Drop> Writer<W, E> {
     }
 
     /// Takes all of `buf`: the segments of the chunks that are full and have text behind them are
-    /// written, and the last chunk is held. It takes no memory.
+    /// written, and the last chunk is held. It keeps the memory that it has.
     ///
     /// # Errors
     /// WriteFault where the sink failed, TooManySegments where a number above 2^32 - 1 is needed,
@@ -139,6 +140,7 @@ impl<W: Sink + Drop, E: SegmentEncrypter + Drop> Writer<W, E> {
         // a writer that takes no text stays as it is, and its sink too
         ensures idle { (self.old.mode ≡ Open → ⊥) → self.new ≡ self.old }
         ensures sealing { self.new.sealing ≡ self.old.sealing }
+        ensures memory { self.new.memory ≡ self.old.memory }
         // the rooms that `law_any_cutting` asks for
         ensures rooms { (0 < self.new.sealing.first) × (self.new.sealing.first ≤ self.new.sealing.room) }
         ensures later { W.faults self.old.sink ≤ W.faults self.new.sink }
@@ -156,7 +158,7 @@ impl<W: Sink + Drop, E: SegmentEncrypter + Drop> Writer<W, E> {
     }
 
     /// Writes the held text as the last segment, which is marked. A second call does nothing. It
-    /// takes no memory.
+    /// keeps the memory that it has.
     ///
     /// # Errors
     /// WriteFault where the sink failed, FailedBefore after a refusal.
@@ -166,6 +168,7 @@ impl<W: Sink + Drop, E: SegmentEncrypter + Drop> Writer<W, E> {
         // a writer that is not open stays as it is, and its sink too
         ensures idle { (self.old.mode ≡ Open → ⊥) → self.new ≡ self.old }
         ensures sealing { self.new.sealing ≡ self.old.sealing }
+        ensures memory { self.new.memory ≡ self.old.memory }
         ensures later { W.faults self.old.sink ≤ W.faults self.new.sink }
         ensures same { W.same self.old.sink self.new.sink }
     {
@@ -200,6 +203,7 @@ impl<W: Sink + Drop, E: SegmentEncrypter + Drop> EncryptingWrite for Writer<W, E
             buf.now → self.new.sink ≡ self.old.sink }
         ensures idle { (self.old.mode ≡ Open → ⊥) → self.new ≡ self.old }
         ensures sealing { self.new.sealing ≡ self.old.sealing }
+        ensures memory { self.new.memory ≡ self.old.memory }
         ensures rooms { (0 < self.new.sealing.first) × (self.new.sealing.first ≤ self.new.sealing.room) }
         ensures later { W.faults self.old.sink ≤ W.faults self.new.sink }
         ensures same { W.same self.old.sink self.new.sink }
@@ -219,6 +223,7 @@ impl<W: Sink + Drop, E: SegmentEncrypter + Drop> EncryptingWrite for Writer<W, E
             (moment_of W.got W.faults self.new) result }
         ensures idle { (self.old.mode ≡ Open → ⊥) → self.new ≡ self.old }
         ensures sealing { self.new.sealing ≡ self.old.sealing }
+        ensures memory { self.new.memory ≡ self.old.memory }
         ensures later { W.faults self.old.sink ≤ W.faults self.new.sink }
         ensures same { W.same self.old.sink self.new.sink }
     {

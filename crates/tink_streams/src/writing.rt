@@ -1,4 +1,4 @@
-ghost use Rattle.std.specs.Prelude.{◌≡◌, ◌≤◌, ◌<◌, ◌+◌, ◌-◌, ◌^◌, ◌++◌, [], false, length, take, min, vec_len};
+ghost use Rattle.std.specs.Prelude.{◌≡◌, ◌≤◌, ◌<◌, ◌+◌, ◌-◌, ◌^◌, ◌++◌, [], false, length, take, min, vec_len, vec_capacity};
 ghost use Rattle.stream_model.specs.Cut.{room_at};
 ghost use Rattle.tink_streams.specs.declared.writing.Mode.TheVariants.{Open};
 
@@ -41,7 +41,7 @@ pub struct SegmentWriter<E: SegmentEncrypter> {
 
 impl<E: SegmentEncrypter + Drop> SegmentWriter<E> {
     ghost use Rattle.tink_streams.specs.Writing.{CloseMeans, IsAllHeld, PutMeans, WriteMeans};
-    ghost use Rattle.tink_streams.specs.Sealers.{held_text, segment_map, writer_moment};
+    ghost use Rattle.tink_streams.specs.Sealers.{held_text, segment_map, writer_memory, writer_moment};
 
     /// A writer that has written nothing, of parts that fit.
     pub fn made(sealer: Sealer<E>, buffers: WriterBuffers) -> SegmentWriter<E>
@@ -50,6 +50,7 @@ impl<E: SegmentEncrypter + Drop> SegmentWriter<E> {
         ensures mode { result.mode ≡ Open }
         ensures segments { result.segments ≡ 0 }
         ensures held { held_text result ≡ [] }
+        ensures memory { writer_memory result ≡ vec_capacity buffers.segment + vec_capacity buffers.nonce }
         ensures sealer { result.sealer ≡ sealer }
     {
         SegmentWriter {
@@ -69,6 +70,7 @@ impl<E: SegmentEncrypter + Drop> SegmentWriter<E> {
         ensures filled { self.new.filled ≡ self.old.filled + result }
         ensures held { held_text self.new ≡ held_text self.old ++ take result buf.now }
         ensures sealer { self.new.sealer ≡ self.old.sealer }
+        ensures memory { writer_memory self.new ≡ writer_memory self.old }
         ensures mode { self.new.mode ≡ self.old.mode }
         ensures segments { self.new.segments ≡ self.old.segments }
     {
@@ -86,6 +88,7 @@ impl<E: SegmentEncrypter + Drop> SegmentWriter<E> {
         ensures answer { PutMeans (segment_map self.old.sealer) last (writer_moment K.got K.faults self.old sink.old)
             (writer_moment K.got K.faults self.new sink.new) result }
         ensures sealer { self.new.sealer ≡ self.old.sealer }
+        ensures memory { writer_memory self.new ≡ writer_memory self.old }
         ensures later { K.faults sink.old ≤ K.faults sink.new }
         ensures same { K.same sink.old sink.new }
     {
@@ -123,6 +126,7 @@ impl<E: SegmentEncrypter + Drop> SegmentWriter<E> {
         ensures still { IsAllHeld self.old.sealer.first self.old.sealer.room
             (writer_moment K.got K.faults self.old sink.old) buf.now → sink.new ≡ sink.old }
         ensures sealer { self.new.sealer ≡ self.old.sealer }
+        ensures memory { writer_memory self.new ≡ writer_memory self.old }
         ensures later { K.faults sink.old ≤ K.faults sink.new }
         ensures same { K.same sink.old sink.new }
     {
@@ -155,6 +159,7 @@ impl<E: SegmentEncrypter + Drop> SegmentWriter<E> {
         // a writer that takes no text, and the sink, stay as they are
         ensures idle { (self.old.mode ≡ Open → ⊥) → (self.new ≡ self.old) × (sink.new ≡ sink.old) }
         ensures sealer { self.new.sealer ≡ self.old.sealer }
+        ensures memory { writer_memory self.new ≡ writer_memory self.old }
         ensures later { K.faults sink.old ≤ K.faults sink.new }
         ensures same { K.same sink.old sink.new }
     {
@@ -175,6 +180,7 @@ impl<E: SegmentEncrypter + Drop> SegmentWriter<E> {
         // a writer that is not open, and the sink, stay as they are
         ensures idle { (self.old.mode ≡ Open → ⊥) → (self.new ≡ self.old) × (sink.new ≡ sink.old) }
         ensures sealer { self.new.sealer ≡ self.old.sealer }
+        ensures memory { writer_memory self.new ≡ writer_memory self.old }
         ensures later { K.faults sink.old ≤ K.faults sink.new }
         ensures same { K.same sink.old sink.new }
     {

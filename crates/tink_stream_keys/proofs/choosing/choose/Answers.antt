@@ -80,7 +80,9 @@ loop-key-preserved g c =
     record {
       len = called.room.len ∙ inv.len;
       nonce_len = called.room.nonce_len ∙ inv.nonce_len;
-      capacity = omega (arith, called.room.capacity, inv.capacity);
+      capacity = called.room.capacity ∙ inv.capacity;
+      kept_capacity = called.room.kept_capacity ∙ inv.kept_capacity;
+      nonce_capacity = called.room.nonce_capacity ∙ inv.nonce_capacity;
       more = omega (arith, called.room.more, inv.more);
       prefix_room = tried.room;
       rest = Keeps-trans _ _ _ inv.rest tried.rest;

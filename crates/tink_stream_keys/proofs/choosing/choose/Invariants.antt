@@ -12,7 +12,9 @@ invariant-loop-key g l =
     record {
       len : vec_len l.kept.buffer ≡ vec_len l.fn.kept.buffer;
       nonce_len : vec_len l.nonce ≡ vec_len l.fn.nonce;
-      capacity : vec_capacity l.fn.opened ≤ vec_capacity l.opened;
+      capacity : vec_capacity l.opened ≡ vec_capacity l.fn.opened;
+      kept_capacity : vec_capacity l.kept.buffer ≡ vec_capacity l.fn.kept.buffer;
+      nonce_capacity : vec_capacity l.nonce ≡ vec_capacity l.fn.nonce;
       more : l.fn.kept.filled ≤ l.kept.filled;
       prefix_room : 7 ≤ vec_capacity l.prefix;
       rest : Keeps (kept_rest source.left l.fn.kept l.fn.source) (kept_rest source.left l.kept l.source);

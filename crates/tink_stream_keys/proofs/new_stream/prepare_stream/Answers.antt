@@ -4,16 +4,16 @@ use Rattle.tink_streams.specs.Sealers.{held_text}
 use Rattle.tink_stream_keys.proofs.NewWriterSteps.{drew_header, hash_refused, prepared}
 use Rattle.tink_stream_keys.proofs.new_stream.prepare_stream.Goals as goal
 
-pub returns-in_err-cipher : goal.returns-in_err-cipher
-returns-in_err-cipher g c =
+pub returns-in_err-cipher-clause-answer : goal.returns-in_err-cipher-clause-answer
+returns-in_err-cipher-clause-answer g c =
     let p = err_from_is_err_and c.from_residual-in_err-cipher.result c.from_residual-in_err-cipher.ensures.1 in
     let k = g.T.DerivesStreams.key_of c.args.key.now in
     let d = c.in_ok-header.ensures in
     let drew = drew_header k c.args.draws.now c.draw_header.new.draws d.random_fault.1 d.rest in
     rw (p.1, p.2) (hash_refused k _ _ _ drew c.in_err-cipher.ensures)
 
-pub returns : goal.returns
-returns g c =
+pub returns-clause-answer : goal.returns-clause-answer
+returns-clause-answer g c =
     let k = g.T.DerivesStreams.key_of c.args.key.now in
     let d = c.in_ok-header.ensures in
     let n = c.header_length-size.result in

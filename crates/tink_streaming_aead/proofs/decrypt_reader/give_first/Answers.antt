@@ -58,6 +58,7 @@ returns g c =
       );
       within = tt;
       room = tt;
+      memory = tt;
       at_end = tt;
       later = omega (arith, c.start.ensures.later, c.read.ensures.later);
       same = g.met.S.Source.same_trans _ _ _ c.start.ensures.same c.read.ensures.same;

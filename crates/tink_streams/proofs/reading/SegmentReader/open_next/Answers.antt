@@ -10,7 +10,7 @@ returns-in_default-clause-answer g c =
     let self = c.args.self.now in
     let there : c.hold.new.filled ≤ length c.hold.new.buffer.items = omega (arith, c.hold.ensures.count.1, c.hold.ensures.len, c.hold.new.buffer.ok.0, self.filled_in, self.buffer_fits, c.size_of-size.ensures, size_most self.opener.first self.opener.size self.segments self.opener.first_fits) in
     rw c.new-in_default.ensures (record {
-      fails = record { failed = refl; number = refl; opened = c.clear.ensures.items; kept = c.in-Ok.ensures.held.all };
+      fails = record { failed = refl; number = refl; opened = c.clear-in_default.ensures.items; kept = c.in-Ok.ensures.held.all };
       nothing = none_numbered _ self.opener.first self.opener.size self.segments _ (omega arith);
       number = omega arith;
       more = some_left _ _ _ (take c.hold.new.filled c.hold.new.buffer.items) c.in-Ok.ensures.held

@@ -19,6 +19,7 @@ returns-in_default g c =
       idle = λ _. (refl, refl);
       opener = refl;
       room = refl;
+      memory = refl;
       later = omega arith;
       same = g.met.S.Source.same_refl _;
     }

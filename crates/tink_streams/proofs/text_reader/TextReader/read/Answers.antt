@@ -14,6 +14,7 @@ returns-then-is_empty g c =
       idle = λ _. (refl, refl);
       opener = refl;
       room = refl;
+      memory = refl;
       later = omega arith;
       same = g.met.S.Source.same_refl _;
     }
@@ -35,6 +36,7 @@ returns g c =
       idle = λ none. c.in_ok-make_ready.ensures.idle (λ d. none (due_room _ (length c.args.buf.now) some d));
       opener = c.in_ok-make_ready.ensures.opener;
       room = c.in_ok-make_ready.ensures.room;
+      memory = c.in_ok-make_ready.ensures.memory;
       later = c.in_ok-make_ready.ensures.later;
       same = c.in_ok-make_ready.ensures.same;
     }

@@ -17,6 +17,7 @@ loop-at-init g c =
       full = λ more. is_full (room self.segments) h.result self.filled h.new.self.filled c.args.buf.now h.ensures.filled h.ensures.count self.held_fits more ∙ ap room (sym h.ensures.segments);
       is_open = h.ensures.mode ∙ c.requires;
       sealer = h.ensures.sealer;
+      memory = h.ensures.memory;
       done = [];
       written = Appends-nil _;
       proceeds = proceeds_at self.sealer.first self.sealer.room self.segments _ [] self.segments _ _ _
@@ -111,6 +112,7 @@ loop-at-preserved g c =
           ∙ ap (λ s. room_at s.first s.room then.segments) (put.sealer ∙ inv.sealer) ∙ ap room (sym h.ensures.segments);
       is_open = h.ensures.mode ∙ done.mode;
       sealer = h.ensures.sealer ∙ put.sealer ∙ inv.sealer;
+      memory = h.ensures.memory ∙ put.memory ∙ inv.memory;
       done = inv.done ++ (held_text self) ∷ [];
       written = one_more (segment_map first.sealer) _ _ _ first.segments self.segments inv.done (held_text self) inv.proceeds.number inv.written (rw inv.sealer at done.appended);
       proceeds = proceeds_at first.sealer.first first.sealer.room first.segments _ (inv.done ++ (held_text self) ∷ []) (self.segments + 1) _ rest _

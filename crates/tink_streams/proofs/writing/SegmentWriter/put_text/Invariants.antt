@@ -1,7 +1,7 @@
 use Rattle.std.proofs.Common.{◌≡◌, ◌≤◌, ◌<◌, ◌-◌, ◌++◌, ℕ, List, length, drop}
 use Rattle.std.specs.Io.KnownBytes.{Appends}
 use Rattle.stream_model.specs.Cut.{room_at, unmarked}
-use Rattle.tink_streams.specs.Sealers.{held_text, segment_map}
+use Rattle.tink_streams.specs.Sealers.{held_text, segment_map, writer_memory}
 use Rattle.tink_streams.proofs.WriterSteps.{Proceeds}
 use Rattle.tink_streams.specs.declared.writing.Mode.TheVariants.{Open}
 use Rattle.tink_streams.proofs.writing.SegmentWriter.put_text.Given as goal
@@ -15,6 +15,7 @@ invariant-loop-at g l =
       full : l.at < length l.buf → l.self.filled ≡ room_at l.fn.self.sealer.first l.fn.self.sealer.room l.self.segments;
       is_open : l.self.mode ≡ Open;
       sealer : l.self.sealer ≡ l.fn.self.sealer;
+      memory : writer_memory l.self ≡ writer_memory l.fn.self;
       done : List (List ℕ);
       written : Appends (sink.got l.fn.sink) (sink.got l.sink) (unmarked (segment_map l.fn.self.sealer) l.fn.self.segments done);
       proceeds : Proceeds l.fn.self.sealer.first l.fn.self.sealer.room l.fn.self.segments (held_text l.fn.self ++ l.buf) done l.self.segments (held_text l.self ++ drop l.at l.buf);
