@@ -1,6 +1,6 @@
 -- How far an open has read its source, step by step.
 use Rattle.std.proofs.Common.{◌≡◌, inl, inr, ◌≤◌, ◌<◌, ◌+◌, ◌^◌, ℕ, zero, suc, Bool, List, [], ◌∷◌, ◌++◌, length, take, drop, map, max, refl, sym, ap, subst, ◌∙◌, arith, Some, None, IfSome, length-drop, take-append-drop}
-use Rattle.std.proofs.lemmas.List.{append-nil, length-take}
+use Rattle.std.proofs.lemmas.List.{append-nil}
 use Rattle.std.specs.declared.option.Option.{Option}
 use Rattle.std.specs.Prelude.{Result, Ok, Err}
 use Rattle.std.specs.Io.KnownBytes.{Appends, Keeps, prepend_known}
@@ -16,6 +16,7 @@ use Rattle.stream_model.specs.Key.{StreamKey}
 use Rattle.stream_model.specs.Opening.{OpeningKey, IsChosen, chunks_of, opening_key}
 use Rattle.stream_model.proofs.CutFacts.{cut_none, cut_fits, cut_more}
 use Rattle.tink_streaming_aead.specs.DecryptReaders.{largest}
+use Rattle.tink_streaming_aead.proofs.DecryptSteps.{reads_held, reads_kept, reads_more}
 use Rattle.tink_streams.specs.Choosing.{Started, StartRefused}
 use Rattle.tink_streams.specs.Reading.{ReaderMoment, TellsLeads, OpenNextRefused}
 use Rattle.tink_streams.proofs.ChosenFacts.{chunks_are}
@@ -29,21 +30,6 @@ use Rattle.tink_run.specs.OpenSteps.{FirstRefused, ReaderMeans}
 use Rattle.tink_run.proofs.OpenLemmas.{kept_nothing}
 use Rattle.tink_run.proofs.OpenSteps.{behind, leads_under, some_agrees}
 use Rattle.tink_run.proofs.ReadOut.{IsReading, any_told, front_one, lead_of, written_one}
-
--- what is held is at most what was read
-pub reads_held : (room f : ℕ) (all left : Option (List ℕ)) (items : List ℕ) → Keeps all (prepend_known (take f items) left) → f ≤ room → LosesAtMost room all left
-reads_held room f None left items kept few = ([], omega arith, tt)
-reads_held room f (Some x) None items kept few = absurd kept
-reads_held room f (Some x) (Some y) items kept few = (take f items, omega (arith, few, length-take f items), sym kept)
-
-reads_kept : (room : ℕ) (a b c : Option (List ℕ)) → Keeps a b → LosesAtMost room b c → LosesAtMost room a c
-reads_kept room None b c kept lost = ([], omega arith, tt)
-reads_kept room (Some x) None c kept lost = absurd kept
-reads_kept room (Some x) (Some y) c kept lost = subst (λ (z : List ℕ). LosesAtMost room (Some z) c) kept lost
-
--- where at most so many bytes were read, none more were
-pub reads_more : (m n : ℕ) (a b : Option (List ℕ)) → m ≤ n → LosesAtMost m a b → LosesAtMost n a b
-reads_more m n a b few lost = (lost.0, omega (arith, few, lost.1), lost.2)
 
 -- a refusal loses no byte
 refused_kept : (seg : ℕ → Bool → List ℕ → List ℕ) (a b overhead : ℕ) (m n : ReaderMoment) (kind : Kind) → OpenNextRefused seg a b overhead m n kind → Keeps m.rest n.rest

@@ -1,8 +1,10 @@
 -- From the steps of a first read to its answer.
-use Rattle.std.proofs.Common.{◌≡◌, ◌<◌, ◌≤◌, ℕ, Bool, List, [], ◌∷◌, length, map, take, drop, Result, refl, ap, subst, ◌∙◌, arith, Some, None, IfSome}
+use Rattle.std.proofs.Common.{◌≡◌, ◌<◌, ◌≤◌, ◌+◌, ℕ, Bool, List, [], ◌∷◌, ◌++◌, length, map, take, drop, Result, refl, sym, ap, subst, ◌∙◌, arith, Some, None, IfSome, append_assoc, length-append, length-drop, take-append-drop}
+use Rattle.std.proofs.lemmas.List.{length-take}
 use Rattle.std.specs.declared.option.Option.{Option}
-use Rattle.std.specs.Io.KnownBytes.{prepend_known}
-use Rattle.std.proofs.KnownBytes.{prepend_known-nil}
+use Rattle.std.specs.Io.KnownBytes.{Keeps, prepend_known}
+use Rattle.std.proofs.KnownBytes.{Keeps-refl, prepend_known-nil}
+use Rattle.tink_io.specs.Taken.{LosesAtMost}
 use Rattle.tink_io.proofs.FaultLemmas.{Rose-earlier}
 use Rattle.tink_io.specs.declared.error.Kind.{Kind}
 use Rattle.tink_io.specs.declared.error.TinkError.{TinkError}
@@ -72,6 +74,57 @@ first_refused ks all rest seg a b overhead before faults room n (BadSegment m) s
 first_refused ks all rest seg a b overhead before faults room n (Truncated m) s later r = never_nothing ks all rest seg a b overhead s r.1.nothing
 first_refused ks all rest seg a b overhead before faults room n (FailedBefore c) s later r = absurd (let e = r.0 in cc)
 first_refused ks all rest seg a b overhead before faults room n _ s later r = absurd r
+
+-- what is held is at most what was read
+pub reads_held : (room f : ℕ) (all left : Option (List ℕ)) (items : List ℕ) → Keeps all (prepend_known (take f items) left) → f ≤ room → LosesAtMost room all left
+reads_held room f None left items kept few = ([], omega arith, tt)
+reads_held room f (Some x) None items kept few = absurd kept
+reads_held room f (Some x) (Some y) items kept few = (take f items, omega (arith, few, length-take f items), sym kept)
+
+pub reads_kept : (room : ℕ) (a b c : Option (List ℕ)) → Keeps a b → LosesAtMost room b c → LosesAtMost room a c
+reads_kept room None b c kept lost = ([], omega arith, tt)
+reads_kept room (Some x) None c kept lost = absurd kept
+reads_kept room (Some x) (Some y) c kept lost = subst (λ (z : List ℕ). LosesAtMost room (Some z) c) kept lost
+
+-- where at most so many bytes were read, none more were
+pub reads_more : (m n : ℕ) (a b : Option (List ℕ)) → m ≤ n → LosesAtMost m a b → LosesAtMost n a b
+reads_more m n a b few lost = (lost.0, omega (arith, few, lost.1), lost.2)
+
+-- a front was read and then bytes behind it
+reads_behind : (room front : ℕ) (X M Y f g held : List ℕ) → length f ≤ room → X ≡ f ++ M → drop front X ≡ held ++ M → length g ≤ room → drop front X ≡ g ++ Y
+    → LosesAtMost (room + room) (Some X) (Some Y)
+reads_behind room front X M Y f g held few read kept more behind = (
+  take front X ++ g,
+  omega (arith, few, more, ap length read, length-append f M, ap length kept, length-append held M, length-drop front X, length-append (take front X) g, length-take front X),
+  sym (take-append-drop front X) ∙ ap (λ z. take front X ++ z) behind ∙ sym (append_assoc (take front X) g Y),
+)
+
+-- a start has read no more than has room, and behind the front no more was read than has room
+pub reads_twice : (room : ℕ) (ks : List OpeningKey) (all mid left : Option (List ℕ)) (held : List ℕ) (seg : ℕ → Bool → List ℕ → List ℕ) (a b over : ℕ)
+    → IfSome all (λ X. Started ks X (prepend_known held mid) seg a b over) → LosesAtMost room all mid → LosesAtMost room (prepend_known held mid) left
+    → LosesAtMost (room + room) all left
+reads_twice room ks None mid left held seg a b over s lost behind = ([], omega arith, tt)
+reads_twice room ks (Some X) None left held seg a b over s lost behind = absurd lost.2
+reads_twice room ks (Some X) (Some M) None held seg a b over s lost behind = absurd behind.2
+reads_twice room ks (Some X) (Some M) (Some Y) held seg a b over s lost behind =
+    let rest = s.rest in
+    let same : held ++ M ≡ drop s.front X = cc in
+    reads_behind room s.front X M Y lost.0 behind.0 held lost.1 lost.2 (sym same) behind.1 (sym same ∙ behind.2)
+
+-- a refusal of a read loses no byte
+refused_keeps : (seg : ℕ → Bool → List ℕ → List ℕ) (a b overhead : ℕ) (m n : TextMoment) (room : ℕ) (kind : Kind) → ReadRefused seg a b overhead m n room kind → Keeps m.rest n.rest
+refused_keeps seg a b overhead m n room ReadFault r = r.1.fails.kept
+refused_keeps seg a b overhead m n room TooManySegments r = r.1.fails.kept
+refused_keeps seg a b overhead m n room (BadSegment i) r = r.1.fails.kept
+refused_keeps seg a b overhead m n room (Truncated i) r = r.1.fails.kept
+refused_keeps seg a b overhead m n room (FailedBefore c) r = subst (λ (x : TextMoment). Keeps m.rest x.rest) (sym r.1) (Keeps-refl m.rest)
+refused_keeps seg a b overhead m n room _ r = absurd r
+
+-- so at most what is held was read
+pub refused_reads : (most f : ℕ) (seg : ℕ → Bool → List ℕ → List ℕ) (a b overhead : ℕ) (m n : TextMoment) (room : ℕ) (kind : Kind) (items : List ℕ) (left : Option (List ℕ))
+    → n.rest ≡ prepend_known (take f items) left → f ≤ most → ReadRefused seg a b overhead m n room kind → LosesAtMost most m.rest left
+refused_reads most f seg a b overhead m n room kind items left rest few r =
+    reads_kept most m.rest n.rest left (refused_keeps seg a b overhead m n room kind r) (reads_held most f n.rest left items (subst (Keeps n.rest) rest (Keeps-refl n.rest)) few)
 
 -- a moment of a reader that has opened nothing
 fresh_moment : (P : TextMoment → Type 0) (m : TextMoment) → m.progress ≡ Running → m.number ≡ 0 → m.pending ≡ [] → P m → P (record { progress = Running; number = 0; pending = []; rest = m.rest; faults = m.faults })

@@ -2,6 +2,7 @@
 use Rattle.std.specs.Prelude.{◌≡◌, ◌+◌, ℕ, Bool, List, [], ◌∷◌, length, map, max, All, Result, Ok, Err, IfSome, None}
 use Rattle.std.specs.declared.option.Option.{Option}
 use Rattle.tink_io.specs.Faults.{Rose}
+use Rattle.tink_io.specs.Taken.{LosesAtMost}
 use Rattle.tink_io.specs.declared.error.Cause.{Cause}
 use Rattle.tink_io.specs.declared.error.Cause.TheVariants as cause
 use Rattle.tink_io.specs.declared.error.Kind.{Kind}
@@ -119,6 +120,11 @@ module _ {S : Type 0} (left : S → Option (List ℕ)) (faults : S → ℕ) wher
   DecryptMeans (Unread keys aad room source) new (b ∷ before) after r = FirstReadMeans (map (opening_key aad) keys) source new (b ∷ before) after r
   DecryptMeans (Chosen old) new before after r = ChosenReadMeans old new before after r
   DecryptMeans (Stopped c source) new before after r = (r ≡ Err (record { kind = FailedBefore c })) × (new ≡ Stopped c source) × (after ≡ before)
+
+-- where the first read was refused, no more of the source was read than twice what has room
+abbrev pub TakesAtMost : {S : Type 0} → (S → Option (List ℕ)) → DecryptState S → DecryptState S → Type 0
+TakesAtMost left (Unread keys aad room source) (Stopped c now) = LosesAtMost (room + room) (left source) (left now)
+TakesAtMost left _ _ = Unit {0}
 
 -- a reader of these keys that has read nothing, with room for a byte more than the most that one of them has of its output
 -- prefix and a segment

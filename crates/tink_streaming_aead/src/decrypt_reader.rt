@@ -1,9 +1,10 @@
 //! Readers of a keyset's streams.
 
-ghost use Rattle.std.specs.Prelude.{◌≡◌, ◌≤◌, ◌<◌, ◌+◌, [], length, map, All, IfOk, MatchResult, vec_len, vec_capacity};
+ghost use Rattle.std.specs.Prelude.{◌≡◌, ◌≤◌, ◌<◌, ◌+◌, [], length, map, All, IfOk, OnErr, MatchResult, vec_len, vec_capacity};
 ghost use Rattle.stream_model.specs.Key.{nonce_size};
 ghost use Rattle.stream_model.specs.Opening.{opening_key};
-ghost use Rattle.tink_streaming_aead.specs.DecryptReaders.{DecryptMeans, FirstReadRefused, GivesFirst, IsUnread, cause_of, first_refusal, kept_of, memory_for, memory_of, number_of, room_of, source_in, ReadsNoMore};
+ghost use Rattle.tink_io.specs.Taken.{LosesAtMost};
+ghost use Rattle.tink_streaming_aead.specs.DecryptReaders.{DecryptMeans, FirstReadRefused, GivesFirst, IsUnread, cause_of, first_refusal, kept_of, memory_for, memory_of, number_of, room_of, source_in, ReadsNoMore, TakesAtMost};
 ghost use Rattle.tink_streaming_aead.specs.DecryptReaders.DecryptState.{Unread};
 ghost use Rattle.tink_stream_keys.specs.Memory.{trial_memory};
 ghost use Rattle.tink_stream_keys.specs.StreamKinds.{key_in_set};
@@ -75,6 +76,8 @@ fn give_first<S: Source>(
     ensures within { IfOk result (λ given. given.1 ≤ length buf.new) }
     ensures room { IfOk result (λ given. vec_len given.0.reader.buffer ≡ vec_len choice.trial.kept.buffer) }
     ensures memory { IfOk result (λ given. reader_memory given.0.reader ≡ trial_memory choice.trial) }
+    ensures read { OnErr result (LosesAtMost (vec_len choice.trial.kept.buffer + vec_len choice.trial.kept.buffer)
+        (S.left source.old) (S.left source.new)) }
     ensures at_end { IfOk result (λ given. EndsEmpty S.left given.0.reader source.new) }
     ensures later { S.faults source.old ≤ S.faults source.new }
     ensures same { S.same source.old source.new }
@@ -133,6 +136,7 @@ impl<S: Source + Drop> DecryptReader<S> {
         ensures answer { DecryptMeans S.left S.faults self.old self.new buf.old buf.new result }
         ensures within { IfOk result (λ n. n ≤ length buf.new) }
         ensures idle { ReadsNoMore S.left S.faults self.old self.new (length buf.old) }
+        ensures taken { TakesAtMost S.left self.old self.new }
         ensures kept { length (kept_of self.new) ≤ room_of self.new }
         ensures room { room_of self.new ≤ room_of self.old }
         ensures memory { memory_of self.new ≤ memory_of self.old }
@@ -159,6 +163,7 @@ impl<S: Source + Drop> DecryptReader<S> {
         ensures answer { DecryptMeans S.left S.faults self.old self.new buf.old buf.new result }
         ensures within { IfOk result (λ n. n ≤ length buf.new) }
         ensures idle { ReadsNoMore S.left S.faults self.old self.new (length buf.old) }
+        ensures taken { TakesAtMost S.left self.old self.new }
         ensures kept { length (kept_of self.new) ≤ room_of self.new }
         ensures room { room_of self.new ≤ room_of self.old }
         ensures memory { memory_of self.new ≤ memory_of self.old }
@@ -206,6 +211,7 @@ impl<S: Source + Drop> DecryptingRead for DecryptReader<S> {
         ensures bound { ReadsAtMost result buf.new }
         ensures answer { DecryptMeans S.left S.faults self.old self.new buf.old buf.new result }
         ensures idle { ReadsNoMore S.left S.faults self.old self.new (length buf.old) }
+        ensures taken { TakesAtMost S.left self.old self.new }
         ensures kept { length (kept_of self.new) ≤ room_of self.new }
         ensures room { room_of self.new ≤ room_of self.old }
         ensures memory { memory_of self.new ≤ memory_of self.old }

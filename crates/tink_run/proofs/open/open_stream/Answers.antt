@@ -4,7 +4,8 @@ use Rattle.std.proofs.lemmas.Result.{err_from_is_err_and}
 use Rattle.std.specs.Io.KnownBytes.{prepend_known}
 use Rattle.tink_streams.specs.Reading.{ReaderMoment}
 use Rattle.tink_run.proofs.ReadOut.{reading_first, reading_next, read_out, write_failed, next_refused, next_wrote, first_refused}
-use Rattle.tink_run.proofs.ReadsSteps.{first_reads, next_reads, reads_held, write_reads}
+use Rattle.tink_streaming_aead.proofs.DecryptSteps.{reads_held}
+use Rattle.tink_run.proofs.ReadsSteps.{first_reads, next_reads, write_reads}
 use Rattle.tink_run.proofs.open.open_stream.Goals as goal
 
 pub returns-in_err-open_first-clause-answer : goal.returns-in_err-open_first-clause-answer

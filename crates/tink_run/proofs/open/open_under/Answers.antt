@@ -7,7 +7,8 @@ use Rattle.tink_streams.proofs.ReadingFacts.{numbered_longer}
 use Rattle.tink_segments.specs.StreamSegments.{length-segment_by, segment_by}
 use Rattle.tink_run.specs.Outside.{Outside}
 use Rattle.tink_run.proofs.OpenSteps.{unread, start_refused, means_under}
-use Rattle.tink_run.proofs.ReadsSteps.{reads_more, reads_under, start_reads}
+use Rattle.tink_streaming_aead.proofs.DecryptSteps.{reads_more}
+use Rattle.tink_run.proofs.ReadsSteps.{reads_under, start_reads}
 use Rattle.tink_run.proofs.open.open_under.Goals as goal
 
 pub returns-in_err-reader-clause-answer : goal.returns-in_err-reader-clause-answer

@@ -1,11 +1,11 @@
-use Rattle.std.proofs.Common.{◌≡◌, ℕ, Bool, List, length, map, refl, sym, arith}
+use Rattle.std.proofs.Common.{◌≡◌, ℕ, Bool, List, length, map, refl, sym, arith, vec_len}
 use Rattle.std.proofs.lemmas.Result.{err_from_is_err_and}
 use Rattle.std.proofs.lemmas.Simd.{map-map}
 use Rattle.stream_model.specs.Opening.{opening_key}
 use Rattle.tink_stream_keys.specs.StreamKinds.{key_in_set}
-use Rattle.tink_streams.specs.Openers.{segment_map, text_moment}
+use Rattle.tink_streams.specs.Openers.{held_bytes, segment_map, text_moment}
 use Rattle.tink_streams.specs.TextReading.{TextMoment, ReadRefused}
-use Rattle.tink_streaming_aead.proofs.DecryptSteps.{first_moment, first_refused, fresh_gives, fresh_refused, start_refused, unread}
+use Rattle.tink_streaming_aead.proofs.DecryptSteps.{first_moment, first_refused, fresh_gives, fresh_refused, reads_more, reads_twice, refused_reads, start_refused, unread}
 use Rattle.tink_streaming_aead.proofs.decrypt_reader.give_first.Goals as goal
 
 pub returns-in_err-reader-clause-answer : goal.returns-in_err-reader-clause-answer
@@ -49,6 +49,7 @@ returns g c =
     let m : TextMoment = first_moment g.S.Source.left g.S.Source.faults reader c.start.new.source in
     let n : TextMoment = text_moment g.S.Source.left g.S.Source.faults c.read.new.self c.read.new.source in
     let kind = c.in-Err.e.kind in
+    let room : ℕ = vec_len choice.trial.kept.buffer in
     let refused : ReadRefused seg o.first o.size o.overhead m n (length c.args.buf.now) kind = c.in-Err.ensures.answer.1 in
     record {
       answer = (
@@ -59,6 +60,10 @@ returns g c =
       within = tt;
       room = tt;
       memory = tt;
+      read = reads_twice room _ (g.S.Source.left c.args.source.now) (g.S.Source.left c.start.new.source) (g.S.Source.left c.read.new.source) (held_bytes reader) seg o.first o.size o.overhead (rw keys at started)
+          (reads_more _ _ _ _ (omega arith) c.start.ensures.read)
+          (refused_reads room c.read.new.self.reader.filled seg o.first o.size o.overhead m n (length c.args.buf.now) kind c.read.new.self.reader.buffer.items (g.S.Source.left c.read.new.source) refl
+          (omega (arith, c.read.new.self.reader.filled_in, c.read.ensures.room, fresh.3)) refused);
       at_end = tt;
       later = omega (arith, c.start.ensures.later, c.read.ensures.later);
       same = g.met.S.Source.same_trans _ _ _ c.start.ensures.same c.read.ensures.same;

@@ -1,9 +1,9 @@
 use Rattle.std.proofs.Common.{Ok, ap, map, subst, sym, vec_len, ◌∙◌}
 use Rattle.tink_stream_keys.specs.StreamKinds.{key_in_set}
-use Rattle.tink_streaming_aead.specs.DecryptReaders.{DecryptMeans, DecryptState}
+use Rattle.tink_streaming_aead.specs.DecryptReaders.{DecryptMeans, DecryptState, TakesAtMost}
 use Rattle.tink_streaming_aead.specs.DecryptStages.{state_of}
 use Rattle.tink_streaming_aead.specs.declared.decrypt_reader.Stage.{Stage}
-use Rattle.tink_streaming_aead.specs.declared.decrypt_reader.Stage.TheVariants.{Chosen}
+use Rattle.tink_streaming_aead.specs.declared.decrypt_reader.Stage.TheVariants.{Chosen, Stopped}
 use Rattle.tink_streaming_aead.proofs.DecryptSteps.{first_read}
 use Rattle.tink_streaming_aead.proofs.decrypt_reader.DecryptReader.read_first.Goals as goal
 
@@ -16,3 +16,10 @@ returns-in-Ok-clause-answer g c =
     subst (λ (s : DecryptState g.row.S.Denot). DecryptMeans left faults s new c.args.buf.now c.give_first.new.buf (Ok c.in-Ok.n))
     (ap (λ (st : Stage). state_of st c.self.inside.source) (sym c.in-Unread.is ∙ c.replace-stage.ensures.value) ∙ c.self.view_is)
     (first_read left faults (map key_in_set choice.keys.items) choice.data.items (vec_len choice.trial.kept.buffer) c.self.inside.source new c.args.buf.now c.give_first.new.buf (Ok c.in-Ok.n) c.requires.some c.in-Ok.ensures.answer)
+
+pub returns-in-Err-clause-taken : goal.returns-in-Err-clause-taken
+returns-in-Err-clause-taken g c =
+    let left = g.S.Source.left in
+    let new : DecryptState g.row.S.Denot = state_of (Stopped c.cause_of.result) c.give_first.new.source in
+    subst (λ (s : DecryptState g.row.S.Denot). TakesAtMost left s new)
+    (ap (λ (st : Stage). state_of st c.self.inside.source) (sym c.in-Unread.is ∙ c.replace-stage.ensures.value) ∙ c.self.view_is) c.in-Err.ensures.read
