@@ -73,9 +73,9 @@ abbrev pub source_of : {R : Type 0} → Result (ReaderState R StreamSegment) (Re
 source_of (Ok r) = r.source
 source_of (Err refused) = refused.inner
 
--- the memory for a segment of a key and a byte more, for its text, and for its nonce, in bytes
+-- the memory for a segment of a key and a byte more, its text, its nonce and the prefix of nonces, in bytes
 abbrev pub reader_room : StreamKey → ℕ
-reader_room k = (k.segment + 1) + (k.segment + 1) + nonce_size k
+reader_room k = (k.segment + 1) + (k.segment + 1) + nonce_size k + 7
 
 -- a call for a new reader of a source: what it answers, that the source's count of faults does not fall, what it keeps of
 -- the source, and the memory that the reader has

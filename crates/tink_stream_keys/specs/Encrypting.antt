@@ -80,11 +80,15 @@ abbrev pub sink_of : {W : Type 0} → Result (WriterState W StreamSegment) (Refu
 sink_of (Ok w) = w.sink
 sink_of (Err refused) = refused.inner
 
+-- the memory for a segment of a key, its nonce and the prefix of nonces, in bytes
+abbrev pub writer_room : StreamKey → ℕ
+writer_room k = k.segment + nonce_size k + 7
+
 -- a call for a new writer into a sink: what it answers, that the sink's count of faults does not fall, what it keeps of the
--- sink and of the draws, and that the writer has memory for a segment and its nonce
+-- sink and of the draws, and the memory that the writer has
 pub record StartsWriter {W : Type 0} (got : W → Option (List ℕ)) (faults : W → ℕ) (same : W → W → Type 0) (k : StreamKey) (aad draws left : List ℕ) (sink : W) (result : Result (WriterState W StreamSegment) (Refused W)) : Type 0 where
   pub means : NewWriterMeans got faults k aad draws left sink result
   pub later : faults sink ≤ faults (sink_of result)
   pub kept : same sink (sink_of result)
-  pub memory : IfOk result (λ w. w.memory ≡ k.segment + nonce_size k)
+  pub memory : IfOk result (λ w. w.memory ≡ writer_room k)
   pub ends : IsEndOf left draws

@@ -2,6 +2,6 @@
 use Rattle.std.specs.Prelude.{ℕ, ◌+◌, vec_capacity}
 use Rattle.tink_stream_keys.specs.declared.starting.Trial.{Trial}
 
--- that for a segment, its text and its nonce, in bytes
+-- that for a segment, its text, its nonce and the prefix of nonces, in bytes
 abbrev pub trial_memory : Trial → ℕ
-trial_memory t = vec_capacity t.kept.buffer + vec_capacity t.opened + vec_capacity t.nonce
+trial_memory t = vec_capacity t.kept.buffer + vec_capacity t.opened + vec_capacity t.nonce + vec_capacity t.prefix

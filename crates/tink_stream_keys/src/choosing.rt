@@ -1,4 +1,4 @@
-ghost use Rattle.std.specs.Prelude.{◌≡◌, ◌≤◌, ◌<◌, ◌+◌, ◌-◌, length, map, All, IfOk, OnErr, vec_len, vec_capacity};
+ghost use Rattle.std.specs.Prelude.{◌≡◌, ◌≤◌, ◌<◌, ◌+◌, ◌-◌, length, map, All, IfOk, IfSome, OnErr, vec_len, vec_capacity};
 ghost use Rattle.stream_model.specs.Key.{nonce_size};
 ghost use Rattle.stream_model.specs.Opening.{opening_key};
 ghost use Rattle.tink_io.specs.Taken.{LosesAtMost};
@@ -35,6 +35,7 @@ pub fn choose<S: Source, T: DerivesStreams>(
         (kept_rest S.left kept.new source.new) (S.faults source.old) (S.faults source.new)) }
     ensures read { LosesAtMost (vec_len kept.old.buffer - kept.old.filled) (S.left source.old) (S.left source.new) }
     ensures room { KeepsRoom kept.old kept.new nonce.old nonce.new opened.old opened.new }
+    ensures prefix { IfOk result (λ chosen. IfSome chosen (λ b. vec_capacity b.opener.prefix ≡ vec_capacity prefix)) }
     ensures later { S.faults source.old ≤ S.faults source.new }
     ensures same { S.same source.old source.new }
 {

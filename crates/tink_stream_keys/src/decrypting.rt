@@ -16,7 +16,7 @@ use std::alloc::Global;
 use tink_io::{Kind, Source, TinkError};
 use tink_primitives::Refused;
 use tink_segments::StreamSegment;
-use tink_streams::{Opener, Reader, SegmentReader, fill};
+use tink_streams::{Opener, Reader, SegmentReader, fill, refill};
 
 // Reads a header of the key, in front of zeros.
 fn read_header<T: DerivesStreams, S: Source>(
@@ -58,14 +58,10 @@ pub fn opener_of<T: DerivesStreams>(
     requires prefix { 7 ≤ vec_capacity prefix }
     ensures decrypter { result.decrypter ≡ cipher }
     ensures prefix { result.prefix.items ≡ drop ((T.key_of key.now).derived + 1) header.now }
-    ensures room { 7 ≤ vec_capacity result.prefix }
+    ensures room { vec_capacity result.prefix ≡ vec_capacity prefix }
     ensures sizes { HasKeySizes (T.key_of key.now) result.nonce_size result.overhead result.first result.size }
 {
-    prefix.clear();
-    match prefix.extend_from_slice(&header[header.len() - PREFIX..]) {
-        Ok(()) => {}
-        Err(_) => unreachable!(),
-    }
+    refill(&mut prefix, &header[header.len() - PREFIX..]);
     Opener {
         decrypter: cipher,
         prefix,

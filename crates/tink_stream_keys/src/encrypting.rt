@@ -1,10 +1,9 @@
 //! New streams under a key.
 
-ghost use Rattle.std.specs.Prelude.{◌≡◌, ◌≤◌, ◌+◌, IfOk, MatchResult};
+ghost use Rattle.std.specs.Prelude.{◌≡◌, ◌≤◌, IfOk, MatchResult};
 ghost use Rattle.stream_model.specs.Cut.{numbered};
-ghost use Rattle.stream_model.specs.Key.{nonce_size};
 ghost use Rattle.tink_primitives.specs.Meaning.{IsEndOf};
-ghost use Rattle.tink_stream_keys.specs.Encrypting.{IsNewStream, NewWriterMeans, NewWriterRefused, sink_of};
+ghost use Rattle.tink_stream_keys.specs.Encrypting.{IsNewStream, NewWriterMeans, NewWriterRefused, sink_of, writer_room};
 ghost use Rattle.tink_segments.specs.StreamSegments.{segment_by};
 ghost use Rattle.tink_streams.specs.Sealers.{held_text, writer_memory};
 ghost use Rattle.tink_streams.specs.Writing.{WriterMoment};
@@ -45,7 +44,7 @@ pub fn begin_stream<T: DerivesStreams, K: Sink>(
               sink.new;
         }))
         (λ e. NewWriterRefused K.got K.faults (T.key_of key.now) aad.now draws.old draws.new sink.old sink.new e.kind) }
-    ensures memory { IfOk result (λ w. writer_memory w ≡ (T.key_of key.now).segment + nonce_size (T.key_of key.now)) }
+    ensures memory { IfOk result (λ w. writer_memory w ≡ writer_room (T.key_of key.now)) }
     ensures later { K.faults sink.old ≤ K.faults sink.new }
     ensures same { K.same sink.old sink.new }
 {
@@ -68,7 +67,7 @@ pub fn new_encrypting_writer<T: DerivesStreams, K: Sink + Drop>(
     ensures answer { NewWriterMeans K.got K.faults (T.key_of key.now) aad.now draws.old draws.new w result }
     ensures later { K.faults w ≤ K.faults (sink_of result) }
     ensures same { K.same w (sink_of result) }
-    ensures memory { IfOk result (λ w. w.memory ≡ (T.key_of key.now).segment + nonce_size (T.key_of key.now)) }
+    ensures memory { IfOk result (λ w. w.memory ≡ writer_room (T.key_of key.now)) }
     ensures ends { IsEndOf draws.new draws.old }
 {
     let mut sink = w;

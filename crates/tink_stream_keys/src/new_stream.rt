@@ -8,6 +8,7 @@ ghost use Rattle.stream_model.specs.Sealing.{drawn};
 ghost use Rattle.tink_io.specs.declared.error.Kind.TheVariants.{OutOfMemory, RandomFault, WriteFault};
 ghost use Rattle.tink_io.specs.Faults.{Rose};
 ghost use Rattle.tink_io.specs.Written.{AppendsPrefix};
+ghost use Rattle.tink_stream_keys.specs.Encrypting.{writer_room};
 ghost use Rattle.tink_stream_keys.specs.NewStreams.{IsPrepared, NotPrepared};
 ghost use Rattle.tink_segments.specs.StreamSegments.{nonce_length_by, overhead_by, segment_by};
 ghost use Rattle.tink_streams.specs.Sealers.{held_text, writer_memory};
@@ -18,7 +19,7 @@ use std::alloc::Global;
 use std::marker::Model;
 use tink_io::{Draws, Sink, TinkError, write_all};
 use tink_segments::StreamSegment;
-use tink_streams::{Sealer, SegmentWriter};
+use tink_streams::{Sealer, SegmentWriter, refill};
 
 /// What stands before the segments of a new stream: the output prefix of its key, and its header.
 ///
@@ -98,14 +99,11 @@ fn sealer_of<T: DerivesStreams>(
     ensures overhead { result.overhead ≡ overhead (T.key_of key.now) }
     ensures first { result.first ≡ first_room (T.key_of key.now) }
     ensures room { result.room ≡ room (T.key_of key.now) }
+    ensures capacity { vec_capacity result.prefix ≡ vec_capacity prefix }
 {
     let overhead = key.overhead();
     let room = key.segment_size() as usize - overhead;
-    prefix.clear();
-    match prefix.extend_from_slice(&header[header.len() - PREFIX..]) {
-        Ok(()) => {}
-        Err(_) => unreachable!(),
-    }
+    refill(&mut prefix, &header[header.len() - PREFIX..]);
     Sealer {
         encrypter: cipher,
         prefix,
@@ -136,8 +134,7 @@ pub fn prepare_stream<'a, T: DerivesStreams>(
         s.writer.sealer.prefix.items) s.writer.sealer.first s.writer.sealer.room s.writer.mode
         s.writer.segments (held_text s.writer))
         (λ e. NotPrepared (T.key_of key.now) draws.old draws.new e.kind) }
-    ensures memory { IfOk result (λ s. writer_memory s.writer ≡ (T.key_of key.now).segment + nonce_size
-        (T.key_of key.now)) }
+    ensures memory { IfOk result (λ s. writer_memory s.writer ≡ writer_room (T.key_of key.now)) }
 {
     let memory = WriterMemory::reserve(alloc, key)?;
     let header = draw_header(key, draws)?;

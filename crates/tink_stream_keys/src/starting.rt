@@ -29,8 +29,8 @@ pub struct Trial {
 }
 
 impl Trial {
-    /// Memory for keys whose output prefix and segment have fewer bytes than `room`, for a text of as many, and for
-    /// nonces of so many, and no more than that.
+    /// Memory for keys whose output prefix and segment have fewer bytes than `room`, for a text of as many, for
+    /// nonces of so many and their prefix of seven, and no more than that.
     ///
     /// # Errors
     /// `OutOfMemory`.
@@ -39,8 +39,8 @@ impl Trial {
         ensures buffer { IfOk result (λ t. vec_len t.kept.buffer ≡ room) }
         ensures opened { IfOk result (λ t. vec_capacity t.opened ≡ room) }
         ensures nonce { IfOk result (λ t. vec_len t.nonce ≡ nonce) }
-        ensures memory { IfOk result (λ t. trial_memory t ≡ room + room + nonce) }
-        ensures prefix { IfOk result (λ t. 7 ≤ vec_capacity t.prefix) }
+        ensures memory { IfOk result (λ t. trial_memory t ≡ room + room + nonce + 7) }
+        ensures prefix { IfOk result (λ t. vec_capacity t.prefix ≡ 7) }
         ensures refused { IfErr result (λ e. e ≡ record { kind = OutOfMemory }) }
     {
         let opened = Vec::with_capacity(alloc, room)?;

@@ -29,7 +29,7 @@ impl ReaderMemory {
             × (vec_capacity m.buffers.sealed ≡ (T.key_of key.now).segment + 1)) }
         ensures nonce { IfOk result (λ m. (vec_len m.buffers.nonce ≡ nonce_size (T.key_of key.now))
             × (vec_capacity m.buffers.nonce ≡ nonce_size (T.key_of key.now))) }
-        ensures prefix { IfOk result (λ m. 7 ≤ vec_capacity m.prefix) }
+        ensures prefix { IfOk result (λ m. vec_capacity m.prefix ≡ 7) }
         ensures refused { IfErr result (λ e. e ≡ record { kind = OutOfMemory }) }
     {
         let buffers = Buffers::reserve(alloc, key.segment_size(), key.nonce_size())?;
@@ -52,7 +52,7 @@ impl WriterMemory {
             × (vec_capacity m.buffers.segment ≡ (T.key_of key.now).segment)) }
         ensures nonce { IfOk result (λ m. (vec_len m.buffers.nonce ≡ nonce_size (T.key_of key.now))
             × (vec_capacity m.buffers.nonce ≡ nonce_size (T.key_of key.now))) }
-        ensures prefix { IfOk result (λ m. 7 ≤ vec_capacity m.prefix) }
+        ensures prefix { IfOk result (λ m. vec_capacity m.prefix ≡ 7) }
         ensures refused { IfErr result (λ e. e ≡ record { kind = OutOfMemory }) }
     {
         let buffers = WriterBuffers::reserve(alloc, key.segment_size(), key.nonce_size())?;

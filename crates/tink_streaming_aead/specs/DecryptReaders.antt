@@ -48,11 +48,11 @@ room_of (Unread keys aad room source) = room
 room_of (Chosen r) = r.room
 room_of (Stopped c source) = 0
 
--- the memory for so many bytes, for a text of as many, and for a nonce of the longest, in bytes
+-- the memory for so many bytes, for a text of as many, for a nonce of the longest and for the prefix of nonces, in bytes
 abbrev pub memory_for : ℕ → ℕ
-memory_for room = room + room + 16
+memory_for room = room + room + 16 + 7
 
--- the memory that is kept for a segment, its text and its nonce, in bytes
+-- the memory that is kept for a segment, its text, its nonce and the prefix of nonces, in bytes
 abbrev pub memory_of : {S : Type 0} → DecryptState S → ℕ
 memory_of (Unread keys aad room source) = memory_for room
 memory_of (Chosen r) = r.memory

@@ -22,9 +22,9 @@ module _ {D : Type 0} {g : Ghosts D} where
   abbrev pub held_bytes : SegmentReader D g → List ℕ
   held_bytes r = take r.filled r.buffer.items
 
-  -- the memory that is kept for a segment, its text and its nonce, in bytes
+  -- the memory that is kept for a segment, its text, its nonce and the prefix of nonces, in bytes
   abbrev pub reader_memory : SegmentReader D g → ℕ
-  reader_memory r = vec_capacity r.buffer + vec_capacity r.opened + vec_capacity r.nonce
+  reader_memory r = vec_capacity r.buffer + vec_capacity r.opened + vec_capacity r.nonce + vec_capacity r.opener.prefix
 
   -- the bytes that a reader holds, and those that the source still gives
   abbrev pub reader_rest : {S : Type 0} → (S → Option (List ℕ)) → SegmentReader D g → S → Option (List ℕ)

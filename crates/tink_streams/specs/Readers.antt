@@ -18,7 +18,7 @@ pub record SegmentOpening (D : Type 0) : Type 0 where
 
 -- a reader: how it opens segments, how far it has come, the next segment's number, the text that was opened and is not
 -- yet given, the bytes that are held, how many it has room to hold, the bytes of memory that it keeps for a segment, its
--- text and its nonce, and its source
+-- text, its nonce and the prefix of nonces, and its source
 pub record ReaderState (R D : Type 0) : Type 0 where
   pub opening : SegmentOpening D
   pub progress : Progress

@@ -69,12 +69,13 @@ pub record TruncatedAt (seg : ℕ → Bool → List ℕ → List ℕ) (first siz
   pub number : n ≡ old.number
   pub short : IfSome old.rest (λ X. ((length (chunk_at first size old.number X) < overhead) ⊎ (X ≡ [])) × (0 < old.number → 0 < length X))
 
--- the next chunk is no shorter, and is the segment of no text
+-- the next chunk is some bytes and no shorter, and is the segment of no text
 pub record IsBad (seg : ℕ → Bool → List ℕ → List ℕ) (first size overhead : ℕ) (old new : ReaderMoment) (n : ℕ) : Type 0 where
   pub fails : FailsBy (cause.BadSegment n) old new
   pub nothing : NothingComes seg first size old
   pub number : n ≡ old.number
   pub long : IfSome old.rest (λ X. overhead ≤ length (chunk_at first size old.number X))
+  pub some : IfSome old.rest (λ X. 0 < length X)
 
 -- some bytes follow the last number
 pub record HasTooMany (seg : ℕ → Bool → List ℕ → List ℕ) (first size : ℕ) (old new : ReaderMoment) : Type 0 where

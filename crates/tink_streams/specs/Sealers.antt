@@ -17,9 +17,9 @@ module _ {E : Type 0} {g : Ghosts E} where
   abbrev pub held_text : SegmentWriter E g → List ℕ
   held_text w = take w.filled w.segment.items
 
-  -- the memory that is kept for a segment and its nonce, in bytes
+  -- the memory that is kept for a segment, its nonce and the prefix of nonces, in bytes
   abbrev pub writer_memory : SegmentWriter E g → ℕ
-  writer_memory w = vec_capacity w.segment + vec_capacity w.nonce
+  writer_memory w = vec_capacity w.segment + vec_capacity w.nonce + vec_capacity w.sealer.prefix
 
   -- the writer at this moment, by what the sink got and by its faults
   abbrev pub writer_moment : {K : Type 0} → (K → Option (List ℕ)) → (K → ℕ) → SegmentWriter E g → K → WriterMoment

@@ -14,7 +14,7 @@ pub record SegmentSealing (E : Type 0) : Type 0 where
   pub room : ℕ
 
 -- a writer: how it makes segments, whether it is open, the next segment's number, the text that is held, the bytes of memory
--- that it keeps for a segment and its nonce, and its sink
+-- that it keeps for a segment, its nonce and the prefix of nonces, and its sink
 pub record WriterState (W E : Type 0) : Type 0 where
   pub sealing : SegmentSealing E
   pub mode : Mode

@@ -3,6 +3,7 @@ ghost use Rattle.stream_model.specs.Cut.{room_at};
 ghost use Rattle.tink_streams.specs.Openers.{segment_map};
 ghost use Rattle.tink_streams.specs.Opening.{HeadOpensTo};
 
+use crate::memory::set_length;
 use crate::opener::Opener;
 use tink_segment_traits::{SegmentDecrypter, generate_segment_nonce};
 
@@ -14,18 +15,6 @@ pub fn size_of<D: SegmentDecrypter>(opener: &Opener<D>, number: u64) -> usize
         opener.first
     } else {
         opener.size
-    }
-}
-
-// Gives `bytes` this length, whatever they are, in the memory that they have.
-fn set_length(bytes: &mut Vec<u8>, n: usize)
-    requires { n ≤ vec_capacity bytes.old }
-    ensures len { vec_len bytes.new ≡ n }
-    ensures capacity { vec_capacity bytes.new ≡ vec_capacity bytes.old }
-{
-    bytes.truncate(n);
-    while bytes.len() < n {
-        bytes.push_reserved(0);
     }
 }
 

@@ -64,7 +64,7 @@ impl<D: SegmentDecrypter + Drop> SegmentReader<D> {
         ensures room { vec_len result.buffer ≡ vec_len buffers.sealed }
         ensures opened { result.opened.items ≡ [] }
         ensures memory { reader_memory result ≡ vec_capacity buffers.sealed + vec_capacity buffers.text + vec_capacity
-            buffers.nonce }
+            buffers.nonce + vec_capacity opener.prefix }
         ensures opener { result.opener ≡ opener }
     {
         SegmentReader {

@@ -7,6 +7,7 @@ ghost use Rattle.tink_streams.specs.Openers.{segment_map};
 ghost use Rattle.tink_streams.specs.Trials.{KeepsRoom, TrialFailed, TrialMeans};
 
 use crate::kept::Kept;
+use crate::memory::refill;
 use crate::opener::Opener;
 use crate::opening::open_front;
 use tink_io::{Failed, Source};
@@ -73,18 +74,14 @@ fn opener_under<D: SegmentDecrypter + Drop, T: OpensStreams<D>>(
     ensures map { IfOk result (λ o. (T.opening_key key.now).seg header.now ≡ Some (segment_map o)) }
     ensures sizes { IfOk result (λ o. HasSizesOf (T.opening_key key.now) o.first o.size o.overhead) }
     ensures nonce { IfOk result (λ o. o.nonce_size ≡ T.nonce_of key.now) }
-    ensures prefix_room { IfOk result (λ o. 7 ≤ vec_capacity o.prefix) }
+    ensures prefix_room { IfOk result (λ o. vec_capacity o.prefix ≡ vec_capacity prefix) }
     ensures none { IfErr result (λ _. (T.opening_key key.now).seg header.now ≡ None) }
-    ensures room { IfErr result (λ p. 7 ≤ vec_capacity p) }
+    ensures room { IfErr result (λ p. vec_capacity p ≡ vec_capacity prefix) }
 {
     let Some(decrypter) = key.derive(header) else {
         return Err(prefix);
     };
-    prefix.clear();
-    match prefix.extend_from_slice(&header[header.len() - 7..]) {
-        Ok(()) => {}
-        Err(_) => unreachable!(),
-    }
+    refill(&mut prefix, &header[header.len() - 7..]);
     let overhead = decrypter.overhead();
     Ok(Opener {
         decrypter,
@@ -121,10 +118,10 @@ fn front_opener<D: SegmentDecrypter + Drop, T: OpensStreams<D>>(
         ≡ Some (segment_map o)) }
     ensures sizes { IfOk result (λ o. HasSizesOf (T.opening_key key.now) o.first o.size o.overhead) }
     ensures nonce { IfOk result (λ o. o.nonce_size ≡ T.nonce_of key.now) }
-    ensures prefix_room { IfOk result (λ o. 7 ≤ vec_capacity o.prefix) }
+    ensures prefix_room { IfOk result (λ o. vec_capacity o.prefix ≡ vec_capacity prefix) }
     ensures none { IfErr result (λ _. HasFront (T.opening_key key.now) held.now
         → (T.opening_key key.now).seg (header_of (T.opening_key key.now) held.now) ≡ None) }
-    ensures room { IfErr result (λ p. 7 ≤ vec_capacity p) }
+    ensures room { IfErr result (λ p. vec_capacity p ≡ vec_capacity prefix) }
 {
     let out = key.output_prefix().len();
     let end = out + key.header_length();
@@ -178,6 +175,8 @@ pub fn try_key<S: Source, D: SegmentDecrypter + Drop, T: OpensStreams<D>>(
     ensures most { kept.new.filled ≤ max kept.old.filled
         (front_length (T.opening_key key.now) + (T.opening_key key.now).first + 1) }
     ensures room { KeepsRoom kept.old kept.new nonce.old nonce.new opened.old opened.new }
+    ensures prefix { IfOk result (λ tried. MatchResult tried (λ b. vec_capacity b.opener.prefix ≡ vec_capacity prefix)
+        (λ p. vec_capacity p ≡ vec_capacity prefix)) }
     ensures later { S.faults source.old ≤ S.faults source.new }
     ensures same { S.same source.old source.new }
 {

@@ -50,7 +50,8 @@ impl<E: SegmentEncrypter + Drop> SegmentWriter<E> {
         ensures mode { result.mode ≡ Open }
         ensures segments { result.segments ≡ 0 }
         ensures held { held_text result ≡ [] }
-        ensures memory { writer_memory result ≡ vec_capacity buffers.segment + vec_capacity buffers.nonce }
+        ensures memory { writer_memory result ≡ vec_capacity buffers.segment + vec_capacity buffers.nonce + vec_capacity
+            sealer.prefix }
         ensures sealer { result.sealer ≡ sealer }
     {
         SegmentWriter {

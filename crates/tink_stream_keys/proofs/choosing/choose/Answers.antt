@@ -84,7 +84,7 @@ loop-key-preserved g c =
       kept_capacity = called.room.kept_capacity ∙ inv.kept_capacity;
       nonce_capacity = called.room.nonce_capacity ∙ inv.nonce_capacity;
       more = omega (arith, called.room.more, inv.more);
-      prefix_room = tried.room;
+      prefix_capacity = (rw c.in-Err.is at called.prefix) ∙ inv.prefix_capacity;
       rest = Keeps-trans _ _ _ inv.rest tried.rest;
       chosen = both_told told (λ X. Begins (of key) X → ⊥) (ChosenFrom of keys c.loop-key.key-index) (ChosenFrom of keys (c.loop-key.key-index + 1))
           (λ X other h. pass_over of keys c.loop-key.key-index key X split other h)

@@ -16,7 +16,7 @@ invariant-loop-key g l =
       kept_capacity : vec_capacity l.kept.buffer ≡ vec_capacity l.fn.kept.buffer;
       nonce_capacity : vec_capacity l.nonce ≡ vec_capacity l.fn.nonce;
       more : l.fn.kept.filled ≤ l.kept.filled;
-      prefix_room : 7 ≤ vec_capacity l.prefix;
+      prefix_capacity : vec_capacity l.prefix ≡ vec_capacity l.fn.prefix;
       rest : Keeps (kept_rest source.left l.fn.kept l.fn.source) (kept_rest source.left l.kept l.source);
       chosen : IfSome (kept_rest source.left l.fn.kept l.fn.source) (ChosenFrom (λ k. opening_key l.fn.aad (g.T.DerivesStreams.key_of k)) l.keys l.key-index);
       later : source.faults l.fn.source ≤ source.faults l.source;

@@ -45,6 +45,7 @@ returns-then-not-open_front-clause-answer g c =
           (rw c.deref.ensures.value at (c.open_front.ensures.refused c.if-not-open_front.true));
       number = c.in-Ok-try_from.ensures.1;
       long = long_front self.opener.overhead (room_at self.opener.first self.opener.size self.segments) _ _ (take c.hold.new.filled c.hold.new.buffer.items) held (omega (arith, self.opener.some, size_least self.opener.first self.opener.size self.segments self.opener.first_fits)) (omega (arith, c.max.ensures, long, c.if-self-max.false));
+      some = some_left _ _ _ (take c.hold.new.filled c.hold.new.buffer.items) c.in-Ok.ensures.held (omega (arith, c.max.ensures, long, c.if-self-max.false));
     })
 
 pub returns-clause-answer : goal.returns-clause-answer
