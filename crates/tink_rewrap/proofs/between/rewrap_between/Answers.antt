@@ -21,13 +21,13 @@ returns-in-Ok-clause-answer g c =
     let before : Outside = record { left = g.S.Source.left c.args.source.now; read_faults = g.S.Source.faults c.args.source.now; got = g.K.Sink.got c.args.sink.now; write_faults = g.K.Sink.faults c.args.sink.now } in
     let after : Outside = record { left = g.S.Source.left c.pass_under.new.source; read_faults = g.S.Source.faults c.pass_under.new.source; got = g.K.Sink.got c.pass_under.new.sink; write_faults = g.K.Sink.faults c.pass_under.new.sink } in
     subst (λ (ks : List OpeningKey). RewrapsUnder ks (key_in_set c.args.to.now) c.args.to_aad.now c.args.draws.now c.prepare_stream.new.draws before after c.pass_under.result) same
-    (passes_prepared (key_in_set c.args.to.now) c.args.to_aad.now c.args.draws.now c.prepare_stream.new.draws _ _ _ _ _ _ _ c.in-Ok.ensures _ before after c.pass_under.result c.pass_under.ensures.answer)
+    (passes_prepared (key_in_set c.args.to.now) c.args.to_aad.now c.args.draws.now c.prepare_stream.new.draws _ _ _ _ _ _ _ c.in-Ok.ensures.answer _ before after c.pass_under.result c.pass_under.ensures.answer)
 
 pub returns-in-Ok-clause-early : goal.returns-in-Ok-clause-early
 returns-in-Ok-clause-early g c = pass_leaves _ _ _ _ _ _ c.pass_under.result _ _ _ _ c.pass_under.ensures.answer
 
 pub returns-clause-answer : goal.returns-clause-answer
-returns-clause-answer g c = not_prepared _ (key_in_set c.args.to.now) c.args.to_aad.now c.args.draws.now c.prepare_stream.new.draws _ c.in-Err.error.kind c.not_begun.result c.not_begun.ensures c.in-Err.ensures
+returns-clause-answer g c = not_prepared _ (key_in_set c.args.to.now) c.args.to_aad.now c.args.draws.now c.prepare_stream.new.draws _ c.in-Err.error.kind c.not_begun.result c.not_begun.ensures c.in-Err.ensures.answer
 
 pub returns-clause-early : goal.returns-clause-early
 returns-clause-early g c = leaves_same (Err c.not_begun.result) c.args.source.now c.args.sink.now
