@@ -106,6 +106,12 @@ long_front overhead size None r1 H h fits many = tt
 long_front overhead size (Some X) None H h fits many = absurd h.all
 long_front overhead size (Some X) (Some Y) H h fits many = omega (arith, ap length (next_chunk size H X Y h), length-take size H)
 
+-- and some are
+pub some_front : (size : ℕ) (r0 r1 : Option (List ℕ)) (H : List ℕ) → HoldsChunk size r0 H r1 → 0 < size → 0 < length H → IfSome r0 (λ X. 0 < length (take size X))
+some_front size None r1 H h fits some = tt
+some_front size (Some X) None H h fits some = absurd h.all
+some_front size (Some X) (Some Y) H h fits some = omega (arith, ap length (next_chunk size H X Y h), length-take size H)
+
 -- the least and the most of the first and each later size
 pub size_least : (a b i : ℕ) → a ≤ b → a ≤ room_at a b i
 size_least a b zero p = omega arith

@@ -14,6 +14,7 @@ use Rattle.tink_streams.specs.Reading.{ReaderMoment, TellsLeads, OpenNextRefused
 use Rattle.tink_streams.specs.declared.progress.Progress.{Progress}
 use Rattle.tink_streams.specs.declared.progress.Progress.TheVariants.{Running, Ended, Failed}
 use Rattle.tink_streams.specs.Whole.{Faults, WroteSome, AllRefused}
+use Rattle.tink_streams.proofs.ChoosingSteps.{both_told}
 use Rattle.tink_streams.proofs.ReadingFacts.{Opened, opened_agree, at_next_chunk}
 
 pub joined_more : (texts : List (List ℕ)) (t : List ℕ) → joined (texts ++ (t ∷ [])) ≡ joined texts ++ t
@@ -42,6 +43,10 @@ short_or_none : (o n : ℕ) (X : List ℕ) → (length (take n X) < o) ⊎ (X �
 short_or_none o n X (inl h) = inl h
 short_or_none o n X (inr e) = inr (ap (take n) e ∙ take_all n [] (omega arith))
 
+-- a chunk has some bytes, and is no shorter than any segment
+abbrev IsLong : ℕ → List ℕ → Type 0
+IsLong overhead c = (overhead ≤ length c) × (0 < length c)
+
 -- what a refusal says of all
 pub refused_all : (seg : ℕ → Bool → List ℕ → List ℕ) (a b overhead : ℕ) (all got now : Option (List ℕ)) (texts : List (List ℕ)) (m n : ReaderMoment) (f : Faults) (k : Kind) → f.read_before ≤ m.faults → f.read_after ≡ n.faults → 0 < a → 0 < b → Opened seg a b all texts m → Appends got now (joined texts)
     → OpenNextRefused seg a b overhead m n k → AllRefused seg a b overhead all got now f k
@@ -57,8 +62,10 @@ refused_all seg a b overhead all got now texts m n f TooManySegments later same 
 refused_all seg a b overhead all got now texts m n f (BadSegment i) later same p q o w h = record {
   texts = texts;
   agree = opened_agree seg a b all texts m o h.nothing;
-  stops = with_fact all (λ X. overhead ≤ length (get_or (cut a b X) (length texts) [])) (λ X. (i ≡ length texts) × (overhead ≤ length (get_or (cut a b X) (length texts) []))) (λ X l. (h.number ∙ o.number, l))
-      (at_next_chunk seg a b all texts m (λ c. overhead ≤ length c) p q o h.long);
+  stops =
+      with_fact all (λ X. IsLong overhead (get_or (cut a b X) (length texts) [])) (λ X. (i ≡ length texts) × IsLong overhead (get_or (cut a b X) (length texts) [])) (λ X l. (h.number ∙ o.number, l))
+      (at_next_chunk seg a b all texts m (IsLong overhead) p q o
+      (both_told m.rest (λ X. overhead ≤ length (take (room_at a b m.number) X)) (λ X. 0 < length (take (room_at a b m.number) X)) (λ X. IsLong overhead (take (room_at a b m.number) X)) (λ X l s. (l, s)) h.long h.some));
   written = w;
 }
 refused_all seg a b overhead all got now texts m n f (Truncated i) later same p q o w h = record {

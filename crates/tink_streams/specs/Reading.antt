@@ -75,7 +75,7 @@ pub record IsBad (seg : ℕ → Bool → List ℕ → List ℕ) (first size over
   pub nothing : NothingComes seg first size old
   pub number : n ≡ old.number
   pub long : IfSome old.rest (λ X. overhead ≤ length (chunk_at first size old.number X))
-  pub some : IfSome old.rest (λ X. 0 < length X)
+  pub some : IfSome old.rest (λ X. 0 < length (chunk_at first size old.number X))
 
 -- some bytes follow the last number
 pub record HasTooMany (seg : ℕ → Bool → List ℕ → List ℕ) (first size : ℕ) (old new : ReaderMoment) : Type 0 where

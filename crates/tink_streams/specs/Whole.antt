@@ -42,7 +42,7 @@ abbrev pub AllRefused : (ℕ → Bool → List ℕ → List ℕ) → ℕ → ℕ
 AllRefused seg first size overhead all got now f ReadFault = WroteSome seg first size all got now f.read_before f.read_after
 AllRefused seg first size overhead all got now f WriteFault = WroteSome seg first size all got now f.write_before f.write_after
 AllRefused seg first size overhead all got now f TooManySegments = WroteAgreed seg first size all got now (λ n X. n ≡ 2 ^ 32)
-AllRefused seg first size overhead all got now f (BadSegment m) = WroteAgreed seg first size all got now (λ n X. (m ≡ n) × (overhead ≤ length (get_or (cut first size X) n [])))
+AllRefused seg first size overhead all got now f (BadSegment m) = WroteAgreed seg first size all got now (λ n X. (m ≡ n) × ((overhead ≤ length (get_or (cut first size X) n [])) × (0 < length (get_or (cut first size X) n []))))
 AllRefused seg first size overhead all got now f (Truncated m) = WroteAgreed seg first size all got now (λ n X. (m ≡ n) × ((length (get_or (cut first size X) n []) < overhead) ⊎ (get_or (cut first size X) n [] ≡ [])))
 AllRefused seg first size overhead all got now f _ = ⊥
 

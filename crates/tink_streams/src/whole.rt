@@ -8,19 +8,19 @@ use crate::reading::SegmentReader;
 use tink_io::{Sink, Source, TinkError, write_all};
 use tink_segment_traits::SegmentDecrypter;
 
-/// Opens all segments, and writes the text of each.
+/// Opens all segments, and writes the text of each. The reader ends with the call.
 ///
 /// # Errors
 /// Those of `open_next`, and WriteFault where the sink failed.
 pub fn open_rest<S: Source, K: Sink, D: SegmentDecrypter + Drop>(
-    reader: &mut SegmentReader<D>,
+    mut reader: SegmentReader<D>,
     source: &mut S,
     sink: &mut K,
 ) -> Result<(), TinkError>
-    requires running { reader.old.progress ≡ Running }
-    requires first { reader.old.segments ≡ 0 }
-    ensures answer { AllMeans (segment_map reader.old.opener) reader.old.opener.first reader.old.opener.size
-        reader.old.opener.overhead (reader_rest S.left reader.old source.old) (K.got sink.old) (K.got sink.new)
+    requires running { reader.progress ≡ Running }
+    requires first { reader.segments ≡ 0 }
+    ensures answer { AllMeans (segment_map reader.opener) reader.opener.first reader.opener.size
+        reader.opener.overhead (reader_rest S.left reader source.old) (K.got sink.old) (K.got sink.new)
         (record {
           read_before = S.faults source.old;
           read_after = S.faults source.new;

@@ -17,14 +17,14 @@ use tink_streams::{Reader, SegmentReader, Writer, open_rest};
 
 // Opens what is left of a stream in memory. After `Ok` its texts were written.
 fn open_bytes<D: SegmentDecrypter + Drop, K: Sink>(
-    reader: &mut SegmentReader<D>,
+    reader: SegmentReader<D>,
     stream: &mut SureSource,
     sink: &mut K,
 ) -> Result<(), TinkError>
-    requires running { reader.old.progress ≡ Running }
-    requires first { reader.old.segments ≡ 0 }
-    ensures written { IfOk result (λ _. WroteTexts (segment_map reader.old.opener) reader.old.opener.first
-        reader.old.opener.size (reader_rest Some reader.old stream.old) (K.got sink.old) (K.got sink.new)) }
+    requires running { reader.progress ≡ Running }
+    requires first { reader.segments ≡ 0 }
+    ensures written { IfOk result (λ _. WroteTexts (segment_map reader.opener) reader.opener.first
+        reader.opener.size (reader_rest Some reader stream.old) (K.got sink.old) (K.got sink.new)) }
 {
     open_rest(reader, stream, sink)
 }

@@ -87,8 +87,8 @@ fn opened(alloc: Global) -> Result<SureSink, TinkError> {
     let mut source = SureSource::new(STREAM.to_vec(alloc)?);
     let buffers = Buffers::reserve(alloc, 36, 12)?;
     let prefix = PREFIX.to_vec(alloc)?;
-    let mut reader = SegmentReader::made(opener(prefix), buffers, 0);
-    open_rest(&mut reader, &mut source, &mut sink)?;
+    let reader = SegmentReader::made(opener(prefix), buffers, 0);
+    open_rest(reader, &mut source, &mut sink)?;
     Ok(sink)
 }
 

@@ -25,14 +25,14 @@ pub returns-in_err-open_next-clause-answer : goal.returns-in_err-open_next-claus
 returns-in_err-open_next-clause-answer g c =
     let p = err_from_is_err_and c.from_residual.result c.from_residual.ensures.1 in
     let inv = c.loop-reader.invariant in
-    let first = c.args.reader.now in
+    let first = c.args.reader in
     rw (p.1, p.2) (refused_all (segment_map first.opener) first.opener.first first.opener.size first.opener.overhead _ _ _ inv.texts _ _ _ _
     inv.reads refl (omega (arith, first.opener.some)) (omega (arith, first.opener.some, first.opener.first_fits)) inv.opened inv.written (rw inv.opener at c.in_err-open_next.ensures.answer))
 
 pub loop-reader-preserved : goal.loop-reader-preserved
 loop-reader-preserved g c =
     let inv = c.loop-reader.invariant in
-    let first = c.args.reader.now in
+    let first = c.args.reader in
     let next = rw inv.opener at c.in_ok-open_next.ensures.answer in
     record {
       texts = inv.texts ++ (c.open_next.new.self.opened.items ∷ []);
@@ -51,7 +51,7 @@ pub returns-in_err-write_all-clause-answer : goal.returns-in_err-write_all-claus
 returns-in_err-write_all-clause-answer g c =
     let p = err_from_is_err_and c.from_residual-in_err-write_all.result c.from_residual-in_err-write_all.ensures.1 in
     let inv = c.loop-reader.invariant in
-    let first = c.args.reader.now in
+    let first = c.args.reader in
     let next = rw inv.opener at c.in_ok-open_next.ensures.answer in
     rw (p.1, p.2, c.in_err-write_all.ensures.refused) (wrote_some (segment_map first.opener) first.opener.first first.opener.size _ _ _ (inv.texts ++ (c.open_next.new.self.opened.items ∷ [])) _ _ _
     (opened_more (segment_map first.opener) first.opener.first first.opener.size _ inv.texts _ _ inv.opened next)
@@ -60,7 +60,7 @@ returns-in_err-write_all-clause-answer g c =
 pub returns-clause-answer : goal.returns-clause-answer
 returns-clause-answer g c =
     let inv = c.loop-reader.invariant in
-    let first = c.args.reader.now in
+    let first = c.args.reader in
     let ended = not_running c.loop-reader.reader.progress inv.lives (λ e. absurd (let t = c.loop-reader-test.false in search rules)) in
     let some = c.loop-reader.reader.ended_some ended in
     record {

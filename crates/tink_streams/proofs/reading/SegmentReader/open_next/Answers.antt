@@ -2,7 +2,7 @@ use Rattle.std.proofs.Common.{◌≡◌, ◌≤◌, ◌<◌, ◌-◌, ℕ, lengt
 use Rattle.std.proofs.lemmas.List.{length-take}
 use Rattle.stream_model.specs.Cut.{room_at}
 use Rattle.tink_streams.specs.Openers.{segment_map}
-use Rattle.tink_streams.proofs.FrontFacts.{opened_front, refused_front, none_numbered, some_left, short_front, long_front, size_least, size_most, stays, ended}
+use Rattle.tink_streams.proofs.FrontFacts.{opened_front, refused_front, none_numbered, some_left, short_front, long_front, some_front, size_least, size_most, stays, ended}
 use Rattle.tink_streams.proofs.reading.SegmentReader.open_next.Goals as goal
 
 pub returns-in_default-clause-answer : goal.returns-in_default-clause-answer
@@ -45,7 +45,7 @@ returns-then-not-open_front-clause-answer g c =
           (rw c.deref.ensures.value at (c.open_front.ensures.refused c.if-not-open_front.true));
       number = c.in-Ok-try_from.ensures.1;
       long = long_front self.opener.overhead (room_at self.opener.first self.opener.size self.segments) _ _ (take c.hold.new.filled c.hold.new.buffer.items) held (omega (arith, self.opener.some, size_least self.opener.first self.opener.size self.segments self.opener.first_fits)) (omega (arith, c.max.ensures, long, c.if-self-max.false));
-      some = some_left _ _ _ (take c.hold.new.filled c.hold.new.buffer.items) c.in-Ok.ensures.held (omega (arith, c.max.ensures, long, c.if-self-max.false));
+      some = some_front (room_at self.opener.first self.opener.size self.segments) _ _ (take c.hold.new.filled c.hold.new.buffer.items) held (omega (arith, self.opener.some, size_least self.opener.first self.opener.size self.segments self.opener.first_fits)) (omega (arith, c.max.ensures, long, c.if-self-max.false));
     })
 
 pub returns-clause-answer : goal.returns-clause-answer
