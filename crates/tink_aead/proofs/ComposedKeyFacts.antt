@@ -21,7 +21,7 @@ use Rattle.tink_io.specs.declared.error.TinkError.{TinkError}
 use Rattle.tink_io.specs.Told.{IsShort, Replies, made_of}
 use Rattle.tink_primitives.specs.Meaning.{IsEndOf}
 use Rattle.tink_primitives.specs.MeaningLaws.{end_trans}
-use Rattle.tink_keysets.specs.Told.{takes_bytes}
+use Rattle.tink_subtle.specs.Random.{takes_bytes}
 use Rattle.tink_key_types.specs.Manager.{of_draws}
 use Rattle.tink_key_types.specs.ManagerLaws.{taken_told}
 use Rattle.tink_mac.specs.KeyTypes.{hmac_built, hmac_by_params, or_invalid}

@@ -3,7 +3,7 @@ use Rattle.std.specs.Prelude.{ℕ, List, Option, Some, None, Result, Ok, Err, na
 use Rattle.tink_io.specs.declared.error.Kind.{Kind}
 use Rattle.tink_io.specs.declared.error.Kind.TheVariants.{InvalidFormat, InvalidKey}
 use Rattle.tink_io.specs.Told.{made_of}
-use Rattle.tink_keysets.specs.Told.{takes_bytes}
+use Rattle.tink_subtle.specs.Random.{takes_bytes}
 use Rattle.tink_primitives.specs.Meaning.{IsDrawn, IsTold}
 use Rattle.tink_primitives.specs.MeaningLaws.{drawn_if, drawn_none, end_trans, made_told, told_if}
 use Rattle.tink_proto_keys.specs.declared.aes_ctr_hmac.AesCtrHmacAeadKey.{AesCtrHmacAeadKey}

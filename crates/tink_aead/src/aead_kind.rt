@@ -4,8 +4,9 @@ ghost use Rattle.tink_aead.specs.AeadKinds.{kind_decrypts, kind_decrypts_told, k
 
 use crate::subtle::{AesCtr, AesGcm, AesGcmSiv, EncryptThenAuthenticate};
 use std::alloc::Global;
-use tink_core::{Aead, CloneIn, Draws, Kinds, Never, TinkError};
+use tink_io::{Draws, TinkError};
 use tink_mac::subtle::Hmac;
+use tink_primitives::{Aead, CloneIn, Kinds, Never};
 use tink_proto::Bytes;
 
 /// An AEAD of one of the kinds.

@@ -11,10 +11,11 @@ use crate::subtle::{AesGcmSiv, validate_aes_key_size};
 use crate::versioned_key::is_versioned_key;
 use crate::{AeadKind, AeadKinds};
 use std::alloc::Global;
-use tink_core::subtle::random::get_random_bytes;
-use tink_core::{Draws, Kind, Primitive, TinkError};
+use tink_io::{Draws, Kind, TinkError};
 use tink_key_types::{KeyType, SymmetricKeyManager};
+use tink_primitives::Primitive;
 use tink_proto_keys::{AesGcmSivKey, AesGcmSivKeyFormat};
+use tink_subtle::random::get_random_bytes;
 
 /// The version of AES-GCM-SIV keys.
 pub const AES_GCM_SIV_KEY_VERSION: u32 = 0;

@@ -13,11 +13,12 @@ ghost use Rattle.tink_aead.specs.Wrapped.{HasSameAnswers, IsAeadOf};
 ghost use Rattle.tink_aead.specs.WrappedTold.{any_decrypts_told, primary_encrypts_told};
 
 use std::alloc::Global;
-use tink_core::keyset::Handle;
-use tink_core::registry::{KeyManager, Registry};
-use tink_core::{Aead, CloneIn, Draws, Kind, Kinds, TinkError};
 use tink_factory::{Question, ask_entries, typed_primitives};
+use tink_io::{Draws, Kind, TinkError};
+use tink_keysets::keyset::Handle;
+use tink_primitives::{Aead, CloneIn, Kinds};
 use tink_proto::Bytes;
+use tink_registry::{KeyManager, Registry};
 use tink_sets::sorts::Aeads;
 use tink_sets::{TypedEntry, TypedPrimitiveSet};
 

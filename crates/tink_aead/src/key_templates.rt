@@ -13,7 +13,7 @@ use crate::aes_gcm_key_manager::{AES_GCM_KEY_VERSION, AES_GCM_TYPE_URL};
 use crate::aes_gcm_siv_key_manager::{AES_GCM_SIV_KEY_VERSION, AES_GCM_SIV_TYPE_URL};
 use crate::kms_envelope_aead::{KMS_ENVELOPE_AEAD_TYPE_URL, same_template};
 use std::alloc::Global;
-use tink_core::TinkError;
+use tink_io::TinkError;
 use tink_key_types::new_template;
 use tink_proto::{HashType, KeyTemplate, OutputPrefixType, Text};
 use tink_proto_keys::{

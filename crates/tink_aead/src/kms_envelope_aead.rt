@@ -8,10 +8,11 @@ ghost use Rattle.tink_aead.specs.Envelope.{data_key_aead, enveloped};
 ghost use Rattle.tink_aead.specs.EnvelopeLaws.{EnvelopeUndoes};
 
 use std::alloc::Global;
-use tink_core::registry::{KeyManager, Registry};
-use tink_core::{Aead, CloneIn, Draws, Kind, Kinds, TinkError};
+use tink_io::{Draws, Kind, TinkError};
+use tink_primitives::{Aead, CloneIn, Kinds};
 use tink_proto::wire::Message;
 use tink_proto::{Bytes, KeyTemplate};
+use tink_registry::{KeyManager, Registry};
 
 /// The version of keys of this type.
 pub const KMS_ENVELOPE_AEAD_KEY_VERSION: u32 = 0;

@@ -3,8 +3,8 @@
 ghost use Rattle.tink_aead.specs.ComposedLaws.{KeysBuildWhole, WholeAccepts, WholeUndoes};
 ghost use Rattle.tink_aead.specs.Rotation.{EnabledKeysOpen, EncryptedOpens, OldCiphertextsOpen};
 
-use tink_core::registry::KeyManager;
-use tink_core::{Aead, Kinds};
+use tink_primitives::{Aead, Kinds};
+use tink_registry::KeyManager;
 
 /// What keys of AES in counter mode with HMAC build accepts exactly the encryptions of some text, each as that of its
 /// text, and decrypts again what it encrypts.

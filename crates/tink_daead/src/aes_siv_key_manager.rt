@@ -9,10 +9,11 @@ ghost use Rattle.tink_daead.specs.KeyTypes.{aes_siv_url, is_accepted, new_aes_si
 use crate::DaeadKinds;
 use crate::subtle::{AES_SIV_KEY_SIZE, AesSiv};
 use std::alloc::Global;
-use tink_core::subtle::random::get_random_bytes;
-use tink_core::{Draws, Kind, Primitive, TinkError};
+use tink_io::{Draws, Kind, TinkError};
 use tink_key_types::{KeyType, SymmetricKeyManager};
+use tink_primitives::Primitive;
 use tink_proto_keys::{AesSivKey, AesSivKeyFormat};
+use tink_subtle::random::get_random_bytes;
 
 /// The version of AES-SIV keys.
 pub const AES_SIV_KEY_VERSION: u32 = 0;

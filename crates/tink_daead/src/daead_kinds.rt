@@ -1,7 +1,7 @@
 //! The family of deterministic AEADs.
 
 use crate::subtle::AesSiv;
-use tink_core::{Kinds, Never};
+use tink_primitives::{Kinds, Never};
 
 /// The family whose one sort is deterministic AEADs.
 pub struct DaeadKinds;

@@ -12,11 +12,12 @@ ghost use Rattle.tink_daead.specs.Wrapped.{any_decrypts, entry_decrypts, entry_e
 ghost use Rattle.tink_daead.specs.WrappedTold.{any_decrypts_told, primary_encrypts_told};
 
 use std::alloc::Global;
-use tink_core::keyset::Handle;
-use tink_core::registry::{KeyManager, Registry};
-use tink_core::{CloneIn, DeterministicAead, Kind, Kinds, TinkError};
 use tink_factory::{Question, ask_entries, typed_primitives};
+use tink_io::{Kind, TinkError};
+use tink_keysets::keyset::Handle;
+use tink_primitives::{CloneIn, DeterministicAead, Kinds};
 use tink_proto::Bytes;
+use tink_registry::{KeyManager, Registry};
 use tink_sets::sorts::DeterministicAeads;
 use tink_sets::{TypedEntry, TypedPrimitiveSet};
 

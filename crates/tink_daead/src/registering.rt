@@ -7,10 +7,10 @@ ghost use Rattle.tink_daead.specs.Templates.{daead_templates};
 
 use crate::{AesSivKeyManager, aes_siv_key_template};
 use std::alloc::Global;
-use tink_core::TinkError;
-use tink_core::registry::{KeyManager, Registry};
+use tink_io::TinkError;
 use tink_key_types::add_template;
 use tink_proto::{KeyTemplate, Text};
+use tink_registry::{KeyManager, Registry};
 
 /// Registers the manager of AES-SIV keys and its template, or nothing.
 ///

@@ -8,9 +8,9 @@ ghost use Rattle.tink_encrypted_tests.specs.TestMaster.{bound, bound_drawn, unbo
 use std::alloc::Global;
 use tink_io::{Draws, Kind, TinkError};
 use tink_keysets::keyset::{Reader, Writer};
-use tink_keysets::random::get_random_bytes;
 use tink_primitives::Aead;
 use tink_proto::{Bytes, EncryptedKeyset, Keyset};
+use tink_subtle::random::get_random_bytes;
 
 /// Binds its associated data, and keeps nothing secret: the ciphertext is the associated data, one draw and the text.
 pub struct Binding;

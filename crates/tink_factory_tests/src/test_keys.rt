@@ -9,9 +9,9 @@ ghost use Rattle.tink_factory_tests.specs.TestKeys.{test_url, is_accepted, test_
 use std::alloc::Global;
 use tink_io::{Draws, Kind, TinkError};
 use tink_key_types::KeyType;
-use tink_keysets::random::get_random_bytes;
 use tink_primitives::Primitive;
 use tink_proto_keys::{AesGcmKey, AesGcmKeyFormat};
+use tink_subtle::random::get_random_bytes;
 use tink_testutil::{TestAead, TestKinds};
 
 /// Keys of sixteen bytes.

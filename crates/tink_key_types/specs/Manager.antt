@@ -6,7 +6,7 @@ use Rattle.tink_io.specs.Told.{made_of}
 use Rattle.tink_proto.specs.declared.messages.keys.KeyData.{KeyData}
 use Rattle.wire_format.specs.Columns.{Column}
 use Rattle.wire_format.specs.Message.{decoded, encoded}
-use Rattle.tink_keysets.specs.Told.{takes_bytes}
+use Rattle.tink_subtle.specs.Random.{takes_bytes}
 
 -- the message of some bytes, none where there are no bytes
 abbrev pub message_of : {T : Type 0} → Column T → List ℕ → Option T

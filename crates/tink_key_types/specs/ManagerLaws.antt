@@ -11,7 +11,7 @@ use Rattle.wire_format.specs.Columns.{Column}
 use Rattle.wire_format.specs.Message.{encoded}
 use Rattle.tink_primitives.specs.Meaning.{IsTold, IsDrawn}
 use Rattle.tink_primitives.specs.MeaningLaws.{told_if, made_told, drawn_if, drawn_none, drawn_take}
-use Rattle.tink_keysets.specs.Told.{takes_bytes}
+use Rattle.tink_subtle.specs.Random.{takes_bytes}
 use Rattle.tink_registry.specs.Known.{IsOfKnownMaterial}
 use Rattle.tink_key_types.specs.Manager.{message_of, built_by, builds, made_by, new_message, makes, symmetric, makes_data, built_if, of_draws, made_if}
 

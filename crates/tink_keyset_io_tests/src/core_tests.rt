@@ -1,7 +1,7 @@
 //! Hashes by their types, key derivation, comparison and random numbers, and keysets under the paths of Tink.
 
 ghost use Rattle.std.specs.Prelude.{[]};
-ghost use Rattle.tink_core.specs.Subtle.{derived, hash_named};
+ghost use Rattle.tink_subtle.specs.Hashes.{derived, hash_named};
 ghost use Rattle.tink_io.specs.Told.{Answers};
 ghost use Rattle.tink_proto.specs.declared.enums.HashType.TheVariants as types;
 

@@ -1,5 +1,4 @@
-//! Keysets in use: handles, their manager, what validates them, and random bytes.
+//! Keysets in use: handles, their manager, and what validates them.
 #![tactic(auto)]
 
 pub mod keyset;
-pub mod random;

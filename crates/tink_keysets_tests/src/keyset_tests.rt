@@ -13,8 +13,8 @@ use tink_keysets::keyset::{
     law_keys_stay, law_no_fresh_id, law_primary_stays, law_refused_adding, law_refused_command,
     law_valid_stays, validate, validate_key, validate_key_version,
 };
-use tink_keysets::random::{get_random_bytes, get_random_uint32};
 use tink_proto::{Bytes, EncryptedKeyset, Key, KeyInfo, Keyset, KeysetInfo};
+use tink_subtle::random::{get_random_bytes, get_random_uint32};
 use tink_testutil::{URL, bare, bytes_of, draws_of, gives, handle_of, key, keyset, kind_of};
 
 const SYMMETRIC: i32 = 1;

@@ -12,10 +12,11 @@ ghost use Rattle.tink_mac.specs.KeyTypeLaws.{cmac_built_told};
 use crate::subtle::{AesCmac, validate_cmac_params};
 use crate::{MacKind, MacKinds};
 use std::alloc::Global;
-use tink_core::subtle::random::get_random_bytes;
-use tink_core::{Draws, Kind, Primitive, TinkError};
+use tink_io::{Draws, Kind, TinkError};
 use tink_key_types::{KeyType, SymmetricKeyManager};
+use tink_primitives::Primitive;
 use tink_proto_keys::{AesCmacKey, AesCmacKeyFormat, AesCmacParams};
+use tink_subtle::random::get_random_bytes;
 
 /// The version of AES-CMAC keys.
 pub const CMAC_KEY_VERSION: u32 = 0;

@@ -13,10 +13,11 @@ ghost use Rattle.tink_mac.specs.KeyTypeLaws.{hmac_built_told};
 use crate::subtle::{Hmac, validate_hmac_params};
 use crate::{MacKind, MacKinds};
 use std::alloc::Global;
-use tink_core::subtle::random::get_random_bytes;
-use tink_core::{Draws, Kind, Primitive, TinkError};
+use tink_io::{Draws, Kind, TinkError};
 use tink_key_types::{KeyType, SymmetricKeyManager, hash_type_of};
+use tink_primitives::Primitive;
 use tink_proto_keys::{HmacKey, HmacKeyFormat, HmacParams};
+use tink_subtle::random::get_random_bytes;
 
 /// The version of HMAC keys.
 pub const HMAC_KEY_VERSION: u32 = 0;

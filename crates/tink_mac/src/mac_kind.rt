@@ -4,7 +4,8 @@ ghost use Rattle.tink_mac.specs.MacKinds.{kind_computes, kind_verifies, kind_ver
 
 use crate::subtle::{AesCmac, Hmac};
 use std::alloc::Global;
-use tink_core::{CloneIn, Kinds, Mac, Never, TinkError};
+use tink_io::TinkError;
+use tink_primitives::{CloneIn, Kinds, Mac, Never};
 use tink_proto::Bytes;
 
 /// A MAC of one of the two kinds.

@@ -11,10 +11,10 @@ use crate::{
     hmac_sha512_tag256_key_template, hmac_sha512_tag512_key_template,
 };
 use std::alloc::Global;
-use tink_core::TinkError;
-use tink_core::registry::{KeyManager, Registry};
+use tink_io::TinkError;
 use tink_key_types::add_template;
 use tink_proto::{KeyTemplate, Text};
+use tink_registry::{KeyManager, Registry};
 
 /// Registers the managers of HMAC and AES-CMAC keys, in this order, and the five templates, or nothing.
 ///

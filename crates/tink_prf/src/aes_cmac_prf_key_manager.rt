@@ -10,10 +10,11 @@ ghost use Rattle.tink_prf.specs.declared.prf_kind.PrfKind.TheVariants as kinds;
 use crate::subtle::{AesCmacPrf, validate_aes_cmac_prf_params};
 use crate::{PrfKind, PrfKinds};
 use std::alloc::Global;
-use tink_core::subtle::random::get_random_bytes;
-use tink_core::{Draws, Kind, Primitive, TinkError};
+use tink_io::{Draws, Kind, TinkError};
 use tink_key_types::{KeyType, SymmetricKeyManager};
+use tink_primitives::Primitive;
 use tink_proto_keys::{AesCmacPrfKey, AesCmacPrfKeyFormat};
+use tink_subtle::random::get_random_bytes;
 
 /// The version of AES-CMAC keys for a pseudorandom function.
 pub const AES_CMAC_PRF_KEY_VERSION: u32 = 0;

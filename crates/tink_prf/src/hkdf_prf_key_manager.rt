@@ -10,11 +10,12 @@ ghost use Rattle.tink_prf.specs.declared.prf_kind.PrfKind.TheVariants as kinds;
 use crate::subtle::{HkdfPrf, validate_hkdf_prf_params};
 use crate::{PrfKind, PrfKinds};
 use std::alloc::Global;
-use tink_core::subtle::random::get_random_bytes;
-use tink_core::{Draws, Kind, Primitive, TinkError};
+use tink_io::{Draws, Kind, TinkError};
 use tink_key_types::{KeyType, SymmetricKeyManager, hash_type_of};
+use tink_primitives::Primitive;
 use tink_proto::HashType;
 use tink_proto_keys::{HkdfPrfKey, HkdfPrfKeyFormat, HkdfPrfParams};
+use tink_subtle::random::get_random_bytes;
 
 /// The version of HKDF keys for a pseudorandom function.
 pub const HKDF_PRF_KEY_VERSION: u32 = 0;

@@ -10,11 +10,12 @@ ghost use Rattle.tink_prf.specs.declared.prf_kind.PrfKind.TheVariants as kinds;
 use crate::subtle::{HmacPrf, validate_hmac_prf_params};
 use crate::{PrfKind, PrfKinds};
 use std::alloc::Global;
-use tink_core::subtle::random::get_random_bytes;
-use tink_core::{Draws, Kind, Primitive, TinkError};
+use tink_io::{Draws, Kind, TinkError};
 use tink_key_types::{KeyType, SymmetricKeyManager, hash_type_of};
+use tink_primitives::Primitive;
 use tink_proto::HashType;
 use tink_proto_keys::{HmacPrfKey, HmacPrfKeyFormat, HmacPrfParams};
+use tink_subtle::random::get_random_bytes;
 
 /// The version of HMAC keys for a pseudorandom function.
 pub const HMAC_PRF_KEY_VERSION: u32 = 0;

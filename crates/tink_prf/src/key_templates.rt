@@ -10,7 +10,7 @@ use crate::{
     HMAC_PRF_KEY_VERSION, HMAC_PRF_TYPE_URL,
 };
 use std::alloc::Global;
-use tink_core::TinkError;
+use tink_io::TinkError;
 use tink_key_types::new_template;
 use tink_proto::{Bytes, HashType, KeyTemplate, OutputPrefixType};
 use tink_proto_keys::{

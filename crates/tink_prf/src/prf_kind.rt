@@ -4,7 +4,8 @@ ghost use Rattle.tink_prf.specs.PrfKinds.{kind_output, kind_output_told};
 
 use crate::subtle::{AesCmacPrf, HkdfPrf, HmacPrf};
 use std::alloc::Global;
-use tink_core::{CloneIn, Kinds, Never, Prf, TinkError};
+use tink_io::TinkError;
+use tink_primitives::{CloneIn, Kinds, Never, Prf};
 use tink_proto::Bytes;
 
 /// A pseudorandom function of one of the three kinds.

@@ -10,10 +10,10 @@ use crate::{
     hkdf_sha256_prf_key_template, hmac_sha256_prf_key_template, hmac_sha512_prf_key_template,
 };
 use std::alloc::Global;
-use tink_core::TinkError;
-use tink_core::registry::{KeyManager, Registry};
+use tink_io::TinkError;
 use tink_key_types::add_template;
 use tink_proto::{KeyTemplate, Text};
+use tink_registry::{KeyManager, Registry};
 
 /// Registers the managers of HMAC, HKDF and AES-CMAC keys, in this order, and the four templates, or nothing.
 ///

@@ -13,11 +13,12 @@ ghost use Rattle.tink_prf.specs.Sets.{and_then, primary_output, prf_of, prfs_of,
 
 use std::alloc::Global;
 use std::collections::BTreeMap;
-use tink_core::keyset::Handle;
-use tink_core::primitiveset::{Entry, PrimitiveSet};
-use tink_core::registry::{KeyManager, Registry};
-use tink_core::{CloneIn, KeyId, Kind, Kinds, Prf, Primitive, TinkError};
+use tink_io::{Kind, TinkError};
+use tink_keysets::keyset::Handle;
+use tink_primitives::{CloneIn, KeyId, Kinds, Prf, Primitive};
 use tink_proto::{Bytes, Repeated};
+use tink_registry::{KeyManager, Registry};
+use tink_sets::{Entry, PrimitiveSet};
 
 /// The pseudorandom functions of a keyset by the ids of their keys.
 #[derive(Drop)]

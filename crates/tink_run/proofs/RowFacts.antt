@@ -26,7 +26,7 @@ use Rattle.wire_format.specs.Message.{decoded}
 use Rattle.stream_model.specs.Key.{StreamKey, IsUsable}
 use Rattle.stream_model.specs.Order.{IsOfKeyset}
 use Rattle.loading_model.specs.Building.{streaming_of, gcm_hkdf_of}
-use Rattle.tink_core.specs.Subtle.{hash_named}
+use Rattle.tink_subtle.specs.Hashes.{hash_named}
 use Rattle.tink_key_types.specs.HashTypes.{hash_type_of}
 use Rattle.tink_key_types.specs.Manager.{built_by, built_if, builds, message_of}
 use Rattle.tink_prf.specs.KeyTypes as prf_keys

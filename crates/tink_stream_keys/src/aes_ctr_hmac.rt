@@ -1,16 +1,16 @@
 //! Keys of streams in counter mode with HMAC.
 
-ghost use Rattle.tink_core.specs.Subtle.{hash_named};
+ghost use Rattle.tink_subtle.specs.Hashes.{hash_named};
 ghost use Rattle.tink_io.specs.Told.{Answers, Tells};
 ghost use Rattle.tink_stream_keys.specs.StreamingKeys.{ctr_hmac_key, ctr_hmac_sizes};
 
 use crate::stream_params::{SegmentParams, StreamParams, is_key_size, is_small};
 use crate::streaming_key::StreamingKey;
 use std::alloc::Global;
-use tink_core::subtle::get_hash_func;
 use tink_io::{Kind, TinkError};
 use tink_proto::HashType;
 use tink_segments::CtrHmacSegment;
+use tink_subtle::get_hash_func;
 
 // The fewest bytes of a tag.
 const MIN_TAG_SIZE: usize = 10;

@@ -1,6 +1,6 @@
 //! Keys of streams by AES-GCM.
 
-ghost use Rattle.tink_core.specs.Subtle.{hash_named};
+ghost use Rattle.tink_subtle.specs.Hashes.{hash_named};
 ghost use Rattle.tink_io.specs.Told.{Answers, Tells};
 ghost use Rattle.tink_stream_keys.specs.StreamingKeys.{gcm_hkdf_key, gcm_hkdf_sizes};
 

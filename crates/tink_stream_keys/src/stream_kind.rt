@@ -4,8 +4,8 @@ use crate::aes_ctr_hmac::AesCtrHmac;
 use crate::aes_gcm_hkdf::AesGcmHkdf;
 use crate::stream_params::{DerivesStreams, StreamParams};
 use std::alloc::Global;
-use tink_core::{CloneIn, Kinds, Never};
 use tink_io::TinkError;
+use tink_primitives::{CloneIn, Kinds, Never};
 use tink_sets::TypedEntry;
 
 /// A key of streams.

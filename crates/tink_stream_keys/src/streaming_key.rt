@@ -12,9 +12,8 @@ use crate::encrypting::new_encrypting_writer;
 use crate::stream_params::{DerivesStreams, StreamParams};
 use std::alloc::Global;
 use std::marker::{Model, PhantomData};
-use tink_core::CloneIn;
 use tink_io::{Draws, Sink, Source, TinkError};
-use tink_primitives::{Refused, StreamingAead};
+use tink_primitives::{CloneIn, Refused, StreamingAead};
 use tink_segments::StreamSegment;
 use tink_streams::{Reader, Writer};
 

@@ -15,13 +15,14 @@ use crate::key_sizes::{are_key_sizes, hash_numbered, type_of};
 use crate::{StreamKind, StreamKinds};
 use hash_keys::Hash;
 use std::alloc::Global;
-use tink_core::subtle::random::get_random_bytes;
-use tink_core::{Draws, Kind, Primitive, TinkError};
+use tink_io::{Draws, Kind, TinkError};
 use tink_key_types::{KeyType, SymmetricKeyManager};
+use tink_primitives::Primitive;
 use tink_proto_keys::{
     AesGcmHkdfStreamingKey, AesGcmHkdfStreamingKeyFormat, AesGcmHkdfStreamingParams,
 };
 use tink_stream_keys::AesGcmHkdf;
+use tink_subtle::random::get_random_bytes;
 
 /// The version of keys of streams by AES-GCM.
 pub const AES_GCM_HKDF_KEY_VERSION: u32 = 0;

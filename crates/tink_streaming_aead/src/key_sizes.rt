@@ -2,7 +2,7 @@
 
 ghost use Rattle.std.specs.Prelude.{◌≡◌, Some};
 ghost use Rattle.loading_model.specs.Building as building;
-ghost use Rattle.tink_core.specs.Subtle.{hash_named};
+ghost use Rattle.tink_subtle.specs.Hashes.{hash_named};
 
 use hash_keys::Hash;
 use tink_proto::HashType;

@@ -9,7 +9,7 @@ use crate::{
     AES_GCM_HKDF_TYPE_URL,
 };
 use std::alloc::Global;
-use tink_core::TinkError;
+use tink_io::TinkError;
 use tink_key_types::new_template;
 use tink_proto::{HashType, KeyTemplate, OutputPrefixType};
 use tink_proto_keys::{

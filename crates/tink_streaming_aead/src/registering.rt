@@ -13,10 +13,10 @@ use crate::{
     aes256_gcm_hkdf_4kb_key_template,
 };
 use std::alloc::Global;
-use tink_core::TinkError;
-use tink_core::registry::{KeyManager, Registry};
+use tink_io::TinkError;
 use tink_key_types::add_template;
 use tink_proto::{KeyTemplate, Text};
+use tink_registry::{KeyManager, Registry};
 
 /// Registers the managers of keys in counter mode with HMAC and by AES-GCM, in this order, and the eight templates, or
 /// nothing.

@@ -10,7 +10,7 @@ use Rattle.tink_proto.specs.declared.messages.keys.KeyData.{KeyData}
 use Rattle.tink_primitives.specs.Meaning.{IsDrawn, IsTold}
 use Rattle.tink_primitives.specs.MeaningLaws.{drawn_if, drawn_none, drawn_take, told_if}
 use Rattle.tink_registry.specs.Known.{IsOfKnownMaterial}
-use Rattle.tink_keysets.specs.Told.{takes_bytes}
+use Rattle.tink_subtle.specs.Random.{takes_bytes}
 
 abbrev pub sealed : List ℕ → List ℕ → List ℕ → Result (List ℕ) Kind × List ℕ
 sealed key text draws = if nat_le 1 (length draws) then (Ok (take 1 draws ++ text ++ key), drop 1 draws) else (Err RandomFault, draws)

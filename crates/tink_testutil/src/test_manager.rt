@@ -10,10 +10,10 @@ ghost use Rattle.tink_testutil.specs.TestKeys as test_keys;
 use crate::{TestAead, TestKinds};
 use std::alloc::Global;
 use tink_io::{Draws, Kind, TinkError};
-use tink_keysets::random::get_random_bytes;
 use tink_primitives::Primitive;
 use tink_proto::{Bytes, KeyData, KeyMaterialType, Text};
 use tink_registry::KeyManager;
+use tink_subtle::random::get_random_bytes;
 
 /// A manager of test keys.
 #[derive(Drop)]

@@ -5,9 +5,9 @@ ghost use Rattle.std.specs.List.{list_any};
 ghost use Rattle.keyset_model.specs.Adding as adding;
 ghost use Rattle.keyset_model.specs.Keys as key_words;
 
-use crate::random::get_random_uint32;
 use tink_io::{Draws, Kind, TinkError};
 use tink_proto::Key;
+use tink_subtle::random::get_random_uint32;
 
 // How many ids are drawn at most.
 const MOST_IDS: u32 = 128;

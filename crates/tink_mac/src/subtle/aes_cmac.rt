@@ -8,8 +8,9 @@ ghost use Rattle.tink_mac.specs.TagLaws.{own_tag_match};
 use crate::subtle::compare_tags;
 use std::alloc::Global;
 use std::marker::Model;
-use tink_core::{CloneIn, Kind, Mac, Prf, TinkError};
+use tink_io::{Kind, TinkError};
 use tink_prf::subtle::AesCmacPrf;
+use tink_primitives::{CloneIn, Mac, Prf};
 use tink_proto::Bytes;
 
 const MIN_CMAC_KEY_SIZE_IN_BYTES: usize = 16;

@@ -10,7 +10,8 @@ use cipher::KeyInit;
 use hash_keys::cmac_into;
 use std::alloc::{AllocError, Global};
 use std::marker::Model;
-use tink_core::{CloneIn, Kind, Prf, TinkError};
+use tink_io::{Kind, TinkError};
+use tink_primitives::{CloneIn, Prf};
 use tink_proto::Bytes;
 
 const RECOMMENDED_KEY_SIZE: usize = 32;

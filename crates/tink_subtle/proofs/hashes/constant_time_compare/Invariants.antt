@@ -1,5 +1,5 @@
 use Rattle.std.proofs.Common.{◌≡◌, take, true, false}
-use Rattle.tink_core.proofs.subtle.constant_time_compare.Given as goal
+use Rattle.tink_subtle.proofs.hashes.constant_time_compare.Given as goal
 
 abbrev pub invariant-loop-i : goal.invariant-loop-i
 invariant-loop-i l = record {

@@ -4,7 +4,7 @@ ghost use Rattle.std.specs.Prelude.{◌≡◌, ◌↔◌, ◌<◌, length, take,
 ghost use Rattle.std.specs.Int.{w32, from_be_bytes};
 ghost use Rattle.tink_io.specs.Told.{Replies};
 ghost use Rattle.tink_io.specs.declared.error.Kind.TheVariants.{RandomFault};
-ghost use Rattle.tink_keysets.specs.Told.{takes_bytes};
+ghost use Rattle.tink_subtle.specs.Random.{takes_bytes};
 
 use std::alloc::Global;
 use tink_io::{Draws, Kind, TinkError};

@@ -3,7 +3,7 @@ use Rattle.std.specs.Prelude.{Ok}
 use Rattle.std.proofs.lemmas.List.{take_all, take_at}
 use Rattle.hash_keys.specs.Hash.{hash_of}
 use Rattle.hash_keys.proofs.Lengths.{length-hash_of}
-use Rattle.tink_core.proofs.subtle.compute_hash.Goals as goal
+use Rattle.tink_subtle.proofs.hashes.compute_hash.Goals as goal
 
 pub returns : goal.returns
 returns c =
