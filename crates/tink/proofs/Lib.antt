@@ -1,2 +1,5 @@
 pub mod Making
+pub mod RowFacts
 pub mod SoundFacts
+pub mod TemplateSteps
+pub mod TemplateFacts

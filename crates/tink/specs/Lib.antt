@@ -1,3 +1,5 @@
 pub mod Rows
 pub mod Managers
 pub mod Registered
+pub mod LoadingRows
+pub mod NamedTemplates

@@ -10,13 +10,14 @@ ghost use Rattle.tink.specs.Rows.{widened};
 use crate::managers::TinkKinds;
 use std::alloc::Global;
 use tink_aead::AeadKinds;
-use tink_core::registry::KeyManager;
-use tink_core::{Draws, Primitive, TinkError};
 use tink_daead::DaeadKinds;
+use tink_io::{Draws, TinkError};
 use tink_key_types::{KeyType, SymmetricKeyManager};
 use tink_mac::MacKinds;
 use tink_prf::PrfKinds;
+use tink_primitives::Primitive;
 use tink_proto::{Bytes, KeyData};
+use tink_registry::KeyManager;
 use tink_streaming_aead::StreamKinds;
 
 // The AEAD of a key's bytes.

@@ -16,8 +16,9 @@ pub mod streaming_aead;
 pub use laws::law_macs_are_sound;
 pub use managers::{Managers, TinkKinds};
 pub use registering::registry;
-pub use tink_core::registry::{KeyManager, Registry};
-pub use tink_core::{
-    Aead, Cause, DeterministicAead, Draws, Kind, Kinds, Lent, Mac, MemSink, MemSource, Prf,
-    Primitive, Sink, Source, StdSink, StdSource, SureSink, SureSource, TinkError,
+pub use tink_io::{
+    Cause, Draws, Kind, Lent, MemSink, MemSource, Sink, Source, StdSink, StdSource, SureSink,
+    SureSource, TinkError,
 };
+pub use tink_primitives::{Aead, DeterministicAead, Kinds, Mac, Prf, Primitive};
+pub use tink_registry::{KeyManager, Registry};

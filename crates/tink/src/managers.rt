@@ -16,17 +16,18 @@ use tink_aead::{
     AeadKind, AesCtrHmacAeadKeyManager, AesCtrHmacAeadKeys, AesGcmKeyManager, AesGcmKeys,
     AesGcmSivKeyManager, AesGcmSivKeys,
 };
-use tink_core::registry::KeyManager;
-use tink_core::{Draws, Kind, Kinds, Never, Primitive, TinkError};
 use tink_daead::subtle::AesSiv;
 use tink_daead::{AesSivKeyManager, AesSivKeys};
+use tink_io::{Draws, Kind, TinkError};
 use tink_key_types::KeyType;
 use tink_mac::{AesCmacKeyManager, AesCmacKeys, HmacKeyManager, HmacKeys, MacKind};
 use tink_prf::{
     AesCmacPrfKeyManager, AesCmacPrfKeys, HkdfPrfKeyManager, HkdfPrfKeys, HmacPrfKeyManager,
     HmacPrfKeys, PrfKind,
 };
+use tink_primitives::{Kinds, Never, Primitive};
 use tink_proto::{Bytes, KeyData, KeyMaterialType};
+use tink_registry::KeyManager;
 use tink_streaming_aead::{
     AesCtrHmacKeyManager, AesCtrHmacKeys, AesGcmHkdfKeyManager, AesGcmHkdfKeys, StreamKind,
 };

@@ -6,8 +6,8 @@ ghost use Rattle.tink.specs.Registered.{nothing, with_aeads, with_everything, wi
 
 use crate::Managers;
 use std::alloc::Global;
-use tink_core::TinkError;
-use tink_core::registry::Registry;
+use tink_io::TinkError;
+use tink_registry::Registry;
 
 /// A registry of all eleven managers and of the 26 templates that have a name.
 ///

@@ -5,7 +5,6 @@
 
 mod key_files;
 mod ranges;
-mod refusals;
 mod saved;
 mod streams;
 mod tokens;
@@ -13,7 +12,6 @@ mod wrapping;
 
 pub use key_files::{edit_keys, new_keys, rotate_keys};
 pub use ranges::range_to;
-pub use refusals::advice;
 pub use saved::save_answer;
 pub use streams::{rewrap_to, run_to};
 pub use tokens::{sign_to, verify_to};

@@ -1,5 +1,3 @@
 pub mod ValidatedFacts
 pub mod IdFacts
-pub mod TemplateSteps
-pub mod TemplateFacts
 pub mod RotatingSteps

@@ -6,8 +6,9 @@ ghost use Rattle.tink_io.specs.declared.error.Kind.TheVariants.{OutOfMemory, Unk
 ghost use Rattle.tink_io.specs.Told.{Answers};
 ghost use Rattle.keyset_model.specs.Validity.{IsValid, are_well_formed};
 ghost use Rattle.tink_keysets.specs.Managed.{no_keys};
+ghost use Rattle.tink.specs.NamedTemplates.{template_named};
 ghost use Rattle.tink.specs.Registered.{with_everything};
-ghost use Rattle.tink_keygen.specs.Rotating.{IsNotRotated, key_line, left_after, left_by, rotated, rotated_by, template_named};
+ghost use Rattle.tink_keygen.specs.Rotating.{IsNotRotated, key_line, left_after, left_by, rotated, rotated_by};
 ghost use Rattle.tink_keysets.specs.Through.{LeavesDraws};
 ghost use Rattle.tink_keysets.specs.Valid.{valid_keyset};
 

@@ -11,7 +11,8 @@ use Rattle.tink_keygen.specs.Rotating.{IsNotRotated}
 use Rattle.tink_run.specs.Outside.{Outside, IsUntouched}
 use Rattle.tink_run_tokens.specs.Inputs.{IsUnwritten}
 use Rattle.tink_program.specs.Keysets.{made_keyset, of_keyset, of_no_keys, IsLine, IsUnmadeBy, KeysetMeans, MakesKeyset, RefusesLine, RefusesRotation, Rotation, WritesLine, WrotePrefix}
-use Rattle.tink_program.specs.Program.{answer_outcome, kind_status, own_statuses, refused_statuses, status_of, IsAmong, IsUnwrittenKind, Leaves}
+use Rattle.tink_refusals.specs.Statuses.{kind_status}
+use Rattle.tink_program.specs.Program.{answer_outcome, own_statuses, refused_statuses, status_of, IsAmong, IsUnwrittenKind, Leaves}
 use Rattle.tink_program.specs.Words.Asked.{Making, Rotating}
 use Rattle.tink_program.specs.declared.program.Outcome.{Outcome}
 use Rattle.tink_program.specs.declared.program.Outcome.TheVariants.{Done, Usage, Refused}

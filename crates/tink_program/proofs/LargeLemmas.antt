@@ -8,7 +8,8 @@ use Rattle.tink_io.specs.declared.error.TinkError.{TinkError}
 use Rattle.tink_run.specs.Outside.{Outside, IsUntouched}
 use Rattle.tink_program.specs.Keysets.{WrotePrefix}
 use Rattle.tink_program.specs.Large.{lines_of, LargeMeans, MeasuresLarge, RefusesLarge, WritesLarge}
-use Rattle.tink_program.specs.Program.{answer_outcome, kind_status, own_statuses, refused_statuses, status_of, IsAmong}
+use Rattle.tink_refusals.specs.Statuses.{kind_status}
+use Rattle.tink_program.specs.Program.{answer_outcome, own_statuses, refused_statuses, status_of, IsAmong}
 use Rattle.tink_program.specs.Words.Asked.{Measuring}
 use Rattle.tink_program.specs.declared.program.Outcome.{Outcome}
 use Rattle.tink_program.specs.declared.program.Outcome.TheVariants.{Done, Usage, Refused}

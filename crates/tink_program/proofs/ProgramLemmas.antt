@@ -9,7 +9,8 @@ use Rattle.tink_program.specs.declared.program.Outcome.{Outcome}
 use Rattle.tink_program.specs.declared.program.Outcome.TheVariants.{Refused}
 use Rattle.tink_program.specs.Draws.{draws_in}
 use Rattle.tink_program.specs.Keysets.{of_keyset, of_no_keys}
-use Rattle.tink_program.specs.Program.{kind_status, status_of, CommandMeans, OutcomeMeans, Promised, Promises, StatusMeans}
+use Rattle.tink_refusals.specs.Statuses.{kind_status}
+use Rattle.tink_program.specs.Program.{status_of, CommandMeans, OutcomeMeans, Promised, Promises, StatusMeans}
 use Rattle.tink_program.specs.Words.{Asked, Spells}
 use Rattle.tink_program.specs.Words.Asked.{Making, Measuring, Opening, Ranging, Rewrapping, Rotating, Sealing, Signing, Verifying}
 use Rattle.tink_program.proofs.KeysetLemmas.{keygen_facts, keyset_promised, rotate_facts}

@@ -18,7 +18,8 @@ use Rattle.tink_run_range.specs.KeysetRanges.{GivesSlice}
 use Rattle.tink_run_range.specs.SetRanges.{WritesNoRange}
 use Rattle.tink_run_tokens.specs.Inputs.{input_limit, InputRefused, IsOfInput, IsUnloadable}
 use Rattle.tink_run_tokens.proofs.ToldLemmas.{not_long, of_loaded, of_told, one_load}
-use Rattle.tink_program.specs.Program.{answer_outcome, kind_status, own_statuses, status_of, IsAmong, IsEarlyKind, IsUnwrittenBy, Leaves}
+use Rattle.tink_refusals.specs.Statuses.{kind_status}
+use Rattle.tink_program.specs.Program.{answer_outcome, own_statuses, status_of, IsAmong, IsEarlyKind, IsUnwrittenBy, Leaves}
 use Rattle.tink_program.specs.Ranges.{HoldsNoInput, IsRangeWhole, RangeAnswer, RangeOutcome, RangePromises, RangesInput, RefusesRange, SinkAt, StopsRange, moments_of}
 use Rattle.tink_program.specs.Words.Asked.{Ranging}
 use Rattle.tink_program.specs.declared.program.Outcome.{Outcome}

@@ -11,7 +11,8 @@ use Rattle.tink_run.specs.declared.report.Report.{Report}
 use Rattle.tink_rewrap.specs.Rewrapping.{RewrapMeans, RewrapsLoaded, Sides}
 use Rattle.tink_rewrap.proofs.PromiseSteps.{complete, unended}
 use Rattle.tink_program.specs.Draws.{draws_in}
-use Rattle.tink_program.specs.Program.{answer_outcome, kind_status, own_statuses, refused_statuses, status_by, status_of, IsAmong, IsEarlyKind, IsUnwrittenKind, Leaves}
+use Rattle.tink_refusals.specs.Statuses.{kind_status}
+use Rattle.tink_program.specs.Program.{answer_outcome, own_statuses, refused_statuses, status_by, status_of, IsAmong, IsEarlyKind, IsUnwrittenKind, Leaves}
 use Rattle.tink_program.specs.Streams.{IsUnmovable, Moved, MovesWhole, RewrapOutcome, RewrapPromises, SparesEnds}
 use Rattle.tink_program.specs.Words.Asked.{Rewrapping}
 use Rattle.tink_program.specs.declared.program.Outcome.{Outcome}

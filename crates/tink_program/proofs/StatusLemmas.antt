@@ -6,7 +6,8 @@ use Rattle.tink_io.specs.declared.error.Kind.TheVariants.{OutOfMemory, ReadFault
 use Rattle.tink_run.specs.Outside.{Outside, IsUntouched}
 use Rattle.tink_program.specs.declared.program.Outcome.{Outcome}
 use Rattle.tink_program.specs.declared.program.Outcome.TheVariants.{Done, Usage, Refused}
-use Rattle.tink_program.specs.Program.{early_statuses, kind_status, late_statuses, own_statuses, reads_first, refused_statuses, status_of, unwritten_statuses, IsAmong, IsCause, IsEarlyKind, IsReadingFirst, IsUnusableBy, IsUnwrittenBy, IsUnwrittenKind, KeepsEnds, Leaves, StatusMeans}
+use Rattle.tink_refusals.specs.Statuses.{kind_status}
+use Rattle.tink_program.specs.Program.{early_statuses, late_statuses, own_statuses, reads_first, refused_statuses, status_of, unwritten_statuses, IsAmong, IsCause, IsEarlyKind, IsReadingFirst, IsUnusableBy, IsUnwrittenBy, IsUnwrittenKind, KeepsEnds, Leaves, StatusMeans}
 use Rattle.tink_run_tokens.specs.Inputs.{IsUnwritten, LeavesSink}
 use Rattle.tink_program.specs.Words.{Asked, SpellNothing, Spells}
 use Rattle.tink_program.specs.Words.Asked.{Making, Measuring, Opening, Ranging, Rewrapping, Rotating, Sealing, Signing, Verifying}

@@ -18,10 +18,11 @@ use Rattle.tink_run.specs.declared.report.Command.{Command}
 use Rattle.tink_run.specs.declared.report.Command.TheVariants.{Seal, Open}
 use Rattle.tink_run.specs.declared.report.Report.{Report}
 use Rattle.tink_run.proofs.Promises.{only_agreeing}
-use Rattle.tink_run.proofs.RowFacts.{loaded_usable}
+use Rattle.tink_run.proofs.LoadedFacts.{loaded_usable}
 use Rattle.tink_run.proofs.RunSteps.{leaves_same}
 use Rattle.tink_program.specs.Draws.{draws_in}
-use Rattle.tink_program.specs.Program.{answer_outcome, kind_status, own_statuses, refused_statuses, status_of, IsAmong, IsEarlyKind, IsUnwrittenKind, Leaves}
+use Rattle.tink_refusals.specs.Statuses.{kind_status}
+use Rattle.tink_program.specs.Program.{answer_outcome, own_statuses, refused_statuses, status_of, IsAmong, IsEarlyKind, IsUnwrittenKind, Leaves}
 use Rattle.tink_program.specs.Streams.{IsDoneOrWant, OpenPromises, OpensWhole, Ran, SealPromises, SealsWhole, SparesEnds, StopsUnmarked, StreamMeans}
 use Rattle.tink_program.specs.Words.Asked.{Opening, Sealing}
 use Rattle.tink_program.specs.declared.program.Outcome.{Outcome}

@@ -5,8 +5,9 @@ use Rattle.tink_io.specs.Faults.{Rose}
 use Rattle.tink_io.specs.Texts.{kind_line}
 use Rattle.tink_io.specs.Written.{WritesOrFaults}
 use Rattle.tink_io.specs.declared.error.Kind.{Kind}
-use Rattle.tink_io.specs.declared.error.Kind.TheVariants.{OutOfMemory, ReadFault, WriteFault, BadKeyset, InvalidKeyset, UnsupportedKeyType, InvalidKey, NoPrimary, WrongPrimitive, UnsupportedHash, TooManySegments, NoMatchingKey, BadSegment, Truncated, UnknownTemplate, NoFreshId, InputTooLong, BadToken, MacMismatch}
+use Rattle.tink_io.specs.declared.error.Kind.TheVariants.{OutOfMemory, BadKeyset, InvalidKeyset, UnsupportedKeyType, InvalidKey, NoPrimary, WrongPrimitive, UnsupportedHash, NoMatchingKey, UnknownTemplate, NoFreshId, InputTooLong, BadToken, MacMismatch}
 use Rattle.tink_io.specs.declared.error.TinkError.{TinkError}
+use Rattle.tink_refusals.specs.Statuses.{kind_status}
 use Rattle.tink_run.specs.AllKeys.{load}
 use Rattle.tink_run.specs.Outside.{Outside, IsUntouched}
 use Rattle.tink_run.specs.declared.report.Command.TheVariants.{Seal, Open}
@@ -25,29 +26,6 @@ use Rattle.tink_program.specs.Words.{Asked, SpellNothing, Spells}
 use Rattle.tink_program.specs.Words.Asked.{Making, Measuring, Opening, Ranging, Rewrapping, Rotating, Sealing, Signing, Verifying}
 
 -- ---- statuses and lines
-
--- a refusal's status. A kind of the last line never comes.
-abbrev pub kind_status : Kind → ℕ
-kind_status OutOfMemory = 10
-kind_status ReadFault = 11
-kind_status WriteFault = 12
-kind_status BadKeyset = 13
-kind_status InvalidKeyset = 14
-kind_status UnsupportedKeyType = 15
-kind_status InvalidKey = 16
-kind_status NoPrimary = 17
-kind_status WrongPrimitive = 18
-kind_status UnsupportedHash = 19
-kind_status TooManySegments = 20
-kind_status NoMatchingKey = 21
-kind_status (BadSegment number) = 22
-kind_status (Truncated number) = 23
-kind_status UnknownTemplate = 24
-kind_status NoFreshId = 25
-kind_status InputTooLong = 26
-kind_status BadToken = 27
-kind_status MacMismatch = 28
-kind_status _ = 255
 
 abbrev pub status_of : Outcome → ℕ
 status_of Done = 0

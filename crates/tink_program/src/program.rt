@@ -96,26 +96,7 @@ pub fn status(outcome: Outcome) -> u8
     match outcome {
         Outcome::Done => 0,
         Outcome::Usage => 2,
-        Outcome::Refused(Kind::OutOfMemory) => 10,
-        Outcome::Refused(Kind::ReadFault) => 11,
-        Outcome::Refused(Kind::WriteFault) => 12,
-        Outcome::Refused(Kind::BadKeyset) => 13,
-        Outcome::Refused(Kind::InvalidKeyset) => 14,
-        Outcome::Refused(Kind::UnsupportedKeyType) => 15,
-        Outcome::Refused(Kind::InvalidKey) => 16,
-        Outcome::Refused(Kind::NoPrimary) => 17,
-        Outcome::Refused(Kind::WrongPrimitive) => 18,
-        Outcome::Refused(Kind::UnsupportedHash) => 19,
-        Outcome::Refused(Kind::TooManySegments) => 20,
-        Outcome::Refused(Kind::NoMatchingKey) => 21,
-        Outcome::Refused(Kind::BadSegment(_)) => 22,
-        Outcome::Refused(Kind::Truncated(_)) => 23,
-        Outcome::Refused(Kind::UnknownTemplate) => 24,
-        Outcome::Refused(Kind::NoFreshId) => 25,
-        Outcome::Refused(Kind::InputTooLong) => 26,
-        Outcome::Refused(Kind::BadToken) => 27,
-        Outcome::Refused(Kind::MacMismatch) => 28,
-        Outcome::Refused(_) => 255,
+        Outcome::Refused(kind) => tink_refusals::status(kind),
     }
 }
 

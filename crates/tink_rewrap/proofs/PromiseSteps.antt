@@ -26,7 +26,7 @@ use Rattle.tink_run.specs.OpenAnswers.{AgreesUntil, AreTextsBy, IsBroken, Lead, 
 use Rattle.tink_run.specs.Outside.{Outside, HasNoFault, IsUntouched}
 use Rattle.tink_run.specs.Run.{IsOfAgreeing, IsWholeText, Told}
 use Rattle.tink_run.proofs.OpenLemmas.{chosen_lawful, kept_prefix, open_agreeing, open_succeeds, same_loaded, stream_agreeing, stream_agrees, stream_complete, whole_prefix}
-use Rattle.tink_run.proofs.RowFacts.{loaded_usable}
+use Rattle.tink_run.proofs.LoadedFacts.{loaded_usable}
 use Rattle.tink_run.proofs.RunLemmas.{told_appended, told_if}
 use Rattle.tink_rewrap.specs.Passing.{bytes_under, into, PassMeans, PassRefused, StopsBy}
 use Rattle.tink_rewrap.specs.Rewrapping.{HasKey, IsUnloaded, RewrapMeans, RewrapRefused, RewrapsLoaded, RewrapsUnder, RewrapsUnderRefused, Sides}

@@ -26,7 +26,7 @@ use Rattle.tink_run.specs.Outside.{Outside}
 use Rattle.tink_run.specs.SealSteps.{kind_not_begun}
 use Rattle.tink_run.proofs.OneKeyFacts.{broken_by, means_by}
 use Rattle.tink_run.proofs.OpenLemmas.{chosen_lawful}
-use Rattle.tink_run.proofs.RowFacts.{load_refuses, loaded_usable}
+use Rattle.tink_run.proofs.LoadedFacts.{load_refuses, loaded_usable}
 use Rattle.tink_run.proofs.RunSteps.{are_of_keyset}
 use Rattle.tink_run.proofs.SealSteps.{longest_is, no_keys, part_is, stream_is}
 use Rattle.tink_rewrap.specs.Passing.{bytes_by, bytes_under, into, PassMeans, PassRefused}

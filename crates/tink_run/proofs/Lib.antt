@@ -10,7 +10,7 @@ pub mod OpenSteps
 pub mod ReadsSteps
 pub mod RunSteps
 pub mod ReadEndings
-pub mod RowFacts
+pub mod LoadedFacts
 pub mod LoadSteps
 mod StandardFacts
 pub mod RotationLaws

@@ -12,7 +12,8 @@ use Rattle.keyset_model.specs.Validity.{is_valid}
 use Rattle.tink_keysets.specs.Encrypted.{chained}
 use Rattle.tink_keysets.specs.Valid.{valid_keyset, valid_or_refused}
 use Rattle.loading_model.specs.Loading.{load_decoded, load_keys, ◌then◌}
-use Rattle.tink_run.specs.AllKeys.{load, rows}
+use Rattle.tink.specs.LoadingRows.{rows}
+use Rattle.tink_run.specs.AllKeys.{load}
 use Rattle.tink_run.specs.HeldKeys.{GivesLoaded}
 
 -- what is loaded are the keys of the valid keyset

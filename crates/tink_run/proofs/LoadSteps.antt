@@ -32,7 +32,7 @@ use Rattle.tink_stream_keys.specs.declared.stream_kind.StreamKind.{StreamKind}
 use Rattle.tink_stream_keys.specs.StreamKinds.{key_in_set, key_of}
 use Rattle.tink_streaming_aead.specs.Wrapped.{key_in, keys_in}
 use Rattle.loading_model.specs.Loading.{EnabledKey, Loaded, LoadedKey, LoadingRow, ◌then◌, build, build_data, build_key, build_keys, built_by, key_of_id, out_of, load_built, load_keys, streaming_key, streaming_keys, streaming_part, with_primary}
-use Rattle.tink_run.specs.AllKeys.{built_key, loading_row, rows_by}
+use Rattle.tink.specs.LoadingRows.{built_key, loading_row, rows_by}
 use Rattle.tink_run.specs.HeldKeys.{GivesLoaded}
 
 and_parts : (a b : Bool) → (a && b) ≡ true → (a ≡ true) × (b ≡ true)

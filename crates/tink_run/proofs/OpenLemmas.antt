@@ -19,7 +19,7 @@ use Rattle.stream_model.proofs.KeyFacts.{CanOpen as Lawful, IsLawful, opening_ke
 use Rattle.stream_model.proofs.OpeningFacts.{IsChosen-unique, goes_on, Agree-unique, all_agree}
 use Rattle.loading_model.specs.Loading.{Loaded, LoadedKey, AreUsable, opening_keys}
 use Rattle.tink_run.specs.AllKeys.{load}
-use Rattle.tink_run.proofs.RowFacts.{loaded_usable}
+use Rattle.tink_run.proofs.LoadedFacts.{loaded_usable}
 use Rattle.tink_run.specs.declared.report.Report.{Report}
 use Rattle.tink_run.specs.Outside.{Outside, IsUntouched, HasNoFault}
 use Rattle.tink_run.specs.OpenAnswers.{OpensLoaded, OpeningRefused, OpenMeans, OpenRefused, IsOfChosen, AgreesUntil, Lead, AreTextsBy}

@@ -38,7 +38,7 @@ use Rattle.tink_run.proofs.EndingSteps.{cut_prefix, ends_mapped, if_told, kept_a
 use Rattle.tink_run.proofs.OpenLemmas.{chosen_lawful, kept_prefix, same_loaded, stream_agrees, whole_prefix}
 use Rattle.tink_run.proofs.ReadOut.{any_told}
 use Rattle.tink_run.proofs.ReadsSteps.{same_largest}
-use Rattle.tink_run.proofs.RowFacts.{loaded_usable}
+use Rattle.tink_run.proofs.LoadedFacts.{loaded_usable}
 use Rattle.tink_run.proofs.RunSteps.{are_of_keyset, opens_same}
 
 -- ---- from the moment of the answer to the end

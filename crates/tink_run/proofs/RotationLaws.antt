@@ -13,7 +13,8 @@ use Rattle.loading_model.specs.Loading.{Loaded, load_decoded, load_keyset, openi
 use Rattle.loading_model.specs.Rotation.{OpensTo}
 use Rattle.loading_model.proofs.RotationFacts.{streams_outlive, streams_outlive_by_id, streams_stay}
 use Rattle.tink_streaming_aead.proofs.SealedFacts.{one_list}
-use Rattle.tink_run.specs.AllKeys.{load, rows}
+use Rattle.tink.specs.LoadingRows.{rows}
+use Rattle.tink_run.specs.AllKeys.{load}
 use Rattle.tink_run.specs.Outside.{Outside}
 use Rattle.tink_run.specs.Rotation.{Opens, OpensAs, RunOpensAfterAdding, RunOpensAfterAll, RunOpensById, RunOpensEdited, RunsTo}
 use Rattle.tink_run.specs.Run.{CanOpen, IsWholeText}

@@ -7,7 +7,7 @@ use Rattle.tink_io.specs.declared.error.Kind.{Kind}
 use Rattle.tink_io.specs.declared.error.Kind.TheVariants.{OutOfMemory, ReadFault, WriteFault, RandomFault, BadKeyset, InvalidKeyset, UnsupportedKeyType, InvalidKey, NoPrimary, WrongPrimitive, UnsupportedHash, TooManySegments}
 use Rattle.tink_io.specs.declared.error.TinkError.{TinkError}
 use Rattle.stream_model.specs.Key.{StreamKey, IsUsable, first_room, room, keys_of}
-use Rattle.tink_run.proofs.RowFacts.{loaded_usable}
+use Rattle.tink_run.proofs.LoadedFacts.{loaded_usable}
 use Rattle.stream_model.specs.Sealing.{stream, chunk_count, drawn, salt_of, prefix_of}
 use Rattle.stream_model.proofs.SealingFacts.{chunks_more}
 use Rattle.loading_model.specs.Loading.{Loaded}

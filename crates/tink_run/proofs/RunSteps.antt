@@ -25,7 +25,7 @@ use Rattle.tink_run.specs.OpenReads.{OpensReading}
 use Rattle.tink_run.specs.OpenSteps.{OpensUnder, OpensUnderRefused}
 use Rattle.tink_run.proofs.OpenSteps as opening
 use Rattle.tink_run.proofs.SealSteps as sealing
-use Rattle.tink_run.proofs.RowFacts.{load_refuses, loaded_usable}
+use Rattle.tink_run.proofs.LoadedFacts.{load_refuses, loaded_usable}
 use Rattle.tink_run.proofs.OneKeyFacts.{means_by}
 use Rattle.tink_run.proofs.EndingSteps.{ends_mapped, opens_ended}
 use Rattle.tink_run.proofs.OpenLemmas.{chosen_lawful}

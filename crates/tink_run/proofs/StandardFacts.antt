@@ -10,7 +10,8 @@ use Rattle.wire_format.specs.Message.{contents, each, last_or, all_fields}
 use Rattle.stream_model.specs.Key.{StreamKey}
 use Rattle.stream_model.specs.Key.SegmentKind.{CtrHmac}
 use Rattle.loading_model.specs.Building.{streaming_of}
-use Rattle.tink_run.specs.AllKeys.{load, rows}
+use Rattle.tink.specs.LoadingRows.{rows}
+use Rattle.tink_run.specs.AllKeys.{load}
 
 -- no bytes are the keyset without keys
 no_bytes : load [] ≡ Err InvalidKeyset

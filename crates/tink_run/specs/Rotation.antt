@@ -8,7 +8,8 @@ use Rattle.keyset_model.specs.Spared.{Spares}
 use Rattle.stream_model.specs.Key.{StreamKey}
 use Rattle.loading_model.specs.Loading.{Loaded, load_keyset}
 use Rattle.loading_model.specs.Rotation.{AllLeavePlace, EnablesNone, IsChosenAt, LeavesKeys, OpensTo}
-use Rattle.tink_run.specs.AllKeys.{load, rows}
+use Rattle.tink.specs.LoadingRows.{rows}
+use Rattle.tink_run.specs.AllKeys.{load}
 use Rattle.tink_run.specs.Outside.{Outside}
 use Rattle.tink_run.specs.Run.{CanOpen, IsWholeText}
 use Rattle.tink_run.specs.declared.report.Report.{Report}

@@ -2,7 +2,8 @@
 
 ghost use Rattle.std.specs.Prelude.{◌≡◌, true, is_some, IfOk};
 ghost use Rattle.keyset_model.specs.Validity.{IsValid};
-ghost use Rattle.tink_run.specs.AllKeys.{load, rows, rows_by};
+ghost use Rattle.tink.specs.LoadingRows.{rows, rows_by};
+ghost use Rattle.tink_run.specs.AllKeys.{load};
 ghost use Rattle.tink_run.specs.HeldKeys.{GivesLoaded};
 ghost use Rattle.loading_model.specs.Loading.{load_keys};
 

@@ -36,8 +36,8 @@ use Rattle.loading_model.proofs.UsableKeys.{AreSound, IsOfLoading, IsSound}
 use Rattle.tink.specs.Managers.{row_of, Built}
 use Rattle.tink.specs.Registered.{with_everything}
 use Rattle.tink.specs.declared.managers.Managers.{Managers}
-use Rattle.tink_run.specs.AllKeys.{built_key}
-use Rattle.tink_run.proofs.RowFacts.{managers_sound, rows_of}
+use Rattle.tink.specs.LoadingRows.{built_key}
+use Rattle.tink.proofs.RowFacts.{managers_sound, rows_of}
 use Rattle.tink_run_tokens.specs.Tokens.{macs_in, macs_of, supports_own}
 
 -- a result refuses by a kind of loading

@@ -5,9 +5,8 @@ ghost use Rattle.tink_system.specs.Statuses.{refusal_status, trouble_status};
 
 use std::io;
 use std::io::ErrorKind;
-use tink_files::advice;
 use tink_io::Kind;
-use tink_program::program::Outcome;
+use tink_refusals::advice;
 
 /// Why a command ended without success.
 #[derive(Clone, Copy)]
@@ -56,7 +55,7 @@ fn status(kind: Kind) -> u8
         Kind::MasterFailed => 34,
         Kind::RandomFault => 35,
         Kind::KeysetTooLong => 13,
-        _ => tink_program::program::status(Outcome::Refused(kind)),
+        _ => tink_refusals::status(kind),
     }
 }
 

@@ -3,7 +3,7 @@ use Rattle.std.proofs.lemmas.Result.{err_from_is_err_and}
 use Rattle.tink_io.specs.declared.error.TinkError.{TinkError}
 use Rattle.tink_run.specs.HeldKeys.{GivesLoaded}
 use Rattle.loading_model.specs.Loading.{load_keys}
-use Rattle.tink_run.proofs.RowFacts.{rows_of_all}
+use Rattle.tink.proofs.RowFacts.{rows_of_all}
 use Rattle.tink_run.proofs.load.build_all.Goals as goal
 
 pub returns-in_err-registry-clause-answer : goal.returns-in_err-registry-clause-answer

@@ -7,7 +7,6 @@ use Rattle.tink_io.specs.declared.error.Kind.TheVariants.{InvalidKey}
 use Rattle.tink_io.specs.Told.{made_of, or_refused}
 use Rattle.tink_primitives.specs.Sorts.{as_aead, as_deterministic_aead, as_mac, as_prf, as_streaming_aead}
 use Rattle.tink_primitives.specs.declared.primitive.Primitive.TheVariants.{Aead, DeterministicAead, Mac, Prf, StreamingAead}
-use Rattle.tink_proto.specs.Messages.{keyset}
 use Rattle.tink_proto_keys.specs.Aead as aead_messages
 use Rattle.tink_proto_keys.specs.AesCtrHmac as composed_messages
 use Rattle.tink_proto_keys.specs.Mac as mac_messages
@@ -22,9 +21,7 @@ use Rattle.tink_proto_keys.specs.declared.mac.AesCmacParams.{AesCmacParams}
 use Rattle.tink_proto_keys.specs.declared.mac.HmacKey.{HmacKey}
 use Rattle.tink_proto_keys.specs.declared.mac.HmacParams.{HmacParams}
 use Rattle.wire_format.specs.Columns.{Column}
-use Rattle.wire_format.specs.Message.{decoded}
 use Rattle.stream_model.specs.Key.{StreamKey, IsUsable}
-use Rattle.stream_model.specs.Order.{IsOfKeyset}
 use Rattle.loading_model.specs.Building.{streaming_of, gcm_hkdf_of}
 use Rattle.tink_subtle.specs.Hashes.{hash_named}
 use Rattle.tink_key_types.specs.HashTypes.{hash_type_of}
@@ -51,10 +48,10 @@ use Rattle.tink.specs.Managers.{AeadBuilt, DaeadBuilt, MacBuilt, PrfBuilt, Strea
 use Rattle.tink.specs.Registered.{aead_managers, daead_managers, mac_managers, prf_managers, streaming_managers, with_everything}
 use Rattle.tink.specs.declared.managers.Managers.{Managers}
 use Rattle.tink_registry.specs.Listed.{Registered}
-use Rattle.loading_model.specs.Loading.{Loaded, LoadingRow, AreUsable}
-use Rattle.tink_run.specs.AllKeys.{built_key, load, rows, rows_by}
+use Rattle.loading_model.specs.Loading.{LoadingRow}
+use Rattle.tink.specs.LoadingRows.{built_key, rows, rows_by}
 use Rattle.loading_model.proofs.KeyFacts.{streaming_of_usable, gcm_hkdf_of_usable}
-use Rattle.loading_model.proofs.UsableKeys.{AreSound, IsOfLoading, IsSound, load_decoded_refuses, load_decoded_usable}
+use Rattle.loading_model.proofs.UsableKeys.{AreSound, IsSound}
 
 -- a result refuses by `InvalidKey` alone
 abbrev OrInvalid : {T : Type 0} → Result T Kind → Type 0
@@ -223,7 +220,7 @@ also : (more rest : List LoadingRow) → AreSound more → AreSound rest → Are
 also [] rest p q = q
 also (row ∷ more) rest p q = (p.0, also more rest p.1 q)
 
-rows_sound : AreSound rows
+pub rows_sound : AreSound rows
 unfolding rows
 rows_sound =
     also (rows_of prf_managers) (rows_of mac_managers ++ (rows_of aead_managers ++ (rows_of streaming_managers ++ rows_of daead_managers))) prf_rows
@@ -240,13 +237,3 @@ managers_sound = rows_sound
 pub rows_of_all : (r : Registered Managers) → r ≡ with_everything → rows_of r.managers ≡ rows
 unfolding rows
 rows_of_all r e = ap (λ (x : Registered Managers). rows_of x.managers) e
-
--- the sizes of each key that loads, and of the primary
-pub loaded_usable : (bytes : List ℕ) (l : Loaded) → load bytes ≡ Ok l → AreUsable l.keys × IsOfKeyset l.primary
-unfolding load
-loaded_usable bytes l e = load_decoded_usable rows rows_sound (decoded keyset.read bytes) l e
-
--- the kinds by which loading refuses
-pub load_refuses : (bytes : List ℕ) (kind : Kind) → load bytes ≡ Err kind → IsOfLoading kind
-unfolding load
-load_refuses bytes kind e = load_decoded_refuses rows rows_sound (decoded keyset.read bytes) kind e
