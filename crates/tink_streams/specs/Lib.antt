@@ -10,4 +10,5 @@ pub mod Readers
 pub mod Sealers
 pub mod Openers
 pub mod Keeping
+pub mod Rooms
 pub mod Trials

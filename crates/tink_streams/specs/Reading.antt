@@ -69,7 +69,7 @@ pub record TruncatedAt (seg : ℕ → Bool → List ℕ → List ℕ) (first siz
   pub number : n ≡ old.number
   pub short : IfSome old.rest (λ X. ((length (chunk_at first size old.number X) < overhead) ⊎ (X ≡ [])) × (0 < old.number → 0 < length X))
 
--- the next chunk is some bytes and no shorter, and is the segment of no text
+-- the next chunk is not empty, is no shorter than the overhead, and is the segment of no text
 pub record IsBad (seg : ℕ → Bool → List ℕ → List ℕ) (first size overhead : ℕ) (old new : ReaderMoment) (n : ℕ) : Type 0 where
   pub fails : FailsBy (cause.BadSegment n) old new
   pub nothing : NothingComes seg first size old

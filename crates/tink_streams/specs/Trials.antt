@@ -10,16 +10,6 @@ use Rattle.tink_streams.specs.Openers.{segment_map}
 use Rattle.tink_streams.specs.declared.kept.Kept.{Kept}
 use Rattle.tink_streams.specs.declared.trying.Begun.{Begun}
 
--- the buffers of what is kept, of nonces and of texts have the memory that they had, the first two their length, and no
--- fewer bytes are kept
-pub record KeepsRoom {Z : Type 0} (kept_before kept : Kept) (nonce_before nonce opened_before opened : Vec ℕ Z) : Type 0 where
-  pub len : vec_len kept.buffer ≡ vec_len kept_before.buffer
-  pub nonce_len : vec_len nonce ≡ vec_len nonce_before
-  pub capacity : vec_capacity opened ≡ vec_capacity opened_before
-  pub kept_capacity : vec_capacity kept.buffer ≡ vec_capacity kept_before.buffer
-  pub nonce_capacity : vec_capacity nonce ≡ vec_capacity nonce_before
-  pub more : kept_before.filled ≤ kept.filled
-
 -- the stream does not begin under the key, none of its bytes is lost, and the memory of a prefix is handed back
 pub record DoesNotBegin {Z : Type 0} (k : OpeningKey) (old new : Option (List ℕ)) (prefix : Vec ℕ Z) : Type 0 where
   pub none : IfSome old (λ X. Begins k X → ⊥)

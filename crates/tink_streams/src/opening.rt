@@ -2,6 +2,7 @@ ghost use Rattle.std.specs.Prelude.{◌≡◌, ◌≤◌, ◌<◌, ◌+◌, ◌^
 ghost use Rattle.stream_model.specs.Cut.{room_at};
 ghost use Rattle.tink_streams.specs.Openers.{segment_map};
 ghost use Rattle.tink_streams.specs.Opening.{HeadOpensTo};
+ghost use Rattle.tink_streams.specs.Rooms.{KeepsNonceAndText};
 
 use crate::memory::set_length;
 use crate::opener::Opener;
@@ -75,9 +76,7 @@ pub fn open_held<D: SegmentDecrypter>(
     ensures length { result ≡ true → vec_len opened.new + opener.now.overhead ≡ length segment.now }
     ensures refused { result ≡ false → (t : List ℕ) → segment_map opener.now number last t ≡ segment.now → ⊥ }
     ensures cleared { result ≡ false → opened.new.items ≡ [] }
-    ensures capacity { vec_capacity opened.new ≡ vec_capacity opened.old }
-    ensures nonce_len { vec_len nonce.new ≡ vec_len nonce.old }
-    ensures nonce_capacity { vec_capacity nonce.new ≡ vec_capacity nonce.old }
+    ensures room { KeepsNonceAndText nonce.old nonce.new opened.old opened.new }
 {
     open_into(
         opener,
@@ -109,9 +108,7 @@ pub fn open_front<D: SegmentDecrypter>(
     ensures refused { result ≡ false → (t : List ℕ) → HeadOpensTo (segment_map opener.now) number
         (room_at opener.now.first opener.now.size number) held.now t → ⊥ }
     ensures cleared { result ≡ false → opened.new.items ≡ [] }
-    ensures capacity { vec_capacity opened.new ≡ vec_capacity opened.old }
-    ensures nonce_len { vec_len nonce.new ≡ vec_len nonce.old }
-    ensures nonce_capacity { vec_capacity nonce.new ≡ vec_capacity nonce.old }
+    ensures room { KeepsNonceAndText nonce.old nonce.new opened.old opened.new }
 {
     let size = size_of(opener, number);
     let n = held.len().min(size);

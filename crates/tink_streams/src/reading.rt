@@ -51,13 +51,12 @@ fn progress_after(filled: usize) -> Progress
 impl<D: SegmentDecrypter + Drop> SegmentReader<D> {
     ghost use Rattle.tink_streams.specs.Reading.{OpenNextMeans};
     ghost use Rattle.tink_streams.specs.Openers.{held_bytes, reader_memory, reader_moment, segment_map};
+    ghost use Rattle.tink_streams.specs.Rooms.{HasBuffersFor};
 
     /// A reader that has opened nothing, and holds the first `filled` bytes of `buffers.sealed`.
     pub fn made(opener: Opener<D>, buffers: Buffers, filled: usize) -> SegmentReader<D>
-        requires text { (buffers.text.items ≡ []) × (opener.size ≤ vec_capacity buffers.text) }
-        requires sealed_room { opener.size < vec_len buffers.sealed }
+        requires room { HasBuffersFor opener buffers }
         requires filled { filled ≤ vec_len buffers.sealed }
-        requires nonce_room { opener.nonce_size ≤ vec_len buffers.nonce }
         ensures progress { result.progress ≡ Running }
         ensures segments { result.segments ≡ 0 }
         ensures held { held_bytes result ≡ take filled buffers.sealed.items }

@@ -4,7 +4,8 @@ ghost use Rattle.stream_model.specs.Opening.{OpeningKey, HasFront, begins_front,
 ghost use Rattle.tink_streams.specs.Choosing.{HasSizesOf};
 ghost use Rattle.tink_streams.specs.Keeping.{kept_rest};
 ghost use Rattle.tink_streams.specs.Openers.{segment_map};
-ghost use Rattle.tink_streams.specs.Trials.{KeepsRoom, TrialFailed, TrialMeans};
+ghost use Rattle.tink_streams.specs.Rooms.{HasRoomToTry, KeepsRoom};
+ghost use Rattle.tink_streams.specs.Trials.{TrialFailed, TrialMeans};
 
 use crate::kept::Kept;
 use crate::memory::refill;
@@ -164,10 +165,8 @@ pub fn try_key<S: Source, D: SegmentDecrypter + Drop, T: OpensStreams<D>>(
     nonce: &mut Vec<u8>,
     opened: &mut Vec<u8>,
 ) -> Result<Result<Begun<D>, Vec<u8>>, Failed>
-    requires buffer { length (T.opening_key key.now).out + (T.opening_key key.now).size < vec_len kept.old.buffer }
-    requires room { (T.opening_key key.now).size ≤ vec_capacity opened.old }
-    requires nonce { T.nonce_of key.now ≤ vec_len nonce.old }
-    requires prefix { 7 ≤ vec_capacity prefix }
+    requires room { HasRoomToTry (T.opening_key key.now) (T.nonce_of key.now) (vec_len kept.old.buffer)
+        (vec_capacity opened.old) (vec_len nonce.old) (vec_capacity prefix) }
     ensures answer { IfOk result (TrialMeans (T.opening_key key.now) (T.nonce_of key.now)
         (kept_rest S.left kept.old source.old) (kept_rest S.left kept.new source.new) kept.new.filled) }
     ensures failed { OnErr result (TrialFailed (kept_rest S.left kept.old source.old)

@@ -23,7 +23,7 @@ returns-in-Err-clause-answer g c =
           (subst (λ (n : ℕ). HoldsChunk n old held left) front_is c.in_ok-keep.ensures.held)
           (rw c.deref.ensures.value at c.in-Err.ensures.none);
       rest = c.in_ok-keep.ensures.held.all;
-      room = omega (arith, c.in-Err.ensures.room, c.requires.prefix);
+      room = omega (arith, c.in-Err.ensures.room, c.requires.room.prefix_room);
     }
 
 pub returns-clause-answer : goal.returns-clause-answer
@@ -63,5 +63,5 @@ returns-clause-answer g c =
     (λ fails. record {
       none = refused k _ _ _ _ _ _ seg o.first tried (c.open_front-begins.ensures.refused fails);
       rest = tried.held.all;
-      room = omega (arith, c.in-Ok.ensures.prefix_room, c.requires.prefix);
+      room = omega (arith, c.in-Ok.ensures.prefix_room, c.requires.room.prefix_room);
     })

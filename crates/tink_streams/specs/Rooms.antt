@@ -1,0 +1,35 @@
+-- The memory for segments.
+use Rattle.std.specs.Prelude.{◌≡◌, ◌≤◌, ◌<◌, ◌+◌, ℕ, [], Vec, length, vec_len, vec_capacity}
+use Rattle.stream_model.specs.Opening.{OpeningKey}
+use Rattle.tink_segment_traits.specs.declared.segment_traits.SegmentDecrypter.{Ghosts}
+use Rattle.tink_streams.specs.declared.buffers.Buffers.{Buffers}
+use Rattle.tink_streams.specs.declared.kept.Kept.{Kept}
+use Rattle.tink_streams.specs.declared.opener.Opener.{Opener}
+
+-- no text is opened yet, and a segment and a byte more, its text and its nonce have room
+pub record HasBuffersFor {D : Type 0} {g : Ghosts D} (o : Opener D g) (b : Buffers) : Type 0 where
+  pub empty : b.text.items ≡ []
+  pub text_room : o.size ≤ vec_capacity b.text
+  pub sealed_room : o.size < vec_len b.sealed
+  pub nonce_room : o.nonce_size ≤ vec_len b.nonce
+
+-- a stream can be tried under the key: its output prefix, a segment and a byte more, a text, a nonce, and the prefix of
+-- nonces have room
+pub record HasRoomToTry (k : OpeningKey) (nonce_size sealed text nonce prefix : ℕ) : Type 0 where
+  pub sealed_room : length k.out + k.size < sealed
+  pub text_room : k.size ≤ text
+  pub nonce_room : nonce_size ≤ nonce
+  pub prefix_room : 7 ≤ prefix
+
+-- the buffers of a nonce and of a text have the memory that they had, and that of a nonce its length
+pub record KeepsNonceAndText {Z : Type 0} (nonce_before nonce opened_before opened : Vec ℕ Z) : Type 0 where
+  pub nonce_len : vec_len nonce ≡ vec_len nonce_before
+  pub nonce_capacity : vec_capacity nonce ≡ vec_capacity nonce_before
+  pub capacity : vec_capacity opened ≡ vec_capacity opened_before
+
+-- so have these and the buffer of what is kept, which has its length too, and no fewer bytes are kept
+pub record KeepsRoom {Z : Type 0} (kept_before kept : Kept) (nonce_before nonce opened_before opened : Vec ℕ Z) : Type 0 where
+  pub buffers : KeepsNonceAndText nonce_before nonce opened_before opened
+  pub len : vec_len kept.buffer ≡ vec_len kept_before.buffer
+  pub kept_capacity : vec_capacity kept.buffer ≡ vec_capacity kept_before.buffer
+  pub more : kept_before.filled ≤ kept.filled
