@@ -17,5 +17,5 @@ pub use tink_streaming_aead::{
     aes256_gcm_hkdf_4kb_key_template, begin_stream, choose, ctr_hmac_streaming_key,
     generate_segment_nonce, init, law_any_cutting, law_empty_buffer, law_first_read, law_for_good,
     law_full_segments, law_sealed_opens, law_whole_reading, law_whole_stream, law_whole_text, new,
-    open_front, open_held, open_rest, start, subtle, validate_aes_key_size,
+    open_front, open_held, start, subtle, validate_aes_key_size,
 };

@@ -4,7 +4,10 @@ use crate::comparing::{expect, expect_bytes};
 use std::process::Abort;
 use tink_io::{Kind, TinkError};
 use tink_segment_traits::generate_segment_nonce;
-use tink_segments::validate_aes_key_size;
+use tink_segments::{
+    AES_CTR_HMAC_NONCE_PREFIX_SIZE_IN_BYTES, AES_GCM_HKDF_NONCE_PREFIX_SIZE_IN_BYTES,
+    validate_aes_key_size,
+};
 
 // Whether keys of so many bytes are those of a variant, which has as many.
 fn is_key_size(n: usize) -> bool {
@@ -71,4 +74,13 @@ fn nonces_count_to_the_last_u32(rt: HostRuntime) {
         &[1, 2, 3, 4, 5, 6, 7, 255, 255, 255, 255, 0],
     );
     expect_nonce(&rt, 4_294_967_296, false, refused, &[9; 12]);
+}
+
+#[test]
+fn prefixes_have_seven_bytes(rt: HostRuntime) {
+    let sizes = [
+        AES_CTR_HMAC_NONCE_PREFIX_SIZE_IN_BYTES,
+        AES_GCM_HKDF_NONCE_PREFIX_SIZE_IN_BYTES,
+    ];
+    expect(&rt, sizes, [7, 7], "the sizes");
 }

@@ -37,7 +37,6 @@ pub use tink_streams::{
     Begun, Buffers, Kept, Mode, Opener, Progress, Reader, ReaderParams, Sealer, SegmentReader,
     SegmentWriter, TextReader, Writer, WriterBuffers, WriterParams, law_any_cutting,
     law_empty_buffer, law_for_good, law_full_segments, law_whole_text, open_front, open_held,
-    open_rest,
 };
 
 mod aes_ctr_hmac_key_manager;

@@ -6,7 +6,6 @@ pub mod TrialFacts
 pub mod ChoosingSteps
 pub mod ReadingFacts
 pub mod ChosenFacts
-pub mod WholeSteps
 pub mod FullFacts
 pub mod WriterCallers
 pub mod TextFacts

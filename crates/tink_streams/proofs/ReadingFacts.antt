@@ -8,7 +8,9 @@ use Rattle.stream_model.specs.Agree.{Leads, Agree}
 use Rattle.stream_model.proofs.CutFacts.{cut_none, cut_fits, cut_more}
 use Rattle.stream_model.proofs.AgreeFacts.{Leads-trans, Agree-leads}
 use Rattle.std.proofs.lemmas.List.{append-nil}
-use Rattle.tink_streams.specs.Reading.{ReaderMoment, TellsLeads, OpensNext, NothingComes, chunk_at}
+use Rattle.tink_streams.specs.Reading.{ReaderMoment, TellsLeads, OpensNext, NothingComes, HasNotFailed, chunk_at}
+use Rattle.tink_streams.specs.declared.progress.Progress.{Progress}
+use Rattle.tink_streams.specs.declared.progress.Progress.TheVariants.{Running, Ended, Failed}
 use Rattle.tink_streams.proofs.FrontFacts.{fits_or_not}
 
 -- from a fresh reader over all bytes on, these texts were opened
@@ -105,3 +107,9 @@ at_next_chunk seg a b all texts m P p q o h = chunk_told seg a b m.number all m.
 -- the overhead of each segment
 pub numbered_longer : (seg : List ℕ → List ℕ → List ℕ) (size : ℕ) (prefix : List ℕ) (o : ℕ) → ((n t : List ℕ) → length (seg n t) ≡ length t + o) → (i : ℕ) (last : Bool) (t : List ℕ) → length (numbered seg size prefix i last t) ≡ length t + o
 numbered_longer seg size prefix o l i last t = l (nonce size prefix i last) t
+
+-- a reader that has not failed and runs no more has ended
+pub not_running : (p : Progress) → HasNotFailed p → (p ≡ Running → ⊥) → p ≡ Ended
+not_running Running h n = absurd (n refl)
+not_running Ended h n = refl
+not_running (Failed c) h n = absurd h

@@ -2,7 +2,6 @@ pub mod Writing
 pub mod Opening
 pub mod Reading
 pub mod Choosing
-pub mod Whole
 pub mod Full
 pub mod Writers
 pub mod TextReading

@@ -16,7 +16,6 @@ mod sealer;
 mod sealing;
 mod text_reader;
 mod trying;
-mod whole;
 mod writer;
 mod writing;
 
@@ -34,6 +33,5 @@ pub use reading_laws::{law_empty_buffer, law_for_good, law_whole_text};
 pub use sealer::Sealer;
 pub use text_reader::TextReader;
 pub use trying::{Begun, OpensStreams, try_key};
-pub use whole::open_rest;
 pub use writer::{Writer, WriterParams};
 pub use writing::{Mode, SegmentWriter};

@@ -1,33 +1,16 @@
 //! Callers of the readers and of the writer, whose clauses follow from those of the calls.
 
-ghost use Rattle.std.specs.Prelude.{◌≡◌, [], false, Some, IfOk, OnOk};
+ghost use Rattle.std.specs.Prelude.{◌≡◌, [], false, IfOk, OnOk};
 ghost use Rattle.std.specs.Io.KnownBytes.{Appends};
 ghost use Rattle.stream_model.specs.Cut.{sealed};
-ghost use Rattle.tink_streams.specs.declared.progress.Progress.TheVariants.{Running};
 ghost use Rattle.tink_streams.specs.declared.writing.Mode.TheVariants.{Open};
-ghost use Rattle.tink_streams.specs.Openers.{reader_rest, segment_map};
 ghost use Rattle.tink_streams.specs.Readers.{moment_of};
 ghost use Rattle.tink_streams.specs.TextReading.{AtEnd};
-ghost use Rattle.tink_streams.specs.Whole.{WroteTexts};
 ghost use Rattle.tink_streams.specs.Writers.{seg_of};
 
-use tink_io::{Sink, Source, SureSource, TinkError};
+use tink_io::{Sink, Source, TinkError};
 use tink_segment_traits::{SegmentDecrypter, SegmentEncrypter};
-use tink_streams::{Reader, SegmentReader, Writer, open_rest};
-
-// Opens what is left of a stream in memory. After `Ok` its texts were written.
-fn open_bytes<D: SegmentDecrypter + Drop, K: Sink>(
-    reader: SegmentReader<D>,
-    stream: &mut SureSource,
-    sink: &mut K,
-) -> Result<(), TinkError>
-    requires running { reader.progress ≡ Running }
-    requires first { reader.segments ≡ 0 }
-    ensures written { IfOk result (λ _. WroteTexts (segment_map reader.opener) reader.opener.first
-        reader.opener.size (reader_rest Some reader stream.old) (K.got sink.old) (K.got sink.new)) }
-{
-    open_rest(reader, stream, sink)
-}
+use tink_streams::{Reader, Writer};
 
 // Seals a whole text. After `Ok` the sink of a writer that had written nothing got its segments.
 fn seal_text<W: Sink + Drop, E: SegmentEncrypter + Drop>(

@@ -5,11 +5,9 @@ ghost use Rattle.std.specs.Prelude.{◌≡◌, vec_len};
 use crate::comparing::expect_bytes;
 use std::alloc::Global;
 use std::test::Fail;
-use tink_io::{SureSink, SureSource, TinkError};
+use tink_io::{SureSink, SureSource, TinkError, write_all};
 use tink_segments::{GcmSegment, StreamSegment};
-use tink_streams::{
-    Buffers, Opener, Sealer, SegmentReader, SegmentWriter, WriterBuffers, open_rest,
-};
+use tink_streams::{Buffers, Opener, Reader, Sealer, SegmentReader, SegmentWriter, WriterBuffers};
 
 const TEXT: &[u8; 38] = b"a text of more than two blocks, by ten";
 
@@ -84,11 +82,16 @@ fn a_writer_takes_either_kind(rt: HostRuntime) -> Result<(), Fail> {
 // What the stream opens to.
 fn opened(alloc: Global) -> Result<SureSink, TinkError> {
     let mut sink = sink(alloc, 38)?;
-    let mut source = SureSource::new(STREAM.to_vec(alloc)?);
+    let source = SureSource::new(STREAM.to_vec(alloc)?);
     let buffers = Buffers::reserve(alloc, 36, 12)?;
     let prefix = PREFIX.to_vec(alloc)?;
     let reader = SegmentReader::made(opener(prefix), buffers, 0);
-    open_rest(reader, &mut source, &mut sink)?;
+    let mut reader = Reader::over(source, reader);
+    let mut piece = [0u8; 64];
+    for _ in 0..4 {
+        let n = reader.read(&mut piece)?;
+        write_all(&mut sink, &piece[..n])?;
+    }
     Ok(sink)
 }
 

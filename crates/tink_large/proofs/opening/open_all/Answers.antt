@@ -2,7 +2,7 @@ use Rattle.std.proofs.Common.{rules, ◌+◌, ℕ, Some, length, refl, sym, ap, 
 use Rattle.stream_model.specs.Sealing.{chunk_count}
 use Rattle.tink_streams.specs.Openers.{reader_moment, segment_map}
 use Rattle.tink_streams.specs.Reading.{ReaderMoment}
-use Rattle.tink_streams.proofs.WholeSteps.{not_running}
+use Rattle.tink_streams.proofs.ReadingFacts.{not_running}
 use Rattle.tink_large.specs.Large.{large_key, large_text}
 use Rattle.tink_large.specs.Opening.{AllRemains}
 use Rattle.tink_large.specs.Passing.{Passed-trans}
