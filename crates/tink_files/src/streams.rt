@@ -1,6 +1,7 @@
 //! Streams, tokens and texts are written into a place.
 
 ghost use Rattle.std.specs.Prelude.{◌≡◌, ℕ, List, true, false, IfOk, OnErr};
+ghost use Rattle.tink_run.specs.OpenReads.{ReadsNoFurther};
 ghost use Rattle.tink_run.specs.Outside.{outside_of};
 ghost use Rattle.tink_run.specs.Run.{AnswerMeans, CanSucceed, OkMeans, Told};
 ghost use Rattle.tink_rewrap.specs.Promises.{CanRewrap, IsWholeRewrap};
@@ -29,8 +30,11 @@ pub fn run_to<S: Source, P: Place>(
 ) -> Result<Report, TinkError>
     requires { P.has_draft place.old ≡ true }
 
-    // `run` wrote the draft, and by its answer the draft was shown or taken away.
+    // `run` wrote the draft, and by its answer, which says how far the source of an open was read too, the draft was shown
+    // or taken away.
     ensures ran { RanAndEnded P.got P.faults (λ draft answer. AnswerMeans command keyset.now aad.now draws.old draws.new
+        (outside_of S.left S.faults P.got P.faults source.old place.old)
+        (outside_of S.left S.faults P.got P.faults source.new draft) answer × ReadsNoFurther command keyset.now aad.now
         (outside_of S.left S.faults P.got P.faults source.old place.old)
         (outside_of S.left S.faults P.got P.faults source.new draft) answer)
         (P.replaces place.old) (P.shown place.old) (P.shown place.new) (P.faults place.new) result }
