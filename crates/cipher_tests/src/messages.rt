@@ -167,7 +167,7 @@ fn refused_vecs(alloc: Global) -> [Option<PaddedVecError>; 2] {
     ]
 }
 
-// whether vectors go there and back, and two are refused
+// Whether vectors go there and back, and two are refused.
 fn vectors_go(alloc: Global) -> bool {
     encrypted_vec(alloc) == Ok(MADE)
         && decrypted_vec(alloc) == Ok([1, 2, 3, 4])
@@ -264,13 +264,9 @@ fn messages_go_there_and_back(rt: HostRuntime) {
     for (row, asked) in ROWS {
         check(&rt, holds(*asked), row);
     }
-    let alloc = rt.alloc();
-    check(&rt, encrypted_vec(alloc) == Ok(MADE), "a vector there");
     check(
         &rt,
-        decrypted_vec(alloc) == Ok([1, 2, 3, 4]),
-        "a vector back",
+        vectors_go(rt.alloc()),
+        "vectors there and back, and refused",
     );
-    let refused = [Some(PaddedVecError::Pad), Some(PaddedVecError::Unpad)];
-    check(&rt, refused_vecs(alloc) == refused, "vectors refused");
 }
