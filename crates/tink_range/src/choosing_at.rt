@@ -5,9 +5,10 @@ ghost use Rattle.stream_model.specs.Opening.{HasFront, IsChosen, header_of, open
 ghost use Rattle.tink_io.specs.Faults.{Rose};
 ghost use Rattle.tink_range.specs.ChoosingAt.{DoesBeginAt, DoesNotBeginAt, IsFirstAt, Tries};
 ghost use Rattle.tink_range.specs.Objects.{KeepsObject};
-ghost use Rattle.tink_range.specs.Rooms.{HasRoomFor, HasRoomForEach, KeepsBuffers};
+ghost use Rattle.tink_range.specs.Rooms.{HasRoomFor, KeepsBuffers};
 ghost use Rattle.tink_segments.specs.StreamSegments.{segment_by};
 ghost use Rattle.tink_stream_keys.specs.Decrypters.{OpensBehind};
+ghost use Rattle.tink_stream_keys.specs.Rooms.{HasRoomForEach};
 ghost use Rattle.tink_streams.specs.Choosing.{IsOpenerOf};
 
 use crate::opening_at::open_at;

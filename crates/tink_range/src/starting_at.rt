@@ -2,7 +2,7 @@ ghost use Rattle.std.specs.Prelude.{◌≡◌, ◌≤◌, ◌+◌, ◌-◌, leng
 ghost use Rattle.stream_model.specs.Opening.{opening_key};
 ghost use Rattle.tink_range.specs.ChoosingAt.{HasTried, NewRefused};
 ghost use Rattle.tink_range.specs.Objects.{KeepsObject};
-ghost use Rattle.tink_range.specs.Rooms.{HasRoomForEach};
+ghost use Rattle.tink_stream_keys.specs.Rooms.{HasRoomForEach};
 ghost use Rattle.tink_streams.specs.Choosing.{Found, StartRefused};
 ghost use Rattle.tink_streams.specs.Openers.{segment_map};
 

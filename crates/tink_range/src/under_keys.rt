@@ -3,7 +3,7 @@ ghost use Rattle.stream_model.specs.Opening.{opening_key};
 ghost use Rattle.tink_range.specs.ChunkReading.{ends_of};
 ghost use Rattle.tink_range.specs.KeyRanges.{RangesUnder, TakesRangeSteps};
 ghost use Rattle.tink_range.specs.Objects.{KeepsObject};
-ghost use Rattle.tink_range.specs.Rooms.{HasRoomForEach};
+ghost use Rattle.tink_stream_keys.specs.Rooms.{HasRoomForEach};
 
 use crate::range_reading::read_range;
 use crate::read_at::ReadAt;

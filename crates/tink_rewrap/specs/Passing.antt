@@ -1,13 +1,14 @@
 -- A source whose text goes, as it opens, into a new stream.
-use Rattle.std.specs.Prelude.{◌≡◌, ◌⊎◌, ℕ, ◌<◌, ◌≤◌, ◌+◌, ◌-◌, ◌^◌, Bool, List, [], ◌++◌, All, length, take, Result, Ok, Err, Some, vec_capacity, vec_len}
+use Rattle.std.specs.Prelude.{◌≡◌, ◌⊎◌, ℕ, ◌<◌, ◌≤◌, ◌+◌, ◌-◌, ◌^◌, Bool, List, [], ◌++◌, length, take, Result, Ok, Err, Some, vec_capacity, vec_len}
 use Rattle.std.specs.Io.KnownBytes.{Appends, Keeps}
 use Rattle.tink_io.specs.Written.{AppendsPrefix}
 use Rattle.tink_io.specs.declared.error.Kind.{Kind}
 use Rattle.tink_io.specs.declared.error.Kind.TheVariants.{ReadFault, WriteFault, TooManySegments, NoMatchingKey, BadSegment, Truncated}
 use Rattle.tink_io.specs.declared.error.TinkError.{TinkError}
 use Rattle.stream_model.specs.Cut.{chunks, full_chunks, sealed, unmarked}
-use Rattle.stream_model.specs.Key.{StreamKey, nonce_size}
+use Rattle.stream_model.specs.Key.{StreamKey}
 use Rattle.stream_model.specs.Sealing.{stream, part, longest_part, chunk_count, salt_of, prefix_of}
+use Rattle.tink_stream_keys.specs.Rooms.{HasRoomForEach}
 use Rattle.tink_stream_keys.specs.declared.starting.Trial.{Trial}
 use Rattle.tink_streams.specs.Writing.{WriterMoment, CloseMeans, CloseRefused}
 use Rattle.tink_streams.specs.declared.writing.Mode.{Mode}
@@ -121,9 +122,7 @@ FinishMeans seg old new bytes (Err e) = CloseRefused seg old new e.kind
 -- a trial that holds nothing of its source, with memory for the streams of each of the keys
 abbrev pub FitsKeys : {T : Type 0} → (T → StreamKey) → List T → Trial → Type 0
 FitsKeys key_of keys t =
-    (t.kept.filled ≡ 0) × All (λ k. length (key_of k).out + (key_of k).segment < vec_len t.kept.buffer) keys
-    × All (λ k. (key_of k).segment ≤ vec_capacity t.opened) keys × All (λ k. nonce_size (key_of k) ≤ vec_len t.nonce) keys
-    × (7 ≤ vec_capacity t.prefix)
+    (t.kept.filled ≡ 0) × HasRoomForEach key_of keys (vec_len t.kept.buffer) (vec_capacity t.opened) (vec_len t.nonce) (vec_capacity t.prefix)
 
 -- a writer that has taken no text
 abbrev pub IsUnbegun : Mode → ℕ → List ℕ → Type 0

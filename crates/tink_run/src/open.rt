@@ -1,8 +1,8 @@
-ghost use Rattle.std.specs.Prelude.{◌≡◌, ◌≤◌, ◌<◌, ◌+◌, ◌^◌, length, map, All, OnErr, vec_len, vec_capacity};
-ghost use Rattle.stream_model.specs.Key.{nonce_size};
+ghost use Rattle.std.specs.Prelude.{◌≡◌, ◌≤◌, ◌<◌, ◌+◌, ◌^◌, map, OnErr, vec_len, vec_capacity};
 ghost use Rattle.stream_model.specs.Opening as opening;
 ghost use Rattle.tink_streams.specs.declared.progress.Progress.TheVariants.{Running};
 ghost use Rattle.tink_io.specs.Taken.{LosesAtMost};
+ghost use Rattle.tink_stream_keys.specs.Rooms.{HasRoomForEach};
 ghost use Rattle.tink_streams.specs.Openers.{reader_moment, reader_rest, segment_map};
 ghost use Rattle.tink_run.specs.Outside.{FaultsStay, outside_of};
 ghost use Rattle.tink_streaming_aead.specs.Wrapped.{KeepsOrder, all_entries, keys_in};
@@ -70,10 +70,8 @@ fn open_under<S: Source, K: Sink, T: DerivesStreams>(
     sink: &mut K,
 ) -> Result<Report, TinkError>
     requires filled { trial.kept.filled ≡ 0 }
-    requires buffer { All (λ k. length (T.key_of k).out + (T.key_of k).segment < vec_len trial.kept.buffer) keys.now }
-    requires room { All (λ k. (T.key_of k).segment ≤ vec_capacity trial.opened) keys.now }
-    requires nonce { All (λ k. nonce_size (T.key_of k) ≤ vec_len trial.nonce) keys.now }
-    requires prefix { 7 ≤ vec_capacity trial.prefix }
+    requires room { HasRoomForEach T.key_of keys.now (vec_len trial.kept.buffer) (vec_capacity trial.opened)
+        (vec_len trial.nonce) (vec_capacity trial.prefix) }
     ensures answer { OpeningMeans (map (λ k. opening.opening_key aad.now (T.key_of k)) keys.now)
         (outside_of S.left S.faults K.got K.faults source.old sink.old)
         (outside_of S.left S.faults K.got K.faults source.new sink.new) result

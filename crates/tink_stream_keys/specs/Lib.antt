@@ -5,3 +5,4 @@ pub mod NewStreams
 pub mod Decrypting
 pub mod Decrypters
 pub mod Memory
+pub mod Rooms

@@ -2,7 +2,7 @@
 use Rattle.std.specs.Prelude.{◌≡◌, ℕ, ◌<◌, Bool, List, [], length, Some}
 use Rattle.tink_io.specs.declared.error.Kind.{Kind}
 use Rattle.tink_io.specs.declared.error.Kind.TheVariants.{OutOfMemory, RandomFault, UnknownHash, UnsupportedHash}
-use Rattle.stream_model.specs.Key.{StreamKey, first_room, front, keys_of, room, segment_at}
+use Rattle.stream_model.specs.Key.{StreamKey, first_room, front, keys_of, nonce_size, overhead, room, segment_at}
 use Rattle.stream_model.specs.Sealing.{drawn, prefix_of, salt_of}
 use Rattle.tink_stream_keys.specs.Encrypting.{DrewHeader}
 use Rattle.tink_stream_keys.specs.StreamingKeys.{DerivesNothing}
@@ -22,6 +22,14 @@ pub record IsPrepared (k : StreamKey) (aad draws left bytes : List ℕ) (seg : �
   pub is_open : mode ≡ Open
   pub none_written : number ≡ 0
   pub none_held : held ≡ []
+
+-- the key's sizes: of a nonce, by how much a segment is longer than its text, and of the texts of the first and of each
+-- later segment
+pub record HasTextSizes (k : StreamKey) (nonce_bytes over first later : ℕ) : Type 0 where
+  pub nonce_is : nonce_bytes ≡ nonce_size k
+  pub overhead_is : over ≡ overhead k
+  pub first_is : first ≡ first_room k
+  pub later_is : later ≡ room k
 
 -- fewer draws are left than a salt and a prefix take, and none were taken
 pub record LacksDraws (k : StreamKey) (draws left : List ℕ) : Type 0 where

@@ -1,9 +1,10 @@
-ghost use Rattle.std.specs.Prelude.{◌≡◌, ◌≤◌, ◌<◌, ◌+◌, ◌-◌, length, map, All, IfOk, IfSome, OnErr, vec_len, vec_capacity};
-ghost use Rattle.stream_model.specs.Key.{nonce_size};
+ghost use Rattle.std.specs.Prelude.{◌≡◌, ◌≤◌, ◌-◌, map, IfOk, IfSome, OnErr, vec_len, vec_capacity};
 ghost use Rattle.stream_model.specs.Opening.{opening_key};
 ghost use Rattle.tink_io.specs.Taken.{LosesAtMost};
+ghost use Rattle.tink_stream_keys.specs.Rooms.{HasRoomForEach};
 ghost use Rattle.tink_streams.specs.Keeping.{kept_rest};
-ghost use Rattle.tink_streams.specs.Trials.{ChoiceMeans, KeepsRoom, TrialFailed};
+ghost use Rattle.tink_streams.specs.Rooms.{KeepsRoom};
+ghost use Rattle.tink_streams.specs.Trials.{ChoiceMeans, TrialFailed};
 
 use crate::key_under::KeyUnder;
 use crate::stream_params::DerivesStreams;
@@ -25,10 +26,8 @@ pub fn choose<S: Source, T: DerivesStreams>(
     nonce: &mut Vec<u8>,
     opened: &mut Vec<u8>,
 ) -> Result<Option<Begun<StreamSegment>>, Failed>
-    requires buffer { All (λ k. length (T.key_of k).out + (T.key_of k).segment < vec_len kept.old.buffer) keys.now }
-    requires room { All (λ k. (T.key_of k).segment ≤ vec_capacity opened.old) keys.now }
-    requires nonce { All (λ k. nonce_size (T.key_of k) ≤ vec_len nonce.old) keys.now }
-    requires prefix { 7 ≤ vec_capacity prefix }
+    requires room { HasRoomForEach T.key_of keys.now (vec_len kept.old.buffer) (vec_capacity opened.old)
+        (vec_len nonce.old) (vec_capacity prefix) }
     ensures answer { IfOk result (ChoiceMeans (map (λ k. opening_key aad.now (T.key_of k)) keys.now)
         (kept_rest S.left kept.old source.old) (kept_rest S.left kept.new source.new) kept.new nonce.new opened.new) }
     ensures failed { OnErr result (TrialFailed (kept_rest S.left kept.old source.old)

@@ -3,13 +3,13 @@
 ghost use Rattle.std.specs.Prelude.{◌≡◌, ◌≤◌, ◌<◌, ◌+◌, ◌∷◌, ◌++◌, ◌↔◌, [], length, take, drop, slice_index, IfOk, IfErr, IsErr, OnOk, OnErr, MatchResult, vec_len, vec_capacity};
 ghost use Rattle.std.specs.Io.KnownBytes.{Appends};
 ghost use Rattle.stream_model.specs.Cut.{numbered};
-ghost use Rattle.stream_model.specs.Key.{IsUsable, first_room, header_length, nonce_size, overhead, room};
+ghost use Rattle.stream_model.specs.Key.{IsUsable, header_length, nonce_size, overhead};
 ghost use Rattle.stream_model.specs.Sealing.{drawn};
 ghost use Rattle.tink_io.specs.declared.error.Kind.TheVariants.{OutOfMemory, RandomFault, WriteFault};
 ghost use Rattle.tink_io.specs.Faults.{Rose};
 ghost use Rattle.tink_io.specs.Written.{AppendsPrefix};
 ghost use Rattle.tink_stream_keys.specs.Encrypting.{writer_room};
-ghost use Rattle.tink_stream_keys.specs.NewStreams.{IsPrepared, NotPrepared};
+ghost use Rattle.tink_stream_keys.specs.NewStreams.{HasTextSizes, IsPrepared, NotPrepared};
 ghost use Rattle.tink_segments.specs.StreamSegments.{nonce_length_by, overhead_by, segment_by};
 ghost use Rattle.tink_streams.specs.Sealers.{held_text, writer_memory};
 
@@ -95,10 +95,7 @@ fn sealer_of<T: DerivesStreams>(
     requires prefix { 7 ≤ vec_capacity prefix }
     ensures encrypter { result.encrypter ≡ cipher }
     ensures prefix { result.prefix.items ≡ drop ((T.key_of key.now).derived + 1) header.now }
-    ensures nonce_size { result.nonce_size ≡ nonce_size (T.key_of key.now) }
-    ensures overhead { result.overhead ≡ overhead (T.key_of key.now) }
-    ensures first { result.first ≡ first_room (T.key_of key.now) }
-    ensures room { result.room ≡ room (T.key_of key.now) }
+    ensures sizes { HasTextSizes (T.key_of key.now) result.nonce_size result.overhead result.first result.room }
     ensures capacity { vec_capacity result.prefix ≡ vec_capacity prefix }
 {
     let overhead = key.overhead();

@@ -1,10 +1,10 @@
-ghost use Rattle.std.specs.Prelude.{◌≡◌, ◌≤◌, ◌<◌, ◌+◌, ◌-◌, [], length, map, All, IfSome, IfOk, IfErr, vec_len, vec_capacity};
-ghost use Rattle.stream_model.specs.Key.{nonce_size};
+ghost use Rattle.std.specs.Prelude.{◌≡◌, ◌≤◌, ◌+◌, ◌-◌, [], map, IfSome, IfOk, IfErr, vec_len, vec_capacity};
 ghost use Rattle.stream_model.specs.Opening.{opening_key};
 ghost use Rattle.tink_io.specs.Taken.{LosesAtMost};
 ghost use Rattle.tink_io.specs.declared.error.Kind.TheVariants.{OutOfMemory};
 ghost use Rattle.tink_streams.specs.declared.progress.Progress.TheVariants.{Running};
 ghost use Rattle.tink_stream_keys.specs.Memory.{trial_memory};
+ghost use Rattle.tink_stream_keys.specs.Rooms.{HasRoomForEach};
 ghost use Rattle.tink_streams.specs.Choosing.{Started, StartRefused};
 ghost use Rattle.tink_streams.specs.Keeping.{kept_rest};
 ghost use Rattle.tink_streams.specs.Openers.{reader_memory, reader_rest, segment_map};
@@ -68,10 +68,8 @@ pub fn start<S: Source, T: DerivesStreams>(
     trial: Trial,
     source: &mut S,
 ) -> Result<SegmentReader<StreamSegment>, TinkError>
-    requires buffer { All (λ k. length (T.key_of k).out + (T.key_of k).segment < vec_len trial.kept.buffer) keys.now }
-    requires room { All (λ k. (T.key_of k).segment ≤ vec_capacity trial.opened) keys.now }
-    requires nonce { All (λ k. nonce_size (T.key_of k) ≤ vec_len trial.nonce) keys.now }
-    requires prefix { 7 ≤ vec_capacity trial.prefix }
+    requires room { HasRoomForEach T.key_of keys.now (vec_len trial.kept.buffer) (vec_capacity trial.opened)
+        (vec_len trial.nonce) (vec_capacity trial.prefix) }
     ensures fresh { IfOk result (λ r. (r.progress ≡ Running) × (r.segments ≡ 0) × (r.opened.items ≡ [])
         × (vec_len r.buffer ≡ vec_len trial.kept.buffer)) }
     ensures memory { IfOk result (λ r. reader_memory r ≡ trial_memory trial) }

@@ -81,6 +81,7 @@ reads_held room f None left items kept few = ([], omega arith, tt)
 reads_held room f (Some x) None items kept few = absurd kept
 reads_held room f (Some x) (Some y) items kept few = (take f items, omega (arith, few, length-take f items), sym kept)
 
+-- from a to c no more was read than from b to c, where b has all the bytes of a
 pub reads_kept : (room : ℕ) (a b c : Option (List ℕ)) → Keeps a b → LosesAtMost room b c → LosesAtMost room a c
 reads_kept room None b c kept lost = ([], omega arith, tt)
 reads_kept room (Some x) None c kept lost = absurd kept

@@ -1,5 +1,5 @@
 -- A reader of a keyset's streams: what a contract sees of it, and what its reads say.
-use Rattle.std.specs.Prelude.{◌≡◌, ◌+◌, ℕ, Bool, List, [], ◌∷◌, length, map, max, All, Result, Ok, Err, IfSome, None}
+use Rattle.std.specs.Prelude.{◌≡◌, ◌≤◌, ◌+◌, ℕ, Bool, List, [], ◌∷◌, length, map, max, All, Result, Ok, Err, IfSome, None}
 use Rattle.std.specs.declared.option.Option.{Option}
 use Rattle.tink_io.specs.Faults.{Rose}
 use Rattle.tink_io.specs.Taken.{LosesAtMost}
@@ -125,6 +125,12 @@ module _ {S : Type 0} (left : S → Option (List ℕ)) (faults : S → ℕ) wher
 abbrev pub TakesAtMost : {S : Type 0} → (S → Option (List ℕ)) → DecryptState S → DecryptState S → Type 0
 TakesAtMost left (Unread keys aad room source) (Stopped c now) = LosesAtMost (room + room) (left source) (left now)
 TakesAtMost left _ _ = Unit {0}
+
+-- no more bytes are kept than have room, and there is no more room and no more memory than before
+pub record KeepsNoMore {S : Type 0} (old new : DecryptState S) : Type 0 where
+  pub kept : length (kept_of new) ≤ room_of new
+  pub room : room_of new ≤ room_of old
+  pub memory : memory_of new ≤ memory_of old
 
 -- a reader of these keys that has read nothing, with room for a byte more than the most that one of them has of its output
 -- prefix and a segment

@@ -1,12 +1,12 @@
 //! Readers of a keyset's streams.
 
-ghost use Rattle.std.specs.Prelude.{◌≡◌, ◌≤◌, ◌<◌, ◌+◌, [], length, map, All, IfOk, OnErr, MatchResult, vec_len, vec_capacity};
-ghost use Rattle.stream_model.specs.Key.{nonce_size};
+ghost use Rattle.std.specs.Prelude.{◌≡◌, ◌≤◌, ◌<◌, ◌+◌, [], length, map, IfOk, OnErr, MatchResult, vec_len, vec_capacity};
 ghost use Rattle.stream_model.specs.Opening.{opening_key};
 ghost use Rattle.tink_io.specs.Taken.{LosesAtMost};
-ghost use Rattle.tink_streaming_aead.specs.DecryptReaders.{DecryptMeans, FirstReadRefused, GivesFirst, IsUnread, cause_of, first_refusal, kept_of, memory_for, memory_of, number_of, room_of, source_in, ReadsNoMore, TakesAtMost};
+ghost use Rattle.tink_streaming_aead.specs.DecryptReaders.{DecryptMeans, FirstReadRefused, GivesFirst, IsUnread, KeepsNoMore, cause_of, first_refusal, memory_for, number_of, source_in, ReadsNoMore, TakesAtMost};
 ghost use Rattle.tink_streaming_aead.specs.DecryptReaders.DecryptState.{Unread};
 ghost use Rattle.tink_stream_keys.specs.Memory.{trial_memory};
+ghost use Rattle.tink_stream_keys.specs.Rooms.{HasRoomForEach};
 ghost use Rattle.tink_stream_keys.specs.StreamKinds.{key_in_set};
 ghost use Rattle.tink_streams.specs.Openers.{EndsEmpty, reader_memory, segment_map, text_moment};
 
@@ -26,10 +26,8 @@ pub struct Choice {
     pub data: Vec<u8>,
     pub trial: Trial,
     ghost unread: { trial.kept.filled ≡ 0 },
-    ghost buffer: { All (λ k. length (key_in_set k).out + (key_in_set k).segment < vec_len trial.kept.buffer) keys.items },
-    ghost room: { All (λ k. (key_in_set k).segment ≤ vec_capacity trial.opened) keys.items },
-    ghost nonce: { All (λ k. nonce_size (key_in_set k) ≤ vec_len trial.nonce) keys.items },
-    ghost prefix: { 7 ≤ vec_capacity trial.prefix },
+    ghost room: { HasRoomForEach key_in_set keys.items (vec_len trial.kept.buffer) (vec_capacity trial.opened)
+        (vec_len trial.nonce) (vec_capacity trial.prefix) },
     ghost memory: { trial_memory trial ≡ memory_for (vec_len trial.kept.buffer) },
 }
 
@@ -137,9 +135,7 @@ impl<S: Source + Drop> DecryptReader<S> {
         ensures within { IfOk result (λ n. n ≤ length buf.new) }
         ensures idle { ReadsNoMore S.left S.faults self.old self.new (length buf.old) }
         ensures taken { TakesAtMost S.left self.old self.new }
-        ensures kept { length (kept_of self.new) ≤ room_of self.new }
-        ensures room { room_of self.new ≤ room_of self.old }
-        ensures memory { memory_of self.new ≤ memory_of self.old }
+        ensures room { KeepsNoMore self.old self.new }
         ensures later { S.faults (source_in self.old) ≤ S.faults (source_in self.new) }
         ensures same { S.same (source_in self.old) (source_in self.new) }
     {
@@ -164,9 +160,7 @@ impl<S: Source + Drop> DecryptReader<S> {
         ensures within { IfOk result (λ n. n ≤ length buf.new) }
         ensures idle { ReadsNoMore S.left S.faults self.old self.new (length buf.old) }
         ensures taken { TakesAtMost S.left self.old self.new }
-        ensures kept { length (kept_of self.new) ≤ room_of self.new }
-        ensures room { room_of self.new ≤ room_of self.old }
-        ensures memory { memory_of self.new ≤ memory_of self.old }
+        ensures room { KeepsNoMore self.old self.new }
         ensures later { S.faults (source_in self.old) ≤ S.faults (source_in self.new) }
         ensures same { S.same (source_in self.old) (source_in self.new) }
     {
@@ -212,9 +206,7 @@ impl<S: Source + Drop> DecryptingRead for DecryptReader<S> {
         ensures answer { DecryptMeans S.left S.faults self.old self.new buf.old buf.new result }
         ensures idle { ReadsNoMore S.left S.faults self.old self.new (length buf.old) }
         ensures taken { TakesAtMost S.left self.old self.new }
-        ensures kept { length (kept_of self.new) ≤ room_of self.new }
-        ensures room { room_of self.new ≤ room_of self.old }
-        ensures memory { memory_of self.new ≤ memory_of self.old }
+        ensures room { KeepsNoMore self.old self.new }
         ensures later { S.faults (source_in self.old) ≤ S.faults (source_in self.new) }
         ensures same { S.same (source_in self.old) (source_in self.new) }
     {

@@ -26,9 +26,9 @@ returns-in-Ok-clause-answer g c =
     let tried = rw c.in-Ok.is at called.answer in
     let keyed : g.row.T.Denot → StreamKey = g.T.DerivesStreams.key_of in
     let so : (P : g.row.T.Denot → Type 0) → All P keys → P key = λ P h. subst P (sym c.key-item.is) (All-get_or P keys c.loop-key.key-index key (omega arith) h) in
-    let sealed : length (keyed key).out + (keyed key).segment < vec_len c.args.kept.now.buffer = so (λ k. length (keyed k).out + (keyed k).segment < vec_len c.args.kept.now.buffer) c.requires.buffer in
-    let nonce : nonce_size (keyed key) ≤ vec_len c.args.nonce.now = so (λ k. nonce_size (keyed k) ≤ vec_len c.args.nonce.now) c.requires.nonce in
-    let text : (keyed key).segment ≤ vec_capacity c.args.opened.now = so (λ k. (keyed k).segment ≤ vec_capacity c.args.opened.now) c.requires.room in
+    let sealed : length (keyed key).out + (keyed key).segment < vec_len c.args.kept.now.buffer = so (λ k. length (keyed k).out + (keyed k).segment < vec_len c.args.kept.now.buffer) c.requires.room.sealed_room in
+    let nonce : nonce_size (keyed key) ≤ vec_len c.args.nonce.now = so (λ k. nonce_size (keyed k) ≤ vec_len c.args.nonce.now) c.requires.room.nonce_room in
+    let text : (keyed key).segment ≤ vec_capacity c.args.opened.now = so (λ k. (keyed k).segment ≤ vec_capacity c.args.opened.now) c.requires.room.text_room in
     let split = key_split keys c.loop-key.key-index key (omega arith) c.key-item.is in
     record {
       found = both_told told (λ X. Begins (of key) X × IsOpenerOf (of key) X seg b.front o.first o.size o.overhead) (ChosenFrom of keys c.loop-key.key-index) (λ X. Found (map of keys) X seg b.front o.first o.size o.overhead)
@@ -38,8 +38,8 @@ returns-in-Ok-clause-answer g c =
       rest = Keeps-trans _ _ _ inv.rest tried.rest;
       front = tried.front;
       size = omega (arith, tried.size, sealed, called.room.len, inv.len);
-      nonce = omega (arith, tried.nonce, nonce, called.room.nonce_len, inv.nonce_len);
-      text = omega (arith, tried.size, text, called.room.capacity, inv.capacity);
+      nonce = omega (arith, tried.nonce, nonce, called.room.buffers.nonce_len, inv.nonce_len);
+      text = omega (arith, tried.size, text, called.room.buffers.capacity, inv.capacity);
     }
 
 pub returns-in-Ok-clause-read : goal.returns-in-Ok-clause-read
@@ -79,10 +79,10 @@ loop-key-preserved g c =
     let split = key_split keys c.loop-key.key-index key (omega arith) c.key-item.is in
     record {
       len = called.room.len ∙ inv.len;
-      nonce_len = called.room.nonce_len ∙ inv.nonce_len;
-      capacity = called.room.capacity ∙ inv.capacity;
+      nonce_len = called.room.buffers.nonce_len ∙ inv.nonce_len;
+      capacity = called.room.buffers.capacity ∙ inv.capacity;
       kept_capacity = called.room.kept_capacity ∙ inv.kept_capacity;
-      nonce_capacity = called.room.nonce_capacity ∙ inv.nonce_capacity;
+      nonce_capacity = called.room.buffers.nonce_capacity ∙ inv.nonce_capacity;
       more = omega (arith, called.room.more, inv.more);
       prefix_capacity = (rw c.in-Err.is at called.prefix) ∙ inv.prefix_capacity;
       rest = Keeps-trans _ _ _ inv.rest tried.rest;

@@ -24,6 +24,6 @@ returns-clause-answer g c =
     let made = c.made.ensures in
     prepared k c.args.aad.now c.args.draws.now c.draw_header.new.draws c.in_ok-header.header n (n - 7 - 1) c.in_ok-cipher.cipher drew c.output_prefix.result.now c.output_prefix.ensures size (rw size d.ok) salt c.in_ok-cipher.ensures
     c.made.result.sealer.encrypter c.made.result.sealer.nonce_size c.made.result.sealer.prefix.items c.made.result.sealer.first c.made.result.sealer.room c.made.result.mode c.made.result.segments (held_text c.made.result)
-    (ap (λ x. x.encrypter) made.sealer ∙ s.encrypter) (ap (λ x. x.nonce_size) made.sealer ∙ s.nonce_size) (ap (λ x. x.prefix.items) made.sealer ∙ s.prefix)
-    (ap (λ x. x.first) made.sealer ∙ s.first) (ap (λ x. x.room) made.sealer ∙ s.room)
+    (ap (λ x. x.encrypter) made.sealer ∙ s.encrypter) (ap (λ x. x.nonce_size) made.sealer ∙ s.sizes.nonce_is) (ap (λ x. x.prefix.items) made.sealer ∙ s.prefix)
+    (ap (λ x. x.first) made.sealer ∙ s.sizes.first_is) (ap (λ x. x.room) made.sealer ∙ s.sizes.later_is)
     made.mode made.segments made.held
