@@ -17,6 +17,8 @@ python3 - "$log" <<'PY'
 import collections, os, re, subprocess, sys, time
 
 tick = os.sysconf("SC_CLK_TCK")
+# By the folder that a crate's edits share, the check that came first.
+first = {}
 
 
 def parent(pid):
@@ -55,7 +57,9 @@ def look(pid):
     elif words[1] == "build" or not kept and not os.readlink(f"/proc/{pid}/cwd").startswith("/tmp/rt-edit"):
         kind = "proof"
     else:
-        kind = "base" if kept.endswith("/seed") else "edit"
+        # A toolchain has a folder for what edits begin with, or the first of them fills the folder of all.
+        is_first = re.search(r"/rt-edits-\w+$", kept) and first.setdefault(kept, pid) == pid
+        kind = "base" if kept.endswith("/seed") or is_first else "edit"
     with open(f"/proc/{pid}/stat") as it:
         fields = it.read().rsplit(")", 1)[1].split()
     seconds = sum(map(int, fields[11:15])) / tick
