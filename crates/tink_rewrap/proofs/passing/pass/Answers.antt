@@ -1,4 +1,4 @@
-use Rattle.std.proofs.Common.{[], ◌∷◌, take, refl, sym, ap, length, length-append, ◌∙◌, arith}
+use Rattle.std.proofs.Common.{[], ◌∷◌, take, rules, refl, sym, ap, length, length-append, ◌∙◌, arith}
 use Rattle.std.proofs.KnownBytes.{Keeps-refl}
 use Rattle.std.proofs.lemmas.Result.{err_from_is_err_and}
 use Rattle.std.specs.Io.KnownBytes.{prepend_known}
@@ -120,18 +120,22 @@ loop-bytes-preserved g c =
       same_sink = g.met.K.Sink.same_trans _ _ _ c.loop-bytes.invariant.same_sink c.write-in-loop-bytes.ensures.same;
     }
 
-pub returns-in-Err : goal.returns-in-Err
-returns-in-Err g c =
+pub returns-in-Err-clause-answer : goal.returns-in-Err-clause-answer
+returns-in-Err-clause-answer g c =
     let sealer = c.args.writer.now.sealer in
     let opener = c.args.reader.now.opener in
     let w = rw (c.loop-bytes.invariant.sealer, c.opened-text.ensures) at c.in_ok-write-2.ensures.answer in
     let refused = rw c.loop-bytes.invariant.opener at c.in-Err.ensures.answer in
     let after = c.open_next.new.self in
-    record {
-      answer = next_failed _ _ _ _ _ _ _ _ _ (omega (arith, opener.some)) (omega (arith, opener.some, opener.first_fits)) _ _ _ _ c.loop-bytes.invariant.under_way sealer.some (omega (arith, sealer.some, sealer.first_fits)) _ _ _ _ refl
-          c.loop-bytes.invariant.reads (omega arith) (reads_held _ after.filled _ _ after.buffer.items (Keeps-refl _) (omega (arith, after.filled_in, c.open_next.ensures.room, c.loop-bytes.invariant.room))) w.0 refused;
-      unwritten = next_wrote _ _ _ _ _ _ _ _ _ c.in-Err.ensures.answer;
-      later = record { reads = omega (arith, c.loop-bytes.invariant.reads, c.open_next.ensures.later); writes = omega (arith, c.loop-bytes.invariant.writes, c.write-in-loop-bytes.ensures.later) };
-      source = g.met.S.Source.same_trans _ _ _ c.loop-bytes.invariant.same_source c.open_next.ensures.same;
-      sink = g.met.K.Sink.same_trans _ _ _ c.loop-bytes.invariant.same_sink c.write-in-loop-bytes.ensures.same;
-    }
+    next_failed _ _ _ _ _ _ _ _ _ (omega (arith, opener.some)) (omega (arith, opener.some, opener.first_fits)) _ _ _ _ c.loop-bytes.invariant.under_way sealer.some (omega (arith, sealer.some, sealer.first_fits)) _ _ _ _ refl
+    c.loop-bytes.invariant.reads (omega arith) (reads_held _ after.filled _ _ after.buffer.items (Keeps-refl _) (omega (arith, after.filled_in, c.open_next.ensures.room, c.loop-bytes.invariant.room))) w.0 refused
+
+pub returns-in-Err-clause-unwritten : goal.returns-in-Err-clause-unwritten
+returns-in-Err-clause-unwritten g c = next_wrote _ _ _ _ _ _ _ _ _ c.in-Err.ensures.answer
+
+-- whatever else is read
+pub returns-in-Err-clause-source : goal.returns-in-Err-clause-source
+returns-in-Err-clause-source g c = g.met.S.Source.same_trans _ _ _ c.loop-bytes.invariant.same_source (search (rules, g.met.S.Source.same_trans))
+
+pub returns-in-Err-clause-sink : goal.returns-in-Err-clause-sink
+returns-in-Err-clause-sink g c = g.met.K.Sink.same_trans _ _ _ c.loop-bytes.invariant.same_sink c.write-in-loop-bytes.ensures.same
