@@ -5,6 +5,7 @@ ghost use Rattle.tink_run.specs.OpenReads.{ReadsNoFurther};
 ghost use Rattle.tink_run.specs.Outside.{outside_of};
 ghost use Rattle.tink_run.specs.Run.{AnswerMeans, CanSucceed, OkMeans, Told};
 ghost use Rattle.tink_rewrap.specs.Promises.{CanRewrap, IsWholeRewrap};
+ghost use Rattle.tink_rewrap.specs.RewrapReads.{RewrapReadsNoFurther};
 ghost use Rattle.tink_rewrap.specs.Rewrapping.{RewrapMeans, sides};
 ghost use Rattle.tink_files.specs.Streams.{IsShownWhole, RanAndEnded, Succeeds};
 
@@ -76,10 +77,14 @@ pub fn rewrap_to<S: Source, P: Place>(
 ) -> Result<Report, TinkError>
     requires { P.has_draft place.old ≡ true }
 
-    // `rewrap` wrote the draft, and by its answer the draft was shown or taken away.
+    // `rewrap` wrote the draft, and by its answer, which says how far the source was read too, the draft was shown or
+    // taken away.
     ensures ran { RanAndEnded P.got P.faults (λ draft answer. RewrapMeans
         (sides from.now from_aad.now to.now to_aad.now)
         draws.old draws.new (outside_of S.left S.faults P.got P.faults source.old place.old)
+        (outside_of S.left S.faults P.got P.faults source.new draft) answer × RewrapReadsNoFurther
+        (sides from.now from_aad.now to.now to_aad.now)
+        (outside_of S.left S.faults P.got P.faults source.old place.old)
         (outside_of S.left S.faults P.got P.faults source.new draft) answer)
         (P.replaces place.old) (P.shown place.old) (P.shown place.new) (P.faults place.new) result }
 

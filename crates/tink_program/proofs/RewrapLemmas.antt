@@ -128,11 +128,11 @@ want_cause sides draws old new OutOfMemory m is = m
 want_cause sides draws old new _ m is = absurd (omega (arith, is))
 
 read_cause : (sides : Sides) (draws : List ℕ) (old new : Outside) (kind : Kind) → RewrapOutcome sides draws old new (Refused kind) → kind_status kind ≡ 11 → Rose old.read_faults new.read_faults
-read_cause sides draws old new ReadFault m is = m.1.means.means.opened.1
+read_cause sides draws old new ReadFault m is = m.1.means.means.opened.0.1
 read_cause sides draws old new _ m is = absurd (omega (arith, is))
 
 write_cause : (sides : Sides) (draws : List ℕ) (old new : Outside) (kind : Kind) → RewrapOutcome sides draws old new (Refused kind) → kind_status kind ≡ 12 → Rose old.write_faults new.write_faults
-write_cause sides draws old new WriteFault m is = m.1.means.means.opened.1
+write_cause sides draws old new WriteFault m is = m.1.means.means.opened.0.1
 write_cause sides draws old new _ m is = absurd (omega (arith, is))
 
 pub rewrap_facts : (sides : Sides) (seed : List ℕ) (old new : Outside) (outcome : Outcome) → RewrapOutcome sides (draws_in seed 256) old new outcome

@@ -3,6 +3,7 @@ use Rattle.std.proofs.Common.{◌≡◌, ◌+◌, inl, inr, ◌≤◌, ◌<◌, 
 use Rattle.std.specs.declared.option.Option.{Option}
 use Rattle.std.specs.Prelude.{Result, Ok, Err}
 use Rattle.std.specs.Io.KnownBytes.{Appends, Keeps}
+use Rattle.tink_io.specs.Taken.{LosesAtMost}
 use Rattle.tink_io.specs.Written.{AppendsPrefix}
 use Rattle.tink_io.specs.declared.error.Kind.{Kind}
 use Rattle.tink_io.specs.declared.error.Kind.TheVariants.{ReadFault, WriteFault, TooManySegments, NoMatchingKey, BadSegment, Truncated}
@@ -12,11 +13,12 @@ use Rattle.tink_streams.specs.Choosing.{Started, StartRefused}
 use Rattle.tink_run.specs.declared.report.Report.{Report}
 use Rattle.tink_run.specs.Outside.{Outside}
 use Rattle.tink_run.specs.OpenAnswers.{IsBroken, OpeningMeans}
-use Rattle.tink_run.specs.OpenSteps.{Breaks, ReaderMeans}
+use Rattle.tink_run.specs.OpenReads.{room_under}
 use Rattle.tink_run.specs.Run.{IsEarly, LeavesEnds}
-use Rattle.tink_run.proofs.OpenSteps.{breaks_under, means_under, start_refused}
-use Rattle.tink_rewrap.specs.Passing.{NewBytes, anywhere, into, BreaksAtEnd, PassMeans, PassRefused, StopsBy}
-use Rattle.tink_rewrap.specs.Rewrapping.{HasKey, LeavesOrBegins}
+use Rattle.tink_run.proofs.OpenSteps.{means_under, start_refused}
+use Rattle.tink_run.proofs.ReadsSteps.{reads_under, start_reads}
+use Rattle.tink_rewrap.specs.Passing.{BreaksAtEnd, LeadsUnder, LeadsWithin, NewBytes, OpensWithin, PassMeans, PassRefused, ReaderMeansWithin, StopsBy, anywhere, into}
+use Rattle.tink_rewrap.specs.Rewrapping.{HasKey, LeavesOrBegins, PassesUnder}
 
 -- the same is made of each text
 pub record MakeTheSame (b c : NewBytes) : Type 0 where
@@ -93,20 +95,39 @@ module _ (opens opens' : Outside → Outside → Result Report TinkError → Typ
   }
   pass_by (Err e) x = refused e.kind x
 
+-- beside how far was read: what an open says
+pub means_alone : (keys : List OpeningKey) (b : NewBytes) (old new : Outside) (answer : Result Report TinkError) → PassesUnder keys b old new answer → PassMeans (OpeningMeans keys) (IsBroken keys) (HasKey keys) b old new answer
+means_alone keys b old new answer =
+    pass_by (OpensWithin (room_under keys) keys) (OpeningMeans keys) (LeadsUnder (room_under keys) keys) (IsBroken keys) (HasKey keys) (HasKey keys) b b old old new refl
+    (λ text answer x. x.0) (λ text x. record { texts = x.texts; lead = x.lead; written = x.written }) (λ x. x) (itself b) answer
+
 -- what a reader for the chosen key finds
-pub pass_started : (keys : List OpeningKey) (seg : ℕ → Bool → List ℕ → List ℕ) (first size overhead : ℕ) (b : NewBytes) (old mid new : Outside) (answer : Result Report TinkError) → overhead < first
+pub pass_started : (room : ℕ) (keys : List OpeningKey) (seg : ℕ → Bool → List ℕ → List ℕ) (first size overhead : ℕ) (b : NewBytes) (old mid new : Outside) (answer : Result Report TinkError) → overhead < first
     → ((i : ℕ) (last : Bool) (t : List ℕ) → length (seg i last t) ≡ length t + overhead) → mid.got ≡ old.got → old.read_faults ≤ mid.read_faults → old.write_faults ≤ mid.write_faults
     → IfSome old.left (λ X. Started keys X mid.left seg first size overhead)
-    → PassMeans (ReaderMeans seg first size overhead) (Breaks seg first size) anywhere b mid new answer → PassMeans (OpeningMeans keys) (IsBroken keys) (HasKey keys) b old new answer
-pass_started keys seg first size overhead b old mid new answer fits longer got reads writes started x =
-    pass_by (ReaderMeans seg first size overhead) (OpeningMeans keys) (Breaks seg first size) (IsBroken keys) anywhere (HasKey keys) b b old mid new got
-    (λ text answer. means_under keys seg first size overhead (into [] old) (into [] mid) (into text new) answer fits longer refl reads writes started)
-    (λ text. breaks_under keys seg first size overhead (into [] old) (into [] mid) (into text new) refl started)
-    (λ _. chosen old.left started) (itself b) answer x
+    → PassMeans (ReaderMeansWithin room seg first size overhead) (LeadsWithin room seg first size) anywhere b mid new answer → PassMeans (OpensWithin room keys) (LeadsUnder room keys) (HasKey keys) b old new answer
+pass_started room keys seg first size overhead b old mid new answer fits longer got reads writes started x =
+    pass_by (ReaderMeansWithin room seg first size overhead) (OpensWithin room keys) (LeadsWithin room seg first size) (LeadsUnder room keys) anywhere (HasKey keys) b b old mid new got
+    (λ text answer o. (
+      means_under keys seg first size overhead (into [] old) (into [] mid) (into text new) answer fits longer refl reads writes started o.0,
+      reads_under room keys seg first size overhead (into [] old) (into [] mid) (into text new) refl started answer o.0 o.1,
+    ))
+    led (λ _. chosen old.left started) (itself b) answer x
   where
     chosen : (left : Option (List ℕ)) → IfSome left (λ X. Started keys X mid.left seg first size overhead) → IfSome left (λ S. (key : OpeningKey) × IsChosen keys S (Some key))
     chosen None s = tt
     chosen (Some X) s = (s.found.key, s.found.chosen)
+
+    -- as if the sink of an open had failed in the text
+    led : (text : List ℕ) → LeadsWithin room seg first size (into [] mid) (into text new) → LeadsUnder room keys (into [] old) (into text new)
+    led text x =
+        let from : Outside = record { left = old.left; read_faults = 0; got = Some []; write_faults = 0 } in
+        let begun : Outside = record { left = mid.left; read_faults = 0; got = Some []; write_faults = 0 } in
+        let broken : Outside = record { left = new.left; read_faults = 0; got = Some text; write_faults = 1 } in
+        let r = reads_under room keys seg first size overhead from begun broken refl started (Err (record { kind = WriteFault }))
+        (record { texts = x.texts; lead = x.lead; written = x.written }, omega arith) (record { texts = x.texts; lead = x.lead; read = x.read; written = x.written })
+        in
+        record { texts = r.texts; lead = r.lead; read = r.read; written = r.written }
 
 -- a reader was started, so that a key was chosen
 pub begun_of : {K : Type 0} (keys : List OpeningKey) (seg : ℕ → Bool → List ℕ → List ℕ) (first size overhead : ℕ) (left : Option (List ℕ)) (old : Outside) (answer : Result Report TinkError) (k l : K)
@@ -124,11 +145,18 @@ leaves_or_begins_same keys old (Ok report) k = tt
 leaves_or_begins_same keys old (Err e) k = inl refl
 
 -- no reader was started
-pub pass_not_started : (keys : List OpeningKey) (b : NewBytes) (old new : Outside) (kind : Kind) → Keeps old.got new.got → StartRefused keys old.left old.read_faults new.read_faults kind
-    → PassRefused (OpeningMeans keys) (IsBroken keys) (HasKey keys) b old new kind
-pass_not_started keys b old new NoMatchingKey w x = record { opened = start_refused keys (into [] old) (into [] new) NoMatchingKey refl x; written = w }
-pass_not_started keys b old new ReadFault w x = record { text = []; opened = start_refused keys (into [] old) (into [] new) ReadFault refl x; written = inl w }
-pass_not_started keys b old new _ w x = absurd x
+pub pass_not_started : (room : ℕ) (keys : List OpeningKey) (b : NewBytes) (old new : Outside) (kind : Kind) → Keeps old.got new.got → LosesAtMost room old.left new.left → StartRefused keys old.left old.read_faults new.read_faults kind
+    → PassRefused (OpensWithin room keys) (LeadsUnder room keys) (HasKey keys) b old new kind
+pass_not_started room keys b old new NoMatchingKey w lost x = record {
+  opened = (start_refused keys (into [] old) (into [] new) NoMatchingKey refl x, start_reads room keys (into [] old) (into [] new) NoMatchingKey refl lost x);
+  written = w;
+}
+pass_not_started room keys b old new ReadFault w lost x = record {
+  text = [];
+  opened = (start_refused keys (into [] old) (into [] new) ReadFault refl x, start_reads room keys (into [] old) (into [] new) ReadFault refl lost x);
+  written = inl w;
+}
+pass_not_started room keys b old new _ w lost x = absurd x
 
 -- a text that is passed on is not refused early
 pub pass_leaves : {S K : Type 0} (opens : Outside → Outside → Result Report TinkError → Type 0) (leads : Outside → Outside → Type 0) (begins : Outside → Type 0) (b : NewBytes) (old new : Outside) (answer : Result Report TinkError) (s t : S) (k l : K)

@@ -1,5 +1,7 @@
 pub mod PassSteps
 pub mod KeySteps
+pub mod OpenedLater
+pub mod PassEndings
 pub mod RewrapSteps
 pub mod PromiseSteps
-pub mod PassEndings
+pub mod ReadsOnly

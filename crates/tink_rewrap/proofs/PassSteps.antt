@@ -5,6 +5,7 @@ use Rattle.std.specs.Prelude.{Result, Ok, Err}
 use Rattle.std.specs.Io.KnownBytes.{Appends, Keeps, prepend_known}
 use Rattle.std.proofs.KnownBytes.{Appends-trans}
 use Rattle.tink_io.specs.Faults.{Rose}
+use Rattle.tink_io.specs.Taken.{LosesAtMost}
 use Rattle.tink_io.specs.Written.{AppendsPrefix}
 use Rattle.tink_io.proofs.FaultLemmas.{Rose-later, Rose-earlier}
 use Rattle.tink_io.proofs.WrittenLemmas.{then_prefix, prefix_of_more}
@@ -20,11 +21,13 @@ use Rattle.tink_streams.specs.Writing.{WriterMoment, Wrote, WrotePrefixOf, Wrote
 use Rattle.tink_streams.proofs.WritingFacts.{IsFresh, fresh_filled, wrote_nothing, wrote_more, refused_more, closed_whole, closed_prefix, stops_prefix}
 use Rattle.tink_run.specs.declared.report.Report.{Report}
 use Rattle.tink_run.specs.Outside.{Outside}
-use Rattle.tink_run.specs.OpenSteps.{Breaks, FirstRefused, ReaderMeans}
+use Rattle.tink_run.specs.OpenReads.{ReaderReadsBy}
+use Rattle.tink_run.specs.OpenSteps.{FirstRefused, ReaderMeans}
 use Rattle.tink_run.specs.Run.{LeavesSinkItself, WritesNothing}
 use Rattle.tink_run.proofs.OpenLemmas.{kept_prefix, whole_prefix}
-use Rattle.tink_run.proofs.ReadOut.{IsReading, any_told, first_refused, next_refused, read_out, reading_first, reading_next, write_failed}
-use Rattle.tink_rewrap.specs.Passing.{FinishMeans, NewBytes, anywhere, bytes_by, into, PassMeans, PassRefused}
+use Rattle.tink_run.proofs.ReadOut.{IsReading, first_refused, next_refused, read_out, reading_first, reading_next, write_failed}
+use Rattle.tink_run.proofs.ReadsSteps.{first_reads, next_reads, write_reads}
+use Rattle.tink_rewrap.specs.Passing.{FinishMeans, LeadsWithin, NewBytes, PassMeans, PassRefused, ReaderMeansWithin, anywhere, bytes_by, into}
 
 -- what a fresh writer behind a front wrote
 module _ (front : List ℕ) (seg : ℕ → Bool → List ℕ → List ℕ) (a b : ℕ) (got : Option (List ℕ)) (m : WriterMoment) (f : IsFresh m) (w : Appends got m.got front) where
@@ -77,42 +80,60 @@ pub record IsUnderWay (read : ℕ → Bool → List ℕ → List ℕ) (first siz
   pub wrote : Wrote seg a b start w text
   pub since : start.faults ≤ w.faults
 
-module _ (read : ℕ → Bool → List ℕ → List ℕ) (first size overhead : ℕ) (front : List ℕ) (seg : ℕ → Bool → List ℕ → List ℕ) (a b : ℕ) where
+module _ (room : ℕ) (read : ℕ → Bool → List ℕ → List ℕ) (first size overhead : ℕ) (front : List ℕ) (seg : ℕ → Bool → List ℕ → List ℕ) (a b : ℕ) (x : 0 < first) (y : 0 < size) where
   abbrev made : NewBytes
   made = bytes_by front seg a b
 
   abbrev Refused : Outside → Outside → Kind → Type 0
-  Refused old new kind = PassRefused (ReaderMeans read first size overhead) (Breaks read first size) anywhere made old new kind
+  Refused old new kind = PassRefused (ReaderMeansWithin room read first size overhead) (LeadsWithin room read first size) anywhere made old new kind
 
   -- the reader refused the first segment
-  pub first_failed : (old new : Outside) (m n : ReaderMoment) (kind : Kind) → m.number ≡ 0 → m.rest ≡ old.left → old.read_faults ≤ m.faults → n.faults ≤ new.read_faults → Keeps old.got new.got → FirstRefused read first size m n kind
-      → Refused old new kind
-  first_failed old new m n NoMatchingKey z same later more w x = record {
-    opened = first_refused read first size overhead (into [] old) (into [] new) m n NoMatchingKey z same later more refl x;
+  pub first_failed : (old new : Outside) (m n : ReaderMoment) (kind : Kind) → m.number ≡ 0 → m.rest ≡ old.left → old.read_faults ≤ m.faults → n.faults ≤ new.read_faults → Keeps old.got new.got → LosesAtMost room old.left new.left
+      → FirstRefused read first size m n kind → Refused old new kind
+  first_failed old new m n NoMatchingKey z same later more w lost r = record {
+    opened = (
+      first_refused read first size overhead (into [] old) (into [] new) m n NoMatchingKey z same later more refl r,
+      first_reads room read first size (into [] old) (into [] new) m n NoMatchingKey x y refl lost r,
+    );
     written = w;
   }
-  first_failed old new m n ReadFault z same later more w x = record {
+  first_failed old new m n ReadFault z same later more w lost r = record {
     text = [];
-    opened = first_refused read first size overhead (into [] old) (into [] new) m n ReadFault z same later more refl x;
+    opened = (
+      first_refused read first size overhead (into [] old) (into [] new) m n ReadFault z same later more refl r,
+      first_reads room read first size (into [] old) (into [] new) m n ReadFault x y refl lost r,
+    );
     written = inl w;
   }
-  first_failed old new m n _ z same later more w x = absurd x
+  first_failed old new m n _ z same later more w lost r = absurd r
+
+  -- nothing is written yet of the first text
+  first_opened : (old : Outside) (m n : ReaderMoment) → m.number ≡ 0 → m.rest ≡ old.left → OpensNext read first size m n → length n.opened < 2 ^ 32 → IsReading read first size old.left (Some []) (Some []) n 0
+  first_opened old m n z same next small =
+      subst (λ (all : Option (List ℕ)). IsReading read first size all (Some []) (Some []) n 0) same (reading_first read first size (Some []) m n z next small)
 
   -- the sink failed in the front
-  pub front_failed : (old new : Outside) → AppendsPrefix old.got new.got front → Rose old.write_faults new.write_faults → Refused old new WriteFault
-  front_failed old new w rose = record {
-    text = [];
-    begun = tt;
-    opened = (record { texts = []; lead = any_told old.left; written = kept_prefix (Some []) (Some []) [] refl }, rose);
-    written = inl (prefix_of_more old.got new.got front _ w);
-  }
+  pub front_failed : (old new : Outside) (m n : ReaderMoment) → m.number ≡ 0 → m.rest ≡ old.left → OpensNext read first size m n → length n.opened < 2 ^ 32 → LosesAtMost room n.rest new.left
+      → AppendsPrefix old.got new.got front → Rose old.write_faults new.write_faults → Refused old new WriteFault
+  front_failed old new m n z same next small lost w rose =
+      let reading = first_opened old m n z same next small in
+      let none : AppendsPrefix (Some []) (Some []) n.opened = kept_prefix (Some []) (Some []) n.opened refl in
+      record {
+        text = [];
+        begun = tt;
+        opened = (
+          write_failed read first size (into [] old) (into [] new) (Some []) n 0 old.write_faults reading none (omega arith) rose,
+          write_reads room read first size (into [] old) (into [] new) (Some []) n 0 x y reading none lost,
+        );
+        written = inl (prefix_of_more old.got new.got front _ w);
+      }
 
   -- the first segment was opened, and the front was written
   pub under_way : (old : Outside) (m n : ReaderMoment) (w : WriterMoment) → m.number ≡ 0 → m.rest ≡ old.left → OpensNext read first size m n → length n.opened < 2 ^ 32 → IsFresh w → Appends old.got w.got front → old.write_faults ≤ w.faults
       → IsUnderWay read first size front seg a b old n w 0
   under_way old m n w z same next small fresh begun later = record {
     text = [];
-    reading = subst (λ (all : Option (List ℕ)). IsReading read first size all (Some []) (Some []) n 0) same (reading_first read first size (Some []) m n z next small);
+    reading = first_opened old m n z same next small;
     start = w;
     fresh = fresh;
     begun = begun;
@@ -143,46 +164,45 @@ module _ (read : ℕ → Bool → List ℕ → List ℕ) (first size overhead : 
       since = omega (arith, u.since, later);
     }
 
-    -- the sink failed, as that of the open would have
-    abbrev broke : (new : Outside) → Rose w.faults new.write_faults → Breaks read first size (into [] old) (into text new) × Rose old.write_faults new.write_faults
-    broke new rose =
-        write_failed read first size (into [] old) (into text new) (Some u.text) m bytes w.faults u.reading
-        (whole_prefix (Some u.text) (Some text) m.opened refl) (omega (arith, u.later, u.since)) rose
-
     -- the text leads
-    led : (new : Outside) → Breaks read first size (into [] old) (into text new)
-    led new =
-        let x = write_failed read first size
-        (record { left = old.left; read_faults = 0; got = Some []; write_faults = 0 }) (record { left = new.left; read_faults = 0; got = Some text; write_faults = 1 })
-        (Some u.text) m bytes 0 u.reading (whole_prefix (Some u.text) (Some text) m.opened refl) (omega arith) (omega arith)
-        in
-        record { texts = x.0.texts; lead = x.0.lead; written = x.0.written }
+    led : (new : Outside) → LosesAtMost room m.rest new.left → LeadsWithin room read first size (into [] old) (into text new)
+    led new lost = write_reads room read first size (into [] old) (into text new) (Some u.text) m bytes x y u.reading (whole_prefix (Some u.text) (Some text) m.opened refl) lost
+
+    -- the sink failed, as that of the open would have
+    abbrev broke : (new : Outside) → Rose w.faults new.write_faults → LosesAtMost room m.rest new.left → ReaderMeansWithin room read first size overhead (into [] old) (into text new) (Err (record { kind = WriteFault }))
+    broke new rose lost = (
+      write_failed read first size (into [] old) (into text new) (Some u.text) m bytes w.faults u.reading
+          (whole_prefix (Some u.text) (Some text) m.opened refl) (omega (arith, u.later, u.since)) rose,
+      led new lost,
+    )
 
     -- the writer refused the text
-    pub text_refused : (v : WriterMoment) (new : Outside) (why : Kind) → new.got ≡ v.got → v.faults ≤ new.write_faults → WriteRefused seg a b w v m.opened why → Refused old new why
-    text_refused v new why got more r = go why (refused_more seg a b u.start w v u.text m.opened why p q u.since u.wrote r) r
+    pub text_refused : (v : WriterMoment) (new : Outside) (why : Kind) → new.got ≡ v.got → v.faults ≤ new.write_faults → LosesAtMost room m.rest new.left → WriteRefused seg a b w v m.opened why → Refused old new why
+    text_refused v new why got more lost r = go why (refused_more seg a b u.start w v u.text m.opened why p q u.since u.wrote r) r
       where
         go : (why : Kind) → WriteRefused seg a b u.start v text why → WriteRefused seg a b w v m.opened why → Refused old new why
-        go WriteFault x r = record {
+        go WriteFault c r = record {
           text = text;
           begun = tt;
-          opened = broke new (Rose-later w.faults v.faults new.write_faults r.rose more);
-          written = inl (subst (λ (g : Option (List ℕ)). AppendsPrefix old.got g (made.part text)) (sym got) (wrote_less front seg a b old.got u.start u.fresh u.begun v text x));
+          opened = broke new (Rose-later w.faults v.faults new.write_faults r.rose more) lost;
+          written = inl (subst (λ (g : Option (List ℕ)). AppendsPrefix old.got g (made.part text)) (sym got) (wrote_less front seg a b old.got u.start u.fresh u.begun v text c));
         }
-        go TooManySegments x r = inl (record {
+        go TooManySegments c r = inl (record {
           text = text;
-          opened = led new;
-          many = many_chunks front seg a b old.got u.start u.fresh u.begun v text x;
-          written = subst (λ (g : Option (List ℕ)). Appends old.got g (made.longest text)) (sym got) (wrote_longest front seg a b old.got u.start u.fresh u.begun v text x);
+          opened = led new lost;
+          many = many_chunks front seg a b old.got u.start u.fresh u.begun v text c;
+          written = subst (λ (g : Option (List ℕ)). Appends old.got g (made.longest text)) (sym got) (wrote_longest front seg a b old.got u.start u.fresh u.begun v text c);
         })
-        go kind.Closed x r = absurd (let e = sym u.wrote.is_open ∙ r.0 in cc)
-        go (FailedBefore c) x r = absurd (let e = sym u.wrote.is_open ∙ r.0 in cc)
-        go _ x r = absurd x
+        go kind.Closed c r = absurd (let e = sym u.wrote.is_open ∙ r.0 in cc)
+        go (FailedBefore before) c r = absurd (let e = sym u.wrote.is_open ∙ r.0 in cc)
+        go _ c r = absurd c
 
     -- the reader refused the next segment
-    pub next_failed : (n : ReaderMoment) (v : WriterMoment) (new : Outside) (kind : Kind) → 0 < first → 0 < size → new.got ≡ v.got → old.read_faults ≤ m.faults → n.faults ≤ new.read_faults → Wrote seg a b w v m.opened
+    pub next_failed : (n : ReaderMoment) (v : WriterMoment) (new : Outside) (kind : Kind) → new.got ≡ v.got → old.read_faults ≤ m.faults → n.faults ≤ new.read_faults → LosesAtMost room n.rest new.left → Wrote seg a b w v m.opened
         → OpenNextRefused read first size overhead m n kind → Refused old new kind
-    next_failed n v new kind x y got later more wrote r = go kind (next_refused read first size overhead (into [] old) (into text new) (Some u.text) m n bytes kind x y u.reading refl later more r) r
+    next_failed n v new kind got later more lost wrote r =
+        go kind (next_refused read first size overhead (into [] old) (into text new) (Some u.text) m n bytes kind x y u.reading refl later more r)
+        (next_reads room read first size overhead (into [] old) (into text new) (Some u.text) m n bytes kind x y u.reading refl lost r) r
       where
         part : Appends old.got new.got (made.part text)
         part = subst (λ (g : Option (List ℕ)). Appends old.got g (made.part text)) (sym got) (wrote_part front seg a b old.got u.start u.fresh u.begun v text (wrote_text v wrote))
@@ -190,15 +210,16 @@ module _ (read : ℕ → Bool → List ℕ → List ℕ) (first size overhead : 
         few : made.count text ≤ 2 ^ 32
         few = few_chunks front seg a b old.got u.start u.fresh u.begun v text (wrote_text v wrote)
 
-        go : (kind : Kind) → ReaderMeans read first size overhead (into [] old) (into text new) (Err (record { kind = kind })) → OpenNextRefused read first size overhead m n kind → Refused old new kind
-        go ReadFault o r = record { text = text; opened = o; written = inr (tt, part) }
-        go TooManySegments o r = inr (record { text = text; opened = o; few = few; written = part })
-        go (BadSegment i) o r = record { text = text; opened = o; few = few; written = part }
-        go (Truncated i) o r = record { text = text; opened = o; few = few; written = part }
-        go _ o r = absurd r
+        go : (kind : Kind) → ReaderMeans read first size overhead (into [] old) (into text new) (Err (record { kind = kind })) → ReaderReadsBy room read first size (into [] old) (into text new) kind → OpenNextRefused read first size overhead m n kind
+            → Refused old new kind
+        go ReadFault o l r = record { text = text; opened = (o, l); written = inr (tt, part) }
+        go TooManySegments o l r = inr (record { text = text; opened = (o, l); few = few; written = part })
+        go (BadSegment i) o l r = record { text = text; opened = (o, l); few = few; written = part }
+        go (Truncated i) o l r = record { text = text; opened = (o, l); few = few; written = part }
+        go _ o l r = absurd r
 
     -- the last text went to the writer
-    module _ (v : WriterMoment) (wrote : Wrote seg a b w v m.opened) (new : Outside) (held : List ℕ) (ended : m.progress ≡ Ended) (rest : m.rest ≡ prepend_known held new.left) (o : WriterMoment) (got : new.got ≡ o.got) where
+    module _ (v : WriterMoment) (wrote : Wrote seg a b w v m.opened) (new : Outside) (held : List ℕ) (ended : m.progress ≡ Ended) (rest : m.rest ≡ prepend_known held new.left) (lost : LosesAtMost room m.rest new.left) (o : WriterMoment) (got : new.got ≡ o.got) where
       whole : (accepted : ℕ) → accepted ≡ m.number → ReaderMeans read first size overhead (into [] old) (into text new) (Ok (record { segments = accepted; bytes = length text }))
       whole accepted number =
           read_out read first size (into [] old) (into text new) (Some u.text) m bytes held (record { segments = accepted; bytes = length text }) u.reading refl ended rest number
@@ -212,10 +233,10 @@ module _ (read : ℕ → Bool → List ℕ → List ℕ) (first size overhead : 
       not_closed WriteFault later since more r = record {
         text = text;
         begun = tt;
-        opened = broke new (Rose-later w.faults o.faults new.write_faults (Rose-earlier w.faults v.faults o.faults since r.rose) more);
+        opened = broke new (Rose-later w.faults o.faults new.write_faults (Rose-earlier w.faults v.faults o.faults since r.rose) more) lost;
         written = inr (record {
           accepted = m.number;
-          opened = whole m.number refl;
+          opened = (whole m.number refl, tt);
           written = subst (λ (g : Option (List ℕ)). AppendsPrefix old.got g (made.whole text)) (sym got) (wrote_whole_less front seg a b old.got u.start u.fresh u.begun v o text (wrote_text v wrote) r);
         });
       }
@@ -223,13 +244,13 @@ module _ (read : ℕ → Bool → List ℕ → List ℕ) (first size overhead : 
       not_closed _ later since more r = absurd r
 
       closed : (report : Report) → report.segments ≡ o.number → report.bytes ≡ bytes + length m.opened → CloseMeans seg v o (Ok tt)
-          → PassMeans (ReaderMeans read first size overhead) (Breaks read first size) anywhere made old new (Ok report)
+          → PassMeans (ReaderMeansWithin room read first size overhead) (LeadsWithin room read first size) anywhere made old new (Ok report)
       closed report segments total (inl c) =
           let all = wrote_whole front seg a b old.got u.start u.fresh u.begun v o text (wrote_text v wrote) c in
           record {
             text = text;
             accepted = m.number;
-            opened = whole m.number refl;
+            opened = (whole m.number refl, tt);
             few = few_chunks front seg a b old.got u.start u.fresh u.begun v text (wrote_text v wrote);
             written = subst (λ (g : Option (List ℕ)). Appends old.got g (made.whole text)) (sym got) all.0;
             segments = segments ∙ all.1;
@@ -238,7 +259,7 @@ module _ (read : ℕ → Bool → List ℕ → List ℕ) (first size overhead : 
       closed report segments total (inr c) = absurd (let e = sym wrote.is_open ∙ c.0 in cc)
 
       pub finished : (total : ℕ) (answer : Result Report TinkError) → total ≡ bytes + length m.opened → v.faults ≤ o.faults → w.faults ≤ v.faults → o.faults ≤ new.write_faults → FinishMeans seg v o total answer
-          → PassMeans (ReaderMeans read first size overhead) (Breaks read first size) anywhere made old new answer
+          → PassMeans (ReaderMeansWithin room read first size overhead) (LeadsWithin room read first size) anywhere made old new answer
       finished total (Ok report) all later since more x = closed report x.1 (x.2 ∙ all) x.0
       finished total (Err e) all later since more x = not_closed e.kind later since more x
 

@@ -29,8 +29,9 @@ use Rattle.tink_run.proofs.OpenLemmas.{chosen_lawful, kept_prefix, open_agreeing
 use Rattle.tink_run.proofs.LoadedFacts.{loaded_usable}
 use Rattle.tink_run.proofs.RunLemmas.{told_appended, told_if}
 use Rattle.tink_rewrap.specs.Passing.{bytes_under, into, PassMeans, PassRefused, StopsBy}
-use Rattle.tink_rewrap.specs.Rewrapping.{HasKey, IsUnloaded, RewrapMeans, RewrapRefused, RewrapsLoaded, RewrapsUnder, RewrapsUnderRefused, Sides}
+use Rattle.tink_rewrap.specs.Rewrapping.{HasKey, IsUnloaded, PassesUnder, RewrapMeans, RewrapRefused, RewrapsLoaded, RewrapsUnder, RewrapsUnderRefused, Sides}
 use Rattle.tink_rewrap.specs.Promises.{CanRewrap, CompletesRewrap, IsUnended, IsWholeRewrap, LeavesUnended, MayEnd}
+use Rattle.tink_rewrap.proofs.KeySteps.{means_alone}
 
 -- ---- what is made of a longer text
 
@@ -123,7 +124,7 @@ untouched_keeps old new u = subst (λ (m : Outside). Keeps old.got m.got) (sym u
 rewrapped : (s : Sides) (draws left_draws S G : List ℕ) (old new : Outside) (report : Report) → RewrapMeans s draws left_draws old new (Ok report) → Told old S G → IsWholeRewrap s draws left_draws S G new report
 rewrapped s draws left_draws S G old new report r t =
     let x = r.means.means in
-    let w = whole_text s.from s.from_aad S G r.from_loaded old new t r.from_loads x.text x.accepted x.opened in
+    let w = whole_text s.from s.from_aad S G r.from_loaded old new t r.from_loads x.text x.accepted x.opened.0 in
     let k : StreamKey = r.to_loaded.primary in
     let text : x.text ≡ joined w.texts = text_is x.text (joined w.texts) w.written in
     record {
@@ -268,20 +269,24 @@ data Wrote (s : Sides) (draws : List ℕ) (old new : Outside) (answer : Result R
       → PassMeans (OpeningMeans (opening_keys s.from_aad l)) (IsBroken (opening_keys s.from_aad l)) (HasKey (opening_keys s.from_aad l)) (bytes_under m.primary s.to_aad draws) old new answer
       → Wrote s draws old new answer
 
+passed : (s : Sides) (draws : List ℕ) (old new : Outside) (answer : Result Report TinkError) (l m : Loaded) → load s.from ≡ Ok l → load s.to ≡ Ok m → PassesUnder (opening_keys s.from_aad l) (bytes_under m.primary s.to_aad draws) old new answer
+    → Wrote s draws old new answer
+passed s draws old new answer l m from to x = Passed l m from to (means_alone (opening_keys s.from_aad l) (bytes_under m.primary s.to_aad draws) old new answer x)
+
 wrote_loaded : (s : Sides) (draws left_draws : List ℕ) (old new : Outside) (answer : Result Report TinkError) → RewrapsLoaded s draws left_draws old new answer → Wrote s draws old new answer
-wrote_loaded s draws left_draws old new (Ok report) r = Passed r.from_loaded r.to_loaded r.from_loads r.to_loads r.means.means
+wrote_loaded s draws left_draws old new (Ok report) r = passed s draws old new (Ok report) r.from_loaded r.to_loaded r.from_loads r.to_loads r.means.means
 wrote_loaded s draws left_draws old new (Err e) r = go e.kind r.means
   where
     go : (kind : Kind) → RewrapsUnderRefused (opening_keys s.from_aad r.from_loaded) r.to_loaded.primary s.to_aad draws left_draws old new e kind → Wrote s draws old new (Err e)
     go OutOfMemory x = Nothing x.untouched
     go RandomFault x = Nothing x.untouched
     go UnsupportedHash x = Nothing x.untouched
-    go NoMatchingKey x = Passed r.from_loaded r.to_loaded r.from_loads r.to_loads x.means
-    go TooManySegments x = Passed r.from_loaded r.to_loaded r.from_loads r.to_loads x.means
-    go (Truncated n) x = Passed r.from_loaded r.to_loaded r.from_loads r.to_loads x.means
-    go (BadSegment n) x = Passed r.from_loaded r.to_loaded r.from_loads r.to_loads x.means
-    go ReadFault x = Passed r.from_loaded r.to_loaded r.from_loads r.to_loads x.means
-    go WriteFault x = Passed r.from_loaded r.to_loaded r.from_loads r.to_loads x.means
+    go NoMatchingKey x = passed s draws old new (Err e) r.from_loaded r.to_loaded r.from_loads r.to_loads x.means
+    go TooManySegments x = passed s draws old new (Err e) r.from_loaded r.to_loaded r.from_loads r.to_loads x.means
+    go (Truncated n) x = passed s draws old new (Err e) r.from_loaded r.to_loaded r.from_loads r.to_loads x.means
+    go (BadSegment n) x = passed s draws old new (Err e) r.from_loaded r.to_loaded r.from_loads r.to_loads x.means
+    go ReadFault x = passed s draws old new (Err e) r.from_loaded r.to_loaded r.from_loads r.to_loads x.means
+    go WriteFault x = passed s draws old new (Err e) r.from_loaded r.to_loaded r.from_loads r.to_loads x.means
     go _ x = absurd x
 
 wrote_of : (s : Sides) (draws left_draws : List ℕ) (old new : Outside) (answer : Result Report TinkError) → RewrapMeans s draws left_draws old new answer → Wrote s draws old new answer
@@ -362,16 +367,19 @@ module _ (s : Sides) (draws left_draws S G : List ℕ) (old new : Outside) (e : 
   loads_not : (kind : Kind) → IsUnloaded s kind draws left_draws old new → ⊥
   loads_not kind x = elim x.cause [ inl e ↦ (let f = c.from_loads in cc) | inr e ↦ (let g = e.cause in let f = c.to_loads in cc) ]
 
+  passes_not : PassesUnder (opening_keys s.from_aad c.from_loaded) (bytes_under c.to_loaded.primary s.to_aad draws) old new (Err e) → ⊥
+  passes_not x = pass_complete s draws S G old new e.kind c t n (means_alone (opening_keys s.from_aad c.from_loaded) (bytes_under c.to_loaded.primary s.to_aad draws) old new (Err e) x)
+
   under : (kind : Kind) → RewrapsUnderRefused (opening_keys s.from_aad c.from_loaded) c.to_loaded.primary s.to_aad draws left_draws old new e kind → e.kind ≡ kind → e.kind ≡ OutOfMemory
   under OutOfMemory x same = same
   under RandomFault x same = absurd (omega (arith, x.few, c.enough))
   under UnsupportedHash x same = absurd (c.derives x.none)
-  under NoMatchingKey x same = absurd (pass_complete s draws S G old new e.kind c t n x.means)
-  under TooManySegments x same = absurd (pass_complete s draws S G old new e.kind c t n x.means)
-  under (Truncated i) x same = absurd (pass_complete s draws S G old new e.kind c t n x.means)
-  under (BadSegment i) x same = absurd (pass_complete s draws S G old new e.kind c t n x.means)
-  under ReadFault x same = absurd (pass_complete s draws S G old new e.kind c t n x.means)
-  under WriteFault x same = absurd (pass_complete s draws S G old new e.kind c t n x.means)
+  under NoMatchingKey x same = absurd (passes_not x.means)
+  under TooManySegments x same = absurd (passes_not x.means)
+  under (Truncated i) x same = absurd (passes_not x.means)
+  under (BadSegment i) x same = absurd (passes_not x.means)
+  under ReadFault x same = absurd (passes_not x.means)
+  under WriteFault x same = absurd (passes_not x.means)
   under _ x same = absurd x
 
   loaded : RewrapsLoaded s draws left_draws old new (Err e) → e.kind ≡ OutOfMemory

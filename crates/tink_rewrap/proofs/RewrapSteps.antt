@@ -1,37 +1,31 @@
 -- From the answers of loading, preparing and passing on to what a rewrap answers.
-use Rattle.std.proofs.Common.{◌≡◌, ◌⊎◌, ◌∙◌, inl, inr, ℕ, Bool, List, [], map, refl, sym, subst, Some, None, IfSome}
-use Rattle.std.proofs.lemmas.Simd.{map-map}
-use Rattle.std.specs.declared.option.Option.{Option}
-use Rattle.std.specs.Prelude.{Result, Ok, Err, IfErr}
+use Rattle.std.proofs.Common.{◌≡◌, ◌∙◌, inl, inr, ℕ, Bool, List, [], map, refl, sym, subst, Some}
+use Rattle.std.specs.Prelude.{Result, Ok, Err}
 use Rattle.tink_io.specs.declared.error.Kind.{Kind}
 use Rattle.tink_io.specs.declared.error.Kind.TheVariants.{OutOfMemory, ReadFault, WriteFault, RandomFault, BadKeyset, InvalidKeyset, UnsupportedKeyType, InvalidKey, NoPrimary, WrongPrimitive, UnknownHash, UnsupportedHash, TooManySegments, NoMatchingKey, BadSegment, Truncated}
 use Rattle.tink_io.specs.declared.error.TinkError.{TinkError}
 use Rattle.stream_model.specs.Key.{StreamKey, first_room, front, segment_at}
-use Rattle.stream_model.specs.Opening.{IsChosen, OpeningKey, opening_key}
-use Rattle.stream_model.specs.Order.{HaveSameOrder}
+use Rattle.stream_model.specs.Opening.{OpeningKey, opening_key}
 use Rattle.stream_model.specs.Sealing.{prefix_of, salt_of}
-use Rattle.stream_model.proofs.OrderFacts.{choose_the_same}
 use Rattle.tink_sets.specs.declared.typed_set.TypedPrimitiveSet.{TypedPrimitiveSet}
 use Rattle.tink_streams.specs.declared.writing.Mode.{Mode}
 use Rattle.tink_stream_keys.specs.declared.stream_kind.StreamKind.{StreamKind}
 use Rattle.tink_stream_keys.specs.NewStreams.{IsPrepared, NotPrepared}
 use Rattle.tink_streaming_aead.specs.Wrapped.{KeepsOrder, all_entries, key_in, keys_in}
-use Rattle.loading_model.specs.Loading.{Loaded, opening_keys}
+use Rattle.loading_model.specs.Loading.{opening_keys}
 use Rattle.loading_model.proofs.UsableKeys.{IsOfLoading}
 use Rattle.tink_run.specs.AllKeys.{load}
 use Rattle.tink_run.specs.HeldKeys.{GivesLoaded}
 use Rattle.tink_run.specs.declared.report.Report.{Report}
-use Rattle.tink_run.specs.OpenAnswers.{IsBroken, OpeningMeans}
+use Rattle.tink_run.specs.OpenReads.{room_under}
 use Rattle.tink_run.specs.Outside.{Outside}
 use Rattle.tink_run.specs.SealSteps.{kind_not_begun}
-use Rattle.tink_run.proofs.OneKeyFacts.{broken_by, means_by}
-use Rattle.tink_run.proofs.OpenLemmas.{chosen_lawful}
-use Rattle.tink_run.proofs.LoadedFacts.{load_refuses, loaded_usable}
-use Rattle.tink_run.proofs.RunSteps.{are_of_keyset}
+use Rattle.tink_run.proofs.LoadedFacts.{load_refuses}
 use Rattle.tink_run.proofs.SealSteps.{longest_is, no_keys, part_is, stream_is}
-use Rattle.tink_rewrap.specs.Passing.{bytes_by, bytes_under, into, PassMeans, PassRefused}
+use Rattle.tink_rewrap.specs.Passing.{LeadsUnder, OpensWithin, PassMeans, PassRefused, bytes_by, bytes_under, into}
 use Rattle.tink_rewrap.specs.Rewrapping.{HasKey, IsPassing, IsUnloaded, RewrapEnds, RewrapMeans, RewrapRefused, RewrapsLoaded, RewrapsUnder, RewrapsUnderRefused, Sides}
-use Rattle.tink_rewrap.proofs.KeySteps.{MakeTheSame, itself, pass_by}
+use Rattle.tink_rewrap.proofs.KeySteps.{MakeTheSame, pass_by}
+use Rattle.tink_rewrap.proofs.OpenedLater.{stays_opened}
 use Rattle.tink_rewrap.proofs.PassEndings.{rewraps_ended}
 
 -- ---- to a key
@@ -41,7 +35,7 @@ pub passes : (keys : List OpeningKey) (k : StreamKey) (aad draws left_draws : Li
 passes keys k aad draws left_draws old new (Ok report) p = p
 passes keys k aad draws left_draws old new (Err e) p = go e.kind p.means
   where
-    go : (kind : Kind) → PassRefused (OpeningMeans keys) (IsBroken keys) (HasKey keys) (bytes_under k aad draws) old new kind → RewrapsUnderRefused keys k aad draws left_draws old new e kind
+    go : (kind : Kind) → PassRefused (OpensWithin (room_under keys) keys) (LeadsUnder (room_under keys) keys) (HasKey keys) (bytes_under k aad draws) old new kind → RewrapsUnderRefused keys k aad draws left_draws old new e kind
     go NoMatchingKey m = p
     go TooManySegments m = p
     go (Truncated n) m = p
@@ -73,13 +67,14 @@ module _ (k : StreamKey) (aad draws left_draws bytes : List ℕ) (seg : ℕ → 
       }))))
 
   -- and the text is passed on to it
-  pub passes_prepared : (keys : List OpeningKey) (old new : Outside) (answer : Result Report TinkError) → PassMeans (OpeningMeans keys) (IsBroken keys) (HasKey keys) (bytes_by bytes seg a b) old new answer → RewrapsUnder keys k aad draws left_draws old new answer
-  passes_prepared keys old new answer m = passes keys k aad draws left_draws old new answer (record {
+  pub passes_prepared : (room : ℕ) (keys : List OpeningKey) (old new : Outside) (answer : Result Report TinkError) → room ≡ room_under keys
+      → PassMeans (OpensWithin room keys) (LeadsUnder room keys) (HasKey keys) (bytes_by bytes seg a b) old new answer → RewrapsUnder keys k aad draws left_draws old new answer
+  passes_prepared room keys old new answer same m = passes keys k aad draws left_draws old new answer (record {
     enough = p.drew.enough;
     rest = p.drew.rest;
     derives = λ none. let some = p.keys_are in cc;
-    means = pass_by (OpeningMeans keys) (OpeningMeans keys) (IsBroken keys) (IsBroken keys) (HasKey keys) (HasKey keys) (bytes_by bytes seg a b) (bytes_under k aad draws) old old new refl
-        (λ text answer x. x) (λ text x. x) (λ x. x) made_under answer m;
+    means = pass_by (OpensWithin room keys) (OpensWithin (room_under keys) keys) (LeadsUnder room keys) (LeadsUnder (room_under keys) keys) (HasKey keys) (HasKey keys) (bytes_by bytes seg a b) (bytes_under k aad draws) old old new refl
+        (λ text answer x. subst (λ (n : ℕ). OpensWithin n keys (into [] old) (into text new) answer) same x) (λ text x. subst (λ (n : ℕ). LeadsUnder n keys (into [] old) (into text new)) same x) (λ x. x) made_under answer m;
   })
 
 -- no stream was prepared
@@ -95,66 +90,6 @@ not_prepared keys k aad draws left_draws m kind e same r = subst (λ (x : TinkEr
     go _ r = absurd r
 
 -- ---- from keysets
-
--- what is said of keys is said of others of which the same is chosen
-module _ (ks js : List OpeningKey) (same : (S : List ℕ) (c : Option OpeningKey) → IsChosen ks S c → IsChosen js S c) (k : StreamKey) (aad draws left_draws : List ℕ) (old new : Outside) where
-  has_key : HasKey ks old → HasKey js old
-  has_key x = go old.left x
-    where
-      go : (left : Option (List ℕ)) → IfSome left (λ S. (key : OpeningKey) × IsChosen ks S (Some key)) → IfSome left (λ S. (key : OpeningKey) × IsChosen js S (Some key))
-      go None x = tt
-      go (Some S) x = (x.0, same S (Some x.0) x.1)
-
-  passing_by : (answer : Result Report TinkError) → IsPassing ks k aad draws left_draws old new answer → IsPassing js k aad draws left_draws old new answer
-  passing_by answer p = record {
-    enough = p.enough;
-    rest = p.rest;
-    derives = p.derives;
-    means = pass_by (OpeningMeans ks) (OpeningMeans js) (IsBroken ks) (IsBroken js) (HasKey ks) (HasKey js) (bytes_under k aad draws) (bytes_under k aad draws) old old new refl
-        (λ text answer. means_by ks js (into [] old) (into text new) (λ S e. same S) answer)
-        (λ text. broken_by ks js (into [] old) (into text new) (λ S e. same S))
-        has_key (itself (bytes_under k aad draws)) answer p.means;
-  }
-
-  pub rewraps_by : (answer : Result Report TinkError) → RewrapsUnder ks k aad draws left_draws old new answer → RewrapsUnder js k aad draws left_draws old new answer
-  rewraps_by (Ok report) r = passing_by (Ok report) r
-  rewraps_by (Err e) r = go e.kind r
-    where
-      go : (kind : Kind) → RewrapsUnderRefused ks k aad draws left_draws old new e kind → RewrapsUnderRefused js k aad draws left_draws old new e kind
-      go OutOfMemory r = r
-      go RandomFault r = r
-      go UnsupportedHash r = r
-      go NoMatchingKey r = passing_by (Err e) r
-      go TooManySegments r = passing_by (Err e) r
-      go (Truncated n) r = passing_by (Err e) r
-      go (BadSegment n) r = passing_by (Err e) r
-      go ReadFault r = passing_by (Err e) r
-      go WriteFault r = passing_by (Err e) r
-      go _ r = absurd r
-
--- how it ended, too
-ends_by : (ks js : List OpeningKey) → ((S : List ℕ) (c : Option OpeningKey) → IsChosen ks S c → IsChosen js S c) → (k : StreamKey) (aad draws left_draws : List ℕ) (old new : Outside) (ended : Result Report TinkError)
-    → RewrapEnds ks k aad draws left_draws old new ended → RewrapEnds js k aad draws left_draws old new ended
-ends_by ks js same k aad draws left_draws old new ended r = record {
-  ends = record {
-    told = r.ends.told;
-    faults = r.ends.faults;
-    answer = r.ends.answer;
-    meant = rewraps_by ks js same k aad draws left_draws old (record new { got = r.ends.told; write_faults = r.ends.faults }) r.ends.answer r.ends.meant;
-    ends = r.ends.ends;
-    grows = r.ends.grows;
-    earlier = r.ends.earlier;
-    later = r.ends.later;
-    early = r.ends.early;
-  };
-  begun = go r.ends.answer r.begun;
-}
-  where
-    go : (answer : Result Report TinkError) → IfErr answer (λ e. ((ended ≡ answer) × (r.ends.told ≡ new.got) × (r.ends.faults ≡ new.write_faults)) ⊎ HasKey ks old)
-        → IfErr answer (λ e. ((ended ≡ answer) × (r.ends.told ≡ new.got) × (r.ends.faults ≡ new.write_faults)) ⊎ HasKey js old)
-    go (Ok report) x = tt
-    go (Err e) (inl x) = inl x
-    go (Err e) (inr x) = inr (has_key ks js same k aad draws left_draws old new x)
 
 -- a rewrap between loaded keys is one between keysets
 under_keysets : (s : Sides) (draws left_draws : List ℕ) (old new : Outside) (answer : Result Report TinkError) → RewrapsLoaded s draws left_draws old new answer → RewrapMeans s draws left_draws old new answer
@@ -178,26 +113,16 @@ pub rewraps_keysets : (s : Sides) (draws left_draws : List ℕ) (set others : Ty
     → GivesLoaded (Ok set) (load s.from) → GivesLoaded (Ok others) (load s.to) → key_in others.primary ≡ Some key → KeepsOrder set.entries
     → RewrapEnds (map (opening_key s.from_aad) (keys_in (all_entries set.entries))) key s.to_aad draws left_draws old new answer → RewrapMeans s draws left_draws old new answer
 rewraps_keysets s draws left_draws set others key old new answer from to primary order r =
-    let l : Loaded = from.0 in
-    let all : List StreamKey = keys_in (all_entries set.entries) in
-    let own : List StreamKey = map (λ k. k.key) l.keys in
-    let ordered : HaveSameOrder all own = subst (HaveSameOrder all) from.2.keys (order from.2.entries from.2.groups) in
+    let keys : List OpeningKey = map (opening_key s.from_aad) (keys_in (all_entries set.entries)) in
     let one : Some key ≡ Some to.0.primary = sym primary ∙ to.2.primary in
     let same : key ≡ to.0.primary = cc in
-    let under : RewrapEnds (map (opening_key s.from_aad) own) key s.to_aad draws left_draws old new answer =
-    ends_by (map (opening_key s.from_aad) all) (map (opening_key s.from_aad) own)
-    (λ S c. (choose_the_same s.from_aad S all own c (are_of_keyset l.keys (loaded_usable s.from l from.1).0) ordered).0) key s.to_aad draws left_draws old new answer r
-    in
-    let loaded : RewrapEnds (opening_keys s.from_aad l) to.0.primary s.to_aad draws left_draws old new answer =
-    subst (λ (ks : List OpeningKey). RewrapEnds ks to.0.primary s.to_aad draws left_draws old new answer) (map-map (opening_key s.from_aad) (λ k. k.key) l.keys)
-    (subst (λ (k : StreamKey). RewrapEnds (map (opening_key s.from_aad) own) k s.to_aad draws left_draws old new answer) same under)
-    in
     under_keysets s draws left_draws old new answer (record {
-      from_loaded = l;
+      from_loaded = from.0;
       from_loads = from.1;
       to_loaded = to.0;
       to_loads = to.1;
-      means = rewraps_ended (opening_keys s.from_aad l) (λ S key. chosen_lawful s.from s.from_aad S l key from.1) to.0.primary s.to_aad draws left_draws old new answer loaded;
+      means = rewraps_ended keys (opening_keys s.from_aad from.0) to.0.primary s.to_aad draws left_draws old new answer (stays_opened s.from s.from_aad set from order old new)
+          (subst (λ (k : StreamKey). RewrapEnds keys k s.to_aad draws left_draws old new answer) same r);
     })
 
 unloaded : (s : Sides) (draws : List ℕ) (m : Outside) (e : TinkError) (kind : Kind) → IsOfLoading kind → IsUnloaded s kind draws draws m m → RewrapRefused s draws draws m m e kind

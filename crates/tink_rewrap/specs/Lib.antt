@@ -1,3 +1,4 @@
 pub mod Passing
 pub mod Rewrapping
 pub mod Promises
+pub mod RewrapReads

@@ -1,5 +1,5 @@
 -- A source whose text goes, as it opens, into a new stream.
-use Rattle.std.specs.Prelude.{◌≡◌, ◌⊎◌, ℕ, ◌<◌, ◌≤◌, ◌+◌, ◌-◌, ◌^◌, Bool, List, [], ◌++◌, length, take, Result, Ok, Err, Some, vec_capacity, vec_len}
+use Rattle.std.specs.Prelude.{◌≡◌, ◌⊎◌, ℕ, ◌<◌, ◌≤◌, ◌-◌, ◌^◌, Bool, List, [], ◌++◌, length, take, Result, Ok, Err, Some, vec_capacity, vec_len}
 use Rattle.std.specs.Io.KnownBytes.{Appends, Keeps}
 use Rattle.tink_io.specs.Written.{AppendsPrefix}
 use Rattle.tink_io.specs.declared.error.Kind.{Kind}
@@ -7,6 +7,7 @@ use Rattle.tink_io.specs.declared.error.Kind.TheVariants.{ReadFault, WriteFault,
 use Rattle.tink_io.specs.declared.error.TinkError.{TinkError}
 use Rattle.stream_model.specs.Cut.{chunks, full_chunks, sealed, unmarked}
 use Rattle.stream_model.specs.Key.{StreamKey}
+use Rattle.stream_model.specs.Opening.{OpeningKey}
 use Rattle.stream_model.specs.Sealing.{stream, part, longest_part, chunk_count, salt_of, prefix_of}
 use Rattle.tink_stream_keys.specs.Rooms.{HasRoomForEach}
 use Rattle.tink_stream_keys.specs.declared.starting.Trial.{Trial}
@@ -14,6 +15,9 @@ use Rattle.tink_streams.specs.Writing.{WriterMoment, CloseMeans, CloseRefused}
 use Rattle.tink_streams.specs.declared.writing.Mode.{Mode}
 use Rattle.tink_streams.specs.declared.writing.Mode.TheVariants.{Open}
 use Rattle.tink_run.specs.declared.report.Report.{Report}
+use Rattle.tink_run.specs.OpenAnswers.{OpeningMeans}
+use Rattle.tink_run.specs.OpenReads.{FailsBehind, ReaderReads, ReadsWithin, StopsBehind}
+use Rattle.tink_run.specs.OpenSteps.{ReaderMeans}
 use Rattle.tink_run.specs.Outside.{Outside}
 
 -- What is made of a text: its stream; the front and the unmarked segments of all its chunks but the last; the same of
@@ -46,12 +50,28 @@ bytes_under k aad draws = record {
 abbrev pub into : List ℕ → Outside → Outside
 into text m = record { left = m.left; read_faults = m.read_faults; got = Some text; write_faults = m.write_faults }
 
+-- what opening all that a reader finds says, and how far the reader, which holds at most so many bytes, has read by that
+abbrev pub ReaderMeansWithin : ℕ → (ℕ → Bool → List ℕ → List ℕ) → ℕ → ℕ → ℕ → Outside → Outside → Result Report TinkError → Type 0
+ReaderMeansWithin room seg first size overhead old new answer = ReaderMeans seg first size overhead old new answer × ReaderReads room seg first size old new answer
+
+-- a text is a prefix of texts whose segments lead, and at most so many bytes were read behind their chunks
+abbrev pub LeadsWithin : ℕ → (ℕ → Bool → List ℕ → List ℕ) → ℕ → ℕ → Outside → Outside → Type 0
+LeadsWithin room seg first size old new = FailsBehind AppendsPrefix room seg first size old new
+
+-- what opening under keys says, and how far it has read by that where it holds at most so many bytes
+abbrev pub OpensWithin : ℕ → List OpeningKey → Outside → Outside → Result Report TinkError → Type 0
+OpensWithin room keys old new answer = OpeningMeans keys old new answer × ReadsWithin room keys old new answer
+
+-- a text is a prefix of texts whose segments lead under the chosen key, and at most so many bytes were read behind their chunks
+abbrev pub LeadsUnder : ℕ → List OpeningKey → Outside → Outside → Type 0
+LeadsUnder room keys old new = StopsBehind AppendsPrefix room keys old new
+
 -- no more is said of where the source begins
 abbrev pub anywhere : Outside → Type 0
 anywhere m = Unit {0}
 
--- What an open says by its answer, that a text is a prefix of texts whose segments lead, and that the source begins under
--- a key. So the text that went into the new stream is the one that an open would have written.
+-- What an open says by its answer, and how far it has read; that a text is a prefix of texts whose segments lead, and how far
+-- was read; and that the source begins under a key. So the text that went into the new stream is the one that an open would have written.
 module _ (opens : Outside → Outside → Result Report TinkError → Type 0) (leads : Outside → Outside → Type 0) (begins : Outside → Type 0) (b : NewBytes) (old new : Outside) where
   -- the source was opened whole, and the stream of its text was written
   pub record IsRewrapped (report : Report) : Type 0 where

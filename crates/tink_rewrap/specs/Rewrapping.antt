@@ -10,11 +10,11 @@ use Rattle.loading_model.specs.Loading.{Loaded, opening_keys}
 use Rattle.tink_run.specs.AllKeys.{load}
 use Rattle.tink_run.specs.declared.report.Report.{Report}
 use Rattle.tink_run.specs.Endings.{EndsAs}
-use Rattle.tink_run.specs.OpenAnswers.{IsBroken, OpeningMeans}
+use Rattle.tink_run.specs.OpenReads.{room_under}
 use Rattle.tink_run.specs.Outside.{Outside, IsUntouched}
 use Rattle.tink_run.specs.SealAnswers.{WantsMemory}
 use Rattle.tink_run.specs.SealSteps.{HasFew, HasNoKeys}
-use Rattle.tink_rewrap.specs.Passing.{PassMeans, bytes_under}
+use Rattle.tink_rewrap.specs.Passing.{LeadsUnder, NewBytes, OpensWithin, PassMeans, bytes_under}
 
 -- ---- from keys to a key
 
@@ -27,12 +27,16 @@ abbrev pub LeavesOrBegins : {K : Type 0} → List OpeningKey → Outside → Res
 LeavesOrBegins keys old (Ok report) sink sink_after = Unit {0}
 LeavesOrBegins keys old (Err e) sink sink_after = (sink_after ≡ sink) ⊎ HasKey keys old
 
+-- what passing the text on says where the source is opened under these keys, with at most so many bytes held of it
+abbrev pub PassesUnder : List OpeningKey → NewBytes → Outside → Outside → Result Report TinkError → Type 0
+PassesUnder keys b old new answer = PassMeans (OpensWithin (room_under keys) keys) (LeadsUnder (room_under keys) keys) (HasKey keys) b old new answer
+
 -- salt and prefix were drawn and keys derived, and this is what passing the text on says
 pub record IsPassing (keys : List OpeningKey) (k : StreamKey) (aad draws left_draws : List ℕ) (old new : Outside) (answer : Result Report TinkError) : Type 0 where
   pub enough : drawn k ≤ length draws
   pub rest : left_draws ≡ drop (drawn k) draws
   pub derives : keys_of k aad (salt_of k draws) ≡ None → ⊥
-  pub means : PassMeans (OpeningMeans keys) (IsBroken keys) (HasKey keys) (bytes_under k aad draws) old new answer
+  pub means : PassesUnder keys (bytes_under k aad draws) old new answer
 
 abbrev pub RewrapsUnderRefused : List OpeningKey → StreamKey → List ℕ → List ℕ → List ℕ → Outside → Outside → TinkError → Kind → Type 0
 RewrapsUnderRefused keys k aad draws left_draws old new e OutOfMemory = WantsMemory draws left_draws old new

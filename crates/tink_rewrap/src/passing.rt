@@ -1,16 +1,16 @@
 //! The text of one stream into another, segment by segment.
 
-ghost use Rattle.std.specs.Prelude.{◌≡◌, ◌≤◌, [], map};
+ghost use Rattle.std.specs.Prelude.{◌≡◌, ◌≤◌, [], map, vec_len};
 ghost use Rattle.stream_model.specs.Opening as opening;
 ghost use Rattle.tink_streams.specs.Openers as openers;
 ghost use Rattle.tink_streams.specs.Sealers as sealers;
 ghost use Rattle.tink_streams.specs.declared.progress.Progress.TheVariants.{Running};
 ghost use Rattle.tink_streams.specs.declared.writing.Mode.TheVariants.{Open};
-ghost use Rattle.tink_run.specs.OpenAnswers.{IsBroken, OpeningMeans};
-ghost use Rattle.tink_run.specs.OpenSteps.{Breaks, ReaderMeans, held_outside};
+ghost use Rattle.tink_run.specs.OpenSteps.{held_outside};
 ghost use Rattle.tink_run.specs.Outside.{FaultsStay, outside_of};
 ghost use Rattle.tink_run.specs.Run.{LeavesSinkItself};
-ghost use Rattle.tink_rewrap.specs.Passing.{FinishMeans, FitsKeys, IsUnbegun, PassMeans, anywhere, bytes_by};
+ghost use Rattle.tink_rewrap.specs.Passing.{FinishMeans, FitsKeys, IsUnbegun, LeadsUnder, LeadsWithin, OpensWithin};
+ghost use Rattle.tink_rewrap.specs.Passing.{PassMeans, ReaderMeansWithin, anywhere, bytes_by};
 ghost use Rattle.tink_rewrap.specs.Rewrapping.{HasKey, LeavesOrBegins};
 
 use tink_io::{Sink, Source, TinkError};
@@ -59,9 +59,11 @@ pub fn pass<S: Source, K: Sink, D: SegmentDecrypter + Drop, E: SegmentEncrypter 
     requires fresh { writer.old.segments ≡ 0 }
     requires empty { sealers.held_text writer.old ≡ [] }
     ensures answer { PassMeans
-        (ReaderMeans (openers.segment_map reader.old.opener) reader.old.opener.first reader.old.opener.size
-        reader.old.opener.overhead)
-        (Breaks (openers.segment_map reader.old.opener) reader.old.opener.first reader.old.opener.size) anywhere
+        (ReaderMeansWithin (vec_len reader.old.buffer) (openers.segment_map reader.old.opener)
+        reader.old.opener.first reader.old.opener.size reader.old.opener.overhead)
+        (LeadsWithin (vec_len reader.old.buffer) (openers.segment_map reader.old.opener)
+        reader.old.opener.first reader.old.opener.size)
+        anywhere
         (bytes_by front.now (sealers.segment_map writer.old.sealer) writer.old.sealer.first
         writer.old.sealer.room)
         (held_outside S.left S.faults K.got K.faults reader.old source.old sink.old)
@@ -106,8 +108,9 @@ pub fn pass_under<S: Source, K: Sink, T: DerivesStreams>(
     requires trial { FitsKeys T.key_of keys.now trial }
     requires stream { IsUnbegun stream.old.writer.mode stream.old.writer.segments
         (sealers.held_text stream.old.writer) }
-    ensures answer { PassMeans (OpeningMeans (map (λ k. opening.opening_key aad.now (T.key_of k)) keys.now))
-        (IsBroken (map (λ k. opening.opening_key aad.now (T.key_of k)) keys.now))
+    ensures answer { PassMeans
+        (OpensWithin (vec_len trial.kept.buffer) (map (λ k. opening.opening_key aad.now (T.key_of k)) keys.now))
+        (LeadsUnder (vec_len trial.kept.buffer) (map (λ k. opening.opening_key aad.now (T.key_of k)) keys.now))
         (HasKey (map (λ k. opening.opening_key aad.now (T.key_of k)) keys.now))
         (bytes_by stream.old.front (sealers.segment_map stream.old.writer.sealer) stream.old.writer.sealer.first
         stream.old.writer.sealer.room)

@@ -3,6 +3,7 @@
 ghost use Rattle.std.specs.Prelude.{◌≡◌, ℕ, List, IfOk};
 ghost use Rattle.tink_run.specs.Outside.{FaultsStay, outside_of};
 ghost use Rattle.tink_run.specs.Run.{LeavesEnds, LeavesSinkItself, Told};
+ghost use Rattle.tink_rewrap.specs.RewrapReads.{RewrapReadsNoFurther};
 ghost use Rattle.tink_rewrap.specs.Rewrapping.{RewrapMeans, sides};
 ghost use Rattle.tink_rewrap.specs.Promises.{CompletesRewrap, IsWholeRewrap, LeavesUnended};
 
@@ -74,6 +75,13 @@ pub fn rewrap<S: Source, K: Sink>(
     ensures succeeds { CompletesRewrap
         (sides from.now from_aad.now to.now to_aad.now)
         draws.old
+        (outside_of S.left S.faults K.got K.faults source.old sink.old)
+        (outside_of S.left S.faults K.got K.faults source.new sink.new)
+        result }
+
+    // Known bytes: how far the source was read by a refusal.
+    ensures read { RewrapReadsNoFurther
+        (sides from.now from_aad.now to.now to_aad.now)
         (outside_of S.left S.faults K.got K.faults source.old sink.old)
         (outside_of S.left S.faults K.got K.faults source.new sink.new)
         result }

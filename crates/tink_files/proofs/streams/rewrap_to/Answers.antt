@@ -7,7 +7,7 @@ returns-clause-ran g c =
     let draft = c.rewrap-answer.new.sink in
     let same = c.rewrap-answer.ensures.sink in
     ran_and_ended _ _ _ draft _ _ _ _ _ _ c.rewrap-answer.result c.finish.result (g.met.P.Place.same_replaces place draft same)
-    (g.met.P.Place.same_shown place draft same) c.rewrap-answer.ensures.answer c.finish.ensures.ends
+    (g.met.P.Place.same_shown place draft same) (c.rewrap-answer.ensures.answer, c.rewrap-answer.ensures.read) c.finish.ensures.ends
 
 pub returns-clause-ok : goal.returns-clause-ok
 returns-clause-ok g c =

@@ -1,9 +1,12 @@
-use Rattle.std.proofs.Common.{◌≡◌, Err, List, map, ap, sym, ◌∙◌, subst}
+use Rattle.std.proofs.Common.{◌≡◌, ◌+◌, Err, List, map, ap, sym, ◌∙◌, subst, vec_len}
 use Rattle.std.proofs.lemmas.Simd.{map-map}
 use Rattle.stream_model.specs.Opening.{OpeningKey, opening_key}
 use Rattle.tink_stream_keys.specs.StreamKinds.{key_in_set}
 use Rattle.tink_streaming_aead.specs.Wrapped.{all_entries, keys_in}
+use Rattle.tink_streaming_aead.specs.DecryptReaders.{largest}
+use Rattle.tink_run.specs.OpenReads.{room_under}
 use Rattle.tink_run.specs.Outside.{Outside, outside_of}
+use Rattle.tink_run.proofs.ReadsSteps.{same_largest}
 use Rattle.tink_run.proofs.RunSteps.{leaves_same}
 use Rattle.tink_rewrap.specs.Rewrapping.{LeavesOrBegins, RewrapsUnder}
 use Rattle.tink_rewrap.proofs.KeySteps.{leaves_or_begins_same, pass_leaves}
@@ -18,10 +21,17 @@ returns-in-Ok-clause-answer g c =
     ap (map (λ k. opening_key aad (key_in_set k.now))) c.deref-in-Ok.ensures.value ∙ sym (map-map (λ e. opening_key aad (key_in_set e)) (λ k. k.now) c.in_ok-keys.keys.items)
     ∙ ap (map (λ e. opening_key aad (key_in_set e))) c.in_ok-keys.ensures.value ∙ sym (map-map (opening_key aad) key_in_set all)
     in
+    let keys_are : map (λ k. key_in_set k.now) c.deref.result.now ≡ keys_in all =
+    ap (map (λ k. key_in_set k.now)) c.deref.ensures.value ∙ sym (map-map key_in_set (λ k. k.now) c.in_ok-keys.keys.items) ∙ ap (map key_in_set) c.in_ok-keys.ensures.value
+    in
+    let room : vec_len c.in_ok-trial.trial.kept.buffer ≡ room_under (map (opening_key aad) (keys_in all)) =
+    c.in_ok-trial.ensures.buffer ∙ c.room_of.ensures.value ∙ ap (λ ks. largest ks + 1) keys_are ∙ ap (λ n. n + 1) (same_largest aad (keys_in all))
+    in
     let before : Outside = record { left = g.S.Source.left c.args.source.now; read_faults = g.S.Source.faults c.args.source.now; got = g.K.Sink.got c.args.sink.now; write_faults = g.K.Sink.faults c.args.sink.now } in
     let after : Outside = record { left = g.S.Source.left c.pass_under.new.source; read_faults = g.S.Source.faults c.pass_under.new.source; got = g.K.Sink.got c.pass_under.new.sink; write_faults = g.K.Sink.faults c.pass_under.new.sink } in
     subst (λ (ks : List OpeningKey). RewrapsUnder ks (key_in_set c.args.to.now) c.args.to_aad.now c.args.draws.now c.prepare_stream.new.draws before after c.pass_under.result) same
-    (passes_prepared (key_in_set c.args.to.now) c.args.to_aad.now c.args.draws.now c.prepare_stream.new.draws _ _ _ _ _ _ _ c.in-Ok.ensures.answer _ before after c.pass_under.result c.pass_under.ensures.answer)
+    (passes_prepared (key_in_set c.args.to.now) c.args.to_aad.now c.args.draws.now c.prepare_stream.new.draws _ _ _ _ _ _ _ c.in-Ok.ensures.answer _ _ before after c.pass_under.result
+    (room ∙ ap room_under (sym same)) c.pass_under.ensures.answer)
 
 pub returns-in-Ok-clause-early : goal.returns-in-Ok-clause-early
 returns-in-Ok-clause-early g c = pass_leaves _ _ _ _ _ _ c.pass_under.result _ _ _ _ c.pass_under.ensures.answer

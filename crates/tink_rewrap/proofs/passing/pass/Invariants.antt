@@ -1,5 +1,5 @@
 -- Of the texts that were opened, all but the last went to the writer.
-use Rattle.std.proofs.Common.{◌≡◌, ◌≤◌, ◌-◌, ◌^◌, take}
+use Rattle.std.proofs.Common.{◌≡◌, ◌≤◌, ◌-◌, ◌^◌, take, vec_len}
 use Rattle.std.specs.Io.KnownBytes.{prepend_known}
 use Rattle.stream_model.specs.Cut.{numbered}
 use Rattle.tink_streams.specs.Sealers.{held_text}
@@ -21,6 +21,7 @@ invariant-loop-bytes g l = record {
       (record { mode = l.writer.mode; number = l.writer.segments; held = held_text l.writer; got = g.K.Sink.got l.sink; faults = g.K.Sink.faults l.sink })
       l.bytes;
   opener : l.reader.opener ≡ l.fn.reader.opener;
+  room : vec_len l.reader.buffer ≡ vec_len l.fn.reader.buffer;
   sealer : l.writer.sealer ≡ l.fn.writer.sealer;
   reads : g.S.Source.faults l.fn.source ≤ g.S.Source.faults l.source;
   writes : g.K.Sink.faults l.fn.sink ≤ g.K.Sink.faults l.sink;

@@ -7,6 +7,7 @@ use Rattle.tink_streams.proofs.ReadingFacts.{numbered_longer}
 use Rattle.tink_segments.specs.StreamSegments.{length-segment_by, segment_by}
 use Rattle.tink_run.specs.Outside.{Outside, outside_of}
 use Rattle.tink_run.proofs.OpenSteps.{unread}
+use Rattle.tink_streaming_aead.proofs.DecryptSteps.{reads_more}
 use Rattle.tink_rewrap.proofs.KeySteps.{begun_of, leaves_or_begins_same, pass_not_started, pass_started}
 use Rattle.tink_rewrap.proofs.passing.pass_under.Goals as goal
 
@@ -15,7 +16,7 @@ returns-in_err-reader-clause-answer g c =
     let p = err_from_is_err_and c.from_residual.result c.from_residual.ensures.1 in
     let kept = c.args.trial.kept in
     let none_held = unread kept.filled kept.buffer.items (g.S.Source.left c.args.source.now) c.requires.trial.0 in
-    rw (p.1, p.2) (pass_not_started _ _ _ _ _ (Keeps-refl _) (rw none_held at c.in_err-reader.ensures.refused))
+    rw (p.1, p.2) (pass_not_started _ _ _ _ _ _ (Keeps-refl _) (reads_more _ _ _ _ (omega arith) c.start.ensures.read) (rw none_held at c.in_err-reader.ensures.refused))
 
 pub returns-clause-answer : goal.returns-clause-answer
 returns-clause-answer g c =
@@ -25,9 +26,9 @@ returns-clause-answer g c =
     let opener = reader.opener in
     let seg : ℕ → Bool → List ℕ → List ℕ = numbered (segment_by opener.decrypter) opener.nonce_size opener.prefix.items in
     let started : Outside = record { left = prepend_known (take reader.filled reader.buffer.items) (g.S.Source.left c.start.new.source); read_faults = g.S.Source.faults c.start.new.source; got = g.K.Sink.got c.args.sink.now; write_faults = g.K.Sink.faults c.args.sink.now } in
-    pass_started _ seg opener.first opener.size opener.overhead _ _ started _ _ (omega (arith, opener.some))
+    pass_started _ _ seg opener.first opener.size opener.overhead _ _ started _ _ (omega (arith, opener.some))
     (numbered_longer (segment_by opener.decrypter) opener.nonce_size opener.prefix.items opener.overhead (λ n t. length-segment_by opener.decrypter n t ∙ ap (λ x. length t + x) (sym opener.overhead_is)))
-    refl c.start.ensures.later (omega arith) (rw none_held at c.in_ok-reader.ensures.started) c.pass.ensures.answer
+    refl c.start.ensures.later (omega arith) (rw none_held at c.in_ok-reader.ensures.started) (rw c.in_ok-reader.ensures.fresh.3 at c.pass.ensures.answer)
 
 pub returns-in_err-reader-clause-begun : goal.returns-in_err-reader-clause-begun
 returns-in_err-reader-clause-begun g c = leaves_or_begins_same _ (outside_of g.S.Source.left g.S.Source.faults g.K.Sink.got g.K.Sink.faults c.args.source.now c.args.sink.now) c.from_residual.result c.args.sink.now

@@ -1,5 +1,6 @@
 use Rattle.tink_rewrap.specs.Rewrapping.{Sides}
 use Rattle.tink_rewrap.proofs.PromiseSteps.{complete, succeeds, unended}
+use Rattle.tink_rewrap.proofs.ReadsOnly.{reads_no_further}
 use Rattle.tink_rewrap.proofs.rewrapping.rewrap.Goals as goal
 
 pub returns-clause-rewrapped : goal.returns-clause-rewrapped
@@ -16,3 +17,8 @@ pub returns-clause-succeeds : goal.returns-clause-succeeds
 returns-clause-succeeds g c =
     let s : Sides = record { from = c.args.from.now; from_aad = c.args.from_aad.now; to = c.args.to.now; to_aad = c.args.to_aad.now } in
     complete s c.args.draws.now c.answer.new.draws _ _ c.answer.result c.answer.ensures.answer
+
+pub returns-clause-read : goal.returns-clause-read
+returns-clause-read g c =
+    let s : Sides = record { from = c.args.from.now; from_aad = c.args.from_aad.now; to = c.args.to.now; to_aad = c.args.to_aad.now } in
+    reads_no_further s c.args.draws.now c.answer.new.draws _ _ c.answer.result c.answer.ensures.answer
