@@ -7,7 +7,7 @@ ghost use Rattle.tink_range.specs.ChoosingAt.{NewRefused, Tries};
 ghost use Rattle.tink_range.specs.ChunkReading.{ends_of};
 ghost use Rattle.tink_range.specs.Objects.{LeavesObject};
 ghost use Rattle.tink_range.specs.RangeReaders.{answer_of, cut_by, object_of};
-ghost use Rattle.tink_range.specs.RangeReading.{RangeMeans, range_end, range_start};
+ghost use Rattle.tink_range.specs.RangeReading.{IsGivenExactly, RangeMeans, range_end, range_start};
 ghost use Rattle.tink_range.specs.Ranges.{text_length};
 ghost use Rattle.tink_streams.specs.Choosing.{Found};
 
@@ -108,6 +108,8 @@ impl<A: ReadAt> RangeReader<A> {
         steps: &mut Steps<L>,
     ) -> Result<u64, TinkError>
         ensures answer { RangeMeans K.got K.faults (cut_by self.old) self.old.behind start len
+            (ends_of A.bytes A.faults self.old.object self.new.object sink.old sink.new) result }
+        ensures given { IsGivenExactly K.faults (cut_by self.old) self.old.behind start len
             (ends_of A.bytes A.faults self.old.object self.new.object sink.old sink.new) result }
         ensures ticks { steps.new ≤ steps.old + (range_end (cut_by self.old) self.old.behind start len
             - range_start (cut_by self.old) self.old.behind start + (self.old.opening.size
