@@ -1,3 +1,4 @@
 pub mod SavedLemmas
+mod RangeLemmas
 mod StreamLemmas
 mod TokenLemmas

@@ -2,7 +2,7 @@
 
 ghost use Rattle.std.specs.Prelude.{◌≡◌, ℕ, List, Some, true, false, IfOk, OnErr};
 ghost use Rattle.tink_range.specs.ChunkReading.{ends_of};
-ghost use Rattle.tink_range.specs.Objects.{KeepsObject};
+ghost use Rattle.tink_range.specs.Objects.{LeavesObject};
 ghost use Rattle.tink_run.specs.Run.{CanOpen};
 ghost use Rattle.tink_run_range.specs.KeysetRanges.{GivesSlice, KeysetRangeMeans, TakesKeysetSteps};
 ghost use Rattle.tink_files.specs.Streams.{IsShownWhole, RanAndEnded, Succeeds};
@@ -53,7 +53,7 @@ pub fn range_to<A: ReadAt, P: Place, L: Ledger>(
         → Succeeds (A.faults object.old) (A.faults object.new) (P.faults place.old) (P.faults place.new) result }
     ensures err { OnErr result (P.shown place.new ≡ P.shown place.old) }
     ensures gone { P.has_draft place.new ≡ false }
-    ensures kept { KeepsObject A.length_of A.bytes A.faults object.old object.new }
+    ensures kept { LeavesObject A.length_of A.bytes A.faults object.old object.new result }
     ensures object { A.same object.old object.new }
 {
     let answer = run_range(alloc, keyset, aad, object, start, len, place, steps);

@@ -12,4 +12,5 @@ pub mod TrialAtFacts
 pub mod TriesFacts
 pub mod StartAtFacts
 pub mod StreamRanges
+pub mod CanGiveFacts
 pub mod KeyRangeSteps

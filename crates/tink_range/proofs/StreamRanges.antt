@@ -21,7 +21,7 @@ use Rattle.tink_range.specs.Ranges.{AllGive, Gives, StopsAtChunk, all_places, ch
 use Rattle.tink_range.proofs.ShapeFacts.{shape_of_any}
 use Rattle.tink_range.proofs.SliceFacts.{agree_by, all_given, fits_or_not}
 
-told_if : (P : List ℕ → Type 0) (a : Option (List ℕ)) (S : List ℕ) → a ≡ Some S → IfSome a P → P S
+pub told_if : (P : List ℕ → Type 0) (a : Option (List ℕ)) (S : List ℕ) → a ≡ Some S → IfSome a P → P S
 told_if P a S e h = rw e at h
 
 -- a slice whose ends are cut at the text's length

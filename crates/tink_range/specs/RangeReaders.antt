@@ -1,5 +1,6 @@
 -- What a contract sees of a reader of ranges.
 use Rattle.std.specs.Prelude.{ℕ, Result, Ok, Err}
+use Rattle.tink_io.specs.declared.error.TinkError.{TinkError}
 use Rattle.tink_primitives.specs.declared.streams.Refused.{Refused}
 use Rattle.tink_segment_traits.specs.declared.segment_traits.SegmentDecrypter.{Ghosts}
 use Rattle.tink_segments.specs.StreamSegments.{segment_by}
@@ -44,3 +45,8 @@ range_state core object = record {
 abbrev pub object_of : {A : Type 0} → Result (RangeState A) (Refused A) → A
 object_of (Ok r) = r.object
 object_of (Err refused) = refused.inner
+
+-- the answer, with the error alone of a refusal
+abbrev pub answer_of : {A : Type 0} → Result (RangeState A) (Refused A) → Result (RangeState A) TinkError
+answer_of (Ok r) = Ok r
+answer_of (Err refused) = Err refused.error

@@ -1,5 +1,5 @@
 -- What reading a range says.
-use Rattle.std.specs.Prelude.{◌≡◌, ◌⊎◌, ℕ, ◌+◌, ◌^◌, ◌<◌, ◌≤◌, min, true, List, [], length, IfSome, Result, Ok, Err}
+use Rattle.std.specs.Prelude.{◌≡◌, ◌⊎◌, ◌↔◌, ℕ, ◌+◌, ◌^◌, ◌<◌, ◌≤◌, min, true, List, [], length, Some, IfSome, IsOk, Result, Ok, Err}
 use Rattle.std.specs.declared.option.Option.{Option}
 use Rattle.tink_io.specs.Faults.{Rose}
 use Rattle.tink_io.specs.declared.error.Kind.{Kind}
@@ -8,7 +8,7 @@ use Rattle.tink_io.specs.declared.error.TinkError.{TinkError}
 use Rattle.stream_model.specs.Cut.{last_chunk}
 use Rattle.tink_range.specs.ChunkReading.{Moments}
 use Rattle.tink_range.specs.Giving.{Cutting, GaveAll, GaveSome, GaveUpTo, chunks_in}
-use Rattle.tink_range.specs.Ranges.{LastAgrees, chunk_count, text_length}
+use Rattle.tink_range.specs.Ranges.{AllGive, LastAgrees, chunk_count, text_length}
 
 -- chunk n is the last one and the segment of no text, and this holds of its length
 pub record RefusesLast (c : Cutting) (behind : ℕ) (all : Option (List ℕ)) (n : ℕ) (P : ℕ → Type 0) : Type 0 where
@@ -81,3 +81,19 @@ module _ {W : Type 0} (got : W → Option (List ℕ)) (faults : W → ℕ) (c : 
 abbrev pub RangeMeans : {W : Type 0} → (W → Option (List ℕ)) → (W → ℕ) → Cutting → ℕ → ℕ → ℕ → Moments W → Result ℕ TinkError → Type 0
 RangeMeans got faults c behind start len e (Ok n) = GaveRange got faults c behind start len e n
 RangeMeans got faults c behind start len e (Err error) = RangeRefused got faults c behind start len e error.kind
+
+-- ---- known bytes
+
+-- there are at most 2^32 chunks, and the last one and all that the range touches are segments of texts
+pub record CanGive (c : Cutting) (behind start len : ℕ) (S : List ℕ) : Type 0 where
+  pub few : chunk_count c.first c.size behind ≤ 2 ^ 32
+  pub last : LastAgrees c.seg (chunks_in c S)
+  pub bytes : List ℕ
+  pub gives : AllGive c.seg c.over (range_start c behind start) (range_end c behind start len) (chunks_in c S) bytes
+
+-- where neither count rose, the answer is Ok exactly where the range can be given
+abbrev pub IsGivenExactly : {W : Type 0} → (W → ℕ) → Cutting → ℕ → ℕ → ℕ → Moments W → Result ℕ TinkError → Type 0
+IsGivenExactly faults c behind start len e answer =
+    (S : List ℕ) → e.all ≡ Some S
+    → (Rose e.reads_before e.reads_after → ⊥) → (Rose (faults e.old) (faults e.new) → ⊥)
+    → IsOk answer ↔ CanGive c behind start len S

@@ -1,10 +1,9 @@
-ghost use Rattle.std.specs.Prelude.{◌≡◌, ◌≤◌, ◌<◌, ◌+◌, ◌-◌, ◌^◌, length, take, map, None, true, false, IfOk, IfErr, IfSome, MatchResult, OnErr, vec_len, vec_capacity};
+ghost use Rattle.std.specs.Prelude.{◌≡◌, ◌≤◌, ◌<◌, ◌+◌, ◌-◌, ◌^◌, length, take, map, None, true, false, IfOk, IfErr, IfSome, MatchResult, vec_len, vec_capacity};
 ghost use Rattle.stream_model.specs.Cut.{numbered};
 ghost use Rattle.stream_model.specs.Key.{nonce_size};
 ghost use Rattle.stream_model.specs.Opening.{HasFront, IsChosen, header_of, opening_key};
-ghost use Rattle.tink_io.specs.Faults.{Rose};
 ghost use Rattle.tink_range.specs.ChoosingAt.{DoesBeginAt, DoesNotBeginAt, IsFirstAt, Tries};
-ghost use Rattle.tink_range.specs.Objects.{KeepsObject};
+ghost use Rattle.tink_range.specs.Objects.{KeepsObject, RisesByFailure};
 ghost use Rattle.tink_range.specs.Rooms.{HasRoomFor, KeepsBuffers};
 ghost use Rattle.tink_segments.specs.StreamSegments.{segment_by};
 ghost use Rattle.tink_stream_keys.specs.Decrypters.{OpensBehind};
@@ -50,7 +49,7 @@ fn front_at<A: ReadAt, T: DerivesStreams>(
     ensures room { IfOk result (λ r. MatchResult r
         (λ o. 7 ≤ vec_capacity o.prefix) (λ memory. 7 ≤ vec_capacity memory)) }
     ensures kept { KeepsObject A.length_of A.bytes A.faults object.old object.new }
-    ensures rose { OnErr result (Rose (A.faults object.old) (A.faults object.new)) }
+    ensures count { RisesByFailure (A.faults object.old) (A.faults object.new) result }
     ensures same { A.same object.old object.new }
 {
     match fill_at(object, 0, held) {
@@ -99,7 +98,7 @@ fn try_at<A: ReadAt, T: DerivesStreams, L: Ledger>(
     ensures room { KeepsBuffers (vec_len sealed.old) (vec_len sealed.new) (vec_capacity text.old)
         (vec_capacity text.new) (vec_len nonce.old) (vec_len nonce.new) }
     ensures kept { KeepsObject A.length_of A.bytes A.faults object.old object.new }
-    ensures rose { OnErr result (Rose (A.faults object.old) (A.faults object.new)) }
+    ensures count { RisesByFailure (A.faults object.old) (A.faults object.new) result }
     ensures same { A.same object.old object.new }
 {
     let front = key.output_prefix().len() + key.header_length();
@@ -152,7 +151,7 @@ pub fn choose_at<A: ReadAt, T: DerivesStreams, L: Ledger>(
         (λ S. Tries (map (λ k. opening_key aad.now (T.key_of k)) keys.now) S (steps.new - steps.old))) }
     ensures ticks { (steps.old ≤ steps.new) × (steps.new ≤ steps.old + length keys.now) }
     ensures kept { KeepsObject A.length_of A.bytes A.faults object.old object.new }
-    ensures rose { OnErr result (Rose (A.faults object.old) (A.faults object.new)) }
+    ensures count { RisesByFailure (A.faults object.old) (A.faults object.new) result }
     ensures same { A.same object.old object.new }
 {
     let mut prefix = prefix;

@@ -1,10 +1,9 @@
 //! The chunks of an object behind a stream's front. A core is handed its object at each call.
 
-ghost use Rattle.std.specs.Prelude.{◌≡◌, ◌≤◌, ◌<◌, ◌+◌, ◌-◌, ◌^◌, ℕ, List, length, min, true, vec_len, vec_capacity, IfOk, MatchResult, OnErr};
+ghost use Rattle.std.specs.Prelude.{◌≡◌, ◌≤◌, ◌<◌, ◌+◌, ◌-◌, ◌^◌, ℕ, List, length, min, true, vec_len, vec_capacity, IfOk, MatchResult};
 ghost use Rattle.stream_model.specs.Cut.{room_at};
-ghost use Rattle.tink_io.specs.Faults.{Rose};
 ghost use Rattle.tink_range.specs.ChunkReading.{OneMeans, OpensAt, ends_of};
-ghost use Rattle.tink_range.specs.Objects.{KeepsObject};
+ghost use Rattle.tink_range.specs.Objects.{KeepsObject, LeavesObject, RisesByFailure};
 ghost use Rattle.tink_range.specs.RangeReading.{LastMeans};
 ghost use Rattle.tink_range.specs.Ranges.{TouchesPlaces, text_length};
 ghost use Rattle.tink_range.specs.Shapes.{HasShape, IsLast};
@@ -55,7 +54,7 @@ impl<D: SegmentDecrypter> RangeCore<D> {
         ensures ticks { MatchResult result (λ _. steps.new ≡ steps.old + 1) (λ _. steps.new ≡ steps.old) }
         ensures core { IsSameCore self.old self.new }
         ensures kept { KeepsObject A.length_of A.bytes A.faults object.old object.new }
-        ensures rose { OnErr result (Rose (A.faults object.old) (A.faults object.new)) }
+        ensures count { RisesByFailure (A.faults object.old) (A.faults object.new) result }
         ensures same { A.same object.old object.new }
     {
         open_at(
@@ -90,7 +89,7 @@ impl<D: SegmentDecrypter> RangeCore<D> {
             (ends_of A.bytes A.faults object.old object.new sink.old sink.new) result }
         ensures ticks { steps.new ≤ steps.old + 1 }
         ensures core { IsSameCore self.old self.new }
-        ensures kept { KeepsObject A.length_of A.bytes A.faults object.old object.new }
+        ensures kept { LeavesObject A.length_of A.bytes A.faults object.old object.new result }
         ensures later { K.faults sink.old ≤ K.faults sink.new }
         ensures object { A.same object.old object.new }
         ensures sink { K.same sink.old sink.new }
@@ -147,7 +146,7 @@ impl<D: SegmentDecrypter> RangeCore<D> {
             (A.faults object.old) (A.faults object.new) result }
         ensures ticks { steps.new ≤ steps.old + 1 }
         ensures core { IsSameCore self.old self.new }
-        ensures kept { KeepsObject A.length_of A.bytes A.faults object.old object.new }
+        ensures kept { LeavesObject A.length_of A.bytes A.faults object.old object.new result }
         ensures same { A.same object.old object.new }
     {
         match self.open_chunk(object, number, start, steps) {

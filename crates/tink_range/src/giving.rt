@@ -1,7 +1,7 @@
 ghost use Rattle.std.specs.Prelude.{◌≡◌, ◌≤◌, ◌<◌, ◌+◌, ◌-◌, ◌/◌, ◌^◌};
 ghost use Rattle.tink_range.specs.ChunkReading.{ends_of};
 ghost use Rattle.tink_range.specs.Giving.{GiveMeans};
-ghost use Rattle.tink_range.specs.Objects.{KeepsObject};
+ghost use Rattle.tink_range.specs.Objects.{LeavesObject};
 ghost use Rattle.tink_range.specs.RangeCores.{IsSameCore, cutting_of};
 ghost use Rattle.tink_range.specs.Ranges.{chunk_count, text_length};
 ghost use Rattle.tink_range.specs.Shapes.{BeginsRange};
@@ -33,7 +33,7 @@ fn give_from<A: ReadAt, D: SegmentDecrypter, K: Sink, L: Ledger>(
     ensures ticks { steps.new ≤ steps.old + (hi - lo + (core.old.opener.size - core.old.opener.overhead) - 1)
         / (core.old.opener.size - core.old.opener.overhead) + 1 }
     ensures core { IsSameCore core.old core.new }
-    ensures kept { KeepsObject A.length_of A.bytes A.faults object.old object.new }
+    ensures kept { LeavesObject A.length_of A.bytes A.faults object.old object.new result }
     ensures later { K.faults sink.old ≤ K.faults sink.new }
     ensures object { A.same object.old object.new }
     ensures sink { K.same sink.old sink.new }
@@ -72,7 +72,7 @@ pub fn give_range<A: ReadAt, D: SegmentDecrypter, K: Sink, L: Ledger>(
     ensures ticks { steps.new ≤ steps.old + (hi - lo + (core.old.opener.size - core.old.opener.overhead) - 1)
         / (core.old.opener.size - core.old.opener.overhead) + 1 }
     ensures core { IsSameCore core.old core.new }
-    ensures kept { KeepsObject A.length_of A.bytes A.faults object.old object.new }
+    ensures kept { LeavesObject A.length_of A.bytes A.faults object.old object.new result }
     ensures later { K.faults sink.old ≤ K.faults sink.new }
     ensures object { A.same object.old object.new }
     ensures sink { K.same sink.old sink.new }

@@ -3,9 +3,9 @@
 ghost use Rattle.std.specs.Prelude.{◌≡◌, ◌≤◌, ◌+◌, ◌-◌, ◌<◌, ◌↔◌, ◌==◌, ⊤, ℕ, List, [], Some, Ok};
 ghost use Rattle.std.specs.Prelude.{IsErr, IsTrue, IfOk, length, take, drop, min};
 ghost use Rattle.std.specs.List.{list_any};
-ghost use Rattle.tink_io.specs.Faults.{CountsFault};
 ghost use Rattle.tink_io.specs.Memory.{at_most_piece};
 ghost use Rattle.tink_range.specs.MemoryAt.{SameAt, after_read_at, is_at_fault, read_at_len};
+ghost use Rattle.tink_range.specs.Objects.{CountsRead};
 
 use crate::read_at::ReadAt;
 use std::marker::Model;
@@ -99,7 +99,7 @@ impl ReadAt for MemAt {
         ensures given { IfOk result (λ n. take n buf.new ≡ take n (drop pos self.old.bytes)) }
         ensures length { length self.new.bytes ≡ length self.old.bytes }
         ensures bytes { Some self.new.bytes ≡ Some self.old.bytes }
-        ensures cause { CountsFault self.old.faults self.new.faults result }
+        ensures cause { CountsRead self.old.faults self.new.faults result }
         ensures same { SameAt self.old self.new }
         ensures moved { IfOk result (λ n. n ≡ read_at_len self.old pos (length buf.old)) }
         ensures after { (IsErr result ↔ IsTrue (is_at_fault self.old)) × (self.new ≡ after_read_at self.old) }
@@ -164,7 +164,7 @@ impl ReadAt for SureAt {
         ensures given { IfOk result (λ n. take n buf.new ≡ take n (drop pos self.old)) }
         ensures length { length self.new ≡ length self.old }
         ensures bytes { Some self.new ≡ Some self.old }
-        ensures cause { CountsFault 0 0 result }
+        ensures cause { CountsRead 0 0 result }
         ensures same { self.new ≡ self.old }
         ensures moved { result ≡ Ok (min (length self.old - pos) (length buf.old)) }
     {

@@ -1,8 +1,7 @@
-ghost use Rattle.std.specs.Prelude.{◌≡◌, ◌≤◌, ◌<◌, ◌+◌, ◌^◌, min, true, length, take, drop, vec_len, vec_capacity, IfOk, IfSome, MatchResult, OnErr};
+ghost use Rattle.std.specs.Prelude.{◌≡◌, ◌≤◌, ◌<◌, ◌+◌, ◌^◌, min, true, length, take, drop, vec_len, vec_capacity, IfOk, IfSome, MatchResult};
 ghost use Rattle.stream_model.specs.Cut.{room_at};
-ghost use Rattle.tink_io.specs.Faults.{Rose};
 ghost use Rattle.tink_range.specs.ChunkReading.{OpensAt, ChunkOpensTo};
-ghost use Rattle.tink_range.specs.Objects.{KeepsObject};
+ghost use Rattle.tink_range.specs.Objects.{KeepsObject, RisesByFailure};
 ghost use Rattle.tink_range.specs.Rooms.{HasRoomFor, KeepsBuffers};
 ghost use Rattle.tink_streams.specs.Openers.{segment_map};
 
@@ -49,7 +48,7 @@ fn open_into<A: ReadAt, D: SegmentDecrypter, L: Ledger>(
     ensures ticks { MatchResult result (λ _. steps.new ≡ steps.old + 1) (λ _. steps.new ≡ steps.old) }
     ensures room { (vec_capacity text.old ≤ vec_capacity text.new) × (vec_len nonce.new ≡ vec_len nonce.old) }
     ensures kept { KeepsObject A.length_of A.bytes A.faults object.old object.new }
-    ensures rose { OnErr result (Rose (A.faults object.old) (A.faults object.new)) }
+    ensures count { RisesByFailure (A.faults object.old) (A.faults object.new) result }
     ensures same { A.same object.old object.new }
 {
     fill_at(object, at, chunk)?;
@@ -83,7 +82,7 @@ pub fn open_at<A: ReadAt, D: SegmentDecrypter, L: Ledger>(
     ensures room { KeepsBuffers (vec_len sealed.old) (vec_len sealed.new) (vec_capacity text.old)
         (vec_capacity text.new) (vec_len nonce.old) (vec_len nonce.new) }
     ensures kept { KeepsObject A.length_of A.bytes A.faults object.old object.new }
-    ensures rose { OnErr result (Rose (A.faults object.old) (A.faults object.new)) }
+    ensures count { RisesByFailure (A.faults object.old) (A.faults object.new) result }
     ensures same { A.same object.old object.new }
 {
     let room = room_of(opener, number);

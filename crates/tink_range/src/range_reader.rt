@@ -5,9 +5,9 @@ ghost use Rattle.stream_model.specs.Opening.{opening_key};
 ghost use Rattle.tink_io.specs.declared.error.Kind.TheVariants.{NoMatchingKey};
 ghost use Rattle.tink_range.specs.ChoosingAt.{NewRefused, Tries};
 ghost use Rattle.tink_range.specs.ChunkReading.{ends_of};
-ghost use Rattle.tink_range.specs.Objects.{KeepsObject};
-ghost use Rattle.tink_range.specs.RangeReaders.{cut_by, object_of};
-ghost use Rattle.tink_range.specs.RangeReading.{RangeMeans, range_end, range_start};
+ghost use Rattle.tink_range.specs.Objects.{LeavesObject};
+ghost use Rattle.tink_range.specs.RangeReaders.{answer_of, cut_by, object_of};
+ghost use Rattle.tink_range.specs.RangeReading.{IsGivenExactly, RangeMeans, range_end, range_start};
 ghost use Rattle.tink_range.specs.Ranges.{text_length};
 ghost use Rattle.tink_streams.specs.Choosing.{Found};
 
@@ -69,7 +69,7 @@ impl<A: ReadAt> RangeReader<A> {
         ensures tried_all { IfErr result (λ refused. refused.error.kind ≡ NoMatchingKey → IfSome (A.bytes object)
             (λ S. Tries (map (opening_key aad.now) w.now.keys) S (steps.new - steps.old))) }
         ensures ticks { steps.new ≤ steps.old + length w.now.keys }
-        ensures kept { KeepsObject A.length_of A.bytes A.faults object (object_of result) }
+        ensures kept { LeavesObject A.length_of A.bytes A.faults object (object_of result) (answer_of result) }
         ensures same { A.same object (object_of result) }
     {
         let mut object = object;
@@ -109,13 +109,15 @@ impl<A: ReadAt> RangeReader<A> {
     ) -> Result<u64, TinkError>
         ensures answer { RangeMeans K.got K.faults (cut_by self.old) self.old.behind start len
             (ends_of A.bytes A.faults self.old.object self.new.object sink.old sink.new) result }
+        ensures given { IsGivenExactly K.faults (cut_by self.old) self.old.behind start len
+            (ends_of A.bytes A.faults self.old.object self.new.object sink.old sink.new) result }
         ensures ticks { steps.new ≤ steps.old + (range_end (cut_by self.old) self.old.behind start len
             - range_start (cut_by self.old) self.old.behind start + (self.old.opening.size
             - self.old.opening.overhead) - 1) / (self.old.opening.size - self.old.opening.overhead) + 2 }
         ensures opening { self.new.opening ≡ self.old.opening }
         ensures front { self.new.front ≡ self.old.front }
         ensures behind { self.new.behind ≡ self.old.behind }
-        ensures kept { KeepsObject A.length_of A.bytes A.faults self.old.object self.new.object }
+        ensures kept { LeavesObject A.length_of A.bytes A.faults self.old.object self.new.object result }
         ensures later { K.faults sink.old ≤ K.faults sink.new }
         ensures object { A.same self.old.object self.new.object }
         ensures sink { K.same sink.old sink.new }

@@ -1,6 +1,6 @@
 ghost use Rattle.std.specs.Prelude.{◌≡◌, ◌≤◌, ◌<◌, ◌+◌, ◌-◌, ◌/◌};
 ghost use Rattle.tink_range.specs.ChunkReading.{ends_of};
-ghost use Rattle.tink_range.specs.Objects.{KeepsObject};
+ghost use Rattle.tink_range.specs.Objects.{LeavesObject};
 ghost use Rattle.tink_range.specs.RangeCores.{IsSameCore, cutting_of};
 ghost use Rattle.tink_range.specs.RangeReading.{RangeMeans, range_end, range_start};
 
@@ -29,7 +29,7 @@ pub fn read_range<A: ReadAt, D: SegmentDecrypter, K: Sink, L: Ledger>(
         + (core.old.opener.size - core.old.opener.overhead) - 1)
         / (core.old.opener.size - core.old.opener.overhead) + 2 }
     ensures core { IsSameCore core.old core.new }
-    ensures kept { KeepsObject A.length_of A.bytes A.faults object.old object.new }
+    ensures kept { LeavesObject A.length_of A.bytes A.faults object.old object.new result }
     ensures later { K.faults sink.old ≤ K.faults sink.new }
     ensures object { A.same object.old object.new }
     ensures sink { K.same sink.old sink.new }

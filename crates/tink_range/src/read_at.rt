@@ -2,7 +2,7 @@
 
 ghost use Rattle.std.specs.Prelude.{◌≡◌, ◌<◌, ◌≤◌, ◌-◌, ℕ, List, length, take, drop, IfOk, IfSome};
 ghost use Rattle.std.specs.declared.option.Option.{Option};
-ghost use Rattle.tink_io.specs.Faults.{CountsFault};
+ghost use Rattle.tink_range.specs.Objects.{CountsRead};
 
 use tink_io::Failed;
 
@@ -28,7 +28,7 @@ pub trait ReadAt {
     /// is left open. Below the object's end a buffer that is not empty gets a byte at least. At the end and past it there
     /// is none.
     ///
-    /// `Failed` raises the count.
+    /// `Failed` raises the count, and any other answer leaves it as it was.
     fn read_at(&mut self, pos: u64, buf: &mut [u8]) -> Result<usize, Failed>
         ensures room { IfOk result (λ n. n ≤ length buf.old) }
         ensures within { IfOk result (λ n. n ≤ length_of self.old - pos) }
@@ -36,7 +36,7 @@ pub trait ReadAt {
         ensures given { IfOk result (λ n. IfSome (bytes self.old) (λ X. take n buf.new ≡ take n (drop pos X))) }
         ensures length { length_of self.new ≡ length_of self.old }
         ensures bytes { bytes self.new ≡ bytes self.old }
-        ensures cause { CountsFault (faults self.old) (faults self.new) result }
+        ensures cause { CountsRead (faults self.old) (faults self.new) result }
         ensures same { same self.old self.new };
 
     // The bytes are as many as it has.

@@ -1,6 +1,5 @@
-ghost use Rattle.std.specs.Prelude.{◌≡◌, ◌≤◌, ◌<◌, ◌+◌, ◌^◌, length, take, drop, IfSome, OnOk, OnErr};
-ghost use Rattle.tink_io.specs.Faults.{Rose};
-ghost use Rattle.tink_range.specs.Objects.{KeepsObject};
+ghost use Rattle.std.specs.Prelude.{◌≡◌, ◌≤◌, ◌<◌, ◌+◌, ◌^◌, length, take, drop, IfSome, OnOk};
+ghost use Rattle.tink_range.specs.Objects.{KeepsObject, RisesByFailure};
 
 use crate::read_at::ReadAt;
 use tink_io::Failed;
@@ -12,7 +11,7 @@ pub fn fill_at<A: ReadAt>(object: &mut A, at: u64, buf: &mut [u8]) -> Result<(),
     ensures given { OnOk result (IfSome (A.bytes object.old)
         (λ S. buf.new ≡ take (length buf.old) (drop at S))) }
     ensures kept { KeepsObject A.length_of A.bytes A.faults object.old object.new }
-    ensures rose { OnErr result (Rose (A.faults object.old) (A.faults object.new)) }
+    ensures count { RisesByFailure (A.faults object.old) (A.faults object.new) result }
     ensures same { A.same object.old object.new }
 {
     let mut done = 0;

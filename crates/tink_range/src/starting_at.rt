@@ -1,7 +1,7 @@
 ghost use Rattle.std.specs.Prelude.{◌≡◌, ◌≤◌, ◌+◌, ◌-◌, length, map, IfOk, IfErr, IfSome, vec_len, vec_capacity};
 ghost use Rattle.stream_model.specs.Opening.{opening_key};
 ghost use Rattle.tink_range.specs.ChoosingAt.{HasTried, NewRefused};
-ghost use Rattle.tink_range.specs.Objects.{KeepsObject};
+ghost use Rattle.tink_range.specs.Objects.{LeavesObject};
 ghost use Rattle.tink_stream_keys.specs.Rooms.{HasRoomForEach};
 ghost use Rattle.tink_streams.specs.Choosing.{Found, StartRefused};
 ghost use Rattle.tink_streams.specs.Openers.{segment_map};
@@ -37,7 +37,7 @@ pub fn start_at<A: ReadAt, T: DerivesStreams, L: Ledger>(
     ensures tried { HasTried result (A.bytes object.old) (map (λ k. opening_key aad.now (T.key_of k)) keys.now)
         (steps.new - steps.old) }
     ensures ticks { (steps.old ≤ steps.new) × (steps.new ≤ steps.old + length keys.now) }
-    ensures kept { KeepsObject A.length_of A.bytes A.faults object.old object.new }
+    ensures kept { LeavesObject A.length_of A.bytes A.faults object.old object.new result }
     ensures same { A.same object.old object.new }
 {
     let Trial {
@@ -95,7 +95,7 @@ pub fn begin_at<A: ReadAt, L: Ledger>(
     ensures tried { HasTried result (A.bytes object.old) (map (opening_key aad.now) w.now.keys)
         (steps.new - steps.old) }
     ensures ticks { (steps.old ≤ steps.new) × (steps.new ≤ steps.old + length w.now.keys) }
-    ensures kept { KeepsObject A.length_of A.bytes A.faults object.old object.new }
+    ensures kept { LeavesObject A.length_of A.bytes A.faults object.old object.new result }
     ensures same { A.same object.old object.new }
 {
     match w.entries(alloc) {

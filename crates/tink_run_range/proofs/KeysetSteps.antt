@@ -14,6 +14,7 @@ use Rattle.tink_sets.specs.declared.typed_set.TypedPrimitiveSet.{TypedPrimitiveS
 use Rattle.tink_stream_keys.specs.declared.stream_kind.StreamKind.{StreamKind}
 use Rattle.tink_range.specs.ChunkReading.{Moments}
 use Rattle.tink_range.specs.KeyRanges.{RangesUnderRefused, TakesRangeSteps}
+use Rattle.tink_range.specs.Objects.{RisesByKind}
 use Rattle.tink_range.proofs.StreamRanges.{gives_slice, under_not_refused}
 use Rattle.tink_run.specs.AllKeys.{load}
 use Rattle.tink_run.specs.HeldKeys.{GivesLoaded, HoldsLoaded}
@@ -28,6 +29,15 @@ use Rattle.tink_run_range.specs.SetRanges.{LeavesRangeEnds, RangesOf, RangesOfRe
 pub steps_loaded : (keyset aad : List ℕ) (all : Option (List ℕ)) (whole start len before now : ℕ) (set : TypedPrimitiveSet StreamKind) → GivesLoaded (Ok set) (load keyset)
     → ((l : Loaded) → AreUsable l.keys → HoldsLoaded l set → TakesRangeSteps (opening_keys aad l) all whole start len before now) → TakesKeysetSteps keyset aad all whole start len before now
 steps_loaded keyset aad all whole start len before now set loads takes = inr (loads.0, loads.1, takes loads.0 (loaded_usable keyset loads.0 loads.1).0 loads.2)
+
+-- a refusal of loading is no ReadFault, and leaves the object's count of faults
+stands_by : (count : ℕ) (kind : Kind) → IsOfLoading kind → RisesByKind count count kind
+stands_by count ReadFault is = absurd is
+stands_by count _ is = refl
+
+pub stands_unloaded : (keyset : List ℕ) (count : ℕ) (error : TinkError) → GivesLoaded (Err error) (load keyset) → RisesByKind count count error.kind
+stands_unloaded keyset count error (inl m) = subst (RisesByKind count count) (sym m) refl
+stands_unloaded keyset count error (inr l) = stands_by count error.kind (load_refuses keyset error.kind l)
 
 module _ {A W : Type 0} (got : W → Option (List ℕ)) (faults : W → ℕ) (keyset aad : List ℕ) (whole start len : ℕ) (object object_after : A) where
   unloaded : (e : Moments W) (error : TinkError) (kind : Kind) → LeavesBoth object object_after e → load keyset ≡ Err kind → IsOfLoading kind → KeysetRangeRefused got faults keyset aad whole start len object object_after e error kind

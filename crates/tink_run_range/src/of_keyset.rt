@@ -2,7 +2,7 @@
 
 ghost use Rattle.std.specs.Prelude.{◌≡◌, ◌≤◌, IfOk};
 ghost use Rattle.tink_range.specs.ChunkReading.{ends_of};
-ghost use Rattle.tink_range.specs.Objects.{KeepsObject};
+ghost use Rattle.tink_range.specs.Objects.{LeavesObject};
 ghost use Rattle.tink_run_range.specs.KeysetRanges.{GivesSlice, IsRangeComplete, KeysetRangeMeans, TakesKeysetSteps};
 ghost use Rattle.tink_run_range.specs.SetRanges.{LeavesRangeEnds, LeavesUnwritten};
 
@@ -52,7 +52,7 @@ pub fn run_range<A: ReadAt, K: Sink, L: Ledger>(
     // anything was written the sink.
     ensures early { LeavesRangeEnds result object.old object.new sink.old sink.new }
     ensures unwritten { LeavesUnwritten result sink.old sink.new }
-    ensures kept { KeepsObject A.length_of A.bytes A.faults object.old object.new }
+    ensures kept { LeavesObject A.length_of A.bytes A.faults object.old object.new result }
     ensures later { K.faults sink.old ≤ K.faults sink.new }
     ensures object { A.same object.old object.new }
     ensures sink { K.same sink.old sink.new }

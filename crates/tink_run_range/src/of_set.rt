@@ -4,7 +4,7 @@ ghost use Rattle.std.specs.Prelude.{◌≡◌, ◌≤◌};
 ghost use Rattle.loading_model.specs.Loading.{AreUsable, Loaded, opening_keys};
 ghost use Rattle.tink_range.specs.ChunkReading.{ends_of};
 ghost use Rattle.tink_range.specs.KeyRanges.{TakesRangeSteps};
-ghost use Rattle.tink_range.specs.Objects.{KeepsObject};
+ghost use Rattle.tink_range.specs.Objects.{LeavesObject};
 ghost use Rattle.tink_run.specs.HeldKeys.{HoldsLoaded};
 ghost use Rattle.tink_run_range.specs.SetRanges.{LeavesRangeEnds, LeavesUnwritten, RangesOf};
 
@@ -44,7 +44,7 @@ pub fn range_of_set<A: ReadAt, K: Sink, L: Ledger>(
         steps.old steps.new }
     ensures early { LeavesRangeEnds result object.old object.new sink.old sink.new }
     ensures unwritten { LeavesUnwritten result sink.old sink.new }
-    ensures kept { KeepsObject A.length_of A.bytes A.faults object.old object.new }
+    ensures kept { LeavesObject A.length_of A.bytes A.faults object.old object.new result }
     ensures later { K.faults sink.old ≤ K.faults sink.new }
     ensures object { A.same object.old object.new }
     ensures sink { K.same sink.old sink.new }

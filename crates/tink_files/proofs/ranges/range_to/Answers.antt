@@ -1,3 +1,4 @@
+use Rattle.tink_files.proofs.RangeLemmas.{leaves_ended}
 use Rattle.tink_files.proofs.StreamLemmas.{ran_and_ended, range_done, shown_whole, succeeded}
 use Rattle.tink_files.proofs.ranges.range_to.Goals as goal
 
@@ -21,3 +22,8 @@ pub returns-clause-succeeds : goal.returns-clause-succeeds
 returns-clause-succeeds g c = λ X told can.
     succeeded _ _ _ _ _ _ _ _ _ c.run_range-answer.result c.finish.result c.run_range-answer.ensures.later c.finish.ensures.later c.finish.ensures.ends
     (range_done c.run_range-answer.result _ _ _ _ (λ unread unwritten. c.run_range-answer.ensures.succeeds X told unread unwritten can))
+
+pub returns-clause-kept : goal.returns-clause-kept
+returns-clause-kept g c =
+    leaves_ended g.A.ReadAt.length_of g.A.ReadAt.bytes g.A.ReadAt.faults c.args.object.now c.run_range-answer.new.object _ _ _ _ _ _ c.run_range-answer.result c.finish.result
+    c.finish.ensures.ends c.run_range-answer.ensures.kept

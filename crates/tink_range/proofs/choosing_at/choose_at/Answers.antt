@@ -80,6 +80,7 @@ loop-key-preserved g c =
       ticked = omega (arith, called.ticks.0, inv.ticked);
       few = omega (arith, called.ticks.1, inv.few);
       kept = record { length_is = called.kept.length_is ∙ inv.kept.length_is; bytes_are = called.kept.bytes_are ∙ inv.kept.bytes_are; later = omega (arith, called.kept.later, inv.kept.later) };
+      count = called.count ∙ inv.count;
       same = g.met.A.ReadAt.same_trans _ _ _ inv.same called.same;
     }
 

@@ -19,5 +19,6 @@ invariant-loop-key g l =
       ticked : l.fn.steps ≤ l.steps;
       few : l.steps ≤ l.fn.steps + l.key-index;
       kept : KeepsObject object.length_of object.bytes object.faults l.fn.object l.object;
+      count : object.faults l.object ≡ object.faults l.fn.object;
       same : object.same l.fn.object l.object;
     }

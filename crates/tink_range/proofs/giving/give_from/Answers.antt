@@ -25,6 +25,7 @@ loop-place-init g c =
       ticks = record { count = omega arith; later = omega arith; bound = omega arith; spaced = λ some more. omega arith };
       core = record { opener = refl; front = refl; behind = refl };
       kept = record { length_is = refl; bytes_are = refl; later = omega arith };
+      count = refl;
       later = omega arith;
       object_same = g.met.A.ReadAt.same_refl c.args.object.now;
       sink_same = g.met.K.Sink.same_refl c.args.sink.now;
@@ -98,6 +99,7 @@ loop-place-preserved g c =
       ticks = next_ticks (cutting_of core) c.args.lo c.args.hi core.behind place.number place.start place.text here c.args.from.number _ _ _ _ _ next.number next.text inv.ticks.later gave.ticks inv.ticks;
       core = record { opener = gave.core.opener ∙ inv.core.opener; front = gave.core.front ∙ inv.core.front; behind = gave.core.behind ∙ inv.core.behind };
       kept = record { length_is = gave.kept.length_is ∙ inv.kept.length_is; bytes_are = gave.kept.bytes_are ∙ inv.kept.bytes_are; later = omega (arith, gave.kept.later, inv.kept.later) };
+      count = gave.kept.count ∙ inv.count;
       later = omega (arith, gave.later, inv.later);
       object_same = g.met.A.ReadAt.same_trans _ _ _ inv.object_same gave.object;
       sink_same = g.met.K.Sink.same_trans _ _ _ inv.sink_same gave.sink;

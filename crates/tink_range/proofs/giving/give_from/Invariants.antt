@@ -1,5 +1,5 @@
 -- What was given so far, by the chunk that comes next.
-use Rattle.std.proofs.Common.{◌≤◌, ◌<◌, ◌-◌}
+use Rattle.std.proofs.Common.{◌≡◌, ◌≤◌, ◌<◌, ◌-◌}
 use Rattle.tink_range.specs.Objects.{KeepsObject}
 use Rattle.tink_range.specs.RangeCores.{IsSameCore, cutting_of}
 use Rattle.tink_range.specs.Shapes.{IsChunkPlace}
@@ -20,6 +20,7 @@ invariant-loop-place g l =
       ticks : Ticks l.lo l.hi (o.size - o.overhead) l.fn.from.number l.place.number l.place.text l.fn.steps l.steps;
       core : IsSameCore l.fn.core l.core;
       kept : KeepsObject object.length_of object.bytes object.faults l.fn.object l.object;
+      count : object.faults l.object ≡ object.faults l.fn.object;
       later : sink.faults l.fn.sink ≤ sink.faults l.sink;
       object_same : object.same l.fn.object l.object;
       sink_same : sink.same l.fn.sink l.sink;

@@ -17,5 +17,6 @@ loop-done-preserved g c =
         bytes_are = read.bytes ∙ inv.kept.bytes_are;
         later = omega (arith, read.cause.later, inv.kept.later);
       };
+      count = read.cause.count ∙ inv.count;
       same = g.met.A.ReadAt.same_trans _ _ _ inv.same read.same;
     }

@@ -2,7 +2,7 @@ use Rattle.std.proofs.Common.{◌≡◌, ◌≤◌, ◌-◌, IfSome, length, tak
 use Rattle.tink_range.specs.Objects.{KeepsObject}
 use Rattle.tink_range.proofs.reading_at.fill_at.Given as goal
 
--- the bytes so far are those of the object
+-- the bytes so far are those of the object, which has not failed
 abbrev pub invariant-loop-done : goal.invariant-loop-done
 invariant-loop-done g l =
     let object = g.A.ReadAt in
@@ -10,6 +10,7 @@ invariant-loop-done g l =
       within : l.done ≤ length l.buf;
       given : IfSome (object.bytes l.fn.object) (λ S. take l.done l.buf ≡ take l.done (drop l.at S));
       kept : KeepsObject object.length_of object.bytes object.faults l.fn.object l.object;
+      count : object.faults l.object ≡ object.faults l.fn.object;
       same : object.same l.fn.object l.object;
     }
 

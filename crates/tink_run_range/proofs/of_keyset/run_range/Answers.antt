@@ -1,8 +1,8 @@
-use Rattle.std.proofs.Common.{refl}
+use Rattle.std.proofs.Common.{refl, arith}
 use Rattle.std.proofs.lemmas.Result.{err_from_is_err_and}
 use Rattle.std.specs.Prelude.{Err}
 use Rattle.tink_range.specs.ChunkReading.{Moments, ends_of}
-use Rattle.tink_run_range.proofs.KeysetSteps.{complete, loaded, not_loaded, slices, steps_loaded}
+use Rattle.tink_run_range.proofs.KeysetSteps.{complete, loaded, not_loaded, slices, stands_unloaded, steps_loaded}
 use Rattle.tink_run_range.proofs.of_keyset.run_range.Goals as goal
 
 pub returns-in_err-keys-clause-answer : goal.returns-in_err-keys-clause-answer
@@ -24,6 +24,12 @@ returns-in_err-keys-clause-succeeds g c =
     (complete g.K.Sink.got g.K.Sink.faults c.args.keyset.now c.args.aad.now whole c.args.start c.args.len object object e (g.met.A.ReadAt.told object) (Err c.in_err-keys.field-0.0)
     (not_loaded g.K.Sink.got g.K.Sink.faults c.args.keyset.now c.args.aad.now whole c.args.start c.args.len object object e
     c.in_err-keys.field-0.0 (record { unread = refl; unmoved = record { reads = refl; same = refl } }) c.in_err-keys.ensures.answer))
+
+pub returns-in_err-keys-clause-kept : goal.returns-in_err-keys-clause-kept
+returns-in_err-keys-clause-kept g c =
+    let returned = err_from_is_err_and c.from_residual.result c.from_residual.ensures.1 in
+    rw (returned.1, returned.2)
+    (record { length_is = refl; bytes_are = refl; later = omega arith; count = stands_unloaded c.args.keyset.now (g.A.ReadAt.faults c.args.object.now) c.in_err-keys.field-0.0 c.in_err-keys.ensures.answer })
 
 pub returns-clause-answer : goal.returns-clause-answer
 returns-clause-answer g c =

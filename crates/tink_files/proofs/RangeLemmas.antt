@@ -1,0 +1,24 @@
+-- What an object counts where a range was written into a draft.
+use Rattle.std.proofs.Common.{ℕ, List, Bool, sym, subst}
+use Rattle.std.specs.Prelude.{Result, Ok, Err}
+use Rattle.std.specs.declared.option.Option.{Option}
+use Rattle.tink_io.specs.declared.error.TinkError.{TinkError}
+use Rattle.tink_place.specs.Places.{Ends}
+use Rattle.tink_range.specs.Objects.{LeavesObject, RisesByKind, RisesByReadFault}
+
+-- a draft that is not shown makes no ReadFault, and all other refusals are those of the call that wrote it
+counted : {V : Type 0} (draft : Option (List ℕ)) (replaces : Bool) (before after : Option (Option (List ℕ))) (i j reads reads_after : ℕ) (answer result : Result V TinkError)
+    → Ends draft replaces before after i j answer result → RisesByReadFault reads reads_after answer → RisesByReadFault reads reads_after result
+counted draft replaces before after i j reads reads_after (Ok v) (Ok w) ends count = count
+counted draft replaces before after i j reads reads_after (Ok v) (Err e) ends count = subst (λ (x : TinkError). RisesByKind reads reads_after x.kind) (sym ends.refusal) count
+counted draft replaces before after i j reads reads_after (Err e) (Ok w) ends count = absurd ends
+counted draft replaces before after i j reads reads_after (Err e) (Err f) ends count = subst (λ (x : TinkError). RisesByKind reads reads_after x.kind) (sym ends.0) count
+
+pub leaves_ended : {A V : Type 0} (length_of : A → ℕ) (bytes : A → Option (List ℕ)) (faults : A → ℕ) (old new : A) (draft : Option (List ℕ)) (replaces : Bool) (before after : Option (Option (List ℕ))) (i j : ℕ) (answer result : Result V TinkError)
+    → Ends draft replaces before after i j answer result → LeavesObject length_of bytes faults old new answer → LeavesObject length_of bytes faults old new result
+leaves_ended length_of bytes faults old new draft replaces before after i j answer result ends left = record {
+  length_is = left.length_is;
+  bytes_are = left.bytes_are;
+  later = left.later;
+  count = counted draft replaces before after i j (faults old) (faults new) answer result ends left.count;
+}

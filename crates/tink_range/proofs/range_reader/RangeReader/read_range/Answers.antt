@@ -1,0 +1,22 @@
+use Rattle.std.proofs.Common.{◌≡◌, ◌+◌, ℕ, List, length, IfSome, subst, sym, ◌∙◌}
+use Rattle.std.specs.declared.option.Option.{Option}
+use Rattle.tink_range.specs.ChunkReading.{ends_of}
+use Rattle.tink_range.specs.RangeCores.{cutting_of}
+use Rattle.tink_range.specs.RangeReaders.{RangeState, cut_by}
+use Rattle.tink_range.specs.RangeReading.{IsGivenExactly}
+use Rattle.tink_range.proofs.CanGiveFacts.{is_given}
+use Rattle.tink_range.proofs.ReadingFacts.{told_weaker}
+use Rattle.tink_range.proofs.range_reader.RangeReader.read_range.Goals as goal
+
+pub returns-clause-given : goal.returns-clause-given
+returns-clause-given g c =
+    let core = c.self.inside.core in
+    let object = c.self.inside.object in
+    let all : Option (List ℕ) = g.A.ReadAt.bytes object in
+    let long : IfSome all (λ S. length S ≡ core.front + core.behind) = told_weaker all (λ S. length S ≡ g.A.ReadAt.length_of object) (λ S. length S ≡ core.front + core.behind) (λ S e. e ∙ sym c.self.invariant) (g.met.A.ReadAt.told object) in
+    subst (λ (r : RangeState (g.row.A.Denot)). IsGivenExactly g.K.Sink.faults (cut_by r) r.behind c.args.start c.args.len
+    (ends_of g.A.ReadAt.bytes g.A.ReadAt.faults r.object c.read_range.new.object c.args.sink.now c.read_range.new.sink) c.read_range.result)
+    c.self.view_is
+    (is_given g.K.Sink.got g.K.Sink.faults (cutting_of core) core.behind c.args.start c.args.len
+    (ends_of g.A.ReadAt.bytes g.A.ReadAt.faults object c.read_range.new.object c.args.sink.now c.read_range.new.sink)
+    core.opener.some core.opener.first_fits long c.read_range.result c.read_range.ensures.answer)
