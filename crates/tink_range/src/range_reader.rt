@@ -109,6 +109,7 @@ impl<A: ReadAt> RangeReader<A> {
     ) -> Result<u64, TinkError>
         ensures answer { RangeMeans K.got K.faults (cut_by self.old) self.old.behind start len
             (ends_of A.bytes A.faults self.old.object self.new.object sink.old sink.new) result }
+        // Known bytes: where neither count rose, the answer is Ok exactly where the range can be given.
         ensures given { IsGivenExactly K.faults (cut_by self.old) self.old.behind start len
             (ends_of A.bytes A.faults self.old.object self.new.object sink.old sink.new) result }
         ensures ticks { steps.new ≤ steps.old + (range_end (cut_by self.old) self.old.behind start len
