@@ -1,12 +1,13 @@
 -- The cipher of segments under derived keys.
-use Rattle.std.proofs.Common.{◌≡◌, ◌+◌, ◌-◌, ℕ, List, take, drop, min, Some, None, refl, sym, ap, ◌∙◌, arith}
-use Rattle.std.specs.Prelude.{Err}
+use Rattle.std.proofs.Common.{◌≡◌, ◌+◌, ◌-◌, ℕ, List, take, drop, min, Some, None, refl, sym, ap, ◌∙◌, ◌++◌, length, arith}
+use Rattle.std.specs.Prelude.{Ok, Err}
+use Rattle.std.proofs.Math.Seq.{take-append_seam}
 use Rattle.std.specs.declared.option.Option.{Option}
 use Rattle.hash_keys.specs.declared.Hash.{Hash}
 use Rattle.hash_keys.specs.declared.Hash.TheVariants.{Sha1, Sha224, Sha256, Sha384, Sha512}
-use Rattle.hash_keys.specs.Hash.{digest_size}
+use Rattle.hash_keys.specs.Hash.{digest_size, hkdf_of}
 use Rattle.tink_io.specs.declared.error.Kind.{Kind}
-use Rattle.stream_model.specs.Key.{IsTag, SegmentKind, StreamKey, derived_by, header_length, nonce_size, nonce_size_of, overhead, overhead_of, segment_at, segment_of}
+use Rattle.stream_model.specs.Key.{IsTag, SegmentKind, StreamKey, derived_by, derived_bytes_of, header_length, nonce_size, nonce_size_of, overhead, overhead_of, segment_at, segment_of}
 use Rattle.stream_model.specs.Key.SegmentKind.{CtrHmac, Gcm}
 use Rattle.stream_model.specs.Cut.{numbered}
 use Rattle.stream_model.specs.Opening.{opening_key, under}
@@ -22,6 +23,28 @@ derives_nothing (Some Sha224) kind main salt aad n e = refl
 derives_nothing (Some Sha256) kind main salt aad n e = absurd (cc)
 derives_nothing (Some Sha384) kind main salt aad n e = absurd (cc)
 derives_nothing (Some Sha512) kind main salt aad n e = absurd (cc)
+
+-- the keys that HKDF derives by a hash that is not refused
+derives_some : (o : Option Hash) (h : Hash) (main salt aad : List ℕ) (n : ℕ) → deriving_hash o ≡ Ok h → derived_by o main salt aad n ≡ Some (hkdf_of h main salt aad n)
+derives_some None h main salt aad n e = absurd (cc)
+derives_some (Some Sha1) h main salt aad n e = cc
+derives_some (Some Sha224) h main salt aad n e = absurd (cc)
+derives_some (Some Sha256) h main salt aad n e = cc
+derives_some (Some Sha384) h main salt aad n e = cc
+derives_some (Some Sha512) h main salt aad n e = cc
+
+-- the cipher under these keys is the derived one
+pub derived_with : (k : StreamKey) (aad salt keys out : List ℕ) (h : Hash) (cipher : StreamSegment) → deriving_hash k.hkdf_hash ≡ Ok h → out ≡ hkdf_of h k.main salt aad (derived_bytes_of k.kind k.derived) → keys ≡ out
+    → cipher ≡ cipher_of k.kind k.derived keys → IsDerived k aad salt cipher
+derived_with k aad salt keys out h cipher e made same is = record {
+  keys = keys;
+  keys_are = derives_some k.hkdf_hash h k.main salt aad (derived_bytes_of k.kind k.derived) e ∙ ap Some (sym (same ∙ made));
+  cipher_is = is;
+}
+
+-- the front of what was filled in is that
+pub front_taken : (n : ℕ) (xs ys : List ℕ) → length xs ≡ n → take n (xs ++ ys) ≡ xs
+front_taken n xs ys e = ap (λ m. take m (xs ++ ys)) (sym e) ∙ take-append_seam xs ys
 
 -- the derived cipher's segments are the key's, with its overhead and its nonces
 pub segments_are : (kind : SegmentKind) (derived : ℕ) (keys : List ℕ) → segment_by (cipher_of kind derived keys) ≡ segment_of kind derived keys

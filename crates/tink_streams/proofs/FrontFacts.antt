@@ -1,5 +1,5 @@
 -- Opening at the head of held bytes, said of all bytes that are held or left.
-use Rattle.std.proofs.Common.{◌≡◌, ◌⊎◌, inl, inr, ◌≤◌, ◌<◌, ◌-◌, ◌^◌, ℕ, zero, suc, Bool, true, false, List, [], ◌∷◌, ◌++◌, length, take, drop, Some, None, IfSome, ap, sym, ◌∙◌, arith, length-append}
+use Rattle.std.proofs.Common.{◌≡◌, ◌⊎◌, inl, inr, ◌≤◌, ◌<◌, ◌-◌, ◌^◌, ℕ, zero, suc, Bool, true, false, List, [], ◌∷◌, ◌++◌, length, take, drop, Some, None, IfSome, ap, sym, subst, ◌∙◌, arith, length-append}
 use Rattle.std.proofs.lemmas.List.{append-nil, length-take, take-append-le, drop-append-le, take_all}
 use Rattle.std.proofs.lemmas.Bool.{le-leb, lt-leb}
 use Rattle.std.proofs.Math.ListN.{drop_of_length-le}
@@ -132,3 +132,17 @@ stays n m size items there e = elim (fits_or_not n size) [
 pub ended : (n m size : ℕ) (r0 r1 : Option (List ℕ)) (items xs : List ℕ) → HoldsChunk size r0 (take n items) r1 → m ≡ min n size → n - m ≡ 0 → IsAtEnd (prepend_known (take (n - m) xs) r1)
 ended n m size r0 r1 items xs h e none =
     prepend_known-end _ r1 (take (n - m) xs) (Keeps-refl _) (ap (λ k. take k xs) none) (h.end (omega (arith, length-take n items)))
+
+-- the head by the lesser of two lengths
+head_cut : (n size : ℕ) (H : List ℕ) → n ≡ min (length H) size → take n H ≡ take size H
+head_cut n size H most = elim (fits_or_not (length H) size) [
+  | inl fits ↦ take_all n H (omega (arith, most)) ∙ sym (take_all size H fits)
+  | inr more ↦ let whole : n ≡ size = omega (arith, most) in ap (λ m. take m H) whole
+]
+
+-- the segment at the head of held bytes, whose size is computed
+pub head_opens : (seg : ℕ → Bool → List ℕ → List ℕ) (i size room n : ℕ) (H t : List ℕ) → size ≡ room → 0 < n → n ≡ min (length H) size → seg i (nat_le (length H) size) t ≡ take n H → HeadOpensTo seg i room H t
+head_opens seg i size room n H t same some most o = subst (λ b. HeadOpensTo seg i b H t) same (record { some = omega (arith, most); segment = o ∙ head_cut n size H most })
+
+pub head_opened : (seg : ℕ → Bool → List ℕ → List ℕ) (i size room n : ℕ) (H t : List ℕ) → size ≡ room → n ≡ min (length H) size → HeadOpensTo seg i room H t → seg i (nat_le (length H) size) t ≡ take n H
+head_opened seg i size room n H t same most h = (subst (λ b. seg i (nat_le (length H) b) t ≡ take b H) (sym same) h.segment) ∙ sym (head_cut n size H most)

@@ -19,6 +19,13 @@ held_more (Some x) None c xs ys p q = absurd p
 held_more (Some x) (Some y) None xs ys p q = absurd q
 held_more (Some x) (Some y) (Some z) xs ys p q = append_assoc xs ys z ∙ ap (λ l. xs ++ l) (sym q) ∙ p
 
+-- what is held stays held where nothing was read
+pub held_still : (a b c : Option (List ℕ)) (xs : List ℕ) → Keeps a (prepend_known xs b) → Keeps b c → Keeps a (prepend_known xs c)
+held_still None b c xs p q = tt
+held_still (Some x) None c xs p q = absurd p
+held_still (Some x) (Some y) None xs p q = absurd q
+held_still (Some x) (Some y) (Some z) xs p q = ap (λ l. xs ++ l) q ∙ p
+
 -- the prefix of a buffer after a read into its middle
 pub front_read : (n k m : ℕ) (xs ys : List ℕ) → n ≤ length xs → m ≤ length ys → take (n + m) (put_mid n k xs ys) ≡ take n xs ++ take m ys
 front_read n k m xs ys h e =

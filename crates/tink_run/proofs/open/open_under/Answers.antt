@@ -33,3 +33,11 @@ returns-clause-answer g c =
           refl c.start.ensures.later (omega arith) begun c.open_stream.ensures.answer,
       reads_under _ _ seg opener.first opener.size opener.overhead _ started _ refl begun _ c.open_stream.ensures.answer (rw c.in_ok-reader.ensures.fresh.3 at c.open_stream.ensures.read),
     )
+
+pub returns-in_err-reader-clause-unwritten : goal.returns-in_err-reader-clause-unwritten
+returns-in_err-reader-clause-unwritten g c =
+    let p = err_from_is_err_and c.from_residual.result c.from_residual.ensures.1 in
+    rw (p.1, p.2) (λ _. refl)
+
+pub returns-clause-unwritten : goal.returns-clause-unwritten
+returns-clause-unwritten g c = c.open_stream.ensures.unwritten

@@ -46,3 +46,9 @@ returns-in-Seal-clause-read g c = rw c.in-Seal.is tt
 pub returns-clause-read : goal.returns-clause-read
 returns-clause-read g c = rw c.in-Open.is
     (reads_keyset c.args.keyset.now c.args.aad.now c.in_ok-keys.keys _ _ c.open_together.result c.in_ok-keys.ensures.answer c.open_together.ensures.order c.open_together.ensures.answer)
+
+pub returns-in-Seal-clause-early : goal.returns-in-Seal-clause-early
+returns-in-Seal-clause-early g c = c.seal_together.ensures.early
+
+pub returns-clause-early : goal.returns-clause-early
+returns-clause-early g c = c.open_together.ensures.early

@@ -1,6 +1,8 @@
 use Rattle.std.proofs.Common.{◌<◌, ℕ, refl, ◌∙◌, arith}
 use Rattle.std.proofs.lemmas.List.{length-take}
 use Rattle.std.proofs.lemmas.Result.{err_from_is_err_and}
+use Rattle.std.proofs.KnownBytes.{Consumes-kept}
+use Rattle.tink_io.proofs.FaultLemmas.{Rose-earlier}
 use Rattle.tink_run.proofs.PourSteps.{few_bytes, poured_none, poured_more, pour_refused}
 use Rattle.tink_run.proofs.seal.pour.Goals as goal
 
@@ -44,3 +46,8 @@ loop-n-preserved g c =
       same_source = g.met.S.Source.same_trans _ _ _ c.loop-n.invariant.same_source c.in-Ok.ensures.same;
       same_sink = g.met.K.Sink.same_trans _ _ _ c.loop-n.invariant.same_sink c.write.ensures.same;
     }
+
+pub returns-in-Err-clause-answer : goal.returns-in-Err-clause-answer
+returns-in-Err-clause-answer g c =
+    let poured = c.loop-n.invariant.poured in
+    rw c.new.ensures (record { text = poured.text; read = Consumes-kept _ _ _ _ poured.read c.in-Err.ensures.bytes; refused = poured.wrote }, Rose-earlier _ _ _ c.loop-n.invariant.reads c.in-Err.ensures.cause.failed)

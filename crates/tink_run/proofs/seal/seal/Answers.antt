@@ -63,3 +63,8 @@ pub returns-in_err-close-clause-early : goal.returns-in_err-close-clause-early
 returns-in_err-close-clause-early g c =
     let p = err_from_is_err_and c.from_residual-in_err-close.result c.from_residual-in_err-close.ensures.1 in
     rw (p.1, p.2) (close_leaves _ _ _ c.in_err-close.field-0.0 _ _ _ _ c.in_err-close.ensures.answer)
+
+pub returns-in_err-piece-clause-answer : goal.returns-in_err-piece-clause-answer
+returns-in_err-piece-clause-answer g c =
+    let p = err_from_is_err_and c.from_residual.result c.from_residual.ensures.1 in
+    rw (p.1, p.2) (record { untouched = refl; undrawn = refl })

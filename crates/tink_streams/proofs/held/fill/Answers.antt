@@ -1,6 +1,6 @@
 use Rattle.std.proofs.Common.{◌≤◌, ◌-◌, ℕ, length, arith, length-drop}
 use Rattle.std.proofs.lemmas.List.{length-take}
-use Rattle.tink_streams.proofs.HeldFacts.{held_more, front_read, loses_more}
+use Rattle.tink_streams.proofs.HeldFacts.{held_more, held_still, front_read, front_still, kept_consumes, loses_more}
 use Rattle.tink_streams.proofs.held.fill.Goals as goal
 
 pub loop-filled-preserved : goal.loop-filled-preserved
@@ -17,3 +17,13 @@ loop-filled-preserved g c =
       later = omega (arith, c.in-Ok.ensures.cause.later);
       same = g.met.S.Source.same_trans _ _ _ c.loop-filled.invariant.same c.in-Ok.ensures.same;
     }
+
+pub returns-in-Err-clause-read : goal.returns-in-Err-clause-read
+returns-in-Err-clause-read g c =
+    loses_more (c.loop-filled.filled - c.args.filled.now) 0 _ _ _ _ _ c.loop-filled.invariant.read (kept_consumes _ _ c.in-Err.ensures.bytes) (omega arith) (omega arith)
+
+pub returns-in-Err-clause-rest : goal.returns-in-Err-clause-rest
+returns-in-Err-clause-rest g c =
+    let n : ℕ = c.loop-filled.filled in
+    rw (front_still n (c.args.want - n) c.loop-filled.buffer c.read.new.buf (omega (arith, c.loop-filled.auto.buffer)))
+    (held_still _ _ _ _ c.loop-filled.invariant.rest c.in-Err.ensures.bytes)

@@ -68,3 +68,12 @@ returns-clause-answer g c =
           omega (arith, c.open_front.new.opened.ok.0, c.open_front.ensures.some c.if-not-open_front.false more);
       ends = λ at_end. ended c.hold.new.filled c.min-n.result c.size_of-size.result _ _ c.hold.new.buffer.items c.carry.new.buffer.items c.in-Ok.ensures.held c.min-n.ensures (c.progress_after-self.ensures.ended at_end);
     }
+
+pub returns-then-not-open_front-clause-read : goal.returns-then-not-open_front-clause-read
+returns-then-not-open_front-clause-read g c = rw c.size_of-size.ensures at c.hold.ensures.read
+
+pub returns-then-not-open_front-clause-later : goal.returns-then-not-open_front-clause-later
+returns-then-not-open_front-clause-later g c = c.hold.ensures.later
+
+pub returns-then-not-open_front-clause-same : goal.returns-then-not-open_front-clause-same
+returns-then-not-open_front-clause-same g c = c.hold.ensures.same
