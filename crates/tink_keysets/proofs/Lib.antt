@@ -2,4 +2,5 @@ pub mod FirstPlaces
 pub mod GivenData
 pub mod Masters
 pub mod ReadBack
+pub mod ThroughFacts
 pub mod ValidFacts

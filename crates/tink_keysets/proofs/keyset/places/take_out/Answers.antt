@@ -1,0 +1,5 @@
+use Rattle.std.proofs.Common.{sym, ◌∙◌}
+use Rattle.tink_keysets.proofs.keyset.places.take_out.Goals as goal
+
+pub returns : goal.returns
+returns c = c.remove-key.ensures.items ∙ sym c.requires.left
