@@ -16,7 +16,7 @@ use Rattle.stream_model.specs.Key.{StreamKey}
 use Rattle.stream_model.specs.Opening.{OpeningKey, IsChosen, chunks_of, opening_key}
 use Rattle.stream_model.proofs.CutFacts.{cut_none, cut_fits, cut_more}
 use Rattle.tink_streaming_aead.specs.DecryptReaders.{largest}
-use Rattle.tink_streaming_aead.proofs.DecryptSteps.{reads_held, reads_kept, reads_more}
+use Rattle.tink_streaming_aead.proofs.DecryptSteps.{reads_held, reads_kept}
 use Rattle.tink_streams.specs.Choosing.{Started, StartRefused}
 use Rattle.tink_streams.specs.Reading.{ReaderMoment, TellsLeads, OpenNextRefused}
 use Rattle.tink_streams.proofs.ChosenFacts.{chunks_are}

@@ -1,4 +1,4 @@
-use Rattle.std.proofs.Common.{◌≡◌, ◌<◌, arith}
+use Rattle.std.proofs.Common.{arith}
 use Rattle.tink_streams.specs.Openers.{segment_map}
 use Rattle.tink_streams.proofs.FrontFacts.{head_opens, head_opened}
 use Rattle.tink_streams.proofs.opening.open_front.Goals as goal
