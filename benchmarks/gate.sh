@@ -71,7 +71,8 @@ def look(pid):
 began, checks = time.time(), {}
 with open(sys.argv[1], "w") as log:
     # A toolchain that keeps what passed is asked to prove it anew.
-    keeps = "--anew" in subprocess.run(["rt", "help"], capture_output=True, text=True).stdout
+    help = subprocess.run(["rt", "help"], stdout=subprocess.PIPE, stderr=subprocess.STDOUT, text=True)
+    keeps = "--anew" in help.stdout
     gate = subprocess.Popen(["rt", "ci", *["--anew"] * keeps], stdout=log, stderr=subprocess.STDOUT, stdin=subprocess.DEVNULL)
     while gate.poll() is None:
         for pid in filter(str.isdigit, os.listdir("/proc")):
