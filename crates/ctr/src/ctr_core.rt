@@ -127,11 +127,11 @@ where
     C: AlgorithmName + BlockCipherEncrypt<B> + Drop,
     F: CtrFlavor<B>,
 {
-    ghost name = { codes "Ctr" ++ (F.flavor_name ++ (codes "<" ++ (C.name ++ codes ">"))) };
+    ghost name = { codes "Ctr" ++ (F.NAME ++ (codes "<" ++ (C.name ++ codes ">"))) };
 
     fn write_alg_name<W: fmt::Write>(f: &mut fmt::Formatter<W>) -> fmt::Result {
         f.write_str("Ctr")?;
-        f.write_str(F::flavor_name())?;
+        f.write_str(F::NAME.as_str())?;
         f.write_str("<")?;
         C::write_alg_name(f)?;
         f.write_str(">")
@@ -143,11 +143,11 @@ where
     C: AlgorithmName + BlockCipherEncrypt<B> + Drop,
     F: CtrFlavor<B>,
 {
-    ghost debug_output = { λ _. Some (codes "Ctr" ++ (F.flavor_name ++ (codes "<" ++ (C.name ++ codes "> { ... }")))) };
+    ghost debug_output = { λ _. Some (codes "Ctr" ++ (F.NAME ++ (codes "<" ++ (C.name ++ codes "> { ... }")))) };
 
     fn fmt<W: fmt::Write>(&self, f: &mut fmt::Formatter<W>) -> fmt::Result {
         f.write_str("Ctr")?;
-        f.write_str(F::flavor_name())?;
+        f.write_str(F::NAME.as_str())?;
         f.write_str("<")?;
         C::write_alg_name(f)?;
         f.write_str("> { ... }")

@@ -18,6 +18,28 @@ pub use counted::{CountedNonce, CounterWord};
 pub use ctr32::{Ctr32BE, Ctr32LE, CtrNonce32};
 pub use ctr64::{Ctr64BE, Ctr64LE, CtrNonce64};
 pub use ctr128::{Ctr128BE, Ctr128LE, CtrNonce128};
+use std::marker::Model;
+
+/// A flavour's name, of which a contract sees the bytes.
+#[derive(Drop)]
+pub struct FlavorName(pub &'static str);
+
+impl Model for FlavorName {
+    ghost use Rattle.std.specs.Prelude.{List, ℕ};
+
+    ghost Value = { List ℕ };
+
+    ghost view = { λ n. n.0.now };
+}
+
+impl FlavorName {
+    /// The name's text.
+    pub fn as_str(&self) -> &'static str
+        ensures value { result.now ≡ self.now }
+    {
+        self.0
+    }
+}
 
 /// A flavour of counter mode on blocks of B bytes.
 pub trait CtrFlavor<const B: usize> {
@@ -27,10 +49,10 @@ pub trait CtrFlavor<const B: usize> {
     /// The counter's type.
     type Backend: StreamCipherCounter;
 
-    /// The flavour's name.
-    const NAME: &'static str;
+    /// The flavour's name: the counter's bits and the order of its bytes, as `64BE`.
+    const NAME: FlavorName;
 
-    ghost flavor_name: { List ℕ };
+    ghost NAME: { List ℕ };
 
     // how many counters there are
     ghost period: { ℕ };
@@ -44,10 +66,6 @@ pub trait CtrFlavor<const B: usize> {
 
     // a nonce, with the counter at 0
     ghost started: { List ℕ → Self.CtrNonce };
-
-    /// `NAME`, as contracts see it.
-    fn flavor_name() -> &'static str
-        ensures value { result.now ≡ flavor_name };
 
     /// How many blocks remain: the greatest counter less this one, where that is a `usize`.
     fn remaining(cn: &Self::CtrNonce) -> Option<usize>

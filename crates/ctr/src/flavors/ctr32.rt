@@ -6,16 +6,16 @@ ghost use Rattle.std.specs.Int.{w32};
 ghost use Rattle.ctr.specs.Flavors.{field_size, plus, last, first};
 ghost use Rattle.ctr.specs.FlavorLaws.{below_field, plus_repeats, plus-plus, length-plus};
 
-use super::CtrFlavor;
 use super::chunks::{BlockSizes, WholeChunks};
 use super::counted::{CountedNonce, CounterWord};
+use super::{CtrFlavor, FlavorName};
 
 /// A nonce of B bytes and a counter of 32 bits.
 pub type CtrNonce32<const B: usize> = CountedNonce<u32, [u8; B]>;
 
-const NAME_BE: &str = "32BE";
+const NAME_BE: FlavorName = FlavorName("32BE");
 
-const NAME_LE: &str = "32LE";
+const NAME_LE: FlavorName = FlavorName("32LE");
 
 /// A counter of 32 bits in the last 4 bytes, high byte first.
 #[derive(Clone, Copy)]
@@ -29,9 +29,9 @@ where
 
     type Backend = u32;
 
-    const NAME: &'static str = NAME_BE;
+    const NAME: FlavorName = NAME_BE;
 
-    ghost flavor_name = { codes "32BE" };
+    ghost NAME = { codes "32BE" };
 
     ghost period = { field_size w32 };
 
@@ -56,10 +56,6 @@ where
     ghost starts_at = { λ xs. refl };
 
     ghost starts_at_0 = { λ xs. refl };
-
-    fn flavor_name() -> &'static str {
-        NAME_BE
-    }
 
     fn remaining(cn: &CtrNonce32<B>) -> Option<usize> {
         cn.ctr.remaining()
@@ -100,9 +96,9 @@ where
 
     type Backend = u32;
 
-    const NAME: &'static str = NAME_LE;
+    const NAME: FlavorName = NAME_LE;
 
-    ghost flavor_name = { codes "32LE" };
+    ghost NAME = { codes "32LE" };
 
     ghost period = { field_size w32 };
 
@@ -127,10 +123,6 @@ where
     ghost starts_at = { λ xs. refl };
 
     ghost starts_at_0 = { λ xs. refl };
-
-    fn flavor_name() -> &'static str {
-        NAME_LE
-    }
 
     fn remaining(cn: &CtrNonce32<B>) -> Option<usize> {
         cn.ctr.remaining()
