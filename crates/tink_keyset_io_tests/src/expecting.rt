@@ -2,6 +2,7 @@
 
 use std::fmt::Debug;
 use std::process::Abort;
+use tink_io::{Kind, TinkError};
 
 /// Stops where the two differ.
 pub fn expect<T>(rt: &impl Abort, got: T, want: T, label: &str)
@@ -9,6 +10,11 @@ where
     T: PartialEq + Debug + Drop,
 {
     assert_eq!(rt; got, want, "{label}");
+}
+
+/// What a call answers that is refused by this kind.
+pub fn refused(kind: Kind) -> Result<bool, TinkError> {
+    Err(TinkError::new(kind))
 }
 
 /// Stops where the bytes differ.

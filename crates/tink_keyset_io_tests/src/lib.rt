@@ -1,4 +1,5 @@
-//! Tests of the module paths of Tink, and of keysets from sources and to sinks.
+//! Tests of keysets under a master key, and as they are, through what reads and writes them, and of the module paths of
+//! Tink.
 #![tactic(auto)]
 
 #[cfg(test)]
@@ -6,8 +7,16 @@ mod binary_tests;
 #[cfg(test)]
 mod core_tests;
 #[cfg(test)]
+mod encrypted_tests;
+#[cfg(test)]
+mod ends;
+#[cfg(test)]
 mod expecting;
 #[cfg(test)]
+mod fault_tests;
+#[cfg(test)]
 mod json_tests;
+#[cfg(test)]
+mod plain_tests;
 #[cfg(test)]
 mod stored;

@@ -1,8 +1,10 @@
-//! Tests of `tink_proto` and `tink_proto_keys`.
+//! Tests of `tink_proto`, `tink_proto_keys` and `tink_json`.
 #![tactic(auto)]
 
 #[cfg(test)]
 mod expect;
+#[cfg(test)]
+mod json_texts;
 #[cfg(test)]
 mod key_messages;
 #[cfg(test)]

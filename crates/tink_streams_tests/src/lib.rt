@@ -1,5 +1,6 @@
-//! Writers and readers of streams over memory that fails and moves few bytes, against streams that Python made, and
-//! callers whose contracts follow from theirs.
+//! Segments of both kinds against those that Python made, and the limits of their keys, nonces and tags; writers and
+//! readers of streams over memory that fails and moves few bytes, against streams that Python made, and callers whose
+//! contracts follow from theirs.
 #![tactic(auto)]
 
 #[cfg(test)]
@@ -7,8 +8,16 @@ mod caller_tests;
 #[cfg(test)]
 mod comparing;
 #[cfg(test)]
+mod ctr_hmac_tests;
+#[cfg(test)]
+mod gcm_tests;
+#[cfg(test)]
 mod kind_tests;
 #[cfg(test)]
+mod nonce_tests;
+#[cfg(test)]
 mod reader_tests;
+#[cfg(test)]
+mod segment_callers;
 #[cfg(test)]
 mod writer_tests;

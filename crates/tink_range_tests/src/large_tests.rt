@@ -1,6 +1,6 @@
 //! Large texts by their numbers. The bytes of the text and the segments are counted by the opening.
 
-use crate::callers::segments_of;
+use crate::large_callers::segments_of;
 use std::alloc::Global;
 use std::process::Abort;
 use std::test::Fail;

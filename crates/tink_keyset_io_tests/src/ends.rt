@@ -3,7 +3,7 @@
 ghost use Rattle.std.specs.Prelude.{◌≡◌, ◌≤◌, ⊤, Some, Err};
 ghost use Rattle.tink_io.specs.Faults.{Rose};
 ghost use Rattle.tink_io.specs.declared.error.Kind.TheVariants.{ReadFault, WriteFault};
-ghost use Rattle.tink_encrypted_tests.specs.TestMaster.{bound, bound_drawn, unbound, unbound_told};
+ghost use Rattle.tink_keyset_io_tests.specs.TestMaster.{bound, bound_drawn, unbound, unbound_told};
 
 use std::alloc::Global;
 use tink_io::{Draws, Kind, TinkError};

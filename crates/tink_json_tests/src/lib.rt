@@ -1,7 +1,0 @@
-//! Tests of `tink_json`.
-#![tactic(auto)]
-
-#[cfg(test)]
-mod expect;
-#[cfg(test)]
-mod texts;
