@@ -3,6 +3,7 @@
 mod backend;
 
 ghost use Rattle.std.specs.Prelude.{◌≡◌, ℕ, ◌+◌, ◌-◌, ◌<◌, ◌++◌, List, Some, codes, length, refl};
+ghost use Rattle.std.specs.Fmt.{DisplaysOnOk};
 ghost use Rattle.cipher_stream.specs.Keystream.{Keystream, xored_blocks, stream_of};
 ghost use Rattle.ctr.specs.Counter.{counter_stream};
 
@@ -130,11 +131,7 @@ where
     ghost name = { codes "Ctr" ++ (F.NAME ++ (codes "<" ++ (C.name ++ codes ">"))) };
 
     fn write_alg_name<W: fmt::Write>(f: &mut fmt::Formatter<W>) -> fmt::Result {
-        f.write_str("Ctr")?;
-        f.write_str(F::NAME.as_str())?;
-        f.write_str("<")?;
-        C::write_alg_name(f)?;
-        f.write_str(">")
+        write_name::<C, F, W, B>(f, ">")
     }
 }
 
@@ -146,10 +143,21 @@ where
     ghost debug_output = { λ _. Some (codes "Ctr" ++ (F.NAME ++ (codes "<" ++ (C.name ++ codes "> { ... }")))) };
 
     fn fmt<W: fmt::Write>(&self, f: &mut fmt::Formatter<W>) -> fmt::Result {
-        f.write_str("Ctr")?;
-        f.write_str(F::NAME.as_str())?;
-        f.write_str("<")?;
-        C::write_alg_name(f)?;
-        f.write_str("> { ... }")
+        write_name::<C, F, W, B>(f, "> { ... }")
     }
+}
+
+// Writes the name of a flavour over a cipher, closed by `end`.
+fn write_name<C: AlgorithmName, F: CtrFlavor<B>, W: fmt::Write, const B: usize>(
+    f: &mut fmt::Formatter<W>,
+    end: &str,
+) -> fmt::Result
+    ensures { DisplaysOnOk W.write_str_gives f.old result
+        (Some (codes "Ctr" ++ (F.NAME ++ (codes "<" ++ (C.name ++ end.now))))) f.new }
+{
+    f.write_str("Ctr")?;
+    f.write_str(F::NAME.as_str())?;
+    f.write_str("<")?;
+    C::write_alg_name(f)?;
+    f.write_str(end)
 }

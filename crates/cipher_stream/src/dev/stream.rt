@@ -1,6 +1,6 @@
 //! Tests of stream ciphers by vectors.
 
-ghost use Rattle.std.specs.Prelude.{◌≡◌, ℕ, ◌+◌, ◌-◌, ◌<◌, ◌≤◌, List, length, take, drop, IsOk, OnOk, IsTrue, ◌↔◌};
+ghost use Rattle.std.specs.Prelude.{◌≡◌, ℕ, ◌+◌, ◌-◌, ◌<◌, ◌≤◌, List, length, take, drop, Ok, IsOk, OnOk, IsTrue, ◌↔◌};
 ghost use Rattle.cipher_stream.specs.Keystream.{xored};
 ghost use Rattle.cipher_stream.specs.ByteStream.{ByteStream, to_come, HasMoved, LeavesRoom};
 ghost use Rattle.cipher_stream.specs.StreamVectors.{Passes, PieceTold, BytesTold, VectorTold};
@@ -32,23 +32,32 @@ pub fn stream_cipher_test<C: KeyIvInit<K, I> + StreamCipher + Drop, const K: usi
     if tv.plaintext.len() != tv.ciphertext.len() {
         return Err("mismatch of plaintext and ciphertext lengths");
     }
-    let mut cipher = match C::new_from_slices(tv.key, tv.iv) {
-        Ok(cipher) => cipher,
-        Err(_) => return Err("cipher initialization failure"),
-    };
-    if let Err(text) = test_pieces(&mut cipher, tv.plaintext, tv.ciphertext, 1) {
+    if let Err(text) = test_anew::<C, K, I>(tv, 1) {
         return Err(text);
     }
     for size in 2..256 {
-        let mut cipher = match C::new_from_slices(tv.key, tv.iv) {
-            Ok(cipher) => cipher,
-            Err(_) => return Err("cipher initialization failure"),
-        };
-        if let Err(text) = test_pieces(&mut cipher, tv.plaintext, tv.ciphertext, size) {
+        if let Err(text) = test_anew::<C, K, I>(tv, size) {
             return Err(text);
         }
     }
     Ok(())
+}
+
+// by a cipher of its own, in pieces of this size
+fn test_anew<C: KeyIvInit<K, I> + StreamCipher + Drop, const K: usize, const I: usize>(
+    tv: &TestVector,
+    size: usize,
+) -> Result<(), &'static str>
+    requires some { 1 ≤ size }
+    requires few { size < 256 }
+    requires same_length { length tv.now.plaintext.now ≡ length tv.now.ciphertext.now }
+    ensures told { size ≡ 1 → VectorTold K I C.keyed C.stream C.has tv.now result }
+    ensures again { VectorTold K I C.keyed C.stream C.has tv.now (Ok tt) → IsOk result }
+{
+    match C::new_from_slices(tv.key, tv.iv) {
+        Ok(mut cipher) => test_pieces(&mut cipher, tv.plaintext, tv.ciphertext, size),
+        Err(_) => Err("cipher initialization failure"),
+    }
 }
 
 // in pieces of this size

@@ -1,9 +1,9 @@
 use Rattle.std.proofs.Common.{◌≡◌, ◌+◌, ◌-◌, refl, take, drop, length, arith, subst, length-take, length-drop}
 use Rattle.std.specs.Prelude.{bit_xor}
-use Rattle.cipher_stream.specs.ByteStream.{to_come, bytes_from, HasMoved}
+use Rattle.cipher_stream.specs.ByteStream.{to_come, bytes_from, HasMoved, LeavesFewer}
 use Rattle.cipher_stream.proofs.Applied.{length_so_far}
 use Rattle.cipher_stream.proofs.Places.{moved_both}
-use Rattle.cipher_stream.proofs.Rests.{applied_then}
+use Rattle.cipher_stream.proofs.Rests.{applied_then, leaves_both}
 use Rattle.cipher_stream.proofs.wrapper.BufferedCore+T+array+B+u8.apply.Goals as goal
 
 pub returns-then-at-bytes-clause-value : goal.returns-then-at-bytes-clause-value
@@ -28,3 +28,19 @@ returns-then-at-bytes-clause-moved g c =
     let left : length (take (length cur - at) (drop at cur)) ≡ length old - at = simp (length-take, length-drop) (omega arith) in
     let all : at + (length old - at) ≡ length old = omega arith in
     subst (λ m. HasMoved s m u) all (moved_both s t u at (length old - at) c.apply_rest-at.ensures.moved (subst (λ m. HasMoved t m u) left c.apply_fresh.ensures.moved))
+
+pub returns-then-at-bytes-clause-leaves : goal.returns-then-at-bytes-clause-leaves
+returns-then-at-bytes-clause-leaves g c =
+    let B = g.row.B in
+    let k = g.T.StreamCipherCore.keystream in
+    let r = g.T.StreamCipherCore.remaining in
+    let old = c.args.bytes.now in
+    let at = c.apply_rest-at.result in
+    let s = c.args.self.now in
+    let t = c.apply_rest-at.new.self in
+    let u = c.apply_fresh.new.self in
+    let cur = c.apply_rest-at.new.bytes in
+    let size : length cur ≡ length old = length_so_far bit_xor (to_come (bytes_from B (k s.0) s.1)) old cur at c.apply_rest-at.ensures.value in
+    let left : length (take (length cur - at) (drop at cur)) ≡ length old - at = simp (length-take, length-drop) (omega arith) in
+    let all : at + (length old - at) ≡ length old = omega arith in
+    subst (λ m. LeavesFewer B r s m u) all (leaves_both B (r s.0) (r t.0) (r u.0) s.1 t.1 u.1 at (length old - at) c.apply_rest-at.ensures.leaves (subst (λ m. LeavesFewer B r t m u) left c.apply_fresh.ensures.leaves))

@@ -1,10 +1,10 @@
 use Rattle.std.proofs.Common.{◌≡◌, ℕ, ◌+◌, ◌-◌, ◌*◌, ◌/◌, ◌%◌, ◌≤◌, ◌++◌, ◌∙◌, List, refl, ap, take, drop, length, arith, subst, length-take, length-drop}
 use Rattle.std.proofs.Math.Nat.{mul-mod_left, div-mul-le_self}
 use Rattle.std.specs.Prelude.{bit_xor}
-use Rattle.cipher_stream.specs.ByteStream.{to_come, buffered, HasMoved}
+use Rattle.cipher_stream.specs.ByteStream.{to_come, buffered, HasMoved, LeavesFewer}
 use Rattle.cipher_stream.proofs.Applied.{length_so_far}
 use Rattle.cipher_stream.proofs.Places.{moved_both}
-use Rattle.cipher_stream.proofs.Rests.{applied_then, moved_whole}
+use Rattle.cipher_stream.proofs.Rests.{applied_then, leaves_both, moved_whole}
 use Rattle.cipher_stream.proofs.wrapper.BufferedCore+T+array+B+u8.apply_fresh.Goals as goal
 
 pub apply_blocks-requires : goal.apply_blocks-requires
@@ -40,3 +40,20 @@ returns-then-whole-bytes-clause-moved g c =
     let left : length (take (length cur - at) (drop at cur)) ≡ length old - at = simp (length-take, length-drop) (omega arith) in
     let all : at + (length old - at) ≡ length old = omega arith in
     subst (λ m. HasMoved s m u) all (moved_both s t u at (length old - at) (moved_whole s t B old c.apply_blocks.ensures.moved) (subst (λ m. HasMoved t m u) left c.apply_last.ensures.moved))
+
+pub returns-then-whole-bytes-clause-leaves : goal.returns-then-whole-bytes-clause-leaves
+returns-then-whole-bytes-clause-leaves g c =
+    let B = g.row.B in
+    let r = g.T.StreamCipherCore.remaining in
+    let old = c.args.bytes.now in
+    let s = c.args.self.now in
+    let t = c.apply_blocks.new.self in
+    let u = c.apply_last.new.self in
+    let at : ℕ = length old / B * B in
+    let le : at ≤ length old = div-mul-le_self (length old) B in
+    let cur : List ℕ = c.apply_blocks.new.bytes ++ drop at old in
+    let size : length cur ≡ length old = length_so_far bit_xor (to_come (buffered B g.T.StreamCipherCore.keystream s)) old cur at (ap (λ l. l ++ drop at old) c.apply_blocks.ensures.value) in
+    let front : length (take at old) ≡ at = simp length-take (omega arith) in
+    let left : length (take (length cur - at) (drop at cur)) ≡ length old - at = simp (length-take, length-drop) (omega arith) in
+    let all : at + (length old - at) ≡ length old = omega arith in
+    subst (λ m. LeavesFewer B r s m u) all (leaves_both B (r s.0) (r t.0) (r u.0) s.1 t.1 u.1 at (length old - at) (subst (λ m. LeavesFewer B r s m t) front c.apply_blocks.ensures.leaves) (subst (λ m. LeavesFewer B r t m u) left c.apply_last.ensures.leaves))

@@ -1,4 +1,4 @@
-use Rattle.std.proofs.Common.{◌≡◌, ◌+◌, ◌<◌, ◌∙◌, ap, refl, arith}
+use Rattle.std.proofs.Common.{◌≡◌, ◌+◌, ◌*◌, ◌<◌, ◌∙◌, ap, refl, arith}
 use Rattle.cipher_stream.specs.ByteStream.{bytes_from}
 use Rattle.cipher_stream.proofs.SoughtPlaces.{at_end, past_end, false_is, place_joins, room_of}
 use Rattle.cipher_stream.proofs.wrapper.seeking.BufferedCoreArrayU8StreamCipherSeek.try_seek.Goals as goal
@@ -14,9 +14,10 @@ returns-clause-ok g c =
 pub returns-clause-ahead : goal.returns-clause-ahead
 returns-clause-ahead g c = λ n j e.
     let told = c.in_ok-block.ensures in
-    c.seek_to.ensures.ahead j
-    ∙ ap (λ m. (bytes_from g.row.B (g.T.StreamCipherCore.keystream c.args.self.now.0) c.args.self.now.1).byte_at (m + j))
-    (place_joins (g.N.SeekNum.place c.args.pos) g.row.B n (g.T.Counter.StreamCipherCounter.value c.in_ok-block.block) c.in_ok-block.byte e told.value.0 told.value.1)
+    let n_of = g.T.Counter.StreamCipherCounter.value in
+    let s = bytes_from g.row.B (g.T.StreamCipherCore.keystream c.args.self.now.0) c.args.self.now.1 in
+    ◌∙◌ {b = s.byte_at (n_of c.in_ok-block.block * g.row.B + c.in_ok-block.byte + j)} (c.seek_to.ensures.ahead j)
+    (ap (λ m. s.byte_at (m + j)) (place_joins (g.N.SeekNum.place c.args.pos) g.row.B n (n_of c.in_ok-block.block) c.in_ok-block.byte e told.value.0 told.value.1))
 
 pub returns-then-is_max-clause-ok : goal.returns-then-is_max-clause-ok
 returns-then-is_max-clause-ok g c =
