@@ -2,7 +2,10 @@
 
 ghost use Rattle.std.specs.Prelude.{◌≡◌, IfOk, IsTrue, OnOk};
 ghost use Rattle.std.specs.List.{list_all};
+ghost use Rattle.std.specs.Ordering.{int_eq};
 ghost use Rattle.tink_io.specs.Told.{Answers};
+ghost use Rattle.tink_proto.specs.Enums.{material_number};
+ghost use Rattle.tink_proto.specs.declared.enums.KeyMaterialType.TheVariants.{AsymmetricPrivate};
 ghost use Rattle.tink_registry.specs.Known.{IsOfKnownMaterial};
 ghost use Rattle.keyset_model.specs.Validity as validity;
 ghost use Rattle.tink_building.specs.Given.{given_each};
@@ -12,6 +15,13 @@ use std::alloc::Global;
 use tink_io::{Kind, TinkError};
 use tink_proto::{Key, KeyData, KeyMaterialType, Repeated};
 use tink_registry::{KeyManager, Registry};
+
+// Whether the data is that of a private key.
+fn is_private(key_data: &KeyData) -> bool
+    ensures { result ≡ int_eq key_data.now.key_material_type (material_number AsymmetricPrivate) }
+{
+    key_data.key_material_type == KeyMaterialType::AsymmetricPrivate as i32
+}
 
 // The public part of a key's data.
 fn public_data<M: KeyManager>(
@@ -25,7 +35,7 @@ fn public_data<M: KeyManager>(
     let Some(private) = key_data else {
         return Err(TinkError::new(Kind::InvalidKeyset));
     };
-    if private.key_material_type != KeyMaterialType::AsymmetricPrivate as i32 {
+    if !is_private(private) {
         return Err(TinkError::new(Kind::NotPrivate));
     }
     let manager = registry.get_key_manager(private.type_url.as_str())?;
@@ -60,7 +70,7 @@ fn public_key<M: KeyManager>(
 /// For the first key that gives none: `InvalidKeyset` where it has no data; `NotPrivate` where its material isn't 2;
 /// `UnsupportedKeyType` where no manager has its URL; `NoPrivateKeys` where the manager has no private keys; else the
 /// manager's. `OutOfMemory` may come in place of each.
-#[tactic(auto, using(crate::proofs::GivenEach::one_more, crate::proofs::GivenEach::none_more, crate::proofs::GivenEach::none_yet, keyset_model::proofs::EditLaws::held_more))]
+#[tactic(auto, using(crate::proofs::GivenEach::none_yet))]
 pub fn public_keys<M: KeyManager>(
     alloc: Global,
     keys: &[Key],

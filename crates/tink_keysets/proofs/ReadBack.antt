@@ -3,7 +3,7 @@ use Rattle.std.proofs.Common.{◌≡◌, inl, inr, ◌∙◌, ℕ, List, Some, R
 use Rattle.wire_format.specs.Message.{decoded}
 use Rattle.tink_io.specs.Told.{Answers, made_of, or_refused}
 use Rattle.tink_io.specs.declared.error.Kind.{Kind}
-use Rattle.tink_io.specs.declared.error.Kind.TheVariants.{BadKeyset, InvalidKeyset, OutOfMemory, ReadFault, WriteFault}
+use Rattle.tink_io.specs.declared.error.Kind.TheVariants.{BadKeyset, InvalidKeyset, MasterFailed, OutOfMemory, ReadFault, WriteFault}
 use Rattle.tink_io.specs.declared.error.TinkError.{TinkError}
 use Rattle.tink_proto.specs.Messages.{keyset}
 use Rattle.tink_proto.specs.declared.messages.infos.EncryptedKeyset.{EncryptedKeyset}
@@ -50,3 +50,9 @@ pub same_read : (encrypts : List ℕ → List ℕ → List ℕ → Result (List 
 same_read encrypts decrypts ks text written read draws (Ok ciphertext) is again undoes same =
     ap (λ b. chained handle_of_bytes (by_master b)) (ap (decrypts ciphertext) same ∙ undoes text written draws ciphertext is) ∙ again
 same_read encrypts decrypts ks text written read draws (Err kind) is again undoes same = refl
+
+-- where the master refuses what it encrypted
+pub other_read : (decrypts : List ℕ → List ℕ → Result (List ℕ) Kind) (ks : Keyset) (read : List ℕ) (r : Result (List ℕ) Kind) (ciphertext : List ℕ) (kind : Kind) → r ≡ Ok ciphertext → decrypts ciphertext read ≡ Err kind
+    → chained (decrypted decrypts read) (made_of (with_info ks) (by_master r)) ≡ Err MasterFailed
+other_read decrypts ks read r ciphertext kind is refused =
+    ap (λ (b : Result (List ℕ) Kind). chained (decrypted decrypts read) (made_of (with_info ks) (by_master b))) is ∙ ap (λ (b : Result (List ℕ) Kind). chained handle_of_bytes (by_master b)) refused

@@ -1,5 +1,5 @@
 -- What calls through a reader or a writer answer, from what each of their parts does.
-use Rattle.std.proofs.Common.{◌≡◌, ◌⊎◌, inl, inr, subst, sym, Option, Result, Ok, Err, ℕ}
+use Rattle.std.proofs.Common.{◌≡◌, inl, inr, subst, sym, Option, Result, Ok, Err, ℕ}
 use Rattle.std.specs.Prelude.{OnOk, IfErr}
 use Rattle.tink_io.specs.Told.{Answers}
 use Rattle.tink_io.specs.declared.error.Kind.{Kind}

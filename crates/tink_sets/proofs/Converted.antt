@@ -36,3 +36,18 @@ copied m n h p = same (group_at m p) (group_at n p) (h p)
 
 pub never_refused : {E A : Type 0} (m : BTreeMap (Vec ℕ A) (List E)) (k : Kind) → HasRefused (λ (x : E). Ok x) m k → ⊥
 never_refused m k h = let whole = converted-same h.entries in let refused = h.refused in absurd (cc)
+
+module _ {A B : Type 0} (f : A → Result B Kind) (xs : List A) (i : ℕ) (x d : A) (all : List B) (so_far : converted f xs ≡ made_of (λ vs. all ++ vs) (converted f (drop i xs)))
+    (more : i < length xs) (is : x ≡ get_or xs i d) where
+  left : converted f xs ≡ made_of (λ vs. all ++ vs) (before (f x) (converted f (drop (i + 1) xs)))
+  left = so_far ∙ ap (made_of (λ vs. all ++ vs)) (here f xs i x d more is)
+
+  -- the value at a place is converted, and stands behind those before
+  pub went_on : (v : B) (now : List B) → f x ≡ Ok v → now ≡ all ++ v ∷ [] → converted f xs ≡ made_of (λ vs. now ++ vs) (converted f (drop (i + 1) xs))
+  went_on v now one put =
+      let rest = converted f (drop (i + 1) xs) in
+      left ∙ ap (λ r. made_of (λ vs. all ++ vs) (before r rest)) one ∙ one_more all v rest ∙ ap (λ o. made_of (λ vs. o ++ vs) rest) (sym put)
+
+  -- the value at a place is refused
+  pub stopped : (k : Kind) → f x ≡ Err k → converted f xs ≡ Err k
+  stopped k refused = left ∙ ap (λ r. made_of (λ vs. all ++ vs) (before r (converted f (drop (i + 1) xs)))) refused

@@ -38,7 +38,7 @@ impl<E: CloneIn> Convert<E> for Copies {
 }
 
 // Each of a list, or the first refusal.
-#[tactic(auto, using(crate::proofs::Converted::one_more, crate::proofs::Converted::here, crate::proofs::Converted::none_before))]
+#[tactic(auto, using(crate::proofs::Converted::none_before))]
 fn convert_list<E, C: Convert<E>>(
     alloc: Global,
     entries: &[E],
@@ -49,7 +49,7 @@ fn convert_list<E, C: Convert<E>>(
     for entry in entries {
         match C::convert(alloc, entry) {
             Ok(it) => out.push(it)?,
-            Err(e) => return Err(e),
+            Err(refusal) => return Err(refusal),
         }
     }
     Ok(out)

@@ -66,9 +66,15 @@ fn are_validated(primary: u32, keys: &[Key]) -> bool
 {
     !keys.is_empty()
         && are_well_formed(keys)
-        && enabled_of_id(primary, keys) <= 1
+        && has_at_most_one_primary(primary, keys)
         && some_is_enabled(keys)
         && (some_enabled_has_id(primary, keys) || are_public(keys))
+}
+
+fn has_at_most_one_primary(primary: u32, keys: &[Key]) -> bool
+    ensures { result ≡ validity.has_at_most_one_primary (record { primary_key_id = primary; key = keys.now }) }
+{
+    enabled_of_id(primary, keys) <= 1
 }
 
 fn are_well_formed(keys: &[Key]) -> bool

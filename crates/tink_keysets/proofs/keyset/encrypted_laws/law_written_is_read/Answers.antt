@@ -3,7 +3,7 @@ use Rattle.wire_format.specs.Message.{encoded}
 use Rattle.tink_io.specs.Told.{Answers}
 use Rattle.tink_proto.specs.Messages.{keyset}
 use Rattle.tink_keysets.specs.Encrypted.{encrypted}
-use Rattle.tink_keysets.proofs.ReadBack.{read_written, same_read}
+use Rattle.tink_keysets.proofs.ReadBack.{other_read, read_written, same_read}
 use Rattle.tink_keysets.proofs.keyset.encrypted_laws.law_written_is_read.Goals as goal
 
 pub returns-clause-same : goal.returns-clause-same
@@ -18,3 +18,14 @@ returns-clause-same g c = λ undoes same.
     (same_read encrypts decrypts c.args.h.now text c.args.written.now c.args.read.now c.args.draws.now (encrypts text c.args.written.now c.args.draws.now).0 refl
     c.in_ok-write_with_associated_data.ensures.again undoes same)
     read
+
+pub returns-clause-other : goal.returns-clause-other
+returns-clause-other g c = λ ciphertext kind made refused.
+    let encrypts = g.A.Aead.encrypts c.args.master.now in
+    let decrypts = g.A.Aead.decrypts c.args.master.now in
+    let text : List ℕ = encoded keyset.write c.args.h.now in
+    let read = read_written decrypts c.args.read.now (encrypted encrypts c.args.written.now c.args.draws.now c.args.h.now).0
+    c.default-memory.result c.write_with_associated_data.new.writer c.read_with_associated_data.result
+    c.in_ok-write_with_associated_data.ensures.answer c.read_with_associated_data.ensures.answer in
+    subst (Answers c.read_with_associated_data.result)
+    (other_read decrypts c.args.h.now c.args.read.now (encrypts text c.args.written.now c.args.draws.now).0 ciphertext kind made refused) read

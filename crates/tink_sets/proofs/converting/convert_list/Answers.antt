@@ -1,0 +1,17 @@
+use Rattle.std.proofs.Common.{inl, inr}
+use Rattle.tink_sets.proofs.Converted.{stopped, went_on}
+use Rattle.tink_sets.proofs.converting.convert_list.Goals as goal
+
+pub loop-entry-preserved : goal.loop-entry-preserved
+loop-entry-preserved g c =
+    went_on g.C.Convert.gives c.args.entries.now c.loop-entry.entry-index c.entry-item.result c.entry-item.result c.loop-entry.out c.loop-entry.invariant
+    c.loop-entry-test.true c.entry-item.is c.in-Ok.it c.push.new.self c.in-Ok.ensures.answer c.in_ok-push-in-Ok.ensures.ok
+
+pub returns-in-Err : goal.returns-in-Err
+returns-in-Err g c = record {
+  answer = elim c.in-Err.ensures.answer [
+    | inl memory ↦ inl memory
+    | inr refused ↦ inr (stopped g.C.Convert.gives c.args.entries.now c.loop-entry.entry-index c.entry-item.result c.entry-item.result c.loop-entry.out c.loop-entry.invariant
+        c.loop-entry-test.true c.entry-item.is c.in-Err.refusal.kind refused)
+  ];
+}
