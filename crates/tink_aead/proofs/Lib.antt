@@ -3,3 +3,4 @@ pub mod ComposedKeyFacts
 pub mod EnvelopeFacts
 pub mod Chained
 pub mod EnvelopeSteps
+pub mod SameAnswers

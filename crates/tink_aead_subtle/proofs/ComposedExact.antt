@@ -12,6 +12,19 @@ use Rattle.tink_aead_subtle.specs.NonceAeads.{then_answer}
 use Rattle.tink_aead_subtle.proofs.CounterModeExact.{answer_is, decrypted, decrypts, sealed_is}
 use Rattle.tink_aead_subtle.proofs.Exact.{answered, passed, passes}
 
+-- where neither length is refused and the tag is verified, the cipher answers
+pub composed_is : (decrypts : List ℕ → Result (List ℕ) Kind) (verifies : List ℕ → List ℕ → Result (Unit {0}) Kind) (t : ℕ) (input aad tag message : List ℕ) → t ≤ length input → length aad < 2 ^ 61
+    → tag ≡ drop (length input - t) input → message ≡ authenticated aad (take (length input - t) input) → verifies tag message ≡ Ok tt → composed_decrypts decrypts verifies t input aad ≡ decrypts (take (length input - t) input)
+composed_is decrypts verifies t input aad tag message enough short tag_is message_is verified =
+    let n = length input - t in
+    let opened = decrypts (take n input) in
+    let rest = λ (g m : List ℕ). then_answer (verifies g m) opened in
+    let trial = rest (drop n input) (authenticated aad (take n input)) in
+    ap (λ (b : Bool). if b then Err TooShort else (if nat_lt (length aad) (2 ^ 61) then trial else Err DataTooLong)) (le-ltb (length input) t enough)
+    ∙ ap (λ (b : Bool). if b then trial else Err DataTooLong) (lt-ltb (length aad) (2 ^ 61) short)
+    ∙ ap₂ rest (sym tag_is) (sym message_is)
+    ∙ ap (λ (r : Result (Unit {0}) Kind). then_answer r opened) verified
+
 module _ (key : List ℕ) (iv_size : ℕ) (fits : iv_size ≤ 16) (t : ℕ) (computes : List ℕ → Result (List ℕ) Kind) (verifies : List ℕ → List ℕ → Result (Unit {0}) Kind) (mac : List ℕ → List ℕ) (own : IsMac computes verifies t mac) where
   is_composed : (input aad text : List ℕ) → composed_decrypts (ctr_decrypts key iv_size) verifies t input aad ≡ Ok text → IsComposed key iv_size mac aad text input
   is_composed input aad text e =

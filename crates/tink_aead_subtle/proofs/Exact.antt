@@ -45,6 +45,15 @@ fit_limited most aad text fit =
     ap (λ (b : Bool). if b then Err DataTooLong else (if nat_lt most text then Err TextTooLong else Ok tt)) (le-ltb MOST_DATA aad fit.aad_fits)
     ∙ ap (λ (b : Bool). if b then Err TextTooLong else Ok tt) (le-ltb most text fit.text_fits)
 
+-- a nonce that was drawn and what was sealed under it are the encryption
+pub encryption_ok : (seals : List ℕ → List ℕ → List ℕ → List ℕ) (most : ℕ) (text aad draws nonce left out : List ℕ) → limited most (length aad) (length text) ≡ Ok tt → 12 ≤ length draws → nonce ≡ take 12 draws → left ≡ drop 12 draws
+    → out ≡ nonce ++ seals nonce aad text → ((encryption seals most text aad draws).0 ≡ Ok out) × (left ≡ (encryption seals most text aad draws).1)
+encryption_ok seals most text aad draws nonce left out fits enough nonce_is left_is out_is =
+    let made : Result (List ℕ) Kind × List ℕ = (Ok (take 12 draws ++ seals (take 12 draws) aad text), drop 12 draws) in
+    let e : encryption seals most text aad draws ≡ made =
+    ap (λ (r : Result (Unit {0}) Kind). then_drawn r draws (drawn_seal seals text aad draws)) fits ∙ ap (λ (b : Bool). if b then made else (Err RandomFault, draws)) (le-leb 12 (length draws) enough) in
+    (ap (λ p. p.0) e ∙ ap (λ (k : List ℕ). Ok (k ++ seals k aad text)) (sym nonce_is) ∙ ap Ok (sym out_is), left_is ∙ sym (ap (λ p. p.1) e))
+
 -- what a nonce and what is sealed under it open to, where their lengths are within the limits
 module _ (seals : List ℕ → List ℕ → List ℕ → List ℕ) (opens : List ℕ → List ℕ → List ℕ) (most : ℕ) (back : (nonce aad text : List ℕ) → opens nonce (seals nonce aad text) ≡ text)
     (input aad sealed : List ℕ) (enough : 28 ≤ length input) (fits : limited most (length aad) (length input - 28) ≡ Ok tt) (rest : sealed ≡ drop 12 input) where

@@ -62,9 +62,8 @@ impl<P: Mac + CloneIn> WrappedMac<P> {
         ensures entries { IfOk result (λ copy. HaveSameGroups self.now.ps.entries copy.ps.entries) }
         ensures cause { IfErr result (λ e. e.kind ≡ OutOfMemory) }
     {
-        Ok(WrappedMac {
-            ps: self.ps.try_clone(alloc)?,
-        })
+        let ps = self.ps.try_clone(alloc)?;
+        Ok(WrappedMac { ps })
     }
 }
 
