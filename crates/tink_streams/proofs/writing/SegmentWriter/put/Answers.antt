@@ -1,6 +1,11 @@
 use Rattle.std.proofs.Common.{refl}
 use Rattle.tink_streams.proofs.writing.SegmentWriter.put.Goals as goal
 
+pub returns-in-Err-clause-answer : goal.returns-in-Err-clause-answer
+returns-in-Err-clause-answer g c =
+    let sent = c.in-Err.ensures in
+    record { kind = sent.refused; failed = refl; held = refl; counted = refl; begun = rw c.deref_mut-2.ensures.value at sent.prefix; rose = sent.rose }
+
 pub returns-in-Err-clause-sealer : goal.returns-in-Err-clause-sealer
 returns-in-Err-clause-sealer g c = refl
 
