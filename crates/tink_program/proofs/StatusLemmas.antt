@@ -1,5 +1,6 @@
 -- What the words' command says by its outcome, the program says by its status.
 use Rattle.std.proofs.Common.{◌≡◌, ◌⊎◌, inl, inr, ◌<◌, ℕ, List, true, refl, ap, arith}
+use Rattle.std.proofs.lemmas.Bool.{false≢true}
 use Rattle.tink_io.specs.Faults.{Rose}
 use Rattle.tink_io.specs.declared.error.Kind.{Kind}
 use Rattle.tink_io.specs.declared.error.Kind.TheVariants.{OutOfMemory, ReadFault, WriteFault, BadKeyset, InvalidKeyset, UnsupportedKeyType, InvalidKey, NoPrimary, WrongPrimitive, UnsupportedHash, TooManySegments, NoMatchingKey, Truncated, UnknownTemplate, NoFreshId, InputTooLong, BadToken, MacMismatch}
@@ -81,7 +82,7 @@ want_status words old new same = record {
   usage = record { cause = λ is. absurd (omega (arith, is)); comes = λ _. inr refl };
   own = λ a spelled. own_ten a;
   refused = λ a kind spelled is. inr refl;
-  refused_cause = λ a spelled among. absurd (cc among);
+  refused_cause = λ a spelled among. absurd (false≢true among);
   cause = record {
     want = λ _. (sink_left old new same, inr same);
     read_fault = λ is. absurd (omega (arith, is));
@@ -106,7 +107,7 @@ early_kind WrongPrimitive is = tt
 early_kind UnsupportedHash is = tt
 early_kind UnknownTemplate is = tt
 early_kind NoFreshId is = tt
-early_kind _ is = absurd (cc is)
+early_kind _ is = absurd (false≢true is)
 
 unwritten_kind : (kind : Kind) → IsAmong unwritten_statuses (kind_status kind) → IsUnwrittenKind kind
 unwritten_kind OutOfMemory is = tt
@@ -123,7 +124,7 @@ unwritten_kind WrongPrimitive is = tt
 unwritten_kind UnsupportedHash is = tt
 unwritten_kind UnknownTemplate is = tt
 unwritten_kind NoFreshId is = tt
-unwritten_kind _ is = absurd (cc is)
+unwritten_kind _ is = absurd (false≢true is)
 
 unwritten_by : (a : Asked) (kind : Kind) → IsUnwrittenKind kind → IsUnwrittenBy a kind
 unwritten_by (Ranging keyset aad start len) kind unwritten = inl unwritten
@@ -136,19 +137,19 @@ late_by : (a : Asked) (kind : Kind) → IsAmong (late_statuses a) (kind_status k
 late_by (Ranging keyset aad start len) ReadFault among = inr (inl tt)
 late_by (Ranging keyset aad start len) TooManySegments among = inr (inr tt)
 late_by (Ranging keyset aad start len) (Truncated n) among = inr (inr tt)
-late_by (Ranging keyset aad start len) _ among = absurd (cc among)
+late_by (Ranging keyset aad start len) _ among = absurd (false≢true among)
 late_by (Signing keyset) ReadFault among = tt
-late_by (Signing keyset) _ among = absurd (cc among)
+late_by (Signing keyset) _ among = absurd (false≢true among)
 late_by (Verifying keyset) ReadFault among = tt
-late_by (Verifying keyset) _ among = absurd (cc among)
-late_by _ kind among = absurd (cc among)
+late_by (Verifying keyset) _ among = absurd (false≢true among)
+late_by _ kind among = absurd (false≢true among)
 
 -- 0 is none of them
 none_done : {A : Type 0} (a : Asked) → IsAmong (late_statuses a) 0 → A
-none_done (Ranging keyset aad start len) among = absurd (cc among)
-none_done (Signing keyset) among = absurd (cc among)
-none_done (Verifying keyset) among = absurd (cc among)
-none_done _ among = absurd (cc among)
+none_done (Ranging keyset aad start len) among = absurd (false≢true among)
+none_done (Signing keyset) among = absurd (false≢true among)
+none_done (Verifying keyset) among = absurd (false≢true among)
+none_done _ among = absurd (false≢true among)
 
 want_kind : (kind : Kind) → kind_status kind ≡ 10 → kind ≡ OutOfMemory
 want_kind OutOfMemory is = refl
@@ -158,8 +159,8 @@ want_kind _ is = absurd (omega (arith, is))
 pub command_keeps : {S K : Type 0} (words : List (List ℕ)) (a : Asked) (outcome : Outcome) (s t : S) (k l : K) → Spells words a → Leaves (reads_first a) (λ kind. IsUnwrittenBy a kind) outcome s t k l
     → KeepsEnds words (status_of outcome) s t k l
 command_keeps words a Done s t k l spelled left = record {
-  unread = λ is. absurd (cc is);
-  unwritten = λ is. absurd (cc is);
+  unread = λ is. absurd (false≢true is);
+  unwritten = λ is. absurd (false≢true is);
   late = λ b other among. none_done b among;
   want = λ is. absurd (omega (arith, is));
 }

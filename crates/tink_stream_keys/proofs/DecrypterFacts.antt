@@ -7,13 +7,13 @@ use Rattle.std.proofs.lemmas.List.{length-take-le, length-drop, get_or-take, get
 use Rattle.tink_io.specs.declared.error.Kind.{Kind}
 use Rattle.tink_io.specs.declared.error.TinkError.{TinkError}
 use Rattle.stream_model.specs.Cut.{numbered}
-use Rattle.stream_model.specs.Key.{StreamKey, IsUsable, first_segment, header_length, nonce_size, overhead, segment_at}
-use Rattle.stream_model.specs.Opening.{HasFront, begins_front, front_length, header_of, opening_key, under}
+use Rattle.stream_model.specs.Key.{StreamKey, IsUsable, first_segment, header_length, nonce_size, overhead}
+use Rattle.stream_model.specs.Opening.{HasFront, begins_front, front_length, header_of, opening_key}
 use Rattle.tink_segments.specs.StreamSegments.{segment_by}
 use Rattle.tink_segments.specs.declared.stream_segment.StreamSegment.{StreamSegment}
 use Rattle.tink_stream_keys.specs.Decrypters.{DecrypterMeans, DecrypterRefused, IsDecrypter, IsHeader, OpensBehind}
 use Rattle.tink_stream_keys.specs.StreamingKeys.{Derives, IsDerived, deriving_hash}
-use Rattle.tink_stream_keys.proofs.DerivedKeys.{derived_nonce, derived_overhead, derived_under, derives_nothing}
+use Rattle.tink_stream_keys.proofs.DerivedKeys.{derived_nonce, derived_overhead, derived_under, underived}
 use Rattle.tink_stream_keys.proofs.NewWriterSteps.{hash_refusal}
 
 -- what is derived with the salt of a header is its cipher
@@ -42,8 +42,7 @@ decrypter_means k aad H n (Err e) usable header salt d = hash_is_refused k H e.k
 -- where it is refused no keys are derived
 pub none_derived : (k : StreamKey) (aad H salt : List ℕ) (r : Result StreamSegment TinkError) → Derives k aad salt r → IfErr r (λ _. IsHeader k H → (opening_key aad k).seg H ≡ None)
 none_derived k aad H salt (Ok cipher) d = tt
-none_derived k aad H salt (Err e) d = λ _.
-    ap (λ o. under o (λ keys. segment_at k keys (drop (k.derived + 1) H))) (derives_nothing k.hkdf_hash e.kind k.main (take k.derived (drop 1 H)) aad _ d)
+none_derived k aad H salt (Err e) d = λ _. underived k aad H e.kind d
 
 both_true : (a b : Bool) → (a && b) ≡ true → (a ≡ true) × (b ≡ true)
 both_true true b e = (refl, e)

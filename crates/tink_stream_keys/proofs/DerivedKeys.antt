@@ -78,3 +78,8 @@ derived_under k aad H cipher d =
     ap (λ o. under o (λ keys. segment_at k keys (drop (k.derived + 1) H))) d.keys_are
     ∙ ap (λ s. Some (numbered s (nonce_size k) (drop (k.derived + 1) H))) (sym (derived_segments k aad (take k.derived (drop 1 H)) cipher d))
     ∙ ap (λ n. Some (numbered (segment_by cipher) (nonce_size k) (drop n H))) place
+
+-- no keys are derived under a header by a hash that is refused
+pub underived : (k : StreamKey) (aad H : List ℕ) (kind : Kind) → deriving_hash k.hkdf_hash ≡ Err kind → (opening_key aad k).seg H ≡ None
+underived k aad H kind e =
+    ap (λ o. under o (λ keys. segment_at k keys (drop (k.derived + 1) H))) (derives_nothing k.hkdf_hash kind k.main (take k.derived (drop 1 H)) aad (derived_bytes_of k.kind k.derived) e)

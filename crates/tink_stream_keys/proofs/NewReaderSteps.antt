@@ -5,12 +5,13 @@ use Rattle.std.specs.declared.option.Option.{Option}
 use Rattle.std.specs.Io.KnownBytes.{Consumes, IsAtEnd, Keeps, prepend_known}
 use Rattle.std.proofs.KnownBytes.{prepend_known-nil}
 use Rattle.tink_io.specs.declared.error.Kind.{Kind}
+use Rattle.tink_io.specs.declared.error.Kind.TheVariants.{ReadFault, NoMatchingKey}
 use Rattle.stream_model.specs.Cut.{numbered}
 use Rattle.stream_model.specs.Key.{StreamKey, first_segment, header_length, nonce_size, overhead}
 use Rattle.stream_model.specs.Opening.{opening_key}
 use Rattle.tink_streams.specs.declared.progress.Progress.TheVariants.{Running}
 use Rattle.tink_segments.specs.declared.stream_segment.StreamSegment.{StreamSegment}
-use Rattle.tink_stream_keys.specs.Decrypting.{HasNoHeader, IsNewReader, NewReaderRefused, ReadsHeader}
+use Rattle.tink_stream_keys.specs.Decrypting.{HasNoHeader, HeaderRefused, IsNewReader, NewReaderRefused, ReadsHeader}
 use Rattle.tink_segments.specs.StreamSegments.{segment_by}
 use Rattle.tink_stream_keys.specs.StreamingKeys.{IsDerived, deriving_hash}
 use Rattle.tink_streams.specs.TextReading.{TextMoment}
@@ -40,6 +41,12 @@ short_header k a b old new e h few end = record { bytes = new; read = consumed a
 -- another byte stands in front
 pub other_header : (k : StreamKey) (a b : Option (List ℕ)) (old new : List ℕ) → old ≡ [] → Keeps (prepend_known old a) (prepend_known new b) → length new ≡ header_length k → (get_or new 0 0 ≡ header_length k → ⊥) → HasNoHeader k a b
 other_header k a b old new e h whole other = record { bytes = new; read = consumed a b old new e h; cause = inr (whole, other) }
+
+-- a header is refused
+pub header_refused : {R : Type 0} (left : R → Option (List ℕ)) (faults : R → ℕ) (k : StreamKey) (old new : R) (kind : Kind) → HeaderRefused k (left old) (left new) (faults old) (faults new) kind → NewReaderRefused left faults k old new kind
+header_refused left faults k old new ReadFault h = h
+header_refused left faults k old new NoMatchingKey h = h
+header_refused left faults k old new _ h = absurd h
 
 -- the hash is refused
 pub reader_hash_refused : {R : Type 0} (left : R → Option (List ℕ)) (faults : R → ℕ) (k : StreamKey) (old new : R) (header : List ℕ) (kind : Kind) → ReadsHeader k (left old) (left new) header → deriving_hash k.hkdf_hash ≡ Err kind

@@ -1,7 +1,7 @@
 -- Whether a stream begins under a key, by the bytes that are held of it.
 use Rattle.std.proofs.Common.{◌≡◌, inl, inr, ◌≤◌, ◌<◌, ◌+◌, ◌-◌, ℕ, Bool, List, [], ◌∷◌, ◌++◌, length, take, drop, Some, None, IfSome, ap, sym, ◌∙◌, subst, arith, length-append, length-drop, bytes_eq, nat_eq, slice_index, ◌&&◌}
 use Rattle.std.proofs.lemmas.List.{take-append-le, drop-append-le, drop-take, get_or_append_left}
-use Rattle.std.specs.Prelude.{MatchResult, Result, Ok, Err, Vec, false, true}
+use Rattle.std.specs.Prelude.{MatchResult, Result, Ok, Err, Vec, false, true, vec_capacity}
 use Rattle.std.specs.declared.option.Option.{Option}
 use Rattle.std.specs.Io.KnownBytes.{Keeps, prepend_known}
 use Rattle.std.proofs.KnownBytes.{Keeps-trans}
@@ -121,3 +121,11 @@ pub trial_means : {D : Type 0} {g : Ghosts D} {Z : Type 0} (k : OpeningKey) (non
     → TrialMeans k nonce_size old new filled r
 trial_means k nonce_size old new filled begins b prefix (Ok x) is does fails = subst (DoesBegin k nonce_size old new filled) (sym is.1) (does is.0)
 trial_means {Z = Z} k nonce_size old new filled begins b prefix (Err p) is does fails = subst (λ (q : Vec ℕ Z). DoesNotBegin k old new q) (sym is.1) (fails is.0)
+
+-- the memory of a prefix is in the opener or is handed back
+pub prefix_kept : {D : Type 0} {g : Ghosts D} {Z : Type 0} (begins : Bool) (b : Begun D g) (prefix : Vec ℕ Z) (r : Result (Begun D g) (Vec ℕ Z)) (n : ℕ)
+    → vec_capacity b.opener.prefix ≡ vec_capacity prefix → vec_capacity prefix ≡ n
+    → MatchResult r (λ x. (begins ≡ true) × (x ≡ b)) (λ p. (begins ≡ false) × (p ≡ prefix))
+    → MatchResult r (λ x. vec_capacity x.opener.prefix ≡ n) (λ p. vec_capacity p ≡ n)
+prefix_kept begins b prefix (Ok x) n same room is = ap (λ y. vec_capacity y.opener.prefix) is.1 ∙ same ∙ room
+prefix_kept begins b prefix (Err p) n same room is = ap (λ q. vec_capacity q) is.1 ∙ room

@@ -1,8 +1,10 @@
 use Rattle.std.proofs.Common.{refl}
-use Rattle.tink_program.proofs.KeysetLemmas.{keyset_promised, line_outcome}
+use Rattle.std.proofs.lemmas.Bool.{false≢true}
+use Rattle.tink_program.proofs.KeysetLemmas.{keyset_promised, line_leaves, line_outcome}
+use Rattle.tink_program.proofs.LargeLemmas.{large_outcome, large_promised}
 use Rattle.tink_program.proofs.RangeLemmas.{range_leaves, range_outcome, range_promised}
 use Rattle.tink_program.proofs.RewrapLemmas.{rewrap_leaves, rewrap_outcome, rewrap_promised}
-use Rattle.tink_program.proofs.StreamLemmas.{leaves_by, open_promised, seal_outcome, seal_promised}
+use Rattle.tink_program.proofs.StreamLemmas.{leaves_by, open_outcome, open_promised, seal_outcome, seal_promised}
 use Rattle.tink_program.proofs.TokenLemmas.{sign_leaves, sign_promised, token_outcome, verify_leaves, verify_promised}
 use Rattle.tink_run_tokens.specs.Tokens.{RefusesSigning, RefusesVerifying, SignsTo, VerifiesTo}
 use Rattle.tink_program.proofs.program.done.Goals as goal
@@ -72,3 +74,111 @@ returns-in-Rewrap-clause-early g c =
 
 pub returns-in-Rewrap-clause-promised : goal.returns-in-Rewrap-clause-promised
 returns-in-Rewrap-clause-promised g c = rw (c.in-Rewrap.is, c.outcome_of-in-Rewrap.ensures) (rewrap_promised _ _ _ _ c.run_rewrap.result c.run_rewrap.ensures.moved)
+
+pub returns-in-Seal-clause-kept : goal.returns-in-Seal-clause-kept
+returns-in-Seal-clause-kept g c = rw c.in-Seal.is (λ is. absurd (false≢true is))
+
+pub returns-in-Seal-clause-source : goal.returns-in-Seal-clause-source
+returns-in-Seal-clause-source g c = c.run_seal.ensures.source
+
+pub returns-in-Seal-clause-sink : goal.returns-in-Seal-clause-sink
+returns-in-Seal-clause-sink g c = c.run_seal.ensures.sink
+
+pub returns-in-Open-clause-kept : goal.returns-in-Open-clause-kept
+returns-in-Open-clause-kept g c = rw c.in-Open.is (λ is. absurd (false≢true is))
+
+pub returns-in-Open-clause-source : goal.returns-in-Open-clause-source
+returns-in-Open-clause-source g c = c.run_open.ensures.source
+
+pub returns-in-Open-clause-sink : goal.returns-in-Open-clause-sink
+returns-in-Open-clause-sink g c = c.run_open.ensures.sink
+
+pub returns-in-Keygen-clause-kept : goal.returns-in-Keygen-clause-kept
+returns-in-Keygen-clause-kept g c = λ _. refl
+
+pub returns-in-Keygen-clause-source : goal.returns-in-Keygen-clause-source
+returns-in-Keygen-clause-source g c = g.met.S.Source.same_refl _
+
+pub returns-in-Keygen-clause-sink : goal.returns-in-Keygen-clause-sink
+returns-in-Keygen-clause-sink g c = c.write_new.ensures.sink
+
+pub returns-in-Rotate-clause-kept : goal.returns-in-Rotate-clause-kept
+returns-in-Rotate-clause-kept g c = λ _. refl
+
+pub returns-in-Rotate-clause-source : goal.returns-in-Rotate-clause-source
+returns-in-Rotate-clause-source g c = g.met.S.Source.same_refl _
+
+pub returns-in-Rotate-clause-sink : goal.returns-in-Rotate-clause-sink
+returns-in-Rotate-clause-sink g c = c.write_rotated.ensures.sink
+
+pub returns-in-Large-clause-kept : goal.returns-in-Large-clause-kept
+returns-in-Large-clause-kept g c = λ _. refl
+
+pub returns-in-Large-clause-source : goal.returns-in-Large-clause-source
+returns-in-Large-clause-source g c = g.met.S.Source.same_refl _
+
+pub returns-in-Large-clause-sink : goal.returns-in-Large-clause-sink
+returns-in-Large-clause-sink g c = c.write_large.ensures.sink
+
+pub returns-in-Range-clause-kept : goal.returns-in-Range-clause-kept
+returns-in-Range-clause-kept g c = rw c.in-Range.is (λ is. absurd (false≢true is))
+
+pub returns-in-Range-clause-source : goal.returns-in-Range-clause-source
+returns-in-Range-clause-source g c = c.write_range.ensures.source
+
+pub returns-in-Range-clause-sink : goal.returns-in-Range-clause-sink
+returns-in-Range-clause-sink g c = c.write_range.ensures.sink
+
+pub returns-in-Sign-clause-kept : goal.returns-in-Sign-clause-kept
+returns-in-Sign-clause-kept g c = rw c.in-Sign.is (λ is. absurd (false≢true is))
+
+pub returns-in-Sign-clause-source : goal.returns-in-Sign-clause-source
+returns-in-Sign-clause-source g c = c.write_token.ensures.source
+
+pub returns-in-Sign-clause-sink : goal.returns-in-Sign-clause-sink
+returns-in-Sign-clause-sink g c = c.write_token.ensures.sink
+
+pub returns-in-Verify-clause-kept : goal.returns-in-Verify-clause-kept
+returns-in-Verify-clause-kept g c = rw c.in-Verify.is (λ is. absurd (false≢true is))
+
+pub returns-in-Verify-clause-source : goal.returns-in-Verify-clause-source
+returns-in-Verify-clause-source g c = c.write_payload.ensures.source
+
+pub returns-in-Verify-clause-sink : goal.returns-in-Verify-clause-sink
+returns-in-Verify-clause-sink g c = c.write_payload.ensures.sink
+
+pub returns-in-Rewrap-clause-kept : goal.returns-in-Rewrap-clause-kept
+returns-in-Rewrap-clause-kept g c = rw c.in-Rewrap.is (λ is. absurd (false≢true is))
+
+pub returns-in-Rewrap-clause-source : goal.returns-in-Rewrap-clause-source
+returns-in-Rewrap-clause-source g c = c.run_rewrap.ensures.source
+
+pub returns-in-Rewrap-clause-sink : goal.returns-in-Rewrap-clause-sink
+returns-in-Rewrap-clause-sink g c = c.run_rewrap.ensures.sink
+
+pub returns-in-Open-clause-means : goal.returns-in-Open-clause-means
+returns-in-Open-clause-means g c = rw (c.in-Open.is, c.outcome_of-in-Open.ensures) (open_outcome _ _ _ _ c.run_open.result c.run_open.ensures.ran)
+
+pub returns-in-Keygen-clause-means : goal.returns-in-Keygen-clause-means
+returns-in-Keygen-clause-means g c = rw (c.in-Keygen.is, c.outcome_of-in-Keygen.ensures) (line_outcome _ _ _ c.write_new.result refl refl c.write_new.ensures.answer)
+
+pub returns-in-Keygen-clause-early : goal.returns-in-Keygen-clause-early
+returns-in-Keygen-clause-early g c = rw (c.in-Keygen.is, c.outcome_of-in-Keygen.ensures) (line_leaves c.write_new.result _ _ _ c.write_new.ensures.early)
+
+pub returns-in-Keygen-clause-promised : goal.returns-in-Keygen-clause-promised
+returns-in-Keygen-clause-promised g c = rw (c.in-Keygen.is, c.outcome_of-in-Keygen.ensures) (keyset_promised _ _ _ _ (line_outcome _ _ _ c.write_new.result refl refl c.write_new.ensures.answer))
+
+pub returns-in-Rotate-clause-means : goal.returns-in-Rotate-clause-means
+returns-in-Rotate-clause-means g c = rw (c.in-Rotate.is, c.outcome_of-in-Rotate.ensures) (line_outcome _ _ _ c.write_rotated.result refl refl c.write_rotated.ensures.answer)
+
+pub returns-in-Rotate-clause-early : goal.returns-in-Rotate-clause-early
+returns-in-Rotate-clause-early g c = rw (c.in-Rotate.is, c.outcome_of-in-Rotate.ensures) (line_leaves c.write_rotated.result _ _ _ c.write_rotated.ensures.early)
+
+pub returns-in-Large-clause-means : goal.returns-in-Large-clause-means
+returns-in-Large-clause-means g c = rw (c.in-Large.is, c.outcome_of-in-Large.ensures) (large_outcome _ _ _ c.write_large.result refl refl c.write_large.ensures.answer)
+
+pub returns-in-Large-clause-early : goal.returns-in-Large-clause-early
+returns-in-Large-clause-early g c = rw (c.in-Large.is, c.outcome_of-in-Large.ensures) (line_leaves c.write_large.result _ _ _ c.write_large.ensures.early)
+
+pub returns-in-Large-clause-promised : goal.returns-in-Large-clause-promised
+returns-in-Large-clause-promised g c = rw (c.in-Large.is, c.outcome_of-in-Large.ensures) (large_promised _ _ _ _ (large_outcome _ _ _ c.write_large.result refl refl c.write_large.ensures.answer))

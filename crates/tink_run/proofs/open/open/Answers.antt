@@ -1,4 +1,4 @@
-use Rattle.std.proofs.Common.{◌≡◌, ◌+◌, ℕ, List, map, ap, sym, ◌∙◌, subst, vec_len}
+use Rattle.std.proofs.Common.{◌≡◌, ◌+◌, ℕ, List, map, ap, sym, ◌∙◌, subst, vec_len, arith}
 use Rattle.std.proofs.lemmas.Simd.{map-map}
 use Rattle.stream_model.specs.Opening.{OpeningKey, opening_key}
 use Rattle.tink_stream_keys.specs.StreamKinds.{key_in_set}
@@ -51,3 +51,36 @@ returns-in_err-keys-clause-early g c = leaves_same c.from_residual.result c.args
 
 pub returns-in_err-trial-clause-early : goal.returns-in_err-trial-clause-early
 returns-in_err-trial-clause-early g c = leaves_same c.from_residual-in_err-trial.result c.args.source.now c.args.sink.now
+
+pub returns-in_err-keys-clause-later : goal.returns-in_err-keys-clause-later
+returns-in_err-keys-clause-later g c = record { reads = omega arith; writes = omega arith }
+
+pub returns-in_err-keys-clause-source : goal.returns-in_err-keys-clause-source
+returns-in_err-keys-clause-source g c = g.met.S.Source.same_refl _
+
+pub returns-in_err-keys-clause-sink : goal.returns-in_err-keys-clause-sink
+returns-in_err-keys-clause-sink g c = g.met.K.Sink.same_refl _
+
+pub returns-in_err-trial-clause-later : goal.returns-in_err-trial-clause-later
+returns-in_err-trial-clause-later g c = record { reads = omega arith; writes = omega arith }
+
+pub returns-in_err-trial-clause-source : goal.returns-in_err-trial-clause-source
+returns-in_err-trial-clause-source g c = g.met.S.Source.same_refl _
+
+pub returns-in_err-trial-clause-sink : goal.returns-in_err-trial-clause-sink
+returns-in_err-trial-clause-sink g c = g.met.K.Sink.same_refl _
+
+pub returns-clause-order : goal.returns-clause-order
+returns-clause-order g c = c.in_ok-keys.ensures.order
+
+pub returns-clause-unwritten : goal.returns-clause-unwritten
+returns-clause-unwritten g c = c.open_under.ensures.unwritten
+
+pub returns-clause-later : goal.returns-clause-later
+returns-clause-later g c = c.open_under.ensures.later
+
+pub returns-clause-source : goal.returns-clause-source
+returns-clause-source g c = c.open_under.ensures.source
+
+pub returns-clause-sink : goal.returns-clause-sink
+returns-clause-sink g c = c.open_under.ensures.sink

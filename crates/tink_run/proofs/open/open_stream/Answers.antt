@@ -88,3 +88,30 @@ returns-in_err-open_next-in_default g c =
       source = g.met.S.Source.same_trans _ _ _ c.loop-bytes.invariant.same_source c.open_next.ensures.same;
       sink = g.met.K.Sink.same_trans _ _ _ c.loop-bytes.invariant.same_sink c.write_all.ensures.same;
     }
+
+pub returns-in_err-open_first-clause-later : goal.returns-in_err-open_first-clause-later
+returns-in_err-open_first-clause-later g c = record { reads = c.in_err-open_first.ensures.later; writes = omega arith }
+
+pub returns-in_err-open_first-clause-source : goal.returns-in_err-open_first-clause-source
+returns-in_err-open_first-clause-source g c = c.in_err-open_first.ensures.same
+
+pub returns-in_err-open_first-clause-sink : goal.returns-in_err-open_first-clause-sink
+returns-in_err-open_first-clause-sink g c = g.met.K.Sink.same_refl _
+
+pub returns-in_err-write_all-clause-later : goal.returns-in_err-write_all-clause-later
+returns-in_err-write_all-clause-later g c = record { reads = c.loop-bytes.invariant.reads; writes = omega (arith, c.loop-bytes.invariant.writes, c.in_err-write_all.ensures.later) }
+
+pub returns-in_err-write_all-clause-source : goal.returns-in_err-write_all-clause-source
+returns-in_err-write_all-clause-source g c = c.loop-bytes.invariant.same_source
+
+pub returns-in_err-write_all-clause-sink : goal.returns-in_err-write_all-clause-sink
+returns-in_err-write_all-clause-sink g c = g.met.K.Sink.same_trans _ _ _ c.loop-bytes.invariant.same_sink c.in_err-write_all.ensures.same
+
+pub returns-in-Ended-clause-later : goal.returns-in-Ended-clause-later
+returns-in-Ended-clause-later g c = record { reads = c.loop-bytes.invariant.reads; writes = omega (arith, c.loop-bytes.invariant.writes, c.in_ok-write_all.ensures.later) }
+
+pub returns-in-Ended-clause-source : goal.returns-in-Ended-clause-source
+returns-in-Ended-clause-source g c = c.loop-bytes.invariant.same_source
+
+pub returns-in-Ended-clause-sink : goal.returns-in-Ended-clause-sink
+returns-in-Ended-clause-sink g c = g.met.K.Sink.same_trans _ _ _ c.loop-bytes.invariant.same_sink c.in_ok-write_all.ensures.same

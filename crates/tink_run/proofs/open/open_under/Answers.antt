@@ -41,3 +41,21 @@ returns-in_err-reader-clause-unwritten g c =
 
 pub returns-clause-unwritten : goal.returns-clause-unwritten
 returns-clause-unwritten g c = c.open_stream.ensures.unwritten
+
+pub returns-in_err-reader-clause-later : goal.returns-in_err-reader-clause-later
+returns-in_err-reader-clause-later g c = record { reads = c.in_err-reader.ensures.later; writes = omega arith }
+
+pub returns-in_err-reader-clause-source : goal.returns-in_err-reader-clause-source
+returns-in_err-reader-clause-source g c = c.in_err-reader.ensures.same
+
+pub returns-in_err-reader-clause-sink : goal.returns-in_err-reader-clause-sink
+returns-in_err-reader-clause-sink g c = g.met.K.Sink.same_refl _
+
+pub returns-clause-later : goal.returns-clause-later
+returns-clause-later g c = record { reads = omega (arith, c.in_ok-reader.ensures.later, c.open_stream.ensures.later.reads); writes = c.open_stream.ensures.later.writes }
+
+pub returns-clause-source : goal.returns-clause-source
+returns-clause-source g c = g.met.S.Source.same_trans _ _ _ c.in_ok-reader.ensures.same c.open_stream.ensures.source
+
+pub returns-clause-sink : goal.returns-clause-sink
+returns-clause-sink g c = c.open_stream.ensures.sink

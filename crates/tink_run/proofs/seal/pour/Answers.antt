@@ -51,3 +51,30 @@ pub returns-in-Err-clause-answer : goal.returns-in-Err-clause-answer
 returns-in-Err-clause-answer g c =
     let poured = c.loop-n.invariant.poured in
     rw c.new.ensures (record { text = poured.text; read = Consumes-kept _ _ _ _ poured.read c.in-Err.ensures.bytes; refused = poured.wrote }, Rose-earlier _ _ _ c.loop-n.invariant.reads c.in-Err.ensures.cause.failed)
+
+pub returns-in_err-write-in-Ok-clause-sealer : goal.returns-in_err-write-in-Ok-clause-sealer
+returns-in_err-write-in-Ok-clause-sealer g c = c.write.ensures.sealer ∙ c.loop-n.invariant.sealer
+
+pub returns-in_err-write-in-Ok-clause-read_count : goal.returns-in_err-write-in-Ok-clause-read_count
+returns-in_err-write-in-Ok-clause-read_count g c = omega (arith, c.loop-n.invariant.reads, c.in-Ok.ensures.cause.later)
+
+pub returns-in_err-write-in-Ok-clause-write_count : goal.returns-in_err-write-in-Ok-clause-write_count
+returns-in_err-write-in-Ok-clause-write_count g c = omega (arith, c.loop-n.invariant.writes, c.write.ensures.later)
+
+pub returns-in_err-write-in-Ok-clause-source : goal.returns-in_err-write-in-Ok-clause-source
+returns-in_err-write-in-Ok-clause-source g c = g.met.S.Source.same_trans _ _ _ c.loop-n.invariant.same_source c.in-Ok.ensures.same
+
+pub returns-in_err-write-in-Ok-clause-sink : goal.returns-in_err-write-in-Ok-clause-sink
+returns-in_err-write-in-Ok-clause-sink g c = g.met.K.Sink.same_trans _ _ _ c.loop-n.invariant.same_sink c.write.ensures.same
+
+pub returns-in-Err-clause-sealer : goal.returns-in-Err-clause-sealer
+returns-in-Err-clause-sealer g c = c.loop-n.invariant.sealer
+
+pub returns-in-Err-clause-write_count : goal.returns-in-Err-clause-write_count
+returns-in-Err-clause-write_count g c = c.loop-n.invariant.writes
+
+pub returns-in-Err-clause-source : goal.returns-in-Err-clause-source
+returns-in-Err-clause-source g c = g.met.S.Source.same_trans _ _ _ c.loop-n.invariant.same_source c.in-Err.ensures.same
+
+pub returns-in-Err-clause-sink : goal.returns-in-Err-clause-sink
+returns-in-Err-clause-sink g c = c.loop-n.invariant.same_sink

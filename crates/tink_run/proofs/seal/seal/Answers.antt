@@ -68,3 +68,36 @@ pub returns-in_err-piece-clause-answer : goal.returns-in_err-piece-clause-answer
 returns-in_err-piece-clause-answer g c =
     let p = err_from_is_err_and c.from_residual.result c.from_residual.ensures.1 in
     rw (p.1, p.2) (record { untouched = refl; undrawn = refl })
+
+pub returns-in_err-piece-clause-later : goal.returns-in_err-piece-clause-later
+returns-in_err-piece-clause-later g c = record { reads = omega arith; writes = omega arith }
+
+pub returns-in_err-piece-clause-source : goal.returns-in_err-piece-clause-source
+returns-in_err-piece-clause-source g c = g.met.S.Source.same_refl _
+
+pub returns-in_err-piece-clause-sink : goal.returns-in_err-piece-clause-sink
+returns-in_err-piece-clause-sink g c = g.met.K.Sink.same_refl _
+
+pub returns-in-Err-clause-later : goal.returns-in-Err-clause-later
+returns-in-Err-clause-later g c = record { reads = omega arith; writes = c.in-Err.ensures.later }
+
+pub returns-in-Err-clause-sink : goal.returns-in-Err-clause-sink
+returns-in-Err-clause-sink g c = c.in-Err.ensures.same
+
+pub returns-in_err-bytes-clause-later : goal.returns-in_err-bytes-clause-later
+returns-in_err-bytes-clause-later g c = record { reads = c.pour.ensures.read_count; writes = omega (arith, c.in-Ok.ensures.later, c.pour.ensures.write_count) }
+
+pub returns-in_err-bytes-clause-source : goal.returns-in_err-bytes-clause-source
+returns-in_err-bytes-clause-source g c = c.pour.ensures.source
+
+pub returns-in_err-close-clause-later : goal.returns-in_err-close-clause-later
+returns-in_err-close-clause-later g c = record { reads = c.pour.ensures.read_count; writes = omega (arith, c.in-Ok.ensures.later, c.pour.ensures.write_count, c.close.ensures.later) }
+
+pub returns-in_err-close-clause-source : goal.returns-in_err-close-clause-source
+returns-in_err-close-clause-source g c = c.pour.ensures.source
+
+pub returns-clause-later : goal.returns-clause-later
+returns-clause-later g c = record { reads = c.pour.ensures.read_count; writes = omega (arith, c.in-Ok.ensures.later, c.pour.ensures.write_count, c.close.ensures.later) }
+
+pub returns-clause-source : goal.returns-clause-source
+returns-clause-source g c = c.pour.ensures.source

@@ -93,3 +93,90 @@ loop-key-preserved g c =
       later = omega (arith, called.later, inv.later);
       same = g.met.S.Source.same_trans _ _ _ inv.same called.same;
     }
+
+pub try_key-requires : goal.try_key-requires
+try_key-requires g c =
+    let keys = c.args.keys.now in
+    let key : g.row.T.Denot = c.key-item.result in
+    let inv = c.loop-key.invariant in
+    let keyed : g.row.T.Denot → StreamKey = g.T.DerivesStreams.key_of in
+    let so : (P : g.row.T.Denot → Type 0) → All P keys → P key = λ P h. subst P (sym c.key-item.is) (All-get_or P keys c.loop-key.key-index key (omega arith) h) in
+    let sealed : length (keyed key).out + (keyed key).segment < vec_len c.args.kept.now.buffer = so (λ k. length (keyed k).out + (keyed k).segment < vec_len c.args.kept.now.buffer) c.requires.room.sealed_room in
+    let nonce : nonce_size (keyed key) ≤ vec_len c.args.nonce.now = so (λ k. nonce_size (keyed k) ≤ vec_len c.args.nonce.now) c.requires.room.nonce_room in
+    let text : (keyed key).segment ≤ vec_capacity c.args.opened.now = so (λ k. (keyed k).segment ≤ vec_capacity c.args.opened.now) c.requires.room.text_room in
+    record {
+      room = record {
+        sealed_room = omega (arith, sealed, inv.len);
+        text_room = omega (arith, text, inv.capacity);
+        nonce_room = omega (arith, nonce, inv.nonce_len);
+        prefix_room = omega (arith, c.requires.room.prefix_room, inv.prefix_capacity);
+      };
+    }
+
+pub returns-in-Ok-clause-failed : goal.returns-in-Ok-clause-failed
+returns-in-Ok-clause-failed g c = tt
+
+pub returns-in-Ok-clause-room : goal.returns-in-Ok-clause-room
+returns-in-Ok-clause-room g c =
+    let inv = c.loop-key.invariant in
+    let called = c.in_ok-begun.ensures.room in
+    record {
+      buffers = record { nonce_len = called.buffers.nonce_len ∙ inv.nonce_len; nonce_capacity = called.buffers.nonce_capacity ∙ inv.nonce_capacity; capacity = called.buffers.capacity ∙ inv.capacity };
+      len = called.len ∙ inv.len;
+      kept_capacity = called.kept_capacity ∙ inv.kept_capacity;
+      more = omega (arith, called.more, inv.more);
+    }
+
+pub returns-in-Ok-clause-prefix : goal.returns-in-Ok-clause-prefix
+returns-in-Ok-clause-prefix g c = (rw c.in-Ok.is at c.in_ok-begun.ensures.prefix) ∙ c.loop-key.invariant.prefix_capacity
+
+pub returns-in-Ok-clause-later : goal.returns-in-Ok-clause-later
+returns-in-Ok-clause-later g c = omega (arith, c.in_ok-begun.ensures.later, c.loop-key.invariant.later)
+
+pub returns-in-Ok-clause-same : goal.returns-in-Ok-clause-same
+returns-in-Ok-clause-same g c = g.met.S.Source.same_trans _ _ _ c.loop-key.invariant.same c.in_ok-begun.ensures.same
+
+pub returns-in_err-begun-clause-answer : goal.returns-in_err-begun-clause-answer
+returns-in_err-begun-clause-answer g c = let p = err_from_is_err_and c.from_residual.result c.from_residual.ensures.1 in rw p.1 tt
+
+pub returns-in_err-begun-clause-room : goal.returns-in_err-begun-clause-room
+returns-in_err-begun-clause-room g c =
+    let inv = c.loop-key.invariant in
+    let called = c.in_err-begun.ensures.room in
+    record {
+      buffers = record { nonce_len = called.buffers.nonce_len ∙ inv.nonce_len; nonce_capacity = called.buffers.nonce_capacity ∙ inv.nonce_capacity; capacity = called.buffers.capacity ∙ inv.capacity };
+      len = called.len ∙ inv.len;
+      kept_capacity = called.kept_capacity ∙ inv.kept_capacity;
+      more = omega (arith, called.more, inv.more);
+    }
+
+pub returns-in_err-begun-clause-prefix : goal.returns-in_err-begun-clause-prefix
+returns-in_err-begun-clause-prefix g c = let p = err_from_is_err_and c.from_residual.result c.from_residual.ensures.1 in rw p.1 tt
+
+pub returns-in_err-begun-clause-later : goal.returns-in_err-begun-clause-later
+returns-in_err-begun-clause-later g c = omega (arith, c.in_err-begun.ensures.later, c.loop-key.invariant.later)
+
+pub returns-in_err-begun-clause-same : goal.returns-in_err-begun-clause-same
+returns-in_err-begun-clause-same g c = g.met.S.Source.same_trans _ _ _ c.loop-key.invariant.same c.in_err-begun.ensures.same
+
+pub returns-clause-failed : goal.returns-clause-failed
+returns-clause-failed g c = tt
+
+pub returns-clause-room : goal.returns-clause-room
+returns-clause-room g c =
+    let inv = c.loop-key.invariant in
+    record {
+      buffers = record { nonce_len = inv.nonce_len; nonce_capacity = inv.nonce_capacity; capacity = inv.capacity };
+      len = inv.len;
+      kept_capacity = inv.kept_capacity;
+      more = inv.more;
+    }
+
+pub returns-clause-prefix : goal.returns-clause-prefix
+returns-clause-prefix g c = tt
+
+pub returns-clause-later : goal.returns-clause-later
+returns-clause-later g c = c.loop-key.invariant.later
+
+pub returns-clause-same : goal.returns-clause-same
+returns-clause-same g c = c.loop-key.invariant.same

@@ -1,4 +1,4 @@
-use Rattle.std.proofs.Common.{◌≡◌, ℕ, Bool, List, length, map, refl, sym, arith, vec_len}
+use Rattle.std.proofs.Common.{◌≡◌, ◌+◌, ◌∙◌, ℕ, Bool, List, length, map, refl, sym, arith, vec_len}
 use Rattle.std.proofs.lemmas.Result.{err_from_is_err_and}
 use Rattle.std.proofs.lemmas.Simd.{map-map}
 use Rattle.stream_model.specs.Opening.{opening_key}
@@ -68,3 +68,48 @@ returns g c =
       later = omega (arith, c.start.ensures.later, c.read.ensures.later);
       same = g.met.S.Source.same_trans _ _ _ c.start.ensures.same c.read.ensures.same;
     }
+
+pub returns-in_err-reader-clause-within : goal.returns-in_err-reader-clause-within
+returns-in_err-reader-clause-within g c = let p = err_from_is_err_and c.from_residual.result c.from_residual.ensures.1 in rw p.1 tt
+
+pub returns-in_err-reader-clause-room : goal.returns-in_err-reader-clause-room
+returns-in_err-reader-clause-room g c = let p = err_from_is_err_and c.from_residual.result c.from_residual.ensures.1 in rw p.1 tt
+
+pub returns-in_err-reader-clause-memory : goal.returns-in_err-reader-clause-memory
+returns-in_err-reader-clause-memory g c = let p = err_from_is_err_and c.from_residual.result c.from_residual.ensures.1 in rw p.1 tt
+
+pub returns-in_err-reader-clause-at_end : goal.returns-in_err-reader-clause-at_end
+returns-in_err-reader-clause-at_end g c = let p = err_from_is_err_and c.from_residual.result c.from_residual.ensures.1 in rw p.1 tt
+
+pub returns-in_err-reader-clause-read : goal.returns-in_err-reader-clause-read
+returns-in_err-reader-clause-read g c =
+    let p = err_from_is_err_and c.from_residual.result c.from_residual.ensures.1 in
+    let room : ℕ = vec_len c.args.choice.trial.kept.buffer in
+    rw p.1 (reads_more _ (room + room) (g.S.Source.left c.args.source.now) (g.S.Source.left c.start.new.source) (omega arith) c.in_err-reader.ensures.read)
+
+pub returns-in_err-reader-clause-later : goal.returns-in_err-reader-clause-later
+returns-in_err-reader-clause-later g c = c.in_err-reader.ensures.later
+
+pub returns-in_err-reader-clause-same : goal.returns-in_err-reader-clause-same
+returns-in_err-reader-clause-same g c = c.in_err-reader.ensures.same
+
+pub returns-in-Ok-clause-within : goal.returns-in-Ok-clause-within
+returns-in-Ok-clause-within g c = c.in-Ok.ensures.within
+
+pub returns-in-Ok-clause-room : goal.returns-in-Ok-clause-room
+returns-in-Ok-clause-room g c = c.read.ensures.room ∙ c.in_ok-reader.ensures.fresh.3
+
+pub returns-in-Ok-clause-memory : goal.returns-in-Ok-clause-memory
+returns-in-Ok-clause-memory g c = c.read.ensures.memory ∙ c.in_ok-reader.ensures.memory
+
+pub returns-in-Ok-clause-read : goal.returns-in-Ok-clause-read
+returns-in-Ok-clause-read g c = tt
+
+pub returns-in-Ok-clause-at_end : goal.returns-in-Ok-clause-at_end
+returns-in-Ok-clause-at_end g c = c.read.ensures.at_end
+
+pub returns-in-Ok-clause-later : goal.returns-in-Ok-clause-later
+returns-in-Ok-clause-later g c = omega (arith, c.start.ensures.later, c.read.ensures.later)
+
+pub returns-in-Ok-clause-same : goal.returns-in-Ok-clause-same
+returns-in-Ok-clause-same g c = g.met.S.Source.same_trans _ _ _ c.start.ensures.same c.read.ensures.same

@@ -1,12 +1,14 @@
-use Rattle.std.proofs.Common.{◌≡◌, ◌+◌, ◌-◌, ℕ, Bool, List, length, take, drop, Some, ap, subst, arith}
+use Rattle.std.proofs.Common.{◌≡◌, ◌+◌, ◌-◌, ◌∙◌, ℕ, Bool, List, length, take, drop, Some, ap, refl, subst, arith}
+use Rattle.std.proofs.KnownBytes.{Keeps-trans}
 use Rattle.std.proofs.lemmas.List.{length-take}
+use Rattle.std.proofs.lemmas.Result.{err_from_is_err_and}
 use Rattle.std.specs.declared.option.Option.{Option}
 use Rattle.stream_model.specs.Opening.{OpeningKey, Begins, front_length, header_of}
 use Rattle.tink_streams.specs.Choosing.{IsOpenerOf}
 use Rattle.tink_streams.specs.Keeping.{kept_bytes, kept_rest}
 use Rattle.tink_streams.specs.Opening.{HoldsChunk}
 use Rattle.tink_streams.specs.Openers.{segment_map}
-use Rattle.tink_streams.proofs.TrialFacts.{Tried, not_begun, held_from, begun, refused, part_of, trial_means}
+use Rattle.tink_streams.proofs.TrialFacts.{Tried, not_begun, held_from, begun, refused, part_of, trial_means, prefix_kept}
 use Rattle.tink_streams.proofs.ChoosingSteps.{both_told}
 use Rattle.tink_streams.proofs.trying.try_key.Goals as goal
 
@@ -65,3 +67,113 @@ returns-clause-answer g c =
       rest = tried.held.all;
       room = omega (arith, c.in-Ok.ensures.prefix_room, c.requires.room.prefix_room);
     })
+
+pub keep-requires : goal.keep-requires
+keep-requires g c = omega (arith, ap length c.output_prefix.ensures.is, c.header_length-h.ensures.is, c.first_segment_size.ensures.is, c.first_segment_size.ensures.fits, c.requires.room.sealed_room)
+
+pub keep-requires-2 : goal.keep-requires-2
+keep-requires-2 g c = omega (arith, ap length c.output_prefix.ensures.is, c.header_length-h.ensures.is, c.first_segment_size.ensures.is, c.first_segment_size.ensures.fits, c.requires.room.sealed_room, c.in-Ok.ensures.sizes.0, c.in_ok-keep.ensures.len)
+
+pub returns-in_err-keep-clause-answer : goal.returns-in_err-keep-clause-answer
+returns-in_err-keep-clause-answer g c = let p = err_from_is_err_and c.from_residual.result c.from_residual.ensures.1 in rw p.1 tt
+
+pub returns-in_err-keep-clause-failed : goal.returns-in_err-keep-clause-failed
+returns-in_err-keep-clause-failed g c =
+    let p = err_from_is_err_and c.from_residual.result c.from_residual.ensures.1 in
+    rw p.1 (record { rest = c.in_err-keep.ensures.held; rose = c.in_err-keep.ensures.rose })
+
+pub returns-in_err-keep-clause-most : goal.returns-in_err-keep-clause-most
+returns-in_err-keep-clause-most g c = omega (arith, ap length c.output_prefix.ensures.is, c.header_length-h.ensures.is, c.in_err-keep.ensures.most)
+
+pub returns-in_err-keep-clause-room : goal.returns-in_err-keep-clause-room
+returns-in_err-keep-clause-room g c =
+    let kept = c.in_err-keep.ensures in
+    record { buffers = record { nonce_len = refl; nonce_capacity = refl; capacity = refl }; len = kept.len; kept_capacity = kept.capacity; more = kept.more }
+
+pub returns-in_err-keep-clause-prefix : goal.returns-in_err-keep-clause-prefix
+returns-in_err-keep-clause-prefix g c = let p = err_from_is_err_and c.from_residual.result c.from_residual.ensures.1 in rw p.1 tt
+
+pub returns-in_err-keep-clause-later : goal.returns-in_err-keep-clause-later
+returns-in_err-keep-clause-later g c = c.in_err-keep.ensures.later
+
+pub returns-in_err-keep-clause-same : goal.returns-in_err-keep-clause-same
+returns-in_err-keep-clause-same g c = c.in_err-keep.ensures.same
+
+pub returns-in-Err-clause-failed : goal.returns-in-Err-clause-failed
+returns-in-Err-clause-failed g c = tt
+
+pub returns-in-Err-clause-most : goal.returns-in-Err-clause-most
+returns-in-Err-clause-most g c = omega (arith, ap length c.output_prefix.ensures.is, c.header_length-h.ensures.is, c.in_ok-keep.ensures.most)
+
+pub returns-in-Err-clause-room : goal.returns-in-Err-clause-room
+returns-in-Err-clause-room g c =
+    let kept = c.in_ok-keep.ensures in
+    record { buffers = record { nonce_len = refl; nonce_capacity = refl; capacity = refl }; len = kept.len; kept_capacity = kept.capacity; more = kept.more }
+
+pub returns-in-Err-clause-prefix : goal.returns-in-Err-clause-prefix
+returns-in-Err-clause-prefix g c = c.in-Err.ensures.room
+
+pub returns-in-Err-clause-later : goal.returns-in-Err-clause-later
+returns-in-Err-clause-later g c = c.in_ok-keep.ensures.later
+
+pub returns-in-Err-clause-same : goal.returns-in-Err-clause-same
+returns-in-Err-clause-same g c = c.in_ok-keep.ensures.same
+
+pub returns-in_err-keep-2-clause-answer : goal.returns-in_err-keep-2-clause-answer
+returns-in_err-keep-2-clause-answer g c = let p = err_from_is_err_and c.from_residual-in_err-keep-2.result c.from_residual-in_err-keep-2.ensures.1 in rw p.1 tt
+
+pub returns-in_err-keep-2-clause-failed : goal.returns-in_err-keep-2-clause-failed
+returns-in_err-keep-2-clause-failed g c =
+    let p = err_from_is_err_and c.from_residual-in_err-keep-2.result c.from_residual-in_err-keep-2.ensures.1 in
+    let first = c.in_ok-keep.ensures in
+    let then = c.in_err-keep-2.ensures in
+    let old : Option (List ℕ) = kept_rest g.S.Source.left c.args.kept.now c.args.source.now in
+    let between : Option (List ℕ) = kept_rest g.S.Source.left c.keep.new.self c.keep.new.source in
+    let new : Option (List ℕ) = kept_rest g.S.Source.left c.keep-2.new.self c.keep-2.new.source in
+    rw p.1 (record { rest = Keeps-trans old between new first.held.all then.held; rose = omega (arith, first.later, then.rose) })
+
+pub returns-in_err-keep-2-clause-most : goal.returns-in_err-keep-2-clause-most
+returns-in_err-keep-2-clause-most g c = omega (arith, ap length c.output_prefix.ensures.is, c.header_length-h.ensures.is, c.in-Ok.ensures.sizes.0, c.in_ok-keep.ensures.most, c.in_err-keep-2.ensures.most)
+
+pub returns-in_err-keep-2-clause-room : goal.returns-in_err-keep-2-clause-room
+returns-in_err-keep-2-clause-room g c =
+    let first = c.in_ok-keep.ensures in
+    let then = c.in_err-keep-2.ensures in
+    record { buffers = record { nonce_len = refl; nonce_capacity = refl; capacity = refl }; len = then.len ∙ first.len; kept_capacity = then.capacity ∙ first.capacity; more = omega (arith, first.more, then.more) }
+
+pub returns-in_err-keep-2-clause-prefix : goal.returns-in_err-keep-2-clause-prefix
+returns-in_err-keep-2-clause-prefix g c = let p = err_from_is_err_and c.from_residual-in_err-keep-2.result c.from_residual-in_err-keep-2.ensures.1 in rw p.1 tt
+
+pub returns-in_err-keep-2-clause-later : goal.returns-in_err-keep-2-clause-later
+returns-in_err-keep-2-clause-later g c = omega (arith, c.in_ok-keep.ensures.later, c.in_err-keep-2.ensures.later)
+
+pub returns-in_err-keep-2-clause-same : goal.returns-in_err-keep-2-clause-same
+returns-in_err-keep-2-clause-same g c = g.met.S.Source.same_trans _ _ _ c.in_ok-keep.ensures.same c.in_err-keep-2.ensures.same
+
+pub open_front-begins-requires-clause-room : goal.open_front-begins-requires-clause-room
+open_front-begins-requires-clause-room g c = omega (arith, c.in-Ok.ensures.sizes.1, c.requires.room.text_room)
+
+pub open_front-begins-requires-clause-nonce : goal.open_front-begins-requires-clause-nonce
+open_front-begins-requires-clause-nonce g c = omega (arith, c.in-Ok.ensures.nonce, c.requires.room.nonce_room)
+
+pub returns-clause-failed : goal.returns-clause-failed
+returns-clause-failed g c = tt
+
+pub returns-clause-most : goal.returns-clause-most
+returns-clause-most g c = omega (arith, ap length c.output_prefix.ensures.is, c.header_length-h.ensures.is, c.in-Ok.ensures.sizes.0, c.in_ok-keep.ensures.most, c.in_ok-keep-2.ensures.most)
+
+pub returns-clause-room : goal.returns-clause-room
+returns-clause-room g c =
+    let first = c.in_ok-keep.ensures in
+    let then = c.in_ok-keep-2.ensures in
+    record { buffers = c.open_front-begins.ensures.room; len = then.len ∙ first.len; kept_capacity = then.capacity ∙ first.capacity; more = omega (arith, first.more, then.more) }
+
+pub returns-clause-prefix : goal.returns-clause-prefix
+returns-clause-prefix g c =
+    prefix_kept c.open_front-begins.result (record { opener = c.in-Ok.opener; front = length c.output_prefix.result.now + c.header_length-h.result }) c.in-Ok.opener.prefix c.begun_if.result _ refl c.in-Ok.ensures.prefix_room c.begun_if.ensures
+
+pub returns-clause-later : goal.returns-clause-later
+returns-clause-later g c = omega (arith, c.in_ok-keep.ensures.later, c.in_ok-keep-2.ensures.later)
+
+pub returns-clause-same : goal.returns-clause-same
+returns-clause-same g c = g.met.S.Source.same_trans _ _ _ c.in_ok-keep.ensures.same c.in_ok-keep-2.ensures.same

@@ -77,3 +77,100 @@ returns-then-not-open_front-clause-later g c = c.hold.ensures.later
 
 pub returns-then-not-open_front-clause-same : goal.returns-then-not-open_front-clause-same
 returns-then-not-open_front-clause-same g c = c.hold.ensures.same
+
+pub hold-requires-clause-filled : goal.hold-requires-clause-filled
+hold-requires-clause-filled g c = c.args.self.now.filled_in
+
+pub open_front-requires-clause-room : goal.open_front-requires-clause-room
+open_front-requires-clause-room g c = c.args.self.now.reserved
+
+pub open_front-requires-clause-nonce : goal.open_front-requires-clause-nonce
+open_front-requires-clause-nonce g c = c.args.self.now.nonce_fits
+
+pub returns-in-Err-clause-answer : goal.returns-in-Err-clause-answer
+returns-in-Err-clause-answer g c =
+    rw c.new.ensures (record {
+      fails = record { failed = refl; number = refl; opened = c.clear.ensures.items; kept = c.in-Err.ensures.held };
+      rose = c.in-Err.ensures.rose;
+    })
+
+pub returns-in-Err-clause-opener : goal.returns-in-Err-clause-opener
+returns-in-Err-clause-opener g c = refl
+
+pub returns-in-Err-clause-room : goal.returns-in-Err-clause-room
+returns-in-Err-clause-room g c = c.hold.ensures.len
+
+pub returns-in-Err-clause-memory : goal.returns-in-Err-clause-memory
+returns-in-Err-clause-memory g c = omega (arith, c.hold.ensures.capacity, c.clear.ensures.capacity)
+
+pub returns-in-Err-clause-read : goal.returns-in-Err-clause-read
+returns-in-Err-clause-read g c = rw c.size_of-size.ensures at c.hold.ensures.read
+
+pub returns-in-Err-clause-later : goal.returns-in-Err-clause-later
+returns-in-Err-clause-later g c = c.hold.ensures.later
+
+pub returns-in-Err-clause-same : goal.returns-in-Err-clause-same
+returns-in-Err-clause-same g c = c.hold.ensures.same
+
+pub returns-in_default-clause-opener : goal.returns-in_default-clause-opener
+returns-in_default-clause-opener g c = refl
+
+pub returns-in_default-clause-room : goal.returns-in_default-clause-room
+returns-in_default-clause-room g c = c.hold.ensures.len
+
+pub returns-in_default-clause-memory : goal.returns-in_default-clause-memory
+returns-in_default-clause-memory g c = omega (arith, c.hold.ensures.capacity, c.clear-in_default.ensures.capacity)
+
+pub returns-in_default-clause-read : goal.returns-in_default-clause-read
+returns-in_default-clause-read g c = rw c.size_of-size.ensures at c.hold.ensures.read
+
+pub returns-in_default-clause-later : goal.returns-in_default-clause-later
+returns-in_default-clause-later g c = c.hold.ensures.later
+
+pub returns-in_default-clause-same : goal.returns-in_default-clause-same
+returns-in_default-clause-same g c = c.hold.ensures.same
+
+pub returns-then-self-max-clause-opener : goal.returns-then-self-max-clause-opener
+returns-then-self-max-clause-opener g c = refl
+
+pub returns-then-self-max-clause-room : goal.returns-then-self-max-clause-room
+returns-then-self-max-clause-room g c = c.hold.ensures.len
+
+pub returns-then-self-max-clause-memory : goal.returns-then-self-max-clause-memory
+returns-then-self-max-clause-memory g c = omega (arith, c.hold.ensures.capacity, c.open_front.ensures.room.capacity, c.open_front.ensures.room.nonce_capacity)
+
+pub returns-then-self-max-clause-read : goal.returns-then-self-max-clause-read
+returns-then-self-max-clause-read g c = rw c.size_of-size.ensures at c.hold.ensures.read
+
+pub returns-then-self-max-clause-later : goal.returns-then-self-max-clause-later
+returns-then-self-max-clause-later g c = c.hold.ensures.later
+
+pub returns-then-self-max-clause-same : goal.returns-then-self-max-clause-same
+returns-then-self-max-clause-same g c = c.hold.ensures.same
+
+pub returns-then-not-open_front-clause-opener : goal.returns-then-not-open_front-clause-opener
+returns-then-not-open_front-clause-opener g c = refl
+
+pub returns-then-not-open_front-clause-room : goal.returns-then-not-open_front-clause-room
+returns-then-not-open_front-clause-room g c = c.hold.ensures.len
+
+pub returns-then-not-open_front-clause-memory : goal.returns-then-not-open_front-clause-memory
+returns-then-not-open_front-clause-memory g c = omega (arith, c.hold.ensures.capacity, c.open_front.ensures.room.capacity, c.open_front.ensures.room.nonce_capacity)
+
+pub returns-clause-opener : goal.returns-clause-opener
+returns-clause-opener g c = refl
+
+pub returns-clause-room : goal.returns-clause-room
+returns-clause-room g c = c.carry.ensures.len ∙ c.hold.ensures.len
+
+pub returns-clause-memory : goal.returns-clause-memory
+returns-clause-memory g c = omega (arith, c.hold.ensures.capacity, c.open_front.ensures.room.capacity, c.open_front.ensures.room.nonce_capacity, c.carry.ensures.capacity)
+
+pub returns-clause-read : goal.returns-clause-read
+returns-clause-read g c = rw c.size_of-size.ensures at c.hold.ensures.read
+
+pub returns-clause-later : goal.returns-clause-later
+returns-clause-later g c = c.hold.ensures.later
+
+pub returns-clause-same : goal.returns-clause-same
+returns-clause-same g c = c.hold.ensures.same

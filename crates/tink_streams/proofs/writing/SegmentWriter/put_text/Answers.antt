@@ -153,3 +153,45 @@ returns-clause-still g c none =
     let done = proceeds_end first.sealer.first first.sealer.room first.segments _ inv.done self.segments (held_text self) (drop c.loop-at.at c.args.buf.now) inv.proceeds
     (drop_of_length-le c.args.buf.now {i = c.loop-at.at} (omega arith)) fits in
     inv.still (ap length (done.0 ∙ none))
+
+pub put-requires-clause-open : goal.put-requires-clause-open
+put-requires-clause-open g c = c.loop-at.invariant.is_open
+
+pub put-requires-clause-more : goal.put-requires-clause-more
+put-requires-clause-more g c = λ _. omega (arith, c.loop-at.self.open_few c.loop-at.invariant.is_open, c.if-self-eq-LAST_NUMBER.false)
+
+pub returns-then-self-eq-LAST_NUMBER-clause-sealer : goal.returns-then-self-eq-LAST_NUMBER-clause-sealer
+returns-then-self-eq-LAST_NUMBER-clause-sealer g c = c.loop-at.invariant.sealer
+
+pub returns-then-self-eq-LAST_NUMBER-clause-memory : goal.returns-then-self-eq-LAST_NUMBER-clause-memory
+returns-then-self-eq-LAST_NUMBER-clause-memory g c = c.loop-at.invariant.memory
+
+pub returns-then-self-eq-LAST_NUMBER-clause-later : goal.returns-then-self-eq-LAST_NUMBER-clause-later
+returns-then-self-eq-LAST_NUMBER-clause-later g c = c.loop-at.invariant.later
+
+pub returns-then-self-eq-LAST_NUMBER-clause-same : goal.returns-then-self-eq-LAST_NUMBER-clause-same
+returns-then-self-eq-LAST_NUMBER-clause-same g c = c.loop-at.invariant.same
+
+pub returns-clause-sealer : goal.returns-clause-sealer
+returns-clause-sealer g c = c.loop-at.invariant.sealer
+
+pub returns-clause-memory : goal.returns-clause-memory
+returns-clause-memory g c = c.loop-at.invariant.memory
+
+pub returns-clause-later : goal.returns-clause-later
+returns-clause-later g c = c.loop-at.invariant.later
+
+pub returns-clause-same : goal.returns-clause-same
+returns-clause-same g c = c.loop-at.invariant.same
+
+pub returns-in_err-put-clause-sealer : goal.returns-in_err-put-clause-sealer
+returns-in_err-put-clause-sealer g c = c.in_err-put.ensures.sealer ∙ c.loop-at.invariant.sealer
+
+pub returns-in_err-put-clause-memory : goal.returns-in_err-put-clause-memory
+returns-in_err-put-clause-memory g c = c.in_err-put.ensures.memory ∙ c.loop-at.invariant.memory
+
+pub returns-in_err-put-clause-later : goal.returns-in_err-put-clause-later
+returns-in_err-put-clause-later g c = omega (arith, c.in_err-put.ensures.later, c.loop-at.invariant.later)
+
+pub returns-in_err-put-clause-same : goal.returns-in_err-put-clause-same
+returns-in_err-put-clause-same g c = g.met.K.Sink.same_trans _ _ _ c.loop-at.invariant.same c.in_err-put.ensures.same
