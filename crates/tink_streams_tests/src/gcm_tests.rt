@@ -4,8 +4,8 @@ ghost use Rattle.std.specs.Prelude.{◌≡◌, ◌≤◌, length};
 ghost use Rattle.tink_segments.specs.SegmentKeys.{overhead_under};
 ghost use Rattle.tink_segments.specs.StreamSegments.{nonce_length_by};
 
-use crate::segment_callers::segment_by_gcm;
 use crate::comparing::{expect, expect_bytes};
+use crate::segment_callers::segment_by_gcm;
 use hash_keys::Hash;
 use std::alloc::Global;
 use std::process::Abort;
