@@ -1,5 +1,5 @@
 -- The chunks of an object behind a stream's front.
-use Rattle.std.specs.Prelude.{◌≡◌, ℕ, ◌+◌, ◌-◌}
+use Rattle.std.specs.Prelude.{◌≡◌, ℕ, ◌+◌, ◌-◌, vec_capacity}
 use Rattle.stream_model.specs.Cut.{room_at}
 use Rattle.tink_segment_traits.specs.declared.segment_traits.SegmentDecrypter.{Ghosts}
 use Rattle.tink_range.specs.ChunkReading.{ChunkAt}
@@ -8,11 +8,16 @@ use Rattle.tink_streams.specs.Openers.{segment_map}
 use Rattle.tink_range.specs.declared.chunks.RangeCore.{RangeCore}
 
 module _ {D : Type 0} {g : Ghosts D} where
-  -- chunks are opened as before, and the front and what is behind it are as long
+  -- the memory that is kept for a segment, its text, its nonce and the prefix of nonces, in bytes
+  abbrev pub core_memory : RangeCore D g → ℕ
+  core_memory core = vec_capacity core.buffers.sealed + vec_capacity core.buffers.text + vec_capacity core.buffers.nonce + vec_capacity core.opener.prefix
+
+  -- chunks are opened as before, the front and what is behind it are as long, and as much memory is kept
   pub record IsSameCore (old new : RangeCore D g) : Type 0 where
     pub opener : new.opener ≡ old.opener
     pub front : new.front ≡ old.front
     pub behind : new.behind ≡ old.behind
+    pub memory : core_memory new ≡ core_memory old
 
   -- a chunk by its number and by what is before it behind the front
   abbrev pub chunk_in : RangeCore D g → ℕ → ℕ → ChunkAt

@@ -7,13 +7,16 @@ use Rattle.tink_segments.specs.StreamSegments.{segment_by}
 use Rattle.tink_segments.specs.declared.stream_segment.StreamSegment.{StreamSegment}
 use Rattle.tink_streams.specs.Readers.{SegmentOpening, seg_of}
 use Rattle.tink_range.specs.Giving.{Cutting}
+use Rattle.tink_range.specs.RangeCores.{core_memory}
 use Rattle.tink_range.specs.declared.chunks.RangeCore.{RangeCore}
 
--- a reader of ranges: how the segments are opened, the bytes of the front and those behind it, and the object
+-- a reader of ranges: how the segments are opened, the bytes of the front and those behind it, the bytes of memory that it
+-- keeps for a segment, its text, its nonce and the prefix of nonces, and the object
 pub record RangeState (A : Type 0) : Type 0 where
   pub opening : SegmentOpening StreamSegment
   pub front : ℕ
   pub behind : ℕ
+  pub memory : ℕ
   pub object : A
 
 -- how the object is cut
@@ -38,6 +41,7 @@ range_state core object = record {
   };
   front = core.front;
   behind = core.behind;
+  memory = core_memory core;
   object = object;
 }
 

@@ -95,8 +95,7 @@ fn try_at<A: ReadAt, T: DerivesStreams, L: Ledger>(
         (λ memory. DoesNotBeginAt (opening_key aad.now (T.key_of key.now)) (A.bytes object.old) steps.old steps.new
         (vec_capacity memory))) }
     ensures ticks { (steps.old ≤ steps.new) × (steps.new ≤ steps.old + 1) }
-    ensures room { KeepsBuffers (vec_len sealed.old) (vec_len sealed.new) (vec_capacity text.old)
-        (vec_capacity text.new) (vec_len nonce.old) (vec_len nonce.new) }
+    ensures room { KeepsBuffers sealed.old sealed.new text.old text.new nonce.old nonce.new }
     ensures kept { KeepsObject A.length_of A.bytes A.faults object.old object.new }
     ensures count { RisesByFailure (A.faults object.old) (A.faults object.new) result }
     ensures same { A.same object.old object.new }

@@ -4,6 +4,7 @@ ghost use Rattle.tink_range.specs.ChunkReading.{OpensAt, ChunkOpensTo};
 ghost use Rattle.tink_range.specs.Objects.{KeepsObject, RisesByFailure};
 ghost use Rattle.tink_range.specs.Rooms.{HasRoomFor, KeepsBuffers};
 ghost use Rattle.tink_streams.specs.Openers.{segment_map};
+ghost use Rattle.tink_streams.specs.Rooms.{KeepsNonceAndText};
 
 use crate::read_at::ReadAt;
 use crate::reading_at::fill_at;
@@ -46,7 +47,7 @@ fn open_into<A: ReadAt, D: SegmentDecrypter, L: Ledger>(
     ensures length { IfOk result (λ ok. ok ≡ true
         → vec_len text.new + opener.now.overhead ≡ length chunk.old) }
     ensures ticks { MatchResult result (λ _. steps.new ≡ steps.old + 1) (λ _. steps.new ≡ steps.old) }
-    ensures room { (vec_capacity text.old ≤ vec_capacity text.new) × (vec_len nonce.new ≡ vec_len nonce.old) }
+    ensures room { KeepsNonceAndText nonce.old nonce.new text.old text.new }
     ensures kept { KeepsObject A.length_of A.bytes A.faults object.old object.new }
     ensures count { RisesByFailure (A.faults object.old) (A.faults object.new) result }
     ensures same { A.same object.old object.new }
@@ -79,8 +80,7 @@ pub fn open_at<A: ReadAt, D: SegmentDecrypter, L: Ledger>(
     ensures length { IfOk result (λ ok. ok ≡ true → vec_len text.new + opener.now.overhead
         ≡ min rest (room_at opener.now.first opener.now.size number)) }
     ensures ticks { MatchResult result (λ _. steps.new ≡ steps.old + 1) (λ _. steps.new ≡ steps.old) }
-    ensures room { KeepsBuffers (vec_len sealed.old) (vec_len sealed.new) (vec_capacity text.old)
-        (vec_capacity text.new) (vec_len nonce.old) (vec_len nonce.new) }
+    ensures room { KeepsBuffers sealed.old sealed.new text.old text.new nonce.old nonce.new }
     ensures kept { KeepsObject A.length_of A.bytes A.faults object.old object.new }
     ensures count { RisesByFailure (A.faults object.old) (A.faults object.new) result }
     ensures same { A.same object.old object.new }

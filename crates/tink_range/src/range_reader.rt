@@ -91,8 +91,8 @@ impl<A: ReadAt> RangeReader<A> {
     }
 
     /// Writes the bytes of the text from place `start` on and below `start + len`, as far as there are such, and answers
-    /// how many. The last chunk is opened first, and then each chunk that the range touches, each in one step. It takes
-    /// no memory, and after a refusal the reader is as before.
+    /// how many. The last chunk is opened first, and then each chunk that the range touches, each in one step. The reader
+    /// keeps the memory that it has, and after a refusal it is as before.
     ///
     /// # Errors
     /// `ReadFault` or `WriteFault` where the object or the sink failed, with a prefix written of what the touched chunks
@@ -118,6 +118,7 @@ impl<A: ReadAt> RangeReader<A> {
         ensures opening { self.new.opening ≡ self.old.opening }
         ensures front { self.new.front ≡ self.old.front }
         ensures behind { self.new.behind ≡ self.old.behind }
+        ensures memory { self.new.memory ≡ self.old.memory }
         ensures kept { LeavesObject A.length_of A.bytes A.faults self.old.object self.new.object result }
         ensures later { K.faults sink.old ≤ K.faults sink.new }
         ensures object { A.same self.old.object self.new.object }

@@ -13,8 +13,8 @@ use std::sync::ledger::Ledger;
 use tink_io::{Sink, TinkError};
 use tink_stream_keys::{DerivesStreams, Trial};
 
-/// Writes a range of the text of the stream that an object is, under the first of the keys that it begins under, in
-/// memory that was taken before. It answers how many bytes, as `RangeReader::read_range` does.
+/// Writes a range of the text of the stream that an object is, under the first of the keys that it begins under, in the
+/// memory of `trial`. It answers how many bytes, as `RangeReader::read_range` does.
 ///
 /// # Errors
 /// `NoMatchingKey` where the object begins under none of the keys, `ReadFault` where it failed before one was chosen,

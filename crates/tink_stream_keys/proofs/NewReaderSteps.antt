@@ -1,9 +1,11 @@
 -- From the steps of a new reader to its answer.
-use Rattle.std.proofs.Common.{◌≡◌, inl, inr, ◌<◌, ◌+◌, ◌-◌, ℕ, zero, suc, List, [], ◌∷◌, length, take, drop, refl, sym, ap, subst, ◌∙◌, arith, Some, None, get_or}
+use Rattle.std.proofs.Common.{◌≡◌, inl, inr, ◌≤◌, ◌<◌, ◌+◌, ◌-◌, ℕ, zero, suc, List, [], ◌∷◌, length, take, drop, refl, sym, ap, subst, ◌∙◌, arith, Some, None, get_or}
 use Rattle.std.specs.Prelude.{Err}
 use Rattle.std.specs.declared.option.Option.{Option}
 use Rattle.std.specs.Io.KnownBytes.{Consumes, IsAtEnd, Keeps, prepend_known}
 use Rattle.std.proofs.KnownBytes.{prepend_known-nil}
+use Rattle.tink_io.specs.Faults.{Rose}
+use Rattle.tink_io.specs.Taken.{LosesAtMost}
 use Rattle.tink_io.specs.declared.error.Kind.{Kind}
 use Rattle.tink_io.specs.declared.error.Kind.TheVariants.{ReadFault, NoMatchingKey}
 use Rattle.stream_model.specs.Cut.{numbered}
@@ -11,7 +13,7 @@ use Rattle.stream_model.specs.Key.{StreamKey, first_segment, header_length, nonc
 use Rattle.stream_model.specs.Opening.{opening_key}
 use Rattle.tink_streams.specs.declared.progress.Progress.TheVariants.{Running}
 use Rattle.tink_segments.specs.declared.stream_segment.StreamSegment.{StreamSegment}
-use Rattle.tink_stream_keys.specs.Decrypting.{HasNoHeader, HeaderRefused, IsNewReader, NewReaderRefused, ReadsHeader}
+use Rattle.tink_stream_keys.specs.Decrypting.{HasNoHeader, HeaderRefused, IsNewReader, NewReaderRefused, ReadHeaderPart, ReadsHeader}
 use Rattle.tink_segments.specs.StreamSegments.{segment_by}
 use Rattle.tink_stream_keys.specs.StreamingKeys.{IsDerived, deriving_hash}
 use Rattle.tink_streams.specs.TextReading.{TextMoment}
@@ -41,6 +43,10 @@ short_header k a b old new e h few end = record { bytes = new; read = consumed a
 -- another byte stands in front
 pub other_header : (k : StreamKey) (a b : Option (List ℕ)) (old new : List ℕ) → old ≡ [] → Keeps (prepend_known old a) (prepend_known new b) → length new ≡ header_length k → (get_or new 0 0 ≡ header_length k → ⊥) → HasNoHeader k a b
 other_header k a b old new e h whole other = record { bytes = new; read = consumed a b old new e h; cause = inr (whole, other) }
+
+-- the source failed before all of a header was read
+pub header_part : (k : StreamKey) (a b : Option (List ℕ)) (before now most : ℕ) → Rose before now → most ≤ header_length k → LosesAtMost most a b → ReadHeaderPart k a b before now
+header_part k a b before now most rose few lost = record { rose = rose; read = (lost.0, omega (arith, few, lost.1), lost.2) }
 
 -- a header is refused
 pub header_refused : {R : Type 0} (left : R → Option (List ℕ)) (faults : R → ℕ) (k : StreamKey) (old new : R) (kind : Kind) → HeaderRefused k (left old) (left new) (faults old) (faults new) kind → NewReaderRefused left faults k old new kind

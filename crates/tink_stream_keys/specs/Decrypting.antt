@@ -3,6 +3,7 @@ use Rattle.std.specs.Prelude.{◌≡◌, ◌⊎◌, ℕ, ◌+◌, ◌<◌, ◌�
 use Rattle.std.specs.declared.option.Option.{Option}
 use Rattle.std.specs.Io.KnownBytes.{Consumes, IsAtEnd}
 use Rattle.tink_io.specs.Faults.{Rose}
+use Rattle.tink_io.specs.Taken.{LosesAtMost}
 use Rattle.tink_io.specs.declared.error.Kind.{Kind}
 use Rattle.tink_io.specs.declared.error.Kind.TheVariants.{OutOfMemory, ReadFault, NoMatchingKey, UnknownHash, UnsupportedHash}
 use Rattle.tink_primitives.specs.declared.streams.Refused.{Refused}
@@ -41,6 +42,11 @@ pub record HasNoHeader (k : StreamKey) (old new : Option (List ℕ)) : Type 0 wh
   pub read : Consumes old new bytes
   pub cause : ((length bytes < header_length k) × IsAtEnd new) ⊎ ((length bytes ≡ header_length k) × (slice_index bytes 0 ≡ header_length k → ⊥))
 
+-- the source failed, and no more of it is gone than a header's bytes
+pub record ReadHeaderPart (k : StreamKey) (old new : Option (List ℕ)) (before now : ℕ) : Type 0 where
+  pub rose : Rose before now
+  pub read : LosesAtMost (header_length k) old new
+
 -- a header was read, and the hash of HKDF is refused
 pub record ReadHeaderAlone (k : StreamKey) (old new : Option (List ℕ)) (kind : Kind) : Type 0 where
   pub header : List ℕ
@@ -49,14 +55,14 @@ pub record ReadHeaderAlone (k : StreamKey) (old new : Option (List ℕ)) (kind :
 
 -- what is refused of a header
 abbrev pub HeaderRefused : StreamKey → Option (List ℕ) → Option (List ℕ) → ℕ → ℕ → Kind → Type 0
-HeaderRefused k old new before now ReadFault = Rose before now
+HeaderRefused k old new before now ReadFault = ReadHeaderPart k old new before now
 HeaderRefused k old new before now NoMatchingKey = HasNoHeader k old new
 HeaderRefused k old new before now _ = ⊥
 
 -- each refusal of a new reader
 abbrev pub NewReaderRefused : {R : Type 0} → (R → Option (List ℕ)) → (R → ℕ) → StreamKey → R → R → Kind → Type 0
 NewReaderRefused left faults k old new OutOfMemory = new ≡ old
-NewReaderRefused left faults k old new ReadFault = Rose (faults old) (faults new)
+NewReaderRefused left faults k old new ReadFault = ReadHeaderPart k (left old) (left new) (faults old) (faults new)
 NewReaderRefused left faults k old new NoMatchingKey = HasNoHeader k (left old) (left new)
 NewReaderRefused left faults k old new UnknownHash = ReadHeaderAlone k (left old) (left new) UnknownHash
 NewReaderRefused left faults k old new UnsupportedHash = ReadHeaderAlone k (left old) (left new) UnsupportedHash

@@ -36,11 +36,11 @@ pub fn opener_behind<T: DerivesStreams>(
     ensures opens { IfOk result (λ o. OpensBehind (opening_key aad.now (T.key_of key.now))
         (nonce_size (T.key_of key.now)) held.now (numbered (segment_by o.decrypter) o.nonce_size o.prefix.items)
         o.first o.size o.overhead o.nonce_size) }
-    ensures prefix { IfOk result (λ o. 7 ≤ vec_capacity o.prefix) }
+    ensures prefix { IfOk result (λ o. vec_capacity o.prefix ≡ vec_capacity prefix) }
     ensures none { IfErr result (λ _. HasFront (opening_key aad.now (T.key_of key.now)) held.now
         → (opening_key aad.now (T.key_of key.now)).seg
         (header_of (opening_key aad.now (T.key_of key.now)) held.now) ≡ None) }
-    ensures room { IfErr result (λ memory. 7 ≤ vec_capacity memory) }
+    ensures room { IfErr result (λ memory. vec_capacity memory ≡ vec_capacity prefix) }
 {
     let start = key.output_prefix().len();
     let end = start + key.header_length();

@@ -86,9 +86,9 @@ impl<C> StreamingKey<C> {
     /// A reader of the stream in `r`, whose header is read. All memory is taken first.
     ///
     /// # Errors
-    /// The refusal hands back `r`. `OutOfMemory`, with nothing read; `ReadFault` where the source failed;
-    /// `NoMatchingKey` exactly where the header is missing, short or of another length; `UnknownHash` exactly where
-    /// HKDF's hash is unknown, and `UnsupportedHash` exactly where it is SHA-224.
+    /// The refusal hands back `r`. `OutOfMemory`, with nothing read; `ReadFault` where the source failed, of which no
+    /// more than a header's bytes were read; `NoMatchingKey` exactly where the header is missing, short or of another
+    /// length; `UnknownHash` exactly where HKDF's hash is unknown, and `UnsupportedHash` exactly where it is SHA-224.
     pub fn new_decrypting_reader<S: Source + Drop>(
         &self,
         alloc: Global,

@@ -69,8 +69,8 @@ loop-key-preserved g c =
     let ticked : IfSome told ticks = subst (λ (r : Option (List ℕ)). IfSome r ticks) inv.kept.bytes_are tried.ticked in
     record {
       sealed_len = called.room.sealed_len ∙ inv.sealed_len;
-      text_room = omega (arith, called.room.text_room, inv.text_room);
-      nonce_len = called.room.nonce_len ∙ inv.nonce_len;
+      text_room = omega (arith, called.room.buffers.capacity, inv.text_room);
+      nonce_len = called.room.buffers.nonce_len ∙ inv.nonce_len;
       prefix_room = tried.room;
       chosen = both_told told not (ChosenFrom of keys i) (ChosenFrom of keys (i + 1)) (λ X other h. pass_over of keys i key X split other h) none inv.chosen;
       tried = both_told told (λ X. not X × ticks X) (TriesFrom of keys i (c.loop-key.steps - c.args.steps.now)) (TriesFrom of keys (i + 1) (c.try_at.new.steps - c.args.steps.now))

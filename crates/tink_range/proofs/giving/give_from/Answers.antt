@@ -23,7 +23,7 @@ loop-place-init g c =
       start_in = omega (arith, c.requires.begins.place.inside);
       few = omega arith;
       ticks = record { count = omega arith; later = omega arith; bound = omega arith; spaced = λ some more. omega arith };
-      core = record { opener = refl; front = refl; behind = refl };
+      core = record { opener = refl; front = refl; behind = refl; memory = refl };
       kept = record { length_is = refl; bytes_are = refl; later = omega arith };
       count = refl;
       later = omega arith;
@@ -97,7 +97,7 @@ loop-place-preserved g c =
       start_in = omega (arith, next.start, here.place.inside);
       few = omega (arith, inv.few, one.count, within_few c.args.lo c.args.hi place.text one.text, one.fits, next.text);
       ticks = next_ticks (cutting_of core) c.args.lo c.args.hi core.behind place.number place.start place.text here c.args.from.number _ _ _ _ _ next.number next.text inv.ticks.later gave.ticks inv.ticks;
-      core = record { opener = gave.core.opener ∙ inv.core.opener; front = gave.core.front ∙ inv.core.front; behind = gave.core.behind ∙ inv.core.behind };
+      core = record { opener = gave.core.opener ∙ inv.core.opener; front = gave.core.front ∙ inv.core.front; behind = gave.core.behind ∙ inv.core.behind; memory = gave.core.memory ∙ inv.core.memory };
       kept = record { length_is = gave.kept.length_is ∙ inv.kept.length_is; bytes_are = gave.kept.bytes_are ∙ inv.kept.bytes_are; later = omega (arith, gave.kept.later, inv.kept.later) };
       count = gave.kept.count ∙ inv.count;
       later = omega (arith, gave.later, inv.later);

@@ -1,4 +1,4 @@
-use Rattle.std.proofs.Common.{◌≡◌, ◌≤◌, ◌^◌, ℕ, replicate, arith}
+use Rattle.std.proofs.Common.{◌≡◌, ◌≤◌, ◌^◌, ℕ, replicate, ◌∙◌, arith}
 use Rattle.std.proofs.lemmas.List.{length-replicate}
 use Rattle.tink_range.specs.RangeCores.{cutting_of}
 use Rattle.tink_range.specs.RangeReading.{range_end, range_start}
@@ -25,3 +25,9 @@ returns-in-Err-clause-answer g c =
     let few : chunk_count core.opener.first core.opener.size core.behind ≤ 2 ^ 32 = omega (arith, any.chunks, c.if-number-from.false, c.from.ensures) in
     last_refused g.K.Sink.got g.K.Sink.faults (cutting_of core) core.behind c.args.start c.args.len few (g.A.ReadAt.bytes c.args.object.now) (g.A.ReadAt.faults c.args.object.now) (g.A.ReadAt.faults c.check_last.new.object)
     c.args.sink.now c.in-Err.e.kind c.in-Err.ensures.answer
+
+pub returns-in-Ok-clause-core : goal.returns-in-Ok-clause-core
+returns-in-Ok-clause-core g c =
+    let first = c.in-Ok.ensures.core in
+    let then = c.give_range.ensures.core in
+    record { opener = then.opener ∙ first.opener; front = then.front ∙ first.front; behind = then.behind ∙ first.behind; memory = then.memory ∙ first.memory }

@@ -1,9 +1,15 @@
-use Rattle.std.proofs.Common.{◌≡◌, ◌<◌, take, length, get_or, refl, sym, subst, ◌∙◌, arith}
+use Rattle.std.proofs.Common.{◌≡◌, ◌≤◌, ◌<◌, ◌-◌, take, length, get_or, refl, sym, subst, ◌∙◌, arith}
 use Rattle.std.proofs.lemmas.List.{length-take, length-take-le}
 use Rattle.stream_model.specs.Key.{header_length}
 use Rattle.tink_stream_keys.specs.Decrypting.{ReadsHeader}
-use Rattle.tink_stream_keys.proofs.NewReaderSteps.{consumed, front_byte, other_header, short_header}
+use Rattle.tink_stream_keys.proofs.NewReaderSteps.{consumed, front_byte, header_part, other_header, short_header}
 use Rattle.tink_stream_keys.proofs.decrypting.read_header.Goals as goal
+
+pub returns-in_default-clause-refused : goal.returns-in_default-clause-refused
+returns-in_default-clause-refused g c =
+    let k = g.T.DerivesStreams.key_of c.args.key.now in
+    let few : c.header_length-size.result - 0 ≤ header_length k = omega (arith, c.header_length-size.ensures.value) in
+    rw c.new.ensures (header_part k _ _ _ _ _ c.in_default.ensures.rose few c.fill.ensures.read)
 
 pub returns-then-n-size-clause-refused : goal.returns-then-n-size-clause-refused
 returns-then-n-size-clause-refused g c =

@@ -1,4 +1,4 @@
-use Rattle.std.proofs.Common.{◌≡◌, ◌+◌, ℕ, List, length, IfSome, subst, sym, ◌∙◌}
+use Rattle.std.proofs.Common.{◌≡◌, ◌+◌, ℕ, List, length, IfSome, ap, subst, sym, ◌∙◌}
 use Rattle.std.specs.declared.option.Option.{Option}
 use Rattle.tink_range.specs.ChunkReading.{ends_of}
 use Rattle.tink_range.specs.RangeCores.{cutting_of}
@@ -20,3 +20,6 @@ returns-clause-given g c =
     (is_given g.K.Sink.got g.K.Sink.faults (cutting_of core) core.behind c.args.start c.args.len
     (ends_of g.A.ReadAt.bytes g.A.ReadAt.faults object c.read_range.new.object c.args.sink.now c.read_range.new.sink)
     core.opener.some core.opener.first_fits long c.read_range.result c.read_range.ensures.answer)
+
+pub returns-clause-memory : goal.returns-clause-memory
+returns-clause-memory g c = c.read_range.ensures.core.memory ∙ ap (λ (r : RangeState (g.row.A.Denot)). r.memory) c.self.view_is
