@@ -12,7 +12,7 @@ use Rattle.tink_primitives.specs.declared.streams.Refused.{Refused}
 use Rattle.stream_model.specs.Key.{StreamKey, IsUsable}
 use Rattle.stream_model.specs.Opening.{IsChosen, OpeningKey, opening_key}
 use Rattle.tink_streams.specs.Choosing.{Started}
-use Rattle.tink_streams.specs.Readers.{ReaderState, moment_of, seg_of}
+use Rattle.tink_streams.specs.Readers.{ReaderState, lacks, moment_of, seg_of}
 use Rattle.tink_segments.specs.StreamSegments.{segment_by}
 use Rattle.tink_streams.specs.TextReading.{GivesText, IsDue, TextMoment, ReadMeans}
 use Rattle.tink_streams.specs.declared.progress.Progress.TheVariants.{Running}
@@ -121,9 +121,11 @@ module _ {S : Type 0} (left : S → Option (List ℕ)) (faults : S → ℕ) wher
   DecryptMeans (Chosen old) new before after r = ChosenReadMeans old new before after r
   DecryptMeans (Stopped c source) new before after r = (r ≡ Err (record { kind = FailedBefore c })) × (new ≡ Stopped c source) × (after ≡ before)
 
--- where the first read was refused, no more of the source was read than twice what has room
+-- where the first read was refused, no more of the source was read than twice what has room; by a read of the chosen key's
+-- reader, no more than the next chunk and a byte behind it
 abbrev pub TakesAtMost : {S : Type 0} → (S → Option (List ℕ)) → DecryptState S → DecryptState S → Type 0
 TakesAtMost left (Unread keys aad room source) (Stopped c now) = LosesAtMost (room + room) (left source) (left now)
+TakesAtMost left (Chosen old) (Chosen new) = LosesAtMost (lacks old) (left old.source) (left new.source)
 TakesAtMost left _ _ = Unit {0}
 
 -- no more bytes are kept than have room, and there is no more room and no more memory than before

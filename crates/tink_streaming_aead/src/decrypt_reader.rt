@@ -124,8 +124,8 @@ impl<S: Source + Drop> DecryptReader<S> {
 
     /// Gives the next bytes of the text, as many as are opened and `buf` has room for, and answers how many. The first
     /// read to a buffer with room chooses the key, the first under which the stream begins: the source begins in its
-    /// front, and the first segment is that of some text. Then each read is that of the key's `Reader`. It keeps no
-    /// more memory than it has.
+    /// front, and the first segment is that of some text. Then each read is that of the key's `Reader`, which takes no
+    /// more of the source than the next chunk and a byte behind it. It keeps no more memory than it has.
     ///
     /// # Errors
     /// `NoMatchingKey` where the stream begins under none of the keys; `ReadFault` where the source failed; those of

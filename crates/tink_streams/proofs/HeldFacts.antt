@@ -1,5 +1,5 @@
 -- Bytes that are held and bytes that are left.
-use Rattle.std.proofs.Common.{◌≡◌, ◌≤◌, ◌<◌, ◌+◌, ℕ, List, [], ◌++◌, length, take, drop, Some, None, ap, sym, ◌∙◌, arith, append_assoc, length-append}
+use Rattle.std.proofs.Common.{◌≡◌, ◌≤◌, ◌<◌, ◌+◌, ◌-◌, ℕ, List, [], ◌++◌, length, take, drop, Some, None, ap, sym, ◌∙◌, arith, append_assoc, length-append}
 use Rattle.std.proofs.lemmas.List.{length-take, take-append-le}
 use Rattle.std.proofs.Math.Seq.{take-append-add}
 use lib.Seq.{take-append_seam}
@@ -7,7 +7,7 @@ use borrow.Rule.Slice.PartMut.{put_mid}
 use Rattle.std.specs.declared.option.Option.{Option}
 use Rattle.std.specs.Prelude.{Result, Ok, Err, OnOk}
 use Rattle.std.specs.Io.KnownBytes.{Keeps, Consumes, IsAtEnd, prepend_known}
-use Rattle.std.proofs.KnownBytes.{Consumes-trans}
+use Rattle.std.proofs.KnownBytes.{Consumes-nil, Consumes-trans}
 use Rattle.tink_io.specs.Taken.{LosesAtMost}
 use Rattle.tink_io.specs.declared.outside.Failed.{Failed}
 use Rattle.tink_streams.specs.Opening.{HoldsOrFails}
@@ -43,6 +43,14 @@ pub kept_consumes : (a b : Option (List ℕ)) → Keeps a b → Consumes a b []
 kept_consumes None b p = tt
 kept_consumes (Some x) None p = absurd p
 kept_consumes (Some x) (Some y) p = sym p
+
+-- nothing was read
+pub loses_none : (n : ℕ) (a : Option (List ℕ)) → LosesAtMost n a a
+loses_none n a = ([], omega arith, Consumes-nil a)
+
+-- by the bytes that are held in place of their number
+pub loses_by_held : (size n : ℕ) (items : List ℕ) (a b : Option (List ℕ)) → n ≤ length items → LosesAtMost (size - n) a b → LosesAtMost (size - length (take n items)) a b
+loses_by_held size n items a b there lost = (lost.0, omega (arith, there, lost.1, length-take n items), lost.2)
 
 -- more was lost
 pub loses_more : (m k n : ℕ) (a b c : Option (List ℕ)) (front : List ℕ) → LosesAtMost m a b → Consumes b c front → length front ≤ k → m + k ≤ n → LosesAtMost n a c

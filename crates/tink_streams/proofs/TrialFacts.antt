@@ -10,7 +10,7 @@ use Rattle.stream_model.specs.Opening.{OpeningKey, HasFront, Begins, FirstAgrees
 use Rattle.stream_model.proofs.AgreeFacts.{AreTexts-leads}
 use Rattle.tink_segment_traits.specs.declared.segment_traits.SegmentDecrypter.{Ghosts}
 use Rattle.tink_streams.specs.Opening.{HeadOpensTo, HoldsChunk}
-use Rattle.tink_streams.specs.Trials.{DoesBegin, DoesNotBegin, TrialMeans}
+use Rattle.tink_streams.specs.Trials.{DoesBegin, DoesNotBegin, MayBegin, TrialMeans}
 use Rattle.tink_streams.specs.declared.trying.Begun.{Begun}
 use Rattle.tink_streams.proofs.FrontFacts.{fits_or_not, opened_front, refused_front}
 
@@ -47,13 +47,28 @@ header_bytes k H X Y e long =
     ∙ take-append-le k.header (drop (length k.out) H) Y (omega (arith, long, length-drop (length k.out) H))
 
 -- a stream begins in no front of a key from which keys are derived
-pub not_begun : (k : OpeningKey) (r left : Option (List ℕ)) (H : List ℕ) → 0 < k.header → HoldsChunk (front_length k) r H left → (HasFront k H → k.seg (header_of k H) ≡ None) → IfSome r (λ X. Begins k X → ⊥)
-not_begun k None left H pos h none = tt
-not_begun k (Some X) None H pos h none = absurd h.all
-not_begun k (Some X) (Some Y) H pos h none = λ b.
-    let here : HasFront k H = front_of_held k H Y pos h.end (subst (HasFront k) (sym h.all) b.front) in
+pub not_begun : (k : OpeningKey) (size : ℕ) (r left : Option (List ℕ)) (H : List ℕ) → 0 < k.header → HoldsChunk size r H left → front_length k ≤ size → (HasFront k H → k.seg (header_of k H) ≡ None) → IfSome r (λ X. Begins k X → ⊥)
+not_begun k size None left H pos h room none = tt
+not_begun k size (Some X) None H pos h room none = absurd h.all
+not_begun k size (Some X) (Some Y) H pos h room none = λ b.
+    let here : HasFront k H = front_of_held k H Y pos (λ few. h.end (omega (arith, few, room))) (subst (HasFront k) (sym h.all) b.front) in
     let underived : k.seg (header_of k X) ≡ None = ap k.seg (header_bytes k H X Y h.all here.long) ∙ none here in
     subst (λ (s : Option (ℕ → Bool → List ℕ → List ℕ)). FirstAgrees s (chunks_of k X)) underived b.first
+
+-- no more is kept than tells the front
+pub no_further : (k : OpeningKey) (r : Option (List ℕ)) (most filled : ℕ) → filled ≤ most → IfSome r (λ X. most < filled → MayBegin k X)
+no_further k None most filled few = tt
+no_further k (Some X) most filled few = λ more. absurd (omega (arith, few, more))
+
+-- more is kept behind a front that is held in H, from whose header keys are derived
+pub goes_further : (k : OpeningKey) (r left : Option (List ℕ)) (H : List ℕ) (seg : ℕ → Bool → List ℕ → List ℕ) (most filled : ℕ) → 0 < k.header → Keeps r (prepend_known H left) → HasFront k H → k.seg (header_of k H) ≡ Some seg
+    → IfSome r (λ X. most < filled → MayBegin k X)
+goes_further k None left H seg most filled pos kept front map = tt
+goes_further k (Some X) None H seg most filled pos kept front map = absurd kept
+goes_further k (Some X) (Some Y) H seg most filled pos kept front map = λ _. record {
+  front = subst (HasFront k) kept (front_of_all k H Y pos front);
+  derived = λ none. absurd (let e : Some seg ≡ None = sym map ∙ sym (ap k.seg (header_bytes k H X Y kept front.long)) ∙ none in cc);
+}
 
 -- the first segment is tried under a front that is held in H, from whose header keys are derived
 pub record Tried (k : OpeningKey) (r l m : Option (List ℕ)) (H G part : List ℕ) (seg : ℕ → Bool → List ℕ → List ℕ) (size : ℕ) : Type 0 where

@@ -1,9 +1,9 @@
 -- What a contract sees of readers that are handed their source at each call.
-use Rattle.std.specs.Prelude.{◌≡◌, ℕ, ◌+◌, Bool, List, [], drop, take, vec_len, vec_capacity}
+use Rattle.std.specs.Prelude.{◌≡◌, ℕ, ◌+◌, ◌-◌, Bool, List, [], drop, length, take, vec_len, vec_capacity}
 use Rattle.std.specs.Option.{ForSome}
 use Rattle.std.specs.declared.option.Option.{Option}
 use Rattle.std.specs.Io.KnownBytes.{prepend_known}
-use Rattle.stream_model.specs.Cut.{numbered}
+use Rattle.stream_model.specs.Cut.{numbered, room_at}
 use Rattle.tink_segment_traits.specs.declared.segment_traits.SegmentDecrypter.{Ghosts}
 use Rattle.tink_streams.specs.Readers.{ReaderState}
 use Rattle.tink_streams.specs.Reading as segments
@@ -21,6 +21,10 @@ module _ {D : Type 0} {g : Ghosts D} where
   -- the bytes that a reader holds
   abbrev pub held_bytes : SegmentReader D g → List ℕ
   held_bytes r = take r.filled r.buffer.items
+
+  -- how many bytes of the next chunk and of the one byte behind it are not yet held
+  abbrev pub reader_lacks : SegmentReader D g → ℕ
+  reader_lacks r = room_at r.opener.first r.opener.size r.segments + 1 - length (held_bytes r)
 
   -- the memory that is kept for a segment, its text, its nonce and the prefix of nonces, in bytes
   abbrev pub reader_memory : SegmentReader D g → ℕ

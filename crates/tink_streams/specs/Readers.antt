@@ -1,8 +1,8 @@
 -- What a contract sees of a reader that owns its source.
-use Rattle.std.specs.Prelude.{ℕ, Bool, List}
+use Rattle.std.specs.Prelude.{ℕ, ◌+◌, ◌-◌, Bool, List, length}
 use Rattle.std.specs.declared.option.Option.{Option}
 use Rattle.std.specs.Io.KnownBytes.{prepend_known}
-use Rattle.stream_model.specs.Cut.{numbered}
+use Rattle.stream_model.specs.Cut.{numbered, room_at}
 use Rattle.tink_streams.specs.TextReading.{TextMoment}
 use Rattle.tink_streams.specs.declared.progress.Progress.{Progress}
 
@@ -32,6 +32,10 @@ pub record ReaderState (R D : Type 0) : Type 0 where
 -- the segment of a text by its number and its mark
 abbrev pub seg_of : {D : Type 0} → (D → List ℕ → List ℕ → List ℕ) → SegmentOpening D → ℕ → Bool → List ℕ → List ℕ
 seg_of seg o = numbered (seg o.decrypter) o.nonce_size o.prefix
+
+-- how many bytes of the next chunk and of the one byte behind it are not yet held
+abbrev pub lacks : {R D : Type 0} → ReaderState R D → ℕ
+lacks r = room_at r.opening.first r.opening.size r.number + 1 - length r.held
 
 -- the reader at this moment, by what its source still gives and by its faults
 abbrev pub moment_of : {R D : Type 0} → (R → Option (List ℕ)) → (R → ℕ) → ReaderState R D → TextMoment

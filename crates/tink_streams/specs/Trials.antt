@@ -2,7 +2,7 @@
 use Rattle.std.specs.Prelude.{◌≡◌, ◌≤◌, ◌<◌, ℕ, List, Vec, Result, Ok, Err, None, Some, IfSome, vec_len, vec_capacity}
 use Rattle.std.specs.declared.option.Option.{Option}
 use Rattle.std.specs.Io.KnownBytes.{Keeps}
-use Rattle.stream_model.specs.Opening.{OpeningKey, Begins, IsChosen}
+use Rattle.stream_model.specs.Opening.{OpeningKey, Begins, HasFront, IsChosen, header_of}
 use Rattle.tink_io.specs.Faults.{Rose}
 use Rattle.tink_segment_traits.specs.declared.segment_traits.SegmentDecrypter.{Ghosts}
 use Rattle.tink_streams.specs.Choosing.{IsOpenerOf, Found}
@@ -15,6 +15,11 @@ pub record DoesNotBegin {Z : Type 0} (k : OpeningKey) (old new : Option (List �
   pub none : IfSome old (λ X. Begins k X → ⊥)
   pub rest : Keeps old new
   pub room : 7 ≤ vec_capacity prefix
+
+-- the stream begins in a front of the key, from whose header keys are derived
+pub record MayBegin (k : OpeningKey) (X : List ℕ) : Type 0 where
+  pub front : HasFront k X
+  pub derived : k.seg (header_of k X) ≡ None → ⊥
 
 -- the source failed, and none of its bytes is lost
 pub record TrialFailed (old new : Option (List ℕ)) (before after : ℕ) : Type 0 where

@@ -1,4 +1,5 @@
 ghost use Rattle.std.specs.Prelude.{◌≡◌, ◌≤◌, ◌<◌, ◌+◌, ◌-◌, [], List, ℕ, length, take, None, Some, IfOk, OnOk, IfErr, vec_len, vec_capacity};
+ghost use Rattle.tink_io.specs.Taken.{LosesAtMost};
 ghost use Rattle.tink_segment_traits.specs.Sizes.{sizes_fault};
 ghost use Rattle.tink_streams.specs.declared.progress.Progress.TheVariants.{Running};
 
@@ -47,7 +48,7 @@ impl<R: Source, D: SegmentDecrypter> Model for Reader<R, D> {
 
 impl<R: Source + Drop, D: SegmentDecrypter + Drop> Reader<R, D> {
     ghost use Rattle.tink_streams.specs.TextReading.{IsDue, ReadMeans};
-    ghost use Rattle.tink_streams.specs.Readers.{ReaderState, moment_of, seg_of};
+    ghost use Rattle.tink_streams.specs.Readers.{ReaderState, lacks, moment_of, seg_of};
     ghost use Rattle.tink_streams.specs.Openers.{reader_state};
 
     /// A reader that has read nothing, with memory by `Buffers::reserve` for these sizes. The
@@ -134,8 +135,9 @@ impl<R: Source + Drop, D: SegmentDecrypter + Drop> Reader<R, D> {
     }
 
     /// Gives the next bytes of the text, as many as are opened and `buf` has room for, and answers
-    /// how many. Where no opened text is left, the next segment is opened first. `Ok(0)` comes on an
-    /// empty buffer, which reads nothing, and at the end, for good. It keeps the memory that it has.
+    /// how many. Where no opened text is left, the next segment is opened first, for which no more is
+    /// read than its chunk and a byte behind it. `Ok(0)` comes on an empty buffer, which reads nothing,
+    /// and at the end, for good. It keeps the memory that it has.
     ///
     /// # Errors
     /// ReadFault where the source failed, TooManySegments where bytes follow the segment of number
@@ -149,6 +151,8 @@ impl<R: Source + Drop, D: SegmentDecrypter + Drop> Reader<R, D> {
         // where no segment is due, nothing is read
         ensures idle { (IsDue (moment_of R.left R.faults self.old) (length buf.old) → ⊥)
             → (self.new.source ≡ self.old.source) × (self.new.held ≡ self.old.held) }
+        // whatever the answer, no more is read than the next chunk and a byte behind it
+        ensures read { LosesAtMost (lacks self.old) (R.left self.old.source) (R.left self.new.source) }
         ensures opening { self.new.opening ≡ self.old.opening }
         ensures room { self.new.room ≡ self.old.room }
         ensures memory { self.new.memory ≡ self.old.memory }
@@ -177,7 +181,7 @@ impl<R: Source + Drop, D: SegmentDecrypter + Drop> Reader<R, D> {
 impl<R: Source + Drop, D: SegmentDecrypter + Drop> DecryptingRead for Reader<R, D> {
     ghost use Rattle.std.specs.Io.{ReadsAtMost};
     ghost use Rattle.tink_streams.specs.TextReading.{IsDue, ReadMeans};
-    ghost use Rattle.tink_streams.specs.Readers.{moment_of, seg_of};
+    ghost use Rattle.tink_streams.specs.Readers.{lacks, moment_of, seg_of};
 
     fn read(&mut self, buf: &mut [u8]) -> Result<usize, TinkError>
         ensures bound { ReadsAtMost result buf.new }
@@ -186,6 +190,7 @@ impl<R: Source + Drop, D: SegmentDecrypter + Drop> DecryptingRead for Reader<R, 
             (moment_of R.left R.faults self.old) (moment_of R.left R.faults self.new) buf.old buf.new result }
         ensures idle { (IsDue (moment_of R.left R.faults self.old) (length buf.old) → ⊥)
             → (self.new.source ≡ self.old.source) × (self.new.held ≡ self.old.held) }
+        ensures read { LosesAtMost (lacks self.old) (R.left self.old.source) (R.left self.new.source) }
         ensures opening { self.new.opening ≡ self.old.opening }
         ensures room { self.new.room ≡ self.old.room }
         ensures memory { self.new.memory ≡ self.old.memory }

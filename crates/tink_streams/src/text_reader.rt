@@ -1,4 +1,5 @@
 ghost use Rattle.std.specs.Prelude.{◌≡◌, ◌≤◌, length, take, drop, min, IfOk, vec_len};
+ghost use Rattle.tink_io.specs.Taken.{LosesAtMost};
 ghost use Rattle.tink_streams.specs.Reading.{HasNotFailed};
 
 use crate::progress::Progress;
@@ -28,7 +29,7 @@ fn give(text: &[u8], buf: &mut [u8]) -> usize
 
 impl<D: SegmentDecrypter + Drop> TextReader<D> {
     ghost use Rattle.tink_streams.specs.TextReading.{IsDue, ReadMeans, ReadyMeans};
-    ghost use Rattle.tink_streams.specs.Openers.{EndsEmpty, held_bytes, reader_memory, segment_map, text_moment};
+    ghost use Rattle.tink_streams.specs.Openers.{EndsEmpty, held_bytes, reader_lacks, reader_memory, segment_map, text_moment};
 
     // Opens the next segment where no opened text is left to give and more may come.
     fn make_ready<S: Source>(&mut self, source: &mut S) -> Result<(), TinkError>
@@ -41,6 +42,7 @@ impl<D: SegmentDecrypter + Drop> TextReader<D> {
         // where no segment is due, nothing is read
         ensures idle { (IsDue (text_moment S.left S.faults self.old source.old) 1 → ⊥)
             → (source.new ≡ source.old) × (held_bytes self.new.reader ≡ held_bytes self.old.reader) }
+        ensures read { LosesAtMost (reader_lacks self.old.reader) (S.left source.old) (S.left source.new) }
         ensures opener { self.new.reader.opener ≡ self.old.reader.opener }
         ensures room { vec_len self.new.reader.buffer ≡ vec_len self.old.reader.buffer }
         ensures memory { reader_memory self.new.reader ≡ reader_memory self.old.reader }
@@ -60,8 +62,9 @@ impl<D: SegmentDecrypter + Drop> TextReader<D> {
     }
 
     /// Gives the next bytes of the text, as many as are opened and `buf` has room for, and answers how many. Where no
-    /// opened text is left, the next segment is opened first. `Ok(0)` comes on an empty buffer, which reads nothing,
-    /// and at the end, for good. The reader keeps the memory that it has.
+    /// opened text is left, the next segment is opened first, for which no more is read than its chunk and a byte behind
+    /// it. `Ok(0)` comes on an empty buffer, which reads nothing, and at the end, for good. The reader keeps the memory
+    /// that it has.
     ///
     /// # Errors
     /// ReadFault, TooManySegments, BadSegment and Truncated where the next segment was not opened, as in
@@ -77,6 +80,8 @@ impl<D: SegmentDecrypter + Drop> TextReader<D> {
         // where no segment is due, nothing is read
         ensures idle { (IsDue (text_moment S.left S.faults self.old source.old) (length buf.old) → ⊥)
             → (source.new ≡ source.old) × (held_bytes self.new.reader ≡ held_bytes self.old.reader) }
+        // whatever the answer, no more is read than the next chunk and a byte behind it
+        ensures read { LosesAtMost (reader_lacks self.old.reader) (S.left source.old) (S.left source.new) }
         ensures opener { self.new.reader.opener ≡ self.old.reader.opener }
         ensures room { vec_len self.new.reader.buffer ≡ vec_len self.old.reader.buffer }
         ensures memory { reader_memory self.new.reader ≡ reader_memory self.old.reader }

@@ -5,7 +5,7 @@ ghost use Rattle.tink_streams.specs.Choosing.{HasSizesOf};
 ghost use Rattle.tink_streams.specs.Keeping.{kept_rest};
 ghost use Rattle.tink_streams.specs.Openers.{segment_map};
 ghost use Rattle.tink_streams.specs.Rooms.{HasRoomToTry, KeepsRoom};
-ghost use Rattle.tink_streams.specs.Trials.{TrialFailed, TrialMeans};
+ghost use Rattle.tink_streams.specs.Trials.{MayBegin, TrialFailed, TrialMeans};
 
 use crate::kept::Kept;
 use crate::memory::refill;
@@ -153,7 +153,8 @@ fn begun_if<D: SegmentDecrypter + Drop>(
 }
 
 /// How the stream of a source is opened, if it begins in a front of the key and then in the segment of some text;
-/// else the memory of its prefix again. No more is read than tells it.
+/// else the memory of its prefix again. No more is read than tells it: a byte behind the front, and a byte behind the
+/// first segment only where keys are derived from the header of a front of the key.
 ///
 /// # Errors
 /// Failed where the source failed. What was read is kept.
@@ -173,6 +174,9 @@ pub fn try_key<S: Source, D: SegmentDecrypter + Drop, T: OpensStreams<D>>(
         (kept_rest S.left kept.new source.new) (S.faults source.old) (S.faults source.new)) }
     ensures most { kept.new.filled ≤ max kept.old.filled
         (front_length (T.opening_key key.now) + (T.opening_key key.now).first + 1) }
+    ensures further { IfSome (kept_rest S.left kept.old source.old) (λ X.
+        max kept.old.filled (front_length (T.opening_key key.now) + 1) < kept.new.filled
+        → MayBegin (T.opening_key key.now) X) }
     ensures room { KeepsRoom kept.old kept.new nonce.old nonce.new opened.old opened.new }
     ensures prefix { IfOk result (λ tried. MatchResult tried (λ b. vec_capacity b.opener.prefix ≡ vec_capacity prefix)
         (λ p. vec_capacity p ≡ vec_capacity prefix)) }

@@ -1,4 +1,4 @@
-use Rattle.std.proofs.Common.{◌≡◌, ◌+◌, ◌-◌, ◌∙◌, ℕ, Bool, List, length, take, drop, Some, ap, refl, subst, arith}
+use Rattle.std.proofs.Common.{◌≡◌, ◌+◌, ◌-◌, ◌∙◌, ℕ, Bool, List, length, take, drop, max, Some, ap, refl, arith}
 use Rattle.std.proofs.KnownBytes.{Keeps-trans}
 use Rattle.std.proofs.lemmas.List.{length-take}
 use Rattle.std.proofs.lemmas.Result.{err_from_is_err_and}
@@ -6,9 +6,8 @@ use Rattle.std.specs.declared.option.Option.{Option}
 use Rattle.stream_model.specs.Opening.{OpeningKey, Begins, front_length, header_of}
 use Rattle.tink_streams.specs.Choosing.{IsOpenerOf}
 use Rattle.tink_streams.specs.Keeping.{kept_bytes, kept_rest}
-use Rattle.tink_streams.specs.Opening.{HoldsChunk}
 use Rattle.tink_streams.specs.Openers.{segment_map}
-use Rattle.tink_streams.proofs.TrialFacts.{Tried, not_begun, held_from, begun, refused, part_of, trial_means, prefix_kept}
+use Rattle.tink_streams.proofs.TrialFacts.{Tried, not_begun, no_further, goes_further, held_from, begun, refused, part_of, trial_means, prefix_kept}
 use Rattle.tink_streams.proofs.ChoosingSteps.{both_told}
 use Rattle.tink_streams.proofs.trying.try_key.Goals as goal
 
@@ -21,8 +20,7 @@ returns-in-Err-clause-answer g c =
     let left : Option (List ℕ) = g.S.Source.left c.keep.new.source in
     let held : List ℕ = kept_bytes c.keep.new.self in
     record {
-      none = not_begun k old left held (omega (arith, c.header_length-h.ensures.is, c.header_length-h.ensures.long))
-          (subst (λ (n : ℕ). HoldsChunk n old held left) front_is c.in_ok-keep.ensures.held)
+      none = not_begun k _ old left held (omega (arith, c.header_length-h.ensures.is, c.header_length-h.ensures.long)) c.in_ok-keep.ensures.held (omega (arith, front_is))
           (rw c.deref.ensures.value at c.in-Err.ensures.none);
       rest = c.in_ok-keep.ensures.held.all;
       room = omega (arith, c.in-Err.ensures.room, c.requires.room.prefix_room);
@@ -69,7 +67,7 @@ returns-clause-answer g c =
     })
 
 pub keep-requires : goal.keep-requires
-keep-requires g c = omega (arith, ap length c.output_prefix.ensures.is, c.header_length-h.ensures.is, c.first_segment_size.ensures.is, c.first_segment_size.ensures.fits, c.requires.room.sealed_room)
+keep-requires g c = omega (arith, ap length c.output_prefix.ensures.is, c.header_length-h.ensures.is, c.first_segment_size.ensures.is, c.first_segment_size.ensures.long, c.first_segment_size.ensures.fits, c.requires.room.sealed_room)
 
 pub keep-requires-2 : goal.keep-requires-2
 keep-requires-2 g c = omega (arith, ap length c.output_prefix.ensures.is, c.header_length-h.ensures.is, c.first_segment_size.ensures.is, c.first_segment_size.ensures.fits, c.requires.room.sealed_room, c.in-Ok.ensures.sizes.0, c.in_ok-keep.ensures.len)
@@ -83,7 +81,14 @@ returns-in_err-keep-clause-failed g c =
     rw p.1 (record { rest = c.in_err-keep.ensures.held; rose = c.in_err-keep.ensures.rose })
 
 pub returns-in_err-keep-clause-most : goal.returns-in_err-keep-clause-most
-returns-in_err-keep-clause-most g c = omega (arith, ap length c.output_prefix.ensures.is, c.header_length-h.ensures.is, c.in_err-keep.ensures.most)
+returns-in_err-keep-clause-most g c = omega (arith, ap length c.output_prefix.ensures.is, c.header_length-h.ensures.is, c.first_segment_size.ensures.is, c.first_segment_size.ensures.long, c.in_err-keep.ensures.most)
+
+pub returns-in_err-keep-clause-further : goal.returns-in_err-keep-clause-further
+returns-in_err-keep-clause-further g c =
+    let k : OpeningKey = g.T.OpensStreams.opening_key c.args.key.now in
+    let old : Option (List ℕ) = kept_rest g.S.Source.left c.args.kept.now c.args.source.now in
+    no_further k old (max c.args.kept.now.filled (front_length k + 1)) c.keep.new.self.filled
+    (omega (arith, ap length c.output_prefix.ensures.is, c.header_length-h.ensures.is, c.in_err-keep.ensures.most))
 
 pub returns-in_err-keep-clause-room : goal.returns-in_err-keep-clause-room
 returns-in_err-keep-clause-room g c =
@@ -103,7 +108,14 @@ pub returns-in-Err-clause-failed : goal.returns-in-Err-clause-failed
 returns-in-Err-clause-failed g c = tt
 
 pub returns-in-Err-clause-most : goal.returns-in-Err-clause-most
-returns-in-Err-clause-most g c = omega (arith, ap length c.output_prefix.ensures.is, c.header_length-h.ensures.is, c.in_ok-keep.ensures.most)
+returns-in-Err-clause-most g c = omega (arith, ap length c.output_prefix.ensures.is, c.header_length-h.ensures.is, c.first_segment_size.ensures.is, c.first_segment_size.ensures.long, c.in_ok-keep.ensures.most)
+
+pub returns-in-Err-clause-further : goal.returns-in-Err-clause-further
+returns-in-Err-clause-further g c =
+    let k : OpeningKey = g.T.OpensStreams.opening_key c.args.key.now in
+    let old : Option (List ℕ) = kept_rest g.S.Source.left c.args.kept.now c.args.source.now in
+    no_further k old (max c.args.kept.now.filled (front_length k + 1)) c.keep.new.self.filled
+    (omega (arith, ap length c.output_prefix.ensures.is, c.header_length-h.ensures.is, c.in_ok-keep.ensures.most))
 
 pub returns-in-Err-clause-room : goal.returns-in-Err-clause-room
 returns-in-Err-clause-room g c =
@@ -133,7 +145,16 @@ returns-in_err-keep-2-clause-failed g c =
     rw p.1 (record { rest = Keeps-trans old between new first.held.all then.held; rose = omega (arith, first.later, then.rose) })
 
 pub returns-in_err-keep-2-clause-most : goal.returns-in_err-keep-2-clause-most
-returns-in_err-keep-2-clause-most g c = omega (arith, ap length c.output_prefix.ensures.is, c.header_length-h.ensures.is, c.in-Ok.ensures.sizes.0, c.in_ok-keep.ensures.most, c.in_err-keep-2.ensures.most)
+returns-in_err-keep-2-clause-most g c = omega (arith, ap length c.output_prefix.ensures.is, c.header_length-h.ensures.is, c.first_segment_size.ensures.is, c.first_segment_size.ensures.long, c.in-Ok.ensures.sizes.0, c.in_ok-keep.ensures.most, c.in_err-keep-2.ensures.most)
+
+pub returns-in_err-keep-2-clause-further : goal.returns-in_err-keep-2-clause-further
+returns-in_err-keep-2-clause-further g c =
+    let k : OpeningKey = g.T.OpensStreams.opening_key c.args.key.now in
+    let old : Option (List ℕ) = kept_rest g.S.Source.left c.args.kept.now c.args.source.now in
+    let left : Option (List ℕ) = g.S.Source.left c.keep.new.source in
+    goes_further k old left (kept_bytes c.keep.new.self) (segment_map c.in-Ok.opener) (max c.args.kept.now.filled (front_length k + 1)) c.keep-2.new.self.filled
+    (omega (arith, c.header_length-h.ensures.is, c.header_length-h.ensures.long)) c.in_ok-keep.ensures.held.all
+    (rw c.deref.ensures.value at c.in-Ok.ensures.front) (rw c.deref.ensures.value at c.in-Ok.ensures.map)
 
 pub returns-in_err-keep-2-clause-room : goal.returns-in_err-keep-2-clause-room
 returns-in_err-keep-2-clause-room g c =
@@ -160,7 +181,16 @@ pub returns-clause-failed : goal.returns-clause-failed
 returns-clause-failed g c = tt
 
 pub returns-clause-most : goal.returns-clause-most
-returns-clause-most g c = omega (arith, ap length c.output_prefix.ensures.is, c.header_length-h.ensures.is, c.in-Ok.ensures.sizes.0, c.in_ok-keep.ensures.most, c.in_ok-keep-2.ensures.most)
+returns-clause-most g c = omega (arith, ap length c.output_prefix.ensures.is, c.header_length-h.ensures.is, c.first_segment_size.ensures.is, c.first_segment_size.ensures.long, c.in-Ok.ensures.sizes.0, c.in_ok-keep.ensures.most, c.in_ok-keep-2.ensures.most)
+
+pub returns-clause-further : goal.returns-clause-further
+returns-clause-further g c =
+    let k : OpeningKey = g.T.OpensStreams.opening_key c.args.key.now in
+    let old : Option (List ℕ) = kept_rest g.S.Source.left c.args.kept.now c.args.source.now in
+    let left : Option (List ℕ) = g.S.Source.left c.keep.new.source in
+    goes_further k old left (kept_bytes c.keep.new.self) (segment_map c.in-Ok.opener) (max c.args.kept.now.filled (front_length k + 1)) c.keep-2.new.self.filled
+    (omega (arith, c.header_length-h.ensures.is, c.header_length-h.ensures.long)) c.in_ok-keep.ensures.held.all
+    (rw c.deref.ensures.value at c.in-Ok.ensures.front) (rw c.deref.ensures.value at c.in-Ok.ensures.map)
 
 pub returns-clause-room : goal.returns-clause-room
 returns-clause-room g c =

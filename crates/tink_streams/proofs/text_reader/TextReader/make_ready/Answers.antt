@@ -1,4 +1,6 @@
-use Rattle.std.proofs.Common.{◌<◌, length, arith, refl}
+use Rattle.std.proofs.Common.{◌<◌, ◌+◌, length, arith, refl}
+use Rattle.stream_model.specs.Cut.{room_at}
+use Rattle.tink_streams.proofs.HeldFacts.{loses_none, loses_by_held}
 use Rattle.tink_streams.proofs.TextFacts.{ready_held, told_end, not_none, over}
 use Rattle.tink_streams.proofs.text_reader.TextReader.make_ready.Goals as goal
 
@@ -17,9 +19,18 @@ returns-in_default g c =
           (λ e. record { ended = ended; some = self.reader.ended_some ended; pending = e; rest = told_end _ (c.requires.at_end ended) })
           (λ e. told_end _ (c.requires.at_end e));
       idle = λ _. (refl, refl);
+      read = loses_none _ _;
       opener = refl;
       room = refl;
       memory = refl;
       later = omega arith;
       same = g.met.S.Source.same_refl _;
     }
+
+pub returns-then-self-len-clause-read : goal.returns-then-self-len-clause-read
+returns-then-self-len-clause-read g c = loses_none _ _
+
+pub returns-in-Running-clause-read : goal.returns-in-Running-clause-read
+returns-in-Running-clause-read g c =
+    let reader = c.args.self.now.reader in
+    loses_by_held (room_at reader.opener.first reader.opener.size reader.segments + 1) reader.filled reader.buffer.items _ _ (omega (arith, reader.filled_in, reader.buffer.ok.0)) c.open_next.ensures.read

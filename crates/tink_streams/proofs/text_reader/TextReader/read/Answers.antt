@@ -1,5 +1,6 @@
 use Rattle.std.proofs.Common.{rules, ◌≡◌, ◌<◌, ◌-◌, List, ℕ, length, take, drop, min, arith, ap, refl, sym, ◌∙◌, length-drop}
 use Rattle.std.proofs.lemmas.List.{take_all, drop-drop}
+use Rattle.tink_streams.proofs.HeldFacts.{loses_none}
 use Rattle.tink_streams.proofs.TextFacts.{due_room, gives_none, given_ready, told_end, end_told, not_failed}
 use Rattle.tink_streams.proofs.text_reader.TextReader.read.Goals as goal
 
@@ -12,6 +13,7 @@ returns-then-is_empty g c =
       within = omega arith;
       at_end = c.requires.at_end;
       idle = λ _. (refl, refl);
+      read = loses_none _ _;
       opener = refl;
       room = refl;
       memory = refl;
@@ -34,9 +36,16 @@ returns g c =
       within = omega (arith, c.give-n.ensures.count, c.give-n.auto.buf);
       at_end = λ e. end_told _ (answer.ends e);
       idle = λ none. c.in_ok-make_ready.ensures.idle (λ d. none (due_room _ (length c.args.buf.now) some d));
+      read = c.in_ok-make_ready.ensures.read;
       opener = c.in_ok-make_ready.ensures.opener;
       room = c.in_ok-make_ready.ensures.room;
       memory = c.in_ok-make_ready.ensures.memory;
       later = c.in_ok-make_ready.ensures.later;
       same = c.in_ok-make_ready.ensures.same;
     }
+
+pub returns-in-Failed-clause-read : goal.returns-in-Failed-clause-read
+returns-in-Failed-clause-read g c = loses_none _ _
+
+pub returns-in_err-make_ready-clause-read : goal.returns-in_err-make_ready-clause-read
+returns-in_err-make_ready-clause-read g c = c.in_err-make_ready.ensures.read
