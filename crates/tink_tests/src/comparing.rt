@@ -12,3 +12,12 @@ pub fn expect(rt: &impl Abort, got: Result<bool, TinkError>, row: &str) {
     };
     assert_eq!(rt; got, Ok(true), "{row}");
 }
+
+/// The same of the row of that number in its table.
+pub fn expect_at(rt: &impl Abort, got: Result<bool, TinkError>, row: &str, number: usize) {
+    let got: Result<bool, Kind> = match got {
+        Ok(holds) => Ok(holds),
+        Err(e) => Err(e.kind),
+    };
+    assert_eq!(rt; got, Ok(true), "{row}, at {number}");
+}

@@ -1,8 +1,18 @@
-//! Whole tasks of a user, and the registry of all managers.
+//! Whole tasks of a user, the registry of all managers, and streams that are moved to other keys.
 #![tactic(auto)]
 
 #[cfg(test)]
 mod comparing;
+#[cfg(test)]
+mod rewrap_callers;
+#[cfg(test)]
+mod rewrap_faults;
+#[cfg(test)]
+mod rewrap_rows;
+#[cfg(test)]
+mod rewrap_support;
+#[cfg(test)]
+mod rewrap_tests;
 #[cfg(test)]
 mod rotation;
 #[cfg(test)]

@@ -1,10 +1,10 @@
 //! The rows, and the one test.
 
-use crate::callers::is_moved;
-use crate::comparing::expect;
-use crate::faults::fails_in_turn;
-use crate::rows::{Input, Row, Want, holds};
-use crate::support::{Keys, Side, Trouble};
+use crate::comparing::expect_at;
+use crate::rewrap_callers::is_moved;
+use crate::rewrap_faults::fails_in_turn;
+use crate::rewrap_rows::{Input, Row, Want, holds};
+use crate::rewrap_support::{Keys, Side, Trouble};
 use std::alloc::Global;
 use std::process::Abort;
 use tink_io::Kind;
@@ -374,7 +374,7 @@ fn try_directions(rt: &impl Abort, alloc: Global) {
                 draws: 1024,
                 want: Want::Sealed(*count, *length),
             };
-            expect(rt, holds(alloc, &row, ALL), row.name, *length);
+            expect_at(rt, holds(alloc, &row, ALL), row.name, *length);
         }
     }
 }
@@ -383,7 +383,7 @@ fn try_rows(rt: &impl Abort, alloc: Global) {
     for row in ROWS {
         let (_, first, last) = row.trouble;
         for number in first..=last {
-            expect(rt, holds(alloc, row, number), row.name, number as usize);
+            expect_at(rt, holds(alloc, row, number), row.name, number as usize);
         }
     }
 }
@@ -391,7 +391,7 @@ fn try_rows(rt: &impl Abort, alloc: Global) {
 fn try_faults(rt: &impl Abort, alloc: Global) {
     for (name, trouble, kind, least) in &FAULTS {
         let in_turn = fails_in_turn(alloc, *trouble, *kind, *least);
-        expect(rt, in_turn, name, 0);
+        expect_at(rt, in_turn, name, 0);
     }
 }
 
@@ -401,5 +401,5 @@ fn rows_hold(rt: HostRuntime) {
     try_directions(&rt, alloc);
     try_rows(&rt, alloc);
     try_faults(&rt, alloc);
-    expect(&rt, is_moved(alloc), "a stream in memory", 1);
+    expect_at(&rt, is_moved(alloc), "a stream in memory", 1);
 }

@@ -1,6 +1,6 @@
 //! Which keys of streams build, and of which formats keys are made.
 
-use crate::comparing::{expect, expect_bytes};
+use crate::comparing::{expect_bytes, expect_same};
 use std::alloc::Global;
 use std::process::Abort;
 use std::test::Fail;
@@ -46,7 +46,7 @@ fn tells_sizes(rt: HostRuntime) -> Result<(), Fail> {
 #[test]
 fn tells_a_header(rt: HostRuntime) -> Result<(), Fail> {
     let told = offset_key(rt.alloc())?.header_length();
-    expect(&rt, told, 40, "the header");
+    expect_same(&rt, told, 40, "the header");
     Ok(())
 }
 
@@ -185,7 +185,7 @@ fn expect_ctr_hmac_key(rt: &impl Abort, alloc: Global, case: &CtrHmacCase) -> Re
     let (size, derived, hkdf_hash, tag_hash, tag_size, segment, holds) = *case;
     let params = ctr_hmac_params(derived, hkdf_hash, tag_hash, tag_size, segment);
     let told = ctr_hmac_refusal(alloc, 0, params, size as usize)?;
-    expect(rt, told, unless(holds, Kind::InvalidKey), "a key");
+    expect_same(rt, told, unless(holds, Kind::InvalidKey), "a key");
     Ok(())
 }
 
@@ -216,7 +216,7 @@ fn expect_ctr_hmac_format(rt: &impl Abort, alloc: Global, case: &CtrHmacCase) ->
     let (size, derived, hkdf_hash, tag_hash, tag_size, segment, holds) = *case;
     let params = ctr_hmac_params(derived, hkdf_hash, tag_hash, tag_size, segment);
     let told = ctr_hmac_format_refusal(alloc, 0, params, size)?;
-    expect(rt, told, unless(holds, Kind::InvalidFormat), "a format");
+    expect_same(rt, told, unless(holds, Kind::InvalidFormat), "a format");
     Ok(())
 }
 
@@ -249,7 +249,7 @@ fn expect_gcm_hkdf_key(rt: &impl Abort, alloc: Global, case: &GcmHkdfCase) -> Re
     let (size, derived, hkdf_hash, segment, holds) = *case;
     let params = gcm_hkdf_params(derived, hkdf_hash, segment);
     let told = gcm_hkdf_refusal(alloc, 0, params, size as usize)?;
-    expect(rt, told, unless(holds, Kind::InvalidKey), "a key");
+    expect_same(rt, told, unless(holds, Kind::InvalidKey), "a key");
     Ok(())
 }
 
@@ -279,7 +279,7 @@ fn expect_gcm_hkdf_format(rt: &impl Abort, alloc: Global, case: &GcmHkdfCase) ->
     let (size, derived, hkdf_hash, segment, holds) = *case;
     let params = gcm_hkdf_params(derived, hkdf_hash, segment);
     let told = gcm_hkdf_format_refusal(alloc, params, size)?;
-    expect(rt, told, unless(holds, Kind::InvalidFormat), "a format");
+    expect_same(rt, told, unless(holds, Kind::InvalidFormat), "a format");
     Ok(())
 }
 
@@ -296,13 +296,13 @@ fn keys_and_formats_of_another_version_are_refused(rt: HostRuntime) -> Result<()
     let alloc = rt.alloc();
     let params = ctr_hmac_params(16, 3, 3, 10, 4096);
     let told = ctr_hmac_refusal(alloc, 1, params, 16)?;
-    expect(&rt, told, Some(Kind::InvalidKey), "a key in counter mode");
+    expect_same(&rt, told, Some(Kind::InvalidKey), "a key in counter mode");
     let params = gcm_hkdf_params(16, 3, 4096);
     let told = gcm_hkdf_refusal(alloc, 1, params, 16)?;
-    expect(&rt, told, Some(Kind::InvalidKey), "a key by GCM");
+    expect_same(&rt, told, Some(Kind::InvalidKey), "a key by GCM");
     let params = ctr_hmac_params(16, 3, 3, 10, 4096);
     let told = ctr_hmac_format_refusal(alloc, 1, params, 16)?;
-    expect(&rt, told, Some(Kind::InvalidFormat), "a format");
+    expect_same(&rt, told, Some(Kind::InvalidFormat), "a format");
     Ok(())
 }
 
@@ -318,19 +318,19 @@ const BARE: AesCtrHmacStreamingParams = AesCtrHmacStreamingParams {
 fn keys_without_params_do_not_build(rt: HostRuntime) -> Result<(), Fail> {
     let alloc = rt.alloc();
     let invalid = Some(Kind::InvalidKey);
-    expect(
+    expect_same(
         &rt,
         ctr_hmac_refusal(alloc, 0, None, 16)?,
         invalid,
         "counter mode",
     );
-    expect(
+    expect_same(
         &rt,
         ctr_hmac_refusal(alloc, 0, Some(BARE), 16)?,
         invalid,
         "without HMAC",
     );
-    expect(&rt, gcm_hkdf_refusal(alloc, 0, None, 16)?, invalid, "GCM");
+    expect_same(&rt, gcm_hkdf_refusal(alloc, 0, None, 16)?, invalid, "GCM");
     Ok(())
 }
 
@@ -369,11 +369,11 @@ fn bytes_that_are_no_key_do_not_build(rt: HostRuntime) -> Result<(), Fail> {
     let alloc = rt.alloc();
     for bytes in [[].as_slice(), &[255], BY_GCM] {
         let told = kind_of(AesCtrHmacKeyManager::new().primitive(alloc, bytes));
-        expect(&rt, told, Some(Kind::InvalidKey), "counter mode");
+        expect_same(&rt, told, Some(Kind::InvalidKey), "counter mode");
     }
     for bytes in [[].as_slice(), &[255]] {
         let told = kind_of(AesGcmHkdfKeyManager::new().primitive(alloc, bytes));
-        expect(&rt, told, Some(Kind::InvalidKey), "GCM");
+        expect_same(&rt, told, Some(Kind::InvalidKey), "GCM");
     }
     Ok(())
 }

@@ -1,6 +1,6 @@
 //! The templates and managers of keys of streams.
 
-use crate::comparing::expect;
+use crate::comparing::expect_same;
 use crate::manager_tests::expect_built;
 use std::alloc::Global;
 use std::process::Abort;
@@ -103,7 +103,7 @@ fn expect_new<M: KeyManager<Family = StreamKinds>>(
 ) -> Result<(), Fail> {
     let mut draws = draws_of(alloc, &[7; 33][..main.len().min(32) + 1])?;
     let bytes = new_key(alloc, km, made, &mut draws)?;
-    expect(rt, draws.left(), 1, "the draws left");
+    expect_same(rt, draws.left(), 1, "the draws left");
     expect_built(rt, alloc, km, bytes.as_slice(), main, sizes)
 }
 
@@ -129,8 +129,8 @@ fn expect_few<M: KeyManager<Family = StreamKinds>>(
 ) -> Result<(), Fail> {
     let mut draws = draws_of(alloc, &[7; 15])?;
     let told = kind_of(new_key(alloc, km, made, &mut draws));
-    expect(rt, told, Some(Kind::RandomFault), "the refusal");
-    expect(rt, draws.left(), 15, "the draws left");
+    expect_same(rt, told, Some(Kind::RandomFault), "the refusal");
+    expect_same(rt, draws.left(), 15, "the draws left");
     Ok(())
 }
 
@@ -185,7 +185,7 @@ fn expect_all(
 ) -> Result<(), Fail> {
     init(alloc, registry)?;
     assert!(rt; has_all(registry));
-    expect(rt, templates(alloc, registry)?, 8, "the templates");
+    expect_same(rt, templates(alloc, registry)?, 8, "the templates");
     expect_refused(rt, alloc, registry, 8)
 }
 
