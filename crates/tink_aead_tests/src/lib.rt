@@ -1,5 +1,4 @@
-//! Tests of the AEADs by AES under one key, of envelopes, of the managers and templates of AEAD keys, of keysets of AEADs,
-//! and of keysets under an AEAD's key.
+//! Tests of the AEADs by AES under one key, of envelopes, and of the managers and templates of AEAD keys.
 #![tactic(auto)]
 
 #[cfg(test)]
@@ -12,10 +11,6 @@ mod composed_tests;
 mod envelope_tests;
 #[cfg(test)]
 mod key_manager_tests;
-#[cfg(test)]
-mod keyset_tests;
-#[cfg(test)]
-mod master_tests;
 #[cfg(test)]
 mod subtle_tests;
 #[cfg(test)]

@@ -4,7 +4,7 @@ ghost use Rattle.std.specs.Prelude.{[]};
 ghost use Rattle.tink_io.specs.Told.{Replies};
 ghost use Rattle.tink_aead.specs.Wrapped.{primary_encrypts};
 
-use crate::comparing::{Answer, expect};
+use crate::common::{Answer, expect};
 use std::alloc::Global;
 use tink_aead::{
     AES_GCM_TYPE_URL, AeadKind, AesCtrHmacAeadKeyManager, AesGcmKeyManager, AesGcmSivKeyManager,

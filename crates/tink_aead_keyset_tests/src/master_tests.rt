@@ -1,6 +1,6 @@
 //! Keysets under an AES-GCM master key, over memory and over ends in the wire format and in JSON.
 
-use crate::comparing::{Answer, expect};
+use crate::common::{Answer, expect};
 use std::alloc::Global;
 use tink_aead::subtle::AesGcm;
 use tink_core::keyset::insecure::{decode, new_handle};

@@ -1,0 +1,16 @@
+//! The one place that compares: a test function with many `assert_eq!` takes long to prove.
+
+use std::process::Abort;
+use tink_core::{Kind, TinkError};
+
+/// Whether a row is as it says, or how its call is refused.
+pub type Answer = Result<bool, Kind>;
+
+/// Stops where a row answers another thing than is wanted, by the row's name.
+pub fn expect(rt: &impl Abort, got: Result<bool, TinkError>, want: Answer, row: &str) {
+    let got = match got {
+        Ok(holds) => Ok(holds),
+        Err(e) => Err(e.kind),
+    };
+    assert_eq!(rt; got, want, "{row}");
+}
