@@ -24,7 +24,7 @@ use Rattle.tink_program.proofs.TokenLemmas.{sign_facts, sign_promised, verify_fa
 
 command_facts : (a : Asked) (old new : Outside) (outcome : Outcome) → CommandMeans a old new outcome → CommandFacts a old new (status_of outcome)
 command_facts (Sealing keyset aad seed) old new outcome m = seal_facts keyset aad seed old new outcome m
-command_facts (Opening keyset aad) old new outcome m = open_facts keyset aad old new outcome m
+command_facts (Opening keyset aad) old new outcome m = open_facts keyset aad old new outcome m.means
 command_facts (Making template seed) old new outcome m = keygen_facts template seed old new outcome m
 command_facts (Rotating keyset template seed) old new outcome m = rotate_facts keyset template seed old new outcome m
 command_facts (Measuring n) old new outcome m = large_facts n old new outcome m

@@ -23,7 +23,7 @@ use Rattle.tink_run.proofs.RunSteps.{leaves_same}
 use Rattle.tink_program.specs.Draws.{draws_in}
 use Rattle.tink_refusals.specs.Statuses.{kind_status}
 use Rattle.tink_program.specs.Program.{answer_outcome, own_statuses, refused_statuses, status_of, IsAmong, IsEarlyKind, IsUnwrittenKind, Leaves}
-use Rattle.tink_program.specs.Streams.{IsDoneOrWant, OpenPromises, OpensWhole, Ran, SealPromises, SealsWhole, SparesEnds, StopsUnmarked, StreamMeans}
+use Rattle.tink_program.specs.Streams.{IsDoneOrWant, OpenOutcome, OpenPromises, OpensWhole, Ran, SealPromises, SealsWhole, SparesEnds, StopsUnmarked, StreamMeans}
 use Rattle.tink_program.specs.Words.Asked.{Opening, Sealing}
 use Rattle.tink_program.specs.declared.program.Outcome.{Outcome}
 use Rattle.tink_program.specs.declared.program.Outcome.TheVariants.{Done, Usage, Refused}
@@ -65,9 +65,9 @@ seal_outcome keyset aad seed old new (Err e) ran = seal_refused keyset aad seed 
 
 -- the outcome of an open's answer
 pub open_outcome : (keyset aad : List ℕ) (old new : Outside) (answer : Result Report TinkError) → Ran Open keyset aad [] old new answer
-    → StreamMeans Open keyset aad [] old new (answer_outcome answer)
-open_outcome keyset aad old new (Ok report) ran = (report, (ran.left_draws, ran.means))
-open_outcome keyset aad old new (Err e) ran = open_refused keyset aad ran.left_draws old new e.kind ran.means
+    → OpenOutcome keyset aad old new (answer_outcome answer)
+open_outcome keyset aad old new (Ok report) ran = record { means = (report, (ran.left_draws, ran.means)); read = tt }
+open_outcome keyset aad old new (Err e) ran = record { means = open_refused keyset aad ran.left_draws old new e.kind ran.means; read = ran.read }
 
 -- a run refuses by none of the kinds of other commands
 early_run : (command : Command) (keyset aad draws left_draws : List ℕ) (old new : Outside) (kind : Kind) → AnswerMeans command keyset aad draws left_draws old new (Err (record { kind = kind }))
@@ -348,6 +348,7 @@ want_ran keyset aad draws outside e is = record {
   ok = tt;
   written = tt;
   succeeds = λ T G told faultless can. is;
+  read = tt;
 }
 
 -- the same before an open
@@ -360,6 +361,7 @@ want_opened keyset aad outside =
       ok = tt;
       written = only_agreeing Open keyset aad [] [] outside outside (Err (record { kind = OutOfMemory })) means;
       succeeds = λ S G told faultless can. refl;
+      read = λ loaded loads. tt;
     }
 
 -- a line that was written, or whose writing failed

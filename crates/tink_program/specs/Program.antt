@@ -10,7 +10,7 @@ use Rattle.tink_io.specs.declared.error.TinkError.{TinkError}
 use Rattle.tink_refusals.specs.Statuses.{kind_status}
 use Rattle.tink_run.specs.AllKeys.{load}
 use Rattle.tink_run.specs.Outside.{Outside, IsUntouched}
-use Rattle.tink_run.specs.declared.report.Command.TheVariants.{Seal, Open}
+use Rattle.tink_run.specs.declared.report.Command.TheVariants.{Seal}
 use Rattle.tink_run_range.specs.SetRanges.{WritesNoRange}
 use Rattle.tink_run_tokens.specs.Inputs.{IsUnwritten, LeavesSink}
 use Rattle.tink_run_tokens.specs.Tokens.{macs_of, RefusesSigning, RefusesVerifying, SignsTo, VerifiesTo}
@@ -20,7 +20,7 @@ use Rattle.tink_program.specs.Draws.{draws_in}
 use Rattle.tink_program.specs.Keysets.{made_keyset, of_keyset, of_no_keys, IsUnmadeBy, KeysetMeans, MakesKeyset}
 use Rattle.tink_program.specs.Large.{LargeMeans, MeasuresLarge}
 use Rattle.tink_program.specs.Ranges.{HoldsNoInput, RangeOutcome, RangePromises}
-use Rattle.tink_program.specs.Streams.{IsUnmovable, OpenPromises, RewrapOutcome, RewrapPromises, SealPromises, StreamMeans}
+use Rattle.tink_program.specs.Streams.{IsUnmovable, OpenOutcome, OpenPromises, RewrapOutcome, RewrapPromises, SealPromises, StreamMeans}
 use Rattle.tink_program.specs.TokenPromises.{TokenOutcome, TokenPromises}
 use Rattle.tink_program.specs.Words.{Asked, SpellNothing, Spells}
 use Rattle.tink_program.specs.Words.Asked.{Making, Measuring, Opening, Ranging, Rewrapping, Rotating, Sealing, Signing, Verifying}
@@ -55,7 +55,7 @@ status_by answer = status_of (answer_outcome answer)
 abbrev pub CommandMeans : Asked → Outside → Outside → Outcome → Type 0
 CommandMeans (Sealing keyset aad seed) old new outcome =
     StreamMeans Seal keyset aad (draws_in seed 256) old new outcome
-CommandMeans (Opening keyset aad) old new outcome = StreamMeans Open keyset aad [] old new outcome
+CommandMeans (Opening keyset aad) old new outcome = OpenOutcome keyset aad old new outcome
 CommandMeans (Making template seed) old new outcome = KeysetMeans (of_no_keys template seed) old new outcome
 CommandMeans (Rotating keyset template seed) old new outcome =
     KeysetMeans (of_keyset keyset template seed) old new outcome

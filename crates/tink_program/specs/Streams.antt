@@ -1,5 +1,5 @@
 -- The commands of streams: what a run gave, and what it promises by the status.
-use Rattle.std.specs.Prelude.{◌≡◌, ◌⊎◌, ℕ, List, Result, Ok, Err, IfOk}
+use Rattle.std.specs.Prelude.{◌≡◌, ◌⊎◌, ℕ, List, [], Result, Ok, Err, IfOk}
 use Rattle.stream_model.specs.Sealing.{prefix_of, salt_of}
 use Rattle.loading_model.specs.Loading.{Loaded}
 use Rattle.tink_io.specs.declared.error.Kind.{Kind}
@@ -8,10 +8,12 @@ use Rattle.tink_io.specs.declared.error.TinkError.{TinkError}
 use Rattle.tink_run.specs.AllKeys.{load}
 use Rattle.tink_run.specs.Outside.{Outside, IsUntouched, HasNoFault}
 use Rattle.tink_run.specs.Run.{AnswerMeans, Told, OkMeans, IsWholeStream, IsWholeText, IsOfAgreeing, OnlyAgreeing, CanSeal, CanOpen, IsComplete, LeavesEnds, LeavesSinkItself}
+use Rattle.tink_run.specs.OpenReads.{ReadsNoFurther}
 use Rattle.tink_run.specs.SealAnswers.{SourceFailed}
 use Rattle.tink_rewrap.specs.Promises.{CanRewrap, CompletesRewrap, IsWholeRewrap, LeavesUnended}
 use Rattle.tink_rewrap.specs.Rewrapping.{RewrapMeans, SecondRefused, Sides}
 use Rattle.tink_run.specs.declared.report.Command.{Command}
+use Rattle.tink_run.specs.declared.report.Command.TheVariants.{Open}
 use Rattle.tink_run.specs.declared.report.Report.{Report}
 use Rattle.tink_program.specs.Draws.{draws_in}
 use Rattle.tink_program.specs.declared.program.Outcome.{Outcome}
@@ -26,6 +28,7 @@ pub record Ran (command : Command) (keyset aad draws : List ℕ) (old new : Outs
       (λ report. (T G : List ℕ) → Told old T G → OkMeans command keyset aad draws left_draws T G new report)
   pub written : OnlyAgreeing command keyset aad old new
   pub succeeds : IsComplete command keyset aad draws old new answer
+  pub read : ReadsNoFurther command keyset aad old new answer
 
 -- a refusal leaves the ends themselves as they were, where it comes before anything was read, and the sink, where it comes
 -- before anything was written
@@ -49,6 +52,17 @@ StreamMeans command keyset aad draws old new (Refused OutOfMemory) = IsUntouched
 StreamMeans command keyset aad draws old new (Refused RandomFault) = ⊥
 StreamMeans command keyset aad draws old new (Refused kind) =
     Answered command keyset aad draws old new (Err (record { kind = kind }))
+
+-- how far the source of an open was read by a refusal
+abbrev pub OpenReads : List ℕ → List ℕ → Outside → Outside → Outcome → Type 0
+OpenReads keyset aad old new Done = Unit {0}
+OpenReads keyset aad old new Usage = Unit {0}
+OpenReads keyset aad old new (Refused kind) = ReadsNoFurther Open keyset aad old new (Err (record { kind = kind }))
+
+-- what stands after each outcome of an open, and why it came
+pub record OpenOutcome (keyset aad : List ℕ) (old new : Outside) (outcome : Outcome) : Type 0 where
+  pub means : StreamMeans Open keyset aad [] old new outcome
+  pub read : OpenReads keyset aad old new outcome
 
 -- the status is 0, or 10 by `OutOfMemory`
 abbrev pub IsDoneOrWant : ℕ → Type 0

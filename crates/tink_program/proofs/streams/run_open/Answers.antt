@@ -10,4 +10,5 @@ returns-clause-ran g c = ran_along Open _ _ _ _ _ _ _ _ _ c.deref.ensures.value 
   ok = c.run.ensures.ok;
   written = c.run.ensures.written;
   succeeds = c.run.ensures.succeeds;
+  read = c.run.ensures.read;
 })

@@ -17,6 +17,7 @@ returns-clause-ran g c = ran_along Seal _ _ _ _ _ _ _ _ _ c.deref.ensures.value 
   ok = c.run.ensures.ok;
   written = c.run.ensures.written;
   succeeds = c.run.ensures.succeeds;
+  read = c.run.ensures.read;
 })
 
 pub returns-in_err-first_draws-clause-ends : goal.returns-in_err-first_draws-clause-ends
