@@ -97,7 +97,8 @@ pub trait IvState<const I: usize> {
     // the initialization vector from which a new value goes on as this one does
     ghost iv_of: { Self → List ℕ };
 
-    /// The initialization vector from which a value under the same key goes on as this one does.
+    /// The initialization vector of this state. Where a state can be set (`SetIvState`), a value under the same key
+    /// goes on from it as this one does.
     fn iv_state(&self) -> [u8; I]
         ensures value { result ≡ iv_of self.now };
 }
@@ -114,7 +115,7 @@ pub trait SetIvState<const I: usize>: IvState<I> {
     ghost restarted: { Self → List ℕ → Self };
 
     /// Sets the state: under the `iv_state` of a value with the same key it makes that one's next blocks.
-    /// A position, and a limit that goes by it, begin anew, also where the vector is the one that the value is at.
+    /// Nothing is left of a vector that was set before.
     fn set_iv(&mut self, iv: &[u8; I])
         ensures restarts { self.new ≡ restarted self.old iv.now }
         ensures kept { same_key self.old self.new }

@@ -129,7 +129,7 @@ pub trait BlockModeEncrypt<const B: usize>: Sized + Drop {
         encrypt_message::<P, Self, B>(&mut self, output, input, len)
     }
 
-    /// Like `encrypt_padded_len`, and answers the encrypted bytes.
+    /// The answer of `encrypt_padded_len`, with the encrypted bytes in place of their length.
     final fn encrypt_padded_inout<'out, P: Padding>(
         mut self,
         bytes: InOutBufReserved<'_, 'out, u8>,
@@ -177,8 +177,8 @@ pub trait BlockModeEncrypt<const B: usize>: Sized + Drop {
         }
     }
 
-    /// Pads a message and encrypts it in a vector. `Pad` comes exactly where the message cannot be padded,
-    /// `OutOfMemory` where there is no memory or the padded length is no usize, and `Unpad` never.
+    /// Pads a message and encrypts it in a vector. `Pad` comes only where the message cannot be padded, and `Unpad`
+    /// never. `OutOfMemory` may come in place of each answer, also where the padded length is no usize.
     final fn encrypt_padded_vec<P: Padding>(
         mut self,
         alloc: Global,
@@ -293,7 +293,7 @@ pub trait BlockModeDecrypt<const B: usize>: Sized + Drop {
         decrypt_message::<P, Self, B>(&mut self, output, input)
     }
 
-    /// Like `decrypt_padded_len`, and answers the message.
+    /// The answer of `decrypt_padded_len`, with the message in place of its length.
     final fn decrypt_padded_inout<'out, P: Padding>(
         mut self,
         bytes: InOutBuf<'_, 'out, u8>,
@@ -343,7 +343,7 @@ pub trait BlockModeDecrypt<const B: usize>: Sized + Drop {
         decrypt_front::<P, Self, B>(&mut self, output, input)
     }
 
-    /// Like `decrypt_padded_b2b_len`, and answers the message.
+    /// The answer of `decrypt_padded_b2b_len`, with the message in place of its length.
     final fn decrypt_padded_b2b<'out, P: Padding>(
         mut self,
         input: &[u8],
@@ -363,8 +363,8 @@ pub trait BlockModeDecrypt<const B: usize>: Sized + Drop {
         }
     }
 
-    /// Decrypts bytes in a vector. `Unpad` comes exactly where they aren't whole blocks or the padding is malformed,
-    /// `OutOfMemory` where there is no memory, and `Pad` never.
+    /// Decrypts bytes in a vector. `Unpad` comes only where they aren't whole blocks or the padding is malformed, and
+    /// `Pad` never. `OutOfMemory` may come in place of each answer.
     final fn decrypt_padded_vec<P: Padding>(
         mut self,
         alloc: Global,

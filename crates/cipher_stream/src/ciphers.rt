@@ -16,8 +16,7 @@ pub trait StreamCipher {
     // whether so many bytes are left before the keystream repeats
     ghost has: { Self → ℕ → Type 0 };
 
-    /// Whether so many bytes are left. `StreamCipherError` exactly where the bytes past the buffered rest need more
-    /// blocks than remain.
+    /// Whether so many bytes are left. `StreamCipherError` exactly where they are not, as the type says by `has`.
     fn check_remaining(&self, data_len: usize) -> Result<(), StreamCipherError>
         ensures ok { IsOk result ↔ has self.now data_len };
 

@@ -28,8 +28,9 @@ pub fn law_gcm_has_one_text()
     ensures gives_back { GcmGivesBack }
 {}
 
-/// Under each cipher, key, nonce and data a list of bytes is GCM-SIV's encryption of at most one text, and encrypting
-/// the text that is had back from its ciphertext gives it again.
+/// Under a key, a nonce and data a list of bytes is GCM-SIV's encryption of at most one text, where the cipher under
+/// the message-encryption key makes blocks of blocks, and encrypting the text that is had back from its ciphertext
+/// gives it again.
 pub fn law_gcm_siv_has_one_text()
     ensures one_text { GcmSivHasOneText }
     ensures gives_back { GcmSivGivesBack }

@@ -167,7 +167,7 @@ impl<C: BlockCipherEncrypt<16>> Gcm<C> {
     }
 
     /// Writes the one text of which `sealed` is the encryption into `out`, which has 16 bytes less, or none where
-    /// `sealed` is shorter than 16 bytes (7.2). The tag is compared before anything is written.
+    /// `sealed` is shorter than 16 bytes (7.2).
     ///
     /// # Errors
     /// `DataTooLong` where `aad` has more than 2^36 bytes, else `TextTooLong` where `sealed` has more than 2^36 - 16,

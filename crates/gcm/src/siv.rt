@@ -193,8 +193,7 @@ impl<C: KeyInit<K> + BlockCipherEncrypt<16> + Drop, const K: usize> GcmSiv<C, K>
     }
 
     /// Writes the one text of which `sealed` is the encryption into `out`, which has 16 bytes less, or none where
-    /// `sealed` is shorter than 16 bytes (5). The tag is compared before anything is written, so the text is made
-    /// twice.
+    /// `sealed` is shorter than 16 bytes (5). The body makes the text twice: for the tag, and to write it.
     ///
     /// # Errors
     /// `DataTooLong` where `aad` has more than 2^36 bytes, else `TextTooLong` where `sealed` has more than 2^36 + 16,

@@ -1,5 +1,5 @@
-//! Definitions of streams: how a text is cut, sealed and opened. There is no code here but a function that does
-//! nothing, whose contract is a law of these definitions.
+//! Definitions of streams: how a text is cut, sealed and opened. There is no code here but functions that do nothing,
+//! whose contracts are laws of these definitions.
 #![tactic(auto)]
 
 pub mod laws;

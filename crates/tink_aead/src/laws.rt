@@ -14,10 +14,12 @@ pub fn law_aes_ctr_hmac()
     ensures undoes { WholeUndoes }
 {}
 
-/// What an entry made is decrypted by every list of entries that still has it, where no entry opens it to another text,
-/// and the ciphertext has more than five bytes. So what an enabled key made is decrypted by the entries of its keyset
-/// after every list of commands that neither disables, destroys nor deletes the key, and what a keyset's AEADs
-/// encrypted by those of the keyset after every list of commands that spares its primary id so.
+/// What an entry made, with a prefix of five bytes or none, is decrypted by every list of entries that still has it,
+/// where its AEAD's decryption undoes its encryption, the ciphertext has more than five bytes, and no entry opens it to
+/// another text. So, where the edited keyset gives AEADs, what an enabled key made is decrypted by the entries of its
+/// keyset after every list of commands that neither disables, destroys nor deletes a key of its id, and what a keyset's
+/// AEADs encrypted, each of which undoes its own encryption, by those of the keyset after every list of commands that
+/// spares its primary id so.
 pub fn law_old_ciphertexts_open<M: KeyManager, P: Aead>()
 where
     M::Family: Kinds<Aead = P>,

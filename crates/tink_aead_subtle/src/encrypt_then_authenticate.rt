@@ -129,7 +129,7 @@ impl<C: IndCpaCipher, M: Mac> Aead for EncryptThenAuthenticate<C, M> {
     /// # Errors
     /// `TooShort` where the ciphertext has fewer than `tag_size` bytes, else `DataTooLong` as where
     /// it encrypts, else `MacMismatch` where the MAC does not accept the tag, else the cipher's
-    /// refusals. Nothing is decrypted before the tag is accepted.
+    /// refusals. A text is given only where the MAC accepts the tag.
     fn decrypt(
         &self,
         alloc: Global,

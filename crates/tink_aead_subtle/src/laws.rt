@@ -18,8 +18,9 @@ pub fn law_aes_gcm()
     ensures encrypts { (key : List ℕ) → Encrypts MOST_GCM (gcm_encrypts key) }
 {}
 
-/// AES-GCM-SIV accepts exactly the encryptions of some text, each as that of its text. What it encrypts is decrypted
-/// again, and with twelve draws each text and associated data within the limits are encrypted.
+/// Under a key of 16 or 32 bytes AES-GCM-SIV accepts exactly the encryptions of some text, each as that of its text,
+/// and decrypts again what it encrypts. With twelve draws each text and associated data within the limits are
+/// encrypted.
 pub fn law_aes_gcm_siv()
     ensures accepts { (key : List ℕ) → IsAesKey key
         → AcceptsExactly (gcm_siv aes key) MOST_GCM_SIV (gcm_siv_decrypts key) }
@@ -27,17 +28,19 @@ pub fn law_aes_gcm_siv()
     ensures encrypts { (key : List ℕ) → Encrypts MOST_GCM_SIV (gcm_siv_encrypts key) }
 {}
 
-/// AES in counter mode decrypts exactly what is a vector and some text in counter mode under it, each to its text. What
-/// it encrypts is decrypted again, and with enough draws each text is encrypted.
+/// AES in counter mode, with vectors of at most 16 bytes, decrypts exactly what is a vector and some text in counter
+/// mode under it, each to its text. What it encrypts is decrypted again, and with as many draws as a vector has bytes
+/// each text is encrypted.
 pub fn law_aes_ctr()
     ensures accepts { CounterDecryptsExactly }
     ensures undoes { CounterUndoes }
     ensures encrypts { CounterEncrypts }
 {}
 
-/// AES in counter mode and then a MAC of one tag a message, as HMAC, accept exactly the outputs of the cipher for some
-/// text with their tags, each as that of its text. What is encrypted is decrypted again, and with enough draws each
-/// text is encrypted.
+/// AES in counter mode, with vectors of at most 16 bytes, and then a MAC that gives each message one tag of one size
+/// and accepts that alone, as HMAC, accept exactly the outputs of the cipher for some text with their tags, with data
+/// of fewer than 2^61 bytes, each as that of its text. What is encrypted is decrypted again, and with as many draws as
+/// a vector has bytes each text is encrypted with such data.
 pub fn law_aes_ctr_then_mac()
     ensures accepts { ComposedAcceptsExactly }
     ensures undoes { ComposedUndoes }

@@ -43,7 +43,8 @@ pub fn range_to<A: ReadAt, P: Place, L: Ledger>(
         (ends_of A.bytes A.faults object.old object.new place.old draft) value)
         (P.replaces place.old) (P.shown place.old) (P.shown place.new) n) }
 
-    // A step for each chunk that is opened.
+    // At most a step for each key and, where one is chosen, for each chunk that the range's own length fills and two
+    // more; none where the keyset does not load.
     ensures ticks { TakesKeysetSteps keyset.now aad.now (A.bytes object.old) (A.length_of object.old) start len
         steps.old steps.new }
 

@@ -8,11 +8,11 @@ use crate::sending::{drain, keep};
 use std::alloc::Global;
 use tink_io::{Failed, Kind, Sink, TinkError};
 
-/// So many bytes wait at most, where the memory is that of `room`.
+/// The bytes of the memory that `room` gives.
 pub const ROOM: usize = 65_536;
 
-/// A sink that joins small pieces before it hands them on to a sink that it is lent: they wait in a vector that it is
-/// lent too, up to that vector's capacity. What still waits when it is let go is lost: `flush` comes before.
+/// A sink for small pieces over a sink that it is lent: they may wait, in a vector that it is lent too, before they are
+/// handed on. What still waits when it is let go is lost: `flush` comes before.
 #[derive(Drop)]
 pub struct Gathered<'a, K> {
     pub sink: &'a mut K,
@@ -32,10 +32,10 @@ impl<'a, K: Sink> Gathered<'a, K> {
         Gathered { sink, waiting }
     }
 
-    /// Hands on all that waits. Where nothing waits the sink is not called.
+    /// Hands on all that waits. Where nothing waits the sink is as before.
     ///
     /// # Errors
-    /// WriteFault where the sink failed: it has got a part of what waited, and the rest waits still.
+    /// WriteFault where the sink failed: it has got a prefix of what waited.
     pub fn flush(&mut self) -> Result<(), TinkError>
         ensures sent { OnOk result (Keeps (append_known (K.got self.old.sink.now) self.old.waiting.now.items)
             (K.got self.new.sink.now)) }

@@ -14,11 +14,11 @@ use tink_proto::{Bytes, KeyInfo};
 const TINK: &[u8] = b"type.googleapis.com/google.crypto.tink.";
 
 /// The keys of a keyset in the wire format, one a line, with no key material: the id, the status, the prefix type and
-/// the type of the key, and whether it is the primary one. Between them stand tabs.
+/// the type of the key, and whether its id is the primary one. Between them stand tabs.
 ///
 /// # Errors
-/// `BadKeyset` exactly where the bytes spell no keyset; `InvalidKeyset` exactly where no handle may hold it;
-/// `OutOfMemory` may come in place of each.
+/// `BadKeyset` exactly where the bytes spell no keyset; `InvalidKeyset` exactly where it has no key or no handle may
+/// hold it; `OutOfMemory` may come in place of each.
 pub fn list(alloc: Global, keyset: &[u8]) -> Result<Bytes, TinkError>
     ensures { Answers result (listed keyset.now) }
 {

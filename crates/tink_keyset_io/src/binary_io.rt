@@ -91,9 +91,9 @@ impl<S: Source> Reader for BinaryReader<S> {
     /// The keyset that the bytes left are. The source is at its end then.
     ///
     /// # Errors
-    /// `KeysetTooLong` exactly where more than 67,108,864 bytes are left, of which one more than
-    /// that many is read; `BadKeyset` exactly where fewer are no such message; `ReadFault` where
-    /// the source failed, and `OutOfMemory`.
+    /// `KeysetTooLong` exactly where more than 67,108,864 bytes are left, of which at most one more
+    /// than that many is read; `BadKeyset` exactly where fewer are no such message; `ReadFault`
+    /// where the source failed, and `OutOfMemory`.
     fn read(&mut self, alloc: Global) -> Result<Keyset, TinkError>
         ensures answer { HasRead result (told BadKeyset (decoded keyset.read) (S.left self.old))
             (S.faults self.old) (S.faults self.new) }
@@ -173,7 +173,7 @@ impl<K: Sink> Writer for BinaryWriter<K> {
 
     ghost same = { λ before after. K.same before after };
 
-    /// Writes the keyset's bytes, in as many calls as the sink wants.
+    /// Writes the keyset's bytes, all of them.
     ///
     /// # Errors
     /// `WriteFault` where the sink failed: it has a prefix of the bytes then. `OutOfMemory`: nothing
@@ -189,7 +189,7 @@ impl<K: Sink> Writer for BinaryWriter<K> {
         write_as::<Binary, Keyset, K>(alloc, &mut self.sink, ks)
     }
 
-    /// Writes the encrypted keyset's bytes, in as many calls as the sink wants.
+    /// Writes the encrypted keyset's bytes, all of them.
     ///
     /// # Errors
     /// As `write`.

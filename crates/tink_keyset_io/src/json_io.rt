@@ -93,9 +93,9 @@ impl<S: Source> Reader for JsonReader<S> {
     /// The keyset that the bytes left are. The source is at its end then.
     ///
     /// # Errors
-    /// `KeysetTooLong` exactly where more than 67,108,864 bytes are left, of which one more than
-    /// that many is read; `BadJson` exactly where fewer are no such value; `ReadFault` where
-    /// the source failed, and `OutOfMemory`.
+    /// `KeysetTooLong` exactly where more than 67,108,864 bytes are left, of which at most one more
+    /// than that many is read; `BadJson` exactly where fewer are no such value; `ReadFault`
+    /// where the source failed, and `OutOfMemory`.
     fn read(&mut self, alloc: Global) -> Result<Keyset, TinkError>
         ensures answer { HasRead result (told BadJson (message_of keyset) (S.left self.old))
             (S.faults self.old) (S.faults self.new) }
@@ -175,7 +175,7 @@ impl<K: Sink> Writer for JsonWriter<K> {
 
     ghost same = { λ before after. K.same before after };
 
-    /// Writes the keyset's text, in as many calls as the sink wants.
+    /// Writes the keyset's text, all of it.
     ///
     /// # Errors
     /// `WriteFault` where the sink failed: it has a prefix of the text then. `OutOfMemory`: nothing
@@ -191,7 +191,7 @@ impl<K: Sink> Writer for JsonWriter<K> {
         write_as::<JsonText, Keyset, K>(alloc, &mut self.sink, ks)
     }
 
-    /// Writes the encrypted keyset's text, in as many calls as the sink wants.
+    /// Writes the encrypted keyset's text, all of it.
     ///
     /// # Errors
     /// As `write`.

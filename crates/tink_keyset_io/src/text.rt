@@ -40,7 +40,7 @@ fn read_piece<S: Source>(
     }
 }
 
-/// All bytes that the source has left, `most` at most. Of a longer text one byte more is read.
+/// All bytes that the source has left, `most` at most. Of a longer text at most one byte more is read.
 ///
 /// # Errors
 /// `ReadFault` where the source failed; `refusal` exactly where more than `most` bytes are left; `OutOfMemory`.

@@ -27,11 +27,10 @@ pub struct Measured {
 // The bytes that may be pending: more than a segment.
 const PENDING: usize = SEGMENT_SIZE as usize + 1;
 
-/// Seals the large text of a number and opens the stream as it comes, and tells how many bytes and
-/// segments were opened, and of the stream its bytes and its digest. The text has 1,000,000 + n
-/// bytes, of which byte i is (31 * i + n) mod 251. It is sealed under a fixed key without associated
-/// data, and the salt and the prefix of the stream are the first draws. Neither the text nor the
-/// stream is held as a whole.
+/// Tells how many bytes the large text of a number has, and of its stream how many bytes and
+/// segments, and the digest. The text has 1,000,000 + n bytes, of which byte i is (31 * i + n) mod
+/// 251. Its stream is that under a fixed key without associated data whose salt and prefix are the
+/// first draws. The body seals the text, opens the stream as it comes, and holds neither as a whole.
 ///
 /// # Errors
 /// `OutOfMemory`; `RandomFault` exactly where fewer than 23 draws are left. Nothing was drawn then.

@@ -30,13 +30,14 @@ pub struct Set<P> {
 }
 
 impl<P: Prf + Drop> Set<P> {
-    /// The functions of a keyset's enabled keys, each built by the registry's manager of its URL. Where several keys
-    /// have one id, it has the function of the last of them.
+    /// The functions of a keyset's enabled keys, each built by the registry's manager of its URL. Where several of them
+    /// have one id, it has the function of the last.
     ///
     /// # Errors
     /// The first that applies: what building refuses by (`Handle::primitives`); `NoPrimary` where no enabled key has
-    /// the primary id; `WrongPrimitive` where the primary is of another sort; `NotRawOnly` unless every key is of the
-    /// prefix type RAW; `WrongPrimitive` where another key is of another sort. `OutOfMemory` may come in place of each.
+    /// the primary id; `WrongPrimitive` where the primary is of another sort; `NotRawOnly` unless every enabled key is
+    /// of the prefix type RAW; `WrongPrimitive` where another enabled key is of another sort. `OutOfMemory` may come in
+    /// place of each.
     pub fn new<M: KeyManager>(
         alloc: Global,
         h: &Handle,

@@ -14,7 +14,8 @@ pub struct Refused<T> {
     pub inner: T,
 }
 
-/// A writer that encrypts what it is given. The stream is whole only after `close`.
+/// A writer that encrypts what it is given. The stream is whole only after `close`. What it writes
+/// its own type says.
 pub trait EncryptingWrite {
     /// Takes the first bytes of `buf`, and answers how many.
     fn write(&mut self, buf: &[u8]) -> Result<usize, TinkError>
@@ -26,7 +27,7 @@ pub trait EncryptingWrite {
     fn close(&mut self) -> Result<(), TinkError>;
 }
 
-/// A reader of what a stream opens to.
+/// A reader of what a stream opens to, as its own type says.
 pub trait DecryptingRead {
     /// Moves the next bytes of the text to the beginning of `buf`, and answers how many.
     fn read(&mut self, buf: &mut [u8]) -> Result<usize, TinkError>
@@ -39,7 +40,8 @@ pub trait StreamingAead<S: Source, K: Sink> {
 
     type Reader: DecryptingRead;
 
-    /// A writer of a new stream into `w`. A refusal hands the sink back, as the calls on it left it.
+    /// A writer of a new stream into `w`. What a refusal hands back is `same` as `w`, as far as its
+    /// type says by that word.
     fn new_encrypting_writer(
         &self,
         alloc: Global,
@@ -50,7 +52,8 @@ pub trait StreamingAead<S: Source, K: Sink> {
         ensures same { IfErr result (λ refused. K.same w refused.inner) }
         ensures ends { IsEndOf draws.new draws.old };
 
-    /// A reader of the stream in `r`. A refusal hands the source back, as the calls on it left it.
+    /// A reader of the stream in `r`. What a refusal hands back is `same` as `r`, as far as its type
+    /// says by that word.
     fn new_decrypting_reader(
         &self,
         alloc: Global,

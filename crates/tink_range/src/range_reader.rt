@@ -24,8 +24,8 @@ use tink_primitives::Refused;
 use tink_segments::StreamSegment;
 use tink_streaming_aead::WrappedStreamingAead;
 
-/// A reader of ranges of the text of the stream that an object is. Each range is opened from the chunks that it
-/// touches, after the last chunk, so that an object which was cut gives nothing.
+/// A reader of ranges of the text of the stream that an object is. An object whose last chunk is the last segment of no
+/// text gives nothing, as one that was cut, but by chance.
 #[derive(Drop)]
 pub struct RangeReader<A: ReadAt> {
     object: A,
@@ -44,13 +44,14 @@ impl<A: ReadAt> Model for RangeReader<A> {
 }
 
 impl<A: ReadAt> RangeReader<A> {
-    /// A reader of the stream of `object` under the first key of `w` under which it begins with the associated data. All
-    /// memory is taken first. It takes one step for each key whose front the object begins with, up to the chosen one:
-    /// the first segment is opened.
+    /// A reader of the stream of `object` under the first key of `w` under which it begins with the associated data. It
+    /// takes one step for each key, up to the chosen one, that the object begins with a front of, with bytes behind it,
+    /// and whose hash derives keys: the first segment is opened. By `OutOfMemory` or `ReadFault` it takes no more steps
+    /// than there are keys.
     ///
     /// # Errors
-    /// The refusal hands back the object. `OutOfMemory`, with nothing read; `ReadFault` where the object failed;
-    /// `NoMatchingKey` exactly where the stream begins under none of the keys.
+    /// The refusal hands back the object. `OutOfMemory`, with the object as before; `ReadFault` where the object
+    /// failed; `NoMatchingKey` exactly where the stream begins under none of the keys.
     pub fn new<L: Ledger>(
         alloc: Global,
         w: &WrappedStreamingAead,
@@ -82,7 +83,8 @@ impl<A: ReadAt> RangeReader<A> {
         }
     }
 
-    /// How many bytes the text has. A last chunk that is shorter than any segment counts as 0.
+    /// How many bytes the text has, by the lengths of the chunks. A last chunk that is shorter than any segment counts
+    /// as 0.
     pub fn text_len(&self) -> u64
         ensures { result ≡ text_length self.now.opening.first self.now.opening.size self.now.opening.overhead
             self.now.behind }
@@ -90,13 +92,13 @@ impl<A: ReadAt> RangeReader<A> {
         self.core.text_len()
     }
 
-    /// Writes the bytes of the text from place `start` on and below `start + len`, as far as there are such, and answers
-    /// how many. The last chunk is opened first, and then each chunk that the range touches, each in one step. The reader
-    /// keeps the memory that it has, and after a refusal it is as before.
+    /// Writes the bytes of the text from place `start` on and below `start + len`, as far as there are such, and
+    /// answers how many. It takes at most two steps more than the chunks that the range's own length fills. Whatever
+    /// the answer, the reader is as before but for the object, and keeps the memory that it has.
     ///
     /// # Errors
-    /// `ReadFault` or `WriteFault` where the object or the sink failed, with a prefix written of what the touched chunks
-    /// give that were opened; `TooManySegments` exactly where there are more than 2^32 chunks, with nothing written;
+    /// `ReadFault` or `WriteFault` where the object or the sink failed, with a prefix written of what some touched
+    /// chunks give; `TooManySegments` exactly where there are more than 2^32 chunks, with nothing written;
     /// `Truncated` or `BadSegment` where the last chunk is the segment of no text, with nothing written, the first where
     /// it is shorter than any segment; `BadSegment` of the first touched chunk that is the segment of no text, with the
     /// range's bytes before it written.

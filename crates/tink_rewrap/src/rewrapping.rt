@@ -18,8 +18,8 @@ use tink_run::report::Report;
 /// Moves the stream that a source has left from one keyset to another: it is opened by the first
 /// key of `from` that it begins under, with `from_aad`, and its text becomes a new stream under the
 /// primary key of `to`, with `to_aad`, whose salt and prefix are the first draws. Both keysets are
-/// in the wire format. One segment of each stream is in memory, and the text is written nowhere.
-/// The report has the segments that were written, and the bytes of text.
+/// in the wire format. In the body the text stands nowhere but in one segment of each stream. The
+/// report has the segments that were written, and the bytes of text.
 ///
 /// # Errors
 /// The first that applies:

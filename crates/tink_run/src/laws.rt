@@ -14,21 +14,21 @@ ghost use Rattle.tink_run.specs.Fitting.{KeepsFit};
 ghost use Rattle.tink_run.specs.OneKey.{OpensAsOneKey, RunOpensAlone};
 ghost use Rattle.tink_run.specs.Rotation.{RunOpensAfterAdding, RunOpensAfterAll, RunOpensById, RunOpensEdited};
 
-/// What `run` opens under the encoding of the keyset that any list of commands makes, and to what text, is what this
-/// keyset opens. It is one text, and an open that is Ok has written it.
+/// What `run` opens under the encoding of the keyset that any list of commands makes, where that one fits the wire
+/// format, and to what text, is what this keyset opens. It is one text, and an open that is Ok has written it.
 pub fn law_run_opens_edited()
     ensures { RunOpensEdited }
 {}
 
-/// A keyset that fits the wire format fits it after any commands, where from draws that are bytes the managers give data
-/// of keys that fit, under each id of 32 bits, and leave bytes.
+/// A keyset that fits the wire format fits it after any commands with draws that are bytes, where from such draws the
+/// managers give data of keys that fit, under each id of 32 bits, and leave bytes.
 #[tactic(auto, using(crate::proofs::FitFacts::keeps_fit))]
 pub fn law_edited_fits()
     ensures { KeepsFit }
 {}
 
-/// A stream that opened before a list of commands, `run` opens under the encoding of the edited keyset to the same text,
-/// where that keyset loads.
+/// A stream that opened before a list of commands, `run` opens under the encoding of the edited keyset to the same
+/// text, where that keyset fits the wire format and loads.
 pub fn law_run_opens_after_rotation()
     // Where each command adds a key, rotates or chooses the primary key.
     ensures adding { RunOpensAfterAdding }
@@ -42,9 +42,8 @@ pub fn law_run_opens_after_rotation()
 {}
 
 /// A stream that tells its bytes, and begins first under one of some keys, is opened as under this key alone: what an
-/// open answers, has written and has read under the keys it does under that key, whatever other keys were tried and
-/// however large their segments are. That this key is by itself a keyset that loads is a law of loading_model
-/// (`law_chosen_alone`).
+/// open answers and has written under the keys it does under that key, whatever other keys were tried and however large
+/// their segments are. That this key is by itself a keyset that loads is a law of loading_model (`law_chosen_alone`).
 pub fn law_one_key()
     ensures keys { OpensAsOneKey }
 

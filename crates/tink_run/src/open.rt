@@ -25,9 +25,11 @@ use tink_streaming_aead::{
 /// # Errors
 /// OutOfMemory before anything was read or written; NoMatchingKey where the stream begins under no
 /// key; Truncated and BadSegment where a later segment is shorter than a tag or the segment of
-/// no text; TooManySegments where bytes follow 2^32 segments; ReadFault and WriteFault. A segment's
-/// text is written once its tag was compared, and stays written. No more is read than a byte behind the longest segment of
-/// the keys.
+/// no text; TooManySegments where bytes follow 2^32 segments; ReadFault and WriteFault. Texts whose
+/// segments lead the stream were written then, and by WriteFault a prefix of such. At most a byte
+/// more was read than the longest output prefix and segment of the keys have together: from the
+/// stream's beginning where no key was chosen, from that of the chunk that was refused, or else from
+/// behind the chunks of those texts.
 pub fn open<S: Source, K: Sink>(
     alloc: Global,
     set: &TypedPrimitiveSet<StreamKind>,
@@ -136,8 +138,8 @@ fn open_stream<S: Source, K: Sink, D: SegmentDecrypter + Drop>(
 /// Opens the first segment.
 ///
 /// # Errors
-/// ReadFault; NoMatchingKey where it is the segment of no text. The trial saw it open, so the source
-/// went on after it had said that it was at its end.
+/// ReadFault; NoMatchingKey where it is the segment of no text. After a trial that saw it open, the
+/// source has gone on after it had said that it was at its end.
 pub fn open_first<S: Source, D: SegmentDecrypter + Drop>(
     reader: &mut SegmentReader<D>,
     source: &mut S,

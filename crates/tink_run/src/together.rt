@@ -21,8 +21,8 @@ use tink_io::{Draws, Kind, Sink, Source, TinkError};
 use tink_sets::{TypedEntry, TypedPrimitiveSet};
 use tink_streaming_aead::StreamKind;
 
-/// Ends what was answered over a gathered sink: all that waits is handed on. Where the sink has failed before nothing
-/// more is tried.
+/// Ends what was answered over a gathered sink: all that was given is handed on and the answer stays, or the sink has
+/// failed, now or before, and has got a prefix of it.
 ///
 /// # Errors
 /// That of the answer; WriteFault where the sink fails now.

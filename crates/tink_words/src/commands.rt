@@ -13,8 +13,9 @@ pub struct Given<'w> {
     pub line: Line<'w>,
 }
 
-/// The command that the words spell: its name, and behind it the words that it takes or that ask for help. `None`
-/// where they spell none.
+/// The command of the first word, with what the words behind it say, exactly where each option is known, those with a
+/// value stand once and have it, no word is too many, and the words are those that the command takes or ask for help;
+/// else `None`.
 pub fn parse(words: &Vec<String>) -> Option<Given<'_>>
     ensures { result ≡ given (words_of words.now) }
 {

@@ -151,7 +151,8 @@ impl Action {
         }
     }
 
-    /// Whether the words behind its name are those that it takes, or ask for help.
+    /// Whether each option is known, those with a value stand once and have it, no word is too many, and the words are
+    /// those that the command takes or ask for help.
     pub fn is_usable(self, line: &Line<'_>) -> bool
         ensures { result ≡ is_usable self line.now }
     {

@@ -178,7 +178,7 @@ impl<'w> Line<'w> {
         self.help
     }
 
-    /// Whether an option is not known, stands twice or has no value, or a word is too many.
+    /// Whether an option is not known, one with a value stands twice or lacks it, or a word is too many.
     pub fn is_bad(&self) -> bool
         ensures { result ≡ (self.now.is_bad || is_some self.now.next) }
     {

@@ -84,8 +84,8 @@ impl Handle {
     ///
     /// # Errors
     /// `MasterFailed` exactly where the master refuses, and then the writer is as before; then the writer's, to which
-    /// the encrypted keyset alone was given: after a fault it may have a prefix of that one's text, and after another
-    /// refusal it has nothing. `OutOfMemory` may come in place of each.
+    /// the encrypted keyset alone was given: what it has of that one its type says by `refused_encrypted`.
+    /// `OutOfMemory` may come in place of each.
     pub fn write_with_associated_data<W: Writer, A: Aead>(
         &self,
         alloc: Global,

@@ -46,7 +46,8 @@ pub fn law_primary_stays()
     ensures { KeepsPrimary }
 {}
 
-/// A valid keyset with distinct ids and an enabled primary key is valid after any commands.
+/// A valid keyset with distinct ids that are not 0 and an enabled primary key is valid after any commands, where the
+/// managers give data that a handle may hold, by templates of known prefix types alone.
 #[tactic(auto, using(keyset_model::proofs::ValidLaw::keeps_valid))]
 pub fn law_valid_stays()
     ensures { KeepsValid }
