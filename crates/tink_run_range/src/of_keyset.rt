@@ -44,7 +44,8 @@ pub fn run_range<A: ReadAt, K: Sink, L: Ledger>(
     ensures succeeds { IsRangeComplete K.faults keyset.now aad.now
         (ends_of A.bytes A.faults object.old object.new sink.old sink.new) result }
 
-    // A step for each chunk that is opened.
+    // At most a step for each key and, where one is chosen, for each chunk that the range's own length fills and two
+    // more; none where the keyset does not load.
     ensures ticks { TakesKeysetSteps keyset.now aad.now (A.bytes object.old) (A.length_of object.old) start len
         steps.old steps.new }
 

@@ -17,8 +17,8 @@ use tink_stream_keys::{StreamKind, Trial};
 use tink_streaming_aead::{AES_CTR_HMAC_NONCE_SIZE_IN_BYTES, entries_of, room_of};
 
 /// Writes the bytes of the text from place `start` on and below `start + len`, as far as there are such, of the stream
-/// that `object` is under the first key of a set that it begins under. It answers how many. The last chunk is opened
-/// first, and then each that the range touches, each in one step.
+/// that `object` is under the first key of a set that it begins under. It answers how many. At most a step is taken for
+/// each key and, where one is chosen, for each chunk that the range's own length fills and two more.
 ///
 /// # Errors
 /// `OutOfMemory` before anything was read or written; `NoMatchingKey` where the object begins under no key,
