@@ -24,12 +24,17 @@ struct Words<'w> {
 pub fn wrap<'w>(rt: &HostRuntime, line: &Line<'w>) -> Result<(), Trouble<'w>> {
     let words = words_of(line)?;
     let master = load(rt, words.master)?;
+    wrap_by(rt, words, &master)
+}
+
+// Lets go of no master: that would be at each of its exits.
+fn wrap_by<'w>(rt: &HostRuntime, words: Words<'w>, master: &Master) -> Result<(), Trouble<'w>> {
     let keys = read_keys(rt, words.input)?;
     let mut draws = draws(rt)?;
     let mut place = RealPlace::fresh(rt, words.output)?;
     match wrap_keys(
         rt.alloc(),
-        &master,
+        master,
         keys,
         words.aad.as_bytes(),
         words.format,
@@ -45,11 +50,15 @@ pub fn wrap<'w>(rt: &HostRuntime, line: &Line<'w>) -> Result<(), Trouble<'w>> {
 pub fn unwrap<'w>(rt: &HostRuntime, line: &Line<'w>) -> Result<(), Trouble<'w>> {
     let words = words_of(line)?;
     let master = load(rt, words.master)?;
+    unwrap_by(rt, words, &master)
+}
+
+fn unwrap_by<'w>(rt: &HostRuntime, words: Words<'w>, master: &Master) -> Result<(), Trouble<'w>> {
     let file = read_keys(rt, words.input)?;
     let mut place = RealPlace::fresh(rt, words.output)?;
     match unwrap_keys(
         rt.alloc(),
-        &master,
+        master,
         &file,
         words.aad.as_bytes(),
         words.format,
