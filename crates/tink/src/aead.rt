@@ -10,6 +10,7 @@ pub use tink_aead::{
     aes256_ctr_hmac_sha512_key_template, aes256_gcm_key_template,
     aes256_gcm_no_prefix_key_template, aes256_gcm_siv_key_template,
     aes256_gcm_siv_no_prefix_key_template, init, kms_envelope_aead_key_template, law_aes_ctr,
-    law_aes_ctr_hmac, law_aes_ctr_then_mac, law_aes_gcm, law_aes_gcm_siv, law_envelopes_open,
+    law_aes_ctr_hmac, law_aes_ctr_then_mac, law_aes_gcm, law_aes_gcm_siv,
+    law_built_aeads_are_sound, law_ciphertexts_outlive_commands, law_envelopes_open,
     law_old_ciphertexts_open, new, subtle,
 };

@@ -13,7 +13,7 @@ pub mod prf;
 mod registering;
 pub mod streaming_aead;
 
-pub use laws::law_macs_are_sound;
+pub use laws::{law_aeads_are_sound, law_macs_are_sound};
 pub use managers::{Managers, TinkKinds};
 pub use registering::registry;
 pub use tink_io::{

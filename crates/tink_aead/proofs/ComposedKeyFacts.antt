@@ -1,20 +1,18 @@
 -- What keys of AES in counter mode with HMAC build is whole.
-use Rattle.std.proofs.Common.{inl, inr, ⊎_elim, ◌⊎◌, ◌≡◌, ◌≤◌, ℕ, Bool, true, false, ◌||◌, ◌&&◌, List, Option, Some, None, Result, Ok, Err, cond, length, ap, refl, sym, subst, ◌∙◌}
-use Rattle.std.specs.Prelude.{nat_eq, nat_le, nat_lt}
-use Rattle.std.proofs.lemmas.Bool.{and_parts, leb-true, ltb-false, or_parts}
-use Rattle.hash_keys.specs.declared.Hash.{Hash}
+use Rattle.std.proofs.Common.{inl, inr, ⊎_elim, ◌≡◌, ◌≤◌, ℕ, Bool, true, false, List, Option, Some, None, Result, Ok, Err, cond, ap, refl, sym, subst, ◌∙◌}
+use Rattle.std.specs.Prelude.{nat_eq, nat_le}
+use Rattle.std.proofs.lemmas.Bool.{and_parts, leb-true}
 use Rattle.hash_keys.specs.Hash.{digest_size}
 use Rattle.hash_keys.proofs.Lengths.{length-hmac_of}
 use Rattle.std.proofs.lemmas.List.{length-take-le}
 use Rattle.std.proofs.lemmas.Slice.Eq.{bytes_eq-Decides}
 use Rattle.std.specs.Str.{bytes_eq}
 use Rattle.tink_io.specs.declared.error.Kind.{Kind}
-use Rattle.tink_io.specs.declared.error.Kind.TheVariants.{BadKeySize, BadTagSize, InvalidKey, MacMismatch}
+use Rattle.tink_io.specs.declared.error.Kind.TheVariants.{InvalidKey, MacMismatch}
 use Rattle.tink_proto_keys.specs.declared.aes_ctr_hmac.AesCtrHmacAeadKey.{AesCtrHmacAeadKey}
 use Rattle.tink_proto_keys.specs.declared.aes_ctr_hmac.AesCtrKey.{AesCtrKey}
 use Rattle.tink_proto_keys.specs.declared.aes_ctr_hmac.AesCtrParams.{AesCtrParams}
 use Rattle.tink_proto_keys.specs.declared.mac.HmacKey.{HmacKey}
-use Rattle.tink_proto_keys.specs.declared.mac.HmacParams.{HmacParams}
 use Rattle.tink_proto_keys.specs.declared.aes_ctr_hmac.AesCtrKeyFormat.{AesCtrKeyFormat}
 use Rattle.tink_proto_keys.specs.declared.mac.HmacKeyFormat.{HmacKeyFormat}
 use Rattle.tink_io.specs.declared.error.TinkError.{TinkError}
@@ -24,44 +22,22 @@ use Rattle.tink_primitives.specs.MeaningLaws.{end_trans}
 use Rattle.tink_subtle.specs.Random.{takes_bytes}
 use Rattle.tink_key_types.specs.Manager.{of_draws}
 use Rattle.tink_key_types.specs.ManagerLaws.{taken_told}
-use Rattle.tink_mac.specs.KeyTypes.{hmac_built, hmac_by_params, or_invalid}
-use Rattle.tink_mac.specs.Tags.{hmac_tag, hmac_tags, is_outside, own_tag, HmacTags}
+use Rattle.tink_mac.specs.Tags.{hmac_tag, own_tag, HmacTags}
+use Rattle.tink_mac.proofs.SoundFacts.{HmacFits, hmac_fits}
 use Rattle.tink_aead.specs.AeadKinds.{hmac_computes, hmac_verifies}
 use Rattle.tink_aead.specs.ComposedKeys.{are_ctr_params, composed_built, composed_of, ctr_built, ctr_by_params, joined, mac_built, new_composed_key, with_hmac_key}
 use Rattle.tink_aead.specs.ComposedLaws.{AcceptsWhole, IsWhole, UndoesWhole}
-use Rattle.tink_aead_subtle.specs.CounterMode.{ctr_decrypts, ctr_encrypts}
 use Rattle.tink_aead.specs.KeyTypes.{is_versioned_key}
 use Rattle.tink_aead_subtle.specs.Laws.{IsMac}
 use Rattle.tink_aead_subtle.specs.declared.aes_ctr.AesCtr.{AesCtr}
 use Rattle.tink_aead_subtle.specs.declared.encrypt_then_authenticate.EncryptThenAuthenticate.{EncryptThenAuthenticate}
 use Rattle.tink_aead_subtle.proofs.ComposedExact.{accepts_exactly, encrypted_is}
-use Rattle.tink_aead_subtle.proofs.Exact.{passed, passes}
+use Rattle.tink_aead_subtle.proofs.Exact.{passed}
 
 -- ---- the tags of an HMAC that was built
-abbrev HasFit : HmacTags → Type 0
-HasFit m = (10 ≤ m.tag_size) × (m.tag_size ≤ digest_size m.hmac.hash)
-
-tags_fit : (o : Option Hash) (key : List ℕ) (t : ℕ) (m : HmacTags) → hmac_tags o key t ≡ Ok m → HasFit m
-tags_fit None key t m e = absurd (cc)
-tags_fit (Some h) key t m e =
-    let made : HmacTags = record { hmac = record { hash = h; key = key }; tag_size = t } in
-    let first = passes (is_outside 10 (digest_size h) t) BadTagSize (cond (nat_lt (length key) 16) (Err BadKeySize) (Ok made)) m e in
-    let second = passes (nat_lt (length key) 16) BadKeySize (Ok made) m first.1 in
-    let within = or_parts (nat_lt t 10) (nat_lt (digest_size h) t) first.0 in
-    let same : made ≡ m = cc second.1 in
-    subst HasFit same (ltb-false t 10 within.0, ltb-false (digest_size h) t within.1)
-
-was_valid : {T : Type 0} (r : Result T Kind) (v : T) → or_invalid r ≡ Ok v → r ≡ Ok v
-was_valid (Ok x) v e = e
-was_valid (Err k) v e = absurd (cc)
-
-params_fit : (p : Option HmacParams) (key : List ℕ) (m : HmacTags) → hmac_by_params p key ≡ Ok m → HasFit m
-params_fit None key m e = absurd (cc)
-params_fit (Some p) key m e = tags_fit _ key p.tag_size m (was_valid _ m e)
-
-pub mac_fits : (k : Option HmacKey) (m : HmacTags) → mac_built k ≡ Ok m → HasFit m
+pub mac_fits : (k : Option HmacKey) (m : HmacTags) → mac_built k ≡ Ok m → HmacFits m
 mac_fits None m e = absurd (cc)
-mac_fits (Some k) m e = params_fit k.params k.key_value m (passed (nat_eq k.version 0) InvalidKey (hmac_by_params k.params k.key_value) m e).1
+mac_fits (Some k) m e = hmac_fits k m e
 
 -- the MAC's part of a key, with its tag size
 abbrev with_size : HmacTags → HmacTags × ℕ
@@ -79,7 +55,7 @@ sized_is (Err k) p e = absurd (cc)
 pub sized_fits : (k : Option HmacKey) (p : HmacTags × ℕ) → sized_mac k ≡ Ok p → 10 ≤ p.1
 sized_fits k p e =
     let parts = sized_is (mac_built k) p e in
-    subst (λ n. 10 ≤ n) (sym parts.1) (mac_fits k p.0 parts.0).0
+    subst (λ n. 10 ≤ n) (sym parts.1) (mac_fits k p.0 parts.0).low
 
 -- the parts joined
 pub joined_ok : (cipher : Result AesCtr Kind) (mac : Result HmacTags Kind) (c : AesCtr) (p : HmacTags × ℕ) (a : EncryptThenAuthenticate AesCtr HmacTags) → cipher ≡ Ok c → made_of with_size mac ≡ Ok p
@@ -108,11 +84,11 @@ ctr_fits : (k : Option AesCtrKey) (c : AesCtr) → ctr_built k ≡ Ok c → c.iv
 ctr_fits None c e = absurd (cc)
 ctr_fits (Some k) c e = ctr_params_fit k.params k.key_value c (passed (is_versioned_key k.version k.key_value) InvalidKey (ctr_by_params k.params k.key_value) c e).1
 
-joined_whole : (cipher : Result AesCtr Kind) (mac : Result HmacTags Kind) (a : EncryptThenAuthenticate AesCtr HmacTags) → ((c : AesCtr) → cipher ≡ Ok c → c.iv_size ≤ 16) → ((m : HmacTags) → mac ≡ Ok m → HasFit m)
+joined_whole : (cipher : Result AesCtr Kind) (mac : Result HmacTags Kind) (a : EncryptThenAuthenticate AesCtr HmacTags) → ((c : AesCtr) → cipher ≡ Ok c → c.iv_size ≤ 16) → ((m : HmacTags) → mac ≡ Ok m → HmacFits m)
     → joined cipher mac ≡ Ok a → IsWhole a
 joined_whole (Ok c) (Ok m) a of_cipher of_mac e =
     let same : composed_of c m ≡ a = cc in
-    subst IsWhole same (record { iv = of_cipher c refl; tag = refl; digest = (of_mac m refl).1 })
+    subst IsWhole same (record { iv = of_cipher c refl; tag = refl; digest = (of_mac m refl).high })
 joined_whole (Ok c) (Err k) a of_cipher of_mac e = absurd (cc)
 joined_whole (Err k) mac a of_cipher of_mac e = absurd (cc)
 

@@ -1,5 +1,5 @@
 -- Envelopes undo their own encryption.
-use Rattle.std.proofs.Common.{◌≡◌, ◌≤◌, ◌<◌, ◌+◌, ◌^◌, ℕ, Bool, true, false, List, [], ◌++◌, length, take, drop, nat_le, ap, ap₂, refl, sym, subst, ◌∙◌, arith, length-append}
+use Rattle.std.proofs.Common.{◌≡◌, ◌≤◌, ◌<◌, ◌^◌, ℕ, Bool, false, List, [], ◌++◌, length, take, drop, ap, ap₂, refl, subst, ◌∙◌, arith, length-append}
 use Rattle.std.specs.Prelude.{Result, Ok, Err, if◌then◌else◌, nat_eq, nat_lt, ◌||◌}
 use Rattle.std.specs.Int.{w32, from_be_bytes, to_be_bytes}
 use Rattle.std.proofs.lemmas.Bool.{le-ltb, lt-leb, ltb-true, ne_eqb}
@@ -8,8 +8,8 @@ use Rattle.standards.proofs.ByteOrder.{from_be_bytes-to_be_bytes, length-to_be_b
 use Rattle.tink_io.specs.declared.error.Kind.{Kind}
 use Rattle.tink_io.specs.declared.error.Kind.TheVariants.{DecryptFailed, LengthOverU32, TooShort}
 use Rattle.tink_prf.specs.Sets.{and_then}
-use Rattle.tink_aead.specs.Envelope.{after_answer, cut_decrypts, enveloped, envelope_decrypts, envelope_encrypts, parts_decrypt}
-use Rattle.tink_aead.specs.EnvelopeLaws.{DataKeysUndo, EnvelopeUndoes}
+use Rattle.tink_aead.specs.Envelope.{after_answer, cut_decrypts, envelope_decrypts, parts_decrypt}
+use Rattle.tink_aead.specs.EnvelopeLaws.{EnvelopeUndoes}
 use Rattle.tink_aead_subtle.proofs.Exact.{passed}
 
 -- where a step gives a value, the one before it did

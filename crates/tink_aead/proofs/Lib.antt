@@ -4,3 +4,4 @@ pub mod EnvelopeFacts
 pub mod Chained
 pub mod EnvelopeSteps
 pub mod SameAnswers
+pub mod SoundFacts

@@ -4,7 +4,6 @@ use Rattle.tink_io.specs.declared.error.Kind.{Kind}
 use Rattle.tink_io.specs.declared.error.Kind.TheVariants.{InvalidFormat, InvalidKey}
 use Rattle.tink_io.specs.Told.{made_of}
 use Rattle.tink_subtle.specs.Random.{takes_bytes}
-use Rattle.tink_proto.specs.Enums.{hash_number}
 use Rattle.tink_proto.specs.declared.enums.HashType.{HashType}
 use Rattle.tink_proto.specs.declared.enums.OutputPrefixType.TheVariants.{Tink}
 use Rattle.tink_proto.specs.declared.messages.keys.KeyTemplate.{KeyTemplate}

@@ -1,5 +1,5 @@
 -- The laws of AES in counter mode with HMAC.
-use Rattle.std.specs.Prelude.{◌≡◌, ◌↔◌, ◌≤◌, ℕ, List, Result, Ok}
+use Rattle.std.specs.Prelude.{◌≡◌, ◌↔◌, ◌≤◌, ℕ, List, Ok}
 use Rattle.hash_keys.specs.Hash.{digest_size}
 use Rattle.tink_mac.specs.Tags.{hmac_tag, HmacTags}
 use Rattle.tink_aead.specs.AeadKinds.{kind_decrypts, kind_encrypts}

@@ -1,12 +1,10 @@
 -- What the AEADs of a keyset tell.
 use Rattle.std.specs.Prelude.{ℕ, List, [], Option, Some, None, Result, refl}
 use Rattle.tink_io.specs.declared.error.Kind.{Kind}
-use Rattle.tink_io.specs.declared.error.Kind.TheVariants.{DecryptFailed}
-use Rattle.tink_primitives.specs.Meaning.{IsDrawn, IsTold}
+use Rattle.tink_primitives.specs.Meaning.{IsDrawn}
 use Rattle.tink_primitives.specs.MeaningLaws.{made_told}
 use Rattle.tink_sets.specs.declared.entry.TypedEntry.{TypedEntry}
-use Rattle.tink_factory.specs.Accepting.{or_else, prefixed_value, raw_value, value_or}
-use Rattle.tink_aead.specs.Wrapped.{any_decrypts, entry_decrypts, entry_encrypts, primary_encrypts}
+use Rattle.tink_aead.specs.Wrapped.{entry_encrypts, primary_encrypts}
 
 module _ {P : Type 0} (encrypts : P → List ℕ → List ℕ → List ℕ → Result (List ℕ) Kind × List ℕ) (told : (p : P) (text aad draws : List ℕ) → IsDrawn draws (encrypts p text aad draws)) where
   pub entry_encrypts_told : (e : TypedEntry P) (text aad draws : List ℕ) → IsDrawn draws (entry_encrypts encrypts e text aad draws)
@@ -17,12 +15,3 @@ module _ {P : Type 0} (encrypts : P → List ℕ → List ℕ → List ℕ → R
   pub primary_encrypts_told : (primary : Option (TypedEntry P)) (text aad draws : List ℕ) → IsDrawn draws (primary_encrypts encrypts primary text aad draws)
   primary_encrypts_told None text aad draws = record { answer = tt; ends = ([], refl) }
   primary_encrypts_told (Some e) text aad draws = entry_encrypts_told e text aad draws
-
--- a value, or `DecryptFailed`
-value_told : (o : Option (List ℕ)) → IsTold (value_or DecryptFailed o)
-value_told None = tt
-value_told (Some v) = tt
-
-module _ {P : Type 0} (decrypts : P → List ℕ → List ℕ → Result (List ℕ) Kind) where
-  pub any_decrypts_told : (group : List ℕ → List (TypedEntry P)) (input aad : List ℕ) → IsTold (any_decrypts decrypts group input aad)
-  any_decrypts_told group input aad = value_told (or_else (prefixed_value (entry_decrypts decrypts aad) group input) (raw_value (entry_decrypts decrypts aad) group input))

@@ -8,9 +8,10 @@ ghost use Rattle.tink_sets.specs.Entries.{entry_of};
 ghost use Rattle.tink_sets.specs.Groups.{group_of, HaveSameGroups};
 ghost use Rattle.tink_keysets.specs.Built.{built_entries, GivesSet};
 ghost use Rattle.tink_factory.specs.Typing.{typed_entries};
-ghost use Rattle.tink_aead.specs.Wrapped.{any_decrypts, entry_decrypts, entry_encrypts, primary_encrypts};
+ghost use Rattle.tink_factory.specs.Decrypting.{any_decrypts, any_decrypts_told, entry_decrypts};
+ghost use Rattle.tink_aead.specs.Wrapped.{entry_encrypts, primary_encrypts};
 ghost use Rattle.tink_aead.specs.Wrapped.{HasSameAnswers, IsAeadOf};
-ghost use Rattle.tink_aead.specs.WrappedTold.{any_decrypts_told, primary_encrypts_told};
+ghost use Rattle.tink_aead.specs.WrappedTold.{primary_encrypts_told};
 
 use std::alloc::Global;
 use tink_factory::{Question, ask_entries, typed_primitives};

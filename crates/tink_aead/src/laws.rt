@@ -1,8 +1,11 @@
 //! The laws of the AEADs that keys build, and of keysets that were edited.
 
+ghost use Rattle.tink_aead.specs.AeadKinds.{kind_decrypts, kind_encrypts};
 ghost use Rattle.tink_aead.specs.ComposedLaws.{KeysBuildWhole, WholeAccepts, WholeUndoes};
-ghost use Rattle.tink_aead.specs.Rotation.{EnabledKeysOpen, EncryptedOpens, OldCiphertextsOpen};
+ghost use Rattle.tink_aead.specs.Rotation.{BuildsSoundAeads, CiphertextsOutlive, EnabledKeysOpen, EncryptedOpens};
+ghost use Rattle.tink_aead.specs.Rotation.{OldCiphertextsOpen};
 
+use crate::{AesCtrHmacAeadKeyManager, AesGcmKeyManager, AesGcmSivKeyManager};
 use tink_primitives::{Aead, Kinds};
 use tink_registry::KeyManager;
 
@@ -26,4 +29,22 @@ where
     ensures entries { OldCiphertextsOpen P.encrypts P.decrypts }
     ensures keys { EnabledKeysOpen P.encrypts P.decrypts M.url M.supports M.builds }
     ensures primary { EncryptedOpens P.encrypts P.decrypts M.url M.supports M.builds }
+{}
+
+/// The AEADs that the managers of AES-GCM, AES-GCM-SIV and AES-CTR-HMAC keys build decrypt what they encrypt, and it has
+/// more than five bytes.
+pub fn law_built_aeads_are_sound()
+    ensures gcm { BuildsSoundAeads kind_encrypts kind_decrypts ⟦<AesGcmKeyManager as KeyManager>⟧.builds }
+    ensures gcm_siv { BuildsSoundAeads kind_encrypts kind_decrypts ⟦<AesGcmSivKeyManager as KeyManager>⟧.builds }
+    ensures composed { BuildsSoundAeads kind_encrypts kind_decrypts
+        ⟦<AesCtrHmacAeadKeyManager as KeyManager>⟧.builds }
+{}
+
+/// What a keyset's AEADs encrypted is decrypted by those of the keyset that any list of a manager's commands makes of it,
+/// where none of them disables, destroys or deletes a key of the id that was primary: by the same key managers, whose
+/// AEADs decrypt what they encrypt, and where no entry opens it to another text.
+pub fn law_ciphertexts_outlive_commands<M: KeyManager, P: Aead>()
+where
+    M::Family: Kinds<Aead = P>,
+    ensures { CiphertextsOutlive P.encrypts P.decrypts M.url M.supports M.builds }
 {}

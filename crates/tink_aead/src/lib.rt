@@ -23,7 +23,10 @@ pub use key_templates::{
 pub use kms_envelope_aead::{
     KMS_ENVELOPE_AEAD_KEY_VERSION, KMS_ENVELOPE_AEAD_TYPE_URL, KmsEnvelopeAead, law_envelopes_open,
 };
-pub use laws::{law_aes_ctr_hmac, law_old_ciphertexts_open};
+pub use laws::{
+    law_aes_ctr_hmac, law_built_aeads_are_sound, law_ciphertexts_outlive_commands,
+    law_old_ciphertexts_open,
+};
 pub use registering::init;
 pub use tink_aead_subtle::{law_aes_ctr, law_aes_ctr_then_mac, law_aes_gcm, law_aes_gcm_siv};
 pub use tink_primitives::UPSTREAM_VERSION;

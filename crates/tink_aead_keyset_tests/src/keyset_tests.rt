@@ -10,7 +10,8 @@ use tink_aead::{
     AES_GCM_TYPE_URL, AeadKind, AesCtrHmacAeadKeyManager, AesGcmKeyManager, AesGcmSivKeyManager,
     WrappedAead, aes128_ctr_hmac_sha256_key_template, aes128_gcm_key_template,
     aes256_ctr_hmac_sha512_key_template, aes256_gcm_key_template,
-    aes256_gcm_no_prefix_key_template, aes256_gcm_siv_no_prefix_key_template, new,
+    aes256_gcm_no_prefix_key_template, aes256_gcm_siv_no_prefix_key_template,
+    law_ciphertexts_outlive_commands, new,
 };
 use tink_core::keyset::{Handle, Manager};
 use tink_core::registry::{KeyManager, Registry};
@@ -454,4 +455,5 @@ fn rotates(alloc: Global) -> Result<bool, TinkError> {
 #[test]
 fn old_ciphertexts_are_decrypted_after_a_rotation(rt: HostRuntime) {
     expect(&rt, rotates(rt.alloc()), Ok(true), "both ciphertexts");
+    law_ciphertexts_outlive_commands::<AesGcmKeyManager, AeadKind>();
 }

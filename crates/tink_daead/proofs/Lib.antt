@@ -1,2 +1,3 @@
 pub mod SivFacts
 pub mod KeysetFacts
+pub mod RotationFacts

@@ -6,3 +6,4 @@ pub mod Templates
 pub mod Wrapped
 pub mod WrappedTold
 pub mod KeysetLaws
+pub mod Rotation

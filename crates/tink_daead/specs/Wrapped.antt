@@ -2,13 +2,14 @@
 use Rattle.std.specs.Prelude.{◌≡◌, ◌++◌, ℕ, List, Vec, Option, Some, None, Result, Err}
 use Rattle.std.specs.BTreeMap.{BTreeMap}
 use Rattle.tink_io.specs.declared.error.Kind.{Kind}
-use Rattle.tink_io.specs.declared.error.Kind.TheVariants.{DecryptFailed, NoPrimary}
+use Rattle.tink_io.specs.declared.error.Kind.TheVariants.{NoPrimary}
 use Rattle.tink_io.specs.Told.{made_of}
 use Rattle.tink_sets.specs.Entries.{entry_of_id, typed_prefix_of}
 use Rattle.tink_sets.specs.Groups.{group_of}
 use Rattle.tink_sets.specs.declared.entry.TypedEntry.{TypedEntry}
 use Rattle.tink_keysets.specs.Built.{HasEntries}
-use Rattle.tink_factory.specs.Accepting.{accepted, entries_of}
+use Rattle.tink_factory.specs.Accepting.{entries_of}
+use Rattle.tink_factory.specs.Decrypting.{any_decrypts}
 
 module _ {P : Type 0} (encrypts : P → List ℕ → List ℕ → Result (List ℕ) Kind) where
   -- an entry's encryption of a text, behind its prefix
@@ -19,15 +20,6 @@ module _ {P : Type 0} (encrypts : P → List ℕ → List ℕ → Result (List �
   abbrev pub primary_encrypts : Option (TypedEntry P) → List ℕ → List ℕ → Result (List ℕ) Kind
   primary_encrypts None text aad = Err NoPrimary
   primary_encrypts (Some e) text aad = entry_encrypts e text aad
-
-module _ {P : Type 0} (decrypts : P → List ℕ → List ℕ → Result (List ℕ) Kind) where
-  -- what an entry answers on a ciphertext without its prefix
-  abbrev pub entry_decrypts : List ℕ → TypedEntry P → List ℕ → Result (List ℕ) Kind
-  entry_decrypts aad e input = decrypts e.primitive input aad
-
-  -- the text by the first entry that accepts
-  abbrev pub any_decrypts : (List ℕ → List (TypedEntry P)) → List ℕ → List ℕ → Result (List ℕ) Kind
-  any_decrypts group input aad = accepted (entry_decrypts aad) group DecryptFailed input
 
 -- A set is that of these entries: it encrypts by the first of the primary id, and decrypts by any of them.
 pub record IsDaeadOf {P G : Type 0} (encrypts : P → List ℕ → List ℕ → Result (List ℕ) Kind) (decrypts : P → List ℕ → List ℕ → Result (List ℕ) Kind) (id : ℕ) (es : List (TypedEntry P)) (primary : Option (TypedEntry P)) (groups : BTreeMap (Vec ℕ G) (List (TypedEntry P))) : Type 0 where

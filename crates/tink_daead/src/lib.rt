@@ -8,7 +8,10 @@ pub use aes_siv_key_manager::{
 pub use daead_kinds::DaeadKinds;
 pub use factory::{WrappedDeterministicAead, new};
 pub use key_templates::aes_siv_key_template;
-pub use laws::law_keysets_decrypt_exactly;
+pub use laws::{
+    law_built_daeads_are_sound, law_ciphertexts_outlive_commands, law_keysets_decrypt_exactly,
+    law_old_ciphertexts_open,
+};
 pub use registering::init;
 pub use subtle::law_aes_siv;
 pub use tink_primitives::UPSTREAM_VERSION;

@@ -1,5 +1,5 @@
 -- The first entry of a set that accepts an input.
-use Rattle.std.specs.Prelude.{ℕ, List, [], ◌∷◌, Option, Some, None, Result, Ok, Err, if◌then◌else◌, length, nat_lt, take, drop, filter}
+use Rattle.std.specs.Prelude.{◌≡◌, ℕ, List, [], ◌∷◌, Option, Some, None, Result, Ok, Err, if◌then◌else◌, length, nat_lt, take, drop, filter}
 use Rattle.std.specs.Str.{bytes_eq}
 use Rattle.tink_io.specs.declared.error.Kind.{Kind}
 use Rattle.tink_sets.specs.declared.entry.TypedEntry.{TypedEntry}
@@ -42,3 +42,8 @@ module _ {Q A : Type 0} (answer : TypedEntry Q → List ℕ → Result A Kind) (
   -- the same for inputs that have a byte behind a prefix; any other is refused
   abbrev pub accepted_behind_prefix : Kind → List ℕ → Result A Kind
   accepted_behind_prefix none input = if nat_lt 5 (length input) then accepted none input else Err none
+
+-- An entry accepts an input as this value, where it accepts it at all: behind its prefix, or whole where it has none.
+pub record AcceptsNoOther {Q A : Type 0} (answer : TypedEntry Q → List ℕ → Result A Kind) (value : A) (input : List ℕ) (e : TypedEntry Q) : Type 0 where
+  pub behind : e.prefix ≡ take 5 input → (other : A) → answer e (drop 5 input) ≡ Ok other → other ≡ value
+  pub whole : e.prefix ≡ [] → (other : A) → answer e input ≡ Ok other → other ≡ value

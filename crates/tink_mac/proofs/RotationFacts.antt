@@ -1,88 +1,75 @@
--- What an entry made is accepted by each list that has the entry.
-use Rattle.std.proofs.Common.{◌≡◌, ◌∙◌, ◌<◌, ◌++◌, ℕ, List, [], ◌∷◌, Bool, true, false, cond, Option, Some, None, Result, Ok, Err, length, take, drop, refl, sym, ap, ⊎_elim}
-use Rattle.std.specs.Prelude.{filter}
+-- What an entry made is accepted by each list that has the entry, and under its keyset after commands that spare its key.
+use Rattle.std.proofs.Common.{◌≡◌, ◌∙◌, ◌<◌, ◌++◌, ℕ, List, Bool, cond, Option, Some, None, Result, Ok, Err, length, refl, ap, subst, arith}
 use Rattle.std.specs.List.{All, Contains}
-use Rattle.std.specs.Str.{bytes_eq}
-use Rattle.std.specs.Cmp.Lexicographic.{bytes_decides}
-use Rattle.std.proofs.lemmas.Bool.Decides.{Decides-ltb}
-use Rattle.std.proofs.lemmas.List.{drop_at, take_at}
-use Rattle.std.proofs.lemmas.List.Elements.{All-cons, All-contains, All-nil}
+use Rattle.std.proofs.lemmas.Bool.{lt-ltb}
+use Rattle.std.proofs.lemmas.List.{length-append}
+use Rattle.std.proofs.lemmas.List.Elements.{All-contains_itself, All-weaker}
 use Rattle.tink_io.specs.declared.error.Kind.{Kind}
 use Rattle.tink_io.specs.declared.error.Kind.TheVariants.{MacMismatch}
 use Rattle.tink_primitives.specs.Sorts.{as_mac}
 use Rattle.tink_primitives.specs.declared.primitive.Primitive.{Primitive}
+use Rattle.tink_primitives.specs.declared.primitive.Primitive.TheVariants.{Mac}
+use Rattle.tink_sets.specs.Entries.{entry_of_id}
 use Rattle.tink_sets.specs.declared.entry.TypedEntry.{TypedEntry}
-use Rattle.tink_factory.specs.Accepting.{entries_of, first_value, or_else, prefixed_value, raw_value, value_or}
-use Rattle.tink_mac.specs.Wrapped.{any_verifies, covered, entry_verifies}
-use Rattle.tink_mac.specs.Rotation.{OldMacsVerify}
-use Rattle.tink_mac.proofs.KeyEntries.{IsOwnPrefix, made_ok, of_enabled, of_own_prefix}
+use Rattle.tink_factory.specs.Accepting.{AcceptsNoOther, accepted, entries_of}
+use Rattle.tink_factory.proofs.KeyEntries.{key_holds, made_ok, primary_key}
+use Rattle.tink_factory.proofs.LastingFacts.{IsAcceptedBy, accepted_after, accepted_by_key}
+use Rattle.tink_mac.specs.Wrapped.{any_verifies, covered, entry_mac, entry_verifies, primary_mac, Computes, Verifies}
+use Rattle.tink_mac.specs.Rotation.{IsMacBy, IsSound, MacsOutlive, OldMacsVerify}
 
--- ---- the first of a list that accepts
+module _ {P : Type 0} (computes : Computes P) (verifies : Verifies P) (message mac : List ℕ) where
+  abbrev answer : TypedEntry P → List ℕ → Result (Unit {0}) Kind
+  answer = entry_verifies verifies message
 
-module _ {E : Type 0} (f : E → Result (Unit {0}) Kind) (t : E → Bool) where
-  abbrev Passes : E → Type 0
-  Passes x = t x ≡ true → f x ≡ Ok tt → ⊥
+  -- a MAC that is accepted is accepted in one way
+  alone : (es : List (TypedEntry P)) → All (AcceptsNoOther answer tt mac) es
+  alone es = All-weaker (Contains es) (AcceptsNoOther answer tt mac) (λ e _. record { behind = λ _ other _. one other; whole = λ _ other _. one other }) es (All-contains_itself es)
+    where
+      one : (u : Unit {0}) → u ≡ tt
+      one tt = refl
 
-  abbrev value_first : Result (Unit {0}) Kind → Option (Unit {0}) → Option (Unit {0})
-  value_first r rest = elim r [ Ok v ↦ Some v | Err _ ↦ rest ]
+  accepted_mac : (e : TypedEntry P) → IsMacBy computes verifies e message mac → IsAcceptedBy answer e tt mac
+  accepted_mac e by =
+      let made = made_ok (λ tag. e.prefix ++ tag) (computes e.primitive (covered e.prefix_type message)) mac by.made in
+      record { rest = made.0; is = made.2; accepted = by.own made.0 made.1; long = by.long }
 
-  none_of : (r : Result (Unit {0}) Kind) (rest : Option (Unit {0})) → value_first r rest ≡ None → (r ≡ Ok tt → ⊥) × (rest ≡ None)
-  none_of (Ok v) rest none = absurd (cc)
-  none_of (Err k) rest none = (λ e. absurd (cc), none)
+  -- one of more than five bytes is asked about
+  asked : (es : List (TypedEntry P)) → 5 < length mac → any_verifies verifies (entries_of es) mac message ≡ accepted answer (entries_of es) MacMismatch mac
+  asked es long = ap (λ b. cond b (accepted answer (entries_of es) MacMismatch mac) (Err MacMismatch)) (lt-ltb 5 (length mac) long)
 
-  none_filtered : (x : E) (b : Bool) (rest : List E) → t x ≡ b → first_value f (cond b (x ∷ rest) rest) ≡ None → Passes x × (first_value f rest ≡ None)
-  none_filtered x true rest is none = let w = none_of (f x) (first_value f rest) none in (λ _ accepts. w.0 accepts, w.1)
-  none_filtered x false rest is none = (λ passes _. absurd (cc), none)
+longer : (front tag mac : List ℕ) → front ++ tag ≡ mac → 5 < length tag → 5 < length mac
+longer front tag mac is long = subst (λ l. 5 < length l) is (rw (length-append front tag) (omega arith))
 
-  none_passes : (xs : List E) → first_value f (filter t xs) ≡ None → All Passes xs
-  none_passes [] none = All-nil Passes
-  none_passes (x ∷ xs) none = let w = none_filtered x (t x) (filter t xs) refl none in All-cons Passes x xs w.0 (none_passes xs w.1)
+sound_mac : {P : Type 0} (computes : Computes P) (verifies : Verifies P) (e : TypedEntry P) (message mac : List ℕ) → IsSound computes verifies e.primitive → entry_mac computes e message ≡ Ok mac → IsMacBy computes verifies e message mac
+sound_mac computes verifies e message mac sound made =
+    let text = covered e.prefix_type message in
+    let tag = made_ok (λ t. e.prefix ++ t) (computes e.primitive text) mac made in
+    record {
+      made = made;
+      own = λ t is. sound.own text t is;
+      long = longer e.prefix tag.0 mac tag.2 (sound.long text tag.0 tag.1);
+    }
 
-  some_unit : (o : Option (Unit {0})) → (o ≡ None → ⊥) → o ≡ Some tt
-  some_unit None not = absurd (not refl)
-  some_unit (Some tt) not = refl
-
-  pub first_passes : (xs : List E) (x : E) → Contains xs x → t x ≡ true → f x ≡ Ok tt → first_value f (filter t xs) ≡ Some tt
-  first_passes xs x there passes accepts = some_unit (first_value f (filter t xs)) (λ none. All-contains Passes xs x (none_passes xs none) there passes accepts)
-
--- ---- the MAC of an entry
-
-module _ {P : Type 0} (verifies : P → List ℕ → List ℕ → Result (Unit {0}) Kind) (e : TypedEntry P) (es : List (TypedEntry P)) (there : Contains es e) (message mac tag : List ℕ) (whole : mac ≡ e.prefix ++ tag) (own : entry_verifies verifies message e tag ≡ Ok tt) (long : 5 < length mac) where
-  at_prefix : (p : List ℕ) → e.prefix ≡ p → first_value (λ x. entry_verifies verifies message x tag) (entries_of es p) ≡ Some tt
-  at_prefix p same = first_passes (λ x. entry_verifies verifies message x tag) (λ x. bytes_eq x.prefix p) es e there ((bytes_decides e.prefix p).1 same) own
-
-  accepts_prefixed : length e.prefix ≡ 5 → prefixed_value (entry_verifies verifies message) (entries_of es) mac ≡ Some tt
-  accepts_prefixed five =
-      let front : take 5 mac ≡ e.prefix = ap (take 5) whole ∙ take_at e.prefix tag 5 five in
-      let rest : drop 5 mac ≡ tag = ap (drop 5) whole ∙ drop_at e.prefix tag 5 five in
-      ap (λ b. cond b (first_value (λ x. entry_verifies verifies message x (drop 5 mac)) (entries_of es (take 5 mac))) None) ((Decides-ltb 5 (length mac)).1 long)
-      ∙ ap (λ l. first_value (λ x. entry_verifies verifies message x l) (entries_of es (take 5 mac))) rest
-      ∙ at_prefix (take 5 mac) (sym front)
-
-  accepts_raw : e.prefix ≡ [] → raw_value (entry_verifies verifies message) (entries_of es) mac ≡ Some tt
-  accepts_raw none =
-      let alone : mac ≡ tag = whole ∙ ap (λ p. p ++ tag) none in
-      ap (λ l. first_value (λ x. entry_verifies verifies message x l) (entries_of es [])) alone ∙ at_prefix [] none
-
-  later : (o q : Option (Unit {0})) → q ≡ Some tt → value_or MacMismatch (or_else o q) ≡ Ok tt
-  later None q is = ap (value_or MacMismatch) is
-  later (Some tt) q is = refl
-
-  first : (o q : Option (Unit {0})) → o ≡ Some tt → value_or MacMismatch (or_else o q) ≡ Ok tt
-  first o q is = ap (λ x. value_or MacMismatch (or_else x q)) is
-
-  accepts : IsOwnPrefix e.prefix → any_verifies verifies (entries_of es) mac message ≡ Ok tt
-  accepts known =
-      let o = prefixed_value (entry_verifies verifies message) (entries_of es) mac in
-      let q = raw_value (entry_verifies verifies message) (entries_of es) mac in
-      ap (λ b. cond b (value_or MacMismatch (or_else o q)) (Err MacMismatch)) ((Decides-ltb 5 (length mac)).1 long)
-      ∙ ⊎_elim (λ five. first o q (accepts_prefixed five)) (λ none. later o q (accepts_raw none)) known
-
--- ---- the entry of an enabled key
+of_primary : {P : Type 0} (computes : Computes P) (o : Option (TypedEntry P)) (message mac : List ℕ) → primary_mac computes o message ≡ Ok mac → (e : TypedEntry P) × (o ≡ Some e) × (entry_mac computes e message ≡ Ok mac)
+of_primary computes None message mac made = absurd (cc)
+of_primary computes (Some e) message mac made = (e, refl, made)
 
 module _ {M K A D HD HE P F S St V : Type 0} (url : M → List ℕ) (supports : M → List ℕ → Bool) (builds : M → List ℕ → Result (Primitive K A D HD HE P F S St V) Kind) where
-  pub old_macs_verify : (computes : P → List ℕ → Result (List ℕ) Kind) (verifies : P → List ℕ → List ℕ → Result (Unit {0}) Kind) → OldMacsVerify url supports builds computes verifies
+  is_mac : (q : Primitive K A D HD HE P F S St V) (p : P) → as_mac q ≡ Ok p → q ≡ Mac p
+  is_mac (Mac x) p e = let same : x ≡ p = cc in ap Mac same
+  is_mac _ p e = absurd (cc)
+
+  pub old_macs_verify : (computes : Computes P) (verifies : Verifies P) → OldMacsVerify url supports builds computes verifies
   old_macs_verify computes verifies managers ks k e es message mac entry there all by =
-      let in_list = of_enabled as_mac url supports builds managers ks k e es entry there all in
-      let made = made_ok (λ tag. e.prefix ++ tag) (computes e.primitive (covered e.prefix_type message)) mac by.made in
-      accepts verifies e es in_list message mac made.0 (sym made.2) (by.own made.0 made.1) by.long (of_own_prefix as_mac url supports builds managers k e entry)
+      asked computes verifies message mac es by.long
+      ∙ accepted_by_key as_mac url supports builds managers (entry_verifies verifies message) MacMismatch ks k e es tt mac entry there all (accepted_mac computes verifies message mac e by) (alone computes verifies message mac es)
+
+  pub macs_outlive : (computes : Computes P) (verifies : Verifies P) → MacsOutlive url supports builds computes verifies
+  macs_outlive computes verifies sound managers makes m commands es later message mac spared first last made =
+      let primary = of_primary computes (entry_of_id m.keyset.primary_key_id es) message mac made in
+      let e = primary.0 in
+      let k = primary_key as_mac url supports builds managers m.keyset es e first primary.1 in
+      let own = key_holds as_mac url supports builds managers (IsSound computes verifies) (λ r value q p built picked. sound r value p (built ∙ ap Ok (is_mac q p picked))) k.0 e k.2 in
+      let by = sound_mac computes verifies e message mac own primary.2 in
+      asked computes verifies message mac later by.long
+      ∙ accepted_after as_mac url supports builds managers (entry_verifies verifies message) MacMismatch makes m commands es later e tt mac spared first primary.1 last (accepted_mac computes verifies message mac e by) (alone computes verifies message mac later)

@@ -1,5 +1,5 @@
 -- The MACs that keys build accept their own tags, of ten bytes or more.
-use Rattle.std.proofs.Common.{◌≡◌, ◌≤◌, ◌<◌, ◌||◌, ℕ, List, Bool, true, false, Option, Some, None, Result, Ok, Err, cond, length, ap, refl, sym, subst, arith}
+use Rattle.std.proofs.Common.{◌≡◌, ◌≤◌, ◌<◌, ℕ, List, Bool, true, false, Option, Some, None, Result, Ok, Err, cond, length, refl, sym, subst, arith}
 use Rattle.std.specs.Prelude.{is_ok, nat_eq, nat_lt}
 use Rattle.std.proofs.lemmas.Bool.{false≢true, ltb-false, or_parts}
 use Rattle.std.proofs.lemmas.Bool.Decides.{Decides-eqb}
@@ -21,15 +21,15 @@ use Rattle.tink_proto_keys.specs.declared.mac.HmacParams.{HmacParams}
 use Rattle.tink_proto_keys.specs.declared.mac.AesCmacKey.{AesCmacKey}
 use Rattle.tink_proto_keys.specs.declared.mac.AesCmacParams.{AesCmacParams}
 use Rattle.tink_key_types.specs.Manager.{built_by}
+use Rattle.tink_factory.proofs.KeyEntries.{cond_ok, made_ok}
 use Rattle.tink_prf.specs.AesCmac.{cmac_of}
 use Rattle.tink_mac.specs.KeyTypes.{cmac_built, cmac_by_params, hmac_built, hmac_by_params, or_invalid}
 use Rattle.tink_mac.specs.MacKinds.{kind_computes, kind_tag, kind_verifies}
 use Rattle.tink_mac.specs.Rotation.{IsSound}
 use Rattle.tink_mac.specs.TagLaws.{own_tag_own}
-use Rattle.tink_mac.specs.Tags.{cmac_tag, cmac_tags, hmac_tag, hmac_tags, is_outside, CmacTags, HmacTags}
+use Rattle.tink_mac.specs.Tags.{cmac_tag, hmac_tag, hmac_tags, is_outside, CmacTags, HmacTags}
 use Rattle.tink_mac.specs.declared.mac_kind.MacKind.{MacKind}
 use Rattle.tink_mac.specs.declared.mac_kind.MacKind.TheVariants as kinds
-use Rattle.tink_mac.proofs.KeyEntries.{cond_ok, made_ok}
 
 unrefused : {T : Type 0} (b : Bool) (k : Kind) (r : Result T Kind) (v : T) → cond b (Err k) r ≡ Ok v → (b ≡ false) × (r ≡ Ok v)
 unrefused true k r v e = absurd (cc)
@@ -41,7 +41,7 @@ accepted false k r v e = absurd (cc)
 
 -- ---- HMAC
 
-record HmacFits (m : HmacTags) : Type 0 where
+pub record HmacFits (m : HmacTags) : Type 0 where
   pub low : 10 ≤ m.tag_size
   pub high : m.tag_size ≤ digest_size m.hmac.hash
 
@@ -63,10 +63,10 @@ params_fit : (p : Option HmacParams) (key : List ℕ) (m : HmacTags) → hmac_by
 params_fit None key m e = absurd (cc)
 params_fit (Some p) key m e = tags_fit _ key p.tag_size m (was_valid _ m e)
 
-hmac_fits : (k : HmacKey) (m : HmacTags) → hmac_built k ≡ Ok m → HmacFits m
+pub hmac_fits : (k : HmacKey) (m : HmacTags) → hmac_built k ≡ Ok m → HmacFits m
 hmac_fits k m e = params_fit k.params k.key_value m (cond_ok (nat_eq k.version 0) (hmac_by_params k.params k.key_value) InvalidKey m e)
 
-hmac_long : (m : HmacTags) (message : List ℕ) → HmacFits m → 5 < length (hmac_tag m message)
+pub hmac_long : (m : HmacTags) (message : List ℕ) → HmacFits m → 5 < length (hmac_tag m message)
 hmac_long m message fits =
     let whole : m.tag_size ≤ length (codes_of.hmac_of m.hmac.hash m.hmac.key message) = subst (λ n. m.tag_size ≤ n) (sym (length-hmac_of m.hmac.hash m.hmac.key message)) fits.high in
     omega (arith, length-take-le m.tag_size _ whole, fits.low)
@@ -111,7 +111,7 @@ sound m long = record {
   long = λ message tag e. let same : kind_tag m message ≡ tag = cc in subst (λ t. 5 < length t) same (long message);
 }
 
-by_message : {Key Q : Type 0} (built : Key → Result Q Kind) (o : Option Key) (q : Q) → built_by built o ≡ Ok q → (k : Key) × (built k ≡ Ok q)
+pub by_message : {Key Q : Type 0} (built : Key → Result Q Kind) (o : Option Key) (q : Q) → built_by built o ≡ Ok q → (k : Key) × (built k ≡ Ok q)
 by_message built None q e = absurd (cc)
 by_message built (Some k) q e = (k, e)
 

@@ -1,5 +1,5 @@
 -- MACs that were made before a keyset was edited.
-use Rattle.std.specs.Prelude.{◌≡◌, ◌<◌, ℕ, List, All, Bool, None, Result, Ok, Err, length}
+use Rattle.std.specs.Prelude.{◌≡◌, ◌<◌, ℕ, List, All, Bool, Result, Ok, length}
 use Rattle.std.specs.List.{Contains}
 use Rattle.tink_io.specs.declared.error.Kind.{Kind}
 use Rattle.tink_proto.specs.declared.messages.keys.Key.{Key}
@@ -7,15 +7,13 @@ use Rattle.tink_proto.specs.declared.messages.keys.Keyset.{Keyset}
 use Rattle.tink_primitives.specs.Sorts.{as_mac}
 use Rattle.tink_primitives.specs.declared.primitive.Primitive.{Primitive}
 use Rattle.tink_primitives.specs.declared.primitive.Primitive.TheVariants.{Mac}
-use Rattle.tink_prf.specs.Sets.{and_then}
-use Rattle.tink_sets.specs.Entries.{entry_of, entry_of_id, typed_by}
+use Rattle.tink_sets.specs.Entries.{entry_of_id}
 use Rattle.tink_sets.specs.declared.entry.TypedEntry.{TypedEntry}
 use Rattle.keyset_model.specs.Commands.{Command, Maker, Managed, after_all}
 use Rattle.keyset_model.specs.Keys.{enabled}
 use Rattle.keyset_model.specs.Spared.{Spares}
-use Rattle.tink_keysets.specs.Built.{built_entries, built_entry}
 use Rattle.tink_factory.specs.Accepting.{entries_of}
-use Rattle.tink_factory.specs.Typing.{typed_entries}
+use Rattle.tink_factory.specs.Typing.{key_entry, keyset_entries}
 use Rattle.tink_mac.specs.Wrapped.{any_verifies, covered, entry_mac, primary_mac, Computes, Verifies}
 
 -- An entry computes this MAC of a message, its primitive accepts its own tag of it, and the MAC has more than five
@@ -42,12 +40,11 @@ module _ {M K A D HD HE P F S St V : Type 0} (url : M → List ℕ) (supports : 
     (builds : M → List ℕ → Result (Primitive K A D HD HE P F S St V) Kind) where
   -- the entry that a key builds, as one of a MAC
   abbrev pub mac_entry : List M → Key → Result (TypedEntry P) Kind
-  mac_entry managers k = and_then (built_entry url supports builds entry_of managers None k) (typed_by as_mac)
+  mac_entry = key_entry as_mac url supports builds
 
   -- and those of the enabled keys
   abbrev pub mac_entries : List M → Keyset → Result (List (TypedEntry P)) Kind
-  mac_entries managers ks =
-      typed_entries as_mac ks.primary_key_id (built_entries url supports builds entry_of managers None ks)
+  mac_entries = keyset_entries as_mac url supports builds
 
   -- What a key's entry made is accepted by the entries of every keyset in which the key is enabled.
   abbrev pub OldMacsVerify : Computes P → Verifies P → Type 0

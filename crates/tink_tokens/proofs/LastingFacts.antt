@@ -1,16 +1,12 @@
 -- Tokens that were signed are verified.
-use Rattle.std.proofs.Common.{◌≡◌, ◌∙◌, ℕ, List, [], Bool, Option, Result, Ok, Err, sym, Vec}
-use Rattle.std.specs.BTreeMap.{BTreeMap}
+use Rattle.std.proofs.Common.{◌∙◌, ℕ, List, [], Bool, Result, Err, sym}
 use Rattle.std.proofs.lemmas.List.Elements.{All-nil}
 use Rattle.tink_io.specs.declared.error.Kind.{Kind}
 use Rattle.tink_io.specs.declared.error.Kind.TheVariants.{OutOfMemory}
 use Rattle.tink_primitives.specs.declared.primitive.Primitive.{Primitive}
-use Rattle.tink_sets.specs.Groups.{group_of}
-use Rattle.tink_sets.specs.declared.entry.TypedEntry.{TypedEntry}
 use Rattle.keyset_model.specs.Spared.{Spares}
-use Rattle.tink_mac.specs.Wrapped.{any_verifies, Computes, IsMacOf, Verifies}
-use Rattle.tink_mac.proofs.OutlivingFacts.{macs_outlive}
-use Rattle.tink_mac.proofs.RotationFacts.{old_macs_verify}
+use Rattle.tink_mac.specs.Wrapped.{Computes, Verifies}
+use Rattle.tink_mac.proofs.RotationFacts.{macs_outlive, old_macs_verify}
 use Rattle.tink_tokens.specs.Lasting.{OldTokensVerify, SignedVerify, TokensOutlive}
 use Rattle.tink_tokens.specs.Tokens.{spelled}
 

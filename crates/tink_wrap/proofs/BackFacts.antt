@@ -17,23 +17,25 @@ use Rattle.keyset_model.specs.Commands.{Command, Maker, Managed, after_all}
 use Rattle.keyset_model.specs.Secrets.{keyset_info}
 use Rattle.keyset_model.specs.Spared.{Spares}
 use Rattle.tink_keysets.specs.Encrypted.{by_master, chained, decrypted, handle_of_bytes, with_info}
+use Rattle.tink_primitives.specs.declared.primitive.Primitive.TheVariants.{Aead}
 use Rattle.tink_sets.specs.Entries.{entry_of_id}
 use Rattle.tink_sets.specs.declared.entry.TypedEntry.{TypedEntry}
 use Rattle.tink_factory.specs.Accepting.{entries_of}
 use Rattle.tink_aead.specs.AeadKinds.{kind_decrypts, kind_encrypts}
-use Rattle.tink_aead.specs.Rotation.{aead_entries, OpensToNoOther}
-use Rattle.tink_aead.specs.Wrapped.{any_decrypts, primary_encrypts}
+use Rattle.tink_factory.specs.Decrypting.{any_decrypts, OpensToNoOther}
+use Rattle.tink_aead.specs.Rotation.{aead_entries}
+use Rattle.tink_aead.specs.Wrapped.{primary_encrypts}
 use Rattle.tink_aead.specs.declared.aead_kind.AeadKind.{AeadKind}
 use Rattle.tink_aead.specs.declared.factory.WrappedAead.{WrappedAead}
-use Rattle.tink_aead.proofs.RotationFacts.{encrypted_opens}
+use Rattle.tink_aead.proofs.RotationFacts.{ciphertexts_outlive}
 use Rattle.tink.specs.Registered.{with_everything}
+use Rattle.tink.proofs.SoundFacts.{managers_sound}
 use Rattle.tink_key_files.specs.Files.{file_text, format_of}
 use Rattle.tink_key_files.specs.declared.formats.Format.{Format}
 use Rattle.tink_key_files.specs.declared.formats.Format.TheVariants.{Binary}
 use Rattle.tink_wrap.specs.Masters.{IsMaster, MasterKeys, master_decrypts, master_encrypts, master_in, master_keys, master_of, valid_in_file}
 use Rattle.tink_wrap.specs.ThereAndBack.{OpensWhatItWraps, WrappedOutlives, returned_file, returned_keys}
 use Rattle.tink_wrap.specs.Wrapping.{unwrapped_file, unwrapped_keys, wrapped_by, wrapped_file, wrapped_in, wrapped_keys, wrapped_text, wraps}
-use Rattle.tink_wrap.proofs.SoundMasters.{all_undo, made_long}
 use Rattle.tink_wrap.proofs.WrapLemmas.{builds, supports, url}
 
 -- ---- of which value an answer is made
@@ -61,16 +63,15 @@ made_ciphertext m aad draws ks e is =
 -- ---- under the master, or a later one
 
 abbrev loaded_entries : Keyset → Result (List (TypedEntry AeadKind)) Kind
-loaded_entries ks = aead_entries kind_encrypts kind_decrypts url supports builds with_everything.managers ks
+loaded_entries ks = aead_entries url supports builds with_everything.managers ks
 
 opens_later : (makes : Maker) (managed : Managed) (commands : List Command) (es later : List (TypedEntry AeadKind)) (text aad draws ciphertext : List ℕ)
     → All (Spares managed.keyset.primary_key_id) commands → loaded_entries managed.keyset ≡ Ok es → loaded_entries (after_all makes managed commands).keyset ≡ Ok later
-    → All (OpensToNoOther kind_encrypts kind_decrypts text aad ciphertext) later
+    → All (OpensToNoOther kind_decrypts text aad ciphertext) later
     → (primary_encrypts kind_encrypts (entry_of_id managed.keyset.primary_key_id es) text aad draws).0 ≡ Ok ciphertext
     → any_decrypts kind_decrypts (entries_of later) ciphertext aad ≡ Ok text
 opens_later makes managed commands es later text aad draws ciphertext spared loads after alone made =
-    encrypted_opens kind_encrypts kind_decrypts url supports builds makes with_everything.managers managed commands es later text aad draws ciphertext spared loads
-    (all_undo managed.keyset es loads) made (made_long managed.keyset es text aad draws ciphertext loads made) after alone
+    ciphertexts_outlive kind_encrypts kind_decrypts url supports builds (λ m value p is. managers_sound m value (Aead p) is) makes with_everything.managers managed commands es later text aad draws ciphertext spared loads after made alone
 
 -- what is decrypted is the keyset
 pub wrapped_outlives : WrappedOutlives
@@ -81,7 +82,7 @@ wrapped_outlives = λ makes managed commands m later aad draws ks e spared loads
     let own = made_value (master_keys id) (loaded_entries managed.keyset) m loads in
     let new = made_value (master_keys next) (loaded_entries (after_all makes managed commands).keyset) later after in
     let made = subst (λ x. (master_encrypts x text aad draws).0 ≡ Ok e.encrypted_keyset) (sym own.2) (made_ciphertext m aad draws ks e wrapped) in
-    let alone = subst (λ (x : MasterKeys). All (OpensToNoOther kind_encrypts kind_decrypts text aad e.encrypted_keyset) x.entries) (sym new.2) opens in
+    let alone = subst (λ (x : MasterKeys). All (OpensToNoOther kind_decrypts text aad e.encrypted_keyset) x.entries) (sym new.2) opens in
     let opened = opens_later makes managed commands own.0 new.0 text aad draws e.encrypted_keyset spared own.1 new.1 alone made in
     let there = subst (λ x. master_decrypts x e.encrypted_keyset aad ≡ Ok text) new.2 opened in
     ap (λ r. chained handle_of_bytes (by_master r)) there ∙ again

@@ -1,3 +1,2 @@
 mod WrapLemmas
-mod SoundMasters
 mod BackFacts

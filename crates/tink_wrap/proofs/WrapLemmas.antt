@@ -14,7 +14,8 @@ use Rattle.tink_keysets.specs.Encrypted.{by_master, chained, decrypted, encrypte
 use Rattle.tink_keysets.specs.Through.{LeavesDraws}
 use Rattle.tink_aead.specs.AeadKinds.{kind_decrypts, kind_encrypts}
 use Rattle.tink_aead.specs.Rotation.{aead_entries}
-use Rattle.tink_aead.specs.Wrapped.{IsAeadOf, any_decrypts, primary_encrypts}
+use Rattle.tink_factory.specs.Decrypting.{any_decrypts}
+use Rattle.tink_aead.specs.Wrapped.{IsAeadOf, primary_encrypts}
 use Rattle.tink_aead.specs.declared.aead_kind.AeadKind.{AeadKind}
 use Rattle.tink_aead.specs.declared.factory.WrappedAead.{WrappedAead}
 use Rattle.tink_sets.specs.Groups.{group_of}
@@ -48,13 +49,13 @@ builds m value = (row_of m).built value
 
 -- what the managers of the registry give
 pub built_master : (ks : Keyset) (r : Registered Managers) (result : Result (WrappedAead AeadKind) TinkError) → r ≡ with_everything
-    → GivesSet (λ es w. IsAeadOf kind_encrypts kind_decrypts ks.primary_key_id es w.ps.primary w.ps.entries) result (aead_entries kind_encrypts kind_decrypts url supports builds r.managers ks)
+    → GivesSet (λ es w. IsAeadOf kind_encrypts kind_decrypts ks.primary_key_id es w.ps.primary w.ps.entries) result (aead_entries url supports builds r.managers ks)
     → GivesMaster result (master_in ks)
 built_master ks r result same gives =
-    by_result result (subst (λ (x : Registered Managers). GivesSet (λ es w. IsAeadOf kind_encrypts kind_decrypts ks.primary_key_id es w.ps.primary w.ps.entries) result (aead_entries kind_encrypts kind_decrypts url supports builds x.managers ks)) same gives)
+    by_result result (subst (λ (x : Registered Managers). GivesSet (λ es w. IsAeadOf kind_encrypts kind_decrypts ks.primary_key_id es w.ps.primary w.ps.entries) result (aead_entries url supports builds x.managers ks)) same gives)
   where
     by_result : (result : Result (WrappedAead AeadKind) TinkError)
-        → GivesSet (λ es w. IsAeadOf kind_encrypts kind_decrypts ks.primary_key_id es w.ps.primary w.ps.entries) result (aead_entries kind_encrypts kind_decrypts url supports builds with_everything.managers ks)
+        → GivesSet (λ es w. IsAeadOf kind_encrypts kind_decrypts ks.primary_key_id es w.ps.primary w.ps.entries) result (aead_entries url supports builds with_everything.managers ks)
         → GivesMaster result (master_in ks)
     by_result (Ok w) g = (master_keys ks.primary_key_id g.0, ap (made_of (master_keys ks.primary_key_id)) g.1, g.2)
     by_result (Err e) (inl want) = inl want

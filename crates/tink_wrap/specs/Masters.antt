@@ -13,7 +13,8 @@ use Rattle.tink_keysets.specs.Valid.{valid_keyset}
 use Rattle.tink_factory.specs.Accepting.{entries_of}
 use Rattle.tink_aead.specs.AeadKinds.{kind_decrypts, kind_encrypts}
 use Rattle.tink_aead.specs.Rotation.{aead_entries}
-use Rattle.tink_aead.specs.Wrapped.{IsAeadOf, any_decrypts, primary_encrypts}
+use Rattle.tink_factory.specs.Decrypting.{any_decrypts}
+use Rattle.tink_aead.specs.Wrapped.{IsAeadOf, primary_encrypts}
 use Rattle.tink_aead.specs.declared.aead_kind.AeadKind.{AeadKind}
 use Rattle.tink_aead.specs.declared.factory.WrappedAead.{WrappedAead}
 use Rattle.tink.specs.Managers.{row_of}
@@ -33,7 +34,7 @@ master_keys id entries = record { id = id; entries = entries }
 abbrev pub master_in : Keyset → Result MasterKeys Kind
 master_in ks =
     made_of (master_keys ks.primary_key_id)
-    (aead_entries kind_encrypts kind_decrypts (λ m. (row_of m).url) (λ m url. bytes_eq (row_of m).url url) (λ m. (row_of m).built) with_everything.managers ks)
+    (aead_entries (λ m. (row_of m).url) (λ m url. bytes_eq (row_of m).url url) (λ m. (row_of m).built) with_everything.managers ks)
 
 -- the valid keyset of a file of keys
 abbrev pub valid_in_file : List ℕ → Result Keyset Kind

@@ -10,8 +10,8 @@ use Rattle.tink_proto.specs.declared.messages.keys.Keyset.{Keyset}
 use Rattle.keyset_model.specs.Commands.{Command, Maker, Managed, after_all}
 use Rattle.keyset_model.specs.Spared.{Spares}
 use Rattle.tink_keysets.specs.Encrypted.{chained, decrypted, handle_of_bytes}
-use Rattle.tink_aead.specs.AeadKinds.{kind_decrypts, kind_encrypts}
-use Rattle.tink_aead.specs.Rotation.{OpensToNoOther}
+use Rattle.tink_aead.specs.AeadKinds.{kind_decrypts}
+use Rattle.tink_factory.specs.Decrypting.{OpensToNoOther}
 use Rattle.tink_key_files.specs.Files.{file_text}
 use Rattle.tink_key_files.specs.declared.formats.Format.{Format}
 use Rattle.tink_wrap.specs.Masters.{MasterKeys, master_decrypts, master_in, valid_in_file}
@@ -19,7 +19,7 @@ use Rattle.tink_wrap.specs.Wrapping.{wraps}
 
 -- no key of a master opens a ciphertext to another text than this
 abbrev pub OpensToThis : MasterKeys → List ℕ → List ℕ → List ℕ → Type 0
-OpensToThis m text aad ciphertext = All (OpensToNoOther kind_encrypts kind_decrypts text aad ciphertext) m.entries
+OpensToThis m text aad ciphertext = All (OpensToNoOther kind_decrypts text aad ciphertext) m.entries
 
 -- What a master wrapped is unwrapped by the master after all commands that neither disable, destroy nor delete a key of
 -- its primary id, where none of its keys opens it to another text.

@@ -11,7 +11,7 @@ use tink_core::{DeterministicAead, Kind, TinkError};
 use tink_daead::subtle::{AES_SIV_KEY_SIZE, AesSiv};
 use tink_daead::{
     AES_SIV_KEY_VERSION, AES_SIV_TYPE_URL, AesSivKeyManager, DaeadKinds, WrappedDeterministicAead,
-    aes_siv_key_template, init, new,
+    aes_siv_key_template, init, law_ciphertexts_outlive_commands, law_old_ciphertexts_open, new,
 };
 use tink_proto::{Bytes, Key, KeyTemplate, OutputPrefixType};
 use tink_testutil::{Named, draws_of, enabled_key, gives, handle_of, registry_of};
@@ -264,4 +264,11 @@ fn keys_and_keysets_are_as_the_rows_say(rt: HostRuntime) {
     }
     let told = AES_SIV_KEY_VERSION == 0 && AES_SIV_KEY_SIZE == 64;
     expect(&rt, Ok(told), Ok(true), "the version and the size");
+}
+
+// The laws hold of these types.
+#[test]
+fn laws_are_called(_rt: HostRuntime) {
+    law_old_ciphertexts_open::<AesSivKeyManager, AesSiv>();
+    law_ciphertexts_outlive_commands::<AesSivKeyManager, AesSiv>();
 }

@@ -1,4 +1,4 @@
-use Rattle.std.proofs.Common.{ap₂, sym, ◌∙◌}
+use Rattle.std.proofs.Common.{ap₂, sym}
 use Rattle.tink_aead.proofs.ComposedKeyFacts.{second_refused}
 use Rattle.tink_aead.proofs.aes_ctr_hmac_aead_key_manager.make_of_parts.Goals as goal
 

@@ -1,4 +1,4 @@
-use Rattle.tink_mac.proofs.OutlivingFacts.{macs_outlive}
+use Rattle.tink_mac.proofs.RotationFacts.{macs_outlive}
 use Rattle.tink_mac.proofs.laws.law_macs_outlive_commands.Goals as goal
 
 pub returns : goal.returns
