@@ -1,4 +1,4 @@
-//! Tests of `tink_io` and `tink_gathered`.
+//! Tests of `tink_io`, `tink_gathered` and `tink_words`.
 #![tactic(auto)]
 
 #[cfg(test)]
@@ -11,3 +11,5 @@ mod gathered;
 mod lines;
 #[cfg(test)]
 mod memory;
+#[cfg(test)]
+mod words;

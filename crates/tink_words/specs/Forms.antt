@@ -14,43 +14,27 @@ fits Never is_given = not is_given
 fits May is_given = true
 fits Must is_given = is_given
 
--- the command of a name that edits a keyset
-abbrev pub edit_of : List ℕ → Option Action
-edit_of name =
-    if is name (codes "rotate") then Some Rotate
+-- the command of a name
+abbrev pub action_of : List ℕ → Option Action
+action_of name =
+    if is name (codes "new") then Some New
+    else (if is name (codes "keys") then Some Keys
+    else (if is name (codes "rotate") then Some Rotate
     else (if is name (codes "promote") then Some Promote
     else (if is name (codes "enable") then Some Enable
     else (if is name (codes "disable") then Some Disable
     else (if is name (codes "destroy") then Some Destroy
-    else (if is name (codes "delete") then Some Delete else None)))))
-
--- the command of a name that reads or writes a stream or a token
-abbrev pub stream_of : List ℕ → Option Action
-stream_of name =
-    if is name (codes "encrypt") then Some Encrypt
+    else (if is name (codes "delete") then Some Delete
+    else (if is name (codes "encrypt") then Some Encrypt
     else (if is name (codes "decrypt") then Some Decrypt
     else (if is name (codes "rewrap") then Some Rewrap
     else (if is name (codes "sign") then Some Sign
     else (if is name (codes "verify") then Some Verify
-    else (if is name (codes "range") then Some Range else None)))))
-
-abbrev pub other_of : List ℕ → Option Action
-other_of name =
-    if is name (codes "new") then Some New
-    else (if is name (codes "keys") then Some Keys
+    else (if is name (codes "range") then Some Range
     else (if is name (codes "wrap") then Some Wrap
     else (if is name (codes "unwrap") then Some Unwrap
     else (if is name (codes "help") || is name (codes "--help") || is name (codes "-h") then Some Help
-    else (if is name (codes "version") || is name (codes "--version") || is name (codes "-V") then Some Version else None)))))
-
--- the first of two, if it is there
-abbrev pub first_of_both : Option Action → Option Action → Option Action
-first_of_both (Some action) other = Some action
-first_of_both None other = other
-
--- the command of a name
-abbrev pub action_of : List ℕ → Option Action
-action_of name = first_of_both (edit_of name) (first_of_both (stream_of name) (other_of name))
+    else (if is name (codes "version") || is name (codes "--version") || is name (codes "-V") then Some Version else None)))))))))))))))))
 
 -- up to one word beside the options
 abbrev pub one_word : Need → Form

@@ -1,7 +1,7 @@
 //! Which words a command wants.
 
 ghost use Rattle.std.specs.Prelude.{◌≡◌, ◌&&◌, ◌||◌, not, is_some, codes, Some, None};
-ghost use Rattle.tink_words.specs.Forms.{action_of, are_fitting, are_named, are_placed, edit_of, fits, form_of, is_usable, one_word, stream_of, stream_words};
+ghost use Rattle.tink_words.specs.Forms.{action_of, are_fitting, are_named, are_placed, fits, form_of, is_usable, one_word, stream_words};
 
 use crate::Line;
 
@@ -87,31 +87,31 @@ impl Action {
     pub fn of_name(name: &str) -> Option<Action>
         ensures { result ≡ action_of name.now }
     {
-        if let Some(action) = edit_of(name) {
-            return Some(action);
+        match name {
+            "new" => Some(Action::New),
+            "keys" => Some(Action::Keys),
+            "rotate" => Some(Action::Rotate),
+            "promote" => Some(Action::Promote),
+            "enable" => Some(Action::Enable),
+            "disable" => Some(Action::Disable),
+            "destroy" => Some(Action::Destroy),
+            "delete" => Some(Action::Delete),
+            "encrypt" => Some(Action::Encrypt),
+            "decrypt" => Some(Action::Decrypt),
+            "rewrap" => Some(Action::Rewrap),
+            "sign" => Some(Action::Sign),
+            "verify" => Some(Action::Verify),
+            "range" => Some(Action::Range),
+            "wrap" => Some(Action::Wrap),
+            "unwrap" => Some(Action::Unwrap),
+            "help" => Some(Action::Help),
+            "--help" => Some(Action::Help),
+            "-h" => Some(Action::Help),
+            "version" => Some(Action::Version),
+            "--version" => Some(Action::Version),
+            "-V" => Some(Action::Version),
+            _ => None,
         }
-        if let Some(action) = stream_of(name) {
-            return Some(action);
-        }
-        if name == "new" {
-            return Some(Action::New);
-        }
-        if name == "keys" {
-            return Some(Action::Keys);
-        }
-        if name == "wrap" {
-            return Some(Action::Wrap);
-        }
-        if name == "unwrap" {
-            return Some(Action::Unwrap);
-        }
-        if name == "help" || name == "--help" || name == "-h" {
-            return Some(Action::Help);
-        }
-        if name == "version" || name == "--version" || name == "-V" {
-            return Some(Action::Version);
-        }
-        None
     }
 
     // The words that it takes.
@@ -188,56 +188,6 @@ fn stream_words(aad: Need, first: Need) -> Form
         aad,
         ..one_word(first)
     }
-}
-
-// The command of a name that edits a keyset.
-fn edit_of(name: &str) -> Option<Action>
-    ensures { result ≡ edit_of name.now }
-{
-    if name == "rotate" {
-        return Some(Action::Rotate);
-    }
-    if name == "promote" {
-        return Some(Action::Promote);
-    }
-    if name == "enable" {
-        return Some(Action::Enable);
-    }
-    if name == "disable" {
-        return Some(Action::Disable);
-    }
-    if name == "destroy" {
-        return Some(Action::Destroy);
-    }
-    if name == "delete" {
-        return Some(Action::Delete);
-    }
-    None
-}
-
-// The command of a name that reads or writes a stream or a token.
-fn stream_of(name: &str) -> Option<Action>
-    ensures { result ≡ stream_of name.now }
-{
-    if name == "encrypt" {
-        return Some(Action::Encrypt);
-    }
-    if name == "decrypt" {
-        return Some(Action::Decrypt);
-    }
-    if name == "rewrap" {
-        return Some(Action::Rewrap);
-    }
-    if name == "sign" {
-        return Some(Action::Sign);
-    }
-    if name == "verify" {
-        return Some(Action::Verify);
-    }
-    if name == "range" {
-        return Some(Action::Range);
-    }
-    None
 }
 
 // Whether the words are those of a form.
