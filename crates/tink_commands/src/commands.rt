@@ -1,13 +1,20 @@
 //! What the words of a command line ask for.
 
+ghost use Rattle.tink_commands.specs.Sharing.{HasStatus, HasStreamStatus};
+ghost use Rattle.tink_words.specs.Forms.{words_of};
+
+use crate::sharing::is_of_streams;
 use crate::{help, keys, ranges, streams, wrapping};
 use tink_io::{StdSink, StdSource};
 use tink_program::program::program;
 use tink_system::trouble::{Trouble, tell};
-use tink_words::{Action, Given, is_option, parse};
+use tink_words::{Action, Given, parse};
 
-/// Does what the words say, and answers the status.
-pub fn run(rt: &HostRuntime, words: &Vec<String>) -> u8 {
+/// Does what the words say, and answers the status. Words that neither this program nor the one over the streams of the
+/// process knows get 2.
+pub fn run(rt: &HostRuntime, words: &Vec<String>) -> u8
+    ensures { HasStatus (words_of words.now) result }
+{
     if is_of_streams(words) {
         return run_on_streams(rt, words);
     }
@@ -20,31 +27,10 @@ pub fn run(rt: &HostRuntime, words: &Vec<String>) -> u8 {
     }
 }
 
-// Whether the words are those of the program over the streams of the process.
-fn is_of_streams(words: &Vec<String>) -> bool {
-    let Some(word) = words.first() else {
-        return false;
-    };
-    match word.as_str() {
-        "seal" | "open" | "keygen" | "large" => true,
-        "rotate" => words.len() == 4,
-        "rewrap" | "sign" | "verify" | "range" => !has_option(words),
-        _ => false,
-    }
-}
-
-// Whether a word is an option.
-fn has_option(words: &Vec<String>) -> bool {
-    for word in words {
-        if is_option(word.as_str()) {
-            return true;
-        }
-    }
-    false
-}
-
-// Does what the words of that program say.
-fn run_on_streams(rt: &HostRuntime, words: &Vec<String>) -> u8 {
+// Does what the words of the program over the streams say.
+fn run_on_streams(rt: &HostRuntime, words: &Vec<String>) -> u8
+    ensures { HasStreamStatus (words_of words.now) result }
+{
     let mut source = StdSource::new(rt.stdin());
     let mut sink = StdSink::new(rt.stdout());
     let mut faults = StdSink::new(rt.stderr());

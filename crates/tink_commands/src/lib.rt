@@ -6,8 +6,8 @@ mod help;
 mod job;
 mod keys;
 mod ranges;
+mod sharing;
 mod streams;
-mod tasks;
 mod wrapping;
 
 pub use commands::run;

@@ -1,11 +1,11 @@
 //! The commands over streams and tokens.
 
 use crate::job::{Job, job_of, named, side_of};
-use crate::tasks::{Task, into_place, into_sink};
 use std::fs::{File, OpenFile};
 use std::io::BufReader;
+use tink_files::{Task, do_task, do_task_to};
 use tink_io::{Draws, Kind, Source, StdSink, StdSource, TinkError};
-use tink_run::report::Command;
+use tink_run::report::{Command, Report};
 use tink_system::meter::{Meter, Watched};
 use tink_system::outside::draws;
 use tink_system::real_place::RealPlace;
@@ -18,33 +18,34 @@ const ROOM: usize = 65_536;
 /// `encrypt -k KEYS [--aad TEXT] [-o OUT] [IN]`
 pub fn encrypt<'w>(rt: &HostRuntime, line: &Line<'w>) -> Result<(), Trouble<'w>> {
     let job = job_of(rt, line)?;
-    read_from(rt, &Task::Run(Command::Seal), &job, draws(rt)?)
+    read_from(rt, Task::Run(Command::Seal), &job, draws(rt)?)
 }
 
 /// `decrypt -k KEYS [--aad TEXT] [-o OUT] [IN]`
 pub fn decrypt<'w>(rt: &HostRuntime, line: &Line<'w>) -> Result<(), Trouble<'w>> {
-    undrawn(rt, &Task::Run(Command::Open), line)
+    undrawn(rt, Task::Run(Command::Open), line)
 }
 
 /// `rewrap -k KEYS [--aad TEXT] -t NEWKEYS [--to-aad TEXT] [-o OUT] [IN]`
 pub fn rewrap<'w>(rt: &HostRuntime, line: &Line<'w>) -> Result<(), Trouble<'w>> {
     let job = job_of(rt, line)?;
     let to = side_of(rt, line.to(), line.to_aad())?;
-    read_from(rt, &Task::Rewrap(to), &job, draws(rt)?)
+    let task = Task::Rewrap(to.keyset.as_slice(), to.aad.as_bytes());
+    read_from(rt, task, &job, draws(rt)?)
 }
 
 /// `sign -k KEYS [-o OUT] [IN]`
 pub fn sign<'w>(rt: &HostRuntime, line: &Line<'w>) -> Result<(), Trouble<'w>> {
-    undrawn(rt, &Task::Sign, line)
+    undrawn(rt, Task::Sign, line)
 }
 
 /// `verify -k KEYS [-o OUT] [IN]`
 pub fn verify<'w>(rt: &HostRuntime, line: &Line<'w>) -> Result<(), Trouble<'w>> {
-    undrawn(rt, &Task::Verify, line)
+    undrawn(rt, Task::Verify, line)
 }
 
 // A task that draws nothing.
-fn undrawn<'w>(rt: &HostRuntime, task: &Task<'w>, line: &Line<'w>) -> Result<(), Trouble<'w>> {
+fn undrawn<'w>(rt: &HostRuntime, task: Task<'_>, line: &Line<'w>) -> Result<(), Trouble<'w>> {
     let job = job_of(rt, line)?;
     read_from(rt, task, &job, Draws::new(Vec::new(rt.alloc())))
 }
@@ -52,7 +53,7 @@ fn undrawn<'w>(rt: &HostRuntime, task: &Task<'w>, line: &Line<'w>) -> Result<(),
 // Takes the input from its file, or from standard input.
 fn read_from<'w>(
     rt: &HostRuntime,
-    task: &Task<'w>,
+    task: Task<'_>,
     job: &Job<'w>,
     draws: Draws,
 ) -> Result<(), Trouble<'w>> {
@@ -83,7 +84,7 @@ fn size_of(file: &File) -> Option<u64> {
 // Gives the output to its file, or to standard output.
 fn write_to<'w, S: Source + Drop>(
     rt: &HostRuntime,
-    task: &Task<'w>,
+    task: Task<'_>,
     job: &Job<'w>,
     draws: Draws,
     source: S,
@@ -104,7 +105,7 @@ fn write_to<'w, S: Source + Drop>(
     };
     source.meter.end(rt);
     match answer {
-        Ok(()) => Ok(()),
+        Ok(_) => Ok(()),
         Err(e) => Err(job.blamed(rt, e.kind)),
     }
 }
@@ -112,27 +113,32 @@ fn write_to<'w, S: Source + Drop>(
 // Into a draft, which is shown where all was done.
 fn to_file<'w, S: Source>(
     rt: &HostRuntime,
-    task: &Task<'w>,
+    task: Task<'_>,
     job: &Job<'w>,
     draws: &mut Draws,
     source: &mut S,
     output: &'w str,
-) -> Result<Result<(), TinkError>, Trouble<'w>> {
+) -> Result<Result<Option<Report>, TinkError>, Trouble<'w>> {
     let mut place = RealPlace::over(rt, output)?;
-    Ok(into_place(rt.alloc(), task, job, draws, source, &mut place))
+    let keyset = job.side.keyset.as_slice();
+    let aad = job.side.aad.as_bytes();
+    Ok(do_task_to(rt.alloc(), task, keyset, aad, draws, source, &mut place))
 }
 
-// To standard output, as it comes.
+// To standard output, as it comes: tokens and payloads whole, streams and texts piece by piece.
 fn to_output<S: Source>(
     rt: &HostRuntime,
-    task: &Task<'_>,
+    task: Task<'_>,
     job: &Job<'_>,
     draws: &mut Draws,
     source: &mut S,
-) -> Result<(), TinkError> {
-    if !task.comes_whole() {
-        job.warn(rt);
+) -> Result<Option<Report>, TinkError> {
+    match task {
+        Task::Sign | Task::Verify => {}
+        _ => job.warn(rt),
     }
     let mut sink = StdSink::new(rt.stdout());
-    into_sink(rt.alloc(), task, job, draws, source, &mut sink)
+    let keyset = job.side.keyset.as_slice();
+    let aad = job.side.aad.as_bytes();
+    do_task(rt.alloc(), task, keyset, aad, draws, source, &mut sink)
 }

@@ -1,4 +1,4 @@
 pub mod SavedLemmas
 mod RangeLemmas
 mod StreamLemmas
-mod TokenLemmas
+mod TaskLemmas

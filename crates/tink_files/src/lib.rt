@@ -6,13 +6,11 @@
 mod key_files;
 mod ranges;
 mod saved;
-mod streams;
-mod tokens;
+mod tasks;
 mod wrapping;
 
 pub use key_files::{edit_keys, new_keys, rotate_keys};
 pub use ranges::range_to;
 pub use saved::save_answer;
-pub use streams::{rewrap_to, run_to};
-pub use tokens::{sign_to, verify_to};
+pub use tasks::{Task, do_task, do_task_to};
 pub use wrapping::{unwrap_keys, wrap_keys};

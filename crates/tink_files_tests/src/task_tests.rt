@@ -7,7 +7,7 @@ use std::alloc::Global;
 use std::marker::Brand;
 use std::sync::ledger::{Blank, Ledger};
 use std::test::Fail;
-use tink_files::{range_to, rewrap_to, run_to, sign_to, verify_to};
+use tink_files::{Task, do_task_to, range_to};
 use tink_io::{Draws, Kind, Source, SureSource, TinkError};
 use tink_place::{MemPlace, Place};
 use tink_range::{MemAt, Steps};
@@ -147,11 +147,19 @@ fn encrypted<S: Source, P: Place>(
     draws: &mut Draws,
     source: &mut S,
     place: &mut P,
-) -> Result<Report, TinkError>
+) -> Result<Option<Report>, TinkError>
     requires { P.has_draft place.old ≡ true }
     ensures { OnErr result (P.shown place.new ≡ P.shown place.old) }
 {
-    run_to(alloc, Command::Seal, keyset, aad, draws, source, place)
+    do_task_to(
+        alloc,
+        Task::Run(Command::Seal),
+        keyset,
+        aad,
+        draws,
+        source,
+        place,
+    )
 }
 
 // Does what is asked, and answers how it is refused, if it is.
@@ -174,10 +182,25 @@ fn refusal(
     let source = &mut SureSource::new(input);
     match asked {
         Asked::Seal => told(encrypted(alloc, ctr, b"May", draws, source, place)),
-        Asked::Rewrap => told(rewrap_to(alloc, ctr, b"May", gcm, b"June", draws, source, place)),
-        Asked::Sign => told(sign_to(alloc, macs, source, place)),
-        Asked::Verify => told(verify_to(alloc, macs, source, place)),
-        _ => told(run_to(alloc, Command::Open, ctr, b"May", draws, source, place)),
+        Asked::Sign => told(do_task_to(alloc, Task::Sign, macs, b"", draws, source, place)),
+        Asked::Verify => told(do_task_to(alloc, Task::Verify, macs, b"", draws, source, place)),
+        _ => told(do_task_to(
+            alloc,
+            of_stream(asked, gcm),
+            ctr,
+            b"May",
+            draws,
+            source,
+            place,
+        )),
+    }
+}
+
+// An open, or a move to other keys.
+fn of_stream(asked: Asked, gcm: &[u8]) -> Task<'_> {
+    match asked {
+        Asked::Rewrap => Task::Rewrap(gcm, b"June"),
+        _ => Task::Run(Command::Open),
     }
 }
 
