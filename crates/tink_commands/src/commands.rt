@@ -1,17 +1,17 @@
 //! What the words of a command line ask for.
 
-ghost use Rattle.tink_commands.specs.Sharing.{HasStatus, HasStreamStatus};
+ghost use Rattle.tink_commands.specs.Claims.{EndedOverStreams, HasStatus};
 ghost use Rattle.tink_words.specs.Forms.{words_of};
 
-use crate::sharing::is_of_streams;
+use crate::claims::is_of_streams;
 use crate::{help, keys, ranges, streams, wrapping};
 use tink_io::{StdSink, StdSource};
 use tink_program::program::program;
 use tink_system::trouble::{Trouble, tell};
 use tink_words::{Action, Given, parse};
 
-/// Does what the words say, and answers the status. Words that neither this program nor the one over the streams of the
-/// process knows get 2.
+/// Does what the words say, and answers the status. A line that is none of the program over the streams of the process,
+/// and spells no command over files, gets 2.
 pub fn run(rt: &HostRuntime, words: &Vec<String>) -> u8
     ensures { HasStatus (words_of words.now) result }
 {
@@ -29,7 +29,7 @@ pub fn run(rt: &HostRuntime, words: &Vec<String>) -> u8
 
 // Does what the words of the program over the streams say.
 fn run_on_streams(rt: &HostRuntime, words: &Vec<String>) -> u8
-    ensures { HasStreamStatus (words_of words.now) result }
+    ensures { EndedOverStreams (words_of words.now) result }
 {
     let mut source = StdSource::new(rt.stdin());
     let mut sink = StdSink::new(rt.stdout());

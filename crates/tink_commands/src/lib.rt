@@ -1,12 +1,12 @@
 //! The commands over files, and those over the standard streams, by their words.
 #![tactic(auto)]
 
+mod claims;
 mod commands;
 mod help;
 mod job;
 mod keys;
 mod ranges;
-mod sharing;
 mod streams;
 mod wrapping;
 

@@ -3,7 +3,7 @@
 use crate::job::{Job, job_of, named, side_of};
 use std::fs::{File, OpenFile};
 use std::io::BufReader;
-use tink_files::{Task, do_task, do_task_to};
+use tink_files::{Task, save_task, write_task};
 use tink_io::{Draws, Kind, Source, StdSink, StdSource, TinkError};
 use tink_run::report::{Command, Report};
 use tink_system::meter::{Meter, Watched};
@@ -30,7 +30,10 @@ pub fn decrypt<'w>(rt: &HostRuntime, line: &Line<'w>) -> Result<(), Trouble<'w>>
 pub fn rewrap<'w>(rt: &HostRuntime, line: &Line<'w>) -> Result<(), Trouble<'w>> {
     let job = job_of(rt, line)?;
     let to = side_of(rt, line.to(), line.to_aad())?;
-    let task = Task::Rewrap(to.keyset.as_slice(), to.aad.as_bytes());
+    let task = Task::Rewrap {
+        to: to.keyset.as_slice(),
+        to_aad: to.aad.as_bytes(),
+    };
     read_from(rt, task, &job, draws(rt)?)
 }
 
@@ -122,7 +125,7 @@ fn to_file<'w, S: Source>(
     let mut place = RealPlace::over(rt, output)?;
     let keyset = job.side.keyset.as_slice();
     let aad = job.side.aad.as_bytes();
-    Ok(do_task_to(rt.alloc(), task, keyset, aad, draws, source, &mut place))
+    Ok(save_task(rt.alloc(), task, keyset, aad, draws, source, &mut place))
 }
 
 // To standard output, as it comes: tokens and payloads whole, streams and texts piece by piece.
@@ -140,5 +143,5 @@ fn to_output<S: Source>(
     let mut sink = StdSink::new(rt.stdout());
     let keyset = job.side.keyset.as_slice();
     let aad = job.side.aad.as_bytes();
-    do_task(rt.alloc(), task, keyset, aad, draws, source, &mut sink)
+    write_task(rt.alloc(), task, keyset, aad, draws, source, &mut sink)
 }

@@ -1,5 +1,7 @@
 -- What a task makes of the bytes of a source, and what its answer says.
-use Rattle.std.specs.Prelude.{◌≡◌, ℕ, List, Option, Some, None, Result, Ok, Err}
+use Rattle.std.specs.Prelude.{◌≡◌, ◌+◌, ℕ, List, Option, Some, None, Result, Ok, Err}
+use Rattle.tink_io.specs.Taken.{LosesAtMost}
+use Rattle.tink_io.specs.declared.error.Kind.{Kind}
 use Rattle.tink_io.specs.declared.error.TinkError.{TinkError}
 use Rattle.tink_run.specs.OpenReads.{ReadsNoFurther}
 use Rattle.tink_run.specs.Outside.{Outside}
@@ -8,18 +10,16 @@ use Rattle.tink_run.specs.declared.report.Report.{Report}
 use Rattle.tink_rewrap.specs.Promises.{CanRewrap, IsWholeRewrap}
 use Rattle.tink_rewrap.specs.RewrapReads.{RewrapReadsNoFurther}
 use Rattle.tink_rewrap.specs.Rewrapping.{RewrapMeans, sides}
-use Rattle.tink_run_tokens.specs.Tokens.{CanAnswer, IsAnsweredWhole, TokenMeans}
+use Rattle.tink_run_tokens.specs.Inputs.{input_limit}
+use Rattle.tink_run_tokens.specs.Tokens.{CanAnswer, IsAnsweredWhole, Macs, TokenMeans}
 use Rattle.tink_run_tokens.specs.Tokens.{RefusesSigning, RefusesVerifying, SignsTo, VerifiesTo}
 use Rattle.tink_files.specs.declared.tasks.Task.{Task}
 use Rattle.tink_files.specs.declared.tasks.Task.TheVariants.{Run, Rewrap, Sign, Verify}
 
-abbrev pub with_report : Result Report TinkError → Result (Option Report) TinkError
-with_report (Ok report) = Ok (Some report)
-with_report (Err e) = Err e
-
-abbrev pub without_report : Result (Unit {0}) TinkError → Result (Option Report) TinkError
-without_report (Ok done) = Ok None
-without_report (Err e) = Err e
+-- an answer with the report that it gives
+abbrev pub answered_as : {V : Type 0} → (V → Option Report) → Result V TinkError → Result (Option Report) TinkError
+answered_as report_of (Ok v) = Ok (report_of v)
+answered_as report_of (Err e) = Err e
 
 -- what is said of an answer about a stream, which has a report
 abbrev pub SaidOfStream : (Result Report TinkError → Type 0) → Result (Option Report) TinkError → Type 0
@@ -33,6 +33,13 @@ SaidOfToken says (Ok (Some report)) = ⊥
 SaidOfToken says (Ok None) = says (Ok tt)
 SaidOfToken says (Err e) = says (Err e)
 
+-- a token is made, or taken apart: nothing is drawn, and a byte more than an input may have is taken at most
+pub record TokenTask (Gives : Macs → List ℕ → List ℕ → Type 0) (Refuses : Macs → List ℕ → Kind → Type 0) (keyset draws left_draws : List ℕ)
+    (old new : Outside) (answer : Result (Option Report) TinkError) : Type 0 where
+  pub means : SaidOfToken (λ r. TokenMeans Gives Refuses keyset old new r) answer
+  pub rest : left_draws ≡ draws
+  pub taken : LosesAtMost (input_limit + 1) old.left new.left
+
 -- why an answer came, and what stands after it
 abbrev pub TaskMeans : Task → List ℕ → List ℕ → List ℕ → List ℕ → Outside → Outside → Result (Option Report) TinkError → Type 0
 TaskMeans (Run command) keyset aad draws left_draws old new answer =
@@ -40,10 +47,8 @@ TaskMeans (Run command) keyset aad draws left_draws old new answer =
 TaskMeans (Rewrap to to_aad) keyset aad draws left_draws old new answer =
     SaidOfStream (λ r. RewrapMeans (sides keyset aad to.now to_aad.now) draws left_draws old new r
     × RewrapReadsNoFurther (sides keyset aad to.now to_aad.now) old new r) answer
-TaskMeans Sign keyset aad draws left_draws old new answer =
-    SaidOfToken (λ r. TokenMeans SignsTo RefusesSigning keyset old new r) answer × (left_draws ≡ draws)
-TaskMeans Verify keyset aad draws left_draws old new answer =
-    SaidOfToken (λ r. TokenMeans VerifiesTo RefusesVerifying keyset old new r) answer × (left_draws ≡ draws)
+TaskMeans Sign keyset aad draws left_draws old new answer = TokenTask SignsTo RefusesSigning keyset draws left_draws old new answer
+TaskMeans Verify keyset aad draws left_draws old new answer = TokenTask VerifiesTo RefusesVerifying keyset draws left_draws old new answer
 
 -- exactly what the task makes of the whole input was written, and nothing is left of it
 abbrev pub IsDone : Task → List ℕ → List ℕ → List ℕ → List ℕ → List ℕ → List ℕ → Outside → Option Report → Type 0

@@ -1,6 +1,6 @@
 //! What the commands over files do, over any place where a file appears: files of keys are made, changed, wrapped and
 //! unwrapped, streams sealed, opened and moved to other keys, ranges of them read, and tokens signed and verified, whole or
-//! not at all.
+//! not at all; streams, their texts and tokens also into any sink.
 #![tactic(auto)]
 
 mod key_files;
@@ -12,5 +12,5 @@ mod wrapping;
 pub use key_files::{edit_keys, new_keys, rotate_keys};
 pub use ranges::range_to;
 pub use saved::save_answer;
-pub use tasks::{Task, do_task, do_task_to};
+pub use tasks::{Task, save_task, write_task};
 pub use wrapping::{unwrap_keys, wrap_keys};

@@ -1,10 +1,10 @@
 //! What is made of the bytes of a source: a stream, its text, a moved stream, a token or its payload.
 
-ghost use Rattle.std.specs.Prelude.{◌≡◌, ◌≤◌, ℕ, List, true, false, IfOk, OnErr};
+ghost use Rattle.std.specs.Prelude.{◌≡◌, ◌≤◌, ℕ, List, Some, None, true, false, IfOk, OnErr};
 ghost use Rattle.tink_run.specs.Outside.{outside_of};
 ghost use Rattle.tink_run.specs.Run.{Told};
 ghost use Rattle.tink_files.specs.Streams.{IsShownWhole, RanAndEnded, Succeeds};
-ghost use Rattle.tink_files.specs.Tasks.{CanDo, IsDone, TaskMeans, with_report, without_report};
+ghost use Rattle.tink_files.specs.Tasks.{CanDo, IsDone, TaskMeans, answered_as};
 
 use std::alloc::Global;
 use tink_io::{Draws, Sink, Source, TinkError};
@@ -19,20 +19,21 @@ use tink_run_tokens::{write_payload, write_token};
 pub enum Task<'k> {
     /// A stream is sealed or opened.
     Run(Command),
-    /// A stream is moved to the primary key of this keyset, with this associated data.
-    Rewrap(&'k [u8], &'k [u8]),
+    /// A stream is moved to the primary key of the keyset `to`, with the associated data `to_aad`.
+    Rewrap { to: &'k [u8], to_aad: &'k [u8] },
     /// A token is made, by the primary key's MAC.
     Sign,
     /// The payload of a token is given, whose MAC a key accepts.
     Verify,
 }
 
-/// Does a task from a source into a sink, and answers the report, which those of tokens have not. `aad` is the
-/// associated data of the stream that is sealed, opened or moved; only a stream that is made takes draws.
+/// Writes what a task makes of a source's bytes, and answers the report of a stream; a token has none. `aad` is the
+/// associated data of the stream that is sealed, opened or moved, and is not looked at for a token; only a stream that
+/// is made takes draws.
 ///
 /// # Errors
 /// Those of `run` of `tink_run`, `rewrap` of `tink_rewrap`, `write_token` or `write_payload` of `tink_run_tokens`.
-pub fn do_task<S: Source, K: Sink>(
+pub fn write_task<S: Source, K: Sink>(
     alloc: Global,
     task: Task<'_>,
     keyset: &[u8],
@@ -41,7 +42,7 @@ pub fn do_task<S: Source, K: Sink>(
     source: &mut S,
     sink: &mut K,
 ) -> Result<Option<Report>, TinkError>
-    // Each answer has its cause, and says what stands after it; that of an open or a move, how far the source was read.
+    // Each answer has its cause, and says what stands after it, and how far the source was read where that is bounded.
     ensures means { TaskMeans task.entry keyset.now aad.now draws.old draws.new
         (outside_of S.left S.faults K.got K.faults source.old sink.old)
         (outside_of S.left S.faults K.got K.faults source.new sink.new) result }
@@ -63,7 +64,7 @@ pub fn do_task<S: Source, K: Sink>(
 {
     match task {
         Task::Run(command) => reported(run(alloc, command, keyset, aad, draws, source, sink)),
-        Task::Rewrap(to, to_aad) => {
+        Task::Rewrap { to, to_aad } => {
             reported(rewrap(alloc, keyset, aad, to, to_aad, draws, source, sink))
         }
         Task::Sign => unreported(write_token(alloc, keyset, source, sink)),
@@ -71,11 +72,12 @@ pub fn do_task<S: Source, K: Sink>(
     }
 }
 
-/// Does a task into a draft, which is shown where all of it was done, and else taken away.
+/// Writes what a task makes of a source's bytes into a draft, which is shown where all of it was done, and else taken
+/// away.
 ///
 /// # Errors
-/// Those of `do_task`, and `WriteFault` where the draft could not be shown: what was shown stays.
-pub fn do_task_to<S: Source, P: Place>(
+/// Those of `write_task`, and `WriteFault` where the draft could not be shown: what was shown stays.
+pub fn save_task<S: Source, P: Place>(
     alloc: Global,
     task: Task<'_>,
     keyset: &[u8],
@@ -108,13 +110,13 @@ pub fn do_task_to<S: Source, P: Place>(
     ensures gone { P.has_draft place.new ≡ false }
     ensures source { S.same source.old source.new }
 {
-    let answer = do_task(alloc, task, keyset, aad, draws, source, place);
+    let answer = write_task(alloc, task, keyset, aad, draws, source, place);
     finish(place, answer)
 }
 
 // The answer about a stream.
 fn reported(answer: Result<Report, TinkError>) -> Result<Option<Report>, TinkError>
-    ensures { result ≡ with_report answer }
+    ensures { result ≡ answered_as (λ report. Some report) answer }
 {
     match answer {
         Ok(report) => Ok(Some(report)),
@@ -124,7 +126,7 @@ fn reported(answer: Result<Report, TinkError>) -> Result<Option<Report>, TinkErr
 
 // The answer about a token.
 fn unreported(answer: Result<(), TinkError>) -> Result<Option<Report>, TinkError>
-    ensures { result ≡ without_report answer }
+    ensures { result ≡ answered_as (λ done. None) answer }
 {
     match answer {
         Ok(()) => Ok(None),

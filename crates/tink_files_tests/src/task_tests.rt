@@ -7,8 +7,8 @@ use std::alloc::Global;
 use std::marker::Brand;
 use std::sync::ledger::{Blank, Ledger};
 use std::test::Fail;
-use tink_files::{Task, do_task_to, range_to};
-use tink_io::{Draws, Kind, Source, SureSource, TinkError};
+use tink_files::{Task, range_to, save_task, write_task};
+use tink_io::{Draws, Kind, Source, SureSink, SureSource, TinkError};
 use tink_place::{MemPlace, Place};
 use tink_range::{MemAt, Steps};
 use tink_run::report::{Command, Report};
@@ -151,7 +151,7 @@ fn encrypted<S: Source, P: Place>(
     requires { P.has_draft place.old ≡ true }
     ensures { OnErr result (P.shown place.new ≡ P.shown place.old) }
 {
-    do_task_to(
+    save_task(
         alloc,
         Task::Run(Command::Seal),
         keyset,
@@ -182,9 +182,9 @@ fn refusal(
     let source = &mut SureSource::new(input);
     match asked {
         Asked::Seal => told(encrypted(alloc, ctr, b"May", draws, source, place)),
-        Asked::Sign => told(do_task_to(alloc, Task::Sign, macs, b"", draws, source, place)),
-        Asked::Verify => told(do_task_to(alloc, Task::Verify, macs, b"", draws, source, place)),
-        _ => told(do_task_to(
+        Asked::Sign => told(save_task(alloc, Task::Sign, macs, b"", draws, source, place)),
+        Asked::Verify => told(save_task(alloc, Task::Verify, macs, b"", draws, source, place)),
+        _ => told(save_task(
             alloc,
             of_stream(asked, gcm),
             ctr,
@@ -199,7 +199,10 @@ fn refusal(
 // An open, or a move to other keys.
 fn of_stream(asked: Asked, gcm: &[u8]) -> Task<'_> {
     match asked {
-        Asked::Rewrap => Task::Rewrap(gcm, b"June"),
+        Asked::Rewrap => Task::Rewrap {
+            to: gcm,
+            to_aad: b"June",
+        },
         _ => Task::Run(Command::Open),
     }
 }
@@ -249,5 +252,38 @@ fn what_is_made_stands_whole_or_not_at_all(rt: HostRuntime) -> Result<(), Fail> 
         let is_so = holds(rt.alloc(), row)?;
         assert!(rt; is_so, "{number}");
     }
+    Ok(())
+}
+
+// What an open into a sink answers, where the sink has got the text.
+fn opened(alloc: Global) -> Result<Option<Report>, Fail> {
+    let keyset = hex::decode(alloc, CTR)?;
+    let mut source = SureSource::new(hex::decode(alloc, SEALED)?);
+    let mut draws = Draws::new(Vec::new(alloc));
+    let mut sink = SureSink::new(alloc);
+    sink.reserve(alloc, TEXT.len())?;
+    let task = Task::Run(Command::Open);
+    let report = write_task(
+        alloc,
+        task,
+        &keyset,
+        b"May",
+        &mut draws,
+        &mut source,
+        &mut sink,
+    )?;
+    Ok(if sink.bytes() == TEXT { report } else { None })
+}
+
+#[test]
+fn a_text_goes_into_a_sink_as_it_comes(rt: HostRuntime) -> Result<(), Fail> {
+    let report = opened(rt.alloc())?;
+    assert!(rt;
+        report
+            == Some(Report {
+                segments: 2,
+                bytes: 20
+            })
+    );
     Ok(())
 }

@@ -1,14 +1,14 @@
 //! Which lines are those of the program over the streams of the process.
 
 ghost use Rattle.std.specs.Prelude.{◌≡◌, ◌||◌};
-ghost use Rattle.tink_commands.specs.Sharing.{has_option, is_of_streams, share_of};
+ghost use Rattle.tink_commands.specs.Claims.{has_option, is_of_streams, claim_of};
 ghost use Rattle.tink_words.specs.Forms.{words_of};
 ghost use Rattle.tink_words.specs.Lines.{words_in};
 
 use tink_words::is_option;
 
 // Which lines that begin with a name are that program's.
-enum Share {
+enum Claim {
     All,
     OfFourWords,
     WithoutOptions,
@@ -22,29 +22,29 @@ pub fn is_of_streams(words: &Vec<String>) -> bool
     let Some(name) = words.first() else {
         return false;
     };
-    match share_of(name.as_str()) {
-        Share::All => true,
-        Share::OfFourWords => words.len() == 4,
-        Share::WithoutOptions => !has_option(words.as_slice()),
-        Share::Never => false,
+    match claim_of(name.as_str()) {
+        Claim::All => true,
+        Claim::OfFourWords => words.len() == 4,
+        Claim::WithoutOptions => !has_option(words.as_slice()),
+        Claim::Never => false,
     }
 }
 
-// The share of a name.
-fn share_of(name: &str) -> Share
-    ensures { result ≡ share_of name.now }
+// What is claimed of a name's lines.
+fn claim_of(name: &str) -> Claim
+    ensures { result ≡ claim_of name.now }
 {
     match name {
-        "seal" => Share::All,
-        "open" => Share::All,
-        "keygen" => Share::All,
-        "large" => Share::All,
-        "rotate" => Share::OfFourWords,
-        "rewrap" => Share::WithoutOptions,
-        "sign" => Share::WithoutOptions,
-        "verify" => Share::WithoutOptions,
-        "range" => Share::WithoutOptions,
-        _ => Share::Never,
+        "seal" => Claim::All,
+        "open" => Claim::All,
+        "keygen" => Claim::All,
+        "large" => Claim::All,
+        "rotate" => Claim::OfFourWords,
+        "rewrap" => Claim::WithoutOptions,
+        "sign" => Claim::WithoutOptions,
+        "verify" => Claim::WithoutOptions,
+        "range" => Claim::WithoutOptions,
+        _ => Claim::Never,
     }
 }
 

@@ -1,7 +1,7 @@
 use Rattle.std.proofs.Common.{◌≡◌, drop}
 use Rattle.tink_words.specs.Lines.{words_in}
-use Rattle.tink_commands.specs.Sharing.{has_option}
-use Rattle.tink_commands.proofs.sharing.has_option.Given as goal
+use Rattle.tink_commands.specs.Claims.{has_option}
+use Rattle.tink_commands.proofs.claims.has_option.Given as goal
 
 -- no word yet is one
 abbrev pub invariant-words : goal.invariant-words
