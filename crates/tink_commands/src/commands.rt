@@ -46,11 +46,10 @@ fn command<'w>(rt: &HostRuntime, given: &Given<'w>) -> Result<(), Trouble<'w>> {
     match given.action {
         Action::New => keys::make(rt, line),
         Action::Keys => keys::show(rt, line),
-        Action::Encrypt => streams::encrypt(rt, line),
-        Action::Decrypt => streams::decrypt(rt, line),
+        Action::Encrypt | Action::Decrypt | Action::Sign | Action::Verify => {
+            streams::make(rt, given.action, line)
+        }
         Action::Rewrap => streams::rewrap(rt, line),
-        Action::Sign => streams::sign(rt, line),
-        Action::Verify => streams::verify(rt, line),
         Action::Range => ranges::range(rt, line),
         Action::Wrap => wrapping::wrap(rt, line),
         Action::Unwrap => wrapping::unwrap(rt, line),

@@ -1,5 +1,9 @@
 //! What the words of a command over a stream or a token say, and how its refusals are told.
 
+ghost use Rattle.std.specs.Prelude.{◌≡◌, IfOk, option_map};
+ghost use Rattle.tink_commands.specs.Jobs.{IsSide, data_of};
+
+use std::alloc::Global;
 use std::io::IsTerminal;
 use tink_io::Kind;
 use tink_key_files::wire_bytes;
@@ -49,13 +53,34 @@ pub fn side_of<'w>(
         return Err(Trouble::Usage);
     };
     let file = read_keys(rt, keys)?;
-    match wire_bytes(rt.alloc(), file) {
+    side_in(rt.alloc(), keys, file, aad)
+}
+
+// The keyset of a file, with the associated data, of which there is none where no word gives it.
+fn side_in<'w>(
+    alloc: Global,
+    keys: &'w str,
+    file: Vec<u8>,
+    aad: Option<&'w str>,
+) -> Result<Side<'w>, Trouble<'w>>
+    ensures { IfOk result (λ side. IsSide file.items (option_map (λ s. s.now) aad.entry) side) }
+{
+    match wire_bytes(alloc, file) {
         Ok(keyset) => Ok(Side {
             keyset,
-            aad: aad.unwrap_or(""),
+            aad: data_of(aad),
             keys,
         }),
         Err(e) => Err(Trouble::Refused(keys, e.kind)),
+    }
+}
+
+fn data_of(word: Option<&str>) -> &str
+    ensures { result.now ≡ data_of (option_map (λ s. s.now) word.entry) }
+{
+    match word {
+        Some(word) => word,
+        None => "",
     }
 }
 

@@ -1,6 +1,9 @@
 //! The commands over streams and tokens.
 
-use crate::job::{Job, job_of, named, side_of};
+ghost use Rattle.std.specs.Prelude.{◌≡◌};
+ghost use Rattle.tink_commands.specs.Jobs.{IsMoveTo, own_task};
+
+use crate::job::{Job, Side, job_of, named, side_of};
 use std::fs::{File, OpenFile};
 use std::io::BufReader;
 use tink_files::{Task, save_task, write_task};
@@ -10,47 +13,57 @@ use tink_system::meter::{Meter, Watched};
 use tink_system::outside::draws;
 use tink_system::real_place::RealPlace;
 use tink_system::trouble::{Trouble, unreadable};
-use tink_words::Line;
+use tink_words::{Action, Line};
 
 // So many bytes of a file are read at once, where less is asked for.
 const ROOM: usize = 65_536;
 
-/// `encrypt -k KEYS [--aad TEXT] [-o OUT] [IN]`
-pub fn encrypt<'w>(rt: &HostRuntime, line: &Line<'w>) -> Result<(), Trouble<'w>> {
+/// `encrypt -k KEYS [--aad TEXT] [-o OUT] [IN]`, `decrypt` with the same words, and `sign -k KEYS [-o OUT] [IN]` and
+/// `verify` with these
+pub fn make<'w>(rt: &HostRuntime, action: Action, line: &Line<'w>) -> Result<(), Trouble<'w>> {
+    let Some(task) = task_of(action) else {
+        return Err(Trouble::Usage);
+    };
     let job = job_of(rt, line)?;
-    read_from(rt, Task::Run(Command::Seal), &job, draws(rt)?)
-}
-
-/// `decrypt -k KEYS [--aad TEXT] [-o OUT] [IN]`
-pub fn decrypt<'w>(rt: &HostRuntime, line: &Line<'w>) -> Result<(), Trouble<'w>> {
-    undrawn(rt, Task::Run(Command::Open), line)
+    read_from(rt, task, &job, draws_of(rt, task)?)
 }
 
 /// `rewrap -k KEYS [--aad TEXT] -t NEWKEYS [--to-aad TEXT] [-o OUT] [IN]`
 pub fn rewrap<'w>(rt: &HostRuntime, line: &Line<'w>) -> Result<(), Trouble<'w>> {
     let job = job_of(rt, line)?;
     let to = side_of(rt, line.to(), line.to_aad())?;
-    let task = Task::Rewrap {
+    read_from(rt, moved_to(&to), &job, draws(rt)?)
+}
+
+// What a command makes of its input under its own keys; a move is to others.
+fn task_of(action: Action) -> Option<Task<'static>>
+    ensures { result ≡ own_task action }
+{
+    match action {
+        Action::Encrypt => Some(Task::Run(Command::Seal)),
+        Action::Decrypt => Some(Task::Run(Command::Open)),
+        Action::Sign => Some(Task::Sign),
+        Action::Verify => Some(Task::Verify),
+        _ => None,
+    }
+}
+
+// A move to these keys.
+fn moved_to<'k>(to: &'k Side<'_>) -> Task<'k>
+    ensures { IsMoveTo to.now.keyset to.now.aad.now result }
+{
+    Task::Rewrap {
         to: to.keyset.as_slice(),
         to_aad: to.aad.as_bytes(),
-    };
-    read_from(rt, task, &job, draws(rt)?)
+    }
 }
 
-/// `sign -k KEYS [-o OUT] [IN]`
-pub fn sign<'w>(rt: &HostRuntime, line: &Line<'w>) -> Result<(), Trouble<'w>> {
-    undrawn(rt, Task::Sign, line)
-}
-
-/// `verify -k KEYS [-o OUT] [IN]`
-pub fn verify<'w>(rt: &HostRuntime, line: &Line<'w>) -> Result<(), Trouble<'w>> {
-    undrawn(rt, Task::Verify, line)
-}
-
-// A task that draws nothing.
-fn undrawn<'w>(rt: &HostRuntime, task: Task<'_>, line: &Line<'w>) -> Result<(), Trouble<'w>> {
-    let job = job_of(rt, line)?;
-    read_from(rt, task, &job, Draws::new(Vec::new(rt.alloc())))
+// The draws of a task: only a stream that is sealed takes any.
+fn draws_of(rt: &HostRuntime, task: Task<'_>) -> Result<Draws, Trouble<'static>> {
+    match task {
+        Task::Run(Command::Seal) => draws(rt),
+        _ => Ok(Draws::new(Vec::new(rt.alloc()))),
+    }
 }
 
 // Takes the input from its file, or from standard input.
