@@ -26,11 +26,16 @@ def parent(pid):
         return int(it.read().rsplit(")", 1)[1].split()[1])
 
 
-def is_below(pid, top):
-    """Whether the process was begun by this run, and not by another."""
-    while pid > 1 and pid != top:
-        pid = parent(pid)
-    return pid == top
+def below(pid):
+    """The processes that this one began, and those that they began."""
+    try:
+        for task in os.listdir(f"/proc/{pid}/task"):
+            with open(f"/proc/{pid}/task/{task}/children") as it:
+                for child in it.read().split():
+                    yield child
+                    yield from below(child)
+    except OSError:
+        pass
 
 
 def words_of(pid):
@@ -75,16 +80,16 @@ with open(sys.argv[1], "w") as log:
     keeps = "--anew" in help.stdout
     gate = subprocess.Popen(["rt", "ci", *["--anew"] * keeps], stdout=log, stderr=subprocess.STDOUT, stdin=subprocess.DEVNULL)
     while gate.poll() is None:
-        for pid in filter(str.isdigit, os.listdir("/proc")):
+        for pid in below(gate.pid):
             try:
-                found = look(pid) if is_below(int(pid), gate.pid) else None
+                found = look(pid)
             except (OSError, ValueError, IndexError):
                 continue
             if found:
                 what, seconds, memory = found
                 last = checks.get((pid, what), (0, 0))
                 checks[pid, what] = max(seconds, last[0]), max(memory, last[1])
-        time.sleep(0.2)
+        time.sleep(0.5)
 wall = time.time() - began
 
 of = collections.defaultdict(list)
