@@ -122,6 +122,7 @@ impl<const N: usize> InOut<'_, '_, [u8; N]> {
     /// Writes the bytes that are read xor these.
     pub fn xor_in2out(&mut self, bytes: &[u8; N])
         ensures kept { self.new.output.ghost_name ≡ self.old.output.ghost_name }
+        ensures reads { self.new.input ≡ self.old.input }
         ensures value { self.new.output.now ≡ xor_bytes (read_of self.old) bytes.now }
     {
         xor_array(&mut *self.output, self.input, bytes);
@@ -261,6 +262,7 @@ impl InOutBuf<'_, '_, u8> {
     pub fn xor_in2out(&mut self, bytes: &[u8])
         requires { length bytes.now ≡ length self.old.output.now }
         ensures kept { self.new.output.ghost_name ≡ self.old.output.ghost_name }
+        ensures reads { self.new.input ≡ self.old.input }
         ensures value { self.new.output.now ≡ xor_bytes (read_all self.old) bytes.now }
     {
         xor_slices(&mut *self.output, self.input, bytes);

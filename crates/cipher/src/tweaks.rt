@@ -26,6 +26,7 @@ pub trait TweakBlockCipherEncBackend<const B: usize, const T: usize> {
     /// Encrypts one block.
     fn encrypt_block_inout(&self, tweak: &[u8; T], block: &mut InOut<'_, '_, [u8; B]>)
         ensures kept { block.new.output.ghost_name ≡ block.old.output.ghost_name }
+        ensures reads { block.new.input ≡ block.old.input }
         ensures value { block.new.output.now ≡ encrypts self.now tweak.now (read_of block.old) };
 
     ghost block_size: { (1 ≤ B) × (B < 256) };
@@ -125,6 +126,7 @@ pub trait TweakBlockCipherDecBackend<const B: usize, const T: usize> {
     /// Decrypts one block.
     fn decrypt_block_inout(&self, tweak: &[u8; T], block: &mut InOut<'_, '_, [u8; B]>)
         ensures kept { block.new.output.ghost_name ≡ block.old.output.ghost_name }
+        ensures reads { block.new.input ≡ block.old.input }
         ensures value { block.new.output.now ≡ decrypts self.now tweak.now (read_of block.old) };
 
     ghost block_size: { (1 ≤ B) × (B < 256) };

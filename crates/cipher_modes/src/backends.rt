@@ -35,6 +35,7 @@ pub trait BlockModeEncBackend<const B: usize> {
     /// Encrypts one block.
     fn encrypt_block(&mut self, block: &mut InOut<'_, '_, [u8; B]>)
         ensures kept { block.new.output.ghost_name ≡ block.old.output.ghost_name }
+        ensures reads { block.new.input ≡ block.old.input }
         ensures value { block.new.output.now ≡ (step self.old (read_of block.old)).0 }
         ensures stepped { self.new ≡ (step self.old (read_of block.old)).1 };
 
@@ -42,6 +43,7 @@ pub trait BlockModeEncBackend<const B: usize> {
     fn encrypt_par_blocks(&mut self, blocks: &mut InOutBuf<'_, '_, [u8; B]>)
         requires { length blocks.old.output.now ≡ lanes self.old }
         ensures kept { blocks.new.output.ghost_name ≡ blocks.old.output.ghost_name }
+        ensures reads { blocks.new.input ≡ blocks.old.input }
         ensures value { blocks.new.output.now ≡ run_of step self.old (read_all blocks.old) }
         ensures stepped { self.new ≡ state_after step self.old (read_all blocks.old) }
     {
@@ -52,6 +54,7 @@ pub trait BlockModeEncBackend<const B: usize> {
     fn encrypt_tail_blocks(&mut self, blocks: &mut InOutBuf<'_, '_, [u8; B]>)
         requires { length blocks.old.output.now < lanes self.old }
         ensures kept { blocks.new.output.ghost_name ≡ blocks.old.output.ghost_name }
+        ensures reads { blocks.new.input ≡ blocks.old.input }
         ensures value { blocks.new.output.now ≡ run_of step self.old (read_all blocks.old) }
         ensures stepped { self.new ≡ state_after step self.old (read_all blocks.old) }
     {
@@ -129,6 +132,7 @@ pub trait BlockModeDecBackend<const B: usize> {
     /// Decrypts one block.
     fn decrypt_block(&mut self, block: &mut InOut<'_, '_, [u8; B]>)
         ensures kept { block.new.output.ghost_name ≡ block.old.output.ghost_name }
+        ensures reads { block.new.input ≡ block.old.input }
         ensures value { block.new.output.now ≡ (step self.old (read_of block.old)).0 }
         ensures stepped { self.new ≡ (step self.old (read_of block.old)).1 };
 
@@ -136,6 +140,7 @@ pub trait BlockModeDecBackend<const B: usize> {
     fn decrypt_par_blocks(&mut self, blocks: &mut InOutBuf<'_, '_, [u8; B]>)
         requires { length blocks.old.output.now ≡ lanes self.old }
         ensures kept { blocks.new.output.ghost_name ≡ blocks.old.output.ghost_name }
+        ensures reads { blocks.new.input ≡ blocks.old.input }
         ensures value { blocks.new.output.now ≡ run_of step self.old (read_all blocks.old) }
         ensures stepped { self.new ≡ state_after step self.old (read_all blocks.old) }
     {
@@ -146,6 +151,7 @@ pub trait BlockModeDecBackend<const B: usize> {
     fn decrypt_tail_blocks(&mut self, blocks: &mut InOutBuf<'_, '_, [u8; B]>)
         requires { length blocks.old.output.now < lanes self.old }
         ensures kept { blocks.new.output.ghost_name ≡ blocks.old.output.ghost_name }
+        ensures reads { blocks.new.input ≡ blocks.old.input }
         ensures value { blocks.new.output.now ≡ run_of step self.old (read_all blocks.old) }
         ensures stepped { self.new ≡ state_after step self.old (read_all blocks.old) }
     {

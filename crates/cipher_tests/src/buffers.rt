@@ -14,8 +14,11 @@ fn xored() -> ([u8; 5], [u8; 5]) {
     (read, output)
 }
 
+// whether the lengths differ, and the output is left as it was
 fn are_unequal() -> bool {
-    InOutBuf::new(&[1, 2], &mut [0; 5]).is_err()
+    let mut output = [1, 2, 3, 4, 5];
+    let refused = InOutBuf::new(&[1, 2], &mut output).is_err();
+    refused && output == [1, 2, 3, 4, 5]
 }
 
 // the lengths of the parts before and behind the third place, and whether the second is empty
@@ -87,12 +90,17 @@ fn message_elsewhere() -> ([u8; 1], [u8; 3]) {
     (read, output)
 }
 
+// whether a message does not fit, and the buffer is left as it was
 fn is_too_long_in_front() -> bool {
-    InOutBufReserved::from_mut_slice(&mut [1, 2, 3], 4).is_err()
+    let mut output = [1, 2, 3];
+    let refused = InOutBufReserved::from_mut_slice(&mut output, 4).is_err();
+    refused && output == [1, 2, 3]
 }
 
 fn is_too_long_elsewhere() -> bool {
-    InOutBufReserved::from_slices(&[7; 4], &mut [1, 2, 3]).is_err()
+    let mut output = [1, 2, 3];
+    let refused = InOutBufReserved::from_slices(&[7; 4], &mut output).is_err();
+    refused && output == [1, 2, 3]
 }
 
 // whether a message of three in front of five places is parted behind its first place

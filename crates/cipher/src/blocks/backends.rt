@@ -34,12 +34,14 @@ pub trait BlockCipherEncBackend<const B: usize> {
     /// Encrypts one block.
     fn encrypt_block(&self, block: &mut InOut<'_, '_, [u8; B]>)
         ensures kept { block.new.output.ghost_name ≡ block.old.output.ghost_name }
+        ensures reads { block.new.input ≡ block.old.input }
         ensures value { block.new.output.now ≡ encrypts self.now (read_of block.old) };
 
     /// Encrypts `width` blocks.
     fn encrypt_par_blocks(&self, blocks: &mut InOutBuf<'_, '_, [u8; B]>)
         requires { length blocks.old.output.now ≡ lanes self.now }
         ensures kept { blocks.new.output.ghost_name ≡ blocks.old.output.ghost_name }
+        ensures reads { blocks.new.input ≡ blocks.old.input }
         ensures value { blocks.new.output.now ≡ map (encrypts self.now) (read_all blocks.old) }
     {
         one_by_one!(self, blocks, encrypt_block)
@@ -49,6 +51,7 @@ pub trait BlockCipherEncBackend<const B: usize> {
     fn encrypt_tail_blocks(&self, blocks: &mut InOutBuf<'_, '_, [u8; B]>)
         requires { length blocks.old.output.now < lanes self.now }
         ensures kept { blocks.new.output.ghost_name ≡ blocks.old.output.ghost_name }
+        ensures reads { blocks.new.input ≡ blocks.old.input }
         ensures value { blocks.new.output.now ≡ map (encrypts self.now) (read_all blocks.old) }
     {
         one_by_one!(self, blocks, encrypt_block)
@@ -119,12 +122,14 @@ pub trait BlockCipherDecBackend<const B: usize> {
     /// Decrypts one block.
     fn decrypt_block(&self, block: &mut InOut<'_, '_, [u8; B]>)
         ensures kept { block.new.output.ghost_name ≡ block.old.output.ghost_name }
+        ensures reads { block.new.input ≡ block.old.input }
         ensures value { block.new.output.now ≡ decrypts self.now (read_of block.old) };
 
     /// Decrypts `width` blocks.
     fn decrypt_par_blocks(&self, blocks: &mut InOutBuf<'_, '_, [u8; B]>)
         requires { length blocks.old.output.now ≡ lanes self.now }
         ensures kept { blocks.new.output.ghost_name ≡ blocks.old.output.ghost_name }
+        ensures reads { blocks.new.input ≡ blocks.old.input }
         ensures value { blocks.new.output.now ≡ map (decrypts self.now) (read_all blocks.old) }
     {
         one_by_one!(self, blocks, decrypt_block)
@@ -134,6 +139,7 @@ pub trait BlockCipherDecBackend<const B: usize> {
     fn decrypt_tail_blocks(&self, blocks: &mut InOutBuf<'_, '_, [u8; B]>)
         requires { length blocks.old.output.now < lanes self.now }
         ensures kept { blocks.new.output.ghost_name ≡ blocks.old.output.ghost_name }
+        ensures reads { blocks.new.input ≡ blocks.old.input }
         ensures value { blocks.new.output.now ≡ map (decrypts self.now) (read_all blocks.old) }
     {
         one_by_one!(self, blocks, decrypt_block)
