@@ -44,6 +44,8 @@ impl<'a, K: Sink> Gathered<'a, K> {
         ensures refused { IfErr result (λ e. e ≡ record { kind = WriteFault }) }
         ensures cause { CountsFault (K.faults self.old.sink.now) (K.faults self.new.sink.now) result }
         ensures still { self.old.waiting.now.items ≡ [] → (result ≡ Ok tt) × (self.new.sink.now ≡ self.old.sink.now) }
+        ensures empty { OnOk result (self.new.waiting.now.items ≡ []) }
+        ensures capacity { vec_capacity self.new.waiting.now ≡ vec_capacity self.old.waiting.now }
         ensures grows { OnlyGrows (K.got self.old.sink.now) (K.got self.new.sink.now) }
         ensures lent { self.new.sink.ghost_name ≡ self.old.sink.ghost_name }
         ensures memory { self.new.waiting.ghost_name ≡ self.old.waiting.ghost_name }

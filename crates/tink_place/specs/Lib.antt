@@ -1,1 +1,2 @@
+pub mod MemPlaces
 pub mod Places

@@ -1,6 +1,9 @@
 //! A place over memory.
 
-ghost use Rattle.std.specs.Prelude.{◌≡◌, ◌≤◌, ◌<◌, ℕ, List, Bool, true, false, [], Some, None, IfOk, IfErr, option_map, vec_len, vec_capacity};
+ghost use Rattle.std.specs.Prelude.{◌≡◌, ◌≤◌, ◌<◌, ◌-◌, ℕ, List, Bool, true, false, [], Some, None, IfOk, IfErr, OnOk, OnErr, length, min, option_map, vec_len, vec_capacity};
+ghost use Rattle.std.specs.Io.{WritesAtMost};
+ghost use Rattle.std.specs.Io.KnownBytes.{WriteAppends};
+ghost use Rattle.tink_io.specs.Faults.{CountsFault};
 ghost use Rattle.tink_io.specs.declared.error.Kind.TheVariants.{OutOfMemory};
 ghost use Rattle.tink_place.specs.Places.{IsShown};
 
@@ -55,6 +58,7 @@ impl MemPlace {
 
 impl Sink for MemPlace {
     ghost use Rattle.std.proofs.Common.{refl, ◌∙◌};
+    ghost use Rattle.tink_place.specs.MemPlaces.{WritesMore};
 
     ghost got = { λ p. Some p.draft.items };
 
@@ -62,7 +66,17 @@ impl Sink for MemPlace {
 
     ghost same = { λ p q. (q.shown ≡ p.shown) × (q.has_draft ≡ p.has_draft) × (q.replaces ≡ p.replaces) };
 
-    fn write(&mut self, buf: &[u8]) -> Result<usize, Failed> {
+    fn write(&mut self, buf: &[u8]) -> Result<usize, Failed>
+        ensures bound { WritesAtMost result buf.now }
+        ensures some { IfOk result (λ n. 0 < length buf.now → 0 < n) }
+        ensures bytes { WriteAppends (Some self.old.draft.items) (Some self.new.draft.items) result buf.now }
+        ensures cause { CountsFault self.old.faults self.new.faults result }
+        ensures same { (self.new.shown ≡ self.old.shown) × (self.new.has_draft ≡ self.old.has_draft)
+            × (self.new.replaces ≡ self.old.replaces) }
+        ensures taken { IfOk result (λ n. n ≡ min (self.old.room - vec_len self.old.draft) (length buf.now)) }
+        ensures full { OnErr result (self.old.room ≤ vec_len self.old.draft) }
+        ensures after { WritesMore self.old self.new result }
+    {
         let n = (self.room - self.draft.len()).min(buf.len());
         if n < buf.len().min(1) {
             self.faults = self.faults.saturating_add(1);
@@ -80,13 +94,26 @@ impl Sink for MemPlace {
 }
 
 impl Place for MemPlace {
+    ghost use Rattle.tink_place.specs.MemPlaces.{LeavesNone, LeavesShown, LeavesUnshown, cannot_show};
+
     ghost shown = { λ p. Some (option_map (λ v. v.items) p.shown) };
 
     ghost has_draft = { λ p. p.has_draft };
 
     ghost replaces = { λ p. p.replaces };
 
-    fn show(&mut self) -> Result<(), Failed> {
+    fn show(&mut self) -> Result<(), Failed>
+        ensures shown { OnOk result (IsShown (Some self.old.draft.items) self.old.replaces
+            (Some (option_map (λ v. v.items) self.old.shown)) (Some (option_map (λ v. v.items) self.new.shown))) }
+        ensures gone { OnOk result (self.new.has_draft ≡ false) }
+        ensures err { OnErr result
+            (Some (option_map (λ v. v.items) self.new.shown) ≡ Some (option_map (λ v. v.items) self.old.shown)) }
+        ensures cause { CountsFault self.old.faults self.new.faults result }
+        ensures able { OnOk result (cannot_show self.old ≡ false) }
+        ensures unable { OnErr result (cannot_show self.old ≡ true) }
+        ensures done { OnOk result (LeavesShown self.old self.new) }
+        ensures failed { OnErr result (LeavesUnshown self.old self.new) }
+    {
         if !self.can_show || (!self.replaces && self.shown.is_some()) {
             self.faults = self.faults.saturating_add(1);
             return Err(Failed);
@@ -97,7 +124,12 @@ impl Place for MemPlace {
         Ok(())
     }
 
-    fn discard(&mut self) {
+    fn discard(&mut self)
+        ensures gone { self.new.has_draft ≡ false }
+        ensures shown { Some (option_map (λ v. v.items) self.new.shown) ≡ Some (option_map (λ v. v.items) self.old.shown) }
+        ensures faults { self.old.faults ≤ self.new.faults }
+        ensures none { LeavesNone self.old self.new }
+    {
         self.draft.clear();
         self.has_draft = false;
     }
