@@ -455,6 +455,22 @@ def full_disks():
     return mounted
 
 
+def few_handles():
+    """A draft that cannot be opened a second time is taken away."""
+    held = read("keys.json")
+    for words, most, name in (
+        (("rotate", "keys.json", "AES256_GCM_HKDF_1MB"), 4, "keys.json"),
+        (("new", "AES256_GCM_HKDF_1MB", "-o", "few.json"), 4, "few.json"),
+        (("encrypt", "-k", "keys.json", "-o", "few", "text"), 5, "few"),
+    ):
+        limit = lambda most=most: resource.setrlimit(resource.RLIMIT_NOFILE, (most, most))
+        tink(*words, status=12, says=f"{name}: write fault", preexec_fn=limit)
+        check(drafts() == [] and read("keys.json") == held, f"few handles: {words}")
+        check(name == "keys.json" or not os.path.exists(name), f"few handles: {name}")
+    tink("rotate", "keys.json", "AES256_GCM_HKDF_1MB")
+    write("keys.json", held)
+
+
 def closed_pipes():
     sealed = tink("encrypt", "-k", "keys.json", stdin=TEXT * 20)
     write("long sealed", sealed)
@@ -593,7 +609,7 @@ def documents():
     return tried
 
 
-for case in (key_files, edits, streams, damage, wrong_files, rewraps, tokens, ranges, wrapping, words, former_words, closed_pipes, killed, two_at_once, terminals):
+for case in (key_files, edits, streams, damage, wrong_files, rewraps, tokens, ranges, wrapping, words, former_words, few_handles, closed_pipes, killed, two_at_once, terminals):
     before = CHECKS
     case()
     print(f"{case.__name__}: {CHECKS - before} checks")

@@ -1,5 +1,5 @@
 -- The status of what a command ended by.
-use Rattle.std.specs.Prelude.{ℕ}
+use Rattle.std.specs.Prelude.{◌≡◌, ◌⊎◌, ℕ}
 use Rattle.tink_io.specs.declared.error.Kind.{Kind}
 use Rattle.tink_io.specs.declared.error.Kind.TheVariants.{BadJson, IsPrimary, KeyNotFound, KeysetTooLong, MasterFailed, NotEnabled, RandomFault, WrongStatus}
 use Rattle.tink_refusals.specs.Statuses.{kind_status}
@@ -23,3 +23,7 @@ trouble_status Usage = 2
 trouble_status (Refused file kind) = refusal_status kind
 trouble_status (NoMatch file keys) = 21
 trouble_status (Unusable file why status) = status
+
+-- a refusal of this status, or for want of memory
+abbrev pub IsOf : ℕ → Trouble → Type 0
+IsOf status trouble = (trouble_status trouble ≡ status) ⊎ (trouble_status trouble ≡ 10)

@@ -1,5 +1,8 @@
 //! What is read of the system.
 
+ghost use Rattle.std.specs.Prelude.{◌≡◌, ◌⊎◌, ◌≤◌, ◌^◌, IfOk, IfErr, length};
+ghost use Rattle.tink_system.specs.Statuses.{IsOf, trouble_status};
+
 use crate::trouble::{Trouble, unreadable};
 use std::fs::File;
 use std::io::Read;
@@ -13,7 +16,10 @@ const MOST: u64 = 1 << 26;
 const DRAWN: usize = 1024;
 
 /// The bytes of a file of keys.
-pub fn read_keys<'w>(rt: &HostRuntime, path: &'w str) -> Result<Vec<u8>, Trouble<'w>> {
+pub fn read_keys<'w>(rt: &HostRuntime, path: &'w str) -> Result<Vec<u8>, Trouble<'w>>
+    ensures short { IfOk result (λ v. length v.items ≤ 2 ^ 26) }
+    ensures refused { IfErr result (λ t. IsOf 11 t ⊎ (trouble_status t ≡ 13)) }
+{
     let file = match File::open(rt, path) {
         Ok(file) => file,
         Err(e) => return Err(unreadable(path, e)),
@@ -29,8 +35,11 @@ pub fn read_keys<'w>(rt: &HostRuntime, path: &'w str) -> Result<Vec<u8>, Trouble
     Ok(bytes)
 }
 
-/// Random bytes of the system.
-pub fn draws(rt: &HostRuntime) -> Result<Draws, Trouble<'static>> {
+/// 1,024 random bytes of the system.
+pub fn draws(rt: &HostRuntime) -> Result<Draws, Trouble<'static>>
+    ensures drawn { IfOk result (λ d. length d ≡ 1024) }
+    ensures refused { IfErr result (IsOf 35) }
+{
     let mut bytes = [0u8; DRAWN];
     if rt.fill_bytes(&mut bytes).is_err() {
         return Err(Trouble::Refused("tink", Kind::RandomFault));

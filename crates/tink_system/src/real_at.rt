@@ -1,6 +1,7 @@
 //! A file of the system as an object that is read in any place. It tells no bytes.
 
-ghost use Rattle.std.specs.Prelude.{◌≡◌, ◌≤◌, ◌<◌, ◌-◌, ⊤, length, None, IfOk};
+ghost use Rattle.std.specs.Prelude.{◌≡◌, ◌≤◌, ◌<◌, ◌-◌, ⊤, length, None, IfOk, IfErr};
+ghost use Rattle.tink_system.specs.Statuses.{IsOf};
 
 use crate::meter::Meter;
 use crate::trouble::{Trouble, unreadable};
@@ -30,7 +31,10 @@ impl RealAt {
         name: &'w str,
         total: u64,
         may_tell: bool,
-    ) -> Result<RealAt, Trouble<'w>> {
+    ) -> Result<RealAt, Trouble<'w>>
+        ensures made { IfOk result (λ a. a.faults ≡ 0) }
+        ensures refused { IfErr result (IsOf 11) }
+    {
         let file = match File::open(rt, name) {
             Ok(file) => file,
             Err(e) => return Err(unreadable(name, e)),

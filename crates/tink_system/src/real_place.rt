@@ -1,6 +1,7 @@
 //! A file of the system that appears whole or not at all: the edge that is trusted. It tells no bytes.
 
-ghost use Rattle.std.specs.Prelude.{◌≡◌, IfOk, None, true};
+ghost use Rattle.std.specs.Prelude.{◌≡◌, [], IfOk, IfErr, OnOk, None, true, false};
+ghost use Rattle.tink_system.specs.Statuses.{IsOf};
 
 use crate::trouble::{Trouble, unwritable};
 use std::fs::{File, OpenFile, OpenOptions};
@@ -32,7 +33,8 @@ pub struct RealPlace<'a> {
 impl<'a> RealPlace<'a> {
     /// A draft for a file that may be there, and is replaced then.
     pub fn over<'w>(rt: &'a HostRuntime, name: &'w str) -> Result<RealPlace<'a>, Trouble<'w>>
-        ensures { IfOk result (λ p. p.is_drafted ≡ true) }
+        ensures made { IfOk result (λ p. (p.is_drafted ≡ true) × (p.is_replacing ≡ true) × (p.faults ≡ 0)) }
+        ensures refused { IfErr result (IsOf 12) }
     {
         require_file(rt, name)?;
         let target = target_of(rt, name)?;
@@ -44,7 +46,8 @@ impl<'a> RealPlace<'a> {
 
     /// A draft for a file that is not there yet.
     pub fn fresh<'w>(rt: &'a HostRuntime, name: &'w str) -> Result<RealPlace<'a>, Trouble<'w>>
-        ensures { IfOk result (λ p. p.is_drafted ≡ true) }
+        ensures made { IfOk result (λ p. (p.is_drafted ≡ true) × (p.is_replacing ≡ false) × (p.faults ≡ 0)) }
+        ensures refused { IfErr result (IsOf 12) }
     {
         if fs::symlink_metadata(rt, name).is_ok() {
             return Err(Trouble::Unusable(
@@ -65,7 +68,8 @@ impl<'a> RealPlace<'a> {
 
     /// A draft for a file that is there, of which there is one at a time.
     pub fn only<'w>(rt: &'a HostRuntime, name: &'w str) -> Result<RealPlace<'a>, Trouble<'w>>
-        ensures { IfOk result (λ p. p.is_drafted ≡ true) }
+        ensures made { IfOk result (λ p. (p.is_drafted ≡ true) × (p.is_replacing ≡ true) × (p.faults ≡ 0)) }
+        ensures refused { IfErr result (IsOf 12) }
     {
         require_file(rt, name)?;
         let target = target_of(rt, name)?;
@@ -82,6 +86,8 @@ impl<'a> RealPlace<'a> {
         ensures drafted { self.new.is_drafted ≡ self.old.is_drafted }
         ensures replacing { self.new.is_replacing ≡ self.old.is_replacing }
         ensures faults { self.new.faults ≡ self.old.faults }
+        ensures sound { OnOk result (self.old.faults ≡ 0) }
+        ensures sent { OnOk result (self.new.waiting.items ≡ []) }
     {
         if self.faults > 0 {
             return Err(Failed);
@@ -106,6 +112,7 @@ impl<'a> RealPlace<'a> {
         ensures drafted { self.new.is_drafted ≡ self.old.is_drafted }
         ensures replacing { self.new.is_replacing ≡ self.old.is_replacing }
         ensures faults { self.new.faults ≡ self.old.faults }
+        ensures sent { OnOk result (self.new.waiting.items ≡ []) }
     {
         let mut gathered = Gathered {
             sink: &mut self.sink,
@@ -119,7 +126,9 @@ impl<'a> RealPlace<'a> {
 }
 
 // Something else than a file under the name is not replaced.
-fn require_file<'w>(rt: &HostRuntime, name: &'w str) -> Result<(), Trouble<'w>> {
+fn require_file<'w>(rt: &HostRuntime, name: &'w str) -> Result<(), Trouble<'w>>
+    ensures refused { IfErr result (IsOf 12) }
+{
     match fs::metadata(rt, name) {
         Ok(found) if !found.is_file() => Err(Trouble::Unusable(
             name,
@@ -131,7 +140,9 @@ fn require_file<'w>(rt: &HostRuntime, name: &'w str) -> Result<(), Trouble<'w>> 
 }
 
 // The file that a name stands for, behind all symbolic links.
-fn target_of<'w>(rt: &HostRuntime, name: &'w str) -> Result<String, Trouble<'w>> {
+fn target_of<'w>(rt: &HostRuntime, name: &'w str) -> Result<String, Trouble<'w>>
+    ensures refused { IfErr result (IsOf 12) }
+{
     let made = match fs::canonicalize(rt, name) {
         Ok(path) => String::from_str(rt.alloc(), path.as_str()),
         Err(_) => String::from_str(rt.alloc(), name),
@@ -159,7 +170,8 @@ fn begin<'a, 'w>(
     draft: String,
     is_replacing: bool,
 ) -> Result<RealPlace<'a>, Trouble<'w>>
-    ensures { IfOk result (λ p. p.is_drafted ≡ true) }
+    ensures made { IfOk result (λ p. (p.is_drafted ≡ true) × (p.is_replacing ≡ is_replacing) × (p.faults ≡ 0)) }
+    ensures refused { IfErr result (IsOf 12) }
 {
     match open_twice(rt, draft.as_str()) {
         Ok((file, other, waiting)) => Ok(RealPlace {
@@ -190,8 +202,13 @@ fn open_twice(rt: &HostRuntime, path: &str) -> io::Result<(File, File, Vec<u8>)>
         .create_new(true)
         .mode(0o600)
         .open(rt, path)?;
-    let other = file.try_clone()?;
-    Ok((file, other, waiting))
+    match file.try_clone() {
+        Ok(other) => Ok((file, other, waiting)),
+        Err(e) => {
+            let _removed = fs::remove_file(rt, path);
+            Err(e)
+        }
+    }
 }
 
 impl<'a> Sink for RealPlace<'a> {
