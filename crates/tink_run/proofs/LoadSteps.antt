@@ -2,6 +2,7 @@
 use Rattle.std.proofs.Common.{◌≡◌, inl, inr, ◌∙◌, ◌&&◌, ◌||◌, ℕ, ⊎_elim, List, [], ◌∷◌, Bool, true, false, cond, map, refl, sym, ap, subst, Some, None}
 use Rattle.std.specs.declared.option.Option.{Option}
 use Rattle.std.specs.Prelude.{Result, Ok, Err, IfOk, filter, find, is_some, nat_eq, length}
+use Rattle.std.proofs.lemmas.Bool.{eqb-true}
 use Rattle.std.specs.List.{list_all, list_any}
 use Rattle.std.specs.Str.{bytes_eq}
 use Rattle.tink_io.specs.declared.error.Kind.{Kind}
@@ -33,7 +34,7 @@ use Rattle.tink_stream_keys.specs.StreamKinds.{key_in_set, key_of}
 use Rattle.tink_streaming_aead.specs.Wrapped.{key_in, keys_in}
 use Rattle.loading_model.specs.Loading.{EnabledKey, Loaded, LoadedKey, LoadingRow, ◌then◌, build, build_data, build_key, build_keys, built_by, key_of_id, out_of, load_built, load_keys, streaming_key, streaming_keys, streaming_part, with_primary}
 use Rattle.tink.specs.LoadingRows.{built_key, loading_row, rows_by}
-use Rattle.tink_run.specs.HeldKeys.{GivesLoaded}
+use Rattle.tink_run.specs.HeldKeys.{GivesLoaded, type_of}
 
 and_parts : (a b : Bool) → (a && b) ≡ true → (a ≡ true) × (b ≡ true)
 and_parts true b e = (refl, e)
@@ -76,6 +77,7 @@ module _ {M K A D HD HE Mc P S V : Type 0} (url : M → List ℕ) (supports : M 
     id : e.key_id ≡ b.id
     built : b.built ≡ built_key e.primitive
     out : e.prefix ≡ out_of b.prefix_type b.id
+    type_is : e.prefix_type ≡ type_of b.prefix_type
 
   abbrev AreAlike : List One → List EnabledKey → Type 0
   AreAlike [] [] = Unit {0}
@@ -94,7 +96,7 @@ module _ {M K A D HD HE Mc P S V : Type 0} (url : M → List ℕ) (supports : M 
   entry_same k formed = by_data k.key_data
     where
       by_built : (r : Result Made Kind) → Same (made_of (λ p. entry_of p k) r) (made_of built_key r then λ built. Ok (record { id = k.key_id; prefix_type = k.output_prefix_type; built = built }))
-      by_built (Ok p) = (record { id = k.key_id; prefix_type = k.output_prefix_type; built = built_key p }, refl, record { id = refl; built = refl; out = refl })
+      by_built (Ok p) = (record { id = k.key_id; prefix_type = k.output_prefix_type; built = built_key p }, refl, record { id = refl; built = refl; out = refl; type_is = refl })
       by_built (Err kind) = refl
 
       by_data : (o : Option KeyData) → Same (made_of (λ p. entry_of p k) (built_data url supports builds managers None o)) (build_data rows o then λ built. Ok (record { id = k.key_id; prefix_type = k.output_prefix_type; built = built }))
@@ -125,6 +127,7 @@ module _ {M K A D HD HE Mc P S V : Type 0} (url : M → List ℕ) (supports : M 
   record IsKey (t : Typed) (l : LoadedKey) : Type 0 where
     id : t.key_id ≡ l.id
     key : key_in_set t ≡ l.key
+    type_is : t.prefix_type ≡ type_of l.prefix_type
 
   abbrev AreKeys : List Typed → List LoadedKey → Type 0
   AreKeys [] [] = Unit {0}
@@ -143,7 +146,7 @@ module _ {M K A D HD HE Mc P S V : Type 0} (url : M → List ℕ) (supports : M 
   by_sort e b (StreamingAead key) a = (
     record { id = b.id; prefix_type = b.prefix_type; key = fronted (out_of b.prefix_type b.id) (key_of key) },
     refl,
-    record { id = a.id; key = ap (λ out. fronted out (key_of key)) a.out },
+    record { id = a.id; key = ap (λ out. fronted out (key_of key)) a.out; type_is = a.type_is },
   )
   by_sort e b _ a = refl
 
@@ -190,6 +193,27 @@ module _ {M K A D HD HE Mc P S V : Type 0} (url : M → List ℕ) (supports : M 
   all_keys_same (t ∷ ts) [] a = absurd a
   all_keys_same (t ∷ ts) (l ∷ ls) a = ap (λ k. k ∷ keys_in ts) a.0.key ∙ ap (λ ks. l.key ∷ ks) (all_keys_same ts ls a.1)
 
+  all_ids_same : (ts : List Typed) (ls : List LoadedKey) → AreKeys ts ls → map (λ t. t.key_id) ts ≡ map (λ l. l.id) ls
+  all_ids_same [] [] a = refl
+  all_ids_same [] (l ∷ ls) a = absurd a
+  all_ids_same (t ∷ ts) [] a = absurd a
+  all_ids_same (t ∷ ts) (l ∷ ls) a = let one = a.0.id in let rest = all_ids_same ts ls a.1 in cc
+
+  all_types_same : (ts : List Typed) (ls : List LoadedKey) → AreKeys ts ls → map (λ t. t.prefix_type) ts ≡ map (λ l. type_of l.prefix_type) ls
+  all_types_same [] [] a = refl
+  all_types_same [] (l ∷ ls) a = absurd a
+  all_types_same (t ∷ ts) [] a = absurd a
+  all_types_same (t ∷ ts) (l ∷ ls) a = let one = a.0.type_is in let rest = all_types_same ts ls a.1 in cc
+
+  -- the first entry of an id has it
+  has_its_id : (id : ℕ) (ts : List Typed) (t : Typed) → entry_of_id id ts ≡ Some t → t.key_id ≡ id
+  has_its_id id [] t is = absurd (cc)
+  has_its_id id (u ∷ ts) t is = here (nat_eq u.key_id id) refl (has_its_id id ts t) is
+    where
+      here : (b : Bool) → nat_eq u.key_id id ≡ b → (entry_of_id id ts ≡ Some t → t.key_id ≡ id) → cond b (Some u) (entry_of_id id ts) ≡ Some t → t.key_id ≡ id
+      here true same later is = let own : u ≡ t = cc in subst (λ (x : Typed). x.key_id ≡ id) own (eqb-true u.key_id id same)
+      here false same later is = later is
+
   -- ---- the whole
 
   -- typed entries, and what is loaded
@@ -222,12 +246,23 @@ module _ {M K A D HD HE Mc P S V : Type 0} (url : M → List ℕ) (supports : M 
       → HasEntries typed_prefix_of (λ t. t.key_id) id ts set.primary set.entries → AreKeys ts ls → loaded ≡ with_primary ls (key_of_id id ls) → GivesLoaded (Ok set) loaded
   is_held_by id set there ts ls loaded has are is = by_primary set.primary refl there (ap key_in has.by_id ∙ primary_same id ts ls are)
     where
+      first_of : (t : Typed) → entry_of_id id ts ≡ Some t → entry_of_id t.key_id ts ≡ Some t
+      first_of t found = subst (λ n. entry_of_id n ts ≡ Some t) (sym (has_its_id id ts t found)) found
+
       by_primary : (o : Option Typed) → set.primary ≡ o → is_some o ≡ true → key_in o ≡ key_of_id id ls → GivesLoaded (Ok set) loaded
       by_primary None own some same = absurd (cc)
       by_primary (Some t) own some same = (
         record { keys = ls; primary = key_in_set t },
         is ∙ ap (with_primary ls) (sym same),
-        record { primary = ap key_in own; entries = ts; groups = has.by_prefix; keys = all_keys_same ts ls are },
+        record {
+          primary = ap key_in own;
+          entries = ts;
+          groups = has.by_prefix;
+          keys = all_keys_same ts ls are;
+          ids = all_ids_same ts ls are;
+          types = all_types_same ts ls are;
+          first = rw own (first_of t (sym has.by_id ∙ own));
+        },
       )
 
   set_loaded : (set : TypedPrimitiveSet StreamKind) → is_some set.primary ≡ true → (ks : Keyset) → IsValid ks → (ts : List Typed)

@@ -7,6 +7,8 @@ use Rattle.std.specs.Io.KnownBytes.{Appends, Keeps, prepend_known}
 use Rattle.std.proofs.KnownBytes.{Keeps-refl}
 use Rattle.tink_io.specs.Taken.{LosesAtMost}
 use Rattle.tink_io.specs.Written.{AppendsPrefix}
+use Rattle.tink_io.specs.declared.error.Cause.{Cause}
+use Rattle.tink_io.specs.declared.error.Cause.TheVariants as cause
 use Rattle.tink_io.specs.declared.error.Kind.{Kind}
 use Rattle.tink_io.specs.declared.error.Kind.TheVariants.{ReadFault, WriteFault, TooManySegments, NoMatchingKey, BadSegment, Truncated}
 use Rattle.tink_io.specs.declared.error.TinkError.{TinkError}
@@ -18,7 +20,7 @@ use Rattle.stream_model.proofs.CutFacts.{cut_none, cut_fits, cut_more}
 use Rattle.tink_streaming_aead.specs.DecryptReaders.{largest}
 use Rattle.tink_streaming_aead.proofs.DecryptSteps.{reads_held, reads_kept}
 use Rattle.tink_streams.specs.Choosing.{Started, StartRefused}
-use Rattle.tink_streams.specs.Reading.{ReaderMoment, TellsLeads, OpenNextRefused}
+use Rattle.tink_streams.specs.Reading.{FailsBy, ReaderMoment, TellsLeads, OpenNextRefused}
 use Rattle.tink_streams.proofs.ChosenFacts.{chunks_are}
 use Rattle.tink_streams.proofs.FrontFacts.{fits_or_not}
 use Rattle.tink_streams.proofs.ReadingFacts.{Opened}
@@ -32,18 +34,18 @@ use Rattle.tink_run.proofs.OpenSteps.{behind, leads_under, some_agrees}
 use Rattle.tink_run.proofs.ReadOut.{IsReading, any_told, front_one, lead_of, written_one}
 
 -- a refusal loses no byte
-refused_kept : (seg : ℕ → Bool → List ℕ → List ℕ) (a b overhead : ℕ) (m n : ReaderMoment) (kind : Kind) → OpenNextRefused seg a b overhead m n kind → Keeps m.rest n.rest
-refused_kept seg a b overhead m n ReadFault x = x.fails.kept
-refused_kept seg a b overhead m n TooManySegments x = x.fails.kept
-refused_kept seg a b overhead m n (BadSegment i) x = x.fails.kept
-refused_kept seg a b overhead m n (Truncated i) x = x.fails.kept
-refused_kept seg a b overhead m n _ x = absurd x
+pub fails_by : (seg : ℕ → Bool → List ℕ → List ℕ) (a b overhead : ℕ) (m n : ReaderMoment) (kind : Kind) → OpenNextRefused seg a b overhead m n kind → (c : Cause) × FailsBy c m n
+fails_by seg a b overhead m n ReadFault x = (cause.ReadFault, x.fails)
+fails_by seg a b overhead m n TooManySegments x = (cause.TooManySegments, x.fails)
+fails_by seg a b overhead m n (BadSegment i) x = (cause.BadSegment i, x.fails)
+fails_by seg a b overhead m n (Truncated i) x = (cause.Truncated i, x.fails)
+fails_by seg a b overhead m n _ x = absurd x
 
 -- so at most what is held was read
 pub refused_reads : (room f : ℕ) (seg : ℕ → Bool → List ℕ → List ℕ) (a b overhead : ℕ) (m n : ReaderMoment) (kind : Kind) (items : List ℕ) (left : Option (List ℕ)) → n.rest ≡ prepend_known (take f items) left → f ≤ room
     → OpenNextRefused seg a b overhead m n kind → LosesAtMost room m.rest left
 refused_reads room f seg a b overhead m n kind items left rest few x =
-    reads_kept room m.rest n.rest left (refused_kept seg a b overhead m n kind x) (reads_held room f n.rest left items (subst (Keeps n.rest) rest (Keeps-refl n.rest)) few)
+    reads_kept room m.rest n.rest left (fails_by seg a b overhead m n kind x).1.kept (reads_held room f n.rest left items (subst (Keeps n.rest) rest (Keeps-refl n.rest)) few)
 
 -- the chunks of bytes are these bytes
 joined_cut : (n a b : ℕ) (X : List ℕ) → length X ≤ n → 0 < a → 0 < b → joined (cut a b X) ≡ X

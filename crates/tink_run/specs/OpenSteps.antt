@@ -3,6 +3,7 @@ use Rattle.std.specs.Prelude.{◌≡◌, ℕ, ◌<◌, ◌≤◌, ◌^◌, Bool,
 use Rattle.std.specs.Io.KnownBytes.{Appends, Keeps, IsAtEnd}
 use Rattle.tink_io.specs.Faults.{Rose}
 use Rattle.tink_io.specs.Written.{AppendsPrefix}
+use Rattle.tink_io.specs.declared.error.Cause.{Cause}
 use Rattle.tink_io.specs.declared.error.Kind.{Kind}
 use Rattle.tink_io.specs.declared.error.Kind.TheVariants.{OutOfMemory, ReadFault, WriteFault, TooManySegments, NoMatchingKey, BadSegment, Truncated}
 use Rattle.tink_io.specs.declared.error.TinkError.{TinkError}
@@ -13,7 +14,7 @@ use Rattle.stream_model.specs.Opening.{OpeningKey}
 use Rattle.tink_segment_traits.specs.declared.segment_traits.SegmentDecrypter.{Ghosts}
 use Rattle.tink_streams.specs.declared.reading.SegmentReader.{SegmentReader}
 use Rattle.tink_streams.specs.Openers.{reader_rest}
-use Rattle.tink_streams.specs.Reading.{ReaderMoment, OpensNext, NothingComes}
+use Rattle.tink_streams.specs.Reading.{ReaderMoment, OpensNext, NothingComes, FailsBy}
 use Rattle.tink_run.specs.declared.report.Report.{Report}
 use Rattle.tink_run.specs.Outside.{Outside, IsUntouched}
 use Rattle.tink_run.specs.OpenAnswers.{IsOpenedWhole, OpeningRefused}
@@ -27,6 +28,11 @@ FirstRefused seg first size old new _ = ⊥
 abbrev pub FirstMeans : (ℕ → Bool → List ℕ → List ℕ) → ℕ → ℕ → ReaderMoment → ReaderMoment → Result (Unit {0}) TinkError → Type 0
 FirstMeans seg first size old new (Ok _) = OpensNext seg first size old new
 FirstMeans seg first size old new (Err e) = FirstRefused seg first size old new e.kind
+
+-- a refusal leaves a reader that has opened nothing and keeps what is told of the rest, and that has failed for good
+abbrev pub FirstFailed : ReaderMoment → ReaderMoment → Result (Unit {0}) TinkError → Type 0
+FirstFailed old new (Ok _) = Unit {0}
+FirstFailed old new (Err e) = (c : Cause) × FailsBy c old new
 
 -- some texts lead from the first chunk of the old rest to its end, and were written
 pub record IsReadOut (seg : ℕ → Bool → List ℕ → List ℕ) (first size : ℕ) (old new : Outside) (report : Report) : Type 0 where

@@ -3,13 +3,13 @@ ghost use Rattle.stream_model.specs.Opening as opening;
 ghost use Rattle.tink_streams.specs.declared.progress.Progress.TheVariants.{Running};
 ghost use Rattle.tink_io.specs.Taken.{LosesAtMost};
 ghost use Rattle.tink_stream_keys.specs.Rooms.{HasRoomForEach};
-ghost use Rattle.tink_streams.specs.Openers.{reader_moment, reader_rest, segment_map};
+ghost use Rattle.tink_streams.specs.Openers.{reader_memory, reader_moment, reader_rest, segment_map};
 ghost use Rattle.tink_run.specs.Outside.{FaultsStay, outside_of};
 ghost use Rattle.tink_streaming_aead.specs.Wrapped.{KeepsOrder, all_entries, keys_in};
 ghost use Rattle.tink_run.specs.OpenAnswers.{OpeningMeans};
 ghost use Rattle.tink_run.specs.OpenReads.{ReaderReads, ReadsWithin, room_under};
 ghost use Rattle.tink_run.specs.Run.{LeavesEnds, LeavesSinkItself};
-ghost use Rattle.tink_run.specs.OpenSteps.{FirstMeans, OpensUnder, ReaderMeans, held_outside};
+ghost use Rattle.tink_run.specs.OpenSteps.{FirstFailed, FirstMeans, OpensUnder, ReaderMeans, held_outside};
 
 use crate::report::Report;
 use std::alloc::Global;
@@ -149,7 +149,10 @@ pub fn open_first<S: Source, D: SegmentDecrypter + Drop>(
     ensures answer { FirstMeans (segment_map reader.old.opener) reader.old.opener.first reader.old.opener.size
         (reader_moment S.left S.faults reader.old source.old) (reader_moment S.left S.faults reader.new source.new)
         result }
+    ensures failed { FirstFailed (reader_moment S.left S.faults reader.old source.old)
+        (reader_moment S.left S.faults reader.new source.new) result }
     ensures opener { reader.new.opener ≡ reader.old.opener }
+    ensures memory { reader_memory reader.new ≡ reader_memory reader.old }
     ensures small { vec_len reader.new.opened < 2 ^ 32 }
     ensures read { OnErr result (LosesAtMost (vec_len reader.old.buffer) (reader_rest S.left reader.old source.old)
         (S.left source.new)) }

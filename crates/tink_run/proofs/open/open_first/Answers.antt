@@ -1,7 +1,7 @@
 use Rattle.std.proofs.Common.{refl, arith, vec_len}
 use Rattle.tink_streams.specs.Openers.{reader_moment, segment_map}
 use Rattle.tink_streams.specs.Reading.{ReaderMoment}
-use Rattle.tink_run.proofs.ReadsSteps.{refused_reads}
+use Rattle.tink_run.proofs.ReadsSteps.{fails_by, refused_reads}
 use Rattle.tink_run.proofs.open.open_first.Goals as goal
 
 pub returns-in-Err-ReadFault-clause-read : goal.returns-in-Err-ReadFault-clause-read
@@ -23,3 +23,9 @@ returns-in-Err-clause-read g c =
     let n : ReaderMoment = reader_moment g.S.Source.left g.S.Source.faults reader c.open_next.new.source in
     refused_reads (vec_len self.buffer) reader.filled (segment_map o) o.first o.size o.overhead m n c.in-Err.field-0.kind reader.buffer.items (g.S.Source.left c.open_next.new.source) refl
     (omega (arith, reader.filled_in, c.open_next.ensures.room)) c.in-Err.ensures.answer
+
+pub returns-in-Err-ReadFault-clause-failed : goal.returns-in-Err-ReadFault-clause-failed
+returns-in-Err-ReadFault-clause-failed g c = fails_by _ _ _ _ _ _ c.in-Err-ReadFault.field-0.kind c.in-Err-ReadFault.ensures.answer
+
+pub returns-in-Err-clause-failed : goal.returns-in-Err-clause-failed
+returns-in-Err-clause-failed g c = fails_by _ _ _ _ _ _ c.in-Err.field-0.kind c.in-Err.ensures.answer
