@@ -1,11 +1,11 @@
 //! A range of a stream's text under the keys of a set.
 
-ghost use Rattle.std.specs.Prelude.{◌≡◌, ◌≤◌};
-ghost use Rattle.loading_model.specs.Loading.{AreUsable, Loaded, opening_keys};
+ghost use Rattle.std.specs.Prelude.{◌≡◌, ◌≤◌, map};
+ghost use Rattle.stream_model.specs.Opening.{opening_key};
 ghost use Rattle.tink_range.specs.ChunkReading.{ends_of};
 ghost use Rattle.tink_range.specs.KeyRanges.{TakesRangeSteps};
 ghost use Rattle.tink_range.specs.Objects.{LeavesObject};
-ghost use Rattle.tink_run.specs.HeldKeys.{HoldsLoaded};
+ghost use Rattle.tink_streaming_aead.specs.Wrapped.{KeepsOrder, all_entries, keys_in};
 ghost use Rattle.tink_run_range.specs.SetRanges.{LeavesRangeEnds, LeavesUnwritten, RangesOf};
 
 use std::alloc::Global;
@@ -36,12 +36,12 @@ pub fn range_of_set<A: ReadAt, K: Sink, L: Ledger>(
     steps: &mut Steps<L>,
 ) -> Result<u64, TinkError>
     // Whichever keys the set holds, each answer has its cause under them, and says what stands after it.
-    ensures answer { (l : Loaded) → AreUsable l.keys → HoldsLoaded l set.now
-        → RangesOf K.got K.faults (opening_keys aad.now l) (A.length_of object.old) start len
+    ensures answer { RangesOf K.got K.faults (map (opening_key aad.now) (keys_in (all_entries set.now.entries)))
+        (A.length_of object.old) start len
         (ends_of A.bytes A.faults object.old object.new sink.old sink.new) result }
-    ensures ticks { (l : Loaded) → AreUsable l.keys → HoldsLoaded l set.now
-        → TakesRangeSteps (opening_keys aad.now l) (A.bytes object.old) (A.length_of object.old) start len
-        steps.old steps.new }
+    ensures ticks { TakesRangeSteps (map (opening_key aad.now) (keys_in (all_entries set.now.entries)))
+        (A.bytes object.old) (A.length_of object.old) start len steps.old steps.new }
+    ensures order { KeepsOrder set.now.entries }
     ensures early { LeavesRangeEnds result object.old object.new sink.old sink.new }
     ensures unwritten { LeavesUnwritten result sink.old sink.new }
     ensures kept { LeavesObject A.length_of A.bytes A.faults object.old object.new result }

@@ -3,6 +3,7 @@ use Rattle.std.proofs.lemmas.Result.{err_from_is_err_and}
 use Rattle.std.specs.Prelude.{Err}
 use Rattle.tink_range.specs.ChunkReading.{Moments, ends_of}
 use Rattle.tink_run_range.proofs.KeysetSteps.{complete, loaded, not_loaded, slices, stands_unloaded, steps_loaded}
+use Rattle.tink_run_range.proofs.SetSteps.{ranges_of_loaded, steps_of_loaded}
 use Rattle.tink_run_range.proofs.of_keyset.run_range.Goals as goal
 
 pub returns-in_err-keys-clause-answer : goal.returns-in_err-keys-clause-answer
@@ -36,7 +37,8 @@ returns-clause-answer g c =
     let object = c.args.object.now in
     let e : Moments (g.row.K.Denot) = ends_of g.A.ReadAt.bytes g.A.ReadAt.faults object c.range_of_set.new.object c.args.sink.now c.range_of_set.new.sink in
     loaded g.K.Sink.got g.K.Sink.faults c.args.keyset.now c.args.aad.now (g.A.ReadAt.length_of object) c.args.start c.args.len object c.range_of_set.new.object e
-    c.in_ok-keys.keys c.range_of_set.result c.in_ok-keys.ensures.answer c.range_of_set.ensures.answer c.range_of_set.ensures.early
+    c.in_ok-keys.keys c.range_of_set.result c.in_ok-keys.ensures.answer
+    (ranges_of_loaded g.K.Sink.got g.K.Sink.faults c.args.aad.now c.in_ok-keys.keys (g.A.ReadAt.length_of object) c.args.start c.args.len e c.range_of_set.result c.range_of_set.ensures.order c.range_of_set.ensures.answer) c.range_of_set.ensures.early
 
 pub returns-clause-slice : goal.returns-clause-slice
 returns-clause-slice g c =
@@ -45,7 +47,8 @@ returns-clause-slice g c =
     let e : Moments (g.row.K.Denot) = ends_of g.A.ReadAt.bytes g.A.ReadAt.faults object c.range_of_set.new.object c.args.sink.now c.range_of_set.new.sink in
     slices g.K.Sink.got g.K.Sink.faults c.args.keyset.now c.args.aad.now whole c.args.start c.args.len object c.range_of_set.new.object e (g.met.A.ReadAt.told object) c.range_of_set.result
     (loaded g.K.Sink.got g.K.Sink.faults c.args.keyset.now c.args.aad.now whole c.args.start c.args.len object c.range_of_set.new.object e
-    c.in_ok-keys.keys c.range_of_set.result c.in_ok-keys.ensures.answer c.range_of_set.ensures.answer c.range_of_set.ensures.early)
+    c.in_ok-keys.keys c.range_of_set.result c.in_ok-keys.ensures.answer
+    (ranges_of_loaded g.K.Sink.got g.K.Sink.faults c.args.aad.now c.in_ok-keys.keys (g.A.ReadAt.length_of object) c.args.start c.args.len e c.range_of_set.result c.range_of_set.ensures.order c.range_of_set.ensures.answer) c.range_of_set.ensures.early)
 
 pub returns-clause-succeeds : goal.returns-clause-succeeds
 returns-clause-succeeds g c =
@@ -54,10 +57,12 @@ returns-clause-succeeds g c =
     let e : Moments (g.row.K.Denot) = ends_of g.A.ReadAt.bytes g.A.ReadAt.faults object c.range_of_set.new.object c.args.sink.now c.range_of_set.new.sink in
     complete g.K.Sink.got g.K.Sink.faults c.args.keyset.now c.args.aad.now whole c.args.start c.args.len object c.range_of_set.new.object e (g.met.A.ReadAt.told object) c.range_of_set.result
     (loaded g.K.Sink.got g.K.Sink.faults c.args.keyset.now c.args.aad.now whole c.args.start c.args.len object c.range_of_set.new.object e
-    c.in_ok-keys.keys c.range_of_set.result c.in_ok-keys.ensures.answer c.range_of_set.ensures.answer c.range_of_set.ensures.early)
+    c.in_ok-keys.keys c.range_of_set.result c.in_ok-keys.ensures.answer
+    (ranges_of_loaded g.K.Sink.got g.K.Sink.faults c.args.aad.now c.in_ok-keys.keys (g.A.ReadAt.length_of object) c.args.start c.args.len e c.range_of_set.result c.range_of_set.ensures.order c.range_of_set.ensures.answer) c.range_of_set.ensures.early)
 
 pub returns-clause-ticks : goal.returns-clause-ticks
 returns-clause-ticks g c =
     let object = c.args.object.now in
     steps_loaded c.args.keyset.now c.args.aad.now (g.A.ReadAt.bytes object) (g.A.ReadAt.length_of object) c.args.start c.args.len c.args.steps.now c.range_of_set.new.steps
-    c.in_ok-keys.keys c.in_ok-keys.ensures.answer c.range_of_set.ensures.ticks
+    c.in_ok-keys.keys c.in_ok-keys.ensures.answer
+    (steps_of_loaded c.args.aad.now c.in_ok-keys.keys (g.A.ReadAt.bytes object) (g.A.ReadAt.length_of object) c.args.start c.args.len c.args.steps.now c.range_of_set.new.steps c.range_of_set.ensures.order c.range_of_set.ensures.ticks)

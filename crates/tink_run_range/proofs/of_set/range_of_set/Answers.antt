@@ -6,7 +6,7 @@ use Rattle.tink_streaming_aead.specs.Wrapped.{all_entries, keys_in}
 use Rattle.tink_range.specs.ChunkReading.{Moments, ends_of}
 use Rattle.tink_range.specs.KeyRanges.{TakesRangeSteps}
 use Rattle.tink_run_range.specs.SetRanges.{RangesOf}
-use Rattle.tink_run_range.proofs.SetSteps.{ranges_of, ranges_of_loaded, steps_of_loaded, unwritten_of}
+use Rattle.tink_run_range.proofs.SetSteps.{ranges_of, unwritten_of}
 use Rattle.tink_run_range.proofs.of_set.range_of_set.Goals as goal
 
 pub returns-clause-answer : goal.returns-clause-answer
@@ -19,9 +19,8 @@ returns-clause-answer g c =
     ∙ ap (map (λ e. opening_key aad (key_in_set e))) c.in_ok-keys.ensures.value ∙ sym (map-map (opening_key aad) key_in_set all)
     in
     let e : Moments (g.row.K.Denot) = ends_of g.A.ReadAt.bytes g.A.ReadAt.faults c.args.object.now c.range_under.new.object c.args.sink.now c.range_under.new.sink in
-    ranges_of_loaded g.K.Sink.got g.K.Sink.faults aad c.args.set.now whole c.args.start c.args.len e c.range_under.result c.in_ok-keys.ensures.order
-    (subst (λ (ks : List OpeningKey). RangesOf g.K.Sink.got g.K.Sink.faults ks whole c.args.start c.args.len e c.range_under.result) same
-    (ranges_of g.K.Sink.got g.K.Sink.faults _ whole c.args.start c.args.len e c.range_under.result c.range_under.ensures.answer))
+    subst (λ (ks : List OpeningKey). RangesOf g.K.Sink.got g.K.Sink.faults ks whole c.args.start c.args.len e c.range_under.result) same
+    (ranges_of g.K.Sink.got g.K.Sink.faults _ whole c.args.start c.args.len e c.range_under.result c.range_under.ensures.answer)
 
 pub returns-clause-ticks : goal.returns-clause-ticks
 returns-clause-ticks g c =
@@ -33,8 +32,7 @@ returns-clause-ticks g c =
     ap (map (λ k. opening_key aad (key_in_set k.now))) c.deref-2.ensures.value ∙ sym (map-map (λ e. opening_key aad (key_in_set e)) (λ k. k.now) c.in_ok-keys.keys.items)
     ∙ ap (map (λ e. opening_key aad (key_in_set e))) c.in_ok-keys.ensures.value ∙ sym (map-map (opening_key aad) key_in_set all)
     in
-    steps_of_loaded aad c.args.set.now told whole c.args.start c.args.len c.args.steps.now c.range_under.new.steps c.in_ok-keys.ensures.order
-    (subst (λ (ks : List OpeningKey). TakesRangeSteps ks told whole c.args.start c.args.len c.args.steps.now c.range_under.new.steps) same c.range_under.ensures.ticks)
+    subst (λ (ks : List OpeningKey). TakesRangeSteps ks told whole c.args.start c.args.len c.args.steps.now c.range_under.new.steps) same c.range_under.ensures.ticks
 
 pub returns-clause-unwritten : goal.returns-clause-unwritten
 returns-clause-unwritten g c =
