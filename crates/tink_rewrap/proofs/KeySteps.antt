@@ -73,7 +73,7 @@ module _ (opens opens' : Outside → Outside → Result Report TinkError → Typ
   refused ReadFault x = record {
     text = x.text;
     opened = opened x.text (Err (record { kind = ReadFault })) x.opened;
-    written = elim x.written [ inl w ↦ inl (keeps w) | inr w ↦ inr (begun w.0, appends (b.part x.text) (c.part x.text) (same.part x.text) w.1) ];
+    written = elim x.written [ inl w ↦ inl (w.0, keeps w.1) | inr w ↦ inr (begun w.0, appends (b.part x.text) (c.part x.text) (same.part x.text) w.1) ];
   }
   refused WriteFault x = record {
     text = x.text;
@@ -154,7 +154,7 @@ pass_not_started room keys b old new NoMatchingKey w lost x = record {
 pass_not_started room keys b old new ReadFault w lost x = record {
   text = [];
   opened = (start_refused keys (into [] old) (into [] new) ReadFault refl x, start_reads room keys (into [] old) (into [] new) ReadFault refl lost x);
-  written = inl w;
+  written = inl (refl, w);
 }
 pass_not_started room keys b old new _ w lost x = absurd x
 

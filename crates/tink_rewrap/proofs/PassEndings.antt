@@ -70,7 +70,7 @@ module _ (ks js : List OpeningKey) (k : StreamKey) (aad draws left_draws : List 
     refused_kept ReadFault r = record {
       text = r.text;
       opened = stays.kept r.text (Err (record { kind = ReadFault })) r.opened;
-      written = elim r.written [ inl w ↦ inl (Keeps-trans old.got told new.got w kept) | inr w ↦ inr (stays.begun w.0, all_of (made.part r.text) w.1) ];
+      written = elim r.written [ inl w ↦ inl (w.0, Keeps-trans old.got told new.got w.1 kept) | inr w ↦ inr (stays.begun w.0, all_of (made.part r.text) w.1) ];
     }
     refused_kept WriteFault r = record {
       text = r.text;
@@ -142,7 +142,7 @@ module _ (ks js : List OpeningKey) (k : StreamKey) (aad draws left_draws : List 
     refused_cut begun (Truncated n) r = breaks begun r.text (Err (record { kind = Truncated n })) r.opened (whole_prefix old.got told (made.part r.text) r.written)
     refused_cut begun (BadSegment n) r = breaks begun r.text (Err (record { kind = BadSegment n })) r.opened (whole_prefix old.got told (made.part r.text) r.written)
     refused_cut begun ReadFault r =
-        breaks begun r.text (Err (record { kind = ReadFault })) r.opened (elim r.written [ inl w ↦ kept_prefix old.got told (made.part r.text) w | inr w ↦ whole_prefix old.got told (made.part r.text) w.1 ])
+        breaks begun r.text (Err (record { kind = ReadFault })) r.opened (elim r.written [ inl w ↦ kept_prefix old.got told (made.part r.text) w.1 | inr w ↦ whole_prefix old.got told (made.part r.text) w.1 ])
     refused_cut begun WriteFault r = record {
       text = r.text;
       begun = begun;

@@ -103,7 +103,7 @@ module _ (room : ℕ) (read : ℕ → Bool → List ℕ → List ℕ) (first siz
       first_refused read first size overhead (into [] old) (into [] new) m n ReadFault z same later more refl r,
       first_reads room read first size (into [] old) (into [] new) m n ReadFault x y refl lost r,
     );
-    written = inl w;
+    written = inl (refl, w);
   }
   first_failed old new m n _ z same later more w lost r = absurd r
 

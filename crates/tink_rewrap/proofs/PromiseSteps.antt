@@ -204,7 +204,7 @@ module _ (s : Sides) (draws S G : List ℕ) (old new : Outside) (told : Told old
     refused_unended e may (Truncated n) same x = stops (Truncated n) x
     refused_unended e may (BadSegment n) same x = stops (BadSegment n) x
     refused_unended e may ReadFault same x = elim x.written [
-      | inl w ↦ kept_prefix old.got new.got (made (joined texts)) w
+      | inl w ↦ kept_prefix old.got new.got (made (joined texts)) w.1
       | inr w ↦ of_agreed x.text (agreeing s.from s.from_aad S G l old new told from x.text (Err (record { kind = ReadFault })) x.opened) (whole_prefix old.got new.got (made x.text) w.1)
     ]
     refused_unended e may WriteFault same x = elim x.written [
@@ -244,7 +244,7 @@ module _ (s : Sides) (draws S G : List ℕ) (old new : Outside) (told : Told old
     refused_none TooManySegments (inr x) = absurd (none_until x.opened.texts _ x.opened.stream)
     refused_none (Truncated n) x = absurd (none_until x.opened.texts _ x.opened.stream)
     refused_none (BadSegment n) x = absurd (none_until x.opened.texts _ x.opened.stream)
-    refused_none ReadFault x = elim x.written [ inl w ↦ w | inr w ↦ absurd (no_key w.0) ]
+    refused_none ReadFault x = elim x.written [ inl w ↦ w.1 | inr w ↦ absurd (no_key w.0) ]
     refused_none WriteFault x = absurd (no_key x.begun)
     refused_none _ x = absurd x
 

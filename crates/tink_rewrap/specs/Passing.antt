@@ -102,11 +102,12 @@ module _ (opens : Outside → Outside → Result Report TinkError → Type 0) (l
     pub many : 2 ^ 32 < b.count text
     pub written : Appends old.got new.got (b.longest text)
 
-  -- the source failed: nothing was written, or it begins under a key, and of the text before it no last chunk was written
+  -- the source failed: before any text, and nothing was written, or it begins under a key, and of the text before it no last
+  -- chunk was written
   pub record SourceBroke : Type 0 where
     pub text : List ℕ
     pub opened : opens (into [] old) (into text new) (Err (record { kind = ReadFault }))
-    pub written : Keeps old.got new.got ⊎ (begins old × Appends old.got new.got (b.part text))
+    pub written : ((text ≡ []) × Keeps old.got new.got) ⊎ (begins old × Appends old.got new.got (b.part text))
 
   -- the source was opened whole, and a prefix of the stream of its text was written
   pub record BreaksAtEnd (text : List ℕ) : Type 0 where
