@@ -8,7 +8,7 @@ use Rattle.tink_run.specs.Outside.{Outside, IsUntouched}
 use Rattle.tink_program.specs.declared.program.Outcome.{Outcome}
 use Rattle.tink_program.specs.declared.program.Outcome.TheVariants.{Done, Usage, Refused}
 use Rattle.tink_refusals.specs.Statuses.{kind_status}
-use Rattle.tink_program.specs.Program.{early_statuses, late_statuses, own_statuses, reads_first, refused_statuses, status_of, unwritten_statuses, IsAmong, IsCause, IsEarlyKind, IsReadingFirst, IsUnusableBy, IsUnwrittenBy, IsUnwrittenKind, KeepsEnds, Leaves, StatusMeans}
+use Rattle.tink_program.specs.Program.{early_statuses, late_statuses, own_statuses, reads_first, refused_statuses, status_of, unwritten_statuses, IsAmong, IsCause, IsEarlyKind, IsReadingFirst, IsUnusableBy, IsUnwrittenBy, IsUnwrittenKind, KeepsEnds, Leaves, StatusMeans, TellsNothing}
 use Rattle.tink_run_tokens.specs.Inputs.{IsUnwritten, LeavesSink}
 use Rattle.tink_program.specs.Words.{Asked, SpellNothing, Spells}
 use Rattle.tink_program.specs.Words.Asked.{Making, Measuring, Opening, Ranging, Rewrapping, Rotating, Sealing, Signing, Verifying}
@@ -176,6 +176,12 @@ command_keeps words a (Refused kind) s t k l spelled left = record {
   late = λ b other among. left.1 (late_by a kind (along (λ x. IsAmong (late_statuses x) (kind_status kind)) words b a other spelled among));
   want = λ is. elim (left.2 (want_kind kind is)) [ inl reads ↦ inl (a, spelled, reads) | inr same ↦ inr same ];
 }
+
+-- a status of 0 is that of what was done, of which nothing is told
+pub none_told : {E : Type 0} (outcome : Outcome) (faults faults_after : E) → status_of outcome ≡ 0 → TellsNothing outcome faults faults_after → faults_after ≡ faults
+none_told Done faults faults_after zero same = same
+none_told Usage faults faults_after zero same = absurd (omega (arith, zero))
+none_told (Refused kind) faults faults_after zero same = absurd (omega (arith, zero, above_2 kind))
 
 -- nothing was touched
 pub all_kept : {S K : Type 0} (words : List (List ℕ)) (status : ℕ) (s : S) (k : K) → KeepsEnds words status s s k k

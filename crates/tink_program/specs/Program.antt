@@ -40,6 +40,11 @@ line_of Usage =
     ++ 10 ∷ []
 line_of (Refused kind) = kind_line kind
 
+-- nothing is told of what was done, so that the sink of faults is as it was
+abbrev pub TellsNothing : {E : Type 0} → Outcome → E → E → Type 0
+TellsNothing Done faults faults_after = faults_after ≡ faults
+TellsNothing _ faults faults_after = Unit {0}
+
 -- the outcome that an answer comes to
 abbrev pub answer_outcome : {T : Type 0} → Result T TinkError → Outcome
 answer_outcome (Ok _) = Done

@@ -3,7 +3,7 @@
 ghost use Rattle.std.specs.Prelude.{◌≡◌, ◌≤◌, true};
 ghost use Rattle.tink_io.specs.Written.{WritesOrFaults};
 ghost use Rattle.tink_run.specs.Outside.{outside_of};
-ghost use Rattle.tink_program.specs.Program.{CommandMeans, IsUnwrittenBy, KeepsEnds, Leaves, LeavesSource, OutcomeMeans, ProgramMeans, Promised, Promises, StatusMeans, answer_outcome, line_of, reads_first, status_of, takes_no_input};
+ghost use Rattle.tink_program.specs.Program.{CommandMeans, IsUnwrittenBy, KeepsEnds, Leaves, LeavesSource, OutcomeMeans, ProgramMeans, Promised, Promises, StatusMeans, TellsNothing, answer_outcome, line_of, reads_first, status_of, takes_no_input};
 ghost use Rattle.tink_program.specs.Words.{asked_of};
 ghost use Rattle.tink_words.specs.Forms.{words_of};
 
@@ -32,7 +32,7 @@ pub enum Outcome {
 
 /// Does what the words say, from `source` to `sink`, and answers the status:
 ///
-/// - 0: it was done, and nothing is written to `faults`.
+/// - 0: it was done, and `faults` is as it was.
 /// - 2: the words are none of `seal KEYSET AAD SEED`, `open KEYSET AAD`, `keygen TEMPLATE SEED`,
 ///   `rotate KEYSET TEMPLATE SEED`, `large N`, `range KEYSET AAD START LEN`, `rewrap KEYSET AAD KEYSET AAD SEED`,
 ///   `sign KEYSET` and `verify KEYSET`; the usage line is written.
@@ -80,6 +80,9 @@ pub fn program<S: Source, K: Sink, E: Sink>(
     ensures promised { Promised (words_of words.now)
         (outside_of S.left S.faults K.got K.faults source.old sink.old)
         (outside_of S.left S.faults K.got K.faults source.new sink.new) result }
+
+    // A status of 0 leaves the sink of faults itself as it was.
+    ensures quiet { result ≡ 0 → faults.new ≡ faults.old }
     ensures source { S.same source.old source.new }
     ensures sink { K.same sink.old sink.new }
     ensures faults { E.same faults.old faults.new }
@@ -104,6 +107,7 @@ pub fn status(outcome: Outcome) -> u8
 pub fn tell<E: Sink>(faults: &mut E, outcome: Outcome)
     ensures line { WritesOrFaults (E.got faults.old) (E.got faults.new) (E.faults faults.old) (E.faults faults.new)
         (line_of outcome) }
+    ensures still { TellsNothing outcome faults.old faults.new }
     ensures later { E.faults faults.old ≤ E.faults faults.new }
     ensures same { E.same faults.old faults.new }
 {

@@ -1,4 +1,6 @@
+use Rattle.std.proofs.Common.{sym, ◌∙◌}
 use Rattle.tink_program.proofs.ProgramLemmas.{status_means}
+use Rattle.tink_program.proofs.StatusLemmas.{none_told}
 use Rattle.tink_program.proofs.program.program.Goals as goal
 
 pub returns-clause-means : goal.returns-clause-means
@@ -17,3 +19,6 @@ returns-clause-early g c = rw c.status.ensures c.command-outcome.ensures.early
 
 pub returns-clause-promised : goal.returns-clause-promised
 returns-clause-promised g c = rw c.status.ensures c.command-outcome.ensures.promised
+
+pub returns-clause-quiet : goal.returns-clause-quiet
+returns-clause-quiet g c = λ done. none_told c.command-outcome.result _ _ (sym c.status.ensures ∙ done) c.tell.ensures.still
