@@ -1,15 +1,19 @@
--- What the words of a command over a stream or a token say.
-use Rattle.std.specs.Prelude.{◌≡◌, ℕ, List, [], Option, Some, None, Ok, option_map}
-use Rattle.tink_words.specs.Lines.{LineRead}
+-- What the words of a command over files say.
+use Rattle.std.specs.Prelude.{◌≡◌, ℕ, List, [], Option, Some, None, Ok, codes, option_map, if◌then◌else◌}
+use Rattle.tink_words.specs.Lines.{LineRead, is}
 use Rattle.tink_words.specs.declared.form.Action.{Action}
-use Rattle.tink_words.specs.declared.form.Action.TheVariants.{Decrypt, Encrypt}
-use Rattle.tink_words.specs.declared.form.Action.TheVariants.{Sign as Signing, Verify as Verifying}
+use Rattle.tink_words.specs.declared.form.Action.TheVariants as actions
 use Rattle.tink_key_files.specs.Files.{wire_of}
+use Rattle.tink_key_files.specs.declared.editing.Edit.{Edit}
+use Rattle.tink_key_files.specs.declared.editing.Edit.TheVariants.{Delete, Destroy, Disable, Enable, Promote}
+use Rattle.tink_key_files.specs.declared.formats.Format.{Format}
+use Rattle.tink_key_files.specs.declared.formats.Format.TheVariants.{Binary, Json}
 use Rattle.tink_run.specs.declared.report.Command.TheVariants.{Open, Seal}
 use Rattle.tink_files.specs.declared.tasks.Task.{Task}
 use Rattle.tink_files.specs.declared.tasks.Task.TheVariants.{Rewrap, Run, Sign, Verify}
 use Rattle.tink_commands.specs.declared.job.Job.{Job}
 use Rattle.tink_commands.specs.declared.job.Side.{Side}
+use Rattle.tink_commands.specs.declared.wrapping.Words.{Words}
 
 -- the associated data that a word gives, and else none
 abbrev pub data_of : Option (List ℕ) → List ℕ
@@ -21,12 +25,52 @@ pub record IsSide (file : List ℕ) (aad : Option (List ℕ)) (side : Side) : Ty
   pub keyset : wire_of file ≡ Ok side.keyset
   pub aad_is : side.aad.now ≡ data_of aad
 
+-- a name of a file: a dash is none
+abbrev pub named : Option (List ℕ) → Option (List ℕ)
+named None = None
+named (Some word) = if is word (codes "-") then None else Some word
+
+-- the name of an input, a dash where there is none
+abbrev pub input_of : Option (List ℕ) → List ℕ
+input_of (Some word) = word
+input_of None = codes "-"
+
+-- what the words of a command over a stream or a token say
+pub record IsJob (line : LineRead) (job : Job) : Type 0 where
+  pub aad : job.side.aad.now ≡ data_of line.aad
+  pub new_keys : option_map (λ s. s.now) job.new_keys ≡ line.to
+  pub input : job.input.now ≡ input_of line.first
+  pub output : option_map (λ s. s.now) job.output ≡ named line.output
+  pub quiet : job.is_quiet ≡ line.quiet
+
+-- the format that a word names, and JSON where there is no word
+abbrev pub format_named : Option (List ℕ) → Option Format
+format_named None = Some Json
+format_named (Some word) = if is word (codes "json") then Some Json else (if is word (codes "binary") then Some Binary else None)
+
+-- what the words of a command that keeps a file of keys under others say
+pub record AreWords (line : LineRead) (words : Words) : Type 0 where
+  pub master : Some words.master.now ≡ line.keys
+  pub input : Some words.input.now ≡ line.first
+  pub output : Some words.output.now ≡ line.output
+  pub aad : words.aad.now ≡ data_of line.aad
+  pub format : format_named line.format ≡ Some words.format
+
+-- what a command does with a key
+abbrev pub own_edit : Action → Option Edit
+own_edit actions.Promote = Some Promote
+own_edit actions.Enable = Some Enable
+own_edit actions.Disable = Some Disable
+own_edit actions.Destroy = Some Destroy
+own_edit actions.Delete = Some Delete
+own_edit _ = None
+
 -- what a command makes of its input under its own keys
 abbrev pub own_task : Action → Option Task
-own_task Encrypt = Some (Run Seal)
-own_task Decrypt = Some (Run Open)
-own_task Signing = Some Sign
-own_task Verifying = Some Verify
+own_task actions.Encrypt = Some (Run Seal)
+own_task actions.Decrypt = Some (Run Open)
+own_task actions.Sign = Some Sign
+own_task actions.Verify = Some Verify
 own_task _ = None
 
 -- a move to this keyset, with this data

@@ -1,7 +1,7 @@
 //! Which lines are those of the program over the streams of the process.
 
 ghost use Rattle.std.specs.Prelude.{◌≡◌, ◌||◌};
-ghost use Rattle.tink_commands.specs.Claims.{has_option, is_of_streams, claim_of};
+ghost use Rattle.tink_commands.specs.Claims.{claim_of, has_option, is_of_streams};
 ghost use Rattle.tink_words.specs.Forms.{words_of};
 ghost use Rattle.tink_words.specs.Lines.{words_in};
 

@@ -1,7 +1,7 @@
 //! What the words of a command over a stream or a token say, and how its refusals are told.
 
 ghost use Rattle.std.specs.Prelude.{◌≡◌, IfOk, option_map};
-ghost use Rattle.tink_commands.specs.Jobs.{IsSide, data_of};
+ghost use Rattle.tink_commands.specs.Jobs.{IsJob, IsSide, data_of, input_of, named};
 
 use std::alloc::Global;
 use std::io::IsTerminal;
@@ -32,12 +32,14 @@ pub struct Job<'w> {
 }
 
 /// What the words of a command say. Its keys are read.
-pub fn job_of<'w>(rt: &HostRuntime, line: &Line<'w>) -> Result<Job<'w>, Trouble<'w>> {
+pub fn job_of<'w>(rt: &HostRuntime, line: &Line<'w>) -> Result<Job<'w>, Trouble<'w>>
+    ensures { IfOk result (λ job. IsJob line.now job) }
+{
     let side = side_of(rt, line.keys(), line.aad())?;
     Ok(Job {
         side,
         new_keys: line.to(),
-        input: line.first().unwrap_or("-"),
+        input: input_of(line.first()),
         output: named(line.output()),
         is_quiet: line.is_quiet(),
     })
@@ -48,7 +50,9 @@ pub fn side_of<'w>(
     rt: &HostRuntime,
     keys: Option<&'w str>,
     aad: Option<&'w str>,
-) -> Result<Side<'w>, Trouble<'w>> {
+) -> Result<Side<'w>, Trouble<'w>>
+    ensures { IfOk result (λ side. side.aad.now ≡ data_of (option_map (λ s. s.now) aad.entry)) }
+{
     let Some(keys) = keys else {
         return Err(Trouble::Usage);
     };
@@ -75,7 +79,8 @@ fn side_in<'w>(
     }
 }
 
-fn data_of(word: Option<&str>) -> &str
+/// The associated data that a word gives, and else none.
+pub fn data_of(word: Option<&str>) -> &str
     ensures { result.now ≡ data_of (option_map (λ s. s.now) word.entry) }
 {
     match word {
@@ -84,8 +89,20 @@ fn data_of(word: Option<&str>) -> &str
     }
 }
 
+// The name of an input, a dash where there is none.
+fn input_of(name: Option<&str>) -> &str
+    ensures { result.now ≡ input_of (option_map (λ s. s.now) name.entry) }
+{
+    match name {
+        Some(name) => name,
+        None => "-",
+    }
+}
+
 /// A name of a file; a dash is none.
-pub fn named(name: Option<&str>) -> Option<&str> {
+pub fn named(name: Option<&str>) -> Option<&str>
+    ensures { option_map (λ s. s.now) result ≡ named (option_map (λ s. s.now) name.entry) }
+{
     match name {
         None | Some("-") => None,
         Some(name) => Some(name),

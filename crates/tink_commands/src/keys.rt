@@ -1,6 +1,8 @@
 //! The commands on files of keys.
 
-ghost use Rattle.std.specs.Prelude.{◌≡◌, OnOk};
+ghost use Rattle.std.specs.Prelude.{◌≡◌, Some, None, false, IfErr, IfOk, OnErr, OnOk};
+ghost use Rattle.tink_commands.specs.Jobs.{format_named, own_edit};
+ghost use Rattle.tink_system.specs.Statuses.{trouble_status};
 
 use tink_files::{edit_keys, new_keys, rotate_keys};
 use tink_io::{Kind, StdSink, TinkError, write_all};
@@ -74,7 +76,8 @@ fn read_or_end<'w>(
     path: &'w str,
     place: &mut RealPlace<'_>,
 ) -> Result<Vec<u8>, Trouble<'w>>
-    ensures { OnOk result (place.new.is_drafted ≡ place.old.is_drafted) }
+    ensures stays { OnOk result (place.new.is_drafted ≡ place.old.is_drafted) }
+    ensures gone { OnErr result (place.new.is_drafted ≡ false) }
 {
     match read_keys(rt, path) {
         Ok(file) => Ok(file),
@@ -109,7 +112,10 @@ fn blamed<'w>(e: TinkError, template: &'w str, path: &'w str) -> Trouble<'w> {
 }
 
 /// The format of a new file: JSON unless another is named.
-pub fn format_of(line: &Line<'_>) -> Result<Format, Trouble<'static>> {
+pub fn format_of(line: &Line<'_>) -> Result<Format, Trouble<'static>>
+    ensures named { IfOk result (λ format. format_named line.now.format ≡ Some format) }
+    ensures refused { IfErr result (λ t. (format_named line.now.format ≡ None) × (trouble_status t ≡ 2)) }
+{
     match line.format() {
         None | Some("json") => Ok(Format::Json),
         Some("binary") => Ok(Format::Binary),
@@ -117,7 +123,10 @@ pub fn format_of(line: &Line<'_>) -> Result<Format, Trouble<'static>> {
     }
 }
 
-fn edit_of(action: Action) -> Option<Edit> {
+// What a command does with a key.
+fn edit_of(action: Action) -> Option<Edit>
+    ensures { result ≡ own_edit action }
+{
     match action {
         Action::Promote => Some(Edit::Promote),
         Action::Enable => Some(Edit::Enable),

@@ -1,5 +1,10 @@
 //! The commands that keep a file of keys under a master keyset.
 
+ghost use Rattle.std.specs.Prelude.{◌≡◌, IfErr, IfOk};
+ghost use Rattle.tink_commands.specs.Jobs.{AreWords};
+ghost use Rattle.tink_system.specs.Statuses.{trouble_status};
+
+use crate::job::data_of;
 use crate::keys::format_of;
 use tink_files::{unwrap_keys, wrap_keys};
 use tink_io::Kind;
@@ -69,7 +74,10 @@ fn unwrap_by<'w>(rt: &HostRuntime, words: Words<'w>, master: &Master) -> Result<
     }
 }
 
-fn words_of<'w>(line: &Line<'w>) -> Result<Words<'w>, Trouble<'w>> {
+fn words_of<'w>(line: &Line<'w>) -> Result<Words<'w>, Trouble<'w>>
+    ensures words { IfOk result (λ words. AreWords line.now words) }
+    ensures refused { IfErr result (λ t. trouble_status t ≡ 2) }
+{
     let (Some(master), Some(output), Some(input)) = (line.keys(), line.output(), line.first())
     else {
         return Err(Trouble::Usage);
@@ -79,7 +87,7 @@ fn words_of<'w>(line: &Line<'w>) -> Result<Words<'w>, Trouble<'w>> {
         master,
         input,
         output,
-        aad: line.aad().unwrap_or(""),
+        aad: data_of(line.aad()),
         format,
     })
 }
