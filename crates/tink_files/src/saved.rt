@@ -12,7 +12,8 @@ use tink_proto::Bytes;
 /// Saves the bytes that a call made, behind what the draft has. Where it made none the draft is taken away.
 ///
 /// # Errors
-/// The call's, and `WriteFault` where the draft could not be written or shown: what was shown stays.
+/// The call's, `OutOfMemory` among them, and `WriteFault` where the draft could not be written or shown: what was shown
+/// stays.
 pub fn save_answer<P: Place>(
     place: &mut P,
     answer: Result<Bytes, TinkError>,

@@ -13,7 +13,7 @@ use tink_keyset_io::read_whole;
 // The most bytes of input.
 const MOST: usize = 16_777_216;
 
-/// All bytes that the source has left, 16,777,216 at most. Of a longer input one byte more is taken.
+/// All bytes that the source has left, 16,777,216 at most. Of a longer input at most one byte more is taken.
 ///
 /// # Errors
 /// `ReadFault` where the source failed; `InputTooLong` exactly where it has more; `OutOfMemory`.

@@ -21,7 +21,7 @@ use tink_tokens::{sign, verify};
 /// # Errors
 /// The first that applies: `BadKeyset`, `InvalidKeyset`, `UnsupportedKeyType`, `InvalidKey`, `NoPrimary` or
 /// `WrongPrimitive`, why the keyset does not load as MACs, with nothing read; `ReadFault`; `InputTooLong` exactly where
-/// the source has more than 16,777,216 bytes, of which one more was taken; `WriteFault` after a prefix of the token.
+/// the source has more than 16,777,216 bytes, of which at most one more was taken; `WriteFault` after a prefix of the token.
 /// `OutOfMemory` may come in place of each. Each but `WriteFault` leaves the sink as it is.
 pub fn write_token<S: Source, K: Sink>(
     alloc: Global,
