@@ -1,5 +1,5 @@
 -- What the words of a command over files say.
-use Rattle.std.specs.Prelude.{◌≡◌, ℕ, List, [], Option, Some, None, Ok, codes, option_map, if◌then◌else◌}
+use Rattle.std.specs.Prelude.{◌≡◌, ◌^◌, ◌-◌, ℕ, List, [], Option, Some, None, Ok, codes, option_map, if◌then◌else◌}
 use Rattle.tink_words.specs.Lines.{LineRead, is}
 use Rattle.tink_words.specs.declared.form.Action.{Action}
 use Rattle.tink_words.specs.declared.form.Action.TheVariants as actions
@@ -8,6 +8,7 @@ use Rattle.tink_key_files.specs.declared.editing.Edit.{Edit}
 use Rattle.tink_key_files.specs.declared.editing.Edit.TheVariants.{Delete, Destroy, Disable, Enable, Promote}
 use Rattle.tink_key_files.specs.declared.formats.Format.{Format}
 use Rattle.tink_key_files.specs.declared.formats.Format.TheVariants.{Binary, Json}
+use Rattle.tink_program.specs.Words.{IsNumberWord}
 use Rattle.tink_run.specs.declared.report.Command.TheVariants.{Open, Seal}
 use Rattle.tink_files.specs.declared.tasks.Task.{Task}
 use Rattle.tink_files.specs.declared.tasks.Task.TheVariants.{Rewrap, Run, Sign, Verify}
@@ -42,6 +43,11 @@ pub record IsJob (line : LineRead) (job : Job) : Type 0 where
   pub input : job.input.now ≡ input_of line.first
   pub output : option_map (λ s. s.now) job.output ≡ named line.output
   pub quiet : job.is_quiet ≡ line.quiet
+
+-- the number that a word writes
+abbrev pub IsNumberOf : Option (List ℕ) → ℕ → Type 0
+IsNumberOf (Some word) n = IsNumberWord (2 ^ 64 - 1) word n
+IsNumberOf None n = ⊥
 
 -- the format that a word names, and JSON where there is no word
 abbrev pub format_named : Option (List ℕ) → Option Format

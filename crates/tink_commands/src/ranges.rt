@@ -1,12 +1,15 @@
 //! The command over a range of a stream's text.
 
-ghost use Rattle.std.specs.Prelude.{◌≡◌, ◌<◌};
+ghost use Rattle.std.specs.Prelude.{◌≡◌, ◌⊎◌, ◌<◌, ℕ, IfOk, IfErr, option_map};
+ghost use Rattle.tink_commands.specs.Jobs.{IsNumberOf};
+ghost use Rattle.tink_system.specs.Statuses.{trouble_status};
 
 use crate::job::{Job, job_of, named};
 use std::marker::Brand;
 use std::sync::ledger::{Blank, Ledger};
 use tink_files::range_to;
 use tink_io::{StdSink, TinkError};
+use tink_program::number_of;
 use tink_range::Steps;
 use tink_run_range::run_range;
 use tink_system::real_at::RealAt;
@@ -16,9 +19,8 @@ use tink_words::Line;
 
 /// `range -k KEYS [--aad TEXT] [-o OUT] --start N --length N IN`
 pub fn range<'w>(rt: &HostRuntime, line: &Line<'w>) -> Result<(), Trouble<'w>> {
-    let (Some(start), Some(length)) = (number_of(line.start()), number_of(line.length())) else {
-        return Err(Trouble::Usage);
-    };
+    let start = number_in(rt, line.start())?;
+    let length = number_in(rt, line.length())?;
     let job = job_of(rt, line)?;
     if named(Some(job.input)).is_none() {
         return Err(Trouble::Unusable(
@@ -106,12 +108,18 @@ fn to_output<L: Ledger>(
     )
 }
 
-// The number of a word in decimal digits, without a zero before them.
-fn number_of(word: Option<&str>) -> Option<u64> {
-    let word = word?;
-    match word.as_bytes() {
-        [b'0'] => Some(0),
-        [b'1'..=b'9', ..] => word.parse::<u64>().ok(),
-        _ => None,
+// The number of a word.
+fn number_in(rt: &HostRuntime, word: Option<&str>) -> Result<u64, Trouble<'static>>
+    ensures number { IfOk result (λ n. IsNumberOf (option_map (λ s. s.now) word.entry) n) }
+    ensures refused { IfErr result (λ t. (trouble_status t ≡ 10) ⊎ ((trouble_status t ≡ 2)
+        × ((n : ℕ) → IsNumberOf (option_map (λ s. s.now) word.entry) n → ⊥))) }
+{
+    let Some(word) = word else {
+        return Err(Trouble::Usage);
+    };
+    match number_of(rt.alloc(), word, u64::MAX) {
+        Ok(Some(number)) => Ok(number),
+        Ok(None) => Err(Trouble::Usage),
+        Err(e) => Err(Trouble::Refused("tink", e.kind)),
     }
 }

@@ -7,3 +7,5 @@ pub mod program;
 mod ranges;
 mod streams;
 mod words;
+
+pub use words::number_of;

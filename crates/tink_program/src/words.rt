@@ -305,8 +305,11 @@ fn parse_rewrap(alloc: Global, words: &Vec<String>) -> Result<Option<RewrapArgs>
     }))
 }
 
-// The number of a word that writes it as it is printed, of at most so many.
-fn number_of(alloc: Global, word: &str, most: u64) -> Result<Option<u64>, TinkError>
+/// The number that a word writes as it is printed, in decimal digits with no zero before them, of at most so many.
+///
+/// # Errors
+/// `OutOfMemory`.
+pub fn number_of(alloc: Global, word: &str, most: u64) -> Result<Option<u64>, TinkError>
     ensures found { IfOk result (λ o. IfSome o (λ n. IsNumberWord most word.now n)) }
     ensures none { IfOk result (λ o. IfNone o ((n : ℕ) → IsNumberWord most word.now n → ⊥)) }
     ensures refused { IfErr result (λ e. e ≡ record { kind = OutOfMemory }) }
