@@ -126,7 +126,8 @@ impl Place for MemPlace {
 
     fn discard(&mut self)
         ensures gone { self.new.has_draft ≡ false }
-        ensures shown { Some (option_map (λ v. v.items) self.new.shown) ≡ Some (option_map (λ v. v.items) self.old.shown) }
+        ensures shown { Some (option_map (λ v. v.items) self.new.shown)
+            ≡ Some (option_map (λ v. v.items) self.old.shown) }
         ensures faults { self.old.faults ≤ self.new.faults }
         ensures none { LeavesNone self.old self.new }
     {

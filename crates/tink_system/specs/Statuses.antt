@@ -25,5 +25,5 @@ trouble_status (NoMatch file keys) = 21
 trouble_status (Unusable file why status) = status
 
 -- a refusal of this status, or for want of memory
-abbrev pub IsOf : ℕ → Trouble → Type 0
-IsOf status trouble = (trouble_status trouble ≡ status) ⊎ (trouble_status trouble ≡ 10)
+abbrev pub IsOfStatus : ℕ → Trouble → Type 0
+IsOfStatus status trouble = (trouble_status trouble ≡ status) ⊎ (trouble_status trouble ≡ 10)

@@ -1,7 +1,7 @@
 //! What is read of the system.
 
 ghost use Rattle.std.specs.Prelude.{◌≡◌, ◌⊎◌, ◌≤◌, ◌^◌, IfOk, IfErr, length};
-ghost use Rattle.tink_system.specs.Statuses.{IsOf, trouble_status};
+ghost use Rattle.tink_system.specs.Statuses.{IsOfStatus, trouble_status};
 
 use crate::trouble::{Trouble, unreadable};
 use std::fs::File;
@@ -18,7 +18,7 @@ const DRAWN: usize = 1024;
 /// The bytes of a file of keys.
 pub fn read_keys<'w>(rt: &HostRuntime, path: &'w str) -> Result<Vec<u8>, Trouble<'w>>
     ensures short { IfOk result (λ v. length v.items ≤ 2 ^ 26) }
-    ensures refused { IfErr result (λ t. IsOf 11 t ⊎ (trouble_status t ≡ 13)) }
+    ensures refused { IfErr result (λ t. IsOfStatus 11 t ⊎ (trouble_status t ≡ 13)) }
 {
     let file = match File::open(rt, path) {
         Ok(file) => file,
@@ -38,7 +38,7 @@ pub fn read_keys<'w>(rt: &HostRuntime, path: &'w str) -> Result<Vec<u8>, Trouble
 /// 1,024 random bytes of the system.
 pub fn draws(rt: &HostRuntime) -> Result<Draws, Trouble<'static>>
     ensures drawn { IfOk result (λ d. length d ≡ 1024) }
-    ensures refused { IfErr result (IsOf 35) }
+    ensures refused { IfErr result (IsOfStatus 35) }
 {
     let mut bytes = [0u8; DRAWN];
     if rt.fill_bytes(&mut bytes).is_err() {

@@ -1,7 +1,7 @@
 //! A file of the system as an object that is read in any place. It tells no bytes.
 
 ghost use Rattle.std.specs.Prelude.{◌≡◌, ◌≤◌, ◌<◌, ◌-◌, ⊤, length, None, IfOk, IfErr};
-ghost use Rattle.tink_system.specs.Statuses.{IsOf};
+ghost use Rattle.tink_system.specs.Statuses.{IsOfStatus};
 
 use crate::meter::Meter;
 use crate::trouble::{Trouble, unreadable};
@@ -33,7 +33,7 @@ impl RealAt {
         may_tell: bool,
     ) -> Result<RealAt, Trouble<'w>>
         ensures made { IfOk result (λ a. a.faults ≡ 0) }
-        ensures refused { IfErr result (IsOf 11) }
+        ensures refused { IfErr result (IsOfStatus 11) }
     {
         let file = match File::open(rt, name) {
             Ok(file) => file,

@@ -1,7 +1,7 @@
 //! A file of the system that appears whole or not at all: the edge that is trusted. It tells no bytes.
 
 ghost use Rattle.std.specs.Prelude.{◌≡◌, [], IfOk, IfErr, OnOk, None, true, false};
-ghost use Rattle.tink_system.specs.Statuses.{IsOf};
+ghost use Rattle.tink_system.specs.Statuses.{IsOfStatus};
 
 use crate::trouble::{Trouble, unwritable};
 use std::fs::{File, OpenFile, OpenOptions};
@@ -34,7 +34,7 @@ impl<'a> RealPlace<'a> {
     /// A draft for a file that may be there, and is replaced then.
     pub fn over<'w>(rt: &'a HostRuntime, name: &'w str) -> Result<RealPlace<'a>, Trouble<'w>>
         ensures made { IfOk result (λ p. (p.is_drafted ≡ true) × (p.is_replacing ≡ true) × (p.faults ≡ 0)) }
-        ensures refused { IfErr result (IsOf 12) }
+        ensures refused { IfErr result (IsOfStatus 12) }
     {
         require_file(rt, name)?;
         let target = target_of(rt, name)?;
@@ -47,7 +47,7 @@ impl<'a> RealPlace<'a> {
     /// A draft for a file that is not there yet.
     pub fn fresh<'w>(rt: &'a HostRuntime, name: &'w str) -> Result<RealPlace<'a>, Trouble<'w>>
         ensures made { IfOk result (λ p. (p.is_drafted ≡ true) × (p.is_replacing ≡ false) × (p.faults ≡ 0)) }
-        ensures refused { IfErr result (IsOf 12) }
+        ensures refused { IfErr result (IsOfStatus 12) }
     {
         if fs::symlink_metadata(rt, name).is_ok() {
             return Err(Trouble::Unusable(
@@ -69,7 +69,7 @@ impl<'a> RealPlace<'a> {
     /// A draft for a file that is there, of which there is one at a time.
     pub fn only<'w>(rt: &'a HostRuntime, name: &'w str) -> Result<RealPlace<'a>, Trouble<'w>>
         ensures made { IfOk result (λ p. (p.is_drafted ≡ true) × (p.is_replacing ≡ true) × (p.faults ≡ 0)) }
-        ensures refused { IfErr result (IsOf 12) }
+        ensures refused { IfErr result (IsOfStatus 12) }
     {
         require_file(rt, name)?;
         let target = target_of(rt, name)?;
@@ -127,7 +127,7 @@ impl<'a> RealPlace<'a> {
 
 // Something else than a file under the name is not replaced.
 fn require_file<'w>(rt: &HostRuntime, name: &'w str) -> Result<(), Trouble<'w>>
-    ensures refused { IfErr result (IsOf 12) }
+    ensures refused { IfErr result (IsOfStatus 12) }
 {
     match fs::metadata(rt, name) {
         Ok(found) if !found.is_file() => Err(Trouble::Unusable(
@@ -141,7 +141,7 @@ fn require_file<'w>(rt: &HostRuntime, name: &'w str) -> Result<(), Trouble<'w>>
 
 // The file that a name stands for, behind all symbolic links.
 fn target_of<'w>(rt: &HostRuntime, name: &'w str) -> Result<String, Trouble<'w>>
-    ensures refused { IfErr result (IsOf 12) }
+    ensures refused { IfErr result (IsOfStatus 12) }
 {
     let made = match fs::canonicalize(rt, name) {
         Ok(path) => String::from_str(rt.alloc(), path.as_str()),
@@ -171,7 +171,7 @@ fn begin<'a, 'w>(
     is_replacing: bool,
 ) -> Result<RealPlace<'a>, Trouble<'w>>
     ensures made { IfOk result (λ p. (p.is_drafted ≡ true) × (p.is_replacing ≡ is_replacing) × (p.faults ≡ 0)) }
-    ensures refused { IfErr result (IsOf 12) }
+    ensures refused { IfErr result (IsOfStatus 12) }
 {
     match open_twice(rt, draft.as_str()) {
         Ok((file, other, waiting)) => Ok(RealPlace {

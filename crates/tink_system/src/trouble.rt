@@ -1,7 +1,7 @@
 //! Why a command ended without success, and what is told of it.
 
 ghost use Rattle.std.specs.Prelude.{◌≡◌};
-ghost use Rattle.tink_system.specs.Statuses.{IsOf, refusal_status, trouble_status};
+ghost use Rattle.tink_system.specs.Statuses.{IsOfStatus, refusal_status, trouble_status};
 
 use std::io;
 use std::io::ErrorKind;
@@ -23,7 +23,7 @@ pub enum Trouble<'w> {
 
 /// What hinders a file from being read.
 pub fn unreadable(file: &str, e: io::Error) -> Trouble<'_>
-    ensures { IsOf 11 result }
+    ensures { IsOfStatus 11 result }
 {
     match e.kind() {
         ErrorKind::NotFound => Trouble::Unusable(file, "there is no such file", 11),
@@ -35,7 +35,7 @@ pub fn unreadable(file: &str, e: io::Error) -> Trouble<'_>
 
 /// What hinders a file from being written.
 pub fn unwritable(file: &str, e: io::Error) -> Trouble<'_>
-    ensures { IsOf 12 result }
+    ensures { IsOfStatus 12 result }
 {
     match e.kind() {
         ErrorKind::NotFound => Trouble::Unusable(file, "its folder is not there", 12),
