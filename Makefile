@@ -8,7 +8,7 @@ all:
 
 install: all
 	install -d "$(DESTDIR)$(PREFIX)/bin"
-	install -m 755 crates/tink_front/out/tink_front "$(DESTDIR)$(PREFIX)/bin/tink"
+	install -m 755 crates/tink_tool/out/tink_tool "$(DESTDIR)$(PREFIX)/bin/tink"
 
 uninstall:
 	rm -f "$(DESTDIR)$(PREFIX)/bin/tink"

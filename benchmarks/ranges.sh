@@ -7,7 +7,7 @@ root=$(dirname -- "$(dirname -- "$(readlink -f -- "${BASH_SOURCE[0]}")")")
 "$root/tink" --version >&2
 folder=$(mktemp -d)
 trap 'rm -rf "$folder"' EXIT
-python3 - "$root/crates/tink_front/out/tink_front" "${1:-3}" "$folder" <<'PY'
+python3 - "$root/crates/tink_tool/out/tink_tool" "${1:-3}" "$folder" <<'PY'
 import os, random, resource, subprocess, sys
 
 tink, rounds, folder = sys.argv[1], int(sys.argv[2]), sys.argv[3]

@@ -1,24 +1,23 @@
-//! Makes and rotates Tink keysets, and seals and opens streams under them.
+//! tink: keys in files, and files and streams encrypted under them.
 #![tactic(auto)]
 
 use std::env;
 use std::io::ErrorKind;
 use std::process::ExitCode;
-use tink_io::{Kind, StdSink, StdSource};
-use tink_program::program::{Outcome, program, status, tell};
+use tink_commands::run;
+use tink_io::{Kind, StdSink};
+use tink_program::program::{Outcome, status, tell};
+use tink_system::trouble::{self, Trouble};
 
 fn main(rt: HostRuntime) -> ExitCode {
-    let mut faults = StdSink::new(rt.stderr());
-    let words = match words_of(&rt) {
-        Ok(words) => words,
+    match words_of(&rt) {
+        Ok(words) => ExitCode::from(run(&rt, &words)),
+        Err(Outcome::Usage) => ExitCode::from(trouble::tell(&rt, Trouble::Usage)),
         Err(outcome) => {
-            tell(&mut faults, outcome);
-            return ExitCode::from(status(outcome));
+            tell(&mut StdSink::new(rt.stderr()), outcome);
+            ExitCode::from(status(outcome))
         }
-    };
-    let mut source = StdSource::new(rt.stdin());
-    let mut sink = StdSink::new(rt.stdout());
-    ExitCode::from(program(rt.alloc(), &words, &mut source, &mut sink, &mut faults))
+    }
 }
 
 // The words after the program's name, or how the program ends where they are not UTF-8 or there is

@@ -1,6 +1,4 @@
-//! An example, for benchmarks: prints to standard error how fast AES is block by block, over many blocks together, and
-//! in counter mode.
-#![tactic(auto)]
+//! How fast AES is block by block, over many blocks together, and in counter mode.
 
 use aes_block::Aes128;
 use cipher::{BlockCipherDecrypt, BlockCipherEncrypt, KeyInit, KeyIvInit};
@@ -27,7 +25,11 @@ struct Times {
     apply_keystream: u128,
 }
 
-fn main(rt: HostRuntime) -> io::Result<()> {
+/// Times rounds of each, and prints to standard error how fast they were.
+///
+/// # Errors
+/// Those of the clock and of standard error, and OutOfMemory.
+pub(crate) fn run(rt: HostRuntime) -> io::Result<()> {
     let mut blocks = vec![in rt.alloc(); [0u8; 16]; BLOCKS]?;
     let mut bytes = vec![in rt.alloc(); 0u8; 16 * BLOCKS]?;
     let mut times = Times {
