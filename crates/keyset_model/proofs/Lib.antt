@@ -1,6 +1,7 @@
 pub mod EditLaws
 mod EditFacts
 pub mod EnabledLaw
+pub mod FirstPlaces
 pub mod FreshIds
 pub mod IdsLaw
 pub mod KeysLaw

@@ -4,6 +4,7 @@ pub mod Edits
 pub mod Entries
 pub mod Keys
 pub mod Laws
+pub mod Places
 pub mod Secrets
 pub mod Spared
 pub mod Validity

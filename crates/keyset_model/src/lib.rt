@@ -1,2 +1,4 @@
-//! What a valid keyset is, for contracts to cite. There is no code here.
+//! What a valid keyset is and what commands make of one, for contracts to cite, and edits of the first key of an id.
 #![tactic(auto)]
+
+pub mod places;

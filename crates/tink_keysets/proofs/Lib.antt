@@ -1,5 +1,4 @@
 pub mod AddingFacts
-pub mod FirstPlaces
 pub mod GivenData
 pub mod Masters
 pub mod ReadBack

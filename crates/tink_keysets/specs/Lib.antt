@@ -3,7 +3,6 @@ pub mod Encrypted
 pub mod Ends
 pub mod Handles
 pub mod Managed
-pub mod Places
 pub mod Through
 pub mod Told
 pub mod Valid

@@ -11,7 +11,6 @@ pub mod insecure;
 mod laws;
 mod manager_type;
 mod memory;
-mod places;
 mod plain;
 mod reading;
 mod validation;

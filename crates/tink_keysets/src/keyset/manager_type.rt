@@ -12,7 +12,7 @@ use crate::keyset::Handle;
 use crate::keyset::adding::{new_data, put_key};
 use crate::keyset::copies::copy_all;
 use crate::keyset::fresh_ids::draw_id;
-use crate::keyset::places::{
+use keyset_model::places::{
     is_known_status, is_live, place_of, put_destroyed, put_status, take_out,
 };
 use std::alloc::Global;

@@ -5,7 +5,7 @@ use Rattle.std.specs.Prelude.{find}
 use Rattle.tink_proto.specs.declared.messages.keys.Key.{Key}
 use Rattle.keyset_model.specs.Keys.{has_id}
 use Rattle.keyset_model.specs.Edits.{with_first, without_first}
-use Rattle.tink_keysets.specs.Places.{IsPlace}
+use Rattle.keyset_model.specs.Places.{IsPlace}
 
 -- the keys before a place have other ids
 pub record Passed (keys : List Key) (id i : ℕ) : Type 0 where

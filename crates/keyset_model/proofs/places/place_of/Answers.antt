@@ -1,6 +1,6 @@
 use Rattle.std.proofs.Common.{◌<◌, length, arith}
-use Rattle.tink_keysets.proofs.FirstPlaces.{at_place}
-use Rattle.tink_keysets.proofs.keyset.places.place_of.Goals as goal
+use Rattle.keyset_model.proofs.FirstPlaces.{at_place}
+use Rattle.keyset_model.proofs.places.place_of.Goals as goal
 
 pub returns-then-key-id-clause-place : goal.returns-then-key-id-clause-place
 returns-then-key-id-clause-place c =

@@ -1,7 +1,7 @@
 use Rattle.std.proofs.Common.{◌∙◌, sym, ap, set}
 use Rattle.std.proofs.lemmas.Int.{to_z-of_z}
 use Rattle.tink_proto.specs.declared.messages.keys.Key.{Key}
-use Rattle.tink_keysets.proofs.keyset.places.put_number.Goals as goal
+use Rattle.keyset_model.proofs.places.put_number.Goals as goal
 
 pub returns : goal.returns
 returns c =
