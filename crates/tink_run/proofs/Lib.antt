@@ -2,7 +2,6 @@ pub mod RunLemmas
 pub mod OpenLemmas
 pub mod Promises
 pub mod EndingSteps
-pub mod PourSteps
 pub mod SealSteps
 pub mod LoadLemmas
 pub mod ReadOut

@@ -26,7 +26,8 @@ use Rattle.tink_run.specs.declared.report.Report.{Report}
 use Rattle.tink_run.specs.Outside.{Outside, IsUntouched}
 use Rattle.tink_run.specs.Run.{IsEarly, LeavesEnds}
 use Rattle.tink_run.specs.SealAnswers.{IsSealedWhole, SourceFailed, SinkFailed, IsTooLong, SealingMeans, SealingRefused, SealMeans, SealRefused}
-use Rattle.tink_run.specs.SealSteps.{HasNoKeys, IsPoured, PourRefused, IsUnderWay, SealsUnder, SealsUnderRefused, kind_not_begun}
+use Rattle.tink_run.specs.SealSteps.{HasNoKeys, IsUnderWay, SealsUnder, SealsUnderRefused, kind_not_begun}
+use Rattle.tink_streams.specs.Pouring.{IsPoured, PourRefused}
 
 -- a key, its draws and the keys derived from them
 module _ (k : StreamKey) (aad salt prefix keys : List ℕ) (e : keys_of k aad salt ≡ Some keys) where

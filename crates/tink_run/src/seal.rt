@@ -1,16 +1,15 @@
-ghost use Rattle.std.specs.Prelude.{◌≡◌, ◌≤◌, ◌<◌, [], length};
-ghost use Rattle.tink_streams.specs.declared.writing.Mode.TheVariants.{Open};
+ghost use Rattle.std.specs.Prelude.{◌≡◌};
 ghost use Rattle.tink_stream_keys.specs.StreamKinds.{key_in_set};
-ghost use Rattle.tink_streams.specs.Sealers.{held_text, segment_map, writer_moment};
 ghost use Rattle.tink_run.specs.Outside.{FaultsStay, outside_of};
 ghost use Rattle.tink_run.specs.Run.{LeavesEnds};
-ghost use Rattle.tink_run.specs.SealSteps.{PourMeans, SealsUnder, kind_not_begun};
+ghost use Rattle.tink_run.specs.SealSteps.{SealsUnder, kind_not_begun};
 
 use crate::report::Report;
 use std::alloc::Global;
 use tink_io::{Draws, Kind, Sink, Source, TinkError};
 use tink_sets::TypedEntry;
-use tink_streaming_aead::{SegmentEncrypter, SegmentWriter, StreamKind, begin_stream};
+use tink_streaming_aead::{StreamKind, begin_stream};
+use tink_streams::pour;
 
 /// Bytes that are read at once.
 const PIECE: usize = 65536;
@@ -59,42 +58,5 @@ pub fn not_begun(error: TinkError) -> TinkError
     match error.kind {
         Kind::UnknownHash => TinkError::new(Kind::UnsupportedHash),
         _ => error,
-    }
-}
-
-/// Writes all that the source has left, and answers how many bytes these are.
-///
-/// # Errors
-/// ReadFault, and the writer's.
-fn pour<S: Source, K: Sink, E: SegmentEncrypter + Drop>(
-    writer: &mut SegmentWriter<E>,
-    piece: &mut [u8],
-    source: &mut S,
-    sink: &mut K,
-) -> Result<u64, TinkError>
-    requires open { writer.old.mode ≡ Open }
-    requires fresh { writer.old.segments ≡ 0 }
-    requires empty { held_text writer.old ≡ [] }
-    requires piece { 0 < length piece.old }
-    ensures answer { PourMeans (segment_map writer.old.sealer) writer.old.sealer.first writer.old.sealer.room
-        (S.left source.old) (S.left source.new) (S.faults source.old) (S.faults source.new)
-        (writer_moment K.got K.faults writer.old sink.old) (writer_moment K.got K.faults writer.new sink.new)
-        result }
-    ensures sealer { writer.new.sealer ≡ writer.old.sealer }
-    ensures read_count { S.faults source.old ≤ S.faults source.new }
-    ensures write_count { K.faults sink.old ≤ K.faults sink.new }
-    ensures source { S.same source.old source.new }
-    ensures sink { K.same sink.old sink.new }
-{
-    let mut bytes: u64 = 0;
-    loop {
-        match source.read(piece) {
-            Ok(0) => return Ok(bytes),
-            Ok(n) => {
-                writer.write(sink, &piece[..n])?;
-                bytes += n as u64;
-            }
-            Err(_) => return Err(TinkError::new(Kind::ReadFault)),
-        }
     }
 }

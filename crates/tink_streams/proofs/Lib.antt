@@ -10,3 +10,4 @@ pub mod FullFacts
 pub mod WriterCallers
 pub mod TextFacts
 pub mod TextLaws
+pub mod PourSteps

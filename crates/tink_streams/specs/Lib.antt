@@ -11,3 +11,4 @@ pub mod Openers
 pub mod Keeping
 pub mod Rooms
 pub mod Trials
+pub mod Pouring

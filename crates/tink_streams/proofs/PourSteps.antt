@@ -11,7 +11,7 @@ use Rattle.stream_model.specs.Cut.{full_chunks}
 use Rattle.stream_model.proofs.CutFacts.{full_chunks_more}
 use Rattle.tink_streams.specs.Writing.{WriterMoment, Wrote, WriteRefused}
 use Rattle.tink_streams.proofs.WritingFacts.{IsFresh, fresh_filled, wrote_nothing, wrote_more, refused_more}
-use Rattle.tink_run.specs.SealSteps.{IsPoured, PourRefused}
+use Rattle.tink_streams.specs.Pouring.{IsPoured, PourRefused}
 
 fits_or_not : (m n : ℕ) → (m ≤ n) ⊎ (n < m)
 fits_or_not zero n = inl (omega arith)

@@ -2,8 +2,8 @@
 use Rattle.std.proofs.Common.{◌≡◌, ◌≤◌, ◌-◌, ◌^◌}
 use Rattle.stream_model.specs.Cut.{numbered}
 use Rattle.tink_streams.specs.Sealers.{held_text}
-use Rattle.tink_run.specs.SealSteps.{IsPoured}
-use Rattle.tink_run.proofs.seal.pour.Given as goal
+use Rattle.tink_streams.specs.Pouring.{IsPoured}
+use Rattle.tink_streams.proofs.pouring.pour.Given as goal
 
 abbrev pub invariant-loop-n : goal.invariant-loop-n
 invariant-loop-n g l = record {

@@ -3,8 +3,8 @@ use Rattle.std.proofs.lemmas.List.{length-take}
 use Rattle.std.proofs.lemmas.Result.{err_from_is_err_and}
 use Rattle.std.proofs.KnownBytes.{Consumes-kept}
 use Rattle.tink_io.proofs.FaultLemmas.{Rose-earlier}
-use Rattle.tink_run.proofs.PourSteps.{few_bytes, poured_none, poured_more, pour_refused}
-use Rattle.tink_run.proofs.seal.pour.Goals as goal
+use Rattle.tink_streams.proofs.PourSteps.{few_bytes, poured_none, poured_more, pour_refused}
+use Rattle.tink_streams.proofs.pouring.pour.Goals as goal
 
 pub loop-n-init : goal.loop-n-init
 loop-n-init g c = record {
