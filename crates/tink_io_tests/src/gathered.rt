@@ -67,7 +67,7 @@ fn pattern(alloc: Global) -> Result<Vec<u8>, TinkError> {
 }
 
 // The lengths of pieces, how many bytes a call of the sink takes (0: all), which call fails, and what is told.
-const ROWS: [(&[usize], usize, u32, Told); 16] = [
+const ROWS: &[(&[usize], usize, u32, Told)] = &[
     (&[], 0, 1, (0, true, 0, true)),
     (&[1], 0, 1, (0, true, 0, false)),
     (&[1], 0, 2, (0, true, 1, true)),
@@ -91,8 +91,8 @@ fn pieces_wait_for_the_next_ones(rt: HostRuntime) -> Result<(), Fail> {
     let alloc = rt.alloc();
     let text = pattern(alloc)?;
     for (lengths, piece, fails, want) in ROWS {
-        let (told, bytes) = gather(alloc, &text, lengths, piece, fails)?;
-        expect(&rt, told, want, "what is told");
+        let (told, bytes) = gather(alloc, &text, lengths, *piece, *fails)?;
+        expect(&rt, told, *want, "what is told");
         expect_bytes(
             &rt,
             &bytes,

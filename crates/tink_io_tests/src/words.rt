@@ -5,7 +5,7 @@ use std::alloc::Global;
 use tink_words::{Action, parse};
 
 // Lines, and which command each spells.
-const LINES: [(&str, Option<Action>); 33] = [
+const LINES: &[(&str, Option<Action>)] = &[
     ("new AES256_GCM_HKDF_1MB -o keys", Some(Action::New)),
     ("new -o keys --format binary T", Some(Action::New)),
     ("new T", None),
@@ -72,6 +72,6 @@ fn spelled(alloc: Global, line: &str) -> Option<Option<Action>> {
 #[test]
 fn lines_spell_commands(rt: HostRuntime) {
     for (line, action) in LINES {
-        assert_eq!(rt; spelled(rt.alloc(), line), Some(action), "{line}");
+        assert_eq!(rt; spelled(rt.alloc(), line), Some(*action), "{line}");
     }
 }

@@ -188,7 +188,7 @@ fn are_same_in_place(n: usize) -> (bool, bool) {
 }
 
 // No bytes, a part of a block, whole blocks, and many.
-const SIZES: [usize; 6] = [0, 1, 15, 16, 17, 300];
+const SIZES: &[usize] = &[0, 1, 15, 16, 17, 300];
 
 #[test]
 fn a_segment_is_made_in_its_place(rt: HostRuntime) {

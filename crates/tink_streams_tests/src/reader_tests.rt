@@ -297,7 +297,7 @@ fn refusal(
 }
 
 // Whether nonces have 11 bytes, the sizes of a segment and of its offset, and why no reader is made with them.
-const SIZES: [((bool, u32, u32), Option<Kind>); 8] = [
+const SIZES: &[((bool, u32, u32), Option<Kind>)] = &[
     ((true, 30, 31), Some(Kind::NonceTooShort)),
     ((true, 30, 10), Some(Kind::NonceTooShort)),
     ((false, 30, 31), Some(Kind::OffsetTooBig)),

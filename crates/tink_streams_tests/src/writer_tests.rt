@@ -244,7 +244,7 @@ fn refusal(
 }
 
 // Whether nonces have 11 bytes, the sizes of a segment and of its offset, and why no writer is made with them.
-const SIZES: [((bool, u32, u32), Option<Kind>); 8] = [
+const SIZES: &[((bool, u32, u32), Option<Kind>)] = &[
     ((true, 40, 41), Some(Kind::NonceTooShort)),
     ((true, 40, 12), Some(Kind::NonceTooShort)),
     ((false, 40, 41), Some(Kind::OffsetTooBig)),
