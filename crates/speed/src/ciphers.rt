@@ -15,8 +15,8 @@ const ROUNDS: usize = 16;
 
 const KEY: &[u8; 16] = &[0, 1, 2, 3, 4, 5, 6, 7, 8, 9, 10, 11, 12, 13, 14, 15];
 
-/// Nanoseconds of each kind of work, the least of the rounds.
-#[derive(Drop)]
+/// Nanoseconds of each kind of work, in a round or the least of the rounds.
+#[derive(Clone, Copy)]
 struct Times {
     encrypt_block: u128,
     encrypt_blocks: u128,
@@ -32,32 +32,49 @@ struct Times {
 pub(crate) fn run(rt: HostRuntime) -> io::Result<()> {
     let mut blocks = vec![in rt.alloc(); [0u8; 16]; BLOCKS]?;
     let mut bytes = vec![in rt.alloc(); 0u8; 16 * BLOCKS]?;
-    let mut times = Times {
-        encrypt_block: u128::MAX,
-        encrypt_blocks: u128::MAX,
-        decrypt_block: u128::MAX,
-        decrypt_blocks: u128::MAX,
-        apply_keystream: u128::MAX,
-    };
-    for _ in 0..ROUNDS {
-        let start = Instant::now(&rt)?;
-        encrypt_each(&mut blocks);
-        let at_encrypted = start.elapsed(&rt)?.as_nanos();
-        Aes128::new(KEY).encrypt_blocks(&mut blocks);
-        let at_encrypted_together = start.elapsed(&rt)?.as_nanos();
-        decrypt_each(&mut blocks);
-        let at_decrypted = start.elapsed(&rt)?.as_nanos();
-        Aes128::new(KEY).decrypt_blocks(&mut blocks);
-        let at_decrypted_together = start.elapsed(&rt)?.as_nanos();
-        Ctr64BE::<Aes128>::new(KEY, &[0; 16]).apply_keystream(&mut bytes);
-        let at_applied = start.elapsed(&rt)?.as_nanos();
-        times.encrypt_block = times.encrypt_block.min(at_encrypted);
-        times.encrypt_blocks = least(times.encrypt_blocks, at_encrypted, at_encrypted_together);
-        times.decrypt_block = least(times.decrypt_block, at_encrypted_together, at_decrypted);
-        times.decrypt_blocks = least(times.decrypt_blocks, at_decrypted, at_decrypted_together);
-        times.apply_keystream = least(times.apply_keystream, at_decrypted_together, at_applied);
+    match best(&rt, &mut blocks, &mut bytes) {
+        Ok(times) => print(&rt, &times),
+        Err(e) => Err(e),
     }
-    print(rt, &times)
+}
+
+fn best(rt: &HostRuntime, blocks: &mut [[u8; 16]], bytes: &mut [u8]) -> io::Result<Times> {
+    let mut best = round(rt, blocks, bytes)?;
+    for _ in 1..ROUNDS {
+        best = least(best, round(rt, blocks, bytes)?);
+    }
+    Ok(best)
+}
+
+fn round(rt: &HostRuntime, blocks: &mut [[u8; 16]], bytes: &mut [u8]) -> io::Result<Times> {
+    let start = Instant::now(rt)?;
+    encrypt_each(blocks);
+    let encrypted = start.elapsed(rt)?.as_nanos();
+    Aes128::new(KEY).encrypt_blocks(blocks);
+    let encrypted_together = start.elapsed(rt)?.as_nanos();
+    decrypt_each(blocks);
+    let decrypted = start.elapsed(rt)?.as_nanos();
+    Aes128::new(KEY).decrypt_blocks(blocks);
+    let decrypted_together = start.elapsed(rt)?.as_nanos();
+    Ctr64BE::<Aes128>::new(KEY, &[0; 16]).apply_keystream(bytes);
+    let applied = start.elapsed(rt)?.as_nanos();
+    Ok(Times {
+        encrypt_block: encrypted,
+        encrypt_blocks: encrypted_together.saturating_sub(encrypted),
+        decrypt_block: decrypted.saturating_sub(encrypted_together),
+        decrypt_blocks: decrypted_together.saturating_sub(decrypted),
+        apply_keystream: applied.saturating_sub(decrypted_together),
+    })
+}
+
+fn least(one: Times, other: Times) -> Times {
+    Times {
+        encrypt_block: one.encrypt_block.min(other.encrypt_block),
+        encrypt_blocks: one.encrypt_blocks.min(other.encrypt_blocks),
+        decrypt_block: one.decrypt_block.min(other.decrypt_block),
+        decrypt_blocks: one.decrypt_blocks.min(other.decrypt_blocks),
+        apply_keystream: one.apply_keystream.min(other.apply_keystream),
+    }
 }
 
 fn encrypt_each(blocks: &mut [[u8; 16]]) {
@@ -74,33 +91,27 @@ fn decrypt_each(blocks: &mut [[u8; 16]]) {
     }
 }
 
-fn least(time: u128, from: u128, to: u128) -> u128 {
-    time.min(to.saturating_sub(from))
-}
-
-fn print(rt: HostRuntime, times: &Times) -> io::Result<()> {
-    eprintln!(rt; "encrypt_block   {} MB/s", speed(times.encrypt_block))?;
-    let part = hundredths(times.encrypt_block, times.encrypt_blocks);
+fn print(rt: &HostRuntime, times: &Times) -> io::Result<()> {
+    let encrypted = hundredths(times.encrypt_block, times.encrypt_blocks);
+    let decrypted = hundredths(times.decrypt_block, times.decrypt_blocks);
+    let applied = hundredths(times.encrypt_blocks, times.apply_keystream);
     eprintln!(rt;
-        "encrypt_blocks  {} MB/s, {}.{:02} times encrypt_block",
+        "encrypt_block   {} MB/s
+encrypt_blocks  {} MB/s, {}.{:02} times encrypt_block
+decrypt_block   {} MB/s
+decrypt_blocks  {} MB/s, {}.{:02} times decrypt_block
+apply_keystream {} MB/s, {}.{:02} times encrypt_blocks",
+        speed(times.encrypt_block),
         speed(times.encrypt_blocks),
-        part / 100,
-        part % 100
-    )?;
-    eprintln!(rt; "decrypt_block   {} MB/s", speed(times.decrypt_block))?;
-    let part = hundredths(times.decrypt_block, times.decrypt_blocks);
-    eprintln!(rt;
-        "decrypt_blocks  {} MB/s, {}.{:02} times decrypt_block",
+        encrypted / 100,
+        encrypted % 100,
+        speed(times.decrypt_block),
         speed(times.decrypt_blocks),
-        part / 100,
-        part % 100
-    )?;
-    let part = hundredths(times.encrypt_blocks, times.apply_keystream);
-    eprintln!(rt;
-        "apply_keystream {} MB/s, {}.{:02} times encrypt_blocks",
+        decrypted / 100,
+        decrypted % 100,
         speed(times.apply_keystream),
-        part / 100,
-        part % 100
+        applied / 100,
+        applied % 100
     )
 }
 

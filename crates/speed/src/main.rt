@@ -5,12 +5,11 @@
 mod ciphers;
 mod hashing;
 
-use std::env;
-use std::io;
+use std::{env, io};
 
 fn main(rt: HostRuntime) -> io::Result<()> {
     let word = env::args(&rt)?.nth(1);
-    if word.is_some_and(|word| word == "ciphers") {
+    if word.is_some_and(|word| word.as_str() == "ciphers") {
         return ciphers::run(rt);
     }
     hashing::run(rt)

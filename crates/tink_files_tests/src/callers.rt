@@ -20,8 +20,9 @@ use tink_run_range::run_range;
 use tink_wrap::{Master, load_master, unwrapped, wrapped};
 
 // The text of `task_tests` as a stream under its first key, with no associated data, by an independent model.
-const SEALED: &str =
-    "18000102030405060708090a0b0c0d0e0f10111213141516275b866114537f392a3c3a5d7d3112dce59a4783fcd25e0bca55b71b31a3f6a811c345e67c81d439";
+const SEALED: &[u8] = b"\
+    \x18\x00\x01\x02\x03\x04\x05\x06\x07\x08\x09\x0a\x0b\x0c\x0d\x0e\x0f\x10\x11\x12\x13\x14\x15\x16'[\x86a\x14S\
+    \x7f9*<:]}1\x12\xdc\xe5\x9aG\x83\xfc\xd2^\x0b\xcaU\xb7\x1b1\xa3\xf6\xa8\x11\xc3E\xe6|\x81\xd49";
 
 // A file of keys, encrypted under those of another file, as JSON.
 fn wrapped_as_json(
@@ -92,11 +93,10 @@ fn page_of<L: Ledger>(
 
 // Whether the first page of a sealed file is its text.
 fn is_page(alloc: Global) -> Result<bool, Fail> {
-    let mut file = MemAt::new(hex::decode(alloc, SEALED)?, 0, Vec::new(alloc));
-    let keyset = hex::decode(alloc, CTR)?;
+    let mut file = MemAt::new(Vec::from_slice(alloc, SEALED)?, 0, Vec::new(alloc));
     let mut sink = SureSink::new(alloc);
     sink.reserve(alloc, 20)?;
-    let count = page_of::<Brand>(alloc, &keyset, &mut file, &mut sink, Blank::new(1))?;
+    let count = page_of::<Brand>(alloc, CTR, &mut file, &mut sink, Blank::new(1))?;
     Ok(count == 20 && sink.bytes() == TEXT)
 }
 

@@ -47,16 +47,21 @@ fn saves(alloc: Global, room: usize, replaces: bool, can_show: bool) -> Option<b
     }
 }
 
+// The room, whether the place replaces and can show, and whether the text is shown.
+const PLACES: &[(usize, bool, bool, bool)] = &[
+    (6, true, true, true),
+    (5, true, true, false),
+    (6, false, true, false),
+    (6, true, false, false),
+];
+
 #[test]
 fn a_text_is_shown_whole_or_not_at_all(rt: HostRuntime) {
-    let table = [
-        (6, true, true, true),
-        (5, true, true, false),
-        (6, false, true, false),
-        (6, true, false, false),
-    ];
-    for (room, replaces, can_show, is_shown) in table {
-        assert_eq!(rt; saves(rt.alloc(), room, replaces, can_show), Some(is_shown));
+    for (room, replaces, can_show, is_shown) in PLACES {
+        assert_eq!(rt;
+            saves(rt.alloc(), *room, *replaces, *can_show),
+            Some(*is_shown)
+        );
     }
 }
 

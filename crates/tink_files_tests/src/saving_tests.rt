@@ -56,7 +56,7 @@ enum Asked {
 }
 
 // How much room the draft has, and which file is shown, or how the call is refused.
-const ROWS: [(&str, Asked, usize, Result<&[u8], Kind>); 17] = [
+const ROWS: &[(&str, Asked, usize, Result<&[u8], Kind>)] = &[
     (
         "new",
         Asked::New("AES128_GCM", b"0123456789abcdefMMMM"),
@@ -258,7 +258,7 @@ fn is_answered(alloc: Global, asked: Asked, room: usize, want: Result<&[u8], Kin
 #[test]
 fn files_of_keys_are_saved_whole_or_not_at_all(rt: HostRuntime) {
     for (row, asked, room, want) in ROWS {
-        assert!(rt; is_answered(rt.alloc(), asked, room, want), "{row}");
+        assert!(rt; is_answered(rt.alloc(), *asked, *room, *want), "{row}");
     }
 }
 

@@ -6,7 +6,6 @@ use crate::place_tests::shows;
 use std::alloc::Global;
 use std::marker::Brand;
 use std::sync::ledger::{Blank, Ledger};
-use std::test::Fail;
 use tink_files::{Task, range_to, save_task, write_task};
 use tink_io::{Draws, Kind, Source, SureSink, SureSource, TinkError};
 use tink_place::{MemPlace, Place};
@@ -14,25 +13,34 @@ use tink_range::{MemAt, Steps};
 use tink_run::report::{Command, Report};
 
 // A raw key in counter mode, with segments of 35 bytes and tags of 10.
-pub const CTR: &str =
-    "0884868808126e0a630a3d747970652e676f6f676c65617069732e636f6d2f676f6f676c652e63727970746f2e74696e6b2e416573437472486d616353747265616d696e674b65791220120c08231010180322040803100a1a10000102030405060708090a0b0c0d0e0f1801100118848688082003";
+pub const CTR: &[u8] = b"\
+    \x08\x84\x86\x88\x08\x12n\x0ac\x0a=type.googleapis.com/google.crypto.tink.AesCtrHmacStreamingKey\x12 \x12\
+    \x0c\x08#\x10\x10\x18\x03\x22\x04\x08\x03\x10\x0a\x1a\x10\x00\x01\x02\x03\x04\x05\x06\x07\x08\x09\x0a\x0b\
+    \x0c\x0d\x0e\x0f\x18\x01\x10\x01\x18\x84\x86\x88\x08 \x03";
 
 // A raw key by GCM, with segments of 41 bytes.
-const GCM: &str =
-    "088586880812680a5d0a3d747970652e676f6f676c65617069732e636f6d2f676f6f676c652e63727970746f2e74696e6b2e41657347636d486b646653747265616d696e674b6579121a12060829101018031a10101112131415161718191a1b1c1d1e1f1801100118858688082003";
+const GCM: &[u8] = b"\
+    \x08\x85\x86\x88\x08\x12h\x0a]\x0a=type.googleapis.com/google.crypto.tink.AesGcmHkdfStreamingKey\x12\x1a\x12\
+    \x06\x08)\x10\x10\x18\x03\x1a\x10\x10\x11\x12\x13\x14\x15\x16\x17\x18\x19\x1a\x1b\x1c\x1d\x1e\x1f\x18\x01\
+    \x10\x01\x18\x85\x86\x88\x08 \x03";
 
 // A key of HMAC-SHA256 with the id 7, a prefix and tags of 16.
-const MACS: &str =
-    "080712540a4c0a2e747970652e676f6f676c65617069732e636f6d2f676f6f676c652e63727970746f2e74696e6b2e486d61634b657912181204080310101a10202122232425262728292a2b2c2d2e2f1801100118072001";
+const MACS: &[u8] = b"\
+    \x08\x07\x12T\x0aL\x0a.type.googleapis.com/google.crypto.tink.HmacKey\x12\x18\x12\x04\x08\x03\x10\x10\x1a\
+    \x10 !\x22#$%&'()*+,-./\x18\x01\x10\x01\x18\x07 \x01";
 
 pub const TEXT: &[u8] = b"a text of two chunks";
 
 // Its streams by an independent model: under the first key with the data `May`, and under the second with `June`.
-const SEALED: &str =
-    "18000102030405060708090a0b0c0d0e0f1011121314151609e1329ea6909fed29b3ec9033bf039ef1e947c6d8f8f745f4aaa12f6b324613e6271b841c02892f";
+const SEALED: &[u8] = b"\
+    \x18\x00\x01\x02\x03\x04\x05\x06\x07\x08\x09\x0a\x0b\x0c\x0d\x0e\x0f\x10\x11\x12\x13\x14\x15\x16\x09\xe12\
+    \x9e\xa6\x90\x9f\xed)\xb3\xec\x903\xbf\x03\x9e\xf1\xe9G\xc6\xd8\xf8\xf7E\xf4\xaa\xa1/k2F\x13\xe6'\x1b\x84\
+    \x1c\x02\x89/";
 
-const MOVED: &str =
-    "18000102030405060708090a0b0c0d0e0f10111213141516c31b591dc980320d93ebe24b1aaf535ebd5a22e14ea2c408d0b3550a7df9375f9ae7a502b879557eedd4ef5208d0889c5a3d9d8d";
+const MOVED: &[u8] = b"\
+    \x18\x00\x01\x02\x03\x04\x05\x06\x07\x08\x09\x0a\x0b\x0c\x0d\x0e\x0f\x10\x11\x12\x13\x14\x15\x16\xc3\x1bY\
+    \x1d\xc9\x802\x0d\x93\xeb\xe2K\x1a\xafS^\xbdZ\x22\xe1N\xa2\xc4\x08\xd0\xb3U\x0a}\xf97_\x9a\xe7\xa5\x02\xb8yU\
+    ~\xed\xd4\xefR\x08\xd0\x88\x9cZ=\x9d\x8d";
 
 const TOKEN: &[u8] = b"YSB0ZXh0IG9mIHR3byBjaHVua3M.AQAAAAcCk2wVHG1hBYbQ3VD2ex4O";
 
@@ -54,7 +62,7 @@ enum Asked {
 // refusal, and none where what is made stands under the name.
 type Row = (Asked, usize, usize, usize, Option<Kind>);
 
-const ROWS: [Row; 22] = [
+const ROWS: &[Row] = &[
     (Asked::Seal, ALL, ALL, 64, None),
     (Asked::Seal, ALL, ALL, 63, Some(Kind::WriteFault)),
     (Asked::Open, ALL, ALL, 20, None),
@@ -82,12 +90,13 @@ const ROWS: [Row; 22] = [
 const ALL: usize = 9999;
 
 // The input of what is asked, of which so many bytes are left and one is changed.
-fn input_of(alloc: Global, asked: Asked, left: usize, place: usize) -> Result<Vec<u8>, Fail> {
-    let mut input = match asked {
-        Asked::Seal | Asked::Sign => Vec::from_slice(alloc, TEXT)?,
-        Asked::Verify => Vec::from_slice(alloc, TOKEN)?,
-        _ => hex::decode(alloc, SEALED)?,
+fn input_of(alloc: Global, asked: Asked, left: usize, place: usize) -> Result<Vec<u8>, TinkError> {
+    let whole = match asked {
+        Asked::Seal | Asked::Sign => TEXT,
+        Asked::Verify => TOKEN,
+        _ => SEALED,
     };
+    let mut input = Vec::from_slice(alloc, whole)?;
     input.truncate(left);
     if let Some(byte) = input.get_mut(place) {
         *byte ^= 1;
@@ -96,13 +105,13 @@ fn input_of(alloc: Global, asked: Asked, left: usize, place: usize) -> Result<Ve
 }
 
 // What is to stand under the name.
-fn made_of(alloc: Global, asked: Asked) -> Result<Vec<u8>, Fail> {
+fn made_of(asked: Asked) -> &'static [u8] {
     match asked {
-        Asked::Seal => Ok(hex::decode(alloc, SEALED)?),
-        Asked::Rewrap => Ok(hex::decode(alloc, MOVED)?),
-        Asked::Sign => Ok(Vec::from_slice(alloc, TOKEN)?),
-        Asked::Range => Ok(Vec::from_slice(alloc, &TEXT[..9])?),
-        _ => Ok(Vec::from_slice(alloc, TEXT)?),
+        Asked::Seal => SEALED,
+        Asked::Rewrap => MOVED,
+        Asked::Sign => TOKEN,
+        Asked::Range => &TEXT[..9],
+        Asked::Open | Asked::Verify => TEXT,
     }
 }
 
@@ -114,30 +123,9 @@ fn told<T: Copy>(answer: Result<T, TinkError>) -> Option<Kind> {
     }
 }
 
-// The keysets.
-#[derive(Drop)]
-struct Keysets {
-    ctr: Vec<u8>,
-    gcm: Vec<u8>,
-    macs: Vec<u8>,
-}
-
-fn decoded(alloc: Global) -> Result<Keysets, Fail> {
-    Ok(Keysets {
-        ctr: hex::decode(alloc, CTR)?,
-        gcm: hex::decode(alloc, GCM)?,
-        macs: hex::decode(alloc, MACS)?,
-    })
-}
-
 // The draws 0 to 22.
-fn counted(alloc: Global) -> Result<Draws, Fail> {
-    let mut drawn = Vec::new(alloc);
-    for byte in 0..23u8 {
-        drawn.push(byte)?;
-    }
-    Ok(Draws::new(drawn))
-}
+const DRAWS: &[u8] =
+    b"\x00\x01\x02\x03\x04\x05\x06\x07\x08\x09\x0a\x0b\x0c\x0d\x0e\x0f\x10\x11\x12\x13\x14\x15\x16";
 
 // Encrypts a source to a file that is shown whole. By a refusal what stands there stays.
 fn encrypted<S: Source, P: Place>(
@@ -166,7 +154,6 @@ fn encrypted<S: Source, P: Place>(
 fn refusal(
     alloc: Global,
     asked: Asked,
-    keysets: &Keysets,
     draws: &mut Draws,
     input: Vec<u8>,
     place: &mut MemPlace,
@@ -174,33 +161,24 @@ fn refusal(
     if !place.has_draft {
         return Some(Kind::WriteFault);
     }
-    let (ctr, gcm, macs) = (&keysets.ctr, &keysets.gcm, &keysets.macs);
     if let Asked::Range = asked {
         let mut object = MemAt::new(input, 0, Vec::new(alloc));
-        return told(range_of::<Brand>(alloc, ctr, &mut object, place, Blank::new(1)));
+        return told(range_of::<Brand>(alloc, &mut object, place, Blank::new(1)));
     }
     let source = &mut SureSource::new(input);
     match asked {
-        Asked::Seal => told(encrypted(alloc, ctr, b"May", draws, source, place)),
-        Asked::Sign => told(save_task(alloc, Task::Sign, macs, b"", draws, source, place)),
-        Asked::Verify => told(save_task(alloc, Task::Verify, macs, b"", draws, source, place)),
-        _ => told(save_task(
-            alloc,
-            of_stream(asked, gcm),
-            ctr,
-            b"May",
-            draws,
-            source,
-            place,
-        )),
+        Asked::Seal => told(encrypted(alloc, CTR, b"May", draws, source, place)),
+        Asked::Sign => told(save_task(alloc, Task::Sign, MACS, b"", draws, source, place)),
+        Asked::Verify => told(save_task(alloc, Task::Verify, MACS, b"", draws, source, place)),
+        _ => told(save_task(alloc, of_stream(asked), CTR, b"May", draws, source, place)),
     }
 }
 
 // An open, or a move to other keys.
-fn of_stream(asked: Asked, gcm: &[u8]) -> Task<'_> {
+fn of_stream(asked: Asked) -> Task<'static> {
     match asked {
         Asked::Rewrap => Task::Rewrap {
-            to: gcm,
+            to: GCM,
             to_aad: b"June",
         },
         _ => Task::Run(Command::Open),
@@ -210,7 +188,6 @@ fn of_stream(asked: Asked, gcm: &[u8]) -> Task<'_> {
 // The first nine bytes of the text, by a ledger of steps.
 fn range_of<L: Ledger>(
     alloc: Global,
-    ctr: &[u8],
     object: &mut MemAt,
     place: &mut MemPlace,
     blank: Blank,
@@ -221,69 +198,47 @@ fn range_of<L: Ledger>(
     requires some { 0 < blank.parts }
 {
     let mut steps = Steps::<L>::new(blank);
-    range_to(alloc, ctr, b"May", object, 0, 9, place, &mut steps)
+    range_to(alloc, CTR, b"May", object, 0, 9, place, &mut steps)
 }
 
 // Whether what is asked is refused so and leaves what stood there, or shows what is made.
-fn holds(alloc: Global, row: &Row) -> Result<bool, Fail> {
+fn holds(alloc: Global, row: &Row) -> Result<bool, TinkError> {
     let (asked, left, changed, room, kind) = *row;
+    let mut draws = Draws::new(Vec::from_slice(alloc, DRAWS)?);
     let before = Vec::from_slice(alloc, BEFORE)?;
     let mut place = MemPlace::new(alloc, room, Some(before))?;
     let input = input_of(alloc, asked, left, changed)?;
-    let mut draws = counted(alloc)?;
-    let answer = refusal(
-        alloc,
-        asked,
-        &decoded(alloc)?,
-        &mut draws,
-        input,
-        &mut place,
-    );
+    let answer = refusal(alloc, asked, &mut draws, input, &mut place);
     let stands = match kind {
-        None => shows(&place, &made_of(alloc, asked)?),
-        Some(_) => shows(&place, BEFORE),
+        None => made_of(asked),
+        Some(_) => BEFORE,
     };
-    Ok(stands && answer == kind)
+    Ok(answer == kind && shows(&place, stands))
 }
 
 #[test]
-fn what_is_made_stands_whole_or_not_at_all(rt: HostRuntime) -> Result<(), Fail> {
+fn what_is_made_stands_whole_or_not_at_all(rt: HostRuntime) {
     for (number, row) in ROWS.iter().enumerate() {
-        let is_so = holds(rt.alloc(), row)?;
-        assert!(rt; is_so, "{number}");
+        assert_eq!(rt; holds(rt.alloc(), row), Ok(true), "{number}");
     }
-    Ok(())
 }
 
 // What an open into a sink answers, where the sink has got the text.
-fn opened(alloc: Global) -> Result<Option<Report>, Fail> {
-    let keyset = hex::decode(alloc, CTR)?;
-    let mut source = SureSource::new(hex::decode(alloc, SEALED)?);
+fn opened(alloc: Global) -> Result<Option<Report>, TinkError> {
+    let mut source = SureSource::new(Vec::from_slice(alloc, SEALED)?);
     let mut draws = Draws::new(Vec::new(alloc));
     let mut sink = SureSink::new(alloc);
     sink.reserve(alloc, TEXT.len())?;
     let task = Task::Run(Command::Open);
-    let report = write_task(
-        alloc,
-        task,
-        &keyset,
-        b"May",
-        &mut draws,
-        &mut source,
-        &mut sink,
-    )?;
+    let report = write_task(alloc, task, CTR, b"May", &mut draws, &mut source, &mut sink)?;
     Ok(if sink.bytes() == TEXT { report } else { None })
 }
 
 #[test]
-fn a_text_goes_into_a_sink_as_it_comes(rt: HostRuntime) -> Result<(), Fail> {
-    let report = opened(rt.alloc())?;
-    assert!(rt;
-        report
-            == Some(Report {
-                segments: 2,
-                bytes: 20
-            })
-    );
-    Ok(())
+fn a_text_goes_into_a_sink_as_it_comes(rt: HostRuntime) {
+    let report = Report {
+        segments: 2,
+        bytes: 20,
+    };
+    assert!(rt; opened(rt.alloc()) == Ok(Some(report)));
 }

@@ -4,7 +4,7 @@ use std::alloc::{AllocError, Global};
 use tink_io::{Kind, TinkError};
 
 /// The templates of streams, and then the others, by their number.
-const TEMPLATES: [&str; 26] = [
+const TEMPLATES: &[&str] = &[
     "AES128_CTR_HMAC_SHA256_4KB",
     "AES128_CTR_HMAC_SHA256_1MB",
     "AES256_CTR_HMAC_SHA256_4KB",
