@@ -8,10 +8,6 @@ mod caller_tests;
 #[cfg(test)]
 mod comparing;
 #[cfg(test)]
-mod ctr_hmac_tests;
-#[cfg(test)]
-mod gcm_tests;
-#[cfg(test)]
 mod kind_tests;
 #[cfg(test)]
 mod nonce_tests;
@@ -19,5 +15,7 @@ mod nonce_tests;
 mod reader_tests;
 #[cfg(test)]
 mod segment_callers;
+#[cfg(test)]
+mod segment_tests;
 #[cfg(test)]
 mod writer_tests;

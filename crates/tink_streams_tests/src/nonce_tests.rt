@@ -1,86 +1,99 @@
 //! The limits of keys and nonces.
 
-use crate::comparing::{expect, expect_bytes};
-use std::process::Abort;
-use tink_io::{Kind, TinkError};
+use crate::comparing::expect;
+use tink_io::Kind;
 use tink_segment_traits::generate_segment_nonce;
 use tink_segments::{
     AES_CTR_HMAC_NONCE_PREFIX_SIZE_IN_BYTES, AES_GCM_HKDF_NONCE_PREFIX_SIZE_IN_BYTES,
     validate_aes_key_size,
 };
 
-// Whether keys of so many bytes are those of a variant, which has as many.
-fn is_key_size(n: usize) -> bool {
+#[derive(Clone, Copy)]
+enum Asked {
+    // whether keys of so many bytes are those of a variant, which has as many
+    KeySize(usize),
+    // whether of the sizes below this one those of keys are 16 and 32
+    KeySizesBelow(usize),
+    // whether the nonce of a segment of this number, which is the last or not, is this one
+    Nonce(u64, bool, &'static [u8; 12]),
+    // whether prefixes have so many bytes
+    Prefixes(usize),
+}
+
+fn is_key_size(n: usize) -> Result<bool, Kind> {
     match validate_aes_key_size(n) {
-        Ok(variant) => variant.key_size() == n,
-        Err(_) => false,
+        Ok(variant) => Ok(variant.key_size() == n),
+        Err(e) => Err(e.kind),
     }
 }
 
-// Whether of the sizes below this one those of keys are 16 and 32.
 fn are_two_sizes(most: usize) -> bool {
     for n in 0..most {
-        if is_key_size(n) != (n == 16 || n == 32) {
+        if (is_key_size(n) == Ok(true)) != (n == 16 || n == 32) {
             return false;
         }
     }
     true
 }
 
-// What no variant is answered by.
-fn refusal(n: usize) -> Option<TinkError> {
-    match validate_aes_key_size(n) {
-        Ok(_) => None,
-        Err(e) => Some(e),
+// The nonce stands in the place of nines, which stay where there is none.
+fn is_nonce(number: u64, last: bool, want: &[u8; 12]) -> Result<bool, Kind> {
+    let mut out = [9u8; 12];
+    match generate_segment_nonce(&mut out, &[1, 2, 3, 4, 5, 6, 7], number, last) {
+        Ok(()) => Ok(out == *want),
+        Err(e) if out == *want => Err(e.kind),
+        Err(_) => Ok(false),
     }
 }
 
-#[test]
-fn keys_have_two_sizes(rt: HostRuntime) {
-    expect(&rt, are_two_sizes(40), true, "the sizes below 40");
-    let refused = Some(TinkError::new(Kind::BadKeySize));
-    expect(&rt, refusal(24), refused, "a key of 24 bytes");
+fn answered(asked: Asked) -> Result<bool, Kind> {
+    match asked {
+        Asked::KeySize(n) => is_key_size(n),
+        Asked::KeySizesBelow(n) => Ok(are_two_sizes(n)),
+        Asked::Nonce(number, last, want) => is_nonce(number, last, want),
+        Asked::Prefixes(n) => Ok(
+            AES_CTR_HMAC_NONCE_PREFIX_SIZE_IN_BYTES == n
+                && AES_GCM_HKDF_NONCE_PREFIX_SIZE_IN_BYTES == n,
+        ),
+    }
 }
 
-// The nonce of a segment, in the place of nines, and what the call answers.
-fn expect_nonce(
-    rt: &impl Abort,
-    number: u64,
-    last: bool,
-    answer: Result<(), TinkError>,
-    want: &[u8; 12],
-) {
-    let mut out = [9u8; 12];
-    let told = generate_segment_nonce(&mut out, &[1, 2, 3, 4, 5, 6, 7], number, last);
-    expect(rt, told, answer, "the answer");
-    expect_bytes(rt, &out, want, "the nonce");
-}
+const ROWS: &[(&str, Asked, Result<bool, Kind>)] = &[
+    ("sizes below 40", Asked::KeySizesBelow(40), Ok(true)),
+    (
+        "a key of 24 bytes",
+        Asked::KeySize(24),
+        Err(Kind::BadKeySize),
+    ),
+    (
+        "258",
+        Asked::Nonce(
+            258,
+            true,
+            b"\x01\x02\x03\x04\x05\x06\x07\x00\x00\x01\x02\x01",
+        ),
+        Ok(true),
+    ),
+    (
+        "the last u32",
+        Asked::Nonce(
+            4_294_967_295,
+            false,
+            b"\x01\x02\x03\x04\x05\x06\x07\xff\xff\xff\xff\x00",
+        ),
+        Ok(true),
+    ),
+    (
+        "behind it",
+        Asked::Nonce(4_294_967_296, false, &[9; 12]),
+        Err(Kind::TooManySegments),
+    ),
+    ("prefixes", Asked::Prefixes(7), Ok(true)),
+];
 
 #[test]
-fn nonces_count_to_the_last_u32(rt: HostRuntime) {
-    let refused = Err(TinkError::new(Kind::TooManySegments));
-    expect_nonce(
-        &rt,
-        258,
-        true,
-        Ok(()),
-        &[1, 2, 3, 4, 5, 6, 7, 0, 0, 1, 2, 1],
-    );
-    expect_nonce(
-        &rt,
-        4_294_967_295,
-        false,
-        Ok(()),
-        &[1, 2, 3, 4, 5, 6, 7, 255, 255, 255, 255, 0],
-    );
-    expect_nonce(&rt, 4_294_967_296, false, refused, &[9; 12]);
-}
-
-#[test]
-fn prefixes_have_seven_bytes(rt: HostRuntime) {
-    let sizes = [
-        AES_CTR_HMAC_NONCE_PREFIX_SIZE_IN_BYTES,
-        AES_GCM_HKDF_NONCE_PREFIX_SIZE_IN_BYTES,
-    ];
-    expect(&rt, sizes, [7, 7], "the sizes");
+fn limits_are_those_of_the_rows(rt: HostRuntime) {
+    for (row, asked, want) in ROWS {
+        expect(&rt, answered(*asked), *want, row);
+    }
 }
