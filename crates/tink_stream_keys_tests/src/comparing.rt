@@ -10,8 +10,3 @@ where
 {
     assert_eq!(rt; got, want, "{label}");
 }
-
-/// The same of bytes.
-pub fn expect_bytes(rt: &impl Abort, got: &[u8], want: &[u8], label: &str) {
-    assert_eq!(rt; got, want, "{label}");
-}

@@ -1,10 +1,8 @@
 //! Damaged streams of three segments: each is refused by its kind, and what is read before is a prefix of the text.
 
 use crate::comparing::expect;
-use crate::streams::{expect_opened, key_of, sealed};
+use crate::streams::{key_of, opens, sealed};
 use std::alloc::Global;
-use std::process::Abort;
-use std::test::Fail;
 use tink_io::{Kind, TinkError};
 use tink_proto::HashType;
 use tink_stream_keys::StreamKind;
@@ -15,18 +13,17 @@ const TEXT: &[u8; 36] = b"thirty-six bytes in three segments..";
 const BEFORE: [usize; 3] = [0, 1, 26];
 
 // Where the header and each of the segments end in a stream, and the bytes of a tag.
-#[derive(Drop)]
 struct Layout {
     ends: [usize; 4],
     tag: usize,
 }
 
-const IN_COUNTER_MODE: Layout = Layout {
+const IN_COUNTER_MODE: &Layout = &Layout {
     ends: [24, 35, 70, 90],
     tag: 10,
 };
 
-const BY_GCM: Layout = Layout {
+const BY_GCM: &Layout = &Layout {
     ends: [24, 41, 82, 108],
     tag: 16,
 };
@@ -78,12 +75,18 @@ fn wanted_kind(layout: &Layout, stream: &[u8], damaged: &[u8]) -> (Kind, u32) {
 #[derive(Drop)]
 struct Sample {
     key: StreamKind,
-    layout: Layout,
+    layout: &'static Layout,
     stream: Vec<u8>,
     other: Vec<u8>,
 }
 
-fn sample_of(alloc: Global, key: StreamKind, layout: Layout) -> Result<Sample, TinkError> {
+fn sample_of(alloc: Global, in_counter_mode: bool) -> Result<Sample, TinkError> {
+    let (segment, layout) = if in_counter_mode {
+        (35, IN_COUNTER_MODE)
+    } else {
+        (41, BY_GCM)
+    };
+    let key = key_of(alloc, in_counter_mode, HashType::Sha256, segment)?;
     let stream = sealed(alloc, &key, &[7; 23], TEXT, 36)?;
     let other = sealed(alloc, &key, &[8; 23], TEXT, 36)?;
     Ok(Sample {
@@ -94,46 +97,30 @@ fn sample_of(alloc: Global, key: StreamKind, layout: Layout) -> Result<Sample, T
     })
 }
 
-// A damaged stream is refused by its kind, behind the text of the segments before.
-fn expect_refused(
-    rt: &impl Abort,
-    alloc: Global,
-    sample: &Sample,
-    damaged: &[u8],
-) -> Result<(), TinkError> {
-    let (kind, number) = wanted_kind(&sample.layout, &sample.stream, damaged);
+// Whether a damaged stream is refused by its kind, behind the text of the segments before.
+fn is_refused(alloc: Global, sample: &Sample, damaged: &[u8]) -> Result<bool, TinkError> {
+    let (kind, number) = wanted_kind(sample.layout, &sample.stream, damaged);
     let before = BEFORE.get(number as usize).copied().unwrap_or(0);
     let text = TEXT.get(..before).unwrap_or(&[]);
-    expect_opened(rt, alloc, &sample.key, damaged, &[], (text, Some(kind)))
+    opens(alloc, &sample.key, damaged, &[], (text, Some(kind)))
 }
 
-// The stream itself opens to the text, and has the length of its layout.
-fn expect_whole(rt: &impl Abort, alloc: Global, sample: &Sample) -> Result<(), TinkError> {
-    expect(rt, sample.stream.len(), sample.layout.ends[3], "the length");
-    expect_opened(rt, alloc, &sample.key, &sample.stream, &[], (TEXT, None))
+// Whether the stream itself opens to the text, and has the length of its layout.
+fn is_whole(alloc: Global, sample: &Sample) -> Result<bool, TinkError> {
+    let is_long = sample.stream.len() == sample.layout.ends[3];
+    Ok(opens(alloc, &sample.key, &sample.stream, &[], (TEXT, None))? && is_long)
 }
 
-// The stream with any bit exchanged.
-fn expect_no_flip(rt: &impl Abort, alloc: Global, sample: &Sample) -> Result<(), TinkError> {
-    let mut damaged = sample.stream.to_vec(alloc)?;
+// Whether the stream with any bit exchanged is refused. Each is then exchanged back.
+fn refuses_flips(alloc: Global, sample: &Sample, damaged: &mut [u8]) -> Result<bool, TinkError> {
     for place in 0..8 * sample.layout.ends[3].min(200) {
-        expect_flip(rt, alloc, sample, &mut damaged, place)?;
+        flip(damaged, place);
+        if !is_refused(alloc, sample, damaged)? {
+            return Ok(false);
+        }
+        flip(damaged, place);
     }
-    Ok(())
-}
-
-// The stream with one bit exchanged, which is then exchanged back.
-fn expect_flip(
-    rt: &impl Abort,
-    alloc: Global,
-    sample: &Sample,
-    damaged: &mut [u8],
-    place: usize,
-) -> Result<(), TinkError> {
-    flip(damaged, place);
-    expect_refused(rt, alloc, sample, damaged)?;
-    flip(damaged, place);
-    Ok(())
+    Ok(true)
 }
 
 fn flip(bytes: &mut [u8], place: usize) {
@@ -142,17 +129,19 @@ fn flip(bytes: &mut [u8], place: usize) {
     }
 }
 
-// The stream cut at any length.
-fn expect_no_cut(rt: &impl Abort, alloc: Global, sample: &Sample) -> Result<(), TinkError> {
+// Whether the stream cut at any length is refused.
+fn refuses_cuts(alloc: Global, sample: &Sample) -> Result<bool, TinkError> {
     for n in 0..sample.stream.len() {
-        expect_refused(rt, alloc, sample, &sample.stream[..n])?;
+        if !is_refused(alloc, sample, &sample.stream[..n])? {
+            return Ok(false);
+        }
     }
-    Ok(())
+    Ok(true)
 }
 
 // Numbers of parts: 0 is the header and 1 to 3 are the segments of the stream, 4 to 7 those of the other one. In turn
 // a part is repeated, exchanged with another and dropped, and the two streams are joined.
-const ORDERS: [&[usize]; 21] = [
+const ORDERS: &[&[usize]] = &[
     &[0, 0, 1, 2, 3],
     &[0, 1, 1, 2, 3],
     &[0, 1, 2, 2, 3],
@@ -193,56 +182,68 @@ fn part_of(sample: &Sample, part: usize) -> &[u8] {
     stream.get(begin..end).unwrap_or(&[])
 }
 
-// The streams of parts in a wrong order.
-fn expect_no_order(rt: &impl Abort, alloc: Global, sample: &Sample) -> Result<(), TinkError> {
-    for order in &ORDERS {
-        expect_refused(rt, alloc, sample, &ordered(alloc, sample, order)?)?;
-    }
-    Ok(())
-}
-
-fn ordered(alloc: Global, sample: &Sample, order: &[usize]) -> Result<Vec<u8>, TinkError> {
-    let mut parts = Vec::new(alloc);
-    add_parts(&mut parts, sample, order)?;
-    Ok(parts)
-}
-
 fn add_parts(parts: &mut Vec<u8>, sample: &Sample, order: &[usize]) -> Result<(), TinkError> {
+    parts.clear();
     for part in order {
         parts.extend_from_slice(part_of(sample, *part))?;
     }
     Ok(())
 }
 
-// All damages of a sample.
-fn expect_no_damage(rt: &impl Abort, alloc: Global, sample: &Sample) -> Result<(), TinkError> {
-    expect_whole(rt, alloc, sample)?;
-    expect_no_flip(rt, alloc, sample)?;
-    expect_no_cut(rt, alloc, sample)?;
-    expect_no_order(rt, alloc, sample)
+// Whether the streams of parts in a wrong order are refused.
+fn refuses_orders(alloc: Global, sample: &Sample, parts: &mut Vec<u8>) -> Result<bool, TinkError> {
+    for order in ORDERS {
+        add_parts(parts, sample, order)?;
+        if !is_refused(alloc, sample, parts)? {
+            return Ok(false);
+        }
+    }
+    Ok(true)
 }
 
-// The sample of a new key.
-fn expect_sample(
-    rt: &impl Abort,
-    alloc: Global,
-    in_counter_mode: bool,
-    segment: u32,
-    layout: Layout,
-) -> Result<(), TinkError> {
-    let key = key_of(alloc, in_counter_mode, HashType::Sha256, segment)?;
-    let sample = sample_of(alloc, key, layout)?;
-    expect_no_damage(rt, alloc, &sample)
+// What is done to a stream.
+#[derive(Clone, Copy)]
+enum Damage {
+    Nothing,
+    Flips,
+    Cuts,
+    Orders,
 }
+
+// Whether the stream opens, or each of these damages is refused.
+fn holds(alloc: Global, sample: &Sample, damage: Damage) -> Result<bool, TinkError> {
+    let mut damaged = sample.stream.to_vec(alloc)?;
+    match damage {
+        Damage::Nothing => is_whole(alloc, sample),
+        Damage::Flips => refuses_flips(alloc, sample, &mut damaged),
+        Damage::Cuts => refuses_cuts(alloc, sample),
+        Damage::Orders => refuses_orders(alloc, sample, &mut damaged),
+    }
+}
+
+// In counter mode, or by GCM.
+fn answered(alloc: Global, in_counter_mode: bool, damage: Damage) -> Result<bool, TinkError> {
+    match sample_of(alloc, in_counter_mode) {
+        Ok(sample) => holds(alloc, &sample, damage),
+        Err(e) => Err(e),
+    }
+}
+
+const ROWS: &[(&str, bool, Damage)] = &[
+    ("whole, in counter mode", true, Damage::Nothing),
+    ("flips, in counter mode", true, Damage::Flips),
+    ("cuts, in counter mode", true, Damage::Cuts),
+    ("orders, in counter mode", true, Damage::Orders),
+    ("whole, by GCM", false, Damage::Nothing),
+    ("flips, by GCM", false, Damage::Flips),
+    ("cuts, by GCM", false, Damage::Cuts),
+    ("orders, by GCM", false, Damage::Orders),
+];
 
 #[test]
-fn no_damage_passes_in_counter_mode(rt: HostRuntime) -> Result<(), Fail> {
-    expect_sample(&rt, rt.alloc(), true, 35, IN_COUNTER_MODE)?;
-    Ok(())
-}
-
-#[test]
-fn no_damage_passes_by_gcm(rt: HostRuntime) -> Result<(), Fail> {
-    expect_sample(&rt, rt.alloc(), false, 41, BY_GCM)?;
-    Ok(())
+fn no_damage_passes(rt: HostRuntime) {
+    for (row, in_counter_mode, damage) in ROWS {
+        let told = answered(rt.alloc(), *in_counter_mode, *damage);
+        expect(&rt, told, Ok(true), row);
+    }
 }

@@ -43,7 +43,8 @@ enum Asked {
     Makes,
 }
 
-fn made(
+/// The segment of at most 60 bytes of text.
+pub fn made(
     alloc: Global,
     cipher: &StreamSegment,
     text: &[u8],
@@ -56,7 +57,8 @@ fn made(
     }
 }
 
-fn opened(
+/// The text of at most 60 bytes of a segment.
+pub fn opened(
     alloc: Global,
     cipher: &StreamSegment,
     segment: &[u8],
@@ -138,7 +140,7 @@ type Row = (
 use Asked::{Makes, Opens};
 use HashType::{Sha224, Sha256, UnknownHash};
 
-const ROWS: [Row; 20] = [
+const ROWS: &[Row] = &[
     ("ctr opens", Opens, true, Sha256, HEADER, b"data", Ok(true)),
     ("ctr makes", Makes, true, Sha256, HEADER, b"data", Ok(true)),
     ("gcm opens", Opens, false, Sha256, HEADER, b"data", Ok(true)),
@@ -310,7 +312,7 @@ fn by_kind(told: Result<bool, TinkError>) -> Result<bool, Kind> {
 
 #[test]
 fn a_header_gives_its_streams_cipher(rt: HostRuntime) {
-    for row in &ROWS {
+    for row in ROWS {
         expect(&rt, by_kind(answered(rt.alloc(), row)), row.6, row.0);
     }
 }

@@ -1,13 +1,11 @@
 //! Which keys of streams are made, and segments that Python made under derived keys.
 
-use crate::comparing::{expect, expect_bytes};
+use crate::comparing::expect;
+use crate::header_tests::{made, opened};
 use std::alloc::Global;
-use std::process::Abort;
-use std::test::Fail;
 use tink_core::CloneIn;
 use tink_io::{Kind, TinkError};
-use tink_proto::{Bytes, HashType};
-use tink_segment_traits::{SegmentDecrypter, SegmentEncrypter};
+use tink_proto::HashType;
 use tink_segments::StreamSegment;
 use tink_stream_keys::{AesCtrHmac, AesGcmHkdf, DerivesStreams, StreamKind};
 
@@ -31,97 +29,21 @@ const IN_COUNTER_MODE: &[u8; 58] =
 const BY_GCM: &[u8; 54] =
     b"\x2a\x87\x2e\x1e\x7a\x0d\x61\x9f\x8c\x74\xed\x02\x57\x99\x5e\x98\x6b\xeb\x8b\xb5\xec\x51\x35\x1c\xce\x42\x64\xe5\xfd\xa3\xe3\xad\x3f\x6c\xfa\xdc\xe3\xfe\x18\xfd\xf4\x5a\x6b\x7c\x3e\x79\xc4\x77\xad\xa7\xf0\x05\x56\x86";
 
-const NONCE: [u8; 16] = [1, 2, 3, 4, 5, 6, 7, 8, 9, 10, 11, 12, 13, 14, 15, 16];
+const NONCE: &[u8; 16] = b"\x01\x02\x03\x04\x05\x06\x07\x08\x09\x0a\x0b\x0c\x0d\x0e\x0f\x10";
 
-// Why a key in counter mode with a prefix of the main key, this derived size, tag and sizes of segments is refused.
-fn ctr_refusal(
-    alloc: Global,
-    main: usize,
-    derived: usize,
-    tag_alg: HashType,
-    tag: usize,
-    segment: u32,
-) -> Option<Kind> {
-    let main = &MAIN[..main.min(32)];
-    match AesCtrHmac::new(
-        alloc,
-        main,
-        HashType::Sha256,
-        derived,
-        tag_alg,
-        tag,
-        segment,
-        0,
-    ) {
-        Ok(_) => None,
-        Err(e) => Some(e.kind),
-    }
-}
-
-// The same of a key by GCM.
-fn gcm_refusal(
-    alloc: Global,
-    main: usize,
-    derived: usize,
-    segment: u32,
-    offset: u32,
-) -> Option<Kind> {
-    let main = &MAIN[..main.min(32)];
-    match AesGcmHkdf::new(alloc, main, HashType::Sha256, derived, segment, offset) {
-        Ok(_) => None,
-        Err(e) => Some(e.kind),
-    }
-}
-
-#[test]
-fn refuses_keys_in_counter_mode(rt: HostRuntime) {
-    let alloc = rt.alloc();
-    let sha = HashType::Sha256;
-    for (main, derived, tag_alg, tag, segment, wanted) in [
-        (15, 16, sha, 16, 4096, Some(Kind::BadKeySize)),
-        (31, 32, sha, 16, 4096, Some(Kind::BadKeySize)),
-        (32, 24, sha, 16, 4096, Some(Kind::BadKeySize)),
-        (32, 16, sha, 9, 4096, Some(Kind::BadTagSize)),
-        (32, 16, sha, 33, 4096, Some(Kind::BadTagSize)),
-        (
-            32,
-            16,
-            HashType::UnknownHash,
-            9,
-            4096,
-            Some(Kind::BadTagSize),
-        ),
-        (
-            32,
-            16,
-            HashType::UnknownHash,
-            10,
-            4096,
-            Some(Kind::UnknownHash),
-        ),
-        (32, 16, sha, 10, 34, Some(Kind::SegmentTooSmall)),
-        (32, 16, sha, 10, 35, None),
-    ] {
-        let told = ctr_refusal(alloc, main, derived, tag_alg, tag, segment);
-        expect(&rt, told, wanted, "the refusal");
-    }
-}
-
-#[test]
-fn refuses_keys_by_gcm(rt: HostRuntime) {
-    let alloc = rt.alloc();
-    for (main, derived, segment, offset, wanted) in [
-        (15, 16, 4096, 0, Some(Kind::BadKeySize)),
-        (31, 32, 4096, 0, Some(Kind::BadKeySize)),
-        (32, 24, 4096, 0, Some(Kind::BadKeySize)),
-        (32, 16, 40, 0, Some(Kind::SegmentTooSmall)),
-        (32, 16, 41, 0, None),
-        (32, 16, 41, 1, Some(Kind::SegmentTooSmall)),
-        (32, 16, u32::MAX, u32::MAX, Some(Kind::SegmentTooSmall)),
-    ] {
-        let told = gcm_refusal(alloc, main, derived, segment, offset);
-        expect(&rt, told, wanted, "the refusal");
-    }
+// What is asked.
+#[derive(Clone, Copy)]
+enum Asked {
+    // that a key in counter mode is made of so many bytes of the main key, with this derived size, hash and size of a tag,
+    // and size of segments
+    Ctr(usize, usize, HashType, usize, u32),
+    // the same of a key by GCM, with these sizes of segments and of their offset
+    Gcm(usize, usize, u32, u32),
+    // that a key by GCM with this hash of HKDF derives a cipher
+    DerivesBy(HashType),
+    // that a key has so long a header, and a copy of it derives Python's segment
+    CtrSegment(usize),
+    GcmSegment(usize),
 }
 
 // A key in counter mode with the whole main key.
@@ -131,94 +53,191 @@ fn counter_mode_key(alloc: Global) -> Result<AesCtrHmac, TinkError> {
 }
 
 // A key by GCM with the whole main key.
-fn gcm_key(alloc: Global) -> Result<AesGcmHkdf, TinkError> {
-    AesGcmHkdf::new(alloc, MAIN, HashType::Sha512, 16, 4096, 0)
+fn gcm_key(alloc: Global, hkdf_alg: HashType) -> Result<AesGcmHkdf, TinkError> {
+    AesGcmHkdf::new(alloc, MAIN, hkdf_alg, 16, 4096, 0)
 }
 
-// What a copy of a key derives with a salt.
-fn derived(alloc: Global, key: &StreamKind, salt: &[u8]) -> Result<StreamSegment, TinkError> {
-    key.try_clone(alloc)?.derive(salt, b"associated")
+// Whether the text has this segment, which opens to the text.
+fn does(alloc: Global, cipher: &StreamSegment, segment: &[u8]) -> Result<bool, TinkError> {
+    let is_made = made(alloc, cipher, TEXT, NONCE)?.as_slice() == segment;
+    Ok(opened(alloc, cipher, segment, NONCE)?.as_slice() == TEXT.as_slice() && is_made)
 }
 
-fn sealed(alloc: Global, cipher: &StreamSegment) -> Result<Bytes, TinkError> {
-    match cipher {
-        StreamSegment::CtrHmac(cipher) => cipher.encrypt_segment(alloc, TEXT, &NONCE),
-        StreamSegment::Gcm(cipher) => cipher.encrypt_segment(alloc, TEXT, &NONCE[..12]),
-    }
-}
-
-fn opened(alloc: Global, cipher: &StreamSegment) -> Result<Bytes, TinkError> {
-    match cipher {
-        StreamSegment::CtrHmac(cipher) => cipher.decrypt_segment(alloc, IN_COUNTER_MODE, &NONCE),
-        StreamSegment::Gcm(cipher) => cipher.decrypt_segment(alloc, BY_GCM, &NONCE[..12]),
-    }
-}
-
-// The text's segment, which opens to the text.
-fn expect_segment(
-    rt: &impl Abort,
-    alloc: Global,
-    cipher: &StreamSegment,
-    segment: &[u8],
-) -> Result<(), TinkError> {
-    expect_bytes(
-        rt,
-        sealed(alloc, cipher)?.as_slice(),
-        segment,
-        "the segment",
-    );
-    expect_bytes(rt, opened(alloc, cipher)?.as_slice(), TEXT, "the text");
-    Ok(())
-}
-
-// What a key derives with a salt makes this segment of the text.
-fn expect_derived(
-    rt: &impl Abort,
+// Whether what a copy of a key derives with a salt makes this segment.
+fn derives(
     alloc: Global,
     key: &StreamKind,
     salt: &[u8],
     segment: &[u8],
-) -> Result<(), TinkError> {
-    let cipher = derived(alloc, key, salt)?;
-    expect_segment(rt, alloc, &cipher, segment)
+) -> Result<bool, TinkError> {
+    let cipher = key.try_clone(alloc)?.derive(salt, b"associated")?;
+    does(alloc, &cipher, segment)
 }
 
-#[test]
-fn derives_segments_in_counter_mode(rt: HostRuntime) -> Result<(), Fail> {
-    let key = counter_mode_key(rt.alloc())?;
-    expect(&rt, key.header_length(), 40, "the header");
-    let key = StreamKind::CtrHmac(key);
-    expect_derived(&rt, rt.alloc(), &key, SALT, IN_COUNTER_MODE)?;
-    Ok(())
+fn ctr_segment(alloc: Global, header: usize) -> Result<bool, TinkError> {
+    let key = counter_mode_key(alloc)?;
+    let is_long = key.header_length() == header;
+    Ok(derives(alloc, &StreamKind::CtrHmac(key), SALT, IN_COUNTER_MODE)? && is_long)
 }
 
-#[test]
-fn derives_segments_by_gcm(rt: HostRuntime) -> Result<(), Fail> {
-    let key = gcm_key(rt.alloc())?;
-    expect(&rt, key.header_length(), 24, "the header");
-    let key = StreamKind::GcmHkdf(key);
-    expect_derived(&rt, rt.alloc(), &key, &SALT[..16], BY_GCM)?;
-    Ok(())
+fn gcm_segment(alloc: Global, header: usize) -> Result<bool, TinkError> {
+    let key = gcm_key(alloc, HashType::Sha512)?;
+    let is_long = key.header_length() == header;
+    Ok(derives(alloc, &StreamKind::GcmHkdf(key), &SALT[..16], BY_GCM)? && is_long)
 }
 
-// Why a key with this hash of HKDF derives nothing.
-fn derive_refusal(alloc: Global, hkdf_alg: HashType) -> Result<Option<Kind>, TinkError> {
-    let key = AesGcmHkdf::new(alloc, MAIN, hkdf_alg, 16, 4096, 0)?;
-    match key.derive(&SALT[..16], &[]) {
-        Ok(_) => Ok(None),
-        Err(e) => Ok(Some(e.kind)),
+fn derives_by(alloc: Global, hkdf_alg: HashType) -> Result<StreamSegment, TinkError> {
+    gcm_key(alloc, hkdf_alg)?.derive(&SALT[..16], &[])
+}
+
+// Whether something is made, or why it is refused.
+fn is_made<T: Drop>(told: Result<T, TinkError>) -> Result<bool, TinkError> {
+    match told {
+        Ok(_) => Ok(true),
+        Err(e) => Err(e),
     }
 }
 
-#[test]
-fn derives_nothing_by_some_hashes(rt: HostRuntime) -> Result<(), Fail> {
-    let alloc = rt.alloc();
-    for (hkdf_alg, wanted) in [
-        (HashType::UnknownHash, Some(Kind::UnknownHash)),
-        (HashType::Sha224, Some(Kind::UnsupportedHash)),
-        (HashType::Sha384, None),
-    ] {
-        expect(&rt, derive_refusal(alloc, hkdf_alg)?, wanted, "the refusal");
+fn main_key(n: usize) -> &'static [u8] {
+    MAIN.get(..n).unwrap_or(MAIN)
+}
+
+fn answered(alloc: Global, asked: Asked) -> Result<bool, TinkError> {
+    let sha = HashType::Sha256;
+    match asked {
+        Asked::Ctr(main, derived, alg, tag, segment) => is_made(AesCtrHmac::new(
+            alloc,
+            main_key(main),
+            sha,
+            derived,
+            alg,
+            tag,
+            segment,
+            0,
+        )),
+        Asked::Gcm(main, derived, segment, offset) => is_made(AesGcmHkdf::new(
+            alloc,
+            main_key(main),
+            sha,
+            derived,
+            segment,
+            offset,
+        )),
+        Asked::DerivesBy(hkdf_alg) => is_made(derives_by(alloc, hkdf_alg)),
+        Asked::CtrSegment(header) => ctr_segment(alloc, header),
+        Asked::GcmSegment(header) => gcm_segment(alloc, header),
     }
-    Ok(())
+}
+
+// The answer by its kind.
+fn by_kind(told: Result<bool, TinkError>) -> Result<bool, Kind> {
+    match told {
+        Ok(is_so) => Ok(is_so),
+        Err(e) => Err(e.kind),
+    }
+}
+
+use HashType::{Sha224, Sha256, Sha384, UnknownHash};
+
+const ROWS: &[(&str, Asked, Result<bool, Kind>)] = &[
+    (
+        "ctr 15, 16, 16, 4096",
+        Asked::Ctr(15, 16, Sha256, 16, 4096),
+        Err(Kind::BadKeySize),
+    ),
+    (
+        "ctr 31, 32, 16, 4096",
+        Asked::Ctr(31, 32, Sha256, 16, 4096),
+        Err(Kind::BadKeySize),
+    ),
+    (
+        "ctr 32, 24, 16, 4096",
+        Asked::Ctr(32, 24, Sha256, 16, 4096),
+        Err(Kind::BadKeySize),
+    ),
+    (
+        "ctr 32, 16, 9, 4096",
+        Asked::Ctr(32, 16, Sha256, 9, 4096),
+        Err(Kind::BadTagSize),
+    ),
+    (
+        "ctr 32, 16, 33, 4096",
+        Asked::Ctr(32, 16, Sha256, 33, 4096),
+        Err(Kind::BadTagSize),
+    ),
+    (
+        "ctr 32, 16, 9, 4096, no hash",
+        Asked::Ctr(32, 16, UnknownHash, 9, 4096),
+        Err(Kind::BadTagSize),
+    ),
+    (
+        "ctr 32, 16, 10, 4096, no hash",
+        Asked::Ctr(32, 16, UnknownHash, 10, 4096),
+        Err(Kind::UnknownHash),
+    ),
+    (
+        "ctr 32, 16, 10, 34",
+        Asked::Ctr(32, 16, Sha256, 10, 34),
+        Err(Kind::SegmentTooSmall),
+    ),
+    (
+        "ctr 32, 16, 10, 35",
+        Asked::Ctr(32, 16, Sha256, 10, 35),
+        Ok(true),
+    ),
+    (
+        "gcm 15, 16, 4096, 0",
+        Asked::Gcm(15, 16, 4096, 0),
+        Err(Kind::BadKeySize),
+    ),
+    (
+        "gcm 31, 32, 4096, 0",
+        Asked::Gcm(31, 32, 4096, 0),
+        Err(Kind::BadKeySize),
+    ),
+    (
+        "gcm 32, 24, 4096, 0",
+        Asked::Gcm(32, 24, 4096, 0),
+        Err(Kind::BadKeySize),
+    ),
+    (
+        "gcm 32, 16, 40, 0",
+        Asked::Gcm(32, 16, 40, 0),
+        Err(Kind::SegmentTooSmall),
+    ),
+    ("gcm 32, 16, 41, 0", Asked::Gcm(32, 16, 41, 0), Ok(true)),
+    (
+        "gcm 32, 16, 41, 1",
+        Asked::Gcm(32, 16, 41, 1),
+        Err(Kind::SegmentTooSmall),
+    ),
+    (
+        "gcm 32, 16, most, most",
+        Asked::Gcm(32, 16, u32::MAX, u32::MAX),
+        Err(Kind::SegmentTooSmall),
+    ),
+    (
+        "derives by no hash",
+        Asked::DerivesBy(UnknownHash),
+        Err(Kind::UnknownHash),
+    ),
+    (
+        "derives by SHA-224",
+        Asked::DerivesBy(Sha224),
+        Err(Kind::UnsupportedHash),
+    ),
+    ("derives by SHA-384", Asked::DerivesBy(Sha384), Ok(true)),
+    (
+        "derives a segment in counter mode",
+        Asked::CtrSegment(40),
+        Ok(true),
+    ),
+    ("derives a segment by GCM", Asked::GcmSegment(24), Ok(true)),
+];
+
+#[test]
+fn keys_are_made_and_derive(rt: HostRuntime) {
+    for (row, asked, want) in ROWS {
+        expect(&rt, by_kind(answered(rt.alloc(), *asked)), *want, row);
+    }
 }

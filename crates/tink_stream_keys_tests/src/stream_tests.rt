@@ -1,154 +1,33 @@
 //! Streams under keys of either kind, over memory.
 
 use crate::callers::new_stream;
-use crate::comparing::{expect, expect_bytes};
+use crate::comparing::expect;
 use crate::streams::{
-    BY_GCM, DRAWS, IN_COUNTER_MODE, MAIN, TEXT, draws, expect_opened, key_of, new_writer, sealed,
-    sink,
+    BY_GCM, DRAWS, IN_COUNTER_MODE, MAIN, TEXT, draws, key_of, new_writer, opens, sealed, sink,
 };
 use std::alloc::Global;
-use std::process::Abort;
-use std::test::Fail;
 use tink_io::{Draws, Kind, TinkError};
 use tink_proto::HashType;
 use tink_stream_keys::{AesGcmHkdf, StreamKind};
 
-const SHA: HashType = HashType::Sha256;
-
-// The text's stream, written in pieces of one, ten and sixty bytes.
-fn expect_sealed(
-    rt: &impl Abort,
-    alloc: Global,
-    key: &StreamKind,
-    stream: &[u8],
-) -> Result<(), TinkError> {
-    for piece in [1usize, 10, 60] {
-        let told = sealed(alloc, key, DRAWS, TEXT, piece)?;
-        expect_bytes(rt, &told, stream, "the stream");
-    }
-    Ok(())
+// What is asked of a key.
+#[derive(Clone, Copy)]
+enum Asked {
+    // that the text's stream, written in pieces of so many bytes, is this one
+    Seals(&'static [u8], usize),
+    // that a stream, of whose source these calls fail, opens to so many bytes of the text, and by what it is refused
+    Opens(&'static [u8], &'static [u32], usize, Option<Kind>),
+    // that a stream in pieces of ten has so many bytes, and opens to the text
+    BothWays(usize),
+    // that a new writer, of so many draws, to a sink of which these calls fail, leaves so many draws, by what it is
+    // refused, and how many bytes of the header are then written
+    Begins(usize, &'static [u32], (usize, Option<Kind>, usize)),
 }
 
-#[test]
-fn streams_are_those_of_python(rt: HostRuntime) -> Result<(), Fail> {
-    let alloc = rt.alloc();
-    expect_sealed(&rt, alloc, &key_of(alloc, true, SHA, 50)?, IN_COUNTER_MODE)?;
-    expect_sealed(&rt, alloc, &key_of(alloc, false, SHA, 50)?, BY_GCM)?;
-    Ok(())
-}
-
-// A key's kind and hash, a stream, the calls of its source that fail, how many bytes of the text it opens to, and by
-// what it is refused.
-type Opened = (
-    bool,
-    HashType,
-    &'static [u8],
-    &'static [u32],
-    usize,
-    Option<Kind>,
-);
-
-const OPENED: [Opened; 12] = [
-    // those of Python open
-    (true, SHA, IN_COUNTER_MODE, &[], 60, None),
-    (false, SHA, BY_GCM, &[], 60, None),
-    // hashes are refused behind the header
-    (
-        false,
-        HashType::Sha224,
-        BY_GCM,
-        &[],
-        0,
-        Some(Kind::UnsupportedHash),
-    ),
-    (
-        false,
-        HashType::Sha224,
-        b"\x18",
-        &[],
-        0,
-        Some(Kind::NoMatchingKey),
-    ),
-    (
-        false,
-        HashType::UnknownHash,
-        BY_GCM,
-        &[],
-        0,
-        Some(Kind::UnknownHash),
-    ),
-    // a source may fail in the header and behind
-    (true, SHA, IN_COUNTER_MODE, &[3], 0, Some(Kind::ReadFault)),
-    (true, SHA, IN_COUNTER_MODE, &[8], 16, Some(Kind::ReadFault)),
-    // headers are whole and have their mark
-    (true, SHA, &[], &[], 0, Some(Kind::NoMatchingKey)),
-    (true, SHA, &[24; 23], &[], 0, Some(Kind::NoMatchingKey)),
-    (true, SHA, &[25; 24], &[], 0, Some(Kind::NoMatchingKey)),
-    (true, SHA, &[40; 50], &[], 0, Some(Kind::NoMatchingKey)),
-    (true, SHA, &[24; 24], &[], 0, Some(Kind::Truncated(0))),
-];
-
-fn expect_case(rt: &impl Abort, alloc: Global, case: &Opened) -> Result<(), TinkError> {
-    let (in_counter_mode, hkdf_alg, stream, fails, bytes, refused) = *case;
-    let key = key_of(alloc, in_counter_mode, hkdf_alg, 50)?;
-    let text = TEXT.get(..bytes).unwrap_or(&[]);
-    expect_opened(rt, alloc, &key, stream, fails, (text, refused))
-}
-
-#[test]
-fn streams_open_as_far_as_they_agree(rt: HostRuntime) -> Result<(), Fail> {
-    for case in &OPENED {
-        expect_case(&rt, rt.alloc(), case)?;
-    }
-    Ok(())
-}
-
-// A stream of a hundred bytes in one segment.
-fn expect_both_ways(rt: &impl Abort, alloc: Global, key: &StreamKind) -> Result<(), TinkError> {
+fn goes_both_ways(alloc: Global, key: &StreamKind, n: usize) -> Result<bool, TinkError> {
     let stream = sealed(alloc, key, DRAWS, TEXT, 10)?;
-    expect(rt, stream.len(), 100, "the stream's length");
-    expect_opened(rt, alloc, key, &stream, &[], (TEXT, None))
+    Ok(opens(alloc, key, &stream, &[], (TEXT, None))? && stream.len() == n)
 }
-
-#[test]
-fn pieces_of_ten_go_both_ways(rt: HostRuntime) -> Result<(), Fail> {
-    let key = key_of(rt.alloc(), false, SHA, 4096)?;
-    expect_both_ways(&rt, rt.alloc(), &key)?;
-    Ok(())
-}
-
-// A key's kind and hash, how many draws there are, the calls of a sink that fail; how many draws a new writer leaves,
-// what it is refused by, and how much of the header is then written.
-type Begun = (
-    bool,
-    HashType,
-    usize,
-    &'static [u32],
-    (usize, Option<Kind>, usize),
-);
-
-const BEGUN: [Begun; 5] = [
-    // too few draws stay
-    (false, SHA, 22, &[], (22, Some(Kind::RandomFault), 0)),
-    (false, SHA, 23, &[], (0, None, 24)),
-    // hashes are refused behind the draws
-    (
-        false,
-        HashType::Sha224,
-        23,
-        &[],
-        (0, Some(Kind::UnsupportedHash), 0),
-    ),
-    (
-        true,
-        HashType::UnknownHash,
-        23,
-        &[],
-        (0, Some(Kind::UnknownHash), 0),
-    ),
-    // a sink that fails has a part of the header
-    (true, SHA, 23, &[2], (0, Some(Kind::WriteFault), 10)),
-];
 
 // What a new writer is refused by, and what the sink then has.
 fn refusal(
@@ -163,33 +42,16 @@ fn refusal(
     }
 }
 
-fn expect_refusal(
-    rt: &impl Abort,
+fn begins(
     alloc: Global,
+    key: &StreamKind,
     draws: &mut Draws,
-    case: &Begun,
-) -> Result<(), TinkError> {
-    let (in_counter_mode, hkdf_alg, _, fails, wanted) = *case;
-    let key = key_of(alloc, in_counter_mode, hkdf_alg, 50)?;
-    let (refused, written) = refusal(alloc, &key, draws, fails)?;
+    fails: &[u32],
+    wanted: (usize, Option<Kind>, usize),
+) -> Result<bool, TinkError> {
+    let (refused, written) = refusal(alloc, key, draws, fails)?;
     let told = (draws.left(), refused, written.len());
-    expect(rt, told, wanted, "a new writer");
-    let header = BY_GCM.get(..written.len()).unwrap_or(&[]);
-    expect_bytes(rt, &written, header, "the header");
-    Ok(())
-}
-
-fn expect_begun(rt: &impl Abort, alloc: Global, case: &Begun) -> Result<(), TinkError> {
-    let mut draws = draws(alloc, DRAWS.get(..case.2).unwrap_or(DRAWS))?;
-    expect_refusal(rt, alloc, &mut draws, case)
-}
-
-#[test]
-fn new_writers_write_the_header_alone(rt: HostRuntime) -> Result<(), Fail> {
-    for case in &BEGUN {
-        expect_begun(&rt, rt.alloc(), case)?;
-    }
-    Ok(())
+    Ok(told == wanted && BY_GCM.starts_with(&written))
 }
 
 // What the sink of a new stream has.
@@ -201,10 +63,197 @@ fn begun(alloc: Global, key: &AesGcmHkdf) -> Result<Vec<u8>, TinkError> {
     }
 }
 
+fn has_header(alloc: Global) -> Result<bool, TinkError> {
+    let key = AesGcmHkdf::new(alloc, MAIN, HashType::Sha256, 16, 50, 0)?;
+    let header = begun(alloc, &key)?;
+    Ok(header.len() == 24 && BY_GCM.starts_with(&header))
+}
+
+fn does(alloc: Global, key: &StreamKind, asked: Asked) -> Result<bool, TinkError> {
+    match asked {
+        Asked::Seals(stream, piece) => {
+            Ok(sealed(alloc, key, DRAWS, TEXT, piece)?.as_slice() == stream)
+        }
+        Asked::Opens(stream, fails, n, refused) => {
+            let text = TEXT.get(..n).unwrap_or(&[]);
+            opens(alloc, key, stream, fails, (text, refused))
+        }
+        Asked::BothWays(n) => goes_both_ways(alloc, key, n),
+        Asked::Begins(n, fails, wanted) => {
+            let mut draws = draws(alloc, DRAWS.get(..n).unwrap_or(DRAWS))?;
+            begins(alloc, key, &mut draws, fails, wanted)
+        }
+    }
+}
+
+// What is asked of a key in counter mode, or by GCM, with this hash of HKDF and segments of this size.
+type Row = (&'static str, bool, HashType, u32, Asked);
+
+fn answered(alloc: Global, row: &Row) -> Result<bool, TinkError> {
+    let (_, in_counter_mode, hkdf_alg, segment, asked) = *row;
+    match key_of(alloc, in_counter_mode, hkdf_alg, segment) {
+        Ok(key) => does(alloc, &key, asked),
+        Err(e) => Err(e),
+    }
+}
+
+use Asked::{Begins, BothWays, Opens, Seals};
+use HashType::{Sha224, Sha256, UnknownHash};
+
+const ROWS: &[Row] = &[
+    // written in pieces, the streams are those of Python
+    (
+        "ctr in pieces of 1",
+        true,
+        Sha256,
+        50,
+        Seals(IN_COUNTER_MODE, 1),
+    ),
+    (
+        "ctr in pieces of 10",
+        true,
+        Sha256,
+        50,
+        Seals(IN_COUNTER_MODE, 10),
+    ),
+    (
+        "ctr in pieces of 60",
+        true,
+        Sha256,
+        50,
+        Seals(IN_COUNTER_MODE, 60),
+    ),
+    ("gcm in pieces of 1", false, Sha256, 50, Seals(BY_GCM, 1)),
+    ("gcm in pieces of 10", false, Sha256, 50, Seals(BY_GCM, 10)),
+    ("gcm in pieces of 60", false, Sha256, 50, Seals(BY_GCM, 60)),
+    // those of Python open
+    (
+        "ctr",
+        true,
+        Sha256,
+        50,
+        Opens(IN_COUNTER_MODE, &[], 60, None),
+    ),
+    ("gcm", false, Sha256, 50, Opens(BY_GCM, &[], 60, None)),
+    // hashes are refused behind the header
+    (
+        "SHA-224",
+        false,
+        Sha224,
+        50,
+        Opens(BY_GCM, &[], 0, Some(Kind::UnsupportedHash)),
+    ),
+    (
+        "SHA-224, one byte",
+        false,
+        Sha224,
+        50,
+        Opens(b"\x18", &[], 0, Some(Kind::NoMatchingKey)),
+    ),
+    (
+        "no hash",
+        false,
+        UnknownHash,
+        50,
+        Opens(BY_GCM, &[], 0, Some(Kind::UnknownHash)),
+    ),
+    // a source may fail in the header and behind
+    (
+        "call 3 fails",
+        true,
+        Sha256,
+        50,
+        Opens(IN_COUNTER_MODE, &[3], 0, Some(Kind::ReadFault)),
+    ),
+    (
+        "call 8 fails",
+        true,
+        Sha256,
+        50,
+        Opens(IN_COUNTER_MODE, &[8], 16, Some(Kind::ReadFault)),
+    ),
+    // headers are whole and have their mark
+    (
+        "empty",
+        true,
+        Sha256,
+        50,
+        Opens(&[], &[], 0, Some(Kind::NoMatchingKey)),
+    ),
+    (
+        "shorter",
+        true,
+        Sha256,
+        50,
+        Opens(&[24; 23], &[], 0, Some(Kind::NoMatchingKey)),
+    ),
+    (
+        "another mark",
+        true,
+        Sha256,
+        50,
+        Opens(&[25; 24], &[], 0, Some(Kind::NoMatchingKey)),
+    ),
+    (
+        "a mark of 40",
+        true,
+        Sha256,
+        50,
+        Opens(&[40; 50], &[], 0, Some(Kind::NoMatchingKey)),
+    ),
+    (
+        "a header alone",
+        true,
+        Sha256,
+        50,
+        Opens(&[24; 24], &[], 0, Some(Kind::Truncated(0))),
+    ),
+    // one segment
+    ("both ways", false, Sha256, 4096, BothWays(100)),
+    // a new writer writes the header alone; too few draws stay
+    (
+        "22 draws",
+        false,
+        Sha256,
+        50,
+        Begins(22, &[], (22, Some(Kind::RandomFault), 0)),
+    ),
+    (
+        "23 draws",
+        false,
+        Sha256,
+        50,
+        Begins(23, &[], (0, None, 24)),
+    ),
+    // hashes are refused behind the draws
+    (
+        "SHA-224, draws",
+        false,
+        Sha224,
+        50,
+        Begins(23, &[], (0, Some(Kind::UnsupportedHash), 0)),
+    ),
+    (
+        "no hash, draws",
+        true,
+        UnknownHash,
+        50,
+        Begins(23, &[], (0, Some(Kind::UnknownHash), 0)),
+    ),
+    // a sink that fails has a part of the header
+    (
+        "a sink that fails",
+        true,
+        Sha256,
+        50,
+        Begins(23, &[2], (0, Some(Kind::WriteFault), 10)),
+    ),
+];
+
 #[test]
-fn a_new_stream_has_its_header(rt: HostRuntime) -> Result<(), Fail> {
-    let key = AesGcmHkdf::new(rt.alloc(), MAIN, SHA, 16, 50, 0)?;
-    let header = begun(rt.alloc(), &key)?;
-    expect_bytes(&rt, &header, BY_GCM.get(..24).unwrap_or(&[]), "the header");
-    Ok(())
+fn streams_are_as_the_rows_say(rt: HostRuntime) {
+    for row in ROWS {
+        expect(&rt, answered(rt.alloc(), row), Ok(true), row.0);
+    }
+    expect(&rt, has_header(rt.alloc()), Ok(true), "a new stream");
 }

@@ -1,8 +1,6 @@
 //! Keys of streams of either kind, memory to write to and read from, and streams that Python made.
 
-use crate::comparing::{expect, expect_bytes};
 use std::alloc::Global;
-use std::process::Abort;
 use tink_io::{Draws, Kind, MemSink, MemSource, TinkError};
 use tink_primitives::{Refused, StreamingAead};
 use tink_proto::HashType;
@@ -169,19 +167,15 @@ fn read_pieces(
     Ok(Some(Kind::TooManySegments))
 }
 
-/// A stream, from a source whose calls of these numbers fail, that opens to some text, and by what it is refused.
-pub fn expect_opened(
-    rt: &impl Abort,
+/// Whether a stream, from a source whose calls of these numbers fail, opens to this text, up to what it is refused by.
+pub fn opens(
     alloc: Global,
     key: &StreamKind,
     stream: &[u8],
     fails: &[u32],
-    wanted: (&[u8], Option<Kind>),
-) -> Result<(), TinkError> {
+    (text, refused): (&[u8], Option<Kind>),
+) -> Result<bool, TinkError> {
     let stream = source(alloc, stream, fails)?;
-    let mut text = Vec::new(alloc);
-    let refused = open_into(alloc, key, stream, &mut text)?;
-    expect(rt, refused, wanted.1, "the refusal");
-    expect_bytes(rt, &text, wanted.0, "the text");
-    Ok(())
+    let mut told = Vec::new(alloc);
+    Ok(open_into(alloc, key, stream, &mut told)? == refused && told.as_slice() == text)
 }
