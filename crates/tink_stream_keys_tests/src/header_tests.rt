@@ -71,6 +71,14 @@ pub fn opened(
     }
 }
 
+/// Whether these are the bytes, or how they are refused.
+pub fn is(told: Result<Bytes, TinkError>, want: &[u8]) -> Result<bool, TinkError> {
+    match told {
+        Ok(bytes) => Ok(bytes.as_slice() == want),
+        Err(e) => Err(e),
+    }
+}
+
 // Whether a cipher does what is asked at one segment. The nonce is the header's prefix, the number, the mark of the last
 // segment, and zeros.
 fn does_at(
@@ -88,8 +96,8 @@ fn does_at(
         80, 81, 82, 83, 84, 85, 86, 0, 0, 0, number, mark, 0, 0, 0, 0,
     ];
     match asked {
-        Asked::Opens => Ok(opened(alloc, cipher, segment, &nonce)?.as_slice() == text),
-        Asked::Makes => Ok(made(alloc, cipher, text, &nonce)?.as_slice() == segment),
+        Asked::Opens => is(opened(alloc, cipher, segment, &nonce), text),
+        Asked::Makes => is(made(alloc, cipher, text, &nonce), segment),
     }
 }
 
@@ -302,8 +310,8 @@ fn answered(alloc: Global, row: &Row) -> Result<bool, TinkError> {
     }
 }
 
-// The answer by its kind.
-fn by_kind(told: Result<bool, TinkError>) -> Result<bool, Kind> {
+/// The answer by its kind.
+pub fn by_kind(told: Result<bool, TinkError>) -> Result<bool, Kind> {
     match told {
         Ok(is_so) => Ok(is_so),
         Err(e) => Err(e.kind),

@@ -1,7 +1,7 @@
 //! Which keys of streams are made, and segments that Python made under derived keys.
 
 use crate::comparing::expect;
-use crate::header_tests::{made, opened};
+use crate::header_tests::{by_kind, is, made, opened};
 use std::alloc::Global;
 use tink_core::CloneIn;
 use tink_io::{Kind, TinkError};
@@ -59,8 +59,8 @@ fn gcm_key(alloc: Global, hkdf_alg: HashType) -> Result<AesGcmHkdf, TinkError> {
 
 // Whether the text has this segment, which opens to the text.
 fn does(alloc: Global, cipher: &StreamSegment, segment: &[u8]) -> Result<bool, TinkError> {
-    let is_made = made(alloc, cipher, TEXT, NONCE)?.as_slice() == segment;
-    Ok(opened(alloc, cipher, segment, NONCE)?.as_slice() == TEXT.as_slice() && is_made)
+    let is_made = is(made(alloc, cipher, TEXT, NONCE), segment)?;
+    Ok(is(opened(alloc, cipher, segment, NONCE), TEXT)? && is_made)
 }
 
 // Whether what a copy of a key derives with a salt makes this segment.
@@ -126,14 +126,6 @@ fn answered(alloc: Global, asked: Asked) -> Result<bool, TinkError> {
         Asked::DerivesBy(hkdf_alg) => is_made(derives_by(alloc, hkdf_alg)),
         Asked::CtrSegment(header) => ctr_segment(alloc, header),
         Asked::GcmSegment(header) => gcm_segment(alloc, header),
-    }
-}
-
-// The answer by its kind.
-fn by_kind(told: Result<bool, TinkError>) -> Result<bool, Kind> {
-    match told {
-        Ok(is_so) => Ok(is_so),
-        Err(e) => Err(e.kind),
     }
 }
 

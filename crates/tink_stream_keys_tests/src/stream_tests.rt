@@ -45,44 +45,46 @@ fn refusal(
 fn begins(
     alloc: Global,
     key: &StreamKind,
-    draws: &mut Draws,
+    n: usize,
     fails: &[u32],
     wanted: (usize, Option<Kind>, usize),
 ) -> Result<bool, TinkError> {
-    let (refused, written) = refusal(alloc, key, draws, fails)?;
+    let mut draws = draws(alloc, DRAWS.get(..n).unwrap_or(DRAWS))?;
+    let (refused, written) = refusal(alloc, key, &mut draws, fails)?;
     let told = (draws.left(), refused, written.len());
     Ok(told == wanted && BY_GCM.starts_with(&written))
 }
 
-// What the sink of a new stream has.
-fn begun(alloc: Global, key: &AesGcmHkdf) -> Result<Vec<u8>, TinkError> {
-    let mut draws = draws(alloc, DRAWS)?;
-    match new_stream(alloc, key, &mut draws, sink(alloc, &[])?, b"data") {
-        Ok(writer) => Ok(writer.into_inner().into_bytes()),
+// Whether the sink of a new stream has the header alone.
+fn begins_by_header(alloc: Global, key: &AesGcmHkdf, draws: &mut Draws) -> Result<bool, TinkError> {
+    match new_stream(alloc, key, draws, sink(alloc, &[])?, b"data") {
+        Ok(writer) => Ok(writer.into_inner().bytes() == &BY_GCM[..24]),
         Err(refused) => Err(refused.error),
     }
 }
 
 fn has_header(alloc: Global) -> Result<bool, TinkError> {
+    let mut draws = draws(alloc, DRAWS)?;
     let key = AesGcmHkdf::new(alloc, MAIN, HashType::Sha256, 16, 50, 0)?;
-    let header = begun(alloc, &key)?;
-    Ok(header.len() == 24 && BY_GCM.starts_with(&header))
+    begins_by_header(alloc, &key, &mut draws)
+}
+
+fn seals(alloc: Global, key: &StreamKind, stream: &[u8], piece: usize) -> Result<bool, TinkError> {
+    match sealed(alloc, key, DRAWS, TEXT, piece) {
+        Ok(told) => Ok(told.as_slice() == stream),
+        Err(e) => Err(e),
+    }
 }
 
 fn does(alloc: Global, key: &StreamKind, asked: Asked) -> Result<bool, TinkError> {
     match asked {
-        Asked::Seals(stream, piece) => {
-            Ok(sealed(alloc, key, DRAWS, TEXT, piece)?.as_slice() == stream)
-        }
+        Asked::Seals(stream, piece) => seals(alloc, key, stream, piece),
         Asked::Opens(stream, fails, n, refused) => {
             let text = TEXT.get(..n).unwrap_or(&[]);
             opens(alloc, key, stream, fails, (text, refused))
         }
         Asked::BothWays(n) => goes_both_ways(alloc, key, n),
-        Asked::Begins(n, fails, wanted) => {
-            let mut draws = draws(alloc, DRAWS.get(..n).unwrap_or(DRAWS))?;
-            begins(alloc, key, &mut draws, fails, wanted)
-        }
+        Asked::Begins(n, fails, wanted) => begins(alloc, key, n, fails, wanted),
     }
 }
 
