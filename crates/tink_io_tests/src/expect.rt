@@ -9,7 +9,3 @@ where
 {
     assert_eq!(rt; got, want, "{label}");
 }
-
-pub fn expect_bytes(rt: &impl Abort, got: &[u8], want: &[u8], label: &str) {
-    assert_eq!(rt; got, want, "{label}");
-}

@@ -3,9 +3,9 @@
 ghost use Rattle.std.specs.Io.KnownBytes.{Appends};
 ghost use Rattle.std.specs.Prelude.{OnOk, ◌++◌};
 
-use crate::expect::{expect, expect_bytes};
+use crate::expect::expect;
+use crate::memory::sink_of;
 use std::alloc::Global;
-use std::test::Fail;
 use tink_gathered::{Gathered, room};
 use tink_io::{MemSink, Sink, TinkError, write_all};
 
@@ -38,23 +38,35 @@ fn write_pieces<K: Sink>(sink: &mut K, text: &[u8], lengths: &[usize]) -> Result
 // How many bytes a sink has got once pieces are written, and once they are flushed, with whether each succeeded.
 type Told = (usize, bool, usize, bool);
 
-// Pieces of these lengths to a sink of so many bytes a call whose call of a number fails.
+// What is told of pieces of these lengths, and whether the bytes are the text's.
 fn gather(
+    sink: &mut MemSink,
+    waiting: &mut Vec<u8>,
+    text: &[u8],
+    lengths: &[usize],
+) -> (Told, bool) {
+    let mut gathered = Gathered::new(sink, waiting);
+    let written = write_pieces(&mut gathered, text, lengths).is_ok();
+    let got = gathered.sink.bytes().len();
+    let flushed = gathered.flush().is_ok();
+    let bytes = gathered.sink.bytes();
+    (
+        (got, written, bytes.len(), flushed),
+        text.starts_with(bytes),
+    )
+}
+
+// The same of a sink of so many bytes a call whose call of a number fails.
+fn told(
     alloc: Global,
     text: &[u8],
     lengths: &[usize],
     piece: usize,
     fails: u32,
-) -> Result<(Told, Vec<u8>), TinkError> {
-    let mut sink = MemSink::new(alloc, piece, Vec::from_slice(alloc, &[fails])?);
-    sink.reserve(alloc, text.len())?;
+) -> Result<(Told, bool), TinkError> {
     let mut waiting = room(alloc)?;
-    let mut gathered = Gathered::new(&mut sink, &mut waiting);
-    let written = write_pieces(&mut gathered, text, lengths).is_ok();
-    let got = gathered.sink.bytes().len();
-    let flushed = gathered.flush().is_ok();
-    let bytes = sink.into_bytes();
-    Ok(((got, written, bytes.len(), flushed), bytes))
+    let mut sink = sink_of(alloc, piece, fails, text.len())?;
+    Ok(gather(&mut sink, &mut waiting, text, lengths))
 }
 
 // Bytes that repeat after 251.
@@ -86,30 +98,28 @@ const ROWS: &[(&[usize], usize, u32, Told)] = &[
     (&[1, 2, 3, 4], 7, 2, (0, true, 7, false)),
 ];
 
-#[test]
-fn pieces_wait_for_the_next_ones(rt: HostRuntime) -> Result<(), Fail> {
-    let alloc = rt.alloc();
+// The number of the first row that is told otherwise.
+fn wrong_row(alloc: Global) -> Result<Option<usize>, TinkError> {
     let text = pattern(alloc)?;
-    for (lengths, piece, fails, want) in ROWS {
-        let (told, bytes) = gather(alloc, &text, lengths, *piece, *fails)?;
-        expect(&rt, told, *want, "what is told");
-        expect_bytes(
-            &rt,
-            &bytes,
-            &text[..bytes.len().min(text.len())],
-            "the bytes",
-        );
+    for i in 0..ROWS.len() {
+        let (lengths, piece, fails, want) = &ROWS[i];
+        if told(alloc, &text, lengths, *piece, *fails)? != (*want, true) {
+            return Ok(Some(i));
+        }
     }
-    Ok(())
+    Ok(None)
+}
+
+// The answer to two pieces for a sink whose second call fails, and whether it has them.
+fn both(alloc: Global) -> Result<bool, TinkError> {
+    let mut waiting = room(alloc)?;
+    let mut sink = sink_of(alloc, 0, 2, 3)?;
+    let answer = write_both(&mut sink, &mut waiting, b"a", b"bc");
+    Ok(answer == Ok(()) && sink.bytes() == b"abc".as_slice())
 }
 
 #[test]
-fn two_pieces_are_one_call(rt: HostRuntime) -> Result<(), Fail> {
-    let alloc = rt.alloc();
-    let mut sink = MemSink::new(alloc, 0, Vec::from_slice(alloc, &[2])?);
-    sink.reserve(alloc, 3)?;
-    let answer = write_both(&mut sink, &mut room(alloc)?, b"a", b"bc");
-    expect(&rt, answer, Ok(()), "the answer");
-    expect_bytes(&rt, sink.bytes(), b"abc", "the bytes");
-    Ok(())
+fn pieces_wait_for_the_next_ones(rt: HostRuntime) {
+    expect(&rt, wrong_row(rt.alloc()), Ok(None), "the first wrong row");
+    expect(&rt, both(rt.alloc()), Ok(true), "two pieces");
 }

@@ -3,9 +3,9 @@
 ghost use Rattle.std.specs.Io.KnownBytes.{Appends};
 ghost use Rattle.std.specs.Prelude.{OnOk, ◌++◌, ◌∷◌, []};
 
-use crate::expect::{expect, expect_bytes};
+use crate::expect::expect;
+use crate::memory::sink_of;
 use std::alloc::Global;
-use std::test::Fail;
 use tink_io::{Cause, Kind, MemSink, Sink, SureSink, TinkError, write_all, write_line};
 
 // Writes a text and a newline.
@@ -16,64 +16,93 @@ fn write_text<K: Sink>(sink: &mut K, text: &[u8]) -> Result<(), TinkError>
     write_all(sink, b"\n")
 }
 
-// What a sink of two bytes a call has taken of five and a newline where that call fails, and the answer.
-fn written(alloc: Global, fails: u32) -> Result<(Vec<u8>, Result<(), TinkError>), TinkError> {
-    let mut sink = MemSink::new(alloc, 2, Vec::from_slice(alloc, &[fails])?);
-    sink.reserve(alloc, 6)?;
-    let answer = write_text(&mut sink, b"abcde");
-    Ok((sink.into_bytes(), answer))
+// Whether a sink has taken these of five bytes and a newline, and the answer is that.
+fn is_written(sink: &mut MemSink, front: &[u8], want: Result<(), TinkError>) -> bool {
+    let answer = write_text(sink, b"abcde");
+    answer == want && sink.bytes() == front
 }
 
-#[test]
-fn all_is_written_unless_a_call_fails(rt: HostRuntime) -> Result<(), Fail> {
-    let fault = Err(TinkError::new(Kind::WriteFault));
-    let rows: [(u32, &[u8], Result<(), TinkError>); 5] = [
-        (1, b"", fault),
-        (2, b"ab", fault),
-        (3, b"abcd", fault),
-        (4, b"abcde", fault),
-        (5, b"abcde\n", Ok(())),
-    ];
-    for (fails, front, want) in rows {
-        let (bytes, answer) = written(rt.alloc(), fails)?;
-        expect_bytes(&rt, &bytes, front, "the bytes");
-        expect(&rt, answer, want, "the answer");
-    }
-    Ok(())
-}
-
-// The line of a kind.
-fn line(alloc: Global, kind: Kind) -> Result<Vec<u8>, TinkError> {
+// Whether this is the line of a kind.
+fn is_line(alloc: Global, kind: Kind, want: &[u8]) -> Result<bool, TinkError> {
     let mut sink = SureSink::new(alloc);
     sink.reserve(alloc, 64)?;
     write_line(&mut sink, kind);
-    Ok(sink.into_bytes())
+    Ok(sink.bytes() == want)
 }
 
-#[test]
-fn lines_are_texts(rt: HostRuntime) -> Result<(), Fail> {
-    let rows: [(Kind, &[u8]); 8] = [
-        (Kind::OutOfMemory, b"out of memory\n"),
-        (Kind::BadToken, b"bad token\n"),
-        (Kind::InputTooLong, b"input too long\n"),
-        (Kind::LengthOverU32, b"length over u32\n"),
-        (Kind::WrongStatus(-1), b"wrong status -1\n"),
-        (Kind::BadSegment(7), b"bad segment 7\n"),
-        (Kind::Truncated(4294967295), b"truncated 4294967295\n"),
-        (
+// Whether this is the text of a refusal.
+fn is_text(alloc: Global, kind: Kind, want: &str) -> Result<bool, TinkError> {
+    Ok(format!(in alloc; "{}", TinkError::new(kind))?.as_str() == want)
+}
+
+enum Asked {
+    // To write to a sink of two bytes a call whose call of that number fails.
+    Write(u32, &'static [u8], Result<(), TinkError>),
+    Line(Kind, &'static [u8]),
+    Text(Kind, &'static str),
+}
+
+fn holds(alloc: Global, asked: &Asked) -> Result<bool, TinkError> {
+    match asked {
+        Asked::Write(n, front, want) => {
+            Ok(is_written(&mut sink_of(alloc, 2, *n, 6)?, front, *want))
+        }
+        Asked::Line(kind, want) => is_line(alloc, *kind, want),
+        Asked::Text(kind, want) => is_text(alloc, *kind, want),
+    }
+}
+
+const FAULT: Result<(), TinkError> = Err(TinkError {
+    kind: Kind::WriteFault,
+});
+
+const ROWS: &[(&str, Asked)] = &[
+    ("call 1 fails", Asked::Write(1, b"", FAULT)),
+    ("call 2 fails", Asked::Write(2, b"ab", FAULT)),
+    ("call 3 fails", Asked::Write(3, b"abcd", FAULT)),
+    ("call 4 fails", Asked::Write(4, b"abcde", FAULT)),
+    ("no call fails", Asked::Write(5, b"abcde\n", Ok(()))),
+    (
+        "out of memory",
+        Asked::Line(Kind::OutOfMemory, b"out of memory\n"),
+    ),
+    ("bad token", Asked::Line(Kind::BadToken, b"bad token\n")),
+    (
+        "input too long",
+        Asked::Line(Kind::InputTooLong, b"input too long\n"),
+    ),
+    (
+        "length over u32",
+        Asked::Line(Kind::LengthOverU32, b"length over u32\n"),
+    ),
+    (
+        "wrong status -1",
+        Asked::Line(Kind::WrongStatus(-1), b"wrong status -1\n"),
+    ),
+    (
+        "bad segment 7",
+        Asked::Line(Kind::BadSegment(7), b"bad segment 7\n"),
+    ),
+    (
+        "truncated 4294967295",
+        Asked::Line(Kind::Truncated(4294967295), b"truncated 4294967295\n"),
+    ),
+    (
+        "failed before: bad segment 10",
+        Asked::Line(
             Kind::FailedBefore(Cause::BadSegment(10)),
             b"failed before: bad segment 10\n",
         ),
-    ];
-    for (kind, want) in rows {
-        expect_bytes(&rt, &line(rt.alloc(), kind)?, want, "a line");
-    }
-    Ok(())
-}
+    ),
+    (
+        "a text",
+        Asked::Text(Kind::WrongStatus(i32::MIN), "wrong status -2147483648"),
+    ),
+];
 
 #[test]
-fn a_refusal_prints_its_kind(rt: HostRuntime) -> Result<(), Fail> {
-    let shown = format!(in rt.alloc(); "{}", TinkError::new(Kind::WrongStatus(i32::MIN)))?;
-    expect_bytes(&rt, shown.as_bytes(), b"wrong status -2147483648", "a text");
-    Ok(())
+fn lines_and_texts_are_written(rt: HostRuntime) {
+    for (row, asked) in ROWS {
+        expect(&rt, holds(rt.alloc(), asked), Ok(true), row);
+    }
 }

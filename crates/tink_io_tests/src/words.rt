@@ -1,6 +1,7 @@
 ghost use Rattle.std.specs.Prelude.{◌≡◌, option_map};
 ghost use Rattle.tink_words.specs.Forms.{given, words_of};
 
+use crate::expect::expect;
 use std::alloc::Global;
 use tink_words::{Action, parse};
 
@@ -61,10 +62,7 @@ fn command(words: &Vec<String>) -> Option<Action>
 fn spelled(alloc: Global, line: &str) -> Option<Option<Action>> {
     let mut words = Vec::new(alloc);
     for word in line.split(' ') {
-        let word = String::from_str(alloc, word).ok()?;
-        if words.push(word).is_err() {
-            return None;
-        }
+        words.push(String::from_str(alloc, word).ok()?).ok()?;
     }
     Some(command(&words))
 }
@@ -72,6 +70,6 @@ fn spelled(alloc: Global, line: &str) -> Option<Option<Action>> {
 #[test]
 fn lines_spell_commands(rt: HostRuntime) {
     for (line, action) in LINES {
-        assert_eq!(rt; spelled(rt.alloc(), line), Some(*action), "{line}");
+        expect(&rt, spelled(rt.alloc(), line), Some(*action), line);
     }
 }
