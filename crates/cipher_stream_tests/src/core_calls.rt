@@ -1,7 +1,8 @@
 //! Calls of cores.
 
 use crate::cores::{Constant, Mixed};
-use crate::expected::check;
+use crate::rows;
+use crate::rows::Row;
 use crate::streams::{FIRST, IV, KEY};
 use cipher::{InOut, InOutBuf, KeyIvInit};
 use cipher_stream::{StreamCipherCore, StreamCipherError, StreamCipherSeekCore};
@@ -53,9 +54,9 @@ fn first_in_part() -> bool {
     bytes == [0xe8, 0x23, 0x93]
 }
 
-// what is asked
+/// What is asked.
 #[derive(Clone, Copy)]
-enum Asked {
+pub enum Asked {
     ElevenBlocks,
     OneBlock,
     WideApplied,
@@ -66,7 +67,8 @@ enum Asked {
     LessThanABlock,
 }
 
-fn holds(asked: Asked) -> bool {
+/// Whether it is so.
+pub fn holds(asked: Asked) -> bool {
     match asked {
         Asked::ElevenBlocks => eleven_blocks_agree(),
         Asked::OneBlock => one_block_agrees(),
@@ -79,20 +81,26 @@ fn holds(asked: Asked) -> bool {
     }
 }
 
-const ROWS: &[(&str, Asked)] = &[
-    ("eleven blocks", Asked::ElevenBlocks),
-    ("one block", Asked::OneBlock),
-    ("a wide backend applied", Asked::WideApplied),
-    ("a wide backend written", Asked::WideWritten),
-    ("what remains of no number", Asked::Remaining),
-    ("more than remains", Asked::TooMany),
-    ("a block and a part", Asked::BlockAndPart),
-    ("less than a block", Asked::LessThanABlock),
+/// Rows of cores.
+pub const ROWS: &[Row] = &[
+    ("eleven blocks", rows::Asked::Core(Asked::ElevenBlocks)),
+    ("one block", rows::Asked::Core(Asked::OneBlock)),
+    (
+        "a wide backend applied",
+        rows::Asked::Core(Asked::WideApplied),
+    ),
+    (
+        "a wide backend written",
+        rows::Asked::Core(Asked::WideWritten),
+    ),
+    (
+        "what remains of no number",
+        rows::Asked::Core(Asked::Remaining),
+    ),
+    ("more than remains", rows::Asked::Core(Asked::TooMany)),
+    ("a block and a part", rows::Asked::Core(Asked::BlockAndPart)),
+    (
+        "less than a block",
+        rows::Asked::Core(Asked::LessThanABlock),
+    ),
 ];
-
-#[test]
-fn calls_of_cores_agree(rt: HostRuntime) {
-    for (row, asked) in ROWS {
-        check(&rt, holds(*asked), row);
-    }
-}

@@ -10,4 +10,6 @@ mod expected;
 #[cfg(test)]
 mod positions;
 #[cfg(test)]
+mod rows;
+#[cfg(test)]
 mod streams;

@@ -1,6 +1,7 @@
 //! Positions as numbers.
 
-use crate::expected::check;
+use crate::rows;
+use crate::rows::Row;
 use cipher_stream::{OverflowError, SeekNum, StreamCipherCounter, StreamCipherError};
 
 // whether numbers are made of a block and a byte exactly, and refused where they do not fit
@@ -23,11 +24,32 @@ fn is_greatest() -> bool {
     u32::MAX.is_max() && !7u64.is_max() && u128::MAX.is_max()
 }
 
-#[test]
-fn positions_are_exact(rt: HostRuntime) {
-    check(&rt, are_exact(), "made");
-    check(&rt, are_taken_apart(), "taken apart");
-    check(&rt, is_greatest(), "the greatest counters");
-    let end = StreamCipherError::from(OverflowError);
-    check(&rt, end == StreamCipherError, "an overflow");
+/// What is asked.
+#[derive(Clone, Copy)]
+pub enum Asked {
+    Made,
+    TakenApart,
+    Greatest,
+    Overflow,
 }
+
+/// Whether it is so.
+pub fn holds(asked: Asked) -> bool {
+    match asked {
+        Asked::Made => are_exact(),
+        Asked::TakenApart => are_taken_apart(),
+        Asked::Greatest => is_greatest(),
+        Asked::Overflow => StreamCipherError::from(OverflowError) == StreamCipherError,
+    }
+}
+
+/// Rows of positions.
+pub const ROWS: &[Row] = &[
+    ("made", rows::Asked::Position(Asked::Made)),
+    ("taken apart", rows::Asked::Position(Asked::TakenApart)),
+    (
+        "the greatest counters",
+        rows::Asked::Position(Asked::Greatest),
+    ),
+    ("an overflow", rows::Asked::Position(Asked::Overflow)),
+];

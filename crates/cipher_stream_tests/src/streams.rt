@@ -5,14 +5,14 @@ ghost use Rattle.cipher_stream.specs.Keystream.{xored};
 ghost use Rattle.std.specs.Prelude.{OnOk, ◌≡◌, ◌≤◌};
 
 use crate::cores::{Constant, Mixed, Numbers};
-use crate::expected::{check, is_debug, is_shown};
+use crate::rows;
+use crate::rows::Row;
 use cipher::{InOutBuf, KeyIvInit};
 use cipher_stream::dev::stream::{TestVector, stream_cipher_test};
 use cipher_stream::{
     OverflowError, StreamCipher, StreamCipherCoreWrapper, StreamCipherError, StreamCipherSeek,
 };
-use std::alloc::Global;
-use std::test::Fail;
+use std::alloc::AllocError;
 
 /// A key.
 pub const KEY: [u8; 4] = [0, 1, 2, 3];
@@ -37,11 +37,13 @@ const BOTH: [u8; 20] = [
     0xeb, 0xf3, 0x34, 0xc5,
 ];
 
-type Cipher = StreamCipherCoreWrapper<Mixed, 16>;
+/// The buffer over a core with a counter.
+pub(crate) type Cipher = StreamCipherCoreWrapper<Mixed, 16>;
 
 type Told = Result<(), StreamCipherError>;
 
-fn fresh() -> Cipher
+/// One that has given nothing.
+pub(crate) fn fresh() -> Cipher
     ensures next { result.0.next ≡ 0 }
     ensures rest { result.1 ≡ 0 }
 {
@@ -103,52 +105,56 @@ fn written_whole() -> ([u8; 300], Told) {
     (bytes, told)
 }
 
-fn applied_elsewhere() -> [u8; 20] {
-    let mut bytes = [1; 20];
-    fresh().apply_keystream_b2b(&[0; 20], &mut bytes);
-    bytes
+/// How twenty bytes are handed to a cipher.
+#[derive(Clone, Copy)]
+pub enum How {
+    Elsewhere,
+    ToABuffer,
+    TriedOnABuffer,
+    TriedOnUnequalLengths,
+    Unchecked,
+    UncheckedElsewhere,
+    UncheckedByABuffer,
+    UncheckedWritten,
 }
 
-fn applied_to_a_buffer() -> [u8; 20] {
-    let mut bytes = FIRST;
-    fresh().apply_keystream_inout(InOutBuf::from(bytes.as_mut_slice()));
-    bytes
+// whether the call succeeds
+fn goes(how: How, bytes: &mut [u8; 20]) -> bool {
+    let mut cipher = fresh();
+    match how {
+        How::Elsewhere => {
+            cipher.apply_keystream_b2b(&[0; 20], bytes);
+            true
+        }
+        How::ToABuffer => {
+            cipher.apply_keystream_inout(InOutBuf::from(bytes.as_mut_slice()));
+            true
+        }
+        How::TriedOnABuffer => {
+            let buffer = InOutBuf::from(bytes.as_mut_slice());
+            cipher.try_apply_keystream_inout(buffer).is_ok()
+        }
+        How::TriedOnUnequalLengths => cipher.try_apply_keystream_b2b(&[0; 3], bytes).is_ok(),
+        How::Unchecked => {
+            cipher.unchecked_apply_keystream(bytes);
+            true
+        }
+        How::UncheckedElsewhere => cipher.unchecked_apply_keystream_b2b(&BOTH, bytes).is_ok(),
+        How::UncheckedByABuffer => {
+            cipher.unchecked_apply_keystream_inout(InOutBuf::from(bytes.as_mut_slice()));
+            true
+        }
+        How::UncheckedWritten => {
+            cipher.unchecked_write_keystream(bytes);
+            true
+        }
+    }
 }
 
-fn tried_on_a_buffer() -> ([u8; 20], Told) {
-    let mut bytes = [0; 20];
-    let told = fresh().try_apply_keystream_inout(InOutBuf::from(bytes.as_mut_slice()));
-    (bytes, told)
-}
-
-fn tried_on_unequal_lengths() -> ([u8; 20], Told) {
-    let mut bytes = [1; 20];
-    let told = fresh().try_apply_keystream_b2b(&[0; 3], &mut bytes);
-    (bytes, told)
-}
-
-fn unchecked_in_place() -> [u8; 20] {
-    let mut bytes = [0; 20];
-    fresh().unchecked_apply_keystream(&mut bytes);
-    bytes
-}
-
-fn unchecked_elsewhere() -> ([u8; 20], bool) {
-    let mut bytes = [1; 20];
-    let told = fresh().unchecked_apply_keystream_b2b(&BOTH, &mut bytes);
-    (bytes, told.is_ok())
-}
-
-fn unchecked_by_a_buffer() -> [u8; 20] {
-    let mut bytes = LATER;
-    fresh().unchecked_apply_keystream_inout(InOutBuf::from(bytes.as_mut_slice()));
-    bytes
-}
-
-fn unchecked_written() -> [u8; 20] {
-    let mut bytes = [1; 20];
-    fresh().unchecked_write_keystream(&mut bytes);
-    bytes
+// whether these bytes become those by a call, which succeeds or is refused
+fn becomes(how: How, from: &[u8; 20], to: &[u8; 20], told: bool) -> bool {
+    let mut bytes = *from;
+    goes(how, &mut bytes) == told && bytes == *to
 }
 
 // the place of the greatest block, from which no byte is given
@@ -271,8 +277,8 @@ fn in_place<C: StreamCipher>(cipher: &mut C, bytes: &mut [u8]) -> Result<(), Str
     cipher.try_apply_keystream(bytes)
 }
 
-// whether a clone after seven bytes goes on
-fn a_clone_goes_on() -> Result<bool, Fail> {
+/// Whether a clone after seven bytes goes on.
+pub fn a_clone_goes_on() -> Result<bool, AllocError> {
     let mut cipher = fresh();
     let _told = cipher.try_apply_keystream(&mut [0; 7]);
     let mut other = cipher.clone()?;
@@ -281,28 +287,10 @@ fn a_clone_goes_on() -> Result<bool, Fail> {
     Ok(told == Ok(()) && bytes[..] == FIRST[7..])
 }
 
-// whether the wrapper and the errors are shown so
-fn texts_are_told(alloc: Global) -> Result<bool, Fail> {
-    let wrapper = is_debug(alloc, &fresh(), "StreamCipherCoreWrapper { .. }")?;
-    let end = is_shown(alloc, &StreamCipherError, "Loop Error")?;
-    let place = is_shown(alloc, &OverflowError, "Overflow Error")?;
-    Ok(wrapper && end && place)
-}
-
 type Short = StreamCipherCoreWrapper<Constant, 5>;
 
-fn told(
-    key: &'static [u8],
-    iv: &'static [u8],
-    plaintext: &'static [u8],
-    ciphertext: &'static [u8],
-) -> Result<(), &'static str> {
-    stream_cipher_test::<Short, 1, 1>(&TestVector {
-        key,
-        iv,
-        plaintext,
-        ciphertext,
-    })
+fn told(vector: &TestVector) -> Result<(), &'static str> {
+    stream_cipher_test::<Short, 1, 1>(vector)
 }
 
 const PLAIN: &[u8] = &[0, 1, 2, 3, 4, 5, 6, 7, 8, 9];
@@ -311,70 +299,42 @@ const GOOD: &[u8] = &[3, 2, 1, 0, 7, 6, 5, 4, 11, 10];
 
 const BAD: &[u8] = &[3, 2, 1, 1, 7, 6, 5, 4, 11, 10];
 
-// a vector that is right, one past the end of the keystream, and one that differs before it
-fn told_of_bytes() -> [Result<(), &'static str>; 3] {
-    [
-        told(&[3], &[2], PLAIN, GOOD),
-        told(&[3], &[1], PLAIN, GOOD),
-        told(&[3], &[1], PLAIN, BAD),
-    ]
-}
-
-// a vector without a key, and one whose lengths differ
-fn told_of_lengths() -> [Result<(), &'static str>; 2] {
-    [told(&[], &[1], PLAIN, BAD), told(&[], &[1], &[], BAD)]
-}
-
-// what is asked
-#[derive(Clone, Copy)]
-enum Asked {
+/// What is asked.
+pub enum Asked {
     Written,
     WrittenFromAPlace,
     Pieces,
-    AppliedElsewhere,
-    AppliedToABuffer,
-    TriedOnABuffer,
-    TriedOnUnequalLengths,
-    UncheckedInPlace,
-    UncheckedElsewhere,
-    UncheckedByABuffer,
-    UncheckedWritten,
+    // Bytes that are handed to a fresh cipher, what they become, and whether that succeeds.
+    Call(How, [u8; 20], [u8; 20], bool),
     FreshPlace,
-    VectorsOfBytes,
-    VectorsOfLengths,
+    // A vector, and what is told.
+    Vector(TestVector, Result<(), &'static str>),
     SoughtEnd,
     TriedAtTheEnd,
     SoughtOutside,
     LastByte,
     NoMoreIsLeft,
     SoughtBehindTheGreatest,
-    ThreeBehindTheGreatest,
+    // So many bytes from the greatest block on, and the place behind them.
+    BehindTheGreatest(usize, [u8; 9], Result<u128, OverflowError>),
     PlaceBehindThree,
-    NineBehindTheGreatest,
     TwoPiecesBehind,
 }
 
-fn holds(asked: Asked) -> bool {
+/// Whether it is so.
+pub fn holds(asked: &Asked) -> bool {
     match asked {
         Asked::Written => written_and_applied() == [FIRST, BOTH],
         Asked::WrittenFromAPlace => written_from_a_place() == (Ok(()), Ok(()), LATER, Ok(520)),
         Asked::Pieces => pieces_give_the_whole(),
-        Asked::AppliedElsewhere => applied_elsewhere() == FIRST,
-        Asked::AppliedToABuffer => applied_to_a_buffer() == [0; 20],
-        Asked::TriedOnABuffer => tried_on_a_buffer() == (FIRST, Ok(())),
-        Asked::TriedOnUnequalLengths => {
-            tried_on_unequal_lengths() == ([1; 20], Err(StreamCipherError))
-        }
-        Asked::UncheckedInPlace => unchecked_in_place() == FIRST,
-        Asked::UncheckedElsewhere => unchecked_elsewhere() == (LATER, true),
-        Asked::UncheckedByABuffer => unchecked_by_a_buffer() == BOTH,
-        Asked::UncheckedWritten => unchecked_written() == FIRST,
+        Asked::Call(how, from, to, told) => becomes(*how, from, to, *told),
         Asked::FreshPlace => fresh().get_core().next == 0,
+        Asked::Vector(vector, want) => told(vector) == *want,
         _ => holds_at_ends(asked),
     }
 }
 
-fn holds_at_ends(asked: Asked) -> bool {
+fn holds_at_ends(asked: &Asked) -> bool {
     let outside = Err(StreamCipherError);
     match asked {
         Asked::SoughtEnd => sought(END).0 == Ok(()),
@@ -385,86 +345,155 @@ fn holds_at_ends(asked: Asked) -> bool {
         Asked::LastByte => last_byte() == (true, Ok(()), 9 ^ 60),
         Asked::NoMoreIsLeft => no_more_is_left(),
         Asked::SoughtBehindTheGreatest => at_the_greatest().0 == [outside, Ok(())],
-        Asked::ThreeBehindTheGreatest => {
-            bytes_behind(3)
-                == (
-                    Ok(()),
-                    [0xff, 0xfe, 0xfd, 0, 0, 0, 0, 0, 0],
-                    Err(OverflowError),
-                )
-        }
+        Asked::BehindTheGreatest(n, bytes, place) => bytes_behind(*n) == (Ok(()), *bytes, *place),
         Asked::PlaceBehindThree => place_behind_three() == Err(OverflowError),
-        Asked::NineBehindTheGreatest => bytes_behind(9) == (Ok(()), NINE, Ok(5)),
-        Asked::TwoPiecesBehind => two_pieces_behind() == (Ok(()), Ok(()), NINE),
-        _ => vectors_are_told(asked),
+        _ => two_pieces_behind() == (Ok(()), Ok(()), NINE),
     }
 }
 
 // the rest of the greatest block, with block 0 behind it
 const NINE: [u8; 9] = [0xff, 0xfe, 0xfd, 0xfc, 0, 1, 2, 3, 1];
 
-fn vectors_are_told(asked: Asked) -> bool {
-    match asked {
-        Asked::VectorsOfBytes => {
-            told_of_bytes()
-                == [
-                    Ok(()),
-                    Err("end of keystream reached"),
-                    Err("ciphertext mismatch"),
-                ]
-        }
-        _ => {
-            told_of_lengths()
-                == [
-                    Err("cipher initialization failure"),
-                    Err("mismatch of plaintext and ciphertext lengths"),
-                ]
-        }
-    }
-}
-
-const ROWS: &[(&str, Asked)] = &[
-    ("from the start", Asked::Written),
-    ("from a place", Asked::WrittenFromAPlace),
-    ("in pieces of each size", Asked::Pieces),
-    ("elsewhere", Asked::AppliedElsewhere),
-    ("to a buffer", Asked::AppliedToABuffer),
-    ("tried on a buffer", Asked::TriedOnABuffer),
-    ("unequal lengths", Asked::TriedOnUnequalLengths),
-    ("in place without a test", Asked::UncheckedInPlace),
-    ("elsewhere without a test", Asked::UncheckedElsewhere),
-    ("by a buffer without a test", Asked::UncheckedByABuffer),
-    ("written without a test", Asked::UncheckedWritten),
-    ("the place of a fresh core", Asked::FreshPlace),
-    ("vectors of bytes", Asked::VectorsOfBytes),
-    ("vectors of other lengths", Asked::VectorsOfLengths),
-    ("the end is sought", Asked::SoughtEnd),
-    ("a byte and none at the end", Asked::TriedAtTheEnd),
-    ("seeks past the end and below 0", Asked::SoughtOutside),
-    ("the last byte", Asked::LastByte),
-    ("no more from the last 20 places", Asked::NoMoreIsLeft),
+/// Rows of streams.
+pub const ROWS: &[Row] = &[
+    ("from the start", rows::Asked::Stream(Asked::Written)),
+    (
+        "from a place",
+        rows::Asked::Stream(Asked::WrittenFromAPlace),
+    ),
+    ("in pieces of each size", rows::Asked::Stream(Asked::Pieces)),
+    (
+        "elsewhere",
+        rows::Asked::Stream(Asked::Call(How::Elsewhere, [1; 20], FIRST, true)),
+    ),
+    (
+        "to a buffer",
+        rows::Asked::Stream(Asked::Call(How::ToABuffer, FIRST, [0; 20], true)),
+    ),
+    (
+        "tried on a buffer",
+        rows::Asked::Stream(Asked::Call(How::TriedOnABuffer, [0; 20], FIRST, true)),
+    ),
+    (
+        "unequal lengths",
+        rows::Asked::Stream(Asked::Call(How::TriedOnUnequalLengths, [1; 20], [1; 20], false)),
+    ),
+    (
+        "in place without a test",
+        rows::Asked::Stream(Asked::Call(How::Unchecked, [0; 20], FIRST, true)),
+    ),
+    (
+        "elsewhere without a test",
+        rows::Asked::Stream(Asked::Call(How::UncheckedElsewhere, [1; 20], LATER, true)),
+    ),
+    (
+        "by a buffer without a test",
+        rows::Asked::Stream(Asked::Call(How::UncheckedByABuffer, LATER, BOTH, true)),
+    ),
+    (
+        "written without a test",
+        rows::Asked::Stream(Asked::Call(How::UncheckedWritten, [1; 20], FIRST, true)),
+    ),
+    (
+        "the place of a fresh core",
+        rows::Asked::Stream(Asked::FreshPlace),
+    ),
+    (
+        "a right vector",
+        rows::Asked::Stream(Asked::Vector(
+            TestVector {
+                key: &[3],
+                iv: &[2],
+                plaintext: PLAIN,
+                ciphertext: GOOD,
+            },
+            Ok(()),
+        )),
+    ),
+    (
+        "a vector past the end of the keystream",
+        rows::Asked::Stream(Asked::Vector(
+            TestVector {
+                key: &[3],
+                iv: &[1],
+                plaintext: PLAIN,
+                ciphertext: GOOD,
+            },
+            Err("end of keystream reached"),
+        )),
+    ),
+    (
+        "a vector that differs before the end",
+        rows::Asked::Stream(Asked::Vector(
+            TestVector {
+                key: &[3],
+                iv: &[1],
+                plaintext: PLAIN,
+                ciphertext: BAD,
+            },
+            Err("ciphertext mismatch"),
+        )),
+    ),
+    (
+        "a vector without a key",
+        rows::Asked::Stream(Asked::Vector(
+            TestVector {
+                key: &[],
+                iv: &[1],
+                plaintext: PLAIN,
+                ciphertext: BAD,
+            },
+            Err("cipher initialization failure"),
+        )),
+    ),
+    (
+        "a vector of two lengths",
+        rows::Asked::Stream(Asked::Vector(
+            TestVector {
+                key: &[],
+                iv: &[1],
+                plaintext: &[],
+                ciphertext: BAD,
+            },
+            Err("mismatch of plaintext and ciphertext lengths"),
+        )),
+    ),
+    ("the end is sought", rows::Asked::Stream(Asked::SoughtEnd)),
+    (
+        "a byte and none at the end",
+        rows::Asked::Stream(Asked::TriedAtTheEnd),
+    ),
+    (
+        "seeks past the end and below 0",
+        rows::Asked::Stream(Asked::SoughtOutside),
+    ),
+    ("the last byte", rows::Asked::Stream(Asked::LastByte)),
+    (
+        "no more from the last 20 places",
+        rows::Asked::Stream(Asked::NoMoreIsLeft),
+    ),
     (
         "a seek behind the greatest block",
-        Asked::SoughtBehindTheGreatest,
+        rows::Asked::Stream(Asked::SoughtBehindTheGreatest),
     ),
     (
         "three bytes from the greatest block",
-        Asked::ThreeBehindTheGreatest,
+        rows::Asked::Stream(Asked::BehindTheGreatest(
+            3,
+            [0xff, 0xfe, 0xfd, 0, 0, 0, 0, 0, 0],
+            Err(OverflowError),
+        )),
     ),
-    ("the place behind three as an i32", Asked::PlaceBehindThree),
+    (
+        "the place behind three as an i32",
+        rows::Asked::Stream(Asked::PlaceBehindThree),
+    ),
     (
         "nine bytes from the greatest block",
-        Asked::NineBehindTheGreatest,
+        rows::Asked::Stream(Asked::BehindTheGreatest(9, NINE, Ok(5))),
     ),
-    ("nine bytes in two pieces", Asked::TwoPiecesBehind),
+    (
+        "nine bytes in two pieces",
+        rows::Asked::Stream(Asked::TwoPiecesBehind),
+    ),
 ];
-
-#[test]
-fn streams_are_as_the_rows_say(rt: HostRuntime) -> Result<(), Fail> {
-    for (row, asked) in ROWS {
-        check(&rt, holds(*asked), row);
-    }
-    check(&rt, a_clone_goes_on()?, "a clone");
-    check(&rt, texts_are_told(rt.alloc())?, "texts");
-    Ok(())
-}
