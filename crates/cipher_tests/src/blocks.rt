@@ -2,21 +2,20 @@
 
 ghost use Rattle.std.specs.Prelude.{◌≡◌, ℕ, map};
 
-use crate::expected::{check, is_shown};
+use crate::rows;
+use crate::rows::Row;
 use crate::shifted::Shift;
 use cipher::dev::block_cipher::{TestVector, decrypt_test, encrypt_decrypt_test, encrypt_test};
 use cipher::{
     BlockCipherDecrypt, BlockCipherEncrypt, InOut, InOutBuf, InvalidLength, KeyInit, NotEqualError,
 };
-use std::alloc::Global;
-use std::test::Fail;
 
 const PLAIN: [[u8; 5]; 10] = [[1, 2, 3, 4, 255]; 10];
 
 const SHIFTED: [[u8; 5]; 10] = [[251, 252, 253, 254, 249]; 10];
 
 // the first n places hold the blocks, and the others are as before
-fn holds(got: &[[u8; 5]; 10], front: &[[u8; 5]; 10], back: &[[u8; 5]; 10], n: usize) -> bool {
+fn are(got: &[[u8; 5]; 10], front: &[[u8; 5]; 10], back: &[[u8; 5]; 10], n: usize) -> bool {
     let n = n.min(10);
     got[..n] == front[..n] && got[n..] == back[n..]
 }
@@ -26,7 +25,7 @@ fn shifts_in_place(c: &Shift, n: usize) -> bool {
     let n = n.min(10);
     let mut blocks = PLAIN;
     c.encrypt_blocks(&mut blocks[..n]);
-    let there = holds(&blocks, &SHIFTED, &PLAIN, n);
+    let there = are(&blocks, &SHIFTED, &PLAIN, n);
     c.decrypt_blocks(&mut blocks[..n]);
     there && blocks == PLAIN
 }
@@ -36,7 +35,7 @@ fn shifts_by_a_buffer(c: &Shift, n: usize) -> bool {
     let n = n.min(10);
     let mut blocks = PLAIN;
     c.encrypt_blocks_inout(InOutBuf::from(&mut blocks[..n]));
-    let there = holds(&blocks, &SHIFTED, &PLAIN, n);
+    let there = are(&blocks, &SHIFTED, &PLAIN, n);
     c.decrypt_blocks_inout(InOutBuf::from(&mut blocks[..n]));
     there && blocks == PLAIN
 }
@@ -51,8 +50,8 @@ fn shifts_elsewhere(c: &Shift, n: usize) -> bool {
     let encrypted = c.encrypt_blocks_b2b(&PLAIN[..n], &mut there[..n]);
     let decrypted = c.decrypt_blocks_b2b(&there[..n], &mut back[..n]);
     [encrypted, decrypted] == [Ok(()); 2]
-        && holds(&there, &SHIFTED, &ZEROS, n)
-        && holds(&back, &PLAIN, &ZEROS, n)
+        && are(&there, &SHIFTED, &ZEROS, n)
+        && are(&back, &PLAIN, &ZEROS, n)
 }
 
 // whether all three calls shift n blocks
@@ -99,39 +98,32 @@ fn each_way() -> [[u8; 5]; 6] {
     made
 }
 
-// whether these are shifted there three ways and back three ways
-fn is_shifted_each_way() -> bool {
-    let (plain, shifted) = (PLAIN[0], SHIFTED[0]);
-    each_way() == [shifted, shifted, shifted, plain, plain, plain]
-}
-
-// whether a cipher and the error of its key are shown so
-fn texts_are_told(alloc: Global) -> Result<bool, Fail> {
-    let cipher = is_shown(alloc, &Shift::new(&[1]), "Shift")?;
-    let error = is_shown(alloc, &InvalidLength, "Invalid Length")?;
-    Ok(cipher && error)
-}
+// what these blocks become: three shifted there, and three back
+const WAYS: [[u8; 5]; 6] = [
+    [251, 252, 253, 254, 249],
+    [251, 252, 253, 254, 249],
+    [251, 252, 253, 254, 249],
+    [1, 2, 3, 4, 255],
+    [1, 2, 3, 4, 255],
+    [1, 2, 3, 4, 255],
+];
 
 type Told = Result<(), &'static str>;
 
-fn vector(key: &'static [u8], plaintext: &'static [u8], ciphertext: &'static [u8]) -> TestVector {
-    TestVector {
-        key,
-        plaintext,
-        ciphertext,
+// how a vector is tried
+#[derive(Clone, Copy)]
+pub enum Way {
+    There,
+    Back,
+    Both,
+}
+
+fn told(way: Way, vector: &TestVector) -> Told {
+    match way {
+        Way::There => encrypt_test::<Shift, 1, 5>(vector),
+        Way::Back => decrypt_test::<Shift, 1, 5>(vector),
+        Way::Both => encrypt_decrypt_test::<Shift, 1, 5>(vector),
     }
-}
-
-fn encrypts(key: &'static [u8], plaintext: &'static [u8], ciphertext: &'static [u8]) -> Told {
-    encrypt_test::<Shift, 1, 5>(&vector(key, plaintext, ciphertext))
-}
-
-fn decrypts(key: &'static [u8], plaintext: &'static [u8], ciphertext: &'static [u8]) -> Told {
-    decrypt_test::<Shift, 1, 5>(&vector(key, plaintext, ciphertext))
-}
-
-fn goes_both_ways(key: &'static [u8], plaintext: &'static [u8], ciphertext: &'static [u8]) -> Told {
-    encrypt_decrypt_test::<Shift, 1, 5>(&vector(key, plaintext, ciphertext))
 }
 
 const FIVE: &[u8] = &[1, 2, 3, 4, 255];
@@ -139,24 +131,6 @@ const FIVE: &[u8] = &[1, 2, 3, 4, 255];
 const GOOD: &[u8] = &[251, 252, 253, 254, 249];
 
 const BAD: &[u8] = &[251, 252, 253, 254, 250];
-
-// right blocks, and a wrong one in an encryption and in a decryption
-fn told_of_blocks() -> [Told; 3] {
-    [
-        goes_both_ways(&[250], FIVE, GOOD),
-        encrypts(&[250], FIVE, BAD),
-        decrypts(&[250], FIVE, BAD),
-    ]
-}
-
-// a wrong length of the ciphertext, of the plaintext and of the key
-fn told_of_lengths() -> [Told; 3] {
-    [
-        decrypts(&[250], FIVE, &[1]),
-        encrypts(&[250], &[1], &[1]),
-        goes_both_ways(&[], &[1], &[1]),
-    ]
-}
 
 // blocks in their places, by a buffer that is passed by value
 fn in_place<C: BlockCipherEncrypt<5>>(cipher: &C, blocks: &mut [[u8; 5]])
@@ -175,62 +149,112 @@ fn shifts_behind_a_reference() -> bool {
     blocks == SHIFTED
 }
 
-// what is asked
-#[derive(Clone, Copy)]
-enum Asked {
+/// What is asked.
+pub enum Asked {
     UpToTen,
     Misfits,
     EachWay,
-    VectorsOfBlocks,
-    VectorsOfLengths,
+    // A vector tried that way, and what is told.
+    Vector(Way, TestVector, Told),
     Reference,
     Key,
     NoKey,
 }
 
-fn answered(asked: Asked) -> bool {
+/// Whether it is so.
+pub fn holds(asked: &Asked) -> bool {
     match asked {
         Asked::UpToTen => up_to_ten_are_shifted(),
         Asked::Misfits => misfits_change_nothing(),
-        Asked::EachWay => is_shifted_each_way(),
-        Asked::VectorsOfBlocks => {
-            told_of_blocks()
-                == [
-                    Ok(()),
-                    Err("single block encryption failure"),
-                    Err("single block decryption failure"),
-                ]
-        }
-        Asked::VectorsOfLengths => {
-            told_of_lengths()
-                == [
-                    Err("unexpected size of ciphertext block"),
-                    Err("unexpected size of plaintext block"),
-                    Err("cipher initialization failure"),
-                ]
-        }
+        Asked::EachWay => each_way() == WAYS,
+        Asked::Vector(way, vector, want) => told(*way, vector) == *want,
         Asked::Reference => shifts_behind_a_reference(),
         Asked::Key => Shift::new_from_slice(&[250]).is_ok(),
         Asked::NoKey => Shift::new_from_slice(&[]).is_err(),
     }
 }
 
-const ROWS: &[(&str, Asked)] = &[
-    ("up to ten blocks", Asked::UpToTen),
-    ("unequal numbers of blocks", Asked::Misfits),
-    ("one block each way", Asked::EachWay),
-    ("vectors of blocks", Asked::VectorsOfBlocks),
-    ("vectors of other lengths", Asked::VectorsOfLengths),
-    ("behind a reference", Asked::Reference),
-    ("a key", Asked::Key),
-    ("no key", Asked::NoKey),
+/// Rows of blocks.
+pub const ROWS: &[Row] = &[
+    ("up to ten blocks", rows::Asked::Block(Asked::UpToTen)),
+    (
+        "unequal numbers of blocks",
+        rows::Asked::Block(Asked::Misfits),
+    ),
+    ("one block each way", rows::Asked::Block(Asked::EachWay)),
+    (
+        "a right block",
+        rows::Asked::Block(Asked::Vector(
+            Way::Both,
+            TestVector {
+                key: &[250],
+                plaintext: FIVE,
+                ciphertext: GOOD,
+            },
+            Ok(()),
+        )),
+    ),
+    (
+        "a wrong block of an encryption",
+        rows::Asked::Block(Asked::Vector(
+            Way::There,
+            TestVector {
+                key: &[250],
+                plaintext: FIVE,
+                ciphertext: BAD,
+            },
+            Err("single block encryption failure"),
+        )),
+    ),
+    (
+        "a wrong block of a decryption",
+        rows::Asked::Block(Asked::Vector(
+            Way::Back,
+            TestVector {
+                key: &[250],
+                plaintext: FIVE,
+                ciphertext: BAD,
+            },
+            Err("single block decryption failure"),
+        )),
+    ),
+    (
+        "a ciphertext of another length",
+        rows::Asked::Block(Asked::Vector(
+            Way::Back,
+            TestVector {
+                key: &[250],
+                plaintext: FIVE,
+                ciphertext: &[1],
+            },
+            Err("unexpected size of ciphertext block"),
+        )),
+    ),
+    (
+        "a plaintext of another length",
+        rows::Asked::Block(Asked::Vector(
+            Way::There,
+            TestVector {
+                key: &[250],
+                plaintext: &[1],
+                ciphertext: &[1],
+            },
+            Err("unexpected size of plaintext block"),
+        )),
+    ),
+    (
+        "a key of another length",
+        rows::Asked::Block(Asked::Vector(
+            Way::Both,
+            TestVector {
+                key: &[],
+                plaintext: &[1],
+                ciphertext: &[1],
+            },
+            Err("cipher initialization failure"),
+        )),
+    ),
+    ("behind a reference", rows::Asked::Block(Asked::Reference)),
+    ("a key", rows::Asked::Block(Asked::Key)),
+    ("no key", rows::Asked::Block(Asked::NoKey)),
 ];
-
-#[test]
-fn blocks_are_shifted(rt: HostRuntime) -> Result<(), Fail> {
-    for (row, asked) in ROWS {
-        check(&rt, answered(*asked), row);
-    }
-    check(&rt, texts_are_told(rt.alloc())?, "texts");
-    Ok(())
-}

@@ -1,24 +1,32 @@
 //! Buffers.
 
-use crate::expected::check;
+use crate::rows;
+use crate::rows::Row;
 use cipher::{InOut, InOutBuf, InOutBufReserved};
 
 // what a buffer reads, and what it writes, xor ones
 fn xored() -> ([u8; 5], [u8; 5]) {
-    let input = [1, 2, 3, 4, 5];
     let mut output = [0; 5];
     let mut read = [0; 5];
-    let mut buffer = InOutBuf::new(&input, &mut output).unwrap();
+    let mut buffer = InOutBuf::new(&[1, 2, 3, 4, 5], &mut output).unwrap();
     buffer.xor_in2out(&[1; 5]);
     read.copy_from_slice(buffer.get_in());
     (read, output)
 }
 
-// whether the lengths differ, and the output is left as it was
-fn are_unequal() -> bool {
+// whether another length, and a message that does not fit, are refused
+fn refuses(asked: Asked, output: &mut [u8; 5]) -> bool {
+    match asked {
+        Asked::Unequal => InOutBuf::new(&[1, 2], output).is_err(),
+        Asked::TooLongInFront => InOutBufReserved::from_mut_slice(output, 6).is_err(),
+        _ => InOutBufReserved::from_slices(&[7; 6], output).is_err(),
+    }
+}
+
+// whether they are, and the output is left as it was
+fn refuses_and_keeps(asked: Asked) -> bool {
     let mut output = [1, 2, 3, 4, 5];
-    let refused = InOutBuf::new(&[1, 2], &mut output).is_err();
-    refused && output == [1, 2, 3, 4, 5]
+    refuses(asked, &mut output) && output == [1, 2, 3, 4, 5]
 }
 
 // the lengths of the parts before and behind the third place, and whether the second is empty
@@ -90,26 +98,25 @@ fn message_elsewhere() -> ([u8; 1], [u8; 3]) {
     (read, output)
 }
 
-// whether a message does not fit, and the buffer is left as it was
-fn is_too_long_in_front() -> bool {
-    let mut output = [1, 2, 3];
-    let refused = InOutBufReserved::from_mut_slice(&mut output, 4).is_err();
-    refused && output == [1, 2, 3]
-}
+const SEVEN: &[u8] = &[7];
 
-fn is_too_long_elsewhere() -> bool {
-    let mut output = [1, 2, 3];
-    let refused = InOutBufReserved::from_slices(&[7; 4], &mut output).is_err();
-    refused && output == [1, 2, 3]
-}
+const ONE: &[u8] = &[1];
 
-// whether a message of three in front of five places is parted behind its first place
-fn splits() -> bool {
+const TWO_THREE: &[u8] = &[2, 3];
+
+// of a message of three in front of five places that is parted behind its first place: the lengths of both parts and of
+// the room of the second, whether they are read, and the places, of which the first part has the first and the room the
+// last
+fn parted_message() -> ([usize; 3], bool, bool, [u8; 5]) {
     let mut output = [1, 2, 3, 4, 5];
     let buffer = InOutBufReserved::from_mut_slice(&mut output, 3).unwrap();
-    let (front, mut back) = buffer.split_at(1);
-    let lengths = front.len() == 1 && back.len() == 2 && back.get_out().len() == 4;
-    lengths && front.get_in() == [1].as_slice() && back.get_in() == [2, 3].as_slice()
+    let (mut front, mut back) = buffer.split_at(1);
+    let first = front.get_in() == ONE;
+    let others = back.get_in() == TWO_THREE;
+    front.get_out()[0] = 7;
+    back.get_out()[3] = 9;
+    let lengths = [front.len(), back.len(), back.get_out().len()];
+    (lengths, first, others, output)
 }
 
 // whether a message of three elsewhere has one pair and a rest
@@ -117,66 +124,58 @@ fn chunks_of_a_message() -> bool {
     let mut output = [0; 5];
     let buffer = InOutBufReserved::from_slices(&[1, 2, 3], &mut output).unwrap();
     let (chunks, rest) = buffer.into_chunks::<2>();
-    chunks.get_in() == [[1, 2]].as_slice() && rest.get_in() == [3].as_slice()
+    let pair = chunks.get_in() == PAIR;
+    pair && rest.get_in() == THREE
 }
+
+const PAIR: &[[u8; 2]] = &[[1, 2]];
+
+const THREE: &[u8] = &[3];
 
 // whether a message that is lent for a while is read and written
 fn lends_a_message() -> bool {
     let mut output = [0; 2];
-    let mut buffer = InOutBufReserved::from_slices(&[7], &mut output).unwrap();
+    let mut buffer = InOutBufReserved::from_slices(SEVEN, &mut output).unwrap();
     let mut lent = buffer.reborrow();
     lent.get_out()[1] = 6;
-    lent.len() == 1 && lent.get_in() == [7].as_slice() && output == [0, 6]
+    let read = lent.len() == 1 && lent.get_in() == SEVEN;
+    read && output == [0, 6]
 }
 
-// five places, the first and the last of which were written through the two parts
-fn written_in_parts() -> [u8; 5] {
+// writes to some of five places: the first and the last through two parts, a pair and the rest, the third, or a pair and
+// the rest of a message of three
+fn write(asked: Asked, output: &mut [u8; 5]) {
+    match asked {
+        Asked::Parts => {
+            let (mut front, mut back) = InOutBuf::from(&mut output[..]).split_at(2);
+            front.get_out()[0] = 7;
+            back.get_out()[2] = 9;
+        }
+        Asked::Pair => {
+            let (mut chunks, mut rest) = InOutBuf::from(&mut output[..]).into_chunks::<2>();
+            chunks.get_out()[1] = [6, 7];
+            rest.get_out()[0] = 9;
+        }
+        Asked::Middle => *InOutBuf::from(&mut output[..]).get(2).get_out() = 9,
+        _ => {
+            let buffer = InOutBufReserved::from_mut_slice(output, 3).unwrap();
+            let (mut chunks, mut rest) = buffer.into_chunks::<2>();
+            chunks.get_out()[0] = [6, 7];
+            rest.get_out()[0] = 9;
+        }
+    }
+}
+
+// what five places are then
+fn written(asked: Asked) -> [u8; 5] {
     let mut output = [1, 2, 3, 4, 5];
-    let (mut front, mut back) = InOutBuf::from(&mut output[..]).split_at(2);
-    front.get_out()[0] = 7;
-    back.get_out()[2] = 9;
+    write(asked, &mut output);
     output
 }
 
-// five places, of which a pair and the rest were written
-fn written_in_chunks() -> [u8; 5] {
-    let mut output = [1, 2, 3, 4, 5];
-    let (mut chunks, mut rest) = InOutBuf::from(&mut output[..]).into_chunks::<2>();
-    chunks.get_out()[1] = [6, 7];
-    rest.get_out()[0] = 9;
-    output
-}
-
-// four places, of which the third was written
-fn written_in_the_middle() -> [u8; 4] {
-    let mut output = [1, 2, 3, 4];
-    *InOutBuf::from(&mut output[..]).get(2).get_out() = 9;
-    output
-}
-
-// five places, of which a message of three has the first, and the room behind it the last
-fn written_in_message_parts() -> [u8; 5] {
-    let mut output = [1, 2, 3, 4, 5];
-    let buffer = InOutBufReserved::from_mut_slice(&mut output, 3).unwrap();
-    let (mut front, mut back) = buffer.split_at(1);
-    front.get_out()[0] = 7;
-    back.get_out()[3] = 9;
-    output
-}
-
-// five places, of which a message of three has a pair and a rest
-fn written_in_message_chunks() -> [u8; 5] {
-    let mut output = [1, 2, 3, 4, 5];
-    let buffer = InOutBufReserved::from_mut_slice(&mut output, 3).unwrap();
-    let (mut chunks, mut rest) = buffer.into_chunks::<2>();
-    chunks.get_out()[0] = [6, 7];
-    rest.get_out()[0] = 9;
-    output
-}
-
-// what is asked
+/// What is asked.
 #[derive(Clone, Copy)]
-enum Asked {
+pub enum Asked {
     Unequal,
     Xor,
     Lengths,
@@ -195,13 +194,15 @@ enum Asked {
     Parts,
     Pair,
     Middle,
-    MessageParts,
     MessagePair,
 }
 
-fn holds(asked: Asked) -> bool {
+/// Whether it is so.
+pub fn holds(asked: Asked) -> bool {
     match asked {
-        Asked::Unequal => are_unequal(),
+        Asked::Unequal | Asked::TooLongInFront | Asked::TooLongElsewhere => {
+            refuses_and_keeps(asked)
+        }
         Asked::Xor => xored() == ([1, 2, 3, 4, 5], [0, 3, 2, 5, 4]),
         Asked::Lengths => split() == (3, 2, false),
         Asked::Chunks => chunks() == ([1, 2], 3),
@@ -209,47 +210,52 @@ fn holds(asked: Asked) -> bool {
         Asked::APart => written_in_part() == [0, 5],
         Asked::TwoPlaces => written_singly() == ([4, 6], 5),
         Asked::Empty => !is_empty(),
-        Asked::BehindItsFirst => splits(),
+        Asked::BehindItsFirst => parted_message() == ([1, 2, 4], true, true, [7, 2, 3, 4, 9]),
         Asked::Pairs => chunks_of_a_message(),
         Asked::Lent => lends_a_message(),
-        Asked::TooLongInFront => is_too_long_in_front(),
-        Asked::TooLongElsewhere => is_too_long_elsewhere(),
         Asked::InFront => message_in_front() == (2, false, [1, 2], [1, 2, 9]),
         Asked::Elsewhere => message_elsewhere() == ([7], [1, 2, 9]),
-        Asked::Parts => written_in_parts() == [7, 2, 3, 4, 9],
-        Asked::Pair => written_in_chunks() == [1, 2, 6, 7, 9],
-        Asked::Middle => written_in_the_middle() == [1, 2, 9, 4],
-        Asked::MessageParts => written_in_message_parts() == [7, 2, 3, 4, 9],
-        Asked::MessagePair => written_in_message_chunks() == [6, 7, 9, 4, 5],
+        Asked::Parts => written(asked) == [7, 2, 3, 4, 9],
+        Asked::Pair => written(asked) == [1, 2, 6, 7, 9],
+        Asked::Middle => written(asked) == [1, 2, 9, 4, 5],
+        Asked::MessagePair => written(asked) == [6, 7, 9, 4, 5],
     }
 }
 
-const ROWS: &[(&str, Asked)] = &[
-    ("unequal lengths", Asked::Unequal),
-    ("xor", Asked::Xor),
-    ("the lengths of parts", Asked::Lengths),
-    ("chunks", Asked::Chunks),
-    ("one place", Asked::OnePlace),
-    ("a part of a place", Asked::APart),
-    ("two places", Asked::TwoPlaces),
-    ("two places are not empty", Asked::Empty),
-    ("a message behind its first place", Asked::BehindItsFirst),
-    ("pairs of a message", Asked::Pairs),
-    ("a message that is lent", Asked::Lent),
-    ("too long in front", Asked::TooLongInFront),
-    ("too long elsewhere", Asked::TooLongElsewhere),
-    ("a message in front", Asked::InFront),
-    ("a message elsewhere", Asked::Elsewhere),
-    ("writes in two parts", Asked::Parts),
-    ("a write of a pair", Asked::Pair),
-    ("a write between others", Asked::Middle),
-    ("writes in parts of a message", Asked::MessageParts),
-    ("a write of a message's pair", Asked::MessagePair),
+/// Rows of buffers.
+pub const ROWS: &[Row] = &[
+    ("unequal lengths", rows::Asked::Buffer(Asked::Unequal)),
+    ("xor", rows::Asked::Buffer(Asked::Xor)),
+    ("the lengths of parts", rows::Asked::Buffer(Asked::Lengths)),
+    ("chunks", rows::Asked::Buffer(Asked::Chunks)),
+    ("one place", rows::Asked::Buffer(Asked::OnePlace)),
+    ("a part of a place", rows::Asked::Buffer(Asked::APart)),
+    ("two places", rows::Asked::Buffer(Asked::TwoPlaces)),
+    (
+        "two places are not empty",
+        rows::Asked::Buffer(Asked::Empty),
+    ),
+    (
+        "a message behind its first place",
+        rows::Asked::Buffer(Asked::BehindItsFirst),
+    ),
+    ("pairs of a message", rows::Asked::Buffer(Asked::Pairs)),
+    ("a message that is lent", rows::Asked::Buffer(Asked::Lent)),
+    (
+        "too long in front",
+        rows::Asked::Buffer(Asked::TooLongInFront),
+    ),
+    (
+        "too long elsewhere",
+        rows::Asked::Buffer(Asked::TooLongElsewhere),
+    ),
+    ("a message in front", rows::Asked::Buffer(Asked::InFront)),
+    ("a message elsewhere", rows::Asked::Buffer(Asked::Elsewhere)),
+    ("writes in two parts", rows::Asked::Buffer(Asked::Parts)),
+    ("a write of a pair", rows::Asked::Buffer(Asked::Pair)),
+    ("a write between others", rows::Asked::Buffer(Asked::Middle)),
+    (
+        "a write of a message's pair",
+        rows::Asked::Buffer(Asked::MessagePair),
+    ),
 ];
-
-#[test]
-fn buffers_read_and_write(rt: HostRuntime) {
-    for (row, asked) in ROWS {
-        check(&rt, holds(*asked), row);
-    }
-}

@@ -1,20 +1,9 @@
 //! What the tests compare by.
 
-use std::alloc::{AllocError, Global};
-use std::fmt::{Debug, Display};
+use std::alloc::AllocError;
 use std::process::Abort;
 
-/// The one place that stops.
-pub fn check(rt: &impl Abort, holds: bool, label: &str) {
-    assert!(rt; holds, "{label}");
-}
-
-/// Whether this is how a value is shown.
-pub fn is_shown<T: Display>(alloc: Global, x: &T, want: &str) -> Result<bool, AllocError> {
-    Ok(format!(in alloc; "{x}")?.as_str() == want)
-}
-
-/// Whether this is how `Debug` shows a value.
-pub fn is_debug<T: Debug>(alloc: Global, x: &T, want: &str) -> Result<bool, AllocError> {
-    Ok(format!(in alloc; "{x:?}")?.as_str() == want)
+/// The one place that stops, where a row does not hold, by its name.
+pub fn expect(rt: &impl Abort, got: Result<bool, AllocError>, row: &str) {
+    assert_eq!(rt; got, Ok(true), "{row}");
 }

@@ -14,6 +14,8 @@ mod messages;
 #[cfg(test)]
 mod modes;
 #[cfg(test)]
+mod rows;
+#[cfg(test)]
 mod shifted;
 #[cfg(test)]
 mod tweaks;

@@ -1,7 +1,8 @@
 //! Paddings, and messages that are padded.
 
 use crate::chained::{decrypter, encrypter};
-use crate::expected::check;
+use crate::rows;
+use crate::rows::Row;
 use cipher::{InOutBuf, InOutBufReserved};
 use cipher_modes::{
     BlockModeDecrypt, BlockModeEncrypt, NoPadding, PadError, PaddedVecError, Padding, Pkcs7,
@@ -21,252 +22,259 @@ fn gives<E: Drop>(answer: Result<&[u8], E>, want: &[u8]) -> bool {
     }
 }
 
-// a buffer of nines whose first `len` are padded, and the answer
-fn padded<P: Padding>(len: usize) -> ([u8; 10], Result<usize, PadError>) {
+// whether a buffer of nines whose first `len` are padded becomes this, and the answer is that
+fn pads<P: Padding>(len: usize, made: &[u8; 10], want: Result<usize, PadError>) -> bool {
     let mut buffer = [9; 10];
     let told = P::pad(&mut buffer, len, 4);
-    (buffer, told)
+    told == want && buffer == *made
 }
 
-fn fours_come_off() -> bool {
-    gives(Pkcs7::unpad(&[4; 8], 4), &[4; 4])
+const TEXT: &[u8] = &[1, 2, 3, 4];
+
+/// How a message goes.
+#[derive(Clone, Copy)]
+pub enum How {
+    InPlace,
+    Elsewhere,
+    // There with room behind it, or back by places.
+    ByPlaces,
+    // A part of a block without padding.
+    Part,
 }
 
-fn zeros_come_off() -> bool {
-    gives(
-        ZeroPadding::unpad(&[0, 0, 0, 0, 5, 0, 0, 0], 4),
-        &[0, 0, 0, 0, 5],
-    )
-}
-
-fn encrypts_in_place() -> bool {
-    let mut buffer = [1, 2, 3, 4, 0, 0, 0, 0, 9];
-    gives(encrypter().encrypt_padded::<Pkcs7>(&mut buffer, 4), &MADE)
-}
-
-fn encrypts_elsewhere() -> bool {
-    let mut output = [0; 9];
-    gives(
-        encrypter().encrypt_padded_b2b::<Pkcs7>(&[1, 2, 3, 4], &mut output),
-        &MADE,
-    )
-}
-
-fn encrypts_with_room() -> bool {
-    let mut buffer = [1, 2, 3, 4, 0, 0, 0, 0, 9];
-    match InOutBufReserved::from_mut_slice(&mut buffer, 4) {
-        Ok(message) => gives(encrypter().encrypt_padded_inout::<Pkcs7>(message), &MADE),
-        Err(_) => false,
+// whether a message that is encrypted in, or to, a buffer gives the blocks, or is refused
+fn encrypts(how: How, buffer: &mut [u8; 9]) -> bool {
+    match how {
+        How::InPlace => gives(encrypter().encrypt_padded::<Pkcs7>(buffer, 4), &MADE),
+        How::Elsewhere => gives(encrypter().encrypt_padded_b2b::<Pkcs7>(TEXT, buffer), &MADE),
+        How::ByPlaces => match InOutBufReserved::from_mut_slice(buffer, 4) {
+            Ok(message) => gives(encrypter().encrypt_padded_inout::<Pkcs7>(message), &MADE),
+            Err(_) => false,
+        },
+        How::Part => encrypter()
+            .encrypt_padded_b2b::<NoPadding>(&[1, 2, 3, 4, 5], buffer)
+            .is_err(),
     }
 }
 
-fn decrypts_in_place() -> bool {
-    let mut buffer = MADE;
-    gives(
-        decrypter().decrypt_padded::<Pkcs7>(&mut buffer),
-        &[1, 2, 3, 4],
-    )
+// whether the blocks that are decrypted in the front of a buffer, or to it, give the message
+fn decrypts(how: How, buffer: &mut [u8; 9]) -> bool {
+    match how {
+        How::InPlace => gives(decrypter().decrypt_padded::<Pkcs7>(&mut buffer[..8]), TEXT),
+        How::Elsewhere => gives(decrypter().decrypt_padded_b2b::<Pkcs7>(&MADE, buffer), TEXT),
+        _ => gives(
+            decrypter().decrypt_padded_inout::<Pkcs7>(InOutBuf::from(&mut buffer[..8])),
+            TEXT,
+        ),
+    }
 }
 
-fn decrypts_elsewhere() -> bool {
-    let mut output = [0; 9];
-    gives(
-        decrypter().decrypt_padded_b2b::<Pkcs7>(&MADE, &mut output),
-        &[1, 2, 3, 4],
-    )
-}
-
-fn decrypts_by_places() -> bool {
-    let mut buffer = MADE;
-    let blocks = InOutBuf::from(&mut buffer[..]);
-    gives(
-        decrypter().decrypt_padded_inout::<Pkcs7>(blocks),
-        &[1, 2, 3, 4],
-    )
-}
-
-fn refuses_part_blocks() -> bool {
-    encrypter()
-        .encrypt_padded_b2b::<NoPadding>(&[1, 2, 3, 4, 5], &mut [0; 9])
-        .is_err()
-}
-
-// a message elsewhere, encrypted in a buffer of nines
-fn encrypted_len() -> ([u8; 9], Result<usize, PadError>) {
+// whether a message elsewhere is encrypted in a buffer of nines
+fn encrypts_by_length() -> bool {
     let mut buffer = [9; 9];
-    let told = match InOutBufReserved::from_slices(&[1, 2, 3, 4], &mut buffer) {
+    let told = match InOutBufReserved::from_slices(TEXT, &mut buffer) {
         Ok(message) => encrypter().encrypt_padded_len::<Pkcs7>(message),
         Err(_) => Ok(0),
     };
-    (buffer, told)
+    told == Ok(8) && buffer == [2, 3, 4, 5, 7, 8, 1, 2, 9]
 }
 
-// a message with no room behind it
-fn without_room() -> ([u8; 8], Result<usize, PadError>) {
+// whether a message with no room behind it is refused
+fn refuses_without_room() -> bool {
     let mut buffer = [1, 2, 3, 4, 5, 6, 7, 8];
     let told = match InOutBufReserved::from_mut_slice(&mut buffer, 8) {
         Ok(message) => encrypter().encrypt_padded_len::<Pkcs7>(message),
         Err(_) => Ok(0),
     };
-    (buffer, told)
+    told == Err(PadError) && buffer == [1, 2, 3, 4, 5, 6, 7, 8]
 }
 
-// the blocks deciphered into the first n bytes of a buffer of nines
-fn deciphered_into(n: usize) -> ([u8; 8], Result<usize, UnpadError>) {
+// whether the blocks deciphered into the first n bytes of a buffer of nines give this, and the answer is that
+fn deciphers_into(n: usize, made: &[u8; 8], want: Result<usize, UnpadError>) -> bool {
     let mut buffer = [9; 8];
     let told = decrypter().decrypt_padded_b2b_len::<Pkcs7>(&MADE, &mut buffer[..n.min(8)]);
-    (buffer, told)
+    told == want && buffer == *made
 }
 
-// the first n of these bytes deciphered in their place
-fn deciphered(bytes: [u8; 8], n: usize) -> ([u8; 8], Result<usize, UnpadError>) {
+// the same of the first n of these bytes deciphered in their place
+fn deciphers(bytes: [u8; 8], n: usize, made: &[u8; 8], want: Result<usize, UnpadError>) -> bool {
     let mut buffer = bytes;
     let told = decrypter().decrypt_padded_len::<Pkcs7>(InOutBuf::from(&mut buffer[..n.min(8)]));
-    (buffer, told)
+    told == want && buffer == *made
 }
 
 // the ciphertext with another last byte
 const BAD: [u8; 8] = [2, 3, 4, 5, 7, 8, 1, 3];
 
-// the bytes of the vector that is made, or the error
-fn encrypted_vec(alloc: Global) -> Result<[u8; 8], PaddedVecError> {
-    let mut bytes = [0; 8];
-    match encrypter().encrypt_padded_vec::<Pkcs7>(alloc, &[1, 2, 3, 4]) {
-        Ok(made) => {
-            if made.len() == 8 {
-                bytes.copy_from_slice(&made);
-            }
-            Ok(bytes)
-        }
-        Err(error) => Err(error),
+// whether the vector is these bytes
+fn holds_bytes(made: Result<Vec<u8>, PaddedVecError>, want: &[u8]) -> bool {
+    match made {
+        Ok(bytes) => bytes.as_slice() == want,
+        Err(_) => false,
     }
 }
 
-fn decrypted_vec(alloc: Global) -> Result<[u8; 4], PaddedVecError> {
-    let mut bytes = [0; 4];
-    match decrypter().decrypt_padded_vec::<Pkcs7>(alloc, &MADE) {
-        Ok(made) => {
-            if made.len() == 4 {
-                bytes.copy_from_slice(&made);
-            }
-            Ok(bytes)
-        }
-        Err(error) => Err(error),
-    }
-}
-
-// the errors of bytes that cannot be padded and that are no padded message
-fn refused_vecs(alloc: Global) -> [Option<PaddedVecError>; 2] {
-    [
-        encrypter()
-            .encrypt_padded_vec::<NoPadding>(alloc, &[1, 2, 3, 4, 5])
-            .err(),
-        decrypter()
-            .decrypt_padded_vec::<Pkcs7>(alloc, &MADE[..7])
-            .err(),
-    ]
-}
-
-// Whether vectors go there and back, and two are refused.
-fn vectors_go(alloc: Global) -> bool {
-    encrypted_vec(alloc) == Ok(MADE)
-        && decrypted_vec(alloc) == Ok([1, 2, 3, 4])
-        && refused_vecs(alloc) == [Some(PaddedVecError::Pad), Some(PaddedVecError::Unpad)]
-}
-
-// what is asked
-#[derive(Clone, Copy)]
-enum Asked {
-    Pkcs7OfFour,
-    Pkcs7OfNone,
-    ZerosOfFour,
-    NoneOfFive,
+/// What is asked.
+pub enum Asked {
+    // A padding of the first so many of nines, what they become, and the answer.
+    Pkcs7(usize, [u8; 10], Result<usize, PadError>),
+    Zeros(usize, [u8; 10], Result<usize, PadError>),
+    NoPadding(usize, [u8; 10], Result<usize, PadError>),
     Length,
     NoBytes,
     FoursOff,
     ZerosOff,
-    ThereInPlace,
-    ThereElsewhere,
-    ThereWithRoom,
-    PartBlocks,
-    BackInPlace,
-    BackElsewhere,
-    BackByPlaces,
+    // A message that goes there or back by a buffer of these bytes.
+    There(How, [u8; 9]),
+    Back(How, [u8; 9]),
     Encrypted,
     WithoutRoom,
-    Deciphered,
-    TooShort,
-    DecipheredInPlace,
-    Malformed,
-    PartOfABlock,
+    // The blocks into so many places, or so many of these in their place, what they become, and the answer.
+    Into(usize, [u8; 8], Result<usize, UnpadError>),
+    Deciphered([u8; 8], usize, [u8; 8], Result<usize, UnpadError>),
+    // Vectors there, back, and refused.
+    VectorThere,
+    VectorBack,
+    VectorOfFive,
+    VectorOfSeven,
 }
 
-fn holds(asked: Asked) -> bool {
+/// Whether it is so.
+pub fn holds(alloc: Global, asked: &Asked) -> bool {
     match asked {
-        Asked::Pkcs7OfFour => padded::<Pkcs7>(4) == ([9, 9, 9, 9, 4, 4, 4, 4, 9, 9], Ok(8)),
-        Asked::Pkcs7OfNone => padded::<Pkcs7>(0) == ([4, 4, 4, 4, 9, 9, 9, 9, 9, 9], Ok(4)),
-        Asked::ZerosOfFour => padded::<ZeroPadding>(4) == ([9; 10], Ok(4)),
-        Asked::NoneOfFive => padded::<NoPadding>(5) == ([9; 10], Err(PadError)),
+        Asked::Pkcs7(len, made, want) => pads::<Pkcs7>(*len, made, *want),
+        Asked::Zeros(len, made, want) => pads::<ZeroPadding>(*len, made, *want),
+        Asked::NoPadding(len, made, want) => pads::<NoPadding>(*len, made, *want),
         Asked::Length => Pkcs7::padded_len(4, 4) == Some(8),
         Asked::NoBytes => Pkcs7::unpad(&[], 4).is_err(),
-        Asked::FoursOff => fours_come_off(),
-        Asked::ZerosOff => zeros_come_off(),
-        Asked::ThereInPlace => encrypts_in_place(),
-        Asked::ThereElsewhere => encrypts_elsewhere(),
-        Asked::ThereWithRoom => encrypts_with_room(),
-        Asked::PartBlocks => refuses_part_blocks(),
-        _ => holds_of_others(asked),
+        Asked::FoursOff => gives(Pkcs7::unpad(&[4; 8], 4), &[4; 4]),
+        Asked::ZerosOff => gives(ZeroPadding::unpad(ZEROS, 4), &ZEROS[..5]),
+        Asked::There(how, bytes) => {
+            let mut buffer = *bytes;
+            encrypts(*how, &mut buffer)
+        }
+        Asked::Back(how, bytes) => {
+            let mut buffer = *bytes;
+            decrypts(*how, &mut buffer)
+        }
+        Asked::Encrypted => encrypts_by_length(),
+        Asked::WithoutRoom => refuses_without_room(),
+        Asked::Into(n, made, want) => deciphers_into(*n, made, *want),
+        Asked::Deciphered(bytes, n, made, want) => deciphers(*bytes, *n, made, *want),
+        _ => vector_holds(alloc, asked),
     }
 }
 
-fn holds_of_others(asked: Asked) -> bool {
+const ZEROS: &[u8; 8] = &[0, 0, 0, 0, 5, 0, 0, 0];
+
+fn vector_holds(alloc: Global, asked: &Asked) -> bool {
     match asked {
-        Asked::BackInPlace => decrypts_in_place(),
-        Asked::BackElsewhere => decrypts_elsewhere(),
-        Asked::BackByPlaces => decrypts_by_places(),
-        Asked::Encrypted => encrypted_len() == ([2, 3, 4, 5, 7, 8, 1, 2, 9], Ok(8)),
-        Asked::WithoutRoom => without_room() == ([1, 2, 3, 4, 5, 6, 7, 8], Err(PadError)),
-        Asked::Deciphered => deciphered_into(8) == (PADDED, Ok(4)),
-        Asked::TooShort => deciphered_into(7) == ([9; 8], Err(UnpadError)),
-        Asked::DecipheredInPlace => deciphered(MADE, 8) == (PADDED, Ok(4)),
-        Asked::Malformed => deciphered(BAD, 8) == ([1, 2, 3, 4, 4, 4, 4, 7], Err(UnpadError)),
-        _ => deciphered(BAD, 7) == (BAD, Err(UnpadError)),
+        Asked::VectorThere => holds_bytes(
+            encrypter().encrypt_padded_vec::<Pkcs7>(alloc, TEXT),
+            &MADE,
+        ),
+        Asked::VectorBack => holds_bytes(
+            decrypter().decrypt_padded_vec::<Pkcs7>(alloc, &MADE),
+            TEXT,
+        ),
+        Asked::VectorOfFive => {
+            let made = encrypter().encrypt_padded_vec::<NoPadding>(alloc, &[1, 2, 3, 4, 5]);
+            made.err() == Some(PaddedVecError::Pad)
+        }
+        _ => {
+            let made = decrypter().decrypt_padded_vec::<Pkcs7>(alloc, &MADE[..7]);
+            made.err() == Some(PaddedVecError::Unpad)
+        }
     }
 }
 
-const ROWS: &[(&str, Asked)] = &[
-    ("PKCS #7 of 4", Asked::Pkcs7OfFour),
-    ("PKCS #7 of 0", Asked::Pkcs7OfNone),
-    ("zeros of 4", Asked::ZerosOfFour),
-    ("no padding of 5", Asked::NoneOfFive),
-    ("the length of PKCS #7", Asked::Length),
-    ("no bytes come off", Asked::NoBytes),
-    ("PKCS #7 comes off", Asked::FoursOff),
-    ("zeros come off", Asked::ZerosOff),
-    ("there in place", Asked::ThereInPlace),
-    ("there elsewhere", Asked::ThereElsewhere),
-    ("there with room", Asked::ThereWithRoom),
-    ("five bytes without padding", Asked::PartBlocks),
-    ("back in place", Asked::BackInPlace),
-    ("back elsewhere", Asked::BackElsewhere),
-    ("back by places", Asked::BackByPlaces),
-    ("an encrypted length", Asked::Encrypted),
-    ("without room", Asked::WithoutRoom),
-    ("a decrypted length elsewhere", Asked::Deciphered),
-    ("too short a place", Asked::TooShort),
-    ("a decrypted length in place", Asked::DecipheredInPlace),
-    ("a malformed padding", Asked::Malformed),
-    ("a part of a block", Asked::PartOfABlock),
+const IN_FRONT: [u8; 9] = [1, 2, 3, 4, 0, 0, 0, 0, 9];
+
+const MADE_IN_FRONT: [u8; 9] = [2, 3, 4, 5, 7, 8, 1, 2, 9];
+
+/// Rows of messages.
+pub const ROWS: &[Row] = &[
+    (
+        "PKCS #7 of 4",
+        rows::Asked::Message(Asked::Pkcs7(4, [9, 9, 9, 9, 4, 4, 4, 4, 9, 9], Ok(8))),
+    ),
+    (
+        "PKCS #7 of 0",
+        rows::Asked::Message(Asked::Pkcs7(0, [4, 4, 4, 4, 9, 9, 9, 9, 9, 9], Ok(4))),
+    ),
+    (
+        "zeros of 4",
+        rows::Asked::Message(Asked::Zeros(4, [9; 10], Ok(4))),
+    ),
+    (
+        "no padding of 5",
+        rows::Asked::Message(Asked::NoPadding(5, [9; 10], Err(PadError))),
+    ),
+    ("the length of PKCS #7", rows::Asked::Message(Asked::Length)),
+    ("no bytes come off", rows::Asked::Message(Asked::NoBytes)),
+    ("PKCS #7 comes off", rows::Asked::Message(Asked::FoursOff)),
+    ("zeros come off", rows::Asked::Message(Asked::ZerosOff)),
+    (
+        "there in place",
+        rows::Asked::Message(Asked::There(How::InPlace, IN_FRONT)),
+    ),
+    (
+        "there elsewhere",
+        rows::Asked::Message(Asked::There(How::Elsewhere, [0; 9])),
+    ),
+    (
+        "there with room",
+        rows::Asked::Message(Asked::There(How::ByPlaces, IN_FRONT)),
+    ),
+    (
+        "five bytes without padding",
+        rows::Asked::Message(Asked::There(How::Part, [0; 9])),
+    ),
+    (
+        "back in place",
+        rows::Asked::Message(Asked::Back(How::InPlace, MADE_IN_FRONT)),
+    ),
+    (
+        "back elsewhere",
+        rows::Asked::Message(Asked::Back(How::Elsewhere, [0; 9])),
+    ),
+    (
+        "back by places",
+        rows::Asked::Message(Asked::Back(How::ByPlaces, MADE_IN_FRONT)),
+    ),
+    (
+        "an encrypted length",
+        rows::Asked::Message(Asked::Encrypted),
+    ),
+    ("without room", rows::Asked::Message(Asked::WithoutRoom)),
+    (
+        "a decrypted length elsewhere",
+        rows::Asked::Message(Asked::Into(8, PADDED, Ok(4))),
+    ),
+    (
+        "too short a place",
+        rows::Asked::Message(Asked::Into(7, [9; 8], Err(UnpadError))),
+    ),
+    (
+        "a decrypted length in place",
+        rows::Asked::Message(Asked::Deciphered(MADE, 8, PADDED, Ok(4))),
+    ),
+    (
+        "a malformed padding",
+        rows::Asked::Message(Asked::Deciphered(BAD, 8, [1, 2, 3, 4, 4, 4, 4, 7], Err(UnpadError))),
+    ),
+    (
+        "a part of a block",
+        rows::Asked::Message(Asked::Deciphered(BAD, 7, BAD, Err(UnpadError))),
+    ),
+    ("a vector there", rows::Asked::Message(Asked::VectorThere)),
+    ("a vector back", rows::Asked::Message(Asked::VectorBack)),
+    (
+        "a vector of five bytes without padding",
+        rows::Asked::Message(Asked::VectorOfFive),
+    ),
+    (
+        "a vector of seven bytes back",
+        rows::Asked::Message(Asked::VectorOfSeven),
+    ),
 ];
-
-#[test]
-fn messages_go_there_and_back(rt: HostRuntime) {
-    for (row, asked) in ROWS {
-        check(&rt, holds(*asked), row);
-    }
-    check(
-        &rt,
-        vectors_go(rt.alloc()),
-        "vectors there and back, and refused",
-    );
-}

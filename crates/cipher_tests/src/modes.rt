@@ -4,7 +4,8 @@ ghost use Rattle.std.specs.Prelude.{◌≡◌, ℕ, List};
 ghost use Rattle.cipher_modes.specs.Steps.{run_of, state_after};
 
 use crate::chained::{AddKey, Chained, Unchained, decrypter, encrypter};
-use crate::expected::check;
+use crate::rows;
+use crate::rows::Row;
 use cipher::{InOut, InOutBuf, InnerIvInit, InvalidLength, IvState, NotEqualError, SetIvState};
 use cipher_modes::dev::block_mode::{TestVector, decrypt, encrypt};
 use cipher_modes::{BlockModeDecrypt, BlockModeEncrypt};
@@ -142,55 +143,23 @@ fn state_from(iv: &[u8]) -> Result<[u8; 4], InvalidLength> {
     Ok(mode.iv_state())
 }
 
-fn encrypts(
-    iv: &'static [u8],
-    plaintext: &'static [u8],
-    ciphertext: &'static [u8],
-) -> Result<(), &'static str> {
-    encrypt::<Chained, 1, 4, 4>(&TestVector {
-        key: &[1],
-        iv,
-        plaintext,
-        ciphertext,
-    })
+// what a vector tells of the mode and of the way back
+fn encrypts(vector: &TestVector) -> Told {
+    encrypt::<Chained, 1, 4, 4>(vector)
 }
 
-fn decrypts(plaintext: &'static [u8], ciphertext: &'static [u8]) -> Result<(), &'static str> {
-    decrypt::<Unchained, 1, 4, 4>(&TestVector {
-        key: &[255],
-        iv: &[0; 4],
-        plaintext,
-        ciphertext,
-    })
+fn decrypts(vector: &TestVector) -> Told {
+    decrypt::<Unchained, 1, 4, 4>(vector)
 }
+
+type Told = Result<(), &'static str>;
 
 const LONG_TEXT: &[u8] = &[1, 2, 3, 4, 4, 4, 4, 4];
 
 const LONG_MADE: &[u8] = &[2, 3, 4, 5, 7, 8, 1, 2];
 
-// a right vector, and others: its initialization vector, a part of a block, two lengths, and too long a one
-fn told_of_encryption() -> [Result<(), &'static str>; 5] {
-    [
-        encrypts(&[0; 4], LONG_TEXT, LONG_MADE),
-        encrypts(&[0], LONG_TEXT, LONG_MADE),
-        encrypts(&[0], &[1, 2], &[1, 2]),
-        encrypts(&[0], &[1], &[1, 2]),
-        encrypts(&[0], &[1], &[0; 4097]),
-    ]
-}
-
-// a right vector, one of another block, and one that is too long
-fn told_of_decryption() -> [Result<(), &'static str>; 3] {
-    [
-        decrypts(LONG_TEXT, LONG_MADE),
-        decrypts(LONG_TEXT, &[2, 3, 4, 5, 7, 8, 1, 3]),
-        decrypts(&[0; 4100], LONG_MADE),
-    ]
-}
-
-// what is asked
-#[derive(Clone, Copy)]
-enum Asked {
+/// What is asked.
+pub enum Asked {
     InOrder,
     TooMany,
     TooFew,
@@ -199,11 +168,13 @@ enum Asked {
     GoesOn,
     FourBytes,
     ThreeBytes,
-    Encryption,
-    Decryption,
+    // A vector, and what is told.
+    Encryption(TestVector, Told),
+    Decryption(TestVector, Told),
 }
 
-fn holds(asked: Asked) -> bool {
+/// Whether it is so.
+pub fn holds(asked: &Asked) -> bool {
     match asked {
         Asked::InOrder => up_to_ten_go(),
         Asked::TooMany => refuses_too_many(),
@@ -213,43 +184,124 @@ fn holds(asked: Asked) -> bool {
         Asked::GoesOn => goes_on(),
         Asked::FourBytes => state_from(&[5; 4]) == Ok([5; 4]),
         Asked::ThreeBytes => state_from(&[0; 3]) == Err(InvalidLength),
-        Asked::Encryption => {
-            told_of_encryption()
-                == [
-                    Ok(()),
-                    Err("cipher initialization failure"),
-                    Err("plaintext/ciphertext length is not multiple of block size"),
-                    Err("plaintext/ciphertext length mismatch"),
-                    Err("ciphertext is bigger than MAX_MSG_LEN bytes"),
-                ]
-        }
-        Asked::Decryption => {
-            told_of_decryption()
-                == [
-                    Ok(()),
-                    Err("single block decryption failure"),
-                    Err("plaintext is bigger than MAX_MSG_LEN bytes"),
-                ]
-        }
+        Asked::Encryption(vector, want) => encrypts(vector) == *want,
+        Asked::Decryption(vector, want) => decrypts(vector) == *want,
     }
 }
 
-const ROWS: &[(&str, Asked)] = &[
-    ("up to ten blocks", Asked::InOrder),
-    ("too many blocks", Asked::TooMany),
-    ("too few", Asked::TooFew),
-    ("one block encrypted", Asked::There),
-    ("one block decrypted", Asked::Back),
-    ("another mode under the state", Asked::GoesOn),
-    ("a vector of four bytes", Asked::FourBytes),
-    ("a vector of three", Asked::ThreeBytes),
-    ("vectors of an encryption", Asked::Encryption),
-    ("vectors of a decryption", Asked::Decryption),
+/// Rows of modes.
+pub const ROWS: &[Row] = &[
+    (
+        "up to ten blocks of a mode",
+        rows::Asked::Mode(Asked::InOrder),
+    ),
+    ("too many blocks", rows::Asked::Mode(Asked::TooMany)),
+    ("too few", rows::Asked::Mode(Asked::TooFew)),
+    ("one block encrypted", rows::Asked::Mode(Asked::There)),
+    ("one block decrypted", rows::Asked::Mode(Asked::Back)),
+    (
+        "another mode under the state",
+        rows::Asked::Mode(Asked::GoesOn),
+    ),
+    (
+        "a vector of four bytes",
+        rows::Asked::Mode(Asked::FourBytes),
+    ),
+    ("a vector of three", rows::Asked::Mode(Asked::ThreeBytes)),
+    (
+        "a right vector encrypted",
+        rows::Asked::Mode(Asked::Encryption(
+            TestVector {
+                key: &[1],
+                iv: &[0; 4],
+                plaintext: LONG_TEXT,
+                ciphertext: LONG_MADE,
+            },
+            Ok(()),
+        )),
+    ),
+    (
+        "a vector with a short initialization vector",
+        rows::Asked::Mode(Asked::Encryption(
+            TestVector {
+                key: &[1],
+                iv: &[0],
+                plaintext: LONG_TEXT,
+                ciphertext: LONG_MADE,
+            },
+            Err("cipher initialization failure"),
+        )),
+    ),
+    (
+        "a vector with a part of a block",
+        rows::Asked::Mode(Asked::Encryption(
+            TestVector {
+                key: &[1],
+                iv: &[0],
+                plaintext: &[1, 2],
+                ciphertext: &[1, 2],
+            },
+            Err("plaintext/ciphertext length is not multiple of block size"),
+        )),
+    ),
+    (
+        "a vector of two lengths",
+        rows::Asked::Mode(Asked::Encryption(
+            TestVector {
+                key: &[1],
+                iv: &[0],
+                plaintext: &[1],
+                ciphertext: &[1, 2],
+            },
+            Err("plaintext/ciphertext length mismatch"),
+        )),
+    ),
+    (
+        "a vector with too long a ciphertext",
+        rows::Asked::Mode(Asked::Encryption(
+            TestVector {
+                key: &[1],
+                iv: &[0],
+                plaintext: &[1],
+                ciphertext: &[0; 4097],
+            },
+            Err("ciphertext is bigger than MAX_MSG_LEN bytes"),
+        )),
+    ),
+    (
+        "a right vector decrypted",
+        rows::Asked::Mode(Asked::Decryption(
+            TestVector {
+                key: &[255],
+                iv: &[0; 4],
+                plaintext: LONG_TEXT,
+                ciphertext: LONG_MADE,
+            },
+            Ok(()),
+        )),
+    ),
+    (
+        "a vector of another block",
+        rows::Asked::Mode(Asked::Decryption(
+            TestVector {
+                key: &[255],
+                iv: &[0; 4],
+                plaintext: LONG_TEXT,
+                ciphertext: &[2, 3, 4, 5, 7, 8, 1, 3],
+            },
+            Err("single block decryption failure"),
+        )),
+    ),
+    (
+        "a vector with too long a plaintext",
+        rows::Asked::Mode(Asked::Decryption(
+            TestVector {
+                key: &[255],
+                iv: &[0; 4],
+                plaintext: &[0; 4100],
+                ciphertext: LONG_MADE,
+            },
+            Err("plaintext is bigger than MAX_MSG_LEN bytes"),
+        )),
+    ),
 ];
-
-#[test]
-fn modes_go_in_order(rt: HostRuntime) {
-    for (row, asked) in ROWS {
-        check(&rt, holds(*asked), row);
-    }
-}

@@ -3,17 +3,17 @@
 ghost use Rattle.std.proofs.Common.{lit<, lit≤};
 ghost use Rattle.std.specs.Prelude.{◌≡◌, ◌+◌, ◌-◌, ◌%◌, ℕ, [], ◌∷◌, refl, slice_index, slice_index_or, length};
 
-use crate::expected::{check, is_debug};
+use crate::rows;
+use crate::rows::Row;
 use cipher::{
     BlockCipherDecrypt, BlockCipherEncrypt, InOut, Tweak, TweakBlockCipherDecBackend,
     TweakBlockCipherDecClosure, TweakBlockCipherDecrypt, TweakBlockCipherEncBackend,
     TweakBlockCipherEncClosure, TweakBlockCipherEncrypt, TweakSizeUser, ZeroTweak,
 };
-use std::test::Fail;
 
 // adds the tweak's three bytes to the first three of a block of four
 #[derive(Debug, Drop, Clone, Copy)]
-struct Tweaked;
+pub struct Tweaked;
 
 impl TweakSizeUser<3> for Tweaked {
     ghost tweak_size = { (lit≤ tt, lit< tt) };
@@ -119,52 +119,53 @@ const PLAIN: [u8; 4] = [1, 2, 3, 255];
 
 const ADDED: [u8; 4] = [8, 10, 2, 255];
 
-// a block encrypted in its place, elsewhere and by places
-fn encrypted_each_way() -> [[u8; 4]; 3] {
-    let mut made = [PLAIN, [0; 4], PLAIN];
-    TweakBlockCipherEncrypt::encrypt_block(&Tweaked, &TWEAK, &mut made[0]);
-    TweakBlockCipherEncrypt::encrypt_block_b2b(&Tweaked, &TWEAK, &PLAIN, &mut made[1]);
-    TweakBlockCipherEncrypt::encrypt_block_inout(&Tweaked, &TWEAK, InOut::from(&mut made[2]));
-    made
+/// How a block goes, by the cipher or by its backend.
+#[derive(Clone, Copy)]
+pub enum How {
+    There,
+    ThereElsewhere,
+    ThereByPlaces,
+    Back,
+    BackElsewhere,
+    BackByPlaces,
+    BackendThere,
+    BackendThereElsewhere,
+    BackendBack,
+    BackendBackElsewhere,
 }
 
-// the same of a decryption
-fn decrypted_each_way() -> [[u8; 4]; 3] {
-    let mut back = [ADDED, [0; 4], [0; 4]];
-    TweakBlockCipherDecrypt::decrypt_block(&Tweaked, &TWEAK, &mut back[0]);
-    TweakBlockCipherDecrypt::decrypt_block_b2b(&Tweaked, &TWEAK, &ADDED, &mut back[1]);
-    TweakBlockCipherDecrypt::decrypt_block_inout(
-        &Tweaked,
-        &TWEAK,
-        InOut::new(&ADDED, &mut back[2]),
-    );
-    back
+fn go(how: How, block: &mut [u8; 4]) {
+    match how {
+        How::There => TweakBlockCipherEncrypt::encrypt_block(&Tweaked, &TWEAK, block),
+        How::ThereElsewhere => {
+            TweakBlockCipherEncrypt::encrypt_block_b2b(&Tweaked, &TWEAK, &PLAIN, block);
+        }
+        How::ThereByPlaces => {
+            TweakBlockCipherEncrypt::encrypt_block_inout(&Tweaked, &TWEAK, InOut::from(block));
+        }
+        How::Back => TweakBlockCipherDecrypt::decrypt_block(&Tweaked, &TWEAK, block),
+        How::BackElsewhere => {
+            TweakBlockCipherDecrypt::decrypt_block_b2b(&Tweaked, &TWEAK, &ADDED, block);
+        }
+        How::BackByPlaces => {
+            let places = InOut::new(&ADDED, block);
+            TweakBlockCipherDecrypt::decrypt_block_inout(&Tweaked, &TWEAK, places);
+        }
+        How::BackendThere => TweakBlockCipherEncBackend::encrypt_block(&Tweaked, &TWEAK, block),
+        How::BackendThereElsewhere => {
+            TweakBlockCipherEncBackend::encrypt_block_b2b(&Tweaked, &TWEAK, &PLAIN, block);
+        }
+        How::BackendBack => TweakBlockCipherDecBackend::decrypt_block(&Tweaked, &TWEAK, block),
+        How::BackendBackElsewhere => {
+            TweakBlockCipherDecBackend::decrypt_block_b2b(&Tweaked, &TWEAK, &ADDED, block);
+        }
+    }
 }
 
-// a block encrypted in its place, and what it is decrypted to elsewhere
-fn by_backends() -> [[u8; 4]; 2] {
-    let mut block = PLAIN;
-    let mut other = [0; 4];
-    TweakBlockCipherEncBackend::encrypt_block(&Tweaked, &TWEAK, &mut block);
-    TweakBlockCipherDecBackend::decrypt_block_b2b(&Tweaked, &TWEAK, &block, &mut other);
-    [block, other]
-}
-
-// a block decrypted in its place, and what it is encrypted to elsewhere
-fn back_by_backends() -> [[u8; 4]; 2] {
-    let mut block = ADDED;
-    let mut other = [0; 4];
-    TweakBlockCipherDecBackend::decrypt_block(&Tweaked, &TWEAK, &mut block);
-    TweakBlockCipherEncBackend::encrypt_block_b2b(&Tweaked, &TWEAK, &block, &mut other);
-    [block, other]
-}
-
-fn goes_each_way() -> bool {
-    encrypted_each_way() == [ADDED; 3] && decrypted_each_way() == [PLAIN; 3]
-}
-
-fn goes_by_backends() -> bool {
-    by_backends() == [ADDED, PLAIN] && back_by_backends() == [PLAIN, ADDED]
+fn gone(how: How, from: &[u8; 4]) -> [u8; 4] {
+    let mut block = *from;
+    go(how, &mut block);
+    block
 }
 
 fn zero_tweak_adds_nothing(c: &ZeroTweak<Tweaked, 3>) -> bool {
@@ -175,13 +176,70 @@ fn zero_tweak_adds_nothing(c: &ZeroTweak<Tweaked, 3>) -> bool {
     there && blocks == [PLAIN; 2]
 }
 
-#[test]
-fn tweaks_are_added_and_subtracted(rt: HostRuntime) -> Result<(), Fail> {
-    check(&rt, goes_each_way(), "each way");
-    check(&rt, goes_by_backends(), "by backends");
-    let c: ZeroTweak<Tweaked, 3> = ZeroTweak(Tweaked).clone()?;
-    check(&rt, zero_tweak_adds_nothing(&c), "the zero tweak");
-    let shown = is_debug(rt.alloc(), &c, "ZeroTweak(Tweaked)")?;
-    check(&rt, shown, "its debug text");
-    Ok(())
+/// The cipher without a tweak.
+pub fn zero_tweak() -> ZeroTweak<Tweaked, 3> {
+    ZeroTweak(Tweaked)
 }
+
+/// What is asked.
+pub enum Asked {
+    // A block that becomes another.
+    Block(How, [u8; 4], [u8; 4]),
+    Zero,
+}
+
+/// Whether it is so.
+pub fn holds(asked: &Asked) -> bool {
+    match asked {
+        Asked::Block(how, from, to) => gone(*how, from) == *to,
+        Asked::Zero => match zero_tweak().clone() {
+            Ok(c) => zero_tweak_adds_nothing(&c),
+            Err(_) => false,
+        },
+    }
+}
+
+/// Rows of tweaks.
+pub const ROWS: &[Row] = &[
+    (
+        "a tweak added in place",
+        rows::Asked::Tweak(Asked::Block(How::There, PLAIN, ADDED)),
+    ),
+    (
+        "a tweak added elsewhere",
+        rows::Asked::Tweak(Asked::Block(How::ThereElsewhere, [0; 4], ADDED)),
+    ),
+    (
+        "a tweak added by places",
+        rows::Asked::Tweak(Asked::Block(How::ThereByPlaces, PLAIN, ADDED)),
+    ),
+    (
+        "a tweak subtracted in place",
+        rows::Asked::Tweak(Asked::Block(How::Back, ADDED, PLAIN)),
+    ),
+    (
+        "a tweak subtracted elsewhere",
+        rows::Asked::Tweak(Asked::Block(How::BackElsewhere, [0; 4], PLAIN)),
+    ),
+    (
+        "a tweak subtracted by places",
+        rows::Asked::Tweak(Asked::Block(How::BackByPlaces, [0; 4], PLAIN)),
+    ),
+    (
+        "a tweak added by a backend",
+        rows::Asked::Tweak(Asked::Block(How::BackendThere, PLAIN, ADDED)),
+    ),
+    (
+        "a tweak added elsewhere by a backend",
+        rows::Asked::Tweak(Asked::Block(How::BackendThereElsewhere, [0; 4], ADDED)),
+    ),
+    (
+        "a tweak subtracted by a backend",
+        rows::Asked::Tweak(Asked::Block(How::BackendBack, ADDED, PLAIN)),
+    ),
+    (
+        "a tweak subtracted elsewhere by a backend",
+        rows::Asked::Tweak(Asked::Block(How::BackendBackElsewhere, [0; 4], PLAIN)),
+    ),
+    ("the zero tweak", rows::Asked::Tweak(Asked::Zero)),
+];
