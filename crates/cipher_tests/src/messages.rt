@@ -6,13 +6,13 @@ use crate::rows::Row;
 use cipher::{InOutBuf, InOutBufReserved};
 use cipher_modes::{
     BlockModeDecrypt, BlockModeEncrypt, NoPadding, PadError, PaddedVecError, Padding, Pkcs7,
-    UnpadError, ZeroPadding,
+    ZeroPadding,
 };
 use std::alloc::Global;
 
 const MADE: [u8; 8] = [2, 3, 4, 5, 7, 8, 1, 2];
 
-const PADDED: [u8; 8] = [1, 2, 3, 4, 4, 4, 4, 4];
+const PADDED: [u8; 9] = [1, 2, 3, 4, 4, 4, 4, 4, 9];
 
 // whether the answer is these bytes
 fn gives<E: Drop>(answer: Result<&[u8], E>, want: &[u8]) -> bool {
@@ -69,42 +69,42 @@ fn decrypts(how: How, buffer: &mut [u8; 9]) -> bool {
     }
 }
 
-// whether a message elsewhere is encrypted in a buffer of nines
-fn encrypts_by_length() -> bool {
-    let mut buffer = [9; 9];
-    let told = match InOutBufReserved::from_slices(TEXT, &mut buffer) {
-        Ok(message) => encrypter().encrypt_padded_len::<Pkcs7>(message),
-        Err(_) => Ok(0),
-    };
-    told == Ok(8) && buffer == [2, 3, 4, 5, 7, 8, 1, 2, 9]
+/// What a length is told of: a message elsewhere that is encrypted in the first bytes of a buffer, a message that has all
+/// of them, the blocks that are deciphered into them, and they themselves deciphered.
+#[derive(Clone, Copy)]
+pub enum By {
+    There,
+    WithoutRoom,
+    Into,
+    InPlace,
 }
 
-// whether a message with no room behind it is refused
-fn refuses_without_room() -> bool {
-    let mut buffer = [1, 2, 3, 4, 5, 6, 7, 8];
-    let told = match InOutBufReserved::from_mut_slice(&mut buffer, 8) {
-        Ok(message) => encrypter().encrypt_padded_len::<Pkcs7>(message),
-        Err(_) => Ok(0),
-    };
-    told == Err(PadError) && buffer == [1, 2, 3, 4, 5, 6, 7, 8]
+// the length, if any, where the first n bytes are taken
+fn length_by(by: By, n: usize, buffer: &mut [u8; 9]) -> Option<usize> {
+    let bytes = &mut buffer[..n.min(9)];
+    match by {
+        By::There => match InOutBufReserved::from_slices(TEXT, bytes) {
+            Ok(message) => encrypter().encrypt_padded_len::<Pkcs7>(message).ok(),
+            Err(_) => Some(0),
+        },
+        By::WithoutRoom => match InOutBufReserved::from_mut_slice(bytes, n) {
+            Ok(message) => encrypter().encrypt_padded_len::<Pkcs7>(message).ok(),
+            Err(_) => Some(0),
+        },
+        By::Into => decrypter()
+            .decrypt_padded_b2b_len::<Pkcs7>(&MADE, bytes)
+            .ok(),
+        By::InPlace => decrypter()
+            .decrypt_padded_len::<Pkcs7>(InOutBuf::from(bytes))
+            .ok(),
+    }
 }
 
-// whether the blocks deciphered into the first n bytes of a buffer of nines give this, and the answer is that
-fn deciphers_into(n: usize, made: &[u8; 8], want: Result<usize, UnpadError>) -> bool {
-    let mut buffer = [9; 8];
-    let told = decrypter().decrypt_padded_b2b_len::<Pkcs7>(&MADE, &mut buffer[..n.min(8)]);
-    told == want && buffer == *made
+// whether this is the length, and the buffer becomes that
+fn has_length(by: By, n: usize, from: &[u8; 9], to: &[u8; 9], want: Option<usize>) -> bool {
+    let mut buffer = *from;
+    length_by(by, n, &mut buffer) == want && buffer == *to
 }
-
-// the same of the first n of these bytes deciphered in their place
-fn deciphers(bytes: [u8; 8], n: usize, made: &[u8; 8], want: Result<usize, UnpadError>) -> bool {
-    let mut buffer = bytes;
-    let told = decrypter().decrypt_padded_len::<Pkcs7>(InOutBuf::from(&mut buffer[..n.min(8)]));
-    told == want && buffer == *made
-}
-
-// the ciphertext with another last byte
-const BAD: [u8; 8] = [2, 3, 4, 5, 7, 8, 1, 3];
 
 // whether the vector is these bytes
 fn holds_bytes(made: Result<Vec<u8>, PaddedVecError>, want: &[u8]) -> bool {
@@ -120,18 +120,15 @@ pub enum Asked {
     Pkcs7(usize, [u8; 10], Result<usize, PadError>),
     Zeros(usize, [u8; 10], Result<usize, PadError>),
     NoPadding(usize, [u8; 10], Result<usize, PadError>),
-    Length,
+    PaddedLength,
     NoBytes,
     FoursOff,
     ZerosOff,
     // A message that goes there or back by a buffer of these bytes.
     There(How, [u8; 9]),
     Back(How, [u8; 9]),
-    Encrypted,
-    WithoutRoom,
-    // The blocks into so many places, or so many of these in their place, what they become, and the answer.
-    Into(usize, [u8; 8], Result<usize, UnpadError>),
-    Deciphered([u8; 8], usize, [u8; 8], Result<usize, UnpadError>),
+    // A length, if any, of so many of the first bytes of a buffer, which becomes another.
+    Length(By, usize, [u8; 9], [u8; 9], Option<usize>),
     // Vectors there, back, and refused.
     VectorThere,
     VectorBack,
@@ -145,7 +142,7 @@ pub fn holds(alloc: Global, asked: &Asked) -> bool {
         Asked::Pkcs7(len, made, want) => pads::<Pkcs7>(*len, made, *want),
         Asked::Zeros(len, made, want) => pads::<ZeroPadding>(*len, made, *want),
         Asked::NoPadding(len, made, want) => pads::<NoPadding>(*len, made, *want),
-        Asked::Length => Pkcs7::padded_len(4, 4) == Some(8),
+        Asked::PaddedLength => Pkcs7::padded_len(4, 4) == Some(8),
         Asked::NoBytes => Pkcs7::unpad(&[], 4).is_err(),
         Asked::FoursOff => gives(Pkcs7::unpad(&[4; 8], 4), &[4; 4]),
         Asked::ZerosOff => gives(ZeroPadding::unpad(ZEROS, 4), &ZEROS[..5]),
@@ -157,10 +154,7 @@ pub fn holds(alloc: Global, asked: &Asked) -> bool {
             let mut buffer = *bytes;
             decrypts(*how, &mut buffer)
         }
-        Asked::Encrypted => encrypts_by_length(),
-        Asked::WithoutRoom => refuses_without_room(),
-        Asked::Into(n, made, want) => deciphers_into(*n, made, *want),
-        Asked::Deciphered(bytes, n, made, want) => deciphers(*bytes, *n, made, *want),
+        Asked::Length(by, n, from, to, want) => has_length(*by, *n, from, to, *want),
         _ => vector_holds(alloc, asked),
     }
 }
@@ -190,6 +184,11 @@ fn vector_holds(alloc: Global, asked: &Asked) -> bool {
 
 const IN_FRONT: [u8; 9] = [1, 2, 3, 4, 0, 0, 0, 0, 9];
 
+const DIGITS: [u8; 9] = [1, 2, 3, 4, 5, 6, 7, 8, 9];
+
+// the ciphertext with another last byte
+const BAD: [u8; 9] = [2, 3, 4, 5, 7, 8, 1, 3, 9];
+
 const MADE_IN_FRONT: [u8; 9] = [2, 3, 4, 5, 7, 8, 1, 2, 9];
 
 /// Rows of messages.
@@ -210,7 +209,10 @@ pub const ROWS: &[Row] = &[
         "no padding of 5",
         rows::Asked::Message(Asked::NoPadding(5, [9; 10], Err(PadError))),
     ),
-    ("the length of PKCS #7", rows::Asked::Message(Asked::Length)),
+    (
+        "the length of PKCS #7",
+        rows::Asked::Message(Asked::PaddedLength),
+    ),
     ("no bytes come off", rows::Asked::Message(Asked::NoBytes)),
     ("PKCS #7 comes off", rows::Asked::Message(Asked::FoursOff)),
     ("zeros come off", rows::Asked::Message(Asked::ZerosOff)),
@@ -244,28 +246,31 @@ pub const ROWS: &[Row] = &[
     ),
     (
         "an encrypted length",
-        rows::Asked::Message(Asked::Encrypted),
+        rows::Asked::Message(Asked::Length(By::There, 9, [9; 9], MADE_IN_FRONT, Some(8))),
     ),
-    ("without room", rows::Asked::Message(Asked::WithoutRoom)),
+    (
+        "without room",
+        rows::Asked::Message(Asked::Length(By::WithoutRoom, 8, DIGITS, DIGITS, None)),
+    ),
     (
         "a decrypted length elsewhere",
-        rows::Asked::Message(Asked::Into(8, PADDED, Ok(4))),
+        rows::Asked::Message(Asked::Length(By::Into, 8, [9; 9], PADDED, Some(4))),
     ),
     (
         "too short a place",
-        rows::Asked::Message(Asked::Into(7, [9; 8], Err(UnpadError))),
+        rows::Asked::Message(Asked::Length(By::Into, 7, [9; 9], [9; 9], None)),
     ),
     (
         "a decrypted length in place",
-        rows::Asked::Message(Asked::Deciphered(MADE, 8, PADDED, Ok(4))),
+        rows::Asked::Message(Asked::Length(By::InPlace, 8, MADE_IN_FRONT, PADDED, Some(4))),
     ),
     (
         "a malformed padding",
-        rows::Asked::Message(Asked::Deciphered(BAD, 8, [1, 2, 3, 4, 4, 4, 4, 7], Err(UnpadError))),
+        rows::Asked::Message(Asked::Length(By::InPlace, 8, BAD, [1, 2, 3, 4, 4, 4, 4, 7, 9], None)),
     ),
     (
         "a part of a block",
-        rows::Asked::Message(Asked::Deciphered(BAD, 7, BAD, Err(UnpadError))),
+        rows::Asked::Message(Asked::Length(By::InPlace, 7, BAD, BAD, None)),
     ),
     ("a vector there", rows::Asked::Message(Asked::VectorThere)),
     ("a vector back", rows::Asked::Message(Asked::VectorBack)),

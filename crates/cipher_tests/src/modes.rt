@@ -107,21 +107,30 @@ const TEXT: [u8; 4] = [1, 2, 3, 4];
 
 const MADE: [u8; 4] = [2, 3, 4, 5];
 
-// a block encrypted elsewhere and by places
-fn encrypted_each_way() -> [[u8; 4]; 2] {
-    let mut made = [[0; 4]; 2];
-    encrypter().encrypt_block_b2b(&TEXT, &mut made[0]);
-    encrypter().encrypt_block_inout(InOut::new(&TEXT, &mut made[1]));
-    made
+/// How a block goes.
+#[derive(Clone, Copy)]
+pub enum How {
+    ThereElsewhere,
+    ThereByPlaces,
+    BackElsewhere,
+    BackByPlaces,
+    Back,
 }
 
-// a block decrypted elsewhere, by places and in its place
-fn decrypted_each_way() -> [[u8; 4]; 3] {
-    let mut back = [[0; 4], MADE, MADE];
-    decrypter().decrypt_block_b2b(&MADE, &mut back[0]);
-    decrypter().decrypt_block_inout(InOut::from(&mut back[1]));
-    decrypter().decrypt_block(&mut back[2]);
-    back
+fn go(how: How, block: &mut [u8; 4]) {
+    match how {
+        How::ThereElsewhere => encrypter().encrypt_block_b2b(&TEXT, block),
+        How::ThereByPlaces => encrypter().encrypt_block_inout(InOut::new(&TEXT, block)),
+        How::BackElsewhere => decrypter().decrypt_block_b2b(&MADE, block),
+        How::BackByPlaces => decrypter().decrypt_block_inout(InOut::from(block)),
+        How::Back => decrypter().decrypt_block(block),
+    }
+}
+
+fn gone(how: How, from: &[u8; 4]) -> [u8; 4] {
+    let mut block = *from;
+    go(how, &mut block);
+    block
 }
 
 // whether the blocks of a mode after three are those of another under its state
@@ -163,8 +172,8 @@ pub enum Asked {
     InOrder,
     TooMany,
     TooFew,
-    There,
-    Back,
+    // A block that becomes another.
+    Block(How, [u8; 4], [u8; 4]),
     GoesOn,
     FourBytes,
     ThreeBytes,
@@ -179,8 +188,7 @@ pub fn holds(asked: &Asked) -> bool {
         Asked::InOrder => up_to_ten_go(),
         Asked::TooMany => refuses_too_many(),
         Asked::TooFew => refuses_too_few(),
-        Asked::There => encrypted_each_way() == [MADE; 2],
-        Asked::Back => decrypted_each_way() == [TEXT; 3],
+        Asked::Block(how, from, to) => gone(*how, from) == *to,
         Asked::GoesOn => goes_on(),
         Asked::FourBytes => state_from(&[5; 4]) == Ok([5; 4]),
         Asked::ThreeBytes => state_from(&[0; 3]) == Err(InvalidLength),
@@ -197,8 +205,26 @@ pub const ROWS: &[Row] = &[
     ),
     ("too many blocks", rows::Asked::Mode(Asked::TooMany)),
     ("too few", rows::Asked::Mode(Asked::TooFew)),
-    ("one block encrypted", rows::Asked::Mode(Asked::There)),
-    ("one block decrypted", rows::Asked::Mode(Asked::Back)),
+    (
+        "a block encrypted elsewhere",
+        rows::Asked::Mode(Asked::Block(How::ThereElsewhere, [0; 4], MADE)),
+    ),
+    (
+        "a block encrypted by places",
+        rows::Asked::Mode(Asked::Block(How::ThereByPlaces, [0; 4], MADE)),
+    ),
+    (
+        "a block decrypted elsewhere",
+        rows::Asked::Mode(Asked::Block(How::BackElsewhere, [0; 4], TEXT)),
+    ),
+    (
+        "a block decrypted by places",
+        rows::Asked::Mode(Asked::Block(How::BackByPlaces, MADE, TEXT)),
+    ),
+    (
+        "a block decrypted in place",
+        rows::Asked::Mode(Asked::Block(How::Back, MADE, TEXT)),
+    ),
     (
         "another mode under the state",
         rows::Asked::Mode(Asked::GoesOn),
