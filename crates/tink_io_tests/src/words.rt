@@ -3,6 +3,7 @@ ghost use Rattle.tink_words.specs.Forms.{given, words_of};
 
 use crate::expect::expect;
 use std::alloc::Global;
+use tink_io::TinkError;
 use tink_words::{Action, parse};
 
 // Lines, and which command each spells.
@@ -58,18 +59,18 @@ fn command(words: &Vec<String>) -> Option<Action>
     }
 }
 
-// The command that a line spells; `None` where there is no memory.
-fn spelled(alloc: Global, line: &str) -> Option<Option<Action>> {
+// Whether a line spells that command.
+fn spells(alloc: Global, line: &str, want: Option<Action>) -> Result<bool, TinkError> {
     let mut words = Vec::new(alloc);
     for word in line.split(' ') {
-        words.push(String::from_str(alloc, word).ok()?).ok()?;
+        words.push(String::from_str(alloc, word)?)?;
     }
-    Some(command(&words))
+    Ok(command(&words) == want)
 }
 
 #[test]
 fn lines_spell_commands(rt: HostRuntime) {
     for (line, action) in LINES {
-        expect(&rt, spelled(rt.alloc(), line), Some(*action), line);
+        expect(&rt, spells(rt.alloc(), line, *action), Ok(true), line);
     }
 }
