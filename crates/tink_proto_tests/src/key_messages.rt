@@ -6,6 +6,7 @@ ghost use Rattle.tink_proto.specs.declared.error.ProtoError.TheVariants.{BadMess
 ghost use Rattle.tink_proto_keys.specs.Aead.{aes_gcm_key};
 
 use crate::expect::expect;
+use crate::spelled::{Answer, spells};
 use std::alloc::Global;
 use tink_proto::{Bytes, Key, KeyTemplate, Keyset, Message, ProtoError, Text};
 use tink_proto_keys::{
@@ -19,11 +20,11 @@ use tink_proto_keys::{
 };
 
 /// A key of AES-CTR and HMAC with id 01020304.
-const CTR_HMAC_KEYSET: &[u8] =
+pub const CTR_HMAC_KEYSET: &[u8] =
     b"\x08\x84\x86\x88\x08\x12\x6f\x0a\x64\x0a\x3dtype.googleapis.com/google.crypto.tink.AesCtrHmacStreamingKey\x12\x21\x12\x0d\x08\x80\x20\x10\x10\x18\x03\x22\x04\x08\x03\x10\x20\x1a\x10\x00\x01\x02\x03\x04\x05\x06\x07\x08\x09\x0a\x0b\x0c\x0d\x0e\x0f\x18\x01\x10\x01\x18\x84\x86\x88\x08\x20\x03";
 
 /// A key of AES-GCM with id 01020305.
-const GCM_KEYSET: &[u8] =
+pub const GCM_KEYSET: &[u8] =
     b"\x08\x85\x86\x88\x08\x12\x69\x0a\x5e\x0a\x3dtype.googleapis.com/google.crypto.tink.AesGcmHkdfStreamingKey\x12\x1b\x12\x07\x08\x80\x20\x10\x10\x18\x03\x1a\x10\x10\x11\x12\x13\x14\x15\x16\x17\x18\x19\x1a\x1b\x1c\x1d\x1e\x1f\x18\x01\x10\x01\x18\x85\x86\x88\x08\x20\x03";
 
 /// A key from its bytes, as a caller's contract says it.
@@ -33,27 +34,9 @@ fn read_key(alloc: Global, bytes: &[u8]) -> Result<AesGcmKey, ProtoError>
     AesGcmKey::decode(alloc, bytes)
 }
 
-fn seven(alloc: Global) -> Result<Bytes, ProtoError> {
-    Ok(Bytes::from_slice(alloc, b"\x07")?)
-}
+const CTR_HMAC_URL: &str = "type.googleapis.com/google.crypto.tink.AesCtrHmacStreamingKey";
 
-/// Whether the message is written as the bytes.
-fn is_written<M: Message>(alloc: Global, message: &M, bytes: &[u8]) -> Result<bool, ProtoError> {
-    let written = message.encode(alloc)?;
-    Ok(written.as_slice() == bytes)
-}
-
-/// Whether a copy of the message that the bytes spell is.
-fn is_spelled<M: Message>(alloc: Global, bytes: &[u8]) -> Result<bool, ProtoError> {
-    let message = M::decode(alloc, bytes)?;
-    let copy = message.try_clone(alloc)?;
-    is_written(alloc, &copy, bytes)
-}
-
-/// Whether the message is written as the bytes, and they are read as one that is.
-fn spells<M: Message>(alloc: Global, message: M, bytes: &[u8]) -> Result<bool, ProtoError> {
-    Ok(is_written(alloc, &message, bytes)? && is_spelled::<M>(alloc, bytes)?)
-}
+const GCM_URL: &str = "type.googleapis.com/google.crypto.tink.AesGcmHkdfStreamingKey";
 
 /// The key data's value, where the key is enabled, raw and of that id and URL, and the primary.
 fn only_value<'a>(keyset: &'a Keyset, id: u32, url: &str) -> Result<&'a [u8], ProtoError> {
@@ -121,453 +104,585 @@ fn is_gcm_key(key: &AesGcmHkdfStreamingKey) -> bool {
     key_value.as_slice() == value.as_slice()
 }
 
-/// The message that this value is.
-fn key_of<M: Message>(alloc: Global, keyset: &[u8], id: u32, url: &str) -> Result<M, ProtoError> {
-    let keyset = Keyset::decode(alloc, keyset)?;
-    let value = only_value(&keyset, id, url)?;
-    M::decode(alloc, value)
+/// The two keysets from outside.
+enum Outside {
+    CtrHmac,
+    Gcm,
 }
 
-fn reads_ctr_hmac_key(alloc: Global) -> Result<bool, ProtoError> {
-    let url = "type.googleapis.com/google.crypto.tink.AesCtrHmacStreamingKey";
-    let key = key_of(alloc, CTR_HMAC_KEYSET, 0x01020304, url)?;
-    Ok(is_ctr_hmac_key(&key))
+fn holds(alloc: Global, keyset: &Keyset, of: &Outside) -> Answer {
+    match of {
+        Outside::CtrHmac => holds_ctr_hmac(alloc, only_value(keyset, 0x01020304, CTR_HMAC_URL)),
+        Outside::Gcm => holds_gcm(alloc, only_value(keyset, 0x01020305, GCM_URL)),
+    }
 }
 
-fn reads_gcm_key(alloc: Global) -> Result<bool, ProtoError> {
-    let url = "type.googleapis.com/google.crypto.tink.AesGcmHkdfStreamingKey";
-    let key = key_of(alloc, GCM_KEYSET, 0x01020305, url)?;
-    Ok(is_gcm_key(&key))
+fn holds_ctr_hmac(alloc: Global, value: Result<&[u8], ProtoError>) -> Answer {
+    match AesCtrHmacStreamingKey::decode(alloc, value?) {
+        Ok(key) => Ok(is_ctr_hmac_key(&key)),
+        Err(e) => Err(e),
+    }
 }
 
-#[test]
-fn keysets_from_outside(rt: HostRuntime) {
-    let alloc = rt.alloc();
-    expect(&rt, reads_ctr_hmac_key(alloc), Ok(true), "AES-CTR and HMAC");
-    expect(&rt, reads_gcm_key(alloc), Ok(true), "AES-GCM");
-    let written = is_spelled::<Keyset>(alloc, CTR_HMAC_KEYSET);
-    expect(&rt, written, Ok(true), "AES-CTR and HMAC, written");
-    let written = is_spelled::<Keyset>(alloc, GCM_KEYSET);
-    expect(&rt, written, Ok(true), "AES-GCM, written");
+fn holds_gcm(alloc: Global, value: Result<&[u8], ProtoError>) -> Answer {
+    match AesGcmHkdfStreamingKey::decode(alloc, value?) {
+        Ok(key) => Ok(is_gcm_key(&key)),
+        Err(e) => Err(e),
+    }
 }
 
-fn aes_ctr_hmac_streaming_params(alloc: Global) -> Result<bool, ProtoError> {
-    let message = AesCtrHmacStreamingParams {
-        ciphertext_segment_size: 300,
-        derived_key_size: 16,
-        hkdf_hash_type: 3,
-        hmac_params: Some(HmacParams::new(alloc)),
-    };
-    spells(alloc, message, b"\x08\xac\x02\x10\x10\x18\x03\x22\x00")
+/// Whether the keyset of the bytes holds its key.
+fn holds_key(alloc: Global, of: &Outside, bytes: &[u8]) -> Answer {
+    match Keyset::decode(alloc, bytes) {
+        Ok(keyset) => holds(alloc, &keyset, of),
+        Err(e) => Err(e),
+    }
 }
 
-fn aes_ctr_hmac_streaming_key(alloc: Global) -> Result<bool, ProtoError> {
-    let key_value = seven(alloc)?;
-    let message = AesCtrHmacStreamingKey {
-        version: 1,
-        params: Some(AesCtrHmacStreamingParams::new(alloc)),
-        key_value,
-    };
-    spells(alloc, message, b"\x08\x01\x12\x00\x1a\x01\x07")
+/// The parameters, which hold no bytes.
+enum Params {
+    AesCtrHmacStreamingParams,
+    AesGcmHkdfStreamingParams,
+    HmacParams,
+    AesCtrParams,
+    AesCmacParams,
+    HmacPrfParams,
 }
 
-fn aes_ctr_hmac_streaming_key_format(alloc: Global) -> Result<bool, ProtoError> {
-    let message = AesCtrHmacStreamingKeyFormat {
-        params: Some(AesCtrHmacStreamingParams::new(alloc)),
-        key_size: 16,
-        version: 1,
-    };
-    spells(alloc, message, b"\x0a\x00\x10\x10\x18\x01")
+fn spells_params(alloc: Global, of: &Params, bytes: &[u8]) -> Answer {
+    match of {
+        Params::AesCtrHmacStreamingParams => {
+            let message = AesCtrHmacStreamingParams {
+                ciphertext_segment_size: 300,
+                derived_key_size: 16,
+                hkdf_hash_type: 3,
+                hmac_params: Some(HmacParams::new(alloc)),
+            };
+            spells(alloc, message, bytes)
+        }
+        Params::AesGcmHkdfStreamingParams => {
+            let message = AesGcmHkdfStreamingParams {
+                ciphertext_segment_size: 300,
+                derived_key_size: 16,
+                hkdf_hash_type: 3,
+            };
+            spells(alloc, message, bytes)
+        }
+        Params::HmacParams => {
+            let message = HmacParams {
+                hash: 3,
+                tag_size: 32,
+            };
+            spells(alloc, message, bytes)
+        }
+        Params::AesCtrParams => spells(alloc, AesCtrParams { iv_size: 12 }, bytes),
+        Params::AesCmacParams => spells(alloc, AesCmacParams { tag_size: 16 }, bytes),
+        Params::HmacPrfParams => spells(alloc, HmacPrfParams { hash: 3 }, bytes),
+    }
 }
 
-#[test]
-fn keys_of_ctr_hmac_streaming(rt: HostRuntime) {
-    let alloc = rt.alloc();
-    expect(
-        &rt,
-        aes_ctr_hmac_streaming_params(alloc),
-        Ok(true),
-        "AesCtrHmacStreamingParams",
-    );
-    expect(
-        &rt,
-        aes_ctr_hmac_streaming_key(alloc),
-        Ok(true),
-        "AesCtrHmacStreamingKey",
-    );
-    expect(
-        &rt,
-        aes_ctr_hmac_streaming_key_format(alloc),
-        Ok(true),
-        "AesCtrHmacStreamingKeyFormat",
-    );
+/// Formats with parameters and a version.
+enum Format {
+    AesCtrHmacStreamingKeyFormat,
+    AesGcmHkdfStreamingKeyFormat,
+    HkdfPrfKeyFormat,
+    HmacPrfKeyFormat,
 }
 
-fn aes_gcm_hkdf_streaming_params(alloc: Global) -> Result<bool, ProtoError> {
-    let message = AesGcmHkdfStreamingParams {
-        ciphertext_segment_size: 300,
-        derived_key_size: 16,
-        hkdf_hash_type: 3,
-    };
-    spells(alloc, message, b"\x08\xac\x02\x10\x10\x18\x03")
+fn spells_format(alloc: Global, of: &Format, bytes: &[u8]) -> Answer {
+    match of {
+        Format::AesCtrHmacStreamingKeyFormat => {
+            let message = AesCtrHmacStreamingKeyFormat {
+                params: Some(AesCtrHmacStreamingParams::new(alloc)),
+                key_size: 16,
+                version: 1,
+            };
+            spells(alloc, message, bytes)
+        }
+        Format::AesGcmHkdfStreamingKeyFormat => {
+            let message = AesGcmHkdfStreamingKeyFormat {
+                params: Some(AesGcmHkdfStreamingParams::new(alloc)),
+                key_size: 16,
+                version: 1,
+            };
+            spells(alloc, message, bytes)
+        }
+        Format::HkdfPrfKeyFormat => {
+            let message = HkdfPrfKeyFormat {
+                params: Some(HkdfPrfParams::new(alloc)),
+                key_size: 32,
+                version: 1,
+            };
+            spells(alloc, message, bytes)
+        }
+        Format::HmacPrfKeyFormat => {
+            let message = HmacPrfKeyFormat {
+                params: Some(HmacPrfParams::new(alloc)),
+                key_size: 32,
+                version: 1,
+            };
+            spells(alloc, message, bytes)
+        }
+    }
 }
 
-fn aes_gcm_hkdf_streaming_key(alloc: Global) -> Result<bool, ProtoError> {
-    let key_value = seven(alloc)?;
-    let message = AesGcmHkdfStreamingKey {
-        version: 1,
-        params: Some(AesGcmHkdfStreamingParams::new(alloc)),
-        key_value,
-    };
-    spells(alloc, message, b"\x08\x01\x12\x00\x1a\x01\x07")
+/// Formats of a size.
+enum SizeFormat {
+    AesGcmKeyFormat,
+    AesGcmSivKeyFormat,
+    AesSivKeyFormat,
+    AesCtrKeyFormat,
+    AesCmacPrfKeyFormat,
 }
 
-fn aes_gcm_hkdf_streaming_key_format(alloc: Global) -> Result<bool, ProtoError> {
-    let message = AesGcmHkdfStreamingKeyFormat {
-        params: Some(AesGcmHkdfStreamingParams::new(alloc)),
-        key_size: 16,
-        version: 1,
-    };
-    spells(alloc, message, b"\x0a\x00\x10\x10\x18\x01")
+fn spells_size_format(alloc: Global, of: &SizeFormat, bytes: &[u8]) -> Answer {
+    match of {
+        SizeFormat::AesGcmKeyFormat => {
+            let message = AesGcmKeyFormat {
+                key_size: 16,
+                version: 1,
+            };
+            spells(alloc, message, bytes)
+        }
+        SizeFormat::AesGcmSivKeyFormat => {
+            let message = AesGcmSivKeyFormat {
+                version: 1,
+                key_size: 16,
+            };
+            spells(alloc, message, bytes)
+        }
+        SizeFormat::AesSivKeyFormat => {
+            let message = AesSivKeyFormat {
+                key_size: 64,
+                version: 1,
+            };
+            spells(alloc, message, bytes)
+        }
+        SizeFormat::AesCtrKeyFormat => {
+            let message = AesCtrKeyFormat {
+                params: Some(AesCtrParams::new(alloc)),
+                key_size: 16,
+            };
+            spells(alloc, message, bytes)
+        }
+        SizeFormat::AesCmacPrfKeyFormat => {
+            let message = AesCmacPrfKeyFormat {
+                key_size: 32,
+                version: 1,
+            };
+            spells(alloc, message, bytes)
+        }
+    }
 }
 
-#[test]
-fn keys_of_gcm_streaming(rt: HostRuntime) {
-    let alloc = rt.alloc();
-    expect(
-        &rt,
-        aes_gcm_hkdf_streaming_params(alloc),
-        Ok(true),
-        "AesGcmHkdfStreamingParams",
-    );
-    expect(
-        &rt,
-        aes_gcm_hkdf_streaming_key(alloc),
-        Ok(true),
-        "AesGcmHkdfStreamingKey",
-    );
-    expect(
-        &rt,
-        aes_gcm_hkdf_streaming_key_format(alloc),
-        Ok(true),
-        "AesGcmHkdfStreamingKeyFormat",
-    );
+/// Formats with a MAC, and the key that holds no bytes.
+enum MacFormat {
+    HmacKeyFormat,
+    AesCmacKeyFormat,
+    AesCtrHmacAeadKeyFormat,
+    AesCtrHmacAeadKey,
 }
 
-fn aes_gcm_key(alloc: Global) -> Result<bool, ProtoError> {
-    let key_value = seven(alloc)?;
-    let message = AesGcmKey {
-        version: 1,
-        key_value,
-    };
-    spells(alloc, message, b"\x08\x01\x1a\x01\x07")
+fn spells_mac_format(alloc: Global, of: &MacFormat, bytes: &[u8]) -> Answer {
+    match of {
+        MacFormat::HmacKeyFormat => {
+            let message = HmacKeyFormat {
+                params: Some(HmacParams::new(alloc)),
+                key_size: 16,
+                version: 1,
+            };
+            spells(alloc, message, bytes)
+        }
+        MacFormat::AesCmacKeyFormat => {
+            let message = AesCmacKeyFormat {
+                key_size: 32,
+                params: Some(AesCmacParams::new(alloc)),
+            };
+            spells(alloc, message, bytes)
+        }
+        MacFormat::AesCtrHmacAeadKeyFormat => {
+            let message = AesCtrHmacAeadKeyFormat {
+                aes_ctr_key_format: Some(AesCtrKeyFormat::new(alloc)),
+                hmac_key_format: Some(HmacKeyFormat::new(alloc)),
+            };
+            spells(alloc, message, bytes)
+        }
+        MacFormat::AesCtrHmacAeadKey => {
+            let message = AesCtrHmacAeadKey {
+                version: 1,
+                aes_ctr_key: Some(AesCtrKey::new(alloc)),
+                hmac_key: Some(HmacKey::new(alloc)),
+            };
+            spells(alloc, message, bytes)
+        }
+    }
 }
 
-fn aes_gcm_key_format(alloc: Global) -> Result<bool, ProtoError> {
-    let message = AesGcmKeyFormat {
-        key_size: 16,
-        version: 1,
-    };
-    spells(alloc, message, b"\x10\x10\x18\x01")
+/// Keys of AEADs.
+enum CipherKey {
+    AesGcmKey,
+    AesGcmSivKey,
+    AesSivKey,
+    AesCtrKey,
 }
 
-fn aes_gcm_siv_key(alloc: Global) -> Result<bool, ProtoError> {
-    let key_value = seven(alloc)?;
-    let message = AesGcmSivKey {
-        version: 1,
-        key_value,
-    };
-    spells(alloc, message, b"\x08\x01\x1a\x01\x07")
+fn spells_cipher_key(alloc: Global, of: &CipherKey, value: Bytes, bytes: &[u8]) -> Answer {
+    match of {
+        CipherKey::AesGcmKey => {
+            let message = AesGcmKey {
+                version: 1,
+                key_value: value,
+            };
+            spells(alloc, message, bytes)
+        }
+        CipherKey::AesGcmSivKey => {
+            let message = AesGcmSivKey {
+                version: 1,
+                key_value: value,
+            };
+            spells(alloc, message, bytes)
+        }
+        CipherKey::AesSivKey => {
+            let message = AesSivKey {
+                version: 1,
+                key_value: value,
+            };
+            spells(alloc, message, bytes)
+        }
+        CipherKey::AesCtrKey => {
+            let message = AesCtrKey {
+                version: 1,
+                params: Some(AesCtrParams::new(alloc)),
+                key_value: value,
+            };
+            spells(alloc, message, bytes)
+        }
+    }
 }
 
-fn aes_gcm_siv_key_format(alloc: Global) -> Result<bool, ProtoError> {
-    let message = AesGcmSivKeyFormat {
-        version: 1,
-        key_size: 16,
-    };
-    spells(alloc, message, b"\x08\x01\x10\x10")
+/// Keys with parameters before the bytes.
+enum ParamsKey {
+    AesCtrHmacStreamingKey,
+    AesGcmHkdfStreamingKey,
+    HkdfPrfKey,
+    HmacPrfKey,
 }
 
-fn aes_siv_key(alloc: Global) -> Result<bool, ProtoError> {
-    let key_value = seven(alloc)?;
-    let message = AesSivKey {
-        version: 1,
-        key_value,
-    };
-    spells(alloc, message, b"\x08\x01\x12\x01\x07")
+fn spells_params_key(alloc: Global, of: &ParamsKey, value: Bytes, bytes: &[u8]) -> Answer {
+    match of {
+        ParamsKey::AesCtrHmacStreamingKey => {
+            let message = AesCtrHmacStreamingKey {
+                version: 1,
+                params: Some(AesCtrHmacStreamingParams::new(alloc)),
+                key_value: value,
+            };
+            spells(alloc, message, bytes)
+        }
+        ParamsKey::AesGcmHkdfStreamingKey => {
+            let message = AesGcmHkdfStreamingKey {
+                version: 1,
+                params: Some(AesGcmHkdfStreamingParams::new(alloc)),
+                key_value: value,
+            };
+            spells(alloc, message, bytes)
+        }
+        ParamsKey::HkdfPrfKey => {
+            let message = HkdfPrfKey {
+                version: 1,
+                params: Some(HkdfPrfParams::new(alloc)),
+                key_value: value,
+            };
+            spells(alloc, message, bytes)
+        }
+        ParamsKey::HmacPrfKey => {
+            let message = HmacPrfKey {
+                version: 1,
+                params: Some(HmacPrfParams::new(alloc)),
+                key_value: value,
+            };
+            spells(alloc, message, bytes)
+        }
+    }
 }
 
-fn aes_siv_key_format(alloc: Global) -> Result<bool, ProtoError> {
-    let message = AesSivKeyFormat {
-        key_size: 64,
-        version: 1,
-    };
-    spells(alloc, message, b"\x08\x40\x10\x01")
+/// Keys of MACs, and what holds a salt.
+enum MacKey {
+    HmacKey,
+    AesCmacKey,
+    AesCmacPrfKey,
+    HkdfPrfParams,
 }
 
-fn kms_envelope_aead_key_format(alloc: Global) -> Result<bool, ProtoError> {
+fn spells_mac_key(alloc: Global, of: &MacKey, value: Bytes, bytes: &[u8]) -> Answer {
+    match of {
+        MacKey::HmacKey => {
+            let message = HmacKey {
+                version: 1,
+                params: Some(HmacParams::new(alloc)),
+                key_value: value,
+            };
+            spells(alloc, message, bytes)
+        }
+        MacKey::AesCmacKey => {
+            let message = AesCmacKey {
+                version: 1,
+                key_value: value,
+                params: Some(AesCmacParams::new(alloc)),
+            };
+            spells(alloc, message, bytes)
+        }
+        MacKey::AesCmacPrfKey => {
+            let message = AesCmacPrfKey {
+                version: 1,
+                key_value: value,
+            };
+            spells(alloc, message, bytes)
+        }
+        MacKey::HkdfPrfParams => {
+            let message = HkdfPrfParams {
+                hash: 3,
+                salt: value,
+            };
+            spells(alloc, message, bytes)
+        }
+    }
+}
+
+/// What holds the byte 07.
+enum Valued {
+    CipherKey(CipherKey),
+    ParamsKey(ParamsKey),
+    MacKey(MacKey),
+}
+
+fn spells_valued(alloc: Global, of: &Valued, value: Bytes, bytes: &[u8]) -> Answer {
+    match of {
+        Valued::CipherKey(of) => spells_cipher_key(alloc, of, value, bytes),
+        Valued::ParamsKey(of) => spells_params_key(alloc, of, value, bytes),
+        Valued::MacKey(of) => spells_mac_key(alloc, of, value, bytes),
+    }
+}
+
+fn with_seven(alloc: Global, of: &Valued, bytes: &[u8]) -> Answer {
+    match Bytes::from_slice(alloc, b"\x07") {
+        Ok(value) => spells_valued(alloc, of, value, bytes),
+        Err(_) => Err(ProtoError::OutOfMemory),
+    }
+}
+
+fn envelope_format(alloc: Global, bytes: &[u8]) -> Answer {
     let kek_uri = Text::from_str(alloc, "x")?;
     let message = KmsEnvelopeAeadKeyFormat {
         kek_uri,
         dek_template: Some(KeyTemplate::new(alloc)),
     };
-    spells(alloc, message, b"\x0a\x01\x78\x12\x00")
+    spells(alloc, message, bytes)
 }
 
-fn version_of(alloc: Global, bytes: &[u8]) -> Result<u32, ProtoError> {
-    let key = read_key(alloc, bytes)?;
-    Ok(key.version)
+fn is_of_version_2(alloc: Global, bytes: &[u8]) -> Answer {
+    match read_key(alloc, bytes) {
+        Ok(key) => Ok(key.version == 2),
+        Err(e) => Err(e),
+    }
 }
 
-#[test]
-fn keys_of_aead(rt: HostRuntime) {
-    let alloc = rt.alloc();
-    expect(&rt, version_of(alloc, &[0x08, 2]), Ok(2), "the version");
-    expect(&rt, aes_gcm_key(alloc), Ok(true), "AesGcmKey");
-    expect(&rt, aes_gcm_key_format(alloc), Ok(true), "AesGcmKeyFormat");
-    expect(&rt, aes_gcm_siv_key(alloc), Ok(true), "AesGcmSivKey");
-    expect(
-        &rt,
-        aes_gcm_siv_key_format(alloc),
-        Ok(true),
+enum Of {
+    Outside(Outside),
+    Version,
+    Envelope,
+    Params(Params),
+    Format(Format),
+    SizeFormat(SizeFormat),
+    MacFormat(MacFormat),
+    Valued(Valued),
+}
+
+fn answered(alloc: Global, of: &Of, bytes: &[u8]) -> Answer {
+    match of {
+        Of::Outside(of) => holds_key(alloc, of, bytes),
+        Of::Version => is_of_version_2(alloc, bytes),
+        Of::Envelope => envelope_format(alloc, bytes),
+        Of::Params(of) => spells_params(alloc, of, bytes),
+        Of::Format(of) => spells_format(alloc, of, bytes),
+        Of::SizeFormat(of) => spells_size_format(alloc, of, bytes),
+        Of::MacFormat(of) => spells_mac_format(alloc, of, bytes),
+        Of::Valued(of) => with_seven(alloc, of, bytes),
+    }
+}
+
+const ROWS: &[(&str, Of, &[u8])] = &[
+    (
+        "AES-CTR and HMAC",
+        Of::Outside(Outside::CtrHmac),
+        CTR_HMAC_KEYSET,
+    ),
+    ("AES-GCM", Of::Outside(Outside::Gcm), GCM_KEYSET),
+    ("the version", Of::Version, b"\x08\x02"),
+    (
+        "AesCtrHmacStreamingParams",
+        Of::Params(Params::AesCtrHmacStreamingParams),
+        b"\x08\xac\x02\x10\x10\x18\x03\x22\x00",
+    ),
+    (
+        "AesCtrHmacStreamingKey",
+        Of::Valued(Valued::ParamsKey(ParamsKey::AesCtrHmacStreamingKey)),
+        b"\x08\x01\x12\x00\x1a\x01\x07",
+    ),
+    (
+        "AesCtrHmacStreamingKeyFormat",
+        Of::Format(Format::AesCtrHmacStreamingKeyFormat),
+        b"\x0a\x00\x10\x10\x18\x01",
+    ),
+    (
+        "AesGcmHkdfStreamingParams",
+        Of::Params(Params::AesGcmHkdfStreamingParams),
+        b"\x08\xac\x02\x10\x10\x18\x03",
+    ),
+    (
+        "AesGcmHkdfStreamingKey",
+        Of::Valued(Valued::ParamsKey(ParamsKey::AesGcmHkdfStreamingKey)),
+        b"\x08\x01\x12\x00\x1a\x01\x07",
+    ),
+    (
+        "AesGcmHkdfStreamingKeyFormat",
+        Of::Format(Format::AesGcmHkdfStreamingKeyFormat),
+        b"\x0a\x00\x10\x10\x18\x01",
+    ),
+    (
+        "AesGcmKey",
+        Of::Valued(Valued::CipherKey(CipherKey::AesGcmKey)),
+        b"\x08\x01\x1a\x01\x07",
+    ),
+    (
+        "AesGcmKeyFormat",
+        Of::SizeFormat(SizeFormat::AesGcmKeyFormat),
+        b"\x10\x10\x18\x01",
+    ),
+    (
+        "AesGcmSivKey",
+        Of::Valued(Valued::CipherKey(CipherKey::AesGcmSivKey)),
+        b"\x08\x01\x1a\x01\x07",
+    ),
+    (
         "AesGcmSivKeyFormat",
-    );
-    expect(&rt, aes_siv_key(alloc), Ok(true), "AesSivKey");
-    expect(&rt, aes_siv_key_format(alloc), Ok(true), "AesSivKeyFormat");
-    expect(
-        &rt,
-        kms_envelope_aead_key_format(alloc),
-        Ok(true),
+        Of::SizeFormat(SizeFormat::AesGcmSivKeyFormat),
+        b"\x08\x01\x10\x10",
+    ),
+    (
+        "AesSivKey",
+        Of::Valued(Valued::CipherKey(CipherKey::AesSivKey)),
+        b"\x08\x01\x12\x01\x07",
+    ),
+    (
+        "AesSivKeyFormat",
+        Of::SizeFormat(SizeFormat::AesSivKeyFormat),
+        b"\x08\x40\x10\x01",
+    ),
+    (
         "KmsEnvelopeAeadKeyFormat",
-    );
-}
-
-fn aes_ctr_params(alloc: Global) -> Result<bool, ProtoError> {
-    let message = AesCtrParams { iv_size: 12 };
-    spells(alloc, message, b"\x08\x0c")
-}
-
-fn aes_ctr_key(alloc: Global) -> Result<bool, ProtoError> {
-    let key_value = seven(alloc)?;
-    let message = AesCtrKey {
-        version: 1,
-        params: Some(AesCtrParams::new(alloc)),
-        key_value,
-    };
-    spells(alloc, message, b"\x08\x01\x12\x00\x1a\x01\x07")
-}
-
-fn aes_ctr_key_format(alloc: Global) -> Result<bool, ProtoError> {
-    let message = AesCtrKeyFormat {
-        params: Some(AesCtrParams::new(alloc)),
-        key_size: 16,
-    };
-    spells(alloc, message, b"\x0a\x00\x10\x10")
-}
-
-fn aes_ctr_hmac_aead_key(alloc: Global) -> Result<bool, ProtoError> {
-    let message = AesCtrHmacAeadKey {
-        version: 1,
-        aes_ctr_key: Some(AesCtrKey::new(alloc)),
-        hmac_key: Some(HmacKey::new(alloc)),
-    };
-    spells(alloc, message, b"\x08\x01\x12\x00\x1a\x00")
-}
-
-fn aes_ctr_hmac_aead_key_format(alloc: Global) -> Result<bool, ProtoError> {
-    let message = AesCtrHmacAeadKeyFormat {
-        aes_ctr_key_format: Some(AesCtrKeyFormat::new(alloc)),
-        hmac_key_format: Some(HmacKeyFormat::new(alloc)),
-    };
-    spells(alloc, message, b"\x0a\x00\x12\x00")
-}
-
-#[test]
-fn keys_of_aes_ctr_and_hmac(rt: HostRuntime) {
-    let alloc = rt.alloc();
-    expect(&rt, aes_ctr_params(alloc), Ok(true), "AesCtrParams");
-    expect(&rt, aes_ctr_key(alloc), Ok(true), "AesCtrKey");
-    expect(&rt, aes_ctr_key_format(alloc), Ok(true), "AesCtrKeyFormat");
-    expect(
-        &rt,
-        aes_ctr_hmac_aead_key(alloc),
-        Ok(true),
+        Of::Envelope,
+        b"\x0a\x01\x78\x12\x00",
+    ),
+    (
+        "AesCtrParams",
+        Of::Params(Params::AesCtrParams),
+        b"\x08\x0c",
+    ),
+    (
+        "AesCtrKey",
+        Of::Valued(Valued::CipherKey(CipherKey::AesCtrKey)),
+        b"\x08\x01\x12\x00\x1a\x01\x07",
+    ),
+    (
+        "AesCtrKeyFormat",
+        Of::SizeFormat(SizeFormat::AesCtrKeyFormat),
+        b"\x0a\x00\x10\x10",
+    ),
+    (
         "AesCtrHmacAeadKey",
-    );
-    expect(
-        &rt,
-        aes_ctr_hmac_aead_key_format(alloc),
-        Ok(true),
+        Of::MacFormat(MacFormat::AesCtrHmacAeadKey),
+        b"\x08\x01\x12\x00\x1a\x00",
+    ),
+    (
         "AesCtrHmacAeadKeyFormat",
-    );
-}
-
-fn hmac_params(alloc: Global) -> Result<bool, ProtoError> {
-    let message = HmacParams {
-        hash: 3,
-        tag_size: 32,
-    };
-    spells(alloc, message, b"\x08\x03\x10\x20")
-}
-
-fn hmac_key(alloc: Global) -> Result<bool, ProtoError> {
-    let key_value = seven(alloc)?;
-    let message = HmacKey {
-        version: 1,
-        params: Some(HmacParams::new(alloc)),
-        key_value,
-    };
-    spells(alloc, message, b"\x08\x01\x12\x00\x1a\x01\x07")
-}
-
-fn hmac_key_format(alloc: Global) -> Result<bool, ProtoError> {
-    let message = HmacKeyFormat {
-        params: Some(HmacParams::new(alloc)),
-        key_size: 16,
-        version: 1,
-    };
-    spells(alloc, message, b"\x0a\x00\x10\x10\x18\x01")
-}
-
-fn aes_cmac_params(alloc: Global) -> Result<bool, ProtoError> {
-    let message = AesCmacParams { tag_size: 16 };
-    spells(alloc, message, b"\x08\x10")
-}
-
-fn aes_cmac_key(alloc: Global) -> Result<bool, ProtoError> {
-    let key_value = seven(alloc)?;
-    let message = AesCmacKey {
-        version: 1,
-        key_value,
-        params: Some(AesCmacParams::new(alloc)),
-    };
-    spells(alloc, message, b"\x08\x01\x12\x01\x07\x1a\x00")
-}
-
-fn aes_cmac_key_format(alloc: Global) -> Result<bool, ProtoError> {
-    let message = AesCmacKeyFormat {
-        key_size: 32,
-        params: Some(AesCmacParams::new(alloc)),
-    };
-    spells(alloc, message, b"\x08\x20\x12\x00")
-}
-
-#[test]
-fn keys_of_macs(rt: HostRuntime) {
-    let alloc = rt.alloc();
-    expect(&rt, hmac_params(alloc), Ok(true), "HmacParams");
-    expect(&rt, hmac_key(alloc), Ok(true), "HmacKey");
-    expect(&rt, hmac_key_format(alloc), Ok(true), "HmacKeyFormat");
-    expect(&rt, aes_cmac_params(alloc), Ok(true), "AesCmacParams");
-    expect(&rt, aes_cmac_key(alloc), Ok(true), "AesCmacKey");
-    expect(
-        &rt,
-        aes_cmac_key_format(alloc),
-        Ok(true),
+        Of::MacFormat(MacFormat::AesCtrHmacAeadKeyFormat),
+        b"\x0a\x00\x12\x00",
+    ),
+    (
+        "HmacParams",
+        Of::Params(Params::HmacParams),
+        b"\x08\x03\x10\x20",
+    ),
+    (
+        "HmacKey",
+        Of::Valued(Valued::MacKey(MacKey::HmacKey)),
+        b"\x08\x01\x12\x00\x1a\x01\x07",
+    ),
+    (
+        "HmacKeyFormat",
+        Of::MacFormat(MacFormat::HmacKeyFormat),
+        b"\x0a\x00\x10\x10\x18\x01",
+    ),
+    (
+        "AesCmacParams",
+        Of::Params(Params::AesCmacParams),
+        b"\x08\x10",
+    ),
+    (
+        "AesCmacKey",
+        Of::Valued(Valued::MacKey(MacKey::AesCmacKey)),
+        b"\x08\x01\x12\x01\x07\x1a\x00",
+    ),
+    (
         "AesCmacKeyFormat",
-    );
-}
-
-fn hkdf_prf_params(alloc: Global) -> Result<bool, ProtoError> {
-    let salt = seven(alloc)?;
-    let message = HkdfPrfParams { hash: 3, salt };
-    spells(alloc, message, b"\x08\x03\x12\x01\x07")
-}
-
-fn hkdf_prf_key(alloc: Global) -> Result<bool, ProtoError> {
-    let key_value = seven(alloc)?;
-    let message = HkdfPrfKey {
-        version: 1,
-        params: Some(HkdfPrfParams::new(alloc)),
-        key_value,
-    };
-    spells(alloc, message, b"\x08\x01\x12\x00\x1a\x01\x07")
-}
-
-fn hkdf_prf_key_format(alloc: Global) -> Result<bool, ProtoError> {
-    let message = HkdfPrfKeyFormat {
-        params: Some(HkdfPrfParams::new(alloc)),
-        key_size: 32,
-        version: 1,
-    };
-    spells(alloc, message, b"\x0a\x00\x10\x20\x18\x01")
-}
-
-#[test]
-fn keys_of_hkdf_prfs(rt: HostRuntime) {
-    let alloc = rt.alloc();
-    expect(&rt, hkdf_prf_params(alloc), Ok(true), "HkdfPrfParams");
-    expect(&rt, hkdf_prf_key(alloc), Ok(true), "HkdfPrfKey");
-    expect(
-        &rt,
-        hkdf_prf_key_format(alloc),
-        Ok(true),
+        Of::MacFormat(MacFormat::AesCmacKeyFormat),
+        b"\x08\x20\x12\x00",
+    ),
+    (
+        "HkdfPrfParams",
+        Of::Valued(Valued::MacKey(MacKey::HkdfPrfParams)),
+        b"\x08\x03\x12\x01\x07",
+    ),
+    (
+        "HkdfPrfKey",
+        Of::Valued(Valued::ParamsKey(ParamsKey::HkdfPrfKey)),
+        b"\x08\x01\x12\x00\x1a\x01\x07",
+    ),
+    (
         "HkdfPrfKeyFormat",
-    );
-}
-
-fn hmac_prf_params(alloc: Global) -> Result<bool, ProtoError> {
-    let message = HmacPrfParams { hash: 3 };
-    spells(alloc, message, b"\x08\x03")
-}
-
-fn hmac_prf_key(alloc: Global) -> Result<bool, ProtoError> {
-    let key_value = seven(alloc)?;
-    let message = HmacPrfKey {
-        version: 1,
-        params: Some(HmacPrfParams::new(alloc)),
-        key_value,
-    };
-    spells(alloc, message, b"\x08\x01\x12\x00\x1a\x01\x07")
-}
-
-fn hmac_prf_key_format(alloc: Global) -> Result<bool, ProtoError> {
-    let message = HmacPrfKeyFormat {
-        params: Some(HmacPrfParams::new(alloc)),
-        key_size: 32,
-        version: 1,
-    };
-    spells(alloc, message, b"\x0a\x00\x10\x20\x18\x01")
-}
-
-#[test]
-fn keys_of_hmac_prfs(rt: HostRuntime) {
-    let alloc = rt.alloc();
-    expect(&rt, hmac_prf_params(alloc), Ok(true), "HmacPrfParams");
-    expect(&rt, hmac_prf_key(alloc), Ok(true), "HmacPrfKey");
-    expect(
-        &rt,
-        hmac_prf_key_format(alloc),
-        Ok(true),
+        Of::Format(Format::HkdfPrfKeyFormat),
+        b"\x0a\x00\x10\x20\x18\x01",
+    ),
+    (
+        "HmacPrfParams",
+        Of::Params(Params::HmacPrfParams),
+        b"\x08\x03",
+    ),
+    (
+        "HmacPrfKey",
+        Of::Valued(Valued::ParamsKey(ParamsKey::HmacPrfKey)),
+        b"\x08\x01\x12\x00\x1a\x01\x07",
+    ),
+    (
         "HmacPrfKeyFormat",
-    );
-}
-
-fn aes_cmac_prf_key(alloc: Global) -> Result<bool, ProtoError> {
-    let key_value = seven(alloc)?;
-    let message = AesCmacPrfKey {
-        version: 1,
-        key_value,
-    };
-    spells(alloc, message, b"\x08\x01\x12\x01\x07")
-}
-
-fn aes_cmac_prf_key_format(alloc: Global) -> Result<bool, ProtoError> {
-    let message = AesCmacPrfKeyFormat {
-        key_size: 32,
-        version: 1,
-    };
-    spells(alloc, message, b"\x08\x20\x10\x01")
-}
+        Of::Format(Format::HmacPrfKeyFormat),
+        b"\x0a\x00\x10\x20\x18\x01",
+    ),
+    (
+        "AesCmacPrfKey",
+        Of::Valued(Valued::MacKey(MacKey::AesCmacPrfKey)),
+        b"\x08\x01\x12\x01\x07",
+    ),
+    (
+        "AesCmacPrfKeyFormat",
+        Of::SizeFormat(SizeFormat::AesCmacPrfKeyFormat),
+        b"\x08\x20\x10\x01",
+    ),
+];
 
 #[test]
-fn keys_of_cmac_prfs(rt: HostRuntime) {
-    let alloc = rt.alloc();
-    expect(&rt, aes_cmac_prf_key(alloc), Ok(true), "AesCmacPrfKey");
-    expect(
-        &rt,
-        aes_cmac_prf_key_format(alloc),
-        Ok(true),
-        "AesCmacPrfKeyFormat",
-    );
+fn messages_of_keys(rt: HostRuntime) {
+    for (row, of, bytes) in ROWS {
+        expect(&rt, answered(rt.alloc(), of, bytes), Ok(true), row);
+    }
 }

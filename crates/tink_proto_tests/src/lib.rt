@@ -9,3 +9,5 @@ mod json_texts;
 mod key_messages;
 #[cfg(test)]
 mod messages;
+#[cfg(test)]
+mod spelled;

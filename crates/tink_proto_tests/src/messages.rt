@@ -6,12 +6,12 @@ ghost use Rattle.tink_proto.specs.declared.error.ProtoError.TheVariants.{BadMess
 ghost use Rattle.tink_proto.specs.Messages.{keyset};
 
 use crate::expect::expect;
+use crate::key_messages::{CTR_HMAC_KEYSET, GCM_KEYSET};
+use crate::spelled::{Answer, is_written_as};
 use std::alloc::Global;
-use std::process::Abort;
 use tink_proto::{
-    Bytes, EncryptedKeyset, HashType, Key, KeyData, KeyInfo, KeyMaterialType, KeyStatusType,
-    KeyTemplate, Keyset, KeysetInfo, Message, OutputPrefixType, ProtoError, Repeated, Text,
-    UnknownValue,
+    EncryptedKeyset, HashType, Key, KeyData, KeyInfo, KeyMaterialType, KeyStatusType, KeyTemplate,
+    Keyset, KeysetInfo, Message, OutputPrefixType, ProtoError, UnknownValue,
 };
 
 /// URL "x", value 07, material 1.
@@ -37,6 +37,9 @@ const INFO: &[u8] = b"\x08\xac\x02\x12\x0a\x0a\x01x\x10\x02\x18\xac\x02\x20\x01"
 /// Its key.
 const KEY_INFO: &[u8] = b"\x0a\x01x\x10\x02\x18\xac\x02\x20\x01";
 
+/// A keyset of one key of status -2 with data that have no field.
+const NEGATIVE: &[u8] = b"\x12\x0d\x0a\x00\x10\xfe\xff\xff\xff\xff\xff\xff\xff\xff\x01";
+
 /// A keyset from its bytes, as a caller's contract says it.
 fn read_keyset(alloc: Global, bytes: &[u8]) -> Result<Keyset, ProtoError>
     ensures { Reads BadMessage result (decoded keyset.read bytes.now) }
@@ -44,29 +47,33 @@ fn read_keyset(alloc: Global, bytes: &[u8]) -> Result<Keyset, ProtoError>
     Keyset::decode(alloc, bytes)
 }
 
-fn is_data_of_x(data: &KeyData) -> bool {
-    data.type_url.as_str() == "x"
-        && data.value.as_slice() == [7].as_slice()
-        && data.key_material_type == 1
+fn is_data(data: &KeyData, type_url: &str, value: &[u8], material: i32) -> bool {
+    data.type_url.as_str() == type_url
+        && data.value.as_slice() == value
+        && data.key_material_type == material
 }
 
 fn is_key_of_x(key: &Key) -> bool {
     let Some(data) = &key.key_data else {
         return false;
     };
-    (key.status, key.key_id, key.output_prefix_type) == (1, 300, 3) && is_data_of_x(data)
+    (key.status, key.key_id, key.output_prefix_type) == (1, 300, 3) && is_data(data, "x", &[7], 1)
 }
 
-fn is_keyset_of_x(keyset: &Keyset) -> bool {
-    let [key] = keyset.key.as_slice() else {
+fn is_negative_key(key: &Key) -> bool {
+    let Some(data) = &key.key_data else {
         return false;
     };
-    keyset.primary_key_id == 300 && is_key_of_x(key)
+    (key.status, key.key_id, key.output_prefix_type) == (-2, 0, 0) && is_data(data, "", &[], 0)
 }
 
-fn reads_keyset(alloc: Global) -> Result<bool, ProtoError> {
-    let keyset = read_keyset(alloc, KEYSET)?;
-    Ok(is_keyset_of_x(&keyset))
+/// Whether the keyset is the one of KEYSET, or that of NEGATIVE.
+fn has_key(keyset: &Keyset, is_negative: bool) -> bool {
+    match keyset.key.as_slice() {
+        [key] if is_negative => keyset.primary_key_id == 0 && is_negative_key(key),
+        [key] => keyset.primary_key_id == 300 && is_key_of_x(key),
+        _ => false,
+    }
 }
 
 fn is_info_of_x(info: &KeysetInfo) -> bool {
@@ -78,279 +85,321 @@ fn is_info_of_x(info: &KeysetInfo) -> bool {
         && (key.status, key.key_id, key.output_prefix_type) == (2, 300, 1)
 }
 
-fn reads_encrypted(alloc: Global) -> Result<bool, ProtoError> {
-    let encrypted = EncryptedKeyset::decode(alloc, ENCRYPTED)?;
-    Ok(
-        encrypted.encrypted_keyset.as_slice() == [1, 2].as_slice()
-            && encrypted.keyset_info.as_ref().is_some_and(is_info_of_x),
-    )
-}
-
-fn reads_template(alloc: Global) -> Result<bool, ProtoError> {
-    let template = KeyTemplate::decode(alloc, TEMPLATE)?;
-    Ok(
-        template.type_url.as_str() == "x"
-            && template.value.as_slice() == [7].as_slice()
-            && template.output_prefix_type == 4,
-    )
-}
-
-#[test]
-fn reads_each_field(rt: HostRuntime) {
-    expect(&rt, reads_keyset(rt.alloc()), Ok(true), "a keyset");
-    expect(
-        &rt,
-        reads_encrypted(rt.alloc()),
-        Ok(true),
-        "an encrypted keyset",
-    );
-    expect(&rt, reads_template(rt.alloc()), Ok(true), "a template");
-}
-
-/// Whether a copy of the message that the bytes spell is written as `want`.
-fn is_written_as<M: Message>(alloc: Global, bytes: &[u8], want: &[u8]) -> Result<bool, ProtoError> {
-    let copy = M::decode(alloc, bytes)?.try_clone(alloc)?;
-    Ok(copy.encode(alloc)?.as_slice() == want)
-}
-
-fn is_written_again<M: Message>(alloc: Global, bytes: &[u8]) -> Result<bool, ProtoError> {
-    is_written_as::<M>(alloc, bytes, bytes)
-}
-
-#[test]
-fn writes_the_keysets_that_it_read(rt: HostRuntime) {
-    let alloc = rt.alloc();
-    expect(
-        &rt,
-        is_written_again::<KeyData>(alloc, KEY_DATA),
-        Ok(true),
-        "key data",
-    );
-    expect(&rt, is_written_again::<Key>(alloc, KEY), Ok(true), "a key");
-    expect(
-        &rt,
-        is_written_again::<Keyset>(alloc, KEYSET),
-        Ok(true),
-        "a keyset",
-    );
-    expect(
-        &rt,
-        is_written_again::<KeyTemplate>(alloc, TEMPLATE),
-        Ok(true),
-        "a template",
-    );
-}
-
-#[test]
-fn writes_the_infos_that_it_read(rt: HostRuntime) {
-    let alloc = rt.alloc();
-    expect(
-        &rt,
-        is_written_again::<KeyInfo>(alloc, KEY_INFO),
-        Ok(true),
-        "an info",
-    );
-    expect(
-        &rt,
-        is_written_again::<KeysetInfo>(alloc, INFO),
-        Ok(true),
-        "an info of a keyset",
-    );
-    expect(
-        &rt,
-        is_written_again::<EncryptedKeyset>(alloc, ENCRYPTED),
-        Ok(true),
-        "encrypted",
-    );
-}
-
-/// Whether the keyset with more bytes behind it is the keyset.
-fn is_keyset_with(alloc: Global, tail: &[u8]) -> Result<bool, ProtoError> {
-    let mut bytes = Vec::from_slice(alloc, KEYSET)?;
-    bytes.extend_from_slice(tail)?;
-    is_written_as::<Keyset>(alloc, &bytes, KEYSET)
-}
-
-fn skips(rt: &impl Abort, alloc: Global, tail: &[u8]) {
-    expect(rt, is_keyset_with(alloc, tail), Ok(true), "more bytes");
-}
-
-#[test]
-fn skips_unknown_fields_and_long_spellings(rt: HostRuntime) {
-    let alloc = rt.alloc();
-    skips(&rt, alloc, b"\x78\x05");
-    skips(&rt, alloc, b"\x79\x00\x00\x00\x00\x00\x00\x00\x00");
-    skips(&rt, alloc, b"\x7a\x01\xff");
-    skips(&rt, alloc, b"\x7d\x00\x00\x00\x00");
-
-    // The id 300 once more, its key in ten bytes and with higher bits.
-    skips(
-        &rt,
-        alloc,
-        b"\x88\x80\x80\x80\x80\x80\x80\x80\x80\x00\xac\x02",
-    );
-    skips(&rt, alloc, b"\x08\xac\x82\x80\x80\xf0\xff\xff\xff\xff\x01");
-}
-
-fn is_refused<M: Message>(alloc: Global, bytes: &[u8]) -> bool {
-    matches!(M::decode(alloc, bytes), Err(ProtoError::BadMessage))
-}
-
-fn refuses<M: Message>(rt: &impl Abort, alloc: Global, bytes: &[u8]) {
-    expect(rt, is_refused::<M>(alloc, bytes), true, "refused");
-}
-
-#[test]
-fn refuses_what_is_cut_off(rt: HostRuntime) {
-    let alloc = rt.alloc();
-    // A key, a varint, a length, a body, eight and four bytes.
-    refuses::<Keyset>(&rt, alloc, b"\x88");
-    refuses::<Keyset>(&rt, alloc, b"\x08");
-    refuses::<Keyset>(&rt, alloc, b"\x12");
-    refuses::<Keyset>(&rt, alloc, b"\x12\x01");
-    refuses::<Keyset>(&rt, alloc, b"\x79\x00");
-    refuses::<Keyset>(&rt, alloc, b"\x7d\x00");
-}
-
-#[test]
-fn refuses_other_fields(rt: HostRuntime) {
-    let alloc = rt.alloc();
-    // A group, number 0, a field with another type, a key of 2^32, a varint of 2^64.
-    refuses::<Keyset>(&rt, alloc, b"\x7b");
-    refuses::<Keyset>(&rt, alloc, b"\x00\x00");
-    refuses::<Keyset>(&rt, alloc, b"\x0a\x00");
-    refuses::<Keyset>(&rt, alloc, b"\x80\x80\x80\x80\x10\x00");
-    refuses::<Keyset>(&rt, alloc, b"\x08\xff\xff\xff\xff\xff\xff\xff\xff\xff\x02");
-}
-
-#[test]
-fn refuses_other_texts_and_bodies_apart(rt: HostRuntime) {
-    let alloc = rt.alloc();
-    // A text that is not UTF-8, also where a later one replaces it.
-    refuses::<KeyData>(&rt, alloc, b"\x0a\x01\xff\x0a\x00");
-    // A field that is cut in two by two bodies.
-    refuses::<Key>(&rt, alloc, b"\x0a\x02\x0a\x01\x0a\x01x");
-}
-
-#[test]
-fn joins_the_bodies_of_one_message(rt: HostRuntime) {
-    let apart =
-        b"\x0a\x03\x0a\x01x\x10\x01\x0a\x07\x12\x01\x09\x12\x00\x18\x01\x18\xac\x02\x20\x03\x0a\x03\x12\x01\x07";
-    expect(
-        &rt,
-        is_written_as::<Key>(rt.alloc(), apart, KEY),
-        Ok(true),
-        "the key",
-    );
-}
-
-fn empty_key_data(alloc: Global) -> KeyData {
-    KeyData {
-        type_url: Text::from_string(String::new(alloc)),
-        value: Bytes::from_vec(Vec::new(alloc)),
-        key_material_type: 0,
-    }
-}
-
-/// A keyset of one key of status -2 and nothing else.
-fn negative_keyset(alloc: Global) -> Result<Keyset, ProtoError> {
-    let key = Key {
-        key_data: Some(empty_key_data(alloc)),
-        status: -2,
-        key_id: 0,
-        output_prefix_type: 0,
+fn is_encrypted_of_x(encrypted: &EncryptedKeyset) -> bool {
+    let Some(info) = &encrypted.keyset_info else {
+        return false;
     };
-    let mut keys = Vec::new(alloc);
-    keys.push(key)?;
-    Ok(Keyset {
-        primary_key_id: 0,
-        key: Repeated::from_vec(keys),
-    })
+    encrypted.encrypted_keyset.as_slice() == [1, 2].as_slice() && is_info_of_x(info)
 }
 
-/// A keyset of one key of status -2, written.
-const NEGATIVE: &[u8] = b"\x12\x0d\x0a\x00\x10\xfe\xff\xff\xff\xff\xff\xff\xff\xff\x01";
-
-fn writes_negative(alloc: Global) -> Result<bool, ProtoError> {
-    let written = negative_keyset(alloc)?.encode(alloc)?;
-    Ok(written.as_slice() == NEGATIVE)
+fn is_template_of_x(template: &KeyTemplate) -> bool {
+    template.type_url.as_str() == "x"
+        && template.value.as_slice() == [7].as_slice()
+        && template.output_prefix_type == 4
 }
 
-fn reads_negative(alloc: Global) -> Result<bool, ProtoError> {
-    let keyset = Keyset::decode(alloc, NEGATIVE)?;
-    Ok(matches!(keyset.key.as_slice(), [Key { status: -2, .. }]))
+/// Bytes whose fields are told.
+enum Told {
+    Keyset,
+    Negative,
+    Encrypted,
+    Template,
 }
+
+fn is_read(alloc: Global, of: &Told, bytes: &[u8]) -> Answer {
+    match of {
+        Told::Keyset => match read_keyset(alloc, bytes) {
+            Ok(keyset) => Ok(has_key(&keyset, false)),
+            Err(e) => Err(e),
+        },
+        Told::Negative => match Keyset::decode(alloc, bytes) {
+            Ok(keyset) => Ok(has_key(&keyset, true)),
+            Err(e) => Err(e),
+        },
+        Told::Encrypted => match EncryptedKeyset::decode(alloc, bytes) {
+            Ok(encrypted) => Ok(is_encrypted_of_x(&encrypted)),
+            Err(e) => Err(e),
+        },
+        Told::Template => match KeyTemplate::decode(alloc, bytes) {
+            Ok(template) => Ok(is_template_of_x(&template)),
+            Err(e) => Err(e),
+        },
+    }
+}
+
+/// What is asked of bytes.
+enum Asked {
+    /// Whether each field is read.
+    Read(Told),
+    /// Whether a copy of the message that they spell is written as wanted.
+    KeyData,
+    Key,
+    Keyset,
+    Template,
+    KeyInfo,
+    KeysetInfo,
+    Encrypted,
+}
+
+fn answered(alloc: Global, asked: &Asked, bytes: &[u8], want: &[u8]) -> Answer {
+    match asked {
+        Asked::Read(of) => is_read(alloc, of, bytes),
+        Asked::KeyData => is_written_as::<KeyData>(alloc, bytes, want),
+        Asked::Key => is_written_as::<Key>(alloc, bytes, want),
+        Asked::Keyset => is_written_as::<Keyset>(alloc, bytes, want),
+        Asked::Template => is_written_as::<KeyTemplate>(alloc, bytes, want),
+        Asked::KeyInfo => is_written_as::<KeyInfo>(alloc, bytes, want),
+        Asked::KeysetInfo => is_written_as::<KeysetInfo>(alloc, bytes, want),
+        Asked::Encrypted => is_written_as::<EncryptedKeyset>(alloc, bytes, want),
+    }
+}
+
+const REFUSED: Answer = Err(ProtoError::BadMessage);
+
+const ROWS: &[(&str, Asked, &[u8], &[u8], Answer)] = &[
+    // Each field is read.
+    (
+        "a keyset is read",
+        Asked::Read(Told::Keyset),
+        KEYSET,
+        b"",
+        Ok(true),
+    ),
+    (
+        "an encrypted keyset is read",
+        Asked::Read(Told::Encrypted),
+        ENCRYPTED,
+        b"",
+        Ok(true),
+    ),
+    (
+        "a template is read",
+        Asked::Read(Told::Template),
+        TEMPLATE,
+        b"",
+        Ok(true),
+    ),
+    (
+        "a negative number is read",
+        Asked::Read(Told::Negative),
+        NEGATIVE,
+        b"",
+        Ok(true),
+    ),
+    // What is read is written again.
+    ("key data", Asked::KeyData, KEY_DATA, KEY_DATA, Ok(true)),
+    ("a key", Asked::Key, KEY, KEY, Ok(true)),
+    ("a keyset", Asked::Keyset, KEYSET, KEYSET, Ok(true)),
+    ("a template", Asked::Template, TEMPLATE, TEMPLATE, Ok(true)),
+    ("an info", Asked::KeyInfo, KEY_INFO, KEY_INFO, Ok(true)),
+    (
+        "an info of a keyset",
+        Asked::KeysetInfo,
+        INFO,
+        INFO,
+        Ok(true),
+    ),
+    (
+        "encrypted",
+        Asked::Encrypted,
+        ENCRYPTED,
+        ENCRYPTED,
+        Ok(true),
+    ),
+    (
+        "defaults and a negative number",
+        Asked::Keyset,
+        NEGATIVE,
+        NEGATIVE,
+        Ok(true),
+    ),
+    (
+        "from outside, AES-CTR and HMAC",
+        Asked::Keyset,
+        CTR_HMAC_KEYSET,
+        CTR_HMAC_KEYSET,
+        Ok(true),
+    ),
+    (
+        "from outside, AES-GCM",
+        Asked::Keyset,
+        GCM_KEYSET,
+        GCM_KEYSET,
+        Ok(true),
+    ),
+    // Unknown fields behind the keyset are skipped.
+    (
+        "a varint of field 15",
+        Asked::Keyset,
+        b"\x08\xac\x02\x12\x11\x0a\x08\x0a\x01x\x12\x01\x07\x18\x01\x10\x01\x18\xac\x02\x20\x03\x78\x05",
+        KEYSET,
+        Ok(true),
+    ),
+    (
+        "eight bytes",
+        Asked::Keyset,
+        b"\x08\xac\x02\x12\x11\x0a\x08\x0a\x01x\x12\x01\x07\x18\x01\x10\x01\x18\xac\x02\x20\x03\x79\x00\x00\x00\x00\x00\x00\x00\x00",
+        KEYSET,
+        Ok(true),
+    ),
+    (
+        "a body",
+        Asked::Keyset,
+        b"\x08\xac\x02\x12\x11\x0a\x08\x0a\x01x\x12\x01\x07\x18\x01\x10\x01\x18\xac\x02\x20\x03\x7a\x01\xff",
+        KEYSET,
+        Ok(true),
+    ),
+    (
+        "four bytes",
+        Asked::Keyset,
+        b"\x08\xac\x02\x12\x11\x0a\x08\x0a\x01x\x12\x01\x07\x18\x01\x10\x01\x18\xac\x02\x20\x03\x7d\x00\x00\x00\x00",
+        KEYSET,
+        Ok(true),
+    ),
+    // The id 300 once more, its key in ten bytes and with higher bits.
+    (
+        "a key in ten bytes",
+        Asked::Keyset,
+        b"\x08\xac\x02\x12\x11\x0a\x08\x0a\x01x\x12\x01\x07\x18\x01\x10\x01\x18\xac\x02\x20\x03\x88\x80\x80\x80\x80\x80\x80\x80\x80\x00\xac\x02",
+        KEYSET,
+        Ok(true),
+    ),
+    (
+        "an id with higher bits",
+        Asked::Keyset,
+        b"\x08\xac\x02\x12\x11\x0a\x08\x0a\x01x\x12\x01\x07\x18\x01\x10\x01\x18\xac\x02\x20\x03\x08\xac\x82\x80\x80\xf0\xff\xff\xff\xff\x01",
+        KEYSET,
+        Ok(true),
+    ),
+    // The bodies of one message are joined.
+    (
+        "a key in bodies apart",
+        Asked::Key,
+        b"\x0a\x03\x0a\x01x\x10\x01\x0a\x07\x12\x01\x09\x12\x00\x18\x01\x18\xac\x02\x20\x03\x0a\x03\x12\x01\x07",
+        KEY,
+        Ok(true),
+    ),
+    // What is cut off is refused.
+    (
+        "a key that is cut off",
+        Asked::Keyset,
+        b"\x88",
+        b"",
+        REFUSED,
+    ),
+    ("no varint", Asked::Keyset, b"\x08", b"", REFUSED),
+    ("no length", Asked::Keyset, b"\x12", b"", REFUSED),
+    ("no body", Asked::Keyset, b"\x12\x01", b"", REFUSED),
+    (
+        "one byte of eight",
+        Asked::Keyset,
+        b"\x79\x00",
+        b"",
+        REFUSED,
+    ),
+    ("one byte of four", Asked::Keyset, b"\x7d\x00", b"", REFUSED),
+    // Other fields are refused.
+    ("a group", Asked::Keyset, b"\x7b", b"", REFUSED),
+    ("number 0", Asked::Keyset, b"\x00\x00", b"", REFUSED),
+    (
+        "a field with another type",
+        Asked::Keyset,
+        b"\x0a\x00",
+        b"",
+        REFUSED,
+    ),
+    (
+        "a key of 2^32",
+        Asked::Keyset,
+        b"\x80\x80\x80\x80\x10\x00",
+        b"",
+        REFUSED,
+    ),
+    (
+        "a varint of 2^64",
+        Asked::Keyset,
+        b"\x08\xff\xff\xff\xff\xff\xff\xff\xff\xff\x02",
+        b"",
+        REFUSED,
+    ),
+    // A text that is not UTF-8, also where a later one replaces it.
+    (
+        "no UTF-8",
+        Asked::KeyData,
+        b"\x0a\x01\xff\x0a\x00",
+        b"",
+        REFUSED,
+    ),
+    // A field that is cut in two by two bodies.
+    (
+        "a field in two bodies",
+        Asked::Key,
+        b"\x0a\x02\x0a\x01\x0a\x01x",
+        b"",
+        REFUSED,
+    ),
+];
 
 #[test]
-fn writes_defaults_and_negative_numbers(rt: HostRuntime) {
-    expect(&rt, writes_negative(rt.alloc()), Ok(true), "written");
-    expect(&rt, reads_negative(rt.alloc()), Ok(true), "read");
-}
-
-fn is_status(number: i32) -> bool {
-    match KeyStatusType::try_from(number) {
-        Ok(value) => value as i32 == number,
-        Err(_) => false,
+fn messages_are_read_and_written(rt: HostRuntime) {
+    for (row, asked, bytes, want, answer) in ROWS {
+        expect(&rt, answered(rt.alloc(), asked, bytes, want), *answer, row);
     }
 }
 
-fn is_prefix_type(number: i32) -> bool {
-    match OutputPrefixType::try_from(number) {
-        Ok(value) => value as i32 == number,
-        Err(_) => false,
+enum Numbers {
+    Status,
+    PrefixType,
+    Material,
+    Hash,
+}
+
+/// The number of the value that a number is.
+fn number_of(of: &Numbers, number: i32) -> Result<i32, UnknownValue> {
+    match of {
+        Numbers::Status => match KeyStatusType::try_from(number) {
+            Ok(value) => Ok(value as i32),
+            Err(e) => Err(e),
+        },
+        Numbers::PrefixType => match OutputPrefixType::try_from(number) {
+            Ok(value) => Ok(value as i32),
+            Err(e) => Err(e),
+        },
+        Numbers::Material => match KeyMaterialType::try_from(number) {
+            Ok(value) => Ok(value as i32),
+            Err(e) => Err(e),
+        },
+        Numbers::Hash => match HashType::try_from(number) {
+            Ok(value) => Ok(value as i32),
+            Err(e) => Err(e),
+        },
     }
 }
 
-fn is_material(number: i32) -> bool {
-    match KeyMaterialType::try_from(number) {
-        Ok(value) => value as i32 == number,
-        Err(_) => false,
-    }
-}
+/// Whether the number is that of a value, and is it, from 0 to below the end and nowhere else.
+const ENUMS: &[(&str, Numbers, i32)] = &[
+    ("a status", Numbers::Status, 4),
+    ("a prefix type", Numbers::PrefixType, 5),
+    ("a material", Numbers::Material, 5),
+    ("a hash", Numbers::Hash, 6),
+];
 
-fn is_hash(number: i32) -> bool {
-    match HashType::try_from(number) {
-        Ok(value) => value as i32 == number,
-        Err(_) => false,
-    }
-}
-
-// Those below 4 are statuses, below 5 prefix types and materials, and below 6 hashes.
 #[test]
 fn numbers_of_enums(rt: HostRuntime) {
-    for number in 0..6i32 {
-        expect(&rt, is_status(number), number < 4, "a status");
-        expect(&rt, is_prefix_type(number), number < 5, "a prefix type");
-        expect(&rt, is_material(number), number < 5, "a material");
-        expect(&rt, is_hash(number), true, "a hash");
+    for number in -1..7i32 {
+        for (row, of, end) in ENUMS {
+            let is_known = 0 <= number && number < *end;
+            let want = if is_known {
+                Ok(number)
+            } else {
+                Err(UnknownValue)
+            };
+            expect(&rt, number_of(of, number), want, row);
+        }
     }
-}
 
-#[test]
-fn numbers_of_no_enum(rt: HostRuntime) {
-    expect(
-        &rt,
-        KeyStatusType::try_from(4),
-        Err(UnknownValue),
-        "a status",
-    );
-    expect(
-        &rt,
-        OutputPrefixType::try_from(-1),
-        Err(UnknownValue),
-        "a prefix type",
-    );
-    expect(
-        &rt,
-        KeyMaterialType::try_from(5),
-        Err(UnknownValue),
-        "a material",
-    );
-    expect(&rt, HashType::try_from(6), Err(UnknownValue), "a hash");
-}
-
-#[test]
-fn hashes_are_not_in_the_order_of_their_sizes(rt: HostRuntime) {
-    expect(&rt, HashType::try_from(2), Ok(HashType::Sha384), "2");
-    expect(&rt, HashType::try_from(3), Ok(HashType::Sha256), "3");
+    // Hashes are not in the order of their sizes.
+    let (two, three) = (number_of(&Numbers::Hash, 2), number_of(&Numbers::Hash, 3));
+    expect(&rt, two, Ok(HashType::Sha384 as i32), "SHA-384");
+    expect(&rt, three, Ok(HashType::Sha256 as i32), "SHA-256");
 }
