@@ -2,10 +2,12 @@ ghost use Rattle.tink_io.specs.Told.{Answers};
 ghost use Rattle.tink_key_files.specs.Edited.{edited_file};
 ghost use Rattle.tink_key_files.specs.declared.editing.Edit.TheVariants.{Disable};
 
+use crate::expecting::{Answer, expect};
 use std::alloc::Global;
 use tink_io::{Kind, TinkError};
 use tink_key_files::{Edit, Format, edited_file, list, wire_bytes};
 use tink_proto::Bytes;
+use tink_testutil::gives;
 
 // A public keyset of two keys in JSON, of which the second is disabled.
 const KEYS: &[u8] = b" {\"primaryKeyId\": 7, \"key\": [
@@ -20,31 +22,6 @@ const LINES: &[u8] =
 const ENABLED: &[u8] =
     b"7\tenabled\tRAW\tAesGcmHkdfStreamingKey\tprimary\n8\tenabled\tTINK\tother?key\n";
 
-// Whether the keys of a file are these.
-fn lists(alloc: Global, file: Vec<u8>, lines: &[u8]) -> bool {
-    let Ok(keyset) = wire_bytes(alloc, file) else {
-        return false;
-    };
-    match list(alloc, keyset.as_slice()) {
-        Ok(listed) => listed.as_slice() == lines,
-        Err(_) => false,
-    }
-}
-
-// Whether the file in JSON after an edit lists these keys.
-fn lists_edited(alloc: Global, edit: Edit, id: u32, lines: &[u8]) -> bool {
-    let Ok(file) = Vec::from_slice(alloc, KEYS) else {
-        return false;
-    };
-    match edited_file(alloc, file, edit, id) {
-        Ok(bytes) => {
-            Format::of_file(bytes.as_slice()) == Format::Json
-                && lists(alloc, bytes.into_vec(), lines)
-        }
-        Err(_) => false,
-    }
-}
-
 // The file with the first key of an id disabled, in the format that it has.
 fn disabled(alloc: Global, file: Vec<u8>, id: u32) -> Result<Bytes, TinkError>
     ensures { Answers result (edited_file file.items Disable id) }
@@ -52,40 +29,107 @@ fn disabled(alloc: Global, file: Vec<u8>, id: u32) -> Result<Bytes, TinkError>
     edited_file(alloc, file, Edit::Disable, id)
 }
 
-// By which kind an edit of a file is refused.
-fn refusal(alloc: Global, file: &[u8], edit: Edit, id: u32) -> Option<Kind> {
-    let file = Vec::from_slice(alloc, file).ok()?;
-    let answer = match edit {
-        Edit::Disable => disabled(alloc, file, id),
-        _ => edited_file(alloc, file, edit, id),
-    };
-    match answer {
-        Ok(_) => None,
-        Err(e) => Some(e.kind),
+// Whether the keys of a file are these.
+fn lists(alloc: Global, file: Vec<u8>, lines: &[u8]) -> Result<bool, TinkError> {
+    match wire_bytes(alloc, file) {
+        Ok(keyset) => gives(list(alloc, keyset.as_slice()), lines),
+        Err(e) => Err(e),
     }
 }
 
-#[test]
-fn keys_are_listed_and_edited(rt: HostRuntime) {
-    let alloc = rt.alloc();
-    let listed = match Vec::from_slice(alloc, KEYS) {
-        Ok(file) => lists(alloc, file, LINES),
-        Err(_) => false,
-    };
-    assert!(rt; listed);
-    assert!(rt; lists_edited(alloc, Edit::Enable, 8, ENABLED));
+fn edit_of(alloc: Global, file: Vec<u8>, edit: Edit, id: u32) -> Result<Bytes, TinkError> {
+    match edit {
+        Edit::Disable => disabled(alloc, file, id),
+        _ => edited_file(alloc, file, edit, id),
+    }
 }
 
+// Whether a file is in JSON and lists these keys.
+fn lists_json(
+    alloc: Global,
+    file: Result<Bytes, TinkError>,
+    lines: &[u8],
+) -> Result<bool, TinkError> {
+    match file {
+        Ok(bytes) => {
+            if Format::of_file(bytes.as_slice()) == Format::Json {
+                lists(alloc, bytes.into_vec(), lines)
+            } else {
+                Ok(false)
+            }
+        }
+        Err(e) => Err(e),
+    }
+}
+
+// The same of a file after an edit of the key of an id, or of the file itself.
+fn answered(
+    alloc: Global,
+    file: Vec<u8>,
+    edit: &Option<(Edit, u32)>,
+    lines: &[u8],
+) -> Result<bool, TinkError> {
+    match edit {
+        Some((edit, id)) => lists_json(alloc, edit_of(alloc, file, *edit, *id), lines),
+        None => lists(alloc, file, lines),
+    }
+}
+
+// A file, an edit, and the keys after it.
+const FILES: &[(&str, &[u8], Option<(Edit, u32)>, &[u8], Answer)] = &[
+    ("the keys", KEYS, None, LINES, Ok(true)),
+    (
+        "the keys after an edit",
+        KEYS,
+        Some((Edit::Enable, 8)),
+        ENABLED,
+        Ok(true),
+    ),
+    (
+        "the primary key disabled",
+        KEYS,
+        Some((Edit::Disable, 7)),
+        b"",
+        Err(Kind::IsPrimary),
+    ),
+    (
+        "no key deleted",
+        KEYS,
+        Some((Edit::Delete, 9)),
+        b"",
+        Err(Kind::KeyNotFound),
+    ),
+    (
+        "a disabled key as primary",
+        KEYS,
+        Some((Edit::Promote, 8)),
+        b"",
+        Err(Kind::NotEnabled),
+    ),
+    (
+        "no keyset in JSON",
+        b"{\"key\": 1}",
+        Some((Edit::Enable, 8)),
+        b"",
+        Err(Kind::BadJson),
+    ),
+    (
+        "no keyset",
+        b"no keyset",
+        Some((Edit::Enable, 8)),
+        b"",
+        Err(Kind::BadKeyset),
+    ),
+];
+
 #[test]
-fn edits_are_refused(rt: HostRuntime) {
-    let table: [(&[u8], Edit, u32, Kind); 5] = [
-        (KEYS, Edit::Disable, 7, Kind::IsPrimary),
-        (KEYS, Edit::Delete, 9, Kind::KeyNotFound),
-        (KEYS, Edit::Promote, 8, Kind::NotEnabled),
-        (b"{\"key\": 1}", Edit::Enable, 8, Kind::BadJson),
-        (b"no keyset", Edit::Enable, 8, Kind::BadKeyset),
-    ];
-    for (file, edit, id, kind) in table {
-        assert_eq!(rt; refusal(rt.alloc(), file, edit, id), Some(kind));
+fn files_of_keys_are_listed_and_edited(rt: HostRuntime) {
+    let alloc = rt.alloc();
+    for (row, file, edit, lines, want) in FILES {
+        let got = match Vec::from_slice(alloc, file) {
+            Ok(file) => answered(alloc, file, edit, lines),
+            Err(_) => Err(TinkError::new(Kind::OutOfMemory)),
+        };
+        expect(&rt, got, *want, row);
     }
 }

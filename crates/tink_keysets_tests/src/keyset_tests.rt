@@ -45,7 +45,6 @@ fn keys_of(alloc: Global, rows: &[KeyRow]) -> Result<Vec<Key>, TinkError> {
 }
 
 // What is asked of keys with this primary id.
-#[derive(Clone, Copy)]
 enum Asked {
     // Whether there is a handle of them, and one without secrets.
     Handle,
@@ -58,7 +57,12 @@ enum Asked {
     Version,
 }
 
-fn answered(alloc: Global, asked: Asked, primary: u32, rows: &[KeyRow]) -> Result<bool, TinkError> {
+fn answered(
+    alloc: Global,
+    asked: &Asked,
+    primary: u32,
+    rows: &[KeyRow],
+) -> Result<bool, TinkError> {
     let keys = keys_of(alloc, rows)?;
     match asked {
         Asked::Handle => made(handle_of(primary, keys)),
@@ -142,7 +146,7 @@ const KEYSETS: &[(&str, Asked, u32, &[KeyRow], Answer)] = &[
 fn keysets_are_held_or_refused(rt: HostRuntime) {
     let alloc = rt.alloc();
     for (row, asked, primary, keys, want) in KEYSETS {
-        expect(&rt, answered(alloc, *asked, *primary, keys), *want, row);
+        expect(&rt, answered(alloc, asked, *primary, keys), *want, row);
     }
 }
 
@@ -238,7 +242,6 @@ fn manager_of(alloc: Global, status: i32) -> Result<Manager, TinkError> {
 }
 
 // A command on the keys of an id, or what is asked after it.
-#[derive(Clone, Copy)]
 enum Step {
     Retire(u32),
     Enable(u32),
@@ -270,16 +273,16 @@ fn material_of(alloc: Global, manager: &Manager) -> Result<Keyset, TinkError> {
     keyset_material(alloc, &h)
 }
 
-fn does(alloc: Global, manager: &mut Manager, step: Step) -> Result<bool, TinkError> {
+fn does(alloc: Global, manager: &mut Manager, step: &Step) -> Result<bool, TinkError> {
     match step {
-        Step::Retire(id) => made(retire(manager, id)),
-        Step::Enable(id) => made(manager.enable(id)),
-        Step::Disable(id) => made(manager.disable(id)),
-        Step::Destroy(id) => made(manager.destroy(id)),
-        Step::Delete(id) => made(manager.delete(id)),
-        Step::SetPrimary(id) => made(manager.set_primary(id)),
-        Step::First(status, has_data) => first_key_is(alloc, manager, status, has_data),
-        Step::Count(n) => Ok(manager.key_count() == n),
+        Step::Retire(id) => made(retire(manager, *id)),
+        Step::Enable(id) => made(manager.enable(*id)),
+        Step::Disable(id) => made(manager.disable(*id)),
+        Step::Destroy(id) => made(manager.destroy(*id)),
+        Step::Delete(id) => made(manager.delete(*id)),
+        Step::SetPrimary(id) => made(manager.set_primary(*id)),
+        Step::First(status, has_data) => first_key_is(alloc, manager, *status, *has_data),
+        Step::Count(n) => Ok(manager.key_count() == *n),
     }
 }
 
@@ -365,7 +368,7 @@ const MANAGERS: &[(i32, &[Row])] = &[
 fn walk(rt: &impl Abort, alloc: Global, status: i32, rows: &[Row]) -> Result<(), TinkError> {
     let mut manager = manager_of(alloc, status)?;
     for (row, step, want) in rows {
-        expect(rt, does(alloc, &mut manager, *step), *want, row);
+        expect(rt, does(alloc, &mut manager, step), *want, row);
     }
     Ok(())
 }

@@ -3,23 +3,21 @@
 use crate::expecting::{Answer, expect, made};
 use std::alloc::Global;
 use std::process::Abort;
-use std::test::Fail;
 use tink_io::{Draws, Kind, TinkError};
 use tink_keysets::keyset::insecure::keyset_material;
 use tink_keysets::keyset::{Handle, Manager, law_managers_give_held};
-use tink_proto::{Key, KeysetInfo};
+use tink_proto::{Key, Keyset, KeysetInfo};
 use tink_registry::Registry;
 use tink_testutil::{TestManager, URL, bare, handle_of, key, registry_of, template};
 
 // A registry without managers, or with one of symmetric or of private keys.
-#[derive(Clone, Copy)]
 enum Managed {
     Nothing,
     Symmetric,
     Private,
 }
 
-fn registry_with(alloc: Global, managed: Managed) -> Result<Registry<TestManager>, TinkError> {
+fn registry_with(alloc: Global, managed: &Managed) -> Result<Registry<TestManager>, TinkError> {
     match managed {
         Managed::Nothing => Ok(Registry::new(alloc)),
         Managed::Symmetric => registry_of(alloc, TestManager::new(URL)),
@@ -63,7 +61,6 @@ fn manager_of_new(alloc: Global, registry: &Registry<TestManager>) -> Result<Man
 // ---- adding keys
 
 // What is asked of a manager.
-#[derive(Clone, Copy)]
 enum Step {
     // A RAW key is added, which gets this id where these draws are left behind those of its bytes. All draws are taken.
     Add(&'static [u8], u32),
@@ -75,6 +72,8 @@ enum Step {
     HasIds(u32, u32),
     // There are so many keys.
     Count(usize),
+    // Each of four RAW keys is added, or refused for `OutOfMemory` and the keys left.
+    AddFour,
 }
 
 // What is told of the manager's keys.
@@ -91,29 +90,38 @@ fn has_ids(alloc: Global, manager: &Manager, primary: u32, last: u32) -> Result<
     })
 }
 
-fn add(
+// How a key is added.
+enum How {
+    Key,
+    Primary,
+    Rotation,
+}
+
+// The id of a new key by a template of the URL, the format and the prefix type.
+fn added(
     alloc: Global,
     manager: &mut Manager,
     registry: &Registry<TestManager>,
     draws: &mut Draws,
-    as_primary: bool,
+    how: &How,
+    by: (&str, &[u8], i32),
 ) -> Result<u32, TinkError> {
-    match template(alloc, URL, &[], 3) {
-        Ok(kt) => manager.add(alloc, &kt, registry, draws, as_primary),
+    match template(alloc, by.0, by.1, by.2) {
+        Ok(kt) => match how {
+            How::Key => manager.add(alloc, &kt, registry, draws, false),
+            How::Primary => manager.add(alloc, &kt, registry, draws, true),
+            How::Rotation => manager.rotate(alloc, &kt, registry, draws),
+        },
         Err(e) => Err(e),
     }
 }
 
-fn rotate(
-    alloc: Global,
-    manager: &mut Manager,
-    registry: &Registry<TestManager>,
-    draws: &mut Draws,
-    by: (&str, &[u8], i32),
-) -> Result<u32, TinkError> {
-    match template(alloc, by.0, by.1, by.2) {
-        Ok(kt) => manager.rotate(alloc, &kt, registry, draws),
-        Err(e) => Err(e),
+// Whether a key got the id, or its refusal, and there are no draws left.
+fn is_id(id: Result<u32, TinkError>, want: u32, left: usize) -> Result<bool, TinkError> {
+    match id {
+        Ok(id) => Ok(id == want && left == 0),
+        Err(e) if left == 0 => Err(e),
+        Err(_) => Ok(false),
     }
 }
 
@@ -122,23 +130,24 @@ fn gets_id(
     alloc: Global,
     manager: &mut Manager,
     registry: &Registry<TestManager>,
-    step: Step,
+    how: &How,
+    ids: &[u8],
+    want: u32,
 ) -> Result<bool, TinkError> {
-    let (ids, want, is_raw) = match step {
-        Step::Add(ids, want) => (ids, want, true),
-        Step::Rotate(ids, want) => (ids, want, false),
-        _ => return Ok(false),
-    };
-    let mut draws = draws_with(alloc, ids)?;
-    let id = if is_raw {
-        add(alloc, manager, registry, &mut draws, false)
-    } else {
-        rotate(alloc, manager, registry, &mut draws, (URL, &[], 1))
-    };
-    match id {
-        Ok(id) => Ok(id == want && draws.left() == 0),
-        Err(e) if draws.left() == 0 => Err(e),
-        Err(_) => Ok(false),
+    let prefix = if matches!(how, How::Rotation) { 1 } else { 3 };
+    match draws_with(alloc, ids) {
+        Ok(mut draws) => {
+            let id = added(
+                alloc,
+                manager,
+                registry,
+                &mut draws,
+                how,
+                (URL, &[], prefix),
+            );
+            is_id(id, want, draws.left())
+        }
+        Err(e) => Err(e),
     }
 }
 
@@ -146,16 +155,19 @@ fn does(
     alloc: Global,
     manager: &mut Manager,
     registry: &Registry<TestManager>,
-    step: Step,
+    step: &Step,
     draws: &mut Draws,
 ) -> Result<bool, TinkError> {
     match step {
+        Step::Add(ids, want) => gets_id(alloc, manager, registry, &How::Key, ids, *want),
+        Step::Rotate(ids, want) => gets_id(alloc, manager, registry, &How::Rotation, ids, *want),
         Step::RotateBy(url, format, prefix) => {
-            made(rotate(alloc, manager, registry, draws, (url, format, prefix)))
+            let by = (*url, *format, *prefix);
+            made(added(alloc, manager, registry, draws, &How::Rotation, by))
         }
-        Step::HasIds(primary, last) => has_ids(alloc, manager, primary, last),
-        Step::Count(n) => Ok(manager.key_count() == n),
-        _ => gets_id(alloc, manager, registry, step),
+        Step::HasIds(primary, last) => has_ids(alloc, manager, *primary, *last),
+        Step::Count(n) => Ok(manager.key_count() == *n),
+        Step::AddFour => are_added_or_left(alloc, registry, manager),
     }
 }
 
@@ -231,6 +243,9 @@ const OF_NEW: &[Row] = &[
     ),
 ];
 
+// Those of another manager of one key.
+const OF_FOUR: &[Row] = &[("the keys and the ids", Step::AddFour, Ok(true))];
+
 fn walk(
     rt: &impl Abort,
     alloc: Global,
@@ -240,28 +255,33 @@ fn walk(
 ) -> Result<(), TinkError> {
     let mut draws = draws_with(alloc, &[0; 512])?;
     for (row, step, want) in rows {
-        let got = does(alloc, manager, registry, *step, &mut draws);
+        let got = does(alloc, manager, registry, step, &mut draws);
         expect(rt, got, *want, row);
     }
     Ok(())
 }
 
-fn walk_both(
+fn walk_with(
+    rt: &impl Abort,
+    alloc: Global,
+    registry: &Registry<TestManager>,
+    manager: Result<Manager, TinkError>,
+    rows: &[Row],
+) -> Result<(), TinkError> {
+    match manager {
+        Ok(mut manager) => walk(rt, alloc, registry, &mut manager, rows),
+        Err(e) => Err(e),
+    }
+}
+
+fn walk_all(
     rt: &impl Abort,
     alloc: Global,
     registry: &Registry<TestManager>,
 ) -> Result<(), TinkError> {
-    let mut manager = manager_of_one(alloc)?;
-    walk(rt, alloc, registry, &mut manager, OF_ONE)?;
-    let mut manager = manager_of_new(alloc, registry)?;
-    walk(rt, alloc, registry, &mut manager, OF_NEW)
-}
-
-#[test]
-fn a_manager_adds_keys(rt: HostRuntime) -> Result<(), Fail> {
-    let registry = registry_with(rt.alloc(), Managed::Symmetric)?;
-    walk_both(&rt, rt.alloc(), &registry)?;
-    Ok(())
+    walk_with(rt, alloc, registry, manager_of_one(alloc), OF_ONE)?;
+    walk_with(rt, alloc, registry, manager_of_new(alloc, registry), OF_NEW)?;
+    walk_with(rt, alloc, registry, manager_of_one(alloc), OF_FOUR)
 }
 
 // Whether a RAW key of the id is added.
@@ -270,15 +290,23 @@ fn is_added(
     registry: &Registry<TestManager>,
     manager: &mut Manager,
     id: u8,
-    as_primary: bool,
+    how: &How,
 ) -> bool {
     match draws_with(alloc, &[0, 0, 0, id]) {
-        Ok(mut draws) => add(alloc, manager, registry, &mut draws, as_primary).is_ok(),
+        Ok(mut draws) => added(alloc, manager, registry, &mut draws, how, (URL, &[], 3)).is_ok(),
         Err(_) => false,
     }
 }
 
-// Whether each call leaves the keys and the primary id or adds a key, and nearly all add one.
+const FOUR: &[(u8, How)] = &[
+    (5, How::Key),
+    (6, How::Primary),
+    (7, How::Key),
+    (8, How::Primary),
+];
+
+// Whether each call leaves the keys and the primary id or adds a key, and nearly all add one. One that is refused for
+// `OutOfMemory` leaves them.
 fn are_added_or_left(
     alloc: Global,
     registry: &Registry<TestManager>,
@@ -288,48 +316,70 @@ fn are_added_or_left(
     let mut last = 0x01020304;
     let mut count: usize = 1;
     let mut holds = true;
-    for (id, as_primary) in [(5, false), (6, true), (7, false), (8, true)] {
-        if is_added(alloc, registry, manager, id, as_primary) {
+    for (id, how) in FOUR {
+        if is_added(alloc, registry, manager, *id, how) {
             count = count.wrapping_add(1);
-            last = id as u32;
-            primary = if as_primary { last } else { primary };
+            last = *id as u32;
+            primary = if matches!(how, How::Primary) {
+                last
+            } else {
+                primary
+            };
         }
         holds = holds && manager.key_count() == count && has_ids(alloc, manager, primary, last)?;
     }
     Ok(holds && 4 <= count)
 }
 
-/// A call that is refused for `OutOfMemory` leaves the keys and the primary id, and one that isn't adds a key.
 #[test]
-fn a_key_is_added_or_the_keyset_is_left(rt: HostRuntime) -> Result<(), Fail> {
-    let registry = registry_with(rt.alloc(), Managed::Symmetric)?;
-    let mut manager = manager_of_one(rt.alloc())?;
-    let holds = are_added_or_left(rt.alloc(), &registry, &mut manager);
-    expect(&rt, holds, Ok(true), "the keys and the ids");
-    Ok(())
+fn a_manager_adds_keys(rt: HostRuntime) {
+    let alloc = rt.alloc();
+    let walked = match registry_with(alloc, &Managed::Symmetric) {
+        Ok(registry) => walk_all(&rt, alloc, &registry),
+        Err(e) => Err(e),
+    };
+    expect(&rt, made(walked), Ok(true), "a registry and managers");
 }
 
 // ---- public parts
 
-// Whether the public part of a key, as the one of id 7, is no secret.
+// Whether a keyset has the primary id 7 and no secrets.
+fn is_no_secret(material: Result<Keyset, TinkError>) -> Result<bool, TinkError> {
+    match material {
+        Ok(material) => {
+            Ok(material.primary_key_id == 7 && Handle::new_with_no_secrets(material).is_ok())
+        }
+        Err(e) => Err(e),
+    }
+}
+
+// Whether the public part of a handle is one.
 fn public_is_no_secret(
     alloc: Global,
     registry: &Registry<TestManager>,
-    only: Key,
+    h: &Handle,
 ) -> Result<bool, TinkError> {
-    let h = handle_of_one(alloc, 7, only)?;
-    let public = h.public(alloc, registry)?;
-    let material = keyset_material(alloc, &public)?;
-    Ok(material.primary_key_id == 7 && Handle::new_with_no_secrets(material).is_ok())
+    match h.public(alloc, registry) {
+        Ok(public) => is_no_secret(keyset_material(alloc, &public)),
+        Err(e) => Err(e),
+    }
 }
 
-fn answered(alloc: Global, managed: Managed, material: i32) -> Result<bool, TinkError> {
-    let registry = registry_with(alloc, managed)?;
+// The handle of one key of the id 7; of the material 0 it is a destroyed one without data.
+fn handle_of_material(alloc: Global, material: i32) -> Result<Handle, TinkError> {
     if material == 0 {
-        return public_is_no_secret(alloc, &registry, bare(3, 8));
+        return handle_of_one(alloc, 7, bare(3, 8));
     }
     match key(alloc, material, 1, 7) {
-        Ok(only) => public_is_no_secret(alloc, &registry, only),
+        Ok(only) => handle_of_one(alloc, 7, only),
+        Err(e) => Err(e),
+    }
+}
+
+fn answered(alloc: Global, managed: &Managed, material: i32) -> Result<bool, TinkError> {
+    let registry = registry_with(alloc, managed)?;
+    match handle_of_material(alloc, material) {
+        Ok(h) => public_is_no_secret(alloc, &registry, &h),
         Err(e) => Err(e),
     }
 }
@@ -366,6 +416,6 @@ const PUBLIC_PARTS: &[(&str, Managed, i32, Answer)] = &[
 #[test]
 fn public_parts_are_of_private_keys(rt: HostRuntime) {
     for (row, managed, material, want) in PUBLIC_PARTS {
-        expect(&rt, answered(rt.alloc(), *managed, *material), *want, row);
+        expect(&rt, answered(rt.alloc(), managed, *material), *want, row);
     }
 }
