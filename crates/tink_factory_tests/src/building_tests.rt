@@ -14,13 +14,13 @@ use tink_building::build_set;
 use tink_io::{Kind, TinkError};
 use tink_keysets::keyset::Handle;
 use tink_primitives::Primitive;
-use tink_proto::{Key, OutputPrefixType};
+use tink_proto::{Key, KeyData};
 use tink_registry::{KeyManager, Registry};
 use tink_sets::{Entry, PrimitiveSet};
-use tink_testutil::{TestKinds, TestManager, URL, bare, enabled_key, handle_of, key, registry_of};
+use tink_testutil::{TestKinds, TestManager, URL, data_of, handle_of, registry_of};
 
 // The manager of the test URL, which takes keys of any length or not.
-fn manager(any_length: bool) -> TestManager {
+pub fn manager(any_length: bool) -> TestManager {
     TestManager {
         url: URL,
         private: false,
@@ -67,60 +67,52 @@ fn has_primary(set: &PrimitiveSet<TestKinds>, id: u32, want: &[u8]) -> bool {
     }
 }
 
-// An enabled RAW key of this URL.
-fn raw_key(alloc: Global, type_url: &str, value: &[u8], id: u32) -> Result<Key, TinkError> {
-    enabled_key(alloc, type_url, value, OutputPrefixType::Raw, id)
-}
+// A key: its URL, its value and the number of its material, if it has data, and its status, its id and the number of its
+// prefix type.
+pub type KeyRow = (Option<(&'static str, &'static [u8], i32)>, i32, u32, i32);
 
-// Which keys a handle has.
-#[derive(Clone, Copy)]
-enum Keys {
-    // An enabled raw key of id 8, a disabled and an enabled key of ids 9 and 7 with a prefix, and a destroyed one.
-    Four,
-    // A RAW key of sixteen bytes and another one of the URL and the value.
-    WithSecond(&'static str, &'static [u8]),
-    // One key, which is not the primary one.
-    WithoutPrimary,
-}
-
-fn handle(alloc: Global, keys: Keys) -> Result<Handle, TinkError> {
-    match keys {
-        Keys::Four => {
-            let keys = vec![in alloc;
-                bare(3, 8),
-                raw_key(alloc, URL, b"rr", 8)?,
-                key(alloc, 1, 2, 9)?,
-                key(alloc, 1, 1, 7)?,
-            ]?;
-            handle_of(7, keys)
-        }
-        Keys::WithSecond(type_url, value) => {
-            let keys = vec![in alloc;
-                raw_key(alloc, URL, &[5; 16], 7)?,
-                raw_key(alloc, type_url, value, 8)?,
-            ]?;
-            handle_of(7, keys)
-        }
-        Keys::WithoutPrimary => handle_of(9, vec![in alloc; key(alloc, 1, 1, 7)?]?),
+fn data(alloc: Global, row: &KeyRow) -> Result<Option<KeyData>, TinkError> {
+    match &row.0 {
+        Some((url, value, material)) => Ok(Some(data_of(alloc, url, value, *material)?)),
+        None => Ok(None),
     }
+}
+
+fn push(alloc: Global, keys: &mut Vec<Key>, row: &KeyRow) -> Result<(), TinkError> {
+    let key_data = data(alloc, row)?;
+    Ok(keys.push(Key {
+        key_data,
+        status: row.1,
+        key_id: row.2,
+        output_prefix_type: row.3,
+    })?)
+}
+
+// The handle of the keys.
+pub fn handle(alloc: Global, primary: u32, rows: &[KeyRow]) -> Result<Handle, TinkError> {
+    let mut keys = Vec::new(alloc);
+    for row in rows {
+        push(alloc, &mut keys, row)?;
+    }
+    handle_of(primary, keys)
 }
 
 // By what the primitives are built: a registry of the manager, or the manager itself beside a registry of nothing. It
 // takes keys of any length or not.
-#[derive(Clone, Copy)]
 enum By {
     Registry(bool),
     Manager(bool),
 }
 
-fn built(alloc: Global, h: &Handle, by: By) -> Result<PrimitiveSet<TestKinds>, TinkError> {
+fn built(alloc: Global, h: &Handle, by: &By) -> Result<PrimitiveSet<TestKinds>, TinkError> {
     match by {
-        By::Registry(any_length) => {
-            h.primitives(alloc, &registry_of(alloc, manager(any_length))?)
-        }
+        By::Registry(any_length) => match registry_of(alloc, manager(*any_length)) {
+            Ok(registry) => h.primitives(alloc, &registry),
+            Err(e) => Err(e),
+        },
         By::Manager(any_length) => {
             let nothing: Registry<TestManager> = Registry::new(alloc);
-            h.primitives_with_key_manager(alloc, &nothing, Some(&manager(any_length)))
+            h.primitives_with_key_manager(alloc, &nothing, Some(&manager(*any_length)))
         }
     }
 }
@@ -137,19 +129,32 @@ fn are_four(set: &PrimitiveSet<TestKinds>) -> bool {
         && has_primary(set, 7, b"\xaa\xbb")
 }
 
-// Whether a set is that of the keys.
-fn is_set(set: Result<PrimitiveSet<TestKinds>, TinkError>, keys: Keys) -> Result<bool, TinkError> {
-    let set = set?;
-    Ok(match keys {
-        Keys::Four => are_four(&set),
-        Keys::WithSecond(_, _) => set.raw_entries().len() == 2,
-        Keys::WithoutPrimary => false,
-    })
+// What a set has.
+enum Has {
+    // The enabled keys of FOUR.
+    Four,
+    // Two entries without a prefix.
+    TwoRaws,
 }
 
-fn answered(alloc: Global, keys: Keys, by: By) -> Result<bool, TinkError> {
-    match handle(alloc, keys) {
-        Ok(h) => is_set(built(alloc, &h, by), keys),
+fn holds(set: Result<PrimitiveSet<TestKinds>, TinkError>, what: &Has) -> Result<bool, TinkError> {
+    match set {
+        Ok(set) => Ok(match what {
+            Has::Four => are_four(&set),
+            Has::TwoRaws => set.raw_entries().len() == 2,
+        }),
+        Err(e) => Err(e),
+    }
+}
+
+fn answered(
+    alloc: Global,
+    keys: Result<Handle, TinkError>,
+    by: &By,
+    what: &Has,
+) -> Result<bool, TinkError> {
+    match keys {
+        Ok(h) => holds(built(alloc, &h, by), what),
         Err(e) => Err(e),
     }
 }
@@ -158,62 +163,104 @@ const INVALID: Answer = Err(Kind::InvalidKey);
 
 const UNSUPPORTED: Answer = Err(Kind::UnsupportedKeyType);
 
-const ROWS: &[(&str, Keys, By, Answer)] = &[
+// An enabled key of id 7 with a prefix.
+const AABB: KeyRow = (Some((URL, b"\xaa\xbb", 1)), 1, 7, 1);
+
+// A destroyed key without data, an enabled raw key of id 8, a disabled and an enabled key of ids 9 and 7 with a prefix.
+const FOUR: &[KeyRow] = &[
+    (None, 3, 8, 3),
+    (Some((URL, b"rr", 1)), 1, 8, 3),
+    (Some((URL, b"\xaa\xbb", 1)), 2, 9, 1),
+    AABB,
+];
+
+// A RAW key of sixteen bytes.
+const FIRST: KeyRow = (Some((URL, &[5; 16], 1)), 1, 7, 3);
+
+// It and another one.
+const NOTHING_OF_X: &[KeyRow] = &[FIRST, (Some(("x", b"", 1)), 1, 8, 3)];
+
+const BYTE_OF_X: &[KeyRow] = &[FIRST, (Some(("x", b"v", 1)), 1, 8, 3)];
+
+const NOTHING: &[KeyRow] = &[FIRST, (Some((URL, b"", 1)), 1, 8, 3)];
+
+const BYTE: &[KeyRow] = &[FIRST, (Some((URL, b"v", 1)), 1, 8, 3)];
+
+// The primary id, the keys, by what they are built, and what their set has.
+const ROWS: &[(&str, u32, &[KeyRow], By, Has, Answer)] = &[
     (
         "enabled keys stand by their prefix",
-        Keys::Four,
+        7,
+        FOUR,
         By::Registry(true),
+        Has::Four,
         Ok(true),
     ),
     // The first key that does not build refuses.
     (
         "no bytes of another URL",
-        Keys::WithSecond("x", b""),
+        7,
+        NOTHING_OF_X,
         By::Registry(false),
+        Has::TwoRaws,
         INVALID,
     ),
     (
         "a byte of another URL",
-        Keys::WithSecond("x", b"v"),
+        7,
+        BYTE_OF_X,
         By::Registry(false),
+        Has::TwoRaws,
         UNSUPPORTED,
     ),
     (
         "a byte of the URL",
-        Keys::WithSecond(URL, b"v"),
+        7,
+        BYTE,
         By::Registry(false),
+        Has::TwoRaws,
         INVALID,
     ),
     (
         "a keyset without its primary key",
-        Keys::WithoutPrimary,
+        9,
+        &[AABB],
         By::Registry(false),
+        Has::TwoRaws,
         Err(Kind::InvalidKeyset),
     ),
     // A given manager decides alone.
     (
         "one that takes any length",
-        Keys::WithSecond(URL, b""),
+        7,
+        NOTHING,
         By::Manager(true),
+        Has::TwoRaws,
         Ok(true),
     ),
     (
         "one that does not",
-        Keys::WithSecond(URL, b""),
+        7,
+        NOTHING,
         By::Manager(false),
+        Has::TwoRaws,
         INVALID,
     ),
     (
         "one of another URL",
-        Keys::WithSecond("x", b"v"),
+        7,
+        BYTE_OF_X,
         By::Manager(true),
+        Has::TwoRaws,
         UNSUPPORTED,
     ),
 ];
 
 #[test]
 fn keysets_give_sets(rt: HostRuntime) {
-    for (row, keys, by, want) in ROWS {
-        expect(&rt, answered(rt.alloc(), *keys, *by), *want, row);
+    let alloc = rt.alloc();
+    for (row, primary, keys, by, what, want) in ROWS {
+        let got = answered(alloc, handle(alloc, *primary, keys), by, what);
+        expect(&rt, got, *want, row);
     }
 }

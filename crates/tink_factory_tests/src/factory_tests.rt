@@ -4,20 +4,19 @@ ghost use Rattle.std.specs.Prelude.{◌≡◌, true, is_some, IfOk, Err};
 ghost use Rattle.tink_io.specs.declared.error.Kind.TheVariants.{MacMismatch};
 ghost use Rattle.tink_factory_tests.specs.TestKeys as test_keys;
 
-use crate::expecting::{Answer, expect};
+use crate::building_tests::{KeyRow, handle, manager};
+use crate::expecting::{Answer, expect, made};
 use std::alloc::Global;
 use std::process::Abort;
 use tink_factory::{Question, ask_behind_prefix, ask_entries, typed_primitives};
 use tink_io::{Kind, TinkError};
 use tink_keysets::keyset::Handle;
 use tink_primitives::{Kinds, Primitive};
-use tink_proto::{Bytes, Key, OutputPrefixType};
+use tink_proto::{Bytes, OutputPrefixType};
 use tink_registry::{KeyManager, Registry};
 use tink_sets::sorts::{Aeads, Macs};
 use tink_sets::{PrimitiveSet, TypedEntry, TypedPrimitiveSet};
-use tink_testutil::{
-    TestAead, TestKinds, TestManager, URL, data_of, enabled_key, handle_of, registry_of,
-};
+use tink_testutil::{TestAead, TestKinds, TestManager, URL, enabled_key, registry_of};
 
 // The id of the entry whose key is the input.
 struct Holds;
@@ -86,17 +85,19 @@ fn put(
     set.put(alloc, Primitive::Aead(TestAead { key }), &of)
 }
 
-// Puts the entries of ids 7 and 9 with a prefix, and of 8, 5, 6 and 4 without one.
+// The entries of ids 7 and 9 with a prefix, and of 8, 5, 6 and 4 without one.
+const SIX: &[(OutputPrefixType, u32, &[u8])] = &[
+    (OutputPrefixType::Tink, 7, b"ab"),
+    (OutputPrefixType::Raw, 8, b"\x01\x00\x00\x00\x07ab"),
+    (OutputPrefixType::Raw, 5, b"\x01\x00\x00\x00\x07cd"),
+    (OutputPrefixType::Raw, 6, b"\x01\x00\x00\x00\x07cd"),
+    (OutputPrefixType::Tink, 9, b""),
+    (OutputPrefixType::Raw, 4, b"\x01\x00\x00\x00\x09"),
+];
+
 fn put_six(alloc: Global, set: &mut PrimitiveSet<TestKinds>) -> Result<(), TinkError> {
-    for (prefix, id, held) in [
-        (OutputPrefixType::Tink, 7, b"ab".as_slice()),
-        (OutputPrefixType::Raw, 8, b"\x01\x00\x00\x00\x07ab"),
-        (OutputPrefixType::Raw, 5, b"\x01\x00\x00\x00\x07cd"),
-        (OutputPrefixType::Raw, 6, b"\x01\x00\x00\x00\x07cd"),
-        (OutputPrefixType::Tink, 9, b""),
-        (OutputPrefixType::Raw, 4, b"\x01\x00\x00\x00\x09"),
-    ] {
-        put(alloc, set, prefix, id, held)?;
+    for (prefix, id, held) in SIX {
+        put(alloc, set, *prefix, *id, held)?;
     }
     Ok(())
 }
@@ -109,7 +110,6 @@ fn set_of_six(alloc: Global) -> Result<TypedPrimitiveSet<TestAead>, TinkError> {
 }
 
 // What a set of one sort is asked.
-#[derive(Clone, Copy)]
 enum Asked {
     // Its entries in order, or those behind the prefix alone.
     Entries,
@@ -122,7 +122,7 @@ enum Asked {
 fn answers(
     alloc: Global,
     set: &TypedPrimitiveSet<TestAead>,
-    asked: Asked,
+    asked: &Asked,
     input: &[u8],
     id: u32,
 ) -> Result<bool, TinkError> {
@@ -202,7 +202,7 @@ const INPUTS: &[(&str, Asked, &[u8], u32, Answer)] = &[
 
 fn ask_all(rt: &impl Abort, alloc: Global, set: &TypedPrimitiveSet<TestAead>) {
     for (row, asked, input, id, want) in INPUTS {
-        expect(rt, answers(alloc, set, *asked, input, *id), *want, row);
+        expect(rt, answers(alloc, set, asked, input, *id), *want, row);
     }
 }
 
@@ -216,47 +216,13 @@ fn entries_are_asked_in_order(rt: HostRuntime) {
 
 // ---- sets of one sort of a handle
 
-// A key: its value, its id, the number of its prefix type and that of its material.
-type KeyRow = (&'static [u8], u32, i32, i32);
-
-fn push(alloc: Global, keys: &mut Vec<Key>, row: KeyRow) -> Result<(), TinkError> {
-    let (value, key_id, output_prefix_type, material) = row;
-    let key_data = data_of(alloc, URL, value, material)?;
-    keys.push(Key {
-        key_data: Some(key_data),
-        status: 1,
-        key_id,
-        output_prefix_type,
-    })?;
-    Ok(())
-}
-
-// The handle of the keys, whose primary id is 7.
-fn handle(alloc: Global, rows: &[KeyRow]) -> Result<Handle, TinkError> {
-    let mut keys = Vec::new(alloc);
-    for row in rows {
-        push(alloc, &mut keys, *row)?;
-    }
-    handle_of(7, keys)
-}
-
-// A registry whose manager takes keys of any length, and builds a streaming AEAD of one byte.
-fn registry(alloc: Global) -> Result<Registry<TestManager>, TinkError> {
-    let manager = TestManager {
-        url: URL,
-        private: false,
-        any_length: true,
-    };
-    registry_of(alloc, manager)
-}
-
 // Whether the primary entry holds `cd`, and the one of id 8 holds `ab`.
 fn has_both(alloc: Global, set: &TypedPrimitiveSet<TestAead>) -> Result<bool, TinkError> {
     let is_primary = match &set.primary {
         Some(primary) => primary.primitive.key.as_slice() == b"cd".as_slice(),
         None => false,
     };
-    Ok(is_primary && answers(alloc, set, Asked::Entries, b"ab", 8)?)
+    Ok(is_primary && answers(alloc, set, &Asked::Entries, b"ab", 8)?)
 }
 
 fn are_aeads(
@@ -269,73 +235,72 @@ fn are_aeads(
     }
 }
 
-fn are_macs(
+fn gives_set_by(
     alloc: Global,
+    registry: &Registry<TestManager>,
     h: &Handle,
-    registry: &Registry<TestManager>,
-) -> Result<bool, TinkError> {
-    match macs_of(alloc, h, registry) {
-        Ok(_) => Ok(true),
-        Err(e) => Err(e),
-    }
-}
-
-fn gives_set_in(
-    alloc: Global,
-    registry: &Registry<TestManager>,
-    rows: &[KeyRow],
     of_macs: bool,
 ) -> Result<bool, TinkError> {
-    let h = handle(alloc, rows)?;
     if of_macs {
-        are_macs(alloc, &h, registry)
+        made(macs_of(alloc, h, registry))
     } else {
         are_aeads(
             alloc,
-            typed_primitives::<TestManager, Aeads>(alloc, &h, registry),
+            typed_primitives::<TestManager, Aeads>(alloc, h, registry),
         )
     }
 }
 
+// By a registry whose manager takes keys of any length, and builds a streaming AEAD of one byte.
 fn gives_set(alloc: Global, rows: &[KeyRow], of_macs: bool) -> Result<bool, TinkError> {
-    match registry(alloc) {
-        Ok(registry) => gives_set_in(alloc, &registry, rows, of_macs),
+    let registry = registry_of(alloc, manager(true))?;
+    match handle(alloc, 7, rows) {
+        Ok(h) => gives_set_by(alloc, &registry, &h, of_macs),
         Err(e) => Err(e),
     }
 }
 
 const WRONG: Answer = Err(Kind::WrongPrimitive);
 
-// Keys, and whether MACs are asked for, and else AEADs. A streaming key of another id than the primary one is refused
+// Keys, of which 7 is the primary id, and whether MACs are asked for, and else AEADs. A streaming key of another id than the primary one is refused
 // for that first.
 const HANDLES: &[(&str, &[KeyRow], bool, Answer)] = &[
     (
         "two AEADs",
-        &[(b"ab", 8, 3, 1), (b"cd", 7, 1, 1)],
+        &[
+            (Some((URL, b"ab", 1)), 1, 8, 3),
+            (Some((URL, b"cd", 1)), 1, 7, 1),
+        ],
         false,
         Ok(true),
     ),
     (
         "a streaming AEAD",
-        &[(b"a", 8, 3, 1), (b"cd", 7, 1, 1)],
+        &[
+            (Some((URL, b"a", 1)), 1, 8, 3),
+            (Some((URL, b"cd", 1)), 1, 7, 1),
+        ],
         false,
         WRONG,
     ),
     (
         "AEADs as MACs",
-        &[(b"ab", 8, 3, 1), (b"cd", 7, 1, 1)],
+        &[
+            (Some((URL, b"ab", 1)), 1, 8, 3),
+            (Some((URL, b"cd", 1)), 1, 7, 1),
+        ],
         true,
         WRONG,
     ),
     (
         "no primary key, of public ones",
-        &[(b"a", 8, 3, 3)],
+        &[(Some((URL, b"a", 3)), 1, 8, 3)],
         false,
         Err(Kind::NoPrimary),
     ),
     (
         "no primary key",
-        &[(b"a", 8, 3, 1)],
+        &[(Some((URL, b"a", 1)), 1, 8, 3)],
         false,
         Err(Kind::InvalidKeyset),
     ),

@@ -6,11 +6,11 @@ use std::alloc::Global;
 use std::process::Abort;
 use tink_io::{Draws, Kind, TinkError};
 use tink_key_types::{SymmetricKeyManager, add_template, hash_type_of, new_template};
-use tink_primitives::Aead;
+use tink_primitives::{Aead, Primitive};
 use tink_proto::{Bytes, HashType, KeyData, KeyMaterialType, KeyTemplate, OutputPrefixType, Text};
 use tink_proto_keys::AesGcmKeyFormat;
 use tink_registry::KeyManager;
-use tink_testutil::{draws_of, gives};
+use tink_testutil::{TestKinds, draws_of, gives};
 
 // Whether the manager says this of its keys.
 fn says(m: &SymmetricKeyManager<TestKeys>) -> bool {
@@ -33,19 +33,26 @@ fn are_data(data: Result<KeyData, TinkError>, want: &[u8]) -> Result<bool, TinkE
     }
 }
 
-// The text abc, sealed by the primitive of a key and the draw d.
+// The text abc, sealed by a primitive.
 fn sealed_by(
     alloc: Global,
-    manager: &SymmetricKeyManager<TestKeys>,
-    key: &[u8],
+    built: Result<Primitive<TestKinds>, TinkError>,
+    draws: &mut Draws,
 ) -> Result<Bytes, TinkError> {
-    let mut draws = draws_of(alloc, b"d")?;
-    let aead = manager.primitive(alloc, key)?.into_aead()?;
-    aead.encrypt(alloc, b"abc", b"", &mut draws)
+    let aead = match built {
+        Ok(p) => p.into_aead(),
+        Err(e) => Err(e),
+    };
+    match aead {
+        Ok(aead) => aead.encrypt(alloc, b"abc", b"", draws),
+        Err(e) => Err(e),
+    }
 }
 
 // What is asked of a manager.
 enum Asked {
+    // It says of its keys what it should.
+    Says,
     // A key of the format is these bytes, and so are its data.
     MakesKey(&'static [u8], &'static [u8]),
     MakesData(&'static [u8], &'static [u8]),
@@ -55,6 +62,10 @@ enum Asked {
     HasPublic,
     // So many draws are left.
     Left(usize),
+    // Two templates stand behind each other.
+    Templates,
+    // The numbers of hashes.
+    Hashes,
 }
 
 fn answered(
@@ -69,9 +80,14 @@ fn answered(
             manager.new_key_data(alloc, format, draws),
             want,
         ),
-        Asked::Seals(key, want) => gives(sealed_by(alloc, manager, key), want),
+        Asked::Seals(key, want) => {
+            gives(sealed_by(alloc, manager.primitive(alloc, key), draws), want)
+        }
         Asked::HasPublic => made(manager.public_key_data(alloc, &[])),
         Asked::Left(n) => Ok(draws.left() == *n),
+        Asked::Says => Ok(says(manager)),
+        Asked::Templates => are_named(alloc, &mut Vec::new(alloc)),
+        Asked::Hashes => Ok(hashes_have_their_numbers()),
     }
 }
 
@@ -92,10 +108,11 @@ const NO_FORMAT: Answer = Err(Kind::InvalidFormat);
 
 const NO_DRAWS: Answer = Err(Kind::RandomFault);
 
-const DRAWS: &[u8] = b"0123456789abcdef77777777777777777777777777777777777777777777777";
+const DRAWS: &[u8] = b"0123456789abcdefd77777777777777777777777777777777777777777777777";
 
-// In this order, with draws of a key and 47 digits 7.
+// In this order, with draws of a key and a nonce and 47 digits 7.
 const ROWS: &[(&str, Asked, Answer)] = &[
+    ("what it says of its keys", Asked::Says, Ok(true)),
     ("a public part", Asked::HasPublic, Err(Kind::NoPrivateKeys)),
     ("a new key", Asked::MakesKey(FORMAT, KEY), Ok(true)),
     (
@@ -149,11 +166,13 @@ const ROWS: &[(&str, Asked, Answer)] = &[
     ("no message", Asked::Seals(b"\xff", b""), NO_KEY),
     ("version 1", Asked::Seals(LATER, b""), NO_KEY),
     ("15 bytes", Asked::Seals(SHORT, b""), NO_KEY),
+    // Beside a manager.
+    ("two templates", Asked::Templates, Ok(true)),
+    ("the numbers of hashes", Asked::Hashes, Ok(true)),
 ];
 
 fn ask_all(rt: &impl Abort, alloc: Global, draws: &mut Draws) {
     let manager = SymmetricKeyManager::new();
-    expect(rt, Ok(says(&manager)), Ok(true), "what it says of its keys");
     for (row, asked, want) in ROWS {
         expect(rt, answered(alloc, &manager, asked, draws), *want, row);
     }
@@ -222,12 +241,4 @@ fn are_named(alloc: Global, named: &mut Vec<(Text, KeyTemplate)>) -> Result<bool
         }
         _ => false,
     })
-}
-
-#[test]
-fn templates_and_hashes(rt: HostRuntime) {
-    let named = are_named(rt.alloc(), &mut Vec::new(rt.alloc()));
-    expect(&rt, named, Ok(true), "two templates");
-    let hashes = hashes_have_their_numbers();
-    expect(&rt, Ok(hashes), Ok(true), "the numbers of hashes");
 }
