@@ -5,16 +5,83 @@ ghost use Rattle.tink_proto.specs.Messages.{keyset as keyset_table};
 ghost use Rattle.wire_format.specs.Message.{decoded};
 
 use crate::expecting::expect;
-use crate::stored::{
-    KEYSET, encrypted_refusal, has_taken, reads, reads_no_info, refusal, sink, source, write,
-    write_both,
-};
+use crate::stored::{Asked, KEYSET, Reading, Writing};
 use std::alloc::Global;
-use std::test::Fail;
 use tink_io::{Kind, Source, SureSource, TinkError};
-use tink_keyset_io::{BinaryReader, BinaryWriter};
+use tink_keyset_io::BinaryReader;
 use tink_keysets::keyset::Reader;
 use tink_proto::Keyset;
+
+pub const READINGS: &[Reading] = &[
+    // The source is at its end after the first: a message with no field is a keyset without keys.
+    Reading {
+        bytes: KEYSET,
+        piece: 7,
+        fails: &[],
+        rows: &[
+            ("a keyset in pieces", Asked::Keyset(KEYSET), Ok(true)),
+            ("no keys", Asked::Keyset(b""), Ok(true)),
+            ("no info", Asked::Encrypted, Ok(true)),
+        ],
+        ends: true,
+    },
+    Reading {
+        bytes: b"\x08\x84",
+        piece: 0,
+        fails: &[],
+        rows: &[(
+            "a keyset that is cut off",
+            Asked::Keyset(b""),
+            Err(Kind::BadKeyset),
+        )],
+        ends: true,
+    },
+    Reading {
+        bytes: b"\x12\x05\xaa",
+        piece: 0,
+        fails: &[],
+        rows: &[(
+            "an encrypted keyset that is cut off",
+            Asked::Encrypted,
+            Err(Kind::BadKeyset),
+        )],
+        ends: true,
+    },
+    Reading {
+        bytes: KEYSET,
+        piece: 50,
+        fails: &[2],
+        rows: &[(
+            "a source that fails at its second call",
+            Asked::Keyset(b""),
+            Err(Kind::ReadFault),
+        )],
+        ends: false,
+    },
+];
+
+pub const WRITINGS: &[Writing] = &[
+    Writing {
+        name: "keysets in pieces",
+        piece: 5,
+        fails: &[],
+        encrypted: b"\xaa\xbb",
+        want: Ok(true),
+        first: KEYSET,
+        size: KEYSET.len(),
+        other: b"\x12\x02\xaa\xbb",
+    },
+    Writing {
+        name: "a keyset to a sink that fails at its second call",
+        piece: 50,
+        fails: &[2],
+        encrypted: b"",
+        want: Err(Kind::WriteFault),
+        first: KEYSET,
+        size: 50,
+        other: b"",
+    },
+];
 
 // The keyset that a source has.
 #[tactic(auto, using(tink_keyset_io::proofs::ReadingLemmas::gives_message))]
@@ -24,93 +91,20 @@ fn keyset_of<S: Source + Drop>(alloc: Global, source: S) -> Result<Keyset, TinkE
     BinaryReader::new(source).read(alloc)
 }
 
-#[test]
-fn a_keyset_is_read_in_pieces(rt: HostRuntime) -> Result<(), Fail> {
-    let alloc = rt.alloc();
-    let mut reader = BinaryReader::new(source(alloc, KEYSET, 7, &[])?);
-    expect(
-        &rt,
-        reads(alloc, &mut reader, KEYSET),
-        Ok(true),
-        "the keyset",
-    );
-    // the source is at its end: a message with no field is a keyset without keys
-    expect(&rt, reads(alloc, &mut reader, &[]), Ok(true), "no keys");
-    expect(&rt, reads_no_info(alloc, &mut reader), Ok(true), "no info");
-    let mut buf = [0u8; 1];
-    let end = reader.into_inner().read(&mut buf);
-    expect(&rt, end, Ok(0), "the source");
-    Ok(())
-}
-
-// The primary id of the keyset that a source has, and the number of its keys.
-fn ids_of<S: Source + Drop>(alloc: Global, source: S) -> Result<(u32, usize), TinkError> {
-    let ks = keyset_of(alloc, source)?;
-    Ok((ks.primary_key_id, ks.key.as_slice().len()))
+// Whether a source of so many zeros and then these bytes gives a keyset of one key, with its primary id.
+fn gives_keyset(alloc: Global, zeros: usize, bytes: &[u8]) -> Result<bool, TinkError> {
+    let mut text = vec![in alloc; 0u8; zeros]?;
+    text.extend_from_slice(bytes)?;
+    match keyset_of(alloc, SureSource::new(text)) {
+        Ok(ks) => Ok(ks.primary_key_id == 0x01020304 && ks.key.as_slice().len() == 1),
+        Err(e) => Err(e),
+    }
 }
 
 #[test]
-fn a_source_gives_its_keyset(rt: HostRuntime) -> Result<(), Fail> {
-    let source = SureSource::new(Vec::from_slice(rt.alloc(), KEYSET)?);
-    let ids = ids_of(rt.alloc(), source);
-    expect(&rt, ids, Ok((0x01020304, 1)), "the keyset");
-    Ok(())
-}
-
-#[test]
-fn a_keyset_is_written_in_pieces(rt: HostRuntime) -> Result<(), Fail> {
-    let mut writer = BinaryWriter::new(sink(rt.alloc(), 5, &[])?);
-    let written = write_both(rt.alloc(), &mut writer, b"\xaa\xbb");
-    expect(&rt, written, Ok(()), "the answer");
-    let taken = has_taken(&writer.into_inner(), KEYSET, b"\x12\x02\xaa\xbb");
-    expect(&rt, taken, true, "both");
-    Ok(())
-}
-
-#[test]
-fn other_bytes_are_refused(rt: HostRuntime) -> Result<(), Fail> {
-    let mut cut = BinaryReader::new(source(rt.alloc(), b"\x08\x84", 0, &[])?);
-    let refused = refusal(rt.alloc(), &mut cut);
-    expect(&rt, refused, Some(Kind::BadKeyset), "a keyset");
-    Ok(())
-}
-
-#[test]
-fn other_encrypted_bytes_are_refused(rt: HostRuntime) -> Result<(), Fail> {
-    let mut cut = BinaryReader::new(source(rt.alloc(), b"\x12\x05\xaa", 0, &[])?);
-    let refused = encrypted_refusal(rt.alloc(), &mut cut);
-    expect(&rt, refused, Some(Kind::BadKeyset), "an encrypted keyset");
-    Ok(())
-}
-
-#[test]
-fn a_source_that_fails_at_its_second_call_is_a_fault(rt: HostRuntime) -> Result<(), Fail> {
-    let mut reader = BinaryReader::new(source(rt.alloc(), KEYSET, 50, &[2])?);
-    let refused = refusal(rt.alloc(), &mut reader);
-    expect(&rt, refused, Some(Kind::ReadFault), "the refusal");
-    Ok(())
-}
-
-#[test]
-fn a_sink_that_fails_at_its_second_call_has_the_first_bytes(rt: HostRuntime) -> Result<(), Fail> {
-    let mut writer = BinaryWriter::new(sink(rt.alloc(), 50, &[2])?);
-    let written = write(rt.alloc(), &mut writer);
-    expect(
-        &rt,
-        written,
-        Err(TinkError::new(Kind::WriteFault)),
-        "the refusal",
-    );
-    let taken = has_taken(&writer.into_inner(), &KEYSET[..50], b"");
-    expect(&rt, taken, true, "the first bytes");
-    Ok(())
-}
-
-#[test]
-fn a_text_of_more_than_67108864_bytes_is_too_long(rt: HostRuntime) -> Result<(), Fail> {
-    let more = vec![in rt.alloc(); 0u8; 67_108_865]?;
-    let mut reader = BinaryReader::new(SureSource::new(more));
-    let refused = refusal(rt.alloc(), &mut reader);
-    expect(&rt, refused, Some(Kind::KeysetTooLong), "the refusal");
-    Ok(())
+fn a_source_gives_its_keyset_up_to_67108864_bytes(rt: HostRuntime) {
+    let keyset = gives_keyset(rt.alloc(), 0, KEYSET);
+    expect(&rt, keyset, Ok(true), "the keyset");
+    let more = gives_keyset(rt.alloc(), 67_108_865, b"");
+    expect(&rt, more, Err(Kind::KeysetTooLong), "a byte more");
 }

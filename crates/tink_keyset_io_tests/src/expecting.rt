@@ -1,23 +1,24 @@
 //! The one place that compares: a test function with many `assert_eq!` takes long to prove.
 
-use std::fmt::Debug;
 use std::process::Abort;
 use tink_io::{Kind, TinkError};
 
-/// Stops where the two differ.
-pub fn expect<T>(rt: &impl Abort, got: T, want: T, label: &str)
-where
-    T: PartialEq + Debug + Drop,
-{
-    assert_eq!(rt; got, want, "{label}");
+/// Whether a row is as it says, or how its call is refused.
+pub type Answer = Result<bool, Kind>;
+
+/// Stops where a row answers another thing than is wanted, by the row's name.
+pub fn expect(rt: &impl Abort, got: Result<bool, TinkError>, want: Answer, row: &str) {
+    let got = match got {
+        Ok(holds) => Ok(holds),
+        Err(e) => Err(e.kind),
+    };
+    assert_eq!(rt; got, want, "{row}");
 }
 
-/// What a call answers that is refused by this kind.
-pub fn refused(kind: Kind) -> Result<bool, TinkError> {
-    Err(TinkError::new(kind))
-}
-
-/// Stops where the bytes differ.
-pub fn expect_bytes(rt: &impl Abort, got: &[u8], want: &[u8], label: &str) {
-    assert_eq!(rt; got, want, "{label}");
+/// Whether something was made, and no refusal.
+pub fn made<T: Drop>(answer: Result<T, TinkError>) -> Result<bool, TinkError> {
+    match answer {
+        Ok(_) => Ok(true),
+        Err(e) => Err(e),
+    }
 }

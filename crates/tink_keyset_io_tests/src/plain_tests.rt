@@ -1,90 +1,134 @@
 //! Keysets as they are, through memory.
 
-use crate::encrypted_tests::{is_two, two_keys};
-use crate::expecting::{expect, refused};
-use std::alloc::Global;
-use tink_io::{Kind, TinkError};
-use tink_keysets::keyset::{Handle, MemReaderWriter, insecure};
-use tink_proto::Bytes;
-use tink_testutil::{bytes_of, key, keyset};
+use crate::encrypted_tests::{How, Kept, PUBLIC, Row, Step, TWO};
+use crate::expecting::Answer;
+use tink_io::Kind;
 
-/// A handle of a public key.
-pub fn public_keys(alloc: Global) -> Result<Handle, TinkError> {
-    let keys = vec![in alloc; key(alloc, 3, 1, 7)?]?;
-    Handle::new_with_no_secrets(keyset(7, keys))
-}
+const NO_KEYSET: Answer = Err(Kind::NoKeyset);
 
-// Writes the keyset of two keys, of which one is secret, as one without secrets.
-fn write_two(alloc: Global, memory: &mut MemReaderWriter) -> Result<(), TinkError> {
-    two_keys(alloc)?.write_with_no_secrets(alloc, memory)
-}
+/// Empty memory gives no keyset.
+pub const NOTHING: &[Row] = &[
+    (
+        "no encrypted keyset",
+        Step::Read(How::Bound, b""),
+        NO_KEYSET,
+        Kept::Nothing,
+        0,
+    ),
+    (
+        "no keyset without secrets",
+        Step::Read(How::Plain, b""),
+        NO_KEYSET,
+        Kept::Nothing,
+        0,
+    ),
+    (
+        "no keyset as it is",
+        Step::Read(How::AsItIs, b""),
+        NO_KEYSET,
+        Kept::Nothing,
+        0,
+    ),
+];
 
-#[test]
-fn secrets_are_not_written(rt: HostRuntime) {
-    let mut memory = MemReaderWriter::default();
-    let written = write_two(rt.alloc(), &mut memory);
-    let want = Err(TinkError::new(Kind::HasSecrets));
-    expect(&rt, written, want, "the refusal");
-    expect(&rt, memory.keyset.is_none(), true, "the memory after it");
-}
+// A destroyed key of id 7. So is its info.
+const DESTROYED: &[u8] = b"\x08\x07\x12\x06\x10\x03\x18\x07\x20\x03";
 
-// Writes the public keyset.
-fn write_public(alloc: Global, memory: &mut MemReaderWriter) -> Result<(), TinkError> {
-    public_keys(alloc)?.write_with_no_secrets(alloc, memory)
-}
+/// Secrets are not written, and keysets without them as they are.
+pub const PLAIN: &[Row] = &[
+    (
+        "secrets are not written",
+        Step::Write(How::Plain, TWO),
+        Err(Kind::HasSecrets),
+        Kept::Nothing,
+        0,
+    ),
+    (
+        "a public key is written",
+        Step::Write(How::Plain, PUBLIC),
+        Ok(true),
+        Kept::Keyset,
+        0,
+    ),
+    (
+        "a public key is read",
+        Step::Read(How::Plain, PUBLIC),
+        Ok(true),
+        Kept::Keyset,
+        0,
+    ),
+    (
+        "a destroyed key is written",
+        Step::Write(How::Plain, DESTROYED),
+        Ok(true),
+        Kept::Keyset,
+        0,
+    ),
+    (
+        "a destroyed key is read",
+        Step::Read(How::Plain, DESTROYED),
+        Ok(true),
+        Kept::Keyset,
+        0,
+    ),
+    (
+        "a destroyed key is written as it is",
+        Step::Write(How::AsItIs, DESTROYED),
+        Ok(true),
+        Kept::Keyset,
+        0,
+    ),
+    (
+        "a destroyed key is read as it is",
+        Step::Read(How::AsItIs, DESTROYED),
+        Ok(true),
+        Kept::Keyset,
+        0,
+    ),
+    (
+        "the info of a destroyed key",
+        Step::Info(How::AsItIs, DESTROYED),
+        Ok(true),
+        Kept::Keyset,
+        0,
+    ),
+];
 
-// The bytes of the keyset that is read, which must be without secrets.
-fn read_public(alloc: Global, memory: &mut MemReaderWriter) -> Result<Bytes, TinkError> {
-    let h = Handle::read_with_no_secrets(alloc, memory)?;
-    bytes_of(alloc, &h)
-}
-
-// Whether they are those of the public keyset.
-fn reads_public(alloc: Global, memory: &mut MemReaderWriter) -> Result<bool, TinkError> {
-    let again = read_public(alloc, memory)?;
-    let want = bytes_of(alloc, &public_keys(alloc)?)?;
-    Ok(again.as_slice() == want.as_slice())
-}
-
-#[test]
-fn keysets_without_secrets_are_written_as_they_are(rt: HostRuntime) {
-    let mut memory = MemReaderWriter::default();
-    let written = write_public(rt.alloc(), &mut memory);
-    expect(&rt, written, Ok(()), "what is written");
-    let none = memory.encrypted_keyset.is_none();
-    expect(&rt, none, true, "no encrypted keyset");
-    let again = reads_public(rt.alloc(), &mut memory);
-    expect(&rt, again, Ok(true), "what is read");
-}
-
-// Writes the keyset of two keys as it is.
-fn write_as_it_is(alloc: Global, memory: &mut MemReaderWriter) -> Result<(), TinkError> {
-    insecure::write(alloc, &two_keys(alloc)?, memory)
-}
-
-// Whether the keyset of two keys is read, whatever its keys are.
-fn reads_as_it_is(alloc: Global, memory: &mut MemReaderWriter) -> Result<bool, TinkError> {
-    let h = insecure::read(alloc, memory)?;
-    is_two(alloc, &bytes_of(alloc, &h)?)
-}
-
-#[test]
-fn secrets_are_read_and_written_by_the_insecure_calls_alone(rt: HostRuntime) {
-    let mut memory = MemReaderWriter::default();
-    let written = write_as_it_is(rt.alloc(), &mut memory);
-    expect(&rt, written, Ok(()), "what is written");
-    let again = reads_as_it_is(rt.alloc(), &mut memory);
-    expect(&rt, again, Ok(true), "what is read");
-    let public = reads_public(rt.alloc(), &mut memory);
-    expect(&rt, public, refused(Kind::HasSecrets), "the refusal");
-}
-
-#[test]
-fn a_keyset_without_keys_is_not_read(rt: HostRuntime) {
-    let mut memory = MemReaderWriter {
-        keyset: Some(keyset(7, Vec::new(rt.alloc()))),
-        encrypted_keyset: None,
-    };
-    let answer = reads_as_it_is(rt.alloc(), &mut memory);
-    expect(&rt, answer, refused(Kind::InvalidKeyset), "the refusal");
-}
+/// Secrets are read and written by the insecure calls alone, and a keyset without keys is not read.
+pub const SECRETS: &[Row] = &[
+    (
+        "secrets are written as they are",
+        Step::Write(How::AsItIs, TWO),
+        Ok(true),
+        Kept::Keyset,
+        0,
+    ),
+    (
+        "secrets are read as they are",
+        Step::Read(How::AsItIs, TWO),
+        Ok(true),
+        Kept::Keyset,
+        0,
+    ),
+    (
+        "secrets are not read",
+        Step::Read(How::Plain, b""),
+        Err(Kind::HasSecrets),
+        Kept::Keyset,
+        0,
+    ),
+    (
+        "a keyset without keys",
+        Step::Put(b"\x08\x07"),
+        Ok(true),
+        Kept::Keyset,
+        0,
+    ),
+    (
+        "a keyset without keys is not read",
+        Step::Read(How::AsItIs, b""),
+        Err(Kind::InvalidKeyset),
+        Kept::Keyset,
+        0,
+    ),
+];

@@ -1,10 +1,14 @@
 //! A keyset of one raw key for streams, its binary form, and how both kinds of ends are read and written.
 
+use crate::expecting::{Answer, expect, made};
+use crate::{binary_tests, json_tests};
 use std::alloc::Global;
-use tink_io::{Kind, MemSink, MemSource, TinkError};
+use std::process::Abort;
+use tink_io::{Kind, MemSink, MemSource, Source, TinkError};
+use tink_keyset_io::{BinaryReader, BinaryWriter, JsonReader, JsonWriter};
 use tink_keysets::keyset::{Reader, Writer};
 use tink_proto::{Bytes, EncryptedKeyset, Keyset, Message, OutputPrefixType};
-use tink_testutil::{enabled_key, keyset, kind_of};
+use tink_testutil::{enabled_key, keyset};
 
 /// The binary form.
 pub const KEYSET: &[u8] =
@@ -15,65 +19,149 @@ const VALUE: &[u8] =
 
 const STREAM_URL: &str = "type.googleapis.com/google.crypto.tink.AesCtrHmacStreamingKey";
 
-/// The keyset.
-pub fn stream_keyset(alloc: Global) -> Result<Keyset, TinkError> {
+// The keyset.
+fn stream_keyset(alloc: Global) -> Result<Keyset, TinkError> {
     let id = 0x01020304;
     let key = enabled_key(alloc, STREAM_URL, VALUE, OutputPrefixType::Raw, id)?;
     Ok(keyset(id, vec![in alloc; key]?))
 }
 
-/// A source of these bytes that fails at these calls.
-pub fn source(
+/// The forms of a keyset.
+pub enum Form {
+    Binary,
+    Json,
+}
+
+// ---- reading
+
+/// What is read.
+pub enum Asked {
+    /// A keyset of this binary form.
+    Keyset(&'static [u8]),
+    /// An encrypted keyset without info.
+    Encrypted,
+}
+
+/// What a source has, how much it gives at once, and the calls at which it fails; what is read from it, in order; and
+/// whether it is at its end then.
+pub struct Reading {
+    pub bytes: &'static [u8],
+    pub piece: usize,
+    pub fails: &'static [u32],
+    pub rows: &'static [(&'static str, Asked, Answer)],
+    pub ends: bool,
+}
+
+// A source that fails at these calls.
+fn source(alloc: Global, reading: &Reading) -> Result<MemSource, TinkError> {
+    let bytes = Vec::from_slice(alloc, reading.bytes)?;
+    let fails = Vec::from_slice(alloc, reading.fails)?;
+    Ok(MemSource::new(bytes, reading.piece, fails))
+}
+
+// Whether the keyset that is read has this binary form.
+fn is_keyset(
     alloc: Global,
-    bytes: &[u8],
-    piece: usize,
-    fails: &[u32],
-) -> Result<MemSource, TinkError> {
-    let bytes = Vec::from_slice(alloc, bytes)?;
-    let fails = Vec::from_slice(alloc, fails)?;
-    Ok(MemSource::new(bytes, piece, fails))
-}
-
-/// A sink with room for both forms that fails at these calls.
-pub fn sink(alloc: Global, piece: usize, fails: &[u32]) -> Result<MemSink, TinkError> {
-    let mut sink = MemSink::new(alloc, piece, Vec::from_slice(alloc, fails)?);
-    sink.reserve(alloc, 500)?;
-    Ok(sink)
-}
-
-/// Whether the keyset that is read has this binary form.
-pub fn reads<R: Reader>(alloc: Global, reader: &mut R, want: &[u8]) -> Result<bool, TinkError> {
-    let ks = reader.read(alloc)?;
-    match ks.encode(alloc) {
+    read: Result<Keyset, TinkError>,
+    want: &[u8],
+) -> Result<bool, TinkError> {
+    match read?.encode(alloc) {
         Ok(bytes) => Ok(bytes.as_slice() == want),
         Err(_) => Err(TinkError::new(Kind::OutOfMemory)),
     }
 }
 
-/// Whether the encrypted keyset that is read has no info.
-pub fn reads_no_info<R: Reader>(alloc: Global, reader: &mut R) -> Result<bool, TinkError> {
-    let ks = reader.read_encrypted(alloc)?;
-    Ok(ks.keyset_info.is_none())
+// Whether the encrypted keyset that is read has no info.
+fn has_no_info(read: Result<EncryptedKeyset, TinkError>) -> Result<bool, TinkError> {
+    match read {
+        Ok(ks) => Ok(ks.keyset_info.is_none()),
+        Err(e) => Err(e),
+    }
 }
 
-/// How a read is refused.
-pub fn refusal<R: Reader>(alloc: Global, reader: &mut R) -> Option<Kind> {
-    kind_of(reader.read(alloc))
+fn read<R: Reader>(rt: &impl Abort, alloc: Global, reader: &mut R, reading: &Reading) {
+    for (row, asked, want) in reading.rows {
+        let got = match asked {
+            Asked::Keyset(bytes) => is_keyset(alloc, reader.read(alloc), bytes),
+            Asked::Encrypted => has_no_info(reader.read_encrypted(alloc)),
+        };
+        expect(rt, got, *want, row);
+    }
 }
 
-/// How a read of an encrypted keyset is refused.
-pub fn encrypted_refusal<R: Reader>(alloc: Global, reader: &mut R) -> Option<Kind> {
-    kind_of(reader.read_encrypted(alloc))
+fn is_at_end(mut source: MemSource) -> bool {
+    source.read(&mut [0; 1]) == Ok(0)
 }
 
-/// Writes the keyset.
-pub fn write<W: Writer>(alloc: Global, writer: &mut W) -> Result<(), TinkError> {
-    let ks = stream_keyset(alloc)?;
-    writer.write(alloc, &ks)
+// Whether the source is at its end after its rows.
+fn ends(rt: &impl Abort, alloc: Global, form: &Form, reading: &Reading) -> Result<bool, TinkError> {
+    let source = source(alloc, reading)?;
+    match form {
+        Form::Binary => {
+            let mut reader = BinaryReader::new(source);
+            read(rt, alloc, &mut reader, reading);
+            Ok(is_at_end(reader.into_inner()))
+        }
+        Form::Json => {
+            let mut reader = JsonReader::new(source);
+            read(rt, alloc, &mut reader, reading);
+            Ok(is_at_end(reader.into_inner()))
+        }
+    }
 }
 
-// Writes an encrypted keyset of these bytes, without info.
-fn write_encrypted<W: Writer>(
+const READINGS: &[(Form, &[Reading])] = &[
+    (Form::Binary, binary_tests::READINGS),
+    (Form::Json, json_tests::READINGS),
+];
+
+#[test]
+fn keysets_are_read_in_pieces_or_refused(rt: HostRuntime) {
+    for (form, readings) in READINGS {
+        for reading in *readings {
+            let got = ends(&rt, rt.alloc(), form, reading);
+            expect(&rt, got, Ok(reading.ends), "the source");
+        }
+    }
+}
+
+// ---- writing
+
+/// How much a sink takes at once, and the calls at which it fails; the bytes of an encrypted keyset that is written
+/// after the keyset; and what the sink has taken: so many bytes of the first form, and the other.
+pub struct Writing {
+    pub name: &'static str,
+    pub piece: usize,
+    pub fails: &'static [u32],
+    pub encrypted: &'static [u8],
+    pub want: Answer,
+    pub first: &'static [u8],
+    pub size: usize,
+    pub other: &'static [u8],
+}
+
+// A sink with room for both forms that fails at these calls.
+fn sink(alloc: Global, writing: &Writing) -> Result<MemSink, TinkError> {
+    let fails = Vec::from_slice(alloc, writing.fails)?;
+    let mut sink = MemSink::new(alloc, writing.piece, fails);
+    sink.reserve(alloc, 500)?;
+    Ok(sink)
+}
+
+/// Writes a keyset.
+pub fn put<W: Writer>(
+    alloc: Global,
+    writer: &mut W,
+    ks: Result<Keyset, TinkError>,
+) -> Result<(), TinkError> {
+    match ks {
+        Ok(ks) => writer.write(alloc, &ks),
+        Err(e) => Err(e),
+    }
+}
+
+/// Writes an encrypted keyset of these bytes, without info.
+pub fn put_encrypted<W: Writer>(
     alloc: Global,
     writer: &mut W,
     bytes: &[u8],
@@ -85,18 +173,57 @@ fn write_encrypted<W: Writer>(
     writer.write_encrypted(alloc, &ks)
 }
 
-/// Writes the keyset, and then an encrypted one of these bytes, without info.
-pub fn write_both<W: Writer>(
-    alloc: Global,
-    writer: &mut W,
-    encrypted: &[u8],
-) -> Result<(), TinkError> {
-    write(alloc, writer)?;
-    write_encrypted(alloc, writer, encrypted)
+// Writes the keyset, and then an encrypted one.
+fn write<W: Writer>(alloc: Global, writer: &mut W, writing: &Writing) -> Result<(), TinkError> {
+    match put(alloc, writer, stream_keyset(alloc)) {
+        Ok(()) => put_encrypted(alloc, writer, writing.encrypted),
+        Err(e) => Err(e),
+    }
 }
 
-/// Whether the sink has taken the first text and then the other.
-pub fn has_taken(sink: &MemSink, first: &[u8], other: &[u8]) -> bool {
+// The answer, where the sink has taken what the row says.
+fn taken(
+    answer: Result<(), TinkError>,
+    sink: &MemSink,
+    writing: &Writing,
+) -> Result<bool, TinkError> {
     let bytes = sink.bytes();
-    bytes.len() == first.len() + other.len() && bytes.starts_with(first) && bytes.ends_with(other)
+    let first = &writing.first[..writing.size.min(writing.first.len())];
+    let both = bytes.len() == first.len() + writing.other.len();
+    if both && bytes.starts_with(first) && bytes.ends_with(writing.other) {
+        made(answer)
+    } else {
+        Ok(false)
+    }
+}
+
+fn is_written(alloc: Global, form: &Form, writing: &Writing) -> Result<bool, TinkError> {
+    let sink = sink(alloc, writing)?;
+    match form {
+        Form::Binary => {
+            let mut writer = BinaryWriter::new(sink);
+            let answer = write(alloc, &mut writer, writing);
+            taken(answer, &writer.into_inner(), writing)
+        }
+        Form::Json => {
+            let mut writer = JsonWriter::new(sink);
+            let answer = write(alloc, &mut writer, writing);
+            taken(answer, &writer.into_inner(), writing)
+        }
+    }
+}
+
+const WRITINGS: &[(Form, &[Writing])] = &[
+    (Form::Binary, binary_tests::WRITINGS),
+    (Form::Json, json_tests::WRITINGS),
+];
+
+#[test]
+fn keysets_are_written_in_pieces_or_refused(rt: HostRuntime) {
+    for (form, writings) in WRITINGS {
+        for writing in *writings {
+            let got = is_written(rt.alloc(), form, writing);
+            expect(&rt, got, writing.want, writing.name);
+        }
+    }
 }
