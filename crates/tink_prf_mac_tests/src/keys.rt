@@ -32,10 +32,8 @@ enum Manager {
 }
 
 /// Bytes of which each is its place.
-pub const COUNT: [u8; 40] = [
-    1, 2, 3, 4, 5, 6, 7, 8, 9, 10, 11, 12, 13, 14, 15, 16, 17, 18, 19, 20, 21, 22, 23, 24, 25, 26,
-    27, 28, 29, 30, 31, 32, 33, 34, 35, 36, 37, 38, 39, 40,
-];
+pub const COUNT: &[u8; 40] =
+    b"\x01\x02\x03\x04\x05\x06\x07\x08\x09\x0a\x0b\x0c\x0d\x0e\x0f\x10\x11\x12\x13\x14\x15\x16\x17\x18\x19\x1a\x1b\x1c\x1d\x1e\x1f\x20\x21\x22\x23\x24\x25\x26\x27\x28";
 
 // A message that ends in so many bytes 7.
 fn key_of(alloc: Global, head: &[u8], length: usize) -> Result<Vec<u8>, TinkError> {
@@ -567,11 +565,13 @@ const NEW_KEYS: &[Row] = &[
     ),
 ];
 
+const TABLES: &[&[Row]] = &[HMAC_PRF, HKDF_PRF, AES_CMAC_PRF, HMAC, AES_CMAC, NEW_KEYS];
+
 #[test]
 fn keys_and_formats_by_their_messages(rt: HostRuntime) {
     let alloc = rt.alloc();
-    for rows in [HMAC_PRF, HKDF_PRF, AES_CMAC_PRF, HMAC, AES_CMAC, NEW_KEYS] {
-        for (row, manager, asked, want) in rows {
+    for rows in TABLES {
+        for (row, manager, asked, want) in *rows {
             expect(&rt, answered(alloc, manager, asked), *want, row);
         }
     }

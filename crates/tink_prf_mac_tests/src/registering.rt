@@ -18,39 +18,6 @@ use tink_prf::{
 use tink_proto::{KeyTemplate, Text};
 use tink_testutil::Named;
 
-const TEXTS: &[(&str, &str)] = &[
-    (tink_mac::UPSTREAM_VERSION, "1.6.0"),
-    (tink_prf::UPSTREAM_VERSION, "1.6.0"),
-    (
-        HMAC_TYPE_URL,
-        "type.googleapis.com/google.crypto.tink.HmacKey",
-    ),
-    (
-        CMAC_TYPE_URL,
-        "type.googleapis.com/google.crypto.tink.AesCmacKey",
-    ),
-    (
-        HMAC_PRF_TYPE_URL,
-        "type.googleapis.com/google.crypto.tink.HmacPrfKey",
-    ),
-    (
-        HKDF_PRF_TYPE_URL,
-        "type.googleapis.com/google.crypto.tink.HkdfPrfKey",
-    ),
-    (
-        AES_CMAC_PRF_TYPE_URL,
-        "type.googleapis.com/google.crypto.tink.AesCmacPrfKey",
-    ),
-];
-
-const VERSIONS: [u32; 5] = [
-    HMAC_KEY_VERSION,
-    CMAC_KEY_VERSION,
-    HMAC_PRF_KEY_VERSION,
-    HKDF_PRF_KEY_VERSION,
-    AES_CMAC_PRF_KEY_VERSION,
-];
-
 // A template's name, its URL, its format and its number of a prefix type.
 type Template = (&'static str, &'static str, &'static [u8], i32);
 
@@ -70,6 +37,9 @@ enum Step {
     Names(usize, &'static str),
     // There is no manager of the URL.
     HasNot(&'static str),
+    // A constant has this text, and a version this number.
+    Text(&'static str, &'static str),
+    Version(u32, u32),
 }
 
 /// The template of a name, as its call makes it.
@@ -137,6 +107,8 @@ fn answered(
         Step::Template(template) => is_made_and_registered(alloc, registry, template),
         Step::Names(n, first) => are_names(registry.template_names(alloc), *n, first),
         Step::HasNot(url) => Ok(registry.get_key_manager(url).is_err()),
+        Step::Text(found, want) => Ok(found == want),
+        Step::Version(found, want) => Ok(found == want),
     }
 }
 
@@ -273,24 +245,96 @@ const PRFS_BESIDE: &[Row] = &[
     ),
 ];
 
+const CONSTANTS: &[Row] = &[
+    (
+        "the upstream of MACs",
+        Step::Text(tink_mac::UPSTREAM_VERSION, "1.6.0"),
+        Ok(true),
+    ),
+    (
+        "the upstream of PRFs",
+        Step::Text(tink_prf::UPSTREAM_VERSION, "1.6.0"),
+        Ok(true),
+    ),
+    (
+        "the URL of HMAC",
+        Step::Text(
+            HMAC_TYPE_URL,
+            "type.googleapis.com/google.crypto.tink.HmacKey",
+        ),
+        Ok(true),
+    ),
+    (
+        "the URL of AES-CMAC",
+        Step::Text(
+            CMAC_TYPE_URL,
+            "type.googleapis.com/google.crypto.tink.AesCmacKey",
+        ),
+        Ok(true),
+    ),
+    (
+        "the URL of the HMAC PRF",
+        Step::Text(
+            HMAC_PRF_TYPE_URL,
+            "type.googleapis.com/google.crypto.tink.HmacPrfKey",
+        ),
+        Ok(true),
+    ),
+    (
+        "the URL of HKDF",
+        Step::Text(
+            HKDF_PRF_TYPE_URL,
+            "type.googleapis.com/google.crypto.tink.HkdfPrfKey",
+        ),
+        Ok(true),
+    ),
+    (
+        "the URL of the AES-CMAC PRF",
+        Step::Text(
+            AES_CMAC_PRF_TYPE_URL,
+            "type.googleapis.com/google.crypto.tink.AesCmacPrfKey",
+        ),
+        Ok(true),
+    ),
+    (
+        "the version of HMAC",
+        Step::Version(HMAC_KEY_VERSION, 0),
+        Ok(true),
+    ),
+    (
+        "the version of AES-CMAC",
+        Step::Version(CMAC_KEY_VERSION, 0),
+        Ok(true),
+    ),
+    (
+        "the version of the HMAC PRF",
+        Step::Version(HMAC_PRF_KEY_VERSION, 0),
+        Ok(true),
+    ),
+    (
+        "the version of HKDF",
+        Step::Version(HKDF_PRF_KEY_VERSION, 0),
+        Ok(true),
+    ),
+    (
+        "the version of the AES-CMAC PRF",
+        Step::Version(AES_CMAC_PRF_KEY_VERSION, 0),
+        Ok(true),
+    ),
+];
+
+// The tables are of a new registry each.
+const TABLES: &[&[Row]] = &[CONSTANTS, MACS, PRFS, MACS_BESIDE, PRFS_BESIDE];
+
 fn walk(rt: &impl Abort, alloc: Global, registry: &mut Registry<Named<MacKinds>>, rows: &[Row]) {
     for (row, step, want) in rows {
         expect(rt, answered(alloc, registry, step), *want, row);
     }
 }
 
-/// The tables are of a new registry each.
 #[test]
 fn templates_and_managers_are_registered_once(rt: HostRuntime) {
-    for rows in [MACS, PRFS, MACS_BESIDE, PRFS_BESIDE] {
+    for rows in TABLES {
         walk(&rt, rt.alloc(), &mut Registry::new(rt.alloc()), rows);
     }
-}
-
-#[test]
-fn constants_have_these_values(rt: HostRuntime) {
-    for (found, want) in TEXTS {
-        expect(&rt, Ok(found == want), Ok(true), want);
-    }
-    expect(&rt, Ok(VERSIONS == [0; 5]), Ok(true), "the versions");
 }

@@ -3,7 +3,7 @@
 ghost use Rattle.tink_io.specs.Told.{Answers};
 ghost use Rattle.tink_mac.specs.Wrapped.{primary_mac};
 
-use crate::expecting::{Answer, expect, made};
+use crate::expecting::{Answer, expect, handle, made};
 use crate::mac::vectors::is_tag;
 use std::alloc::Global;
 use std::process::Abort;
@@ -11,12 +11,11 @@ use tink_core::keyset::{Handle, Manager};
 use tink_core::registry::Registry;
 use tink_core::{Kind, Mac, TinkError};
 use tink_mac::{
-    HMAC_TYPE_URL, HmacKeyManager, MacKind, WrappedMac, hmac_sha256_tag128_key_template,
-    law_built_macs_are_sound, law_macs_outlive_commands, law_old_macs_verify,
-    law_own_tags_accepted, new,
+    HmacKeyManager, MacKind, WrappedMac, hmac_sha256_tag128_key_template, law_built_macs_are_sound,
+    law_macs_outlive_commands, law_old_macs_verify, law_own_tags_accepted, new,
 };
-use tink_proto::{Bytes, Key, OutputPrefixType};
-use tink_testutil::{draws_of, enabled_key, gives, handle_of, registry_of};
+use tink_proto::Bytes;
+use tink_testutil::{draws_of, gives, registry_of};
 
 // The MAC of a message by the primary key.
 fn mac_of<P: Mac>(alloc: Global, mac: &WrappedMac<P>, message: &[u8]) -> Result<Bytes, TinkError>
@@ -25,22 +24,10 @@ fn mac_of<P: Mac>(alloc: Global, mac: &WrappedMac<P>, message: &[u8]) -> Result<
     mac.compute_mac(alloc, message)
 }
 
-// HMAC-SHA256 with tags of 16 bytes, and 16 bytes 5: the params are field 2 of a key, and its value field 3.
-const HMAC_KEY: &[u8] =
-    b"\x12\x04\x08\x03\x10\x10\x1a\x10\x05\x05\x05\x05\x05\x05\x05\x05\x05\x05\x05\x05\x05\x05\x05\x05";
-
 type Macs = Registry<HmacKeyManager>;
 
-// A handle of one key, whose id is 7.
-fn one_key(alloc: Global, key: Result<Key, TinkError>) -> Result<Handle, TinkError> {
-    match key {
-        Ok(key) => handle_of(7, vec![in alloc; key]?),
-        Err(e) => Err(e),
-    }
-}
-
 // A handle of one key by the template, of draws 3.
-fn new_handle(alloc: Global, registry: &Macs) -> Result<Handle, TinkError> {
+fn handle_of_draws(alloc: Global, registry: &Macs) -> Result<Handle, TinkError> {
     match hmac_sha256_tag128_key_template(alloc) {
         Ok(kt) => Handle::new(alloc, &kt, registry, &mut draws_of(alloc, &[3; 36])?),
         Err(e) => Err(e),
@@ -65,8 +52,8 @@ fn rotated(alloc: Global, registry: &Macs, h: Handle) -> Result<Handle, TinkErro
 
 // The keyset of the MACs.
 enum Keys {
-    // One key as above, of this prefix type.
-    One(OutputPrefixType),
+    // That of these bytes.
+    One(&'static [u8]),
     // One new key, and another one behind it after a rotation.
     New,
     Rotated,
@@ -74,14 +61,9 @@ enum Keys {
 
 fn handle_by(alloc: Global, registry: &Macs, keys: &Keys) -> Result<Handle, TinkError> {
     match keys {
-        Keys::One(prefix) => {
-            one_key(
-                alloc,
-                enabled_key(alloc, HMAC_TYPE_URL, HMAC_KEY, *prefix, 7),
-            )
-        }
-        Keys::New => new_handle(alloc, registry),
-        Keys::Rotated => match new_handle(alloc, registry) {
+        Keys::One(keyset) => handle(alloc, keyset),
+        Keys::New => handle_of_draws(alloc, registry),
+        Keys::Rotated => match handle_of_draws(alloc, registry) {
             Ok(h) => rotated(alloc, registry, h),
             Err(e) => Err(e),
         },
@@ -127,11 +109,18 @@ fn answer(alloc: Global, registry: &Macs, keys: &Keys, asked: &Asked) -> Result<
     }
 }
 
-const LEGACY: Keys = Keys::One(OutputPrefixType::Legacy);
+// One key of id 7, LEGACY, CRUNCHY or RAW: HMAC-SHA256 with tags of 16 bytes, and 16 bytes 5.
+const LEGACY: Keys = Keys::One(
+    b"\x08\x07\x12\x54\x0a\x4c\x0a\x2etype.googleapis.com/google.crypto.tink.HmacKey\x12\x18\x12\x04\x08\x03\x10\x10\x1a\x10\x05\x05\x05\x05\x05\x05\x05\x05\x05\x05\x05\x05\x05\x05\x05\x05\x18\x01\x10\x01\x18\x07\x20\x02",
+);
 
-const CRUNCHY: Keys = Keys::One(OutputPrefixType::Crunchy);
+const CRUNCHY: Keys = Keys::One(
+    b"\x08\x07\x12\x54\x0a\x4c\x0a\x2etype.googleapis.com/google.crypto.tink.HmacKey\x12\x18\x12\x04\x08\x03\x10\x10\x1a\x10\x05\x05\x05\x05\x05\x05\x05\x05\x05\x05\x05\x05\x05\x05\x05\x05\x18\x01\x10\x01\x18\x07\x20\x04",
+);
 
-const RAW: Keys = Keys::One(OutputPrefixType::Raw);
+const RAW: Keys = Keys::One(
+    b"\x08\x07\x12\x54\x0a\x4c\x0a\x2etype.googleapis.com/google.crypto.tink.HmacKey\x12\x18\x12\x04\x08\x03\x10\x10\x1a\x10\x05\x05\x05\x05\x05\x05\x05\x05\x05\x05\x05\x05\x05\x05\x05\x05\x18\x01\x10\x01\x18\x07\x20\x03",
+);
 
 const MISMATCH: Answer = Err(Kind::MacMismatch);
 
@@ -236,9 +225,14 @@ const ROWS: &[(&str, Keys, Asked, Answer)] = &[
     ),
 ];
 
+/// Each row, and that the laws hold of these types.
 #[test]
 fn a_key_makes_its_mac_and_accepts_its_own_alone(rt: HostRuntime) {
     let alloc = rt.alloc();
+    law_old_macs_verify::<HmacKeyManager, MacKind>();
+    law_own_tags_accepted();
+    law_built_macs_are_sound();
+    law_macs_outlive_commands::<HmacKeyManager, MacKind>();
     match registry_of(alloc, HmacKeyManager::new()) {
         Ok(registry) => walk(&rt, alloc, &registry),
         Err(e) => expect(&rt, Err(e), Ok(true), "the registry"),
@@ -249,13 +243,4 @@ fn walk(rt: &impl Abort, alloc: Global, registry: &Macs) {
     for (row, keys, asked, want) in ROWS {
         expect(rt, answer(alloc, registry, keys, asked), *want, row);
     }
-}
-
-// The laws hold of these types.
-#[test]
-fn laws_are_called(_rt: HostRuntime) {
-    law_old_macs_verify::<HmacKeyManager, MacKind>();
-    law_own_tags_accepted();
-    law_built_macs_are_sound();
-    law_macs_outlive_commands::<HmacKeyManager, MacKind>();
 }

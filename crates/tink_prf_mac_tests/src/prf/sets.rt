@@ -1,6 +1,6 @@
 //! Sets of a keyset's pseudorandom functions.
 
-use crate::expecting::{Answer, expect};
+use crate::expecting::{Answer, expect, handle};
 use crate::keys::COUNT;
 use crate::prf::test_keys::TestKeys;
 use std::alloc::Global;
@@ -11,40 +11,11 @@ use tink_core::{Kind, Prf, TinkError};
 use tink_key_types::SymmetricKeyManager;
 use tink_prf::subtle::HmacPrf;
 use tink_prf::{HmacPrfKeyManager, PrfKind, Set, hmac_sha256_prf_key_template};
-use tink_proto::{Bytes, Key};
-use tink_testutil::{URL, data_of, draws_of, gives, handle_of, registry_of};
+use tink_proto::Bytes;
+use tink_testutil::{draws_of, gives, registry_of};
 
-// A key: its value, its id, the number of its prefix type and that of its material.
-type KeyRow = (&'static [u8], u32, i32, i32);
-
-// The value is field 2 of a key: that of one letter, and of one zero.
-const K: &[u8] = b"\x12\x01k";
-
-const VERIFIER: &[u8] = b"\x12\x01\x00";
-
-fn push(alloc: Global, keys: &mut Vec<Key>, row: KeyRow) -> Result<(), TinkError> {
-    let (value, key_id, output_prefix_type, material) = row;
-    let key_data = data_of(alloc, URL, value, material)?;
-    keys.push(Key {
-        key_data: Some(key_data),
-        status: 1,
-        key_id,
-        output_prefix_type,
-    })?;
-    Ok(())
-}
-
-// The handle of the keys, whose primary id is 7.
-fn handle(alloc: Global, rows: &[KeyRow]) -> Result<Handle, TinkError> {
-    let mut keys = Vec::new(alloc);
-    for row in rows {
-        push(alloc, &mut keys, *row)?;
-    }
-    handle_of(7, keys)
-}
-
-fn set_of(alloc: Global, rows: &[KeyRow]) -> Result<Set<HmacPrf>, TinkError> {
-    match handle(alloc, rows) {
+fn set_of(alloc: Global, keyset: &[u8]) -> Result<Set<HmacPrf>, TinkError> {
+    match handle(alloc, keyset) {
         Ok(h) => Set::new(
             alloc,
             &h,
@@ -75,8 +46,9 @@ fn new_set(
 
 // The keyset of a set.
 enum Keys {
-    // Of test keys.
-    Rows(&'static [KeyRow]),
+    // Of test keys, in the wire format, and of the primary id 7. Each key has a value, whose field 2 is a text or a
+    // zero, an id, and the numbers of a prefix type and of a material.
+    Test(&'static [u8]),
     // A new one.
     New,
     // No functions, and the primary id 7.
@@ -119,7 +91,7 @@ fn answered<P: Prf + Drop>(
 
 fn answered_by(alloc: Global, keys: &Keys, asked: &Asked) -> Result<bool, TinkError> {
     match keys {
-        Keys::Rows(rows) => answered(alloc, set_of(alloc, rows), asked),
+        Keys::Test(keyset) => answered(alloc, set_of(alloc, keyset), asked),
         Keys::New => match registry_of(alloc, HmacPrfKeyManager::new()) {
             Ok(registry) => answered(alloc, new_set(alloc, &registry), asked),
             Err(e) => Err(e),
@@ -132,66 +104,82 @@ fn answered_by(alloc: Global, keys: &Keys, asked: &Asked) -> Result<bool, TinkEr
     }
 }
 
-const THREE: Keys = Keys::Rows(&[
-    (b"\x12\x03one", 8, 3, 1),
-    (b"\x12\x07primary", 7, 3, 1),
-    (b"\x12\x03two", 8, 3, 1),
-]);
+const THREE: Keys = Keys::Test(
+    b"\x08\x07\x12\x20\x0a\x18\x0a\x0dtype.test/key\x12\x05\x12\x03one\x18\x01\x10\x01\x18\x08\x20\x03\x12\x24\x0a\x1c\x0a\x0dtype.test/key\x12\x09\x12\x07primary\x18\x01\x10\x01\x18\x07\x20\x03\x12\x20\x0a\x18\x0a\x0dtype.test/key\x12\x05\x12\x03two\x18\x01\x10\x01\x18\x08\x20\x03",
+);
 
 // Keysets, and whether they have a set, whose outputs are by Python's HMAC. A keyset of public keys may lack a primary
 // one.
 const ROWS: &[(&str, Keys, Asked, Answer)] = &[
     (
         "a RAW primary key",
-        Keys::Rows(&[(K, 7, 3, 1)]),
+        Keys::Test(
+            b"\x08\x07\x12\x1e\x0a\x16\x0a\x0dtype.test/key\x12\x03\x12\x01k\x18\x01\x10\x01\x18\x07\x20\x03",
+        ),
         Asked::Has(1, 7),
         Ok(true),
     ),
     (
         "a primary key of no bytes",
-        Keys::Rows(&[(b"", 7, 1, 1)]),
+        Keys::Test(
+            b"\x08\x07\x12\x19\x0a\x11\x0a\x0dtype.test/key\x18\x01\x10\x01\x18\x07\x20\x01",
+        ),
         Asked::Has(1, 7),
         Err(Kind::InvalidKey),
     ),
     (
         "a primary verifier",
-        Keys::Rows(&[(VERIFIER, 7, 1, 1)]),
+        Keys::Test(
+            b"\x08\x07\x12\x1e\x0a\x16\x0a\x0dtype.test/key\x12\x03\x12\x01\x00\x18\x01\x10\x01\x18\x07\x20\x01",
+        ),
         Asked::Has(1, 7),
         Err(Kind::WrongPrimitive),
     ),
     (
         "a TINK primary key",
-        Keys::Rows(&[(K, 7, 1, 1)]),
+        Keys::Test(
+            b"\x08\x07\x12\x1e\x0a\x16\x0a\x0dtype.test/key\x12\x03\x12\x01k\x18\x01\x10\x01\x18\x07\x20\x01",
+        ),
         Asked::Has(1, 7),
         Err(Kind::NotRawOnly),
     ),
     (
         "a second RAW key",
-        Keys::Rows(&[(K, 7, 3, 1), (K, 8, 3, 1)]),
+        Keys::Test(
+            b"\x08\x07\x12\x1e\x0a\x16\x0a\x0dtype.test/key\x12\x03\x12\x01k\x18\x01\x10\x01\x18\x07\x20\x03\x12\x1e\x0a\x16\x0a\x0dtype.test/key\x12\x03\x12\x01k\x18\x01\x10\x01\x18\x08\x20\x03",
+        ),
         Asked::Has(2, 7),
         Ok(true),
     ),
     (
         "a second TINK key",
-        Keys::Rows(&[(K, 7, 3, 1), (K, 8, 1, 1)]),
+        Keys::Test(
+            b"\x08\x07\x12\x1e\x0a\x16\x0a\x0dtype.test/key\x12\x03\x12\x01k\x18\x01\x10\x01\x18\x07\x20\x03\x12\x1e\x0a\x16\x0a\x0dtype.test/key\x12\x03\x12\x01k\x18\x01\x10\x01\x18\x08\x20\x01",
+        ),
         Asked::Has(2, 7),
         Err(Kind::NotRawOnly),
     ),
     (
         "a second TINK key, of a verifier",
-        Keys::Rows(&[(K, 7, 3, 1), (VERIFIER, 8, 1, 1)]),
+        Keys::Test(
+            b"\x08\x07\x12\x1e\x0a\x16\x0a\x0dtype.test/key\x12\x03\x12\x01k\x18\x01\x10\x01\x18\x07\x20\x03\x12\x1e\x0a\x16\x0a\x0dtype.test/key\x12\x03\x12\x01\x00\x18\x01\x10\x01\x18\x08\x20\x01",
+        ),
         Asked::Has(2, 7),
         Err(Kind::NotRawOnly),
     ),
     (
         "a second RAW key, of a verifier",
-        Keys::Rows(&[(K, 7, 3, 1), (VERIFIER, 8, 3, 1)]),
+        Keys::Test(
+            b"\x08\x07\x12\x1e\x0a\x16\x0a\x0dtype.test/key\x12\x03\x12\x01k\x18\x01\x10\x01\x18\x07\x20\x03\x12\x1e\x0a\x16\x0a\x0dtype.test/key\x12\x03\x12\x01\x00\x18\x01\x10\x01\x18\x08\x20\x03",
+        ),
         Asked::Has(2, 7),
         Err(Kind::WrongPrimitive),
     ),
     (
         "a public key alone",
-        Keys::Rows(&[(K, 8, 3, 3)]),
+        Keys::Test(
+            b"\x08\x07\x12\x1e\x0a\x16\x0a\x0dtype.test/key\x12\x03\x12\x01k\x18\x03\x10\x01\x18\x08\x20\x03",
+        ),
         Asked::Has(1, 7),
         Err(Kind::NoPrimary),
     ),

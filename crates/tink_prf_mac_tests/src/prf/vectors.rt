@@ -6,8 +6,6 @@ ghost use Rattle.hash_keys.specs.Hash.{hmac_of};
 ghost use Rattle.tink_io.specs.Told.{Answers};
 
 use crate::expecting::expect;
-use crate::keys::COUNT;
-use hash_keys::{Hash, hmac_into};
 use std::alloc::Global;
 use tink_core::{CloneIn, Prf, Primitive, TinkError};
 use tink_prf::subtle::{AesCmacPrf, HkdfPrf, HmacPrf};
@@ -212,7 +210,23 @@ const VECTORS: &[(&str, Of, &[u8], &[u8], &[u8])] = &[
     ),
 ];
 
-/// A function and its copy give the outputs.
+// A code of HMAC: its name, the key, the text and the first 16 bytes. That of RFC 4231, and one by Python's HMAC.
+const CODES: &[(&str, &[u8], &[u8], &[u8])] = &[
+    (
+        "a code of the standard",
+        &[0x0b; 20],
+        b"Hi There",
+        b"\xb0\x34\x4c\x61\xd8\xdb\x38\x53\x5c\xa8\xaf\xce\xaf\x0b\xf1\x2b",
+    ),
+    (
+        "a code of abc",
+        b"\x01\x02\x03\x04\x05\x06\x07\x08\x09\x0a\x0b\x0c\x0d\x0e\x0f\x10\x11\x12\x13\x14\x15\x16\x17\x18\x19\x1a\x1b\x1c\x1d\x1e\x1f\x20",
+        b"abc",
+        b"\xa2\x1b\x1f\x5d\x4c\xf4\xf7\x3a\x4d\xd9\x39\x75\x0f\x7a\x06\x6a",
+    ),
+];
+
+/// A function and its copy give the outputs, and a code is a prefix of HMAC.
 #[test]
 fn outputs_are_those_of_the_standards(rt: HostRuntime) {
     let alloc = rt.alloc();
@@ -223,22 +237,7 @@ fn outputs_are_those_of_the_standards(rt: HostRuntime) {
         let copied = computed(alloc, copy, text, want.len());
         expect(&rt, gives(copied, want), Ok(true), row);
     }
-}
-
-// A code is a prefix of HMAC: that of RFC 4231, and that of the hash alone.
-#[test]
-fn a_code_is_a_prefix_of_hmac(rt: HostRuntime) {
-    let code = code_of(rt.alloc(), &[0x0b; 20], b"Hi There");
-    let want = b"\xb0\x34\x4c\x61\xd8\xdb\x38\x53\x5c\xa8\xaf\xce\xaf\x0b\xf1\x2b";
-    expect(&rt, gives(code, want), Ok(true), "a code of the standard");
-    let code = code_of(rt.alloc(), &COUNT[..32], b"abc");
-    let got = gives(code, &code_by_hash(&COUNT[..32])[..16]);
-    expect(&rt, got, Ok(true), "a code by the hash alone");
-}
-
-/// HMAC of `abc` with SHA-256, by the hash alone.
-pub fn code_by_hash(key: &[u8]) -> [u8; 32] {
-    let mut code = [0u8; 32];
-    hmac_into(Hash::Sha256, key, b"abc", &[], &[], &mut code);
-    code
+    for (row, key, text, want) in CODES {
+        expect(&rt, gives(code_of(alloc, key, text), want), Ok(true), row);
+    }
 }
