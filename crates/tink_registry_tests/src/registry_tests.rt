@@ -46,11 +46,12 @@ enum Step {
     Makes(&'static str, Made),
     // So many draws are left.
     Left(usize),
-    // The URL and the key build an AEAD, by the registry and by the manager that it finds.
-    Builds(&'static str, &'static [u8]),
+    // The AEAD of the URL and the key opens this to abc.
+    Opens(&'static str, &'static [u8], &'static [u8]),
+    // The manager of the URL that the registry finds builds an AEAD of the key.
     FindsAndBuilds(&'static str, &'static [u8]),
-    // The AEAD of a key opens this to abc.
-    Opens(&'static [u8], &'static [u8]),
+    // Each of five registrations is whole or nothing.
+    AddFive,
 }
 
 enum Added {
@@ -90,8 +91,9 @@ fn push_named(
     kts: &mut Vec<(Text, KeyTemplate)>,
     name: &str,
 ) -> Result<(), TinkError> {
+    let text = Text::from_str(alloc, name)?;
     match template(alloc, name, &[], 1) {
-        Ok(kt) => Ok(kts.push((Text::from_str(alloc, name)?, kt))?),
+        Ok(kt) => Ok(kts.push((text, kt))?),
         Err(e) => Err(e),
     }
 }
@@ -104,8 +106,9 @@ fn register_two(
     other: &'static str,
 ) -> Result<(), TinkError> {
     let mut kts = Vec::new(alloc);
-    push_named(alloc, &mut kts, one)?;
-    push_named(alloc, &mut kts, other)?;
+    for name in &[one, other] {
+        push_named(alloc, &mut kts, name)?;
+    }
     let kms = vec![in alloc; TestManager::new(one), TestManager::new(other)]?;
     registry.register_all(alloc, kms, kts)
 }
@@ -255,13 +258,12 @@ fn held(
             Err(e) => Err(e),
         },
         Step::Left(n) => Ok(draws.left() == *n),
-        Step::Builds(url, key) => made(aead_of(registry.primitive(alloc, url, key))),
         Step::FindsAndBuilds(url, key) => made(aead_of(built_by(registry, alloc, url, key))),
-        Step::Opens(key, sealed) => gives(
-            opened_by(alloc, registry.primitive(alloc, URL, key), sealed),
+        Step::Opens(url, key, sealed) => gives(
+            opened_by(alloc, registry.primitive(alloc, url, key), sealed),
             b"abc",
         ),
-        Step::Register(_) => Ok(false),
+        Step::Register(_) | Step::AddFive => Ok(false),
     }
 }
 
@@ -308,13 +310,13 @@ const STEPS: &[(&str, Step, Answer)] = &[
     ("data from 15 draws", Step::Makes(URL, Made::Data), NO_DRAWS),
     ("a refusal draws nothing", Step::Left(15), Ok(true)),
     // Refusals to build stand in their order.
-    ("no key and no URL", Step::Builds("x", b""), INVALID),
-    ("no URL", Step::Builds("x", b"k"), UNSUPPORTED),
-    ("a key of one byte", Step::Builds(URL, b"k"), INVALID),
+    ("no key and no URL", Step::Opens("x", b"", b""), INVALID),
+    ("no URL", Step::Opens("x", b"k", b""), UNSUPPORTED),
+    ("a key of one byte", Step::Opens(URL, b"k", b""), INVALID),
     // A key builds.
     (
         "a key opens",
-        Step::Opens(b"0123456789abcdef", b"dabc0123456789abcdef"),
+        Step::Opens(URL, b"0123456789abcdef", b"dabc0123456789abcdef"),
         Ok(true),
     ),
     (
@@ -384,6 +386,7 @@ const STEPS: &[(&str, Step, Answer)] = &[
     ),
     ("the first of two", Step::HasBoth("a", true), Ok(true)),
     ("the second of two", Step::HasBoth("b", true), Ok(true)),
+    ("what was registered of five", Step::AddFive, Ok(true)),
 ];
 
 // The draws of STEPS.
@@ -393,6 +396,7 @@ fn walk(rt: &impl Abort, alloc: Global, registry: &mut Registry<TestManager>, dr
     for (row, step, want) in STEPS {
         let got = match step {
             Step::Register(added) => made(register(alloc, registry, added)),
+            Step::AddFive => Ok(is_whole_or_nothing(alloc, registry)),
             _ => held(alloc, registry, step, draws),
         };
         expect(rt, got, *want, row);
@@ -417,17 +421,17 @@ fn is_there(registry: &Registry<TestManager>, added: &Added, wanted: bool) -> bo
     }
 }
 
-const FIRST: Added = Added::Manager(URL);
+const FIRST: Added = Added::Manager("first");
 
-const BEFORE: Added = Added::Template("a", URL);
+const BEFORE: Added = Added::Template("before", URL);
 
 const BEHIND: &[Added] = &[
-    Added::Manager("b"),
-    Added::Template("b", "b"),
-    Added::Both("c", "d"),
+    Added::Manager("e"),
+    Added::Template("e", "e"),
+    Added::Both("f", "g"),
 ];
 
-// Whether a registration that is refused registers nothing, and one that isn't registers all, beside what was there.
+// Whether a registration that is refused for `OutOfMemory` registers nothing, and one that isn't registers all, beside what was there.
 fn is_whole_or_nothing(alloc: Global, registry: &mut Registry<TestManager>) -> bool {
     let first = register(alloc, registry, &FIRST).is_ok();
     let before = register(alloc, registry, &BEFORE).is_ok();
@@ -437,11 +441,4 @@ fn is_whole_or_nothing(alloc: Global, registry: &mut Registry<TestManager>) -> b
         holds = holds && is_there(registry, added, done);
     }
     holds && is_there(registry, &FIRST, first) && is_there(registry, &BEFORE, before)
-}
-
-/// A call that is refused for `OutOfMemory` registers nothing, and one that isn't registers all.
-#[test]
-fn a_registration_is_whole_or_nothing(rt: HostRuntime) {
-    let holds = is_whole_or_nothing(rt.alloc(), &mut Registry::new(rt.alloc()));
-    expect(&rt, Ok(holds), Ok(true), "what was registered");
 }

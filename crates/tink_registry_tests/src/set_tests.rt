@@ -106,6 +106,10 @@ enum Step {
     Count(&'static [u8], usize),
     // A key of the type has the prefix.
     Prefix(OutputPrefixType, &'static [u8]),
+    // The sizes of prefixes and their first bytes.
+    Constants,
+    // Eighteen entries are added, or refused for `OutOfMemory` and the set left.
+    AddEighteen,
 }
 
 // Whether an entry that is lent has the number.
@@ -170,6 +174,16 @@ fn copied_are_numbers(
     }
 }
 
+fn are_constants() -> bool {
+    let sizes = [
+        NON_RAW_PREFIX_SIZE,
+        TINK_PREFIX_SIZE,
+        LEGACY_PREFIX_SIZE,
+        RAW_PREFIX_SIZE,
+    ];
+    sizes == [5, 5, 5, 0] && TINK_START_BYTE == 1 && LEGACY_START_BYTE == 0
+}
+
 fn answered(
     alloc: Global,
     set: &mut PrimitiveSet<TestKinds>,
@@ -183,6 +197,8 @@ fn answered(
         Step::CopiedRaws(one, other) => copied_are_numbers(alloc, set, *one, *other),
         Step::Count(prefix, n) => Ok(set.entries_for_prefix(prefix).len() == *n),
         Step::Prefix(prefix, want) => gives(output_prefix(alloc, &key_of(*prefix, 1)), want),
+        Step::Constants => Ok(are_constants()),
+        Step::AddEighteen => Ok(adds_or_leaves(alloc, set)),
     }
 }
 
@@ -194,6 +210,7 @@ const UNKNOWN: OutputPrefixType = OutputPrefixType::UnknownPrefix;
 
 // The steps of a new set. The keys have the id 01020304.
 const STEPS: &[(&str, Step, Answer)] = &[
+    ("the constants", Step::Constants, Ok(true)),
     // A prefix is a byte and the id.
     (
         "TINK",
@@ -263,6 +280,11 @@ const STEPS: &[(&str, Step, Answer)] = &[
         Step::Add(How::Id, 6, RAW, 1),
         Ok(true),
     ),
+    (
+        "eighteen entries beside four RAW ones and a TINK one",
+        Step::AddEighteen,
+        Ok(true),
+    ),
 ];
 
 fn walk(rt: &impl Abort, alloc: Global, set: &mut PrimitiveSet<TestKinds>) {
@@ -276,28 +298,15 @@ fn a_set_goes_by_its_steps(rt: HostRuntime) {
     walk(&rt, rt.alloc(), &mut PrimitiveSet::new(rt.alloc()));
 }
 
-/// The sizes of prefixes and their first bytes.
-#[test]
-fn constants_have_their_numbers(rt: HostRuntime) {
-    let sizes = [
-        NON_RAW_PREFIX_SIZE,
-        TINK_PREFIX_SIZE,
-        LEGACY_PREFIX_SIZE,
-        RAW_PREFIX_SIZE,
-    ];
-    let holds = sizes == [5, 5, 5, 0] && TINK_START_BYTE == 1 && LEGACY_START_BYTE == 0;
-    expect(&rt, Ok(holds), Ok(true), "the constants");
-}
-
 // Whether there are so many RAW entries and so many TINK ones.
 fn has_entries(set: &PrimitiveSet<TestKinds>, raws: usize, tinks: usize) -> bool {
     set.raw_entries().len() == raws && set.entries_for_prefix(&[1, 1, 2, 3, 4]).len() == tinks
 }
 
-// Whether each entry is added, or the set is left; and nearly all are added.
+// Whether each entry is added to four RAW ones and a TINK one, or the set is left; and nearly all are added.
 fn adds_or_leaves(alloc: Global, set: &mut PrimitiveSet<TestKinds>) -> bool {
-    let mut raws: usize = 0;
-    let mut tinks: usize = 0;
+    let mut raws: usize = 4;
+    let mut tinks: usize = 1;
     let mut holds = true;
     for number in 0..9 {
         let raw = add(alloc, set, &How::Put, number, &key_of(RAW, 1));
@@ -306,15 +315,7 @@ fn adds_or_leaves(alloc: Global, set: &mut PrimitiveSet<TestKinds>) -> bool {
         tinks = tinks.wrapping_add(tink.is_ok() as usize);
         holds = holds && has_entries(set, raws, tinks);
     }
-    holds && 17 <= raws.wrapping_add(tinks)
-}
-
-/// A call that is refused for `OutOfMemory` adds nothing, and one that isn't adds one entry.
-#[test]
-fn an_entry_is_added_or_the_set_is_left(rt: HostRuntime) {
-    let alloc = rt.alloc();
-    let holds = adds_or_leaves(alloc, &mut PrimitiveSet::new(alloc));
-    expect(&rt, Ok(holds), Ok(true), "the entries");
+    holds && 22 <= raws.wrapping_add(tinks)
 }
 
 // ---- sets of one sort
