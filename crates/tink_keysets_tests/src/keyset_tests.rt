@@ -196,21 +196,20 @@ fn spells_two_keys(alloc: Global, h: &Handle) -> Result<bool, TinkError> {
     Ok(ks.primary_key_id == 7 && ks.key.as_slice().len() == 2)
 }
 
-// Whether it prints no key material, tells its info, and its bytes are decoded.
-fn tells_all(alloc: Global, h: &Handle) -> Result<[bool; 3], TinkError> {
-    let prints = prints(alloc, h)?;
-    let spells = spells_two_keys(alloc, h)?;
-    let info = h.keyset_info(alloc)?;
-    Ok([
-        prints,
-        spells,
-        info.primary_key_id == 7 && tells_two_keys(&info),
-    ])
+// Whether it prints no key material, its bytes are decoded, and it tells its info.
+fn tells_all(alloc: Global, h: &Handle) -> Result<bool, TinkError> {
+    if !prints(alloc, h)? || !spells_two_keys(alloc, h)? {
+        return Ok(false);
+    }
+    match h.keyset_info(alloc) {
+        Ok(info) => Ok(info.primary_key_id == 7 && tells_two_keys(&info)),
+        Err(e) => Err(e),
+    }
 }
 
 fn two_keys_tell(alloc: Global) -> Result<bool, TinkError> {
     match two_keys(alloc) {
-        Ok(h) => Ok(tells_all(alloc, &h)? == [true; 3]),
+        Ok(h) => tells_all(alloc, &h),
         Err(e) => Err(e),
     }
 }
@@ -232,13 +231,20 @@ fn retire(manager: &mut Manager, id: u32) -> Result<(), TinkError>
     manager.disable(id)
 }
 
+pub fn managed(h: Result<Handle, TinkError>) -> Result<Manager, TinkError> {
+    match h {
+        Ok(h) => Ok(Manager::new_from_handle(h)),
+        Err(e) => Err(e),
+    }
+}
+
 // The manager of two keys of this status and id 2. The primary id is 1.
 fn manager_of(alloc: Global, status: i32) -> Result<Manager, TinkError> {
     let keys = keys_of(
         alloc,
         &[(Some(SYMMETRIC), status, 2), (Some(SYMMETRIC), status, 2)],
     )?;
-    Ok(Manager::new_from_handle(handle_of(1, keys)?))
+    managed(handle_of(1, keys))
 }
 
 // A command on the keys of an id, or what is asked after it.

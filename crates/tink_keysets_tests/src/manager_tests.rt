@@ -1,6 +1,7 @@
 //! Adding keys, and public parts, over a registry of test keys.
 
 use crate::expecting::{Answer, expect, made};
+use crate::keyset_tests::managed;
 use std::alloc::Global;
 use std::process::Abort;
 use tink_io::{Draws, Kind, TinkError};
@@ -47,15 +48,17 @@ fn handle_of_one(alloc: Global, primary: u32, only: Key) -> Result<Handle, TinkE
 // The manager of one key of id 01020304, which is the primary one.
 fn manager_of_one(alloc: Global) -> Result<Manager, TinkError> {
     let only = key(alloc, 1, 1, 0x01020304)?;
-    Ok(Manager::new_from_handle(handle_of_one(alloc, 0x01020304, only)?))
+    managed(handle_of_one(alloc, 0x01020304, only))
 }
 
 // The manager of a new handle, whose key has the id 01020304.
 fn manager_of_new(alloc: Global, registry: &Registry<TestManager>) -> Result<Manager, TinkError> {
     law_managers_give_held(registry);
-    let kt = template(alloc, URL, &[], 1)?;
     let mut draws = draws_with(alloc, b"\x01\x02\x03\x04")?;
-    Ok(Manager::new_from_handle(Handle::new(alloc, &kt, registry, &mut draws)?))
+    match template(alloc, URL, &[], 1) {
+        Ok(kt) => managed(Handle::new(alloc, &kt, registry, &mut draws)),
+        Err(e) => Err(e),
+    }
 }
 
 // ---- adding keys
