@@ -1,9 +1,9 @@
 //! What is asked of an AEAD, and whether it does it.
 
 use std::alloc::Global;
-use tink_io::TinkError;
+use tink_io::{Kind, TinkError};
 use tink_primitives::{Aead, CloneIn};
-use tink_testutil::{draws_of, gives};
+use tink_testutil::{draws_of, gives, kind_of};
 
 /// Data, a text, and what it is encrypted to.
 pub struct Sealed {
@@ -13,28 +13,27 @@ pub struct Sealed {
 }
 
 /// What is asked of an AEAD.
-#[derive(Clone, Copy)]
 pub enum Asked {
-    /// To encrypt the text by the first so many of these draws, of which so many are left.
-    Encrypt(&'static Sealed, &'static [u8], usize, usize),
-    /// To decrypt the first so many of the encrypted bytes with that data to the text.
-    Decrypt(&'static Sealed, usize, &'static [u8]),
+    /// To encrypt the text by the first so many of the encrypted bytes as draws, of which so many are left.
+    Encrypt(usize, usize),
+    /// To decrypt the encrypted bytes without the last so many, with that data or their own, to the text.
+    Decrypt(usize, Option<&'static [u8]>),
     /// To decrypt these bytes with that data, to nothing.
     Open(&'static [u8], &'static [u8]),
     /// To decrypt the encrypted bytes by a copy.
-    Copy(&'static Sealed),
-    /// To decrypt them with these bits changed at a place.
-    Change(&'static Sealed, usize, u8),
+    Copy,
+    /// To refuse them by this kind with a bit changed at each place.
+    Changes(Kind),
 }
 
 fn encrypts<A: Aead>(
     alloc: Global,
     aead: &A,
     of: &Sealed,
-    draws: &[u8],
+    n: usize,
     left: usize,
 ) -> Result<bool, TinkError> {
-    let mut draws = draws_of(alloc, draws)?;
+    let mut draws = draws_of(alloc, &of.sealed[..of.sealed.len().min(n)])?;
     let sealed = aead.encrypt(alloc, of.text, of.data, &mut draws);
     if draws.left() == left {
         gives(sealed, of.sealed)
@@ -54,33 +53,54 @@ fn copy_decrypts<A: Aead + CloneIn>(
     }
 }
 
-fn changed_decrypts<A: Aead>(
+fn refuses_change<A: Aead>(
     alloc: Global,
     aead: &A,
     of: &Sealed,
     i: usize,
-    bits: u8,
+    kind: Kind,
 ) -> Result<bool, TinkError> {
     let mut changed = of.sealed.to_vec(alloc)?;
     if let Some(byte) = changed.get_mut(i) {
-        *byte ^= bits;
+        *byte ^= 1 << (i % 8);
     }
-    gives(aead.decrypt(alloc, &changed, of.data), of.text)
+    Ok(kind_of(aead.decrypt(alloc, &changed, of.data)) == Some(kind))
 }
 
-/// Whether an AEAD does what is asked, or how it refuses.
-pub fn does<A: Aead + CloneIn>(alloc: Global, aead: &A, asked: &Asked) -> Result<bool, TinkError> {
-    match asked {
-        Asked::Encrypt(of, draws, n, left) => {
-            encrypts(alloc, aead, of, &draws[..draws.len().min(*n)], *left)
+fn refuses_changes<A: Aead>(
+    alloc: Global,
+    aead: &A,
+    of: &Sealed,
+    kind: Kind,
+) -> Result<bool, TinkError> {
+    for i in 0..of.sealed.len() {
+        if !refuses_change(alloc, aead, of, i, kind)? {
+            return Ok(false);
         }
-        Asked::Decrypt(of, n, data) => {
-            let input = &of.sealed[..of.sealed.len().min(*n)];
+    }
+    Ok(true)
+}
+
+// Whether an AEAD does what is asked, or how it refuses.
+fn does<A: Aead + CloneIn>(
+    alloc: Global,
+    aead: &A,
+    of: &Sealed,
+    asked: &Asked,
+) -> Result<bool, TinkError> {
+    match asked {
+        Asked::Encrypt(n, left) => encrypts(alloc, aead, of, *n, *left),
+        Asked::Decrypt(less, data) => {
+            let input = &of.sealed[..of.sealed.len().saturating_sub(*less)];
+            let data = match data {
+                Some(data) => *data,
+                None => of.data,
+            };
             gives(aead.decrypt(alloc, input, data), of.text)
         }
         Asked::Open(input, data) => gives(aead.decrypt(alloc, input, data), b""),
-        Asked::Copy(of) => copy_decrypts(alloc, aead, of),
-        Asked::Change(of, i, bits) => changed_decrypts(alloc, aead, of, *i, *bits),
+        Asked::Copy => copy_decrypts(alloc, aead, of),
+        Asked::Changes(kind) => refuses_changes(alloc, aead, of, *kind),
     }
 }
 
@@ -88,10 +108,11 @@ pub fn does<A: Aead + CloneIn>(alloc: Global, aead: &A, asked: &Asked) -> Result
 pub fn does_if_made<A: Aead + CloneIn>(
     alloc: Global,
     made: Result<A, TinkError>,
+    of: &Sealed,
     asked: &Asked,
 ) -> Result<bool, TinkError> {
     match made {
-        Ok(aead) => does(alloc, &aead, asked),
+        Ok(aead) => does(alloc, &aead, of, asked),
         Err(e) => Err(e),
     }
 }

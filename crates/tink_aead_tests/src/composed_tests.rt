@@ -39,11 +39,8 @@ const SEALED: &Sealed = &Sealed {
     sealed: b"\xc8\xc9\xca\xcb\xcc\xcd\xce\xcf\xd0\xd1\xd2\xd3\xd4\xd5\xd6\xd7\x6d\xf5\x7e\xc0\xc4\xfe\xaa\x99\x39\xd1\x5d\xe4\xcb\xeb\x37\xe4\xe1\x8f\x2e",
 };
 
-// The vector, and one more.
-const DRAWS: &[u8] = b"\xc8\xc9\xca\xcb\xcc\xcd\xce\xcf\xd0\xd1\xd2\xd3\xd4\xd5\xd6\xd7\xd8";
-
 fn answered(alloc: Global, tag_size: usize, asked: &Asked) -> Result<bool, TinkError> {
-    does_if_made(alloc, aead_of(alloc, tag_size), asked)
+    does_if_made(alloc, aead_of(alloc, tag_size), SEALED, asked)
 }
 
 // `sealed`, which is less than a vector, and its tag with the data `d` of eight bits, by Python's `hmac`.
@@ -58,56 +55,31 @@ const ROWS: &[(&str, usize, Asked, Answer)] = &[
     (
         "it encrypts by 16 of 17 draws",
         16,
-        Asked::Encrypt(SEALED, DRAWS, 17, 1),
+        Asked::Encrypt(17, 1),
         Ok(true),
     ),
-    (
-        "it decrypts",
-        16,
-        Asked::Decrypt(SEALED, 35, b"some data"),
-        Ok(true),
-    ),
-    ("a copy decrypts", 16, Asked::Copy(SEALED), Ok(true)),
+    ("it decrypts", 16, Asked::Decrypt(0, None), Ok(true)),
+    ("a copy decrypts", 16, Asked::Copy, Ok(true)),
     (
         "other data",
         16,
-        Asked::Decrypt(SEALED, 35, b"some dat"),
+        Asked::Decrypt(0, Some(b"some dat")),
         MISMATCH,
     ),
-    (
-        "34 bytes",
-        16,
-        Asked::Decrypt(SEALED, 34, b"some data"),
-        MISMATCH,
-    ),
-    (
-        "16 bytes",
-        16,
-        Asked::Decrypt(SEALED, 16, b"some data"),
-        MISMATCH,
-    ),
+    ("34 bytes", 16, Asked::Decrypt(1, None), MISMATCH),
+    ("16 bytes", 16, Asked::Decrypt(19, None), MISMATCH),
     (
         "15 bytes",
         16,
-        Asked::Decrypt(SEALED, 15, b""),
+        Asked::Decrypt(20, Some(b"")),
         Err(Kind::TooShort),
     ),
-    (
-        "tags of 9 bytes",
-        9,
-        Asked::Encrypt(SEALED, DRAWS, 17, 17),
-        BAD_TAG,
-    ),
-    (
-        "tags of 20 bytes",
-        20,
-        Asked::Encrypt(SEALED, DRAWS, 16, 0),
-        BAD_TAG,
-    ),
+    ("tags of 9 bytes", 9, Asked::Encrypt(17, 17), BAD_TAG),
+    ("tags of 20 bytes", 20, Asked::Encrypt(16, 0), BAD_TAG),
     (
         "15 draws",
         16,
-        Asked::Encrypt(SEALED, DRAWS, 15, 15),
+        Asked::Encrypt(15, 15),
         Err(Kind::RandomFault),
     ),
     // The MAC accepts, and then the cipher refuses.
@@ -117,18 +89,17 @@ const ROWS: &[(&str, usize, Asked, Answer)] = &[
         Asked::Open(LESS, b"d"),
         Err(Kind::TooShort),
     ),
+    (
+        "a changed bit at each place",
+        16,
+        Asked::Changes(Kind::MacMismatch),
+        Ok(true),
+    ),
 ];
 
-/// Each row, and that a changed bit at each place is refused by the MAC.
 #[test]
 fn encrypts_and_authenticates(rt: HostRuntime) {
-    let alloc = rt.alloc();
     for (row, tag_size, asked, want) in ROWS {
-        expect(&rt, answered(alloc, *tag_size, asked), *want, row);
-    }
-    for i in 0..35usize {
-        let asked = Asked::Change(SEALED, i, 1 << (i % 8));
-        let changed = answered(alloc, 16, &asked);
-        expect(&rt, changed, MISMATCH, "a changed bit");
+        expect(&rt, answered(rt.alloc(), *tag_size, asked), *want, row);
     }
 }

@@ -18,7 +18,6 @@ enum Asked {
     Make(&'static [u8], usize, usize),
 }
 
-#[derive(Clone, Copy)]
 enum Manager {
     Gcm,
     GcmSiv,
@@ -48,7 +47,7 @@ fn does<M: KeyManager + Drop>(alloc: Global, km: M, asked: &Asked) -> Result<boo
     }
 }
 
-fn answered(alloc: Global, manager: Manager, asked: &Asked) -> Result<bool, TinkError> {
+fn answered(alloc: Global, manager: &Manager, asked: &Asked) -> Result<bool, TinkError> {
     match manager {
         Manager::Gcm => does(alloc, AesGcmKeyManager::new(), asked),
         Manager::GcmSiv => does(alloc, AesGcmSivKeyManager::new(), asked),
@@ -274,12 +273,14 @@ const TWO_PARTS: &[Row] = &[
     ),
 ];
 
+const TABLES: &[&[Row]] = &[ONE_PART, TWO_PARTS];
+
 #[test]
 fn keys_and_formats_by_their_messages(rt: HostRuntime) {
     let alloc = rt.alloc();
-    for rows in [ONE_PART, TWO_PARTS] {
-        for (row, manager, asked, want) in rows {
-            expect(&rt, answered(alloc, *manager, asked), *want, row);
+    for rows in TABLES {
+        for (row, manager, asked, want) in *rows {
+            expect(&rt, answered(alloc, manager, asked), *want, row);
         }
     }
     let versions = [

@@ -13,62 +13,26 @@ use tink_aead::{
 };
 use tink_core::registry::{KeyManager, Registry};
 use tink_core::{Kind, TinkError};
-use tink_proto::KeyTemplate;
-use tink_testutil::{Named, registry_of};
+use tink_proto::{KeyTemplate, Text};
+use tink_testutil::Named;
 
 // A template's name, its URL, its format, the number of its prefix, and whether it is registered.
 type Template = (&'static str, &'static str, &'static [u8], i32, bool);
 
-// The sizes of keys are field 2, and those of vectors and tags in the params.
-const TEMPLATES: &[Template] = &[
-    ("AES128_GCM", AES_GCM_TYPE_URL, b"\x10\x10", 1, true),
-    ("AES256_GCM", AES_GCM_TYPE_URL, b"\x10\x20", 1, true),
-    (
-        "AES256_GCM_NO_PREFIX",
-        AES_GCM_TYPE_URL,
-        b"\x10\x20",
-        3,
-        true,
-    ),
-    ("AES128_GCM_SIV", AES_GCM_SIV_TYPE_URL, b"\x10\x10", 1, true),
-    ("AES256_GCM_SIV", AES_GCM_SIV_TYPE_URL, b"\x10\x20", 1, true),
-    (
-        "AES256_GCM_SIV_NO_PREFIX",
-        AES_GCM_SIV_TYPE_URL,
-        b"\x10\x20",
-        3,
-        true,
-    ),
-    (
-        "AES128_CTR_HMAC_SHA256",
-        AES_CTR_HMAC_AEAD_TYPE_URL,
-        b"\x0a\x06\x0a\x02\x08\x10\x10\x10\x12\x08\x0a\x04\x08\x03\x10\x10\x10\x20",
-        1,
-        true,
-    ),
-    (
-        "AES256_CTR_HMAC_SHA256",
-        AES_CTR_HMAC_AEAD_TYPE_URL,
-        b"\x0a\x06\x0a\x02\x08\x10\x10\x20\x12\x08\x0a\x04\x08\x03\x10\x20\x10\x20",
-        1,
-        true,
-    ),
-    // That of envelopes has AES128_GCM and its URL of 48 bytes.
-    (
-        "AES256_CTR_HMAC_SHA512",
-        AES_CTR_HMAC_AEAD_TYPE_URL,
-        b"\x0a\x06\x0a\x02\x08\x10\x10\x20\x12\x08\x0a\x04\x08\x04\x10\x40\x10\x40",
-        1,
-        false,
-    ),
-    (
-        "an envelope",
-        KMS_ENVELOPE_AEAD_TYPE_URL,
-        b"\x0a\x05a://b\x12\x38\x0a\x30type.googleapis.com/google.crypto.tink.AesGcmKey\x12\x02\x10\x10\x18\x01",
-        3,
-        false,
-    ),
-];
+enum Step {
+    // A manager of the URL is registered.
+    Manage(&'static str),
+    // All of this library are.
+    Init,
+    // The call of a template's name makes it, and it stands under its name beside its manager, if it is registered.
+    Template(Template),
+    // There are so many templates.
+    Names(usize),
+    // There is no manager of the URL.
+    HasNot(&'static str),
+    // A version is this number.
+    Version(u32, u32),
+}
 
 // The template of a name, as its call makes it.
 fn template_of(alloc: Global, name: &str) -> Result<KeyTemplate, TinkError> {
@@ -96,13 +60,6 @@ fn is_template(kt: &KeyTemplate, template: &Template) -> bool {
     kt.type_url.as_str() == url && kt.value.as_slice() == format && kt.output_prefix_type == prefix
 }
 
-fn is_made(made: Result<KeyTemplate, TinkError>, template: &Template) -> Result<bool, TinkError> {
-    match made {
-        Ok(kt) => Ok(is_template(&kt, template)),
-        Err(e) => Err(e),
-    }
-}
-
 type Registered = Registry<Named<AeadKinds>>;
 
 // Whether a template stands in a registry under its name, beside the manager of its URL.
@@ -118,49 +75,167 @@ fn is_registered(registry: &Registered, template: &Template) -> bool {
     named && managed
 }
 
-// How many templates have names.
-fn has_names(alloc: Global, registry: &Registered, n: usize) -> Result<bool, TinkError> {
-    Ok(registry.template_names(alloc)?.len() == n)
+// Whether the call of a template's name makes it, and it stands in a registry if it is registered.
+fn is_made(
+    registry: &Registered,
+    made: Result<KeyTemplate, TinkError>,
+    template: &Template,
+) -> Result<bool, TinkError> {
+    match made {
+        Ok(kt) => Ok(is_template(&kt, template) && is_registered(registry, template) == template.4),
+        Err(e) => Err(e),
+    }
+}
+
+fn are_names(names: Result<Vec<Text>, TinkError>, n: usize) -> Result<bool, TinkError> {
+    match names {
+        Ok(names) => Ok(names.len() == n),
+        Err(e) => Err(e),
+    }
+}
+
+fn answered(alloc: Global, registry: &mut Registered, step: &Step) -> Result<bool, TinkError> {
+    match step {
+        Step::Manage(url) => made(registry.register_key_manager(alloc, Named::new(url))),
+        Step::Init => made(init(alloc, registry)),
+        Step::Template(template) => is_made(registry, template_of(alloc, template.0), template),
+        Step::Names(n) => are_names(registry.template_names(alloc), *n),
+        Step::HasNot(url) => Ok(registry.get_key_manager(url).is_err()),
+        Step::Version(found, want) => Ok(found == want),
+    }
 }
 
 const THERE: Answer = Err(Kind::AlreadyRegistered);
 
-fn registers(rt: &impl Abort, alloc: Global, registry: &mut Registered) {
-    expect(rt, made(init(alloc, registry)), Ok(true), "registered");
-    for template in TEMPLATES {
-        let got = is_made(template_of(alloc, template.0), template);
-        expect(rt, got, Ok(true), template.0);
-        let there = is_registered(registry, template);
-        expect(rt, Ok(there), Ok(template.4), template.0);
-    }
-    expect(rt, made(init(alloc, registry)), THERE, "again");
-    let eight = has_names(alloc, registry, 8);
-    expect(rt, eight, Ok(true), "eight templates");
-}
+type Row = (&'static str, Step, Answer);
 
-// How registering is refused, if it leaves no template and no other manager.
-fn refuses(alloc: Global, taken: &mut Registered) -> Result<bool, TinkError> {
-    let refused = made(init(alloc, taken));
-    let is_left = has_names(alloc, taken, 0)?;
-    if is_left && taken.get_key_manager(AES_GCM_TYPE_URL).is_err() {
-        refused
-    } else {
-        Ok(false)
-    }
-}
+// The sizes of keys are field 2, and those of vectors and tags in the params.
+const ALL: &[Row] = &[
+    ("registered", Step::Init, Ok(true)),
+    (
+        "AES128_GCM",
+        Step::Template(("AES128_GCM", AES_GCM_TYPE_URL, b"\x10\x10", 1, true)),
+        Ok(true),
+    ),
+    (
+        "AES256_GCM",
+        Step::Template(("AES256_GCM", AES_GCM_TYPE_URL, b"\x10\x20", 1, true)),
+        Ok(true),
+    ),
+    (
+        "AES256_GCM_NO_PREFIX",
+        Step::Template((
+            "AES256_GCM_NO_PREFIX",
+            AES_GCM_TYPE_URL,
+            b"\x10\x20",
+            3,
+            true,
+        )),
+        Ok(true),
+    ),
+    (
+        "AES128_GCM_SIV",
+        Step::Template(("AES128_GCM_SIV", AES_GCM_SIV_TYPE_URL, b"\x10\x10", 1, true)),
+        Ok(true),
+    ),
+    (
+        "AES256_GCM_SIV",
+        Step::Template(("AES256_GCM_SIV", AES_GCM_SIV_TYPE_URL, b"\x10\x20", 1, true)),
+        Ok(true),
+    ),
+    (
+        "AES256_GCM_SIV_NO_PREFIX",
+        Step::Template((
+            "AES256_GCM_SIV_NO_PREFIX",
+            AES_GCM_SIV_TYPE_URL,
+            b"\x10\x20",
+            3,
+            true,
+        )),
+        Ok(true),
+    ),
+    (
+        "AES128_CTR_HMAC_SHA256",
+        Step::Template((
+            "AES128_CTR_HMAC_SHA256",
+            AES_CTR_HMAC_AEAD_TYPE_URL,
+            b"\x0a\x06\x0a\x02\x08\x10\x10\x10\x12\x08\x0a\x04\x08\x03\x10\x10\x10\x20",
+            1,
+            true,
+        )),
+        Ok(true),
+    ),
+    (
+        "AES256_CTR_HMAC_SHA256",
+        Step::Template((
+            "AES256_CTR_HMAC_SHA256",
+            AES_CTR_HMAC_AEAD_TYPE_URL,
+            b"\x0a\x06\x0a\x02\x08\x10\x10\x20\x12\x08\x0a\x04\x08\x03\x10\x20\x10\x20",
+            1,
+            true,
+        )),
+        Ok(true),
+    ),
+    // That of envelopes has AES128_GCM and its URL of 48 bytes.
+    (
+        "AES256_CTR_HMAC_SHA512",
+        Step::Template((
+            "AES256_CTR_HMAC_SHA512",
+            AES_CTR_HMAC_AEAD_TYPE_URL,
+            b"\x0a\x06\x0a\x02\x08\x10\x10\x20\x12\x08\x0a\x04\x08\x04\x10\x40\x10\x40",
+            1,
+            false,
+        )),
+        Ok(true),
+    ),
+    (
+        "an envelope",
+        Step::Template((
+            "an envelope",
+            KMS_ENVELOPE_AEAD_TYPE_URL,
+            b"\x0a\x05a://b\x12\x38\x0a\x30type.googleapis.com/google.crypto.tink.AesGcmKey\x12\x02\x10\x10\x18\x01",
+            3,
+            false,
+        )),
+        Ok(true),
+    ),
+    ("again", Step::Init, THERE),
+    ("eight templates", Step::Names(8), Ok(true)),
+    (
+        "the version of envelopes",
+        Step::Version(KMS_ENVELOPE_AEAD_KEY_VERSION, 0),
+        Ok(true),
+    ),
+];
 
-// The same beside a manager of GCM-SIV.
-fn beside(alloc: Global) -> Result<bool, TinkError> {
-    match registry_of(alloc, Named::new(AES_GCM_SIV_TYPE_URL)) {
-        Ok(mut taken) => refuses(alloc, &mut taken),
-        Err(e) => Err(e),
+// Where a URL is taken, nothing is registered.
+const BESIDE: &[Row] = &[
+    (
+        "a manager of GCM-SIV",
+        Step::Manage(AES_GCM_SIV_TYPE_URL),
+        Ok(true),
+    ),
+    ("a taken URL", Step::Init, THERE),
+    ("no template beside it", Step::Names(0), Ok(true)),
+    (
+        "no other manager beside it",
+        Step::HasNot(AES_GCM_TYPE_URL),
+        Ok(true),
+    ),
+];
+
+// The tables are of a new registry each.
+const TABLES: &[&[Row]] = &[ALL, BESIDE];
+
+fn walk(rt: &impl Abort, alloc: Global, registry: &mut Registered, rows: &[Row]) {
+    for (row, step, want) in rows {
+        expect(rt, answered(alloc, registry, step), *want, row);
     }
 }
 
 #[test]
 fn templates_and_managers_are_registered_once(rt: HostRuntime) {
-    registers(&rt, rt.alloc(), &mut Registry::new(rt.alloc()));
-    expect(&rt, beside(rt.alloc()), THERE, "a taken URL");
-    let is_first = KMS_ENVELOPE_AEAD_KEY_VERSION == 0;
-    expect(&rt, Ok(is_first), Ok(true), "the version of envelopes");
+    for rows in TABLES {
+        walk(&rt, rt.alloc(), &mut Registry::new(rt.alloc()), rows);
+    }
 }
