@@ -4,11 +4,11 @@ ghost use Rattle.std.specs.Prelude.{[]};
 ghost use Rattle.tink_io.specs.Told.{Replies};
 ghost use Rattle.tink_aead.specs.Wrapped.{primary_encrypts};
 
-use crate::common::{Answer, expect};
+use crate::common::{Answer, expect, handle};
 use std::alloc::Global;
 use tink_aead::{
-    AES_GCM_TYPE_URL, AeadKind, AesCtrHmacAeadKeyManager, AesGcmKeyManager, AesGcmSivKeyManager,
-    WrappedAead, aes128_ctr_hmac_sha256_key_template, aes128_gcm_key_template,
+    AeadKind, AesCtrHmacAeadKeyManager, AesGcmKeyManager, AesGcmSivKeyManager, WrappedAead,
+    aes128_ctr_hmac_sha256_key_template, aes128_gcm_key_template,
     aes256_ctr_hmac_sha512_key_template, aes256_gcm_key_template,
     aes256_gcm_no_prefix_key_template, aes256_gcm_siv_no_prefix_key_template,
     law_ciphertexts_outlive_commands, new,
@@ -16,8 +16,8 @@ use tink_aead::{
 use tink_core::keyset::{Handle, Manager};
 use tink_core::registry::{KeyManager, Registry};
 use tink_core::{Aead, Draws, Kind, Kinds, TinkError};
-use tink_proto::{Bytes, Key, KeyTemplate, OutputPrefixType};
-use tink_testutil::{draws_of, enabled_key, gives, handle_of, registry_of};
+use tink_proto::{Bytes, KeyTemplate};
+use tink_testutil::{draws_of, gives, registry_of};
 
 /// Encrypts a text without associated data by the primary key.
 fn sealed_by<P: Aead>(
@@ -89,7 +89,6 @@ fn of_size(
     }
 }
 
-#[derive(Clone, Copy)]
 enum Template {
     Gcm,
     RawGcm,
@@ -98,7 +97,7 @@ enum Template {
     CtrHmacSha512,
 }
 
-fn template_of(alloc: Global, template: Template) -> Result<KeyTemplate, TinkError> {
+fn template_of(alloc: Global, template: &Template) -> Result<KeyTemplate, TinkError> {
     match template {
         Template::Gcm => aes256_gcm_key_template(alloc),
         Template::RawGcm => aes256_gcm_no_prefix_key_template(alloc),
@@ -108,7 +107,7 @@ fn template_of(alloc: Global, template: Template) -> Result<KeyTemplate, TinkErr
     }
 }
 
-fn new_aead(alloc: Global, template: Template) -> Result<WrappedAead<AeadKind>, TinkError> {
+fn new_aead(alloc: Global, template: &Template) -> Result<WrappedAead<AeadKind>, TinkError> {
     let kt = template_of(alloc, template)?;
     match template {
         Template::Gcm | Template::RawGcm => aead_by(alloc, AesGcmKeyManager::new(), &kt),
@@ -191,34 +190,12 @@ const NEW_KEYS: &[(&str, Template, usize, &[u8], Answer)] = &[
 fn texts_by_new_keys(rt: HostRuntime) {
     let alloc = rt.alloc();
     for (row, template, size, data, want) in NEW_KEYS {
-        let got = of_size(alloc, new_aead(alloc, *template), *size, data);
+        let got = of_size(alloc, new_aead(alloc, template), *size, data);
         expect(&rt, got, *want, row);
     }
 }
 
 // ---- keysets of two keys
-
-// A key's prefix and its id.
-type Named = (OutputPrefixType, u8);
-
-// Adds an enabled AES-GCM key, of which each byte is its id. Its bytes are field 3 of the message.
-fn push(alloc: Global, keys: &mut Vec<Key>, named: Named) -> Result<(), TinkError> {
-    let (prefix, id) = named;
-    let mut value = [id; 18];
-    value[0] = 0x1a;
-    value[1] = 16;
-    let key = enabled_key(alloc, AES_GCM_TYPE_URL, &value, prefix, u32::from(id))?;
-    keys.push(key)?;
-    Ok(())
-}
-
-// Two keys, of which the first is primary.
-fn two_keys(alloc: Global, named: [Named; 2]) -> Result<Handle, TinkError> {
-    let mut keys = Vec::new(alloc);
-    push(alloc, &mut keys, named[0])?;
-    push(alloc, &mut keys, named[1])?;
-    handle_of(u32::from(named[0].1), keys)
-}
 
 // The AEADs of these keys.
 fn aead_of(
@@ -237,15 +214,15 @@ fn abc_from(alloc: Global, aead: &WrappedAead<AeadKind>, n: usize) -> Result<Byt
     sealed_by(aead, alloc, b"abc", &mut draws)
 }
 
-fn sealed(alloc: Global, named: [Named; 2], n: usize) -> Result<Bytes, TinkError> {
-    match aead_of(alloc, two_keys(alloc, named)) {
+fn sealed(alloc: Global, keys: &[u8], n: usize) -> Result<Bytes, TinkError> {
+    match aead_of(alloc, handle(alloc, keys)) {
         Ok(aead) => abc_from(alloc, &aead, n),
         Err(e) => Err(e),
     }
 }
 
-fn opened(alloc: Global, named: [Named; 2], sealed: &[u8]) -> Result<Bytes, TinkError> {
-    match aead_of(alloc, two_keys(alloc, named)) {
+fn opened(alloc: Global, keys: &[u8], sealed: &[u8]) -> Result<Bytes, TinkError> {
+    match aead_of(alloc, handle(alloc, keys)) {
         Ok(aead) => aead.decrypt(alloc, sealed, &[]),
         Err(e) => Err(e),
     }
@@ -254,11 +231,11 @@ fn opened(alloc: Global, named: [Named; 2], sealed: &[u8]) -> Result<Bytes, Tink
 // Whether the first keys make of `abc`, with so many draws, so many bytes that begin so, and the second open them.
 fn goes_there_and_back(
     alloc: Global,
-    keys: [Named; 2],
+    keys: &[u8],
     n: usize,
     front: &[u8],
     size: usize,
-    others: [Named; 2],
+    others: &[u8],
 ) -> Result<bool, TinkError> {
     let sealed = sealed(alloc, keys, n)?;
     let bytes = sealed.as_slice();
@@ -269,22 +246,27 @@ fn goes_there_and_back(
     )
 }
 
-const PREFIXED_FIRST: [Named; 2] = [(OutputPrefixType::Tink, 1), (OutputPrefixType::Raw, 2)];
+// Keysets of two AES-GCM keys, of which each byte is its id, in the wire format. One has a prefix, one is raw, and the
+// first is primary.
+const PREFIXED_FIRST: &[u8] =
+    b"\x08\x01\x12\x50\x0a\x48\x0a\x30type.googleapis.com/google.crypto.tink.AesGcmKey\x12\x12\x1a\x10\x01\x01\x01\x01\x01\x01\x01\x01\x01\x01\x01\x01\x01\x01\x01\x01\x18\x01\x10\x01\x18\x01\x20\x01\x12\x50\x0a\x48\x0a\x30type.googleapis.com/google.crypto.tink.AesGcmKey\x12\x12\x1a\x10\x02\x02\x02\x02\x02\x02\x02\x02\x02\x02\x02\x02\x02\x02\x02\x02\x18\x01\x10\x01\x18\x02\x20\x03";
 
-const RAW_FIRST: [Named; 2] = [(OutputPrefixType::Raw, 2), (OutputPrefixType::Tink, 1)];
+const RAW_FIRST: &[u8] =
+    b"\x08\x02\x12\x50\x0a\x48\x0a\x30type.googleapis.com/google.crypto.tink.AesGcmKey\x12\x12\x1a\x10\x02\x02\x02\x02\x02\x02\x02\x02\x02\x02\x02\x02\x02\x02\x02\x02\x18\x01\x10\x01\x18\x02\x20\x03\x12\x50\x0a\x48\x0a\x30type.googleapis.com/google.crypto.tink.AesGcmKey\x12\x12\x1a\x10\x01\x01\x01\x01\x01\x01\x01\x01\x01\x01\x01\x01\x01\x01\x01\x01\x18\x01\x10\x01\x18\x01\x20\x01";
 
-const OTHERS: [Named; 2] = [(OutputPrefixType::Tink, 3), (OutputPrefixType::Raw, 4)];
+const OTHERS: &[u8] =
+    b"\x08\x03\x12\x50\x0a\x48\x0a\x30type.googleapis.com/google.crypto.tink.AesGcmKey\x12\x12\x1a\x10\x03\x03\x03\x03\x03\x03\x03\x03\x03\x03\x03\x03\x03\x03\x03\x03\x18\x01\x10\x01\x18\x03\x20\x01\x12\x50\x0a\x48\x0a\x30type.googleapis.com/google.crypto.tink.AesGcmKey\x12\x12\x1a\x10\x04\x04\x04\x04\x04\x04\x04\x04\x04\x04\x04\x04\x04\x04\x04\x04\x18\x01\x10\x01\x18\x04\x20\x03";
 
 const PREFIX: &[u8] = b"\x01\x00\x00\x00\x01";
 
 // The keys that make it, the draws, what it begins with, its size, and the keys that open it.
 type Sealing = (
     &'static str,
-    [Named; 2],
+    &'static [u8],
     usize,
     &'static [u8],
     usize,
-    [Named; 2],
+    &'static [u8],
     Answer,
 );
 
@@ -358,7 +340,7 @@ const SEALINGS: &[Sealing] = &[
 fn keys_of_a_keyset_decrypt(rt: HostRuntime) {
     let alloc = rt.alloc();
     for (row, keys, n, front, size, others, want) in SEALINGS {
-        let got = goes_there_and_back(alloc, *keys, *n, front, *size, *others);
+        let got = goes_there_and_back(alloc, keys, *n, front, *size, others);
         expect(&rt, got, *want, row);
     }
     let alone = gives(opened(alloc, PREFIXED_FIRST, PREFIX), b"");

@@ -1,11 +1,10 @@
 //! Keysets under an AES-GCM master key, over memory and over ends in the wire format and in JSON.
 
-use crate::common::{Answer, expect};
+use crate::common::{Answer, expect, handle};
 use std::alloc::Global;
 use tink_aead::subtle::AesGcm;
-use tink_core::keyset::insecure::{decode, new_handle};
 use tink_core::keyset::{Handle, MemReaderWriter, Reader, Writer};
-use tink_core::{Kind, MemSink, MemSource, TinkError};
+use tink_core::{Draws, Kind, MemSink, MemSource, TinkError};
 use tink_keyset_io::{BinaryReader, BinaryWriter, JsonReader, JsonWriter};
 use tink_proto::wire::Message;
 use tink_proto::{Bytes, EncryptedKeyset, KeysetInfo};
@@ -27,10 +26,6 @@ fn master(alloc: Global) -> Result<AesGcm, TinkError> {
     AesGcm::new(alloc, &[9; 16])
 }
 
-fn handle(alloc: Global) -> Result<Handle, TinkError> {
-    new_handle(decode(alloc, KEYSET)?)
-}
-
 fn is_info(alloc: Global, info: &KeysetInfo) -> Result<bool, TinkError> {
     match info.encode(alloc) {
         Ok(bytes) => Ok(bytes.as_slice() == INFO),
@@ -38,21 +33,42 @@ fn is_info(alloc: Global, info: &KeysetInfo) -> Result<bool, TinkError> {
     }
 }
 
+fn has_info(alloc: Global, info: Result<KeysetInfo, TinkError>) -> Result<bool, TinkError> {
+    match info {
+        Ok(info) => is_info(alloc, &info),
+        Err(e) => Err(e),
+    }
+}
+
 // Whether it is a handle of the keyset, with its info.
-fn is_the_keyset(alloc: Global, read: Result<Handle, TinkError>) -> Result<bool, TinkError> {
-    let h = read?;
-    let info = h.keyset_info(alloc)?;
-    Ok(gives(bytes_of(alloc, &h), KEYSET)? && is_info(alloc, &info)?)
+fn is_the_keyset(alloc: Global, h: &Handle) -> Result<bool, TinkError> {
+    match has_info(alloc, h.keyset_info(alloc)) {
+        Ok(true) => gives(bytes_of(alloc, h), KEYSET),
+        other => other,
+    }
 }
 
 // Writes the keyset under the master key, by twelve draws of 7, with this data where there are some.
 fn write<W: Writer>(alloc: Global, writer: &mut W, data: Option<&[u8]>) -> Result<(), TinkError> {
-    let master = master(alloc)?;
-    let h = handle(alloc)?;
     let mut draws = draws_of(alloc, &[7; 12])?;
+    let master = master(alloc)?;
+    match handle(alloc, KEYSET) {
+        Ok(h) => write_by(alloc, writer, &master, &h, data, &mut draws),
+        Err(e) => Err(e),
+    }
+}
+
+fn write_by<W: Writer>(
+    alloc: Global,
+    writer: &mut W,
+    master: &AesGcm,
+    h: &Handle,
+    data: Option<&[u8]>,
+    draws: &mut Draws,
+) -> Result<(), TinkError> {
     match data {
-        Some(data) => h.write_with_associated_data(alloc, writer, &master, data, &mut draws),
-        None => h.write(alloc, writer, &master, &mut draws),
+        Some(data) => h.write_with_associated_data(alloc, writer, master, data, draws),
+        None => h.write(alloc, writer, master, draws),
     }
 }
 
@@ -67,7 +83,10 @@ fn is_read<R: Reader>(
         Some(data) => Handle::read_with_associated_data(alloc, reader, &master, data),
         None => Handle::read(alloc, reader, &master),
     };
-    is_the_keyset(alloc, read)
+    match read {
+        Ok(h) => is_the_keyset(alloc, &h),
+        Err(e) => Err(e),
+    }
 }
 
 // ---- memory
@@ -92,19 +111,12 @@ fn is_kept(alloc: Global, ends: &mut MemReaderWriter) -> Result<bool, TinkError>
     Ok(encrypted && is_read(alloc, ends, None)? && ends.keyset.is_none())
 }
 
-#[test]
-fn a_keyset_is_kept_in_memory(rt: HostRuntime) {
-    let kept = is_kept(rt.alloc(), &mut MemReaderWriter::default());
-    expect(&rt, kept, Ok(true), "the encryption and the info");
-}
-
 // ---- the wire format and JSON
 
 // The first member, whose bytes are base64.
 const JSON: &[u8] =
     b"{\n  \"encryptedKeyset\": \"BwcHBwcHBwcHBwcHn+jWc2iRUiVAKH7wrrKdxoEeCeHO1Ioy0YvpPehR1vkJVn/T2HRVoBKvAUfMpqPz2huS2IF0l6fEJIEelYKyk1pDPCLvxjls0UAFgdNGP6v4QLExoEnL3GoSf8sYOoxRvCWCShvlw63XZsVXR9xYbJHyswVksFhagl00F52L2gzo6P7Fzfk=\",\n  \"keysetInfo\": {";
 
-#[derive(Clone, Copy)]
 enum Format {
     Wire,
     Json,
@@ -132,7 +144,7 @@ fn in_json(alloc: Global, data: Option<&[u8]>) -> Result<Bytes, TinkError> {
 // Whether this text is one of the keyset.
 fn is_read_of(
     alloc: Global,
-    format: Format,
+    format: &Format,
     text: &[u8],
     data: Option<&[u8]>,
 ) -> Result<bool, TinkError> {
@@ -144,15 +156,15 @@ fn is_read_of(
 }
 
 // Whether the keyset is written so that its text begins and ends so, and read from it.
-fn is_kept_as(alloc: Global, format: Format, row: &Row) -> Result<bool, TinkError> {
-    let text = match format {
+fn is_kept_as(alloc: Global, row: &Row) -> Result<bool, TinkError> {
+    let text = match row.format {
         Format::Wire => in_wire(alloc, row.written_with),
         Format::Json => in_json(alloc, row.written_with),
     };
     let text = text?;
     let text = text.as_slice();
     let framed = text.starts_with(row.begins) && text.ends_with(row.ends);
-    Ok(is_read_of(alloc, format, text, row.read_with)? && framed)
+    Ok(is_read_of(alloc, &row.format, text, row.read_with)? && framed)
 }
 
 struct Row {
@@ -218,9 +230,11 @@ const ROWS: &[Row] = &[
 ];
 
 #[test]
-fn a_keyset_is_kept_in_a_text(rt: HostRuntime) {
+fn a_keyset_is_kept_in_memory_and_in_a_text(rt: HostRuntime) {
+    let kept = is_kept(rt.alloc(), &mut MemReaderWriter::default());
+    expect(&rt, kept, Ok(true), "the encryption and the info");
     for row in ROWS {
-        let got = is_kept_as(rt.alloc(), row.format, row);
+        let got = is_kept_as(rt.alloc(), row);
         expect(&rt, got, row.want, row.name);
     }
 }
