@@ -14,8 +14,8 @@ use tink_testutil::{draws_of, gives};
 
 // What is asked of a manager.
 enum Asked {
-    // To build a key of a message, which ends in so many bytes 7.
-    Build(&'static [u8], usize),
+    // To build a key of a message.
+    Build(&'static [u8]),
     // To make a key of a format, with so many draws.
     Make(&'static [u8], usize),
     // To make a key by the template of this name, from so many of the draws 1, 2, 3 .., of which so many are left;
@@ -34,13 +34,6 @@ enum Manager {
 /// Bytes of which each is its place.
 pub const COUNT: &[u8; 40] =
     b"\x01\x02\x03\x04\x05\x06\x07\x08\x09\x0a\x0b\x0c\x0d\x0e\x0f\x10\x11\x12\x13\x14\x15\x16\x17\x18\x19\x1a\x1b\x1c\x1d\x1e\x1f\x20\x21\x22\x23\x24\x25\x26\x27\x28";
-
-// A message that ends in so many bytes 7.
-fn key_of(alloc: Global, head: &[u8], length: usize) -> Result<Vec<u8>, TinkError> {
-    let mut key = head.to_vec(alloc)?;
-    key.extend_from_slice(&[7; 64][..length.min(64)])?;
-    Ok(key)
-}
 
 fn build(alloc: Global, manager: &Manager, key: &[u8]) -> Result<bool, TinkError> {
     match manager {
@@ -120,10 +113,7 @@ fn draws_key(
 
 fn answered(alloc: Global, manager: &Manager, asked: &Asked) -> Result<bool, TinkError> {
     match asked {
-        Asked::Build(head, length) => match key_of(alloc, head, *length) {
-            Ok(key) => build(alloc, manager, &key),
-            Err(e) => Err(e),
-        },
+        Asked::Build(key) => build(alloc, manager, key),
         Asked::Make(format, n) => match draws_of(alloc, &[7; 100][..(*n).min(100)]) {
             Ok(mut draws) => made(new_key(alloc, manager, format, &mut draws)),
             Err(e) => Err(e),
@@ -150,7 +140,7 @@ const HMAC_PRF: &[Row] = &[
     (
         "HMAC PRF key, SHA-1, 16 bytes",
         Manager::HmacPrf,
-        Asked::Build(b"\x12\x02\x08\x01\x1a\x10", 16),
+        Asked::Build(b"\x12\x02\x08\x01\x1a\x100123456789abcdef"),
         Ok(true),
     ),
     (
@@ -162,7 +152,9 @@ const HMAC_PRF: &[Row] = &[
     (
         "HMAC PRF key, SHA-224, 64 bytes",
         Manager::HmacPrf,
-        Asked::Build(b"\x12\x02\x08\x05\x1a\x40", 64),
+        Asked::Build(
+            b"\x12\x02\x08\x05\x1a\x400123456789abcdefghijklmnopqrstuvwxyzABCDEFGHIJKLMNOPQRSTUVWXYZ+-",
+        ),
         Ok(true),
     ),
     (
@@ -174,7 +166,7 @@ const HMAC_PRF: &[Row] = &[
     (
         "HMAC PRF key, 15 bytes",
         Manager::HmacPrf,
-        Asked::Build(b"\x12\x02\x08\x03\x1a\x0f", 15),
+        Asked::Build(b"\x12\x02\x08\x03\x1a\x0f0123456789abcde"),
         NO_KEY,
     ),
     (
@@ -186,7 +178,7 @@ const HMAC_PRF: &[Row] = &[
     (
         "HMAC PRF key, no hash",
         Manager::HmacPrf,
-        Asked::Build(b"\x12\x00\x1a\x10", 16),
+        Asked::Build(b"\x12\x00\x1a\x100123456789abcdef"),
         NO_KEY,
     ),
     (
@@ -198,7 +190,7 @@ const HMAC_PRF: &[Row] = &[
     (
         "HMAC PRF key, hash 6",
         Manager::HmacPrf,
-        Asked::Build(b"\x12\x02\x08\x06\x1a\x10", 16),
+        Asked::Build(b"\x12\x02\x08\x06\x1a\x100123456789abcdef"),
         NO_KEY,
     ),
     (
@@ -210,7 +202,7 @@ const HMAC_PRF: &[Row] = &[
     (
         "HMAC PRF key, no params",
         Manager::HmacPrf,
-        Asked::Build(b"\x1a\x10", 16),
+        Asked::Build(b"\x1a\x100123456789abcdef"),
         NO_KEY,
     ),
     (
@@ -222,7 +214,7 @@ const HMAC_PRF: &[Row] = &[
     (
         "HMAC PRF key, version 1",
         Manager::HmacPrf,
-        Asked::Build(b"\x08\x01\x12\x02\x08\x03\x1a\x20", 32),
+        Asked::Build(b"\x08\x01\x12\x02\x08\x03\x1a\x200123456789abcdefghijklmnopqrstuv"),
         NO_KEY,
     ),
     (
@@ -234,7 +226,7 @@ const HMAC_PRF: &[Row] = &[
     (
         "no bytes as a key",
         Manager::HmacPrf,
-        Asked::Build(b"", 0),
+        Asked::Build(b""),
         NO_KEY,
     ),
     (
@@ -246,7 +238,7 @@ const HMAC_PRF: &[Row] = &[
     (
         "a group as a key",
         Manager::HmacPrf,
-        Asked::Build(b"\x0b", 0),
+        Asked::Build(b"\x0b"),
         NO_KEY,
     ),
     (
@@ -262,7 +254,7 @@ const HKDF_PRF: &[Row] = &[
     (
         "HKDF key, SHA-256, 32 bytes",
         Manager::HkdfPrf,
-        Asked::Build(b"\x12\x08\x08\x03\x12\x04salt\x1a\x20", 32),
+        Asked::Build(b"\x12\x08\x08\x03\x12\x04salt\x1a\x200123456789abcdefghijklmnopqrstuv"),
         Ok(true),
     ),
     (
@@ -274,7 +266,9 @@ const HKDF_PRF: &[Row] = &[
     (
         "HKDF key, SHA-512, 64 bytes",
         Manager::HkdfPrf,
-        Asked::Build(b"\x12\x08\x08\x04\x12\x04salt\x1a\x40", 64),
+        Asked::Build(
+            b"\x12\x08\x08\x04\x12\x04salt\x1a\x400123456789abcdefghijklmnopqrstuvwxyzABCDEFGHIJKLMNOPQRSTUVWXYZ+-",
+        ),
         Ok(true),
     ),
     (
@@ -286,7 +280,7 @@ const HKDF_PRF: &[Row] = &[
     (
         "HKDF key, 31 bytes",
         Manager::HkdfPrf,
-        Asked::Build(b"\x12\x08\x08\x03\x12\x04salt\x1a\x1f", 31),
+        Asked::Build(b"\x12\x08\x08\x03\x12\x04salt\x1a\x1f0123456789abcdefghijklmnopqrstu"),
         NO_KEY,
     ),
     (
@@ -298,7 +292,7 @@ const HKDF_PRF: &[Row] = &[
     (
         "HKDF key, SHA-1",
         Manager::HkdfPrf,
-        Asked::Build(b"\x12\x08\x08\x01\x12\x04salt\x1a\x20", 32),
+        Asked::Build(b"\x12\x08\x08\x01\x12\x04salt\x1a\x200123456789abcdefghijklmnopqrstuv"),
         NO_KEY,
     ),
     (
@@ -310,7 +304,7 @@ const HKDF_PRF: &[Row] = &[
     (
         "HKDF key, no hash",
         Manager::HkdfPrf,
-        Asked::Build(b"\x12\x06\x12\x04salt\x1a\x20", 32),
+        Asked::Build(b"\x12\x06\x12\x04salt\x1a\x200123456789abcdefghijklmnopqrstuv"),
         NO_KEY,
     ),
     (
@@ -322,7 +316,7 @@ const HKDF_PRF: &[Row] = &[
     (
         "HKDF key, no params",
         Manager::HkdfPrf,
-        Asked::Build(b"\x1a\x20", 32),
+        Asked::Build(b"\x1a\x200123456789abcdefghijklmnopqrstuv"),
         NO_KEY,
     ),
     (
@@ -334,7 +328,9 @@ const HKDF_PRF: &[Row] = &[
     (
         "HKDF key, version 1",
         Manager::HkdfPrf,
-        Asked::Build(b"\x08\x01\x12\x08\x08\x03\x12\x04salt\x1a\x20", 32),
+        Asked::Build(
+            b"\x08\x01\x12\x08\x08\x03\x12\x04salt\x1a\x200123456789abcdefghijklmnopqrstuv",
+        ),
         NO_KEY,
     ),
     (
@@ -350,7 +346,7 @@ const AES_CMAC_PRF: &[Row] = &[
     (
         "AES-CMAC PRF key, 32 bytes",
         Manager::AesCmacPrf,
-        Asked::Build(b"\x12\x20", 32),
+        Asked::Build(b"\x12\x200123456789abcdefghijklmnopqrstuv"),
         Ok(true),
     ),
     (
@@ -362,7 +358,7 @@ const AES_CMAC_PRF: &[Row] = &[
     (
         "AES-CMAC PRF key, 16 bytes",
         Manager::AesCmacPrf,
-        Asked::Build(b"\x12\x10", 16),
+        Asked::Build(b"\x12\x100123456789abcdef"),
         NO_KEY,
     ),
     (
@@ -374,7 +370,7 @@ const AES_CMAC_PRF: &[Row] = &[
     (
         "AES-CMAC PRF key, 33 bytes",
         Manager::AesCmacPrf,
-        Asked::Build(b"\x12\x21", 33),
+        Asked::Build(b"\x12\x210123456789abcdefghijklmnopqrstuvw"),
         NO_KEY,
     ),
     (
@@ -386,7 +382,7 @@ const AES_CMAC_PRF: &[Row] = &[
     (
         "AES-CMAC PRF key, version 1",
         Manager::AesCmacPrf,
-        Asked::Build(b"\x08\x01\x12\x20", 32),
+        Asked::Build(b"\x08\x01\x12\x200123456789abcdefghijklmnopqrstuv"),
         NO_KEY,
     ),
     (
@@ -403,49 +399,49 @@ const HMAC: &[Row] = &[
     (
         "HMAC key, SHA-256, 10",
         Manager::Hmac,
-        Asked::Build(b"\x12\x04\x08\x03\x10\x0a\x1a\x10", 16),
+        Asked::Build(b"\x12\x04\x08\x03\x10\x0a\x1a\x100123456789abcdef"),
         Ok(true),
     ),
     (
         "HMAC key, SHA-224, 28",
         Manager::Hmac,
-        Asked::Build(b"\x12\x04\x08\x05\x10\x1c\x1a\x10", 16),
+        Asked::Build(b"\x12\x04\x08\x05\x10\x1c\x1a\x100123456789abcdef"),
         Ok(true),
     ),
     (
         "HMAC key, version 1",
         Manager::Hmac,
-        Asked::Build(b"\x08\x01\x12\x04\x08\x03\x10\x10\x1a\x10", 16),
+        Asked::Build(b"\x08\x01\x12\x04\x08\x03\x10\x10\x1a\x100123456789abcdef"),
         NO_KEY,
     ),
     (
         "HMAC key, no hash",
         Manager::Hmac,
-        Asked::Build(b"\x12\x02\x10\x10\x1a\x10", 16),
+        Asked::Build(b"\x12\x02\x10\x10\x1a\x100123456789abcdef"),
         NO_KEY,
     ),
     (
         "HMAC key, hash 6",
         Manager::Hmac,
-        Asked::Build(b"\x12\x04\x08\x06\x10\x10\x1a\x10", 16),
+        Asked::Build(b"\x12\x04\x08\x06\x10\x10\x1a\x100123456789abcdef"),
         NO_KEY,
     ),
     (
         "HMAC key, tags of 9",
         Manager::Hmac,
-        Asked::Build(b"\x12\x04\x08\x03\x10\x09\x1a\x10", 16),
+        Asked::Build(b"\x12\x04\x08\x03\x10\x09\x1a\x100123456789abcdef"),
         NO_KEY,
     ),
     (
         "HMAC key, tags of 33",
         Manager::Hmac,
-        Asked::Build(b"\x12\x04\x08\x03\x10\x21\x1a\x10", 16),
+        Asked::Build(b"\x12\x04\x08\x03\x10\x21\x1a\x100123456789abcdef"),
         NO_KEY,
     ),
     (
         "HMAC key, 15 bytes",
         Manager::Hmac,
-        Asked::Build(b"\x12\x04\x08\x03\x10\x10\x1a\x0f", 15),
+        Asked::Build(b"\x12\x04\x08\x03\x10\x10\x1a\x0f0123456789abcde"),
         NO_KEY,
     ),
     (
@@ -480,37 +476,37 @@ const AES_CMAC: &[Row] = &[
     (
         "AES-CMAC key, tags of 10",
         Manager::AesCmac,
-        Asked::Build(b"\x1a\x02\x08\x0a\x12\x20", 32),
+        Asked::Build(b"\x1a\x02\x08\x0a\x12\x200123456789abcdefghijklmnopqrstuv"),
         Ok(true),
     ),
     (
         "AES-CMAC key, tags of 16",
         Manager::AesCmac,
-        Asked::Build(b"\x1a\x02\x08\x10\x12\x20", 32),
+        Asked::Build(b"\x1a\x02\x08\x10\x12\x200123456789abcdefghijklmnopqrstuv"),
         Ok(true),
     ),
     (
         "AES-CMAC key, version 1",
         Manager::AesCmac,
-        Asked::Build(b"\x08\x01\x1a\x02\x08\x10\x12\x20", 32),
+        Asked::Build(b"\x08\x01\x1a\x02\x08\x10\x12\x200123456789abcdefghijklmnopqrstuv"),
         NO_KEY,
     ),
     (
         "AES-CMAC key, tags of 9",
         Manager::AesCmac,
-        Asked::Build(b"\x1a\x02\x08\x09\x12\x20", 32),
+        Asked::Build(b"\x1a\x02\x08\x09\x12\x200123456789abcdefghijklmnopqrstuv"),
         NO_KEY,
     ),
     (
         "AES-CMAC key, tags of 17",
         Manager::AesCmac,
-        Asked::Build(b"\x1a\x02\x08\x11\x12\x20", 32),
+        Asked::Build(b"\x1a\x02\x08\x11\x12\x200123456789abcdefghijklmnopqrstuv"),
         NO_KEY,
     ),
     (
         "AES-CMAC key, 16 bytes",
         Manager::AesCmac,
-        Asked::Build(b"\x1a\x02\x08\x10\x12\x10", 16),
+        Asked::Build(b"\x1a\x02\x08\x10\x12\x100123456789abcdef"),
         NO_KEY,
     ),
     (

@@ -6,6 +6,7 @@ ghost use Rattle.tink_daead.specs.Wrapped.{primary_encrypts};
 use crate::expecting::{Answer, expect, made};
 use std::alloc::Global;
 use tink_core::keyset::Handle;
+use tink_core::keyset::insecure::{decode, new_handle};
 use tink_core::registry::{KeyManager, Registry};
 use tink_core::{DeterministicAead, Kind, TinkError};
 use tink_daead::subtle::{AES_SIV_KEY_SIZE, AesSiv};
@@ -13,8 +14,8 @@ use tink_daead::{
     AES_SIV_KEY_VERSION, AES_SIV_TYPE_URL, AesSivKeyManager, DaeadKinds, WrappedDeterministicAead,
     aes_siv_key_template, init, law_ciphertexts_outlive_commands, law_old_ciphertexts_open, new,
 };
-use tink_proto::{Bytes, Key, KeyTemplate, OutputPrefixType};
-use tink_testutil::{Named, draws_of, enabled_key, gives, handle_of, registry_of};
+use tink_proto::{Bytes, KeyTemplate};
+use tink_testutil::{Named, draws_of, gives, registry_of};
 
 /// The primary key's prefix and its encryption of a text with associated data.
 fn sealed_by<P: DeterministicAead>(
@@ -29,8 +30,8 @@ fn sealed_by<P: DeterministicAead>(
 }
 
 enum Asked {
-    // To build a key of a message, which ends in so many bytes 7.
-    Build(&'static [u8], usize),
+    // To build a key of a message.
+    Build(&'static [u8]),
     // To make a key of a format, with so many draws, of which so many are left.
     Make(&'static [u8], usize, usize),
     // The template is of its URL, its format and its prefix.
@@ -47,12 +48,6 @@ enum Asked {
 }
 
 // ---- keys
-
-fn builds(alloc: Global, head: &[u8], size: usize) -> Result<bool, TinkError> {
-    let mut key = head.to_vec(alloc)?;
-    key.extend_from_slice(&[7; 64][..size.min(64)])?;
-    made(AesSivKeyManager::new().primitive(alloc, &key))
-}
 
 fn makes(alloc: Global, format: &[u8], n: usize, left: usize) -> Result<bool, TinkError> {
     let mut draws = draws_of(alloc, &[7; 70][..n.min(70)])?;
@@ -98,40 +93,24 @@ fn aead_of(alloc: Global, h: &Handle) -> Result<WrappedDeterministicAead<AesSiv>
     }
 }
 
-fn aead_by(
-    alloc: Global,
-    h: Result<Handle, TinkError>,
-) -> Result<WrappedDeterministicAead<AesSiv>, TinkError> {
-    match h {
-        Ok(h) => aead_of(alloc, &h),
+// A prefixed key of id 1 and a raw one of id 2, of which each byte is its id, in the wire format without a primary id.
+const KEYS: &[u8] =
+    b"\x12\x80\x01\x0a\x78\x0a\x30type.googleapis.com/google.crypto.tink.AesSivKey\x12\x42\x12\x40\x01\x01\x01\x01\x01\x01\x01\x01\x01\x01\x01\x01\x01\x01\x01\x01\x01\x01\x01\x01\x01\x01\x01\x01\x01\x01\x01\x01\x01\x01\x01\x01\x01\x01\x01\x01\x01\x01\x01\x01\x01\x01\x01\x01\x01\x01\x01\x01\x01\x01\x01\x01\x01\x01\x01\x01\x01\x01\x01\x01\x01\x01\x01\x01\x18\x01\x10\x01\x18\x01\x20\x01\x12\x80\x01\x0a\x78\x0a\x30type.googleapis.com/google.crypto.tink.AesSivKey\x12\x42\x12\x40\x02\x02\x02\x02\x02\x02\x02\x02\x02\x02\x02\x02\x02\x02\x02\x02\x02\x02\x02\x02\x02\x02\x02\x02\x02\x02\x02\x02\x02\x02\x02\x02\x02\x02\x02\x02\x02\x02\x02\x02\x02\x02\x02\x02\x02\x02\x02\x02\x02\x02\x02\x02\x02\x02\x02\x02\x02\x02\x02\x02\x02\x02\x02\x02\x18\x01\x10\x01\x18\x02\x20\x03";
+
+fn handle(alloc: Global, primary: u32) -> Result<Handle, TinkError> {
+    match decode(alloc, KEYS) {
+        Ok(mut ks) => {
+            ks.primary_key_id = primary;
+            new_handle(ks)
+        }
         Err(e) => Err(e),
     }
 }
 
-// Adds an enabled key, of which each byte is its id.
-fn push(
-    alloc: Global,
-    keys: &mut Vec<Key>,
-    prefix: OutputPrefixType,
-    id: u8,
-) -> Result<(), TinkError> {
-    let mut value = [id; 66];
-    value[0] = 0x12;
-    value[1] = 64;
-    let key = enabled_key(alloc, AES_SIV_TYPE_URL, &value, prefix, u32::from(id))?;
-    Ok(keys.push(key)?)
-}
-
-fn add_two(alloc: Global, keys: &mut Vec<Key>) -> Result<(), TinkError> {
-    push(alloc, keys, OutputPrefixType::Tink, 1)?;
-    push(alloc, keys, OutputPrefixType::Raw, 2)
-}
-
-// The AEADs of a prefixed key of id 1 and a raw one of id 2, of which one is primary.
+// Their AEADs, of which one is primary.
 fn two_keys(alloc: Global, primary: u32) -> Result<WrappedDeterministicAead<AesSiv>, TinkError> {
-    let mut keys = Vec::new(alloc);
-    match add_two(alloc, &mut keys) {
-        Ok(()) => aead_by(alloc, handle_of(primary, keys)),
+    match handle(alloc, primary) {
+        Ok(h) => aead_of(alloc, &h),
         Err(e) => Err(e),
     }
 }
@@ -166,7 +145,7 @@ fn opened(
 
 fn answered(alloc: Global, asked: &Asked) -> Result<bool, TinkError> {
     match asked {
-        Asked::Build(head, size) => builds(alloc, head, *size),
+        Asked::Build(key) => made(AesSivKeyManager::new().primitive(alloc, key)),
         Asked::Make(format, n, left) => makes(alloc, format, *n, *left),
         Asked::Template => is_template(aes_siv_key_template(alloc)),
         Asked::RegisterTwice => registers_twice(alloc, &mut Registry::new(alloc)),
@@ -200,10 +179,28 @@ const RAW_LONGER: &[u8] =
 
 // The bytes of a key are field 2 of its message, and its version field 1; the size of keys is field 1 of a format.
 const ROWS: &[(&str, Asked, Answer)] = &[
-    ("64 bytes", Asked::Build(b"\x12\x40", 64), Ok(true)),
-    ("32 bytes", Asked::Build(b"\x12\x20", 32), INVALID),
-    ("48 bytes", Asked::Build(b"\x12\x30", 48), INVALID),
-    ("version 1", Asked::Build(b"\x08\x01\x12\x40", 64), INVALID),
+    (
+        "64 bytes",
+        Asked::Build(b"\x12\x400123456789abcdefghijklmnopqrstuvwxyzABCDEFGHIJKLMNOPQRSTUVWXYZ+-"),
+        Ok(true),
+    ),
+    (
+        "32 bytes",
+        Asked::Build(b"\x12\x200123456789abcdefghijklmnopqrstuv"),
+        INVALID,
+    ),
+    (
+        "48 bytes",
+        Asked::Build(b"\x12\x300123456789abcdefghijklmnopqrstuvwxyzABCDEFGHIJKL"),
+        INVALID,
+    ),
+    (
+        "version 1",
+        Asked::Build(
+            b"\x08\x01\x12\x400123456789abcdefghijklmnopqrstuvwxyzABCDEFGHIJKLMNOPQRSTUVWXYZ+-",
+        ),
+        INVALID,
+    ),
     ("70 draws", Asked::Make(b"\x08\x40", 70, 6), Ok(true)),
     (
         "63 draws",
@@ -257,18 +254,14 @@ const ROWS: &[(&str, Asked, Answer)] = &[
     ),
 ];
 
+/// Each row, and that the laws hold of these types.
 #[test]
 fn keys_and_keysets_are_as_the_rows_say(rt: HostRuntime) {
+    law_old_ciphertexts_open::<AesSivKeyManager, AesSiv>();
+    law_ciphertexts_outlive_commands::<AesSivKeyManager, AesSiv>();
     for (row, asked, want) in ROWS {
         expect(&rt, answered(rt.alloc(), asked), *want, row);
     }
     let told = AES_SIV_KEY_VERSION == 0 && AES_SIV_KEY_SIZE == 64;
     expect(&rt, Ok(told), Ok(true), "the version and the size");
-}
-
-// The laws hold of these types.
-#[test]
-fn laws_are_called(_rt: HostRuntime) {
-    law_old_ciphertexts_open::<AesSivKeyManager, AesSiv>();
-    law_ciphertexts_outlive_commands::<AesSivKeyManager, AesSiv>();
 }

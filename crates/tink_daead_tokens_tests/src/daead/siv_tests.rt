@@ -66,35 +66,6 @@ const TEXT: &[u8] = b"\x11\x22\x33\x44\x55\x66\x77\x88\x99\xaa\xbb\xcc\xdd\xee";
 const SEALED: &[u8] =
     b"\x85\x63\x2d\x07\xc6\xe8\xf3\x7f\x95\x0a\xcd\x32\x0a\x2e\xcc\x93\x40\xc0\x2b\x96\x90\xc4\xdc\x04\xda\xef\x7f\x6a\xfe\x5c";
 
-#[test]
-fn the_vector_of_the_standard(rt: HostRuntime) {
-    let made = made_by(rt.alloc(), KEY, TEXT, DATA);
-    expect(&rt, gives(made, SEALED), Ok(true), "A.1");
-}
-
-// The bytes of a key, of data and of a text, and the first eight bytes of the SHA-256 of what is made of them by
-// pyca/cryptography 48, as a number.
-const ROWS: [(usize, usize, usize, u64); 18] = [
-    (32, 17, 0, 0x17df09ecc3c8d113),
-    (32, 31, 1, 0xea30502eda124a92),
-    (32, 32, 15, 0x8b79e09a0e38077e),
-    (32, 64, 16, 0x500b28b5c2e8338e),
-    (32, 1000, 17, 0x88e2859c605aaff9),
-    (32, 0, 31, 0xb11f6fa9373c3100),
-    (32, 1, 32, 0x7868ffadb6451cd5),
-    (32, 15, 64, 0x8a1227bab17232fa),
-    (32, 16, 1000, 0xdb7893bb798dd714),
-    (64, 17, 0, 0xe2242c1dd4a5f31a),
-    (64, 31, 1, 0x6d377940592fa346),
-    (64, 32, 15, 0x8a3c01836df9edbe),
-    (64, 64, 16, 0x580afcc50a1c0172),
-    (64, 1000, 17, 0x3abbfaa9cb784afc),
-    (64, 0, 31, 0x7858ffb33bda8fd7),
-    (64, 1, 32, 0x325c1720dbc47599),
-    (64, 15, 64, 0x35652a2f73ae59ef),
-    (64, 16, 1000, 0x2b345a6a07429300),
-];
-
 // So many bytes, each by a step more than the one before it.
 fn stepped(alloc: Global, size: usize, first: u8, step: u8) -> Result<Vec<u8>, TinkError> {
     let mut bytes = Vec::new(alloc);
@@ -117,18 +88,17 @@ fn has_digest(made: Result<Bytes, TinkError>, digest: u64) -> Result<bool, TinkE
     }
 }
 
-fn holds(alloc: Global, row: &(usize, usize, usize, u64)) -> Result<bool, TinkError> {
-    let key = stepped(alloc, row.0, 7, 5)?;
-    let data = stepped(alloc, row.1, 1, 7)?;
-    let text = stepped(alloc, row.2, 3, 11)?;
-    has_digest(made_by(alloc, &key, &text, &data), row.3)
-}
-
-#[test]
-fn outside_vectors_of_all_sizes(rt: HostRuntime) {
-    for row in &ROWS {
-        expect(&rt, holds(rt.alloc(), row), Ok(true), "an outside vector");
-    }
+fn holds(
+    alloc: Global,
+    key: usize,
+    data: usize,
+    text: usize,
+    digest: u64,
+) -> Result<bool, TinkError> {
+    let key = stepped(alloc, key, 7, 5)?;
+    let data = stepped(alloc, data, 1, 7)?;
+    let text = stepped(alloc, text, 3, 11)?;
+    has_digest(made_by(alloc, &key, &text, &data), digest)
 }
 
 // By what these bytes are refused with this data, if they are.
@@ -171,16 +141,6 @@ fn refuses_all_changes(alloc: Global) -> Result<bool, TinkError> {
     }
 }
 
-#[test]
-fn each_changed_bit_is_refused(rt: HostRuntime) {
-    expect(
-        &rt,
-        refuses_all_changes(rt.alloc()),
-        Ok(true),
-        "the changes",
-    );
-}
-
 // Whether a key of so many bytes is taken or refused as it is to be.
 fn is_key_told(alloc: Global, bytes: &[u8]) -> bool {
     let is_known = bytes.len() == 32 || bytes.len() == 64;
@@ -212,12 +172,115 @@ fn are_told(alloc: Global, aead: &AesSiv) -> bool {
     all
 }
 
-#[test]
-fn keys_of_two_sizes_and_inputs_of_16_bytes(rt: HostRuntime) {
-    let alloc = rt.alloc();
-    let told = match AesSiv::new(alloc, &[0; 32]) {
+fn are_all_told(alloc: Global) -> Result<bool, TinkError> {
+    match AesSiv::new(alloc, &[0; 32]) {
         Ok(aead) => Ok(are_told(alloc, &aead)),
         Err(e) => Err(e),
-    };
-    expect(&rt, told, Ok(true), "keys and inputs");
+    }
+}
+
+enum Asked {
+    // The vector of the standard.
+    Standard,
+    // What is made with a key, data and a text of these sizes has a SHA-256 that begins with these eight bytes.
+    Made(usize, usize, usize, u64),
+    // Each changed bit is refused.
+    Changes,
+    // Keys of two sizes are taken, and inputs of 16 bytes or more are tried.
+    Sizes,
+}
+
+fn answered(alloc: Global, asked: &Asked) -> Result<bool, TinkError> {
+    match asked {
+        Asked::Standard => gives(made_by(alloc, KEY, TEXT, DATA), SEALED),
+        Asked::Made(key, data, text, digest) => holds(alloc, *key, *data, *text, *digest),
+        Asked::Changes => refuses_all_changes(alloc),
+        Asked::Sizes => are_all_told(alloc),
+    }
+}
+
+// The digests are of what pyca/cryptography 48 makes.
+const ROWS: &[(&str, Asked)] = &[
+    ("A.1", Asked::Standard),
+    (
+        "a key of 32 bytes, data of 17 and a text of 0",
+        Asked::Made(32, 17, 0, 0x17df09ecc3c8d113),
+    ),
+    (
+        "a key of 32 bytes, data of 31 and a text of 1",
+        Asked::Made(32, 31, 1, 0xea30502eda124a92),
+    ),
+    (
+        "a key of 32 bytes, data of 32 and a text of 15",
+        Asked::Made(32, 32, 15, 0x8b79e09a0e38077e),
+    ),
+    (
+        "a key of 32 bytes, data of 64 and a text of 16",
+        Asked::Made(32, 64, 16, 0x500b28b5c2e8338e),
+    ),
+    (
+        "a key of 32 bytes, data of 1000 and a text of 17",
+        Asked::Made(32, 1000, 17, 0x88e2859c605aaff9),
+    ),
+    (
+        "a key of 32 bytes, data of 0 and a text of 31",
+        Asked::Made(32, 0, 31, 0xb11f6fa9373c3100),
+    ),
+    (
+        "a key of 32 bytes, data of 1 and a text of 32",
+        Asked::Made(32, 1, 32, 0x7868ffadb6451cd5),
+    ),
+    (
+        "a key of 32 bytes, data of 15 and a text of 64",
+        Asked::Made(32, 15, 64, 0x8a1227bab17232fa),
+    ),
+    (
+        "a key of 32 bytes, data of 16 and a text of 1000",
+        Asked::Made(32, 16, 1000, 0xdb7893bb798dd714),
+    ),
+    (
+        "a key of 64 bytes, data of 17 and a text of 0",
+        Asked::Made(64, 17, 0, 0xe2242c1dd4a5f31a),
+    ),
+    (
+        "a key of 64 bytes, data of 31 and a text of 1",
+        Asked::Made(64, 31, 1, 0x6d377940592fa346),
+    ),
+    (
+        "a key of 64 bytes, data of 32 and a text of 15",
+        Asked::Made(64, 32, 15, 0x8a3c01836df9edbe),
+    ),
+    (
+        "a key of 64 bytes, data of 64 and a text of 16",
+        Asked::Made(64, 64, 16, 0x580afcc50a1c0172),
+    ),
+    (
+        "a key of 64 bytes, data of 1000 and a text of 17",
+        Asked::Made(64, 1000, 17, 0x3abbfaa9cb784afc),
+    ),
+    (
+        "a key of 64 bytes, data of 0 and a text of 31",
+        Asked::Made(64, 0, 31, 0x7858ffb33bda8fd7),
+    ),
+    (
+        "a key of 64 bytes, data of 1 and a text of 32",
+        Asked::Made(64, 1, 32, 0x325c1720dbc47599),
+    ),
+    (
+        "a key of 64 bytes, data of 15 and a text of 64",
+        Asked::Made(64, 15, 64, 0x35652a2f73ae59ef),
+    ),
+    (
+        "a key of 64 bytes, data of 16 and a text of 1000",
+        Asked::Made(64, 16, 1000, 0x2b345a6a07429300),
+    ),
+    ("the changes", Asked::Changes),
+    ("keys and inputs", Asked::Sizes),
+];
+
+#[test]
+fn aes_siv_is_as_the_rows_say(rt: HostRuntime) {
+    for (row, asked) in ROWS {
+        expect(&rt, answered(rt.alloc(), asked), Ok(true), row);
+    }
 }

@@ -44,8 +44,9 @@ fn rotate(
     registry: &Registry<HmacKeyManager>,
     manager: &mut Manager,
 ) -> Result<u32, TinkError> {
+    let mut draws = draws_of(alloc, DRAWS)?;
     match hmac_sha256_tag128_key_template(alloc) {
-        Ok(kt) => manager.rotate(alloc, &kt, registry, &mut draws_of(alloc, DRAWS)?),
+        Ok(kt) => manager.rotate(alloc, &kt, registry, &mut draws),
         Err(e) => Err(e),
     }
 }
@@ -120,8 +121,9 @@ pub fn macs(
 
 // A handle of a new key of AES-CMAC.
 fn cmac_handle(alloc: Global, registry: &Registry<AesCmacKeyManager>) -> Result<Handle, TinkError> {
+    let mut draws = draws_of(alloc, DRAWS)?;
     match aes_cmac_tag128_key_template(alloc) {
-        Ok(kt) => Handle::new(alloc, &kt, registry, &mut draws_of(alloc, DRAWS)?),
+        Ok(kt) => Handle::new(alloc, &kt, registry, &mut draws),
         Err(e) => Err(e),
     }
 }

@@ -184,34 +184,28 @@ fn answered_of(
     }
 }
 
+const TABLES: &[&[Row]] = &[KNOWN, REFUSED];
+
 fn walk(rt: &impl Abort, alloc: Global, registry: &Registry<HmacKeyManager>) {
-    for rows in [KNOWN, REFUSED] {
-        for (row, keys, asked, want) in rows {
+    for rows in TABLES {
+        for (row, keys, asked, want) in *rows {
             let got = answered_of(alloc, macs(alloc, registry, keys), asked);
             expect(rt, got, *want, row);
         }
     }
 }
 
+/// Each row, and that the laws hold of these types.
 #[test]
 fn tokens_are_as_the_rows_say(rt: HostRuntime) {
     let alloc = rt.alloc();
+    law_signed_tokens_verify::<HmacKeyManager, MacKind>();
+    law_old_tokens_verify::<HmacKeyManager, MacKind>();
+    law_tokens_outlive_commands::<AesCmacKeyManager, MacKind>();
     match registry_of(alloc, HmacKeyManager::new()) {
         Ok(registry) => walk(&rt, alloc, &registry),
         Err(e) => expect(&rt, Err(e), Ok(true), "the registry"),
     }
-}
-
-#[test]
-fn payloads_come_back_by_aes_cmac(rt: HostRuntime) {
-    let got = answered_of(rt.alloc(), cmacs(rt.alloc()), &Asked::ComeBack);
-    expect(&rt, got, Ok(true), "payloads of 0 to 70 bytes");
-}
-
-// The laws hold of these types.
-#[test]
-fn laws_are_called(_rt: HostRuntime) {
-    law_signed_tokens_verify::<HmacKeyManager, MacKind>();
-    law_old_tokens_verify::<HmacKeyManager, MacKind>();
-    law_tokens_outlive_commands::<AesCmacKeyManager, MacKind>();
+    let got = answered_of(alloc, cmacs(alloc), &Asked::ComeBack);
+    expect(&rt, got, Ok(true), "payloads of 0 to 70 bytes by AES-CMAC");
 }

@@ -28,16 +28,18 @@ type Macs = Registry<HmacKeyManager>;
 
 // A handle of one key by the template, of draws 3.
 fn handle_of_draws(alloc: Global, registry: &Macs) -> Result<Handle, TinkError> {
+    let mut draws = draws_of(alloc, &[3; 36])?;
     match hmac_sha256_tag128_key_template(alloc) {
-        Ok(kt) => Handle::new(alloc, &kt, registry, &mut draws_of(alloc, &[3; 36])?),
+        Ok(kt) => Handle::new(alloc, &kt, registry, &mut draws),
         Err(e) => Err(e),
     }
 }
 
 // Adds a new primary key by the template, of draws 4.
 fn rotate(alloc: Global, registry: &Macs, manager: &mut Manager) -> Result<u32, TinkError> {
+    let mut draws = draws_of(alloc, &[4; 36])?;
     match hmac_sha256_tag128_key_template(alloc) {
-        Ok(kt) => manager.rotate(alloc, &kt, registry, &mut draws_of(alloc, &[4; 36])?),
+        Ok(kt) => manager.rotate(alloc, &kt, registry, &mut draws),
         Err(e) => Err(e),
     }
 }

@@ -27,8 +27,9 @@ fn set_of(alloc: Global, keyset: &[u8]) -> Result<Set<HmacPrf>, TinkError> {
 
 // A handle of one key by the template of HMAC, from the draws 1 to 36.
 fn new_handle(alloc: Global, registry: &Registry<HmacPrfKeyManager>) -> Result<Handle, TinkError> {
+    let mut draws = draws_of(alloc, &COUNT[..36])?;
     match hmac_sha256_prf_key_template(alloc) {
-        Ok(kt) => Handle::new(alloc, &kt, registry, &mut draws_of(alloc, &COUNT[..36])?),
+        Ok(kt) => Handle::new(alloc, &kt, registry, &mut draws),
         Err(e) => Err(e),
     }
 }
