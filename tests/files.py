@@ -80,6 +80,12 @@ def key_files():
     check(not os.path.exists("none.json") and drafts() == [], "a refusal leaves nothing")
     os.symlink("nowhere", "link.json")
     tink("new", "AES256_GCM_HKDF_1MB", "-o", "link.json", status=12, says="it is there already")
+    write("listed.json", b"""{"primaryKeyId": 7, "key": [
+ {"keyData": {"typeUrl": "type.googleapis.com/google.crypto.tink.AesGcmHkdfStreamingKey", "value": "AAEC", "keyMaterialType": "SYMMETRIC"}, "status": "ENABLED", "keyId": 7, "outputPrefixType": "RAW"},
+ {"status": "DESTROYED", "keyId": 8, "outputPrefixType": "TINK"}]}
+""")
+    listing = b"7\tenabled\tRAW\tAesGcmHkdfStreamingKey\tprimary\n8\tdestroyed\tTINK\t-\n"
+    check(tink("keys", "listed.json") == listing, "a listing")
     other = {tink("new", "AES128_GCM_HKDF_4KB", "-o", f"drawn{i}") or read(f"drawn{i}") for i in range(5)}
     check(len(other) == 5, "keys differ")
 

@@ -32,7 +32,7 @@ fn texts_are_told(alloc: Global) -> Result<bool, AllocError> {
         "{}; {}; {:?}",
         Shift::new(&[1]),
         InvalidLength,
-        zero_tweak()
+        zero_tweak().clone()?
     )?;
     Ok(shown.as_str() == "Shift; Invalid Length; ZeroTweak(Tweaked)")
 }

@@ -262,8 +262,8 @@ fn gives_set(alloc: Global, rows: &[KeyRow], of_macs: bool) -> Result<bool, Tink
 
 const WRONG: Answer = Err(Kind::WrongPrimitive);
 
-// Keys, of which 7 is the primary id, and whether MACs are asked for, and else AEADs. A streaming key of another id than the primary one is refused
-// for that first.
+// Keys, of which 7 is the primary id, and whether MACs are asked for, and else AEADs. A streaming key of another id than
+// the primary one is refused for that first.
 const HANDLES: &[(&str, &[KeyRow], bool, Answer)] = &[
     (
         "two AEADs",

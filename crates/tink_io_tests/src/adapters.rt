@@ -27,7 +27,7 @@ pub enum Answer {
 }
 
 impl Flaky {
-    /// That many of each.
+    /// One of which so many calls and so many flushes are interrupted.
     pub fn new(interrupts: u32, flush_interrupts: u32, answer: Answer) -> Flaky {
         Flaky {
             interrupts,

@@ -17,7 +17,7 @@ type Write<'a> = (&'a [u8], Result<usize, Failed>);
 // How many of two nines a take may fill, its answer, what stands in the two, and how many bytes are left.
 type Take = (usize, Result<(), TinkError>, [u8; 2], usize);
 
-// The number of the first call of a row that is not as the row says, and whether what is left by the calls is as it says.
+// The number of the first call of a row that is not as the row says, and whether what else the row says is so.
 type Told = Result<(Option<usize>, bool), TinkError>;
 
 // A read to the first `len` of four nines: its answer, and what stands in the four.
@@ -76,9 +76,11 @@ fn sure(alloc: Global, bytes: &[u8]) -> Result<SureSource, TinkError> {
     Ok(SureSource::new(Vec::from_slice(alloc, bytes)?))
 }
 
-// The first wrong read of a source whose first byte was read while it was lent.
+// The first wrong read of a source whose first byte, a 1, was read while it was lent.
 fn after_a_lent_read(source: &mut SureSource, reads: &[Read]) -> Option<usize> {
-    let _told = read_to(&mut Lent(source), 1);
+    if read_to(&mut Lent(source), 1) != (Ok(1), [1, 9, 9, 9]) {
+        return Some(0);
+    }
     wrong_read(source, reads)
 }
 
@@ -105,7 +107,7 @@ fn pieces_taken(mut sink: MemSink, writes: &[Write<'_>]) -> (Option<usize>, bool
     )
 }
 
-// The same of a sink that has no room at first, and then room for three.
+// The same of a sink that has no room at first, and then room for three: its bytes are "wxy".
 fn sure_taken(alloc: Global, writes: &[Write<'_>]) -> Told {
     let mut sink = SureSink::new(alloc);
     let refused = sink.write(b"x") == Err(Failed);
@@ -118,7 +120,7 @@ fn sure_taken(alloc: Global, writes: &[Write<'_>]) -> Told {
     ))
 }
 
-// The same of a sink that is lent.
+// The first wrong write to a sink that is lent, and whether its bytes are "a" then.
 fn lent_taken(alloc: Global, writes: &[Write<'_>]) -> Told {
     let mut sink = SureSink::new(alloc);
     sink.reserve(alloc, 2)?;
@@ -126,7 +128,7 @@ fn lent_taken(alloc: Global, writes: &[Write<'_>]) -> Told {
     Ok((wrong, sink.bytes() == b"a".as_slice()))
 }
 
-// The same of std's writer to five places.
+// The first wrong write to std's writer to five places, and whether these are "abcde" then.
 fn slice_taken(writes: &[Write<'_>]) -> (Option<usize>, bool) {
     let mut room = [0u8; 5];
     let mut rest: &mut [u8] = &mut room;

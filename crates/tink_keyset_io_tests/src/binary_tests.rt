@@ -102,7 +102,7 @@ fn gives_keyset(alloc: Global, zeros: usize, bytes: &[u8]) -> Result<bool, TinkE
 }
 
 #[test]
-fn a_source_gives_its_keyset_up_to_67108864_bytes(rt: HostRuntime) {
+fn a_source_gives_its_keyset_and_no_more_than_67108864_bytes(rt: HostRuntime) {
     let keyset = gives_keyset(rt.alloc(), 0, KEYSET);
     expect(&rt, keyset, Ok(true), "the keyset");
     let more = gives_keyset(rt.alloc(), 67_108_865, b"");

@@ -63,6 +63,8 @@ pub enum Step {
     Read(How, &'static [u8]),
     /// One with an info of these bytes is.
     Info(How, &'static [u8]),
+    /// One is read so, and written so.
+    Again(How, How),
     /// The end takes a keyset of these bytes, or an encrypted one, whatever it is.
     Put(&'static [u8]),
     PutEncrypted(&'static [u8]),
@@ -174,6 +176,10 @@ pub fn answered<E: Reader + Writer>(
         Step::Write(how, keys) => made(write_of(alloc, end, how, handle(alloc, keys), draws)),
         Step::Read(how, keys) => gives(bytes_by(alloc, read(alloc, end, how)), keys),
         Step::Info(how, want) => has_info(alloc, read(alloc, end, how), want),
+        Step::Again(from, to) => {
+            let h = read(alloc, end, from);
+            made(write_of(alloc, end, to, h, draws))
+        }
         Step::Put(bytes) => made(put(alloc, end, decode(alloc, bytes))),
         Step::PutEncrypted(bytes) => made(put_encrypted(alloc, end, bytes)),
         Step::Law(other) => {
@@ -198,7 +204,7 @@ fn shows(
 ) -> Result<bool, TinkError> {
     match encrypted {
         Some(ks) => match &ks.keyset_info {
-            Some(info) => is_info(alloc, info, want),
+            Some(info) => Ok(!want.is_empty() && is_info(alloc, info, want) == Ok(true)),
             None => Ok(want.is_empty()),
         },
         None => Ok(false),

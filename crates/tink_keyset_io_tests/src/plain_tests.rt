@@ -1,4 +1,4 @@
-//! Keysets as they are, through memory.
+//! The rows of keysets as they are, through memory.
 
 use crate::encrypted_tests::{How, Kept, PUBLIC, Row, Step, TWO};
 use crate::expecting::Answer;
@@ -67,6 +67,27 @@ pub const PLAIN: &[Row] = &[
     (
         "a destroyed key is read",
         Step::Read(How::Plain, DESTROYED),
+        Ok(true),
+        Kept::Keyset,
+        0,
+    ),
+    (
+        "a destroyed key that was read is written as it is",
+        Step::Again(How::Plain, How::AsItIs),
+        Ok(true),
+        Kept::Keyset,
+        0,
+    ),
+    (
+        "it is read as it is",
+        Step::Read(How::AsItIs, DESTROYED),
+        Ok(true),
+        Kept::Keyset,
+        0,
+    ),
+    (
+        "a public key is there again",
+        Step::Put(PUBLIC),
         Ok(true),
         Kept::Keyset,
         0,

@@ -22,6 +22,15 @@ const LINES: &[u8] =
 const ENABLED: &[u8] =
     b"7\tenabled\tRAW\tAesGcmHkdfStreamingKey\tprimary\n8\tenabled\tTINK\tother?key\n";
 
+// The first key, and a destroyed one without data.
+const DESTROYED: &[u8] = b"{\"primaryKeyId\": 7, \"key\": [
+ {\"keyData\": {\"typeUrl\": \"type.googleapis.com/google.crypto.tink.AesGcmHkdfStreamingKey\", \"value\": \"AAEC\",
+ \"keyMaterialType\": \"SYMMETRIC\"}, \"status\": \"ENABLED\", \"keyId\": 7, \"outputPrefixType\": \"RAW\"},
+ {\"status\": \"DESTROYED\", \"keyId\": 8, \"outputPrefixType\": \"TINK\"}]}";
+
+const DESTROYED_LINES: &[u8] =
+    b"7\tenabled\tRAW\tAesGcmHkdfStreamingKey\tprimary\n8\tdestroyed\tTINK\t-\n";
+
 // The file with the first key of an id disabled, in the format that it has.
 fn disabled(alloc: Global, file: Vec<u8>, id: u32) -> Result<Bytes, TinkError>
     ensures { Answers result (edited_file file.items Disable id) }
@@ -53,7 +62,7 @@ fn lists_json(
     match file {
         Ok(bytes) => {
             if Format::of_file(bytes.as_slice()) == Format::Json {
-                lists(alloc, bytes.into_vec(), lines)
+                Ok(lists(alloc, bytes.into_vec(), lines) == Ok(true))
             } else {
                 Ok(false)
             }
@@ -62,7 +71,7 @@ fn lists_json(
     }
 }
 
-// The same of a file after an edit of the key of an id, or of the file itself.
+// Whether a file lists these keys, which after an edit of the key of an id is in JSON, or how the edit is refused.
 fn answered(
     alloc: Global,
     file: Vec<u8>,
@@ -78,6 +87,7 @@ fn answered(
 // A file, an edit, and the keys after it.
 const FILES: &[(&str, &[u8], Option<(Edit, u32)>, &[u8], Answer)] = &[
     ("the keys", KEYS, None, LINES, Ok(true)),
+    ("a destroyed key", DESTROYED, None, DESTROYED_LINES, Ok(true)),
     (
         "the keys after an edit",
         KEYS,

@@ -75,8 +75,6 @@ enum Step {
     HasIds(u32, u32),
     // There are so many keys.
     Count(usize),
-    // Each of four RAW keys is added, or refused for `OutOfMemory` and the keys left.
-    AddFour,
 }
 
 // What is told of the manager's keys.
@@ -170,7 +168,6 @@ fn does(
         }
         Step::HasIds(primary, last) => has_ids(alloc, manager, *primary, *last),
         Step::Count(n) => Ok(manager.key_count() == *n),
-        Step::AddFour => are_added_or_left(alloc, registry, manager),
     }
 }
 
@@ -246,9 +243,6 @@ const OF_NEW: &[Row] = &[
     ),
 ];
 
-// Those of another manager of one key.
-const OF_FOUR: &[Row] = &[("the keys and the ids", Step::AddFour, Ok(true))];
-
 fn walk(
     rt: &impl Abort,
     alloc: Global,
@@ -283,8 +277,7 @@ fn walk_all(
     registry: &Registry<TestManager>,
 ) -> Result<(), TinkError> {
     walk_with(rt, alloc, registry, manager_of_one(alloc), OF_ONE)?;
-    walk_with(rt, alloc, registry, manager_of_new(alloc, registry), OF_NEW)?;
-    walk_with(rt, alloc, registry, manager_of_one(alloc), OF_FOUR)
+    walk_with(rt, alloc, registry, manager_of_new(alloc, registry), OF_NEW)
 }
 
 // Whether a RAW key of the id is added.
@@ -308,8 +301,7 @@ const FOUR: &[(u8, How)] = &[
     (8, How::Primary),
 ];
 
-// Whether each call leaves the keys and the primary id or adds a key, and nearly all add one. One that is refused for
-// `OutOfMemory` leaves them.
+// Whether each call leaves the keys and the primary id or adds a key, and nearly all add one.
 fn are_added_or_left(
     alloc: Global,
     registry: &Registry<TestManager>,
@@ -344,6 +336,21 @@ fn a_manager_adds_keys(rt: HostRuntime) {
     expect(&rt, made(walked), Ok(true), "a registry and managers");
 }
 
+// What is so of a manager of one key and a registry of symmetric keys.
+fn four_are_added_or_left(alloc: Global) -> Result<bool, TinkError> {
+    match (registry_with(alloc, &Managed::Symmetric), manager_of_one(alloc)) {
+        (Ok(registry), Ok(mut manager)) => are_added_or_left(alloc, &registry, &mut manager),
+        _ => Err(TinkError::new(Kind::OutOfMemory)),
+    }
+}
+
+/// A call that is refused for `OutOfMemory` leaves the keys and the primary id, and one that isn't adds a key.
+#[test]
+fn a_key_is_added_or_the_keyset_is_left(rt: HostRuntime) {
+    let told = four_are_added_or_left(rt.alloc());
+    expect(&rt, told, Ok(true), "the keys and the ids");
+}
+
 // ---- public parts
 
 // Whether a keyset has the primary id 7 and no secrets.
@@ -368,7 +375,7 @@ fn public_is_no_secret(
     }
 }
 
-// The handle of one key of the id 7; of the material 0 it is a destroyed one without data.
+// The handle of one key of the id 7; of the material 0 it has a destroyed one of the id 8 without data.
 fn handle_of_material(alloc: Global, material: i32) -> Result<Handle, TinkError> {
     if material == 0 {
         return handle_of_one(alloc, 7, bare(3, 8));

@@ -8,7 +8,9 @@ use crate::key_messages::CTR_HMAC_KEYSET;
 use crate::spelled::{Answer, is_written};
 use std::alloc::Global;
 use tink_json::Json;
-use tink_proto::{EncryptedKeyset, Keyset, Message, ProtoError};
+use tink_proto::{
+    Bytes, EncryptedKeyset, KeyInfo, Keyset, KeysetInfo, Message, ProtoError, Repeated, Text,
+};
 
 // That of CTR_HMAC_KEYSET.
 const KEYSET: &str = "{
@@ -76,8 +78,28 @@ fn is_told<M: Json>(alloc: Global, read: Result<M, ProtoError>, text: &str) -> A
     }
 }
 
+// The encrypted keyset of ENCRYPTED, of values.
+fn encrypted(alloc: Global) -> Result<EncryptedKeyset, ProtoError> {
+    let info = KeyInfo {
+        type_url: Text::from_str(alloc, "a\"b")?,
+        status: 7,
+        key_id: 0,
+        output_prefix_type: -1,
+    };
+    let info = KeysetInfo {
+        primary_key_id: 4294967295,
+        key_info: Repeated::from_vec(vec![in alloc; info]?),
+    };
+    Ok(EncryptedKeyset {
+        encrypted_keyset: Bytes::from_slice(alloc, b"\xff\xfe")?,
+        keyset_info: Some(info),
+    })
+}
+
 // What is asked of a text and of bytes.
 enum Asked {
+    // The encrypted keyset of values is written as the text.
+    Made,
     // A keyset is read from the text, and written as it.
     Read,
     Write,
@@ -88,6 +110,7 @@ enum Asked {
 
 fn answered(alloc: Global, asked: &Asked, text: &str, bytes: &[u8]) -> Answer {
     match asked {
+        Asked::Made => is_told(alloc, encrypted(alloc), text),
         Asked::Read => is_read(alloc, keyset_of(alloc, text.as_bytes()), bytes),
         Asked::Write => is_told(alloc, Keyset::decode(alloc, bytes), text),
         Asked::ReadEncrypted => {
@@ -107,6 +130,7 @@ const REFUSED: Answer = Err(ProtoError::BadJson);
 const TEXTS: &[(Asked, &str, &[u8], Answer)] = &[
     (Asked::Read, KEYSET, CTR_HMAC_KEYSET, Ok(true)),
     (Asked::Write, KEYSET, CTR_HMAC_KEYSET, Ok(true)),
+    (Asked::Made, ENCRYPTED, b"", Ok(true)),
     (Asked::ReadEncrypted, ENCRYPTED, ENCRYPTED_BYTES, Ok(true)),
     (Asked::WriteEncrypted, ENCRYPTED, ENCRYPTED_BYTES, Ok(true)),
     // No field.

@@ -226,7 +226,7 @@ fn spells_format(alloc: Global, of: &Format, bytes: &[u8]) -> Answer {
     }
 }
 
-/// Formats of a size.
+/// Formats of keys of ciphers and of AES-CMAC.
 enum SizeFormat {
     AesGcmKeyFormat,
     AesGcmSivKeyFormat,
@@ -318,7 +318,7 @@ fn spells_mac_format(alloc: Global, of: &MacFormat, bytes: &[u8]) -> Answer {
     }
 }
 
-/// Keys of AEADs.
+/// Keys of ciphers.
 enum CipherKey {
     AesGcmKey,
     AesGcmSivKey,
@@ -405,7 +405,7 @@ fn spells_params_key(alloc: Global, of: &ParamsKey, value: Bytes, bytes: &[u8]) 
     }
 }
 
-/// Keys of MACs, and what holds a salt.
+/// Keys of MACs and of functions, and what holds a salt.
 enum MacKey {
     HmacKey,
     AesCmacKey,

@@ -7,11 +7,12 @@ ghost use Rattle.tink_proto.specs.Messages.{keyset};
 
 use crate::expect::expect;
 use crate::key_messages::{CTR_HMAC_KEYSET, GCM_KEYSET};
-use crate::spelled::{Answer, is_written_as};
+use crate::spelled::{Answer, is_written, is_written_as};
 use std::alloc::Global;
 use tink_proto::{
-    EncryptedKeyset, HashType, Key, KeyData, KeyInfo, KeyMaterialType, KeyStatusType, KeyTemplate,
-    Keyset, KeysetInfo, Message, OutputPrefixType, ProtoError, UnknownValue,
+    Bytes, EncryptedKeyset, HashType, Key, KeyData, KeyInfo, KeyMaterialType, KeyStatusType,
+    KeyTemplate, Keyset, KeysetInfo, Message, OutputPrefixType, ProtoError, Repeated, Text,
+    UnknownValue,
 };
 
 /// URL "x", value 07, material 1.
@@ -127,8 +128,37 @@ fn is_read(alloc: Global, of: &Told, bytes: &[u8]) -> Answer {
     }
 }
 
+/// The keyset of NEGATIVE, of values.
+fn negative_keyset(alloc: Global) -> Result<Keyset, ProtoError> {
+    let data = KeyData {
+        type_url: Text::from_string(String::new(alloc)),
+        value: Bytes::from_vec(Vec::new(alloc)),
+        key_material_type: 0,
+    };
+    let key = Key {
+        key_data: Some(data),
+        status: -2,
+        key_id: 0,
+        output_prefix_type: 0,
+    };
+    let keys = vec![in alloc; key]?;
+    Ok(Keyset {
+        primary_key_id: 0,
+        key: Repeated::from_vec(keys),
+    })
+}
+
+fn is_negative_written(alloc: Global, want: &[u8]) -> Answer {
+    match negative_keyset(alloc) {
+        Ok(keyset) => is_written(alloc, &keyset, want),
+        Err(e) => Err(e),
+    }
+}
+
 /// What is asked of bytes.
 enum Asked {
+    /// Whether a keyset of values is written as wanted.
+    Made,
     /// Whether each field is read.
     Read(Told),
     /// Whether a copy of the message that they spell is written as wanted.
@@ -143,6 +173,7 @@ enum Asked {
 
 fn answered(alloc: Global, asked: &Asked, bytes: &[u8], want: &[u8]) -> Answer {
     match asked {
+        Asked::Made => is_negative_written(alloc, want),
         Asked::Read(of) => is_read(alloc, of, bytes),
         Asked::KeyData => is_written_as::<KeyData>(alloc, bytes, want),
         Asked::Key => is_written_as::<Key>(alloc, bytes, want),
@@ -186,6 +217,7 @@ const ROWS: &[(&str, Asked, &[u8], &[u8], Answer)] = &[
         b"",
         Ok(true),
     ),
+    ("a keyset of values", Asked::Made, b"", NEGATIVE, Ok(true)),
     // What is read is written again.
     ("key data", Asked::KeyData, KEY_DATA, KEY_DATA, Ok(true)),
     ("a key", Asked::Key, KEY, KEY, Ok(true)),

@@ -108,8 +108,6 @@ enum Step {
     Prefix(OutputPrefixType, &'static [u8]),
     // The sizes of prefixes and their first bytes.
     Constants,
-    // Eighteen entries are added, or refused for `OutOfMemory` and the set left.
-    AddEighteen,
 }
 
 // Whether an entry that is lent has the number.
@@ -198,7 +196,6 @@ fn answered(
         Step::Count(prefix, n) => Ok(set.entries_for_prefix(prefix).len() == *n),
         Step::Prefix(prefix, want) => gives(output_prefix(alloc, &key_of(*prefix, 1)), want),
         Step::Constants => Ok(are_constants()),
-        Step::AddEighteen => Ok(adds_or_leaves(alloc, set)),
     }
 }
 
@@ -280,11 +277,6 @@ const STEPS: &[(&str, Step, Answer)] = &[
         Step::Add(How::Id, 6, RAW, 1),
         Ok(true),
     ),
-    (
-        "eighteen entries beside four RAW ones and a TINK one",
-        Step::AddEighteen,
-        Ok(true),
-    ),
 ];
 
 fn walk(rt: &impl Abort, alloc: Global, set: &mut PrimitiveSet<TestKinds>) {
@@ -303,10 +295,10 @@ fn has_entries(set: &PrimitiveSet<TestKinds>, raws: usize, tinks: usize) -> bool
     set.raw_entries().len() == raws && set.entries_for_prefix(&[1, 1, 2, 3, 4]).len() == tinks
 }
 
-// Whether each entry is added to four RAW ones and a TINK one, or the set is left; and nearly all are added.
+// Whether each entry is added, or the set is left; and nearly all are added.
 fn adds_or_leaves(alloc: Global, set: &mut PrimitiveSet<TestKinds>) -> bool {
-    let mut raws: usize = 4;
-    let mut tinks: usize = 1;
+    let mut raws: usize = 0;
+    let mut tinks: usize = 0;
     let mut holds = true;
     for number in 0..9 {
         let raw = add(alloc, set, &How::Put, number, &key_of(RAW, 1));
@@ -315,7 +307,15 @@ fn adds_or_leaves(alloc: Global, set: &mut PrimitiveSet<TestKinds>) -> bool {
         tinks = tinks.wrapping_add(tink.is_ok() as usize);
         holds = holds && has_entries(set, raws, tinks);
     }
-    holds && 22 <= raws.wrapping_add(tinks)
+    holds && 17 <= raws.wrapping_add(tinks)
+}
+
+/// A call that is refused for `OutOfMemory` adds nothing, and one that isn't adds one entry.
+#[test]
+fn an_entry_is_added_or_the_set_is_left(rt: HostRuntime) {
+    let alloc = rt.alloc();
+    let holds = adds_or_leaves(alloc, &mut PrimitiveSet::new(alloc));
+    expect(&rt, Ok(holds), Ok(true), "the entries");
 }
 
 // ---- sets of one sort

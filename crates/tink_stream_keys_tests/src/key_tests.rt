@@ -86,15 +86,19 @@ fn gcm_segment(alloc: Global, header: usize) -> Result<bool, TinkError> {
     Ok(derives(alloc, &StreamKind::GcmHkdf(key), &SALT[..16], BY_GCM)? && is_long)
 }
 
-fn derives_by(alloc: Global, hkdf_alg: HashType) -> Result<StreamSegment, TinkError> {
-    gcm_key(alloc, hkdf_alg)?.derive(&SALT[..16], &[])
-}
-
 // Whether something is made, or why it is refused.
 fn is_made<T: Drop>(told: Result<T, TinkError>) -> Result<bool, TinkError> {
     match told {
         Ok(_) => Ok(true),
         Err(e) => Err(e),
+    }
+}
+
+// Whether a key that is made derives a cipher.
+fn derives_by(alloc: Global, hkdf_alg: HashType) -> Result<bool, TinkError> {
+    match gcm_key(alloc, hkdf_alg) {
+        Ok(key) => is_made(key.derive(&SALT[..16], &[])),
+        Err(_) => Ok(false),
     }
 }
 
@@ -123,7 +127,7 @@ fn answered(alloc: Global, asked: Asked) -> Result<bool, TinkError> {
             segment,
             offset,
         )),
-        Asked::DerivesBy(hkdf_alg) => is_made(derives_by(alloc, hkdf_alg)),
+        Asked::DerivesBy(hkdf_alg) => derives_by(alloc, hkdf_alg),
         Asked::CtrSegment(header) => ctr_segment(alloc, header),
         Asked::GcmSegment(header) => gcm_segment(alloc, header),
     }

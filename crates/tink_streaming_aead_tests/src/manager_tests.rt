@@ -117,7 +117,6 @@ const NO_KEY: Result<bool, Kind> = Err(Kind::InvalidKey);
 
 const NO_FORMAT: Result<bool, Kind> = Err(Kind::InvalidFormat);
 
-// The main keys are of ones.
 const ROWS: &[(&str, Asked, Result<bool, Kind>)] = &[
     // keys in counter mode, and formats: sizes of a key and of a derived key, hashes, size of a tag and of a segment
     (

@@ -125,7 +125,7 @@ fn has_all(registry: &Registry<Named<StreamKinds>>) -> bool {
             .is_some()
 }
 
-// Whether a second `init` adds nothing beside so many templates.
+// Whether an `init` of a registry that has a manager of streams adds nothing beside so many templates.
 fn adds_nothing(
     alloc: Global,
     registry: &mut Registry<Named<StreamKinds>>,
