@@ -87,7 +87,13 @@ fn answered(
 // A file, an edit, and the keys after it.
 const FILES: &[(&str, &[u8], Option<(Edit, u32)>, &[u8], Answer)] = &[
     ("the keys", KEYS, None, LINES, Ok(true)),
-    ("a destroyed key", DESTROYED, None, DESTROYED_LINES, Ok(true)),
+    (
+        "a destroyed key",
+        DESTROYED,
+        None,
+        DESTROYED_LINES,
+        Ok(true),
+    ),
     (
         "the keys after an edit",
         KEYS,

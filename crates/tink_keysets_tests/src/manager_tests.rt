@@ -338,7 +338,10 @@ fn a_manager_adds_keys(rt: HostRuntime) {
 
 // What is so of a manager of one key and a registry of symmetric keys.
 fn four_are_added_or_left(alloc: Global) -> Result<bool, TinkError> {
-    match (registry_with(alloc, &Managed::Symmetric), manager_of_one(alloc)) {
+    match (
+        registry_with(alloc, &Managed::Symmetric),
+        manager_of_one(alloc),
+    ) {
         (Ok(registry), Ok(mut manager)) => are_added_or_left(alloc, &registry, &mut manager),
         _ => Err(TinkError::new(Kind::OutOfMemory)),
     }
