@@ -34,7 +34,7 @@ impl<M> Model for Registry<M> {
     ghost invariant = { λ r. AreRising (names_of r.templates.items) };
 }
 
-impl<M: KeyManager> Registry<M> {
+impl<M> Registry<M> {
     /// A registry of nothing.
     pub fn new(alloc: Global) -> Self
         ensures value { result ≡ record { managers = []; templates = [] } }
@@ -45,6 +45,53 @@ impl<M: KeyManager> Registry<M> {
         }
     }
 
+    /// Adds a template under its name, in place of the one of that name.
+    pub fn register_template_generator(
+        &mut self,
+        alloc: Global,
+        name: &str,
+        kt: KeyTemplate,
+    ) -> Result<(), TinkError>
+        ensures ok { OnOk result (self.new
+            ≡ record self.old { templates = with_template self.old.templates (name.now, kt) }) }
+        ensures found { OnOk result (PutsTemplate name.now kt self.old.templates self.new.templates) }
+        ensures err { OnErr result (self.new ≡ self.old) }
+        ensures cause { IfErr result (λ e. e.kind ≡ OutOfMemory) }
+    {
+        let name = Text::from_str(alloc, name)?;
+        self.templates.reserve(1)?;
+        put_template(&mut self.templates, name, kt);
+        Ok(())
+    }
+
+    /// The template of a name, or `None` exactly where none has it.
+    pub fn get_template_generator(&self, name: &str) -> Option<&KeyTemplate>
+        ensures value { MatchOption result (template_of name.now self.now.templates ≡ None)
+            (λ kt. template_of name.now self.now.templates ≡ Some kt.now) }
+    {
+        for t in &self.templates {
+            if t.0.as_str() == name {
+                return Some(&t.1);
+            }
+        }
+        None
+    }
+
+    /// The names of the templates, in the order of their bytes, each once.
+    pub fn template_names(&self, alloc: Global) -> Result<Vec<Text>, TinkError>
+        ensures names { IfOk result (λ names. names.items ≡ names_of self.now.templates) }
+        ensures sorted { IfOk result (λ names. AreRising names.items) }
+        ensures cause { IfErr result (λ e. e.kind ≡ OutOfMemory) }
+    {
+        let mut names = Vec::new(alloc);
+        for t in &self.templates {
+            names.push(t.0.try_clone(alloc)?)?;
+        }
+        Ok(names)
+    }
+}
+
+impl<M: KeyManager> Registry<M> {
     /// Adds a manager under its URL, or refuses by `AlreadyRegistered` exactly where the URL is there.
     pub fn register_key_manager(&mut self, _alloc: Global, km: M) -> Result<(), TinkError>
     where
@@ -133,51 +180,6 @@ impl<M: KeyManager> Registry<M> {
             (registry_builds M.url M.builds self.now.managers kd.now.type_url kd.now.value) }
     {
         self.primitive(alloc, kd.type_url.as_str(), kd.value.as_slice())
-    }
-
-    /// Adds a template under its name, in place of the one of that name.
-    pub fn register_template_generator(
-        &mut self,
-        alloc: Global,
-        name: &str,
-        kt: KeyTemplate,
-    ) -> Result<(), TinkError>
-        ensures ok { OnOk result (self.new
-            ≡ record self.old { templates = with_template self.old.templates (name.now, kt) }) }
-        ensures found { OnOk result (PutsTemplate name.now kt self.old.templates self.new.templates) }
-        ensures err { OnErr result (self.new ≡ self.old) }
-        ensures cause { IfErr result (λ e. e.kind ≡ OutOfMemory) }
-    {
-        let name = Text::from_str(alloc, name)?;
-        self.templates.reserve(1)?;
-        put_template(&mut self.templates, name, kt);
-        Ok(())
-    }
-
-    /// The template of a name, or `None` exactly where none has it.
-    pub fn get_template_generator(&self, name: &str) -> Option<&KeyTemplate>
-        ensures value { MatchOption result (template_of name.now self.now.templates ≡ None)
-            (λ kt. template_of name.now self.now.templates ≡ Some kt.now) }
-    {
-        for t in &self.templates {
-            if t.0.as_str() == name {
-                return Some(&t.1);
-            }
-        }
-        None
-    }
-
-    /// The names of the templates, in the order of their bytes, each once.
-    pub fn template_names(&self, alloc: Global) -> Result<Vec<Text>, TinkError>
-        ensures names { IfOk result (λ names. names.items ≡ names_of self.now.templates) }
-        ensures sorted { IfOk result (λ names. AreRising names.items) }
-        ensures cause { IfErr result (λ e. e.kind ≡ OutOfMemory) }
-    {
-        let mut names = Vec::new(alloc);
-        for t in &self.templates {
-            names.push(t.0.try_clone(alloc)?)?;
-        }
-        Ok(names)
     }
 
     /// Adds all of both lists in order or, after a refusal, nothing. `AlreadyRegistered` comes exactly where a URL of

@@ -6,8 +6,9 @@ ghost use Rattle.tink_subtle.specs.Hashes.{hash_named};
 ghost use Rattle.tink_io.specs.Told.{Tells};
 ghost use Rattle.tink_stream_keys.specs.StreamingKeys.{Derives, IsDerived, cipher_of, deriving_hash, empty_key, is_key_size, kind_of, with_main};
 
-use hash_keys::{Hash, hkdf_into};
+use hash_keys::Hash;
 use std::marker::Model;
+use stream_model::derive_keys;
 use tink_io::{Kind, TinkError};
 use tink_proto::HashType;
 use tink_segments::{
@@ -185,9 +186,7 @@ fn derived_cipher(
 {
     let size = params.derived_bytes();
     let mut keys = [0u8; MAX_KEYS];
-    let Ok(()) = hkdf_into(hash, main_key, salt, aad, &mut keys[..size]) else {
-        unreachable!()
-    };
+    derive_keys(hash, main_key, salt, aad, &mut keys[..size]);
     cipher_under(params, &keys[..size])
 }
 

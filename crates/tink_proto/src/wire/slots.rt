@@ -10,6 +10,7 @@ ghost use Rattle.tink_proto.specs.declared.error.ProtoError.TheVariants.{BadMess
 use crate::wire::{Content, Message, read_fields};
 use crate::{Bytes, ProtoError, Repeated, Text};
 use std::alloc::Global;
+use wire_format::take_or_start;
 
 /// Reads a number of 32 bits. After an `Err` the field is as before.
 pub fn read_number(slot: &mut u32, content: &Content) -> Result<(), ProtoError>
@@ -57,10 +58,7 @@ pub fn read_message<M: Message>(
         (merged (M.table).step (M.table).start slot.old (content_of content.now)) }
     ensures err { OnErr result (slot.new ≡ None) }
 {
-    let mut message = match slot.take() {
-        Some(message) => message,
-        None => M::new(alloc),
-    };
+    let mut message = take_or_start(slot, M::new(alloc));
     read_fields(&mut message, alloc, content.body()?)?;
     *slot = Some(message);
     Ok(())

@@ -10,6 +10,6 @@ returns c =
     let n = c.derived_bytes-size.result in
     let zeros : List ℕ = replicate 64 0 in
     let room : length (take n zeros) ≡ n = length-take-le n zeros c.derived_bytes-size.ensures.few in
-    let made = c.in-Ok.ensures.ok ∙ ap (λ m. hkdf_of c.args.hash c.args.main_key.now c.args.salt.now c.args.aad.now m) (room ∙ c.derived_bytes-size.ensures.value) in
-    derived_with (with_main c.args.main_key.now c.args.params.now) c.args.aad.now c.args.salt.now _ c.hkdf_into.new.out c.args.hash _ c.requires made
-    (front_taken n c.hkdf_into.new.out _ (omega (arith, c.hkdf_into.auto.out, room))) c.cipher_under.ensures
+    let made = c.derive_keys.ensures ∙ ap (λ m. hkdf_of c.args.hash c.args.main_key.now c.args.salt.now c.args.aad.now m) (room ∙ c.derived_bytes-size.ensures.value) in
+    derived_with (with_main c.args.main_key.now c.args.params.now) c.args.aad.now c.args.salt.now _ c.derive_keys.new.keys c.args.hash _ c.requires made
+    (front_taken n c.derive_keys.new.keys _ (omega (arith, c.derive_keys.auto.keys, room))) c.cipher_under.ensures
