@@ -1,34 +1,21 @@
 //! All that the program does, over any source and any sinks.
 
-ghost use Rattle.std.specs.Prelude.{◌≡◌, ◌≤◌, true};
-ghost use Rattle.tink_io.specs.Written.{WritesOrFaults};
+ghost use Rattle.std.specs.Prelude.{◌≡◌, true};
 ghost use Rattle.tink_run.specs.Outside.{outside_of};
-ghost use Rattle.tink_program.specs.Program.{CommandMeans, IsUnwrittenBy, KeepsEnds, Leaves, LeavesSource, OutcomeMeans, ProgramMeans, Promised, Promises, StatusMeans, TellsNothing, answer_outcome, line_of, reads_first, status_of, takes_no_input};
-ghost use Rattle.tink_program.specs.Words.{asked_of};
+ghost use Rattle.tink_program_commands.specs.Program.{CommandMeans, IsUnwrittenBy, KeepsEnds, Leaves, LeavesSource, OutcomeMeans, ProgramMeans, Promised, Promises, StatusMeans, reads_first, status_of, takes_no_input};
+ghost use Rattle.tink_program_commands.specs.Words.{asked_of};
 ghost use Rattle.tink_words.specs.Forms.{words_of};
 
-use crate::keysets::{write_new, write_rotated};
-use crate::large::write_large;
-use crate::ranges::write_range;
-use crate::streams::{run_open, run_rewrap, run_seal};
-use crate::words::{Parsed, parse};
 use std::alloc::Global;
-use tink_io::{Kind, Sink, Source, TinkError, write_all, write_line};
+use tink_io::{Sink, Source};
+use tink_program_commands::keysets::{write_new, write_rotated};
+use tink_program_commands::large::write_large;
+use tink_program_commands::outcomes::outcome_of;
+pub use tink_program_commands::outcomes::{Outcome, status, tell};
+use tink_program_commands::ranges::write_range;
+use tink_program_commands::streams::{run_open, run_rewrap, run_seal};
+use tink_program_commands::words::{Parsed, parse};
 use tink_run_tokens::{write_payload, write_token};
-
-const USAGE: &[u8] =
-    b"usage: seal KEYSET AAD SEED | open KEYSET AAD | keygen TEMPLATE SEED | rotate KEYSET TEMPLATE SEED | large N | range KEYSET AAD START LEN | rewrap KEYSET AAD KEYSET AAD SEED | sign KEYSET | verify KEYSET\n";
-
-/// How the program ended.
-#[derive(Clone, Copy, Debug, PartialEq, Eq)]
-pub enum Outcome {
-    /// The command did what it was to do.
-    Done,
-    /// The words spell no command.
-    Usage,
-    /// The command was refused.
-    Refused(Kind),
-}
 
 /// Does what the words say, from `source` to `sink`, and answers the status:
 ///
@@ -92,34 +79,6 @@ pub fn program<S: Source, K: Sink, E: Sink>(
     status(outcome)
 }
 
-/// The status of an outcome.
-pub fn status(outcome: Outcome) -> u8
-    ensures { result ≡ status_of outcome }
-{
-    match outcome {
-        Outcome::Done => 0,
-        Outcome::Usage => 2,
-        Outcome::Refused(kind) => tink_refusals::status(kind),
-    }
-}
-
-/// Writes the line of an outcome. It takes no memory.
-pub fn tell<E: Sink>(faults: &mut E, outcome: Outcome)
-    ensures line { WritesOrFaults (E.got faults.old) (E.got faults.new) (E.faults faults.old) (E.faults faults.new)
-        (line_of outcome) }
-    ensures still { TellsNothing outcome faults.old faults.new }
-    ensures later { E.faults faults.old ≤ E.faults faults.new }
-    ensures same { E.same faults.old faults.new }
-{
-    match outcome {
-        Outcome::Done => {}
-        Outcome::Usage => {
-            let _ = write_all(faults, USAGE);
-        }
-        Outcome::Refused(kind) => write_line(faults, kind),
-    }
-}
-
 // Does what the words say.
 fn command<S: Source, K: Sink>(
     alloc: Global,
@@ -164,7 +123,14 @@ fn done<S: Source, K: Sink>(alloc: Global, parsed: Parsed, source: &mut S, sink:
     ensures sink { K.same sink.old sink.new }
 {
     match parsed {
-        Parsed::Seal(args) => outcome_of(run_seal(alloc, &args, source, sink)),
+        Parsed::Seal(args) => outcome_of(run_seal(
+            alloc,
+            &args.keyset,
+            &args.aad,
+            args.seed,
+            source,
+            sink,
+        )),
         Parsed::Open(args) => outcome_of(run_open(alloc, &args, source, sink)),
         Parsed::Keygen(args) => outcome_of(write_new(alloc, &args, sink)),
         Parsed::Rotate(args) => outcome_of(write_rotated(alloc, &args, sink)),
@@ -173,15 +139,5 @@ fn done<S: Source, K: Sink>(alloc: Global, parsed: Parsed, source: &mut S, sink:
         Parsed::Sign(keyset) => outcome_of(write_token(alloc, &keyset, source, sink)),
         Parsed::Verify(keyset) => outcome_of(write_payload(alloc, &keyset, source, sink)),
         Parsed::Rewrap(args) => outcome_of(run_rewrap(alloc, &args, source, sink)),
-    }
-}
-
-// The outcome that an answer comes to.
-fn outcome_of<T: Copy>(answer: Result<T, TinkError>) -> Outcome
-    ensures { result ≡ answer_outcome answer }
-{
-    match answer {
-        Ok(_) => Outcome::Done,
-        Err(e) => Outcome::Refused(e.kind),
     }
 }

@@ -3,7 +3,7 @@
 ghost use Rattle.std.specs.Prelude.{◌≡◌, [], codes, Ok, Some, IfOk};
 ghost use Rattle.tink_keygen.specs.Rotating.{key_line, rotated_by};
 ghost use Rattle.tink_keysets.specs.Managed.{no_keys};
-ghost use Rattle.tink_program.specs.Program.{Promised};
+ghost use Rattle.tink_program_commands.specs.Program.{Promised};
 ghost use Rattle.tink_proto.specs.declared.messages.keys.Keyset.{Keyset};
 ghost use Rattle.tink_run.specs.Outside.{Outside};
 ghost use Rattle.tink_run.specs.Run.{IsWholeStream};

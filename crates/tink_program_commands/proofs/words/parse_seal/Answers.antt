@@ -1,0 +1,28 @@
+use Rattle.std.proofs.Common.{◌∙◌, ap, sym, subst, arith}
+use Rattle.std.specs.Prelude.{codes}
+use Rattle.std.proofs.lemmas.Bool.{not-false}
+use Rattle.std.proofs.lemmas.Slice.Eq.{bytes_eq-Decides}
+use Rattle.hex.specs.Hex.{decode_sized}
+use Rattle.tink_program_commands.specs.Words.{IsBytesWord}
+use Rattle.tink_program_commands.proofs.WordLemmas.{spelled_at, seal_words}
+use Rattle.tink_program_commands.proofs.words.parse_seal.Goals as goal
+
+pub returns-in_default-clause-none : goal.returns-in_default-clause-none
+returns-in_default-clause-none c = λ keyset aad seed h.
+    let none = rw (c.in_default.is, c.as_str-2.ensures.value) at c.in_ok-keyset.ensures.none in
+    none keyset (subst (λ w. IsBytesWord w keyset) (spelled_at _ 1 _ _ (omega arith) c.index-2.ensures h.spelled) h.keyset_is)
+
+pub returns-in_default-2-clause-none : goal.returns-in_default-2-clause-none
+returns-in_default-2-clause-none c = λ keyset aad seed h.
+    let none = rw (c.in_default-2.is, c.as_str-3.ensures.value) at c.in_ok-aad.ensures.none in
+    none aad (subst (λ w. IsBytesWord w aad) (spelled_at _ 2 _ _ (omega arith) c.index-3.ensures h.spelled) h.aad_is)
+
+pub returns-clause-found : goal.returns-clause-found
+returns-clause-found c =
+    let first = (bytes_eq-Decides c.as_str.result.now (codes "seal")).0 (not-false _ (sym c.ne.ensures ∙ c.if-ne.false)) in
+    seal_words c.args.words.now.items c.index.result.now c.index-2.result.now c.index-3.result.now c.index-4.result.now _ _ _ (omega arith)
+    c.index.ensures c.index-2.ensures c.index-3.ensures c.index-4.ensures
+    (sym c.as_str.ensures.value ∙ first)
+    (rw (c.in-Some.is, c.as_str-2.ensures.value) at c.in_ok-keyset.ensures.found)
+    (rw (c.in-Some-2.is, c.as_str-3.ensures.value) at c.in_ok-aad.ensures.found)
+    (ap (λ t. decode_sized t 32) (sym c.as_str-4.ensures.value) ∙ sym c.from_hex.ensures ∙ c.in-Ok.is)

@@ -1,0 +1,54 @@
+//! The two commands that make keysets.
+
+ghost use Rattle.std.specs.Prelude.{◌≡◌, IfErr, string_bytes};
+ghost use Rattle.tink_program_commands.specs.Keysets.{GivesLine, WritesLine, of_keyset, of_no_keys};
+ghost use Rattle.tink_run_tokens.specs.Inputs.{IsUnwritten};
+
+use crate::words::{KeygenArgs, RotateArgs, first_draws};
+use std::alloc::Global;
+use tink_io::{Draws, Sink, TinkError, write_all};
+use tink_keygen::{key_line, keygen, rotate};
+
+/// Writes the line of a keyset of one new key, with the draws of the seed.
+pub fn write_new<K: Sink>(alloc: Global, args: &KeygenArgs, sink: &mut K) -> Result<(), TinkError>
+    ensures answer { WritesLine (of_no_keys (string_bytes args.now.template) args.now.seed)
+        (K.got sink.old) (K.got sink.new) (K.faults sink.old) (K.faults sink.new) result }
+    ensures early { IfErr result (λ e. IsUnwritten e.kind → sink.new ≡ sink.old) }
+    ensures sink { K.same sink.old sink.new }
+{
+    let line = new_line(alloc, args)?;
+    write_all(sink, &line)
+}
+
+/// Writes the line of a keyset with a new key as its primary one, with the draws of the seed.
+pub fn write_rotated<K: Sink>(
+    alloc: Global,
+    args: &RotateArgs,
+    sink: &mut K,
+) -> Result<(), TinkError>
+    ensures answer { WritesLine (of_keyset args.now.keyset.items (string_bytes args.now.template) args.now.seed)
+        (K.got sink.old) (K.got sink.new) (K.faults sink.old) (K.faults sink.new) result }
+    ensures early { IfErr result (λ e. IsUnwritten e.kind → sink.new ≡ sink.old) }
+    ensures sink { K.same sink.old sink.new }
+{
+    let line = rotated_line(alloc, args)?;
+    write_all(sink, &line)
+}
+
+// The line of a keyset of one new key.
+fn new_line(alloc: Global, args: &KeygenArgs) -> Result<Vec<u8>, TinkError>
+    ensures { GivesLine (of_no_keys (string_bytes args.now.template) args.now.seed) result }
+{
+    let mut draws = Draws::new(first_draws(alloc, args.seed)?);
+    let keyset = keygen(alloc, args.template.as_str(), &mut draws)?;
+    key_line(alloc, &keyset)
+}
+
+// The line of a keyset with a new key.
+fn rotated_line(alloc: Global, args: &RotateArgs) -> Result<Vec<u8>, TinkError>
+    ensures { GivesLine (of_keyset args.now.keyset.items (string_bytes args.now.template) args.now.seed) result }
+{
+    let mut draws = Draws::new(first_draws(alloc, args.seed)?);
+    let keyset = rotate(alloc, &args.keyset, args.template.as_str(), &mut draws)?;
+    key_line(alloc, &keyset)
+}
