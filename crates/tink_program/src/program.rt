@@ -1,21 +1,14 @@
 //! All that the program does, over any source and any sinks.
 
-ghost use Rattle.std.specs.Prelude.{◌≡◌, true};
+ghost use Rattle.std.specs.Prelude.{◌≡◌};
 ghost use Rattle.tink_run.specs.Outside.{outside_of};
-ghost use Rattle.tink_program_commands.specs.Program.{CommandMeans, IsUnwrittenBy, KeepsEnds, Leaves, LeavesSource, OutcomeMeans, ProgramMeans, Promised, Promises, StatusMeans, reads_first, status_of, takes_no_input};
-ghost use Rattle.tink_program_commands.specs.Words.{asked_of};
+ghost use Rattle.tink_program_commands.specs.Program.{KeepsEnds, LeavesSource, OutcomeMeans, ProgramMeans, Promised, StatusMeans, status_of};
 ghost use Rattle.tink_words.specs.Forms.{words_of};
 
 use std::alloc::Global;
 use tink_io::{Sink, Source};
-use tink_program_commands::keysets::{write_new, write_rotated};
-use tink_program_commands::large::write_large;
-use tink_program_commands::outcomes::outcome_of;
-pub use tink_program_commands::outcomes::{Outcome, status, tell};
-use tink_program_commands::ranges::write_range;
-use tink_program_commands::streams::{run_open, run_rewrap, run_seal};
-use tink_program_commands::words::{Parsed, parse};
-use tink_run_tokens::{write_payload, write_token};
+use tink_program_commands::{done, parse};
+pub use tink_program_commands::{Outcome, status, tell};
 
 /// Does what the words say, from `source` to `sink`, and answers the status:
 ///
@@ -102,42 +95,9 @@ fn command<S: Source, K: Sink>(
     match parse(alloc, words) {
         Err(e) => Outcome::Refused(e.kind),
         Ok(None) => Outcome::Usage,
-        Ok(Some(parsed)) => done(alloc, parsed, source, sink),
-    }
-}
-
-// Does what was read of the words.
-fn done<S: Source, K: Sink>(alloc: Global, parsed: Parsed, source: &mut S, sink: &mut K) -> Outcome
-    ensures means { CommandMeans (asked_of parsed)
-        (outside_of S.left S.faults K.got K.faults source.old sink.old)
-        (outside_of S.left S.faults K.got K.faults source.new sink.new)
-        result }
-    ensures early { Leaves (reads_first (asked_of parsed)) (λ kind. IsUnwrittenBy (asked_of parsed) kind) result
-        source.old source.new sink.old sink.new }
-    ensures kept { takes_no_input (asked_of parsed) ≡ true → source.new ≡ source.old }
-    ensures promised { Promises (asked_of parsed)
-        (outside_of S.left S.faults K.got K.faults source.old sink.old)
-        (outside_of S.left S.faults K.got K.faults source.new sink.new)
-        (status_of result) }
-    ensures source { S.same source.old source.new }
-    ensures sink { K.same sink.old sink.new }
-{
-    match parsed {
-        Parsed::Seal(args) => outcome_of(run_seal(
-            alloc,
-            &args.keyset,
-            &args.aad,
-            args.seed,
-            source,
-            sink,
-        )),
-        Parsed::Open(args) => outcome_of(run_open(alloc, &args, source, sink)),
-        Parsed::Keygen(args) => outcome_of(write_new(alloc, &args, sink)),
-        Parsed::Rotate(args) => outcome_of(write_rotated(alloc, &args, sink)),
-        Parsed::Large(n) => outcome_of(write_large(alloc, n, sink)),
-        Parsed::Range(args) => outcome_of(write_range(alloc, &args, source, sink)),
-        Parsed::Sign(keyset) => outcome_of(write_token(alloc, &keyset, source, sink)),
-        Parsed::Verify(keyset) => outcome_of(write_payload(alloc, &keyset, source, sink)),
-        Parsed::Rewrap(args) => outcome_of(run_rewrap(alloc, &args, source, sink)),
+        Ok(Some(spelled)) => {
+            let seed = spelled.1;
+            done(alloc, spelled.0, seed, source, sink)
+        }
     }
 }

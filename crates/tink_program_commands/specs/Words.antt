@@ -134,14 +134,14 @@ sides_of args = record {
   to_aad = args.to_aad.items;
 }
 
--- what was read asks for this
-abbrev pub asked_of : Parsed → Asked
-asked_of (Seal args) = Sealing args.keyset.items args.aad.items args.seed
-asked_of (Open args) = Opening args.keyset.items args.aad.items
-asked_of (Keygen args) = Making (string_bytes args.template) args.seed
-asked_of (Rotate args) = Rotating args.keyset.items (string_bytes args.template) args.seed
-asked_of (Large n) = Measuring n
-asked_of (Range args) = Ranging args.keyset.items args.aad.items args.start args.len
-asked_of (Sign keyset) = Signing keyset.items
-asked_of (Verify keyset) = Verifying keyset.items
-asked_of (Rewrap args) = Rewrapping (sides_of args) args.seed
+-- what was read asks for this, with this seed
+abbrev pub asked_of : Parsed → List ℕ → Asked
+asked_of (Seal args) seed = Sealing args.keyset.items args.aad.items seed
+asked_of (Open args) seed = Opening args.keyset.items args.aad.items
+asked_of (Keygen template) seed = Making (string_bytes template) seed
+asked_of (Rotate args) seed = Rotating args.keyset.items (string_bytes args.template) seed
+asked_of (Large n) seed = Measuring n
+asked_of (Range args) seed = Ranging args.keyset.items args.aad.items args.start args.len
+asked_of (Sign keyset) seed = Signing keyset.items
+asked_of (Verify keyset) seed = Verifying keyset.items
+asked_of (Rewrap args) seed = Rewrapping (sides_of args) seed

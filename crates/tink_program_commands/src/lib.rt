@@ -1,9 +1,14 @@
 //! The commands of the program over streams: their words, what each does over any source and any sink, and their outcomes.
 #![tactic(auto)]
 
-pub mod keysets;
-pub mod large;
-pub mod outcomes;
-pub mod ranges;
-pub mod streams;
-pub mod words;
+mod commands;
+mod keysets;
+mod large;
+mod outcomes;
+mod ranges;
+mod streams;
+mod words;
+
+pub use commands::done;
+pub use outcomes::{Outcome, status, tell};
+pub use words::{Parsed, Seed, number_of, parse};

@@ -7,7 +7,7 @@ ghost use Rattle.tink_program_commands.specs.Draws.{draws_in};
 ghost use Rattle.tink_program_commands.specs.Streams.{Moved, Ran, SparesEnds};
 ghost use Rattle.tink_program_commands.specs.Words.{sides_of};
 
-use crate::words::{OpenArgs, RewrapArgs, first_draws};
+use crate::words::{OpenArgs, RewrapArgs, SealArgs, Seed, first_draws};
 use std::alloc::Global;
 use tink_io::{Draws, Sink, Source, TinkError};
 use tink_rewrap::rewrap;
@@ -17,13 +17,12 @@ use tink_run::run::run;
 /// Seals with the draws of the seed.
 pub fn run_seal<S: Source, K: Sink>(
     alloc: Global,
-    keyset: &[u8],
-    aad: &[u8],
-    seed: [u8; 32],
+    args: &SealArgs,
+    seed: Seed,
     source: &mut S,
     sink: &mut K,
 ) -> Result<Report, TinkError>
-    ensures ran { Ran Seal keyset.now aad.now (draws_in seed 256)
+    ensures ran { Ran Seal args.now.keyset.items args.now.aad.items (draws_in seed 256)
         (outside_of S.left S.faults K.got K.faults source.old sink.old)
         (outside_of S.left S.faults K.got K.faults source.new sink.new)
         result }
@@ -32,7 +31,15 @@ pub fn run_seal<S: Source, K: Sink>(
     ensures sink { K.same sink.old sink.new }
 {
     let mut draws = Draws::new(first_draws(alloc, seed)?);
-    run(alloc, Command::Seal, keyset, aad, &mut draws, source, sink)
+    run(
+        alloc,
+        Command::Seal,
+        &args.keyset,
+        &args.aad,
+        &mut draws,
+        source,
+        sink,
+    )
 }
 
 /// Opens with no draws.
@@ -67,10 +74,11 @@ pub fn run_open<S: Source, K: Sink>(
 pub fn run_rewrap<S: Source, K: Sink>(
     alloc: Global,
     args: &RewrapArgs,
+    seed: Seed,
     source: &mut S,
     sink: &mut K,
 ) -> Result<Report, TinkError>
-    ensures moved { Moved (sides_of args.now) (draws_in args.now.seed 256)
+    ensures moved { Moved (sides_of args.now) (draws_in seed 256)
         (outside_of S.left S.faults K.got K.faults source.old sink.old)
         (outside_of S.left S.faults K.got K.faults source.new sink.new)
         result }
@@ -78,7 +86,7 @@ pub fn run_rewrap<S: Source, K: Sink>(
     ensures source { S.same source.old source.new }
     ensures sink { K.same sink.old sink.new }
 {
-    let mut draws = Draws::new(first_draws(alloc, args.seed)?);
+    let mut draws = Draws::new(first_draws(alloc, seed)?);
     rewrap(
         alloc,
         &args.from,

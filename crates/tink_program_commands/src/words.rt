@@ -4,7 +4,7 @@ ghost use Rattle.std.specs.Prelude.{◌≡◌, List, ℕ, IfOk, IfErr, IfSome, I
 ghost use Rattle.tink_io.specs.declared.error.Kind.TheVariants.{OutOfMemory};
 ghost use Rattle.tink_program_commands.specs.Draws.{draws_in};
 ghost use Rattle.tink_program_commands.specs.Words.{IsBytesWord, IsNumberWord, KeygenWords, LargeWords, OpenWords, RangeWords, RewrapWords, RotateWords, SealWords, SignWords, SpellNothing, Spells, VerifyWords, asked_of, sides_of};
-ghost use Rattle.tink_rewrap.specs.Rewrapping.{Sides};
+ghost use Rattle.tink_program_commands.specs.Rewrapping.{Sides};
 ghost use Rattle.tink_words.specs.Forms.{words_of};
 
 use hex::{FromHex, FromHexError};
@@ -14,15 +14,20 @@ use rand_core::utils::NextWord;
 use std::alloc::Global;
 use tink_io::{Kind, TinkError};
 
+/// What draws are made from.
+pub type Seed = [u8; 32];
+
 // The last number of a large text.
 const LAST_LARGE: u64 = 999_999;
 
-/// What `seal KEYSET AAD SEED` spells.
+// The seed of a command that draws nothing.
+const NO_SEED: Seed = [0; 32];
+
+/// What `seal KEYSET AAD SEED` spells beside its seed.
 #[derive(Drop)]
 pub struct SealArgs {
     pub keyset: Vec<u8>,
     pub aad: Vec<u8>,
-    pub seed: [u8; 32],
 }
 
 /// What `open KEYSET AAD` spells.
@@ -32,19 +37,11 @@ pub struct OpenArgs {
     pub aad: Vec<u8>,
 }
 
-/// What `keygen TEMPLATE SEED` spells.
-#[derive(Drop)]
-pub struct KeygenArgs {
-    pub template: String,
-    pub seed: [u8; 32],
-}
-
-/// What `rotate KEYSET TEMPLATE SEED` spells.
+/// What `rotate KEYSET TEMPLATE SEED` spells beside its seed.
 #[derive(Drop)]
 pub struct RotateArgs {
     pub keyset: Vec<u8>,
     pub template: String,
-    pub seed: [u8; 32],
 }
 
 /// What `range KEYSET AAD START LEN` spells.
@@ -56,22 +53,21 @@ pub struct RangeArgs {
     pub len: u64,
 }
 
-/// What `rewrap KEYSET AAD KEYSET AAD SEED` spells.
+/// What `rewrap KEYSET AAD KEYSET AAD SEED` spells beside its seed.
 #[derive(Drop)]
 pub struct RewrapArgs {
     pub from: Vec<u8>,
     pub from_aad: Vec<u8>,
     pub to: Vec<u8>,
     pub to_aad: Vec<u8>,
-    pub seed: [u8; 32],
 }
 
-/// A command with its values.
+/// A command with its values, but for its seed.
 #[derive(Drop)]
 pub enum Parsed {
     Seal(SealArgs),
     Open(OpenArgs),
-    Keygen(KeygenArgs),
+    Keygen(String),
     Rotate(RotateArgs),
     Large(u32),
     Range(RangeArgs),
@@ -80,46 +76,51 @@ pub enum Parsed {
     Rewrap(RewrapArgs),
 }
 
-/// Reads the words of a command; `None` where they spell none. Refuses by `OutOfMemory` alone.
-pub fn parse(alloc: Global, words: &Vec<String>) -> Result<Option<Parsed>, TinkError>
-    ensures found { IfOk result (λ o. IfSome o (λ p. Spells (words_of words.now) (asked_of p))) }
+/// Reads the words of a command, and its seed, which is one of zeros where they have none; `None` where they spell no
+/// command. Refuses by `OutOfMemory` alone.
+pub fn parse(alloc: Global, words: &Vec<String>) -> Result<Option<(Parsed, Seed)>, TinkError>
+    ensures found { IfOk result (λ o. IfSome o (λ p. Spells (words_of words.now) (asked_of p.0 p.1))) }
     ensures none { IfOk result (λ o. IfNone o (SpellNothing (words_of words.now))) }
     ensures refused { IfErr result (λ e. e ≡ record { kind = OutOfMemory }) }
 {
-    if let Some(args) = parse_seal(alloc, words)? {
-        return Ok(Some(Parsed::Seal(args)));
+    if let Some(spelled) = parse_seal(alloc, words)? {
+        let seed = spelled.1;
+        return Ok(Some((Parsed::Seal(spelled.0), seed)));
     }
     if let Some(args) = parse_open(alloc, words)? {
-        return Ok(Some(Parsed::Open(args)));
+        return Ok(Some((Parsed::Open(args), NO_SEED)));
     }
-    if let Some(args) = parse_keygen(alloc, words)? {
-        return Ok(Some(Parsed::Keygen(args)));
+    if let Some(spelled) = parse_keygen(alloc, words)? {
+        let seed = spelled.1;
+        return Ok(Some((Parsed::Keygen(spelled.0), seed)));
     }
-    if let Some(args) = parse_rotate(alloc, words)? {
-        return Ok(Some(Parsed::Rotate(args)));
+    if let Some(spelled) = parse_rotate(alloc, words)? {
+        let seed = spelled.1;
+        return Ok(Some((Parsed::Rotate(spelled.0), seed)));
     }
     if let Some(n) = parse_large(alloc, words)? {
-        return Ok(Some(Parsed::Large(n)));
+        return Ok(Some((Parsed::Large(n), NO_SEED)));
     }
     if let Some(args) = parse_range(alloc, words)? {
-        return Ok(Some(Parsed::Range(args)));
+        return Ok(Some((Parsed::Range(args), NO_SEED)));
     }
     if let Some(keyset) = parse_sign(alloc, words)? {
-        return Ok(Some(Parsed::Sign(keyset)));
+        return Ok(Some((Parsed::Sign(keyset), NO_SEED)));
     }
     if let Some(keyset) = parse_verify(alloc, words)? {
-        return Ok(Some(Parsed::Verify(keyset)));
+        return Ok(Some((Parsed::Verify(keyset), NO_SEED)));
     }
-    if let Some(args) = parse_rewrap(alloc, words)? {
-        return Ok(Some(Parsed::Rewrap(args)));
+    if let Some(spelled) = parse_rewrap(alloc, words)? {
+        let seed = spelled.1;
+        return Ok(Some((Parsed::Rewrap(spelled.0), seed)));
     }
     Ok(None)
 }
 
 // Reads the words of `seal`.
-fn parse_seal(alloc: Global, words: &Vec<String>) -> Result<Option<SealArgs>, TinkError>
+fn parse_seal(alloc: Global, words: &Vec<String>) -> Result<Option<(SealArgs, Seed)>, TinkError>
     ensures found { IfOk result
-        (λ o. IfSome o (λ a. SealWords (words_of words.now) a.keyset.items a.aad.items a.seed)) }
+        (λ o. IfSome o (λ a. SealWords (words_of words.now) a.0.keyset.items a.0.aad.items a.1)) }
     ensures none { IfOk result (λ o. IfNone o
         ((keyset aad seed : List ℕ) → SealWords (words_of words.now) keyset aad seed → ⊥)) }
     ensures refused { IfErr result (λ e. e ≡ record { kind = OutOfMemory }) }
@@ -136,7 +137,7 @@ fn parse_seal(alloc: Global, words: &Vec<String>) -> Result<Option<SealArgs>, Ti
     let Ok(seed) = <[u8; 32] as FromHex>::from_hex(words[3].as_str()) else {
         return Ok(None);
     };
-    Ok(Some(SealArgs { keyset, aad, seed }))
+    Ok(Some((SealArgs { keyset, aad }, seed)))
 }
 
 // Reads the words of `open`.
@@ -159,9 +160,9 @@ fn parse_open(alloc: Global, words: &Vec<String>) -> Result<Option<OpenArgs>, Ti
 }
 
 // Reads the words of `keygen`.
-fn parse_keygen(alloc: Global, words: &Vec<String>) -> Result<Option<KeygenArgs>, TinkError>
+fn parse_keygen(alloc: Global, words: &Vec<String>) -> Result<Option<(String, Seed)>, TinkError>
     ensures found { IfOk result
-        (λ o. IfSome o (λ a. KeygenWords (words_of words.now) (string_bytes a.template) a.seed)) }
+        (λ o. IfSome o (λ a. KeygenWords (words_of words.now) (string_bytes a.0) a.1)) }
     ensures none { IfOk result (λ o. IfNone o
         ((template seed : List ℕ) → KeygenWords (words_of words.now) template seed → ⊥)) }
     ensures refused { IfErr result (λ e. e ≡ record { kind = OutOfMemory }) }
@@ -173,13 +174,13 @@ fn parse_keygen(alloc: Global, words: &Vec<String>) -> Result<Option<KeygenArgs>
         return Ok(None);
     };
     let template = String::from_str(alloc, words[1].as_str())?;
-    Ok(Some(KeygenArgs { template, seed }))
+    Ok(Some((template, seed)))
 }
 
 // Reads the words of `rotate`.
-fn parse_rotate(alloc: Global, words: &Vec<String>) -> Result<Option<RotateArgs>, TinkError>
+fn parse_rotate(alloc: Global, words: &Vec<String>) -> Result<Option<(RotateArgs, Seed)>, TinkError>
     ensures found { IfOk result
-        (λ o. IfSome o (λ a. RotateWords (words_of words.now) a.keyset.items (string_bytes a.template) a.seed)) }
+        (λ o. IfSome o (λ a. RotateWords (words_of words.now) a.0.keyset.items (string_bytes a.0.template) a.1)) }
     ensures none { IfOk result (λ o. IfNone o
         ((keyset template seed : List ℕ) → RotateWords (words_of words.now) keyset template seed → ⊥)) }
     ensures refused { IfErr result (λ e. e ≡ record { kind = OutOfMemory }) }
@@ -194,11 +195,7 @@ fn parse_rotate(alloc: Global, words: &Vec<String>) -> Result<Option<RotateArgs>
         return Ok(None);
     };
     let template = String::from_str(alloc, words[2].as_str())?;
-    Ok(Some(RotateArgs {
-        keyset,
-        template,
-        seed,
-    }))
+    Ok(Some((RotateArgs { keyset, template }, seed)))
 }
 
 // Reads the words of `large`.
@@ -272,8 +269,8 @@ fn parse_verify(alloc: Global, words: &Vec<String>) -> Result<Option<Vec<u8>>, T
 }
 
 // Reads the words of `rewrap`.
-fn parse_rewrap(alloc: Global, words: &Vec<String>) -> Result<Option<RewrapArgs>, TinkError>
-    ensures found { IfOk result (λ o. IfSome o (λ a. RewrapWords (words_of words.now) (sides_of a) a.seed)) }
+fn parse_rewrap(alloc: Global, words: &Vec<String>) -> Result<Option<(RewrapArgs, Seed)>, TinkError>
+    ensures found { IfOk result (λ o. IfSome o (λ a. RewrapWords (words_of words.now) (sides_of a.0) a.1)) }
     ensures none { IfOk result (λ o. IfNone o
         ((sides : Sides) (seed : List ℕ) → RewrapWords (words_of words.now) sides seed → ⊥)) }
     ensures refused { IfErr result (λ e. e ≡ record { kind = OutOfMemory }) }
@@ -296,13 +293,13 @@ fn parse_rewrap(alloc: Global, words: &Vec<String>) -> Result<Option<RewrapArgs>
     let Some(to_aad) = bytes_of(alloc, words[4].as_str())? else {
         return Ok(None);
     };
-    Ok(Some(RewrapArgs {
+    let args = RewrapArgs {
         from,
         from_aad,
         to,
         to_aad,
-        seed,
-    }))
+    };
+    Ok(Some((args, seed)))
 }
 
 /// The number that a word writes as it is printed, in decimal digits with no zero before them, of at most so many.
@@ -345,7 +342,7 @@ fn bytes_of(alloc: Global, word: &str) -> Result<Option<Vec<u8>>, TinkError>
 
 /// The bytes of the first 256 words of the seed's ChaCha20 stream, 1,024 in all. Refuses by
 /// `OutOfMemory` alone.
-pub fn first_draws(alloc: Global, seed: [u8; 32]) -> Result<Vec<u8>, TinkError>
+pub fn first_draws(alloc: Global, seed: Seed) -> Result<Vec<u8>, TinkError>
     ensures draws { IfOk result (λ v. v.items ≡ draws_in seed 256) }
     ensures refused { IfErr result (λ e. e ≡ record { kind = OutOfMemory }) }
 {

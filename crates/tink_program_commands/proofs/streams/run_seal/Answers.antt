@@ -1,5 +1,5 @@
 use Rattle.tink_run.specs.declared.report.Command.TheVariants.{Seal}
-use Rattle.std.proofs.Common.{◌∙◌, ap, refl}
+use Rattle.std.proofs.Common.{◌∙◌, ap}
 use Rattle.std.proofs.lemmas.Result.{err_from_is_err_and}
 use Rattle.tink_io.specs.declared.error.TinkError.{TinkError}
 use Rattle.tink_program_commands.proofs.StreamLemmas.{ran_along, spared_same, want_ran}
@@ -11,7 +11,7 @@ returns-in_err-first_draws-clause-ran g c =
     rw p.1 (want_ran _ _ _ _ p.0 (ap (λ (e : TinkError). e.kind) (p.2 ∙ c.in_err-first_draws.ensures.refused)))
 
 pub returns-clause-ran : goal.returns-clause-ran
-returns-clause-ran g c = ran_along Seal _ _ _ _ _ _ _ _ _ refl refl (c.new-draws.ensures ∙ c.in_ok-first_draws.ensures.draws) (record {
+returns-clause-ran g c = ran_along Seal _ _ _ _ _ _ _ _ _ c.deref.ensures.value c.deref-2.ensures.value (c.new-draws.ensures ∙ c.in_ok-first_draws.ensures.draws) (record {
   left_draws = c.run.new.draws;
   means = c.run.ensures.answer;
   ok = c.run.ensures.ok;

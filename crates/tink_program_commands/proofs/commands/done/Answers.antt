@@ -7,17 +7,17 @@ use Rattle.tink_program_commands.proofs.RewrapLemmas.{rewrap_leaves, rewrap_outc
 use Rattle.tink_program_commands.proofs.StreamLemmas.{leaves_by, open_outcome, open_promised, seal_outcome, seal_promised}
 use Rattle.tink_program_commands.proofs.TokenLemmas.{sign_leaves, sign_promised, token_outcome, verify_leaves, verify_promised}
 use Rattle.tink_run_tokens.specs.Tokens.{RefusesSigning, RefusesVerifying, SignsTo, VerifiesTo}
-use Rattle.tink_program.proofs.program.done.Goals as goal
+use Rattle.tink_program_commands.proofs.commands.done.Goals as goal
 
 pub returns-in-Seal-clause-means : goal.returns-in-Seal-clause-means
-returns-in-Seal-clause-means g c = rw (c.in-Seal.is, c.outcome_of.ensures) (seal_outcome _ _ _ _ _ c.run_seal.result (rw (c.deref.ensures.value, c.deref-2.ensures.value) at c.run_seal.ensures.ran))
+returns-in-Seal-clause-means g c = rw (c.in-Seal.is, c.outcome_of.ensures) (seal_outcome _ _ _ _ _ c.run_seal.result c.run_seal.ensures.ran)
 
 pub returns-in-Seal-clause-promised : goal.returns-in-Seal-clause-promised
-returns-in-Seal-clause-promised g c = rw (c.in-Seal.is, c.outcome_of.ensures) (seal_promised _ _ _ _ _ c.run_seal.result (rw (c.deref.ensures.value, c.deref-2.ensures.value) at c.run_seal.ensures.ran))
+returns-in-Seal-clause-promised g c = rw (c.in-Seal.is, c.outcome_of.ensures) (seal_promised _ _ _ _ _ c.run_seal.result c.run_seal.ensures.ran)
 
 pub returns-in-Seal-clause-early : goal.returns-in-Seal-clause-early
 returns-in-Seal-clause-early g c =
-    rw (c.in-Seal.is, c.outcome_of.ensures) (leaves_by _ _ _ _ _ _ c.run_seal.result _ _ _ _ (rw (c.deref.ensures.value, c.deref-2.ensures.value) at c.run_seal.ensures.ran) c.run_seal.ensures.ends)
+    rw (c.in-Seal.is, c.outcome_of.ensures) (leaves_by _ _ _ _ _ _ c.run_seal.result _ _ _ _ c.run_seal.ensures.ran c.run_seal.ensures.ends)
 
 pub returns-in-Open-clause-early : goal.returns-in-Open-clause-early
 returns-in-Open-clause-early g c =
@@ -43,15 +43,15 @@ returns-in-Range-clause-promised g c =
 
 pub returns-in-Sign-clause-means : goal.returns-in-Sign-clause-means
 returns-in-Sign-clause-means g c =
-    rw (c.in-Sign.is, c.outcome_of-in-Sign.ensures) (token_outcome SignsTo RefusesSigning _ _ _ c.write_token.result (rw c.deref-in-Sign.ensures.value at c.write_token.ensures.answer))
+    rw (c.in-Sign.is, c.outcome_of-in-Sign.ensures) (token_outcome SignsTo RefusesSigning _ _ _ c.write_token.result (rw c.deref.ensures.value at c.write_token.ensures.answer))
 
 pub returns-in-Sign-clause-early : goal.returns-in-Sign-clause-early
 returns-in-Sign-clause-early g c =
-    rw (c.in-Sign.is, c.outcome_of-in-Sign.ensures) (sign_leaves _ _ _ c.write_token.result _ _ _ _ (rw c.deref-in-Sign.ensures.value at c.write_token.ensures.answer) c.write_token.ensures.unread c.write_token.ensures.unwritten)
+    rw (c.in-Sign.is, c.outcome_of-in-Sign.ensures) (sign_leaves _ _ _ c.write_token.result _ _ _ _ (rw c.deref.ensures.value at c.write_token.ensures.answer) c.write_token.ensures.unread c.write_token.ensures.unwritten)
 
 pub returns-in-Sign-clause-promised : goal.returns-in-Sign-clause-promised
 returns-in-Sign-clause-promised g c =
-    rw (c.in-Sign.is, c.outcome_of-in-Sign.ensures) (sign_promised _ _ _ _ (token_outcome SignsTo RefusesSigning _ _ _ c.write_token.result (rw c.deref-in-Sign.ensures.value at c.write_token.ensures.answer)) c.write_token.ensures.taken)
+    rw (c.in-Sign.is, c.outcome_of-in-Sign.ensures) (sign_promised _ _ _ _ (token_outcome SignsTo RefusesSigning _ _ _ c.write_token.result (rw c.deref.ensures.value at c.write_token.ensures.answer)) c.write_token.ensures.taken)
 
 pub returns-in-Verify-clause-means : goal.returns-in-Verify-clause-means
 returns-in-Verify-clause-means g c =
@@ -160,13 +160,13 @@ pub returns-in-Open-clause-means : goal.returns-in-Open-clause-means
 returns-in-Open-clause-means g c = rw (c.in-Open.is, c.outcome_of-in-Open.ensures) (open_outcome _ _ _ _ c.run_open.result c.run_open.ensures.ran)
 
 pub returns-in-Keygen-clause-means : goal.returns-in-Keygen-clause-means
-returns-in-Keygen-clause-means g c = rw (c.in-Keygen.is, c.outcome_of-in-Keygen.ensures) (line_outcome _ _ _ c.write_new.result refl refl c.write_new.ensures.answer)
+returns-in-Keygen-clause-means g c = rw (c.in-Keygen.is, c.outcome_of-in-Keygen.ensures) (line_outcome _ _ _ c.write_new.result refl refl (rw c.as_str.ensures.value at c.write_new.ensures.answer))
 
 pub returns-in-Keygen-clause-early : goal.returns-in-Keygen-clause-early
 returns-in-Keygen-clause-early g c = rw (c.in-Keygen.is, c.outcome_of-in-Keygen.ensures) (line_leaves c.write_new.result _ _ _ c.write_new.ensures.early)
 
 pub returns-in-Keygen-clause-promised : goal.returns-in-Keygen-clause-promised
-returns-in-Keygen-clause-promised g c = rw (c.in-Keygen.is, c.outcome_of-in-Keygen.ensures) (keyset_promised _ _ _ _ (line_outcome _ _ _ c.write_new.result refl refl c.write_new.ensures.answer))
+returns-in-Keygen-clause-promised g c = rw (c.in-Keygen.is, c.outcome_of-in-Keygen.ensures) (keyset_promised _ _ _ _ (line_outcome _ _ _ c.write_new.result refl refl (rw c.as_str.ensures.value at c.write_new.ensures.answer)))
 
 pub returns-in-Rotate-clause-means : goal.returns-in-Rotate-clause-means
 returns-in-Rotate-clause-means g c = rw (c.in-Rotate.is, c.outcome_of-in-Rotate.ensures) (line_outcome _ _ _ c.write_rotated.result refl refl c.write_rotated.ensures.answer)
