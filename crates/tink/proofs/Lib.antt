@@ -3,3 +3,6 @@ pub mod RowFacts
 pub mod SoundFacts
 pub mod TemplateSteps
 pub mod TemplateFacts
+pub mod ValidatedFacts
+pub mod IdFacts
+pub mod RotatingSteps

@@ -3,3 +3,4 @@ pub mod Managers
 pub mod Registered
 pub mod LoadingRows
 pub mod NamedTemplates
+pub mod Rotating

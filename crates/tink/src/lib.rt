@@ -5,6 +5,7 @@
 pub mod aead;
 mod building;
 pub mod daead;
+pub mod keygen;
 pub mod keyset;
 mod laws;
 pub mod mac;

@@ -3,11 +3,11 @@ use Rattle.std.specs.Prelude.{◌≡◌, ◌^◌, ◌-◌, ℕ, List, [], Option
 use Rattle.tink_words.specs.Lines.{LineRead, is}
 use Rattle.tink_words.specs.declared.form.Action.{Action}
 use Rattle.tink_words.specs.declared.form.Action.TheVariants as actions
-use Rattle.tink_key_files.specs.Files.{wire_of}
-use Rattle.tink_key_files.specs.declared.editing.Edit.{Edit}
-use Rattle.tink_key_files.specs.declared.editing.Edit.TheVariants.{Delete, Destroy, Disable, Enable, Promote}
-use Rattle.tink_key_files.specs.declared.formats.Format.{Format}
-use Rattle.tink_key_files.specs.declared.formats.Format.TheVariants.{Binary, Json}
+use Rattle.tink_keyset_io.specs.Files.{wire_of}
+use Rattle.tink_keyset_io.specs.declared.key_files.editing.Edit.{Edit}
+use Rattle.tink_keyset_io.specs.declared.key_files.editing.Edit.TheVariants.{Delete, Destroy, Disable, Enable, Promote}
+use Rattle.tink_keyset_io.specs.declared.key_files.formats.Format.{Format}
+use Rattle.tink_keyset_io.specs.declared.key_files.formats.Format.TheVariants.{Binary, Json}
 use Rattle.tink_program_commands.specs.Words.{IsNumberWord}
 use Rattle.tink_run.specs.declared.report.Command.TheVariants.{Open, Seal}
 use Rattle.tink_files.specs.declared.tasks.Task.{Task}

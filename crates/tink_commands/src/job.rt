@@ -6,7 +6,7 @@ ghost use Rattle.tink_commands.specs.Jobs.{IsJob, IsSide, data_of, input_of, nam
 use std::alloc::Global;
 use std::io::IsTerminal;
 use tink_io::Kind;
-use tink_key_files::wire_bytes;
+use tink_keyset_io::key_files::wire_bytes;
 use tink_proto::Bytes;
 use tink_run::load::load;
 use tink_system::outside::read_keys;

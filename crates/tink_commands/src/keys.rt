@@ -5,9 +5,8 @@ ghost use Rattle.tink_commands.specs.Jobs.{format_named, own_edit};
 ghost use Rattle.tink_system.specs.Statuses.{trouble_status};
 
 use tink_files::{edit_keys, new_keys, rotate_keys};
-use tink_io::{Kind, StdSink, TinkError, write_all};
-use tink_key_files::{Edit, Format, list, wire_bytes};
-use tink_place::Place;
+use tink_io::{Kind, Place, StdSink, TinkError, write_all};
+use tink_keyset_io::key_files::{Edit, Format, list, wire_bytes};
 use tink_proto::Bytes;
 use tink_system::outside::{draws, read_keys};
 use tink_system::real_place::RealPlace;

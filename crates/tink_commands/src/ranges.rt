@@ -11,7 +11,7 @@ use tink_files::range_to;
 use tink_io::{StdSink, TinkError};
 use tink_program_commands::number_of;
 use tink_range::Steps;
-use tink_run_range::run_range;
+use tink_run::ranges::run_range;
 use tink_system::real_at::RealAt;
 use tink_system::real_place::RealPlace;
 use tink_system::trouble::Trouble;

@@ -8,7 +8,7 @@ use crate::job::data_of;
 use crate::keys::format_of;
 use tink_files::{unwrap_keys, wrap_keys};
 use tink_io::Kind;
-use tink_key_files::Format;
+use tink_keyset_io::key_files::Format;
 use tink_system::outside::{draws, read_keys};
 use tink_system::real_place::RealPlace;
 use tink_system::trouble::Trouble;

@@ -3,7 +3,7 @@ use Rattle.std.proofs.Common.{ℕ, List, Bool, sym, subst}
 use Rattle.std.specs.Prelude.{Result, Ok, Err}
 use Rattle.std.specs.declared.option.Option.{Option}
 use Rattle.tink_io.specs.declared.error.TinkError.{TinkError}
-use Rattle.tink_place.specs.Places.{Ends}
+use Rattle.tink_io.specs.Places.{Ends}
 use Rattle.tink_range.specs.Objects.{LeavesObject, RisesByKind, RisesByReadFault}
 
 -- a draft that is not shown makes no ReadFault, and all other refusals are those of the call that wrote it

@@ -5,11 +5,11 @@ use Rattle.std.specs.declared.option.Option.{Option}
 use Rattle.tink_io.specs.Faults.{Rose}
 use Rattle.tink_io.specs.declared.error.TinkError.{TinkError}
 use Rattle.tink_io.proofs.FaultLemmas.{Rose-earlier, Rose-later}
-use Rattle.tink_place.specs.Places.{Ends, IsShown}
+use Rattle.tink_io.specs.Places.{Ends, IsShown}
 use Rattle.tink_run.specs.Outside.{HasNoFault, Outside}
 use Rattle.tink_run.specs.Run.{IsOkOrWant}
 use Rattle.tink_run.specs.declared.report.Report.{Report}
-use Rattle.tink_run_range.specs.KeysetRanges.{IsGivenOrWants}
+use Rattle.tink_run.specs.KeysetRanges.{IsGivenOrWants}
 use Rattle.tink_files.specs.Streams.{IsShownWhole, RanAndEnded, Succeeds}
 
 -- a call wrote the draft, which leaves all else of the place, and its answer ended it

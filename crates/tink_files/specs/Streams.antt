@@ -4,7 +4,7 @@ use Rattle.std.specs.declared.option.Option.{Option}
 use Rattle.tink_io.specs.Faults.{Rose}
 use Rattle.tink_io.specs.declared.error.Kind.TheVariants.{OutOfMemory}
 use Rattle.tink_io.specs.declared.error.TinkError.{TinkError}
-use Rattle.tink_place.specs.Places.{Ends, IsShown}
+use Rattle.tink_io.specs.Places.{Ends, IsShown}
 
 -- A call wrote the draft of a place, which has got so much and has failed so often, and answered as it says. By its answer
 -- the draft was shown or taken away.

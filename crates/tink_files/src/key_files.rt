@@ -2,25 +2,24 @@
 
 ghost use Rattle.std.specs.Prelude.{◌≡◌, ◌≤◌, true, false, Ok};
 ghost use Rattle.tink_io.specs.Told.{Answers, made_of};
-ghost use Rattle.tink_keygen.specs.Rotating.{left_by, rotated_by};
+ghost use Rattle.tink.specs.Rotating.{left_by, rotated_by};
 ghost use Rattle.tink_keysets.specs.Managed.{no_keys};
 ghost use Rattle.tink_keysets.specs.Through.{LeavesDraws};
-ghost use Rattle.tink_key_files.specs.Edited.{edited_file};
-ghost use Rattle.tink_key_files.specs.Files.{file_text};
+ghost use Rattle.tink_keyset_io.specs.Edited.{edited_file};
+ghost use Rattle.tink_keyset_io.specs.Files.{file_text};
 ghost use Rattle.tink_files.specs.Saved.{Saves, left_of_file, new_file, rotated_file, rotated_keyset};
 
 use crate::saved::save_answer;
 use std::alloc::Global;
-use tink_io::{Draws, TinkError};
-use tink_key_files::{Edit, Format, as_file, edited_file, wire_bytes};
-use tink_keygen::{keygen, rotate};
-use tink_place::Place;
+use tink::keygen::{keygen, rotate};
+use tink_io::{Draws, Place, TinkError};
+use tink_keyset_io::key_files::{Edit, Format, as_file, edited_file, wire_bytes};
 use tink_proto::{Bytes, Keyset};
 
 /// Saves a file of one new key by the template of a name, in this format. The key is enabled and the primary one.
 ///
 /// # Errors
-/// Those of `keygen` of `tink_keygen`, and `WriteFault`: what was shown stays.
+/// Those of `keygen` of `tink`, and `WriteFault`: what was shown stays.
 pub fn new_keys<P: Place>(
     alloc: Global,
     template: &str,
@@ -42,7 +41,7 @@ pub fn new_keys<P: Place>(
 /// Saves a file with one key changed, in its own format.
 ///
 /// # Errors
-/// Those of `edited_file` of `tink_key_files`, and `WriteFault`: what was shown stays.
+/// Those of `edited_file` of `key_files`, and `WriteFault`: what was shown stays.
 pub fn edit_keys<P: Place>(
     alloc: Global,
     file: Vec<u8>,
@@ -64,7 +63,7 @@ pub fn edit_keys<P: Place>(
 ///
 /// # Errors
 /// `BadJson` exactly where the file is JSON by its first byte, and spells no keyset; those of `rotate` of
-/// `tink_keygen`, and `WriteFault`: what was shown stays.
+/// `tink`, and `WriteFault`: what was shown stays.
 pub fn rotate_keys<P: Place>(
     alloc: Global,
     file: Vec<u8>,

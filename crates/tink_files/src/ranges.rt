@@ -4,17 +4,17 @@ ghost use Rattle.std.specs.Prelude.{◌≡◌, ℕ, List, Some, true, false, IfO
 ghost use Rattle.tink_range.specs.ChunkReading.{ends_of};
 ghost use Rattle.tink_range.specs.Objects.{LeavesObject};
 ghost use Rattle.tink_run.specs.Run.{CanOpen};
-ghost use Rattle.tink_run_range.specs.KeysetRanges.{GivesSlice, KeysetRangeMeans, TakesKeysetSteps};
+ghost use Rattle.tink_run.specs.KeysetRanges.{GivesSlice, KeysetRangeMeans, TakesKeysetSteps};
 ghost use Rattle.tink_files.specs.Streams.{IsShownWhole, RanAndEnded, Succeeds};
 
 use std::alloc::Global;
 use std::sync::ledger::Ledger;
-use tink_io::TinkError;
-use tink_place::{Place, finish};
+use tink_io::saving::finish;
+use tink_io::{Place, TinkError};
 use tink_range::{ReadAt, Steps};
-use tink_run_range::run_range;
+use tink_run::ranges::run_range;
 
-/// Writes a range of the text of the stream that an object is, as `run_range` of `tink_run_range`, into a draft, which
+/// Writes a range of the text of the stream that an object is, as `run_range` of `tink_run`, into a draft, which
 /// is shown where all of it was done, and else taken away.
 ///
 /// # Errors

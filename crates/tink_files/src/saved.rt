@@ -5,8 +5,8 @@ ghost use Rattle.tink_io.specs.Told.{Answers};
 ghost use Rattle.tink_io.specs.declared.error.Kind.{Kind};
 ghost use Rattle.tink_files.specs.Saved.{Saves};
 
-use tink_io::TinkError;
-use tink_place::{Place, finish, save};
+use tink_io::saving::{finish, save};
+use tink_io::{Place, TinkError};
 use tink_proto::Bytes;
 
 /// Saves the bytes that a call made, behind what the draft has. Where it made none the draft is taken away.

@@ -7,8 +7,8 @@ ghost use Rattle.tink_files.specs.Streams.{IsShownWhole, RanAndEnded, Succeeds};
 ghost use Rattle.tink_files.specs.Tasks.{CanDo, IsDone, TaskMeans, answered_as};
 
 use std::alloc::Global;
-use tink_io::{Draws, Sink, Source, TinkError};
-use tink_place::{Place, finish};
+use tink_io::saving::finish;
+use tink_io::{Draws, Place, Sink, Source, TinkError};
 use tink_rewrap::rewrap;
 use tink_run::report::{Command, Report};
 use tink_run::run::run;

@@ -8,9 +8,8 @@ ghost use Rattle.tink_files.specs.Saved.{Saves};
 
 use crate::saved::save_answer;
 use std::alloc::Global;
-use tink_io::{Draws, TinkError};
-use tink_key_files::Format;
-use tink_place::Place;
+use tink_io::{Draws, Place, TinkError};
+use tink_keyset_io::key_files::Format;
 use tink_wrap::{Master, unwrapped, wrapped};
 
 /// Saves the keyset of a file of keys, encrypted by the primary key of a master with the associated data, as a file of

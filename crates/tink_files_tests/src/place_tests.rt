@@ -1,8 +1,8 @@
 ghost use Rattle.std.specs.Prelude.{◌≡◌, true, OnErr};
 
 use std::alloc::Global;
-use tink_io::{Kind, TinkError};
-use tink_place::{MemPlace, Place, finish, save};
+use tink_io::saving::{finish, save};
+use tink_io::{Kind, MemPlace, Place, TinkError};
 
 // What is there before, and what is written.
 pub const BEFORE: &[u8] = b"before";

@@ -7,8 +7,7 @@ use std::alloc::Global;
 use std::marker::Brand;
 use std::sync::ledger::{Blank, Ledger};
 use tink_files::{Task, range_to, save_task, write_task};
-use tink_io::{Draws, Kind, Source, SureSink, SureSource, TinkError};
-use tink_place::{MemPlace, Place};
+use tink_io::{Draws, Kind, MemPlace, Place, Source, SureSink, SureSource, TinkError};
 use tink_range::{MemAt, Steps};
 use tink_run::report::{Command, Report};
 

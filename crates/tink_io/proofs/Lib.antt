@@ -1,3 +1,5 @@
 pub mod FaultLemmas
 pub mod MemoryLemmas
 pub mod WrittenLemmas
+pub mod GatheringLemmas
+pub mod SavingLemmas

@@ -5,3 +5,7 @@ pub mod Taken
 pub mod Texts
 pub mod Told
 pub mod Written
+pub mod Gathering
+pub mod Places
+pub mod MemPlaces
+pub mod Statuses

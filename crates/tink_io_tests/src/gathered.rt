@@ -6,8 +6,8 @@ ghost use Rattle.std.specs.Prelude.{OnOk, ◌++◌};
 use crate::expect::expect;
 use crate::memory::sink_of;
 use std::alloc::Global;
-use tink_gathered::{Gathered, room};
-use tink_io::{MemSink, Sink, TinkError, write_all};
+use tink_io::gathered::room;
+use tink_io::{Gathered, MemSink, Sink, TinkError, write_all};
 
 // Writes two pieces, which the sink gets as one where both fit.
 fn write_both<K: Sink>(

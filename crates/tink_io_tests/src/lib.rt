@@ -1,4 +1,4 @@
-//! Tests of `tink_io`, `tink_gathered` and `tink_words`.
+//! Tests of `tink_io` and `tink_words`.
 #![tactic(auto)]
 
 #[cfg(test)]

@@ -1,9 +1,10 @@
-//! Keysets read from sources and written to sinks, in the wire format and in JSON.
+//! Keysets read from sources and written to sinks, and files of keys, in the wire format and in JSON.
 #![tactic(auto)]
 
 mod binary_io;
 mod format;
 mod json_io;
+pub mod key_files;
 mod text;
 
 pub use binary_io::{BinaryReader, BinaryWriter};

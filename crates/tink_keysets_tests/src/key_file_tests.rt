@@ -1,11 +1,11 @@
 ghost use Rattle.tink_io.specs.Told.{Answers};
-ghost use Rattle.tink_key_files.specs.Edited.{edited_file};
-ghost use Rattle.tink_key_files.specs.declared.editing.Edit.TheVariants.{Disable};
+ghost use Rattle.tink_keyset_io.specs.Edited.{edited_file};
+ghost use Rattle.tink_keyset_io.specs.declared.key_files.editing.Edit.TheVariants.{Disable};
 
 use crate::expecting::{Answer, expect};
 use std::alloc::Global;
 use tink_io::{Kind, TinkError};
-use tink_key_files::{Edit, Format, edited_file, list, wire_bytes};
+use tink_keyset_io::key_files::{Edit, Format, edited_file, list, wire_bytes};
 use tink_proto::Bytes;
 use tink_testutil::gives;
 

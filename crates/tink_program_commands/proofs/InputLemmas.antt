@@ -8,7 +8,7 @@ use Rattle.tink_run.specs.Outside.{Outside, HasNoFault}
 use Rattle.tink_run.specs.Run.{Told}
 use Rattle.tink_run_tokens.specs.Inputs.{input_limit, HasTooMuch, InputRefused, IsOfInput, IsUnloadable, IsUnwritten, LeavesSink}
 use Rattle.tink_run_tokens.proofs.ToldLemmas.{long_told, never_loaded, not_long, one_refusal}
-use Rattle.tink_refusals.specs.Statuses.{kind_status}
+use Rattle.tink_io.specs.Statuses.{kind_status}
 use Rattle.tink_program_commands.specs.Program.{own_statuses, reads_first, refused_statuses, IsAmong, IsCause, IsEarlyKind, IsUnusableBy}
 use Rattle.tink_program_commands.specs.Words.{Asked}
 use Rattle.tink_program_commands.proofs.StatusLemmas.{above_2, CommandFacts}

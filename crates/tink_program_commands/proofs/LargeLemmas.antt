@@ -8,7 +8,7 @@ use Rattle.tink_io.specs.declared.error.TinkError.{TinkError}
 use Rattle.tink_run.specs.Outside.{Outside, IsUntouched}
 use Rattle.tink_program_commands.specs.Keysets.{WrotePrefix}
 use Rattle.tink_program_commands.specs.Large.{lines_of, LargeMeans, MeasuresLarge, RefusesLarge, WritesLarge}
-use Rattle.tink_refusals.specs.Statuses.{kind_status}
+use Rattle.tink_io.specs.Statuses.{kind_status}
 use Rattle.tink_program_commands.specs.Program.{answer_outcome, own_statuses, refused_statuses, status_of, IsAmong}
 use Rattle.tink_program_commands.specs.Words.Asked.{Measuring}
 use Rattle.tink_program_commands.specs.declared.outcomes.Outcome.{Outcome}

@@ -9,7 +9,7 @@ use Rattle.tink_program_commands.specs.declared.outcomes.Outcome.{Outcome}
 use Rattle.tink_program_commands.specs.declared.outcomes.Outcome.TheVariants.{Refused}
 use Rattle.tink_program_commands.specs.Draws.{draws_in}
 use Rattle.tink_program_commands.specs.Keysets.{of_keyset, of_no_keys}
-use Rattle.tink_refusals.specs.Statuses.{kind_status}
+use Rattle.tink_io.specs.Statuses.{kind_status}
 use Rattle.tink_program_commands.specs.Program.{status_of, CommandMeans, OutcomeMeans, Promised, Promises, StatusMeans}
 use Rattle.tink_program_commands.specs.Words.{Asked, Spells}
 use Rattle.tink_program_commands.specs.Words.Asked.{Making, Measuring, Opening, Ranging, Rewrapping, Rotating, Sealing, Signing, Verifying}

@@ -21,7 +21,7 @@ use Rattle.tink_run.proofs.Promises.{only_agreeing}
 use Rattle.tink_run.proofs.LoadedFacts.{loaded_usable}
 use Rattle.tink_run.proofs.RunSteps.{leaves_same}
 use Rattle.tink_program_commands.specs.Draws.{draws_in}
-use Rattle.tink_refusals.specs.Statuses.{kind_status}
+use Rattle.tink_io.specs.Statuses.{kind_status}
 use Rattle.tink_program_commands.specs.Program.{answer_outcome, own_statuses, refused_statuses, status_of, IsAmong, IsEarlyKind, IsUnwrittenKind, Leaves}
 use Rattle.tink_program_commands.specs.Streams.{IsDoneOrWant, OpenOutcome, OpenPromises, OpensWhole, Ran, SealPromises, SealsWhole, SparesEnds, StopsUnmarked, StreamMeans}
 use Rattle.tink_program_commands.specs.Words.Asked.{Opening, Sealing}

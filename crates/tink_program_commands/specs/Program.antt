@@ -7,11 +7,11 @@ use Rattle.tink_io.specs.Written.{WritesOrFaults}
 use Rattle.tink_io.specs.declared.error.Kind.{Kind}
 use Rattle.tink_io.specs.declared.error.Kind.TheVariants.{OutOfMemory, BadKeyset, InvalidKeyset, UnsupportedKeyType, InvalidKey, NoPrimary, WrongPrimitive, UnsupportedHash, NoMatchingKey, UnknownTemplate, NoFreshId, InputTooLong, BadToken, MacMismatch}
 use Rattle.tink_io.specs.declared.error.TinkError.{TinkError}
-use Rattle.tink_refusals.specs.Statuses.{kind_status}
+use Rattle.tink_io.specs.Statuses.{kind_status}
 use Rattle.tink_run.specs.AllKeys.{load}
 use Rattle.tink_run.specs.Outside.{Outside, IsUntouched}
 use Rattle.tink_run.specs.declared.report.Command.TheVariants.{Seal}
-use Rattle.tink_run_range.specs.SetRanges.{WritesNoRange}
+use Rattle.tink_run.specs.SetRanges.{WritesNoRange}
 use Rattle.tink_run_tokens.specs.Inputs.{IsUnwritten, LeavesSink}
 use Rattle.tink_run_tokens.specs.Tokens.{macs_of, RefusesSigning, RefusesVerifying, SignsTo, VerifiesTo}
 use Rattle.tink_program_commands.specs.declared.outcomes.Outcome.{Outcome}

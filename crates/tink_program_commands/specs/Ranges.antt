@@ -10,7 +10,7 @@ use Rattle.tink_range.specs.KeyRanges.{RangesUnder}
 use Rattle.tink_run.specs.AllKeys.{load}
 use Rattle.tink_run.specs.Outside.{Outside, HasNoFault}
 use Rattle.tink_run.specs.Run.{CanOpen, Told}
-use Rattle.tink_run_range.specs.KeysetRanges.{GivesSlice}
+use Rattle.tink_run.specs.KeysetRanges.{GivesSlice}
 use Rattle.tink_run_tokens.specs.Inputs.{input_limit, HasTooMuch, InputRefused, IsOfInput, IsReadWhole, IsUnloadable}
 use Rattle.tink_program_commands.specs.Streams.{IsDoneOrWant}
 use Rattle.tink_program_commands.specs.declared.outcomes.Outcome.{Outcome}

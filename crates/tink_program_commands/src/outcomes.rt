@@ -27,7 +27,7 @@ pub fn status(outcome: Outcome) -> u8
     match outcome {
         Outcome::Done => 0,
         Outcome::Usage => 2,
-        Outcome::Refused(kind) => tink_refusals::status(kind),
+        Outcome::Refused(kind) => tink_io::refusals::status(kind),
     }
 }
 

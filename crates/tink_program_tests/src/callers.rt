@@ -1,7 +1,7 @@
 //! Callers of `run`, `keygen`, `write_payload` and `program`, whose clauses follow from those of the calls.
 
 ghost use Rattle.std.specs.Prelude.{◌≡◌, [], codes, Ok, Some, IfOk};
-ghost use Rattle.tink_keygen.specs.Rotating.{key_line, rotated_by};
+ghost use Rattle.tink.specs.Rotating.{key_line, rotated_by};
 ghost use Rattle.tink_keysets.specs.Managed.{no_keys};
 ghost use Rattle.tink_program_commands.specs.Program.{Promised};
 ghost use Rattle.tink_proto.specs.declared.messages.keys.Keyset.{Keyset};
@@ -13,8 +13,8 @@ ghost use Rattle.tink_words.specs.Forms.{words_of};
 use crate::bytes::of_digits;
 use crate::calls::draws_of;
 use std::alloc::Global;
+use tink::keygen::{key_line, keygen};
 use tink_io::{Draws, Kind, SureSink, SureSource, TinkError};
-use tink_keygen::{key_line, keygen};
 use tink_program::program::program;
 use tink_run::report::{Command, Report};
 use tink_run::run::run;

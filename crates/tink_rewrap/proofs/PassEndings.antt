@@ -12,8 +12,8 @@ use Rattle.tink_io.specs.declared.error.TinkError.{TinkError}
 use Rattle.stream_model.specs.Key.{StreamKey}
 use Rattle.stream_model.specs.Opening.{OpeningKey, IsChosen}
 use Rattle.stream_model.specs.Sealing.{prefix_of, salt_of}
-use Rattle.tink_gathered.specs.Gathering.{IsCutShort, OnlyGrows}
-use Rattle.tink_gathered.proofs.GatheringLemmas.{grows_then}
+use Rattle.tink_io.specs.Gathering.{IsCutShort, OnlyGrows}
+use Rattle.tink_io.proofs.GatheringLemmas.{grows_then}
 use Rattle.tink_run.specs.declared.report.Report.{Report}
 use Rattle.tink_run.specs.Endings.{EndsAs, IsEndedBy, IsRefusedEarly}
 use Rattle.tink_run.specs.OpenAnswers.{IsOfChosen}

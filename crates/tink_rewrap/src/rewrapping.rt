@@ -9,7 +9,7 @@ ghost use Rattle.tink_rewrap.specs.Promises.{CompletesRewrap, IsWholeRewrap, Lea
 
 use crate::together::rewrap_together;
 use std::alloc::Global;
-use tink_gathered::room;
+use tink_io::gathered::room;
 use tink_io::{Draws, Sink, Source, TinkError};
 use tink_run::keys::primary_key;
 use tink_run::load::load;

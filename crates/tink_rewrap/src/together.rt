@@ -10,8 +10,7 @@ ghost use Rattle.tink_rewrap.specs.Rewrapping.{RewrapEnds};
 
 use crate::between::rewrap_between;
 use std::alloc::Global;
-use tink_gathered::Gathered;
-use tink_io::{Draws, Sink, Source, TinkError};
+use tink_io::{Draws, Gathered, Sink, Source, TinkError};
 use tink_run::report::Report;
 use tink_run::together::ended;
 use tink_sets::{TypedEntry, TypedPrimitiveSet};

@@ -20,8 +20,8 @@ use Rattle.stream_model.specs.Opening.{OpeningKey, IsChosen, chunks_of}
 use Rattle.stream_model.specs.Sealing.{stream, part, longest_part, unmarked_under, salt_of, prefix_of}
 use Rattle.stream_model.proofs.CutFacts.{unmarked-append}
 use Rattle.stream_model.proofs.KeyFacts.{CanOpen as Lawful}
-use Rattle.tink_gathered.specs.Gathering.{IsCutShort, OnlyGrows}
-use Rattle.tink_gathered.proofs.GatheringLemmas.{grows_then}
+use Rattle.tink_io.specs.Gathering.{IsCutShort, OnlyGrows}
+use Rattle.tink_io.proofs.GatheringLemmas.{grows_then}
 use Rattle.tink_run.specs.declared.report.Report.{Report}
 use Rattle.tink_run.specs.Endings.{EndsAs, IsEndedBy, IsRefusedEarly}
 use Rattle.tink_run.specs.OpenAnswers.{AgreesUntil, chunk_of, IsBroken, IsCutOff, IsOfChosen, Lead, OpeningMeans, OpeningRefused}

@@ -15,3 +15,6 @@ mod StandardFacts
 pub mod RotationLaws
 pub mod FitFacts
 pub mod OneKeyFacts
+pub mod CountFacts
+pub mod SetSteps
+pub mod KeysetSteps

@@ -11,3 +11,5 @@ pub mod HeldKeys
 pub mod Rotation
 pub mod Fitting
 pub mod OneKey
+pub mod SetRanges
+pub mod KeysetRanges

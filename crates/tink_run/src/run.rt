@@ -8,7 +8,7 @@ use crate::load::load;
 use crate::report::{Command, Report};
 use crate::together::{open_together, seal_together};
 use std::alloc::Global;
-use tink_gathered::room;
+use tink_io::gathered::room;
 use tink_io::{Draws, Sink, Source, TinkError};
 
 /// Seals or opens a stream under a keyset.

@@ -5,7 +5,7 @@ ghost use Rattle.std.specs.Io.KnownBytes.{append_known};
 ghost use Rattle.stream_model.specs.Opening as opening;
 ghost use Rattle.tink_stream_keys.specs.StreamKinds.{key_in_set};
 ghost use Rattle.tink_streaming_aead.specs.Wrapped.{KeepsOrder, all_entries, keys_in};
-ghost use Rattle.tink_gathered.specs.Gathering.{OnlyGrows};
+ghost use Rattle.tink_io.specs.Gathering.{OnlyGrows};
 ghost use Rattle.tink_run.specs.Endings.{EndsAs, IsEndedBy};
 ghost use Rattle.tink_run.specs.OpenReads.{OpensReading};
 ghost use Rattle.tink_run.specs.Outside.{FaultsStay, outside_of};
@@ -16,8 +16,7 @@ use crate::open::open;
 use crate::report::Report;
 use crate::seal::seal;
 use std::alloc::Global;
-use tink_gathered::Gathered;
-use tink_io::{Draws, Kind, Sink, Source, TinkError};
+use tink_io::{Draws, Gathered, Kind, Sink, Source, TinkError};
 use tink_sets::{TypedEntry, TypedPrimitiveSet};
 use tink_streaming_aead::StreamKind;
 

@@ -2,7 +2,7 @@
 use Rattle.std.specs.Prelude.{◌≡◌, ◌⊎◌, ℕ}
 use Rattle.tink_io.specs.declared.error.Kind.{Kind}
 use Rattle.tink_io.specs.declared.error.Kind.TheVariants.{BadJson, IsPrimary, KeyNotFound, KeysetTooLong, MasterFailed, NotEnabled, RandomFault, WrongStatus}
-use Rattle.tink_refusals.specs.Statuses.{kind_status}
+use Rattle.tink_io.specs.Statuses.{kind_status}
 use Rattle.tink_system.specs.declared.trouble.Trouble.{Trouble}
 use Rattle.tink_system.specs.declared.trouble.Trouble.TheVariants.{NoMatch, Refused, Unusable, Usage}
 

@@ -8,9 +8,7 @@ use std::fs::{File, OpenFile, OpenOptions};
 use std::os::unix::fs::OpenOptionsExt;
 use std::random::RandomSource;
 use std::{fs, io};
-use tink_gathered::Gathered;
-use tink_io::{Failed, Sink, StdSink};
-use tink_place::Place;
+use tink_io::{Failed, Gathered, Place, Sink, StdSink};
 
 // So many bytes wait for the file at most. What a seal or an open hands on together is longer, and does not wait again;
 // the parts of a range do.

@@ -6,7 +6,7 @@ ghost use Rattle.tink_system.specs.Statuses.{IsOfStatus, refusal_status, trouble
 use std::io;
 use std::io::ErrorKind;
 use tink_io::Kind;
-use tink_refusals::advice;
+use tink_io::refusals::advice;
 
 /// Why a command ended without success.
 #[derive(Clone, Copy)]
@@ -59,7 +59,7 @@ fn status(kind: Kind) -> u8
         Kind::MasterFailed => 34,
         Kind::RandomFault => 35,
         Kind::KeysetTooLong => 13,
-        _ => tink_refusals::status(kind),
+        _ => tink_io::refusals::status(kind),
     }
 }
 

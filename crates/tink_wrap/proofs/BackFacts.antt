@@ -30,9 +30,9 @@ use Rattle.tink_aead.specs.declared.factory.WrappedAead.{WrappedAead}
 use Rattle.tink_aead.proofs.RotationFacts.{ciphertexts_outlive}
 use Rattle.tink.specs.Registered.{with_everything}
 use Rattle.tink.proofs.SoundFacts.{managers_sound}
-use Rattle.tink_key_files.specs.Files.{file_text, format_of}
-use Rattle.tink_key_files.specs.declared.formats.Format.{Format}
-use Rattle.tink_key_files.specs.declared.formats.Format.TheVariants.{Binary}
+use Rattle.tink_keyset_io.specs.Files.{file_text, format_of}
+use Rattle.tink_keyset_io.specs.declared.key_files.formats.Format.{Format}
+use Rattle.tink_keyset_io.specs.declared.key_files.formats.Format.TheVariants.{Binary}
 use Rattle.tink_wrap.specs.Masters.{IsMaster, MasterKeys, master_decrypts, master_encrypts, master_in, master_keys, master_of, valid_in_file}
 use Rattle.tink_wrap.specs.ThereAndBack.{OpensWhatItWraps, WrappedOutlives, returned_file, returned_keys}
 use Rattle.tink_wrap.specs.Wrapping.{unwrapped_file, unwrapped_keys, wrapped_by, wrapped_file, wrapped_in, wrapped_keys, wrapped_text, wraps}

@@ -19,7 +19,7 @@ use Rattle.tink_aead.specs.declared.aead_kind.AeadKind.{AeadKind}
 use Rattle.tink_aead.specs.declared.factory.WrappedAead.{WrappedAead}
 use Rattle.tink.specs.Managers.{row_of}
 use Rattle.tink.specs.Registered.{with_everything}
-use Rattle.tink_key_files.specs.Files.{wire_of}
+use Rattle.tink_keyset_io.specs.Files.{wire_of}
 
 -- the entries of a keyset's enabled keys as AEADs, and the id of the primary one
 pub record MasterKeys : Type 0 where

@@ -10,9 +10,9 @@ use Rattle.tink_proto.specs.Messages.{encrypted_keyset}
 use Rattle.tink_proto.specs.declared.messages.infos.EncryptedKeyset.{EncryptedKeyset}
 use Rattle.tink_proto.specs.declared.messages.keys.Keyset.{Keyset}
 use Rattle.tink_keysets.specs.Encrypted.{chained, decrypted, encrypted}
-use Rattle.tink_key_files.specs.Files.{file_text, format_of}
-use Rattle.tink_key_files.specs.declared.formats.Format.{Format}
-use Rattle.tink_key_files.specs.declared.formats.Format.TheVariants.{Binary, Json}
+use Rattle.tink_keyset_io.specs.Files.{file_text, format_of}
+use Rattle.tink_keyset_io.specs.declared.key_files.formats.Format.{Format}
+use Rattle.tink_keyset_io.specs.declared.key_files.formats.Format.TheVariants.{Binary, Json}
 use Rattle.tink_wrap.specs.Masters.{MasterKeys, master_decrypts, master_encrypts, valid_in_file}
 
 -- the file of this format that holds an encrypted keyset

@@ -8,7 +8,7 @@ ghost use Rattle.tink_wrap.specs.ThereAndBack.{OpensWhatItWraps, WrappedOutlives
 use crate::{Master, unwrapped, wrapped};
 use std::alloc::Global;
 use tink_io::{Draws, TinkError};
-use tink_key_files::Format;
+use tink_keyset_io::key_files::Format;
 use tink_proto::Bytes;
 
 /// Wraps a file of keys in the wire format, and unwraps it under the same master with the same associated data. The

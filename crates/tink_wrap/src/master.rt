@@ -7,7 +7,7 @@ use std::alloc::Global;
 use tink::{Managers, registry};
 use tink_aead::{AeadKind, WrappedAead};
 use tink_io::TinkError;
-use tink_key_files::wire_bytes;
+use tink_keyset_io::key_files::wire_bytes;
 use tink_keysets::keyset::{Handle, insecure};
 
 /// The AEADs of a master keyset as one: the primary key encrypts, and any key decrypts.

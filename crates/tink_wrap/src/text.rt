@@ -7,13 +7,13 @@ ghost use Rattle.tink_io.specs.declared.error.Kind.TheVariants.{BadJson, BadKeys
 ghost use Rattle.tink_json.specs.Messages.{encrypted_keyset as json_form, message_of};
 ghost use Rattle.tink_json.specs.Written.{encrypted_keyset_value, pretty_text};
 ghost use Rattle.tink_proto.specs.Messages.{encrypted_keyset};
-ghost use Rattle.tink_key_files.specs.declared.formats.Format.TheVariants.{Binary};
+ghost use Rattle.tink_keyset_io.specs.declared.key_files.formats.Format.TheVariants.{Binary};
 ghost use Rattle.tink_wrap.specs.Wrapping.{wrapped_in, wrapped_text};
 
 use std::alloc::Global;
 use tink_io::{Kind, TinkError};
 use tink_json::Json;
-use tink_key_files::Format;
+use tink_keyset_io::key_files::Format;
 use tink_proto::{Bytes, EncryptedKeyset, Message, ProtoError};
 
 // The encrypted keyset of a file.

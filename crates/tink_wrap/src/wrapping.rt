@@ -7,7 +7,7 @@ ghost use Rattle.tink_proto.specs.Messages.{keyset};
 ghost use Rattle.tink_proto.specs.declared.messages.keys.Keyset.{Keyset};
 ghost use Rattle.tink_keysets.specs.Encrypted.{handle_of_bytes};
 ghost use Rattle.tink_keysets.specs.Through.{LeavesDraws};
-ghost use Rattle.tink_key_files.specs.declared.formats.Format.TheVariants.{Binary};
+ghost use Rattle.tink_keyset_io.specs.declared.key_files.formats.Format.TheVariants.{Binary};
 ghost use Rattle.tink_wrap.specs.Masters.{IsMaster, MasterKeys, valid_in_file};
 ghost use Rattle.tink_wrap.specs.Wrapping.{unspent_file, unwrapped_file, unwrapped_keys, wrapped_file, wrapped_in, wrapped_keys};
 
@@ -16,7 +16,7 @@ use crate::master::{Master, valid_in_file};
 use crate::text::{wrapped_in, wrapped_text};
 use std::alloc::Global;
 use tink_io::{Draws, TinkError};
-use tink_key_files::{Format, as_file};
+use tink_keyset_io::key_files::{Format, as_file};
 use tink_keysets::keyset::{Handle, insecure};
 use tink_proto::{Bytes, EncryptedKeyset, Keyset};
 

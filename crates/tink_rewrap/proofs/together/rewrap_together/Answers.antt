@@ -3,7 +3,7 @@ use Rattle.std.specs.Io.KnownBytes.{append_known}
 use Rattle.stream_model.specs.Opening.{opening_key}
 use Rattle.tink_stream_keys.specs.StreamKinds.{key_in_set}
 use Rattle.tink_streaming_aead.specs.Wrapped.{all_entries, keys_in}
-use Rattle.tink_gathered.specs.Gathering.{OnlyGrows}
+use Rattle.tink_io.specs.Gathering.{OnlyGrows}
 use Rattle.tink_run.specs.Outside.{Outside, outside_of}
 use Rattle.tink_run.proofs.EndingSteps.{begins_as, early_ends}
 use Rattle.tink_rewrap.specs.Rewrapping.{RewrapEnds}

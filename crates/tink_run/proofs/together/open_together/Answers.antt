@@ -1,5 +1,5 @@
 use Rattle.std.proofs.Common.{rules, arith, ap, subst, map}
-use Rattle.tink_gathered.specs.Gathering.{OnlyGrows}
+use Rattle.tink_io.specs.Gathering.{OnlyGrows}
 use Rattle.stream_model.specs.Opening.{opening_key}
 use Rattle.tink_streaming_aead.specs.Wrapped.{all_entries, keys_in}
 use Rattle.tink_run.specs.OpenReads.{OpensReading}

@@ -1,5 +1,5 @@
 use Rattle.std.proofs.Common.{rules, arith, ap, subst}
-use Rattle.tink_gathered.specs.Gathering.{OnlyGrows}
+use Rattle.tink_io.specs.Gathering.{OnlyGrows}
 use Rattle.tink_stream_keys.specs.StreamKinds.{key_in_set}
 use Rattle.tink_run.specs.SealSteps.{SealsUnder}
 use Rattle.tink_run.specs.Outside.{Outside, outside_of}

@@ -1,0 +1,138 @@
+//! New and rotated keysets, by the name of a template.
+
+ghost use Rattle.std.specs.Prelude.{◌≡◌, ◌⊎◌, ◌≤◌, None, Some, Ok, IfOk, IfErr, IsTrue, MatchResult, length};
+ghost use Rattle.tink_io.specs.declared.error.Kind.TheVariants.{OutOfMemory, UnknownTemplate};
+ghost use Rattle.tink_io.specs.Told.{Answers};
+ghost use Rattle.keyset_model.specs.Validity.{IsValid, are_well_formed};
+ghost use Rattle.tink_keysets.specs.Managed.{no_keys};
+ghost use Rattle.tink.specs.NamedTemplates.{template_named};
+ghost use Rattle.tink.specs.Registered.{with_everything};
+ghost use Rattle.tink.specs.Rotating.{IsNotRotated, key_line, left_after, left_by, rotated, rotated_by};
+ghost use Rattle.tink_keysets.specs.Through.{LeavesDraws};
+ghost use Rattle.tink_keysets.specs.Valid.{valid_keyset};
+
+use crate::keyset::{Manager, insecure};
+use crate::{Draws, Kind, Managers, Registry, TinkError, registry};
+use std::alloc::Global;
+use tink_proto::{KeyTemplate, Keyset, Message};
+
+/// A keyset of one new key by the template of a name. The key is enabled and the primary one. Its bytes are drawn
+/// first, at most 64 of them, then ids of four draws, at most 128, until one isn't 0.
+///
+/// # Errors
+/// `UnknownTemplate` exactly where `tink::registry` has no template of the name; `NoFreshId` exactly where all 128 ids
+/// were 0; `RandomFault` where draws are too few, which 576 never are; `OutOfMemory` may come in place of each.
+pub fn keygen(alloc: Global, template: &str, draws: &mut Draws) -> Result<Keyset, TinkError>
+    ensures answer { Answers result (rotated_by template.now (Ok no_keys) draws.old) }
+    ensures rest { LeavesDraws result (left_by template.now (Ok no_keys) draws.old) draws.old draws.new }
+    ensures valid { IfOk result IsValid }
+    ensures cause { 576 ≤ length draws.old
+        → IfErr result (λ e. (e.kind ≡ OutOfMemory) ⊎ IsNotRotated template.now (Ok no_keys) e.kind) }
+{
+    new_keyset(alloc, template, draws)
+}
+
+/// The keyset that bytes spell in the wire format, with a new key by the template of a name at its end. The key is
+/// enabled and the primary one, and the other keys stay as they are. Draws are taken as `keygen` takes them, until an
+/// id isn't 0 and no key has it.
+///
+/// # Errors
+/// The first that applies: `UnknownTemplate` exactly where `tink::registry` has no template of the name; `BadKeyset`
+/// exactly where the bytes spell no keyset, and `InvalidKeyset` exactly where it isn't valid; `NoFreshId` exactly where
+/// all 128 ids were 0 or in use; `RandomFault` where draws are too few, which 576 never are. `OutOfMemory` may come in
+/// place of each.
+pub fn rotate(
+    alloc: Global,
+    keyset: &[u8],
+    template: &str,
+    draws: &mut Draws,
+) -> Result<Keyset, TinkError>
+    ensures answer { Answers result (rotated_by template.now (valid_keyset keyset.now) draws.old) }
+    ensures rest { LeavesDraws result (left_by template.now (valid_keyset keyset.now) draws.old) draws.old draws.new }
+    ensures valid { IfOk result IsValid }
+    ensures cause { 576 ≤ length draws.old
+        → IfErr result (λ e. (e.kind ≡ OutOfMemory) ⊎ IsNotRotated template.now (valid_keyset keyset.now) e.kind) }
+{
+    rotated_keyset(alloc, keyset, template, draws)
+}
+
+/// A keyset's bytes in the wire format in lower-case hexadecimal digits, and a newline.
+///
+/// # Errors
+/// `OutOfMemory` alone.
+pub fn key_line(alloc: Global, keyset: &Keyset) -> Result<Vec<u8>, TinkError>
+    ensures line { IfOk result (λ v. v.items ≡ key_line keyset.now) }
+    ensures err { IfErr result (λ e. e ≡ record { kind = OutOfMemory }) }
+{
+    let Ok(bytes) = keyset.encode(alloc) else {
+        return Err(TinkError::new(Kind::OutOfMemory));
+    };
+    let mut line = hex::encode(alloc, bytes.as_slice())?.into_bytes();
+    line.push(b'\n')?;
+    Ok(line)
+}
+
+// What `keygen` answers. Its causes follow from this.
+fn new_keyset(alloc: Global, template: &str, draws: &mut Draws) -> Result<Keyset, TinkError>
+    ensures answer { Answers result (rotated_by template.now (Ok no_keys) draws.old) }
+    ensures rest { LeavesDraws result (left_by template.now (Ok no_keys) draws.old) draws.old draws.new }
+    ensures valid { IfOk result IsValid }
+{
+    let registry = registry(alloc)?;
+    let kt = named(&registry, template)?;
+    with_new_key(alloc, Manager::new(alloc), kt, &registry, draws)
+}
+
+// What `rotate` answers. Its causes follow from this.
+fn rotated_keyset(
+    alloc: Global,
+    keyset: &[u8],
+    template: &str,
+    draws: &mut Draws,
+) -> Result<Keyset, TinkError>
+    ensures answer { Answers result (rotated_by template.now (valid_keyset keyset.now) draws.old) }
+    ensures rest { LeavesDraws result (left_by template.now (valid_keyset keyset.now) draws.old) draws.old draws.new }
+    ensures valid { IfOk result IsValid }
+{
+    let registry = registry(alloc)?;
+    let kt = named(&registry, template)?;
+    let handle = insecure::valid_handle(alloc, keyset)?;
+    with_new_key(
+        alloc,
+        Manager::new_from_handle(handle),
+        kt,
+        &registry,
+        draws,
+    )
+}
+
+// The registered template of a name.
+fn named<'r>(registry: &'r Registry<Managers>, name: &str) -> Result<&'r KeyTemplate, TinkError>
+    requires { registry.now ≡ with_everything }
+    ensures { MatchResult result (λ kt. template_named name.now ≡ Some kt.now)
+        (λ e. (e.kind ≡ UnknownTemplate) × (template_named name.now ≡ None)) }
+{
+    match registry.get_template_generator(name) {
+        Some(kt) => Ok(kt),
+        None => Err(TinkError::new(Kind::UnknownTemplate)),
+    }
+}
+
+// A manager's keyset with a new key by a template as its primary one.
+fn with_new_key(
+    alloc: Global,
+    manager: Manager,
+    kt: &KeyTemplate,
+    registry: &Registry<Managers>,
+    draws: &mut Draws,
+) -> Result<Keyset, TinkError>
+    requires { registry.now ≡ with_everything }
+    ensures answer { Answers result (rotated kt.now draws.old manager) }
+    ensures rest { LeavesDraws result (left_after kt.now draws.old manager) draws.old draws.new }
+    ensures valid { IsTrue (are_well_formed manager) → IfOk result IsValid }
+{
+    let mut manager = manager;
+    manager.add(alloc, kt, registry, draws, true)?;
+    let handle = manager.handle(alloc)?;
+    insecure::keyset_material(alloc, &handle)
+}

@@ -1,0 +1,46 @@
+//! Where a file is to appear.
+
+ghost use Rattle.std.specs.Prelude.{◌≡◌, ◌≤◌, ℕ, List, Bool, true, false, OnOk, OnErr};
+ghost use Rattle.std.specs.declared.option.Option.{Option};
+ghost use Rattle.tink_io.specs.Faults.{CountsFault};
+ghost use Rattle.tink_io.specs.Places.{IsShown};
+
+use crate::{Failed, Sink};
+
+/// Where one file is to appear under a name. What is written goes to a draft beside it, which is then shown under the
+/// name, or taken away.
+pub trait Place: Sink {
+    // What stands under the name, where it is given: no file, or the bytes of one.
+    ghost shown: { Self → Option (Option (List ℕ)) };
+
+    // Whether the draft is there.
+    ghost has_draft: { Self → Bool };
+
+    // Whether a file that stands under the name is replaced.
+    ghost replaces: { Self → Bool };
+
+    /// Shows the draft under the name, whole and at once, so that no draft is left.
+    ///
+    /// `Failed` leaves what was shown, and raises the count. It comes where a file stands under the name and none is to
+    /// be replaced.
+    fn show(&mut self) -> Result<(), Failed>
+        requires { has_draft self.old ≡ true }
+        ensures shown { OnOk result
+            (IsShown (Self.got self.old) (replaces self.old) (shown self.old) (shown self.new)) }
+        ensures gone { OnOk result (has_draft self.new ≡ false) }
+        ensures err { OnErr result (shown self.new ≡ shown self.old) }
+        ensures cause { CountsFault (Self.faults self.old) (Self.faults self.new) result };
+
+    /// Takes the draft away. What is shown stays.
+    fn discard(&mut self)
+        ensures gone { has_draft self.new ≡ false }
+        ensures shown { shown self.new ≡ shown self.old }
+        ensures faults { Self.faults self.old ≤ Self.faults self.new };
+
+    // Writing changes nothing of what is shown.
+    ghost same_shown: { (p q : Self) → Self.same p q → shown q ≡ shown p };
+
+    ghost same_draft: { (p q : Self) → Self.same p q → has_draft q ≡ has_draft p };
+
+    ghost same_replaces: { (p q : Self) → Self.same p q → replaces q ≡ replaces p };
+}

@@ -1,7 +1,0 @@
-use Rattle.std.proofs.Common.{◌≡◌, ◌++◌, drop}
-use Rattle.tink_key_files.specs.Listed.{printed}
-use Rattle.tink_key_files.proofs.listing.put_printed.Given as goal
-
--- the bytes so far, and those that are left
-abbrev pub invariant-bytes : goal.invariant-bytes
-invariant-bytes l = l.text.items ++ printed (drop l.byte-index l.bytes) ≡ l.initial.text.items ++ printed l.bytes

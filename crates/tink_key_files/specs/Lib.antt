@@ -1,3 +1,0 @@
-pub mod Files
-pub mod Edited
-pub mod Listed

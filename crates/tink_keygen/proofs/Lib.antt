@@ -1,3 +1,0 @@
-pub mod ValidatedFacts
-pub mod IdFacts
-pub mod RotatingSteps

@@ -1,2 +1,0 @@
-pub mod MemPlaces
-pub mod Places
