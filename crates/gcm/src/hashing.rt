@@ -9,17 +9,7 @@ ghost use Rattle.gcm.specs.Orders.{absorb, absorbed, block_of, four_absorbed, ha
 use crate::field::times_x;
 use crate::hash_key::HashKey;
 use crate::order::{ByteOrder, block_of, number_of, pair_of};
-
-// Block i of the bytes, with zeros up to a whole block.
-fn padded_block(bytes: &[u8], i: usize) -> [u8; 16]
-    requires { 16 * i < length bytes.now }
-    ensures { result ≡ block_at (zero_padded bytes.now) i }
-{
-    let n = (bytes.len() - 16 * i).min(16);
-    let mut block = [0u8; 16];
-    block[..n].copy_from_slice(&bytes[16 * i..16 * i + n]);
-    block
-}
+use standards::padded_block;
 
 // One block more after y, under the key.
 fn absorb(order: ByteOrder, key: &HashKey, y: u128, block: [u8; 16]) -> u128

@@ -2,7 +2,7 @@ use Rattle.std.proofs.Common.{◌≡◌, ◌≤◌, ◌<◌, ◌+◌, ◌-◌, �
 use Rattle.std.proofs.lemmas.Bool.{cases_lt}
 use Rattle.std.proofs.lemmas.List.{drop-append-le, drop-replicate, length-drop, length-replicate, take-append-le, take_all}
 use Rattle.standards.specs.Blocks.{block_at, zero_padded}
-use Rattle.gcm.proofs.hashing.padded_block.Goals as goal
+use Rattle.standards.proofs.padded_block.Goals as goal
 
 -- a prefix of a block and zeros are that block of the padded bytes
 padded : (bytes front : List ℕ) (i n : ℕ) → 16 * i < length bytes → n ≡ min (length bytes - 16 * i) 16 → front ≡ take n (drop (16 * i) bytes)
