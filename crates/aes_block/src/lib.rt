@@ -7,19 +7,17 @@ ghost use Rattle.standards.specs.Aes.{inverse, times};
 ghost use Rattle.standards.specs.Lists.{AreBytes};
 ghost use Rattle.aes_block.specs.Ciphers.{IsKeySize, decrypted, encrypted};
 
-mod aes128;
-mod aes192;
-mod aes256;
+mod aes;
 mod decryption;
 mod encryption;
 mod key_expansion;
+mod key_sizes;
 mod planes;
 mod schedule;
 mod tables;
 
-pub use aes128::Aes128;
-pub use aes192::Aes192;
-pub use aes256::Aes256;
+pub use aes::{Aes, Aes128, Aes192, Aes256};
+pub use key_sizes::{AesKeySize, KeySizes};
 
 /// Under each key of 16, 24 or 32 bytes, decryption undoes encryption, and encryption undoes decryption, at every
 /// block of 16 bytes.

@@ -1,10 +1,11 @@
-//! AES with keys of 24 bytes, in 12 rounds.
+//! AES with keys of N bytes, which are 16, 24 or 32.
 
 ghost use Rattle.std.proofs.Common.{lit<, lit≤};
 ghost use Rattle.std.specs.Prelude.{◌≡◌, ⊤, length, codes};
 ghost use Rattle.aes_block.specs.Ciphers.{decrypted, encrypted};
 ghost use Rattle.aes_block.specs.Lengths.{length-decrypted, length-encrypted};
 
+use crate::key_sizes::{AesKeySize, KeySizes};
 use crate::schedule::Schedule;
 use cipher::{
     AlgorithmName, BlockCipherDecBackend, BlockCipherDecClosure, BlockCipherDecrypt,
@@ -14,28 +15,37 @@ use std::alloc::AllocError;
 use std::fmt;
 use std::marker::Model;
 
-/// AES under a key of 24 bytes, which contracts see as the key (FIPS 197, 5). It is its own backend: eight blocks
+/// AES with keys of 16 bytes, in 10 rounds.
+pub type Aes128 = Aes<16>;
+
+/// AES with keys of 24 bytes, in 12 rounds.
+pub type Aes192 = Aes<24>;
+
+/// AES with keys of 32 bytes, in 14 rounds.
+pub type Aes256 = Aes<32>;
+
+/// AES under a key of N bytes, which contracts see as the key (FIPS 197, 5). It is its own backend: eight blocks
 /// together go by bit planes, fewer than eight as the first of eight, and one alone by tables.
 #[derive(Drop)]
-pub struct Aes192 {
+pub struct Aes<const N: usize> {
     schedule: Schedule,
 }
 
-impl Model for Aes192 {
+impl<const N: usize> Model for Aes<N> {
     ghost use Rattle.std.specs.Prelude.{◌≡◌, List, ℕ, length};
 
     ghost Value = { List ℕ };
 
     ghost view = { λ a. a.schedule };
 
-    ghost invariant = { λ a. length a.schedule ≡ 24 };
+    ghost invariant = { λ a. length a.schedule ≡ N };
 }
 
-impl KeyInit<24> for Aes192 {
+impl KeyInit<16> for Aes128 {
     ghost keyed = { λ key. key };
 
-    fn new(key: &[u8; 24]) -> Aes192 {
-        Aes192 {
+    fn new(key: &[u8; 16]) -> Aes128 {
+        Aes {
             schedule: Schedule::new(key),
         }
     }
@@ -43,8 +53,32 @@ impl KeyInit<24> for Aes192 {
     ghost key_size = { (lit≤ tt, lit< tt) };
 }
 
-impl BlockCipherEncBackend<16> for Aes192 {
-    ghost encrypts = { encrypted 24 };
+impl KeyInit<24> for Aes192 {
+    ghost keyed = { λ key. key };
+
+    fn new(key: &[u8; 24]) -> Aes192 {
+        Aes {
+            schedule: Schedule::new(key),
+        }
+    }
+
+    ghost key_size = { (lit≤ tt, lit< tt) };
+}
+
+impl KeyInit<32> for Aes256 {
+    ghost keyed = { λ key. key };
+
+    fn new(key: &[u8; 32]) -> Aes256 {
+        Aes {
+            schedule: Schedule::new(key),
+        }
+    }
+
+    ghost key_size = { (lit≤ tt, lit< tt) };
+}
+
+impl<const N: usize> BlockCipherEncBackend<16> for Aes<N> {
+    ghost encrypts = { encrypted N };
 
     ghost lanes = { λ _. 8 };
 
@@ -69,8 +103,11 @@ impl BlockCipherEncBackend<16> for Aes192 {
     ghost block_size = { (lit≤ tt, lit< tt) };
 }
 
-impl BlockCipherEncrypt<16> for Aes192 {
-    ghost encrypts = { encrypted 24 };
+impl<const N: usize> BlockCipherEncrypt<16> for Aes<N>
+where
+    KeySizes: AesKeySize<N>,
+{
+    ghost encrypts = { encrypted N };
 
     fn encrypt_with_backend<F: BlockCipherEncClosure<16>>(&self, f: &mut F) {
         f.call(self);
@@ -78,11 +115,11 @@ impl BlockCipherEncrypt<16> for Aes192 {
 
     ghost block_size = { (lit≤ tt, lit< tt) };
 
-    ghost sized = { length-encrypted 24 (lit≤ tt) };
+    ghost sized = { length-encrypted N ⟦<KeySizes as AesKeySize<N>>⟧.long };
 }
 
-impl BlockCipherDecBackend<16> for Aes192 {
-    ghost decrypts = { decrypted 24 };
+impl<const N: usize> BlockCipherDecBackend<16> for Aes<N> {
+    ghost decrypts = { decrypted N };
 
     ghost lanes = { λ _. 8 };
 
@@ -107,8 +144,11 @@ impl BlockCipherDecBackend<16> for Aes192 {
     ghost block_size = { (lit≤ tt, lit< tt) };
 }
 
-impl BlockCipherDecrypt<16> for Aes192 {
-    ghost decrypts = { decrypted 24 };
+impl<const N: usize> BlockCipherDecrypt<16> for Aes<N>
+where
+    KeySizes: AesKeySize<N>,
+{
+    ghost decrypts = { decrypted N };
 
     fn decrypt_with_backend<F: BlockCipherDecClosure<16>>(&self, f: &mut F) {
         f.call(self);
@@ -116,7 +156,15 @@ impl BlockCipherDecrypt<16> for Aes192 {
 
     ghost block_size = { (lit≤ tt, lit< tt) };
 
-    ghost sized = { length-decrypted 24 (lit≤ tt) };
+    ghost sized = { length-decrypted N ⟦<KeySizes as AesKeySize<N>>⟧.long };
+}
+
+impl AlgorithmName for Aes128 {
+    ghost name = { codes "Aes128" };
+
+    fn write_alg_name<W: fmt::Write>(f: &mut fmt::Formatter<W>) -> fmt::Result {
+        f.write_str("Aes128")
+    }
 }
 
 impl AlgorithmName for Aes192 {
@@ -127,13 +175,21 @@ impl AlgorithmName for Aes192 {
     }
 }
 
-impl Clone for Aes192 {
+impl AlgorithmName for Aes256 {
+    ghost name = { codes "Aes256" };
+
+    fn write_alg_name<W: fmt::Write>(f: &mut fmt::Formatter<W>) -> fmt::Result {
+        f.write_str("Aes256")
+    }
+}
+
+impl<const N: usize> Clone for Aes<N> {
     ghost is_clone = { λ a b. b ≡ a };
 
     ghost is_infallible = { λ _. ⊤ };
 
-    fn clone(&self) -> Result<Aes192, AllocError> {
-        Ok(Aes192 {
+    fn clone(&self) -> Result<Aes<N>, AllocError> {
+        Ok(Aes {
             schedule: self.schedule.clone()?,
         })
     }
