@@ -8,6 +8,7 @@ mod counted;
 mod ctr128;
 mod ctr32;
 mod ctr64;
+mod ends;
 
 ghost use Rattle.std.specs.Prelude.{◌≡◌, ℕ, ◌+◌, ◌-◌, ◌%◌, ◌<◌, ◌≤◌, List, Some, length};
 ghost use Rattle.cipher_stream.specs.Keystream.{as_usize};
@@ -15,9 +16,10 @@ ghost use Rattle.cipher_stream.specs.Keystream.{as_usize};
 pub use chunks::{BlockSizes, WholeChunks};
 use cipher_stream::StreamCipherCounter;
 pub use counted::{CountedNonce, CounterWord};
-pub use ctr32::{Ctr32BE, Ctr32LE, CtrNonce32};
-pub use ctr64::{Ctr64BE, Ctr64LE, CtrNonce64};
-pub use ctr128::{Ctr128BE, Ctr128LE, CtrNonce128};
+pub use ctr32::{Ctr32, Ctr32BE, Ctr32LE, CtrNonce32};
+pub use ctr64::{Ctr64, Ctr64BE, Ctr64LE, CtrNonce64};
+pub use ctr128::{Ctr128, Ctr128BE, Ctr128LE, CtrNonce128};
+pub use ends::{FieldEnd, First, Last};
 use std::marker::Model;
 
 /// A flavour's name, of which a contract sees the bytes.

@@ -3,9 +3,10 @@
 ghost use Rattle.std.proofs.Common.{lit≤, refl};
 ghost use Rattle.std.specs.Prelude.{◌≡◌, ℕ, ◌+◌, ◌-◌, ◌*◌, ◌%◌, ◌^◌, ◌<◌, ◌≤◌, ◌++◌, List, Some, codes, length};
 ghost use Rattle.std.specs.Int.{Width, w32, w64, w128, byte_len, from_be_bytes, to_be_bytes, from_le_bytes, to_le_bytes};
-ghost use Rattle.ctr.specs.Flavors.{field_size, plus, last, first};
+ghost use Rattle.ctr.specs.Flavors.{field_size, plus};
 ghost use Rattle.cipher_stream.specs.Keystream.{as_usize};
 
+use super::ends::FieldEnd;
 use cipher_stream::StreamCipherCounter;
 use std::fmt;
 
@@ -211,25 +212,14 @@ impl<W: CounterWord, const B: usize> CountedNonce<W, [u8; B]> {
         }
     }
 
-    // The nonce with the counter added in its last bytes.
+    // The nonce with the counter added at this end.
     #[tactic(auto, using(crate::specs::FlavorLaws::plus_repeats))]
-    pub(crate) fn added_in_last(&self) -> [u8; B]
+    pub(crate) fn added<E: FieldEnd>(&self) -> [u8; B]
         requires { byte_len W.width ≤ B }
-        ensures value { result ≡ plus last W.width self.now.nonce (W.value self.now.ctr % field_size W.width) }
+        ensures value { result ≡ plus E.end W.width self.now.nonce (W.value self.now.ctr % field_size W.width) }
     {
         let mut block = self.nonce;
-        add_in_last(&mut block, self.ctr);
-        block
-    }
-
-    // The nonce with the counter added in its first bytes.
-    #[tactic(auto, using(crate::specs::FlavorLaws::plus_repeats))]
-    pub(crate) fn added_in_first(&self) -> [u8; B]
-        requires { byte_len W.width ≤ B }
-        ensures value { result ≡ plus first W.width self.now.nonce (W.value self.now.ctr % field_size W.width) }
-    {
-        let mut block = self.nonce;
-        add_in_first(&mut block, self.ctr);
+        E::add(&mut block, self.ctr);
         block
     }
 
@@ -240,25 +230,6 @@ impl<W: CounterWord, const B: usize> CountedNonce<W, [u8; B]> {
     {
         self.ctr = self.ctr.next();
     }
-}
-
-// Adds a counter in the last bytes of a block, high byte first.
-#[tactic(auto, unfolding(crate::specs::Flavors::plus))]
-fn add_in_last<W: CounterWord>(block: &mut [u8], ctr: W)
-    requires { byte_len W.width ≤ length block.old }
-    ensures value { block.new ≡ plus last W.width block.old (W.value ctr) }
-{
-    let at = block.len() - W::SIZE;
-    ctr.add_be(&mut block[at..]);
-}
-
-// Adds a counter in the first bytes of a block, low byte first.
-#[tactic(auto, unfolding(crate::specs::Flavors::plus))]
-fn add_in_first<W: CounterWord>(block: &mut [u8], ctr: W)
-    requires { byte_len W.width ≤ length block.old }
-    ensures value { block.new ≡ plus first W.width block.old (W.value ctr) }
-{
-    ctr.add_le(&mut block[..W::SIZE]);
 }
 
 impl<W: CounterWord, const B: usize> fmt::Debug for CountedNonce<W, [u8; B]> {
