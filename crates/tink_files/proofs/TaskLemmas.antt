@@ -9,8 +9,8 @@ use Rattle.tink_run.specs.Outside.{Outside}
 use Rattle.tink_run.specs.Run.{AnswerMeans, Told}
 use Rattle.tink_run.specs.declared.report.Command.{Command}
 use Rattle.tink_run.specs.declared.report.Report.{Report}
-use Rattle.tink_rewrap.specs.RewrapReads.{RewrapReadsNoFurther}
-use Rattle.tink_rewrap.specs.Rewrapping.{RewrapMeans, Sides}
+use Rattle.tink_run.specs.RewrapReads.{RewrapReadsNoFurther}
+use Rattle.tink_run.specs.Rewrapping.{RewrapMeans, Sides}
 use Rattle.tink_run_tokens.specs.Inputs.{input_limit}
 use Rattle.tink_run_tokens.specs.Tokens.{IsAnsweredWhole, Macs, TokenMeans}
 use Rattle.tink_run_tokens.proofs.ToldLemmas.{answered_whole}

@@ -9,8 +9,8 @@ ghost use Rattle.tink_files.specs.Tasks.{CanDo, IsDone, TaskMeans, answered_as};
 use std::alloc::Global;
 use tink_io::saving::finish;
 use tink_io::{Draws, Place, Sink, Source, TinkError};
-use tink_rewrap::rewrap;
 use tink_run::report::{Command, Report};
+use tink_run::rewrap::rewrap;
 use tink_run::run::run;
 use tink_run_tokens::{write_payload, write_token};
 
@@ -32,7 +32,7 @@ pub enum Task<'k> {
 /// is made takes draws.
 ///
 /// # Errors
-/// Those of `run` of `tink_run`, `rewrap` of `tink_rewrap`, `write_token` or `write_payload` of `tink_run_tokens`.
+/// Those of `run` or `rewrap` of `tink_run`, `write_token` or `write_payload` of `tink_run_tokens`.
 pub fn write_task<S: Source, K: Sink>(
     alloc: Global,
     task: Task<'_>,

@@ -5,7 +5,7 @@ use Rattle.tink_io.specs.declared.error.TinkError.{TinkError}
 use Rattle.hex.specs.Hex.{decode_sized}
 use Rattle.hex.proofs.HexLemmas.{decode_sized-ok, decode_sized-twice}
 use Rattle.tink_program_commands.specs.Words.{IsBytesWord, IsNumberWord, IsSeedWord, KeygenWords, OpenWords, RangeWords, RewrapWords, RotateWords, SealWords, SignWords, VerifyWords}
-use Rattle.tink_rewrap.specs.Rewrapping.{Sides}
+use Rattle.tink_run.specs.Rewrapping.{Sides}
 
 abbrev pub texts : List (String Global) → List (List ℕ)
 texts ws = map (λ w. string_bytes w) ws

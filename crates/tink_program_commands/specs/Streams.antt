@@ -10,8 +10,8 @@ use Rattle.tink_run.specs.Outside.{Outside, IsUntouched, HasNoFault}
 use Rattle.tink_run.specs.Run.{AnswerMeans, Told, OkMeans, IsWholeStream, IsWholeText, IsOfAgreeing, OnlyAgreeing, CanSeal, CanOpen, IsComplete, LeavesEnds, LeavesSinkItself}
 use Rattle.tink_run.specs.OpenReads.{ReadsNoFurther}
 use Rattle.tink_run.specs.SealAnswers.{SourceFailed}
-use Rattle.tink_rewrap.specs.Promises.{CanRewrap, CompletesRewrap, IsWholeRewrap, LeavesUnended}
-use Rattle.tink_rewrap.specs.Rewrapping.{RewrapMeans, SecondRefused, Sides}
+use Rattle.tink_run.specs.RewrapPromises.{CanRewrap, CompletesRewrap, IsWholeRewrap, LeavesUnended}
+use Rattle.tink_run.specs.Rewrapping.{RewrapMeans, SecondRefused, Sides}
 use Rattle.tink_run.specs.declared.report.Command.{Command}
 use Rattle.tink_run.specs.declared.report.Command.TheVariants.{Open}
 use Rattle.tink_run.specs.declared.report.Report.{Report}

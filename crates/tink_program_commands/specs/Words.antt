@@ -4,7 +4,7 @@ use Rattle.hex.specs.Hex.{decode_of}
 use Rattle.tink_program_commands.specs.declared.words.Parsed.{Parsed}
 use Rattle.tink_program_commands.specs.declared.words.Parsed.TheVariants.{Keygen, Large, Open, Range, Rewrap, Rotate, Seal, Sign, Verify}
 use Rattle.tink_program_commands.specs.declared.words.RewrapArgs.{RewrapArgs}
-use Rattle.tink_rewrap.specs.Rewrapping.{Sides}
+use Rattle.tink_run.specs.Rewrapping.{Sides}
 
 -- two hexadecimal digits or more, an even number in either case, or a dash for no bytes
 abbrev pub IsBytesWord : List ℕ → List ℕ → Type 0

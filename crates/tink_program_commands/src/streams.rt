@@ -10,8 +10,8 @@ ghost use Rattle.tink_program_commands.specs.Words.{sides_of};
 use crate::words::{OpenArgs, RewrapArgs, SealArgs, Seed, first_draws};
 use std::alloc::Global;
 use tink_io::{Draws, Sink, Source, TinkError};
-use tink_rewrap::rewrap;
 use tink_run::report::{Command, Report};
+use tink_run::rewrap::rewrap;
 use tink_run::run::run;
 
 /// Seals with the draws of the seed.

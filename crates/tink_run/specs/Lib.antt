@@ -13,3 +13,7 @@ pub mod Fitting
 pub mod OneKey
 pub mod SetRanges
 pub mod KeysetRanges
+pub mod Passing
+pub mod Rewrapping
+pub mod RewrapPromises
+pub mod RewrapReads

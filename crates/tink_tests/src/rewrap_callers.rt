@@ -1,15 +1,15 @@
 //! A caller of `rewrap`, whose clause follows from that of the call.
 
 ghost use Rattle.std.specs.Prelude.{[], Some, IfOk};
-ghost use Rattle.tink_rewrap.specs.Promises.{IsWholeRewrap};
-ghost use Rattle.tink_rewrap.specs.Rewrapping.{sides};
+ghost use Rattle.tink_run.specs.RewrapPromises.{IsWholeRewrap};
+ghost use Rattle.tink_run.specs.Rewrapping.{sides};
 ghost use Rattle.tink_run.specs.Outside.{Outside};
 
 use crate::rewrap_support::{CTR_35, GCM_41, counted, stream_of};
 use std::alloc::Global;
 use tink_io::{Draws, SureSink, SureSource, TinkError};
-use tink_rewrap::rewrap;
 use tink_run::report::Report;
+use tink_run::rewrap::rewrap;
 
 // Moves a stream in memory, without associated data. After `Ok` it was exactly a stream of the chosen key of the one
 // keyset, and the sink got exactly the stream of its text under the primary key of the other and the first draws.

@@ -2,8 +2,8 @@
 
 use std::alloc::Global;
 use tink_io::{Draws, MemSink, MemSource, TinkError};
-use tink_rewrap::rewrap;
 use tink_run::report::{Command, Report};
+use tink_run::rewrap::rewrap;
 use tink_run::run::run;
 
 /// A raw key in counter mode, with segments of 4,096 bytes and tags of 32.

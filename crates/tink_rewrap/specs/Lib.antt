@@ -1,4 +1,0 @@
-pub mod Passing
-pub mod Rewrapping
-pub mod Promises
-pub mod RewrapReads

@@ -1,0 +1,69 @@
+use Rattle.std.proofs.Common.{◌≡◌, ◌+◌, Err, List, map, ap, sym, ◌∙◌, subst, vec_len}
+use Rattle.std.proofs.lemmas.Simd.{map-map}
+use Rattle.stream_model.specs.Opening.{OpeningKey, opening_key}
+use Rattle.tink_stream_keys.specs.StreamKinds.{key_in_set}
+use Rattle.tink_streaming_aead.specs.Wrapped.{all_entries, keys_in}
+use Rattle.tink_streaming_aead.specs.DecryptReaders.{largest}
+use Rattle.tink_run.specs.OpenReads.{room_under}
+use Rattle.tink_run.specs.Outside.{Outside, outside_of}
+use Rattle.tink_run.proofs.ReadsSteps.{same_largest}
+use Rattle.tink_run.proofs.RunSteps.{leaves_same}
+use Rattle.tink_run.specs.Rewrapping.{LeavesOrBegins, RewrapsUnder}
+use Rattle.tink_run.proofs.KeySteps.{leaves_or_begins_same, pass_leaves}
+use Rattle.tink_run.proofs.RewrapSteps.{not_prepared, passes_prepared}
+use Rattle.tink_run.proofs.rewrap.between.rewrap_between.Goals as goal
+
+pub returns-in-Ok-clause-answer : goal.returns-in-Ok-clause-answer
+returns-in-Ok-clause-answer g c =
+    let aad = c.args.from_aad.now in
+    let all = all_entries c.args.from.now.entries in
+    let same : map (λ k. opening_key aad (key_in_set k.now)) c.deref-in-Ok.result.now ≡ map (opening_key aad) (keys_in all) =
+    ap (map (λ k. opening_key aad (key_in_set k.now))) c.deref-in-Ok.ensures.value ∙ sym (map-map (λ e. opening_key aad (key_in_set e)) (λ k. k.now) c.in_ok-keys.keys.items)
+    ∙ ap (map (λ e. opening_key aad (key_in_set e))) c.in_ok-keys.ensures.value ∙ sym (map-map (opening_key aad) key_in_set all)
+    in
+    let keys_are : map (λ k. key_in_set k.now) c.deref.result.now ≡ keys_in all =
+    ap (map (λ k. key_in_set k.now)) c.deref.ensures.value ∙ sym (map-map key_in_set (λ k. k.now) c.in_ok-keys.keys.items) ∙ ap (map key_in_set) c.in_ok-keys.ensures.value
+    in
+    let room : vec_len c.in_ok-trial.trial.kept.buffer ≡ room_under (map (opening_key aad) (keys_in all)) =
+    c.in_ok-trial.ensures.buffer ∙ c.room_of.ensures.value ∙ ap (λ ks. largest ks + 1) keys_are ∙ ap (λ n. n + 1) (same_largest aad (keys_in all))
+    in
+    let before : Outside = record { left = g.S.Source.left c.args.source.now; read_faults = g.S.Source.faults c.args.source.now; got = g.K.Sink.got c.args.sink.now; write_faults = g.K.Sink.faults c.args.sink.now } in
+    let after : Outside = record { left = g.S.Source.left c.pass_under.new.source; read_faults = g.S.Source.faults c.pass_under.new.source; got = g.K.Sink.got c.pass_under.new.sink; write_faults = g.K.Sink.faults c.pass_under.new.sink } in
+    subst (λ (ks : List OpeningKey). RewrapsUnder ks (key_in_set c.args.to.now) c.args.to_aad.now c.args.draws.now c.prepare_stream.new.draws before after c.pass_under.result) same
+    (passes_prepared (key_in_set c.args.to.now) c.args.to_aad.now c.args.draws.now c.prepare_stream.new.draws _ _ _ _ _ _ _ c.in-Ok.ensures.answer _ _ before after c.pass_under.result
+    (room ∙ ap room_under (sym same)) c.pass_under.ensures.answer)
+
+pub returns-in-Ok-clause-early : goal.returns-in-Ok-clause-early
+returns-in-Ok-clause-early g c = pass_leaves _ _ _ _ _ _ c.pass_under.result _ _ _ _ c.pass_under.ensures.answer
+
+pub returns-clause-answer : goal.returns-clause-answer
+returns-clause-answer g c = not_prepared _ (key_in_set c.args.to.now) c.args.to_aad.now c.args.draws.now c.prepare_stream.new.draws _ c.in-Err.error.kind c.not_begun.result c.not_begun.ensures c.in-Err.ensures.answer
+
+pub returns-clause-early : goal.returns-clause-early
+returns-clause-early g c = leaves_same (Err c.not_begun.result) c.args.source.now c.args.sink.now
+
+pub returns-in_err-keys-clause-early : goal.returns-in_err-keys-clause-early
+returns-in_err-keys-clause-early g c = leaves_same c.from_residual.result c.args.source.now c.args.sink.now
+
+pub returns-in_err-trial-clause-early : goal.returns-in_err-trial-clause-early
+returns-in_err-trial-clause-early g c = leaves_same c.from_residual-in_err-trial.result c.args.source.now c.args.sink.now
+
+pub returns-in-Ok-clause-begun : goal.returns-in-Ok-clause-begun
+returns-in-Ok-clause-begun g c =
+    let aad = c.args.from_aad.now in
+    let all = all_entries c.args.from.now.entries in
+    let same : map (λ k. opening_key aad (key_in_set k.now)) c.deref-in-Ok.result.now ≡ map (opening_key aad) (keys_in all) =
+    ap (map (λ k. opening_key aad (key_in_set k.now))) c.deref-in-Ok.ensures.value ∙ sym (map-map (λ e. opening_key aad (key_in_set e)) (λ k. k.now) c.in_ok-keys.keys.items)
+    ∙ ap (map (λ e. opening_key aad (key_in_set e))) c.in_ok-keys.ensures.value ∙ sym (map-map (opening_key aad) key_in_set all)
+    in
+    let before : Outside = record { left = g.S.Source.left c.args.source.now; read_faults = g.S.Source.faults c.args.source.now; got = g.K.Sink.got c.args.sink.now; write_faults = g.K.Sink.faults c.args.sink.now } in
+    subst (λ (ks : List OpeningKey). LeavesOrBegins ks before c.pass_under.result c.args.sink.now c.pass_under.new.sink) same c.pass_under.ensures.begun
+
+pub returns-clause-begun : goal.returns-clause-begun
+returns-clause-begun g c = leaves_or_begins_same _ (outside_of g.S.Source.left g.S.Source.faults g.K.Sink.got g.K.Sink.faults c.args.source.now c.args.sink.now) (Err c.not_begun.result) c.args.sink.now
+
+pub returns-in_err-keys-clause-begun : goal.returns-in_err-keys-clause-begun
+returns-in_err-keys-clause-begun g c = leaves_or_begins_same _ (outside_of g.S.Source.left g.S.Source.faults g.K.Sink.got g.K.Sink.faults c.args.source.now c.args.sink.now) c.from_residual.result c.args.sink.now
+
+pub returns-in_err-trial-clause-begun : goal.returns-in_err-trial-clause-begun
+returns-in_err-trial-clause-begun g c = leaves_or_begins_same _ (outside_of g.S.Source.left g.S.Source.faults g.K.Sink.got g.K.Sink.faults c.args.source.now c.args.sink.now) c.from_residual-in_err-trial.result c.args.sink.now
