@@ -6,6 +6,7 @@ ghost use Rattle.tink_system.specs.Statuses.{trouble_status};
 
 use crate::job::data_of;
 use crate::keys::format_of;
+use tink_files::under_master::{Master, load_master};
 use tink_files::{unwrap_keys, wrap_keys};
 use tink_io::Kind;
 use tink_keyset_io::key_files::Format;
@@ -13,7 +14,6 @@ use tink_system::outside::{draws, read_keys};
 use tink_system::real_place::RealPlace;
 use tink_system::trouble::Trouble;
 use tink_words::Line;
-use tink_wrap::{Master, load_master};
 
 // What the words say.
 #[derive(Clone, Copy)]

@@ -2,3 +2,5 @@ pub mod SavedLemmas
 mod RangeLemmas
 mod StreamLemmas
 mod TaskLemmas
+mod WrapLemmas
+mod BackFacts

@@ -1,3 +1,6 @@
 pub mod Saved
 pub mod Streams
 pub mod Tasks
+pub mod Masters
+pub mod Wrapping
+pub mod ThereAndBack

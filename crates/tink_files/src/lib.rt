@@ -7,6 +7,7 @@ mod key_files;
 mod ranges;
 mod saved;
 mod tasks;
+pub mod under_master;
 mod wrapping;
 
 pub use key_files::{edit_keys, new_keys, rotate_keys};

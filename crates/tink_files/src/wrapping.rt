@@ -2,21 +2,21 @@
 
 ghost use Rattle.std.specs.Prelude.{◌≡◌, true, false};
 ghost use Rattle.tink_keysets.specs.Through.{LeavesDraws};
-ghost use Rattle.tink_wrap.specs.Masters.{IsMaster, MasterKeys};
-ghost use Rattle.tink_wrap.specs.Wrapping.{unspent_file, unwrapped_file, wrapped_file};
+ghost use Rattle.tink_files.specs.Masters.{IsMaster, MasterKeys};
+ghost use Rattle.tink_files.specs.Wrapping.{unspent_file, unwrapped_file, wrapped_file};
 ghost use Rattle.tink_files.specs.Saved.{Saves};
 
 use crate::saved::save_answer;
+use crate::under_master::{Master, unwrapped, wrapped};
 use std::alloc::Global;
 use tink_io::{Draws, Place, TinkError};
 use tink_keyset_io::key_files::Format;
-use tink_wrap::{Master, unwrapped, wrapped};
 
 /// Saves the keyset of a file of keys, encrypted by the primary key of a master with the associated data, as a file of
 /// this format.
 ///
 /// # Errors
-/// Those of `wrapped` of `tink_wrap`, and `WriteFault`: what was shown stays.
+/// Those of `wrapped` of `under_master`, and `WriteFault`: what was shown stays.
 pub fn wrap_keys<P: Place>(
     alloc: Global,
     master: &Master,
@@ -45,7 +45,7 @@ pub fn wrap_keys<P: Place>(
 /// format.
 ///
 /// # Errors
-/// Those of `unwrapped` of `tink_wrap`, and `WriteFault`: what was shown stays.
+/// Those of `unwrapped` of `under_master`, and `WriteFault`: what was shown stays.
 pub fn unwrap_keys<P: Place>(
     alloc: Global,
     master: &Master,

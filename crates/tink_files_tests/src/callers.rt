@@ -1,10 +1,10 @@
-//! The callers that the READMEs of `tink_wrap` and `tink_run` (ranges) show.
+//! The callers that the READMEs of `tink_files` (under a master) and `tink_run` (ranges) show.
 
 ghost use Rattle.std.specs.Prelude.{◌≡◌, ◌<◌};
 ghost use Rattle.tink_io.specs.Told.{Answers};
 ghost use Rattle.tink_keyset_io.specs.declared.key_files.formats.Format.TheVariants.{Json};
-ghost use Rattle.tink_wrap.specs.Masters.{IsMaster, MasterKeys};
-ghost use Rattle.tink_wrap.specs.Wrapping.{wrapped_file};
+ghost use Rattle.tink_files.specs.Masters.{IsMaster, MasterKeys};
+ghost use Rattle.tink_files.specs.Wrapping.{wrapped_file};
 
 use crate::saving_tests::{KEYS, MASTER};
 use crate::task_tests::{CTR, TEXT};
@@ -12,12 +12,12 @@ use std::alloc::Global;
 use std::marker::Brand;
 use std::sync::ledger::{Blank, Ledger};
 use std::test::Fail;
+use tink_files::under_master::{Master, load_master, unwrapped, wrapped};
 use tink_io::{Draws, Sink, SureSink, TinkError};
 use tink_keyset_io::key_files::Format;
 use tink_proto::Bytes;
 use tink_range::{MemAt, ReadAt, Steps};
 use tink_run::ranges::run_range;
-use tink_wrap::{Master, load_master, unwrapped, wrapped};
 
 // The text of `task_tests` as a stream under its first key, with no associated data, by an independent model.
 const SEALED: &[u8] = b"\

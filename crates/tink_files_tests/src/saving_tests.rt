@@ -2,10 +2,10 @@ ghost use Rattle.std.specs.Prelude.{◌≡◌, true};
 
 use crate::place_tests::{BEFORE, place_of, shows};
 use std::alloc::Global;
+use tink_files::under_master::load_master;
 use tink_files::{edit_keys, new_keys, rotate_keys, unwrap_keys, wrap_keys};
 use tink_io::{Draws, Kind, MemPlace, TinkError};
 use tink_keyset_io::key_files::{Edit, Format};
-use tink_wrap::load_master;
 
 // A master keyset: an AES-GCM key of the id MMMM, under TINK.
 pub const MASTER: &[u8] = b"\

@@ -4,7 +4,7 @@ ghost use Rattle.std.specs.Prelude.{◌≡◌, List, ℕ, IfOk, IfErr, IfSome, I
 ghost use Rattle.tink_io.specs.declared.error.Kind.TheVariants.{OutOfMemory};
 ghost use Rattle.tink_program_commands.specs.Draws.{draws_in};
 ghost use Rattle.tink_program_commands.specs.Words.{IsBytesWord, IsNumberWord, KeygenWords, LargeWords, OpenWords, RangeWords, RewrapWords, RotateWords, SealWords, SignWords, SpellNothing, Spells, VerifyWords, asked_of, sides_of};
-ghost use Rattle.tink_program_commands.specs.Rewrapping.{Sides};
+ghost use Rattle.tink_run.specs.Rewrapping.{Sides};
 ghost use Rattle.tink_words.specs.Forms.{words_of};
 
 use hex::{FromHex, FromHexError};

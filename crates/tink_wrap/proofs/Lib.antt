@@ -1,2 +1,0 @@
-mod WrapLemmas
-mod BackFacts

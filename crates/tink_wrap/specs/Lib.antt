@@ -1,3 +1,0 @@
-pub mod Masters
-pub mod Wrapping
-pub mod ThereAndBack
