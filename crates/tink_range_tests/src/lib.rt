@@ -5,6 +5,8 @@
 #[cfg(test)]
 mod callers;
 #[cfg(test)]
+mod expecting;
+#[cfg(test)]
 mod large_callers;
 #[cfg(test)]
 mod large_tests;

@@ -1,210 +1,307 @@
 //! Ranges against slices of the text.
 
-use crate::support::{aeads_by, every_range, expect, range_of, sealed, text_of};
+ghost use Rattle.std.specs.Prelude.{◌≡◌, ◌<◌};
+
+use crate::expecting::expect;
+use crate::support::{Keys, Object, aeads_of, object_of, sink_of, text_of};
 use std::alloc::Global;
-use std::test::Fail;
+use std::marker::Brand;
+use std::sync::ledger::{Blank, Ledger};
 use tink_io::{Kind, TinkError};
-use tink_range::MemAt;
-use tink_streaming_aead::{
-    AES_CTR_HMAC_TYPE_URL, AES_GCM_HKDF_TYPE_URL, AesCtrHmacKeyManager, AesGcmHkdfKeyManager,
-    WrappedStreamingAead,
-};
+use tink_range::{MemAt, RangeReader, Steps};
+use tink_streaming_aead::WrappedStreamingAead;
+use tink_testutil::kind_of;
+
+// The first byte that is given, how many are, and by what the range is refused.
+type Given = (Option<u8>, usize, Option<Kind>);
+
+// What is asked of an object.
+enum Asked {
+    // That each range is that slice of the text, for all starts and the lengths below.
+    All,
+    // What the range from a place on and of so many bytes gives.
+    Range(u64, u64, Given),
+}
+
+const LENGTHS: &[u64] = &[0, 1, 2, 24, 25, 26, 35, 60, 200, 18446744073709551615];
+
+// What a range gives, and what is answered.
+fn read<L: Ledger>(
+    alloc: Global,
+    reader: &mut RangeReader<MemAt>,
+    start: u64,
+    len: u64,
+    steps: &mut Steps<L>,
+) -> Result<(Vec<u8>, Result<u64, TinkError>), TinkError> {
+    let mut sink = sink_of(alloc, 200)?;
+    let answer = reader.read_range(start, len, &mut sink, steps);
+    Ok((sink.into_bytes(), answer))
+}
+
+fn is_slice<L: Ledger>(
+    alloc: Global,
+    reader: &mut RangeReader<MemAt>,
+    text: &[u8],
+    start: u64,
+    len: u64,
+    steps: &mut Steps<L>,
+) -> Result<bool, TinkError> {
+    let from = start.min(text.len() as u64) as usize;
+    let to = start.saturating_add(len).min(text.len() as u64) as usize;
+    let want = text.get(from..to).unwrap_or(&[]);
+    let (bytes, answer) = read(alloc, reader, start, len, steps)?;
+    Ok(answer? == want.len() as u64 && bytes.as_slice() == want)
+}
+
+fn are_slices<L: Ledger>(
+    alloc: Global,
+    reader: &mut RangeReader<MemAt>,
+    text: &[u8],
+    steps: &mut Steps<L>,
+) -> Result<bool, TinkError> {
+    let mut holds = reader.text_len() == text.len() as u64;
+    for start in 0..120 {
+        for len in LENGTHS {
+            holds = is_slice(alloc, reader, text, start, *len, steps)? && holds;
+        }
+    }
+    Ok(holds)
+}
+
+fn gives<L: Ledger>(
+    alloc: Global,
+    reader: &mut RangeReader<MemAt>,
+    start: u64,
+    len: u64,
+    want: Given,
+    steps: &mut Steps<L>,
+) -> Result<bool, TinkError> {
+    let (bytes, answer) = read(alloc, reader, start, len, steps)?;
+    Ok((bytes.first().copied(), bytes.len(), kind_of(answer)) == want)
+}
+
+fn answered<L: Ledger>(
+    alloc: Global,
+    reader: &mut RangeReader<MemAt>,
+    count: usize,
+    asked: &Asked,
+    steps: &mut Steps<L>,
+) -> Result<bool, TinkError> {
+    match asked {
+        Asked::All => match text_of(alloc, count) {
+            Ok(text) => are_slices(alloc, reader, &text, steps),
+            Err(e) => Err(e),
+        },
+        Asked::Range(start, len, want) => gives(alloc, reader, *start, *len, *want, steps),
+    }
+}
+
+// What is answered where an object is refused, which gives nothing.
+fn refused_by(error: TinkError, asked: &Asked) -> Result<bool, TinkError> {
+    match asked {
+        Asked::All => Err(error),
+        Asked::Range(_, _, want) => Ok(*want == (None, 0, Some(error.kind))),
+    }
+}
+
+fn answered_by<L: Ledger>(
+    alloc: Global,
+    aeads: &WrappedStreamingAead,
+    object: MemAt,
+    count: usize,
+    asked: &Asked,
+    blank: Blank,
+) -> Result<bool, TinkError>
+    requires name { blank.name ≡ L.name }
+    requires parts { blank.parts ≡ L.parts }
+    requires some { 0 < blank.parts }
+{
+    let mut steps = Steps::<L>::new(blank);
+    match RangeReader::new(alloc, aeads, object, b"data", &mut steps) {
+        Ok(mut reader) => answered(alloc, &mut reader, count, asked, &mut steps),
+        Err(refused) => refused_by(refused.error, asked),
+    }
+}
+
+fn holds(
+    alloc: Global,
+    keys: &Keys,
+    count: usize,
+    object: &Object,
+    asked: &Asked,
+) -> Result<bool, TinkError> {
+    match aeads_of(alloc, keys) {
+        Ok(aeads) => match object_of(alloc, &aeads, count, object) {
+            Ok(object) => {
+                answered_by::<Brand>(alloc, &aeads, object, count, asked, Blank::new(1))
+            }
+            Err(e) => Err(e),
+        },
+        Err(e) => Err(e),
+    }
+}
 
 // Keys of the bytes 0 to 15, from which AES keys of 16 are derived with SHA-256: in counter mode with tags of 32 bytes and
 // segments of 4,096, and with tags of ten bytes and segments of 35; by AES-GCM with segments of 50.
-const LARGE: &[u8; 33] =
-    b"\x12\x0d\x08\x80\x20\x10\x10\x18\x03\x22\x04\x08\x03\x10\x20\x1a\x10\x00\x01\x02\x03\x04\x05\x06\x07\x08\x09\x0a\x0b\x0c\x0d\x0e\x0f";
+const LARGE: Keys = Keys::Ctr(
+    b"\x12\x0d\x08\x80\x20\x10\x10\x18\x03\x22\x04\x08\x03\x10\x20\x1a\x10\x00\x01\x02\x03\x04\x05\x06\x07\x08\x09\x0a\x0b\x0c\x0d\x0e\x0f",
+);
 
-const SMALL: &[u8; 32] =
-    b"\x12\x0c\x08\x23\x10\x10\x18\x03\x22\x04\x08\x03\x10\x0a\x1a\x10\x00\x01\x02\x03\x04\x05\x06\x07\x08\x09\x0a\x0b\x0c\x0d\x0e\x0f";
+const SMALL: Keys = Keys::Ctr(
+    b"\x12\x0c\x08\x23\x10\x10\x18\x03\x22\x04\x08\x03\x10\x0a\x1a\x10\x00\x01\x02\x03\x04\x05\x06\x07\x08\x09\x0a\x0b\x0c\x0d\x0e\x0f",
+);
 
-const BY_GCM: &[u8; 26] =
-    b"\x12\x06\x08\x32\x10\x10\x18\x03\x1a\x10\x00\x01\x02\x03\x04\x05\x06\x07\x08\x09\x0a\x0b\x0c\x0d\x0e\x0f";
+const BY_GCM: Keys = Keys::Gcm(
+    b"\x12\x06\x08\x32\x10\x10\x18\x03\x1a\x10\x00\x01\x02\x03\x04\x05\x06\x07\x08\x09\x0a\x0b\x0c\x0d\x0e\x0f",
+);
 
-const LENGTHS: &[u64; 10] = &[0, 1, 2, 24, 25, 26, 35, 60, 200, 18446744073709551615];
+const BAD: Option<Kind> = Some(Kind::BadSegment(1));
 
-fn by_counter_mode(alloc: Global, value: &[u8]) -> Result<WrappedStreamingAead, TinkError> {
-    aeads_by(
-        alloc,
-        AesCtrHmacKeyManager::new(),
-        AES_CTR_HMAC_TYPE_URL,
-        value,
-    )
-}
+const FAULT: Option<Kind> = Some(Kind::ReadFault);
 
-// Whether each range of a text of so many bytes is its slice, in pieces of so many bytes.
-fn is_whole(
-    alloc: Global,
-    aeads: &WrappedStreamingAead,
-    count: usize,
-    piece: usize,
-) -> Result<bool, TinkError> {
-    let text = text_of(alloc, count)?;
-    let stream = sealed(alloc, aeads, &text)?;
-    let object = MemAt::new(stream, piece, Vec::new(alloc));
-    every_range(alloc, aeads, object, &text, LENGTHS)
-}
+// The key, the bytes of the text, what is done to its stream, and what is asked.
+type Row = (&'static str, Keys, usize, Object, Asked);
 
-#[test]
-fn every_range_is_a_slice(rt: HostRuntime) -> Result<(), Fail> {
-    let aeads = by_counter_mode(rt.alloc(), SMALL)?;
-    let gcm = aeads_by(
-        rt.alloc(),
-        AesGcmHkdfKeyManager::new(),
-        AES_GCM_HKDF_TYPE_URL,
-        BY_GCM,
-    )?;
-    expect(
-        &rt,
-        is_whole(rt.alloc(), &aeads, 76, 0)?,
-        true,
-        "four segments of 35",
-    );
-    expect(
-        &rt,
-        is_whole(rt.alloc(), &aeads, 70, 7)?,
-        true,
-        "in pieces of 7",
-    );
-    expect(
-        &rt,
-        is_whole(rt.alloc(), &gcm, 112, 0)?,
-        true,
+const EACH: &[Row] = &[
+    ("four segments of 35", SMALL, 76, Object::Whole, Asked::All),
+    ("in pieces of 7", SMALL, 70, Object::Pieces(7), Asked::All),
+    (
         "four segments of 50",
-    );
-    expect(
-        &rt,
-        is_whole(rt.alloc(), &gcm, 80, 1)?,
-        true,
-        "in pieces of 1",
-    );
-    expect(&rt, is_whole(rt.alloc(), &gcm, 0, 0)?, true, "no text");
-    Ok(())
-}
+        BY_GCM,
+        112,
+        Object::Whole,
+        Asked::All,
+    ),
+    ("in pieces of 1", BY_GCM, 80, Object::Pieces(1), Asked::All),
+    ("no text", BY_GCM, 0, Object::Whole, Asked::All),
+];
 
-// What a range of the stream of 12,168 bytes gives, which is cut to so many and of which a byte is changed.
-fn of_large(
-    alloc: Global,
-    cut: usize,
-    changed: usize,
-    start: u64,
-    len: u64,
-) -> Result<(Vec<u8>, Option<Kind>), TinkError> {
-    let aeads = by_counter_mode(alloc, LARGE)?;
-    let text = text_of(alloc, 12168)?;
-    let mut stream = sealed(alloc, &aeads, &text)?;
-    stream.truncate(cut);
-    if changed < stream.len() {
-        stream[changed] ^= 1;
-    }
-    range_of(
-        alloc,
-        &aeads,
-        MemAt::new(stream, 0, Vec::new(alloc)),
-        start,
-        len,
-    )
-}
-
-#[test]
-fn ranges_of_three_segments(rt: HostRuntime) -> Result<(), Fail> {
-    let alloc = rt.alloc();
-    let (bytes, refused) = of_large(alloc, 12288, 99999, 4030, 20)?;
-    expect(
-        &rt,
-        (bytes.first().copied(), bytes.len(), refused),
-        (Some(14), 20, None),
+// The stream has 12,288 bytes, in three segments.
+const OF_LARGE: &[Row] = &[
+    (
         "4030 20",
-    );
-    let (bytes, refused) = of_large(alloc, 12288, 99999, 12160, 100)?;
-    expect(
-        &rt,
-        (bytes.first().copied(), bytes.len(), refused),
-        (Some(112), 8, None),
+        LARGE,
+        12168,
+        Object::Whole,
+        Asked::Range(4030, 20, (Some(14), 20, None)),
+    ),
+    (
         "12160 100",
-    );
-    let (bytes, refused) = of_large(alloc, 12288, 99999, 20000, 5)?;
-    expect(
-        &rt,
-        (bytes.first().copied(), bytes.len(), refused),
-        (None, 0, None),
+        LARGE,
+        12168,
+        Object::Whole,
+        Asked::Range(12160, 100, (Some(112), 8, None)),
+    ),
+    (
         "20000 5",
-    );
-    let (bytes, refused) = of_large(alloc, 12287, 99999, 0, 10)?;
-    let last = Some(Kind::BadSegment(2));
-    expect(
-        &rt,
-        (bytes.first().copied(), bytes.len(), refused),
-        (None, 0, last),
+        LARGE,
+        12168,
+        Object::Whole,
+        Asked::Range(20000, 5, (None, 0, None)),
+    ),
+    (
         "cut",
-    );
-    Ok(())
-}
-
-#[test]
-fn damaged_segments(rt: HostRuntime) -> Result<(), Fail> {
-    let alloc = rt.alloc();
-    let (bytes, refused) = of_large(alloc, 12288, 5000, 0, 10)?;
-    expect(
-        &rt,
-        (bytes.first().copied(), bytes.len(), refused),
-        (Some(0), 10, None),
+        LARGE,
+        12168,
+        Object::Cut(12287),
+        Asked::Range(0, 10, (None, 0, Some(Kind::BadSegment(2)))),
+    ),
+    (
         "untouched",
-    );
-    let (bytes, refused) = of_large(alloc, 12288, 5000, 4040, 1)?;
-    let bad = Some(Kind::BadSegment(1));
-    expect(
-        &rt,
-        (bytes.first().copied(), bytes.len(), refused),
-        (None, 0, bad),
+        LARGE,
+        12168,
+        Object::Changed(5000),
+        Asked::Range(0, 10, (Some(0), 10, None)),
+    ),
+    (
         "touched",
-    );
-    let (bytes, refused) = of_large(alloc, 12288, 5000, 4030, 20)?;
-    expect(
-        &rt,
-        (bytes.first().copied(), bytes.len(), refused),
-        (Some(14), 10, bad),
+        LARGE,
+        12168,
+        Object::Changed(5000),
+        Asked::Range(4040, 1, (None, 0, BAD)),
+    ),
+    (
         "touched second",
-    );
-    let (bytes, refused) = of_large(alloc, 12288, 5, 0, 10)?;
-    let none = Some(Kind::NoMatchingKey);
-    expect(
-        &rt,
-        (bytes.first().copied(), bytes.len(), refused),
-        (None, 0, none),
+        LARGE,
+        12168,
+        Object::Changed(5000),
+        Asked::Range(4030, 20, (Some(14), 10, BAD)),
+    ),
+    (
         "another salt",
-    );
-    Ok(())
-}
+        LARGE,
+        12168,
+        Object::Changed(5),
+        Asked::Range(0, 10, (None, 0, Some(Kind::NoMatchingKey))),
+    ),
+];
 
-// What a range gives of an object whose read of this number fails.
-fn failing(alloc: Global, call: u32) -> Result<(Vec<u8>, Option<Kind>), TinkError> {
-    let aeads = by_counter_mode(alloc, SMALL)?;
-    let text = text_of(alloc, 76)?;
-    let stream = sealed(alloc, &aeads, &text)?;
-    let object = MemAt::new(stream, 0, vec![in alloc; call]?);
-    range_of(alloc, &aeads, object, 0, 76)
-}
+const FAILING: &[Row] = &[
+    (
+        "read 1 fails",
+        SMALL,
+        76,
+        Object::Fails(1),
+        Asked::Range(0, 76, (None, 0, FAULT)),
+    ),
+    (
+        "read 2 fails",
+        SMALL,
+        76,
+        Object::Fails(2),
+        Asked::Range(0, 76, (None, 0, FAULT)),
+    ),
+    (
+        "read 3 fails",
+        SMALL,
+        76,
+        Object::Fails(3),
+        Asked::Range(0, 76, (None, 0, FAULT)),
+    ),
+    (
+        "read 4 fails",
+        SMALL,
+        76,
+        Object::Fails(4),
+        Asked::Range(0, 76, (None, 0, FAULT)),
+    ),
+    (
+        "read 5 fails",
+        SMALL,
+        76,
+        Object::Fails(5),
+        Asked::Range(0, 76, (Some(0), 1, FAULT)),
+    ),
+    (
+        "read 6 fails",
+        SMALL,
+        76,
+        Object::Fails(6),
+        Asked::Range(0, 76, (Some(0), 26, FAULT)),
+    ),
+    (
+        "read 7 fails",
+        SMALL,
+        76,
+        Object::Fails(7),
+        Asked::Range(0, 76, (Some(0), 51, FAULT)),
+    ),
+    (
+        "no read fails",
+        SMALL,
+        76,
+        Object::Fails(8),
+        Asked::Range(0, 76, (Some(0), 76, None)),
+    ),
+];
+
+const TABLES: &[&[Row]] = &[EACH, OF_LARGE, FAILING];
 
 #[test]
-fn an_object_that_fails(rt: HostRuntime) -> Result<(), Fail> {
-    let fault = Some(Kind::ReadFault);
-    for call in 1..8 {
-        let (bytes, refused) = failing(rt.alloc(), call)?;
-        let given = [0, 0, 0, 0, 1, 26, 51].get(call as usize - 1).copied();
-        expect(
-            &rt,
-            (Some(bytes.len()), refused),
-            (given, fault),
-            "a read that fails",
-        );
+fn a_range_is_a_slice_or_refused(rt: HostRuntime) {
+    for rows in TABLES {
+        for (row, keys, count, object, asked) in *rows {
+            expect(&rt, holds(rt.alloc(), keys, *count, object, asked), row);
+        }
     }
-    let (bytes, refused) = failing(rt.alloc(), 8)?;
-    expect(
-        &rt,
-        (Some(bytes.len()), refused),
-        (Some(76), None),
-        "no read fails",
-    );
-    Ok(())
 }

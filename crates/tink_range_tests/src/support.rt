@@ -1,43 +1,78 @@
-//! Streams in memory, and ranges of them.
-
-ghost use Rattle.std.specs.Prelude.{◌≡◌, ◌<◌};
+//! Streams in memory, as objects.
 
 use std::alloc::Global;
-use std::fmt::Debug;
-use std::marker::Brand;
-use std::process::Abort;
-use std::sync::ledger::{Blank, Ledger};
-use tink_core::registry::{KeyManager, Registry};
-use tink_io::{Kind, MemSink, SureSink, TinkError};
+use tink_core::keyset::Handle;
+use tink_core::registry::KeyManager;
+use tink_io::{Lent, SureSink, TinkError};
 use tink_proto::OutputPrefixType;
-use tink_range::{MemAt, RangeReader, Steps};
-use tink_streaming_aead::{StreamKinds, WrappedStreamingAead, new};
-use tink_testutil::{draws_of, enabled_key, handle_of, kind_of};
+use tink_range::MemAt;
+use tink_streaming_aead::{
+    AES_CTR_HMAC_TYPE_URL, AES_GCM_HKDF_TYPE_URL, AesCtrHmacKeyManager, AesGcmHkdfKeyManager,
+    StreamKinds, WrappedStreamingAead, new,
+};
+use tink_testutil::{draws_of, enabled_key, handle_of, registry_of};
 
 // A salt and a prefix.
 const DRAWS: &[u8; 23] = b"abcdefghijklmnopqrstuvw";
 
-/// The one place that compares.
-pub fn expect<T>(rt: &impl Abort, got: T, want: T, label: &str)
-where
-    T: PartialEq + Debug + Drop,
-{
-    assert_eq!(rt; got, want, "{label}");
+/// The key of a keyset, by its bytes.
+pub enum Keys {
+    /// In counter mode.
+    Ctr(&'static [u8]),
+    /// By AES-GCM.
+    Gcm(&'static [u8]),
 }
 
-/// The streaming AEADs of a keyset of this one key.
-pub fn aeads_by<M: KeyManager<Family = StreamKinds> + Drop>(
+/// What is done to a stream.
+pub enum Object {
+    /// It is read as it is.
+    Whole,
+    /// A read gives so many bytes at most.
+    Pieces(usize),
+    /// It is cut to so many bytes.
+    Cut(usize),
+    /// A bit is changed of the byte in this place.
+    Changed(usize),
+    /// The read of this number fails.
+    Fails(u32),
+}
+
+fn handle(alloc: Global, url: &str, value: &[u8]) -> Result<Handle, TinkError> {
+    let key = enabled_key(alloc, url, value, OutputPrefixType::Raw, 7)?;
+    handle_of(7, vec![in alloc; key]?)
+}
+
+fn aeads_by<M: KeyManager<Family = StreamKinds> + Drop>(
     alloc: Global,
     km: M,
     url: &str,
     value: &[u8],
 ) -> Result<WrappedStreamingAead, TinkError> {
-    let mut registry = Registry::new(alloc);
-    registry.register_key_manager(alloc, km)?;
-    let mut keys = Vec::new(alloc);
-    keys.push(enabled_key(alloc, url, value, OutputPrefixType::Raw, 7)?)?;
-    let h = handle_of(7, keys)?;
-    new(alloc, &h, &registry)
+    match registry_of(alloc, km) {
+        Ok(registry) => match handle(alloc, url, value) {
+            Ok(h) => new(alloc, &h, &registry),
+            Err(e) => Err(e),
+        },
+        Err(e) => Err(e),
+    }
+}
+
+/// The streaming AEADs of a keyset of this one key.
+pub fn aeads_of(alloc: Global, keys: &Keys) -> Result<WrappedStreamingAead, TinkError> {
+    match keys {
+        Keys::Ctr(value) => aeads_by(
+            alloc,
+            AesCtrHmacKeyManager::new(),
+            AES_CTR_HMAC_TYPE_URL,
+            value,
+        ),
+        Keys::Gcm(value) => aeads_by(
+            alloc,
+            AesGcmHkdfKeyManager::new(),
+            AES_GCM_HKDF_TYPE_URL,
+            value,
+        ),
+    }
 }
 
 /// The bytes 0 to 250, again and again.
@@ -49,112 +84,59 @@ pub fn text_of(alloc: Global, count: usize) -> Result<Vec<u8>, TinkError> {
     Ok(text)
 }
 
-/// The stream of a text with "data".
-pub fn sealed(
+/// A sink with room for so many bytes.
+pub fn sink_of(alloc: Global, room: usize) -> Result<SureSink, TinkError> {
+    let mut sink = SureSink::new(alloc);
+    match sink.reserve(alloc, room) {
+        Ok(()) => Ok(sink),
+        Err(e) => Err(e),
+    }
+}
+
+fn seal(
     alloc: Global,
     aeads: &WrappedStreamingAead,
-    text: &[u8],
-) -> Result<Vec<u8>, TinkError> {
+    sink: &mut SureSink,
+    count: usize,
+) -> Result<(), TinkError> {
+    let text = text_of(alloc, count)?;
     let mut draws = draws_of(alloc, DRAWS)?;
-    let mut sink = MemSink::new(alloc, 0, Vec::new(alloc));
-    sink.reserve(alloc, 20000)?;
-    match aeads.new_encrypting_writer(alloc, &mut draws, sink, b"data") {
-        Ok(mut writer) => {
-            writer.write(text)?;
-            writer.close()?;
-            Ok(writer.into_inner().into_bytes())
-        }
+    match aeads.new_encrypting_writer(alloc, &mut draws, Lent(sink), b"data") {
+        Ok(mut writer) => match writer.write(&text) {
+            Ok(_) => writer.close(),
+            Err(e) => Err(e),
+        },
         Err(refused) => Err(refused.error),
     }
 }
 
-/// What a range of an object gives, and by what it is refused.
-pub fn range_of(
-    alloc: Global,
-    aeads: &WrappedStreamingAead,
-    object: MemAt,
-    start: u64,
-    len: u64,
-) -> Result<(Vec<u8>, Option<Kind>), TinkError> {
-    range_by::<Brand>(alloc, aeads, object, start, len, Blank::new(1))
-}
-
-fn range_by<L: Ledger>(
-    alloc: Global,
-    aeads: &WrappedStreamingAead,
-    object: MemAt,
-    start: u64,
-    len: u64,
-    blank: Blank,
-) -> Result<(Vec<u8>, Option<Kind>), TinkError>
-    requires name { blank.name ≡ L.name }
-    requires parts { blank.parts ≡ L.parts }
-    requires some { 0 < blank.parts }
-{
-    let mut steps = Steps::<L>::new(blank);
-    let mut sink = SureSink::new(alloc);
-    sink.reserve(alloc, 200)?;
-    match RangeReader::new(alloc, aeads, object, b"data", &mut steps) {
-        Ok(mut reader) => {
-            let answer = reader.read_range(start, len, &mut sink, &mut steps);
-            Ok((sink.into_bytes(), kind_of(answer)))
-        }
-        Err(refused) => Ok((sink.into_bytes(), Some(refused.error.kind))),
-    }
-}
-
-/// Whether each range of an object is that slice of the text, for all starts and these lengths.
-pub fn every_range(
-    alloc: Global,
-    aeads: &WrappedStreamingAead,
-    object: MemAt,
-    text: &[u8],
-    lengths: &[u64],
-) -> Result<bool, TinkError> {
-    every_range_by::<Brand>(alloc, aeads, object, text, lengths, Blank::new(1))
-}
-
-fn every_range_by<L: Ledger>(
-    alloc: Global,
-    aeads: &WrappedStreamingAead,
-    object: MemAt,
-    text: &[u8],
-    lengths: &[u64],
-    blank: Blank,
-) -> Result<bool, TinkError>
-    requires name { blank.name ≡ L.name }
-    requires parts { blank.parts ≡ L.parts }
-    requires some { 0 < blank.parts }
-{
-    let mut steps = Steps::<L>::new(blank);
-    match RangeReader::new(alloc, aeads, object, b"data", &mut steps) {
-        Ok(mut reader) => {
-            for start in 0..120 {
-                for len in lengths {
-                    if !one_range(alloc, &mut reader, text, start, *len, &mut steps)? {
-                        return Ok(false);
-                    }
-                }
+fn object_by(alloc: Global, mut stream: Vec<u8>, object: &Object) -> Result<MemAt, TinkError> {
+    let mut piece = 0;
+    let mut call = 0;
+    match object {
+        Object::Whole => {}
+        Object::Pieces(n) => piece = *n,
+        Object::Cut(n) => stream.truncate(*n),
+        Object::Changed(place) => {
+            if let Some(byte) = stream.get_mut(*place) {
+                *byte ^= 1;
             }
-            Ok(reader.text_len() == text.len() as u64)
         }
-        Err(refused) => Err(refused.error),
+        Object::Fails(n) => call = *n,
     }
+    Ok(MemAt::new(stream, piece, vec![in alloc; call]?))
 }
 
-fn one_range<L: Ledger>(
+/// The stream of a text of so many bytes with "data", as an object.
+pub fn object_of(
     alloc: Global,
-    reader: &mut RangeReader<MemAt>,
-    text: &[u8],
-    start: u64,
-    len: u64,
-    steps: &mut Steps<L>,
-) -> Result<bool, TinkError> {
-    let mut sink = SureSink::new(alloc);
-    sink.reserve(alloc, 200)?;
-    let given = reader.read_range(start, len, &mut sink, steps)?;
-    let from = start.min(text.len() as u64) as usize;
-    let to = start.saturating_add(len).min(text.len() as u64) as usize;
-    let want = text.get(from..to).unwrap_or(&[]);
-    Ok(sink.bytes() == want && given == want.len() as u64)
+    aeads: &WrappedStreamingAead,
+    count: usize,
+    object: &Object,
+) -> Result<MemAt, TinkError> {
+    let mut sink = sink_of(alloc, 20000)?;
+    match seal(alloc, aeads, &mut sink, count) {
+        Ok(()) => object_by(alloc, sink.into_bytes(), object),
+        Err(e) => Err(e),
+    }
 }
