@@ -11,9 +11,9 @@ use Rattle.tink_sets.specs.Entries.{entry_of_id}
 use Rattle.tink_sets.specs.declared.entry.TypedEntry.{TypedEntry}
 use Rattle.keyset_model.specs.Commands.{after_all}
 use Rattle.keyset_model.proofs.EnabledLaw.{keeps_enabled}
-use Rattle.tink_factory.specs.Decrypting.{entry_decrypts}
-use Rattle.tink_factory.proofs.KeyEntries.{key_holds, made_ok, primary_key, primary_there}
-use Rattle.tink_factory.proofs.LastingFacts.{IsAcceptedBy, accepted_after, accepted_by_key, accepted_by_list}
+use Rattle.tink_keysets.specs.Decrypting.{entry_decrypts}
+use Rattle.tink_keysets.proofs.KeyEntries.{key_holds, made_ok, primary_key, primary_there}
+use Rattle.tink_keysets.proofs.LastingFacts.{IsAcceptedBy, accepted_after, accepted_by_key, accepted_by_list}
 use Rattle.tink_aead_subtle.specs.Laws.{Undoes}
 use Rattle.tink_aead.specs.Rotation.{CiphertextsOutlive, EnabledKeysOpen, EncryptedOpens, IsSealedBy, IsSoundAead, OldCiphertextsOpen}
 use Rattle.tink_aead.specs.Wrapped.{entry_encrypts, primary_encrypts}

@@ -6,8 +6,8 @@ use Rattle.tink_io.specs.declared.error.Kind.{Kind}
 use Rattle.tink_io.specs.declared.error.Kind.TheVariants.{DecryptFailed}
 use Rattle.tink_sets.specs.declared.entry.TypedEntry.{TypedEntry}
 use Rattle.tink_sets.specs.Groups.{group_of, HaveSameGroups}
-use Rattle.tink_factory.specs.Accepting.{first_value, or_else, value_or}
-use Rattle.tink_factory.specs.Decrypting.{entry_decrypts}
+use Rattle.tink_keysets.specs.Accepting.{first_value, or_else, value_or}
+use Rattle.tink_keysets.specs.Decrypting.{entry_decrypts}
 use Rattle.tink_aead.specs.Wrapped.{HasSameAnswers}
 
 pub same_answers : {P A : Type 0} (decrypts : P → List ℕ → List ℕ → Result (List ℕ) Kind) (old new : BTreeMap (Vec ℕ A) (List (TypedEntry P))) → HaveSameGroups old new

@@ -16,7 +16,7 @@ use Rattle.tink_proto_keys.specs.declared.aes_ctr_hmac.AesCtrHmacAeadKey.{AesCtr
 use Rattle.tink_primitives.specs.declared.primitive.Primitive.{Primitive}
 use Rattle.tink_primitives.specs.declared.primitive.Primitive.TheVariants as sorts
 use Rattle.tink_key_types.specs.Manager.{built_by, built_if}
-use Rattle.tink_factory.proofs.KeyEntries.{cond_ok, made_ok}
+use Rattle.tink_keysets.proofs.KeyEntries.{cond_ok, made_ok}
 use Rattle.tink_mac.specs.Tags.{HmacTags}
 use Rattle.tink_mac.proofs.SoundFacts.{HmacFits, by_message, hmac_long}
 use Rattle.tink_aead_subtle.specs.AesAeads.{gcm_decrypts, gcm_encrypts, gcm_siv_decrypts, gcm_siv_encrypts}

@@ -12,9 +12,9 @@ use Rattle.tink_sets.specs.declared.entry.TypedEntry.{TypedEntry}
 use Rattle.keyset_model.specs.Commands.{Command, Maker, Managed, after_all}
 use Rattle.keyset_model.specs.Spared.{Spares}
 use Rattle.keyset_model.specs.Keys.{enabled}
-use Rattle.tink_factory.specs.Accepting.{entries_of}
-use Rattle.tink_factory.specs.Decrypting.{any_decrypts, OpensToNoOther}
-use Rattle.tink_factory.specs.Typing.{key_entry, keyset_entries}
+use Rattle.tink_keysets.specs.Accepting.{entries_of}
+use Rattle.tink_keysets.specs.Decrypting.{any_decrypts, OpensToNoOther}
+use Rattle.tink_keysets.specs.Typing.{key_entry, keyset_entries}
 use Rattle.tink_aead_subtle.specs.Laws.{Undoes}
 use Rattle.tink_aead.specs.Wrapped.{entry_encrypts, primary_encrypts}
 

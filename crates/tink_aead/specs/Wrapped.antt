@@ -8,8 +8,8 @@ use Rattle.tink_sets.specs.Entries.{entry_of_id, typed_prefix_of}
 use Rattle.tink_sets.specs.Groups.{group_of}
 use Rattle.tink_sets.specs.declared.entry.TypedEntry.{TypedEntry}
 use Rattle.tink_keysets.specs.Built.{HasEntries}
-use Rattle.tink_factory.specs.Accepting.{entries_of}
-use Rattle.tink_factory.specs.Decrypting.{any_decrypts}
+use Rattle.tink_keysets.specs.Accepting.{entries_of}
+use Rattle.tink_keysets.specs.Decrypting.{any_decrypts}
 
 -- what was sealed, behind a prefix
 abbrev pub behind_prefix : List ℕ → Result (List ℕ) Kind × List ℕ → Result (List ℕ) Kind × List ℕ

@@ -6,7 +6,7 @@ use Rattle.std.proofs.lemmas.Bool.{lt-ltb, ltb-true}
 use Rattle.std.proofs.lemmas.List.Elements.{All-cons, All-head, All-nil, All-tail}
 use Rattle.tink_io.specs.declared.error.Kind.{Kind}
 use Rattle.tink_io.specs.declared.error.Kind.TheVariants.{DecryptFailed}
-use Rattle.tink_factory.specs.Accepting.{first_value, or_else, value_or}
+use Rattle.tink_keysets.specs.Accepting.{first_value, or_else, value_or}
 use Rattle.tink_daead.specs.AesSiv.{aes_siv_decrypts}
 use Rattle.tink_daead.specs.KeysetLaws.{EncryptsNoTextTo, HasSivKey, IsSealedByFirst, KeysetsDecryptExactly, SivEntry}
 use Rattle.tink_daead.proofs.SivFacts.{accepts_exactly}

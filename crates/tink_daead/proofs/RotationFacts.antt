@@ -16,10 +16,10 @@ use Rattle.tink_primitives.specs.declared.primitive.Primitive.TheVariants.{Deter
 use Rattle.tink_key_types.specs.Manager.{built_by, built_if}
 use Rattle.tink_sets.specs.Entries.{entry_of_id}
 use Rattle.tink_sets.specs.declared.entry.TypedEntry.{TypedEntry}
-use Rattle.tink_factory.specs.Decrypting.{entry_decrypts}
-use Rattle.tink_factory.specs.Typing.{key_entry}
-use Rattle.tink_factory.proofs.KeyEntries.{key_holds, made_ok, primary_key}
-use Rattle.tink_factory.proofs.LastingFacts.{IsAcceptedBy, accepted_after, accepted_by_key}
+use Rattle.tink_keysets.specs.Decrypting.{entry_decrypts}
+use Rattle.tink_keysets.specs.Typing.{key_entry}
+use Rattle.tink_keysets.proofs.KeyEntries.{key_holds, made_ok, primary_key}
+use Rattle.tink_keysets.proofs.LastingFacts.{IsAcceptedBy, accepted_after, accepted_by_key}
 use Rattle.tink_daead.specs.AesSiv.{aes_siv, aes_siv_decrypts, aes_siv_encrypts, counter_half, is_siv_key_size, mac_half}
 use Rattle.tink_daead.specs.AesSivLaws.{IsSivKey}
 use Rattle.tink_daead.specs.KeyTypes.{is_accepted}

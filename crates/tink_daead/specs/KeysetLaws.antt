@@ -4,7 +4,7 @@ use Rattle.std.specs.List.{All}
 use Rattle.tink_sets.specs.declared.entry.TypedEntry.{TypedEntry}
 use Rattle.tink_daead.specs.AesSiv.{aes_siv, aes_siv_decrypts}
 use Rattle.tink_daead.specs.AesSivLaws.{IsSivKey}
-use Rattle.tink_factory.specs.Decrypting.{any_decrypts}
+use Rattle.tink_keysets.specs.Decrypting.{any_decrypts}
 
 -- an entry of which contracts see the key
 abbrev pub SivEntry : Type 0

@@ -12,9 +12,9 @@ use Rattle.tink_sets.specs.declared.entry.TypedEntry.{TypedEntry}
 use Rattle.keyset_model.specs.Commands.{Command, Maker, Managed, after_all}
 use Rattle.keyset_model.specs.Keys.{enabled}
 use Rattle.keyset_model.specs.Spared.{Spares}
-use Rattle.tink_factory.specs.Accepting.{entries_of}
-use Rattle.tink_factory.specs.Decrypting.{any_decrypts, OpensToNoOther}
-use Rattle.tink_factory.specs.Typing.{key_entry, keyset_entries}
+use Rattle.tink_keysets.specs.Accepting.{entries_of}
+use Rattle.tink_keysets.specs.Decrypting.{any_decrypts, OpensToNoOther}
+use Rattle.tink_keysets.specs.Typing.{key_entry, keyset_entries}
 use Rattle.tink_daead.specs.Wrapped.{entry_encrypts, primary_encrypts}
 
 module _ {R K A P HD HE M F S St V : Type 0} (url : R → List ℕ) (supports : R → List ℕ → Bool) (builds : R → List ℕ → Result (Primitive K A P HD HE M F S St V) Kind) where

@@ -7,14 +7,14 @@ ghost use Rattle.tink_primitives.specs.Sorts.{as_deterministic_aead};
 ghost use Rattle.tink_sets.specs.Entries.{entry_of};
 ghost use Rattle.tink_sets.specs.Groups.{group_of, HaveSameGroups};
 ghost use Rattle.tink_keysets.specs.Built.{built_entries, GivesSet};
-ghost use Rattle.tink_factory.specs.Typing.{typed_entries};
-ghost use Rattle.tink_factory.specs.Decrypting.{any_decrypts, any_decrypts_told, entry_decrypts};
+ghost use Rattle.tink_keysets.specs.Typing.{typed_entries};
+ghost use Rattle.tink_keysets.specs.Decrypting.{any_decrypts, any_decrypts_told, entry_decrypts};
 ghost use Rattle.tink_daead.specs.Wrapped.{entry_encrypts, primary_encrypts, IsDaeadOf};
 ghost use Rattle.tink_daead.specs.WrappedTold.{primary_encrypts_told};
 
 use std::alloc::Global;
-use tink_factory::{Question, ask_entries, typed_primitives};
 use tink_io::{Kind, TinkError};
+use tink_keysets::factory::{Question, ask_entries, typed_primitives};
 use tink_keysets::keyset::Handle;
 use tink_primitives::{CloneIn, DeterministicAead, Kinds};
 use tink_proto::Bytes;

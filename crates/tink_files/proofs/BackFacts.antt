@@ -20,9 +20,9 @@ use Rattle.tink_keysets.specs.Encrypted.{by_master, chained, decrypted, handle_o
 use Rattle.tink_primitives.specs.declared.primitive.Primitive.TheVariants.{Aead}
 use Rattle.tink_sets.specs.Entries.{entry_of_id}
 use Rattle.tink_sets.specs.declared.entry.TypedEntry.{TypedEntry}
-use Rattle.tink_factory.specs.Accepting.{entries_of}
+use Rattle.tink_keysets.specs.Accepting.{entries_of}
 use Rattle.tink_aead.specs.AeadKinds.{kind_decrypts, kind_encrypts}
-use Rattle.tink_factory.specs.Decrypting.{any_decrypts, OpensToNoOther}
+use Rattle.tink_keysets.specs.Decrypting.{any_decrypts, OpensToNoOther}
 use Rattle.tink_aead.specs.Rotation.{aead_entries}
 use Rattle.tink_aead.specs.Wrapped.{primary_encrypts}
 use Rattle.tink_aead.specs.declared.aead_kind.AeadKind.{AeadKind}

@@ -14,7 +14,7 @@ use Rattle.tink_keysets.specs.Encrypted.{by_master, chained, decrypted, encrypte
 use Rattle.tink_keysets.specs.Through.{LeavesDraws}
 use Rattle.tink_aead.specs.AeadKinds.{kind_decrypts, kind_encrypts}
 use Rattle.tink_aead.specs.Rotation.{aead_entries}
-use Rattle.tink_factory.specs.Decrypting.{any_decrypts}
+use Rattle.tink_keysets.specs.Decrypting.{any_decrypts}
 use Rattle.tink_aead.specs.Wrapped.{IsAeadOf, primary_encrypts}
 use Rattle.tink_aead.specs.declared.aead_kind.AeadKind.{AeadKind}
 use Rattle.tink_aead.specs.declared.factory.WrappedAead.{WrappedAead}

@@ -10,10 +10,10 @@ use Rattle.tink_sets.specs.Entries.{entry_of_id}
 use Rattle.tink_sets.specs.declared.entry.TypedEntry.{TypedEntry}
 use Rattle.tink_keysets.specs.Encrypted.{chained}
 use Rattle.tink_keysets.specs.Valid.{valid_keyset}
-use Rattle.tink_factory.specs.Accepting.{entries_of}
+use Rattle.tink_keysets.specs.Accepting.{entries_of}
 use Rattle.tink_aead.specs.AeadKinds.{kind_decrypts, kind_encrypts}
 use Rattle.tink_aead.specs.Rotation.{aead_entries}
-use Rattle.tink_factory.specs.Decrypting.{any_decrypts}
+use Rattle.tink_keysets.specs.Decrypting.{any_decrypts}
 use Rattle.tink_aead.specs.Wrapped.{IsAeadOf, primary_encrypts}
 use Rattle.tink_aead.specs.declared.aead_kind.AeadKind.{AeadKind}
 use Rattle.tink_aead.specs.declared.factory.WrappedAead.{WrappedAead}

@@ -11,7 +11,7 @@ use Rattle.keyset_model.specs.Commands.{Command, Maker, Managed, after_all}
 use Rattle.keyset_model.specs.Spared.{Spares}
 use Rattle.tink_keysets.specs.Encrypted.{chained, decrypted, handle_of_bytes}
 use Rattle.tink_aead.specs.AeadKinds.{kind_decrypts}
-use Rattle.tink_factory.specs.Decrypting.{OpensToNoOther}
+use Rattle.tink_keysets.specs.Decrypting.{OpensToNoOther}
 use Rattle.tink_keyset_io.specs.Files.{file_text}
 use Rattle.tink_keyset_io.specs.declared.key_files.formats.Format.{Format}
 use Rattle.tink_files.specs.Masters.{MasterKeys, master_decrypts, master_in, valid_in_file}

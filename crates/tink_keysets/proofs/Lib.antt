@@ -4,3 +4,8 @@ pub mod Masters
 pub mod ReadBack
 pub mod ThroughFacts
 pub mod ValidFacts
+pub mod AcceptingFacts
+pub mod TypedSets
+pub mod TypingFacts
+pub mod KeyEntries
+pub mod LastingFacts

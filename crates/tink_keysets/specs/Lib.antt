@@ -6,3 +6,6 @@ pub mod Managed
 pub mod Through
 pub mod Told
 pub mod Valid
+pub mod Accepting
+pub mod Decrypting
+pub mod Typing

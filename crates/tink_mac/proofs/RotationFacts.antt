@@ -11,9 +11,9 @@ use Rattle.tink_primitives.specs.declared.primitive.Primitive.{Primitive}
 use Rattle.tink_primitives.specs.declared.primitive.Primitive.TheVariants.{Mac}
 use Rattle.tink_sets.specs.Entries.{entry_of_id}
 use Rattle.tink_sets.specs.declared.entry.TypedEntry.{TypedEntry}
-use Rattle.tink_factory.specs.Accepting.{AcceptsNoOther, accepted, entries_of}
-use Rattle.tink_factory.proofs.KeyEntries.{key_holds, made_ok, primary_key}
-use Rattle.tink_factory.proofs.LastingFacts.{IsAcceptedBy, accepted_after, accepted_by_key}
+use Rattle.tink_keysets.specs.Accepting.{AcceptsNoOther, accepted, entries_of}
+use Rattle.tink_keysets.proofs.KeyEntries.{key_holds, made_ok, primary_key}
+use Rattle.tink_keysets.proofs.LastingFacts.{IsAcceptedBy, accepted_after, accepted_by_key}
 use Rattle.tink_mac.specs.Wrapped.{any_verifies, covered, entry_mac, entry_verifies, primary_mac, Computes, Verifies}
 use Rattle.tink_mac.specs.Rotation.{IsMacBy, IsSound, MacsOutlive, OldMacsVerify}
 

@@ -12,8 +12,8 @@ use Rattle.tink_sets.specs.declared.entry.TypedEntry.{TypedEntry}
 use Rattle.keyset_model.specs.Commands.{Command, Maker, Managed, after_all}
 use Rattle.keyset_model.specs.Keys.{enabled}
 use Rattle.keyset_model.specs.Spared.{Spares}
-use Rattle.tink_factory.specs.Accepting.{entries_of}
-use Rattle.tink_factory.specs.Typing.{key_entry, keyset_entries}
+use Rattle.tink_keysets.specs.Accepting.{entries_of}
+use Rattle.tink_keysets.specs.Typing.{key_entry, keyset_entries}
 use Rattle.tink_mac.specs.Wrapped.{any_verifies, covered, entry_mac, primary_mac, Computes, Verifies}
 
 -- An entry computes this MAC of a message, its primitive accepts its own tag of it, and the MAC has more than five

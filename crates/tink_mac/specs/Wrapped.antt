@@ -10,7 +10,7 @@ use Rattle.tink_sets.specs.Entries.{entry_of_id, typed_prefix_of}
 use Rattle.tink_sets.specs.Groups.{group_of}
 use Rattle.tink_sets.specs.declared.entry.TypedEntry.{TypedEntry}
 use Rattle.tink_keysets.specs.Built.{HasEntries}
-use Rattle.tink_factory.specs.Accepting.{accepted_behind_prefix, entries_of}
+use Rattle.tink_keysets.specs.Accepting.{accepted_behind_prefix, entries_of}
 
 -- what a MAC covers: for a LEGACY key the data and one zero byte
 abbrev pub covered : OutputPrefixType → List ℕ → List ℕ

@@ -5,7 +5,7 @@ use Rattle.tink_io.specs.declared.error.Kind.TheVariants.{MacMismatch}
 use Rattle.tink_primitives.specs.Meaning.{IsMatch, IsTold}
 use Rattle.tink_primitives.specs.MeaningLaws.{made_told}
 use Rattle.tink_sets.specs.declared.entry.TypedEntry.{TypedEntry}
-use Rattle.tink_factory.specs.Accepting.{accepted, or_else, prefixed_value, raw_value, value_or}
+use Rattle.tink_keysets.specs.Accepting.{accepted, or_else, prefixed_value, raw_value, value_or}
 use Rattle.tink_mac.specs.Wrapped.{any_verifies, covered, entry_mac, entry_verifies, primary_mac, Computes, Verifies}
 
 pub match_told : (r : Result (Unit {0}) Kind) → IsMatch r → IsTold r

@@ -7,13 +7,13 @@ ghost use Rattle.tink_primitives.specs.Sorts.{as_mac};
 ghost use Rattle.tink_sets.specs.Entries.{entry_of};
 ghost use Rattle.tink_sets.specs.Groups.{group_of, HaveSameGroups};
 ghost use Rattle.tink_keysets.specs.Built.{built_entries, GivesSet};
-ghost use Rattle.tink_factory.specs.Typing.{typed_entries};
+ghost use Rattle.tink_keysets.specs.Typing.{typed_entries};
 ghost use Rattle.tink_mac.specs.Wrapped.{any_verifies, covered, entry_mac, entry_verifies, primary_mac, IsMacOf};
 ghost use Rattle.tink_mac.specs.WrappedLaws.{primary_mac_told, any_verifies_told, entry_verifies_told};
 
 use std::alloc::Global;
-use tink_factory::{Question, ask_behind_prefix, typed_primitives};
 use tink_io::{Kind, TinkError};
+use tink_keysets::factory::{Question, ask_behind_prefix, typed_primitives};
 use tink_keysets::keyset::Handle;
 use tink_primitives::{CloneIn, Kinds, Mac};
 use tink_proto::{Bytes, OutputPrefixType};

@@ -6,7 +6,7 @@ use Rattle.tink_io.specs.Faults.{Rose}
 use Rattle.tink_io.specs.declared.error.Kind.{Kind}
 use Rattle.tink_io.specs.declared.error.Kind.TheVariants.{OutOfMemory, ReadFault, WriteFault, BadKeyset, InvalidKeyset, UnsupportedKeyType, InvalidKey, NoPrimary, WrongPrimitive, InputTooLong, BadToken, MacMismatch}
 use Rattle.tink_io.specs.declared.error.TinkError.{TinkError}
-use Rattle.tink_factory.specs.Accepting.{entries_of}
+use Rattle.tink_keysets.specs.Accepting.{entries_of}
 use Rattle.tink_mac.specs.MacKinds.{kind_verifies}
 use Rattle.tink_mac.specs.Wrapped.{any_verifies}
 use Rattle.tink_tokens.specs.Tokens.{spelled, IsAnswered}

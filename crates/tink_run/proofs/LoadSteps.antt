@@ -25,7 +25,7 @@ use Rattle.tink_sets.specs.Converting as converting
 use Rattle.tink_building.specs.Given.{before, given_each}
 use Rattle.tink_building.proofs.BuildingFacts.{well_formed_keys}
 use Rattle.tink_keysets.specs.Built.{built_data, built_entries, built_entry, GivesSet, HasEntries}
-use Rattle.tink_factory.specs.Typing.{typed_entries}
+use Rattle.tink_keysets.specs.Typing.{typed_entries}
 use Rattle.keyset_model.specs.Keys.{is_enabled}
 use Rattle.keyset_model.specs.Validity.{is_held_keyset, is_validated, is_well_formed, IsValid}
 use Rattle.stream_model.specs.Key.{fronted}

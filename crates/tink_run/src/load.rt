@@ -8,8 +8,8 @@ ghost use Rattle.tink_run.specs.HeldKeys.{GivesLoaded};
 ghost use Rattle.loading_model.specs.Loading.{load_keys};
 
 use std::alloc::Global;
-use tink_factory::typed_primitives;
 use tink_io::TinkError;
+use tink_keysets::factory::typed_primitives;
 use tink_keysets::keyset::{Handle, insecure};
 use tink_primitives::Kinds;
 use tink_registry::{KeyManager, Registry};

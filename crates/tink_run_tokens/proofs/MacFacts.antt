@@ -22,7 +22,7 @@ use Rattle.tink_building.specs.Given.{before, given_each}
 use Rattle.tink_keysets.specs.Built.{built_data, built_entries, built_entry}
 use Rattle.tink_keysets.specs.Encrypted.{chained}
 use Rattle.tink_keysets.specs.Valid.{valid_keyset, valid_or_refused}
-use Rattle.tink_factory.specs.Typing.{typed_entries}
+use Rattle.tink_keysets.specs.Typing.{typed_entries}
 use Rattle.keyset_model.specs.Keys.{enabled}
 use Rattle.keyset_model.specs.Validity.{is_valid, is_validated}
 use Rattle.tink_mac.specs.Rotation.{mac_entries}

@@ -20,7 +20,7 @@ use Rattle.tink.specs.declared.managers.Managers.{Managers}
 use Rattle.tink_sets.specs.Groups.{group_of}
 use Rattle.tink_sets.specs.declared.entry.TypedEntry.{TypedEntry}
 use Rattle.tink_keyset_io.specs.Reading.{IsUnreadText}
-use Rattle.tink_factory.specs.Accepting.{entries_of}
+use Rattle.tink_keysets.specs.Accepting.{entries_of}
 use Rattle.tink_mac.specs.MacKinds.{kind_computes, kind_verifies}
 use Rattle.tink_mac.specs.Wrapped.{primary_mac, IsMacOf}
 use Rattle.tink_mac.specs.declared.factory.WrappedMac.{WrappedMac}

@@ -13,7 +13,7 @@ use Rattle.tink_sets.specs.Entries.{entry_of_id}
 use Rattle.tink_sets.specs.declared.entry.TypedEntry.{TypedEntry}
 use Rattle.tink_keysets.specs.Encrypted.{chained}
 use Rattle.tink_keysets.specs.Valid.{valid_keyset}
-use Rattle.tink_factory.specs.Accepting.{entries_of}
+use Rattle.tink_keysets.specs.Accepting.{entries_of}
 use Rattle.tink_mac.specs.MacKinds.{kind_computes, kind_verifies}
 use Rattle.tink_mac.specs.Rotation.{mac_entries}
 use Rattle.tink_mac.specs.declared.mac_kind.MacKind.{MacKind}

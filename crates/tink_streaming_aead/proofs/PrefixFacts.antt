@@ -19,7 +19,7 @@ use Rattle.tink_sets.specs.declared.entry.Entry.{Entry}
 use Rattle.tink_sets.specs.declared.entry.TypedEntry.{TypedEntry}
 use Rattle.tink_building.specs.Given as given
 use Rattle.tink_keysets.specs.Built.{built_data, built_entries, built_entry}
-use Rattle.tink_factory.specs.Typing.{typed_entries}
+use Rattle.tink_keysets.specs.Typing.{typed_entries}
 use Rattle.tink_streaming_aead.specs.DecryptReaders.{largest, largest_segment}
 use Rattle.tink_streaming_aead.specs.Wrapped.{HasOutputPrefix}
 

@@ -15,8 +15,8 @@ use Rattle.tink_sets.specs.declared.entry.Entry.{Entry}
 use Rattle.tink_sets.specs.declared.entry.TypedEntry.{TypedEntry}
 use Rattle.tink_sets.proofs.SortFacts.{OnlyWrong, converted_wrong, typed_wrong}
 use Rattle.tink_keysets.specs.Built.{GivesSet, HasEntries}
-use Rattle.tink_factory.specs.Typing.{typed_entries}
-use Rattle.tink_factory.proofs.TypingFacts.{IsFound, converted-filter, converted-find, group-converted, refused_under}
+use Rattle.tink_keysets.specs.Typing.{typed_entries}
+use Rattle.tink_keysets.proofs.TypingFacts.{IsFound, converted-filter, converted-find, group-converted, refused_under}
 
 module _ {K A D HD HE M P S St V Q : Type 0} (pick : Primitive K A D HD HE M P S St V → Result Q Kind) where
   with_ok : (e : Entry K A D HD HE M P S St V) (r : Result Q Kind) (y : TypedEntry Q) → made_of (with_primitive e) r ≡ Ok y → (e.prefix ≡ y.prefix) × (e.key_id ≡ y.key_id)

@@ -3,11 +3,11 @@
 ghost use Rattle.std.specs.Prelude.{◌≡◌, true, is_some, None, IfOk};
 ghost use Rattle.tink_sets.specs.Entries.{entry_of};
 ghost use Rattle.tink_keysets.specs.Built.{built_entries, GivesSet};
-ghost use Rattle.tink_factory.specs.Typing.{typed_entries, IsTypedSetOf};
+ghost use Rattle.tink_keysets.specs.Typing.{typed_entries, IsTypedSetOf};
 
+use crate::keyset::Handle;
 use std::alloc::Global;
 use tink_io::{Kind, TinkError};
-use tink_keysets::keyset::Handle;
 use tink_registry::{KeyManager, Registry};
 use tink_sets::TypedPrimitiveSet;
 use tink_sets::sorts::Sort;

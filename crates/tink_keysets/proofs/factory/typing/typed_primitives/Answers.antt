@@ -1,8 +1,8 @@
 use Rattle.std.proofs.Common.{rules, ◌≡◌, None, true, is_some}
 use Rattle.tink_sets.specs.Entries.{entry_of}
 use Rattle.tink_keysets.specs.Built.{built_entries}
-use Rattle.tink_factory.proofs.TypedSets.{typed-given}
-use Rattle.tink_factory.proofs.typing.typed_primitives.Goals as goal
+use Rattle.tink_keysets.proofs.TypedSets.{typed-given}
+use Rattle.tink_keysets.proofs.factory.typing.typed_primitives.Goals as goal
 
 pub returns-clause-set : goal.returns-clause-set
 returns-clause-set g c =

@@ -24,7 +24,7 @@ use Rattle.tink_building.specs.Given as given
 use Rattle.tink_keysets.specs.Built as built
 use Rattle.keyset_model.specs.Keys.{enabled}
 use Rattle.keyset_model.specs.Entries.{byte_and_id}
-use Rattle.tink_factory.specs.Typing.{key_entry, keyset_entries, typed_entries, typed_entry}
+use Rattle.tink_keysets.specs.Typing.{key_entry, keyset_entries, typed_entries, typed_entry}
 
 -- ---- what a list gives, one by one
 

@@ -7,7 +7,7 @@ ghost use Rattle.tink_io.specs.Told.{Answers};
 ghost use Rattle.tink_primitives.specs.Meaning.{IsTold};
 ghost use Rattle.tink_sets.specs.declared.entry.TypedEntry.{TypedEntry};
 ghost use Rattle.tink_sets.specs.Groups.{group_of};
-ghost use Rattle.tink_factory.specs.Accepting.{accepted, accepted_behind_prefix, first_value, prefixed_value};
+ghost use Rattle.tink_keysets.specs.Accepting.{accepted, accepted_behind_prefix, first_value, prefixed_value};
 
 use std::alloc::Global;
 use tink_io::{Kind, TinkError};

@@ -1,9 +1,9 @@
 use Rattle.std.proofs.Common.{rules, ◌≡◌, ◌∙◌, None, Err, ap, inr, sym}
 use Rattle.tink_io.specs.declared.error.TinkError.{TinkError}
 use Rattle.tink_sets.specs.Groups.{group_of}
-use Rattle.tink_factory.specs.Accepting.{prefixed_value, value_or}
-use Rattle.tink_factory.proofs.AcceptingFacts.{accepted-raw}
-use Rattle.tink_factory.proofs.asking.ask_entries.Goals as goal
+use Rattle.tink_keysets.specs.Accepting.{prefixed_value, value_or}
+use Rattle.tink_keysets.proofs.AcceptingFacts.{accepted-raw}
+use Rattle.tink_keysets.proofs.factory.asking.ask_entries.Goals as goal
 
 pub returns-in-Some-2 : goal.returns-in-Some-2
 returns-in-Some-2 g c =
