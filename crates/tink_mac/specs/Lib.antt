@@ -7,3 +7,6 @@ pub mod Tags
 pub mod Templates
 pub mod Wrapped
 pub mod WrappedLaws
+pub mod Lasting
+pub mod Reading
+pub mod Tokens

@@ -1,4 +1,4 @@
-//! Message authentication: HMAC, AES-CMAC, and the MACs of a keyset as one.
+//! Message authentication: HMAC, AES-CMAC, the MACs of a keyset as one, and tokens that they sign.
 #![tactic(auto)]
 
 pub use aes_cmac_key_manager::{AesCmacKeyManager, AesCmacKeys, CMAC_KEY_VERSION, CMAC_TYPE_URL};
@@ -25,3 +25,4 @@ mod laws;
 mod mac_kind;
 mod registering;
 pub mod subtle;
+pub mod tokens;

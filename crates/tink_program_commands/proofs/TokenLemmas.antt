@@ -9,7 +9,7 @@ use Rattle.tink_io.specs.declared.error.TinkError.{TinkError}
 use Rattle.tink_keysets.specs.Accepting.{entries_of}
 use Rattle.tink_mac.specs.MacKinds.{kind_verifies}
 use Rattle.tink_mac.specs.Wrapped.{any_verifies}
-use Rattle.tink_tokens.specs.Tokens.{spelled, IsAnswered}
+use Rattle.tink_mac.specs.Tokens.{spelled, IsAnswered}
 use Rattle.tink_io.specs.Taken.{LosesAtMost}
 use Rattle.tink_run.specs.Outside.{Outside, HasNoFault}
 use Rattle.tink_run.specs.Run.{Told}

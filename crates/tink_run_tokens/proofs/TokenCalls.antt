@@ -25,7 +25,7 @@ use Rattle.tink_mac.specs.MacKinds.{kind_computes, kind_verifies}
 use Rattle.tink_mac.specs.Wrapped.{primary_mac, IsMacOf}
 use Rattle.tink_mac.specs.declared.factory.WrappedMac.{WrappedMac}
 use Rattle.tink_mac.specs.declared.mac_kind.MacKind.{MacKind}
-use Rattle.tink_tokens.specs.Tokens.{spelled, IsAnswered, IsSigned, IsSigning, IsVerifying}
+use Rattle.tink_mac.specs.Tokens.{spelled, IsAnswered, IsSigned, IsSigning, IsVerifying}
 use Rattle.tink_run.specs.Outside.{Outside}
 use Rattle.tink_run_tokens.specs.Inputs.{input_limit, HasInput, IsOfInput, LeavesSink, ReadsInput}
 use Rattle.tink_run_tokens.specs.TokenSteps.{AreLoadedMacs, GivesMacs, MakesNothing, MakesOfInput}

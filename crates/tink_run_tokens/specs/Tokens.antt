@@ -17,7 +17,7 @@ use Rattle.tink_keysets.specs.Accepting.{entries_of}
 use Rattle.tink_mac.specs.MacKinds.{kind_computes, kind_verifies}
 use Rattle.tink_mac.specs.Rotation.{mac_entries}
 use Rattle.tink_mac.specs.declared.mac_kind.MacKind.{MacKind}
-use Rattle.tink_tokens.specs.Tokens.{IsAccepted, IsAnswered, IsNoToken, IsSigned}
+use Rattle.tink_mac.specs.Tokens.{IsAccepted, IsAnswered, IsNoToken, IsSigned}
 use Rattle.tink.specs.Managers.{row_of}
 use Rattle.tink.specs.Registered.{with_everything}
 use Rattle.tink.specs.declared.managers.Managers.{Managers}

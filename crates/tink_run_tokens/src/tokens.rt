@@ -12,9 +12,9 @@ use std::alloc::Global;
 use tink::{Managers, registry};
 use tink_io::{Sink, Source, TinkError, write_all};
 use tink_keysets::keyset::{Handle, insecure};
+use tink_mac::tokens::{sign, verify};
 use tink_mac::{MacKind, WrappedMac};
 use tink_proto::{Bytes, Text};
-use tink_tokens::{sign, verify};
 
 /// Writes the token of the source's bytes by the primary key of a keyset of MACs.
 ///

@@ -7,10 +7,12 @@ use std::alloc::Global;
 use std::process::Abort;
 use tink_core::registry::Registry;
 use tink_core::{Kind, TinkError};
+use tink_mac::tokens::{
+    law_old_tokens_verify, law_signed_tokens_verify, law_tokens_outlive_commands,
+};
 use tink_mac::{AesCmacKeyManager, HmacKeyManager, MacKind, WrappedMac};
 use tink_proto::OutputPrefixType;
 use tink_testutil::registry_of;
-use tink_tokens::{law_old_tokens_verify, law_signed_tokens_verify, law_tokens_outlive_commands};
 
 // One new key by the template, and a second one by the same draws, whose id is 5157488d.
 const NEW: Keys = Keys::Edited(&[Edit::Rotate]);

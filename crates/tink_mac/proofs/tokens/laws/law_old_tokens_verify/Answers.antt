@@ -1,0 +1,5 @@
+use Rattle.tink_mac.proofs.LastingFacts.{old_tokens_verify}
+use Rattle.tink_mac.proofs.tokens.laws.law_old_tokens_verify.Goals as goal
+
+pub returns : goal.returns
+returns g c = old_tokens_verify g.M.KeyManager.url g.M.KeyManager.supports g.M.KeyManager.builds g.P.Mac.computes g.P.Mac.verifies

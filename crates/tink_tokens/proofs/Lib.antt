@@ -1,3 +1,0 @@
-pub mod DotFacts
-pub mod LastingFacts
-pub mod TokenFacts

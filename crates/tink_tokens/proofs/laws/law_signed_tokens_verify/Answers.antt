@@ -1,5 +1,0 @@
-use Rattle.tink_tokens.proofs.LastingFacts.{signed_verify}
-use Rattle.tink_tokens.proofs.laws.law_signed_tokens_verify.Goals as goal
-
-pub returns : goal.returns
-returns g c = signed_verify g.M.KeyManager.url g.M.KeyManager.supports g.M.KeyManager.builds g.P.Mac.computes g.P.Mac.verifies

@@ -1,3 +1,0 @@
-pub mod Lasting
-pub mod Reading
-pub mod Tokens
