@@ -1,5 +1,6 @@
 -- What the words behind a command's name say.
 use Rattle.std.specs.Prelude.{map, String, string_bytes, ◌==◌, ◌||◌, ℕ, List, [], ◌∷◌, Bool, true, false, Some, None, is_some, codes, if◌then◌else◌, bytes_eq}
+use Rattle.std.specs.Borrow.{Bor}
 use Rattle.std.specs.declared.option.Option.{Option}
 use Rattle.tink_words.specs.declared.reading.Slot.{Slot}
 use Rattle.tink_words.specs.declared.reading.Slot.TheVariants.{Keys, Output, Aad, Format, To, ToAad, Start, Length}
@@ -42,6 +43,11 @@ nothing_read = record {
 -- whether a word is this one
 abbrev pub is : List ℕ → List ℕ → Bool
 is word text = bytes_eq word text
+
+-- the value of the first row with a name
+abbrev pub value_named : {A : Type 0} → List (Bor (List ℕ) × A) → List ℕ → Option A
+value_named [] name = None
+value_named (row ∷ rows) name = if is name row.0.now then Some row.1 else value_named rows name
 
 -- the option of a word, where the next word is its value
 abbrev pub slot_of : List ℕ → Option Slot

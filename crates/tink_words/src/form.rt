@@ -1,9 +1,10 @@
 //! Which words a command wants.
 
-ghost use Rattle.std.specs.Prelude.{◌≡◌, ◌&&◌, ◌||◌, not, is_some, codes, Some, None};
+ghost use Rattle.std.specs.Prelude.{◌≡◌, ◌&&◌, ◌||◌, not, is_some, codes, option_map, Some, None};
 ghost use Rattle.tink_words.specs.Forms.{action_of, are_fitting, are_named, are_placed, fits, form_of, is_usable, one_word, stream_words};
 
 use crate::Line;
+use crate::names::value_named;
 
 /// What is done.
 #[derive(Clone, Copy, Debug, PartialEq, Eq)]
@@ -47,7 +48,7 @@ pub enum Action {
 }
 
 // Whether a command takes a word.
-#[derive(Clone, Copy, Debug, PartialEq, Eq)]
+#[derive(Clone, Copy)]
 pub(crate) enum Need {
     Never,
     May,
@@ -55,7 +56,7 @@ pub(crate) enum Need {
 }
 
 // Which words a command takes: values of options, and two words beside them.
-#[derive(Clone, Copy, Debug)]
+#[derive(Clone, Copy)]
 pub(crate) struct Form {
     pub keys: Need,
     pub output: Need,
@@ -71,47 +72,49 @@ pub(crate) struct Form {
 
 impl Need {
     // Whether a word may be given, or be absent.
-    fn fits(self, is_given: bool) -> bool
-        ensures { result ≡ fits self is_given }
+    fn fits(self, word: Option<&str>) -> bool
+        ensures { result ≡ fits self (is_some (option_map (λ s. s.now) word.entry)) }
     {
         match self {
-            Need::Never => !is_given,
+            Need::Never => word.is_none(),
             Need::May => true,
-            Need::Must => is_given,
+            Need::Must => word.is_some(),
         }
     }
 }
+
+// The names of the commands.
+const NAMES: &[(&str, Action)] = &[
+    ("new", Action::New),
+    ("keys", Action::Keys),
+    ("rotate", Action::Rotate),
+    ("promote", Action::Promote),
+    ("enable", Action::Enable),
+    ("disable", Action::Disable),
+    ("destroy", Action::Destroy),
+    ("delete", Action::Delete),
+    ("encrypt", Action::Encrypt),
+    ("decrypt", Action::Decrypt),
+    ("rewrap", Action::Rewrap),
+    ("sign", Action::Sign),
+    ("verify", Action::Verify),
+    ("range", Action::Range),
+    ("wrap", Action::Wrap),
+    ("unwrap", Action::Unwrap),
+    ("help", Action::Help),
+    ("--help", Action::Help),
+    ("-h", Action::Help),
+    ("version", Action::Version),
+    ("--version", Action::Version),
+    ("-V", Action::Version),
+];
 
 impl Action {
     /// The command of a name.
     pub fn of_name(name: &str) -> Option<Action>
         ensures { result ≡ action_of name.now }
     {
-        match name {
-            "new" => Some(Action::New),
-            "keys" => Some(Action::Keys),
-            "rotate" => Some(Action::Rotate),
-            "promote" => Some(Action::Promote),
-            "enable" => Some(Action::Enable),
-            "disable" => Some(Action::Disable),
-            "destroy" => Some(Action::Destroy),
-            "delete" => Some(Action::Delete),
-            "encrypt" => Some(Action::Encrypt),
-            "decrypt" => Some(Action::Decrypt),
-            "rewrap" => Some(Action::Rewrap),
-            "sign" => Some(Action::Sign),
-            "verify" => Some(Action::Verify),
-            "range" => Some(Action::Range),
-            "wrap" => Some(Action::Wrap),
-            "unwrap" => Some(Action::Unwrap),
-            "help" => Some(Action::Help),
-            "--help" => Some(Action::Help),
-            "-h" => Some(Action::Help),
-            "version" => Some(Action::Version),
-            "--version" => Some(Action::Version),
-            "-V" => Some(Action::Version),
-            _ => None,
-        }
+        value_named(NAMES, name)
     }
 
     // The words that it takes.
@@ -201,20 +204,20 @@ fn are_fitting(form: Form, line: &Line<'_>) -> bool
 fn are_named(form: Form, line: &Line<'_>) -> bool
     ensures { result ≡ are_named form line.now }
 {
-    form.keys.fits(line.keys().is_some())
-        && form.output.fits(line.output().is_some())
-        && form.aad.fits(line.aad().is_some())
-        && form.format.fits(line.format().is_some())
-        && form.first.fits(line.first().is_some())
-        && form.second.fits(line.second().is_some())
+    form.keys.fits(line.keys())
+        && form.output.fits(line.output())
+        && form.aad.fits(line.aad())
+        && form.format.fits(line.format())
+        && form.first.fits(line.first())
+        && form.second.fits(line.second())
 }
 
 // Whether the options of a new stream and of a range are those of a form.
 fn are_placed(form: Form, line: &Line<'_>) -> bool
     ensures { result ≡ are_placed form line.now }
 {
-    form.to.fits(line.to().is_some())
-        && form.to_aad.fits(line.to_aad().is_some())
-        && form.start.fits(line.start().is_some())
-        && form.length.fits(line.length().is_some())
+    form.to.fits(line.to())
+        && form.to_aad.fits(line.to_aad())
+        && form.start.fits(line.start())
+        && form.length.fits(line.length())
 }

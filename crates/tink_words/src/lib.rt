@@ -3,6 +3,7 @@
 
 mod commands;
 mod form;
+mod names;
 mod reading;
 
 pub use commands::{Given, parse};

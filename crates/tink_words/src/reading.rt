@@ -1,8 +1,9 @@
 //! The words behind a command's name, one after another.
 
 ghost use Rattle.std.specs.Prelude.{◌≡◌, ◌==◌, ◌&&◌, ◌||◌, not, Bool, true, false, ℕ, List, codes, Some, None, is_some, option_map};
-ghost use Rattle.tink_words.specs.Lines.{is_option, slot_of, step, value_of, with_operand, with_value};
+ghost use Rattle.tink_words.specs.Lines.{is, is_option, slot_of, step, value_of, with_operand, with_value, with_word};
 
+use crate::names::value_named;
 use std::marker::Model;
 
 /// An option that has a value.
@@ -189,54 +190,47 @@ impl<'w> Line<'w> {
     pub fn step(self, word: &'w str) -> Line<'w>
         ensures { result ≡ step self.entry word.now }
     {
-        if let Some(slot) = self.next {
-            return self.with_value(slot, word);
+        match self.next {
+            Some(slot) => self.with_value(slot, word),
+            None => self.with_word(word, slot_of(word)),
         }
-        if let Some(slot) = slot_of(word) {
-            return Line {
-                next: Some(slot),
-                ..self
-            };
+    }
+
+    // The same with a word where no value is to come.
+    fn with_word(mut self, word: &'w str, slot: Option<Slot>) -> Line<'w>
+        ensures { result ≡ with_word self.entry word.now slot }
+    {
+        if slot.is_some() {
+            self.next = slot;
+        } else if is_either(word, "-q", "--quiet") {
+            self.quiet = true;
+        } else if is_either(word, "-h", "--help") {
+            self.help = true;
+        } else if is_option(word) {
+            self.is_bad = true;
+        } else {
+            return self.with_operand(word);
         }
-        if word == "-q" || word == "--quiet" {
-            return Line {
-                quiet: true,
-                ..self
-            };
-        }
-        if word == "-h" || word == "--help" {
-            return Line { help: true, ..self };
-        }
-        if is_option(word) {
-            return Line {
-                is_bad: true,
-                ..self
-            };
-        }
-        self.with_operand(word)
+        self
     }
 
     // The same with the value of an option, which has none yet.
-    fn with_value(self, slot: Slot, word: &'w str) -> Line<'w>
+    fn with_value(mut self, slot: Slot, word: &'w str) -> Line<'w>
         ensures { result ≡ with_value self.entry slot word.now }
     {
-        let is_bad = self.is_bad || self.value(slot).is_some();
-        let mut line = Line {
-            next: None,
-            is_bad,
-            ..self
-        };
+        self.is_bad = self.is_bad || self.value(slot).is_some();
+        self.next = None;
         match slot {
-            Slot::Keys => line.keys = Some(word),
-            Slot::Output => line.output = Some(word),
-            Slot::Aad => line.aad = Some(word),
-            Slot::Format => line.format = Some(word),
-            Slot::To => line.to = Some(word),
-            Slot::ToAad => line.to_aad = Some(word),
-            Slot::Start => line.start = Some(word),
-            Slot::Length => line.length = Some(word),
+            Slot::Keys => self.keys = Some(word),
+            Slot::Output => self.output = Some(word),
+            Slot::Aad => self.aad = Some(word),
+            Slot::Format => self.format = Some(word),
+            Slot::To => self.to = Some(word),
+            Slot::ToAad => self.to_aad = Some(word),
+            Slot::Start => self.start = Some(word),
+            Slot::Length => self.length = Some(word),
         }
-        line
+        self
     }
 
     // The value of an option.
@@ -256,46 +250,47 @@ impl<'w> Line<'w> {
     }
 
     // The same with a word that is no option.
-    fn with_operand(self, word: &'w str) -> Line<'w>
+    fn with_operand(mut self, word: &'w str) -> Line<'w>
         ensures { result ≡ with_operand self.entry word.now }
     {
         if self.first.is_none() {
-            return Line {
-                first: Some(word),
-                ..self
-            };
+            self.first = Some(word);
+        } else if self.second.is_none() {
+            self.second = Some(word);
+        } else {
+            self.is_bad = true;
         }
-        if self.second.is_none() {
-            return Line {
-                second: Some(word),
-                ..self
-            };
-        }
-        Line {
-            is_bad: true,
-            ..self
-        }
+        self
     }
 }
+
+// The words of the options that have a value.
+const SLOTS: &[(&str, Slot)] = &[
+    ("-k", Slot::Keys),
+    ("--keys", Slot::Keys),
+    ("-o", Slot::Output),
+    ("--output", Slot::Output),
+    ("--aad", Slot::Aad),
+    ("--format", Slot::Format),
+    ("-t", Slot::To),
+    ("--to", Slot::To),
+    ("--to-aad", Slot::ToAad),
+    ("--start", Slot::Start),
+    ("--length", Slot::Length),
+];
 
 // The option of a word, where the next word is its value.
 fn slot_of(word: &str) -> Option<Slot>
     ensures { result ≡ slot_of word.now }
 {
-    match word {
-        "-k" => Some(Slot::Keys),
-        "--keys" => Some(Slot::Keys),
-        "-o" => Some(Slot::Output),
-        "--output" => Some(Slot::Output),
-        "--aad" => Some(Slot::Aad),
-        "--format" => Some(Slot::Format),
-        "-t" => Some(Slot::To),
-        "--to" => Some(Slot::To),
-        "--to-aad" => Some(Slot::ToAad),
-        "--start" => Some(Slot::Start),
-        "--length" => Some(Slot::Length),
-        _ => None,
-    }
+    value_named(SLOTS, word)
+}
+
+// Whether a word is one of two.
+fn is_either(word: &str, short: &str, long: &str) -> bool
+    ensures { result ≡ (is word.now short.now || is word.now long.now) }
+{
+    word == short || word == long
 }
 
 /// Whether a word begins with a dash, and is more.
