@@ -2,3 +2,4 @@ pub mod ItemLemmas
 pub mod NumberLemmas
 pub mod TextLemmas
 pub mod BytesLemmas
+pub mod RefusalLemmas

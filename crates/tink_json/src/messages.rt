@@ -2,7 +2,7 @@
 
 ghost use Rattle.std.specs.Prelude.{◌≡◌, List, ℕ, IfOk, IfErr, OnOk, codes, false};
 ghost use Rattle.std.specs.declared.option.Option.{Option};
-ghost use Rattle.serde_json.specs.Data.{Data, number, unsigned, put as with_member};
+ghost use Rattle.serde_json.specs.Data.{Data, no_members, number, object, unsigned, put as with_member};
 ghost use Rattle.serde_json.specs.View.{members_view, view};
 ghost use Rattle.serde_json.specs.Written.{has_float as holds_float};
 ghost use Rattle.tink_json.specs.Messages.{message_of, use_of, value_of as value_of_text};
@@ -13,7 +13,7 @@ ghost use Rattle.tink_proto.specs.Outcome.{Reads, ReadsAs};
 ghost use Rattle.tink_proto.specs.declared.error.ProtoError.TheVariants.{BadJson, OutOfMemory};
 
 use crate::fields::{bytes_in, enum_in, list_in, message_in, number_in, require_object, text_in};
-use crate::values::{put_bytes, put_enum, put_list, put_text};
+use crate::values::{Members, put_bytes, put_enum, put_list, put_text};
 use crate::whole::has_whole_numbers;
 use serde_json::{Error, Map, Value, put};
 use std::alloc::{AllocError, Global};
@@ -24,7 +24,7 @@ use tink_proto::{
 
 /// A message in JSON.
 ///
-/// `from_value` and `to_value` are written for each message; `from_json` and `to_json` follow.
+/// `from_value` and `put_members` are written for each message; the others follow.
 pub trait Json: Drop {
     // The message that a value is.
     ghost form: { Data → Option Self };
@@ -39,12 +39,22 @@ pub trait Json: Drop {
     fn from_value(alloc: Global, json: &Value) -> Result<Self, ProtoError>
         ensures { Reads BadJson result (form (view json.now)) };
 
-    /// The value of a message: each member, those of defaults too; a message that is absent is left out.
-    fn to_value(&self, alloc: Global) -> Result<Value, AllocError>
-        ensures { IfOk result (λ v. view v ≡ value self.now) };
+    /// Writes the members of the message, those of defaults too; a message that is absent is left out.
+    fn put_members(&self, members: &mut Members, alloc: Global) -> Result<(), AllocError>
+        ensures { OnOk result (members_view members.old.entries ≡ no_members
+            → object (members_view members.new.entries) ≡ value self.now) };
 
     // Its numbers are whole.
     ghost plain: { (m : Self) → holds_float (value m) ≡ false };
+
+    /// The value of the message, an object of its members.
+    final fn to_value(&self, alloc: Global) -> Result<Value, AllocError>
+        ensures { IfOk result (λ v. view v ≡ value self.now) }
+    {
+        let mut members = Map::new(alloc);
+        self.put_members(&mut members, alloc)?;
+        Ok(Value::Object(members))
+    }
 
     /// The message of a text, which is one value.
     ///
@@ -104,7 +114,7 @@ fn from_text<M: Json>(alloc: Global, text: &[u8]) -> Result<M, ProtoError>
 
 // One more member, where the message is there.
 fn put_maybe<M: Json>(
-    members: &mut Map<String, Value>,
+    members: &mut Members,
     alloc: Global,
     name: &str,
     message: &Option<M>,
@@ -131,7 +141,7 @@ fn use_in(json: &Value) -> Result<(i32, (u32, i32)), ProtoError>
 
 // The members that say of which use a key is.
 fn put_use(
-    members: &mut Map<String, Value>,
+    members: &mut Members,
     alloc: Global,
     status: i32,
     key_id: u32,
@@ -174,17 +184,10 @@ impl Json for KeyData {
         })
     }
 
-    fn to_value(&self, alloc: Global) -> Result<Value, AllocError> {
-        let mut members = Map::new(alloc);
-        put_text(&mut members, alloc, "typeUrl", &self.type_url)?;
-        put_bytes(&mut members, alloc, "value", &self.value)?;
-        put_enum::<KeyMaterialType>(
-            &mut members,
-            alloc,
-            "keyMaterialType",
-            self.key_material_type,
-        )?;
-        Ok(Value::Object(members))
+    fn put_members(&self, members: &mut Members, alloc: Global) -> Result<(), AllocError> {
+        put_text(members, alloc, "typeUrl", &self.type_url)?;
+        put_bytes(members, alloc, "value", &self.value)?;
+        put_enum::<KeyMaterialType>(members, alloc, "keyMaterialType", self.key_material_type)
     }
 }
 
@@ -211,17 +214,15 @@ impl Json for Key {
         })
     }
 
-    fn to_value(&self, alloc: Global) -> Result<Value, AllocError> {
-        let mut members = Map::new(alloc);
-        put_maybe(&mut members, alloc, "keyData", &self.key_data)?;
+    fn put_members(&self, members: &mut Members, alloc: Global) -> Result<(), AllocError> {
+        put_maybe(members, alloc, "keyData", &self.key_data)?;
         put_use(
-            &mut members,
+            members,
             alloc,
             self.status,
             self.key_id,
             self.output_prefix_type,
-        )?;
-        Ok(Value::Object(members))
+        )
     }
 }
 
@@ -246,16 +247,14 @@ impl Json for Keyset {
         })
     }
 
-    fn to_value(&self, alloc: Global) -> Result<Value, AllocError> {
-        let mut members = Map::new(alloc);
+    fn put_members(&self, members: &mut Members, alloc: Global) -> Result<(), AllocError> {
         put(
-            &mut members,
+            members,
             alloc,
             "primaryKeyId",
             Value::from(self.primary_key_id),
         )?;
-        put_list(&mut members, alloc, "key", &self.key)?;
-        Ok(Value::Object(members))
+        put_list(members, alloc, "key", &self.key)
     }
 }
 
@@ -282,17 +281,15 @@ impl Json for KeyInfo {
         })
     }
 
-    fn to_value(&self, alloc: Global) -> Result<Value, AllocError> {
-        let mut members = Map::new(alloc);
-        put_text(&mut members, alloc, "typeUrl", &self.type_url)?;
+    fn put_members(&self, members: &mut Members, alloc: Global) -> Result<(), AllocError> {
+        put_text(members, alloc, "typeUrl", &self.type_url)?;
         put_use(
-            &mut members,
+            members,
             alloc,
             self.status,
             self.key_id,
             self.output_prefix_type,
-        )?;
-        Ok(Value::Object(members))
+        )
     }
 }
 
@@ -317,16 +314,14 @@ impl Json for KeysetInfo {
         })
     }
 
-    fn to_value(&self, alloc: Global) -> Result<Value, AllocError> {
-        let mut members = Map::new(alloc);
+    fn put_members(&self, members: &mut Members, alloc: Global) -> Result<(), AllocError> {
         put(
-            &mut members,
+            members,
             alloc,
             "primaryKeyId",
             Value::from(self.primary_key_id),
         )?;
-        put_list(&mut members, alloc, "keyInfo", &self.key_info)?;
-        Ok(Value::Object(members))
+        put_list(members, alloc, "keyInfo", &self.key_info)
     }
 }
 
@@ -351,15 +346,8 @@ impl Json for EncryptedKeyset {
         })
     }
 
-    fn to_value(&self, alloc: Global) -> Result<Value, AllocError> {
-        let mut members = Map::new(alloc);
-        put_bytes(
-            &mut members,
-            alloc,
-            "encryptedKeyset",
-            &self.encrypted_keyset,
-        )?;
-        put_maybe(&mut members, alloc, "keysetInfo", &self.keyset_info)?;
-        Ok(Value::Object(members))
+    fn put_members(&self, members: &mut Members, alloc: Global) -> Result<(), AllocError> {
+        put_bytes(members, alloc, "encryptedKeyset", &self.encrypted_keyset)?;
+        put_maybe(members, alloc, "keysetInfo", &self.keyset_info)
     }
 }

@@ -12,9 +12,12 @@ use serde_json::{Map, Value, put};
 use std::alloc::{AllocError, Global};
 use tink_proto::{Bytes, Repeated, Text};
 
+// The members of an object.
+pub type Members = Map<String, Value>;
+
 // One more member, a text.
 pub fn put_text(
-    members: &mut Map<String, Value>,
+    members: &mut Members,
     alloc: Global,
     name: &str,
     text: &Text,
@@ -32,7 +35,7 @@ pub fn put_text(
 
 // One more member, bytes in base 64.
 pub fn put_bytes(
-    members: &mut Map<String, Value>,
+    members: &mut Members,
     alloc: Global,
     name: &str,
     bytes: &Bytes,
@@ -46,7 +49,7 @@ pub fn put_bytes(
 
 // One more member, an enum's name, or its number where it has none.
 pub fn put_enum<N: Named>(
-    members: &mut Map<String, Value>,
+    members: &mut Members,
     alloc: Global,
     name: &str,
     number: i32,
@@ -62,7 +65,7 @@ pub fn put_enum<N: Named>(
 
 // One more member, the values of messages.
 pub fn put_list<M: Json>(
-    members: &mut Map<String, Value>,
+    members: &mut Members,
     alloc: Global,
     name: &str,
     messages: &Repeated<M>,

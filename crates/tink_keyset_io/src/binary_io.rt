@@ -10,8 +10,8 @@ ghost use Rattle.tink_keyset_io.specs.Reading.{told};
 ghost use Rattle.tink_io.specs.Taken.{LosesAtMost};
 ghost use Rattle.tink_keyset_io.specs.Writing.{IsPartOfText};
 
-use crate::format::Format;
 use crate::text::{read_as, write_as};
+use crate::text_form::TextForm;
 use std::alloc::Global;
 use std::marker::Model;
 use tink_io::{Kind, Sink, Source, TinkError};
@@ -21,7 +21,7 @@ use tink_proto::{Bytes, EncryptedKeyset, Keyset, Message, ProtoError};
 // The wire format.
 struct Binary;
 
-impl<M: Message> Format<M> for Binary {
+impl<M: Message> TextForm<M> for Binary {
     ghost use Rattle.std.specs.Prelude.{◌≡◌};
     ghost use Rattle.tink_io.specs.declared.error.Kind.TheVariants.{BadKeyset};
     ghost use Rattle.wire_format.specs.Message.{decoded, encoded};

@@ -10,8 +10,8 @@ ghost use Rattle.tink_keyset_io.specs.Reading.{told};
 ghost use Rattle.tink_io.specs.Taken.{LosesAtMost};
 ghost use Rattle.tink_keyset_io.specs.Writing.{IsPartOfText};
 
-use crate::format::Format;
 use crate::text::{read_as, write_as};
+use crate::text_form::TextForm;
 use std::alloc::Global;
 use std::marker::Model;
 use tink_io::{Kind, Sink, Source, TinkError};
@@ -22,7 +22,7 @@ use tink_proto::{Bytes, EncryptedKeyset, Keyset, ProtoError};
 // JSON.
 struct JsonText;
 
-impl<M: Json> Format<M> for JsonText {
+impl<M: Json> TextForm<M> for JsonText {
     ghost use Rattle.std.specs.Prelude.{◌≡◌};
     ghost use Rattle.tink_io.specs.declared.error.Kind.TheVariants.{BadJson};
     ghost use Rattle.tink_json.specs.Messages.{message_of};

@@ -2,10 +2,10 @@
 #![tactic(auto)]
 
 mod binary_io;
-mod format;
 mod json_io;
 pub mod key_files;
 mod text;
+mod text_form;
 
 pub use binary_io::{BinaryReader, BinaryWriter};
 pub use json_io::{JsonReader, JsonWriter};

@@ -7,7 +7,7 @@ ghost use Rattle.tink_keyset_io.specs.Reading.{IsFault, IsPiece, IsUnreadText, t
 ghost use Rattle.tink_io.specs.Taken.{LosesAtMost};
 ghost use Rattle.tink_keyset_io.specs.Writing.{AppendsText, IsPartOf};
 
-use crate::format::Format;
+use crate::text_form::TextForm;
 use std::alloc::Global;
 use tink_io::{Kind, Sink, Source, TinkError, write_all};
 
@@ -73,7 +73,7 @@ pub fn read_whole<S: Source>(
 }
 
 // The message of the text that the source has left.
-pub fn read_as<F: Format<M>, M: Drop, S: Source>(
+pub fn read_as<F: TextForm<M>, M: Drop, S: Source>(
     alloc: Global,
     source: &mut S,
 ) -> Result<M, TinkError>
@@ -89,7 +89,7 @@ pub fn read_as<F: Format<M>, M: Drop, S: Source>(
 }
 
 // Writes a text of the message, all of it.
-pub fn write_as<F: Format<M>, M, K: Sink>(
+pub fn write_as<F: TextForm<M>, M, K: Sink>(
     alloc: Global,
     sink: &mut K,
     message: &M,

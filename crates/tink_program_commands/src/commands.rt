@@ -27,8 +27,8 @@ pub fn done<S: Source, K: Sink>(
         (outside_of S.left S.faults K.got K.faults source.old sink.old)
         (outside_of S.left S.faults K.got K.faults source.new sink.new)
         result }
-    ensures early { Leaves (reads_first (asked_of parsed seed)) (λ kind. IsUnwrittenBy (asked_of parsed seed) kind) result
-        source.old source.new sink.old sink.new }
+    ensures early { Leaves (reads_first (asked_of parsed seed)) (λ kind. IsUnwrittenBy (asked_of parsed seed) kind)
+        result source.old source.new sink.old sink.new }
     ensures kept { takes_no_input (asked_of parsed seed) ≡ true → source.new ≡ source.old }
     ensures promised { Promises (asked_of parsed seed)
         (outside_of S.left S.faults K.got K.faults source.old sink.old)

@@ -13,7 +13,7 @@ use tink_io::TinkError;
 use tink_proto::Bytes;
 
 // A form in which a message is kept as a text.
-pub trait Format<M> {
+pub trait TextForm<M> {
     // The message that a text is.
     ghost message: { List ℕ → Option M };
 
