@@ -11,9 +11,9 @@ use Rattle.tink_run.specs.declared.report.Command.{Command}
 use Rattle.tink_run.specs.declared.report.Report.{Report}
 use Rattle.tink_run.specs.RewrapReads.{RewrapReadsNoFurther}
 use Rattle.tink_run.specs.Rewrapping.{RewrapMeans, Sides}
-use Rattle.tink_run_tokens.specs.Inputs.{input_limit}
-use Rattle.tink_run_tokens.specs.Tokens.{IsAnsweredWhole, Macs, TokenMeans}
-use Rattle.tink_run_tokens.proofs.ToldLemmas.{answered_whole}
+use Rattle.tink_run.specs.Inputs.{input_limit}
+use Rattle.tink_run.specs.Tokens.{IsAnsweredWhole, Macs, TokenMeans}
+use Rattle.tink_run.proofs.ToldLemmas.{answered_whole}
 use Rattle.tink_files.specs.Streams.{Succeeds}
 use Rattle.tink_files.specs.Tasks.{SaidOfStream, TokenTask, answered_as}
 

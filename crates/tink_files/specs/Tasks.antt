@@ -10,9 +10,9 @@ use Rattle.tink_run.specs.declared.report.Report.{Report}
 use Rattle.tink_run.specs.RewrapPromises.{CanRewrap, IsWholeRewrap}
 use Rattle.tink_run.specs.RewrapReads.{RewrapReadsNoFurther}
 use Rattle.tink_run.specs.Rewrapping.{RewrapMeans, sides}
-use Rattle.tink_run_tokens.specs.Inputs.{input_limit}
-use Rattle.tink_run_tokens.specs.Tokens.{CanAnswer, IsAnsweredWhole, Macs, TokenMeans}
-use Rattle.tink_run_tokens.specs.Tokens.{RefusesSigning, RefusesVerifying, SignsTo, VerifiesTo}
+use Rattle.tink_run.specs.Inputs.{input_limit}
+use Rattle.tink_run.specs.Tokens.{CanAnswer, IsAnsweredWhole, Macs, TokenMeans}
+use Rattle.tink_run.specs.Tokens.{RefusesSigning, RefusesVerifying, SignsTo, VerifiesTo}
 use Rattle.tink_files.specs.declared.tasks.Task.{Task}
 use Rattle.tink_files.specs.declared.tasks.Task.TheVariants.{Run, Rewrap, Sign, Verify}
 

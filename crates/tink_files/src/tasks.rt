@@ -12,7 +12,7 @@ use tink_io::{Draws, Place, Sink, Source, TinkError};
 use tink_run::report::{Command, Report};
 use tink_run::rewrap::rewrap;
 use tink_run::run::run;
-use tink_run_tokens::{write_payload, write_token};
+use tink_run::tokens::{write_payload, write_token};
 
 /// What is made of the bytes of a source under a keyset.
 #[derive(Clone, Copy)]
@@ -32,7 +32,7 @@ pub enum Task<'k> {
 /// is made takes draws.
 ///
 /// # Errors
-/// Those of `run` or `rewrap` of `tink_run`, `write_token` or `write_payload` of `tink_run_tokens`.
+/// Those of `run`, `rewrap`, `write_token` or `write_payload` of `tink_run`.
 pub fn write_task<S: Source, K: Sink>(
     alloc: Global,
     task: Task<'_>,

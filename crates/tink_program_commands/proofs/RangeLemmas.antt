@@ -16,8 +16,8 @@ use Rattle.tink_run.proofs.OpenLemmas.{chosen_lawful}
 use Rattle.tink_run.proofs.RunLemmas.{told_appended}
 use Rattle.tink_run.specs.KeysetRanges.{GivesSlice}
 use Rattle.tink_run.specs.SetRanges.{WritesNoRange}
-use Rattle.tink_run_tokens.specs.Inputs.{input_limit, InputRefused, IsOfInput, IsUnloadable}
-use Rattle.tink_run_tokens.proofs.ToldLemmas.{not_long, of_loaded, of_told, one_load}
+use Rattle.tink_run.specs.Inputs.{input_limit, InputRefused, IsOfInput, IsUnloadable}
+use Rattle.tink_run.proofs.ToldLemmas.{not_long, of_loaded, of_told, one_load}
 use Rattle.tink_io.specs.Statuses.{kind_status}
 use Rattle.tink_program_commands.specs.Program.{answer_outcome, own_statuses, status_of, IsAmong, IsEarlyKind, IsUnwrittenBy, Leaves}
 use Rattle.tink_program_commands.specs.Ranges.{HoldsNoInput, IsRangeWhole, RangeAnswer, RangeOutcome, RangePromises, RangesInput, RefusesRange, SinkAt, StopsRange, moments_of}

@@ -13,9 +13,9 @@ use Rattle.tink_mac.specs.Tokens.{spelled, IsAnswered}
 use Rattle.tink_io.specs.Taken.{LosesAtMost}
 use Rattle.tink_run.specs.Outside.{Outside, HasNoFault}
 use Rattle.tink_run.specs.Run.{Told}
-use Rattle.tink_run_tokens.specs.Inputs.{input_limit, IsOfInput, IsUnloadable, IsUnwritten}
-use Rattle.tink_run_tokens.specs.Tokens.{macs_of, CanAnswer, CannotAnswer, GaveOutput, Macs, RefusesSigning, RefusesVerifying, SignsTo, TokenMeans, TokenRefused, TokenRefuses, VerifiesTo}
-use Rattle.tink_run_tokens.proofs.ToldLemmas.{answered_whole, not_long, of_loaded}
+use Rattle.tink_run.specs.Inputs.{input_limit, IsOfInput, IsUnloadable, IsUnwritten}
+use Rattle.tink_run.specs.Tokens.{macs_of, CanAnswer, CannotAnswer, GaveOutput, Macs, RefusesSigning, RefusesVerifying, SignsTo, TokenMeans, TokenRefused, TokenRefuses, VerifiesTo}
+use Rattle.tink_run.proofs.ToldLemmas.{answered_whole, not_long, of_loaded}
 use Rattle.tink_io.specs.Statuses.{kind_status}
 use Rattle.tink_program_commands.specs.Program.{answer_outcome, own_statuses, status_of, IsAmong, IsEarlyKind, Leaves}
 use Rattle.tink_program_commands.specs.TokenPromises.{TokenOutcome, TokenPromises}

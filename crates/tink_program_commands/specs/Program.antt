@@ -12,8 +12,8 @@ use Rattle.tink_run.specs.AllKeys.{load}
 use Rattle.tink_run.specs.Outside.{Outside, IsUntouched}
 use Rattle.tink_run.specs.declared.report.Command.TheVariants.{Seal}
 use Rattle.tink_run.specs.SetRanges.{WritesNoRange}
-use Rattle.tink_run_tokens.specs.Inputs.{IsUnwritten, LeavesSink}
-use Rattle.tink_run_tokens.specs.Tokens.{macs_of, RefusesSigning, RefusesVerifying, SignsTo, VerifiesTo}
+use Rattle.tink_run.specs.Inputs.{IsUnwritten, LeavesSink}
+use Rattle.tink_run.specs.Tokens.{macs_of, RefusesSigning, RefusesVerifying, SignsTo, VerifiesTo}
 use Rattle.tink_program_commands.specs.declared.outcomes.Outcome.{Outcome}
 use Rattle.tink_program_commands.specs.declared.outcomes.Outcome.TheVariants.{Done, Usage, Refused}
 use Rattle.tink_program_commands.specs.Draws.{draws_in}

@@ -11,7 +11,7 @@ use Rattle.tink_run.specs.AllKeys.{load}
 use Rattle.tink_run.specs.Outside.{Outside, HasNoFault}
 use Rattle.tink_run.specs.Run.{CanOpen, Told}
 use Rattle.tink_run.specs.KeysetRanges.{GivesSlice}
-use Rattle.tink_run_tokens.specs.Inputs.{input_limit, HasTooMuch, InputRefused, IsOfInput, IsReadWhole, IsUnloadable}
+use Rattle.tink_run.specs.Inputs.{input_limit, HasTooMuch, InputRefused, IsOfInput, IsReadWhole, IsUnloadable}
 use Rattle.tink_program_commands.specs.Streams.{IsDoneOrWant}
 use Rattle.tink_program_commands.specs.declared.outcomes.Outcome.{Outcome}
 use Rattle.tink_program_commands.specs.declared.outcomes.Outcome.TheVariants.{Done, Usage, Refused}

@@ -13,7 +13,7 @@ use crate::streams::{run_open, run_rewrap, run_seal};
 use crate::words::{Parsed, Seed};
 use std::alloc::Global;
 use tink_io::{Sink, Source};
-use tink_run_tokens::{write_payload, write_token};
+use tink_run::tokens::{write_payload, write_token};
 
 /// Does what was read of the words, with the draws of `seed`.
 pub fn done<S: Source, K: Sink>(

@@ -7,7 +7,7 @@ ghost use Rattle.tink_program_commands.specs.Program.{Promised};
 ghost use Rattle.tink_proto.specs.declared.messages.keys.Keyset.{Keyset};
 ghost use Rattle.tink_run.specs.Outside.{Outside};
 ghost use Rattle.tink_run.specs.Run.{IsWholeStream};
-ghost use Rattle.tink_run_tokens.specs.Tokens.{RefusesVerifying, TokenMeans, VerifiesTo};
+ghost use Rattle.tink_run.specs.Tokens.{RefusesVerifying, TokenMeans, VerifiesTo};
 ghost use Rattle.tink_words.specs.Forms.{words_of};
 
 use crate::bytes::of_digits;
@@ -18,7 +18,7 @@ use tink_io::{Draws, Kind, SureSink, SureSource, TinkError};
 use tink_program::program::program;
 use tink_run::report::{Command, Report};
 use tink_run::run::run;
-use tink_run_tokens::write_payload;
+use tink_run::tokens::write_payload;
 
 // The usual raw key.
 const KEYSET: &[u8] =

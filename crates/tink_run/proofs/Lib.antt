@@ -25,3 +25,8 @@ pub mod PassEndings
 pub mod RewrapSteps
 pub mod PromiseSteps
 pub mod ReadsOnly
+pub mod InputSteps
+pub mod MacFacts
+pub mod ToldLemmas
+pub mod TokenCalls
+pub mod CompleteFacts

@@ -17,3 +17,6 @@ pub mod Passing
 pub mod Rewrapping
 pub mod RewrapPromises
 pub mod RewrapReads
+pub mod Inputs
+pub mod TokenSteps
+pub mod Tokens

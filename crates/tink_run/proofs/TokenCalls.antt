@@ -27,11 +27,11 @@ use Rattle.tink_mac.specs.declared.factory.WrappedMac.{WrappedMac}
 use Rattle.tink_mac.specs.declared.mac_kind.MacKind.{MacKind}
 use Rattle.tink_mac.specs.Tokens.{spelled, IsAnswered, IsSigned, IsSigning, IsVerifying}
 use Rattle.tink_run.specs.Outside.{Outside}
-use Rattle.tink_run_tokens.specs.Inputs.{input_limit, HasInput, IsOfInput, LeavesSink, ReadsInput}
-use Rattle.tink_run_tokens.specs.TokenSteps.{AreLoadedMacs, GivesMacs, MakesNothing, MakesOfInput}
-use Rattle.tink_run_tokens.specs.Tokens.{macs_in, macs_of, supports_own, with_id, Macs, RefusesSigning, RefusesVerifying, SignsTo, TokenMeans, TokenRefused, TokenRefuses, VerifiesTo}
-use Rattle.tink_run_tokens.proofs.InputSteps.{unloaded}
-use Rattle.tink_run_tokens.proofs.MacFacts.{macs_refuse}
+use Rattle.tink_run.specs.Inputs.{input_limit, HasInput, IsOfInput, LeavesSink, ReadsInput}
+use Rattle.tink_run.specs.TokenSteps.{AreLoadedMacs, GivesMacs, MakesNothing, MakesOfInput}
+use Rattle.tink_run.specs.Tokens.{macs_in, macs_of, supports_own, with_id, Macs, RefusesSigning, RefusesVerifying, SignsTo, TokenMeans, TokenRefused, TokenRefuses, VerifiesTo}
+use Rattle.tink_run.proofs.InputSteps.{unloaded}
+use Rattle.tink_run.proofs.MacFacts.{macs_refuse}
 
 -- ---- what loads
 

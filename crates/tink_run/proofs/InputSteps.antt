@@ -7,7 +7,7 @@ use Rattle.tink_keyset_io.specs.Reading.{IsUnreadText}
 use Rattle.tink_io.specs.Taken.{LosesAtMost}
 use Rattle.loading_model.proofs.UsableKeys.{IsOfLoading}
 use Rattle.tink_run.specs.Outside.{Outside}
-use Rattle.tink_run_tokens.specs.Inputs.{input_limit, InputRefused, LeavesSink}
+use Rattle.tink_run.specs.Inputs.{input_limit, InputRefused, LeavesSink}
 
 -- nothing was taken
 pub none_taken : (left : Option (List ℕ)) → LosesAtMost (input_limit + 1) left left

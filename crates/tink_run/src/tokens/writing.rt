@@ -3,11 +3,11 @@
 ghost use Rattle.std.specs.Prelude.{◌≡◌, ◌+◌, ◌≤◌, IfErr};
 ghost use Rattle.tink_io.specs.Taken.{LosesAtMost};
 ghost use Rattle.tink_run.specs.Outside.{outside_of};
-ghost use Rattle.tink_run_tokens.specs.Inputs.{IsUnloadable, IsUnwritten, input_limit};
-ghost use Rattle.tink_run_tokens.specs.TokenSteps.{AreLoadedMacs, GivesMacs, MakesOfInput};
-ghost use Rattle.tink_run_tokens.specs.Tokens.{CompletesToken, Macs, RefusesSigning, RefusesVerifying, SignsTo, TokenMeans, VerifiesTo, macs_in, macs_of};
+ghost use Rattle.tink_run.specs.Inputs.{IsUnloadable, IsUnwritten, input_limit};
+ghost use Rattle.tink_run.specs.TokenSteps.{AreLoadedMacs, GivesMacs, MakesOfInput};
+ghost use Rattle.tink_run.specs.Tokens.{CompletesToken, Macs, RefusesSigning, RefusesVerifying, SignsTo, TokenMeans, VerifiesTo, macs_in, macs_of};
 
-use crate::input::read_input;
+use crate::tokens::input::read_input;
 use std::alloc::Global;
 use tink::{Managers, registry};
 use tink_io::{Sink, Source, TinkError, write_all};

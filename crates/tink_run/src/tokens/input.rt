@@ -4,7 +4,7 @@ ghost use Rattle.std.specs.Prelude.{◌+◌, IfErr, IfOk};
 ghost use Rattle.tink_io.specs.declared.error.Kind.TheVariants.{InputTooLong};
 ghost use Rattle.tink_keyset_io.specs.Reading.{IsUnreadText};
 ghost use Rattle.tink_io.specs.Taken.{LosesAtMost};
-ghost use Rattle.tink_run_tokens.specs.Inputs.{ReadsInput, input_limit};
+ghost use Rattle.tink_run.specs.Inputs.{ReadsInput, input_limit};
 
 use std::alloc::Global;
 use tink_io::{Kind, Source, TinkError};

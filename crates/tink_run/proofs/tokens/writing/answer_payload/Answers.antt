@@ -1,8 +1,8 @@
 use Rattle.std.proofs.Common.{refl}
 use Rattle.std.proofs.lemmas.Result.{err_from_is_err_and}
-use Rattle.tink_run_tokens.specs.Tokens.{RefusesVerifying, VerifiesTo}
-use Rattle.tink_run_tokens.proofs.TokenCalls.{not_loaded, not_made, verifying_only}
-use Rattle.tink_run_tokens.proofs.tokens.answer_payload.Goals as goal
+use Rattle.tink_run.specs.Tokens.{RefusesVerifying, VerifiesTo}
+use Rattle.tink_run.proofs.TokenCalls.{not_loaded, not_made, verifying_only}
+use Rattle.tink_run.proofs.tokens.writing.answer_payload.Goals as goal
 
 pub returns-in_err-macs-clause-answer : goal.returns-in_err-macs-clause-answer
 returns-in_err-macs-clause-answer g c =

@@ -1,8 +1,7 @@
 //! Tokens of what a source has, by the MACs of a keyset, from any source to any sink.
-#![tactic(auto)]
 
 mod input;
-mod tokens;
+mod writing;
 
 pub use input::read_input;
-pub use tokens::{write_payload, write_token};
+pub use writing::{write_payload, write_token};

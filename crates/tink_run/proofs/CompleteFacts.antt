@@ -10,9 +10,9 @@ use Rattle.tink_mac.specs.Wrapped.{any_verifies}
 use Rattle.tink_mac.specs.Tokens.{spelled, IsAnswered}
 use Rattle.tink_run.specs.Outside.{Outside, HasNoFault}
 use Rattle.tink_run.specs.Run.{Told}
-use Rattle.tink_run_tokens.specs.Inputs.{IsOfInput}
-use Rattle.tink_run_tokens.specs.Tokens.{macs_of, CanAnswer, CompletesToken, Macs, RefusesSigning, RefusesVerifying, SignsTo, TokenMeans, TokenRefused, TokenRefuses, VerifiesTo}
-use Rattle.tink_run_tokens.proofs.ToldLemmas.{long_told, never_loaded, of_loaded}
+use Rattle.tink_run.specs.Inputs.{IsOfInput}
+use Rattle.tink_run.specs.Tokens.{macs_of, CanAnswer, CompletesToken, Macs, RefusesSigning, RefusesVerifying, SignsTo, TokenMeans, TokenRefused, TokenRefuses, VerifiesTo}
+use Rattle.tink_run.proofs.ToldLemmas.{long_told, never_loaded, of_loaded}
 
 -- what is made of an input, and by which kind it is refused, exclude each other
 module _ (Gives : Macs → List ℕ → List ℕ → Type 0) (Refuses : Macs → List ℕ → Kind → Type 0) (keyset : List ℕ)

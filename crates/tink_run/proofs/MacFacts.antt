@@ -38,7 +38,7 @@ use Rattle.tink.specs.Registered.{with_everything}
 use Rattle.tink.specs.declared.managers.Managers.{Managers}
 use Rattle.tink.specs.LoadingRows.{built_key}
 use Rattle.tink.proofs.RowFacts.{managers_sound, rows_of}
-use Rattle.tink_run_tokens.specs.Tokens.{macs_in, macs_of, supports_own}
+use Rattle.tink_run.specs.Tokens.{macs_in, macs_of, supports_own}
 
 -- a result refuses by a kind of loading
 abbrev Refuses : {A : Type 0} → Result A Kind → Type 0

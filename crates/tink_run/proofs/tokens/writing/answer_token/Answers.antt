@@ -1,7 +1,7 @@
 use Rattle.std.proofs.lemmas.Result.{err_from_is_err_and}
-use Rattle.tink_run_tokens.specs.Tokens.{RefusesSigning, SignsTo}
-use Rattle.tink_run_tokens.proofs.TokenCalls.{not_loaded}
-use Rattle.tink_run_tokens.proofs.tokens.answer_token.Goals as goal
+use Rattle.tink_run.specs.Tokens.{RefusesSigning, SignsTo}
+use Rattle.tink_run.proofs.TokenCalls.{not_loaded}
+use Rattle.tink_run.proofs.tokens.writing.answer_token.Goals as goal
 
 pub returns-in_err-macs-clause-answer : goal.returns-in_err-macs-clause-answer
 returns-in_err-macs-clause-answer g c =

@@ -1,6 +1,6 @@
 use Rattle.std.proofs.lemmas.Result.{err_from_is_err_and}
-use Rattle.tink_run_tokens.proofs.TokenCalls.{keyset_macs, keyset_refused}
-use Rattle.tink_run_tokens.proofs.tokens.load_macs.Goals as goal
+use Rattle.tink_run.proofs.TokenCalls.{keyset_macs, keyset_refused}
+use Rattle.tink_run.proofs.tokens.writing.load_macs.Goals as goal
 
 pub returns-in_err-handle : goal.returns-in_err-handle
 returns-in_err-handle c =

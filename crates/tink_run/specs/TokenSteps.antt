@@ -8,8 +8,8 @@ use Rattle.tink_mac.specs.MacKinds.{kind_computes, kind_verifies}
 use Rattle.tink_mac.specs.Wrapped.{IsMacOf}
 use Rattle.tink_mac.specs.declared.mac_kind.MacKind.{MacKind}
 use Rattle.tink_mac.specs.declared.factory.WrappedMac.{WrappedMac}
-use Rattle.tink_run_tokens.specs.Inputs.{ExceedsLimit, ReadsInput}
-use Rattle.tink_run_tokens.specs.Tokens.{Macs}
+use Rattle.tink_run.specs.Inputs.{ExceedsLimit, ReadsInput}
+use Rattle.tink_run.specs.Tokens.{Macs}
 
 -- the MACs of a set are those that loaded
 abbrev pub AreLoadedMacs : Macs → WrappedMac MacKind → Type 0

@@ -23,7 +23,7 @@ use Rattle.tink.specs.Registered.{with_everything}
 use Rattle.tink.specs.declared.managers.Managers.{Managers}
 use Rattle.tink_run.specs.Outside.{HasNoFault, Outside}
 use Rattle.tink_run.specs.Run.{Told}
-use Rattle.tink_run_tokens.specs.Inputs.{input_limit, InputRefused, IsOfInput, LeavesSink}
+use Rattle.tink_run.specs.Inputs.{input_limit, InputRefused, IsOfInput, LeavesSink}
 
 -- ---- what loads
 

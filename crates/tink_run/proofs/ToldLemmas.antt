@@ -6,8 +6,8 @@ use Rattle.tink_io.specs.declared.error.Kind.{Kind}
 use Rattle.tink_run.specs.Outside.{Outside}
 use Rattle.tink_run.specs.Run.{Told}
 use Rattle.tink_run.proofs.RunLemmas.{told_appended, told_if, told_whole}
-use Rattle.tink_run_tokens.specs.Inputs.{input_limit, ExceedsLimit, HasInput, IsOfInput, IsReadWhole}
-use Rattle.tink_run_tokens.specs.Tokens.{macs_of, GaveOutput, IsAnsweredWhole, Macs}
+use Rattle.tink_run.specs.Inputs.{input_limit, ExceedsLimit, HasInput, IsOfInput, IsReadWhole}
+use Rattle.tink_run.specs.Tokens.{macs_of, GaveOutput, IsAnsweredWhole, Macs}
 
 -- ---- of a keyset
 

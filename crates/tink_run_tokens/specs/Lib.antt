@@ -1,3 +1,0 @@
-pub mod Inputs
-pub mod TokenSteps
-pub mod Tokens
