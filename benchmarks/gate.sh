@@ -1,7 +1,7 @@
 #!/usr/bin/env bash
 # Runs the whole gate from nothing on a clone of the last commit and prints what it cost: the
-# processor seconds of each crate's proof, of its tests, of its must-fail edits and of the check
-# that these begin with, the dearest checks, the sum, and the wall clock. docs/PROVING.md has the
+# processor seconds of each crate's proof, of its tests, of a program's compiling, of its must-fail
+# edits and of the check that these begin with, the dearest checks, the sum, and the wall clock. docs/PROVING.md has the
 # budget. Run nothing beside it. The first word, if there is one, is a file for the gate's output.
 set -euo pipefail
 root=$(dirname -- "$(dirname -- "$(readlink -f -- "${BASH_SOURCE[0]}")")")
@@ -95,7 +95,7 @@ wall = time.time() - began
 of = collections.defaultdict(list)
 for (_, what), (seconds, _) in checks.items():
     of[what].append(seconds)
-kinds = ("proof", "tests", "base", "edit")
+kinds = ("proof", "tests", "compile", "base", "edit")
 print(f"{'crate':24}" + "".join(f"{it:>9}" for it in kinds) + "    edits      sum")
 crates = sorted({crate for crate, _ in of}, key=lambda it: -sum(sum(of[it, kind]) for kind in kinds))
 for crate in crates:
