@@ -2,4 +2,3 @@ pub mod ItemLemmas
 pub mod NumberLemmas
 pub mod TextLemmas
 pub mod BytesLemmas
-pub mod RefusalLemmas
