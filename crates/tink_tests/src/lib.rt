@@ -10,11 +10,11 @@ mod rewrap_faults;
 #[cfg(test)]
 mod rewrap_rows;
 #[cfg(test)]
-mod rewrap_support;
-#[cfg(test)]
 mod rewrap_tests;
 #[cfg(test)]
 mod rotation;
+#[cfg(test)]
+mod support;
 #[cfg(test)]
 mod tasks;
 #[cfg(test)]

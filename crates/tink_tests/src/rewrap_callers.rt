@@ -5,7 +5,7 @@ ghost use Rattle.tink_run.specs.RewrapPromises.{IsWholeRewrap};
 ghost use Rattle.tink_run.specs.Rewrapping.{sides};
 ghost use Rattle.tink_run.specs.Outside.{Outside};
 
-use crate::rewrap_support::{CTR_35, GCM_41, counted, stream_of};
+use crate::support::{CTR_35, GCM_41, counted, stream_of};
 use std::alloc::Global;
 use tink_io::{Draws, SureSink, SureSource, TinkError};
 use tink_run::report::Report;

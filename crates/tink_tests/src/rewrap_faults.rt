@@ -1,6 +1,6 @@
 //! Sources and sinks that fail at each call in turn.
 
-use crate::rewrap_support::{CTR_35, Call, Ends, GCM_41, Trouble, called, ends_of, stream_of};
+use crate::support::{CTR_35, Call, Ends, GCM_41, Trouble, called, ends_of, stream_of};
 use std::alloc::Global;
 use tink_io::{Kind, TinkError};
 use tink_run::report::Report;

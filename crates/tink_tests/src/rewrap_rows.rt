@@ -1,6 +1,6 @@
 //! Streams that are moved, damaged or refused: what is written of each.
 
-use crate::rewrap_support::{
+use crate::support::{
     Call, Ends, Side, Trouble, called, counted, ends_of, keyset_of, sealed, stream_of,
 };
 use std::alloc::Global;

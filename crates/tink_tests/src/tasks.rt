@@ -43,7 +43,19 @@ fn encrypted(
     }
 }
 
-// Whether a ciphertext is decrypted to the value.
+// Whether an AEAD decrypts a ciphertext to the value.
+fn gives_value(
+    alloc: Global,
+    aead: &WrappedAead<AeadKind>,
+    ciphertext: &[u8],
+) -> Result<bool, TinkError> {
+    match aead.decrypt(alloc, ciphertext, b"its column") {
+        Ok(text) => Ok(text.as_slice() == VALUE),
+        Err(e) => Err(e),
+    }
+}
+
+// The same by the AEADs of a keyset.
 fn is_value(
     alloc: Global,
     registry: &Registry<Managers>,
@@ -51,7 +63,7 @@ fn is_value(
     ciphertext: &[u8],
 ) -> Result<bool, TinkError> {
     match tink::aead::new(alloc, keyset, registry) {
-        Ok(aead) => Ok(aead.decrypt(alloc, ciphertext, b"its column")?.as_slice() == VALUE),
+        Ok(aead) => gives_value(alloc, &aead, ciphertext),
         Err(e) => Err(e),
     }
 }

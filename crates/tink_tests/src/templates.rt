@@ -5,6 +5,11 @@ use tink::keyset::Handle;
 use tink::{Draws, Managers, Registry, TinkError};
 use tink_proto::KeyTemplate;
 
+// Whether the keys of a keyset build.
+fn are_built(alloc: Global, registry: &Registry<Managers>, keyset: &Handle) -> bool {
+    keyset.primitives(alloc, registry).is_ok()
+}
+
 // Whether a template makes a keyset whose one key builds.
 fn builds(
     alloc: Global,
@@ -13,7 +18,7 @@ fn builds(
 ) -> Result<bool, TinkError> {
     let mut draws = Draws::new(vec![in alloc; 7u8; 200]?);
     match Handle::new(alloc, template, registry, &mut draws) {
-        Ok(keyset) => Ok(keyset.primitives(alloc, registry).is_ok()),
+        Ok(keyset) => Ok(are_built(alloc, registry, &keyset)),
         Err(_) => Ok(false),
     }
 }

@@ -1,4 +1,4 @@
-//! Keysets, and the ends of a call in memory.
+//! Keysets, the ends of a call in memory, and streams of a counted text.
 
 use std::alloc::Global;
 use tink_io::{Draws, MemSink, MemSource, TinkError};
@@ -195,6 +195,20 @@ pub fn stream_of(
 ) -> Result<Vec<u8>, TinkError> {
     match sealed(alloc, keyset, aad, count, 1024) {
         Ok((_, ends)) => Ok(ends.sink.into_bytes()),
+        Err(e) => Err(e),
+    }
+}
+
+/// The text of a stream.
+pub fn opened(
+    alloc: Global,
+    keyset: &[u8],
+    aad: &[u8],
+    stream: Vec<u8>,
+) -> Result<Vec<u8>, TinkError> {
+    let mut ends = ends_of(alloc, stream, 0, Trouble::Cut, 0)?;
+    match called(alloc, Call::Run(Command::Open, keyset, aad), &mut ends) {
+        Ok(_) => Ok(ends.sink.into_bytes()),
         Err(e) => Err(e),
     }
 }
