@@ -1,8 +1,9 @@
 #!/usr/bin/env bash
 # Runs the whole gate from nothing on a clone of the last commit and prints what it cost: the
 # processor seconds of each crate's proof, of its tests, of a program's compiling, of its must-fail
-# edits and of the check that these begin with, the dearest checks, the sum, and the wall clock. docs/PROVING.md has the
-# budget. Run nothing beside it. The first word, if there is one, is a file for the gate's output.
+# edits and of the check that these begin with, the dearest checks, the sum, and the wall clock.
+# docs/PROVING.md has the budget. Run nothing beside it. The first word, if there is one, is a file
+# for the gate's output.
 set -euo pipefail
 root=$(dirname -- "$(dirname -- "$(readlink -f -- "${BASH_SOURCE[0]}")")")
 folder=$(mktemp -d)
