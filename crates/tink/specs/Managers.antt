@@ -15,7 +15,7 @@ use Rattle.tink_proto_keys.specs.Aead as aead_messages
 use Rattle.tink_proto_keys.specs.AesCtrHmac as composed_messages
 use Rattle.tink_proto_keys.specs.Streaming as streaming_messages
 use Rattle.tink_proto_keys.specs.Daead as daead_messages
-use Rattle.tink_prf.specs.declared.prf_kind.PrfKind.{PrfKind}
+pub use Rattle.tink_prf.specs.declared.prf_kind.PrfKind.{PrfKind}
 use Rattle.tink_prf.specs.declared.prf_kind.PrfKind.TheVariants as prf_kinds
 use Rattle.tink_prf.specs.declared.prf_kind.PrfKinds.{PrfKinds}
 use Rattle.tink_prf.specs.KeyTypes as prf_keys
@@ -24,7 +24,7 @@ use Rattle.tink_mac.specs.declared.mac_kind.MacKind.TheVariants as mac_kinds
 use Rattle.tink_mac.specs.declared.mac_kind.MacKinds.{MacKinds}
 use Rattle.tink_mac.specs.KeyTypes as mac_keys
 use Rattle.tink_mac.specs.KeyTypeLaws as mac_laws
-use Rattle.tink_aead.specs.declared.aead_kind.AeadKind.{AeadKind}
+pub use Rattle.tink_aead.specs.declared.aead_kind.AeadKind.{AeadKind}
 use Rattle.tink_aead.specs.declared.aead_kind.AeadKind.TheVariants as aead_kinds
 use Rattle.tink_aead.specs.declared.aead_kind.AeadKinds.{AeadKinds}
 use Rattle.tink_aead.specs.KeyTypes as aead_keys

@@ -8,8 +8,8 @@ use Rattle.hex.specs.Hex.{decode_of, is_hex_digit}
 use Rattle.hex.proofs.HexLemmas.{decode_of-ok}
 use Rattle.tink_words.specs.Forms.{given}
 use Rattle.tink_words.specs.Lines.{is_option}
-use Rattle.tink_program_commands.specs.Words.{Asked, IsBytesWord, IsNumberWord, Spells}
-use Rattle.tink_program_commands.specs.Words.Asked.{Making, Measuring, Opening, Ranging, Rewrapping, Rotating, Sealing, Signing, Verifying}
+use Rattle.tink_program.specs.Words.{Asked, IsBytesWord, IsNumberWord, Spells}
+use Rattle.tink_program.specs.Words.Asked.{Making, Measuring, Opening, Ranging, Rewrapping, Rotating, Sealing, Signing, Verifying}
 use Rattle.tink_commands.specs.Claims.{EndedOverStreams, HasStatus, is_of_streams}
 
 -- a digit is no dash

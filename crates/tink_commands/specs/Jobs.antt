@@ -8,7 +8,7 @@ use Rattle.tink_keyset_io.specs.declared.key_files.editing.Edit.{Edit}
 use Rattle.tink_keyset_io.specs.declared.key_files.editing.Edit.TheVariants.{Delete, Destroy, Disable, Enable, Promote}
 use Rattle.tink_keyset_io.specs.declared.key_files.formats.Format.{Format}
 use Rattle.tink_keyset_io.specs.declared.key_files.formats.Format.TheVariants.{Binary, Json}
-use Rattle.tink_program_commands.specs.Words.{IsNumberWord}
+use Rattle.tink_program.specs.Words.{IsNumberWord}
 use Rattle.tink_run.specs.declared.report.Command.TheVariants.{Open, Seal}
 use Rattle.tink_files.specs.declared.tasks.Task.{Task}
 use Rattle.tink_files.specs.declared.tasks.Task.TheVariants.{Rewrap, Run, Sign, Verify}

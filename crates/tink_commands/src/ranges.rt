@@ -9,7 +9,7 @@ use std::marker::Brand;
 use std::sync::ledger::{Blank, Ledger};
 use tink_files::range_to;
 use tink_io::{StdSink, TinkError};
-use tink_program_commands::number_of;
+use tink_program::number_of;
 use tink_range::Steps;
 use tink_run::ranges::run_range;
 use tink_system::real_at::RealAt;

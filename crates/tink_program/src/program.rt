@@ -1,8 +1,7 @@
 //! All that the program does, over any source and any sinks.
 
 ghost use Rattle.std.specs.Prelude.{◌≡◌};
-ghost use Rattle.tink_run.specs.Outside.{outside_of};
-ghost use Rattle.tink_program_commands.specs.Program.{KeepsEnds, LeavesSource, OutcomeMeans, ProgramMeans, Promised, StatusMeans, status_of};
+ghost use Rattle.tink_program_commands.specs.Program.{KeepsEnds, LeavesSource, OutcomeMeans, ProgramMeans, Promised, StatusMeans, outside_of, status_of};
 ghost use Rattle.tink_words.specs.Forms.{words_of};
 
 use std::alloc::Global;

@@ -27,13 +27,11 @@ use Rattle.keyset_model.specs.Keys.{enabled}
 use Rattle.keyset_model.specs.Validity.{is_valid, is_validated}
 use Rattle.tink_mac.specs.Rotation.{mac_entries}
 use Rattle.tink_primitives.specs.declared.kinds.Never.{Never}
-use Rattle.tink_prf.specs.declared.prf_kind.PrfKind.{PrfKind}
 use Rattle.tink_mac.specs.declared.mac_kind.MacKind.{MacKind}
-use Rattle.tink_aead.specs.declared.aead_kind.AeadKind.{AeadKind}
 use Rattle.tink_stream_keys.specs.declared.stream_kind.StreamKind.{StreamKind}
 use Rattle.tink.specs.declared.managers.TinkKinds.{TinkKinds}
 use Rattle.loading_model.proofs.UsableKeys.{AreSound, IsOfLoading, IsSound}
-use Rattle.tink.specs.Managers.{row_of, Built}
+use Rattle.tink.specs.Managers.{AeadKind, Built, PrfKind, row_of}
 use Rattle.tink.specs.Registered.{with_everything}
 use Rattle.tink.specs.declared.managers.Managers.{Managers}
 use Rattle.tink.specs.LoadingRows.{built_key}
