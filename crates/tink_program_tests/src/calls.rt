@@ -1,6 +1,7 @@
 //! The calls that rows make: of the program, and by their settings of the calls below it.
 
 use crate::bytes::{number, of_digits, put_counted};
+use crate::callers::in_memory;
 use std::alloc::Global;
 use tink::keygen::keygen;
 use tink_daead::subtle::AesSiv;
@@ -9,10 +10,11 @@ use tink_io::{Draws, Kind, MemSink, MemSource, SureSink, TinkError, write_all, w
 use tink_keyset_io::read_whole;
 use tink_keysets::keyset::insecure;
 use tink_primitives::DeterministicAead;
-use tink_program::program::{Outcome, program, status};
+use tink_program::program::{Outcome, status};
 use tink_proto::Bytes;
 use tink_run::load::load;
 use tink_run::report::{Command, Report};
+use tink_run::rewrap::rewrap;
 use tink_run::run::run;
 use tink_sets::TypedPrimitiveSet;
 use tink_streaming_aead::{DerivesStreams, StreamKind};
@@ -91,7 +93,7 @@ pub fn call(
     }
     match first_of(words) {
         "bytes" | "encrypt" | "decrypt" => by_input(alloc, words, ends),
-        _ => Ok(program(
+        _ => Ok(in_memory(
             alloc,
             words,
             &mut ends.source,
@@ -108,12 +110,26 @@ fn first_of(words: &[String]) -> &str {
     }
 }
 
-// The bytes of the second word, which is a keyset; of a dash none.
-fn keyset_of(alloc: Global, words: &[String]) -> Result<Vec<u8>, TinkError> {
-    match words.get(1) {
+// The bytes of the word at a place; of a dash, or where there is none, no bytes.
+fn bytes_of(alloc: Global, words: &[String], place: usize) -> Result<Vec<u8>, TinkError> {
+    match words.get(place) {
         Some(word) if word.as_str() != "-" => of_digits(alloc, word.as_bytes()),
         _ => Ok(Vec::new(alloc)),
     }
+}
+
+// A keyset and its associated data.
+#[derive(Drop)]
+struct Side {
+    keyset: Vec<u8>,
+    aad: Vec<u8>,
+}
+
+// The words from a place on.
+fn side_of(alloc: Global, words: &[String], place: usize) -> Result<Side, TinkError> {
+    let keyset = bytes_of(alloc, words, place)?;
+    let aad = bytes_of(alloc, words, place.saturating_add(1))?;
+    Ok(Side { keyset, aad })
 }
 
 // The status of an answer, whose line is told.
@@ -127,8 +143,47 @@ fn answered<T: Copy>(answer: Result<T, TinkError>, ends: &mut Ends) -> u8 {
     }
 }
 
-// The status of what `run` answers without associated data, from so many draws; 1 where the segments and bytes that it
-// reports, or the draws that it leaves, are not those of the settings.
+fn command_of(word: &str) -> Command {
+    match word {
+        "seal" => Command::Seal,
+        _ => Command::Open,
+    }
+}
+
+// What `rewrap` or `run` answers, as the first word says.
+fn report_of(
+    alloc: Global,
+    command: &str,
+    (from, to): (&Side, &Side),
+    draws: &mut Draws,
+    ends: &mut Ends,
+) -> Result<Report, TinkError> {
+    let (keyset, aad) = (&from.keyset, &from.aad);
+    match command {
+        "rewrap" => rewrap(
+            alloc,
+            keyset,
+            aad,
+            &to.keyset,
+            &to.aad,
+            draws,
+            &mut ends.source,
+            &mut ends.sink,
+        ),
+        _ => run(
+            alloc,
+            command_of(command),
+            keyset,
+            aad,
+            draws,
+            &mut ends.source,
+            &mut ends.sink,
+        ),
+    }
+}
+
+// The status of that answer, from so many draws; 1 where the segments and bytes that it reports, or the draws that it
+// leaves, are not those of the settings.
 fn by_run(
     alloc: Global,
     words: &[String],
@@ -136,23 +191,9 @@ fn by_run(
     draws: usize,
     ends: &mut Ends,
 ) -> Result<u8, TinkError> {
-    let keyset = keyset_of(alloc, words)?;
+    let (from, to) = (side_of(alloc, words, 1)?, side_of(alloc, words, 3)?);
     let mut draws = draws_of(alloc, draws)?;
-    let is_seal = first_of(words) == "seal";
-    let command = if is_seal {
-        Command::Seal
-    } else {
-        Command::Open
-    };
-    let answer = run(
-        alloc,
-        command,
-        &keyset,
-        &[],
-        &mut draws,
-        &mut ends.source,
-        &mut ends.sink,
-    );
+    let answer = report_of(alloc, first_of(words), (&from, &to), &mut draws, ends);
     if is_reported(&answer, settings) && draws.left() == number_of(settings, "left", 0) {
         Ok(answered(answer, ends))
     } else {
@@ -173,7 +214,7 @@ fn is_reported(answer: &Result<Report, TinkError>, settings: &str) -> bool {
 
 // The status of what `load` answers; what it loads is written.
 fn by_load(alloc: Global, words: &[String], ends: &mut Ends) -> Result<u8, TinkError> {
-    let keyset = keyset_of(alloc, words)?;
+    let keyset = bytes_of(alloc, words, 1)?;
     match load(alloc, &keyset) {
         Ok(keys) => put_keys(alloc, &keys, ends),
         Err(e) => Ok(answered::<u8>(Err(e), ends)),
@@ -251,7 +292,7 @@ fn siv_makes(
 }
 
 fn siv_of(alloc: Global, words: &[String]) -> Result<WrappedDeterministicAead<AesSiv>, TinkError> {
-    let handle = insecure::valid_handle(alloc, &keyset_of(alloc, words)?)?;
+    let handle = insecure::valid_handle(alloc, &bytes_of(alloc, words, 1)?)?;
     let registry = registry_of(alloc, AesSivKeyManager::new())?;
     tink_daead::new(alloc, &handle, &registry)
 }

@@ -22,12 +22,15 @@ const PIECES_IN_ROOMS: &str = "piece=1 ;piece=35 ;piece=4000 ;piece=5000 ";
 // Through the program, and through `run` by the bytes that move in a call.
 const BOTH: &str = ";draws=3 left=3 piece=1 ;draws=3 left=3 piece=7 ;draws=3 left=3 piece=4096 ";
 
+// By `run` and `rewrap`, with 1,024 draws.
+const DRAWN: &str = "draws=1024 ";
+
 // By a seal, and by `load`.
 const LOADS: &str = ";load=1 ";
 
 /// The tables, of a row a line, each with the ways in which it is run: settings that stand before each row, with
 /// semicolons between the ways.
-pub const TABLES: [(&str, &str); 22] = [
+pub const TABLES: [(&str, &str); 26] = [
     (PLAIN, names::NAMES),
     (PLAIN, streams::KNOWN),
     (PLAIN, streams::ROUNDS),
@@ -44,6 +47,10 @@ pub const TABLES: [(&str, &str); 22] = [
     (PLAIN, keysets::LOADED),
     (PLAIN, runs::REPORTS),
     (PLAIN, rewraps::REWRAPS),
+    (DRAWN, rewraps::SEALED),
+    (PLAIN, rewraps::DRAWS),
+    (DRAWN, rewraps::MOVED),
+    (DRAWN, rewraps::STOPPED),
     (PLAIN, ranges::RANGES),
     (PLAIN, tokens::KNOWN),
     (PLAIN, tokens::REFUSED),

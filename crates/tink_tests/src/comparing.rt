@@ -5,12 +5,7 @@ use tink::{Kind, TinkError};
 
 /// Stops where a row does not hold, by its name, and shows how it is refused.
 pub fn expect(rt: &impl Abort, got: Result<bool, TinkError>, row: &str) {
-    expect_at(rt, got, row, 0);
-}
-
-/// The same at a number of the row. A test function with many `assert_eq!` takes long to prove.
-pub fn expect_at(rt: &impl Abort, got: Result<bool, TinkError>, row: &str, number: usize) {
-    assert_eq!(rt; told(got), Ok(true), "{row}, at {number}");
+    assert_eq!(rt; told(got), Ok(true), "{row}");
 }
 
 // Whether a row holds, or by which kind it is refused.

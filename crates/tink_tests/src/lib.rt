@@ -1,16 +1,10 @@
-//! Whole tasks of a user, the registry of all managers, and streams that are moved to other keys.
+//! Whole tasks of a user, the registry of all managers, and callers of the calls over whole streams.
 #![tactic(auto)]
 
 #[cfg(test)]
+mod callers;
+#[cfg(test)]
 mod comparing;
-#[cfg(test)]
-mod rewrap_callers;
-#[cfg(test)]
-mod rewrap_faults;
-#[cfg(test)]
-mod rewrap_rows;
-#[cfg(test)]
-mod rewrap_tests;
 #[cfg(test)]
 mod rotation;
 #[cfg(test)]

@@ -74,7 +74,7 @@ fn is_edited(
 // Whether a stream opens to the text of two segments.
 fn opens(alloc: Global, keyset: &[u8], stream: Vec<u8>) -> Result<bool, TinkError> {
     let text = counted(alloc, TWO_SEGMENTS)?;
-    match opened(alloc, keyset, &[], stream) {
+    match opened(alloc, keyset, stream) {
         Ok(got) => Ok(got.as_slice() == text.as_slice()),
         Err(e) => Err(e),
     }
@@ -82,8 +82,8 @@ fn opens(alloc: Global, keyset: &[u8], stream: Vec<u8>) -> Result<bool, TinkErro
 
 // Whether the edited keyset seals to other bytes than the keyset did exactly where it is to, and opens both streams.
 fn seals_and_opens(alloc: Global, edited: &[u8], to_other: bool) -> Result<bool, TinkError> {
-    let old = stream_of(alloc, CTR_4096, &[], TWO_SEGMENTS)?;
-    let new = stream_of(alloc, edited, &[], TWO_SEGMENTS)?;
+    let old = stream_of(alloc, CTR_4096, TWO_SEGMENTS)?;
+    let new = stream_of(alloc, edited, TWO_SEGMENTS)?;
     let as_wanted = (old != new) == to_other;
     Ok(opens(alloc, edited, old)? && opens(alloc, edited, new)? && as_wanted)
 }

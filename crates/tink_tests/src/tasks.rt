@@ -1,5 +1,6 @@
 //! Five tasks, each under a new keyset.
 
+use crate::support::sink_of;
 use std::alloc::Global;
 use tink::aead::{AeadKind, WrappedAead, aes128_gcm_key_template};
 use tink::keyset::{BinaryReader, BinaryWriter, Handle, JsonReader, JsonWriter, Manager, insecure};
@@ -168,14 +169,8 @@ pub fn a_mac_is_of_its_message(
 
 // ---- a keyset in JSON is read, and written encrypted
 
-fn sink_of(alloc: Global) -> Result<SureSink, TinkError> {
-    let mut sink = SureSink::new(alloc);
-    sink.reserve(alloc, 1000)?;
-    Ok(sink)
-}
-
 fn in_json(alloc: Global, keyset: &Handle) -> Result<Vec<u8>, TinkError> {
-    let mut writer = JsonWriter::new(sink_of(alloc)?);
+    let mut writer = JsonWriter::new(sink_of(alloc, 1000)?);
     insecure::write(alloc, keyset, &mut writer)?;
     Ok(writer.into_inner().into_bytes())
 }
@@ -187,7 +182,7 @@ fn written(
     master: &WrappedAead<AeadKind>,
 ) -> Result<Vec<u8>, TinkError> {
     let mut draws = draws(alloc, 12)?;
-    let mut writer = BinaryWriter::new(sink_of(alloc)?);
+    let mut writer = BinaryWriter::new(sink_of(alloc, 1000)?);
     keyset.write(alloc, &mut writer, master, &mut draws)?;
     Ok(writer.into_inner().into_bytes())
 }
@@ -297,7 +292,7 @@ const TEXT: &[u8] = b"a text of more than ten bytes";
 // Whether a text is sealed to a stream that opens to it.
 fn opens_again(alloc: Global, streams: &WrappedStreamingAead) -> Result<bool, TinkError> {
     let mut text = Vec::new(alloc);
-    let mut sink = sink_of(alloc)?;
+    let mut sink = sink_of(alloc, 1000)?;
     seal(alloc, streams, &mut sink, TEXT)?;
     open(alloc, streams, sink.into_bytes(), &mut text)?;
     Ok(text.as_slice() == TEXT)

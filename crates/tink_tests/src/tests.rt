@@ -1,5 +1,6 @@
 //! Each task over one registry of all managers.
 
+use crate::callers::are_callers;
 use crate::comparing::expect;
 use crate::rotation::edited_keyset_runs;
 use crate::tasks::{
@@ -76,6 +77,7 @@ fn do_all(rt: &impl Abort, alloc: Global, registry: &Registry<Managers>) {
     expect(rt, destroyed, "a key is added and destroyed");
     let rotated = edited_keyset_runs(alloc, registry, true);
     expect(rt, rotated, "a stream opens after a rotation");
+    expect(rt, are_callers(alloc), "callers do what they say");
 }
 
 #[test]

@@ -1,0 +1,125 @@
+//! Callers of `run`, `rewrap`, `keygen` and `write_payload`, whose clauses follow from those of the calls.
+
+ghost use Rattle.std.specs.Prelude.{◌≡◌, [], codes, Ok, Some, IfOk};
+ghost use Rattle.tink.specs.Rotating.{key_line, rotated_by};
+ghost use Rattle.tink_keysets.specs.Managed.{no_keys};
+ghost use Rattle.tink_proto.specs.declared.messages.keys.Keyset.{Keyset};
+ghost use Rattle.tink_run.specs.Outside.{Outside};
+ghost use Rattle.tink_run.specs.RewrapPromises.{IsWholeRewrap};
+ghost use Rattle.tink_run.specs.Rewrapping.{sides};
+ghost use Rattle.tink_run.specs.Run.{IsWholeStream};
+ghost use Rattle.tink_run.specs.Tokens.{RefusesVerifying, TokenMeans, VerifiesTo};
+
+use crate::support::{CTR_35, CTR_4096, GCM_41, counted, sink_of, stream_of};
+use std::alloc::Global;
+use tink::keygen::{key_line, keygen};
+use tink_io::{Draws, Kind, SureSink, SureSource, TinkError};
+use tink_run::report::{Command, Report};
+use tink_run::rewrap::rewrap;
+use tink_run::run::run;
+use tink_run::tokens::write_payload;
+
+// Seals a text in memory, without associated data. After `Ok` the sink got exactly the stream of the text under the
+// keyset's primary key and the first draws.
+fn seal_text(
+    alloc: Global,
+    keyset: &[u8],
+    draws: &mut Draws,
+    text: &mut SureSource,
+    stream: &mut SureSink,
+) -> Result<Report, TinkError>
+    ensures sealed { IfOk result (λ report. IsWholeStream keyset.now [] draws.old draws.new text.old stream.old.got
+        (record { left = Some text.new; read_faults = 0; got = Some stream.new.got; write_faults = stream.new.faults })
+        report) }
+{
+    run(alloc, Command::Seal, keyset, &[], draws, text, stream)
+}
+
+// Moves a stream in memory, without associated data. After `Ok` it was exactly a stream of the chosen key of the one
+// keyset, and the sink got exactly the stream of its text under the primary key of the other and the first draws.
+fn move_stream(
+    alloc: Global,
+    from: &[u8],
+    to: &[u8],
+    draws: &mut Draws,
+    stream: &mut SureSource,
+    moved: &mut SureSink,
+) -> Result<Report, TinkError>
+    ensures moved { IfOk result (λ report. IsWholeRewrap
+        (sides from.now [] to.now [])
+        draws.old draws.new stream.old moved.old.got
+        (record { left = Some stream.new; read_faults = 0; got = Some moved.new.got; write_faults = moved.new.faults })
+        report) }
+{
+    rewrap(alloc, from, &[], to, &[], draws, stream, moved)
+}
+
+// The line of a keyset of one new key.
+fn new_line(alloc: Global, draws: &mut Draws) -> Result<Vec<u8>, TinkError>
+    ensures line { IfOk result (λ line. (ks : Keyset)
+        × (rotated_by (codes "AES128_GCM") (Ok no_keys) draws.old ≡ Ok ks) × (line.items ≡ key_line ks)) }
+{
+    let keyset = keygen(alloc, "AES128_GCM", draws)?;
+    key_line(alloc, &keyset)
+}
+
+// Writes the payload of a token in memory. By `Ok` a key of the keyset accepts the token, and exactly its payload was
+// written; each refusal has its cause.
+fn payload_in_memory(
+    alloc: Global,
+    keyset: &[u8],
+    token: &mut SureSource,
+    payload: &mut SureSink,
+) -> Result<(), TinkError>
+    ensures { TokenMeans VerifiesTo RefusesVerifying keyset.now
+        (record { left = Some token.old; read_faults = 0; got = Some payload.old.got; write_faults = payload.old.faults })
+        (record { left = Some token.new; read_faults = 0; got = Some payload.new.got; write_faults = payload.new.faults })
+        result }
+{
+    write_payload(alloc, keyset, token, payload)
+}
+
+// Whether a new keyset has its line.
+fn is_line(alloc: Global) -> Result<bool, TinkError> {
+    let mut draws = Draws::new(counted(alloc, 20)?);
+    let line = new_line(alloc, &mut draws)?;
+    Ok(line.ends_with(b"\n") && line.len() == 185)
+}
+
+// Whether no text is sealed to a header and a tag.
+fn is_sealed(alloc: Global) -> Result<bool, TinkError> {
+    let mut draws = Draws::new(counted(alloc, 23)?);
+    let mut stream = sink_of(alloc, 56)?;
+    let mut text = SureSource::new(Vec::new(alloc));
+    let report = seal_text(alloc, CTR_4096, &mut draws, &mut text, &mut stream)?;
+    Ok(report.segments == 1 && report.bytes == 0 && stream.bytes().len() == 56)
+}
+
+// Whether a byte was moved to a front, the byte and a tag; or nothing was written or drawn for want of memory.
+fn is_all_or_nothing(answer: Result<Report, TinkError>, written: usize, left: usize) -> bool {
+    match answer {
+        Ok(it) => it.segments == 1 && it.bytes == 1 && written == 41 && left == 0,
+        Err(e) => e.kind == Kind::OutOfMemory && written == 0 && left == 23,
+    }
+}
+
+// Whether a stream of one byte is moved so.
+fn is_moved(alloc: Global) -> Result<bool, TinkError> {
+    let mut stream = SureSource::new(stream_of(alloc, CTR_35, 1)?);
+    let mut draws = Draws::new(counted(alloc, 23)?);
+    let mut moved = sink_of(alloc, 41)?;
+    let answer = move_stream(alloc, CTR_35, GCM_41, &mut draws, &mut stream, &mut moved);
+    Ok(is_all_or_nothing(answer, moved.bytes().len(), draws.left()))
+}
+
+// How a token is refused under no keyset.
+fn no_payload(alloc: Global) -> Result<(), TinkError> {
+    let (mut input, mut output) = (SureSource::new(Vec::new(alloc)), SureSink::new(alloc));
+    payload_in_memory(alloc, b"no", &mut input, &mut output)
+}
+
+/// Whether each caller does what it says.
+pub fn are_callers(alloc: Global) -> Result<bool, TinkError> {
+    let refused = no_payload(alloc) == Err(TinkError::new(Kind::BadKeyset));
+    Ok(is_sealed(alloc)? && is_moved(alloc)? && is_line(alloc)? && refused)
+}
