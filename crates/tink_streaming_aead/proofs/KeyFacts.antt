@@ -1,11 +1,13 @@
 -- The keys of streams that their messages give.
-use Rattle.std.proofs.Common.{◌≡◌, ℤ, Bool, true, false, cond, inr, refl, sym, ◌∙◌, ap, subst, Some, None}
+use Rattle.std.proofs.Common.{◌≡◌, ◌<◌, ◌+◌, ◌^◌, ◌&&◌, ℕ, ℤ, List, length, Bool, true, false, cond, inr, refl, sym, ◌∙◌, ap, subst, arith, Some, None}
 use Rattle.std.specs.declared.option.Option.{Option}
-use Rattle.std.specs.Prelude.{nat_eq, Result, Err}
+use Rattle.std.specs.Prelude.{nat_eq, nat_le, nat_lt, Result, Err}
 use Rattle.std.specs.Ordering.{int_eq}
-use Rattle.std.proofs.lemmas.Bool.{cond-true, cond-false, eq-eqb, false_from_ne_true, ne_eqb}
-use Rattle.std.proofs.lemmas.Bool.Decides.{Decides-int_eq}
-use Rattle.tink_io.specs.Told.{Answers, or_refused}
+use Rattle.std.proofs.lemmas.Bool.{and_parts, cond-true, cond-false, eq-eqb, false_from_ne_true, ne_eqb}
+use Rattle.std.proofs.lemmas.Bool.Decides.{Decides-int_eq, nat_tests}
+use Rattle.hash_keys.specs.declared.Hash.{Hash}
+use Rattle.hash_keys.specs.Hash.{digest_size}
+use Rattle.tink_io.specs.Told.{Answers, made_of, or_refused}
 use Rattle.tink_io.specs.declared.error.Kind.{Kind}
 use Rattle.tink_io.specs.declared.error.Kind.TheVariants.{InvalidKey}
 use Rattle.tink_io.specs.declared.error.TinkError.{TinkError}
@@ -16,7 +18,8 @@ use Rattle.tink_proto_keys.specs.declared.streaming.AesCtrHmacStreamingKey.{AesC
 use Rattle.tink_proto_keys.specs.declared.streaming.AesGcmHkdfStreamingKey.{AesGcmHkdfStreamingKey}
 use Rattle.wire_format.specs.Reading.{◌>>=◌}
 use Rattle.stream_model.specs.Key.{StreamKey}
-use Rattle.loading_model.specs.Building.{gcm_hkdf_of, hash_numbered, streaming_of}
+use Rattle.loading_model.specs.Building.{are_key_sizes, gcm_hkdf_of, hash_numbered, is_gcm_streaming, is_streaming, streaming_of}
+use Rattle.tink_stream_keys.specs.StreamingKeys.{ctr_hmac_key, gcm_hkdf_key, is_key_size, with_main}
 use Rattle.tink_streaming_aead.specs.declared.aes_ctr_hmac_key_manager.CtrHmacSizes.{CtrHmacSizes}
 use Rattle.tink_streaming_aead.specs.declared.aes_gcm_hkdf_key_manager.GcmHkdfSizes.{GcmHkdfSizes}
 use Rattle.tink_streaming_aead.specs.KeyTypes.{ctr_hmac_named, ctr_hmac_sized, gcm_hkdf_named, gcm_hkdf_sized}
@@ -75,3 +78,52 @@ gcm_hkdf_of_other m other = gcm_hkdf_of_named m ∙ cond-false (nat_eq m.version
 pub gcm_hkdf_of_params : (m : AesGcmHkdfStreamingKey) (named : Option GcmHkdfSizes) → m.version ≡ 0 → named ≡ gcm_hkdf_named m.params → gcm_hkdf_of m ≡ (named >>= gcm_hkdf_sized m.key_value)
 gcm_hkdf_of_params m named is named_is =
     gcm_hkdf_of_named m ∙ cond-true (nat_eq m.version 0) _ None (eq-eqb m.version 0 is) ∙ ap (λ o. o >>= gcm_hkdf_sized m.key_value) (sym named_is)
+
+-- sizes of keys that make streams are those of keys that are made
+key_sizes : (main derived : ℕ) → are_key_sizes main derived ≡ true → is_key_size main derived ≡ true
+key_sizes main derived e = grind (arith, nat_tests)
+
+-- a segment with room for some text is not too small
+not_small : (least most segment : ℕ) → most < least → nat_le least segment ≡ true → nat_le segment most ≡ false
+not_small least most segment few e = grind (arith, nat_tests)
+
+-- a key with sizes that make streams by GCM is made as it is told
+pub gcm_hkdf_made : (r : Result StreamKey TinkError) (main : List ℕ) (named : Option Hash) (s : GcmHkdfSizes) → is_gcm_streaming (length main) s.derived s.segment ≡ true → named ≡ Some s.hkdf_hash
+    → Answers r (gcm_hkdf_key main named s.derived s.segment 0) → Answers r (or_refused InvalidKey (gcm_hkdf_sized main s))
+gcm_hkdf_made r main named s makes is h =
+    let sizes = are_key_sizes (length main) s.derived in
+    let room = nat_le (s.derived + 25) s.segment in
+    let are = and_parts sizes room (and_parts (sizes && room) (nat_lt s.segment (2 ^ 32)) makes).0 in
+    let most = 0 + s.derived + 8 + 16 in
+    subst (Answers r)
+    (ap (λ o. gcm_hkdf_key main o s.derived s.segment 0) is
+    ∙ ap (made_of (with_main main))
+    (cond-true (is_key_size (length main) s.derived) _ _ (key_sizes (length main) s.derived are.0) ∙ cond-false (nat_le s.segment most) _ _ (not_small (s.derived + 25) most s.segment (omega arith) are.1))
+    ∙ sym (ap (or_refused InvalidKey) (cond-true (is_gcm_streaming (length main) s.derived s.segment) _ None makes)))
+    h
+
+-- a tag that is long enough is not too short
+not_below : (a b : ℕ) → nat_le a b ≡ true → nat_lt b a ≡ false
+not_below a b e = grind (arith, nat_tests)
+
+-- the same in counter mode with HMAC
+pub ctr_hmac_made : (r : Result StreamKey TinkError) (main : List ℕ) (named tag_named : Option Hash) (s : CtrHmacSizes) → is_streaming (length main) s.derived s.tag_hash s.tag s.segment ≡ true → named ≡ Some s.hkdf_hash → tag_named ≡ Some s.tag_hash
+    → Answers r (ctr_hmac_key main named s.derived tag_named s.tag s.segment 0) → Answers r (or_refused InvalidKey (ctr_hmac_sized main s))
+ctr_hmac_made r main named tag_named s makes is tag_is h =
+    let sizes = are_key_sizes (length main) s.derived in
+    let least = nat_le 10 s.tag in
+    let digest = nat_le s.tag (digest_size s.tag_hash) in
+    let room = nat_le (s.derived + 7 + s.tag + 2) s.segment in
+    let all = and_parts (sizes && least && digest) room (and_parts (sizes && least && digest && room) (nat_lt s.segment (2 ^ 32)) makes).0 in
+    let tags = and_parts (sizes && least) digest all.0 in
+    let are = and_parts sizes least tags.0 in
+    let most = 0 + s.derived + 8 + s.tag in
+    subst (Answers r)
+    (ap (λ o. ctr_hmac_key main o s.derived tag_named s.tag s.segment 0) is
+    ∙ ap (λ o. ctr_hmac_key main (Some s.hkdf_hash) s.derived o s.tag s.segment 0) tag_is
+    ∙ ap (made_of (with_main main))
+    (cond-true (is_key_size (length main) s.derived) _ _ (key_sizes (length main) s.derived are.0) ∙ cond-false (nat_lt s.tag 10) _ _ (not_below 10 s.tag are.1)
+    ∙ cond-false (nat_lt (digest_size s.tag_hash) s.tag) _ _ (not_below s.tag (digest_size s.tag_hash) tags.1)
+    ∙ cond-false (nat_le s.segment most) _ _ (not_small (s.derived + 7 + s.tag + 2) most s.segment (omega arith) all.1))
+    ∙ sym (ap (or_refused InvalidKey) (cond-true (is_streaming (length main) s.derived s.tag_hash s.tag s.segment) _ None makes)))
+    h

@@ -1,5 +1,6 @@
-use Rattle.std.proofs.Common.{◌≡◌, ◌+◌, length, max, take, ap, arith, ◌∙◌}
-use Rattle.tink_streaming_aead.proofs.KeyMost.{all_within, next_most}
+use Rattle.std.proofs.Common.{◌≡◌, ◌+◌, length, max, map, take, All, ap, subst, arith, ◌<◌, ◌∙◌}
+use Rattle.std.proofs.lemmas.List.{take_all}
+use Rattle.tink_streaming_aead.proofs.KeyMost.{IsMost, all_within, next_most, none_most}
 use Rattle.tink_streaming_aead.proofs.factory.room_of.Goals as goal
 
 pub loop-key-preserved : goal.loop-key-preserved
@@ -13,3 +14,17 @@ loop-key-preserved g c =
     (c.greater-room.ensures ∙ ap (max c.loop-key.room) own)
     in
     (all_within g.T.DerivesStreams.key_of (take (i + 1) keys) c.greater-room.result (omega (arith, most.value)), most)
+
+pub loop-key-init : goal.loop-key-init
+loop-key-init g c = (λ k d h. absurd (omega arith), none_most)
+
+pub returns-clause-most : goal.returns-clause-most
+returns-clause-most g c =
+    subst (All (λ k. length (g.T.DerivesStreams.key_of k).out + (g.T.DerivesStreams.key_of k).segment < c.loop-key.room)) (take_all c.loop-key.key-index c.args.keys.now c.loop-key-test.false) c.loop-key.invariant.0
+
+pub returns-clause-value : goal.returns-clause-value
+returns-clause-value g c =
+    let most : IsMost (map g.T.DerivesStreams.key_of c.args.keys.now) c.loop-key.room =
+    subst (λ ks. IsMost (map g.T.DerivesStreams.key_of ks) c.loop-key.room) (take_all c.loop-key.key-index c.args.keys.now c.loop-key-test.false) c.loop-key.invariant.1
+    in
+    most.value
