@@ -1,6 +1,7 @@
 -- Counts of faults over several calls.
 use Rattle.std.proofs.Common.{◌≡◌, ℕ, ◌-◌, ◌^◌, ◌<◌, ◌≤◌, arith}
-use Rattle.tink_io.specs.Faults.{Rose}
+use Rattle.std.specs.Prelude.{Ok}
+use Rattle.tink_io.specs.Faults.{CountsFault, Rose}
 
 -- a count that rose has risen later
 pub Rose-later : (before then now : ℕ) → Rose before then → then ≤ now → Rose before now
@@ -13,3 +14,7 @@ Rose-earlier before then now earlier rose = omega arith
 -- a count that stands still below the last value of u64 has not risen
 pub Rose-not : (before now : ℕ) → now ≡ before → before < 2 ^ 64 - 1 → Rose before now → ⊥
 Rose-not before now still below rose = omega arith
+
+-- a call that did not fail left the count
+pub CountsFault-still : {T E : Type 0} (before now : ℕ) (v : T) → now ≡ before → CountsFault {T = T} {E = E} before now (Ok v)
+CountsFault-still before now v still = record { later = omega arith; failed = tt }

@@ -3,3 +3,4 @@ pub mod MemoryLemmas
 pub mod WrittenLemmas
 pub mod GatheringLemmas
 pub mod SavingLemmas
+pub mod ShownLemmas

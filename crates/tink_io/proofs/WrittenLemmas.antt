@@ -42,6 +42,12 @@ Writes-then a b c i j k (Err e) xs written ys is first second =
 pub Writes-refused : (a b : Option (List ℕ)) (i j : ℕ) (e : TinkError) (xs ys : List ℕ) → Writes a b i j (Err e) xs → Writes a b i j (Err e) (xs ++ ys)
 Writes-refused a b i j e xs ys refused = (prefix_of_more a b xs ys refused.0, refused.1, refused.2, refused.3)
 
+-- the same, as a `?` hands it on
+pub Writes-cut : (a b : Option (List ℕ)) (i j : ℕ) (answer : Result (Unit {0}) TinkError) (e : TinkError) (xs written ys : List ℕ) → written ≡ xs
+    → (y : TinkError) × (answer ≡ Err y) × (y ≡ e) → Writes a b i j (Err e) written → Writes a b i j answer (xs ++ ys)
+Writes-cut a b i j answer e xs written ys is handed refused =
+    rw (handed.1, handed.2) (Writes-refused a b i j e xs ys (subst (Writes a b i j (Err e)) is refused))
+
 -- bytes are written, or the sink failed, whatever was answered
 pub WritesOrFaults-of : (a b : Option (List ℕ)) (i j : ℕ) (answer : Result (Unit {0}) TinkError) (xs : List ℕ) → Writes a b i j answer xs → WritesOrFaults a b i j xs
 WritesOrFaults-of a b i j (Ok v) xs writes = inl writes.0

@@ -1,2 +1,3 @@
 pub mod ReadingLemmas
 mod LineLemmas
+pub mod WritingLemmas

@@ -1,5 +1,5 @@
 -- What an entry leaves that is put behind those of its prefix.
-use Rattle.std.proofs.Common.{◌≡◌, ◌∙◌, ℕ, List, [], ◌∷◌, ◌++◌, Bool, true, false, cond, Some, Option, refl, sym, ap, filter}
+use Rattle.std.proofs.Common.{◌≡◌, ◌<◌, ◌∙◌, ℕ, List, [], ◌∷◌, ◌++◌, Bool, true, false, cond, Some, Option, refl, sym, ap, filter, length, arith, length-append}
 use Rattle.std.specs.Prelude.{Vec, unwrap_or, Result, Ok, Err, OnOk, OnErr}
 use Rattle.std.specs.Str.{bytes_eq}
 use Rattle.std.specs.Cmp.Lexicographic.{bytes_decides}
@@ -11,6 +11,10 @@ use Rattle.tink_sets.specs.Groups.{group_at, group_of, Adds, AddsLast, AfterAddi
 -- the entries of its own prefix
 pub group_of-own : {E A : Type 0} (own : List ℕ) (entry : E) (old new : BTreeMap (Vec ℕ A) (List E)) → Adds own entry old new → EndsBy own entry old new
 group_of-own own entry old new adds = ap (λ o. unwrap_or o []) (adds own ∙ ap (λ b. cond b (Some (group_of old own ++ entry ∷ [])) (group_at old own)) ((bytes_decides own own).1 refl))
+
+-- what ends by an entry is not empty
+pub some_behind : {E : Type 0} (all before : List E) (entry : E) → all ≡ before ++ entry ∷ [] → 0 < length all
+some_behind all before entry is = omega (arith, ap length is, length-append before (entry ∷ []))
 
 more : {E : Type 0} (b : Bool) (entry : E) (at_own at_other kept : List E) (o : Option (List E)) → unwrap_or o [] ≡ kept → (b ≡ true → at_own ≡ kept) → unwrap_or (cond b (Some (at_own ++ entry ∷ [])) o) [] ≡ kept ++ cond b (entry ∷ []) []
 more true entry at_own at_other kept o is same = ap (λ xs. xs ++ entry ∷ []) (same refl)

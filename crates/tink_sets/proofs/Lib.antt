@@ -1,4 +1,5 @@
 pub mod AddingFacts
+pub mod BesideFacts
 pub mod Converted
 pub mod ConvertingFacts
 pub mod PrefixFacts

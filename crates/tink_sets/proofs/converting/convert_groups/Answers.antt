@@ -14,16 +14,15 @@ loop-prefix-init g c =
 pub loop-prefix-preserved : goal.loop-prefix-preserved
 loop-prefix-preserved g c =
     let left : c.loop-prefix.prefix-iterator ≡ (c.in-Some.prefix.now, c.in-Some.group.now) ∷ c.next.new.self = search rules in
-    let one : converted g.C.Convert.gives c.in-Some.group.now ≡ Ok c.in-Ok.list = search rules in
-    let key : c.deref.result.now ≡ c.in-Some.prefix.now.items = search rules in
+    let one = subst (λ xs. converted g.C.Convert.gives xs ≡ Ok c.in-Ok.list) c.as_slice.ensures c.in-Ok.ensures.answer in
     let before = subst (λ rest. IsConverting g.C.Convert.gives c.args.groups.now rest c.loop-prefix.out) left c.loop-prefix.invariant in
     converting_more g.C.Convert.gives c.args.groups.now c.in-Some.prefix.now c.in-Some.group.now c.next.new.self c.loop-prefix.out before c.put_list.new.groups c.in-Ok.list one
-    (subst (λ l. (p : List ℕ) → group_at c.put_list.new.groups p ≡ cond (bytes_eq l p) (Some c.in-Ok.list) (group_at c.loop-prefix.out p)) key c.in_ok-put_list-in-Ok.ensures.ok)
+    (subst (λ l. (p : List ℕ) → group_at c.put_list.new.groups p ≡ cond (bytes_eq l p) (Some c.in-Ok.list) (group_at c.loop-prefix.out p)) c.deref.ensures.value c.in_ok-put_list-in-Ok.ensures.ok)
 
 pub returns-in-Err-clause-cause : goal.returns-in-Err-clause-cause
 returns-in-Err-clause-cause g c =
     let left : c.loop-prefix.prefix-iterator ≡ (c.in-Some.prefix.now, c.in-Some.group.now) ∷ c.next.new.self = search rules in
-    let one : (c.in-Err.e.kind ≡ OutOfMemory) ⊎ (converted g.C.Convert.gives c.in-Some.group.now ≡ Err c.in-Err.e.kind) = search rules in
+    let one = subst (λ xs. (c.in-Err.e.kind ≡ OutOfMemory) ⊎ (converted g.C.Convert.gives xs ≡ Err c.in-Err.e.kind)) c.as_slice.ensures c.in-Err.ensures.answer in
     let before = subst (λ rest. IsConverting g.C.Convert.gives c.args.groups.now rest c.loop-prefix.out) left c.loop-prefix.invariant in
     ⊎_elim inl
     (λ refused. inr (converting_refused g.C.Convert.gives c.args.groups.now c.in-Some.prefix.now c.in-Some.group.now c.next.new.self c.loop-prefix.out before c.in-Err.e.kind refused))

@@ -1,4 +1,7 @@
-use Rattle.std.proofs.Common.{inl, inr}
+use Rattle.std.proofs.Common.{◌++◌, Ok, inl, inr, ap, ◌∙◌}
+use Rattle.std.proofs.lemmas.List.{append-nil, drop_all}
+use Rattle.tink_io.specs.Told.{made_of}
+use Rattle.tink_sets.specs.Converting.{converted}
 use Rattle.tink_sets.proofs.Converted.{stopped, went_on}
 use Rattle.tink_sets.proofs.converting.convert_list.Goals as goal
 
@@ -15,3 +18,11 @@ returns-in-Err g c = record {
         c.loop-entry-test.true c.entry-item.is c.in-Err.refusal.kind refused)
   ];
 }
+
+pub returns : goal.returns
+returns g c =
+    let out = c.loop-entry.out in
+    let none = drop_all c.loop-entry.entry-index c.args.entries.now c.loop-entry-test.false in
+    record {
+      answer = c.loop-entry.invariant ∙ ap (λ xs. made_of (λ vs. out ++ vs) (converted g.C.Convert.gives xs)) none ∙ ap Ok (append-nil out);
+    }

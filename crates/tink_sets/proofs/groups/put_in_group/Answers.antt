@@ -1,4 +1,4 @@
-use Rattle.std.proofs.Common.{◌≡◌, ◌++◌, ◌∷◌, [], Some, rules}
+use Rattle.std.proofs.Common.{◌≡◌, Some, rules, sym}
 use Rattle.std.specs.BTreeMap.{get_by}
 use Rattle.std.specs.Ordering.{nat_cmp}
 use Rattle.std.specs.Cmp.Lexicographic.{slice_cmp}
@@ -8,15 +8,13 @@ use Rattle.tink_sets.proofs.groups.put_in_group.Goals as goal
 
 pub returns-in_ok-push-in-Some-clause-ok : goal.returns-in_ok-push-in-Some-clause-ok
 returns-in_ok-push-in-Some-clause-ok g c =
-    let found : get_by (λ k. slice_cmp nat_cmp c.args.prefix.now k.items) c.args.groups.now ≡ Some c.in-Some.group.now = search rules in
+    let found : get_by (λ k. slice_cmp nat_cmp c.args.prefix.now k.items) c.args.groups.now ≡ Some c.in-Some.group.now = sym c.in-Some.ensures.value in
     let written = (c.get_mut.follows.holds c.push.new.self).3 (search rules) in
-    let more : c.push.new.self ≡ c.in-Some.group.now ++ c.args.entry ∷ [] = search rules in
-    groups_pushed c.args.prefix.now c.args.groups.now (c.get_mut.follows.lender c.push.new.self) c.in-Some.group.now c.push.new.self c.args.entry found more written
+    groups_pushed c.args.prefix.now c.args.groups.now (c.get_mut.follows.lender c.push.new.self) c.in-Some.group.now c.push.new.self c.args.entry found c.in_ok-push-in-Some.ensures.ok written
 
 pub returns-in_err-push-in-Some-clause-err : goal.returns-in_err-push-in-Some-clause-err
 returns-in_err-push-in-Some-clause-err g c =
     let p = err_from_is_err_and c.from_residual.result c.from_residual.ensures.1 in
-    let found : get_by (λ k. slice_cmp nat_cmp c.args.prefix.now k.items) c.args.groups.now ≡ Some c.in-Some.group.now = search rules in
+    let found : get_by (λ k. slice_cmp nat_cmp c.args.prefix.now k.items) c.args.groups.now ≡ Some c.in-Some.group.now = sym c.in-Some.ensures.value in
     let written = (c.get_mut.follows.holds c.push.new.self).3 (search rules) in
-    let same : c.push.new.self ≡ c.in-Some.group.now = search rules in
-    rw p.1 (groups_same c.args.prefix.now c.args.groups.now (c.get_mut.follows.lender c.push.new.self) c.in-Some.group.now c.push.new.self found same written)
+    rw p.1 (groups_same c.args.prefix.now c.args.groups.now (c.get_mut.follows.lender c.push.new.self) c.in-Some.group.now c.push.new.self found c.in_err-push-in-Some.ensures.err written)

@@ -1,7 +1,14 @@
 use Rattle.std.proofs.Common.{◌∙◌, ap, refl}
 use Rattle.tink_sets.specs.Entries.{entry_of, own_prefix}
 use Rattle.tink_sets.specs.Groups.{group_of}
+use Rattle.tink_sets.proofs.AddingFacts.{some_behind}
 use Rattle.tink_sets.proofs.primitive_set.PrimitiveSet.add.Goals as goal
+
+pub newest-requires : goal.newest-requires
+newest-requires g c = record {
+  some = some_behind _ (group_of c.args.self.now.entries (own_prefix c.args.key.now)) (entry_of c.args.p c.args.key.now)
+      (c.entries_for_prefix.ensures.value ∙ ap (group_of c.put_entry.new.self.entries) (c.as_slice.ensures ∙ c.in-Ok.ensures.value) ∙ c.in-Ok.ensures.newest);
+}
 
 pub returns-in-Ok : goal.returns-in-Ok
 returns-in-Ok g c = (

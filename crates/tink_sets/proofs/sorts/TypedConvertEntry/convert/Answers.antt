@@ -1,21 +1,8 @@
-use Rattle.std.proofs.Common.{◌∙◌, List, ℕ, Ok, ap, subst, sym, inr, Result, Err, ◌≡◌}
-use Rattle.std.specs.Prelude.{MatchResult}
-use Rattle.tink_io.specs.declared.error.TinkError.{TinkError}
+use Rattle.std.proofs.Common.{◌∙◌, List, ℕ, Ok, ap, subst, sym, inr}
 use Rattle.tink_io.specs.Told.{Tells, made_of}
 use Rattle.tink_sets.specs.Entries.{with_primitive}
+use Rattle.tink_sets.proofs.BesideFacts.{made, refused}
 use Rattle.tink_sets.proofs.sorts.TypedConvertEntry.convert.Goals as goal
-
-made : {A B : Type 0} (a v : A) (w : B) (other : Result B TinkError) (both : Result (A × B) TinkError) → MatchResult other (λ o. both ≡ Ok (a, o)) (λ e. both ≡ Err e)
-    → both ≡ Ok (v, w) → (v ≡ a) × (other ≡ Ok w)
-made {A} {B} a v w (Ok o) both h is =
-    let pair : (v, w) ≡ (a, o) = cc in
-    (ap (λ (p : A × B). p.0) pair, ap (λ (p : A × B). Ok p.1) (sym pair))
-made a v w (Err e) both h is = absurd (cc)
-
-refused : {A B : Type 0} (a : A) (e : TinkError) (other : Result B TinkError) (both : Result (A × B) TinkError) → MatchResult other (λ o. both ≡ Ok (a, o)) (λ e. both ≡ Err e)
-    → both ≡ Err e → other ≡ Err e
-refused a e (Ok o) both h is = absurd (cc)
-refused a e (Err x) both h is = let same : x ≡ e = cc in ap Err same
 
 pub returns-in-Ok-beside : goal.returns-in-Ok-beside
 returns-in-Ok-beside g c =
