@@ -95,11 +95,16 @@ fn is_sealed(alloc: Global) -> Result<bool, TinkError> {
     Ok(report.segments == 1 && report.bytes == 0 && stream.bytes().len() == 56)
 }
 
-// Whether a byte was moved to a front, the byte and a tag; or nothing was written or drawn for want of memory.
-fn is_all_or_nothing(answer: Result<Report, TinkError>, written: usize, left: usize) -> bool {
+// Whether a byte was moved to a front, the byte and a tag. A refusal is handed on where nothing was written or drawn.
+fn is_all_or_nothing(
+    answer: Result<Report, TinkError>,
+    written: usize,
+    left: usize,
+) -> Result<bool, TinkError> {
     match answer {
-        Ok(it) => it.segments == 1 && it.bytes == 1 && written == 41 && left == 0,
-        Err(e) => e.kind == Kind::OutOfMemory && written == 0 && left == 23,
+        Ok(it) => Ok(it.segments == 1 && it.bytes == 1 && written == 41 && left == 0),
+        Err(e) if written == 0 && left == 23 => Err(e),
+        Err(_) => Ok(false),
     }
 }
 
@@ -109,7 +114,7 @@ fn is_moved(alloc: Global) -> Result<bool, TinkError> {
     let mut draws = Draws::new(counted(alloc, 23)?);
     let mut moved = sink_of(alloc, 41)?;
     let answer = move_stream(alloc, CTR_35, GCM_41, &mut draws, &mut stream, &mut moved);
-    Ok(is_all_or_nothing(answer, moved.bytes().len(), draws.left()))
+    is_all_or_nothing(answer, moved.bytes().len(), draws.left())
 }
 
 // How a token is refused under no keyset.
