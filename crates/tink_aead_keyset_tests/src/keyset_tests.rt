@@ -4,7 +4,6 @@ ghost use Rattle.std.specs.Prelude.{[]};
 ghost use Rattle.tink_io.specs.Told.{Replies};
 ghost use Rattle.tink_aead.specs.Wrapped.{primary_encrypts};
 
-use crate::common::{Answer, expect, handle};
 use std::alloc::Global;
 use tink_aead::{
     AeadKind, AesCtrHmacAeadKeyManager, AesGcmKeyManager, AesGcmSivKeyManager, WrappedAead,
@@ -17,7 +16,7 @@ use tink_core::keyset::{Handle, Manager};
 use tink_core::registry::{KeyManager, Registry};
 use tink_core::{Aead, Draws, Kind, Kinds, TinkError};
 use tink_proto::{Bytes, KeyTemplate};
-use tink_testutil::{draws_of, gives, registry_of};
+use tink_testutil::{Answer, Told, draws_of, gives, handle, registry_of};
 
 /// Encrypts a text without associated data by the primary key.
 fn sealed_by<P: Aead>(
@@ -186,12 +185,10 @@ const NEW_KEYS: &[(&str, Template, usize, &[u8], Answer)] = &[
     ),
 ];
 
-#[test]
-fn texts_by_new_keys(rt: HostRuntime) {
-    let alloc = rt.alloc();
+pub fn texts_by_new_keys(alloc: Global, told: &mut Told) {
     for (row, template, size, data, want) in NEW_KEYS {
         let got = of_size(alloc, new_aead(alloc, template), *size, data);
-        expect(&rt, got, *want, row);
+        told.expect(got, *want, row);
     }
 }
 
@@ -336,15 +333,13 @@ const SEALINGS: &[Sealing] = &[
     ),
 ];
 
-#[test]
-fn keys_of_a_keyset_decrypt(rt: HostRuntime) {
-    let alloc = rt.alloc();
+pub fn keys_of_a_keyset_decrypt(alloc: Global, told: &mut Told) {
     for (row, keys, n, front, size, others, want) in SEALINGS {
         let got = goes_there_and_back(alloc, keys, *n, front, *size, others);
-        expect(&rt, got, *want, row);
+        told.expect(got, *want, row);
     }
     let alone = gives(opened(alloc, PREFIXED_FIRST, PREFIX), b"");
-    expect(&rt, alone, FAILED, "a prefix alone");
+    told.expect(alone, FAILED, "a prefix alone");
 }
 
 // ---- a rotation
@@ -434,8 +429,7 @@ fn rotates(alloc: Global) -> Result<bool, TinkError> {
     }
 }
 
-#[test]
-fn old_ciphertexts_are_decrypted_after_a_rotation(rt: HostRuntime) {
-    expect(&rt, rotates(rt.alloc()), Ok(true), "both ciphertexts");
+pub fn old_ciphertexts_are_decrypted_after_a_rotation(alloc: Global, told: &mut Told) {
+    told.expect(rotates(alloc), Ok(true), "both ciphertexts");
     law_ciphertexts_outlive_commands::<AesGcmKeyManager, AeadKind>();
 }

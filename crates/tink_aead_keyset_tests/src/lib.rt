@@ -1,9 +1,18 @@
 //! Tests of keysets of AEADs, and of keysets under an AEAD's key.
 #![tactic(auto)]
 
-#[cfg(test)]
-mod common;
-#[cfg(test)]
 mod keyset_tests;
-#[cfg(test)]
 mod master_tests;
+
+use std::alloc::Global;
+use tink_testutil::Told;
+
+/// What all rows tell.
+pub fn rows(alloc: Global) -> Told {
+    let mut told = Told::new();
+    keyset_tests::texts_by_new_keys(alloc, &mut told);
+    keyset_tests::keys_of_a_keyset_decrypt(alloc, &mut told);
+    keyset_tests::old_ciphertexts_are_decrypted_after_a_rotation(alloc, &mut told);
+    master_tests::a_keyset_is_kept_in_memory_and_in_a_text(alloc, &mut told);
+    told
+}

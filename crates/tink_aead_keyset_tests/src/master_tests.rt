@@ -1,6 +1,5 @@
 //! Keysets under an AES-GCM master key, over memory and over ends in the wire format and in JSON.
 
-use crate::common::{Answer, expect, handle};
 use std::alloc::Global;
 use tink_aead::subtle::AesGcm;
 use tink_core::keyset::{Handle, MemReaderWriter, Reader, Writer};
@@ -8,7 +7,7 @@ use tink_core::{Draws, Kind, MemSink, MemSource, TinkError};
 use tink_keyset_io::{BinaryReader, BinaryWriter, JsonReader, JsonWriter};
 use tink_proto::wire::Message;
 use tink_proto::{Bytes, EncryptedKeyset, KeysetInfo};
-use tink_testutil::{bytes_of, draws_of, gives};
+use tink_testutil::{Answer, Told, bytes_of, draws_of, gives, handle};
 
 // A keyset of one raw key for streams.
 const KEYSET: &[u8] =
@@ -229,12 +228,11 @@ const ROWS: &[Row] = &[
     },
 ];
 
-#[test]
-fn a_keyset_is_kept_in_memory_and_in_a_text(rt: HostRuntime) {
-    let kept = is_kept(rt.alloc(), &mut MemReaderWriter::default());
-    expect(&rt, kept, Ok(true), "the encryption and the info");
+pub fn a_keyset_is_kept_in_memory_and_in_a_text(alloc: Global, told: &mut Told) {
+    let kept = is_kept(alloc, &mut MemReaderWriter::default());
+    told.expect(kept, Ok(true), "the encryption and the info");
     for row in ROWS {
-        let got = is_kept_as(rt.alloc(), row);
-        expect(&rt, got, row.want, row.name);
+        let got = is_kept_as(alloc, row);
+        told.expect(got, row.want, row.name);
     }
 }

@@ -1,12 +1,12 @@
 //! AES in counter mode, and then HMAC.
 
 use crate::asking::{Asked, Sealed, does_if_made};
-use crate::comparing::{Answer, expect};
 use std::alloc::Global;
 use tink_aead_subtle::{AesCtr, EncryptThenAuthenticate};
 use tink_io::{Kind, TinkError};
 use tink_mac::subtle::Hmac;
 use tink_proto::HashType;
+use tink_testutil::{Answer, Told};
 
 // The 32 bytes from this one on.
 fn bytes_from(first: u8) -> [u8; 32] {
@@ -97,9 +97,8 @@ const ROWS: &[(&str, usize, Asked, Answer)] = &[
     ),
 ];
 
-#[test]
-fn encrypts_and_authenticates(rt: HostRuntime) {
+pub fn encrypts_and_authenticates(alloc: Global, told: &mut Told) {
     for (row, tag_size, asked, want) in ROWS {
-        expect(&rt, answered(rt.alloc(), *tag_size, asked), *want, row);
+        told.expect(answered(alloc, *tag_size, asked), *want, row);
     }
 }

@@ -4,7 +4,6 @@ ghost use Rattle.std.specs.Prelude.{[]};
 ghost use Rattle.tink_io.specs.Told.{Answers};
 ghost use Rattle.tink_aead.specs.Envelope.{data_key_aead, envelope_decrypts};
 
-use crate::comparing::{Answer, expect};
 use std::alloc::Global;
 use tink_aead::subtle::{AesCtr, AesGcm, EncryptThenAuthenticate};
 use tink_aead::{AES_GCM_TYPE_URL, AesGcmKeyManager, KmsEnvelopeAead, aes128_gcm_key_template};
@@ -13,7 +12,7 @@ use tink_core::{Aead, CloneIn, Kind, TinkError};
 use tink_mac::subtle::Hmac;
 use tink_mac::{HmacKeyManager, hmac_sha256_tag128_key_template};
 use tink_proto::{Bytes, HashType, KeyTemplate};
-use tink_testutil::{draws_of, gives, kind_of, registry_of, template};
+use tink_testutil::{Answer, Told, draws_of, gives, kind_of, registry_of, template};
 
 /// The text of an envelope without associated data.
 fn opened_by<A: Aead, M: KeyManager>(
@@ -375,9 +374,8 @@ const ROWS: &[(&str, Of, Asked, Answer)] = &[
     ),
 ];
 
-#[test]
-fn envelopes_seal_open_and_refuse(rt: HostRuntime) {
+pub fn envelopes_seal_open_and_refuse(alloc: Global, told: &mut Told) {
     for (row, of, asked, want) in ROWS {
-        expect(&rt, answered(rt.alloc(), of, asked), *want, row);
+        told.expect(answered(alloc, of, asked), *want, row);
     }
 }

@@ -1,6 +1,5 @@
 //! Which keys the managers build, and which formats make keys.
 
-use crate::comparing::{Answer, expect, made};
 use std::alloc::Global;
 use tink_aead::{
     AES_CTR_HMAC_AEAD_KEY_VERSION, AES_GCM_KEY_VERSION, AES_GCM_SIV_KEY_VERSION,
@@ -8,7 +7,7 @@ use tink_aead::{
 };
 use tink_core::registry::KeyManager;
 use tink_core::{Kind, TinkError};
-use tink_testutil::draws_of;
+use tink_testutil::{Answer, Told, draws_of, made};
 
 // What is asked of a manager.
 enum Asked {
@@ -275,12 +274,10 @@ const TWO_PARTS: &[Row] = &[
 
 const TABLES: &[&[Row]] = &[ONE_PART, TWO_PARTS];
 
-#[test]
-fn keys_and_formats_by_their_messages(rt: HostRuntime) {
-    let alloc = rt.alloc();
+pub fn keys_and_formats_by_their_messages(alloc: Global, told: &mut Told) {
     for rows in TABLES {
         for (row, manager, asked, want) in *rows {
-            expect(&rt, answered(alloc, manager, asked), *want, row);
+            told.expect(answered(alloc, manager, asked), *want, row);
         }
     }
     let versions = [
@@ -288,5 +285,5 @@ fn keys_and_formats_by_their_messages(rt: HostRuntime) {
         AES_GCM_SIV_KEY_VERSION,
         AES_CTR_HMAC_AEAD_KEY_VERSION,
     ];
-    expect(&rt, Ok(versions == [0; 3]), Ok(true), "the versions");
+    told.expect(Ok(versions == [0; 3]), Ok(true), "the versions");
 }

@@ -5,7 +5,6 @@ ghost use Rattle.tink_io.specs.Told.{Answers};
 ghost use Rattle.tink_aead_subtle.specs.AesAeads.{gcm_decrypts};
 
 use crate::asking::{Asked, Sealed, does_if_made};
-use crate::comparing::{Answer, expect};
 use std::alloc::Global;
 use tink_aead_subtle::{
     AES_BLOCK_SIZE_IN_BYTES, AES_CTR_MIN_IV_SIZE, AES_GCM_IV_SIZE, AES_GCM_SIV_NONCE_SIZE,
@@ -15,7 +14,7 @@ use tink_aead_subtle::{
 use tink_io::{Kind, TinkError};
 use tink_primitives::{Aead, CloneIn};
 use tink_proto::Bytes;
-use tink_testutil::{draws_of, gives, kind_of};
+use tink_testutil::{Answer, Told, draws_of, gives, kind_of};
 
 /// The text of a ciphertext without associated data.
 fn opened_by(aead: &AesGcm, alloc: Global, ciphertext: &[u8]) -> Result<Bytes, TinkError>
@@ -193,18 +192,16 @@ const OF_VECTOR: &[(Asked, Answer)] = &[
     (Asked::Changes(Kind::DecryptFailed), Ok(true)),
 ];
 
-#[test]
-fn ciphertexts_are_those_of_the_specifications(rt: HostRuntime) {
-    let alloc = rt.alloc();
+pub fn ciphertexts_are_those_of_the_specifications(alloc: Global, told: &mut Told) {
     for (row, of, key, sealed) in VECTORS {
         for (asked, want) in OF_VECTOR {
-            expect(&rt, answered(alloc, of, key, sealed, asked), *want, row);
+            told.expect(answered(alloc, of, key, sealed, asked), *want, row);
         }
     }
     for (row, key, iv_size, sealed) in CTR_VECTORS {
-        expect(&rt, applies(alloc, key, *iv_size, sealed), Ok(true), row);
+        told.expect(applies(alloc, key, *iv_size, sealed), Ok(true), row);
     }
-    expect(&rt, opens_empty(alloc), Ok(true), "an empty text");
+    told.expect(opens_empty(alloc), Ok(true), "an empty text");
 }
 
 // ---- sizes
@@ -348,15 +345,13 @@ const IV_SIZES: &[(&str, usize, AskedOfCtr, Answer)] = &[
 ];
 
 /// Keys and vectors of each size, and a cipher by its size of vectors.
-#[test]
-fn sizes_are_taken_or_refused(rt: HostRuntime) {
-    let alloc = rt.alloc();
+pub fn sizes_are_taken_or_refused(alloc: Global, told: &mut Told) {
     for n in 0..64usize {
         let taken = are_taken(alloc, n);
-        expect(&rt, Ok(taken), Ok(true), "a key and a vector of a size");
+        told.expect(Ok(taken), Ok(true), "a key and a vector of a size");
     }
     for (row, iv_size, asked, want) in IV_SIZES {
-        expect(&rt, does(alloc, *iv_size, asked), *want, row);
+        told.expect(does(alloc, *iv_size, asked), *want, row);
     }
-    expect(&rt, have_their_sizes(alloc), Ok(true), "the sizes");
+    told.expect(have_their_sizes(alloc), Ok(true), "the sizes");
 }

@@ -1,8 +1,6 @@
 //! The templates, by formats that were spelled by hand, and what `init` registers.
 
-use crate::comparing::{Answer, expect, made};
 use std::alloc::Global;
-use std::process::Abort;
 use tink_aead::{
     AES_CTR_HMAC_AEAD_TYPE_URL, AES_GCM_SIV_TYPE_URL, AES_GCM_TYPE_URL, AeadKinds,
     KMS_ENVELOPE_AEAD_KEY_VERSION, KMS_ENVELOPE_AEAD_TYPE_URL, aes128_ctr_hmac_sha256_key_template,
@@ -14,7 +12,7 @@ use tink_aead::{
 use tink_core::registry::{KeyManager, Registry};
 use tink_core::{Kind, TinkError};
 use tink_proto::{KeyTemplate, Text};
-use tink_testutil::Named;
+use tink_testutil::{Answer, Named, Told, made};
 
 // A template's name, its URL, its format, the number of its prefix, and whether it is registered.
 type Template = (&'static str, &'static str, &'static [u8], i32, bool);
@@ -227,15 +225,14 @@ const BESIDE: &[Row] = &[
 // The tables are of a new registry each.
 const TABLES: &[&[Row]] = &[ALL, BESIDE];
 
-fn walk(rt: &impl Abort, alloc: Global, registry: &mut Registered, rows: &[Row]) {
+fn walk(told: &mut Told, alloc: Global, registry: &mut Registered, rows: &[Row]) {
     for (row, step, want) in rows {
-        expect(rt, answered(alloc, registry, step), *want, row);
+        told.expect(answered(alloc, registry, step), *want, row);
     }
 }
 
-#[test]
-fn templates_and_managers_are_registered_once(rt: HostRuntime) {
+pub fn templates_and_managers_are_registered_once(alloc: Global, told: &mut Told) {
     for rows in TABLES {
-        walk(&rt, rt.alloc(), &mut Registry::new(rt.alloc()), rows);
+        walk(told, alloc, &mut Registry::new(alloc), rows);
     }
 }

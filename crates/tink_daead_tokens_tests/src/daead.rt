@@ -1,4 +1,4 @@
 //! AES-SIV under one key, its keys and template, and the deterministic AEADs of keysets.
 
-mod keyset_tests;
-mod siv_tests;
+pub mod keyset_tests;
+pub mod siv_tests;

@@ -1,5 +1,5 @@
 //! Signed tokens.
 
 mod keysets;
-mod rows;
+pub mod rows;
 mod texts;

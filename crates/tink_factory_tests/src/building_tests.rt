@@ -8,7 +8,6 @@ ghost use Rattle.tink_building.specs.Built.{GivesSet, IsSetOf, built_entry};
 ghost use Rattle.tink_building.specs.Given.{given_each};
 ghost use Rattle.tink_sets.specs.Entries.{entry_of};
 
-use crate::expecting::{Answer, expect};
 use std::alloc::Global;
 use tink_building::build_set;
 use tink_io::{Kind, TinkError};
@@ -17,7 +16,7 @@ use tink_primitives::Primitive;
 use tink_proto::{Key, KeyData};
 use tink_registry::{KeyManager, Registry};
 use tink_sets::{Entry, PrimitiveSet};
-use tink_testutil::{TestKinds, TestManager, URL, data_of, handle_of, registry_of};
+use tink_testutil::{Answer, TestKinds, TestManager, Told, URL, data_of, handle_of, registry_of};
 
 // The manager of the test URL, which takes keys of any length or not.
 pub fn manager(any_length: bool) -> TestManager {
@@ -256,11 +255,9 @@ const ROWS: &[(&str, u32, &[KeyRow], By, Has, Answer)] = &[
     ),
 ];
 
-#[test]
-fn keysets_give_sets(rt: HostRuntime) {
-    let alloc = rt.alloc();
+pub fn keysets_give_sets(alloc: Global, told: &mut Told) {
     for (row, primary, keys, by, what, want) in ROWS {
         let got = answered(alloc, handle(alloc, *primary, keys), by, what);
-        expect(&rt, got, *want, row);
+        told.expect(got, *want, row);
     }
 }

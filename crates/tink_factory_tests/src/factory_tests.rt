@@ -5,9 +5,7 @@ ghost use Rattle.tink_io.specs.declared.error.Kind.TheVariants.{MacMismatch};
 ghost use Rattle.tink_factory_tests.specs.TestKeys as test_keys;
 
 use crate::building_tests::{KeyRow, handle, manager};
-use crate::expecting::{Answer, expect, made};
 use std::alloc::Global;
-use std::process::Abort;
 use tink_io::{Kind, TinkError};
 use tink_keysets::factory::{Question, ask_behind_prefix, ask_entries, typed_primitives};
 use tink_keysets::keyset::Handle;
@@ -16,7 +14,9 @@ use tink_proto::{Bytes, OutputPrefixType};
 use tink_registry::{KeyManager, Registry};
 use tink_sets::sorts::{Aeads, Macs};
 use tink_sets::{PrimitiveSet, TypedEntry, TypedPrimitiveSet};
-use tink_testutil::{TestAead, TestKinds, TestManager, URL, enabled_key, registry_of};
+use tink_testutil::{
+    Answer, TestAead, TestKinds, TestManager, Told, URL, enabled_key, made, registry_of,
+};
 
 // The id of the entry whose key is the input.
 struct Holds;
@@ -200,17 +200,16 @@ const INPUTS: &[(&str, Asked, &[u8], u32, Answer)] = &[
     ),
 ];
 
-fn ask_all(rt: &impl Abort, alloc: Global, set: &TypedPrimitiveSet<TestAead>) {
+fn ask_all(told: &mut Told, alloc: Global, set: &TypedPrimitiveSet<TestAead>) {
     for (row, asked, input, id, want) in INPUTS {
-        expect(rt, answers(alloc, set, asked, input, *id), *want, row);
+        told.expect(answers(alloc, set, asked, input, *id), *want, row);
     }
 }
 
-#[test]
-fn entries_are_asked_in_order(rt: HostRuntime) {
-    match set_of_six(rt.alloc()) {
-        Ok(set) => ask_all(&rt, rt.alloc(), &set),
-        Err(e) => expect(&rt, Err(e), Ok(true), "a set of six"),
+pub fn entries_are_asked_in_order(alloc: Global, told: &mut Told) {
+    match set_of_six(alloc) {
+        Ok(set) => ask_all(told, alloc, &set),
+        Err(e) => told.expect(Err(e), Ok(true), "a set of six"),
     }
 }
 
@@ -306,9 +305,8 @@ const HANDLES: &[(&str, &[KeyRow], bool, Answer)] = &[
     ),
 ];
 
-#[test]
-fn a_handle_gives_a_set_of_one_sort(rt: HostRuntime) {
+pub fn a_handle_gives_a_set_of_one_sort(alloc: Global, told: &mut Told) {
     for (row, keys, of_macs, want) in HANDLES {
-        expect(&rt, gives_set(rt.alloc(), keys, *of_macs), *want, row);
+        told.expect(gives_set(alloc, keys, *of_macs), *want, row);
     }
 }

@@ -1,16 +1,14 @@
 //! A manager of test keys.
 
-use crate::expecting::{Answer, expect, made};
 use crate::test_keys::TestKeys;
 use std::alloc::Global;
-use std::process::Abort;
 use tink_io::{Draws, Kind, TinkError};
 use tink_key_types::{SymmetricKeyManager, add_template, hash_type_of, new_template};
 use tink_primitives::{Aead, Primitive};
 use tink_proto::{Bytes, HashType, KeyData, KeyMaterialType, KeyTemplate, OutputPrefixType, Text};
 use tink_proto_keys::AesGcmKeyFormat;
 use tink_registry::KeyManager;
-use tink_testutil::{TestKinds, draws_of, gives};
+use tink_testutil::{Answer, TestKinds, Told, draws_of, gives, made};
 
 // Whether the manager says this of its keys.
 fn says(m: &SymmetricKeyManager<TestKeys>) -> bool {
@@ -171,18 +169,17 @@ const ROWS: &[(&str, Asked, Answer)] = &[
     ("the numbers of hashes", Asked::Hashes, Ok(true)),
 ];
 
-fn ask_all(rt: &impl Abort, alloc: Global, draws: &mut Draws) {
+fn ask_all(told: &mut Told, alloc: Global, draws: &mut Draws) {
     let manager = SymmetricKeyManager::new();
     for (row, asked, want) in ROWS {
-        expect(rt, answered(alloc, &manager, asked, draws), *want, row);
+        told.expect(answered(alloc, &manager, asked, draws), *want, row);
     }
 }
 
-#[test]
-fn a_manager_makes_and_builds_keys(rt: HostRuntime) {
-    match draws_of(rt.alloc(), DRAWS) {
-        Ok(mut draws) => ask_all(&rt, rt.alloc(), &mut draws),
-        Err(e) => expect(&rt, Err(e), Ok(true), "the draws"),
+pub fn a_manager_makes_and_builds_keys(alloc: Global, told: &mut Told) {
+    match draws_of(alloc, DRAWS) {
+        Ok(mut draws) => ask_all(told, alloc, &mut draws),
+        Err(e) => told.expect(Err(e), Ok(true), "the draws"),
     }
 }
 

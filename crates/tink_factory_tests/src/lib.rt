@@ -2,13 +2,20 @@
 //! their keys.
 #![tactic(auto)]
 
-#[cfg(test)]
 mod building_tests;
-#[cfg(test)]
-mod expecting;
-#[cfg(test)]
 mod factory_tests;
-#[cfg(test)]
 mod key_type_tests;
-#[cfg(test)]
 mod test_keys;
+
+use std::alloc::Global;
+use tink_testutil::Told;
+
+/// What all rows tell.
+pub fn rows(alloc: Global) -> Told {
+    let mut told = Told::new();
+    factory_tests::entries_are_asked_in_order(alloc, &mut told);
+    factory_tests::a_handle_gives_a_set_of_one_sort(alloc, &mut told);
+    building_tests::keysets_give_sets(alloc, &mut told);
+    key_type_tests::a_manager_makes_and_builds_keys(alloc, &mut told);
+    told
+}

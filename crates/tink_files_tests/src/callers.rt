@@ -11,13 +11,13 @@ use crate::task_tests::{CTR, TEXT};
 use std::alloc::Global;
 use std::marker::Brand;
 use std::sync::ledger::{Blank, Ledger};
-use std::test::Fail;
 use tink_files::under_master::{Master, load_master, unwrapped, wrapped};
 use tink_io::{Draws, Sink, SureSink, TinkError};
 use tink_keyset_io::key_files::Format;
 use tink_proto::Bytes;
 use tink_range::{MemAt, ReadAt, Steps};
 use tink_run::ranges::run_range;
+use tink_testutil::Told;
 
 // The text of `task_tests` as a stream under its first key, with no associated data, by an independent model.
 const SEALED: &[u8] = b"\
@@ -39,7 +39,7 @@ fn wrapped_as_json(
 }
 
 // Whether a file of keys is wrapped as JSON, and unwrapped to the same.
-fn is_wrapped(alloc: Global) -> Result<bool, Fail> {
+fn is_wrapped(alloc: Global) -> Result<bool, TinkError> {
     let mut draws = Draws::new(Vec::from_slice(alloc, b"twelve bytes")?);
     let master = load_master(alloc, Vec::from_slice(alloc, MASTER)?)?;
     let keys = Vec::from_slice(alloc, KEYS)?;
@@ -92,7 +92,7 @@ fn page_of<L: Ledger>(
 }
 
 // Whether the first page of a sealed file is its text.
-fn is_page(alloc: Global) -> Result<bool, Fail> {
+fn is_page(alloc: Global) -> Result<bool, TinkError> {
     let mut file = MemAt::new(Vec::from_slice(alloc, SEALED)?, 0, Vec::new(alloc));
     let mut sink = SureSink::new(alloc);
     sink.reserve(alloc, 20)?;
@@ -100,9 +100,7 @@ fn is_page(alloc: Global) -> Result<bool, Fail> {
     Ok(count == 20 && sink.bytes() == TEXT)
 }
 
-#[test]
-fn callers_do_what_they_say(rt: HostRuntime) -> Result<(), Fail> {
-    let (is_wrapped, is_page) = (is_wrapped(rt.alloc())?, is_page(rt.alloc())?);
-    assert!(rt; is_wrapped && is_page);
-    Ok(())
+pub fn callers_do_what_they_say(alloc: Global, told: &mut Told) {
+    told.expect(is_wrapped(alloc), Ok(true), "a file of keys is wrapped");
+    told.expect(is_page(alloc), Ok(true), "a page of a sealed file");
 }

@@ -3,6 +3,7 @@ ghost use Rattle.std.specs.Prelude.{◌≡◌, true, OnErr};
 use std::alloc::Global;
 use tink_io::saving::{finish, save};
 use tink_io::{Kind, MemPlace, Place, TinkError};
+use tink_testutil::Told;
 
 // What is there before, and what is written.
 pub const BEFORE: &[u8] = b"before";
@@ -48,30 +49,26 @@ fn saves(alloc: Global, room: usize, replaces: bool, can_show: bool) -> Option<b
 }
 
 // The room, whether the place replaces and can show, and whether the text is shown.
-const PLACES: &[(usize, bool, bool, bool)] = &[
-    (6, true, true, true),
-    (5, true, true, false),
-    (6, false, true, false),
-    (6, true, false, false),
+const PLACES: &[(&str, usize, bool, bool, bool)] = &[
+    ("a text that fits", 6, true, true, true),
+    ("a text without room", 5, true, true, false),
+    ("a place that replaces no file", 6, false, true, false),
+    ("a place that shows no file", 6, true, false, false),
 ];
 
-#[test]
-fn a_text_is_shown_whole_or_not_at_all(rt: HostRuntime) {
-    for (room, replaces, can_show, is_shown) in PLACES {
-        assert_eq!(rt;
-            saves(rt.alloc(), *room, *replaces, *can_show),
-            Some(*is_shown)
-        );
+pub fn a_text_is_shown_whole_or_not_at_all(alloc: Global, told: &mut Told) {
+    for (row, room, replaces, can_show, is_shown) in PLACES {
+        let saves = saves(alloc, *room, *replaces, *can_show);
+        told.expect(Ok(saves == Some(*is_shown)), Ok(true), row);
     }
 }
 
-#[test]
-fn a_refusal_takes_the_draft_away(rt: HostRuntime) {
-    let refused = match place_of(rt.alloc(), 6, true, true) {
+pub fn a_refusal_takes_the_draft_away(alloc: Global, told: &mut Told) {
+    let refused = match place_of(alloc, 6, true, true) {
         Some(mut place) => refuses(&mut place),
         None => false,
     };
-    assert!(rt; refused);
+    told.expect(Ok(refused), Ok(true), "a refusal");
 }
 
 // Whether a refusal is given on, and leaves what was before.

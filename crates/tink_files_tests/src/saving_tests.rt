@@ -6,6 +6,7 @@ use tink_files::under_master::load_master;
 use tink_files::{edit_keys, new_keys, rotate_keys, unwrap_keys, wrap_keys};
 use tink_io::{Draws, Kind, MemPlace, TinkError};
 use tink_keyset_io::key_files::{Edit, Format};
+use tink_testutil::Told;
 
 // A master keyset: an AES-GCM key of the id MMMM, under TINK.
 pub const MASTER: &[u8] = b"\
@@ -254,20 +255,20 @@ fn is_answered(alloc: Global, asked: Asked, room: usize, want: Result<&[u8], Kin
     }
 }
 
-#[test]
-fn files_of_keys_are_saved_whole_or_not_at_all(rt: HostRuntime) {
+pub fn files_of_keys_are_saved_whole_or_not_at_all(alloc: Global, told: &mut Told) {
     for (row, asked, room, want) in ROWS {
-        assert!(rt; is_answered(rt.alloc(), *asked, *room, *want), "{row}");
+        let is_answered = is_answered(alloc, *asked, *room, *want);
+        told.expect(Ok(is_answered), Ok(true), row);
     }
 }
 
-#[test]
-fn a_master_has_aeads_alone(rt: HostRuntime) {
-    let kind = match place_of(rt.alloc(), 999, true, true) {
-        Some(mut place) => refusal_of_master(rt.alloc(), &mut place),
+pub fn a_master_has_aeads_alone(alloc: Global, told: &mut Told) {
+    let kind = match place_of(alloc, 999, true, true) {
+        Some(mut place) => refusal_of_master(alloc, &mut place),
         None => None,
     };
-    assert!(rt; kind == Some(Kind::WrongPrimitive));
+    let refused = kind == Some(Kind::WrongPrimitive);
+    told.expect(Ok(refused), Ok(true), "a master of streams");
 }
 
 // By which kind a new file of a key of streams is refused as a master.

@@ -10,6 +10,7 @@ use tink_files::{Task, range_to, save_task, write_task};
 use tink_io::{Draws, Kind, MemPlace, Place, Source, SureSink, SureSource, TinkError};
 use tink_range::{MemAt, Steps};
 use tink_run::report::{Command, Report};
+use tink_testutil::Told;
 
 // A raw key in counter mode, with segments of 35 bytes and tags of 10.
 pub const CTR: &[u8] = b"\
@@ -59,31 +60,143 @@ enum Asked {
 
 // What is done, how many bytes of the input are left, which of them is changed, and the room of the draft; then the
 // refusal, and none where what is made stands under the name.
-type Row = (Asked, usize, usize, usize, Option<Kind>);
+type Row = (&'static str, Asked, usize, usize, usize, Option<Kind>);
 
 const ROWS: &[Row] = &[
-    (Asked::Seal, ALL, ALL, 64, None),
-    (Asked::Seal, ALL, ALL, 63, Some(Kind::WriteFault)),
-    (Asked::Open, ALL, ALL, 20, None),
-    (Asked::Open, ALL, ALL, 19, Some(Kind::WriteFault)),
-    (Asked::Open, 63, ALL, 20, Some(Kind::BadSegment(1))),
-    (Asked::Open, 44, ALL, 20, Some(Kind::Truncated(1))),
-    (Asked::Open, ALL, 24, 20, Some(Kind::NoMatchingKey)),
-    (Asked::Rewrap, ALL, ALL, 76, None),
-    (Asked::Rewrap, ALL, ALL, 75, Some(Kind::WriteFault)),
-    (Asked::Rewrap, 63, ALL, 76, Some(Kind::BadSegment(1))),
-    (Asked::Rewrap, ALL, 0, 76, Some(Kind::NoMatchingKey)),
-    (Asked::Sign, ALL, ALL, 56, None),
-    (Asked::Sign, ALL, ALL, 55, Some(Kind::WriteFault)),
-    (Asked::Verify, ALL, ALL, 20, None),
-    (Asked::Verify, ALL, ALL, 19, Some(Kind::WriteFault)),
-    (Asked::Verify, 27, ALL, 20, Some(Kind::BadToken)),
-    (Asked::Verify, ALL, 0, 20, Some(Kind::MacMismatch)),
-    (Asked::Range, ALL, ALL, 9, None),
-    (Asked::Range, ALL, ALL, 8, Some(Kind::WriteFault)),
-    (Asked::Range, 63, ALL, 9, Some(Kind::BadSegment(1))),
-    (Asked::Range, ALL, 63, 9, Some(Kind::BadSegment(1))),
-    (Asked::Range, ALL, 24, 9, Some(Kind::NoMatchingKey)),
+    ("a seal", Asked::Seal, ALL, ALL, 64, None),
+    (
+        "a seal without room",
+        Asked::Seal,
+        ALL,
+        ALL,
+        63,
+        Some(Kind::WriteFault),
+    ),
+    ("an open", Asked::Open, ALL, ALL, 20, None),
+    (
+        "an open without room",
+        Asked::Open,
+        ALL,
+        ALL,
+        19,
+        Some(Kind::WriteFault),
+    ),
+    (
+        "an open of all but a byte",
+        Asked::Open,
+        63,
+        ALL,
+        20,
+        Some(Kind::BadSegment(1)),
+    ),
+    (
+        "an open of a cut stream",
+        Asked::Open,
+        44,
+        ALL,
+        20,
+        Some(Kind::Truncated(1)),
+    ),
+    (
+        "an open of a changed first segment",
+        Asked::Open,
+        ALL,
+        24,
+        20,
+        Some(Kind::NoMatchingKey),
+    ),
+    ("a rewrap", Asked::Rewrap, ALL, ALL, 76, None),
+    (
+        "a rewrap without room",
+        Asked::Rewrap,
+        ALL,
+        ALL,
+        75,
+        Some(Kind::WriteFault),
+    ),
+    (
+        "a rewrap of all but a byte",
+        Asked::Rewrap,
+        63,
+        ALL,
+        76,
+        Some(Kind::BadSegment(1)),
+    ),
+    (
+        "a rewrap of a changed header",
+        Asked::Rewrap,
+        ALL,
+        0,
+        76,
+        Some(Kind::NoMatchingKey),
+    ),
+    ("a sign", Asked::Sign, ALL, ALL, 56, None),
+    (
+        "a sign without room",
+        Asked::Sign,
+        ALL,
+        ALL,
+        55,
+        Some(Kind::WriteFault),
+    ),
+    ("a verify", Asked::Verify, ALL, ALL, 20, None),
+    (
+        "a verify without room",
+        Asked::Verify,
+        ALL,
+        ALL,
+        19,
+        Some(Kind::WriteFault),
+    ),
+    (
+        "a verify of a cut token",
+        Asked::Verify,
+        27,
+        ALL,
+        20,
+        Some(Kind::BadToken),
+    ),
+    (
+        "a verify of a changed token",
+        Asked::Verify,
+        ALL,
+        0,
+        20,
+        Some(Kind::MacMismatch),
+    ),
+    ("a range", Asked::Range, ALL, ALL, 9, None),
+    (
+        "a range without room",
+        Asked::Range,
+        ALL,
+        ALL,
+        8,
+        Some(Kind::WriteFault),
+    ),
+    (
+        "a range of all but a byte",
+        Asked::Range,
+        63,
+        ALL,
+        9,
+        Some(Kind::BadSegment(1)),
+    ),
+    (
+        "a range of a changed last byte",
+        Asked::Range,
+        ALL,
+        63,
+        9,
+        Some(Kind::BadSegment(1)),
+    ),
+    (
+        "a range of a changed first segment",
+        Asked::Range,
+        ALL,
+        24,
+        9,
+        Some(Kind::NoMatchingKey),
+    ),
 ];
 
 const ALL: usize = 9999;
@@ -202,7 +315,7 @@ fn range_of<L: Ledger>(
 
 // Whether what is asked is refused so and leaves what stood there, or shows what is made.
 fn holds(alloc: Global, row: &Row) -> Result<bool, TinkError> {
-    let (asked, left, changed, room, kind) = *row;
+    let (_, asked, left, changed, room, kind) = *row;
     let mut draws = Draws::new(Vec::from_slice(alloc, DRAWS)?);
     let before = Vec::from_slice(alloc, BEFORE)?;
     let mut place = MemPlace::new(alloc, room, Some(before))?;
@@ -215,29 +328,27 @@ fn holds(alloc: Global, row: &Row) -> Result<bool, TinkError> {
     Ok(answer == kind && shows(&place, stands))
 }
 
-#[test]
-fn what_is_made_stands_whole_or_not_at_all(rt: HostRuntime) {
-    for (number, row) in ROWS.iter().enumerate() {
-        assert_eq!(rt; holds(rt.alloc(), row), Ok(true), "{number}");
+pub fn what_is_made_stands_whole_or_not_at_all(alloc: Global, told: &mut Told) {
+    for row in ROWS {
+        told.expect(holds(alloc, row), Ok(true), row.0);
     }
 }
 
-// What an open into a sink answers, where the sink has got the text.
-fn opened(alloc: Global) -> Result<Option<Report>, TinkError> {
+// Whether an open into a sink reports its segments and bytes, and the sink has got the text.
+fn opens(alloc: Global) -> Result<bool, TinkError> {
     let mut source = SureSource::new(Vec::from_slice(alloc, SEALED)?);
     let mut draws = Draws::new(Vec::new(alloc));
     let mut sink = SureSink::new(alloc);
     sink.reserve(alloc, TEXT.len())?;
     let task = Task::Run(Command::Open);
     let report = write_task(alloc, task, CTR, b"May", &mut draws, &mut source, &mut sink)?;
-    Ok(if sink.bytes() == TEXT { report } else { None })
-}
-
-#[test]
-fn a_text_goes_into_a_sink_as_it_comes(rt: HostRuntime) {
-    let report = Report {
+    let want = Report {
         segments: 2,
         bytes: 20,
     };
-    assert!(rt; opened(rt.alloc()) == Ok(Some(report)));
+    Ok(report == Some(want) && sink.bytes() == TEXT)
+}
+
+pub fn a_text_goes_into_a_sink_as_it_comes(alloc: Global, told: &mut Told) {
+    told.expect(opens(alloc), Ok(true), "a text into a sink");
 }

@@ -4,13 +4,13 @@ ghost use Rattle.std.specs.Prelude.{◌≡◌, IfOk, IfSome, Some};
 ghost use Rattle.tink_proto.specs.Messages.{keyset as keyset_table};
 ghost use Rattle.wire_format.specs.Message.{decoded};
 
-use crate::expecting::expect;
 use crate::stored::{Asked, KEYSET, Reading, Writing};
 use std::alloc::Global;
 use tink_io::{Kind, Source, SureSource, TinkError};
 use tink_keyset_io::BinaryReader;
 use tink_keysets::keyset::Reader;
 use tink_proto::Keyset;
+use tink_testutil::Told;
 
 pub const READINGS: &[Reading] = &[
     // The source is at its end after the first: a message with no field is a keyset without keys.
@@ -101,10 +101,9 @@ fn gives_keyset(alloc: Global, zeros: usize, bytes: &[u8]) -> Result<bool, TinkE
     }
 }
 
-#[test]
-fn a_source_gives_its_keyset_and_no_more_than_67108864_bytes(rt: HostRuntime) {
-    let keyset = gives_keyset(rt.alloc(), 0, KEYSET);
-    expect(&rt, keyset, Ok(true), "the keyset");
-    let more = gives_keyset(rt.alloc(), 67_108_865, b"");
-    expect(&rt, more, Err(Kind::KeysetTooLong), "a byte more");
+pub fn a_source_gives_its_keyset_and_no_more_than_67108864_bytes(alloc: Global, told: &mut Told) {
+    let keyset = gives_keyset(alloc, 0, KEYSET);
+    told.expect(keyset, Ok(true), "the keyset");
+    let more = gives_keyset(alloc, 67_108_865, b"");
+    told.expect(more, Err(Kind::KeysetTooLong), "a byte more");
 }

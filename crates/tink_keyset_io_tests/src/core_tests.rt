@@ -5,14 +5,13 @@ ghost use Rattle.tink_subtle.specs.Hashes.{derived, hash_named};
 ghost use Rattle.tink_io.specs.Told.{Answers};
 ghost use Rattle.tink_proto.specs.declared.enums.HashType.TheVariants as types;
 
-use crate::expecting::{Answer, expect};
 use std::alloc::Global;
 use tink_core::subtle::{
     compute_hash, compute_hkdf, constant_time_compare, get_hash_digest_size, get_hash_func, random,
 };
 use tink_core::{Draws, Kind, TinkError, UPSTREAM_VERSION};
 use tink_proto::{Bytes, HashType};
-use tink_testutil::{draws_of, gives};
+use tink_testutil::{Answer, Told, draws_of, gives};
 
 // A key of 32 bytes, derived by SHA-256.
 fn subkey(alloc: Global, key: &[u8], info: &[u8]) -> Result<Bytes, TinkError>
@@ -185,14 +184,13 @@ const ROWS: &[(&str, Asked, Answer)] = &[
     ("the draws that are left", Asked::Left(1), Ok(true)),
 ];
 
-#[test]
-fn calls_answer_as_the_rows_say(rt: HostRuntime) {
-    match draws_of(rt.alloc(), b"\x01\x02\x03\x04\x05\x06\x07") {
+pub fn calls_answer_as_the_rows_say(alloc: Global, told: &mut Told) {
+    match draws_of(alloc, b"\x01\x02\x03\x04\x05\x06\x07") {
         Ok(mut draws) => {
             for (row, asked, want) in ROWS {
-                expect(&rt, answered(rt.alloc(), &mut draws, asked), *want, row);
+                told.expect(answered(alloc, &mut draws, asked), *want, row);
             }
         }
-        Err(e) => expect(&rt, Err(e), Ok(true), "draws"),
+        Err(e) => told.expect(Err(e), Ok(true), "draws"),
     }
 }

@@ -5,18 +5,16 @@ ghost use Rattle.tink_keysets.specs.Encrypted.{decrypted};
 ghost use Rattle.tink_keysets.specs.Through.{GivesBy};
 
 use crate::ends::Binding;
-use crate::expecting::{Answer, expect, made};
 use crate::plain_tests::{NOTHING, PLAIN, SECRETS};
 use crate::stored::{put, put_encrypted};
 use std::alloc::Global;
-use std::process::Abort;
 use tink_core::keyset::insecure::{self, decode, new_handle};
 use tink_core::keyset::{Handle, MemReaderWriter, Reader, Writer};
 use tink_io::{Draws, Kind, TinkError};
 use tink_keysets::keyset::law_written_is_read;
 use tink_primitives::Aead;
 use tink_proto::{Bytes, EncryptedKeyset, KeysetInfo, Message};
-use tink_testutil::{TestAead, bytes_of, draws_of, gives};
+use tink_testutil::{Answer, TestAead, Told, bytes_of, draws_of, gives, made};
 
 // A caller of a call that reads: its contract is the call's, with the reader's own answer.
 fn load<R: Reader, A: Aead>(
@@ -353,13 +351,13 @@ const NO_KEYSETS: &[Row] = &[
     ),
 ];
 
-fn walk(rt: &impl Abort, alloc: Global, draws: &mut Draws, rows: &[Row]) {
+fn walk(told: &mut Told, alloc: Global, draws: &mut Draws, rows: &[Row]) {
     let mut memory = MemReaderWriter::default();
     for (row, step, want, kept, left) in rows {
         let got = answered(alloc, &mut memory, step, draws);
-        expect(rt, got, *want, row);
+        told.expect(got, *want, row);
         let is_left = draws.left() == *left;
-        expect(rt, keeps(alloc, &memory, kept, is_left), Ok(true), row);
+        told.expect(keeps(alloc, &memory, kept, is_left), Ok(true), row);
     }
 }
 
@@ -374,14 +372,13 @@ const TABLES: &[&[Row]] = &[
     SECRETS,
 ];
 
-#[test]
-fn keysets_go_through_memory(rt: HostRuntime) {
-    match draws_of(rt.alloc(), b"draw") {
+pub fn keysets_go_through_memory(alloc: Global, told: &mut Told) {
+    match draws_of(alloc, b"draw") {
         Ok(mut draws) => {
             for rows in TABLES {
-                walk(&rt, rt.alloc(), &mut draws, rows);
+                walk(told, alloc, &mut draws, rows);
             }
         }
-        Err(e) => expect(&rt, Err(e), Ok(true), "draws"),
+        Err(e) => told.expect(Err(e), Ok(true), "draws"),
     }
 }

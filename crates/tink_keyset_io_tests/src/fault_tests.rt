@@ -2,10 +2,9 @@
 
 use crate::encrypted_tests::{How, PUBLIC, Step, TWO, answered};
 use crate::ends::Failing;
-use crate::expecting::{Answer, expect};
 use std::alloc::Global;
 use tink_io::{Draws, Kind, TinkError};
-use tink_testutil::draws_of;
+use tink_testutil::{Answer, Told, draws_of};
 
 const READ: Answer = Err(Kind::ReadFault);
 
@@ -70,16 +69,15 @@ fn with_faults(
     }
 }
 
-#[test]
-fn faults_come_through(rt: HostRuntime) {
+pub fn faults_come_through(alloc: Global, told: &mut Told) {
     let mut end = Failing { faults: 0 };
-    match draws_of(rt.alloc(), b"dr") {
+    match draws_of(alloc, b"dr") {
         Ok(mut draws) => {
             for (row, step, want, faults, left) in ROWS {
-                let got = with_faults(rt.alloc(), &mut end, step, &mut draws, *faults, *left);
-                expect(&rt, got, *want, row);
+                let got = with_faults(alloc, &mut end, step, &mut draws, *faults, *left);
+                told.expect(got, *want, row);
             }
         }
-        Err(e) => expect(&rt, Err(e), Ok(true), "draws"),
+        Err(e) => told.expect(Err(e), Ok(true), "draws"),
     }
 }

@@ -2,21 +2,26 @@
 //! Tink.
 #![tactic(auto)]
 
-#[cfg(test)]
 mod binary_tests;
-#[cfg(test)]
 mod core_tests;
-#[cfg(test)]
 mod encrypted_tests;
-#[cfg(test)]
 mod ends;
-#[cfg(test)]
-mod expecting;
-#[cfg(test)]
 mod fault_tests;
-#[cfg(test)]
 mod json_tests;
-#[cfg(test)]
 mod plain_tests;
-#[cfg(test)]
 mod stored;
+
+use std::alloc::Global;
+use tink_testutil::Told;
+
+/// What all rows tell.
+pub fn rows(alloc: Global) -> Told {
+    let mut told = Told::new();
+    binary_tests::a_source_gives_its_keyset_and_no_more_than_67108864_bytes(alloc, &mut told);
+    fault_tests::faults_come_through(alloc, &mut told);
+    core_tests::calls_answer_as_the_rows_say(alloc, &mut told);
+    encrypted_tests::keysets_go_through_memory(alloc, &mut told);
+    stored::keysets_are_read_in_pieces_or_refused(alloc, &mut told);
+    stored::keysets_are_written_in_pieces_or_refused(alloc, &mut told);
+    told
+}

@@ -1,8 +1,8 @@
 //! The rows of keysets as they are, through memory.
 
 use crate::encrypted_tests::{How, Kept, PUBLIC, Row, Step, TWO};
-use crate::expecting::Answer;
 use tink_io::Kind;
+use tink_testutil::Answer;
 
 const NO_KEYSET: Answer = Err(Kind::NoKeyset);
 

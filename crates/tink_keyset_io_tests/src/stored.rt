@@ -1,14 +1,12 @@
 //! A keyset of one raw key for streams, its binary form, and how both kinds of ends are read and written.
 
-use crate::expecting::{Answer, expect, made};
 use crate::{binary_tests, json_tests};
 use std::alloc::Global;
-use std::process::Abort;
 use tink_io::{Kind, MemSink, MemSource, Source, TinkError};
 use tink_keyset_io::{BinaryReader, BinaryWriter, JsonReader, JsonWriter};
 use tink_keysets::keyset::{Reader, Writer};
 use tink_proto::{Bytes, EncryptedKeyset, Keyset, Message, OutputPrefixType};
-use tink_testutil::{enabled_key, keyset};
+use tink_testutil::{Answer, Told, enabled_key, keyset, made};
 
 /// The binary form.
 pub const KEYSET: &[u8] =
@@ -79,13 +77,13 @@ fn has_no_info(read: Result<EncryptedKeyset, TinkError>) -> Result<bool, TinkErr
     }
 }
 
-fn read<R: Reader>(rt: &impl Abort, alloc: Global, reader: &mut R, reading: &Reading) {
+fn read<R: Reader>(told: &mut Told, alloc: Global, reader: &mut R, reading: &Reading) {
     for (row, asked, want) in reading.rows {
         let got = match asked {
             Asked::Keyset(bytes) => is_keyset(alloc, reader.read(alloc), bytes),
             Asked::Encrypted => has_no_info(reader.read_encrypted(alloc)),
         };
-        expect(rt, got, *want, row);
+        told.expect(got, *want, row);
     }
 }
 
@@ -94,17 +92,17 @@ fn is_at_end(mut source: MemSource) -> bool {
 }
 
 // Whether the source is at its end after its rows.
-fn ends(rt: &impl Abort, alloc: Global, form: &Form, reading: &Reading) -> Result<bool, TinkError> {
+fn ends(told: &mut Told, alloc: Global, form: &Form, reading: &Reading) -> Result<bool, TinkError> {
     let source = source(alloc, reading)?;
     match form {
         Form::Binary => {
             let mut reader = BinaryReader::new(source);
-            read(rt, alloc, &mut reader, reading);
+            read(told, alloc, &mut reader, reading);
             Ok(is_at_end(reader.into_inner()))
         }
         Form::Json => {
             let mut reader = JsonReader::new(source);
-            read(rt, alloc, &mut reader, reading);
+            read(told, alloc, &mut reader, reading);
             Ok(is_at_end(reader.into_inner()))
         }
     }
@@ -115,12 +113,11 @@ const READINGS: &[(Form, &[Reading])] = &[
     (Form::Json, json_tests::READINGS),
 ];
 
-#[test]
-fn keysets_are_read_in_pieces_or_refused(rt: HostRuntime) {
+pub fn keysets_are_read_in_pieces_or_refused(alloc: Global, told: &mut Told) {
     for (form, readings) in READINGS {
         for reading in *readings {
-            let got = ends(&rt, rt.alloc(), form, reading);
-            expect(&rt, got, Ok(reading.ends), "the source");
+            let got = ends(told, alloc, form, reading);
+            told.expect(got, Ok(reading.ends), "the source");
         }
     }
 }
@@ -218,12 +215,11 @@ const WRITINGS: &[(Form, &[Writing])] = &[
     (Form::Json, json_tests::WRITINGS),
 ];
 
-#[test]
-fn keysets_are_written_in_pieces_or_refused(rt: HostRuntime) {
+pub fn keysets_are_written_in_pieces_or_refused(alloc: Global, told: &mut Told) {
     for (form, writings) in WRITINGS {
         for writing in *writings {
-            let got = is_written(rt.alloc(), form, writing);
-            expect(&rt, got, writing.want, writing.name);
+            let got = is_written(alloc, form, writing);
+            told.expect(got, writing.want, writing.name);
         }
     }
 }

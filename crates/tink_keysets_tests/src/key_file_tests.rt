@@ -2,12 +2,11 @@ ghost use Rattle.tink_io.specs.Told.{Answers};
 ghost use Rattle.tink_keyset_io.specs.Edited.{edited_file};
 ghost use Rattle.tink_keyset_io.specs.declared.key_files.editing.Edit.TheVariants.{Disable};
 
-use crate::expecting::{Answer, expect};
 use std::alloc::Global;
 use tink_io::{Kind, TinkError};
 use tink_keyset_io::key_files::{Edit, Format, edited_file, list, wire_bytes};
 use tink_proto::Bytes;
-use tink_testutil::gives;
+use tink_testutil::{Answer, Told, gives};
 
 // A public keyset of two keys in JSON, of which the second is disabled.
 const KEYS: &[u8] = b" {\"primaryKeyId\": 7, \"key\": [
@@ -138,14 +137,12 @@ const FILES: &[(&str, &[u8], Option<(Edit, u32)>, &[u8], Answer)] = &[
     ),
 ];
 
-#[test]
-fn files_of_keys_are_listed_and_edited(rt: HostRuntime) {
-    let alloc = rt.alloc();
+pub fn files_of_keys_are_listed_and_edited(alloc: Global, told: &mut Told) {
     for (row, file, edit, lines, want) in FILES {
         let got = match Vec::from_slice(alloc, file) {
             Ok(file) => answered(alloc, file, edit, lines),
             Err(_) => Err(TinkError::new(Kind::OutOfMemory)),
         };
-        expect(&rt, got, *want, row);
+        told.expect(got, *want, row);
     }
 }

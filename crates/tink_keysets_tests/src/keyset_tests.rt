@@ -3,9 +3,7 @@
 ghost use Rattle.keyset_model.specs.Edits as edits;
 ghost use Rattle.tink_keysets.specs.Told.{Edits};
 
-use crate::expecting::{Answer, expect, made};
 use std::alloc::Global;
-use std::process::Abort;
 use tink_io::{Draws, Kind, TinkError};
 use tink_keysets::keyset::insecure::{decode, keyset_material};
 use tink_keysets::keyset::{
@@ -15,7 +13,9 @@ use tink_keysets::keyset::{
 };
 use tink_proto::{Bytes, EncryptedKeyset, Key, KeyInfo, Keyset, KeysetInfo};
 use tink_subtle::random::{get_random_bytes, get_random_uint32};
-use tink_testutil::{URL, bare, bytes_of, draws_of, gives, handle_of, key, keyset, kind_of};
+use tink_testutil::{
+    Answer, Told, URL, bare, bytes_of, draws_of, gives, handle_of, key, keyset, kind_of, made,
+};
 
 const SYMMETRIC: i32 = 1;
 
@@ -142,11 +142,9 @@ const KEYSETS: &[(&str, Asked, u32, &[KeyRow], Answer)] = &[
     ("version 2", Asked::Version, 2, &[], Err(Kind::BadVersion)),
 ];
 
-#[test]
-fn keysets_are_held_or_refused(rt: HostRuntime) {
-    let alloc = rt.alloc();
+pub fn keysets_are_held_or_refused(alloc: Global, told: &mut Told) {
     for (row, asked, primary, keys, want) in KEYSETS {
-        expect(&rt, answered(alloc, asked, *primary, keys), *want, row);
+        told.expect(answered(alloc, asked, *primary, keys), *want, row);
     }
 }
 
@@ -214,12 +212,10 @@ fn two_keys_tell(alloc: Global) -> Result<bool, TinkError> {
     }
 }
 
-#[test]
-fn a_handle_tells_no_key_material(rt: HostRuntime) {
-    let alloc = rt.alloc();
-    expect(&rt, two_keys_tell(alloc), Ok(true), "text, bytes and info");
+pub fn a_handle_tells_no_key_material(alloc: Global, told: &mut Told) {
+    told.expect(two_keys_tell(alloc), Ok(true), "text, bytes and info");
     let cut = made(decode(alloc, b"\x08"));
-    expect(&rt, cut, Err(Kind::BadKeyset), "no keyset");
+    told.expect(cut, Err(Kind::BadKeyset), "no keyset");
 }
 
 // ---- the commands of a manager
@@ -371,27 +367,24 @@ const MANAGERS: &[(i32, &[Row])] = &[
     ),
 ];
 
-fn walk(rt: &impl Abort, alloc: Global, status: i32, rows: &[Row]) -> Result<(), TinkError> {
+fn walk(told: &mut Told, alloc: Global, status: i32, rows: &[Row]) -> Result<(), TinkError> {
     let mut manager = manager_of(alloc, status)?;
     for (row, step, want) in rows {
-        expect(rt, does(alloc, &mut manager, step), *want, row);
+        told.expect(does(alloc, &mut manager, step), *want, row);
     }
     Ok(())
 }
 
-#[test]
-fn a_manager_edits_its_keys(rt: HostRuntime) {
-    let alloc = rt.alloc();
+pub fn a_manager_edits_its_keys(alloc: Global, told: &mut Told) {
     for (status, rows) in MANAGERS {
-        let walked = made(walk(&rt, alloc, *status, rows));
-        expect(&rt, walked, Ok(true), "a manager");
+        let walked = made(walk(told, alloc, *status, rows));
+        told.expect(walked, Ok(true), "a manager");
     }
     let is_empty = Manager::new(alloc).key_count() == 0;
-    expect(&rt, Ok(is_empty), Ok(true), "a new one has no keys");
+    told.expect(Ok(is_empty), Ok(true), "a new one has no keys");
 }
 
-#[test]
-fn laws_can_be_called(_rt: HostRuntime) {
+pub fn laws_can_be_called() {
     law_fresh_id();
     law_no_fresh_id();
     law_keys_stay();
@@ -447,10 +440,8 @@ fn holds(alloc: Global, memory: &mut MemReaderWriter) -> Result<bool, TinkError>
     Ok(empty && encrypted && passes_two_keys(alloc, memory)?)
 }
 
-#[test]
-fn random_bytes_and_memory(rt: HostRuntime) {
-    let alloc = rt.alloc();
-    expect(&rt, seven_are_drawn(alloc), Ok(true), "the next draws");
+pub fn random_bytes_and_memory(alloc: Global, told: &mut Told) {
+    told.expect(seven_are_drawn(alloc), Ok(true), "the next draws");
     let held = holds(alloc, &mut MemReaderWriter::default());
-    expect(&rt, held, Ok(true), "what was written and encrypted");
+    told.expect(held, Ok(true), "what was written and encrypted");
 }

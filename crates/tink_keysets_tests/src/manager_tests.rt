@@ -1,15 +1,15 @@
 //! Adding keys, and public parts, over a registry of test keys.
 
-use crate::expecting::{Answer, expect, made};
 use crate::keyset_tests::managed;
 use std::alloc::Global;
-use std::process::Abort;
 use tink_io::{Draws, Kind, TinkError};
 use tink_keysets::keyset::insecure::keyset_material;
 use tink_keysets::keyset::{Handle, Manager, law_managers_give_held};
 use tink_proto::{Key, Keyset, KeysetInfo};
 use tink_registry::Registry;
-use tink_testutil::{TestManager, URL, bare, handle_of, key, registry_of, template};
+use tink_testutil::{
+    Answer, TestManager, Told, URL, bare, handle_of, key, made, registry_of, template,
+};
 
 // A registry without managers, or with one of symmetric or of private keys.
 enum Managed {
@@ -244,7 +244,7 @@ const OF_NEW: &[Row] = &[
 ];
 
 fn walk(
-    rt: &impl Abort,
+    told: &mut Told,
     alloc: Global,
     registry: &Registry<TestManager>,
     manager: &mut Manager,
@@ -253,31 +253,37 @@ fn walk(
     let mut draws = draws_with(alloc, &[0; 512])?;
     for (row, step, want) in rows {
         let got = does(alloc, manager, registry, step, &mut draws);
-        expect(rt, got, *want, row);
+        told.expect(got, *want, row);
     }
     Ok(())
 }
 
 fn walk_with(
-    rt: &impl Abort,
+    told: &mut Told,
     alloc: Global,
     registry: &Registry<TestManager>,
     manager: Result<Manager, TinkError>,
     rows: &[Row],
 ) -> Result<(), TinkError> {
     match manager {
-        Ok(mut manager) => walk(rt, alloc, registry, &mut manager, rows),
+        Ok(mut manager) => walk(told, alloc, registry, &mut manager, rows),
         Err(e) => Err(e),
     }
 }
 
 fn walk_all(
-    rt: &impl Abort,
+    told: &mut Told,
     alloc: Global,
     registry: &Registry<TestManager>,
 ) -> Result<(), TinkError> {
-    walk_with(rt, alloc, registry, manager_of_one(alloc), OF_ONE)?;
-    walk_with(rt, alloc, registry, manager_of_new(alloc, registry), OF_NEW)
+    walk_with(told, alloc, registry, manager_of_one(alloc), OF_ONE)?;
+    walk_with(
+        told,
+        alloc,
+        registry,
+        manager_of_new(alloc, registry),
+        OF_NEW,
+    )
 }
 
 // Whether a RAW key of the id is added.
@@ -326,14 +332,12 @@ fn are_added_or_left(
     Ok(holds && 4 <= count)
 }
 
-#[test]
-fn a_manager_adds_keys(rt: HostRuntime) {
-    let alloc = rt.alloc();
+pub fn a_manager_adds_keys(alloc: Global, told: &mut Told) {
     let walked = match registry_with(alloc, &Managed::Symmetric) {
-        Ok(registry) => walk_all(&rt, alloc, &registry),
+        Ok(registry) => walk_all(told, alloc, &registry),
         Err(e) => Err(e),
     };
-    expect(&rt, made(walked), Ok(true), "a registry and managers");
+    told.expect(made(walked), Ok(true), "a registry and managers");
 }
 
 // What is so of a manager of one key and a registry of symmetric keys.
@@ -348,10 +352,9 @@ fn four_are_added_or_left(alloc: Global) -> Result<bool, TinkError> {
 }
 
 /// A call that is refused for `OutOfMemory` leaves the keys and the primary id, and one that isn't adds a key.
-#[test]
-fn a_key_is_added_or_the_keyset_is_left(rt: HostRuntime) {
-    let told = four_are_added_or_left(rt.alloc());
-    expect(&rt, told, Ok(true), "the keys and the ids");
+pub fn a_key_is_added_or_the_keyset_is_left(alloc: Global, told: &mut Told) {
+    let got = four_are_added_or_left(alloc);
+    told.expect(got, Ok(true), "the keys and the ids");
 }
 
 // ---- public parts
@@ -426,9 +429,8 @@ const PUBLIC_PARTS: &[(&str, Managed, i32, Answer)] = &[
     ),
 ];
 
-#[test]
-fn public_parts_are_of_private_keys(rt: HostRuntime) {
+pub fn public_parts_are_of_private_keys(alloc: Global, told: &mut Told) {
     for (row, managed, material, want) in PUBLIC_PARTS {
-        expect(&rt, answered(rt.alloc(), managed, *material), *want, row);
+        told.expect(answered(alloc, managed, *material), *want, row);
     }
 }

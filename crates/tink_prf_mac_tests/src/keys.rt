@@ -1,6 +1,5 @@
 //! Keys of pseudorandom functions and of MACs: what builds, and what is made.
 
-use crate::expecting::{Answer, expect, made};
 use crate::mac::vectors::is_tag_of;
 use crate::prf::vectors::computed;
 use crate::registering::template_of;
@@ -10,7 +9,7 @@ use tink_core::{Draws, Kind, TinkError};
 use tink_mac::{AesCmacKeyManager, HmacKeyManager, MacKind};
 use tink_prf::{AesCmacPrfKeyManager, HkdfPrfKeyManager, HmacPrfKeyManager, PrfKind};
 use tink_proto::{Bytes, KeyTemplate};
-use tink_testutil::{draws_of, gives};
+use tink_testutil::{Answer, Told, draws_of, gives, made};
 
 // What is asked of a manager.
 enum Asked {
@@ -563,12 +562,10 @@ const NEW_KEYS: &[Row] = &[
 
 const TABLES: &[&[Row]] = &[HMAC_PRF, HKDF_PRF, AES_CMAC_PRF, HMAC, AES_CMAC, NEW_KEYS];
 
-#[test]
-fn keys_and_formats_by_their_messages(rt: HostRuntime) {
-    let alloc = rt.alloc();
+pub fn keys_and_formats_by_their_messages(alloc: Global, told: &mut Told) {
     for rows in TABLES {
         for (row, manager, asked, want) in *rows {
-            expect(&rt, answered(alloc, manager, asked), *want, row);
+            told.expect(answered(alloc, manager, asked), *want, row);
         }
     }
 }

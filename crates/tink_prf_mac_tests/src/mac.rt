@@ -1,4 +1,4 @@
 //! MACs.
 
 pub mod vectors;
-mod wrapped;
+pub mod wrapped;

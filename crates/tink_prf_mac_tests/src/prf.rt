@@ -1,5 +1,5 @@
 //! Pseudorandom functions.
 
-mod sets;
+pub mod sets;
 mod test_keys;
 pub mod vectors;

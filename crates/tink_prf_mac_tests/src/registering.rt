@@ -1,8 +1,6 @@
 //! Templates, their registration and that of the managers, and constants.
 
-use crate::expecting::{Answer, expect, made};
 use std::alloc::Global;
-use std::process::Abort;
 use tink_core::registry::Registry;
 use tink_core::{Kind, TinkError};
 use tink_mac::{
@@ -16,7 +14,7 @@ use tink_prf::{
     hkdf_sha256_prf_key_template, hmac_sha256_prf_key_template, hmac_sha512_prf_key_template,
 };
 use tink_proto::{KeyTemplate, Text};
-use tink_testutil::Named;
+use tink_testutil::{Answer, Named, Told, made};
 
 // A template's name, its URL, its format and its number of a prefix type.
 type Template = (&'static str, &'static str, &'static [u8], i32);
@@ -326,15 +324,14 @@ const CONSTANTS: &[Row] = &[
 // The tables are of a new registry each.
 const TABLES: &[&[Row]] = &[CONSTANTS, MACS, PRFS, MACS_BESIDE, PRFS_BESIDE];
 
-fn walk(rt: &impl Abort, alloc: Global, registry: &mut Registry<Named<MacKinds>>, rows: &[Row]) {
+fn walk(told: &mut Told, alloc: Global, registry: &mut Registry<Named<MacKinds>>, rows: &[Row]) {
     for (row, step, want) in rows {
-        expect(rt, answered(alloc, registry, step), *want, row);
+        told.expect(answered(alloc, registry, step), *want, row);
     }
 }
 
-#[test]
-fn templates_and_managers_are_registered_once(rt: HostRuntime) {
+pub fn templates_and_managers_are_registered_once(alloc: Global, told: &mut Told) {
     for rows in TABLES {
-        walk(&rt, rt.alloc(), &mut Registry::new(rt.alloc()), rows);
+        walk(told, alloc, &mut Registry::new(alloc), rows);
     }
 }

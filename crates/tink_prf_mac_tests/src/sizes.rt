@@ -1,6 +1,5 @@
 //! The sizes of keys, of tags and of outputs.
 
-use crate::expecting::{Answer, expect, made};
 use crate::mac::vectors as macs;
 use crate::prf::vectors as prfs;
 use std::alloc::Global;
@@ -10,6 +9,7 @@ use tink_prf::subtle::{
     validate_aes_cmac_prf_params, validate_hkdf_prf_params, validate_hmac_prf_params,
 };
 use tink_proto::{Bytes, HashType};
+use tink_testutil::{Answer, Told, made};
 
 // What is asked, of a key's size and the size of tags or outputs.
 enum Asked {
@@ -387,16 +387,14 @@ const SIZES: &[(&str, Asked, usize, usize, Answer)] = &[
 ];
 
 /// Each row, and that AES-CMAC takes keys of 0 to 40 bytes exactly where they are keys of AES.
-#[test]
-fn sizes_are_taken_or_refused(rt: HostRuntime) {
-    let alloc = rt.alloc();
+pub fn sizes_are_taken_or_refused(alloc: Global, told: &mut Told) {
     for (row, asked, key_size, size, want) in SIZES {
-        expect(&rt, answer(alloc, asked, *key_size, *size), *want, row);
+        told.expect(answer(alloc, asked, *key_size, *size), *want, row);
     }
     for size in 0..41usize {
         let is_known = size == 16 || size == 24 || size == 32;
         let want = if is_known { Ok(true) } else { BAD_KEY };
         let got = answer(alloc, &Asked::Prf(prfs::Of::AesCmac), size, 16);
-        expect(&rt, got, want, "a key of the AES-CMAC PRF");
+        told.expect(got, want, "a key of the AES-CMAC PRF");
     }
 }

@@ -1,4 +1,4 @@
-//! The driver of the rows, and the one test.
+//! The driver of the rows.
 //!
 //! A row is `PHRASE | WORDS | INPUT | STATUS | OUTPUT | SETTINGS`: what the program is to do with words and an input, and
 //! which status it is to answer and what to write. It is run for each number of a range `a..b` in its phrase, which
@@ -7,11 +7,11 @@
 
 use crate::bytes::{Named, number, of_digits, put_bytes, put_words};
 use crate::calls::{Ends, call, ends_of, make_room, number_of, setting};
-use crate::tables::TABLES;
+use crate::tables::table;
 use crate::wanted::{is_told, is_written};
 use std::alloc::{AllocError, Global};
-use std::process::Abort;
 use tink_io::TinkError;
+use tink_testutil::Answer;
 
 // The URL of the keys of streams in counter mode, as a keyset has it; `*` stands for it.
 const URL: &str =
@@ -135,33 +135,88 @@ fn holds_at(
     holds(alloc, kept, text.as_str())
 }
 
-// Tries a row in a way at each number of its ranges. It is the one place that asserts.
-fn try_row(rt: &impl Abort, alloc: Global, kept: &mut Vec<Named>, way: &str, row: &str) {
+/// A row that does not hold in a way at two numbers, and what it answers.
+#[derive(Clone, Copy, Debug, PartialEq)]
+pub struct Failure {
+    pub way: &'static str,
+    pub row: &'static str,
+    pub numbers: (usize, usize),
+    pub got: Answer,
+}
+
+// Tries a row in a way at each number of its ranges, up to where it fails.
+fn try_row(
+    alloc: Global,
+    kept: &mut Vec<Named>,
+    way: &'static str,
+    row: &'static str,
+) -> Option<Failure> {
     let (from, to) = range(part(row, 0), 0);
     let (low, high) = range(part(row, 0), 1);
     for n in from..=to {
         for m in low..=high {
-            let answer = holds_at(alloc, kept, (way, row), (n, m));
-            assert!(rt; answer == Ok(true), "{way}{row}, at {n} and {m}");
+            let got = match holds_at(alloc, kept, (way, row), (n, m)) {
+                Ok(holds) => Ok(holds),
+                Err(e) => Err(e.kind),
+            };
+            if got != Ok(true) {
+                let numbers = (n, m);
+                return Some(Failure {
+                    way,
+                    row,
+                    numbers,
+                    got,
+                });
+            }
         }
     }
+    None
 }
 
-fn try_rows(rt: &impl Abort, alloc: Global, kept: &mut Vec<Named>, way: &str, rows: &str) {
+fn try_rows(
+    alloc: Global,
+    kept: &mut Vec<Named>,
+    way: &'static str,
+    rows: &'static str,
+) -> Option<Failure> {
     for row in rows.split('\n') {
         if !row.is_empty() {
-            try_row(rt, alloc, kept, way, row);
+            let failed = try_row(alloc, kept, way, row);
+            if failed.is_some() {
+                return failed;
+            }
         }
     }
+    None
 }
 
-#[test]
-fn rows_hold(rt: HostRuntime) {
-    let alloc = rt.alloc();
-    let mut kept = Vec::new(alloc);
-    for (ways, rows) in TABLES {
-        for way in ways.split(';') {
-            try_rows(&rt, alloc, &mut kept, way, rows);
+// Tries a table in each of its ways.
+fn try_table(
+    alloc: Global,
+    kept: &mut Vec<Named>,
+    ways: &'static str,
+    rows: &'static str,
+) -> Option<Failure> {
+    for way in ways.split(';') {
+        let failed = try_rows(alloc, kept, way, rows);
+        if failed.is_some() {
+            return failed;
         }
     }
+    None
+}
+
+/// The first row that does not hold.
+pub fn rows(alloc: Global) -> Option<Failure> {
+    let mut kept = Vec::new(alloc);
+    for number in 0..100usize {
+        let Some((ways, rows)) = table(number) else {
+            return None;
+        };
+        let failed = try_table(alloc, &mut kept, ways, rows);
+        if failed.is_some() {
+            return failed;
+        }
+    }
+    None
 }

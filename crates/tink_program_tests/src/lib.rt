@@ -2,15 +2,11 @@
 //! runs them over sources and sinks in memory.
 #![tactic(auto)]
 
-#[cfg(test)]
+pub use driver::{Failure, rows};
+
 mod bytes;
-#[cfg(test)]
 mod callers;
-#[cfg(test)]
 mod calls;
-#[cfg(test)]
 mod driver;
-#[cfg(test)]
 mod tables;
-#[cfg(test)]
 mod wanted;

@@ -28,33 +28,37 @@ const DRAWN: &str = "draws=1024 ";
 // By a seal, and by `load`.
 const LOADS: &str = ";load=1 ";
 
-/// The tables, of a row a line, each with the ways in which it is run: settings that stand before each row, with
-/// semicolons between the ways.
-pub const TABLES: [(&str, &str); 26] = [
-    (PLAIN, names::NAMES),
-    (PLAIN, streams::KNOWN),
-    (PLAIN, streams::ROUNDS),
-    (PLAIN, streams::FRONTS),
-    (PLAIN, streams::TEMPLATES),
-    (PIECES, streams::PIECES),
-    (PLAIN, damaged::LARGE),
-    (BOTH, damaged::SMALL),
-    (PLAIN, faults::CALLS),
-    (PIECES_IN_ROOMS, faults::ROOMS),
-    (PLAIN, commands::KEYSETS),
-    (PLAIN, commands::WORDS),
-    (LOADS, keysets::REFUSED),
-    (PLAIN, keysets::LOADED),
-    (PLAIN, runs::REPORTS),
-    (PLAIN, rewraps::REWRAPS),
-    (DRAWN, rewraps::SEALED),
-    (PLAIN, rewraps::DRAWS),
-    (DRAWN, rewraps::MOVED),
-    (DRAWN, rewraps::STOPPED),
-    (PLAIN, ranges::RANGES),
-    (PLAIN, tokens::KNOWN),
-    (PLAIN, tokens::REFUSED),
-    (PLAIN, tokens::PAYLOADS),
-    (PLAIN, tokens::CALLS),
-    (PLAIN, tokens::CHANGED),
-];
+/// The table of that number, of a row a line, and the ways in which it is run: settings that stand before each row, with
+/// semicolons between the ways. Behind the last table there is none.
+pub fn table(number: usize) -> Option<(&'static str, &'static str)> {
+    let table = match number {
+        0 => (PLAIN, names::NAMES),
+        1 => (PLAIN, streams::KNOWN),
+        2 => (PLAIN, streams::ROUNDS),
+        3 => (PLAIN, streams::FRONTS),
+        4 => (PLAIN, streams::TEMPLATES),
+        5 => (PIECES, streams::PIECES),
+        6 => (PLAIN, damaged::LARGE),
+        7 => (BOTH, damaged::SMALL),
+        8 => (PLAIN, faults::CALLS),
+        9 => (PIECES_IN_ROOMS, faults::ROOMS),
+        10 => (PLAIN, commands::KEYSETS),
+        11 => (PLAIN, commands::WORDS),
+        12 => (LOADS, keysets::REFUSED),
+        13 => (PLAIN, keysets::LOADED),
+        14 => (PLAIN, runs::REPORTS),
+        15 => (PLAIN, rewraps::REWRAPS),
+        16 => (DRAWN, rewraps::SEALED),
+        17 => (PLAIN, rewraps::DRAWS),
+        18 => (DRAWN, rewraps::MOVED),
+        19 => (DRAWN, rewraps::STOPPED),
+        20 => (PLAIN, ranges::RANGES),
+        21 => (PLAIN, tokens::KNOWN),
+        22 => (PLAIN, tokens::REFUSED),
+        23 => (PLAIN, tokens::PAYLOADS),
+        24 => (PLAIN, tokens::CALLS),
+        25 => (PLAIN, tokens::CHANGED),
+        _ => return None,
+    };
+    Some(table)
+}

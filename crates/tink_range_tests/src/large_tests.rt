@@ -1,11 +1,10 @@
 //! Large texts by their numbers. The bytes of the text and the segments are counted by the opening.
 
-use crate::expecting::expect;
 use crate::large_callers::segments_of;
 use std::alloc::Global;
 use tink_io::{Draws, Kind, TinkError};
 use tink_large::{Measured, lines, measure};
-use tink_testutil::{draws_of, kind_of};
+use tink_testutil::{Told, draws_of, kind_of};
 
 // What is asked of the large text of a number.
 enum Asked {
@@ -137,9 +136,8 @@ const ROWS: &[(&str, u32, &[u8], Asked)] = &[
     ),
 ];
 
-#[test]
-fn texts_are_measured(rt: HostRuntime) {
+pub fn texts_are_measured(alloc: Global, told: &mut Told) {
     for (row, n, draws, asked) in ROWS {
-        expect(&rt, holds(rt.alloc(), *n, draws, asked), row);
+        told.expect(holds(alloc, *n, draws, asked), Ok(true), row);
     }
 }

@@ -2,15 +2,19 @@
 //! of large texts, against numbers and digests that Python made.
 #![tactic(auto)]
 
-#[cfg(test)]
 mod callers;
-#[cfg(test)]
-mod expecting;
-#[cfg(test)]
 mod large_callers;
-#[cfg(test)]
 mod large_tests;
-#[cfg(test)]
 mod range_tests;
-#[cfg(test)]
 mod support;
+
+use std::alloc::Global;
+use tink_testutil::Told;
+
+/// What all rows tell.
+pub fn rows(alloc: Global) -> Told {
+    let mut told = Told::new();
+    large_tests::texts_are_measured(alloc, &mut told);
+    range_tests::a_range_is_a_slice_or_refused(alloc, &mut told);
+    told
+}

@@ -2,7 +2,6 @@
 
 ghost use Rattle.std.specs.Prelude.{◌≡◌, ◌<◌};
 
-use crate::expecting::expect;
 use crate::support::{Keys, Object, aeads_of, object_of, sink_of, text_of};
 use std::alloc::Global;
 use std::marker::Brand;
@@ -10,7 +9,7 @@ use std::sync::ledger::{Blank, Ledger};
 use tink_io::{Kind, TinkError};
 use tink_range::{MemAt, RangeReader, Steps};
 use tink_streaming_aead::WrappedStreamingAead;
-use tink_testutil::kind_of;
+use tink_testutil::{Told, kind_of};
 
 // The first byte that is given, how many are, and by what the range is refused.
 type Given = (Option<u8>, usize, Option<Kind>);
@@ -297,11 +296,10 @@ const FAILING: &[Row] = &[
 
 const TABLES: &[&[Row]] = &[EACH, OF_LARGE, FAILING];
 
-#[test]
-fn a_range_is_a_slice_or_refused(rt: HostRuntime) {
+pub fn a_range_is_a_slice_or_refused(alloc: Global, told: &mut Told) {
     for rows in TABLES {
         for (row, keys, count, object, asked) in *rows {
-            expect(&rt, holds(rt.alloc(), keys, *count, object, asked), row);
+            told.expect(holds(alloc, keys, *count, object, asked), Ok(true), row);
         }
     }
 }

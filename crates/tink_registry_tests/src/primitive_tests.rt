@@ -4,7 +4,6 @@ ghost use Rattle.std.specs.Prelude.{◌≡◌, [], Ok};
 ghost use Rattle.tink_io.specs.Told.{Replies};
 ghost use Rattle.tink_primitives.specs.Sorts.{as_aead};
 
-use crate::expecting::{Answer, expect, made};
 use crate::plain::{Plain, Plains};
 use std::alloc::Global;
 use tink_io::{Draws, Kind, TinkError};
@@ -14,7 +13,7 @@ use tink_sets::sorts::{
     Aeads, DeterministicAeads, HybridDecrypters, HybridEncrypters, Macs, Prfs, Signers, Sort,
     StreamingAeads, Verifiers,
 };
-use tink_testutil::gives;
+use tink_testutil::{Answer, Told, gives, made};
 
 /// Encrypts where the primitive is an AEAD.
 fn encrypt_by<K: Kinds>(
@@ -169,12 +168,10 @@ const CONVERSIONS: &[(&str, Name, Name, Answer)] = &[
 ];
 
 /// A primitive and its copy are handed out as their sort, and refused as another.
-#[test]
-fn a_primitive_is_handed_out_as_its_sort(rt: HostRuntime) {
-    let alloc = rt.alloc();
+pub fn a_primitive_is_handed_out_as_its_sort(alloc: Global, told: &mut Told) {
     for (row, of, sort, want) in CONVERSIONS {
         let copied = copy_picked(alloc, &primitive(of), sort);
-        expect(&rt, copied, *want, row);
-        expect(&rt, picked(alloc, primitive(of), sort), *want, row);
+        told.expect(copied, *want, row);
+        told.expect(picked(alloc, primitive(of), sort), *want, row);
     }
 }

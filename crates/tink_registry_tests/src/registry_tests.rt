@@ -4,14 +4,14 @@ ghost use Rattle.std.specs.Prelude.{◌≡◌, Some};
 ghost use Rattle.tink_io.specs.Told.{Answers};
 ghost use Rattle.tink_registry.specs.Listed.{manager_of};
 
-use crate::expecting::{Answer, expect, made};
 use std::alloc::Global;
-use std::process::Abort;
 use tink_io::{Draws, Kind, TinkError};
 use tink_primitives::{Aead, Primitive};
 use tink_proto::{Bytes, KeyData, KeyMaterialType, KeyTemplate, Text};
 use tink_registry::{KeyManager, Registry};
-use tink_testutil::{TestAead, TestKinds, TestManager, URL, draws_of, gives, template};
+use tink_testutil::{
+    Answer, TestAead, TestKinds, TestManager, Told, URL, draws_of, gives, made, template,
+};
 
 /// What a manager that a registry finds builds of a key.
 fn built_by<M: KeyManager>(
@@ -389,22 +389,20 @@ const STEPS: &[(&str, Step, Answer)] = &[
 // The draws of STEPS.
 const DRAWS: &[u8] = b"0123456789abcdefd77777777777777777777777777777777777777777777777";
 
-fn walk(rt: &impl Abort, alloc: Global, registry: &mut Registry<TestManager>, draws: &mut Draws) {
+fn walk(told: &mut Told, alloc: Global, registry: &mut Registry<TestManager>, draws: &mut Draws) {
     for (row, step, want) in STEPS {
         let got = match step {
             Step::Register(added) => made(register(alloc, registry, added)),
             _ => held(alloc, registry, step, draws),
         };
-        expect(rt, got, *want, row);
+        told.expect(got, *want, row);
     }
 }
 
-#[test]
-fn a_registry_goes_by_its_steps(rt: HostRuntime) {
-    let alloc = rt.alloc();
+pub fn a_registry_goes_by_its_steps(alloc: Global, told: &mut Told) {
     match draws_of(alloc, DRAWS) {
-        Ok(mut draws) => walk(&rt, alloc, &mut Registry::new(alloc), &mut draws),
-        Err(e) => expect(&rt, Err(e), Ok(true), "the draws"),
+        Ok(mut draws) => walk(told, alloc, &mut Registry::new(alloc), &mut draws),
+        Err(e) => told.expect(Err(e), Ok(true), "the draws"),
     }
 }
 
@@ -443,8 +441,7 @@ fn is_whole_or_nothing(alloc: Global, registry: &mut Registry<TestManager>) -> b
 }
 
 /// A call that is refused for `OutOfMemory` registers nothing, and one that isn't registers all.
-#[test]
-fn a_registration_is_whole_or_nothing(rt: HostRuntime) {
-    let holds = is_whole_or_nothing(rt.alloc(), &mut Registry::new(rt.alloc()));
-    expect(&rt, Ok(holds), Ok(true), "what was registered");
+pub fn a_registration_is_whole_or_nothing(alloc: Global, told: &mut Told) {
+    let holds = is_whole_or_nothing(alloc, &mut Registry::new(alloc));
+    told.expect(Ok(holds), Ok(true), "what was registered");
 }

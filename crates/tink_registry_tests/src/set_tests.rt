@@ -4,10 +4,8 @@ ghost use Rattle.std.specs.Prelude.{◌≡◌, ◌∷◌, [], IfOk, OnOk, OnErr}
 ghost use Rattle.tink_sets.specs.Groups.{AddsLast, AreGroupsOf, HaveSameGroups};
 ghost use Rattle.tink_sets.specs.Entries.{entry_of, prefix_of};
 
-use crate::expecting::{Answer, expect, made};
 use std::alloc::Global;
 use std::collections::BTreeMap;
-use std::process::Abort;
 use tink_io::{Kind, TinkError};
 use tink_primitives::{KeyId, Kinds, Primitive};
 use tink_proto::{Bytes, Key, KeyStatusType, OutputPrefixType};
@@ -16,7 +14,7 @@ use tink_sets::cryptofmt::{
     TINK_PREFIX_SIZE, TINK_START_BYTE, output_prefix,
 };
 use tink_sets::{Entry, PrimitiveSet, TypedPrimitiveSet};
-use tink_testutil::{TestAead, TestKinds, gives};
+use tink_testutil::{Answer, TestAead, TestKinds, Told, gives, made};
 
 // An AEAD that is known by the one byte of its key.
 fn numbered(alloc: Global, number: u8) -> Result<TestAead, TinkError> {
@@ -279,15 +277,14 @@ const STEPS: &[(&str, Step, Answer)] = &[
     ),
 ];
 
-fn walk(rt: &impl Abort, alloc: Global, set: &mut PrimitiveSet<TestKinds>) {
+fn walk(told: &mut Told, alloc: Global, set: &mut PrimitiveSet<TestKinds>) {
     for (row, step, want) in STEPS {
-        expect(rt, answered(alloc, set, step), *want, row);
+        told.expect(answered(alloc, set, step), *want, row);
     }
 }
 
-#[test]
-fn a_set_goes_by_its_steps(rt: HostRuntime) {
-    walk(&rt, rt.alloc(), &mut PrimitiveSet::new(rt.alloc()));
+pub fn a_set_goes_by_its_steps(alloc: Global, told: &mut Told) {
+    walk(told, alloc, &mut PrimitiveSet::new(alloc));
 }
 
 // Whether there are so many RAW entries and so many TINK ones.
@@ -311,11 +308,9 @@ fn adds_or_leaves(alloc: Global, set: &mut PrimitiveSet<TestKinds>) -> bool {
 }
 
 /// A call that is refused for `OutOfMemory` adds nothing, and one that isn't adds one entry.
-#[test]
-fn an_entry_is_added_or_the_set_is_left(rt: HostRuntime) {
-    let alloc = rt.alloc();
+pub fn an_entry_is_added_or_the_set_is_left(alloc: Global, told: &mut Told) {
     let holds = adds_or_leaves(alloc, &mut PrimitiveSet::new(alloc));
-    expect(&rt, Ok(holds), Ok(true), "the entries");
+    told.expect(Ok(holds), Ok(true), "the entries");
 }
 
 // ---- sets of one sort
@@ -482,9 +477,8 @@ const SORTS: &[(&str, Held, Sorted, Answer)] = &[
     ),
 ];
 
-#[test]
-fn a_set_is_of_one_sort(rt: HostRuntime) {
+pub fn a_set_is_of_one_sort(alloc: Global, told: &mut Told) {
     for (row, held, sort, want) in SORTS {
-        expect(&rt, held_is_of(rt.alloc(), held, sort), *want, row);
+        told.expect(held_is_of(alloc, held, sort), *want, row);
     }
 }

@@ -3,10 +3,10 @@
 ghost use Rattle.std.specs.Prelude.{[]};
 ghost use Rattle.std.proofs.Common.{refl};
 
-use crate::expecting::{Answer, expect};
 use std::alloc::Global;
 use tink_io::{Draws, Kind, Sink, Source, SureSink, SureSource, TinkError};
 use tink_primitives::{DecryptingRead, EncryptingWrite, Refused, StreamingAead};
+use tink_testutil::{Answer, Told};
 
 /// Copies streams without associated data.
 struct Copying;
@@ -174,15 +174,8 @@ const ROWS: &[(&str, &[u8], &[u8], &[u8], Answer)] = &[
     ("a writer with data", b"x", b"", b"", DATA),
 ];
 
-#[test]
-fn a_stream_is_written_and_read(rt: HostRuntime) {
-    let alloc = rt.alloc();
+pub fn a_stream_is_written_and_read(alloc: Global, told: &mut Told) {
     for (row, one, other, read, want) in ROWS {
-        expect(
-            &rt,
-            read_of(alloc, written(alloc, one), other, read),
-            *want,
-            row,
-        );
+        told.expect(read_of(alloc, written(alloc, one), other, read), *want, row);
     }
 }

@@ -3,21 +3,23 @@
 //! against bytes that were spelled by hand.
 #![tactic(auto)]
 
-#[cfg(test)]
 mod asked;
-#[cfg(test)]
 mod callers;
-#[cfg(test)]
-mod comparing;
-#[cfg(test)]
 mod keysets;
-#[cfg(test)]
 mod manager_tests;
-#[cfg(test)]
 mod one_of;
-#[cfg(test)]
 mod streams;
-#[cfg(test)]
 mod template_tests;
-#[cfg(test)]
 mod tests;
+
+use std::alloc::Global;
+use tink_testutil::Told;
+
+/// What all rows tell.
+pub fn rows(alloc: Global) -> Told {
+    let mut told = Told::new();
+    manager_tests::keys_build_and_are_made(alloc, &mut told);
+    template_tests::templates_and_managers_are_registered(alloc, &mut told);
+    tests::rows_hold(alloc, &mut told);
+    told
+}

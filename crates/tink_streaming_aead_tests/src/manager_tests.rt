@@ -1,6 +1,5 @@
 //! Which keys of streams build, and of which formats keys are made.
 
-use crate::comparing::expect;
 use std::alloc::Global;
 use tink_core::registry::KeyManager;
 use tink_io::{Kind, TinkError};
@@ -10,7 +9,7 @@ use tink_streaming_aead::subtle::AesGcmHkdf;
 use tink_streaming_aead::{
     AesCtrHmacKeyManager, AesGcmHkdfKeyManager, DerivesStreams, StreamKind, StreamKinds,
 };
-use tink_testutil::draws_of;
+use tink_testutil::{Told, draws_of};
 
 // A key in counter mode of the bytes 0 to 15, from which AES keys of 16 are derived, with SHA-256
 // twice, tags of 32 bytes and segments of 4,096.
@@ -531,9 +530,8 @@ const ROWS: &[(&str, Asked, Result<bool, Kind>)] = &[
     ),
 ];
 
-#[test]
-fn keys_build_and_are_made(rt: HostRuntime) {
+pub fn keys_build_and_are_made(alloc: Global, told: &mut Told) {
     for (row, asked, want) in ROWS {
-        expect(&rt, answered(rt.alloc(), *asked), *want, row);
+        told.expect(answered(alloc, *asked), *want, row);
     }
 }

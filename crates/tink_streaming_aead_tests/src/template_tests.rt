@@ -1,6 +1,5 @@
 //! The templates and managers of keys of streams.
 
-use crate::comparing::expect;
 use crate::manager_tests::is_built;
 use std::alloc::Global;
 use tink_core::registry::{KeyManager, Registry};
@@ -14,7 +13,7 @@ use tink_streaming_aead::{
     aes256_ctr_hmac_sha256_segment_4kb_key_template, aes256_gcm_hkdf_1mb_key_template,
     aes256_gcm_hkdf_4kb_key_template, init,
 };
-use tink_testutil::{Named, draws_of, kind_of};
+use tink_testutil::{Named, Told, draws_of, kind_of};
 
 // A template.
 #[derive(Clone, Copy)]
@@ -283,9 +282,8 @@ const ROWS: &[(&str, Asked, Result<bool, Kind>)] = &[
     ),
 ];
 
-#[test]
-fn templates_and_managers_are_registered(rt: HostRuntime) {
+pub fn templates_and_managers_are_registered(alloc: Global, told: &mut Told) {
     for (row, asked, want) in ROWS {
-        expect(&rt, answered(rt.alloc(), *asked), *want, row);
+        told.expect(answered(alloc, *asked), *want, row);
     }
 }

@@ -1,15 +1,14 @@
-//! The rows, and the one test.
+//! The rows.
 
 use crate::asked::{Asked, BY_GCM, Reading, holds};
-use crate::comparing::expect;
 use crate::keysets::Keys;
 use crate::one_of::Streams;
 use std::alloc::Global;
-use std::process::Abort;
 use tink_core::registry::Registry;
 use tink_io::{Cause, Kind, TinkError};
 use tink_proto::OutputPrefixType;
 use tink_streaming_aead::init;
+use tink_testutil::Told;
 
 // A template's name, how many bytes the stream of 60 bytes of text has without a prefix, which are those of the header,
 // the text and a tag, and the length of the header, with which it begins.
@@ -136,12 +135,11 @@ fn registry(alloc: Global) -> Result<Registry<Streams>, TinkError> {
     Ok(registry)
 }
 
-fn try_templates(rt: &impl Abort, alloc: Global, registry: &Registry<Streams>) {
+fn try_templates(told: &mut Told, alloc: Global, registry: &Registry<Streams>) {
     for (name, length, header) in STREAMS {
         for (prefix, out) in PREFIXES {
             let asked = Asked::Seals(60, length.saturating_add(out.len()), *out, *header);
-            expect(
-                rt,
+            told.expect(
                 holds(alloc, registry, Keys::Named(*name, *prefix), asked),
                 Ok(true),
                 name,
@@ -150,17 +148,16 @@ fn try_templates(rt: &impl Abort, alloc: Global, registry: &Registry<Streams>) {
     }
 }
 
-fn try_rows(rt: &impl Abort, alloc: Global, registry: &Registry<Streams>) {
+fn try_rows(told: &mut Told, alloc: Global, registry: &Registry<Streams>) {
     for (row, keys, asked) in ROWS {
-        expect(rt, holds(alloc, registry, *keys, *asked), Ok(true), row);
+        told.expect(holds(alloc, registry, *keys, *asked), Ok(true), row);
     }
-    try_templates(rt, alloc, registry);
+    try_templates(told, alloc, registry);
 }
 
-#[test]
-fn rows_hold(rt: HostRuntime) {
-    match registry(rt.alloc()) {
-        Ok(registry) => try_rows(&rt, rt.alloc(), &registry),
-        Err(e) => expect(&rt, Err(e), Ok(true), "the registry"),
+pub fn rows_hold(alloc: Global, told: &mut Told) {
+    match registry(alloc) {
+        Ok(registry) => try_rows(told, alloc, &registry),
+        Err(e) => told.expect(Err(e), Ok(true), "the registry"),
     }
 }

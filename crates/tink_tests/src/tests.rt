@@ -1,7 +1,6 @@
 //! Each task over one registry of all managers.
 
 use crate::callers::are_callers;
-use crate::comparing::expect;
 use crate::rotation::edited_keyset_runs;
 use crate::tasks::{
     a_keyset_in_json_is_encrypted, a_mac_is_of_its_message, a_stream_is_read_in_pieces,
@@ -9,13 +8,13 @@ use crate::tasks::{
 };
 use crate::templates::templates_build;
 use std::alloc::Global;
-use std::process::Abort;
 use tink::aead::aes128_gcm_key_template;
 use tink::keyset::Handle;
 use tink::mac::hmac_sha256_tag128_key_template;
 use tink::streaming_aead::aes128_gcm_hkdf_4kb_key_template;
 use tink::{Managers, Registry, TinkError, registry};
 use tink_proto::KeyTemplate;
+use tink_testutil::Told;
 
 #[derive(Clone, Copy)]
 enum Task {
@@ -67,23 +66,25 @@ const TASKS: &[(&str, Task)] = &[
     ("a stream is read in pieces", Task::Stream),
 ];
 
-fn do_all(rt: &impl Abort, alloc: Global, registry: &Registry<Managers>) {
+fn do_all(told: &mut Told, alloc: Global, registry: &Registry<Managers>) {
     for (row, task) in TASKS {
-        expect(rt, is_done(alloc, registry, *task), row);
+        told.expect(is_done(alloc, registry, *task), Ok(true), row);
     }
     let all = templates_build(alloc, registry);
-    expect(rt, all, "26 templates make keys that build");
+    told.expect(all, Ok(true), "26 templates make keys that build");
     let destroyed = edited_keyset_runs(alloc, registry, false);
-    expect(rt, destroyed, "a key is added and destroyed");
+    told.expect(destroyed, Ok(true), "a key is added and destroyed");
     let rotated = edited_keyset_runs(alloc, registry, true);
-    expect(rt, rotated, "a stream opens after a rotation");
-    expect(rt, are_callers(alloc), "callers do what they say");
+    told.expect(rotated, Ok(true), "a stream opens after a rotation");
+    told.expect(are_callers(alloc), Ok(true), "callers do what they say");
 }
 
-#[test]
-fn each_task_is_done(rt: HostRuntime) {
-    match registry(rt.alloc()) {
-        Ok(registry) => do_all(&rt, rt.alloc(), &registry),
-        Err(e) => expect(&rt, Err(e), "the registry"),
+/// What all rows tell.
+pub fn rows(alloc: Global) -> Told {
+    let mut told = Told::new();
+    match registry(alloc) {
+        Ok(registry) => do_all(&mut told, alloc, &registry),
+        Err(e) => told.expect(Err(e), Ok(true), "the registry"),
     }
+    told
 }

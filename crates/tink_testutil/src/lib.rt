@@ -6,10 +6,12 @@ pub use keys::{
     registry_of, template,
 };
 pub use named::Named;
+pub use rows::{Answer, Failure, Told, handle, made};
 pub use test_aead::{TestAead, TestKinds};
 pub use test_manager::TestManager;
 
 mod keys;
 mod named;
+mod rows;
 mod test_aead;
 mod test_manager;

@@ -3,7 +3,6 @@
 ghost use Rattle.tink_io.specs.Told.{Answers};
 ghost use Rattle.tink_daead.specs.Wrapped.{primary_encrypts};
 
-use crate::expecting::{Answer, expect, made};
 use std::alloc::Global;
 use tink_core::keyset::Handle;
 use tink_core::keyset::insecure::{decode, new_handle};
@@ -15,7 +14,7 @@ use tink_daead::{
     aes_siv_key_template, init, law_ciphertexts_outlive_commands, law_old_ciphertexts_open, new,
 };
 use tink_proto::{Bytes, KeyTemplate};
-use tink_testutil::{Named, draws_of, gives, registry_of};
+use tink_testutil::{Answer, Named, Told, draws_of, gives, made, registry_of};
 
 /// The primary key's prefix and its encryption of a text with associated data.
 fn sealed_by<P: DeterministicAead>(
@@ -255,13 +254,12 @@ const ROWS: &[(&str, Asked, Answer)] = &[
 ];
 
 /// Each row, and that the laws hold of these types.
-#[test]
-fn keys_and_keysets_are_as_the_rows_say(rt: HostRuntime) {
+pub fn keys_and_keysets_are_as_the_rows_say(alloc: Global, told: &mut Told) {
     law_old_ciphertexts_open::<AesSivKeyManager, AesSiv>();
     law_ciphertexts_outlive_commands::<AesSivKeyManager, AesSiv>();
     for (row, asked, want) in ROWS {
-        expect(&rt, answered(rt.alloc(), asked), *want, row);
+        told.expect(answered(alloc, asked), *want, row);
     }
-    let told = AES_SIV_KEY_VERSION == 0 && AES_SIV_KEY_SIZE == 64;
-    expect(&rt, Ok(told), Ok(true), "the version and the size");
+    let as_known = AES_SIV_KEY_VERSION == 0 && AES_SIV_KEY_SIZE == 64;
+    told.expect(Ok(as_known), Ok(true), "the version and the size");
 }

@@ -4,13 +4,12 @@ ghost use Rattle.std.specs.Prelude.{Ok};
 ghost use Rattle.tink_io.specs.Told.{Answers};
 ghost use Rattle.tink_daead.specs.AesSiv.{aes_siv};
 
-use crate::expecting::expect;
 use hash_keys::Hash;
 use std::alloc::Global;
 use tink_core::{CloneIn, DeterministicAead, Kind, TinkError};
 use tink_daead::subtle::AesSiv;
 use tink_proto::Bytes;
-use tink_testutil::{gives, kind_of};
+use tink_testutil::{Told, gives, kind_of};
 
 /// V and the ciphertext of a text with associated data.
 fn sealed_by(aead: &AesSiv, alloc: Global, text: &[u8], aad: &[u8]) -> Result<Bytes, TinkError>
@@ -278,9 +277,8 @@ const ROWS: &[(&str, Asked)] = &[
     ("keys and inputs", Asked::Sizes),
 ];
 
-#[test]
-fn aes_siv_is_as_the_rows_say(rt: HostRuntime) {
+pub fn aes_siv_is_as_the_rows_say(alloc: Global, told: &mut Told) {
     for (row, asked) in ROWS {
-        expect(&rt, answered(rt.alloc(), asked), Ok(true), row);
+        told.expect(answered(alloc, asked), Ok(true), row);
     }
 }

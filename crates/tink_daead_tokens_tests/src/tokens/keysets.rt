@@ -1,6 +1,5 @@
 //! The MACs of keysets.
 
-use crate::expecting::made;
 use std::alloc::Global;
 use tink_core::TinkError;
 use tink_core::keyset::{Handle, Manager};
@@ -10,7 +9,7 @@ use tink_mac::{
     aes_cmac_tag128_key_template, hmac_sha256_tag128_key_template, new,
 };
 use tink_proto::OutputPrefixType;
-use tink_testutil::{draws_of, enabled_key, handle_of, registry_of};
+use tink_testutil::{draws_of, enabled_key, handle_of, made, registry_of};
 
 /// The first draws of the seed of 32 zero bytes (ChaCha20, RFC 8439, A.1): a key of 32 bytes, and the ids da41597c and
 /// 5157488d.

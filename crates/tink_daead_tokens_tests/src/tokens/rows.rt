@@ -1,10 +1,8 @@
 //! Known tokens, payloads of many lengths, what is no token, and what keysets answer once they were edited.
 
-use crate::expecting::{Answer, expect};
 use crate::tokens::keysets::{Edit, ID, Keys, cmacs, macs};
 use crate::tokens::texts::{Asked, TOKEN, answered};
 use std::alloc::Global;
-use std::process::Abort;
 use tink_core::registry::Registry;
 use tink_core::{Kind, TinkError};
 use tink_mac::tokens::{
@@ -12,7 +10,7 @@ use tink_mac::tokens::{
 };
 use tink_mac::{AesCmacKeyManager, HmacKeyManager, MacKind, WrappedMac};
 use tink_proto::OutputPrefixType;
-use tink_testutil::registry_of;
+use tink_testutil::{Answer, Told, registry_of};
 
 // One new key by the template, and a second one by the same draws, whose id is 5157488d.
 const NEW: Keys = Keys::Edited(&[Edit::Rotate]);
@@ -188,26 +186,24 @@ fn answered_of(
 
 const TABLES: &[&[Row]] = &[KNOWN, REFUSED];
 
-fn walk(rt: &impl Abort, alloc: Global, registry: &Registry<HmacKeyManager>) {
+fn walk(told: &mut Told, alloc: Global, registry: &Registry<HmacKeyManager>) {
     for rows in TABLES {
         for (row, keys, asked, want) in *rows {
             let got = answered_of(alloc, macs(alloc, registry, keys), asked);
-            expect(rt, got, *want, row);
+            told.expect(got, *want, row);
         }
     }
 }
 
 /// Each row, and that the laws hold of these types.
-#[test]
-fn tokens_are_as_the_rows_say(rt: HostRuntime) {
-    let alloc = rt.alloc();
+pub fn tokens_are_as_the_rows_say(alloc: Global, told: &mut Told) {
     law_signed_tokens_verify::<HmacKeyManager, MacKind>();
     law_old_tokens_verify::<HmacKeyManager, MacKind>();
     law_tokens_outlive_commands::<AesCmacKeyManager, MacKind>();
     match registry_of(alloc, HmacKeyManager::new()) {
-        Ok(registry) => walk(&rt, alloc, &registry),
-        Err(e) => expect(&rt, Err(e), Ok(true), "the registry"),
+        Ok(registry) => walk(told, alloc, &registry),
+        Err(e) => told.expect(Err(e), Ok(true), "the registry"),
     }
     let got = answered_of(alloc, cmacs(alloc), &Asked::ComeBack);
-    expect(&rt, got, Ok(true), "payloads of 0 to 70 bytes by AES-CMAC");
+    told.expect(got, Ok(true), "payloads of 0 to 70 bytes by AES-CMAC");
 }

@@ -2,13 +2,12 @@
 
 ghost use Rattle.std.specs.Prelude.{◌≡◌, IfOk};
 
-use crate::expecting::made;
 use std::alloc::Global;
 use tink_core::{Kind, Mac, TinkError};
 use tink_mac::tokens::{sign, verify};
 use tink_mac::{MacKind, WrappedMac};
 use tink_proto::Bytes;
-use tink_testutil::kind_of;
+use tink_testutil::{kind_of, made};
 
 /// The token of `{"sub":1}` under the keyset that the draws make by the template `HMAC_SHA256_128BITTAG`.
 pub const TOKEN: &[u8] = b"eyJzdWIiOjF9.AdpBWXyINi9jd9wXbJ4V_sGWBPqU";

@@ -1,12 +1,11 @@
 //! Outside vectors: RFC 4231 for HMAC, RFC 4493 for AES-CMAC; and tags that are not a message's own.
 
-use crate::expecting::{Answer, expect};
 use std::alloc::Global;
 use tink_core::{CloneIn, Kind, Mac, Primitive, TinkError};
 use tink_mac::subtle::{AesCmac, Hmac};
 use tink_mac::{MacKind, MacKinds};
 use tink_proto::HashType;
-use tink_testutil::gives;
+use tink_testutil::{Answer, Told, gives};
 
 /// The MACs by their standards.
 pub enum Of {
@@ -237,13 +236,11 @@ const VECTORS: &[(&str, Of, &[u8], &[u8], &[u8], usize, Answer)] = &[
 ];
 
 /// Each MAC and its copy accept the tag that they make, and no other.
-#[test]
-fn tags_are_those_of_the_standards(rt: HostRuntime) {
-    let alloc = rt.alloc();
+pub fn tags_are_those_of_the_standards(alloc: Global, told: &mut Told) {
     for (row, of, key, text, tag, size, want) in VECTORS {
         let own = is_tag_of(alloc, new_mac(alloc, of, key, *size), tag, text);
-        expect(&rt, own, *want, row);
+        told.expect(own, *want, row);
         let copy = copy_of(alloc, new_mac(alloc, of, key, *size));
-        expect(&rt, is_tag_of(alloc, copy, tag, text), *want, row);
+        told.expect(is_tag_of(alloc, copy, tag, text), *want, row);
     }
 }

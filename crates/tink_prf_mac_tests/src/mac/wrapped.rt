@@ -3,10 +3,8 @@
 ghost use Rattle.tink_io.specs.Told.{Answers};
 ghost use Rattle.tink_mac.specs.Wrapped.{primary_mac};
 
-use crate::expecting::{Answer, expect, handle, made};
 use crate::mac::vectors::is_tag;
 use std::alloc::Global;
-use std::process::Abort;
 use tink_core::keyset::{Handle, Manager};
 use tink_core::registry::Registry;
 use tink_core::{Kind, Mac, TinkError};
@@ -15,7 +13,7 @@ use tink_mac::{
     law_macs_outlive_commands, law_old_macs_verify, law_own_tags_accepted, new,
 };
 use tink_proto::Bytes;
-use tink_testutil::{draws_of, gives, registry_of};
+use tink_testutil::{Answer, Told, draws_of, gives, handle, made, registry_of};
 
 // The MAC of a message by the primary key.
 fn mac_of<P: Mac>(alloc: Global, mac: &WrappedMac<P>, message: &[u8]) -> Result<Bytes, TinkError>
@@ -228,21 +226,19 @@ const ROWS: &[(&str, Keys, Asked, Answer)] = &[
 ];
 
 /// Each row, and that the laws hold of these types.
-#[test]
-fn a_key_makes_its_mac_and_accepts_its_own_alone(rt: HostRuntime) {
-    let alloc = rt.alloc();
+pub fn a_key_makes_its_mac_and_accepts_its_own_alone(alloc: Global, told: &mut Told) {
     law_old_macs_verify::<HmacKeyManager, MacKind>();
     law_own_tags_accepted();
     law_built_macs_are_sound();
     law_macs_outlive_commands::<HmacKeyManager, MacKind>();
     match registry_of(alloc, HmacKeyManager::new()) {
-        Ok(registry) => walk(&rt, alloc, &registry),
-        Err(e) => expect(&rt, Err(e), Ok(true), "the registry"),
+        Ok(registry) => walk(told, alloc, &registry),
+        Err(e) => told.expect(Err(e), Ok(true), "the registry"),
     }
 }
 
-fn walk(rt: &impl Abort, alloc: Global, registry: &Macs) {
+fn walk(told: &mut Told, alloc: Global, registry: &Macs) {
     for (row, keys, asked, want) in ROWS {
-        expect(rt, answer(alloc, registry, keys, asked), *want, row);
+        told.expect(answer(alloc, registry, keys, asked), *want, row);
     }
 }

@@ -1,6 +1,5 @@
 //! Sets of a keyset's pseudorandom functions.
 
-use crate::expecting::{Answer, expect, handle};
 use crate::keys::COUNT;
 use crate::prf::test_keys::TestKeys;
 use std::alloc::Global;
@@ -12,7 +11,7 @@ use tink_key_types::SymmetricKeyManager;
 use tink_prf::subtle::HmacPrf;
 use tink_prf::{HmacPrfKeyManager, PrfKind, Set, hmac_sha256_prf_key_template};
 use tink_proto::Bytes;
-use tink_testutil::{draws_of, gives, registry_of};
+use tink_testutil::{Answer, Told, draws_of, gives, handle, registry_of};
 
 fn set_of(alloc: Global, keyset: &[u8]) -> Result<Set<HmacPrf>, TinkError> {
     match handle(alloc, keyset) {
@@ -234,9 +233,8 @@ const ROWS: &[(&str, Keys, Asked, Answer)] = &[
     ),
 ];
 
-#[test]
-fn keysets_have_sets_or_are_refused_in_order(rt: HostRuntime) {
+pub fn keysets_have_sets_or_are_refused_in_order(alloc: Global, told: &mut Told) {
     for (row, keys, asked, want) in ROWS {
-        expect(&rt, answered_by(rt.alloc(), keys, asked), *want, row);
+        told.expect(answered_by(alloc, keys, asked), *want, row);
     }
 }

@@ -5,13 +5,12 @@ ghost use Rattle.hash_keys.specs.declared.Hash.TheVariants as hashes;
 ghost use Rattle.hash_keys.specs.Hash.{hmac_of};
 ghost use Rattle.tink_io.specs.Told.{Answers};
 
-use crate::expecting::expect;
 use std::alloc::Global;
 use tink_core::{CloneIn, Prf, Primitive, TinkError};
 use tink_prf::subtle::{AesCmacPrf, HkdfPrf, HmacPrf};
 use tink_prf::{PrfKind, PrfKinds};
 use tink_proto::{Bytes, HashType};
-use tink_testutil::gives;
+use tink_testutil::{Told, gives};
 
 // The first 16 bytes of HMAC with SHA-256.
 fn code_of(alloc: Global, key: &[u8], text: &[u8]) -> Result<Bytes, TinkError>
@@ -227,17 +226,15 @@ const CODES: &[(&str, &[u8], &[u8], &[u8])] = &[
 ];
 
 /// A function and its copy give the outputs, and a code is a prefix of HMAC.
-#[test]
-fn outputs_are_those_of_the_standards(rt: HostRuntime) {
-    let alloc = rt.alloc();
+pub fn outputs_are_those_of_the_standards(alloc: Global, told: &mut Told) {
     for (row, of, key, text, want) in VECTORS {
         let own = computed(alloc, new_prf(alloc, of, key), text, want.len());
-        expect(&rt, gives(own, want), Ok(true), row);
+        told.expect(gives(own, want), Ok(true), row);
         let copy = copy_of(alloc, new_prf(alloc, of, key));
         let copied = computed(alloc, copy, text, want.len());
-        expect(&rt, gives(copied, want), Ok(true), row);
+        told.expect(gives(copied, want), Ok(true), row);
     }
     for (row, key, text, want) in CODES {
-        expect(&rt, gives(code_of(alloc, key, text), want), Ok(true), row);
+        told.expect(gives(code_of(alloc, key, text), want), Ok(true), row);
     }
 }
