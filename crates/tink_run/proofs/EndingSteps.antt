@@ -325,6 +325,9 @@ opens_ended keys lawful old new ended r = go r.ends
 
 -- ---- the ends themselves
 
+pub ok_is_no_err : (r : Result (Unit {0}) TinkError) (e : TinkError) → r ≡ Err e → r ≡ Ok tt → ⊥
+ok_is_no_err r e refused done = cc
+
 -- an early refusal over a sink that gathers, for which nothing waited
 pub early_ends : {S G K : Type 0} (got : K → Option (List ℕ)) (faults : K → ℕ) (behind : G → K) (waits : G → List ℕ) (answer ended : Result Report TinkError) (s t : S) (i j : G) (k : K) → waits i ≡ [] → LeavesEnds answer s t i j
     → (waits j ≡ [] → (ended ≡ answer) × (k ≡ behind j)) → IsRefusedEarly answer → (ended ≡ answer) × (append_known (got (behind j)) (waits j) ≡ got k) × (faults (behind j) ≡ faults k)

@@ -30,3 +30,4 @@ pub mod MacFacts
 pub mod ToldLemmas
 pub mod TokenCalls
 pub mod CompleteFacts
+pub mod RoomFacts

@@ -16,7 +16,8 @@ use Rattle.stream_model.specs.Cut.{cut, room_at}
 use Rattle.stream_model.specs.Agree.{AreTexts, Agree, Leads, joined}
 use Rattle.stream_model.proofs.CutFacts.{cut_some}
 use Rattle.stream_model.proofs.AgreeFacts.{joined-append}
-use Rattle.tink_streams.specs.declared.progress.Progress.TheVariants.{Ended}
+use Rattle.tink_streams.specs.declared.progress.Progress.{Progress}
+use Rattle.tink_streams.specs.declared.progress.Progress.TheVariants.{Ended, Failed, Running}
 use Rattle.tink_streams.specs.Reading.{ReaderMoment, TellsLeads, HasNotFailed, OpensNext, OpenNextRefused, chunk_at}
 use Rattle.tink_streams.proofs.ReadingFacts.{Opened, opened_none, opened_more, opened_all, opened_agree, at_next_chunk}
 use Rattle.tink_run.specs.declared.report.Report.{Report}
@@ -24,6 +25,15 @@ use Rattle.tink_run.specs.Outside.{Outside}
 use Rattle.tink_run.specs.OpenSteps.{FirstRefused, IsReadOut, Breaks, ReaderRefused}
 use Rattle.tink_run.specs.Run.{LeavesSinkItself, WritesNothing}
 use Rattle.tink_run.proofs.OpenLemmas.{kept_nothing}
+
+-- a reader that has not failed and has not ended runs
+pub still_running : (p : Progress) → HasNotFailed p → (p ≡ Ended → ⊥) → p ≡ Running
+still_running Running lives goes_on = refl
+still_running Ended lives goes_on = absurd (goes_on refl)
+still_running (Failed cause) lives goes_on = absurd lives
+
+pub some_first : {n m : ℕ} → n < m → 0 < m
+some_first less = omega arith
 
 -- of the texts that were opened, all but the last were written
 pub record IsReading (seg : ℕ → Bool → List ℕ → List ℕ) (a b : ℕ) (all before now : Option (List ℕ)) (m : ReaderMoment) (bytes : ℕ) : Type 0 where

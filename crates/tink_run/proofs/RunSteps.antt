@@ -78,6 +78,11 @@ pub leaves_same : {S K : Type 0} (answer : Result Report TinkError) (source : S)
 leaves_same (Ok report) source sink = tt
 leaves_same (Err e) source sink = λ early. (refl, refl)
 
+-- and so is a sink
+pub leaves_sink_same : {K : Type 0} (answer : Result Report TinkError) (sink : K) → LeavesSinkItself answer sink sink
+leaves_sink_same (Ok report) sink = tt
+leaves_sink_same (Err e) sink = λ unwritten. refl
+
 -- a seal finds no key wanting, so that it leaves the sink where it is refused early
 pub seal_unwritten : {S K : Type 0} (k : StreamKey) (aad draws left_draws : List ℕ) (old new : Outside) (answer : Result Report TinkError) (s t : S) (i j : K)
     → SealsUnder k aad draws left_draws old new answer → LeavesEnds answer s t i j → LeavesSinkItself answer i j

@@ -27,7 +27,7 @@ use Rattle.tink_mac.specs.declared.factory.WrappedMac.{WrappedMac}
 use Rattle.tink_mac.specs.declared.mac_kind.MacKind.{MacKind}
 use Rattle.tink_mac.specs.Tokens.{spelled, IsAnswered, IsSigned, IsSigning, IsVerifying}
 use Rattle.tink_run.specs.Outside.{Outside}
-use Rattle.tink_run.specs.Inputs.{input_limit, HasInput, IsOfInput, LeavesSink, ReadsInput}
+use Rattle.tink_run.specs.Inputs.{input_limit, HasInput, IsOfInput, IsUnloadable, IsUnwritten, LeavesSink, ReadsInput}
 use Rattle.tink_run.specs.TokenSteps.{AreLoadedMacs, GivesMacs, MakesNothing, MakesOfInput}
 use Rattle.tink_run.specs.Tokens.{macs_in, macs_of, supports_own, with_id, Macs, RefusesSigning, RefusesVerifying, SignsTo, TokenMeans, TokenRefused, TokenRefuses, VerifiesTo}
 use Rattle.tink_run.proofs.InputSteps.{unloaded}
@@ -130,6 +130,14 @@ module _ (Gives : Macs → List ℕ → List ℕ → Type 0) (Refuses : Macs →
   not_made only old new macs MacMismatch loads got faults m = refused old new macs MacMismatch loads (record { got = got; faults = faults }) m
   not_made only old new macs _ loads got faults m = elim (only macs m.0 _ m.2) [ inl is ↦ absurd (cc is) | inr is ↦ absurd (cc is) ]
 
+  -- whatever is made of an input, the keyset loaded
+  pub loaded_first : {S : Type 0} (only : (macs : Macs) (input : List ℕ) (kind : Kind) → Refuses macs input kind → (kind ≡ BadToken) ⊎ (kind ≡ MacMismatch))
+      → (macs : Macs) (a b : Option (List ℕ)) (before now : ℕ) (kind : Kind) (s t : S) → MakesNothing (Gives macs) (Refuses macs) a b before now kind → IsUnloadable kind → t ≡ s
+  loaded_first only macs a b before now OutOfMemory s t m unloadable = absurd unloadable
+  loaded_first only macs a b before now ReadFault s t m unloadable = absurd unloadable
+  loaded_first only macs a b before now InputTooLong s t m unloadable = absurd unloadable
+  loaded_first only macs a b before now _ s t m unloadable = elim (only macs m.0 _ m.2) [ inl is ↦ absurd (subst IsUnloadable is unloadable) | inr is ↦ absurd (subst IsUnloadable is unloadable) ]
+
   -- what was made was written, or a prefix of it
   pub made : (old new : Outside) (macs : Macs) (output written : List ℕ) (answer : Result (Unit {0}) TinkError) → macs_of keyset ≡ Ok macs
       → MakesOfInput (Gives macs) (Refuses macs) old.left new.left old.read_faults new.read_faults (Ok output) → written ≡ output
@@ -150,6 +158,15 @@ module _ (Gives : Macs → List ℕ → List ℕ → Type 0) (Refuses : Macs →
         has = m.1;
         then = (record { output = output; gives = m.2; written = subst (λ x. AppendsPrefix old.got new.got x) same front }, rose);
       })
+
+-- a fault of the sink is neither of a keyset that does not load nor one that comes before a write
+pub fault_loaded : {S : Type 0} (answer : Result (Unit {0}) TinkError) (s t : S) → IfErr answer (λ e. e ≡ record { kind = WriteFault }) → IfErr answer (λ e. IsUnloadable e.kind → t ≡ s)
+fault_loaded (Ok done) s t fault = tt
+fault_loaded (Err e) s t fault = rw fault (λ unloadable. absurd unloadable)
+
+pub fault_writes : {K : Type 0} (answer : Result (Unit {0}) TinkError) (k l : K) → IfErr answer (λ e. e ≡ record { kind = WriteFault }) → IfErr answer (λ e. IsUnwritten e.kind → l ≡ k)
+fault_writes (Ok done) k l fault = tt
+fault_writes (Err e) k l fault = rw fault (λ unwritten. absurd unwritten)
 
 pub signing_only : (macs : Macs) (input : List ℕ) (kind : Kind) → RefusesSigning macs input kind → (kind ≡ BadToken) ⊎ (kind ≡ MacMismatch)
 signing_only macs input kind refuses = absurd refuses

@@ -9,7 +9,8 @@ use Rattle.tink_run.specs.OpenSteps.{OpensUnder}
 use Rattle.tink_run.specs.Outside.{Outside}
 use Rattle.tink_run.proofs.OpenSteps.{leaves_under, opens_under}
 use Rattle.tink_run.proofs.ReadsSteps.{same_largest}
-use Rattle.tink_run.proofs.RunSteps.{leaves_same}
+use Rattle.tink_run.proofs.RunSteps.{leaves_same, leaves_sink_same}
+use Rattle.tink_run.proofs.RoomFacts.{has_room}
 use Rattle.tink_run.proofs.open.open.Goals as goal
 
 pub returns-clause-answer : goal.returns-clause-answer
@@ -84,3 +85,23 @@ returns-clause-source g c = c.open_under.ensures.source
 
 pub returns-clause-sink : goal.returns-clause-sink
 returns-clause-sink g c = c.open_under.ensures.sink
+
+pub open_under-requires-clause-filled : goal.open_under-requires-clause-filled
+open_under-requires-clause-filled g c = c.in_ok-trial.ensures.filled
+
+pub open_under-requires-clause-room : goal.open_under-requires-clause-room
+open_under-requires-clause-room g c =
+    has_room (λ k. key_in_set k.now) _ _ _ _ _ _ _ (c.deref.ensures.value ∙ sym c.deref-2.ensures.value) c.room_of.ensures.most c.in_ok-trial.ensures.buffer
+    c.in_ok-trial.ensures.opened c.in_ok-trial.ensures.nonce c.in_ok-trial.ensures.prefix
+
+pub returns-in_err-keys-clause-order : goal.returns-in_err-keys-clause-order
+returns-in_err-keys-clause-order g c = c.in_err-keys.ensures.order
+
+pub returns-in_err-trial-clause-order : goal.returns-in_err-trial-clause-order
+returns-in_err-trial-clause-order g c = c.in_ok-keys.ensures.order
+
+pub returns-in_err-keys-clause-unwritten : goal.returns-in_err-keys-clause-unwritten
+returns-in_err-keys-clause-unwritten g c = leaves_sink_same c.from_residual.result c.args.sink.now
+
+pub returns-in_err-trial-clause-unwritten : goal.returns-in_err-trial-clause-unwritten
+returns-in_err-trial-clause-unwritten g c = leaves_sink_same c.from_residual-in_err-trial.result c.args.sink.now

@@ -1,11 +1,13 @@
-use Rattle.std.proofs.Common.{take, length, refl, sym, ap, ◌∙◌, arith}
+use Rattle.std.proofs.Common.{take, length, refl, sym, ap, ◌∙◌, arith, [], ◌∷◌, length-append, le_refl, le_trans, le_of_eq, lt_of_lt_of_le}
 use Rattle.std.proofs.KnownBytes.{Keeps-refl}
 use Rattle.std.proofs.lemmas.Result.{err_from_is_err_and}
 use Rattle.std.specs.Io.KnownBytes.{prepend_known}
 use Rattle.tink_streams.specs.Reading.{ReaderMoment}
-use Rattle.tink_run.proofs.ReadOut.{reading_first, reading_next, read_out, write_failed, next_refused, next_wrote, first_refused}
+use Rattle.tink_run.proofs.ReadOut.{reading_first, reading_next, read_out, write_failed, next_refused, next_wrote, first_refused, still_running, some_first}
 use Rattle.tink_streaming_aead.proofs.DecryptSteps.{reads_held}
 use Rattle.tink_run.proofs.ReadsSteps.{first_reads, next_reads, write_reads}
+use Rattle.tink_run.proofs.RunSteps.{leaves_sink_same}
+use Rattle.tink_run.specs.Outside.{Outside}
 use Rattle.tink_run.proofs.open.open_stream.Goals as goal
 
 pub returns-in_err-open_first-clause-answer : goal.returns-in_err-open_first-clause-answer
@@ -15,7 +17,7 @@ returns-in_err-open_first-clause-answer g c =
     let after = c.open_first.new.reader in
     let m : ReaderMoment = record { progress = before.progress; number = before.segments; opened = before.opened.items; rest = prepend_known (take before.filled before.buffer.items) (g.S.Source.left c.args.source.now); faults = g.S.Source.faults c.args.source.now } in
     let n : ReaderMoment = record { progress = after.progress; number = after.segments; opened = after.opened.items; rest = prepend_known (take after.filled after.buffer.items) (g.S.Source.left c.open_first.new.source); faults = g.S.Source.faults c.open_first.new.source } in
-    rw (p.1, p.2) (first_refused _ _ _ _ _ _ m n _ c.requires.fresh refl (omega arith) (omega arith) (Keeps-refl _) c.in_err-open_first.ensures.answer)
+    rw (p.1, p.2) (first_refused _ _ _ _ _ _ m n _ c.requires.fresh refl (le_refl _) (le_refl _) (Keeps-refl _) c.in_err-open_first.ensures.answer)
 
 pub returns-in_err-open_first-clause-read : goal.returns-in_err-open_first-clause-read
 returns-in_err-open_first-clause-read g c =
@@ -24,7 +26,7 @@ returns-in_err-open_first-clause-read g c =
     let after = c.open_first.new.reader in
     let m : ReaderMoment = record { progress = before.progress; number = before.segments; opened = before.opened.items; rest = prepend_known (take before.filled before.buffer.items) (g.S.Source.left c.args.source.now); faults = g.S.Source.faults c.args.source.now } in
     let n : ReaderMoment = record { progress = after.progress; number = after.segments; opened = after.opened.items; rest = prepend_known (take after.filled after.buffer.items) (g.S.Source.left c.open_first.new.source); faults = g.S.Source.faults c.open_first.new.source } in
-    rw (p.1, p.2) (first_reads _ _ _ _ _ _ m n _ (omega (arith, before.opener.some)) (omega (arith, before.opener.some, before.opener.first_fits)) (Keeps-refl _) c.in_err-open_first.ensures.read c.in_err-open_first.ensures.answer)
+    rw (p.1, p.2) (first_reads _ _ _ _ _ _ m n _ (some_first before.opener.some) (lt_of_lt_of_le (some_first before.opener.some) before.opener.first_fits) (Keeps-refl _) c.in_err-open_first.ensures.read c.in_err-open_first.ensures.answer)
 
 pub returns-in_err-write_all-clause-read : goal.returns-in_err-write_all-clause-read
 returns-in_err-write_all-clause-read g c =
@@ -32,8 +34,8 @@ returns-in_err-write_all-clause-read g c =
     let opener = c.args.reader.now.opener in
     let reader = c.loop-bytes.reader in
     rw (p.1, p.2, c.in_err-write_all.ensures.refused)
-    (write_reads _ _ _ _ _ _ _ _ _ (omega (arith, opener.some)) (omega (arith, opener.some, opener.first_fits)) c.loop-bytes.invariant.reading (rw c.opened-text.ensures at c.in_err-write_all.ensures.prefix)
-    (reads_held _ reader.filled _ _ reader.buffer.items (Keeps-refl _) (omega (arith, reader.filled_in, c.loop-bytes.invariant.room))))
+    (write_reads _ _ _ _ _ _ _ _ _ (some_first opener.some) (lt_of_lt_of_le (some_first opener.some) opener.first_fits) c.loop-bytes.invariant.reading (rw c.opened-text.ensures at c.in_err-write_all.ensures.prefix)
+    (reads_held _ reader.filled _ _ reader.buffer.items (Keeps-refl _) (le_trans reader.filled_in (le_of_eq c.loop-bytes.invariant.room))))
 
 pub loop-bytes-init : goal.loop-bytes-init
 loop-bytes-init g c = record {
@@ -41,7 +43,7 @@ loop-bytes-init g c = record {
   opener = c.open_first.ensures.opener;
   room = c.open_first.ensures.room;
   reads = c.open_first.ensures.later;
-  writes = omega arith;
+  writes = le_refl _;
   same_source = c.open_first.ensures.same;
   same_sink = g.met.K.Sink.same_refl c.args.sink.now;
 }
@@ -66,8 +68,8 @@ loop-bytes-preserved g c =
           (omega (arith, c.open_next.ensures.small, c.open_next.new.self.opened.ok.0)));
       opener = c.open_next.ensures.opener ∙ c.loop-bytes.invariant.opener;
       room = c.open_next.ensures.room ∙ c.loop-bytes.invariant.room;
-      reads = omega (arith, c.loop-bytes.invariant.reads, c.open_next.ensures.later);
-      writes = omega (arith, c.loop-bytes.invariant.writes, c.write_all.ensures.later);
+      reads = le_trans c.loop-bytes.invariant.reads c.open_next.ensures.later;
+      writes = le_trans c.loop-bytes.invariant.writes c.write_all.ensures.later;
       same_source = g.met.S.Source.same_trans _ _ _ c.loop-bytes.invariant.same_source c.open_next.ensures.same;
       same_sink = g.met.K.Sink.same_trans _ _ _ c.loop-bytes.invariant.same_sink c.write_all.ensures.same;
     }
@@ -78,19 +80,26 @@ returns-in_err-open_next-in_default g c =
     let opener = c.args.reader.now.opener in
     let refused = rw c.loop-bytes.invariant.opener at c.in_err-open_next-in_default.ensures.answer in
     let reader = c.open_next.new.self in
+    let before = c.loop-bytes.reader in
+    let entry = c.args.reader.now in
+    let m : ReaderMoment = record { progress = before.progress; number = before.segments; opened = before.opened.items; rest = prepend_known (take before.filled before.buffer.items) (g.S.Source.left c.loop-bytes.source); faults = g.S.Source.faults c.loop-bytes.source } in
+    let n : ReaderMoment = record { progress = reader.progress; number = reader.segments; opened = reader.opened.items; rest = prepend_known (take reader.filled reader.buffer.items) (g.S.Source.left c.open_next.new.source); faults = g.S.Source.faults c.open_next.new.source } in
+    let old : Outside = record { left = prepend_known (take entry.filled entry.buffer.items) (g.S.Source.left c.args.source.now); read_faults = g.S.Source.faults c.args.source.now; got = g.K.Sink.got c.args.sink.now; write_faults = g.K.Sink.faults c.args.sink.now } in
+    let new : Outside = record { left = g.S.Source.left c.open_next.new.source; read_faults = g.S.Source.faults c.open_next.new.source; got = g.K.Sink.got c.write_all.new.sink; write_faults = g.K.Sink.faults c.write_all.new.sink } in
+    let kind = c.in_err-open_next-in_default.field-0.0.kind in
     record {
-      answer = rw (p.1, p.2) (next_refused _ _ _ _ _ _ _ _ _ _ _ (omega (arith, opener.some)) (omega (arith, opener.some, opener.first_fits)) c.loop-bytes.invariant.reading (rw c.opened-text.ensures at c.in_ok-write_all.ensures.written)
-          c.loop-bytes.invariant.reads (omega arith) refused);
-      read = rw (p.1, p.2) (next_reads _ _ _ _ _ _ _ _ _ _ _ _ (omega (arith, opener.some)) (omega (arith, opener.some, opener.first_fits)) c.loop-bytes.invariant.reading (rw c.opened-text.ensures at c.in_ok-write_all.ensures.written)
-          (reads_held _ reader.filled _ _ reader.buffer.items (Keeps-refl _) (omega (arith, reader.filled_in, c.open_next.ensures.room, c.loop-bytes.invariant.room))) refused);
-      unwritten = rw (p.1, p.2) (next_wrote _ _ _ _ _ _ _ _ _ c.in_err-open_next-in_default.ensures.answer);
-      later = record { reads = omega (arith, c.loop-bytes.invariant.reads, c.open_next.ensures.later); writes = omega (arith, c.loop-bytes.invariant.writes, c.write_all.ensures.later) };
+      answer = rw (p.1, p.2) (next_refused _ _ _ _ old new _ m n _ kind (some_first opener.some) (lt_of_lt_of_le (some_first opener.some) opener.first_fits) c.loop-bytes.invariant.reading (rw c.opened-text.ensures at c.in_ok-write_all.ensures.written)
+          c.loop-bytes.invariant.reads (le_refl _) refused);
+      read = rw (p.1, p.2) (next_reads _ _ _ _ _ old new _ m n _ kind (some_first opener.some) (lt_of_lt_of_le (some_first opener.some) opener.first_fits) c.loop-bytes.invariant.reading (rw c.opened-text.ensures at c.in_ok-write_all.ensures.written)
+          (reads_held _ reader.filled _ _ reader.buffer.items (Keeps-refl _) (le_trans reader.filled_in (le_of_eq (c.open_next.ensures.room ∙ c.loop-bytes.invariant.room)))) refused);
+      unwritten = rw (p.1, p.2) (next_wrote _ _ _ _ m n _ _ _ c.in_err-open_next-in_default.ensures.answer);
+      later = record { reads = le_trans c.loop-bytes.invariant.reads c.open_next.ensures.later; writes = le_trans c.loop-bytes.invariant.writes c.write_all.ensures.later };
       source = g.met.S.Source.same_trans _ _ _ c.loop-bytes.invariant.same_source c.open_next.ensures.same;
       sink = g.met.K.Sink.same_trans _ _ _ c.loop-bytes.invariant.same_sink c.write_all.ensures.same;
     }
 
 pub returns-in_err-open_first-clause-later : goal.returns-in_err-open_first-clause-later
-returns-in_err-open_first-clause-later g c = record { reads = c.in_err-open_first.ensures.later; writes = omega arith }
+returns-in_err-open_first-clause-later g c = record { reads = c.in_err-open_first.ensures.later; writes = le_refl _ }
 
 pub returns-in_err-open_first-clause-source : goal.returns-in_err-open_first-clause-source
 returns-in_err-open_first-clause-source g c = c.in_err-open_first.ensures.same
@@ -99,7 +108,7 @@ pub returns-in_err-open_first-clause-sink : goal.returns-in_err-open_first-claus
 returns-in_err-open_first-clause-sink g c = g.met.K.Sink.same_refl _
 
 pub returns-in_err-write_all-clause-later : goal.returns-in_err-write_all-clause-later
-returns-in_err-write_all-clause-later g c = record { reads = c.loop-bytes.invariant.reads; writes = omega (arith, c.loop-bytes.invariant.writes, c.in_err-write_all.ensures.later) }
+returns-in_err-write_all-clause-later g c = record { reads = c.loop-bytes.invariant.reads; writes = le_trans c.loop-bytes.invariant.writes c.in_err-write_all.ensures.later }
 
 pub returns-in_err-write_all-clause-source : goal.returns-in_err-write_all-clause-source
 returns-in_err-write_all-clause-source g c = c.loop-bytes.invariant.same_source
@@ -108,10 +117,30 @@ pub returns-in_err-write_all-clause-sink : goal.returns-in_err-write_all-clause-
 returns-in_err-write_all-clause-sink g c = g.met.K.Sink.same_trans _ _ _ c.loop-bytes.invariant.same_sink c.in_err-write_all.ensures.same
 
 pub returns-in-Ended-clause-later : goal.returns-in-Ended-clause-later
-returns-in-Ended-clause-later g c = record { reads = c.loop-bytes.invariant.reads; writes = omega (arith, c.loop-bytes.invariant.writes, c.in_ok-write_all.ensures.later) }
+returns-in-Ended-clause-later g c = record { reads = c.loop-bytes.invariant.reads; writes = le_trans c.loop-bytes.invariant.writes c.in_ok-write_all.ensures.later }
 
 pub returns-in-Ended-clause-source : goal.returns-in-Ended-clause-source
 returns-in-Ended-clause-source g c = c.loop-bytes.invariant.same_source
 
 pub returns-in-Ended-clause-sink : goal.returns-in-Ended-clause-sink
 returns-in-Ended-clause-sink g c = g.met.K.Sink.same_trans _ _ _ c.loop-bytes.invariant.same_sink c.in_ok-write_all.ensures.same
+
+pub overflow_add-bytes : goal.overflow_add-bytes
+overflow_add-bytes g c =
+    let reading = c.loop-bytes.invariant.reading in
+    omega (arith, reading.few, reading.small, reading.opened.number, length-append reading.texts (c.loop-bytes.reader.opened.items ∷ []), c.loop-bytes.reader.few, ap length c.opened-text.ensures)
+
+pub returns-in-Ended-clause-unwritten : goal.returns-in-Ended-clause-unwritten
+returns-in-Ended-clause-unwritten g c = tt
+
+pub returns-in-Ended-clause-read : goal.returns-in-Ended-clause-read
+returns-in-Ended-clause-read g c = tt
+
+pub returns-in_err-open_first-clause-unwritten : goal.returns-in_err-open_first-clause-unwritten
+returns-in_err-open_first-clause-unwritten g c = leaves_sink_same c.from_residual.result c.args.sink.now
+
+pub open_next-requires : goal.open_next-requires
+open_next-requires g c = record { running = still_running c.loop-bytes.reader.progress c.loop-bytes.invariant.reading.lives (λ ended. c.in_default.not-Ended (c.progress.ensures ∙ ended)) }
+
+pub loop-bytes-smaller : goal.loop-bytes-smaller
+loop-bytes-smaller g c = omega (arith, c.in_ok-open_next-in_default.ensures.answer.number, c.open_next.new.self.few)

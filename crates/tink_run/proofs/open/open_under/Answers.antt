@@ -1,4 +1,4 @@
-use Rattle.std.proofs.Common.{◌+◌, ℕ, Bool, List, take, length, refl, sym, ap, ◌∙◌, arith}
+use Rattle.std.proofs.Common.{◌+◌, ℕ, Bool, List, take, length, refl, sym, ap, ◌∙◌, arith, le_refl}
 use Rattle.std.specs.Io.KnownBytes.{prepend_known}
 use Rattle.std.proofs.KnownBytes.{Keeps-refl}
 use Rattle.std.proofs.lemmas.Result.{err_from_is_err_and}
@@ -28,9 +28,9 @@ returns-clause-answer g c =
     let seg : ℕ → Bool → List ℕ → List ℕ = numbered (segment_by opener.decrypter) opener.nonce_size opener.prefix.items in
     let started : Outside = record { left = prepend_known (take reader.filled reader.buffer.items) (g.S.Source.left c.start.new.source); read_faults = g.S.Source.faults c.start.new.source; got = g.K.Sink.got c.args.sink.now; write_faults = g.K.Sink.faults c.args.sink.now } in
     let begun = rw none_held at c.in_ok-reader.ensures.started in (
-      means_under _ seg opener.first opener.size opener.overhead _ started _ _ (omega (arith, opener.some))
+      means_under _ seg opener.first opener.size opener.overhead _ started _ _ opener.some
           (numbered_longer (segment_by opener.decrypter) opener.nonce_size opener.prefix.items opener.overhead (λ n t. length-segment_by opener.decrypter n t ∙ ap (λ x. length t + x) (sym opener.overhead_is)))
-          refl c.start.ensures.later (omega arith) begun c.open_stream.ensures.answer,
+          refl c.start.ensures.later (le_refl _) begun c.open_stream.ensures.answer,
       reads_under _ _ seg opener.first opener.size opener.overhead _ started _ refl begun _ c.open_stream.ensures.answer (rw c.in_ok-reader.ensures.fresh.3 at c.open_stream.ensures.read),
     )
 
@@ -43,7 +43,7 @@ pub returns-clause-unwritten : goal.returns-clause-unwritten
 returns-clause-unwritten g c = c.open_stream.ensures.unwritten
 
 pub returns-in_err-reader-clause-later : goal.returns-in_err-reader-clause-later
-returns-in_err-reader-clause-later g c = record { reads = c.in_err-reader.ensures.later; writes = omega arith }
+returns-in_err-reader-clause-later g c = record { reads = c.in_err-reader.ensures.later; writes = le_refl _ }
 
 pub returns-in_err-reader-clause-source : goal.returns-in_err-reader-clause-source
 returns-in_err-reader-clause-source g c = c.in_err-reader.ensures.same

@@ -1,6 +1,7 @@
+use Rattle.std.proofs.Common.{le_refl}
 use Rattle.std.proofs.lemmas.Result.{err_from_is_err_and}
 use Rattle.tink_run.proofs.ReadEndings.{reads_keyset, reads_no_room, reads_unloaded}
-use Rattle.tink_run.proofs.RunSteps.{leaves_same, no_room, not_loaded, opens_keyset, seal_unwritten, seals_keyset, untouched}
+use Rattle.tink_run.proofs.RunSteps.{leaves_same, no_room, not_loaded, opens_keyset, seal_unwritten, seals_keyset, untouched, leaves_sink_same}
 use Rattle.tink_run.proofs.run.answer.Goals as goal
 
 pub returns-in_err-keys-clause-answer : goal.returns-in_err-keys-clause-answer
@@ -52,3 +53,48 @@ returns-in-Seal-clause-early g c = c.seal_together.ensures.early
 
 pub returns-clause-early : goal.returns-clause-early
 returns-clause-early g c = c.open_together.ensures.early
+
+pub returns-in_err-keys-clause-source : goal.returns-in_err-keys-clause-source
+returns-in_err-keys-clause-source g c = g.met.S.Source.same_refl _
+
+pub returns-in_err-keys-clause-sink : goal.returns-in_err-keys-clause-sink
+returns-in_err-keys-clause-sink g c = g.met.K.Sink.same_refl _
+
+pub returns-in_err-keys-clause-later : goal.returns-in_err-keys-clause-later
+returns-in_err-keys-clause-later g c = record { reads = le_refl _; writes = le_refl _ }
+
+pub returns-in_err-keys-clause-unwritten : goal.returns-in_err-keys-clause-unwritten
+returns-in_err-keys-clause-unwritten g c = leaves_sink_same c.from_residual.result c.args.sink.now
+
+pub returns-in_err-waiting-clause-source : goal.returns-in_err-waiting-clause-source
+returns-in_err-waiting-clause-source g c = g.met.S.Source.same_refl _
+
+pub returns-in_err-waiting-clause-sink : goal.returns-in_err-waiting-clause-sink
+returns-in_err-waiting-clause-sink g c = g.met.K.Sink.same_refl _
+
+pub returns-in_err-waiting-clause-later : goal.returns-in_err-waiting-clause-later
+returns-in_err-waiting-clause-later g c = record { reads = le_refl _; writes = le_refl _ }
+
+pub returns-in_err-waiting-clause-unwritten : goal.returns-in_err-waiting-clause-unwritten
+returns-in_err-waiting-clause-unwritten g c = leaves_sink_same c.from_residual-in_err-waiting.result c.args.sink.now
+
+pub returns-in-Seal-clause-later : goal.returns-in-Seal-clause-later
+returns-in-Seal-clause-later g c = c.seal_together.ensures.later
+
+pub returns-in-Seal-clause-source : goal.returns-in-Seal-clause-source
+returns-in-Seal-clause-source g c = c.seal_together.ensures.source
+
+pub returns-in-Seal-clause-sink : goal.returns-in-Seal-clause-sink
+returns-in-Seal-clause-sink g c = c.seal_together.ensures.sink
+
+pub returns-clause-unwritten : goal.returns-clause-unwritten
+returns-clause-unwritten g c = c.open_together.ensures.unwritten
+
+pub returns-clause-later : goal.returns-clause-later
+returns-clause-later g c = c.open_together.ensures.later
+
+pub returns-clause-source : goal.returns-clause-source
+returns-clause-source g c = c.open_together.ensures.source
+
+pub returns-clause-sink : goal.returns-clause-sink
+returns-clause-sink g c = c.open_together.ensures.sink

@@ -101,3 +101,15 @@ returns-clause-later g c = record { reads = c.pour.ensures.read_count; writes = 
 
 pub returns-clause-source : goal.returns-clause-source
 returns-clause-source g c = c.pour.ensures.source
+
+pub returns-clause-early : goal.returns-clause-early
+returns-clause-early g c = tt
+
+pub pour-requires-clause-open : goal.pour-requires-clause-open
+pour-requires-clause-open g c = c.in-Ok.ensures.answer.is_open
+
+pub pour-requires-clause-fresh : goal.pour-requires-clause-fresh
+pour-requires-clause-fresh g c = c.in-Ok.ensures.answer.number
+
+pub pour-requires-clause-empty : goal.pour-requires-clause-empty
+pour-requires-clause-empty g c = c.in-Ok.ensures.answer.held

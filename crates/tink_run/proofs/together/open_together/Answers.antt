@@ -1,11 +1,12 @@
-use Rattle.std.proofs.Common.{rules, arith, ap, subst, map}
+use Rattle.std.proofs.Common.{rules, arith, ap, subst, map, sym}
 use Rattle.tink_io.specs.Gathering.{OnlyGrows}
 use Rattle.stream_model.specs.Opening.{opening_key}
 use Rattle.tink_streaming_aead.specs.Wrapped.{all_entries, keys_in}
 use Rattle.tink_run.specs.OpenReads.{OpensReading}
 use Rattle.tink_run.specs.Endings.{EndsAs}
 use Rattle.tink_run.specs.Outside.{Outside, outside_of}
-use Rattle.tink_run.proofs.EndingSteps.{begins_as, early_ends, ends_as}
+use Rattle.tink_run.proofs.EndingSteps.{begins_as, early_ends, ends_as, leaves_ended, leaves_sink_ended}
+use Rattle.tink_run.specs.Run.{LeavesEnds, LeavesSinkItself}
 use Rattle.tink_run.proofs.together.open_together.Goals as goal
 
 pub returns-clause-answer : goal.returns-clause-answer
@@ -25,3 +26,26 @@ returns-clause-answer g c =
     (ends_as (OpensReading (map (opening_key c.args.aad.now) (keys_in (all_entries c.args.set.now.entries)))) _ old (left c.open-answer.new.source) (reads c.open-answer.new.source) (got then.sink.now) _ (got last.sink.now) (faults then.sink.now) (faults last.sink.now) c.open-answer.result c.ended.result
     (begins_as got faults (left c.args.source.now) (reads c.args.source.now) first.sink.now c.args.sink.now first.waiting.now.items c.new-gathered.ensures.sink c.new-gathered.ensures.empty)
     (c.open-answer.ensures.answer, c.open-answer.ensures.read) c.ended.ensures.ends grows c.ended.ensures.grows (omega (arith, ap faults c.new-gathered.ensures.sink, c.open-answer.ensures.later.writes)) c.ended.ensures.later early)
+
+pub returns-clause-order : goal.returns-clause-order
+returns-clause-order g c = c.open-answer.ensures.order
+
+pub returns-clause-source : goal.returns-clause-source
+returns-clause-source g c = c.open-answer.ensures.source
+
+pub returns-clause-sink : goal.returns-clause-sink
+returns-clause-sink g c =
+    subst (λ k. g.K.Sink.same c.args.sink.now k) (search rules)
+    (g.met.K.Sink.same_trans _ _ _ (subst (λ k. g.K.Sink.same k c.open-answer.new.sink.sink.now) c.new-gathered.ensures.sink c.open-answer.ensures.sink.2) c.ended.ensures.same)
+
+pub returns-clause-early : goal.returns-clause-early
+returns-clause-early g c =
+    subst (λ k. LeavesEnds c.ended.result c.args.source.now c.open-answer.new.source c.args.sink.now k) (search rules)
+    (leaves_ended (λ s. s.sink.now) (λ s. s.waiting.now.items) _ _ _ _ c.open-answer.result c.ended.result c.args.source.now c.open-answer.new.source c.new-gathered.result c.open-answer.new.sink c.args.sink.now c.ended.new.sink.sink.now
+    (sym c.new-gathered.ensures.sink) c.new-gathered.ensures.empty c.open-answer.ensures.early c.ended.ensures.still c.ended.ensures.ends)
+
+pub returns-clause-unwritten : goal.returns-clause-unwritten
+returns-clause-unwritten g c =
+    subst (λ k. LeavesSinkItself c.ended.result c.args.sink.now k) (search rules)
+    (leaves_sink_ended (λ s. s.sink.now) (λ s. s.waiting.now.items) _ _ _ _ c.open-answer.result c.ended.result c.new-gathered.result c.open-answer.new.sink c.args.sink.now c.ended.new.sink.sink.now (sym c.new-gathered.ensures.sink)
+    c.new-gathered.ensures.empty c.open-answer.ensures.unwritten c.ended.ensures.still c.ended.ensures.ends)

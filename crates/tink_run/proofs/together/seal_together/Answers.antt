@@ -1,9 +1,10 @@
-use Rattle.std.proofs.Common.{rules, arith, ap, subst}
+use Rattle.std.proofs.Common.{rules, arith, ap, subst, sym}
 use Rattle.tink_io.specs.Gathering.{OnlyGrows}
 use Rattle.tink_stream_keys.specs.StreamKinds.{key_in_set}
 use Rattle.tink_run.specs.SealSteps.{SealsUnder}
 use Rattle.tink_run.specs.Outside.{Outside, outside_of}
-use Rattle.tink_run.proofs.EndingSteps.{begins_as, early_ends, ends_as, seals_ended}
+use Rattle.tink_run.proofs.EndingSteps.{begins_as, early_ends, ends_as, seals_ended, leaves_ended}
+use Rattle.tink_run.specs.Run.{LeavesEnds}
 use Rattle.tink_run.proofs.together.seal_together.Goals as goal
 
 pub returns-clause-answer : goal.returns-clause-answer
@@ -24,3 +25,17 @@ returns-clause-answer g c =
     (ends_as (SealsUnder (key_in_set c.args.key.now) c.args.aad.now c.args.draws.now c.seal-answer.new.draws) _ old (left c.seal-answer.new.source) (reads c.seal-answer.new.source) (got then.sink.now) _ (got last.sink.now) (faults then.sink.now) (faults last.sink.now) c.seal-answer.result c.ended.result
     (begins_as got faults (left c.args.source.now) (reads c.args.source.now) first.sink.now c.args.sink.now first.waiting.now.items c.new-gathered.ensures.sink c.new-gathered.ensures.empty)
     c.seal-answer.ensures.answer c.ended.ensures.ends grows c.ended.ensures.grows (omega (arith, ap faults c.new-gathered.ensures.sink, c.seal-answer.ensures.later.writes)) c.ended.ensures.later early))
+
+pub returns-clause-sink : goal.returns-clause-sink
+returns-clause-sink g c =
+    subst (λ k. g.K.Sink.same c.args.sink.now k) (search rules)
+    (g.met.K.Sink.same_trans _ _ _ (subst (λ k. g.K.Sink.same k c.seal-answer.new.sink.sink.now) c.new-gathered.ensures.sink c.seal-answer.ensures.sink.2) c.ended.ensures.same)
+
+pub returns-clause-early : goal.returns-clause-early
+returns-clause-early g c =
+    subst (λ k. LeavesEnds c.ended.result c.args.source.now c.seal-answer.new.source c.args.sink.now k) (search rules)
+    (leaves_ended (λ s. s.sink.now) (λ s. s.waiting.now.items) _ _ _ _ c.seal-answer.result c.ended.result c.args.source.now c.seal-answer.new.source c.new-gathered.result c.seal-answer.new.sink c.args.sink.now c.ended.new.sink.sink.now
+    (sym c.new-gathered.ensures.sink) c.new-gathered.ensures.empty c.seal-answer.ensures.early c.ended.ensures.still c.ended.ensures.ends)
+
+pub returns-clause-source : goal.returns-clause-source
+returns-clause-source g c = c.seal-answer.ensures.source

@@ -1,9 +1,9 @@
-use Rattle.std.proofs.Common.{refl, arith}
+use Rattle.std.proofs.Common.{refl, arith, le_refl}
 use Rattle.std.proofs.lemmas.Result.{err_from_is_err_and}
 use Rattle.std.specs.Prelude.{Err}
 use Rattle.tink_range.specs.ChunkReading.{Moments, ends_of}
 use Rattle.tink_run.proofs.KeysetSteps.{complete, loaded, not_loaded, slices, stands_unloaded, steps_loaded}
-use Rattle.tink_run.proofs.SetSteps.{ranges_of_loaded, steps_of_loaded}
+use Rattle.tink_run.proofs.SetSteps.{ranges_of_loaded, steps_of_loaded, leaves_same, unwritten_same}
 use Rattle.tink_run.proofs.ranges.of_keyset.run_range.Goals as goal
 
 pub returns-in_err-keys-clause-answer : goal.returns-in_err-keys-clause-answer
@@ -66,3 +66,36 @@ returns-clause-ticks g c =
     steps_loaded c.args.keyset.now c.args.aad.now (g.A.ReadAt.bytes object) (g.A.ReadAt.length_of object) c.args.start c.args.len c.args.steps.now c.range_of_set.new.steps
     c.in_ok-keys.keys c.in_ok-keys.ensures.answer
     (steps_of_loaded c.args.aad.now c.in_ok-keys.keys (g.A.ReadAt.bytes object) (g.A.ReadAt.length_of object) c.args.start c.args.len c.args.steps.now c.range_of_set.new.steps c.range_of_set.ensures.order c.range_of_set.ensures.ticks)
+
+pub returns-clause-early : goal.returns-clause-early
+returns-clause-early g c = c.range_of_set.ensures.early
+
+pub returns-clause-unwritten : goal.returns-clause-unwritten
+returns-clause-unwritten g c = c.range_of_set.ensures.unwritten
+
+pub returns-clause-kept : goal.returns-clause-kept
+returns-clause-kept g c = c.range_of_set.ensures.kept
+
+pub returns-clause-later : goal.returns-clause-later
+returns-clause-later g c = c.range_of_set.ensures.later
+
+pub returns-clause-object : goal.returns-clause-object
+returns-clause-object g c = c.range_of_set.ensures.object
+
+pub returns-clause-sink : goal.returns-clause-sink
+returns-clause-sink g c = c.range_of_set.ensures.sink
+
+pub returns-in_err-keys-clause-early : goal.returns-in_err-keys-clause-early
+returns-in_err-keys-clause-early g c = leaves_same c.from_residual.result c.args.object.now c.args.sink.now
+
+pub returns-in_err-keys-clause-unwritten : goal.returns-in_err-keys-clause-unwritten
+returns-in_err-keys-clause-unwritten g c = unwritten_same c.from_residual.result c.args.sink.now
+
+pub returns-in_err-keys-clause-later : goal.returns-in_err-keys-clause-later
+returns-in_err-keys-clause-later g c = le_refl _
+
+pub returns-in_err-keys-clause-object : goal.returns-in_err-keys-clause-object
+returns-in_err-keys-clause-object g c = g.met.A.ReadAt.same_refl _
+
+pub returns-in_err-keys-clause-sink : goal.returns-in_err-keys-clause-sink
+returns-in_err-keys-clause-sink g c = g.met.K.Sink.same_refl _

@@ -1,4 +1,4 @@
-use Rattle.std.proofs.Common.{◌≡◌, List, map, ap, sym, ◌∙◌, subst}
+use Rattle.std.proofs.Common.{◌≡◌, List, map, ap, sym, ◌∙◌, subst, le_refl}
 use Rattle.std.proofs.lemmas.Simd.{map-map}
 use Rattle.stream_model.specs.Opening.{OpeningKey, opening_key}
 use Rattle.tink_stream_keys.specs.StreamKinds.{key_in_set}
@@ -6,7 +6,8 @@ use Rattle.tink_streaming_aead.specs.Wrapped.{all_entries, keys_in}
 use Rattle.tink_range.specs.ChunkReading.{Moments, ends_of}
 use Rattle.tink_range.specs.KeyRanges.{TakesRangeSteps}
 use Rattle.tink_run.specs.SetRanges.{RangesOf}
-use Rattle.tink_run.proofs.SetSteps.{ranges_of, unwritten_of}
+use Rattle.tink_run.proofs.SetSteps.{ranges_of, unwritten_of, leaves_same, leaves_under, unwritten_same}
+use Rattle.tink_run.proofs.RoomFacts.{has_room}
 use Rattle.tink_run.proofs.ranges.of_set.range_of_set.Goals as goal
 
 pub returns-clause-answer : goal.returns-clause-answer
@@ -40,3 +41,66 @@ returns-clause-unwritten g c =
     let e : Moments (g.row.K.Denot) = ends_of g.A.ReadAt.bytes g.A.ReadAt.faults c.args.object.now c.range_under.new.object c.args.sink.now c.range_under.new.sink in
     unwritten_of g.K.Sink.got g.K.Sink.faults _ whole c.args.start c.args.len e c.range_under.result
     (ranges_of g.K.Sink.got g.K.Sink.faults _ whole c.args.start c.args.len e c.range_under.result c.range_under.ensures.answer)
+
+pub range_under-requires : goal.range_under-requires
+range_under-requires g c =
+    record {
+      room = has_room (λ k. key_in_set k.now) _ _ _ _ _ _ _ (c.deref.ensures.value ∙ sym c.deref-2.ensures.value) c.room_of.ensures.most c.in_ok-trial.ensures.buffer
+          c.in_ok-trial.ensures.opened c.in_ok-trial.ensures.nonce c.in_ok-trial.ensures.prefix;
+    }
+
+pub returns-clause-early : goal.returns-clause-early
+returns-clause-early g c =
+    let e : Moments (g.row.K.Denot) = ends_of g.A.ReadAt.bytes g.A.ReadAt.faults c.args.object.now c.range_under.new.object c.args.sink.now c.range_under.new.sink in
+    leaves_under g.K.Sink.got g.K.Sink.faults _ (g.A.ReadAt.length_of c.args.object.now) c.args.start c.args.len e c.range_under.result _ _ _ _ c.range_under.ensures.answer
+
+pub returns-clause-kept : goal.returns-clause-kept
+returns-clause-kept g c = c.range_under.ensures.kept
+
+pub returns-clause-later : goal.returns-clause-later
+returns-clause-later g c = c.range_under.ensures.later
+
+pub returns-clause-object : goal.returns-clause-object
+returns-clause-object g c = c.range_under.ensures.object
+
+pub returns-clause-sink : goal.returns-clause-sink
+returns-clause-sink g c = c.range_under.ensures.sink
+
+pub returns-clause-order : goal.returns-clause-order
+returns-clause-order g c = c.in_ok-keys.ensures.order
+
+pub returns-in_err-keys-clause-order : goal.returns-in_err-keys-clause-order
+returns-in_err-keys-clause-order g c = c.in_err-keys.ensures.order
+
+pub returns-in_err-keys-clause-early : goal.returns-in_err-keys-clause-early
+returns-in_err-keys-clause-early g c = leaves_same c.from_residual.result c.args.object.now c.args.sink.now
+
+pub returns-in_err-keys-clause-unwritten : goal.returns-in_err-keys-clause-unwritten
+returns-in_err-keys-clause-unwritten g c = unwritten_same c.from_residual.result c.args.sink.now
+
+pub returns-in_err-keys-clause-later : goal.returns-in_err-keys-clause-later
+returns-in_err-keys-clause-later g c = le_refl _
+
+pub returns-in_err-keys-clause-object : goal.returns-in_err-keys-clause-object
+returns-in_err-keys-clause-object g c = g.met.A.ReadAt.same_refl _
+
+pub returns-in_err-keys-clause-sink : goal.returns-in_err-keys-clause-sink
+returns-in_err-keys-clause-sink g c = g.met.K.Sink.same_refl _
+
+pub returns-in_err-trial-clause-order : goal.returns-in_err-trial-clause-order
+returns-in_err-trial-clause-order g c = c.in_ok-keys.ensures.order
+
+pub returns-in_err-trial-clause-early : goal.returns-in_err-trial-clause-early
+returns-in_err-trial-clause-early g c = leaves_same c.from_residual-in_err-trial.result c.args.object.now c.args.sink.now
+
+pub returns-in_err-trial-clause-unwritten : goal.returns-in_err-trial-clause-unwritten
+returns-in_err-trial-clause-unwritten g c = unwritten_same c.from_residual-in_err-trial.result c.args.sink.now
+
+pub returns-in_err-trial-clause-later : goal.returns-in_err-trial-clause-later
+returns-in_err-trial-clause-later g c = le_refl _
+
+pub returns-in_err-trial-clause-object : goal.returns-in_err-trial-clause-object
+returns-in_err-trial-clause-object g c = g.met.A.ReadAt.same_refl _
+
+pub returns-in_err-trial-clause-sink : goal.returns-in_err-trial-clause-sink
+returns-in_err-trial-clause-sink g c = g.met.K.Sink.same_refl _

@@ -1,4 +1,4 @@
-use Rattle.std.proofs.Common.{◌≡◌, ◌+◌, Err, List, map, ap, sym, ◌∙◌, subst, vec_len}
+use Rattle.std.proofs.Common.{◌≡◌, ◌+◌, Err, List, map, ap, sym, ◌∙◌, subst, vec_len, le_refl}
 use Rattle.std.proofs.lemmas.Simd.{map-map}
 use Rattle.stream_model.specs.Opening.{OpeningKey, opening_key}
 use Rattle.tink_stream_keys.specs.StreamKinds.{key_in_set}
@@ -7,10 +7,11 @@ use Rattle.tink_streaming_aead.specs.DecryptReaders.{largest}
 use Rattle.tink_run.specs.OpenReads.{room_under}
 use Rattle.tink_run.specs.Outside.{Outside, outside_of}
 use Rattle.tink_run.proofs.ReadsSteps.{same_largest}
-use Rattle.tink_run.proofs.RunSteps.{leaves_same}
+use Rattle.tink_run.proofs.RunSteps.{leaves_same, leaves_sink_same}
 use Rattle.tink_run.specs.Rewrapping.{LeavesOrBegins, RewrapsUnder}
 use Rattle.tink_run.proofs.KeySteps.{leaves_or_begins_same, pass_leaves}
 use Rattle.tink_run.proofs.RewrapSteps.{not_prepared, passes_prepared}
+use Rattle.tink_run.proofs.RoomFacts.{has_room}
 use Rattle.tink_run.proofs.rewrap.between.rewrap_between.Goals as goal
 
 pub returns-in-Ok-clause-answer : goal.returns-in-Ok-clause-answer
@@ -67,3 +68,73 @@ returns-in_err-keys-clause-begun g c = leaves_or_begins_same _ (outside_of g.S.S
 
 pub returns-in_err-trial-clause-begun : goal.returns-in_err-trial-clause-begun
 returns-in_err-trial-clause-begun g c = leaves_or_begins_same _ (outside_of g.S.Source.left g.S.Source.faults g.K.Sink.got g.K.Sink.faults c.args.source.now c.args.sink.now) c.from_residual-in_err-trial.result c.args.sink.now
+
+pub pass_under-requires-clause-trial : goal.pass_under-requires-clause-trial
+pass_under-requires-clause-trial g c = (
+  c.in_ok-trial.ensures.filled,
+  has_room (λ k. key_in_set k.now) _ _ _ _ _ _ _ (c.deref.ensures.value ∙ sym c.deref-in-Ok.ensures.value) c.room_of.ensures.most
+      c.in_ok-trial.ensures.buffer c.in_ok-trial.ensures.opened c.in_ok-trial.ensures.nonce c.in_ok-trial.ensures.prefix,
+)
+
+pub pass_under-requires-clause-stream : goal.pass_under-requires-clause-stream
+pass_under-requires-clause-stream g c = (c.in-Ok.ensures.answer.is_open, c.in-Ok.ensures.answer.none_written, c.in-Ok.ensures.answer.none_held)
+
+pub returns-clause-source : goal.returns-clause-source
+returns-clause-source g c = g.met.S.Source.same_refl _
+
+pub returns-clause-sink : goal.returns-clause-sink
+returns-clause-sink g c = g.met.K.Sink.same_refl _
+
+pub returns-clause-later : goal.returns-clause-later
+returns-clause-later g c = record { reads = le_refl _; writes = le_refl _ }
+
+pub returns-clause-unwritten : goal.returns-clause-unwritten
+returns-clause-unwritten g c = leaves_sink_same (Err c.not_begun.result) c.args.sink.now
+
+pub returns-clause-order : goal.returns-clause-order
+returns-clause-order g c = c.in_ok-keys.ensures.order
+
+pub returns-in-Ok-clause-order : goal.returns-in-Ok-clause-order
+returns-in-Ok-clause-order g c = c.in_ok-keys.ensures.order
+
+pub returns-in-Ok-clause-unwritten : goal.returns-in-Ok-clause-unwritten
+returns-in-Ok-clause-unwritten g c = c.pass_under.ensures.unwritten
+
+pub returns-in-Ok-clause-later : goal.returns-in-Ok-clause-later
+returns-in-Ok-clause-later g c = c.pass_under.ensures.later
+
+pub returns-in-Ok-clause-source : goal.returns-in-Ok-clause-source
+returns-in-Ok-clause-source g c = c.pass_under.ensures.source
+
+pub returns-in-Ok-clause-sink : goal.returns-in-Ok-clause-sink
+returns-in-Ok-clause-sink g c = c.pass_under.ensures.sink
+
+pub returns-in_err-keys-clause-order : goal.returns-in_err-keys-clause-order
+returns-in_err-keys-clause-order g c = c.in_err-keys.ensures.order
+
+pub returns-in_err-keys-clause-source : goal.returns-in_err-keys-clause-source
+returns-in_err-keys-clause-source g c = g.met.S.Source.same_refl _
+
+pub returns-in_err-keys-clause-sink : goal.returns-in_err-keys-clause-sink
+returns-in_err-keys-clause-sink g c = g.met.K.Sink.same_refl _
+
+pub returns-in_err-keys-clause-later : goal.returns-in_err-keys-clause-later
+returns-in_err-keys-clause-later g c = record { reads = le_refl _; writes = le_refl _ }
+
+pub returns-in_err-keys-clause-unwritten : goal.returns-in_err-keys-clause-unwritten
+returns-in_err-keys-clause-unwritten g c = leaves_sink_same c.from_residual.result c.args.sink.now
+
+pub returns-in_err-trial-clause-order : goal.returns-in_err-trial-clause-order
+returns-in_err-trial-clause-order g c = c.in_ok-keys.ensures.order
+
+pub returns-in_err-trial-clause-source : goal.returns-in_err-trial-clause-source
+returns-in_err-trial-clause-source g c = g.met.S.Source.same_refl _
+
+pub returns-in_err-trial-clause-sink : goal.returns-in_err-trial-clause-sink
+returns-in_err-trial-clause-sink g c = g.met.K.Sink.same_refl _
+
+pub returns-in_err-trial-clause-later : goal.returns-in_err-trial-clause-later
+returns-in_err-trial-clause-later g c = record { reads = le_refl _; writes = le_refl _ }
+
+pub returns-in_err-trial-clause-unwritten : goal.returns-in_err-trial-clause-unwritten
+returns-in_err-trial-clause-unwritten g c = leaves_sink_same c.from_residual-in_err-trial.result c.args.sink.now

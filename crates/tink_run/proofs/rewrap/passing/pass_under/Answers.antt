@@ -1,4 +1,4 @@
-use Rattle.std.proofs.Common.{◌+◌, ℕ, Bool, List, take, length, refl, sym, ap, ◌∙◌, arith}
+use Rattle.std.proofs.Common.{◌+◌, ℕ, Bool, List, take, length, refl, sym, ap, ◌∙◌, arith, le_refl, le_trans}
 use Rattle.std.specs.Io.KnownBytes.{prepend_known}
 use Rattle.std.proofs.KnownBytes.{Keeps-refl}
 use Rattle.std.proofs.lemmas.Result.{err_from_is_err_and}
@@ -9,6 +9,7 @@ use Rattle.tink_run.specs.Outside.{Outside, outside_of}
 use Rattle.tink_run.proofs.OpenSteps.{unread}
 use Rattle.tink_streaming_aead.proofs.DecryptSteps.{reads_more}
 use Rattle.tink_run.proofs.KeySteps.{begun_of, leaves_or_begins_same, pass_not_started, pass_started}
+use Rattle.tink_run.proofs.RunSteps.{leaves_sink_same}
 use Rattle.tink_run.proofs.rewrap.passing.pass_under.Goals as goal
 
 pub returns-in_err-reader-clause-answer : goal.returns-in_err-reader-clause-answer
@@ -26,9 +27,9 @@ returns-clause-answer g c =
     let opener = reader.opener in
     let seg : ℕ → Bool → List ℕ → List ℕ = numbered (segment_by opener.decrypter) opener.nonce_size opener.prefix.items in
     let started : Outside = record { left = prepend_known (take reader.filled reader.buffer.items) (g.S.Source.left c.start.new.source); read_faults = g.S.Source.faults c.start.new.source; got = g.K.Sink.got c.args.sink.now; write_faults = g.K.Sink.faults c.args.sink.now } in
-    pass_started _ _ seg opener.first opener.size opener.overhead _ _ started _ _ (omega (arith, opener.some))
+    pass_started _ _ seg opener.first opener.size opener.overhead _ _ started _ _ opener.some
     (numbered_longer (segment_by opener.decrypter) opener.nonce_size opener.prefix.items opener.overhead (λ n t. length-segment_by opener.decrypter n t ∙ ap (λ x. length t + x) (sym opener.overhead_is)))
-    refl c.start.ensures.later (omega arith) (rw none_held at c.in_ok-reader.ensures.started) (rw c.in_ok-reader.ensures.fresh.3 at c.pass.ensures.answer)
+    refl c.start.ensures.later (le_refl _) (rw none_held at c.in_ok-reader.ensures.started) (rw c.in_ok-reader.ensures.fresh.3 at c.pass.ensures.answer)
 
 pub returns-in_err-reader-clause-begun : goal.returns-in_err-reader-clause-begun
 returns-in_err-reader-clause-begun g c = leaves_or_begins_same _ (outside_of g.S.Source.left g.S.Source.faults g.K.Sink.got g.K.Sink.faults c.args.source.now c.args.sink.now) c.from_residual.result c.args.sink.now
@@ -41,3 +42,45 @@ returns-clause-begun g c =
     let opener = reader.opener in
     let seg : ℕ → Bool → List ℕ → List ℕ = numbered (segment_by opener.decrypter) opener.nonce_size opener.prefix.items in
     begun_of _ seg opener.first opener.size opener.overhead (prepend_known (take reader.filled reader.buffer.items) (g.S.Source.left c.start.new.source)) (outside_of g.S.Source.left g.S.Source.faults g.K.Sink.got g.K.Sink.faults c.args.source.now c.args.sink.now) c.pass.result _ _ (rw none_held at c.in_ok-reader.ensures.started)
+
+pub start-requires : goal.start-requires
+start-requires g c = record { room = c.requires.trial.1 }
+
+pub pass-requires-clause-open : goal.pass-requires-clause-open
+pass-requires-clause-open g c = c.requires.stream.0
+
+pub pass-requires-clause-fresh : goal.pass-requires-clause-fresh
+pass-requires-clause-fresh g c = c.requires.stream.1
+
+pub pass-requires-clause-empty : goal.pass-requires-clause-empty
+pass-requires-clause-empty g c = c.requires.stream.2
+
+pub pass-requires-clause-running : goal.pass-requires-clause-running
+pass-requires-clause-running g c = c.in_ok-reader.ensures.fresh.0
+
+pub pass-requires-clause-first : goal.pass-requires-clause-first
+pass-requires-clause-first g c = c.in_ok-reader.ensures.fresh.1
+
+pub returns-in_err-reader-clause-unwritten : goal.returns-in_err-reader-clause-unwritten
+returns-in_err-reader-clause-unwritten g c = leaves_sink_same c.from_residual.result c.args.sink.now
+
+pub returns-in_err-reader-clause-later : goal.returns-in_err-reader-clause-later
+returns-in_err-reader-clause-later g c = record { reads = c.start.ensures.later; writes = le_refl _ }
+
+pub returns-in_err-reader-clause-source : goal.returns-in_err-reader-clause-source
+returns-in_err-reader-clause-source g c = c.start.ensures.same
+
+pub returns-in_err-reader-clause-sink : goal.returns-in_err-reader-clause-sink
+returns-in_err-reader-clause-sink g c = g.met.K.Sink.same_refl _
+
+pub returns-clause-unwritten : goal.returns-clause-unwritten
+returns-clause-unwritten g c = c.pass.ensures.unwritten
+
+pub returns-clause-later : goal.returns-clause-later
+returns-clause-later g c = record { reads = le_trans c.start.ensures.later c.pass.ensures.later.reads; writes = c.pass.ensures.later.writes }
+
+pub returns-clause-source : goal.returns-clause-source
+returns-clause-source g c = g.met.S.Source.same_trans _ _ _ c.start.ensures.same c.pass.ensures.source
+
+pub returns-clause-sink : goal.returns-clause-sink
+returns-clause-sink g c = c.pass.ensures.sink

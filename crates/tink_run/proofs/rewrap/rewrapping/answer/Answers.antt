@@ -1,6 +1,6 @@
-use Rattle.std.proofs.Common.{ap}
+use Rattle.std.proofs.Common.{ap, le_refl}
 use Rattle.std.proofs.lemmas.Result.{err_from_is_err_and}
-use Rattle.tink_run.proofs.RunSteps.{leaves_same}
+use Rattle.tink_run.proofs.RunSteps.{leaves_same, leaves_sink_same}
 use Rattle.tink_run.specs.Rewrapping.{Sides}
 use Rattle.tink_run.proofs.RewrapSteps.{from_not_loaded, rewraps_keysets, to_not_loaded, wants_memory}
 use Rattle.tink_run.proofs.rewrap.rewrapping.answer.Goals as goal
@@ -37,3 +37,54 @@ returns-clause-answer g c =
     let s : Sides = record { from = c.args.from.now; from_aad = c.args.from_aad.now; to = c.args.to.now; to_aad = c.args.to_aad.now } in
     rewraps_keysets s c.args.draws.now c.rewrap_together.new.draws c.in_ok-keys.keys c.in_ok-new_keys.new_keys _ _ _ c.rewrap_together.result c.in_ok-keys.ensures.answer c.in_ok-new_keys.ensures.answer
     c.primary_key.ensures c.rewrap_together.ensures.order c.rewrap_together.ensures.answer
+
+pub returns-in_err-keys-clause-source : goal.returns-in_err-keys-clause-source
+returns-in_err-keys-clause-source g c = g.met.S.Source.same_refl _
+
+pub returns-in_err-keys-clause-sink : goal.returns-in_err-keys-clause-sink
+returns-in_err-keys-clause-sink g c = g.met.K.Sink.same_refl _
+
+pub returns-in_err-keys-clause-later : goal.returns-in_err-keys-clause-later
+returns-in_err-keys-clause-later g c = record { reads = le_refl _; writes = le_refl _ }
+
+pub returns-in_err-keys-clause-unwritten : goal.returns-in_err-keys-clause-unwritten
+returns-in_err-keys-clause-unwritten g c = leaves_sink_same c.from_residual.result c.args.sink.now
+
+pub returns-in_err-new_keys-clause-source : goal.returns-in_err-new_keys-clause-source
+returns-in_err-new_keys-clause-source g c = g.met.S.Source.same_refl _
+
+pub returns-in_err-new_keys-clause-sink : goal.returns-in_err-new_keys-clause-sink
+returns-in_err-new_keys-clause-sink g c = g.met.K.Sink.same_refl _
+
+pub returns-in_err-new_keys-clause-later : goal.returns-in_err-new_keys-clause-later
+returns-in_err-new_keys-clause-later g c = record { reads = le_refl _; writes = le_refl _ }
+
+pub returns-in_err-new_keys-clause-unwritten : goal.returns-in_err-new_keys-clause-unwritten
+returns-in_err-new_keys-clause-unwritten g c = leaves_sink_same c.from_residual-in_err-new_keys.result c.args.sink.now
+
+pub returns-in_err-waiting-clause-source : goal.returns-in_err-waiting-clause-source
+returns-in_err-waiting-clause-source g c = g.met.S.Source.same_refl _
+
+pub returns-in_err-waiting-clause-sink : goal.returns-in_err-waiting-clause-sink
+returns-in_err-waiting-clause-sink g c = g.met.K.Sink.same_refl _
+
+pub returns-in_err-waiting-clause-later : goal.returns-in_err-waiting-clause-later
+returns-in_err-waiting-clause-later g c = record { reads = le_refl _; writes = le_refl _ }
+
+pub returns-in_err-waiting-clause-unwritten : goal.returns-in_err-waiting-clause-unwritten
+returns-in_err-waiting-clause-unwritten g c = leaves_sink_same c.from_residual-in_err-waiting.result c.args.sink.now
+
+pub returns-clause-early : goal.returns-clause-early
+returns-clause-early g c = c.rewrap_together.ensures.early
+
+pub returns-clause-unwritten : goal.returns-clause-unwritten
+returns-clause-unwritten g c = c.rewrap_together.ensures.unwritten
+
+pub returns-clause-later : goal.returns-clause-later
+returns-clause-later g c = c.rewrap_together.ensures.later
+
+pub returns-clause-source : goal.returns-clause-source
+returns-clause-source g c = c.rewrap_together.ensures.source
+
+pub returns-clause-sink : goal.returns-clause-sink
+returns-clause-sink g c = c.rewrap_together.ensures.sink

@@ -1,13 +1,14 @@
-use Rattle.std.proofs.Common.{refl, rules, arith, ap, subst, map}
+use Rattle.std.proofs.Common.{refl, rules, arith, ap, subst, map, sym}
 use Rattle.std.specs.Io.KnownBytes.{append_known}
 use Rattle.stream_model.specs.Opening.{opening_key}
 use Rattle.tink_stream_keys.specs.StreamKinds.{key_in_set}
 use Rattle.tink_streaming_aead.specs.Wrapped.{all_entries, keys_in}
 use Rattle.tink_io.specs.Gathering.{OnlyGrows}
 use Rattle.tink_run.specs.Outside.{Outside, outside_of}
-use Rattle.tink_run.proofs.EndingSteps.{begins_as, early_ends}
+use Rattle.tink_run.proofs.EndingSteps.{begins_as, early_ends, leaves_ended, leaves_sink_ended}
 use Rattle.tink_run.specs.Rewrapping.{RewrapEnds}
 use Rattle.tink_run.proofs.PassEndings.{begun_ends, rewrap_ends_as}
+use Rattle.tink_run.specs.Run.{LeavesEnds, LeavesSinkItself}
 use Rattle.tink_run.proofs.rewrap.together.rewrap_together.Goals as goal
 
 pub returns-clause-answer : goal.returns-clause-answer
@@ -29,3 +30,26 @@ returns-clause-answer g c =
     (begins_as got faults (left c.args.source.now) (reads c.args.source.now) first.sink.now c.args.sink.now first.waiting.now.items c.new-gathered.ensures.sink c.new-gathered.ensures.empty)
     call.ensures.answer c.ended.ensures.ends grows c.ended.ensures.grows (omega (arith, ap faults c.new-gathered.ensures.sink, call.ensures.later.writes)) c.ended.ensures.later early
     (begun_ends got faults (λ s. s.sink.now) (λ s. s.waiting.now.items) keys (outside_of left reads (λ s. append_known (got s.sink.now) s.waiting.now.items) (λ s. faults s.sink.now) c.args.source.now first) old call.result c.ended.result first then last.sink.now refl c.new-gathered.ensures.empty call.ensures.begun c.ended.ensures.still))
+
+pub returns-clause-sink : goal.returns-clause-sink
+returns-clause-sink g c =
+    subst (λ k. g.K.Sink.same c.args.sink.now k) (search rules)
+    (g.met.K.Sink.same_trans _ _ _ (subst (λ k. g.K.Sink.same k c.rewrap_between-answer.new.sink.sink.now) c.new-gathered.ensures.sink c.rewrap_between-answer.ensures.sink.2) c.ended.ensures.same)
+
+pub returns-clause-early : goal.returns-clause-early
+returns-clause-early g c =
+    subst (λ k. LeavesEnds c.ended.result c.args.source.now c.rewrap_between-answer.new.source c.args.sink.now k) (search rules)
+    (leaves_ended (λ s. s.sink.now) (λ s. s.waiting.now.items) _ _ _ _ c.rewrap_between-answer.result c.ended.result c.args.source.now c.rewrap_between-answer.new.source c.new-gathered.result c.rewrap_between-answer.new.sink c.args.sink.now c.ended.new.sink.sink.now
+    (sym c.new-gathered.ensures.sink) c.new-gathered.ensures.empty c.rewrap_between-answer.ensures.early c.ended.ensures.still c.ended.ensures.ends)
+
+pub returns-clause-unwritten : goal.returns-clause-unwritten
+returns-clause-unwritten g c =
+    subst (λ k. LeavesSinkItself c.ended.result c.args.sink.now k) (search rules)
+    (leaves_sink_ended (λ s. s.sink.now) (λ s. s.waiting.now.items) _ _ _ _ c.rewrap_between-answer.result c.ended.result c.new-gathered.result c.rewrap_between-answer.new.sink c.args.sink.now c.ended.new.sink.sink.now (sym c.new-gathered.ensures.sink)
+    c.new-gathered.ensures.empty c.rewrap_between-answer.ensures.unwritten c.ended.ensures.still c.ended.ensures.ends)
+
+pub returns-clause-source : goal.returns-clause-source
+returns-clause-source g c = c.rewrap_between-answer.ensures.source
+
+pub returns-clause-order : goal.returns-clause-order
+returns-clause-order g c = c.rewrap_between-answer.ensures.order
