@@ -1,8 +1,9 @@
 -- The first entry that accepts, read off the list of all entries.
-use Rattle.std.proofs.Common.{◌≡◌, ◌∙◌, ◌<◌, ℕ, List, [], Result, ap, sym, take, drop}
+use Rattle.std.proofs.Common.{◌≡◌, ◌∙◌, ◌+◌, ◌<◌, ◌≤◌, ℕ, List, [], ◌∷◌, Result, Ok, Some, get_or, ap, sym, refl, take, drop}
 use Rattle.std.specs.Prelude.{Vec, Option, None, cond, nat_lt, length, Err}
 use Rattle.std.specs.BTreeMap.{BTreeMap}
 use Rattle.std.proofs.lemmas.Bool.{lt-ltb}
+use Rattle.std.proofs.lemmas.List.{at_drop_more, drop_all}
 use Rattle.tink_io.specs.declared.error.Kind.{Kind}
 use Rattle.tink_sets.specs.Entries.{typed_prefix_of}
 use Rattle.tink_sets.specs.Groups.{AreGroupsOf, group_of}
@@ -27,8 +28,33 @@ module _ {Q A : Type 0} (answer : TypedEntry Q → List ℕ → Result A Kind) (
       ∙ ap (first_value (λ e. answer e (drop 5 input))) entries
       ∙ sym (ap (λ b. cond b (first_value (λ e. answer e (drop 5 input)) (group (take 5 input))) None) (lt-ltb 5 (length input) long))
 
+  -- the answer of those of the prefix, where one accepts
+  pub accepted-prefixed : (none : Kind) (o : Option A) (v : A) → o ≡ prefixed_value answer group input → o ≡ Some v → accepted answer group none input ≡ Ok v
+  accepted-prefixed none o v is there = ap (λ p. value_or none (or_else p (raw_value answer group input))) (sym is ∙ there)
+
+  -- none of the prefix accepts
+  pub not_prefixed : (o : Option A) → ((v : A) → o ≡ Some v → ⊥) → o ≡ prefixed_value answer group input → None ≡ prefixed_value answer group input
+  not_prefixed None other is = is
+  not_prefixed (Some v) other is = absurd (other v refl)
+
   -- the answer of those without a prefix, where no other accepts
   pub accepted-raw : (none : Kind) (xs : List (TypedEntry Q)) (v : Option A) → None ≡ prefixed_value answer group input → xs ≡ group [] → v ≡ first_value (λ e. answer e input) xs → accepted answer group none input ≡ value_or none v
   accepted-raw none xs v before entries is =
       ap (λ o. value_or none (or_else o (raw_value answer group input))) (sym before)
       ∙ ap (value_or none) (sym (is ∙ ap (first_value (λ e. answer e input)) entries))
+
+-- What the entry at a place gives, where those before it did not accept.
+module _ {E A : Type 0} (answer : E → List ℕ → Result A Kind) (input : List ℕ) where
+  module _ (xs : List E) (i : ℕ) (x : E) (before : first_value (λ e. answer e input) xs ≡ first_value (λ e. answer e input) (drop i xs)) (within : i < length xs) (is : x ≡ get_or xs i x) where
+    here : first_value (λ e. answer e input) xs ≡ first_value (λ e. answer e input) (x ∷ drop (i + 1) xs)
+    here = before ∙ at_drop_more (first_value (λ e. answer e input)) xs i x within ∙ ap (λ y. first_value (λ e. answer e input) (y ∷ drop (i + 1) xs)) (sym is)
+
+    pub first_accepts : (v : A) → answer x input ≡ Ok v → Some v ≡ first_value (λ e. answer e input) xs
+    first_accepts v told = sym (here ∙ ap (λ (r : Result A Kind). elim r as (λ _. Option A) [ Ok w ↦ Some w | Err _ ↦ first_value (λ e. answer e input) (drop (i + 1) xs) ]) told)
+
+    pub first_refuses : (k : Kind) → answer x input ≡ Err k → first_value (λ e. answer e input) xs ≡ first_value (λ e. answer e input) (drop (i + 1) xs)
+    first_refuses k told = here ∙ ap (λ (r : Result A Kind). elim r as (λ _. Option A) [ Ok w ↦ Some w | Err _ ↦ first_value (λ e. answer e input) (drop (i + 1) xs) ]) told
+
+  -- none of a list accepts
+  pub first_of_none : (xs : List E) (i : ℕ) → first_value (λ e. answer e input) xs ≡ first_value (λ e. answer e input) (drop i xs) → length xs ≤ i → None ≡ first_value (λ e. answer e input) xs
+  first_of_none xs i before over = sym (before ∙ ap (first_value (λ e. answer e input)) (drop_all i xs over))

@@ -47,3 +47,7 @@ pub with_new : (ks : Keyset) (kt : KeyTemplate) (as_primary : Bool) (made : Resu
 with_new ks kt as_primary made d keys left id primary before all has rest are is chosen held put =
     let there : record { primary_key_id = primary; key = all } ≡ with_key ks as_primary (new_key kt d id) = rw (chosen, put, held) in
     there ∙ sym (ap (λ (a : Added). a.keyset) (by_id ks kt as_primary made d keys left (Ok id) has rest are is))
+
+-- the keyset stays where its keys do
+pub same_keys : (primary : ℕ) (before now : List Key) (ks : Keyset) → record { primary_key_id = primary; key = before } ≡ ks → now ≡ before → record { primary_key_id = primary; key = now } ≡ ks
+same_keys primary before now ks held same = rw same held

@@ -1,5 +1,5 @@
 -- What is written into memory under a master key and read again.
-use Rattle.std.proofs.Common.{◌≡◌, inl, inr, ◌∙◌, ℕ, List, Some, Result, Ok, Err, refl, sym, ap, subst, arith, cond}
+use Rattle.std.proofs.Common.{◌≡◌, ◌⊎◌, inl, inr, ◌∙◌, ℕ, List, Some, Result, Ok, Err, refl, sym, ap, subst, arith, cond}
 use Rattle.wire_format.specs.Message.{decoded}
 use Rattle.tink_io.specs.Told.{Answers, made_of, or_refused}
 use Rattle.tink_io.specs.declared.error.Kind.{Kind}
@@ -11,9 +11,9 @@ use Rattle.tink_proto.specs.declared.messages.keys.Keyset.{Keyset}
 use Rattle.keyset_model.specs.Validity.{MayBeHeld}
 use Rattle.tink_keysets.specs.declared.keyset.memory.MemReaderWriter.{MemReaderWriter}
 use Rattle.tink_keysets.specs.Encrypted.{by_master, chained, decrypted, handle_of_bytes, with_info, MasterUndoes}
-use Rattle.tink_keysets.specs.Ends.{held_or, IsReadRefusal}
+use Rattle.tink_keysets.specs.Ends.{held_or, IsReadRefusal, IsWriteRefusal}
 use Rattle.tink_keysets.specs.Handles.{handle_of}
-use Rattle.tink_keysets.specs.Through.{GivesBy, IsTaken}
+use Rattle.tink_keysets.specs.Through.{GivesBy, IsRefusedByWriter, IsTaken, IsUnmade}
 
 -- where a value is given and no fault can be, there is no refusal but `OutOfMemory`
 only_memory : {T : Type 0} (v : T) (kind : Kind) → IsReadRefusal (Some (Ok v)) kind 0 0 → kind ≡ OutOfMemory
@@ -56,3 +56,28 @@ pub other_read : (decrypts : List ℕ → List ℕ → Result (List ℕ) Kind) (
     → chained (decrypted decrypts read) (made_of (with_info ks) (by_master r)) ≡ Err MasterFailed
 other_read decrypts ks read r ciphertext kind is refused =
     ap (λ (b : Result (List ℕ) Kind). chained (decrypted decrypts read) (made_of (with_info ks) (by_master b))) is ∙ ap (λ (b : Result (List ℕ) Kind). chained handle_of_bytes (by_master b)) refused
+
+-- memory takes what is made
+taken_or_memory : (kind : Kind) → IsWriteRefusal (Some (Ok tt)) kind 0 0 → kind ≡ OutOfMemory
+taken_or_memory OutOfMemory h = refl
+taken_or_memory ReadFault h = absurd h
+taken_or_memory WriteFault h = absurd (omega (arith, h))
+taken_or_memory kind h = absurd (cc)
+
+pub not_made : (made : Result EncryptedKeyset Kind) (kind : Kind) (old new : MemReaderWriter)
+    → IsUnmade made kind old new ⊎ IsRefusedByWriter (λ _ _. Some (Ok tt)) (λ before _ _ after. after ≡ before) (λ _. 0) made kind old new → (kind ≡ OutOfMemory) ⊎ (made ≡ Err kind)
+not_made made kind old new (inl unmade) = unmade.cause
+not_made made kind old new (inr by) = inl (taken_or_memory kind by.cause)
+
+-- a refusal of the master is that of reading too
+pub not_made_same : {S T U : Type 0} (f : S → T) (g : S → U) (r : Result S Kind) (kind : Kind) → (kind ≡ OutOfMemory) ⊎ (made_of f r ≡ Err kind) → (kind ≡ OutOfMemory) ⊎ (made_of g r ≡ Err kind)
+not_made_same f g (Ok v) kind (inl memory) = inl memory
+not_made_same f g (Ok v) kind (inr is) = absurd (cc)
+not_made_same f g (Err k) kind (inl memory) = inl memory
+not_made_same f g (Err k) kind (inr is) = let same : k ≡ kind = cc in inr (ap Err same)
+
+-- what is made is not refused
+pub not_made_other : {S T : Type 0} (f : S → T) (r : Result S Kind) (v : S) (kind : Kind) → r ≡ Ok v → (kind ≡ OutOfMemory) ⊎ (made_of f (by_master r) ≡ Err kind) → kind ≡ OutOfMemory
+not_made_other f (Ok w) v kind is (inl memory) = memory
+not_made_other f (Ok w) v kind is (inr refused) = absurd (cc)
+not_made_other f (Err k) v kind is h = absurd (cc)

@@ -1,11 +1,15 @@
 -- What calls through a reader or a writer answer, from what each of their parts does.
-use Rattle.std.proofs.Common.{◌≡◌, inl, inr, subst, sym, Option, Result, Ok, Err, ℕ}
+use Rattle.std.proofs.Common.{◌≡◌, ◌∙◌, inl, inr, ap, refl, subst, sym, List, Option, None, Result, Ok, Err, ℕ}
 use Rattle.std.specs.Prelude.{OnOk, IfErr}
-use Rattle.tink_io.specs.Told.{Answers}
+use Rattle.tink_io.specs.Told.{Answers, Tells}
 use Rattle.tink_io.specs.declared.error.Kind.{Kind}
 use Rattle.tink_io.specs.declared.error.TinkError.{TinkError}
+use Rattle.tink_proto.specs.Outcome.{Fails}
+use Rattle.tink_proto.specs.declared.error.ProtoError.{ProtoError}
+use Rattle.tink_proto.specs.declared.error.ProtoError.TheVariants.{BadMessage, BadJson, OutOfMemory}
+use Rattle.tink_keysets.specs.Encrypted.{chained}
 use Rattle.tink_keysets.specs.Ends.{HasWritten, IsAsTold, IsReadRefusal}
-use Rattle.tink_keysets.specs.Through.{GivesBy, MakesAndWrites}
+use Rattle.tink_keysets.specs.Through.{GivesBy, LeavesDraws, MakesAndWrites}
 
 -- an answer by what was read
 pub from_read : {S T : Type 0} (makes : S → Result T Kind) (r : Result T TinkError) (told : Option (Result S Kind)) (read : S) (before now : ℕ)
@@ -23,3 +27,27 @@ pub to_write : {S W : Type 0} (answers : W → S → Option (Result (Unit {0}) K
     → OnOk r (writes old message new) → IfErr r (λ e. refused old message e.kind new) → MakesAndWrites answers writes refused faults r made old new
 to_write answers writes refused faults (Ok v) made message old new is h wrote left = record { message = message; is_made = is; answer = h; written = wrote }
 to_write answers writes refused faults (Err e) made message old new is h wrote left = inr (record { message = message; is_made = is; cause = h; left = left })
+
+-- what is so of whatever is answered
+pub so_on_ok : {T E : Type 0} (r : Result T E) (P : Type 0) → P → OnOk r P
+so_on_ok (Ok v) P so = so
+so_on_ok (Err e) P so = tt
+
+-- the draws are left as they are told
+pub leaves_told : {T : Type 0} (r : Result T TinkError) (left before now : List ℕ) → now ≡ left → LeavesDraws r left before now
+leaves_told (Ok v) left before now is = is
+leaves_told (Err e) left before now is = inr is
+
+-- an answer by a value that is told
+pub answers_chained : {S T : Type 0} (makes : S → Result T Kind) (r : Result T TinkError) (told : Result S Kind) (v : S) → told ≡ Ok v → Answers r (makes v) → Answers r (chained makes told)
+answers_chained makes r told v is h = subst (Answers r) (sym (ap (chained makes) is)) h
+
+pub tells_chained : {S T : Type 0} (makes : S → Result T Kind) (r : Result T TinkError) (told : Result S Kind) (v : S) → told ≡ Ok v → Tells r (makes v) → Answers r (chained makes told)
+tells_chained makes (Ok x) told v is h = ap (chained makes) is ∙ h
+tells_chained makes (Err e) told v is h = inr (ap (chained makes) is ∙ h)
+
+-- an error that does not come from memory says that nothing is read
+pub not_read : {M : Type 0} (e : ProtoError) (read : Option M) → (e ≡ OutOfMemory → ⊥) → Fails BadMessage e read → read ≡ None
+not_read BadMessage read other h = h
+not_read BadJson read other h = absurd h
+not_read OutOfMemory read other h = absurd (other refl)

@@ -1,5 +1,5 @@
 use Rattle.std.proofs.Common.{◌≡◌, ◌∙◌, ◌+◌, ◌<◌, ◌++◌, ◌∷◌, [], List, ℕ, length, take, get_or, ap, sym}
-use Rattle.std.proofs.lemmas.List.{take_more}
+use Rattle.std.proofs.lemmas.List.{take_all, take_more}
 use Rattle.tink_keysets.proofs.keyset.copies.copy_all.Goals as goal
 
 one_more : {A : Type 0} (all copied : List A) (i : ℕ) (x y : A) → copied ≡ take i all → i < length all → x ≡ get_or all i x → y ≡ x → copied ++ y ∷ [] ≡ take (i + 1) all
@@ -10,3 +10,6 @@ loop-message-preserved g c =
     c.in_ok-push-in-Ok.ensures.items
     ∙ one_more c.args.messages.now c.loop-message.copied.items c.loop-message.message-index c.message-item.result c.in-Ok.more c.loop-message.invariant
     c.loop-message-test.true c.message-item.is c.in-Ok.ensures.same
+
+pub returns-clause-same : goal.returns-clause-same
+returns-clause-same g c = c.loop-message.invariant ∙ take_all c.loop-message.message-index c.args.messages.now c.loop-message-test.false

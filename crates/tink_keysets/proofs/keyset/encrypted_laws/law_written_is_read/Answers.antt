@@ -1,9 +1,10 @@
-use Rattle.std.proofs.Common.{List, ℕ, refl, subst}
+use Rattle.std.proofs.Common.{List, ℕ, inl, refl, subst}
+use Rattle.std.proofs.lemmas.Result.{err_from_is_err_and}
 use Rattle.wire_format.specs.Message.{encoded}
 use Rattle.tink_io.specs.Told.{Answers}
 use Rattle.tink_proto.specs.Messages.{keyset}
-use Rattle.tink_keysets.specs.Encrypted.{encrypted}
-use Rattle.tink_keysets.proofs.ReadBack.{other_read, read_written, same_read}
+use Rattle.tink_keysets.specs.Encrypted.{by_master, encrypted, with_info}
+use Rattle.tink_keysets.proofs.ReadBack.{not_made, not_made_other, not_made_same, other_read, read_written, same_read}
 use Rattle.tink_keysets.proofs.keyset.encrypted_laws.law_written_is_read.Goals as goal
 
 pub returns-clause-same : goal.returns-clause-same
@@ -29,3 +30,17 @@ returns-clause-other g c = λ ciphertext kind made refused.
     c.in_ok-write_with_associated_data.ensures.answer c.read_with_associated_data.ensures.answer in
     subst (Answers c.read_with_associated_data.result)
     (other_read decrypts c.args.h.now c.args.read.now (encrypts text c.args.written.now c.args.draws.now).0 ciphertext kind made refused) read
+
+pub returns-in_err-write_with_associated_data-clause-same : goal.returns-in_err-write_with_associated_data-clause-same
+returns-in_err-write_with_associated_data-clause-same g c = λ undoes same.
+    let p = err_from_is_err_and c.from_residual.result c.from_residual.ensures.1 in
+    let made = (g.A.Aead.encrypts c.args.master.now (encoded keyset.write c.args.h.now) c.args.written.now c.args.draws.now).0 in
+    rw (p.1, p.2) (not_made_same (with_info c.args.h.now) (λ _. c.args.h.now) (by_master made) _ (not_made (encrypted (g.A.Aead.encrypts c.args.master.now) c.args.written.now c.args.draws.now c.args.h.now).0 _ c.default-memory.result c.write_with_associated_data.new.writer
+    c.in_err-write_with_associated_data.ensures.answer))
+
+pub returns-in_err-write_with_associated_data-clause-other : goal.returns-in_err-write_with_associated_data-clause-other
+returns-in_err-write_with_associated_data-clause-other g c = λ ciphertext kind is refused.
+    let p = err_from_is_err_and c.from_residual.result c.from_residual.ensures.1 in
+    let made = (g.A.Aead.encrypts c.args.master.now (encoded keyset.write c.args.h.now) c.args.written.now c.args.draws.now).0 in
+    rw (p.1, p.2) (inl (not_made_other (with_info c.args.h.now) made ciphertext _ is (not_made (encrypted (g.A.Aead.encrypts c.args.master.now) c.args.written.now c.args.draws.now c.args.h.now).0 _ c.default-memory.result c.write_with_associated_data.new.writer
+    c.in_err-write_with_associated_data.ensures.answer)))

@@ -1,8 +1,10 @@
-use Rattle.std.proofs.Common.{◌≡◌, ◌∙◌, ◌<◌, ◌≤◌, ◌-◌, List, ℕ, true, false, Result, Ok, length, drop, ap, sym, arith}
+use Rattle.std.proofs.Common.{◌≡◌, ◌∙◌, ◌<◌, ◌≤◌, ◌-◌, ◌+◌, List, ℕ, true, false, Result, Ok, Err, length, drop, refl, ap, sym, arith}
+use Rattle.std.proofs.lemmas.Result.{err_from_is_err_and}
 use Rattle.tink_io.specs.declared.error.Kind.{Kind}
+use Rattle.tink_io.specs.declared.error.TinkError.{TinkError}
 use Rattle.tink_proto.specs.declared.messages.keys.Key.{Key}
 use Rattle.keyset_model.specs.Adding.{drawn_id, fresh_id, is_taken}
-use Rattle.keyset_model.proofs.FreshIds.{take_fresh}
+use Rattle.keyset_model.proofs.FreshIds.{no_take, take_fresh, take_short, take_taken}
 use Rattle.tink_keysets.proofs.keyset.fresh_ids.draw_id.Goals as goal
 
 enough : (n : ℕ) → (n < 4 → false ≡ true) → 4 ≤ n
@@ -26,3 +28,31 @@ returns-then-not-is_taken-clause-left c =
 
 pub returns-then-not-is_taken-clause-fresh : goal.returns-then-not-is_taken-clause-fresh
 returns-then-not-is_taken-clause-fresh c = sym c.is_taken.ensures ∙ c.if-not-is_taken.true
+
+pub returns-in_err-id-clause-err : goal.returns-in_err-id-clause-err
+returns-in_err-id-clause-err c =
+    let p = err_from_is_err_and c.from_residual.result c.from_residual.ensures.1 in
+    rw p.1
+    (ap (λ (r : Result ℕ Kind × List ℕ). r.0)
+    (c.loop.invariant ∙ take_short c.args.keys.now 128 c.loop.counter c.loop.draws c.loop-test.true (c.in_err-id.ensures.random_fault.0 refl))
+    ∙ ap (λ (e : TinkError). Err e.kind) (sym (p.2 ∙ c.in_err-id.ensures.refused)))
+
+pub returns-in_err-id-clause-left : goal.returns-in_err-id-clause-left
+returns-in_err-id-clause-left c =
+    c.in_err-id.ensures.err ∙ sym (ap (λ (r : Result ℕ Kind × List ℕ). r.1)
+    (c.loop.invariant ∙ take_short c.args.keys.now 128 c.loop.counter c.loop.draws c.loop-test.true (c.in_err-id.ensures.random_fault.0 refl)))
+
+pub loop-preserved : goal.loop-preserved
+loop-preserved c =
+    c.loop.invariant
+    ∙ take_taken c.args.keys.now 128 c.loop.counter c.loop.draws c.loop-test.true (enough (length c.loop.draws) c.in_ok-id.ensures.random_fault.1)
+    (ap (is_taken c.args.keys.now) (sym c.in_ok-id.ensures.value) ∙ sym c.is_taken.ensures ∙ c.if-not-is_taken.false)
+    ∙ ap (fresh_id c.args.keys.now (128 - (c.loop.counter + 1))) (sym c.in_ok-id.ensures.rest)
+
+pub returns-clause-err : goal.returns-clause-err
+returns-clause-err c =
+    ap (λ (r : Result ℕ Kind × List ℕ). r.0) (c.loop.invariant ∙ no_take c.args.keys.now 128 c.loop.counter c.loop.draws c.loop-test.false)
+    ∙ ap (λ (e : TinkError). Err e.kind) (sym c.new.ensures)
+
+pub returns-clause-left : goal.returns-clause-left
+returns-clause-left c = sym (ap (λ (r : Result ℕ Kind × List ℕ). r.1) (c.loop.invariant ∙ no_take c.args.keys.now 128 c.loop.counter c.loop.draws c.loop-test.false))

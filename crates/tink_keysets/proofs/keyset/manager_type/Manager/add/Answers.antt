@@ -4,7 +4,7 @@ use Rattle.tink_proto.specs.declared.messages.keys.Keyset.{Keyset}
 use Rattle.keyset_model.specs.Adding.{is_taken}
 use Rattle.keyset_model.proofs.FreshIds.{fresh_if_not_taken}
 use Rattle.tink_keysets.specs.Managed.{data_by}
-use Rattle.tink_keysets.proofs.AddingFacts.{refused_data, refused_id, with_id, with_new}
+use Rattle.tink_keysets.proofs.AddingFacts.{refused_data, refused_id, same_keys, with_id, with_new}
 use Rattle.tink_keysets.proofs.keyset.manager_type.Manager.add.Goals as goal
 
 pub returns-in-Err-clause-replies : goal.returns-in-Err-clause-replies
@@ -74,3 +74,12 @@ pub returns-else-as_primary-clause-fresh : goal.returns-else-as_primary-clause-f
 returns-else-as_primary-clause-fresh g c =
     let are : c.deref.result.now ≡ c.args.self.now.key = c.deref.ensures.value ∙ c.in_ok-reserve.ensures.items ∙ ap (λ (ks : Keyset). ks.key) c.self.view_is in
     fresh_if_not_taken c.args.self.now.key c.in-Ok-draw_id.id (ap (λ (keys : List Key). is_taken keys c.in-Ok-draw_id.id) (sym are) ∙ c.in-Ok-draw_id.ensures.fresh)
+
+pub returns-in-Err-draw_id-clause-err : goal.returns-in-Err-draw_id-clause-err
+returns-in-Err-draw_id-clause-err g c = same_keys _ _ _ _ c.self.view_is c.in_ok-reserve.ensures.items
+
+pub returns-in-Err-clause-err : goal.returns-in-Err-clause-err
+returns-in-Err-clause-err g c = same_keys _ _ _ _ c.self.view_is c.in_ok-reserve.ensures.items
+
+pub put_key-requires-clause-known : goal.put_key-requires-clause-known
+put_key-requires-clause-known g c = c.in-Ok.ensures.known
