@@ -1,5 +1,5 @@
 -- Opening at the head of held bytes, said of all bytes that are held or left.
-use Rattle.std.proofs.Common.{◌≡◌, ◌⊎◌, inl, inr, ◌≤◌, ◌<◌, ◌-◌, ◌^◌, ℕ, zero, suc, Bool, true, false, List, [], ◌∷◌, ◌++◌, length, take, drop, Some, None, IfSome, ap, sym, subst, ◌∙◌, arith, length-append}
+use Rattle.std.proofs.Common.{◌≡◌, ◌⊎◌, inl, inr, ◌≤◌, ◌<◌, ◌+◌, ◌-◌, ◌^◌, ℕ, zero, suc, Bool, true, false, List, [], ◌∷◌, ◌++◌, length, take, drop, Some, None, IfSome, ap, sym, subst, ◌∙◌, arith, length-append}
 use Rattle.std.proofs.lemmas.List.{append-nil, length-take, take-append-le, drop-append-le, take_all}
 use Rattle.std.proofs.lemmas.Bool.{le-leb, lt-leb}
 use Rattle.std.proofs.Math.ListN.{drop_of_length-le}
@@ -12,7 +12,9 @@ use Rattle.stream_model.specs.Agree.{Agree}
 use Rattle.stream_model.proofs.CutFacts.{cut_none, room_at_next}
 use Rattle.stream_model.proofs.AgreeFacts.{Agree-empty, Agree-used_up, Agree-none_last, Agree-none_more, Leads-last, Leads-more}
 use Rattle.tink_streams.specs.Opening.{HeadOpensTo, HoldsChunk}
+use Rattle.tink_io.specs.declared.error.Cause.{Cause}
 use Rattle.tink_streams.specs.Reading.{TellsLeads}
+use Rattle.tink_streams.specs.declared.progress.Progress.TheVariants.{Running, Ended, Failed}
 
 pub fits_or_not : (m n : ℕ) → (m ≤ n) ⊎ (n < m)
 fits_or_not zero n = inl (omega arith)
@@ -146,3 +148,66 @@ head_opens seg i size room n H t same some most o = subst (λ b. HeadOpensTo seg
 
 pub head_opened : (seg : ℕ → Bool → List ℕ → List ℕ) (i size room n : ℕ) (H t : List ℕ) → size ≡ room → n ≡ min (length H) size → HeadOpensTo seg i room H t → seg i (nat_le (length H) size) t ≡ take n H
 head_opened seg i size room n H t same most h = (subst (λ b. seg i (nat_le (length H) b) t ≡ take b H) (sym same) h.segment) ∙ sym (head_cut n size H most)
+
+-- what was read is in the buffer
+pub held_in : (filled before size room most len was : ℕ) → filled ≤ max before (size + 1) → before ≤ was → size ≡ room → room ≤ most → most < was → len ≡ was → filled ≤ len
+held_in filled before size room most len was count fits same least more kept = omega arith
+
+pub less_in : (a b c : ℕ) → a < b → c ≡ b → a < c
+less_in a b c less same = omega arith
+
+pub within_in : (a b c : ℕ) → a ≤ b → c ≡ b → a ≤ c
+within_in a b c within same = omega arith
+
+pub fits_in : (a b c : ℕ) → a ≤ b → c ≡ a → c ≤ b
+fits_in a b c fits same = omega arith
+
+pub less_within : (n m len more : ℕ) → n ≤ len → more ≡ len → n - m ≤ more
+less_within n m len more within same = omega arith
+
+pub one_some : (n : ℕ) → 0 < n + 1
+one_some n = omega arith
+
+-- an empty text is small
+pub none_small : (len : ℕ) (xs : List ℕ) → len ≡ length xs → xs ≡ [] → len < 2 ^ 32
+none_small len xs is none = omega (arith, ap length none)
+
+-- a reader that has failed neither runs nor has ended
+pub failed_runs_not : (c : Cause) → Failed c ≡ Running → ⊥
+failed_runs_not c is = cc
+
+pub failed_ends_not : (c : Cause) → Failed c ≡ Ended → ⊥
+failed_ends_not c is = cc
+
+pub within_small : (a b : ℕ) → a ≤ b → b < 2 ^ 32 → a < 2 ^ 32
+within_small a b within small = omega arith
+
+-- some byte has room, and the overhead has
+pub within_size : (over a b i : ℕ) → over < a → a ≤ b → over ≤ room_at a b i
+within_size over a b i some fits = omega (arith, size_least a b i fits)
+
+pub some_size : (over a b i : ℕ) → over < a → a ≤ b → 0 < room_at a b i
+some_size over a b i some fits = omega (arith, size_least a b i fits)
+
+pub some_most : (over a b : ℕ) → over < a → a ≤ b → 0 < b
+some_most over a b some fits = omega arith
+
+-- as many bytes as are filled are fewer than this, or no fewer
+pub short_held : (len filled most m : ℕ) → len ≡ filled → filled < most → most ≡ m → len < m
+short_held len filled most m same short is = omega arith
+
+pub many_held : (len filled most over : ℕ) → len ≡ filled → most ≤ filled → most ≡ max over 1 → over ≤ len
+many_held len filled most over same many is = omega arith
+
+pub some_held : (len filled most over : ℕ) → len ≡ filled → most ≤ filled → most ≡ max over 1 → 0 < len
+some_held len filled most over same many is = omega arith
+
+pub still_some : (was now len : ℕ) → 0 < was → was ≤ now → len ≡ now → 0 < len
+still_some was now len some more same = omega arith
+
+-- the number behind the last one
+pub at_last : (i : ℕ) → i ≡ 2 ^ 32 → 2 ^ 32 ≤ i
+at_last i is = omega arith
+
+pub some_last : (i : ℕ) → i ≡ 2 ^ 32 → 0 < i
+some_last i is = omega arith

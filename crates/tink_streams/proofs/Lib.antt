@@ -11,3 +11,4 @@ pub mod WriterCallers
 pub mod TextFacts
 pub mod TextLaws
 pub mod PourSteps
+pub mod FreshFacts

@@ -1,9 +1,12 @@
 -- Pouring a source into a writer, piece by piece.
-use Rattle.std.proofs.Common.{◌≡◌, ◌⊎◌, inl, inr, ◌≤◌, ◌<◌, ◌+◌, ◌-◌, ◌*◌, ◌^◌, ℕ, zero, suc, Bool, List, [], ◌++◌, length, drop, refl, sym, ap, ◌∙◌, arith, length-append, length-drop}
+use Rattle.std.proofs.Common.{◌≡◌, ◌⊎◌, inl, inr, ◌≤◌, ◌<◌, ◌+◌, ◌-◌, ◌*◌, ◌^◌, ℕ, zero, suc, Bool, List, [], ◌++◌, length, take, drop, refl, sym, ap, subst, ◌∙◌, arith, length-append, length-drop}
+use mir.Syntax.{w64}
+use mir.Val.{Fits}
 use Rattle.std.specs.declared.option.Option.{Option}
 use Rattle.std.specs.Io.KnownBytes.{Consumes}
 use Rattle.std.proofs.KnownBytes.{Consumes-nil, Consumes-trans}
 use Rattle.std.proofs.Math.Nat.{mul-le-mul}
+use Rattle.std.proofs.lemmas.List.{append-nil}
 use Rattle.tink_io.specs.declared.error.Kind.{Kind}
 use Rattle.tink_io.specs.declared.error.Kind.TheVariants.{ReadFault, WriteFault, TooManySegments, FailedBefore}
 use Rattle.tink_io.specs.declared.error.Kind.TheVariants as kind
@@ -61,3 +64,19 @@ pour_refused seg a b s t u i j m n o bytes piece TooManySegments p q later x c r
 pour_refused seg a b s t u i j m n o bytes piece kind.Closed p q later x c r = absurd (let e = sym x.wrote.is_open ∙ r.0 in cc)
 pour_refused seg a b s t u i j m n o bytes piece (FailedBefore d) p q later x c r = absurd (let e = sym x.wrote.is_open ∙ r.0 in cc)
 pour_refused seg a b s t u i j m n o bytes piece _ p q later x c r = absurd r
+
+-- so that their number is one of 64 bits
+pub more_bytes : (seg : ℕ → Bool → List ℕ → List ℕ) (a b : ℕ) (s t u : Option (List ℕ)) (m n o : WriterMoment) (bytes more over : ℕ) (piece : List ℕ) → 0 < a → a ≤ b → b + over < 2 ^ 32 → IsFresh m → IsPoured seg a b s t m n bytes
+    → Consumes t u piece → Wrote seg a b n o piece → more ≡ length piece → Fits w64 (bytes + more)
+more_bytes seg a b s t u m n o bytes more over piece p q small f x c w e =
+    let then = poured_more seg a b s t u m n o bytes more piece p (omega arith) x c w e in
+    omega (arith, few_bytes seg a b m o then.text p q (omega arith) f then.wrote, then.bytes_are)
+
+-- nothing more was read
+pub poured_end : (seg : ℕ → Bool → List ℕ → List ℕ) (a b : ℕ) (s t u : Option (List ℕ)) (m n : WriterMoment) (bytes k : ℕ) (piece : List ℕ) → IsPoured seg a b s t m n bytes → k ≡ 0 → Consumes t u (take k piece) → IsPoured seg a b s u m n bytes
+poured_end seg a b s t u m n bytes k piece x none c = record {
+  text = x.text;
+  read = subst (Consumes s u) (append-nil x.text) (Consumes-trans s t u x.text [] x.read (subst (λ (j : ℕ). Consumes t u (take j piece)) none c));
+  wrote = x.wrote;
+  bytes_are = x.bytes_are;
+}

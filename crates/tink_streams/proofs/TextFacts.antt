@@ -1,6 +1,8 @@
 -- Reads of a text, step by step.
-use Rattle.std.proofs.Common.{◌≡◌, ◌<◌, ◌≤◌, ℕ, Bool, List, [], ◌∷◌, ◌++◌, length, take, drop, min, Some, None, refl, sym, ap, ◌∙◌, arith, length-drop, add-zero}
+use Rattle.std.proofs.Common.{◌≡◌, ◌<◌, ◌≤◌, ℕ, zero, suc, Bool, false, List, [], ◌∷◌, ◌++◌, length, take, drop, min, Some, None, refl, sym, ap, ◌∙◌, arith, length-drop, add-zero}
 use Rattle.std.specs.Option.{ForSome}
+use Rattle.std.specs.Prelude.{nat_eq}
+use Rattle.std.proofs.lemmas.Bool.{false≢true}
 use Rattle.std.proofs.lemmas.List.{append-nil, take-append-drop}
 use Rattle.std.proofs.Math.ListN.{drop_of_length-le}
 use Rattle.std.specs.declared.option.Option.{Option}
@@ -10,7 +12,7 @@ use Rattle.tink_io.specs.declared.error.Kind.{Kind}
 use Rattle.tink_io.specs.declared.error.Kind.TheVariants.{ReadFault, TooManySegments, BadSegment, Truncated}
 use Rattle.tink_streams.specs.declared.progress.Progress.{Progress}
 use Rattle.tink_streams.specs.declared.progress.Progress.TheVariants.{Running, Ended, Failed}
-use Rattle.tink_streams.specs.Reading.{TellsLeads, OpensNext, OpenNextRefused, HasNotFailed}
+use Rattle.tink_streams.specs.Reading.{ReaderMoment, TellsLeads, OpensNext, OpenNextRefused, HasNotFailed}
 use Rattle.tink_streams.specs.TextReading.{TextMoment, of_segments, with_pending, IsDue, AtEnd, IsReady, GivesText, ReadRefused}
 
 pub nil_of_length : (xs : List ℕ) → length xs ≡ 0 → xs ≡ []
@@ -158,3 +160,16 @@ not_none n xs h e = omega (arith, ap length e, length-drop n xs)
 
 pub none_left : (n : ℕ) (xs : List ℕ) → length xs ≤ n → drop n xs ≡ []
 none_left n xs h = drop_of_length-le xs {i = n} h
+
+-- a reader that was refused has not ended
+pub refused_ends_not : (seg : ℕ → Bool → List ℕ → List ℕ) (a b overhead : ℕ) (old new : ReaderMoment) (k : Kind) → OpenNextRefused seg a b overhead old new k → new.progress ≡ Ended → ⊥
+refused_ends_not seg a b overhead old new ReadFault h ended = let failed = h.fails.failed in cc
+refused_ends_not seg a b overhead old new TooManySegments h ended = let failed = h.fails.failed in cc
+refused_ends_not seg a b overhead old new (BadSegment n) h ended = let failed = h.fails.failed in cc
+refused_ends_not seg a b overhead old new (Truncated n) h ended = let failed = h.fails.failed in cc
+refused_ends_not seg a b overhead old new k h ended = h
+
+-- a number that is not 0
+pub some_by : (n : ℕ) → false ≡ nat_eq n 0 → 0 < n
+some_by zero e = absurd (false≢true e)
+some_by (suc n) e = omega arith

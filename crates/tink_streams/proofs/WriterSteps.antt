@@ -10,6 +10,7 @@ use Rattle.stream_model.proofs.CutFacts.{full_chunks_fits, open_chunk_fits, full
 use Rattle.tink_io.specs.Written.{AppendsPrefix}
 use Rattle.tink_segment_traits.specs.declared.segment_traits.SegmentEncrypter.{Ghosts}
 use Rattle.tink_streams.specs.Sealers.{held_text}
+use Rattle.tink_streams.specs.declared.writing.Mode.TheVariants.{Open, Closed}
 use Rattle.tink_streams.specs.declared.writing.SegmentWriter.{SegmentWriter}
 
 -- a text R0 from number i0 on has come to number i and R, and these chunks are done
@@ -138,3 +139,36 @@ held_length a b (suc i) n over segment f p r = length-take-le n segment (omega a
 pub text_length : {E : Type 0} {g : Ghosts E} (w : SegmentWriter E g) → length (held_text w) ≡ w.filled
 text_length w =
     held_length w.sealer.first w.sealer.room w.segments w.filled w.sealer.overhead w.segment.items w.held_fits w.sealer.first_fits (omega (arith, w.segment_fits, w.segment.ok.0))
+
+-- a piece of what is left is held where a segment was written
+pub goes_on : (len at n room held part : ℕ) → n ≡ min (room - held) part → 0 < room → held ≡ 0 → part ≡ len - at → at < len → len - (at + n) < len - at
+goes_on len at n room held part count some none rest more = omega arith
+
+pub none_fits : (n : ℕ) → 0 ≤ n
+none_fits n = omega arith
+
+-- the number behind one that is used
+pub few_more : (n : ℕ) → n < 2 ^ 32 → n + 1 ≤ 2 ^ 32
+few_more n few = omega arith
+
+pub closed_opens_not : Closed ≡ Open → ⊥
+closed_opens_not is = cc
+
+-- what is left of a text that goes on
+pub some_rest : (at : ℕ) (xs : List ℕ) → at < length xs → 0 < length (drop at xs)
+some_rest at xs more = omega (arith, length-drop at xs)
+
+pub within_rest : (len at n room held part : ℕ) → n ≡ min (room - held) part → part ≡ len - at → at < len → at + n ≤ len
+within_rest len at n room held part count is more = omega arith
+
+pub more_rest : (len at n part : ℕ) → part ≡ len - at → at + n < len → n < part
+more_rest len at n part is more = omega arith
+
+pub room_most : (a b : ℕ) → 0 < a → a ≤ b → 0 < b
+room_most a b some fits = omega arith
+
+pub some_done : (done : List (List ℕ)) (last : List ℕ) → length (done ++ last ∷ []) ≡ 0 → ⊥
+some_done done last none = omega (arith, length-append done (last ∷ []))
+
+pub later_on : (i j k : ℕ) → i ≤ j → j ≤ k → i ≤ k
+later_on i j k first next = omega arith

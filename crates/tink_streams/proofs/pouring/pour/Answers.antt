@@ -3,7 +3,8 @@ use Rattle.std.proofs.lemmas.List.{length-take}
 use Rattle.std.proofs.lemmas.Result.{err_from_is_err_and}
 use Rattle.std.proofs.KnownBytes.{Consumes-kept}
 use Rattle.tink_io.proofs.FaultLemmas.{Rose-earlier}
-use Rattle.tink_streams.proofs.PourSteps.{few_bytes, poured_none, poured_more, pour_refused}
+use Rattle.tink_streams.proofs.FrontFacts.{less_in}
+use Rattle.tink_streams.proofs.PourSteps.{more_bytes, poured_end, poured_none, poured_more, pour_refused}
 use Rattle.tink_streams.proofs.pouring.pour.Goals as goal
 
 pub loop-n-init : goal.loop-n-init
@@ -27,11 +28,9 @@ returns-in_err-write-in-Ok-clause-answer g c =
 pub overflow_add-bytes : goal.overflow_add-bytes
 overflow_add-bytes g c =
     let sealer = c.args.writer.now.sealer in
-    let room : 0 < sealer.room = omega (arith, sealer.some, sealer.first_fits) in
     let w = rw c.loop-n.invariant.sealer at c.in_ok-write-in-Ok.ensures.answer in
-    let p = poured_more _ _ _ _ _ _ _ _ _ c.loop-n.bytes c.in-Ok.n _ sealer.some room c.loop-n.invariant.poured c.in-Ok.ensures.bytes.0 w.0 (omega (arith, length-take {A = ℕ}, c.in-Ok.ensures.bound)) in
-    let few = few_bytes _ _ _ _ _ p.text sealer.some sealer.first_fits (omega (arith, sealer.small)) (record { mode = c.requires.open; number = c.requires.fresh; held = c.requires.empty }) p.wrote in
-    omega (arith, few, p.bytes_are)
+    more_bytes _ _ _ _ _ _ _ _ _ c.loop-n.bytes c.in-Ok.n sealer.overhead _ sealer.some sealer.first_fits sealer.small (record { mode = c.requires.open; number = c.requires.fresh; held = c.requires.empty })
+    c.loop-n.invariant.poured c.in-Ok.ensures.bytes.0 w.0 (omega (arith, length-take {A = ℕ}, c.in-Ok.ensures.bound))
 
 pub loop-n-preserved : goal.loop-n-preserved
 loop-n-preserved g c =
@@ -78,3 +77,10 @@ returns-in-Err-clause-source g c = g.met.S.Source.same_trans _ _ _ c.loop-n.inva
 
 pub returns-in-Err-clause-sink : goal.returns-in-Err-clause-sink
 returns-in-Err-clause-sink g c = c.loop-n.invariant.same_sink
+
+pub returns-in-Ok-eq0-clause-answer : goal.returns-in-Ok-eq0-clause-answer
+returns-in-Ok-eq0-clause-answer g c =
+    let read = c.in-Ok-eq0.ensures.bytes in (
+      poured_end _ _ _ _ _ _ _ _ _ c.in-Ok-eq0.field-0 _ c.loop-n.invariant.poured c.in-Ok-eq0.field-0-test read.0,
+      read.1 c.in-Ok-eq0.field-0-test (less_in _ _ _ c.requires.piece (c.read.auto.buf ∙ c.loop-n.auto.piece)),
+    )

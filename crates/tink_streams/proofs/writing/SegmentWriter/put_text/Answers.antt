@@ -1,10 +1,10 @@
-use Rattle.std.proofs.Common.{◌≡◌, ◌+◌, ◌-◌, ◌<◌, ◌≤◌, ℕ, List, [], ◌∷◌, ◌++◌, length, take, drop, ap, sym, refl, ◌∙◌, arith, length-drop, length-append}
+use Rattle.std.proofs.Common.{◌≡◌, ◌+◌, ◌-◌, ◌<◌, ◌≤◌, ℕ, List, [], ◌∷◌, ◌++◌, length, take, drop, ap, sym, refl, ◌∙◌, arith, length-drop}
 use Rattle.std.proofs.lemmas.Result.{err_from_is_err_and}
 use Rattle.std.proofs.KnownBytes.{Appends-nil}
 use Rattle.std.proofs.Math.ListN.{drop_of_length-le}
 use Rattle.stream_model.specs.Cut.{room_at}
 use Rattle.tink_streams.specs.Sealers.{held_text, segment_map}
-use Rattle.tink_streams.proofs.WriterSteps.{proceeds_start, proceeds_step, proceeds_end, proceeds_at, stands, one_more, is_full, whole_rest, went_on, is_due, all_done, room_some, text_length}
+use Rattle.tink_streams.proofs.WriterSteps.{proceeds_start, proceeds_step, proceeds_end, proceeds_at, stands, one_more, is_full, whole_rest, went_on, is_due, all_done, room_some, text_length, goes_on, later_on, more_rest, room_most, some_done, some_rest, within_rest}
 use Rattle.tink_streams.proofs.writing.SegmentWriter.put_text.Goals as goal
 
 pub loop-at-init : goal.loop-at-init
@@ -36,7 +36,7 @@ returns-then-self-eq-LAST_NUMBER-clause-answer g c =
     let some = room_some first.sealer.first first.sealer.room self.segments first.sealer.some first.sealer.first_fits in
     let all = all_done first.segments self.segments inv.done (held_text self) _ _ inv.proceeds.number c.if-self-eq-LAST_NUMBER.true
     (stands first.sealer.first first.sealer.room first.segments _ inv.done self.segments (held_text self) (drop c.loop-at.at c.args.buf.now) inv.proceeds
-    (text_length self ∙ inv.full c.loop-at-test.true) (omega (arith, length-drop c.loop-at.at c.args.buf.now)) some (omega arith)) in
+    (text_length self ∙ inv.full c.loop-at-test.true) (some_rest c.loop-at.at c.args.buf.now c.loop-at-test.true) some (room_most _ _ first.sealer.some first.sealer.first_fits)) in
     rw c.new.ensures (record {
       was_open = c.requires;
       failed = refl;
@@ -53,7 +53,7 @@ returns-then-self-eq-LAST_NUMBER-clause-still g c none =
     let inv = c.loop-at.invariant in
     let some = room_some first.sealer.first first.sealer.room self.segments first.sealer.some first.sealer.first_fits in
     absurd (is_due first.sealer.first first.sealer.room first.segments _ inv.done self.segments (held_text self) (drop c.loop-at.at c.args.buf.now) inv.proceeds
-    (text_length self ∙ inv.full c.loop-at-test.true) (omega (arith, length-drop c.loop-at.at c.args.buf.now)) some (omega arith) none)
+    (text_length self ∙ inv.full c.loop-at-test.true) (some_rest c.loop-at.at c.args.buf.now c.loop-at-test.true) some (room_most _ _ first.sealer.some first.sealer.first_fits) none)
 
 pub returns-in_err-put-clause-answer : goal.returns-in_err-put-clause-answer
 returns-in_err-put-clause-answer g c =
@@ -72,7 +72,7 @@ returns-in_err-put-clause-answer g c =
         next = held_text self;
         more = _;
         split = stands first.sealer.first first.sealer.room first.segments _ inv.done self.segments (held_text self) (drop c.loop-at.at c.args.buf.now) inv.proceeds
-            (text_length self ∙ inv.full c.loop-at-test.true) (omega (arith, length-drop c.loop-at.at c.args.buf.now)) some (omega arith);
+            (text_length self ∙ inv.full c.loop-at-test.true) (some_rest c.loop-at.at c.args.buf.now c.loop-at-test.true) some (room_most _ _ first.sealer.some first.sealer.first_fits);
         counted = put.counted ∙ inv.proceeds.number;
         between = _;
         whole = inv.written;
@@ -88,7 +88,7 @@ returns-in_err-put-clause-still g c none =
     let inv = c.loop-at.invariant in
     let some = room_some first.sealer.first first.sealer.room self.segments first.sealer.some first.sealer.first_fits in
     absurd (is_due first.sealer.first first.sealer.room first.segments _ inv.done self.segments (held_text self) (drop c.loop-at.at c.args.buf.now) inv.proceeds
-    (text_length self ∙ inv.full c.loop-at-test.true) (omega (arith, length-drop c.loop-at.at c.args.buf.now)) some (omega arith) none)
+    (text_length self ∙ inv.full c.loop-at-test.true) (some_rest c.loop-at.at c.args.buf.now c.loop-at-test.true) some (room_most _ _ first.sealer.some first.sealer.first_fits) none)
 
 pub loop-at-preserved : goal.loop-at-preserved
 loop-at-preserved g c =
@@ -103,12 +103,13 @@ loop-at-preserved g c =
     let rest : List ℕ = drop c.loop-at.at c.args.buf.now in
     let part : List ℕ = take (length c.args.buf.now - c.loop-at.at) rest in
     let part_is : part ≡ rest = whole_rest c.loop-at.at c.args.buf.now in
+    let part_len : length part ≡ length c.args.buf.now - c.loop-at.at = ap length part_is ∙ length-drop c.loop-at.at c.args.buf.now in
     let held_full : length (held_text self) ≡ room self.segments = text_length self ∙ inv.full c.loop-at-test.true in
     let some : 0 < room self.segments = room_some first.sealer.first first.sealer.room self.segments first.sealer.some first.sealer.first_fits in
     record {
-      within = omega (arith, h.ensures.count, ap length part_is, length-drop c.loop-at.at c.args.buf.now);
+      within = within_rest _ _ _ _ _ _ h.ensures.count part_len c.loop-at-test.true;
       full = λ more. is_full (room_at then.sealer.first then.sealer.room then.segments) h.result then.filled h.new.self.filled part h.ensures.filled h.ensures.count then.held_fits
-          (omega (arith, ap length part_is, length-drop c.loop-at.at c.args.buf.now))
+          (more_rest _ _ _ _ part_len more)
           ∙ ap (λ s. room_at s.first s.room then.segments) (put.sealer ∙ inv.sealer) ∙ ap room (sym h.ensures.segments);
       is_open = h.ensures.mode ∙ done.mode;
       sealer = h.ensures.sealer ∙ put.sealer ∙ inv.sealer;
@@ -116,10 +117,10 @@ loop-at-preserved g c =
       done = inv.done ++ (held_text self) ∷ [];
       written = one_more (segment_map first.sealer) _ _ _ first.segments self.segments inv.done (held_text self) inv.proceeds.number inv.written (rw inv.sealer at done.appended);
       proceeds = proceeds_at first.sealer.first first.sealer.room first.segments _ (inv.done ++ (held_text self) ∷ []) (self.segments + 1) _ rest _
-          (proceeds_step first.sealer.first first.sealer.room first.segments _ inv.done self.segments (held_text self) rest inv.proceeds held_full (omega (arith, length-drop c.loop-at.at c.args.buf.now)) some (omega arith))
+          (proceeds_step first.sealer.first first.sealer.room first.segments _ inv.done self.segments (held_text self) rest inv.proceeds held_full (some_rest c.loop-at.at c.args.buf.now c.loop-at-test.true) some (room_most _ _ first.sealer.some first.sealer.first_fits))
           (h.ensures.segments ∙ done.counted) (went_on c.loop-at.at h.result c.args.buf.now (held_text then) (held_text h.new.self) part done.held h.ensures.held part_is);
-      still = λ e. absurd (omega (arith, e, length-append inv.done (held_text self ∷ [])));
-      later = omega (arith, put.later);
+      still = λ e. absurd (some_done inv.done (held_text self) e);
+      later = later_on _ _ _ inv.later put.later;
       same = g.met.K.Sink.same_trans _ _ _ inv.same put.same;
     }
 
@@ -195,3 +196,12 @@ returns-in_err-put-clause-later g c = omega (arith, c.in_err-put.ensures.later, 
 
 pub returns-in_err-put-clause-same : goal.returns-in_err-put-clause-same
 returns-in_err-put-clause-same g c = g.met.K.Sink.same_trans _ _ _ c.loop-at.invariant.same c.in_err-put.ensures.same
+
+pub loop-at-smaller : goal.loop-at-smaller
+loop-at-smaller g c =
+    let buf = c.args.buf.now in
+    let then = c.put.new.self in
+    let h = c.hold-at-in-loop-at in
+    goes_on (length buf) c.loop-at.at h.result (room_at then.sealer.first then.sealer.room then.segments) then.filled (length (take (length buf - c.loop-at.at) (drop c.loop-at.at buf)))
+    h.ensures.count (room_some then.sealer.first then.sealer.room then.segments then.sealer.some then.sealer.first_fits) (sym (text_length then) ∙ ap length c.in_ok-put.ensures.answer.held)
+    (ap length (whole_rest c.loop-at.at buf) ∙ length-drop c.loop-at.at buf) c.loop-at-test.true
