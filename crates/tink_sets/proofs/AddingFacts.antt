@@ -12,6 +12,10 @@ use Rattle.tink_sets.specs.Groups.{group_at, group_of, Adds, AddsLast, AfterAddi
 pub group_of-own : {E A : Type 0} (own : List ℕ) (entry : E) (old new : BTreeMap (Vec ℕ A) (List E)) → Adds own entry old new → EndsBy own entry old new
 group_of-own own entry old new adds = ap (λ o. unwrap_or o []) (adds own ∙ ap (λ b. cond b (Some (group_of old own ++ entry ∷ [])) (group_at old own)) ((bytes_decides own own).1 refl))
 
+-- what is read under a prefix ends by the entry that the list under it ends by
+pub read_ends : {E A : Type 0} (m : BTreeMap (Vec ℕ A) (List E)) (prefix own : List ℕ) (read before : List E) (entry : E) → read ≡ group_of m prefix → prefix ≡ own → group_of m own ≡ before ++ entry ∷ [] → read ≡ before ++ entry ∷ []
+read_ends m prefix own read before entry is same ends = is ∙ ap (group_of m) same ∙ ends
+
 -- what ends by an entry is not empty
 pub some_behind : {E : Type 0} (all before : List E) (entry : E) → all ≡ before ++ entry ∷ [] → 0 < length all
 some_behind all before entry is = omega (arith, ap length is, length-append before (entry ∷ []))

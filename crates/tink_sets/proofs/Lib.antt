@@ -4,4 +4,5 @@ pub mod Converted
 pub mod ConvertingFacts
 pub mod PrefixFacts
 pub mod SortFacts
+pub mod StandingFacts
 pub mod VecKeys

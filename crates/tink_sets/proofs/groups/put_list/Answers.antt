@@ -1,8 +1,6 @@
-use Rattle.std.proofs.Common.{◌≡◌, rules}
 use Rattle.tink_sets.proofs.VecKeys.{groups_written}
 use Rattle.tink_sets.proofs.groups.put_list.Goals as goal
 
 pub returns-clause-ok : goal.returns-clause-ok
 returns-clause-ok g c =
-    let key : c.in_ok-key.key.items ≡ c.args.prefix.now = search rules in
-    groups_written c.args.prefix.now c.in_ok-key.key.items c.args.groups.now c.insert.new.self c.args.list key c.in_ok-insert.ensures.updates
+    groups_written c.args.prefix.now c.in_ok-key.key.items c.args.groups.now c.insert.new.self c.args.list (c.in_ok-key.ensures.items_if_clones_equal (λ x y e. e)) c.in_ok-insert.ensures.updates

@@ -1,4 +1,4 @@
-use Rattle.std.proofs.Common.{◌∙◌, List, ℕ, Ok, ap, subst, sym, inr}
+use Rattle.std.proofs.Common.{◌∙◌, List, ℕ, Ok, ap, subst, sym, inl, inr}
 use Rattle.tink_io.specs.Told.{Tells, made_of}
 use Rattle.tink_sets.specs.Entries.{with_primitive}
 use Rattle.tink_sets.proofs.BesideFacts.{made, refused}
@@ -27,3 +27,6 @@ returns-in-Err-beside g c =
     record {
       answer = inr (ap (λ p. made_of (with_primitive c.args.from.now) (g.S.Sort.picks p)) (sym c.in-Ok.ensures.primitive) ∙ ap (made_of (with_primitive c.args.from.now)) wrong);
     }
+
+pub returns-in-Err : goal.returns-in-Err
+returns-in-Err g c = record { answer = inl c.in-Err.ensures.cause }
