@@ -156,6 +156,19 @@ map_place f i j old cur p y d a h same e pe w =
     let lc : length cur ≡ length old = length_so_far (map-in_order f) i.now old cur a (omega arith) e in
     place_more (map-in_order f) (λ _. f) (λ _ _. refl) i.now old cur p y (get_or cur a d) a h e (read_again cur a d (omega arith)) (pe ∙ ap (λ b. part_of b.now (length old) a (a + 1)) same) w
 
+-- a place that is there at first is there still
+pub map_within : {X : Type 0} (f : X → X) (i old cur : List X) (a : ℕ) → a < length old → cur ≡ map f (take a (pick i old)) ++ drop a old → a < length cur
+map_within f i old cur a h e =
+    let lc : length cur ≡ length old = length_so_far (map-in_order f) i old cur a (omega arith) e in
+    omega arith
+
+-- behind the last place all is done
+pub map_done : {X : Type 0} (f : X → X) (i old cur : List X) (a : ℕ) → length old ≤ a → cur ≡ map f (take a (pick i old)) ++ drop a old → cur ≡ map f (pick i old)
+map_done f i old cur a h e =
+    let lx : length (pick i old) ≡ length old = length-pick i old in
+    let whole : take a (pick i old) ≡ pick i old = take_all a (pick i old) (omega arith) in
+    e ∙ (ap (λ zs. map f zs ++ drop a old) whole ∙ (ap (λ zs. map f (pick i old) ++ zs) (drop_all a old h) ∙ append-nil (map f (pick i old))))
+
 -- what a part reads, and what a place reads, though the places before are written already
 pub read_part : {X : Type 0} {all : List X → List X} {after : List X → List X → List X} → InOrder all after → (i old cur p : List X) (a k j : ℕ) → j ≡ k → a + k ≤ length old
     → cur ≡ all (take a (pick i old)) ++ drop a old → p ≡ part_of i (length old) a (a + k) → pick p (take j (drop a cur)) ≡ take k (drop a (pick i old))
