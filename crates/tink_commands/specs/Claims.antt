@@ -3,7 +3,7 @@ use Rattle.std.specs.Prelude.{◌≡◌, ◌||◌, ◌==◌, not, ℕ, List, [],
 use Rattle.tink_words.specs.Forms.{given}
 use Rattle.tink_words.specs.Lines.{is, is_option}
 use Rattle.tink_program.specs.Program.{HasOwnStatus, HasRefusedCause, IsUsage, Refuses, StatusMeans}
-use Rattle.tink_run.specs.Outside.{Outside}
+use Rattle.tink_io.specs.Outside.{Outside}
 use Rattle.tink_commands.specs.declared.claims.Claim.{Claim}
 use Rattle.tink_commands.specs.declared.claims.Claim.TheVariants.{All, OfFourWords, WithoutOptions, Never}
 

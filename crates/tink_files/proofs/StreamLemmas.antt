@@ -6,7 +6,7 @@ use Rattle.tink_io.specs.Faults.{Rose}
 use Rattle.tink_io.specs.declared.error.TinkError.{TinkError}
 use Rattle.tink_io.proofs.FaultLemmas.{Rose-earlier, Rose-later}
 use Rattle.tink_io.specs.Places.{Ends, IsShown}
-use Rattle.tink_run.specs.Outside.{HasNoFault, Outside}
+use Rattle.tink_io.specs.Outside.{HasNoFault, Outside}
 use Rattle.tink_run.specs.Run.{IsOkOrWant}
 use Rattle.tink_run.specs.declared.report.Report.{Report}
 use Rattle.tink_run.specs.KeysetRanges.{IsGivenOrWants}

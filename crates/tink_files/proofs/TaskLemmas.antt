@@ -5,15 +5,15 @@ use Rattle.tink_io.specs.Taken.{LosesAtMost}
 use Rattle.tink_io.specs.declared.error.Kind.{Kind}
 use Rattle.tink_io.specs.declared.error.TinkError.{TinkError}
 use Rattle.tink_run.specs.OpenReads.{ReadsNoFurther}
-use Rattle.tink_run.specs.Outside.{Outside}
-use Rattle.tink_run.specs.Run.{AnswerMeans, Told}
+use Rattle.tink_io.specs.Outside.{Outside, Told}
+use Rattle.tink_run.specs.Run.{AnswerMeans}
 use Rattle.tink_run.specs.declared.report.Command.{Command}
 use Rattle.tink_run.specs.declared.report.Report.{Report}
 use Rattle.tink_run.specs.RewrapReads.{RewrapReadsNoFurther}
 use Rattle.tink_run.specs.Rewrapping.{RewrapMeans, Sides}
-use Rattle.tink_run.specs.Inputs.{input_limit}
-use Rattle.tink_run.specs.Tokens.{IsAnsweredWhole, Macs, TokenMeans}
-use Rattle.tink_run.proofs.ToldLemmas.{answered_whole}
+use Rattle.tink_tokens.specs.Inputs.{input_limit}
+use Rattle.tink_tokens.specs.Tokens.{IsAnsweredWhole, Macs, TokenMeans}
+use Rattle.tink_tokens.proofs.ToldLemmas.{answered_whole}
 use Rattle.tink_files.specs.Streams.{Succeeds}
 use Rattle.tink_files.specs.Tasks.{SaidOfStream, TokenTask, answered_as}
 

@@ -4,15 +4,15 @@ use Rattle.tink_io.specs.Taken.{LosesAtMost}
 use Rattle.tink_io.specs.declared.error.Kind.{Kind}
 use Rattle.tink_io.specs.declared.error.TinkError.{TinkError}
 use Rattle.tink_run.specs.OpenReads.{ReadsNoFurther}
-use Rattle.tink_run.specs.Outside.{Outside}
+use Rattle.tink_io.specs.Outside.{Outside}
 use Rattle.tink_run.specs.Run.{AnswerMeans, CanSucceed, OkMeans}
 use Rattle.tink_run.specs.declared.report.Report.{Report}
 use Rattle.tink_run.specs.RewrapPromises.{CanRewrap, IsWholeRewrap}
 use Rattle.tink_run.specs.RewrapReads.{RewrapReadsNoFurther}
 use Rattle.tink_run.specs.Rewrapping.{RewrapMeans, sides}
-use Rattle.tink_run.specs.Inputs.{input_limit}
-use Rattle.tink_run.specs.Tokens.{CanAnswer, IsAnsweredWhole, Macs, TokenMeans}
-use Rattle.tink_run.specs.Tokens.{RefusesSigning, RefusesVerifying, SignsTo, VerifiesTo}
+use Rattle.tink_tokens.specs.Inputs.{input_limit}
+use Rattle.tink_tokens.specs.Tokens.{CanAnswer, IsAnsweredWhole, Macs, TokenMeans}
+use Rattle.tink_tokens.specs.Tokens.{RefusesSigning, RefusesVerifying, SignsTo, VerifiesTo}
 use Rattle.tink_files.specs.declared.tasks.Task.{Task}
 use Rattle.tink_files.specs.declared.tasks.Task.TheVariants.{Run, Rewrap, Sign, Verify}
 

@@ -1,8 +1,7 @@
 //! What is made of the bytes of a source: a stream, its text, a moved stream, a token or its payload.
 
 ghost use Rattle.std.specs.Prelude.{◌≡◌, ◌≤◌, ℕ, List, Some, None, true, false, IfOk, OnErr};
-ghost use Rattle.tink_run.specs.Outside.{outside_of};
-ghost use Rattle.tink_run.specs.Run.{Told};
+ghost use Rattle.tink_io.specs.Outside.{outside_of, Told};
 ghost use Rattle.tink_files.specs.Streams.{IsShownWhole, RanAndEnded, Succeeds};
 ghost use Rattle.tink_files.specs.Tasks.{CanDo, IsDone, TaskMeans, answered_as};
 
@@ -12,7 +11,7 @@ use tink_io::{Draws, Place, Sink, Source, TinkError};
 use tink_run::report::{Command, Report};
 use tink_run::rewrap::rewrap;
 use tink_run::run::run;
-use tink_run::tokens::{write_payload, write_token};
+use tink_tokens::{write_payload, write_token};
 
 /// What is made of the bytes of a source under a keyset.
 #[derive(Clone, Copy)]

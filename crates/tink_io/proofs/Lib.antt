@@ -4,3 +4,4 @@ pub mod WrittenLemmas
 pub mod GatheringLemmas
 pub mod SavingLemmas
 pub mod ShownLemmas
+pub mod OutsideFacts

@@ -9,3 +9,4 @@ pub mod Gathering
 pub mod Places
 pub mod MemPlaces
 pub mod Statuses
+pub mod Outside

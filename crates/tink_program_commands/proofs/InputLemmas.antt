@@ -4,10 +4,9 @@ use Rattle.std.specs.Prelude.{Result, Ok, Err}
 use Rattle.tink_io.specs.Faults.{Rose}
 use Rattle.tink_io.specs.declared.error.Kind.{Kind}
 use Rattle.tink_io.specs.declared.error.Kind.TheVariants.{OutOfMemory, ReadFault, WriteFault, BadKeyset, InvalidKeyset, UnsupportedKeyType, InvalidKey, NoPrimary, WrongPrimitive, UnsupportedHash, UnknownTemplate, NoFreshId, InputTooLong}
-use Rattle.tink_run.specs.Outside.{Outside, HasNoFault}
-use Rattle.tink_run.specs.Run.{Told}
-use Rattle.tink_run.specs.Inputs.{input_limit, HasTooMuch, InputRefused, IsOfInput, IsUnloadable, IsUnwritten, LeavesSink}
-use Rattle.tink_run.proofs.ToldLemmas.{long_told, never_loaded, not_long, one_refusal}
+use Rattle.tink_io.specs.Outside.{Outside, HasNoFault, Told}
+use Rattle.tink_tokens.specs.Inputs.{input_limit, HasTooMuch, InputRefused, IsOfInput, IsUnloadable, IsUnwritten, LeavesSink}
+use Rattle.tink_tokens.proofs.ToldLemmas.{long_told, never_loaded, not_long, one_refusal}
 use Rattle.tink_io.specs.Statuses.{kind_status}
 use Rattle.tink_program_commands.specs.Program.{own_statuses, reads_first, refused_statuses, IsAmong, IsCause, IsEarlyKind, IsUnusableBy}
 use Rattle.tink_program_commands.specs.Words.{Asked}

@@ -5,7 +5,7 @@ use Rattle.tink_io.specs.Faults.{Rose}
 use Rattle.tink_io.specs.declared.error.Kind.{Kind}
 use Rattle.tink_io.specs.declared.error.Kind.TheVariants.{OutOfMemory, WriteFault}
 use Rattle.tink_io.specs.declared.error.TinkError.{TinkError}
-use Rattle.tink_run.specs.Outside.{Outside, IsUntouched}
+use Rattle.tink_io.specs.Outside.{Outside, IsUntouched}
 use Rattle.tink_program_commands.specs.Keysets.{WrotePrefix}
 use Rattle.tink_program_commands.specs.Large.{lines_of, LargeMeans, MeasuresLarge, RefusesLarge, WritesLarge}
 use Rattle.tink_io.specs.Statuses.{kind_status}

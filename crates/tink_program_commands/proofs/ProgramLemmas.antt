@@ -3,8 +3,8 @@ use Rattle.std.proofs.Common.{List, inl, inr, refl, ℕ, ◌≡◌}
 use Rattle.std.specs.Prelude.{Err}
 use Rattle.tink_io.specs.declared.error.Kind.{Kind}
 use Rattle.tink_io.specs.declared.error.Kind.TheVariants.{OutOfMemory}
-use Rattle.tink_run.specs.Outside.{Outside}
-use Rattle.tink_run.proofs.InputSteps.{none_taken}
+use Rattle.tink_io.specs.Outside.{Outside}
+use Rattle.tink_tokens.proofs.InputSteps.{none_taken}
 use Rattle.tink_program_commands.specs.declared.outcomes.Outcome.{Outcome}
 use Rattle.tink_program_commands.specs.declared.outcomes.Outcome.TheVariants.{Refused}
 use Rattle.tink_program_commands.specs.Draws.{draws_in}

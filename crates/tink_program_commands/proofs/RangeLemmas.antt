@@ -10,14 +10,14 @@ use Rattle.loading_model.specs.Loading.{Loaded, opening_keys}
 use Rattle.tink_io.specs.Taken.{LosesAtMost}
 use Rattle.tink_range.proofs.StreamRanges.{gives_slice, under_not_refused}
 use Rattle.tink_run.specs.AllKeys.{load}
-use Rattle.tink_run.specs.Outside.{Outside, HasNoFault}
-use Rattle.tink_run.specs.Run.{CanOpen, Told}
+use Rattle.tink_io.specs.Outside.{Outside, HasNoFault, Told}
+use Rattle.tink_run.specs.Run.{CanOpen}
 use Rattle.tink_run.proofs.OpenLemmas.{chosen_lawful}
-use Rattle.tink_run.proofs.RunLemmas.{told_appended}
+use Rattle.tink_io.proofs.OutsideFacts.{told_appended}
 use Rattle.tink_run.specs.KeysetRanges.{GivesSlice}
 use Rattle.tink_run.specs.SetRanges.{WritesNoRange}
-use Rattle.tink_run.specs.Inputs.{input_limit, InputRefused, IsOfInput, IsUnloadable}
-use Rattle.tink_run.proofs.ToldLemmas.{not_long, of_loaded, of_told, one_load}
+use Rattle.tink_tokens.specs.Inputs.{input_limit, InputRefused, IsOfInput, IsUnloadable}
+use Rattle.tink_tokens.proofs.ToldLemmas.{not_long, of_loaded, of_told, one_load}
 use Rattle.tink_io.specs.Statuses.{kind_status}
 use Rattle.tink_program_commands.specs.Program.{answer_outcome, own_statuses, status_of, IsAmong, IsEarlyKind, IsUnwrittenBy, Leaves}
 use Rattle.tink_program_commands.specs.Ranges.{HoldsNoInput, IsRangeWhole, RangeAnswer, RangeOutcome, RangePromises, RangesInput, RefusesRange, SinkAt, StopsRange, moments_of}

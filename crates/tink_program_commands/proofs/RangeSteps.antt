@@ -13,12 +13,12 @@ use Rattle.tink_range.specs.KeyRanges.{IsCutUnder, RangesUnder, RangesUnderRefus
 use Rattle.tink_range.specs.RangeReading.{GavePrefixOfRange, GaveRange, RangeRefused, StopsAtLast, range_end, range_start}
 use Rattle.tink_run.specs.AllKeys.{load}
 use Rattle.tink_run.specs.HeldKeys.{GivesLoaded}
-use Rattle.tink_run.specs.Outside.{Outside}
+use Rattle.tink_io.specs.Outside.{Outside}
 use Rattle.tink_run.specs.Run.{IsEarly}
 use Rattle.tink_run.proofs.LoadedFacts.{load_refuses}
 use Rattle.tink_run.specs.SetRanges.{LeavesRangeEnds, LeavesUnwritten, RangesOf, RangesOfRefused, WritesNoRange}
-use Rattle.tink_run.specs.Inputs.{input_limit, InputRefused, IsUnloadable, ReadsInput}
-use Rattle.tink_run.proofs.InputSteps.{input_unread, unloaded}
+use Rattle.tink_tokens.specs.Inputs.{input_limit, InputRefused, IsUnloadable, ReadsInput}
+use Rattle.tink_tokens.proofs.InputSteps.{input_unread, unloaded}
 use Rattle.tink_program_commands.specs.Ranges.{HoldsNoInput, RangeAnswer, RefusesRange, SinkAt}
 
 -- ---- of a sink, and of what it has got

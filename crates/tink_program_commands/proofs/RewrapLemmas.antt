@@ -5,7 +5,7 @@ use Rattle.tink_io.specs.Faults.{Rose}
 use Rattle.tink_io.specs.declared.error.Kind.{Kind}
 use Rattle.tink_io.specs.declared.error.Kind.TheVariants.{OutOfMemory, ReadFault, WriteFault, RandomFault, BadKeyset, InvalidKeyset, UnsupportedKeyType, InvalidKey, NoPrimary, WrongPrimitive, UnsupportedHash, TooManySegments, NoMatchingKey, BadSegment, Truncated, UnknownTemplate, NoFreshId, InputTooLong, BadToken, MacMismatch}
 use Rattle.tink_io.specs.declared.error.TinkError.{TinkError}
-use Rattle.tink_run.specs.Outside.{Outside, IsUntouched}
+use Rattle.tink_io.specs.Outside.{Outside, IsUntouched}
 use Rattle.tink_run.specs.Run.{IsEarly, WritesNothing}
 use Rattle.tink_run.specs.declared.report.Report.{Report}
 use Rattle.tink_run.specs.Rewrapping.{RewrapMeans, RewrapsLoaded, Sides}

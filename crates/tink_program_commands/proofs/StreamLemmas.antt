@@ -12,7 +12,7 @@ use Rattle.loading_model.specs.Loading.{Loaded}
 use Rattle.stream_model.specs.Key.{IsUsable}
 use Rattle.stream_model.specs.Sealing.{drawn}
 use Rattle.tink_run.specs.AllKeys.{load}
-use Rattle.tink_run.specs.Outside.{Outside, IsUntouched}
+use Rattle.tink_io.specs.Outside.{Outside, IsUntouched}
 use Rattle.tink_run.specs.Run.{AnswerMeans, IsEarly, IsOkOrWant, LeavesSinkItself, WritesNothing}
 use Rattle.tink_run.specs.declared.report.Command.{Command}
 use Rattle.tink_run.specs.declared.report.Command.TheVariants.{Seal, Open}

@@ -11,11 +11,10 @@ use Rattle.tink_mac.specs.MacKinds.{kind_verifies}
 use Rattle.tink_mac.specs.Wrapped.{any_verifies}
 use Rattle.tink_mac.specs.Tokens.{spelled, IsAnswered}
 use Rattle.tink_io.specs.Taken.{LosesAtMost}
-use Rattle.tink_run.specs.Outside.{Outside, HasNoFault}
-use Rattle.tink_run.specs.Run.{Told}
-use Rattle.tink_run.specs.Inputs.{input_limit, IsOfInput, IsUnloadable, IsUnwritten}
-use Rattle.tink_run.specs.Tokens.{macs_of, CanAnswer, CannotAnswer, GaveOutput, Macs, RefusesSigning, RefusesVerifying, SignsTo, TokenMeans, TokenRefused, TokenRefuses, VerifiesTo}
-use Rattle.tink_run.proofs.ToldLemmas.{answered_whole, not_long, of_loaded}
+use Rattle.tink_io.specs.Outside.{Outside, HasNoFault, Told}
+use Rattle.tink_tokens.specs.Inputs.{input_limit, IsOfInput, IsUnloadable, IsUnwritten}
+use Rattle.tink_tokens.specs.Tokens.{macs_of, CanAnswer, CannotAnswer, GaveOutput, Macs, RefusesSigning, RefusesVerifying, SignsTo, TokenMeans, TokenRefused, TokenRefuses, VerifiesTo}
+use Rattle.tink_tokens.proofs.ToldLemmas.{answered_whole, not_long, of_loaded}
 use Rattle.tink_io.specs.Statuses.{kind_status}
 use Rattle.tink_program_commands.specs.Program.{answer_outcome, own_statuses, status_of, IsAmong, IsEarlyKind, Leaves}
 use Rattle.tink_program_commands.specs.TokenPromises.{TokenOutcome, TokenPromises}

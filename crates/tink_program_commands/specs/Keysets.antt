@@ -11,7 +11,7 @@ use Rattle.tink_keysets.specs.Managed.{no_keys}
 use Rattle.tink_keysets.specs.Valid.{valid_keyset}
 use Rattle.tink.specs.Rotating.{key_line, rotated_by, IsNotRotated}
 use Rattle.tink_program_commands.specs.Draws.{draws_in}
-use Rattle.tink_run.specs.Outside.{Outside, IsUntouched}
+use Rattle.tink_io.specs.Outside.{Outside, IsUntouched}
 use Rattle.tink_program_commands.specs.Streams.{IsDoneOrWant}
 use Rattle.tink_program_commands.specs.declared.outcomes.Outcome.{Outcome}
 use Rattle.tink_program_commands.specs.declared.outcomes.Outcome.TheVariants.{Done, Usage, Refused}

@@ -8,7 +8,7 @@ use Rattle.tink_io.specs.declared.error.Kind.TheVariants.{OutOfMemory, WriteFaul
 use Rattle.tink_io.specs.declared.error.TinkError.{TinkError}
 use Rattle.tink_large.specs.Large.{large_output}
 use Rattle.tink_program_commands.specs.Draws.{draws_in}
-use Rattle.tink_run.specs.Outside.{Outside, IsUntouched}
+use Rattle.tink_io.specs.Outside.{Outside, IsUntouched}
 use Rattle.tink_program_commands.specs.Keysets.{WroteText, WrotePrefix}
 use Rattle.tink_program_commands.specs.Streams.{IsDoneOrWant}
 use Rattle.tink_program_commands.specs.declared.outcomes.Outcome.{Outcome}

@@ -9,12 +9,12 @@ use Rattle.tink_io.specs.declared.error.Kind.TheVariants.{OutOfMemory, BadKeyset
 use Rattle.tink_io.specs.declared.error.TinkError.{TinkError}
 use Rattle.tink_io.specs.Statuses.{kind_status}
 use Rattle.tink_run.specs.AllKeys.{load}
-pub use Rattle.tink_run.specs.Outside.{outside_of}
-use Rattle.tink_run.specs.Outside.{Outside, IsUntouched}
+pub use Rattle.tink_io.specs.Outside.{outside_of}
+use Rattle.tink_io.specs.Outside.{Outside, IsUntouched}
 use Rattle.tink_run.specs.declared.report.Command.TheVariants.{Seal}
 use Rattle.tink_run.specs.SetRanges.{WritesNoRange}
-use Rattle.tink_run.specs.Inputs.{IsUnwritten, LeavesSink}
-use Rattle.tink_run.specs.Tokens.{macs_of, RefusesSigning, RefusesVerifying, SignsTo, VerifiesTo}
+use Rattle.tink_tokens.specs.Inputs.{IsUnwritten, LeavesSink}
+use Rattle.tink_tokens.specs.Tokens.{macs_of, RefusesSigning, RefusesVerifying, SignsTo, VerifiesTo}
 use Rattle.tink_program_commands.specs.declared.outcomes.Outcome.{Outcome}
 use Rattle.tink_program_commands.specs.declared.outcomes.Outcome.TheVariants.{Done, Usage, Refused}
 use Rattle.tink_program_commands.specs.Draws.{draws_in}

@@ -6,8 +6,8 @@ use Rattle.tink_io.specs.declared.error.Kind.{Kind}
 use Rattle.tink_io.specs.declared.error.Kind.TheVariants.{OutOfMemory, RandomFault}
 use Rattle.tink_io.specs.declared.error.TinkError.{TinkError}
 use Rattle.tink_run.specs.AllKeys.{load}
-use Rattle.tink_run.specs.Outside.{Outside, IsUntouched, HasNoFault}
-use Rattle.tink_run.specs.Run.{AnswerMeans, Told, OkMeans, IsWholeStream, IsWholeText, IsOfAgreeing, OnlyAgreeing, CanSeal, CanOpen, IsComplete, LeavesEnds, LeavesSinkItself}
+use Rattle.tink_io.specs.Outside.{Outside, IsUntouched, HasNoFault, Told}
+use Rattle.tink_run.specs.Run.{AnswerMeans, OkMeans, IsWholeStream, IsWholeText, IsOfAgreeing, OnlyAgreeing, CanSeal, CanOpen, IsComplete, LeavesEnds, LeavesSinkItself}
 use Rattle.tink_run.specs.OpenReads.{ReadsNoFurther}
 use Rattle.tink_run.specs.SealAnswers.{SourceFailed}
 use Rattle.tink_run.specs.RewrapPromises.{CanRewrap, CompletesRewrap, IsWholeRewrap, LeavesUnended}

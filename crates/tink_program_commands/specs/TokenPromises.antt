@@ -3,10 +3,9 @@ use Rattle.std.specs.Prelude.{◌≡◌, ◌⊎◌, ◌+◌, ℕ, List, Ok, Err}
 use Rattle.tink_io.specs.declared.error.Kind.{Kind}
 use Rattle.tink_io.specs.declared.error.Kind.TheVariants.{InputTooLong}
 use Rattle.tink_io.specs.Taken.{LosesAtMost}
-use Rattle.tink_run.specs.Outside.{Outside, HasNoFault}
-use Rattle.tink_run.specs.Run.{Told}
-use Rattle.tink_run.specs.Inputs.{input_limit, HasTooMuch}
-use Rattle.tink_run.specs.Tokens.{macs_of, CanAnswer, CannotAnswer, IsAnsweredWhole, Macs, TokenMeans}
+use Rattle.tink_io.specs.Outside.{Outside, HasNoFault, Told}
+use Rattle.tink_tokens.specs.Inputs.{input_limit, HasTooMuch}
+use Rattle.tink_tokens.specs.Tokens.{macs_of, CanAnswer, CannotAnswer, IsAnsweredWhole, Macs, TokenMeans}
 use Rattle.tink_program_commands.specs.Streams.{IsDoneOrWant}
 use Rattle.tink_program_commands.specs.declared.outcomes.Outcome.{Outcome}
 use Rattle.tink_program_commands.specs.declared.outcomes.Outcome.TheVariants.{Done, Usage, Refused}

@@ -1,7 +1,7 @@
 //! All of the commands, by what was read of the words.
 
 ghost use Rattle.std.specs.Prelude.{◌≡◌, true};
-ghost use Rattle.tink_run.specs.Outside.{outside_of};
+ghost use Rattle.tink_io.specs.Outside.{outside_of};
 ghost use Rattle.tink_program_commands.specs.Program.{CommandMeans, IsUnwrittenBy, Leaves, Promises, reads_first, status_of, takes_no_input};
 ghost use Rattle.tink_program_commands.specs.Words.{asked_of};
 
@@ -13,7 +13,7 @@ use crate::streams::{run_open, run_rewrap, run_seal};
 use crate::words::{Parsed, Seed};
 use std::alloc::Global;
 use tink_io::{Sink, Source};
-use tink_run::tokens::{write_payload, write_token};
+use tink_tokens::{write_payload, write_token};
 
 /// Does what was read of the words, with the draws of `seed`.
 pub fn done<S: Source, K: Sink>(

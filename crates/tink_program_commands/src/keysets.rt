@@ -2,7 +2,7 @@
 
 ghost use Rattle.std.specs.Prelude.{◌≡◌, IfErr, string_bytes};
 ghost use Rattle.tink_program_commands.specs.Keysets.{GivesLine, WritesLine, of_keyset, of_no_keys};
-ghost use Rattle.tink_run.specs.Inputs.{IsUnwritten};
+ghost use Rattle.tink_tokens.specs.Inputs.{IsUnwritten};
 
 use crate::words::{RotateArgs, Seed, first_draws};
 use std::alloc::Global;

@@ -3,7 +3,7 @@
 ghost use Rattle.std.specs.Prelude.{◌≡◌, IfErr, IfOk};
 ghost use Rattle.tink_io.specs.declared.error.Kind.TheVariants.{OutOfMemory};
 ghost use Rattle.tink_program_commands.specs.Large.{WritesLarge, lines_of};
-ghost use Rattle.tink_run.specs.Inputs.{IsUnwritten};
+ghost use Rattle.tink_tokens.specs.Inputs.{IsUnwritten};
 
 use crate::words::first_draws;
 use std::alloc::Global;

@@ -5,9 +5,9 @@ ghost use Rattle.loading_model.specs.Loading.{AreUsable, Loaded, opening_keys};
 ghost use Rattle.tink_io.specs.Taken.{LosesAtMost};
 ghost use Rattle.tink_program_commands.specs.Ranges.{HoldsNoInput, RangeAnswer};
 ghost use Rattle.tink_run.specs.HeldKeys.{HoldsLoaded};
-ghost use Rattle.tink_run.specs.Outside.{outside_of};
+ghost use Rattle.tink_io.specs.Outside.{outside_of};
 ghost use Rattle.tink_run.specs.SetRanges.{LeavesRangeEnds, LeavesUnwritten, RangesOf, WritesNoRange};
-ghost use Rattle.tink_run.specs.Inputs.{IsUnloadable, input_limit};
+ghost use Rattle.tink_tokens.specs.Inputs.{IsUnloadable, input_limit};
 
 use crate::words::RangeArgs;
 use std::alloc::Global;
@@ -17,7 +17,7 @@ use tink_io::{Sink, Source, TinkError};
 use tink_range::{Steps, SureAt};
 use tink_run::load::load;
 use tink_run::ranges::range_of_set;
-use tink_run::tokens::read_input;
+use tink_tokens::read_input;
 use tink_sets::TypedPrimitiveSet;
 use tink_stream_keys::StreamKind;
 

@@ -2,7 +2,7 @@
 
 ghost use Rattle.std.specs.Prelude.{[]};
 ghost use Rattle.tink_run.specs.declared.report.Command.TheVariants.{Seal, Open};
-ghost use Rattle.tink_run.specs.Outside.{outside_of};
+ghost use Rattle.tink_io.specs.Outside.{outside_of};
 ghost use Rattle.tink_program_commands.specs.Draws.{draws_in};
 ghost use Rattle.tink_program_commands.specs.Streams.{Moved, Ran, SparesEnds};
 ghost use Rattle.tink_program_commands.specs.Words.{sides_of};

@@ -2,7 +2,7 @@
 
 ghost use Rattle.std.specs.Prelude.{Some};
 ghost use Rattle.tink_program.specs.Program.{Promised};
-ghost use Rattle.tink_run.specs.Outside.{Outside};
+ghost use Rattle.tink_io.specs.Outside.{Outside};
 ghost use Rattle.tink_words.specs.Forms.{words_of};
 
 use std::alloc::Global;

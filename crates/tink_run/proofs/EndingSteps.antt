@@ -26,7 +26,7 @@ use Rattle.tink_run.specs.declared.report.Report.{Report}
 use Rattle.tink_run.specs.Endings.{EndsAs, IsEndedBy, IsRefusedEarly}
 use Rattle.tink_run.specs.OpenAnswers.{AgreesUntil, chunk_of, IsBroken, IsCutOff, IsOfChosen, Lead, OpeningMeans, OpeningRefused}
 use Rattle.tink_run.specs.OpenSteps.{OpensUnder, OpensUnderRefused}
-use Rattle.tink_run.specs.Outside.{Outside}
+use Rattle.tink_io.specs.Outside.{Outside}
 use Rattle.tink_run.specs.Run.{IsEarly, LeavesEnds, LeavesSinkItself}
 use Rattle.tink_run.specs.SealAnswers.{SealingMeans, SealingRefused, SinkFailed, WantsMemory}
 use Rattle.tink_run.specs.SealSteps.{HasFew, HasNoKeys, IsUnderWay, SealsUnder, SealsUnderRefused}

@@ -11,7 +11,7 @@ use Rattle.tink_io.specs.declared.error.TinkError.{TinkError}
 use Rattle.stream_model.specs.Opening.{OpeningKey, IsChosen}
 use Rattle.tink_streams.specs.Choosing.{Started, StartRefused}
 use Rattle.tink_run.specs.declared.report.Report.{Report}
-use Rattle.tink_run.specs.Outside.{Outside}
+use Rattle.tink_io.specs.Outside.{Outside}
 use Rattle.tink_run.specs.OpenAnswers.{IsBroken, OpeningMeans}
 use Rattle.tink_run.specs.OpenReads.{room_under}
 use Rattle.tink_run.specs.Run.{IsEarly, LeavesEnds}

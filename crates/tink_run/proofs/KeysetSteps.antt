@@ -21,7 +21,7 @@ use Rattle.tink_run.specs.HeldKeys.{GivesLoaded, HoldsLoaded}
 use Rattle.tink_run.specs.Run.{CanOpen, IsEarly}
 use Rattle.tink_run.proofs.OpenLemmas.{chosen_lawful, same_loaded}
 use Rattle.tink_run.proofs.LoadedFacts.{load_refuses, loaded_usable}
-use Rattle.tink_run.proofs.RunLemmas.{told_appended, told_if}
+use Rattle.tink_io.proofs.OutsideFacts.{told_appended, told_if}
 use Rattle.tink_run.specs.KeysetRanges.{GivesSlice, IsRangeComplete, KeysetRangeMeans, KeysetRangeRefused, LeavesBoth, RangesLoaded, TakesKeysetSteps}
 use Rattle.tink_run.specs.SetRanges.{LeavesRangeEnds, RangesOf, RangesOfRefused}
 

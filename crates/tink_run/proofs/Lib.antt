@@ -25,9 +25,4 @@ pub mod PassEndings
 pub mod RewrapSteps
 pub mod PromiseSteps
 pub mod ReadsOnly
-pub mod InputSteps
-pub mod MacFacts
-pub mod ToldLemmas
-pub mod TokenCalls
-pub mod CompleteFacts
 pub mod RoomFacts

@@ -11,7 +11,7 @@ use Rattle.tink_streaming_aead.proofs.OneKeyFacts.{chosen_alone, same_choice}
 use Rattle.tink_run.specs.AllKeys.{load}
 use Rattle.tink_run.specs.OneKey.{OpensAsOneKey, RunOpensAlone}
 use Rattle.tink_run.specs.OpenAnswers.{AgreesUntil, IsBroken, IsCutOff, IsOfChosen, Lead, OpenMeans, OpenRefused, OpeningMeans, OpeningRefused, OpensLoaded}
-use Rattle.tink_run.specs.Outside.{Outside}
+use Rattle.tink_io.specs.Outside.{Outside}
 use Rattle.tink_run.specs.declared.report.Report.{Report}
 
 if_told : (o : Option (List ℕ)) (P Q : List ℕ → Type 0) → ((S : List ℕ) → o ≡ Some S → P S → Q S) → IfSome o P → IfSome o Q

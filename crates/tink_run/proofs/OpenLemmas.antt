@@ -21,10 +21,10 @@ use Rattle.loading_model.specs.Loading.{Loaded, LoadedKey, AreUsable, opening_ke
 use Rattle.tink_run.specs.AllKeys.{load}
 use Rattle.tink_run.proofs.LoadedFacts.{loaded_usable}
 use Rattle.tink_run.specs.declared.report.Report.{Report}
-use Rattle.tink_run.specs.Outside.{Outside, IsUntouched, HasNoFault}
+use Rattle.tink_io.specs.Outside.{Outside, IsUntouched, HasNoFault, Told}
 use Rattle.tink_run.specs.OpenAnswers.{OpensLoaded, OpeningRefused, OpenMeans, OpenRefused, IsOfChosen, AgreesUntil, Lead, AreTextsBy}
-use Rattle.tink_run.specs.Run.{Told, IsWholeText, IsOfAgreeing, CanOpen, IsOkOrWant}
-use Rattle.tink_run.proofs.RunLemmas.{told_appended, told_if}
+use Rattle.tink_run.specs.Run.{IsWholeText, IsOfAgreeing, CanOpen, IsOkOrWant}
+use Rattle.tink_io.proofs.OutsideFacts.{told_appended, told_if}
 
 take_none : (n : ℕ) → take {A = ℕ} n [] ≡ []
 take_none zero = refl

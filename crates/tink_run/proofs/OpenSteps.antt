@@ -17,7 +17,7 @@ use Rattle.tink_streams.proofs.ChosenFacts.{chosen_begins, chunks_are, stream_op
 use Rattle.loading_model.specs.Loading.{Loaded, opening_keys}
 use Rattle.tink_run.specs.AllKeys.{load}
 use Rattle.tink_run.specs.declared.report.Report.{Report}
-use Rattle.tink_run.specs.Outside.{Outside}
+use Rattle.tink_io.specs.Outside.{Outside}
 use Rattle.tink_run.specs.Run.{IsEarly, LeavesEnds}
 use Rattle.tink_run.specs.OpenAnswers.{IsOfChosen, AgreesUntil, Lead, AreTextsBy, chunk_of, IsOpenedWhole, IsBroken, IsCutOff, OpeningRefused, OpeningMeans, OpensLoaded, OpenMeans, OpenRefused}
 use Rattle.tink_run.specs.OpenSteps.{IsReadOut, Breaks, CutsOff, HasShort, HasLong, HasMore, ReaderRefused, ReaderMeans, OpensUnderRefused, OpensUnder}

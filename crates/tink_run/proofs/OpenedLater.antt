@@ -22,7 +22,7 @@ use Rattle.tink_run.specs.HeldKeys.{GivesLoaded}
 use Rattle.tink_run.specs.declared.report.Report.{Report}
 use Rattle.tink_run.specs.OpenAnswers.{OpeningMeans}
 use Rattle.tink_run.specs.OpenReads.{ReadsWithin, room_under}
-use Rattle.tink_run.specs.Outside.{Outside}
+use Rattle.tink_io.specs.Outside.{Outside}
 use Rattle.tink_run.proofs.EndingSteps.{opening_cut, opening_kept}
 use Rattle.tink_run.proofs.LoadedFacts.{loaded_usable}
 use Rattle.tink_run.proofs.OneKeyFacts.{means_by}

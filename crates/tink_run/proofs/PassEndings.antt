@@ -18,7 +18,7 @@ use Rattle.tink_run.specs.declared.report.Report.{Report}
 use Rattle.tink_run.specs.Endings.{EndsAs, IsEndedBy, IsRefusedEarly}
 use Rattle.tink_run.specs.OpenAnswers.{IsOfChosen}
 use Rattle.tink_run.specs.OpenReads.{room_under}
-use Rattle.tink_run.specs.Outside.{Outside}
+use Rattle.tink_io.specs.Outside.{Outside}
 use Rattle.tink_run.specs.Run.{IsEarly}
 use Rattle.tink_run.specs.SealAnswers.{WantsMemory}
 use Rattle.tink_run.specs.SealSteps.{HasFew, HasNoKeys}

@@ -20,7 +20,7 @@ use Rattle.tink_streams.specs.Reading.{ReaderMoment, OpensNext, OpenNextRefused}
 use Rattle.tink_streams.specs.Writing.{WriterMoment, Wrote, WrotePrefixOf, WroteAll, WriteRefused, ClosedBy, ClosedShort, CloseMeans, CloseRefused}
 use Rattle.tink_streams.proofs.WritingFacts.{IsFresh, fresh_filled, wrote_nothing, wrote_more, refused_more, closed_whole, closed_prefix, stops_prefix}
 use Rattle.tink_run.specs.declared.report.Report.{Report}
-use Rattle.tink_run.specs.Outside.{Outside}
+use Rattle.tink_io.specs.Outside.{Outside}
 use Rattle.tink_run.specs.OpenReads.{ReaderReadsBy}
 use Rattle.tink_run.specs.OpenSteps.{FirstRefused, ReaderMeans}
 use Rattle.tink_run.specs.Run.{LeavesSinkItself, WritesNothing}

@@ -23,11 +23,11 @@ use Rattle.loading_model.specs.Loading.{Loaded, opening_keys}
 use Rattle.tink_run.specs.AllKeys.{load}
 use Rattle.tink_run.specs.declared.report.Report.{Report}
 use Rattle.tink_run.specs.OpenAnswers.{AgreesUntil, AreTextsBy, IsBroken, Lead, OpeningMeans, OpeningRefused}
-use Rattle.tink_run.specs.Outside.{Outside, HasNoFault, IsUntouched}
-use Rattle.tink_run.specs.Run.{IsOfAgreeing, IsWholeText, Told}
+use Rattle.tink_io.specs.Outside.{Outside, HasNoFault, IsUntouched, Told}
+use Rattle.tink_run.specs.Run.{IsOfAgreeing, IsWholeText}
 use Rattle.tink_run.proofs.OpenLemmas.{chosen_lawful, kept_prefix, open_agreeing, open_succeeds, same_loaded, stream_agreeing, stream_agrees, stream_complete, whole_prefix}
 use Rattle.tink_run.proofs.LoadedFacts.{loaded_usable}
-use Rattle.tink_run.proofs.RunLemmas.{told_appended, told_if}
+use Rattle.tink_io.proofs.OutsideFacts.{told_appended, told_if}
 use Rattle.tink_run.specs.Passing.{bytes_under, into, PassMeans, PassRefused, StopsBy}
 use Rattle.tink_run.specs.Rewrapping.{HasKey, IsUnloaded, PassesUnder, RewrapMeans, RewrapRefused, RewrapsLoaded, RewrapsUnder, RewrapsUnderRefused, Sides}
 use Rattle.tink_run.specs.RewrapPromises.{CanRewrap, CompletesRewrap, IsUnended, IsWholeRewrap, LeavesUnended, MayEnd}

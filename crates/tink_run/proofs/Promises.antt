@@ -5,8 +5,8 @@ use Rattle.tink_io.specs.declared.error.TinkError.{TinkError}
 use Rattle.tink_run.specs.declared.report.Command.{Command}
 use Rattle.tink_run.specs.declared.report.Command.TheVariants.{Seal, Open}
 use Rattle.tink_run.specs.declared.report.Report.{Report}
-use Rattle.tink_run.specs.Outside.{Outside}
-use Rattle.tink_run.specs.Run.{AnswerMeans, Told, OkMeans, OnlyAgreeing, IsComplete}
+use Rattle.tink_io.specs.Outside.{Outside, Told}
+use Rattle.tink_run.specs.Run.{AnswerMeans, OkMeans, OnlyAgreeing, IsComplete}
 use Rattle.tink_run.proofs.RunLemmas.{seal_succeeds, seal_complete}
 use Rattle.tink_run.proofs.OpenLemmas.{open_succeeds, open_agreeing, open_complete}
 

@@ -32,7 +32,7 @@ use Rattle.tink_run.specs.Endings.{EndsAs, IsEndedBy, IsRefusedEarly}
 use Rattle.tink_run.specs.OpenAnswers.{AgreesUntil, IsOfChosen, Lead, chunk_of}
 use Rattle.tink_run.specs.OpenReads.{OpensReading, ReadsBy, ReadsNear, ReadsNoFurther, ReadsWithin, StopsBehind, from_chunk, room_under}
 use Rattle.tink_run.specs.OpenSteps.{OpensUnder, OpensUnderRefused}
-use Rattle.tink_run.specs.Outside.{Outside}
+use Rattle.tink_io.specs.Outside.{Outside}
 use Rattle.tink_run.specs.Run.{IsEarly}
 use Rattle.tink_run.proofs.EndingSteps.{cut_prefix, ends_mapped, if_told, kept_after, leads_agreed, leads_opened, not_early}
 use Rattle.tink_run.proofs.OpenLemmas.{chosen_lawful, kept_prefix, same_loaded, stream_agrees, whole_prefix}

@@ -21,7 +21,7 @@ use Rattle.tink_streams.specs.declared.progress.Progress.TheVariants.{Ended, Fai
 use Rattle.tink_streams.specs.Reading.{ReaderMoment, TellsLeads, HasNotFailed, OpensNext, OpenNextRefused, chunk_at}
 use Rattle.tink_streams.proofs.ReadingFacts.{Opened, opened_none, opened_more, opened_all, opened_agree, at_next_chunk}
 use Rattle.tink_run.specs.declared.report.Report.{Report}
-use Rattle.tink_run.specs.Outside.{Outside}
+use Rattle.tink_io.specs.Outside.{Outside}
 use Rattle.tink_run.specs.OpenSteps.{FirstRefused, IsReadOut, Breaks, ReaderRefused}
 use Rattle.tink_run.specs.Run.{LeavesSinkItself, WritesNothing}
 use Rattle.tink_run.proofs.OpenLemmas.{kept_nothing}

@@ -12,7 +12,7 @@ use Rattle.loading_model.specs.Loading.{Loaded, opening_keys}
 use Rattle.tink_run.specs.declared.report.Report.{Report}
 use Rattle.tink_run.specs.OpenAnswers.{AgreesUntil, Lead}
 use Rattle.tink_run.specs.OpenReads.{ReadsNear, StopsBehind, room_under}
-use Rattle.tink_run.specs.Outside.{Outside}
+use Rattle.tink_io.specs.Outside.{Outside}
 use Rattle.tink_run.proofs.EndingSteps.{if_told, leads_agreed}
 use Rattle.tink_run.proofs.OpenLemmas.{same_loaded}
 use Rattle.tink_run.specs.Passing.{LeadsUnder, NewBytes, OpensWithin, PassRefused, bytes_under, into}

@@ -25,7 +25,7 @@ use Rattle.tink_streams.proofs.ChosenFacts.{chunks_are}
 use Rattle.tink_streams.proofs.FrontFacts.{fits_or_not}
 use Rattle.tink_streams.proofs.ReadingFacts.{Opened}
 use Rattle.tink_run.specs.declared.report.Report.{Report}
-use Rattle.tink_run.specs.Outside.{Outside}
+use Rattle.tink_io.specs.Outside.{Outside}
 use Rattle.tink_run.specs.OpenAnswers.{Lead}
 use Rattle.tink_run.specs.OpenReads.{FailsBehind, ReaderReads, ReaderReadsBy, ReadsBy, ReadsFrom, ReadsNear, ReadsWithin, StopsBehind, from_chunk, largest_of}
 use Rattle.tink_run.specs.OpenSteps.{FirstRefused, ReaderMeans}

@@ -18,7 +18,7 @@ use Rattle.tink_run.specs.AllKeys.{load}
 use Rattle.tink_run.specs.HeldKeys.{GivesLoaded}
 use Rattle.tink_run.specs.declared.report.Report.{Report}
 use Rattle.tink_run.specs.OpenReads.{room_under}
-use Rattle.tink_run.specs.Outside.{Outside}
+use Rattle.tink_io.specs.Outside.{Outside}
 use Rattle.tink_run.specs.SealSteps.{kind_not_begun}
 use Rattle.tink_run.proofs.LoadedFacts.{load_refuses}
 use Rattle.tink_run.proofs.SealSteps.{longest_is, no_keys, part_is, stream_is}

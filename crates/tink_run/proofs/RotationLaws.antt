@@ -15,7 +15,7 @@ use Rattle.loading_model.proofs.RotationFacts.{streams_outlive, streams_outlive_
 use Rattle.tink_streaming_aead.proofs.SealedFacts.{one_list}
 use Rattle.tink.specs.LoadingRows.{rows}
 use Rattle.tink_run.specs.AllKeys.{load}
-use Rattle.tink_run.specs.Outside.{Outside}
+use Rattle.tink_io.specs.Outside.{Outside}
 use Rattle.tink_run.specs.Rotation.{Opens, OpensAs, RunOpensAfterAdding, RunOpensAfterAll, RunOpensById, RunOpensEdited, RunsTo}
 use Rattle.tink_run.specs.Run.{CanOpen, IsWholeText}
 use Rattle.tink_run.specs.declared.report.Report.{Report}

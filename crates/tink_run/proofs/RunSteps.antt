@@ -31,7 +31,7 @@ use Rattle.tink_run.proofs.EndingSteps.{ends_mapped, opens_ended}
 use Rattle.tink_run.proofs.OpenLemmas.{chosen_lawful}
 use Rattle.tink_run.specs.Endings.{EndsAs}
 use Rattle.loading_model.proofs.UsableKeys.{IsOfLoading}
-use Rattle.tink_run.specs.Outside.{Outside, IsUntouched}
+use Rattle.tink_io.specs.Outside.{Outside, IsUntouched}
 use Rattle.tink_run.specs.Run.{AnswerMeans, IsEarly, LeavesEnds, LeavesSinkItself, WritesNothing}
 use Rattle.tink_run.specs.SealAnswers.{SealRefused}
 use Rattle.tink_run.specs.SealSteps.{SealsUnder, SealsUnderRefused}

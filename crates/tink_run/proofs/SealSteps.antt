@@ -23,7 +23,7 @@ use Rattle.tink_streams.proofs.WritingFacts.{IsFresh, fresh_filled, closed_whole
 use Rattle.loading_model.specs.Loading.{Loaded}
 use Rattle.tink_run.specs.AllKeys.{load}
 use Rattle.tink_run.specs.declared.report.Report.{Report}
-use Rattle.tink_run.specs.Outside.{Outside, IsUntouched}
+use Rattle.tink_io.specs.Outside.{Outside, IsUntouched}
 use Rattle.tink_run.specs.Run.{IsEarly, LeavesEnds}
 use Rattle.tink_run.specs.SealAnswers.{IsSealedWhole, SourceFailed, SinkFailed, IsTooLong, SealingMeans, SealingRefused, SealMeans, SealRefused}
 use Rattle.tink_run.specs.SealSteps.{HasNoKeys, IsUnderWay, SealsUnder, SealsUnderRefused, kind_not_begun}

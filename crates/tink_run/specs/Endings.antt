@@ -7,7 +7,7 @@ use Rattle.tink_io.specs.declared.error.Kind.TheVariants.{WriteFault}
 use Rattle.tink_io.specs.declared.error.TinkError.{TinkError}
 use Rattle.tink_io.specs.Gathering.{IsCutShort, OnlyGrows}
 use Rattle.tink_run.specs.declared.report.Report.{Report}
-use Rattle.tink_run.specs.Outside.{Outside}
+use Rattle.tink_io.specs.Outside.{Outside}
 use Rattle.tink_run.specs.Run.{IsEarly}
 
 -- all that was given was handed on, and the answer stays

@@ -1,4 +1,3 @@
-pub mod Outside
 pub mod SealAnswers
 pub mod OpenAnswers
 pub mod Run
@@ -17,6 +16,3 @@ pub mod Passing
 pub mod Rewrapping
 pub mod RewrapPromises
 pub mod RewrapReads
-pub mod Inputs
-pub mod TokenSteps
-pub mod Tokens

@@ -5,7 +5,7 @@ use Rattle.stream_model.specs.Opening.{IsChosen, OpeningKey}
 use Rattle.loading_model.specs.Loading.{Loaded, opening_keys}
 use Rattle.tink_run.specs.AllKeys.{load}
 use Rattle.tink_run.specs.OpenAnswers.{OpenMeans, OpeningMeans}
-use Rattle.tink_run.specs.Outside.{Outside}
+use Rattle.tink_io.specs.Outside.{Outside}
 use Rattle.tink_run.specs.declared.report.Report.{Report}
 
 -- what an open answers under keys of which one is chosen for the stream, it answers under this key alone

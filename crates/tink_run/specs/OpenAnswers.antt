@@ -11,7 +11,7 @@ use Rattle.stream_model.specs.Opening.{OpeningKey, chunks_of, header_of, IsAgree
 use Rattle.loading_model.specs.Loading.{Loaded, opening_keys}
 use Rattle.tink_run.specs.AllKeys.{load}
 use Rattle.tink_run.specs.declared.report.Report.{Report}
-use Rattle.tink_run.specs.Outside.{Outside}
+use Rattle.tink_io.specs.Outside.{Outside}
 use Rattle.tink_run.specs.SealAnswers.{IsRefused, WantsMemory}
 
 -- chunk n of the stream behind its front

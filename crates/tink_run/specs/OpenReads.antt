@@ -17,7 +17,7 @@ use Rattle.tink_run.specs.declared.report.Command.TheVariants.{Seal, Open}
 use Rattle.tink_run.specs.declared.report.Report.{Report}
 use Rattle.tink_run.specs.OpenAnswers.{Lead}
 use Rattle.tink_run.specs.OpenSteps.{OpensUnder}
-use Rattle.tink_run.specs.Outside.{Outside}
+use Rattle.tink_io.specs.Outside.{Outside}
 
 -- the most bytes that an output prefix and a segment have, of some keys
 abbrev pub largest_of : List OpeningKey → ℕ

@@ -16,7 +16,7 @@ use Rattle.tink_streams.specs.declared.reading.SegmentReader.{SegmentReader}
 use Rattle.tink_streams.specs.Openers.{reader_rest}
 use Rattle.tink_streams.specs.Reading.{ReaderMoment, OpensNext, NothingComes, FailsBy}
 use Rattle.tink_run.specs.declared.report.Report.{Report}
-use Rattle.tink_run.specs.Outside.{Outside, IsUntouched}
+use Rattle.tink_io.specs.Outside.{Outside, IsUntouched}
 use Rattle.tink_run.specs.OpenAnswers.{IsOpenedWhole, OpeningRefused}
 
 -- the first segment: where it is the segment of no text, the stream doesn't begin under the reader's key

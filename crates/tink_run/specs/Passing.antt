@@ -18,7 +18,7 @@ use Rattle.tink_run.specs.declared.report.Report.{Report}
 use Rattle.tink_run.specs.OpenAnswers.{OpeningMeans}
 use Rattle.tink_run.specs.OpenReads.{FailsBehind, ReaderReads, ReadsWithin, StopsBehind}
 use Rattle.tink_run.specs.OpenSteps.{ReaderMeans}
-use Rattle.tink_run.specs.Outside.{Outside}
+use Rattle.tink_io.specs.Outside.{Outside}
 
 -- What is made of a text: its stream; the front and the unmarked segments of all its chunks but the last; the same of
 -- the text of its first 2^32 chunks; and the number of its chunks.

@@ -12,8 +12,8 @@ use Rattle.stream_model.specs.Sealing.{stream, part, chunk_count, drawn, salt_of
 use Rattle.loading_model.specs.Loading.{Loaded, opening_keys}
 use Rattle.tink_run.specs.AllKeys.{load}
 use Rattle.tink_run.specs.declared.report.Report.{Report}
-use Rattle.tink_run.specs.Outside.{Outside, HasNoFault}
-use Rattle.tink_run.specs.Run.{IsOkOrWant, Told}
+use Rattle.tink_io.specs.Outside.{Outside, HasNoFault, Told}
+use Rattle.tink_run.specs.Run.{IsOkOrWant}
 use Rattle.tink_run.specs.Rewrapping.{Sides}
 
 -- The source was exactly a stream of the chosen key. Exactly the stream of its text under the other primary key, with the

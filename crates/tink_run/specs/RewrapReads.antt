@@ -11,7 +11,7 @@ use Rattle.tink_run.specs.AllKeys.{load}
 use Rattle.tink_run.specs.declared.report.Report.{Report}
 use Rattle.tink_run.specs.OpenAnswers.{Lead}
 use Rattle.tink_run.specs.OpenReads.{ReadsNear, room_under}
-use Rattle.tink_run.specs.Outside.{Outside}
+use Rattle.tink_io.specs.Outside.{Outside}
 use Rattle.tink_run.specs.Rewrapping.{Sides}
 
 -- The segments of some texts lead under the chosen key, and at most so many bytes were read behind their chunks, or, where no

@@ -11,7 +11,7 @@ use Rattle.tink_run.specs.AllKeys.{load}
 use Rattle.tink_run.specs.declared.report.Report.{Report}
 use Rattle.tink_run.specs.Endings.{EndsAs}
 use Rattle.tink_run.specs.OpenReads.{room_under}
-use Rattle.tink_run.specs.Outside.{Outside, IsUntouched}
+use Rattle.tink_io.specs.Outside.{Outside, IsUntouched}
 use Rattle.tink_run.specs.SealAnswers.{WantsMemory}
 use Rattle.tink_run.specs.SealSteps.{HasFew, HasNoKeys}
 use Rattle.tink_run.specs.Passing.{LeadsUnder, NewBytes, OpensWithin, PassMeans, bytes_under}

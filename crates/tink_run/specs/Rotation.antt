@@ -10,7 +10,7 @@ use Rattle.loading_model.specs.Loading.{Loaded, load_keyset}
 use Rattle.loading_model.specs.Rotation.{AllLeavePlace, EnablesNone, IsChosenAt, LeavesKeys, OpensTo}
 use Rattle.tink.specs.LoadingRows.{rows}
 use Rattle.tink_run.specs.AllKeys.{load}
-use Rattle.tink_run.specs.Outside.{Outside}
+use Rattle.tink_io.specs.Outside.{Outside}
 use Rattle.tink_run.specs.Run.{CanOpen, IsWholeText}
 use Rattle.tink_run.specs.declared.report.Report.{Report}
 

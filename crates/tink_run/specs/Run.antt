@@ -14,7 +14,7 @@ use Rattle.tink_run.specs.AllKeys.{load}
 use Rattle.tink_run.specs.declared.report.Command.{Command}
 use Rattle.tink_run.specs.declared.report.Command.TheVariants.{Seal, Open}
 use Rattle.tink_run.specs.declared.report.Report.{Report}
-use Rattle.tink_run.specs.Outside.{Outside, HasNoFault}
+use Rattle.tink_io.specs.Outside.{Outside, HasNoFault}
 use Rattle.tink_run.specs.SealAnswers.{SealMeans}
 use Rattle.tink_run.specs.OpenAnswers.{OpenMeans}
 
@@ -50,11 +50,6 @@ WritesNothing kind = IsEarly kind
 abbrev pub LeavesSinkItself : {K : Type 0} → Result Report TinkError → K → K → Type 0
 LeavesSinkItself (Ok report) sink sink_after = Unit {0}
 LeavesSinkItself (Err e) sink sink_after = WritesNothing e.kind → sink_after ≡ sink
-
--- the source told these bytes and the sink these
-pub record Told (m : Outside) (T G : List ℕ) : Type 0 where
-  pub left : m.left ≡ Some T
-  pub got : m.got ≡ Some G
 
 -- exactly the stream of the whole text under the primary key and the first draws was written, and nothing is left
 pub record IsWholeStream (keyset aad draws left_draws T G : List ℕ) (new : Outside) (report : Report) : Type 0 where

@@ -11,7 +11,7 @@ use Rattle.stream_model.specs.Sealing.{stream, part, longest_part, chunk_count, 
 use Rattle.loading_model.specs.Loading.{Loaded}
 use Rattle.tink_run.specs.AllKeys.{load}
 use Rattle.tink_run.specs.declared.report.Report.{Report}
-use Rattle.tink_run.specs.Outside.{Outside, IsUntouched}
+use Rattle.tink_io.specs.Outside.{Outside, IsUntouched}
 
 -- the stream of the whole text was written
 pub record IsSealedWhole (k : StreamKey) (aad salt prefix : List ℕ) (old new : Outside) (report : Report) : Type 0 where

@@ -6,7 +6,7 @@ use Rattle.tink_io.specs.declared.error.TinkError.{TinkError}
 use Rattle.stream_model.specs.Key.{StreamKey, keys_of}
 use Rattle.stream_model.specs.Sealing.{drawn, salt_of, prefix_of}
 use Rattle.tink_run.specs.declared.report.Report.{Report}
-use Rattle.tink_run.specs.Outside.{Outside, IsUntouched}
+use Rattle.tink_io.specs.Outside.{Outside, IsUntouched}
 use Rattle.tink_run.specs.SealAnswers.{SealingMeans, WantsMemory}
 
 -- by which kind a seal is refused whose stream was not begun by some kind

@@ -1,5 +1,5 @@
-//! Seals and opens streams under Tink keysets, moves them to another keyset, gives ranges of their texts, and makes and
-//! verifies tokens, from any source to any sink.
+//! Seals and opens streams under Tink keysets, moves them to another keyset, and gives ranges of their texts, from any
+//! source to any sink.
 #![tactic(auto)]
 
 pub mod keys;
@@ -12,4 +12,3 @@ pub mod rewrap;
 pub mod run;
 pub mod seal;
 pub mod together;
-pub mod tokens;

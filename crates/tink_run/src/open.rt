@@ -4,7 +4,7 @@ ghost use Rattle.tink_streams.specs.declared.progress.Progress.TheVariants.{Runn
 ghost use Rattle.tink_io.specs.Taken.{LosesAtMost};
 ghost use Rattle.tink_stream_keys.specs.Rooms.{HasRoomForEach};
 ghost use Rattle.tink_streams.specs.Openers.{reader_memory, reader_moment, reader_rest, segment_map};
-ghost use Rattle.tink_run.specs.Outside.{FaultsStay, outside_of};
+ghost use Rattle.tink_io.specs.Outside.{FaultsStay, outside_of};
 ghost use Rattle.tink_streaming_aead.specs.Wrapped.{KeepsOrder, all_entries, keys_in};
 ghost use Rattle.tink_run.specs.OpenAnswers.{OpeningMeans};
 ghost use Rattle.tink_run.specs.OpenReads.{ReaderReads, ReadsWithin, room_under};

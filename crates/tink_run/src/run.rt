@@ -1,7 +1,7 @@
 ghost use Rattle.std.specs.Prelude.{◌≡◌, ℕ, List, IfOk};
 ghost use Rattle.tink_run.specs.OpenReads.{ReadsNoFurther};
-ghost use Rattle.tink_run.specs.Outside.{FaultsStay, outside_of};
-ghost use Rattle.tink_run.specs.Run.{AnswerMeans, IsComplete, LeavesEnds, LeavesSinkItself, OnlyAgreeing, OkMeans, Told};
+ghost use Rattle.tink_io.specs.Outside.{FaultsStay, outside_of, Told};
+ghost use Rattle.tink_run.specs.Run.{AnswerMeans, IsComplete, LeavesEnds, LeavesSinkItself, OnlyAgreeing, OkMeans};
 
 use crate::keys::primary_key;
 use crate::load::load;

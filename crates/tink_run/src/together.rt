@@ -8,7 +8,7 @@ ghost use Rattle.tink_streaming_aead.specs.Wrapped.{KeepsOrder, all_entries, key
 ghost use Rattle.tink_io.specs.Gathering.{OnlyGrows};
 ghost use Rattle.tink_run.specs.Endings.{EndsAs, IsEndedBy};
 ghost use Rattle.tink_run.specs.OpenReads.{OpensReading};
-ghost use Rattle.tink_run.specs.Outside.{FaultsStay, outside_of};
+ghost use Rattle.tink_io.specs.Outside.{FaultsStay, outside_of};
 ghost use Rattle.tink_run.specs.Run.{LeavesEnds, LeavesSinkItself};
 ghost use Rattle.tink_run.specs.SealSteps.{SealsUnder};
 

@@ -4,11 +4,11 @@ ghost use Rattle.std.specs.Prelude.{◌≡◌, [], codes, Ok, Some, IfOk};
 ghost use Rattle.tink.specs.Rotating.{key_line, rotated_by};
 ghost use Rattle.tink_keysets.specs.Managed.{no_keys};
 ghost use Rattle.tink_proto.specs.declared.messages.keys.Keyset.{Keyset};
-ghost use Rattle.tink_run.specs.Outside.{Outside};
+ghost use Rattle.tink_io.specs.Outside.{Outside};
 ghost use Rattle.tink_run.specs.RewrapPromises.{IsWholeRewrap};
 ghost use Rattle.tink_run.specs.Rewrapping.{sides};
 ghost use Rattle.tink_run.specs.Run.{IsWholeStream};
-ghost use Rattle.tink_run.specs.Tokens.{RefusesVerifying, TokenMeans, VerifiesTo};
+ghost use Rattle.tink_tokens.specs.Tokens.{RefusesVerifying, TokenMeans, VerifiesTo};
 
 use crate::support::{CTR_35, CTR_4096, GCM_41, counted, sink_of, stream_of};
 use std::alloc::Global;
@@ -17,7 +17,7 @@ use tink_io::{Draws, Kind, SureSink, SureSource, TinkError};
 use tink_run::report::{Command, Report};
 use tink_run::rewrap::rewrap;
 use tink_run::run::run;
-use tink_run::tokens::write_payload;
+use tink_tokens::write_payload;
 
 // Seals a text in memory, without associated data. After `Ok` the sink got exactly the stream of the text under the
 // keyset's primary key and the first draws.

@@ -7,7 +7,7 @@ ghost use Rattle.tink_streams.specs.Sealers as sealers;
 ghost use Rattle.tink_streams.specs.declared.progress.Progress.TheVariants.{Running};
 ghost use Rattle.tink_streams.specs.declared.writing.Mode.TheVariants.{Open};
 ghost use Rattle.tink_run.specs.OpenSteps.{held_outside};
-ghost use Rattle.tink_run.specs.Outside.{FaultsStay, outside_of};
+ghost use Rattle.tink_io.specs.Outside.{FaultsStay, outside_of};
 ghost use Rattle.tink_run.specs.Run.{LeavesSinkItself};
 ghost use Rattle.tink_run.specs.Passing.{FinishMeans, FitsKeys, IsUnbegun, LeadsUnder, LeadsWithin, OpensWithin};
 ghost use Rattle.tink_run.specs.Passing.{PassMeans, ReaderMeansWithin, anywhere, bytes_by};

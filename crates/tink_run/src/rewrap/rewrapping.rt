@@ -1,8 +1,8 @@
 //! A stream from a keyset to another.
 
 ghost use Rattle.std.specs.Prelude.{◌≡◌, ℕ, List, IfOk};
-ghost use Rattle.tink_run.specs.Outside.{FaultsStay, outside_of};
-ghost use Rattle.tink_run.specs.Run.{LeavesEnds, LeavesSinkItself, Told};
+ghost use Rattle.tink_io.specs.Outside.{FaultsStay, outside_of, Told};
+ghost use Rattle.tink_run.specs.Run.{LeavesEnds, LeavesSinkItself};
 ghost use Rattle.tink_run.specs.RewrapReads.{RewrapReadsNoFurther};
 ghost use Rattle.tink_run.specs.Rewrapping.{RewrapMeans, sides};
 ghost use Rattle.tink_run.specs.RewrapPromises.{CompletesRewrap, IsWholeRewrap, LeavesUnended};

@@ -4,7 +4,7 @@ ghost use Rattle.std.specs.Prelude.{◌≡◌, map};
 ghost use Rattle.stream_model.specs.Opening as opening;
 ghost use Rattle.tink_stream_keys.specs.StreamKinds.{key_in_set};
 ghost use Rattle.tink_streaming_aead.specs.Wrapped.{KeepsOrder, all_entries, keys_in};
-ghost use Rattle.tink_run.specs.Outside.{FaultsStay, outside_of};
+ghost use Rattle.tink_io.specs.Outside.{FaultsStay, outside_of};
 ghost use Rattle.tink_run.specs.Run.{LeavesEnds, LeavesSinkItself};
 ghost use Rattle.tink_run.specs.Rewrapping.{RewrapEnds};
 

@@ -1,4 +1,4 @@
-use Rattle.tink_run.specs.Tokens.{RefusesSigning, RefusesVerifying, SignsTo, VerifiesTo}
+use Rattle.tink_tokens.specs.Tokens.{RefusesSigning, RefusesVerifying, SignsTo, VerifiesTo}
 use Rattle.tink_files.proofs.StreamLemmas.{done_by}
 use Rattle.tink_files.proofs.TaskLemmas.{answered, answered_done, answered_succeeds, rewrap_said, run_said, token_said}
 use Rattle.tink_files.proofs.tasks.write_task.Goals as goal

@@ -6,7 +6,7 @@ use Rattle.tink_program_commands.proofs.RangeLemmas.{range_leaves, range_outcome
 use Rattle.tink_program_commands.proofs.RewrapLemmas.{rewrap_leaves, rewrap_outcome, rewrap_promised}
 use Rattle.tink_program_commands.proofs.StreamLemmas.{leaves_by, open_outcome, open_promised, seal_outcome, seal_promised}
 use Rattle.tink_program_commands.proofs.TokenLemmas.{sign_leaves, sign_promised, token_outcome, verify_leaves, verify_promised}
-use Rattle.tink_run.specs.Tokens.{RefusesSigning, RefusesVerifying, SignsTo, VerifiesTo}
+use Rattle.tink_tokens.specs.Tokens.{RefusesSigning, RefusesVerifying, SignsTo, VerifiesTo}
 use Rattle.tink_program_commands.proofs.commands.done.Goals as goal
 
 pub returns-in-Seal-clause-means : goal.returns-in-Seal-clause-means

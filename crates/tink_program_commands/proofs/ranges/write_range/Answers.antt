@@ -1,7 +1,7 @@
 use Rattle.std.proofs.Common.{refl}
 use Rattle.std.proofs.lemmas.Result.{err_from_is_err_and}
 use Rattle.tink_run.proofs.LoadedFacts.{loaded_usable}
-use Rattle.tink_run.proofs.InputSteps.{none_taken}
+use Rattle.tink_tokens.proofs.InputSteps.{none_taken}
 use Rattle.tink_program_commands.proofs.RangeSteps.{keys_not_loaded, not_read, of_equal, range_unread, ranged, unranged, unread_late}
 use Rattle.tink_program_commands.proofs.ranges.write_range.Goals as goal
 

@@ -6,7 +6,7 @@ use Rattle.tink_streaming_aead.specs.Wrapped.{all_entries, keys_in}
 use Rattle.tink_streaming_aead.specs.DecryptReaders.{largest}
 use Rattle.tink_run.specs.OpenReads.{ReadsWithin, room_under}
 use Rattle.tink_run.specs.OpenSteps.{OpensUnder}
-use Rattle.tink_run.specs.Outside.{Outside}
+use Rattle.tink_io.specs.Outside.{Outside}
 use Rattle.tink_run.proofs.OpenSteps.{leaves_under, opens_under}
 use Rattle.tink_run.proofs.ReadsSteps.{same_largest}
 use Rattle.tink_run.proofs.RunSteps.{leaves_same, leaves_sink_same}

@@ -7,7 +7,7 @@ use Rattle.tink_run.proofs.ReadOut.{reading_first, reading_next, read_out, write
 use Rattle.tink_streaming_aead.proofs.DecryptSteps.{reads_held}
 use Rattle.tink_run.proofs.ReadsSteps.{first_reads, next_reads, write_reads}
 use Rattle.tink_run.proofs.RunSteps.{leaves_sink_same}
-use Rattle.tink_run.specs.Outside.{Outside}
+use Rattle.tink_io.specs.Outside.{Outside}
 use Rattle.tink_run.proofs.open.open_stream.Goals as goal
 
 pub returns-in_err-open_first-clause-answer : goal.returns-in_err-open_first-clause-answer

@@ -5,7 +5,7 @@ use Rattle.std.proofs.lemmas.Result.{err_from_is_err_and}
 use Rattle.stream_model.specs.Cut.{numbered}
 use Rattle.tink_streams.proofs.ReadingFacts.{numbered_longer}
 use Rattle.tink_segments.specs.StreamSegments.{length-segment_by, segment_by}
-use Rattle.tink_run.specs.Outside.{Outside}
+use Rattle.tink_io.specs.Outside.{Outside}
 use Rattle.tink_run.proofs.OpenSteps.{unread, start_refused, means_under}
 use Rattle.tink_streaming_aead.proofs.DecryptSteps.{reads_more}
 use Rattle.tink_run.proofs.ReadsSteps.{reads_under, start_reads}

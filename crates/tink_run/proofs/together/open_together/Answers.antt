@@ -4,7 +4,7 @@ use Rattle.stream_model.specs.Opening.{opening_key}
 use Rattle.tink_streaming_aead.specs.Wrapped.{all_entries, keys_in}
 use Rattle.tink_run.specs.OpenReads.{OpensReading}
 use Rattle.tink_run.specs.Endings.{EndsAs}
-use Rattle.tink_run.specs.Outside.{Outside, outside_of}
+use Rattle.tink_io.specs.Outside.{Outside, outside_of}
 use Rattle.tink_run.proofs.EndingSteps.{begins_as, early_ends, ends_as, leaves_ended, leaves_sink_ended}
 use Rattle.tink_run.specs.Run.{LeavesEnds, LeavesSinkItself}
 use Rattle.tink_run.proofs.together.open_together.Goals as goal

@@ -5,7 +5,7 @@ use Rattle.tink_stream_keys.specs.StreamKinds.{key_in_set}
 use Rattle.tink_streaming_aead.specs.Wrapped.{all_entries, keys_in}
 use Rattle.tink_streaming_aead.specs.DecryptReaders.{largest}
 use Rattle.tink_run.specs.OpenReads.{room_under}
-use Rattle.tink_run.specs.Outside.{Outside, outside_of}
+use Rattle.tink_io.specs.Outside.{Outside, outside_of}
 use Rattle.tink_run.proofs.ReadsSteps.{same_largest}
 use Rattle.tink_run.proofs.RunSteps.{leaves_same, leaves_sink_same}
 use Rattle.tink_run.specs.Rewrapping.{LeavesOrBegins, RewrapsUnder}

@@ -5,7 +5,7 @@ use Rattle.std.proofs.lemmas.Result.{err_from_is_err_and}
 use Rattle.stream_model.specs.Cut.{numbered}
 use Rattle.tink_streams.proofs.ReadingFacts.{numbered_longer}
 use Rattle.tink_segments.specs.StreamSegments.{length-segment_by, segment_by}
-use Rattle.tink_run.specs.Outside.{Outside, outside_of}
+use Rattle.tink_io.specs.Outside.{Outside, outside_of}
 use Rattle.tink_run.proofs.OpenSteps.{unread}
 use Rattle.tink_streaming_aead.proofs.DecryptSteps.{reads_more}
 use Rattle.tink_run.proofs.KeySteps.{begun_of, leaves_or_begins_same, pass_not_started, pass_started}

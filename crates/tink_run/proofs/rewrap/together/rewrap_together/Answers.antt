@@ -4,7 +4,7 @@ use Rattle.stream_model.specs.Opening.{opening_key}
 use Rattle.tink_stream_keys.specs.StreamKinds.{key_in_set}
 use Rattle.tink_streaming_aead.specs.Wrapped.{all_entries, keys_in}
 use Rattle.tink_io.specs.Gathering.{OnlyGrows}
-use Rattle.tink_run.specs.Outside.{Outside, outside_of}
+use Rattle.tink_io.specs.Outside.{Outside, outside_of}
 use Rattle.tink_run.proofs.EndingSteps.{begins_as, early_ends, leaves_ended, leaves_sink_ended}
 use Rattle.tink_run.specs.Rewrapping.{RewrapEnds}
 use Rattle.tink_run.proofs.PassEndings.{begun_ends, rewrap_ends_as}

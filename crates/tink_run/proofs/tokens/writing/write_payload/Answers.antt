@@ -1,5 +1,0 @@
-use Rattle.tink_run.proofs.CompleteFacts.{verify_completed}
-use Rattle.tink_run.proofs.tokens.writing.write_payload.Goals as goal
-
-pub returns-clause-succeeds : goal.returns-clause-succeeds
-returns-clause-succeeds g c = verify_completed c.args.keyset.now _ _ c.answer_payload.result c.answer_payload.ensures.answer

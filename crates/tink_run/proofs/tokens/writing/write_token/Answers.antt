@@ -1,5 +1,0 @@
-use Rattle.tink_run.proofs.CompleteFacts.{sign_completed}
-use Rattle.tink_run.proofs.tokens.writing.write_token.Goals as goal
-
-pub returns-clause-succeeds : goal.returns-clause-succeeds
-returns-clause-succeeds g c = sign_completed c.args.keyset.now _ _ c.answer_token.result c.answer_token.ensures.answer

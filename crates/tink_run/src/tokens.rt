@@ -1,7 +1,0 @@
-//! Tokens of what a source has, by the MACs of a keyset, from any source to any sink.
-
-mod input;
-mod writing;
-
-pub use input::read_input;
-pub use writing::{write_payload, write_token};
