@@ -1,7 +1,10 @@
 //! Which entry of a set answers, and which handles give a set of one sort.
 
 ghost use Rattle.std.specs.Prelude.{◌≡◌, true, is_some, IfOk, Err};
-ghost use Rattle.tink_io.specs.declared.error.Kind.TheVariants.{MacMismatch};
+ghost use Rattle.tink_asking.specs.Accepting.{accepted};
+ghost use Rattle.tink_io.specs.declared.error.Kind.TheVariants.{DecryptFailed, MacMismatch};
+ghost use Rattle.tink_io.specs.Told.{Answers};
+ghost use Rattle.tink_sets.specs.Groups.{group_of};
 ghost use Rattle.tink_factory_tests.specs.TestKeys as test_keys;
 
 use crate::building_tests::{KeyRow, handle, manager};
@@ -118,6 +121,18 @@ enum Asked {
     Starved,
 }
 
+// What the first entry that accepts an input answers on it, those of its prefix before those without one.
+fn first_of<P, Q: Question<P>>(
+    alloc: Global,
+    set: &TypedPrimitiveSet<P>,
+    question: &Q,
+    input: &[u8],
+) -> Result<Q::Answer, TinkError>
+    ensures { Answers result (accepted (Q.answers question.now) (group_of set.now.entries) DecryptFailed input.now) }
+{
+    ask_entries(alloc, set, question, input, Kind::DecryptFailed)
+}
+
 // Whether the entry of the id answers.
 fn answers(
     alloc: Global,
@@ -127,7 +142,7 @@ fn answers(
     id: u32,
 ) -> Result<bool, TinkError> {
     let answer = match asked {
-        Asked::Entries => ask_entries(alloc, set, &Holds, input, Kind::DecryptFailed),
+        Asked::Entries => first_of(alloc, set, &Holds, input),
         Asked::BehindPrefix => ask_behind_prefix(alloc, set, &Holds, input, Kind::MacMismatch),
         Asked::Starved => ask_behind_prefix(alloc, set, &Starved, input, Kind::MacMismatch),
     };

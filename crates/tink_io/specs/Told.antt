@@ -14,6 +14,11 @@ abbrev pub or_refused : {T : Type 0} → Kind → Option T → Result T Kind
 or_refused kind None = Err kind
 or_refused kind (Some v) = Ok v
 
+-- what a second step tells of the value of a first one
+abbrev pub and_then : {S T : Type 0} → Result S Kind → (S → Result T Kind) → Result T Kind
+and_then (Ok v) f = f v
+and_then (Err k) f = Err k
+
 -- a call that draws nothing gives the given value, or refuses by the given kind, or there is no memory
 abbrev pub Answers : {T : Type 0} → Result T TinkError → Result T Kind → Type 0
 Answers (Ok v) told = told ≡ Ok v

@@ -17,7 +17,7 @@ use Rattle.keyset_model.specs.Commands.{Command, Maker, Managed, after_all}
 use Rattle.keyset_model.specs.Keys.{enabled}
 use Rattle.keyset_model.specs.Spared.{Spares}
 use Rattle.keyset_model.proofs.EnabledLaw.{keeps_enabled}
-use Rattle.tink_keysets.specs.Accepting.{AcceptsNoOther, accepted, entries_of, first_value, or_else, value_or}
+use Rattle.tink_asking.specs.Accepting.{AcceptsNoOther, accepted, entries_of, first_value, or_else, value_or}
 use Rattle.tink_keysets.specs.Typing.{key_entry, keyset_entries}
 use Rattle.tink_keysets.proofs.KeyEntries.{IsOwnPrefix, of_enabled, of_own_prefix, primary_key}
 

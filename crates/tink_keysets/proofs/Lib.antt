@@ -4,7 +4,6 @@ pub mod Masters
 pub mod ReadBack
 pub mod ThroughFacts
 pub mod ValidFacts
-pub mod AcceptingFacts
 pub mod TypedSets
 pub mod TypingFacts
 pub mod KeyEntries

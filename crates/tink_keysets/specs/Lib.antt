@@ -6,6 +6,6 @@ pub mod Managed
 pub mod Through
 pub mod Told
 pub mod Valid
-pub mod Accepting
+pub use Rattle.tink_asking.specs.Accepting
 pub mod Decrypting
 pub mod Typing

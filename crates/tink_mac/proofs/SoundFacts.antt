@@ -22,7 +22,7 @@ use Rattle.tink_proto_keys.specs.declared.mac.AesCmacKey.{AesCmacKey}
 use Rattle.tink_proto_keys.specs.declared.mac.AesCmacParams.{AesCmacParams}
 use Rattle.tink_key_types.specs.Manager.{built_by}
 use Rattle.tink_keysets.proofs.KeyEntries.{cond_ok, made_ok}
-use Rattle.tink_prf.specs.AesCmac.{cmac_of}
+use Rattle.tink_prf_subtle.specs.AesCmac.{cmac_of}
 use Rattle.tink_mac.specs.KeyTypes.{cmac_built, cmac_by_params, hmac_built, hmac_by_params, or_invalid}
 use Rattle.tink_mac.specs.MacKinds.{kind_computes, kind_tag, kind_verifies}
 use Rattle.tink_mac.specs.Rotation.{IsSound}

@@ -5,8 +5,8 @@ use Rattle.hash_keys.specs.declared.Hash.{Hash}
 use Rattle.hash_keys.specs.Hash.{digest_size, hmac_of}
 use Rattle.tink_io.specs.declared.error.Kind.{Kind}
 use Rattle.tink_io.specs.declared.error.Kind.TheVariants.{BadKeySize, BadTagSize, MacMismatch, UnknownHash}
-use Rattle.tink_prf.specs.AesCmac.{cmac_of, is_aes_key_size}
-use Rattle.tink_prf.specs.Hmac.{HmacKey}
+use Rattle.tink_prf_subtle.specs.AesCmac.{cmac_of, is_aes_key_size}
+use Rattle.tink_prf_subtle.specs.Hmac.{HmacKey}
 
 -- a tag is accepted exactly where it is the message's own
 abbrev pub own_tag : List ℕ → List ℕ → Result (Unit {0}) Kind

@@ -10,7 +10,8 @@ use Rattle.tink_sets.specs.Entries.{prefix_of}
 use Rattle.tink_sets.specs.Groups.{group_of}
 use Rattle.tink_sets.specs.declared.entry.Entry.{Entry}
 use Rattle.tink_keysets.specs.Built.{HasEntries}
-use Rattle.tink_prf.specs.Sets.{and_then, is_raw, primary_prf, prf_of, prfs_of, raw_prfs}
+use Rattle.tink_io.specs.Told.{and_then}
+use Rattle.tink_prf.specs.Sets.{is_raw, primary_prf, prf_of, prfs_of, raw_prfs}
 use Rattle.tink_prf.proofs.RawEntries.{filter_all}
 
 found_by : {E : Type 0} (test : E → Bool) (x e : E) (rest : Option E) (b : Bool) → test x ≡ b → Some e ≡ cond b (Some x) rest → (Some e ≡ rest → test e ≡ true) → test e ≡ true

@@ -13,8 +13,8 @@ use Rattle.tink_proto_keys.specs.declared.prf.HkdfPrfKey.{HkdfPrfKey}
 use Rattle.tink_proto_keys.specs.declared.prf.AesCmacPrfKey.{AesCmacPrfKey}
 use Rattle.tink_subtle.specs.Hashes.{hash_named}
 use Rattle.tink_key_types.specs.HashTypes.{hash_type_of}
-use Rattle.tink_prf.specs.Hmac.{HmacKey, hmac_params}
-use Rattle.tink_prf.specs.Hkdf.{HkdfKey, hkdf_params}
+use Rattle.tink_prf_subtle.specs.Hmac.{HmacKey, hmac_params}
+use Rattle.tink_prf_subtle.specs.Hkdf.{HkdfKey, hkdf_params}
 
 -- the primitive of a key, or `InvalidKey` where there is none
 abbrev pub built_of : {T P : Type 0} → (T → P) → Option T → Result P Kind

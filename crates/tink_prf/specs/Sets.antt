@@ -7,7 +7,7 @@ use Rattle.std.specs.BTreeMap.{BTreeMap, get, IsFromIterResult, IsOrdered}
 use Rattle.tink_io.specs.declared.error.Kind.{Kind}
 use Rattle.tink_io.specs.declared.error.Kind.TheVariants.{NoPrimary, NotRawOnly}
 use Rattle.tink_io.specs.declared.error.TinkError.{TinkError}
-use Rattle.tink_io.specs.Told.{made_of}
+use Rattle.tink_io.specs.Told.{and_then, made_of}
 use Rattle.tink_primitives.specs.Sorts.{as_prf}
 use Rattle.tink_sets.specs.Converting.{converted}
 use Rattle.tink_sets.specs.Entries.{prefix_of}
@@ -15,11 +15,6 @@ use Rattle.tink_sets.specs.Groups.{AreGroupsOf}
 use Rattle.tink_sets.specs.declared.entry.Entry.{Entry}
 use Rattle.tink_keysets.specs.Built.{GivesSet, HasEntries}
 use Rattle.tink_prf.specs.declared.set_factory.Set.{Set}
-
--- what a second step tells of the value of a first one
-abbrev pub and_then : {S T : Type 0} → Result S Kind → (S → Result T Kind) → Result T Kind
-and_then (Ok v) f = f v
-and_then (Err k) f = Err k
 
 module _ {K A D HD HE M P S St V : Type 0} where
   -- the id and the function of an entry, or the refusal of another sort

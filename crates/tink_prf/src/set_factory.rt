@@ -4,12 +4,12 @@ ghost use Rattle.std.specs.Prelude.{◌≡◌, None, is_ok, IfErr, OnOk};
 ghost use Rattle.std.specs.Ordering.{nat_cmp};
 ghost use Rattle.std.specs.BTreeMap.{IsFromIterResult};
 ghost use Rattle.tink_io.specs.declared.error.Kind.TheVariants.{OutOfMemory};
-ghost use Rattle.tink_io.specs.Told.{Answers};
+ghost use Rattle.tink_io.specs.Told.{Answers, and_then};
 ghost use Rattle.tink_primitives.specs.Sorts.{as_prf};
 ghost use Rattle.tink_sets.specs.Converting.{converted};
 ghost use Rattle.tink_sets.specs.Entries.{entry_of};
 ghost use Rattle.tink_keysets.specs.Built.{built_entries, GivesSet};
-ghost use Rattle.tink_prf.specs.Sets.{and_then, primary_output, prf_of, prfs_of, GivesPrfs, HasPrfs, PutsAt, TellsRaw};
+ghost use Rattle.tink_prf.specs.Sets.{primary_output, prf_of, prfs_of, GivesPrfs, HasPrfs, PutsAt, TellsRaw};
 
 use std::alloc::Global;
 use std::collections::BTreeMap;

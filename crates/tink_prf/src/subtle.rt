@@ -1,9 +1,6 @@
 //! The pseudorandom functions, each under a key.
 
-mod aes_cmac;
-mod hkdf;
-mod hmac;
-
-pub use aes_cmac::{AesCmacPrf, validate_aes_cmac_prf_params};
-pub use hkdf::{HkdfPrf, validate_hkdf_prf_params};
-pub use hmac::{HmacPrf, validate_hmac_prf_params};
+pub use tink_prf_subtle::{
+    AesCmacPrf, HkdfPrf, HmacPrf, validate_aes_cmac_prf_params, validate_hkdf_prf_params,
+    validate_hmac_prf_params,
+};

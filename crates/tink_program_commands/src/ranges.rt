@@ -17,9 +17,9 @@ use tink_io::{Sink, Source, TinkError};
 use tink_range::{Steps, SureAt};
 use tink_run::load::load;
 use tink_run::ranges::range_of_set;
-use tink_tokens::read_input;
 use tink_sets::TypedPrimitiveSet;
 use tink_stream_keys::StreamKind;
+use tink_tokens::read_input;
 
 /// Writes a range of the text of the stream that the source has, which is held whole, and answers how many bytes.
 ///

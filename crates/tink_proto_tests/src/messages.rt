@@ -431,5 +431,10 @@ fn numbers_of_enums(rt: HostRuntime) {
 
     // Hashes are not in the order of their sizes.
     let are_hashes = HashType::Sha384 as i32 == 2 && HashType::Sha256 as i32 == 3;
-    expect(&rt, Ok(are_hashes), Ok(true), "SHA-384 is 2 and SHA-256 is 3");
+    expect(
+        &rt,
+        Ok(are_hashes),
+        Ok(true),
+        "SHA-384 is 2 and SHA-256 is 3",
+    );
 }

@@ -9,7 +9,7 @@ use crate::subtle::compare_tags;
 use std::alloc::Global;
 use std::marker::Model;
 use tink_io::{Kind, TinkError};
-use tink_prf::subtle::AesCmacPrf;
+use tink_prf_subtle::AesCmacPrf;
 use tink_primitives::{CloneIn, Mac, Prf};
 use tink_proto::Bytes;
 

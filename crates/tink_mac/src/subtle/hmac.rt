@@ -10,7 +10,7 @@ use crate::subtle::compare_tags;
 use std::alloc::Global;
 use std::marker::Model;
 use tink_io::{Kind, TinkError};
-use tink_prf::subtle::HmacPrf;
+use tink_prf_subtle::HmacPrf;
 use tink_primitives::{CloneIn, Mac, Prf};
 use tink_proto::{Bytes, HashType};
 use tink_subtle::get_hash_digest_size;

@@ -1,5 +1,8 @@
 //! Sets of a keyset's pseudorandom functions.
 
+ghost use Rattle.tink_io.specs.Told.{Answers};
+ghost use Rattle.tink_prf.specs.Sets.{primary_output};
+
 use crate::keys::COUNT;
 use crate::prf::test_keys::TestKeys;
 use std::alloc::Global;
@@ -72,6 +75,18 @@ fn output_of<P: Prf + Drop>(alloc: Global, set: &Set<P>, id: u32) -> Result<Byte
     }
 }
 
+// The first bytes of what the primary key's function makes of a text.
+fn primary_of<P: Prf>(
+    alloc: Global,
+    set: &Set<P>,
+    text: &[u8],
+    length: usize,
+) -> Result<Bytes, TinkError>
+    ensures { Answers result (primary_output P.computes set.now text.now length) }
+{
+    set.compute_primary_prf(alloc, text, length)
+}
+
 fn answered<P: Prf + Drop>(
     alloc: Global,
     set: Result<Set<P>, TinkError>,
@@ -81,9 +96,7 @@ fn answered<P: Prf + Drop>(
         Ok(set) => match asked {
             Asked::Has(n, id) => Ok(set.prfs.len() == *n && set.primary_id == *id),
             Asked::Of(id, want) => gives(output_of(alloc, &set, *id), want),
-            Asked::Primary(length, want) => {
-                gives(set.compute_primary_prf(alloc, b"abc", *length), want)
-            }
+            Asked::Primary(length, want) => gives(primary_of(alloc, &set, b"abc", *length), want),
         },
         Err(e) => Err(e),
     }

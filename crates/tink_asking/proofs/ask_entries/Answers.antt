@@ -1,9 +1,9 @@
 use Rattle.std.proofs.Common.{◌∙◌, Err, ap, inr, sym}
 use Rattle.tink_io.specs.declared.error.TinkError.{TinkError}
 use Rattle.tink_sets.specs.Groups.{group_of}
-use Rattle.tink_keysets.specs.Accepting.{value_or}
-use Rattle.tink_keysets.proofs.AcceptingFacts.{accepted-prefixed, accepted-raw, not_prefixed}
-use Rattle.tink_keysets.proofs.factory.asking.ask_entries.Goals as goal
+use Rattle.tink_asking.specs.Accepting.{value_or}
+use Rattle.tink_asking.proofs.AcceptingFacts.{accepted-prefixed, accepted-raw, not_prefixed}
+use Rattle.tink_asking.proofs.ask_entries.Goals as goal
 
 pub returns-in-Some : goal.returns-in-Some
 returns-in-Some g c =

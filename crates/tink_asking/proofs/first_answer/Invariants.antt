@@ -1,6 +1,6 @@
 use Rattle.std.proofs.Common.{◌≡◌, drop}
-use Rattle.tink_keysets.specs.Accepting.{first_value}
-use Rattle.tink_keysets.proofs.factory.asking.first_answer.Given as goal
+use Rattle.tink_asking.specs.Accepting.{first_value}
+use Rattle.tink_asking.proofs.first_answer.Given as goal
 
 -- the entries asked so far did not accept
 abbrev pub invariant-loop-entry : goal.invariant-loop-entry

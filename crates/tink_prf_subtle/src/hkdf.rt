@@ -3,7 +3,7 @@
 ghost use Rattle.std.specs.Prelude.{◌≡◌};
 ghost use Rattle.tink_subtle.specs.Hashes.{hash_named};
 ghost use Rattle.tink_io.specs.Told.{Answers, Tells};
-ghost use Rattle.tink_prf.specs.Hkdf.{hkdf_key, hkdf_output, hkdf_output_told, hkdf_params};
+ghost use Rattle.tink_prf_subtle.specs.Hkdf.{hkdf_key, hkdf_output, hkdf_output_told, hkdf_params};
 
 use hash_keys::{Hash, hkdf_into};
 use std::alloc::Global;
@@ -26,7 +26,7 @@ pub struct HkdfPrf {
 }
 
 impl Model for HkdfPrf {
-    ghost use Rattle.tink_prf.specs.Hkdf.{HkdfKey};
+    ghost use Rattle.tink_prf_subtle.specs.Hkdf.{HkdfKey};
 
     ghost Value = { HkdfKey };
 

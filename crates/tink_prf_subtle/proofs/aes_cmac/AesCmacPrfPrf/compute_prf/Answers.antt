@@ -2,8 +2,8 @@ use Rattle.std.proofs.Common.{Bool, List, ℕ, take, ap, sym, ◌∙◌}
 use Rattle.std.specs.Prelude.{Ok, Err, if◌then◌else◌}
 use Rattle.std.proofs.lemmas.Bool.{le-ltb}
 use Rattle.tink_io.specs.declared.error.Kind.TheVariants.{OutputTooLong}
-use Rattle.tink_prf.specs.AesCmac.{cmac_of}
-use Rattle.tink_prf.proofs.subtle.aes_cmac.AesCmacPrfPrf.compute_prf.Goals as goal
+use Rattle.tink_prf_subtle.specs.AesCmac.{cmac_of}
+use Rattle.tink_prf_subtle.proofs.aes_cmac.AesCmacPrfPrf.compute_prf.Goals as goal
 
 pub returns : goal.returns
 returns c =

@@ -3,7 +3,7 @@
 ghost use Rattle.std.specs.Prelude.{◌≡◌};
 ghost use Rattle.tink_subtle.specs.Hashes.{hash_named};
 ghost use Rattle.tink_io.specs.Told.{Answers, Tells};
-ghost use Rattle.tink_prf.specs.Hmac.{hmac_key, hmac_output, hmac_output_told, hmac_params};
+ghost use Rattle.tink_prf_subtle.specs.Hmac.{hmac_key, hmac_output, hmac_output_told, hmac_params};
 
 use hash_keys::{Hash, HmacKey};
 use std::alloc::Global;
@@ -27,7 +27,7 @@ pub struct HmacPrf {
 
 impl Model for HmacPrf {
     ghost use Rattle.hash_keys.specs.Hashers.{IsHmacKey};
-    ghost use Rattle.tink_prf.specs.Hmac.{HmacKey};
+    ghost use Rattle.tink_prf_subtle.specs.Hmac.{HmacKey};
 
     ghost Value = { HmacKey };
 

@@ -1,4 +1,5 @@
 //! The entries of a set, asked one by one until one accepts.
+#![tactic(auto)]
 
 ghost use Rattle.std.specs.Prelude.{◌≡◌, ℕ, List, Result, IfOk, IfErr};
 ghost use Rattle.tink_io.specs.declared.error.Kind.{Kind};
@@ -7,7 +8,7 @@ ghost use Rattle.tink_io.specs.Told.{Answers};
 ghost use Rattle.tink_primitives.specs.Meaning.{IsTold};
 ghost use Rattle.tink_sets.specs.declared.entry.TypedEntry.{TypedEntry};
 ghost use Rattle.tink_sets.specs.Groups.{group_of};
-ghost use Rattle.tink_keysets.specs.Accepting.{accepted, accepted_behind_prefix, first_value, prefixed_value};
+ghost use Rattle.tink_asking.specs.Accepting.{accepted, accepted_behind_prefix, first_value, prefixed_value};
 
 use std::alloc::Global;
 use tink_io::{Kind, TinkError};

@@ -1,7 +1,7 @@
 use Rattle.std.proofs.Common.{inl, inr}
 use Rattle.std.proofs.lemmas.Bool.{false≢true}
-use Rattle.tink_keysets.proofs.AcceptingFacts.{first_accepts, first_of_none, first_refuses}
-use Rattle.tink_keysets.proofs.factory.asking.first_answer.Goals as goal
+use Rattle.tink_asking.proofs.AcceptingFacts.{first_accepts, first_of_none, first_refuses}
+use Rattle.tink_asking.proofs.first_answer.Goals as goal
 
 pub returns-in-Ok-clause-value : goal.returns-in-Ok-clause-value
 returns-in-Ok-clause-value g c =

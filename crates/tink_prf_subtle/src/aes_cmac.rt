@@ -2,8 +2,8 @@
 
 ghost use Rattle.std.specs.Prelude.{◌≡◌, false, length, MatchOption, MatchResult};
 ghost use Rattle.tink_io.specs.Told.{Tells};
-ghost use Rattle.tink_prf.specs.AesCmac.{aes_cmac_key, aes_cmac_output, aes_cmac_output_told, aes_cmac_params, cmac_of, is_aes_key_size};
-ghost use Rattle.tink_prf.specs.AesVariants.{IsKeyed, FitsVariant, variant_key};
+ghost use Rattle.tink_prf_subtle.specs.AesCmac.{aes_cmac_key, aes_cmac_output, aes_cmac_output_told, aes_cmac_params, cmac_of, is_aes_key_size};
+ghost use Rattle.tink_prf_subtle.specs.AesVariants.{IsKeyed, FitsVariant, variant_key};
 
 use aes_block::{Aes128, Aes192, Aes256};
 use cipher::KeyInit;
@@ -77,7 +77,7 @@ pub struct AesCmacPrf {
 
 impl Model for AesCmacPrf {
     ghost use Rattle.std.specs.Prelude.{List, ℕ};
-    ghost use Rattle.tink_prf.specs.AesVariants.{FitsVariant, variant_key};
+    ghost use Rattle.tink_prf_subtle.specs.AesVariants.{FitsVariant, variant_key};
 
     ghost Value = { List ℕ };
 

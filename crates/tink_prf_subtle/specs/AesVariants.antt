@@ -1,7 +1,7 @@
 -- What the ciphers of AES-CMAC hold.
 use Rattle.std.specs.Prelude.{◌≡◌, ℕ, List, length}
-use Rattle.tink_prf.specs.declared.subtle.aes_cmac.AesVariant.{AesVariant}
-use Rattle.tink_prf.specs.declared.subtle.aes_cmac.AesVariant.TheVariants.{Aes128, Aes192, Aes256}
+use Rattle.tink_prf_subtle.specs.declared.aes_cmac.AesVariant.{AesVariant}
+use Rattle.tink_prf_subtle.specs.declared.aes_cmac.AesVariant.TheVariants.{Aes128, Aes192, Aes256}
 
 -- the key
 abbrev pub variant_key : AesVariant → List ℕ

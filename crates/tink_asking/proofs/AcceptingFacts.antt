@@ -8,7 +8,7 @@ use Rattle.tink_io.specs.declared.error.Kind.{Kind}
 use Rattle.tink_sets.specs.Entries.{typed_prefix_of}
 use Rattle.tink_sets.specs.Groups.{AreGroupsOf, group_of}
 use Rattle.tink_sets.specs.declared.entry.TypedEntry.{TypedEntry}
-use Rattle.tink_keysets.specs.Accepting.{accepted, accepted_behind_prefix, entries_of, first_value, or_else, prefixed_value, raw_value, value_or}
+use Rattle.tink_asking.specs.Accepting.{accepted, accepted_behind_prefix, entries_of, first_value, or_else, prefixed_value, raw_value, value_or}
 
 module _ {Q A G : Type 0} (answer : TypedEntry Q → List ℕ → Result A Kind) (es : List (TypedEntry Q)) (m : BTreeMap (Vec ℕ G) (List (TypedEntry Q))) (groups : AreGroupsOf typed_prefix_of es m) (none : Kind) (input : List ℕ) where
   pub accepted-of_list : accepted answer (group_of m) none input ≡ accepted answer (entries_of es) none input

@@ -2,9 +2,9 @@ use Rattle.std.proofs.Common.{◌≡◌, ◌<◌, ◌-◌, length, take, drop, a
 use Rattle.std.proofs.lemmas.Result.{IfOk-weaker}
 use Rattle.std.proofs.lemmas.Grind.{common_steps}
 use Rattle.tink_sets.specs.Groups.{group_of}
-use Rattle.tink_keysets.specs.Accepting.{prefixed_value}
-use Rattle.tink_keysets.proofs.AcceptingFacts.{prefixed-long}
-use Rattle.tink_keysets.proofs.factory.asking.ask_prefixed.Goals as goal
+use Rattle.tink_asking.specs.Accepting.{prefixed_value}
+use Rattle.tink_asking.proofs.AcceptingFacts.{prefixed-long}
+use Rattle.tink_asking.proofs.ask_prefixed.Goals as goal
 
 pub returns-clause-value : goal.returns-clause-value
 returns-clause-value g c =

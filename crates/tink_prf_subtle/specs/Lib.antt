@@ -1,0 +1,4 @@
+pub mod AesCmac
+pub mod AesVariants
+pub mod Hkdf
+pub mod Hmac
