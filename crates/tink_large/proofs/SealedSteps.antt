@@ -12,7 +12,7 @@ use Rattle.tink_io.specs.declared.error.Kind.TheVariants.{WriteFault, TooManySeg
 use Rattle.tink_io.specs.declared.error.Kind.TheVariants as kind
 use Rattle.tink_segment_traits.specs.declared.segment_traits.SegmentEncrypter.{Ghosts}
 use Rattle.tink_streams.specs.Sealers.{held_text, segment_map}
-use Rattle.tink_streams.specs.declared.sealer.Sealer.{Sealer}
+use Rattle.tink_segment_traits.specs.declared.sealer.Sealer.{Sealer}
 use Rattle.tink_streams.specs.declared.writing.SegmentWriter.{SegmentWriter}
 use Rattle.tink_streams.specs.declared.writing.Mode.TheVariants.{Open, Closed}
 use Rattle.tink_streams.specs.Writing.{WriterMoment, filled, Wrote, WriteRefused, CloseRefused, ClosedBy}

@@ -12,7 +12,7 @@ use Rattle.tink_io.specs.declared.error.Kind.{Kind}
 use Rattle.tink_io.specs.declared.error.Kind.TheVariants.{BadSegment, ReadFault, WriteFault}
 use Rattle.tink_segment_traits.specs.declared.segment_traits.SegmentDecrypter.{Ghosts}
 use Rattle.tink_streams.specs.Openers.{segment_map}
-use Rattle.tink_streams.specs.declared.opener.Opener.{Opener}
+use Rattle.tink_segment_traits.specs.declared.opener.Opener.{Opener}
 use Rattle.stream_model.specs.Cut.{room_at}
 use Rattle.tink_range.specs.ChunkReading.{Moments, OneMeans, OneRefused}
 use Rattle.tink_range.specs.Giving.{Cutting, GaveAll, GiveRefused, chunks_in}

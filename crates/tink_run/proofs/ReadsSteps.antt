@@ -22,7 +22,7 @@ use Rattle.tink_streaming_aead.proofs.DecryptSteps.{reads_held, reads_kept}
 use Rattle.tink_streams.specs.Choosing.{Started, StartRefused}
 use Rattle.tink_streams.specs.Reading.{FailsBy, ReaderMoment, TellsLeads, OpenNextRefused}
 use Rattle.tink_streams.proofs.ChosenFacts.{chunks_are}
-use Rattle.tink_streams.proofs.FrontFacts.{fits_or_not}
+use Rattle.tink_segment_traits.proofs.HeadFacts.{fits_or_not}
 use Rattle.tink_streams.proofs.ReadingFacts.{Opened}
 use Rattle.tink_run.specs.declared.report.Report.{Report}
 use Rattle.tink_io.specs.Outside.{Outside}

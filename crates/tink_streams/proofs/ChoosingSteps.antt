@@ -8,8 +8,8 @@ use Rattle.std.specs.Io.KnownBytes.{Keeps, prepend_known}
 use Rattle.tink_io.specs.Taken.{LosesAtMost}
 use Rattle.stream_model.specs.Opening.{OpeningKey, Begins, IsChosen}
 use Rattle.tink_streams.specs.Choosing.{Found, Started}
-use Rattle.tink_streams.specs.Keeping.{kept_rest}
-use Rattle.tink_streams.specs.declared.kept.Kept.{Kept}
+use Rattle.tink_segment_traits.specs.Keeping.{kept_rest}
+use Rattle.tink_segment_traits.specs.declared.kept.Kept.{Kept}
 
 -- what is chosen of the keys from i on is chosen of all
 abbrev pub ChosenFrom : {T : Type 0} → (T → OpeningKey) → List T → ℕ → List ℕ → Type 0

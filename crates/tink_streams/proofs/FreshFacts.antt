@@ -5,10 +5,10 @@ use Rattle.tink_segment_traits.specs.declared.segment_traits.SegmentDecrypter as
 use Rattle.tink_segment_traits.specs.declared.segment_traits.SegmentEncrypter as encrypter
 use Rattle.tink_streams.specs.Openers.{held_bytes, reader_memory, reader_state}
 use Rattle.tink_streams.specs.Sealers.{held_text, writer_memory, writer_state}
-use Rattle.tink_streams.specs.declared.opener.Opener.{Opener}
+use Rattle.tink_segment_traits.specs.declared.opener.Opener.{Opener}
 use Rattle.tink_streams.specs.declared.progress.Progress.TheVariants.{Running}
 use Rattle.tink_streams.specs.declared.reading.SegmentReader.{SegmentReader}
-use Rattle.tink_streams.specs.declared.sealer.Sealer.{Sealer}
+use Rattle.tink_segment_traits.specs.declared.sealer.Sealer.{Sealer}
 use Rattle.tink_streams.specs.declared.writing.Mode.TheVariants.{Open}
 use Rattle.tink_streams.specs.declared.writing.SegmentWriter.{SegmentWriter}
 

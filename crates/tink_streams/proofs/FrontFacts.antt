@@ -11,15 +11,11 @@ use Rattle.stream_model.specs.Cut.{cut, room_at}
 use Rattle.stream_model.specs.Agree.{Agree}
 use Rattle.stream_model.proofs.CutFacts.{cut_none, room_at_next}
 use Rattle.stream_model.proofs.AgreeFacts.{Agree-empty, Agree-used_up, Agree-none_last, Agree-none_more, Leads-last, Leads-more}
-use Rattle.tink_streams.specs.Opening.{HeadOpensTo, HoldsChunk}
+use Rattle.tink_segment_traits.specs.Opening.{HeadOpensTo, HoldsChunk}
+use Rattle.tink_segment_traits.proofs.HeadFacts.{fits_or_not}
 use Rattle.tink_io.specs.declared.error.Cause.{Cause}
 use Rattle.tink_streams.specs.Reading.{TellsLeads}
 use Rattle.tink_streams.specs.declared.progress.Progress.TheVariants.{Running, Ended, Failed}
-
-pub fits_or_not : (m n : ℕ) → (m ≤ n) ⊎ (n < m)
-fits_or_not zero n = inl (omega arith)
-fits_or_not (suc m) zero = inr (omega arith)
-fits_or_not (suc m) (suc n) = elim (fits_or_not m n) [ inl h ↦ inl (omega arith) | inr h ↦ inr (omega arith) ]
 
 -- what is held is all where nothing is left
 all_held : (H X Y : List ℕ) → H ++ Y ≡ X → Y ≡ [] → X ≡ H
@@ -134,20 +130,6 @@ stays n m size items there e = elim (fits_or_not n size) [
 pub ended : (n m size : ℕ) (r0 r1 : Option (List ℕ)) (items xs : List ℕ) → HoldsChunk size r0 (take n items) r1 → m ≡ min n size → n - m ≡ 0 → IsAtEnd (prepend_known (take (n - m) xs) r1)
 ended n m size r0 r1 items xs h e none =
     prepend_known-end _ r1 (take (n - m) xs) (Keeps-refl _) (ap (λ k. take k xs) none) (h.end (omega (arith, length-take n items)))
-
--- the head by the lesser of two lengths
-head_cut : (n size : ℕ) (H : List ℕ) → n ≡ min (length H) size → take n H ≡ take size H
-head_cut n size H most = elim (fits_or_not (length H) size) [
-  | inl fits ↦ take_all n H (omega (arith, most)) ∙ sym (take_all size H fits)
-  | inr more ↦ let whole : n ≡ size = omega (arith, most) in ap (λ m. take m H) whole
-]
-
--- the segment at the head of held bytes, whose size is computed
-pub head_opens : (seg : ℕ → Bool → List ℕ → List ℕ) (i size room n : ℕ) (H t : List ℕ) → size ≡ room → 0 < n → n ≡ min (length H) size → seg i (nat_le (length H) size) t ≡ take n H → HeadOpensTo seg i room H t
-head_opens seg i size room n H t same some most o = subst (λ b. HeadOpensTo seg i b H t) same (record { some = omega (arith, most); segment = o ∙ head_cut n size H most })
-
-pub head_opened : (seg : ℕ → Bool → List ℕ → List ℕ) (i size room n : ℕ) (H t : List ℕ) → size ≡ room → n ≡ min (length H) size → HeadOpensTo seg i room H t → seg i (nat_le (length H) size) t ≡ take n H
-head_opened seg i size room n H t same most h = (subst (λ b. seg i (nat_le (length H) b) t ≡ take b H) (sym same) h.segment) ∙ sym (head_cut n size H most)
 
 -- what was read is in the buffer
 pub held_in : (filled before size room most len was : ℕ) → filled ≤ max before (size + 1) → before ≤ was → size ≡ room → room ≤ most → most < was → len ≡ was → filled ≤ len

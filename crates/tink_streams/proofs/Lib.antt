@@ -1,6 +1,5 @@
 pub mod WriterSteps
 pub mod WritingFacts
-pub mod HeldFacts
 pub mod FrontFacts
 pub mod TrialFacts
 pub mod ChoosingSteps

@@ -11,7 +11,7 @@ use Rattle.std.proofs.lemmas.List.{append-nil}
 use Rattle.tink_streams.specs.Reading.{ReaderMoment, TellsLeads, OpensNext, NothingComes, HasNotFailed, chunk_at}
 use Rattle.tink_streams.specs.declared.progress.Progress.{Progress}
 use Rattle.tink_streams.specs.declared.progress.Progress.TheVariants.{Running, Ended, Failed}
-use Rattle.tink_streams.proofs.FrontFacts.{fits_or_not}
+use Rattle.tink_segment_traits.proofs.HeadFacts.{fits_or_not}
 
 -- from a fresh reader over all bytes on, these texts were opened
 pub record Opened (seg : ℕ → Bool → List ℕ → List ℕ) (a b : ℕ) (all : Option (List ℕ)) (texts : List (List ℕ)) (m : ReaderMoment) : Type 0 where

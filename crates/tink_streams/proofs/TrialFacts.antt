@@ -9,10 +9,11 @@ use Rattle.stream_model.specs.Agree.{Agree}
 use Rattle.stream_model.specs.Opening.{OpeningKey, HasFront, Begins, FirstAgrees, begins_front, behind_front, chunks_of, front_length, header_of}
 use Rattle.stream_model.proofs.AgreeFacts.{AreTexts-leads}
 use Rattle.tink_segment_traits.specs.declared.segment_traits.SegmentDecrypter.{Ghosts}
-use Rattle.tink_streams.specs.Opening.{HeadOpensTo, HoldsChunk}
+use Rattle.tink_segment_traits.specs.Opening.{HeadOpensTo, HoldsChunk}
 use Rattle.tink_streams.specs.Trials.{DoesBegin, DoesNotBegin, MayBegin, TrialMeans}
 use Rattle.tink_streams.specs.declared.trying.Begun.{Begun}
-use Rattle.tink_streams.proofs.FrontFacts.{fits_or_not, opened_front, refused_front}
+use Rattle.tink_streams.proofs.FrontFacts.{opened_front, refused_front}
+use Rattle.tink_segment_traits.proofs.HeadFacts.{fits_or_not}
 
 -- what is held of the same bytes
 pub held_from : (size : ℕ) (r0 r1 left : Option (List ℕ)) (H : List ℕ) → Keeps r0 r1 → HoldsChunk size r1 H left → HoldsChunk size r0 H left

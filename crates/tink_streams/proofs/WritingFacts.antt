@@ -17,7 +17,7 @@ use Rattle.tink_io.specs.declared.error.TinkError.{TinkError}
 use Rattle.tink_streams.specs.declared.writing.Mode.TheVariants.{Open}
 use Rattle.tink_streams.specs.Writing.{WriterMoment, filled, StopsWithin, Wrote, WrotePrefixOf, WroteAll, WriteRefused, ClosedBy, ClosedShort, CloseMeans, PutMeans}
 use Rattle.tink_streams.proofs.WriterSteps.{then_prefix, one_begun}
-use Rattle.tink_streams.proofs.FrontFacts.{fits_or_not}
+use Rattle.tink_segment_traits.proofs.HeadFacts.{fits_or_not}
 
 room_positive : (a b i : ℕ) → 0 < a → 0 < b → 0 < room_at a b i
 room_positive a b zero p q = p

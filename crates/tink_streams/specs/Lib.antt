@@ -1,5 +1,5 @@
 pub mod Writing
-pub mod Opening
+pub use Rattle.tink_segment_traits.specs.Opening
 pub mod Reading
 pub mod Choosing
 pub mod Full
@@ -8,7 +8,7 @@ pub mod TextReading
 pub mod Readers
 pub mod Sealers
 pub mod Openers
-pub mod Keeping
+pub use Rattle.tink_segment_traits.specs.Keeping
 pub mod Rooms
 pub mod Trials
 pub mod Pouring

@@ -1,23 +1,20 @@
 -- What a contract sees of readers that are handed their source at each call.
-use Rattle.std.specs.Prelude.{◌≡◌, ℕ, ◌+◌, ◌-◌, Bool, List, [], drop, length, take, vec_len, vec_capacity}
+use Rattle.std.specs.Prelude.{◌≡◌, ℕ, ◌+◌, ◌-◌, List, [], drop, length, take, vec_len, vec_capacity}
 use Rattle.std.specs.Option.{ForSome}
 use Rattle.std.specs.declared.option.Option.{Option}
 use Rattle.std.specs.Io.KnownBytes.{prepend_known}
-use Rattle.stream_model.specs.Cut.{numbered, room_at}
+use Rattle.stream_model.specs.Cut.{room_at}
 use Rattle.tink_segment_traits.specs.declared.segment_traits.SegmentDecrypter.{Ghosts}
+pub use Rattle.tink_segment_traits.specs.Openers.{segment_map}
 use Rattle.tink_streams.specs.Readers.{ReaderState}
 use Rattle.tink_streams.specs.Reading as segments
 use Rattle.tink_streams.specs.TextReading as text
 use Rattle.tink_streams.specs.declared.progress.Progress.TheVariants.{Ended}
-use Rattle.tink_streams.specs.declared.opener.Opener.{Opener}
+use Rattle.tink_segment_traits.specs.declared.opener.Opener.{Opener}
 use Rattle.tink_streams.specs.declared.reading.SegmentReader.{SegmentReader}
 use Rattle.tink_streams.specs.declared.text_reader.TextReader.{TextReader}
 
 module _ {D : Type 0} {g : Ghosts D} where
-  -- the segment of a text by its number and its mark
-  abbrev pub segment_map : Opener D g → ℕ → Bool → List ℕ → List ℕ
-  segment_map o = numbered (g.seg o.decrypter) o.nonce_size o.prefix.items
-
   -- the bytes that a reader holds
   abbrev pub held_bytes : SegmentReader D g → List ℕ
   held_bytes r = take r.filled r.buffer.items

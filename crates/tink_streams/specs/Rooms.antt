@@ -2,9 +2,10 @@
 use Rattle.std.specs.Prelude.{◌≡◌, ◌≤◌, ◌<◌, ◌+◌, ℕ, [], Vec, length, vec_len, vec_capacity}
 use Rattle.stream_model.specs.Opening.{OpeningKey}
 use Rattle.tink_segment_traits.specs.declared.segment_traits.SegmentDecrypter.{Ghosts}
+pub use Rattle.tink_segment_traits.specs.Rooms.{KeepsNonceAndText}
 use Rattle.tink_streams.specs.declared.buffers.Buffers.{Buffers}
-use Rattle.tink_streams.specs.declared.kept.Kept.{Kept}
-use Rattle.tink_streams.specs.declared.opener.Opener.{Opener}
+use Rattle.tink_segment_traits.specs.declared.kept.Kept.{Kept}
+use Rattle.tink_segment_traits.specs.declared.opener.Opener.{Opener}
 
 -- no text is opened yet, and a segment and a byte more, its text and its nonce have room
 pub record HasBuffersFor {D : Type 0} {g : Ghosts D} (o : Opener D g) (b : Buffers) : Type 0 where
@@ -21,13 +22,8 @@ pub record HasRoomToTry (k : OpeningKey) (nonce_size sealed text nonce prefix : 
   pub nonce_room : nonce_size ≤ nonce
   pub prefix_room : 7 ≤ prefix
 
--- the buffers of a nonce and of a text have the memory that they had, and that of a nonce its length
-pub record KeepsNonceAndText {Z : Type 0} (nonce_before nonce opened_before opened : Vec ℕ Z) : Type 0 where
-  pub nonce_len : vec_len nonce ≡ vec_len nonce_before
-  pub nonce_capacity : vec_capacity nonce ≡ vec_capacity nonce_before
-  pub capacity : vec_capacity opened ≡ vec_capacity opened_before
-
--- so have these and the buffer of what is kept, which has its length too, and no fewer bytes are kept
+-- the buffers have the memory that they had, and that of a nonce and that of what is kept their lengths, and no fewer
+-- bytes are kept
 pub record KeepsRoom {Z : Type 0} (kept_before kept : Kept) (nonce_before nonce opened_before opened : Vec ℕ Z) : Type 0 where
   pub buffers : KeepsNonceAndText nonce_before nonce opened_before opened
   pub len : vec_len kept.buffer ≡ vec_len kept_before.buffer

@@ -1,18 +1,14 @@
 -- What a contract sees of a writer that is handed its sink at each call.
-use Rattle.std.specs.Prelude.{ℕ, ◌+◌, Bool, List, take, vec_capacity}
+use Rattle.std.specs.Prelude.{ℕ, ◌+◌, List, take, vec_capacity}
 use Rattle.std.specs.declared.option.Option.{Option}
-use Rattle.stream_model.specs.Cut.{numbered}
 use Rattle.tink_segment_traits.specs.declared.segment_traits.SegmentEncrypter.{Ghosts}
+pub use Rattle.tink_segment_traits.specs.Sealers.{segment_map}
 use Rattle.tink_streams.specs.Writers.{WriterState}
 use Rattle.tink_streams.specs.Writing.{WriterMoment}
-use Rattle.tink_streams.specs.declared.sealer.Sealer.{Sealer}
+use Rattle.tink_segment_traits.specs.declared.sealer.Sealer.{Sealer}
 use Rattle.tink_streams.specs.declared.writing.SegmentWriter.{SegmentWriter}
 
 module _ {E : Type 0} {g : Ghosts E} where
-  -- the segment of a text by its number and its mark
-  abbrev pub segment_map : Sealer E g → ℕ → Bool → List ℕ → List ℕ
-  segment_map s = numbered (g.seg s.encrypter) s.nonce_size s.prefix.items
-
   -- the text that is held
   abbrev pub held_text : SegmentWriter E g → List ℕ
   held_text w = take w.filled w.segment.items

@@ -7,7 +7,7 @@ use Rattle.tink_io.specs.Faults.{Rose}
 use Rattle.tink_segment_traits.specs.declared.segment_traits.SegmentDecrypter.{Ghosts}
 use Rattle.tink_streams.specs.Choosing.{IsOpenerOf, Found}
 use Rattle.tink_streams.specs.Openers.{segment_map}
-use Rattle.tink_streams.specs.declared.kept.Kept.{Kept}
+use Rattle.tink_segment_traits.specs.declared.kept.Kept.{Kept}
 use Rattle.tink_streams.specs.declared.trying.Begun.{Begun}
 
 -- the stream does not begin under the key, none of its bytes is lost, and the memory of a prefix is handed back

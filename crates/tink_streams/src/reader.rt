@@ -4,13 +4,12 @@ ghost use Rattle.tink_segment_traits.specs.Sizes.{sizes_fault};
 ghost use Rattle.tink_streams.specs.declared.progress.Progress.TheVariants.{Running};
 
 use crate::buffers::Buffers;
-use crate::opener::Opener;
 use crate::reading::SegmentReader;
 use crate::text_reader::TextReader;
 use std::marker::Model;
 use tink_io::{Source, TinkError};
 use tink_primitives::DecryptingRead;
-use tink_segment_traits::{SegmentDecrypter, check_sizes};
+use tink_segment_traits::{Opener, SegmentDecrypter, check_sizes};
 
 /// What a reader is made of: a source, the one-shot map of its segments, the size of a nonce and the
 /// prefix of all nonces, the size of a segment, and how many bytes of the first one are taken by

@@ -5,12 +5,9 @@ ghost use Rattle.tink_streams.specs.Reading.{HasNotFailed};
 ghost use Rattle.tink_streams.specs.declared.progress.Progress.TheVariants.{Running, Ended};
 
 use crate::buffers::Buffers;
-use crate::held::{carry, hold};
-use crate::opener::Opener;
-use crate::opening::{open_front, size_of};
 use crate::progress::Progress;
 use tink_io::{Cause, Kind, Source, TinkError};
-use tink_segment_traits::SegmentDecrypter;
+use tink_segment_traits::{Opener, SegmentDecrypter, carry, hold, open_front, size_of};
 
 /// A reader of segments, from a source that each call is given.
 ///

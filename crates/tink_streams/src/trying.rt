@@ -2,17 +2,13 @@ ghost use Rattle.std.specs.Prelude.{◌≡◌, ◌≤◌, ◌<◌, ◌+◌, ◌-
 ghost use Rattle.stream_model.specs.Cut.{numbered};
 ghost use Rattle.stream_model.specs.Opening.{OpeningKey, HasFront, begins_front, front_length, header_of};
 ghost use Rattle.tink_streams.specs.Choosing.{HasSizesOf};
-ghost use Rattle.tink_streams.specs.Keeping.{kept_rest};
+ghost use Rattle.tink_segment_traits.specs.Keeping.{kept_rest};
 ghost use Rattle.tink_streams.specs.Openers.{segment_map};
 ghost use Rattle.tink_streams.specs.Rooms.{HasRoomToTry, KeepsRoom};
 ghost use Rattle.tink_streams.specs.Trials.{MayBegin, TrialFailed, TrialMeans};
 
-use crate::kept::Kept;
-use crate::memory::refill;
-use crate::opener::Opener;
-use crate::opening::open_front;
 use tink_io::{Failed, Source};
-use tink_segment_traits::SegmentDecrypter;
+use tink_segment_traits::{Kept, Opener, SegmentDecrypter, open_front, refill};
 
 /// A key that may have made a stream, under its associated data.
 pub trait OpensStreams<D: SegmentDecrypter> {

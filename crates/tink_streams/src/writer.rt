@@ -3,12 +3,11 @@ ghost use Rattle.tink_segment_traits.specs.Sizes.{sizes_fault};
 ghost use Rattle.tink_streams.specs.declared.writing.Mode.TheVariants.{Open};
 
 use crate::buffers::WriterBuffers;
-use crate::sealer::Sealer;
 use crate::writing::SegmentWriter;
 use std::marker::Model;
 use tink_io::{Sink, TinkError};
 use tink_primitives::EncryptingWrite;
-use tink_segment_traits::{SegmentEncrypter, check_sizes};
+use tink_segment_traits::{Sealer, SegmentEncrypter, check_sizes};
 
 /// What a writer is made of. Sizes are in bytes.
 #[derive(Drop)]

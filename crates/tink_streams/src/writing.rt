@@ -3,10 +3,8 @@ ghost use Rattle.stream_model.specs.Cut.{room_at};
 ghost use Rattle.tink_streams.specs.declared.writing.Mode.TheVariants.{Open};
 
 use crate::buffers::WriterBuffers;
-use crate::sealer::Sealer;
-use crate::sealing::{room_of, send};
 use tink_io::{Cause, Kind, Sink, TinkError};
-use tink_segment_traits::SegmentEncrypter;
+use tink_segment_traits::{Sealer, SegmentEncrypter, room_of, send};
 
 /// The greatest number of a segment.
 const LAST_NUMBER: u64 = 4294967295;

@@ -5,7 +5,7 @@ use Rattle.std.proofs.lemmas.Result.{err_from_is_err_and}
 use Rattle.std.specs.declared.option.Option.{Option}
 use Rattle.stream_model.specs.Opening.{OpeningKey, Begins, front_length, header_of}
 use Rattle.tink_streams.specs.Choosing.{IsOpenerOf}
-use Rattle.tink_streams.specs.Keeping.{kept_bytes, kept_rest}
+use Rattle.tink_segment_traits.specs.Keeping.{kept_bytes, kept_rest}
 use Rattle.tink_streams.specs.Openers.{segment_map}
 use Rattle.tink_streams.proofs.TrialFacts.{Tried, not_begun, no_further, goes_further, held_from, begun, refused, part_of, trial_means, prefix_kept}
 use Rattle.tink_streams.proofs.ChoosingSteps.{both_told}

@@ -3,7 +3,7 @@ use Rattle.std.proofs.lemmas.List.{length-take}
 use Rattle.tink_segment_traits.specs.declared.segment_traits.SegmentDecrypter.{Ghosts}
 use Rattle.tink_segments.specs.declared.stream_segment.StreamSegment.{StreamSegment}
 use Rattle.tink_streams.specs.Readers.{SegmentOpening}
-use Rattle.tink_streams.specs.declared.opener.Opener.{Opener}
+use Rattle.tink_segment_traits.specs.declared.opener.Opener.{Opener}
 use Rattle.tink_streaming_aead.specs.DecryptReaders.{DecryptMeans, DecryptState, KeepsNoMore, ReadsNoMore, TakesAtMost}
 use Rattle.tink_streaming_aead.specs.DecryptStages.{state_of}
 use Rattle.tink_streaming_aead.specs.declared.decrypt_reader.Stage.{Stage}

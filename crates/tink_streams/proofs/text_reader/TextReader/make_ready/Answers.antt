@@ -1,6 +1,6 @@
 use Rattle.std.proofs.Common.{◌<◌, ◌+◌, length, arith, refl}
 use Rattle.stream_model.specs.Cut.{room_at}
-use Rattle.tink_streams.proofs.HeldFacts.{loses_none, loses_by_held}
+use Rattle.tink_segment_traits.proofs.HeldFacts.{loses_none, loses_by_held}
 use Rattle.tink_streams.proofs.TextFacts.{ready_held, told_end, not_none, over}
 use Rattle.tink_streams.proofs.text_reader.TextReader.make_ready.Goals as goal
 

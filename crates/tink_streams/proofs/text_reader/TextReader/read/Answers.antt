@@ -3,7 +3,7 @@ use Rattle.std.proofs.lemmas.List.{take_all, drop-drop}
 use Rattle.std.proofs.lemmas.Result.{err_from_is_err_and}
 use Rattle.tink_streams.specs.Openers.{segment_map, text_moment}
 use Rattle.tink_streams.specs.TextReading.{of_segments}
-use Rattle.tink_streams.proofs.HeldFacts.{loses_none}
+use Rattle.tink_segment_traits.proofs.HeldFacts.{loses_none}
 use Rattle.tink_streams.proofs.TextFacts.{due_room, gives_none, given_ready, told_end, end_told, not_failed, refused_ends_not, refused_read, some_by}
 use Rattle.tink_streams.proofs.text_reader.TextReader.read.Goals as goal
 

@@ -1,0 +1,21 @@
+ghost use Rattle.std.specs.Prelude.{◌≡◌, ◌≤◌, ◌<◌, ◌+◌, ◌^◌, vec_len};
+
+use crate::segment_traits::SegmentDecrypter;
+
+/// How the segments of one stream are opened: the one-shot map, its nonces, and the sizes, in bytes
+/// of ciphertext, of the first and of each later segment.
+#[derive(Drop)]
+pub struct Opener<D: SegmentDecrypter> {
+    pub decrypter: D,
+    pub prefix: Vec<u8>,
+    pub nonce_size: usize,
+    pub overhead: usize,
+    pub first: usize,
+    pub size: usize,
+    ghost overhead_is: { overhead ≡ D.overhead_of decrypter },
+    ghost nonce_is: { nonce_size ≡ D.nonce_length decrypter },
+    ghost prefix_fits: { vec_len prefix + 5 ≤ nonce_size },
+    ghost some: { overhead < first },
+    ghost first_fits: { first ≤ size },
+    ghost small: { size < 2 ^ 32 },
+}

@@ -1,0 +1,21 @@
+ghost use Rattle.std.specs.Prelude.{◌≡◌, ◌≤◌, ◌<◌, ◌+◌, ◌^◌, vec_len};
+
+use crate::segment_traits::SegmentEncrypter;
+
+/// How the segments of one stream are made: the one-shot map, its nonces, and the rooms, in bytes
+/// of text, of the first and of each later segment.
+#[derive(Drop)]
+pub struct Sealer<E: SegmentEncrypter> {
+    pub encrypter: E,
+    pub prefix: Vec<u8>,
+    pub nonce_size: usize,
+    pub overhead: usize,
+    pub first: usize,
+    pub room: usize,
+    ghost overhead_is: { overhead ≡ E.overhead_of encrypter },
+    ghost nonce_is: { nonce_size ≡ E.nonce_length encrypter },
+    ghost prefix_fits: { vec_len prefix + 5 ≤ nonce_size },
+    ghost some: { 0 < first },
+    ghost first_fits: { first ≤ room },
+    ghost small: { room + overhead < 2 ^ 32 },
+}
