@@ -1,7 +1,8 @@
 #!/usr/bin/env bash
 # Runs the whole gate from nothing on a clone of the last commit and prints what it cost: the
 # processor seconds of each crate's proof, of its tests, of a program's compiling, of its must-fail
-# edits and of the check that these begin with, the dearest checks, the sum, and the wall clock.
+# edits and of the check that these begin with, the dearest checks, the longest chain of crates that wait for one
+# another, the sum, and the wall clock.
 # docs/PROVING.md has the budget. Run nothing beside it. The first word, if there is one, is a file
 # for the gate's output.
 set -euo pipefail
@@ -15,7 +16,7 @@ log=$(readlink -f -- "$log")
 
 cd "$folder/clone"
 python3 - "$log" <<'PY'
-import collections, os, re, subprocess, sys, time
+import collections, functools, os, re, subprocess, sys, time
 
 tick = os.sysconf("SC_CLK_TCK")
 # By the folder that a crate's edits share, the check that came first.
@@ -108,6 +109,21 @@ dearest = sorted(((seconds, what, memory) for (_, what), (seconds, memory) in ch
 print("\nThe dearest checks:")
 for seconds, (crate, kind), memory in dearest:
     print(f"{seconds:6.0f} s  {memory:5} MB  {crate}: {kind}")
+# A crate waits for all that its line of crates.txt names, so that no number of processors is quicker than this.
+lines = (line.split("#")[0].partition(":") for line in open("crates.txt"))
+named = {head.split()[0]: below.split() for head, _, below in lines if head.strip()}
+
+
+@functools.cache
+def chain(crate, kind="proof"):
+    """The processor seconds of a check and of all that it waits for, one after the other, and their crates."""
+    behind = max((chain(it) for it in named[crate] if it in named), default=(0, ()))
+    seconds = sum(of[crate, kind])
+    return behind[0] + seconds, (*behind[1], f"{crate} {seconds:.0f}")
+
+
+seconds, names = max(chain(crate, kind) for crate in named for kind in ("proof", "tests"))
+print(f"\nThe longest chain, {seconds / 60:.0f} minutes: {', '.join(names)}")
 print(f"\n{sum(row) / 3600:.2f} processor hours, {wall / 60:.0f} minutes on {len(os.sched_getaffinity(0))} processors")
 with open(sys.argv[1]) as log:
     print(log.read().rstrip().rsplit("\n", 1)[-1])

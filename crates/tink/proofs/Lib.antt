@@ -1,8 +1,3 @@
 pub mod Making
 pub mod RowFacts
 pub mod SoundFacts
-pub mod TemplateSteps
-pub mod TemplateFacts
-pub mod ValidatedFacts
-pub mod IdFacts
-pub mod RotatingSteps

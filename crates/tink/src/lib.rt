@@ -5,7 +5,6 @@
 pub mod aead;
 mod building;
 pub mod daead;
-pub mod keygen;
 pub mod keyset;
 mod laws;
 pub mod mac;

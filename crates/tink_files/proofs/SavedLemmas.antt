@@ -10,8 +10,8 @@ use Rattle.tink_proto.specs.declared.messages.keys.Keyset.{Keyset}
 use Rattle.tink_keysets.specs.Through.{LeavesDraws}
 use Rattle.tink_keysets.specs.Valid.{valid_keyset}
 use Rattle.tink_io.specs.Places.{Ends}
-use Rattle.tink.specs.Rotating.{left_by}
-use Rattle.tink.proofs.RotatingSteps.{leaves_told, undrawn}
+use Rattle.tink_keygen.specs.Rotating.{left_by}
+use Rattle.tink_keygen.proofs.RotatingSteps.{leaves_told, undrawn}
 use Rattle.tink_files.specs.Saved.{left_from}
 
 -- a refusal ends a draft as it is, whatever the draft has

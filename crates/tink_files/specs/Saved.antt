@@ -10,7 +10,7 @@ use Rattle.tink_proto.specs.declared.messages.keys.Keyset.{Keyset}
 use Rattle.tink_keysets.specs.Encrypted.{chained}
 use Rattle.tink_keysets.specs.Managed.{no_keys}
 use Rattle.tink_keysets.specs.Valid.{valid_keyset}
-use Rattle.tink.specs.Rotating.{left_by, rotated_by}
+use Rattle.tink_keygen.specs.Rotating.{left_by, rotated_by}
 use Rattle.tink_io.specs.Places.{IsSaved}
 use Rattle.tink_keyset_io.specs.Files.{file_text, format_of, wire_of}
 use Rattle.tink_keyset_io.specs.declared.key_files.formats.Format.{Format}

@@ -2,7 +2,7 @@
 
 ghost use Rattle.std.specs.Prelude.{◌≡◌, ◌≤◌, true, false, Ok};
 ghost use Rattle.tink_io.specs.Told.{Answers, made_of};
-ghost use Rattle.tink.specs.Rotating.{left_by, rotated_by};
+ghost use Rattle.tink_keygen.specs.Rotating.{left_by, rotated_by};
 ghost use Rattle.tink_keysets.specs.Managed.{no_keys};
 ghost use Rattle.tink_keysets.specs.Through.{LeavesDraws};
 ghost use Rattle.tink_keyset_io.specs.Edited.{edited_file};
@@ -11,8 +11,8 @@ ghost use Rattle.tink_files.specs.Saved.{Saves, left_of_file, new_file, rotated_
 
 use crate::saved::save_answer;
 use std::alloc::Global;
-use tink::keygen::{keygen, rotate};
 use tink_io::{Draws, Place, TinkError};
+use tink_keygen::{keygen, rotate};
 use tink_keyset_io::key_files::{Edit, Format, as_file, edited_file, wire_bytes};
 use tink_proto::{Bytes, Keyset};
 

@@ -7,7 +7,7 @@ use Rattle.tink_io.specs.declared.error.Kind.TheVariants.{OutOfMemory, ReadFault
 use Rattle.tink_io.specs.declared.error.TinkError.{TinkError}
 use Rattle.tink_proto.specs.declared.messages.keys.Keyset.{Keyset}
 use Rattle.tink_keysets.specs.Managed.{no_keys}
-use Rattle.tink.specs.Rotating.{IsNotRotated}
+use Rattle.tink_keygen.specs.Rotating.{IsNotRotated}
 use Rattle.tink_io.specs.Outside.{Outside, IsUntouched}
 use Rattle.tink_tokens.specs.Inputs.{IsUnwritten}
 use Rattle.tink_program_commands.specs.Keysets.{made_keyset, of_keyset, of_no_keys, IsLine, IsUnmadeBy, KeysetMeans, MakesKeyset, RefusesLine, RefusesRotation, Rotation, WritesLine, WrotePrefix}

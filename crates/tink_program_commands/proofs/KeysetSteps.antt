@@ -15,7 +15,7 @@ use Rattle.keyset_model.specs.Validity.{is_valid}
 use Rattle.tink_keysets.specs.Encrypted.{chained}
 use Rattle.tink_keysets.specs.Managed.{no_keys}
 use Rattle.tink_keysets.specs.Valid.{valid_keyset, valid_or_refused}
-use Rattle.tink.specs.Rotating.{key_line, rotated_by, IsNotRotated}
+use Rattle.tink_keygen.specs.Rotating.{key_line, rotated_by, IsNotRotated}
 use Rattle.tink_program_commands.specs.Draws.{draws_in}
 use Rattle.tink_tokens.specs.Inputs.{IsUnwritten}
 use Rattle.tink_program_commands.specs.Keysets.{made_keyset, GivesLine, IsLine, RefusesRotation, IsUnmadeBy, RefusesLine, Rotation, WritesLine}

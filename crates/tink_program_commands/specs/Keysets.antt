@@ -9,7 +9,7 @@ use Rattle.tink_io.specs.declared.error.TinkError.{TinkError}
 use Rattle.tink_proto.specs.declared.messages.keys.Keyset.{Keyset}
 use Rattle.tink_keysets.specs.Managed.{no_keys}
 use Rattle.tink_keysets.specs.Valid.{valid_keyset}
-use Rattle.tink.specs.Rotating.{key_line, rotated_by, IsNotRotated}
+use Rattle.tink_keygen.specs.Rotating.{key_line, rotated_by, IsNotRotated}
 use Rattle.tink_program_commands.specs.Draws.{draws_in}
 use Rattle.tink_io.specs.Outside.{Outside, IsUntouched}
 use Rattle.tink_program_commands.specs.Streams.{IsDoneOrWant}

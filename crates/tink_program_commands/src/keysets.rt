@@ -6,8 +6,8 @@ ghost use Rattle.tink_tokens.specs.Inputs.{IsUnwritten};
 
 use crate::words::{RotateArgs, Seed, first_draws};
 use std::alloc::Global;
-use tink::keygen::{key_line, keygen, rotate};
 use tink_io::{Draws, Sink, TinkError, write_all};
+use tink_keygen::{key_line, keygen, rotate};
 
 /// Writes the line of a keyset of one new key, with the draws of the seed.
 pub fn write_new<K: Sink>(

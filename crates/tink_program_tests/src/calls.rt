@@ -3,10 +3,10 @@
 use crate::bytes::{number, of_digits, put_counted};
 use crate::callers::in_memory;
 use std::alloc::Global;
-use tink::keygen::keygen;
 use tink_daead::subtle::AesSiv;
 use tink_daead::{AesSivKeyManager, WrappedDeterministicAead};
 use tink_io::{Draws, Kind, MemSink, MemSource, SureSink, TinkError, write_all, write_line};
+use tink_keygen::keygen;
 use tink_keyset_io::read_whole;
 use tink_keysets::keyset::insecure;
 use tink_primitives::DeterministicAead;

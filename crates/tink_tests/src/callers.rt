@@ -1,7 +1,7 @@
 //! Callers of `run`, `rewrap`, `keygen` and `write_payload`, whose clauses follow from those of the calls.
 
 ghost use Rattle.std.specs.Prelude.{◌≡◌, [], codes, Ok, Some, IfOk};
-ghost use Rattle.tink.specs.Rotating.{key_line, rotated_by};
+ghost use Rattle.tink_keygen.specs.Rotating.{key_line, rotated_by};
 ghost use Rattle.tink_keysets.specs.Managed.{no_keys};
 ghost use Rattle.tink_proto.specs.declared.messages.keys.Keyset.{Keyset};
 ghost use Rattle.tink_io.specs.Outside.{Outside};
@@ -12,8 +12,8 @@ ghost use Rattle.tink_tokens.specs.Tokens.{RefusesVerifying, TokenMeans, Verifie
 
 use crate::support::{CTR_35, CTR_4096, GCM_41, counted, sink_of, stream_of};
 use std::alloc::Global;
-use tink::keygen::{key_line, keygen};
 use tink_io::{Draws, Kind, SureSink, SureSource, TinkError};
+use tink_keygen::{key_line, keygen};
 use tink_run::report::{Command, Report};
 use tink_run::rewrap::rewrap;
 use tink_run::run::run;

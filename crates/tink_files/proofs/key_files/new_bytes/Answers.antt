@@ -1,5 +1,5 @@
 use Rattle.std.proofs.lemmas.Result.{err_from_is_err_and}
-use Rattle.tink.proofs.RotatingSteps.{leaves_told}
+use Rattle.tink_keygen.proofs.RotatingSteps.{leaves_told}
 use Rattle.tink_files.proofs.key_files.new_bytes.Goals as goal
 
 pub returns-in_err-keyset-clause-rest : goal.returns-in_err-keyset-clause-rest

@@ -2,7 +2,7 @@ use Rattle.std.proofs.Common.{subst}
 use Rattle.std.proofs.lemmas.Result.{err_from_is_err_and}
 use Rattle.tink_keysets.specs.Through.{LeavesDraws}
 use Rattle.tink_keysets.specs.Valid.{valid_keyset}
-use Rattle.tink.specs.Rotating.{left_by}
+use Rattle.tink_keygen.specs.Rotating.{left_by}
 use Rattle.tink_keyset_io.specs.Files.{wire_of}
 use Rattle.tink_files.proofs.SavedLemmas.{left_read, left_unread}
 use Rattle.tink_files.proofs.key_files.rotated_keyset.Goals as goal

@@ -54,8 +54,8 @@ use Rattle.tink.specs.Managers.{row_of}
 use Rattle.tink.specs.Registered.{with_aeads, with_everything, with_macs, with_prfs, with_streaming_aeads}
 use Rattle.tink.specs.declared.managers.Managers.{Managers}
 use Rattle.tink.specs.declared.managers.Managers.TheVariants as managers
-use Rattle.tink.specs.NamedTemplates.{data_by_all, template_named}
-use Rattle.tink.proofs.TemplateSteps.{made_data, made_data_if, of_name, with_more, AllNamed}
+use Rattle.tink_keygen.specs.NamedTemplates.{data_by_all, template_named}
+use Rattle.tink_keygen.proofs.TemplateSteps.{made_data, made_data_if, of_name, with_more, AllNamed}
 
 -- data is made of at most 64 draws
 abbrev GivesData : List ℕ → Result KeyData Kind × List ℕ → Type 0

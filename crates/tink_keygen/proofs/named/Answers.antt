@@ -1,6 +1,6 @@
 use Rattle.std.proofs.Common.{sym, ◌∙◌, rules}
-use Rattle.tink.proofs.RotatingSteps.{named_by_all}
-use Rattle.tink.proofs.keygen.named.Goals as goal
+use Rattle.tink_keygen.proofs.RotatingSteps.{named_by_all}
+use Rattle.tink_keygen.proofs.named.Goals as goal
 
 pub returns-in-Some : goal.returns-in-Some
 returns-in-Some c = sym (named_by_all c.args.registry.now c.args.name.now c.requires) ∙ c.in-Some.ensures.value

@@ -21,11 +21,11 @@ use Rattle.tink_keysets.specs.Through.{LeavesDraws}
 use Rattle.tink.specs.Managers.{row_of}
 use Rattle.tink.specs.Registered.{with_everything}
 use Rattle.tink.specs.declared.managers.Managers.{Managers}
-use Rattle.tink.specs.NamedTemplates.{data_by_all, template_named}
-use Rattle.tink.specs.Rotating.{left_after, left_by, rotated, rotated_by, rotated_where, IsNotRotated}
-use Rattle.tink.proofs.IdFacts.{refused_by_ids}
-use Rattle.tink.proofs.TemplateFacts.{named_makes, MakesKeys}
-use Rattle.tink.proofs.ValidatedFacts.{formed_of, validated}
+use Rattle.tink_keygen.specs.NamedTemplates.{data_by_all, template_named}
+use Rattle.tink_keygen.specs.Rotating.{left_after, left_by, rotated, rotated_by, rotated_where, IsNotRotated}
+use Rattle.tink_keygen.proofs.IdFacts.{refused_by_ids}
+use Rattle.tink_keygen.proofs.TemplateFacts.{named_makes, MakesKeys}
+use Rattle.tink_keygen.proofs.ValidatedFacts.{formed_of, validated}
 
 -- adding by the managers of the registry of all
 abbrev added_of : Registered Managers → Keyset → KeyTemplate → List ℕ → Added

@@ -1,20 +1,23 @@
 //! New and rotated keysets, by the name of a template.
+#![tactic(auto)]
 
 ghost use Rattle.std.specs.Prelude.{◌≡◌, ◌⊎◌, ◌≤◌, None, Some, Ok, IfOk, IfErr, IsTrue, MatchResult, length};
 ghost use Rattle.tink_io.specs.declared.error.Kind.TheVariants.{OutOfMemory, UnknownTemplate};
 ghost use Rattle.tink_io.specs.Told.{Answers};
 ghost use Rattle.keyset_model.specs.Validity.{IsValid, are_well_formed};
 ghost use Rattle.tink_keysets.specs.Managed.{no_keys};
-ghost use Rattle.tink.specs.NamedTemplates.{template_named};
+ghost use Rattle.tink_keygen.specs.NamedTemplates.{template_named};
 ghost use Rattle.tink.specs.Registered.{with_everything};
-ghost use Rattle.tink.specs.Rotating.{IsNotRotated, key_line, left_after, left_by, rotated, rotated_by};
+ghost use Rattle.tink_keygen.specs.Rotating.{IsNotRotated, key_line, left_after, left_by, rotated, rotated_by};
 ghost use Rattle.tink_keysets.specs.Through.{LeavesDraws};
 ghost use Rattle.tink_keysets.specs.Valid.{valid_keyset};
 
-use crate::keyset::{Manager, insecure};
-use crate::{Draws, Kind, Managers, Registry, TinkError, registry};
 use std::alloc::Global;
+use tink::{Managers, registry};
+use tink_io::{Draws, Kind, TinkError};
+use tink_keysets::keyset::{Manager, insecure};
 use tink_proto::{KeyTemplate, Keyset, Message};
+use tink_registry::Registry;
 
 /// A keyset of one new key by the template of a name. The key is enabled and the primary one. Its bytes are drawn
 /// first, at most 64 of them, then ids of four draws, at most 128, until one isn't 0.

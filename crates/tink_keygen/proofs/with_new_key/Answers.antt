@@ -1,6 +1,6 @@
 use Rattle.std.proofs.lemmas.Result.{err_from_is_err_and}
-use Rattle.tink.proofs.RotatingSteps.{copied, copied_valid, is_rotated, leaves_told, left_refused, left_told, not_rotated}
-use Rattle.tink.proofs.keygen.with_new_key.Goals as goal
+use Rattle.tink_keygen.proofs.RotatingSteps.{copied, copied_valid, is_rotated, leaves_told, left_refused, left_told, not_rotated}
+use Rattle.tink_keygen.proofs.with_new_key.Goals as goal
 
 pub returns-in_err-add-clause-answer : goal.returns-in_err-add-clause-answer
 returns-in_err-add-clause-answer c =

@@ -9,7 +9,7 @@ use Rattle.tink_proto.specs.declared.messages.keys.KeyTemplate.{KeyTemplate}
 use Rattle.tink_proto.specs.declared.messages.keys.Keyset.{Keyset}
 use Rattle.keyset_model.specs.Adding.{added, keyset_reply}
 use Rattle.tink_keysets.specs.Encrypted.{chained}
-use Rattle.tink.specs.NamedTemplates.{data_by_all, template_named}
+use Rattle.tink_keygen.specs.NamedTemplates.{data_by_all, template_named}
 
 -- a keyset with a new key by a template as its primary one
 abbrev pub rotated : KeyTemplate → List ℕ → Keyset → Result Keyset Kind

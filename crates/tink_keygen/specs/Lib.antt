@@ -1,0 +1,2 @@
+pub mod NamedTemplates
+pub mod Rotating
