@@ -11,7 +11,7 @@ use crate::tables::table;
 use crate::wanted::{is_told, is_written};
 use std::alloc::{AllocError, Global};
 use tink_io::TinkError;
-use tink_testutil::Answer;
+use tink_testutil::{Answer, answer_of};
 
 // The URL of the keys of streams in counter mode, as a keyset has it; `*` stands for it.
 const URL: &str =
@@ -137,7 +137,7 @@ fn holds_at(
 
 /// A row that does not hold in a way at two numbers, and what it answers.
 #[derive(Clone, Copy, Debug, PartialEq)]
-pub struct Failure {
+pub struct WrongRow {
     pub way: &'static str,
     pub row: &'static str,
     pub numbers: (usize, usize),
@@ -150,18 +150,15 @@ fn try_row(
     kept: &mut Vec<Named>,
     way: &'static str,
     row: &'static str,
-) -> Option<Failure> {
+) -> Option<WrongRow> {
     let (from, to) = range(part(row, 0), 0);
     let (low, high) = range(part(row, 0), 1);
     for n in from..=to {
         for m in low..=high {
-            let got = match holds_at(alloc, kept, (way, row), (n, m)) {
-                Ok(holds) => Ok(holds),
-                Err(e) => Err(e.kind),
-            };
+            let got = answer_of(holds_at(alloc, kept, (way, row), (n, m)));
             if got != Ok(true) {
                 let numbers = (n, m);
-                return Some(Failure {
+                return Some(WrongRow {
                     way,
                     row,
                     numbers,
@@ -178,7 +175,7 @@ fn try_rows(
     kept: &mut Vec<Named>,
     way: &'static str,
     rows: &'static str,
-) -> Option<Failure> {
+) -> Option<WrongRow> {
     for row in rows.split('\n') {
         if !row.is_empty() {
             let failed = try_row(alloc, kept, way, row);
@@ -196,7 +193,7 @@ fn try_table(
     kept: &mut Vec<Named>,
     ways: &'static str,
     rows: &'static str,
-) -> Option<Failure> {
+) -> Option<WrongRow> {
     for way in ways.split(';') {
         let failed = try_rows(alloc, kept, way, rows);
         if failed.is_some() {
@@ -207,7 +204,7 @@ fn try_table(
 }
 
 /// The first row that does not hold.
-pub fn rows(alloc: Global) -> Option<Failure> {
+pub fn rows(alloc: Global) -> Option<WrongRow> {
     let mut kept = Vec::new(alloc);
     for number in 0..100usize {
         let Some((ways, rows)) = table(number) else {

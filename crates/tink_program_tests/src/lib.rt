@@ -2,7 +2,7 @@
 //! runs them over sources and sinks in memory.
 #![tactic(auto)]
 
-pub use driver::{Failure, rows};
+pub use driver::{WrongRow, rows};
 
 mod bytes;
 mod callers;

@@ -6,7 +6,7 @@ pub use keys::{
     registry_of, template,
 };
 pub use named::Named;
-pub use rows::{Answer, Failure, Told, handle, made};
+pub use rows::{Answer, Failure, Told, answer_of, handle, made};
 pub use test_aead::{TestAead, TestKinds};
 pub use test_manager::TestManager;
 

@@ -35,7 +35,8 @@ impl Told {
 
     /// Takes what a row answers, and what it is to answer. There is a failure where there was one, or the two differ.
     pub fn expect(&mut self, got: Result<bool, TinkError>, want: Answer, row: &'static str)
-        ensures { is_some self.new.failure ≡ is_some self.old.failure || not (⟦<Answer as PartialEq>⟧.eq (answer_of got) want) }
+        ensures { is_some self.new.failure
+            ≡ is_some self.old.failure || not (⟦<Answer as PartialEq>⟧.eq (answer_of got) want) }
     {
         let got = answer_of(got);
         if self.failure.is_none() && got != want {
@@ -44,7 +45,8 @@ impl Told {
     }
 }
 
-fn answer_of(got: Result<bool, TinkError>) -> Answer
+/// What a row answers, with the kind of a refusal.
+pub fn answer_of(got: Result<bool, TinkError>) -> Answer
     ensures { result ≡ answer_of got }
 {
     match got {
