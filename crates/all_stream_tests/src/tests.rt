@@ -9,6 +9,16 @@ fn hold(rt: &impl Abort, told: Told) {
 }
 
 #[test]
+fn segments_writers_and_readers(rt: HostRuntime) {
+    hold(&rt, tink_streams_tests::rows(rt.alloc()));
+}
+
+#[test]
+fn keys_of_streams(rt: HostRuntime) {
+    hold(&rt, tink_stream_keys_tests::rows(rt.alloc()));
+}
+
+#[test]
 fn streaming_aeads(rt: HostRuntime) {
     hold(&rt, tink_streaming_aead_tests::rows(rt.alloc()));
 }

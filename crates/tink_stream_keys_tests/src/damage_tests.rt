@@ -1,11 +1,11 @@
 //! Damaged streams of three segments: each is refused by its kind, and what is read before is a prefix of the text.
 
-use crate::comparing::expect;
 use crate::streams::{key_of, opens, sealed};
 use std::alloc::Global;
 use tink_io::{Kind, TinkError};
 use tink_proto::HashType;
 use tink_stream_keys::StreamKind;
+use tink_testutil::Told;
 
 const TEXT: &[u8; 36] = b"thirty-six bytes in three segments..";
 
@@ -240,10 +240,8 @@ const ROWS: &[(&str, bool, Damage)] = &[
     ("orders, by GCM", false, Damage::Orders),
 ];
 
-#[test]
-fn no_damage_passes(rt: HostRuntime) {
+pub fn no_damage_passes(alloc: Global, told: &mut Told) {
     for (row, in_counter_mode, damage) in ROWS {
-        let told = answered(rt.alloc(), *in_counter_mode, *damage);
-        expect(&rt, told, Ok(true), row);
+        told.expect(answered(alloc, *in_counter_mode, *damage), Ok(true), row);
     }
 }

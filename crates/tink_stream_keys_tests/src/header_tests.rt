@@ -1,6 +1,5 @@
 //! The ciphers of a stream's segments, which a key gives by the stream's header.
 
-use crate::comparing::expect;
 use crate::streams::{BY_GCM, IN_COUNTER_MODE, TEXT, key_of};
 use std::alloc::Global;
 use tink_io::{Kind, TinkError};
@@ -147,6 +146,7 @@ type Row = (
 
 use Asked::{Makes, Opens};
 use HashType::{Sha224, Sha256, UnknownHash};
+use tink_testutil::Told;
 
 const ROWS: &[Row] = &[
     ("ctr opens", Opens, true, Sha256, HEADER, b"data", Ok(true)),
@@ -310,17 +310,8 @@ fn answered(alloc: Global, row: &Row) -> Result<bool, TinkError> {
     }
 }
 
-/// The answer by its kind.
-pub fn by_kind(told: Result<bool, TinkError>) -> Result<bool, Kind> {
-    match told {
-        Ok(is_so) => Ok(is_so),
-        Err(e) => Err(e.kind),
-    }
-}
-
-#[test]
-fn a_header_gives_its_streams_cipher(rt: HostRuntime) {
+pub fn a_header_gives_its_streams_cipher(alloc: Global, told: &mut Told) {
     for row in ROWS {
-        expect(&rt, by_kind(answered(rt.alloc(), row)), row.6, row.0);
+        told.expect(answered(alloc, row), row.6, row.0);
     }
 }

@@ -1,7 +1,6 @@
 //! Which keys of streams are made, and segments that Python made under derived keys.
 
-use crate::comparing::expect;
-use crate::header_tests::{by_kind, is, made, opened};
+use crate::header_tests::{is, made, opened};
 use std::alloc::Global;
 use tink_core::CloneIn;
 use tink_io::{Kind, TinkError};
@@ -134,6 +133,7 @@ fn answered(alloc: Global, asked: Asked) -> Result<bool, TinkError> {
 }
 
 use HashType::{Sha224, Sha256, Sha384, UnknownHash};
+use tink_testutil::Told;
 
 const ROWS: &[(&str, Asked, Result<bool, Kind>)] = &[
     (
@@ -231,9 +231,8 @@ const ROWS: &[(&str, Asked, Result<bool, Kind>)] = &[
     ("derives a segment by GCM", Asked::GcmSegment(24), Ok(true)),
 ];
 
-#[test]
-fn keys_are_made_and_derive(rt: HostRuntime) {
+pub fn keys_are_made_and_derive(alloc: Global, told: &mut Told) {
     for (row, asked, want) in ROWS {
-        expect(&rt, by_kind(answered(rt.alloc(), *asked)), *want, row);
+        told.expect(answered(alloc, *asked), *want, row);
     }
 }

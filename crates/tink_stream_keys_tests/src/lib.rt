@@ -3,17 +3,22 @@
 //! or dropped.
 #![tactic(auto)]
 
-#[cfg(test)]
 mod callers;
-#[cfg(test)]
-mod comparing;
-#[cfg(test)]
 mod damage_tests;
-#[cfg(test)]
 mod header_tests;
-#[cfg(test)]
 mod key_tests;
-#[cfg(test)]
 mod stream_tests;
-#[cfg(test)]
 mod streams;
+
+use std::alloc::Global;
+use tink_testutil::Told;
+
+/// What all rows tell.
+pub fn rows(alloc: Global) -> Told {
+    let mut told = Told::new();
+    key_tests::keys_are_made_and_derive(alloc, &mut told);
+    header_tests::a_header_gives_its_streams_cipher(alloc, &mut told);
+    stream_tests::streams_are_as_the_rows_say(alloc, &mut told);
+    damage_tests::no_damage_passes(alloc, &mut told);
+    told
+}

@@ -1,7 +1,6 @@
 //! Streams under keys of either kind, over memory.
 
 use crate::callers::new_stream;
-use crate::comparing::expect;
 use crate::streams::{
     BY_GCM, DRAWS, IN_COUNTER_MODE, MAIN, TEXT, draws, key_of, new_writer, opens, sealed, sink,
 };
@@ -101,6 +100,7 @@ fn answered(alloc: Global, row: &Row) -> Result<bool, TinkError> {
 
 use Asked::{Begins, BothWays, Opens, Seals};
 use HashType::{Sha224, Sha256, UnknownHash};
+use tink_testutil::Told;
 
 const ROWS: &[Row] = &[
     // written in pieces, the streams are those of Python
@@ -252,10 +252,9 @@ const ROWS: &[Row] = &[
     ),
 ];
 
-#[test]
-fn streams_are_as_the_rows_say(rt: HostRuntime) {
+pub fn streams_are_as_the_rows_say(alloc: Global, told: &mut Told) {
     for row in ROWS {
-        expect(&rt, answered(rt.alloc(), row), Ok(true), row.0);
+        told.expect(answered(alloc, row), Ok(true), row.0);
     }
-    expect(&rt, has_header(rt.alloc()), Ok(true), "a new stream");
+    told.expect(has_header(alloc), Ok(true), "a new stream");
 }

@@ -1,12 +1,11 @@
 //! What tests compare.
 
-use std::fmt::Debug;
-use std::process::Abort;
+use tink_io::{Kind, TinkError};
 
-/// The one place that compares: a test function with many `assert_eq!` takes long to prove.
-pub fn expect<T>(rt: &impl Abort, got: T, want: T, label: &str)
-where
-    T: PartialEq + Debug + Drop,
-{
-    assert_eq!(rt; got, want, "{label}");
+/// An answer by the kind of a refusal, as one by the refusal.
+pub fn by_error(told: Result<bool, Kind>) -> Result<bool, TinkError> {
+    match told {
+        Ok(is_so) => Ok(is_so),
+        Err(kind) => Err(TinkError::new(kind)),
+    }
 }

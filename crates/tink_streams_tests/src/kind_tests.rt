@@ -2,11 +2,11 @@
 
 ghost use Rattle.std.specs.Prelude.{◌≡◌, vec_len};
 
-use crate::comparing::expect;
 use std::alloc::Global;
 use tink_io::{SureSink, SureSource, TinkError, write_all};
 use tink_segments::{GcmSegment, StreamSegment};
 use tink_streams::{Buffers, Opener, Reader, Sealer, SegmentReader, SegmentWriter, WriterBuffers};
+use tink_testutil::Told;
 
 const TEXT: &[u8; 38] = b"a text of more than two blocks, by ten";
 
@@ -88,8 +88,7 @@ fn is_opened(alloc: Global) -> Result<bool, TinkError> {
     Ok(sink.bytes() == TEXT.as_slice())
 }
 
-#[test]
-fn writers_and_readers_take_either_kind(rt: HostRuntime) {
-    expect(&rt, is_sealed(rt.alloc()), Ok(true), "the stream");
-    expect(&rt, is_opened(rt.alloc()), Ok(true), "the text");
+pub fn writers_and_readers_take_either_kind(alloc: Global, told: &mut Told) {
+    told.expect(is_sealed(alloc), Ok(true), "the stream");
+    told.expect(is_opened(alloc), Ok(true), "the text");
 }

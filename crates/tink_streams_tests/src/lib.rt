@@ -3,19 +3,25 @@
 //! contracts follow from theirs.
 #![tactic(auto)]
 
-#[cfg(test)]
 mod caller_tests;
-#[cfg(test)]
 mod comparing;
-#[cfg(test)]
 mod kind_tests;
-#[cfg(test)]
 mod nonce_tests;
-#[cfg(test)]
 mod reader_tests;
-#[cfg(test)]
 mod segment_callers;
-#[cfg(test)]
 mod segment_tests;
-#[cfg(test)]
 mod writer_tests;
+
+use std::alloc::Global;
+use tink_testutil::Told;
+
+/// What all rows tell.
+pub fn rows(alloc: Global) -> Told {
+    let mut told = Told::new();
+    segment_tests::segments_are_made_and_opened(alloc, &mut told);
+    nonce_tests::limits_are_those_of_the_rows(&mut told);
+    writer_tests::writers_answer_as_the_rows_say(alloc, &mut told);
+    reader_tests::readers_answer_as_the_rows_say(alloc, &mut told);
+    kind_tests::writers_and_readers_take_either_kind(alloc, &mut told);
+    told
+}

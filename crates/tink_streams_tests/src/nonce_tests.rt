@@ -1,12 +1,13 @@
 //! The limits of keys and nonces.
 
-use crate::comparing::expect;
+use crate::comparing::by_error;
 use tink_io::Kind;
 use tink_segment_traits::generate_segment_nonce;
 use tink_segments::{
     AES_CTR_HMAC_NONCE_PREFIX_SIZE_IN_BYTES, AES_GCM_HKDF_NONCE_PREFIX_SIZE_IN_BYTES,
     validate_aes_key_size,
 };
+use tink_testutil::Told;
 
 #[derive(Clone, Copy)]
 enum Asked {
@@ -91,9 +92,8 @@ const ROWS: &[(&str, Asked, Result<bool, Kind>)] = &[
     ("prefixes", Asked::Prefixes(7), Ok(true)),
 ];
 
-#[test]
-fn limits_are_those_of_the_rows(rt: HostRuntime) {
+pub fn limits_are_those_of_the_rows(told: &mut Told) {
     for (row, asked, want) in ROWS {
-        expect(&rt, answered(*asked), *want, row);
+        told.expect(by_error(answered(*asked)), *want, row);
     }
 }

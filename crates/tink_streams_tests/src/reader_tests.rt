@@ -1,11 +1,12 @@
 //! Readers over memory of a stream that Python made.
 
-use crate::comparing::expect;
+use crate::comparing::by_error;
 use hash_keys::Hash;
 use std::alloc::Global;
 use tink_io::{Cause, Kind, MemSource, TinkError};
 use tink_segments::CtrHmacSegment;
 use tink_streams::{Buffers, Reader, ReaderParams};
+use tink_testutil::Told;
 
 type MemReader = Reader<MemSource, CtrHmacSegment>;
 
@@ -416,9 +417,8 @@ const ROWS: &[Row] = &[
     ("11, 0", (false, 11, 0), NO_BYTES, &[], Ok(true)),
 ];
 
-#[test]
-fn readers_answer_as_the_rows_say(rt: HostRuntime) {
+pub fn readers_answer_as_the_rows_say(alloc: Global, told: &mut Told) {
     for row in ROWS {
-        expect(&rt, answered(rt.alloc(), row), row.4, row.0);
+        told.expect(by_error(answered(alloc, row)), row.4, row.0);
     }
 }

@@ -4,7 +4,7 @@ ghost use Rattle.std.specs.Prelude.{◌≡◌, ◌≤◌, length};
 ghost use Rattle.tink_segments.specs.SegmentKeys.{overhead_under};
 ghost use Rattle.tink_segments.specs.StreamSegments.{nonce_length_by};
 
-use crate::comparing::expect;
+use crate::comparing::by_error;
 use crate::segment_callers::{segment_by, segment_by_gcm};
 use hash_keys::Hash;
 use std::alloc::Global;
@@ -12,6 +12,7 @@ use tink_io::{Kind, TinkError};
 use tink_proto::Bytes;
 use tink_segment_traits::{SegmentDecrypter, SegmentEncrypter};
 use tink_segments::{CtrHmacSegment, GcmSegment, StreamSegment};
+use tink_testutil::Told;
 
 const TEXT: &[u8; 38] = b"a text of more than two blocks, by ten";
 
@@ -422,9 +423,8 @@ const ROWS: &[(&str, Asked, Result<bool, Kind>)] = &[
     ),
 ];
 
-#[test]
-fn segments_are_made_and_opened(rt: HostRuntime) {
+pub fn segments_are_made_and_opened(alloc: Global, told: &mut Told) {
     for (row, asked, want) in ROWS {
-        expect(&rt, answered(rt.alloc(), *asked), *want, row);
+        told.expect(by_error(answered(alloc, *asked)), *want, row);
     }
 }

@@ -1,6 +1,6 @@
 //! Writers to memory, and a stream that Python made.
 
-use crate::comparing::expect;
+use crate::comparing::by_error;
 use hash_keys::Hash;
 use std::alloc::Global;
 use tink_io::{Cause, Kind, MemSink, TinkError};
@@ -146,6 +146,7 @@ fn answered(alloc: Global, row: &Row) -> Result<bool, Kind> {
 }
 
 use Call::{Close, Flush, Segments, Write};
+use tink_testutil::Told;
 
 // The text in pieces of ten bytes.
 const PIECES: &[(Call, Answer)] = &[
@@ -341,9 +342,8 @@ const ROWS: &[Row] = &[
     ("11, 0", Made::Sized(11, 0), &[], &[], 0, Ok(true)),
 ];
 
-#[test]
-fn writers_answer_as_the_rows_say(rt: HostRuntime) {
+pub fn writers_answer_as_the_rows_say(alloc: Global, told: &mut Told) {
     for row in ROWS {
-        expect(&rt, answered(rt.alloc(), row), row.5, row.0);
+        told.expect(by_error(answered(alloc, row)), row.5, row.0);
     }
 }
