@@ -76,7 +76,7 @@ fn output_of<P: Prf + Drop>(alloc: Global, set: &Set<P>, id: u32) -> Result<Byte
 }
 
 // The first bytes of what the primary key's function makes of a text.
-fn primary_of<P: Prf>(
+fn primary_of<P: Prf + Drop>(
     alloc: Global,
     set: &Set<P>,
     text: &[u8],
