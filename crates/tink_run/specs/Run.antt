@@ -14,7 +14,7 @@ use Rattle.tink_run.specs.AllKeys.{load}
 use Rattle.tink_run.specs.declared.report.Command.{Command}
 use Rattle.tink_run.specs.declared.report.Command.TheVariants.{Seal, Open}
 use Rattle.tink_run.specs.declared.report.Report.{Report}
-use Rattle.tink_io.specs.Outside.{Outside, HasNoFault}
+use Rattle.tink_io.specs.Outside.{Outside, HasNoFault, Told}
 use Rattle.tink_run.specs.SealAnswers.{SealMeans}
 use Rattle.tink_run.specs.OpenAnswers.{OpenMeans}
 
