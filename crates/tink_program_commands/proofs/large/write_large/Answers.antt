@@ -20,3 +20,6 @@ returns-clause-answer g c =
 
 pub returns-clause-early : goal.returns-clause-early
 returns-clause-early g c = fault_left c.args.sink.now c.write_all.new.sink c.write_all.result c.write_all.ensures.refused
+
+pub returns-in_err-text-clause-sink : goal.returns-in_err-text-clause-sink
+returns-in_err-text-clause-sink g c = g.met.K.Sink.same_refl _

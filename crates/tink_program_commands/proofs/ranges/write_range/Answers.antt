@@ -48,3 +48,8 @@ returns-clause-unwritten g c =
     unranged _ _ _ _ _ _ _ loaded.0 _ _ _ c.counted_range.result
     (of_equal _ _ _ _ _ _ _ loaded.0 _ _ _ c.counted_range.result c.deref-2.ensures.value c.new-object.ensures (c.counted_range.ensures.answer loaded.0 (loaded_usable _ loaded.0 loaded.1).0 loaded.2))
     c.counted_range.ensures.early c.counted_range.ensures.unwritten
+
+-- nothing was written
+
+pub returns-in_err-input-clause-sink : goal.returns-in_err-input-clause-sink
+returns-in_err-input-clause-sink g c = g.met.K.Sink.same_refl _
