@@ -98,3 +98,11 @@ returns-clause-tries g c =
     let n : ℕ = c.loop-key.steps - c.args.steps.now in
     told_weaker (g.A.ReadAt.bytes c.args.object.now) (TriesFrom of keys c.loop-key.key-index n) (λ X. Tries (map of keys) X n)
     (λ X h. tries_none of keys c.loop-key.key-index n X (omega arith) h) c.loop-key.invariant.tried
+
+-- the object is the one that it was
+
+pub returns-in-Ok-clause-same : goal.returns-in-Ok-clause-same
+returns-in-Ok-clause-same g c = g.met.A.ReadAt.same_trans _ _ _ c.loop-key.invariant.same c.in_ok-begun.ensures.same
+
+pub returns-in_err-begun-clause-same : goal.returns-in_err-begun-clause-same
+returns-in_err-begun-clause-same g c = g.met.A.ReadAt.same_trans _ _ _ c.loop-key.invariant.same c.in_err-begun.ensures.same

@@ -80,3 +80,11 @@ returns-in_ok-begins-in-Ok-clause-answer g c =
     (omega (arith, usable.room)) (omega (arith, usable.room, usable.fits)) usable.fits more rest_is all (g.A.ReadAt.bytes c.front_at.new.object) c.open_at.new.text.items c.in_ok-begins-in-Ok.begins c.args.steps.now c.open_at.new.steps
     called.kept.bytes_are differs opened.ticks (g.met.A.ReadAt.told c.args.object.now) called.read opened.answer in
     record { none = not.0; ticked = not.1; room = rw c.in-Ok.is at called.room })
+
+-- the object is the one that it was
+
+pub returns-in_ok-begins-in-Ok-clause-same : goal.returns-in_ok-begins-in-Ok-clause-same
+returns-in_ok-begins-in-Ok-clause-same g c = g.met.A.ReadAt.same_trans _ _ _ c.in_ok-opener.ensures.same c.in_ok-begins-in-Ok.ensures.same
+
+pub returns-in_err-begins-in-Ok-clause-same : goal.returns-in_err-begins-in-Ok-clause-same
+returns-in_err-begins-in-Ok-clause-same g c = g.met.A.ReadAt.same_trans _ _ _ c.in_ok-opener.ensures.same c.in_err-begins-in-Ok.ensures.same

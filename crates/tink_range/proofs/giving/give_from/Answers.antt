@@ -112,3 +112,11 @@ returns-clause-answer g c =
     gave_all g.K.Sink.got g.K.Sink.faults (cutting_of c.args.core.now) c.args.lo c.args.hi
     (record { all = g.A.ReadAt.bytes c.args.object.now; reads_before = g.A.ReadAt.faults c.args.object.now; reads_after = g.A.ReadAt.faults c.loop-place.object; old = c.args.sink.now; new = c.loop-place.sink })
     c.loop-place.given place.number place.start place.text c.loop-place-test.false inv.giving
+
+-- both ends are the ones that they were
+
+pub returns-in-Err-clause-sink : goal.returns-in-Err-clause-sink
+returns-in-Err-clause-sink g c = g.met.K.Sink.same_trans _ _ _ c.loop-place.invariant.sink_same c.in-Err.ensures.sink
+
+pub returns-in-Err-clause-object : goal.returns-in-Err-clause-object
+returns-in-Err-clause-object g c = g.met.A.ReadAt.same_trans _ _ _ c.loop-place.invariant.object_same c.in-Err.ensures.object

@@ -18,3 +18,8 @@ returns-in-Ok-clause-ticks g c =
     let core = c.in-Ok.core in
     takes_steps (cutting_of core) core.behind c.args.start c.args.len c.args.steps.now c.start_at.new.steps c.read_range.new.steps (length c.args.keys.now) (g.A.ReadAt.length_of c.args.object.now) (g.A.ReadAt.bytes c.args.object.now)
     (map (λ k. opening_key c.args.aad.now (g.T.DerivesStreams.key_of k)) c.args.keys.now) (sym (length-map c.args.keys.now (λ k. opening_key c.args.aad.now (g.T.DerivesStreams.key_of k)))) c.in-Ok.ensures.whole c.in-Ok.ensures.found c.in-Ok.ensures.ticks.1 c.read_range.ensures.ticks
+
+-- the object is the one that it was
+
+pub returns-in-Ok-clause-object : goal.returns-in-Ok-clause-object
+returns-in-Ok-clause-object g c = g.met.A.ReadAt.same_trans _ _ _ c.in-Ok.ensures.same c.read_range.ensures.object
