@@ -4,6 +4,7 @@
 mod backends;
 mod contexts;
 pub mod dev;
+mod directions;
 mod modes;
 mod padded;
 mod padding;

@@ -8,6 +8,7 @@ ghost use Rattle.cipher_modes.specs.Paddings.{Fits, IsPadded, padded};
 ghost use Rattle.cipher_modes.specs.Padded.{blocks_of, bytes_run, enciphered, IsEncrypted, deciphered, left_by, message_in};
 ghost use Rattle.cipher_modes.specs.PaddedVec.{TellsPad, TellsUnpad};
 
+use crate::directions::{Decrypting, Encrypting, Runs};
 use crate::modes::{BlockModeDecrypt, BlockModeEncrypt};
 use crate::padding::{PadError, Padding, UnpadError};
 use std::alloc::Global;
@@ -67,28 +68,28 @@ fn encrypt_front<M: BlockModeEncrypt<B>, const B: usize>(mode: &mut M, output: &
     requires whole { n % B ≡ 0 }
     ensures value { output.new ≡ bytes_run M.step mode.old B (take n output.old) ++ drop n output.old }
 {
-    encrypt_bytes(mode, &mut output[..n]);
+    run_bytes::<Encrypting, M, B>(mode, &mut output[..n]);
 }
 
 // block by block
-pub(crate) fn encrypt_bytes<M: BlockModeEncrypt<B>, const B: usize>(mode: &mut M, bytes: &mut [u8])
+pub(crate) fn run_bytes<D, M: Runs<D, B>, const B: usize>(mode: &mut M, bytes: &mut [u8])
     requires { length bytes.old % B ≡ 0 }
     ensures value { bytes.new ≡ bytes_run M.step mode.old B bytes.old }
 {
     let mut at = 0;
     while at < bytes.len() {
-        encrypt_first(mode, &mut bytes[at..]);
+        run_first::<D, M, B>(mode, &mut bytes[at..]);
         at += B;
     }
 }
 
-fn encrypt_first<M: BlockModeEncrypt<B>, const B: usize>(mode: &mut M, bytes: &mut [u8])
+fn run_first<D, M: Runs<D, B>, const B: usize>(mode: &mut M, bytes: &mut [u8])
     requires { B ≤ length bytes.old }
     ensures value { bytes.new ≡ (M.step mode.old (take B bytes.old)).0 ++ drop B bytes.old }
     ensures stepped { mode.new ≡ (M.step mode.old (take B bytes.old)).1 }
 {
     if let Some(block) = bytes.first_chunk_mut::<B>() {
-        mode.encrypt_block(block);
+        mode.run_block(block);
     }
 }
 
@@ -111,7 +112,7 @@ pub(crate) fn decrypt_message<P: Padding, M: BlockModeDecrypt<B>, const B: usize
     if input.len() == output.len() {
         output.copy_from_slice(input);
     }
-    decrypt_bytes(mode, output);
+    run_bytes::<Decrypting, M, B>(mode, output);
     match P::unpad(output, B) {
         Ok(message) => Ok(message.len()),
         Err(error) => Err(error),
@@ -134,28 +135,6 @@ pub(crate) fn decrypt_front<P: Padding, M: BlockModeDecrypt<B>, const B: usize>(
         (λ _. message_in P.unpadded B (deciphered M.step mode.old B input.now) ≡ None) }
 {
     decrypt_message::<P, M, B>(mode, &mut output[..input.len()], input)
-}
-
-// block by block
-pub(crate) fn decrypt_bytes<M: BlockModeDecrypt<B>, const B: usize>(mode: &mut M, bytes: &mut [u8])
-    requires { length bytes.old % B ≡ 0 }
-    ensures value { bytes.new ≡ bytes_run M.step mode.old B bytes.old }
-{
-    let mut at = 0;
-    while at < bytes.len() {
-        decrypt_first(mode, &mut bytes[at..]);
-        at += B;
-    }
-}
-
-fn decrypt_first<M: BlockModeDecrypt<B>, const B: usize>(mode: &mut M, bytes: &mut [u8])
-    requires { B ≤ length bytes.old }
-    ensures value { bytes.new ≡ (M.step mode.old (take B bytes.old)).0 ++ drop B bytes.old }
-    ensures stepped { mode.new ≡ (M.step mode.old (take B bytes.old)).1 }
-{
-    if let Some(block) = bytes.first_chunk_mut::<B>() {
-        mode.decrypt_block(block);
-    }
 }
 
 /// Why `encrypt_padded_vec` or `decrypt_padded_vec` made nothing.

@@ -1,13 +1,14 @@
 //! Tests of block modes by vectors.
 
 ghost use Rattle.std.specs.Prelude.{◌≡◌, ℕ, ◌+◌, ◌-◌, ◌*◌, ◌/◌, ◌%◌, ◌<◌, ◌≤◌, List, length, take, drop, IsTrue, codes, bytes_eq};
-ghost use Rattle.cipher.specs.BlockVectors.{Reports, block_fault};
+ghost use Rattle.cipher.specs.BlockVectors.{Reports, first, block_fault};
 ghost use Rattle.cipher_modes.specs.Padded.{bytes_run};
 ghost use Rattle.cipher_modes.specs.Steps.{run_of, state_after};
-ghost use Rattle.cipher_modes.specs.ModeVectors.{encrypt_fault, decrypt_fault};
+ghost use Rattle.cipher_modes.specs.ModeVectors.{encrypt_fault, decrypt_fault, size_fault};
 
+use crate::directions::{Decrypting, Encrypting, Runs};
 use crate::modes::{BlockModeDecrypt, BlockModeEncrypt};
-use crate::padded::{decrypt_bytes, encrypt_bytes};
+use crate::padded::run_bytes;
 use cipher::KeyIvInit;
 
 const MAX_MSG_LEN: usize = 4096;
@@ -38,133 +39,14 @@ pub fn encrypt<
 >(tv: &TestVector) -> Result<(), &'static str>
     ensures told { Reports result (encrypt_fault K I B C.keyed C.step tv.now) }
 {
-    let n = tv.ciphertext.len();
-    if n > MAX_MSG_LEN {
-        return Err("ciphertext is bigger than MAX_MSG_LEN bytes");
-    }
-    if tv.plaintext.len() != n {
-        return Err("plaintext/ciphertext length mismatch");
-    }
-    if n % B != 0 {
-        return Err("plaintext/ciphertext length is not multiple of block size");
-    }
-    match C::new_from_slices(tv.key, tv.iv) {
-        Ok(mut mode) => encrypts_vector::<C, K, I, B>(&mut mode, tv),
-        Err(_) => Err("cipher initialization failure"),
-    }
-}
-
-// the same by a mode that is lent
-fn encrypts_vector<
-    C: KeyIvInit<K, I> + BlockModeEncrypt<B>,
-    const K: usize,
-    const I: usize,
-    const B: usize,
->(mode: &mut C, tv: &TestVector) -> Result<(), &'static str>
-    requires few { length tv.now.ciphertext.now ≤ 4096 }
-    requires same_length { length tv.now.plaintext.now ≡ length tv.now.ciphertext.now }
-    requires whole { length tv.now.ciphertext.now % B ≡ 0 }
-    ensures told { Reports result (block_fault (bytes_run C.step mode.old B tv.now.plaintext.now) tv.now.ciphertext.now
-        (codes "single block encryption failure")) }
-{
-    let mut buffer = [0; MAX_MSG_LEN];
-    if !encrypts_to(
-        mode,
-        &mut buffer[..tv.ciphertext.len()],
+    tested::<Encrypting, C, K, I, B>(
+        tv,
         tv.plaintext,
         tv.ciphertext,
-    ) {
-        return Err("single block encryption failure");
-    }
-    if !encrypts_alike::<C, K, I, B>(tv.key, tv.iv, tv.plaintext) {
-        return Err("multi-block encryption failure");
-    }
-    Ok(())
-}
-
-// by two modes of one key and vector the blocks are encrypted together, eight at a time, as they are one by one
-fn encrypts_alike<
-    C: KeyIvInit<K, I> + BlockModeEncrypt<B>,
-    const K: usize,
-    const I: usize,
-    const B: usize,
->(key: &[u8], iv: &[u8], bytes: &[u8]) -> bool
-    ensures value { IsTrue result }
-{
-    match C::new_from_slices(key, iv) {
-        Ok(mut mode) => encrypts_like_another::<C, K, I, B>(&mut mode, key, iv, bytes),
-        Err(_) => true,
-    }
-}
-
-fn encrypts_like_another<
-    C: KeyIvInit<K, I> + BlockModeEncrypt<B>,
-    const K: usize,
-    const I: usize,
-    const B: usize,
->(mode: &mut C, key: &[u8], iv: &[u8], bytes: &[u8]) -> bool
-    requires { mode.old ≡ C.keyed key.now iv.now }
-    ensures value { IsTrue result }
-{
-    match C::new_from_slices(key, iv) {
-        Ok(mut other) => encrypts_parts_alike(mode, &mut other, bytes),
-        Err(_) => true,
-    }
-}
-
-fn encrypts_parts_alike<M: BlockModeEncrypt<B>, const B: usize>(
-    mode: &mut M,
-    other: &mut M,
-    bytes: &[u8],
-) -> bool
-    requires { mode.old ≡ other.old }
-    ensures value { IsTrue result }
-{
-    for part in bytes.chunks(8 * B) {
-        if !encrypts_eight_alike(mode, other, &mut loaded(part)) {
-            return false;
-        }
-    }
-    true
-}
-
-fn encrypts_eight_alike<M: BlockModeEncrypt<B>, const B: usize>(
-    mode: &mut M,
-    other: &mut M,
-    together: &mut [[u8; B]; 8],
-) -> bool
-    requires same { mode.old ≡ other.old }
-    ensures alike { IsTrue result × (mode.new ≡ other.new) }
-{
-    let mut singly = *together;
-    mode.encrypt_blocks(together);
-    encrypt_singly(other, &mut singly);
-    *together == singly
-}
-
-fn encrypt_singly<M: BlockModeEncrypt<B>, const B: usize>(mode: &mut M, blocks: &mut [[u8; B]])
-    ensures value { blocks.new ≡ run_of M.step mode.old blocks.old }
-    ensures stepped { mode.new ≡ state_after M.step mode.old blocks.old }
-{
-    for i in 0..blocks.len() {
-        mode.encrypt_block(&mut blocks[i]);
-    }
-}
-
-// whether the blocks, one by one, are encrypted to these bytes
-fn encrypts_to<C: BlockModeEncrypt<B>, const B: usize>(
-    mode: &mut C,
-    buffer: &mut [u8],
-    plaintext: &[u8],
-    ciphertext: &[u8],
-) -> bool
-    requires size { length buffer.old ≡ length plaintext.now }
-    requires whole { length plaintext.now % B ≡ 0 }
-    ensures value { result ≡ bytes_eq (bytes_run C.step mode.old B plaintext.now) ciphertext.now }
-{
-    buffer.copy_from_slice(plaintext);
-    encrypt_bytes(mode, buffer);
-    *buffer == *ciphertext
+        "ciphertext is bigger than MAX_MSG_LEN bytes",
+        "single block encryption failure",
+        "multi-block encryption failure",
+    )
 }
 
 /// Whether a mode decrypts as a vector says. The error is the first text whose case holds:
@@ -180,67 +62,102 @@ pub fn decrypt<
 >(tv: &TestVector) -> Result<(), &'static str>
     ensures told { Reports result (decrypt_fault K I B C.keyed C.step tv.now) }
 {
-    let n = tv.plaintext.len();
+    tested::<Decrypting, C, K, I, B>(
+        tv,
+        tv.ciphertext,
+        tv.plaintext,
+        "plaintext is bigger than MAX_MSG_LEN bytes",
+        "single block decryption failure",
+        "multi-block decryption failure",
+    )
+}
+
+// whether a mode under the key and the initialization vector of a test makes of some bytes what is wanted
+fn tested<D, C: KeyIvInit<K, I> + Runs<D, B>, const K: usize, const I: usize, const B: usize>(
+    tv: &TestVector,
+    from: &[u8],
+    wanted: &[u8],
+    too_big: &'static str,
+    single: &'static str,
+    multi: &'static str,
+) -> Result<(), &'static str>
+    ensures told { Reports result (first (size_fault K I B tv.now wanted.now from.now too_big.now)
+        (block_fault (bytes_run C.step (C.keyed tv.now.key.now tv.now.iv.now) B from.now) wanted.now single.now)) }
+{
+    let n = wanted.len();
     if n > MAX_MSG_LEN {
-        return Err("plaintext is bigger than MAX_MSG_LEN bytes");
+        return Err(too_big);
     }
-    if tv.ciphertext.len() != n {
+    if from.len() != n {
         return Err("plaintext/ciphertext length mismatch");
     }
     if n % B != 0 {
         return Err("plaintext/ciphertext length is not multiple of block size");
     }
     match C::new_from_slices(tv.key, tv.iv) {
-        Ok(mut mode) => decrypts_vector::<C, K, I, B>(&mut mode, tv),
+        Ok(mut mode) => { tested_by::<D, C, K, I, B>(&mut mode, tv, from, wanted, single, multi) }
         Err(_) => Err("cipher initialization failure"),
     }
 }
 
 // the same by a mode that is lent
-fn decrypts_vector<
-    C: KeyIvInit<K, I> + BlockModeDecrypt<B>,
-    const K: usize,
-    const I: usize,
-    const B: usize,
->(mode: &mut C, tv: &TestVector) -> Result<(), &'static str>
-    requires few { length tv.now.plaintext.now ≤ 4096 }
-    requires same_length { length tv.now.ciphertext.now ≡ length tv.now.plaintext.now }
-    requires whole { length tv.now.plaintext.now % B ≡ 0 }
-    ensures told { Reports result (block_fault (bytes_run C.step mode.old B tv.now.ciphertext.now) tv.now.plaintext.now
-        (codes "single block decryption failure")) }
+fn tested_by<D, C: KeyIvInit<K, I> + Runs<D, B>, const K: usize, const I: usize, const B: usize>(
+    mode: &mut C,
+    tv: &TestVector,
+    from: &[u8],
+    wanted: &[u8],
+    single: &'static str,
+    multi: &'static str,
+) -> Result<(), &'static str>
+    requires few { length wanted.now ≤ 4096 }
+    requires same_length { length from.now ≡ length wanted.now }
+    requires whole { length wanted.now % B ≡ 0 }
+    ensures told { Reports result
+        (block_fault (bytes_run C.step mode.old B from.now) wanted.now single.now) }
 {
     let mut buffer = [0; MAX_MSG_LEN];
-    if !decrypts_to(
-        mode,
-        &mut buffer[..tv.plaintext.len()],
-        tv.ciphertext,
-        tv.plaintext,
-    ) {
-        return Err("single block decryption failure");
+    if !makes::<D, C, B>(mode, &mut buffer[..wanted.len()], from, wanted) {
+        return Err(single);
     }
-    if !decrypts_alike::<C, K, I, B>(tv.key, tv.iv, tv.ciphertext) {
-        return Err("multi-block decryption failure");
+    if !runs_alike::<D, C, K, I, B>(tv.key, tv.iv, from) {
+        return Err(multi);
     }
     Ok(())
 }
 
-// by two modes of one key and vector the blocks are decrypted together, eight at a time, as they are one by one
-fn decrypts_alike<
-    C: KeyIvInit<K, I> + BlockModeDecrypt<B>,
-    const K: usize,
-    const I: usize,
-    const B: usize,
->(key: &[u8], iv: &[u8], bytes: &[u8]) -> bool
+// whether these bytes are made, block by block
+fn makes<D, C: Runs<D, B>, const B: usize>(
+    mode: &mut C,
+    buffer: &mut [u8],
+    from: &[u8],
+    wanted: &[u8],
+) -> bool
+    requires size { length buffer.old ≡ length from.now }
+    requires whole { length from.now % B ≡ 0 }
+    ensures value { result ≡ bytes_eq (bytes_run C.step mode.old B from.now) wanted.now }
+{
+    buffer.copy_from_slice(from);
+    run_bytes::<D, C, B>(mode, buffer);
+    *buffer == *wanted
+}
+
+// two modes of one key and vector make the same of the blocks together, eight at a time, and of one by one
+fn runs_alike<D, C: KeyIvInit<K, I> + Runs<D, B>, const K: usize, const I: usize, const B: usize>(
+    key: &[u8],
+    iv: &[u8],
+    bytes: &[u8],
+) -> bool
     ensures value { IsTrue result }
 {
     match C::new_from_slices(key, iv) {
-        Ok(mut mode) => decrypts_like_another::<C, K, I, B>(&mut mode, key, iv, bytes),
+        Ok(mut mode) => runs_like_another::<D, C, K, I, B>(&mut mode, key, iv, bytes),
         Err(_) => true,
     }
 }
 
-fn decrypts_like_another<
-    C: KeyIvInit<K, I> + BlockModeDecrypt<B>,
+fn runs_like_another<
+    D,
+    C: KeyIvInit<K, I> + Runs<D, B>,
     const K: usize,
     const I: usize,
     const B: usize,
@@ -249,28 +166,24 @@ fn decrypts_like_another<
     ensures value { IsTrue result }
 {
     match C::new_from_slices(key, iv) {
-        Ok(mut other) => decrypts_parts_alike(mode, &mut other, bytes),
+        Ok(mut other) => parts_alike::<D, C, B>(mode, &mut other, bytes),
         Err(_) => true,
     }
 }
 
-fn decrypts_parts_alike<M: BlockModeDecrypt<B>, const B: usize>(
-    mode: &mut M,
-    other: &mut M,
-    bytes: &[u8],
-) -> bool
+fn parts_alike<D, M: Runs<D, B>, const B: usize>(mode: &mut M, other: &mut M, bytes: &[u8]) -> bool
     requires { mode.old ≡ other.old }
     ensures value { IsTrue result }
 {
     for part in bytes.chunks(8 * B) {
-        if !decrypts_eight_alike(mode, other, &mut loaded(part)) {
+        if !eight_alike::<D, M, B>(mode, other, &mut loaded(part)) {
             return false;
         }
     }
     true
 }
 
-fn decrypts_eight_alike<M: BlockModeDecrypt<B>, const B: usize>(
+fn eight_alike<D, M: Runs<D, B>, const B: usize>(
     mode: &mut M,
     other: &mut M,
     together: &mut [[u8; B]; 8],
@@ -279,34 +192,18 @@ fn decrypts_eight_alike<M: BlockModeDecrypt<B>, const B: usize>(
     ensures alike { IsTrue result × (mode.new ≡ other.new) }
 {
     let mut singly = *together;
-    mode.decrypt_blocks(together);
-    decrypt_singly(other, &mut singly);
+    mode.run_blocks(together);
+    run_singly::<D, M, B>(other, &mut singly);
     *together == singly
 }
 
-fn decrypt_singly<M: BlockModeDecrypt<B>, const B: usize>(mode: &mut M, blocks: &mut [[u8; B]])
+fn run_singly<D, M: Runs<D, B>, const B: usize>(mode: &mut M, blocks: &mut [[u8; B]])
     ensures value { blocks.new ≡ run_of M.step mode.old blocks.old }
     ensures stepped { mode.new ≡ state_after M.step mode.old blocks.old }
 {
     for i in 0..blocks.len() {
-        mode.decrypt_block(&mut blocks[i]);
+        mode.run_block(&mut blocks[i]);
     }
-}
-
-// whether the blocks, one by one, are decrypted to these bytes
-fn decrypts_to<C: BlockModeDecrypt<B>, const B: usize>(
-    mode: &mut C,
-    buffer: &mut [u8],
-    ciphertext: &[u8],
-    plaintext: &[u8],
-) -> bool
-    requires size { length buffer.old ≡ length ciphertext.now }
-    requires whole { length ciphertext.now % B ≡ 0 }
-    ensures value { result ≡ bytes_eq (bytes_run C.step mode.old B ciphertext.now) plaintext.now }
-{
-    buffer.copy_from_slice(ciphertext);
-    decrypt_bytes(mode, buffer);
-    *buffer == *plaintext
 }
 
 // eight blocks that begin with the whole blocks of these bytes
