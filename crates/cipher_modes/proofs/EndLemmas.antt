@@ -1,7 +1,8 @@
 -- Where the zeros begin that end a list.
-use Rattle.std.proofs.Common.{◌≡◌, ◌≢◌, ℕ, zero, suc, ◌+◌, ◌-◌, ◌≤◌, ◌<◌, List, [], ◌∷◌, ◌++◌, length, take, drop, replicate, get_or, ap, sym, subst, ◌∙◌, arith, length-take, length-drop, drop-cons}
-use Rattle.std.proofs.lemmas.List.{take-append-drop, take-append-le, drop-append-le, drop_all, get_or-take, get_or-drop}
+use Rattle.std.proofs.Common.{◌≡◌, ◌≢◌, ℕ, zero, suc, ◌+◌, ◌-◌, ◌≤◌, ◌<◌, List, [], ◌∷◌, ◌++◌, length, take, drop, replicate, get_or, ap, sym, subst, ◌∙◌, arith, append_assoc, length-take, length-drop, drop-cons}
+use Rattle.std.proofs.lemmas.List.{take-append-drop, take-append-le, drop-append-le, drop_all, drop-drop, get_or-take, get_or-drop}
 use Rattle.cipher_modes.specs.Paddings.{without_zeros, EndsInNoZero}
+use borrow.Rule.Slice.PartMut.{put_mid}
 use Rattle.cipher_modes.specs.PaddingLaws.{without_zeros-behind}
 
 pub zeros_more : (bytes : List ℕ) (end : ℕ) → 0 < end → end ≤ length bytes → get_or bytes (end - 1) 0 ≡ 0 → drop end bytes ≡ replicate (length bytes - end) 0
@@ -48,3 +49,15 @@ text_ends-at_other bytes front end order within other zeros =
     let last : get_or (drop front (take end bytes)) k 0 ≡ get_or bytes (end - 1) 0 =
     get_or-drop front (take end bytes) k 0 ∙ (ap (λ j. get_or (take end bytes) j 0) place ∙ get_or-take end bytes (end - 1) 0 inside) in
     text_ends bytes front end (omega arith) within zeros (ends_by_last (drop front (take end bytes)) k size (λ z. other (sym last ∙ z)))
+
+-- a part of a list that is written over
+pub filled : (old ys : List ℕ) (len count value : ℕ) → len ≤ length old → count ≤ length old - len → ys ≡ replicate (length (take (len + count - len) (drop len old))) value
+    → put_mid len (len + count - len) old ys ≡ (take len old ++ replicate count value) ++ drop (len + count) old
+filled old ys len count value room few e =
+    let more : len + count - len ≡ count = omega arith in
+    let size : length (take count (drop len old)) ≡ count = simp (length-take, length-drop) (omega arith) in
+    let made : ys ≡ replicate count value = e ∙ ap (λ k. replicate k value) (ap (λ k. length (take k (drop len old))) more ∙ size) in
+    ap (λ k. take len old ++ (ys ++ drop k (drop len old))) more
+    ∙ (ap (λ zs. take len old ++ (zs ++ drop count (drop len old))) made
+    ∙ (ap (λ zs. take len old ++ (replicate count value ++ zs)) (drop-drop count len old)
+    ∙ sym (append_assoc (take len old) (replicate count value) (drop (len + count) old))))

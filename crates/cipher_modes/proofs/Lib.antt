@@ -5,3 +5,5 @@ pub mod Unpadding
 pub mod BytesRun
 pub mod MessageLemmas
 mod SinglyLemmas
+mod BegunLemmas
+mod FaultLemmas

@@ -1,8 +1,8 @@
 -- A message with its padding as a prefix of a buffer.
-use Rattle.std.proofs.Common.{◌≡◌, ℕ, ◌+◌, ◌-◌, ◌≤◌, true, false, List, ◌++◌, Option, None, Some, length, take, drop, ap, sym, ◌∙◌, refl, arith, append_assoc, length-append, length-take, length-drop, inl, inr}
+use Rattle.std.proofs.Common.{◌≡◌, ℕ, ◌+◌, ◌-◌, ◌%◌, ◌≤◌, true, false, List, ◌++◌, Option, None, Some, length, take, drop, ap, subst, sym, ◌∙◌, refl, arith, append_assoc, length-append, length-take, length-drop, inl, inr}
 use Rattle.std.proofs.lemmas.Bool.{cases_lt}
 use Rattle.std.proofs.lemmas.List.{take_at, take_all, drop_at, drop_all, drop-drop, append-nil}
-use Rattle.std.specs.Prelude.{option_map, Result, Ok, Err, IsOk, OnErr, ◌↔◌}
+use Rattle.std.specs.Prelude.{option_map, Result, Ok, Err, IsOk, IfOk, OnOk, OnErr, ◌↔◌}
 use Rattle.cipher.specs.Buffers.{pick}
 use Rattle.cipher.specs.Transcript.{Block}
 use Rattle.cipher.proofs.Parts.{pick-same, length-pick}
@@ -21,20 +21,32 @@ pub fits-room : (o : Option (List ℕ)) (len room : ℕ) → Fits o len room →
 fits-room None len room h = absurd h
 fits-room (Some tail) len room h = omega arith
 
--- the input is copied before the padding
-pub padded-copied : (o : Option (List ℕ)) (len n : ℕ) (input old mid new : List ℕ) → length input ≡ len → len ≤ length old → IsPadded o len n old mid → new ≡ input ++ drop (length input) mid
+-- the input is read into the front of the padded output
+pub padded-loaded : (o : Option (List ℕ)) (len n : ℕ) (input old mid new : List ℕ) → len ≤ length old → IsPadded o len n old mid → new ≡ pick input (take len mid) ++ drop len mid
     → IsPadded o len n (pick input (take len old) ++ drop len old) new
-padded-copied None len n input old mid new size room h e = h
-padded-copied (Some tail) len n input old mid new size room h e =
+padded-loaded None len n input old mid new room h e = h
+padded-loaded (Some tail) len n input old mid new room h e =
     let front : length (take len old) ≡ len = simp length-take (omega arith) in
-    let read : pick input (take len old) ≡ input = pick-same input (take len old) (size ∙ sym front) in
-    let behind : drop (length input) mid ≡ tail ++ drop n old =
-    ap (λ k. drop k mid) size ∙ (ap (drop len) (h.1 ∙ append_assoc (take len old) tail (drop n old)) ∙ drop_at (take len old) (tail ++ drop n old) len front) in
-    let is : new ≡ (input ++ tail) ++ drop n old = e ∙ (ap (λ zs. input ++ zs) behind ∙ sym (append_assoc input tail (drop n old))) in
+    let split : mid ≡ take len old ++ (tail ++ drop n old) = h.1 ∙ append_assoc (take len old) tail (drop n old) in
+    let kept : take len mid ≡ take len old = ap (take len) split ∙ take_at (take len old) (tail ++ drop n old) len front in
+    let behind : drop len mid ≡ tail ++ drop n old = ap (drop len) split ∙ drop_at (take len old) (tail ++ drop n old) len front in
+    let read : List ℕ = pick input (take len old) in
+    let size : length read ≡ len = length-pick input (take len old) ∙ front in
+    let is : new ≡ (read ++ tail) ++ drop n old =
+    e ∙ (ap (λ zs. pick input zs ++ drop len mid) kept ∙ (ap (λ zs. read ++ zs) behind ∙ sym (append_assoc read tail (drop n old)))) in
     let n_is : n ≡ len + length tail = h.0 in
-    let first : take len (input ++ drop len old) ≡ input = take_at input (drop len old) len size in
-    let last : drop n (input ++ drop len old) ≡ drop n old = drop-behind input old len n size (omega arith) in
-    (h.0, rw (read, first, last) is)
+    let first : take len (read ++ drop len old) ≡ read = take_at read (drop len old) len size in
+    let last : drop n (read ++ drop len old) ≡ drop n old = drop-behind read old len n size (omega arith) in
+    (h.0, rw (first, last) is)
+
+-- a padded message is within the room, and is whole blocks by the law of its padding
+pub padded-within : (o : Option (List ℕ)) (len n room : ℕ) (old new : List ℕ) → Fits o len room → IsPadded o len n old new → n ≤ room
+padded-within None len n room old new fits h = absurd h
+padded-within (Some tail) len n room old new fits h = let n_is : n ≡ len + length tail = h.0 in omega arith
+
+pub padded-whole : (o : Option (List ℕ)) (B len n : ℕ) (old new : List ℕ) → ((tail : List ℕ) → o ≡ Some tail → (len + length tail) % B ≡ 0) → IsPadded o len n old new → n % B ≡ 0
+padded-whole None B len n old new law h = absurd h
+padded-whole (Some tail) B len n old new law h = ap (λ m. m % B) h.0 ∙ law tail refl
 
 encrypted : {S : Type 0} (step : S → Block → Block × S) (s : S) (B : ℕ) (o : Option (List ℕ)) (len n : ℕ) (message old mid new : List ℕ) → length message ≡ len
     → IsPadded o len n (message ++ drop len old) mid → new ≡ bytes_run step s B (take n mid) ++ drop n mid → IsEncrypted step s B (option_map (λ tail. message ++ tail) o) n old new
@@ -76,6 +88,28 @@ encrypted-prefix step s B (Some message) wanted n old new same size h =
       | inr room ↦ ap (take n) h.1 ∙ take_at made (drop n old) n (omega arith)
     ] in
     ap (option_map (bytes_run step s B)) same ∙ ap Some (sym front)
+
+-- a front of a list has its length
+pub cut_length : (n : ℕ) (xs : List ℕ) → n ≤ length xs → length (take n xs) ≡ n
+cut_length n xs h = simp length-take (omega arith)
+
+-- an output of the padded length is all encrypted
+all-encrypted : {S : Type 0} (step : S → Block → Block × S) (s : S) (B : ℕ) (p : Option (List ℕ)) (message new rest old : List ℕ) (n len : ℕ) → ((tail : List ℕ) → p ≡ Some tail → len ≡ length message + length tail)
+    → length old ≡ len → length new ≡ length old → IsEncrypted step s B (option_map (λ tail. message ++ tail) p) n old new → option_map (bytes_run step s B) (option_map (λ tail. message ++ tail) p) ≡ Some (take len (new ++ rest))
+all-encrypted step s B None message new rest old n len law size same h = absurd h
+all-encrypted step s B (Some tail) message new rest old n len law size same h =
+    let made : List ℕ = bytes_run step s B (message ++ tail) in
+    let n_is : n ≡ length message + length tail = h.0 ∙ length-append message tail in
+    let len_is : len ≡ length message + length tail = law tail refl in
+    let is : new ≡ made = h.1 ∙ (ap (λ zs. made ++ zs) (drop_all n old (omega arith)) ∙ append-nil made) in
+    ap Some (sym (take_at new rest len (same ∙ size) ∙ is))
+
+pub whole-encrypted : {S E : Type 0} (step : S → Block → Block × S) (s : S) (B : ℕ) (padding : ℕ → ℕ → Option (List ℕ)) (message : List ℕ) (o : Option (List ℕ)) (new rest old : List ℕ) (len : ℕ) (r : Result ℕ E) → (IsOk r → padded padding B message ≡ o)
+    → ((tail : List ℕ) → padding B (length message) ≡ Some tail → len ≡ length message + length tail) → length old ≡ len → length new ≡ length old → IfOk r (λ n. IsEncrypted step s B o n old new)
+    → OnOk r (option_map (bytes_run step s B) (padded padding B message) ≡ Some (take len (new ++ rest)))
+whole-encrypted step s B padding message o new rest old len (Ok n) same law size kept h =
+    all-encrypted step s B (padding B (length message)) message new rest old n len law size kept (subst (λ q. IsEncrypted step s B q n old new) (sym (same refl)) h)
+whole-encrypted step s B padding message o new rest old len (Err e) same law size kept h = tt
 
 -- a message that is read is the input
 pub message-read : (message old : List ℕ) → length message ≤ length old → pick message (take (length message) old) ≡ message

@@ -1,6 +1,6 @@
 -- The outputs of a mode and the state after them.
 use Rattle.std.proofs.Common.{◌≡◌, ℕ, suc, ◌+◌, ◌-◌, ◌<◌, ◌≤◌, List, [], ◌∷◌, ◌++◌, take, drop, set, get_or, length, ap, sym, ◌∙◌, refl, arith}
-use Rattle.std.proofs.lemmas.List.{take_more, take-append-drop}
+use Rattle.std.proofs.lemmas.List.{take_more, take-append-drop, take_all, drop_all, append-nil}
 use Rattle.std.proofs.Math.Seq.{take-add}
 use Rattle.std.specs.Borrow.{Bor}
 use Rattle.cipher.specs.Buffers.{pick, part_of}
@@ -93,3 +93,21 @@ place-next step s t t' i j old cur p y d a h same e te pe made stepped =
 pub width-next : {S : Type 0} (step : S → Block → Block × S) (lanes : S → ℕ) → ((s : S) (x : Block) → lanes (step s x).1 ≡ lanes s) → (t t' : S) (xs : List Block) (width : ℕ)
     → t' ≡ state_after step t xs → lanes t ≡ width → lanes t' ≡ width
 width-next step lanes same t t' xs width e w = ap lanes e ∙ (width-kept step lanes same t xs ∙ w)
+
+-- .. after its last place
+pub outputs-all : {S : Type 0} (step : S → Block → Block × S) (s : S) (i old cur : List Block) (a : ℕ) → length old ≤ a
+    → cur ≡ run_of step s (take a (pick i old)) ++ drop a old → cur ≡ run_of step s (pick i old)
+outputs-all step s i old cur a end e =
+    let xs : List Block = pick i old in
+    let size : length xs ≡ length old = length-pick i old in
+    e ∙ (ap (λ zs. run_of step s (take a xs) ++ zs) (drop_all a old end) ∙ (append-nil (run_of step s (take a xs)) ∙ ap (run_of step s) (take_all a xs (omega arith))))
+
+pub state-all : {S : Type 0} (step : S → Block → Block × S) (s t : S) (i old : List Block) (a : ℕ) → length old ≤ a → t ≡ state_after step s (take a (pick i old)) → t ≡ state_after step s (pick i old)
+state-all step s t i old a end e = let size : length (pick i old) ≡ length old = length-pick i old in e ∙ ap (state_after step s) (take_all a (pick i old) (omega arith))
+
+-- .. in a loop over parts
+pub nearer : (n at width : ℕ) → 1 ≤ width → width ≤ n - at → n - (at + width) < n - at
+nearer n at width some least = omega arith
+
+pub none_before : (xs : List Block) → 0 ≤ length xs
+none_before xs = omega arith

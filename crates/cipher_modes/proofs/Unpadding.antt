@@ -1,6 +1,7 @@
 -- What the tests of PKCS #7 tell.
-use Rattle.std.proofs.Common.{◌≡◌, ℕ, ◌-◌, ◌+◌, ◌%◌, ◌≤◌, ◌<◌, ◌==◌, true, nat_lt, List, [], ◌∷◌, length, take, drop, get_or, Some, refl, eq-eqb, arith, ◌≢◌}
-use Rattle.std.proofs.lemmas.Bool.Decides.{nat_tests}
+use Rattle.std.proofs.Common.{◌≡◌, ℕ, ◌-◌, ◌+◌, ◌%◌, ◌≤◌, ◌<◌, ◌==◌, true, false, nat_lt, sym, ◌∙◌, inl, inr, List, [], ◌∷◌, length, take, drop, get_or, Some, None, refl, eq-eqb, length-take, arith, ◌≢◌}
+use Rattle.std.proofs.lemmas.Bool.Decides.{nat_tests, eqb_tells}
+use Rattle.std.proofs.Math.Nat.{mod-eq_of_lt}
 use Rattle.std.specs.List.{list_all}
 use Rattle.cipher_modes.specs.Paddings.{pkcs7_unpadded}
 
@@ -15,3 +16,14 @@ pkcs7-accepts B bytes count last whole some within alike =
 pub some_bytes : (bytes : List ℕ) → get_or bytes (length bytes - 1) 0 ≢ 0 → 0 < length bytes
 some_bytes [] h = absurd (h refl)
 some_bytes (x ∷ xs) h = omega arith
+
+pub pkcs7-none : (B : ℕ) (bytes : List ℕ) → 1 ≤ B → (length bytes == 0) ≡ true → pkcs7_unpadded B bytes ≡ None
+pkcs7-none B [] some h = let whole : 0 % B ≡ 0 = mod-eq_of_lt some in rw (eq-eqb (0 % B) 0 whole) refl
+pkcs7-none B (x ∷ xs) some h =
+    elim (eqb_tells (length (x ∷ xs)) 0) [
+      | inl e ↦ let no : length (x ∷ xs) ≡ 0 = e.1 in absurd (omega arith)
+      | inr e ↦ let no : false ≡ true = sym e.0 ∙ h in cc
+    ]
+
+pub cut_before : (bytes : List ℕ) (count : ℕ) → length bytes - count ≡ length (take (length bytes - count) bytes)
+cut_before bytes count = simp length-take (omega arith)

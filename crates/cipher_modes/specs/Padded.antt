@@ -1,7 +1,8 @@
 -- What a mode makes of bytes.
-use Rattle.std.specs.Prelude.{◌≡◌, ℕ, ◌/◌, ◌%◌, ◌==◌, ◌++◌, List, Option, None, Some, length, drop, option_map, if◌then◌else◌}
+use Rattle.std.specs.Prelude.{◌≡◌, ℕ, ◌/◌, ◌%◌, ◌==◌, ◌++◌, List, Option, None, Some, Result, Ok, Err, length, take, drop, option_map, if◌then◌else◌}
 use Rattle.std.specs.List.{concat}
 use Rattle.std.specs.Simd.{first_chunks}
+use Rattle.std.specs.Borrow.{Bor}
 use Rattle.cipher.specs.Transcript.{Block}
 use Rattle.cipher_modes.specs.Steps.{run_of}
 
@@ -35,3 +36,10 @@ left_by (Some bytes) old = bytes
 abbrev pub message_in : (ℕ → List ℕ → Option (List ℕ)) → ℕ → Option (List ℕ) → Option (List ℕ)
 message_in unpadded B None = None
 message_in unpadded B (Some bytes) = unpadded B bytes
+
+-- the answer is the beginning of these bytes that is as long as was made, or the refusal
+abbrev pub Begins : {E : Type 0} → List ℕ → Result ℕ E → Result (Bor (List ℕ)) E → Type 0
+Begins bytes (Ok n) (Ok front) = front.now ≡ take n bytes
+Begins bytes (Ok n) (Err e) = ⊥
+Begins bytes (Err e) (Ok front) = ⊥
+Begins bytes (Err e) (Err refusal) = refusal ≡ e

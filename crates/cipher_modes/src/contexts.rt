@@ -8,25 +8,8 @@ ghost use Rattle.cipher.specs.Contexts.{OneBlock, EachBlock};
 use crate::backends::{
     BlockModeDecBackend, BlockModeDecClosure, BlockModeEncBackend, BlockModeEncClosure,
 };
-use cipher::{BlockCtx, BlocksCtx, InOut, InOutBuf, part_of};
-
-// `width` blocks at a time, and then the rest
-macro_rules! in_parts {
-    ($output:ident, $input:ident, $backend:ident, $par:ident, $tail:ident) => {{
-        let width = $backend.width();
-        let n = $output.len();
-        let mut at = 0;
-        while n - at >= width {
-            $par(
-                &mut $output[at..at + width],
-                part_of($input, n, at, at + width),
-                $backend,
-            );
-            at += width;
-        }
-        $tail(&mut $output[at..], part_of($input, n, at, n), $backend);
-    }};
-}
+use crate::directions::{Decrypting, Encrypting, RunsLanes};
+use cipher::{BlockCtx, BlocksCtx, InOut, part_of};
 
 impl<const B: usize> BlockModeEncClosure<B> for BlockCtx<'_, '_, B> {
     ghost keeps = { λ a b. b.output.ghost_name ≡ a.output.ghost_name };
@@ -44,43 +27,8 @@ impl<const B: usize> BlockModeEncClosure<B> for BlocksCtx<'_, '_, B> {
     ghost leads = { EachBlock };
 
     fn call<K: BlockModeEncBackend<B>>(&mut self, backend: &mut K) {
-        encrypt_in_parts(&mut *self.output, self.input, backend);
+        run_in_parts::<Encrypting, K, B>(&mut *self.output, self.input, backend);
     }
-}
-
-fn encrypt_in_parts<const B: usize, K: BlockModeEncBackend<B>>(
-    output: &mut [[u8; B]],
-    input: &[[u8; B]],
-    backend: &mut K,
-)
-    ensures value { output.new ≡ run_of K.step backend.old (pick input.now output.old) }
-    ensures stepped { backend.new ≡ state_after K.step backend.old (pick input.now output.old) }
-{
-    in_parts!(output, input, backend, encrypt_par, encrypt_tail)
-}
-
-fn encrypt_par<const B: usize, K: BlockModeEncBackend<B>>(
-    output: &mut [[u8; B]],
-    input: &[[u8; B]],
-    backend: &mut K,
-)
-    requires { length output.old ≡ K.lanes backend.old }
-    ensures value { output.new ≡ run_of K.step backend.old (pick input.now output.old) }
-    ensures stepped { backend.new ≡ state_after K.step backend.old (pick input.now output.old) }
-{
-    backend.encrypt_par_blocks(&mut InOutBuf { output, input });
-}
-
-fn encrypt_tail<const B: usize, K: BlockModeEncBackend<B>>(
-    output: &mut [[u8; B]],
-    input: &[[u8; B]],
-    backend: &mut K,
-)
-    requires { length output.old < K.lanes backend.old }
-    ensures value { output.new ≡ run_of K.step backend.old (pick input.now output.old) }
-    ensures stepped { backend.new ≡ state_after K.step backend.old (pick input.now output.old) }
-{
-    backend.encrypt_tail_blocks(&mut InOutBuf { output, input });
 }
 
 fn encrypt_one<const B: usize, K: BlockModeEncBackend<B>>(
@@ -110,43 +58,8 @@ impl<const B: usize> BlockModeDecClosure<B> for BlocksCtx<'_, '_, B> {
     ghost leads = { EachBlock };
 
     fn call<K: BlockModeDecBackend<B>>(&mut self, backend: &mut K) {
-        decrypt_in_parts(&mut *self.output, self.input, backend);
+        run_in_parts::<Decrypting, K, B>(&mut *self.output, self.input, backend);
     }
-}
-
-fn decrypt_in_parts<const B: usize, K: BlockModeDecBackend<B>>(
-    output: &mut [[u8; B]],
-    input: &[[u8; B]],
-    backend: &mut K,
-)
-    ensures value { output.new ≡ run_of K.step backend.old (pick input.now output.old) }
-    ensures stepped { backend.new ≡ state_after K.step backend.old (pick input.now output.old) }
-{
-    in_parts!(output, input, backend, decrypt_par, decrypt_tail)
-}
-
-fn decrypt_par<const B: usize, K: BlockModeDecBackend<B>>(
-    output: &mut [[u8; B]],
-    input: &[[u8; B]],
-    backend: &mut K,
-)
-    requires { length output.old ≡ K.lanes backend.old }
-    ensures value { output.new ≡ run_of K.step backend.old (pick input.now output.old) }
-    ensures stepped { backend.new ≡ state_after K.step backend.old (pick input.now output.old) }
-{
-    backend.decrypt_par_blocks(&mut InOutBuf { output, input });
-}
-
-fn decrypt_tail<const B: usize, K: BlockModeDecBackend<B>>(
-    output: &mut [[u8; B]],
-    input: &[[u8; B]],
-    backend: &mut K,
-)
-    requires { length output.old < K.lanes backend.old }
-    ensures value { output.new ≡ run_of K.step backend.old (pick input.now output.old) }
-    ensures stepped { backend.new ≡ state_after K.step backend.old (pick input.now output.old) }
-{
-    backend.decrypt_tail_blocks(&mut InOutBuf { output, input });
 }
 
 fn decrypt_one<const B: usize, K: BlockModeDecBackend<B>>(
@@ -158,4 +71,26 @@ fn decrypt_one<const B: usize, K: BlockModeDecBackend<B>>(
     ensures stepped { backend.new ≡ (K.step backend.old (slice_index_or input.now 0 output.old)).1 }
 {
     backend.decrypt_block(&mut InOut { output, input });
+}
+
+// `width` blocks at a time, and then the rest
+fn run_in_parts<D, K: RunsLanes<D, B>, const B: usize>(
+    output: &mut [[u8; B]],
+    input: &[[u8; B]],
+    backend: &mut K,
+)
+    ensures value { output.new ≡ run_of K.step backend.old (pick input.now output.old) }
+    ensures stepped { backend.new ≡ state_after K.step backend.old (pick input.now output.old) }
+{
+    let width = backend.lane_count();
+    let n = output.len();
+    let mut at = 0;
+    while n - at >= width {
+        backend.run_lanes(
+            &mut output[at..at + width],
+            part_of(input, n, at, at + width),
+        );
+        at += width;
+    }
+    backend.run_tail(&mut output[at..], part_of(input, n, at, n));
 }

@@ -10,7 +10,8 @@ ghost use Rattle.cipher_modes.specs.PaddedVec.{TellsPad, TellsUnpad};
 
 use crate::backends::{BlockModeDecClosure, BlockModeEncClosure};
 use crate::padded::{
-    PaddedVecError, decrypt_front, decrypt_message, decrypt_vec, encrypt_message, encrypt_vec,
+    PaddedVecError, begun, decrypt_front, decrypt_message, decrypt_vec, encrypt_message,
+    encrypt_vec,
 };
 use crate::padding::{PadError, Padding, UnpadError};
 use cipher::{BlockCtx, BlocksCtx, InOut, InOutBuf, InOutBufReserved, NotEqualError};
@@ -139,10 +140,8 @@ pub trait BlockModeEncrypt<const B: usize>: Sized + Drop {
             enciphered step self B (padded P.padding B (message_of bytes.entry)) ≡ Some made.now) }
     {
         let InOutBufReserved { output, input, len } = bytes;
-        match encrypt_message::<P, Self, B>(&mut self, &mut *output, input, len) {
-            Ok(n) => Ok(&output[..n]),
-            Err(error) => Err(error),
-        }
+        let made = encrypt_message::<P, Self, B>(&mut self, &mut *output, input, len);
+        begun(output, made)
     }
 
     /// Like `encrypt_padded_inout` of the message that is the first `len` bytes of a buffer.
@@ -155,10 +154,8 @@ pub trait BlockModeEncrypt<const B: usize>: Sized + Drop {
         ensures value { IfOk result (λ made.
             enciphered step self B (padded P.padding B (take len buffer.old)) ≡ Some made.now) }
     {
-        match encrypt_message::<P, Self, B>(&mut self, &mut *buffer, &[], len) {
-            Ok(n) => Ok(&buffer[..n]),
-            Err(error) => Err(error),
-        }
+        let made = encrypt_message::<P, Self, B>(&mut self, &mut *buffer, &[], len);
+        begun(buffer, made)
     }
 
     /// Like `encrypt_padded_inout` of a message and another buffer.
@@ -171,10 +168,8 @@ pub trait BlockModeEncrypt<const B: usize>: Sized + Drop {
         ensures value { IfOk result (λ made.
             enciphered step self B (padded P.padding B message.now) ≡ Some made.now) }
     {
-        match encrypt_message::<P, Self, B>(&mut self, &mut *output, message, message.len()) {
-            Ok(n) => Ok(&output[..n]),
-            Err(error) => Err(error),
-        }
+        let made = encrypt_message::<P, Self, B>(&mut self, &mut *output, message, message.len());
+        begun(output, made)
     }
 
     /// Pads a message and encrypts it in a vector. `Pad` comes only where the message cannot be padded, and `Unpad`
@@ -303,10 +298,8 @@ pub trait BlockModeDecrypt<const B: usize>: Sized + Drop {
             (λ _. message_in P.unpadded B (deciphered step self B (read_all bytes.entry)) ≡ None) }
     {
         let InOutBuf { output, input } = bytes;
-        match decrypt_message::<P, Self, B>(&mut self, &mut *output, input) {
-            Ok(n) => Ok(&output[..n]),
-            Err(error) => Err(error),
-        }
+        let made = decrypt_message::<P, Self, B>(&mut self, &mut *output, input);
+        begun(output, made)
     }
 
     /// Like `decrypt_padded_inout` of a buffer in its place.
@@ -315,10 +308,8 @@ pub trait BlockModeDecrypt<const B: usize>: Sized + Drop {
             (λ message. message_in P.unpadded B (deciphered step self B buffer.old) ≡ Some message.now)
             (λ _. message_in P.unpadded B (deciphered step self B buffer.old) ≡ None) }
     {
-        match decrypt_message::<P, Self, B>(&mut self, &mut *buffer, &[]) {
-            Ok(n) => Ok(&buffer[..n]),
-            Err(error) => Err(error),
-        }
+        let made = decrypt_message::<P, Self, B>(&mut self, &mut *buffer, &[]);
+        begun(buffer, made)
     }
 
     /// Decrypts bytes in a prefix of another buffer, and answers the length of the message. It is refused as
@@ -357,10 +348,8 @@ pub trait BlockModeDecrypt<const B: usize>: Sized + Drop {
         if output.len() < input.len() {
             return Err(UnpadError);
         }
-        match decrypt_front::<P, Self, B>(&mut self, &mut *output, input) {
-            Ok(n) => Ok(&output[..n]),
-            Err(error) => Err(error),
-        }
+        let made = decrypt_front::<P, Self, B>(&mut self, &mut *output, input);
+        begun(output, made)
     }
 
     /// Decrypts bytes in a vector. `Unpad` comes only where they aren't whole blocks or the padding is malformed, and

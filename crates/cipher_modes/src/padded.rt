@@ -5,7 +5,7 @@ ghost use Rattle.std.specs.Prelude.{vec_len, IfErr};
 ghost use Rattle.cipher.specs.Buffers.{pick};
 ghost use Rattle.cipher_modes.specs.Steps.{run_of, state_after};
 ghost use Rattle.cipher_modes.specs.Paddings.{Fits, IsPadded, padded};
-ghost use Rattle.cipher_modes.specs.Padded.{blocks_of, bytes_run, enciphered, IsEncrypted, deciphered, left_by, message_in};
+ghost use Rattle.cipher_modes.specs.Padded.{Begins, blocks_of, bytes_run, enciphered, IsEncrypted, deciphered, left_by, message_in};
 ghost use Rattle.cipher_modes.specs.PaddedVec.{TellsPad, TellsUnpad};
 
 use crate::directions::{Decrypting, Encrypting, Runs};
@@ -21,6 +21,7 @@ pub(crate) fn encrypt_message<P: Padding, M: BlockModeEncrypt<B>, const B: usize
     len: usize,
 ) -> Result<usize, PadError>
     ensures ok { IsOk result ↔ Fits (P.padding B len) len (length output.old) }
+    ensures within { IfOk result (λ n. n ≤ length output.new) }
     ensures value { IfOk result (λ n. IsEncrypted M.step mode.old B
         (padded P.padding B (pick input.now (take len output.old))) n output.old output.new) }
     ensures err { OnErr result (output.new ≡ output.old) }
@@ -50,17 +51,17 @@ fn pad_input<P: Padding>(
         Ok(n) => n,
         Err(error) => return Err(error),
     };
-    if input.len() == len {
-        copy_front(output, input);
-    }
+    load(&mut output[..len], input);
     Ok(n)
 }
 
-fn copy_front(output: &mut [u8], input: &[u8])
-    requires { length input.now ≤ length output.old }
-    ensures value { output.new ≡ input.now ++ drop (length input.now) output.old }
+// an input of the output's length, or the output as it is
+fn load(output: &mut [u8], input: &[u8])
+    ensures value { output.new ≡ pick input.now output.old }
 {
-    output[..input.len()].copy_from_slice(input);
+    if input.len() == output.len() {
+        output.copy_from_slice(input);
+    }
 }
 
 fn encrypt_front<M: BlockModeEncrypt<B>, const B: usize>(mode: &mut M, output: &mut [u8], n: usize)
@@ -109,12 +110,21 @@ pub(crate) fn decrypt_message<P: Padding, M: BlockModeDecrypt<B>, const B: usize
     if output.len() % B != 0 {
         return Err(UnpadError);
     }
-    if input.len() == output.len() {
-        output.copy_from_slice(input);
-    }
+    load(output, input);
     run_bytes::<Decrypting, M, B>(mode, output);
     match P::unpad(output, B) {
         Ok(message) => Ok(message.len()),
+        Err(error) => Err(error),
+    }
+}
+
+// the first bytes of an output, as many as were made
+pub(crate) fn begun<E: Drop>(output: &[u8], made: Result<usize, E>) -> Result<&[u8], E>
+    requires { IfOk made (λ n. n ≤ length output.now) }
+    ensures { Begins output.now made result }
+{
+    match made {
+        Ok(n) => Ok(&output[..n]),
         Err(error) => Err(error),
     }
 }

@@ -235,9 +235,7 @@ fn fill_behind(buffer: &mut [u8], len: usize, count: usize, value: u8) -> Result
 fn fill_bytes(bytes: &mut [u8], value: u8)
     ensures value { bytes.new ≡ replicate (length bytes.old) value }
 {
-    for i in 0..bytes.len() {
-        bytes[i] = value;
-    }
+    bytes.fill(value);
 }
 
 // where the zeros begin that end the bytes from the front on
