@@ -6,4 +6,3 @@ pub mod BytesRun
 pub mod MessageLemmas
 mod SinglyLemmas
 mod BegunLemmas
-mod FaultLemmas

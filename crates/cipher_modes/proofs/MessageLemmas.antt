@@ -93,6 +93,9 @@ encrypted-prefix step s B (Some message) wanted n old new same size h =
 pub cut_length : (n : ℕ) (xs : List ℕ) → n ≤ length xs → length (take n xs) ≡ n
 cut_length n xs h = simp length-take (omega arith)
 
+pub joined_length : (n : ℕ) (xs ys : List ℕ) → n ≤ length ys → length xs ≡ length (take n ys) → length (xs ++ drop n ys) ≡ length ys
+joined_length n xs ys h e = let front : length (take n ys) ≡ n = cut_length n ys h in simp (length-append, length-drop) (omega arith)
+
 -- an output of the padded length is all encrypted
 all-encrypted : {S : Type 0} (step : S → Block → Block × S) (s : S) (B : ℕ) (p : Option (List ℕ)) (message new rest old : List ℕ) (n len : ℕ) → ((tail : List ℕ) → p ≡ Some tail → len ≡ length message + length tail)
     → length old ≡ len → length new ≡ length old → IsEncrypted step s B (option_map (λ tail. message ++ tail) p) n old new → option_map (bytes_run step s B) (option_map (λ tail. message ++ tail) p) ≡ Some (take len (new ++ rest))

@@ -13,6 +13,14 @@ pkcs7-accepts B bytes count last whole some within alike =
     let is_within : nat_lt count (B + 1) ≡ true = grind (arith, nat_tests) in
     rw (← last, is_whole, is_some, is_within, alike) refl
 
+pub pkcs7-refuses : (B : ℕ) (bytes : List ℕ) (count : ℕ) → count ≡ get_or bytes (length bytes - 1) 0 → length bytes % B ≡ 0 → count ≢ 0 → count ≤ B
+    → list_all (λ x. x == count) (drop (length bytes - count) bytes) ≡ false → pkcs7_unpadded B bytes ≡ None
+pkcs7-refuses B bytes count last whole some within alike =
+    let is_whole : (length bytes % B == 0) ≡ true = eq-eqb (length bytes % B) 0 whole in
+    let is_some : nat_lt 0 count ≡ true = grind (arith, nat_tests) in
+    let is_within : nat_lt count (B + 1) ≡ true = grind (arith, nat_tests) in
+    rw (← last, is_whole, is_some, is_within, alike) refl
+
 pub some_bytes : (bytes : List ℕ) → get_or bytes (length bytes - 1) 0 ≢ 0 → 0 < length bytes
 some_bytes [] h = absurd (h refl)
 some_bytes (x ∷ xs) h = omega arith

@@ -17,7 +17,10 @@ impl<const B: usize> BlockModeEncClosure<B> for BlockCtx<'_, '_, B> {
     ghost leads = { OneBlock };
 
     fn call<K: BlockModeEncBackend<B>>(&mut self, backend: &mut K) {
-        encrypt_one(&mut *self.output, self.input, backend);
+        backend.encrypt_block(&mut InOut {
+            output: &mut *self.output,
+            input: self.input,
+        });
     }
 }
 
@@ -27,19 +30,9 @@ impl<const B: usize> BlockModeEncClosure<B> for BlocksCtx<'_, '_, B> {
     ghost leads = { EachBlock };
 
     fn call<K: BlockModeEncBackend<B>>(&mut self, backend: &mut K) {
-        run_in_parts::<Encrypting, K, B>(&mut *self.output, self.input, backend);
+        let width = backend.width();
+        run_in_parts::<Encrypting, K, B>(&mut *self.output, self.input, backend, width);
     }
-}
-
-fn encrypt_one<const B: usize, K: BlockModeEncBackend<B>>(
-    output: &mut [u8; B],
-    input: &[[u8; B]],
-    backend: &mut K,
-)
-    ensures value { output.new ≡ (K.step backend.old (slice_index_or input.now 0 output.old)).0 }
-    ensures stepped { backend.new ≡ (K.step backend.old (slice_index_or input.now 0 output.old)).1 }
-{
-    backend.encrypt_block(&mut InOut { output, input });
 }
 
 impl<const B: usize> BlockModeDecClosure<B> for BlockCtx<'_, '_, B> {
@@ -48,7 +41,10 @@ impl<const B: usize> BlockModeDecClosure<B> for BlockCtx<'_, '_, B> {
     ghost leads = { OneBlock };
 
     fn call<K: BlockModeDecBackend<B>>(&mut self, backend: &mut K) {
-        decrypt_one(&mut *self.output, self.input, backend);
+        backend.decrypt_block(&mut InOut {
+            output: &mut *self.output,
+            input: self.input,
+        });
     }
 }
 
@@ -58,19 +54,9 @@ impl<const B: usize> BlockModeDecClosure<B> for BlocksCtx<'_, '_, B> {
     ghost leads = { EachBlock };
 
     fn call<K: BlockModeDecBackend<B>>(&mut self, backend: &mut K) {
-        run_in_parts::<Decrypting, K, B>(&mut *self.output, self.input, backend);
+        let width = backend.width();
+        run_in_parts::<Decrypting, K, B>(&mut *self.output, self.input, backend, width);
     }
-}
-
-fn decrypt_one<const B: usize, K: BlockModeDecBackend<B>>(
-    output: &mut [u8; B],
-    input: &[[u8; B]],
-    backend: &mut K,
-)
-    ensures value { output.new ≡ (K.step backend.old (slice_index_or input.now 0 output.old)).0 }
-    ensures stepped { backend.new ≡ (K.step backend.old (slice_index_or input.now 0 output.old)).1 }
-{
-    backend.decrypt_block(&mut InOut { output, input });
 }
 
 // `width` blocks at a time, and then the rest
@@ -78,11 +64,13 @@ fn run_in_parts<D, K: RunsLanes<D, B>, const B: usize>(
     output: &mut [[u8; B]],
     input: &[[u8; B]],
     backend: &mut K,
+    width: usize,
 )
+    requires at_a_time { width ≡ K.lanes backend.old }
+    requires some { 1 ≤ width }
     ensures value { output.new ≡ run_of K.step backend.old (pick input.now output.old) }
     ensures stepped { backend.new ≡ state_after K.step backend.old (pick input.now output.old) }
 {
-    let width = backend.lane_count();
     let n = output.len();
     let mut at = 0;
     while n - at >= width {

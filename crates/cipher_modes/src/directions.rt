@@ -74,10 +74,6 @@ pub(crate) trait RunsLanes<D, const B: usize> {
     // how many blocks it runs at a time
     ghost lanes: { Self → ℕ };
 
-    fn lane_count(&self) -> usize
-        ensures value { result ≡ lanes self.now }
-        ensures positive { 1 ≤ result };
-
     fn run_lanes(&mut self, output: &mut [[u8; B]], input: &[[u8; B]])
         requires { length output.old ≡ lanes self.old }
         ensures value { output.new ≡ run_of step self.old (pick input.now output.old) }
@@ -99,10 +95,6 @@ impl<K: BlockModeEncBackend<B>, const B: usize> RunsLanes<Encrypting, B> for K {
 
     ghost lanes = { K.lanes };
 
-    fn lane_count(&self) -> usize {
-        self.width()
-    }
-
     fn run_lanes(&mut self, output: &mut [[u8; B]], input: &[[u8; B]]) {
         self.encrypt_par_blocks(&mut InOutBuf { output, input });
     }
@@ -120,10 +112,6 @@ impl<K: BlockModeDecBackend<B>, const B: usize> RunsLanes<Decrypting, B> for K {
     ghost step = { K.step };
 
     ghost lanes = { K.lanes };
-
-    fn lane_count(&self) -> usize {
-        self.width()
-    }
 
     fn run_lanes(&mut self, output: &mut [[u8; B]], input: &[[u8; B]]) {
         self.decrypt_par_blocks(&mut InOutBuf { output, input });

@@ -30,7 +30,7 @@ pub(crate) fn encrypt_message<P: Padding, M: BlockModeEncrypt<B>, const B: usize
         Ok(n) => n,
         Err(error) => return Err(error),
     };
-    encrypt_front(mode, output, n);
+    run_bytes::<Encrypting, M, B>(mode, &mut output[..n]);
     Ok(n)
 }
 
@@ -62,14 +62,6 @@ fn load(output: &mut [u8], input: &[u8])
     if input.len() == output.len() {
         output.copy_from_slice(input);
     }
-}
-
-fn encrypt_front<M: BlockModeEncrypt<B>, const B: usize>(mode: &mut M, output: &mut [u8], n: usize)
-    requires within { n ≤ length output.old }
-    requires whole { n % B ≡ 0 }
-    ensures value { output.new ≡ bytes_run M.step mode.old B (take n output.old) ++ drop n output.old }
-{
-    run_bytes::<Encrypting, M, B>(mode, &mut output[..n]);
 }
 
 // block by block

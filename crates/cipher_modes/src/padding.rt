@@ -196,7 +196,7 @@ impl Padding for Pkcs7 {
             return Err(UnpadError);
         }
         let end = bytes.len() - count as usize;
-        let alike = ends_alike(bytes, end, count);
+        let alike = all_are(&bytes[end..], count);
         if !alike {
             return Err(UnpadError);
         }
@@ -251,14 +251,7 @@ fn end_of_text(bytes: &[u8], front: usize) -> usize
     end
 }
 
-// whether each byte from a place on has this value
-fn ends_alike(bytes: &[u8], at: usize, value: u8) -> bool
-    requires { at ≤ length bytes.now }
-    ensures value { result ≡ list_all (λ x. x == value) (drop at bytes.now) }
-{
-    all_are(&bytes[at..], value)
-}
-
+// whether each byte has this value
 fn all_are(bytes: &[u8], value: u8) -> bool
     ensures value { result ≡ list_all (λ x. x == value) bytes.now }
 {

@@ -175,10 +175,12 @@ fn parts_alike<D, M: Runs<D, B>, const B: usize>(mode: &mut M, other: &mut M, by
     requires { mode.old ≡ other.old }
     ensures value { IsTrue result }
 {
-    for part in bytes.chunks(8 * B) {
-        if !eight_alike::<D, M, B>(mode, other, &mut loaded(part)) {
+    let mut at = 0;
+    while at < bytes.len() {
+        if !eight_alike::<D, M, B>(mode, other, &mut loaded(&bytes[at..])) {
             return false;
         }
+        at += 8 * B;
     }
     true
 }

@@ -1,5 +1,8 @@
-use Rattle.std.proofs.Common.{◌≡◌}
+use Rattle.std.proofs.Common.{◌≡◌, ◌-◌, length}
 use Rattle.cipher_modes.proofs.dev.block_mode.parts_alike.Given as goal
 
-abbrev pub invariant-loop-part : goal.invariant-loop-part
-invariant-loop-part g l = l.mode ≡ l.other
+abbrev pub invariant-loop-at : goal.invariant-loop-at
+invariant-loop-at g l = l.mode ≡ l.other
+
+abbrev pub decreases-loop-at : goal.decreases-loop-at
+decreases-loop-at g l = length l.bytes - l.at
