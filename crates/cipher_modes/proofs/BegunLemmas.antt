@@ -1,8 +1,9 @@
 -- An answer that begins an output says what was made there.
-use Rattle.std.proofs.Common.{◌≡◌, ℕ, ◌≤◌, List, Option, None, Some, length, take, ap, sym, ◌∙◌, ◌%◌, refl, eq-eqb, le_trans}
+use Rattle.std.proofs.Common.{◌≡◌, ℕ, ◌≤◌, List, Option, None, Some, length, take, ap, sym, ◌∙◌, ◌%◌, refl, eq-eqb, le_trans, le_of_eq, ◌<◌, inl, inr}
+use Rattle.std.proofs.lemmas.Bool.{cases_lt, false≢true}
 use Rattle.cipher.specs.Buffers.{pick}
 use Rattle.cipher.proofs.Parts.{length-pick}
-use Rattle.std.specs.Prelude.{option_map, Result, Ok, Err, IsOk, IfOk, MatchResult, ◌↔◌}
+use Rattle.std.specs.Prelude.{option_map, Result, Ok, Err, IsOk, IsErr, IfOk, MatchResult, ◌↔◌}
 use Rattle.std.specs.Borrow.{Bor}
 use Rattle.cipher.specs.Transcript.{Block}
 use Rattle.cipher_modes.specs.Padded.{bytes_run, Begins, IsEncrypted, deciphered, left_by, message_in}
@@ -34,6 +35,22 @@ pub message-within : {E : Type 0} (message : Option (List ℕ)) (bytes : List �
     → MatchResult made (λ n. (n ≤ k) × (message ≡ Some (take n bytes))) (λ _. message ≡ None) → k ≤ m → IfOk made (λ n. n ≤ m)
 message-within message bytes k m (Ok n) h order = le_trans h.0 order
 message-within message bytes k m (Err e) h order = tt
+
+pub begun-err : {E : Type 0} (bytes : List ℕ) (made : Result ℕ E) (r : Result (Bor (List ℕ)) E) → Begins bytes made r → IsErr made → IsErr r
+begun-err bytes (Ok n) (Ok x) b h = h
+begun-err bytes (Ok n) (Err e) b h = absurd b
+begun-err bytes (Err e) (Ok x) b h = absurd b
+begun-err bytes (Err e) (Err f) b h = h
+
+err-within : {E : Type 0} (made : Result ℕ E) (m : ℕ) → IsErr made → IfOk made (λ n. n ≤ m)
+err-within (Ok n) m h = absurd (false≢true h)
+err-within (Err e) m h = tt
+
+-- where the message is told only where the output has room
+pub told-within : {E : Type 0} (message : Option (List ℕ)) (bytes : List ℕ) (k old m : ℕ) (made : Result ℕ E) → m ≡ old → (old < k → IsErr made)
+    → (k ≤ old → MatchResult made (λ n. (n ≤ k) × (message ≡ Some (take n bytes))) (λ _. message ≡ None)) → IfOk made (λ n. n ≤ m)
+told-within message bytes k old m made same short told =
+    elim (cases_lt old k) [ inl less ↦ err-within made m (short less) | inr room ↦ message-within message bytes k m made (told room) (le_trans room (le_of_eq (sym same))) ]
 
 -- in a longer output that begins alike
 pub message-behind : {E : Type 0} (wanted message : Option (List ℕ)) (k m : ℕ) (bytes longer : List ℕ) (made : Result ℕ E) → wanted ≡ message → k ≤ m → ((n : ℕ) → n ≤ k → take n longer ≡ take n bytes)

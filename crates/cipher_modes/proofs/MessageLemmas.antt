@@ -1,8 +1,8 @@
 -- A message with its padding as a prefix of a buffer.
-use Rattle.std.proofs.Common.{◌≡◌, ℕ, ◌+◌, ◌-◌, ◌%◌, ◌≤◌, true, false, List, ◌++◌, Option, None, Some, length, take, drop, ap, subst, sym, ◌∙◌, refl, arith, append_assoc, length-append, length-take, length-drop, inl, inr}
+use Rattle.std.proofs.Common.{◌≡◌, ℕ, ◌+◌, ◌-◌, ◌%◌, ◌≤◌, true, false, List, ◌++◌, Option, None, Some, length, take, drop, ap, sym, ◌∙◌, refl, arith, append_assoc, length-append, length-take, length-drop, inl, inr}
 use Rattle.std.proofs.lemmas.Bool.{cases_lt}
 use Rattle.std.proofs.lemmas.List.{take_at, take_all, drop_at, drop_all, drop-drop, append-nil}
-use Rattle.std.specs.Prelude.{option_map, Result, Ok, Err, IsOk, IfOk, OnOk, OnErr, ◌↔◌}
+use Rattle.std.specs.Prelude.{option_map, Result, Ok, Err, IsOk, OnErr, ◌↔◌}
 use Rattle.cipher.specs.Buffers.{pick}
 use Rattle.cipher.specs.Transcript.{Block}
 use Rattle.cipher.proofs.Parts.{pick-same, length-pick}
@@ -97,7 +97,7 @@ pub joined_length : (n : ℕ) (xs ys : List ℕ) → n ≤ length ys → length 
 joined_length n xs ys h e = let front : length (take n ys) ≡ n = cut_length n ys h in simp (length-append, length-drop) (omega arith)
 
 -- an output of the padded length is all encrypted
-all-encrypted : {S : Type 0} (step : S → Block → Block × S) (s : S) (B : ℕ) (p : Option (List ℕ)) (message new rest old : List ℕ) (n len : ℕ) → ((tail : List ℕ) → p ≡ Some tail → len ≡ length message + length tail)
+pub all-encrypted : {S : Type 0} (step : S → Block → Block × S) (s : S) (B : ℕ) (p : Option (List ℕ)) (message new rest old : List ℕ) (n len : ℕ) → ((tail : List ℕ) → p ≡ Some tail → len ≡ length message + length tail)
     → length old ≡ len → length new ≡ length old → IsEncrypted step s B (option_map (λ tail. message ++ tail) p) n old new → option_map (bytes_run step s B) (option_map (λ tail. message ++ tail) p) ≡ Some (take len (new ++ rest))
 all-encrypted step s B None message new rest old n len law size same h = absurd h
 all-encrypted step s B (Some tail) message new rest old n len law size same h =
@@ -106,13 +106,6 @@ all-encrypted step s B (Some tail) message new rest old n len law size same h =
     let len_is : len ≡ length message + length tail = law tail refl in
     let is : new ≡ made = h.1 ∙ (ap (λ zs. made ++ zs) (drop_all n old (omega arith)) ∙ append-nil made) in
     ap Some (sym (take_at new rest len (same ∙ size) ∙ is))
-
-pub whole-encrypted : {S E : Type 0} (step : S → Block → Block × S) (s : S) (B : ℕ) (padding : ℕ → ℕ → Option (List ℕ)) (message : List ℕ) (o : Option (List ℕ)) (new rest old : List ℕ) (len : ℕ) (r : Result ℕ E) → (IsOk r → padded padding B message ≡ o)
-    → ((tail : List ℕ) → padding B (length message) ≡ Some tail → len ≡ length message + length tail) → length old ≡ len → length new ≡ length old → IfOk r (λ n. IsEncrypted step s B o n old new)
-    → OnOk r (option_map (bytes_run step s B) (padded padding B message) ≡ Some (take len (new ++ rest)))
-whole-encrypted step s B padding message o new rest old len (Ok n) same law size kept h =
-    all-encrypted step s B (padding B (length message)) message new rest old n len law size kept (subst (λ q. IsEncrypted step s B q n old new) (sym (same refl)) h)
-whole-encrypted step s B padding message o new rest old len (Err e) same law size kept h = tt
 
 -- a message that is read is the input
 pub message-read : (message old : List ℕ) → length message ≤ length old → pick message (take (length message) old) ≡ message

@@ -336,7 +336,7 @@ pub trait BlockModeDecrypt<const B: usize>: Sized + Drop {
 
     /// The answer of `decrypt_padded_b2b_len`, with the message in place of its length.
     final fn decrypt_padded_b2b<'out, P: Padding>(
-        mut self,
+        self,
         input: &[u8],
         output: &'out mut [u8],
     ) -> Result<&'out [u8], UnpadError>
@@ -345,10 +345,7 @@ pub trait BlockModeDecrypt<const B: usize>: Sized + Drop {
             (λ message. message_in P.unpadded B (deciphered step self B input.now) ≡ Some message.now)
             (λ _. message_in P.unpadded B (deciphered step self B input.now) ≡ None) }
     {
-        if output.len() < input.len() {
-            return Err(UnpadError);
-        }
-        let made = decrypt_front::<P, Self, B>(&mut self, &mut *output, input);
+        let made = self.decrypt_padded_b2b_len::<P>(input, &mut *output);
         begun(output, made)
     }
 

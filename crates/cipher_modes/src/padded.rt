@@ -26,32 +26,12 @@ pub(crate) fn encrypt_message<P: Padding, M: BlockModeEncrypt<B>, const B: usize
         (padded P.padding B (pick input.now (take len output.old))) n output.old output.new) }
     ensures err { OnErr result (output.new ≡ output.old) }
 {
-    let n = match pad_input::<P>(output, input, len, B) {
-        Ok(n) => n,
-        Err(error) => return Err(error),
-    };
-    run_bytes::<Encrypting, M, B>(mode, &mut output[..n]);
-    Ok(n)
-}
-
-fn pad_input<P: Padding>(
-    output: &mut [u8],
-    input: &[u8],
-    len: usize,
-    block_size: usize,
-) -> Result<usize, PadError>
-    requires { (1 ≤ block_size) × (block_size < 256) }
-    ensures ok { IsOk result ↔ Fits (P.padding block_size len) len (length output.old) }
-    ensures room { OnOk result (len ≤ length output.old) }
-    ensures value { IfOk result (λ n. IsPadded (P.padding block_size len) len n
-        (pick input.now (take len output.old) ++ drop len output.old) output.new) }
-    ensures err { OnErr result (output.new ≡ output.old) }
-{
-    let n = match P::pad(output, len, block_size) {
+    let n = match P::pad(output, len, B) {
         Ok(n) => n,
         Err(error) => return Err(error),
     };
     load(&mut output[..len], input);
+    run_bytes::<Encrypting, M, B>(mode, &mut output[..n]);
     Ok(n)
 }
 
@@ -167,23 +147,10 @@ pub(crate) fn encrypt_vec<P: Padding, M: BlockModeEncrypt<B>, const B: usize>(
         Ok(output) => output,
         Err(error) => return Err(error),
     };
-    match encrypt_into::<P, M, B>(mode, &mut output, message) {
+    match encrypt_message::<P, M, B>(mode, &mut output, message, message.len()) {
         Ok(_) => Ok(output),
         Err(_) => Err(PaddedVecError::Pad),
     }
-}
-
-fn encrypt_into<P: Padding, M: BlockModeEncrypt<B>, const B: usize>(
-    mode: &mut M,
-    output: &mut Vec<u8>,
-    message: &[u8],
-) -> Result<usize, PadError>
-    requires { vec_len output.old ≡ P.padded_length B (length message.now) }
-    ensures none { OnErr result (padded P.padding B message.now ≡ None) }
-    ensures value { OnOk result
-        (enciphered M.step mode.old B (padded P.padding B message.now) ≡ Some output.new.items) }
-{
-    encrypt_message::<P, M, B>(mode, output, message, message.len())
 }
 
 fn zeros(alloc: Global, n: usize) -> Result<Vec<u8>, PaddedVecError>
@@ -209,25 +176,11 @@ pub(crate) fn decrypt_vec<P: Padding, M: BlockModeDecrypt<B>, const B: usize>(
         Ok(output) => output,
         Err(error) => return Err(error),
     };
-    match decrypt_into::<P, M, B>(mode, &mut output, ciphertext) {
+    match decrypt_message::<P, M, B>(mode, &mut output, ciphertext) {
         Ok(n) => {
             output.truncate(n);
             Ok(output)
         }
         Err(_) => Err(PaddedVecError::Unpad),
     }
-}
-
-fn decrypt_into<P: Padding, M: BlockModeDecrypt<B>, const B: usize>(
-    mode: &mut M,
-    output: &mut Vec<u8>,
-    ciphertext: &[u8],
-) -> Result<usize, UnpadError>
-    requires { vec_len output.old ≡ length ciphertext.now }
-    ensures told { MatchResult result
-        (λ n. (n ≤ vec_len output.new)
-        × (message_in P.unpadded B (deciphered M.step mode.old B ciphertext.now) ≡ Some (take n output.new.items)))
-        (λ _. message_in P.unpadded B (deciphered M.step mode.old B ciphertext.now) ≡ None) }
-{
-    decrypt_message::<P, M, B>(mode, output, ciphertext)
 }
