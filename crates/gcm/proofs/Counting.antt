@@ -1,9 +1,9 @@
 -- Counter blocks in either order.
-use Rattle.std.proofs.Common.{◌≡◌, ◌≤◌, ◌+◌, ◌-◌, ◌*◌, ℕ, List, ◌++◌, length, take, drop, ap, ap₂, sym, ◌∙◌, arith, append-nil}
+use Rattle.std.proofs.Common.{◌≡◌, ◌≤◌, ◌+◌, ◌-◌, ◌*◌, ◌%◌, ◌^◌, ℕ, List, [], ◌++◌, length, take, drop, ap, ap₂, sym, ◌∙◌, arith, append-nil}
 use Rattle.std.proofs.Math.ListN.{drop_of_length-le}
 use Rattle.std.proofs.lemmas.List.{drop_at, length-drop, length-take-le, take-append-drop, take_all}
-use Rattle.std.specs.Int.{w32}
-use Rattle.standards.specs.Counter.{ctr}
+use Rattle.std.specs.Int.{w32, from_be_bytes, to_be_bytes, byte_len}
+use Rattle.standards.specs.Counter.{ctr, plus_be}
 use Rattle.standards.proofs.CounterFacts.{ctr-append, length-plus_be, length-plus_le, plus_be-plus_be, plus_le-plus_le}
 use Rattle.gcm.specs.declared.order.ByteOrder.{ByteOrder}
 use Rattle.gcm.specs.declared.order.ByteOrder.TheVariants.{BigEndian, LittleEndian}
@@ -44,3 +44,16 @@ in_two E order block last bytes a b n m size long n_is within a_is last_is b_is 
     ∙ ap₂ (λ xs ys. xs ++ ys) a_is (b_is ∙ ap₂ (ctr E plus) last_is left)
     ∙ sym (ctr-append E plus block front rest m (front_long ∙ n_is) (λ i. size (plus block i) (length-counted order block i long)) (λ i. counted-counted order block m i long))
     ∙ ap (ctr E plus block) (take-append-drop n bytes)
+
+-- the four bytes that count, written over the last of a block: f is the number that they were
+pub last_counted : (block field count : List ℕ) (f i : ℕ) → length block ≡ 16 → field ≡ take 4 (drop 12 block) → f ≡ from_be_bytes w32 field
+    → count ≡ to_be_bytes w32 ((f + i % 4294967296) % 4294967296) → put_mid 12 4 block count ≡ plus_be w32 block i
+last_counted block field count f i size read f_is e =
+    let at : 12 ≡ length block - byte_len w32 = omega arith in
+    let four : length (drop 12 block) ≤ 4 = omega (arith, length-drop 12 block) in
+    let none : drop 4 (drop 12 block) ≡ [] = drop_of_length-le (drop 12 block) four in
+    let last : f ≡ from_be_bytes w32 (drop 12 block) = f_is ∙ ap (from_be_bytes w32) (read ∙ take_all 4 (drop 12 block) four) in
+    let sum : (f + i % 4294967296) % 4294967296 ≡ (f + i) % 4294967296 = omega arith in
+    let made : count ≡ to_be_bytes w32 ((from_be_bytes w32 (drop 12 block) + i) % 4294967296) = e ∙ ap (to_be_bytes w32) (sum ∙ ap (λ n. (n + i) % 4294967296) last) in
+    let whole : take 12 block ++ (count ++ drop 4 (drop 12 block)) ≡ take 12 block ++ count = ap (λ xs. take 12 block ++ (count ++ xs)) none ∙ ap (λ xs. take 12 block ++ xs) (append-nil count) in
+    whole ∙ (ap (λ xs. take 12 block ++ xs) made ∙ ap (λ n. take n block ++ to_be_bytes w32 ((from_be_bytes w32 (drop n block) + i) % 4294967296)) at)

@@ -27,11 +27,27 @@ fn absorb_part<C: BlockCipherEncrypt<16>>(
     ensures { result ≡ absorbed ByteOrder.LittleEndian key.now state
         (ctr (C.encrypts c.now) (counted ByteOrder.LittleEndian) block.now part.now) (length part.now) }
 {
-    let n = part.len();
     let mut text = [0u8; PART];
-    text[..n].copy_from_slice(part);
-    apply_keystream(c, ByteOrder::LittleEndian, block, &mut text[..n]);
-    absorb_padded(ByteOrder::LittleEndian, key, state, &text[..n])
+    absorb_in(&mut text[..part.len()], c, block, key, state, part)
+}
+
+// The same in a place of the part's length.
+fn absorb_in<C: BlockCipherEncrypt<16>>(
+    text: &mut [u8],
+    c: &C,
+    block: &[u8; 16],
+    key: &HashKey,
+    state: u128,
+    part: &[u8],
+) -> u128
+    requires place { length text.old ≡ length part.now }
+    requires part { length part.now ≤ 128 }
+    ensures { result ≡ absorbed ByteOrder.LittleEndian key.now state
+        (ctr (C.encrypts c.now) (counted ByteOrder.LittleEndian) block.now part.now) (length part.now) }
+{
+    text.copy_from_slice(part);
+    apply_keystream(c, ByteOrder::LittleEndian, block, text);
+    absorb_padded(ByteOrder::LittleEndian, key, state, text)
 }
 
 // The whole text after y, under the key.

@@ -1,3 +1,4 @@
+use Rattle.gcm.proofs.Parts.{cut_behind}
 use Rattle.std.proofs.Common.{◌≡◌, ◌-◌, true, length, take, drop, ap, refl, sym, ◌∙◌, arith}
 use Rattle.std.proofs.lemmas.List.{length-drop, take_all}
 use Rattle.standards.specs.Gcm.{gcm_tag, gcm_text}
@@ -34,3 +35,15 @@ returns g c =
     let all : take (length sealed - n) (drop n sealed) ≡ drop n sealed = take_all (length sealed - n) (drop n sealed) (omega (arith, length-drop n sealed)) in
     opened E c.args.nonce.now c.args.aad.now sealed c.apply_text.new.bytes n (c.apply_text.ensures ∙ ap (gcm_text E c.args.nonce.now) c.copy_from_slice.ensures.after)
     (sym c.tag_of-tag.ensures ∙ c.is_same.ensures.0 c.if-not-is_same.false ∙ all)
+
+pub copy_from_slice-requires : goal.copy_from_slice-requires
+copy_from_slice-requires g c = cut_behind c.args.out.now c.args.sealed.now c.requires.room
+
+pub slice_bounds-copy_from_slice-end : goal.slice_bounds-copy_from_slice-end
+slice_bounds-copy_from_slice-end g c = cut_behind c.args.out.now c.args.sealed.now c.requires.room
+
+pub slice_bounds-tag_of-end : goal.slice_bounds-tag_of-end
+slice_bounds-tag_of-end g c = cut_behind c.args.out.now c.args.sealed.now c.requires.room
+
+pub apply_text-requires-clause-nonce : goal.apply_text-requires-clause-nonce
+apply_text-requires-clause-nonce g c = c.requires.nonce

@@ -1,3 +1,4 @@
+use Rattle.gcm.proofs.Parts.{cut_behind}
 use Rattle.std.proofs.Common.{◌≡◌, ◌-◌, true, length, take, drop, ap, refl, sym, ◌∙◌, arith}
 use Rattle.std.proofs.lemmas.List.{length-drop, take_all}
 use Rattle.std.specs.Int.{w32}
@@ -50,3 +51,12 @@ returns g c =
     let front : c.apply_keystream.new.bytes ≡ ctr E (plus_le w32) c.counter_block-block.result (take n sealed) = c.apply_keystream.ensures ∙ ap (ctr E (plus_le w32) c.counter_block-block.result) c.copy_from_slice-2.ensures.after in
     opened E keys.authentication nonce aad sealed c.apply_keystream.new.bytes n (front ∙ ap (λ b. ctr E (plus_le w32) b (take n sealed)) block)
     (ap (λ s. tag_under E (polyval keys.authentication aad s) nonce) front ∙ ap (λ s. tag_under E s nonce) (sym (c.hashed_as_opened-sum.ensures ∙ polyval_of keys.authentication aad (ctr E (plus_le w32) c.counter_block-block.result (take n sealed)) keys.element keys.element_of)) ∙ sym c.tag_of.ensures ∙ c.is_same.ensures.0 c.if-not-is_same.false ∙ tag)
+
+pub copy_from_slice-requires-2 : goal.copy_from_slice-requires-2
+copy_from_slice-requires-2 g c = cut_behind c.args.out.now c.args.sealed.now c.requires.room
+
+pub slice_bounds-copy_from_slice-end-3 : goal.slice_bounds-copy_from_slice-end-3
+slice_bounds-copy_from_slice-end-3 g c = cut_behind c.args.out.now c.args.sealed.now c.requires.room
+
+pub slice_bounds-hashed_as_opened-end : goal.slice_bounds-hashed_as_opened-end
+slice_bounds-hashed_as_opened-end g c = cut_behind c.args.out.now c.args.sealed.now c.requires.room
