@@ -7,7 +7,7 @@ ghost use Rattle.cipher_stream.specs.Keystream.{xored};
 ghost use Rattle.gcm.specs.Orders.{counted};
 
 use crate::order::{ByteOrder, counted};
-use cipher::{BlockCipherEncrypt, InnerIvInit, xor_in_place};
+use cipher::{BlockCipherEncrypt, InnerIvInit};
 use cipher_stream::{StreamCipher, StreamCipherCore, StreamCipherCoreWrapper};
 use ctr::{CtrCore, flavors};
 
@@ -57,41 +57,8 @@ fn apply_counted<C: BlockCipherEncrypt<16>>(
     }
 }
 
-// A core's first block of the keystream.
-fn first_block<C: BlockCipherEncrypt<16>>(c: &C, order: ByteOrder, block: &[u8; 16]) -> [u8; 16]
-    ensures { result ≡ C.encrypts c.now (counted order block.now 0) }
-{
-    let mut stream = [0u8; 16];
-    match order {
-        ByteOrder::BigEndian => {
-            let mut core = CtrCore::<&C, flavors::Ctr32BE, 16>::inner_iv_init(c, block);
-            core.write_keystream_block(&mut stream);
-        }
-        ByteOrder::LittleEndian => {
-            let mut core = CtrCore::<&C, flavors::Ctr32LE, 16>::inner_iv_init(c, block);
-            core.write_keystream_block(&mut stream);
-        }
-    }
-    stream
-}
-
-// At most one block, by the call of the core that does not ask how many remain.
-fn apply_block<C: BlockCipherEncrypt<16>>(
-    c: &C,
-    order: ByteOrder,
-    block: &[u8; 16],
-    bytes: &mut [u8],
-)
-    requires { length bytes.old ≤ 16 }
-    ensures { bytes.new ≡ ctr (C.encrypts c.now) (counted order) block.now bytes.old }
-{
-    let stream = first_block(c, order, block);
-    let n = bytes.len();
-    xor_in_place(bytes, &stream[..n]);
-}
-
 // Adds the keystream that begins with the cipher's block of `block`. Where all 2^32 blocks are wanted, the last is had
-// from a core that begins there.
+// from a cipher that begins there.
 pub(crate) fn apply_keystream<C: BlockCipherEncrypt<16>>(
     c: &C,
     order: ByteOrder,
@@ -107,5 +74,5 @@ pub(crate) fn apply_keystream<C: BlockCipherEncrypt<16>>(
         return;
     }
     let last = counted(order, block, (1 << 32) - 1);
-    apply_block(c, order, &last, &mut bytes[n..]);
+    apply_counted(c, order, &last, &mut bytes[n..]);
 }
