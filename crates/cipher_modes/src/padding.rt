@@ -228,14 +228,8 @@ fn fill_behind(buffer: &mut [u8], len: usize, count: usize, value: u8) -> Result
     if len > buffer.len() || count > buffer.len() - len {
         return Err(PadError);
     }
-    fill_bytes(&mut buffer[len..len + count], value);
+    buffer[len..len + count].fill(value);
     Ok(len + count)
-}
-
-fn fill_bytes(bytes: &mut [u8], value: u8)
-    ensures value { bytes.new ≡ replicate (length bytes.old) value }
-{
-    bytes.fill(value);
 }
 
 // where the zeros begin that end the bytes from the front on

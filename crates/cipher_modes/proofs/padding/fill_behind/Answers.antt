@@ -3,4 +3,4 @@ use Rattle.std.proofs.Common.{refl}
 use Rattle.cipher_modes.proofs.padding.fill_behind.Goals as goal
 
 pub returns-clause-value : goal.returns-clause-value
-returns-clause-value c = (refl, filled c.args.buffer.now c.fill_bytes.new.bytes c.args.len c.args.count c.args.value c.if-len-buffer.false c.if-count-buffer.false c.fill_bytes.ensures.value)
+returns-clause-value c = (refl, filled c.args.buffer.now c.fill.new.self c.args.len c.args.count c.args.value c.if-len-buffer.false c.if-count-buffer.false (c.fill.ensures.after (λ y h. h)))
