@@ -1,14 +1,15 @@
 -- What is applied of a buffered rest, of whole blocks, and of the block behind them.
 use Rattle.std.proofs.Common.{◌≡◌, ℕ, zero, suc, ◌+◌, ◌-◌, ◌*◌, ◌/◌, ◌%◌, ◌≤◌, ◌<◌, List, ◌∷◌, ◌++◌, map, take, drop, replicate, get_or, length, ap, subst, sym, ◌∙◌, refl, arith, inl, inr, add-zero, bit_xor, Option, Some, None}
 use Rattle.std.proofs.Math.Nat.{mod-mod, le_of_mul-le-mul_right, add-mul, div-mul-le_self}
-use Rattle.std.specs.Prelude.{◌↔◌, ⊤}
+use Rattle.std.specs.Prelude.{◌↔◌, ⊤, slice_index}
 use Rattle.std.proofs.lemmas.Bool.{cases_lt}
+use Rattle.std.proofs.lemmas.Nat.{mul-add-lt}
 use Rattle.std.proofs.lemmas.List.{length-take-le}
 use Rattle.std.specs.List.{range_with_len}
 use Rattle.std.specs.Int.Bits.{xor_zero_l}
 use borrow.Rule.Slice.PartMut.{put_mid}
 use Rattle.cipher_stream.specs.Keystream.{Keystream, applied, bytes_of, stream_of, IsMoved, Spends}
-use Rattle.cipher_stream.specs.ByteStream.{ByteStream, to_come, bytes_from, IsAt, HasMoved, HoldsLastBlock, IsRest, IsFewer, LeavesRoom, HasRoom}
+use Rattle.cipher_stream.specs.ByteStream.{ByteStream, to_come, bytes_from, IsAt, IsSame, HasMoved, HoldsLastBlock, IsRest, IsFewer, LeavesRoom, HasRoom}
 use Rattle.cipher_stream.proofs.Streams.{mod_step}
 use Rattle.cipher_stream.proofs.Applied.{applied-same, applied_next, applied_all, length_so_far}
 use Rattle.cipher_stream.proofs.Places.{moved_at, at_fresh, at_rest, at_taken, at_blocks, fresh_bytes, rest_bytes}
@@ -131,3 +132,18 @@ zeros_range s a (suc n) =
 pub zeros_xored : (s : ℕ → ℕ) (xs : List ℕ) (n : ℕ) → xs ≡ replicate n 0 → applied bit_xor s xs ≡ map s (range_with_len 0 n)
 zeros_xored s xs n e =
     ap (applied bit_xor s) e ∙ (applied-same bit_xor s (λ j. s (0 + j)) (replicate n 0) (λ j _. let z : j ≡ 0 + j = omega arith in ap s z) ∙ zeros_range s 0 n)
+
+pub one_fits : (B : ℕ) → (1 ≤ B) × (B < 256) → B * 1 < 9223372036854775808
+one_fits B h = omega arith
+
+-- the same blocks make the same bytes
+pub same_stream : (size : ℕ) (k k' : Keystream) (r r' : ℕ) → ((i : ℕ) → k'.block_at i ≡ k.block_at i) → k'.period ≡ k.period → IsSame (bytes_from size k r) (bytes_from size k' r')
+same_stream size k k' r r' blocks period =
+    record {
+      same_bytes = λ i. ap (λ p. slice_index (k'.block_at ((i / size) % p)) (i % size)) period ∙ ap (λ b. slice_index b (i % size)) (blocks ((i / size) % k.period));
+      same_period = ap (λ p. p * size) period;
+    }
+
+-- a place within the period, in bytes
+pub within_turn : (p period most size : ℕ) → p ≤ most → period ≡ most + 1 → 1 ≤ size → p * size < period * size
+within_turn p period most size at turn some = let less : p * size + 0 < size * period = mul-add-lt p size 0 period (omega arith) (omega arith) in grind arith

@@ -1,8 +1,9 @@
-use Rattle.std.proofs.Common.{◌≡◌, ℕ, ◌+◌, ◌-◌, ◌*◌, ◌/◌, ◌%◌, ◌≤◌, ◌++◌, ◌∙◌, List, refl, ap, take, drop, length, arith, subst, length-take, length-drop}
+use Rattle.std.proofs.lemmas.List.{take_all}
+use Rattle.std.proofs.Common.{◌≡◌, ℕ, ◌+◌, ◌-◌, ◌*◌, ◌/◌, ◌%◌, ◌≤◌, ◌++◌, ◌∙◌, List, refl, ap, take, drop, length, arith, subst, length-take, length-drop, le_antisymm, le_trans, le_of_eq, sym}
 use Rattle.std.proofs.Math.Nat.{mul-mod_left, div-mul-le_self}
 use Rattle.std.specs.Prelude.{bit_xor}
 use Rattle.cipher_stream.specs.ByteStream.{to_come, buffered, HasMoved, LeavesFewer}
-use Rattle.cipher_stream.proofs.Applied.{length_so_far}
+use Rattle.cipher_stream.proofs.Applied.{length_so_far, applied_all}
 use Rattle.cipher_stream.proofs.Places.{moved_both}
 use Rattle.cipher_stream.proofs.Rests.{applied_then, leaves_both, moved_whole}
 use Rattle.cipher_stream.proofs.wrapper.BufferedCore+T+array+B+u8.apply_fresh.Goals as goal
@@ -57,3 +58,40 @@ returns-then-whole-bytes-clause-leaves g c =
     let left : length (take (length cur - at) (drop at cur)) ≡ length old - at = simp (length-take, length-drop) (omega arith) in
     let all : at + (length old - at) ≡ length old = omega arith in
     subst (λ m. LeavesFewer B r s m u) all (leaves_both B (r s.0) (r t.0) (r u.0) s.1 t.1 u.1 at (length old - at) (subst (λ m. LeavesFewer B r s m t) front c.apply_blocks.ensures.leaves) (subst (λ m. LeavesFewer B r t m u) left c.apply_last.ensures.leaves))
+
+pub returns-else-whole-bytes-clause-value : goal.returns-else-whole-bytes-clause-value
+returns-else-whole-bytes-clause-value g c =
+    let B = g.row.B in
+    let old = c.args.bytes.now in
+    let at : ℕ = length old / B * B in
+    let s = buffered B g.T.StreamCipherCore.keystream c.args.self.now in
+    let t = buffered B g.T.StreamCipherCore.keystream c.apply_blocks.new.self in
+    let cur : List ℕ = c.apply_blocks.new.bytes ++ drop at old in
+    let size : length cur ≡ length old = length_so_far bit_xor (to_come s) old cur at (ap (λ l. l ++ drop at old) c.apply_blocks.ensures.value) in
+    let end : length old ≤ at = le_trans (le_of_eq (sym size)) c.if-whole-bytes.false in
+    applied_all bit_xor (to_come s) old cur at end (ap (λ l. l ++ drop at old) c.apply_blocks.ensures.value)
+
+pub returns-else-whole-bytes-clause-moved : goal.returns-else-whole-bytes-clause-moved
+returns-else-whole-bytes-clause-moved g c =
+    let B = g.row.B in
+    let old = c.args.bytes.now in
+    let at : ℕ = length old / B * B in
+    let s = buffered B g.T.StreamCipherCore.keystream c.args.self.now in
+    let t = buffered B g.T.StreamCipherCore.keystream c.apply_blocks.new.self in
+    let cur : List ℕ = c.apply_blocks.new.bytes ++ drop at old in
+    let size : length cur ≡ length old = length_so_far bit_xor (to_come s) old cur at (ap (λ l. l ++ drop at old) c.apply_blocks.ensures.value) in
+    let end : length old ≤ at = le_trans (le_of_eq (sym size)) c.if-whole-bytes.false in
+    subst (λ m. HasMoved s m t) (le_antisymm (div-mul-le_self (length old) B) end) (moved_whole s t B old c.apply_blocks.ensures.moved)
+
+pub returns-else-whole-bytes-clause-leaves : goal.returns-else-whole-bytes-clause-leaves
+returns-else-whole-bytes-clause-leaves g c =
+    let B = g.row.B in
+    let old = c.args.bytes.now in
+    let at : ℕ = length old / B * B in
+    let s = buffered B g.T.StreamCipherCore.keystream c.args.self.now in
+    let t = buffered B g.T.StreamCipherCore.keystream c.apply_blocks.new.self in
+    let cur : List ℕ = c.apply_blocks.new.bytes ++ drop at old in
+    let size : length cur ≡ length old = length_so_far bit_xor (to_come s) old cur at (ap (λ l. l ++ drop at old) c.apply_blocks.ensures.value) in
+    let end : length old ≤ at = le_trans (le_of_eq (sym size)) c.if-whole-bytes.false in
+    let front : length (take at old) ≡ length old = ap length (take_all at old end) in
+    subst (λ m. LeavesFewer B g.T.StreamCipherCore.remaining c.args.self.now m c.apply_blocks.new.self) front c.apply_blocks.ensures.leaves

@@ -1,6 +1,6 @@
-use Rattle.std.proofs.Common.{ℕ, ◌+◌, ◌-◌, ◌*◌, ◌≤◌, ◌∙◌, ap, subst, arith}
-use Rattle.cipher_stream.specs.ByteStream.{bytes_from}
-use Rattle.cipher_stream.proofs.Rests.{rest_of_block}
+use Rattle.std.proofs.Common.{ℕ, ◌+◌, ◌-◌, ◌*◌, ◌≤◌, ◌∙◌, ap, subst, arith, le_refl, lt_irrefl}
+use Rattle.cipher_stream.specs.ByteStream.{bytes_from, IsSame}
+use Rattle.cipher_stream.proofs.Rests.{rest_of_block, same_stream}
 use Rattle.cipher_stream.proofs.SoughtPlaces.{placed_part, ahead_part, ahead_whole, next_part, next_whole, rest_part, rest_whole}
 use Rattle.cipher_stream.proofs.wrapper.seeking.BufferedCore+T+array+B+u8.seek_to.Goals as goal
 
@@ -55,3 +55,18 @@ returns-else-inside-clause-left g c =
 
 pub returns-else-inside-clause-rest : goal.returns-else-inside-clause-rest
 returns-else-inside-clause-rest g c = rest_whole g.row.B (g.T.Counter.StreamCipherCounter.value c.args.block) c.args.byte (g.row.B - g.row.B) (omega (arith, g.met.T.StreamCipherCore.block_size)) (omega arith) (omega arith)
+
+pub returns-then-inside-clause-same : goal.returns-then-inside-clause-same
+returns-then-inside-clause-same g c =
+    let B = g.row.B in
+    let k = g.T.StreamCipherCore.keystream in
+    let placed = c.set_block_pos.ensures.placed in
+    let moved = c.write_keystream_block.ensures.is_moved in
+    subst (λ v. IsSame (bytes_from B (k v.0) v.1) (bytes_from B (k c.write_keystream_block.new.self) (B - c.args.byte))) c.self.view_is
+    (same_stream B (k c.self.inside.core) (k c.write_keystream_block.new.self) _ (B - c.args.byte) (λ i. moved.same_blocks i ∙ placed.same_blocks i) (moved.same_period ∙ placed.same_period))
+
+pub invariant_of-self-else-inside : goal.invariant_of-self-else-inside
+invariant_of-self-else-inside g c = (le_refl _, λ h. absurd (lt_irrefl _ h))
+
+pub returns-then-inside-clause-further : goal.returns-then-inside-clause-further
+returns-then-inside-clause-further g c = c.requires.further

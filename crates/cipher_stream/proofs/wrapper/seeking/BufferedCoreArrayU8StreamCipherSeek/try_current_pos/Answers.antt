@@ -1,10 +1,11 @@
-use Rattle.std.proofs.Common.{◌≡◌, ℕ, ◌-◌, ◌*◌, ◌≤◌, ◌∙◌, ap, subst, cond, Some, None}
+use Rattle.std.proofs.Common.{◌≡◌, ℕ, ◌-◌, ◌*◌, ◌<◌, ◌≤◌, ◌∙◌, ap, subst, cond, Some, None}
 use Rattle.std.proofs.lemmas.Bool.{le-leb}
 use Rattle.std.proofs.Math.Dec.{leb}
 use Rattle.std.specs.Prelude.{◌↔◌}
 use Rattle.std.specs.Result.{IsOk, IfOk}
 use Rattle.cipher_stream.specs.Keystream.{Keystream}
 use Rattle.cipher_stream.specs.ByteStream.{AtMost, bytes_from, byte_place, position}
+use Rattle.cipher_stream.proofs.Rests.{within_turn}
 use Rattle.cipher_stream.proofs.wrapper.seeking.BufferedCoreArrayU8StreamCipherSeek.try_current_pos.Goals as goal
 
 -- the position, of the number of the next block and the bytes used of the last one
@@ -26,3 +27,12 @@ returns-clause-value g c =
     let n = g.T.Counter.StreamCipherCounter in
     let is = place_is g.row.B c.self.inside.used (n.value c.told-block.result) g.T.StreamCipherCore.keystream c.self.inside.core c.args.self.now c.self.invariant.0 (ap n.value c.told-block.ensures.same ∙ c.get_block_pos.ensures.value) c.self.view_is in
     subst (λ p. IfOk c.from_block_byte.result (λ x. g.N.SeekNum.place x ≡ p)) is c.from_block_byte.ensures.value
+
+pub returns-clause-within : goal.returns-clause-within
+returns-clause-within g c =
+    let B = g.row.B in
+    let k = g.T.StreamCipherCore.keystream in
+    let most = g.T.Counter.StreamCipherCounter.most in
+    let core = c.self.inside.core in
+    let at : (k core).position ≤ most = subst (λ x. x ≤ most) c.get_block_pos.ensures.value c.told-block.ensures.within in
+    subst (λ v. (k v.0).position * B < (k v.0).period * B) c.self.view_is (within_turn (k core).position (k core).period most B at (g.met.T.StreamCipherSeekCore.wraps core) g.met.T.StreamCipherCore.block_size.0)

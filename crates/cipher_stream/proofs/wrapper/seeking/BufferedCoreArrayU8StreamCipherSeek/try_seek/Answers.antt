@@ -33,3 +33,6 @@ returns-clause-left g c = λ n m e.
     let told = c.in_ok-block.ensures in
     room_of g.row.B g.T.StreamCipherSeekCore.remaining_at _ _ _ n m (place_joins (g.N.SeekNum.place c.args.pos) g.row.B n (g.T.Counter.StreamCipherCounter.value c.in_ok-block.block) c.in_ok-block.byte e told.value.0 told.value.1)
     c.seek_to.ensures.left c.seek_to.ensures.rest
+
+pub returns-clause-same : goal.returns-clause-same
+returns-clause-same g c = c.seek_to.ensures.same
