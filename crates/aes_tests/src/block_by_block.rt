@@ -1,96 +1,106 @@
 //! Blocks together against blocks one by one, which go by other bodies.
 
-use crate::expected::{check, check_at};
+use crate::counter_mode::{Asked, Flavor, KEY};
+use crate::rows;
+use crate::rows::Row;
 use aes_block::{Aes128, Aes192, Aes256};
-use cipher::{BlockCipherDecrypt, BlockCipherEncrypt, KeyInit, KeyIvInit};
+use cipher::{BlockCipherDecrypt, BlockCipherEncrypt, KeyInit};
 use cipher_stream::StreamCipher;
-use ctr::Ctr32BE;
 
-const KEY: &[u8; 16] = b"\x00\x01\x02\x03\x04\x05\x06\x07\x08\x09\x0a\x0b\x0c\x0d\x0e\x0f";
+/// Under this nonce a counter of 32 bits wraps after two blocks.
+pub const NONCE: [u8; 16] = *b"\x22\x22\x22\x22\x22\x22\x22\x22\x22\x22\x22\x22\xff\xff\xff\xfe";
 
-// its counter wraps after two blocks
-const NONCE: &[u8; 16] = b"\x22\x22\x22\x22\x22\x22\x22\x22\x22\x22\x22\x22\xff\xff\xff\xfe";
+// the cipher's blocks of the counters, by OpenSSL
+const KEYSTREAM: &[u8; 304] =
+    b"\x58\xfc\x84\x9d\x1c\xf5\x3c\x54\xc6\x3e\x1b\x1d\x15\xcb\x3c\x8a\xaa\x33\x5f\x72\x13\x55\x85\xe9\xff\x94\x3f\x4d\xac\x77\xcb\x63\
+\xbd\x1a\xe8\x71\x6b\xe6\x9c\x3b\x4d\x88\x6b\x22\x2b\x9b\x4e\x1e\x67\x54\x8e\xf8\x96\xa9\x6e\x27\x46\xd8\xca\x64\x76\xd8\xb1\x83\
+\x14\xf5\xfb\x8d\x02\x1b\x74\x55\x74\xf2\x9d\xc3\x0c\x6a\x81\xfa\x4a\xbc\x16\xf1\xc5\xa6\x70\x0f\x38\x47\x11\x46\x71\xb1\x88\x67\
+\x7a\xf2\x5a\x82\x59\xb9\x6f\xad\x6b\x12\x11\xf9\x2e\x8d\xbd\x71\xad\x08\x29\xe6\x7f\x08\xc1\xac\x13\xd5\xcb\x39\x14\x9d\x84\x36\
+\xae\x95\xbf\x4a\xdf\xa7\x51\x99\x1a\xb0\x13\x14\xeb\x56\x0e\x06\xfc\x85\x8a\x71\x80\xb5\x59\x76\x2c\x94\x4d\x7a\xe1\x26\xfb\x43\
+\xbf\x03\xc8\x03\x29\x10\xdc\xd6\x70\x98\x71\x4f\x76\x96\x29\xed\x3f\x9a\x30\x4e\xf6\xb8\x29\x68\x4d\x0c\xf4\xca\xb6\x2c\x0a\xd4\
+\x43\x57\x1b\xe4\xbc\x87\x33\x18\xc7\x63\x8d\x6d\xca\x43\xa4\xa5\x35\x54\x79\x61\x36\x36\xc1\xd2\x35\x26\x99\x9f\x35\xd7\xdc\xd7\
+\xbc\x1e\x67\x8b\xf4\x21\xa5\xca\x4f\x70\x43\xe3\x50\xc1\xe3\x3d\x09\x4f\x19\x10\xbb\x21\xba\x11\x6c\x31\x9a\x66\x17\x96\x96\x5b\
+\xde\x96\xba\xb8\xc0\x3a\x32\xfa\xa8\x3f\xda\x72\x8b\xca\x5e\xc2\x52\x24\xda\x1c\x19\xbd\xb9\x2e\x32\xf6\x87\x7e\x10\x51\x66\xae\
+\xa2\x4d\x20\x79\x16\x2f\x88\xea\x47\x24\x3b\x51\x60\x41\xf2\xfa";
 
-// the cipher's blocks of the counters, one by one
-fn keystream() -> [u8; 304] {
-    let cipher = Aes128::new(KEY);
-    let mut bytes = [0; 304];
-    for i in 0..19usize {
-        let mut block = *NONCE;
-        let counter = 0xffff_fffe_u32.wrapping_add(i as u32);
-        block[12..].copy_from_slice(&counter.to_be_bytes());
-        cipher.encrypt_block(&mut block);
-        bytes[16 * i..16 * i + 16].copy_from_slice(&block);
+// a text's keystream, so many bytes in each call, the first of which has none
+fn apply<C: StreamCipher>(cipher: &mut C, text: &mut [u8], size: usize) -> bool {
+    let mut told = cipher.try_apply_keystream(&mut []).is_ok();
+    for part in text.chunks_mut(size.max(1)) {
+        told = told && cipher.try_apply_keystream(part).is_ok();
     }
-    bytes
+    told
 }
 
-// n zero bytes in counter mode, so many of them in each call, the first of which has none, and what stands behind them
-fn applied(n: usize, size: usize) -> Option<[u8; 300]> {
-    let mut text = [0; 300];
-    let mut cipher = Ctr32BE::<Aes128>::new(KEY, NONCE);
-    cipher.try_apply_keystream(&mut []).ok()?;
-    for part in text[..n.min(300)].chunks_mut(size.max(1)) {
-        cipher.try_apply_keystream(part).ok()?;
-    }
-    Some(text)
-}
-
-// whether they are the keystream's, and no byte behind them is changed
-fn is_applied(n: usize, size: usize, keystream: &[u8; 304]) -> bool {
+/// Whether n zero bytes, n being at most 300, in calls of so many become the keystream's, and no byte behind them is
+/// changed.
+pub fn applies<C: StreamCipher + Drop>(mut cipher: C, n: usize, size: usize) -> bool {
     let n = n.min(300);
-    match applied(n, size) {
-        Some(text) => text[..n] == keystream[..n] && text[n..] == [0; 300][n..],
-        None => false,
-    }
+    let mut want = [0; 300];
+    want[..n].copy_from_slice(&KEYSTREAM[..n]);
+    let mut text = [0; 300];
+    let told = apply(&mut cipher, &mut text[..n], size);
+    told && text == want
 }
 
-#[test]
-fn counter_mode_of_each_length(rt: HostRuntime) {
-    let keystream = keystream();
-    for n in 0..301usize {
-        check_at(&rt, is_applied(n, 300, &keystream), n);
-    }
-    check(&rt, is_applied(160, 16, &keystream), "ten calls of a block");
-    check(&rt, is_applied(160, 160, &keystream), "one call of ten");
-}
+/// Counter mode in several calls.
+pub const ROWS: &[Row] = &[
+    Row(
+        "ten calls of a block",
+        rows::Asked::Counter(Flavor::Ctr32BE, NONCE, Asked::Apply(160, 16)),
+    ),
+    Row(
+        "one call of ten",
+        rows::Asked::Counter(Flavor::Ctr32BE, NONCE, Asked::Apply(160, 160)),
+    ),
+];
 
-// blocks of all bytes
-fn some_blocks() -> [[u8; 16]; 17] {
-    let mut blocks = [[0; 16]; 17];
-    for i in 0..272usize {
-        blocks[i / 16][i % 16] = (i * 7 % 256) as u8;
-    }
-    blocks
-}
+// byte i is 7 i modulo 256
+const BLOCKS: &[[u8; 16]; 17] = &[
+    *b"\x00\x07\x0e\x15\x1c\x23\x2a\x31\x38\x3f\x46\x4d\x54\x5b\x62\x69",
+    *b"\x70\x77\x7e\x85\x8c\x93\x9a\xa1\xa8\xaf\xb6\xbd\xc4\xcb\xd2\xd9",
+    *b"\xe0\xe7\xee\xf5\xfc\x03\x0a\x11\x18\x1f\x26\x2d\x34\x3b\x42\x49",
+    *b"\x50\x57\x5e\x65\x6c\x73\x7a\x81\x88\x8f\x96\x9d\xa4\xab\xb2\xb9",
+    *b"\xc0\xc7\xce\xd5\xdc\xe3\xea\xf1\xf8\xff\x06\x0d\x14\x1b\x22\x29",
+    *b"\x30\x37\x3e\x45\x4c\x53\x5a\x61\x68\x6f\x76\x7d\x84\x8b\x92\x99",
+    *b"\xa0\xa7\xae\xb5\xbc\xc3\xca\xd1\xd8\xdf\xe6\xed\xf4\xfb\x02\x09",
+    *b"\x10\x17\x1e\x25\x2c\x33\x3a\x41\x48\x4f\x56\x5d\x64\x6b\x72\x79",
+    *b"\x80\x87\x8e\x95\x9c\xa3\xaa\xb1\xb8\xbf\xc6\xcd\xd4\xdb\xe2\xe9",
+    *b"\xf0\xf7\xfe\x05\x0c\x13\x1a\x21\x28\x2f\x36\x3d\x44\x4b\x52\x59",
+    *b"\x60\x67\x6e\x75\x7c\x83\x8a\x91\x98\x9f\xa6\xad\xb4\xbb\xc2\xc9",
+    *b"\xd0\xd7\xde\xe5\xec\xf3\xfa\x01\x08\x0f\x16\x1d\x24\x2b\x32\x39",
+    *b"\x40\x47\x4e\x55\x5c\x63\x6a\x71\x78\x7f\x86\x8d\x94\x9b\xa2\xa9",
+    *b"\xb0\xb7\xbe\xc5\xcc\xd3\xda\xe1\xe8\xef\xf6\xfd\x04\x0b\x12\x19",
+    *b"\x20\x27\x2e\x35\x3c\x43\x4a\x51\x58\x5f\x66\x6d\x74\x7b\x82\x89",
+    *b"\x90\x97\x9e\xa5\xac\xb3\xba\xc1\xc8\xcf\xd6\xdd\xe4\xeb\xf2\xf9",
+    *b"\x00\x07\x0e\x15\x1c\x23\x2a\x31\x38\x3f\x46\x4d\x54\x5b\x62\x69",
+];
 
 // whether so many blocks together are the same as one by one, and go back
 fn agrees<C: BlockCipherEncrypt<16> + BlockCipherDecrypt<16>>(cipher: &C, n: usize) -> bool {
     let n = n.min(17);
-    let text = some_blocks();
-    let mut encrypted = text;
-    let mut decrypted = text;
+    let mut together = *BLOCKS;
+    let mut opposite = *BLOCKS;
+    let mut back = *BLOCKS;
+    let there = &mut together[..n];
+    let other = &mut opposite[..n];
+    let again = &mut back[..n];
+    cipher.encrypt_blocks(there);
+    cipher.decrypt_blocks(other);
+    cipher.encrypt_blocks(again);
+    cipher.decrypt_blocks(again);
+    let mut encrypted = *BLOCKS;
+    let mut decrypted = *BLOCKS;
     for i in 0..n {
         cipher.encrypt_block(&mut encrypted[i]);
         cipher.decrypt_block(&mut decrypted[i]);
     }
-    let mut together = text;
-    cipher.decrypt_blocks(&mut together[..n]);
-    let same = together == decrypted;
-    together = text;
-    cipher.encrypt_blocks(&mut together[..n]);
-    let same = same && together == encrypted;
-    cipher.decrypt_blocks(&mut together[..n]);
-    same && together == text
+    together == encrypted && opposite == decrypted && back == *BLOCKS
 }
 
-#[test]
-fn blocks_together_are_blocks_alone(rt: HostRuntime) {
-    let small = Aes128::new(KEY);
-    let middle = Aes192::new(&[3; 24]);
-    let large = Aes256::new(&[5; 32]);
-    for n in 0..18usize {
-        let same = agrees(&small, n) && agrees(&middle, n) && agrees(&large, n);
-        check_at(&rt, same, n);
-    }
+/// Whether they are under keys of each size.
+pub fn all_agree(n: usize) -> bool {
+    let small = agrees(&Aes128::new(KEY), n);
+    let middle = agrees(&Aes192::new(&[3; 24]), n);
+    small && middle && agrees(&Aes256::new(&[5; 32]), n)
 }

@@ -1,6 +1,7 @@
 //! Vectors of SP 800-38A for cipher block chaining.
 
-use crate::expected::check;
+use crate::rows;
+use crate::rows::Row;
 use aes_block::{Aes128, Aes256};
 use cbc::{Decryptor, Encryptor};
 use cipher::{BlockCipherDecrypt, BlockCipherEncrypt, InnerIvInit, IvState, KeyInit, SetIvState};
@@ -14,15 +15,27 @@ const PLAINTEXT: [u8; 64] = *b"\x6b\xc1\xbe\xe2\x2e\x40\x9f\x96\xe9\x3d\x7e\x11\
 \x30\xc8\x1c\x46\xa3\x5c\xe4\x11\xe5\xfb\xc1\x19\x1a\x0a\x52\xef\
 \xf6\x9f\x24\x45\xdf\x4f\x9b\x17\xad\x2b\x41\x7b\xe6\x6c\x37\x10";
 
-// SP 800-38A, F.2.1 and F.2.2
-const SMALL: TestVector = TestVector {
-    key: b"\x2b\x7e\x15\x16\x28\xae\xd2\xa6\xab\xf7\x15\x88\x09\xcf\x4f\x3c",
-    iv: &IV,
-    plaintext: &PLAINTEXT,
-    ciphertext: b"\x76\x49\xab\xac\x81\x19\xb2\x46\xce\xe9\x8e\x9b\x12\xe9\x19\x7d\
+const KEY: &[u8] = b"\x2b\x7e\x15\x16\x28\xae\xd2\xa6\xab\xf7\x15\x88\x09\xcf\x4f\x3c";
+
+const SMALL_TEXT: &[u8] = b"\x76\x49\xab\xac\x81\x19\xb2\x46\xce\xe9\x8e\x9b\x12\xe9\x19\x7d\
 \x50\x86\xcb\x9b\x50\x72\x19\xee\x95\xdb\x11\x3a\x91\x76\x78\xb2\
 \x73\xbe\xd6\xb8\xe3\xc1\x74\x3b\x71\x16\xe6\x9e\x22\x22\x95\x16\
-\x3f\xf1\xca\xa1\x68\x1f\xac\x09\x12\x0e\xca\x30\x75\x86\xe1\xa7",
+\x3f\xf1\xca\xa1\x68\x1f\xac\x09\x12\x0e\xca\x30\x75\x86\xe1\xa7";
+
+// SP 800-38A, F.2.1 and F.2.2
+const SMALL: TestVector = TestVector {
+    key: KEY,
+    iv: &IV,
+    plaintext: &PLAINTEXT,
+    ciphertext: SMALL_TEXT,
+};
+
+// The same under another initialization vector.
+const CHANGED: TestVector = TestVector {
+    key: KEY,
+    iv: b"\x01\x01\x02\x03\x04\x05\x06\x07\x08\x09\x0a\x0b\x0c\x0d\x0e\x0f",
+    plaintext: &PLAINTEXT,
+    ciphertext: SMALL_TEXT,
 };
 
 // SP 800-38A, F.2.5 and F.2.6
@@ -70,24 +83,46 @@ fn goes_on() -> bool {
     one == other && one == third
 }
 
-const RIGHT: [Told; 2] = [Ok(()); 2];
+// whether a vector of 15 bytes is refused
+fn refuses() -> bool {
+    Decryptor::inner_iv_slice_init(Aes128::new(&[7; 16]), &[0; 15]).is_err()
+}
 
-const WRONG: [Told; 2] = [
+const RIGHT: &[Told; 2] = &[Ok(()); 2];
+
+const WRONG: &[Told; 2] = &[
     Err("single block encryption failure"),
     Err("single block decryption failure"),
 ];
 
-#[test]
-fn cipher_block_chaining(rt: HostRuntime) {
-    let small = is_told::<Aes128, 16>(&SMALL, &RIGHT);
-    check(&rt, small, "a key of 16 bytes");
-    let large = is_told::<Aes256, 32>(&LARGE, &RIGHT);
-    check(&rt, large, "a key of 32 bytes");
-    let mut vector = SMALL;
-    vector.iv = b"\x01\x01\x02\x03\x04\x05\x06\x07\x08\x09\x0a\x0b\x0c\x0d\x0e\x0f";
-    let changed = is_told::<Aes128, 16>(&vector, &WRONG);
-    check(&rt, changed, "another initialization vector");
-    check(&rt, goes_on(), "another mode goes on");
-    let short = Decryptor::inner_iv_slice_init(Aes128::new(&[7; 16]), &[0; 15]);
-    check(&rt, short.is_err(), "a vector of 15 bytes");
+/// What is asked.
+pub enum Asked {
+    Small,
+    Large,
+    Changed,
+    GoOn,
+    Refuse,
 }
+
+/// Whether it is so.
+pub fn holds(asked: &Asked) -> bool {
+    match asked {
+        Asked::Small => is_told::<Aes128, 16>(&SMALL, RIGHT),
+        Asked::Large => is_told::<Aes256, 32>(&LARGE, RIGHT),
+        Asked::Changed => is_told::<Aes128, 16>(&CHANGED, WRONG),
+        Asked::GoOn => goes_on(),
+        Asked::Refuse => refuses(),
+    }
+}
+
+/// Rows of cipher block chaining.
+pub const ROWS: &[Row] = &[
+    Row("a key of 16 bytes", rows::Asked::Chain(Asked::Small)),
+    Row("a key of 32 bytes", rows::Asked::Chain(Asked::Large)),
+    Row(
+        "another initialization vector",
+        rows::Asked::Chain(Asked::Changed),
+    ),
+    Row("another mode goes on", rows::Asked::Chain(Asked::GoOn)),
+    Row("a vector of 15 bytes", rows::Asked::Chain(Asked::Refuse)),
+];

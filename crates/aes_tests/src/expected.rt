@@ -1,13 +1,30 @@
-//! The one place that compares: a test function with many `assert!` takes long to prove.
+//! The walk over tables, and the one place that compares.
 
+use std::alloc::{AllocError, Global};
 use std::process::Abort;
 
-/// Stops where a row is not as it says, by its name.
-pub fn check(rt: &impl Abort, holds: bool, row: &str) {
-    assert!(rt; holds, "{row}");
+/// Stops where a row is not as it says, by its name and a number.
+pub fn check(rt: &impl Abort, holds: bool, row: &str, n: usize) {
+    assert!(rt; holds, "{row}, at {n}");
 }
 
-/// The same in a loop, by a number.
-pub fn check_at(rt: &impl Abort, holds: bool, at: usize) {
-    assert!(rt; holds, "at {at}");
+/// A row of a table. The walk is generic in it, since the lifetimes of a loop over rows of many references take long.
+pub trait Holds {
+    /// What it is called.
+    fn name(&self) -> &'static str;
+
+    /// Whether it is so.
+    fn holds(&self, alloc: Global) -> Result<bool, AllocError>;
+}
+
+/// Walks tables.
+pub fn walk<R: Holds>(rt: &impl Abort, alloc: Global, tables: &[&[R]]) {
+    for rows in tables {
+        for row in *rows {
+            match row.holds(alloc) {
+                Ok(holds) => check(rt, holds, row.name(), 0),
+                Err(_) => check(rt, false, "OutOfMemory", 0),
+            }
+        }
+    }
 }

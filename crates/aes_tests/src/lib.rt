@@ -12,11 +12,11 @@ mod cmac_vectors;
 #[cfg(test)]
 mod counter_mode;
 #[cfg(test)]
+mod each_length;
+#[cfg(test)]
 mod expected;
 #[cfg(test)]
 mod gcm_vectors;
-#[cfg(test)]
-mod hash_by_bits;
 #[cfg(test)]
 mod hash_vectors;
 #[cfg(test)]
@@ -25,6 +25,8 @@ mod kept_keys;
 mod names;
 #[cfg(test)]
 mod refusals;
+#[cfg(test)]
+mod rows;
 #[cfg(test)]
 mod seals;
 #[cfg(test)]

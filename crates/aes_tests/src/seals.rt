@@ -2,8 +2,8 @@
 
 ghost use Rattle.std.specs.Prelude.{◌≡◌, ◌≤◌, ◌+◌, ◌-◌, length};
 
-use crate::expected::check;
-use crate::{refusals, siv_vectors};
+use crate::rows;
+use crate::rows::Row;
 use aes_block::{Aes128, Aes256};
 use cipher::{BlockCipherEncrypt, KeyInit};
 use gcm::{Gcm, GcmError, GcmResult, GcmSiv};
@@ -41,47 +41,68 @@ impl<C: KeyInit<K> + BlockCipherEncrypt<16> + Drop, const K: usize> Sealer for G
     }
 }
 
-/// Whether the text, of at most 80 bytes, is sealed to these bytes, 16 more, and they are opened to it.
-pub fn seals<S: Sealer>(s: &S, nonce: &[u8; 12], aad: &[u8], text: &[u8], want: &[u8]) -> bool {
-    let n = text.len().min(80);
-    let mut sealed = [0u8; 96];
-    let mut opened = [0u8; 80];
-    let told = s.seal(nonce, aad, &text[..n], &mut sealed[..n + 16]);
-    let back = s.open(nonce, aad, &sealed[..n + 16], &mut opened[..n]);
-    told.is_ok() && back.is_ok() && &sealed[..n + 16] == want && opened[..n] == text[..n]
+// GCM that seals a text in its place.
+#[derive(Drop)]
+struct InPlace(Gcm<Aes128>);
+
+impl Sealer for InPlace {
+    fn seal(&self, nonce: &[u8], aad: &[u8], text: &[u8], out: &mut [u8]) -> GcmResult {
+        out[..text.len()].copy_from_slice(text);
+        self.0.seal_in_place(nonce, aad, out)
+    }
+
+    fn open(&self, nonce: &[u8], aad: &[u8], sealed: &[u8], out: &mut [u8]) -> GcmResult {
+        self.0.open_into(nonce, aad, sealed, out)
+    }
+}
+
+/// Whether the text, of at most 300 bytes, is sealed to 16 bytes more that end so, and they are opened to it.
+pub fn seals<S: Sealer>(s: &S, nonce: &[u8; 12], aad: &[u8], text: &[u8], end: &[u8]) -> bool {
+    let n = text.len().min(300);
+    let text = &text[..n];
+    let mut room = [0u8; 316];
+    let mut other = [0u8; 300];
+    let sealed = &mut room[..n + 16];
+    let opened = &mut other[..n];
+    let told = s.seal(nonce, aad, text, sealed);
+    let back = s.open(nonce, aad, sealed, opened);
+    told.is_ok() & back.is_ok() & sealed.ends_with(end) & (*opened == *text)
 }
 
 /// Byte i is 7 i modulo 256.
-pub fn some_bytes() -> [u8; 300] {
-    let mut bytes = [0u8; 300];
-    for i in 0..300 {
-        bytes[i] = (7 * i % 256) as u8;
-    }
-    bytes
-}
+pub const BYTES: &[u8; 300] =
+    b"\x00\x07\x0e\x15\x1c\x23\x2a\x31\x38\x3f\x46\x4d\x54\x5b\x62\x69\x70\x77\x7e\x85\x8c\x93\x9a\xa1\xa8\xaf\xb6\xbd\xc4\xcb\xd2\xd9\
+\xe0\xe7\xee\xf5\xfc\x03\x0a\x11\x18\x1f\x26\x2d\x34\x3b\x42\x49\x50\x57\x5e\x65\x6c\x73\x7a\x81\x88\x8f\x96\x9d\xa4\xab\xb2\xb9\
+\xc0\xc7\xce\xd5\xdc\xe3\xea\xf1\xf8\xff\x06\x0d\x14\x1b\x22\x29\x30\x37\x3e\x45\x4c\x53\x5a\x61\x68\x6f\x76\x7d\x84\x8b\x92\x99\
+\xa0\xa7\xae\xb5\xbc\xc3\xca\xd1\xd8\xdf\xe6\xed\xf4\xfb\x02\x09\x10\x17\x1e\x25\x2c\x33\x3a\x41\x48\x4f\x56\x5d\x64\x6b\x72\x79\
+\x80\x87\x8e\x95\x9c\xa3\xaa\xb1\xb8\xbf\xc6\xcd\xd4\xdb\xe2\xe9\xf0\xf7\xfe\x05\x0c\x13\x1a\x21\x28\x2f\x36\x3d\x44\x4b\x52\x59\
+\x60\x67\x6e\x75\x7c\x83\x8a\x91\x98\x9f\xa6\xad\xb4\xbb\xc2\xc9\xd0\xd7\xde\xe5\xec\xf3\xfa\x01\x08\x0f\x16\x1d\x24\x2b\x32\x39\
+\x40\x47\x4e\x55\x5c\x63\x6a\x71\x78\x7f\x86\x8d\x94\x9b\xa2\xa9\xb0\xb7\xbe\xc5\xcc\xd3\xda\xe1\xe8\xef\xf6\xfd\x04\x0b\x12\x19\
+\x20\x27\x2e\x35\x3c\x43\x4a\x51\x58\x5f\x66\x6d\x74\x7b\x82\x89\x90\x97\x9e\xa5\xac\xb3\xba\xc1\xc8\xcf\xd6\xdd\xe4\xeb\xf2\xf9\
+\x00\x07\x0e\x15\x1c\x23\x2a\x31\x38\x3f\x46\x4d\x54\x5b\x62\x69\x70\x77\x7e\x85\x8c\x93\x9a\xa1\xa8\xaf\xb6\xbd\xc4\xcb\xd2\xd9\
+\xe0\xe7\xee\xf5\xfc\x03\x0a\x11\x18\x1f\x26\x2d";
 
 // The tag of the first n bytes as a text and the first m as data, each at most 64, under a nonce that is a prefix of a
 // tag.
-fn next_tag<S: Sealer>(s: &S, tag: &[u8; 16], bytes: &[u8; 300], n: usize, m: usize) -> [u8; 16]
+fn next_tag<S: Sealer>(s: &S, tag: &[u8; 16], n: usize, m: usize) -> [u8; 16]
     requires text { n ≤ 64 }
     requires data { m ≤ 64 }
 {
-    let mut out = [0u8; 80];
-    let mut next = [0u8; 16];
-    let told = s.seal(&tag[..12], &bytes[..m], &bytes[..n], &mut out[..n + 16]);
-    if told.is_ok() {
-        next.copy_from_slice(&out[n..n + 16]);
+    let mut room = [0u8; 80];
+    let out = &mut room[..n + 16];
+    let told = s.seal(&tag[..12], &BYTES[..m], &BYTES[..n], out);
+    match (told, <&[u8; 16]>::try_from(&out[n..])) {
+        (Ok(()), Ok(next)) => *next,
+        _ => [0; 16],
     }
-    next
 }
 
 // The last tag where each length of text and data from 0 to 64 is sealed, and each nonce is a prefix of the tag before.
 fn chained<S: Sealer>(s: &S) -> [u8; 16] {
-    let bytes = some_bytes();
     let mut tag = [0u8; 16];
     for n in 0..65usize {
         for m in 0..65usize {
-            tag = next_tag(s, &tag, &bytes, n, m);
+            tag = next_tag(s, &tag, n, m);
         }
     }
     tag
@@ -108,11 +129,12 @@ fn refuses_changes<S: Sealer>(s: &S) -> bool {
 }
 
 /// What is asked of a sealer.
+#[derive(Drop)]
 pub enum Asked {
-    /// To seal under a nonce and with data a text to those bytes, and to open them.
-    Seal(&'static [u8; 12], &'static [u8], &'static [u8], &'static [u8]),
+    /// To seal under a nonce and with data a text to bytes that end so, and to open them.
+    Seal([u8; 12], &'static [u8], &'static [u8], &'static [u8]),
     /// To end with that tag where each length is sealed.
-    Chain(&'static [u8; 16]),
+    Chain([u8; 16]),
     /// To refuse with that data, under a nonce of zeros, those bytes.
     Refuse(&'static [u8], &'static [u8]),
     /// To refuse each changed bit.
@@ -122,57 +144,50 @@ pub enum Asked {
 /// The sealer, under a key.
 pub enum Of {
     /// GCM.
-    Gcm(&'static [u8; 16]),
+    Gcm([u8; 16]),
+    /// GCM that seals a text in its place.
+    GcmInPlace([u8; 16]),
     /// GCM-SIV.
-    GcmSiv(&'static [u8; 16]),
+    GcmSiv([u8; 16]),
     /// The same under 32 bytes.
-    LargeGcmSiv(&'static [u8; 32]),
+    LargeGcmSiv([u8; 32]),
 }
-
-/// Its name, the sealer, and what is asked of it.
-pub type Row = (&'static str, Of, Asked);
 
 fn does<S: Sealer>(s: &S, asked: &Asked) -> bool {
     match asked {
-        Asked::Seal(nonce, aad, text, sealed) => seals(s, nonce, aad, text, sealed),
-        Asked::Chain(tag) => chained(s) == **tag,
+        Asked::Seal(nonce, aad, text, end) => seals(s, nonce, aad, text, end),
+        Asked::Chain(tag) => chained(s) == *tag,
         Asked::Refuse(aad, sealed) => refuses(s, &[0; 12], aad, sealed),
         Asked::RefuseChanges => refuses_changes(s),
     }
 }
 
-fn holds(of: &Of, asked: &Asked) -> bool {
+/// Whether the sealer does what is asked.
+pub fn holds(of: &Of, asked: &Asked) -> bool {
     match of {
         Of::Gcm(key) => does(&Gcm::new(Aes128::new(key)), asked),
+        Of::GcmInPlace(key) => does(&InPlace(Gcm::new(Aes128::new(key))), asked),
         Of::GcmSiv(key) => does(&GcmSiv::<Aes128, 16>::new(key), asked),
         Of::LargeGcmSiv(key) => does(&GcmSiv::<Aes256, 32>::new(key), asked),
     }
 }
 
-const KEY: &[u8; 16] = b"\x00\x01\x02\x03\x04\x05\x06\x07\x08\x09\x0a\x0b\x0c\x0d\x0e\x0f";
+const KEY: [u8; 16] = *b"\x00\x01\x02\x03\x04\x05\x06\x07\x08\x09\x0a\x0b\x0c\x0d\x0e\x0f";
 
-// By pyca/cryptography.
-const ROWS: &[Row] = &[
-    (
+/// By pyca/cryptography.
+pub const ROWS: &[Row] = &[
+    Row(
         "GCM, all lengths",
-        Of::Gcm(KEY),
-        Asked::Chain(b"\xfd\x0d\xd9\x3d\x13\xf1\xb0\x73\x6a\x67\x72\xad\x86\xd9\x1e\xb1"),
+        rows::Asked::Seal(
+            Of::Gcm(KEY),
+            Asked::Chain(*b"\xfd\x0d\xd9\x3d\x13\xf1\xb0\x73\x6a\x67\x72\xad\x86\xd9\x1e\xb1"),
+        ),
     ),
-    (
+    Row(
         "GCM-SIV, all lengths",
-        Of::GcmSiv(KEY),
-        Asked::Chain(b"\x03\xc0\xb2\xc2\x4d\x19\x2c\x43\x5a\x01\x03\xa4\xbc\x05\xd0\xc0"),
+        rows::Asked::Seal(
+            Of::GcmSiv(KEY),
+            Asked::Chain(*b"\x03\xc0\xb2\xc2\x4d\x19\x2c\x43\x5a\x01\x03\xa4\xbc\x05\xd0\xc0"),
+        ),
     ),
 ];
-
-#[test]
-fn texts_are_sealed_opened_or_refused(rt: HostRuntime) {
-    for rows in [siv_vectors::ROWS, refusals::ROWS, ROWS] {
-        for (row, of, asked) in rows {
-            check(&rt, holds(of, asked), row);
-        }
-    }
-    let g = Gcm::new(Aes128::new(&[0; 16]));
-    let four = refusals::seal_four(&g, &[0; 12], &[0; 4]);
-    check(&rt, four == Ok(refusals::SEALED), "four bytes");
-}

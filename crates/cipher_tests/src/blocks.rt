@@ -14,30 +14,35 @@ const PLAIN: [[u8; 5]; 10] = [[1, 2, 3, 4, 255]; 10];
 
 const SHIFTED: [[u8; 5]; 10] = [[251, 252, 253, 254, 249]; 10];
 
-// the first n places hold the blocks, and the others are as before
-fn are(got: &[[u8; 5]; 10], front: &[[u8; 5]; 10], back: &[[u8; 5]; 10], n: usize) -> bool {
+/// The first n of these blocks, n being at most 10, and behind them the others.
+pub fn with_front<const B: usize>(
+    front: &[[u8; B]; 10],
+    n: usize,
+    behind: &[[u8; B]; 10],
+) -> [[u8; B]; 10] {
     let n = n.min(10);
-    got[..n] == front[..n] && got[n..] == back[n..]
+    let mut blocks = *behind;
+    blocks[..n].copy_from_slice(&front[..n]);
+    blocks
 }
 
-// n blocks there and back, in their places
+// n blocks there and back, in their places, and by a buffer
 fn shifts_in_place(c: &Shift, n: usize) -> bool {
     let n = n.min(10);
-    let mut blocks = PLAIN;
-    c.encrypt_blocks(&mut blocks[..n]);
-    let there = are(&blocks, &SHIFTED, &PLAIN, n);
-    c.decrypt_blocks(&mut blocks[..n]);
-    there && blocks == PLAIN
-}
-
-// the same by a buffer
-fn shifts_by_a_buffer(c: &Shift, n: usize) -> bool {
-    let n = n.min(10);
-    let mut blocks = PLAIN;
-    c.encrypt_blocks_inout(InOutBuf::from(&mut blocks[..n]));
-    let there = are(&blocks, &SHIFTED, &PLAIN, n);
-    c.decrypt_blocks_inout(InOutBuf::from(&mut blocks[..n]));
-    there && blocks == PLAIN
+    let shifted = with_front(&SHIFTED, n, &PLAIN);
+    let mut there = PLAIN;
+    let mut other = PLAIN;
+    let mut back = shifted;
+    let mut again = shifted;
+    let front = &mut there[..n];
+    let places = InOutBuf::from(&mut other[..n]);
+    let made = &mut back[..n];
+    let made_places = InOutBuf::from(&mut again[..n]);
+    c.encrypt_blocks(front);
+    c.encrypt_blocks_inout(places);
+    c.decrypt_blocks(made);
+    c.decrypt_blocks_inout(made_places);
+    there == shifted && other == shifted && back == PLAIN && again == PLAIN
 }
 
 const ZEROS: [[u8; 5]; 10] = [[0; 5]; 10];
@@ -48,23 +53,18 @@ fn shifts_elsewhere(c: &Shift, n: usize) -> bool {
     let mut there = ZEROS;
     let mut back = ZEROS;
     let encrypted = c.encrypt_blocks_b2b(&PLAIN[..n], &mut there[..n]);
-    let decrypted = c.decrypt_blocks_b2b(&there[..n], &mut back[..n]);
+    let decrypted = c.decrypt_blocks_b2b(&SHIFTED[..n], &mut back[..n]);
     [encrypted, decrypted] == [Ok(()); 2]
-        && are(&there, &SHIFTED, &ZEROS, n)
-        && are(&back, &PLAIN, &ZEROS, n)
+        && there == with_front(&SHIFTED, n, &ZEROS)
+        && back == with_front(&PLAIN, n, &ZEROS)
 }
 
-// whether all three calls shift n blocks
-fn shifts(c: &Shift, n: usize) -> bool {
-    shifts_in_place(c, n) && shifts_by_a_buffer(c, n) && shifts_elsewhere(c, n)
-}
-
-// whether they shift up to ten
+// whether all calls shift up to ten
 fn up_to_ten_are_shifted() -> bool {
     let c = Shift::new(&[250]);
     let mut same = true;
     for n in 0..11 {
-        same = same && shifts(&c, n);
+        same = same && shifts_in_place(&c, n) && shifts_elsewhere(&c, n);
     }
     same
 }
@@ -176,13 +176,13 @@ pub fn holds(asked: &Asked) -> bool {
 
 /// Rows of blocks.
 pub const ROWS: &[Row] = &[
-    ("up to ten blocks", rows::Asked::Block(Asked::UpToTen)),
-    (
+    Row("up to ten blocks", rows::Asked::Block(Asked::UpToTen)),
+    Row(
         "unequal numbers of blocks",
         rows::Asked::Block(Asked::Misfits),
     ),
-    ("one block each way", rows::Asked::Block(Asked::EachWay)),
-    (
+    Row("one block each way", rows::Asked::Block(Asked::EachWay)),
+    Row(
         "a right block",
         rows::Asked::Block(Asked::Vector(
             Way::Both,
@@ -194,7 +194,7 @@ pub const ROWS: &[Row] = &[
             Ok(()),
         )),
     ),
-    (
+    Row(
         "a wrong block of an encryption",
         rows::Asked::Block(Asked::Vector(
             Way::There,
@@ -206,7 +206,7 @@ pub const ROWS: &[Row] = &[
             Err("single block encryption failure"),
         )),
     ),
-    (
+    Row(
         "a wrong block of a decryption",
         rows::Asked::Block(Asked::Vector(
             Way::Back,
@@ -218,7 +218,7 @@ pub const ROWS: &[Row] = &[
             Err("single block decryption failure"),
         )),
     ),
-    (
+    Row(
         "a ciphertext of another length",
         rows::Asked::Block(Asked::Vector(
             Way::Back,
@@ -230,7 +230,7 @@ pub const ROWS: &[Row] = &[
             Err("unexpected size of ciphertext block"),
         )),
     ),
-    (
+    Row(
         "a plaintext of another length",
         rows::Asked::Block(Asked::Vector(
             Way::There,
@@ -242,7 +242,7 @@ pub const ROWS: &[Row] = &[
             Err("unexpected size of plaintext block"),
         )),
     ),
-    (
+    Row(
         "a key of another length",
         rows::Asked::Block(Asked::Vector(
             Way::Both,
@@ -254,7 +254,7 @@ pub const ROWS: &[Row] = &[
             Err("cipher initialization failure"),
         )),
     ),
-    ("behind a reference", rows::Asked::Block(Asked::Reference)),
-    ("a key", rows::Asked::Block(Asked::Key)),
-    ("no key", rows::Asked::Block(Asked::NoKey)),
+    Row("behind a reference", rows::Asked::Block(Asked::Reference)),
+    Row("a key", rows::Asked::Block(Asked::Key)),
+    Row("no key", rows::Asked::Block(Asked::NoKey)),
 ];

@@ -74,10 +74,6 @@ fn written_singly() -> ([u8; 2], u8) {
     (output, read)
 }
 
-fn is_empty() -> bool {
-    InOutBuf::from(&mut [0; 2][..]).is_empty()
-}
-
 // the length of a message in front, whether it is empty, what is read, and what stands behind after a write
 fn message_in_front() -> (usize, bool, [u8; 2], [u8; 3]) {
     let mut output = [1, 2, 3];
@@ -209,7 +205,7 @@ pub fn holds(asked: Asked) -> bool {
         Asked::OnePlace => one_place() == ([1, 2], [0, 3], 2),
         Asked::APart => written_in_part() == [0, 5],
         Asked::TwoPlaces => written_singly() == ([4, 6], 5),
-        Asked::Empty => !is_empty(),
+        Asked::Empty => !InOutBuf::from(&mut [0; 2][..]).is_empty(),
         Asked::BehindItsFirst => parted_message() == ([1, 2, 4], true, true, [7, 2, 3, 4, 9]),
         Asked::Pairs => chunks_of_a_message(),
         Asked::Lent => lends_a_message(),
@@ -224,37 +220,37 @@ pub fn holds(asked: Asked) -> bool {
 
 /// Rows of buffers.
 pub const ROWS: &[Row] = &[
-    ("unequal lengths", rows::Asked::Buffer(Asked::Unequal)),
-    ("xor", rows::Asked::Buffer(Asked::Xor)),
-    ("the lengths of parts", rows::Asked::Buffer(Asked::Lengths)),
-    ("chunks", rows::Asked::Buffer(Asked::Chunks)),
-    ("one place", rows::Asked::Buffer(Asked::OnePlace)),
-    ("a part of a place", rows::Asked::Buffer(Asked::APart)),
-    ("two places", rows::Asked::Buffer(Asked::TwoPlaces)),
-    (
+    Row("unequal lengths", rows::Asked::Buffer(Asked::Unequal)),
+    Row("xor", rows::Asked::Buffer(Asked::Xor)),
+    Row("the lengths of parts", rows::Asked::Buffer(Asked::Lengths)),
+    Row("chunks", rows::Asked::Buffer(Asked::Chunks)),
+    Row("one place", rows::Asked::Buffer(Asked::OnePlace)),
+    Row("a part of a place", rows::Asked::Buffer(Asked::APart)),
+    Row("two places", rows::Asked::Buffer(Asked::TwoPlaces)),
+    Row(
         "two places are not empty",
         rows::Asked::Buffer(Asked::Empty),
     ),
-    (
+    Row(
         "a message behind its first place",
         rows::Asked::Buffer(Asked::BehindItsFirst),
     ),
-    ("pairs of a message", rows::Asked::Buffer(Asked::Pairs)),
-    ("a message that is lent", rows::Asked::Buffer(Asked::Lent)),
-    (
+    Row("pairs of a message", rows::Asked::Buffer(Asked::Pairs)),
+    Row("a message that is lent", rows::Asked::Buffer(Asked::Lent)),
+    Row(
         "too long in front",
         rows::Asked::Buffer(Asked::TooLongInFront),
     ),
-    (
+    Row(
         "too long elsewhere",
         rows::Asked::Buffer(Asked::TooLongElsewhere),
     ),
-    ("a message in front", rows::Asked::Buffer(Asked::InFront)),
-    ("a message elsewhere", rows::Asked::Buffer(Asked::Elsewhere)),
-    ("writes in two parts", rows::Asked::Buffer(Asked::Parts)),
-    ("a write of a pair", rows::Asked::Buffer(Asked::Pair)),
-    ("a write between others", rows::Asked::Buffer(Asked::Middle)),
-    (
+    Row("a message in front", rows::Asked::Buffer(Asked::InFront)),
+    Row("a message elsewhere", rows::Asked::Buffer(Asked::Elsewhere)),
+    Row("writes in two parts", rows::Asked::Buffer(Asked::Parts)),
+    Row("a write of a pair", rows::Asked::Buffer(Asked::Pair)),
+    Row("a write between others", rows::Asked::Buffer(Asked::Middle)),
+    Row(
         "a write of a message's pair",
         rows::Asked::Buffer(Asked::MessagePair),
     ),

@@ -7,14 +7,15 @@ ghost use Rattle.std.specs.Prelude.{◌≡◌, ◌+◌, ◌%◌, ℕ, List, map,
 ghost use Rattle.standards.specs.Lists.{xor_bytes};
 ghost use Rattle.cipher_modes.specs.Steps.{run_of};
 
-use crate::shifted::add_to_each;
+use crate::shifted::{Shift, add_to_each};
 use cipher::{InOut, InnerIvInit, IvState, KeyIvInit, SetIvState};
 use cipher_modes::{
     BlockModeDecBackend, BlockModeDecClosure, BlockModeDecrypt, BlockModeEncBackend,
     BlockModeEncClosure, BlockModeEncrypt,
 };
 
-/// Cipher block chaining over a cipher that adds the key to each byte of a block of four, three blocks at a time.
+/// Cipher block chaining over a cipher that adds the key to each byte of a block of four, three blocks at a time. The way
+/// back adds the key too, so that it goes by what the key adds up to 256 with.
 #[derive(Drop)]
 pub struct Chained {
     key: u8,
@@ -53,15 +54,8 @@ impl BlockModeEncrypt<4> for Chained {
     ghost sized = { λ s x e. length-map (xor_bytes x s.iv) (λ b. (b + s.key) % 256) ∙ (length-xor_bytes x s.iv ∙ e) };
 }
 
-/// The way back, with what the key adds up to 256.
-#[derive(Drop)]
-pub struct Unchained {
-    back: u8,
-    pub(crate) iv: [u8; 4],
-}
-
-impl BlockModeDecBackend<4> for Unchained {
-    ghost step = { λ s x. (xor_bytes (map (λ b. (b + s.back) % 256) x) s.iv, record s { iv = x }) };
+impl BlockModeDecBackend<4> for Chained {
+    ghost step = { λ s x. (xor_bytes (map (λ b. (b + s.key) % 256) x) s.iv, record s { iv = x }) };
 
     ghost lanes = { λ _. 3 };
 
@@ -72,7 +66,7 @@ impl BlockModeDecBackend<4> for Unchained {
     fn decrypt_block(&mut self, block: &mut InOut<'_, '_, [u8; 4]>) {
         let next = *block.get_in();
         *block.output = next;
-        add_to_each(&mut *block.output, self.back);
+        add_to_each(&mut *block.output, self.key);
         xor_array(&mut *block.output, &self.iv);
         self.iv = next;
     }
@@ -82,8 +76,8 @@ impl BlockModeDecBackend<4> for Unchained {
     ghost same_width = { λ _ _. refl };
 }
 
-impl BlockModeDecrypt<4> for Unchained {
-    ghost step = { λ s x. (xor_bytes (map (λ b. (b + s.back) % 256) x) s.iv, record s { iv = x }) };
+impl BlockModeDecrypt<4> for Chained {
+    ghost step = { λ s x. (xor_bytes (map (λ b. (b + s.key) % 256) x) s.iv, record s { iv = x }) };
 
     fn decrypt_with_backend<F: BlockModeDecClosure<4>>(&mut self, f: &mut F) {
         f.call(self);
@@ -91,8 +85,8 @@ impl BlockModeDecrypt<4> for Unchained {
 
     ghost block_size = { (lit≤ tt, lit< tt) };
 
-    ghost sized = { λ s x e. length-xor_bytes (map (λ b. (b + s.back) % 256) x) s.iv
-        ∙ (length-map x (λ b. (b + s.back) % 256) ∙ e) };
+    ghost sized = { λ s x e. length-xor_bytes (map (λ b. (b + s.key) % 256) x) s.iv
+        ∙ (length-map x (λ b. (b + s.key) % 256) ∙ e) };
 }
 
 fn xor_array(output: &mut [u8; 4], iv: &[u8; 4])
@@ -117,31 +111,10 @@ impl KeyIvInit<1, 4> for Chained {
     ghost iv_size = { (lit≤ tt, lit< tt) };
 }
 
-impl KeyIvInit<1, 4> for Unchained {
-    ghost keyed = { λ key iv. record { back = slice_index key 0; iv = iv } };
-
-    fn new(key: &[u8; 1], iv: &[u8; 4]) -> Unchained {
-        Unchained {
-            back: key[0],
-            iv: *iv,
-        }
-    }
-
-    ghost key_size = { (lit≤ tt, lit< tt) };
-
-    ghost iv_size = { (lit≤ tt, lit< tt) };
-}
-
-/// Adds the key to each byte of a block.
-#[derive(Drop)]
-pub struct AddKey {
-    pub(crate) key: u8,
-}
-
-impl InnerIvInit<AddKey, 4> for Chained {
+impl InnerIvInit<Shift, 4> for Chained {
     ghost with_iv = { λ cipher iv. record { key = cipher.key; iv = iv } };
 
-    fn inner_iv_init(inner: AddKey, iv: &[u8; 4]) -> Chained {
+    fn inner_iv_init(inner: Shift, iv: &[u8; 4]) -> Chained {
         Chained {
             key: inner.key,
             iv: *iv,
@@ -182,9 +155,9 @@ pub fn encrypter() -> Chained {
 }
 
 /// The way back of that.
-pub fn decrypter() -> Unchained {
-    Unchained {
-        back: 255,
+pub fn decrypter() -> Chained {
+    Chained {
+        key: 255,
         iv: [0; 4],
     }
 }

@@ -193,92 +193,92 @@ const MADE_IN_FRONT: [u8; 9] = [2, 3, 4, 5, 7, 8, 1, 2, 9];
 
 /// Rows of messages.
 pub const ROWS: &[Row] = &[
-    (
+    Row(
         "PKCS #7 of 4",
         rows::Asked::Message(Asked::Pkcs7(4, [9, 9, 9, 9, 4, 4, 4, 4, 9, 9], Ok(8))),
     ),
-    (
+    Row(
         "PKCS #7 of 0",
         rows::Asked::Message(Asked::Pkcs7(0, [4, 4, 4, 4, 9, 9, 9, 9, 9, 9], Ok(4))),
     ),
-    (
+    Row(
         "zeros of 4",
         rows::Asked::Message(Asked::Zeros(4, [9; 10], Ok(4))),
     ),
-    (
+    Row(
         "no padding of 5",
         rows::Asked::Message(Asked::NoPadding(5, [9; 10], Err(PadError))),
     ),
-    (
+    Row(
         "the length of PKCS #7",
         rows::Asked::Message(Asked::PaddedLength),
     ),
-    ("no bytes come off", rows::Asked::Message(Asked::NoBytes)),
-    ("PKCS #7 comes off", rows::Asked::Message(Asked::FoursOff)),
-    ("zeros come off", rows::Asked::Message(Asked::ZerosOff)),
-    (
+    Row("no bytes come off", rows::Asked::Message(Asked::NoBytes)),
+    Row("PKCS #7 comes off", rows::Asked::Message(Asked::FoursOff)),
+    Row("zeros come off", rows::Asked::Message(Asked::ZerosOff)),
+    Row(
         "there in place",
         rows::Asked::Message(Asked::There(How::InPlace, IN_FRONT)),
     ),
-    (
+    Row(
         "there elsewhere",
         rows::Asked::Message(Asked::There(How::Elsewhere, [0; 9])),
     ),
-    (
+    Row(
         "there with room",
         rows::Asked::Message(Asked::There(How::ByPlaces, IN_FRONT)),
     ),
-    (
+    Row(
         "five bytes without padding",
         rows::Asked::Message(Asked::There(How::Part, [0; 9])),
     ),
-    (
+    Row(
         "back in place",
         rows::Asked::Message(Asked::Back(How::InPlace, MADE_IN_FRONT)),
     ),
-    (
+    Row(
         "back elsewhere",
         rows::Asked::Message(Asked::Back(How::Elsewhere, [0; 9])),
     ),
-    (
+    Row(
         "back by places",
         rows::Asked::Message(Asked::Back(How::ByPlaces, MADE_IN_FRONT)),
     ),
-    (
+    Row(
         "an encrypted length",
         rows::Asked::Message(Asked::Length(By::There, 9, [9; 9], MADE_IN_FRONT, Some(8))),
     ),
-    (
+    Row(
         "without room",
         rows::Asked::Message(Asked::Length(By::WithoutRoom, 8, DIGITS, DIGITS, None)),
     ),
-    (
+    Row(
         "a decrypted length elsewhere",
         rows::Asked::Message(Asked::Length(By::Into, 8, [9; 9], PADDED, Some(4))),
     ),
-    (
+    Row(
         "too short a place",
         rows::Asked::Message(Asked::Length(By::Into, 7, [9; 9], [9; 9], None)),
     ),
-    (
+    Row(
         "a decrypted length in place",
         rows::Asked::Message(Asked::Length(By::InPlace, 8, MADE_IN_FRONT, PADDED, Some(4))),
     ),
-    (
+    Row(
         "a malformed padding",
         rows::Asked::Message(Asked::Length(By::InPlace, 8, BAD, [1, 2, 3, 4, 4, 4, 4, 7, 9], None)),
     ),
-    (
+    Row(
         "a part of a block",
         rows::Asked::Message(Asked::Length(By::InPlace, 7, BAD, BAD, None)),
     ),
-    ("a vector there", rows::Asked::Message(Asked::VectorThere)),
-    ("a vector back", rows::Asked::Message(Asked::VectorBack)),
-    (
+    Row("a vector there", rows::Asked::Message(Asked::VectorThere)),
+    Row("a vector back", rows::Asked::Message(Asked::VectorBack)),
+    Row(
         "a vector of five bytes without padding",
         rows::Asked::Message(Asked::VectorOfFive),
     ),
-    (
+    Row(
         "a vector of seven bytes back",
         rows::Asked::Message(Asked::VectorOfSeven),
     ),

@@ -3,10 +3,14 @@
 ghost use Rattle.std.specs.Prelude.{◌≡◌, ℕ, List};
 ghost use Rattle.cipher_modes.specs.Steps.{run_of, state_after};
 
-use crate::chained::{AddKey, Chained, Unchained, decrypter, encrypter};
+use crate::blocks::with_front;
+use crate::chained::{Chained, decrypter, encrypter};
 use crate::rows;
 use crate::rows::Row;
-use cipher::{InOut, InOutBuf, InnerIvInit, InvalidLength, IvState, NotEqualError, SetIvState};
+use crate::shifted::Shift;
+use cipher::{
+    InOut, InOutBuf, InnerIvInit, InvalidLength, IvState, KeyInit, NotEqualError, SetIvState,
+};
 use cipher_modes::dev::block_mode::{TestVector, decrypt, encrypt};
 use cipher_modes::{BlockModeDecrypt, BlockModeEncrypt};
 
@@ -25,10 +29,12 @@ fn goes_together(n: usize) -> bool {
     let n = n.min(10);
     let mut blocks = BLOCKS;
     let mut other = BLOCKS;
+    let together = &mut blocks[..n];
+    let singly = &mut other[..n];
     let mut mode = encrypter();
     let mut single = encrypter();
-    encrypt_both(&mut mode, &mut blocks[..n]);
-    encrypt_singly(&mut single, &mut other[..n]);
+    encrypt_both(&mut mode, together);
+    encrypt_singly(&mut single, singly);
     blocks == other && mode.iv == single.iv
 }
 
@@ -38,44 +44,42 @@ fn encrypt_singly(mode: &mut Chained, blocks: &mut [[u8; 4]]) {
     }
 }
 
-// n blocks encrypted, and the others as they were
-fn made(n: usize) -> [[u8; 4]; 10] {
-    let mut blocks = BLOCKS;
-    encrypter().encrypt_blocks(&mut blocks[..n.min(10)]);
-    blocks
-}
-
-// n blocks there and back in their places
+// n blocks there by a buffer and back in their places, and the way back by a buffer
 fn goes_in_place(n: usize, want: &[[u8; 4]; 10]) -> bool {
     let n = n.min(10);
-    let mut blocks = BLOCKS;
-    encrypter().encrypt_blocks_inout(InOutBuf::from(&mut blocks[..n]));
-    let there = blocks == *want;
-    decrypter().decrypt_blocks(&mut blocks[..n]);
-    there && blocks == BLOCKS
+    let mut there = BLOCKS;
+    let mut back = *want;
+    let mut other = *want;
+    let places = InOutBuf::from(&mut there[..n]);
+    let made = &mut back[..n];
+    let made_places = InOutBuf::from(&mut other[..n]);
+    encrypter().encrypt_blocks_inout(places);
+    decrypter().decrypt_blocks(made);
+    decrypter().decrypt_blocks_inout(made_places);
+    there == *want && back == BLOCKS && other == BLOCKS
 }
 
-// the way back by a buffer
-fn comes_back(n: usize, made: &[[u8; 4]; 10]) -> bool {
-    let mut blocks = *made;
-    decrypter().decrypt_blocks_inout(InOutBuf::from(&mut blocks[..n.min(10)]));
-    blocks == BLOCKS
-}
+const ZEROS: [[u8; 4]; 10] = [[0; 4]; 10];
 
 // n blocks there and back in other places
 fn goes_elsewhere(n: usize, want: &[[u8; 4]; 10]) -> bool {
     let n = n.min(10);
+    let made = &want[..];
+    let made = &made[..n];
     let mut there = BLOCKS;
-    let mut back = [[0; 4]; 10];
+    let mut back = ZEROS;
     let encrypted = encrypter().encrypt_blocks_b2b(&BLOCKS[..n], &mut there[..n]);
-    let decrypted = decrypter().decrypt_blocks_b2b(&there[..n], &mut back[..n]);
-    [encrypted, decrypted] == [Ok(()); 2] && there == *want && back[..n] == BLOCKS[..n]
+    let decrypted = decrypter().decrypt_blocks_b2b(made, &mut back[..n]);
+    [encrypted, decrypted] == [Ok(()); 2]
+        && there == *want
+        && back == with_front(&BLOCKS, n, &ZEROS)
 }
 
 // whether all calls agree on n blocks
 fn goes(n: usize) -> bool {
-    let want = made(n);
-    goes_together(n) && goes_in_place(n, &want) && comes_back(n, &want) && goes_elsewhere(n, &want)
+    let mut want = BLOCKS;
+    encrypter().encrypt_blocks(&mut want[..n.min(10)]);
+    goes_together(n) && goes_in_place(n, &want) && goes_elsewhere(n, &want)
 }
 
 // whether they do up to ten
@@ -108,7 +112,6 @@ const TEXT: [u8; 4] = [1, 2, 3, 4];
 const MADE: [u8; 4] = [2, 3, 4, 5];
 
 /// How a block goes.
-#[derive(Clone, Copy)]
 pub enum How {
     ThereElsewhere,
     ThereByPlaces,
@@ -117,19 +120,16 @@ pub enum How {
     Back,
 }
 
-fn go(how: How, block: &mut [u8; 4]) {
-    match how {
-        How::ThereElsewhere => encrypter().encrypt_block_b2b(&TEXT, block),
-        How::ThereByPlaces => encrypter().encrypt_block_inout(InOut::new(&TEXT, block)),
-        How::BackElsewhere => decrypter().decrypt_block_b2b(&MADE, block),
-        How::BackByPlaces => decrypter().decrypt_block_inout(InOut::from(block)),
-        How::Back => decrypter().decrypt_block(block),
-    }
-}
-
-fn gone(how: How, from: &[u8; 4]) -> [u8; 4] {
+// what a block becomes
+fn gone(how: &How, from: &[u8; 4]) -> [u8; 4] {
     let mut block = *from;
-    go(how, &mut block);
+    match how {
+        How::ThereElsewhere => encrypter().encrypt_block_b2b(&TEXT, &mut block),
+        How::ThereByPlaces => encrypter().encrypt_block_inout(InOut::new(&TEXT, &mut block)),
+        How::BackElsewhere => decrypter().decrypt_block_b2b(&MADE, &mut block),
+        How::BackByPlaces => decrypter().decrypt_block_inout(InOut::from(&mut block)),
+        How::Back => decrypter().decrypt_block(&mut block),
+    }
     block
 }
 
@@ -137,7 +137,7 @@ fn gone(how: How, from: &[u8; 4]) -> [u8; 4] {
 fn goes_on() -> bool {
     let mut first = encrypter();
     first.encrypt_blocks(&mut [[1, 2, 3, 4]; 3]);
-    let mut second = Chained::inner_iv_init(AddKey { key: 1 }, &[0; 4]);
+    let mut second = Chained::inner_iv_init(Shift::new(&[1]), &[0; 4]);
     second.set_iv(&first.iv_state());
     let mut one = BLOCKS;
     let mut other = BLOCKS;
@@ -148,17 +148,8 @@ fn goes_on() -> bool {
 
 // the state of a mode whose initialization vector is these bytes
 fn state_from(iv: &[u8]) -> Result<[u8; 4], InvalidLength> {
-    let mode = Chained::inner_iv_slice_init(AddKey { key: 1 }, iv)?;
+    let mode = Chained::inner_iv_slice_init(Shift::new(&[1]), iv)?;
     Ok(mode.iv_state())
-}
-
-// what a vector tells of the mode and of the way back
-fn encrypts(vector: &TestVector) -> Told {
-    encrypt::<Chained, 1, 4, 4>(vector)
-}
-
-fn decrypts(vector: &TestVector) -> Told {
-    decrypt::<Unchained, 1, 4, 4>(vector)
 }
 
 type Told = Result<(), &'static str>;
@@ -188,53 +179,53 @@ pub fn holds(asked: &Asked) -> bool {
         Asked::InOrder => up_to_ten_go(),
         Asked::TooMany => refuses_too_many(),
         Asked::TooFew => refuses_too_few(),
-        Asked::Block(how, from, to) => gone(*how, from) == *to,
+        Asked::Block(how, from, to) => gone(how, from) == *to,
         Asked::GoesOn => goes_on(),
         Asked::FourBytes => state_from(&[5; 4]) == Ok([5; 4]),
         Asked::ThreeBytes => state_from(&[0; 3]) == Err(InvalidLength),
-        Asked::Encryption(vector, want) => encrypts(vector) == *want,
-        Asked::Decryption(vector, want) => decrypts(vector) == *want,
+        Asked::Encryption(vector, want) => encrypt::<Chained, 1, 4, 4>(vector) == *want,
+        Asked::Decryption(vector, want) => decrypt::<Chained, 1, 4, 4>(vector) == *want,
     }
 }
 
 /// Rows of modes.
 pub const ROWS: &[Row] = &[
-    (
+    Row(
         "up to ten blocks of a mode",
         rows::Asked::Mode(Asked::InOrder),
     ),
-    ("too many blocks", rows::Asked::Mode(Asked::TooMany)),
-    ("too few", rows::Asked::Mode(Asked::TooFew)),
-    (
+    Row("too many blocks", rows::Asked::Mode(Asked::TooMany)),
+    Row("too few", rows::Asked::Mode(Asked::TooFew)),
+    Row(
         "a block encrypted elsewhere",
         rows::Asked::Mode(Asked::Block(How::ThereElsewhere, [0; 4], MADE)),
     ),
-    (
+    Row(
         "a block encrypted by places",
         rows::Asked::Mode(Asked::Block(How::ThereByPlaces, [0; 4], MADE)),
     ),
-    (
+    Row(
         "a block decrypted elsewhere",
         rows::Asked::Mode(Asked::Block(How::BackElsewhere, [0; 4], TEXT)),
     ),
-    (
+    Row(
         "a block decrypted by places",
         rows::Asked::Mode(Asked::Block(How::BackByPlaces, MADE, TEXT)),
     ),
-    (
+    Row(
         "a block decrypted in place",
         rows::Asked::Mode(Asked::Block(How::Back, MADE, TEXT)),
     ),
-    (
+    Row(
         "another mode under the state",
         rows::Asked::Mode(Asked::GoesOn),
     ),
-    (
+    Row(
         "a vector of four bytes",
         rows::Asked::Mode(Asked::FourBytes),
     ),
-    ("a vector of three", rows::Asked::Mode(Asked::ThreeBytes)),
-    (
+    Row("a vector of three", rows::Asked::Mode(Asked::ThreeBytes)),
+    Row(
         "a right vector encrypted",
         rows::Asked::Mode(Asked::Encryption(
             TestVector {
@@ -246,7 +237,7 @@ pub const ROWS: &[Row] = &[
             Ok(()),
         )),
     ),
-    (
+    Row(
         "a vector with a short initialization vector",
         rows::Asked::Mode(Asked::Encryption(
             TestVector {
@@ -258,7 +249,7 @@ pub const ROWS: &[Row] = &[
             Err("cipher initialization failure"),
         )),
     ),
-    (
+    Row(
         "a vector with a part of a block",
         rows::Asked::Mode(Asked::Encryption(
             TestVector {
@@ -270,7 +261,7 @@ pub const ROWS: &[Row] = &[
             Err("plaintext/ciphertext length is not multiple of block size"),
         )),
     ),
-    (
+    Row(
         "a vector of two lengths",
         rows::Asked::Mode(Asked::Encryption(
             TestVector {
@@ -282,7 +273,7 @@ pub const ROWS: &[Row] = &[
             Err("plaintext/ciphertext length mismatch"),
         )),
     ),
-    (
+    Row(
         "a vector with too long a ciphertext",
         rows::Asked::Mode(Asked::Encryption(
             TestVector {
@@ -294,7 +285,7 @@ pub const ROWS: &[Row] = &[
             Err("ciphertext is bigger than MAX_MSG_LEN bytes"),
         )),
     ),
-    (
+    Row(
         "a right vector decrypted",
         rows::Asked::Mode(Asked::Decryption(
             TestVector {
@@ -306,7 +297,7 @@ pub const ROWS: &[Row] = &[
             Ok(()),
         )),
     ),
-    (
+    Row(
         "a vector of another block",
         rows::Asked::Mode(Asked::Decryption(
             TestVector {
@@ -318,7 +309,7 @@ pub const ROWS: &[Row] = &[
             Err("single block decryption failure"),
         )),
     ),
-    (
+    Row(
         "a vector with too long a plaintext",
         rows::Asked::Mode(Asked::Decryption(
             TestVector {

@@ -1,6 +1,6 @@
 //! What is asked, and the test of all rows.
 
-use crate::expected::expect;
+use crate::expected::{Holds, walk};
 use crate::shifted::Shift;
 use crate::tweaks::zero_tweak;
 use crate::{blocks, buffers, messages, modes, tweaks};
@@ -24,46 +24,43 @@ pub enum Asked {
 }
 
 /// Its name, and what is asked.
-pub type Row = (&'static str, Asked);
+pub struct Row(pub &'static str, pub Asked);
 
 // Whether they are shown so.
 fn texts_are_told(alloc: Global) -> Result<bool, AllocError> {
-    let shown = format!(in alloc;
-        "{}; {}; {:?}",
-        Shift::new(&[1]),
-        InvalidLength,
-        zero_tweak().clone()?
-    )?;
+    let tweak = zero_tweak().clone()?;
+    let shown = format!(in alloc; "{}; {}; {:?}", Shift::new(&[1]), InvalidLength, tweak)?;
     Ok(shown.as_str() == "Shift; Invalid Length; ZeroTweak(Tweaked)")
 }
 
-fn holds(alloc: Global, asked: &Asked) -> Result<bool, AllocError> {
-    match asked {
-        Asked::Block(asked) => Ok(blocks::holds(asked)),
-        Asked::Buffer(asked) => Ok(buffers::holds(*asked)),
-        Asked::Message(asked) => Ok(messages::holds(alloc, asked)),
-        Asked::Mode(asked) => Ok(modes::holds(asked)),
-        Asked::Tweak(asked) => Ok(tweaks::holds(asked)),
-        Asked::Texts => texts_are_told(alloc),
+impl Holds for Row {
+    fn name(&self) -> &'static str {
+        self.0
+    }
+
+    fn holds(&self, alloc: Global) -> Result<bool, AllocError> {
+        match &self.1 {
+            Asked::Block(asked) => Ok(blocks::holds(asked)),
+            Asked::Buffer(asked) => Ok(buffers::holds(*asked)),
+            Asked::Message(asked) => Ok(messages::holds(alloc, asked)),
+            Asked::Mode(asked) => Ok(modes::holds(asked)),
+            Asked::Tweak(asked) => Ok(tweaks::holds(asked)),
+            Asked::Texts => texts_are_told(alloc),
+        }
     }
 }
 
-const TEXTS: &[Row] = &[("texts", Asked::Texts)];
-
-const ROWS: &[&[Row]] = &[
-    blocks::ROWS,
-    buffers::ROWS,
-    messages::ROWS,
-    modes::ROWS,
-    tweaks::ROWS,
-    TEXTS,
-];
+const TEXTS: &[Row] = &[Row("texts", Asked::Texts)];
 
 #[test]
 fn all_rows_hold(rt: HostRuntime) {
-    for rows in ROWS {
-        for (row, asked) in *rows {
-            expect(&rt, holds(rt.alloc(), asked), row);
-        }
-    }
+    let tables = &[
+        blocks::ROWS,
+        buffers::ROWS,
+        messages::ROWS,
+        modes::ROWS,
+        tweaks::ROWS,
+        TEXTS,
+    ];
+    walk(&rt, rt.alloc(), tables);
 }

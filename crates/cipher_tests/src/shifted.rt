@@ -13,7 +13,7 @@ use std::fmt;
 /// Adds the key to each byte of a block of five, three blocks at a time.
 #[derive(Drop)]
 pub struct Shift {
-    key: u8,
+    pub(crate) key: u8,
     back: u8,
 }
 
@@ -30,7 +30,8 @@ impl KeyInit<1> for Shift {
     ghost key_size = { (lit≤ tt, lit< tt) };
 }
 
-fn negated(key: u8) -> u8
+/// What the number adds up to 256 with.
+pub fn negated(key: u8) -> u8
     ensures { result ≡ (256 - key) % 256 }
 {
     if key == 0 { 0 } else { 255 - key + 1 }

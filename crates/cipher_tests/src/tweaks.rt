@@ -5,6 +5,7 @@ ghost use Rattle.std.specs.Prelude.{◌≡◌, ◌+◌, ◌-◌, ◌%◌, ℕ, [
 
 use crate::rows;
 use crate::rows::Row;
+use crate::shifted::negated;
 use cipher::{
     BlockCipherDecrypt, BlockCipherEncrypt, InOut, Tweak, TweakBlockCipherDecBackend,
     TweakBlockCipherDecClosure, TweakBlockCipherDecrypt, TweakBlockCipherEncBackend,
@@ -46,12 +47,13 @@ impl TweakBlockCipherEncrypt<4, 3> for Tweaked {
 }
 
 impl TweakBlockCipherDecBackend<4, 3> for Tweaked {
-    ghost decrypts = { λ _ t xs. (slice_index xs 0 + (256 - slice_index t 0)) % 256
-        ∷ (slice_index xs 1 + (256 - slice_index t 1)) % 256
-        ∷ (slice_index xs 2 + (256 - slice_index t 2)) % 256 ∷ slice_index xs 3 ∷ [] };
+    ghost decrypts = { λ _ t xs. (slice_index xs 0 + (256 - slice_index t 0) % 256) % 256
+        ∷ (slice_index xs 1 + (256 - slice_index t 1) % 256) % 256
+        ∷ (slice_index xs 2 + (256 - slice_index t 2) % 256) % 256 ∷ slice_index xs 3 ∷ [] };
 
     fn decrypt_block_inout(&self, tweak: &[u8; 3], block: &mut InOut<'_, '_, [u8; 4]>) {
-        subtract_bytes(&mut *block.output, block.input, tweak);
+        let back = [negated(tweak[0]), negated(tweak[1]), negated(tweak[2])];
+        add_bytes(&mut *block.output, block.input, &back);
     }
 
     ghost block_size = { (lit≤ tt, lit< tt) };
@@ -60,9 +62,9 @@ impl TweakBlockCipherDecBackend<4, 3> for Tweaked {
 }
 
 impl TweakBlockCipherDecrypt<4, 3> for Tweaked {
-    ghost decrypts = { λ _ t xs. (slice_index xs 0 + (256 - slice_index t 0)) % 256
-        ∷ (slice_index xs 1 + (256 - slice_index t 1)) % 256
-        ∷ (slice_index xs 2 + (256 - slice_index t 2)) % 256 ∷ slice_index xs 3 ∷ [] };
+    ghost decrypts = { λ _ t xs. (slice_index xs 0 + (256 - slice_index t 0) % 256) % 256
+        ∷ (slice_index xs 1 + (256 - slice_index t 1) % 256) % 256
+        ∷ (slice_index xs 2 + (256 - slice_index t 2) % 256) % 256 ∷ slice_index xs 3 ∷ [] };
 
     fn decrypt_with_backend<F: TweakBlockCipherDecClosure<4, 3>>(&self, f: &mut F) {
         f.call(self);
@@ -71,29 +73,6 @@ impl TweakBlockCipherDecrypt<4, 3> for Tweaked {
     ghost block_size = { (lit≤ tt, lit< tt) };
 
     ghost sized = { λ _ _ _ _ _. refl };
-}
-
-fn subtract_bytes(output: &mut [u8; 4], input: &[[u8; 4]], tweak: &[u8; 3])
-    ensures { let xs = slice_index_or input.now 0 output.old in
-        output.new ≡ (slice_index xs 0 + (256 - slice_index tweak.now 0)) % 256
-        ∷ (slice_index xs 1 + (256 - slice_index tweak.now 1)) % 256
-        ∷ (slice_index xs 2 + (256 - slice_index tweak.now 2)) % 256 ∷ slice_index xs 3 ∷ [] }
-{
-    if let Some(input) = input.first() {
-        *output = *input;
-    }
-    *output = [
-        less(output[0], tweak[0]),
-        less(output[1], tweak[1]),
-        less(output[2], tweak[2]),
-        output[3],
-    ];
-}
-
-fn less(x: u8, y: u8) -> u8
-    ensures { result ≡ (x + (256 - y)) % 256 }
-{
-    ((x as u16 + (256 - y as u16)) % 256) as u8
 }
 
 fn add_bytes(output: &mut [u8; 4], input: &[[u8; 4]], tweak: &[u8; 3])
@@ -120,7 +99,6 @@ const PLAIN: [u8; 4] = [1, 2, 3, 255];
 const ADDED: [u8; 4] = [8, 10, 2, 255];
 
 /// How a block goes, by the cipher or by its backend.
-#[derive(Clone, Copy)]
 pub enum How {
     There,
     ThereElsewhere,
@@ -134,37 +112,34 @@ pub enum How {
     BackendBackElsewhere,
 }
 
-fn go(how: How, block: &mut [u8; 4]) {
+// what a block becomes
+fn gone(c: &Tweaked, tweak: &Tweak<3>, how: &How, from: &[u8; 4]) -> [u8; 4] {
+    let mut block = *from;
     match how {
-        How::There => TweakBlockCipherEncrypt::encrypt_block(&Tweaked, &TWEAK, block),
+        How::There => TweakBlockCipherEncrypt::encrypt_block(c, tweak, &mut block),
         How::ThereElsewhere => {
-            TweakBlockCipherEncrypt::encrypt_block_b2b(&Tweaked, &TWEAK, &PLAIN, block);
+            TweakBlockCipherEncrypt::encrypt_block_b2b(c, tweak, &PLAIN, &mut block);
         }
         How::ThereByPlaces => {
-            TweakBlockCipherEncrypt::encrypt_block_inout(&Tweaked, &TWEAK, InOut::from(block));
+            TweakBlockCipherEncrypt::encrypt_block_inout(c, tweak, InOut::from(&mut block));
         }
-        How::Back => TweakBlockCipherDecrypt::decrypt_block(&Tweaked, &TWEAK, block),
+        How::Back => TweakBlockCipherDecrypt::decrypt_block(c, tweak, &mut block),
         How::BackElsewhere => {
-            TweakBlockCipherDecrypt::decrypt_block_b2b(&Tweaked, &TWEAK, &ADDED, block);
+            TweakBlockCipherDecrypt::decrypt_block_b2b(c, tweak, &ADDED, &mut block);
         }
         How::BackByPlaces => {
-            let places = InOut::new(&ADDED, block);
-            TweakBlockCipherDecrypt::decrypt_block_inout(&Tweaked, &TWEAK, places);
+            let places = InOut::new(&ADDED, &mut block);
+            TweakBlockCipherDecrypt::decrypt_block_inout(c, tweak, places);
         }
-        How::BackendThere => TweakBlockCipherEncBackend::encrypt_block(&Tweaked, &TWEAK, block),
+        How::BackendThere => TweakBlockCipherEncBackend::encrypt_block(c, tweak, &mut block),
         How::BackendThereElsewhere => {
-            TweakBlockCipherEncBackend::encrypt_block_b2b(&Tweaked, &TWEAK, &PLAIN, block);
+            TweakBlockCipherEncBackend::encrypt_block_b2b(c, tweak, &PLAIN, &mut block);
         }
-        How::BackendBack => TweakBlockCipherDecBackend::decrypt_block(&Tweaked, &TWEAK, block),
+        How::BackendBack => TweakBlockCipherDecBackend::decrypt_block(c, tweak, &mut block),
         How::BackendBackElsewhere => {
-            TweakBlockCipherDecBackend::decrypt_block_b2b(&Tweaked, &TWEAK, &ADDED, block);
+            TweakBlockCipherDecBackend::decrypt_block_b2b(c, tweak, &ADDED, &mut block);
         }
     }
-}
-
-fn gone(how: How, from: &[u8; 4]) -> [u8; 4] {
-    let mut block = *from;
-    go(how, &mut block);
     block
 }
 
@@ -191,7 +166,7 @@ pub enum Asked {
 /// Whether it is so.
 pub fn holds(asked: &Asked) -> bool {
     match asked {
-        Asked::Block(how, from, to) => gone(*how, from) == *to,
+        Asked::Block(how, from, to) => gone(&Tweaked, &TWEAK, how, from) == *to,
         Asked::Zero => match zero_tweak().clone() {
             Ok(c) => zero_tweak_adds_nothing(&c),
             Err(_) => false,
@@ -201,45 +176,45 @@ pub fn holds(asked: &Asked) -> bool {
 
 /// Rows of tweaks.
 pub const ROWS: &[Row] = &[
-    (
+    Row(
         "a tweak added in place",
         rows::Asked::Tweak(Asked::Block(How::There, PLAIN, ADDED)),
     ),
-    (
+    Row(
         "a tweak added elsewhere",
         rows::Asked::Tweak(Asked::Block(How::ThereElsewhere, [0; 4], ADDED)),
     ),
-    (
+    Row(
         "a tweak added by places",
         rows::Asked::Tweak(Asked::Block(How::ThereByPlaces, PLAIN, ADDED)),
     ),
-    (
+    Row(
         "a tweak subtracted in place",
         rows::Asked::Tweak(Asked::Block(How::Back, ADDED, PLAIN)),
     ),
-    (
+    Row(
         "a tweak subtracted elsewhere",
         rows::Asked::Tweak(Asked::Block(How::BackElsewhere, [0; 4], PLAIN)),
     ),
-    (
+    Row(
         "a tweak subtracted by places",
         rows::Asked::Tweak(Asked::Block(How::BackByPlaces, [0; 4], PLAIN)),
     ),
-    (
+    Row(
         "a tweak added by a backend",
         rows::Asked::Tweak(Asked::Block(How::BackendThere, PLAIN, ADDED)),
     ),
-    (
+    Row(
         "a tweak added elsewhere by a backend",
         rows::Asked::Tweak(Asked::Block(How::BackendThereElsewhere, [0; 4], ADDED)),
     ),
-    (
+    Row(
         "a tweak subtracted by a backend",
         rows::Asked::Tweak(Asked::Block(How::BackendBack, ADDED, PLAIN)),
     ),
-    (
+    Row(
         "a tweak subtracted elsewhere by a backend",
         rows::Asked::Tweak(Asked::Block(How::BackendBackElsewhere, [0; 4], PLAIN)),
     ),
-    ("the zero tweak", rows::Asked::Tweak(Asked::Zero)),
+    Row("the zero tweak", rows::Asked::Tweak(Asked::Zero)),
 ];
