@@ -8,3 +8,4 @@ pub mod TypedSets
 pub mod TypingFacts
 pub mod KeyEntries
 pub mod LastingFacts
+pub mod TestFacts

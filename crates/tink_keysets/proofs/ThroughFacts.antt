@@ -1,15 +1,16 @@
 -- What calls through a reader or a writer answer, from what each of their parts does.
-use Rattle.std.proofs.Common.{◌≡◌, ◌∙◌, inl, inr, ap, refl, subst, sym, List, Option, None, Result, Ok, Err, ℕ}
+use Rattle.std.proofs.Common.{◌≡◌, ◌⊎◌, ◌∙◌, inl, inr, ap, refl, subst, sym, [], List, Option, None, Result, Ok, Err, ℕ}
 use Rattle.std.specs.Prelude.{OnOk, IfErr}
-use Rattle.tink_io.specs.Told.{Answers, Tells}
+use Rattle.tink_io.specs.Told.{Answers, IsShort, made_of, Tells}
 use Rattle.tink_io.specs.declared.error.Kind.{Kind}
+use Rattle.tink_io.specs.declared.error.Kind.TheVariants.{OutOfMemory as NoMemory}
 use Rattle.tink_io.specs.declared.error.TinkError.{TinkError}
 use Rattle.tink_proto.specs.Outcome.{Fails}
 use Rattle.tink_proto.specs.declared.error.ProtoError.{ProtoError}
 use Rattle.tink_proto.specs.declared.error.ProtoError.TheVariants.{BadMessage, BadJson, OutOfMemory}
-use Rattle.tink_keysets.specs.Encrypted.{chained}
+use Rattle.tink_keysets.specs.Encrypted.{by_master, chained}
 use Rattle.tink_keysets.specs.Ends.{HasWritten, IsAsTold, IsReadRefusal}
-use Rattle.tink_keysets.specs.Through.{GivesBy, LeavesDraws, MakesAndWrites}
+use Rattle.tink_keysets.specs.Through.{GivesBy, IsUnmade, LeavesDraws, MakesAndWrites}
 
 -- an answer by what was read
 pub from_read : {S T : Type 0} (makes : S → Result T Kind) (r : Result T TinkError) (told : Option (Result S Kind)) (read : S) (before now : ℕ)
@@ -51,3 +52,29 @@ pub not_read : {M : Type 0} (e : ProtoError) (read : Option M) → (e ≡ OutOfM
 not_read BadMessage read other h = h
 not_read BadJson read other h = absurd h
 not_read OutOfMemory read other h = absurd (other refl)
+
+-- a refusal of the first of two steps
+pub refused_chained : {S T : Type 0} (makes : S → Result T Kind) (told : Result S Kind) (kind : Kind) → (kind ≡ NoMemory) ⊎ (told ≡ Err kind) → (kind ≡ NoMemory) ⊎ (chained makes told ≡ Err kind)
+refused_chained makes told kind h = elim h [ inl memory ↦ inl memory | inr is ↦ inr (ap (chained makes) is) ]
+
+-- and of the making of a message, which leaves the writer
+pub unmade : {S W : Type 0} (made : Result S Kind) (left : List ℕ) (kind : Kind) (before now : List ℕ) (w : W) → IsShort kind before now ⊎ ((made ≡ Err kind) × (now ≡ left)) → IsUnmade made kind w w
+unmade made left kind before now w h = elim h [
+  | inl short ↦ record { cause = inl short.kind; same = refl }
+  | inr said ↦ record { cause = inr said.0; same = refl }
+]
+
+pub left_unmade : {S : Type 0} (made : Result S Kind) (left : List ℕ) (kind : Kind) (before now : List ℕ) → IsShort kind before now ⊎ ((made ≡ Err kind) × (now ≡ left)) → IsShort kind before now ⊎ (now ≡ left)
+left_unmade made left kind before now h = elim h [ inl short ↦ inl short | inr said ↦ inr said.1 ]
+
+-- nothing was drawn, and there is no memory
+pub without_memory : (e : TinkError) (draws : List ℕ) → e ≡ record { kind = NoMemory } → IsShort e.kind draws draws
+without_memory e draws is = record { kind = ap (λ (x : TinkError). x.kind) is; ends = ([], refl) }
+
+-- a master's refusal, and so that of what is made of its answer
+pub refused_beside : {T : Type 0} (f : List ℕ → T) (encrypts : List ℕ → Result (List ℕ) Kind × List ℕ) (kind : Kind) (before now seen text : List ℕ) → seen ≡ text
+    → IsShort kind before now ⊎ ((by_master (encrypts seen).0 ≡ Err kind) × (now ≡ (encrypts seen).1))
+    → IsShort kind before now ⊎ ((made_of f (by_master (encrypts text).0) ≡ Err kind) × (now ≡ (encrypts text).1))
+refused_beside f encrypts kind before now seen text same h =
+    subst (λ (bytes : List ℕ). IsShort kind before now ⊎ ((made_of f (by_master (encrypts bytes).0) ≡ Err kind) × (now ≡ (encrypts bytes).1))) same
+    (elim h [ inl short ↦ inl short | inr said ↦ inr (ap (made_of f) said.0, said.1) ])

@@ -93,6 +93,13 @@ module _ {K A D HD HE M P S St V Q : Type 0} (pick : Primitive K A D HD HE M P S
   built_so : (id : ℕ) (es : List (Entry K A D HD HE M P S St V)) (told : Result (List (Entry K A D HD HE M P S St V)) Kind) (b : Bool) → told ≡ Ok es → is_some (find (λ e. nat_eq e.key_id id) es) ≡ b → typed_entries pick id told ≡ cond b (converted (typed_by pick) es) (Err NoPrimary)
   built_so id es told b is there = rw is (ap (λ c. cond c (converted (typed_by pick) es) (Err NoPrimary)) there)
 
+  pub typed-refused : (id : ℕ) (told : Result (List (Entry K A D HD HE M P S St V)) Kind) (kind : Kind) → (kind ≡ OutOfMemory) ⊎ (told ≡ Err kind) → (kind ≡ OutOfMemory) ⊎ (typed_entries pick id told ≡ Err kind)
+  typed-refused id told kind h = ⊎_elim inl (λ is. inr (ap (typed_entries pick id) is)) h
+
+  pub typed-no_primary : (id : ℕ) (told : Result (List (Entry K A D HD HE M P S St V)) Kind) (es : List (Entry K A D HD HE M P S St V)) (primary : Option (Entry K A D HD HE M P S St V))
+      → told ≡ Ok es → primary ≡ find (λ e. nat_eq e.key_id id) es → is_some primary ≡ false → typed_entries pick id told ≡ Err NoPrimary
+  typed-no_primary id told es primary is by_id none = built_so id es told false is (ap is_some (sym by_id) ∙ none)
+
   module _ {T U G : Type 0} (id : ℕ) (told : Result (List (Entry K A D HD HE M P S St V)) Kind) (primary_of : U → Option (Entry K A D HD HE M P S St V)) (groups_of : U → BTreeMap (Vec ℕ G) (List (Entry K A D HD HE M P S St V))) (typed_primary_of : T → Option (TypedEntry Q)) (typed_groups_of : T → BTreeMap (Vec ℕ G) (List (TypedEntry Q))) where
     -- a set of what was built, and one of the one sort
     abbrev pub Built : List (Entry K A D HD HE M P S St V) → U → Type 0
@@ -101,13 +108,7 @@ module _ {K A D HD HE M P S St V Q : Type 0} (pick : Primitive K A D HD HE M P S
     abbrev pub Typed : List (TypedEntry Q) → T → Type 0
     Typed ts set = HasEntries typed_prefix_of (λ t. t.key_id) id ts (typed_primary_of set) (typed_groups_of set)
 
-    pub typed-refused : (e : TinkError) → (e.kind ≡ OutOfMemory) ⊎ (told ≡ Err e.kind) → (e.kind ≡ OutOfMemory) ⊎ (typed_entries pick id told ≡ Err e.kind)
-    typed-refused e h = ⊎_elim inl (λ is. inr (ap (typed_entries pick id) is)) h
-
     module _ (set : U) (built : (es : List (Entry K A D HD HE M P S St V)) × (told ≡ Ok es) × Built es set) where
-      pub typed-no_primary : is_some (primary_of set) ≡ false → typed_entries pick id told ≡ Err NoPrimary
-      typed-no_primary none = built_so id built.0 told false built.1 (ap is_some (sym built.2.by_id) ∙ none)
-
       whole : is_some (primary_of set) ≡ true → typed_entries pick id told ≡ converted (typed_by pick) built.0
       whole there = built_so id built.0 told true built.1 (ap is_some (sym built.2.by_id) ∙ there)
 
@@ -124,12 +125,13 @@ module _ {K A D HD HE M P S St V Q : Type 0} (pick : Primitive K A D HD HE M P S
           (λ h. inr (whole there ∙ another id built.0 (primary_of set) (groups_of set) built.2 law (converted (typed_by pick) built.0) refl h.1 ∙ ap Err (sym h.0)))
           other
 
-      has_one : (o : Option (Entry K A D HD HE M P S St V)) (q : Option (TypedEntry Q)) → is_some o ≡ true → IsTypedPrimary pick o q → is_some q ≡ true
-      has_one None None there h = there
-      has_one None (Some t) there h = refl
-      has_one (Some e) None there h = absurd h
-      has_one (Some e) (Some t) there h = refl
+  has_one : (o : Option (Entry K A D HD HE M P S St V)) (q : Option (TypedEntry Q)) → is_some o ≡ true → IsTypedPrimary pick o q → is_some q ≡ true
+  has_one None None there h = there
+  has_one None (Some t) there h = refl
+  has_one (Some e) None there h = absurd h
+  has_one (Some e) (Some t) there h = refl
 
-      pub typed-has_primary : is_some (primary_of set) ≡ true → (r : Result T TinkError) → IfOk r (λ t. IsTypedPrimary pick (primary_of set) (typed_primary_of t)) → IfOk r (λ t. is_some (typed_primary_of t) ≡ true)
-      typed-has_primary there (Ok t) first = has_one (primary_of set) (typed_primary_of t) there first
-      typed-has_primary there (Err e) first = tt
+  pub typed-has_primary : {T : Type 0} (typed_primary_of : T → Option (TypedEntry Q)) (o : Option (Entry K A D HD HE M P S St V)) → is_some o ≡ true → (r : Result T TinkError)
+      → IfOk r (λ t. IsTypedPrimary pick o (typed_primary_of t)) → IfOk r (λ t. is_some (typed_primary_of t) ≡ true)
+  typed-has_primary typed_primary_of o there (Ok t) first = has_one o (typed_primary_of t) there first
+  typed-has_primary typed_primary_of o there (Err e) first = tt

@@ -38,3 +38,8 @@ HasWritten (Err e) told before now = IsWriteRefusal told e.kind before now
 abbrev pub held_or : {T : Type 0} → Option T → Result T Kind
 held_or None = Err NoKeyset
 held_or (Some v) = Ok v
+
+-- what was made stands in a field, or the field is as before and the refusal is passed on, which only the code needs
+abbrev pub HasPut : {T : Type 0} → Result T TinkError → Result (Unit {0}) TinkError → Option T → Option T → Type 0
+HasPut (Ok v) result old new = (result ≡ Ok tt) × (new ≡ Some v)
+HasPut (Err e) result old new = (result ≡ Err e) × (new ≡ old)

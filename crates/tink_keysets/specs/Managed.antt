@@ -1,6 +1,8 @@
 -- What key managers make of a keyset: the data of a new key, and the public part of each key.
-use Rattle.std.specs.Prelude.{ℕ, List, [], Bool, Option, Result, Ok, Err}
+use Rattle.std.specs.Prelude.{◌≡◌, ℕ, List, [], Bool, Option, Result, Ok, Err}
+use Rattle.tink_io.specs.Told.{Tells}
 use Rattle.tink_io.specs.declared.error.Kind.{Kind}
+use Rattle.tink_io.specs.declared.error.TinkError.{TinkError}
 use Rattle.tink_proto.specs.declared.messages.keys.Key.{Key}
 use Rattle.tink_proto.specs.declared.messages.keys.KeyData.{KeyData}
 use Rattle.tink_proto.specs.declared.messages.keys.KeyTemplate.{KeyTemplate}
@@ -23,6 +25,12 @@ module _ {M : Type 0} (url : M → List ℕ) where
   -- adding a key by a template
   abbrev pub added_by : (M → List ℕ → List ℕ → Result KeyData Kind × List ℕ) → List M → Keyset → KeyTemplate → Bool → List ℕ → Added
   added_by makes managers ks kt as_primary draws = added ks kt as_primary (data_by makes managers kt draws)
+
+-- a call answers as is told, and leaves the keyset and the draws that are told, which only the code needs
+pub record IsAdded (result : Result ℕ TinkError) (now : Keyset) (draws : List ℕ) (told : Added) : Type 0 where
+  pub answer : Tells result told.answer
+  pub keyset : now ≡ told.keyset
+  pub left : draws ≡ told.left
 
 -- a keyset with other keys
 abbrev pub with_keys : Keyset → Result (List Key) Kind → Result Keyset Kind

@@ -3,14 +3,17 @@
 ghost use Rattle.std.specs.Prelude.{◌≡◌, true, is_some, None, IfOk};
 ghost use Rattle.tink_sets.specs.Entries.{entry_of};
 ghost use Rattle.tink_keysets.specs.Built.{built_entries, GivesSet};
-ghost use Rattle.tink_keysets.specs.Typing.{typed_entries, IsTypedSetOf};
+ghost use Rattle.tink_keysets.specs.Typing.{typed_entries, GivesTyped, IsTypedSetOf};
 
 use crate::keyset::Handle;
 use std::alloc::Global;
+use std::collections::BTreeMap;
 use tink_io::{Kind, TinkError};
+use tink_primitives::Kinds;
+use tink_proto::Repeated;
 use tink_registry::{KeyManager, Registry};
-use tink_sets::TypedPrimitiveSet;
 use tink_sets::sorts::Sort;
+use tink_sets::{PrimitiveSet, TypedPrimitiveSet};
 
 /// The set of the enabled keys' primitives as one of the sort `S`. It has a primary entry.
 ///
@@ -26,12 +29,30 @@ pub fn typed_primitives<M: KeyManager, S: Sort<M::Family>>(
         (built_entries M.url M.supports M.builds entry_of registry.now.managers None h.now)) }
     ensures primary { IfOk result (λ set. is_some set.primary ≡ true) }
 {
-    let built = match h.primitives(alloc, registry) {
-        Ok(built) => built,
-        Err(e) => return Err(e),
-    };
+    match h.primitives(alloc, registry) {
+        Ok(built) => {
+            let typed = lent_as::<M::Family, S>(alloc, &built);
+            let PrimitiveSet { primary, entries } = built;
+            let_go(primary, entries);
+            typed
+        }
+        Err(e) => Err(e),
+    }
+}
+
+// What was built as a set of one sort.
+fn lent_as<K: Kinds, S: Sort<K>>(
+    alloc: Global,
+    built: &PrimitiveSet<K>,
+) -> Result<TypedPrimitiveSet<S::Of>, TinkError>
+    ensures set { GivesTyped S.picks built.now result }
+    ensures primary { IfOk result (λ set. is_some set.primary ≡ true) }
+{
     if built.primary.is_none() {
         return Err(TinkError::new(Kind::NoPrimary));
     }
-    TypedPrimitiveSet::from_set_of_sort::<M::Family, S>(alloc, &built)
+    TypedPrimitiveSet::from_set_of_sort::<K, S>(alloc, built)
 }
+
+// Nothing of a set is left.
+fn let_go<E: Drop>(_primary: Option<E>, _entries: BTreeMap<Vec<u8>, Repeated<E>>) {}

@@ -51,8 +51,10 @@ impl Handle {
         ensures leaves { R.leaves reader.old reader.new }
         ensures same { R.same reader.old reader.new }
     {
-        let encrypted = reader.read_encrypted(alloc)?;
-        decrypt(alloc, &encrypted, master, associated_data)
+        match reader.read_encrypted(alloc) {
+            Ok(encrypted) => decrypt(alloc, &encrypted, master, associated_data),
+            Err(e) => Err(e),
+        }
     }
 
     /// Writes the keyset, encrypted by `master` with empty associated data.
@@ -104,8 +106,10 @@ impl Handle {
         // The bytes that were encrypted are those of a handle, which is this one.
         ensures again { OnOk result (handle_of_bytes (encoded keyset.write self.now) ≡ Ok self.now) }
     {
-        let encrypted = encrypt(alloc, self, master, associated_data, draws)?;
-        writer.write_encrypted(alloc, &encrypted)
+        match encrypt(alloc, self, master, associated_data, draws) {
+            Ok(encrypted) => writer.write_encrypted(alloc, &encrypted),
+            Err(e) => Err(e),
+        }
     }
 }
 
@@ -155,7 +159,10 @@ fn encrypted_bytes<A: Aead>(
 fn handle_of_bytes(alloc: Global, bytes: &[u8]) -> Result<Handle, TinkError>
     ensures { Answers result (handle_of_bytes bytes.now) }
 {
-    Handle::from_keyset(insecure::decode(alloc, bytes)?)
+    match insecure::decode(alloc, bytes) {
+        Ok(keyset) => Handle::from_keyset(keyset),
+        Err(e) => Err(e),
+    }
 }
 
 // The bytes of a handle's keyset. Its error is `OutOfMemory` alone.
@@ -180,13 +187,15 @@ fn decrypt<A: Aead>(
 ) -> Result<Handle, TinkError>
     ensures { Answers result (decrypted (A.decrypts master.now) associated_data.now encrypted.now) }
 {
-    let bytes = decrypted_bytes(
+    match decrypted_bytes(
         alloc,
         encrypted.encrypted_keyset.as_slice(),
         master,
         associated_data,
-    )?;
-    handle_of_bytes(alloc, bytes.as_slice())
+    ) {
+        Ok(bytes) => handle_of_bytes(alloc, bytes.as_slice()),
+        Err(e) => Err(e),
+    }
 }
 
 // The encrypted keyset of a handle. Draws are taken last.
@@ -201,17 +210,19 @@ fn encrypt<A: Aead>(
         draws.old draws.new }
     ensures again { OnOk result (handle_of_bytes (encoded keyset.write h.now) ≡ Ok h.now) }
 {
-    let keyset_info = h.keyset_info(alloc)?;
-    let bytes = bytes_of(alloc, h)?;
-    let encrypted_keyset = encrypted_bytes(
-        alloc,
-        bytes.as_slice(),
-        master,
-        associated_data,
-        draws,
-    )?;
-    Ok(EncryptedKeyset {
-        encrypted_keyset,
-        keyset_info: Some(keyset_info),
-    })
+    let keyset_info = match h.keyset_info(alloc) {
+        Ok(keyset_info) => keyset_info,
+        Err(e) => return Err(e),
+    };
+    let bytes = match bytes_of(alloc, h) {
+        Ok(bytes) => bytes,
+        Err(e) => return Err(e),
+    };
+    match encrypted_bytes(alloc, bytes.as_slice(), master, associated_data, draws) {
+        Ok(encrypted_keyset) => Ok(EncryptedKeyset {
+            encrypted_keyset,
+            keyset_info: Some(keyset_info),
+        }),
+        Err(e) => Err(e),
+    }
 }

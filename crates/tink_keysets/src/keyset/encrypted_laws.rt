@@ -33,6 +33,8 @@ pub fn law_written_is_read<A: Aead>(
         → A.decrypts master.now ciphertext read.now ≡ Err kind → Answers result (Err MasterFailed) }
 {
     let mut memory = MemReaderWriter::default();
-    h.write_with_associated_data(alloc, &mut memory, master, written, draws)?;
-    Handle::read_with_associated_data(alloc, &mut memory, master, read)
+    match h.write_with_associated_data(alloc, &mut memory, master, written, draws) {
+        Ok(()) => Handle::read_with_associated_data(alloc, &mut memory, master, read),
+        Err(e) => Err(e),
+    }
 }

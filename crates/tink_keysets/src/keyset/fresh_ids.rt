@@ -5,6 +5,7 @@ ghost use Rattle.std.specs.List.{list_any};
 ghost use Rattle.keyset_model.specs.Adding as adding;
 ghost use Rattle.keyset_model.specs.Keys as key_words;
 
+use keyset_model::places::place_of;
 use tink_io::{Draws, Kind, TinkError};
 use tink_proto::Key;
 use tink_subtle::random::get_random_uint32;
@@ -22,7 +23,7 @@ fn is_taken(keys: &[Key], id: u32) -> bool
 fn some_has_id(keys: &[Key], id: u32) -> bool
     ensures { result ≡ list_any (key_words.has_id id) keys.now }
 {
-    keys.iter().any(|key| key.key_id == id)
+    place_of(keys, id).is_some()
 }
 
 // An id that isn't 0 and that no key has.

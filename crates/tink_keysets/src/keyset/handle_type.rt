@@ -58,8 +58,10 @@ impl Handle {
             draws.old draws.new }
     {
         let mut manager = Manager::new(alloc);
-        let _id = manager.rotate(alloc, kt, registry, draws)?;
-        Ok(manager.into_handle())
+        match manager.rotate(alloc, kt, registry, draws) {
+            Ok(_) => Ok(manager.into_handle()),
+            Err(e) => Err(e),
+        }
     }
 
     /// A handle of the public parts of the keys, which must all be private.
@@ -76,11 +78,13 @@ impl Handle {
         ensures { Answers result
             (public_keyset (public_data M.url M.has_public M.gives_public registry.now.managers) self.now) }
     {
-        let key = public_keys(alloc, self.keys(), registry)?;
-        Ok(Handle::from_held(Keyset {
-            primary_key_id: self.ks.primary_key_id,
-            key,
-        }))
+        match public_keys(alloc, self.keys(), registry) {
+            Ok(key) => Ok(Handle::from_held(Keyset {
+                primary_key_id: self.ks.primary_key_id,
+                key,
+            })),
+            Err(e) => Err(e),
+        }
     }
 
     /// A handle of a keyset without secrets.
@@ -91,7 +95,10 @@ impl Handle {
     pub fn new_with_no_secrets(ks: Keyset) -> Result<Handle, TinkError>
         ensures { Tells result (handle_without_secrets ks) }
     {
-        let h = Handle::from_keyset(ks)?;
+        let h = match Handle::from_keyset(ks) {
+            Ok(h) => h,
+            Err(e) => return Err(e),
+        };
         if have_secrets(h.keys()) {
             return Err(TinkError::new(Kind::HasSecrets));
         }
@@ -227,39 +234,65 @@ fn key_info(alloc: Global, key: &Key) -> Result<KeyInfo, AllocError>
 impl fmt::Debug for Handle {
     fn fmt<W: fmt::Write>(&self, f: &mut fmt::Formatter<W>) -> fmt::Result {
         let primary = self.ks.primary_key_id;
-        write!(f, "KeysetInfo {{ primary_key_id: {primary}, key_info: [")?;
-        for (i, key) in self.keys().iter().enumerate() {
-            if i > 0 {
-                f.write_str(", ")?;
-            }
-            write_key(f, key)?;
-        }
-        f.write_str("] }")
+        let keys = Keys(self.keys());
+        write!(
+            f,
+            "KeysetInfo {{ primary_key_id: {primary}, key_info: [{keys}] }}"
+        )
     }
 }
 
-fn write_key<W: fmt::Write>(f: &mut fmt::Formatter<W>, key: &Key) -> fmt::Result {
-    let url = match &key.key_data {
+// Keys, which print what may be shown of them.
+#[derive(Drop)]
+struct Keys<'a>(&'a [Key]);
+
+impl fmt::Display for Keys<'_> {
+    fn fmt<W: fmt::Write>(&self, f: &mut fmt::Formatter<W>) -> fmt::Result {
+        let mut between = "";
+        for key in self.0 {
+            write_key(f, between, key)?;
+            between = ", ";
+        }
+        Ok(())
+    }
+}
+
+fn write_key<W: fmt::Write>(f: &mut fmt::Formatter<W>, before: &str, key: &Key) -> fmt::Result {
+    let type_url = match &key.key_data {
         Some(data) => data.type_url.as_str(),
         None => "",
     };
-    write!(f, "KeyInfo {{ type_url: {url:?}, status: ")?;
-    write_status(f, key.status)?;
-    write!(f, ", key_id: {}, output_prefix_type: ", key.key_id)?;
-    write_prefix_type(f, key.output_prefix_type)?;
-    f.write_str(" }")
+    let status = Status(key.status);
+    let key_id = key.key_id;
+    let prefix = PrefixType(key.output_prefix_type);
+    write!(
+        f,
+        "{before}KeyInfo {{ type_url: {type_url:?}, status: {status}, key_id: {key_id}, output_prefix_type: {prefix} }}"
+    )
 }
 
-fn write_status<W: fmt::Write>(f: &mut fmt::Formatter<W>, number: i32) -> fmt::Result {
-    match KeyStatusType::try_from(number) {
-        Ok(status) => write!(f, "{status:?}"),
-        Err(_) => write!(f, "{number}"),
+// The number of a status, which prints its name where it has one.
+#[derive(Drop)]
+struct Status(i32);
+
+impl fmt::Display for Status {
+    fn fmt<W: fmt::Write>(&self, f: &mut fmt::Formatter<W>) -> fmt::Result {
+        match KeyStatusType::try_from(self.0) {
+            Ok(status) => fmt::Debug::fmt(&status, f),
+            Err(_) => fmt::Display::fmt(&self.0, f),
+        }
     }
 }
 
-fn write_prefix_type<W: fmt::Write>(f: &mut fmt::Formatter<W>, number: i32) -> fmt::Result {
-    match OutputPrefixType::try_from(number) {
-        Ok(prefix) => write!(f, "{prefix:?}"),
-        Err(_) => write!(f, "{number}"),
+// The number of a prefix type, in the same way.
+#[derive(Drop)]
+struct PrefixType(i32);
+
+impl fmt::Display for PrefixType {
+    fn fmt<W: fmt::Write>(&self, f: &mut fmt::Formatter<W>) -> fmt::Result {
+        match OutputPrefixType::try_from(self.0) {
+            Ok(prefix) => fmt::Debug::fmt(&prefix, f),
+            Err(_) => fmt::Display::fmt(&self.0, f),
+        }
     }
 }

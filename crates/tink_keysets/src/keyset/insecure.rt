@@ -52,8 +52,10 @@ pub fn valid_handle(alloc: Global, bytes: &[u8]) -> Result<Handle, TinkError>
     ensures answer { Answers result (valid_keyset bytes.now) }
     ensures valid { IfOk result IsValid }
 {
-    let keyset = decode(alloc, bytes)?;
-    validated(keyset)
+    match decode(alloc, bytes) {
+        Ok(keyset) => validated(keyset),
+        Err(e) => Err(e),
+    }
 }
 
 // A handle of a keyset that is valid.
@@ -61,8 +63,7 @@ fn validated(keyset: Keyset) -> Result<Handle, TinkError>
     ensures { Answers result (valid_or_refused keyset) }
 {
     validate(&keyset)?;
-    let handle = new_handle(keyset)?;
-    Ok(handle)
+    new_handle(keyset)
 }
 
 /// A handle of a keyset, whatever its keys are.
@@ -89,8 +90,10 @@ pub fn read<R: Reader>(alloc: Global, reader: &mut R) -> Result<Handle, TinkErro
     ensures leaves { R.leaves reader.old reader.new }
     ensures same { R.same reader.old reader.new }
 {
-    let ks = reader.read(alloc)?;
-    new_handle(ks)
+    match reader.read(alloc) {
+        Ok(ks) => new_handle(ks),
+        Err(e) => Err(e),
+    }
 }
 
 /// Writes a handle's keyset, whatever its keys are.

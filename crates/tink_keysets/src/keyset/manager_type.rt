@@ -9,9 +9,8 @@ ghost use Rattle.tink_keysets.specs.Managed.{added_by};
 ghost use Rattle.tink_keysets.specs.Told.{Edits};
 
 use crate::keyset::Handle;
-use crate::keyset::adding::{new_data, put_key};
+use crate::keyset::adding::{new_data, put_new};
 use crate::keyset::copies::copy_all;
-use crate::keyset::fresh_ids::draw_id;
 use keyset_model::places::{
     is_known_status, is_live, place_of, put_destroyed, put_status, take_out,
 };
@@ -82,11 +81,13 @@ impl Manager {
         ensures keyset { IfOk result (λ h. h ≡ self.now) }
         ensures err { IfErr result (λ e. e ≡ record { kind = OutOfMemory }) }
     {
-        let keys = copy_all(alloc, &self.keys)?;
-        Ok(Handle::from_held(Keyset {
-            primary_key_id: self.primary,
-            key: Repeated::from_vec(keys),
-        }))
+        match copy_all(alloc, &self.keys) {
+            Ok(keys) => Ok(Handle::from_held(Keyset {
+                primary_key_id: self.primary,
+                key: Repeated::from_vec(keys),
+            })),
+            Err(e) => Err(e),
+        }
     }
 
     /// Enables the first key of the id.
@@ -194,19 +195,19 @@ impl Manager {
         ensures fresh { IfOk result (λ id. IsFresh self.old.key id) }
     {
         self.keys.reserve(1)?;
-        let key_data = match new_data(alloc, kt, registry, draws) {
-            Ok(key_data) => key_data,
-            Err(e) => return Err(e),
-        };
-        let id = match draw_id(&self.keys, draws) {
-            Ok(id) => id,
-            Err(e) => return Err(e),
-        };
-        put_key(&mut self.keys, kt, key_data, id);
-        if as_primary {
-            self.primary = id;
+        match new_data(alloc, kt, registry, draws) {
+            Ok(key_data) => {
+                put_new(
+                    &mut self.primary,
+                    &mut self.keys,
+                    kt,
+                    key_data,
+                    draws,
+                    as_primary,
+                )
+            }
+            Err(e) => Err(e),
         }
-        Ok(id)
     }
 
     /// Adds a key by a template as the primary one: `add` with `as_primary`.

@@ -1,7 +1,7 @@
 //! Keysets in memory, as a reader and a writer.
 
 ghost use Rattle.std.specs.Prelude.{◌≡◌, ◌≤◌, ⊤, Some, Ok, OnOk, OnErr};
-ghost use Rattle.tink_keysets.specs.Ends.{HasRead, HasWritten, held_or};
+ghost use Rattle.tink_keysets.specs.Ends.{HasPut, HasRead, HasWritten, held_or};
 
 use crate::keyset::copies::copy;
 use crate::keyset::{Reader, Writer};
@@ -92,9 +92,7 @@ impl Writer for MemReaderWriter {
         ensures count { 0 ≤ 0 }
         ensures same { ⊤ }
     {
-        let keyset = copy(alloc, ks)?;
-        self.keyset = Some(keyset);
-        Ok(())
+        put(&mut self.keyset, copy(alloc, ks))
     }
 
     /// Puts a copy of the encrypted keyset in place of the one that is there.
@@ -108,12 +106,23 @@ impl Writer for MemReaderWriter {
         ensures count { 0 ≤ 0 }
         ensures same { ⊤ }
     {
-        let keyset = copy(alloc, ks)?;
-        self.encrypted_keyset = Some(keyset);
-        Ok(())
+        put(&mut self.encrypted_keyset, copy(alloc, ks))
     }
 
     ghost same_refl = { λ _. tt };
 
     ghost same_trans = { λ _ _ _ _ _. tt };
+}
+
+// Puts what was made in place of what is there. A refusal changes nothing.
+fn put<T: Drop>(slot: &mut Option<T>, made: Result<T, TinkError>) -> Result<(), TinkError>
+    ensures { HasPut made result slot.old slot.new }
+{
+    match made {
+        Ok(value) => {
+            *slot = Some(value);
+            Ok(())
+        }
+        Err(e) => Err(e),
+    }
 }

@@ -24,8 +24,10 @@ impl Handle {
         ensures leaves { R.leaves reader.old reader.new }
         ensures same { R.same reader.old reader.new }
     {
-        let ks = reader.read(alloc)?;
-        Handle::new_with_no_secrets(ks)
+        match reader.read(alloc) {
+            Ok(ks) => Handle::new_with_no_secrets(ks),
+            Err(e) => Err(e),
+        }
     }
 
     /// Writes the keyset, which must be without secrets.

@@ -80,7 +80,7 @@ fn has_at_most_one_primary(primary: u32, keys: &[Key]) -> bool
 fn are_well_formed(keys: &[Key]) -> bool
     ensures { result ≡ list_all validity.is_well_formed keys.now }
 {
-    keys.iter().all(|key| is_well_formed(key))
+    keys.iter().all(is_well_formed)
 }
 
 fn is_well_formed(key: &Key) -> bool
@@ -111,7 +111,7 @@ fn enabled_of_id(id: u32, keys: &[Key]) -> usize
 fn some_enabled_has_id(id: u32, keys: &[Key]) -> bool
     ensures { result ≡ list_any (key_words.is_enabled_with id) keys.now }
 {
-    keys.iter().any(|key| is_enabled_with(key, id))
+    enabled_of_id(id, keys) > 0
 }
 
 fn is_enabled_with(key: &Key, id: u32) -> bool
@@ -124,9 +124,7 @@ fn is_enabled_with(key: &Key, id: u32) -> bool
 fn are_public(keys: &[Key]) -> bool
     ensures { result ≡ list_all key_words.is_public (filter key_words.is_enabled keys.now) }
 {
-    keys.iter()
-        .filter(|key| is_enabled(key))
-        .all(|key| is_public(key))
+    keys.iter().filter(|key| is_enabled(key)).all(is_public)
 }
 
 fn is_public(key: &Key) -> bool
@@ -142,7 +140,7 @@ fn is_public(key: &Key) -> bool
 pub(crate) fn are_held(keys: &[Key]) -> bool
     ensures { result ≡ list_all validity.is_held keys.now }
 {
-    keys.iter().all(|key| is_held(key))
+    keys.iter().all(is_held)
 }
 
 fn is_held(key: &Key) -> bool
@@ -170,7 +168,7 @@ fn is_known_material(data: &Option<KeyData>) -> bool
 pub(crate) fn have_secrets(keys: &[Key]) -> bool
     ensures { result ≡ list_any secrets.is_secret keys.now }
 {
-    keys.iter().any(|key| is_secret(key))
+    keys.iter().any(is_secret)
 }
 
 fn is_secret(key: &Key) -> bool

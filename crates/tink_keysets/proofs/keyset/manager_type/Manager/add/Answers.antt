@@ -1,85 +1,51 @@
-use Rattle.std.proofs.Common.{◌≡◌, ◌∙◌, inr, List, Bool, cond, ap, sym}
+use Rattle.std.proofs.Common.{◌≡◌, IsTrue, List, subst, sym}
+use Rattle.std.specs.List.{list_all}
 use Rattle.tink_proto.specs.declared.messages.keys.Key.{Key}
 use Rattle.tink_proto.specs.declared.messages.keys.Keyset.{Keyset}
-use Rattle.keyset_model.specs.Adding.{is_taken}
-use Rattle.keyset_model.proofs.FreshIds.{fresh_if_not_taken}
-use Rattle.tink_keysets.specs.Managed.{data_by}
-use Rattle.tink_keysets.proofs.AddingFacts.{refused_data, refused_id, same_keys, with_id, with_new}
+use Rattle.keyset_model.specs.Adding.{added}
+use Rattle.keyset_model.specs.Validity.{is_held}
+use Rattle.tink_keysets.specs.Managed.{data_by, IsAdded}
+use Rattle.tink_keysets.proofs.AddingFacts.{fresh_added, is_added, left_added, refused_data, replies_added, same_keys}
+use Rattle.tink_keysets.proofs.GivenData.{gives_held}
+use Rattle.tink_keysets.proofs.ThroughFacts.{so_on_ok}
 use Rattle.tink_keysets.proofs.keyset.manager_type.Manager.add.Goals as goal
+
+pub returns-in-Ok : goal.returns-in-Ok
+returns-in-Ok g c =
+    let ks = c.args.self.now in
+    let made = data_by g.M.KeyManager.url g.M.KeyManager.makes_data c.args.registry.now.managers c.args.kt.now c.args.draws.now in
+    let now : Keyset = record { primary_key_id = c.put_new.new.primary; key = c.put_new.new.keys.items } in
+    let held : record { primary_key_id = c.self.inside.primary; key = c.reserve.new.self.items } ≡ ks = same_keys _ _ _ _ c.self.view_is c.in_ok-reserve.ensures.items in
+    let told : IsAdded c.put_new.result now c.put_new.new.draws (added ks c.args.kt.now c.args.as_primary made) =
+    is_added ks _ c.args.kt.now c.args.as_primary made c.in-Ok.key_data c.new_data.new.draws c.put_new.result now c.put_new.new.draws held c.in-Ok.ensures.0 c.in-Ok.ensures.1 c.put_new.ensures.added in
+    record {
+      replies = replies_added _ c.put_new.result now c.args.draws.now c.put_new.new.draws told;
+      keyset = so_on_ok c.put_new.result _ told.keyset;
+      err = left_added ks c.args.kt.now c.args.as_primary made c.put_new.result now c.put_new.new.draws told;
+      fresh = fresh_added ks c.args.kt.now c.args.as_primary made c.put_new.result now c.put_new.new.draws told;
+    }
 
 pub returns-in-Err-clause-replies : goal.returns-in-Err-clause-replies
 returns-in-Err-clause-replies g c =
     refused_data c.args.self.now c.args.kt.now c.args.as_primary
     (data_by g.M.KeyManager.url g.M.KeyManager.makes_data c.args.registry.now.managers c.args.kt.now c.args.draws.now)
-    c.in-Err.e.kind c.args.draws.now c.new_data.new.draws c.in-Err.ensures.replies
-
-pub returns-in-Err-draw_id-clause-replies : goal.returns-in-Err-draw_id-clause-replies
-returns-in-Err-draw_id-clause-replies g c =
-    let are : c.deref.result.now ≡ c.args.self.now.key = c.deref.ensures.value ∙ c.in_ok-reserve.ensures.items ∙ ap (λ (ks : Keyset). ks.key) c.self.view_is in
-    inr (refused_id c.args.self.now c.args.kt.now c.args.as_primary
-    (data_by g.M.KeyManager.url g.M.KeyManager.makes_data c.args.registry.now.managers c.args.kt.now c.args.draws.now)
-    c.in-Ok.key_data c.deref.result.now c.new_data.new.draws c.draw_id.new.draws c.in-Ok.ensures.replies.0 c.in-Ok.ensures.replies.1 are
-    c.in-Err-draw_id.ensures.left c.in-Err-draw_id.e.kind c.in-Err-draw_id.ensures.err)
-
-pub returns-then-as_primary-clause-replies : goal.returns-then-as_primary-clause-replies
-returns-then-as_primary-clause-replies g c =
-    let are : c.deref.result.now ≡ c.args.self.now.key = c.deref.ensures.value ∙ c.in_ok-reserve.ensures.items ∙ ap (λ (ks : Keyset). ks.key) c.self.view_is in
-    with_id c.args.self.now c.args.kt.now c.args.as_primary
-    (data_by g.M.KeyManager.url g.M.KeyManager.makes_data c.args.registry.now.managers c.args.kt.now c.args.draws.now)
-    c.in-Ok.key_data c.deref.result.now c.new_data.new.draws c.draw_id.new.draws c.in-Ok.ensures.replies.0 c.in-Ok.ensures.replies.1 are
-    c.in-Ok-draw_id.ensures.left c.in-Ok-draw_id.id c.in-Ok-draw_id.ensures.ok
-
-pub returns-then-as_primary-clause-keyset : goal.returns-then-as_primary-clause-keyset
-returns-then-as_primary-clause-keyset g c =
-    let are : c.deref.result.now ≡ c.args.self.now.key = c.deref.ensures.value ∙ c.in_ok-reserve.ensures.items ∙ ap (λ (ks : Keyset). ks.key) c.self.view_is in
-    let held : c.reserve.new.self.items ≡ c.args.self.now.key = c.in_ok-reserve.ensures.items ∙ ap (λ (ks : Keyset). ks.key) c.self.view_is in
-    with_new c.args.self.now c.args.kt.now c.args.as_primary
-    (data_by g.M.KeyManager.url g.M.KeyManager.makes_data c.args.registry.now.managers c.args.kt.now c.args.draws.now)
-    c.in-Ok.key_data c.deref.result.now c.new_data.new.draws c.in-Ok-draw_id.id c.in-Ok-draw_id.id c.reserve.new.self.items c.put_key.new.keys.items
-    c.in-Ok.ensures.replies.0 c.in-Ok.ensures.replies.1 are c.in-Ok-draw_id.ensures.ok
-    (ap (λ (first : Bool). cond first c.in-Ok-draw_id.id c.args.self.now.primary_key_id) (sym c.if-as_primary.true))
-    held c.put_key.ensures.items
-
-pub returns-then-as_primary-clause-err : goal.returns-then-as_primary-clause-err
-returns-then-as_primary-clause-err g c = tt
-
-pub returns-then-as_primary-clause-fresh : goal.returns-then-as_primary-clause-fresh
-returns-then-as_primary-clause-fresh g c =
-    let are : c.deref.result.now ≡ c.args.self.now.key = c.deref.ensures.value ∙ c.in_ok-reserve.ensures.items ∙ ap (λ (ks : Keyset). ks.key) c.self.view_is in
-    fresh_if_not_taken c.args.self.now.key c.in-Ok-draw_id.id (ap (λ (keys : List Key). is_taken keys c.in-Ok-draw_id.id) (sym are) ∙ c.in-Ok-draw_id.ensures.fresh)
-
-pub returns-else-as_primary-clause-replies : goal.returns-else-as_primary-clause-replies
-returns-else-as_primary-clause-replies g c =
-    let are : c.deref.result.now ≡ c.args.self.now.key = c.deref.ensures.value ∙ c.in_ok-reserve.ensures.items ∙ ap (λ (ks : Keyset). ks.key) c.self.view_is in
-    with_id c.args.self.now c.args.kt.now c.args.as_primary
-    (data_by g.M.KeyManager.url g.M.KeyManager.makes_data c.args.registry.now.managers c.args.kt.now c.args.draws.now)
-    c.in-Ok.key_data c.deref.result.now c.new_data.new.draws c.draw_id.new.draws c.in-Ok.ensures.replies.0 c.in-Ok.ensures.replies.1 are
-    c.in-Ok-draw_id.ensures.left c.in-Ok-draw_id.id c.in-Ok-draw_id.ensures.ok
-
-pub returns-else-as_primary-clause-keyset : goal.returns-else-as_primary-clause-keyset
-returns-else-as_primary-clause-keyset g c =
-    let are : c.deref.result.now ≡ c.args.self.now.key = c.deref.ensures.value ∙ c.in_ok-reserve.ensures.items ∙ ap (λ (ks : Keyset). ks.key) c.self.view_is in
-    let held : c.reserve.new.self.items ≡ c.args.self.now.key = c.in_ok-reserve.ensures.items ∙ ap (λ (ks : Keyset). ks.key) c.self.view_is in
-    with_new c.args.self.now c.args.kt.now c.args.as_primary
-    (data_by g.M.KeyManager.url g.M.KeyManager.makes_data c.args.registry.now.managers c.args.kt.now c.args.draws.now)
-    c.in-Ok.key_data c.deref.result.now c.new_data.new.draws c.in-Ok-draw_id.id c.self.inside.primary c.reserve.new.self.items c.put_key.new.keys.items
-    c.in-Ok.ensures.replies.0 c.in-Ok.ensures.replies.1 are c.in-Ok-draw_id.ensures.ok
-    (ap (λ (ks : Keyset). ks.primary_key_id) c.self.view_is ∙ ap (λ (first : Bool). cond first c.in-Ok-draw_id.id c.args.self.now.primary_key_id) (sym c.if-as_primary.false))
-    held c.put_key.ensures.items
-
-pub returns-else-as_primary-clause-err : goal.returns-else-as_primary-clause-err
-returns-else-as_primary-clause-err g c = tt
-
-pub returns-else-as_primary-clause-fresh : goal.returns-else-as_primary-clause-fresh
-returns-else-as_primary-clause-fresh g c =
-    let are : c.deref.result.now ≡ c.args.self.now.key = c.deref.ensures.value ∙ c.in_ok-reserve.ensures.items ∙ ap (λ (ks : Keyset). ks.key) c.self.view_is in
-    fresh_if_not_taken c.args.self.now.key c.in-Ok-draw_id.id (ap (λ (keys : List Key). is_taken keys c.in-Ok-draw_id.id) (sym are) ∙ c.in-Ok-draw_id.ensures.fresh)
-
-pub returns-in-Err-draw_id-clause-err : goal.returns-in-Err-draw_id-clause-err
-returns-in-Err-draw_id-clause-err g c = same_keys _ _ _ _ c.self.view_is c.in_ok-reserve.ensures.items
+    c.in-Err.e.kind c.args.draws.now c.new_data.new.draws c.in-Err.ensures
 
 pub returns-in-Err-clause-err : goal.returns-in-Err-clause-err
 returns-in-Err-clause-err g c = same_keys _ _ _ _ c.self.view_is c.in_ok-reserve.ensures.items
 
-pub put_key-requires-clause-known : goal.put_key-requires-clause-known
-put_key-requires-clause-known g c = c.in-Ok.ensures.known
+pub put_new-requires-clause-known : goal.put_new-requires-clause-known
+put_new-requires-clause-known g c =
+    (gives_held g.M.KeyManager.url g.M.KeyManager.makes_data c.args.registry.now.managers g.met.M.KeyManager.new_material c.args.kt.now c.args.draws.now c.in-Ok.key_data c.in-Ok.ensures.0).0
+
+pub returns-in-Err-clause-keyset : goal.returns-in-Err-clause-keyset
+returns-in-Err-clause-keyset g c = tt
+
+pub returns-in-Err-clause-fresh : goal.returns-in-Err-clause-fresh
+returns-in-Err-clause-fresh g c = tt
+
+pub invariant_of-self-in-Ok : goal.invariant_of-self-in-Ok
+invariant_of-self-in-Ok g c = c.put_new.ensures.held (subst (λ (keys : List Key). IsTrue (list_all is_held keys)) (sym c.in_ok-reserve.ensures.items) c.self.invariant)
+
+pub invariant_of-self-in-Err : goal.invariant_of-self-in-Err
+invariant_of-self-in-Err g c = subst (λ (keys : List Key). IsTrue (list_all is_held keys)) (sym c.in_ok-reserve.ensures.items) c.self.invariant
