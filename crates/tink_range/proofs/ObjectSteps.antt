@@ -78,6 +78,16 @@ whole_of front behind whole first rest now a b c d = omega arith
 pub one_more : (before now : ℕ) → now ≡ before + 1 → (before ≤ now) × (now ≤ before + 1)
 one_more before now e = (omega arith, omega arith)
 
+pub none_more : (before now : ℕ) → now ≡ before → (before ≤ now) × (now ≤ before + 1)
+none_more before now e = (omega arith, omega arith)
+
+-- a refused call took no step, which is no more than one
+pub within_one : (before now : ℕ) → now ≡ before → now ≤ before + 1
+within_one before now e = omega arith
+
+pub below : (a b : ℕ) → a < b → a ≤ b
+below a b h = omega arith
+
 pub no_more_than : (old before now i n : ℕ) → old ≤ before → before ≤ old + i → (before ≤ now) × (now ≤ before + 1) → i < n → (old ≤ now) × (now ≤ old + n)
 no_more_than old before now i n a b c d = (omega (arith, c.0), omega (arith, c.1))
 

@@ -4,7 +4,7 @@ use Rattle.std.proofs.lemmas.List.{length-map}
 use Rattle.std.specs.Prelude.{Result, Ok, Err, IfErr}
 use Rattle.std.specs.declared.option.Option.{Option}
 use Rattle.tink_io.specs.declared.error.Kind.{Kind}
-use Rattle.tink_io.specs.declared.error.Kind.TheVariants.{NoMatchingKey, ReadFault}
+use Rattle.tink_io.specs.declared.error.Kind.TheVariants.{NoMatchingKey, OutOfMemory, ReadFault}
 use Rattle.tink_io.specs.declared.error.TinkError.{TinkError}
 use Rattle.stream_model.specs.Opening.{OpeningKey}
 use Rattle.tink_streams.specs.Choosing.{StartRefused}
@@ -36,3 +36,11 @@ start_refusal ks told before now error kind is r = subst (λ (x : TinkError). St
 -- a failed read says nothing of how many keys were tried
 pub fault_untried : {P : Type 0} (error : TinkError) → error ≡ record { kind = ReadFault } → error.kind ≡ NoMatchingKey → P
 fault_untried error is none = absurd (let e = sym (ap (λ x. x.kind) is) ∙ none in cc)
+
+-- nor does one for memory
+pub memory_untried : {P : Type 0} (error : TinkError) → error ≡ record { kind = OutOfMemory } → error.kind ≡ NoMatchingKey → P
+memory_untried error is none = absurd (let e = sym (ap (λ x. x.kind) is) ∙ none in cc)
+
+-- the object is as before where there is no memory
+pub memory_refused : {A : Type 0} (bytes : A → Option (List ℕ)) (faults : A → ℕ) (ks : List OpeningKey) (object : A) (error : TinkError) → error ≡ record { kind = OutOfMemory } → NewRefused bytes faults ks object object error.kind
+memory_refused bytes faults ks object error is = subst (λ (x : TinkError). NewRefused bytes faults ks object object x.kind) (sym is) refl

@@ -181,3 +181,17 @@ try_at-requires-clause-nonce g c =
     subst (λ (n : ℕ). nonce_size (of key) ≤ n) (sym c.loop-key.invariant.nonce_len)
     (subst (λ (k : g.row.T.Denot). nonce_size (of k) ≤ vec_len c.args.nonce.now) (sym c.key-item.is)
     (All-get_or (λ k. nonce_size (of k) ≤ vec_len c.args.nonce.now) c.args.keys.now c.loop-key.key-index key c.loop-key-test.true c.requires.room.nonce_room))
+
+-- a refusal says nothing of a key
+
+pub returns-in-Err-clause-none : goal.returns-in-Err-clause-none
+returns-in-Err-clause-none g c = tt
+
+pub returns-in-Err-clause-found : goal.returns-in-Err-clause-found
+returns-in-Err-clause-found g c = tt
+
+pub returns-in-Err-clause-room : goal.returns-in-Err-clause-room
+returns-in-Err-clause-room g c = tt
+
+pub returns-in-Err-clause-tries : goal.returns-in-Err-clause-tries
+returns-in-Err-clause-tries g c = tt

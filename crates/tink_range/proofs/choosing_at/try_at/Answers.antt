@@ -8,7 +8,7 @@ use Rattle.stream_model.proofs.KeyFacts.{opening_key_lawful}
 use Rattle.tink_segments.specs.StreamSegments.{segment_by}
 use Rattle.tink_range.specs.ChoosingAt.{DoesBeginAt, DoesNotBeginAt, is_tried, one_if}
 use Rattle.tink_range.specs.declared.choosing_at.BegunAt.{BegunAt}
-use Rattle.tink_range.proofs.ObjectSteps.{keeps_trans, one_more, room_for, rose_since}
+use Rattle.tink_range.proofs.ObjectSteps.{keeps_trans, none_more, one_more, room_for, rose_since}
 use Rattle.tink_range.proofs.ReadingFacts.{told_weaker}
 use Rattle.tink_range.proofs.TrialAtFacts.{by_test, short_not, short_untried, told_does, told_not, told_underived}
 use Rattle.tink_range.proofs.choosing_at.try_at.Goals as goal
@@ -115,3 +115,32 @@ open_at-requires-clause-room g c =
     let key : StreamKey = g.T.DerivesStreams.key_of c.args.key.now in
     let opens = rw c.in-Ok-Ok.field-0-is at c.in-Ok-Ok.ensures.answer in
     room_for _ _ key.segment (nonce_size key) (length key.out) (vec_len c.args.sealed.now) _ _ _ _ _ opens.size_is opens.nonce_is c.requires.sealed c.requires.text c.requires.nonce refl (le_refl _) refl
+
+pub returns-in-Err-clause-kept : goal.returns-in-Err-clause-kept
+returns-in-Err-clause-kept g c = c.in-Err.ensures.kept
+
+pub returns-in-Err-clause-count : goal.returns-in-Err-clause-count
+returns-in-Err-clause-count g c = c.in-Err.ensures.count
+
+pub returns-in-Err-clause-same : goal.returns-in-Err-clause-same
+returns-in-Err-clause-same g c = c.in-Err.ensures.same
+
+pub returns-in-Ok-Err-clause-kept : goal.returns-in-Ok-Err-clause-kept
+returns-in-Ok-Err-clause-kept g c = c.in-Ok-Err.ensures.kept
+
+pub returns-in-Ok-Err-clause-count : goal.returns-in-Ok-Err-clause-count
+returns-in-Ok-Err-clause-count g c = c.in-Ok-Err.ensures.count
+
+pub returns-in-Ok-Err-clause-same : goal.returns-in-Ok-Err-clause-same
+returns-in-Ok-Err-clause-same g c = c.in-Ok-Err.ensures.same
+
+pub returns-in-Err-open_at-clause-ticks : goal.returns-in-Err-open_at-clause-ticks
+returns-in-Err-open_at-clause-ticks g c = none_more c.args.steps.now c.open_at.new.steps c.in-Err-open_at.ensures.ticks
+
+-- and the buffers have the memory that they had
+
+pub returns-in-Ok-clause-room : goal.returns-in-Ok-clause-room
+returns-in-Ok-clause-room g c = let room = c.in-Ok.ensures.room in record { buffers = room.buffers; sealed_len = room.sealed_len; sealed_capacity = room.sealed_capacity }
+
+pub returns-in-Err-open_at-clause-room : goal.returns-in-Err-open_at-clause-room
+returns-in-Err-open_at-clause-room g c = let room = c.in-Err-open_at.ensures.room in record { buffers = room.buffers; sealed_len = room.sealed_len; sealed_capacity = room.sealed_capacity }

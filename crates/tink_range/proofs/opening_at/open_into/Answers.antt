@@ -14,3 +14,12 @@ returns-in-Ok-clause-room g c = c.open_held.ensures.room
 
 pub returns-in-Ok-clause-length : goal.returns-in-Ok-clause-length
 returns-in-Ok-clause-length g c = λ ok. c.open_held.ensures.length ok ∙ c.fill_at.auto.buf
+
+pub returns-in-Ok-clause-kept : goal.returns-in-Ok-clause-kept
+returns-in-Ok-clause-kept g c = c.in-Ok.ensures.kept
+
+pub returns-in-Ok-clause-count : goal.returns-in-Ok-clause-count
+returns-in-Ok-clause-count g c = c.in-Ok.ensures.count
+
+pub returns-in-Ok-clause-same : goal.returns-in-Ok-clause-same
+returns-in-Ok-clause-same g c = c.in-Ok.ensures.same

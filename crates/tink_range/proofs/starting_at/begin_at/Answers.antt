@@ -7,7 +7,7 @@ use Rattle.tink_streams.specs.Choosing.{Found, StartRefused}
 use Rattle.tink_streams.specs.Openers.{segment_map}
 use Rattle.tink_range.specs.ChoosingAt.{HasTried}
 use Rattle.tink_range.proofs.ObjectSteps.{refusal_leaves, unread}
-use Rattle.tink_range.proofs.StartAtFacts.{fused, new_refused, ticks_of}
+use Rattle.tink_range.proofs.StartAtFacts.{fused, memory_refused, memory_untried, new_refused, ticks_of}
 use Rattle.tink_range.proofs.starting_at.begin_at.Goals as goal
 
 pub returns-in-Ok-reserve-clause-found : goal.returns-in-Ok-reserve-clause-found
@@ -43,3 +43,9 @@ returns-in-Ok-clause-kept g c =
 
 pub returns-in-Ok-clause-same : goal.returns-in-Ok-clause-same
 returns-in-Ok-clause-same g c = g.met.A.ReadAt.same_refl c.args.object.now
+
+pub returns-in-Ok-clause-tried : goal.returns-in-Ok-clause-tried
+returns-in-Ok-clause-tried g c = memory_untried c.in-Err-reserve.e c.in-Err-reserve.ensures.refused
+
+pub returns-in-Ok-clause-refused : goal.returns-in-Ok-clause-refused
+returns-in-Ok-clause-refused g c = memory_refused g.A.ReadAt.bytes g.A.ReadAt.faults (map (opening_key c.args.aad.now) c.args.w.now.keys) c.args.object.now c.in-Err-reserve.e c.in-Err-reserve.ensures.refused

@@ -37,3 +37,18 @@ returns-in-Err-clause-kept g c =
 
 pub returns-in-Ok-Some-clause-found : goal.returns-in-Ok-Some-clause-found
 returns-in-Ok-Some-clause-found g c = let begun = rw c.in-Ok-Some.field-0-is at c.in-Ok-Some.ensures.found in begun.found
+
+pub returns-in-Ok-Some-clause-kept : goal.returns-in-Ok-Some-clause-kept
+returns-in-Ok-Some-clause-kept g c = let kept = c.in-Ok-Some.ensures.kept in record { length_is = kept.length_is; bytes_are = kept.bytes_are; later = kept.later; count = c.in-Ok-Some.ensures.count }
+
+pub returns-in-Ok-Some-clause-same : goal.returns-in-Ok-Some-clause-same
+returns-in-Ok-Some-clause-same g c = c.in-Ok-Some.ensures.same
+
+pub returns-in-Ok-Some-clause-ticks : goal.returns-in-Ok-Some-clause-ticks
+returns-in-Ok-Some-clause-ticks g c = c.in-Ok-Some.ensures.ticks
+
+pub returns-in-Ok-Some-clause-tried : goal.returns-in-Ok-Some-clause-tried
+returns-in-Ok-Some-clause-tried g c = c.in-Ok-Some.ensures.tries
+
+pub returns-in-Ok-None-clause-tried : goal.returns-in-Ok-None-clause-tried
+returns-in-Ok-None-clause-tried g c = λ _. c.in-Ok-None.ensures.tries

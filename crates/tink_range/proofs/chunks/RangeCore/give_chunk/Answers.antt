@@ -1,11 +1,11 @@
-use Rattle.std.proofs.Common.{◌≡◌, ◌+◌, ◌-◌, min, ℕ, Bool, true, false, List, length, refl, sym, ap, subst, ◌∙◌}
+use Rattle.std.proofs.Common.{◌≡◌, ◌+◌, ◌-◌, min, ℕ, Bool, true, false, List, length, refl, sym, ap, subst, ◌∙◌, le_of_eq}
 use Rattle.stream_model.specs.Cut.{room_at}
 use Rattle.tink_io.specs.declared.error.Kind.TheVariants.{BadSegment, ReadFault}
 use Rattle.tink_streams.specs.Openers.{segment_map}
 use Rattle.tink_range.specs.ChunkReading.{OpensAt}
 use Rattle.tink_range.specs.RangeCores.{chunk_in}
 use Rattle.tink_range.proofs.ChunkSteps.{none_opens, one_refused, one_written}
-use Rattle.tink_range.proofs.ObjectSteps.{refusal_leaves, touched_in, writes_leave}
+use Rattle.tink_range.proofs.ObjectSteps.{below, refusal_leaves, touched_in, within_one, writes_leave}
 use Rattle.tink_range.proofs.chunks.RangeCore.give_chunk.Goals as goal
 
 pub write_part-requires-clause-touched : goal.write_part-requires-clause-touched
@@ -66,3 +66,21 @@ returns-in-Err-clause-kept g c =
 
 pub returns-in-Err-clause-sink : goal.returns-in-Err-clause-sink
 returns-in-Err-clause-sink g c = g.met.K.Sink.same_refl c.args.sink.now
+
+pub write_part-requires-clause-range : goal.write_part-requires-clause-range
+write_part-requires-clause-range g c = below _ _ c.requires.touched.some
+
+pub write_part-requires-clause-before : goal.write_part-requires-clause-before
+write_part-requires-clause-before g c = below _ _ c.requires.touched.ends
+
+pub returns-in-Ok-true-clause-later : goal.returns-in-Ok-true-clause-later
+returns-in-Ok-true-clause-later g c = c.write_part.ensures.later
+
+pub returns-in-Ok-true-clause-ticks : goal.returns-in-Ok-true-clause-ticks
+returns-in-Ok-true-clause-ticks g c = le_of_eq c.in-Ok-true.ensures.ticks
+
+pub returns-in-Ok-false-clause-ticks : goal.returns-in-Ok-false-clause-ticks
+returns-in-Ok-false-clause-ticks g c = le_of_eq c.in-Ok-false.ensures.ticks
+
+pub returns-in-Err-clause-ticks : goal.returns-in-Err-clause-ticks
+returns-in-Err-clause-ticks g c = within_one c.args.steps.now c.open_chunk.new.steps c.in-Err.ensures.ticks
