@@ -2,7 +2,7 @@
 use Rattle.std.proofs.Common.{◌≡◌, inl, inr, ◌≤◌, ◌<◌, ℕ, Bool, List, [], length, take, drop, ap, ap₂, refl, sym, subst, ◌∙◌, arith}
 use Rattle.std.specs.Prelude.{Result, Ok, Err, ◌||◌, if◌then◌else◌, nat_lt}
 use Rattle.std.specs.Int.{w32, from_be_bytes}
-use Rattle.std.proofs.lemmas.Bool.{le-ltb, lt-leb, ne_eqb}
+use Rattle.std.proofs.lemmas.Bool.{le-leb, le-ltb, lt-leb, ne_eqb}
 use Rattle.tink_io.specs.declared.error.Kind.{Kind}
 use Rattle.tink_io.specs.declared.error.Kind.TheVariants.{DecryptFailed, TooShort}
 use Rattle.tink_io.specs.declared.error.TinkError.{TinkError}
@@ -58,6 +58,13 @@ module _ {P : Type 0} (makes : List ℕ → Result (List ℕ) Kind × List ℕ) 
 pub and_refused : {S T : Type 0} (told : Result S Kind) (next : S → Result T Kind) (e : TinkError) → Answers {T = S} (Err e) told → Answers {T = T} (Err e) (and_then told next)
 and_refused told next e (inl none) = inl none
 and_refused told next e (inr is) = inr (ap (λ r. and_then r next) is)
+
+-- too few bytes are no envelope
+pub too_short : {P : Type 0} (remote : List ℕ → List ℕ → Result (List ℕ) Kind) (aead_of : List ℕ → Result P Kind) (decrypts : P → List ℕ → List ℕ → Result (List ℕ) Kind) (input aad : List ℕ) (e : TinkError) → length input ≤ 4 → e ≡ record { kind = TooShort }
+    → Answers {T = List ℕ} (Err e) (envelope_decrypts remote aead_of decrypts input aad)
+too_short remote aead_of decrypts input aad e short is =
+    let rest = cut_decrypts remote aead_of decrypts (from_be_bytes w32 (take 4 input)) (drop 4 input) aad in
+    inr (ap (λ (b : Bool). if b then Err TooShort else rest) (le-leb (length input) 4 short) ∙ ap (λ (x : TinkError). Err x.kind) (sym is))
 
 module _ {P : Type 0} (remote : List ℕ → List ℕ → Result (List ℕ) Kind) (aead_of : List ℕ → Result P Kind) (decrypts : P → List ℕ → List ℕ → Result (List ℕ) Kind) (input aad : List ℕ) (n : ℕ) (rest : List ℕ)
     (long : 4 < length input) (n_is : n ≡ from_be_bytes w32 (take 4 input)) (some : 0 < n) (rest_is : rest ≡ drop 4 input) (fits : n ≤ length rest) where
