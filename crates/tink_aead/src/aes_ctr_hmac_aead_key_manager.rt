@@ -174,8 +174,10 @@ impl KeyType for AesCtrHmacAeadKeys {
         if key.version != AES_CTR_HMAC_AEAD_KEY_VERSION {
             return Err(TinkError::new(Kind::InvalidKey));
         }
-        let aead = composed_of(alloc, &key.aes_ctr_key, &key.hmac_key)?;
-        Ok(Primitive::Aead(AeadKind::AesCtrHmac(aead)))
+        match composed_of(alloc, &key.aes_ctr_key, &key.hmac_key) {
+            Ok(aead) => Ok(Primitive::Aead(AeadKind::AesCtrHmac(aead))),
+            Err(e) => Err(e),
+        }
     }
 
     fn make(

@@ -52,8 +52,10 @@ impl KeyType for AesGcmKeys {
         if !is_versioned_key(key.version, key.key_value.as_slice()) {
             return Err(TinkError::new(Kind::InvalidKey));
         }
-        let aead = AesGcm::new(alloc, key.key_value.as_slice())?;
-        Ok(Primitive::Aead(AeadKind::AesGcm(aead)))
+        match AesGcm::new(alloc, key.key_value.as_slice()) {
+            Ok(aead) => Ok(Primitive::Aead(AeadKind::AesGcm(aead))),
+            Err(e) => Err(e),
+        }
     }
 
     fn make(
@@ -64,11 +66,13 @@ impl KeyType for AesGcmKeys {
         if validate_aes_key_size(format.key_size as usize).is_err() {
             return Err(TinkError::new(Kind::InvalidFormat));
         }
-        let key_value = get_random_bytes(alloc, draws, format.key_size as usize)?;
-        Ok(AesGcmKey {
-            version: AES_GCM_KEY_VERSION,
-            key_value,
-        })
+        match get_random_bytes(alloc, draws, format.key_size as usize) {
+            Ok(key_value) => Ok(AesGcmKey {
+                version: AES_GCM_KEY_VERSION,
+                key_value,
+            }),
+            Err(e) => Err(e),
+        }
     }
 
     ghost built_told = { λ k. built_if_told (is_versioned_key k.version k.key_value) _ };

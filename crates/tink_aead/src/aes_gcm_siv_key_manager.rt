@@ -52,8 +52,10 @@ impl KeyType for AesGcmSivKeys {
         if !is_versioned_key(key.version, key.key_value.as_slice()) {
             return Err(TinkError::new(Kind::InvalidKey));
         }
-        let aead = AesGcmSiv::new(alloc, key.key_value.as_slice())?;
-        Ok(Primitive::Aead(AeadKind::AesGcmSiv(aead)))
+        match AesGcmSiv::new(alloc, key.key_value.as_slice()) {
+            Ok(aead) => Ok(Primitive::Aead(AeadKind::AesGcmSiv(aead))),
+            Err(e) => Err(e),
+        }
     }
 
     fn make(
@@ -64,11 +66,13 @@ impl KeyType for AesGcmSivKeys {
         if validate_aes_key_size(format.key_size as usize).is_err() {
             return Err(TinkError::new(Kind::InvalidFormat));
         }
-        let key_value = get_random_bytes(alloc, draws, format.key_size as usize)?;
-        Ok(AesGcmSivKey {
-            version: AES_GCM_SIV_KEY_VERSION,
-            key_value,
-        })
+        match get_random_bytes(alloc, draws, format.key_size as usize) {
+            Ok(key_value) => Ok(AesGcmSivKey {
+                version: AES_GCM_SIV_KEY_VERSION,
+                key_value,
+            }),
+            Err(e) => Err(e),
+        }
     }
 
     ghost built_told = { λ k. built_if_told (is_versioned_key k.version k.key_value) _ };

@@ -2,9 +2,9 @@
 
 ghost use Rattle.std.specs.Prelude.{◌≡◌, length, IfOk, IfErr};
 ghost use Rattle.std.specs.Int.{w32, from_be_bytes};
-ghost use Rattle.tink_io.specs.Told.{Answers};
+ghost use Rattle.tink_io.specs.Told.{Answers, Replies, and_then};
 ghost use Rattle.tink_io.specs.declared.error.Kind.TheVariants.{OutOfMemory};
-ghost use Rattle.tink_aead.specs.Envelope.{data_key_aead, enveloped};
+ghost use Rattle.tink_aead.specs.Envelope.{by_key_bytes, data_key_aead, enveloped};
 ghost use Rattle.tink_aead.specs.EnvelopeLaws.{EnvelopeUndoes};
 
 use std::alloc::Global;
@@ -83,9 +83,10 @@ fn data_key_aead<M: KeyManager>(
 ) -> Result<<M::Family as Kinds>::Aead, TinkError>
     ensures { Answers result (data_key_aead M.url M.builds registry.now.managers kt.now.type_url dek.now) }
 {
-    registry
-        .primitive(alloc, kt.type_url.as_str(), dek.as_slice())?
-        .into_aead()
+    match registry.primitive(alloc, kt.type_url.as_str(), dek.as_slice()) {
+        Ok(primitive) => primitive.into_aead(),
+        Err(e) => Err(e),
+    }
 }
 
 // The length of an encrypted data key, that key, and what it encrypts.
@@ -101,6 +102,49 @@ fn enveloped(alloc: Global, encrypted_dek: &Bytes, payload: &Bytes) -> Result<By
     out.extend_from_slice(encrypted_dek)?;
     out.extend_from_slice(payload.as_slice())?;
     Ok(Bytes::from_vec(out))
+}
+
+// What a data key encrypts of a text, behind the encrypted key.
+fn encrypt_by_key<M: KeyManager>(
+    alloc: Global,
+    registry: &Registry<M>,
+    kt: &KeyTemplate,
+    dek: &Bytes,
+    encrypted_dek: &Bytes,
+    plaintext: &[u8],
+    additional_data: &[u8],
+    draws: &mut Draws,
+) -> Result<Bytes, TinkError>
+    ensures { Replies result (by_key_bytes M.Family.Aead.encrypts plaintext.now additional_data.now
+        (data_key_aead M.url M.builds registry.now.managers kt.now.type_url) dek.now encrypted_dek.now draws.old)
+        draws.old draws.new }
+{
+    match data_key_aead(alloc, registry, kt, dek) {
+        Ok(primitive) => match primitive.encrypt(alloc, plaintext, additional_data, draws) {
+            Ok(payload) => enveloped(alloc, encrypted_dek, &payload),
+            Err(e) => Err(e),
+        },
+        Err(e) => Err(e),
+    }
+}
+
+// What a data key decrypts.
+fn decrypt_by_key<M: KeyManager>(
+    alloc: Global,
+    registry: &Registry<M>,
+    kt: &KeyTemplate,
+    dek: &Bytes,
+    payload: &[u8],
+    additional_data: &[u8],
+) -> Result<Bytes, TinkError>
+    ensures { Answers result
+        (and_then (data_key_aead M.url M.builds registry.now.managers kt.now.type_url dek.now)
+        (λ p. M.Family.Aead.decrypts p payload.now additional_data.now)) }
+{
+    match data_key_aead(alloc, registry, kt, dek) {
+        Ok(primitive) => primitive.decrypt(alloc, payload, additional_data),
+        Err(e) => Err(e),
+    }
 }
 
 // The number that four bytes spell, high byte first.
@@ -139,11 +183,22 @@ impl<A: Aead, M: KeyManager> Aead for KmsEnvelopeAead<'_, A, M> {
         additional_data: &[u8],
         draws: &mut Draws,
     ) -> Result<Bytes, TinkError> {
-        let dek = self.registry.new_key(alloc, &self.dek_template, draws)?;
-        let encrypted_dek = self.remote.encrypt(alloc, dek.as_slice(), &[], draws)?;
-        let primitive = data_key_aead(alloc, self.registry, &self.dek_template, &dek)?;
-        let payload = primitive.encrypt(alloc, plaintext, additional_data, draws)?;
-        enveloped(alloc, &encrypted_dek, &payload)
+        match self.registry.new_key(alloc, &self.dek_template, draws) {
+            Ok(dek) => match self.remote.encrypt(alloc, dek.as_slice(), &[], draws) {
+                Ok(encrypted_dek) => encrypt_by_key(
+                    alloc,
+                    self.registry,
+                    &self.dek_template,
+                    &dek,
+                    &encrypted_dek,
+                    plaintext,
+                    additional_data,
+                    draws,
+                ),
+                Err(e) => Err(e),
+            },
+            Err(e) => Err(e),
+        }
     }
 
     /// # Errors
@@ -165,9 +220,17 @@ impl<A: Aead, M: KeyManager> Aead for KmsEnvelopeAead<'_, A, M> {
         if size == 0 || rest.len() < size {
             return Err(TinkError::new(Kind::DecryptFailed));
         }
-        let dek = self.remote.decrypt(alloc, &rest[..size], &[])?;
-        let primitive = data_key_aead(alloc, self.registry, &self.dek_template, &dek)?;
-        primitive.decrypt(alloc, &rest[size..], additional_data)
+        match self.remote.decrypt(alloc, &rest[..size], &[]) {
+            Ok(dek) => decrypt_by_key(
+                alloc,
+                self.registry,
+                &self.dek_template,
+                &dek,
+                &rest[size..],
+                additional_data,
+            ),
+            Err(e) => Err(e),
+        }
     }
 
     ghost encrypts_told = { λ e. envelope_encrypts_told

@@ -1,7 +1,9 @@
 //! The managers and templates of AEAD keys, registered.
 
-ghost use Rattle.std.specs.Prelude.{◌≡◌, ◌∷◌, [], IfErr, IfOk, OnOk};
+ghost use Rattle.std.specs.Prelude.{◌≡◌, ◌∷◌, ◌++◌, [], IfErr, IfOk, Ok, OnOk};
+ghost use Rattle.tink_io.specs.Told.{Answers};
 ghost use Rattle.tink_io.specs.declared.error.Kind.TheVariants.{OutOfMemory};
+ghost use Rattle.tink_proto.specs.declared.messages.keys.KeyTemplate.{KeyTemplate};
 ghost use Rattle.tink_registry.specs.Registering.{AreMade, IsMade, Registers};
 ghost use Rattle.tink_aead.specs.Templates.{aead_templates};
 
@@ -77,20 +79,38 @@ fn add_templates(alloc: Global, named: &mut Vec<(Text, KeyTemplate)>) -> Result<
     ensures value { OnOk result (named.new.items ≡ aead_templates) }
     ensures cause { IfErr result (λ e. e.kind ≡ OutOfMemory) }
 {
-    let template = aes128_gcm_key_template(alloc)?;
-    add_template(alloc, named, "AES128_GCM", template)?;
-    let template = aes256_gcm_key_template(alloc)?;
-    add_template(alloc, named, "AES256_GCM", template)?;
-    let template = aes256_gcm_no_prefix_key_template(alloc)?;
-    add_template(alloc, named, "AES256_GCM_NO_PREFIX", template)?;
-    let template = aes128_gcm_siv_key_template(alloc)?;
-    add_template(alloc, named, "AES128_GCM_SIV", template)?;
-    let template = aes256_gcm_siv_key_template(alloc)?;
-    add_template(alloc, named, "AES256_GCM_SIV", template)?;
-    let template = aes256_gcm_siv_no_prefix_key_template(alloc)?;
-    add_template(alloc, named, "AES256_GCM_SIV_NO_PREFIX", template)?;
-    let template = aes128_ctr_hmac_sha256_key_template(alloc)?;
-    add_template(alloc, named, "AES128_CTR_HMAC_SHA256", template)?;
-    let template = aes256_ctr_hmac_sha256_key_template(alloc)?;
-    add_template(alloc, named, "AES256_CTR_HMAC_SHA256", template)
+    let made = aes128_gcm_key_template(alloc);
+    add(alloc, named, "AES128_GCM", made)?;
+    let made = aes256_gcm_key_template(alloc);
+    add(alloc, named, "AES256_GCM", made)?;
+    let made = aes256_gcm_no_prefix_key_template(alloc);
+    add(alloc, named, "AES256_GCM_NO_PREFIX", made)?;
+    let made = aes128_gcm_siv_key_template(alloc);
+    add(alloc, named, "AES128_GCM_SIV", made)?;
+    let made = aes256_gcm_siv_key_template(alloc);
+    add(alloc, named, "AES256_GCM_SIV", made)?;
+    let made = aes256_gcm_siv_no_prefix_key_template(alloc);
+    add(alloc, named, "AES256_GCM_SIV_NO_PREFIX", made)?;
+    let made = aes128_ctr_hmac_sha256_key_template(alloc);
+    add(alloc, named, "AES128_CTR_HMAC_SHA256", made)?;
+    let made = aes256_ctr_hmac_sha256_key_template(alloc);
+    add(alloc, named, "AES256_CTR_HMAC_SHA256", made)
+}
+
+// Adds a template under its name, if it was made.
+fn add(
+    alloc: Global,
+    named: &mut Vec<(Text, KeyTemplate)>,
+    name: &str,
+    made: Result<KeyTemplate, TinkError>,
+) -> Result<(), TinkError>
+    requires { (template : KeyTemplate) × Answers made (Ok template) }
+    ensures value { (template : KeyTemplate) → Answers made (Ok template)
+        → OnOk result (named.new.items ≡ named.old.items ++ (name.now, template) ∷ []) }
+    ensures cause { IfErr result (λ e. e.kind ≡ OutOfMemory) }
+{
+    match made {
+        Ok(template) => add_template(alloc, named, name, template),
+        Err(e) => Err(e),
+    }
 }

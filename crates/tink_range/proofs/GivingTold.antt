@@ -112,12 +112,24 @@ module _ (c : Cutting) (lo hi behind number start text : ℕ) (here : IsNext c l
       (subst (λ (i : ℕ). IsChunkPlace c.first c.size c.over behind lo (number + 1) i text_after) (sym a)
       (subst (λ (i : ℕ). IsChunkPlace c.first c.size c.over behind lo (number + 1) (start + min (behind - start) room) i) (sym x) next))
 
+  -- the chunk that comes next is within what the range's own length fills
+  before_few : (from before then : ℕ) → Ticks lo hi (c.size - c.over) from number text before then → number - from ≤ (hi - lo + (c.size - c.over) - 1) / (c.size - c.over)
+  before_few from before then ticks =
+      let p : ℕ = c.size - c.over in
+      ticks_few (number - from) lo hi p (omega (arith, here.over, here.sizes)) (λ some. omega (arith, ticks.spaced (omega arith) here.before, here.before))
+
+  -- so that a last one stays in bounds
+  pub last_ticks : (from before then now : ℕ) → now ≤ then + 1 → Ticks lo hi (c.size - c.over) from number text before then → now ≤ before + (hi - lo + (c.size - c.over) - 1) / (c.size - c.over) + 1
+  last_ticks from before then now one ticks = sum before then now (number - from) ((hi - lo + (c.size - c.over) - 1) / (c.size - c.over)) one ticks.count (before_few from before then ticks)
+    where
+      sum : (before then now n q : ℕ) → now ≤ then + 1 → then ≤ before + n → n ≤ q → now ≤ before + q + 1
+      sum before then now n q a b d = omega arith
+
   -- one chunk more was opened
   pub next_ticks : (from first text_after before then now : ℕ) → first ≡ number + 1 → text_after ≡ text + own → from ≤ number → now ≤ then + 1
       → Ticks lo hi (c.size - c.over) from number text before then → Ticks lo hi (c.size - c.over) from first text_after before now
   next_ticks from first text_after before then now f x later one ticks =
-      let p : ℕ = c.size - c.over in
-      let few : number - from ≤ (hi - lo + p - 1) / p = ticks_few (number - from) lo hi p (omega (arith, here.over, here.sizes)) (λ some. omega (arith, ticks.spaced (omega arith) here.before, here.before)) in
+      let few = before_few from before then ticks in
       record {
         count = omega (arith, ticks.count);
         later = omega arith;
@@ -142,3 +154,10 @@ module _ (c : Cutting) (lo hi behind number start text : ℕ) (here : IsNext c l
 -- the range's part of a text is no longer than the text
 pub within_few : (lo hi at : ℕ) (t : List ℕ) → length (within lo hi at t) ≤ length t
 within_few lo hi at t = omega (arith, length-drop (lo - at) (take (hi - at) t), length-take (hi - at) t)
+
+-- all that were opened are in bounds
+pub all_ticks : (lo hi p from number text before now : ℕ) → Ticks lo hi p from number text before now → now ≤ before + (hi - lo + p - 1) / p + 1
+all_ticks lo hi p from number text before now t = sum before now (number - from) ((hi - lo + p - 1) / p) t.count t.bound
+  where
+    sum : (before now n q : ℕ) → now ≤ before + n → n ≤ q + 1 → now ≤ before + q + 1
+    sum before now n q a b = omega arith

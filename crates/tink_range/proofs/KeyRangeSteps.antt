@@ -1,13 +1,14 @@
 -- From a start and a range to a range under keys.
-use Rattle.std.proofs.Common.{◌≡◌, inl, inr, ◌≤◌, ◌+◌, ◌-◌, ◌/◌, ℕ, List, length, subst, arith, Some, None, IfSome}
+use Rattle.std.proofs.Common.{◌≡◌, inl, inr, ◌≤◌, ◌+◌, ◌-◌, ◌/◌, ℕ, List, length, map, refl, sym, subst, arith, Some, None, IfSome}
 use Rattle.std.specs.Prelude.{Result, Ok, Err}
+use Rattle.std.proofs.lemmas.List.{length-map}
 use Rattle.std.specs.declared.option.Option.{Option}
 use Rattle.tink_io.proofs.FaultLemmas.{Rose-earlier}
 use Rattle.tink_io.specs.declared.error.Kind.{Kind}
 use Rattle.tink_io.specs.declared.error.Kind.TheVariants.{BadSegment, NoMatchingKey, ReadFault, TooManySegments, Truncated, WriteFault}
 use Rattle.tink_io.specs.declared.error.TinkError.{TinkError}
 use Rattle.stream_model.specs.Opening.{IsChosen, OpeningKey}
-use Rattle.tink_streams.specs.Choosing.{Found}
+use Rattle.tink_streams.specs.Choosing.{Found, StartRefused}
 use Rattle.tink_range.specs.ChunkReading.{Moments}
 use Rattle.tink_range.specs.Giving.{Cutting}
 use Rattle.tink_range.specs.KeyRanges.{IsCutUnder, RangesUnder, RangesUnderRefused, TakesRangeSteps, range_steps}
@@ -79,6 +80,17 @@ takes_steps c behind start len old mid new n whole all keys count whole_is found
   where
     added : (old mid new n m q : ℕ) → n ≡ m → mid ≤ old + n → new ≤ mid + q + 2 → new ≤ old + m + (q + 2)
     added old mid new n m q count tried given = omega arith
+
+-- a start that is refused takes a step for each key at most
+pub few_steps : {T : Type 0} (of : T → OpeningKey) (ks : List T) (all : Option (List ℕ)) (whole start len before now : ℕ) → now ≤ before + length ks → TakesRangeSteps (map of ks) all whole start len before now
+few_steps of ks all whole start len before now few = inl (subst (λ (n : ℕ). now ≤ before + n) (sym (length-map ks of)) few)
+
+-- and nothing was written
+pub start_refused : {W : Type 0} (got : W → Option (List ℕ)) (faults : W → ℕ) (keys : List OpeningKey) (whole start len : ℕ) (all : Option (List ℕ)) (before after : ℕ) (w : W) (kind : Kind) → StartRefused keys all before after kind
+    → RangesUnderRefused got faults keys whole start len (record { all = all; reads_before = before; reads_after = after; old = w; new = w }) kind
+start_refused got faults keys whole start len all before after w NoMatchingKey h = record { none = h; same = refl }
+start_refused got faults keys whole start len all before after w ReadFault h = inl (record { rose = h; same = refl })
+start_refused got faults keys whole start len all before after w _ h = absurd h
 
 if_told : (o : Option (List ℕ)) (P Q : List ℕ → Type 0) → ((S : List ℕ) → P S → Q S) → IfSome o P → IfSome o Q
 if_told None P Q f h = tt

@@ -4,9 +4,11 @@ use Rattle.std.specs.declared.option.Option.{Option}
 use Rattle.std.proofs.lemmas.Bool.{le-leb}
 use Rattle.std.proofs.lemmas.List.{drop-drop, length-replicate, take_all}
 use Rattle.stream_model.specs.Cut.{last_chunk}
+use Rattle.tink_io.specs.declared.error.Kind.{Kind}
+use Rattle.tink_io.specs.declared.error.TinkError.{TinkError}
 use Rattle.tink_range.specs.ChunkReading.{ChunkAt, OpensAt}
 use Rattle.tink_range.specs.Giving.{Cutting, chunks_in}
-use Rattle.tink_range.specs.RangeReading.{RefusesLast}
+use Rattle.tink_range.specs.RangeReading.{LastRefused, RefusesLast}
 use Rattle.tink_range.specs.Ranges.{LastAgrees, chunk_count}
 use Rattle.tink_range.specs.Shapes.{IsLast}
 
@@ -56,3 +58,7 @@ module _ (c : Cutting) (behind number start room : ℕ) (inside : start < behind
       by_size : (o : Option (List ℕ)) → IfSome o (λ S. length S ≡ c.front + behind) → IfSome o (λ S. P (length (last_chunk (chunks_in c S))))
       by_size None l = tt
       by_size (Some S) l = subst P (sym (length_last S l)) size
+
+-- a refusal by this kind
+pub last_refusal : (c : Cutting) (behind : ℕ) (all : Option (List ℕ)) (before after : ℕ) (error : TinkError) (kind : Kind) → error ≡ record { kind = kind } → LastRefused c behind all before after kind → LastRefused c behind all before after error.kind
+last_refusal c behind all before after error kind is r = subst (λ (x : TinkError). LastRefused c behind all before after x.kind) (sym is) r

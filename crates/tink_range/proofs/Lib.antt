@@ -14,3 +14,5 @@ pub mod StartAtFacts
 pub mod StreamRanges
 pub mod CanGiveFacts
 pub mod KeyRangeSteps
+pub mod ObjectSteps
+pub mod ChunkSteps

@@ -1,5 +1,5 @@
 -- From the last chunk's opening and the giving of a range to the answer.
-use Rattle.std.proofs.Common.{◌≡◌, inl, inr, ◌≤◌, ◌^◌, ℕ, List, [], refl, ap, subst, ◌∙◌, arith, Some, None, IfSome}
+use Rattle.std.proofs.Common.{◌≡◌, inl, inr, ◌<◌, ◌≤◌, ◌+◌, ◌-◌, ◌/◌, ◌^◌, min, ℕ, List, [], refl, sym, ap, subst, ◌∙◌, arith, Some, None, IfSome}
 use Rattle.std.specs.Prelude.{Result, Ok, Err}
 use Rattle.std.specs.declared.option.Option.{Option}
 use Rattle.tink_io.proofs.FaultLemmas.{Rose-earlier}
@@ -13,7 +13,7 @@ use Rattle.tink_range.specs.ChunkReading.{Moments}
 use Rattle.tink_range.specs.Giving.{Cutting, GiveMeans, GiveRefused, chunks_in}
 use Rattle.tink_range.specs.RangeCores.{IsSameCore, cutting_of}
 use Rattle.tink_range.specs.RangeReading.{LastRefused, RangeMeans, RangeRefused, range_end, range_start}
-use Rattle.tink_range.specs.Ranges.{LastAgrees, SomeGive, chunk_count}
+use Rattle.tink_range.specs.Ranges.{LastAgrees, SomeGive, chunk_count, text_length}
 use Rattle.tink_range.specs.declared.chunks.RangeCore.{RangeCore}
 use Rattle.tink_range.proofs.GivingTold.{Appends-none}
 
@@ -22,6 +22,47 @@ pub same_cutting : {D : Type 0} {g : Ghosts D} (old core : RangeCore D g) → Is
 same_cutting {D} {g} old core same =
     let of : Opener D g → ℕ → Cutting = λ o f. record { seg = segment_map o; front = f; first = o.first; size = o.size; over = o.overhead } in
     ap (λ o. of o core.front) same.opener ∙ ap (of old.opener) same.front
+
+-- and what they cut is as long
+module _ {D : Type 0} {g : Ghosts D} (old core : RangeCore D g) (same : IsSameCore old core) where
+  pub few_same : chunk_count old.opener.first old.opener.size old.behind ≤ 2 ^ 32 → chunk_count core.opener.first core.opener.size core.behind ≤ 2 ^ 32
+  few_same few =
+      subst (λ (o : Opener D g). chunk_count o.first o.size core.behind ≤ 2 ^ 32) (sym same.opener)
+      (subst (λ (n : ℕ). chunk_count old.opener.first old.opener.size n ≤ 2 ^ 32) (sym same.behind) few)
+
+  pub within_same : (hi : ℕ) → hi ≤ text_length old.opener.first old.opener.size old.opener.overhead old.behind → hi ≤ text_length core.opener.first core.opener.size core.opener.overhead core.behind
+  within_same hi most =
+      subst (λ (o : Opener D g). hi ≤ text_length o.first o.size o.overhead core.behind) (sym same.opener)
+      (subst (λ (n : ℕ). hi ≤ text_length old.opener.first old.opener.size old.opener.overhead n) (sym same.behind) most)
+
+  -- the steps of the last chunk and of a range
+  pub range_ticks : (start len lo hi before mid now : ℕ) → lo ≡ range_start (cutting_of old) old.behind start → hi ≡ range_end (cutting_of old) old.behind start len
+      → mid ≤ before + 1 → now ≤ mid + (hi - lo + (core.opener.size - core.opener.overhead) - 1) / (core.opener.size - core.opener.overhead) + 1
+      → now ≤ before + (range_end (cutting_of old) old.behind start len - range_start (cutting_of old) old.behind start + (old.opener.size - old.opener.overhead) - 1) / (old.opener.size - old.opener.overhead) + 2
+  range_ticks start len lo hi before mid now l h one given =
+      let of : ℕ → ℕ → ℕ → ℕ = λ a b p. (b - a + p - 1) / p in
+      let p : core.opener.size - core.opener.overhead ≡ old.opener.size - old.opener.overhead = ap (λ o. o.size - o.overhead) same.opener in
+      let all : of lo hi (core.opener.size - core.opener.overhead) ≡ of (range_start (cutting_of old) old.behind start) (range_end (cutting_of old) old.behind start len) (old.opener.size - old.opener.overhead) =
+      ap (λ k. of lo hi k) p ∙ ap (λ k. of lo k (old.opener.size - old.opener.overhead)) h ∙ ap (λ k. of k (range_end (cutting_of old) old.behind start len) (old.opener.size - old.opener.overhead)) l in
+      added before mid now (of lo hi (core.opener.size - core.opener.overhead)) (of (range_start (cutting_of old) old.behind start) (range_end (cutting_of old) old.behind start len) (old.opener.size - old.opener.overhead)) one given all
+    where
+      added : (old mid new q r : ℕ) → mid ≤ old + 1 → new ≤ mid + q + 1 → q ≡ r → new ≤ old + r + 2
+      added old mid new q r a b e = omega arith
+
+-- there are no more chunks than numbers, or more
+pub few_of : (chunks count most : ℕ) → chunks ≡ count → count - 1 ≤ most → most ≡ 2 ^ 32 - 1 → chunks ≤ 2 ^ 32
+few_of chunks count most a b c = omega arith
+
+pub many_of : (chunks count most : ℕ) → chunks ≡ count → most < count - 1 → most ≡ 2 ^ 32 - 1 → 2 ^ 32 < chunks
+many_of chunks count most a b c = omega arith
+
+-- a range's end is inside
+pub end_inside : (hi a text whole : ℕ) → hi ≡ min a text → whole ≡ text → hi ≤ whole
+end_inside hi a text whole e f = omega arith
+
+-- a refusal by this kind
+pub range_refused : {W : Type 0} (got : W → Option (List ℕ)) (faults : W → ℕ) (c : Cutting) (behind start len : ℕ) (e : Moments W) (error : TinkError) (kind : Kind) → error ≡ record { kind = kind } → RangeRefused got faults c behind start len e kind → RangeRefused got faults c behind start len e error.kind
+range_refused got faults c behind start len e error kind is r = subst (λ (x : TinkError). RangeRefused got faults c behind start len e x.kind) (sym is) r
 
 module _ {W : Type 0} (got : W → Option (List ℕ)) (faults : W → ℕ) (c : Cutting) (behind start len : ℕ) (few : chunk_count c.first c.size behind ≤ 2 ^ 32) where
   none_given : (lo hi : ℕ) (all : Option (List ℕ)) → IfSome all (λ S. SomeGive c.seg c.over lo hi (chunks_in c S) [])

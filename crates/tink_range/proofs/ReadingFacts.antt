@@ -67,3 +67,10 @@ opened_at (Some S) seg number at rest room size len n total ok text e l m sum lo
       | inl fits ↦ take_all (min rest room) X (omega arith) ∙ sym (take_all room X (omega arith))
       | inr more ↦ let least : min rest room ≡ room = omega arith in ap (λ k. take k X) least
     ]
+
+-- as many bytes are read as are asked for
+pub chunk_length : (len rest size most sealed : ℕ) (held : List ℕ) → len ≡ min rest size → size ≤ most → most ≤ sealed → length held ≡ sealed → length (take len held) ≡ len
+chunk_length len rest size most sealed held l a b e = omega (arith, length-take len held)
+
+pub whole_chunk : (text n len rest size room : ℕ) → text ≡ n → n ≡ len → len ≡ min rest size → size ≡ room → text ≡ min rest room
+whole_chunk text n len rest size room a b c d = omega arith

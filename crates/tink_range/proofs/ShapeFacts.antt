@@ -1,5 +1,6 @@
 -- How many chunks and places so many bytes have, and where the last chunk begins.
-use Rattle.std.proofs.Common.{◌≡◌, ◌⊎◌, inl, inr, ◌<◌, ◌≤◌, ◌+◌, ◌-◌, ◌*◌, ℕ, zero, suc, List, [], ◌∷◌, length, take, drop, replicate, refl, sym, ap, subst, ◌∙◌, arith, length-drop}
+use Rattle.std.proofs.Common.{◌≡◌, ◌⊎◌, inl, inr, ◌<◌, ◌≤◌, ◌+◌, ◌-◌, ◌*◌, ◌^◌, ℕ, zero, suc, Fits, w64, List, [], ◌∷◌, length, take, drop, replicate, refl, sym, ap, subst, ◌∙◌, arith, length-drop}
+use Rattle.std.proofs.Math.Nat.{mul-le-mul_left}
 use Rattle.std.proofs.lemmas.List.{length-replicate, length-take-le, drop-drop}
 use Rattle.stream_model.specs.Cut.{cut, last_chunk}
 use Rattle.stream_model.proofs.CutFacts.{cut_fits, cut_more, cut_some}
@@ -81,3 +82,20 @@ pub shape_of_any : IsShapeOfAny
 shape_of_any first size over X p q =
     let zeros : List ℕ = replicate (length X) 0 in
     same_shape (length X) first size over zeros X (omega (arith, length-replicate {A = ℕ} (length X) 0)) (length-replicate {A = ℕ} (length X) 0) (omega arith) (omega arith)
+
+-- the places of the parts are no more than the bytes
+module _ (first size over behind q : ℕ) (some : over < first) (fits : first ≤ size) (more : first < behind) (below : q * size ≤ behind - first - 1) where
+  fewer : q * (size - over) ≤ q * size
+  fewer = let less : size - over ≤ size = omega arith in mul-le-mul_left q less
+
+  pub later_fit : behind < 2 ^ 64 → Fits w64 (q * (size - over))
+  later_fit whole = omega (arith, fewer, whole)
+
+  pub full_fit : behind < 2 ^ 64 → Fits w64 (first - over + q * (size - over))
+  full_fit whole = omega (arith, fewer, whole)
+
+  pub places_few : (last : ℕ) → last ≡ behind - (first + q * size) - over → first - over + q * (size - over) + last ≤ behind
+  places_few last e = omega (arith, fewer)
+
+  pub places_fit : (last : ℕ) → last ≡ behind - (first + q * size) - over → behind < 2 ^ 64 → Fits w64 (first - over + q * (size - over) + last)
+  places_fit last e whole = omega (arith, places_few last e, whole)

@@ -1,5 +1,5 @@
 -- The bytes of a range are a slice of the stream's text.
-use Rattle.std.proofs.Common.{◌≡◌, ◌⊎◌, inl, inr, ◌<◌, ◌≤◌, ◌+◌, ◌-◌, max, min, ℕ, zero, suc, Bool, true, false, List, [], ◌∷◌, ◌++◌, length, take, drop, sym, ap, subst, ◌∙◌, arith, Some, None}
+use Rattle.std.proofs.Common.{◌≡◌, ◌⊎◌, inl, inr, ◌<◌, ◌≤◌, ◌+◌, ◌-◌, max, min, ℕ, zero, suc, Bool, true, false, List, [], ◌∷◌, ◌++◌, length, take, drop, sym, ap, subst, ◌∙◌, arith, Some, None, length-drop}
 use Rattle.std.specs.declared.option.Option.{Option}
 use Rattle.std.proofs.lemmas.Bool.Decides.{nat_tests}
 use Rattle.std.proofs.lemmas.List.{append-nil, drop-append-le, drop_all, drop-take, length-take, take-append-le, take_all}
@@ -114,3 +114,6 @@ part_is lo hi at from to t f e range touched =
       | inl past ↦ take_all to t (omega arith) ∙ sym (take_all (hi - at) t past)
       | inr ends ↦ let same : to ≡ hi - at = omega arith in ap (λ n. take n t) same
     ])
+
+pub part_length : (from to n : ℕ) (t : List ℕ) → to ≡ min n (length t) → length (take (to - from) (drop from t)) ≡ to - from
+part_length from to n t e = omega (arith, length-take (to - from) (drop from t), length-drop from t)

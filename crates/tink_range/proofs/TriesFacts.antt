@@ -1,5 +1,5 @@
 -- How many keys were tried, step by step.
-use Rattle.std.proofs.Common.{◌≡◌, inl, inr, ◌+◌, ◌≤◌, ℕ, List, ◌∷◌, length, drop, map, sym, refl, subst, arith, add-zero}
+use Rattle.std.proofs.Common.{◌≡◌, Some, None, inl, inr, ◌+◌, ◌≤◌, ℕ, List, ◌∷◌, length, drop, map, sym, refl, subst, arith, add-zero}
 use Rattle.std.proofs.Math.ListN.{drop_of_length-le}
 use Rattle.stream_model.specs.Opening.{Begins, OpeningKey}
 use Rattle.tink_range.specs.ChoosingAt.{Tries, is_tried, one_if}
@@ -22,3 +22,7 @@ tries_first {T} of keys i n next key S e begins count before =
 pub tries_none : {T : Type 0} (of : T → OpeningKey) (keys : List T) (i n : ℕ) (S : List ℕ) → length keys ≤ i → TriesFrom of keys i n S → Tries (map of keys) S n
 tries_none {T} of keys i n S past before =
     subst (λ (k : ℕ). Tries (map of keys) S k) (add-zero n) (before 0 (subst (λ (ks : List T). Tries (map of ks) S 0) (sym (drop_of_length-le keys {i = i} past)) refl))
+
+-- what is chosen is not nothing
+pub is_some_not : {T P : Type 0} (v : T) → Some v ≡ None → P
+is_some_not v none = absurd cc

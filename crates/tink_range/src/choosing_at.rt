@@ -105,10 +105,10 @@ fn try_at<A: ReadAt, T: DerivesStreams, L: Ledger>(
     if size <= front as u64 {
         return Ok(Err(prefix));
     }
-    match front_at(key, aad, object, &mut sealed[..front], prefix)? {
-        Ok(opener) => {
+    match front_at(key, aad, object, &mut sealed[..front], prefix) {
+        Ok(Ok(opener)) => {
             let at = front as u64;
-            let begins = open_at(
+            match open_at(
                 &opener,
                 object,
                 sealed,
@@ -118,10 +118,13 @@ fn try_at<A: ReadAt, T: DerivesStreams, L: Ledger>(
                 at,
                 size - at,
                 steps,
-            )?;
-            Ok(begun_if(begins, opener, at))
+            ) {
+                Ok(begins) => Ok(begun_if(begins, opener, at)),
+                Err(e) => Err(e),
+            }
         }
-        Err(memory) => Ok(Err(memory)),
+        Ok(Err(memory)) => Ok(Err(memory)),
+        Err(e) => Err(e),
     }
 }
 
@@ -155,9 +158,10 @@ pub fn choose_at<A: ReadAt, T: DerivesStreams, L: Ledger>(
 {
     let mut prefix = prefix;
     for key in keys {
-        match try_at(key, aad, object, sealed, text, nonce, prefix, steps)? {
-            Ok(begun) => return Ok(Some(begun)),
-            Err(memory) => prefix = memory,
+        match try_at(key, aad, object, sealed, text, nonce, prefix, steps) {
+            Ok(Ok(begun)) => return Ok(Some(begun)),
+            Ok(Err(memory)) => prefix = memory,
+            Err(e) => return Err(e),
         }
     }
     Ok(None)

@@ -52,9 +52,13 @@ fn open_into<A: ReadAt, D: SegmentDecrypter, L: Ledger>(
     ensures count { RisesByFailure (A.faults object.old) (A.faults object.new) result }
     ensures same { A.same object.old object.new }
 {
-    fill_at(object, at, chunk)?;
-    steps.tick();
-    Ok(open_held(opener, number, last, chunk, nonce, text))
+    match fill_at(object, at, chunk) {
+        Ok(()) => {
+            steps.tick();
+            Ok(open_held(opener, number, last, chunk, nonce, text))
+        }
+        Err(e) => Err(e),
+    }
 }
 
 // Opens the chunk of that number, from whose place `at` the object has `rest` bytes, in one step. It is the last one where
@@ -88,7 +92,7 @@ pub fn open_at<A: ReadAt, D: SegmentDecrypter, L: Ledger>(
     let room = room_of(opener, number);
     let len = rest.min(room as u64) as usize;
     let last = rest <= room as u64;
-    let opens = open_into(
+    open_into(
         opener,
         object,
         &mut sealed[..len],
@@ -98,6 +102,5 @@ pub fn open_at<A: ReadAt, D: SegmentDecrypter, L: Ledger>(
         at,
         last,
         steps,
-    )?;
-    Ok(opens)
+    )
 }

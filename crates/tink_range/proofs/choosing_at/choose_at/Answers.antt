@@ -1,28 +1,31 @@
-use Rattle.std.proofs.Common.{◌≡◌, ◌+◌, ◌-◌, ℕ, Bool, List, map, IfSome, None, subst, ◌∙◌, arith}
+use Rattle.std.proofs.Common.{◌≡◌, ◌≤◌, ◌<◌, ◌+◌, ◌-◌, ℕ, Bool, List, All, length, map, IfSome, None, sym, subst, ◌∙◌, vec_len, vec_capacity, arith, le_of_eq, le_trans}
+use Rattle.std.proofs.lemmas.List.Elements.{All-get_or}
 use Rattle.std.specs.declared.option.Option.{Option}
 use Rattle.stream_model.specs.Cut.{numbered}
+use Rattle.stream_model.specs.Key.{StreamKey, nonce_size}
 use Rattle.stream_model.specs.Opening.{Begins, IsChosen, OpeningKey, opening_key}
 use Rattle.tink_segments.specs.StreamSegments.{segment_by}
 use Rattle.tink_streams.specs.Choosing.{Found, IsOpenerOf}
 use Rattle.tink_streams.proofs.ChoosingSteps.{ChosenFrom, both_told, key_split, none_left, pass_over, take_key}
 use Rattle.tink_range.specs.ChoosingAt.{Tries, is_tried, one_if}
+use Rattle.tink_range.proofs.ObjectSteps.{keeps_trans, no_more_than, room_for, rose_since}
 use Rattle.tink_range.proofs.ReadingFacts.{told_weaker}
-use Rattle.tink_range.proofs.TriesFacts.{TriesFrom, tries_first, tries_none, tries_on}
+use Rattle.tink_range.proofs.TriesFacts.{TriesFrom, is_some_not, tries_first, tries_none, tries_on}
 use Rattle.tink_range.proofs.choosing_at.choose_at.Goals as goal
 
-pub returns-in-Ok-clause-found : goal.returns-in-Ok-clause-found
-returns-in-Ok-clause-found g c =
+pub returns-in-Ok-Ok-clause-found : goal.returns-in-Ok-Ok-clause-found
+returns-in-Ok-Ok-clause-found g c =
     let of : g.row.T.Denot → OpeningKey = λ k. opening_key c.args.aad.now (g.T.DerivesStreams.key_of k) in
     let keys = c.args.keys.now in
     let i = c.loop-key.key-index in
-    let b = c.in-Ok.begun in
+    let b = c.in-Ok-Ok.begun in
     let o = b.opener in
     let seg : ℕ → Bool → List ℕ → List ℕ = numbered (segment_by o.decrypter) o.nonce_size o.prefix.items in
     let told : Option (List ℕ) = g.A.ReadAt.bytes c.args.object.now in
     let key : g.row.T.Denot = c.key-item.result in
     let inv = c.loop-key.invariant in
-    let tried = rw c.in-Ok.is at c.in_ok-begun.ensures.answer in
-    let split = key_split keys i key (omega arith) c.key-item.is in
+    let tried = rw c.in-Ok-Ok.field-0-is at c.in-Ok-Ok.ensures.answer in
+    let split = key_split keys i key c.loop-key-test.true c.key-item.is in
     let begins : List ℕ → Type 0 = λ X. Begins (of key) X × IsOpenerOf (of key) X seg b.front o.first o.size o.overhead in
     record {
       found = both_told told begins (ChosenFrom of keys i) (λ X. Found (map of keys) X seg b.front o.first o.size o.overhead)
@@ -32,25 +35,28 @@ returns-in-Ok-clause-found g c =
       inside = omega (arith, tried.inside, inv.kept.length_is);
     }
 
-pub returns-in-Ok-clause-tries : goal.returns-in-Ok-clause-tries
-returns-in-Ok-clause-tries g c =
+pub returns-in-Ok-Ok-clause-tries : goal.returns-in-Ok-Ok-clause-tries
+returns-in-Ok-Ok-clause-tries g c =
     let of : g.row.T.Denot → OpeningKey = λ k. opening_key c.args.aad.now (g.T.DerivesStreams.key_of k) in
     let keys = c.args.keys.now in
     let i = c.loop-key.key-index in
-    let b = c.in-Ok.begun in
+    let b = c.in-Ok-Ok.begun in
     let o = b.opener in
     let seg : ℕ → Bool → List ℕ → List ℕ = numbered (segment_by o.decrypter) o.nonce_size o.prefix.items in
     let told : Option (List ℕ) = g.A.ReadAt.bytes c.args.object.now in
     let key : g.row.T.Denot = c.key-item.result in
     let inv = c.loop-key.invariant in
-    let tried = rw c.in-Ok.is at c.in_ok-begun.ensures.answer in
-    let split = key_split keys i key (omega arith) c.key-item.is in
+    let tried = rw c.in-Ok-Ok.field-0-is at c.in-Ok-Ok.ensures.answer in
+    let split = key_split keys i key c.loop-key-test.true c.key-item.is in
     let begins : List ℕ → Type 0 = λ X. Begins (of key) X × IsOpenerOf (of key) X seg b.front o.first o.size o.overhead in
     let count : c.try_at.new.steps - c.args.steps.now ≡ (c.loop-key.steps - c.args.steps.now) + 1 = omega (arith, tried.ticked, inv.ticked) in
     both_told told begins (TriesFrom of keys i (c.loop-key.steps - c.args.steps.now)) (λ X. Tries (map of keys) X (c.try_at.new.steps - c.args.steps.now))
     (λ X p h. tries_first of keys i (c.loop-key.steps - c.args.steps.now) (c.try_at.new.steps - c.args.steps.now) key X split p.0 count h)
     (subst (λ (r : Option (List ℕ)). IfSome r begins) inv.kept.bytes_are tried.found)
     inv.tried
+
+pub returns-in-Ok-Ok-clause-none : goal.returns-in-Ok-Ok-clause-none
+returns-in-Ok-Ok-clause-none g c = λ none. is_some_not c.in-Ok-Ok.begun none
 
 pub loop-key-preserved : goal.loop-key-preserved
 loop-key-preserved g c =
@@ -60,9 +66,9 @@ loop-key-preserved g c =
     let told : Option (List ℕ) = g.A.ReadAt.bytes c.args.object.now in
     let key : g.row.T.Denot = c.key-item.result in
     let inv = c.loop-key.invariant in
-    let called = c.in_ok-begun.ensures in
-    let tried = rw c.in-Err.is at called.answer in
-    let split = key_split keys i key (omega arith) c.key-item.is in
+    let called = c.in-Ok-Err.ensures in
+    let tried = rw c.in-Ok-Err.field-0-is at called.answer in
+    let split = key_split keys i key c.loop-key-test.true c.key-item.is in
     let not : List ℕ → Type 0 = λ X. Begins (of key) X → ⊥ in
     let ticks : List ℕ → Type 0 = λ X. c.try_at.new.steps ≡ c.loop-key.steps + one_if (is_tried (of key) X) in
     let none : IfSome told not = subst (λ (r : Option (List ℕ)). IfSome r not) inv.kept.bytes_are tried.none in
@@ -79,7 +85,7 @@ loop-key-preserved g c =
           inv.tried;
       ticked = omega (arith, called.ticks.0, inv.ticked);
       few = omega (arith, called.ticks.1, inv.few);
-      kept = record { length_is = called.kept.length_is ∙ inv.kept.length_is; bytes_are = called.kept.bytes_are ∙ inv.kept.bytes_are; later = omega (arith, called.kept.later, inv.kept.later) };
+      kept = keeps_trans g.A.ReadAt.length_of g.A.ReadAt.bytes g.A.ReadAt.faults c.args.object.now c.loop-key.object c.try_at.new.object inv.kept called.kept;
       count = called.count ∙ inv.count;
       same = g.met.A.ReadAt.same_trans _ _ _ inv.same called.same;
     }
@@ -101,8 +107,91 @@ returns-clause-tries g c =
 
 -- the object is the one that it was
 
-pub returns-in-Ok-clause-same : goal.returns-in-Ok-clause-same
-returns-in-Ok-clause-same g c = g.met.A.ReadAt.same_trans _ _ _ c.loop-key.invariant.same c.in_ok-begun.ensures.same
+pub returns-in-Ok-Ok-clause-same : goal.returns-in-Ok-Ok-clause-same
+returns-in-Ok-Ok-clause-same g c = g.met.A.ReadAt.same_trans _ _ _ c.loop-key.invariant.same c.in-Ok-Ok.ensures.same
 
-pub returns-in_err-begun-clause-same : goal.returns-in_err-begun-clause-same
-returns-in_err-begun-clause-same g c = g.met.A.ReadAt.same_trans _ _ _ c.loop-key.invariant.same c.in_err-begun.ensures.same
+pub returns-in-Err-clause-same : goal.returns-in-Err-clause-same
+returns-in-Err-clause-same g c = g.met.A.ReadAt.same_trans _ _ _ c.loop-key.invariant.same c.in-Err.ensures.same
+
+-- and has failed as often, or once more
+
+pub returns-in-Ok-Ok-clause-kept : goal.returns-in-Ok-Ok-clause-kept
+returns-in-Ok-Ok-clause-kept g c =
+    keeps_trans g.A.ReadAt.length_of g.A.ReadAt.bytes g.A.ReadAt.faults c.args.object.now c.loop-key.object c.try_at.new.object c.loop-key.invariant.kept c.in-Ok-Ok.ensures.kept
+
+pub returns-in-Err-clause-kept : goal.returns-in-Err-clause-kept
+returns-in-Err-clause-kept g c =
+    keeps_trans g.A.ReadAt.length_of g.A.ReadAt.bytes g.A.ReadAt.faults c.args.object.now c.loop-key.object c.try_at.new.object c.loop-key.invariant.kept c.in-Err.ensures.kept
+
+pub returns-in-Ok-Ok-clause-count : goal.returns-in-Ok-Ok-clause-count
+returns-in-Ok-Ok-clause-count g c = c.in-Ok-Ok.ensures.count ∙ c.loop-key.invariant.count
+
+pub returns-in-Err-clause-count : goal.returns-in-Err-clause-count
+returns-in-Err-clause-count g c = rose_since _ _ _ c.loop-key.invariant.count c.in-Err.ensures.count
+
+-- after a step for each key at most
+
+pub returns-in-Ok-Ok-clause-ticks : goal.returns-in-Ok-Ok-clause-ticks
+returns-in-Ok-Ok-clause-ticks g c =
+    let inv = c.loop-key.invariant in
+    no_more_than c.args.steps.now c.loop-key.steps c.try_at.new.steps c.loop-key.key-index (length c.args.keys.now) inv.ticked inv.few c.in-Ok-Ok.ensures.ticks c.loop-key-test.true
+
+pub returns-in-Err-clause-ticks : goal.returns-in-Err-clause-ticks
+returns-in-Err-clause-ticks g c =
+    let inv = c.loop-key.invariant in
+    no_more_than c.args.steps.now c.loop-key.steps c.try_at.new.steps c.loop-key.key-index (length c.args.keys.now) inv.ticked inv.few c.in-Err.ensures.ticks c.loop-key-test.true
+
+-- with room for each key
+
+pub returns-in-Ok-Ok-clause-room : goal.returns-in-Ok-Ok-clause-room
+returns-in-Ok-Ok-clause-room g c =
+    let keys = c.args.keys.now in
+    let key : g.row.T.Denot = c.key-item.result in
+    let of : g.row.T.Denot → StreamKey = g.T.DerivesStreams.key_of in
+    let so : (P : g.row.T.Denot → Type 0) → All P keys → P key = λ P h. subst P (sym c.key-item.is) (All-get_or P keys c.loop-key.key-index key c.loop-key-test.true h) in
+    let inv = c.loop-key.invariant in
+    let room = c.in-Ok-Ok.ensures.room in
+    let all = c.requires.room in
+    let begun = rw c.in-Ok-Ok.field-0-is at c.in-Ok-Ok.ensures.answer in
+    room_for _ _ (of key).segment (nonce_size (of key)) (length (of key).out) (vec_len c.args.sealed.now) _ (vec_capacity c.args.text.now) _ (vec_len c.args.nonce.now) _ begun.opened.size_is begun.opened.nonce_is
+    (so (λ k. length (of k).out + (of k).segment < vec_len c.args.sealed.now) all.sealed_room) (so (λ k. (of k).segment ≤ vec_capacity c.args.text.now) all.text_room) (so (λ k. nonce_size (of k) ≤ vec_len c.args.nonce.now) all.nonce_room)
+    (room.sealed_len ∙ inv.sealed_len) (le_trans inv.text_room (le_of_eq (sym room.buffers.capacity))) (room.buffers.nonce_len ∙ inv.nonce_len)
+
+pub try_at-requires-clause-sealed : goal.try_at-requires-clause-sealed
+try_at-requires-clause-sealed g c =
+    let key : g.row.T.Denot = c.key-item.result in
+    let of : g.row.T.Denot → StreamKey = g.T.DerivesStreams.key_of in
+    subst (λ (n : ℕ). length (of key).out + (of key).segment < n) (sym c.loop-key.invariant.sealed_len)
+    (subst (λ (k : g.row.T.Denot). length (of k).out + (of k).segment < vec_len c.args.sealed.now) (sym c.key-item.is)
+    (All-get_or (λ k. length (of k).out + (of k).segment < vec_len c.args.sealed.now) c.args.keys.now c.loop-key.key-index key c.loop-key-test.true c.requires.room.sealed_room))
+
+pub try_at-requires-clause-text : goal.try_at-requires-clause-text
+try_at-requires-clause-text g c =
+    let key : g.row.T.Denot = c.key-item.result in
+    let of : g.row.T.Denot → StreamKey = g.T.DerivesStreams.key_of in
+    le_trans
+    (subst (λ (k : g.row.T.Denot). (of k).segment ≤ vec_capacity c.args.text.now) (sym c.key-item.is)
+    (All-get_or (λ k. (of k).segment ≤ vec_capacity c.args.text.now) c.args.keys.now c.loop-key.key-index key c.loop-key-test.true c.requires.room.text_room))
+    c.loop-key.invariant.text_room
+
+pub try_at-requires-clause-nonce : goal.try_at-requires-clause-nonce
+try_at-requires-clause-nonce g c =
+    let key : g.row.T.Denot = c.key-item.result in
+    let of : g.row.T.Denot → StreamKey = g.T.DerivesStreams.key_of in
+    subst (λ (n : ℕ). nonce_size (of key) ≤ n) (sym c.loop-key.invariant.nonce_len)
+    (subst (λ (k : g.row.T.Denot). nonce_size (of k) ≤ vec_len c.args.nonce.now) (sym c.key-item.is)
+    (All-get_or (λ k. nonce_size (of k) ≤ vec_len c.args.nonce.now) c.args.keys.now c.loop-key.key-index key c.loop-key-test.true c.requires.room.nonce_room))
+
+-- a refusal says nothing of a key
+
+pub returns-in-Err-clause-none : goal.returns-in-Err-clause-none
+returns-in-Err-clause-none g c = tt
+
+pub returns-in-Err-clause-found : goal.returns-in-Err-clause-found
+returns-in-Err-clause-found g c = tt
+
+pub returns-in-Err-clause-room : goal.returns-in-Err-clause-room
+returns-in-Err-clause-room g c = tt
+
+pub returns-in-Err-clause-tries : goal.returns-in-Err-clause-tries
+returns-in-Err-clause-tries g c = tt

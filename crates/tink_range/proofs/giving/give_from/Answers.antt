@@ -1,11 +1,12 @@
-use Rattle.std.proofs.Common.{◌≡◌, ◌+◌, ℕ, List, length, IfSome, refl, sym, ap, ◌∙◌, arith}
+use Rattle.std.proofs.Common.{◌≡◌, ◌<◌, ◌+◌, ◌-◌, ℕ, List, length, IfSome, refl, sym, ap, subst, ◌∙◌, arith, le_trans}
 use Rattle.std.specs.Prelude.{Ok, Err}
 use Rattle.std.specs.declared.option.Option.{Option}
 use Rattle.stream_model.specs.Cut.{room_at}
 use Rattle.tink_range.specs.RangeCores.{cutting_of}
 use Rattle.tink_range.proofs.GivingEnds.{gave_all, gave_refused, same_one}
-use Rattle.tink_range.proofs.GivingTold.{IsNext, next_giving, next_place_is, next_ticks, nothing_given, within_few}
-use Rattle.tink_range.proofs.PlaceFacts.{is_reached, number_few, text_before}
+use Rattle.tink_range.proofs.GivingTold.{IsNext, all_ticks, last_ticks, next_giving, next_place_is, next_ticks, nothing_given, within_few}
+use Rattle.tink_range.proofs.ObjectSteps.{core_trans, given_fits, keeps_trans, leaves_trans, less_left, ok_keeps, whole_of}
+use Rattle.tink_range.proofs.PlaceFacts.{is_reached, number_few, room_some, text_before}
 use Rattle.tink_range.proofs.ReadingFacts.{told_weaker}
 use Rattle.tink_range.proofs.giving.give_from.Goals as goal
 
@@ -97,10 +98,11 @@ loop-place-preserved g c =
       start_in = omega (arith, next.start, here.place.inside);
       few = omega (arith, inv.few, one.count, within_few c.args.lo c.args.hi place.text one.text, one.fits, next.text);
       ticks = next_ticks (cutting_of core) c.args.lo c.args.hi core.behind place.number place.start place.text here c.args.from.number _ _ _ _ _ next.number next.text inv.ticks.later gave.ticks inv.ticks;
-      core = record { opener = gave.core.opener ∙ inv.core.opener; front = gave.core.front ∙ inv.core.front; behind = gave.core.behind ∙ inv.core.behind; memory = gave.core.memory ∙ inv.core.memory };
-      kept = record { length_is = gave.kept.length_is ∙ inv.kept.length_is; bytes_are = gave.kept.bytes_are ∙ inv.kept.bytes_are; later = omega (arith, gave.kept.later, inv.kept.later) };
+      core = core_trans core c.loop-place.core c.give_chunk.new.self inv.core gave.core;
+      kept = keeps_trans g.A.ReadAt.length_of g.A.ReadAt.bytes g.A.ReadAt.faults c.args.object.now c.loop-place.object c.give_chunk.new.object inv.kept
+          (ok_keeps g.A.ReadAt.length_of g.A.ReadAt.bytes g.A.ReadAt.faults c.loop-place.object c.give_chunk.new.object c.in-Ok.count gave.kept);
       count = gave.kept.count ∙ inv.count;
-      later = omega (arith, gave.later, inv.later);
+      later = le_trans inv.later gave.later;
       object_same = g.met.A.ReadAt.same_trans _ _ _ inv.object_same gave.object;
       sink_same = g.met.K.Sink.same_trans _ _ _ inv.sink_same gave.sink;
     }
@@ -120,3 +122,59 @@ returns-in-Err-clause-sink g c = g.met.K.Sink.same_trans _ _ _ c.loop-place.inva
 
 pub returns-in-Err-clause-object : goal.returns-in-Err-clause-object
 returns-in-Err-clause-object g c = g.met.A.ReadAt.same_trans _ _ _ c.loop-place.invariant.object_same c.in-Err.ensures.object
+
+-- and no more was opened than the range's own length fills
+
+pub give_chunk-requires-clause-object : goal.give_chunk-requires-clause-object
+give_chunk-requires-clause-object g c =
+    let inv = c.loop-place.invariant in
+    whole_of c.args.core.now.front c.args.core.now.behind _ c.loop-place.core.front c.loop-place.core.behind _ c.requires.object inv.core.front inv.core.behind inv.kept.length_is
+
+pub overflow_add-given : goal.overflow_add-given
+overflow_add-given g c =
+    let place = c.loop-place.place in
+    let inv = c.loop-place.invariant in
+    let core = c.loop-place.core in
+    let one = c.in-Ok.ensures.answer in
+    given_fits c.loop-place.given c.in-Ok.count _ _ place.text place.start core.behind core.front core.opener.overhead (room_at core.opener.first core.opener.size place.number) inv.few inv.low
+    (subst (λ (n : ℕ). place.start < n) (sym inv.core.behind) (inv.going c.loop-place-test.true).inside) one.count (within_few c.args.lo c.args.hi place.text one.text) one.fits core.fits
+
+pub next_place-place-requires-clause-start : goal.next_place-place-requires-clause-start
+next_place-place-requires-clause-start g c = (c.loop-place.invariant.going c.loop-place-test.true).inside
+
+pub next_place-place-requires-clause-text : goal.next_place-place-requires-clause-text
+next_place-place-requires-clause-text g c = c.loop-place.invariant.low
+
+pub loop-place-smaller : goal.loop-place-smaller
+loop-place-smaller g c =
+    let behind = c.args.core.now.behind in
+    let o = c.args.core.now.opener in
+    let place = c.loop-place.place in
+    let here = c.loop-place.invariant.going c.loop-place-test.true in
+    less_left behind place.start o.overhead (room_at o.first o.size place.number) _ here.inside
+    (room_some o.first o.size o.overhead behind c.args.lo o.some o.first_fits place.number place.start place.text here) c.next_place-place.ensures.start
+
+pub returns-in-Err-clause-ticks : goal.returns-in-Err-clause-ticks
+returns-in-Err-clause-ticks g c =
+    let core = c.args.core.now in
+    let place = c.loop-place.place in
+    let inv = c.loop-place.invariant in
+    let here : IsNext (cutting_of core) c.args.lo c.args.hi core.behind place.number place.start place.text =
+    record { over = core.opener.some; sizes = core.opener.first_fits; place = inv.going c.loop-place-test.true; range = c.requires.begins.range; within = c.requires.begins.within; before = c.loop-place-test.true } in
+    last_ticks (cutting_of core) c.args.lo c.args.hi core.behind place.number place.start place.text here c.args.from.number c.args.steps.now c.loop-place.steps c.give_chunk.new.steps c.in-Err.ensures.ticks inv.ticks
+
+pub returns-in-Err-clause-core : goal.returns-in-Err-clause-core
+returns-in-Err-clause-core g c = core_trans c.args.core.now c.loop-place.core c.give_chunk.new.self c.loop-place.invariant.core c.in-Err.ensures.core
+
+pub returns-in-Err-clause-kept : goal.returns-in-Err-clause-kept
+returns-in-Err-clause-kept g c =
+    let inv = c.loop-place.invariant in
+    leaves_trans g.A.ReadAt.length_of g.A.ReadAt.bytes g.A.ReadAt.faults c.args.object.now c.loop-place.object c.give_chunk.new.object (Err c.in-Err.e) inv.kept inv.count c.in-Err.ensures.kept
+
+pub returns-in-Err-clause-later : goal.returns-in-Err-clause-later
+returns-in-Err-clause-later g c = le_trans c.loop-place.invariant.later c.in-Err.ensures.later
+
+pub returns-clause-ticks : goal.returns-clause-ticks
+returns-clause-ticks g c =
+    let o = c.args.core.now.opener in
+    all_ticks c.args.lo c.args.hi (o.size - o.overhead) c.args.from.number c.loop-place.place.number c.loop-place.place.text c.args.steps.now c.loop-place.steps c.loop-place.invariant.ticks

@@ -20,3 +20,6 @@ loop-done-preserved g c =
       count = read.cause.count ∙ inv.count;
       same = g.met.A.ReadAt.same_trans _ _ _ inv.same read.same;
     }
+
+pub returns-in-Err-clause-same : goal.returns-in-Err-clause-same
+returns-in-Err-clause-same g c = g.met.A.ReadAt.same_trans _ _ _ c.loop-done.invariant.same c.in-Err.ensures.same

@@ -2,7 +2,7 @@ use Rattle.std.proofs.Common.{◌≡◌, ◌≤◌, ◌<◌, ◌+◌, ◌-◌, �
 use Rattle.std.proofs.Math.Nat.{div-mul-le_self, lt-div-mul-add}
 use Rattle.stream_model.specs.Cut.{room_at}
 use Rattle.tink_range.specs.Shapes.{HasShape}
-use Rattle.tink_range.proofs.ShapeFacts.{shape_fits, shape_of_parts}
+use Rattle.tink_range.proofs.ShapeFacts.{full_fit, later_fit, places_few, places_fit, shape_fits, shape_of_parts}
 use Rattle.tink_range.proofs.shape.shape_of.Goals as goal
 
 pub returns-then-behind-first-clause-shape : goal.returns-then-behind-first-clause-shape
@@ -35,3 +35,27 @@ returns-clause-room c =
     let number : q + 2 - 1 ≡ suc q = omega arith in
     let room : room_at a.first a.size (q + 2 - 1) ≡ a.size = ap (room_at a.first a.size) number in
     omega (arith, room, above)
+
+pub overflow_mul-text : goal.overflow_mul-text
+overflow_mul-text c =
+    let a = c.args in
+    let n : ℕ = a.behind - a.first - 1 in
+    later_fit a.first a.size a.over a.behind (n / a.size) c.requires.over c.requires.fits c.if-behind-first.false (div-mul-le_self n a.size) c.ranges.behind.fits
+
+pub overflow_add-text : goal.overflow_add-text
+overflow_add-text c =
+    let a = c.args in
+    let n : ℕ = a.behind - a.first - 1 in
+    full_fit a.first a.size a.over a.behind (n / a.size) c.requires.over c.requires.fits c.if-behind-first.false (div-mul-le_self n a.size) c.ranges.behind.fits
+
+pub overflow_add-text-2 : goal.overflow_add-text-2
+overflow_add-text-2 c =
+    let a = c.args in
+    let n : ℕ = a.behind - a.first - 1 in
+    places_fit a.first a.size a.over a.behind (n / a.size) c.requires.over c.requires.fits c.if-behind-first.false (div-mul-le_self n a.size) c.saturating_sub-2.result c.saturating_sub-2.ensures c.ranges.behind.fits
+
+pub returns-clause-text : goal.returns-clause-text
+returns-clause-text c =
+    let a = c.args in
+    let n : ℕ = a.behind - a.first - 1 in
+    places_few a.first a.size a.over a.behind (n / a.size) c.requires.over c.requires.fits c.if-behind-first.false (div-mul-le_self n a.size) c.saturating_sub-2.result c.saturating_sub-2.ensures

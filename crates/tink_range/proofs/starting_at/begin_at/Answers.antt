@@ -1,11 +1,13 @@
-use Rattle.std.proofs.Common.{◌-◌, List, map, IfSome, ap, subst, ◌∙◌}
+use Rattle.std.proofs.Common.{◌-◌, List, map, IfSome, refl, ap, subst, ◌∙◌}
 use Rattle.std.specs.Prelude.{IfErr, IfOk}
 use Rattle.stream_model.specs.Opening.{OpeningKey, opening_key}
+use Rattle.tink_io.specs.declared.error.Kind.TheVariants.{OutOfMemory}
 use Rattle.tink_stream_keys.specs.StreamKinds.{key_in_set}
 use Rattle.tink_streams.specs.Choosing.{Found, StartRefused}
 use Rattle.tink_streams.specs.Openers.{segment_map}
 use Rattle.tink_range.specs.ChoosingAt.{HasTried}
-use Rattle.tink_range.proofs.StartAtFacts.{fused, new_refused}
+use Rattle.tink_range.proofs.ObjectSteps.{refusal_leaves, unread}
+use Rattle.tink_range.proofs.StartAtFacts.{fused, memory_refused, memory_untried, new_refused, ticks_of}
 use Rattle.tink_range.proofs.starting_at.begin_at.Goals as goal
 
 pub returns-in-Ok-reserve-clause-found : goal.returns-in-Ok-reserve-clause-found
@@ -27,3 +29,23 @@ returns-in-Ok-reserve-clause-tried g c =
     let of = opening_key c.args.aad.now in
     let keys = fused of (λ e. key_in_set e.now) c.deref-in-Ok-reserve.result.now ∙ ap (map of) (ap (map (λ e. key_in_set e.now)) c.deref-in-Ok-reserve.ensures.value ∙ c.in-Ok.ensures.keys) in
     subst (λ (ks : List OpeningKey). HasTried c.start_at.result (g.A.ReadAt.bytes c.args.object.now) ks (c.start_at.new.steps - c.args.steps.now)) keys c.start_at.ensures.tried
+
+pub returns-in-Ok-reserve-clause-ticks : goal.returns-in-Ok-reserve-clause-ticks
+returns-in-Ok-reserve-clause-ticks g c =
+    ticks_of (λ e. key_in_set e.now) c.deref-in-Ok-reserve.result.now c.args.w.now.keys c.args.steps.now c.start_at.new.steps (ap (map (λ e. key_in_set e.now)) c.deref-in-Ok-reserve.ensures.value ∙ c.in-Ok.ensures.keys) c.start_at.ensures.ticks
+
+-- there is no memory for a trial
+
+pub returns-in-Ok-clause-kept : goal.returns-in-Ok-clause-kept
+returns-in-Ok-clause-kept g c =
+    refusal_leaves g.A.ReadAt.length_of g.A.ReadAt.bytes g.A.ReadAt.faults c.args.object.now c.args.object.now c.in-Err-reserve.e OutOfMemory c.in-Err-reserve.ensures.refused
+    (unread g.A.ReadAt.length_of g.A.ReadAt.bytes g.A.ReadAt.faults c.args.object.now) refl
+
+pub returns-in-Ok-clause-same : goal.returns-in-Ok-clause-same
+returns-in-Ok-clause-same g c = g.met.A.ReadAt.same_refl c.args.object.now
+
+pub returns-in-Ok-clause-tried : goal.returns-in-Ok-clause-tried
+returns-in-Ok-clause-tried g c = memory_untried c.in-Err-reserve.e c.in-Err-reserve.ensures.refused
+
+pub returns-in-Ok-clause-refused : goal.returns-in-Ok-clause-refused
+returns-in-Ok-clause-refused g c = memory_refused g.A.ReadAt.bytes g.A.ReadAt.faults (map (opening_key c.args.aad.now) c.args.w.now.keys) c.args.object.now c.in-Err-reserve.e c.in-Err-reserve.ensures.refused

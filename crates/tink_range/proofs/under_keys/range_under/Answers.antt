@@ -2,8 +2,12 @@ use Rattle.std.proofs.Common.{length, map, sym}
 use Rattle.std.proofs.lemmas.List.{length-map}
 use Rattle.stream_model.specs.Opening.{opening_key}
 use Rattle.tink_range.specs.RangeCores.{cutting_of}
-use Rattle.tink_range.proofs.KeyRangeSteps.{takes_steps, under_chosen}
+use Rattle.tink_range.proofs.KeyRangeSteps.{few_steps, start_refused, takes_steps, under_chosen}
+use Rattle.tink_range.proofs.ObjectSteps.{leaves_trans, ok_keeps}
 use Rattle.tink_range.proofs.under_keys.range_under.Goals as goal
+
+pub start_at-requires : goal.start_at-requires
+start_at-requires g c = record { room = c.requires.room }
 
 pub returns-in-Ok-clause-answer : goal.returns-in-Ok-clause-answer
 returns-in-Ok-clause-answer g c =
@@ -23,3 +27,23 @@ returns-in-Ok-clause-ticks g c =
 
 pub returns-in-Ok-clause-object : goal.returns-in-Ok-clause-object
 returns-in-Ok-clause-object g c = g.met.A.ReadAt.same_trans _ _ _ c.in-Ok.ensures.same c.read_range.ensures.object
+
+pub returns-in-Ok-clause-kept : goal.returns-in-Ok-clause-kept
+returns-in-Ok-clause-kept g c =
+    let kept = c.in-Ok.ensures.kept in
+    leaves_trans g.A.ReadAt.length_of g.A.ReadAt.bytes g.A.ReadAt.faults c.args.object.now c.start_at.new.object c.read_range.new.object c.read_range.result
+    (ok_keeps g.A.ReadAt.length_of g.A.ReadAt.bytes g.A.ReadAt.faults c.args.object.now c.start_at.new.object c.in-Ok.core kept) kept.count c.read_range.ensures.kept
+
+-- no key is chosen
+
+pub returns-in-Err-clause-answer : goal.returns-in-Err-clause-answer
+returns-in-Err-clause-answer g c =
+    start_refused g.K.Sink.got g.K.Sink.faults (map (λ k. opening_key c.args.aad.now (g.T.DerivesStreams.key_of k)) c.args.keys.now) (g.A.ReadAt.length_of c.args.object.now) c.args.start c.args.len
+    (g.A.ReadAt.bytes c.args.object.now) (g.A.ReadAt.faults c.args.object.now) (g.A.ReadAt.faults c.start_at.new.object) c.args.sink.now c.in-Err.e.kind c.in-Err.ensures.refused
+
+pub returns-in-Err-clause-ticks : goal.returns-in-Err-clause-ticks
+returns-in-Err-clause-ticks g c =
+    few_steps (λ k. opening_key c.args.aad.now (g.T.DerivesStreams.key_of k)) c.args.keys.now (g.A.ReadAt.bytes c.args.object.now) (g.A.ReadAt.length_of c.args.object.now) c.args.start c.args.len c.args.steps.now c.start_at.new.steps c.in-Err.ensures.ticks.1
+
+pub returns-in-Err-clause-sink : goal.returns-in-Err-clause-sink
+returns-in-Err-clause-sink g c = g.met.K.Sink.same_refl c.args.sink.now

@@ -1,9 +1,11 @@
-use Rattle.std.proofs.Common.{◌≡◌, ◌≤◌, ◌<◌, ◌+◌, ◌-◌, ℕ, Bool, List, length, IfSome, ap, sym, subst, ◌∙◌, arith}
+use Rattle.std.proofs.Common.{◌≡◌, ◌≤◌, ◌<◌, ◌+◌, ◌-◌, ℕ, Bool, List, length, IfSome, ap, sym, subst, ◌∙◌, arith, le_of_eq}
 use Rattle.std.specs.declared.option.Option.{Option}
 use Rattle.stream_model.specs.Cut.{room_at}
+use Rattle.tink_io.specs.declared.error.Kind.TheVariants.{BadSegment, ReadFault, Truncated}
 use Rattle.tink_range.specs.ChunkReading.{OpensAt}
 use Rattle.tink_range.specs.RangeCores.{chunk_in, cutting_of}
-use Rattle.tink_range.proofs.LastFacts.{told_agrees, told_refused}
+use Rattle.tink_range.proofs.LastFacts.{last_refusal, told_agrees, told_refused}
+use Rattle.tink_range.proofs.ObjectSteps.{refusal_leaves, within_one}
 use Rattle.tink_range.proofs.ReadingFacts.{told_weaker}
 use Rattle.tink_range.proofs.chunks.RangeCore.check_last.Goals as goal
 
@@ -36,3 +38,36 @@ returns-else-self-start-clause-answer g c =
     (told_refused (cutting_of core) core.behind c.args.number c.args.start (room_at core.opener.first core.opener.size c.args.number) c.requires.start c.requires.room c.requires.shape all c.open_chunk.new.self.buffers.text.items
     (λ len. core.opener.overhead ≤ len) size long
     (subst (λ (b : Bool). OpensAt (cutting_of core).seg (chunk_in core c.args.number c.args.start) all b c.open_chunk.new.self.buffers.text.items) c.in-Ok-false.field-0-test c.in-Ok-false.ensures.answer))
+
+pub returns-in-Err-clause-answer : goal.returns-in-Err-clause-answer
+returns-in-Err-clause-answer g c =
+    let core = c.args.self.now in
+    last_refusal (cutting_of core) core.behind (g.A.ReadAt.bytes c.args.object.now) (g.A.ReadAt.faults c.args.object.now) (g.A.ReadAt.faults c.open_chunk.new.object) c.new-in-Err.result ReadFault c.new-in-Err.ensures c.in-Err.ensures.count
+
+-- the object has failed as often as before, or once more
+
+pub returns-then-self-start-clause-kept : goal.returns-then-self-start-clause-kept
+returns-then-self-start-clause-kept g c =
+    refusal_leaves g.A.ReadAt.length_of g.A.ReadAt.bytes g.A.ReadAt.faults c.args.object.now c.open_chunk.new.object c.new.result (Truncated c.args.number) c.new.ensures c.in-Ok-false.ensures.kept c.in-Ok-false.ensures.count
+
+pub returns-else-self-start-clause-kept : goal.returns-else-self-start-clause-kept
+returns-else-self-start-clause-kept g c =
+    refusal_leaves g.A.ReadAt.length_of g.A.ReadAt.bytes g.A.ReadAt.faults c.args.object.now c.open_chunk.new.object c.new-in-Ok-false.result (BadSegment c.args.number) c.new-in-Ok-false.ensures c.in-Ok-false.ensures.kept c.in-Ok-false.ensures.count
+
+pub returns-in-Err-clause-kept : goal.returns-in-Err-clause-kept
+returns-in-Err-clause-kept g c =
+    refusal_leaves g.A.ReadAt.length_of g.A.ReadAt.bytes g.A.ReadAt.faults c.args.object.now c.open_chunk.new.object c.new-in-Err.result ReadFault c.new-in-Err.ensures c.in-Err.ensures.kept c.in-Err.ensures.count
+
+-- after a step or none
+
+pub returns-in-Ok-true-clause-ticks : goal.returns-in-Ok-true-clause-ticks
+returns-in-Ok-true-clause-ticks g c = le_of_eq c.in-Ok-true.ensures.ticks
+
+pub returns-then-self-start-clause-ticks : goal.returns-then-self-start-clause-ticks
+returns-then-self-start-clause-ticks g c = le_of_eq c.in-Ok-false.ensures.ticks
+
+pub returns-else-self-start-clause-ticks : goal.returns-else-self-start-clause-ticks
+returns-else-self-start-clause-ticks g c = le_of_eq c.in-Ok-false.ensures.ticks
+
+pub returns-in-Err-clause-ticks : goal.returns-in-Err-clause-ticks
+returns-in-Err-clause-ticks g c = within_one c.args.steps.now c.open_chunk.new.steps c.in-Err.ensures.ticks

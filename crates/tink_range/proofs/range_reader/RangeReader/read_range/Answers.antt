@@ -1,9 +1,10 @@
-use Rattle.std.proofs.Common.{◌≡◌, ◌+◌, ℕ, List, length, IfSome, ap, subst, sym, ◌∙◌}
+use Rattle.std.proofs.Common.{◌≡◌, ◌≤◌, ◌+◌, ◌-◌, ◌/◌, ℕ, List, length, IfSome, ap, subst, sym, ◌∙◌}
 use Rattle.std.specs.declared.option.Option.{Option}
 use Rattle.tink_range.specs.ChunkReading.{ends_of}
+use Rattle.tink_range.specs.Objects.{LeavesObject}
 use Rattle.tink_range.specs.RangeCores.{cutting_of}
 use Rattle.tink_range.specs.RangeReaders.{RangeState, cut_by}
-use Rattle.tink_range.specs.RangeReading.{IsGivenExactly}
+use Rattle.tink_range.specs.RangeReading.{IsGivenExactly, RangeMeans, range_end, range_start}
 use Rattle.tink_range.proofs.CanGiveFacts.{is_given}
 use Rattle.tink_range.proofs.ReadingFacts.{told_weaker}
 use Rattle.tink_range.proofs.range_reader.RangeReader.read_range.Goals as goal
@@ -23,3 +24,29 @@ returns-clause-given g c =
 
 pub returns-clause-memory : goal.returns-clause-memory
 returns-clause-memory g c = c.read_range.ensures.core.memory ∙ ap (λ (r : RangeState (g.row.A.Denot)). r.memory) c.self.view_is
+
+pub returns-clause-answer : goal.returns-clause-answer
+returns-clause-answer g c =
+    subst (λ (r : RangeState (g.row.A.Denot)). RangeMeans g.K.Sink.got g.K.Sink.faults (cut_by r) r.behind c.args.start c.args.len
+    (ends_of g.A.ReadAt.bytes g.A.ReadAt.faults r.object c.read_range.new.object c.args.sink.now c.read_range.new.sink) c.read_range.result)
+    c.self.view_is c.read_range.ensures.answer
+
+pub returns-clause-ticks : goal.returns-clause-ticks
+returns-clause-ticks g c =
+    subst (λ (r : RangeState (g.row.A.Denot)). c.read_range.new.steps ≤ c.args.steps.now + (range_end (cut_by r) r.behind c.args.start c.args.len - range_start (cut_by r) r.behind c.args.start
+    + (r.opening.size - r.opening.overhead) - 1) / (r.opening.size - r.opening.overhead) + 2)
+    c.self.view_is c.read_range.ensures.ticks
+
+pub returns-clause-kept : goal.returns-clause-kept
+returns-clause-kept g c =
+    subst (λ (r : RangeState (g.row.A.Denot)). LeavesObject g.A.ReadAt.length_of g.A.ReadAt.bytes g.A.ReadAt.faults r.object c.read_range.new.object c.read_range.result)
+    c.self.view_is c.read_range.ensures.kept
+
+pub returns-clause-object : goal.returns-clause-object
+returns-clause-object g c = subst (λ (r : RangeState (g.row.A.Denot)). g.A.ReadAt.same r.object c.read_range.new.object) c.self.view_is c.read_range.ensures.object
+
+pub returns-clause-front : goal.returns-clause-front
+returns-clause-front g c = c.read_range.ensures.core.front ∙ ap (λ (r : RangeState (g.row.A.Denot)). r.front) c.self.view_is
+
+pub returns-clause-behind : goal.returns-clause-behind
+returns-clause-behind g c = c.read_range.ensures.core.behind ∙ ap (λ (r : RangeState (g.row.A.Denot)). r.behind) c.self.view_is

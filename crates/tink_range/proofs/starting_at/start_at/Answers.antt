@@ -1,0 +1,54 @@
+use Rattle.std.proofs.Common.{List, map}
+use Rattle.stream_model.specs.Opening.{OpeningKey, opening_key}
+use Rattle.tink_io.specs.declared.error.Kind.TheVariants.{NoMatchingKey, ReadFault}
+use Rattle.tink_range.proofs.ObjectSteps.{refusal_leaves}
+use Rattle.tink_range.proofs.StartAtFacts.{fault_untried, start_refusal}
+use Rattle.tink_range.proofs.starting_at.start_at.Goals as goal
+
+pub choose_at-requires : goal.choose_at-requires
+choose_at-requires g c = record { room = c.requires.room }
+
+-- no key is chosen
+
+pub returns-in-Ok-None-clause-refused : goal.returns-in-Ok-None-clause-refused
+returns-in-Ok-None-clause-refused g c =
+    start_refusal (map (λ k. opening_key c.args.aad.now (g.T.DerivesStreams.key_of k)) c.args.keys.now) (g.A.ReadAt.bytes c.args.object.now) (g.A.ReadAt.faults c.args.object.now) (g.A.ReadAt.faults c.choose_at.new.object)
+    c.new-in-Ok-None.result NoMatchingKey c.new-in-Ok-None.ensures (c.in-Ok-None.ensures.none c.in-Ok-None.field-0-is)
+
+pub returns-in-Ok-None-clause-kept : goal.returns-in-Ok-None-clause-kept
+returns-in-Ok-None-clause-kept g c =
+    refusal_leaves g.A.ReadAt.length_of g.A.ReadAt.bytes g.A.ReadAt.faults c.args.object.now c.choose_at.new.object c.new-in-Ok-None.result NoMatchingKey c.new-in-Ok-None.ensures c.in-Ok-None.ensures.kept c.in-Ok-None.ensures.count
+
+-- the object failed
+
+pub returns-in-Err-clause-refused : goal.returns-in-Err-clause-refused
+returns-in-Err-clause-refused g c =
+    start_refusal (map (λ k. opening_key c.args.aad.now (g.T.DerivesStreams.key_of k)) c.args.keys.now) (g.A.ReadAt.bytes c.args.object.now) (g.A.ReadAt.faults c.args.object.now) (g.A.ReadAt.faults c.choose_at.new.object)
+    c.new.result ReadFault c.new.ensures c.in-Err.ensures.count
+
+pub returns-in-Err-clause-tried : goal.returns-in-Err-clause-tried
+returns-in-Err-clause-tried g c = fault_untried c.new.result c.new.ensures
+
+pub returns-in-Err-clause-kept : goal.returns-in-Err-clause-kept
+returns-in-Err-clause-kept g c =
+    refusal_leaves g.A.ReadAt.length_of g.A.ReadAt.bytes g.A.ReadAt.faults c.args.object.now c.choose_at.new.object c.new.result ReadFault c.new.ensures c.in-Err.ensures.kept c.in-Err.ensures.count
+
+-- a key is chosen
+
+pub returns-in-Ok-Some-clause-found : goal.returns-in-Ok-Some-clause-found
+returns-in-Ok-Some-clause-found g c = let begun = rw c.in-Ok-Some.field-0-is at c.in-Ok-Some.ensures.found in begun.found
+
+pub returns-in-Ok-Some-clause-kept : goal.returns-in-Ok-Some-clause-kept
+returns-in-Ok-Some-clause-kept g c = let kept = c.in-Ok-Some.ensures.kept in record { length_is = kept.length_is; bytes_are = kept.bytes_are; later = kept.later; count = c.in-Ok-Some.ensures.count }
+
+pub returns-in-Ok-Some-clause-same : goal.returns-in-Ok-Some-clause-same
+returns-in-Ok-Some-clause-same g c = c.in-Ok-Some.ensures.same
+
+pub returns-in-Ok-Some-clause-ticks : goal.returns-in-Ok-Some-clause-ticks
+returns-in-Ok-Some-clause-ticks g c = c.in-Ok-Some.ensures.ticks
+
+pub returns-in-Ok-Some-clause-tried : goal.returns-in-Ok-Some-clause-tried
+returns-in-Ok-Some-clause-tried g c = c.in-Ok-Some.ensures.tries
+
+pub returns-in-Ok-None-clause-tried : goal.returns-in-Ok-None-clause-tried
+returns-in-Ok-None-clause-tried g c = λ _. c.in-Ok-None.ensures.tries
