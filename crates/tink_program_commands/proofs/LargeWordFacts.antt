@@ -1,21 +1,11 @@
 -- Numbers, and the words that write them.
-use Rattle.std.proofs.Common.{◌≡◌, ◌<◌, ◌^◌, true, ℕ, List, [], ◌∷◌, length, decimal, sym, ◌∙◌, ap, arith, slice_index_or, Global, Ok, Err}
-use Rattle.std.specs.Prelude.{String, string_bytes, codes, Result}
+use Rattle.std.proofs.Common.{◌≡◌, ◌<◌, ◌^◌, true, ℕ, List, decimal, sym, ◌∙◌, ap, arith, Ok, Err}
+use Rattle.std.specs.Prelude.{Result}
 use Rattle.std.specs.Str.{bytes_eq}
 use Rattle.std.specs.Str.Parse.{ParsesUnsigned}
 use Rattle.std.proofs.lemmas.Fmt.{parse-decimal}
 use Rattle.std.proofs.lemmas.Slice.Eq.{bytes_eq-Decides}
-use Rattle.tink_program_commands.specs.Words.{IsNumberWord, LargeWords}
-use Rattle.tink_program_commands.proofs.WordLemmas.{texts, two_texts}
-
-pub large_words : (ws : List (String Global)) (a b : String Global) (n : ℕ) → length ws ≡ 2
-    → a ≡ slice_index_or ws 0 a → b ≡ slice_index_or ws 1 b → string_bytes a ≡ codes "large" → IsNumberWord 999999 (string_bytes b) n
-    → LargeWords (texts ws) n
-large_words ws a b n l p q is number_is = record {
-  number_word = string_bytes b;
-  spelled = two_texts ws a b l p q ∙ ap (λ x. x ∷ string_bytes b ∷ []) is;
-  number_is = number_is;
-}
+use Rattle.tink_program_commands.specs.Words.{IsNumberWord}
 
 -- a number is read from its digits
 number_parses : {E : Type 0} (most : ℕ) (word : List ℕ) (n : ℕ) (r : Result ℕ E) → most < 2 ^ 64 → IsNumberWord most word n → ParsesUnsigned 64 10 word r → r ≡ Ok n

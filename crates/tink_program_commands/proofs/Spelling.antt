@@ -1,5 +1,6 @@
 -- Words ask for one thing at most.
 use Rattle.std.proofs.Common.{◌≡◌, inl, inr, ◌<◌, ◌^◌, ◌-◌, ℕ, List, ◌∷◌, length, false, sym, ◌∙◌, ap, subst, refl, arith}
+use Rattle.std.specs.Prelude.{codes}
 use Rattle.std.specs.Str.{bytes_eq}
 use Rattle.std.specs.Str.Parse.{digits_value}
 use Rattle.std.proofs.lemmas.Bool.{false≢true}
@@ -135,19 +136,67 @@ one_asked words _ _ p q = absurd (apart words _ _ _ _ p.spelled q.spelled refl)
 pub along : (P : Asked → Type 0) (words : List (List ℕ)) (a b : Asked) → Spells words a → Spells words b → P a → P b
 along P words a b p q holds = subst P (one_asked words a b p q) holds
 
--- words that spell none of the commands
-pub nothing_spelled : (words : List (List ℕ)) → ((k a s : List ℕ) → SealWords words k a s → ⊥) → ((k a : List ℕ) → OpenWords words k a → ⊥)
-    → ((t s : List ℕ) → KeygenWords words t s → ⊥) → ((k t s : List ℕ) → RotateWords words k t s → ⊥) → ((n : ℕ) → LargeWords words n → ⊥)
-    → ((k a : List ℕ) (i n : ℕ) → RangeWords words k a i n → ⊥) → ((k : List ℕ) → SignWords words k → ⊥) → ((k : List ℕ) → VerifyWords words k → ⊥) → ((s : Sides) (t : List ℕ) → RewrapWords words s t → ⊥) → SpellNothing words
-nothing_spelled words no_seal no_open no_keygen no_rotate no_large no_range no_sign no_verify no_rewrap = λ asked. by_asked asked
+-- ---- behind the name of a command stands no other
+
+pub only_seal : (xs : List (List ℕ)) → ((k a s : List ℕ) → SealWords (codes "seal" ∷ xs) k a s → ⊥) → SpellNothing (codes "seal" ∷ xs)
+only_seal xs none = λ asked. by_asked asked
   where
-    by_asked : (asked : Asked) → Spells words asked → ⊥
-    by_asked (Sealing k a s) p = no_seal k a s p
-    by_asked (Opening k a) p = no_open k a p
-    by_asked (Making t s) p = no_keygen t s p
-    by_asked (Rotating k t s) p = no_rotate k t s p
-    by_asked (Measuring n) p = no_large n p
-    by_asked (Ranging k a i n) p = no_range k a i n p
-    by_asked (Signing k) p = no_sign k p
-    by_asked (Verifying k) p = no_verify k p
-    by_asked (Rewrapping s t) p = no_rewrap s t p
+    by_asked : (asked : Asked) → Spells (codes "seal" ∷ xs) asked → ⊥
+    by_asked (Sealing k a s) p = none k a s p
+    by_asked _ p = apart _ _ _ _ _ refl p.spelled refl
+
+pub only_open : (xs : List (List ℕ)) → ((k a : List ℕ) → OpenWords (codes "open" ∷ xs) k a → ⊥) → SpellNothing (codes "open" ∷ xs)
+only_open xs none = λ asked. by_asked asked
+  where
+    by_asked : (asked : Asked) → Spells (codes "open" ∷ xs) asked → ⊥
+    by_asked (Opening k a) p = none k a p
+    by_asked _ p = apart _ _ _ _ _ refl p.spelled refl
+
+pub only_keygen : (xs : List (List ℕ)) → ((t s : List ℕ) → KeygenWords (codes "keygen" ∷ xs) t s → ⊥) → SpellNothing (codes "keygen" ∷ xs)
+only_keygen xs none = λ asked. by_asked asked
+  where
+    by_asked : (asked : Asked) → Spells (codes "keygen" ∷ xs) asked → ⊥
+    by_asked (Making t s) p = none t s p
+    by_asked _ p = apart _ _ _ _ _ refl p.spelled refl
+
+pub only_rotate : (xs : List (List ℕ)) → ((k t s : List ℕ) → RotateWords (codes "rotate" ∷ xs) k t s → ⊥) → SpellNothing (codes "rotate" ∷ xs)
+only_rotate xs none = λ asked. by_asked asked
+  where
+    by_asked : (asked : Asked) → Spells (codes "rotate" ∷ xs) asked → ⊥
+    by_asked (Rotating k t s) p = none k t s p
+    by_asked _ p = apart _ _ _ _ _ refl p.spelled refl
+
+pub only_large : (xs : List (List ℕ)) → ((n : ℕ) → LargeWords (codes "large" ∷ xs) n → ⊥) → SpellNothing (codes "large" ∷ xs)
+only_large xs none = λ asked. by_asked asked
+  where
+    by_asked : (asked : Asked) → Spells (codes "large" ∷ xs) asked → ⊥
+    by_asked (Measuring n) p = none n p
+    by_asked _ p = apart _ _ _ _ _ refl p.spelled refl
+
+pub only_range : (xs : List (List ℕ)) → ((k a : List ℕ) (i n : ℕ) → RangeWords (codes "range" ∷ xs) k a i n → ⊥) → SpellNothing (codes "range" ∷ xs)
+only_range xs none = λ asked. by_asked asked
+  where
+    by_asked : (asked : Asked) → Spells (codes "range" ∷ xs) asked → ⊥
+    by_asked (Ranging k a i n) p = none k a i n p
+    by_asked _ p = apart _ _ _ _ _ refl p.spelled refl
+
+pub only_sign : (xs : List (List ℕ)) → ((k : List ℕ) → SignWords (codes "sign" ∷ xs) k → ⊥) → SpellNothing (codes "sign" ∷ xs)
+only_sign xs none = λ asked. by_asked asked
+  where
+    by_asked : (asked : Asked) → Spells (codes "sign" ∷ xs) asked → ⊥
+    by_asked (Signing k) p = none k p
+    by_asked _ p = apart _ _ _ _ _ refl p.spelled refl
+
+pub only_verify : (xs : List (List ℕ)) → ((k : List ℕ) → VerifyWords (codes "verify" ∷ xs) k → ⊥) → SpellNothing (codes "verify" ∷ xs)
+only_verify xs none = λ asked. by_asked asked
+  where
+    by_asked : (asked : Asked) → Spells (codes "verify" ∷ xs) asked → ⊥
+    by_asked (Verifying k) p = none k p
+    by_asked _ p = apart _ _ _ _ _ refl p.spelled refl
+
+pub only_rewrap : (xs : List (List ℕ)) → ((s : Sides) (t : List ℕ) → RewrapWords (codes "rewrap" ∷ xs) s t → ⊥) → SpellNothing (codes "rewrap" ∷ xs)
+only_rewrap xs none = λ asked. by_asked asked
+  where
+    by_asked : (asked : Asked) → Spells (codes "rewrap" ∷ xs) asked → ⊥
+    by_asked (Rewrapping s t) p = none s t p
+    by_asked _ p = apart _ _ _ _ _ refl p.spelled refl

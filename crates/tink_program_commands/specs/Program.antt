@@ -278,3 +278,14 @@ Promises (Rewrapping sides seed) old new status = RewrapPromises status_by sides
 
 abbrev pub Promised : List (List ℕ) → Outside → Outside → ℕ → Type 0
 Promised words old new status = (a : Asked) → Spells words a → Promises a old new status
+
+-- ---- all that doing what is asked says
+
+pub record IsDone {S K : Type 0} (SourceSame : S → S → Type 0) (SinkSame : K → K → Type 0) (asked : Asked) (old new : Outside) (outcome : Outcome) (before after : S) (sink_before sink_after : K)
+    : Type 0 where
+  pub means : CommandMeans asked old new outcome
+  pub early : Leaves (reads_first asked) (λ kind. IsUnwrittenBy asked kind) outcome before after sink_before sink_after
+  pub kept : takes_no_input asked ≡ true → after ≡ before
+  pub promised : Promises asked old new (status_of outcome)
+  pub source : SourceSame before after
+  pub sink : SinkSame sink_before sink_after

@@ -1,9 +1,13 @@
 -- The words that spell a command.
-use Rattle.std.specs.Prelude.{◌≡◌, ◌⊎◌, ◌≤◌, ◌^◌, ◌-◌, ℕ, List, [], ◌∷◌, length, codes, decimal, string_bytes, Ok}
+use Rattle.std.specs.Prelude.{◌≡◌, ◌⊎◌, ◌≤◌, ◌^◌, ◌-◌, ℕ, List, [], ◌∷◌, length, codes, decimal, string_bytes, Option, Some, None, Result, Ok, Err}
+use Rattle.tink_io.specs.declared.error.Kind.TheVariants.{OutOfMemory}
+use Rattle.tink_io.specs.declared.error.TinkError.{TinkError}
 use Rattle.hex.specs.Hex.{decode_of}
 use Rattle.tink_program_commands.specs.declared.words.Parsed.{Parsed}
 use Rattle.tink_program_commands.specs.declared.words.Parsed.TheVariants.{Keygen, Large, Open, Range, Rewrap, Rotate, Seal, Sign, Verify}
 use Rattle.tink_program_commands.specs.declared.words.RewrapArgs.{RewrapArgs}
+use Rattle.tink_program_commands.specs.declared.words.Unread.{Unread}
+use Rattle.tink_program_commands.specs.declared.words.Unread.TheVariants.{NoMemory, Nothing}
 use Rattle.tink_run.specs.Rewrapping.{Sides}
 
 -- two hexadecimal digits or more, an even number in either case, or a dash for no bytes
@@ -145,3 +149,25 @@ asked_of (Range args) seed = Ranging args.keyset.items args.aad.items args.start
 asked_of (Sign keyset) seed = Signing keyset.items
 asked_of (Verify keyset) seed = Verifying keyset.items
 asked_of (Rewrap args) seed = Rewrapping (sides_of args) seed
+
+-- ---- what was read
+
+-- why nothing was read: there was nothing to read, or no memory
+abbrev pub IsUnread : Type 0 → Unread → Type 0
+IsUnread Absent Nothing = Absent
+IsUnread Absent NoMemory = Unit {0}
+
+-- what was read is such a thing
+abbrev pub IsReadAs : {T : Type 0} → (T → Type 0) → Type 0 → Result T Unread → Type 0
+IsReadAs Is Absent (Ok value) = Is value
+IsReadAs Is Absent (Err e) = IsUnread Absent e
+
+-- what was read of words is what they ask for
+abbrev pub IsRead : List (List ℕ) → Result (Parsed × List ℕ) Unread → Type 0
+IsRead words answer = IsReadAs (λ p. Spells words (asked_of p.0 p.1)) (SpellNothing words) answer
+
+-- what is told of it
+abbrev pub told : {T : Type 0} → Result T Unread → Result (Option T) TinkError
+told (Ok value) = Ok (Some value)
+told (Err Nothing) = Ok None
+told (Err NoMemory) = Err (record { kind = OutOfMemory })

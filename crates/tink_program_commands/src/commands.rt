@@ -2,7 +2,7 @@
 
 ghost use Rattle.std.specs.Prelude.{◌≡◌, true};
 ghost use Rattle.tink_io.specs.Outside.{outside_of};
-ghost use Rattle.tink_program_commands.specs.Program.{CommandMeans, IsUnwrittenBy, Leaves, Promises, reads_first, status_of, takes_no_input};
+ghost use Rattle.tink_program_commands.specs.Program.{CommandMeans, IsDone, IsUnwrittenBy, Leaves, Promises, reads_first, status_of, takes_no_input};
 ghost use Rattle.tink_program_commands.specs.Words.{asked_of};
 
 use crate::keysets::{write_new, write_rotated};
@@ -37,15 +37,31 @@ pub fn done<S: Source, K: Sink>(
     ensures source { S.same source.old source.new }
     ensures sink { K.same sink.old sink.new }
 {
+    done_by(alloc, &parsed, seed, source, sink)
+}
+
+// What `done` answers. It lets go of nothing, and all that `done` promises follows from its clause.
+fn done_by<S: Source, K: Sink>(
+    alloc: Global,
+    parsed: &Parsed,
+    seed: Seed,
+    source: &mut S,
+    sink: &mut K,
+) -> Outcome
+    ensures { IsDone S.same K.same (asked_of parsed.now seed)
+        (outside_of S.left S.faults K.got K.faults source.old sink.old)
+        (outside_of S.left S.faults K.got K.faults source.new sink.new)
+        result source.old source.new sink.old sink.new }
+{
     match parsed {
-        Parsed::Seal(args) => outcome_of(run_seal(alloc, &args, seed, source, sink)),
-        Parsed::Open(args) => outcome_of(run_open(alloc, &args, source, sink)),
+        Parsed::Seal(args) => outcome_of(run_seal(alloc, args, seed, source, sink)),
+        Parsed::Open(args) => outcome_of(run_open(alloc, args, source, sink)),
         Parsed::Keygen(template) => outcome_of(write_new(alloc, template.as_str(), seed, sink)),
-        Parsed::Rotate(args) => outcome_of(write_rotated(alloc, &args, seed, sink)),
-        Parsed::Large(n) => outcome_of(write_large(alloc, n, sink)),
-        Parsed::Range(args) => outcome_of(write_range(alloc, &args, source, sink)),
-        Parsed::Sign(keyset) => outcome_of(write_token(alloc, &keyset, source, sink)),
-        Parsed::Verify(keyset) => outcome_of(write_payload(alloc, &keyset, source, sink)),
-        Parsed::Rewrap(args) => outcome_of(run_rewrap(alloc, &args, seed, source, sink)),
+        Parsed::Rotate(args) => outcome_of(write_rotated(alloc, args, seed, sink)),
+        Parsed::Large(n) => outcome_of(write_large(alloc, *n, sink)),
+        Parsed::Range(args) => outcome_of(write_range(alloc, args, source, sink)),
+        Parsed::Sign(keyset) => outcome_of(write_token(alloc, keyset, source, sink)),
+        Parsed::Verify(keyset) => outcome_of(write_payload(alloc, keyset, source, sink)),
+        Parsed::Rewrap(args) => outcome_of(run_rewrap(alloc, args, seed, source, sink)),
     }
 }

@@ -1,11 +1,11 @@
 //! The words of the program.
 
-ghost use Rattle.std.specs.Prelude.{◌≡◌, List, ℕ, IfOk, IfErr, IfSome, IfNone, string_bytes};
+ghost use Rattle.std.specs.Prelude.{◌≡◌, List, ◌∷◌, ℕ, IfOk, IfErr, IfSome, IfNone, codes};
 ghost use Rattle.tink_io.specs.declared.error.Kind.TheVariants.{OutOfMemory};
 ghost use Rattle.tink_program_commands.specs.Draws.{draws_in};
-ghost use Rattle.tink_program_commands.specs.Words.{IsBytesWord, IsNumberWord, KeygenWords, LargeWords, OpenWords, RangeWords, RewrapWords, RotateWords, SealWords, SignWords, SpellNothing, Spells, VerifyWords, asked_of, sides_of};
-ghost use Rattle.tink_run.specs.Rewrapping.{Sides};
+ghost use Rattle.tink_program_commands.specs.Words.{IsBytesWord, IsNumberWord, IsRead, IsReadAs, SpellNothing, Spells, asked_of, told};
 ghost use Rattle.tink_words.specs.Forms.{words_of};
+ghost use Rattle.tink_words.specs.Lines.{words_in};
 
 use hex::{FromHex, FromHexError};
 use rand_chacha::ChaCha20Rng;
@@ -76,6 +76,15 @@ pub enum Parsed {
     Rewrap(RewrapArgs),
 }
 
+// Why words were not read.
+#[derive(Clone, Copy)]
+enum Unread {
+    // They spell no such thing.
+    Nothing,
+    // There is no memory for what they spell.
+    NoMemory,
+}
+
 /// Reads the words of a command, and its seed, which is one of zeros where they have none; `None` where they spell no
 /// command. Refuses by `OutOfMemory` alone.
 pub fn parse(alloc: Global, words: &Vec<String>) -> Result<Option<(Parsed, Seed)>, TinkError>
@@ -83,223 +92,192 @@ pub fn parse(alloc: Global, words: &Vec<String>) -> Result<Option<(Parsed, Seed)
     ensures none { IfOk result (λ o. IfNone o (SpellNothing (words_of words.now))) }
     ensures refused { IfErr result (λ e. e ≡ record { kind = OutOfMemory }) }
 {
-    if let Some(spelled) = parse_seal(alloc, words)? {
-        let seed = spelled.1;
-        return Ok(Some((Parsed::Seal(spelled.0), seed)));
-    }
-    if let Some(args) = parse_open(alloc, words)? {
-        return Ok(Some((Parsed::Open(args), NO_SEED)));
-    }
-    if let Some(spelled) = parse_keygen(alloc, words)? {
-        let seed = spelled.1;
-        return Ok(Some((Parsed::Keygen(spelled.0), seed)));
-    }
-    if let Some(spelled) = parse_rotate(alloc, words)? {
-        let seed = spelled.1;
-        return Ok(Some((Parsed::Rotate(spelled.0), seed)));
-    }
-    if let Some(n) = parse_large(alloc, words)? {
-        return Ok(Some((Parsed::Large(n), NO_SEED)));
-    }
-    if let Some(args) = parse_range(alloc, words)? {
-        return Ok(Some((Parsed::Range(args), NO_SEED)));
-    }
-    if let Some(keyset) = parse_sign(alloc, words)? {
-        return Ok(Some((Parsed::Sign(keyset), NO_SEED)));
-    }
-    if let Some(keyset) = parse_verify(alloc, words)? {
-        return Ok(Some((Parsed::Verify(keyset), NO_SEED)));
-    }
-    if let Some(spelled) = parse_rewrap(alloc, words)? {
-        let seed = spelled.1;
-        return Ok(Some((Parsed::Rewrap(spelled.0), seed)));
-    }
-    Ok(None)
+    told(read(alloc, words.as_slice()))
 }
 
-// Reads the words of `seal`.
-fn parse_seal(alloc: Global, words: &Vec<String>) -> Result<Option<(SealArgs, Seed)>, TinkError>
-    ensures found { IfOk result
-        (λ o. IfSome o (λ a. SealWords (words_of words.now) a.0.keyset.items a.0.aad.items a.1)) }
-    ensures none { IfOk result (λ o. IfNone o
-        ((keyset aad seed : List ℕ) → SealWords (words_of words.now) keyset aad seed → ⊥)) }
-    ensures refused { IfErr result (λ e. e ≡ record { kind = OutOfMemory }) }
+// What was read, where there was something.
+fn told<T>(answer: Result<T, Unread>) -> Result<Option<T>, TinkError>
+    ensures { result ≡ told answer }
 {
-    if words.len() != 4 || words[0].as_str() != "seal" {
-        return Ok(None);
+    match answer {
+        Ok(value) => Ok(Some(value)),
+        Err(Unread::Nothing) => Ok(None),
+        Err(Unread::NoMemory) => Err(TinkError::new(Kind::OutOfMemory)),
     }
-    let Some(keyset) = bytes_of(alloc, words[1].as_str())? else {
-        return Ok(None);
-    };
-    let Some(aad) = bytes_of(alloc, words[2].as_str())? else {
-        return Ok(None);
-    };
-    let Ok(seed) = <[u8; 32] as FromHex>::from_hex(words[3].as_str()) else {
-        return Ok(None);
-    };
-    Ok(Some((SealArgs { keyset, aad }, seed)))
 }
 
-// Reads the words of `open`.
-fn parse_open(alloc: Global, words: &Vec<String>) -> Result<Option<OpenArgs>, TinkError>
-    ensures found { IfOk result
-        (λ o. IfSome o (λ a. OpenWords (words_of words.now) a.keyset.items a.aad.items)) }
-    ensures none { IfOk result (λ o. IfNone o ((keyset aad : List ℕ) → OpenWords (words_of words.now) keyset aad → ⊥)) }
-    ensures refused { IfErr result (λ e. e ≡ record { kind = OutOfMemory }) }
+// Reads all words.
+fn read(alloc: Global, words: &[String]) -> Result<(Parsed, Seed), Unread>
+    ensures { IsRead (words_in words.now) result }
 {
-    if words.len() != 3 || words[0].as_str() != "open" {
-        return Ok(None);
+    let [name, behind @ ..] = words else {
+        return Err(Unread::Nothing);
+    };
+    match name.as_str() {
+        "seal" => read_seal(alloc, behind),
+        "open" => read_open(alloc, behind),
+        "keygen" => read_keygen(alloc, behind),
+        "rotate" => read_rotate(alloc, behind),
+        "large" => read_large(alloc, behind),
+        "range" => read_range(alloc, behind),
+        "sign" => read_sign(alloc, behind),
+        "verify" => read_verify(alloc, behind),
+        "rewrap" => read_rewrap(alloc, behind),
+        _ => Err(Unread::Nothing),
     }
-    let Some(keyset) = bytes_of(alloc, words[1].as_str())? else {
-        return Ok(None);
-    };
-    let Some(aad) = bytes_of(alloc, words[2].as_str())? else {
-        return Ok(None);
-    };
-    Ok(Some(OpenArgs { keyset, aad }))
 }
 
-// Reads the words of `keygen`.
-fn parse_keygen(alloc: Global, words: &Vec<String>) -> Result<Option<(String, Seed)>, TinkError>
-    ensures found { IfOk result
-        (λ o. IfSome o (λ a. KeygenWords (words_of words.now) (string_bytes a.0) a.1)) }
-    ensures none { IfOk result (λ o. IfNone o
-        ((template seed : List ℕ) → KeygenWords (words_of words.now) template seed → ⊥)) }
-    ensures refused { IfErr result (λ e. e ≡ record { kind = OutOfMemory }) }
+// Reads the words behind `seal`.
+fn read_seal(alloc: Global, words: &[String]) -> Result<(Parsed, Seed), Unread>
+    ensures { IsRead (codes "seal" ∷ words_in words.now) result }
 {
-    if words.len() != 3 || words[0].as_str() != "keygen" {
-        return Ok(None);
-    }
-    let Ok(seed) = <[u8; 32] as FromHex>::from_hex(words[2].as_str()) else {
-        return Ok(None);
+    let [keyset, aad, seed] = words else {
+        return Err(Unread::Nothing);
     };
-    let template = String::from_str(alloc, words[1].as_str())?;
-    Ok(Some((template, seed)))
+    let Ok(seed) = <[u8; 32] as FromHex>::from_hex(seed.as_str()) else {
+        return Err(Unread::Nothing);
+    };
+    match two_of(alloc, keyset.as_str(), aad.as_str()) {
+        Ok((keyset, aad)) => Ok((Parsed::Seal(SealArgs { keyset, aad }), seed)),
+        Err(e) => Err(e),
+    }
 }
 
-// Reads the words of `rotate`.
-fn parse_rotate(alloc: Global, words: &Vec<String>) -> Result<Option<(RotateArgs, Seed)>, TinkError>
-    ensures found { IfOk result
-        (λ o. IfSome o (λ a. RotateWords (words_of words.now) a.0.keyset.items (string_bytes a.0.template) a.1)) }
-    ensures none { IfOk result (λ o. IfNone o
-        ((keyset template seed : List ℕ) → RotateWords (words_of words.now) keyset template seed → ⊥)) }
-    ensures refused { IfErr result (λ e. e ≡ record { kind = OutOfMemory }) }
+// Reads the words behind `open`.
+fn read_open(alloc: Global, words: &[String]) -> Result<(Parsed, Seed), Unread>
+    ensures { IsRead (codes "open" ∷ words_in words.now) result }
 {
-    if words.len() != 4 || words[0].as_str() != "rotate" {
-        return Ok(None);
+    let [keyset, aad] = words else {
+        return Err(Unread::Nothing);
+    };
+    match two_of(alloc, keyset.as_str(), aad.as_str()) {
+        Ok((keyset, aad)) => Ok((Parsed::Open(OpenArgs { keyset, aad }), NO_SEED)),
+        Err(e) => Err(e),
     }
-    let Ok(seed) = <[u8; 32] as FromHex>::from_hex(words[3].as_str()) else {
-        return Ok(None);
-    };
-    let Some(keyset) = bytes_of(alloc, words[1].as_str())? else {
-        return Ok(None);
-    };
-    let template = String::from_str(alloc, words[2].as_str())?;
-    Ok(Some((RotateArgs { keyset, template }, seed)))
 }
 
-// Reads the words of `large`.
-fn parse_large(alloc: Global, words: &Vec<String>) -> Result<Option<u32>, TinkError>
-    ensures found { IfOk result (λ o. IfSome o (λ n. LargeWords (words_of words.now) n)) }
-    ensures none { IfOk result (λ o. IfNone o ((n : ℕ) → LargeWords (words_of words.now) n → ⊥)) }
-    ensures refused { IfErr result (λ e. e ≡ record { kind = OutOfMemory }) }
+// Reads the words behind `keygen`.
+fn read_keygen(alloc: Global, words: &[String]) -> Result<(Parsed, Seed), Unread>
+    ensures { IsRead (codes "keygen" ∷ words_in words.now) result }
 {
-    if words.len() != 2 || words[0].as_str() != "large" {
-        return Ok(None);
-    }
-    let Some(n) = number_of(alloc, words[1].as_str(), LAST_LARGE)? else {
-        return Ok(None);
+    let [template, seed] = words else {
+        return Err(Unread::Nothing);
     };
-    Ok(Some(n as u32))
+    let Ok(seed) = <[u8; 32] as FromHex>::from_hex(seed.as_str()) else {
+        return Err(Unread::Nothing);
+    };
+    match String::from_str(alloc, template.as_str()) {
+        Ok(template) => Ok((Parsed::Keygen(template), seed)),
+        Err(_) => Err(Unread::NoMemory),
+    }
 }
 
-// Reads the words of `range`.
-fn parse_range(alloc: Global, words: &Vec<String>) -> Result<Option<RangeArgs>, TinkError>
-    ensures found { IfOk result (λ o. IfSome o
-        (λ a. RangeWords (words_of words.now) a.keyset.items a.aad.items a.start a.len)) }
-    ensures none { IfOk result (λ o. IfNone o
-        ((keyset aad : List ℕ) (start len : ℕ) → RangeWords (words_of words.now) keyset aad start len → ⊥)) }
-    ensures refused { IfErr result (λ e. e ≡ record { kind = OutOfMemory }) }
+// Reads the words behind `rotate`.
+fn read_rotate(alloc: Global, words: &[String]) -> Result<(Parsed, Seed), Unread>
+    ensures { IsRead (codes "rotate" ∷ words_in words.now) result }
 {
-    if words.len() != 5 || words[0].as_str() != "range" {
-        return Ok(None);
+    let [keyset, template, seed] = words else {
+        return Err(Unread::Nothing);
+    };
+    let Ok(seed) = <[u8; 32] as FromHex>::from_hex(seed.as_str()) else {
+        return Err(Unread::Nothing);
+    };
+    let Ok(template) = String::from_str(alloc, template.as_str()) else {
+        return Err(Unread::NoMemory);
+    };
+    match bytes_of(alloc, keyset.as_str()) {
+        Ok(keyset) => Ok((Parsed::Rotate(RotateArgs { keyset, template }), seed)),
+        Err(e) => Err(e),
     }
-    let Some(start) = number_of(alloc, words[3].as_str(), u64::MAX)? else {
-        return Ok(None);
-    };
-    let Some(len) = number_of(alloc, words[4].as_str(), u64::MAX)? else {
-        return Ok(None);
-    };
-    let Some(keyset) = bytes_of(alloc, words[1].as_str())? else {
-        return Ok(None);
-    };
-    let Some(aad) = bytes_of(alloc, words[2].as_str())? else {
-        return Ok(None);
-    };
-    Ok(Some(RangeArgs {
-        keyset,
-        aad,
-        start,
-        len,
-    }))
 }
 
-// Reads the words of `sign`.
-fn parse_sign(alloc: Global, words: &Vec<String>) -> Result<Option<Vec<u8>>, TinkError>
-    ensures found { IfOk result (λ o. IfSome o (λ keyset. SignWords (words_of words.now) keyset.items)) }
-    ensures none { IfOk result (λ o. IfNone o ((keyset : List ℕ) → SignWords (words_of words.now) keyset → ⊥)) }
-    ensures refused { IfErr result (λ e. e ≡ record { kind = OutOfMemory }) }
+// Reads the words behind `large`.
+fn read_large(alloc: Global, words: &[String]) -> Result<(Parsed, Seed), Unread>
+    ensures { IsRead (codes "large" ∷ words_in words.now) result }
 {
-    if words.len() != 2 || words[0].as_str() != "sign" {
-        return Ok(None);
+    let [number] = words else {
+        return Err(Unread::Nothing);
+    };
+    match number_in(alloc, number.as_str(), LAST_LARGE) {
+        Ok(n) => Ok((Parsed::Large(n as u32), NO_SEED)),
+        Err(e) => Err(e),
     }
-    bytes_of(alloc, words[1].as_str())
 }
 
-// Reads the words of `verify`.
-fn parse_verify(alloc: Global, words: &Vec<String>) -> Result<Option<Vec<u8>>, TinkError>
-    ensures found { IfOk result (λ o. IfSome o (λ keyset. VerifyWords (words_of words.now) keyset.items)) }
-    ensures none { IfOk result (λ o. IfNone o ((keyset : List ℕ) → VerifyWords (words_of words.now) keyset → ⊥)) }
-    ensures refused { IfErr result (λ e. e ≡ record { kind = OutOfMemory }) }
+// Reads the words behind `range`.
+fn read_range(alloc: Global, words: &[String]) -> Result<(Parsed, Seed), Unread>
+    ensures { IsRead (codes "range" ∷ words_in words.now) result }
 {
-    if words.len() != 2 || words[0].as_str() != "verify" {
-        return Ok(None);
+    let [keyset, aad, start, len] = words else {
+        return Err(Unread::Nothing);
+    };
+    let start = number_in(alloc, start.as_str(), u64::MAX)?;
+    let len = number_in(alloc, len.as_str(), u64::MAX)?;
+    match two_of(alloc, keyset.as_str(), aad.as_str()) {
+        Ok((keyset, aad)) => {
+            let args = RangeArgs {
+                keyset,
+                aad,
+                start,
+                len,
+            };
+            Ok((Parsed::Range(args), NO_SEED))
+        }
+        Err(e) => Err(e),
     }
-    bytes_of(alloc, words[1].as_str())
 }
 
-// Reads the words of `rewrap`.
-fn parse_rewrap(alloc: Global, words: &Vec<String>) -> Result<Option<(RewrapArgs, Seed)>, TinkError>
-    ensures found { IfOk result (λ o. IfSome o (λ a. RewrapWords (words_of words.now) (sides_of a.0) a.1)) }
-    ensures none { IfOk result (λ o. IfNone o
-        ((sides : Sides) (seed : List ℕ) → RewrapWords (words_of words.now) sides seed → ⊥)) }
-    ensures refused { IfErr result (λ e. e ≡ record { kind = OutOfMemory }) }
+// Reads the words behind `sign`.
+fn read_sign(alloc: Global, words: &[String]) -> Result<(Parsed, Seed), Unread>
+    ensures { IsRead (codes "sign" ∷ words_in words.now) result }
 {
-    if words.len() != 6 || words[0].as_str() != "rewrap" {
-        return Ok(None);
+    let [keyset] = words else {
+        return Err(Unread::Nothing);
+    };
+    match bytes_of(alloc, keyset.as_str()) {
+        Ok(keyset) => Ok((Parsed::Sign(keyset), NO_SEED)),
+        Err(e) => Err(e),
     }
-    let Ok(seed) = <[u8; 32] as FromHex>::from_hex(words[5].as_str()) else {
-        return Ok(None);
+}
+
+// Reads the words behind `verify`.
+fn read_verify(alloc: Global, words: &[String]) -> Result<(Parsed, Seed), Unread>
+    ensures { IsRead (codes "verify" ∷ words_in words.now) result }
+{
+    let [keyset] = words else {
+        return Err(Unread::Nothing);
     };
-    let Some(from) = bytes_of(alloc, words[1].as_str())? else {
-        return Ok(None);
+    match bytes_of(alloc, keyset.as_str()) {
+        Ok(keyset) => Ok((Parsed::Verify(keyset), NO_SEED)),
+        Err(e) => Err(e),
+    }
+}
+
+// Reads the words behind `rewrap`.
+fn read_rewrap(alloc: Global, words: &[String]) -> Result<(Parsed, Seed), Unread>
+    ensures { IsRead (codes "rewrap" ∷ words_in words.now) result }
+{
+    let [from, from_aad, to, to_aad, seed] = words else {
+        return Err(Unread::Nothing);
     };
-    let Some(from_aad) = bytes_of(alloc, words[2].as_str())? else {
-        return Ok(None);
+    let Ok(seed) = <[u8; 32] as FromHex>::from_hex(seed.as_str()) else {
+        return Err(Unread::Nothing);
     };
-    let Some(to) = bytes_of(alloc, words[3].as_str())? else {
-        return Ok(None);
-    };
-    let Some(to_aad) = bytes_of(alloc, words[4].as_str())? else {
-        return Ok(None);
-    };
-    let args = RewrapArgs {
-        from,
-        from_aad,
-        to,
-        to_aad,
-    };
-    Ok(Some((args, seed)))
+    match two_of(alloc, from.as_str(), from_aad.as_str()) {
+        Ok((from, from_aad)) => match two_of(alloc, to.as_str(), to_aad.as_str()) {
+            Ok((to, to_aad)) => {
+                let args = RewrapArgs {
+                    from,
+                    from_aad,
+                    to,
+                    to_aad,
+                };
+                Ok((Parsed::Rewrap(args), seed))
+            }
+            Err(e) => Err(e),
+        },
+        Err(e) => Err(e),
+    }
 }
 
 /// The number that a word writes as it is printed, in decimal digits with no zero before them, of at most so many.
@@ -311,32 +289,53 @@ pub fn number_of(alloc: Global, word: &str, most: u64) -> Result<Option<u64>, Ti
     ensures none { IfOk result (λ o. IfNone o ((n : ℕ) → IsNumberWord most word.now n → ⊥)) }
     ensures refused { IfErr result (λ e. e ≡ record { kind = OutOfMemory }) }
 {
+    told(number_in(alloc, word, most))
+}
+
+// The number of a word.
+fn number_in(alloc: Global, word: &str, most: u64) -> Result<u64, Unread>
+    ensures { IsReadAs (λ n. IsNumberWord most word.now n) ((n : ℕ) → IsNumberWord most word.now n → ⊥) result }
+{
     let Ok(n) = word.parse::<u64>() else {
-        return Ok(None);
+        return Err(Unread::Nothing);
     };
-    let printed = n.to_string(alloc)?;
+    let Ok(printed) = n.to_string(alloc) else {
+        return Err(Unread::NoMemory);
+    };
     if n > most || printed.as_str() != word {
-        return Ok(None);
+        return Err(Unread::Nothing);
     }
-    Ok(Some(n))
+    Ok(n)
+}
+
+// The bytes of two words.
+fn two_of(alloc: Global, first: &str, second: &str) -> Result<(Vec<u8>, Vec<u8>), Unread>
+    ensures { IsReadAs (λ p. IsBytesWord first.now p.0.items × IsBytesWord second.now p.1.items)
+        ((v w : List ℕ) → IsBytesWord first.now v → IsBytesWord second.now w → ⊥) result }
+{
+    match bytes_of(alloc, first) {
+        Ok(first) => match bytes_of(alloc, second) {
+            Ok(second) => Ok((first, second)),
+            Err(e) => Err(e),
+        },
+        Err(e) => Err(e),
+    }
 }
 
 // The bytes of a hexadecimal word, or none of a dash.
-fn bytes_of(alloc: Global, word: &str) -> Result<Option<Vec<u8>>, TinkError>
-    ensures found { IfOk result (λ o. IfSome o (λ v. IsBytesWord word.now v.items)) }
-    ensures none { IfOk result (λ o. IfNone o ((v : List ℕ) → IsBytesWord word.now v → ⊥)) }
-    ensures refused { IfErr result (λ e. e ≡ record { kind = OutOfMemory }) }
+fn bytes_of(alloc: Global, word: &str) -> Result<Vec<u8>, Unread>
+    ensures { IsReadAs (λ v. IsBytesWord word.now v.items) ((v : List ℕ) → IsBytesWord word.now v → ⊥) result }
 {
     if word == "-" {
-        return Ok(Some(Vec::new(alloc)));
+        return Ok(Vec::new(alloc));
     }
     if word.len() < 2 {
-        return Ok(None);
+        return Err(Unread::Nothing);
     }
     match hex::decode(alloc, word) {
-        Ok(bytes) => Ok(Some(bytes)),
-        Err(FromHexError::OutOfMemory) => Err(TinkError::new(Kind::OutOfMemory)),
-        Err(_) => Ok(None),
+        Ok(bytes) => Ok(bytes),
+        Err(FromHexError::OutOfMemory) => Err(Unread::NoMemory),
+        Err(_) => Err(Unread::Nothing),
     }
 }
 

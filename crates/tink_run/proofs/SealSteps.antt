@@ -1,7 +1,7 @@
 -- From the steps of a seal to its answer.
 use Rattle.std.proofs.Common.{◌≡◌, inl, inr, ◌≤◌, ◌<◌, ◌-◌, ◌^◌, ℕ, Bool, List, [], ◌++◌, length, take, refl, sym, ap, subst, ◌∙◌, arith, Some}
 use Rattle.std.specs.declared.option.Option.{Option}
-use Rattle.std.specs.Prelude.{Result, Ok, Err}
+use Rattle.std.specs.Prelude.{Result, Ok, Err, IfErr}
 use Rattle.std.specs.Io.KnownBytes.{Appends, Consumes, IsAtEnd}
 use Rattle.std.proofs.KnownBytes.{Appends-trans, Consumes-nil}
 use Rattle.tink_io.specs.Faults.{Rose}
@@ -253,23 +253,20 @@ module _ {W : Type 0} (got : W → Option (List ℕ)) (faults : W → ℕ) (k : 
       go _ r early = absurd r
 
 -- a seal that has begun to read is not refused early
-pub pour_leaves : {S K : Type 0} (seg : ℕ → Bool → List ℕ → List ℕ) (a b : ℕ) (before after : Option (List ℕ)) (reads again : ℕ) (m n : WriterMoment) (e : TinkError) (s t : S) (k l : K)
-    → PourRefused seg a b before after reads again m n e.kind → LeavesEnds (Err e) s t k l
-pour_leaves seg a b before after reads again m n e s t k l r = go e.kind r
-  where
-    go : (kind : Kind) → PourRefused seg a b before after reads again m n kind → IsEarly kind → (t ≡ s) × (l ≡ k)
-    go ReadFault r early = absurd early
-    go WriteFault r early = absurd early
-    go TooManySegments r early = absurd early
-    go _ r early = absurd r
+pub pour_late : (seg : ℕ → Bool → List ℕ → List ℕ) (a b : ℕ) (left rest : Option (List ℕ)) (reads again : ℕ) (m n : WriterMoment) (kind : Kind) → PourRefused seg a b left rest reads again m n kind → IsEarly kind → ⊥
+pour_late seg a b left rest reads again m n ReadFault r early = early
+pour_late seg a b left rest reads again m n WriteFault r early = early
+pour_late seg a b left rest reads again m n TooManySegments r early = early
+pour_late seg a b left rest reads again m n _ r early = r
 
-pub close_leaves : {S K : Type 0} (seg : ℕ → Bool → List ℕ → List ℕ) (m n : WriterMoment) (e : TinkError) (s t : S) (k l : K) → CloseRefused seg m n e.kind → LeavesEnds (Err e) s t k l
-close_leaves seg m n e s t k l r = go e.kind r
-  where
-    go : (kind : Kind) → CloseRefused seg m n kind → IsEarly kind → (t ≡ s) × (l ≡ k)
-    go WriteFault r early = absurd early
-    go (FailedBefore c) r early = absurd early
-    go _ r early = absurd r
+pub close_late : (seg : ℕ → Bool → List ℕ → List ℕ) (m n : WriterMoment) (kind : Kind) → CloseRefused seg m n kind → IsEarly kind → ⊥
+close_late seg m n WriteFault r early = early
+close_late seg m n (FailedBefore c) r early = early
+close_late seg m n _ r early = r
+
+pub leaves_late : {S K : Type 0} (answer : Result Report TinkError) (s t : S) (k l : K) → IfErr answer (λ e. IsEarly e.kind → ⊥) → LeavesEnds answer s t k l
+leaves_late (Ok report) s t k l late = tt
+leaves_late (Err e) s t k l late = λ early. absurd (late early)
 
 -- a stream that was begun
 module _ (k : StreamKey) (aad draws left_draws : List ℕ) (got : Option (List ℕ)) (seg : ℕ → Bool → List ℕ → List ℕ) (a b : ℕ) (m : WriterMoment) (begun : IsNewStream k aad draws left_draws got seg a b m) where

@@ -1,4 +1,6 @@
-ghost use Rattle.std.specs.Prelude.{◌≡◌, ℕ, List, IfOk};
+ghost use Rattle.std.specs.Prelude.{◌≡◌, ℕ, List, IfOk, Ok, is_some, true};
+ghost use Rattle.tink_run.specs.AllKeys.{load};
+ghost use Rattle.tink_run.specs.HeldKeys.{GivesLoaded};
 ghost use Rattle.tink_run.specs.OpenReads.{ReadsNoFurther};
 ghost use Rattle.tink_io.specs.Outside.{FaultsStay, outside_of, Told};
 ghost use Rattle.tink_run.specs.Run.{AnswerMeans, IsComplete, LeavesEnds, LeavesSinkItself, OnlyAgreeing, OkMeans};
@@ -10,6 +12,8 @@ use crate::together::{open_together, seal_together};
 use std::alloc::Global;
 use tink_io::gathered::room;
 use tink_io::{Draws, Sink, Source, TinkError};
+use tink_sets::TypedPrimitiveSet;
+use tink_streaming_aead::StreamKind;
 
 /// Seals or opens a stream under a keyset.
 pub fn run<S: Source, K: Sink>(
@@ -88,18 +92,51 @@ fn answer<S: Source, K: Sink>(
     ensures source { S.same source.old source.new }
     ensures sink { K.same sink.old sink.new }
 {
-    let keys = load(alloc, keyset)?;
+    match load(alloc, keyset) {
+        Ok(keys) => answer_by(alloc, command, &keys, aad, draws, source, sink),
+        Err(error) => Err(error),
+    }
+}
+
+// What `run` answers under the keys of whatever keyset they are loaded from. It lets go of none.
+fn answer_by<S: Source, K: Sink>(
+    alloc: Global,
+    command: Command,
+    keys: &TypedPrimitiveSet<StreamKind>,
+    aad: &[u8],
+    draws: &mut Draws,
+    source: &mut S,
+    sink: &mut K,
+) -> Result<Report, TinkError>
+    requires { is_some keys.now.primary ≡ true }
+    ensures answer { (keyset : List ℕ) → GivesLoaded (Ok keys.now) (load keyset)
+        → AnswerMeans command keyset aad.now draws.old draws.new
+        (outside_of S.left S.faults K.got K.faults source.old sink.old)
+        (outside_of S.left S.faults K.got K.faults source.new sink.new)
+        result }
+    ensures read { (keyset : List ℕ) → GivesLoaded (Ok keys.now) (load keyset)
+        → ReadsNoFurther command keyset aad.now
+        (outside_of S.left S.faults K.got K.faults source.old sink.old)
+        (outside_of S.left S.faults K.got K.faults source.new sink.new)
+        result }
+    ensures early { LeavesEnds result source.old source.new sink.old sink.new }
+    ensures unwritten { LeavesSinkItself result sink.old sink.new }
+    ensures later { FaultsStay (outside_of S.left S.faults K.got K.faults source.old sink.old)
+        (outside_of S.left S.faults K.got K.faults source.new sink.new) }
+    ensures source { S.same source.old source.new }
+    ensures sink { K.same sink.old sink.new }
+{
     let mut waiting = room(alloc)?;
     match command {
         Command::Seal => seal_together(
             alloc,
-            primary_key(&keys),
+            primary_key(keys),
             aad,
             draws,
             source,
             sink,
             &mut waiting,
         ),
-        Command::Open => open_together(alloc, &keys, aad, source, sink, &mut waiting),
+        Command::Open => open_together(alloc, keys, aad, source, sink, &mut waiting),
     }
 }

@@ -1,15 +1,20 @@
-ghost use Rattle.std.specs.Prelude.{◌≡◌};
+ghost use Rattle.std.specs.Prelude.{◌≡◌, ◌≤◌, ◌<◌, ℕ, List, [], length, Option, IfErr};
+ghost use Rattle.stream_model.specs.Key.{StreamKey};
+ghost use Rattle.tink_streams.specs.Sealers.{held_text, segment_map, writer_moment};
+ghost use Rattle.tink_streams.specs.declared.writing.Mode.TheVariants.{Open};
+ghost use Rattle.tink_stream_keys.specs.Encrypting.{IsNewStream};
 ghost use Rattle.tink_stream_keys.specs.StreamKinds.{key_in_set};
 ghost use Rattle.tink_io.specs.Outside.{FaultsStay, outside_of};
-ghost use Rattle.tink_run.specs.Run.{LeavesEnds};
+ghost use Rattle.tink_run.specs.Run.{IsEarly, LeavesEnds};
 ghost use Rattle.tink_run.specs.SealSteps.{SealsUnder, kind_not_begun};
 
 use crate::report::Report;
 use std::alloc::Global;
 use tink_io::{Draws, Kind, Sink, Source, TinkError};
+use tink_segment_traits::SegmentEncrypter;
 use tink_sets::TypedEntry;
 use tink_streaming_aead::{StreamKind, begin_stream};
-use tink_streams::pour;
+use tink_streams::{SegmentWriter, pour};
 
 /// Bytes that are read at once.
 const PIECE: usize = 65536;
@@ -39,11 +44,38 @@ pub fn seal<S: Source, K: Sink>(
     ensures sink { K.same sink.old sink.new }
 {
     let mut piece = vec![in alloc; 0u8; PIECE]?;
-    let mut writer = match begin_stream(alloc, key, draws, sink, aad) {
-        Ok(writer) => writer,
-        Err(error) => return Err(not_begun(error)),
-    };
-    let bytes = pour(&mut writer, &mut piece, source, sink)?;
+    match begin_stream(alloc, key, draws, sink, aad) {
+        Ok(mut writer) => seal_begun(&mut writer, &mut piece, source, sink),
+        Err(error) => Err(not_begun(error)),
+    }
+}
+
+// Seals what the source has left into a stream that was begun, and lets go of nothing.
+fn seal_begun<S: Source, K: Sink, E: SegmentEncrypter + Drop>(
+    writer: &mut SegmentWriter<E>,
+    piece: &mut [u8],
+    source: &mut S,
+    sink: &mut K,
+) -> Result<Report, TinkError>
+    requires open { writer.old.mode ≡ Open }
+    requires fresh { writer.old.segments ≡ 0 }
+    requires empty { held_text writer.old ≡ [] }
+    requires piece { 0 < length piece.old }
+    ensures answer { (k : StreamKey) (aad draws left_draws : List ℕ) (got : Option (List ℕ)) (writes : ℕ)
+        → IsNewStream k aad draws left_draws got (segment_map writer.old.sealer) writer.old.sealer.first
+        writer.old.sealer.room (writer_moment K.got K.faults writer.old sink.old)
+        → writes ≤ K.faults sink.old
+        → SealsUnder k aad draws left_draws
+        (record { left = S.left source.old; read_faults = S.faults source.old; got = got; write_faults = writes })
+        (outside_of S.left S.faults K.got K.faults source.new sink.new)
+        result }
+    ensures early { IfErr result (λ e. IsEarly e.kind → ⊥) }
+    ensures later { FaultsStay (outside_of S.left S.faults K.got K.faults source.old sink.old)
+        (outside_of S.left S.faults K.got K.faults source.new sink.new) }
+    ensures source { S.same source.old source.new }
+    ensures sink { K.same sink.old sink.new }
+{
+    let bytes = pour(writer, piece, source, sink)?;
     writer.close(sink)?;
     Ok(Report {
         segments: writer.segments(),

@@ -1,7 +1,9 @@
 //! A stream from a keyset to another.
 
-ghost use Rattle.std.specs.Prelude.{◌≡◌, ℕ, List, IfOk};
+ghost use Rattle.std.specs.Prelude.{◌≡◌, ℕ, List, IfOk, Ok};
 ghost use Rattle.tink_io.specs.Outside.{FaultsStay, outside_of, Told};
+ghost use Rattle.tink_run.specs.AllKeys.{load};
+ghost use Rattle.tink_run.specs.HeldKeys.{GivesLoaded};
 ghost use Rattle.tink_run.specs.Run.{LeavesEnds, LeavesSinkItself};
 ghost use Rattle.tink_run.specs.RewrapReads.{RewrapReadsNoFurther};
 ghost use Rattle.tink_run.specs.Rewrapping.{RewrapMeans, sides};
@@ -14,6 +16,8 @@ use crate::rewrap::together::rewrap_together;
 use std::alloc::Global;
 use tink_io::gathered::room;
 use tink_io::{Draws, Sink, Source, TinkError};
+use tink_sets::TypedPrimitiveSet;
+use tink_stream_keys::StreamKind;
 
 /// Moves the stream that a source has left from one keyset to another: it is opened by the first
 /// key of `from` that it begins under, with `from_aad`, and its text becomes a new stream under the
@@ -122,18 +126,50 @@ fn answer<S: Source, K: Sink>(
     ensures source { S.same source.old source.new }
     ensures sink { K.same sink.old sink.new }
 {
-    let keys = load(alloc, from)?;
-    let new_keys = load(alloc, to)?;
+    match load(alloc, from) {
+        Ok(keys) => answer_by(alloc, &keys, from_aad, to, to_aad, draws, source, sink),
+        Err(error) => Err(error),
+    }
+}
+
+// What `rewrap` answers from the keys of whatever keyset they are loaded from. It lets go of none.
+fn answer_by<S: Source, K: Sink>(
+    alloc: Global,
+    keys: &TypedPrimitiveSet<StreamKind>,
+    from_aad: &[u8],
+    to: &[u8],
+    to_aad: &[u8],
+    draws: &mut Draws,
+    source: &mut S,
+    sink: &mut K,
+) -> Result<Report, TinkError>
+    ensures answer { (from : List ℕ) → GivesLoaded (Ok keys.now) (load from)
+        → RewrapMeans
+        (sides from from_aad.now to.now to_aad.now)
+        draws.old draws.new
+        (outside_of S.left S.faults K.got K.faults source.old sink.old)
+        (outside_of S.left S.faults K.got K.faults source.new sink.new)
+        result }
+    ensures early { LeavesEnds result source.old source.new sink.old sink.new }
+    ensures unwritten { LeavesSinkItself result sink.old sink.new }
+    ensures later { FaultsStay (outside_of S.left S.faults K.got K.faults source.old sink.old)
+        (outside_of S.left S.faults K.got K.faults source.new sink.new) }
+    ensures source { S.same source.old source.new }
+    ensures sink { K.same sink.old sink.new }
+{
     let mut waiting = room(alloc)?;
-    rewrap_together(
-        alloc,
-        &keys,
-        from_aad,
-        primary_key(&new_keys),
-        to_aad,
-        draws,
-        source,
-        sink,
-        &mut waiting,
-    )
+    match load(alloc, to) {
+        Ok(new_keys) => rewrap_together(
+            alloc,
+            keys,
+            from_aad,
+            primary_key(&new_keys),
+            to_aad,
+            draws,
+            source,
+            sink,
+            &mut waiting,
+        ),
+        Err(error) => Err(error),
+    }
 }

@@ -1,16 +1,12 @@
-use Rattle.std.proofs.Common.{◌∙◌, sym, arith}
-use Rattle.std.proofs.lemmas.Bool.{not-true, true≢false}
-use Rattle.tink_program_commands.proofs.LargeWordFacts.{not_parsed, number_read, printed_word}
-use Rattle.tink_program_commands.proofs.words.number_of.Goals.{then-n-most-via-then-n-most, then-n-most-via-else-n-most+then-ne}
+use Rattle.tink_program_commands.specs.Words.{IsNumberWord}
+use Rattle.tink_program_commands.proofs.WordLemmas.{told_found, told_none, told_refused}
 use Rattle.tink_program_commands.proofs.words.number_of.Goals as goal
 
-pub returns-in_default-clause-none : goal.returns-in_default-clause-none
-returns-in_default-clause-none c = λ n is. not_parsed c.args.most c.args.word.now n c.parse.result c.in_default.field-0 c.in_default.is c.parse.ensures.value.0 (omega (arith, c.ranges.most.fits)) is
+pub returns-clause-found : goal.returns-clause-found
+returns-clause-found c = rw c.told.ensures (told_found (λ n. IsNumberWord c.args.most c.args.word.now n) _ c.number_in.result c.number_in.ensures)
 
-pub returns-then-n-most-clause-none : goal.returns-then-n-most-clause-none
-returns-then-n-most-clause-none c = λ n is. elim c.then-n-most.branch [
-  | then-n-most-via-then-n-most w ↦ absurd (omega (arith, is.small, number_read c.args.most c.args.word.now n c.in-Ok.n c.parse.result c.in-Ok.is c.parse.ensures.value.0 (omega (arith, c.ranges.most.fits)) is, w.if-n-most.true))
-  | then-n-most-via-else-n-most+then-ne w ↦
-      let same = printed_word c.args.most c.args.word.now w.as_str.result.now n c.in-Ok.n c.parse.result c.in-Ok.is c.parse.ensures.value.0 (w.as_str.ensures.value ∙ c.in_ok-printed.ensures.ok) (omega (arith, c.ranges.most.fits)) is in
-      absurd (true≢false (sym same ∙ not-true _ (sym w.ne.ensures ∙ w.if-ne.true)))
-]
+pub returns-clause-none : goal.returns-clause-none
+returns-clause-none c = rw c.told.ensures (told_none (λ n. IsNumberWord c.args.most c.args.word.now n) _ c.number_in.result c.number_in.ensures)
+
+pub returns-clause-refused : goal.returns-clause-refused
+returns-clause-refused c = rw c.told.ensures (told_refused c.number_in.result)

@@ -14,6 +14,27 @@ returns-in-Err-ReadFault-clause-read g c =
     refused_reads (vec_len self.buffer) reader.filled (segment_map o) o.first o.size o.overhead m n c.in-Err-ReadFault.field-0.kind reader.buffer.items (g.S.Source.left c.open_next.new.source) refl
     (omega (arith, reader.filled_in, c.open_next.ensures.room)) c.in-Err-ReadFault.ensures.answer
 
+pub returns-in-Err-ReadFault-clause-failed : goal.returns-in-Err-ReadFault-clause-failed
+returns-in-Err-ReadFault-clause-failed g c = fails_by _ _ _ _ _ _ c.in-Err-ReadFault.field-0.kind c.in-Err-ReadFault.ensures.answer
+
+pub returns-in-Err-ReadFault-clause-opener : goal.returns-in-Err-ReadFault-clause-opener
+returns-in-Err-ReadFault-clause-opener g c = c.open_next.ensures.opener
+
+pub returns-in-Err-ReadFault-clause-memory : goal.returns-in-Err-ReadFault-clause-memory
+returns-in-Err-ReadFault-clause-memory g c = c.open_next.ensures.memory
+
+pub returns-in-Err-ReadFault-clause-small : goal.returns-in-Err-ReadFault-clause-small
+returns-in-Err-ReadFault-clause-small g c = c.open_next.ensures.small
+
+pub returns-in-Err-ReadFault-clause-room : goal.returns-in-Err-ReadFault-clause-room
+returns-in-Err-ReadFault-clause-room g c = c.open_next.ensures.room
+
+pub returns-in-Err-ReadFault-clause-later : goal.returns-in-Err-ReadFault-clause-later
+returns-in-Err-ReadFault-clause-later g c = c.open_next.ensures.later
+
+pub returns-in-Err-ReadFault-clause-same : goal.returns-in-Err-ReadFault-clause-same
+returns-in-Err-ReadFault-clause-same g c = c.open_next.ensures.same
+
 pub returns-in-Err-clause-read : goal.returns-in-Err-clause-read
 returns-in-Err-clause-read g c =
     let self = c.args.reader.now in
@@ -24,38 +45,8 @@ returns-in-Err-clause-read g c =
     refused_reads (vec_len self.buffer) reader.filled (segment_map o) o.first o.size o.overhead m n c.in-Err.field-0.kind reader.buffer.items (g.S.Source.left c.open_next.new.source) refl
     (omega (arith, reader.filled_in, c.open_next.ensures.room)) c.in-Err.ensures.answer
 
-pub returns-in-Err-ReadFault-clause-failed : goal.returns-in-Err-ReadFault-clause-failed
-returns-in-Err-ReadFault-clause-failed g c = fails_by _ _ _ _ _ _ c.in-Err-ReadFault.field-0.kind c.in-Err-ReadFault.ensures.answer
-
 pub returns-in-Err-clause-failed : goal.returns-in-Err-clause-failed
 returns-in-Err-clause-failed g c = fails_by _ _ _ _ _ _ c.in-Err.field-0.kind c.in-Err.ensures.answer
-
-pub returns-in-Ok-clause-answer : goal.returns-in-Ok-clause-answer
-returns-in-Ok-clause-answer g c = c.in-Ok.ensures.answer
-
-pub returns-in-Ok-clause-read : goal.returns-in-Ok-clause-read
-returns-in-Ok-clause-read g c = tt
-
-pub returns-in-Ok-clause-failed : goal.returns-in-Ok-clause-failed
-returns-in-Ok-clause-failed g c = tt
-
-pub returns-in-Ok-clause-opener : goal.returns-in-Ok-clause-opener
-returns-in-Ok-clause-opener g c = c.open_next.ensures.opener
-
-pub returns-in-Ok-clause-memory : goal.returns-in-Ok-clause-memory
-returns-in-Ok-clause-memory g c = c.open_next.ensures.memory
-
-pub returns-in-Ok-clause-small : goal.returns-in-Ok-clause-small
-returns-in-Ok-clause-small g c = c.open_next.ensures.small
-
-pub returns-in-Ok-clause-room : goal.returns-in-Ok-clause-room
-returns-in-Ok-clause-room g c = c.open_next.ensures.room
-
-pub returns-in-Ok-clause-later : goal.returns-in-Ok-clause-later
-returns-in-Ok-clause-later g c = c.open_next.ensures.later
-
-pub returns-in-Ok-clause-same : goal.returns-in-Ok-clause-same
-returns-in-Ok-clause-same g c = c.open_next.ensures.same
 
 pub returns-in-Err-clause-opener : goal.returns-in-Err-clause-opener
 returns-in-Err-clause-opener g c = c.open_next.ensures.opener
@@ -75,20 +66,15 @@ returns-in-Err-clause-later g c = c.open_next.ensures.later
 pub returns-in-Err-clause-same : goal.returns-in-Err-clause-same
 returns-in-Err-clause-same g c = c.open_next.ensures.same
 
-pub returns-in-Err-ReadFault-clause-opener : goal.returns-in-Err-ReadFault-clause-opener
-returns-in-Err-ReadFault-clause-opener g c = c.open_next.ensures.opener
-
-pub returns-in-Err-ReadFault-clause-memory : goal.returns-in-Err-ReadFault-clause-memory
-returns-in-Err-ReadFault-clause-memory g c = c.open_next.ensures.memory
-
-pub returns-in-Err-ReadFault-clause-small : goal.returns-in-Err-ReadFault-clause-small
-returns-in-Err-ReadFault-clause-small g c = c.open_next.ensures.small
-
-pub returns-in-Err-ReadFault-clause-room : goal.returns-in-Err-ReadFault-clause-room
-returns-in-Err-ReadFault-clause-room g c = c.open_next.ensures.room
-
-pub returns-in-Err-ReadFault-clause-later : goal.returns-in-Err-ReadFault-clause-later
-returns-in-Err-ReadFault-clause-later g c = c.open_next.ensures.later
-
-pub returns-in-Err-ReadFault-clause-same : goal.returns-in-Err-ReadFault-clause-same
-returns-in-Err-ReadFault-clause-same g c = c.open_next.ensures.same
+pub returns-in-Ok : goal.returns-in-Ok
+returns-in-Ok g c = record {
+  answer = c.in-Ok.ensures.answer;
+  failed = tt;
+  opener = c.open_next.ensures.opener;
+  memory = c.open_next.ensures.memory;
+  small = c.open_next.ensures.small;
+  read = tt;
+  room = c.open_next.ensures.room;
+  later = c.open_next.ensures.later;
+  same = c.open_next.ensures.same;
+}

@@ -10,23 +10,25 @@ use Rattle.tink_run.proofs.RunSteps.{leaves_sink_same}
 use Rattle.tink_io.specs.Outside.{Outside}
 use Rattle.tink_run.proofs.open.open_stream.Goals as goal
 
-pub returns-in_err-open_first-clause-answer : goal.returns-in_err-open_first-clause-answer
-returns-in_err-open_first-clause-answer g c =
-    let p = err_from_is_err_and c.from_residual.result c.from_residual.ensures.1 in
-    let before = c.args.reader.now in
-    let after = c.open_first.new.reader in
-    let m : ReaderMoment = record { progress = before.progress; number = before.segments; opened = before.opened.items; rest = prepend_known (take before.filled before.buffer.items) (g.S.Source.left c.args.source.now); faults = g.S.Source.faults c.args.source.now } in
-    let n : ReaderMoment = record { progress = after.progress; number = after.segments; opened = after.opened.items; rest = prepend_known (take after.filled after.buffer.items) (g.S.Source.left c.open_first.new.source); faults = g.S.Source.faults c.open_first.new.source } in
-    rw (p.1, p.2) (first_refused _ _ _ _ _ _ m n _ c.requires.fresh refl (le_refl _) (le_refl _) (Keeps-refl _) c.in_err-open_first.ensures.answer)
-
-pub returns-in_err-open_first-clause-read : goal.returns-in_err-open_first-clause-read
-returns-in_err-open_first-clause-read g c =
-    let p = err_from_is_err_and c.from_residual.result c.from_residual.ensures.1 in
-    let before = c.args.reader.now in
-    let after = c.open_first.new.reader in
-    let m : ReaderMoment = record { progress = before.progress; number = before.segments; opened = before.opened.items; rest = prepend_known (take before.filled before.buffer.items) (g.S.Source.left c.args.source.now); faults = g.S.Source.faults c.args.source.now } in
-    let n : ReaderMoment = record { progress = after.progress; number = after.segments; opened = after.opened.items; rest = prepend_known (take after.filled after.buffer.items) (g.S.Source.left c.open_first.new.source); faults = g.S.Source.faults c.open_first.new.source } in
-    rw (p.1, p.2) (first_reads _ _ _ _ _ _ m n _ (some_first before.opener.some) (lt_of_lt_of_le (some_first before.opener.some) before.opener.first_fits) (Keeps-refl _) c.in_err-open_first.ensures.read c.in_err-open_first.ensures.answer)
+pub returns-in_err-open_first : goal.returns-in_err-open_first
+returns-in_err-open_first g c = record {
+  answer = (let p = err_from_is_err_and c.from_residual.result c.from_residual.ensures.1 in
+      let before = c.args.reader.now in
+      let after = c.open_first.new.reader in
+      let m : ReaderMoment = record { progress = before.progress; number = before.segments; opened = before.opened.items; rest = prepend_known (take before.filled before.buffer.items) (g.S.Source.left c.args.source.now); faults = g.S.Source.faults c.args.source.now } in
+      let n : ReaderMoment = record { progress = after.progress; number = after.segments; opened = after.opened.items; rest = prepend_known (take after.filled after.buffer.items) (g.S.Source.left c.open_first.new.source); faults = g.S.Source.faults c.open_first.new.source } in
+      rw (p.1, p.2) (first_refused _ _ _ _ _ _ m n _ c.requires.fresh refl (le_refl _) (le_refl _) (Keeps-refl _) c.in_err-open_first.ensures.answer));
+  read = (let p = err_from_is_err_and c.from_residual.result c.from_residual.ensures.1 in
+      let before = c.args.reader.now in
+      let after = c.open_first.new.reader in
+      let m : ReaderMoment = record { progress = before.progress; number = before.segments; opened = before.opened.items; rest = prepend_known (take before.filled before.buffer.items) (g.S.Source.left c.args.source.now); faults = g.S.Source.faults c.args.source.now } in
+      let n : ReaderMoment = record { progress = after.progress; number = after.segments; opened = after.opened.items; rest = prepend_known (take after.filled after.buffer.items) (g.S.Source.left c.open_first.new.source); faults = g.S.Source.faults c.open_first.new.source } in
+      rw (p.1, p.2) (first_reads _ _ _ _ _ _ m n _ (some_first before.opener.some) (lt_of_lt_of_le (some_first before.opener.some) before.opener.first_fits) (Keeps-refl _) c.in_err-open_first.ensures.read c.in_err-open_first.ensures.answer));
+  unwritten = leaves_sink_same c.from_residual.result c.args.sink.now;
+  later = record { reads = c.in_err-open_first.ensures.later; writes = le_refl _ };
+  source = c.in_err-open_first.ensures.same;
+  sink = g.met.K.Sink.same_refl _;
+}
 
 pub returns-in_err-write_all-clause-read : goal.returns-in_err-write_all-clause-read
 returns-in_err-write_all-clause-read g c =
@@ -36,6 +38,21 @@ returns-in_err-write_all-clause-read g c =
     rw (p.1, p.2, c.in_err-write_all.ensures.refused)
     (write_reads _ _ _ _ _ _ _ _ _ (some_first opener.some) (lt_of_lt_of_le (some_first opener.some) opener.first_fits) c.loop-bytes.invariant.reading (rw c.opened-text.ensures at c.in_err-write_all.ensures.prefix)
     (reads_held _ reader.filled _ _ reader.buffer.items (Keeps-refl _) (le_trans reader.filled_in (le_of_eq c.loop-bytes.invariant.room))))
+
+pub returns-in_err-write_all-clause-answer : goal.returns-in_err-write_all-clause-answer
+returns-in_err-write_all-clause-answer g c =
+    let p = err_from_is_err_and c.from_residual-in_err-write_all.result c.from_residual-in_err-write_all.ensures.1 in
+    rw (p.1, p.2, c.in_err-write_all.ensures.refused)
+    (write_failed _ _ _ _ _ _ _ _ _ c.loop-bytes.invariant.reading (rw c.opened-text.ensures at c.in_err-write_all.ensures.prefix) c.loop-bytes.invariant.writes c.in_err-write_all.ensures.cause)
+
+pub returns-in_err-write_all-clause-later : goal.returns-in_err-write_all-clause-later
+returns-in_err-write_all-clause-later g c = record { reads = c.loop-bytes.invariant.reads; writes = le_trans c.loop-bytes.invariant.writes c.in_err-write_all.ensures.later }
+
+pub returns-in_err-write_all-clause-source : goal.returns-in_err-write_all-clause-source
+returns-in_err-write_all-clause-source g c = c.loop-bytes.invariant.same_source
+
+pub returns-in_err-write_all-clause-sink : goal.returns-in_err-write_all-clause-sink
+returns-in_err-write_all-clause-sink g c = g.met.K.Sink.same_trans _ _ _ c.loop-bytes.invariant.same_sink c.in_err-write_all.ensures.same
 
 pub loop-bytes-init : goal.loop-bytes-init
 loop-bytes-init g c = record {
@@ -48,17 +65,17 @@ loop-bytes-init g c = record {
   same_sink = g.met.K.Sink.same_refl c.args.sink.now;
 }
 
-pub returns-in_err-write_all-clause-answer : goal.returns-in_err-write_all-clause-answer
-returns-in_err-write_all-clause-answer g c =
-    let p = err_from_is_err_and c.from_residual-in_err-write_all.result c.from_residual-in_err-write_all.ensures.1 in
-    rw (p.1, p.2, c.in_err-write_all.ensures.refused)
-    (write_failed _ _ _ _ _ _ _ _ _ c.loop-bytes.invariant.reading (rw c.opened-text.ensures at c.in_err-write_all.ensures.prefix) c.loop-bytes.invariant.writes c.in_err-write_all.ensures.cause)
-
-pub returns-in-Ended-clause-answer : goal.returns-in-Ended-clause-answer
-returns-in-Ended-clause-answer g c =
-    let reader = c.loop-bytes.reader in
-    read_out _ _ _ _ _ _ _ _ (take reader.filled reader.buffer.items) _ c.loop-bytes.invariant.reading (rw c.opened-text.ensures at c.in_ok-write_all.ensures.written)
-    (sym c.in-Ended.ensures) refl c.segments.ensures (omega (arith, ap length c.opened-text.ensures))
+pub returns-in-Ended : goal.returns-in-Ended
+returns-in-Ended g c = record {
+  answer = (let reader = c.loop-bytes.reader in
+      read_out _ _ _ _ _ _ _ _ (take reader.filled reader.buffer.items) _ c.loop-bytes.invariant.reading (rw c.opened-text.ensures at c.in_ok-write_all.ensures.written)
+      (sym c.in-Ended.ensures) refl c.segments.ensures (omega (arith, ap length c.opened-text.ensures)));
+  read = tt;
+  unwritten = tt;
+  later = record { reads = c.loop-bytes.invariant.reads; writes = le_trans c.loop-bytes.invariant.writes c.in_ok-write_all.ensures.later };
+  source = c.loop-bytes.invariant.same_source;
+  sink = g.met.K.Sink.same_trans _ _ _ c.loop-bytes.invariant.same_sink c.in_ok-write_all.ensures.same;
+}
 
 pub loop-bytes-preserved : goal.loop-bytes-preserved
 loop-bytes-preserved g c =
@@ -98,46 +115,10 @@ returns-in_err-open_next-in_default g c =
       sink = g.met.K.Sink.same_trans _ _ _ c.loop-bytes.invariant.same_sink c.write_all.ensures.same;
     }
 
-pub returns-in_err-open_first-clause-later : goal.returns-in_err-open_first-clause-later
-returns-in_err-open_first-clause-later g c = record { reads = c.in_err-open_first.ensures.later; writes = le_refl _ }
-
-pub returns-in_err-open_first-clause-source : goal.returns-in_err-open_first-clause-source
-returns-in_err-open_first-clause-source g c = c.in_err-open_first.ensures.same
-
-pub returns-in_err-open_first-clause-sink : goal.returns-in_err-open_first-clause-sink
-returns-in_err-open_first-clause-sink g c = g.met.K.Sink.same_refl _
-
-pub returns-in_err-write_all-clause-later : goal.returns-in_err-write_all-clause-later
-returns-in_err-write_all-clause-later g c = record { reads = c.loop-bytes.invariant.reads; writes = le_trans c.loop-bytes.invariant.writes c.in_err-write_all.ensures.later }
-
-pub returns-in_err-write_all-clause-source : goal.returns-in_err-write_all-clause-source
-returns-in_err-write_all-clause-source g c = c.loop-bytes.invariant.same_source
-
-pub returns-in_err-write_all-clause-sink : goal.returns-in_err-write_all-clause-sink
-returns-in_err-write_all-clause-sink g c = g.met.K.Sink.same_trans _ _ _ c.loop-bytes.invariant.same_sink c.in_err-write_all.ensures.same
-
-pub returns-in-Ended-clause-later : goal.returns-in-Ended-clause-later
-returns-in-Ended-clause-later g c = record { reads = c.loop-bytes.invariant.reads; writes = le_trans c.loop-bytes.invariant.writes c.in_ok-write_all.ensures.later }
-
-pub returns-in-Ended-clause-source : goal.returns-in-Ended-clause-source
-returns-in-Ended-clause-source g c = c.loop-bytes.invariant.same_source
-
-pub returns-in-Ended-clause-sink : goal.returns-in-Ended-clause-sink
-returns-in-Ended-clause-sink g c = g.met.K.Sink.same_trans _ _ _ c.loop-bytes.invariant.same_sink c.in_ok-write_all.ensures.same
-
 pub overflow_add-bytes : goal.overflow_add-bytes
 overflow_add-bytes g c =
     let reading = c.loop-bytes.invariant.reading in
     omega (arith, reading.few, reading.small, reading.opened.number, length-append reading.texts (c.loop-bytes.reader.opened.items ∷ []), c.loop-bytes.reader.few, ap length c.opened-text.ensures)
-
-pub returns-in-Ended-clause-unwritten : goal.returns-in-Ended-clause-unwritten
-returns-in-Ended-clause-unwritten g c = tt
-
-pub returns-in-Ended-clause-read : goal.returns-in-Ended-clause-read
-returns-in-Ended-clause-read g c = tt
-
-pub returns-in_err-open_first-clause-unwritten : goal.returns-in_err-open_first-clause-unwritten
-returns-in_err-open_first-clause-unwritten g c = leaves_sink_same c.from_residual.result c.args.sink.now
 
 pub open_next-requires : goal.open_next-requires
 open_next-requires g c = record { running = still_running c.loop-bytes.reader.progress c.loop-bytes.invariant.reading.lives (λ ended. c.in_default.not-Ended (c.progress.ensures ∙ ended)) }

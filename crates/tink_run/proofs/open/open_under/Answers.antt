@@ -11,51 +11,36 @@ use Rattle.tink_streaming_aead.proofs.DecryptSteps.{reads_more}
 use Rattle.tink_run.proofs.ReadsSteps.{reads_under, start_reads}
 use Rattle.tink_run.proofs.open.open_under.Goals as goal
 
-pub returns-in_err-reader-clause-answer : goal.returns-in_err-reader-clause-answer
-returns-in_err-reader-clause-answer g c =
-    let p = err_from_is_err_and c.from_residual.result c.from_residual.ensures.1 in
-    let kept = c.args.trial.kept in
-    let none_held = unread kept.filled kept.buffer.items (g.S.Source.left c.args.source.now) c.requires.filled in
-    let refused = rw none_held at c.in_err-reader.ensures.refused in
-    rw (p.1, p.2) (start_refused _ _ _ _ (Keeps-refl _) refused, start_reads _ _ _ _ _ (Keeps-refl _) (reads_more _ _ _ _ (omega arith) c.start.ensures.read) refused)
+pub returns-in_err-reader : goal.returns-in_err-reader
+returns-in_err-reader g c = record {
+  answer = (let p = err_from_is_err_and c.from_residual.result c.from_residual.ensures.1 in
+      let kept = c.args.trial.kept in
+      let none_held = unread kept.filled kept.buffer.items (g.S.Source.left c.args.source.now) c.requires.filled in
+      let refused = rw none_held at c.in_err-reader.ensures.refused in
+      rw (p.1, p.2) (start_refused _ _ _ _ (Keeps-refl _) refused, start_reads _ _ _ _ _ (Keeps-refl _) (reads_more _ _ _ _ (omega arith) c.start.ensures.read) refused));
+  unwritten = (let p = err_from_is_err_and c.from_residual.result c.from_residual.ensures.1 in
+      rw (p.1, p.2) (λ _. refl));
+  later = record { reads = c.in_err-reader.ensures.later; writes = le_refl _ };
+  source = c.in_err-reader.ensures.same;
+  sink = g.met.K.Sink.same_refl _;
+}
 
-pub returns-clause-answer : goal.returns-clause-answer
-returns-clause-answer g c =
-    let kept = c.args.trial.kept in
-    let none_held = unread kept.filled kept.buffer.items (g.S.Source.left c.args.source.now) c.requires.filled in
-    let reader = c.in_ok-reader.reader in
-    let opener = reader.opener in
-    let seg : ℕ → Bool → List ℕ → List ℕ = numbered (segment_by opener.decrypter) opener.nonce_size opener.prefix.items in
-    let started : Outside = record { left = prepend_known (take reader.filled reader.buffer.items) (g.S.Source.left c.start.new.source); read_faults = g.S.Source.faults c.start.new.source; got = g.K.Sink.got c.args.sink.now; write_faults = g.K.Sink.faults c.args.sink.now } in
-    let begun = rw none_held at c.in_ok-reader.ensures.started in (
-      means_under _ seg opener.first opener.size opener.overhead _ started _ _ opener.some
-          (numbered_longer (segment_by opener.decrypter) opener.nonce_size opener.prefix.items opener.overhead (λ n t. length-segment_by opener.decrypter n t ∙ ap (λ x. length t + x) (sym opener.overhead_is)))
-          refl c.start.ensures.later (le_refl _) begun c.open_stream.ensures.answer,
-      reads_under _ _ seg opener.first opener.size opener.overhead _ started _ refl begun _ c.open_stream.ensures.answer (rw c.in_ok-reader.ensures.fresh.3 at c.open_stream.ensures.read),
-    )
-
-pub returns-in_err-reader-clause-unwritten : goal.returns-in_err-reader-clause-unwritten
-returns-in_err-reader-clause-unwritten g c =
-    let p = err_from_is_err_and c.from_residual.result c.from_residual.ensures.1 in
-    rw (p.1, p.2) (λ _. refl)
-
-pub returns-clause-unwritten : goal.returns-clause-unwritten
-returns-clause-unwritten g c = c.open_stream.ensures.unwritten
-
-pub returns-in_err-reader-clause-later : goal.returns-in_err-reader-clause-later
-returns-in_err-reader-clause-later g c = record { reads = c.in_err-reader.ensures.later; writes = le_refl _ }
-
-pub returns-in_err-reader-clause-source : goal.returns-in_err-reader-clause-source
-returns-in_err-reader-clause-source g c = c.in_err-reader.ensures.same
-
-pub returns-in_err-reader-clause-sink : goal.returns-in_err-reader-clause-sink
-returns-in_err-reader-clause-sink g c = g.met.K.Sink.same_refl _
-
-pub returns-clause-later : goal.returns-clause-later
-returns-clause-later g c = record { reads = omega (arith, c.in_ok-reader.ensures.later, c.open_stream.ensures.later.reads); writes = c.open_stream.ensures.later.writes }
-
-pub returns-clause-source : goal.returns-clause-source
-returns-clause-source g c = g.met.S.Source.same_trans _ _ _ c.in_ok-reader.ensures.same c.open_stream.ensures.source
-
-pub returns-clause-sink : goal.returns-clause-sink
-returns-clause-sink g c = c.open_stream.ensures.sink
+pub returns : goal.returns
+returns g c = record {
+  answer = (let kept = c.args.trial.kept in
+      let none_held = unread kept.filled kept.buffer.items (g.S.Source.left c.args.source.now) c.requires.filled in
+      let reader = c.in_ok-reader.reader in
+      let opener = reader.opener in
+      let seg : ℕ → Bool → List ℕ → List ℕ = numbered (segment_by opener.decrypter) opener.nonce_size opener.prefix.items in
+      let started : Outside = record { left = prepend_known (take reader.filled reader.buffer.items) (g.S.Source.left c.start.new.source); read_faults = g.S.Source.faults c.start.new.source; got = g.K.Sink.got c.args.sink.now; write_faults = g.K.Sink.faults c.args.sink.now } in
+      let begun = rw none_held at c.in_ok-reader.ensures.started in (
+        means_under _ seg opener.first opener.size opener.overhead _ started _ _ opener.some
+            (numbered_longer (segment_by opener.decrypter) opener.nonce_size opener.prefix.items opener.overhead (λ n t. length-segment_by opener.decrypter n t ∙ ap (λ x. length t + x) (sym opener.overhead_is)))
+            refl c.start.ensures.later (le_refl _) begun c.open_stream.ensures.answer,
+        reads_under _ _ seg opener.first opener.size opener.overhead _ started _ refl begun _ c.open_stream.ensures.answer (rw c.in_ok-reader.ensures.fresh.3 at c.open_stream.ensures.read),
+      ));
+  unwritten = c.open_stream.ensures.unwritten;
+  later = record { reads = omega (arith, c.in_ok-reader.ensures.later, c.open_stream.ensures.later.reads); writes = c.open_stream.ensures.later.writes };
+  source = g.met.S.Source.same_trans _ _ _ c.in_ok-reader.ensures.same c.open_stream.ensures.source;
+  sink = c.open_stream.ensures.sink;
+}

@@ -32,59 +32,6 @@ returns-in_err-keys-clause-kept g c =
     rw (returned.1, returned.2)
     (record { length_is = refl; bytes_are = refl; later = omega arith; count = stands_unloaded c.args.keyset.now (g.A.ReadAt.faults c.args.object.now) c.in_err-keys.field-0.0 c.in_err-keys.ensures.answer })
 
-pub returns-clause-answer : goal.returns-clause-answer
-returns-clause-answer g c =
-    let object = c.args.object.now in
-    let e : Moments (g.row.K.Denot) = ends_of g.A.ReadAt.bytes g.A.ReadAt.faults object c.range_of_set.new.object c.args.sink.now c.range_of_set.new.sink in
-    loaded g.K.Sink.got g.K.Sink.faults c.args.keyset.now c.args.aad.now (g.A.ReadAt.length_of object) c.args.start c.args.len object c.range_of_set.new.object e
-    c.in_ok-keys.keys c.range_of_set.result c.in_ok-keys.ensures.answer
-    (ranges_of_loaded g.K.Sink.got g.K.Sink.faults c.args.aad.now c.in_ok-keys.keys (g.A.ReadAt.length_of object) c.args.start c.args.len e c.range_of_set.result c.range_of_set.ensures.order c.range_of_set.ensures.answer) c.range_of_set.ensures.early
-
-pub returns-clause-slice : goal.returns-clause-slice
-returns-clause-slice g c =
-    let object = c.args.object.now in
-    let whole = g.A.ReadAt.length_of object in
-    let e : Moments (g.row.K.Denot) = ends_of g.A.ReadAt.bytes g.A.ReadAt.faults object c.range_of_set.new.object c.args.sink.now c.range_of_set.new.sink in
-    slices g.K.Sink.got g.K.Sink.faults c.args.keyset.now c.args.aad.now whole c.args.start c.args.len object c.range_of_set.new.object e (g.met.A.ReadAt.told object) c.range_of_set.result
-    (loaded g.K.Sink.got g.K.Sink.faults c.args.keyset.now c.args.aad.now whole c.args.start c.args.len object c.range_of_set.new.object e
-    c.in_ok-keys.keys c.range_of_set.result c.in_ok-keys.ensures.answer
-    (ranges_of_loaded g.K.Sink.got g.K.Sink.faults c.args.aad.now c.in_ok-keys.keys (g.A.ReadAt.length_of object) c.args.start c.args.len e c.range_of_set.result c.range_of_set.ensures.order c.range_of_set.ensures.answer) c.range_of_set.ensures.early)
-
-pub returns-clause-succeeds : goal.returns-clause-succeeds
-returns-clause-succeeds g c =
-    let object = c.args.object.now in
-    let whole = g.A.ReadAt.length_of object in
-    let e : Moments (g.row.K.Denot) = ends_of g.A.ReadAt.bytes g.A.ReadAt.faults object c.range_of_set.new.object c.args.sink.now c.range_of_set.new.sink in
-    complete g.K.Sink.got g.K.Sink.faults c.args.keyset.now c.args.aad.now whole c.args.start c.args.len object c.range_of_set.new.object e (g.met.A.ReadAt.told object) c.range_of_set.result
-    (loaded g.K.Sink.got g.K.Sink.faults c.args.keyset.now c.args.aad.now whole c.args.start c.args.len object c.range_of_set.new.object e
-    c.in_ok-keys.keys c.range_of_set.result c.in_ok-keys.ensures.answer
-    (ranges_of_loaded g.K.Sink.got g.K.Sink.faults c.args.aad.now c.in_ok-keys.keys (g.A.ReadAt.length_of object) c.args.start c.args.len e c.range_of_set.result c.range_of_set.ensures.order c.range_of_set.ensures.answer) c.range_of_set.ensures.early)
-
-pub returns-clause-ticks : goal.returns-clause-ticks
-returns-clause-ticks g c =
-    let object = c.args.object.now in
-    steps_loaded c.args.keyset.now c.args.aad.now (g.A.ReadAt.bytes object) (g.A.ReadAt.length_of object) c.args.start c.args.len c.args.steps.now c.range_of_set.new.steps
-    c.in_ok-keys.keys c.in_ok-keys.ensures.answer
-    (steps_of_loaded c.args.aad.now c.in_ok-keys.keys (g.A.ReadAt.bytes object) (g.A.ReadAt.length_of object) c.args.start c.args.len c.args.steps.now c.range_of_set.new.steps c.range_of_set.ensures.order c.range_of_set.ensures.ticks)
-
-pub returns-clause-early : goal.returns-clause-early
-returns-clause-early g c = c.range_of_set.ensures.early
-
-pub returns-clause-unwritten : goal.returns-clause-unwritten
-returns-clause-unwritten g c = c.range_of_set.ensures.unwritten
-
-pub returns-clause-kept : goal.returns-clause-kept
-returns-clause-kept g c = c.range_of_set.ensures.kept
-
-pub returns-clause-later : goal.returns-clause-later
-returns-clause-later g c = c.range_of_set.ensures.later
-
-pub returns-clause-object : goal.returns-clause-object
-returns-clause-object g c = c.range_of_set.ensures.object
-
-pub returns-clause-sink : goal.returns-clause-sink
-returns-clause-sink g c = c.range_of_set.ensures.sink
-
 pub returns-in_err-keys-clause-early : goal.returns-in_err-keys-clause-early
 returns-in_err-keys-clause-early g c = leaves_same c.from_residual.result c.args.object.now c.args.sink.now
 
@@ -99,3 +46,36 @@ returns-in_err-keys-clause-object g c = g.met.A.ReadAt.same_refl _
 
 pub returns-in_err-keys-clause-sink : goal.returns-in_err-keys-clause-sink
 returns-in_err-keys-clause-sink g c = g.met.K.Sink.same_refl _
+
+pub returns : goal.returns
+returns g c = record {
+  answer = (let object = c.args.object.now in
+      let e : Moments (g.row.K.Denot) = ends_of g.A.ReadAt.bytes g.A.ReadAt.faults object c.range_of_set.new.object c.args.sink.now c.range_of_set.new.sink in
+      loaded g.K.Sink.got g.K.Sink.faults c.args.keyset.now c.args.aad.now (g.A.ReadAt.length_of object) c.args.start c.args.len object c.range_of_set.new.object e
+      c.in_ok-keys.keys c.range_of_set.result c.in_ok-keys.ensures.answer
+      (ranges_of_loaded g.K.Sink.got g.K.Sink.faults c.args.aad.now c.in_ok-keys.keys (g.A.ReadAt.length_of object) c.args.start c.args.len e c.range_of_set.result c.range_of_set.ensures.order c.range_of_set.ensures.answer) c.range_of_set.ensures.early);
+  slice = (let object = c.args.object.now in
+      let whole = g.A.ReadAt.length_of object in
+      let e : Moments (g.row.K.Denot) = ends_of g.A.ReadAt.bytes g.A.ReadAt.faults object c.range_of_set.new.object c.args.sink.now c.range_of_set.new.sink in
+      slices g.K.Sink.got g.K.Sink.faults c.args.keyset.now c.args.aad.now whole c.args.start c.args.len object c.range_of_set.new.object e (g.met.A.ReadAt.told object) c.range_of_set.result
+      (loaded g.K.Sink.got g.K.Sink.faults c.args.keyset.now c.args.aad.now whole c.args.start c.args.len object c.range_of_set.new.object e
+      c.in_ok-keys.keys c.range_of_set.result c.in_ok-keys.ensures.answer
+      (ranges_of_loaded g.K.Sink.got g.K.Sink.faults c.args.aad.now c.in_ok-keys.keys (g.A.ReadAt.length_of object) c.args.start c.args.len e c.range_of_set.result c.range_of_set.ensures.order c.range_of_set.ensures.answer) c.range_of_set.ensures.early));
+  succeeds = (let object = c.args.object.now in
+      let whole = g.A.ReadAt.length_of object in
+      let e : Moments (g.row.K.Denot) = ends_of g.A.ReadAt.bytes g.A.ReadAt.faults object c.range_of_set.new.object c.args.sink.now c.range_of_set.new.sink in
+      complete g.K.Sink.got g.K.Sink.faults c.args.keyset.now c.args.aad.now whole c.args.start c.args.len object c.range_of_set.new.object e (g.met.A.ReadAt.told object) c.range_of_set.result
+      (loaded g.K.Sink.got g.K.Sink.faults c.args.keyset.now c.args.aad.now whole c.args.start c.args.len object c.range_of_set.new.object e
+      c.in_ok-keys.keys c.range_of_set.result c.in_ok-keys.ensures.answer
+      (ranges_of_loaded g.K.Sink.got g.K.Sink.faults c.args.aad.now c.in_ok-keys.keys (g.A.ReadAt.length_of object) c.args.start c.args.len e c.range_of_set.result c.range_of_set.ensures.order c.range_of_set.ensures.answer) c.range_of_set.ensures.early));
+  ticks = (let object = c.args.object.now in
+      steps_loaded c.args.keyset.now c.args.aad.now (g.A.ReadAt.bytes object) (g.A.ReadAt.length_of object) c.args.start c.args.len c.args.steps.now c.range_of_set.new.steps
+      c.in_ok-keys.keys c.in_ok-keys.ensures.answer
+      (steps_of_loaded c.args.aad.now c.in_ok-keys.keys (g.A.ReadAt.bytes object) (g.A.ReadAt.length_of object) c.args.start c.args.len c.args.steps.now c.range_of_set.new.steps c.range_of_set.ensures.order c.range_of_set.ensures.ticks));
+  early = c.range_of_set.ensures.early;
+  unwritten = c.range_of_set.ensures.unwritten;
+  kept = c.range_of_set.ensures.kept;
+  later = c.range_of_set.ensures.later;
+  object = c.range_of_set.ensures.object;
+  sink = c.range_of_set.ensures.sink;
+}

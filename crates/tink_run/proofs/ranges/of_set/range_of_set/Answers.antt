@@ -10,37 +10,39 @@ use Rattle.tink_run.proofs.SetSteps.{ranges_of, unwritten_of, leaves_same, leave
 use Rattle.tink_run.proofs.RoomFacts.{has_room}
 use Rattle.tink_run.proofs.ranges.of_set.range_of_set.Goals as goal
 
-pub returns-clause-answer : goal.returns-clause-answer
-returns-clause-answer g c =
-    let aad = c.args.aad.now in
-    let all = all_entries c.args.set.now.entries in
-    let whole = g.A.ReadAt.length_of c.args.object.now in
-    let same : map (λ k. opening_key aad (key_in_set k.now)) c.deref-2.result.now ≡ map (opening_key aad) (keys_in all) =
-    ap (map (λ k. opening_key aad (key_in_set k.now))) c.deref-2.ensures.value ∙ sym (map-map (λ e. opening_key aad (key_in_set e)) (λ k. k.now) c.in_ok-keys.keys.items)
-    ∙ ap (map (λ e. opening_key aad (key_in_set e))) c.in_ok-keys.ensures.value ∙ sym (map-map (opening_key aad) key_in_set all)
-    in
-    let e : Moments (g.row.K.Denot) = ends_of g.A.ReadAt.bytes g.A.ReadAt.faults c.args.object.now c.range_under.new.object c.args.sink.now c.range_under.new.sink in
-    subst (λ (ks : List OpeningKey). RangesOf g.K.Sink.got g.K.Sink.faults ks whole c.args.start c.args.len e c.range_under.result) same
-    (ranges_of g.K.Sink.got g.K.Sink.faults _ whole c.args.start c.args.len e c.range_under.result c.range_under.ensures.answer)
-
-pub returns-clause-ticks : goal.returns-clause-ticks
-returns-clause-ticks g c =
-    let aad = c.args.aad.now in
-    let all = all_entries c.args.set.now.entries in
-    let told = g.A.ReadAt.bytes c.args.object.now in
-    let whole = g.A.ReadAt.length_of c.args.object.now in
-    let same : map (λ k. opening_key aad (key_in_set k.now)) c.deref-2.result.now ≡ map (opening_key aad) (keys_in all) =
-    ap (map (λ k. opening_key aad (key_in_set k.now))) c.deref-2.ensures.value ∙ sym (map-map (λ e. opening_key aad (key_in_set e)) (λ k. k.now) c.in_ok-keys.keys.items)
-    ∙ ap (map (λ e. opening_key aad (key_in_set e))) c.in_ok-keys.ensures.value ∙ sym (map-map (opening_key aad) key_in_set all)
-    in
-    subst (λ (ks : List OpeningKey). TakesRangeSteps ks told whole c.args.start c.args.len c.args.steps.now c.range_under.new.steps) same c.range_under.ensures.ticks
-
-pub returns-clause-unwritten : goal.returns-clause-unwritten
-returns-clause-unwritten g c =
-    let whole = g.A.ReadAt.length_of c.args.object.now in
-    let e : Moments (g.row.K.Denot) = ends_of g.A.ReadAt.bytes g.A.ReadAt.faults c.args.object.now c.range_under.new.object c.args.sink.now c.range_under.new.sink in
-    unwritten_of g.K.Sink.got g.K.Sink.faults _ whole c.args.start c.args.len e c.range_under.result
-    (ranges_of g.K.Sink.got g.K.Sink.faults _ whole c.args.start c.args.len e c.range_under.result c.range_under.ensures.answer)
+pub returns : goal.returns
+returns g c = record {
+  answer = (let aad = c.args.aad.now in
+      let all = all_entries c.args.set.now.entries in
+      let whole = g.A.ReadAt.length_of c.args.object.now in
+      let same : map (λ k. opening_key aad (key_in_set k.now)) c.deref-2.result.now ≡ map (opening_key aad) (keys_in all) =
+      ap (map (λ k. opening_key aad (key_in_set k.now))) c.deref-2.ensures.value ∙ sym (map-map (λ e. opening_key aad (key_in_set e)) (λ k. k.now) c.in_ok-keys.keys.items)
+      ∙ ap (map (λ e. opening_key aad (key_in_set e))) c.in_ok-keys.ensures.value ∙ sym (map-map (opening_key aad) key_in_set all)
+      in
+      let e : Moments (g.row.K.Denot) = ends_of g.A.ReadAt.bytes g.A.ReadAt.faults c.args.object.now c.range_under.new.object c.args.sink.now c.range_under.new.sink in
+      subst (λ (ks : List OpeningKey). RangesOf g.K.Sink.got g.K.Sink.faults ks whole c.args.start c.args.len e c.range_under.result) same
+      (ranges_of g.K.Sink.got g.K.Sink.faults _ whole c.args.start c.args.len e c.range_under.result c.range_under.ensures.answer));
+  ticks = (let aad = c.args.aad.now in
+      let all = all_entries c.args.set.now.entries in
+      let told = g.A.ReadAt.bytes c.args.object.now in
+      let whole = g.A.ReadAt.length_of c.args.object.now in
+      let same : map (λ k. opening_key aad (key_in_set k.now)) c.deref-2.result.now ≡ map (opening_key aad) (keys_in all) =
+      ap (map (λ k. opening_key aad (key_in_set k.now))) c.deref-2.ensures.value ∙ sym (map-map (λ e. opening_key aad (key_in_set e)) (λ k. k.now) c.in_ok-keys.keys.items)
+      ∙ ap (map (λ e. opening_key aad (key_in_set e))) c.in_ok-keys.ensures.value ∙ sym (map-map (opening_key aad) key_in_set all)
+      in
+      subst (λ (ks : List OpeningKey). TakesRangeSteps ks told whole c.args.start c.args.len c.args.steps.now c.range_under.new.steps) same c.range_under.ensures.ticks);
+  order = c.in_ok-keys.ensures.order;
+  early = (let e : Moments (g.row.K.Denot) = ends_of g.A.ReadAt.bytes g.A.ReadAt.faults c.args.object.now c.range_under.new.object c.args.sink.now c.range_under.new.sink in
+      leaves_under g.K.Sink.got g.K.Sink.faults _ (g.A.ReadAt.length_of c.args.object.now) c.args.start c.args.len e c.range_under.result _ _ _ _ c.range_under.ensures.answer);
+  unwritten = (let whole = g.A.ReadAt.length_of c.args.object.now in
+      let e : Moments (g.row.K.Denot) = ends_of g.A.ReadAt.bytes g.A.ReadAt.faults c.args.object.now c.range_under.new.object c.args.sink.now c.range_under.new.sink in
+      unwritten_of g.K.Sink.got g.K.Sink.faults _ whole c.args.start c.args.len e c.range_under.result
+      (ranges_of g.K.Sink.got g.K.Sink.faults _ whole c.args.start c.args.len e c.range_under.result c.range_under.ensures.answer));
+  kept = c.range_under.ensures.kept;
+  later = c.range_under.ensures.later;
+  object = c.range_under.ensures.object;
+  sink = c.range_under.ensures.sink;
+}
 
 pub range_under-requires : goal.range_under-requires
 range_under-requires g c =
@@ -48,26 +50,6 @@ range_under-requires g c =
       room = has_room (λ k. key_in_set k.now) _ _ _ _ _ _ _ (c.deref.ensures.value ∙ sym c.deref-2.ensures.value) c.room_of.ensures.most c.in_ok-trial.ensures.buffer
           c.in_ok-trial.ensures.opened c.in_ok-trial.ensures.nonce c.in_ok-trial.ensures.prefix;
     }
-
-pub returns-clause-early : goal.returns-clause-early
-returns-clause-early g c =
-    let e : Moments (g.row.K.Denot) = ends_of g.A.ReadAt.bytes g.A.ReadAt.faults c.args.object.now c.range_under.new.object c.args.sink.now c.range_under.new.sink in
-    leaves_under g.K.Sink.got g.K.Sink.faults _ (g.A.ReadAt.length_of c.args.object.now) c.args.start c.args.len e c.range_under.result _ _ _ _ c.range_under.ensures.answer
-
-pub returns-clause-kept : goal.returns-clause-kept
-returns-clause-kept g c = c.range_under.ensures.kept
-
-pub returns-clause-later : goal.returns-clause-later
-returns-clause-later g c = c.range_under.ensures.later
-
-pub returns-clause-object : goal.returns-clause-object
-returns-clause-object g c = c.range_under.ensures.object
-
-pub returns-clause-sink : goal.returns-clause-sink
-returns-clause-sink g c = c.range_under.ensures.sink
-
-pub returns-clause-order : goal.returns-clause-order
-returns-clause-order g c = c.in_ok-keys.ensures.order
 
 pub returns-in_err-keys-clause-order : goal.returns-in_err-keys-clause-order
 returns-in_err-keys-clause-order g c = c.in_err-keys.ensures.order

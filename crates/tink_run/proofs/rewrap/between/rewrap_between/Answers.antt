@@ -14,100 +14,58 @@ use Rattle.tink_run.proofs.RewrapSteps.{not_prepared, passes_prepared}
 use Rattle.tink_run.proofs.RoomFacts.{has_room}
 use Rattle.tink_run.proofs.rewrap.between.rewrap_between.Goals as goal
 
-pub returns-in-Ok-clause-answer : goal.returns-in-Ok-clause-answer
-returns-in-Ok-clause-answer g c =
-    let aad = c.args.from_aad.now in
-    let all = all_entries c.args.from.now.entries in
-    let same : map (λ k. opening_key aad (key_in_set k.now)) c.deref-in-Ok.result.now ≡ map (opening_key aad) (keys_in all) =
-    ap (map (λ k. opening_key aad (key_in_set k.now))) c.deref-in-Ok.ensures.value ∙ sym (map-map (λ e. opening_key aad (key_in_set e)) (λ k. k.now) c.in_ok-keys.keys.items)
-    ∙ ap (map (λ e. opening_key aad (key_in_set e))) c.in_ok-keys.ensures.value ∙ sym (map-map (opening_key aad) key_in_set all)
-    in
-    let keys_are : map (λ k. key_in_set k.now) c.deref.result.now ≡ keys_in all =
-    ap (map (λ k. key_in_set k.now)) c.deref.ensures.value ∙ sym (map-map key_in_set (λ k. k.now) c.in_ok-keys.keys.items) ∙ ap (map key_in_set) c.in_ok-keys.ensures.value
-    in
-    let room : vec_len c.in_ok-trial.trial.kept.buffer ≡ room_under (map (opening_key aad) (keys_in all)) =
-    c.in_ok-trial.ensures.buffer ∙ c.room_of.ensures.value ∙ ap (λ ks. largest ks + 1) keys_are ∙ ap (λ n. n + 1) (same_largest aad (keys_in all))
-    in
-    let before : Outside = record { left = g.S.Source.left c.args.source.now; read_faults = g.S.Source.faults c.args.source.now; got = g.K.Sink.got c.args.sink.now; write_faults = g.K.Sink.faults c.args.sink.now } in
-    let after : Outside = record { left = g.S.Source.left c.pass_under.new.source; read_faults = g.S.Source.faults c.pass_under.new.source; got = g.K.Sink.got c.pass_under.new.sink; write_faults = g.K.Sink.faults c.pass_under.new.sink } in
-    subst (λ (ks : List OpeningKey). RewrapsUnder ks (key_in_set c.args.to.now) c.args.to_aad.now c.args.draws.now c.prepare_stream.new.draws before after c.pass_under.result) same
-    (passes_prepared (key_in_set c.args.to.now) c.args.to_aad.now c.args.draws.now c.prepare_stream.new.draws _ _ _ _ _ _ _ c.in-Ok.ensures.answer _ _ before after c.pass_under.result
-    (room ∙ ap room_under (sym same)) c.pass_under.ensures.answer)
+pub returns-in-Ok : goal.returns-in-Ok
+returns-in-Ok g c = record {
+  answer = (let aad = c.args.from_aad.now in
+      let all = all_entries c.args.from.now.entries in
+      let same : map (λ k. opening_key aad (key_in_set k.now)) c.deref-in-Ok.result.now ≡ map (opening_key aad) (keys_in all) =
+      ap (map (λ k. opening_key aad (key_in_set k.now))) c.deref-in-Ok.ensures.value ∙ sym (map-map (λ e. opening_key aad (key_in_set e)) (λ k. k.now) c.in_ok-keys.keys.items)
+      ∙ ap (map (λ e. opening_key aad (key_in_set e))) c.in_ok-keys.ensures.value ∙ sym (map-map (opening_key aad) key_in_set all)
+      in
+      let keys_are : map (λ k. key_in_set k.now) c.deref.result.now ≡ keys_in all =
+      ap (map (λ k. key_in_set k.now)) c.deref.ensures.value ∙ sym (map-map key_in_set (λ k. k.now) c.in_ok-keys.keys.items) ∙ ap (map key_in_set) c.in_ok-keys.ensures.value
+      in
+      let room : vec_len c.in_ok-trial.trial.kept.buffer ≡ room_under (map (opening_key aad) (keys_in all)) =
+      c.in_ok-trial.ensures.buffer ∙ c.room_of.ensures.value ∙ ap (λ ks. largest ks + 1) keys_are ∙ ap (λ n. n + 1) (same_largest aad (keys_in all))
+      in
+      let before : Outside = record { left = g.S.Source.left c.args.source.now; read_faults = g.S.Source.faults c.args.source.now; got = g.K.Sink.got c.args.sink.now; write_faults = g.K.Sink.faults c.args.sink.now } in
+      let after : Outside = record { left = g.S.Source.left c.pass_under.new.source; read_faults = g.S.Source.faults c.pass_under.new.source; got = g.K.Sink.got c.pass_under.new.sink; write_faults = g.K.Sink.faults c.pass_under.new.sink } in
+      subst (λ (ks : List OpeningKey). RewrapsUnder ks (key_in_set c.args.to.now) c.args.to_aad.now c.args.draws.now c.prepare_stream.new.draws before after c.pass_under.result) same
+      (passes_prepared (key_in_set c.args.to.now) c.args.to_aad.now c.args.draws.now c.prepare_stream.new.draws _ _ _ _ _ _ _ c.in-Ok.ensures.answer _ _ before after c.pass_under.result
+      (room ∙ ap room_under (sym same)) c.pass_under.ensures.answer));
+  order = c.in_ok-keys.ensures.order;
+  early = pass_leaves _ _ _ _ _ _ c.pass_under.result _ _ _ _ c.pass_under.ensures.answer;
+  unwritten = c.pass_under.ensures.unwritten;
+  begun = (let aad = c.args.from_aad.now in
+      let all = all_entries c.args.from.now.entries in
+      let same : map (λ k. opening_key aad (key_in_set k.now)) c.deref-in-Ok.result.now ≡ map (opening_key aad) (keys_in all) =
+      ap (map (λ k. opening_key aad (key_in_set k.now))) c.deref-in-Ok.ensures.value ∙ sym (map-map (λ e. opening_key aad (key_in_set e)) (λ k. k.now) c.in_ok-keys.keys.items)
+      ∙ ap (map (λ e. opening_key aad (key_in_set e))) c.in_ok-keys.ensures.value ∙ sym (map-map (opening_key aad) key_in_set all)
+      in
+      let before : Outside = record { left = g.S.Source.left c.args.source.now; read_faults = g.S.Source.faults c.args.source.now; got = g.K.Sink.got c.args.sink.now; write_faults = g.K.Sink.faults c.args.sink.now } in
+      subst (λ (ks : List OpeningKey). LeavesOrBegins ks before c.pass_under.result c.args.sink.now c.pass_under.new.sink) same c.pass_under.ensures.begun);
+  later = c.pass_under.ensures.later;
+  source = c.pass_under.ensures.source;
+  sink = c.pass_under.ensures.sink;
+}
 
-pub returns-in-Ok-clause-early : goal.returns-in-Ok-clause-early
-returns-in-Ok-clause-early g c = pass_leaves _ _ _ _ _ _ c.pass_under.result _ _ _ _ c.pass_under.ensures.answer
-
-pub returns-clause-answer : goal.returns-clause-answer
-returns-clause-answer g c = not_prepared _ (key_in_set c.args.to.now) c.args.to_aad.now c.args.draws.now c.prepare_stream.new.draws _ c.in-Err.error.kind c.not_begun.result c.not_begun.ensures c.in-Err.ensures.answer
-
-pub returns-clause-early : goal.returns-clause-early
-returns-clause-early g c = leaves_same (Err c.not_begun.result) c.args.source.now c.args.sink.now
+pub returns : goal.returns
+returns g c = record {
+  answer = not_prepared _ (key_in_set c.args.to.now) c.args.to_aad.now c.args.draws.now c.prepare_stream.new.draws _ c.in-Err.error.kind c.not_begun.result c.not_begun.ensures c.in-Err.ensures.answer;
+  order = c.in_ok-keys.ensures.order;
+  early = leaves_same (Err c.not_begun.result) c.args.source.now c.args.sink.now;
+  unwritten = leaves_sink_same (Err c.not_begun.result) c.args.sink.now;
+  begun = leaves_or_begins_same _ (outside_of g.S.Source.left g.S.Source.faults g.K.Sink.got g.K.Sink.faults c.args.source.now c.args.sink.now) (Err c.not_begun.result) c.args.sink.now;
+  later = record { reads = le_refl _; writes = le_refl _ };
+  source = g.met.S.Source.same_refl _;
+  sink = g.met.K.Sink.same_refl _;
+}
 
 pub returns-in_err-keys-clause-early : goal.returns-in_err-keys-clause-early
 returns-in_err-keys-clause-early g c = leaves_same c.from_residual.result c.args.source.now c.args.sink.now
 
-pub returns-in_err-trial-clause-early : goal.returns-in_err-trial-clause-early
-returns-in_err-trial-clause-early g c = leaves_same c.from_residual-in_err-trial.result c.args.source.now c.args.sink.now
-
-pub returns-in-Ok-clause-begun : goal.returns-in-Ok-clause-begun
-returns-in-Ok-clause-begun g c =
-    let aad = c.args.from_aad.now in
-    let all = all_entries c.args.from.now.entries in
-    let same : map (λ k. opening_key aad (key_in_set k.now)) c.deref-in-Ok.result.now ≡ map (opening_key aad) (keys_in all) =
-    ap (map (λ k. opening_key aad (key_in_set k.now))) c.deref-in-Ok.ensures.value ∙ sym (map-map (λ e. opening_key aad (key_in_set e)) (λ k. k.now) c.in_ok-keys.keys.items)
-    ∙ ap (map (λ e. opening_key aad (key_in_set e))) c.in_ok-keys.ensures.value ∙ sym (map-map (opening_key aad) key_in_set all)
-    in
-    let before : Outside = record { left = g.S.Source.left c.args.source.now; read_faults = g.S.Source.faults c.args.source.now; got = g.K.Sink.got c.args.sink.now; write_faults = g.K.Sink.faults c.args.sink.now } in
-    subst (λ (ks : List OpeningKey). LeavesOrBegins ks before c.pass_under.result c.args.sink.now c.pass_under.new.sink) same c.pass_under.ensures.begun
-
-pub returns-clause-begun : goal.returns-clause-begun
-returns-clause-begun g c = leaves_or_begins_same _ (outside_of g.S.Source.left g.S.Source.faults g.K.Sink.got g.K.Sink.faults c.args.source.now c.args.sink.now) (Err c.not_begun.result) c.args.sink.now
-
 pub returns-in_err-keys-clause-begun : goal.returns-in_err-keys-clause-begun
 returns-in_err-keys-clause-begun g c = leaves_or_begins_same _ (outside_of g.S.Source.left g.S.Source.faults g.K.Sink.got g.K.Sink.faults c.args.source.now c.args.sink.now) c.from_residual.result c.args.sink.now
-
-pub returns-in_err-trial-clause-begun : goal.returns-in_err-trial-clause-begun
-returns-in_err-trial-clause-begun g c = leaves_or_begins_same _ (outside_of g.S.Source.left g.S.Source.faults g.K.Sink.got g.K.Sink.faults c.args.source.now c.args.sink.now) c.from_residual-in_err-trial.result c.args.sink.now
-
-pub pass_under-requires-clause-trial : goal.pass_under-requires-clause-trial
-pass_under-requires-clause-trial g c = (
-  c.in_ok-trial.ensures.filled,
-  has_room (λ k. key_in_set k.now) _ _ _ _ _ _ _ (c.deref.ensures.value ∙ sym c.deref-in-Ok.ensures.value) c.room_of.ensures.most
-      c.in_ok-trial.ensures.buffer c.in_ok-trial.ensures.opened c.in_ok-trial.ensures.nonce c.in_ok-trial.ensures.prefix,
-)
-
-pub pass_under-requires-clause-stream : goal.pass_under-requires-clause-stream
-pass_under-requires-clause-stream g c = (c.in-Ok.ensures.answer.is_open, c.in-Ok.ensures.answer.none_written, c.in-Ok.ensures.answer.none_held)
-
-pub returns-clause-source : goal.returns-clause-source
-returns-clause-source g c = g.met.S.Source.same_refl _
-
-pub returns-clause-sink : goal.returns-clause-sink
-returns-clause-sink g c = g.met.K.Sink.same_refl _
-
-pub returns-clause-later : goal.returns-clause-later
-returns-clause-later g c = record { reads = le_refl _; writes = le_refl _ }
-
-pub returns-clause-unwritten : goal.returns-clause-unwritten
-returns-clause-unwritten g c = leaves_sink_same (Err c.not_begun.result) c.args.sink.now
-
-pub returns-clause-order : goal.returns-clause-order
-returns-clause-order g c = c.in_ok-keys.ensures.order
-
-pub returns-in-Ok-clause-order : goal.returns-in-Ok-clause-order
-returns-in-Ok-clause-order g c = c.in_ok-keys.ensures.order
-
-pub returns-in-Ok-clause-unwritten : goal.returns-in-Ok-clause-unwritten
-returns-in-Ok-clause-unwritten g c = c.pass_under.ensures.unwritten
-
-pub returns-in-Ok-clause-later : goal.returns-in-Ok-clause-later
-returns-in-Ok-clause-later g c = c.pass_under.ensures.later
-
-pub returns-in-Ok-clause-source : goal.returns-in-Ok-clause-source
-returns-in-Ok-clause-source g c = c.pass_under.ensures.source
-
-pub returns-in-Ok-clause-sink : goal.returns-in-Ok-clause-sink
-returns-in-Ok-clause-sink g c = c.pass_under.ensures.sink
 
 pub returns-in_err-keys-clause-order : goal.returns-in_err-keys-clause-order
 returns-in_err-keys-clause-order g c = c.in_err-keys.ensures.order
@@ -124,6 +82,12 @@ returns-in_err-keys-clause-later g c = record { reads = le_refl _; writes = le_r
 pub returns-in_err-keys-clause-unwritten : goal.returns-in_err-keys-clause-unwritten
 returns-in_err-keys-clause-unwritten g c = leaves_sink_same c.from_residual.result c.args.sink.now
 
+pub returns-in_err-trial-clause-early : goal.returns-in_err-trial-clause-early
+returns-in_err-trial-clause-early g c = leaves_same c.from_residual-in_err-trial.result c.args.source.now c.args.sink.now
+
+pub returns-in_err-trial-clause-begun : goal.returns-in_err-trial-clause-begun
+returns-in_err-trial-clause-begun g c = leaves_or_begins_same _ (outside_of g.S.Source.left g.S.Source.faults g.K.Sink.got g.K.Sink.faults c.args.source.now c.args.sink.now) c.from_residual-in_err-trial.result c.args.sink.now
+
 pub returns-in_err-trial-clause-order : goal.returns-in_err-trial-clause-order
 returns-in_err-trial-clause-order g c = c.in_ok-keys.ensures.order
 
@@ -138,3 +102,13 @@ returns-in_err-trial-clause-later g c = record { reads = le_refl _; writes = le_
 
 pub returns-in_err-trial-clause-unwritten : goal.returns-in_err-trial-clause-unwritten
 returns-in_err-trial-clause-unwritten g c = leaves_sink_same c.from_residual-in_err-trial.result c.args.sink.now
+
+pub pass_under-requires-clause-trial : goal.pass_under-requires-clause-trial
+pass_under-requires-clause-trial g c = (
+  c.in_ok-trial.ensures.filled,
+  has_room (λ k. key_in_set k.now) _ _ _ _ _ _ _ (c.deref.ensures.value ∙ sym c.deref-in-Ok.ensures.value) c.room_of.ensures.most
+      c.in_ok-trial.ensures.buffer c.in_ok-trial.ensures.opened c.in_ok-trial.ensures.nonce c.in_ok-trial.ensures.prefix,
+)
+
+pub pass_under-requires-clause-stream : goal.pass_under-requires-clause-stream
+pass_under-requires-clause-stream g c = (c.in-Ok.ensures.answer.is_open, c.in-Ok.ensures.answer.none_written, c.in-Ok.ensures.answer.none_held)

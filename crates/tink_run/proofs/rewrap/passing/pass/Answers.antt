@@ -11,17 +11,22 @@ use Rattle.tink_run.proofs.PassSteps.{finish_wrote, finished, first_failed, fron
 use Rattle.tink_run.proofs.RunSteps.{leaves_sink_same}
 use Rattle.tink_run.proofs.rewrap.passing.pass.Goals as goal
 
-pub returns-in_err-open_first-clause-answer : goal.returns-in_err-open_first-clause-answer
-returns-in_err-open_first-clause-answer g c =
-    let p = err_from_is_err_and c.from_residual.result c.from_residual.ensures.1 in
-    let before = c.args.reader.now in
-    let after = c.open_first.new.reader in
-    let m : ReaderMoment = record { progress = before.progress; number = before.segments; opened = before.opened.items; rest = prepend_known (take before.filled before.buffer.items) (g.S.Source.left c.args.source.now); faults = g.S.Source.faults c.args.source.now } in
-    let n : ReaderMoment = record { progress = after.progress; number = after.segments; opened = after.opened.items; rest = prepend_known (take after.filled after.buffer.items) (g.S.Source.left c.open_first.new.source); faults = g.S.Source.faults c.open_first.new.source } in
-    let opener = before.opener in
-    rw (p.1, p.2)
-    (first_failed _ _ _ _ _ _ _ _ _ (some_first opener.some) (lt_of_lt_of_le (some_first opener.some) opener.first_fits) _ _ m n _ c.requires.first refl (le_refl _) (le_refl _) (Keeps-refl _) c.in_err-open_first.ensures.read
-    c.in_err-open_first.ensures.answer)
+pub returns-in_err-open_first : goal.returns-in_err-open_first
+returns-in_err-open_first g c = record {
+  answer = (let p = err_from_is_err_and c.from_residual.result c.from_residual.ensures.1 in
+      let before = c.args.reader.now in
+      let after = c.open_first.new.reader in
+      let m : ReaderMoment = record { progress = before.progress; number = before.segments; opened = before.opened.items; rest = prepend_known (take before.filled before.buffer.items) (g.S.Source.left c.args.source.now); faults = g.S.Source.faults c.args.source.now } in
+      let n : ReaderMoment = record { progress = after.progress; number = after.segments; opened = after.opened.items; rest = prepend_known (take after.filled after.buffer.items) (g.S.Source.left c.open_first.new.source); faults = g.S.Source.faults c.open_first.new.source } in
+      let opener = before.opener in
+      rw (p.1, p.2)
+      (first_failed _ _ _ _ _ _ _ _ _ (some_first opener.some) (lt_of_lt_of_le (some_first opener.some) opener.first_fits) _ _ m n _ c.requires.first refl (le_refl _) (le_refl _) (Keeps-refl _) c.in_err-open_first.ensures.read
+      c.in_err-open_first.ensures.answer));
+  unwritten = leaves_sink_same c.from_residual.result c.args.sink.now;
+  later = record { reads = c.open_first.ensures.later; writes = le_refl _ };
+  source = c.open_first.ensures.same;
+  sink = g.met.K.Sink.same_refl _;
+}
 
 pub returns-in_err-write-clause-answer : goal.returns-in_err-write-clause-answer
 returns-in_err-write-clause-answer g c =
@@ -34,6 +39,15 @@ returns-in_err-write-clause-answer g c =
     rw (p.1, p.2, c.in_err-write.ensures.refused)
     (front_failed _ _ _ _ _ _ _ _ _ (some_first opener.some) (lt_of_lt_of_le (some_first opener.some) opener.first_fits) _ _ m n c.requires.first refl c.in_ok-open_first.ensures.answer (omega (arith, c.open_first.ensures.small, after.opened.ok.0))
     (reads_held _ after.filled _ _ after.buffer.items (Keeps-refl _) (le_trans after.filled_in (le_of_eq c.open_first.ensures.room))) c.in_err-write.ensures.prefix c.in_err-write.ensures.cause)
+
+pub returns-in_err-write-clause-later : goal.returns-in_err-write-clause-later
+returns-in_err-write-clause-later g c = record { reads = c.open_first.ensures.later; writes = c.write.ensures.later }
+
+pub returns-in_err-write-clause-source : goal.returns-in_err-write-clause-source
+returns-in_err-write-clause-source g c = c.open_first.ensures.same
+
+pub returns-in_err-write-clause-sink : goal.returns-in_err-write-clause-sink
+returns-in_err-write-clause-sink g c = c.write.ensures.same
 
 pub loop-bytes-init : goal.loop-bytes-init
 loop-bytes-init g c =
@@ -51,56 +65,47 @@ loop-bytes-init g c =
       same_sink = c.write.ensures.same;
     }
 
-pub returns-in_err-write-2-clause-answer : goal.returns-in_err-write-2-clause-answer
-returns-in_err-write-2-clause-answer g c =
-    let p = err_from_is_err_and c.from_residual-in_err-write-2.result c.from_residual-in_err-write-2.ensures.1 in
-    let sealer = c.args.writer.now.sealer in
-    let r = rw (c.loop-bytes.invariant.sealer, c.opened-text.ensures) at c.in_err-write-2.ensures.answer in
-    let opener = c.args.reader.now.opener in
-    let reader = c.loop-bytes.reader in
-    rw (p.1, p.2)
-    (text_refused _ _ _ _ _ _ _ _ _ (some_first opener.some) (lt_of_lt_of_le (some_first opener.some) opener.first_fits) _ _ _ _ c.loop-bytes.invariant.under_way sealer.some (lt_of_lt_of_le sealer.some sealer.first_fits) _ _ _ refl (le_refl _)
-    (reads_held _ reader.filled _ _ reader.buffer.items (Keeps-refl _) (le_trans reader.filled_in (le_of_eq c.loop-bytes.invariant.room))) r)
-
-pub returns-in_err-write-2-clause-unwritten : goal.returns-in_err-write-2-clause-unwritten
-returns-in_err-write-2-clause-unwritten g c =
-    let p = err_from_is_err_and c.from_residual-in_err-write-2.result c.from_residual-in_err-write-2.ensures.1 in
-    rw (p.1, p.2) (text_wrote _ _ _ _ _ _ _ _ _ c.in_err-write-2.ensures.answer)
-
-pub returns-in_err-write-2-clause-source : goal.returns-in_err-write-2-clause-source
-returns-in_err-write-2-clause-source g c = c.loop-bytes.invariant.same_source
-
-pub returns-in_err-write-2-clause-sink : goal.returns-in_err-write-2-clause-sink
-returns-in_err-write-2-clause-sink g c = g.met.K.Sink.same_trans _ _ _ c.loop-bytes.invariant.same_sink c.write-in-loop-bytes.ensures.same
+pub returns-in_err-write-2 : goal.returns-in_err-write-2
+returns-in_err-write-2 g c = record {
+  answer = (let p = err_from_is_err_and c.from_residual-in_err-write-2.result c.from_residual-in_err-write-2.ensures.1 in
+      let sealer = c.args.writer.now.sealer in
+      let r = rw (c.loop-bytes.invariant.sealer, c.opened-text.ensures) at c.in_err-write-2.ensures.answer in
+      let opener = c.args.reader.now.opener in
+      let reader = c.loop-bytes.reader in
+      rw (p.1, p.2)
+      (text_refused _ _ _ _ _ _ _ _ _ (some_first opener.some) (lt_of_lt_of_le (some_first opener.some) opener.first_fits) _ _ _ _ c.loop-bytes.invariant.under_way sealer.some (lt_of_lt_of_le sealer.some sealer.first_fits) _ _ _ refl (le_refl _)
+      (reads_held _ reader.filled _ _ reader.buffer.items (Keeps-refl _) (le_trans reader.filled_in (le_of_eq c.loop-bytes.invariant.room))) r));
+  unwritten = (let p = err_from_is_err_and c.from_residual-in_err-write-2.result c.from_residual-in_err-write-2.ensures.1 in
+      rw (p.1, p.2) (text_wrote _ _ _ _ _ _ _ _ _ c.in_err-write-2.ensures.answer));
+  later = record { reads = c.loop-bytes.invariant.reads; writes = le_trans c.loop-bytes.invariant.writes c.write-in-loop-bytes.ensures.later };
+  source = c.loop-bytes.invariant.same_source;
+  sink = g.met.K.Sink.same_trans _ _ _ c.loop-bytes.invariant.same_sink c.write-in-loop-bytes.ensures.same;
+}
 
 pub overflow_add-bytes : goal.overflow_add-bytes
 overflow_add-bytes g c =
     let reading = c.loop-bytes.invariant.under_way.reading in
     omega (arith, reading.few, reading.small, reading.opened.number, length-append reading.texts (c.loop-bytes.reader.opened.items ∷ []), c.loop-bytes.reader.few, ap length c.opened-text.ensures)
 
-pub returns-in-Ended-clause-answer : goal.returns-in-Ended-clause-answer
-returns-in-Ended-clause-answer g c =
-    let sealer = c.args.writer.now.sealer in
-    let reader = c.loop-bytes.reader in
-    let written = c.write-in-loop-bytes.new.self in
-    let v : WriterMoment = record { mode = written.mode; number = written.segments; held = held_text written; got = g.K.Sink.got c.write-in-loop-bytes.new.sink; faults = g.K.Sink.faults c.write-in-loop-bytes.new.sink } in
-    let ended = c.finish.new.writer in
-    let o : WriterMoment = record { mode = ended.mode; number = ended.segments; held = held_text ended; got = g.K.Sink.got c.finish.new.sink; faults = g.K.Sink.faults c.finish.new.sink } in
-    let w = rw (c.loop-bytes.invariant.sealer, c.opened-text.ensures) at c.in_ok-write-2.ensures.answer in
-    let r = rw (c.write-in-loop-bytes.ensures.sealer ∙ c.loop-bytes.invariant.sealer) at c.finish.ensures.answer in
-    let opener = c.args.reader.now.opener in
-    finished _ _ _ _ opener.overhead _ _ _ _ (some_first opener.some) (lt_of_lt_of_le (some_first opener.some) opener.first_fits) _ _ _ _ c.loop-bytes.invariant.under_way sealer.some (lt_of_lt_of_le sealer.some sealer.first_fits) v w.0 _
-    (take reader.filled reader.buffer.items) (sym c.in-Ended.ensures) refl (reads_held _ reader.filled _ _ reader.buffer.items (Keeps-refl _) (le_trans reader.filled_in (le_of_eq c.loop-bytes.invariant.room))) o refl
-    _ c.finish.result (omega (arith, ap length c.opened-text.ensures)) c.finish.ensures.later c.write-in-loop-bytes.ensures.later (le_refl _) r
-
-pub returns-in-Ended-clause-unwritten : goal.returns-in-Ended-clause-unwritten
-returns-in-Ended-clause-unwritten g c = finish_wrote _ _ _ _ c.finish.result _ _ c.finish.ensures.answer
-
-pub returns-in-Ended-clause-source : goal.returns-in-Ended-clause-source
-returns-in-Ended-clause-source g c = c.loop-bytes.invariant.same_source
-
-pub returns-in-Ended-clause-sink : goal.returns-in-Ended-clause-sink
-returns-in-Ended-clause-sink g c = g.met.K.Sink.same_trans _ _ _ (g.met.K.Sink.same_trans _ _ _ c.loop-bytes.invariant.same_sink c.write-in-loop-bytes.ensures.same) c.finish.ensures.same
+pub returns-in-Ended : goal.returns-in-Ended
+returns-in-Ended g c = record {
+  answer = (let sealer = c.args.writer.now.sealer in
+      let reader = c.loop-bytes.reader in
+      let written = c.write-in-loop-bytes.new.self in
+      let v : WriterMoment = record { mode = written.mode; number = written.segments; held = held_text written; got = g.K.Sink.got c.write-in-loop-bytes.new.sink; faults = g.K.Sink.faults c.write-in-loop-bytes.new.sink } in
+      let ended = c.finish.new.writer in
+      let o : WriterMoment = record { mode = ended.mode; number = ended.segments; held = held_text ended; got = g.K.Sink.got c.finish.new.sink; faults = g.K.Sink.faults c.finish.new.sink } in
+      let w = rw (c.loop-bytes.invariant.sealer, c.opened-text.ensures) at c.in_ok-write-2.ensures.answer in
+      let r = rw (c.write-in-loop-bytes.ensures.sealer ∙ c.loop-bytes.invariant.sealer) at c.finish.ensures.answer in
+      let opener = c.args.reader.now.opener in
+      finished _ _ _ _ opener.overhead _ _ _ _ (some_first opener.some) (lt_of_lt_of_le (some_first opener.some) opener.first_fits) _ _ _ _ c.loop-bytes.invariant.under_way sealer.some (lt_of_lt_of_le sealer.some sealer.first_fits) v w.0 _
+      (take reader.filled reader.buffer.items) (sym c.in-Ended.ensures) refl (reads_held _ reader.filled _ _ reader.buffer.items (Keeps-refl _) (le_trans reader.filled_in (le_of_eq c.loop-bytes.invariant.room))) o refl
+      _ c.finish.result (omega (arith, ap length c.opened-text.ensures)) c.finish.ensures.later c.write-in-loop-bytes.ensures.later (le_refl _) r);
+  unwritten = finish_wrote _ _ _ _ c.finish.result _ _ c.finish.ensures.answer;
+  later = record { reads = c.loop-bytes.invariant.reads; writes = le_trans c.loop-bytes.invariant.writes (le_trans c.write-in-loop-bytes.ensures.later c.finish.ensures.later) };
+  source = c.loop-bytes.invariant.same_source;
+  sink = g.met.K.Sink.same_trans _ _ _ (g.met.K.Sink.same_trans _ _ _ c.loop-bytes.invariant.same_sink c.write-in-loop-bytes.ensures.same) c.finish.ensures.same;
+}
 
 pub loop-bytes-preserved : goal.loop-bytes-preserved
 loop-bytes-preserved g c =
@@ -121,55 +126,20 @@ loop-bytes-preserved g c =
       same_sink = g.met.K.Sink.same_trans _ _ _ c.loop-bytes.invariant.same_sink c.write-in-loop-bytes.ensures.same;
     }
 
-pub returns-in-Err-clause-answer : goal.returns-in-Err-clause-answer
-returns-in-Err-clause-answer g c =
-    let sealer = c.args.writer.now.sealer in
-    let opener = c.args.reader.now.opener in
-    let w = rw (c.loop-bytes.invariant.sealer, c.opened-text.ensures) at c.in_ok-write-2.ensures.answer in
-    let refused = rw c.loop-bytes.invariant.opener at c.in-Err.ensures.answer in
-    let after = c.open_next.new.self in
-    next_failed _ _ _ _ _ _ _ _ _ (some_first opener.some) (lt_of_lt_of_le (some_first opener.some) opener.first_fits) _ _ _ _ c.loop-bytes.invariant.under_way sealer.some (lt_of_lt_of_le sealer.some sealer.first_fits) _ _ _ _ refl
-    c.loop-bytes.invariant.reads (le_refl _) (reads_held _ after.filled _ _ after.buffer.items (Keeps-refl _) (le_trans after.filled_in (le_of_eq (c.open_next.ensures.room ∙ c.loop-bytes.invariant.room)))) w.0 refused
-
-pub returns-in-Err-clause-unwritten : goal.returns-in-Err-clause-unwritten
-returns-in-Err-clause-unwritten g c = next_wrote _ _ _ _ _ _ _ _ _ c.in-Err.ensures.answer
-
--- whatever else is read
-pub returns-in-Err-clause-source : goal.returns-in-Err-clause-source
-returns-in-Err-clause-source g c = g.met.S.Source.same_trans _ _ _ c.loop-bytes.invariant.same_source (search (rules, g.met.S.Source.same_trans))
-
-pub returns-in-Err-clause-sink : goal.returns-in-Err-clause-sink
-returns-in-Err-clause-sink g c = g.met.K.Sink.same_trans _ _ _ c.loop-bytes.invariant.same_sink c.write-in-loop-bytes.ensures.same
-
-pub returns-in_err-open_first-clause-unwritten : goal.returns-in_err-open_first-clause-unwritten
-returns-in_err-open_first-clause-unwritten g c = leaves_sink_same c.from_residual.result c.args.sink.now
-
-pub returns-in_err-open_first-clause-later : goal.returns-in_err-open_first-clause-later
-returns-in_err-open_first-clause-later g c = record { reads = c.open_first.ensures.later; writes = le_refl _ }
-
-pub returns-in_err-open_first-clause-source : goal.returns-in_err-open_first-clause-source
-returns-in_err-open_first-clause-source g c = c.open_first.ensures.same
-
-pub returns-in_err-open_first-clause-sink : goal.returns-in_err-open_first-clause-sink
-returns-in_err-open_first-clause-sink g c = g.met.K.Sink.same_refl _
-
-pub returns-in_err-write-clause-later : goal.returns-in_err-write-clause-later
-returns-in_err-write-clause-later g c = record { reads = c.open_first.ensures.later; writes = c.write.ensures.later }
-
-pub returns-in_err-write-clause-source : goal.returns-in_err-write-clause-source
-returns-in_err-write-clause-source g c = c.open_first.ensures.same
-
-pub returns-in_err-write-clause-sink : goal.returns-in_err-write-clause-sink
-returns-in_err-write-clause-sink g c = c.write.ensures.same
-
-pub returns-in_err-write-2-clause-later : goal.returns-in_err-write-2-clause-later
-returns-in_err-write-2-clause-later g c = record { reads = c.loop-bytes.invariant.reads; writes = le_trans c.loop-bytes.invariant.writes c.write-in-loop-bytes.ensures.later }
-
-pub returns-in-Ended-clause-later : goal.returns-in-Ended-clause-later
-returns-in-Ended-clause-later g c = record { reads = c.loop-bytes.invariant.reads; writes = le_trans c.loop-bytes.invariant.writes (le_trans c.write-in-loop-bytes.ensures.later c.finish.ensures.later) }
-
-pub returns-in-Err-clause-later : goal.returns-in-Err-clause-later
-returns-in-Err-clause-later g c = record { reads = le_trans c.loop-bytes.invariant.reads c.open_next.ensures.later; writes = le_trans c.loop-bytes.invariant.writes c.write-in-loop-bytes.ensures.later }
+pub returns-in-Err : goal.returns-in-Err
+returns-in-Err g c = record {
+  answer = (let sealer = c.args.writer.now.sealer in
+      let opener = c.args.reader.now.opener in
+      let w = rw (c.loop-bytes.invariant.sealer, c.opened-text.ensures) at c.in_ok-write-2.ensures.answer in
+      let refused = rw c.loop-bytes.invariant.opener at c.in-Err.ensures.answer in
+      let after = c.open_next.new.self in
+      next_failed _ _ _ _ _ _ _ _ _ (some_first opener.some) (lt_of_lt_of_le (some_first opener.some) opener.first_fits) _ _ _ _ c.loop-bytes.invariant.under_way sealer.some (lt_of_lt_of_le sealer.some sealer.first_fits) _ _ _ _ refl
+      c.loop-bytes.invariant.reads (le_refl _) (reads_held _ after.filled _ _ after.buffer.items (Keeps-refl _) (le_trans after.filled_in (le_of_eq (c.open_next.ensures.room ∙ c.loop-bytes.invariant.room)))) w.0 refused);
+  unwritten = next_wrote _ _ _ _ _ _ _ _ _ c.in-Err.ensures.answer;
+  later = record { reads = le_trans c.loop-bytes.invariant.reads c.open_next.ensures.later; writes = le_trans c.loop-bytes.invariant.writes c.write-in-loop-bytes.ensures.later };
+  source = g.met.S.Source.same_trans _ _ _ c.loop-bytes.invariant.same_source (search (rules, g.met.S.Source.same_trans));
+  sink = g.met.K.Sink.same_trans _ _ _ c.loop-bytes.invariant.same_sink c.write-in-loop-bytes.ensures.same;
+}
 
 pub loop-bytes-smaller : goal.loop-bytes-smaller
 loop-bytes-smaller g c = omega (arith, c.in-Ok.ensures.answer.number, c.open_next.new.self.few)

@@ -12,36 +12,41 @@ use Rattle.tink_run.proofs.KeySteps.{begun_of, leaves_or_begins_same, pass_not_s
 use Rattle.tink_run.proofs.RunSteps.{leaves_sink_same}
 use Rattle.tink_run.proofs.rewrap.passing.pass_under.Goals as goal
 
-pub returns-in_err-reader-clause-answer : goal.returns-in_err-reader-clause-answer
-returns-in_err-reader-clause-answer g c =
-    let p = err_from_is_err_and c.from_residual.result c.from_residual.ensures.1 in
-    let kept = c.args.trial.kept in
-    let none_held = unread kept.filled kept.buffer.items (g.S.Source.left c.args.source.now) c.requires.trial.0 in
-    rw (p.1, p.2) (pass_not_started _ _ _ _ _ _ (Keeps-refl _) (reads_more _ _ _ _ (omega arith) c.start.ensures.read) (rw none_held at c.in_err-reader.ensures.refused))
+pub returns-in_err-reader : goal.returns-in_err-reader
+returns-in_err-reader g c = record {
+  answer = (let p = err_from_is_err_and c.from_residual.result c.from_residual.ensures.1 in
+      let kept = c.args.trial.kept in
+      let none_held = unread kept.filled kept.buffer.items (g.S.Source.left c.args.source.now) c.requires.trial.0 in
+      rw (p.1, p.2) (pass_not_started _ _ _ _ _ _ (Keeps-refl _) (reads_more _ _ _ _ (omega arith) c.start.ensures.read) (rw none_held at c.in_err-reader.ensures.refused)));
+  unwritten = leaves_sink_same c.from_residual.result c.args.sink.now;
+  begun = leaves_or_begins_same _ (outside_of g.S.Source.left g.S.Source.faults g.K.Sink.got g.K.Sink.faults c.args.source.now c.args.sink.now) c.from_residual.result c.args.sink.now;
+  later = record { reads = c.start.ensures.later; writes = le_refl _ };
+  source = c.start.ensures.same;
+  sink = g.met.K.Sink.same_refl _;
+}
 
-pub returns-clause-answer : goal.returns-clause-answer
-returns-clause-answer g c =
-    let kept = c.args.trial.kept in
-    let none_held = unread kept.filled kept.buffer.items (g.S.Source.left c.args.source.now) c.requires.trial.0 in
-    let reader = c.in_ok-reader.reader in
-    let opener = reader.opener in
-    let seg : ℕ → Bool → List ℕ → List ℕ = numbered (segment_by opener.decrypter) opener.nonce_size opener.prefix.items in
-    let started : Outside = record { left = prepend_known (take reader.filled reader.buffer.items) (g.S.Source.left c.start.new.source); read_faults = g.S.Source.faults c.start.new.source; got = g.K.Sink.got c.args.sink.now; write_faults = g.K.Sink.faults c.args.sink.now } in
-    pass_started _ _ seg opener.first opener.size opener.overhead _ _ started _ _ opener.some
-    (numbered_longer (segment_by opener.decrypter) opener.nonce_size opener.prefix.items opener.overhead (λ n t. length-segment_by opener.decrypter n t ∙ ap (λ x. length t + x) (sym opener.overhead_is)))
-    refl c.start.ensures.later (le_refl _) (rw none_held at c.in_ok-reader.ensures.started) (rw c.in_ok-reader.ensures.fresh.3 at c.pass.ensures.answer)
-
-pub returns-in_err-reader-clause-begun : goal.returns-in_err-reader-clause-begun
-returns-in_err-reader-clause-begun g c = leaves_or_begins_same _ (outside_of g.S.Source.left g.S.Source.faults g.K.Sink.got g.K.Sink.faults c.args.source.now c.args.sink.now) c.from_residual.result c.args.sink.now
-
-pub returns-clause-begun : goal.returns-clause-begun
-returns-clause-begun g c =
-    let kept = c.args.trial.kept in
-    let none_held = unread kept.filled kept.buffer.items (g.S.Source.left c.args.source.now) c.requires.trial.0 in
-    let reader = c.in_ok-reader.reader in
-    let opener = reader.opener in
-    let seg : ℕ → Bool → List ℕ → List ℕ = numbered (segment_by opener.decrypter) opener.nonce_size opener.prefix.items in
-    begun_of _ seg opener.first opener.size opener.overhead (prepend_known (take reader.filled reader.buffer.items) (g.S.Source.left c.start.new.source)) (outside_of g.S.Source.left g.S.Source.faults g.K.Sink.got g.K.Sink.faults c.args.source.now c.args.sink.now) c.pass.result _ _ (rw none_held at c.in_ok-reader.ensures.started)
+pub returns : goal.returns
+returns g c = record {
+  answer = (let kept = c.args.trial.kept in
+      let none_held = unread kept.filled kept.buffer.items (g.S.Source.left c.args.source.now) c.requires.trial.0 in
+      let reader = c.in_ok-reader.reader in
+      let opener = reader.opener in
+      let seg : ℕ → Bool → List ℕ → List ℕ = numbered (segment_by opener.decrypter) opener.nonce_size opener.prefix.items in
+      let started : Outside = record { left = prepend_known (take reader.filled reader.buffer.items) (g.S.Source.left c.start.new.source); read_faults = g.S.Source.faults c.start.new.source; got = g.K.Sink.got c.args.sink.now; write_faults = g.K.Sink.faults c.args.sink.now } in
+      pass_started _ _ seg opener.first opener.size opener.overhead _ _ started _ _ opener.some
+      (numbered_longer (segment_by opener.decrypter) opener.nonce_size opener.prefix.items opener.overhead (λ n t. length-segment_by opener.decrypter n t ∙ ap (λ x. length t + x) (sym opener.overhead_is)))
+      refl c.start.ensures.later (le_refl _) (rw none_held at c.in_ok-reader.ensures.started) (rw c.in_ok-reader.ensures.fresh.3 at c.pass.ensures.answer));
+  unwritten = c.pass.ensures.unwritten;
+  begun = (let kept = c.args.trial.kept in
+      let none_held = unread kept.filled kept.buffer.items (g.S.Source.left c.args.source.now) c.requires.trial.0 in
+      let reader = c.in_ok-reader.reader in
+      let opener = reader.opener in
+      let seg : ℕ → Bool → List ℕ → List ℕ = numbered (segment_by opener.decrypter) opener.nonce_size opener.prefix.items in
+      begun_of _ seg opener.first opener.size opener.overhead (prepend_known (take reader.filled reader.buffer.items) (g.S.Source.left c.start.new.source)) (outside_of g.S.Source.left g.S.Source.faults g.K.Sink.got g.K.Sink.faults c.args.source.now c.args.sink.now) c.pass.result _ _ (rw none_held at c.in_ok-reader.ensures.started));
+  later = record { reads = le_trans c.start.ensures.later c.pass.ensures.later.reads; writes = c.pass.ensures.later.writes };
+  source = g.met.S.Source.same_trans _ _ _ c.start.ensures.same c.pass.ensures.source;
+  sink = c.pass.ensures.sink;
+}
 
 pub start-requires : goal.start-requires
 start-requires g c = record { room = c.requires.trial.1 }
@@ -60,27 +65,3 @@ pass-requires-clause-running g c = c.in_ok-reader.ensures.fresh.0
 
 pub pass-requires-clause-first : goal.pass-requires-clause-first
 pass-requires-clause-first g c = c.in_ok-reader.ensures.fresh.1
-
-pub returns-in_err-reader-clause-unwritten : goal.returns-in_err-reader-clause-unwritten
-returns-in_err-reader-clause-unwritten g c = leaves_sink_same c.from_residual.result c.args.sink.now
-
-pub returns-in_err-reader-clause-later : goal.returns-in_err-reader-clause-later
-returns-in_err-reader-clause-later g c = record { reads = c.start.ensures.later; writes = le_refl _ }
-
-pub returns-in_err-reader-clause-source : goal.returns-in_err-reader-clause-source
-returns-in_err-reader-clause-source g c = c.start.ensures.same
-
-pub returns-in_err-reader-clause-sink : goal.returns-in_err-reader-clause-sink
-returns-in_err-reader-clause-sink g c = g.met.K.Sink.same_refl _
-
-pub returns-clause-unwritten : goal.returns-clause-unwritten
-returns-clause-unwritten g c = c.pass.ensures.unwritten
-
-pub returns-clause-later : goal.returns-clause-later
-returns-clause-later g c = record { reads = le_trans c.start.ensures.later c.pass.ensures.later.reads; writes = c.pass.ensures.later.writes }
-
-pub returns-clause-source : goal.returns-clause-source
-returns-clause-source g c = g.met.S.Source.same_trans _ _ _ c.start.ensures.same c.pass.ensures.source
-
-pub returns-clause-sink : goal.returns-clause-sink
-returns-clause-sink g c = c.pass.ensures.sink
