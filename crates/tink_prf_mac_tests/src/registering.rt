@@ -14,7 +14,7 @@ use tink_prf::{
     hkdf_sha256_prf_key_template, hmac_sha256_prf_key_template, hmac_sha512_prf_key_template,
 };
 use tink_proto::{KeyTemplate, Text};
-use tink_testutil::{Answer, Named, Told, made};
+use tink_testutil::{Answer, Ask, Named, Told, made};
 
 // A template's name, its URL, its format and its number of a prefix type.
 type Template = (&'static str, &'static str, &'static [u8], i32);
@@ -57,7 +57,9 @@ pub fn template_of(alloc: Global, name: &str) -> Result<KeyTemplate, TinkError> 
 
 fn is_template(kt: &KeyTemplate, template: &Template) -> bool {
     let (_, url, format, prefix) = *template;
-    kt.type_url.as_str() == url && kt.value.as_slice() == format && kt.output_prefix_type == prefix
+    (kt.type_url.as_str() == url)
+        & (kt.value.as_slice() == format)
+        & (kt.output_prefix_type == prefix)
 }
 
 // Whether the call of a template's name makes it, and it stands in a registry under its name beside its manager.
@@ -72,7 +74,7 @@ fn is_made_and_registered(
     };
     match template_of(alloc, template.0) {
         Ok(kt) => Ok(
-            found && is_template(&kt, template) && registry.get_key_manager(template.1).is_ok(),
+            found & is_template(&kt, template) & registry.get_key_manager(template.1).is_ok(),
         ),
         Err(e) => Err(e),
     }
@@ -86,27 +88,29 @@ fn are_names(
 ) -> Result<bool, TinkError> {
     match names {
         Ok(names) => match names.as_slice() {
-            [name, ..] => Ok(names.len() == n && name.as_str() == first),
+            [name, ..] => Ok((names.len() == n) & (name.as_str() == first)),
             [] => Ok(n == 0),
         },
         Err(e) => Err(e),
     }
 }
 
-fn answered(
-    alloc: Global,
-    registry: &mut Registry<Named<MacKinds>>,
-    step: &Step,
-) -> Result<bool, TinkError> {
-    match step {
-        Step::Manage(url) => made(registry.register_key_manager(alloc, Named::new(url))),
-        Step::Init(Sort::Macs) => made(tink_mac::init(alloc, registry)),
-        Step::Init(Sort::Prfs) => made(tink_prf::init(alloc, registry)),
-        Step::Template(template) => is_made_and_registered(alloc, registry, template),
-        Step::Names(n, first) => are_names(registry.template_names(alloc), *n, first),
-        Step::HasNot(url) => Ok(registry.get_key_manager(url).is_err()),
-        Step::Text(found, want) => Ok(found == want),
-        Step::Version(found, want) => Ok(found == want),
+impl Ask<Registry<Named<MacKinds>>> for Step {
+    fn answer(
+        &self,
+        alloc: Global,
+        registry: &mut Registry<Named<MacKinds>>,
+    ) -> Result<bool, TinkError> {
+        match *self {
+            Step::Manage(url) => made(registry.register_key_manager(alloc, Named::new(url))),
+            Step::Init(Sort::Macs) => made(tink_mac::init(alloc, registry)),
+            Step::Init(Sort::Prfs) => made(tink_prf::init(alloc, registry)),
+            Step::Template(ref template) => is_made_and_registered(alloc, registry, template),
+            Step::Names(n, first) => are_names(registry.template_names(alloc), n, first),
+            Step::HasNot(url) => Ok(registry.get_key_manager(url).is_err()),
+            Step::Text(found, want) => Ok(found == want),
+            Step::Version(found, want) => Ok(found == want),
+        }
     }
 }
 
@@ -321,17 +325,19 @@ const CONSTANTS: &[Row] = &[
     ),
 ];
 
-// The tables are of a new registry each.
-const TABLES: &[&[Row]] = &[CONSTANTS, MACS, PRFS, MACS_BESIDE, PRFS_BESIDE];
-
-fn walk(told: &mut Told, alloc: Global, registry: &mut Registry<Named<MacKinds>>, rows: &[Row]) {
-    for (row, step, want) in rows {
-        told.expect(answered(alloc, registry, step), *want, row);
-    }
+fn prfs(alloc: Global, told: &mut Told) {
+    told.walk(alloc, Registry::new(alloc), PRFS);
+    told.walk(alloc, Registry::new(alloc), PRFS_BESIDE);
 }
 
-pub fn templates_and_managers_are_registered_once(alloc: Global, told: &mut Told) {
-    for rows in TABLES {
-        walk(told, alloc, &mut Registry::new(alloc), rows);
-    }
+fn macs(alloc: Global, told: &mut Told) {
+    told.walk(alloc, Registry::new(alloc), MACS);
+    told.walk(alloc, Registry::new(alloc), MACS_BESIDE);
+}
+
+// The tables are of a new registry each.
+pub fn rows(alloc: Global, told: &mut Told) {
+    told.walk(alloc, Registry::new(alloc), CONSTANTS);
+    macs(alloc, told);
+    prfs(alloc, told);
 }

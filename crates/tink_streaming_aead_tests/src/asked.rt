@@ -1,11 +1,8 @@
 //! What is asked of the keys of a keyset, and the one answer.
 
-use crate::keysets::{Keys, aeads_of};
-use crate::one_of::Streams;
-use crate::streams::{Way, give_into, reader_by, written};
+use crate::streams::{Way, flipped, give_into, reader_by, written};
 use std::alloc::Global;
-use tink_core::registry::Registry;
-use tink_io::{Cause, Kind, MemSource, TinkError};
+use tink_io::{Kind, MemSource, TinkError};
 use tink_streaming_aead::{DecryptReader, WrappedStreamingAead};
 
 /// The text of the stream that Python made.
@@ -15,11 +12,10 @@ pub const TEXT: &[u8; 60] = b"sixty bytes of text, which are in three segments o
 pub const BY_GCM: &[u8; 132] =
     b"\x18\x40\x41\x42\x43\x44\x45\x46\x47\x48\x49\x4a\x4b\x4c\x4d\x4e\x4f\x50\x51\x52\x53\x54\x55\x56\xa1\x5b\x4e\xa4\xd6\x54\xd6\xc5\xe9\xa5\x28\xcf\xbb\xbe\xde\x87\x10\xa3\xa3\x2d\xd9\xf0\x17\x84\x99\xf7\x80\x73\xcf\xaf\x9e\xdc\xe4\xf5\x04\xa3\x7b\x7f\x95\xb1\x80\x39\x03\x8b\x23\x25\xbb\xde\xe5\x06\x06\xb0\x11\x5f\x58\x06\xb7\x55\xb7\x7b\xc7\x16\x91\x4c\x88\xfb\x28\x65\x92\x99\x22\x50\xbd\x8e\x94\x4c\xc2\x1d\x03\x62\xd9\xd2\x40\x33\x35\x07\xb1\x7e\x33\x4f\x7b\xca\x4e\x3b\xd7\x66\xf3\x14\xa0\x76\xb2\xaf\x3b\x55\xd3\x2a\x30\xa1";
 
-/// Reads of a stream: the place of a byte that is changed, which call of the source fails, how many bytes of the text they
-/// give, by what they are refused, and the reads behind them, and how many segments were opened.
-#[derive(Clone, Copy)]
+/// What the reads of a stream give, after one to no bytes, which chooses no key: the place of a byte that is changed, which
+/// call of the source fails, how many bytes of the text they give, by what they are refused, and the reads behind them, and
+/// how many segments were opened.
 pub struct Reading {
-    pub stream: &'static [u8],
     pub changed: usize,
     pub fails: u32,
     pub bytes: usize,
@@ -28,8 +24,17 @@ pub struct Reading {
     pub segments: u64,
 }
 
+/// Reads of the whole text, and at its end.
+pub const WHOLE: Reading = Reading {
+    changed: 999,
+    fails: 0,
+    bytes: 60,
+    refused: None,
+    again: None,
+    segments: 3,
+};
+
 /// What is asked.
-#[derive(Clone, Copy)]
 pub enum Asked {
     /// That a text of so many bytes is sealed to a stream of so many, which begins with the prefix and the length of its
     /// header, and opens to the text.
@@ -39,24 +44,8 @@ pub enum Asked {
     Drops(usize, usize, usize),
     /// That the text is sealed to the prefix and Python's stream, of so many bytes together.
     SealsTo(&'static [u8], usize),
-    /// That reads give so much.
-    Reads(Reading),
-    /// That no key opens a stream.
-    OpensNothing(&'static [u8]),
-    /// That a read to no bytes chooses no key, and reads at the end of Python's stream give nothing.
-    ReadsToTheEnd,
-}
-
-fn under_no_key(stream: &'static [u8]) -> Reading {
-    Reading {
-        stream,
-        changed: stream.len(),
-        fails: 0,
-        bytes: 0,
-        refused: Some(Kind::NoMatchingKey),
-        again: Some(Kind::FailedBefore(Cause::NoMatchingKey)),
-        segments: 0,
-    }
+    /// That reads of a stream give so much.
+    Reads(&'static [u8], Reading),
 }
 
 // So many bytes, no two neighbours of which are the same.
@@ -82,10 +71,12 @@ fn sealed(
     alloc: Global,
     aeads: &WrappedStreamingAead,
     n: usize,
-    way: Way,
+    way: &Way,
 ) -> Result<Vec<u8>, TinkError> {
-    let text = text_of(alloc, n)?;
-    written(alloc, aeads, &text, way)
+    match text_of(alloc, n) {
+        Ok(text) => written(alloc, aeads, &text, way),
+        Err(e) => Err(e),
+    }
 }
 
 fn open_into(
@@ -94,7 +85,7 @@ fn open_into(
     stream: &[u8],
     text: &mut Vec<u8>,
 ) -> Result<Option<Kind>, TinkError> {
-    match reader_by(alloc, aeads, stream, 0) {
+    match reader_by(alloc, aeads, stream.to_vec(alloc), 0) {
         Ok(mut reader) => give_into(&mut reader, text),
         Err(e) => Err(e),
     }
@@ -109,8 +100,10 @@ fn opens(
     refused: Option<Kind>,
 ) -> Result<bool, TinkError> {
     let mut text = Vec::new(alloc);
-    let told = open_into(alloc, aeads, stream, &mut text)?;
-    Ok(told == refused && text.len() == n && is_text(&text))
+    match open_into(alloc, aeads, stream, &mut text) {
+        Ok(told) => Ok((told == refused) & (text.len() == n) & is_text(&text)),
+        Err(e) => Err(e),
+    }
 }
 
 fn seals(
@@ -120,10 +113,38 @@ fn seals(
     out: &[u8],
     header: u8,
 ) -> Result<bool, TinkError> {
-    let stream = sealed(alloc, aeads, n, Way::Pieces)?;
-    let begins = stream.starts_with(out) && stream.get(out.len()) == Some(&header);
-    let as_long = stream.len() == length;
-    Ok(opens(alloc, aeads, &stream, n, None)? && begins && as_long)
+    match sealed(alloc, aeads, n, &Way::Pieces) {
+        Ok(stream) => {
+            if stream.starts_with(out)
+                & (stream.get(out.len()) == Some(&header))
+                & (stream.len() == length)
+            {
+                opens(alloc, aeads, &stream, n, None)
+            } else {
+                Ok(false)
+            }
+        }
+        Err(e) => Err(e),
+    }
+}
+
+fn drops_from(
+    alloc: Global,
+    aeads: &WrappedStreamingAead,
+    whole: &[u8],
+    n: usize,
+    front: usize,
+) -> Result<bool, TinkError> {
+    match sealed(alloc, aeads, n, &Way::Dropped) {
+        Ok(dropped) => {
+            if whole.starts_with(&dropped) & (dropped.len() == front) {
+                opens(alloc, aeads, &dropped, 0, Some(Kind::NoMatchingKey))
+            } else {
+                Ok(false)
+            }
+        }
+        Err(e) => Err(e),
+    }
 }
 
 fn drops(
@@ -132,11 +153,11 @@ fn drops(
     n: usize,
     (front, length): (usize, usize),
 ) -> Result<bool, TinkError> {
-    let whole = sealed(alloc, aeads, n, Way::Pieces)?;
-    let dropped = sealed(alloc, aeads, n, Way::Dropped)?;
-    let is_front = whole.starts_with(&dropped) && dropped.len() == front;
-    let as_long = whole.len() == length;
-    Ok(opens(alloc, aeads, &dropped, 0, Some(Kind::NoMatchingKey))? && is_front && as_long)
+    match sealed(alloc, aeads, n, &Way::Pieces) {
+        Ok(whole) if whole.len() == length => drops_from(alloc, aeads, &whole, n, front),
+        Ok(_) => Ok(false),
+        Err(e) => Err(e),
+    }
 }
 
 // Whether reads up to the end give so many bytes of Python's text.
@@ -145,16 +166,12 @@ fn gives(
     reader: &mut DecryptReader<MemSource>,
     bytes: usize,
     refused: Option<Kind>,
-    segments: u64,
 ) -> Result<bool, TinkError> {
     let mut text = Vec::new(alloc);
-    let told = give_into(reader, &mut text)?;
-    Ok(
-        told == refused
-            && text.len() == bytes
-            && TEXT.starts_with(&text)
-            && reader.segments() == segments,
-    )
+    match give_into(reader, &mut text) {
+        Ok(told) => Ok((told == refused) & (text.len() == bytes) & TEXT.starts_with(&text)),
+        Err(e) => Err(e),
+    }
 }
 
 fn gives_twice(
@@ -162,38 +179,26 @@ fn gives_twice(
     reader: &mut DecryptReader<MemSource>,
     asked: &Reading,
 ) -> Result<bool, TinkError> {
-    let first = gives(alloc, reader, asked.bytes, asked.refused, asked.segments)?;
-    let again = gives(alloc, reader, 0, asked.again, asked.segments)?;
-    Ok(first && again)
+    let nothing = (reader.read(&mut []) == Ok(0)) & (reader.segments() == 0);
+    let first = gives(alloc, reader, asked.bytes, asked.refused)?;
+    let opened = reader.segments() == asked.segments;
+    let again = gives(alloc, reader, 0, asked.again)?;
+    Ok(nothing & first & opened & again & (reader.segments() == asked.segments))
 }
 
-fn reads(alloc: Global, aeads: &WrappedStreamingAead, asked: &Reading) -> Result<bool, TinkError> {
-    let mut stream = asked.stream.to_vec(alloc)?;
-    if let Some(byte) = stream.get_mut(asked.changed) {
-        *byte ^= 1;
-    }
-    match reader_by(alloc, aeads, &stream, asked.fails) {
-        Ok(mut reader) => gives_twice(alloc, &mut reader, asked),
-        Err(e) => Err(e),
-    }
-}
-
-fn gives_to_the_end(
-    alloc: Global,
-    reader: &mut DecryptReader<MemSource>,
-) -> Result<bool, TinkError> {
-    let nothing = reader.read(&mut []) == Ok(0) && reader.segments() == 0;
-    let whole = gives(alloc, reader, 60, None, 3)?;
-    Ok(nothing && whole && reader.read(&mut [0; 10]) == Ok(0))
-}
-
-fn reads_to_the_end(
+fn reads(
     alloc: Global,
     aeads: &WrappedStreamingAead,
     stream: &[u8],
+    asked: &Reading,
 ) -> Result<bool, TinkError> {
-    match reader_by(alloc, aeads, stream, 0) {
-        Ok(mut reader) => gives_to_the_end(alloc, &mut reader),
+    match reader_by(
+        alloc,
+        aeads,
+        flipped(alloc, stream, asked.changed),
+        asked.fails,
+    ) {
+        Ok(mut reader) => gives_twice(alloc, &mut reader, asked),
         Err(e) => Err(e),
     }
 }
@@ -204,31 +209,28 @@ fn seals_to(
     out: &[u8],
     length: usize,
 ) -> Result<bool, TinkError> {
-    let stream = written(alloc, aeads, TEXT, Way::Whole)?;
-    let is_python = stream.starts_with(out) && stream.ends_with(BY_GCM) && stream.len() == length;
-    Ok(reads_to_the_end(alloc, aeads, &stream)? && is_python)
-}
-
-fn answered(alloc: Global, aeads: &WrappedStreamingAead, asked: Asked) -> Result<bool, TinkError> {
-    match asked {
-        Asked::Seals(n, length, out, header) => seals(alloc, aeads, (n, length), out, header),
-        Asked::Drops(n, front, length) => drops(alloc, aeads, n, (front, length)),
-        Asked::SealsTo(out, length) => seals_to(alloc, aeads, out, length),
-        Asked::Reads(asked) => reads(alloc, aeads, &asked),
-        Asked::OpensNothing(stream) => reads(alloc, aeads, &under_no_key(stream)),
-        Asked::ReadsToTheEnd => reads_to_the_end(alloc, aeads, BY_GCM),
+    match written(alloc, aeads, TEXT, &Way::Whole) {
+        Ok(stream) => {
+            if stream.starts_with(out) & stream.ends_with(BY_GCM) & (stream.len() == length) {
+                reads(alloc, aeads, &stream, &WHOLE)
+            } else {
+                Ok(false)
+            }
+        }
+        Err(e) => Err(e),
     }
 }
 
 /// Whether the keys of a keyset do what is asked.
-pub fn holds(
+pub fn answered(
     alloc: Global,
-    registry: &Registry<Streams>,
-    keys: Keys,
-    asked: Asked,
+    aeads: &WrappedStreamingAead,
+    asked: &Asked,
 ) -> Result<bool, TinkError> {
-    match aeads_of(alloc, registry, keys) {
-        Ok(aeads) => answered(alloc, &aeads, asked),
-        Err(e) => Err(e),
+    match *asked {
+        Asked::Seals(n, length, out, header) => seals(alloc, aeads, (n, length), out, header),
+        Asked::Drops(n, front, length) => drops(alloc, aeads, n, (front, length)),
+        Asked::SealsTo(out, length) => seals_to(alloc, aeads, out, length),
+        Asked::Reads(stream, ref asked) => reads(alloc, aeads, stream, asked),
     }
 }

@@ -18,8 +18,8 @@ use tink_testutil::Told;
 /// What all rows tell.
 pub fn rows(alloc: Global) -> Told {
     let mut told = Told::new();
-    manager_tests::keys_build_and_are_made(alloc, &mut told);
-    template_tests::templates_and_managers_are_registered(alloc, &mut told);
-    tests::rows_hold(alloc, &mut told);
+    manager_tests::rows(alloc, &mut told);
+    template_tests::rows(alloc, &mut told);
+    tests::rows(alloc, &mut told);
     told
 }

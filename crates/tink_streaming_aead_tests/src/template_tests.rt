@@ -1,10 +1,10 @@
 //! The templates and managers of keys of streams.
 
-use crate::manager_tests::is_built;
+use crate::manager_tests::{is_built, new_key};
 use std::alloc::Global;
 use tink_core::registry::{KeyManager, Registry};
 use tink_io::{Draws, Kind, TinkError};
-use tink_proto::{Bytes, KeyTemplate};
+use tink_proto::{Bytes, KeyTemplate, Text};
 use tink_streaming_aead::{
     AES_CTR_HMAC_TYPE_URL, AES_GCM_HKDF_TYPE_URL, AesCtrHmacKeyManager, AesGcmHkdfKeyManager,
     StreamKinds, aes128_ctr_hmac_sha256_segment_1mb_key_template,
@@ -13,7 +13,7 @@ use tink_streaming_aead::{
     aes256_ctr_hmac_sha256_segment_4kb_key_template, aes256_gcm_hkdf_1mb_key_template,
     aes256_gcm_hkdf_4kb_key_template, init,
 };
-use tink_testutil::{Named, Told, draws_of, kind_of};
+use tink_testutil::{Answer, Ask, Named, Told, asked, draws_of, made};
 
 // A template.
 #[derive(Clone, Copy)]
@@ -41,62 +41,97 @@ fn template_of(alloc: Global, of: Of) -> Result<KeyTemplate, TinkError> {
     }
 }
 
+// A key of one draw fewer than there are, in counter mode or by AES-GCM, has this main key and these sizes.
+struct Builds(Of, bool, &'static [u8], &'static [usize; 6]);
+
+// A key is made of draws, which are left where it is not.
+struct Few(Of, bool);
+
 // What is asked.
-#[derive(Clone, Copy)]
 enum Asked {
-    // that a template is a RAW one of this URL and format, whose format was spelled by hand
+    // That a template is a RAW one of this URL and format, whose format was spelled by hand.
     Is(Of, &'static str, &'static [u8]),
-    // that a new key of sevens, in counter mode or by AES-GCM, of one draw fewer than there are, has this main key and
-    // these sizes
-    Builds(Of, bool, &'static [u8], &'static [usize; 6]),
-    // that a key is made of 15 draws, which are left where it is not
-    Few(Of, bool),
-    // that `init` adds all to an empty registry, and then nothing
-    AddsAll,
-    // that it adds nothing beside another manager of this URL
-    AddsNothing(&'static str),
+    // Of a new key of sevens.
+    Builds(Builds),
+    // Of 15 draws.
+    Few(Few),
 }
 
-fn is_template(alloc: Global, of: Of, url: &str, format: &[u8]) -> Result<bool, TinkError> {
-    let kt = template_of(alloc, of)?;
-    Ok(kt.type_url.as_str() == url && kt.value.as_slice() == format && kt.output_prefix_type == 3)
+fn is_template(
+    kt: Result<KeyTemplate, TinkError>,
+    url: &str,
+    format: &[u8],
+) -> Result<bool, TinkError> {
+    match kt {
+        Ok(kt) => Ok(
+            (kt.type_url.as_str() == url)
+                & (kt.value.as_slice() == format)
+                & (kt.output_prefix_type == 3),
+        ),
+        Err(e) => Err(e),
+    }
 }
 
 // A new key of a template.
-fn new_key(
+fn key_of(
     alloc: Global,
     of: Of,
     in_counter_mode: bool,
     draws: &mut Draws,
 ) -> Result<Bytes, TinkError> {
-    let kt = template_of(alloc, of)?;
-    if in_counter_mode {
-        AesCtrHmacKeyManager::new().new_key(alloc, kt.value.as_slice(), draws)
-    } else {
-        AesGcmHkdfKeyManager::new().new_key(alloc, kt.value.as_slice(), draws)
+    match template_of(alloc, of) {
+        Ok(kt) => new_key(alloc, in_counter_mode, kt.value.as_slice(), draws),
+        Err(e) => Err(e),
     }
 }
 
-fn builds(
-    alloc: Global,
-    of: Of,
-    in_counter_mode: bool,
-    main: &[u8],
-    sizes: &[usize; 6],
-) -> Result<bool, TinkError> {
-    let mut draws = draws_of(alloc, &[7; 33][..main.len().min(32) + 1])?;
-    let bytes = new_key(alloc, of, in_counter_mode, &mut draws)?;
-    let is_one_left = draws.left() == 1;
-    Ok(is_built(alloc, in_counter_mode, bytes.as_slice(), main, sizes)? && is_one_left)
+impl Ask<Draws> for Builds {
+    fn answer(&self, alloc: Global, draws: &mut Draws) -> Result<bool, TinkError> {
+        match key_of(alloc, self.0, self.1, draws) {
+            Ok(key) if draws.left() == 1 => {
+                is_built(alloc, self.1, key.as_slice(), self.2, self.3)
+            }
+            Ok(_) => Ok(false),
+            Err(e) => Err(e),
+        }
+    }
 }
 
-fn few(alloc: Global, of: Of, in_counter_mode: bool) -> Result<bool, TinkError> {
-    let mut draws = draws_of(alloc, &[7; 15])?;
-    match new_key(alloc, of, in_counter_mode, &mut draws) {
-        Ok(_) => Ok(true),
-        Err(e) if draws.left() == 15 => Err(e),
-        Err(_) => Ok(false),
+impl Ask<Draws> for Few {
+    fn answer(&self, alloc: Global, draws: &mut Draws) -> Result<bool, TinkError> {
+        let got = made(key_of(alloc, self.0, self.1, draws));
+        if got.is_ok() | (draws.left() == 15) {
+            got
+        } else {
+            Ok(false)
+        }
     }
+}
+
+impl Ask<()> for Asked {
+    fn answer(&self, alloc: Global, _of: &mut ()) -> Result<bool, TinkError> {
+        match *self {
+            Asked::Is(of, url, format) => is_template(template_of(alloc, of), url, format),
+            Asked::Builds(ref of) => {
+                let n = of.2.len().min(32) + 1;
+                asked(alloc, draws_of(alloc, &[7; 33][..n]), of)
+            }
+            Asked::Few(ref of) => asked(alloc, draws_of(alloc, &[7; 15]), of),
+        }
+    }
+}
+
+// What is asked of a registry.
+enum Step {
+    // That `init` adds all.
+    Init,
+    // That a manager of the URL is registered.
+    Manage(&'static str),
+    // Whether it has a manager of this URL.
+    Manages(&'static str, bool),
+    // That it has a template of this name, and that it has so many.
+    HasTemplate(&'static str),
+    HasTemplates(usize),
 }
 
 // Whether a registry has a manager of this URL.
@@ -107,71 +142,36 @@ fn has_manager(registry: &Registry<Named<StreamKinds>>, url: &str) -> bool {
     }
 }
 
-// How many templates a registry has.
-fn templates(alloc: Global, registry: &Registry<Named<StreamKinds>>) -> Result<usize, TinkError> {
-    Ok(registry.template_names(alloc)?.len())
-}
-
-// Whether a registry has both managers and templates of both kinds.
-fn has_all(registry: &Registry<Named<StreamKinds>>) -> bool {
-    has_manager(registry, AES_CTR_HMAC_TYPE_URL)
-        && has_manager(registry, AES_GCM_HKDF_TYPE_URL)
-        && registry
-            .get_template_generator("AES128_CTR_HMAC_SHA256_4KB")
-            .is_some()
-        && registry
-            .get_template_generator("AES256_GCM_HKDF_1MB")
-            .is_some()
-}
-
-// Whether an `init` of a registry that has a manager of streams adds nothing beside so many templates.
-fn adds_nothing(
-    alloc: Global,
-    registry: &mut Registry<Named<StreamKinds>>,
-    n: usize,
-) -> Result<bool, TinkError> {
-    let told = kind_of(init(alloc, registry));
-    Ok(templates(alloc, registry)? == n && told == Some(Kind::AlreadyRegistered))
-}
-
-fn adds_all(alloc: Global, registry: &mut Registry<Named<StreamKinds>>) -> Result<bool, TinkError> {
-    init(alloc, registry)?;
-    let is_all = has_all(registry) && templates(alloc, registry)? == 8;
-    Ok(adds_nothing(alloc, registry, 8)? && is_all)
-}
-
-fn adds_beside(
-    alloc: Global,
-    registry: &mut Registry<Named<StreamKinds>>,
-    url: &'static str,
-) -> Result<bool, TinkError> {
-    registry.register_key_manager(alloc, Named::new(url))?;
-    Ok(adds_nothing(alloc, registry, 0)? && !has_manager(registry, AES_CTR_HMAC_TYPE_URL))
-}
-
-fn adds(alloc: Global, other: Option<&'static str>) -> Result<bool, TinkError> {
-    let mut registry = Registry::new(alloc);
-    match other {
-        None => adds_all(alloc, &mut registry),
-        Some(url) => adds_beside(alloc, &mut registry, url),
+fn are(names: Result<Vec<Text>, TinkError>, n: usize) -> Result<bool, TinkError> {
+    match names {
+        Ok(names) => Ok(names.len() == n),
+        Err(e) => Err(e),
     }
 }
 
-fn answered(alloc: Global, asked: Asked) -> Result<bool, TinkError> {
-    match asked {
-        Asked::Is(of, url, format) => is_template(alloc, of, url, format),
-        Asked::Builds(of, is_ctr, main, sizes) => builds(alloc, of, is_ctr, main, sizes),
-        Asked::Few(of, is_ctr) => few(alloc, of, is_ctr),
-        Asked::AddsAll => adds(alloc, None),
-        Asked::AddsNothing(url) => adds(alloc, Some(url)),
+impl Ask<Registry<Named<StreamKinds>>> for Step {
+    fn answer(
+        &self,
+        alloc: Global,
+        registry: &mut Registry<Named<StreamKinds>>,
+    ) -> Result<bool, TinkError> {
+        match *self {
+            Step::Init => made(init(alloc, registry)),
+            Step::Manage(url) => made(registry.register_key_manager(alloc, Named::new(url))),
+            Step::Manages(url, wanted) => Ok(has_manager(registry, url) == wanted),
+            Step::HasTemplate(name) => Ok(registry.get_template_generator(name).is_some()),
+            Step::HasTemplates(n) => are(registry.template_names(alloc), n),
+        }
     }
 }
+
+const THERE: Answer = Err(Kind::AlreadyRegistered);
 
 const CTR: &str = AES_CTR_HMAC_TYPE_URL;
 
 const GCM: &str = AES_GCM_HKDF_TYPE_URL;
 
-const ROWS: &[(&str, Asked, Result<bool, Kind>)] = &[
+const ROWS: &[(&str, Asked, Answer)] = &[
     (
         "ctr 128, 4kb",
         Asked::Is(
@@ -246,44 +246,83 @@ const ROWS: &[(&str, Asked, Result<bool, Kind>)] = &[
     ),
     (
         "a new key, ctr",
-        Asked::Builds(
+        Asked::Builds(Builds(
             Of::Ctr256In4Kb,
             true,
             &[7; 32],
             &[40, 4096, 4056, 32, 32, 16],
-        ),
+        )),
         Ok(true),
     ),
     (
         "a new key, gcm",
-        Asked::Builds(
+        Asked::Builds(Builds(
             Of::Gcm128In1Mb,
             false,
             &[7; 16],
             &[24, 1_048_576, 1_048_552, 16, 16, 12],
-        ),
+        )),
         Ok(true),
     ),
     (
         "15 draws, ctr",
-        Asked::Few(Of::Ctr128In4Kb, true),
+        Asked::Few(Few(Of::Ctr128In4Kb, true)),
         Err(Kind::RandomFault),
     ),
     (
         "15 draws, gcm",
-        Asked::Few(Of::Gcm128In4Kb, false),
+        Asked::Few(Few(Of::Gcm128In4Kb, false)),
         Err(Kind::RandomFault),
     ),
-    ("all is registered", Asked::AddsAll, Ok(true)),
+];
+
+// The steps of a new registry.
+const ALL: &[(&str, Step, Answer)] = &[
+    ("all is registered", Step::Init, Ok(true)),
+    ("all is registered", Step::Manages(CTR, true), Ok(true)),
+    ("all is registered", Step::Manages(GCM, true), Ok(true)),
+    (
+        "all is registered",
+        Step::HasTemplate("AES128_CTR_HMAC_SHA256_4KB"),
+        Ok(true),
+    ),
+    (
+        "all is registered",
+        Step::HasTemplate("AES256_GCM_HKDF_1MB"),
+        Ok(true),
+    ),
+    ("all is registered", Step::HasTemplates(8), Ok(true)),
+    // And then nothing.
+    ("all is registered", Step::Init, THERE),
+    ("all is registered", Step::HasTemplates(8), Ok(true)),
+];
+
+// Those of another one.
+const BESIDE: &[(&str, Step, Answer)] = &[
     (
         "nothing is registered beside another manager",
-        Asked::AddsNothing(GCM),
+        Step::Manage(GCM),
+        Ok(true),
+    ),
+    (
+        "nothing is registered beside another manager",
+        Step::Init,
+        THERE,
+    ),
+    (
+        "nothing is registered beside another manager",
+        Step::HasTemplates(0),
+        Ok(true),
+    ),
+    (
+        "nothing is registered beside another manager",
+        Step::Manages(CTR, false),
         Ok(true),
     ),
 ];
 
-pub fn templates_and_managers_are_registered(alloc: Global, told: &mut Told) {
-    for (row, asked, want) in ROWS {
-        told.expect(answered(alloc, *asked), *want, row);
-    }
+pub fn rows(alloc: Global, told: &mut Told) {
+    told.walk(alloc, (), ROWS);
+    told.walk(alloc, Registry::new(alloc), ALL);
+    told.walk(alloc, Registry::new(alloc), BESIDE);
 }

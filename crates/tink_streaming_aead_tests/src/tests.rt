@@ -1,132 +1,344 @@
 //! The rows.
 
-use crate::asked::{Asked, BY_GCM, Reading, holds};
-use crate::keysets::Keys;
+use crate::asked::{Asked, BY_GCM, Reading, WHOLE, answered};
+use crate::keysets::{Keys, LEGACY, RAW, TINK, aeads_of};
 use crate::one_of::Streams;
 use std::alloc::Global;
 use tink_core::registry::Registry;
 use tink_io::{Cause, Kind, TinkError};
 use tink_proto::OutputPrefixType;
 use tink_streaming_aead::init;
-use tink_testutil::Told;
-
-// A template's name, how many bytes the stream of 60 bytes of text has without a prefix, which are those of the header,
-// the text and a tag, and the length of the header, with which it begins.
-const STREAMS: &[(&str, usize, u8)] = &[
-    ("AES128_CTR_HMAC_SHA256_4KB", 116, 24),
-    ("AES128_CTR_HMAC_SHA256_1MB", 116, 24),
-    ("AES256_CTR_HMAC_SHA256_4KB", 132, 40),
-    ("AES256_CTR_HMAC_SHA256_1MB", 132, 40),
-    ("AES128_GCM_HKDF_4KB", 100, 24),
-    ("AES128_GCM_HKDF_1MB", 100, 24),
-    ("AES256_GCM_HKDF_4KB", 116, 40),
-    ("AES256_GCM_HKDF_1MB", 116, 40),
-];
-
-// The prefix of each type, where the id is drawn as sevens.
-const PREFIXES: &[(OutputPrefixType, &[u8])] = &[
-    (OutputPrefixType::Tink, b"\x01\x07\x07\x07\x07"),
-    (OutputPrefixType::Legacy, b"\0\x07\x07\x07\x07"),
-    (OutputPrefixType::Crunchy, b"\0\x07\x07\x07\x07"),
-    (OutputPrefixType::Raw, b""),
-];
+use tink_testutil::{Answer, Ask, Told};
 
 const GCM: Keys = Keys::Named("AES128_GCM_HKDF_4KB", OutputPrefixType::Raw);
 
 const CTR: Keys = Keys::Named("AES128_CTR_HMAC_SHA256_4KB", OutputPrefixType::Raw);
 
-const RAW: Keys = Keys::Three(OutputPrefixType::Raw);
+// What is asked of the keys of a keyset.
+struct Of(Keys, Asked);
 
-const TINK: Keys = Keys::Three(OutputPrefixType::Tink);
+impl Ask<Registry<Streams>> for Of {
+    fn answer(&self, alloc: Global, registry: &mut Registry<Streams>) -> Result<bool, TinkError> {
+        match aeads_of(alloc, registry, &self.0) {
+            Ok(aeads) => answered(alloc, &aeads, &self.1),
+            Err(e) => Err(e),
+        }
+    }
+}
 
-const LEGACY: Keys = Keys::Three(OutputPrefixType::Legacy);
+// That no key opens a stream.
+macro_rules! opens_nothing {
+    ($stream:expr) => {
+        Asked::Reads(
+            $stream,
+            Reading {
+                changed: 999,
+                fails: 0,
+                bytes: 0,
+                refused: Some(Kind::NoMatchingKey),
+                again: Some(Kind::FailedBefore(Cause::NoMatchingKey)),
+                segments: 0,
+            },
+        )
+    };
+}
 
-const ROWS: &[(&str, Keys, Asked)] = &[
+// That a new key of a template, with a prefix of this type, seals 60 bytes of text to so many, which begin with the prefix
+// and the length of the header.
+macro_rules! new_key {
+    ($name:literal, $prefix:ident, $length:literal, $out:literal, $header:literal) => {
+        (
+            $name,
+            Of(
+                Keys::Named($name, OutputPrefixType::$prefix),
+                Asked::Seals(60, $length, $out, $header),
+            ),
+            Ok(true),
+        )
+    };
+}
+
+const ROWS: &[(&str, Of, Answer)] = &[
     // 8,205 bytes of text in three segments: 4,056, 4,080 and 69.
     (
         "a handle seals in pieces of ten",
-        GCM,
-        Asked::Seals(8205, 8277, b"", 24),
+        Of(GCM, Asked::Seals(8205, 8277, b"", 24)),
+        Ok(true),
     ),
     // Of 4,041 bytes of text 4,040 are in the first segment, which is not marked.
     (
         "a dropped writer leaves no marked segment",
-        CTR,
-        Asked::Drops(4041, 4096, 4129),
+        Of(CTR, Asked::Drops(4041, 4096, 4129)),
+        Ok(true),
     ),
-    ("the first key that agrees opens", RAW, Asked::ReadsToTheEnd),
-    ("a stream without a prefix", RAW, Asked::SealsTo(b"", 132)),
+    (
+        "the first key that agrees opens",
+        Of(RAW, Asked::Reads(BY_GCM, WHOLE)),
+        Ok(true),
+    ),
+    (
+        "a stream without a prefix",
+        Of(RAW, Asked::SealsTo(b"", 132)),
+        Ok(true),
+    ),
     (
         "a TINK stream",
-        TINK,
-        Asked::SealsTo(b"\x01\0\0\0\x03", 137),
+        Of(TINK, Asked::SealsTo(b"\x01\0\0\0\x03", 137)),
+        Ok(true),
     ),
     (
         "a LEGACY stream",
-        LEGACY,
-        Asked::SealsTo(b"\0\0\0\0\x03", 137),
+        Of(LEGACY, Asked::SealsTo(b"\0\0\0\0\x03", 137)),
+        Ok(true),
     ),
     (
         "a whole stream",
-        RAW,
-        Asked::Reads(Reading {
-            stream: BY_GCM,
-            changed: 999,
-            fails: 0,
-            bytes: 60,
-            refused: None,
-            again: None,
-            segments: 3,
-        }),
+        Of(RAW, Asked::Reads(BY_GCM, WHOLE)),
+        Ok(true),
     ),
     (
         "a TINK stream without its prefix",
-        TINK,
-        Asked::OpensNothing(BY_GCM),
+        Of(TINK, opens_nothing!(BY_GCM)),
+        Ok(true),
     ),
     (
         "a LEGACY stream without its prefix",
-        LEGACY,
-        Asked::OpensNothing(BY_GCM),
+        Of(LEGACY, opens_nothing!(BY_GCM)),
+        Ok(true),
     ),
-    ("no stream", RAW, Asked::OpensNothing(b"")),
-    ("a header alone", RAW, Asked::OpensNothing(HEADER)),
-    ("another salt", RAW, Asked::OpensNothing(&[24; 100])),
+    ("no stream", Of(RAW, opens_nothing!(b"")), Ok(true)),
+    ("a header alone", Of(RAW, opens_nothing!(HEADER)), Ok(true)),
+    (
+        "another salt",
+        Of(RAW, opens_nothing!(&[24; 100])),
+        Ok(true),
+    ),
     (
         "no length of a header",
-        RAW,
-        Asked::OpensNothing(&[25; 100]),
+        Of(RAW, opens_nothing!(&[25; 100])),
+        Ok(true),
     ),
     (
         "a source that fails in the choice is no want of a key",
-        RAW,
-        Asked::Reads(Reading {
-            stream: BY_GCM,
-            changed: 999,
-            fails: 2,
-            bytes: 0,
-            refused: Some(Kind::ReadFault),
-            again: Some(Kind::FailedBefore(Cause::ReadFault)),
-            segments: 0,
-        }),
+        Of(
+            RAW,
+            Asked::Reads(
+                BY_GCM,
+                Reading {
+                    changed: 999,
+                    fails: 2,
+                    bytes: 0,
+                    refused: Some(Kind::ReadFault),
+                    again: Some(Kind::FailedBefore(Cause::ReadFault)),
+                    segments: 0,
+                },
+            ),
+        ),
+        Ok(true),
     ),
     (
         "a damaged segment goes to no other key",
-        RAW,
-        Asked::Reads(Reading {
-            stream: BY_GCM,
-            changed: 60,
-            fails: 0,
-            bytes: 10,
-            refused: Some(Kind::BadSegment(1)),
-            again: Some(Kind::FailedBefore(Cause::BadSegment(1))),
-            segments: 1,
-        }),
+        Of(
+            RAW,
+            Asked::Reads(
+                BY_GCM,
+                Reading {
+                    changed: 60,
+                    fails: 0,
+                    bytes: 10,
+                    refused: Some(Kind::BadSegment(1)),
+                    again: Some(Kind::FailedBefore(Cause::BadSegment(1))),
+                    segments: 1,
+                },
+            ),
+        ),
+        Ok(true),
     ),
 ];
 
 const HEADER: &[u8; 24] =
     b"\x18\x40\x41\x42\x43\x44\x45\x46\x47\x48\x49\x4a\x4b\x4c\x4d\x4e\x4f\x50\x51\x52\x53\x54\x55\x56";
+
+// Each template with a prefix of each type, where the id is drawn as sevens, of 60 bytes of text. The stream has the
+// prefix, the header, the text and a tag. Its header begins with its own length.
+const NEW_KEYS: &[(&str, Of, Answer)] = &[
+    new_key!(
+        "AES128_CTR_HMAC_SHA256_4KB",
+        Tink,
+        121,
+        b"\x01\x07\x07\x07\x07",
+        24
+    ),
+    new_key!(
+        "AES128_CTR_HMAC_SHA256_4KB",
+        Legacy,
+        121,
+        b"\0\x07\x07\x07\x07",
+        24
+    ),
+    new_key!(
+        "AES128_CTR_HMAC_SHA256_4KB",
+        Crunchy,
+        121,
+        b"\0\x07\x07\x07\x07",
+        24
+    ),
+    new_key!("AES128_CTR_HMAC_SHA256_4KB", Raw, 116, b"", 24),
+    new_key!(
+        "AES128_CTR_HMAC_SHA256_1MB",
+        Tink,
+        121,
+        b"\x01\x07\x07\x07\x07",
+        24
+    ),
+    new_key!(
+        "AES128_CTR_HMAC_SHA256_1MB",
+        Legacy,
+        121,
+        b"\0\x07\x07\x07\x07",
+        24
+    ),
+    new_key!(
+        "AES128_CTR_HMAC_SHA256_1MB",
+        Crunchy,
+        121,
+        b"\0\x07\x07\x07\x07",
+        24
+    ),
+    new_key!("AES128_CTR_HMAC_SHA256_1MB", Raw, 116, b"", 24),
+    new_key!(
+        "AES256_CTR_HMAC_SHA256_4KB",
+        Tink,
+        137,
+        b"\x01\x07\x07\x07\x07",
+        40
+    ),
+    new_key!(
+        "AES256_CTR_HMAC_SHA256_4KB",
+        Legacy,
+        137,
+        b"\0\x07\x07\x07\x07",
+        40
+    ),
+    new_key!(
+        "AES256_CTR_HMAC_SHA256_4KB",
+        Crunchy,
+        137,
+        b"\0\x07\x07\x07\x07",
+        40
+    ),
+    new_key!("AES256_CTR_HMAC_SHA256_4KB", Raw, 132, b"", 40),
+    new_key!(
+        "AES256_CTR_HMAC_SHA256_1MB",
+        Tink,
+        137,
+        b"\x01\x07\x07\x07\x07",
+        40
+    ),
+    new_key!(
+        "AES256_CTR_HMAC_SHA256_1MB",
+        Legacy,
+        137,
+        b"\0\x07\x07\x07\x07",
+        40
+    ),
+    new_key!(
+        "AES256_CTR_HMAC_SHA256_1MB",
+        Crunchy,
+        137,
+        b"\0\x07\x07\x07\x07",
+        40
+    ),
+    new_key!("AES256_CTR_HMAC_SHA256_1MB", Raw, 132, b"", 40),
+    new_key!(
+        "AES128_GCM_HKDF_4KB",
+        Tink,
+        105,
+        b"\x01\x07\x07\x07\x07",
+        24
+    ),
+    new_key!(
+        "AES128_GCM_HKDF_4KB",
+        Legacy,
+        105,
+        b"\0\x07\x07\x07\x07",
+        24
+    ),
+    new_key!(
+        "AES128_GCM_HKDF_4KB",
+        Crunchy,
+        105,
+        b"\0\x07\x07\x07\x07",
+        24
+    ),
+    new_key!("AES128_GCM_HKDF_4KB", Raw, 100, b"", 24),
+    new_key!(
+        "AES128_GCM_HKDF_1MB",
+        Tink,
+        105,
+        b"\x01\x07\x07\x07\x07",
+        24
+    ),
+    new_key!(
+        "AES128_GCM_HKDF_1MB",
+        Legacy,
+        105,
+        b"\0\x07\x07\x07\x07",
+        24
+    ),
+    new_key!(
+        "AES128_GCM_HKDF_1MB",
+        Crunchy,
+        105,
+        b"\0\x07\x07\x07\x07",
+        24
+    ),
+    new_key!("AES128_GCM_HKDF_1MB", Raw, 100, b"", 24),
+    new_key!(
+        "AES256_GCM_HKDF_4KB",
+        Tink,
+        121,
+        b"\x01\x07\x07\x07\x07",
+        40
+    ),
+    new_key!(
+        "AES256_GCM_HKDF_4KB",
+        Legacy,
+        121,
+        b"\0\x07\x07\x07\x07",
+        40
+    ),
+    new_key!(
+        "AES256_GCM_HKDF_4KB",
+        Crunchy,
+        121,
+        b"\0\x07\x07\x07\x07",
+        40
+    ),
+    new_key!("AES256_GCM_HKDF_4KB", Raw, 116, b"", 40),
+    new_key!(
+        "AES256_GCM_HKDF_1MB",
+        Tink,
+        121,
+        b"\x01\x07\x07\x07\x07",
+        40
+    ),
+    new_key!(
+        "AES256_GCM_HKDF_1MB",
+        Legacy,
+        121,
+        b"\0\x07\x07\x07\x07",
+        40
+    ),
+    new_key!(
+        "AES256_GCM_HKDF_1MB",
+        Crunchy,
+        121,
+        b"\0\x07\x07\x07\x07",
+        40
+    ),
+    new_key!("AES256_GCM_HKDF_1MB", Raw, 116, b"", 40),
+];
 
 // The registry of both managers and their templates.
 fn registry(alloc: Global) -> Result<Registry<Streams>, TinkError> {
@@ -135,29 +347,11 @@ fn registry(alloc: Global) -> Result<Registry<Streams>, TinkError> {
     Ok(registry)
 }
 
-fn try_templates(told: &mut Told, alloc: Global, registry: &Registry<Streams>) {
-    for (name, length, header) in STREAMS {
-        for (prefix, out) in PREFIXES {
-            let asked = Asked::Seals(60, length.saturating_add(out.len()), *out, *header);
-            told.expect(
-                holds(alloc, registry, Keys::Named(*name, *prefix), asked),
-                Ok(true),
-                name,
-            );
-        }
-    }
+fn new_keys(alloc: Global, told: &mut Told) {
+    told.walk_made(alloc, registry(alloc), "the registry", NEW_KEYS);
 }
 
-fn try_rows(told: &mut Told, alloc: Global, registry: &Registry<Streams>) {
-    for (row, keys, asked) in ROWS {
-        told.expect(holds(alloc, registry, *keys, *asked), Ok(true), row);
-    }
-    try_templates(told, alloc, registry);
-}
-
-pub fn rows_hold(alloc: Global, told: &mut Told) {
-    match registry(alloc) {
-        Ok(registry) => try_rows(told, alloc, &registry),
-        Err(e) => told.expect(Err(e), Ok(true), "the registry"),
-    }
+pub fn rows(alloc: Global, told: &mut Told) {
+    told.walk_made(alloc, registry(alloc), "the registry", ROWS);
+    new_keys(alloc, told);
 }

@@ -9,9 +9,11 @@ pub use named::Named;
 pub use rows::{Answer, Failure, Told, answer_of, handle, made};
 pub use test_aead::{TestAead, TestKinds};
 pub use test_manager::TestManager;
+pub use walk::{Ask, asked};
 
 mod keys;
 mod named;
 mod rows;
 mod test_aead;
 mod test_manager;
+mod walk;

@@ -13,7 +13,7 @@ use tink_mac::{
     law_macs_outlive_commands, law_old_macs_verify, law_own_tags_accepted, new,
 };
 use tink_proto::Bytes;
-use tink_testutil::{Answer, Told, draws_of, gives, handle, made, registry_of};
+use tink_testutil::{Answer, Ask, Told, draws_of, gives, handle, made, registry_of};
 
 // The MAC of a message by the primary key.
 fn mac_of<P: Mac>(alloc: Global, mac: &WrappedMac<P>, message: &[u8]) -> Result<Bytes, TinkError>
@@ -60,7 +60,7 @@ enum Keys {
 }
 
 fn handle_by(alloc: Global, registry: &Macs, keys: &Keys) -> Result<Handle, TinkError> {
-    match keys {
+    match *keys {
         Keys::One(keyset) => handle(alloc, keyset),
         Keys::New => handle_of_draws(alloc, registry),
         Keys::Rotated => match handle_of_draws(alloc, registry) {
@@ -81,7 +81,7 @@ enum Asked {
 }
 
 fn answer_by(alloc: Global, macs: &WrappedMac<MacKind>, asked: &Asked) -> Result<bool, TinkError> {
-    match asked {
+    match *asked {
         Asked::Make(mac) => gives(mac_of(alloc, macs, b"abc"), mac),
         Asked::Accept(mac) => made(macs.verify_mac(alloc, mac, b"abc")),
         Asked::Copy(mac) => match macs.try_clone(alloc) {
@@ -102,10 +102,15 @@ fn macs_by(
     }
 }
 
-fn answer(alloc: Global, registry: &Macs, keys: &Keys, asked: &Asked) -> Result<bool, TinkError> {
-    match macs_by(alloc, registry, handle_by(alloc, registry, keys)) {
-        Ok(macs) => answer_by(alloc, &macs, asked),
-        Err(e) => Err(e),
+// What is asked of the MACs of a keyset.
+struct Of(Keys, Asked);
+
+impl Ask<Macs> for Of {
+    fn answer(&self, alloc: Global, registry: &mut Macs) -> Result<bool, TinkError> {
+        match macs_by(alloc, registry, handle_by(alloc, registry, &self.0)) {
+            Ok(macs) => answer_by(alloc, &macs, &self.1),
+            Err(e) => Err(e),
+        }
     }
 }
 
@@ -141,104 +146,100 @@ const OLD_MAC: &[u8] =
 const NEWER_MAC: &[u8] =
     b"\x01\x04\x04\x04\x04\xc2\xc0\xd5\xe5\xa4\x7d\xce\x4f\x85\x2f\x22\xa0\x5e\x7c\xac\xc0";
 
-const ROWS: &[(&str, Keys, Asked, Answer)] = &[
+const ROWS: &[(&str, Of, Answer)] = &[
     (
         "a LEGACY key's MAC",
-        LEGACY,
-        Asked::Make(LEGACY_MAC),
+        Of(LEGACY, Asked::Make(LEGACY_MAC)),
         Ok(true),
     ),
     (
         "a CRUNCHY key's MAC",
-        CRUNCHY,
-        Asked::Make(CRUNCHY_MAC),
+        Of(CRUNCHY, Asked::Make(CRUNCHY_MAC)),
         Ok(true),
     ),
-    ("a RAW key's MAC", RAW, Asked::Make(RAW_MAC), Ok(true)),
-    ("LEGACY", LEGACY, Asked::Accept(LEGACY_MAC), Ok(true)),
+    ("a RAW key's MAC", Of(RAW, Asked::Make(RAW_MAC)), Ok(true)),
+    ("LEGACY", Of(LEGACY, Asked::Accept(LEGACY_MAC)), Ok(true)),
     (
         "LEGACY on CRUNCHY",
-        LEGACY,
-        Asked::Accept(CRUNCHY_MAC),
+        Of(LEGACY, Asked::Accept(CRUNCHY_MAC)),
         MISMATCH,
     ),
-    ("CRUNCHY", CRUNCHY, Asked::Accept(CRUNCHY_MAC), Ok(true)),
+    ("CRUNCHY", Of(CRUNCHY, Asked::Accept(CRUNCHY_MAC)), Ok(true)),
     (
         "CRUNCHY on LEGACY",
-        CRUNCHY,
-        Asked::Accept(LEGACY_MAC),
+        Of(CRUNCHY, Asked::Accept(LEGACY_MAC)),
         MISMATCH,
     ),
-    ("RAW", RAW, Asked::Accept(RAW_MAC), Ok(true)),
-    ("a MAC cut to nothing", RAW, Asked::Accept(b""), MISMATCH),
-    ("a MAC cut to 1 byte", RAW, Asked::Accept(b"\x9c"), MISMATCH),
+    ("RAW", Of(RAW, Asked::Accept(RAW_MAC)), Ok(true)),
+    (
+        "a MAC cut to nothing",
+        Of(RAW, Asked::Accept(b"")),
+        MISMATCH,
+    ),
+    (
+        "a MAC cut to 1 byte",
+        Of(RAW, Asked::Accept(b"\x9c")),
+        MISMATCH,
+    ),
     (
         "a MAC cut to 2 bytes",
-        RAW,
-        Asked::Accept(b"\x9c\xfa"),
+        Of(RAW, Asked::Accept(b"\x9c\xfa")),
         MISMATCH,
     ),
     (
         "a MAC cut to 3 bytes",
-        RAW,
-        Asked::Accept(b"\x9c\xfa\x63"),
+        Of(RAW, Asked::Accept(b"\x9c\xfa\x63")),
         MISMATCH,
     ),
     (
         "a MAC cut to 4 bytes",
-        RAW,
-        Asked::Accept(b"\x9c\xfa\x63\xef"),
+        Of(RAW, Asked::Accept(b"\x9c\xfa\x63\xef")),
         MISMATCH,
     ),
     (
         "a MAC cut to 5 bytes",
-        RAW,
-        Asked::Accept(b"\x9c\xfa\x63\xef\x90"),
+        Of(RAW, Asked::Accept(b"\x9c\xfa\x63\xef\x90")),
         MISMATCH,
     ),
-    ("a copy", LEGACY, Asked::Copy(LEGACY_MAC), Ok(true)),
+    ("a copy", Of(LEGACY, Asked::Copy(LEGACY_MAC)), Ok(true)),
     // A MAC verifies after a rotation.
-    ("a new key's MAC", Keys::New, Asked::Make(OLD_MAC), Ok(true)),
+    (
+        "a new key's MAC",
+        Of(Keys::New, Asked::Make(OLD_MAC)),
+        Ok(true),
+    ),
     (
         "the old MAC after a rotation",
-        Keys::Rotated,
-        Asked::Accept(OLD_MAC),
+        Of(Keys::Rotated, Asked::Accept(OLD_MAC)),
         Ok(true),
     ),
     (
         "another new MAC",
-        Keys::Rotated,
-        Asked::Make(NEWER_MAC),
+        Of(Keys::Rotated, Asked::Make(NEWER_MAC)),
         Ok(true),
     ),
     (
         "which is accepted",
-        Keys::Rotated,
-        Asked::Accept(NEWER_MAC),
+        Of(Keys::Rotated, Asked::Accept(NEWER_MAC)),
         Ok(true),
     ),
     (
         "and not before",
-        Keys::New,
-        Asked::Accept(NEWER_MAC),
+        Of(Keys::New, Asked::Accept(NEWER_MAC)),
         MISMATCH,
     ),
 ];
 
 /// Each row, and that the laws hold of these types.
-pub fn a_key_makes_its_mac_and_accepts_its_own_alone(alloc: Global, told: &mut Told) {
+pub fn rows(alloc: Global, told: &mut Told) {
     law_old_macs_verify::<HmacKeyManager, MacKind>();
     law_own_tags_accepted();
     law_built_macs_are_sound();
     law_macs_outlive_commands::<HmacKeyManager, MacKind>();
-    match registry_of(alloc, HmacKeyManager::new()) {
-        Ok(registry) => walk(told, alloc, &registry),
-        Err(e) => told.expect(Err(e), Ok(true), "the registry"),
-    }
-}
-
-fn walk(told: &mut Told, alloc: Global, registry: &Macs) {
-    for (row, keys, asked, want) in ROWS {
-        told.expect(answer(alloc, registry, keys, asked), *want, row);
-    }
+    told.walk_made(
+        alloc,
+        registry_of(alloc, HmacKeyManager::new()),
+        "the registry",
+        ROWS,
+    );
 }

@@ -14,7 +14,7 @@ use tink_key_types::SymmetricKeyManager;
 use tink_prf::subtle::HmacPrf;
 use tink_prf::{HmacPrfKeyManager, PrfKind, Set, hmac_sha256_prf_key_template};
 use tink_proto::Bytes;
-use tink_testutil::{Answer, Told, draws_of, gives, handle, registry_of};
+use tink_testutil::{Answer, Ask, Told, draws_of, gives, handle, registry_of};
 
 fn set_of(alloc: Global, keyset: &[u8]) -> Result<Set<HmacPrf>, TinkError> {
     match handle(alloc, keyset) {
@@ -37,12 +37,19 @@ fn new_handle(alloc: Global, registry: &Registry<HmacPrfKeyManager>) -> Result<H
 }
 
 // The set of its keyset.
-fn new_set(
+fn new_set_by(
     alloc: Global,
     registry: &Registry<HmacPrfKeyManager>,
 ) -> Result<Set<PrfKind>, TinkError> {
     match new_handle(alloc, registry) {
         Ok(h) => Set::new(alloc, &h, registry),
+        Err(e) => Err(e),
+    }
+}
+
+fn new_set(alloc: Global) -> Result<Set<PrfKind>, TinkError> {
+    match registry_of(alloc, HmacPrfKeyManager::new()) {
+        Ok(registry) => new_set_by(alloc, &registry),
         Err(e) => Err(e),
     }
 }
@@ -93,26 +100,28 @@ fn answered<P: Prf + Drop>(
     asked: &Asked,
 ) -> Result<bool, TinkError> {
     match set {
-        Ok(set) => match asked {
-            Asked::Has(n, id) => Ok(set.prfs.len() == *n && set.primary_id == *id),
-            Asked::Of(id, want) => gives(output_of(alloc, &set, *id), want),
-            Asked::Primary(length, want) => gives(primary_of(alloc, &set, b"abc", *length), want),
+        Ok(set) => match *asked {
+            Asked::Has(n, id) => Ok((set.prfs.len() == n) & (set.primary_id == id)),
+            Asked::Of(id, want) => gives(output_of(alloc, &set, id), want),
+            Asked::Primary(length, want) => gives(primary_of(alloc, &set, b"abc", length), want),
         },
         Err(e) => Err(e),
     }
 }
 
-fn answered_by(alloc: Global, keys: &Keys, asked: &Asked) -> Result<bool, TinkError> {
-    match keys {
-        Keys::Test(keyset) => answered(alloc, set_of(alloc, keyset), asked),
-        Keys::New => match registry_of(alloc, HmacPrfKeyManager::new()) {
-            Ok(registry) => answered(alloc, new_set(alloc, &registry), asked),
-            Err(e) => Err(e),
-        },
-        Keys::Nothing => {
-            let prfs: BTreeMap<u32, HmacPrf> = BTreeMap::new(alloc);
-            let primary_id = 7;
-            answered(alloc, Ok(Set { primary_id, prfs }), asked)
+// What is asked of the set of a keyset.
+struct Of(Keys, Asked);
+
+impl Ask<()> for Of {
+    fn answer(&self, alloc: Global, _of: &mut ()) -> Result<bool, TinkError> {
+        match self.0 {
+            Keys::Test(keyset) => answered(alloc, set_of(alloc, keyset), &self.1),
+            Keys::New => answered(alloc, new_set(alloc), &self.1),
+            Keys::Nothing => {
+                let prfs: BTreeMap<u32, HmacPrf> = BTreeMap::new(alloc);
+                let primary_id = 7;
+                answered(alloc, Ok(Set { primary_id, prfs }), &self.1)
+            }
         }
     }
 }
@@ -123,131 +132,154 @@ const THREE: Keys = Keys::Test(
 
 // Keysets, and whether they have a set, whose outputs are by Python's HMAC. A keyset of public keys may lack a primary
 // one.
-const ROWS: &[(&str, Keys, Asked, Answer)] = &[
+const ROWS: &[(&str, Of, Answer)] = &[
     (
         "a RAW primary key",
-        Keys::Test(
-            b"\x08\x07\x12\x1e\x0a\x16\x0a\x0dtype.test/key\x12\x03\x12\x01k\x18\x01\x10\x01\x18\x07\x20\x03",
+        Of(
+            Keys::Test(
+                b"\x08\x07\x12\x1e\x0a\x16\x0a\x0dtype.test/key\x12\x03\x12\x01k\x18\x01\x10\x01\x18\x07\x20\x03",
+            ),
+            Asked::Has(1, 7),
         ),
-        Asked::Has(1, 7),
         Ok(true),
     ),
     (
         "a primary key of no bytes",
-        Keys::Test(
-            b"\x08\x07\x12\x19\x0a\x11\x0a\x0dtype.test/key\x18\x01\x10\x01\x18\x07\x20\x01",
+        Of(
+            Keys::Test(
+                b"\x08\x07\x12\x19\x0a\x11\x0a\x0dtype.test/key\x18\x01\x10\x01\x18\x07\x20\x01",
+            ),
+            Asked::Has(1, 7),
         ),
-        Asked::Has(1, 7),
         Err(Kind::InvalidKey),
     ),
     (
         "a primary verifier",
-        Keys::Test(
-            b"\x08\x07\x12\x1e\x0a\x16\x0a\x0dtype.test/key\x12\x03\x12\x01\x00\x18\x01\x10\x01\x18\x07\x20\x01",
+        Of(
+            Keys::Test(
+                b"\x08\x07\x12\x1e\x0a\x16\x0a\x0dtype.test/key\x12\x03\x12\x01\x00\x18\x01\x10\x01\x18\x07\x20\x01",
+            ),
+            Asked::Has(1, 7),
         ),
-        Asked::Has(1, 7),
         Err(Kind::WrongPrimitive),
     ),
     (
         "a TINK primary key",
-        Keys::Test(
-            b"\x08\x07\x12\x1e\x0a\x16\x0a\x0dtype.test/key\x12\x03\x12\x01k\x18\x01\x10\x01\x18\x07\x20\x01",
+        Of(
+            Keys::Test(
+                b"\x08\x07\x12\x1e\x0a\x16\x0a\x0dtype.test/key\x12\x03\x12\x01k\x18\x01\x10\x01\x18\x07\x20\x01",
+            ),
+            Asked::Has(1, 7),
         ),
-        Asked::Has(1, 7),
         Err(Kind::NotRawOnly),
     ),
     (
         "a second RAW key",
-        Keys::Test(
-            b"\x08\x07\x12\x1e\x0a\x16\x0a\x0dtype.test/key\x12\x03\x12\x01k\x18\x01\x10\x01\x18\x07\x20\x03\x12\x1e\x0a\x16\x0a\x0dtype.test/key\x12\x03\x12\x01k\x18\x01\x10\x01\x18\x08\x20\x03",
+        Of(
+            Keys::Test(
+                b"\x08\x07\x12\x1e\x0a\x16\x0a\x0dtype.test/key\x12\x03\x12\x01k\x18\x01\x10\x01\x18\x07\x20\x03\x12\x1e\x0a\x16\x0a\x0dtype.test/key\x12\x03\x12\x01k\x18\x01\x10\x01\x18\x08\x20\x03",
+            ),
+            Asked::Has(2, 7),
         ),
-        Asked::Has(2, 7),
         Ok(true),
     ),
     (
         "a second TINK key",
-        Keys::Test(
-            b"\x08\x07\x12\x1e\x0a\x16\x0a\x0dtype.test/key\x12\x03\x12\x01k\x18\x01\x10\x01\x18\x07\x20\x03\x12\x1e\x0a\x16\x0a\x0dtype.test/key\x12\x03\x12\x01k\x18\x01\x10\x01\x18\x08\x20\x01",
+        Of(
+            Keys::Test(
+                b"\x08\x07\x12\x1e\x0a\x16\x0a\x0dtype.test/key\x12\x03\x12\x01k\x18\x01\x10\x01\x18\x07\x20\x03\x12\x1e\x0a\x16\x0a\x0dtype.test/key\x12\x03\x12\x01k\x18\x01\x10\x01\x18\x08\x20\x01",
+            ),
+            Asked::Has(2, 7),
         ),
-        Asked::Has(2, 7),
         Err(Kind::NotRawOnly),
     ),
     (
         "a second TINK key, of a verifier",
-        Keys::Test(
-            b"\x08\x07\x12\x1e\x0a\x16\x0a\x0dtype.test/key\x12\x03\x12\x01k\x18\x01\x10\x01\x18\x07\x20\x03\x12\x1e\x0a\x16\x0a\x0dtype.test/key\x12\x03\x12\x01\x00\x18\x01\x10\x01\x18\x08\x20\x01",
+        Of(
+            Keys::Test(
+                b"\x08\x07\x12\x1e\x0a\x16\x0a\x0dtype.test/key\x12\x03\x12\x01k\x18\x01\x10\x01\x18\x07\x20\x03\x12\x1e\x0a\x16\x0a\x0dtype.test/key\x12\x03\x12\x01\x00\x18\x01\x10\x01\x18\x08\x20\x01",
+            ),
+            Asked::Has(2, 7),
         ),
-        Asked::Has(2, 7),
         Err(Kind::NotRawOnly),
     ),
     (
         "a second RAW key, of a verifier",
-        Keys::Test(
-            b"\x08\x07\x12\x1e\x0a\x16\x0a\x0dtype.test/key\x12\x03\x12\x01k\x18\x01\x10\x01\x18\x07\x20\x03\x12\x1e\x0a\x16\x0a\x0dtype.test/key\x12\x03\x12\x01\x00\x18\x01\x10\x01\x18\x08\x20\x03",
+        Of(
+            Keys::Test(
+                b"\x08\x07\x12\x1e\x0a\x16\x0a\x0dtype.test/key\x12\x03\x12\x01k\x18\x01\x10\x01\x18\x07\x20\x03\x12\x1e\x0a\x16\x0a\x0dtype.test/key\x12\x03\x12\x01\x00\x18\x01\x10\x01\x18\x08\x20\x03",
+            ),
+            Asked::Has(2, 7),
         ),
-        Asked::Has(2, 7),
         Err(Kind::WrongPrimitive),
     ),
     (
         "a public key alone",
-        Keys::Test(
-            b"\x08\x07\x12\x1e\x0a\x16\x0a\x0dtype.test/key\x12\x03\x12\x01k\x18\x03\x10\x01\x18\x08\x20\x03",
+        Of(
+            Keys::Test(
+                b"\x08\x07\x12\x1e\x0a\x16\x0a\x0dtype.test/key\x12\x03\x12\x01k\x18\x03\x10\x01\x18\x08\x20\x03",
+            ),
+            Asked::Has(1, 7),
         ),
-        Asked::Has(1, 7),
         Err(Kind::NoPrimary),
     ),
     // A primary key between two of another id, which has one function, that of the last of its keys.
-    ("two ids of three keys", THREE, Asked::Has(2, 7), Ok(true)),
+    (
+        "two ids of three keys",
+        Of(THREE, Asked::Has(2, 7)),
+        Ok(true),
+    ),
     (
         "the function of the last of two keys",
-        THREE,
-        Asked::Of(
-            8,
-            b"\x95\x9f\xe0\x20\xcf\x96\x6a\x15\x9a\x74\x29\x92\x89\x22\xc6\x77\x7b\xfe\x17\xca\x7b\x1f\x10\x5b\x18\xa1\x8f\xcc\x95\xf7\x06\x18",
+        Of(
+            THREE,
+            Asked::Of(
+                8,
+                b"\x95\x9f\xe0\x20\xcf\x96\x6a\x15\x9a\x74\x29\x92\x89\x22\xc6\x77\x7b\xfe\x17\xca\x7b\x1f\x10\x5b\x18\xa1\x8f\xcc\x95\xf7\x06\x18",
+            ),
         ),
         Ok(true),
     ),
     (
         "the primary function",
-        THREE,
-        Asked::Primary(
-            16,
-            b"\xbf\x48\x0b\x38\x49\x6d\xb1\xca\x20\x7b\x7d\x54\x0c\x2a\x30\x7d",
+        Of(
+            THREE,
+            Asked::Primary(
+                16,
+                b"\xbf\x48\x0b\x38\x49\x6d\xb1\xca\x20\x7b\x7d\x54\x0c\x2a\x30\x7d",
+            ),
         ),
         Ok(true),
     ),
     (
         "a primary key between two others",
-        THREE,
-        Asked::Primary(33, b""),
+        Of(THREE, Asked::Primary(33, b"")),
         Err(Kind::OutputTooLong),
     ),
     (
         "no primary function",
-        Keys::Nothing,
-        Asked::Primary(16, b""),
+        Of(Keys::Nothing, Asked::Primary(16, b"")),
         Err(Kind::NoPrimary),
     ),
     // The draws are the bytes of the key and its id.
     (
         "the id of a new keyset",
-        Keys::New,
-        Asked::Has(1, 0x2122_2324),
+        Of(Keys::New, Asked::Has(1, 0x2122_2324)),
         Ok(true),
     ),
     (
         "a new keyset",
-        Keys::New,
-        Asked::Primary(
-            16,
-            b"\xa2\x1b\x1f\x5d\x4c\xf4\xf7\x3a\x4d\xd9\x39\x75\x0f\x7a\x06\x6a",
+        Of(
+            Keys::New,
+            Asked::Primary(
+                16,
+                b"\xa2\x1b\x1f\x5d\x4c\xf4\xf7\x3a\x4d\xd9\x39\x75\x0f\x7a\x06\x6a",
+            ),
         ),
         Ok(true),
     ),
 ];
 
-pub fn keysets_have_sets_or_are_refused_in_order(alloc: Global, told: &mut Told) {
-    for (row, keys, asked, want) in ROWS {
-        told.expect(answered_by(alloc, keys, asked), *want, row);
-    }
+pub fn rows(alloc: Global, told: &mut Told) {
+    told.walk(alloc, (), ROWS);
 }
