@@ -51,8 +51,7 @@ fn command<'w>(rt: &HostRuntime, given: &Given<'w>) -> Result<(), Trouble<'w>> {
         }
         Action::Rewrap => streams::rewrap(rt, line),
         Action::Range => ranges::range(rt, line),
-        Action::Wrap => wrapping::wrap(rt, line),
-        Action::Unwrap => wrapping::unwrap(rt, line),
+        Action::Wrap | Action::Unwrap => wrapping::make(rt, given.action, line),
         Action::Help => help::show(rt, help::topic(line)),
         Action::Version => help::version(rt),
         Action::Rotate => keys::rotate(rt, line),

@@ -1,11 +1,11 @@
 //! The commands on files of keys.
 
-ghost use Rattle.std.specs.Prelude.{◌≡◌, Some, None, false, IfErr, IfOk, OnErr, OnOk};
+ghost use Rattle.std.specs.Prelude.{◌≡◌, Some, None, true, false, IfErr, IfOk, OnErr, OnOk};
 ghost use Rattle.tink_commands.specs.Jobs.{format_named, own_edit};
 ghost use Rattle.tink_system.specs.Statuses.{trouble_status};
 
 use tink_files::{edit_keys, new_keys, rotate_keys};
-use tink_io::{Kind, Place, StdSink, TinkError, write_all};
+use tink_io::{Draws, Kind, Place, StdSink, TinkError, write_all};
 use tink_keyset_io::key_files::{Edit, Format, list, wire_bytes};
 use tink_proto::Bytes;
 use tink_system::outside::{draws, read_keys};
@@ -19,12 +19,23 @@ pub fn make<'w>(rt: &HostRuntime, line: &Line<'w>) -> Result<(), Trouble<'w>> {
         return Err(Trouble::Usage);
     };
     let format = format_of(line)?;
-    let mut draws = draws(rt)?;
-    let mut place = RealPlace::fresh(rt, output)?;
-    match new_keys(rt.alloc(), template, format, &mut draws, &mut place) {
-        Ok(()) => Ok(()),
-        Err(e) => Err(blamed(e, template, output)),
+    match draws(rt) {
+        Ok(mut draws) => make_by(rt, template, output, format, &mut draws),
+        Err(trouble) => Err(trouble),
     }
+}
+
+// Lets go of no draws.
+fn make_by<'w>(
+    rt: &HostRuntime,
+    template: &'w str,
+    output: &'w str,
+    format: Format,
+    draws: &mut Draws,
+) -> Result<(), Trouble<'w>> {
+    let mut place = RealPlace::fresh(rt, output)?;
+    let answer = new_keys(rt.alloc(), template, format, draws, &mut place);
+    told(answer, template, output)
 }
 
 /// `keys KEYS`
@@ -32,7 +43,14 @@ pub fn show<'w>(rt: &HostRuntime, line: &Line<'w>) -> Result<(), Trouble<'w>> {
     let Some(path) = line.first() else {
         return Err(Trouble::Usage);
     };
-    let file = read_keys(rt, path)?;
+    match read_keys(rt, path) {
+        Ok(file) => put_lines(rt, path, file),
+        Err(trouble) => Err(trouble),
+    }
+}
+
+// Writes the lines of a file's keys.
+fn put_lines<'w>(rt: &HostRuntime, path: &'w str, file: Vec<u8>) -> Result<(), Trouble<'w>> {
     match lines_of(rt, file) {
         Ok(lines) => put(rt, lines.as_slice()),
         Err(e) => Err(Trouble::Refused(path, e.kind)),
@@ -44,12 +62,39 @@ pub fn rotate<'w>(rt: &HostRuntime, line: &Line<'w>) -> Result<(), Trouble<'w>> 
     let (Some(path), Some(template)) = (line.first(), line.second()) else {
         return Err(Trouble::Usage);
     };
-    let mut draws = draws(rt)?;
+    match draws(rt) {
+        Ok(mut draws) => rotate_by(rt, path, template, &mut draws),
+        Err(trouble) => Err(trouble),
+    }
+}
+
+// Lets go of no draws.
+fn rotate_by<'w>(
+    rt: &HostRuntime,
+    path: &'w str,
+    template: &'w str,
+    draws: &mut Draws,
+) -> Result<(), Trouble<'w>> {
     let mut place = RealPlace::only(rt, path)?;
-    let file = read_or_end(rt, path, &mut place)?;
-    match rotate_keys(rt.alloc(), file, template, &mut draws, &mut place) {
-        Ok(()) => Ok(()),
-        Err(e) => Err(blamed(e, template, path)),
+    rotate_in(rt, path, template, draws, &mut place)
+}
+
+// Lets go of no draft.
+fn rotate_in<'w>(
+    rt: &HostRuntime,
+    path: &'w str,
+    template: &'w str,
+    draws: &mut Draws,
+    place: &mut RealPlace<'_>,
+) -> Result<(), Trouble<'w>>
+    requires { place.old.is_drafted ≡ true }
+{
+    match read_or_end(rt, path, place) {
+        Ok(file) => {
+            let answer = rotate_keys(rt.alloc(), file, template, draws, place);
+            told(answer, template, path)
+        }
+        Err(trouble) => Err(trouble),
     }
 }
 
@@ -62,10 +107,22 @@ pub fn edit<'w>(rt: &HostRuntime, action: Action, line: &Line<'w>) -> Result<(),
         return Err(Trouble::Usage);
     };
     let mut place = RealPlace::only(rt, path)?;
-    let file = read_or_end(rt, path, &mut place)?;
-    match edit_keys(rt.alloc(), file, edit, id, &mut place) {
-        Ok(()) => Ok(()),
-        Err(e) => Err(Trouble::Refused(path, e.kind)),
+    edit_in(rt, path, edit, id, &mut place)
+}
+
+// Lets go of no draft.
+fn edit_in<'w>(
+    rt: &HostRuntime,
+    path: &'w str,
+    edit: Edit,
+    id: u32,
+    place: &mut RealPlace<'_>,
+) -> Result<(), Trouble<'w>>
+    requires { place.old.is_drafted ≡ true }
+{
+    match read_or_end(rt, path, place) {
+        Ok(file) => told(edit_keys(rt.alloc(), file, edit, id, place), path, path),
+        Err(trouble) => Err(trouble),
     }
 }
 
@@ -102,11 +159,18 @@ fn put(rt: &HostRuntime, text: &[u8]) -> Result<(), Trouble<'static>> {
     }
 }
 
-// The file, or the template where its name is the cause.
-fn blamed<'w>(e: TinkError, template: &'w str, path: &'w str) -> Trouble<'w> {
-    match e.kind {
-        Kind::UnknownTemplate => Trouble::Refused(template, e.kind),
-        _ => Trouble::Refused(path, e.kind),
+// What is told of an answer: the file is to blame, or the template where its name is the cause.
+fn told<'w>(
+    answer: Result<(), TinkError>,
+    template: &'w str,
+    path: &'w str,
+) -> Result<(), Trouble<'w>> {
+    match answer {
+        Ok(()) => Ok(()),
+        Err(e) => match e.kind {
+            Kind::UnknownTemplate => Err(Trouble::Refused(template, e.kind)),
+            _ => Err(Trouble::Refused(path, e.kind)),
+        },
     }
 }
 

@@ -21,7 +21,19 @@ use tink_words::Line;
 pub fn range<'w>(rt: &HostRuntime, line: &Line<'w>) -> Result<(), Trouble<'w>> {
     let start = number_in(rt, line.start())?;
     let length = number_in(rt, line.length())?;
-    let job = job_of(rt, line)?;
+    match job_of(rt, line) {
+        Ok(job) => range_of(rt, &job, start, length),
+        Err(trouble) => Err(trouble),
+    }
+}
+
+// Lets go of no job.
+fn range_of<'w>(
+    rt: &HostRuntime,
+    job: &Job<'w>,
+    start: u64,
+    length: u64,
+) -> Result<(), Trouble<'w>> {
     if named(Some(job.input)).is_none() {
         return Err(Trouble::Unusable(
             "-",
@@ -29,8 +41,21 @@ pub fn range<'w>(rt: &HostRuntime, line: &Line<'w>) -> Result<(), Trouble<'w>> {
             2,
         ));
     }
-    let mut object = RealAt::open(rt, job.input, length, job.may_tell(rt))?;
-    let answer = counted::<Brand>(rt, &job, &mut object, start, length, Blank::new(1))?;
+    match RealAt::open(rt, job.input, length, job.may_tell(rt)) {
+        Ok(mut object) => range_in(rt, job, &mut object, start, length),
+        Err(trouble) => Err(trouble),
+    }
+}
+
+// Lets go of no object.
+fn range_in<'w>(
+    rt: &HostRuntime,
+    job: &Job<'w>,
+    object: &mut RealAt,
+    start: u64,
+    length: u64,
+) -> Result<(), Trouble<'w>> {
+    let answer = counted::<Brand>(rt, job, object, start, length, Blank::new(1))?;
     object.end();
     match answer {
         Ok(_) => Ok(()),

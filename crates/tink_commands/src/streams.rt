@@ -24,15 +24,42 @@ pub fn make<'w>(rt: &HostRuntime, action: Action, line: &Line<'w>) -> Result<(),
     let Some(task) = task_of(action) else {
         return Err(Trouble::Usage);
     };
-    let job = job_of(rt, line)?;
-    read_from(rt, task, &job, draws_of(rt, task)?)
+    match job_of(rt, line) {
+        Ok(job) => read_drawn(rt, task, &job, draws_of(rt, task)),
+        Err(trouble) => Err(trouble),
+    }
 }
 
 /// `rewrap -k KEYS [--aad TEXT] -t NEWKEYS [--to-aad TEXT] [-o OUT] [IN]`
 pub fn rewrap<'w>(rt: &HostRuntime, line: &Line<'w>) -> Result<(), Trouble<'w>> {
-    let job = job_of(rt, line)?;
-    let to = side_of(rt, line.to(), line.to_aad())?;
-    read_from(rt, moved_to(&to), &job, draws(rt)?)
+    match job_of(rt, line) {
+        Ok(job) => move_by(rt, &job, side_of(rt, line.to(), line.to_aad())),
+        Err(trouble) => Err(trouble),
+    }
+}
+
+fn move_by<'w>(
+    rt: &HostRuntime,
+    job: &Job<'w>,
+    to: Result<Side<'w>, Trouble<'w>>,
+) -> Result<(), Trouble<'w>> {
+    match to {
+        Ok(to) => read_drawn(rt, moved_to(&to), job, draws(rt)),
+        Err(trouble) => Err(trouble),
+    }
+}
+
+// Takes the input where there are draws.
+fn read_drawn<'w>(
+    rt: &HostRuntime,
+    task: Task<'_>,
+    job: &Job<'w>,
+    draws: Result<Draws, Trouble<'static>>,
+) -> Result<(), Trouble<'w>> {
+    match draws {
+        Ok(mut draws) => read_from(rt, task, job, &mut draws),
+        Err(trouble) => Err(trouble),
+    }
 }
 
 // What a command makes of its input under its own keys; a move is to others.
@@ -71,7 +98,7 @@ fn read_from<'w>(
     rt: &HostRuntime,
     task: Task<'_>,
     job: &Job<'w>,
-    draws: Draws,
+    draws: &mut Draws,
 ) -> Result<(), Trouble<'w>> {
     let may_tell = job.may_tell(rt);
     if named(Some(job.input)).is_none() {
@@ -97,16 +124,15 @@ fn size_of(file: &File) -> Option<u64> {
     }
 }
 
-// Gives the output to its file, or to standard output.
+// Gives the output to its file, or to standard output, and tells how far the work is.
 fn write_to<'w, S: Source + Drop>(
     rt: &HostRuntime,
     task: Task<'_>,
     job: &Job<'w>,
-    draws: Draws,
+    draws: &mut Draws,
     source: S,
     meter: Meter,
 ) -> Result<(), Trouble<'w>> {
-    let mut draws = draws;
     let Ok(own) = rt.clone() else {
         return Err(Trouble::Refused("tink", Kind::OutOfMemory));
     };
@@ -115,9 +141,20 @@ fn write_to<'w, S: Source + Drop>(
         rt: own,
         meter,
     };
+    write_watched(rt, task, job, draws, &mut source)
+}
+
+// Lets go of no source.
+fn write_watched<'w, S: Source>(
+    rt: &HostRuntime,
+    task: Task<'_>,
+    job: &Job<'w>,
+    draws: &mut Draws,
+    source: &mut Watched<S>,
+) -> Result<(), Trouble<'w>> {
     let answer = match job.output {
-        Some(output) => to_file(rt, task, job, &mut draws, &mut source, output)?,
-        None => to_output(rt, task, job, &mut draws, &mut source),
+        Some(output) => to_file(rt, task, job, draws, source, output)?,
+        None => to_output(rt, task, job, draws, source),
     };
     source.meter.end(rt);
     match answer {

@@ -8,12 +8,12 @@ use crate::job::data_of;
 use crate::keys::format_of;
 use tink_files::under_master::{Master, load_master};
 use tink_files::{unwrap_keys, wrap_keys};
-use tink_io::Kind;
+use tink_io::{Draws, Kind, TinkError};
 use tink_keyset_io::key_files::Format;
 use tink_system::outside::{draws, read_keys};
 use tink_system::real_place::RealPlace;
 use tink_system::trouble::Trouble;
-use tink_words::Line;
+use tink_words::{Action, Line};
 
 // What the words say.
 #[derive(Clone, Copy)]
@@ -25,53 +25,75 @@ struct Words<'w> {
     format: Format,
 }
 
-/// `wrap -k MASTER -o WRAPPED [--aad TEXT] [--format NAME] KEYS`
-pub fn wrap<'w>(rt: &HostRuntime, line: &Line<'w>) -> Result<(), Trouble<'w>> {
+/// `wrap -k MASTER -o WRAPPED [--aad TEXT] [--format NAME] KEYS` and
+/// `unwrap -k MASTER -o KEYS [--aad TEXT] [--format NAME] WRAPPED`
+pub fn make<'w>(rt: &HostRuntime, action: Action, line: &Line<'w>) -> Result<(), Trouble<'w>> {
     let words = words_of(line)?;
-    let master = load(rt, words.master)?;
-    wrap_by(rt, words, &master)
+    match load(rt, words.master) {
+        Ok(master) => make_by(rt, action, words, &master),
+        Err(trouble) => Err(trouble),
+    }
 }
 
 // Lets go of no master: that would be at each of its exits.
+fn make_by<'w>(
+    rt: &HostRuntime,
+    action: Action,
+    words: Words<'w>,
+    master: &Master,
+) -> Result<(), Trouble<'w>> {
+    match action {
+        Action::Wrap => wrap_by(rt, words, master),
+        _ => unwrap_by(rt, words, master),
+    }
+}
+
 fn wrap_by<'w>(rt: &HostRuntime, words: Words<'w>, master: &Master) -> Result<(), Trouble<'w>> {
     let keys = read_keys(rt, words.input)?;
-    let mut draws = draws(rt)?;
+    match draws(rt) {
+        Ok(draws) => wrap_with(rt, words, master, keys, draws),
+        Err(trouble) => Err(trouble),
+    }
+}
+
+fn wrap_with<'w>(
+    rt: &HostRuntime,
+    words: Words<'w>,
+    master: &Master,
+    keys: Vec<u8>,
+    mut draws: Draws,
+) -> Result<(), Trouble<'w>> {
     let mut place = RealPlace::fresh(rt, words.output)?;
-    match wrap_keys(
+    let aad = words.aad.as_bytes();
+    let answer = wrap_keys(
         rt.alloc(),
         master,
         keys,
-        words.aad.as_bytes(),
+        aad,
         words.format,
         &mut draws,
         &mut place,
-    ) {
-        Ok(()) => Ok(()),
-        Err(e) => Err(blamed(words, e.kind)),
-    }
-}
-
-/// `unwrap -k MASTER -o KEYS [--aad TEXT] [--format NAME] WRAPPED`
-pub fn unwrap<'w>(rt: &HostRuntime, line: &Line<'w>) -> Result<(), Trouble<'w>> {
-    let words = words_of(line)?;
-    let master = load(rt, words.master)?;
-    unwrap_by(rt, words, &master)
+    );
+    told(words, answer)
 }
 
 fn unwrap_by<'w>(rt: &HostRuntime, words: Words<'w>, master: &Master) -> Result<(), Trouble<'w>> {
-    let file = read_keys(rt, words.input)?;
-    let mut place = RealPlace::fresh(rt, words.output)?;
-    match unwrap_keys(
-        rt.alloc(),
-        master,
-        &file,
-        words.aad.as_bytes(),
-        words.format,
-        &mut place,
-    ) {
-        Ok(()) => Ok(()),
-        Err(e) => Err(blamed(words, e.kind)),
+    match read_keys(rt, words.input) {
+        Ok(file) => unwrap_file(rt, words, master, &file),
+        Err(trouble) => Err(trouble),
     }
+}
+
+fn unwrap_file<'w>(
+    rt: &HostRuntime,
+    words: Words<'w>,
+    master: &Master,
+    file: &[u8],
+) -> Result<(), Trouble<'w>> {
+    let mut place = RealPlace::fresh(rt, words.output)?;
+    let aad = words.aad.as_bytes();
+    let answer = unwrap_keys(rt.alloc(), master, file, aad, words.format, &mut place);
+    told(words, answer)
 }
 
 fn words_of<'w>(line: &Line<'w>) -> Result<Words<'w>, Trouble<'w>>
@@ -101,10 +123,13 @@ fn load<'w>(rt: &HostRuntime, path: &'w str) -> Result<Master, Trouble<'w>> {
     }
 }
 
-// The output, or the input, where it is the cause.
-fn blamed<'w>(words: Words<'w>, kind: Kind) -> Trouble<'w> {
-    match kind {
-        Kind::WriteFault => Trouble::Refused(words.output, kind),
-        _ => Trouble::Refused(words.input, kind),
+// What is told of an answer: the input is to blame, or the output where it is the cause.
+fn told<'w>(words: Words<'w>, answer: Result<(), TinkError>) -> Result<(), Trouble<'w>> {
+    match answer {
+        Ok(()) => Ok(()),
+        Err(e) => match e.kind {
+            Kind::WriteFault => Err(Trouble::Refused(words.output, e.kind)),
+            _ => Err(Trouble::Refused(words.input, e.kind)),
+        },
     }
 }

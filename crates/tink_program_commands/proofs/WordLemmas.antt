@@ -8,7 +8,7 @@ use Rattle.hex.proofs.HexLemmas.{decode_sized-ok, decode_sized-twice}
 use Rattle.tink_program_commands.specs.declared.words.Parsed.{Parsed}
 use Rattle.tink_program_commands.specs.declared.words.Unread.{Unread}
 use Rattle.tink_program_commands.specs.declared.words.Unread.TheVariants.{NoMemory, Nothing}
-use Rattle.tink_program_commands.specs.Words.{Asked, IsBytesWord, IsNumberWord, IsRead, IsReadAs, IsSeedWord, IsUnread, KeygenWords, LargeWords, OpenWords, RangeWords, RewrapWords, RotateWords, SealWords, SignWords, SpellNothing, Spells, VerifyWords, told}
+use Rattle.tink_program_commands.specs.Words.{Asked, IsBytesWord, IsNumberWord, IsRead, IsReadAs, IsSeedWord, IsUnread, KeygenWords, OpenWords, RangeWords, RewrapWords, RotateWords, SealWords, SignWords, SpellNothing, Spells, VerifyWords, told}
 use Rattle.tink_program_commands.specs.Words.Asked.{Making, Measuring, Opening, Ranging, Rewrapping, Rotating, Sealing, Signing, Verifying}
 use Rattle.tink_program_commands.proofs.Spelling.{only_keygen, only_large, only_open, only_range, only_rewrap, only_rotate, only_seal, only_sign, only_verify}
 use Rattle.tink_run.specs.Rewrapping.{Sides}

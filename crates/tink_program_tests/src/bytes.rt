@@ -45,6 +45,11 @@ pub fn number(text: &str) -> usize {
     text.parse::<usize>().unwrap_or(0)
 }
 
+/// What stands before and behind a letter in a text; all of it and this, where it has none.
+pub fn cut<'a>(text: &'a str, at: char, otherwise: &'a str) -> (&'a str, &'a str) {
+    text.split_once(at).unwrap_or((text, otherwise))
+}
+
 /// The bytes that were last given a name.
 pub fn known<'a>(kept: &'a [Named], name: &str) -> Option<&'a [u8]> {
     let mut found = None;
@@ -125,17 +130,17 @@ fn put_term(
     if let Some(count) = term.strip_prefix('#') {
         return put_counted(bytes, number(count));
     }
-    let (name, cut) = term.split_once('/').unwrap_or((term, "0/-0"));
+    let (name, place) = cut(term, '/', "0/-0");
     match known(kept, name) {
-        Some(whole) => put_part(bytes, whole, cut),
-        None => put_part(bytes, &of_digits(alloc, name.as_bytes())?, cut),
+        Some(whole) => put_part(bytes, whole, place),
+        None => put_part(bytes, &of_digits(alloc, name.as_bytes())?, place),
     }
 }
 
 // Puts the part of bytes from a place.
-fn put_part(bytes: &mut Vec<u8>, whole: &[u8], cut: &str) -> Result<(), TinkError> {
-    let (at, rest) = cut.split_once('/').unwrap_or((cut, ""));
-    let (count, mask) = rest.split_once('/').unwrap_or((rest, "0"));
+fn put_part(bytes: &mut Vec<u8>, whole: &[u8], place: &str) -> Result<(), TinkError> {
+    let (at, rest) = cut(place, '/', "");
+    let (count, mask) = cut(rest, '/', "0");
     let at = number(at).min(whole.len());
     let end = at
         .saturating_add(count_of(count, whole.len()))

@@ -7,7 +7,7 @@
 
 use crate::bytes::{Named, number, of_digits, put_bytes, put_words};
 use crate::calls::{Ends, call, ends_of, make_room, number_of, setting};
-use crate::tables::table;
+use crate::tables::tables_of;
 use crate::wanted::{is_told, is_written};
 use std::alloc::{AllocError, Global};
 use tink_io::TinkError;
@@ -68,9 +68,21 @@ fn is_wanted(
 
 // Whether all is as the row wants.
 fn holds(alloc: Global, kept: &mut Vec<Named>, row: &str) -> Result<bool, TinkError> {
-    let mut ends = ends_of_row(alloc, kept, row)?;
-    let status = status_of(alloc, kept, row, &mut ends)?;
-    is_wanted(alloc, kept, row, status, &ends)
+    match ends_of_row(alloc, kept, row) {
+        Ok(mut ends) => holds_over(alloc, kept, row, &mut ends),
+        Err(e) => Err(e),
+    }
+}
+
+// The same over these ends.
+fn holds_over(
+    alloc: Global,
+    kept: &mut Vec<Named>,
+    row: &str,
+    ends: &mut Ends,
+) -> Result<bool, TinkError> {
+    let status = status_of(alloc, kept, row, ends)?;
+    is_wanted(alloc, kept, row, status, ends)
 }
 
 // Gives what was written, or the bytes of the line of digits that was written, the name that a setting says.
@@ -96,18 +108,33 @@ fn put_named(
     Ok(kept.push(Named { name, bytes })?)
 }
 
-// Puts the row with numbers, the URL and newlines in the place of their marks.
-fn put_filled(row: &str, first: &str, second: &str, text: &mut String) -> Result<(), AllocError> {
-    for letter in row.chars() {
-        match letter {
-            '%' => text.push_str(first)?,
-            '~' => text.push_str(second)?,
-            '*' => text.push_str(URL)?,
-            '¶' => text.push('\n')?,
-            _ => text.push(letter)?,
-        }
+// Puts a letter of a row, with numbers, the URL and newlines in the place of their marks.
+fn put_letter(
+    letter: char,
+    first: &str,
+    second: &str,
+    text: &mut String,
+) -> Result<(), AllocError> {
+    match letter {
+        '%' => text.push_str(first),
+        '~' => text.push_str(second),
+        '*' => text.push_str(URL),
+        '¶' => text.push('\n'),
+        _ => text.push(letter),
     }
-    Ok(())
+}
+
+// Puts a row in a way.
+fn put_filled(
+    way: &str,
+    row: &str,
+    (first, second): (&str, &str),
+    text: &mut String,
+) -> Result<(), AllocError> {
+    for letter in row.chars() {
+        put_letter(letter, first, second, text)?;
+    }
+    text.push_str(way)
 }
 
 // Puts a row in a way, at two numbers.
@@ -119,8 +146,7 @@ fn put_row(
     text: &mut String,
 ) -> Result<(), AllocError> {
     let (first, second) = (n.to_string(alloc)?, m.to_string(alloc)?);
-    text.push_str(way)?;
-    put_filled(row, first.as_str(), second.as_str(), text)
+    put_filled(way, row, (first.as_str(), second.as_str()), text)
 }
 
 // Whether a row holds in a way, at two numbers.
@@ -187,15 +213,22 @@ fn try_rows(
     None
 }
 
-// Tries a table in each of its ways.
-fn try_table(
-    alloc: Global,
-    kept: &mut Vec<Named>,
-    ways: &'static str,
-    rows: &'static str,
-) -> Option<WrongRow> {
+// Tries a table in each of its ways, which stand in its first line.
+fn try_table(alloc: Global, kept: &mut Vec<Named>, table: &'static str) -> Option<WrongRow> {
+    let (ways, rows) = table.split_once('\n').unwrap_or(("", ""));
     for way in ways.split(';') {
         let failed = try_rows(alloc, kept, way, rows);
+        if failed.is_some() {
+            return failed;
+        }
+    }
+    None
+}
+
+// Tries tables, one after another.
+fn try_tables(alloc: Global, kept: &mut Vec<Named>, tables: &'static str) -> Option<WrongRow> {
+    for table in tables.split("ways:") {
+        let failed = try_table(alloc, kept, table);
         if failed.is_some() {
             return failed;
         }
@@ -207,10 +240,10 @@ fn try_table(
 pub fn rows(alloc: Global) -> Option<WrongRow> {
     let mut kept = Vec::new(alloc);
     for number in 0..100usize {
-        let Some((ways, rows)) = table(number) else {
+        let Some(tables) = tables_of(number) else {
             return None;
         };
-        let failed = try_table(alloc, &mut kept, ways, rows);
+        let failed = try_tables(alloc, &mut kept, tables);
         if failed.is_some() {
             return failed;
         }

@@ -1,6 +1,6 @@
 //! Whether what was told and written is what a row wants.
 
-use crate::bytes::{Named, known, number, of_digits, put_bytes};
+use crate::bytes::{Named, cut, known, number, of_digits, put_bytes};
 use hash_keys::Hash;
 use std::alloc::Global;
 use tink_io::TinkError;
@@ -44,6 +44,12 @@ fn text_of(status: u8) -> &'static str {
     ""
 }
 
+// Whether a status is one of these.
+fn is_status(status: u8, statuses: &str) -> bool {
+    let (one, other) = cut(statuses, '/', statuses);
+    number(one) == usize::from(status) || number(other) == usize::from(status)
+}
+
 /// Whether a status is one of these, of which there are two at most with a bar between them, and its line was written, as
 /// far as there was room. Behind the statuses stands how the line ends.
 pub fn is_told(
@@ -52,9 +58,8 @@ pub fn is_told(
     wanted: &str,
     room: usize,
 ) -> Result<bool, TinkError> {
-    let (statuses, end) = wanted.split_once(' ').unwrap_or((wanted, ""));
-    let (one, other) = statuses.split_once('/').unwrap_or((statuses, statuses));
-    let is_one = number(one) == usize::from(status) || number(other) == usize::from(status);
+    let (statuses, end) = cut(wanted, ' ', "");
+    let is_one = is_status(status, statuses);
     if status == 0 {
         return Ok(is_one && line.is_empty());
     }
@@ -72,7 +77,7 @@ pub fn is_written(
     written: &[u8],
     wanted: &str,
 ) -> Result<bool, TinkError> {
-    let (form, rest) = wanted.split_once(' ').unwrap_or((wanted, ""));
+    let (form, rest) = cut(wanted, ' ', "");
     match form {
         "any" => Ok(true),
         "length" => is_sized(alloc, written, rest),
@@ -89,16 +94,19 @@ fn is_text(alloc: Global, kept: &[Named], bytes: &[u8], text: &str) -> Result<bo
     Ok(bytes == wanted.as_slice())
 }
 
-// Whether these are the digits of the bytes of a text, and a newline.
+// Whether these are the digits of the bytes of a text, with small letters, and a newline.
 fn is_line(alloc: Global, kept: &[Named], bytes: &[u8], text: &str) -> Result<bool, TinkError> {
     match bytes.split_last() {
-        Some((b'\n', digits)) => {
-            let spelled = of_digits(alloc, digits)?;
-            let small = digits.iter().all(|digit| !digit.is_ascii_uppercase());
-            Ok(small && is_text(alloc, kept, &spelled, text)?)
-        }
+        Some((b'\n', digits)) if are_small(digits) => match of_digits(alloc, digits) {
+            Ok(spelled) => is_text(alloc, kept, &spelled, text),
+            Err(e) => Err(e),
+        },
         _ => Ok(false),
     }
+}
+
+fn are_small(digits: &[u8]) -> bool {
+    digits.iter().all(|digit| !digit.is_ascii_uppercase())
 }
 
 // Whether these are so many bytes, with this SHA-256 where one is given.
@@ -112,7 +120,7 @@ fn is_sized(alloc: Global, bytes: &[u8], wanted: &str) -> Result<bool, TinkError
 
 // Whether these bytes begin those of a name, and have one of the lengths.
 fn is_front(kept: &[Named], bytes: &[u8], wanted: &str) -> bool {
-    let (name, lengths) = wanted.split_once(' ').unwrap_or((wanted, ""));
+    let (name, lengths) = cut(wanted, ' ', "");
     let whole = known(kept, name).unwrap_or(&[]);
     let mut one = lengths.is_empty();
     for length in lengths.split(' ') {

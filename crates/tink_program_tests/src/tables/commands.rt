@@ -1,7 +1,9 @@
 //! Keysets that the program makes, the measured text, and words that spell no command.
 
-/// The known keysets, keysets by each template, refusals, and sinks that fail.
-pub const KEYSETS: &str = r#"
+/// - The known keysets, keysets by each template, refusals, and sinks that fail.
+/// - The lines of the large text, which a model in Python made, and words that spell no command.
+pub const TABLES: &str = r#"
+ways:
 a new keyset | keygen AES128_CTR_HMAC_SHA256_4KB zero | | 0 | line newkey | keep=newline
 the usual keyset rotated | rotate raw AES128_CTR_HMAC_SHA256_4KB zero | | 0 | line newkey/0/6 raw/5/999 newkey/6/999 |
 an unknown template | keygen X zero | | 24 |
@@ -28,10 +30,8 @@ rotations 1..128 of one seed | rotate often AES128_CTR_HMAC_SHA256_4KB zero | | 
 the rotation after these | rotate often AES128_CTR_HMAC_SHA256_4KB zero | | 25 |
 128 ids of zero | keygen AES128_CTR_HMAC_SHA256_4KB | | 25 | | zeros=528
 127 ids of zero | keygen AES128_CTR_HMAC_SHA256_4KB | | 255 random fault | | zeros=527
-"#;
 
-/// The lines of the large text, which a model in Python made, and words that spell no command.
-pub const WORDS: &str = r#"
+ways:
 a large text, 0..1 | large 0 | | 0 | 'text 1000000¶stream 1007928¶segments 247¶sha256 a4400b50bb2795d6e36e1b6114ea3f3ec97e2a5ce22b42d860264b622e4b217a¶| keep=measured
 the third write of 30 bytes of its lines | large 0 | | 12 | begins measured 60 | piece=30 write=3 room=200
 no number | large 00 | | 2 |

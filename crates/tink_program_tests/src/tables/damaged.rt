@@ -1,7 +1,9 @@
 //! Streams that are cut, lengthened, put together anew or changed.
 
-/// Through the program.
-pub const LARGE: &str = r#"
+/// - Through the program.
+/// - Through the program, and through `run`.
+pub const TABLES: &str = r#"
+ways:
 the stream with data | seal raw 00ff zero | #4041 | 0 | length 4129 | keep=d4041
 0..24 bytes of the stream | open raw - | s4041/0/% | 21 |
 4095..4096 bytes of the stream | open raw - | s4041/0/% | 21 |
@@ -22,10 +24,8 @@ the stream of small segments | seal small - zero | #60 | 0 | length 124 | keep=s
 this without its first byte | bytes | s60/1/999 | 0 | length 123 | keep=t60
 the stream of small segments by AES-GCM | seal smallgcm - zero | #60 | 0 | length 132 | keep=g60
 this without its first byte | bytes | g60/1/999 | 0 | length 131 | keep=h60
-"#;
 
-/// Through the program, and through `run`.
-pub const SMALL: &str = r#"
+ways:;| draws=3 left=3 piece=1;| draws=3 left=3 piece=7;| draws=3 left=3 piece=4096
 0..35 bytes of small segments | open small - | s60/0/% | 21 |
 36..44 bytes of small segments | open small - | s60/0/% | 23 1 | #1
 45..70 bytes of small segments | open small - | s60/0/% | 22 1 | #1

@@ -1,7 +1,9 @@
 //! Sources and sinks that fail at a call, and sinks with too little room. By a fault of the source whole segments were written behind the header, and never the last.
 
-/// Calls that fail in turn, by the bytes that move in each.
-pub const CALLS: &str = r#"
+/// - Calls that fail in turn, by the bytes that move in each.
+/// - Rooms, whatever the bytes that move in a call.
+pub const TABLES: &str = r#"
+ways:
 the text | bytes | #10000 | 0 | length 10000 | keep=t10000
 reads 1..3 of a seal | seal raw - zero | #10000 | 11 | begins s10000 24 4096 8192 | piece=5000 read=% room=20000
 reads 4..4 of a seal | seal raw - zero | #10000 | 0 | s10000 | piece=5000 read=% room=20000
@@ -55,10 +57,8 @@ writes 4040..4042 of an open | open raw - | s10000 | 12 | begins t10000 | piece=
 writes 8105..8106 of an open | open raw - | s10000 | 12 | begins t10000 | piece=1 write=% room=20000
 writes 9999..10000 of an open | open raw - | s10000 | 12 | begins t10000 | piece=1 write=% room=20000
 writes 10001..10001 of an open | open raw - | s10000 | 0 | t10000 | piece=1 write=% room=20000
-"#;
 
-/// Rooms, whatever the bytes that move in a call.
-pub const ROOMS: &str = r#"
+ways:| piece=1;| piece=35;| piece=4000;| piece=5000
 room for 0..1 bytes of a seal | seal raw - zero | #10000 | 12 | begins s10000 % | room=%
 room for 23..25 bytes of a seal | seal raw - zero | #10000 | 12 | begins s10000 % | room=%
 room for 4040..4040 bytes of a seal | seal raw - zero | #10000 | 12 | begins s10000 % | room=%

@@ -1,7 +1,9 @@
 //! Keysets that load, and each refusal. They were written by hand after the format.
 
-/// What does not load, by a seal of no text and by `load`.
-pub const REFUSED: &str = r#"
+/// - What does not load, by a seal of no text and by `load`.
+/// - What loads, and the keys that `load` makes of it.
+pub const TABLES: &str = r#"
+ways:;| load=1
 no bytes | seal - - zero | | 14 |
 a field without its value | seal 08 - zero | | 13 |
 a group | seal 0b - zero | | 13 |
@@ -46,10 +48,8 @@ an AES-GCM key of 24 bytes | seal 0884868808125b0a500a30747970652e676f6f676c6561
 a key of streams, and an AES-GCM key | seal twotypes - zero | | 18 |
 a public AES-GCM key of another id than the primary one | seal 088486880812500a480a30747970652e676f6f676c65617069732e636f6d2f676f6f676c652e63727970746f2e74696e6b2e41657347636d4b657912121a10000102030405060708090a0b0c0d0e0f1803100118052003 - zero | | 17 |
 an AES-GCM key, and one that does not build | seal 088486880812530a480a30747970652e676f6f676c65617069732e636f6d2f676f6f676c652e63727970746f2e74696e6b2e41657347636d4b657912121a10000102030405060708090a0b0c0d0e0f1801100118848688082003123e0a360a30747970652e676f6f676c65617069732e636f6d2f676f6f676c652e63727970746f2e74696e6b2e41657347636d4b657912001801100118052003 - zero | | 16 |
-"#;
 
-/// What loads, and the keys that `load` makes of it.
-pub const LOADED: &str = r#"
+ways:
 one key | bytes | 0884868808126f0a640a3d*1221120d088020101018032204080310201a10000102030405060708090a0b0c0d0e0f1801100118848688082003 | 0 | any | keep=loaded0
 key data in two fields | bytes | 088486880812710a3f0a3d*0a251221120d088020101018032204080310201a10000102030405060708090a0b0c0d0e0f1801100118848688082003 | 0 | any | keep=loaded1
 a second key, destroyed, without data | bytes | 0884868808126f0a640a3d*1221120d088020101018032204080310201a10000102030405060708090a0b0c0d0e0f18011001188486880820031206100318052003 | 0 | any | keep=loaded2

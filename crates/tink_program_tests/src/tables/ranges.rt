@@ -1,7 +1,8 @@
 //! Ranges of the texts of streams.
 
 /// Given, refused, by ends that fail, and words that spell no such command.
-pub const RANGES: &str = r#"
+pub const TABLES: &str = r#"
+ways:
 a range over the end of a segment | range raw - 4030 20 | s12168 | 0 | 0e0f101112131415161718191a1b1c1d1e1f2021
 the end of a text | range raw - 12160 100 | s12168 | 0 | 7071727374757677
 a range behind a text | range raw - 20000 5 | s12168 | 0 |

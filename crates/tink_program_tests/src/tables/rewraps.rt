@@ -1,7 +1,12 @@
 //! Streams that are moved to another keyset.
 
-/// Moved, refused, and words that spell no such command.
-pub const REWRAPS: &str = r#"
+/// - Moved, refused, and words that spell no such command.
+/// - Streams of both kinds and of several sizes of segments, by the draws of the setting.
+/// - How many draws a move takes, and the refusals that leave all of them.
+/// - What is moved is the stream that a seal of its text makes.
+/// - Streams that are cut or changed, and ends that fail. What was written ends in no last segment.
+pub const TABLES: &str = r#"
+ways:
 a stream moved to another keyset | rewrap raw - gcm aabb zero | s4041 | 0 | length 4081 | keep=moved
 what was moved | open gcm aabb | moved | 0 | #4041
 what was moved, without the new data | open gcm - | moved | 21 |
@@ -18,10 +23,8 @@ the first two writes 1..2 of a move | rewrap raw - gcm aabb zero | s4041 | 12 | 
 no seed | rewrap raw - gcm aabb | | 2 |
 one word more | rewrap raw - gcm aabb zero zero | | 2 |
 data of no pairs | rewrap raw - gcm aab zero | | 2 |
-"#;
 
-/// Streams of both kinds and of several sizes of segments, by the draws of the setting.
-pub const SEALED: &str = r#"
+ways:| draws=1024
 0 bytes under raw | seal raw - | #0 | 0 | length 56 | left=1001 segments=1 bytes=0 keep=raw.0
 1 bytes under raw | seal raw - | #1 | 0 | length 57 | left=1001 segments=1 bytes=1 keep=raw.1
 60 bytes under raw | seal raw - | #60 | 0 | length 116 | left=1001 segments=1 bytes=60 keep=raw.60
@@ -70,10 +73,8 @@ pub const SEALED: &str = r#"
 1 bytes under gcmprefixed and 00 | seal gcmprefixed 00 | #1 | 0 | length 62 | left=985 segments=1 bytes=1 keep=gcmprefixed00.1
 60 bytes under gcmprefixed and 00 | seal gcmprefixed 00 | #60 | 0 | length 137 | left=985 segments=2 bytes=60 keep=gcmprefixed00.60
 4,041 bytes under gcmprefixed and 00 | seal gcmprefixed 00 | #4041 | 0 | length 4870 | left=985 segments=49 bytes=4041 keep=gcmprefixed00.4041
-"#;
 
-/// How many draws a move takes, and the refusals that leave all of them.
-pub const DRAWS: &str = r#"
+ways:
 too few draws | rewrap small - gcm41 - | small.1 | 255 random fault | | draws=22 left=22
 draws for a salt and a prefix | rewrap small - gcm41 - | small.1 | 0 | length 41 | draws=23 left=0 segments=1 bytes=1
 to no keyset | rewrap raw - - - | raw.4041 | 14 | | draws=1024 left=1024
@@ -81,10 +82,8 @@ to a keyset that is cut off | rewrap raw - 08 - | raw.4041 | 13 | | draws=1024 l
 to a keyset without keys | rewrap raw - 0801 - | raw.0 | 14 | | draws=1024 left=1024
 the first keyset before the second | rewrap 08 - - - | | 13 | | draws=0 left=0
 a stream of segments of 1, 25, 25 and 9 bytes of text, without its first byte | bytes | small.60/1/999 | 0 | length 123 | keep=small.rest
-"#;
 
-/// What is moved is the stream that a seal of its text makes.
-pub const MOVED: &str = r#"
+ways:| draws=1024
 0 bytes from raw to gcm | rewrap raw - gcm aabb | raw.0 | 0 | gcmaabb.0 | left=1001 segments=1 bytes=0
 1 bytes from raw to gcm | rewrap raw - gcm aabb | raw.1 | 0 | gcmaabb.1 | left=1001 segments=1 bytes=1
 60 bytes from raw to gcm | rewrap raw - gcm aabb | raw.60 | 0 | gcmaabb.60 | left=1001 segments=1 bytes=60
@@ -121,10 +120,8 @@ pub const MOVED: &str = r#"
 1 bytes from gcmprefixed to gcmprefixed | rewrap gcmprefixed - gcmprefixed 00 | gcmprefixed.1 | 0 | gcmprefixed00.1 | left=985 segments=1 bytes=1
 60 bytes from gcmprefixed to gcmprefixed | rewrap gcmprefixed - gcmprefixed 00 | gcmprefixed.60 | 0 | gcmprefixed00.60 | left=985 segments=2 bytes=60
 4,041 bytes from gcmprefixed to gcmprefixed | rewrap gcmprefixed - gcmprefixed 00 | gcmprefixed.4041 | 0 | gcmprefixed00.4041 | left=985 segments=49 bytes=4041
-"#;
 
-/// Streams that are cut or changed, and ends that fail. What was written ends in no last segment.
-pub const STOPPED: &str = r#"
+ways:| draws=1024
 the text that an empty last segment ends | seal gcm41 - | #26 | 0 | length 82 | left=1001 segments=2 bytes=26 keep=gcm41.26
 an empty last segment is left out | rewrap small - gcm41 - | emptylast | 0 | gcm41.26 | left=1001 segments=2 bytes=26
 three segments | seal raw - | #12168 | 0 | length 12288 | left=1001 segments=3 bytes=12168 keep=raw.12168

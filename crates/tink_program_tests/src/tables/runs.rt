@@ -1,7 +1,8 @@
 //! What `run` reports, and the draws that it takes.
 
 /// Reports and draws.
-pub const REPORTS: &str = r#"
+pub const TABLES: &str = r#"
+ways:
 a report of 0 bytes under raw | seal raw | #0 | 0 | any | draws=1024 left=1001 segments=1 bytes=0 keep=run
 a report of their stream under raw | open raw | run | 0 | #0 | draws=0 left=0 segments=1 bytes=0
 a report of 4,040 bytes under raw | seal raw | #4040 | 0 | any | draws=1024 left=1001 segments=1 bytes=4040 keep=run

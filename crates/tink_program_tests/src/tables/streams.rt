@@ -1,7 +1,12 @@
 //! Whole streams through the program. Bytes and digests of streams are those of an independent model in Python.
 
-/// Streams of the model, and what they open to.
-pub const KNOWN: &str = r#"
+/// - Streams of the model, and what they open to.
+/// - What is sealed under one keyset, and opened under another.
+/// - Streams begin by the prefix of their key.
+/// - Streams of keys by each template, after a rotation and with each prefix.
+/// - The same streams, whatever the bytes that move in a call.
+pub const TABLES: &str = r#"
+ways:
 ten bytes in counter mode | seal raw 00ff zero | 'ten bytes. | 0 | 1876b8e0ada0f13d90405d6ae55386bd28bdd219b8a08ded2f087473280bfcb781da1d2067921873485fc9ded98aeb6a87dbc842f20ff403c825d41bdad241efede7
 data of other letters | open raw 00FF | 1876b8e0ada0f13d90405d6ae55386bd28bdd219b8a08ded2f087473280bfcb781da1d2067921873485fc9ded98aeb6a87dbc842f20ff403c825d41bdad241efede7 | 0 | 'ten bytes.
 ten bytes by AES-GCM | seal gcm 00ff zero | 'ten bytes. | 0 | 1876b8e0ada0f13d90405d6ae55386bd28bdd219b8a08dede382c8aa8865ed01c605fd83003669edaeb32852b9a7e7e49d0b
@@ -22,10 +27,8 @@ the small segments of A | open small - | 1876b8e0ada0f13d90405d6ae55386bd28bdd21
 AB in small segments | seal small - zero | 'AB | 0 | 1876b8e0ada0f13d90405d6ae55386bd28bdd219b8a08ded41d3fd03010cd7de192dc15ae13cb3e75d9d898047ec
 the small segments of AB | open small - | 1876b8e0ada0f13d90405d6ae55386bd28bdd219b8a08ded41d3fd03010cd7de192dc15ae13cb3e75d9d898047ec | 0 | 'AB
 an empty last segment | open small - | emptylast | 0 | #26
-"#;
 
-/// What is sealed under one keyset, and opened under another.
-pub const ROUNDS: &str = r#"
+ways:
 no text, sealed | seal raw 00ff zero | #0 | 0 | length 56 | keep=round
 no text, opened | open raw 00ff | round | 0 | #0
 a byte, sealed | seal raw 00ff zero | #1 | 0 | length 57 | keep=round
@@ -80,10 +83,8 @@ a stream of another kind, sealed | seal gcm - zero | #100 | 0 | any | keep=round
 a stream of another kind | open raw - | round | 21 |
 a keyset of two types, whose stream | seal raw - zero | #100 | 0 | any | keep=round
 a keyset of two types | open twotypes - | round | 18 |
-"#;
 
-/// Streams begin by the prefix of their key.
-pub const FRONTS: &str = r#"
+ways:
 the front of tink | seal tink - zero | | 0 | 0101020304 s0 | keep=tink0
 the front of crunchy | seal crunchy - zero | | 0 | 0001020304 s0 | keep=crunchy0
 the front of legacy, of another main key | seal legacy - zero | | 0 | length 61 | keep=legacy0
@@ -100,10 +101,8 @@ the whole stream of crunchy | open crunchy - | crunchy0 | 0 |
 a cut in the first segment of tink, 4100..4101 | open tink - | tink4041/0/% | 21 |
 a cut behind the first segment of tink | open tink - | tink4041/0/4102 | 23 1 | #4040
 a cut of the last byte of tink | open tink - | tink4041/0/4133 | 22 1 | #4040
-"#;
 
-/// Streams of keys by each template, after a rotation and with each prefix.
-pub const TEMPLATES: &str = r#"
+ways:
 new keys of the templates 0..7 | keygen @% zero | | 0 | any | line=new%
 a text under the templates 0..7 | seal new% 00 zero | #5000 | 0 | any | keep=stream%
 the templates 0..7 rotated | rotate new% @% ones | | 0 | any | line=rotated%
@@ -119,10 +118,8 @@ behind the prefix of the templates 0..7 with prefixes 1..1 | bytes | front%.~/5/
 behind the prefix of the templates 0..7 with prefixes 2..2 | bytes | front%.~/5/99999 | 0 | stream%
 behind the prefix of the templates 0..7 with prefixes 4..4 | bytes | front%.~/5/99999 | 0 | stream%
 no prefix of the templates 0..7 with prefixes 3..3 | bytes | front%.~ | 0 | stream%
-"#;
 
-/// The same streams, whatever the bytes that move in a call.
-pub const PIECES: &str = r#"
+ways:| piece=1;| piece=35;| piece=5000
 a text in pieces under the templates 0..7 | seal new% 00 zero | #5000 | 0 | stream% |
 its stream in pieces under the templates 0..7 | open new% 00 | stream% | 0 | #5000 |
 "#;

@@ -1,7 +1,12 @@
 //! Signed tokens. The known ones were made by `hmac`, `cryptography` and `base64` of Python.
 
-/// Known tokens, what is no token, and what a rotated keyset says.
-pub const KNOWN: &str = r#"
+/// - Known tokens, what is no token, and what a rotated keyset says.
+/// - Keysets that do not load as MACs.
+/// - Each type of key and each prefix, and how long payloads and tokens may be.
+/// - Calls that fail in turn. Before the first write nothing is written.
+/// - Whatever is one byte from the token.
+pub const TABLES: &str = r#"
+ways:
 the keyset of HMAC | keygen HMAC_SHA256_128BITTAG zero | | 0 | line 08fcb285d20d12680a5c0a2e747970652e676f6f676c65617069732e636f6d2f676f6f676c652e63727970746f2e74696e6b2e486d61634b657912281204080310101a2076b8e0ada0f13d90405d6ae55386bd28bdd219b8a08ded1aa836efcc8b770dc71801100118fcb285d20d2001 | line=hmac
 the keyset of AES-CMAC | keygen AES_CMAC zero | | 0 | line 08fcb285d20d12690a5d0a31747970652e676f6f676c65617069732e636f6d2f676f6f676c652e63727970746f2e74696e6b2e416573436d61634b65791226122076b8e0ada0f13d90405d6ae55386bd28bdd219b8a08ded1aa836efcc8b770dc71a0208101801100118fcb285d20d2001 | line=cmac
 the known token | sign hmac | '{"sub":1} | 0 | 'eyJzdWIiOjF9.AdpBWXyINi9jd9wXbJ4V_sGWBPqU | keep=token
@@ -30,10 +35,8 @@ the old token under keys of two types | verify macs | token | 0 | payload
 a token by the newer of two types | sign macs | payload | 0 | length 41 | keep=token3
 this under keys of two types | verify macs | token3 | 0 | payload
 this under the older of two types | verify hmac | token3 | 28 |
-"#;
 
-/// Keysets that do not load as MACs.
-pub const REFUSED: &str = r#"
+ways:
 no keyset | sign - | payload | 14 |
 no keyset, for a token | verify - | token | 14 |
 a field without its value | sign 08 | payload | 13 |
@@ -68,10 +71,8 @@ a MAC, and an AES-GCM key | sign 08fcb285d20d12680a5c0a2e747970652e676f6f676c656
 a MAC, and an AES-GCM key, for a token | verify 08fcb285d20d12680a5c0a2e747970652e676f6f676c65617069732e636f6d2f676f6f676c652e63727970746f2e74696e6b2e486d61634b657912281204080310101a2076b8e0ada0f13d90405d6ae55386bd28bdd219b8a08ded1aa836efcc8b770dc71801100118fcb285d20d200112530a480a30747970652e676f6f676c65617069732e636f6d2f676f6f676c652e63727970746f2e74696e6b2e41657347636d4b657912121a10000102030405060708090a0b0c0d0e0f1801100118848688082003 | token | 18 |
 keys of pseudorandom functions | sign new9 | payload | 18 |
 keys of pseudorandom functions, for a token | verify new9 | token | 18 |
-"#;
 
-/// Each type of key and each prefix, and how long payloads and tokens may be.
-pub const PAYLOADS: &str = r#"
+ways:
 a MAC, and a disabled AES-GCM key | sign 08fcb285d20d12680a5c0a2e747970652e676f6f676c65617069732e636f6d2f676f6f676c652e63727970746f2e74696e6b2e486d61634b657912281204080310101a2076b8e0ada0f13d90405d6ae55386bd28bdd219b8a08ded1aa836efcc8b770dc71801100118fcb285d20d200112500a480a30747970652e676f6f676c65617069732e636f6d2f676f6f676c652e63727970746f2e74696e6b2e41657347636d4b657912121a10000102030405060708090a0b0c0d0e0f1801100218052003 | payload | 0 | token
 keys of HMAC with prefixes 1..4 | bytes | hmac/0/-1 00/0/1/% | 0 | any | keep=hmac.%
 keys of AES-CMAC with prefixes 1..4 | bytes | cmac/0/-1 00/0/1/% | 0 | any | keep=cmac.%
@@ -102,10 +103,8 @@ the payload of the longest token | sign hmac | #12582890 | 0 | length 16777216 s
 the longest token | verify hmac | longest | 0 | #12582890 | room=12582890
 one byte behind the longest token | verify hmac | longest 41 | 26 |
 nothing is kept of it | bytes | | 0 | | keep=longest
-"#;
 
-/// Calls that fail in turn. Before the first write nothing is written.
-pub const CALLS: &str = r#"
+ways:
 reads 1..10 for a token | sign hmac | payload | 11 | | piece=1 read=%
 no read 11 for a token | sign hmac | payload | 0 | token | piece=1 read=11
 writes 1..41 of a token | sign hmac | payload | 12 | begins token | piece=1 write=%
@@ -142,10 +141,8 @@ room for 0..8 bytes of a payload | verify hmac | token | 12 | begins payload % |
 room for all of a payload | verify hmac | token | 0 | payload | room=9
 a read that fails before a keyset is refused | sign raw | payload | 18 | | read=1
 a write that fails before a token is refused | verify hmac | 'QQ.AdpB | 28 | | write=1
-"#;
 
-/// Whatever is one byte from the token.
-pub const CHANGED: &str = r#"
+ways:
 0..40 bytes of the token | verify hmac | token/0/% | 27/28 |
 without the byte 0..40 | verify hmac | token/0/% rest/%/99 | 27/28 |
 the byte 0..40 changed by 1..255 | verify hmac | token/0/% token/%/1/~ rest/%/99 | 27/28 |

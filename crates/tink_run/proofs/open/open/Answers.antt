@@ -1,4 +1,4 @@
-use Rattle.std.proofs.Common.{◌≡◌, ◌+◌, ℕ, List, map, ap, sym, ◌∙◌, subst, vec_len, arith}
+use Rattle.std.proofs.Common.{rules, ◌≡◌, ◌+◌, ℕ, List, map, ap, sym, ◌∙◌, subst, vec_len, arith}
 use Rattle.std.proofs.lemmas.Simd.{map-map}
 use Rattle.stream_model.specs.Opening.{OpeningKey, opening_key}
 use Rattle.tink_stream_keys.specs.StreamKinds.{key_in_set}
@@ -48,41 +48,29 @@ returns g c = record {
   sink = c.open_under.ensures.sink;
 }
 
-pub returns-in_err-keys-clause-early : goal.returns-in_err-keys-clause-early
-returns-in_err-keys-clause-early g c = leaves_same c.from_residual.result c.args.source.now c.args.sink.now
+pub returns-in_err-keys : goal.returns-in_err-keys
+returns-in_err-keys g c = record {
+  answer = search rules;
+  read = search rules;
+  order = c.in_err-keys.ensures.order;
+  early = leaves_same c.from_residual.result c.args.source.now c.args.sink.now;
+  unwritten = leaves_sink_same c.from_residual.result c.args.sink.now;
+  later = record { reads = omega arith; writes = omega arith };
+  source = g.met.S.Source.same_refl _;
+  sink = g.met.K.Sink.same_refl _;
+}
 
-pub returns-in_err-keys-clause-later : goal.returns-in_err-keys-clause-later
-returns-in_err-keys-clause-later g c = record { reads = omega arith; writes = omega arith }
-
-pub returns-in_err-keys-clause-source : goal.returns-in_err-keys-clause-source
-returns-in_err-keys-clause-source g c = g.met.S.Source.same_refl _
-
-pub returns-in_err-keys-clause-sink : goal.returns-in_err-keys-clause-sink
-returns-in_err-keys-clause-sink g c = g.met.K.Sink.same_refl _
-
-pub returns-in_err-keys-clause-order : goal.returns-in_err-keys-clause-order
-returns-in_err-keys-clause-order g c = c.in_err-keys.ensures.order
-
-pub returns-in_err-keys-clause-unwritten : goal.returns-in_err-keys-clause-unwritten
-returns-in_err-keys-clause-unwritten g c = leaves_sink_same c.from_residual.result c.args.sink.now
-
-pub returns-in_err-trial-clause-early : goal.returns-in_err-trial-clause-early
-returns-in_err-trial-clause-early g c = leaves_same c.from_residual-in_err-trial.result c.args.source.now c.args.sink.now
-
-pub returns-in_err-trial-clause-later : goal.returns-in_err-trial-clause-later
-returns-in_err-trial-clause-later g c = record { reads = omega arith; writes = omega arith }
-
-pub returns-in_err-trial-clause-source : goal.returns-in_err-trial-clause-source
-returns-in_err-trial-clause-source g c = g.met.S.Source.same_refl _
-
-pub returns-in_err-trial-clause-sink : goal.returns-in_err-trial-clause-sink
-returns-in_err-trial-clause-sink g c = g.met.K.Sink.same_refl _
-
-pub returns-in_err-trial-clause-order : goal.returns-in_err-trial-clause-order
-returns-in_err-trial-clause-order g c = c.in_ok-keys.ensures.order
-
-pub returns-in_err-trial-clause-unwritten : goal.returns-in_err-trial-clause-unwritten
-returns-in_err-trial-clause-unwritten g c = leaves_sink_same c.from_residual-in_err-trial.result c.args.sink.now
+pub returns-in_err-trial : goal.returns-in_err-trial
+returns-in_err-trial g c = record {
+  answer = search rules;
+  read = search rules;
+  order = c.in_ok-keys.ensures.order;
+  early = leaves_same c.from_residual-in_err-trial.result c.args.source.now c.args.sink.now;
+  unwritten = leaves_sink_same c.from_residual-in_err-trial.result c.args.sink.now;
+  later = record { reads = omega arith; writes = omega arith };
+  source = g.met.S.Source.same_refl _;
+  sink = g.met.K.Sink.same_refl _;
+}
 
 pub open_under-requires-clause-filled : goal.open_under-requires-clause-filled
 open_under-requires-clause-filled g c = c.in_ok-trial.ensures.filled

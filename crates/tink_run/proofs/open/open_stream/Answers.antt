@@ -1,4 +1,4 @@
-use Rattle.std.proofs.Common.{take, length, refl, sym, ap, ◌∙◌, arith, [], ◌∷◌, length-append, le_refl, le_trans, le_of_eq, lt_of_lt_of_le}
+use Rattle.std.proofs.Common.{rules, take, length, refl, sym, ap, ◌∙◌, arith, [], ◌∷◌, length-append, le_refl, le_trans, le_of_eq, lt_of_lt_of_le}
 use Rattle.std.proofs.KnownBytes.{Keeps-refl}
 use Rattle.std.proofs.lemmas.Result.{err_from_is_err_and}
 use Rattle.std.specs.Io.KnownBytes.{prepend_known}
@@ -30,29 +30,22 @@ returns-in_err-open_first g c = record {
   sink = g.met.K.Sink.same_refl _;
 }
 
-pub returns-in_err-write_all-clause-read : goal.returns-in_err-write_all-clause-read
-returns-in_err-write_all-clause-read g c =
-    let p = err_from_is_err_and c.from_residual-in_err-write_all.result c.from_residual-in_err-write_all.ensures.1 in
-    let opener = c.args.reader.now.opener in
-    let reader = c.loop-bytes.reader in
-    rw (p.1, p.2, c.in_err-write_all.ensures.refused)
-    (write_reads _ _ _ _ _ _ _ _ _ (some_first opener.some) (lt_of_lt_of_le (some_first opener.some) opener.first_fits) c.loop-bytes.invariant.reading (rw c.opened-text.ensures at c.in_err-write_all.ensures.prefix)
-    (reads_held _ reader.filled _ _ reader.buffer.items (Keeps-refl _) (le_trans reader.filled_in (le_of_eq c.loop-bytes.invariant.room))))
-
-pub returns-in_err-write_all-clause-answer : goal.returns-in_err-write_all-clause-answer
-returns-in_err-write_all-clause-answer g c =
-    let p = err_from_is_err_and c.from_residual-in_err-write_all.result c.from_residual-in_err-write_all.ensures.1 in
-    rw (p.1, p.2, c.in_err-write_all.ensures.refused)
-    (write_failed _ _ _ _ _ _ _ _ _ c.loop-bytes.invariant.reading (rw c.opened-text.ensures at c.in_err-write_all.ensures.prefix) c.loop-bytes.invariant.writes c.in_err-write_all.ensures.cause)
-
-pub returns-in_err-write_all-clause-later : goal.returns-in_err-write_all-clause-later
-returns-in_err-write_all-clause-later g c = record { reads = c.loop-bytes.invariant.reads; writes = le_trans c.loop-bytes.invariant.writes c.in_err-write_all.ensures.later }
-
-pub returns-in_err-write_all-clause-source : goal.returns-in_err-write_all-clause-source
-returns-in_err-write_all-clause-source g c = c.loop-bytes.invariant.same_source
-
-pub returns-in_err-write_all-clause-sink : goal.returns-in_err-write_all-clause-sink
-returns-in_err-write_all-clause-sink g c = g.met.K.Sink.same_trans _ _ _ c.loop-bytes.invariant.same_sink c.in_err-write_all.ensures.same
+pub returns-in_err-write_all : goal.returns-in_err-write_all
+returns-in_err-write_all g c = record {
+  answer = (let p = err_from_is_err_and c.from_residual-in_err-write_all.result c.from_residual-in_err-write_all.ensures.1 in
+      rw (p.1, p.2, c.in_err-write_all.ensures.refused)
+      (write_failed _ _ _ _ _ _ _ _ _ c.loop-bytes.invariant.reading (rw c.opened-text.ensures at c.in_err-write_all.ensures.prefix) c.loop-bytes.invariant.writes c.in_err-write_all.ensures.cause));
+  read = (let p = err_from_is_err_and c.from_residual-in_err-write_all.result c.from_residual-in_err-write_all.ensures.1 in
+      let opener = c.args.reader.now.opener in
+      let reader = c.loop-bytes.reader in
+      rw (p.1, p.2, c.in_err-write_all.ensures.refused)
+      (write_reads _ _ _ _ _ _ _ _ _ (some_first opener.some) (lt_of_lt_of_le (some_first opener.some) opener.first_fits) c.loop-bytes.invariant.reading (rw c.opened-text.ensures at c.in_err-write_all.ensures.prefix)
+      (reads_held _ reader.filled _ _ reader.buffer.items (Keeps-refl _) (le_trans reader.filled_in (le_of_eq c.loop-bytes.invariant.room)))));
+  unwritten = search rules;
+  later = record { reads = c.loop-bytes.invariant.reads; writes = le_trans c.loop-bytes.invariant.writes c.in_err-write_all.ensures.later };
+  source = c.loop-bytes.invariant.same_source;
+  sink = g.met.K.Sink.same_trans _ _ _ c.loop-bytes.invariant.same_sink c.in_err-write_all.ensures.same;
+}
 
 pub loop-bytes-init : goal.loop-bytes-init
 loop-bytes-init g c = record {

@@ -1,4 +1,4 @@
-use Rattle.std.proofs.Common.{Err, refl, le_refl, le_trans}
+use Rattle.std.proofs.Common.{refl, le_refl, le_trans}
 use Rattle.std.proofs.lemmas.Result.{err_from_is_err_and}
 use Rattle.tink_run.proofs.SealSteps.{begin_leaves, begin_refusal, leaves_late}
 use Rattle.tink_run.proofs.RunSteps.{leaves_same}

@@ -9,43 +9,32 @@ use Rattle.tink_run.proofs.EndingSteps.{begins_as, early_ends, ends_as, leaves_e
 use Rattle.tink_run.specs.Run.{LeavesEnds, LeavesSinkItself}
 use Rattle.tink_run.proofs.together.open_together.Goals as goal
 
-pub returns-clause-answer : goal.returns-clause-answer
-returns-clause-answer g c =
-    let got = g.K.Sink.got in
-    let faults = g.K.Sink.faults in
-    let left = g.S.Source.left in
-    let reads = g.S.Source.faults in
-    let first = c.new-gathered.result in
-    let then = c.open-answer.new.sink in
-    let last = c.ended.new.sink in
-    let old : Outside = outside_of left reads got faults c.args.source.now c.args.sink.now in
-    let same = c.open-answer.ensures.sink in
-    let grows : OnlyGrows old.got (got then.sink.now) = subst (λ k. OnlyGrows (got k) (got then.sink.now)) c.new-gathered.ensures.sink same.3 in
-    let early = early_ends got faults (λ s. s.sink.now) (λ s. s.waiting.now.items) c.open-answer.result c.ended.result c.args.source.now c.open-answer.new.source first then last.sink.now c.new-gathered.ensures.empty c.open-answer.ensures.early c.ended.ensures.still in
-    subst (λ k. EndsAs (OpensReading (map (opening_key c.args.aad.now) (keys_in (all_entries c.args.set.now.entries))) old) old (outside_of left reads got faults c.open-answer.new.source k) c.ended.result) (search rules)
-    (ends_as (OpensReading (map (opening_key c.args.aad.now) (keys_in (all_entries c.args.set.now.entries)))) _ old (left c.open-answer.new.source) (reads c.open-answer.new.source) (got then.sink.now) _ (got last.sink.now) (faults then.sink.now) (faults last.sink.now) c.open-answer.result c.ended.result
-    (begins_as got faults (left c.args.source.now) (reads c.args.source.now) first.sink.now c.args.sink.now first.waiting.now.items c.new-gathered.ensures.sink c.new-gathered.ensures.empty)
-    (c.open-answer.ensures.answer, c.open-answer.ensures.read) c.ended.ensures.ends grows c.ended.ensures.grows (omega (arith, ap faults c.new-gathered.ensures.sink, c.open-answer.ensures.later.writes)) c.ended.ensures.later early)
-
-pub returns-clause-order : goal.returns-clause-order
-returns-clause-order g c = c.open-answer.ensures.order
-
-pub returns-clause-source : goal.returns-clause-source
-returns-clause-source g c = c.open-answer.ensures.source
-
-pub returns-clause-sink : goal.returns-clause-sink
-returns-clause-sink g c =
-    subst (λ k. g.K.Sink.same c.args.sink.now k) (search rules)
-    (g.met.K.Sink.same_trans _ _ _ (subst (λ k. g.K.Sink.same k c.open-answer.new.sink.sink.now) c.new-gathered.ensures.sink c.open-answer.ensures.sink.2) c.ended.ensures.same)
-
-pub returns-clause-early : goal.returns-clause-early
-returns-clause-early g c =
-    subst (λ k. LeavesEnds c.ended.result c.args.source.now c.open-answer.new.source c.args.sink.now k) (search rules)
-    (leaves_ended (λ s. s.sink.now) (λ s. s.waiting.now.items) _ _ _ _ c.open-answer.result c.ended.result c.args.source.now c.open-answer.new.source c.new-gathered.result c.open-answer.new.sink c.args.sink.now c.ended.new.sink.sink.now
-    (sym c.new-gathered.ensures.sink) c.new-gathered.ensures.empty c.open-answer.ensures.early c.ended.ensures.still c.ended.ensures.ends)
-
-pub returns-clause-unwritten : goal.returns-clause-unwritten
-returns-clause-unwritten g c =
-    subst (λ k. LeavesSinkItself c.ended.result c.args.sink.now k) (search rules)
-    (leaves_sink_ended (λ s. s.sink.now) (λ s. s.waiting.now.items) _ _ _ _ c.open-answer.result c.ended.result c.new-gathered.result c.open-answer.new.sink c.args.sink.now c.ended.new.sink.sink.now (sym c.new-gathered.ensures.sink)
-    c.new-gathered.ensures.empty c.open-answer.ensures.unwritten c.ended.ensures.still c.ended.ensures.ends)
+pub returns : goal.returns
+returns g c = record {
+  answer = (let got = g.K.Sink.got in
+      let faults = g.K.Sink.faults in
+      let left = g.S.Source.left in
+      let reads = g.S.Source.faults in
+      let first = c.new-gathered.result in
+      let then = c.open-answer.new.sink in
+      let last = c.ended.new.sink in
+      let old : Outside = outside_of left reads got faults c.args.source.now c.args.sink.now in
+      let same = c.open-answer.ensures.sink in
+      let grows : OnlyGrows old.got (got then.sink.now) = subst (λ k. OnlyGrows (got k) (got then.sink.now)) c.new-gathered.ensures.sink same.3 in
+      let early = early_ends got faults (λ s. s.sink.now) (λ s. s.waiting.now.items) c.open-answer.result c.ended.result c.args.source.now c.open-answer.new.source first then last.sink.now c.new-gathered.ensures.empty c.open-answer.ensures.early c.ended.ensures.still in
+      subst (λ k. EndsAs (OpensReading (map (opening_key c.args.aad.now) (keys_in (all_entries c.args.set.now.entries))) old) old (outside_of left reads got faults c.open-answer.new.source k) c.ended.result) (search rules)
+      (ends_as (OpensReading (map (opening_key c.args.aad.now) (keys_in (all_entries c.args.set.now.entries)))) _ old (left c.open-answer.new.source) (reads c.open-answer.new.source) (got then.sink.now) _ (got last.sink.now) (faults then.sink.now) (faults last.sink.now) c.open-answer.result c.ended.result
+      (begins_as got faults (left c.args.source.now) (reads c.args.source.now) first.sink.now c.args.sink.now first.waiting.now.items c.new-gathered.ensures.sink c.new-gathered.ensures.empty)
+      (c.open-answer.ensures.answer, c.open-answer.ensures.read) c.ended.ensures.ends grows c.ended.ensures.grows (omega (arith, ap faults c.new-gathered.ensures.sink, c.open-answer.ensures.later.writes)) c.ended.ensures.later early));
+  order = c.open-answer.ensures.order;
+  early = (subst (λ k. LeavesEnds c.ended.result c.args.source.now c.open-answer.new.source c.args.sink.now k) (search rules)
+      (leaves_ended (λ s. s.sink.now) (λ s. s.waiting.now.items) _ _ _ _ c.open-answer.result c.ended.result c.args.source.now c.open-answer.new.source c.new-gathered.result c.open-answer.new.sink c.args.sink.now c.ended.new.sink.sink.now
+      (sym c.new-gathered.ensures.sink) c.new-gathered.ensures.empty c.open-answer.ensures.early c.ended.ensures.still c.ended.ensures.ends));
+  unwritten = (subst (λ k. LeavesSinkItself c.ended.result c.args.sink.now k) (search rules)
+      (leaves_sink_ended (λ s. s.sink.now) (λ s. s.waiting.now.items) _ _ _ _ c.open-answer.result c.ended.result c.new-gathered.result c.open-answer.new.sink c.args.sink.now c.ended.new.sink.sink.now (sym c.new-gathered.ensures.sink)
+      c.new-gathered.ensures.empty c.open-answer.ensures.unwritten c.ended.ensures.still c.ended.ensures.ends));
+  later = search rules;
+  source = c.open-answer.ensures.source;
+  sink = (subst (λ k. g.K.Sink.same c.args.sink.now k) (search rules)
+      (g.met.K.Sink.same_trans _ _ _ (subst (λ k. g.K.Sink.same k c.open-answer.new.sink.sink.now) c.new-gathered.ensures.sink c.open-answer.ensures.sink.2) c.ended.ensures.same));
+}

@@ -7,35 +7,29 @@ use Rattle.tink_run.proofs.EndingSteps.{begins_as, early_ends, ends_as, seals_en
 use Rattle.tink_run.specs.Run.{LeavesEnds}
 use Rattle.tink_run.proofs.together.seal_together.Goals as goal
 
-pub returns-clause-answer : goal.returns-clause-answer
-returns-clause-answer g c =
-    let got = g.K.Sink.got in
-    let faults = g.K.Sink.faults in
-    let left = g.S.Source.left in
-    let reads = g.S.Source.faults in
-    let first = c.new-gathered.result in
-    let then = c.seal-answer.new.sink in
-    let last = c.ended.new.sink in
-    let old : Outside = outside_of left reads got faults c.args.source.now c.args.sink.now in
-    let same = c.seal-answer.ensures.sink in
-    let grows : OnlyGrows old.got (got then.sink.now) = subst (λ k. OnlyGrows (got k) (got then.sink.now)) c.new-gathered.ensures.sink same.3 in
-    let early = early_ends got faults (λ s. s.sink.now) (λ s. s.waiting.now.items) c.seal-answer.result c.ended.result c.args.source.now c.seal-answer.new.source first then last.sink.now c.new-gathered.ensures.empty c.seal-answer.ensures.early c.ended.ensures.still in
-    subst (λ k. SealsUnder (key_in_set c.args.key.now) c.args.aad.now c.args.draws.now c.seal-answer.new.draws old (outside_of left reads got faults c.seal-answer.new.source k) c.ended.result) (search rules)
-    (seals_ended (key_in_set c.args.key.now) c.args.aad.now c.args.draws.now c.seal-answer.new.draws old (outside_of left reads got faults c.seal-answer.new.source last.sink.now) c.ended.result
-    (ends_as (SealsUnder (key_in_set c.args.key.now) c.args.aad.now c.args.draws.now c.seal-answer.new.draws) _ old (left c.seal-answer.new.source) (reads c.seal-answer.new.source) (got then.sink.now) _ (got last.sink.now) (faults then.sink.now) (faults last.sink.now) c.seal-answer.result c.ended.result
-    (begins_as got faults (left c.args.source.now) (reads c.args.source.now) first.sink.now c.args.sink.now first.waiting.now.items c.new-gathered.ensures.sink c.new-gathered.ensures.empty)
-    c.seal-answer.ensures.answer c.ended.ensures.ends grows c.ended.ensures.grows (omega (arith, ap faults c.new-gathered.ensures.sink, c.seal-answer.ensures.later.writes)) c.ended.ensures.later early))
-
-pub returns-clause-sink : goal.returns-clause-sink
-returns-clause-sink g c =
-    subst (λ k. g.K.Sink.same c.args.sink.now k) (search rules)
-    (g.met.K.Sink.same_trans _ _ _ (subst (λ k. g.K.Sink.same k c.seal-answer.new.sink.sink.now) c.new-gathered.ensures.sink c.seal-answer.ensures.sink.2) c.ended.ensures.same)
-
-pub returns-clause-early : goal.returns-clause-early
-returns-clause-early g c =
-    subst (λ k. LeavesEnds c.ended.result c.args.source.now c.seal-answer.new.source c.args.sink.now k) (search rules)
-    (leaves_ended (λ s. s.sink.now) (λ s. s.waiting.now.items) _ _ _ _ c.seal-answer.result c.ended.result c.args.source.now c.seal-answer.new.source c.new-gathered.result c.seal-answer.new.sink c.args.sink.now c.ended.new.sink.sink.now
-    (sym c.new-gathered.ensures.sink) c.new-gathered.ensures.empty c.seal-answer.ensures.early c.ended.ensures.still c.ended.ensures.ends)
-
-pub returns-clause-source : goal.returns-clause-source
-returns-clause-source g c = c.seal-answer.ensures.source
+pub returns : goal.returns
+returns g c = record {
+  answer = (let got = g.K.Sink.got in
+      let faults = g.K.Sink.faults in
+      let left = g.S.Source.left in
+      let reads = g.S.Source.faults in
+      let first = c.new-gathered.result in
+      let then = c.seal-answer.new.sink in
+      let last = c.ended.new.sink in
+      let old : Outside = outside_of left reads got faults c.args.source.now c.args.sink.now in
+      let same = c.seal-answer.ensures.sink in
+      let grows : OnlyGrows old.got (got then.sink.now) = subst (λ k. OnlyGrows (got k) (got then.sink.now)) c.new-gathered.ensures.sink same.3 in
+      let early = early_ends got faults (λ s. s.sink.now) (λ s. s.waiting.now.items) c.seal-answer.result c.ended.result c.args.source.now c.seal-answer.new.source first then last.sink.now c.new-gathered.ensures.empty c.seal-answer.ensures.early c.ended.ensures.still in
+      subst (λ k. SealsUnder (key_in_set c.args.key.now) c.args.aad.now c.args.draws.now c.seal-answer.new.draws old (outside_of left reads got faults c.seal-answer.new.source k) c.ended.result) (search rules)
+      (seals_ended (key_in_set c.args.key.now) c.args.aad.now c.args.draws.now c.seal-answer.new.draws old (outside_of left reads got faults c.seal-answer.new.source last.sink.now) c.ended.result
+      (ends_as (SealsUnder (key_in_set c.args.key.now) c.args.aad.now c.args.draws.now c.seal-answer.new.draws) _ old (left c.seal-answer.new.source) (reads c.seal-answer.new.source) (got then.sink.now) _ (got last.sink.now) (faults then.sink.now) (faults last.sink.now) c.seal-answer.result c.ended.result
+      (begins_as got faults (left c.args.source.now) (reads c.args.source.now) first.sink.now c.args.sink.now first.waiting.now.items c.new-gathered.ensures.sink c.new-gathered.ensures.empty)
+      c.seal-answer.ensures.answer c.ended.ensures.ends grows c.ended.ensures.grows (omega (arith, ap faults c.new-gathered.ensures.sink, c.seal-answer.ensures.later.writes)) c.ended.ensures.later early)));
+  early = (subst (λ k. LeavesEnds c.ended.result c.args.source.now c.seal-answer.new.source c.args.sink.now k) (search rules)
+      (leaves_ended (λ s. s.sink.now) (λ s. s.waiting.now.items) _ _ _ _ c.seal-answer.result c.ended.result c.args.source.now c.seal-answer.new.source c.new-gathered.result c.seal-answer.new.sink c.args.sink.now c.ended.new.sink.sink.now
+      (sym c.new-gathered.ensures.sink) c.new-gathered.ensures.empty c.seal-answer.ensures.early c.ended.ensures.still c.ended.ensures.ends));
+  later = search rules;
+  source = c.seal-answer.ensures.source;
+  sink = (subst (λ k. g.K.Sink.same c.args.sink.now k) (search rules)
+      (g.met.K.Sink.same_trans _ _ _ (subst (λ k. g.K.Sink.same k c.seal-answer.new.sink.sink.now) c.new-gathered.ensures.sink c.seal-answer.ensures.sink.2) c.ended.ensures.same));
+}

@@ -1,4 +1,4 @@
-use Rattle.std.proofs.Common.{refl, arith, le_refl}
+use Rattle.std.proofs.Common.{rules, refl, arith, le_refl}
 use Rattle.std.proofs.lemmas.Result.{err_from_is_err_and}
 use Rattle.std.specs.Prelude.{Err}
 use Rattle.tink_range.specs.ChunkReading.{Moments, ends_of}
@@ -6,46 +6,33 @@ use Rattle.tink_run.proofs.KeysetSteps.{complete, loaded, not_loaded, slices, st
 use Rattle.tink_run.proofs.SetSteps.{ranges_of_loaded, steps_of_loaded, leaves_same, unwritten_same}
 use Rattle.tink_run.proofs.ranges.of_keyset.run_range.Goals as goal
 
-pub returns-in_err-keys-clause-answer : goal.returns-in_err-keys-clause-answer
-returns-in_err-keys-clause-answer g c =
-    let returned = err_from_is_err_and c.from_residual.result c.from_residual.ensures.1 in
-    let object = c.args.object.now in
-    let e : Moments (g.row.K.Denot) = ends_of g.A.ReadAt.bytes g.A.ReadAt.faults object object c.args.sink.now c.args.sink.now in
-    rw (returned.1, returned.2)
-    (not_loaded g.K.Sink.got g.K.Sink.faults c.args.keyset.now c.args.aad.now (g.A.ReadAt.length_of object) c.args.start c.args.len object object e
-    c.in_err-keys.field-0.0 (record { unread = refl; unmoved = record { reads = refl; same = refl } }) c.in_err-keys.ensures.answer)
-
-pub returns-in_err-keys-clause-succeeds : goal.returns-in_err-keys-clause-succeeds
-returns-in_err-keys-clause-succeeds g c =
-    let returned = err_from_is_err_and c.from_residual.result c.from_residual.ensures.1 in
-    let object = c.args.object.now in
-    let e : Moments (g.row.K.Denot) = ends_of g.A.ReadAt.bytes g.A.ReadAt.faults object object c.args.sink.now c.args.sink.now in
-    let whole = g.A.ReadAt.length_of object in
-    rw (returned.1, returned.2)
-    (complete g.K.Sink.got g.K.Sink.faults c.args.keyset.now c.args.aad.now whole c.args.start c.args.len object object e (g.met.A.ReadAt.told object) (Err c.in_err-keys.field-0.0)
-    (not_loaded g.K.Sink.got g.K.Sink.faults c.args.keyset.now c.args.aad.now whole c.args.start c.args.len object object e
-    c.in_err-keys.field-0.0 (record { unread = refl; unmoved = record { reads = refl; same = refl } }) c.in_err-keys.ensures.answer))
-
-pub returns-in_err-keys-clause-kept : goal.returns-in_err-keys-clause-kept
-returns-in_err-keys-clause-kept g c =
-    let returned = err_from_is_err_and c.from_residual.result c.from_residual.ensures.1 in
-    rw (returned.1, returned.2)
-    (record { length_is = refl; bytes_are = refl; later = omega arith; count = stands_unloaded c.args.keyset.now (g.A.ReadAt.faults c.args.object.now) c.in_err-keys.field-0.0 c.in_err-keys.ensures.answer })
-
-pub returns-in_err-keys-clause-early : goal.returns-in_err-keys-clause-early
-returns-in_err-keys-clause-early g c = leaves_same c.from_residual.result c.args.object.now c.args.sink.now
-
-pub returns-in_err-keys-clause-unwritten : goal.returns-in_err-keys-clause-unwritten
-returns-in_err-keys-clause-unwritten g c = unwritten_same c.from_residual.result c.args.sink.now
-
-pub returns-in_err-keys-clause-later : goal.returns-in_err-keys-clause-later
-returns-in_err-keys-clause-later g c = le_refl _
-
-pub returns-in_err-keys-clause-object : goal.returns-in_err-keys-clause-object
-returns-in_err-keys-clause-object g c = g.met.A.ReadAt.same_refl _
-
-pub returns-in_err-keys-clause-sink : goal.returns-in_err-keys-clause-sink
-returns-in_err-keys-clause-sink g c = g.met.K.Sink.same_refl _
+pub returns-in_err-keys : goal.returns-in_err-keys
+returns-in_err-keys g c = record {
+  answer = (let returned = err_from_is_err_and c.from_residual.result c.from_residual.ensures.1 in
+      let object = c.args.object.now in
+      let e : Moments (g.row.K.Denot) = ends_of g.A.ReadAt.bytes g.A.ReadAt.faults object object c.args.sink.now c.args.sink.now in
+      rw (returned.1, returned.2)
+      (not_loaded g.K.Sink.got g.K.Sink.faults c.args.keyset.now c.args.aad.now (g.A.ReadAt.length_of object) c.args.start c.args.len object object e
+      c.in_err-keys.field-0.0 (record { unread = refl; unmoved = record { reads = refl; same = refl } }) c.in_err-keys.ensures.answer));
+  slice = search rules;
+  succeeds = (let returned = err_from_is_err_and c.from_residual.result c.from_residual.ensures.1 in
+      let object = c.args.object.now in
+      let e : Moments (g.row.K.Denot) = ends_of g.A.ReadAt.bytes g.A.ReadAt.faults object object c.args.sink.now c.args.sink.now in
+      let whole = g.A.ReadAt.length_of object in
+      rw (returned.1, returned.2)
+      (complete g.K.Sink.got g.K.Sink.faults c.args.keyset.now c.args.aad.now whole c.args.start c.args.len object object e (g.met.A.ReadAt.told object) (Err c.in_err-keys.field-0.0)
+      (not_loaded g.K.Sink.got g.K.Sink.faults c.args.keyset.now c.args.aad.now whole c.args.start c.args.len object object e
+      c.in_err-keys.field-0.0 (record { unread = refl; unmoved = record { reads = refl; same = refl } }) c.in_err-keys.ensures.answer)));
+  ticks = search rules;
+  early = leaves_same c.from_residual.result c.args.object.now c.args.sink.now;
+  unwritten = unwritten_same c.from_residual.result c.args.sink.now;
+  kept = (let returned = err_from_is_err_and c.from_residual.result c.from_residual.ensures.1 in
+      rw (returned.1, returned.2)
+      (record { length_is = refl; bytes_are = refl; later = omega arith; count = stands_unloaded c.args.keyset.now (g.A.ReadAt.faults c.args.object.now) c.in_err-keys.field-0.0 c.in_err-keys.ensures.answer }));
+  later = le_refl _;
+  object = g.met.A.ReadAt.same_refl _;
+  sink = g.met.K.Sink.same_refl _;
+}
 
 pub returns : goal.returns
 returns g c = record {

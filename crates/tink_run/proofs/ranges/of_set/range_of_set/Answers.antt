@@ -1,4 +1,4 @@
-use Rattle.std.proofs.Common.{◌≡◌, List, map, ap, sym, ◌∙◌, subst, le_refl}
+use Rattle.std.proofs.Common.{rules, ◌≡◌, List, map, ap, sym, ◌∙◌, subst, le_refl}
 use Rattle.std.proofs.lemmas.Simd.{map-map}
 use Rattle.stream_model.specs.Opening.{OpeningKey, opening_key}
 use Rattle.tink_stream_keys.specs.StreamKinds.{key_in_set}
@@ -51,38 +51,28 @@ range_under-requires g c =
           c.in_ok-trial.ensures.opened c.in_ok-trial.ensures.nonce c.in_ok-trial.ensures.prefix;
     }
 
-pub returns-in_err-keys-clause-order : goal.returns-in_err-keys-clause-order
-returns-in_err-keys-clause-order g c = c.in_err-keys.ensures.order
+pub returns-in_err-keys : goal.returns-in_err-keys
+returns-in_err-keys g c = record {
+  answer = search rules;
+  ticks = search rules;
+  order = c.in_err-keys.ensures.order;
+  early = leaves_same c.from_residual.result c.args.object.now c.args.sink.now;
+  unwritten = unwritten_same c.from_residual.result c.args.sink.now;
+  kept = search rules;
+  later = le_refl _;
+  object = g.met.A.ReadAt.same_refl _;
+  sink = g.met.K.Sink.same_refl _;
+}
 
-pub returns-in_err-keys-clause-early : goal.returns-in_err-keys-clause-early
-returns-in_err-keys-clause-early g c = leaves_same c.from_residual.result c.args.object.now c.args.sink.now
-
-pub returns-in_err-keys-clause-unwritten : goal.returns-in_err-keys-clause-unwritten
-returns-in_err-keys-clause-unwritten g c = unwritten_same c.from_residual.result c.args.sink.now
-
-pub returns-in_err-keys-clause-later : goal.returns-in_err-keys-clause-later
-returns-in_err-keys-clause-later g c = le_refl _
-
-pub returns-in_err-keys-clause-object : goal.returns-in_err-keys-clause-object
-returns-in_err-keys-clause-object g c = g.met.A.ReadAt.same_refl _
-
-pub returns-in_err-keys-clause-sink : goal.returns-in_err-keys-clause-sink
-returns-in_err-keys-clause-sink g c = g.met.K.Sink.same_refl _
-
-pub returns-in_err-trial-clause-order : goal.returns-in_err-trial-clause-order
-returns-in_err-trial-clause-order g c = c.in_ok-keys.ensures.order
-
-pub returns-in_err-trial-clause-early : goal.returns-in_err-trial-clause-early
-returns-in_err-trial-clause-early g c = leaves_same c.from_residual-in_err-trial.result c.args.object.now c.args.sink.now
-
-pub returns-in_err-trial-clause-unwritten : goal.returns-in_err-trial-clause-unwritten
-returns-in_err-trial-clause-unwritten g c = unwritten_same c.from_residual-in_err-trial.result c.args.sink.now
-
-pub returns-in_err-trial-clause-later : goal.returns-in_err-trial-clause-later
-returns-in_err-trial-clause-later g c = le_refl _
-
-pub returns-in_err-trial-clause-object : goal.returns-in_err-trial-clause-object
-returns-in_err-trial-clause-object g c = g.met.A.ReadAt.same_refl _
-
-pub returns-in_err-trial-clause-sink : goal.returns-in_err-trial-clause-sink
-returns-in_err-trial-clause-sink g c = g.met.K.Sink.same_refl _
+pub returns-in_err-trial : goal.returns-in_err-trial
+returns-in_err-trial g c = record {
+  answer = search rules;
+  ticks = search rules;
+  order = c.in_ok-keys.ensures.order;
+  early = leaves_same c.from_residual-in_err-trial.result c.args.object.now c.args.sink.now;
+  unwritten = unwritten_same c.from_residual-in_err-trial.result c.args.sink.now;
+  kept = search rules;
+  later = le_refl _;
+  object = g.met.A.ReadAt.same_refl _;
+  sink = g.met.K.Sink.same_refl _;
+}

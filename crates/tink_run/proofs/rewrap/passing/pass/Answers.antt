@@ -28,26 +28,22 @@ returns-in_err-open_first g c = record {
   sink = g.met.K.Sink.same_refl _;
 }
 
-pub returns-in_err-write-clause-answer : goal.returns-in_err-write-clause-answer
-returns-in_err-write-clause-answer g c =
-    let p = err_from_is_err_and c.from_residual-in_err-write.result c.from_residual-in_err-write.ensures.1 in
-    let before = c.args.reader.now in
-    let after = c.open_first.new.reader in
-    let opener = before.opener in
-    let m : ReaderMoment = record { progress = before.progress; number = before.segments; opened = before.opened.items; rest = prepend_known (take before.filled before.buffer.items) (g.S.Source.left c.args.source.now); faults = g.S.Source.faults c.args.source.now } in
-    let n : ReaderMoment = record { progress = after.progress; number = after.segments; opened = after.opened.items; rest = prepend_known (take after.filled after.buffer.items) (g.S.Source.left c.open_first.new.source); faults = g.S.Source.faults c.open_first.new.source } in
-    rw (p.1, p.2, c.in_err-write.ensures.refused)
-    (front_failed _ _ _ _ _ _ _ _ _ (some_first opener.some) (lt_of_lt_of_le (some_first opener.some) opener.first_fits) _ _ m n c.requires.first refl c.in_ok-open_first.ensures.answer (omega (arith, c.open_first.ensures.small, after.opened.ok.0))
-    (reads_held _ after.filled _ _ after.buffer.items (Keeps-refl _) (le_trans after.filled_in (le_of_eq c.open_first.ensures.room))) c.in_err-write.ensures.prefix c.in_err-write.ensures.cause)
-
-pub returns-in_err-write-clause-later : goal.returns-in_err-write-clause-later
-returns-in_err-write-clause-later g c = record { reads = c.open_first.ensures.later; writes = c.write.ensures.later }
-
-pub returns-in_err-write-clause-source : goal.returns-in_err-write-clause-source
-returns-in_err-write-clause-source g c = c.open_first.ensures.same
-
-pub returns-in_err-write-clause-sink : goal.returns-in_err-write-clause-sink
-returns-in_err-write-clause-sink g c = c.write.ensures.same
+pub returns-in_err-write : goal.returns-in_err-write
+returns-in_err-write g c = record {
+  answer = (let p = err_from_is_err_and c.from_residual-in_err-write.result c.from_residual-in_err-write.ensures.1 in
+      let before = c.args.reader.now in
+      let after = c.open_first.new.reader in
+      let opener = before.opener in
+      let m : ReaderMoment = record { progress = before.progress; number = before.segments; opened = before.opened.items; rest = prepend_known (take before.filled before.buffer.items) (g.S.Source.left c.args.source.now); faults = g.S.Source.faults c.args.source.now } in
+      let n : ReaderMoment = record { progress = after.progress; number = after.segments; opened = after.opened.items; rest = prepend_known (take after.filled after.buffer.items) (g.S.Source.left c.open_first.new.source); faults = g.S.Source.faults c.open_first.new.source } in
+      rw (p.1, p.2, c.in_err-write.ensures.refused)
+      (front_failed _ _ _ _ _ _ _ _ _ (some_first opener.some) (lt_of_lt_of_le (some_first opener.some) opener.first_fits) _ _ m n c.requires.first refl c.in_ok-open_first.ensures.answer (omega (arith, c.open_first.ensures.small, after.opened.ok.0))
+      (reads_held _ after.filled _ _ after.buffer.items (Keeps-refl _) (le_trans after.filled_in (le_of_eq c.open_first.ensures.room))) c.in_err-write.ensures.prefix c.in_err-write.ensures.cause));
+  unwritten = search rules;
+  later = record { reads = c.open_first.ensures.later; writes = c.write.ensures.later };
+  source = c.open_first.ensures.same;
+  sink = c.write.ensures.same;
+}
 
 pub loop-bytes-init : goal.loop-bytes-init
 loop-bytes-init g c =
