@@ -13,7 +13,7 @@ use tink_sets::sorts::{
     Aeads, DeterministicAeads, HybridDecrypters, HybridEncrypters, Macs, Prfs, Signers, Sort,
     StreamingAeads, Verifiers,
 };
-use tink_testutil::{Answer, Told, gives, made};
+use tink_testutil::{Answer, Ask, Told, gives, made};
 
 /// Encrypts where the primitive is an AEAD.
 fn encrypt_by<K: Kinds>(
@@ -47,7 +47,7 @@ enum Name {
 }
 
 fn primitive(of: &Name) -> Primitive<Plains> {
-    match of {
+    match *of {
         Name::Aead | Name::Encrypting => Primitive::Aead(Plain),
         Name::DeterministicAead => Primitive::DeterministicAead(Plain),
         Name::HybridDecrypt => Primitive::HybridDecrypt(Plain),
@@ -66,7 +66,7 @@ fn picked_by<S: Sort<Plains>>(p: Primitive<Plains>) -> Result<bool, TinkError> {
 
 // Whether the conversion to a sort hands the primitive out.
 fn picked(alloc: Global, p: Primitive<Plains>, sort: &Name) -> Result<bool, TinkError> {
-    match sort {
+    match *sort {
         Name::Aead => picked_by::<Aeads>(p),
         Name::DeterministicAead => picked_by::<DeterministicAeads>(p),
         Name::HybridDecrypt => picked_by::<HybridDecrypters>(p),
@@ -90,88 +90,104 @@ fn copy_picked(alloc: Global, p: &Primitive<Plains>, sort: &Name) -> Result<bool
     }
 }
 
+// A primitive's sort, and the sort that it is asked for as. `true` asks a copy of it.
+struct As(Name, Name);
+
+impl Ask<bool> for As {
+    fn answer(&self, alloc: Global, of_copy: &mut bool) -> Result<bool, TinkError> {
+        if *of_copy {
+            copy_picked(alloc, &primitive(&self.0), &self.1)
+        } else {
+            picked(alloc, primitive(&self.0), &self.1)
+        }
+    }
+}
+
 const WRONG: Answer = Err(Kind::WrongPrimitive);
 
-// A primitive's sort, and the sort that it is asked for as.
-const CONVERSIONS: &[(&str, Name, Name, Answer)] = &[
-    ("AEAD", Name::Aead, Name::Aead, Ok(true)),
+// A primitive is handed out as its sort, and refused as another.
+const CONVERSIONS: &[(&str, As, Answer)] = &[
+    ("AEAD", As(Name::Aead, Name::Aead), Ok(true)),
     (
         "deterministic AEAD",
-        Name::DeterministicAead,
-        Name::DeterministicAead,
+        As(Name::DeterministicAead, Name::DeterministicAead),
         Ok(true),
     ),
     (
         "hybrid decryption",
-        Name::HybridDecrypt,
-        Name::HybridDecrypt,
+        As(Name::HybridDecrypt, Name::HybridDecrypt),
         Ok(true),
     ),
     (
         "hybrid encryption",
-        Name::HybridEncrypt,
-        Name::HybridEncrypt,
+        As(Name::HybridEncrypt, Name::HybridEncrypt),
         Ok(true),
     ),
-    ("MAC", Name::Mac, Name::Mac, Ok(true)),
-    ("PRF", Name::Prf, Name::Prf, Ok(true)),
-    ("signer", Name::Signer, Name::Signer, Ok(true)),
+    ("MAC", As(Name::Mac, Name::Mac), Ok(true)),
+    ("PRF", As(Name::Prf, Name::Prf), Ok(true)),
+    ("signer", As(Name::Signer, Name::Signer), Ok(true)),
     (
         "streaming AEAD",
-        Name::StreamingAead,
-        Name::StreamingAead,
+        As(Name::StreamingAead, Name::StreamingAead),
         Ok(true),
     ),
-    ("verifier", Name::Verifier, Name::Verifier, Ok(true)),
+    ("verifier", As(Name::Verifier, Name::Verifier), Ok(true)),
     (
         "deterministic AEAD as AEAD",
-        Name::DeterministicAead,
-        Name::Aead,
+        As(Name::DeterministicAead, Name::Aead),
         WRONG,
     ),
     (
         "AEAD as deterministic AEAD",
-        Name::Aead,
-        Name::DeterministicAead,
+        As(Name::Aead, Name::DeterministicAead),
         WRONG,
     ),
     (
         "hybrid encryption as decryption",
-        Name::HybridEncrypt,
-        Name::HybridDecrypt,
+        As(Name::HybridEncrypt, Name::HybridDecrypt),
         WRONG,
     ),
     (
         "hybrid decryption as encryption",
-        Name::HybridDecrypt,
-        Name::HybridEncrypt,
+        As(Name::HybridDecrypt, Name::HybridEncrypt),
         WRONG,
     ),
-    ("PRF as MAC", Name::Prf, Name::Mac, WRONG),
-    ("MAC as PRF", Name::Mac, Name::Prf, WRONG),
-    ("MAC as AEAD", Name::Mac, Name::Aead, WRONG),
-    ("verifier as signer", Name::Verifier, Name::Signer, WRONG),
+    ("PRF as MAC", As(Name::Prf, Name::Mac), WRONG),
+    ("MAC as PRF", As(Name::Mac, Name::Prf), WRONG),
+    ("MAC as AEAD", As(Name::Mac, Name::Aead), WRONG),
+    (
+        "verifier as signer",
+        As(Name::Verifier, Name::Signer),
+        WRONG,
+    ),
     (
         "AEAD as streaming AEAD",
-        Name::Aead,
-        Name::StreamingAead,
+        As(Name::Aead, Name::StreamingAead),
         WRONG,
     ),
-    ("signer as verifier", Name::Signer, Name::Verifier, WRONG),
-    ("an AEAD encrypts", Name::Aead, Name::Encrypting, Ok(true)),
+    (
+        "signer as verifier",
+        As(Name::Signer, Name::Verifier),
+        WRONG,
+    ),
+    (
+        "an AEAD encrypts",
+        As(Name::Aead, Name::Encrypting),
+        Ok(true),
+    ),
     (
         "another sort does not encrypt",
-        Name::Prf,
-        Name::Encrypting,
+        As(Name::Prf, Name::Encrypting),
         WRONG,
     ),
 ];
 
-/// A primitive and its copy are handed out as their sort, and refused as another.
-pub fn a_primitive_is_handed_out_as_its_sort(alloc: Global, told: &mut Told) {
-    for (row, of, sort, want) in CONVERSIONS {
-        let copied = copy_picked(alloc, &primitive(of), sort);
-        told.expect(copied, *want, row);
-        told.expect(picked(alloc, primitive(of), sort), *want, row);
-    }
+fn conversions(alloc: Global, told: &mut Told, of_copy: bool) {
+    told.walk(alloc, of_copy, CONVERSIONS);
+}
+
+/// A primitive and its copy.
+pub fn rows(alloc: Global, told: &mut Told) {
+    conversions(alloc, told, false);
+    conversions(alloc, told, true);
 }

@@ -10,7 +10,8 @@ use tink_primitives::{Aead, Primitive};
 use tink_proto::{Bytes, KeyData, KeyMaterialType, KeyTemplate, Text};
 use tink_registry::{KeyManager, Registry};
 use tink_testutil::{
-    Answer, TestAead, TestKinds, TestManager, Told, URL, draws_of, gives, made, template,
+    Answer, Ask, TestAead, TestKinds, TestManager, Told, URL, asked, draws_of, gives, made,
+    template,
 };
 
 /// What a manager that a registry finds builds of a key.
@@ -32,10 +33,14 @@ fn built_by<M: KeyManager>(
 enum Step {
     // Something is registered.
     Register(Added),
-    // The URL's manager says of itself what one of symmetric keys does.
-    IsManaged(&'static str),
-    // The URL's manager gives the public part of a key.
-    GivesPublic(&'static str),
+    // Something is registered, or nothing of it.
+    Alone(Added),
+    // The same beside FIRST and BEFORE, which stay as they are.
+    Beside(Added),
+    // So many of these were taken, or more.
+    Taken(usize),
+    // The URL's manager is asked.
+    Says(&'static str, Said),
     // The template of the name has the URL.
     HasTemplate(&'static str, &'static str),
     // The names of the templates are these.
@@ -116,32 +121,37 @@ fn register(
     registry: &mut Registry<TestManager>,
     added: &Added,
 ) -> Result<(), TinkError> {
-    match added {
+    match *added {
         Added::Manager(url) => registry.register_key_manager(alloc, TestManager::new(url)),
         Added::Both(one, other) => register_two(alloc, registry, one, other),
         Added::Template(name, url) => put_template(alloc, registry, name, url),
     }
 }
 
-// Whether a manager says of itself what one of symmetric keys does.
-fn is_symmetric(manager: Result<&TestManager, TinkError>, url: &str) -> Result<bool, TinkError> {
-    match manager {
-        Ok(manager) => Ok(
-            manager.type_url() == url
-                && manager.does_support(url)
-                && manager.key_material_type() == KeyMaterialType::Symmetric
-                && !manager.supports_private_keys(),
-        ),
-        Err(e) => Err(e),
-    }
+// What is asked of a manager.
+enum Said {
+    // It says of itself what one of symmetric keys does.
+    Symmetric,
+    // It gives the public part of a key.
+    Public,
 }
 
-fn gives_public(
+fn is_said(
     alloc: Global,
     manager: Result<&TestManager, TinkError>,
+    url: &str,
+    said: &Said,
 ) -> Result<bool, TinkError> {
     match manager {
-        Ok(manager) => made(manager.public_key_data(alloc, &[7; 16])),
+        Ok(manager) => match *said {
+            Said::Symmetric => Ok(
+                (manager.type_url() == url)
+                    & manager.does_support(url)
+                    & (manager.key_material_type() == KeyMaterialType::Symmetric)
+                    & !manager.supports_private_keys(),
+            ),
+            Said::Public => made(manager.public_key_data(alloc, &[7; 16])),
+        },
         Err(e) => Err(e),
     }
 }
@@ -160,7 +170,7 @@ fn are_names(
 ) -> Result<bool, TinkError> {
     match names {
         Ok(names) => match names.as_slice() {
-            [a, b] => Ok(a.as_str() == one && b.as_str() == other),
+            [a, b] => Ok((a.as_str() == one) & (b.as_str() == other)),
             _ => Ok(false),
         },
         Err(e) => Err(e),
@@ -169,19 +179,20 @@ fn are_names(
 
 // Whether the registry has a manager of the name and a template, or neither, as it is asked.
 fn has(registry: &Registry<TestManager>, name: &str, wanted: bool) -> bool {
-    registry.get_key_manager(name).is_ok() == wanted
-        && registry.get_template_generator(name).is_some() == wanted
+    (registry.get_key_manager(name).is_ok() == wanted)
+        & (registry.get_template_generator(name).is_some() == wanted)
 }
 
-// Whether the data are the test URL's, with sixteen digits 7 and of the material 1.
-fn are_sevens(data: Result<KeyData, TinkError>) -> Result<bool, TinkError> {
-    match data {
-        Ok(kd) => Ok(
-            kd.type_url.as_str() == URL
-                && kd.value.as_slice() == [b'7'; 16].as_slice()
-                && kd.key_material_type == 1,
-        ),
-        Err(e) => Err(e),
+// The data are the test URL's, with sixteen digits 7 and of the material 1.
+struct Sevens;
+
+impl Ask<KeyData> for Sevens {
+    fn answer(&self, _alloc: Global, kd: &mut KeyData) -> Result<bool, TinkError> {
+        Ok(
+            (kd.type_url.as_str() == URL)
+                & (kd.value.as_slice() == [b'7'; 16].as_slice())
+                & (kd.key_material_type == 1),
+        )
     }
 }
 
@@ -222,16 +233,16 @@ fn new_primitive(
     }
 }
 
-fn makes(
+fn makes_by(
     alloc: Global,
     registry: &Registry<TestManager>,
     kt: &KeyTemplate,
     of: &Made,
     draws: &mut Draws,
 ) -> Result<bool, TinkError> {
-    match of {
+    match *of {
         Made::Key => gives(registry.new_key(alloc, kt, draws), &[b'7'; 16]),
-        Made::Data => are_sevens(registry.new_key_data(alloc, kt, draws)),
+        Made::Data => asked(alloc, registry.new_key_data(alloc, kt, draws), &Sevens),
         Made::Sealing(want) => {
             let built = new_primitive(alloc, registry, kt, draws);
             gives(sealed_by(alloc, built, draws), want)
@@ -239,29 +250,77 @@ fn makes(
     }
 }
 
-fn held(
-    alloc: Global,
-    registry: &Registry<TestManager>,
-    step: &Step,
-    draws: &mut Draws,
-) -> Result<bool, TinkError> {
-    match step {
-        Step::IsManaged(url) => is_symmetric(registry.get_key_manager(url), url),
-        Step::GivesPublic(url) => gives_public(alloc, registry.get_key_manager(url)),
-        Step::HasTemplate(name, url) => Ok(has_template(registry, name, url)),
-        Step::HasNames(one, other) => are_names(registry.template_names(alloc), one, other),
-        Step::HasBoth(name, wanted) => Ok(has(registry, name, *wanted)),
-        Step::Makes(url, of) => match template(alloc, url, &[], 1) {
-            Ok(kt) => makes(alloc, registry, &kt, of, draws),
-            Err(e) => Err(e),
-        },
-        Step::Left(n) => Ok(draws.left() == *n),
-        Step::FindsAndBuilds(url, key) => made(aead_of(built_by(registry, alloc, url, key))),
-        Step::Opens(url, key, sealed) => gives(
-            opened_by(alloc, registry.primitive(alloc, url, key), sealed),
-            b"abc",
-        ),
-        Step::Register(_) => Ok(false),
+// A registry, what is drawn, and how many registrations were tried and taken.
+#[derive(Drop)]
+struct World {
+    registry: Registry<TestManager>,
+    draws: Draws,
+    taken: usize,
+}
+
+fn makes(alloc: Global, of: &mut World, url: &str, what: &Made) -> Result<bool, TinkError> {
+    match template(alloc, url, &[], 1) {
+        Ok(kt) => makes_by(alloc, &of.registry, &kt, what, &mut of.draws),
+        Err(e) => Err(e),
+    }
+}
+
+// Whether what was registered is there, or is not.
+fn is_there(registry: &Registry<TestManager>, added: &Added, wanted: bool) -> bool {
+    match *added {
+        Added::Manager(url) => registry.get_key_manager(url).is_ok() == wanted,
+        Added::Both(one, other) => has(registry, one, wanted) & has(registry, other, wanted),
+        Added::Template(name, url) => has_template(registry, name, url) == wanted,
+    }
+}
+
+const FIRST: Added = Added::Manager("first");
+
+const BEFORE: Added = Added::Template("before", URL);
+
+fn is_whole(alloc: Global, of: &mut World, added: &Added) -> bool {
+    let done = register(alloc, &mut of.registry, added).is_ok();
+    of.taken = of.taken.wrapping_add(done as usize);
+    is_there(&of.registry, added, done)
+}
+
+fn is_beside(alloc: Global, of: &mut World, added: &Added) -> bool {
+    let first = is_there(&of.registry, &FIRST, true);
+    let before = is_there(&of.registry, &BEFORE, true);
+    is_whole(alloc, of, added)
+        & is_there(&of.registry, &FIRST, first)
+        & is_there(&of.registry, &BEFORE, before)
+}
+
+impl Ask<World> for Step {
+    fn answer(&self, alloc: Global, of: &mut World) -> Result<bool, TinkError> {
+        match *self {
+            Step::Register(ref added) => made(register(alloc, &mut of.registry, added)),
+            Step::Alone(ref added) => Ok(is_whole(alloc, of, added)),
+            Step::Beside(ref added) => Ok(is_beside(alloc, of, added)),
+            Step::Taken(n) => Ok(n <= of.taken),
+            Step::Says(url, ref said) => is_said(
+                alloc,
+                of.registry.get_key_manager(url),
+                url,
+                said,
+            ),
+            Step::HasTemplate(name, url) => Ok(has_template(&of.registry, name, url)),
+            Step::HasNames(one, other) => are_names(of.registry.template_names(alloc), one, other),
+            Step::HasBoth(name, wanted) => Ok(has(&of.registry, name, wanted)),
+            Step::Makes(url, ref what) => makes(alloc, of, url, what),
+            Step::Left(n) => Ok(of.draws.left() == n),
+            Step::FindsAndBuilds(url, key) => made(aead_of(built_by(
+                &of.registry,
+                alloc,
+                url,
+                key,
+            ))),
+            Step::Opens(url, key, sealed) => gives(
+                opened_by(alloc, of.registry.primitive(alloc, url, key), sealed),
+                b"abc",
+            ),
+        }
     }
 }
 
@@ -329,15 +388,19 @@ const STEPS: &[(&str, Step, Answer)] = &[
         Step::Register(Added::Manager("another")),
         Ok(true),
     ),
-    ("its manager", Step::IsManaged("another"), Ok(true)),
+    (
+        "its manager",
+        Step::Says("another", Said::Symmetric),
+        Ok(true),
+    ),
     (
         "a URL that is not there",
-        Step::IsManaged("third"),
+        Step::Says("third", Said::Symmetric),
         UNSUPPORTED,
     ),
     (
         "its public key",
-        Step::GivesPublic("another"),
+        Step::Says("another", Said::Public),
         Err(Kind::NoPrivateKeys),
     ),
     // Names are sorted and stand once.
@@ -389,59 +452,43 @@ const STEPS: &[(&str, Step, Answer)] = &[
 // The draws of STEPS.
 const DRAWS: &[u8] = b"0123456789abcdefd77777777777777777777777777777777777777777777777";
 
-fn walk(told: &mut Told, alloc: Global, registry: &mut Registry<TestManager>, draws: &mut Draws) {
-    for (row, step, want) in STEPS {
-        let got = match step {
-            Step::Register(added) => made(register(alloc, registry, added)),
-            _ => held(alloc, registry, step, draws),
-        };
-        told.expect(got, *want, row);
-    }
-}
-
-pub fn a_registry_goes_by_its_steps(alloc: Global, told: &mut Told) {
-    match draws_of(alloc, DRAWS) {
-        Ok(mut draws) => walk(told, alloc, &mut Registry::new(alloc), &mut draws),
-        Err(e) => told.expect(Err(e), Ok(true), "the draws"),
-    }
-}
-
-// Whether what was registered is there, or is not.
-fn is_there(registry: &Registry<TestManager>, added: &Added, wanted: bool) -> bool {
-    match added {
-        Added::Manager(url) => registry.get_key_manager(url).is_ok() == wanted,
-        Added::Both(one, other) => has(registry, one, wanted) && has(registry, other, wanted),
-        Added::Template(name, url) => has_template(registry, name, url) == wanted,
-    }
-}
-
-const FIRST: Added = Added::Manager("first");
-
-const BEFORE: Added = Added::Template("before", URL);
-
-const BEHIND: &[Added] = &[
-    Added::Manager("e"),
-    Added::Template("e", "e"),
-    Added::Both("f", "g"),
+// What is tried of another one: a call that is refused for `OutOfMemory` registers nothing, and one that isn't registers
+// all.
+const TRIED: &[(&str, Step, Answer)] = &[
+    ("what was registered", Step::Alone(FIRST), Ok(true)),
+    ("what was registered", Step::Alone(BEFORE), Ok(true)),
+    (
+        "what was registered",
+        Step::Beside(Added::Manager("e")),
+        Ok(true),
+    ),
+    (
+        "what was registered",
+        Step::Beside(Added::Template("e", "e")),
+        Ok(true),
+    ),
+    (
+        "what was registered",
+        Step::Beside(Added::Both("f", "g")),
+        Ok(true),
+    ),
+    // Nearly all are.
+    ("what was registered", Step::Taken(4), Ok(true)),
 ];
 
-// Whether a registration that is refused registers nothing, and one that isn't registers all, beside what was there; and nearly all do.
-fn is_whole_or_nothing(alloc: Global, registry: &mut Registry<TestManager>) -> bool {
-    let first = register(alloc, registry, &FIRST).is_ok();
-    let before = register(alloc, registry, &BEFORE).is_ok();
-    let mut count = (first as usize).wrapping_add(before as usize);
-    let mut holds = true;
-    for added in BEHIND {
-        let done = register(alloc, registry, added).is_ok();
-        count = count.wrapping_add(done as usize);
-        holds = holds && is_there(registry, added, done);
+// A new registry with these draws.
+fn new_world(alloc: Global, draws: &[u8]) -> Result<World, TinkError> {
+    match draws_of(alloc, draws) {
+        Ok(draws) => Ok(World {
+            registry: Registry::new(alloc),
+            draws,
+            taken: 0,
+        }),
+        Err(e) => Err(e),
     }
-    let left = is_there(registry, &FIRST, first) && is_there(registry, &BEFORE, before);
-    holds && left && 4 <= count
 }
 
-/// A call that is refused for `OutOfMemory` registers nothing, and one that isn't registers all.
-pub fn a_registration_is_whole_or_nothing(alloc: Global, told: &mut Told) {
-    let holds = is_whole_or_nothing(alloc, &mut Registry::new(alloc));
-    told.expect(Ok(holds), Ok(true), "what was registered");
+pub fn rows(alloc: Global, told: &mut Told) {
+    told.walk_made(alloc, new_world(alloc, DRAWS), "the draws", STEPS);
+    told.walk_made(alloc, new_world(alloc, b""), "the draws", TRIED);
 }

@@ -1,20 +1,20 @@
 //! Sets of test primitives.
 
-ghost use Rattle.std.specs.Prelude.{◌≡◌, ◌∷◌, [], IfOk, OnOk, OnErr};
+ghost use Rattle.std.specs.Prelude.{◌≡◌, ◌∷◌, [], Ok, IfOk, OnOk, OnErr};
 ghost use Rattle.tink_sets.specs.Groups.{AddsLast, AreGroupsOf, HaveSameGroups};
 ghost use Rattle.tink_sets.specs.Entries.{entry_of, prefix_of};
 
 use std::alloc::Global;
 use std::collections::BTreeMap;
 use tink_io::{Kind, TinkError};
-use tink_primitives::{KeyId, Kinds, Primitive};
+use tink_primitives::{KeyId, Kinds, Never, Primitive};
 use tink_proto::{Bytes, Key, KeyStatusType, OutputPrefixType};
 use tink_sets::cryptofmt::{
     LEGACY_PREFIX_SIZE, LEGACY_START_BYTE, NON_RAW_PREFIX_SIZE, RAW_PREFIX, RAW_PREFIX_SIZE,
     TINK_PREFIX_SIZE, TINK_START_BYTE, output_prefix,
 };
 use tink_sets::{Entry, PrimitiveSet, TypedPrimitiveSet};
-use tink_testutil::{Answer, TestAead, TestKinds, Told, gives, made};
+use tink_testutil::{Answer, Ask, TestAead, TestKinds, Told, asked, gives, made};
 
 // An AEAD that is known by the one byte of its key.
 fn numbered(alloc: Global, number: u8) -> Result<TestAead, TinkError> {
@@ -45,8 +45,16 @@ fn set_of_one<K: Kinds>(
     ensures { IfOk result (λ set. AreGroupsOf prefix_of (entry_of p key.now ∷ []) set.entries) }
 {
     let mut set = PrimitiveSet::new(alloc);
-    match set.put(alloc, p, key) {
-        Ok(()) => Ok(set),
+    let put = set.put(alloc, p, key);
+    kept(set, put)
+}
+
+// A value after a call of it that was Ok. Generic in the value, which is then let go in one step.
+fn kept<A: Drop>(value: A, told: Result<(), TinkError>) -> Result<A, TinkError>
+    ensures { IfOk result (λ kept. (told ≡ Ok tt) × (kept ≡ value)) }
+{
+    match told {
+        Ok(()) => Ok(value),
         Err(e) => Err(e),
     }
 }
@@ -68,18 +76,15 @@ fn added_id<K: Kinds>(
     }
 }
 
-// The first byte of a key.
-fn number_in(held: &TestAead) -> Option<u8> {
-    match held.key.as_slice() {
-        [number, ..] => Some(*number),
-        [] => None,
-    }
+// Whether the key of an AEAD is this byte.
+fn is_number(held: &TestAead, number: u8) -> bool {
+    held.key.as_slice() == [number].as_slice()
 }
 
-fn number_of(entry: &Entry<TestKinds>) -> Option<u8> {
+fn has_number(entry: &Entry<TestKinds>, number: u8) -> bool {
     match &entry.primitive {
-        Primitive::Aead(p) | Primitive::StreamingAead(p) => number_in(p),
-        _ => None,
+        Primitive::Aead(p) | Primitive::StreamingAead(p) => is_number(p, number),
+        _ => false,
     }
 }
 
@@ -93,13 +98,23 @@ enum How {
     Id,
 }
 
+// An entry of the number that is added for a key of the type and the status.
+struct Added(How, u8, OutputPrefixType, i32);
+
+// The RAW entries are two, of these numbers.
+struct Raws(u8, u8);
+
 // What is asked of a set.
 enum Step {
-    // An entry of the number is added for a key of the type and the status.
-    Add(How, u8, OutputPrefixType, i32),
-    // The RAW entries have these numbers, and those of a copy.
-    Raws(u8, u8),
-    CopiedRaws(u8, u8),
+    // An entry is added.
+    Add(Added),
+    // A RAW entry and a TINK one are each added, or the set is left.
+    Both(Added, Added),
+    // There are so many RAW and TINK entries, or more.
+    Hold(usize),
+    Raws(Raws),
+    // Those of a copy.
+    CopiedRaws(Raws),
     // So many entries have the prefix.
     Count(&'static [u8], usize),
     // A key of the type has the prefix.
@@ -111,7 +126,7 @@ enum Step {
 // Whether an entry that is lent has the number.
 fn is_numbered(entry: Result<&Entry<TestKinds>, TinkError>, number: u8) -> Result<bool, TinkError> {
     match entry {
-        Ok(entry) => Ok(number_of(entry) == Some(number)),
+        Ok(entry) => Ok(has_number(entry, number)),
         Err(e) => Err(e),
     }
 }
@@ -123,50 +138,47 @@ fn is_id(id: Result<KeyId, TinkError>) -> Result<bool, TinkError> {
     }
 }
 
-fn added(
+fn add_by(
     alloc: Global,
     set: &mut PrimitiveSet<TestKinds>,
-    how: &How,
     p: Primitive<TestKinds>,
-    number: u8,
+    entry: &Added,
     key: &Key,
 ) -> Result<bool, TinkError> {
-    match how {
+    match entry.0 {
         How::Put => made(set.put(alloc, p, key)),
-        How::Lend => is_numbered(set.add(alloc, p, key), number),
+        How::Lend => is_numbered(set.add(alloc, p, key), entry.1),
         How::Id => is_id(added_id(alloc, set, p, key)),
     }
 }
 
-fn add(
-    alloc: Global,
-    set: &mut PrimitiveSet<TestKinds>,
-    how: &How,
-    number: u8,
-    key: &Key,
-) -> Result<bool, TinkError> {
-    match aead(alloc, number) {
-        Ok(p) => added(alloc, set, how, p, number, key),
+fn add(alloc: Global, set: &mut PrimitiveSet<TestKinds>, entry: &Added) -> Result<bool, TinkError> {
+    match aead(alloc, entry.1) {
+        Ok(p) => add_by(alloc, set, p, entry, &key_of(entry.2, entry.3)),
         Err(e) => Err(e),
     }
 }
 
-fn are_numbers(entries: &[Entry<TestKinds>], one: u8, other: u8) -> bool {
-    match entries {
-        [a, b] => number_of(a) == Some(one) && number_of(b) == Some(other),
-        _ => false,
-    }
+// How many TINK entries there are.
+fn tinks(set: &PrimitiveSet<TestKinds>) -> usize {
+    set.entries_for_prefix(&[1, 1, 2, 3, 4]).len()
 }
 
-fn copied_are_numbers(
-    alloc: Global,
-    set: &PrimitiveSet<TestKinds>,
-    one: u8,
-    other: u8,
-) -> Result<bool, TinkError> {
-    match set.try_clone(alloc) {
-        Ok(copy) => Ok(are_numbers(copy.raw_entries(), one, other)),
-        Err(e) => Err(e),
+fn both(alloc: Global, set: &mut PrimitiveSet<TestKinds>, raw: &Added, tink: &Added) -> bool {
+    let raws = set.raw_entries().len();
+    let others = tinks(set);
+    let one = add(alloc, set, raw).is_ok();
+    let other = add(alloc, set, tink).is_ok();
+    (set.raw_entries().len() == raws.wrapping_add(one as usize))
+        & (tinks(set) == others.wrapping_add(other as usize))
+}
+
+impl Ask<PrimitiveSet<TestKinds>> for Raws {
+    fn answer(&self, _alloc: Global, set: &mut PrimitiveSet<TestKinds>) -> Result<bool, TinkError> {
+        match set.raw_entries() {
+            [a, b] => Ok(has_number(a, self.0) & has_number(b, self.1)),
+            _ => Ok(false),
+        }
     }
 }
 
@@ -177,23 +189,21 @@ fn are_constants() -> bool {
         LEGACY_PREFIX_SIZE,
         RAW_PREFIX_SIZE,
     ];
-    sizes == [5, 5, 5, 0] && TINK_START_BYTE == 1 && LEGACY_START_BYTE == 0
+    (sizes == [5, 5, 5, 0]) & (TINK_START_BYTE == 1) & (LEGACY_START_BYTE == 0)
 }
 
-fn answered(
-    alloc: Global,
-    set: &mut PrimitiveSet<TestKinds>,
-    step: &Step,
-) -> Result<bool, TinkError> {
-    match step {
-        Step::Add(how, number, prefix, status) => {
-            add(alloc, set, how, *number, &key_of(*prefix, *status))
+impl Ask<PrimitiveSet<TestKinds>> for Step {
+    fn answer(&self, alloc: Global, set: &mut PrimitiveSet<TestKinds>) -> Result<bool, TinkError> {
+        match *self {
+            Step::Add(ref entry) => add(alloc, set, entry),
+            Step::Both(ref raw, ref tink) => Ok(both(alloc, set, raw, tink)),
+            Step::Hold(n) => Ok(n <= set.raw_entries().len().wrapping_add(tinks(set))),
+            Step::Raws(ref raws) => raws.answer(alloc, set),
+            Step::CopiedRaws(ref raws) => asked(alloc, set.try_clone(alloc), raws),
+            Step::Count(prefix, n) => Ok(set.entries_for_prefix(prefix).len() == n),
+            Step::Prefix(prefix, want) => gives(output_prefix(alloc, &key_of(prefix, 1)), want),
+            Step::Constants => Ok(are_constants()),
         }
-        Step::Raws(one, other) => Ok(are_numbers(set.raw_entries(), *one, *other)),
-        Step::CopiedRaws(one, other) => copied_are_numbers(alloc, set, *one, *other),
-        Step::Count(prefix, n) => Ok(set.entries_for_prefix(prefix).len() == *n),
-        Step::Prefix(prefix, want) => gives(output_prefix(alloc, &key_of(*prefix, 1)), want),
-        Step::Constants => Ok(are_constants()),
     }
 }
 
@@ -231,24 +241,32 @@ const STEPS: &[(&str, Step, Answer)] = &[
     // A key that may not stand is refused.
     (
         "a key of no prefix",
-        Step::Add(How::Put, 7, UNKNOWN, 1),
+        Step::Add(Added(How::Put, 7, UNKNOWN, 1)),
         Err(Kind::UnknownPrefix),
     ),
     (
         "a disabled key of no prefix",
-        Step::Add(How::Put, 7, UNKNOWN, 2),
+        Step::Add(Added(How::Put, 7, UNKNOWN, 2)),
         Err(Kind::NotEnabled),
     ),
     ("no entry of a refused key", Step::Count(b"", 0), Ok(true)),
     // Entries stand in the order of adding.
-    ("a RAW entry", Step::Add(How::Put, 7, RAW, 1), Ok(true)),
-    ("a TINK entry", Step::Add(How::Put, 8, TINK, 1), Ok(true)),
     (
-        "another RAW entry",
-        Step::Add(How::Put, 9, RAW, 1),
+        "a RAW entry",
+        Step::Add(Added(How::Put, 7, RAW, 1)),
         Ok(true),
     ),
-    ("the RAW entries", Step::Raws(7, 9), Ok(true)),
+    (
+        "a TINK entry",
+        Step::Add(Added(How::Put, 8, TINK, 1)),
+        Ok(true),
+    ),
+    (
+        "another RAW entry",
+        Step::Add(Added(How::Put, 9, RAW, 1)),
+        Ok(true),
+    ),
+    ("the RAW entries", Step::Raws(Raws(7, 9)), Ok(true)),
     (
         "one TINK entry",
         Step::Count(b"\x01\x01\x02\x03\x04", 1),
@@ -261,57 +279,72 @@ const STEPS: &[(&str, Step, Answer)] = &[
     ),
     (
         "the RAW entries of a copy",
-        Step::CopiedRaws(7, 9),
+        Step::CopiedRaws(Raws(7, 9)),
         Ok(true),
     ),
     // An added entry is lent.
     (
         "the number of an entry",
-        Step::Add(How::Lend, 5, RAW, 1),
+        Step::Add(Added(How::Lend, 5, RAW, 1)),
         Ok(true),
     ),
     (
         "the id of an entry",
-        Step::Add(How::Id, 6, RAW, 1),
+        Step::Add(Added(How::Id, 6, RAW, 1)),
         Ok(true),
     ),
 ];
 
-fn walk(told: &mut Told, alloc: Global, set: &mut PrimitiveSet<TestKinds>) {
-    for (row, step, want) in STEPS {
-        told.expect(answered(alloc, set, step), *want, row);
-    }
-}
-
-pub fn a_set_goes_by_its_steps(alloc: Global, told: &mut Told) {
-    walk(told, alloc, &mut PrimitiveSet::new(alloc));
-}
-
-// Whether there are so many RAW entries and so many TINK ones.
-fn has_entries(set: &PrimitiveSet<TestKinds>, raws: usize, tinks: usize) -> bool {
-    set.raw_entries().len() == raws && set.entries_for_prefix(&[1, 1, 2, 3, 4]).len() == tinks
-}
-
-// Whether each entry is added, or the set is left; and nearly all are added.
-fn adds_or_leaves(alloc: Global, set: &mut PrimitiveSet<TestKinds>) -> bool {
-    let mut raws: usize = 0;
-    let mut tinks: usize = 0;
-    let mut holds = true;
-    for number in 0..9 {
-        let raw = add(alloc, set, &How::Put, number, &key_of(RAW, 1));
-        raws = raws.wrapping_add(raw.is_ok() as usize);
-        let tink = add(alloc, set, &How::Lend, number, &key_of(TINK, 1));
-        tinks = tinks.wrapping_add(tink.is_ok() as usize);
-        holds = holds && has_entries(set, raws, tinks);
-    }
-    holds && 17 <= raws.wrapping_add(tinks)
-}
-
-/// A call that is refused for `OutOfMemory` adds nothing, and one that isn't adds one entry.
-pub fn an_entry_is_added_or_the_set_is_left(alloc: Global, told: &mut Told) {
-    let holds = adds_or_leaves(alloc, &mut PrimitiveSet::new(alloc));
-    told.expect(Ok(holds), Ok(true), "the entries");
-}
+// Those of another one. A call that is refused for `OutOfMemory` adds nothing, and one that isn't adds one entry.
+const ENTRIES: &[(&str, Step, Answer)] = &[
+    (
+        "the entries",
+        Step::Both(Added(How::Put, 0, RAW, 1), Added(How::Lend, 0, TINK, 1)),
+        Ok(true),
+    ),
+    (
+        "the entries",
+        Step::Both(Added(How::Put, 1, RAW, 1), Added(How::Lend, 1, TINK, 1)),
+        Ok(true),
+    ),
+    (
+        "the entries",
+        Step::Both(Added(How::Put, 2, RAW, 1), Added(How::Lend, 2, TINK, 1)),
+        Ok(true),
+    ),
+    (
+        "the entries",
+        Step::Both(Added(How::Put, 3, RAW, 1), Added(How::Lend, 3, TINK, 1)),
+        Ok(true),
+    ),
+    (
+        "the entries",
+        Step::Both(Added(How::Put, 4, RAW, 1), Added(How::Lend, 4, TINK, 1)),
+        Ok(true),
+    ),
+    (
+        "the entries",
+        Step::Both(Added(How::Put, 5, RAW, 1), Added(How::Lend, 5, TINK, 1)),
+        Ok(true),
+    ),
+    (
+        "the entries",
+        Step::Both(Added(How::Put, 6, RAW, 1), Added(How::Lend, 6, TINK, 1)),
+        Ok(true),
+    ),
+    (
+        "the entries",
+        Step::Both(Added(How::Put, 7, RAW, 1), Added(How::Lend, 7, TINK, 1)),
+        Ok(true),
+    ),
+    (
+        "the entries",
+        Step::Both(Added(How::Put, 8, RAW, 1), Added(How::Lend, 8, TINK, 1)),
+        Ok(true),
+    ),
+    // Nearly all are added.
+    ("the entries", Step::Hold(17), Ok(true)),
+];
 
 // ---- sets of one sort
 
@@ -345,140 +378,187 @@ enum Held {
 }
 
 fn set_of(alloc: Global, held: &Held) -> Result<PrimitiveSet<TestKinds>, TinkError> {
-    match held {
+    match *held {
         Held::Nothing => Ok(PrimitiveSet::new(alloc)),
         Held::Seven => set_of_seven(alloc),
         Held::StreamingPrimary => set_of_a_primary(alloc),
     }
 }
 
+// As what a set is taken.
 enum Sorted {
-    Aead,
-    DeterministicAead,
-    HybridDecrypt,
-    HybridEncrypt,
-    Mac,
-    Prf,
-    Signer,
-    StreamingAead,
-    Verifier,
-    // AEADs, of which the first RAW one and that of a copy have the number 7.
+    Aeads,
+    StreamingAeads,
+    // AEADs, of which the first RAW one has the number 7, and those of a copy.
     Sevens,
+    CopiedSevens,
+    // A sort that the family does not have.
+    Other(Other),
 }
 
-// Whether the number of the first RAW entry is 7, and there is none of another prefix.
-fn has_seven(typed: &TypedPrimitiveSet<TestAead>) -> bool {
-    match typed.raw_entries() {
-        Some([entry, ..]) => {
-            number_in(&entry.primitive) == Some(7) && typed.entries_for_prefix(&[1]).is_none()
+enum Other {
+    DeterministicAeads,
+    HybridDecrypters,
+    HybridEncrypters,
+    Macs,
+    Prfs,
+    Signers,
+    Verifiers,
+}
+
+// The number of the first RAW entry is 7, and there is none of another prefix.
+struct Seven;
+
+impl Ask<TypedPrimitiveSet<TestAead>> for Seven {
+    fn answer(
+        &self,
+        _alloc: Global,
+        typed: &mut TypedPrimitiveSet<TestAead>,
+    ) -> Result<bool, TinkError> {
+        match typed.raw_entries() {
+            Some([entry, ..]) => Ok(
+                is_number(&entry.primitive, 7) & typed.entries_for_prefix(&[1]).is_none(),
+            ),
+            _ => Ok(false),
         }
-        _ => false,
     }
 }
 
-// Whether the AEADs of a set and their copy have the number 7.
-fn have_seven(
+// That is so of a copy.
+struct CopiedSeven;
+
+impl Ask<TypedPrimitiveSet<TestAead>> for CopiedSeven {
+    fn answer(
+        &self,
+        alloc: Global,
+        typed: &mut TypedPrimitiveSet<TestAead>,
+    ) -> Result<bool, TinkError> {
+        asked(alloc, typed.try_clone(alloc), &Seven)
+    }
+}
+
+// The set as one of a sort that the family does not have.
+fn others(
     alloc: Global,
-    typed: Result<TypedPrimitiveSet<TestAead>, TinkError>,
-) -> Result<bool, TinkError> {
-    match typed {
-        Ok(typed) => match typed.try_clone(alloc) {
-            Ok(copy) => Ok(has_seven(&typed) && has_seven(&copy)),
-            Err(e) => Err(e),
-        },
-        Err(e) => Err(e),
+    set: PrimitiveSet<TestKinds>,
+    sort: &Other,
+) -> Result<TypedPrimitiveSet<Never>, TinkError> {
+    match *sort {
+        Other::DeterministicAeads => TypedPrimitiveSet::from_set_deterministic_aead(alloc, set),
+        Other::HybridDecrypters => TypedPrimitiveSet::from_set_hybrid_decrypt(alloc, set),
+        Other::HybridEncrypters => TypedPrimitiveSet::from_set_hybrid_encrypt(alloc, set),
+        Other::Macs => TypedPrimitiveSet::from_set_mac(alloc, set),
+        Other::Prfs => TypedPrimitiveSet::from_set_prf(alloc, set),
+        Other::Signers => TypedPrimitiveSet::from_set_signer(alloc, set),
+        Other::Verifiers => TypedPrimitiveSet::from_set_verifier(alloc, set),
     }
 }
 
 // Whether the set is one of the sort.
 fn is_of(alloc: Global, set: PrimitiveSet<TestKinds>, sort: &Sorted) -> Result<bool, TinkError> {
-    match sort {
-        Sorted::Aead => made(TypedPrimitiveSet::from_set_aead(alloc, set)),
-        Sorted::DeterministicAead => {
-            made(TypedPrimitiveSet::from_set_deterministic_aead(alloc, set))
+    match *sort {
+        Sorted::Aeads => made(TypedPrimitiveSet::from_set_aead(alloc, set)),
+        Sorted::StreamingAeads => made(TypedPrimitiveSet::from_set_streaming_aead(alloc, set)),
+        Sorted::Sevens => asked(alloc, TypedPrimitiveSet::from_set_aead(alloc, set), &Seven),
+        Sorted::CopiedSevens => {
+            asked(
+                alloc,
+                TypedPrimitiveSet::from_set_aead(alloc, set),
+                &CopiedSeven,
+            )
         }
-        Sorted::HybridDecrypt => made(TypedPrimitiveSet::from_set_hybrid_decrypt(alloc, set)),
-        Sorted::HybridEncrypt => made(TypedPrimitiveSet::from_set_hybrid_encrypt(alloc, set)),
-        Sorted::Mac => made(TypedPrimitiveSet::from_set_mac(alloc, set)),
-        Sorted::Prf => made(TypedPrimitiveSet::from_set_prf(alloc, set)),
-        Sorted::Signer => made(TypedPrimitiveSet::from_set_signer(alloc, set)),
-        Sorted::StreamingAead => made(TypedPrimitiveSet::from_set_streaming_aead(alloc, set)),
-        Sorted::Verifier => made(TypedPrimitiveSet::from_set_verifier(alloc, set)),
-        Sorted::Sevens => have_seven(alloc, TypedPrimitiveSet::from_set_aead(alloc, set)),
+        Sorted::Other(ref sort) => made(others(alloc, set, sort)),
     }
 }
 
-fn held_is_of(alloc: Global, held: &Held, sort: &Sorted) -> Result<bool, TinkError> {
-    match set_of(alloc, held) {
-        Ok(set) => is_of(alloc, set, sort),
-        Err(e) => Err(e),
+// A set, and as what it is taken.
+struct Of(Held, Sorted);
+
+impl Ask<()> for Of {
+    fn answer(&self, alloc: Global, _of: &mut ()) -> Result<bool, TinkError> {
+        match set_of(alloc, &self.0) {
+            Ok(set) => is_of(alloc, set, &self.1),
+            Err(e) => Err(e),
+        }
     }
 }
 
 // Each sort of a set of nothing, and of sets of one primitive.
-const SORTS: &[(&str, Held, Sorted, Answer)] = &[
-    ("no AEADs", Held::Nothing, Sorted::Aead, Ok(true)),
+const SORTS: &[(&str, Of, Answer)] = &[
+    ("no AEADs", Of(Held::Nothing, Sorted::Aeads), Ok(true)),
     (
         "no deterministic AEADs",
-        Held::Nothing,
-        Sorted::DeterministicAead,
+        Of(Held::Nothing, Sorted::Other(Other::DeterministicAeads)),
         Ok(true),
     ),
     (
         "no hybrid decryptions",
-        Held::Nothing,
-        Sorted::HybridDecrypt,
+        Of(Held::Nothing, Sorted::Other(Other::HybridDecrypters)),
         Ok(true),
     ),
     (
         "no hybrid encryptions",
-        Held::Nothing,
-        Sorted::HybridEncrypt,
+        Of(Held::Nothing, Sorted::Other(Other::HybridEncrypters)),
         Ok(true),
     ),
-    ("no MACs", Held::Nothing, Sorted::Mac, Ok(true)),
+    (
+        "no MACs",
+        Of(Held::Nothing, Sorted::Other(Other::Macs)),
+        Ok(true),
+    ),
     (
         "no pseudorandom functions",
-        Held::Nothing,
-        Sorted::Prf,
+        Of(Held::Nothing, Sorted::Other(Other::Prfs)),
         Ok(true),
     ),
-    ("no signers", Held::Nothing, Sorted::Signer, Ok(true)),
+    (
+        "no signers",
+        Of(Held::Nothing, Sorted::Other(Other::Signers)),
+        Ok(true),
+    ),
     (
         "no streaming AEADs",
-        Held::Nothing,
-        Sorted::StreamingAead,
+        Of(Held::Nothing, Sorted::StreamingAeads),
         Ok(true),
     ),
-    ("no verifiers", Held::Nothing, Sorted::Verifier, Ok(true)),
+    (
+        "no verifiers",
+        Of(Held::Nothing, Sorted::Other(Other::Verifiers)),
+        Ok(true),
+    ),
     (
         "an AEAD as MACs",
-        Held::Seven,
-        Sorted::Mac,
+        Of(Held::Seven, Sorted::Other(Other::Macs)),
         Err(Kind::WrongPrimitive),
     ),
     (
         "a primary streaming AEAD",
-        Held::StreamingPrimary,
-        Sorted::StreamingAead,
+        Of(Held::StreamingPrimary, Sorted::StreamingAeads),
         Ok(true),
     ),
     (
         "a primary streaming AEAD as AEADs",
-        Held::StreamingPrimary,
-        Sorted::Aead,
+        Of(Held::StreamingPrimary, Sorted::Aeads),
         Err(Kind::WrongPrimitive),
     ),
     (
         "an AEAD, by the set and a copy",
-        Held::Seven,
-        Sorted::Sevens,
+        Of(Held::Seven, Sorted::Sevens),
+        Ok(true),
+    ),
+    (
+        "an AEAD, by the set and a copy",
+        Of(Held::Seven, Sorted::CopiedSevens),
         Ok(true),
     ),
 ];
 
-pub fn a_set_is_of_one_sort(alloc: Global, told: &mut Told) {
-    for (row, held, sort, want) in SORTS {
-        told.expect(held_is_of(alloc, held, sort), *want, row);
-    }
+fn sorts(alloc: Global, told: &mut Told) {
+    told.walk(alloc, (), SORTS);
+}
+
+pub fn rows(alloc: Global, told: &mut Told) {
+    told.walk(alloc, PrimitiveSet::new(alloc), STEPS);
+    told.walk(alloc, PrimitiveSet::new(alloc), ENTRIES);
+    sorts(alloc, told);
 }

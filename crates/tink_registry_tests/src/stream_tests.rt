@@ -6,7 +6,7 @@ ghost use Rattle.std.proofs.Common.{refl};
 use std::alloc::Global;
 use tink_io::{Draws, Kind, Sink, Source, SureSink, SureSource, TinkError};
 use tink_primitives::{DecryptingRead, EncryptingWrite, Refused, StreamingAead};
-use tink_testutil::{Answer, Told};
+use tink_testutil::{Answer, Ask, Told};
 
 /// Copies streams without associated data.
 struct Copying;
@@ -126,11 +126,11 @@ fn first_read(reading: Reading, want: &[u8]) -> Result<bool, TinkError> {
     let mut buf = [0u8; 4];
     match reading {
         Ok(mut reader) => match reader.read(&mut buf) {
-            Ok(n) => Ok(n == 3 && buf.as_slice() == want),
+            Ok(n) => Ok((n == 3) & (buf.as_slice() == want)),
             Err(e) => Err(e),
         },
         Err(mut refused) => {
-            if refused.inner.read(&mut buf[..1]).is_ok() && buf.as_slice() == want {
+            if refused.inner.read(&mut buf[..1]).is_ok() & (buf.as_slice() == want) {
                 Err(refused.error)
             } else {
                 Ok(false)
@@ -162,20 +162,24 @@ fn read_of(
 const DATA: Answer = Err(Kind::DataTooLong);
 
 // The data of the writer and of the reader, and what is read.
-const ROWS: &[(&str, &[u8], &[u8], &[u8], Answer)] = &[
-    ("abc", b"", b"", b"abc\x00", Ok(true)),
+struct Copied(&'static [u8], &'static [u8], &'static [u8]);
+
+impl Ask<()> for Copied {
+    fn answer(&self, alloc: Global, _of: &mut ()) -> Result<bool, TinkError> {
+        read_of(alloc, written(alloc, self.0), self.1, self.2)
+    }
+}
+
+const ROWS: &[(&str, Copied, Answer)] = &[
+    ("abc", Copied(b"", b"", b"abc\x00"), Ok(true)),
     (
         "a reader with data, and its source",
-        b"",
-        b"x",
-        b"a\x00\x00\x00",
+        Copied(b"", b"x", b"a\x00\x00\x00"),
         DATA,
     ),
-    ("a writer with data", b"x", b"", b"", DATA),
+    ("a writer with data", Copied(b"x", b"", b""), DATA),
 ];
 
-pub fn a_stream_is_written_and_read(alloc: Global, told: &mut Told) {
-    for (row, one, other, read, want) in ROWS {
-        told.expect(read_of(alloc, written(alloc, one), other, read), *want, row);
-    }
+pub fn rows(alloc: Global, told: &mut Told) {
+    told.walk(alloc, (), ROWS);
 }
