@@ -25,7 +25,7 @@ this without its first byte | bytes | s60/1/999 | 0 | length 123 | keep=t60
 the stream of small segments by AES-GCM | seal smallgcm - zero | #60 | 0 | length 132 | keep=g60
 this without its first byte | bytes | g60/1/999 | 0 | length 131 | keep=h60
 
-ways:;| draws=3 left=3 piece=1;| draws=3 left=3 piece=7;| draws=3 left=3 piece=4096
+ways:; | draws=3 left=3 piece=1; | draws=3 left=3 piece=7; | draws=3 left=3 piece=4096
 0..35 bytes of small segments | open small - | s60/0/% | 21 |
 36..44 bytes of small segments | open small - | s60/0/% | 23 1 | #1
 45..70 bytes of small segments | open small - | s60/0/% | 22 1 | #1

@@ -58,7 +58,7 @@ writes 8105..8106 of an open | open raw - | s10000 | 12 | begins t10000 | piece=
 writes 9999..10000 of an open | open raw - | s10000 | 12 | begins t10000 | piece=1 write=% room=20000
 writes 10001..10001 of an open | open raw - | s10000 | 0 | t10000 | piece=1 write=% room=20000
 
-ways:| piece=1;| piece=35;| piece=4000;| piece=5000
+ways: | piece=1; | piece=35; | piece=4000; | piece=5000
 room for 0..1 bytes of a seal | seal raw - zero | #10000 | 12 | begins s10000 % | room=%
 room for 23..25 bytes of a seal | seal raw - zero | #10000 | 12 | begins s10000 % | room=%
 room for 4040..4040 bytes of a seal | seal raw - zero | #10000 | 12 | begins s10000 % | room=%

@@ -3,7 +3,7 @@
 /// - What does not load, by a seal of no text and by `load`.
 /// - What loads, and the keys that `load` makes of it.
 pub const TABLES: &str = r#"
-ways:;| load=1
+ways:; | load=1
 no bytes | seal - - zero | | 14 |
 a field without its value | seal 08 - zero | | 13 |
 a group | seal 0b - zero | | 13 |

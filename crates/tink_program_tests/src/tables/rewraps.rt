@@ -24,7 +24,7 @@ no seed | rewrap raw - gcm aabb | | 2 |
 one word more | rewrap raw - gcm aabb zero zero | | 2 |
 data of no pairs | rewrap raw - gcm aab zero | | 2 |
 
-ways:| draws=1024
+ways: | draws=1024
 0 bytes under raw | seal raw - | #0 | 0 | length 56 | left=1001 segments=1 bytes=0 keep=raw.0
 1 bytes under raw | seal raw - | #1 | 0 | length 57 | left=1001 segments=1 bytes=1 keep=raw.1
 60 bytes under raw | seal raw - | #60 | 0 | length 116 | left=1001 segments=1 bytes=60 keep=raw.60
@@ -83,7 +83,7 @@ to a keyset without keys | rewrap raw - 0801 - | raw.0 | 14 | | draws=1024 left=
 the first keyset before the second | rewrap 08 - - - | | 13 | | draws=0 left=0
 a stream of segments of 1, 25, 25 and 9 bytes of text, without its first byte | bytes | small.60/1/999 | 0 | length 123 | keep=small.rest
 
-ways:| draws=1024
+ways: | draws=1024
 0 bytes from raw to gcm | rewrap raw - gcm aabb | raw.0 | 0 | gcmaabb.0 | left=1001 segments=1 bytes=0
 1 bytes from raw to gcm | rewrap raw - gcm aabb | raw.1 | 0 | gcmaabb.1 | left=1001 segments=1 bytes=1
 60 bytes from raw to gcm | rewrap raw - gcm aabb | raw.60 | 0 | gcmaabb.60 | left=1001 segments=1 bytes=60
@@ -121,7 +121,7 @@ ways:| draws=1024
 60 bytes from gcmprefixed to gcmprefixed | rewrap gcmprefixed - gcmprefixed 00 | gcmprefixed.60 | 0 | gcmprefixed00.60 | left=985 segments=2 bytes=60
 4,041 bytes from gcmprefixed to gcmprefixed | rewrap gcmprefixed - gcmprefixed 00 | gcmprefixed.4041 | 0 | gcmprefixed00.4041 | left=985 segments=49 bytes=4041
 
-ways:| draws=1024
+ways: | draws=1024
 the text that an empty last segment ends | seal gcm41 - | #26 | 0 | length 82 | left=1001 segments=2 bytes=26 keep=gcm41.26
 an empty last segment is left out | rewrap small - gcm41 - | emptylast | 0 | gcm41.26 | left=1001 segments=2 bytes=26
 three segments | seal raw - | #12168 | 0 | length 12288 | left=1001 segments=3 bytes=12168 keep=raw.12168

@@ -119,7 +119,7 @@ behind the prefix of the templates 0..7 with prefixes 2..2 | bytes | front%.~/5/
 behind the prefix of the templates 0..7 with prefixes 4..4 | bytes | front%.~/5/99999 | 0 | stream%
 no prefix of the templates 0..7 with prefixes 3..3 | bytes | front%.~ | 0 | stream%
 
-ways:| piece=1;| piece=35;| piece=5000
+ways: | piece=1; | piece=35; | piece=5000
 a text in pieces under the templates 0..7 | seal new% 00 zero | #5000 | 0 | stream% |
 its stream in pieces under the templates 0..7 | open new% 00 | stream% | 0 | #5000 |
 "#;
