@@ -14,6 +14,12 @@ slice_bounds-run_bytes-end g c =
     let size = joined_length c.args.len c.load.new.output c.pad.new.buffer inside c.load.auto.output ∙ c.pad.auto.buffer in
     let within = le_trans (padded-within _ _ _ _ _ _ (c.in-Ok.ensures.ok.0 refl) c.in-Ok.ensures.value) (le_of_eq (sym size)) in within
 
+pub slice_bounds-run_bytes-end-2 : goal.slice_bounds-run_bytes-end-2
+slice_bounds-run_bytes-end-2 g c =
+    let inside = le_trans (fits-room _ _ _ (c.in-Ok.ensures.ok.0 refl)) (le_of_eq (sym c.pad.auto.buffer)) in
+    let size = joined_length c.args.len c.load.new.output c.pad.new.buffer inside c.load.auto.output ∙ c.pad.auto.buffer in
+    let within = le_trans (padded-within _ _ _ _ _ _ (c.in-Ok.ensures.ok.0 refl) c.in-Ok.ensures.value) (le_of_eq (sym size)) in sym (cut_length _ (c.load.new.output ++ drop c.args.len c.pad.new.buffer) within)
+
 pub run_bytes-requires : goal.run_bytes-requires
 run_bytes-requires g c =
     let inside = le_trans (fits-room _ _ _ (c.in-Ok.ensures.ok.0 refl)) (le_of_eq (sym c.pad.auto.buffer)) in
