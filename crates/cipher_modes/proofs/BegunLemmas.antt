@@ -6,10 +6,10 @@ use Rattle.cipher.proofs.Parts.{length-pick}
 use Rattle.std.specs.Prelude.{option_map, Result, Ok, Err, IsOk, IsErr, IfOk, MatchResult, ◌↔◌}
 use Rattle.std.specs.Borrow.{Bor}
 use Rattle.cipher.specs.Transcript.{Block}
-use Rattle.cipher_modes.specs.Padded.{bytes_run, Begins, IsEncrypted, deciphered, left_by, message_in}
+use Rattle.cipher_modes.specs.Padded.{bytes_run, IsFrontOf, IsEncrypted, deciphered, left_by, message_in}
 use Rattle.cipher_modes.proofs.MessageLemmas.{encrypted-prefix}
 
-pub begun-ok : {E : Type 0} (bytes : List ℕ) (made : Result ℕ E) (r : Result (Bor (List ℕ)) E) (F : Type 0) → Begins bytes made r → (IsOk made ↔ F) → IsOk r ↔ F
+pub begun-ok : {E : Type 0} (bytes : List ℕ) (made : Result ℕ E) (r : Result (Bor (List ℕ)) E) (F : Type 0) → IsFrontOf bytes made r → (IsOk made ↔ F) → IsOk r ↔ F
 begun-ok bytes (Ok n) (Ok x) F b iff = iff
 begun-ok bytes (Ok n) (Err e) F b iff = absurd b
 begun-ok bytes (Err e) (Ok x) F b iff = absurd b
@@ -17,14 +17,14 @@ begun-ok bytes (Err e) (Err f) F b iff = iff
 
 -- the encrypted bytes: o is the padded message as the code reads it
 pub begun-encrypted : {S E : Type 0} (step : S → Block → Block × S) (s : S) (B : ℕ) (o wanted : Option (List ℕ)) (old new : List ℕ) (made : Result ℕ E) (r : Result (Bor (List ℕ)) E) → (IsOk made → wanted ≡ o) → length new ≡ length old
-    → Begins new made r → IfOk made (λ n. IsEncrypted step s B o n old new) → IfOk r (λ x. option_map (bytes_run step s B) wanted ≡ Some x.now)
+    → IsFrontOf new made r → IfOk made (λ n. IsEncrypted step s B o n old new) → IfOk r (λ x. option_map (bytes_run step s B) wanted ≡ Some x.now)
 begun-encrypted step s B o wanted old new (Ok n) (Ok x) same size b h = encrypted-prefix step s B o wanted n old new (same refl) size h ∙ ap Some (sym b)
 begun-encrypted step s B o wanted old new (Ok n) (Err e) same size b h = absurd b
 begun-encrypted step s B o wanted old new (Err e) (Ok x) same size b h = absurd b
 begun-encrypted step s B o wanted old new (Err e) (Err f) same size b h = tt
 
 -- the message: wanted is the message as a clause has it
-pub begun-message : {E : Type 0} (wanted message : Option (List ℕ)) (bytes : List ℕ) (k : ℕ) (made : Result ℕ E) (r : Result (Bor (List ℕ)) E) → wanted ≡ message → Begins bytes made r
+pub begun-message : {E : Type 0} (wanted message : Option (List ℕ)) (bytes : List ℕ) (k : ℕ) (made : Result ℕ E) (r : Result (Bor (List ℕ)) E) → wanted ≡ message → IsFrontOf bytes made r
     → MatchResult made (λ n. (n ≤ k) × (message ≡ Some (take n bytes))) (λ _. message ≡ None) → MatchResult r (λ x. wanted ≡ Some x.now) (λ _. wanted ≡ None)
 begun-message wanted message bytes k (Ok n) (Ok x) same b h = same ∙ (h.1 ∙ ap Some (sym b))
 begun-message wanted message bytes k (Ok n) (Err e) same b h = absurd b
@@ -36,7 +36,7 @@ pub message-within : {E : Type 0} (message : Option (List ℕ)) (bytes : List �
 message-within message bytes k m (Ok n) h order = le_trans h.0 order
 message-within message bytes k m (Err e) h order = tt
 
-pub begun-err : {E : Type 0} (bytes : List ℕ) (made : Result ℕ E) (r : Result (Bor (List ℕ)) E) → Begins bytes made r → IsErr made → IsErr r
+pub begun-err : {E : Type 0} (bytes : List ℕ) (made : Result ℕ E) (r : Result (Bor (List ℕ)) E) → IsFrontOf bytes made r → IsErr made → IsErr r
 begun-err bytes (Ok n) (Ok x) b h = h
 begun-err bytes (Ok n) (Err e) b h = absurd b
 begun-err bytes (Err e) (Ok x) b h = absurd b

@@ -38,8 +38,8 @@ message_in unpadded B None = None
 message_in unpadded B (Some bytes) = unpadded B bytes
 
 -- the answer is the beginning of these bytes that is as long as was made, or the refusal
-abbrev pub Begins : {E : Type 0} → List ℕ → Result ℕ E → Result (Bor (List ℕ)) E → Type 0
-Begins bytes (Ok n) (Ok front) = front.now ≡ take n bytes
-Begins bytes (Ok n) (Err e) = ⊥
-Begins bytes (Err e) (Ok front) = ⊥
-Begins bytes (Err e) (Err refusal) = refusal ≡ e
+abbrev pub IsFrontOf : {E : Type 0} → List ℕ → Result ℕ E → Result (Bor (List ℕ)) E → Type 0
+IsFrontOf bytes (Ok n) (Ok front) = front.now ≡ take n bytes
+IsFrontOf bytes (Ok n) (Err e) = ⊥
+IsFrontOf bytes (Err e) (Ok front) = ⊥
+IsFrontOf bytes (Err e) (Err refusal) = refusal ≡ e

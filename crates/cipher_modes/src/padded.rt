@@ -5,7 +5,7 @@ ghost use Rattle.std.specs.Prelude.{vec_len, IfErr};
 ghost use Rattle.cipher.specs.Buffers.{pick};
 ghost use Rattle.cipher_modes.specs.Steps.{run_of, state_after};
 ghost use Rattle.cipher_modes.specs.Paddings.{Fits, IsPadded, padded};
-ghost use Rattle.cipher_modes.specs.Padded.{Begins, blocks_of, bytes_run, enciphered, IsEncrypted, deciphered, left_by, message_in};
+ghost use Rattle.cipher_modes.specs.Padded.{IsFrontOf, blocks_of, bytes_run, enciphered, IsEncrypted, deciphered, left_by, message_in};
 ghost use Rattle.cipher_modes.specs.PaddedVec.{TellsPad, TellsUnpad};
 
 use crate::directions::{Decrypting, Encrypting, Runs};
@@ -93,7 +93,7 @@ pub(crate) fn decrypt_message<P: Padding, M: BlockModeDecrypt<B>, const B: usize
 // the first bytes of an output, as many as were made
 pub(crate) fn begun<E: Drop>(output: &[u8], made: Result<usize, E>) -> Result<&[u8], E>
     requires { IfOk made (λ n. n ≤ length output.now) }
-    ensures { Begins output.now made result }
+    ensures { IsFrontOf output.now made result }
 {
     match made {
         Ok(n) => Ok(&output[..n]),

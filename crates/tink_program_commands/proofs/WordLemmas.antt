@@ -8,7 +8,7 @@ use Rattle.hex.proofs.HexLemmas.{decode_sized-ok, decode_sized-twice}
 use Rattle.tink_program_commands.specs.declared.words.Parsed.{Parsed}
 use Rattle.tink_program_commands.specs.declared.words.Unread.{Unread}
 use Rattle.tink_program_commands.specs.declared.words.Unread.TheVariants.{NoMemory, Nothing}
-use Rattle.tink_program_commands.specs.Words.{Asked, IsBytesWord, IsNumberWord, IsRead, IsReadAs, IsSeedWord, IsUnread, KeygenWords, OpenWords, RangeWords, RewrapWords, RotateWords, SealWords, SignWords, SpellNothing, Spells, VerifyWords, told}
+use Rattle.tink_program_commands.specs.Words.{Asked, IsBytesWord, IsNumberWord, WordsAreRead, IsReadAs, IsSeedWord, WhyUnread, KeygenWords, OpenWords, RangeWords, RewrapWords, RotateWords, SealWords, SignWords, SpellNothing, Spells, VerifyWords, told}
 use Rattle.tink_program_commands.specs.Words.Asked.{Making, Measuring, Opening, Ranging, Rewrapping, Rotating, Sealing, Signing, Verifying}
 use Rattle.tink_program_commands.proofs.Spelling.{only_keygen, only_large, only_open, only_range, only_rewrap, only_rotate, only_seal, only_sign, only_verify}
 use Rattle.tink_run.specs.Rewrapping.{Sides}
@@ -213,17 +213,17 @@ rewrap_no_to ws t u p q none = only_rewrap (texts ws) (λ sides s h.
 -- ---- what is read
 
 -- why one thing was not read is why another was not
-pub unread_by : {A B : Type 0} (e : Unread) → IsUnread A e → (A → B) → IsUnread B e
+pub unread_by : {A B : Type 0} (e : Unread) → WhyUnread A e → (A → B) → WhyUnread B e
 unread_by Nothing absent leads = leads absent
 unread_by NoMemory absent leads = tt
 
 -- what stands behind a name is read with it
 pub read_by : (ws : List (String Global)) (w : String Global) (text name : List ℕ) (answer : Result (Parsed × List ℕ) Unread) → 1 ≤ length ws → w ≡ get_or ws 0 w → text ≡ string_bytes w → text ≡ name
-    → IsRead (name ∷ texts (take (length ws - 1) (drop 1 ws))) answer → IsRead (texts ws) answer
+    → WordsAreRead (name ∷ texts (take (length ws - 1) (drop 1 ws))) answer → WordsAreRead (texts ws) answer
 read_by [] w text name answer long is value same read = absurd (omega (arith, long))
 read_by (v ∷ vs) w text name answer long is value same read =
     let whole : take (length (v ∷ vs) - 1) vs ≡ vs = take_all (length (v ∷ vs) - 1) vs (omega arith) in
-    subst (λ n. IsRead (n ∷ texts vs) answer) (sym same ∙ value ∙ ap string_bytes is) (subst (λ us. IsRead (name ∷ texts us) answer) whole read)
+    subst (λ n. WordsAreRead (n ∷ texts vs) answer) (sym same ∙ value ∙ ap string_bytes is) (subst (λ us. WordsAreRead (name ∷ texts us) answer) whole read)
 
 -- words with another name spell nothing
 pub unnamed : (ws : List (String Global)) (w : String Global) (text : List ℕ) → 1 ≤ length ws → w ≡ get_or ws 0 w → text ≡ string_bytes w

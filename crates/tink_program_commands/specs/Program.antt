@@ -281,7 +281,7 @@ Promised words old new status = (a : Asked) → Spells words a → Promises a ol
 
 -- ---- all that doing what is asked says
 
-pub record IsDone {S K : Type 0} (SourceSame : S → S → Type 0) (SinkSame : K → K → Type 0) (asked : Asked) (old new : Outside) (outcome : Outcome) (before after : S) (sink_before sink_after : K)
+pub record DoesAsked {S K : Type 0} (SourceSame : S → S → Type 0) (SinkSame : K → K → Type 0) (asked : Asked) (old new : Outside) (outcome : Outcome) (before after : S) (sink_before sink_after : K)
     : Type 0 where
   pub means : CommandMeans asked old new outcome
   pub early : Leaves (reads_first asked) (λ kind. IsUnwrittenBy asked kind) outcome before after sink_before sink_after

@@ -153,18 +153,18 @@ asked_of (Rewrap args) seed = Rewrapping (sides_of args) seed
 -- ---- what was read
 
 -- why nothing was read: there was nothing to read, or no memory
-abbrev pub IsUnread : Type 0 → Unread → Type 0
-IsUnread Absent Nothing = Absent
-IsUnread Absent NoMemory = Unit {0}
+abbrev pub WhyUnread : Type 0 → Unread → Type 0
+WhyUnread Absent Nothing = Absent
+WhyUnread Absent NoMemory = Unit {0}
 
 -- what was read is such a thing
 abbrev pub IsReadAs : {T : Type 0} → (T → Type 0) → Type 0 → Result T Unread → Type 0
 IsReadAs Is Absent (Ok value) = Is value
-IsReadAs Is Absent (Err e) = IsUnread Absent e
+IsReadAs Is Absent (Err e) = WhyUnread Absent e
 
 -- what was read of words is what they ask for
-abbrev pub IsRead : List (List ℕ) → Result (Parsed × List ℕ) Unread → Type 0
-IsRead words answer = IsReadAs (λ p. Spells words (asked_of p.0 p.1)) (SpellNothing words) answer
+abbrev pub WordsAreRead : List (List ℕ) → Result (Parsed × List ℕ) Unread → Type 0
+WordsAreRead words answer = IsReadAs (λ p. Spells words (asked_of p.0 p.1)) (SpellNothing words) answer
 
 -- what is told of it
 abbrev pub told : {T : Type 0} → Result T Unread → Result (Option T) TinkError

@@ -2,7 +2,7 @@
 
 ghost use Rattle.std.specs.Prelude.{◌≡◌, true};
 ghost use Rattle.tink_io.specs.Outside.{outside_of};
-ghost use Rattle.tink_program_commands.specs.Program.{CommandMeans, IsDone, IsUnwrittenBy, Leaves, Promises, reads_first, status_of, takes_no_input};
+ghost use Rattle.tink_program_commands.specs.Program.{CommandMeans, DoesAsked, IsUnwrittenBy, Leaves, Promises, reads_first, status_of, takes_no_input};
 ghost use Rattle.tink_program_commands.specs.Words.{asked_of};
 
 use crate::keysets::{write_new, write_rotated};
@@ -48,7 +48,7 @@ fn done_by<S: Source, K: Sink>(
     source: &mut S,
     sink: &mut K,
 ) -> Outcome
-    ensures { IsDone S.same K.same (asked_of parsed.now seed)
+    ensures { DoesAsked S.same K.same (asked_of parsed.now seed)
         (outside_of S.left S.faults K.got K.faults source.old sink.old)
         (outside_of S.left S.faults K.got K.faults source.new sink.new)
         result source.old source.new sink.old sink.new }

@@ -3,7 +3,7 @@
 ghost use Rattle.std.specs.Prelude.{◌≡◌, List, ◌∷◌, ℕ, IfOk, IfErr, IfSome, IfNone, codes};
 ghost use Rattle.tink_io.specs.declared.error.Kind.TheVariants.{OutOfMemory};
 ghost use Rattle.tink_program_commands.specs.Draws.{draws_in};
-ghost use Rattle.tink_program_commands.specs.Words.{IsBytesWord, IsNumberWord, IsRead, IsReadAs, SpellNothing, Spells, asked_of, told};
+ghost use Rattle.tink_program_commands.specs.Words.{IsBytesWord, IsNumberWord, WordsAreRead, IsReadAs, SpellNothing, Spells, asked_of, told};
 ghost use Rattle.tink_words.specs.Forms.{words_of};
 ghost use Rattle.tink_words.specs.Lines.{words_in};
 
@@ -108,7 +108,7 @@ fn told<T>(answer: Result<T, Unread>) -> Result<Option<T>, TinkError>
 
 // Reads all words.
 fn read(alloc: Global, words: &[String]) -> Result<(Parsed, Seed), Unread>
-    ensures { IsRead (words_in words.now) result }
+    ensures { WordsAreRead (words_in words.now) result }
 {
     let [name, behind @ ..] = words else {
         return Err(Unread::Nothing);
@@ -129,7 +129,7 @@ fn read(alloc: Global, words: &[String]) -> Result<(Parsed, Seed), Unread>
 
 // Reads the words behind `seal`.
 fn read_seal(alloc: Global, words: &[String]) -> Result<(Parsed, Seed), Unread>
-    ensures { IsRead (codes "seal" ∷ words_in words.now) result }
+    ensures { WordsAreRead (codes "seal" ∷ words_in words.now) result }
 {
     let [keyset, aad, seed] = words else {
         return Err(Unread::Nothing);
@@ -145,7 +145,7 @@ fn read_seal(alloc: Global, words: &[String]) -> Result<(Parsed, Seed), Unread>
 
 // Reads the words behind `open`.
 fn read_open(alloc: Global, words: &[String]) -> Result<(Parsed, Seed), Unread>
-    ensures { IsRead (codes "open" ∷ words_in words.now) result }
+    ensures { WordsAreRead (codes "open" ∷ words_in words.now) result }
 {
     let [keyset, aad] = words else {
         return Err(Unread::Nothing);
@@ -158,7 +158,7 @@ fn read_open(alloc: Global, words: &[String]) -> Result<(Parsed, Seed), Unread>
 
 // Reads the words behind `keygen`.
 fn read_keygen(alloc: Global, words: &[String]) -> Result<(Parsed, Seed), Unread>
-    ensures { IsRead (codes "keygen" ∷ words_in words.now) result }
+    ensures { WordsAreRead (codes "keygen" ∷ words_in words.now) result }
 {
     let [template, seed] = words else {
         return Err(Unread::Nothing);
@@ -174,7 +174,7 @@ fn read_keygen(alloc: Global, words: &[String]) -> Result<(Parsed, Seed), Unread
 
 // Reads the words behind `rotate`.
 fn read_rotate(alloc: Global, words: &[String]) -> Result<(Parsed, Seed), Unread>
-    ensures { IsRead (codes "rotate" ∷ words_in words.now) result }
+    ensures { WordsAreRead (codes "rotate" ∷ words_in words.now) result }
 {
     let [keyset, template, seed] = words else {
         return Err(Unread::Nothing);
@@ -193,7 +193,7 @@ fn read_rotate(alloc: Global, words: &[String]) -> Result<(Parsed, Seed), Unread
 
 // Reads the words behind `large`.
 fn read_large(alloc: Global, words: &[String]) -> Result<(Parsed, Seed), Unread>
-    ensures { IsRead (codes "large" ∷ words_in words.now) result }
+    ensures { WordsAreRead (codes "large" ∷ words_in words.now) result }
 {
     let [number] = words else {
         return Err(Unread::Nothing);
@@ -206,7 +206,7 @@ fn read_large(alloc: Global, words: &[String]) -> Result<(Parsed, Seed), Unread>
 
 // Reads the words behind `range`.
 fn read_range(alloc: Global, words: &[String]) -> Result<(Parsed, Seed), Unread>
-    ensures { IsRead (codes "range" ∷ words_in words.now) result }
+    ensures { WordsAreRead (codes "range" ∷ words_in words.now) result }
 {
     let [keyset, aad, start, len] = words else {
         return Err(Unread::Nothing);
@@ -229,7 +229,7 @@ fn read_range(alloc: Global, words: &[String]) -> Result<(Parsed, Seed), Unread>
 
 // Reads the words behind `sign`.
 fn read_sign(alloc: Global, words: &[String]) -> Result<(Parsed, Seed), Unread>
-    ensures { IsRead (codes "sign" ∷ words_in words.now) result }
+    ensures { WordsAreRead (codes "sign" ∷ words_in words.now) result }
 {
     let [keyset] = words else {
         return Err(Unread::Nothing);
@@ -242,7 +242,7 @@ fn read_sign(alloc: Global, words: &[String]) -> Result<(Parsed, Seed), Unread>
 
 // Reads the words behind `verify`.
 fn read_verify(alloc: Global, words: &[String]) -> Result<(Parsed, Seed), Unread>
-    ensures { IsRead (codes "verify" ∷ words_in words.now) result }
+    ensures { WordsAreRead (codes "verify" ∷ words_in words.now) result }
 {
     let [keyset] = words else {
         return Err(Unread::Nothing);
@@ -255,7 +255,7 @@ fn read_verify(alloc: Global, words: &[String]) -> Result<(Parsed, Seed), Unread
 
 // Reads the words behind `rewrap`.
 fn read_rewrap(alloc: Global, words: &[String]) -> Result<(Parsed, Seed), Unread>
-    ensures { IsRead (codes "rewrap" ∷ words_in words.now) result }
+    ensures { WordsAreRead (codes "rewrap" ∷ words_in words.now) result }
 {
     let [from, from_aad, to, to_aad, seed] = words else {
         return Err(Unread::Nothing);
