@@ -1,4 +1,3 @@
-pub mod WithParams
 pub mod Streaming
 pub mod Aead
 pub mod AesCtrHmac

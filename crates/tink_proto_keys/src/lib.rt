@@ -10,7 +10,6 @@ mod fields;
 mod mac;
 mod prf;
 mod streaming;
-mod with_params;
 
 pub use aead::{AesGcmKey, AesGcmKeyFormat, AesGcmSivKey, AesGcmSivKeyFormat};
 pub use aes_ctr_hmac::{
@@ -27,4 +26,3 @@ pub use streaming::{
     AesCtrHmacStreamingKey, AesCtrHmacStreamingKeyFormat, AesCtrHmacStreamingParams,
     AesGcmHkdfStreamingKey, AesGcmHkdfStreamingKeyFormat, AesGcmHkdfStreamingParams,
 };
-pub use with_params::{FormatWith, KeyWith};
