@@ -4,9 +4,10 @@ use Rattle.std.specs.Prelude.{refl}
 use Rattle.wire_format.specs.Columns.{Column}
 use Rattle.wire_format.specs.Table.{column, pair, message}
 use Rattle.wire_format.specs.Kinds.{bytes, number, option_of}
+use Rattle.tink_proto_keys.specs.WithParams.{key_with}
+use Rattle.tink_proto_keys.specs.declared.with_params.KeyWith.{KeyWith}
 use Rattle.tink_proto_keys.specs.Mac.{hmac_key, hmac_key_format}
 use Rattle.tink_proto_keys.specs.declared.aes_ctr_hmac.AesCtrParams.{AesCtrParams}
-use Rattle.tink_proto_keys.specs.declared.aes_ctr_hmac.AesCtrKey.{AesCtrKey}
 use Rattle.tink_proto_keys.specs.declared.aes_ctr_hmac.AesCtrKeyFormat.{AesCtrKeyFormat}
 use Rattle.tink_proto_keys.specs.declared.aes_ctr_hmac.AesCtrHmacAeadKey.{AesCtrHmacAeadKey}
 use Rattle.tink_proto_keys.specs.declared.aes_ctr_hmac.AesCtrHmacAeadKeyFormat.{AesCtrHmacAeadKeyFormat}
@@ -18,12 +19,11 @@ aes_ctr_params = message
     (λ m. m.iv_size)
     (λ t. refl) (λ m. refl)
 
+abbrev pub AesCtrKey : Type 0
+AesCtrKey = KeyWith AesCtrParams
+
 abbrev pub aes_ctr_key : Column AesCtrKey
-aes_ctr_key = message
-    (pair (column 1 refl number) (pair (column 2 refl (option_of aes_ctr_params)) (column 3 refl bytes) refl) refl)
-    (λ t. record { version = t.0; params = t.1.0; key_value = t.1.1 })
-    (λ m. (m.version, (m.params, m.key_value)))
-    (λ t. refl) (λ m. refl)
+aes_ctr_key = key_with aes_ctr_params
 
 abbrev pub aes_ctr_key_format : Column AesCtrKeyFormat
 aes_ctr_key_format = message

@@ -1,3 +1,4 @@
+pub mod WithParams
 pub mod Streaming
 pub mod Aead
 pub mod AesCtrHmac

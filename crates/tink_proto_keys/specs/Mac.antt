@@ -4,9 +4,10 @@ use Rattle.std.specs.Prelude.{refl}
 use Rattle.wire_format.specs.Columns.{Column}
 use Rattle.wire_format.specs.Table.{column, pair, message}
 use Rattle.wire_format.specs.Kinds.{bytes, enum, number, option_of}
+use Rattle.tink_proto_keys.specs.WithParams.{key_with, format_with}
+use Rattle.tink_proto_keys.specs.declared.with_params.KeyWith.{KeyWith}
+use Rattle.tink_proto_keys.specs.declared.with_params.FormatWith.{FormatWith}
 use Rattle.tink_proto_keys.specs.declared.mac.HmacParams.{HmacParams}
-use Rattle.tink_proto_keys.specs.declared.mac.HmacKey.{HmacKey}
-use Rattle.tink_proto_keys.specs.declared.mac.HmacKeyFormat.{HmacKeyFormat}
 use Rattle.tink_proto_keys.specs.declared.mac.AesCmacParams.{AesCmacParams}
 use Rattle.tink_proto_keys.specs.declared.mac.AesCmacKey.{AesCmacKey}
 use Rattle.tink_proto_keys.specs.declared.mac.AesCmacKeyFormat.{AesCmacKeyFormat}
@@ -18,19 +19,17 @@ hmac_params = message
     (λ m. (m.hash, m.tag_size))
     (λ t. refl) (λ m. refl)
 
+abbrev pub HmacKey : Type 0
+HmacKey = KeyWith HmacParams
+
 abbrev pub hmac_key : Column HmacKey
-hmac_key = message
-    (pair (column 1 refl number) (pair (column 2 refl (option_of hmac_params)) (column 3 refl bytes) refl) refl)
-    (λ t. record { version = t.0; params = t.1.0; key_value = t.1.1 })
-    (λ m. (m.version, (m.params, m.key_value)))
-    (λ t. refl) (λ m. refl)
+hmac_key = key_with hmac_params
+
+abbrev pub HmacKeyFormat : Type 0
+HmacKeyFormat = FormatWith HmacParams
 
 abbrev pub hmac_key_format : Column HmacKeyFormat
-hmac_key_format = message
-    (pair (column 1 refl (option_of hmac_params)) (pair (column 2 refl number) (column 3 refl number) refl) refl)
-    (λ t. record { params = t.0; key_size = t.1.0; version = t.1.1 })
-    (λ m. (m.params, (m.key_size, m.version)))
-    (λ t. refl) (λ m. refl)
+hmac_key_format = format_with hmac_params
 
 abbrev pub aes_cmac_params : Column AesCmacParams
 aes_cmac_params = message

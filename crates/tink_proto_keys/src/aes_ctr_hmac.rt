@@ -2,6 +2,7 @@
 
 use crate::fields::{clone_fields, read_fields, write_fields};
 use crate::mac::{HmacKey, HmacKeyFormat};
+use crate::with_params::KeyWith;
 use std::alloc::{AllocError, Global};
 use tink_proto::wire::{Field, Message};
 use tink_proto::{Bytes, ProtoError};
@@ -36,39 +37,7 @@ impl Message for AesCtrParams {
 }
 
 /// A key of AES-CTR.
-#[derive(Drop)]
-pub struct AesCtrKey {
-    pub version: u32,
-    pub params: Option<AesCtrParams>,
-    pub key_value: Bytes,
-}
-
-impl Message for AesCtrKey {
-    ghost use Rattle.tink_proto_keys.specs.AesCtrHmac.{aes_ctr_key};
-
-    ghost table = { aes_ctr_key };
-
-    fn new(alloc: Global) -> AesCtrKey {
-        AesCtrKey {
-            version: 0,
-            params: None,
-            key_value: Bytes::new(alloc),
-        }
-    }
-
-    fn read_field(&mut self, alloc: Global, field: &Field) -> Result<(), ProtoError> {
-        read_fields!(self, alloc, field; 1 number version, 2 message params, 3 bytes key_value)
-    }
-
-    #[tactic(auto, using(std::proofs::Common::append_assoc, wire_format::proofs::WritingLaws::spelling_append))]
-    fn write_fields(&self, alloc: Global, out: &mut Vec<u8>) -> Result<(), AllocError> {
-        write_fields!(self, alloc, out; 1 number version, 2 message params, 3 bytes key_value)
-    }
-
-    fn try_clone(&self, alloc: Global) -> Result<AesCtrKey, ProtoError> {
-        clone_fields!(AesCtrKey, self, alloc; number version, message params, bytes key_value)
-    }
-}
+pub type AesCtrKey = KeyWith<AesCtrParams>;
 
 /// What a new such key is to be.
 #[derive(Drop)]

@@ -10,6 +10,7 @@ mod fields;
 mod mac;
 mod prf;
 mod streaming;
+mod with_params;
 
 pub use aead::{AesGcmKey, AesGcmKeyFormat, AesGcmSivKey, AesGcmSivKeyFormat};
 pub use aes_ctr_hmac::{
@@ -26,3 +27,4 @@ pub use streaming::{
     AesCtrHmacStreamingKey, AesCtrHmacStreamingKeyFormat, AesCtrHmacStreamingParams,
     AesGcmHkdfStreamingKey, AesGcmHkdfStreamingKeyFormat, AesGcmHkdfStreamingParams,
 };
+pub use with_params::{FormatWith, KeyWith};

@@ -1,6 +1,7 @@
 //! Keys of MACs and their formats.
 
 use crate::fields::{clone_fields, read_fields, write_fields};
+use crate::with_params::{FormatWith, KeyWith};
 use std::alloc::{AllocError, Global};
 use tink_proto::wire::{Field, Message};
 use tink_proto::{Bytes, ProtoError};
@@ -41,75 +42,10 @@ impl Message for HmacParams {
 }
 
 /// A key of HMAC.
-#[derive(Drop)]
-pub struct HmacKey {
-    pub version: u32,
-    pub params: Option<HmacParams>,
-    pub key_value: Bytes,
-}
-
-impl Message for HmacKey {
-    ghost use Rattle.tink_proto_keys.specs.Mac.{hmac_key};
-
-    ghost table = { hmac_key };
-
-    fn new(alloc: Global) -> HmacKey {
-        HmacKey {
-            version: 0,
-            params: None,
-            key_value: Bytes::new(alloc),
-        }
-    }
-
-    fn read_field(&mut self, alloc: Global, field: &Field) -> Result<(), ProtoError> {
-        read_fields!(self, alloc, field; 1 number version, 2 message params, 3 bytes key_value)
-    }
-
-    #[tactic(auto, using(std::proofs::Common::append_assoc, wire_format::proofs::WritingLaws::spelling_append))]
-    fn write_fields(&self, alloc: Global, out: &mut Vec<u8>) -> Result<(), AllocError> {
-        write_fields!(self, alloc, out; 1 number version, 2 message params, 3 bytes key_value)
-    }
-
-    fn try_clone(&self, alloc: Global) -> Result<HmacKey, ProtoError> {
-        clone_fields!(HmacKey, self, alloc; number version, message params, bytes key_value)
-    }
-}
+pub type HmacKey = KeyWith<HmacParams>;
 
 /// What a new such key is to be.
-#[derive(Drop)]
-pub struct HmacKeyFormat {
-    pub params: Option<HmacParams>,
-    /// In bytes.
-    pub key_size: u32,
-    pub version: u32,
-}
-
-impl Message for HmacKeyFormat {
-    ghost use Rattle.tink_proto_keys.specs.Mac.{hmac_key_format};
-
-    ghost table = { hmac_key_format };
-
-    fn new(_alloc: Global) -> HmacKeyFormat {
-        HmacKeyFormat {
-            params: None,
-            key_size: 0,
-            version: 0,
-        }
-    }
-
-    fn read_field(&mut self, alloc: Global, field: &Field) -> Result<(), ProtoError> {
-        read_fields!(self, alloc, field; 1 message params, 2 number key_size, 3 number version)
-    }
-
-    #[tactic(auto, using(std::proofs::Common::append_assoc, wire_format::proofs::WritingLaws::spelling_append))]
-    fn write_fields(&self, alloc: Global, out: &mut Vec<u8>) -> Result<(), AllocError> {
-        write_fields!(self, alloc, out; 1 message params, 2 number key_size, 3 number version)
-    }
-
-    fn try_clone(&self, alloc: Global) -> Result<HmacKeyFormat, ProtoError> {
-        clone_fields!(HmacKeyFormat, self, alloc; message params, number key_size, number version)
-    }
-}
+pub type HmacKeyFormat = FormatWith<HmacParams>;
 
 /// The size of the tag of AES-CMAC.
 #[derive(Drop)]

@@ -1,6 +1,7 @@
 //! Keys of PRFs and their formats.
 
 use crate::fields::{clone_fields, read_fields, write_fields};
+use crate::with_params::{FormatWith, KeyWith};
 use std::alloc::{AllocError, Global};
 use tink_proto::wire::{Field, Message};
 use tink_proto::{Bytes, ProtoError};
@@ -40,75 +41,10 @@ impl Message for HkdfPrfParams {
 }
 
 /// A key of HKDF as a PRF.
-#[derive(Drop)]
-pub struct HkdfPrfKey {
-    pub version: u32,
-    pub params: Option<HkdfPrfParams>,
-    pub key_value: Bytes,
-}
-
-impl Message for HkdfPrfKey {
-    ghost use Rattle.tink_proto_keys.specs.Prf.{hkdf_prf_key};
-
-    ghost table = { hkdf_prf_key };
-
-    fn new(alloc: Global) -> HkdfPrfKey {
-        HkdfPrfKey {
-            version: 0,
-            params: None,
-            key_value: Bytes::new(alloc),
-        }
-    }
-
-    fn read_field(&mut self, alloc: Global, field: &Field) -> Result<(), ProtoError> {
-        read_fields!(self, alloc, field; 1 number version, 2 message params, 3 bytes key_value)
-    }
-
-    #[tactic(auto, using(std::proofs::Common::append_assoc, wire_format::proofs::WritingLaws::spelling_append))]
-    fn write_fields(&self, alloc: Global, out: &mut Vec<u8>) -> Result<(), AllocError> {
-        write_fields!(self, alloc, out; 1 number version, 2 message params, 3 bytes key_value)
-    }
-
-    fn try_clone(&self, alloc: Global) -> Result<HkdfPrfKey, ProtoError> {
-        clone_fields!(HkdfPrfKey, self, alloc; number version, message params, bytes key_value)
-    }
-}
+pub type HkdfPrfKey = KeyWith<HkdfPrfParams>;
 
 /// What a new such key is to be.
-#[derive(Drop)]
-pub struct HkdfPrfKeyFormat {
-    pub params: Option<HkdfPrfParams>,
-    /// In bytes.
-    pub key_size: u32,
-    pub version: u32,
-}
-
-impl Message for HkdfPrfKeyFormat {
-    ghost use Rattle.tink_proto_keys.specs.Prf.{hkdf_prf_key_format};
-
-    ghost table = { hkdf_prf_key_format };
-
-    fn new(_alloc: Global) -> HkdfPrfKeyFormat {
-        HkdfPrfKeyFormat {
-            params: None,
-            key_size: 0,
-            version: 0,
-        }
-    }
-
-    fn read_field(&mut self, alloc: Global, field: &Field) -> Result<(), ProtoError> {
-        read_fields!(self, alloc, field; 1 message params, 2 number key_size, 3 number version)
-    }
-
-    #[tactic(auto, using(std::proofs::Common::append_assoc, wire_format::proofs::WritingLaws::spelling_append))]
-    fn write_fields(&self, alloc: Global, out: &mut Vec<u8>) -> Result<(), AllocError> {
-        write_fields!(self, alloc, out; 1 message params, 2 number key_size, 3 number version)
-    }
-
-    fn try_clone(&self, alloc: Global) -> Result<HkdfPrfKeyFormat, ProtoError> {
-        clone_fields!(HkdfPrfKeyFormat, self, alloc; message params, number key_size, number version)
-    }
-}
+pub type HkdfPrfKeyFormat = FormatWith<HkdfPrfParams>;
 
 /// The hash of HMAC as a PRF.
 #[derive(Drop)]
@@ -140,75 +76,10 @@ impl Message for HmacPrfParams {
 }
 
 /// A key of HMAC as a PRF.
-#[derive(Drop)]
-pub struct HmacPrfKey {
-    pub version: u32,
-    pub params: Option<HmacPrfParams>,
-    pub key_value: Bytes,
-}
-
-impl Message for HmacPrfKey {
-    ghost use Rattle.tink_proto_keys.specs.Prf.{hmac_prf_key};
-
-    ghost table = { hmac_prf_key };
-
-    fn new(alloc: Global) -> HmacPrfKey {
-        HmacPrfKey {
-            version: 0,
-            params: None,
-            key_value: Bytes::new(alloc),
-        }
-    }
-
-    fn read_field(&mut self, alloc: Global, field: &Field) -> Result<(), ProtoError> {
-        read_fields!(self, alloc, field; 1 number version, 2 message params, 3 bytes key_value)
-    }
-
-    #[tactic(auto, using(std::proofs::Common::append_assoc, wire_format::proofs::WritingLaws::spelling_append))]
-    fn write_fields(&self, alloc: Global, out: &mut Vec<u8>) -> Result<(), AllocError> {
-        write_fields!(self, alloc, out; 1 number version, 2 message params, 3 bytes key_value)
-    }
-
-    fn try_clone(&self, alloc: Global) -> Result<HmacPrfKey, ProtoError> {
-        clone_fields!(HmacPrfKey, self, alloc; number version, message params, bytes key_value)
-    }
-}
+pub type HmacPrfKey = KeyWith<HmacPrfParams>;
 
 /// What a new such key is to be.
-#[derive(Drop)]
-pub struct HmacPrfKeyFormat {
-    pub params: Option<HmacPrfParams>,
-    /// In bytes.
-    pub key_size: u32,
-    pub version: u32,
-}
-
-impl Message for HmacPrfKeyFormat {
-    ghost use Rattle.tink_proto_keys.specs.Prf.{hmac_prf_key_format};
-
-    ghost table = { hmac_prf_key_format };
-
-    fn new(_alloc: Global) -> HmacPrfKeyFormat {
-        HmacPrfKeyFormat {
-            params: None,
-            key_size: 0,
-            version: 0,
-        }
-    }
-
-    fn read_field(&mut self, alloc: Global, field: &Field) -> Result<(), ProtoError> {
-        read_fields!(self, alloc, field; 1 message params, 2 number key_size, 3 number version)
-    }
-
-    #[tactic(auto, using(std::proofs::Common::append_assoc, wire_format::proofs::WritingLaws::spelling_append))]
-    fn write_fields(&self, alloc: Global, out: &mut Vec<u8>) -> Result<(), AllocError> {
-        write_fields!(self, alloc, out; 1 message params, 2 number key_size, 3 number version)
-    }
-
-    fn try_clone(&self, alloc: Global) -> Result<HmacPrfKeyFormat, ProtoError> {
-        clone_fields!(HmacPrfKeyFormat, self, alloc; message params, number key_size, number version)
-    }
-}
+pub type HmacPrfKeyFormat = FormatWith<HmacPrfParams>;
 
 /// A key of AES-CMAC as a PRF.
 #[derive(Drop)]

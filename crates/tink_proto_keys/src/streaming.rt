@@ -2,6 +2,7 @@
 
 use crate::fields::{clone_fields, read_fields, write_fields};
 use crate::mac::HmacParams;
+use crate::with_params::{FormatWith, KeyWith};
 use std::alloc::{AllocError, Global};
 use tink_proto::wire::{Field, Message};
 use tink_proto::{Bytes, ProtoError};
@@ -56,75 +57,10 @@ impl Message for AesCtrHmacStreamingParams {
 }
 
 /// A key of streaming encryption by AES-CTR and HMAC.
-#[derive(Drop)]
-pub struct AesCtrHmacStreamingKey {
-    pub version: u32,
-    pub params: Option<AesCtrHmacStreamingParams>,
-    pub key_value: Bytes,
-}
-
-impl Message for AesCtrHmacStreamingKey {
-    ghost use Rattle.tink_proto_keys.specs.Streaming.{aes_ctr_hmac_streaming_key};
-
-    ghost table = { aes_ctr_hmac_streaming_key };
-
-    fn new(alloc: Global) -> AesCtrHmacStreamingKey {
-        AesCtrHmacStreamingKey {
-            version: 0,
-            params: None,
-            key_value: Bytes::new(alloc),
-        }
-    }
-
-    fn read_field(&mut self, alloc: Global, field: &Field) -> Result<(), ProtoError> {
-        read_fields!(self, alloc, field; 1 number version, 2 message params, 3 bytes key_value)
-    }
-
-    #[tactic(auto, using(std::proofs::Common::append_assoc, wire_format::proofs::WritingLaws::spelling_append))]
-    fn write_fields(&self, alloc: Global, out: &mut Vec<u8>) -> Result<(), AllocError> {
-        write_fields!(self, alloc, out; 1 number version, 2 message params, 3 bytes key_value)
-    }
-
-    fn try_clone(&self, alloc: Global) -> Result<AesCtrHmacStreamingKey, ProtoError> {
-        clone_fields!(AesCtrHmacStreamingKey, self, alloc; number version, message params, bytes key_value)
-    }
-}
+pub type AesCtrHmacStreamingKey = KeyWith<AesCtrHmacStreamingParams>;
 
 /// What a new such key is to be.
-#[derive(Drop)]
-pub struct AesCtrHmacStreamingKeyFormat {
-    pub params: Option<AesCtrHmacStreamingParams>,
-    /// In bytes.
-    pub key_size: u32,
-    pub version: u32,
-}
-
-impl Message for AesCtrHmacStreamingKeyFormat {
-    ghost use Rattle.tink_proto_keys.specs.Streaming.{aes_ctr_hmac_streaming_key_format};
-
-    ghost table = { aes_ctr_hmac_streaming_key_format };
-
-    fn new(_alloc: Global) -> AesCtrHmacStreamingKeyFormat {
-        AesCtrHmacStreamingKeyFormat {
-            params: None,
-            key_size: 0,
-            version: 0,
-        }
-    }
-
-    fn read_field(&mut self, alloc: Global, field: &Field) -> Result<(), ProtoError> {
-        read_fields!(self, alloc, field; 1 message params, 2 number key_size, 3 number version)
-    }
-
-    #[tactic(auto, using(std::proofs::Common::append_assoc, wire_format::proofs::WritingLaws::spelling_append))]
-    fn write_fields(&self, alloc: Global, out: &mut Vec<u8>) -> Result<(), AllocError> {
-        write_fields!(self, alloc, out; 1 message params, 2 number key_size, 3 number version)
-    }
-
-    fn try_clone(&self, alloc: Global) -> Result<AesCtrHmacStreamingKeyFormat, ProtoError> {
-        clone_fields!(AesCtrHmacStreamingKeyFormat, self, alloc; message params, number key_size, number version)
-    }
-}
+pub type AesCtrHmacStreamingKeyFormat = FormatWith<AesCtrHmacStreamingParams>;
 
 /// How a text is cut and its segments sealed by AES-GCM.
 #[derive(Drop)]
@@ -174,72 +110,7 @@ impl Message for AesGcmHkdfStreamingParams {
 }
 
 /// A key of streaming encryption by AES-GCM.
-#[derive(Drop)]
-pub struct AesGcmHkdfStreamingKey {
-    pub version: u32,
-    pub params: Option<AesGcmHkdfStreamingParams>,
-    pub key_value: Bytes,
-}
-
-impl Message for AesGcmHkdfStreamingKey {
-    ghost use Rattle.tink_proto_keys.specs.Streaming.{aes_gcm_hkdf_streaming_key};
-
-    ghost table = { aes_gcm_hkdf_streaming_key };
-
-    fn new(alloc: Global) -> AesGcmHkdfStreamingKey {
-        AesGcmHkdfStreamingKey {
-            version: 0,
-            params: None,
-            key_value: Bytes::new(alloc),
-        }
-    }
-
-    fn read_field(&mut self, alloc: Global, field: &Field) -> Result<(), ProtoError> {
-        read_fields!(self, alloc, field; 1 number version, 2 message params, 3 bytes key_value)
-    }
-
-    #[tactic(auto, using(std::proofs::Common::append_assoc, wire_format::proofs::WritingLaws::spelling_append))]
-    fn write_fields(&self, alloc: Global, out: &mut Vec<u8>) -> Result<(), AllocError> {
-        write_fields!(self, alloc, out; 1 number version, 2 message params, 3 bytes key_value)
-    }
-
-    fn try_clone(&self, alloc: Global) -> Result<AesGcmHkdfStreamingKey, ProtoError> {
-        clone_fields!(AesGcmHkdfStreamingKey, self, alloc; number version, message params, bytes key_value)
-    }
-}
+pub type AesGcmHkdfStreamingKey = KeyWith<AesGcmHkdfStreamingParams>;
 
 /// What a new such key is to be.
-#[derive(Drop)]
-pub struct AesGcmHkdfStreamingKeyFormat {
-    pub params: Option<AesGcmHkdfStreamingParams>,
-    /// In bytes.
-    pub key_size: u32,
-    pub version: u32,
-}
-
-impl Message for AesGcmHkdfStreamingKeyFormat {
-    ghost use Rattle.tink_proto_keys.specs.Streaming.{aes_gcm_hkdf_streaming_key_format};
-
-    ghost table = { aes_gcm_hkdf_streaming_key_format };
-
-    fn new(_alloc: Global) -> AesGcmHkdfStreamingKeyFormat {
-        AesGcmHkdfStreamingKeyFormat {
-            params: None,
-            key_size: 0,
-            version: 0,
-        }
-    }
-
-    fn read_field(&mut self, alloc: Global, field: &Field) -> Result<(), ProtoError> {
-        read_fields!(self, alloc, field; 1 message params, 2 number key_size, 3 number version)
-    }
-
-    #[tactic(auto, using(std::proofs::Common::append_assoc, wire_format::proofs::WritingLaws::spelling_append))]
-    fn write_fields(&self, alloc: Global, out: &mut Vec<u8>) -> Result<(), AllocError> {
-        write_fields!(self, alloc, out; 1 message params, 2 number key_size, 3 number version)
-    }
-
-    fn try_clone(&self, alloc: Global) -> Result<AesGcmHkdfStreamingKeyFormat, ProtoError> {
-        clone_fields!(AesGcmHkdfStreamingKeyFormat, self, alloc; message params, number key_size, number version)
-    }
-}
+pub type AesGcmHkdfStreamingKeyFormat = FormatWith<AesGcmHkdfStreamingParams>;
