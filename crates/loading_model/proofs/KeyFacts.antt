@@ -5,8 +5,7 @@ use Rattle.std.specs.Prelude.{nat_eq}
 use Rattle.std.proofs.lemmas.Bool.Decides.{nat_tests}
 use Rattle.std.proofs.lemmas.Option.{cond_some}
 use Rattle.hash_keys.specs.declared.Hash.{Hash}
-use Rattle.tink_proto_keys.specs.declared.streaming.AesCtrHmacStreamingKey.{AesCtrHmacStreamingKey}
-use Rattle.tink_proto_keys.specs.declared.streaming.AesGcmHkdfStreamingKey.{AesGcmHkdfStreamingKey}
+use Rattle.tink_proto_keys.specs.Streaming.{AesGcmHkdfStreamingKey, AesCtrHmacStreamingKey}
 use Rattle.wire_format.specs.Reading.{◌>>=◌}
 use Rattle.stream_model.specs.Key.{StreamKey, IsUsable}
 use Rattle.stream_model.specs.Key.SegmentKind.{CtrHmac, Gcm}

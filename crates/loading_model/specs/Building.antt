@@ -6,8 +6,7 @@ use Rattle.hash_keys.specs.declared.Hash.TheVariants.{Sha1, Sha224, Sha256, Sha3
 use Rattle.hash_keys.specs.Hash.{digest_size}
 use Rattle.tink_proto.specs.declared.enums.HashType.TheVariants as types
 use Rattle.tink_proto.specs.Enums.{hash_number}
-use Rattle.tink_proto_keys.specs.declared.streaming.AesCtrHmacStreamingKey.{AesCtrHmacStreamingKey}
-use Rattle.tink_proto_keys.specs.declared.streaming.AesGcmHkdfStreamingKey.{AesGcmHkdfStreamingKey}
+use Rattle.tink_proto_keys.specs.Streaming.{AesGcmHkdfStreamingKey, AesCtrHmacStreamingKey}
 use Rattle.wire_format.specs.Reading.{◌>>=◌}
 use Rattle.stream_model.specs.Key.{StreamKey}
 use Rattle.stream_model.specs.Key.SegmentKind.{CtrHmac, Gcm}

@@ -13,12 +13,12 @@ use Rattle.tink_proto_keys.specs.Mac as mac_messages
 use Rattle.tink_proto_keys.specs.Prf as prf_messages
 use Rattle.tink_proto_keys.specs.Streaming as streaming_messages
 use Rattle.tink_proto_keys.specs.Daead as daead_messages
-use Rattle.tink_proto_keys.specs.declared.aes_ctr_hmac.AesCtrKey.{AesCtrKey}
+use Rattle.tink_proto_keys.specs.AesCtrHmac.{AesCtrKey}
 use Rattle.tink_proto_keys.specs.declared.aes_ctr_hmac.AesCtrParams.{AesCtrParams}
 use Rattle.tink_proto_keys.specs.declared.aes_ctr_hmac.AesCtrHmacAeadKey.{AesCtrHmacAeadKey}
 use Rattle.tink_proto_keys.specs.declared.mac.AesCmacKey.{AesCmacKey}
 use Rattle.tink_proto_keys.specs.declared.mac.AesCmacParams.{AesCmacParams}
-use Rattle.tink_proto_keys.specs.declared.mac.HmacKey.{HmacKey}
+use Rattle.tink_proto_keys.specs.Mac.{HmacKey}
 use Rattle.tink_proto_keys.specs.declared.mac.HmacParams.{HmacParams}
 use Rattle.wire_format.specs.Columns.{Column}
 use Rattle.stream_model.specs.Key.{StreamKey, IsUsable}

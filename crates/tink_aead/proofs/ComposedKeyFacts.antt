@@ -10,11 +10,10 @@ use Rattle.std.specs.Str.{bytes_eq}
 use Rattle.tink_io.specs.declared.error.Kind.{Kind}
 use Rattle.tink_io.specs.declared.error.Kind.TheVariants.{InvalidKey, MacMismatch}
 use Rattle.tink_proto_keys.specs.declared.aes_ctr_hmac.AesCtrHmacAeadKey.{AesCtrHmacAeadKey}
-use Rattle.tink_proto_keys.specs.declared.aes_ctr_hmac.AesCtrKey.{AesCtrKey}
+use Rattle.tink_proto_keys.specs.AesCtrHmac.{AesCtrKey}
 use Rattle.tink_proto_keys.specs.declared.aes_ctr_hmac.AesCtrParams.{AesCtrParams}
-use Rattle.tink_proto_keys.specs.declared.mac.HmacKey.{HmacKey}
+use Rattle.tink_proto_keys.specs.Mac.{HmacKeyFormat, HmacKey}
 use Rattle.tink_proto_keys.specs.declared.aes_ctr_hmac.AesCtrKeyFormat.{AesCtrKeyFormat}
-use Rattle.tink_proto_keys.specs.declared.mac.HmacKeyFormat.{HmacKeyFormat}
 use Rattle.tink_io.specs.declared.error.TinkError.{TinkError}
 use Rattle.tink_io.specs.Told.{IsShort, Replies, made_of}
 use Rattle.tink_primitives.specs.Meaning.{IsEndOf}

@@ -8,11 +8,10 @@ use Rattle.tink_primitives.specs.Meaning.{IsDrawn, IsTold}
 use Rattle.tink_primitives.specs.MeaningLaws.{drawn_if, drawn_none, end_trans, made_told, told_if}
 use Rattle.tink_proto_keys.specs.declared.aes_ctr_hmac.AesCtrHmacAeadKey.{AesCtrHmacAeadKey}
 use Rattle.tink_proto_keys.specs.declared.aes_ctr_hmac.AesCtrHmacAeadKeyFormat.{AesCtrHmacAeadKeyFormat}
-use Rattle.tink_proto_keys.specs.declared.aes_ctr_hmac.AesCtrKey.{AesCtrKey}
+use Rattle.tink_proto_keys.specs.AesCtrHmac.{AesCtrKey}
 use Rattle.tink_proto_keys.specs.declared.aes_ctr_hmac.AesCtrKeyFormat.{AesCtrKeyFormat}
 use Rattle.tink_proto_keys.specs.declared.aes_ctr_hmac.AesCtrParams.{AesCtrParams}
-use Rattle.tink_proto_keys.specs.declared.mac.HmacKey.{HmacKey}
-use Rattle.tink_proto_keys.specs.declared.mac.HmacKeyFormat.{HmacKeyFormat}
+use Rattle.tink_proto_keys.specs.Mac.{HmacKeyFormat, HmacKey}
 use Rattle.tink_key_types.specs.Manager.{of_draws}
 use Rattle.tink_key_types.specs.ManagerLaws.{of_draws_told, taken_told}
 use Rattle.tink_mac.specs.KeyTypes.{hmac_built}

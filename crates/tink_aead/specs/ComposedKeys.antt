@@ -7,14 +7,12 @@ use Rattle.tink_subtle.specs.Random.{takes_bytes}
 use Rattle.tink_proto.specs.declared.enums.HashType.{HashType}
 use Rattle.tink_proto.specs.declared.enums.OutputPrefixType.TheVariants.{Tink}
 use Rattle.tink_proto.specs.declared.messages.keys.KeyTemplate.{KeyTemplate}
-use Rattle.tink_proto_keys.specs.AesCtrHmac.{aes_ctr_hmac_aead_key_format}
+use Rattle.tink_proto_keys.specs.AesCtrHmac.{AesCtrKey, aes_ctr_hmac_aead_key_format}
 use Rattle.tink_proto_keys.specs.declared.aes_ctr_hmac.AesCtrHmacAeadKey.{AesCtrHmacAeadKey}
 use Rattle.tink_proto_keys.specs.declared.aes_ctr_hmac.AesCtrHmacAeadKeyFormat.{AesCtrHmacAeadKeyFormat}
-use Rattle.tink_proto_keys.specs.declared.aes_ctr_hmac.AesCtrKey.{AesCtrKey}
 use Rattle.tink_proto_keys.specs.declared.aes_ctr_hmac.AesCtrKeyFormat.{AesCtrKeyFormat}
 use Rattle.tink_proto_keys.specs.declared.aes_ctr_hmac.AesCtrParams.{AesCtrParams}
-use Rattle.tink_proto_keys.specs.declared.mac.HmacKey.{HmacKey}
-use Rattle.tink_proto_keys.specs.declared.mac.HmacKeyFormat.{HmacKeyFormat}
+use Rattle.tink_proto_keys.specs.Mac.{HmacKeyFormat, HmacKey}
 use Rattle.tink_key_types.specs.Manager.{of_draws}
 use Rattle.tink_key_types.specs.Templates.{template_of}
 use Rattle.tink_mac.specs.KeyTypes.{are_hmac_params, hmac_built, hmac_format}

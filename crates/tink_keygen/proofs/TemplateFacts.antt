@@ -28,14 +28,12 @@ use Rattle.tink_proto_keys.specs.Daead as daead_messages
 use Rattle.tink_proto_keys.specs.declared.aes_ctr_hmac.AesCtrHmacAeadKeyFormat.{AesCtrHmacAeadKeyFormat}
 use Rattle.tink_proto_keys.specs.declared.aes_ctr_hmac.AesCtrKeyFormat.{AesCtrKeyFormat}
 use Rattle.tink_proto_keys.specs.declared.prf.AesCmacPrfKeyFormat.{AesCmacPrfKeyFormat}
-use Rattle.tink_proto_keys.specs.declared.prf.HkdfPrfKeyFormat.{HkdfPrfKeyFormat}
-use Rattle.tink_proto_keys.specs.declared.prf.HmacPrfKeyFormat.{HmacPrfKeyFormat}
+use Rattle.tink_proto_keys.specs.Prf.{HmacPrfKeyFormat, HkdfPrfKeyFormat}
 use Rattle.tink_proto_keys.specs.declared.mac.AesCmacKeyFormat.{AesCmacKeyFormat}
 use Rattle.tink_proto_keys.specs.declared.aead.AesGcmKeyFormat.{AesGcmKeyFormat}
 use Rattle.tink_proto_keys.specs.declared.aead.AesGcmSivKeyFormat.{AesGcmSivKeyFormat}
-use Rattle.tink_proto_keys.specs.declared.streaming.AesCtrHmacStreamingKeyFormat.{AesCtrHmacStreamingKeyFormat}
-use Rattle.tink_proto_keys.specs.declared.streaming.AesGcmHkdfStreamingKeyFormat.{AesGcmHkdfStreamingKeyFormat}
-use Rattle.tink_proto_keys.specs.declared.mac.HmacKeyFormat.{HmacKeyFormat}
+use Rattle.tink_proto_keys.specs.Streaming.{AesGcmHkdfStreamingKeyFormat, AesCtrHmacStreamingKeyFormat}
+use Rattle.tink_proto_keys.specs.Mac.{HmacKeyFormat}
 use Rattle.tink_proto_keys.specs.declared.daead.AesSivKeyFormat.{AesSivKeyFormat}
 use Rattle.tink_prf.specs.KeyTypes as prf_keys
 use Rattle.tink_prf.specs.Templates.{prf_templates}

@@ -16,7 +16,7 @@ use Rattle.tink_io.specs.declared.error.Kind.TheVariants.{BadKeySize, BadTagSize
 use Rattle.tink_io.specs.Told.{made_of}
 use Rattle.tink_primitives.specs.declared.primitive.Primitive.{Primitive}
 use Rattle.tink_primitives.specs.declared.primitive.Primitive.TheVariants as sorts
-use Rattle.tink_proto_keys.specs.declared.mac.HmacKey.{HmacKey}
+use Rattle.tink_proto_keys.specs.Mac.{HmacKey}
 use Rattle.tink_proto_keys.specs.declared.mac.HmacParams.{HmacParams}
 use Rattle.tink_proto_keys.specs.declared.mac.AesCmacKey.{AesCmacKey}
 use Rattle.tink_proto_keys.specs.declared.mac.AesCmacParams.{AesCmacParams}

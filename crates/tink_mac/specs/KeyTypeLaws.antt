@@ -5,7 +5,7 @@ use Rattle.tink_io.specs.declared.error.Kind.TheVariants.{InvalidKey}
 use Rattle.tink_io.specs.Told.{made_of}
 use Rattle.tink_primitives.specs.Meaning.{IsTold}
 use Rattle.tink_primitives.specs.MeaningLaws.{made_told, told_if}
-use Rattle.tink_proto_keys.specs.declared.mac.HmacKey.{HmacKey}
+use Rattle.tink_proto_keys.specs.Mac.{HmacKey}
 use Rattle.tink_proto_keys.specs.declared.mac.HmacParams.{HmacParams}
 use Rattle.tink_proto_keys.specs.declared.mac.AesCmacKey.{AesCmacKey}
 use Rattle.tink_proto_keys.specs.declared.mac.AesCmacParams.{AesCmacParams}

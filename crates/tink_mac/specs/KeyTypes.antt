@@ -6,9 +6,7 @@ use Rattle.tink_proto.specs.Enums.{hash_number}
 use Rattle.tink_proto.specs.declared.enums.HashType.{HashType}
 use Rattle.tink_proto.specs.declared.enums.OutputPrefixType.TheVariants.{Tink}
 use Rattle.tink_proto.specs.declared.messages.keys.KeyTemplate.{KeyTemplate}
-use Rattle.tink_proto_keys.specs.Mac.{aes_cmac_key_format, hmac_key_format}
-use Rattle.tink_proto_keys.specs.declared.mac.HmacKey.{HmacKey}
-use Rattle.tink_proto_keys.specs.declared.mac.HmacKeyFormat.{HmacKeyFormat}
+use Rattle.tink_proto_keys.specs.Mac.{HmacKeyFormat, HmacKey, aes_cmac_key_format, hmac_key_format}
 use Rattle.tink_proto_keys.specs.declared.mac.HmacParams.{HmacParams}
 use Rattle.tink_proto_keys.specs.declared.mac.AesCmacKey.{AesCmacKey}
 use Rattle.tink_proto_keys.specs.declared.mac.AesCmacKeyFormat.{AesCmacKeyFormat}

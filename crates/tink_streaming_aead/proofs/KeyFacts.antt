@@ -14,8 +14,7 @@ use Rattle.tink_io.specs.declared.error.TinkError.{TinkError}
 use Rattle.tink_proto.specs.declared.enums.HashType.{HashType}
 use Rattle.tink_proto.specs.declared.enums.HashType.TheVariants.{Sha1, Sha224, Sha256, Sha384, Sha512}
 use Rattle.tink_proto.specs.Enums.{hash_number}
-use Rattle.tink_proto_keys.specs.declared.streaming.AesCtrHmacStreamingKey.{AesCtrHmacStreamingKey}
-use Rattle.tink_proto_keys.specs.declared.streaming.AesGcmHkdfStreamingKey.{AesGcmHkdfStreamingKey}
+use Rattle.tink_proto_keys.specs.Streaming.{AesGcmHkdfStreamingKey, AesCtrHmacStreamingKey}
 use Rattle.wire_format.specs.Reading.{◌>>=◌}
 use Rattle.stream_model.specs.Key.{StreamKey}
 use Rattle.loading_model.specs.Building.{are_key_sizes, gcm_hkdf_of, hash_numbered, is_gcm_streaming, is_streaming, streaming_of}

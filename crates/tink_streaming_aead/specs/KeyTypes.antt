@@ -5,12 +5,8 @@ use Rattle.tink_proto.specs.declared.enums.HashType.TheVariants.{Sha256}
 use Rattle.tink_proto.specs.declared.enums.OutputPrefixType.TheVariants.{Raw}
 use Rattle.tink_proto.specs.declared.messages.keys.KeyTemplate.{KeyTemplate}
 use Rattle.tink_proto.specs.Enums.{hash_number}
-use Rattle.tink_proto_keys.specs.Streaming.{aes_ctr_hmac_streaming_key_format, aes_gcm_hkdf_streaming_key_format}
-use Rattle.tink_proto_keys.specs.declared.streaming.AesCtrHmacStreamingKey.{AesCtrHmacStreamingKey}
-use Rattle.tink_proto_keys.specs.declared.streaming.AesCtrHmacStreamingKeyFormat.{AesCtrHmacStreamingKeyFormat}
+use Rattle.tink_proto_keys.specs.Streaming.{AesGcmHkdfStreamingKeyFormat, AesGcmHkdfStreamingKey, AesCtrHmacStreamingKeyFormat, AesCtrHmacStreamingKey, aes_ctr_hmac_streaming_key_format, aes_gcm_hkdf_streaming_key_format}
 use Rattle.tink_proto_keys.specs.declared.streaming.AesCtrHmacStreamingParams.{AesCtrHmacStreamingParams}
-use Rattle.tink_proto_keys.specs.declared.streaming.AesGcmHkdfStreamingKey.{AesGcmHkdfStreamingKey}
-use Rattle.tink_proto_keys.specs.declared.streaming.AesGcmHkdfStreamingKeyFormat.{AesGcmHkdfStreamingKeyFormat}
 use Rattle.tink_proto_keys.specs.declared.streaming.AesGcmHkdfStreamingParams.{AesGcmHkdfStreamingParams}
 use Rattle.wire_format.specs.Reading.{◌>>=◌}
 use Rattle.stream_model.specs.Key.{StreamKey}
