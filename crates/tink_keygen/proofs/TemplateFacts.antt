@@ -28,7 +28,8 @@ use Rattle.tink_proto_keys.specs.Daead as daead_messages
 use Rattle.tink_proto_keys.specs.declared.aes_ctr_hmac.AesCtrHmacAeadKeyFormat.{AesCtrHmacAeadKeyFormat}
 use Rattle.tink_proto_keys.specs.declared.aes_ctr_hmac.AesCtrKeyFormat.{AesCtrKeyFormat}
 use Rattle.tink_proto_keys.specs.declared.prf.AesCmacPrfKeyFormat.{AesCmacPrfKeyFormat}
-use Rattle.tink_proto_keys.specs.Prf.{HmacPrfKeyFormat, HkdfPrfKeyFormat}
+use Rattle.tink_proto_keys.specs.declared.prf.HkdfPrfKeyFormat.{HkdfPrfKeyFormat}
+use Rattle.tink_proto_keys.specs.Prf.{HmacPrfKeyFormat}
 use Rattle.tink_proto_keys.specs.declared.mac.AesCmacKeyFormat.{AesCmacKeyFormat}
 use Rattle.tink_proto_keys.specs.declared.aead.AesGcmKeyFormat.{AesGcmKeyFormat}
 use Rattle.tink_proto_keys.specs.declared.aead.AesGcmSivKeyFormat.{AesGcmSivKeyFormat}

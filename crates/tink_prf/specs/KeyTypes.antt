@@ -7,8 +7,9 @@ use Rattle.tink_io.specs.declared.error.Kind.TheVariants.{InvalidKey}
 use Rattle.tink_primitives.specs.Meaning.{IsTold}
 use Rattle.tink_proto.specs.declared.enums.HashType.{HashType}
 use Rattle.tink_proto_keys.specs.declared.prf.HmacPrfParams.{HmacPrfParams}
-use Rattle.tink_proto_keys.specs.Prf.{HkdfPrfKey, HmacPrfKey}
+use Rattle.tink_proto_keys.specs.Prf.{HmacPrfKey}
 use Rattle.tink_proto_keys.specs.declared.prf.HkdfPrfParams.{HkdfPrfParams}
+use Rattle.tink_proto_keys.specs.declared.prf.HkdfPrfKey.{HkdfPrfKey}
 use Rattle.tink_proto_keys.specs.declared.prf.AesCmacPrfKey.{AesCmacPrfKey}
 use Rattle.tink_subtle.specs.Hashes.{hash_named}
 use Rattle.tink_key_types.specs.HashTypes.{hash_type_of}

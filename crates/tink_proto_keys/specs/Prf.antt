@@ -8,6 +8,8 @@ use Rattle.tink_proto_keys.specs.WithParams.{key_with, format_with}
 use Rattle.tink_proto_keys.specs.declared.with_params.KeyWith.{KeyWith}
 use Rattle.tink_proto_keys.specs.declared.with_params.FormatWith.{FormatWith}
 use Rattle.tink_proto_keys.specs.declared.prf.HkdfPrfParams.{HkdfPrfParams}
+use Rattle.tink_proto_keys.specs.declared.prf.HkdfPrfKey.{HkdfPrfKey}
+use Rattle.tink_proto_keys.specs.declared.prf.HkdfPrfKeyFormat.{HkdfPrfKeyFormat}
 use Rattle.tink_proto_keys.specs.declared.prf.HmacPrfParams.{HmacPrfParams}
 use Rattle.tink_proto_keys.specs.declared.prf.AesCmacPrfKey.{AesCmacPrfKey}
 use Rattle.tink_proto_keys.specs.declared.prf.AesCmacPrfKeyFormat.{AesCmacPrfKeyFormat}
@@ -19,17 +21,19 @@ hkdf_prf_params = message
     (λ m. (m.hash, m.salt))
     (λ t. refl) (λ m. refl)
 
-abbrev pub HkdfPrfKey : Type 0
-HkdfPrfKey = KeyWith HkdfPrfParams
-
 abbrev pub hkdf_prf_key : Column HkdfPrfKey
-hkdf_prf_key = key_with hkdf_prf_params
-
-abbrev pub HkdfPrfKeyFormat : Type 0
-HkdfPrfKeyFormat = FormatWith HkdfPrfParams
+hkdf_prf_key = message
+    (pair (column 1 refl number) (pair (column 2 refl (option_of hkdf_prf_params)) (column 3 refl bytes) refl) refl)
+    (λ t. record { version = t.0; params = t.1.0; key_value = t.1.1 })
+    (λ m. (m.version, (m.params, m.key_value)))
+    (λ t. refl) (λ m. refl)
 
 abbrev pub hkdf_prf_key_format : Column HkdfPrfKeyFormat
-hkdf_prf_key_format = format_with hkdf_prf_params
+hkdf_prf_key_format = message
+    (pair (column 1 refl (option_of hkdf_prf_params)) (pair (column 2 refl number) (column 3 refl number) refl) refl)
+    (λ t. record { params = t.0; key_size = t.1.0; version = t.1.1 })
+    (λ m. (m.params, (m.key_size, m.version)))
+    (λ t. refl) (λ m. refl)
 
 abbrev pub hmac_prf_params : Column HmacPrfParams
 hmac_prf_params = message

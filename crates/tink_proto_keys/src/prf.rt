@@ -41,10 +41,75 @@ impl Message for HkdfPrfParams {
 }
 
 /// A key of HKDF as a PRF.
-pub type HkdfPrfKey = KeyWith<HkdfPrfParams>;
+#[derive(Drop)]
+pub struct HkdfPrfKey {
+    pub version: u32,
+    pub params: Option<HkdfPrfParams>,
+    pub key_value: Bytes,
+}
+
+impl Message for HkdfPrfKey {
+    ghost use Rattle.tink_proto_keys.specs.Prf.{hkdf_prf_key};
+
+    ghost table = { hkdf_prf_key };
+
+    fn new(alloc: Global) -> HkdfPrfKey {
+        HkdfPrfKey {
+            version: 0,
+            params: None,
+            key_value: Bytes::new(alloc),
+        }
+    }
+
+    fn read_field(&mut self, alloc: Global, field: &Field) -> Result<(), ProtoError> {
+        read_fields!(self, alloc, field; 1 number version, 2 message params, 3 bytes key_value)
+    }
+
+    #[tactic(auto, using(std::proofs::Common::append_assoc, wire_format::proofs::WritingLaws::spelling_append))]
+    fn write_fields(&self, alloc: Global, out: &mut Vec<u8>) -> Result<(), AllocError> {
+        write_fields!(self, alloc, out; 1 number version, 2 message params, 3 bytes key_value)
+    }
+
+    fn try_clone(&self, alloc: Global) -> Result<HkdfPrfKey, ProtoError> {
+        clone_fields!(HkdfPrfKey, self, alloc; number version, message params, bytes key_value)
+    }
+}
 
 /// What a new such key is to be.
-pub type HkdfPrfKeyFormat = FormatWith<HkdfPrfParams>;
+#[derive(Drop)]
+pub struct HkdfPrfKeyFormat {
+    pub params: Option<HkdfPrfParams>,
+    /// In bytes.
+    pub key_size: u32,
+    pub version: u32,
+}
+
+impl Message for HkdfPrfKeyFormat {
+    ghost use Rattle.tink_proto_keys.specs.Prf.{hkdf_prf_key_format};
+
+    ghost table = { hkdf_prf_key_format };
+
+    fn new(_alloc: Global) -> HkdfPrfKeyFormat {
+        HkdfPrfKeyFormat {
+            params: None,
+            key_size: 0,
+            version: 0,
+        }
+    }
+
+    fn read_field(&mut self, alloc: Global, field: &Field) -> Result<(), ProtoError> {
+        read_fields!(self, alloc, field; 1 message params, 2 number key_size, 3 number version)
+    }
+
+    #[tactic(auto, using(std::proofs::Common::append_assoc, wire_format::proofs::WritingLaws::spelling_append))]
+    fn write_fields(&self, alloc: Global, out: &mut Vec<u8>) -> Result<(), AllocError> {
+        write_fields!(self, alloc, out; 1 message params, 2 number key_size, 3 number version)
+    }
+
+    fn try_clone(&self, alloc: Global) -> Result<HkdfPrfKeyFormat, ProtoError> {
+        clone_fields!(HkdfPrfKeyFormat, self, alloc; message params, number key_size, number version)
+    }
+}
 
 /// The hash of HMAC as a PRF.
 #[derive(Drop)]
