@@ -1,5 +1,5 @@
-pub mod Converting
+pub use Rattle.tink_groups.specs.Converting
 pub mod Entries
-pub mod Groups
+pub use Rattle.tink_groups.specs.Groups
 pub mod Prefixes
 pub mod SortLaws

@@ -5,10 +5,9 @@ pub use entry::{Entry, TypedEntry};
 pub use primitive_set::PrimitiveSet;
 pub use typed_set::TypedPrimitiveSet;
 
-mod converting;
+mod copying;
 pub mod cryptofmt;
 mod entry;
-mod groups;
 mod primitive_set;
 pub mod sorts;
 mod typed_set;

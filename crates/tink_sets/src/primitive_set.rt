@@ -5,16 +5,16 @@ ghost use Rattle.std.specs.Prelude.{◌≡◌, ◌⊎◌, ⊤, [], ℕ, List, No
 ghost use Rattle.std.specs.Borrow.{sem, follows_so};
 ghost use Rattle.tink_io.specs.declared.error.Kind.TheVariants.{OutOfMemory};
 ghost use Rattle.tink_io.specs.Told.{Answers};
-ghost use Rattle.tink_sets.specs.Groups.{group_at, group_of, Adds, AddsLast, AreGroupsOf, EndsBy, HaveSameGroups};
+ghost use Rattle.tink_groups.specs.Groups.{group_at, group_of, Adds, AddsLast, AreGroupsOf, EndsBy, HaveSameGroups};
 ghost use Rattle.tink_sets.specs.Entries.{may_stand, own_prefix, entry_of, prefix_of, SetAfterAdding};
 
 use crate::Entry;
-use crate::converting::clone_set;
+use crate::copying::clone_set;
 use crate::cryptofmt::RAW_PREFIX;
 use crate::entry::standing_prefix;
-use crate::groups::{group_of, newest, put_in_group};
 use std::alloc::Global;
 use std::collections::BTreeMap;
+use tink_groups::{group_of, newest, put_in_group};
 use tink_io::TinkError;
 use tink_primitives::{Kinds, Primitive};
 use tink_proto::{Bytes, Key, Repeated};

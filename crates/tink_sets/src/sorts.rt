@@ -9,10 +9,10 @@ ghost use Rattle.tink_primitives.specs.declared.primitive.Primitive.{Primitive};
 ghost use Rattle.tink_sets.specs.Entries.{typed_by, with_primitive};
 ghost use Rattle.tink_sets.specs.SortLaws.{aead_or_wrong, deterministic_aead_or_wrong, hybrid_decrypt_or_wrong, hybrid_encrypt_or_wrong, mac_or_wrong, prf_or_wrong, signer_or_wrong, streaming_aead_or_wrong, verifier_or_wrong};
 
-use crate::converting::Convert;
 use crate::entry::{beside, clone_parts};
 use crate::{Entry, TypedEntry};
 use std::alloc::Global;
+use tink_groups::Convert;
 use tink_io::TinkError;
 use tink_primitives::{CloneIn, Kinds, Primitive};
 

@@ -3,13 +3,12 @@
 ghost use Rattle.std.specs.Prelude.{◌≡◌, ◌⊎◌, [], None, Some, IfOk, IfErr, MatchOption};
 ghost use Rattle.tink_io.specs.declared.error.Kind.TheVariants.{OutOfMemory, WrongPrimitive};
 ghost use Rattle.tink_primitives.specs.Sorts.{as_aead, as_deterministic_aead, as_hybrid_decrypt, as_hybrid_encrypt, as_mac, as_prf, as_signer, as_streaming_aead, as_verifier};
-ghost use Rattle.tink_sets.specs.Groups.{group_at, HaveSameGroups};
-ghost use Rattle.tink_sets.specs.Converting.{HasRefused};
+ghost use Rattle.tink_groups.specs.Groups.{group_at, HaveSameGroups};
+ghost use Rattle.tink_groups.specs.Converting.{HasRefused};
 ghost use Rattle.tink_sets.specs.Entries.{typed_by, AreNotTyped, AreTyped, IsTypedPrimary, IsRefusedPrimary};
 
-use crate::converting::{Convert, clone_set, convert_groups};
+use crate::copying::clone_set;
 use crate::cryptofmt::RAW_PREFIX;
-use crate::groups::group_at;
 use crate::sorts::{
     Aeads, DeterministicAeads, HybridDecrypters, HybridEncrypters, Macs, Prfs, Signers, Sort,
     StreamingAeads, Typed, Verifiers,
@@ -17,6 +16,7 @@ use crate::sorts::{
 use crate::{Entry, PrimitiveSet, TypedEntry};
 use std::alloc::Global;
 use std::collections::BTreeMap;
+use tink_groups::{Convert, convert_groups, group_at};
 use tink_io::TinkError;
 use tink_primitives::{CloneIn, Kinds};
 use tink_proto::Repeated;

@@ -4,8 +4,8 @@ use Rattle.tink_io.specs.declared.error.Kind.{Kind}
 use Rattle.tink_io.specs.Told.{made_of}
 use Rattle.std.specs.Prelude.{Vec}
 use Rattle.std.specs.BTreeMap.{BTreeMap}
-use Rattle.tink_sets.specs.Groups.{group_at, HaveSameGroups}
-use Rattle.tink_sets.specs.Converting.{before, converted, IsConverted, AreConverted, HasRefused}
+use Rattle.tink_groups.specs.Groups.{group_at, HaveSameGroups}
+use Rattle.tink_groups.specs.Converting.{before, converted, IsConverted, AreConverted, HasRefused}
 
 -- one value more
 pub one_more : {B : Type 0} (all : List B) (v : B) (rest : Result (List B) Kind) → made_of (λ vs. all ++ vs) (before (Ok v) rest) ≡ made_of (λ vs. (all ++ v ∷ []) ++ vs) rest

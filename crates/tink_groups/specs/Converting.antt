@@ -3,7 +3,7 @@ use Rattle.std.specs.Prelude.{◌≡◌, ⊤, ℕ, List, [], ◌∷◌, Vec, Opt
 use Rattle.std.specs.BTreeMap.{BTreeMap}
 use Rattle.tink_io.specs.declared.error.Kind.{Kind}
 use Rattle.tink_io.specs.Told.{made_of}
-use Rattle.tink_sets.specs.Groups.{group_at}
+use Rattle.tink_groups.specs.Groups.{group_at}
 
 -- a value before those that follow, or the first refusal
 abbrev pub before : {B : Type 0} → Result B Kind → Result (List B) Kind → Result (List B) Kind

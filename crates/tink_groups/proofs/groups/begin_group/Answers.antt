@@ -1,6 +1,6 @@
 use Rattle.std.proofs.Common.{◌≡◌, ◌∙◌, ◌∷◌, ◌++◌, [], List, ap}
-use Rattle.tink_sets.proofs.VecKeys.{groups_begun}
-use Rattle.tink_sets.proofs.groups.begin_group.Goals as goal
+use Rattle.tink_groups.proofs.VecKeys.{groups_begun}
+use Rattle.tink_groups.proofs.groups.begin_group.Goals as goal
 
 pub returns-clause-ok : goal.returns-clause-ok
 returns-clause-ok g c =

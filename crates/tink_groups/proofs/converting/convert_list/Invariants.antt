@@ -1,7 +1,7 @@
 use Rattle.std.proofs.Common.{◌≡◌, ◌++◌, drop}
 use Rattle.tink_io.specs.Told.{made_of}
-use Rattle.tink_sets.specs.Converting.{converted}
-use Rattle.tink_sets.proofs.converting.convert_list.Given as goal
+use Rattle.tink_groups.specs.Converting.{converted}
+use Rattle.tink_groups.proofs.converting.convert_list.Given as goal
 
 -- what was converted stands before what is left
 abbrev pub invariant-loop-entry : goal.invariant-loop-entry

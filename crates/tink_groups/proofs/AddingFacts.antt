@@ -6,7 +6,7 @@ use Rattle.std.specs.Cmp.Lexicographic.{bytes_decides}
 use Rattle.std.specs.BTreeMap.{BTreeMap}
 use Rattle.std.proofs.lemmas.List.{append-nil}
 use Rattle.std.proofs.lemmas.List.Elements.{filter-append}
-use Rattle.tink_sets.specs.Groups.{group_at, group_of, Adds, AddsLast, AfterAdding, EndsBy, HaveSameGroups}
+use Rattle.tink_groups.specs.Groups.{group_at, group_of, Adds, AddsLast, AfterAdding, EndsBy, HaveSameGroups}
 
 -- the entries of its own prefix
 pub group_of-own : {E A : Type 0} (own : List ℕ) (entry : E) (old new : BTreeMap (Vec ℕ A) (List E)) → Adds own entry old new → EndsBy own entry old new

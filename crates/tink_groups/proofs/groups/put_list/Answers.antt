@@ -1,5 +1,5 @@
-use Rattle.tink_sets.proofs.VecKeys.{groups_written}
-use Rattle.tink_sets.proofs.groups.put_list.Goals as goal
+use Rattle.tink_groups.proofs.VecKeys.{groups_written}
+use Rattle.tink_groups.proofs.groups.put_list.Goals as goal
 
 pub returns-clause-ok : goal.returns-clause-ok
 returns-clause-ok g c =

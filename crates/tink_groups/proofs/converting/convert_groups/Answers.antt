@@ -1,9 +1,9 @@
 use Rattle.std.proofs.Common.{◌≡◌, ◌⊎◌, Ok, Err, ◌∷◌, inl, inr, ⊎_elim, subst, sym, ℕ, List, Some, cond, bytes_eq}
-use Rattle.tink_sets.specs.Groups.{group_at}
+use Rattle.tink_groups.specs.Groups.{group_at}
 use Rattle.tink_io.specs.declared.error.Kind.TheVariants.{OutOfMemory}
-use Rattle.tink_sets.specs.Converting.{converted}
-use Rattle.tink_sets.proofs.ConvertingFacts.{IsConverting, converting_all, converting_none, converting_more, converting_refused}
-use Rattle.tink_sets.proofs.converting.convert_groups.Goals as goal
+use Rattle.tink_groups.specs.Converting.{converted}
+use Rattle.tink_groups.proofs.ConvertingFacts.{IsConverting, converting_all, converting_none, converting_more, converting_refused}
+use Rattle.tink_groups.proofs.converting.convert_groups.Goals as goal
 
 pub loop-prefix-init : goal.loop-prefix-init
 loop-prefix-init g c =

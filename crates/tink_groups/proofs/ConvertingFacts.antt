@@ -11,8 +11,8 @@ use Rattle.std.proofs.lemmas.Bool.{cases_Bool, cond-true, cond-false, false≢tr
 use Rattle.std.proofs.lemmas.Option.{none-some}
 use Rattle.std.proofs.lemmas.List.Elements.{All-head, All-tail}
 use Rattle.tink_io.specs.declared.error.Kind.{Kind}
-use Rattle.tink_sets.specs.Groups.{group_at}
-use Rattle.tink_sets.specs.Converting.{converted, IsConverted, AreConverted, HasRefused}
+use Rattle.tink_groups.specs.Groups.{group_at}
+use Rattle.tink_groups.specs.Converting.{converted, IsConverted, AreConverted, HasRefused}
 
 -- the lists of what is left of a map
 abbrev pub Pairs : Type 0 → Type 0 → Type 0

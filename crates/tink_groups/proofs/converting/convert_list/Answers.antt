@@ -1,9 +1,9 @@
 use Rattle.std.proofs.Common.{◌++◌, Ok, inl, inr, ap, ◌∙◌}
 use Rattle.std.proofs.lemmas.List.{append-nil, drop_all}
 use Rattle.tink_io.specs.Told.{made_of}
-use Rattle.tink_sets.specs.Converting.{converted}
-use Rattle.tink_sets.proofs.Converted.{stopped, went_on}
-use Rattle.tink_sets.proofs.converting.convert_list.Goals as goal
+use Rattle.tink_groups.specs.Converting.{converted}
+use Rattle.tink_groups.proofs.Converted.{stopped, went_on}
+use Rattle.tink_groups.proofs.converting.convert_list.Goals as goal
 
 pub loop-entry-preserved : goal.loop-entry-preserved
 loop-entry-preserved g c =

@@ -1,5 +1,5 @@
 use Rattle.std.proofs.Common.{Some, sym, ap, ◌∙◌}
-use Rattle.tink_sets.proofs.groups.group_at.Goals as goal
+use Rattle.tink_groups.proofs.groups.group_at.Goals as goal
 
 pub returns-in-None : goal.returns-in-None
 returns-in-None g c = record { value = sym c.in-None.ensures.value }

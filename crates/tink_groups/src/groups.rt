@@ -2,14 +2,14 @@
 
 ghost use Rattle.std.specs.Prelude.{◌≡◌, ◌<◌, ◌++◌, ◌∷◌, [], List, None, Some, length, IfOk, OnOk, OnErr, IfErr, MatchOption};
 ghost use Rattle.tink_io.specs.declared.error.Kind.TheVariants.{OutOfMemory};
-ghost use Rattle.tink_sets.specs.Groups.{group_at, group_of, Adds, HaveSameGroups, PutsGroup};
+ghost use Rattle.tink_groups.specs.Groups.{group_at, group_of, Adds, HaveSameGroups, PutsGroup};
 
 use std::alloc::Global;
 use std::collections::BTreeMap;
 use tink_io::TinkError;
 use tink_proto::Repeated;
 
-// The list of a prefix.
+/// The list of a prefix, if there is one.
 pub fn group_at<'a, E>(groups: &'a BTreeMap<Vec<u8>, Repeated<E>>, prefix: &[u8]) -> Option<&'a [E]>
     ensures value { MatchOption result (group_at groups.now prefix.now ≡ None)
         (λ g. group_at groups.now prefix.now ≡ Some g.now) }
@@ -20,7 +20,7 @@ pub fn group_at<'a, E>(groups: &'a BTreeMap<Vec<u8>, Repeated<E>>, prefix: &[u8]
     }
 }
 
-// The entries of a prefix, in the order in which they were added.
+/// The entries of a prefix, in the order in which they were added; none where it has no list.
 pub fn group_of<'a, E>(groups: &'a BTreeMap<Vec<u8>, Repeated<E>>, prefix: &[u8]) -> &'a [E]
     ensures value { result.now ≡ group_of groups.now prefix.now }
 {
@@ -30,7 +30,7 @@ pub fn group_of<'a, E>(groups: &'a BTreeMap<Vec<u8>, Repeated<E>>, prefix: &[u8]
     }
 }
 
-// The newest entry of a list.
+/// The newest entry of a list, which has one.
 pub fn newest<E>(entries: &[E]) -> &E
     requires some { 0 < length entries.now }
     ensures value { (xs : List E) (e : E) → entries.now ≡ xs ++ e ∷ [] → result.now ≡ e }
@@ -38,7 +38,10 @@ pub fn newest<E>(entries: &[E]) -> &E
     &entries[entries.len() - 1]
 }
 
-// Puts an entry behind those of its prefix.
+/// Puts an entry behind those of its prefix.
+///
+/// # Errors
+/// `OutOfMemory`; the lists are as before then.
 pub fn put_in_group<E: Drop>(
     groups: &mut BTreeMap<Vec<u8>, Repeated<E>>,
     alloc: Global,
@@ -77,7 +80,10 @@ fn begin_group<E: Drop>(
     Ok(())
 }
 
-// Puts a list under a prefix, in place of the one that is there.
+/// Puts a list under a prefix, in place of the one that is there.
+///
+/// # Errors
+/// `OutOfMemory`.
 pub fn put_list<E: Drop>(
     groups: &mut BTreeMap<Vec<u8>, Repeated<E>>,
     alloc: Global,

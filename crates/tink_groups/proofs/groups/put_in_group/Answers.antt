@@ -4,9 +4,9 @@ use Rattle.std.specs.BTreeMap.{get_by}
 use Rattle.std.specs.Ordering.{nat_cmp}
 use Rattle.std.specs.Cmp.Lexicographic.{slice_cmp}
 use Rattle.std.proofs.lemmas.Result.{err_from_is_err_and}
-use Rattle.tink_sets.specs.Groups.{Adds, HaveSameGroups}
-use Rattle.tink_sets.proofs.VecKeys.{groups_pushed, groups_same}
-use Rattle.tink_sets.proofs.groups.put_in_group.Goals as goal
+use Rattle.tink_groups.specs.Groups.{Adds, HaveSameGroups}
+use Rattle.tink_groups.proofs.VecKeys.{groups_pushed, groups_same}
+use Rattle.tink_groups.proofs.groups.put_in_group.Goals as goal
 
 pub returns-in_ok-push-in-Some-clause-ok : goal.returns-in_ok-push-in-Some-clause-ok
 returns-in_ok-push-in-Some-clause-ok g c =

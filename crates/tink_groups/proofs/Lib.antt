@@ -1,0 +1,4 @@
+pub mod AddingFacts
+pub mod Converted
+pub mod ConvertingFacts
+pub mod VecKeys
