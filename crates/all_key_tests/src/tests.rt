@@ -9,28 +9,13 @@ fn hold(rt: &impl Abort, told: Told) {
 }
 
 #[test]
-fn registries_and_sets(rt: HostRuntime) {
-    hold(&rt, tink_registry_tests::rows(rt.alloc()));
-}
-
-#[test]
-fn keysets(rt: HostRuntime) {
-    hold(&rt, tink_keysets_tests::rows(rt.alloc()));
-}
-
-#[test]
-fn keysets_through_ends(rt: HostRuntime) {
-    hold(&rt, tink_keyset_io_tests::rows(rt.alloc()));
-}
-
-#[test]
-fn primitives_of_keysets(rt: HostRuntime) {
-    hold(&rt, tink_factory_tests::rows(rt.alloc()));
-}
-
-#[test]
 fn prfs_and_macs(rt: HostRuntime) {
     hold(&rt, tink_prf_mac_tests::rows(rt.alloc()));
+}
+
+#[test]
+fn aeads_under_one_key(rt: HostRuntime) {
+    hold(&rt, tink_aead_subtle_tests::rows(rt.alloc()));
 }
 
 #[test]
