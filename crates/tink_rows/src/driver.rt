@@ -203,95 +203,80 @@ pub struct WrongRow {
     pub got: Result<bool, Kind>,
 }
 
-// Tries a row in a way at each number of its ranges, up to where it fails.
+// What rows gave a name so far, and the first that does not hold.
+#[derive(Drop)]
+struct Tried {
+    kept: Vec<Named>,
+    wrong: Option<WrongRow>,
+}
+
+// Tries a row in a way at each number of its ranges, while none failed.
 fn try_row<C: Calls>(
     alloc: Global,
     calls: &C,
-    kept: &mut Vec<Named>,
+    tried: &mut Tried,
     way: &'static str,
     row: &'static str,
-) -> Option<WrongRow> {
+) {
     let (from, to) = range(part(row, 0), 0);
     let (low, high) = range(part(row, 0), 1);
     for n in from..=to {
         for m in low..=high {
-            let got = holds_at(alloc, calls, kept, (way, row), (n, m));
-            if got != Ok(true) {
-                let numbers = (n, m);
-                return Some(WrongRow {
-                    way,
-                    row,
-                    numbers,
-                    got,
-                });
+            if tried.wrong.is_none() {
+                let got = holds_at(alloc, calls, &mut tried.kept, (way, row), (n, m));
+                if got != Ok(true) {
+                    let numbers = (n, m);
+                    tried.wrong = Some(WrongRow {
+                        way,
+                        row,
+                        numbers,
+                        got,
+                    });
+                }
             }
         }
     }
-    None
 }
 
 fn try_rows<C: Calls>(
     alloc: Global,
     calls: &C,
-    kept: &mut Vec<Named>,
+    tried: &mut Tried,
     way: &'static str,
     rows: &'static str,
-) -> Option<WrongRow> {
+) {
     for row in rows.split('\n') {
         if !row.is_empty() {
-            let failed = try_row(alloc, calls, kept, way, row);
-            if failed.is_some() {
-                return failed;
-            }
+            try_row(alloc, calls, tried, way, row);
         }
     }
-    None
 }
 
 // Tries a table in each of its ways, which stand in its first line.
-fn try_table<C: Calls>(
-    alloc: Global,
-    calls: &C,
-    kept: &mut Vec<Named>,
-    table: &'static str,
-) -> Option<WrongRow> {
+fn try_table<C: Calls>(alloc: Global, calls: &C, tried: &mut Tried, table: &'static str) {
     let (ways, rows) = table.split_once('\n').unwrap_or(("", ""));
     for way in ways.split(';') {
-        let failed = try_rows(alloc, calls, kept, way, rows);
-        if failed.is_some() {
-            return failed;
-        }
+        try_rows(alloc, calls, tried, way, rows);
     }
-    None
 }
 
 // Tries tables, one after another.
-fn try_tables<C: Calls>(
-    alloc: Global,
-    calls: &C,
-    kept: &mut Vec<Named>,
-    tables: &'static str,
-) -> Option<WrongRow> {
+fn try_tables<C: Calls>(alloc: Global, calls: &C, tried: &mut Tried, tables: &'static str) {
     for table in tables.split("ways:") {
-        let failed = try_table(alloc, calls, kept, table);
-        if failed.is_some() {
-            return failed;
-        }
+        try_table(alloc, calls, tried, table);
     }
-    None
 }
 
 /// The first row that does not hold.
 pub fn rows<C: Calls>(alloc: Global, calls: &C) -> Option<WrongRow> {
-    let mut kept = Vec::new(alloc);
+    let mut tried = Tried {
+        kept: Vec::new(alloc),
+        wrong: None,
+    };
     for number in 0..100usize {
-        let Some(tables) = calls.tables(number) else {
-            return None;
-        };
-        let failed = try_tables(alloc, calls, &mut kept, tables);
-        if failed.is_some() {
-            return failed;
+        if let Some(tables) = calls.tables(number) {
+            try_tables(alloc, calls, &mut tried, tables);
         }
     }
-    None
+    tried.wrong
 }
