@@ -1,4 +1,4 @@
-//! The test of each crate of rows on streams, files and the program: no row of it fails.
+//! The test of each crate of rows on streams: no row of it fails.
 #![tactic(auto)]
 
 #[cfg(test)]

@@ -27,18 +27,3 @@ fn streaming_aeads(rt: HostRuntime) {
 fn ranges_and_large_texts(rt: HostRuntime) {
     hold(&rt, tink_range_tests::rows(rt.alloc()));
 }
-
-#[test]
-fn tasks(rt: HostRuntime) {
-    hold(&rt, tink_tests::rows(rt.alloc()));
-}
-
-#[test]
-fn commands_over_files(rt: HostRuntime) {
-    hold(&rt, tink_files_tests::rows(rt.alloc()));
-}
-
-#[test]
-fn the_program(rt: HostRuntime) {
-    assert_eq!(rt; tink_program_tests::rows(rt.alloc()), None);
-}

@@ -1,17 +1,19 @@
 //! The calls that rows make: of the program, and by their settings of the calls below it.
 
-use crate::bytes::{number, of_digits, put_counted};
 use crate::callers::in_memory;
+use crate::tables::tables_of;
 use std::alloc::Global;
 use tink_daead::subtle::AesSiv;
 use tink_daead::{AesSivKeyManager, WrappedDeterministicAead};
-use tink_io::{Draws, Kind, MemSink, MemSource, SureSink, TinkError, write_all, write_line};
+use tink_io::{Draws, Kind, TinkError, write_all};
 use tink_keygen::keygen;
 use tink_keyset_io::read_whole;
 use tink_keysets::keyset::insecure;
 use tink_primitives::DeterministicAead;
-use tink_program::program::{Outcome, status};
 use tink_proto::Bytes;
+use tink_rows::{
+    Calls, Ends, Side, answered, bytes_of, draws_of, first_of, number, number_of, setting, side_of,
+};
 use tink_run::load::load;
 use tink_run::report::{Command, Report};
 use tink_run::rewrap::rewrap;
@@ -20,125 +22,40 @@ use tink_sets::TypedPrimitiveSet;
 use tink_streaming_aead::{DerivesStreams, StreamKind};
 use tink_testutil::registry_of;
 
-/// The ends of a call, in memory.
-#[derive(Drop)]
-pub struct Ends {
-    pub source: MemSource,
-    pub sink: MemSink,
-    pub line: SureSink,
-}
+/// The program, and the calls below it.
+pub struct Program;
 
-/// The text of a setting, which stands behind its name and `=`.
-pub fn setting<'a>(settings: &'a str, name: &str) -> Option<&'a str> {
-    for word in settings.split(' ') {
-        if let Some((key, value)) = word.split_once('=') {
-            if key == name {
-                return Some(value);
-            }
+impl Calls for Program {
+    fn tables(&self, number: usize) -> Option<&'static str> {
+        tables_of(number)
+    }
+
+    // Of one below the program where the settings or the first word ask for it, else of the program.
+    fn call(
+        &self,
+        alloc: Global,
+        words: &Vec<String>,
+        settings: &str,
+        ends: &mut Ends,
+    ) -> Result<u8, TinkError> {
+        if let Some(draws) = setting(settings, "draws") {
+            return by_run(alloc, words, settings, number(draws), ends);
         }
-    }
-    None
-}
-
-/// The number of a setting, or this one.
-pub fn number_of(settings: &str, name: &str, otherwise: usize) -> usize {
-    match setting(settings, name) {
-        Some(value) => number(value),
-        None => otherwise,
-    }
-}
-
-// The call that fails by a setting, or none.
-fn failing(alloc: Global, settings: &str, name: &str) -> Result<Vec<u32>, TinkError> {
-    let call = setting(settings, name).unwrap_or("").parse::<u32>();
-    Ok(vec![in alloc; call.unwrap_or(0)]?)
-}
-
-/// Ends by their settings: how many bytes move in a call (`piece`), and which call fails (`read`, `write`).
-pub fn ends_of(alloc: Global, input: Vec<u8>, settings: &str) -> Result<Ends, TinkError> {
-    let piece = number_of(settings, "piece", 0);
-    let (reads, writes) = (
-        failing(alloc, settings, "read")?,
-        failing(alloc, settings, "write")?,
-    );
-    Ok(Ends {
-        source: MemSource::new(input, piece, reads),
-        sink: MemSink::new(alloc, piece, writes),
-        line: SureSink::new(alloc),
-    })
-}
-
-/// Makes the room of the settings for bytes and for the line (`room`, `lines`).
-pub fn make_room(alloc: Global, ends: &mut Ends, settings: &str) -> Result<(), TinkError> {
-    ends.line.reserve(alloc, number_of(settings, "lines", 300))?;
-    ends.sink.reserve(alloc, number_of(settings, "room", 40000))
-}
-
-/// The status of a call by these words: of one below the program where the settings or the first word ask for it, else
-/// of the program.
-pub fn call(
-    alloc: Global,
-    words: &Vec<String>,
-    settings: &str,
-    ends: &mut Ends,
-) -> Result<u8, TinkError> {
-    if let Some(draws) = setting(settings, "draws") {
-        return by_run(alloc, words, settings, number(draws), ends);
-    }
-    if let Some(count) = setting(settings, "zeros") {
-        return by_keygen(alloc, words, number(count), ends);
-    }
-    if setting(settings, "load").is_some() {
-        return by_load(alloc, words, ends);
-    }
-    match first_of(words) {
-        "bytes" | "encrypt" | "decrypt" => by_input(alloc, words, ends),
-        _ => Ok(in_memory(
-            alloc,
-            words,
-            &mut ends.source,
-            &mut ends.sink,
-            &mut ends.line,
-        )),
-    }
-}
-
-fn first_of(words: &[String]) -> &str {
-    match words.first() {
-        Some(word) => word.as_str(),
-        None => "",
-    }
-}
-
-// The bytes of the word at a place; of a dash, or where there is none, no bytes.
-fn bytes_of(alloc: Global, words: &[String], place: usize) -> Result<Vec<u8>, TinkError> {
-    match words.get(place) {
-        Some(word) if word.as_str() != "-" => of_digits(alloc, word.as_bytes()),
-        _ => Ok(Vec::new(alloc)),
-    }
-}
-
-// A keyset and its associated data.
-#[derive(Drop)]
-struct Side {
-    keyset: Vec<u8>,
-    aad: Vec<u8>,
-}
-
-// The words from a place on.
-fn side_of(alloc: Global, words: &[String], place: usize) -> Result<Side, TinkError> {
-    let keyset = bytes_of(alloc, words, place)?;
-    let aad = bytes_of(alloc, words, place.saturating_add(1))?;
-    Ok(Side { keyset, aad })
-}
-
-// The status of an answer, whose line is told.
-fn answered<T: Copy>(answer: Result<T, TinkError>, ends: &mut Ends) -> u8 {
-    match answer {
-        Ok(_) => 0,
-        Err(e) => {
-            write_line(&mut ends.line, e.kind);
-            status(Outcome::Refused(e.kind))
+        if let Some(count) = setting(settings, "zeros") {
+            return by_keygen(alloc, words, number(count), ends);
+        }
+        if setting(settings, "load").is_some() {
+            return by_load(alloc, words, ends);
+        }
+        match first_of(words) {
+            "bytes" | "encrypt" | "decrypt" => by_input(alloc, words, ends),
+            _ => Ok(in_memory(
+                alloc,
+                words,
+                &mut ends.source,
+                &mut ends.sink,
+                &mut ends.line,
+            )),
         }
     }
 }
@@ -241,13 +158,6 @@ fn put_keys(
         }
         _ => Ok(1),
     }
-}
-
-/// Draws that count up.
-pub fn draws_of(alloc: Global, count: usize) -> Result<Draws, TinkError> {
-    let mut bytes = Vec::new(alloc);
-    put_counted(&mut bytes, count)?;
-    Ok(Draws::new(bytes))
 }
 
 // The status of what `keygen` answers, by so many draws of zeros.

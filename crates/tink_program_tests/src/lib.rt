@@ -1,12 +1,16 @@
-//! Tests of tink_program, and of the crates below it that its commands stand on: tables of rows, and the one driver that
-//! runs them over sources and sinks in memory.
+//! Tests of tink_program, and of the crates below it that its commands stand on: tables of rows, and the calls that they
+//! make over sources and sinks in memory.
 #![tactic(auto)]
 
-pub use driver::{WrongRow, rows};
+use crate::calls::Program;
+use std::alloc::Global;
+use tink_rows::WrongRow;
 
-mod bytes;
 mod callers;
 mod calls;
-mod driver;
 mod tables;
-mod wanted;
+
+/// The first row that does not hold.
+pub fn rows(alloc: Global) -> Option<WrongRow> {
+    tink_rows::rows(alloc, &Program)
+}

@@ -1,21 +1,35 @@
 //! The driver of the rows.
 //!
-//! A row is `PHRASE | WORDS | INPUT | STATUS | OUTPUT | SETTINGS`: what the program is to do with words and an input, and
+//! A row is `PHRASE | WORDS | INPUT | STATUS | OUTPUT | SETTINGS`: what a call is to do with words and an input, and
 //! which status it is to answer and what to write. It is run for each number of a range `a..b` in its phrase, which
 //! stands for `%` in the row, and for each of a second range, which stands for `~`. A setting `keep=NAME` gives what was
 //! written a name, and `line=NAME` the bytes whose digits were written as a line; the words `bytes` write their input.
 
 use crate::bytes::{Named, number, of_digits, put_bytes, put_words};
-use crate::calls::{Ends, call, ends_of, make_room, number_of, setting};
-use crate::tables::tables_of;
+use crate::ends::{Ends, ends_of, make_room, number_of, setting};
 use crate::wanted::{is_told, is_written};
 use std::alloc::{AllocError, Global};
-use tink_io::TinkError;
-use tink_testutil::{Answer, answer_of};
+use tink_io::{Kind, TinkError};
 
 // The URL of the keys of streams in counter mode, as a keyset has it; `*` stands for it.
 const URL: &str =
     "747970652e676f6f676c65617069732e636f6d2f676f6f676c652e63727970746f2e74696e6b2e416573437472486d616353747265616d696e674b6579";
+
+/// Tables of rows, and the calls that they make.
+pub trait Calls {
+    /// The tables of that number, of a row a line. The line `ways:` before a table has the ways in which it is run:
+    /// settings that stand behind each row, with semicolons between the ways. Behind the last tables there are none.
+    fn tables(&self, number: usize) -> Option<&'static str>;
+
+    /// The status of a call by these words and settings, over these ends.
+    fn call(
+        &self,
+        alloc: Global,
+        words: &Vec<String>,
+        settings: &str,
+        ends: &mut Ends,
+    ) -> Result<u8, TinkError>;
+}
 
 // The part of a row of that number.
 fn part(row: &str, place: usize) -> &str {
@@ -44,11 +58,17 @@ fn ends_of_row(alloc: Global, kept: &[Named], row: &str) -> Result<Ends, TinkErr
 }
 
 // The status of the row's call.
-fn status_of(alloc: Global, kept: &[Named], row: &str, ends: &mut Ends) -> Result<u8, TinkError> {
+fn status_of<C: Calls>(
+    alloc: Global,
+    calls: &C,
+    kept: &[Named],
+    row: &str,
+    ends: &mut Ends,
+) -> Result<u8, TinkError> {
     let mut words = Vec::new(alloc);
     put_words(alloc, kept, part(row, 1), &mut words)?;
     make_room(alloc, ends, row)?;
-    call(alloc, &words, row, ends)
+    calls.call(alloc, &words, row, ends)
 }
 
 // Whether a status, and what was told and written, are what the row wants; what was written is kept.
@@ -67,21 +87,27 @@ fn is_wanted(
 }
 
 // Whether all is as the row wants.
-fn holds(alloc: Global, kept: &mut Vec<Named>, row: &str) -> Result<bool, TinkError> {
+fn holds<C: Calls>(
+    alloc: Global,
+    calls: &C,
+    kept: &mut Vec<Named>,
+    row: &str,
+) -> Result<bool, TinkError> {
     match ends_of_row(alloc, kept, row) {
-        Ok(mut ends) => holds_over(alloc, kept, row, &mut ends),
+        Ok(mut ends) => holds_over(alloc, calls, kept, row, &mut ends),
         Err(e) => Err(e),
     }
 }
 
 // The same over these ends.
-fn holds_over(
+fn holds_over<C: Calls>(
     alloc: Global,
+    calls: &C,
     kept: &mut Vec<Named>,
     row: &str,
     ends: &mut Ends,
 ) -> Result<bool, TinkError> {
-    let status = status_of(alloc, kept, row, ends)?;
+    let status = status_of(alloc, calls, kept, row, ends)?;
     is_wanted(alloc, kept, row, status, ends)
 }
 
@@ -149,16 +175,23 @@ fn put_row(
     put_filled(way, row, (first.as_str(), second.as_str()), text)
 }
 
-// Whether a row holds in a way, at two numbers.
-fn holds_at(
+// Whether a row holds in a way, at two numbers, or the kind of the refusal.
+fn holds_at<C: Calls>(
     alloc: Global,
+    calls: &C,
     kept: &mut Vec<Named>,
     (way, row): (&str, &str),
     numbers: (usize, usize),
-) -> Result<bool, TinkError> {
+) -> Result<bool, Kind> {
     let mut text = String::new(alloc);
-    put_row(alloc, way, row, numbers, &mut text)?;
-    holds(alloc, kept, text.as_str())
+    let held = match put_row(alloc, way, row, numbers, &mut text) {
+        Ok(()) => holds(alloc, calls, kept, text.as_str()),
+        Err(e) => Err(e.into()),
+    };
+    match held {
+        Ok(holds) => Ok(holds),
+        Err(e) => Err(e.kind),
+    }
 }
 
 /// A row that does not hold in a way at two numbers, and what it answers.
@@ -167,86 +200,83 @@ pub struct WrongRow {
     pub way: &'static str,
     pub row: &'static str,
     pub numbers: (usize, usize),
-    pub got: Answer,
+    pub got: Result<bool, Kind>,
 }
 
-// Tries a row in a way at each number of its ranges, up to where it fails.
-fn try_row(
+// What rows gave a name so far, and the first that does not hold.
+#[derive(Drop)]
+struct Tried {
+    kept: Vec<Named>,
+    wrong: Option<WrongRow>,
+}
+
+// Tries a row in a way at each number of its ranges, while none failed.
+fn try_row<C: Calls>(
     alloc: Global,
-    kept: &mut Vec<Named>,
+    calls: &C,
+    tried: &mut Tried,
     way: &'static str,
     row: &'static str,
-) -> Option<WrongRow> {
+) {
     let (from, to) = range(part(row, 0), 0);
     let (low, high) = range(part(row, 0), 1);
     for n in from..=to {
         for m in low..=high {
-            let got = answer_of(holds_at(alloc, kept, (way, row), (n, m)));
-            if got != Ok(true) {
-                let numbers = (n, m);
-                return Some(WrongRow {
-                    way,
-                    row,
-                    numbers,
-                    got,
-                });
+            if tried.wrong.is_none() {
+                let got = holds_at(alloc, calls, &mut tried.kept, (way, row), (n, m));
+                if got != Ok(true) {
+                    let numbers = (n, m);
+                    tried.wrong = Some(WrongRow {
+                        way,
+                        row,
+                        numbers,
+                        got,
+                    });
+                }
             }
         }
     }
-    None
 }
 
-fn try_rows(
+fn try_rows<C: Calls>(
     alloc: Global,
-    kept: &mut Vec<Named>,
+    calls: &C,
+    tried: &mut Tried,
     way: &'static str,
     rows: &'static str,
-) -> Option<WrongRow> {
+) {
     for row in rows.split('\n') {
         if !row.is_empty() {
-            let failed = try_row(alloc, kept, way, row);
-            if failed.is_some() {
-                return failed;
-            }
+            try_row(alloc, calls, tried, way, row);
         }
     }
-    None
 }
 
 // Tries a table in each of its ways, which stand in its first line.
-fn try_table(alloc: Global, kept: &mut Vec<Named>, table: &'static str) -> Option<WrongRow> {
+fn try_table<C: Calls>(alloc: Global, calls: &C, tried: &mut Tried, table: &'static str) {
     let (ways, rows) = table.split_once('\n').unwrap_or(("", ""));
     for way in ways.split(';') {
-        let failed = try_rows(alloc, kept, way, rows);
-        if failed.is_some() {
-            return failed;
-        }
+        try_rows(alloc, calls, tried, way, rows);
     }
-    None
 }
 
 // Tries tables, one after another.
-fn try_tables(alloc: Global, kept: &mut Vec<Named>, tables: &'static str) -> Option<WrongRow> {
+fn try_tables<C: Calls>(alloc: Global, calls: &C, tried: &mut Tried, tables: &'static str) {
     for table in tables.split("ways:") {
-        let failed = try_table(alloc, kept, table);
-        if failed.is_some() {
-            return failed;
-        }
+        try_table(alloc, calls, tried, table);
     }
-    None
 }
 
 /// The first row that does not hold.
-pub fn rows(alloc: Global) -> Option<WrongRow> {
-    let mut kept = Vec::new(alloc);
+pub fn rows<C: Calls>(alloc: Global, calls: &C) -> Option<WrongRow> {
+    let mut tried = Tried {
+        kept: Vec::new(alloc),
+        wrong: None,
+    };
     for number in 0..100usize {
-        let Some(tables) = tables_of(number) else {
-            return None;
-        };
-        let failed = try_tables(alloc, &mut kept, tables);
-        if failed.is_some() {
-            return failed;
+        if let Some(tables) = calls.tables(number) {
+            try_tables(alloc, calls, &mut tried, tables);
         }
     }
-    None
+    tried.wrong
 }
