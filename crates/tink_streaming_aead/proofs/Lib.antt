@@ -1,4 +1,3 @@
-pub mod KeyFacts
 pub mod StreamLaws
 pub mod DecryptSteps
 pub mod SealedFacts

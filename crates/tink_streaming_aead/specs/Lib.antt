@@ -1,6 +1,6 @@
-pub mod KeyTypes
-pub mod KeyTypeLaws
-pub mod Templates
+pub use Rattle.tink_stream_key_types.specs.KeyTypes
+pub use Rattle.tink_stream_key_types.specs.KeyTypeLaws
+pub use Rattle.tink_stream_key_types.specs.Templates
 pub mod DecryptReaders
 pub mod DecryptStages
 pub mod Wrapped

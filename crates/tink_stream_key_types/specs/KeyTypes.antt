@@ -12,8 +12,8 @@ use Rattle.wire_format.specs.Reading.{◌>>=◌}
 use Rattle.stream_model.specs.Key.{StreamKey}
 use Rattle.loading_model.specs.Building.{aes_ctr_hmac_url, aes_gcm_hkdf_url, gcm_streaming_key, hash_numbered, is_gcm_streaming, is_streaming, streaming_key}
 use Rattle.tink_key_types.specs.Templates.{template_of}
-use Rattle.tink_streaming_aead.specs.declared.aes_ctr_hmac_key_manager.CtrHmacSizes.{CtrHmacSizes}
-use Rattle.tink_streaming_aead.specs.declared.aes_gcm_hkdf_key_manager.GcmHkdfSizes.{GcmHkdfSizes}
+use Rattle.tink_stream_key_types.specs.declared.aes_ctr_hmac_key_manager.CtrHmacSizes.{CtrHmacSizes}
+use Rattle.tink_stream_key_types.specs.declared.aes_gcm_hkdf_key_manager.GcmHkdfSizes.{GcmHkdfSizes}
 
 -- ---- in counter mode with HMAC
 

@@ -8,11 +8,10 @@ ghost use Rattle.tink_primitives.specs.declared.primitive.Primitive.TheVariants 
 ghost use Rattle.tink_key_types.specs.Manager.{made_if};
 ghost use Rattle.tink_key_types.specs.ManagerLaws.{made_if_told};
 ghost use Rattle.tink_stream_keys.specs.declared.stream_kind.StreamKind.TheVariants as kinds;
-ghost use Rattle.tink_streaming_aead.specs.KeyTypes as keys;
-ghost use Rattle.tink_streaming_aead.specs.KeyTypeLaws.{made_or_invalid_told};
+ghost use Rattle.tink_stream_key_types.specs.KeyTypes as keys;
+ghost use Rattle.tink_stream_key_types.specs.KeyTypeLaws.{made_or_invalid_told};
 
 use crate::key_sizes::{are_key_sizes, hash_numbered, type_of};
-use crate::{StreamKind, StreamKinds};
 use hash_keys::Hash;
 use std::alloc::Global;
 use tink_io::{Draws, Kind, TinkError};
@@ -21,7 +20,7 @@ use tink_primitives::Primitive;
 use tink_proto_keys::{
     AesCtrHmacStreamingKey, AesCtrHmacStreamingKeyFormat, AesCtrHmacStreamingParams,
 };
-use tink_stream_keys::AesCtrHmac;
+use tink_stream_keys::{AesCtrHmac, StreamKind, StreamKinds};
 use tink_subtle::random::get_random_bytes;
 
 /// The version of keys of streams in counter mode with HMAC.

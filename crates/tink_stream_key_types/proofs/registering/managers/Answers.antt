@@ -1,6 +1,6 @@
 use Rattle.std.proofs.Common.{◌≡◌, ◌∷◌, List, [], sym, subst, rules}
 use Rattle.tink_registry.specs.Registering.{AreMade, IsMade}
-use Rattle.tink_streaming_aead.proofs.registering.managers.Goals as goal
+use Rattle.tink_stream_key_types.proofs.registering.managers.Goals as goal
 
 two_made : {M : Type 0} (from_a from_b : M → Type 0) (a b : M) (managers : List M) → from_a a → from_b b → managers ≡ a ∷ b ∷ []
     → AreMade (from_a ∷ from_b ∷ []) managers

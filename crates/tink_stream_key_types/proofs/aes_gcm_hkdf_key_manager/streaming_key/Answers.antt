@@ -1,8 +1,8 @@
 use Rattle.std.proofs.Common.{sym, ◌∙◌, ap, Some, None}
 use Rattle.loading_model.specs.Building.{gcm_hkdf_of}
-use Rattle.tink_streaming_aead.specs.KeyTypes.{gcm_hkdf_sized}
-use Rattle.tink_streaming_aead.proofs.KeyFacts.{answers_same, invalid, gcm_hkdf_of_other, gcm_hkdf_of_params}
-use Rattle.tink_streaming_aead.proofs.aes_gcm_hkdf_key_manager.streaming_key.Goals as goal
+use Rattle.tink_stream_key_types.specs.KeyTypes.{gcm_hkdf_sized}
+use Rattle.tink_stream_key_types.proofs.KeyFacts.{answers_same, invalid, gcm_hkdf_of_other, gcm_hkdf_of_params}
+use Rattle.tink_stream_key_types.proofs.aes_gcm_hkdf_key_manager.streaming_key.Goals as goal
 
 pub returns-then-key-ne-AES_GCM_HKDF_KEY_VERSION : goal.returns-then-key-ne-AES_GCM_HKDF_KEY_VERSION
 returns-then-key-ne-AES_GCM_HKDF_KEY_VERSION c = invalid c.new.result (gcm_hkdf_of c.args.key.now) c.new.ensures (gcm_hkdf_of_other c.args.key.now c.if-key-ne-AES_GCM_HKDF_KEY_VERSION.true)

@@ -1,7 +1,7 @@
 -- The registered templates of keys of streams under their names.
 use Rattle.std.specs.Prelude.{ℕ, List, [], ◌∷◌, codes}
 use Rattle.tink_proto.specs.declared.messages.keys.KeyTemplate.{KeyTemplate}
-use Rattle.tink_streaming_aead.specs.KeyTypes.{ctr_hmac_template, gcm_hkdf_template}
+use Rattle.tink_stream_key_types.specs.KeyTypes.{ctr_hmac_template, gcm_hkdf_template}
 
 abbrev pub streaming_templates : List (List ℕ × KeyTemplate)
 streaming_templates =

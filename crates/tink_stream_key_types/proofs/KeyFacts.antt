@@ -19,9 +19,9 @@ use Rattle.wire_format.specs.Reading.{◌>>=◌}
 use Rattle.stream_model.specs.Key.{StreamKey}
 use Rattle.loading_model.specs.Building.{are_key_sizes, gcm_hkdf_of, hash_numbered, is_gcm_streaming, is_streaming, streaming_of}
 use Rattle.tink_stream_keys.specs.StreamingKeys.{ctr_hmac_key, gcm_hkdf_key, is_key_size, with_main}
-use Rattle.tink_streaming_aead.specs.declared.aes_ctr_hmac_key_manager.CtrHmacSizes.{CtrHmacSizes}
-use Rattle.tink_streaming_aead.specs.declared.aes_gcm_hkdf_key_manager.GcmHkdfSizes.{GcmHkdfSizes}
-use Rattle.tink_streaming_aead.specs.KeyTypes.{ctr_hmac_named, ctr_hmac_sized, gcm_hkdf_named, gcm_hkdf_sized}
+use Rattle.tink_stream_key_types.specs.declared.aes_ctr_hmac_key_manager.CtrHmacSizes.{CtrHmacSizes}
+use Rattle.tink_stream_key_types.specs.declared.aes_gcm_hkdf_key_manager.GcmHkdfSizes.{GcmHkdfSizes}
+use Rattle.tink_stream_key_types.specs.KeyTypes.{ctr_hmac_named, ctr_hmac_sized, gcm_hkdf_named, gcm_hkdf_sized}
 
 -- a number that no hash type has
 pub unnumbered : (n : ℤ) → ((e : HashType) → hash_number e ≡ n → ⊥) → hash_numbered n ≡ None

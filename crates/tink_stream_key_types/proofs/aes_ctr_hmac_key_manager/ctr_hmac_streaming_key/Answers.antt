@@ -1,8 +1,8 @@
 use Rattle.std.proofs.Common.{sym, ◌∙◌, ap, Some, None}
 use Rattle.loading_model.specs.Building.{streaming_of}
-use Rattle.tink_streaming_aead.specs.KeyTypes.{ctr_hmac_sized}
-use Rattle.tink_streaming_aead.proofs.KeyFacts.{answers_same, invalid, ctr_hmac_of_other, ctr_hmac_of_params}
-use Rattle.tink_streaming_aead.proofs.aes_ctr_hmac_key_manager.ctr_hmac_streaming_key.Goals as goal
+use Rattle.tink_stream_key_types.specs.KeyTypes.{ctr_hmac_sized}
+use Rattle.tink_stream_key_types.proofs.KeyFacts.{answers_same, invalid, ctr_hmac_of_other, ctr_hmac_of_params}
+use Rattle.tink_stream_key_types.proofs.aes_ctr_hmac_key_manager.ctr_hmac_streaming_key.Goals as goal
 
 pub returns-then-key-ne-AES_CTR_HMAC_KEY_VERSION : goal.returns-then-key-ne-AES_CTR_HMAC_KEY_VERSION
 returns-then-key-ne-AES_CTR_HMAC_KEY_VERSION c = invalid c.new.result (streaming_of c.args.key.now) c.new.ensures (ctr_hmac_of_other c.args.key.now c.if-key-ne-AES_CTR_HMAC_KEY_VERSION.true)

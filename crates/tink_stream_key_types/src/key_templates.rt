@@ -2,7 +2,7 @@
 
 ghost use Rattle.std.specs.Prelude.{Ok};
 ghost use Rattle.tink_io.specs.Told.{Answers};
-ghost use Rattle.tink_streaming_aead.specs.KeyTypes.{ctr_hmac_template, gcm_hkdf_template};
+ghost use Rattle.tink_stream_key_types.specs.KeyTypes.{ctr_hmac_template, gcm_hkdf_template};
 
 use crate::{
     AES_CTR_HMAC_KEY_VERSION, AES_CTR_HMAC_TYPE_URL, AES_GCM_HKDF_KEY_VERSION,
@@ -18,9 +18,9 @@ use tink_proto_keys::{
 };
 
 // The bytes of a segment.
-const SEGMENT_4KB: u32 = 4096;
+pub const SEGMENT_4KB: u32 = 4096;
 
-const SEGMENT_1MB: u32 = 1_048_576;
+pub const SEGMENT_1MB: u32 = 1_048_576;
 
 /// AES in counter mode and HMAC-SHA256 with tags of 32 bytes, in segments of 4,096 bytes. Keys have
 /// 16 bytes, from which HKDF derives AES keys of 16 by SHA-256.
@@ -118,7 +118,8 @@ pub fn aes256_gcm_hkdf_1mb_key_template(alloc: Global) -> Result<KeyTemplate, Ti
     gcm_hkdf_key_template(alloc, 32, SEGMENT_1MB)
 }
 
-fn ctr_hmac_key_template(
+// In counter mode with HMAC.
+pub fn ctr_hmac_key_template(
     alloc: Global,
     key_size: u32,
     segment: u32,
@@ -141,7 +142,8 @@ fn ctr_hmac_key_template(
     new_template(alloc, AES_CTR_HMAC_TYPE_URL, &format, OutputPrefixType::Raw)
 }
 
-fn gcm_hkdf_key_template(
+// By AES-GCM.
+pub fn gcm_hkdf_key_template(
     alloc: Global,
     key_size: u32,
     segment: u32,

@@ -1,17 +1,15 @@
 //! The managers and templates of keys of streams, registered.
 
-ghost use Rattle.std.specs.Prelude.{◌≡◌, ◌∷◌, [], IfErr, IfOk, OnOk};
+ghost use Rattle.std.specs.Prelude.{◌≡◌, ◌∷◌, ◌++◌, [], IfErr, IfOk, OnOk};
 ghost use Rattle.tink_io.specs.declared.error.Kind.TheVariants.{OutOfMemory};
 ghost use Rattle.tink_registry.specs.Registering.{AreMade, IsMade, Registers};
-ghost use Rattle.tink_streaming_aead.specs.Templates.{streaming_templates};
+ghost use Rattle.tink_stream_key_types.specs.KeyTypes.{ctr_hmac_template, gcm_hkdf_template};
+ghost use Rattle.tink_stream_key_types.specs.Templates.{streaming_templates};
 
-use crate::{
-    AesCtrHmacKeyManager, AesGcmHkdfKeyManager, aes128_ctr_hmac_sha256_segment_1mb_key_template,
-    aes128_ctr_hmac_sha256_segment_4kb_key_template, aes128_gcm_hkdf_1mb_key_template,
-    aes128_gcm_hkdf_4kb_key_template, aes256_ctr_hmac_sha256_segment_1mb_key_template,
-    aes256_ctr_hmac_sha256_segment_4kb_key_template, aes256_gcm_hkdf_1mb_key_template,
-    aes256_gcm_hkdf_4kb_key_template,
+use crate::key_templates::{
+    SEGMENT_1MB, SEGMENT_4KB, ctr_hmac_key_template, gcm_hkdf_key_template,
 };
+use crate::{AesCtrHmacKeyManager, AesGcmHkdfKeyManager};
 use std::alloc::Global;
 use tink_io::TinkError;
 use tink_key_types::add_template;
@@ -67,21 +65,45 @@ fn add_templates(alloc: Global, named: &mut Vec<(Text, KeyTemplate)>) -> Result<
     ensures value { OnOk result (named.new.items ≡ streaming_templates) }
     ensures cause { IfErr result (λ e. e.kind ≡ OutOfMemory) }
 {
-    let template = aes128_ctr_hmac_sha256_segment_4kb_key_template(alloc)?;
-    add_template(alloc, named, "AES128_CTR_HMAC_SHA256_4KB", template)?;
-    let template = aes128_ctr_hmac_sha256_segment_1mb_key_template(alloc)?;
-    add_template(alloc, named, "AES128_CTR_HMAC_SHA256_1MB", template)?;
-    let template = aes256_ctr_hmac_sha256_segment_4kb_key_template(alloc)?;
-    add_template(alloc, named, "AES256_CTR_HMAC_SHA256_4KB", template)?;
-    let template = aes256_ctr_hmac_sha256_segment_1mb_key_template(alloc)?;
-    add_template(alloc, named, "AES256_CTR_HMAC_SHA256_1MB", template)?;
-    let template = aes128_gcm_hkdf_4kb_key_template(alloc)?;
-    add_template(alloc, named, "AES128_GCM_HKDF_4KB", template)?;
-    let template = aes128_gcm_hkdf_1mb_key_template(alloc)?;
-    add_template(alloc, named, "AES128_GCM_HKDF_1MB", template)?;
-    let template = aes256_gcm_hkdf_4kb_key_template(alloc)?;
-    add_template(alloc, named, "AES256_GCM_HKDF_4KB", template)?;
-    let template = aes256_gcm_hkdf_1mb_key_template(alloc)?;
-    add_template(alloc, named, "AES256_GCM_HKDF_1MB", template)?;
+    add_ctr_hmac(alloc, named, "AES128_CTR_HMAC_SHA256_4KB", 16, SEGMENT_4KB)?;
+    add_ctr_hmac(alloc, named, "AES128_CTR_HMAC_SHA256_1MB", 16, SEGMENT_1MB)?;
+    add_ctr_hmac(alloc, named, "AES256_CTR_HMAC_SHA256_4KB", 32, SEGMENT_4KB)?;
+    add_ctr_hmac(alloc, named, "AES256_CTR_HMAC_SHA256_1MB", 32, SEGMENT_1MB)?;
+    add_gcm_hkdf(alloc, named, "AES128_GCM_HKDF_4KB", 16, SEGMENT_4KB)?;
+    add_gcm_hkdf(alloc, named, "AES128_GCM_HKDF_1MB", 16, SEGMENT_1MB)?;
+    add_gcm_hkdf(alloc, named, "AES256_GCM_HKDF_4KB", 32, SEGMENT_4KB)?;
+    add_gcm_hkdf(alloc, named, "AES256_GCM_HKDF_1MB", 32, SEGMENT_1MB)?;
+    Ok(())
+}
+
+// Adds a template in counter mode with HMAC.
+fn add_ctr_hmac(
+    alloc: Global,
+    named: &mut Vec<(Text, KeyTemplate)>,
+    name: &str,
+    key_size: u32,
+    segment: u32,
+) -> Result<(), TinkError>
+    ensures value { OnOk result (named.new.items ≡ named.old.items ++ (name.now, ctr_hmac_template key_size segment) ∷ []) }
+    ensures cause { IfErr result (λ e. e.kind ≡ OutOfMemory) }
+{
+    let template = ctr_hmac_key_template(alloc, key_size, segment)?;
+    add_template(alloc, named, name, template)?;
+    Ok(())
+}
+
+// Adds a template by AES-GCM.
+fn add_gcm_hkdf(
+    alloc: Global,
+    named: &mut Vec<(Text, KeyTemplate)>,
+    name: &str,
+    key_size: u32,
+    segment: u32,
+) -> Result<(), TinkError>
+    ensures value { OnOk result (named.new.items ≡ named.old.items ++ (name.now, gcm_hkdf_template key_size segment) ∷ []) }
+    ensures cause { IfErr result (λ e. e.kind ≡ OutOfMemory) }
+{
+    let template = gcm_hkdf_key_template(alloc, key_size, segment)?;
+    add_template(alloc, named, name, template)?;
     Ok(())
 }

@@ -1,0 +1,3 @@
+pub mod KeyTypes
+pub mod KeyTypeLaws
+pub mod Templates
