@@ -1,6 +1,3 @@
-pub mod AddingFacts
-pub mod GivenData
-pub mod Masters
 pub mod ReadBack
 pub mod ThroughFacts
 pub mod ValidFacts
@@ -8,4 +5,3 @@ pub mod TypedSets
 pub mod TypingFacts
 pub mod KeyEntries
 pub mod LastingFacts
-pub mod TestFacts

@@ -2,27 +2,14 @@
 use Rattle.std.specs.Prelude.{◌≡◌, ℕ, List, Some, Result, Ok, Err}
 use Rattle.wire_format.specs.Message.{decoded, encoded}
 use Rattle.tink_io.specs.declared.error.Kind.{Kind}
-use Rattle.tink_io.specs.declared.error.Kind.TheVariants.{BadKeyset, MasterFailed, OutOfMemory}
+use Rattle.tink_io.specs.declared.error.Kind.TheVariants.{BadKeyset}
 use Rattle.tink_io.specs.Told.{made_of, or_refused}
 use Rattle.tink_proto.specs.Messages.{keyset}
 use Rattle.tink_proto.specs.declared.messages.infos.EncryptedKeyset.{EncryptedKeyset}
 use Rattle.tink_proto.specs.declared.messages.keys.Keyset.{Keyset}
 use Rattle.keyset_model.specs.Secrets.{keyset_info}
 use Rattle.tink_keysets.specs.Handles.{handle_of}
-
--- what a master answers: each kind that it refuses by is `MasterFailed`
-abbrev pub by_master : {T : Type 0} → Result T Kind → Result T Kind
-by_master (Ok v) = Ok v
-by_master (Err kind) = Err MasterFailed
-
--- the same of a call that draws
-abbrev pub drawn_by_master : {T : Type 0} → Result T Kind × List ℕ → Result T Kind × List ℕ
-drawn_by_master made = (by_master made.0, made.1)
-
--- how a call is refused of which a master's is a part: `OutOfMemory` stays
-abbrev pub master_kind : Kind → Kind
-master_kind OutOfMemory = OutOfMemory
-master_kind kind = MasterFailed
+pub use Rattle.tink_keyset_parts.specs.Masters.{by_master, drawn_by_master, master_kind}
 
 -- what is made of a value, or its refusal
 abbrev pub chained : {S T : Type 0} → (S → Result T Kind) → Result S Kind → Result T Kind

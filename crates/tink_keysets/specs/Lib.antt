@@ -1,11 +1,11 @@
 pub mod Built
 pub mod Encrypted
-pub mod Ends
 pub mod Handles
 pub mod Managed
 pub mod Through
 pub mod Told
 pub mod Valid
 pub use Rattle.tink_asking.specs.Accepting
+pub use Rattle.tink_keyset_parts.specs.Ends
 pub mod Decrypting
 pub mod Typing

@@ -5,12 +5,13 @@ ghost use Rattle.wire_format.specs.Message.{encoded};
 ghost use Rattle.tink_io.specs.Told.{Answers, Replies};
 ghost use Rattle.tink_io.specs.declared.error.Kind.TheVariants.{OutOfMemory};
 ghost use Rattle.tink_proto.specs.Messages.{keyset};
-ghost use Rattle.tink_keysets.specs.Encrypted.{by_master, decrypted, drawn_by_master, encrypted, handle_of_bytes, master_kind};
+ghost use Rattle.tink_keysets.specs.Encrypted.{decrypted, encrypted, handle_of_bytes};
 ghost use Rattle.tink_keysets.specs.Through.{GivesBy, LeavesDraws, MakesAndWrites};
 
 use crate::keyset::{Handle, Reader, Writer, insecure};
 use std::alloc::Global;
 use tink_io::{Draws, Kind, TinkError};
+use tink_keyset_parts::{decrypted_bytes, encrypted_bytes};
 use tink_primitives::Aead;
 use tink_proto::{Bytes, EncryptedKeyset, Message};
 
@@ -110,48 +111,6 @@ impl Handle {
             Ok(encrypted) => writer.write_encrypted(alloc, &encrypted),
             Err(e) => Err(e),
         }
-    }
-}
-
-// `OutOfMemory` stays, and each other refusal of a master is `MasterFailed`.
-fn refused_by_master(e: TinkError) -> TinkError
-    ensures { result.kind ≡ master_kind e.kind }
-{
-    match e.kind {
-        Kind::OutOfMemory => e,
-        _ => TinkError::new(Kind::MasterFailed),
-    }
-}
-
-// What a master decrypts.
-fn decrypted_bytes<A: Aead>(
-    alloc: Global,
-    ciphertext: &[u8],
-    master: &A,
-    associated_data: &[u8],
-) -> Result<Bytes, TinkError>
-    ensures { Answers result (by_master (A.decrypts master.now ciphertext.now associated_data.now)) }
-{
-    match master.decrypt(alloc, ciphertext, associated_data) {
-        Ok(bytes) => Ok(bytes),
-        Err(e) => Err(refused_by_master(e)),
-    }
-}
-
-// What a master encrypts.
-fn encrypted_bytes<A: Aead>(
-    alloc: Global,
-    bytes: &[u8],
-    master: &A,
-    associated_data: &[u8],
-    draws: &mut Draws,
-) -> Result<Bytes, TinkError>
-    ensures { Replies result (drawn_by_master (A.encrypts master.now bytes.now associated_data.now draws.old))
-        draws.old draws.new }
-{
-    match master.encrypt(alloc, bytes, associated_data, draws) {
-        Ok(ciphertext) => Ok(ciphertext),
-        Err(e) => Err(refused_by_master(e)),
     }
 }
 

@@ -1,6 +1,6 @@
 //! A keyset whose keys are out of sight.
 
-ghost use Rattle.std.specs.Prelude.{◌≡◌, IfOk, IfErr, map, true, None, option_copied};
+ghost use Rattle.std.specs.Prelude.{◌≡◌, IfOk, IfErr, true, None, option_copied};
 ghost use Rattle.tink_io.specs.declared.error.Kind.TheVariants.{HasSecrets, InvalidKeyset, OutOfMemory};
 ghost use Rattle.tink_io.specs.Told.{Answers, Replies, Tells};
 ghost use Rattle.tink_sets.specs.Entries.{entry_of};
@@ -12,15 +12,13 @@ ghost use Rattle.tink_keysets.specs.Managed.{added_by, no_keys, public_data, pub
 ghost use Rattle.tink_keysets.specs.Handles.{handle_of, handle_without_secrets};
 
 use crate::keyset::Manager;
-use crate::keyset::validation::{are_held, have_secrets, is_validated};
-use std::alloc::{AllocError, Global};
+use std::alloc::Global;
 use std::fmt;
 use std::marker::Model;
 use tink_building::{build_set, public_keys};
 use tink_io::{Draws, Kind, TinkError};
-use tink_proto::{
-    Key, KeyInfo, KeyStatusType, KeyTemplate, Keyset, KeysetInfo, OutputPrefixType, Repeated, Text,
-};
+use tink_keyset_parts::{Shown, are_held, have_secrets, is_validated, keyset_info};
+use tink_proto::{Key, KeyTemplate, Keyset, KeysetInfo};
 use tink_registry::{KeyManager, Registry};
 use tink_sets::PrimitiveSet;
 
@@ -152,11 +150,7 @@ impl Handle {
         ensures info { IfOk result (λ i. i ≡ secrets.keyset_info self.now) }
         ensures err { IfErr result (λ e. e ≡ record { kind = OutOfMemory }) }
     {
-        let key_info = key_infos(alloc, self.ks.key.as_slice())?;
-        Ok(KeysetInfo {
-            primary_key_id: self.ks.primary_key_id,
-            key_info,
-        })
+        keyset_info(alloc, &self.ks)
     }
 
     pub(crate) fn from_keyset(ks: Keyset) -> Result<Handle, TinkError>
@@ -204,95 +198,9 @@ fn no_manager<'a, M>(_registry: &'a Registry<M>) -> Option<&'a M>
     None
 }
 
-fn key_infos(alloc: Global, keys: &[Key]) -> Result<Repeated<KeyInfo>, AllocError>
-    ensures { IfOk result (λ is. is ≡ map secrets.key_info keys.now) }
-{
-    let mut infos = Repeated::new(alloc);
-    for key in keys {
-        let info = key_info(alloc, key)?;
-        infos.push(info)?;
-    }
-    Ok(infos)
-}
-
-fn key_info(alloc: Global, key: &Key) -> Result<KeyInfo, AllocError>
-    ensures { IfOk result (λ i. i ≡ secrets.key_info key.now) }
-{
-    let type_url = match &key.key_data {
-        Some(data) => data.type_url.try_clone(alloc)?,
-        None => Text::new(alloc),
-    };
-    Ok(KeyInfo {
-        type_url,
-        status: key.status,
-        key_id: key.key_id,
-        output_prefix_type: key.output_prefix_type,
-    })
-}
-
 /// What `keyset_info` tells, and so no key material.
 impl fmt::Debug for Handle {
     fn fmt<W: fmt::Write>(&self, f: &mut fmt::Formatter<W>) -> fmt::Result {
-        let primary = self.ks.primary_key_id;
-        let keys = Keys(self.keys());
-        write!(
-            f,
-            "KeysetInfo {{ primary_key_id: {primary}, key_info: [{keys}] }}"
-        )
-    }
-}
-
-// Keys, which print what may be shown of them.
-#[derive(Drop)]
-struct Keys<'a>(&'a [Key]);
-
-impl fmt::Display for Keys<'_> {
-    fn fmt<W: fmt::Write>(&self, f: &mut fmt::Formatter<W>) -> fmt::Result {
-        let mut between = "";
-        for key in self.0 {
-            write_key(f, between, key)?;
-            between = ", ";
-        }
-        Ok(())
-    }
-}
-
-fn write_key<W: fmt::Write>(f: &mut fmt::Formatter<W>, before: &str, key: &Key) -> fmt::Result {
-    let type_url = match &key.key_data {
-        Some(data) => data.type_url.as_str(),
-        None => "",
-    };
-    let status = Status(key.status);
-    let key_id = key.key_id;
-    let prefix = PrefixType(key.output_prefix_type);
-    write!(
-        f,
-        "{before}KeyInfo {{ type_url: {type_url:?}, status: {status}, key_id: {key_id}, output_prefix_type: {prefix} }}"
-    )
-}
-
-// The number of a status, which prints its name where it has one.
-#[derive(Drop)]
-struct Status(i32);
-
-impl fmt::Display for Status {
-    fn fmt<W: fmt::Write>(&self, f: &mut fmt::Formatter<W>) -> fmt::Result {
-        match KeyStatusType::try_from(self.0) {
-            Ok(status) => fmt::Debug::fmt(&status, f),
-            Err(_) => fmt::Display::fmt(&self.0, f),
-        }
-    }
-}
-
-// The number of a prefix type, in the same way.
-#[derive(Drop)]
-struct PrefixType(i32);
-
-impl fmt::Display for PrefixType {
-    fn fmt<W: fmt::Write>(&self, f: &mut fmt::Formatter<W>) -> fmt::Result {
-        match OutputPrefixType::try_from(self.0) {
-            Ok(prefix) => fmt::Debug::fmt(&prefix, f),
-            Err(_) => fmt::Display::fmt(&self.0, f),
-        }
+        fmt::Display::fmt(&Shown(&self.ks), f)
     }
 }

@@ -9,14 +9,13 @@ ghost use Rattle.tink_keysets.specs.Managed.{added_by};
 ghost use Rattle.tink_keysets.specs.Told.{Edits};
 
 use crate::keyset::Handle;
-use crate::keyset::adding::{new_data, put_new};
-use crate::keyset::copies::copy_all;
 use keyset_model::places::{
     is_known_status, is_live, place_of, put_destroyed, put_status, take_out,
 };
 use std::alloc::Global;
 use std::marker::Model;
 use tink_io::{Draws, Kind, TinkError};
+use tink_keyset_parts::{copy_all, new_data, put_new};
 use tink_primitives::KeyId;
 use tink_proto::{Key, KeyStatusType, KeyTemplate, Keyset, Repeated};
 use tink_registry::{KeyManager, Registry};

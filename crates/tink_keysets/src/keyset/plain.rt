@@ -4,10 +4,10 @@ ghost use Rattle.std.specs.Prelude.{◌≤◌};
 ghost use Rattle.tink_keysets.specs.Handles.{handle_without_secrets, without_secrets};
 ghost use Rattle.tink_keysets.specs.Through.{GivesBy, MakesAndWrites};
 
-use crate::keyset::validation::have_secrets;
 use crate::keyset::{Handle, Reader, Writer};
 use std::alloc::Global;
 use tink_io::{Kind, TinkError};
+use tink_keyset_parts::have_secrets;
 
 impl Handle {
     /// A handle of the keyset that is read, which must be without secrets.

@@ -1,0 +1,4 @@
+pub mod AddingFacts
+pub mod GivenData
+pub mod TestFacts
+pub mod MasterFacts
