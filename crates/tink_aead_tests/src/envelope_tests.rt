@@ -71,12 +71,7 @@ enum Asked {
     Changes,
 }
 
-fn seals<A: Aead, M: KeyManager>(
-    alloc: Global,
-    envelope: &KmsEnvelopeAead<'_, A, M>,
-    n: usize,
-    left: usize,
-) -> Result<bool, TinkError> {
+fn seals<E: Aead>(alloc: Global, envelope: &E, n: usize, left: usize) -> Result<bool, TinkError> {
     let mut draws = draws_of(alloc, &DRAWS[..n.min(60)])?;
     let sealed = envelope.encrypt(alloc, b"abc", b"some data", &mut draws);
     if draws.left() == left {
@@ -86,10 +81,7 @@ fn seals<A: Aead, M: KeyManager>(
     }
 }
 
-fn copy_opens<A: Aead + CloneIn, M: KeyManager>(
-    alloc: Global,
-    envelope: &KmsEnvelopeAead<'_, A, M>,
-) -> Result<bool, TinkError> {
+fn copy_opens<E: Aead + CloneIn>(alloc: Global, envelope: &E) -> Result<bool, TinkError> {
     match envelope.try_clone(alloc) {
         Ok(copy) => gives(copy.decrypt(alloc, SEALED, b"some data"), b"abc"),
         Err(e) => Err(e),
@@ -97,11 +89,7 @@ fn copy_opens<A: Aead + CloneIn, M: KeyManager>(
 }
 
 // Whether those bytes are refused with a bit changed at a place, and at each.
-fn refuses_change<A: Aead, M: KeyManager>(
-    alloc: Global,
-    envelope: &KmsEnvelopeAead<'_, A, M>,
-    i: usize,
-) -> Result<bool, TinkError> {
+fn refuses_change<E: Aead>(alloc: Global, envelope: &E, i: usize) -> Result<bool, TinkError> {
     let mut changed = SEALED.to_vec(alloc)?;
     if let Some(byte) = changed.get_mut(i) {
         *byte ^= 128;
@@ -110,10 +98,7 @@ fn refuses_change<A: Aead, M: KeyManager>(
     Ok(refused == Some(Kind::DecryptFailed))
 }
 
-fn refuses_changes<A: Aead, M: KeyManager>(
-    alloc: Global,
-    envelope: &KmsEnvelopeAead<'_, A, M>,
-) -> Result<bool, TinkError> {
+fn refuses_changes<E: Aead>(alloc: Global, envelope: &E) -> Result<bool, TinkError> {
     for i in 0..SEALED.len() {
         if !refuses_change(alloc, envelope, i)? {
             return Ok(false);
