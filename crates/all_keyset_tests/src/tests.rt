@@ -9,8 +9,13 @@ fn hold(rt: &impl Abort, told: Told) {
 }
 
 #[test]
-fn registries_and_sets(rt: HostRuntime) {
+fn registries(rt: HostRuntime) {
     hold(&rt, tink_registry_tests::rows(rt.alloc()));
+}
+
+#[test]
+fn sets(rt: HostRuntime) {
+    hold(&rt, tink_sets_tests::rows(rt.alloc()));
 }
 
 #[test]

@@ -14,12 +14,8 @@ const PLAIN: [[u8; 5]; 10] = [[1, 2, 3, 4, 255]; 10];
 
 const SHIFTED: [[u8; 5]; 10] = [[251, 252, 253, 254, 249]; 10];
 
-/// The first n of these blocks, n being at most 10, and behind them the others.
-pub fn with_front<const B: usize>(
-    front: &[[u8; B]; 10],
-    n: usize,
-    behind: &[[u8; B]; 10],
-) -> [[u8; B]; 10] {
+// the first n of these blocks, n being at most 10, and behind them the others
+fn with_front(front: &[[u8; 5]; 10], n: usize, behind: &[[u8; 5]; 10]) -> [[u8; 5]; 10] {
     let n = n.min(10);
     let mut blocks = *behind;
     blocks[..n].copy_from_slice(&front[..n]);

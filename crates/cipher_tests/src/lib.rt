@@ -1,4 +1,4 @@
-//! Tests of `cipher` and `cipher_modes`.
+//! Tests of `cipher`.
 #![tactic(auto)]
 
 #[cfg(test)]
@@ -6,13 +6,7 @@ mod blocks;
 #[cfg(test)]
 mod buffers;
 #[cfg(test)]
-mod chained;
-#[cfg(test)]
 mod expected;
-#[cfg(test)]
-mod messages;
-#[cfg(test)]
-mod modes;
 #[cfg(test)]
 mod rows;
 #[cfg(test)]

@@ -3,7 +3,7 @@
 use crate::expected::{Holds, walk};
 use crate::shifted::Shift;
 use crate::tweaks::zero_tweak;
-use crate::{blocks, buffers, messages, modes, tweaks};
+use crate::{blocks, buffers, tweaks};
 use cipher::{InvalidLength, KeyInit};
 use std::alloc::{AllocError, Global};
 
@@ -13,10 +13,6 @@ pub enum Asked {
     Block(blocks::Asked),
     /// Of buffers.
     Buffer(buffers::Asked),
-    /// Of paddings and messages.
-    Message(messages::Asked),
-    /// Of calls of modes.
-    Mode(modes::Asked),
     /// Of tweaks.
     Tweak(tweaks::Asked),
     /// How a cipher, the error of its key and a cipher without a tweak are shown.
@@ -42,8 +38,6 @@ impl Holds for Row {
         match &self.1 {
             Asked::Block(asked) => Ok(blocks::holds(asked)),
             Asked::Buffer(asked) => Ok(buffers::holds(*asked)),
-            Asked::Message(asked) => Ok(messages::holds(alloc, asked)),
-            Asked::Mode(asked) => Ok(modes::holds(asked)),
             Asked::Tweak(asked) => Ok(tweaks::holds(asked)),
             Asked::Texts => texts_are_told(alloc),
         }
@@ -54,13 +48,6 @@ const TEXTS: &[Row] = &[Row("texts", Asked::Texts)];
 
 #[test]
 fn all_rows_hold(rt: HostRuntime) {
-    let tables = &[
-        blocks::ROWS,
-        buffers::ROWS,
-        messages::ROWS,
-        modes::ROWS,
-        tweaks::ROWS,
-        TEXTS,
-    ];
+    let tables = &[blocks::ROWS, buffers::ROWS, tweaks::ROWS, TEXTS];
     walk(&rt, rt.alloc(), tables);
 }

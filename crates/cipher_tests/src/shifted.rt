@@ -13,7 +13,7 @@ use std::fmt;
 /// Adds the key to each byte of a block of five, three blocks at a time.
 #[derive(Drop)]
 pub struct Shift {
-    pub(crate) key: u8,
+    key: u8,
     back: u8,
 }
 
@@ -116,8 +116,8 @@ fn add_key(output: &mut [u8; 5], input: &[[u8; 5]], key: u8)
     add_to_each(output, key);
 }
 
-/// Adds a number to each byte.
-pub fn add_to_each(output: &mut [u8], key: u8)
+// adds a number to each byte
+fn add_to_each(output: &mut [u8], key: u8)
     ensures { output.new ≡ map (λ x. (x + key) % 256) output.old }
 {
     for i in 0..output.len() {

@@ -1,10 +1,9 @@
-//! Tests of primitives, of the registry and of sets.
+//! Tests of primitives and of the registry.
 #![tactic(auto)]
 
 mod plain;
 mod primitive_tests;
 mod registry_tests;
-mod set_tests;
 mod stream_tests;
 
 use std::alloc::Global;
@@ -15,7 +14,6 @@ pub fn rows(alloc: Global) -> Told {
     let mut told = Told::new();
     primitive_tests::rows(alloc, &mut told);
     registry_tests::rows(alloc, &mut told);
-    set_tests::rows(alloc, &mut told);
     stream_tests::rows(alloc, &mut told);
     told
 }

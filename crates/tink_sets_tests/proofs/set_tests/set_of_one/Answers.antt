@@ -2,8 +2,8 @@ use Rattle.std.proofs.Common.{[], ◌∷◌}
 use Rattle.std.proofs.lemmas.Result.{on_ok_weaker}
 use Rattle.tink_sets.specs.Groups.{AreGroupsOf}
 use Rattle.tink_sets.specs.Entries.{entry_of, prefix_of}
-use Rattle.tink_registry_tests.proofs.KeptFacts.{kept_is}
-use Rattle.tink_registry_tests.proofs.set_tests.set_of_one.Goals as goal
+use Rattle.tink_sets_tests.proofs.KeptFacts.{kept_is}
+use Rattle.tink_sets_tests.proofs.set_tests.set_of_one.Goals as goal
 
 pub returns : goal.returns
 returns g c =

@@ -7,7 +7,6 @@ ghost use Rattle.std.specs.Prelude.{◌≡◌, ◌+◌, ◌%◌, ℕ, List, map,
 ghost use Rattle.standards.specs.Lists.{xor_bytes};
 ghost use Rattle.cipher_modes.specs.Steps.{run_of};
 
-use crate::shifted::{Shift, add_to_each};
 use cipher::{InOut, InnerIvInit, IvState, KeyIvInit, SetIvState};
 use cipher_modes::{
     BlockModeDecBackend, BlockModeDecClosure, BlockModeDecrypt, BlockModeEncBackend,
@@ -89,6 +88,15 @@ impl BlockModeDecrypt<4> for Chained {
         ∙ (length-map x (λ b. (b + s.key) % 256) ∙ e) };
 }
 
+// adds a number to each byte
+fn add_to_each(output: &mut [u8], key: u8)
+    ensures { output.new ≡ map (λ x. (x + key) % 256) output.old }
+{
+    for i in 0..output.len() {
+        output[i] = output[i].wrapping_add(key);
+    }
+}
+
 fn xor_array(output: &mut [u8; 4], iv: &[u8; 4])
     ensures { output.new ≡ xor_bytes output.old iv.now }
 {
@@ -111,10 +119,16 @@ impl KeyIvInit<1, 4> for Chained {
     ghost iv_size = { (lit≤ tt, lit< tt) };
 }
 
-impl InnerIvInit<Shift, 4> for Chained {
+/// A cipher that the mode is made over: it adds the key.
+#[derive(Drop)]
+pub struct Adding {
+    pub(crate) key: u8,
+}
+
+impl InnerIvInit<Adding, 4> for Chained {
     ghost with_iv = { λ cipher iv. record { key = cipher.key; iv = iv } };
 
-    fn inner_iv_init(inner: Shift, iv: &[u8; 4]) -> Chained {
+    fn inner_iv_init(inner: Adding, iv: &[u8; 4]) -> Chained {
         Chained {
             key: inner.key,
             iv: *iv,

@@ -3,14 +3,10 @@
 ghost use Rattle.std.specs.Prelude.{◌≡◌, ℕ, List};
 ghost use Rattle.cipher_modes.specs.Steps.{run_of, state_after};
 
-use crate::blocks::with_front;
-use crate::chained::{Chained, decrypter, encrypter};
+use crate::chained::{Adding, Chained, decrypter, encrypter};
 use crate::rows;
 use crate::rows::Row;
-use crate::shifted::Shift;
-use cipher::{
-    InOut, InOutBuf, InnerIvInit, InvalidLength, IvState, KeyInit, NotEqualError, SetIvState,
-};
+use cipher::{InOut, InOutBuf, InnerIvInit, InvalidLength, IvState, NotEqualError, SetIvState};
 use cipher_modes::dev::block_mode::{TestVector, decrypt, encrypt};
 use cipher_modes::{BlockModeDecrypt, BlockModeEncrypt};
 
@@ -61,6 +57,14 @@ fn goes_in_place(n: usize, want: &[[u8; 4]; 10]) -> bool {
 
 const ZEROS: [[u8; 4]; 10] = [[0; 4]; 10];
 
+// the first n of these blocks, n being at most 10, and behind them zeros
+fn in_front(blocks: &[[u8; 4]; 10], n: usize) -> [[u8; 4]; 10] {
+    let n = n.min(10);
+    let mut all = ZEROS;
+    all[..n].copy_from_slice(&blocks[..n]);
+    all
+}
+
 // n blocks there and back in other places
 fn goes_elsewhere(n: usize, want: &[[u8; 4]; 10]) -> bool {
     let n = n.min(10);
@@ -70,9 +74,7 @@ fn goes_elsewhere(n: usize, want: &[[u8; 4]; 10]) -> bool {
     let mut back = ZEROS;
     let encrypted = encrypter().encrypt_blocks_b2b(&BLOCKS[..n], &mut there[..n]);
     let decrypted = decrypter().decrypt_blocks_b2b(made, &mut back[..n]);
-    [encrypted, decrypted] == [Ok(()); 2]
-        && there == *want
-        && back == with_front(&BLOCKS, n, &ZEROS)
+    [encrypted, decrypted] == [Ok(()); 2] && there == *want && back == in_front(&BLOCKS, n)
 }
 
 // whether all calls agree on n blocks
@@ -137,7 +139,7 @@ fn gone(how: &How, from: &[u8; 4]) -> [u8; 4] {
 fn goes_on() -> bool {
     let mut first = encrypter();
     first.encrypt_blocks(&mut [[1, 2, 3, 4]; 3]);
-    let mut second = Chained::inner_iv_init(Shift::new(&[1]), &[0; 4]);
+    let mut second = Chained::inner_iv_init(Adding { key: 1 }, &[0; 4]);
     second.set_iv(&first.iv_state());
     let mut one = BLOCKS;
     let mut other = BLOCKS;
@@ -148,7 +150,7 @@ fn goes_on() -> bool {
 
 // the state of a mode whose initialization vector is these bytes
 fn state_from(iv: &[u8]) -> Result<[u8; 4], InvalidLength> {
-    let mode = Chained::inner_iv_slice_init(Shift::new(&[1]), iv)?;
+    let mode = Chained::inner_iv_slice_init(Adding { key: 1 }, iv)?;
     Ok(mode.iv_state())
 }
 
