@@ -14,6 +14,16 @@ fn tasks(rt: HostRuntime) {
 }
 
 #[test]
+fn callers_over_whole_streams(rt: HostRuntime) {
+    hold(&rt, tink_run_tests::rows(rt.alloc()));
+}
+
+#[test]
+fn files_of_keys(rt: HostRuntime) {
+    hold(&rt, tink_key_files_tests::rows(rt.alloc()));
+}
+
+#[test]
 fn commands_over_files(rt: HostRuntime) {
     hold(&rt, tink_files_tests::rows(rt.alloc()));
 }

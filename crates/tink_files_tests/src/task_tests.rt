@@ -2,36 +2,23 @@
 
 ghost use Rattle.std.specs.Prelude.{◌≡◌, ◌<◌, true, OnErr};
 
-use crate::place_tests::shows;
 use std::alloc::Global;
 use std::marker::Brand;
 use std::sync::ledger::{Blank, Ledger};
 use tink_files::{Task, range_to, save_task, write_task};
-use tink_io::{Draws, Kind, MemPlace, Place, Source, SureSink, SureSource, TinkError};
+use tink_io::{Draws, Kind, MemPlace, Place, Source, SureSource, TinkError};
 use tink_range::{MemAt, Steps};
 use tink_run::report::{Command, Report};
-use tink_testutil::Told;
-
-// A raw key in counter mode, with segments of 35 bytes and tags of 10.
-pub const CTR: &[u8] = b"\
-    \x08\x84\x86\x88\x08\x12n\x0ac\x0a=type.googleapis.com/google.crypto.tink.AesCtrHmacStreamingKey\x12 \x12\
-    \x0c\x08#\x10\x10\x18\x03\x22\x04\x08\x03\x10\x0a\x1a\x10\x00\x01\x02\x03\x04\x05\x06\x07\x08\x09\x0a\x0b\
-    \x0c\x0d\x0e\x0f\x18\x01\x10\x01\x18\x84\x86\x88\x08 \x03";
-
-// A raw key by GCM, with segments of 41 bytes.
-const GCM: &[u8] = b"\
-    \x08\x85\x86\x88\x08\x12h\x0a]\x0a=type.googleapis.com/google.crypto.tink.AesGcmHkdfStreamingKey\x12\x1a\x12\
-    \x06\x08)\x10\x10\x18\x03\x1a\x10\x10\x11\x12\x13\x14\x15\x16\x17\x18\x19\x1a\x1b\x1c\x1d\x1e\x1f\x18\x01\
-    \x10\x01\x18\x85\x86\x88\x08 \x03";
+use tink_testutil::{CTR_35, GCM_41, Told, shows, sink_of};
 
 // A key of HMAC-SHA256 with the id 7, a prefix and tags of 16.
 const MACS: &[u8] = b"\
     \x08\x07\x12T\x0aL\x0a.type.googleapis.com/google.crypto.tink.HmacKey\x12\x18\x12\x04\x08\x03\x10\x10\x1a\
     \x10 !\x22#$%&'()*+,-./\x18\x01\x10\x01\x18\x07 \x01";
 
-pub const TEXT: &[u8] = b"a text of two chunks";
+const TEXT: &[u8] = b"a text of two chunks";
 
-// Its streams by an independent model: under the first key with the data `May`, and under the second with `June`.
+// Its streams by an independent model: in counter mode with the data `May`, and by GCM with `June`.
 const SEALED: &[u8] = b"\
     \x18\x00\x01\x02\x03\x04\x05\x06\x07\x08\x09\x0a\x0b\x0c\x0d\x0e\x0f\x10\x11\x12\x13\x14\x15\x16\x09\xe12\
     \x9e\xa6\x90\x9f\xed)\xb3\xec\x903\xbf\x03\x9e\xf1\xe9G\xc6\xd8\xf8\xf7E\xf4\xaa\xa1/k2F\x13\xe6'\x1b\x84\
@@ -43,6 +30,14 @@ const MOVED: &[u8] = b"\
     ~\xed\xd4\xefR\x08\xd0\x88\x9cZ=\x9d\x8d";
 
 const TOKEN: &[u8] = b"YSB0ZXh0IG9mIHR3byBjaHVua3M.AQAAAAcCk2wVHG1hBYbQ3VD2ex4O";
+
+// The data of the stream, and a move of it to other keys and data.
+const MAY: &[u8] = b"May";
+
+const MOVE: Task<'static> = Task::Rewrap {
+    to: GCM_41,
+    to_aad: b"June",
+};
 
 // What stands under the name before.
 const BEFORE: &[u8] = b"before";
@@ -279,21 +274,21 @@ fn refusal(
     }
     let source = &mut SureSource::new(input);
     match asked {
-        Asked::Seal => told(encrypted(alloc, CTR, b"May", draws, source, place)),
-        Asked::Sign => told(save_task(alloc, Task::Sign, MACS, b"", draws, source, place)),
-        Asked::Verify => told(save_task(alloc, Task::Verify, MACS, b"", draws, source, place)),
-        _ => told(save_task(alloc, of_stream(asked), CTR, b"May", draws, source, place)),
+        Asked::Seal => told(encrypted(alloc, CTR_35, MAY, draws, source, place)),
+        _ => {
+            let (task, keys, aad) = task_of(asked);
+            told(save_task(alloc, task, keys, aad, draws, source, place))
+        }
     }
 }
 
-// An open, or a move to other keys.
-fn of_stream(asked: Asked) -> Task<'static> {
+// An open, a move to other keys, or what is done with a token, with its keys and data.
+fn task_of(asked: Asked) -> (Task<'static>, &'static [u8], &'static [u8]) {
     match asked {
-        Asked::Rewrap => Task::Rewrap {
-            to: GCM,
-            to_aad: b"June",
-        },
-        _ => Task::Run(Command::Open),
+        Asked::Rewrap => (MOVE, CTR_35, MAY),
+        Asked::Sign => (Task::Sign, MACS, b""),
+        Asked::Verify => (Task::Verify, MACS, b""),
+        _ => (Task::Run(Command::Open), CTR_35, MAY),
     }
 }
 
@@ -310,7 +305,7 @@ fn range_of<L: Ledger>(
     requires some { 0 < blank.parts }
 {
     let mut steps = Steps::<L>::new(blank);
-    range_to(alloc, CTR, b"May", object, 0, 9, place, &mut steps)
+    range_to(alloc, CTR_35, MAY, object, 0, 9, place, &mut steps)
 }
 
 // Whether what is asked is refused so and leaves what stood there, or shows what is made.
@@ -338,10 +333,9 @@ pub fn what_is_made_stands_whole_or_not_at_all(alloc: Global, told: &mut Told) {
 fn opens(alloc: Global) -> Result<bool, TinkError> {
     let mut source = SureSource::new(Vec::from_slice(alloc, SEALED)?);
     let mut draws = Draws::new(Vec::new(alloc));
-    let mut sink = SureSink::new(alloc);
-    sink.reserve(alloc, TEXT.len())?;
+    let mut sink = sink_of(alloc, TEXT.len())?;
     let task = Task::Run(Command::Open);
-    let report = write_task(alloc, task, CTR, b"May", &mut draws, &mut source, &mut sink)?;
+    let report = write_task(alloc, task, CTR_35, MAY, &mut draws, &mut source, &mut sink)?;
     let want = Report {
         segments: 2,
         bytes: 20,

@@ -1,11 +1,9 @@
-//! Whole tasks of a user, the registry of all managers, and callers of the calls over whole streams.
+//! Whole tasks of a user, and the registry of all managers.
 #![tactic(auto)]
 
 pub use tests::rows;
 
-mod callers;
-mod rotation;
-mod support;
+mod edited;
 mod tasks;
 mod templates;
 mod tests;

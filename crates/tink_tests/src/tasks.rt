@@ -1,6 +1,5 @@
 //! Five tasks, each under a new keyset.
 
-use crate::support::sink_of;
 use std::alloc::Global;
 use tink::aead::{AeadKind, WrappedAead, aes128_gcm_key_template};
 use tink::keyset::{BinaryReader, BinaryWriter, Handle, JsonReader, JsonWriter, Manager, insecure};
@@ -8,6 +7,7 @@ use tink::mac::{MacKind, WrappedMac};
 use tink::streaming_aead::{DecryptReader, StreamSegment, WrappedStreamingAead, Writer};
 use tink::{Aead, Draws, Lent, Mac, Managers, Registry, SureSink, SureSource, TinkError};
 use tink_proto::{Bytes, KeyTemplate};
+use tink_testutil::sink_of;
 
 // Random bytes. A program reads them from the system's random source; a test counts.
 fn draws(alloc: Global, n: u8) -> Result<Draws, TinkError> {

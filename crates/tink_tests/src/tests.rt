@@ -1,7 +1,6 @@
 //! Each task over one registry of all managers.
 
-use crate::callers::are_callers;
-use crate::rotation::edited_keyset_runs;
+use crate::edited::a_keyset_is_edited;
 use crate::tasks::{
     a_keyset_in_json_is_encrypted, a_mac_is_of_its_message, a_stream_is_read_in_pieces,
     a_value_is_encrypted, new_keyset, old_data_opens_after_a_rotation,
@@ -72,11 +71,10 @@ fn do_all(told: &mut Told, alloc: Global, registry: &Registry<Managers>) {
     }
     let all = templates_build(alloc, registry);
     told.expect(all, Ok(true), "26 templates make keys that build");
-    let destroyed = edited_keyset_runs(alloc, registry, false);
+    let destroyed = a_keyset_is_edited(alloc, registry, false);
     told.expect(destroyed, Ok(true), "a key is added and destroyed");
-    let rotated = edited_keyset_runs(alloc, registry, true);
-    told.expect(rotated, Ok(true), "a stream opens after a rotation");
-    told.expect(are_callers(alloc), Ok(true), "callers do what they say");
+    let rotated = a_keyset_is_edited(alloc, registry, true);
+    told.expect(rotated, Ok(true), "a primary key is added");
 }
 
 /// What all rows tell.

@@ -7,6 +7,9 @@ pub use keys::{
 };
 pub use named::Named;
 pub use rows::{Answer, Failure, Told, answer_of, handle, made};
+pub use streams::{
+    CTR_35, CTR_4096, CTR_4096_AND_DESTROYED, CTR_4096_ROTATED, GCM_41, shows, sink_of,
+};
 pub use test_aead::{TestAead, TestKinds};
 pub use test_manager::TestManager;
 pub use walk::{Ask, asked};
@@ -14,6 +17,7 @@ pub use walk::{Ask, asked};
 mod keys;
 mod named;
 mod rows;
+mod streams;
 mod test_aead;
 mod test_manager;
 mod walk;

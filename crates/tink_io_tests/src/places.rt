@@ -1,17 +1,19 @@
+//! A place over memory: what is shown, and what a draft leaves.
+
 ghost use Rattle.std.specs.Prelude.{◌≡◌, true, OnErr};
 
+use crate::expect::expect;
 use std::alloc::Global;
 use tink_io::saving::{finish, save};
 use tink_io::{Kind, MemPlace, Place, TinkError};
-use tink_testutil::Told;
 
 // What is there before, and what is written.
-pub const BEFORE: &[u8] = b"before";
+const BEFORE: &[u8] = b"before";
 
 const TEXT: &[u8] = b"a text";
 
 // A place with so much room under whose name a file stands.
-pub fn place_of(alloc: Global, room: usize, replaces: bool, can_show: bool) -> Option<MemPlace> {
+fn place_of(alloc: Global, room: usize, replaces: bool, can_show: bool) -> Option<MemPlace> {
     let shown = Vec::from_slice(alloc, BEFORE).ok()?;
     let mut place = MemPlace::new(alloc, room, Some(shown)).ok()?;
     place.replaces = replaces;
@@ -20,7 +22,7 @@ pub fn place_of(alloc: Global, room: usize, replaces: bool, can_show: bool) -> O
 }
 
 // Whether the text is shown, or what was before; a draft is none.
-pub fn shows(place: &MemPlace, text: &[u8]) -> bool {
+fn shows(place: &MemPlace, text: &[u8]) -> bool {
     match &place.shown {
         Some(bytes) => !place.has_draft && bytes.as_slice() == text,
         None => false,
@@ -56,19 +58,12 @@ const PLACES: &[(&str, usize, bool, bool, bool)] = &[
     ("a place that shows no file", 6, true, false, false),
 ];
 
-pub fn a_text_is_shown_whole_or_not_at_all(alloc: Global, told: &mut Told) {
+#[test]
+fn a_text_is_shown_whole_or_not_at_all(rt: HostRuntime) {
     for (row, room, replaces, can_show, is_shown) in PLACES {
-        let saves = saves(alloc, *room, *replaces, *can_show);
-        told.expect(Ok(saves == Some(*is_shown)), Ok(true), row);
+        let saves = saves(rt.alloc(), *room, *replaces, *can_show);
+        expect(&rt, saves, Some(*is_shown), row);
     }
-}
-
-pub fn a_refusal_takes_the_draft_away(alloc: Global, told: &mut Told) {
-    let refused = match place_of(alloc, 6, true, true) {
-        Some(mut place) => refuses(&mut place),
-        None => false,
-    };
-    told.expect(Ok(refused), Ok(true), "a refusal");
 }
 
 // Whether a refusal is given on, and leaves what was before.
@@ -79,4 +74,15 @@ fn refuses(place: &mut MemPlace) -> bool {
     let refusal = TinkError::new(Kind::NoMatchingKey);
     let answer: Result<u8, TinkError> = finish(place, Err(refusal));
     answer == Err(refusal) && shows(place, BEFORE)
+}
+
+// The same of a place that is made.
+fn is_refused(alloc: Global) -> Option<bool> {
+    let mut place = place_of(alloc, 6, true, true)?;
+    Some(refuses(&mut place))
+}
+
+#[test]
+fn a_refusal_takes_the_draft_away(rt: HostRuntime) {
+    expect(&rt, is_refused(rt.alloc()), Some(true), "a refusal");
 }

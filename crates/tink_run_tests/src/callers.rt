@@ -1,6 +1,6 @@
-//! Callers of `run`, `rewrap`, `keygen` and `write_payload`, whose clauses follow from those of the calls.
+//! Callers of `run`, `rewrap`, `run_range`, `keygen` and `write_payload`; their clauses follow from those of the calls.
 
-ghost use Rattle.std.specs.Prelude.{◌≡◌, [], codes, Ok, Some, IfOk};
+ghost use Rattle.std.specs.Prelude.{◌≡◌, ◌<◌, [], codes, Ok, Some, IfOk};
 ghost use Rattle.tink_keygen.specs.Rotating.{key_line, rotated_by};
 ghost use Rattle.tink_keysets.specs.Managed.{no_keys};
 ghost use Rattle.tink_proto.specs.declared.messages.keys.Keyset.{Keyset};
@@ -10,14 +10,26 @@ ghost use Rattle.tink_run.specs.Rewrapping.{sides};
 ghost use Rattle.tink_run.specs.Run.{IsWholeStream};
 ghost use Rattle.tink_tokens.specs.Tokens.{RefusesVerifying, TokenMeans, VerifiesTo};
 
-use crate::support::{CTR_35, CTR_4096, GCM_41, counted, sink_of, stream_of};
+use crate::support::{counted, stream_of};
 use std::alloc::Global;
-use tink_io::{Draws, Kind, SureSink, SureSource, TinkError};
+use std::marker::Brand;
+use std::sync::ledger::{Blank, Ledger};
+use tink_io::{Draws, Kind, Sink, SureSink, SureSource, TinkError};
 use tink_keygen::{key_line, keygen};
+use tink_range::{MemAt, ReadAt, Steps};
+use tink_run::ranges::run_range;
 use tink_run::report::{Command, Report};
 use tink_run::rewrap::rewrap;
 use tink_run::run::run;
+use tink_testutil::{CTR_35, CTR_4096, GCM_41, Told, made, sink_of};
 use tink_tokens::write_payload;
+
+const TEXT: &[u8] = b"a text of two chunks";
+
+// It as a stream under the key with segments of 35 bytes, with no associated data, by an independent model.
+const SEALED: &[u8] = b"\
+    \x18\x00\x01\x02\x03\x04\x05\x06\x07\x08\x09\x0a\x0b\x0c\x0d\x0e\x0f\x10\x11\x12\x13\x14\x15\x16'[\x86a\x14S\
+    \x7f9*<:]}1\x12\xdc\xe5\x9aG\x83\xfc\xd2^\x0b\xcaU\xb7\x1b1\xa3\xf6\xa8\x11\xc3E\xe6|\x81\xd49";
 
 // Seals a text in memory, without associated data. After `Ok` the sink got exactly the stream of the text under the
 // keyset's primary key and the first draws.
@@ -123,8 +135,55 @@ fn no_payload(alloc: Global) -> Result<(), TinkError> {
     payload_in_memory(alloc, b"no", &mut input, &mut output)
 }
 
-/// Whether each caller does what it says.
-pub fn are_callers(alloc: Global) -> Result<bool, TinkError> {
-    let refused = no_payload(alloc) == Err(TinkError::new(Kind::BadKeyset));
-    Ok(is_sealed(alloc)? && is_moved(alloc)? && is_line(alloc)? && refused)
+// A page of 4,096 bytes of a sealed file, without associated data.
+fn page<A: ReadAt, K: Sink, L: Ledger>(
+    alloc: Global,
+    keyset: &[u8],
+    file: &mut A,
+    number: u32,
+    sink: &mut K,
+    steps: &mut Steps<L>,
+) -> Result<u64, TinkError> {
+    run_range(
+        alloc,
+        keyset,
+        &[],
+        file,
+        u64::from(number) * 4096,
+        4096,
+        sink,
+        steps,
+    )
+}
+
+// The first page, by a ledger of steps.
+fn page_of<L: Ledger>(
+    alloc: Global,
+    keyset: &[u8],
+    file: &mut MemAt,
+    sink: &mut SureSink,
+    blank: Blank,
+) -> Result<u64, TinkError>
+    requires name { blank.name ≡ L.name }
+    requires parts { blank.parts ≡ L.parts }
+    requires some { 0 < blank.parts }
+{
+    let mut steps = Steps::<L>::new(blank);
+    page(alloc, keyset, file, 0, sink, &mut steps)
+}
+
+// Whether the first page of a sealed file is its text.
+fn is_page(alloc: Global) -> Result<bool, TinkError> {
+    let mut file = MemAt::new(Vec::from_slice(alloc, SEALED)?, 0, Vec::new(alloc));
+    let mut sink = sink_of(alloc, 20)?;
+    let count = page_of::<Brand>(alloc, CTR_35, &mut file, &mut sink, Blank::new(1))?;
+    Ok(count == 20 && sink.bytes() == TEXT)
+}
+
+pub fn callers_do_what_they_say(alloc: Global, told: &mut Told) {
+    told.expect(is_sealed(alloc), Ok(true), "a seal");
+    told.expect(is_moved(alloc), Ok(true), "a move");
+    told.expect(is_line(alloc), Ok(true), "the line of a new keyset");
+    told.expect(made(no_payload(alloc)), Err(Kind::BadKeyset), "no payload");
+    told.expect(is_page(alloc), Ok(true), "a page of a sealed file");
 }

@@ -1,12 +1,16 @@
+//! Files of keys in a place over memory.
+
 ghost use Rattle.std.specs.Prelude.{◌≡◌, true};
 
-use crate::place_tests::{BEFORE, place_of, shows};
 use std::alloc::Global;
 use tink_files::under_master::load_master;
 use tink_files::{edit_keys, new_keys, rotate_keys, unwrap_keys, wrap_keys};
 use tink_io::{Draws, Kind, MemPlace, TinkError};
 use tink_keyset_io::key_files::{Edit, Format};
-use tink_testutil::Told;
+use tink_testutil::{Told, shows};
+
+// What stands under the name before.
+const BEFORE: &[u8] = b"before";
 
 // A master keyset: an AES-GCM key of the id MMMM, under TINK.
 pub const MASTER: &[u8] = b"\
@@ -161,6 +165,12 @@ const ROWS: &[(&str, Asked, usize, Result<&[u8], Kind>)] = &[
     ),
 ];
 
+// A place with so much room under whose name a file stands.
+fn place_of(alloc: Global, room: usize) -> Option<MemPlace> {
+    let shown = Vec::from_slice(alloc, BEFORE).ok()?;
+    MemPlace::new(alloc, room, Some(shown)).ok()
+}
+
 // A call into the place. New files have the wire format.
 fn answered(alloc: Global, asked: Asked, place: &mut MemPlace) -> Result<(), TinkError>
     requires { place.old.has_draft ≡ true }
@@ -242,7 +252,7 @@ fn unwrap(
 
 // Whether a call shows the file and leaves no draft, or is refused so and leaves what stood there.
 fn is_answered(alloc: Global, asked: Asked, room: usize, want: Result<&[u8], Kind>) -> bool {
-    let Some(mut place) = place_of(alloc, room, true, true) else {
+    let Some(mut place) = place_of(alloc, room) else {
         return false;
     };
     if !place.has_draft {
@@ -263,7 +273,7 @@ pub fn files_of_keys_are_saved_whole_or_not_at_all(alloc: Global, told: &mut Tol
 }
 
 pub fn a_master_has_aeads_alone(alloc: Global, told: &mut Told) {
-    let kind = match place_of(alloc, 999, true, true) {
+    let kind = match place_of(alloc, 999) {
         Some(mut place) => refusal_of_master(alloc, &mut place),
         None => None,
     };

@@ -1,32 +1,13 @@
-//! Keysets that a manager edited, under which `run` seals and opens.
+//! Keysets that a manager edited, to the byte. `tink_run_tests` seals and opens under them.
 
-use crate::support::{CTR_4096, counted, opened, stream_of};
 use std::alloc::Global;
-use tink::keyset::{Manager, insecure};
+use tink::keyset::Manager;
 use tink::streaming_aead::aes128_ctr_hmac_sha256_segment_4kb_key_template as template;
 use tink::{Draws, Kind, Managers, Registry, TinkError};
-use tink_proto::{Bytes, Message};
-
-// The bytes of a text of two segments.
-const TWO_SEGMENTS: usize = 4041;
+use tink_testutil::{CTR_4096, CTR_4096_AND_DESTROYED, CTR_4096_ROTATED, bytes_of, gives, handle};
 
 // An id of 0, one that is in use, and a fresh one.
 const IDS: &[u8] = b"\x00\x00\x00\x00\x01\x02\x03\x04\x0a\x0b\x0c\x0d";
-
-// The manager of a keyset of one key, of id 01020304.
-fn manager(alloc: Global) -> Result<Manager, TinkError> {
-    let keyset = insecure::decode(alloc, CTR_4096)?;
-    Ok(Manager::new_from_handle(insecure::new_handle(keyset)?))
-}
-
-// The encoding of the manager's keyset.
-fn encoded(alloc: Global, manager: &Manager) -> Result<Bytes, TinkError> {
-    let keyset = insecure::keyset_material(alloc, &manager.handle(alloc)?)?;
-    match keyset.encode(alloc) {
-        Ok(bytes) => Ok(bytes),
-        Err(_) => Err(TinkError::new(Kind::OutOfMemory)),
-    }
-}
 
 // Sixteen bytes for a key, and then these.
 fn draws(alloc: Global, ids: &[u8]) -> Result<Draws, TinkError> {
@@ -71,42 +52,40 @@ fn is_edited(
     Ok(refused && is_added && (as_primary || is_destroyed(manager)))
 }
 
-// Whether a stream opens to the text of two segments.
-fn opens(alloc: Global, keyset: &[u8], stream: Vec<u8>) -> Result<bool, TinkError> {
-    let text = counted(alloc, TWO_SEGMENTS)?;
-    match opened(alloc, keyset, stream) {
-        Ok(got) => Ok(got.as_slice() == text.as_slice()),
+// Whether the manager's keyset has this encoding.
+fn is_encoded(alloc: Global, manager: &Manager, want: &[u8]) -> Result<bool, TinkError> {
+    match manager.handle(alloc) {
+        Ok(keyset) => gives(bytes_of(alloc, &keyset), want),
         Err(e) => Err(e),
     }
 }
 
-// Whether the edited keyset seals to other bytes than the keyset did exactly where it is to, and opens both streams.
-fn seals_and_opens(alloc: Global, edited: &[u8], to_other: bool) -> Result<bool, TinkError> {
-    let old = stream_of(alloc, CTR_4096, TWO_SEGMENTS)?;
-    let new = stream_of(alloc, edited, TWO_SEGMENTS)?;
-    let as_wanted = (old != new) == to_other;
-    Ok(opens(alloc, edited, old)? && opens(alloc, edited, new)? && as_wanted)
-}
-
-fn edited_runs(
+fn is_edited_to(
     alloc: Global,
     registry: &Registry<Managers>,
     manager: &mut Manager,
     as_primary: bool,
 ) -> Result<bool, TinkError> {
-    let edited = is_edited(alloc, registry, manager, as_primary)?;
-    let keyset = encoded(alloc, manager)?;
-    Ok(seals_and_opens(alloc, keyset.as_slice(), as_primary)? && edited)
+    let is_edited = is_edited(alloc, registry, manager, as_primary)?;
+    let want = if as_primary {
+        CTR_4096_ROTATED
+    } else {
+        CTR_4096_AND_DESTROYED
+    };
+    Ok(is_encoded(alloc, manager, want)? && is_edited)
 }
 
-/// Whether a keyset to which a manager added a primary key, or one that it destroyed, seals and opens as it is to.
-pub fn edited_keyset_runs(
+/// Whether a manager adds a primary key, or another one that it destroys, and the keyset is as it is to be.
+pub fn a_keyset_is_edited(
     alloc: Global,
     registry: &Registry<Managers>,
     as_primary: bool,
 ) -> Result<bool, TinkError> {
-    match manager(alloc) {
-        Ok(mut manager) => edited_runs(alloc, registry, &mut manager, as_primary),
+    match handle(alloc, CTR_4096) {
+        Ok(keyset) => {
+            let mut manager = Manager::new_from_handle(keyset);
+            is_edited_to(alloc, registry, &mut manager, as_primary)
+        }
         Err(e) => Err(e),
     }
 }

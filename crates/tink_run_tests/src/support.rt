@@ -1,0 +1,52 @@
+//! Streams of a counted text in memory.
+
+use std::alloc::Global;
+use tink_io::{Draws, SureSource, TinkError};
+use tink_run::report::Command;
+use tink_run::run::run;
+use tink_testutil::sink_of;
+
+/// A text whose bytes count up from 0 to 250, over and over.
+pub fn counted(alloc: Global, count: usize) -> Result<Vec<u8>, TinkError> {
+    let mut text = Vec::new(alloc);
+    let mut byte = 0u8;
+    for _ in 0..count {
+        text.push(byte)?;
+        byte = if byte < 250 { byte + 1 } else { 0 };
+    }
+    Ok(text)
+}
+
+// What a command writes of an input, without associated data and by 1,024 draws.
+fn written(
+    alloc: Global,
+    command: Command,
+    keyset: &[u8],
+    input: Vec<u8>,
+) -> Result<Vec<u8>, TinkError> {
+    let mut draws = Draws::new(counted(alloc, 1024)?);
+    let mut sink = sink_of(alloc, 20000)?;
+    let mut source = SureSource::new(input);
+    match run(
+        alloc,
+        command,
+        keyset,
+        &[],
+        &mut draws,
+        &mut source,
+        &mut sink,
+    ) {
+        Ok(_) => Ok(sink.into_bytes()),
+        Err(e) => Err(e),
+    }
+}
+
+/// The stream of the counted text of so many bytes.
+pub fn stream_of(alloc: Global, keyset: &[u8], count: usize) -> Result<Vec<u8>, TinkError> {
+    written(alloc, Command::Seal, keyset, counted(alloc, count)?)
+}
+
+/// The text of a stream.
+pub fn opened(alloc: Global, keyset: &[u8], stream: Vec<u8>) -> Result<Vec<u8>, TinkError> {
+    written(alloc, Command::Open, keyset, stream)
+}
