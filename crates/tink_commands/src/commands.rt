@@ -4,9 +4,10 @@ ghost use Rattle.tink_commands.specs.Claims.{EndedOverStreams, HasStatus};
 ghost use Rattle.tink_words.specs.Forms.{words_of};
 
 use crate::claims::is_of_streams;
-use crate::{help, keys, ranges, streams, wrapping};
+use crate::{help, keys, wrapping};
 use tink_io::{StdSink, StdSource};
 use tink_program::program::program;
+use tink_stream_commands::{ranges, streams};
 use tink_system::trouble::{Trouble, tell};
 use tink_words::{Action, Given, parse};
 

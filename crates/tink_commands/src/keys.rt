@@ -1,7 +1,7 @@
 //! The commands on files of keys.
 
 ghost use Rattle.std.specs.Prelude.{◌≡◌, Some, None, true, false, IfErr, IfOk, OnErr, OnOk};
-ghost use Rattle.tink_commands.specs.Jobs.{format_named, own_edit};
+ghost use Rattle.tink_commands.specs.KeyFiles.{format_named, own_edit};
 ghost use Rattle.tink_system.specs.Statuses.{trouble_status};
 
 use tink_files::{edit_keys, new_keys, rotate_keys};

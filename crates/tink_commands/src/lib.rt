@@ -4,10 +4,7 @@
 mod claims;
 mod commands;
 mod help;
-mod job;
 mod keys;
-mod ranges;
-mod streams;
 mod wrapping;
 
 pub use commands::run;

@@ -1,15 +1,15 @@
 //! The commands that keep a file of keys under a master keyset.
 
 ghost use Rattle.std.specs.Prelude.{◌≡◌, IfErr, IfOk};
-ghost use Rattle.tink_commands.specs.Jobs.{AreWords};
+ghost use Rattle.tink_commands.specs.KeyFiles.{AreWords};
 ghost use Rattle.tink_system.specs.Statuses.{trouble_status};
 
-use crate::job::data_of;
 use crate::keys::format_of;
 use tink_files::under_master::{Master, load_master};
 use tink_files::{unwrap_keys, wrap_keys};
 use tink_io::{Draws, Kind, TinkError};
 use tink_keyset_io::key_files::Format;
+use tink_stream_commands::data_of;
 use tink_system::outside::{draws, read_keys};
 use tink_system::real_place::RealPlace;
 use tink_system::trouble::Trouble;

@@ -1,7 +1,7 @@
 //! The commands over streams and tokens.
 
 ghost use Rattle.std.specs.Prelude.{◌≡◌};
-ghost use Rattle.tink_commands.specs.Jobs.{IsMoveTo, own_task};
+ghost use Rattle.tink_stream_commands.specs.Jobs.{IsMoveTo, own_task};
 
 use crate::job::{Job, Side, job_of, named, side_of};
 use std::fs::{File, OpenFile};

@@ -1,7 +1,7 @@
 //! What the words of a command over a stream or a token say, and how its refusals are told.
 
 ghost use Rattle.std.specs.Prelude.{◌≡◌, IfOk, option_map};
-ghost use Rattle.tink_commands.specs.Jobs.{IsJob, IsSide, data_of, input_of, named};
+ghost use Rattle.tink_stream_commands.specs.Jobs.{IsJob, IsSide, data_of, input_of, named};
 
 use std::alloc::Global;
 use std::io::IsTerminal;

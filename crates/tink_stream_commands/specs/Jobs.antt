@@ -1,20 +1,15 @@
--- What the words of a command over files say.
+-- What the words of a command over a stream or a token say.
 use Rattle.std.specs.Prelude.{◌≡◌, ◌^◌, ◌-◌, ℕ, List, [], Option, Some, None, Ok, codes, option_map, if◌then◌else◌}
 use Rattle.tink_words.specs.Lines.{LineRead, is}
 use Rattle.tink_words.specs.declared.form.Action.{Action}
 use Rattle.tink_words.specs.declared.form.Action.TheVariants as actions
 use Rattle.tink_keyset_io.specs.Files.{wire_of}
-use Rattle.tink_keyset_io.specs.declared.key_files.editing.Edit.{Edit}
-use Rattle.tink_keyset_io.specs.declared.key_files.editing.Edit.TheVariants.{Delete, Destroy, Disable, Enable, Promote}
-use Rattle.tink_keyset_io.specs.declared.key_files.formats.Format.{Format}
-use Rattle.tink_keyset_io.specs.declared.key_files.formats.Format.TheVariants.{Binary, Json}
 use Rattle.tink_program.specs.Words.{IsNumberWord}
 use Rattle.tink_run.specs.declared.report.Command.TheVariants.{Open, Seal}
 use Rattle.tink_files.specs.declared.tasks.Task.{Task}
 use Rattle.tink_files.specs.declared.tasks.Task.TheVariants.{Rewrap, Run, Sign, Verify}
-use Rattle.tink_commands.specs.declared.job.Job.{Job}
-use Rattle.tink_commands.specs.declared.job.Side.{Side}
-use Rattle.tink_commands.specs.declared.wrapping.Words.{Words}
+use Rattle.tink_stream_commands.specs.declared.job.Job.{Job}
+use Rattle.tink_stream_commands.specs.declared.job.Side.{Side}
 
 -- the associated data that a word gives, and else none
 abbrev pub data_of : Option (List ℕ) → List ℕ
@@ -48,28 +43,6 @@ pub record IsJob (line : LineRead) (job : Job) : Type 0 where
 abbrev pub IsNumberOf : Option (List ℕ) → ℕ → Type 0
 IsNumberOf (Some word) n = IsNumberWord (2 ^ 64 - 1) word n
 IsNumberOf None n = ⊥
-
--- the format that a word names, and JSON where there is no word
-abbrev pub format_named : Option (List ℕ) → Option Format
-format_named None = Some Json
-format_named (Some word) = if is word (codes "json") then Some Json else (if is word (codes "binary") then Some Binary else None)
-
--- what the words of a command that keeps a file of keys under others say
-pub record AreWords (line : LineRead) (words : Words) : Type 0 where
-  pub master : Some words.master.now ≡ line.keys
-  pub input : Some words.input.now ≡ line.first
-  pub output : Some words.output.now ≡ line.output
-  pub aad : words.aad.now ≡ data_of line.aad
-  pub format : format_named line.format ≡ Some words.format
-
--- what a command does with a key
-abbrev pub own_edit : Action → Option Edit
-own_edit actions.Promote = Some Promote
-own_edit actions.Enable = Some Enable
-own_edit actions.Disable = Some Disable
-own_edit actions.Destroy = Some Destroy
-own_edit actions.Delete = Some Delete
-own_edit _ = None
 
 -- what a command makes of its input under its own keys
 abbrev pub own_task : Action → Option Task

@@ -1,7 +1,7 @@
 //! The command over a range of a stream's text.
 
 ghost use Rattle.std.specs.Prelude.{◌≡◌, ◌⊎◌, ◌<◌, ℕ, IfOk, IfErr, option_map};
-ghost use Rattle.tink_commands.specs.Jobs.{IsNumberOf};
+ghost use Rattle.tink_stream_commands.specs.Jobs.{IsNumberOf};
 ghost use Rattle.tink_system.specs.Statuses.{trouble_status};
 
 use crate::job::{Job, job_of, named};
