@@ -1,24 +1,9 @@
 //! Outside vectors: RFC 4493 and SP 800-38B for AES-CMAC, RFC 5869 for HKDF, RFC 2202 and RFC 4231 for HMAC.
 
-ghost use Rattle.std.specs.Prelude.{Ok, take};
-ghost use Rattle.hash_keys.specs.declared.Hash.TheVariants as hashes;
-ghost use Rattle.hash_keys.specs.Hash.{hmac_of};
-ghost use Rattle.tink_io.specs.Told.{Answers};
-
+use crate::asked::{ABC, Asked, Of, Row};
 use std::alloc::Global;
-use tink_core::{CloneIn, Prf, Primitive, TinkError};
-use tink_prf::subtle::{AesCmacPrf, HkdfPrf, HmacPrf};
-use tink_prf::{PrfKind, PrfKinds};
-use tink_proto::{Bytes, HashType};
-use tink_testutil::{Answer, Ask, Told, gives};
-
-// The first 16 bytes of HMAC with SHA-256.
-fn code_of(alloc: Global, key: &[u8], text: &[u8]) -> Result<Bytes, TinkError>
-    ensures { Answers result (Ok (take 16 (hmac_of hashes.Sha256 key.now text.now))) }
-{
-    let prf = HmacPrf::new(alloc, HashType::Sha256, key)?;
-    prf.compute_prf(alloc, text, 16)
-}
+use tink_proto::HashType;
+use tink_testutil::Told;
 
 // RFC 4493, section 4, and SP 800-38B, D.1 to D.3.
 const CMAC_40: &[u8] =
@@ -39,59 +24,12 @@ const SALT: &[u8] = b"\x00\x01\x02\x03\x04\x05\x06\x07\x08\x09\x0a\x0b\x0c";
 
 const INFO: &[u8] = b"\xf0\xf1\xf2\xf3\xf4\xf5\xf6\xf7\xf8\xf9";
 
-/// The functions by their standards, that of HKDF with its salt.
-pub enum Of {
-    AesCmac,
-    Hkdf(HashType, &'static [u8]),
-    Hmac(HashType),
-}
-
-pub fn new_prf(alloc: Global, of: &Of, key: &[u8]) -> Result<PrfKind, TinkError> {
-    match *of {
-        Of::AesCmac => Ok(PrfKind::AesCmac(AesCmacPrf::new(alloc, key)?)),
-        Of::Hkdf(hash, salt) => Ok(PrfKind::Hkdf(HkdfPrf::new(alloc, hash, key, salt)?)),
-        Of::Hmac(hash) => Ok(PrfKind::Hmac(HmacPrf::new(alloc, hash, key)?)),
-    }
-}
-
-/// So many bytes of what a function makes of a text.
-pub fn computed(
-    alloc: Global,
-    prf: Result<PrfKind, TinkError>,
-    text: &[u8],
-    length: usize,
-) -> Result<Bytes, TinkError> {
-    match prf {
-        Ok(prf) => prf.compute_prf(alloc, text, length),
-        Err(e) => Err(e),
-    }
-}
-
-// A copy, which was a primitive on its way.
-fn copy_of(alloc: Global, prf: Result<PrfKind, TinkError>) -> Result<PrfKind, TinkError> {
-    match prf {
-        Ok(prf) => Primitive::<PrfKinds>::Prf(prf.try_clone(alloc)?).into_prf(),
-        Err(e) => Err(e),
-    }
-}
-
-// The function, the key, the text, and the output. `true` asks a copy of the function.
-struct Vector(Of, &'static [u8], &'static [u8], &'static [u8]);
-
-impl Ask<bool> for Vector {
-    fn answer(&self, alloc: Global, of_copy: &mut bool) -> Result<bool, TinkError> {
-        let own = new_prf(alloc, &self.0, self.1);
-        let prf = if *of_copy { copy_of(alloc, own) } else { own };
-        gives(computed(alloc, prf, self.2, self.3.len()), self.3)
-    }
-}
-
 // A function and its copy give the outputs.
-const VECTORS: &[(&str, Vector, Answer)] = &[
+const VECTORS: &[Row] = &[
     // RFC 4493, section 4, and SP 800-38B, D.1 to D.3.
     (
         "AES-CMAC with a key of 16, of 0 bytes",
-        Vector(
+        Asked::Output(
             Of::AesCmac,
             KEY_16,
             b"",
@@ -101,7 +39,7 @@ const VECTORS: &[(&str, Vector, Answer)] = &[
     ),
     (
         "AES-CMAC with a key of 16, of 16 bytes",
-        Vector(
+        Asked::Output(
             Of::AesCmac,
             KEY_16,
             CMAC_16,
@@ -111,7 +49,7 @@ const VECTORS: &[(&str, Vector, Answer)] = &[
     ),
     (
         "AES-CMAC with a key of 16, of 40 bytes",
-        Vector(
+        Asked::Output(
             Of::AesCmac,
             KEY_16,
             CMAC_40,
@@ -121,7 +59,7 @@ const VECTORS: &[(&str, Vector, Answer)] = &[
     ),
     (
         "AES-CMAC with a key of 24, of 40 bytes",
-        Vector(
+        Asked::Output(
             Of::AesCmac,
             KEY_24,
             CMAC_40,
@@ -131,7 +69,7 @@ const VECTORS: &[(&str, Vector, Answer)] = &[
     ),
     (
         "AES-CMAC with a key of 32, of 40 bytes",
-        Vector(
+        Asked::Output(
             Of::AesCmac,
             KEY_32,
             CMAC_40,
@@ -141,13 +79,13 @@ const VECTORS: &[(&str, Vector, Answer)] = &[
     ),
     (
         "AES-CMAC with a key of 16, of 16 bytes, cut",
-        Vector(Of::AesCmac, KEY_16, CMAC_16, b"\x07\x0a\x16\xb4\x6b"),
+        Asked::Output(Of::AesCmac, KEY_16, CMAC_16, b"\x07\x0a\x16\xb4\x6b"),
         Ok(true),
     ),
     // RFC 5869, A.1 and A.4.
     (
         "HKDF with SHA-256",
-        Vector(
+        Asked::Output(
             Of::Hkdf(HashType::Sha256, SALT),
             &[0x0b; 22],
             INFO,
@@ -157,7 +95,7 @@ const VECTORS: &[(&str, Vector, Answer)] = &[
     ),
     (
         "HKDF with SHA-1",
-        Vector(
+        Asked::Output(
             Of::Hkdf(HashType::Sha1, SALT),
             &[0x0b; 11],
             INFO,
@@ -167,11 +105,11 @@ const VECTORS: &[(&str, Vector, Answer)] = &[
     ),
 ];
 
-const HMAC_VECTORS: &[(&str, Vector, Answer)] = &[
+const HMAC_VECTORS: &[Row] = &[
     // Test case 1 of RFC 2202 (SHA-1) and of RFC 4231, a prefix of each output.
     (
         "HMAC with SHA-1",
-        Vector(
+        Asked::Output(
             Of::Hmac(HashType::Sha1),
             &[0x0b; 20],
             b"Hi There",
@@ -181,7 +119,7 @@ const HMAC_VECTORS: &[(&str, Vector, Answer)] = &[
     ),
     (
         "HMAC with SHA-224",
-        Vector(
+        Asked::Output(
             Of::Hmac(HashType::Sha224),
             &[0x0b; 20],
             b"Hi There",
@@ -191,7 +129,7 @@ const HMAC_VECTORS: &[(&str, Vector, Answer)] = &[
     ),
     (
         "HMAC with SHA-256",
-        Vector(
+        Asked::Output(
             Of::Hmac(HashType::Sha256),
             &[0x0b; 20],
             b"Hi There",
@@ -201,7 +139,7 @@ const HMAC_VECTORS: &[(&str, Vector, Answer)] = &[
     ),
     (
         "HMAC with SHA-384",
-        Vector(
+        Asked::Output(
             Of::Hmac(HashType::Sha384),
             &[0x0b; 20],
             b"Hi There",
@@ -211,7 +149,7 @@ const HMAC_VECTORS: &[(&str, Vector, Answer)] = &[
     ),
     (
         "HMAC with SHA-512",
-        Vector(
+        Asked::Output(
             Of::Hmac(HashType::Sha512),
             &[0x0b; 20],
             b"Hi There",
@@ -222,70 +160,61 @@ const HMAC_VECTORS: &[(&str, Vector, Answer)] = &[
     // Outputs of `abc`, by OpenSSL and by Python's HMAC.
     (
         "AES-CMAC with 16 bytes",
-        Vector(
+        Asked::Output(
             Of::AesCmac,
             KEY_16,
-            b"abc",
+            ABC,
             b"\xbe\x68\x60\xf8\x86\x01\x59\x7b\x64\x7d\xc5\xb2\xa0\x7f\xc0\xad",
         ),
         Ok(true),
     ),
     (
         "AES-CMAC with 24 bytes",
-        Vector(
+        Asked::Output(
             Of::AesCmac,
             KEY_24,
-            b"abc",
+            ABC,
             b"\xaa\xd4\x00\x56\xd7\x43\xe9\x8e\xab\xe1\xf5\xe7\x1e\xa7\x09\x09",
         ),
         Ok(true),
     ),
     (
         "AES-CMAC with 32 bytes",
-        Vector(
+        Asked::Output(
             Of::AesCmac,
             KEY_32,
-            b"abc",
+            ABC,
             b"\xad\xb6\xf4\xd4\x56\xc0\x7a\xe5\xf7\xcb\x2b\xc0\xcb\xc6\x5c\x4d",
         ),
         Ok(true),
     ),
     (
         "HKDF",
-        Vector(
+        Asked::Output(
             Of::Hkdf(HashType::Sha256, b"salt"),
             KEY_32,
-            b"abc",
+            ABC,
             b"\x01\x24\xe7\xf5\xcb\xad\xcc\xb0\x32\x2f\x28\x54\xae\xe9\x8c\xe3",
         ),
         Ok(true),
     ),
     (
         "HMAC",
-        Vector(
+        Asked::Output(
             Of::Hmac(HashType::Sha512),
             KEY_32,
-            b"abc",
+            ABC,
             b"\xf8\x7a\x7d\x3b\x9c\xbf\x0a\xdd\xac\xed\x44\x79\x6f\xe5\x6d\x93",
         ),
         Ok(true),
     ),
 ];
 
-// A code of HMAC: the key, the text and the first 16 bytes.
-struct Code(&'static [u8], &'static [u8], &'static [u8]);
-
-impl Ask<()> for Code {
-    fn answer(&self, alloc: Global, _of: &mut ()) -> Result<bool, TinkError> {
-        gives(code_of(alloc, self.0, self.1), self.2)
-    }
-}
-
 // That of RFC 4231, and one by Python's HMAC.
-const CODES: &[(&str, Code, Answer)] = &[
+const CODES: &[Row] = &[
     (
         "a code of the standard",
-        Code(
+        Asked::Code(
             &[0x0b; 20],
             b"Hi There",
             b"\xb0\x34\x4c\x61\xd8\xdb\x38\x53\x5c\xa8\xaf\xce\xaf\x0b\xf1\x2b",
@@ -294,9 +223,9 @@ const CODES: &[(&str, Code, Answer)] = &[
     ),
     (
         "a code of abc",
-        Code(
+        Asked::Code(
             b"\x01\x02\x03\x04\x05\x06\x07\x08\x09\x0a\x0b\x0c\x0d\x0e\x0f\x10\x11\x12\x13\x14\x15\x16\x17\x18\x19\x1a\x1b\x1c\x1d\x1e\x1f\x20",
-            b"abc",
+            ABC,
             b"\xa2\x1b\x1f\x5d\x4c\xf4\xf7\x3a\x4d\xd9\x39\x75\x0f\x7a\x06\x6a",
         ),
         Ok(true),
@@ -305,16 +234,11 @@ const CODES: &[(&str, Code, Answer)] = &[
 
 fn vectors(alloc: Global, told: &mut Told, of_copy: bool) {
     told.walk(alloc, of_copy, VECTORS);
-}
-
-fn hmac_vectors(alloc: Global, told: &mut Told, of_copy: bool) {
     told.walk(alloc, of_copy, HMAC_VECTORS);
 }
 
 pub fn rows(alloc: Global, told: &mut Told) {
     vectors(alloc, told, false);
     vectors(alloc, told, true);
-    hmac_vectors(alloc, told, false);
-    hmac_vectors(alloc, told, true);
-    told.walk(alloc, (), CODES);
+    told.walk(alloc, false, CODES);
 }

@@ -3,12 +3,13 @@
 ghost use Rattle.std.specs.Prelude.{Ok, codes};
 ghost use Rattle.hash_keys.specs.declared.Hash.TheVariants as hashes;
 ghost use Rattle.tink_primitives.specs.declared.primitive.Primitive.TheVariants as sorts;
-ghost use Rattle.tink_prf_mac_tests.specs.TestKeys as test_keys;
+ghost use Rattle.tink_prf_tests.specs.TestKeys as test_keys;
 
 use std::alloc::Global;
-use tink_core::{CloneIn, Draws, Kind, Kinds, Never, Primitive, TinkError, Verifier};
+use tink_io::{Draws, Kind, TinkError};
 use tink_key_types::KeyType;
 use tink_prf::subtle::HmacPrf;
+use tink_primitives::{CloneIn, Kinds, Never, Primitive, Verifier};
 use tink_proto::HashType;
 use tink_proto_keys::{AesCmacPrfKey, AesCmacPrfKeyFormat};
 

@@ -3,16 +3,17 @@
 ghost use Rattle.tink_io.specs.Told.{Answers};
 ghost use Rattle.tink_mac.specs.Wrapped.{primary_mac};
 
-use crate::mac::vectors::is_tag;
+use crate::asked::is_tag;
 use std::alloc::Global;
-use tink_core::keyset::{Handle, Manager};
-use tink_core::registry::Registry;
-use tink_core::{Kind, Mac, TinkError};
+use tink_io::{Kind, TinkError};
+use tink_keysets::keyset::{Handle, Manager};
 use tink_mac::{
     HmacKeyManager, MacKind, WrappedMac, hmac_sha256_tag128_key_template, law_built_macs_are_sound,
     law_macs_outlive_commands, law_old_macs_verify, law_own_tags_accepted, new,
 };
+use tink_primitives::Mac;
 use tink_proto::Bytes;
+use tink_registry::Registry;
 use tink_testutil::{Answer, Ask, Told, draws_of, gives, handle, made, registry_of};
 
 // The MAC of a message by the primary key.

@@ -4,63 +4,24 @@ ghost use Rattle.tink_io.specs.Told.{Answers};
 ghost use Rattle.tink_prf.specs.Sets.{primary_output};
 
 use crate::keys::COUNT;
-use crate::prf::test_keys::TestKeys;
+use crate::test_keys::TestKeys;
 use std::alloc::Global;
 use std::collections::BTreeMap;
-use tink_core::keyset::Handle;
-use tink_core::registry::Registry;
-use tink_core::{Kind, Prf, TinkError};
+use tink_io::{Kind, TinkError};
 use tink_key_types::SymmetricKeyManager;
+use tink_keysets::keyset::Handle;
 use tink_prf::subtle::HmacPrf;
-use tink_prf::{HmacPrfKeyManager, PrfKind, Set, hmac_sha256_prf_key_template};
+use tink_prf::{HmacPrfKeyManager, Set, hmac_sha256_prf_key_template};
+use tink_primitives::Prf;
 use tink_proto::Bytes;
+use tink_registry::Registry;
 use tink_testutil::{Answer, Ask, Told, draws_of, gives, handle, registry_of};
-
-fn set_of(alloc: Global, keyset: &[u8]) -> Result<Set<HmacPrf>, TinkError> {
-    match handle(alloc, keyset) {
-        Ok(h) => Set::new(
-            alloc,
-            &h,
-            &registry_of(alloc, SymmetricKeyManager::<TestKeys>::new())?,
-        ),
-        Err(e) => Err(e),
-    }
-}
-
-// A handle of one key by the template of HMAC, from the draws 1 to 36.
-fn new_handle(alloc: Global, registry: &Registry<HmacPrfKeyManager>) -> Result<Handle, TinkError> {
-    let mut draws = draws_of(alloc, &COUNT[..36])?;
-    match hmac_sha256_prf_key_template(alloc) {
-        Ok(kt) => Handle::new(alloc, &kt, registry, &mut draws),
-        Err(e) => Err(e),
-    }
-}
-
-// The set of its keyset.
-fn new_set_by(
-    alloc: Global,
-    registry: &Registry<HmacPrfKeyManager>,
-) -> Result<Set<PrfKind>, TinkError> {
-    match new_handle(alloc, registry) {
-        Ok(h) => Set::new(alloc, &h, registry),
-        Err(e) => Err(e),
-    }
-}
-
-fn new_set(alloc: Global) -> Result<Set<PrfKind>, TinkError> {
-    match registry_of(alloc, HmacPrfKeyManager::new()) {
-        Ok(registry) => new_set_by(alloc, &registry),
-        Err(e) => Err(e),
-    }
-}
 
 // The keyset of a set.
 enum Keys {
     // Of test keys, in the wire format, and of the primary id 7. Each key has a value, whose field 2 is a text or a
     // zero, an id, and the numbers of a prefix type and of a material.
     Test(&'static [u8]),
-    // A new one.
-    New,
     // No functions, and the primary id 7.
     Nothing,
 }
@@ -112,16 +73,41 @@ fn answered<P: Prf + Drop>(
 // What is asked of the set of a keyset.
 struct Of(Keys, Asked);
 
-impl Ask<()> for Of {
-    fn answer(&self, alloc: Global, _of: &mut ()) -> Result<bool, TinkError> {
+type TestRegistry = Registry<SymmetricKeyManager<TestKeys>>;
+
+impl Ask<TestRegistry> for Of {
+    fn answer(&self, alloc: Global, registry: &mut TestRegistry) -> Result<bool, TinkError> {
         match self.0 {
-            Keys::Test(keyset) => answered(alloc, set_of(alloc, keyset), &self.1),
-            Keys::New => answered(alloc, new_set(alloc), &self.1),
+            Keys::Test(keyset) => match handle(alloc, keyset) {
+                Ok(h) => answered(alloc, Set::new(alloc, &h, registry), &self.1),
+                Err(e) => Err(e),
+            },
             Keys::Nothing => {
                 let prfs: BTreeMap<u32, HmacPrf> = BTreeMap::new(alloc);
                 let primary_id = 7;
                 answered(alloc, Ok(Set { primary_id, prfs }), &self.1)
             }
+        }
+    }
+}
+
+type Hmacs = Registry<HmacPrfKeyManager>;
+
+// A handle of one key by the template of HMAC, from the draws 1 to 36.
+fn new_handle(alloc: Global, registry: &Hmacs) -> Result<Handle, TinkError> {
+    let mut draws = draws_of(alloc, &COUNT[..36])?;
+    match hmac_sha256_prf_key_template(alloc) {
+        Ok(kt) => Handle::new(alloc, &kt, registry, &mut draws),
+        Err(e) => Err(e),
+    }
+}
+
+// A new keyset is asked.
+impl Ask<Hmacs> for Asked {
+    fn answer(&self, alloc: Global, registry: &mut Hmacs) -> Result<bool, TinkError> {
+        match new_handle(alloc, registry) {
+            Ok(h) => answered(alloc, Set::new(alloc, &h, registry), self),
+            Err(e) => Err(e),
         }
     }
 }
@@ -261,25 +247,36 @@ const ROWS: &[(&str, Of, Answer)] = &[
         Of(Keys::Nothing, Asked::Primary(16, b"")),
         Err(Kind::NoPrimary),
     ),
-    // The draws are the bytes of the key and its id.
+];
+
+// The draws are the bytes of the key and its id.
+const NEW_ROWS: &[(&str, Asked, Answer)] = &[
     (
         "the id of a new keyset",
-        Of(Keys::New, Asked::Has(1, 0x2122_2324)),
+        Asked::Has(1, 0x2122_2324),
         Ok(true),
     ),
     (
         "a new keyset",
-        Of(
-            Keys::New,
-            Asked::Primary(
-                16,
-                b"\xa2\x1b\x1f\x5d\x4c\xf4\xf7\x3a\x4d\xd9\x39\x75\x0f\x7a\x06\x6a",
-            ),
+        Asked::Primary(
+            16,
+            b"\xa2\x1b\x1f\x5d\x4c\xf4\xf7\x3a\x4d\xd9\x39\x75\x0f\x7a\x06\x6a",
         ),
         Ok(true),
     ),
 ];
 
 pub fn rows(alloc: Global, told: &mut Told) {
-    told.walk(alloc, (), ROWS);
+    told.walk_made(
+        alloc,
+        registry_of(alloc, SymmetricKeyManager::<TestKeys>::new()),
+        "the registry of test keys",
+        ROWS,
+    );
+    told.walk_made(
+        alloc,
+        registry_of(alloc, HmacPrfKeyManager::new()),
+        "the registry of HMAC",
+        NEW_ROWS,
+    );
 }

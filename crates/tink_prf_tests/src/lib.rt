@@ -1,11 +1,13 @@
-//! Tests of pseudorandom functions and of MACs, of their keys, and of those of a keyset.
+//! Tests of pseudorandom functions, of their keys, and of those of a keyset.
 #![tactic(auto)]
 
+mod asked;
 mod keys;
-mod mac;
-mod prf;
 mod registering;
+mod sets;
 mod sizes;
+mod test_keys;
+mod vectors;
 
 use std::alloc::Global;
 use tink_testutil::Told;
@@ -13,12 +15,11 @@ use tink_testutil::Told;
 /// What all rows tell.
 pub fn rows(alloc: Global) -> Told {
     let mut told = Told::new();
+    keys::hmac_rows(alloc, &mut told);
     keys::rows(alloc, &mut told);
-    mac::vectors::rows(alloc, &mut told);
-    mac::wrapped::rows(alloc, &mut told);
-    prf::sets::rows(alloc, &mut told);
-    prf::vectors::rows(alloc, &mut told);
     registering::rows(alloc, &mut told);
+    sets::rows(alloc, &mut told);
     sizes::rows(alloc, &mut told);
+    vectors::rows(alloc, &mut told);
     told
 }

@@ -1,34 +1,24 @@
 //! Templates, their registration and that of the managers, and constants.
 
 use std::alloc::Global;
-use tink_core::registry::Registry;
-use tink_core::{Kind, TinkError};
-use tink_mac::{
-    CMAC_KEY_VERSION, CMAC_TYPE_URL, HMAC_KEY_VERSION, HMAC_TYPE_URL, MacKinds,
-    aes_cmac_tag128_key_template, hmac_sha256_tag128_key_template, hmac_sha256_tag256_key_template,
-    hmac_sha512_tag256_key_template, hmac_sha512_tag512_key_template,
-};
+use tink_io::{Kind, TinkError};
 use tink_prf::{
     AES_CMAC_PRF_KEY_VERSION, AES_CMAC_PRF_TYPE_URL, HKDF_PRF_KEY_VERSION, HKDF_PRF_TYPE_URL,
-    HMAC_PRF_KEY_VERSION, HMAC_PRF_TYPE_URL, aes_cmac_prf_key_template,
-    hkdf_sha256_prf_key_template, hmac_sha256_prf_key_template, hmac_sha512_prf_key_template,
+    HMAC_PRF_KEY_VERSION, HMAC_PRF_TYPE_URL, PrfKinds, UPSTREAM_VERSION, aes_cmac_prf_key_template,
+    hkdf_sha256_prf_key_template, hmac_sha256_prf_key_template, hmac_sha512_prf_key_template, init,
 };
 use tink_proto::{KeyTemplate, Text};
+use tink_registry::Registry;
 use tink_testutil::{Answer, Ask, Named, Told, made};
 
 // A template's name, its URL, its format and its number of a prefix type.
 type Template = (&'static str, &'static str, &'static [u8], i32);
 
-enum Sort {
-    Macs,
-    Prfs,
-}
-
 enum Step {
     // A manager of the URL is registered.
     Manage(&'static str),
-    // All of a sort are.
-    Init(Sort),
+    // All are.
+    Init,
     // The call of a template's name makes it, and it stands under its name beside its manager.
     Template(Template),
     // There are so many templates, of which this name is the first.
@@ -40,14 +30,9 @@ enum Step {
     Version(u32, u32),
 }
 
-/// The template of a name, as its call makes it.
-pub fn template_of(alloc: Global, name: &str) -> Result<KeyTemplate, TinkError> {
+// The template of a name, as its call makes it.
+fn template_of(alloc: Global, name: &str) -> Result<KeyTemplate, TinkError> {
     match name {
-        "HMAC_SHA256_128BITTAG" => hmac_sha256_tag128_key_template(alloc),
-        "HMAC_SHA256_256BITTAG" => hmac_sha256_tag256_key_template(alloc),
-        "HMAC_SHA512_256BITTAG" => hmac_sha512_tag256_key_template(alloc),
-        "HMAC_SHA512_512BITTAG" => hmac_sha512_tag512_key_template(alloc),
-        "AES_CMAC" => aes_cmac_tag128_key_template(alloc),
         "HKDF_SHA256" => hkdf_sha256_prf_key_template(alloc),
         "HMAC_SHA256_PRF" => hmac_sha256_prf_key_template(alloc),
         "HMAC_SHA512_PRF" => hmac_sha512_prf_key_template(alloc),
@@ -65,7 +50,7 @@ fn is_template(kt: &KeyTemplate, template: &Template) -> bool {
 // Whether the call of a template's name makes it, and it stands in a registry under its name beside its manager.
 fn is_made_and_registered(
     alloc: Global,
-    registry: &Registry<Named<MacKinds>>,
+    registry: &Registry<Named<PrfKinds>>,
     template: &Template,
 ) -> Result<bool, TinkError> {
     let found = match registry.get_template_generator(template.0) {
@@ -95,16 +80,15 @@ fn are_names(
     }
 }
 
-impl Ask<Registry<Named<MacKinds>>> for Step {
+impl Ask<Registry<Named<PrfKinds>>> for Step {
     fn answer(
         &self,
         alloc: Global,
-        registry: &mut Registry<Named<MacKinds>>,
+        registry: &mut Registry<Named<PrfKinds>>,
     ) -> Result<bool, TinkError> {
         match *self {
             Step::Manage(url) => made(registry.register_key_manager(alloc, Named::new(url))),
-            Step::Init(Sort::Macs) => made(tink_mac::init(alloc, registry)),
-            Step::Init(Sort::Prfs) => made(tink_prf::init(alloc, registry)),
+            Step::Init => made(init(alloc, registry)),
             Step::Template(ref template) => is_made_and_registered(alloc, registry, template),
             Step::Names(n, first) => are_names(registry.template_names(alloc), n, first),
             Step::HasNot(url) => Ok(registry.get_key_manager(url).is_err()),
@@ -118,65 +102,9 @@ const THERE: Answer = Err(Kind::AlreadyRegistered);
 
 type Row = (&'static str, Step, Answer);
 
-// Formats that were spelled by hand.
-const MACS: &[Row] = &[
-    ("the MACs", Step::Init(Sort::Macs), Ok(true)),
-    (
-        "HMAC_SHA256_128BITTAG",
-        Step::Template((
-            "HMAC_SHA256_128BITTAG",
-            HMAC_TYPE_URL,
-            b"\x0a\x04\x08\x03\x10\x10\x10\x20",
-            1,
-        )),
-        Ok(true),
-    ),
-    (
-        "HMAC_SHA256_256BITTAG",
-        Step::Template((
-            "HMAC_SHA256_256BITTAG",
-            HMAC_TYPE_URL,
-            b"\x0a\x04\x08\x03\x10\x20\x10\x20",
-            1,
-        )),
-        Ok(true),
-    ),
-    (
-        "HMAC_SHA512_256BITTAG",
-        Step::Template((
-            "HMAC_SHA512_256BITTAG",
-            HMAC_TYPE_URL,
-            b"\x0a\x04\x08\x04\x10\x20\x10\x40",
-            1,
-        )),
-        Ok(true),
-    ),
-    (
-        "HMAC_SHA512_512BITTAG",
-        Step::Template((
-            "HMAC_SHA512_512BITTAG",
-            HMAC_TYPE_URL,
-            b"\x0a\x04\x08\x04\x10\x40\x10\x40",
-            1,
-        )),
-        Ok(true),
-    ),
-    (
-        "AES_CMAC",
-        Step::Template(("AES_CMAC", CMAC_TYPE_URL, b"\x08\x20\x12\x02\x08\x10", 1)),
-        Ok(true),
-    ),
-    (
-        "the templates of MACs, and no more",
-        Step::Names(5, "AES_CMAC"),
-        Ok(true),
-    ),
-    ("the MACs again", Step::Init(Sort::Macs), THERE),
-];
-
 // Params are field 1 of the first three formats, and the size of keys field 2; for AES-CMAC the size is field 1.
-const PRFS: &[Row] = &[
-    ("the PRFs", Step::Init(Sort::Prfs), Ok(true)),
+const TEMPLATES: &[Row] = &[
+    ("the PRFs", Step::Init, Ok(true)),
     (
         "HKDF_SHA256",
         Step::Template((
@@ -217,28 +145,17 @@ const PRFS: &[Row] = &[
         Step::Names(4, "AES_CMAC_PRF"),
         Ok(true),
     ),
-    ("the PRFs again", Step::Init(Sort::Prfs), THERE),
+    ("the PRFs again", Step::Init, THERE),
 ];
 
 // What is refused registers nothing.
-const MACS_BESIDE: &[Row] = &[
-    ("a URL of MACs", Step::Manage(CMAC_TYPE_URL), Ok(true)),
-    ("MACs where a URL is taken", Step::Init(Sort::Macs), THERE),
-    ("no templates beside it", Step::Names(0, ""), Ok(true)),
-    (
-        "no other URL beside it",
-        Step::HasNot(HMAC_TYPE_URL),
-        Ok(true),
-    ),
-];
-
-const PRFS_BESIDE: &[Row] = &[
+const BESIDE: &[Row] = &[
     (
         "a URL of PRFs",
         Step::Manage(AES_CMAC_PRF_TYPE_URL),
         Ok(true),
     ),
-    ("PRFs where a URL is taken", Step::Init(Sort::Prfs), THERE),
+    ("PRFs where a URL is taken", Step::Init, THERE),
     ("no templates beside it", Step::Names(0, ""), Ok(true)),
     (
         "no other URL beside it",
@@ -249,29 +166,8 @@ const PRFS_BESIDE: &[Row] = &[
 
 const CONSTANTS: &[Row] = &[
     (
-        "the upstream of MACs",
-        Step::Text(tink_mac::UPSTREAM_VERSION, "1.6.0"),
-        Ok(true),
-    ),
-    (
         "the upstream of PRFs",
-        Step::Text(tink_prf::UPSTREAM_VERSION, "1.6.0"),
-        Ok(true),
-    ),
-    (
-        "the URL of HMAC",
-        Step::Text(
-            HMAC_TYPE_URL,
-            "type.googleapis.com/google.crypto.tink.HmacKey",
-        ),
-        Ok(true),
-    ),
-    (
-        "the URL of AES-CMAC",
-        Step::Text(
-            CMAC_TYPE_URL,
-            "type.googleapis.com/google.crypto.tink.AesCmacKey",
-        ),
+        Step::Text(UPSTREAM_VERSION, "1.6.0"),
         Ok(true),
     ),
     (
@@ -299,16 +195,6 @@ const CONSTANTS: &[Row] = &[
         Ok(true),
     ),
     (
-        "the version of HMAC",
-        Step::Version(HMAC_KEY_VERSION, 0),
-        Ok(true),
-    ),
-    (
-        "the version of AES-CMAC",
-        Step::Version(CMAC_KEY_VERSION, 0),
-        Ok(true),
-    ),
-    (
         "the version of the HMAC PRF",
         Step::Version(HMAC_PRF_KEY_VERSION, 0),
         Ok(true),
@@ -325,19 +211,9 @@ const CONSTANTS: &[Row] = &[
     ),
 ];
 
-fn prfs(alloc: Global, told: &mut Told) {
-    told.walk(alloc, Registry::new(alloc), PRFS);
-    told.walk(alloc, Registry::new(alloc), PRFS_BESIDE);
-}
-
-fn macs(alloc: Global, told: &mut Told) {
-    told.walk(alloc, Registry::new(alloc), MACS);
-    told.walk(alloc, Registry::new(alloc), MACS_BESIDE);
-}
-
 // The tables are of a new registry each.
 pub fn rows(alloc: Global, told: &mut Told) {
     told.walk(alloc, Registry::new(alloc), CONSTANTS);
-    macs(alloc, told);
-    prfs(alloc, told);
+    told.walk(alloc, Registry::new(alloc), TEMPLATES);
+    told.walk(alloc, Registry::new(alloc), BESIDE);
 }

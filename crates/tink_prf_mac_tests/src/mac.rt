@@ -1,4 +1,0 @@
-//! MACs.
-
-pub mod vectors;
-pub mod wrapped;

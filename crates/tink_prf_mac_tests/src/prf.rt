@@ -1,5 +1,0 @@
-//! Pseudorandom functions.
-
-pub mod sets;
-mod test_keys;
-pub mod vectors;
