@@ -19,6 +19,11 @@ fn keys_of_streams(rt: HostRuntime) {
 }
 
 #[test]
+fn types_of_keys_of_streams(rt: HostRuntime) {
+    hold(&rt, tink_stream_key_types_tests::rows(rt.alloc()));
+}
+
+#[test]
 fn streaming_aeads(rt: HostRuntime) {
     hold(&rt, tink_streaming_aead_tests::rows(rt.alloc()));
 }

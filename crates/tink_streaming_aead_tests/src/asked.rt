@@ -1,12 +1,12 @@
 //! What is asked of the keys of a keyset, and the one answer.
 
-use crate::streams::{Way, flipped, give_into, reader_by, written};
+use crate::streams::{PIECES, Way, flipped, gives, reader_by, written};
 use std::alloc::Global;
 use tink_io::{Kind, MemSource, TinkError};
 use tink_streaming_aead::{DecryptReader, WrappedStreamingAead};
 
-/// The text of the stream that Python made.
-pub const TEXT: &[u8; 60] = b"sixty bytes of text, which are in three segments of a stream";
+// The text of the stream that Python made.
+const TEXT: &[u8; 60] = b"sixty bytes of text, which are in three segments of a stream";
 
 /// The text's stream with "data" in segments of 50 bytes: HKDF with SHA-256, AES-128-GCM.
 pub const BY_GCM: &[u8; 132] =
@@ -24,7 +24,7 @@ pub struct Reading {
     pub segments: u64,
 }
 
-/// Reads of the whole text, and at its end.
+/// Reads of Python's whole text, and at its end.
 pub const WHOLE: Reading = Reading {
     changed: 999,
     fails: 0,
@@ -34,17 +34,24 @@ pub const WHOLE: Reading = Reading {
     segments: 3,
 };
 
+/// What a text is sealed to: how it is written, the first bytes of the stream, its last bytes, how many it has, and how many
+/// the one has of which it is the front, which is written in pieces and closed; and what its reads give.
+pub struct Sealing {
+    pub way: Way,
+    pub front: &'static [u8],
+    pub back: &'static [u8],
+    pub length: usize,
+    pub closed: usize,
+    pub reading: Reading,
+}
+
 /// What is asked.
 pub enum Asked {
-    /// That a text of so many bytes is sealed to a stream of so many, which begins with the prefix and the length of its
-    /// header, and opens to the text.
-    Seals(usize, usize, &'static [u8], u8),
-    /// That a writer that is dropped after so many bytes leaves so many bytes of a stream of so many, in which no key
-    /// opens anything.
-    Drops(usize, usize, usize),
-    /// That the text is sealed to the prefix and Python's stream, of so many bytes together.
-    SealsTo(&'static [u8], usize),
-    /// That reads of a stream give so much.
+    /// What a text of so many bytes is sealed to, no two neighbours of which are the same.
+    Seals(usize, Sealing),
+    /// What Python's text is sealed to.
+    SealsTo(Sealing),
+    /// What reads of a stream of Python's text give.
     Reads(&'static [u8], Reading),
 }
 
@@ -57,139 +64,19 @@ fn text_of(alloc: Global, n: usize) -> Result<Vec<u8>, TinkError> {
     Ok(text)
 }
 
-// Whether these are the first bytes of that text.
-fn is_text(bytes: &[u8]) -> bool {
-    for (place, byte) in bytes.iter().enumerate() {
-        if usize::from(*byte) != place % 251 {
-            return false;
-        }
-    }
-    true
-}
-
-fn sealed(
-    alloc: Global,
-    aeads: &WrappedStreamingAead,
-    n: usize,
-    way: &Way,
-) -> Result<Vec<u8>, TinkError> {
-    match text_of(alloc, n) {
-        Ok(text) => written(alloc, aeads, &text, way),
-        Err(e) => Err(e),
-    }
-}
-
-fn open_into(
-    alloc: Global,
-    aeads: &WrappedStreamingAead,
-    stream: &[u8],
-    text: &mut Vec<u8>,
-) -> Result<Option<Kind>, TinkError> {
-    match reader_by(alloc, aeads, stream.to_vec(alloc), 0) {
-        Ok(mut reader) => give_into(&mut reader, text),
-        Err(e) => Err(e),
-    }
-}
-
-// Whether a stream opens to so many bytes of the text, up to a refusal.
-fn opens(
-    alloc: Global,
-    aeads: &WrappedStreamingAead,
-    stream: &[u8],
-    n: usize,
-    refused: Option<Kind>,
-) -> Result<bool, TinkError> {
-    let mut text = Vec::new(alloc);
-    match open_into(alloc, aeads, stream, &mut text) {
-        Ok(told) => Ok((told == refused) & (text.len() == n) & is_text(&text)),
-        Err(e) => Err(e),
-    }
-}
-
-fn seals(
-    alloc: Global,
-    aeads: &WrappedStreamingAead,
-    (n, length): (usize, usize),
-    out: &[u8],
-    header: u8,
-) -> Result<bool, TinkError> {
-    match sealed(alloc, aeads, n, &Way::Pieces) {
-        Ok(stream) => {
-            if stream.starts_with(out)
-                & (stream.get(out.len()) == Some(&header))
-                & (stream.len() == length)
-            {
-                opens(alloc, aeads, &stream, n, None)
-            } else {
-                Ok(false)
-            }
-        }
-        Err(e) => Err(e),
-    }
-}
-
-fn drops_from(
-    alloc: Global,
-    aeads: &WrappedStreamingAead,
-    whole: &[u8],
-    n: usize,
-    front: usize,
-) -> Result<bool, TinkError> {
-    match sealed(alloc, aeads, n, &Way::Dropped) {
-        Ok(dropped) => {
-            if whole.starts_with(&dropped) & (dropped.len() == front) {
-                opens(alloc, aeads, &dropped, 0, Some(Kind::NoMatchingKey))
-            } else {
-                Ok(false)
-            }
-        }
-        Err(e) => Err(e),
-    }
-}
-
-fn drops(
-    alloc: Global,
-    aeads: &WrappedStreamingAead,
-    n: usize,
-    (front, length): (usize, usize),
-) -> Result<bool, TinkError> {
-    match sealed(alloc, aeads, n, &Way::Pieces) {
-        Ok(whole) if whole.len() == length => drops_from(alloc, aeads, &whole, n, front),
-        Ok(_) => Ok(false),
-        Err(e) => Err(e),
-    }
-}
-
-// Whether reads up to the end give so many bytes of Python's text.
-fn gives(
-    alloc: Global,
-    reader: &mut DecryptReader<MemSource>,
-    bytes: usize,
-    refused: Option<Kind>,
-) -> Result<bool, TinkError> {
-    let mut text = Vec::new(alloc);
-    match give_into(reader, &mut text) {
-        Ok(told) => Ok((told == refused) & (text.len() == bytes) & TEXT.starts_with(&text)),
-        Err(e) => Err(e),
-    }
-}
-
-fn gives_twice(
-    alloc: Global,
-    reader: &mut DecryptReader<MemSource>,
-    asked: &Reading,
-) -> Result<bool, TinkError> {
+fn gives_twice(reader: &mut DecryptReader<MemSource>, text: &[u8], asked: &Reading) -> bool {
     let nothing = (reader.read(&mut []) == Ok(0)) & (reader.segments() == 0);
-    let first = gives(alloc, reader, asked.bytes, asked.refused)?;
+    let first = gives(reader, text, asked.bytes, asked.refused);
     let opened = reader.segments() == asked.segments;
-    let again = gives(alloc, reader, 0, asked.again)?;
-    Ok(nothing & first & opened & again & (reader.segments() == asked.segments))
+    let again = gives(reader, text, 0, asked.again);
+    nothing & first & opened & again & (reader.segments() == asked.segments)
 }
 
 fn reads(
     alloc: Global,
     aeads: &WrappedStreamingAead,
     stream: &[u8],
+    text: &[u8],
     asked: &Reading,
 ) -> Result<bool, TinkError> {
     match reader_by(
@@ -198,25 +85,65 @@ fn reads(
         flipped(alloc, stream, asked.changed),
         asked.fails,
     ) {
-        Ok(mut reader) => gives_twice(alloc, &mut reader, asked),
+        Ok(mut reader) => Ok(gives_twice(&mut reader, text, asked)),
         Err(e) => Err(e),
     }
 }
 
-fn seals_to(
+// Whether a stream is the front of one that is written in pieces and closed, of so many bytes.
+fn is_front(
     alloc: Global,
     aeads: &WrappedStreamingAead,
-    out: &[u8],
-    length: usize,
+    stream: &[u8],
+    text: &[u8],
+    closed: usize,
 ) -> Result<bool, TinkError> {
-    match written(alloc, aeads, TEXT, &Way::Whole) {
-        Ok(stream) => {
-            if stream.starts_with(out) & stream.ends_with(BY_GCM) & (stream.len() == length) {
-                reads(alloc, aeads, &stream, &WHOLE)
-            } else {
-                Ok(false)
-            }
+    match written(alloc, aeads, text, &PIECES) {
+        Ok(whole) => Ok(whole.starts_with(stream) & (whole.len() == closed)),
+        Err(e) => Err(e),
+    }
+}
+
+fn is_sealed(
+    alloc: Global,
+    aeads: &WrappedStreamingAead,
+    stream: &[u8],
+    text: &[u8],
+    asked: &Sealing,
+) -> Result<bool, TinkError> {
+    if stream.starts_with(asked.front)
+        & stream.ends_with(asked.back)
+        & (stream.len() == asked.length)
+    {
+        match is_front(alloc, aeads, stream, text, asked.closed) {
+            Ok(true) => reads(alloc, aeads, stream, text, &asked.reading),
+            told => told,
         }
+    } else {
+        Ok(false)
+    }
+}
+
+fn seals(
+    alloc: Global,
+    aeads: &WrappedStreamingAead,
+    text: &[u8],
+    asked: &Sealing,
+) -> Result<bool, TinkError> {
+    match written(alloc, aeads, text, &asked.way) {
+        Ok(stream) => is_sealed(alloc, aeads, &stream, text, asked),
+        Err(e) => Err(e),
+    }
+}
+
+fn seals_long(
+    alloc: Global,
+    aeads: &WrappedStreamingAead,
+    n: usize,
+    asked: &Sealing,
+) -> Result<bool, TinkError> {
+    match text_of(alloc, n) {
+        Ok(text) => seals(alloc, aeads, &text, asked),
         Err(e) => Err(e),
     }
 }
@@ -228,9 +155,8 @@ pub fn answered(
     asked: &Asked,
 ) -> Result<bool, TinkError> {
     match *asked {
-        Asked::Seals(n, length, out, header) => seals(alloc, aeads, (n, length), out, header),
-        Asked::Drops(n, front, length) => drops(alloc, aeads, n, (front, length)),
-        Asked::SealsTo(out, length) => seals_to(alloc, aeads, out, length),
-        Asked::Reads(stream, ref asked) => reads(alloc, aeads, stream, asked),
+        Asked::Seals(n, ref asked) => seals_long(alloc, aeads, n, asked),
+        Asked::SealsTo(ref asked) => seals(alloc, aeads, TEXT, asked),
+        Asked::Reads(stream, ref asked) => reads(alloc, aeads, stream, TEXT, asked),
     }
 }

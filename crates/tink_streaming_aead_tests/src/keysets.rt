@@ -35,32 +35,20 @@ pub const LEGACY: Keys = Keys::Wire(
     b"\x08\x03\x12\x6b\x0a\x63\x0a\x3dtype.googleapis.com/google.crypto.tink.AesCtrHmacStreamingKey\x12\x20\x12\x0c\x08\x32\x10\x10\x18\x03\x22\x04\x08\x03\x10\x0a\x1a\x10\x00\x01\x02\x03\x04\x05\x06\x07\x08\x09\x0a\x0b\x0c\x0d\x0e\x0f\x18\x01\x10\x01\x18\x01\x20\x03\x12\x66\x0a\x5e\x0a\x3dtype.googleapis.com/google.crypto.tink.AesGcmHkdfStreamingKey\x12\x1b\x12\x07\x08\x80\x20\x10\x10\x18\x03\x1a\x10\x00\x01\x02\x03\x04\x05\x06\x07\x08\x09\x0a\x0b\x0c\x0d\x0e\x0f\x18\x01\x10\x01\x18\x02\x20\x03\x12\x65\x0a\x5d\x0a\x3dtype.googleapis.com/google.crypto.tink.AesGcmHkdfStreamingKey\x12\x1a\x12\x06\x08\x32\x10\x10\x18\x03\x1a\x10\x00\x01\x02\x03\x04\x05\x06\x07\x08\x09\x0a\x0b\x0c\x0d\x0e\x0f\x18\x01\x10\x01\x18\x03\x20\x02",
 );
 
-fn new_handle(
-    alloc: Global,
-    registry: &Registry<Streams>,
-    kt: &KeyTemplate,
-) -> Result<Handle, TinkError> {
-    match draws_of(alloc, &[7; 40]) {
-        Ok(mut draws) => Handle::new(alloc, kt, registry, &mut draws),
-        Err(e) => Err(e),
-    }
-}
-
 fn of_template(
     alloc: Global,
     registry: &Registry<Streams>,
     kt: &KeyTemplate,
     prefix: OutputPrefixType,
 ) -> Result<Handle, TinkError> {
-    match template(
+    let kt = template(
         alloc,
         kt.type_url.as_str(),
         kt.value.as_slice(),
         prefix as i32,
-    ) {
-        Ok(kt) => new_handle(alloc, registry, &kt),
-        Err(e) => Err(e),
-    }
+    )?;
+    let mut draws = draws_of(alloc, &[7; 40])?;
+    Handle::new(alloc, &kt, registry, &mut draws)
 }
 
 fn handle(alloc: Global, registry: &Registry<Streams>, keys: &Keys) -> Result<Handle, TinkError> {

@@ -10,67 +10,46 @@ use tink_testutil::draws_of;
 const DRAWS: &[u8; 39] =
     b"\x40\x41\x42\x43\x44\x45\x46\x47\x48\x49\x4a\x4b\x4c\x4d\x4e\x4f\x50\x51\x52\x53\x54\x55\x56\x57\x58\x59\x5a\x5b\x5c\x5d\x5e\x5f\x60\x61\x62\x63\x64\x65\x66";
 
-/// How a text is written.
-pub enum Way {
-    /// At once, and closed.
-    Whole,
-    /// In pieces of ten, each flushed, and closed.
-    Pieces,
-    /// The same, and the writer is dropped.
-    Dropped,
+/// How a text is written: in pieces of so many bytes, whether each is flushed, and whether the writer is closed, or dropped.
+pub struct Way {
+    pieces: usize,
+    flushes: bool,
+    closes: bool,
 }
 
-fn write_piece(
-    writer: &mut Writer<Lent<MemSink>, StreamSegment>,
-    piece: &[u8],
-) -> Result<(), TinkError> {
-    match writer.write(piece) {
-        Ok(_) => writer.flush(),
-        Err(e) => Err(e),
-    }
-}
+/// At once, and closed.
+pub const AT_ONCE: Way = Way {
+    pieces: usize::MAX,
+    flushes: false,
+    closes: true,
+};
 
-fn write_pieces(
-    writer: &mut Writer<Lent<MemSink>, StreamSegment>,
-    text: &[u8],
-) -> Result<(), TinkError> {
-    for piece in text.chunks(10) {
-        write_piece(writer, piece)?;
-    }
-    Ok(())
-}
+/// In pieces of ten, each flushed, and closed.
+pub const PIECES: Way = Way {
+    pieces: 10,
+    flushes: true,
+    closes: true,
+};
 
-// Closes a writer after a call that was Ok.
-fn close_by<T>(
-    told: Result<T, TinkError>,
-    writer: &mut Writer<Lent<MemSink>, StreamSegment>,
-) -> Result<(), TinkError>
-where
-    T: Drop,
-{
-    match told {
-        Ok(_) => writer.close(),
-        Err(e) => Err(e),
-    }
-}
+/// The same, and the writer is dropped.
+pub const DROPPED: Way = Way {
+    pieces: 10,
+    flushes: true,
+    closes: false,
+};
 
 fn write_by(
     writer: &mut Writer<Lent<MemSink>, StreamSegment>,
     text: &[u8],
     way: &Way,
 ) -> Result<(), TinkError> {
-    match *way {
-        Way::Dropped => write_pieces(writer, text),
-        Way::Pieces => close_by(write_pieces(writer, text), writer),
-        Way::Whole => close_by(writer.write(text), writer),
+    for piece in text.chunks(way.pieces.max(1)) {
+        writer.write(piece)?;
+        if way.flushes {
+            writer.flush()?;
+        }
     }
-}
-
-// A sink with room for 9,000 bytes, of which a call takes ten.
-fn sink_of(alloc: Global) -> Result<MemSink, TinkError> {
-    let mut sink = MemSink::new(alloc, 10, Vec::new(alloc));
-    sink.reserve(alloc, 9000)?;
-    Ok(sink)
+    if way.closes { writer.close() } else { Ok(()) }
 }
 
 fn write_into(
@@ -87,54 +66,29 @@ fn write_into(
     }
 }
 
-fn write_drawn(
-    alloc: Global,
-    aeads: &WrappedStreamingAead,
-    sink: &mut MemSink,
-    text: &[u8],
-    way: &Way,
-) -> Result<(), TinkError> {
-    match draws_of(alloc, DRAWS) {
-        Ok(mut draws) => write_into(alloc, aeads, sink, &mut draws, text, way),
-        Err(e) => Err(e),
-    }
-}
-
-/// What stands in a sink after a text was written by the primary key.
+/// What stands in a sink, with room for 9,000 bytes, of which a call takes ten, after a text was written by the primary key.
 pub fn written(
     alloc: Global,
     aeads: &WrappedStreamingAead,
     text: &[u8],
     way: &Way,
 ) -> Result<Vec<u8>, TinkError> {
-    let mut sink = sink_of(alloc)?;
-    match write_drawn(alloc, aeads, &mut sink, text, way) {
+    let mut draws = draws_of(alloc, DRAWS)?;
+    let mut sink = MemSink::new(alloc, 10, Vec::new(alloc));
+    sink.reserve(alloc, 9000)?;
+    match write_into(alloc, aeads, &mut sink, &mut draws, text, way) {
         Ok(()) => Ok(sink.into_bytes()),
         Err(e) => Err(e),
-    }
-}
-
-fn flip(bytes: &mut [u8], place: usize) {
-    if let Some(byte) = bytes.get_mut(place) {
-        *byte ^= 1;
     }
 }
 
 /// A stream with one byte changed, if it has one in that place.
 pub fn flipped(alloc: Global, stream: &[u8], place: usize) -> Result<Vec<u8>, AllocError> {
     let mut bytes = stream.to_vec(alloc)?;
-    flip(&mut bytes, place);
+    if let Some(byte) = bytes.get_mut(place) {
+        *byte ^= 1;
+    }
     Ok(bytes)
-}
-
-// A source that gives ten bytes in a call, of which that one fails.
-fn source_of(
-    alloc: Global,
-    stream: Result<Vec<u8>, AllocError>,
-    fails: u32,
-) -> Result<MemSource, TinkError> {
-    let stream = stream?;
-    Ok(MemSource::new(stream, 10, vec![in alloc; fails]?))
 }
 
 /// A reader of a stream from a source that gives ten bytes in a call, of which that one fails.
@@ -144,24 +98,31 @@ pub fn reader_by(
     stream: Result<Vec<u8>, AllocError>,
     fails: u32,
 ) -> Result<DecryptReader<MemSource>, TinkError> {
-    match stream_in(alloc, aeads, source_of(alloc, stream, fails)?, b"data") {
+    let source = MemSource::new(stream?, 10, vec![in alloc; fails]?);
+    match stream_in(alloc, aeads, source, b"data") {
         Ok(reader) => Ok(reader),
         Err(refused) => Err(refused.error),
     }
 }
 
-/// Reads to a buffer of ten bytes up to the end, and answers by what they are refused.
-pub fn give_into(
+/// Whether reads to a buffer of ten bytes up to the end give the first bytes of a text, so many, and are refused by this.
+pub fn gives(
     reader: &mut DecryptReader<MemSource>,
-    text: &mut Vec<u8>,
-) -> Result<Option<Kind>, TinkError> {
+    text: &[u8],
+    bytes: usize,
+    refused: Option<Kind>,
+) -> bool {
     let mut buf = [0u8; 10];
+    let mut got = 0usize;
     for _ in 0..1000 {
         match reader.read(&mut buf) {
-            Ok(0) => return Ok(None),
-            Ok(n) => text.extend_from_slice(&buf[..n])?,
-            Err(e) => return Ok(Some(e.kind)),
+            Ok(0) => return (got == bytes) & refused.is_none(),
+            Ok(n) => match text.get(got..) {
+                Some(rest) if rest.starts_with(&buf[..n]) => got = got.saturating_add(n),
+                _ => return false,
+            },
+            Err(e) => return (got == bytes) & (refused == Some(e.kind)),
         }
     }
-    Ok(Some(Kind::TooManySegments))
+    false
 }

@@ -1,8 +1,9 @@
 //! The rows.
 
-use crate::asked::{Asked, BY_GCM, Reading, WHOLE, answered};
+use crate::asked::{Asked, BY_GCM, Reading, Sealing, WHOLE, answered};
 use crate::keysets::{Keys, LEGACY, RAW, TINK, aeads_of};
 use crate::one_of::Streams;
+use crate::streams::{AT_ONCE, DROPPED, PIECES};
 use std::alloc::Global;
 use tink_core::registry::Registry;
 use tink_io::{Cause, Kind, TinkError};
@@ -26,32 +27,63 @@ impl Ask<Registry<Streams>> for Of {
     }
 }
 
-// That no key opens a stream.
-macro_rules! opens_nothing {
-    ($stream:expr) => {
-        Asked::Reads(
-            $stream,
-            Reading {
-                changed: 999,
-                fails: 0,
-                bytes: 0,
-                refused: Some(Kind::NoMatchingKey),
-                again: Some(Kind::FailedBefore(Cause::NoMatchingKey)),
-                segments: 0,
-            },
-        )
+// No key opens a stream.
+const NOTHING: Reading = Reading {
+    changed: 999,
+    fails: 0,
+    bytes: 0,
+    refused: Some(Kind::NoMatchingKey),
+    again: Some(Kind::FailedBefore(Cause::NoMatchingKey)),
+    segments: 0,
+};
+
+// All so many bytes of a text are read, in so many segments.
+macro_rules! all {
+    ($bytes:literal, $segments:literal) => {
+        Reading {
+            changed: 999,
+            fails: 0,
+            bytes: $bytes,
+            refused: None,
+            again: None,
+            segments: $segments,
+        }
+    };
+}
+
+// That Python's text is sealed to the prefix and Python's stream, of so many bytes together.
+macro_rules! seals_to {
+    ($prefix:literal, $length:literal) => {
+        Asked::SealsTo(Sealing {
+            way: AT_ONCE,
+            front: $prefix,
+            back: BY_GCM,
+            length: $length,
+            closed: $length,
+            reading: WHOLE,
+        })
     };
 }
 
 // That a new key of a template, with a prefix of this type, seals 60 bytes of text to so many, which begin with the prefix
 // and the length of the header.
 macro_rules! new_key {
-    ($name:literal, $prefix:ident, $length:literal, $out:literal, $header:literal) => {
+    ($name:literal, $prefix:ident, $length:literal, $front:literal) => {
         (
             $name,
             Of(
                 Keys::Named($name, OutputPrefixType::$prefix),
-                Asked::Seals(60, $length, $out, $header),
+                Asked::Seals(
+                    60,
+                    Sealing {
+                        way: PIECES,
+                        front: $front,
+                        back: b"",
+                        length: $length,
+                        closed: $length,
+                        reading: all!(60, 1),
+                    },
+                ),
             ),
             Ok(true),
         )
@@ -62,13 +94,39 @@ const ROWS: &[(&str, Of, Answer)] = &[
     // 8,205 bytes of text in three segments: 4,056, 4,080 and 69.
     (
         "a handle seals in pieces of ten",
-        Of(GCM, Asked::Seals(8205, 8277, b"", 24)),
+        Of(
+            GCM,
+            Asked::Seals(
+                8205,
+                Sealing {
+                    way: PIECES,
+                    front: b"\x18",
+                    back: b"",
+                    length: 8277,
+                    closed: 8277,
+                    reading: all!(8205, 3),
+                },
+            ),
+        ),
         Ok(true),
     ),
     // Of 4,041 bytes of text 4,040 are in the first segment, which is not marked.
     (
         "a dropped writer leaves no marked segment",
-        Of(CTR, Asked::Drops(4041, 4096, 4129)),
+        Of(
+            CTR,
+            Asked::Seals(
+                4041,
+                Sealing {
+                    way: DROPPED,
+                    front: b"\x18",
+                    back: b"",
+                    length: 4096,
+                    closed: 4129,
+                    reading: NOTHING,
+                },
+            ),
+        ),
         Ok(true),
     ),
     (
@@ -78,17 +136,17 @@ const ROWS: &[(&str, Of, Answer)] = &[
     ),
     (
         "a stream without a prefix",
-        Of(RAW, Asked::SealsTo(b"", 132)),
+        Of(RAW, seals_to!(b"", 132)),
         Ok(true),
     ),
     (
         "a TINK stream",
-        Of(TINK, Asked::SealsTo(b"\x01\0\0\0\x03", 137)),
+        Of(TINK, seals_to!(b"\x01\0\0\0\x03", 137)),
         Ok(true),
     ),
     (
         "a LEGACY stream",
-        Of(LEGACY, Asked::SealsTo(b"\0\0\0\0\x03", 137)),
+        Of(LEGACY, seals_to!(b"\0\0\0\0\x03", 137)),
         Ok(true),
     ),
     (
@@ -98,24 +156,28 @@ const ROWS: &[(&str, Of, Answer)] = &[
     ),
     (
         "a TINK stream without its prefix",
-        Of(TINK, opens_nothing!(BY_GCM)),
+        Of(TINK, Asked::Reads(BY_GCM, NOTHING)),
         Ok(true),
     ),
     (
         "a LEGACY stream without its prefix",
-        Of(LEGACY, opens_nothing!(BY_GCM)),
+        Of(LEGACY, Asked::Reads(BY_GCM, NOTHING)),
         Ok(true),
     ),
-    ("no stream", Of(RAW, opens_nothing!(b"")), Ok(true)),
-    ("a header alone", Of(RAW, opens_nothing!(HEADER)), Ok(true)),
+    ("no stream", Of(RAW, Asked::Reads(b"", NOTHING)), Ok(true)),
+    (
+        "a header alone",
+        Of(RAW, Asked::Reads(HEADER, NOTHING)),
+        Ok(true),
+    ),
     (
         "another salt",
-        Of(RAW, opens_nothing!(&[24; 100])),
+        Of(RAW, Asked::Reads(&[24; 100], NOTHING)),
         Ok(true),
     ),
     (
         "no length of a header",
-        Of(RAW, opens_nothing!(&[25; 100])),
+        Of(RAW, Asked::Reads(&[25; 100], NOTHING)),
         Ok(true),
     ),
     (
@@ -166,178 +228,154 @@ const NEW_KEYS: &[(&str, Of, Answer)] = &[
         "AES128_CTR_HMAC_SHA256_4KB",
         Tink,
         121,
-        b"\x01\x07\x07\x07\x07",
-        24
+        b"\x01\x07\x07\x07\x07\x18"
     ),
     new_key!(
         "AES128_CTR_HMAC_SHA256_4KB",
         Legacy,
         121,
-        b"\0\x07\x07\x07\x07",
-        24
+        b"\0\x07\x07\x07\x07\x18"
     ),
     new_key!(
         "AES128_CTR_HMAC_SHA256_4KB",
         Crunchy,
         121,
-        b"\0\x07\x07\x07\x07",
-        24
+        b"\0\x07\x07\x07\x07\x18"
     ),
-    new_key!("AES128_CTR_HMAC_SHA256_4KB", Raw, 116, b"", 24),
+    new_key!("AES128_CTR_HMAC_SHA256_4KB", Raw, 116, b"\x18"),
     new_key!(
         "AES128_CTR_HMAC_SHA256_1MB",
         Tink,
         121,
-        b"\x01\x07\x07\x07\x07",
-        24
+        b"\x01\x07\x07\x07\x07\x18"
     ),
     new_key!(
         "AES128_CTR_HMAC_SHA256_1MB",
         Legacy,
         121,
-        b"\0\x07\x07\x07\x07",
-        24
+        b"\0\x07\x07\x07\x07\x18"
     ),
     new_key!(
         "AES128_CTR_HMAC_SHA256_1MB",
         Crunchy,
         121,
-        b"\0\x07\x07\x07\x07",
-        24
+        b"\0\x07\x07\x07\x07\x18"
     ),
-    new_key!("AES128_CTR_HMAC_SHA256_1MB", Raw, 116, b"", 24),
+    new_key!("AES128_CTR_HMAC_SHA256_1MB", Raw, 116, b"\x18"),
     new_key!(
         "AES256_CTR_HMAC_SHA256_4KB",
         Tink,
         137,
-        b"\x01\x07\x07\x07\x07",
-        40
+        b"\x01\x07\x07\x07\x07\x28"
     ),
     new_key!(
         "AES256_CTR_HMAC_SHA256_4KB",
         Legacy,
         137,
-        b"\0\x07\x07\x07\x07",
-        40
+        b"\0\x07\x07\x07\x07\x28"
     ),
     new_key!(
         "AES256_CTR_HMAC_SHA256_4KB",
         Crunchy,
         137,
-        b"\0\x07\x07\x07\x07",
-        40
+        b"\0\x07\x07\x07\x07\x28"
     ),
-    new_key!("AES256_CTR_HMAC_SHA256_4KB", Raw, 132, b"", 40),
+    new_key!("AES256_CTR_HMAC_SHA256_4KB", Raw, 132, b"\x28"),
     new_key!(
         "AES256_CTR_HMAC_SHA256_1MB",
         Tink,
         137,
-        b"\x01\x07\x07\x07\x07",
-        40
+        b"\x01\x07\x07\x07\x07\x28"
     ),
     new_key!(
         "AES256_CTR_HMAC_SHA256_1MB",
         Legacy,
         137,
-        b"\0\x07\x07\x07\x07",
-        40
+        b"\0\x07\x07\x07\x07\x28"
     ),
     new_key!(
         "AES256_CTR_HMAC_SHA256_1MB",
         Crunchy,
         137,
-        b"\0\x07\x07\x07\x07",
-        40
+        b"\0\x07\x07\x07\x07\x28"
     ),
-    new_key!("AES256_CTR_HMAC_SHA256_1MB", Raw, 132, b"", 40),
+    new_key!("AES256_CTR_HMAC_SHA256_1MB", Raw, 132, b"\x28"),
     new_key!(
         "AES128_GCM_HKDF_4KB",
         Tink,
         105,
-        b"\x01\x07\x07\x07\x07",
-        24
+        b"\x01\x07\x07\x07\x07\x18"
     ),
     new_key!(
         "AES128_GCM_HKDF_4KB",
         Legacy,
         105,
-        b"\0\x07\x07\x07\x07",
-        24
+        b"\0\x07\x07\x07\x07\x18"
     ),
     new_key!(
         "AES128_GCM_HKDF_4KB",
         Crunchy,
         105,
-        b"\0\x07\x07\x07\x07",
-        24
+        b"\0\x07\x07\x07\x07\x18"
     ),
-    new_key!("AES128_GCM_HKDF_4KB", Raw, 100, b"", 24),
+    new_key!("AES128_GCM_HKDF_4KB", Raw, 100, b"\x18"),
     new_key!(
         "AES128_GCM_HKDF_1MB",
         Tink,
         105,
-        b"\x01\x07\x07\x07\x07",
-        24
+        b"\x01\x07\x07\x07\x07\x18"
     ),
     new_key!(
         "AES128_GCM_HKDF_1MB",
         Legacy,
         105,
-        b"\0\x07\x07\x07\x07",
-        24
+        b"\0\x07\x07\x07\x07\x18"
     ),
     new_key!(
         "AES128_GCM_HKDF_1MB",
         Crunchy,
         105,
-        b"\0\x07\x07\x07\x07",
-        24
+        b"\0\x07\x07\x07\x07\x18"
     ),
-    new_key!("AES128_GCM_HKDF_1MB", Raw, 100, b"", 24),
+    new_key!("AES128_GCM_HKDF_1MB", Raw, 100, b"\x18"),
     new_key!(
         "AES256_GCM_HKDF_4KB",
         Tink,
         121,
-        b"\x01\x07\x07\x07\x07",
-        40
+        b"\x01\x07\x07\x07\x07\x28"
     ),
     new_key!(
         "AES256_GCM_HKDF_4KB",
         Legacy,
         121,
-        b"\0\x07\x07\x07\x07",
-        40
+        b"\0\x07\x07\x07\x07\x28"
     ),
     new_key!(
         "AES256_GCM_HKDF_4KB",
         Crunchy,
         121,
-        b"\0\x07\x07\x07\x07",
-        40
+        b"\0\x07\x07\x07\x07\x28"
     ),
-    new_key!("AES256_GCM_HKDF_4KB", Raw, 116, b"", 40),
+    new_key!("AES256_GCM_HKDF_4KB", Raw, 116, b"\x28"),
     new_key!(
         "AES256_GCM_HKDF_1MB",
         Tink,
         121,
-        b"\x01\x07\x07\x07\x07",
-        40
+        b"\x01\x07\x07\x07\x07\x28"
     ),
     new_key!(
         "AES256_GCM_HKDF_1MB",
         Legacy,
         121,
-        b"\0\x07\x07\x07\x07",
-        40
+        b"\0\x07\x07\x07\x07\x28"
     ),
     new_key!(
         "AES256_GCM_HKDF_1MB",
         Crunchy,
         121,
-        b"\0\x07\x07\x07\x07",
-        40
+        b"\0\x07\x07\x07\x07\x28"
     ),
-    new_key!("AES256_GCM_HKDF_1MB", Raw, 116, b"", 40),
+    new_key!("AES256_GCM_HKDF_1MB", Raw, 116, b"\x28"),
 ];
 
 // The registry of both managers and their templates.

@@ -1,15 +1,9 @@
 //! Which keys of streams build, and of which formats keys are made.
 
+use crate::asked::{Asked, CTR, GCM, New, Row};
 use std::alloc::Global;
-use tink_core::registry::KeyManager;
-use tink_io::{Draws, Kind, TinkError};
-use tink_primitives::Primitive;
-use tink_proto::{Bytes, HashType};
-use tink_streaming_aead::subtle::AesGcmHkdf;
-use tink_streaming_aead::{
-    AesCtrHmacKeyManager, AesGcmHkdfKeyManager, DerivesStreams, StreamKind, StreamKinds,
-};
-use tink_testutil::{Answer, Ask, Told, draws_of, made};
+use tink_io::Kind;
+use tink_testutil::{Answer, Told};
 
 // A key in counter mode of the bytes 0 to 15, from which AES keys of 16 are derived, with SHA-256
 // twice, tags of 32 bytes and segments of 4,096.
@@ -21,117 +15,9 @@ const IN_COUNTER_MODE: &[u8; 33] =
 const BY_GCM: &[u8; 27] =
     b"\x12\x07\x08\x80\x20\x10\x10\x18\x03\x1a\x10\x10\x11\x12\x13\x14\x15\x16\x17\x18\x19\x1a\x1b\x1c\x1d\x1e\x1f";
 
-// What is asked of keys in counter mode, or by AES-GCM.
-enum Asked {
-    // That a key builds of these bytes.
-    Key(bool, &'static [u8]),
-    // That a key is made of a format, with 40 draws.
-    Format(bool, &'static [u8]),
-    // That the key of these bytes has this main key and these sizes.
-    Built(bool, &'static [u8], &'static [u8], &'static [usize; 6]),
-    // That a key that leaves a hundred bytes of its first segment free has these sizes, and so long a header.
-    Offset(&'static [usize; 6], usize),
-}
-
-const CTR: bool = true;
-
-const GCM: bool = false;
-
-// The sizes that a key tells: of a header, a segment, the first segment, what a segment has more than its text, a
-// derived key and a nonce.
-fn sizes_of<K: DerivesStreams>(key: &K) -> [usize; 6] {
-    [
-        key.header_length(),
-        key.segment_size() as usize,
-        key.first_segment_size() as usize,
-        key.overhead(),
-        key.derived_key_size(),
-        key.nonce_size(),
-    ]
-}
-
-fn has_offset(key: AesGcmHkdf, sizes: &[usize; 6], header: usize) -> bool {
-    let is_long = key.header_length() == header;
-    (sizes_of(&StreamKind::GcmHkdf(key)) == *sizes) & is_long
-}
-
-fn offset(alloc: Global, sizes: &[usize; 6], header: usize) -> Result<bool, TinkError> {
-    match AesGcmHkdf::new(alloc, &[7; 32], HashType::Sha256, 32, 4096, 100) {
-        Ok(key) => Ok(has_offset(key, sizes, header)),
-        Err(e) => Err(e),
-    }
-}
-
-fn primitive(
-    alloc: Global,
-    in_counter_mode: bool,
-    bytes: &[u8],
-) -> Result<Primitive<StreamKinds>, TinkError> {
-    if in_counter_mode {
-        AesCtrHmacKeyManager::new().primitive(alloc, bytes)
-    } else {
-        AesGcmHkdfKeyManager::new().primitive(alloc, bytes)
-    }
-}
-
-/// A new key of a format.
-pub fn new_key(
-    alloc: Global,
-    in_counter_mode: bool,
-    format: &[u8],
-    draws: &mut Draws,
-) -> Result<Bytes, TinkError> {
-    if in_counter_mode {
-        AesCtrHmacKeyManager::new().new_key(alloc, format, draws)
-    } else {
-        AesGcmHkdfKeyManager::new().new_key(alloc, format, draws)
-    }
-}
-
-fn makes(alloc: Global, in_counter_mode: bool, format: &[u8]) -> Result<bool, TinkError> {
-    match draws_of(alloc, &[7; 40]) {
-        Ok(mut draws) => made(new_key(alloc, in_counter_mode, format, &mut draws)),
-        Err(e) => Err(e),
-    }
-}
-
-fn key_of(alloc: Global, in_counter_mode: bool, bytes: &[u8]) -> Result<StreamKind, TinkError> {
-    match primitive(alloc, in_counter_mode, bytes) {
-        Ok(p) => p.into_streaming_aead(),
-        Err(e) => Err(e),
-    }
-}
-
-/// Whether the key of some bytes, in counter mode or by AES-GCM, has this main key and these sizes.
-pub fn is_built(
-    alloc: Global,
-    in_counter_mode: bool,
-    bytes: &[u8],
-    main: &[u8],
-    sizes: &[usize; 6],
-) -> Result<bool, TinkError> {
-    match key_of(alloc, in_counter_mode, bytes) {
-        Ok(key) => Ok((key.main_key() == main) & (sizes_of(&key) == *sizes)),
-        Err(e) => Err(e),
-    }
-}
-
-impl Ask<()> for Asked {
-    fn answer(&self, alloc: Global, _of: &mut ()) -> Result<bool, TinkError> {
-        match *self {
-            Asked::Key(mode, bytes) => made(primitive(alloc, mode, bytes)),
-            Asked::Format(mode, bytes) => makes(alloc, mode, bytes),
-            Asked::Built(mode, bytes, main, sizes) => is_built(alloc, mode, bytes, main, sizes),
-            Asked::Offset(sizes, header) => offset(alloc, sizes, header),
-        }
-    }
-}
-
 const NO_KEY: Answer = Err(Kind::InvalidKey);
 
 const NO_FORMAT: Answer = Err(Kind::InvalidFormat);
-
-type Row = (&'static str, Asked, Answer);
 
 // Keys in counter mode, and formats: sizes of a key and of a derived key, hashes, size of a tag and of a segment. Here and
 // below the tables are short: what a function that names one costs grows with the square of its rows.
@@ -146,9 +32,14 @@ const CTR_KEYS: &[Row] = &[
     ),
     (
         "ctr 16, 16, 3, 3, 10, 35, format",
-        Asked::Format(
+        Asked::Made(
             CTR,
             b"\x0a\x0c\x08\x23\x10\x10\x18\x03\x22\x04\x08\x03\x10\x0a\x10\x10",
+            New {
+                draws: 40,
+                left: 24,
+                key: b"\x12\x0c\x08\x23\x10\x10\x18\x03\x22\x04\x08\x03\x10\x0a\x1a\x10\x07\x07\x07\x07\x07\x07\x07\x07\x07\x07\x07\x07\x07\x07\x07\x07",
+            },
         ),
         Ok(true),
     ),
@@ -162,9 +53,14 @@ const CTR_KEYS: &[Row] = &[
     ),
     (
         "ctr 32, 16, 1, 5, 28, 53, format",
-        Asked::Format(
+        Asked::Made(
             CTR,
             b"\x0a\x0c\x08\x35\x10\x10\x18\x01\x22\x04\x08\x05\x10\x1c\x10\x20",
+            New {
+                draws: 40,
+                left: 8,
+                key: b"\x12\x0c\x08\x35\x10\x10\x18\x01\x22\x04\x08\x05\x10\x1c\x1a\x20\x07\x07\x07\x07\x07\x07\x07\x07\x07\x07\x07\x07\x07\x07\x07\x07\x07\x07\x07\x07\x07\x07\x07\x07\x07\x07\x07\x07\x07\x07\x07\x07",
+            },
         ),
         Ok(true),
     ),
@@ -178,9 +74,14 @@ const CTR_KEYS: &[Row] = &[
     ),
     (
         "ctr 32, 32, 5, 1, 20, 61, format",
-        Asked::Format(
+        Asked::Made(
             CTR,
             b"\x0a\x0c\x08\x3d\x10\x20\x18\x05\x22\x04\x08\x01\x10\x14\x10\x20",
+            New {
+                draws: 40,
+                left: 8,
+                key: b"\x12\x0c\x08\x3d\x10\x20\x18\x05\x22\x04\x08\x01\x10\x14\x1a\x20\x07\x07\x07\x07\x07\x07\x07\x07\x07\x07\x07\x07\x07\x07\x07\x07\x07\x07\x07\x07\x07\x07\x07\x07\x07\x07\x07\x07\x07\x07\x07\x07",
+            },
         ),
         Ok(true),
     ),
@@ -194,9 +95,14 @@ const CTR_KEYS: &[Row] = &[
     ),
     (
         "ctr 32, 32, 2, 4, 64, 105, format",
-        Asked::Format(
+        Asked::Made(
             CTR,
             b"\x0a\x0c\x08\x69\x10\x20\x18\x02\x22\x04\x08\x04\x10\x40\x10\x20",
+            New {
+                draws: 40,
+                left: 8,
+                key: b"\x12\x0c\x08\x69\x10\x20\x18\x02\x22\x04\x08\x04\x10\x40\x1a\x20\x07\x07\x07\x07\x07\x07\x07\x07\x07\x07\x07\x07\x07\x07\x07\x07\x07\x07\x07\x07\x07\x07\x07\x07\x07\x07\x07\x07\x07\x07\x07\x07",
+            },
         ),
         Ok(true),
     ),
@@ -427,7 +333,15 @@ const GCM_KEYS: &[Row] = &[
     ),
     (
         "gcm 16, 16, 3, 41, format",
-        Asked::Format(GCM, b"\x0a\x06\x08\x29\x10\x10\x18\x03\x10\x10\x18\x09"),
+        Asked::Made(
+            GCM,
+            b"\x0a\x06\x08\x29\x10\x10\x18\x03\x10\x10\x18\x09",
+            New {
+                draws: 40,
+                left: 24,
+                key: b"\x12\x06\x08\x29\x10\x10\x18\x03\x1a\x10\x07\x07\x07\x07\x07\x07\x07\x07\x07\x07\x07\x07\x07\x07\x07\x07",
+            },
+        ),
         Ok(true),
     ),
     (
@@ -440,7 +354,15 @@ const GCM_KEYS: &[Row] = &[
     ),
     (
         "gcm 32, 16, 5, 41, format",
-        Asked::Format(GCM, b"\x0a\x06\x08\x29\x10\x10\x18\x05\x10\x20\x18\x09"),
+        Asked::Made(
+            GCM,
+            b"\x0a\x06\x08\x29\x10\x10\x18\x05\x10\x20\x18\x09",
+            New {
+                draws: 40,
+                left: 8,
+                key: b"\x12\x06\x08\x29\x10\x10\x18\x05\x1a\x20\x07\x07\x07\x07\x07\x07\x07\x07\x07\x07\x07\x07\x07\x07\x07\x07\x07\x07\x07\x07\x07\x07\x07\x07\x07\x07\x07\x07\x07\x07\x07\x07",
+            },
+        ),
         Ok(true),
     ),
     (
@@ -453,7 +375,15 @@ const GCM_KEYS: &[Row] = &[
     ),
     (
         "gcm 32, 32, 1, 57, format",
-        Asked::Format(GCM, b"\x0a\x06\x08\x39\x10\x20\x18\x01\x10\x20\x18\x09"),
+        Asked::Made(
+            GCM,
+            b"\x0a\x06\x08\x39\x10\x20\x18\x01\x10\x20\x18\x09",
+            New {
+                draws: 40,
+                left: 8,
+                key: b"\x12\x06\x08\x39\x10\x20\x18\x01\x1a\x20\x07\x07\x07\x07\x07\x07\x07\x07\x07\x07\x07\x07\x07\x07\x07\x07\x07\x07\x07\x07\x07\x07\x07\x07\x07\x07\x07\x07\x07\x07\x07\x07",
+            },
+        ),
         Ok(true),
     ),
     (
