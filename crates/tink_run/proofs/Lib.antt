@@ -15,9 +15,6 @@ mod StandardFacts
 pub mod RotationLaws
 pub mod FitFacts
 pub mod OneKeyFacts
-pub mod CountFacts
-pub mod SetSteps
-pub mod KeysetSteps
 pub mod PassSteps
 pub mod KeySteps
 pub mod OpenedLater

@@ -10,8 +10,6 @@ pub mod HeldKeys
 pub mod Rotation
 pub mod Fitting
 pub mod OneKey
-pub mod SetRanges
-pub mod KeysetRanges
 pub mod Passing
 pub mod Rewrapping
 pub mod RewrapPromises

@@ -12,7 +12,7 @@ use Rattle.tink_range.specs.ChunkReading.{Moments}
 use Rattle.tink_range.specs.KeyRanges.{RangesUnder, TakesRangeSteps}
 use Rattle.tink_run.specs.AllKeys.{load}
 use Rattle.tink_run.specs.Run.{CanOpen}
-use Rattle.tink_run.specs.SetRanges.{IsUnmoved}
+use Rattle.tink_keyset_ranges.specs.SetRanges.{IsUnmoved}
 
 -- nothing was read or written: the object itself is as it was, and so is the sink
 pub record LeavesBoth {A W : Type 0} (object object_after : A) (e : Moments W) : Type 0 where

@@ -5,10 +5,10 @@ use Rattle.tink_stream_keys.specs.StreamKinds.{key_in_set}
 use Rattle.tink_streaming_aead.specs.Wrapped.{all_entries, keys_in}
 use Rattle.tink_range.specs.ChunkReading.{Moments, ends_of}
 use Rattle.tink_range.specs.KeyRanges.{TakesRangeSteps}
-use Rattle.tink_run.specs.SetRanges.{RangesOf}
-use Rattle.tink_run.proofs.SetSteps.{ranges_of, unwritten_of, leaves_same, leaves_under, unwritten_same}
+use Rattle.tink_keyset_ranges.specs.SetRanges.{RangesOf}
+use Rattle.tink_keyset_ranges.proofs.SetSteps.{ranges_of, unwritten_of, leaves_same, leaves_under, unwritten_same}
 use Rattle.tink_run.proofs.RoomFacts.{has_room}
-use Rattle.tink_run.proofs.ranges.of_set.range_of_set.Goals as goal
+use Rattle.tink_keyset_ranges.proofs.of_set.range_of_set.Goals as goal
 
 pub returns : goal.returns
 returns g c = record {

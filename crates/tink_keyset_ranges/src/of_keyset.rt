@@ -3,15 +3,15 @@
 ghost use Rattle.std.specs.Prelude.{◌≡◌, ◌≤◌, IfOk};
 ghost use Rattle.tink_range.specs.ChunkReading.{ends_of};
 ghost use Rattle.tink_range.specs.Objects.{LeavesObject};
-ghost use Rattle.tink_run.specs.KeysetRanges.{GivesSlice, IsRangeComplete, KeysetRangeMeans, TakesKeysetSteps};
-ghost use Rattle.tink_run.specs.SetRanges.{LeavesRangeEnds, LeavesUnwritten};
+ghost use Rattle.tink_keyset_ranges.specs.KeysetRanges.{GivesSlice, IsRangeComplete, KeysetRangeMeans, TakesKeysetSteps};
+ghost use Rattle.tink_keyset_ranges.specs.SetRanges.{LeavesRangeEnds, LeavesUnwritten};
 
-use crate::load::load;
-use crate::ranges::of_set::range_of_set;
+use crate::of_set::range_of_set;
 use std::alloc::Global;
 use std::sync::ledger::Ledger;
 use tink_io::{Sink, TinkError};
 use tink_range::{ReadAt, Steps};
+use tink_run::load::load;
 
 /// Writes the bytes of the text from place `start` on and below `start + len`, as far as there are such, of the stream
 /// that `object` is under the first key of a keyset in the wire format that it begins under, with the associated data.

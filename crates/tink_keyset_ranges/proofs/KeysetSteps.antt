@@ -22,8 +22,8 @@ use Rattle.tink_run.specs.Run.{CanOpen, IsEarly}
 use Rattle.tink_run.proofs.OpenLemmas.{chosen_lawful, same_loaded}
 use Rattle.tink_run.proofs.LoadedFacts.{load_refuses, loaded_usable}
 use Rattle.tink_io.proofs.OutsideFacts.{told_appended, told_if}
-use Rattle.tink_run.specs.KeysetRanges.{GivesSlice, IsRangeComplete, KeysetRangeMeans, KeysetRangeRefused, LeavesBoth, RangesLoaded, TakesKeysetSteps}
-use Rattle.tink_run.specs.SetRanges.{LeavesRangeEnds, RangesOf, RangesOfRefused}
+use Rattle.tink_keyset_ranges.specs.KeysetRanges.{GivesSlice, IsRangeComplete, KeysetRangeMeans, KeysetRangeRefused, LeavesBoth, RangesLoaded, TakesKeysetSteps}
+use Rattle.tink_keyset_ranges.specs.SetRanges.{LeavesRangeEnds, RangesOf, RangesOfRefused}
 
 -- the steps of a range under the keys of the set that was loaded are those of one under the keyset
 pub steps_loaded : (keyset aad : List ℕ) (all : Option (List ℕ)) (whole start len before now : ℕ) (set : TypedPrimitiveSet StreamKind) → GivesLoaded (Ok set) (load keyset)

@@ -6,7 +6,7 @@ ghost use Rattle.tink_range.specs.ChunkReading.{ends_of};
 ghost use Rattle.tink_range.specs.KeyRanges.{TakesRangeSteps};
 ghost use Rattle.tink_range.specs.Objects.{LeavesObject};
 ghost use Rattle.tink_streaming_aead.specs.Wrapped.{KeepsOrder, all_entries, keys_in};
-ghost use Rattle.tink_run.specs.SetRanges.{LeavesRangeEnds, LeavesUnwritten, RangesOf};
+ghost use Rattle.tink_keyset_ranges.specs.SetRanges.{LeavesRangeEnds, LeavesUnwritten, RangesOf};
 
 use std::alloc::Global;
 use std::sync::ledger::Ledger;

@@ -21,8 +21,8 @@ use Rattle.tink_range.proofs.KeyRangeSteps.{ranges_by_others, refused_by_others,
 use Rattle.tink_run.specs.HeldKeys.{HoldsLoaded}
 use Rattle.tink_run.specs.Run.{IsEarly}
 use Rattle.tink_run.proofs.RunSteps.{are_of_keyset}
-use Rattle.tink_run.proofs.CountFacts.{same_count}
-use Rattle.tink_run.specs.SetRanges.{LeavesRangeEnds, LeavesUnwritten, RangesOf, RangesOfRefused, WritesNoRange}
+use Rattle.tink_keyset_ranges.proofs.CountFacts.{same_count}
+use Rattle.tink_keyset_ranges.specs.SetRanges.{LeavesRangeEnds, LeavesUnwritten, RangesOf, RangesOfRefused, WritesNoRange}
 
 -- ends that stay as they were are left so by every answer
 pub leaves_same : {A W : Type 0} (answer : Result ℕ TinkError) (object : A) (sink : W) → LeavesRangeEnds answer object object sink sink

@@ -2,9 +2,9 @@ use Rattle.std.proofs.Common.{rules, refl, arith, le_refl}
 use Rattle.std.proofs.lemmas.Result.{err_from_is_err_and}
 use Rattle.std.specs.Prelude.{Err}
 use Rattle.tink_range.specs.ChunkReading.{Moments, ends_of}
-use Rattle.tink_run.proofs.KeysetSteps.{complete, loaded, not_loaded, slices, stands_unloaded, steps_loaded}
-use Rattle.tink_run.proofs.SetSteps.{ranges_of_loaded, steps_of_loaded, leaves_same, unwritten_same}
-use Rattle.tink_run.proofs.ranges.of_keyset.run_range.Goals as goal
+use Rattle.tink_keyset_ranges.proofs.KeysetSteps.{complete, loaded, not_loaded, slices, stands_unloaded, steps_loaded}
+use Rattle.tink_keyset_ranges.proofs.SetSteps.{ranges_of_loaded, steps_of_loaded, leaves_same, unwritten_same}
+use Rattle.tink_keyset_ranges.proofs.of_keyset.run_range.Goals as goal
 
 pub returns-in_err-keys : goal.returns-in_err-keys
 returns-in_err-keys g c = record {

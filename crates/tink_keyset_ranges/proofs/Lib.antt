@@ -1,0 +1,3 @@
+pub mod CountFacts
+pub mod SetSteps
+pub mod KeysetSteps

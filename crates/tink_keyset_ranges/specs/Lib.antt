@@ -1,0 +1,2 @@
+pub mod SetRanges
+pub mod KeysetRanges
