@@ -5,16 +5,16 @@ ghost use Rattle.tink_mac.specs.Wrapped.{primary_mac};
 
 use crate::asked::is_tag;
 use std::alloc::Global;
-use tink_io::{Kind, TinkError};
+use tink_io::{Draws, Kind, TinkError};
 use tink_keysets::keyset::{Handle, Manager};
 use tink_mac::{
     HmacKeyManager, MacKind, WrappedMac, hmac_sha256_tag128_key_template, law_built_macs_are_sound,
     law_macs_outlive_commands, law_old_macs_verify, law_own_tags_accepted, new,
 };
 use tink_primitives::Mac;
-use tink_proto::Bytes;
+use tink_proto::{Bytes, KeyTemplate};
 use tink_registry::Registry;
-use tink_testutil::{Answer, Ask, Told, draws_of, gives, handle, made, registry_of};
+use tink_testutil::{Answer, Ask, Told, asked, draws_of, gives, handle, made, registry_of};
 
 // The MAC of a message by the primary key.
 fn mac_of<P: Mac>(alloc: Global, mac: &WrappedMac<P>, message: &[u8]) -> Result<Bytes, TinkError>
@@ -25,28 +25,50 @@ fn mac_of<P: Mac>(alloc: Global, mac: &WrappedMac<P>, message: &[u8]) -> Result<
 
 type Macs = Registry<HmacKeyManager>;
 
-// A handle of one key by the template, of draws 3.
-fn handle_of_draws(alloc: Global, registry: &Macs) -> Result<Handle, TinkError> {
-    let mut draws = draws_of(alloc, &[3; 36])?;
-    match hmac_sha256_tag128_key_template(alloc) {
-        Ok(kt) => Handle::new(alloc, &kt, registry, &mut draws),
-        Err(e) => Err(e),
-    }
-}
+// The draws of two new keys, each with its id.
+const DRAWS: &[u8; 72] =
+    b"\x03\x03\x03\x03\x03\x03\x03\x03\x03\x03\x03\x03\x03\x03\x03\x03\x03\x03\x03\x03\x03\x03\x03\x03\x03\x03\x03\x03\x03\x03\x03\x03\x03\x03\x03\x03\x04\x04\x04\x04\x04\x04\x04\x04\x04\x04\x04\x04\x04\x04\x04\x04\x04\x04\x04\x04\x04\x04\x04\x04\x04\x04\x04\x04\x04\x04\x04\x04\x04\x04\x04\x04";
 
-// Adds a new primary key by the template, of draws 4.
-fn rotate(alloc: Global, registry: &Macs, manager: &mut Manager) -> Result<u32, TinkError> {
-    let mut draws = draws_of(alloc, &[4; 36])?;
-    match hmac_sha256_tag128_key_template(alloc) {
-        Ok(kt) => manager.rotate(alloc, &kt, registry, &mut draws),
-        Err(e) => Err(e),
-    }
-}
-
-fn rotated(alloc: Global, registry: &Macs, h: Handle) -> Result<Handle, TinkError> {
+// The handle of a key that is rotated.
+fn rotated(
+    alloc: Global,
+    registry: &Macs,
+    kt: &KeyTemplate,
+    draws: &mut Draws,
+    h: Handle,
+) -> Result<Handle, TinkError> {
     let mut manager = Manager::new_from_handle(h);
-    match rotate(alloc, registry, &mut manager) {
+    match manager.rotate(alloc, kt, registry, draws) {
         Ok(_) => manager.handle(alloc),
+        Err(e) => Err(e),
+    }
+}
+
+// A handle of one new key, and with another one behind it after a rotation.
+fn made_handle(
+    alloc: Global,
+    registry: &Macs,
+    kt: &KeyTemplate,
+    draws: &mut Draws,
+    rotates: bool,
+) -> Result<Handle, TinkError> {
+    match Handle::new(alloc, kt, registry, draws) {
+        Ok(h) => {
+            if rotates {
+                rotated(alloc, registry, kt, draws, h)
+            } else {
+                Ok(h)
+            }
+        }
+        Err(e) => Err(e),
+    }
+}
+
+// The same by the template.
+fn new_handle(alloc: Global, registry: &Macs, rotates: bool) -> Result<Handle, TinkError> {
+    let mut draws = draws_of(alloc, DRAWS)?;
+    match hmac_sha256_tag128_key_template(alloc) {
+        Ok(kt) => made_handle(alloc, registry, &kt, &mut draws, rotates),
         Err(e) => Err(e),
     }
 }
@@ -63,11 +85,8 @@ enum Keys {
 fn handle_by(alloc: Global, registry: &Macs, keys: &Keys) -> Result<Handle, TinkError> {
     match *keys {
         Keys::One(keyset) => handle(alloc, keyset),
-        Keys::New => handle_of_draws(alloc, registry),
-        Keys::Rotated => match handle_of_draws(alloc, registry) {
-            Ok(h) => rotated(alloc, registry, h),
-            Err(e) => Err(e),
-        },
+        Keys::New => new_handle(alloc, registry, false),
+        Keys::Rotated => new_handle(alloc, registry, true),
     }
 }
 
@@ -81,25 +100,18 @@ enum Asked {
     Copy(&'static [u8]),
 }
 
-fn answer_by(alloc: Global, macs: &WrappedMac<MacKind>, asked: &Asked) -> Result<bool, TinkError> {
-    match *asked {
-        Asked::Make(mac) => gives(mac_of(alloc, macs, b"abc"), mac),
-        Asked::Accept(mac) => made(macs.verify_mac(alloc, mac, b"abc")),
-        Asked::Copy(mac) => match macs.try_clone(alloc) {
-            Ok(copy) => is_tag(alloc, &copy, mac, b"abc"),
-            Err(e) => Err(e),
-        },
-    }
-}
+type Wrapped = WrappedMac<MacKind>;
 
-fn macs_by(
-    alloc: Global,
-    registry: &Macs,
-    h: Result<Handle, TinkError>,
-) -> Result<WrappedMac<MacKind>, TinkError> {
-    match h {
-        Ok(h) => new(alloc, &h, registry),
-        Err(e) => Err(e),
+impl Ask<Wrapped> for Asked {
+    fn answer(&self, alloc: Global, macs: &mut Wrapped) -> Result<bool, TinkError> {
+        match *self {
+            Asked::Make(mac) => gives(mac_of(alloc, macs, b"abc"), mac),
+            Asked::Accept(mac) => made(macs.verify_mac(alloc, mac, b"abc")),
+            Asked::Copy(mac) => match macs.try_clone(alloc) {
+                Ok(copy) => is_tag(alloc, &copy, mac, b"abc"),
+                Err(e) => Err(e),
+            },
+        }
     }
 }
 
@@ -108,8 +120,8 @@ struct Of(Keys, Asked);
 
 impl Ask<Macs> for Of {
     fn answer(&self, alloc: Global, registry: &mut Macs) -> Result<bool, TinkError> {
-        match macs_by(alloc, registry, handle_by(alloc, registry, &self.0)) {
-            Ok(macs) => answer_by(alloc, &macs, &self.1),
+        match handle_by(alloc, registry, &self.0) {
+            Ok(h) => asked(alloc, new(alloc, &h, registry), &self.1),
             Err(e) => Err(e),
         }
     }

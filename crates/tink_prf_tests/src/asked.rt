@@ -79,7 +79,10 @@ fn new_prf(alloc: Global, of: &Of, key: &[u8]) -> Result<PrfKind, TinkError> {
 // A copy, which was a primitive on its way.
 fn copy_of(alloc: Global, prf: Result<PrfKind, TinkError>) -> Result<PrfKind, TinkError> {
     match prf {
-        Ok(prf) => Primitive::<PrfKinds>::Prf(prf.try_clone(alloc)?).into_prf(),
+        Ok(prf) => match prf.try_clone(alloc) {
+            Ok(copy) => Primitive::<PrfKinds>::Prf(copy).into_prf(),
+            Err(e) => Err(e),
+        },
         Err(e) => Err(e),
     }
 }

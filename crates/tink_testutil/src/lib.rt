@@ -6,6 +6,7 @@ pub use keys::{
     registry_of, template,
 };
 pub use named::Named;
+pub use registering::{NamedRegistry, Registered, Template, is_made_and_registered};
 pub use rows::{Answer, Failure, Told, answer_of, handle, made};
 pub use streams::{
     CTR_35, CTR_4096, CTR_4096_AND_DESTROYED, CTR_4096_ROTATED, GCM_41, shows, sink_of,
@@ -16,6 +17,7 @@ pub use walk::{Ask, asked};
 
 mod keys;
 mod named;
+mod registering;
 mod rows;
 mod streams;
 mod test_aead;
