@@ -9,7 +9,7 @@ use Rattle.tink_io.specs.Places.{Ends, IsShown}
 use Rattle.tink_io.specs.Outside.{HasNoFault, Outside}
 use Rattle.tink_run.specs.Run.{IsOkOrWant}
 use Rattle.tink_run.specs.declared.report.Report.{Report}
-use Rattle.tink_keyset_ranges.specs.KeysetRanges.{IsGivenOrWants}
+use Rattle.tink_sealed_streams.specs.KeysetRanges.{IsGivenOrWants}
 use Rattle.tink_files.specs.Streams.{IsShownWhole, RanAndEnded, Succeeds}
 
 -- a call wrote the draft, which leaves all else of the place, and its answer ended it

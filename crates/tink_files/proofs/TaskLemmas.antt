@@ -9,8 +9,8 @@ use Rattle.tink_io.specs.Outside.{Outside, Told}
 use Rattle.tink_run.specs.Run.{AnswerMeans}
 use Rattle.tink_run.specs.declared.report.Command.{Command}
 use Rattle.tink_run.specs.declared.report.Report.{Report}
-use Rattle.tink_run.specs.RewrapReads.{RewrapReadsNoFurther}
-use Rattle.tink_run.specs.Rewrapping.{RewrapMeans, Sides}
+use Rattle.tink_sealed_streams.specs.RewrapReads.{RewrapReadsNoFurther}
+use Rattle.tink_sealed_streams.specs.Rewrapping.{RewrapMeans, Sides}
 use Rattle.tink_tokens.specs.Inputs.{input_limit}
 use Rattle.tink_tokens.specs.Tokens.{IsAnsweredWhole, Macs, TokenMeans}
 use Rattle.tink_tokens.proofs.ToldLemmas.{answered_whole}

@@ -7,9 +7,9 @@ use Rattle.tink_run.specs.OpenReads.{ReadsNoFurther}
 use Rattle.tink_io.specs.Outside.{Outside}
 use Rattle.tink_run.specs.Run.{AnswerMeans, CanSucceed, OkMeans}
 use Rattle.tink_run.specs.declared.report.Report.{Report}
-use Rattle.tink_run.specs.RewrapPromises.{CanRewrap, IsWholeRewrap}
-use Rattle.tink_run.specs.RewrapReads.{RewrapReadsNoFurther}
-use Rattle.tink_run.specs.Rewrapping.{RewrapMeans, sides}
+use Rattle.tink_sealed_streams.specs.RewrapPromises.{CanRewrap, IsWholeRewrap}
+use Rattle.tink_sealed_streams.specs.RewrapReads.{RewrapReadsNoFurther}
+use Rattle.tink_sealed_streams.specs.Rewrapping.{RewrapMeans, sides}
 use Rattle.tink_tokens.specs.Inputs.{input_limit}
 use Rattle.tink_tokens.specs.Tokens.{CanAnswer, IsAnsweredWhole, Macs, TokenMeans}
 use Rattle.tink_tokens.specs.Tokens.{RefusesSigning, RefusesVerifying, SignsTo, VerifiesTo}

@@ -4,17 +4,17 @@ ghost use Rattle.std.specs.Prelude.{◌≡◌, ℕ, List, Some, true, false, IfO
 ghost use Rattle.tink_range.specs.ChunkReading.{ends_of};
 ghost use Rattle.tink_range.specs.Objects.{LeavesObject};
 ghost use Rattle.tink_run.specs.Run.{CanOpen};
-ghost use Rattle.tink_keyset_ranges.specs.KeysetRanges.{GivesSlice, KeysetRangeMeans, TakesKeysetSteps};
+ghost use Rattle.tink_sealed_streams.specs.KeysetRanges.{GivesSlice, KeysetRangeMeans, TakesKeysetSteps};
 ghost use Rattle.tink_files.specs.Streams.{IsShownWhole, RanAndEnded, Succeeds};
 
 use std::alloc::Global;
 use std::sync::ledger::Ledger;
 use tink_io::saving::finish;
 use tink_io::{Place, TinkError};
-use tink_keyset_ranges::run_range;
 use tink_range::{ReadAt, Steps};
+use tink_sealed_streams::ranges::run_range;
 
-/// Writes a range of the text of the stream that an object is, as `run_range` of `tink_keyset_ranges`, into a draft,
+/// Writes a range of the text of the stream that an object is, as `run_range` of `tink_sealed_streams`, into a draft,
 /// which is shown where all of it was done, and else taken away.
 ///
 /// # Errors

@@ -9,8 +9,8 @@ use std::alloc::Global;
 use tink_io::saving::finish;
 use tink_io::{Draws, Place, Sink, Source, TinkError};
 use tink_run::report::{Command, Report};
-use tink_run::rewrap::rewrap;
 use tink_run::run::run;
+use tink_sealed_streams::rewrap::rewrap;
 use tink_tokens::{write_payload, write_token};
 
 /// What is made of the bytes of a source under a keyset.
@@ -31,7 +31,8 @@ pub enum Task<'k> {
 /// is made takes draws.
 ///
 /// # Errors
-/// Those of `run`, `rewrap`, `write_token` or `write_payload` of `tink_run`.
+/// Those of `run` of `tink_run`, `rewrap` of `tink_sealed_streams`, or `write_token` or `write_payload` of
+/// `tink_tokens`.
 pub fn write_task<S: Source, K: Sink>(
     alloc: Global,
     task: Task<'_>,

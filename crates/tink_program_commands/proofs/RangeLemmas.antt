@@ -14,8 +14,8 @@ use Rattle.tink_io.specs.Outside.{Outside, HasNoFault, Told}
 use Rattle.tink_run.specs.Run.{CanOpen}
 use Rattle.tink_run.proofs.OpenLemmas.{chosen_lawful}
 use Rattle.tink_io.proofs.OutsideFacts.{told_appended}
-use Rattle.tink_keyset_ranges.specs.KeysetRanges.{GivesSlice}
-use Rattle.tink_keyset_ranges.specs.SetRanges.{WritesNoRange}
+use Rattle.tink_sealed_streams.specs.KeysetRanges.{GivesSlice}
+use Rattle.tink_sealed_streams.specs.SetRanges.{WritesNoRange}
 use Rattle.tink_tokens.specs.Inputs.{input_limit, InputRefused, IsOfInput, IsUnloadable}
 use Rattle.tink_tokens.proofs.ToldLemmas.{not_long, of_loaded, of_told, one_load}
 use Rattle.tink_io.specs.Statuses.{kind_status}

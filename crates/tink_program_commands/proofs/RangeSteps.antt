@@ -16,7 +16,7 @@ use Rattle.tink_run.specs.HeldKeys.{GivesLoaded}
 use Rattle.tink_io.specs.Outside.{Outside}
 use Rattle.tink_run.specs.Run.{IsEarly}
 use Rattle.tink_run.proofs.LoadedFacts.{load_refuses}
-use Rattle.tink_keyset_ranges.specs.SetRanges.{LeavesRangeEnds, LeavesUnwritten, RangesOf, RangesOfRefused, WritesNoRange}
+use Rattle.tink_sealed_streams.specs.SetRanges.{LeavesRangeEnds, LeavesUnwritten, RangesOf, RangesOfRefused, WritesNoRange}
 use Rattle.tink_tokens.specs.Inputs.{input_limit, InputRefused, IsUnloadable, ReadsInput}
 use Rattle.tink_tokens.proofs.InputSteps.{input_unread, unloaded}
 use Rattle.tink_program_commands.specs.Ranges.{HoldsNoInput, RangeAnswer, RefusesRange, SinkAt}

@@ -8,8 +8,8 @@ use Rattle.tink_io.specs.declared.error.TinkError.{TinkError}
 use Rattle.tink_io.specs.Outside.{Outside, IsUntouched}
 use Rattle.tink_run.specs.Run.{IsEarly, WritesNothing}
 use Rattle.tink_run.specs.declared.report.Report.{Report}
-use Rattle.tink_run.specs.Rewrapping.{RewrapMeans, RewrapsLoaded, Sides}
-use Rattle.tink_run.proofs.PromiseSteps.{complete, unended}
+use Rattle.tink_sealed_streams.specs.Rewrapping.{RewrapMeans, RewrapsLoaded, Sides}
+use Rattle.tink_sealed_streams.proofs.PromiseSteps.{complete, unended}
 use Rattle.tink_program_commands.specs.Draws.{draws_in}
 use Rattle.tink_io.specs.Statuses.{kind_status}
 use Rattle.tink_program_commands.specs.Program.{answer_outcome, own_statuses, refused_statuses, status_by, status_of, IsAmong, IsEarlyKind, IsUnwrittenKind, Leaves}

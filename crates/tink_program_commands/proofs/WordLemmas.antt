@@ -11,7 +11,7 @@ use Rattle.tink_program_commands.specs.declared.words.Unread.TheVariants.{NoMemo
 use Rattle.tink_program_commands.specs.Words.{Asked, IsBytesWord, IsNumberWord, WordsAreRead, IsReadAs, IsSeedWord, WhyUnread, KeygenWords, OpenWords, RangeWords, RewrapWords, RotateWords, SealWords, SignWords, SpellNothing, Spells, VerifyWords, told}
 use Rattle.tink_program_commands.specs.Words.Asked.{Making, Measuring, Opening, Ranging, Rewrapping, Rotating, Sealing, Signing, Verifying}
 use Rattle.tink_program_commands.proofs.Spelling.{only_keygen, only_large, only_open, only_range, only_rewrap, only_rotate, only_seal, only_sign, only_verify}
-use Rattle.tink_run.specs.Rewrapping.{Sides}
+use Rattle.tink_sealed_streams.specs.Rewrapping.{Sides}
 
 abbrev pub texts : List (String Global) → List (List ℕ)
 texts ws = map (λ w. string_bytes w) ws

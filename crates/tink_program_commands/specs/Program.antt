@@ -12,7 +12,7 @@ use Rattle.tink_run.specs.AllKeys.{load}
 pub use Rattle.tink_io.specs.Outside.{outside_of}
 use Rattle.tink_io.specs.Outside.{Outside, IsUntouched}
 use Rattle.tink_run.specs.declared.report.Command.TheVariants.{Seal}
-use Rattle.tink_keyset_ranges.specs.SetRanges.{WritesNoRange}
+use Rattle.tink_sealed_streams.specs.SetRanges.{WritesNoRange}
 use Rattle.tink_tokens.specs.Inputs.{IsUnwritten, LeavesSink}
 use Rattle.tink_tokens.specs.Tokens.{macs_of, RefusesSigning, RefusesVerifying, SignsTo, VerifiesTo}
 use Rattle.tink_program_commands.specs.declared.outcomes.Outcome.{Outcome}

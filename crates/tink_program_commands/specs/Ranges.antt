@@ -10,7 +10,7 @@ use Rattle.tink_range.specs.KeyRanges.{RangesUnder}
 use Rattle.tink_run.specs.AllKeys.{load}
 use Rattle.tink_io.specs.Outside.{Outside, HasNoFault, Told}
 use Rattle.tink_run.specs.Run.{CanOpen}
-use Rattle.tink_keyset_ranges.specs.KeysetRanges.{GivesSlice}
+use Rattle.tink_sealed_streams.specs.KeysetRanges.{GivesSlice}
 use Rattle.tink_tokens.specs.Inputs.{input_limit, HasTooMuch, InputRefused, IsOfInput, IsReadWhole, IsUnloadable}
 use Rattle.tink_program_commands.specs.Streams.{IsDoneOrWant}
 use Rattle.tink_program_commands.specs.declared.outcomes.Outcome.{Outcome}

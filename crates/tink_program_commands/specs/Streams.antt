@@ -10,8 +10,8 @@ use Rattle.tink_io.specs.Outside.{Outside, IsUntouched, HasNoFault, Told}
 use Rattle.tink_run.specs.Run.{AnswerMeans, OkMeans, IsWholeStream, IsWholeText, IsOfAgreeing, OnlyAgreeing, CanSeal, CanOpen, IsComplete, LeavesEnds, LeavesSinkItself}
 use Rattle.tink_run.specs.OpenReads.{ReadsNoFurther}
 use Rattle.tink_run.specs.SealAnswers.{SourceFailed}
-use Rattle.tink_run.specs.RewrapPromises.{CanRewrap, CompletesRewrap, IsWholeRewrap, LeavesUnended}
-use Rattle.tink_run.specs.Rewrapping.{RewrapMeans, SecondRefused, Sides}
+use Rattle.tink_sealed_streams.specs.RewrapPromises.{CanRewrap, CompletesRewrap, IsWholeRewrap, LeavesUnended}
+use Rattle.tink_sealed_streams.specs.Rewrapping.{RewrapMeans, SecondRefused, Sides}
 use Rattle.tink_run.specs.declared.report.Command.{Command}
 use Rattle.tink_run.specs.declared.report.Command.TheVariants.{Open}
 use Rattle.tink_run.specs.declared.report.Report.{Report}

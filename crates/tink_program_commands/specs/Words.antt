@@ -8,7 +8,7 @@ use Rattle.tink_program_commands.specs.declared.words.Parsed.TheVariants.{Keygen
 use Rattle.tink_program_commands.specs.declared.words.RewrapArgs.{RewrapArgs}
 use Rattle.tink_program_commands.specs.declared.words.Unread.{Unread}
 use Rattle.tink_program_commands.specs.declared.words.Unread.TheVariants.{NoMemory, Nothing}
-use Rattle.tink_run.specs.Rewrapping.{Sides}
+use Rattle.tink_sealed_streams.specs.Rewrapping.{Sides}
 
 -- two hexadecimal digits or more, an even number in either case, or a dash for no bytes
 abbrev pub IsBytesWord : List ℕ → List ℕ → Type 0

@@ -11,8 +11,8 @@ use crate::words::{OpenArgs, RewrapArgs, SealArgs, Seed, first_draws};
 use std::alloc::Global;
 use tink_io::{Draws, Sink, Source, TinkError};
 use tink_run::report::{Command, Report};
-use tink_run::rewrap::rewrap;
 use tink_run::run::run;
+use tink_sealed_streams::rewrap::rewrap;
 
 /// Seals with the draws of the seed.
 pub fn run_seal<S: Source, K: Sink>(

@@ -16,8 +16,8 @@ use tink_rows::{
 };
 use tink_run::load::load;
 use tink_run::report::{Command, Report};
-use tink_run::rewrap::rewrap;
 use tink_run::run::run;
+use tink_sealed_streams::rewrap::rewrap;
 use tink_sets::TypedPrimitiveSet;
 use tink_streaming_aead::{DerivesStreams, StreamKind};
 use tink_testutil::registry_of;

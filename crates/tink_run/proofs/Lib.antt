@@ -15,11 +15,4 @@ mod StandardFacts
 pub mod RotationLaws
 pub mod FitFacts
 pub mod OneKeyFacts
-pub mod PassSteps
-pub mod KeySteps
-pub mod OpenedLater
-pub mod PassEndings
-pub mod RewrapSteps
-pub mod PromiseSteps
-pub mod ReadsOnly
 pub mod RoomFacts

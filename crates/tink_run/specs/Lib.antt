@@ -10,7 +10,3 @@ pub mod HeldKeys
 pub mod Rotation
 pub mod Fitting
 pub mod OneKey
-pub mod Passing
-pub mod Rewrapping
-pub mod RewrapPromises
-pub mod RewrapReads

@@ -1,4 +1,4 @@
-//! Seals and opens streams under Tink keysets, and moves them to another keyset, from any source to any sink.
+//! Seals and opens streams under Tink keysets, from any source to any sink.
 #![tactic(auto)]
 
 pub mod keys;
@@ -6,7 +6,6 @@ pub mod laws;
 pub mod load;
 pub mod open;
 pub mod report;
-pub mod rewrap;
 pub mod run;
 pub mod seal;
 pub mod together;

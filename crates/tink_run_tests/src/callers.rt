@@ -5,8 +5,8 @@ ghost use Rattle.tink_keygen.specs.Rotating.{key_line, rotated_by};
 ghost use Rattle.tink_keysets.specs.Managed.{no_keys};
 ghost use Rattle.tink_proto.specs.declared.messages.keys.Keyset.{Keyset};
 ghost use Rattle.tink_io.specs.Outside.{Outside};
-ghost use Rattle.tink_run.specs.RewrapPromises.{IsWholeRewrap};
-ghost use Rattle.tink_run.specs.Rewrapping.{sides};
+ghost use Rattle.tink_sealed_streams.specs.RewrapPromises.{IsWholeRewrap};
+ghost use Rattle.tink_sealed_streams.specs.Rewrapping.{sides};
 ghost use Rattle.tink_run.specs.Run.{IsWholeStream};
 ghost use Rattle.tink_tokens.specs.Tokens.{RefusesVerifying, TokenMeans, VerifiesTo};
 
@@ -16,11 +16,11 @@ use std::marker::Brand;
 use std::sync::ledger::{Blank, Ledger};
 use tink_io::{Draws, Kind, Sink, SureSink, SureSource, TinkError};
 use tink_keygen::{key_line, keygen};
-use tink_keyset_ranges::run_range;
 use tink_range::{MemAt, ReadAt, Steps};
 use tink_run::report::{Command, Report};
-use tink_run::rewrap::rewrap;
 use tink_run::run::run;
+use tink_sealed_streams::ranges::run_range;
+use tink_sealed_streams::rewrap::rewrap;
 use tink_testutil::{CTR_35, CTR_4096, GCM_41, Told, made, sink_of};
 use tink_tokens::write_payload;
 

@@ -1,4 +1,4 @@
-use Rattle.tink_keyset_ranges.proofs.SetSteps.{ranges_of_loaded}
+use Rattle.tink_sealed_streams.proofs.SetSteps.{ranges_of_loaded}
 use Rattle.tink_program_commands.proofs.ranges.counted_range.Goals as goal
 
 pub returns-clause-answer : goal.returns-clause-answer

@@ -1,3 +1,0 @@
-pub mod CountFacts
-pub mod SetSteps
-pub mod KeysetSteps

@@ -1,2 +1,0 @@
-pub mod SetRanges
-pub mod KeysetRanges

@@ -1,0 +1,10 @@
+pub mod CountFacts
+pub mod SetSteps
+pub mod KeysetSteps
+pub mod PassSteps
+pub mod KeySteps
+pub mod OpenedLater
+pub mod PassEndings
+pub mod RewrapSteps
+pub mod PromiseSteps
+pub mod ReadsOnly

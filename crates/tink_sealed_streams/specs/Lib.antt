@@ -1,0 +1,6 @@
+pub mod SetRanges
+pub mod KeysetRanges
+pub mod Passing
+pub mod Rewrapping
+pub mod RewrapPromises
+pub mod RewrapReads
