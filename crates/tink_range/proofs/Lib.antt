@@ -7,6 +7,7 @@ pub mod GivingSteps
 pub mod GivingTold
 pub mod GivingEnds
 pub mod LastFacts
+pub mod MemoryAtFacts
 pub mod RangeSteps
 pub mod TrialAtFacts
 pub mod TriesFacts

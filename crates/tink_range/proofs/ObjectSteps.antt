@@ -99,3 +99,23 @@ rose_since old mid new e r = subst (λ (n : ℕ). Rose n new) e r
 pub room_for : (size nonce_bytes segment need out sealed_old sealed text_old text n_old n : ℕ) → size ≡ segment → nonce_bytes ≡ need → out + segment < sealed_old → segment ≤ text_old → need ≤ n_old → sealed ≡ sealed_old → text_old ≤ text → n ≡ n_old
     → HasRoomFor size nonce_bytes sealed text n
 room_for size nonce_bytes segment need out sealed_old sealed text_old text n_old n a b c d e f g h = record { sealed_room = omega arith; text_room = omega arith; nonce_room = omega arith }
+
+-- a chunk is as long as what is left of its bytes, or as its room
+pub chunk_inside : (at len n rest room whole : ℕ) → len ≡ n → n ≡ min rest room → at + rest ≡ whole → at + rest < 2 ^ 64 → (at + len ≤ whole) × (at + len < 2 ^ 64)
+chunk_inside at len n rest room whole a b c d = (omega arith, omega arith)
+
+pub chunk_fits : (len n rest room size : ℕ) → len ≡ n → n ≡ min rest room → room ≤ size → len ≤ size
+chunk_fits len n rest room size a b c = omega arith
+
+-- a front with bytes behind it is inside the object, and what is behind it is the rest
+pub front_inside : (len front size whole : ℕ) → len ≡ front → front < size → size ≡ whole → len ≤ whole
+front_inside len front size whole a b c = omega arith
+
+pub front_below : (front whole now size : ℕ) → front < whole → now ≡ whole → size ≡ now → front < size
+front_below front whole now size a b c = omega arith
+
+pub front_and_rest : (front whole now size : ℕ) → front < whole → now ≡ whole → size ≡ now → front + (size - front) ≡ whole
+front_and_rest front whole now size a b c = omega arith
+
+pub some_behind : (front size : ℕ) → front < size → 0 < size - front
+some_behind front size a = omega arith

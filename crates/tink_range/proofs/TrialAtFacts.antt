@@ -2,13 +2,15 @@
 use Rattle.std.proofs.Common.{◌≡◌, ◌<◌, ◌≤◌, ◌+◌, ◌-◌, nat_le, nat_lt, nat_eq, ℕ, Bool, true, false, ◌&&◌, List, [], ◌∷◌, length, take, drop, refl, sym, ap, subst, ◌∙◌, arith, Some, None, IfSome, is_some, bytes_eq, slice_index, length-drop}
 use Rattle.std.specs.declared.option.Option.{Option}
 use Rattle.std.proofs.lemmas.Bool.Decides.{nat_tests}
-use Rattle.std.proofs.lemmas.List.{drop-take, drop_all, get_or-take, length-take-le, take-take}
+use Rattle.std.proofs.lemmas.List.{drop-take, drop_all, get_or-take, length-take, length-take-le, take-take}
 use Rattle.stream_model.specs.Agree.{AreTexts, is_last}
 use Rattle.stream_model.specs.Cut.{cut}
-use Rattle.stream_model.specs.Opening.{Begins, FirstAgrees, HasFront, OpeningKey, behind_front, begins_front, chunks_of, front_length, header_of}
+use Rattle.stream_model.specs.Key.{StreamKey, header_length}
+use Rattle.stream_model.specs.Opening.{Begins, FirstAgrees, HasFront, OpeningKey, behind_front, begins_front, chunks_of, front_length, header_of, opening_key}
 use Rattle.stream_model.proofs.CutFacts.{cut_none}
+use Rattle.stream_model.proofs.KeyFacts.{CanOpen}
 use Rattle.tink_streams.specs.Choosing.{IsOpenerOf}
-use Rattle.std.specs.Prelude.{Result, Ok, Err, MatchResult}
+use Rattle.std.specs.Prelude.{Result, Ok, Err, IfErr, IfOk, MatchResult}
 use Rattle.tink_stream_keys.specs.Decrypters.{OpensBehind}
 use Rattle.tink_range.specs.ChoosingAt.{is_tried, one_if}
 use Rattle.tink_range.specs.ChunkReading.{ChunkAt, OpensAt}
@@ -173,3 +175,21 @@ pub by_test : {T E : Type 0} (P : T → Type 0) (Q : E → Type 0) (begins : Boo
     → (begins ≡ true → P t) → (begins ≡ false → Q e) → MatchResult r P Q
 by_test P Q begins t e (Ok b) is does not = subst P (sym is.1) (does is.0)
 by_test P Q begins t e (Err p) is does not = subst Q (sym is.1) (not is.0)
+
+-- what stands before a header, and a header, are a front
+pub front_of : (aad : List ℕ) (key : StreamKey) (prefix : List ℕ) (header : ℕ) → prefix ≡ key.out → header ≡ header_length key → length prefix + header ≡ front_length (opening_key aad key)
+front_of aad key prefix header p h = omega (arith, ap length p, h)
+
+-- it fits where a segment does
+pub cut_front : (k : OpeningKey) (front sealed : ℕ) (held : List ℕ) → front ≡ front_length k → CanOpen k → length held ≡ sealed → length k.out + k.size < sealed → length (take front held) ≡ front
+cut_front k front sealed held is usable len room = omega (arith, is, usable.fits, len, room, length-take front held)
+
+-- what is said of a value and of a refusal is said of a result
+pub either : {V E : Type 0} (P : V → Type 0) (Q : E → Type 0) (r : Result V E) → IfOk r P → IfErr r Q → MatchResult r P Q
+either P Q (Ok v) p q = p
+either P Q (Err e) p q = q
+
+-- the memory of a prefix is as large as before
+pub same_memory : {V E : Type 0} (f : V → ℕ) (h : E → ℕ) (n : ℕ) (r : Result V E) → 7 ≤ n → IfOk r (λ v. f v ≡ n) → IfErr r (λ e. h e ≡ n) → MatchResult r (λ v. 7 ≤ f v) (λ e. 7 ≤ h e)
+same_memory f h n (Ok v) room p q = subst (λ (m : ℕ). 7 ≤ m) (sym p) room
+same_memory f h n (Err e) room p q = subst (λ (m : ℕ). 7 ≤ m) (sym q) room

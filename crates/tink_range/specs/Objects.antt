@@ -37,3 +37,11 @@ module _ {A : Type 0} (length_of : A → ℕ) (bytes : A → Option (List ℕ)) 
     pub bytes_are : bytes new ≡ bytes old
     pub later : faults old ≤ faults new
     pub count : RisesByReadFault (faults old) (faults new) result
+
+module _ {A : Type 0} (length_of : A → ℕ) (bytes : A → Option (List ℕ)) (faults : A → ℕ) (stays : A → A → Type 0) (old new : A) where
+  -- what a read leaves: its length and its bytes are as before, it has failed once more where the read failed, and what
+  -- stays over calls stays
+  pub record ReadsObject {T E : Type 0} (result : Result T E) : Type 0 where
+    pub kept : KeepsObject length_of bytes faults old new
+    pub count : RisesByFailure (faults old) (faults new) result
+    pub same : stays old new

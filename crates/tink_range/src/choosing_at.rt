@@ -3,7 +3,7 @@ ghost use Rattle.stream_model.specs.Cut.{numbered};
 ghost use Rattle.stream_model.specs.Key.{nonce_size};
 ghost use Rattle.stream_model.specs.Opening.{HasFront, IsChosen, header_of, opening_key};
 ghost use Rattle.tink_range.specs.ChoosingAt.{DoesBeginAt, DoesNotBeginAt, IsFirstAt, Tries};
-ghost use Rattle.tink_range.specs.Objects.{KeepsObject, RisesByFailure};
+ghost use Rattle.tink_range.specs.Objects.{ReadsObject};
 ghost use Rattle.tink_range.specs.Rooms.{HasRoomFor, KeepsBuffers};
 ghost use Rattle.tink_segments.specs.StreamSegments.{segment_by};
 ghost use Rattle.tink_stream_keys.specs.Decrypters.{OpensBehind};
@@ -37,9 +37,8 @@ fn front_at<A: ReadAt, T: DerivesStreams>(
     prefix: Vec<u8>,
 ) -> Result<Result<Opener<StreamSegment>, Vec<u8>>, Failed>
     requires held { length held.old ≤ A.length_of object.old }
-    requires fits { length held.old < 2 ^ 64 }
     requires prefix { 7 ≤ vec_capacity prefix }
-    ensures read { IfOk result (λ _. IfSome (A.bytes object.old) (λ S. held.new ≡ take (length held.old) S)) }
+    ensures held { IfOk result (λ _. IfSome (A.bytes object.old) (λ S. held.new ≡ take (length held.old) S)) }
     ensures answer { IfOk result (λ r. MatchResult r
         (λ o. OpensBehind (opening_key aad.now (T.key_of key.now)) (nonce_size (T.key_of key.now)) held.new
         (numbered (segment_by o.decrypter) o.nonce_size o.prefix.items) o.first o.size o.overhead o.nonce_size)
@@ -48,9 +47,7 @@ fn front_at<A: ReadAt, T: DerivesStreams>(
         (header_of (opening_key aad.now (T.key_of key.now)) held.new) ≡ None))) }
     ensures room { IfOk result (λ r. MatchResult r
         (λ o. 7 ≤ vec_capacity o.prefix) (λ memory. 7 ≤ vec_capacity memory)) }
-    ensures kept { KeepsObject A.length_of A.bytes A.faults object.old object.new }
-    ensures count { RisesByFailure (A.faults object.old) (A.faults object.new) result }
-    ensures same { A.same object.old object.new }
+    ensures read { ReadsObject A.length_of A.bytes A.faults A.same object.old object.new result }
 {
     match fill_at(object, 0, held) {
         Ok(()) => Ok(opener_behind(key, held, aad, prefix)),
@@ -96,9 +93,7 @@ fn try_at<A: ReadAt, T: DerivesStreams, L: Ledger>(
         (vec_capacity memory))) }
     ensures ticks { (steps.old ≤ steps.new) × (steps.new ≤ steps.old + 1) }
     ensures room { KeepsBuffers sealed.old sealed.new text.old text.new nonce.old nonce.new }
-    ensures kept { KeepsObject A.length_of A.bytes A.faults object.old object.new }
-    ensures count { RisesByFailure (A.faults object.old) (A.faults object.new) result }
-    ensures same { A.same object.old object.new }
+    ensures read { ReadsObject A.length_of A.bytes A.faults A.same object.old object.new result }
 {
     let front = key.output_prefix().len() + key.header_length();
     let size = object.size();
@@ -152,9 +147,7 @@ pub fn choose_at<A: ReadAt, T: DerivesStreams, L: Ledger>(
     ensures tries { IfOk result (λ _. IfSome (A.bytes object.old)
         (λ S. Tries (map (λ k. opening_key aad.now (T.key_of k)) keys.now) S (steps.new - steps.old))) }
     ensures ticks { (steps.old ≤ steps.new) × (steps.new ≤ steps.old + length keys.now) }
-    ensures kept { KeepsObject A.length_of A.bytes A.faults object.old object.new }
-    ensures count { RisesByFailure (A.faults object.old) (A.faults object.new) result }
-    ensures same { A.same object.old object.new }
+    ensures read { ReadsObject A.length_of A.bytes A.faults A.same object.old object.new result }
 {
     let mut prefix = prefix;
     for key in keys {

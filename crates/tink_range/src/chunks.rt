@@ -3,7 +3,7 @@
 ghost use Rattle.std.specs.Prelude.{◌≡◌, ◌≤◌, ◌<◌, ◌+◌, ◌-◌, ◌^◌, ℕ, List, length, min, true, vec_len, vec_capacity, IfOk, MatchResult};
 ghost use Rattle.stream_model.specs.Cut.{room_at};
 ghost use Rattle.tink_range.specs.ChunkReading.{OneMeans, OpensAt, ends_of};
-ghost use Rattle.tink_range.specs.Objects.{KeepsObject, LeavesObject, RisesByFailure};
+ghost use Rattle.tink_range.specs.Objects.{LeavesObject, ReadsObject};
 ghost use Rattle.tink_range.specs.RangeReading.{LastMeans};
 ghost use Rattle.tink_range.specs.Ranges.{TouchesPlaces, text_length};
 ghost use Rattle.tink_range.specs.Shapes.{HasShape, IsLast};
@@ -53,9 +53,7 @@ impl<D: SegmentDecrypter> RangeCore<D> {
             ≡ min (self.old.behind - start) (room_at self.old.opener.first self.old.opener.size number)) }
         ensures ticks { MatchResult result (λ _. steps.new ≡ steps.old + 1) (λ _. steps.new ≡ steps.old) }
         ensures core { IsSameCore self.old self.new }
-        ensures kept { KeepsObject A.length_of A.bytes A.faults object.old object.new }
-        ensures count { RisesByFailure (A.faults object.old) (A.faults object.new) result }
-        ensures same { A.same object.old object.new }
+        ensures read { ReadsObject A.length_of A.bytes A.faults A.same object.old object.new result }
     {
         open_at(
             &self.opener,

@@ -62,7 +62,6 @@ fn is_listed(fails: &Vec<u32>, call: u64) -> bool
 fn give_at(bytes: &[u8], pos: u64, piece: usize, buf: &mut [u8]) -> usize
     ensures count { result ≡ at_most_piece piece (min (length bytes.now - pos) (length buf.old)) }
     ensures given { take result buf.new ≡ take result (drop pos bytes.now) }
-    ensures some { 0 < length buf.old → pos < length bytes.now → 0 < result }
 {
     if pos >= bytes.len() as u64 {
         return 0;

@@ -1,7 +1,7 @@
 ghost use Rattle.std.specs.Prelude.{◌≡◌, ◌≤◌, ◌<◌, ◌+◌, ◌^◌, min, true, length, take, drop, vec_len, vec_capacity, IfOk, IfSome, MatchResult};
 ghost use Rattle.stream_model.specs.Cut.{room_at};
 ghost use Rattle.tink_range.specs.ChunkReading.{OpensAt, ChunkOpensTo};
-ghost use Rattle.tink_range.specs.Objects.{KeepsObject, RisesByFailure};
+ghost use Rattle.tink_range.specs.Objects.{ReadsObject};
 ghost use Rattle.tink_range.specs.Rooms.{HasRoomFor, KeepsBuffers};
 ghost use Rattle.tink_streams.specs.Openers.{segment_map};
 ghost use Rattle.tink_streams.specs.Rooms.{KeepsNonceAndText};
@@ -48,9 +48,7 @@ fn open_into<A: ReadAt, D: SegmentDecrypter, L: Ledger>(
         → vec_len text.new + opener.now.overhead ≡ length chunk.old) }
     ensures ticks { MatchResult result (λ _. steps.new ≡ steps.old + 1) (λ _. steps.new ≡ steps.old) }
     ensures room { KeepsNonceAndText nonce.old nonce.new text.old text.new }
-    ensures kept { KeepsObject A.length_of A.bytes A.faults object.old object.new }
-    ensures count { RisesByFailure (A.faults object.old) (A.faults object.new) result }
-    ensures same { A.same object.old object.new }
+    ensures read { ReadsObject A.length_of A.bytes A.faults A.same object.old object.new result }
 {
     match fill_at(object, at, chunk) {
         Ok(()) => {
@@ -85,9 +83,7 @@ pub fn open_at<A: ReadAt, D: SegmentDecrypter, L: Ledger>(
         ≡ min rest (room_at opener.now.first opener.now.size number)) }
     ensures ticks { MatchResult result (λ _. steps.new ≡ steps.old + 1) (λ _. steps.new ≡ steps.old) }
     ensures room { KeepsBuffers sealed.old sealed.new text.old text.new nonce.old nonce.new }
-    ensures kept { KeepsObject A.length_of A.bytes A.faults object.old object.new }
-    ensures count { RisesByFailure (A.faults object.old) (A.faults object.new) result }
-    ensures same { A.same object.old object.new }
+    ensures read { ReadsObject A.length_of A.bytes A.faults A.same object.old object.new result }
 {
     let room = room_of(opener, number);
     let len = rest.min(room as u64) as usize;

@@ -1,5 +1,5 @@
 ghost use Rattle.std.specs.Prelude.{◌≡◌, ◌≤◌, ◌<◌, ◌+◌, ◌^◌, length, take, drop, IfSome, OnOk};
-ghost use Rattle.tink_range.specs.Objects.{KeepsObject, RisesByFailure};
+ghost use Rattle.tink_range.specs.Objects.{ReadsObject};
 
 use crate::read_at::ReadAt;
 use tink_io::Failed;
@@ -10,9 +10,7 @@ pub fn fill_at<A: ReadAt>(object: &mut A, at: u64, buf: &mut [u8]) -> Result<(),
     requires fits { at + length buf.old < 2 ^ 64 }
     ensures given { OnOk result (IfSome (A.bytes object.old)
         (λ S. buf.new ≡ take (length buf.old) (drop at S))) }
-    ensures kept { KeepsObject A.length_of A.bytes A.faults object.old object.new }
-    ensures count { RisesByFailure (A.faults object.old) (A.faults object.new) result }
-    ensures same { A.same object.old object.new }
+    ensures read { ReadsObject A.length_of A.bytes A.faults A.same object.old object.new result }
 {
     let mut done = 0;
     while done < buf.len() {

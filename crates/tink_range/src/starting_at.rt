@@ -43,20 +43,25 @@ pub fn start_at<A: ReadAt, T: DerivesStreams, L: Ledger>(
     let Trial {
         kept,
         prefix,
-        mut nonce,
-        opened: mut text,
+        nonce,
+        opened: text,
     } = trial;
     let Kept {
-        buffer: mut sealed,
+        buffer: sealed,
         filled: _,
     } = kept;
+    let mut buffers = Buffers {
+        text,
+        sealed,
+        nonce,
+    };
     match choose_at(
         keys,
         aad,
         object,
-        &mut sealed,
-        &mut text,
-        &mut nonce,
+        &mut buffers.sealed,
+        &mut buffers.text,
+        &mut buffers.nonce,
         prefix,
         steps,
     ) {
@@ -68,11 +73,7 @@ pub fn start_at<A: ReadAt, T: DerivesStreams, L: Ledger>(
                 opener,
                 front,
                 behind,
-                buffers: Buffers {
-                    text,
-                    sealed,
-                    nonce,
-                },
+                buffers,
             })
         }
     }

@@ -85,9 +85,9 @@ loop-key-preserved g c =
           inv.tried;
       ticked = omega (arith, called.ticks.0, inv.ticked);
       few = omega (arith, called.ticks.1, inv.few);
-      kept = keeps_trans g.A.ReadAt.length_of g.A.ReadAt.bytes g.A.ReadAt.faults c.args.object.now c.loop-key.object c.try_at.new.object inv.kept called.kept;
-      count = called.count ∙ inv.count;
-      same = g.met.A.ReadAt.same_trans _ _ _ inv.same called.same;
+      kept = keeps_trans g.A.ReadAt.length_of g.A.ReadAt.bytes g.A.ReadAt.faults c.args.object.now c.loop-key.object c.try_at.new.object inv.kept called.read.kept;
+      count = called.read.count ∙ inv.count;
+      same = g.met.A.ReadAt.same_trans _ _ _ inv.same called.read.same;
     }
 
 pub returns-clause-none : goal.returns-clause-none
@@ -104,30 +104,6 @@ returns-clause-tries g c =
     let n : ℕ = c.loop-key.steps - c.args.steps.now in
     told_weaker (g.A.ReadAt.bytes c.args.object.now) (TriesFrom of keys c.loop-key.key-index n) (λ X. Tries (map of keys) X n)
     (λ X h. tries_none of keys c.loop-key.key-index n X (omega arith) h) c.loop-key.invariant.tried
-
--- the object is the one that it was
-
-pub returns-in-Ok-Ok-clause-same : goal.returns-in-Ok-Ok-clause-same
-returns-in-Ok-Ok-clause-same g c = g.met.A.ReadAt.same_trans _ _ _ c.loop-key.invariant.same c.in-Ok-Ok.ensures.same
-
-pub returns-in-Err-clause-same : goal.returns-in-Err-clause-same
-returns-in-Err-clause-same g c = g.met.A.ReadAt.same_trans _ _ _ c.loop-key.invariant.same c.in-Err.ensures.same
-
--- and has failed as often, or once more
-
-pub returns-in-Ok-Ok-clause-kept : goal.returns-in-Ok-Ok-clause-kept
-returns-in-Ok-Ok-clause-kept g c =
-    keeps_trans g.A.ReadAt.length_of g.A.ReadAt.bytes g.A.ReadAt.faults c.args.object.now c.loop-key.object c.try_at.new.object c.loop-key.invariant.kept c.in-Ok-Ok.ensures.kept
-
-pub returns-in-Err-clause-kept : goal.returns-in-Err-clause-kept
-returns-in-Err-clause-kept g c =
-    keeps_trans g.A.ReadAt.length_of g.A.ReadAt.bytes g.A.ReadAt.faults c.args.object.now c.loop-key.object c.try_at.new.object c.loop-key.invariant.kept c.in-Err.ensures.kept
-
-pub returns-in-Ok-Ok-clause-count : goal.returns-in-Ok-Ok-clause-count
-returns-in-Ok-Ok-clause-count g c = c.in-Ok-Ok.ensures.count ∙ c.loop-key.invariant.count
-
-pub returns-in-Err-clause-count : goal.returns-in-Err-clause-count
-returns-in-Err-clause-count g c = rose_since _ _ _ c.loop-key.invariant.count c.in-Err.ensures.count
 
 -- after a step for each key at most
 
@@ -195,3 +171,29 @@ returns-in-Err-clause-room g c = tt
 
 pub returns-in-Err-clause-tries : goal.returns-in-Err-clause-tries
 returns-in-Err-clause-tries g c = tt
+
+pub returns-in-Ok-Ok-clause-read : goal.returns-in-Ok-Ok-clause-read
+returns-in-Ok-Ok-clause-read g c =
+    let inv = c.loop-key.invariant in
+    let read = c.in-Ok-Ok.ensures.read in
+    record {
+      kept = keeps_trans g.A.ReadAt.length_of g.A.ReadAt.bytes g.A.ReadAt.faults c.args.object.now c.loop-key.object c.try_at.new.object inv.kept read.kept;
+      count = read.count ∙ inv.count;
+      same = g.met.A.ReadAt.same_trans _ _ _ inv.same read.same;
+    }
+
+pub returns-in-Err-clause-read : goal.returns-in-Err-clause-read
+returns-in-Err-clause-read g c =
+    let inv = c.loop-key.invariant in
+    let read = c.in-Err.ensures.read in
+    record {
+      kept = keeps_trans g.A.ReadAt.length_of g.A.ReadAt.bytes g.A.ReadAt.faults c.args.object.now c.loop-key.object c.try_at.new.object inv.kept read.kept;
+      count = rose_since _ _ _ inv.count read.count;
+      same = g.met.A.ReadAt.same_trans _ _ _ inv.same read.same;
+    }
+
+pub returns-clause-read : goal.returns-clause-read
+returns-clause-read g c = let inv = c.loop-key.invariant in record { kept = inv.kept; count = inv.count; same = inv.same }
+
+pub try_at-requires-clause-prefix : goal.try_at-requires-clause-prefix
+try_at-requires-clause-prefix g c = c.loop-key.invariant.prefix_room

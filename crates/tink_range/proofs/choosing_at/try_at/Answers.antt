@@ -1,5 +1,4 @@
-use Rattle.std.proofs.Common.{◌≡◌, ◌≤◌, ◌<◌, ◌+◌, ◌-◌, ℕ, Bool, List, length, take, refl, ap, ◌∙◌, vec_len, vec_capacity, arith, le_refl}
-use Rattle.std.proofs.lemmas.List.{length-take}
+use Rattle.std.proofs.Common.{◌≡◌, ◌≤◌, ◌<◌, ◌+◌, ◌-◌, ℕ, Bool, List, length, take, refl, sym, ap, ◌∙◌, vec_len, vec_capacity, arith, le_refl}
 use Rattle.std.specs.declared.option.Option.{Option}
 use Rattle.stream_model.specs.Cut.{numbered}
 use Rattle.stream_model.specs.Key.{StreamKey, nonce_size}
@@ -8,9 +7,9 @@ use Rattle.stream_model.proofs.KeyFacts.{opening_key_lawful}
 use Rattle.tink_segments.specs.StreamSegments.{segment_by}
 use Rattle.tink_range.specs.ChoosingAt.{DoesBeginAt, DoesNotBeginAt, is_tried, one_if}
 use Rattle.tink_range.specs.declared.choosing_at.BegunAt.{BegunAt}
-use Rattle.tink_range.proofs.ObjectSteps.{keeps_trans, none_more, one_more, room_for, rose_since}
+use Rattle.tink_range.proofs.ObjectSteps.{below, front_inside, keeps_trans, none_more, one_more, room_for, rose_since, unread}
 use Rattle.tink_range.proofs.ReadingFacts.{told_weaker}
-use Rattle.tink_range.proofs.TrialAtFacts.{by_test, short_not, short_untried, told_does, told_not, told_underived}
+use Rattle.tink_range.proofs.TrialAtFacts.{by_test, cut_front, front_of, short_not, short_untried, told_does, told_not, told_underived}
 use Rattle.tink_range.proofs.choosing_at.try_at.Goals as goal
 
 pub returns-then-size-front-clause-answer : goal.returns-then-size-front-clause-answer
@@ -33,15 +32,15 @@ returns-in-Ok-Err-clause-answer g c =
     let all : Option (List ℕ) = g.A.ReadAt.bytes c.args.object.now in
     let len : ℕ = g.A.ReadAt.length_of c.args.object.now in
     let front : ℕ = length c.output_prefix.result.now + c.header_length.result in
-    let front_is : front ≡ front_length k = omega (arith, ap length c.output_prefix.ensures, c.header_length.ensures.value) in
+    let front_is : front ≡ front_length k = front_of c.args.aad.now key c.output_prefix.result.now c.header_length.result c.output_prefix.ensures c.header_length.ensures.value in
     let some : 0 < k.header = omega arith in
     let inside : front_length k ≤ len = omega (arith, front_is, c.size-size.ensures, c.if-size-front.false) in
     let usable = opening_key_lawful c.args.aad.now key c.header_length.ensures.usable in
     let called = c.in-Ok-Err.ensures in
     let n : ℕ = length (take front c.deref_mut.result.now) in
-    let n_is : n ≡ front_length k = omega (arith, front_is, length-take front c.deref_mut.result.now, ap length c.deref_mut.ensures.value, c.requires.sealed, usable.fits) in
+    let n_is : n ≡ front_length k = cut_front k front _ c.deref_mut.result.now front_is usable c.deref_mut.ensures.len c.requires.sealed ∙ front_is in
     let none = told_underived k c.front_at.new.held n len some n_is inside all c.args.steps.now
-    (g.met.A.ReadAt.told c.args.object.now) called.read (rw c.in-Ok-Err.field-0-is at called.answer) in
+    (g.met.A.ReadAt.told c.args.object.now) called.held (rw c.in-Ok-Err.field-0-is at called.answer) in
     record { none = none.0; ticked = none.1; room = rw c.in-Ok-Err.field-0-is at called.room }
 
 pub returns-in-Ok-clause-answer : goal.returns-in-Ok-clause-answer
@@ -51,7 +50,7 @@ returns-in-Ok-clause-answer g c =
     let all : Option (List ℕ) = g.A.ReadAt.bytes c.args.object.now in
     let len : ℕ = g.A.ReadAt.length_of c.args.object.now in
     let front : ℕ = length c.output_prefix.result.now + c.header_length.result in
-    let front_is : front ≡ front_length k = omega (arith, ap length c.output_prefix.ensures, c.header_length.ensures.value) in
+    let front_is : front ≡ front_length k = front_of c.args.aad.now key c.output_prefix.result.now c.header_length.result c.output_prefix.ensures c.header_length.ensures.value in
     let some : 0 < k.header = omega arith in
     let more : front < len = omega (arith, c.size-size.ensures, c.if-size-front.false) in
     let inside : front_length k ≤ len = omega (arith, front_is, more) in
@@ -62,7 +61,7 @@ returns-in-Ok-clause-answer g c =
     let seg : ℕ → Bool → List ℕ → List ℕ = numbered (segment_by o.decrypter) o.nonce_size o.prefix.items in
     let rest_is : c.size-size.result - front ≡ len - front = omega (arith, c.size-size.ensures) in
     let n : ℕ = length (take front c.deref_mut.result.now) in
-    let n_is : n ≡ front_length k = omega (arith, front_is, length-take front c.deref_mut.result.now, ap length c.deref_mut.ensures.value, c.requires.sealed, usable.fits) in
+    let n_is : n ≡ front_length k = cut_front k front _ c.deref_mut.result.now front_is usable c.deref_mut.ensures.len c.requires.sealed ∙ front_is in
     let opened = c.in-Ok.ensures in
     by_test (λ (b : BegunAt). DoesBeginAt k (nonce_size key) len all (numbered (segment_by b.opener.decrypter) b.opener.nonce_size b.opener.prefix.items) b.front b.opener.first b.opener.size b.opener.overhead b.opener.nonce_size c.args.steps.now c.open_at.new.steps)
     (λ memory. DoesNotBeginAt k all c.args.steps.now c.open_at.new.steps (vec_capacity memory))
@@ -70,7 +69,7 @@ returns-in-Ok-clause-answer g c =
     (λ agrees. record {
       found = told_does k c.front_at.new.held n len some n_is inside seg front o.first o.size o.overhead (nonce_size key) o.nonce_size (c.size-size.result - front) opens front_is
           (omega (arith, usable.room)) (omega (arith, usable.room, usable.fits)) usable.fits more rest_is all (g.A.ReadAt.bytes c.front_at.new.object) c.open_at.new.text.items c.in-Ok.begins
-          called.kept.bytes_are agrees (g.met.A.ReadAt.told c.args.object.now) called.read opened.answer;
+          called.read.kept.bytes_are agrees (g.met.A.ReadAt.told c.args.object.now) called.held opened.answer;
       opened = record { first_is = opens.first_is; size_is = opens.size_is; overhead_is = opens.overhead_is; nonce_is = opens.nonce_is };
       front_is = front_is;
       inside = more;
@@ -79,33 +78,10 @@ returns-in-Ok-clause-answer g c =
     (λ differs.
     let not = told_not k c.front_at.new.held n len some n_is inside seg front o.first o.size o.overhead (nonce_size key) o.nonce_size (c.size-size.result - front) opens front_is
     (omega (arith, usable.room)) (omega (arith, usable.room, usable.fits)) usable.fits more rest_is all (g.A.ReadAt.bytes c.front_at.new.object) c.open_at.new.text.items c.in-Ok.begins c.args.steps.now c.open_at.new.steps
-    called.kept.bytes_are differs opened.ticks (g.met.A.ReadAt.told c.args.object.now) called.read opened.answer in
+    called.read.kept.bytes_are differs opened.ticks (g.met.A.ReadAt.told c.args.object.now) called.held opened.answer in
     record { none = not.0; ticked = not.1; room = rw c.in-Ok-Ok.field-0-is at called.room })
 
 -- the object is the one that it was, and so are its length, its bytes and its count
-
-pub returns-in-Ok-clause-same : goal.returns-in-Ok-clause-same
-returns-in-Ok-clause-same g c = g.met.A.ReadAt.same_trans _ _ _ c.in-Ok-Ok.ensures.same c.in-Ok.ensures.same
-
-pub returns-in-Err-open_at-clause-same : goal.returns-in-Err-open_at-clause-same
-returns-in-Err-open_at-clause-same g c = g.met.A.ReadAt.same_trans _ _ _ c.in-Ok-Ok.ensures.same c.in-Err-open_at.ensures.same
-
-pub returns-then-size-front-clause-same : goal.returns-then-size-front-clause-same
-returns-then-size-front-clause-same g c = g.met.A.ReadAt.same_refl c.args.object.now
-
-pub returns-in-Ok-clause-kept : goal.returns-in-Ok-clause-kept
-returns-in-Ok-clause-kept g c =
-    keeps_trans g.A.ReadAt.length_of g.A.ReadAt.bytes g.A.ReadAt.faults c.args.object.now c.front_at.new.object c.open_at.new.object c.in-Ok-Ok.ensures.kept c.in-Ok.ensures.kept
-
-pub returns-in-Err-open_at-clause-kept : goal.returns-in-Err-open_at-clause-kept
-returns-in-Err-open_at-clause-kept g c =
-    keeps_trans g.A.ReadAt.length_of g.A.ReadAt.bytes g.A.ReadAt.faults c.args.object.now c.front_at.new.object c.open_at.new.object c.in-Ok-Ok.ensures.kept c.in-Err-open_at.ensures.kept
-
-pub returns-in-Ok-clause-count : goal.returns-in-Ok-clause-count
-returns-in-Ok-clause-count g c = c.in-Ok.ensures.count ∙ c.in-Ok-Ok.ensures.count
-
-pub returns-in-Err-open_at-clause-count : goal.returns-in-Err-open_at-clause-count
-returns-in-Err-open_at-clause-count g c = rose_since _ _ _ c.in-Ok-Ok.ensures.count c.in-Err-open_at.ensures.count
 
 pub returns-in-Ok-clause-ticks : goal.returns-in-Ok-clause-ticks
 returns-in-Ok-clause-ticks g c = one_more c.args.steps.now c.open_at.new.steps c.in-Ok.ensures.ticks
@@ -115,24 +91,6 @@ open_at-requires-clause-room g c =
     let key : StreamKey = g.T.DerivesStreams.key_of c.args.key.now in
     let opens = rw c.in-Ok-Ok.field-0-is at c.in-Ok-Ok.ensures.answer in
     room_for _ _ key.segment (nonce_size key) (length key.out) (vec_len c.args.sealed.now) _ _ _ _ _ opens.size_is opens.nonce_is c.requires.sealed c.requires.text c.requires.nonce refl (le_refl _) refl
-
-pub returns-in-Err-clause-kept : goal.returns-in-Err-clause-kept
-returns-in-Err-clause-kept g c = c.in-Err.ensures.kept
-
-pub returns-in-Err-clause-count : goal.returns-in-Err-clause-count
-returns-in-Err-clause-count g c = c.in-Err.ensures.count
-
-pub returns-in-Err-clause-same : goal.returns-in-Err-clause-same
-returns-in-Err-clause-same g c = c.in-Err.ensures.same
-
-pub returns-in-Ok-Err-clause-kept : goal.returns-in-Ok-Err-clause-kept
-returns-in-Ok-Err-clause-kept g c = c.in-Ok-Err.ensures.kept
-
-pub returns-in-Ok-Err-clause-count : goal.returns-in-Ok-Err-clause-count
-returns-in-Ok-Err-clause-count g c = c.in-Ok-Err.ensures.count
-
-pub returns-in-Ok-Err-clause-same : goal.returns-in-Ok-Err-clause-same
-returns-in-Ok-Err-clause-same g c = c.in-Ok-Err.ensures.same
 
 pub returns-in-Err-open_at-clause-ticks : goal.returns-in-Err-open_at-clause-ticks
 returns-in-Err-open_at-clause-ticks g c = none_more c.args.steps.now c.open_at.new.steps c.in-Err-open_at.ensures.ticks
@@ -144,3 +102,65 @@ returns-in-Ok-clause-room g c = let room = c.in-Ok.ensures.room in record { buff
 
 pub returns-in-Err-open_at-clause-room : goal.returns-in-Err-open_at-clause-room
 returns-in-Err-open_at-clause-room g c = let room = c.in-Err-open_at.ensures.room in record { buffers = room.buffers; sealed_len = room.sealed_len; sealed_capacity = room.sealed_capacity }
+
+pub returns-then-size-front-clause-read : goal.returns-then-size-front-clause-read
+returns-then-size-front-clause-read g c =
+    record { kept = unread g.A.ReadAt.length_of g.A.ReadAt.bytes g.A.ReadAt.faults c.args.object.now; count = refl; same = g.met.A.ReadAt.same_refl c.args.object.now }
+
+pub returns-in-Ok-clause-read : goal.returns-in-Ok-clause-read
+returns-in-Ok-clause-read g c =
+    let a = c.in-Ok-Ok.ensures.read in
+    let b = c.in-Ok.ensures.read in
+    record {
+      kept = keeps_trans g.A.ReadAt.length_of g.A.ReadAt.bytes g.A.ReadAt.faults c.args.object.now c.front_at.new.object c.open_at.new.object a.kept b.kept;
+      count = b.count ∙ a.count;
+      same = g.met.A.ReadAt.same_trans _ _ _ a.same b.same;
+    }
+
+pub returns-in-Err-open_at-clause-read : goal.returns-in-Err-open_at-clause-read
+returns-in-Err-open_at-clause-read g c =
+    let a = c.in-Ok-Ok.ensures.read in
+    let b = c.in-Err-open_at.ensures.read in
+    record {
+      kept = keeps_trans g.A.ReadAt.length_of g.A.ReadAt.bytes g.A.ReadAt.faults c.args.object.now c.front_at.new.object c.open_at.new.object a.kept b.kept;
+      count = rose_since _ _ _ a.count b.count;
+      same = g.met.A.ReadAt.same_trans _ _ _ a.same b.same;
+    }
+
+pub returns-in-Err-clause-read : goal.returns-in-Err-clause-read
+returns-in-Err-clause-read g c = let read = c.in-Err.ensures.read in record { kept = read.kept; count = read.count; same = read.same }
+
+pub returns-in-Ok-Err-clause-read : goal.returns-in-Ok-Err-clause-read
+returns-in-Ok-Err-clause-read g c = let read = c.in-Ok-Err.ensures.read in record { kept = read.kept; count = read.count; same = read.same }
+
+pub returns-in-Err-clause-answer : goal.returns-in-Err-clause-answer
+returns-in-Err-clause-answer g c = tt
+
+pub returns-in-Err-open_at-clause-answer : goal.returns-in-Err-open_at-clause-answer
+returns-in-Err-open_at-clause-answer g c = tt
+
+pub front_at-requires-clause-prefix : goal.front_at-requires-clause-prefix
+front_at-requires-clause-prefix g c = c.requires.prefix
+
+-- the front is a part of the buffer, and of the object
+
+pub slice_bounds-front_at-end : goal.slice_bounds-front_at-end
+slice_bounds-front_at-end g c =
+    let key : StreamKey = g.T.DerivesStreams.key_of c.args.key.now in
+    let k : OpeningKey = opening_key c.args.aad.now key in
+    let front : ℕ = length c.output_prefix.result.now + c.header_length.result in
+    let front_is : front ≡ front_length k = front_of c.args.aad.now key c.output_prefix.result.now c.header_length.result c.output_prefix.ensures c.header_length.ensures.value in
+    sym (cut_front k front _ c.deref_mut.result.now front_is (opening_key_lawful c.args.aad.now key c.header_length.ensures.usable) c.deref_mut.ensures.len c.requires.sealed)
+
+pub front_at-requires-clause-held : goal.front_at-requires-clause-held
+front_at-requires-clause-held g c =
+    let key : StreamKey = g.T.DerivesStreams.key_of c.args.key.now in
+    let k : OpeningKey = opening_key c.args.aad.now key in
+    let front : ℕ = length c.output_prefix.result.now + c.header_length.result in
+    let front_is : front ≡ front_length k = front_of c.args.aad.now key c.output_prefix.result.now c.header_length.result c.output_prefix.ensures c.header_length.ensures.value in
+    front_inside _ front c.size-size.result _
+    (cut_front k front _ c.deref_mut.result.now front_is (opening_key_lawful c.args.aad.now key c.header_length.ensures.usable) c.deref_mut.ensures.len c.requires.sealed)
+    c.if-size-front.false c.size-size.ensures
+
+pub overflow_sub-size : goal.overflow_sub-size
+overflow_sub-size g c = below _ _ c.if-size-front.false

@@ -1,8 +1,9 @@
-use Rattle.std.proofs.Common.{◌≡◌, ◌+◌, min, nat_le, ℕ, Bool, true, List, length, take, drop, IfSome, vec_len}
+use Rattle.std.proofs.Common.{◌≡◌, ◌+◌, min, nat_le, ℕ, Bool, true, List, length, take, drop, refl, sym, IfSome, vec_len}
 use Rattle.std.proofs.lemmas.Result.{IfOk-weaker}
 use Rattle.stream_model.specs.Cut.{room_at}
 use Rattle.tink_streams.specs.Openers.{segment_map}
 use Rattle.tink_range.specs.ChunkReading.{ChunkOpensTo, OpensAt}
+use Rattle.tink_range.proofs.ObjectSteps.{chunk_fits, chunk_inside}
 use Rattle.tink_range.proofs.ReadingFacts.{chunk_length, opened_at, whole_chunk}
 use Rattle.tink_range.proofs.opening_at.open_at.Goals as goal
 
@@ -31,11 +32,28 @@ returns-clause-length g c =
 pub returns-clause-ticks : goal.returns-clause-ticks
 returns-clause-ticks g c = c.open_into.ensures.ticks
 
-pub returns-clause-kept : goal.returns-clause-kept
-returns-clause-kept g c = c.open_into.ensures.kept
+pub returns-clause-read : goal.returns-clause-read
+returns-clause-read g c = c.open_into.ensures.read
 
-pub returns-clause-count : goal.returns-clause-count
-returns-clause-count g c = c.open_into.ensures.count
+pub returns-clause-room : goal.returns-clause-room
+returns-clause-room g c = record { buffers = c.open_into.ensures.room; sealed_len = refl; sealed_capacity = refl }
 
-pub returns-clause-same : goal.returns-clause-same
-returns-clause-same g c = c.open_into.ensures.same
+-- the chunk is a part of the buffer, and of the object
+
+pub slice_bounds-open_into-end : goal.slice_bounds-open_into-end
+slice_bounds-open_into-end g c =
+    let long : length (take c.min-len.result c.deref_mut.result.now) ≡ c.min-len.result = chunk_length c.min-len.result c.args.rest c.room_of-room.result c.args.opener.now.size _ c.deref_mut.result.now c.min-len.ensures c.room_of-room.ensures.most c.requires.room.sealed_room c.deref_mut.ensures.len in
+    sym long
+
+pub open_into-requires-clause-number : goal.open_into-requires-clause-number
+open_into-requires-clause-number g c = c.requires.number
+
+pub open_into-requires-clause-inside : goal.open_into-requires-clause-inside
+open_into-requires-clause-inside g c =
+    let long : length (take c.min-len.result c.deref_mut.result.now) ≡ c.min-len.result = chunk_length c.min-len.result c.args.rest c.room_of-room.result c.args.opener.now.size _ c.deref_mut.result.now c.min-len.ensures c.room_of-room.ensures.most c.requires.room.sealed_room c.deref_mut.ensures.len in
+    chunk_inside c.args.at (length (take c.min-len.result c.deref_mut.result.now)) c.min-len.result c.args.rest c.room_of-room.result _ long c.min-len.ensures c.requires.inside.0 c.requires.inside.1
+
+pub open_into-requires-clause-room : goal.open_into-requires-clause-room
+open_into-requires-clause-room g c =
+    let long : length (take c.min-len.result c.deref_mut.result.now) ≡ c.min-len.result = chunk_length c.min-len.result c.args.rest c.room_of-room.result c.args.opener.now.size _ c.deref_mut.result.now c.min-len.ensures c.room_of-room.ensures.most c.requires.room.sealed_room c.deref_mut.ensures.len in
+    (chunk_fits _ c.min-len.result c.args.rest c.room_of-room.result c.args.opener.now.size long c.min-len.ensures c.room_of-room.ensures.most, c.requires.room.text_room, c.requires.room.nonce_room)

@@ -15,11 +15,26 @@ returns-in-Ok-clause-room g c = c.open_held.ensures.room
 pub returns-in-Ok-clause-length : goal.returns-in-Ok-clause-length
 returns-in-Ok-clause-length g c = λ ok. c.open_held.ensures.length ok ∙ c.fill_at.auto.buf
 
-pub returns-in-Ok-clause-kept : goal.returns-in-Ok-clause-kept
-returns-in-Ok-clause-kept g c = c.in-Ok.ensures.kept
+pub returns-in-Ok-clause-read : goal.returns-in-Ok-clause-read
+returns-in-Ok-clause-read g c = let read = c.in-Ok.ensures.read in record { kept = read.kept; count = read.count; same = read.same }
 
-pub returns-in-Ok-clause-count : goal.returns-in-Ok-clause-count
-returns-in-Ok-clause-count g c = c.in-Ok.ensures.count
+pub returns-in-Ok-clause-ticks : goal.returns-in-Ok-clause-ticks
+returns-in-Ok-clause-ticks g c = c.tick.ensures
 
-pub returns-in-Ok-clause-same : goal.returns-in-Ok-clause-same
-returns-in-Ok-clause-same g c = c.in-Ok.ensures.same
+pub returns-in-Err-clause-read : goal.returns-in-Err-clause-read
+returns-in-Err-clause-read g c = let read = c.in-Err.ensures.read in record { kept = read.kept; count = read.count; same = read.same }
+
+pub open_held-requires-clause-number : goal.open_held-requires-clause-number
+open_held-requires-clause-number g c = c.requires.number
+
+pub fill_at-requires-clause-within : goal.fill_at-requires-clause-within
+fill_at-requires-clause-within g c = c.requires.inside.0
+
+pub fill_at-requires-clause-fits : goal.fill_at-requires-clause-fits
+fill_at-requires-clause-fits g c = c.requires.inside.1
+
+pub returns-in-Err-clause-answer : goal.returns-in-Err-clause-answer
+returns-in-Err-clause-answer g c = tt
+
+pub returns-in-Err-clause-length : goal.returns-in-Err-clause-length
+returns-in-Err-clause-length g c = tt

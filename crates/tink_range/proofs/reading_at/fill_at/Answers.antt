@@ -1,5 +1,6 @@
-use Rattle.std.proofs.Common.{◌≤◌, ◌-◌, ◌∙◌, ℕ, length, arith, length-drop}
+use Rattle.std.proofs.Common.{◌≤◌, ◌-◌, ◌∙◌, ℕ, length, arith, le_trans, length-drop}
 use Rattle.std.proofs.lemmas.List.{length-take}
+use Rattle.tink_range.proofs.ObjectSteps.{rose_since}
 use Rattle.tink_range.proofs.ReadingFacts.{told_read_on}
 use Rattle.tink_range.proofs.reading_at.fill_at.Goals as goal
 
@@ -15,11 +16,28 @@ loop-done-preserved g c =
       kept = record {
         length_is = read.length ∙ inv.kept.length_is;
         bytes_are = read.bytes ∙ inv.kept.bytes_are;
-        later = omega (arith, read.cause.later, inv.kept.later);
+        later = le_trans inv.kept.later read.cause.later;
       };
       count = read.cause.count ∙ inv.count;
       same = g.met.A.ReadAt.same_trans _ _ _ inv.same read.same;
     }
 
-pub returns-in-Err-clause-same : goal.returns-in-Err-clause-same
-returns-in-Err-clause-same g c = g.met.A.ReadAt.same_trans _ _ _ c.loop-done.invariant.same c.in-Err.ensures.same
+pub returns-in-Err-clause-read : goal.returns-in-Err-clause-read
+returns-in-Err-clause-read g c =
+    let inv = c.loop-done.invariant in
+    let read = c.in-Err.ensures in
+    record {
+      kept = record {
+        length_is = read.length ∙ inv.kept.length_is;
+        bytes_are = read.bytes ∙ inv.kept.bytes_are;
+        later = le_trans inv.kept.later read.cause.later;
+      };
+      count = rose_since _ _ _ inv.count read.cause.count;
+      same = g.met.A.ReadAt.same_trans _ _ _ inv.same read.same;
+    }
+
+pub returns-in-Err-clause-given : goal.returns-in-Err-clause-given
+returns-in-Err-clause-given g c = tt
+
+pub returns-clause-read : goal.returns-clause-read
+returns-clause-read g c = let inv = c.loop-done.invariant in record { kept = inv.kept; count = inv.count; same = inv.same }

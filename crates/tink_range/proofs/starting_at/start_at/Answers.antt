@@ -1,7 +1,7 @@
 use Rattle.std.proofs.Common.{List, map}
 use Rattle.stream_model.specs.Opening.{OpeningKey, opening_key}
 use Rattle.tink_io.specs.declared.error.Kind.TheVariants.{NoMatchingKey, ReadFault}
-use Rattle.tink_range.proofs.ObjectSteps.{refusal_leaves}
+use Rattle.tink_range.proofs.ObjectSteps.{below, front_and_rest, front_below, refusal_leaves, some_behind}
 use Rattle.tink_range.proofs.StartAtFacts.{fault_untried, start_refusal}
 use Rattle.tink_range.proofs.starting_at.start_at.Goals as goal
 
@@ -17,21 +17,21 @@ returns-in-Ok-None-clause-refused g c =
 
 pub returns-in-Ok-None-clause-kept : goal.returns-in-Ok-None-clause-kept
 returns-in-Ok-None-clause-kept g c =
-    refusal_leaves g.A.ReadAt.length_of g.A.ReadAt.bytes g.A.ReadAt.faults c.args.object.now c.choose_at.new.object c.new-in-Ok-None.result NoMatchingKey c.new-in-Ok-None.ensures c.in-Ok-None.ensures.kept c.in-Ok-None.ensures.count
+    refusal_leaves g.A.ReadAt.length_of g.A.ReadAt.bytes g.A.ReadAt.faults c.args.object.now c.choose_at.new.object c.new-in-Ok-None.result NoMatchingKey c.new-in-Ok-None.ensures c.in-Ok-None.ensures.read.kept c.in-Ok-None.ensures.read.count
 
 -- the object failed
 
 pub returns-in-Err-clause-refused : goal.returns-in-Err-clause-refused
 returns-in-Err-clause-refused g c =
     start_refusal (map (λ k. opening_key c.args.aad.now (g.T.DerivesStreams.key_of k)) c.args.keys.now) (g.A.ReadAt.bytes c.args.object.now) (g.A.ReadAt.faults c.args.object.now) (g.A.ReadAt.faults c.choose_at.new.object)
-    c.new.result ReadFault c.new.ensures c.in-Err.ensures.count
+    c.new.result ReadFault c.new.ensures c.in-Err.ensures.read.count
 
 pub returns-in-Err-clause-tried : goal.returns-in-Err-clause-tried
 returns-in-Err-clause-tried g c = fault_untried c.new.result c.new.ensures
 
 pub returns-in-Err-clause-kept : goal.returns-in-Err-clause-kept
 returns-in-Err-clause-kept g c =
-    refusal_leaves g.A.ReadAt.length_of g.A.ReadAt.bytes g.A.ReadAt.faults c.args.object.now c.choose_at.new.object c.new.result ReadFault c.new.ensures c.in-Err.ensures.kept c.in-Err.ensures.count
+    refusal_leaves g.A.ReadAt.length_of g.A.ReadAt.bytes g.A.ReadAt.faults c.args.object.now c.choose_at.new.object c.new.result ReadFault c.new.ensures c.in-Err.ensures.read.kept c.in-Err.ensures.read.count
 
 -- a key is chosen
 
@@ -39,10 +39,10 @@ pub returns-in-Ok-Some-clause-found : goal.returns-in-Ok-Some-clause-found
 returns-in-Ok-Some-clause-found g c = let begun = rw c.in-Ok-Some.field-0-is at c.in-Ok-Some.ensures.found in begun.found
 
 pub returns-in-Ok-Some-clause-kept : goal.returns-in-Ok-Some-clause-kept
-returns-in-Ok-Some-clause-kept g c = let kept = c.in-Ok-Some.ensures.kept in record { length_is = kept.length_is; bytes_are = kept.bytes_are; later = kept.later; count = c.in-Ok-Some.ensures.count }
+returns-in-Ok-Some-clause-kept g c = let kept = c.in-Ok-Some.ensures.read.kept in record { length_is = kept.length_is; bytes_are = kept.bytes_are; later = kept.later; count = c.in-Ok-Some.ensures.read.count }
 
 pub returns-in-Ok-Some-clause-same : goal.returns-in-Ok-Some-clause-same
-returns-in-Ok-Some-clause-same g c = c.in-Ok-Some.ensures.same
+returns-in-Ok-Some-clause-same g c = c.in-Ok-Some.ensures.read.same
 
 pub returns-in-Ok-Some-clause-ticks : goal.returns-in-Ok-Some-clause-ticks
 returns-in-Ok-Some-clause-ticks g c = c.in-Ok-Some.ensures.ticks
@@ -52,3 +52,43 @@ returns-in-Ok-Some-clause-tried g c = c.in-Ok-Some.ensures.tries
 
 pub returns-in-Ok-None-clause-tried : goal.returns-in-Ok-None-clause-tried
 returns-in-Ok-None-clause-tried g c = λ _. c.in-Ok-None.ensures.tries
+
+pub returns-in-Ok-None-clause-same : goal.returns-in-Ok-None-clause-same
+returns-in-Ok-None-clause-same g c = c.in-Ok-None.ensures.read.same
+
+pub returns-in-Err-clause-same : goal.returns-in-Err-clause-same
+returns-in-Err-clause-same g c = c.in-Err.ensures.read.same
+
+pub returns-in-Ok-None-clause-ticks : goal.returns-in-Ok-None-clause-ticks
+returns-in-Ok-None-clause-ticks g c = c.in-Ok-None.ensures.ticks
+
+pub returns-in-Err-clause-ticks : goal.returns-in-Err-clause-ticks
+returns-in-Err-clause-ticks g c = c.in-Err.ensures.ticks
+
+-- the chunks are behind the front
+
+pub overflow_sub-behind : goal.overflow_sub-behind
+overflow_sub-behind g c =
+    let begun = rw c.in-Ok-Some.field-0-is at c.in-Ok-Some.ensures.found in
+    let below_size = front_below c.in-Ok-Some.field-0-0.front _ _ c.size.result begun.inside c.in-Ok-Some.ensures.read.kept.length_is c.size.ensures in
+    below _ _ below_size
+
+pub returns-in-Ok-Some-clause-whole : goal.returns-in-Ok-Some-clause-whole
+returns-in-Ok-Some-clause-whole g c =
+    let begun = rw c.in-Ok-Some.field-0-is at c.in-Ok-Some.ensures.found in
+    front_and_rest c.in-Ok-Some.field-0-0.front _ _ c.size.result begun.inside c.in-Ok-Some.ensures.read.kept.length_is c.size.ensures
+
+pub invariant_of-result-clause-sealed : goal.invariant_of-result-clause-sealed
+invariant_of-result-clause-sealed g c = let room = rw c.in-Ok-Some.field-0-is at c.in-Ok-Some.ensures.room in room.sealed_room
+
+pub invariant_of-result-clause-text : goal.invariant_of-result-clause-text
+invariant_of-result-clause-text g c = let room = rw c.in-Ok-Some.field-0-is at c.in-Ok-Some.ensures.room in room.text_room
+
+pub invariant_of-result-clause-nonce : goal.invariant_of-result-clause-nonce
+invariant_of-result-clause-nonce g c = let room = rw c.in-Ok-Some.field-0-is at c.in-Ok-Some.ensures.room in room.nonce_room
+
+pub invariant_of-result-clause-some : goal.invariant_of-result-clause-some
+invariant_of-result-clause-some g c =
+    let begun = rw c.in-Ok-Some.field-0-is at c.in-Ok-Some.ensures.found in
+    let below_size = front_below c.in-Ok-Some.field-0-0.front _ _ c.size.result begun.inside c.in-Ok-Some.ensures.read.kept.length_is c.size.ensures in
+    some_behind _ _ below_size

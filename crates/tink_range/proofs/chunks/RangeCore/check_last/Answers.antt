@@ -5,7 +5,7 @@ use Rattle.tink_io.specs.declared.error.Kind.TheVariants.{BadSegment, ReadFault,
 use Rattle.tink_range.specs.ChunkReading.{OpensAt}
 use Rattle.tink_range.specs.RangeCores.{chunk_in, cutting_of}
 use Rattle.tink_range.proofs.LastFacts.{last_refusal, told_agrees, told_refused}
-use Rattle.tink_range.proofs.ObjectSteps.{refusal_leaves, within_one}
+use Rattle.tink_range.proofs.ObjectSteps.{ok_leaves, refusal_leaves, within_one}
 use Rattle.tink_range.proofs.ReadingFacts.{told_weaker}
 use Rattle.tink_range.proofs.chunks.RangeCore.check_last.Goals as goal
 
@@ -42,21 +42,21 @@ returns-else-self-start-clause-answer g c =
 pub returns-in-Err-clause-answer : goal.returns-in-Err-clause-answer
 returns-in-Err-clause-answer g c =
     let core = c.args.self.now in
-    last_refusal (cutting_of core) core.behind (g.A.ReadAt.bytes c.args.object.now) (g.A.ReadAt.faults c.args.object.now) (g.A.ReadAt.faults c.open_chunk.new.object) c.new-in-Err.result ReadFault c.new-in-Err.ensures c.in-Err.ensures.count
+    last_refusal (cutting_of core) core.behind (g.A.ReadAt.bytes c.args.object.now) (g.A.ReadAt.faults c.args.object.now) (g.A.ReadAt.faults c.open_chunk.new.object) c.new-in-Err.result ReadFault c.new-in-Err.ensures c.in-Err.ensures.read.count
 
 -- the object has failed as often as before, or once more
 
 pub returns-then-self-start-clause-kept : goal.returns-then-self-start-clause-kept
 returns-then-self-start-clause-kept g c =
-    refusal_leaves g.A.ReadAt.length_of g.A.ReadAt.bytes g.A.ReadAt.faults c.args.object.now c.open_chunk.new.object c.new.result (Truncated c.args.number) c.new.ensures c.in-Ok-false.ensures.kept c.in-Ok-false.ensures.count
+    refusal_leaves g.A.ReadAt.length_of g.A.ReadAt.bytes g.A.ReadAt.faults c.args.object.now c.open_chunk.new.object c.new.result (Truncated c.args.number) c.new.ensures c.in-Ok-false.ensures.read.kept c.in-Ok-false.ensures.read.count
 
 pub returns-else-self-start-clause-kept : goal.returns-else-self-start-clause-kept
 returns-else-self-start-clause-kept g c =
-    refusal_leaves g.A.ReadAt.length_of g.A.ReadAt.bytes g.A.ReadAt.faults c.args.object.now c.open_chunk.new.object c.new-in-Ok-false.result (BadSegment c.args.number) c.new-in-Ok-false.ensures c.in-Ok-false.ensures.kept c.in-Ok-false.ensures.count
+    refusal_leaves g.A.ReadAt.length_of g.A.ReadAt.bytes g.A.ReadAt.faults c.args.object.now c.open_chunk.new.object c.new-in-Ok-false.result (BadSegment c.args.number) c.new-in-Ok-false.ensures c.in-Ok-false.ensures.read.kept c.in-Ok-false.ensures.read.count
 
 pub returns-in-Err-clause-kept : goal.returns-in-Err-clause-kept
 returns-in-Err-clause-kept g c =
-    refusal_leaves g.A.ReadAt.length_of g.A.ReadAt.bytes g.A.ReadAt.faults c.args.object.now c.open_chunk.new.object c.new-in-Err.result ReadFault c.new-in-Err.ensures c.in-Err.ensures.kept c.in-Err.ensures.count
+    refusal_leaves g.A.ReadAt.length_of g.A.ReadAt.bytes g.A.ReadAt.faults c.args.object.now c.open_chunk.new.object c.new-in-Err.result ReadFault c.new-in-Err.ensures c.in-Err.ensures.read.kept c.in-Err.ensures.read.count
 
 -- after a step or none
 
@@ -71,3 +71,32 @@ returns-else-self-start-clause-ticks g c = le_of_eq c.in-Ok-false.ensures.ticks
 
 pub returns-in-Err-clause-ticks : goal.returns-in-Err-clause-ticks
 returns-in-Err-clause-ticks g c = within_one c.args.steps.now c.open_chunk.new.steps c.in-Err.ensures.ticks
+
+-- the object and the core are the ones that they were
+
+pub returns-in-Ok-true-clause-same : goal.returns-in-Ok-true-clause-same
+returns-in-Ok-true-clause-same g c = c.in-Ok-true.ensures.read.same
+
+pub returns-in-Ok-true-clause-core : goal.returns-in-Ok-true-clause-core
+returns-in-Ok-true-clause-core g c = c.in-Ok-true.ensures.core
+
+pub returns-then-self-start-clause-same : goal.returns-then-self-start-clause-same
+returns-then-self-start-clause-same g c = c.in-Ok-false.ensures.read.same
+
+pub returns-then-self-start-clause-core : goal.returns-then-self-start-clause-core
+returns-then-self-start-clause-core g c = c.in-Ok-false.ensures.core
+
+pub returns-else-self-start-clause-same : goal.returns-else-self-start-clause-same
+returns-else-self-start-clause-same g c = c.in-Ok-false.ensures.read.same
+
+pub returns-else-self-start-clause-core : goal.returns-else-self-start-clause-core
+returns-else-self-start-clause-core g c = c.in-Ok-false.ensures.core
+
+pub returns-in-Err-clause-same : goal.returns-in-Err-clause-same
+returns-in-Err-clause-same g c = c.in-Err.ensures.read.same
+
+pub returns-in-Err-clause-core : goal.returns-in-Err-clause-core
+returns-in-Err-clause-core g c = c.in-Err.ensures.core
+
+pub returns-in-Ok-true-clause-kept : goal.returns-in-Ok-true-clause-kept
+returns-in-Ok-true-clause-kept g c = let read = c.in-Ok-true.ensures.read in ok_leaves g.A.ReadAt.length_of g.A.ReadAt.bytes g.A.ReadAt.faults c.args.object.now c.open_chunk.new.object tt read.kept read.count

@@ -1,4 +1,4 @@
-use Rattle.std.proofs.Common.{◌≡◌, ◌+◌, ◌-◌, min, ℕ, Bool, true, false, List, length, refl, sym, ap, subst, ◌∙◌, le_of_eq}
+use Rattle.std.proofs.Common.{◌≡◌, ◌+◌, ◌-◌, min, ℕ, Bool, true, false, List, length, refl, sym, ap, subst, ◌∙◌, le_of_eq, le_refl}
 use Rattle.stream_model.specs.Cut.{room_at}
 use Rattle.tink_io.specs.declared.error.Kind.TheVariants.{BadSegment, ReadFault}
 use Rattle.tink_streams.specs.Openers.{segment_map}
@@ -31,7 +31,7 @@ returns-in-Ok-true-clause-answer g c =
 
 pub returns-in-Ok-true-clause-kept : goal.returns-in-Ok-true-clause-kept
 returns-in-Ok-true-clause-kept g c =
-    writes_leave g.A.ReadAt.length_of g.A.ReadAt.bytes g.A.ReadAt.faults c.args.object.now c.open_chunk.new.object c.write_part.result c.write_part.ensures.refused c.in-Ok-true.ensures.kept c.in-Ok-true.ensures.count
+    writes_leave g.A.ReadAt.length_of g.A.ReadAt.bytes g.A.ReadAt.faults c.args.object.now c.open_chunk.new.object c.write_part.result c.write_part.ensures.refused c.in-Ok-true.ensures.read.kept c.in-Ok-true.ensures.read.count
 
 pub returns-in-Ok-false-clause-answer : goal.returns-in-Ok-false-clause-answer
 returns-in-Ok-false-clause-answer g c =
@@ -47,7 +47,7 @@ returns-in-Ok-false-clause-answer g c =
 
 pub returns-in-Ok-false-clause-kept : goal.returns-in-Ok-false-clause-kept
 returns-in-Ok-false-clause-kept g c =
-    refusal_leaves g.A.ReadAt.length_of g.A.ReadAt.bytes g.A.ReadAt.faults c.args.object.now c.open_chunk.new.object c.new.result (BadSegment c.args.place.number) c.new.ensures c.in-Ok-false.ensures.kept c.in-Ok-false.ensures.count
+    refusal_leaves g.A.ReadAt.length_of g.A.ReadAt.bytes g.A.ReadAt.faults c.args.object.now c.open_chunk.new.object c.new.result (BadSegment c.args.place.number) c.new.ensures c.in-Ok-false.ensures.read.kept c.in-Ok-false.ensures.read.count
 
 pub returns-in-Ok-false-clause-sink : goal.returns-in-Ok-false-clause-sink
 returns-in-Ok-false-clause-sink g c = g.met.K.Sink.same_refl c.args.sink.now
@@ -58,11 +58,11 @@ returns-in-Err-clause-answer g c =
     let place = c.args.place in
     one_refused g.K.Sink.got g.K.Sink.faults (segment_map core.opener) (chunk_in core place.number place.start) core.opener.overhead c.args.lo c.args.hi place.text
     (record { all = g.A.ReadAt.bytes c.args.object.now; reads_before = g.A.ReadAt.faults c.args.object.now; reads_after = g.A.ReadAt.faults c.open_chunk.new.object; old = c.args.sink.now; new = c.args.sink.now })
-    c.new-in-Err.result ReadFault c.new-in-Err.ensures (record { rose = c.in-Err.ensures.count; same = refl })
+    c.new-in-Err.result ReadFault c.new-in-Err.ensures (record { rose = c.in-Err.ensures.read.count; same = refl })
 
 pub returns-in-Err-clause-kept : goal.returns-in-Err-clause-kept
 returns-in-Err-clause-kept g c =
-    refusal_leaves g.A.ReadAt.length_of g.A.ReadAt.bytes g.A.ReadAt.faults c.args.object.now c.open_chunk.new.object c.new-in-Err.result ReadFault c.new-in-Err.ensures c.in-Err.ensures.kept c.in-Err.ensures.count
+    refusal_leaves g.A.ReadAt.length_of g.A.ReadAt.bytes g.A.ReadAt.faults c.args.object.now c.open_chunk.new.object c.new-in-Err.result ReadFault c.new-in-Err.ensures c.in-Err.ensures.read.kept c.in-Err.ensures.read.count
 
 pub returns-in-Err-clause-sink : goal.returns-in-Err-clause-sink
 returns-in-Err-clause-sink g c = g.met.K.Sink.same_refl c.args.sink.now
@@ -84,3 +84,32 @@ returns-in-Ok-false-clause-ticks g c = le_of_eq c.in-Ok-false.ensures.ticks
 
 pub returns-in-Err-clause-ticks : goal.returns-in-Err-clause-ticks
 returns-in-Err-clause-ticks g c = within_one c.args.steps.now c.open_chunk.new.steps c.in-Err.ensures.ticks
+
+-- the ends and the core are the ones that they were
+
+pub returns-in-Ok-true-clause-object : goal.returns-in-Ok-true-clause-object
+returns-in-Ok-true-clause-object g c = c.in-Ok-true.ensures.read.same
+
+pub returns-in-Ok-true-clause-core : goal.returns-in-Ok-true-clause-core
+returns-in-Ok-true-clause-core g c = c.in-Ok-true.ensures.core
+
+pub returns-in-Ok-false-clause-object : goal.returns-in-Ok-false-clause-object
+returns-in-Ok-false-clause-object g c = c.in-Ok-false.ensures.read.same
+
+pub returns-in-Ok-false-clause-core : goal.returns-in-Ok-false-clause-core
+returns-in-Ok-false-clause-core g c = c.in-Ok-false.ensures.core
+
+pub returns-in-Err-clause-object : goal.returns-in-Err-clause-object
+returns-in-Err-clause-object g c = c.in-Err.ensures.read.same
+
+pub returns-in-Err-clause-core : goal.returns-in-Err-clause-core
+returns-in-Err-clause-core g c = c.in-Err.ensures.core
+
+pub returns-in-Ok-false-clause-later : goal.returns-in-Ok-false-clause-later
+returns-in-Ok-false-clause-later g c = le_refl _
+
+pub returns-in-Err-clause-later : goal.returns-in-Err-clause-later
+returns-in-Err-clause-later g c = le_refl _
+
+pub returns-in-Ok-true-clause-sink : goal.returns-in-Ok-true-clause-sink
+returns-in-Ok-true-clause-sink g c = c.write_part.ensures.same
