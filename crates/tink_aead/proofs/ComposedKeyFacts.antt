@@ -1,30 +1,35 @@
 -- What keys of AES in counter mode with HMAC build is whole.
 use Rattle.std.proofs.Common.{inl, inr, ⊎_elim, ◌≡◌, ◌≤◌, ℕ, Bool, true, false, List, Option, Some, None, Result, Ok, Err, cond, ap, refl, sym, subst, ◌∙◌}
-use Rattle.std.specs.Prelude.{nat_eq, nat_le}
-use Rattle.std.proofs.lemmas.Bool.{and_parts, leb-true}
+use Rattle.std.specs.Prelude.{length, nat_eq, nat_le, nat_lt}
+use Rattle.std.proofs.lemmas.Bool.{and_parts, eq-eqb, le-leb, leb-true}
 use Rattle.hash_keys.specs.Hash.{digest_size}
+use Rattle.hash_keys.specs.declared.Hash.{Hash}
 use Rattle.hash_keys.proofs.Lengths.{length-hmac_of}
 use Rattle.std.proofs.lemmas.List.{length-take-le}
 use Rattle.std.proofs.lemmas.Slice.Eq.{bytes_eq-Decides}
 use Rattle.std.specs.Str.{bytes_eq}
 use Rattle.tink_io.specs.declared.error.Kind.{Kind}
-use Rattle.tink_io.specs.declared.error.Kind.TheVariants.{InvalidKey, MacMismatch}
+use Rattle.tink_io.specs.declared.error.Kind.TheVariants.{BadKeySize, BadTagSize, InvalidKey, MacMismatch}
 use Rattle.tink_proto_keys.specs.declared.aes_ctr_hmac.AesCtrHmacAeadKey.{AesCtrHmacAeadKey}
 use Rattle.tink_proto_keys.specs.AesCtrHmac.{AesCtrKey}
 use Rattle.tink_proto_keys.specs.declared.aes_ctr_hmac.AesCtrParams.{AesCtrParams}
 use Rattle.tink_proto_keys.specs.Mac.{HmacKeyFormat, HmacKey}
 use Rattle.tink_proto_keys.specs.declared.aes_ctr_hmac.AesCtrKeyFormat.{AesCtrKeyFormat}
 use Rattle.tink_io.specs.declared.error.TinkError.{TinkError}
-use Rattle.tink_io.specs.Told.{IsShort, Replies, made_of}
+use Rattle.tink_io.specs.Told.{Answers, IsShort, Replies, Tells, made_of}
 use Rattle.tink_primitives.specs.Meaning.{IsEndOf}
 use Rattle.tink_primitives.specs.MeaningLaws.{end_trans}
 use Rattle.tink_subtle.specs.Random.{takes_bytes}
 use Rattle.tink_key_types.specs.Manager.{of_draws}
 use Rattle.tink_key_types.specs.ManagerLaws.{taken_told}
-use Rattle.tink_mac.specs.Tags.{hmac_tag, own_tag, HmacTags}
+use Rattle.tink_proto_keys.specs.declared.mac.HmacParams.{HmacParams}
+use Rattle.tink_subtle.specs.Hashes.{hash_named}
+use Rattle.tink_key_types.specs.HashTypes.{hash_type_of}
+use Rattle.tink_mac.specs.KeyTypes.{hmac_by_params, or_invalid}
+use Rattle.tink_mac.specs.Tags.{hmac_tag, hmac_tags, is_outside, own_tag, HmacTags}
 use Rattle.tink_mac.proofs.SoundFacts.{HmacFits, hmac_fits}
 use Rattle.tink_aead.specs.AeadKinds.{hmac_computes, hmac_verifies}
-use Rattle.tink_aead.specs.ComposedKeys.{are_ctr_params, composed_built, composed_of, ctr_built, ctr_by_params, joined, mac_built, new_composed_key, with_hmac_key}
+use Rattle.tink_aead.specs.ComposedKeys.{are_ctr_params, composed_built, composed_of, ctr_built, ctr_by_params, joined, mac_built, new_composed_key, tag_size_by, tag_size_of, with_hmac_key}
 use Rattle.tink_aead.specs.ComposedLaws.{AcceptsWhole, IsWhole, UndoesWhole}
 use Rattle.tink_aead.specs.KeyTypes.{is_versioned_key}
 use Rattle.tink_aead_subtle.specs.Laws.{IsMac}
@@ -38,37 +43,57 @@ pub mac_fits : (k : Option HmacKey) (m : HmacTags) → mac_built k ≡ Ok m → 
 mac_fits None m e = absurd (cc)
 mac_fits (Some k) m e = hmac_fits k m e
 
--- the MAC's part of a key, with its tag size
-abbrev with_size : HmacTags → HmacTags × ℕ
-with_size m = (m, m.tag_size)
+-- has tags of the size that its key says
+chosen : (a b : Bool) (made m : HmacTags) → cond a (Err BadTagSize) (cond b (Err BadKeySize) (Ok made)) ≡ Ok m → made ≡ m
+chosen false false made m e = cc
+chosen false true made m e = absurd (cc)
+chosen true b made m e = absurd (cc)
 
-abbrev sized_mac : Option HmacKey → Result (HmacTags × ℕ) Kind
-sized_mac k = made_of with_size (mac_built k)
+tags_sized : (h : Option Hash) (key : List ℕ) (t : ℕ) (m : HmacTags) → hmac_tags h key t ≡ Ok m → t ≡ m.tag_size
+tags_sized None key t m e = absurd (cc)
+tags_sized (Some h) key t m e =
+    ap (λ (x : HmacTags). x.tag_size) (chosen (is_outside 10 (digest_size h) t) (nat_lt (length key) 16) (record { hmac = record { hash = h; key = key }; tag_size = t }) m e)
 
-sized_is : (r : Result HmacTags Kind) (p : HmacTags × ℕ) → made_of with_size r ≡ Ok p → (r ≡ Ok p.0) × (p.1 ≡ p.0.tag_size)
-sized_is (Ok m) p e =
-    let same : (m, m.tag_size) ≡ p = cc in
-    (ap (λ (x : HmacTags × ℕ). Ok x.0) same, subst (λ (x : HmacTags × ℕ). x.1 ≡ x.0.tag_size) same refl)
-sized_is (Err k) p e = absurd (cc)
+valid_sized : (t : ℕ) (r : Result HmacTags Kind) (m : HmacTags) → ((x : HmacTags) → r ≡ Ok x → t ≡ x.tag_size) → or_invalid r ≡ Ok m → t ≡ m.tag_size
+valid_sized t (Ok x) m sized e = sized m e
+valid_sized t (Err k) m sized e = absurd (cc)
 
-pub sized_fits : (k : Option HmacKey) (p : HmacTags × ℕ) → sized_mac k ≡ Ok p → 10 ≤ p.1
-sized_fits k p e =
-    let parts = sized_is (mac_built k) p e in
-    subst (λ n. 10 ≤ n) (sym parts.1) (mac_fits k p.0 parts.0).low
+params_sized : (p : Option HmacParams) (key : List ℕ) (m : HmacTags) → hmac_by_params p key ≡ Ok m → tag_size_by p ≡ m.tag_size
+params_sized None key m e = absurd (cc)
+params_sized (Some p) key m e =
+    let h = hash_named (hash_type_of p.hash) in
+    valid_sized p.tag_size (hmac_tags h key p.tag_size) m (tags_sized h key p.tag_size) e
+
+mac_sized : (k : Option HmacKey) (m : HmacTags) → mac_built k ≡ Ok m → tag_size_of k ≡ m.tag_size
+mac_sized None m e = absurd (cc)
+mac_sized (Some k) m e = params_sized k.params k.key_value m (passed (nat_eq k.version 0) InvalidKey (hmac_by_params k.params k.key_value) m e).1
+
+tells_answers : {T : Type 0} (r : Result T TinkError) (told other : Result T Kind) → told ≡ other → Tells r told → Answers r other
+tells_answers (Ok v) told other same h = sym same ∙ h
+tells_answers (Err e) told other same h = inr (sym same ∙ h)
 
 -- the parts joined
-pub joined_ok : (cipher : Result AesCtr Kind) (mac : Result HmacTags Kind) (c : AesCtr) (p : HmacTags × ℕ) (a : EncryptThenAuthenticate AesCtr HmacTags) → cipher ≡ Ok c → made_of with_size mac ≡ Ok p
-    → a ≡ record { ind_cpa_cipher = c; mac = p.0; tag_size = p.1 } → joined cipher mac ≡ Ok a
-joined_ok cipher mac c p a of_cipher of_mac is =
-    let parts = sized_is mac p of_mac in
-    ap (λ (r : Result AesCtr Kind). joined r mac) of_cipher
-    ∙ ap (made_of (composed_of c)) parts.0
-    ∙ ap Ok (ap (λ (t : ℕ). record { ind_cpa_cipher = c; mac = p.0; tag_size = t }) (sym parts.1) ∙ sym is)
+pub joined_ok : (cipher : Result AesCtr Kind) (k : Option HmacKey) (c : AesCtr) (m : HmacTags) (t : ℕ) (r : Result (EncryptThenAuthenticate AesCtr HmacTags) TinkError) → cipher ≡ Ok c → mac_built k ≡ Ok m → t ≡ tag_size_of k
+    → Tells r (cond (nat_le 10 t) (Ok (record { ind_cpa_cipher = c; mac = m; tag_size = t })) (Err BadTagSize)) → Answers r (joined cipher (mac_built k))
+joined_ok cipher k c m t r of_cipher of_mac t_is tells =
+    let whole : ℕ → EncryptThenAuthenticate AesCtr HmacTags = λ n. record { ind_cpa_cipher = c; mac = m; tag_size = n } in
+    let sized = t_is ∙ mac_sized k m of_mac in
+    let long : 10 ≤ t = subst (λ (n : ℕ). 10 ≤ n) (sym sized) (mac_fits k m of_mac).low in
+    let is : cond (nat_le 10 t) (Ok (whole t)) (Err BadTagSize) ≡ joined cipher (mac_built k) =
+    ap (λ (b : Bool). cond b (Ok (whole t)) (Err BadTagSize)) (le-leb 10 t long)
+    ∙ ap (λ (n : ℕ). Ok (whole n)) sized
+    ∙ sym (ap (λ (x : Result AesCtr Kind). joined x (mac_built k)) of_cipher ∙ ap (made_of (composed_of c)) of_mac) in
+    tells_answers r (cond (nat_le 10 t) (Ok (whole t)) (Err BadTagSize)) (joined cipher (mac_built k)) is tells
 
-pub joined_err : (cipher : Result AesCtr Kind) (mac : Result HmacTags Kind) (c : AesCtr) (k : Kind) → cipher ≡ Ok c → made_of with_size mac ≡ Err k → joined cipher mac ≡ Err k
-joined_err cipher (Ok m) c k of_cipher of_mac = absurd (cc)
-joined_err cipher (Err e) c k of_cipher of_mac =
-    let same : e ≡ k = cc in ap (λ (r : Result AesCtr Kind). joined r (Err e)) of_cipher ∙ ap Err same
+pub joined_err : (cipher : Result AesCtr Kind) (mac : Result HmacTags Kind) (c : AesCtr) (e : TinkError) → cipher ≡ Ok c → Answers {T = HmacTags} (Err e) mac → Answers {T = EncryptThenAuthenticate AesCtr HmacTags} (Err e) (joined cipher mac)
+joined_err cipher mac c e of_cipher (inl short) = inl short
+joined_err cipher mac c e of_cipher (inr told) = inr (ap (λ (r : Result AesCtr Kind). joined r mac) of_cipher ∙ ap (made_of (composed_of c)) told)
+
+-- of a key of version 0 they are all
+pub of_version : (k : AesCtrHmacAeadKey) (r : Result (EncryptThenAuthenticate AesCtr HmacTags) TinkError) → k.version ≡ 0 → Answers r (joined (ctr_built k.aes_ctr_key) (mac_built k.hmac_key)) → Answers r (composed_built k)
+of_version k r is answers =
+    let parts = joined (ctr_built k.aes_ctr_key) (mac_built k.hmac_key) in
+    subst (λ (b : Bool). Answers r (cond b parts (Err InvalidKey))) (sym (eq-eqb k.version 0 is)) answers
 
 -- ---- the vectors of a cipher that was built
 ctr_params_fit : (p : Option AesCtrParams) (key : List ℕ) (c : AesCtr) → ctr_by_params p key ≡ Ok c → c.iv_size ≤ 16

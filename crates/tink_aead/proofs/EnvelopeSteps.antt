@@ -1,6 +1,6 @@
 -- How an encryption in an envelope ends, and a decryption.
-use Rattle.std.proofs.Common.{◌≡◌, inl, inr, ◌≤◌, ◌<◌, ℕ, Bool, List, [], length, take, drop, ap, ap₂, refl, sym, subst, ◌∙◌, arith}
-use Rattle.std.specs.Prelude.{Result, Ok, Err, ◌||◌, if◌then◌else◌, nat_lt}
+use Rattle.std.proofs.Common.{◌≡◌, inl, inr, ◌≤◌, ◌<◌, ℕ, Bool, true, false, List, [], length, take, drop, ap, ap₂, refl, sym, subst, ◌∙◌, arith}
+use Rattle.std.specs.Prelude.{Result, Ok, Err, ◌||◌, if◌then◌else◌, nat_eq, nat_le, nat_lt}
 use Rattle.std.specs.Int.{w32, from_be_bytes}
 use Rattle.std.proofs.lemmas.Bool.{le-leb, le-ltb, lt-leb, ne_eqb}
 use Rattle.tink_io.specs.declared.error.Kind.{Kind}
@@ -9,7 +9,7 @@ use Rattle.tink_io.specs.declared.error.TinkError.{TinkError}
 use Rattle.tink_io.specs.Told.{Answers, Replies, and_then}
 use Rattle.tink_primitives.specs.Meaning.{IsDrawn}
 use Rattle.tink_primitives.specs.MeaningLaws.{replies_end}
-use Rattle.tink_aead.specs.Envelope.{by_data_key, by_key_bytes, by_remote_key, cut_decrypts, enveloped, envelope_decrypts, envelope_encrypts, parts_decrypt}
+use Rattle.tink_aead.specs.Envelope.{by_data_key, by_key_bytes, by_remote_key, enveloped, envelope_decrypts, envelope_encrypts, envelope_parts, parts_at, parts_decrypt}
 use Rattle.tink_aead.proofs.Chained.{followed, refused, undrawn}
 
 module _ {P : Type 0} (encrypts : P → List ℕ → List ℕ → List ℕ → Result (List ℕ) Kind × List ℕ) (text aad : List ℕ) (aead_of : List ℕ → Result P Kind) (key sealed_key draws : List ℕ) where
@@ -60,37 +60,54 @@ and_refused told next e (inl none) = inl none
 and_refused told next e (inr is) = inr (ap (λ r. and_then r next) is)
 
 -- too few bytes are no envelope
-pub too_short : {P : Type 0} (remote : List ℕ → List ℕ → Result (List ℕ) Kind) (aead_of : List ℕ → Result P Kind) (decrypts : P → List ℕ → List ℕ → Result (List ℕ) Kind) (input aad : List ℕ) (e : TinkError) → length input ≤ 4 → e ≡ record { kind = TooShort }
-    → Answers {T = List ℕ} (Err e) (envelope_decrypts remote aead_of decrypts input aad)
-too_short remote aead_of decrypts input aad e short is =
-    let rest = cut_decrypts remote aead_of decrypts (from_be_bytes w32 (take 4 input)) (drop 4 input) aad in
-    inr (ap (λ (b : Bool). if b then Err TooShort else rest) (le-leb (length input) 4 short) ∙ ap (λ (x : TinkError). Err x.kind) (sym is))
+pub too_short : (input : List ℕ) (e : TinkError) → length input ≤ 4 → e ≡ record { kind = TooShort } → envelope_parts input ≡ Err e.kind
+too_short input e short is =
+    let rest = parts_at (from_be_bytes w32 (take 4 input)) (drop 4 input) in
+    ap (λ (b : Bool). if b then Err TooShort else rest) (le-leb (length input) 4 short) ∙ ap (λ (x : TinkError). Err x.kind) (sym is)
 
-module _ {P : Type 0} (remote : List ℕ → List ℕ → Result (List ℕ) Kind) (aead_of : List ℕ → Result P Kind) (decrypts : P → List ℕ → List ℕ → Result (List ℕ) Kind) (input aad : List ℕ) (n : ℕ) (rest : List ℕ)
-    (long : 4 < length input) (n_is : n ≡ from_be_bytes w32 (take 4 input)) (some : 0 < n) (rest_is : rest ≡ drop 4 input) (fits : n ≤ length rest) where
-  -- a decryption of an envelope that is long enough is one of its parts
-  by_parts : envelope_decrypts remote aead_of decrypts input aad ≡ parts_decrypt remote aead_of decrypts (take n rest) (drop n rest) aad
+-- an envelope that is long enough is cut where its length says
+pub cut_there : (input : List ℕ) (n : ℕ) (rest : List ℕ) → 4 < length input → n ≡ from_be_bytes w32 (take 4 input) → 0 < n → rest ≡ drop 4 input → n ≤ length rest → envelope_parts input ≡ Ok (take n rest, drop n rest)
+cut_there input n rest long n_is some rest_is fits =
+    ap (λ (b : Bool). if b then Err TooShort else parts_at (from_be_bytes w32 (take 4 input)) (drop 4 input)) (lt-leb (length input) 4 long)
+    ∙ ap₂ parts_at (sym n_is) (sym rest_is)
+    ∙ ap (λ (b : Bool). if b || nat_lt (length rest) n then Err DecryptFailed else Ok (take n rest, drop n rest)) (ne_eqb n 0 (λ e. absurd (omega (arith, e, some))))
+    ∙ ap (λ (b : Bool). if b then Err DecryptFailed else Ok (take n rest, drop n rest)) (le-ltb (length rest) n fits)
+
+module _ {P : Type 0} (remote : List ℕ → List ℕ → Result (List ℕ) Kind) (aead_of : List ℕ → Result P Kind) (decrypts : P → List ℕ → List ℕ → Result (List ℕ) Kind) (input aad : List ℕ) where
+  abbrev of_parts : List ℕ × List ℕ → Result (List ℕ) Kind
+  of_parts p = parts_decrypt remote aead_of decrypts p.0 p.1 aad
+
+  tested : (b : Bool) (k : Kind) (r : Result (List ℕ × List ℕ) Kind) → (if b then Err k else and_then r of_parts) ≡ and_then (if b then Err k else r) of_parts
+  tested true k r = refl
+  tested false k r = refl
+
+  -- a decryption of an envelope is one of its parts
+  by_parts : envelope_decrypts remote aead_of decrypts input aad ≡ and_then (envelope_parts input) of_parts
   by_parts =
-      let cut = λ (m : ℕ) (r : List ℕ). cut_decrypts remote aead_of decrypts m r aad in
-      let parts = parts_decrypt remote aead_of decrypts (take n rest) (drop n rest) aad in
-      ap (λ (b : Bool). if b then Err TooShort else cut (from_be_bytes w32 (take 4 input)) (drop 4 input)) (lt-leb (length input) 4 long)
-      ∙ ap₂ cut (sym n_is) (sym rest_is)
-      ∙ ap (λ (b : Bool). if b || nat_lt (length rest) n then Err DecryptFailed else parts) (ne_eqb n 0 (λ e. absurd (omega (arith, e, some))))
-      ∙ ap (λ (b : Bool). if b then Err DecryptFailed else parts) (le-ltb (length rest) n fits)
+      let n = from_be_bytes w32 (take 4 input) in
+      let rest = drop 4 input in
+      ap (λ (r : Result (List ℕ) Kind). if nat_le (length input) 4 then Err TooShort else r) (tested (nat_eq n 0 || nat_lt (length rest) n) DecryptFailed (Ok (take n rest, drop n rest)))
+      ∙ tested (nat_le (length input) 4) TooShort (parts_at n rest)
 
-  -- the remote key refuses the encrypted data key
-  pub key_refused : (e : TinkError) → Answers {T = List ℕ} (Err e) (remote (take n rest) []) → Answers {T = List ℕ} (Err e) (envelope_decrypts remote aead_of decrypts input aad)
-  key_refused e told =
-      subst (λ (r : Result (List ℕ) Kind). Answers {T = List ℕ} (Err e) r) (sym by_parts)
-      (and_refused (remote (take n rest) []) (λ k. and_then (aead_of k) (λ p. decrypts p (drop n rest) aad)) e told)
+  pub no_parts : (e : TinkError) → envelope_parts input ≡ Err e.kind → Answers {T = List ℕ} (Err e) (envelope_decrypts remote aead_of decrypts input aad)
+  no_parts e is = inr (by_parts ∙ ap (λ (r : Result (List ℕ × List ℕ) Kind). and_then r of_parts) is)
 
-  -- the remote key opens it
-  pub key_opened : (payload key : List ℕ) (r : Result (List ℕ) TinkError) → remote (take n rest) [] ≡ Ok key → payload ≡ drop n rest → Answers r (and_then (aead_of key) (λ p. decrypts p payload aad))
-      → Answers r (envelope_decrypts remote aead_of decrypts input aad)
-  key_opened payload key r opened payload_is answers =
-      let is = by_parts ∙ ap (λ (t : Result (List ℕ) Kind). and_then t (λ k. and_then (aead_of k) (λ p. decrypts p (drop n rest) aad))) opened
-      ∙ ap (λ (s : List ℕ). and_then (aead_of key) (λ p. decrypts p s aad)) (sym payload_is) in
-      subst (λ (t : Result (List ℕ) Kind). Answers r t) (sym is) answers
+  module _ (sealed_key payload : List ℕ) (are : envelope_parts input ≡ Ok (sealed_key, payload)) where
+    opened : envelope_decrypts remote aead_of decrypts input aad ≡ parts_decrypt remote aead_of decrypts sealed_key payload aad
+    opened = by_parts ∙ ap (λ (r : Result (List ℕ × List ℕ) Kind). and_then r of_parts) are
+
+    -- the remote key refuses the encrypted data key
+    pub key_refused : (e : TinkError) → Answers {T = List ℕ} (Err e) (remote sealed_key []) → Answers {T = List ℕ} (Err e) (envelope_decrypts remote aead_of decrypts input aad)
+    key_refused e told =
+        subst (λ (r : Result (List ℕ) Kind). Answers {T = List ℕ} (Err e) r) (sym opened)
+        (and_refused (remote sealed_key []) (λ k. and_then (aead_of k) (λ p. decrypts p payload aad)) e told)
+
+    -- the remote key opens it
+    pub key_opened : (key : List ℕ) (r : Result (List ℕ) TinkError) → remote sealed_key [] ≡ Ok key → Answers r (and_then (aead_of key) (λ p. decrypts p payload aad))
+        → Answers r (envelope_decrypts remote aead_of decrypts input aad)
+    key_opened key r told answers =
+        let is = opened ∙ ap (λ (t : Result (List ℕ) Kind). and_then t (λ k. and_then (aead_of k) (λ p. decrypts p payload aad))) told in
+        subst (λ (t : Result (List ℕ) Kind). Answers r t) (sym is) answers
 
 -- what an AEAD answers that is built
 pub built_answers : {P : Type 0} (told : Result P Kind) (next : P → Result (List ℕ) Kind) (p : P) (r : Result (List ℕ) TinkError) → told ≡ Ok p → Answers r (next p) → Answers r (and_then told next)

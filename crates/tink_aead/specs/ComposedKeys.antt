@@ -13,6 +13,7 @@ use Rattle.tink_proto_keys.specs.declared.aes_ctr_hmac.AesCtrHmacAeadKeyFormat.{
 use Rattle.tink_proto_keys.specs.declared.aes_ctr_hmac.AesCtrKeyFormat.{AesCtrKeyFormat}
 use Rattle.tink_proto_keys.specs.declared.aes_ctr_hmac.AesCtrParams.{AesCtrParams}
 use Rattle.tink_proto_keys.specs.Mac.{HmacKeyFormat, HmacKey}
+use Rattle.tink_proto_keys.specs.declared.mac.HmacParams.{HmacParams}
 use Rattle.tink_key_types.specs.Manager.{of_draws}
 use Rattle.tink_key_types.specs.Templates.{template_of}
 use Rattle.tink_mac.specs.KeyTypes.{are_hmac_params, hmac_built, hmac_format}
@@ -44,6 +45,15 @@ ctr_built (Some k) = if is_versioned_key k.version k.key_value then ctr_by_param
 abbrev pub mac_built : Option HmacKey → Result HmacTags Kind
 mac_built None = Err InvalidKey
 mac_built (Some k) = hmac_built k
+
+-- the size of the tags of a key, if it has params
+abbrev pub tag_size_by : Option HmacParams → ℕ
+tag_size_by None = 0
+tag_size_by (Some p) = p.tag_size
+
+abbrev pub tag_size_of : Option HmacKey → ℕ
+tag_size_of None = 0
+tag_size_of (Some k) = tag_size_by k.params
 
 -- a cipher and a MAC, with tags of all that the MAC gives
 abbrev pub composed_of : AesCtr → HmacTags → EncryptThenAuthenticate AesCtr HmacTags

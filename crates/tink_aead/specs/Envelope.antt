@@ -61,6 +61,14 @@ abbrev pub envelope_decrypts : {P : Type 0} → (List ℕ → List ℕ → Resul
 envelope_decrypts remote aead_of decrypts input aad =
     if nat_le (length input) 4 then Err TooShort else cut_decrypts remote aead_of decrypts (from_be_bytes w32 (take 4 input)) (drop 4 input) aad
 
+-- the encrypted data key, of n bytes, and what follows it
+abbrev pub parts_at : ℕ → List ℕ → Result (List ℕ × List ℕ) Kind
+parts_at n rest = if nat_eq n 0 || nat_lt (length rest) n then Err DecryptFailed else Ok (take n rest, drop n rest)
+
+-- of an envelope
+abbrev pub envelope_parts : List ℕ → Result (List ℕ × List ℕ) Kind
+envelope_parts input = if nat_le (length input) 4 then Err TooShort else parts_at (from_be_bytes w32 (take 4 input)) (drop 4 input)
+
 -- ---- templates
 
 abbrev pub envelope_url : List ℕ

@@ -1,12 +1,12 @@
 //! The keys of AES in counter mode with HMAC.
 
-ghost use Rattle.std.specs.Prelude.{◌≡◌, ◌≤◌, IfOk};
+ghost use Rattle.std.specs.Prelude.{◌≡◌};
 ghost use Rattle.tink_io.specs.Told.{Answers, Replies, made_of};
 ghost use Rattle.tink_primitives.specs.declared.primitive.Primitive.TheVariants as sorts;
 ghost use Rattle.tink_aead.specs.declared.aead_kind.AeadKind.TheVariants as kinds;
 ghost use Rattle.tink_subtle.specs.Random.{takes_bytes};
 ghost use Rattle.tink_aead.specs.ComposedKeys.{are_ctr_params, composed_built, composed_made, composed_url, ctr_built};
-ghost use Rattle.tink_aead.specs.ComposedKeys.{is_composed_format, joined, mac_built, with_hmac_key};
+ghost use Rattle.tink_aead.specs.ComposedKeys.{is_composed_format, mac_built, tag_size_of, with_hmac_key};
 ghost use Rattle.tink_aead.specs.ComposedKeyLaws.{composed_built_told, composed_made_told};
 
 use crate::subtle::{
@@ -72,10 +72,9 @@ fn ctr_of(alloc: Global, key: &Option<AesCtrKey>) -> Result<AesCtr, TinkError>
     }
 }
 
-// The MAC of a key, and the size of its tags.
-fn mac_of(alloc: Global, key: &Option<HmacKey>) -> Result<(Hmac, usize), TinkError>
-    ensures value { Answers result (made_of (λ m. (m, m.tag_size)) (mac_built key.now)) }
-    ensures least { IfOk result (λ made. 10 ≤ made.1) }
+// The MAC of a key.
+fn mac_of(alloc: Global, key: &Option<HmacKey>) -> Result<Hmac, TinkError>
+    ensures { Answers result (mac_built key.now) }
 {
     let Some(key) = key else {
         return Err(TinkError::new(Kind::InvalidKey));
@@ -83,36 +82,36 @@ fn mac_of(alloc: Global, key: &Option<HmacKey>) -> Result<(Hmac, usize), TinkErr
     if key.version != AES_CTR_HMAC_AEAD_KEY_VERSION {
         return Err(TinkError::new(Kind::InvalidKey));
     }
-    let mac = hmac_by_params(alloc, &key.params, key.key_value.as_slice())?;
-    match &key.params {
-        Some(params) => Ok((mac, params.tag_size as usize)),
-        None => Err(TinkError::new(Kind::InvalidKey)),
+    hmac_by_params(alloc, &key.params, key.key_value.as_slice())
+}
+
+// The size of the tags of a key.
+fn tag_size_of(key: &Option<HmacKey>) -> usize
+    ensures { result ≡ tag_size_of key.now }
+{
+    match key {
+        Some(key) => match &key.params {
+            Some(params) => params.tag_size as usize,
+            None => 0,
+        },
+        None => 0,
     }
 }
 
-// The cipher and the MAC of the parts of a key.
+// The cipher and the MAC of a key.
 fn composed_of(
     alloc: Global,
-    aes_ctr_key: &Option<AesCtrKey>,
-    hmac_key: &Option<HmacKey>,
+    key: &AesCtrHmacAeadKey,
 ) -> Result<EncryptThenAuthenticate<AesCtr, Hmac>, TinkError>
-    ensures { Answers result (joined (ctr_built aes_ctr_key.now) (mac_built hmac_key.now)) }
+    ensures { Answers result (composed_built key.now) }
 {
-    let cipher = ctr_of(alloc, aes_ctr_key)?;
-    match mac_of(alloc, hmac_key) {
-        Ok((mac, tag_size)) => Ok(join(cipher, mac, tag_size)),
-        Err(e) => Err(e),
+    if key.version != AES_CTR_HMAC_AEAD_KEY_VERSION {
+        return Err(TinkError::new(Kind::InvalidKey));
     }
-}
-
-// A cipher and a MAC whose tags are long enough.
-fn join(cipher: AesCtr, mac: Hmac, tag_size: usize) -> EncryptThenAuthenticate<AesCtr, Hmac>
-    requires { 10 ≤ tag_size }
-    ensures { result ≡ record { ind_cpa_cipher = cipher; mac = mac; tag_size = tag_size } }
-{
-    match EncryptThenAuthenticate::new(cipher, mac, tag_size) {
-        Ok(aead) => aead,
-        Err(_) => unreachable!(),
+    let cipher = ctr_of(alloc, &key.aes_ctr_key)?;
+    match mac_of(alloc, &key.hmac_key) {
+        Ok(mac) => EncryptThenAuthenticate::new(cipher, mac, tag_size_of(&key.hmac_key)),
+        Err(e) => Err(e),
     }
 }
 
@@ -171,10 +170,7 @@ impl KeyType for AesCtrHmacAeadKeys {
     }
 
     fn build(alloc: Global, key: AesCtrHmacAeadKey) -> Result<Primitive<AeadKinds>, TinkError> {
-        if key.version != AES_CTR_HMAC_AEAD_KEY_VERSION {
-            return Err(TinkError::new(Kind::InvalidKey));
-        }
-        match composed_of(alloc, &key.aes_ctr_key, &key.hmac_key) {
+        match composed_of(alloc, &key) {
             Ok(aead) => Ok(Primitive::Aead(AeadKind::AesCtrHmac(aead))),
             Err(e) => Err(e),
         }

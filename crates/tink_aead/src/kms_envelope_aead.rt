@@ -1,10 +1,10 @@
 //! Envelope encryption: each text by a new data key, which a remote key encrypts.
 
-ghost use Rattle.std.specs.Prelude.{◌≡◌, length, IfOk, IfErr};
+ghost use Rattle.std.specs.Prelude.{◌≡◌, length, IfOk, IfErr, MatchResult, Ok, Err};
 ghost use Rattle.std.specs.Int.{w32, from_be_bytes};
 ghost use Rattle.tink_io.specs.Told.{Answers, Replies, and_then};
 ghost use Rattle.tink_io.specs.declared.error.Kind.TheVariants.{OutOfMemory};
-ghost use Rattle.tink_aead.specs.Envelope.{by_key_bytes, data_key_aead, enveloped};
+ghost use Rattle.tink_aead.specs.Envelope.{by_key_bytes, data_key_aead, enveloped, envelope_parts};
 ghost use Rattle.tink_aead.specs.EnvelopeLaws.{EnvelopeUndoes};
 
 use std::alloc::Global;
@@ -55,9 +55,10 @@ impl<'r, A: Aead + Drop, M: KeyManager> KmsEnvelopeAead<'r, A, M> {
 
 impl<A: CloneIn, M> CloneIn for KmsEnvelopeAead<'_, A, M> {
     fn try_clone(&self, alloc: Global) -> Result<Self, TinkError> {
+        let remote = self.remote.try_clone(alloc)?;
         Ok(KmsEnvelopeAead {
             dek_template: same_template(alloc, &self.dek_template)?,
-            remote: self.remote.try_clone(alloc)?,
+            remote,
             registry: self.registry,
         })
     }
@@ -157,6 +158,22 @@ fn spelled_size(bytes: &[u8]) -> usize
     u32::from_be_bytes(size) as usize
 }
 
+// The encrypted data key of an envelope, and what the key encrypts.
+fn parts(ciphertext: &[u8]) -> Result<(&[u8], &[u8]), TinkError>
+    ensures { MatchResult result (λ p. envelope_parts ciphertext.now ≡ Ok (p.0.now, p.1.now))
+        (λ e. envelope_parts ciphertext.now ≡ Err e.kind) }
+{
+    if ciphertext.len() <= LEN_DEK {
+        return Err(TinkError::new(Kind::TooShort));
+    }
+    let size = spelled_size(&ciphertext[..LEN_DEK]);
+    let rest = &ciphertext[LEN_DEK..];
+    if size == 0 || rest.len() < size {
+        return Err(TinkError::new(Kind::DecryptFailed));
+    }
+    Ok((&rest[..size], &rest[size..]))
+}
+
 impl<A: Aead, M: KeyManager> Aead for KmsEnvelopeAead<'_, A, M> {
     ghost use Rattle.tink_registry.specs.Listed.{registry_makes};
     ghost use Rattle.tink_registry.specs.ListedLaws.{registry_makes_told};
@@ -212,23 +229,18 @@ impl<A: Aead, M: KeyManager> Aead for KmsEnvelopeAead<'_, A, M> {
         ciphertext: &[u8],
         additional_data: &[u8],
     ) -> Result<Bytes, TinkError> {
-        if ciphertext.len() <= LEN_DEK {
-            return Err(TinkError::new(Kind::TooShort));
-        }
-        let size = spelled_size(&ciphertext[..LEN_DEK]);
-        let rest = &ciphertext[LEN_DEK..];
-        if size == 0 || rest.len() < size {
-            return Err(TinkError::new(Kind::DecryptFailed));
-        }
-        match self.remote.decrypt(alloc, &rest[..size], &[]) {
-            Ok(dek) => decrypt_by_key(
-                alloc,
-                self.registry,
-                &self.dek_template,
-                &dek,
-                &rest[size..],
-                additional_data,
-            ),
+        match parts(ciphertext) {
+            Ok((encrypted_dek, payload)) => match self.remote.decrypt(alloc, encrypted_dek, &[]) {
+                Ok(dek) => decrypt_by_key(
+                    alloc,
+                    self.registry,
+                    &self.dek_template,
+                    &dek,
+                    payload,
+                    additional_data,
+                ),
+                Err(e) => Err(e),
+            },
             Err(e) => Err(e),
         }
     }

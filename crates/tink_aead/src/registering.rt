@@ -37,9 +37,13 @@ where
         (AreMade (IsMade M.From-1.from_gives ∷ IsMade M.From-2.from_gives ∷ IsMade M.From-3.from_gives ∷ []))
         M.url aead_templates registry.old registry.new result }
 {
-    let managers = managers(alloc)?;
-    let templates = templates(alloc)?;
-    registry.register_all(alloc, managers, templates)
+    match templates(alloc) {
+        Ok(templates) => match managers(alloc) {
+            Ok(managers) => registry.register_all(alloc, managers, templates),
+            Err(e) => Err(e),
+        },
+        Err(e) => Err(e),
+    }
 }
 
 // The managers, in the order of registration.
@@ -51,13 +55,10 @@ where
         managers.items) }
     ensures cause { IfErr result (λ e. e.kind ≡ OutOfMemory) }
 {
-    let composed = M::from(AesCtrHmacAeadKeyManager::new());
-    let gcm = M::from(AesGcmKeyManager::new());
-    let gcm_siv = M::from(AesGcmSivKeyManager::new());
     let mut managers = Vec::new(alloc);
-    managers.push(composed)?;
-    managers.push(gcm)?;
-    managers.push(gcm_siv)?;
+    managers.push(M::from(AesCtrHmacAeadKeyManager::new()))?;
+    managers.push(M::from(AesGcmKeyManager::new()))?;
+    managers.push(M::from(AesGcmSivKeyManager::new()))?;
     Ok(managers)
 }
 

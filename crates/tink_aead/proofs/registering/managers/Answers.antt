@@ -11,5 +11,5 @@ behind xs ys zs x e f = f ∙ ap (λ l. l ++ x ∷ []) e
 
 pub returns-clause-value : goal.returns-clause-value
 returns-clause-value g c =
-    three_made (IsMade g.M.From-1.from_gives) (IsMade g.M.From-2.from_gives) (IsMade g.M.From-3.from_gives) c.from-composed.result c.from-gcm.result c.from-gcm_siv.result _
-    (c.new.result, c.from-composed.ensures) (c.new-2.result, c.from-gcm.ensures) (c.new-3.result, c.from-gcm_siv.ensures) (behind _ _ _ _ (behind _ _ _ _ (behind [] _ _ _ c.new-managers.ensures.items c.in_ok-push.ensures.items) c.in_ok-push-2.ensures.items) c.in_ok-push-3.ensures.items)
+    three_made (IsMade g.M.From-1.from_gives) (IsMade g.M.From-2.from_gives) (IsMade g.M.From-3.from_gives) c.from.result c.from-2.result c.from-3.result _
+    (c.new.result, c.from.ensures) (c.new-2.result, c.from-2.ensures) (c.new-3.result, c.from-3.ensures) (behind _ _ _ _ (behind _ _ _ _ (behind [] _ _ _ c.new-managers.ensures.items c.in_ok-push.ensures.items) c.in_ok-push-2.ensures.items) c.in_ok-push-3.ensures.items)
