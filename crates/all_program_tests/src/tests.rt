@@ -14,17 +14,7 @@ fn tasks(rt: HostRuntime) {
 }
 
 #[test]
-fn callers_over_whole_streams(rt: HostRuntime) {
-    hold(&rt, tink_run_tests::rows(rt.alloc()));
-}
-
-#[test]
-fn files_of_keys(rt: HostRuntime) {
-    hold(&rt, tink_key_files_tests::rows(rt.alloc()));
-}
-
-#[test]
-fn commands_over_files(rt: HostRuntime) {
+fn runs_and_files(rt: HostRuntime) {
     hold(&rt, tink_files_tests::rows(rt.alloc()));
 }
 

@@ -2,14 +2,15 @@
 
 ghost use Rattle.std.specs.Prelude.{◌≡◌, ◌<◌, true, OnErr};
 
+use crate::places::{Call, Row, walk};
 use std::alloc::Global;
 use std::marker::Brand;
 use std::sync::ledger::{Blank, Ledger};
 use tink_files::{Task, range_to, save_task, write_task};
-use tink_io::{Draws, Kind, MemPlace, Place, Source, SureSource, TinkError};
+use tink_io::{Draws, Kind, MemPlace, Place, Source, SureSink, SureSource, TinkError};
 use tink_range::{MemAt, Steps};
 use tink_run::report::{Command, Report};
-use tink_testutil::{CTR_35, GCM_41, Told, shows, sink_of};
+use tink_testutil::{CTR_35, GCM_41, Told, draws_of, sink_of};
 
 // A key of HMAC-SHA256 with the id 7, a prefix and tags of 16.
 const MACS: &[u8] = b"\
@@ -17,6 +18,9 @@ const MACS: &[u8] = b"\
     \x10 !\x22#$%&'()*+,-./\x18\x01\x10\x01\x18\x07 \x01";
 
 const TEXT: &[u8] = b"a text of two chunks";
+
+// What a range has of it.
+const NINE: &[u8] = b"a text of";
 
 // Its streams by an independent model: in counter mode with the data `May`, and by GCM with `June`.
 const SEALED: &[u8] = b"\
@@ -39,12 +43,8 @@ const MOVE: Task<'static> = Task::Rewrap {
     to_aad: b"June",
 };
 
-// What stands under the name before.
-const BEFORE: &[u8] = b"before";
-
-// What is done with the text, its stream or its token.
 #[derive(Clone, Copy)]
-enum Asked {
+enum What {
     Seal,
     Open,
     Rewrap,
@@ -53,154 +53,121 @@ enum Asked {
     Range,
 }
 
-// What is done, how many bytes of the input are left, which of them is changed, and the room of the draft; then the
-// refusal, and none where what is made stands under the name.
-type Row = (&'static str, Asked, usize, usize, usize, Option<Kind>);
+// What is done with the text, its stream or its token, of which so many bytes are left, and which of them is changed.
+struct Asked(What, usize, usize);
 
-const ROWS: &[Row] = &[
-    ("a seal", Asked::Seal, ALL, ALL, 64, None),
+const ROWS: &[Row<Asked>] = &[
+    ("a seal", Asked(What::Seal, ALL, ALL), 64, Ok(SEALED)),
     (
         "a seal without room",
-        Asked::Seal,
-        ALL,
-        ALL,
+        Asked(What::Seal, ALL, ALL),
         63,
-        Some(Kind::WriteFault),
+        Err(Kind::WriteFault),
     ),
-    ("an open", Asked::Open, ALL, ALL, 20, None),
+    ("an open", Asked(What::Open, ALL, ALL), 20, Ok(TEXT)),
     (
         "an open without room",
-        Asked::Open,
-        ALL,
-        ALL,
+        Asked(What::Open, ALL, ALL),
         19,
-        Some(Kind::WriteFault),
+        Err(Kind::WriteFault),
     ),
     (
         "an open of all but a byte",
-        Asked::Open,
-        63,
-        ALL,
+        Asked(What::Open, 63, ALL),
         20,
-        Some(Kind::BadSegment(1)),
+        Err(Kind::BadSegment(1)),
     ),
     (
         "an open of a cut stream",
-        Asked::Open,
-        44,
-        ALL,
+        Asked(What::Open, 44, ALL),
         20,
-        Some(Kind::Truncated(1)),
+        Err(Kind::Truncated(1)),
     ),
     (
         "an open of a changed first segment",
-        Asked::Open,
-        ALL,
-        24,
+        Asked(What::Open, ALL, 24),
         20,
-        Some(Kind::NoMatchingKey),
+        Err(Kind::NoMatchingKey),
     ),
-    ("a rewrap", Asked::Rewrap, ALL, ALL, 76, None),
+    ("a rewrap", Asked(What::Rewrap, ALL, ALL), 76, Ok(MOVED)),
     (
         "a rewrap without room",
-        Asked::Rewrap,
-        ALL,
-        ALL,
+        Asked(What::Rewrap, ALL, ALL),
         75,
-        Some(Kind::WriteFault),
+        Err(Kind::WriteFault),
     ),
     (
         "a rewrap of all but a byte",
-        Asked::Rewrap,
-        63,
-        ALL,
+        Asked(What::Rewrap, 63, ALL),
         76,
-        Some(Kind::BadSegment(1)),
+        Err(Kind::BadSegment(1)),
     ),
     (
         "a rewrap of a changed header",
-        Asked::Rewrap,
-        ALL,
-        0,
+        Asked(What::Rewrap, ALL, 0),
         76,
-        Some(Kind::NoMatchingKey),
+        Err(Kind::NoMatchingKey),
     ),
-    ("a sign", Asked::Sign, ALL, ALL, 56, None),
+    ("a sign", Asked(What::Sign, ALL, ALL), 56, Ok(TOKEN)),
     (
         "a sign without room",
-        Asked::Sign,
-        ALL,
-        ALL,
+        Asked(What::Sign, ALL, ALL),
         55,
-        Some(Kind::WriteFault),
+        Err(Kind::WriteFault),
     ),
-    ("a verify", Asked::Verify, ALL, ALL, 20, None),
+    ("a verify", Asked(What::Verify, ALL, ALL), 20, Ok(TEXT)),
     (
         "a verify without room",
-        Asked::Verify,
-        ALL,
-        ALL,
+        Asked(What::Verify, ALL, ALL),
         19,
-        Some(Kind::WriteFault),
+        Err(Kind::WriteFault),
     ),
     (
         "a verify of a cut token",
-        Asked::Verify,
-        27,
-        ALL,
+        Asked(What::Verify, 27, ALL),
         20,
-        Some(Kind::BadToken),
+        Err(Kind::BadToken),
     ),
     (
         "a verify of a changed token",
-        Asked::Verify,
-        ALL,
-        0,
+        Asked(What::Verify, ALL, 0),
         20,
-        Some(Kind::MacMismatch),
+        Err(Kind::MacMismatch),
     ),
-    ("a range", Asked::Range, ALL, ALL, 9, None),
+    ("a range", Asked(What::Range, ALL, ALL), 9, Ok(NINE)),
     (
         "a range without room",
-        Asked::Range,
-        ALL,
-        ALL,
+        Asked(What::Range, ALL, ALL),
         8,
-        Some(Kind::WriteFault),
+        Err(Kind::WriteFault),
     ),
     (
         "a range of all but a byte",
-        Asked::Range,
-        63,
-        ALL,
+        Asked(What::Range, 63, ALL),
         9,
-        Some(Kind::BadSegment(1)),
+        Err(Kind::BadSegment(1)),
     ),
     (
         "a range of a changed last byte",
-        Asked::Range,
-        ALL,
-        63,
+        Asked(What::Range, ALL, 63),
         9,
-        Some(Kind::BadSegment(1)),
+        Err(Kind::BadSegment(1)),
     ),
     (
         "a range of a changed first segment",
-        Asked::Range,
-        ALL,
-        24,
+        Asked(What::Range, ALL, 24),
         9,
-        Some(Kind::NoMatchingKey),
+        Err(Kind::NoMatchingKey),
     ),
 ];
 
 const ALL: usize = 9999;
 
 // The input of what is asked, of which so many bytes are left and one is changed.
-fn input_of(alloc: Global, asked: Asked, left: usize, place: usize) -> Result<Vec<u8>, TinkError> {
-    let whole = match asked {
-        Asked::Seal | Asked::Sign => TEXT,
-        Asked::Verify => TOKEN,
+fn input_of(alloc: Global, what: What, left: usize, place: usize) -> Result<Vec<u8>, TinkError> {
+    let whole = match what {
+        What::Seal | What::Sign => TEXT,
+        What::Verify => TOKEN,
         _ => SEALED,
     };
     let mut input = Vec::from_slice(alloc, whole)?;
@@ -211,22 +178,11 @@ fn input_of(alloc: Global, asked: Asked, left: usize, place: usize) -> Result<Ve
     Ok(input)
 }
 
-// What is to stand under the name.
-fn made_of(asked: Asked) -> &'static [u8] {
-    match asked {
-        Asked::Seal => SEALED,
-        Asked::Rewrap => MOVED,
-        Asked::Sign => TOKEN,
-        Asked::Range => &TEXT[..9],
-        Asked::Open | Asked::Verify => TEXT,
-    }
-}
-
-// How a call is refused, if it is.
-fn told<T: Copy>(answer: Result<T, TinkError>) -> Option<Kind> {
+// Without what it reports.
+fn done<T: Copy>(answer: Result<T, TinkError>) -> Result<(), TinkError> {
     match answer {
-        Ok(_) => None,
-        Err(e) => Some(e.kind),
+        Ok(_) => Ok(()),
+        Err(e) => Err(e),
     }
 }
 
@@ -257,39 +213,52 @@ fn encrypted<S: Source, P: Place>(
     )
 }
 
-// Does what is asked, and answers how it is refused, if it is.
-fn refusal(
+impl Call for Asked {
+    fn done(&self, alloc: Global, place: &mut MemPlace) -> Result<(), TinkError> {
+        let input = input_of(alloc, self.0, self.1, self.2)?;
+        match self.0 {
+            What::Range => ranged(alloc, input, place),
+            what => streamed(alloc, what, input, place),
+        }
+    }
+}
+
+// A text, a stream or a token into a place.
+fn streamed(
     alloc: Global,
-    asked: Asked,
-    draws: &mut Draws,
+    what: What,
     input: Vec<u8>,
     place: &mut MemPlace,
-) -> Option<Kind> {
-    if !place.has_draft {
-        return Some(Kind::WriteFault);
-    }
-    if let Asked::Range = asked {
-        let mut object = MemAt::new(input, 0, Vec::new(alloc));
-        return told(range_of::<Brand>(alloc, &mut object, place, Blank::new(1)));
-    }
-    let source = &mut SureSource::new(input);
-    match asked {
-        Asked::Seal => told(encrypted(alloc, CTR_35, MAY, draws, source, place)),
+) -> Result<(), TinkError>
+    requires { place.old.has_draft ≡ true }
+{
+    let mut draws = draws_of(alloc, DRAWS)?;
+    let mut source = SureSource::new(input);
+    match what {
+        What::Seal => done(encrypted(alloc, CTR_35, MAY, &mut draws, &mut source, place)),
         _ => {
-            let (task, keys, aad) = task_of(asked);
-            told(save_task(alloc, task, keys, aad, draws, source, place))
+            let (task, keys, aad) = task_of(what);
+            done(save_task(alloc, task, keys, aad, &mut draws, &mut source, place))
         }
     }
 }
 
 // An open, a move to other keys, or what is done with a token, with its keys and data.
-fn task_of(asked: Asked) -> (Task<'static>, &'static [u8], &'static [u8]) {
-    match asked {
-        Asked::Rewrap => (MOVE, CTR_35, MAY),
-        Asked::Sign => (Task::Sign, MACS, b""),
-        Asked::Verify => (Task::Verify, MACS, b""),
+fn task_of(what: What) -> (Task<'static>, &'static [u8], &'static [u8]) {
+    match what {
+        What::Rewrap => (MOVE, CTR_35, MAY),
+        What::Sign => (Task::Sign, MACS, b""),
+        What::Verify => (Task::Verify, MACS, b""),
         _ => (Task::Run(Command::Open), CTR_35, MAY),
     }
+}
+
+// A range of a stream into a place.
+fn ranged(alloc: Global, input: Vec<u8>, place: &mut MemPlace) -> Result<(), TinkError>
+    requires { place.old.has_draft ≡ true }
+{
+    let mut object = MemAt::new(input, 0, Vec::new(alloc));
+    done(range_of::<Brand>(alloc, &mut object, place, Blank::new(1)))
 }
 
 // The first nine bytes of the text, by a ledger of steps.
@@ -308,39 +277,27 @@ fn range_of<L: Ledger>(
     range_to(alloc, CTR_35, MAY, object, 0, 9, place, &mut steps)
 }
 
-// Whether what is asked is refused so and leaves what stood there, or shows what is made.
-fn holds(alloc: Global, row: &Row) -> Result<bool, TinkError> {
-    let (_, asked, left, changed, room, kind) = *row;
-    let mut draws = Draws::new(Vec::from_slice(alloc, DRAWS)?);
-    let before = Vec::from_slice(alloc, BEFORE)?;
-    let mut place = MemPlace::new(alloc, room, Some(before))?;
-    let input = input_of(alloc, asked, left, changed)?;
-    let answer = refusal(alloc, asked, &mut draws, input, &mut place);
-    let stands = match kind {
-        None => made_of(asked),
-        Some(_) => BEFORE,
-    };
-    Ok(answer == kind && shows(&place, stands))
+pub fn what_is_made_stands_whole_or_not_at_all(alloc: Global, told: &mut Told) {
+    walk(alloc, told, ROWS);
 }
 
-pub fn what_is_made_stands_whole_or_not_at_all(alloc: Global, told: &mut Told) {
-    for row in ROWS {
-        told.expect(holds(alloc, row), Ok(true), row.0);
+// Whether an open into a sink reports its segments and bytes.
+fn is_reported(alloc: Global, sink: &mut SureSink) -> Result<bool, TinkError> {
+    let mut source = SureSource::new(Vec::from_slice(alloc, SEALED)?);
+    let mut draws = Draws::new(Vec::new(alloc));
+    let task = Task::Run(Command::Open);
+    match write_task(alloc, task, CTR_35, MAY, &mut draws, &mut source, sink) {
+        Ok(Some(report)) => Ok(report.segments == 2 && report.bytes == 20),
+        Ok(None) => Ok(false),
+        Err(e) => Err(e),
     }
 }
 
-// Whether an open into a sink reports its segments and bytes, and the sink has got the text.
+// Whether the sink has got the text then.
 fn opens(alloc: Global) -> Result<bool, TinkError> {
-    let mut source = SureSource::new(Vec::from_slice(alloc, SEALED)?);
-    let mut draws = Draws::new(Vec::new(alloc));
     let mut sink = sink_of(alloc, TEXT.len())?;
-    let task = Task::Run(Command::Open);
-    let report = write_task(alloc, task, CTR_35, MAY, &mut draws, &mut source, &mut sink)?;
-    let want = Report {
-        segments: 2,
-        bytes: 20,
-    };
-    Ok(report == Some(want) && sink.bytes() == TEXT)
+    let is_reported = is_reported(alloc, &mut sink)?;
+    Ok(is_reported && sink.bytes() == TEXT)
 }
 
 pub fn a_text_goes_into_a_sink_as_it_comes(alloc: Global, told: &mut Told) {

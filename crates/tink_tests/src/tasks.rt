@@ -3,29 +3,87 @@
 use std::alloc::Global;
 use tink::aead::{AeadKind, WrappedAead, aes128_gcm_key_template};
 use tink::keyset::{BinaryReader, BinaryWriter, Handle, JsonReader, JsonWriter, Manager, insecure};
-use tink::mac::{MacKind, WrappedMac};
-use tink::streaming_aead::{DecryptReader, StreamSegment, WrappedStreamingAead, Writer};
+use tink::mac::{MacKind, WrappedMac, hmac_sha256_tag128_key_template};
+use tink::streaming_aead::{
+    DecryptReader, StreamSegment, WrappedStreamingAead, Writer, aes128_gcm_hkdf_4kb_key_template,
+};
 use tink::{Aead, Draws, Lent, Mac, Managers, Registry, SureSink, SureSource, TinkError};
 use tink_proto::{Bytes, KeyTemplate};
-use tink_testutil::sink_of;
+use tink_testutil::{gives, sink_of};
 
-// Random bytes. A program reads them from the system's random source; a test counts.
-fn draws(alloc: Global, n: u8) -> Result<Draws, TinkError> {
+/// What is done under a keyset.
+#[derive(Clone, Copy)]
+pub enum Task {
+    /// A value is encrypted to a prefix, a nonce, the text and a tag, and decrypted.
+    Encrypt,
+    /// What a keyset encrypts is decrypted by it after a rotation, and new data have another prefix.
+    Rotate,
+    /// A MAC is accepted for its message alone.
+    Mac,
+    /// A keyset that was read from JSON decrypts what was encrypted before, after it was written and read under a
+    /// master keyset. The master keyset is here the one in JSON itself.
+    Json,
+    /// A stream is written whole, and read ten bytes at a time.
+    Stream,
+}
+
+/// Random bytes. A program reads them from the system's random source; a test counts.
+pub fn draws(alloc: Global) -> Result<Draws, TinkError> {
     let mut bytes = Vec::new(alloc);
-    for byte in 0..n {
+    let mut byte = 0u8;
+    for _ in 0..5000 {
         bytes.push(byte)?;
+        byte = if byte < 250 { byte + 1 } else { 0 };
     }
     Ok(Draws::new(bytes))
 }
 
-/// A keyset of one new key.
-pub fn new_keyset(
+fn template(alloc: Global, task: Task) -> Result<KeyTemplate, TinkError> {
+    match task {
+        Task::Mac => hmac_sha256_tag128_key_template(alloc),
+        Task::Stream => aes128_gcm_hkdf_4kb_key_template(alloc),
+        _ => aes128_gcm_key_template(alloc),
+    }
+}
+
+// A keyset of one new key.
+fn new_keyset(
     alloc: Global,
     registry: &Registry<Managers>,
-    kt: &KeyTemplate,
+    draws: &mut Draws,
+    task: Task,
 ) -> Result<Handle, TinkError> {
-    let mut draws = draws(alloc, 100)?;
-    Handle::new(alloc, kt, registry, &mut draws)
+    match template(alloc, task) {
+        Ok(kt) => Handle::new(alloc, &kt, registry, draws),
+        Err(e) => Err(e),
+    }
+}
+
+/// Whether a task is done under a new keyset.
+pub fn is_done(
+    alloc: Global,
+    registry: &Registry<Managers>,
+    draws: &mut Draws,
+    task: Task,
+) -> Result<bool, TinkError> {
+    match new_keyset(alloc, registry, draws, task) {
+        Ok(keyset) => is_done_under(alloc, registry, &keyset, draws, task),
+        Err(e) => Err(e),
+    }
+}
+
+fn is_done_under(
+    alloc: Global,
+    registry: &Registry<Managers>,
+    keyset: &Handle,
+    draws: &mut Draws,
+    task: Task,
+) -> Result<bool, TinkError> {
+    match task {
+        Task::Mac => a_mac_is_of_its_message(alloc, registry, keyset),
+        Task::Stream => a_stream_is_read_in_pieces(alloc, registry, keyset, draws),
+        _ => old_data_opens(alloc, registry, keyset, draws, task),
+    }
 }
 
 // ---- a value is encrypted and decrypted
@@ -36,27 +94,15 @@ fn encrypted(
     alloc: Global,
     registry: &Registry<Managers>,
     keyset: &Handle,
+    draws: &mut Draws,
 ) -> Result<Bytes, TinkError> {
-    let mut draws = draws(alloc, 12)?;
     match tink::aead::new(alloc, keyset, registry) {
-        Ok(aead) => aead.encrypt(alloc, VALUE, b"its column", &mut draws),
+        Ok(aead) => aead.encrypt(alloc, VALUE, b"its column", draws),
         Err(e) => Err(e),
     }
 }
 
-// Whether an AEAD decrypts a ciphertext to the value.
-fn gives_value(
-    alloc: Global,
-    aead: &WrappedAead<AeadKind>,
-    ciphertext: &[u8],
-) -> Result<bool, TinkError> {
-    match aead.decrypt(alloc, ciphertext, b"its column") {
-        Ok(text) => Ok(text.as_slice() == VALUE),
-        Err(e) => Err(e),
-    }
-}
-
-// The same by the AEADs of a keyset.
+// Whether a ciphertext is decrypted to the value.
 fn is_value(
     alloc: Global,
     registry: &Registry<Managers>,
@@ -64,52 +110,26 @@ fn is_value(
     ciphertext: &[u8],
 ) -> Result<bool, TinkError> {
     match tink::aead::new(alloc, keyset, registry) {
-        Ok(aead) => gives_value(alloc, &aead, ciphertext),
+        Ok(aead) => gives(aead.decrypt(alloc, ciphertext, b"its column"), VALUE),
         Err(e) => Err(e),
     }
 }
 
-/// A value is encrypted to a prefix, a nonce, the text and a tag, and decrypted.
-pub fn a_value_is_encrypted(
+// ---- a keyset is rotated or kept, and old data decrypted
+
+// A copy of a keyset that was rotated, or written and read under the keyset itself.
+fn later(
     alloc: Global,
     registry: &Registry<Managers>,
     keyset: &Handle,
-) -> Result<bool, TinkError> {
-    let sealed = encrypted(alloc, registry, keyset)?;
-    let sealed = sealed.as_slice();
-    Ok(is_value(alloc, registry, keyset, sealed)? && sealed.len() == 5 + 12 + 7 + 16)
-}
-
-// ---- a key is rotated, and old data decrypted
-
-fn rotate(
-    alloc: Global,
-    manager: &mut Manager,
-    registry: &Registry<Managers>,
-) -> Result<u32, TinkError> {
-    let mut draws = draws(alloc, 200)?;
-    match aes128_gcm_key_template(alloc) {
-        Ok(kt) => manager.rotate(alloc, &kt, registry, &mut draws),
-        Err(e) => Err(e),
-    }
-}
-
-fn rotated(
-    alloc: Global,
-    registry: &Registry<Managers>,
-    keyset: Handle,
+    draws: &mut Draws,
+    task: Task,
 ) -> Result<Handle, TinkError> {
-    let mut manager = Manager::new_from_handle(keyset);
-    match rotate(alloc, &mut manager, registry) {
-        Ok(_) => manager.handle(alloc),
-        Err(e) => Err(e),
+    let copy = copied(alloc, keyset)?;
+    match task {
+        Task::Rotate => rotated(alloc, registry, copy, draws),
+        _ => kept_under(alloc, registry, copy, keyset, draws),
     }
-}
-
-// A copy of a keyset in JSON.
-fn copied(alloc: Global, keyset: &Handle) -> Result<Handle, TinkError> {
-    let text = in_json(alloc, keyset)?;
-    insecure::read(alloc, &mut JsonReader::new(SureSource::new(text)))
 }
 
 // Whether two ciphertexts have one prefix.
@@ -120,26 +140,140 @@ fn begins_alike(one: &[u8], other: &[u8]) -> bool {
     }
 }
 
-// Whether old data are decrypted, and new ones have another prefix.
+// Whether old data are decrypted, and new ones have another prefix after a rotation alone.
 fn opens_old_data(
     alloc: Global,
     registry: &Registry<Managers>,
     keyset: &Handle,
+    draws: &mut Draws,
     old: &[u8],
+    task: Task,
 ) -> Result<bool, TinkError> {
-    let new = encrypted(alloc, registry, keyset)?;
-    Ok(is_value(alloc, registry, keyset, old)? && !begins_alike(old, new.as_slice()))
+    let is_alike = match encrypted(alloc, registry, keyset, draws) {
+        Ok(new) => begins_alike(old, new.as_slice()),
+        Err(e) => return Err(e),
+    };
+    let is_right = match task {
+        Task::Rotate => !is_alike,
+        _ => is_alike && old.len() == 5 + 12 + 7 + 16,
+    };
+    Ok(is_value(alloc, registry, keyset, old)? && is_right)
 }
 
-/// What a keyset encrypts is decrypted by it after a rotation, and new data have another prefix.
-pub fn old_data_opens_after_a_rotation(
+// The same by what becomes of a keyset.
+fn later_opens(
     alloc: Global,
     registry: &Registry<Managers>,
     keyset: &Handle,
+    draws: &mut Draws,
+    old: &[u8],
+    task: Task,
 ) -> Result<bool, TinkError> {
-    let old = encrypted(alloc, registry, keyset)?;
-    match rotated(alloc, registry, copied(alloc, keyset)?) {
-        Ok(later) => opens_old_data(alloc, registry, &later, old.as_slice()),
+    match later(alloc, registry, keyset, draws, task) {
+        Ok(later) => opens_old_data(alloc, registry, &later, draws, old, task),
+        Err(e) => Err(e),
+    }
+}
+
+// Whether what a keyset encrypts is decrypted by it, or by what becomes of it.
+fn old_data_opens(
+    alloc: Global,
+    registry: &Registry<Managers>,
+    keyset: &Handle,
+    draws: &mut Draws,
+    task: Task,
+) -> Result<bool, TinkError> {
+    let old = encrypted(alloc, registry, keyset, draws)?;
+    let old = old.as_slice();
+    match task {
+        Task::Encrypt => opens_old_data(alloc, registry, keyset, draws, old, task),
+        _ => later_opens(alloc, registry, keyset, draws, old, task),
+    }
+}
+
+// ---- a key is rotated
+
+fn rotate(
+    alloc: Global,
+    manager: &mut Manager,
+    registry: &Registry<Managers>,
+    draws: &mut Draws,
+) -> Result<u32, TinkError> {
+    match aes128_gcm_key_template(alloc) {
+        Ok(kt) => manager.rotate(alloc, &kt, registry, draws),
+        Err(e) => Err(e),
+    }
+}
+
+fn rotated(
+    alloc: Global,
+    registry: &Registry<Managers>,
+    keyset: Handle,
+    draws: &mut Draws,
+) -> Result<Handle, TinkError> {
+    let mut manager = Manager::new_from_handle(keyset);
+    match rotate(alloc, &mut manager, registry, draws) {
+        Ok(_) => manager.handle(alloc),
+        Err(e) => Err(e),
+    }
+}
+
+// ---- a keyset in JSON is read, and written encrypted
+
+fn in_json(alloc: Global, keyset: &Handle) -> Result<Vec<u8>, TinkError> {
+    let mut writer = JsonWriter::new(sink_of(alloc, 1000)?);
+    match insecure::write(alloc, keyset, &mut writer) {
+        Ok(()) => Ok(writer.into_inner().into_bytes()),
+        Err(e) => Err(e),
+    }
+}
+
+// A copy of a keyset in JSON.
+fn copied(alloc: Global, keyset: &Handle) -> Result<Handle, TinkError> {
+    let text = in_json(alloc, keyset)?;
+    insecure::read(alloc, &mut JsonReader::new(SureSource::new(text)))
+}
+
+// The keyset under the AEAD of a master key, in the wire format.
+fn written(
+    alloc: Global,
+    keyset: &Handle,
+    master: &WrappedAead<AeadKind>,
+    draws: &mut Draws,
+) -> Result<Vec<u8>, TinkError> {
+    let mut writer = BinaryWriter::new(sink_of(alloc, 1000)?);
+    match keyset.write(alloc, &mut writer, master, draws) {
+        Ok(()) => Ok(writer.into_inner().into_bytes()),
+        Err(e) => Err(e),
+    }
+}
+
+// The keyset, after it was written and read so.
+fn kept(
+    alloc: Global,
+    keyset: Handle,
+    master: &WrappedAead<AeadKind>,
+    draws: &mut Draws,
+) -> Result<Handle, TinkError> {
+    match written(alloc, &keyset, master, draws) {
+        Ok(stored) => {
+            let mut reader = BinaryReader::new(SureSource::new(stored));
+            Handle::read(alloc, &mut reader, master)
+        }
+        Err(e) => Err(e),
+    }
+}
+
+// The same by the AEAD of a master keyset.
+fn kept_under(
+    alloc: Global,
+    registry: &Registry<Managers>,
+    keyset: Handle,
+    master: &Handle,
+    draws: &mut Draws,
+) -> Result<Handle, TinkError> {
+    match tink::aead::new(alloc, master, registry) {
+        Ok(master) => kept(alloc, keyset, &master, draws),
         Err(e) => Err(e),
     }
 }
@@ -155,8 +289,7 @@ fn is_of_its_message(alloc: Global, mac: &WrappedMac<MacKind>) -> Result<bool, T
     Ok(tag.len() == 5 + 16 && is_accepted && !other)
 }
 
-/// A MAC is accepted for its message alone.
-pub fn a_mac_is_of_its_message(
+fn a_mac_is_of_its_message(
     alloc: Global,
     registry: &Registry<Managers>,
     keyset: &Handle,
@@ -167,78 +300,9 @@ pub fn a_mac_is_of_its_message(
     }
 }
 
-// ---- a keyset in JSON is read, and written encrypted
-
-fn in_json(alloc: Global, keyset: &Handle) -> Result<Vec<u8>, TinkError> {
-    let mut writer = JsonWriter::new(sink_of(alloc, 1000)?);
-    insecure::write(alloc, keyset, &mut writer)?;
-    Ok(writer.into_inner().into_bytes())
-}
-
-// The keyset under the AEAD of a master key, in the wire format.
-fn written(
-    alloc: Global,
-    keyset: &Handle,
-    master: &WrappedAead<AeadKind>,
-) -> Result<Vec<u8>, TinkError> {
-    let mut draws = draws(alloc, 12)?;
-    let mut writer = BinaryWriter::new(sink_of(alloc, 1000)?);
-    keyset.write(alloc, &mut writer, master, &mut draws)?;
-    Ok(writer.into_inner().into_bytes())
-}
-
-// The keyset, after it was written and read so.
-fn kept(
-    alloc: Global,
-    keyset: &Handle,
-    master: &WrappedAead<AeadKind>,
-) -> Result<Handle, TinkError> {
-    let stored = written(alloc, keyset, master)?;
-    let mut reader = BinaryReader::new(SureSource::new(stored));
-    Handle::read(alloc, &mut reader, master)
-}
-
-// The same by the AEAD of a master keyset.
-fn kept_under(
-    alloc: Global,
-    registry: &Registry<Managers>,
-    keyset: &Handle,
-    master: &Handle,
-) -> Result<Handle, TinkError> {
-    match tink::aead::new(alloc, master, registry) {
-        Ok(master) => kept(alloc, keyset, &master),
-        Err(e) => Err(e),
-    }
-}
-
-// Whether a keyset that was kept so decrypts what it encrypted before.
-fn decrypts_when_kept(
-    alloc: Global,
-    registry: &Registry<Managers>,
-    keyset: &Handle,
-    master: &Handle,
-) -> Result<bool, TinkError> {
-    let sealed = encrypted(alloc, registry, keyset)?;
-    match kept_under(alloc, registry, keyset, master) {
-        Ok(kept) => is_value(alloc, registry, &kept, sealed.as_slice()),
-        Err(e) => Err(e),
-    }
-}
-
-/// A keyset that was read from JSON decrypts what it encrypted, after it was written and read under a master keyset.
-/// The master keyset is here the one in JSON itself.
-pub fn a_keyset_in_json_is_encrypted(
-    alloc: Global,
-    registry: &Registry<Managers>,
-    master: &Handle,
-) -> Result<bool, TinkError> {
-    match copied(alloc, master) {
-        Ok(keyset) => decrypts_when_kept(alloc, registry, &keyset, master),
-        Err(e) => Err(e),
-    }
-}
-
 // ---- a stream is sealed, and read in pieces
+
+const TEXT: &[u8] = b"a text of more than ten bytes";
 
 fn write_whole(
     writer: &mut Writer<Lent<'_, SureSink>, StreamSegment>,
@@ -252,60 +316,61 @@ fn seal(
     alloc: Global,
     streams: &WrappedStreamingAead,
     sink: &mut SureSink,
-    text: &[u8],
+    draws: &mut Draws,
 ) -> Result<(), TinkError> {
-    let mut draws = draws(alloc, 100)?;
-    match streams.new_encrypting_writer(alloc, &mut draws, Lent(sink), b"its name") {
-        Ok(mut writer) => write_whole(&mut writer, text),
+    match streams.new_encrypting_writer(alloc, draws, Lent(sink), b"its name") {
+        Ok(mut writer) => write_whole(&mut writer, TEXT),
         Err(refused) => Err(refused.error),
     }
 }
 
-// Reads ten bytes at a time.
-fn read_whole(reader: &mut DecryptReader<SureSource>, text: &mut Vec<u8>) -> Result<(), TinkError> {
+// Whether a reader gives the text, ten bytes at a time.
+fn is_text(alloc: Global, reader: &mut DecryptReader<SureSource>) -> Result<bool, TinkError> {
+    let mut text = Vec::new(alloc);
     for _ in 0..100 {
         let mut piece = [0u8; 10];
         let n = reader.read(&mut piece)?;
         if n == 0 {
-            return Ok(());
+            return Ok(text.as_slice() == TEXT);
         }
         text.extend_from_slice(&piece[..n])?;
     }
-    Ok(())
+    Ok(false)
 }
 
-fn open(
+fn opens(
     alloc: Global,
     streams: &WrappedStreamingAead,
     stream: Vec<u8>,
-    text: &mut Vec<u8>,
-) -> Result<(), TinkError> {
+) -> Result<bool, TinkError> {
     let source = SureSource::new(stream);
     match streams.new_decrypting_reader(alloc, source, b"its name") {
-        Ok(mut reader) => read_whole(&mut reader, text),
+        Ok(mut reader) => is_text(alloc, &mut reader),
         Err(refused) => Err(refused.error),
     }
 }
 
-const TEXT: &[u8] = b"a text of more than ten bytes";
-
-// Whether a text is sealed to a stream that opens to it.
-fn opens_again(alloc: Global, streams: &WrappedStreamingAead) -> Result<bool, TinkError> {
-    let mut text = Vec::new(alloc);
+// Whether the text is sealed to a stream that opens to it.
+fn opens_again(
+    alloc: Global,
+    streams: &WrappedStreamingAead,
+    draws: &mut Draws,
+) -> Result<bool, TinkError> {
     let mut sink = sink_of(alloc, 1000)?;
-    seal(alloc, streams, &mut sink, TEXT)?;
-    open(alloc, streams, sink.into_bytes(), &mut text)?;
-    Ok(text.as_slice() == TEXT)
+    match seal(alloc, streams, &mut sink, draws) {
+        Ok(()) => opens(alloc, streams, sink.into_bytes()),
+        Err(e) => Err(e),
+    }
 }
 
-/// A stream is written whole, and read ten bytes at a time.
-pub fn a_stream_is_read_in_pieces(
+fn a_stream_is_read_in_pieces(
     alloc: Global,
     registry: &Registry<Managers>,
     keyset: &Handle,
+    draws: &mut Draws,
 ) -> Result<bool, TinkError> {
     match tink::streaming_aead::new(alloc, keyset, registry) {
-        Ok(streams) => opens_again(alloc, &streams),
+        Ok(streams) => opens_again(alloc, &streams, draws),
         Err(e) => Err(e),
     }
 }

@@ -4,32 +4,32 @@ use std::alloc::Global;
 use tink::keyset::Handle;
 use tink::{Draws, Managers, Registry, TinkError};
 use tink_proto::KeyTemplate;
-
-// Whether the keys of a keyset build.
-fn are_built(alloc: Global, registry: &Registry<Managers>, keyset: &Handle) -> bool {
-    keyset.primitives(alloc, registry).is_ok()
-}
+use tink_testutil::made;
 
 // Whether a template makes a keyset whose one key builds.
 fn builds(
     alloc: Global,
     registry: &Registry<Managers>,
     template: &KeyTemplate,
+    draws: &mut Draws,
 ) -> Result<bool, TinkError> {
-    let mut draws = Draws::new(vec![in alloc; 7u8; 200]?);
-    match Handle::new(alloc, template, registry, &mut draws) {
-        Ok(keyset) => Ok(are_built(alloc, registry, &keyset)),
-        Err(_) => Ok(false),
+    match Handle::new(alloc, template, registry, draws) {
+        Ok(keyset) => made(keyset.primitives(alloc, registry)),
+        Err(e) => Err(e),
     }
 }
 
 /// Whether 26 templates have a name, and each of them makes a keyset that builds.
-pub fn templates_build(alloc: Global, registry: &Registry<Managers>) -> Result<bool, TinkError> {
+pub fn templates_build(
+    alloc: Global,
+    registry: &Registry<Managers>,
+    draws: &mut Draws,
+) -> Result<bool, TinkError> {
     let names = registry.template_names(alloc)?;
     let mut all = names.len() == 26;
     for name in &names {
         all = match registry.get_template_generator(name.as_str()) {
-            Some(template) => builds(alloc, registry, template)? && all,
+            Some(template) => builds(alloc, registry, template, draws)? && all,
             None => false,
         };
     }

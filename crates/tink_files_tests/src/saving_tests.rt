@@ -2,15 +2,13 @@
 
 ghost use Rattle.std.specs.Prelude.{◌≡◌, true};
 
+use crate::places::{Call, Row, place_of, walk};
 use std::alloc::Global;
-use tink_files::under_master::load_master;
+use tink_files::under_master::{Master, load_master};
 use tink_files::{edit_keys, new_keys, rotate_keys, unwrap_keys, wrap_keys};
 use tink_io::{Draws, Kind, MemPlace, TinkError};
 use tink_keyset_io::key_files::{Edit, Format};
-use tink_testutil::{Told, shows};
-
-// What stands under the name before.
-const BEFORE: &[u8] = b"before";
+use tink_testutil::{Told, draws_of, kind_of};
 
 // A master keyset: an AES-GCM key of the id MMMM, under TINK.
 pub const MASTER: &[u8] = b"\
@@ -50,17 +48,22 @@ const PROMOTED: &[u8] = b"\
     k.AesGcmKey\x12\x12\x1a\x100123456789abcdef\x18\x01\x10\x01\x18\xda\xb4\xe9\xd2\x05 \x01";
 
 // What is asked: templates, files, draws and associated data.
-#[derive(Clone, Copy)]
 enum Asked {
     New(&'static str, &'static [u8]),
     Rotate(&'static [u8], &'static str, &'static [u8]),
     Change(&'static [u8], Edit, u32),
-    Wrap(&'static [u8], &'static [u8], &'static [u8], &'static [u8]),
-    Unwrap(&'static [u8], &'static [u8], &'static [u8]),
 }
 
-// How much room the draft has, and which file is shown, or how the call is refused.
-const ROWS: &[(&str, Asked, usize, Result<&[u8], Kind>)] = &[
+// What is asked of a master: files of keys, associated data and draws.
+enum Under {
+    Wrap(&'static [u8], &'static [u8], &'static [u8]),
+    Unwrap(&'static [u8], &'static [u8]),
+}
+
+// The keyset of the master, and what is asked of it.
+struct AskedUnder(&'static [u8], Under);
+
+const ROWS: &[Row<Asked>] = &[
     (
         "new",
         Asked::New("AES128_GCM", b"0123456789abcdefMMMM"),
@@ -109,83 +112,97 @@ const ROWS: &[(&str, Asked, usize, Result<&[u8], Kind>)] = &[
         999,
         Err(Kind::IsPrimary),
     ),
+];
+
+const UNDER_MASTERS: &[Row<AskedUnder>] = &[
     (
         "wrap",
-        Asked::Wrap(MASTER, KEYS, b"data", b"twelve bytes"),
+        AskedUnder(MASTER, Under::Wrap(KEYS, b"data", b"twelve bytes")),
         999,
         Ok(WRAPPED),
     ),
     (
         "wrap without room",
-        Asked::Wrap(MASTER, KEYS, b"data", b"twelve bytes"),
+        AskedUnder(MASTER, Under::Wrap(KEYS, b"data", b"twelve bytes")),
         9,
         Err(Kind::WriteFault),
     ),
     (
         "wrap with few draws",
-        Asked::Wrap(MASTER, KEYS, b"data", b"eleven byte"),
+        AskedUnder(MASTER, Under::Wrap(KEYS, b"data", b"eleven byte")),
         999,
         Err(Kind::MasterFailed),
     ),
     (
         "wrap none",
-        Asked::Wrap(MASTER, b"{}", b"", b"twelve bytes"),
+        AskedUnder(MASTER, Under::Wrap(b"{}", b"", b"twelve bytes")),
         999,
         Err(Kind::InvalidKeyset),
     ),
     (
         "unwrap",
-        Asked::Unwrap(MASTER, WRAPPED, b"data"),
+        AskedUnder(MASTER, Under::Unwrap(WRAPPED, b"data")),
         999,
         Ok(KEYS),
     ),
     (
         "unwrap JSON",
-        Asked::Unwrap(MASTER, WRAPPED_JSON, b"data"),
+        AskedUnder(MASTER, Under::Unwrap(WRAPPED_JSON, b"data")),
         999,
         Ok(KEYS),
     ),
     (
         "unwrap with other data",
-        Asked::Unwrap(MASTER, WRAPPED, b"date"),
+        AskedUnder(MASTER, Under::Unwrap(WRAPPED, b"date")),
         999,
         Err(Kind::MasterFailed),
     ),
     (
         "unwrap under other keys",
-        Asked::Unwrap(KEYS, WRAPPED, b"data"),
+        AskedUnder(KEYS, Under::Unwrap(WRAPPED, b"data")),
         999,
         Err(Kind::MasterFailed),
     ),
     (
         "unwrap none",
-        Asked::Unwrap(MASTER, b"{", b"data"),
+        AskedUnder(MASTER, Under::Unwrap(b"{", b"data")),
         999,
         Err(Kind::BadJson),
     ),
 ];
 
-// A place with so much room under whose name a file stands.
-fn place_of(alloc: Global, room: usize) -> Option<MemPlace> {
-    let shown = Vec::from_slice(alloc, BEFORE).ok()?;
-    MemPlace::new(alloc, room, Some(shown)).ok()
-}
-
-// A call into the place. New files have the wire format.
-fn answered(alloc: Global, asked: Asked, place: &mut MemPlace) -> Result<(), TinkError>
-    requires { place.old.has_draft ≡ true }
-{
-    match asked {
-        Asked::New(template, draws) => made(alloc, template, draws, place),
-        Asked::Rotate(file, template, draws) => rotated(alloc, file, template, draws, place),
-        Asked::Change(file, edit, id) => changed(alloc, file, edit, id, place),
-        Asked::Wrap(master, keys, aad, draws) => wrap(alloc, master, keys, aad, draws, place),
-        Asked::Unwrap(master, file, aad) => unwrap(alloc, master, file, aad, place),
+// New files have the wire format.
+impl Call for Asked {
+    fn done(&self, alloc: Global, place: &mut MemPlace) -> Result<(), TinkError> {
+        match *self {
+            Asked::New(template, draws) => made(alloc, template, draws, place),
+            Asked::Rotate(file, template, draws) => rotated(alloc, file, template, draws, place),
+            Asked::Change(file, edit, id) => changed(alloc, file, edit, id, place),
+        }
     }
 }
 
-fn draws_of(alloc: Global, bytes: &[u8]) -> Result<Draws, TinkError> {
-    Ok(Draws::new(Vec::from_slice(alloc, bytes)?))
+impl Call for AskedUnder {
+    fn done(&self, alloc: Global, place: &mut MemPlace) -> Result<(), TinkError> {
+        match master_of(alloc, self.0) {
+            Ok(master) => done_under(alloc, &master, &self.1, place),
+            Err(e) => Err(e),
+        }
+    }
+}
+
+fn done_under(
+    alloc: Global,
+    master: &Master,
+    asked: &Under,
+    place: &mut MemPlace,
+) -> Result<(), TinkError>
+    requires { place.old.has_draft ≡ true }
+{
+    match *asked {
+        Under::Wrap(keys, aad, draws) => wrap(alloc, master, keys, aad, draws, place),
+        Under::Unwrap(file, aad) => unwrap_keys(alloc, master, file, aad, Format::Binary, place),
+    }
 }
 
 fn made(alloc: Global, template: &str, draws: &[u8], place: &mut MemPlace) -> Result<(), TinkError>
@@ -221,9 +238,14 @@ fn changed(
     edit_keys(alloc, Vec::from_slice(alloc, file)?, edit, id, place)
 }
 
+/// The master of a keyset in the wire format.
+pub fn master_of(alloc: Global, keyset: &[u8]) -> Result<Master, TinkError> {
+    load_master(alloc, Vec::from_slice(alloc, keyset)?)
+}
+
 fn wrap(
     alloc: Global,
-    master: &[u8],
+    master: &Master,
     keys: &[u8],
     aad: &[u8],
     draws: &[u8],
@@ -233,43 +255,15 @@ fn wrap(
 {
     let mut draws = draws_of(alloc, draws)?;
     let keys = Vec::from_slice(alloc, keys)?;
-    let master = load_master(alloc, Vec::from_slice(alloc, master)?)?;
-    wrap_keys(alloc, &master, keys, aad, Format::Binary, &mut draws, place)
-}
-
-fn unwrap(
-    alloc: Global,
-    master: &[u8],
-    file: &[u8],
-    aad: &[u8],
-    place: &mut MemPlace,
-) -> Result<(), TinkError>
-    requires { place.old.has_draft ≡ true }
-{
-    let master = load_master(alloc, Vec::from_slice(alloc, master)?)?;
-    unwrap_keys(alloc, &master, file, aad, Format::Binary, place)
-}
-
-// Whether a call shows the file and leaves no draft, or is refused so and leaves what stood there.
-fn is_answered(alloc: Global, asked: Asked, room: usize, want: Result<&[u8], Kind>) -> bool {
-    let Some(mut place) = place_of(alloc, room) else {
-        return false;
-    };
-    if !place.has_draft {
-        return false;
-    }
-    match (answered(alloc, asked, &mut place), want) {
-        (Ok(()), Ok(file)) => shows(&place, file),
-        (Err(e), Err(kind)) => e.kind == kind && shows(&place, BEFORE),
-        _ => false,
-    }
+    wrap_keys(alloc, master, keys, aad, Format::Binary, &mut draws, place)
 }
 
 pub fn files_of_keys_are_saved_whole_or_not_at_all(alloc: Global, told: &mut Told) {
-    for (row, asked, room, want) in ROWS {
-        let is_answered = is_answered(alloc, *asked, *room, *want);
-        told.expect(Ok(is_answered), Ok(true), row);
-    }
+    walk(alloc, told, ROWS);
+}
+
+pub fn files_under_masters_are_saved_whole_or_not_at_all(alloc: Global, told: &mut Told) {
+    walk(alloc, told, UNDER_MASTERS);
 }
 
 pub fn a_master_has_aeads_alone(alloc: Global, told: &mut Told) {
@@ -283,16 +277,12 @@ pub fn a_master_has_aeads_alone(alloc: Global, told: &mut Told) {
 
 // By which kind a new file of a key of streams is refused as a master.
 fn refusal_of_master(alloc: Global, place: &mut MemPlace) -> Option<Kind> {
-    if !place.has_draft {
+    let draws = b"0123456789abcdefMMMM";
+    if !place.has_draft || made(alloc, "AES128_GCM_HKDF_4KB", draws, place).is_err() {
         return None;
     }
-    let draws = b"0123456789abcdefMMMM";
-    match made(alloc, "AES128_GCM_HKDF_4KB", draws, place) {
-        Ok(()) => {}
-        Err(_) => return None,
-    }
-    match load_master(alloc, place.shown.take()?) {
-        Ok(_) => None,
-        Err(e) => Some(e.kind),
+    match place.shown.take() {
+        Some(file) => kind_of(load_master(alloc, file)),
+        None => None,
     }
 }
