@@ -34,12 +34,11 @@ pub const WHOLE: Reading = Reading {
     segments: 3,
 };
 
-/// What a text is sealed to: how it is written, the first bytes of the stream, its last bytes, how many it has, and how many
-/// the one has of which it is the front, which is written in pieces and closed; and what its reads give.
+/// What a text is sealed to: how it is written, the first bytes of the stream, how many it has, and how many the one has of
+/// which it is the front, which is written in pieces and closed; and what its reads give.
 pub struct Sealing {
     pub way: Way,
     pub front: &'static [u8],
-    pub back: &'static [u8],
     pub length: usize,
     pub closed: usize,
     pub reading: Reading,
@@ -49,7 +48,7 @@ pub struct Sealing {
 pub enum Asked {
     /// What a text of so many bytes is sealed to, no two neighbours of which are the same.
     Seals(usize, Sealing),
-    /// What Python's text is sealed to.
+    /// What Python's text is sealed to, before the last bytes, which are Python's stream.
     SealsTo(Sealing),
     /// What reads of a stream of Python's text give.
     Reads(&'static [u8], Reading),
@@ -109,12 +108,10 @@ fn is_sealed(
     aeads: &WrappedStreamingAead,
     stream: &[u8],
     text: &[u8],
+    back: &[u8],
     asked: &Sealing,
 ) -> Result<bool, TinkError> {
-    if stream.starts_with(asked.front)
-        & stream.ends_with(asked.back)
-        & (stream.len() == asked.length)
-    {
+    if stream.starts_with(asked.front) & stream.ends_with(back) & (stream.len() == asked.length) {
         match is_front(alloc, aeads, stream, text, asked.closed) {
             Ok(true) => reads(alloc, aeads, stream, text, &asked.reading),
             told => told,
@@ -128,10 +125,11 @@ fn seals(
     alloc: Global,
     aeads: &WrappedStreamingAead,
     text: &[u8],
+    back: &[u8],
     asked: &Sealing,
 ) -> Result<bool, TinkError> {
     match written(alloc, aeads, text, &asked.way) {
-        Ok(stream) => is_sealed(alloc, aeads, &stream, text, asked),
+        Ok(stream) => is_sealed(alloc, aeads, &stream, text, back, asked),
         Err(e) => Err(e),
     }
 }
@@ -143,7 +141,7 @@ fn seals_long(
     asked: &Sealing,
 ) -> Result<bool, TinkError> {
     match text_of(alloc, n) {
-        Ok(text) => seals(alloc, aeads, &text, asked),
+        Ok(text) => seals(alloc, aeads, &text, b"", asked),
         Err(e) => Err(e),
     }
 }
@@ -156,7 +154,7 @@ pub fn answered(
 ) -> Result<bool, TinkError> {
     match *asked {
         Asked::Seals(n, ref asked) => seals_long(alloc, aeads, n, asked),
-        Asked::SealsTo(ref asked) => seals(alloc, aeads, TEXT, asked),
+        Asked::SealsTo(ref asked) => seals(alloc, aeads, TEXT, BY_GCM, asked),
         Asked::Reads(stream, ref asked) => reads(alloc, aeads, stream, TEXT, asked),
     }
 }

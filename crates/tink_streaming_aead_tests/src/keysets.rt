@@ -2,10 +2,10 @@
 
 use crate::one_of::Streams;
 use std::alloc::Global;
-use tink_core::keyset::Handle;
-use tink_core::registry::Registry;
 use tink_io::{Kind, TinkError};
+use tink_keysets::keyset::Handle;
 use tink_proto::{KeyTemplate, OutputPrefixType};
+use tink_registry::Registry;
 use tink_streaming_aead::{WrappedStreamingAead, new};
 use tink_testutil::{draws_of, template};
 

@@ -7,10 +7,10 @@ ghost use Rattle.tink_registry.specs.Known.{IsOfKnownMaterial};
 ghost use Rattle.tink_streaming_aead_tests.specs.OneOf.{of_each};
 
 use std::alloc::Global;
-use tink_core::registry::KeyManager;
 use tink_io::{Draws, TinkError};
 use tink_primitives::Primitive;
 use tink_proto::{Bytes, KeyData, KeyMaterialType};
+use tink_registry::KeyManager;
 use tink_streaming_aead::{AesCtrHmacKeyManager, AesGcmHkdfKeyManager, StreamKinds};
 
 /// The manager of keys in counter mode, or that of keys by AES-GCM.

@@ -5,9 +5,9 @@ use crate::keysets::{Keys, LEGACY, RAW, TINK, aeads_of};
 use crate::one_of::Streams;
 use crate::streams::{AT_ONCE, DROPPED, PIECES};
 use std::alloc::Global;
-use tink_core::registry::Registry;
 use tink_io::{Cause, Kind, TinkError};
 use tink_proto::OutputPrefixType;
+use tink_registry::Registry;
 use tink_streaming_aead::init;
 use tink_testutil::{Answer, Ask, Told};
 
@@ -57,7 +57,6 @@ macro_rules! seals_to {
         Asked::SealsTo(Sealing {
             way: AT_ONCE,
             front: $prefix,
-            back: BY_GCM,
             length: $length,
             closed: $length,
             reading: WHOLE,
@@ -78,7 +77,6 @@ macro_rules! new_key {
                     Sealing {
                         way: PIECES,
                         front: $front,
-                        back: b"",
                         length: $length,
                         closed: $length,
                         reading: all!(60, 1),
@@ -101,7 +99,6 @@ const ROWS: &[(&str, Of, Answer)] = &[
                 Sealing {
                     way: PIECES,
                     front: b"\x18",
-                    back: b"",
                     length: 8277,
                     closed: 8277,
                     reading: all!(8205, 3),
@@ -120,7 +117,6 @@ const ROWS: &[(&str, Of, Answer)] = &[
                 Sealing {
                     way: DROPPED,
                     front: b"\x18",
-                    back: b"",
                     length: 4096,
                     closed: 4129,
                     reading: NOTHING,
@@ -381,8 +377,10 @@ const NEW_KEYS: &[(&str, Of, Answer)] = &[
 // The registry of both managers and their templates.
 fn registry(alloc: Global) -> Result<Registry<Streams>, TinkError> {
     let mut registry = Registry::new(alloc);
-    init(alloc, &mut registry)?;
-    Ok(registry)
+    match init(alloc, &mut registry) {
+        Ok(()) => Ok(registry),
+        Err(e) => Err(e),
+    }
 }
 
 fn new_keys(alloc: Global, told: &mut Told) {
