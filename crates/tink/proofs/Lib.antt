@@ -1,3 +1,4 @@
 pub mod Making
 pub mod RowFacts
 pub mod SoundFacts
+pub mod NewKeys

@@ -3,7 +3,7 @@
 ghost use Rattle.std.specs.Prelude.{◌≡◌};
 ghost use Rattle.tink_io.specs.Told.{Answers, Replies};
 ghost use Rattle.tink_primitives.specs.Sorts.{as_aead, as_deterministic_aead, as_mac, as_prf, as_streaming_aead};
-ghost use Rattle.tink_key_types.specs.Manager.{builds, makes, makes_data};
+ghost use Rattle.tink_key_types.specs.Manager.{builds, makes};
 ghost use Rattle.tink.specs.Managers.{as_built_aead, as_built_daead, as_built_mac, as_built_prf, as_built_stream};
 ghost use Rattle.tink.specs.Rows.{widened};
 
@@ -16,7 +16,7 @@ use tink_key_types::{KeyType, SymmetricKeyManager};
 use tink_mac::MacKinds;
 use tink_prf::PrfKinds;
 use tink_primitives::Primitive;
-use tink_proto::{Bytes, KeyData};
+use tink_proto::Bytes;
 use tink_registry::KeyManager;
 use tink_streaming_aead::StreamKinds;
 
@@ -27,8 +27,13 @@ pub fn build_aead<T: KeyType<Family = AeadKinds>>(
 ) -> Result<Primitive<TinkKinds>, TinkError>
     ensures { Answers result (widened as_aead as_built_aead (builds T.Key.table T.built key.now)) }
 {
-    let built = SymmetricKeyManager::<T>::new().primitive(alloc, key)?;
-    Ok(Primitive::Aead(built.into_aead()?))
+    match SymmetricKeyManager::<T>::new().primitive(alloc, key) {
+        Ok(built) => match built.into_aead() {
+            Ok(primitive) => Ok(Primitive::Aead(primitive)),
+            Err(e) => Err(e),
+        },
+        Err(e) => Err(e),
+    }
 }
 
 // The MAC of a key's bytes.
@@ -38,8 +43,13 @@ pub fn build_mac<T: KeyType<Family = MacKinds>>(
 ) -> Result<Primitive<TinkKinds>, TinkError>
     ensures { Answers result (widened as_mac as_built_mac (builds T.Key.table T.built key.now)) }
 {
-    let built = SymmetricKeyManager::<T>::new().primitive(alloc, key)?;
-    Ok(Primitive::Mac(built.into_mac()?))
+    match SymmetricKeyManager::<T>::new().primitive(alloc, key) {
+        Ok(built) => match built.into_mac() {
+            Ok(primitive) => Ok(Primitive::Mac(primitive)),
+            Err(e) => Err(e),
+        },
+        Err(e) => Err(e),
+    }
 }
 
 // The pseudorandom function of a key's bytes.
@@ -49,8 +59,13 @@ pub fn build_prf<T: KeyType<Family = PrfKinds>>(
 ) -> Result<Primitive<TinkKinds>, TinkError>
     ensures { Answers result (widened as_prf as_built_prf (builds T.Key.table T.built key.now)) }
 {
-    let built = SymmetricKeyManager::<T>::new().primitive(alloc, key)?;
-    Ok(Primitive::Prf(built.into_prf()?))
+    match SymmetricKeyManager::<T>::new().primitive(alloc, key) {
+        Ok(built) => match built.into_prf() {
+            Ok(primitive) => Ok(Primitive::Prf(primitive)),
+            Err(e) => Err(e),
+        },
+        Err(e) => Err(e),
+    }
 }
 
 // The streaming AEAD of a key's bytes.
@@ -60,8 +75,13 @@ pub fn build_streaming_aead<T: KeyType<Family = StreamKinds>>(
 ) -> Result<Primitive<TinkKinds>, TinkError>
     ensures { Answers result (widened as_streaming_aead as_built_stream (builds T.Key.table T.built key.now)) }
 {
-    let built = SymmetricKeyManager::<T>::new().primitive(alloc, key)?;
-    Ok(Primitive::StreamingAead(built.into_streaming_aead()?))
+    match SymmetricKeyManager::<T>::new().primitive(alloc, key) {
+        Ok(built) => match built.into_streaming_aead() {
+            Ok(primitive) => Ok(Primitive::StreamingAead(primitive)),
+            Err(e) => Err(e),
+        },
+        Err(e) => Err(e),
+    }
 }
 
 // The deterministic AEAD of a key's bytes.
@@ -71,8 +91,13 @@ pub fn build_deterministic_aead<T: KeyType<Family = DaeadKinds>>(
 ) -> Result<Primitive<TinkKinds>, TinkError>
     ensures { Answers result (widened as_deterministic_aead as_built_daead (builds T.Key.table T.built key.now)) }
 {
-    let built = SymmetricKeyManager::<T>::new().primitive(alloc, key)?;
-    Ok(Primitive::DeterministicAead(built.into_deterministic_aead()?))
+    match SymmetricKeyManager::<T>::new().primitive(alloc, key) {
+        Ok(built) => match built.into_deterministic_aead() {
+            Ok(primitive) => Ok(Primitive::DeterministicAead(primitive)),
+            Err(e) => Err(e),
+        },
+        Err(e) => Err(e),
+    }
 }
 
 // The bytes of a new key of a format's bytes.
@@ -80,16 +105,4 @@ pub fn make<T: KeyType>(alloc: Global, format: &[u8], draws: &mut Draws) -> Resu
     ensures { Replies result (makes T.Key.table T.Format.table T.made format.now draws.old) draws.old draws.new }
 {
     SymmetricKeyManager::<T>::new().new_key(alloc, format, draws)
-}
-
-// The data of a new key of a format's bytes.
-pub fn make_data<T: KeyType>(
-    alloc: Global,
-    format: &[u8],
-    draws: &mut Draws,
-) -> Result<KeyData, TinkError>
-    ensures { Replies result (makes_data T.url T.Key.table T.Format.table T.made format.now draws.old)
-        draws.old draws.new }
-{
-    SymmetricKeyManager::<T>::new().new_key_data(alloc, format, draws)
 }

@@ -9,7 +9,6 @@ ghost use Rattle.tink.specs.declared.managers.Managers.TheVariants as managers;
 
 use crate::building::{
     build_aead, build_deterministic_aead, build_mac, build_prf, build_streaming_aead, make,
-    make_data,
 };
 use std::alloc::Global;
 use tink_aead::{
@@ -26,7 +25,7 @@ use tink_prf::{
     HmacPrfKeys, PrfKind,
 };
 use tink_primitives::{Kinds, Never, Primitive};
-use tink_proto::{Bytes, KeyData, KeyMaterialType};
+use tink_proto::{Bytes, KeyData, KeyMaterialType, Text};
 use tink_registry::KeyManager;
 use tink_streaming_aead::{
     AesCtrHmacKeyManager, AesCtrHmacKeys, AesGcmHkdfKeyManager, AesGcmHkdfKeys, StreamKind,
@@ -264,34 +263,14 @@ impl KeyManager for Managers {
         serialized_key_format: &[u8],
         draws: &mut Draws,
     ) -> Result<KeyData, TinkError> {
-        match self {
-            Managers::AesCmacPrf => make_data::<AesCmacPrfKeys>(
-                alloc,
-                serialized_key_format,
-                draws,
-            ),
-            Managers::HkdfPrf => make_data::<HkdfPrfKeys>(alloc, serialized_key_format, draws),
-            Managers::HmacPrf => make_data::<HmacPrfKeys>(alloc, serialized_key_format, draws),
-            Managers::AesCmac => make_data::<AesCmacKeys>(alloc, serialized_key_format, draws),
-            Managers::Hmac => make_data::<HmacKeys>(alloc, serialized_key_format, draws),
-            Managers::AesGcm => make_data::<AesGcmKeys>(alloc, serialized_key_format, draws),
-            Managers::AesGcmSiv => make_data::<AesGcmSivKeys>(alloc, serialized_key_format, draws),
-            Managers::AesCtrHmacAead => make_data::<AesCtrHmacAeadKeys>(
-                alloc,
-                serialized_key_format,
-                draws,
-            ),
-            Managers::AesCtrHmac => make_data::<AesCtrHmacKeys>(
-                alloc,
-                serialized_key_format,
-                draws,
-            ),
-            Managers::AesGcmHkdf => make_data::<AesGcmHkdfKeys>(
-                alloc,
-                serialized_key_format,
-                draws,
-            ),
-            Managers::AesSiv => make_data::<AesSivKeys>(alloc, serialized_key_format, draws),
+        let type_url = Text::from_str(alloc, self.type_url())?;
+        match self.new_key(alloc, serialized_key_format, draws) {
+            Ok(value) => Ok(KeyData {
+                type_url,
+                value,
+                key_material_type: KeyMaterialType::Symmetric as i32,
+            }),
+            Err(e) => Err(e),
         }
     }
 

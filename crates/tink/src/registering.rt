@@ -18,12 +18,22 @@ pub fn registry(alloc: Global) -> Result<Registry<Managers>, TinkError>
     ensures cause { IfErr result (λ e. e.kind ≡ OutOfMemory) }
 {
     let mut registry = Registry::new(alloc);
-    add_prfs(alloc, &mut registry)?;
-    add_macs(alloc, &mut registry)?;
-    add_aeads(alloc, &mut registry)?;
-    add_streaming_aeads(alloc, &mut registry)?;
-    add_deterministic_aeads(alloc, &mut registry)?;
-    Ok(registry)
+    match add_everything(alloc, &mut registry) {
+        Ok(()) => Ok(registry),
+        Err(e) => Err(e),
+    }
+}
+
+fn add_everything(alloc: Global, registry: &mut Registry<Managers>) -> Result<(), TinkError>
+    requires { registry.old ≡ nothing }
+    ensures ok { OnOk result (registry.new ≡ with_everything) }
+    ensures cause { IfErr result (λ e. e.kind ≡ OutOfMemory) }
+{
+    add_prfs(alloc, registry)?;
+    add_macs(alloc, registry)?;
+    add_aeads(alloc, registry)?;
+    add_streaming_aeads(alloc, registry)?;
+    add_deterministic_aeads(alloc, registry)
 }
 
 fn add_prfs(alloc: Global, registry: &mut Registry<Managers>) -> Result<(), TinkError>
