@@ -46,19 +46,6 @@ fn template(alloc: Global, task: Task) -> Result<KeyTemplate, TinkError> {
     }
 }
 
-// A keyset of one new key.
-fn new_keyset(
-    alloc: Global,
-    registry: &Registry<Managers>,
-    draws: &mut Draws,
-    task: Task,
-) -> Result<Handle, TinkError> {
-    match template(alloc, task) {
-        Ok(kt) => Handle::new(alloc, &kt, registry, draws),
-        Err(e) => Err(e),
-    }
-}
-
 /// Whether a task is done under a new keyset.
 pub fn is_done(
     alloc: Global,
@@ -66,8 +53,22 @@ pub fn is_done(
     draws: &mut Draws,
     task: Task,
 ) -> Result<bool, TinkError> {
-    match new_keyset(alloc, registry, draws, task) {
-        Ok(keyset) => is_done_under(alloc, registry, &keyset, draws, task),
+    match template(alloc, task) {
+        Ok(kt) => is_done_by(alloc, registry, &kt, draws, task),
+        Err(e) => Err(e),
+    }
+}
+
+// The same under a keyset of one new key by a template.
+fn is_done_by(
+    alloc: Global,
+    registry: &Registry<Managers>,
+    kt: &KeyTemplate,
+    draws: &mut Draws,
+    task: Task,
+) -> Result<bool, TinkError> {
+    match Handle::new(alloc, kt, registry, draws) {
+        Ok(keyset) => is_done_under(alloc, registry, &keyset, kt, draws, task),
         Err(e) => Err(e),
     }
 }
@@ -76,13 +77,14 @@ fn is_done_under(
     alloc: Global,
     registry: &Registry<Managers>,
     keyset: &Handle,
+    kt: &KeyTemplate,
     draws: &mut Draws,
     task: Task,
 ) -> Result<bool, TinkError> {
     match task {
         Task::Mac => a_mac_is_of_its_message(alloc, registry, keyset),
         Task::Stream => a_stream_is_read_in_pieces(alloc, registry, keyset, draws),
-        _ => old_data_opens(alloc, registry, keyset, draws, task),
+        _ => old_data_opens(alloc, registry, keyset, kt, draws, task),
     }
 }
 
@@ -122,13 +124,14 @@ fn later(
     alloc: Global,
     registry: &Registry<Managers>,
     keyset: &Handle,
+    kt: &KeyTemplate,
     draws: &mut Draws,
     task: Task,
 ) -> Result<Handle, TinkError> {
     let copy = copied(alloc, keyset)?;
     match task {
-        Task::Rotate => rotated(alloc, registry, copy, draws),
-        _ => kept_under(alloc, registry, copy, keyset, draws),
+        Task::Rotate => rotated(alloc, registry, copy, kt, draws),
+        _ => kept_under(alloc, registry, &copy, keyset, draws),
     }
 }
 
@@ -165,11 +168,12 @@ fn later_opens(
     alloc: Global,
     registry: &Registry<Managers>,
     keyset: &Handle,
+    kt: &KeyTemplate,
     draws: &mut Draws,
     old: &[u8],
     task: Task,
 ) -> Result<bool, TinkError> {
-    match later(alloc, registry, keyset, draws, task) {
+    match later(alloc, registry, keyset, kt, draws, task) {
         Ok(later) => opens_old_data(alloc, registry, &later, draws, old, task),
         Err(e) => Err(e),
     }
@@ -180,6 +184,7 @@ fn old_data_opens(
     alloc: Global,
     registry: &Registry<Managers>,
     keyset: &Handle,
+    kt: &KeyTemplate,
     draws: &mut Draws,
     task: Task,
 ) -> Result<bool, TinkError> {
@@ -187,32 +192,21 @@ fn old_data_opens(
     let old = old.as_slice();
     match task {
         Task::Encrypt => opens_old_data(alloc, registry, keyset, draws, old, task),
-        _ => later_opens(alloc, registry, keyset, draws, old, task),
+        _ => later_opens(alloc, registry, keyset, kt, draws, old, task),
     }
 }
 
 // ---- a key is rotated
 
-fn rotate(
-    alloc: Global,
-    manager: &mut Manager,
-    registry: &Registry<Managers>,
-    draws: &mut Draws,
-) -> Result<u32, TinkError> {
-    match aes128_gcm_key_template(alloc) {
-        Ok(kt) => manager.rotate(alloc, &kt, registry, draws),
-        Err(e) => Err(e),
-    }
-}
-
 fn rotated(
     alloc: Global,
     registry: &Registry<Managers>,
     keyset: Handle,
+    kt: &KeyTemplate,
     draws: &mut Draws,
 ) -> Result<Handle, TinkError> {
     let mut manager = Manager::new_from_handle(keyset);
-    match rotate(alloc, &mut manager, registry, draws) {
+    match manager.rotate(alloc, kt, registry, draws) {
         Ok(_) => manager.handle(alloc),
         Err(e) => Err(e),
     }
@@ -251,11 +245,11 @@ fn written(
 // The keyset, after it was written and read so.
 fn kept(
     alloc: Global,
-    keyset: Handle,
+    keyset: &Handle,
     master: &WrappedAead<AeadKind>,
     draws: &mut Draws,
 ) -> Result<Handle, TinkError> {
-    match written(alloc, &keyset, master, draws) {
+    match written(alloc, keyset, master, draws) {
         Ok(stored) => {
             let mut reader = BinaryReader::new(SureSource::new(stored));
             Handle::read(alloc, &mut reader, master)
@@ -268,7 +262,7 @@ fn kept(
 fn kept_under(
     alloc: Global,
     registry: &Registry<Managers>,
-    keyset: Handle,
+    keyset: &Handle,
     master: &Handle,
     draws: &mut Draws,
 ) -> Result<Handle, TinkError> {
@@ -325,15 +319,18 @@ fn seal(
 }
 
 // Whether a reader gives the text, ten bytes at a time.
-fn is_text(alloc: Global, reader: &mut DecryptReader<SureSource>) -> Result<bool, TinkError> {
-    let mut text = Vec::new(alloc);
+fn is_text(reader: &mut DecryptReader<SureSource>) -> Result<bool, TinkError> {
+    let mut rest = TEXT;
     for _ in 0..100 {
         let mut piece = [0u8; 10];
         let n = reader.read(&mut piece)?;
         if n == 0 {
-            return Ok(text.as_slice() == TEXT);
+            return Ok(rest.is_empty());
         }
-        text.extend_from_slice(&piece[..n])?;
+        if !rest.starts_with(&piece[..n]) {
+            return Ok(false);
+        }
+        rest = rest.get(n..).unwrap_or(b"");
     }
     Ok(false)
 }
@@ -345,7 +342,7 @@ fn opens(
 ) -> Result<bool, TinkError> {
     let source = SureSource::new(stream);
     match streams.new_decrypting_reader(alloc, source, b"its name") {
-        Ok(mut reader) => is_text(alloc, &mut reader),
+        Ok(mut reader) => is_text(&mut reader),
         Err(refused) => Err(refused.error),
     }
 }

@@ -3,8 +3,8 @@
 use std::alloc::Global;
 use tink::keyset::Handle;
 use tink::{Draws, Managers, Registry, TinkError};
-use tink_proto::KeyTemplate;
-use tink_testutil::made;
+use tink_proto::{KeyTemplate, Text};
+use tink_testutil::{Told, made};
 
 // Whether a template makes a keyset whose one key builds.
 fn builds(
@@ -19,19 +19,33 @@ fn builds(
     }
 }
 
-/// Whether 26 templates have a name, and each of them makes a keyset that builds.
-pub fn templates_build(
+// Takes whether each of the named templates builds.
+fn build(
     alloc: Global,
+    told: &mut Told,
     registry: &Registry<Managers>,
     draws: &mut Draws,
-) -> Result<bool, TinkError> {
-    let names = registry.template_names(alloc)?;
-    let mut all = names.len() == 26;
-    for name in &names {
-        all = match registry.get_template_generator(name.as_str()) {
-            Some(template) => builds(alloc, registry, template, draws)? && all,
-            None => false,
+    names: &[Text],
+) {
+    told.expect(Ok(names.len() == 26), Ok(true), "26 templates");
+    for name in names {
+        let builds = match registry.get_template_generator(name.as_str()) {
+            Some(template) => builds(alloc, registry, template, draws),
+            None => Ok(false),
         };
+        told.expect(builds, Ok(true), "each template makes a key that builds");
     }
-    Ok(all)
+}
+
+/// 26 templates have a name, and each of them makes a keyset that builds.
+pub fn templates_build(
+    alloc: Global,
+    told: &mut Told,
+    registry: &Registry<Managers>,
+    draws: &mut Draws,
+) {
+    match registry.template_names(alloc) {
+        Ok(names) => build(alloc, told, registry, draws, names.as_slice()),
+        Err(e) => told.expect(Err(e), Ok(true), "the names of the templates"),
+    }
 }

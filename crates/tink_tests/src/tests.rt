@@ -19,8 +19,7 @@ fn do_all(told: &mut Told, alloc: Global, registry: &Registry<Managers>, draws: 
     for (row, task) in TASKS {
         told.expect(is_done(alloc, registry, draws, *task), Ok(true), row);
     }
-    let all = templates_build(alloc, registry, draws);
-    told.expect(all, Ok(true), "26 templates make keys that build");
+    templates_build(alloc, told, registry, draws);
     keysets_are_edited(alloc, told, registry);
 }
 
