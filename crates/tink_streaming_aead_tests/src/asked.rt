@@ -12,9 +12,9 @@ const TEXT: &[u8; 60] = b"sixty bytes of text, which are in three segments of a 
 pub const BY_GCM: &[u8; 132] =
     b"\x18\x40\x41\x42\x43\x44\x45\x46\x47\x48\x49\x4a\x4b\x4c\x4d\x4e\x4f\x50\x51\x52\x53\x54\x55\x56\xa1\x5b\x4e\xa4\xd6\x54\xd6\xc5\xe9\xa5\x28\xcf\xbb\xbe\xde\x87\x10\xa3\xa3\x2d\xd9\xf0\x17\x84\x99\xf7\x80\x73\xcf\xaf\x9e\xdc\xe4\xf5\x04\xa3\x7b\x7f\x95\xb1\x80\x39\x03\x8b\x23\x25\xbb\xde\xe5\x06\x06\xb0\x11\x5f\x58\x06\xb7\x55\xb7\x7b\xc7\x16\x91\x4c\x88\xfb\x28\x65\x92\x99\x22\x50\xbd\x8e\x94\x4c\xc2\x1d\x03\x62\xd9\xd2\x40\x33\x35\x07\xb1\x7e\x33\x4f\x7b\xca\x4e\x3b\xd7\x66\xf3\x14\xa0\x76\xb2\xaf\x3b\x55\xd3\x2a\x30\xa1";
 
-/// What the reads of a stream give, after one to no bytes, which chooses no key: the place of a byte that is changed, which
-/// call of the source fails, how many bytes of the text they give, by what they are refused, and the reads behind them, and
-/// how many segments were opened.
+/// What the reads of a stream give, after one to no bytes, which chooses no key: the place of a byte that is changed, if the
+/// stream has one there, which call of the source fails, how many bytes of the text they give, by what they are refused, and
+/// the reads behind them, and how many segments were opened.
 pub struct Reading {
     pub changed: usize,
     pub fails: u32,
@@ -26,7 +26,7 @@ pub struct Reading {
 
 /// Reads of Python's whole text, and at its end.
 pub const WHOLE: Reading = Reading {
-    changed: 999,
+    changed: usize::MAX,
     fails: 0,
     bytes: 60,
     refused: None,

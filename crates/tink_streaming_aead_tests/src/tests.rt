@@ -29,7 +29,7 @@ impl Ask<Registry<Streams>> for Of {
 
 // No key opens a stream.
 const NOTHING: Reading = Reading {
-    changed: 999,
+    changed: usize::MAX,
     fails: 0,
     bytes: 0,
     refused: Some(Kind::NoMatchingKey),
@@ -41,7 +41,7 @@ const NOTHING: Reading = Reading {
 macro_rules! all {
     ($bytes:literal, $segments:literal) => {
         Reading {
-            changed: 999,
+            changed: usize::MAX,
             fails: 0,
             bytes: $bytes,
             refused: None,
@@ -183,7 +183,7 @@ const ROWS: &[(&str, Of, Answer)] = &[
             Asked::Reads(
                 BY_GCM,
                 Reading {
-                    changed: 999,
+                    changed: usize::MAX,
                     fails: 2,
                     bytes: 0,
                     refused: Some(Kind::ReadFault),
