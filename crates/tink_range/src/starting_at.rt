@@ -43,25 +43,20 @@ pub fn start_at<A: ReadAt, T: DerivesStreams, L: Ledger>(
     let Trial {
         kept,
         prefix,
-        nonce,
-        opened: text,
+        mut nonce,
+        opened: mut text,
     } = trial;
     let Kept {
-        buffer: sealed,
+        buffer: mut sealed,
         filled: _,
     } = kept;
-    let mut buffers = Buffers {
-        text,
-        sealed,
-        nonce,
-    };
     match choose_at(
         keys,
         aad,
         object,
-        &mut buffers.sealed,
-        &mut buffers.text,
-        &mut buffers.nonce,
+        &mut sealed,
+        &mut text,
+        &mut nonce,
         prefix,
         steps,
     ) {
@@ -73,7 +68,11 @@ pub fn start_at<A: ReadAt, T: DerivesStreams, L: Ledger>(
                 opener,
                 front,
                 behind,
-                buffers,
+                buffers: Buffers {
+                    text,
+                    sealed,
+                    nonce,
+                },
             })
         }
     }

@@ -5,7 +5,7 @@ use Rattle.stream_model.specs.Cut.{room_at}
 use Rattle.tink_range.specs.RangeCores.{cutting_of}
 use Rattle.tink_range.proofs.GivingEnds.{gave_all, gave_refused, same_one}
 use Rattle.tink_range.proofs.GivingTold.{IsNext, all_ticks, last_ticks, next_giving, next_place_is, next_ticks, nothing_given, within_few}
-use Rattle.tink_range.proofs.ObjectSteps.{core_trans, given_fits, keeps_trans, leaves_trans, less_left, ok_keeps, whole_of}
+use Rattle.tink_range.proofs.ObjectSteps.{core_trans, given_fits, keeps_trans, leaves_trans, less_left, ok_keeps, ok_leaves, whole_of}
 use Rattle.tink_range.proofs.PlaceFacts.{is_reached, number_few, room_some, text_before}
 use Rattle.tink_range.proofs.ReadingFacts.{told_weaker}
 use Rattle.tink_range.proofs.giving.give_from.Goals as goal
@@ -178,3 +178,20 @@ pub returns-clause-ticks : goal.returns-clause-ticks
 returns-clause-ticks g c =
     let o = c.args.core.now.opener in
     all_ticks c.args.lo c.args.hi (o.size - o.overhead) c.args.from.number c.loop-place.place.number c.loop-place.place.text c.args.steps.now c.loop-place.steps c.loop-place.invariant.ticks
+
+-- behind the last chunk all is as the loop keeps it
+
+pub returns-clause-core : goal.returns-clause-core
+returns-clause-core g c = c.loop-place.invariant.core
+
+pub returns-clause-later : goal.returns-clause-later
+returns-clause-later g c = c.loop-place.invariant.later
+
+pub returns-clause-object : goal.returns-clause-object
+returns-clause-object g c = c.loop-place.invariant.object_same
+
+pub returns-clause-sink : goal.returns-clause-sink
+returns-clause-sink g c = c.loop-place.invariant.sink_same
+
+pub returns-clause-kept : goal.returns-clause-kept
+returns-clause-kept g c = let inv = c.loop-place.invariant in ok_leaves g.A.ReadAt.length_of g.A.ReadAt.bytes g.A.ReadAt.faults c.args.object.now c.loop-place.object c.loop-place.given inv.kept inv.count

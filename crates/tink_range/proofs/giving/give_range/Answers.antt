@@ -1,3 +1,4 @@
+use Rattle.std.proofs.Common.{refl}
 use Rattle.tink_range.specs.RangeCores.{cutting_of}
 use Rattle.tink_range.proofs.GivingEnds.{nothing_to_give}
 use Rattle.tink_range.proofs.giving.give_range.Goals as goal
@@ -11,3 +12,33 @@ returns-then-hi-lo-clause-object g c = g.met.A.ReadAt.same_refl c.args.object.no
 
 pub returns-then-hi-lo-clause-sink : goal.returns-then-hi-lo-clause-sink
 returns-then-hi-lo-clause-sink g c = g.met.K.Sink.same_refl c.args.sink.now
+
+pub returns-clause-answer : goal.returns-clause-answer
+returns-clause-answer g c = c.give_from.ensures.answer
+
+pub returns-clause-ticks : goal.returns-clause-ticks
+returns-clause-ticks g c = c.give_from.ensures.ticks
+
+pub returns-clause-core : goal.returns-clause-core
+returns-clause-core g c = c.give_from.ensures.core
+
+pub returns-clause-kept : goal.returns-clause-kept
+returns-clause-kept g c = c.give_from.ensures.kept
+
+pub returns-clause-later : goal.returns-clause-later
+returns-clause-later g c = c.give_from.ensures.later
+
+pub returns-clause-object : goal.returns-clause-object
+returns-clause-object g c = c.give_from.ensures.object
+
+pub returns-clause-sink : goal.returns-clause-sink
+returns-clause-sink g c = c.give_from.ensures.sink
+
+pub give_from-requires-clause-object : goal.give_from-requires-clause-object
+give_from-requires-clause-object g c = c.requires.object
+
+pub give_from-requires-clause-chunks : goal.give_from-requires-clause-chunks
+give_from-requires-clause-chunks g c = c.requires.chunks
+
+pub returns-then-hi-lo-clause-core : goal.returns-then-hi-lo-clause-core
+returns-then-hi-lo-clause-core g c = record { opener = refl; front = refl; behind = refl; memory = refl }

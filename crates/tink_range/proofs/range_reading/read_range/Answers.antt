@@ -100,3 +100,18 @@ returns-then-number-from-clause-object g c = g.met.A.ReadAt.same_refl c.args.obj
 
 pub returns-then-number-from-clause-sink : goal.returns-then-number-from-clause-sink
 returns-then-number-from-clause-sink g c = g.met.K.Sink.same_refl c.args.sink.now
+
+pub returns-in-Err-clause-object : goal.returns-in-Err-clause-object
+returns-in-Err-clause-object g c = c.in-Err.ensures.same
+
+pub returns-in-Err-clause-core : goal.returns-in-Err-clause-core
+returns-in-Err-clause-core g c = c.in-Err.ensures.core
+
+pub returns-in-Ok-clause-sink : goal.returns-in-Ok-clause-sink
+returns-in-Ok-clause-sink g c = c.give_range.ensures.sink
+
+pub returns-then-number-from-clause-core : goal.returns-then-number-from-clause-core
+returns-then-number-from-clause-core g c = record { opener = refl; front = refl; behind = refl; memory = refl }
+
+pub check_last-requires-clause-object : goal.check_last-requires-clause-object
+check_last-requires-clause-object g c = c.requires.object

@@ -49,3 +49,25 @@ returns-in-Ok-clause-tried g c = memory_untried c.in-Err-reserve.e c.in-Err-rese
 
 pub returns-in-Ok-clause-refused : goal.returns-in-Ok-clause-refused
 returns-in-Ok-clause-refused g c = memory_refused g.A.ReadAt.bytes g.A.ReadAt.faults (map (opening_key c.args.aad.now) c.args.w.now.keys) c.args.object.now c.in-Err-reserve.e c.in-Err-reserve.ensures.refused
+
+pub returns-in-Ok-reserve-clause-kept : goal.returns-in-Ok-reserve-clause-kept
+returns-in-Ok-reserve-clause-kept g c = c.start_at.ensures.kept
+
+pub returns-in-Ok-reserve-clause-same : goal.returns-in-Ok-reserve-clause-same
+returns-in-Ok-reserve-clause-same g c = c.start_at.ensures.same
+
+pub returns-in-Ok-reserve-clause-whole : goal.returns-in-Ok-reserve-clause-whole
+returns-in-Ok-reserve-clause-whole g c = c.start_at.ensures.whole
+
+-- nor for the entries
+
+pub returns-clause-kept : goal.returns-clause-kept
+returns-clause-kept g c =
+    refusal_leaves g.A.ReadAt.length_of g.A.ReadAt.bytes g.A.ReadAt.faults c.args.object.now c.args.object.now c.in-Err.e OutOfMemory c.in-Err.ensures.cause
+    (unread g.A.ReadAt.length_of g.A.ReadAt.bytes g.A.ReadAt.faults c.args.object.now) refl
+
+pub returns-clause-same : goal.returns-clause-same
+returns-clause-same g c = g.met.A.ReadAt.same_refl c.args.object.now
+
+pub returns-clause-tried : goal.returns-clause-tried
+returns-clause-tried g c = memory_untried c.in-Err.e c.in-Err.ensures.cause

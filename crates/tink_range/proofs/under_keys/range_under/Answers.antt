@@ -3,7 +3,7 @@ use Rattle.std.proofs.lemmas.List.{length-map}
 use Rattle.stream_model.specs.Opening.{opening_key}
 use Rattle.tink_range.specs.RangeCores.{cutting_of}
 use Rattle.tink_range.proofs.KeyRangeSteps.{few_steps, start_refused, takes_steps, under_chosen}
-use Rattle.tink_range.proofs.ObjectSteps.{leaves_trans, ok_keeps}
+use Rattle.tink_range.proofs.ObjectSteps.{err_leaves, leaves_trans, ok_keeps}
 use Rattle.tink_range.proofs.under_keys.range_under.Goals as goal
 
 pub start_at-requires : goal.start_at-requires
@@ -47,3 +47,17 @@ returns-in-Err-clause-ticks g c =
 
 pub returns-in-Err-clause-sink : goal.returns-in-Err-clause-sink
 returns-in-Err-clause-sink g c = g.met.K.Sink.same_refl c.args.sink.now
+
+-- the ends are the ones that they were
+
+pub returns-in-Ok-clause-later : goal.returns-in-Ok-clause-later
+returns-in-Ok-clause-later g c = c.read_range.ensures.later
+
+pub returns-in-Ok-clause-sink : goal.returns-in-Ok-clause-sink
+returns-in-Ok-clause-sink g c = c.read_range.ensures.sink
+
+pub returns-in-Err-clause-object : goal.returns-in-Err-clause-object
+returns-in-Err-clause-object g c = c.in-Err.ensures.same
+
+pub returns-in-Err-clause-kept : goal.returns-in-Err-clause-kept
+returns-in-Err-clause-kept g c = err_leaves g.A.ReadAt.length_of g.A.ReadAt.bytes g.A.ReadAt.faults c.args.object.now c.start_at.new.object c.in-Err.e c.in-Err.ensures.kept
