@@ -124,7 +124,7 @@ def chain(crate, kind="proof"):
 
 seconds, names = max(chain(crate, kind) for crate in named for kind in ("proof", "tests"))
 print(f"\nThe longest chain, {seconds / 60:.0f} minutes: {', '.join(names)}")
-print(f"\n{sum(row) / 3600:.2f} processor hours, {wall / 60:.0f} minutes on {len(os.sched_getaffinity(0))} processors")
+print(f"\n{sum(row) / 3600:.2f} processor hours, {wall / 60:.1f} minutes on {len(os.sched_getaffinity(0))} processors")
 with open(sys.argv[1]) as log:
     print(log.read().rstrip().rsplit("\n", 1)[-1])
 sys.exit(gate.returncode)
