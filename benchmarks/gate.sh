@@ -40,6 +40,12 @@ def below(pid):
         pass
 
 
+def spent(pid):
+    """The processor seconds of a process, and of those of its children that have ended."""
+    with open(f"/proc/{pid}/stat") as it:
+        return sum(map(int, it.read().rsplit(")", 1)[1].split()[11:15])) / tick
+
+
 def words_of(pid):
     with open(f"/proc/{pid}/cmdline") as it:
         return it.read().split("\0")
@@ -67,9 +73,8 @@ def look(pid):
         # A toolchain has a folder for what edits begin with, or the first of them fills the folder of all.
         is_first = re.search(r"/rt-edits-\w+$", kept) and first.setdefault(kept, pid) == pid
         kind = "base" if kept.endswith("/seed") or is_first else "edit"
-    with open(f"/proc/{pid}/stat") as it:
-        fields = it.read().rsplit(")", 1)[1].split()
-    seconds = sum(map(int, fields[11:15])) / tick
+    # A child counts by itself until it has ended: a program of tests ends with its compiler.
+    seconds = sum(map(spent, [pid, *below(pid)]))
     with open(f"/proc/{pid}/status") as it:
         memory = re.search(r"VmHWM:\s+(\d+)", it.read())
     return (crate, kind), seconds, int(memory[1]) // 1024 if memory else 0
