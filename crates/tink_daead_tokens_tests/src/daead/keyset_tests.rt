@@ -40,13 +40,18 @@ enum Asked {
     Register,
     // The template is of its URL, its format and its prefix, and stands in the registry beside its manager.
     Template,
-    // The keys make AEADs, of a primary id.
-    Keyset(u32),
-    // `abc` is encrypted to these bytes under this primary id.
-    Seal(u32, &'static [u8]),
+    // What is asked of the AEADs of the keys under this primary id.
+    Keyset(u32, Call),
+}
+
+enum Call {
+    // They are made.
+    Make,
+    // `abc` is encrypted to these bytes.
+    Seal(&'static [u8]),
     // These bytes are decrypted to it, and by a copy.
-    Open(u32, &'static [u8]),
-    Copy(u32, &'static [u8]),
+    Open(&'static [u8]),
+    Copy(&'static [u8]),
 }
 
 // ---- keys
@@ -99,39 +104,46 @@ fn two_keys(alloc: Global, primary: u32) -> Result<WrappedDeterministicAead<AesS
     }
 }
 
-fn seals(alloc: Global, primary: u32, want: &[u8]) -> Result<bool, TinkError> {
-    match two_keys(alloc, primary) {
-        Ok(aead) => gives(sealed_by(&aead, alloc, b"abc", b"data"), want),
-        Err(e) => Err(e),
-    }
-}
-
-fn copy_of(
-    alloc: Global,
-    made: Result<WrappedDeterministicAead<AesSiv>, TinkError>,
-) -> Result<WrappedDeterministicAead<AesSiv>, TinkError> {
-    match made {
-        Ok(aead) => aead.try_clone(alloc),
-        Err(e) => Err(e),
-    }
-}
-
 fn opens(
     alloc: Global,
-    made: Result<WrappedDeterministicAead<AesSiv>, TinkError>,
+    aead: &WrappedDeterministicAead<AesSiv>,
     bytes: &[u8],
 ) -> Result<bool, TinkError> {
-    match made {
-        Ok(aead) => gives(
-            aead.decrypt_deterministically(alloc, bytes, b"data"),
-            b"abc",
-        ),
+    gives(
+        aead.decrypt_deterministically(alloc, bytes, b"data"),
+        b"abc",
+    )
+}
+
+fn copy_opens(
+    alloc: Global,
+    aead: &WrappedDeterministicAead<AesSiv>,
+    bytes: &[u8],
+) -> Result<bool, TinkError> {
+    match aead.try_clone(alloc) {
+        Ok(copy) => opens(alloc, &copy, bytes),
         Err(e) => Err(e),
     }
 }
 
-fn copy_opens(alloc: Global, primary: u32, bytes: &[u8]) -> Result<bool, TinkError> {
-    opens(alloc, copy_of(alloc, two_keys(alloc, primary)), bytes)
+fn answered(
+    alloc: Global,
+    aead: &WrappedDeterministicAead<AesSiv>,
+    call: &Call,
+) -> Result<bool, TinkError> {
+    match *call {
+        Call::Make => Ok(true),
+        Call::Seal(want) => gives(sealed_by(aead, alloc, b"abc", b"data"), want),
+        Call::Open(bytes) => opens(alloc, aead, bytes),
+        Call::Copy(bytes) => copy_opens(alloc, aead, bytes),
+    }
+}
+
+fn answered_by(alloc: Global, primary: u32, call: &Call) -> Result<bool, TinkError> {
+    match two_keys(alloc, primary) {
+        Ok(aead) => answered(alloc, &aead, call),
+        Err(e) => Err(e),
+    }
 }
 
 const TEMPLATE: Template = Template("AES256_SIV", AES_SIV_TYPE_URL, b"\x08\x40", 1);
@@ -145,10 +157,7 @@ impl Ask<NamedRegistry> for Asked {
             Asked::Template => {
                 is_made_and_registered(registry, &TEMPLATE, aes_siv_key_template(alloc))
             }
-            Asked::Keyset(primary) => made(two_keys(alloc, primary)),
-            Asked::Seal(primary, want) => seals(alloc, primary, want),
-            Asked::Open(primary, bytes) => opens(alloc, two_keys(alloc, primary), bytes),
-            Asked::Copy(primary, bytes) => copy_opens(alloc, primary, bytes),
+            Asked::Keyset(primary, ref call) => answered_by(alloc, primary, call),
         }
     }
 }
@@ -212,38 +221,50 @@ const ROWS: &[(&str, Asked, Answer)] = &[
         Err(Kind::AlreadyRegistered),
     ),
     ("the template again", Asked::Template, Ok(true)),
-    ("no primary key", Asked::Keyset(3), Err(Kind::InvalidKeyset)),
-    ("a prefixed key's", Asked::Seal(1, TINK), Ok(true)),
+    (
+        "no primary key",
+        Asked::Keyset(3, Call::Make),
+        Err(Kind::InvalidKeyset),
+    ),
+    (
+        "a prefixed key's",
+        Asked::Keyset(1, Call::Seal(TINK)),
+        Ok(true),
+    ),
     (
         "a prefixed key's, by a raw one first",
-        Asked::Open(2, TINK),
+        Asked::Keyset(2, Call::Open(TINK)),
         Ok(true),
     ),
     (
         "a prefixed key's, by a copy",
-        Asked::Copy(2, TINK),
+        Asked::Keyset(2, Call::Copy(TINK)),
         Ok(true),
     ),
-    ("a raw key's", Asked::Seal(2, RAW), Ok(true)),
+    ("a raw key's", Asked::Keyset(2, Call::Seal(RAW)), Ok(true)),
     (
         "a raw key's, by a prefixed one first",
-        Asked::Open(1, RAW),
+        Asked::Keyset(1, Call::Open(RAW)),
         Ok(true),
     ),
-    ("a raw key's, by a copy", Asked::Copy(1, RAW), Ok(true)),
+    (
+        "a raw key's, by a copy",
+        Asked::Keyset(1, Call::Copy(RAW)),
+        Ok(true),
+    ),
     (
         "a prefixed key's with a byte more",
-        Asked::Open(2, TINK_LONGER),
+        Asked::Keyset(2, Call::Open(TINK_LONGER)),
         FAILED,
     ),
     (
         "a raw key's with a byte more",
-        Asked::Open(1, RAW_LONGER),
+        Asked::Keyset(1, Call::Open(RAW_LONGER)),
         FAILED,
     ),
     (
         "a prefix alone",
-        Asked::Open(1, b"\x01\x00\x00\x00\x01"),
+        Asked::Keyset(1, Call::Open(b"\x01\x00\x00\x00\x01")),
         FAILED,
     ),
 ];

@@ -113,19 +113,21 @@ fn put(text: &mut [u8], at: usize, byte: u8) {
     }
 }
 
-// Whether a text is refused with each byte but one at a place.
+// Whether a text is refused with each byte but one at a place, which then has the byte `own`.
 fn is_refused_changed(
     alloc: Global,
     macs: &WrappedMac<MacKind>,
     text: &mut [u8],
     at: usize,
     but: u8,
+    own: u8,
 ) -> bool {
     let mut all = true;
     for step in 0..255u8 {
         put(text, at, but ^ (step + 1));
         all = all & is_refused(alloc, macs, text);
     }
+    put(text, at, own);
     all
 }
 
@@ -138,12 +140,10 @@ fn are_refused_at_all(alloc: Global, macs: &WrappedMac<MacKind>) -> bool {
     for at in 0..41usize {
         let own = token[at];
         all = all & is_refused(alloc, macs, &token[..at]) & is_refused(alloc, macs, &less);
-        all = all & is_refused_changed(alloc, macs, &mut token, at, own);
-        all = all & is_refused_changed(alloc, macs, &mut more, at, 255);
-        put(&mut token, at, own);
+        all = all & is_refused_changed(alloc, macs, &mut token, at, own, own);
+        all = all & is_refused_changed(alloc, macs, &mut more, at, 255, own);
         put(&mut less, at, own);
-        put(&mut more, at, own);
     }
-    all & is_refused_changed(alloc, macs, &mut more, 41, 0)
-        & is_refused_changed(alloc, macs, &mut more, 41, 255)
+    all & is_refused_changed(alloc, macs, &mut more, 41, 0, 0)
+        & is_refused_changed(alloc, macs, &mut more, 41, 255, 0)
 }
