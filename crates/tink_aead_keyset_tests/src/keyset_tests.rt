@@ -16,7 +16,7 @@ use tink_core::keyset::{Handle, Manager};
 use tink_core::registry::{KeyManager, Registry};
 use tink_core::{Aead, Draws, Kind, Kinds, TinkError};
 use tink_proto::{Bytes, KeyTemplate};
-use tink_testutil::{Answer, Told, draws_of, gives, handle, registry_of};
+use tink_testutil::{Answer, Ask, Told, asked, draws_of, gives, handle, registry_of};
 
 /// Encrypts a text without associated data by the primary key.
 fn sealed_by<P: Aead>(
@@ -33,6 +33,18 @@ fn sealed_by<P: Aead>(
 
 // ---- texts by new keys
 
+// The handle of one new key.
+fn new_handle<M: KeyManager>(
+    alloc: Global,
+    registry: &Registry<M>,
+    kt: &KeyTemplate,
+) -> Result<Handle, TinkError> {
+    match draws_of(alloc, &[3; 128]) {
+        Ok(mut draws) => Handle::new(alloc, kt, registry, &mut draws),
+        Err(e) => Err(e),
+    }
+}
+
 // The AEAD of one new key.
 fn aead_in<M: KeyManager, P: Aead>(
     alloc: Global,
@@ -42,7 +54,7 @@ fn aead_in<M: KeyManager, P: Aead>(
 where
     M::Family: Kinds<Aead = P>,
 {
-    match Handle::new(alloc, kt, registry, &mut draws_of(alloc, &[3; 128])?) {
+    match new_handle(alloc, registry, kt) {
         Ok(h) => new(alloc, &h, registry),
         Err(e) => Err(e),
     }
@@ -63,28 +75,36 @@ where
     }
 }
 
-// Whether `abc` is encrypted to so many bytes, and these are decrypted.
+fn sealed_with_data(alloc: Global, aead: &WrappedAead<AeadKind>) -> Result<Bytes, TinkError> {
+    match draws_of(alloc, &[5; 16]) {
+        Ok(mut draws) => aead.encrypt(alloc, b"abc", b"data", &mut draws),
+        Err(e) => Err(e),
+    }
+}
+
+// Whether these bytes are so many, and are decrypted to `abc`.
 fn has_size(
     alloc: Global,
     aead: &WrappedAead<AeadKind>,
+    sealed: &[u8],
     size: usize,
     data: &[u8],
 ) -> Result<bool, TinkError> {
-    let mut draws = draws_of(alloc, &[5; 16])?;
-    let sealed = aead.encrypt(alloc, b"abc", b"data", &mut draws)?;
-    let opens = gives(aead.decrypt(alloc, sealed.as_slice(), data), b"abc")?;
-    Ok(opens && sealed.as_slice().len() == size)
+    match gives(aead.decrypt(alloc, sealed, data), b"abc") {
+        Ok(opens) => Ok(opens & (sealed.len() == size)),
+        Err(e) => Err(e),
+    }
 }
 
-fn of_size(
-    alloc: Global,
-    made: Result<WrappedAead<AeadKind>, TinkError>,
-    size: usize,
-    data: &[u8],
-) -> Result<bool, TinkError> {
-    match made {
-        Ok(aead) => has_size(alloc, &aead, size, data),
-        Err(e) => Err(e),
+// `abc` is encrypted to so many bytes, and these are decrypted with these data.
+struct Size(usize, &'static [u8]);
+
+impl Ask<WrappedAead<AeadKind>> for Size {
+    fn answer(&self, alloc: Global, aead: &mut WrappedAead<AeadKind>) -> Result<bool, TinkError> {
+        match sealed_with_data(alloc, aead) {
+            Ok(sealed) => has_size(alloc, aead, sealed.as_slice(), self.0, self.1),
+            Err(e) => Err(e),
+        }
     }
 }
 
@@ -106,93 +126,105 @@ fn template_of(alloc: Global, template: &Template) -> Result<KeyTemplate, TinkEr
     }
 }
 
-fn new_aead(alloc: Global, template: &Template) -> Result<WrappedAead<AeadKind>, TinkError> {
-    let kt = template_of(alloc, template)?;
+fn aead_for(
+    alloc: Global,
+    template: &Template,
+    kt: &KeyTemplate,
+) -> Result<WrappedAead<AeadKind>, TinkError> {
     match template {
-        Template::Gcm | Template::RawGcm => aead_by(alloc, AesGcmKeyManager::new(), &kt),
-        Template::RawGcmSiv => aead_by(alloc, AesGcmSivKeyManager::new(), &kt),
-        _ => aead_by(alloc, AesCtrHmacAeadKeyManager::new(), &kt),
+        Template::Gcm | Template::RawGcm => aead_by(alloc, AesGcmKeyManager::new(), kt),
+        Template::RawGcmSiv => aead_by(alloc, AesGcmSivKeyManager::new(), kt),
+        _ => aead_by(alloc, AesCtrHmacAeadKeyManager::new(), kt),
+    }
+}
+
+fn new_aead(alloc: Global, template: &Template) -> Result<WrappedAead<AeadKind>, TinkError> {
+    match template_of(alloc, template) {
+        Ok(kt) => aead_for(alloc, template, &kt),
+        Err(e) => Err(e),
     }
 }
 
 const FAILED: Answer = Err(Kind::DecryptFailed);
 
 // The size of what is made of `abc` with the associated data `data`, by a new key, and the data that it is opened with.
-const NEW_KEYS: &[(&str, Template, usize, &[u8], Answer)] = &[
+const NEW_KEYS: &[(&str, Template, Size, Answer)] = &[
     (
         "AES-GCM with a prefix",
         Template::Gcm,
-        36,
-        b"data",
+        Size(36, b"data"),
         Ok(true),
     ),
     (
         "AES-GCM with a prefix, other data",
         Template::Gcm,
-        36,
-        b"dat",
+        Size(36, b"dat"),
         FAILED,
     ),
-    ("AES-GCM without", Template::RawGcm, 31, b"data", Ok(true)),
+    (
+        "AES-GCM without",
+        Template::RawGcm,
+        Size(31, b"data"),
+        Ok(true),
+    ),
     (
         "AES-GCM without, other data",
         Template::RawGcm,
-        31,
-        b"dat",
+        Size(31, b"dat"),
         FAILED,
     ),
     (
         "AES-GCM-SIV without a prefix",
         Template::RawGcmSiv,
-        31,
-        b"data",
+        Size(31, b"data"),
         Ok(true),
     ),
     (
         "AES-GCM-SIV without a prefix, other data",
         Template::RawGcmSiv,
-        31,
-        b"dat",
+        Size(31, b"dat"),
         FAILED,
     ),
     (
         "CTR and SHA-256",
         Template::CtrHmacSha256,
-        40,
-        b"data",
+        Size(40, b"data"),
         Ok(true),
     ),
     (
         "CTR and SHA-256, other data",
         Template::CtrHmacSha256,
-        40,
-        b"dat",
+        Size(40, b"dat"),
         FAILED,
     ),
     (
         "CTR and SHA-512",
         Template::CtrHmacSha512,
-        88,
-        b"data",
+        Size(88, b"data"),
         Ok(true),
     ),
     (
         "CTR and SHA-512, other data",
         Template::CtrHmacSha512,
-        88,
-        b"dat",
+        Size(88, b"dat"),
         FAILED,
     ),
 ];
 
 pub fn texts_by_new_keys(alloc: Global, told: &mut Told) {
-    for (row, template, size, data, want) in NEW_KEYS {
-        let got = of_size(alloc, new_aead(alloc, template), *size, data);
-        told.expect(got, *want, row);
+    for (row, template, size, want) in NEW_KEYS {
+        told.expect(asked(alloc, new_aead(alloc, template), size), *want, row);
     }
 }
 
 // ---- keysets of two keys
+
+fn aead_of_handle(alloc: Global, h: &Handle) -> Result<WrappedAead<AeadKind>, TinkError> {
+    match registry_of(alloc, AesGcmKeyManager::new()) {
+        Ok(registry) => new(alloc, h, &registry),
+        Err(e) => Err(e),
+    }
+}
 
 // The AEADs of these keys.
 fn aead_of(
@@ -200,47 +232,73 @@ fn aead_of(
     h: Result<Handle, TinkError>,
 ) -> Result<WrappedAead<AeadKind>, TinkError> {
     match h {
-        Ok(h) => new(alloc, &h, &registry_of(alloc, AesGcmKeyManager::new())?),
+        Ok(h) => aead_of_handle(alloc, &h),
         Err(e) => Err(e),
     }
 }
 
-// What n draws make of `abc`.
-fn abc_from(alloc: Global, aead: &WrappedAead<AeadKind>, n: usize) -> Result<Bytes, TinkError> {
-    let mut draws = draws_of(alloc, &[9; 12][..n.min(12)])?;
-    sealed_by(aead, alloc, b"abc", &mut draws)
-}
-
-fn sealed(alloc: Global, keys: &[u8], n: usize) -> Result<Bytes, TinkError> {
-    match aead_of(alloc, handle(alloc, keys)) {
-        Ok(aead) => abc_from(alloc, &aead, n),
+fn is_sealed(
+    alloc: Global,
+    aead: &WrappedAead<AeadKind>,
+    n: usize,
+    want: &[u8],
+) -> Result<bool, TinkError> {
+    match draws_of(alloc, &[9; 12][..n.min(12)]) {
+        Ok(mut draws) => gives(sealed_by(aead, alloc, b"abc", &mut draws), want),
         Err(e) => Err(e),
     }
 }
 
-fn opened(alloc: Global, keys: &[u8], sealed: &[u8]) -> Result<Bytes, TinkError> {
-    match aead_of(alloc, handle(alloc, keys)) {
-        Ok(aead) => aead.decrypt(alloc, sealed, &[]),
-        Err(e) => Err(e),
+fn is_opened(
+    alloc: Global,
+    aead: &WrappedAead<AeadKind>,
+    sealed: &[u8],
+) -> Result<bool, TinkError> {
+    gives(aead.decrypt(alloc, sealed, &[]), b"abc")
+}
+
+enum Call {
+    // So many draws make this of `abc`.
+    Seal(usize, &'static [u8]),
+    // This is decrypted to `abc`.
+    Open(&'static [u8]),
+    // Both ciphertexts of a rotation are decrypted.
+    OpenBoth,
+}
+
+fn open_both(alloc: Global, aead: &WrappedAead<AeadKind>) -> Result<bool, TinkError> {
+    match is_opened(alloc, aead, OLD) {
+        Ok(true) => is_opened(alloc, aead, NEWER),
+        other => other,
     }
 }
 
-// Whether the first keys make of `abc`, with so many draws, so many bytes that begin so, and the second open them.
+impl Ask<WrappedAead<AeadKind>> for Call {
+    fn answer(&self, alloc: Global, aead: &mut WrappedAead<AeadKind>) -> Result<bool, TinkError> {
+        match *self {
+            Call::Seal(n, want) => is_sealed(alloc, aead, n, want),
+            Call::Open(sealed) => is_opened(alloc, aead, sealed),
+            Call::OpenBoth => open_both(alloc, aead),
+        }
+    }
+}
+
+fn asked_of(alloc: Global, keys: &[u8], call: &Call) -> Result<bool, TinkError> {
+    asked(alloc, aead_of(alloc, handle(alloc, keys)), call)
+}
+
+// Whether the first keys make of `abc` what is said, and the second open what is said.
 fn goes_there_and_back(
     alloc: Global,
     keys: &[u8],
-    n: usize,
-    front: &[u8],
-    size: usize,
+    seals: &Call,
     others: &[u8],
+    opens: &Call,
 ) -> Result<bool, TinkError> {
-    let sealed = sealed(alloc, keys, n)?;
-    let bytes = sealed.as_slice();
-    Ok(
-        gives(opened(alloc, others, bytes), b"abc")?
-            && bytes.starts_with(front)
-            && bytes.len() == size,
-    )
+    match asked_of(alloc, keys, seals) {
+        Ok(true) => asked_of(alloc, others, opens),
+        other => other,
+    }
 }
 
 // Keysets of two AES-GCM keys, of which each byte is its id, in the wire format. One has a prefix, one is raw, and the
@@ -254,16 +312,20 @@ const RAW_FIRST: &[u8] =
 const OTHERS: &[u8] =
     b"\x08\x03\x12\x50\x0a\x48\x0a\x30type.googleapis.com/google.crypto.tink.AesGcmKey\x12\x12\x1a\x10\x03\x03\x03\x03\x03\x03\x03\x03\x03\x03\x03\x03\x03\x03\x03\x03\x18\x01\x10\x01\x18\x03\x20\x01\x12\x50\x0a\x48\x0a\x30type.googleapis.com/google.crypto.tink.AesGcmKey\x12\x12\x1a\x10\x04\x04\x04\x04\x04\x04\x04\x04\x04\x04\x04\x04\x04\x04\x04\x04\x18\x01\x10\x01\x18\x04\x20\x03";
 
-const PREFIX: &[u8] = b"\x01\x00\x00\x00\x01";
+// What pyca/cryptography 48 makes of `abc` under both keys, by twelve draws of 9.
+const BY_PREFIXED: &[u8] =
+    b"\x01\x00\x00\x00\x01\x09\x09\x09\x09\x09\x09\x09\x09\x09\x09\x09\x09\x4d\xc0\xfd\xb1\x2e\xaf\xb9\x3e\x87\x95\x0a\x01\x65\x2e\xd2\x74\xc4\x83\x70";
 
-// The keys that make it, the draws, what it begins with, its size, and the keys that open it.
+const BY_RAW: &[u8] =
+    b"\x09\x09\x09\x09\x09\x09\x09\x09\x09\x09\x09\x09\x25\xda\x43\xdc\x2b\x13\xcf\x2a\x30\x0c\xf3\x10\x13\x59\x2a\xa9\x6c\xec\x22";
+
+// The keys that make it, the draws and what they make, and the keys that open it.
 type Sealing = (
     &'static str,
     &'static [u8],
-    usize,
+    Call,
     &'static [u8],
-    usize,
-    &'static [u8],
+    Call,
     Answer,
 );
 
@@ -271,78 +333,90 @@ const SEALINGS: &[Sealing] = &[
     (
         "a prefixed key's, by its keyset",
         PREFIXED_FIRST,
-        12,
-        PREFIX,
-        36,
+        Call::Seal(12, BY_PREFIXED),
         PREFIXED_FIRST,
+        Call::Open(BY_PREFIXED),
         Ok(true),
     ),
     (
         "a prefixed key's, by a raw one first",
         PREFIXED_FIRST,
-        12,
-        PREFIX,
-        36,
+        Call::Seal(12, BY_PREFIXED),
         RAW_FIRST,
+        Call::Open(BY_PREFIXED),
         Ok(true),
     ),
     (
         "a prefixed key's, by other keys",
         PREFIXED_FIRST,
-        12,
-        PREFIX,
-        36,
+        Call::Seal(12, BY_PREFIXED),
         OTHERS,
+        Call::Open(BY_PREFIXED),
         FAILED,
     ),
     (
         "a raw key's, by its keyset",
         RAW_FIRST,
-        12,
-        b"",
-        31,
+        Call::Seal(12, BY_RAW),
         RAW_FIRST,
+        Call::Open(BY_RAW),
         Ok(true),
     ),
     (
         "a raw key's, by a prefixed one first",
         RAW_FIRST,
-        12,
-        b"",
-        31,
+        Call::Seal(12, BY_RAW),
         PREFIXED_FIRST,
+        Call::Open(BY_RAW),
         Ok(true),
     ),
     (
         "a raw key's, by other keys",
         RAW_FIRST,
-        12,
-        b"",
-        31,
+        Call::Seal(12, BY_RAW),
         OTHERS,
+        Call::Open(BY_RAW),
         FAILED,
     ),
     (
         "too few draws",
         PREFIXED_FIRST,
-        11,
-        PREFIX,
-        36,
+        Call::Seal(11, BY_PREFIXED),
         PREFIXED_FIRST,
+        Call::Open(BY_PREFIXED),
         Err(Kind::RandomFault),
     ),
 ];
 
 pub fn keys_of_a_keyset_decrypt(alloc: Global, told: &mut Told) {
-    for (row, keys, n, front, size, others, want) in SEALINGS {
-        let got = goes_there_and_back(alloc, keys, *n, front, *size, others);
+    for (row, keys, seals, others, opens, want) in SEALINGS {
+        let got = goes_there_and_back(alloc, keys, seals, others, opens);
         told.expect(got, *want, row);
     }
-    let alone = gives(opened(alloc, PREFIXED_FIRST, PREFIX), b"");
+    let alone = asked_of(alloc, PREFIXED_FIRST, &Call::Open(b"\x01\x00\x00\x00\x01"));
     told.expect(alone, FAILED, "a prefix alone");
 }
 
 // ---- a rotation
+
+// What pyca/cryptography 48 makes of `abc` by twelve draws of 9, under the first key and the one of the rotation.
+const OLD: &[u8] =
+    b"\x01\x03\x03\x03\x03\x09\x09\x09\x09\x09\x09\x09\x09\x09\x09\x09\x09\xd4\x1c\x3b\x74\xac\x84\x8f\x93\xd5\xfc\x79\xf8\x7c\xc0\xfe\xc1\x32\x9a\xf6";
+
+const NEWER: &[u8] =
+    b"\x01\x04\x04\x04\x04\x09\x09\x09\x09\x09\x09\x09\x09\x09\x09\x09\x09\x71\x4a\xff\x3d\x01\x8a\xc0\x3d\xd4\xbd\x6d\xb9\x34\x85\xf3\x67\x68\x11\xe6";
+
+fn rotate(
+    alloc: Global,
+    registry: &Registry<AesGcmKeyManager>,
+    kt: &KeyTemplate,
+    manager: &mut Manager,
+) -> Result<u32, TinkError> {
+    match draws_of(alloc, &[4; 20]) {
+        Ok(mut draws) => manager.rotate(alloc, kt, registry, &mut draws),
+        Err(e) => Err(e),
+    }
+}
 
 // The keys after a rotation by the template.
 fn rotated(
@@ -352,79 +426,69 @@ fn rotated(
     h: Handle,
 ) -> Result<Handle, TinkError> {
     let mut manager = Manager::new_from_handle(h);
-    manager.rotate(alloc, kt, registry, &mut draws_of(alloc, &[4; 20])?)?;
-    manager.handle(alloc)
-}
-
-// Whether these AEADs decrypt both ciphertexts.
-fn opens(
-    alloc: Global,
-    aead: &WrappedAead<AeadKind>,
-    old: &[u8],
-    newer: &[u8],
-) -> Result<bool, TinkError> {
-    let opens_old = gives(aead.decrypt(alloc, old, &[]), b"abc")?;
-    Ok(gives(aead.decrypt(alloc, newer, &[]), b"abc")? && opens_old && newer != old)
-}
-
-fn copy_opens(
-    alloc: Global,
-    aead: &WrappedAead<AeadKind>,
-    old: &[u8],
-    newer: &[u8],
-) -> Result<bool, TinkError> {
-    match aead.try_clone(alloc) {
-        Ok(copy) => opens(alloc, &copy, old, newer),
+    match rotate(alloc, registry, kt, &mut manager) {
+        Ok(_) => manager.handle(alloc),
         Err(e) => Err(e),
     }
 }
 
-// Whether the AEADs decrypt what they make, which is another ciphertext, and the old one, and a copy both.
-fn opens_both(alloc: Global, aead: &WrappedAead<AeadKind>, old: &[u8]) -> Result<bool, TinkError> {
-    let newer = abc_from(alloc, aead, 12)?;
-    let copied = copy_opens(alloc, aead, old, newer.as_slice())?;
-    Ok(opens(alloc, aead, old, newer.as_slice())? && copied)
+fn copy_opens(alloc: Global, aead: &WrappedAead<AeadKind>) -> Result<bool, TinkError> {
+    asked(alloc, aead.try_clone(alloc), &Call::OpenBoth)
 }
 
-fn opens_both_of(
-    alloc: Global,
-    later: Result<WrappedAead<AeadKind>, TinkError>,
-    old: &[u8],
-) -> Result<bool, TinkError> {
-    match later {
-        Ok(aead) => opens_both(alloc, &aead, old),
-        Err(e) => Err(e),
+// The newer one is made, and both are decrypted, by a copy too.
+struct Later;
+
+impl Ask<WrappedAead<AeadKind>> for Later {
+    fn answer(&self, alloc: Global, aead: &mut WrappedAead<AeadKind>) -> Result<bool, TinkError> {
+        match is_sealed(alloc, aead, 12, NEWER) {
+            Ok(true) => match open_both(alloc, aead) {
+                Ok(true) => copy_opens(alloc, aead),
+                other => other,
+            },
+            other => other,
+        }
     }
 }
 
-// What a handle's keys make of `abc`.
-fn abc_by(
-    alloc: Global,
-    registry: &Registry<AesGcmKeyManager>,
-    h: &Handle,
-) -> Result<Bytes, TinkError> {
-    match new(alloc, h, registry) {
-        Ok(aead) => abc_from(alloc, &aead, 12),
-        Err(e) => Err(e),
-    }
-}
-
-// The same of one new key, of what it made before the rotation.
+// Whether a handle's keys make the old ciphertext, and after a rotation what is said.
 fn outlives_a_rotation(
     alloc: Global,
     registry: &Registry<AesGcmKeyManager>,
     kt: &KeyTemplate,
+    h: Handle,
 ) -> Result<bool, TinkError> {
-    let h = Handle::new(alloc, kt, registry, &mut draws_of(alloc, &[3; 128])?)?;
-    let old = abc_by(alloc, registry, &h)?;
-    let later = rotated(alloc, registry, kt, h);
-    opens_both_of(alloc, aead_of(alloc, later), old.as_slice())
+    match asked(alloc, new(alloc, &h, registry), &Call::Seal(12, OLD)) {
+        Ok(true) => asked(
+            alloc,
+            aead_of(alloc, rotated(alloc, registry, kt, h)),
+            &Later,
+        ),
+        other => other,
+    }
+}
+
+fn rotates_by(
+    alloc: Global,
+    registry: &Registry<AesGcmKeyManager>,
+    kt: &KeyTemplate,
+) -> Result<bool, TinkError> {
+    match new_handle(alloc, registry, kt) {
+        Ok(h) => outlives_a_rotation(alloc, registry, kt, h),
+        Err(e) => Err(e),
+    }
+}
+
+fn rotates_in(alloc: Global, registry: &Registry<AesGcmKeyManager>) -> Result<bool, TinkError> {
+    match aes128_gcm_key_template(alloc) {
+        Ok(kt) => rotates_by(alloc, registry, &kt),
+        Err(e) => Err(e),
+    }
 }
 
 fn rotates(alloc: Global) -> Result<bool, TinkError> {
-    let registry = registry_of(alloc, AesGcmKeyManager::new())?;
-    match aes128_gcm_key_template(alloc) {
-        Ok(kt) => outlives_a_rotation(alloc, &registry, &kt),
+    match registry_of(alloc, AesGcmKeyManager::new()) {
+        Ok(registry) => rotates_in(alloc, &registry),
         Err(e) => Err(e),
     }
 }

@@ -3,11 +3,11 @@
 use std::alloc::Global;
 use tink_aead::subtle::AesGcm;
 use tink_core::keyset::{Handle, MemReaderWriter, Reader, Writer};
-use tink_core::{Draws, Kind, MemSink, MemSource, TinkError};
+use tink_core::{Kind, MemSink, MemSource, TinkError};
 use tink_keyset_io::{BinaryReader, BinaryWriter, JsonReader, JsonWriter};
 use tink_proto::wire::Message;
-use tink_proto::{Bytes, EncryptedKeyset, KeysetInfo};
-use tink_testutil::{Answer, Told, bytes_of, draws_of, gives, handle};
+use tink_proto::{EncryptedKeyset, KeysetInfo};
+use tink_testutil::{Answer, Ask, Told, asked, bytes_of, draws_of, gives, handle};
 
 // A keyset of one raw key for streams.
 const KEYSET: &[u8] =
@@ -21,8 +21,11 @@ const INFO: &[u8] =
 const ENCRYPTED: &[u8] =
     b"\x07\x07\x07\x07\x07\x07\x07\x07\x07\x07\x07\x07\x9f\xe8\xd6\x73\x68\x91\x52\x25\x40\x28\x7e\xf0\xae\xb2\x9d\xc6\x81\x1e\x09\xe1\xce\xd4\x8a\x32\xd1\x8b\xe9\x3d\xe8\x51\xd6\xf9\x09\x56\x7f\xd3\xd8\x74\x55\xa0\x12\xaf\x01\x47\xcc\xa6\xa3\xf3\xda\x1b\x92\xd8\x81\x74\x97\xa7\xc4\x24\x81\x1e\x95\x82\xb2\x93\x5a\x43\x3c\x22\xef\xc6\x39\x6c\xd1\x40\x05\x81\xd3\x46\x3f\xab\xf8\x40\xb1\x31\xa0\x49\xcb\xdc\x6a\x12\x7f\xcb\x18\x3a\x8c\x51\xbc\x25\x82\x4a\x1b\xe5\xc3\xad\xd7\x66\xc5\x57\x47\xdc\x58\x6c\x91\xf2\xb3\x05\x64\xb0\x58\x5a\x82\x5d\x34\x17\x9d\x8b\xda\x0c\xe8\xe8\xfe\xc5\xcd\xf9";
 
-fn master(alloc: Global) -> Result<AesGcm, TinkError> {
-    AesGcm::new(alloc, &[9; 16])
+// The master key and the keyset.
+#[derive(Drop)]
+struct Kept {
+    master: AesGcm,
+    h: Handle,
 }
 
 fn is_info(alloc: Global, info: &KeysetInfo) -> Result<bool, TinkError> {
@@ -39,7 +42,6 @@ fn has_info(alloc: Global, info: Result<KeysetInfo, TinkError>) -> Result<bool, 
     }
 }
 
-// Whether it is a handle of the keyset, with its info.
 fn is_the_keyset(alloc: Global, h: &Handle) -> Result<bool, TinkError> {
     match has_info(alloc, h.keyset_info(alloc)) {
         Ok(true) => gives(bytes_of(alloc, h), KEYSET),
@@ -47,27 +49,28 @@ fn is_the_keyset(alloc: Global, h: &Handle) -> Result<bool, TinkError> {
     }
 }
 
-// Writes the keyset under the master key, by twelve draws of 7, with this data where there are some.
-fn write<W: Writer>(alloc: Global, writer: &mut W, data: Option<&[u8]>) -> Result<(), TinkError> {
-    let mut draws = draws_of(alloc, &[7; 12])?;
-    let master = master(alloc)?;
-    match handle(alloc, KEYSET) {
-        Ok(h) => write_by(alloc, writer, &master, &h, data, &mut draws),
+// Whether it is a handle of the keyset, with its info.
+fn is_of_the_keyset(alloc: Global, read: Result<Handle, TinkError>) -> Result<bool, TinkError> {
+    match read {
+        Ok(h) => is_the_keyset(alloc, &h),
         Err(e) => Err(e),
     }
 }
 
-fn write_by<W: Writer>(
+// Writes the keyset under the master key, by twelve draws of 7, with this data where there are some.
+fn write<W: Writer>(
     alloc: Global,
     writer: &mut W,
     master: &AesGcm,
     h: &Handle,
     data: Option<&[u8]>,
-    draws: &mut Draws,
 ) -> Result<(), TinkError> {
-    match data {
-        Some(data) => h.write_with_associated_data(alloc, writer, master, data, draws),
-        None => h.write(alloc, writer, master, draws),
+    match draws_of(alloc, &[7; 12]) {
+        Ok(mut draws) => match data {
+            Some(data) => { h.write_with_associated_data(alloc, writer, master, data, &mut draws) }
+            None => h.write(alloc, writer, master, &mut draws),
+        },
+        Err(e) => Err(e),
     }
 }
 
@@ -75,17 +78,14 @@ fn write_by<W: Writer>(
 fn is_read<R: Reader>(
     alloc: Global,
     reader: &mut R,
+    master: &AesGcm,
     data: Option<&[u8]>,
 ) -> Result<bool, TinkError> {
-    let master = master(alloc)?;
     let read = match data {
-        Some(data) => Handle::read_with_associated_data(alloc, reader, &master, data),
-        None => Handle::read(alloc, reader, &master),
+        Some(data) => Handle::read_with_associated_data(alloc, reader, master, data),
+        None => Handle::read(alloc, reader, master),
     };
-    match read {
-        Ok(h) => is_the_keyset(alloc, &h),
-        Err(e) => Err(e),
-    }
+    is_of_the_keyset(alloc, read)
 }
 
 // ---- memory
@@ -95,19 +95,32 @@ fn is_encrypted(alloc: Global, ends: &Option<EncryptedKeyset>) -> Result<bool, T
     let Some(encrypted) = ends else {
         return Ok(false);
     };
+    let same = encrypted.encrypted_keyset.as_slice() == ENCRYPTED;
     match &encrypted.keyset_info {
-        Some(info) => Ok(
-            is_info(alloc, info)? && encrypted.encrypted_keyset.as_slice() == ENCRYPTED,
-        ),
-        None => Ok(false),
+        Some(info) if same => is_info(alloc, info),
+        _ => Ok(false),
     }
 }
 
-// Whether it is written to memory as that, and read back, and no keyset lies beside it.
-fn is_kept(alloc: Global, ends: &mut MemReaderWriter) -> Result<bool, TinkError> {
-    write(alloc, ends, None)?;
-    let encrypted = is_encrypted(alloc, &ends.encrypted_keyset)?;
-    Ok(encrypted && is_read(alloc, ends, None)? && ends.keyset.is_none())
+// Whether it is read back from memory, and no keyset lies beside it.
+fn is_alone(alloc: Global, ends: &mut MemReaderWriter, master: &AesGcm) -> Result<bool, TinkError> {
+    match is_read(alloc, ends, master, None) {
+        Ok(read) => Ok(read & ends.keyset.is_none()),
+        Err(e) => Err(e),
+    }
+}
+
+// Whether it is written to memory as that, and read back.
+impl Ask<MemReaderWriter> for Kept {
+    fn answer(&self, alloc: Global, ends: &mut MemReaderWriter) -> Result<bool, TinkError> {
+        match write(alloc, ends, &self.master, &self.h, None) {
+            Ok(()) => match is_encrypted(alloc, &ends.encrypted_keyset) {
+                Ok(true) => is_alone(alloc, ends, &self.master),
+                other => other,
+            },
+            Err(e) => Err(e),
+        }
+    }
 }
 
 // ---- the wire format and JSON
@@ -128,111 +141,170 @@ fn sink_of(alloc: Global) -> Result<MemSink, TinkError> {
     Ok(sink)
 }
 
-fn in_wire(alloc: Global, data: Option<&[u8]>) -> Result<Bytes, TinkError> {
-    let mut writer = BinaryWriter::new(sink_of(alloc)?);
-    write(alloc, &mut writer, data)?;
-    Ok(Bytes::from_vec(writer.into_inner().into_bytes()))
+// What a sink has, where all was written.
+fn text_of(told: Result<(), TinkError>, sink: MemSink) -> Result<Vec<u8>, TinkError> {
+    match told {
+        Ok(()) => Ok(sink.into_bytes()),
+        Err(e) => Err(e),
+    }
 }
 
-fn in_json(alloc: Global, data: Option<&[u8]>) -> Result<Bytes, TinkError> {
-    let mut writer = JsonWriter::new(sink_of(alloc)?);
-    write(alloc, &mut writer, data)?;
-    Ok(Bytes::from_vec(writer.into_inner().into_bytes()))
+fn in_wire(
+    alloc: Global,
+    sink: MemSink,
+    kept: &Kept,
+    data: Option<&[u8]>,
+) -> Result<Vec<u8>, TinkError> {
+    let mut writer = BinaryWriter::new(sink);
+    let told = write(alloc, &mut writer, &kept.master, &kept.h, data);
+    text_of(told, writer.into_inner())
+}
+
+fn in_json(
+    alloc: Global,
+    sink: MemSink,
+    kept: &Kept,
+    data: Option<&[u8]>,
+) -> Result<Vec<u8>, TinkError> {
+    let mut writer = JsonWriter::new(sink);
+    let told = write(alloc, &mut writer, &kept.master, &kept.h, data);
+    text_of(told, writer.into_inner())
+}
+
+fn written(alloc: Global, kept: &Kept, row: &Row) -> Result<Vec<u8>, TinkError> {
+    match sink_of(alloc) {
+        Ok(sink) => match row.format {
+            Format::Wire => in_wire(alloc, sink, kept, row.written_with),
+            Format::Json => in_json(alloc, sink, kept, row.written_with),
+        },
+        Err(e) => Err(e),
+    }
 }
 
 // Whether this text is one of the keyset.
-fn is_read_of(
-    alloc: Global,
-    format: &Format,
-    text: &[u8],
-    data: Option<&[u8]>,
-) -> Result<bool, TinkError> {
-    let source = MemSource::new(text.to_vec(alloc)?, 50, Vec::new(alloc));
-    match format {
-        Format::Wire => is_read(alloc, &mut BinaryReader::new(source), data),
-        Format::Json => is_read(alloc, &mut JsonReader::new(source), data),
+fn is_read_of(alloc: Global, text: Vec<u8>, master: &AesGcm, row: &Row) -> Result<bool, TinkError> {
+    let source = MemSource::new(text, 50, Vec::new(alloc));
+    match row.format {
+        Format::Wire => is_read(alloc, &mut BinaryReader::new(source), master, row.read_with),
+        Format::Json => is_read(alloc, &mut JsonReader::new(source), master, row.read_with),
     }
 }
 
 // Whether the keyset is written so that its text begins and ends so, and read from it.
-fn is_kept_as(alloc: Global, row: &Row) -> Result<bool, TinkError> {
-    let text = match row.format {
-        Format::Wire => in_wire(alloc, row.written_with),
-        Format::Json => in_json(alloc, row.written_with),
-    };
-    let text = text?;
-    let text = text.as_slice();
-    let framed = text.starts_with(row.begins) && text.ends_with(row.ends);
-    Ok(is_read_of(alloc, &row.format, text, row.read_with)? && framed)
+fn is_kept_as(alloc: Global, kept: &Kept, row: &Row) -> Result<bool, TinkError> {
+    match written(alloc, kept, row) {
+        Ok(text) => {
+            let framed = text.starts_with(row.begins) & text.ends_with(row.ends);
+            match is_read_of(alloc, text, &kept.master, row) {
+                Ok(read) => Ok(read & framed),
+                Err(e) => Err(e),
+            }
+        }
+        Err(e) => Err(e),
+    }
 }
 
 struct Row {
-    name: &'static str,
     format: Format,
     written_with: Option<&'static [u8]>,
     read_with: Option<&'static [u8]>,
     begins: &'static [u8],
     ends: &'static [u8],
-    want: Answer,
+}
+
+// How the keyset is kept.
+enum Asked {
+    Memory,
+    Text(Row),
+}
+
+impl Ask<Kept> for Asked {
+    fn answer(&self, alloc: Global, kept: &mut Kept) -> Result<bool, TinkError> {
+        match *self {
+            Asked::Memory => asked(alloc, Ok(MemReaderWriter::default()), kept),
+            Asked::Text(ref row) => is_kept_as(alloc, kept, row),
+        }
+    }
 }
 
 const BEGINS: &[u8] = b"\x12\x92\x01\x07\x07";
 
 const FAILED: Answer = Err(Kind::MasterFailed);
 
-const ROWS: &[Row] = &[
-    Row {
-        name: "the wire format",
-        format: Format::Wire,
-        written_with: Some(b""),
-        read_with: Some(b""),
-        begins: BEGINS,
-        ends: INFO,
-        want: Ok(true),
-    },
-    Row {
-        name: "JSON",
-        format: Format::Json,
-        written_with: None,
-        read_with: None,
-        begins: JSON,
-        ends: b"",
-        want: Ok(true),
-    },
-    Row {
-        name: "the same data",
-        format: Format::Wire,
-        written_with: Some(b"\xaa"),
-        read_with: Some(b"\xaa"),
-        begins: BEGINS,
-        ends: INFO,
-        want: Ok(true),
-    },
-    Row {
-        name: "other data",
-        format: Format::Wire,
-        written_with: Some(b"\xaa"),
-        read_with: Some(b"\xab"),
-        begins: BEGINS,
-        ends: INFO,
-        want: FAILED,
-    },
-    Row {
-        name: "no data",
-        format: Format::Wire,
-        written_with: Some(b"\xaa"),
-        read_with: Some(b""),
-        begins: BEGINS,
-        ends: INFO,
-        want: FAILED,
-    },
+const ROWS: &[(&str, Asked, Answer)] = &[
+    ("the encryption and the info", Asked::Memory, Ok(true)),
+    (
+        "the wire format",
+        Asked::Text(Row {
+            format: Format::Wire,
+            written_with: Some(b""),
+            read_with: Some(b""),
+            begins: BEGINS,
+            ends: INFO,
+        }),
+        Ok(true),
+    ),
+    (
+        "JSON",
+        Asked::Text(Row {
+            format: Format::Json,
+            written_with: None,
+            read_with: None,
+            begins: JSON,
+            ends: b"",
+        }),
+        Ok(true),
+    ),
+    (
+        "the same data",
+        Asked::Text(Row {
+            format: Format::Wire,
+            written_with: Some(b"\xaa"),
+            read_with: Some(b"\xaa"),
+            begins: BEGINS,
+            ends: INFO,
+        }),
+        Ok(true),
+    ),
+    (
+        "other data",
+        Asked::Text(Row {
+            format: Format::Wire,
+            written_with: Some(b"\xaa"),
+            read_with: Some(b"\xab"),
+            begins: BEGINS,
+            ends: INFO,
+        }),
+        FAILED,
+    ),
+    (
+        "no data",
+        Asked::Text(Row {
+            format: Format::Wire,
+            written_with: Some(b"\xaa"),
+            read_with: Some(b""),
+            begins: BEGINS,
+            ends: INFO,
+        }),
+        FAILED,
+    ),
 ];
 
-pub fn a_keyset_is_kept_in_memory_and_in_a_text(alloc: Global, told: &mut Told) {
-    let kept = is_kept(alloc, &mut MemReaderWriter::default());
-    told.expect(kept, Ok(true), "the encryption and the info");
-    for row in ROWS {
-        let got = is_kept_as(alloc, row);
-        told.expect(got, row.want, row.name);
+fn master_and_keyset(alloc: Global) -> Result<Kept, TinkError> {
+    match handle(alloc, KEYSET) {
+        Ok(h) => match AesGcm::new(alloc, &[9; 16]) {
+            Ok(master) => Ok(Kept { master, h }),
+            Err(e) => Err(e),
+        },
+        Err(e) => Err(e),
     }
+}
+
+pub fn a_keyset_is_kept_in_memory_and_in_a_text(alloc: Global, told: &mut Told) {
+    told.walk_made(
+        alloc,
+        master_and_keyset(alloc),
+        "the master key and the keyset",
+        ROWS,
+    );
 }

@@ -7,14 +7,17 @@ use std::alloc::Global;
 use tink_core::keyset::Handle;
 use tink_core::keyset::insecure::{decode, new_handle};
 use tink_core::registry::{KeyManager, Registry};
-use tink_core::{DeterministicAead, Kind, TinkError};
+use tink_core::{DeterministicAead, Draws, Kind, TinkError};
 use tink_daead::subtle::{AES_SIV_KEY_SIZE, AesSiv};
 use tink_daead::{
-    AES_SIV_KEY_VERSION, AES_SIV_TYPE_URL, AesSivKeyManager, DaeadKinds, WrappedDeterministicAead,
+    AES_SIV_KEY_VERSION, AES_SIV_TYPE_URL, AesSivKeyManager, WrappedDeterministicAead,
     aes_siv_key_template, init, law_ciphertexts_outlive_commands, law_old_ciphertexts_open, new,
 };
-use tink_proto::{Bytes, KeyTemplate};
-use tink_testutil::{Answer, Named, Told, draws_of, gives, made, registry_of};
+use tink_proto::Bytes;
+use tink_testutil::{
+    Answer, Ask, NamedRegistry, Template, Told, draws_of, gives, is_made_and_registered, made,
+    registry_of,
+};
 
 /// The primary key's prefix and its encryption of a text with associated data.
 fn sealed_by<P: DeterministicAead>(
@@ -33,24 +36,28 @@ enum Asked {
     Build(&'static [u8]),
     // To make a key of a format, with so many draws, of which so many are left.
     Make(&'static [u8], usize, usize),
-    // The template is of its URL, its format and its prefix.
+    // The manager and the template are registered.
+    Register,
+    // The template is of its URL, its format and its prefix, and stands in the registry beside its manager.
     Template,
-    // What is registered stands in the registry, and is registered again.
-    RegisterTwice,
-    // The keys make AEADs, of a primary id.
-    Keyset(u32),
-    // `abc` is encrypted to these bytes under this primary id.
-    Seal(u32, &'static [u8]),
+    // What is asked of the AEADs of the keys under this primary id.
+    Keyset(u32, Call),
+}
+
+enum Call {
+    // They are made.
+    Make,
+    // `abc` is encrypted to these bytes.
+    Seal(&'static [u8]),
     // These bytes are decrypted to it, and by a copy.
-    Open(u32, &'static [u8]),
-    Copy(u32, &'static [u8]),
+    Open(&'static [u8]),
+    Copy(&'static [u8]),
 }
 
 // ---- keys
 
-fn makes(alloc: Global, format: &[u8], n: usize, left: usize) -> Result<bool, TinkError> {
-    let mut draws = draws_of(alloc, &[7; 70][..n.min(70)])?;
-    let answer = made(AesSivKeyManager::new().new_key(alloc, format, &mut draws));
+fn makes(alloc: Global, format: &[u8], draws: &mut Draws, left: usize) -> Result<bool, TinkError> {
+    let answer = made(AesSivKeyManager::new().new_key(alloc, format, draws));
     if draws.left() == left {
         answer
     } else {
@@ -58,27 +65,10 @@ fn makes(alloc: Global, format: &[u8], n: usize, left: usize) -> Result<bool, Ti
     }
 }
 
-fn is_template(made: Result<KeyTemplate, TinkError>) -> Result<bool, TinkError> {
-    match made {
-        Ok(kt) => {
-            let typed = kt.type_url.as_str() == AES_SIV_TYPE_URL && kt.output_prefix_type == 1;
-            Ok(typed && kt.value.as_slice() == b"\x08\x40".as_slice())
-        }
+fn makes_by(alloc: Global, format: &[u8], n: usize, left: usize) -> Result<bool, TinkError> {
+    match draws_of(alloc, &[7; 70][..n.min(70)]) {
+        Ok(mut draws) => makes(alloc, format, &mut draws, left),
         Err(e) => Err(e),
-    }
-}
-
-fn registers_twice(
-    alloc: Global,
-    registry: &mut Registry<Named<DaeadKinds>>,
-) -> Result<bool, TinkError> {
-    init(alloc, registry)?;
-    let again = made(init(alloc, registry));
-    let template = registry.get_template_generator("AES256_SIV").is_some();
-    if template && registry.get_key_manager(AES_SIV_TYPE_URL).is_ok() {
-        again
-    } else {
-        Ok(false)
     }
 }
 
@@ -114,48 +104,60 @@ fn two_keys(alloc: Global, primary: u32) -> Result<WrappedDeterministicAead<AesS
     }
 }
 
-fn sealed(alloc: Global, primary: u32) -> Result<Bytes, TinkError> {
-    match two_keys(alloc, primary) {
-        Ok(aead) => sealed_by(&aead, alloc, b"abc", b"data"),
-        Err(e) => Err(e),
-    }
-}
-
-fn copy_of(
+fn opens(
     alloc: Global,
-    made: Result<WrappedDeterministicAead<AesSiv>, TinkError>,
-) -> Result<WrappedDeterministicAead<AesSiv>, TinkError> {
-    match made {
-        Ok(aead) => aead.try_clone(alloc),
-        Err(e) => Err(e),
-    }
-}
-
-fn opened(
-    alloc: Global,
-    made: Result<WrappedDeterministicAead<AesSiv>, TinkError>,
+    aead: &WrappedDeterministicAead<AesSiv>,
     bytes: &[u8],
-) -> Result<Bytes, TinkError> {
-    match made {
-        Ok(aead) => aead.decrypt_deterministically(alloc, bytes, b"data"),
+) -> Result<bool, TinkError> {
+    gives(
+        aead.decrypt_deterministically(alloc, bytes, b"data"),
+        b"abc",
+    )
+}
+
+fn copy_opens(
+    alloc: Global,
+    aead: &WrappedDeterministicAead<AesSiv>,
+    bytes: &[u8],
+) -> Result<bool, TinkError> {
+    match aead.try_clone(alloc) {
+        Ok(copy) => opens(alloc, &copy, bytes),
         Err(e) => Err(e),
     }
 }
 
-fn answered(alloc: Global, asked: &Asked) -> Result<bool, TinkError> {
-    match asked {
-        Asked::Build(key) => made(AesSivKeyManager::new().primitive(alloc, key)),
-        Asked::Make(format, n, left) => makes(alloc, format, *n, *left),
-        Asked::Template => is_template(aes_siv_key_template(alloc)),
-        Asked::RegisterTwice => registers_twice(alloc, &mut Registry::new(alloc)),
-        Asked::Keyset(primary) => made(two_keys(alloc, *primary)),
-        Asked::Seal(primary, want) => gives(sealed(alloc, *primary), want),
-        Asked::Open(primary, bytes) => {
-            gives(opened(alloc, two_keys(alloc, *primary), bytes), b"abc")
-        }
-        Asked::Copy(primary, bytes) => {
-            let copy = copy_of(alloc, two_keys(alloc, *primary));
-            gives(opened(alloc, copy, bytes), b"abc")
+fn answered(
+    alloc: Global,
+    aead: &WrappedDeterministicAead<AesSiv>,
+    call: &Call,
+) -> Result<bool, TinkError> {
+    match *call {
+        Call::Make => Ok(true),
+        Call::Seal(want) => gives(sealed_by(aead, alloc, b"abc", b"data"), want),
+        Call::Open(bytes) => opens(alloc, aead, bytes),
+        Call::Copy(bytes) => copy_opens(alloc, aead, bytes),
+    }
+}
+
+fn answered_by(alloc: Global, primary: u32, call: &Call) -> Result<bool, TinkError> {
+    match two_keys(alloc, primary) {
+        Ok(aead) => answered(alloc, &aead, call),
+        Err(e) => Err(e),
+    }
+}
+
+const TEMPLATE: Template = Template("AES256_SIV", AES_SIV_TYPE_URL, b"\x08\x40", 1);
+
+impl Ask<NamedRegistry> for Asked {
+    fn answer(&self, alloc: Global, registry: &mut NamedRegistry) -> Result<bool, TinkError> {
+        match *self {
+            Asked::Build(key) => made(AesSivKeyManager::new().primitive(alloc, key)),
+            Asked::Make(format, n, left) => makes_by(alloc, format, n, left),
+            Asked::Register => made(init(alloc, registry)),
+            Asked::Template => {
+                is_made_and_registered(registry, &TEMPLATE, aes_siv_key_template(alloc))
+            }
+            Asked::Keyset(primary, ref call) => answered_by(alloc, primary, call),
         }
     }
 }
@@ -211,44 +213,58 @@ const ROWS: &[(&str, Asked, Answer)] = &[
         Asked::Make(b"\x08\x20", 70, 70),
         Err(Kind::InvalidFormat),
     ),
+    ("the registration", Asked::Register, Ok(true)),
     ("the template", Asked::Template, Ok(true)),
     (
-        "the registration",
-        Asked::RegisterTwice,
+        "the registration again",
+        Asked::Register,
         Err(Kind::AlreadyRegistered),
     ),
-    ("no primary key", Asked::Keyset(3), Err(Kind::InvalidKeyset)),
-    ("a prefixed key's", Asked::Seal(1, TINK), Ok(true)),
+    ("the template again", Asked::Template, Ok(true)),
+    (
+        "no primary key",
+        Asked::Keyset(3, Call::Make),
+        Err(Kind::InvalidKeyset),
+    ),
+    (
+        "a prefixed key's",
+        Asked::Keyset(1, Call::Seal(TINK)),
+        Ok(true),
+    ),
     (
         "a prefixed key's, by a raw one first",
-        Asked::Open(2, TINK),
+        Asked::Keyset(2, Call::Open(TINK)),
         Ok(true),
     ),
     (
         "a prefixed key's, by a copy",
-        Asked::Copy(2, TINK),
+        Asked::Keyset(2, Call::Copy(TINK)),
         Ok(true),
     ),
-    ("a raw key's", Asked::Seal(2, RAW), Ok(true)),
+    ("a raw key's", Asked::Keyset(2, Call::Seal(RAW)), Ok(true)),
     (
         "a raw key's, by a prefixed one first",
-        Asked::Open(1, RAW),
+        Asked::Keyset(1, Call::Open(RAW)),
         Ok(true),
     ),
-    ("a raw key's, by a copy", Asked::Copy(1, RAW), Ok(true)),
+    (
+        "a raw key's, by a copy",
+        Asked::Keyset(1, Call::Copy(RAW)),
+        Ok(true),
+    ),
     (
         "a prefixed key's with a byte more",
-        Asked::Open(2, TINK_LONGER),
+        Asked::Keyset(2, Call::Open(TINK_LONGER)),
         FAILED,
     ),
     (
         "a raw key's with a byte more",
-        Asked::Open(1, RAW_LONGER),
+        Asked::Keyset(1, Call::Open(RAW_LONGER)),
         FAILED,
     ),
     (
         "a prefix alone",
-        Asked::Open(1, b"\x01\x00\x00\x00\x01"),
+        Asked::Keyset(1, Call::Open(b"\x01\x00\x00\x00\x01")),
         FAILED,
     ),
 ];
@@ -257,9 +273,7 @@ const ROWS: &[(&str, Asked, Answer)] = &[
 pub fn keys_and_keysets_are_as_the_rows_say(alloc: Global, told: &mut Told) {
     law_old_ciphertexts_open::<AesSivKeyManager, AesSiv>();
     law_ciphertexts_outlive_commands::<AesSivKeyManager, AesSiv>();
-    for (row, asked, want) in ROWS {
-        told.expect(answered(alloc, asked), *want, row);
-    }
+    told.walk(alloc, Registry::new(alloc), ROWS);
     let as_known = AES_SIV_KEY_VERSION == 0 && AES_SIV_KEY_SIZE == 64;
     told.expect(Ok(as_known), Ok(true), "the version and the size");
 }

@@ -25,10 +25,12 @@ fn sealed_and_opened(
     text: &[u8],
     data: &[u8],
 ) -> Result<Bytes, TinkError> {
-    let sealed = sealed_by(aead, alloc, text, data)?;
-    match copy_opens(alloc, aead, sealed.as_slice(), data, text) {
-        Ok(true) => Ok(sealed),
-        Ok(false) => Ok(Bytes::new(alloc)),
+    match sealed_by(aead, alloc, text, data) {
+        Ok(sealed) => match copy_opens(alloc, aead, sealed.as_slice(), data, text) {
+            Ok(true) => Ok(sealed),
+            Ok(false) => Ok(Bytes::new(alloc)),
+            Err(e) => Err(e),
+        },
         Err(e) => Err(e),
     }
 }
@@ -65,15 +67,21 @@ const TEXT: &[u8] = b"\x11\x22\x33\x44\x55\x66\x77\x88\x99\xaa\xbb\xcc\xdd\xee";
 const SEALED: &[u8] =
     b"\x85\x63\x2d\x07\xc6\xe8\xf3\x7f\x95\x0a\xcd\x32\x0a\x2e\xcc\x93\x40\xc0\x2b\x96\x90\xc4\xdc\x04\xda\xef\x7f\x6a\xfe\x5c";
 
-// So many bytes, each by a step more than the one before it.
-fn stepped(alloc: Global, size: usize, first: u8, step: u8) -> Result<Vec<u8>, TinkError> {
-    let mut bytes = Vec::new(alloc);
+// A key of 64 bytes, and what pyca/cryptography 48 makes with it of `a text` and `data`.
+const THREES: &[u8] = &[3; 64];
+
+const OF_A_TEXT: &[u8; 22] =
+    b"\x0c\x56\xe3\x64\x59\x5f\xb7\x89\x6f\xec\x9d\xd4\x27\xc7\x6f\xdf\xad\xe7\x5e\xcb\x4b\x8a";
+
+// Bytes of which each is by a step more than the one before it.
+fn stepped(first: u8, step: u8) -> [u8; 1000] {
+    let mut bytes = [0; 1000];
     let mut next = first;
-    for _ in 0..size {
-        bytes.push(next)?;
+    for at in 0..1000usize {
+        bytes[at] = next;
         next = next.wrapping_add(step);
     }
-    Ok(bytes)
+    bytes
 }
 
 fn has_digest(made: Result<Bytes, TinkError>, digest: u64) -> Result<bool, TinkError> {
@@ -94,10 +102,10 @@ fn holds(
     text: usize,
     digest: u64,
 ) -> Result<bool, TinkError> {
-    let key = stepped(alloc, key, 7, 5)?;
-    let data = stepped(alloc, data, 1, 7)?;
-    let text = stepped(alloc, text, 3, 11)?;
-    has_digest(made_by(alloc, &key, &text, &data), digest)
+    let key = &stepped(7, 5)[..key.min(1000)];
+    let data = &stepped(1, 7)[..data.min(1000)];
+    let text = &stepped(3, 11)[..text.min(1000)];
+    has_digest(made_by(alloc, key, text, data), digest)
 }
 
 // By what these bytes are refused with this data, if they are.
@@ -105,37 +113,30 @@ fn refusal_of(alloc: Global, aead: &AesSiv, input: &[u8], data: &[u8]) -> Option
     kind_of(aead.decrypt_deterministically(alloc, input, data))
 }
 
-// Whether a ciphertext is refused with a bit changed at this place.
-fn refuses_a_bit(
-    alloc: Global,
-    aead: &AesSiv,
-    sealed: &[u8],
-    bit: usize,
-) -> Result<bool, TinkError> {
-    let mut changed = sealed.to_vec(alloc)?;
+// Whether the 22 bytes are refused with a bit changed at this place.
+fn refuses_a_bit(alloc: Global, aead: &AesSiv, bit: usize) -> bool {
+    let mut changed = *OF_A_TEXT;
     if let Some(byte) = changed.get_mut(bit / 8) {
         *byte ^= 1 << (bit % 8);
     }
-    Ok(refusal_of(alloc, aead, &changed, b"data") == Some(Kind::DecryptFailed))
+    refusal_of(alloc, aead, &changed, b"data") == Some(Kind::DecryptFailed)
 }
 
-// Whether each changed bit of the 22 bytes, a byte less and other data are refused.
-fn refuses_changes(alloc: Global, aead: &AesSiv, sealed: &[u8]) -> Result<bool, TinkError> {
-    for bit in 0..176 {
-        if !refuses_a_bit(alloc, aead, sealed, bit)? {
-            return Ok(false);
-        }
+// Whether each changed bit of them, a byte less and other data are refused.
+fn refuses_changes(alloc: Global, aead: &AesSiv) -> bool {
+    let mut all = true;
+    for bit in 0..176usize {
+        all = all & refuses_a_bit(alloc, aead, bit);
     }
-    let less = refusal_of(alloc, aead, &sealed[..sealed.len().min(21)], b"data");
-    let other = refusal_of(alloc, aead, sealed, b"");
     let failed = Some(Kind::DecryptFailed);
-    Ok(less == failed && other == failed)
+    let less = refusal_of(alloc, aead, &OF_A_TEXT[..21], b"data") == failed;
+    let other = refusal_of(alloc, aead, OF_A_TEXT, b"") == failed;
+    all & less & other
 }
 
 fn refuses_all_changes(alloc: Global) -> Result<bool, TinkError> {
-    let aead = AesSiv::new(alloc, &[3; 64])?;
-    match sealed_by(&aead, alloc, b"a text", b"data") {
-        Ok(sealed) => refuses_changes(alloc, &aead, sealed.as_slice()),
+    match AesSiv::new(alloc, THREES) {
+        Ok(aead) => Ok(refuses_changes(alloc, &aead)),
         Err(e) => Err(e),
     }
 }
@@ -166,7 +167,7 @@ fn are_told(alloc: Global, aead: &AesSiv) -> bool {
     let mut all = true;
     for size in 0..70usize {
         let bytes = &[0; 70][..size];
-        all = all && is_key_told(alloc, bytes) && is_input_told(alloc, aead, bytes);
+        all = all & is_key_told(alloc, bytes) & is_input_told(alloc, aead, bytes);
     }
     all
 }
@@ -179,8 +180,8 @@ fn are_all_told(alloc: Global) -> Result<bool, TinkError> {
 }
 
 enum Asked {
-    // The vector of the standard.
-    Standard,
+    // This key, this text and these data make this.
+    Known(&'static [u8], &'static [u8], &'static [u8], &'static [u8]),
     // What is made with a key, data and a text of these sizes has a SHA-256 that begins with these eight bytes.
     Made(usize, usize, usize, u64),
     // Each changed bit is refused.
@@ -191,7 +192,7 @@ enum Asked {
 
 fn answered(alloc: Global, asked: &Asked) -> Result<bool, TinkError> {
     match asked {
-        Asked::Standard => gives(made_by(alloc, KEY, TEXT, DATA), SEALED),
+        Asked::Known(key, text, data, want) => gives(made_by(alloc, key, text, data), want),
         Asked::Made(key, data, text, digest) => holds(alloc, *key, *data, *text, *digest),
         Asked::Changes => refuses_all_changes(alloc),
         Asked::Sizes => are_all_told(alloc),
@@ -200,7 +201,11 @@ fn answered(alloc: Global, asked: &Asked) -> Result<bool, TinkError> {
 
 // The digests are of what pyca/cryptography 48 makes.
 const ROWS: &[(&str, Asked)] = &[
-    ("A.1", Asked::Standard),
+    ("A.1", Asked::Known(KEY, TEXT, DATA, SEALED)),
+    (
+        "a text under a key of 64 bytes",
+        Asked::Known(THREES, b"a text", b"data", OF_A_TEXT),
+    ),
     (
         "a key of 32 bytes, data of 17 and a text of 0",
         Asked::Made(32, 17, 0, 0x17df09ecc3c8d113),

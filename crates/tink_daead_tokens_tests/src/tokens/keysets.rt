@@ -1,12 +1,12 @@
 //! The MACs of keysets.
 
 use std::alloc::Global;
-use tink_core::TinkError;
 use tink_core::keyset::{Handle, Manager};
-use tink_core::registry::Registry;
+use tink_core::registry::{KeyManager, Registry};
+use tink_core::{Kinds, TinkError};
 use tink_mac::{
-    AesCmacKeyManager, HMAC_TYPE_URL, HmacKeyManager, MacKind, WrappedMac,
-    aes_cmac_tag128_key_template, hmac_sha256_tag128_key_template, new,
+    AesCmacKeyManager, CMAC_TYPE_URL, HMAC_TYPE_URL, HmacKeyManager, MacKind, WrappedMac,
+    hmac_sha256_tag128_key_template, new,
 };
 use tink_proto::OutputPrefixType;
 use tink_testutil::{draws_of, enabled_key, handle_of, made, registry_of};
@@ -22,6 +22,10 @@ pub const ID: u32 = 0xda41597c;
 // HMAC-SHA256 with tags of 16 bytes, and the key of these draws.
 const HMAC_KEY: &[u8] =
     b"\x12\x04\x08\x03\x10\x10\x1a\x20\x76\xb8\xe0\xad\xa0\xf1\x3d\x90\x40\x5d\x6a\xe5\x53\x86\xbd\x28\xbd\xd2\x19\xb8\xa0\x8d\xed\x1a\xa8\x36\xef\xcc\x8b\x77\x0d\xc7";
+
+// AES-CMAC with tags of 16 bytes, and the same bytes as its key.
+const CMAC_KEY: &[u8] =
+    b"\x12\x20\x76\xb8\xe0\xad\xa0\xf1\x3d\x90\x40\x5d\x6a\xe5\x53\x86\xbd\x28\xbd\xd2\x19\xb8\xa0\x8d\xed\x1a\xa8\x36\xef\xcc\x8b\x77\x0d\xc7\x1a\x02\x08\x10";
 
 /// An edit of a keyset: a new primary key by the template and these draws, or one of the key of the id.
 pub enum Edit {
@@ -43,9 +47,11 @@ fn rotate(
     registry: &Registry<HmacKeyManager>,
     manager: &mut Manager,
 ) -> Result<u32, TinkError> {
-    let mut draws = draws_of(alloc, DRAWS)?;
     match hmac_sha256_tag128_key_template(alloc) {
-        Ok(kt) => manager.rotate(alloc, &kt, registry, &mut draws),
+        Ok(kt) => match draws_of(alloc, DRAWS) {
+            Ok(mut draws) => manager.rotate(alloc, &kt, registry, &mut draws),
+            Err(e) => Err(e),
+        },
         Err(e) => Err(e),
     }
 }
@@ -88,8 +94,14 @@ fn edited(
     }
 }
 
-fn one_key(alloc: Global, prefix: OutputPrefixType, id: u32) -> Result<Handle, TinkError> {
-    match enabled_key(alloc, HMAC_TYPE_URL, HMAC_KEY, prefix, id) {
+fn one_key(
+    alloc: Global,
+    type_url: &str,
+    key: &[u8],
+    prefix: OutputPrefixType,
+    id: u32,
+) -> Result<Handle, TinkError> {
+    match enabled_key(alloc, type_url, key, prefix, id) {
         Ok(key) => handle_of(id, vec![in alloc; key]?),
         Err(e) => Err(e),
     }
@@ -102,7 +114,22 @@ fn handle(
 ) -> Result<Handle, TinkError> {
     match keys {
         Keys::Edited(edits) => edited(alloc, registry, edits),
-        Keys::One(prefix, id) => one_key(alloc, *prefix, *id),
+        Keys::One(prefix, id) => one_key(alloc, HMAC_TYPE_URL, HMAC_KEY, *prefix, *id),
+    }
+}
+
+// The MACs of a handle.
+fn macs_of<M: KeyManager>(
+    alloc: Global,
+    registry: &Registry<M>,
+    h: Result<Handle, TinkError>,
+) -> Result<WrappedMac<MacKind>, TinkError>
+where
+    M::Family: Kinds<Mac = MacKind>,
+{
+    match h {
+        Ok(h) => new(alloc, &h, registry),
+        Err(e) => Err(e),
     }
 }
 
@@ -112,35 +139,16 @@ pub fn macs(
     registry: &Registry<HmacKeyManager>,
     keys: &Keys,
 ) -> Result<WrappedMac<MacKind>, TinkError> {
-    match handle(alloc, registry, keys) {
-        Ok(h) => new(alloc, &h, registry),
-        Err(e) => Err(e),
-    }
+    macs_of(alloc, registry, handle(alloc, registry, keys))
 }
 
-// A handle of a new key of AES-CMAC.
-fn cmac_handle(alloc: Global, registry: &Registry<AesCmacKeyManager>) -> Result<Handle, TinkError> {
-    let mut draws = draws_of(alloc, DRAWS)?;
-    match aes_cmac_tag128_key_template(alloc) {
-        Ok(kt) => Handle::new(alloc, &kt, registry, &mut draws),
-        Err(e) => Err(e),
-    }
-}
-
-fn cmacs_in(
-    alloc: Global,
-    registry: &Registry<AesCmacKeyManager>,
-) -> Result<WrappedMac<MacKind>, TinkError> {
-    match cmac_handle(alloc, registry) {
-        Ok(h) => new(alloc, &h, registry),
-        Err(e) => Err(e),
-    }
-}
-
-/// Its MACs, which have 21 bytes too.
+/// Those of the key of AES-CMAC, which have 21 bytes too.
 pub fn cmacs(alloc: Global) -> Result<WrappedMac<MacKind>, TinkError> {
     match registry_of(alloc, AesCmacKeyManager::new()) {
-        Ok(registry) => cmacs_in(alloc, &registry),
+        Ok(registry) => {
+            let h = one_key(alloc, CMAC_TYPE_URL, CMAC_KEY, OutputPrefixType::Tink, ID);
+            macs_of(alloc, &registry, h)
+        }
         Err(e) => Err(e),
     }
 }

@@ -113,7 +113,8 @@ const KNOWN: &[Row] = &[
     ("each other text", NEW, Asked::NoOther, Ok(true)),
 ];
 
-const REFUSED: &[Row] = &[
+// Dots and padding.
+const MISPARTED: &[Row] = &[
     ("nothing", NEW, Asked::Verify(b""), BAD),
     ("no dot", NEW, Asked::Verify(b"eyJzdWIiOjF9"), BAD),
     ("two dots", NEW, Asked::Verify(b".."), BAD),
@@ -138,6 +139,9 @@ const REFUSED: &[Row] = &[
     ),
     ("padding", NEW, Asked::Verify(b"QQ==.AdpB"), BAD),
     ("padding of a MAC", NEW, Asked::Verify(b"QQ.AdpBQQ=="), BAD),
+];
+
+const MISSPELLED: &[Row] = &[
     // A newline, a space, symbols of the other alphabet.
     (
         "a newline",
@@ -184,14 +188,33 @@ fn answered_of(
     }
 }
 
-const TABLES: &[&[Row]] = &[KNOWN, REFUSED];
+fn walk(told: &mut Told, alloc: Global, registry: &Registry<HmacKeyManager>, rows: &[Row]) {
+    for (row, keys, asked, want) in rows {
+        let got = answered_of(alloc, macs(alloc, registry, keys), asked);
+        told.expect(got, *want, row);
+    }
+}
 
-fn walk(told: &mut Told, alloc: Global, registry: &Registry<HmacKeyManager>) {
-    for rows in TABLES {
-        for (row, keys, asked, want) in *rows {
-            let got = answered_of(alloc, macs(alloc, registry, keys), asked);
-            told.expect(got, *want, row);
+fn known(told: &mut Told, alloc: Global, registry: &Registry<HmacKeyManager>) {
+    walk(told, alloc, registry, KNOWN)
+}
+
+fn misparted(told: &mut Told, alloc: Global, registry: &Registry<HmacKeyManager>) {
+    walk(told, alloc, registry, MISPARTED)
+}
+
+fn misspelled(told: &mut Told, alloc: Global, registry: &Registry<HmacKeyManager>) {
+    walk(told, alloc, registry, MISSPELLED)
+}
+
+fn tables(told: &mut Told, alloc: Global, made: Result<Registry<HmacKeyManager>, TinkError>) {
+    match made {
+        Ok(registry) => {
+            known(told, alloc, &registry);
+            misparted(told, alloc, &registry);
+            misspelled(told, alloc, &registry);
         }
+        Err(e) => told.expect(Err(e), Ok(true), "the registry"),
     }
 }
 
@@ -200,10 +223,7 @@ pub fn tokens_are_as_the_rows_say(alloc: Global, told: &mut Told) {
     law_signed_tokens_verify::<HmacKeyManager, MacKind>();
     law_old_tokens_verify::<HmacKeyManager, MacKind>();
     law_tokens_outlive_commands::<AesCmacKeyManager, MacKind>();
-    match registry_of(alloc, HmacKeyManager::new()) {
-        Ok(registry) => walk(told, alloc, &registry),
-        Err(e) => told.expect(Err(e), Ok(true), "the registry"),
-    }
+    tables(told, alloc, registry_of(alloc, HmacKeyManager::new()));
     let got = answered_of(alloc, cmacs(alloc), &Asked::ComeBack);
     told.expect(got, Ok(true), "payloads of 0 to 70 bytes by AES-CMAC");
 }

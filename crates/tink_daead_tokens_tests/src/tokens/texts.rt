@@ -6,11 +6,11 @@ use std::alloc::Global;
 use tink_core::{Kind, Mac, TinkError};
 use tink_mac::tokens::{sign, verify};
 use tink_mac::{MacKind, WrappedMac};
-use tink_proto::Bytes;
-use tink_testutil::{kind_of, made};
+use tink_proto::{Bytes, Text};
+use tink_testutil::{gives, kind_of, made};
 
 /// The token of `{"sub":1}` under the keyset that the draws make by the template `HMAC_SHA256_128BITTAG`.
-pub const TOKEN: &[u8] = b"eyJzdWIiOjF9.AdpBWXyINi9jd9wXbJ4V_sGWBPqU";
+pub const TOKEN: &[u8; 41] = b"eyJzdWIiOjF9.AdpBWXyINi9jd9wXbJ4V_sGWBPqU";
 
 /// What is asked of MACs.
 pub enum Asked {
@@ -34,7 +34,7 @@ pub fn answered(
         Asked::Sign(payload, token) => is_signed(alloc, macs, payload, token),
         Asked::Verify(text) => made(verify(alloc, macs, text)),
         Asked::ComeBack => come_back(alloc, macs),
-        Asked::NoOther => are_refused_at_all(alloc, macs),
+        Asked::NoOther => Ok(are_refused_at_all(alloc, macs)),
     }
 }
 
@@ -46,8 +46,17 @@ fn there_and_back<P: Mac>(
 ) -> Result<Bytes, TinkError>
     ensures { IfOk result (λ back. back ≡ payload.now) }
 {
-    let token = sign(alloc, mac, payload)?;
-    verify(alloc, mac, token.as_bytes())
+    match sign(alloc, mac, payload) {
+        Ok(token) => verify(alloc, mac, token.as_bytes()),
+        Err(e) => Err(e),
+    }
+}
+
+fn is_token(made: Result<Text, TinkError>, token: &[u8]) -> Result<bool, TinkError> {
+    match made {
+        Ok(made) => Ok(made.as_bytes() == token),
+        Err(e) => Err(e),
+    }
 }
 
 fn is_signed(
@@ -56,9 +65,17 @@ fn is_signed(
     payload: &[u8],
     token: &[u8],
 ) -> Result<bool, TinkError> {
-    let made = sign(alloc, macs, payload)?;
-    let back = verify(alloc, macs, token)?;
-    Ok(made.as_bytes() == token && back.as_slice() == payload)
+    match is_token(sign(alloc, macs, payload), token) {
+        Ok(true) => gives(verify(alloc, macs, token), payload),
+        other => other,
+    }
+}
+
+fn has_size(made: Result<Text, TinkError>, size: usize) -> Result<bool, TinkError> {
+    match made {
+        Ok(made) => Ok(made.as_bytes().len() == size),
+        Err(e) => Err(e),
+    }
 }
 
 fn comes_back(
@@ -66,72 +83,67 @@ fn comes_back(
     macs: &WrappedMac<MacKind>,
     payload: &[u8],
 ) -> Result<bool, TinkError> {
-    let token = sign(alloc, macs, payload)?;
-    let back = there_and_back(alloc, macs, payload)?;
-    let size = payload.len() / 3 * 4 + [0, 2, 3][payload.len() % 3] + 29;
-    Ok(token.as_bytes().len() == size && back.as_slice() == payload)
+    let size = (payload.len() / 3 * 4).saturating_add([29, 31, 32][payload.len() % 3]);
+    match has_size(sign(alloc, macs, payload), size) {
+        Ok(true) => gives(there_and_back(alloc, macs, payload), payload),
+        other => other,
+    }
 }
 
 fn come_back(alloc: Global, macs: &WrappedMac<MacKind>) -> Result<bool, TinkError> {
-    let mut payload = Vec::new(alloc);
-    let mut all = true;
-    for byte in 0..71u8 {
-        all = comes_back(alloc, macs, &payload)? && all;
-        payload.push(byte ^ 0xa5)?;
-    }
-    Ok(all)
-}
-
-// Whether a text of these parts is refused.
-fn is_refused(
-    alloc: Global,
-    macs: &WrappedMac<MacKind>,
-    front: &[u8],
-    middle: &[u8],
-    back: &[u8],
-) -> Result<bool, TinkError> {
-    let mut token = front.to_vec(alloc)?;
-    token.extend_from_slice(middle)?;
-    token.extend_from_slice(back)?;
-    let refused = kind_of(verify(alloc, macs, &token));
-    Ok(refused == Some(Kind::BadToken) || refused == Some(Kind::MacMismatch))
-}
-
-// Whether the token is refused with another byte at a place, and with one more before it.
-fn is_refused_changed(
-    alloc: Global,
-    macs: &WrappedMac<MacKind>,
-    at: usize,
-) -> Result<bool, TinkError> {
-    for byte in 0..255u8 {
-        let front = &TOKEN[..at.min(TOKEN.len())];
-        let (own, back): (u8, &[u8]) = match TOKEN.get(at) {
-            Some(own) => (*own, &TOKEN[(at + 1).min(TOKEN.len())..]),
-            None => (0, b""),
-        };
-        let changed = is_refused(alloc, macs, front, &[own ^ (byte + 1)], back)?;
-        let longer = is_refused(alloc, macs, front, &[byte], &TOKEN[at.min(TOKEN.len())..])?;
-        if !(changed && longer) {
-            return Ok(false);
+    let mut payload = [0; 71];
+    for size in 0..71usize {
+        match comes_back(alloc, macs, &payload[..size]) {
+            Ok(true) => payload[size] = size as u8 ^ 0xa5,
+            other => return other,
         }
     }
     Ok(true)
 }
 
-// Whether what begins the token is refused, and the token without a byte there, with another and with one more.
-fn is_refused_at(alloc: Global, macs: &WrappedMac<MacKind>, at: usize) -> Result<bool, TinkError> {
-    let front = &TOKEN[..at.min(TOKEN.len())];
-    let back = &TOKEN[at.saturating_add(1).min(TOKEN.len())..];
-    let cut = is_refused(alloc, macs, front, b"", b"")?;
-    let left_out = is_refused(alloc, macs, front, b"", back)?;
-    Ok(cut && left_out && is_refused_changed(alloc, macs, at)?)
+// Whether a text is refused.
+fn is_refused(alloc: Global, macs: &WrappedMac<MacKind>, text: &[u8]) -> bool {
+    let refused = kind_of(verify(alloc, macs, text));
+    (refused == Some(Kind::BadToken)) | (refused == Some(Kind::MacMismatch))
 }
 
-fn are_refused_at_all(alloc: Global, macs: &WrappedMac<MacKind>) -> Result<bool, TinkError> {
-    for at in 0..TOKEN.len() {
-        if !is_refused_at(alloc, macs, at)? {
-            return Ok(false);
-        }
+fn put(text: &mut [u8], at: usize, byte: u8) {
+    if let Some(place) = text.get_mut(at) {
+        *place = byte;
     }
-    is_refused_changed(alloc, macs, TOKEN.len())
+}
+
+// Whether a text is refused with each byte but one at a place, which then has the byte `own`.
+fn is_refused_changed(
+    alloc: Global,
+    macs: &WrappedMac<MacKind>,
+    text: &mut [u8],
+    at: usize,
+    but: u8,
+    own: u8,
+) -> bool {
+    let mut all = true;
+    for step in 0..255u8 {
+        put(text, at, but ^ (step + 1));
+        all = all & is_refused(alloc, macs, text);
+    }
+    put(text, at, own);
+    all
+}
+
+// Whether what begins the token is refused, and the token without a byte there, with another and with one more.
+fn are_refused_at_all(alloc: Global, macs: &WrappedMac<MacKind>) -> bool {
+    let mut token = *TOKEN;
+    let mut less = *b"yJzdWIiOjF9.AdpBWXyINi9jd9wXbJ4V_sGWBPqU";
+    let mut more = *b"-eyJzdWIiOjF9.AdpBWXyINi9jd9wXbJ4V_sGWBPqU";
+    let mut all = true;
+    for at in 0..41usize {
+        let own = token[at];
+        all = all & is_refused(alloc, macs, &token[..at]) & is_refused(alloc, macs, &less);
+        all = all & is_refused_changed(alloc, macs, &mut token, at, own, own);
+        all = all & is_refused_changed(alloc, macs, &mut more, at, 255, own);
+        put(&mut less, at, own);
+    }
+    all & is_refused_changed(alloc, macs, &mut more, 41, 0, 0)
+        & is_refused_changed(alloc, macs, &mut more, 41, 255, 0)
 }
