@@ -94,17 +94,19 @@ fn payload_in_memory(
 // Whether a new keyset has its line.
 fn is_line(alloc: Global) -> Result<bool, TinkError> {
     let mut draws = Draws::new(counted(alloc, 20)?);
-    let line = new_line(alloc, &mut draws)?;
-    Ok(line.ends_with(b"\n") && line.len() == 185)
+    match new_line(alloc, &mut draws) {
+        Ok(line) => Ok(line.ends_with(b"\n") & (line.len() == 185)),
+        Err(e) => Err(e),
+    }
 }
 
 // Whether no text is sealed to a header and a tag.
-fn is_sealed(alloc: Global) -> Result<bool, TinkError> {
-    let mut draws = Draws::new(counted(alloc, 23)?);
-    let mut stream = sink_of(alloc, 56)?;
+fn seals(alloc: Global, draws: &mut Draws, stream: &mut SureSink) -> Result<bool, TinkError> {
     let mut text = SureSource::new(Vec::new(alloc));
-    let report = seal_text(alloc, CTR_4096, &mut draws, &mut text, &mut stream)?;
-    Ok(report.segments == 1 && report.bytes == 0 && stream.bytes().len() == 56)
+    match seal_text(alloc, CTR_4096, draws, &mut text, stream) {
+        Ok(it) => Ok(it.segments == 1 && it.bytes == 0 && stream.bytes().len() == 56),
+        Err(e) => Err(e),
+    }
 }
 
 // Whether a byte was moved to a front, the byte and a tag. A refusal is handed on where nothing was written or drawn.
@@ -121,12 +123,26 @@ fn is_all_or_nothing(
 }
 
 // Whether a stream of one byte is moved so.
-fn is_moved(alloc: Global) -> Result<bool, TinkError> {
+fn moves(alloc: Global, draws: &mut Draws, moved: &mut SureSink) -> Result<bool, TinkError> {
     let mut stream = SureSource::new(stream_of(alloc, CTR_35, 1)?);
-    let mut draws = Draws::new(counted(alloc, 23)?);
-    let mut moved = sink_of(alloc, 41)?;
-    let answer = move_stream(alloc, CTR_35, GCM_41, &mut draws, &mut stream, &mut moved);
+    let answer = move_stream(alloc, CTR_35, GCM_41, draws, &mut stream, moved);
     is_all_or_nothing(answer, moved.bytes().len(), draws.left())
+}
+
+// What is done with 23 draws and a sink.
+enum Does {
+    Seal,
+    Move,
+}
+
+// Whether it is done to a sink with room for so many bytes.
+fn is_done(alloc: Global, does: &Does, room: usize) -> Result<bool, TinkError> {
+    let mut draws = Draws::new(counted(alloc, 23)?);
+    let mut sink = sink_of(alloc, room)?;
+    match *does {
+        Does::Seal => seals(alloc, &mut draws, &mut sink),
+        Does::Move => moves(alloc, &mut draws, &mut sink),
+    }
 }
 
 // How a token is refused under no keyset.
@@ -172,17 +188,24 @@ fn page_of<L: Ledger>(
     page(alloc, keyset, file, 0, sink, &mut steps)
 }
 
-// Whether the first page of a sealed file is its text.
-fn is_page(alloc: Global) -> Result<bool, TinkError> {
+// The first page of a sealed file.
+fn first_page(alloc: Global, sink: &mut SureSink) -> Result<u64, TinkError> {
     let mut file = MemAt::new(Vec::from_slice(alloc, SEALED)?, 0, Vec::new(alloc));
+    page_of::<Brand>(alloc, CTR_35, &mut file, sink, Blank::new(1))
+}
+
+// Whether it is the file's text.
+fn is_page(alloc: Global) -> Result<bool, TinkError> {
     let mut sink = sink_of(alloc, 20)?;
-    let count = page_of::<Brand>(alloc, CTR_35, &mut file, &mut sink, Blank::new(1))?;
-    Ok(count == 20 && sink.bytes() == TEXT)
+    match first_page(alloc, &mut sink) {
+        Ok(count) => Ok(count == 20 && sink.bytes() == TEXT),
+        Err(e) => Err(e),
+    }
 }
 
 pub fn callers_do_what_they_say(alloc: Global, told: &mut Told) {
-    told.expect(is_sealed(alloc), Ok(true), "a seal");
-    told.expect(is_moved(alloc), Ok(true), "a move");
+    told.expect(is_done(alloc, &Does::Seal, 56), Ok(true), "a seal");
+    told.expect(is_done(alloc, &Does::Move, 41), Ok(true), "a move");
     told.expect(is_line(alloc), Ok(true), "the line of a new keyset");
     told.expect(made(no_payload(alloc)), Err(Kind::BadKeyset), "no payload");
     told.expect(is_page(alloc), Ok(true), "a page of a sealed file");

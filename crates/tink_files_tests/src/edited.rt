@@ -22,7 +22,10 @@ fn seals_and_opens(alloc: Global, edited: &[u8], to_other: bool) -> Result<bool,
     let old = stream_of(alloc, CTR_4096, TWO_SEGMENTS)?;
     let new = stream_of(alloc, edited, TWO_SEGMENTS)?;
     let as_wanted = (old != new) == to_other;
-    Ok(opens(alloc, edited, old)? && opens(alloc, edited, new)? && as_wanted)
+    match (opens(alloc, edited, old), opens(alloc, edited, new)) {
+        (Ok(old), Ok(new)) => Ok(old & new & as_wanted),
+        (Err(e), _) | (Ok(_), Err(e)) => Err(e),
+    }
 }
 
 pub fn edited_keysets_run(alloc: Global, told: &mut Told) {

@@ -184,24 +184,37 @@ impl Call for Asked {
 
 impl Call for AskedUnder {
     fn done(&self, alloc: Global, place: &mut MemPlace) -> Result<(), TinkError> {
-        match master_of(alloc, self.0) {
-            Ok(master) => done_under(alloc, &master, &self.1, place),
-            Err(e) => Err(e),
-        }
+        done_by(alloc, master_of(alloc, self.0), &self.1, place)
     }
 }
 
-fn done_under(
+// What is done by what was made, which is let go then.
+fn done_by<C: Drop, A: DoneBy<C>>(
     alloc: Global,
-    master: &Master,
-    asked: &Under,
+    made: Result<C, TinkError>,
+    asked: &A,
     place: &mut MemPlace,
 ) -> Result<(), TinkError>
     requires { place.old.has_draft ≡ true }
 {
-    match *asked {
-        Under::Wrap(keys, aad, draws) => wrap(alloc, master, keys, aad, draws, place),
-        Under::Unwrap(file, aad) => unwrap_keys(alloc, master, file, aad, Format::Binary, place),
+    match made {
+        Ok(by) => asked.done_by(alloc, &by, place),
+        Err(e) => Err(e),
+    }
+}
+
+// A call by what was made.
+trait DoneBy<C> {
+    fn done_by(&self, alloc: Global, by: &C, place: &mut MemPlace) -> Result<(), TinkError>
+        requires { place.old.has_draft ≡ true };
+}
+
+impl DoneBy<Master> for Under {
+    fn done_by(&self, alloc: Global, by: &Master, place: &mut MemPlace) -> Result<(), TinkError> {
+        match *self {
+            Under::Wrap(keys, aad, draws) => wrap(alloc, by, keys, aad, draws, place),
+            Under::Unwrap(file, aad) => unwrap_keys(alloc, by, file, aad, Format::Binary, place),
+        }
     }
 }
 

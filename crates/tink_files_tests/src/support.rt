@@ -22,20 +22,11 @@ fn written(
     alloc: Global,
     command: Command,
     keyset: &[u8],
-    input: Vec<u8>,
+    input: &mut SureSource,
 ) -> Result<Vec<u8>, TinkError> {
     let mut draws = Draws::new(counted(alloc, 1024)?);
     let mut sink = sink_of(alloc, 20000)?;
-    let mut source = SureSource::new(input);
-    match run(
-        alloc,
-        command,
-        keyset,
-        &[],
-        &mut draws,
-        &mut source,
-        &mut sink,
-    ) {
+    match run(alloc, command, keyset, &[], &mut draws, input, &mut sink) {
         Ok(_) => Ok(sink.into_bytes()),
         Err(e) => Err(e),
     }
@@ -43,10 +34,11 @@ fn written(
 
 /// The stream of the counted text of so many bytes.
 pub fn stream_of(alloc: Global, keyset: &[u8], count: usize) -> Result<Vec<u8>, TinkError> {
-    written(alloc, Command::Seal, keyset, counted(alloc, count)?)
+    let mut text = SureSource::new(counted(alloc, count)?);
+    written(alloc, Command::Seal, keyset, &mut text)
 }
 
 /// The text of a stream.
 pub fn opened(alloc: Global, keyset: &[u8], stream: Vec<u8>) -> Result<Vec<u8>, TinkError> {
-    written(alloc, Command::Open, keyset, stream)
+    written(alloc, Command::Open, keyset, &mut SureSource::new(stream))
 }

@@ -43,7 +43,6 @@ const MOVE: Task<'static> = Task::Rewrap {
     to_aad: b"June",
 };
 
-#[derive(Clone, Copy)]
 enum What {
     Seal,
     Open,
@@ -164,8 +163,8 @@ const ROWS: &[Row<Asked>] = &[
 const ALL: usize = 9999;
 
 // The input of what is asked, of which so many bytes are left and one is changed.
-fn input_of(alloc: Global, what: What, left: usize, place: usize) -> Result<Vec<u8>, TinkError> {
-    let whole = match what {
+fn input_of(alloc: Global, what: &What, left: usize, place: usize) -> Result<Vec<u8>, TinkError> {
+    let whole = match *what {
         What::Seal | What::Sign => TEXT,
         What::Verify => TOKEN,
         _ => SEALED,
@@ -215,10 +214,10 @@ fn encrypted<S: Source, P: Place>(
 
 impl Call for Asked {
     fn done(&self, alloc: Global, place: &mut MemPlace) -> Result<(), TinkError> {
-        let input = input_of(alloc, self.0, self.1, self.2)?;
+        let input = input_of(alloc, &self.0, self.1, self.2)?;
         match self.0 {
             What::Range => ranged(alloc, input, place),
-            what => streamed(alloc, what, input, place),
+            _ => streamed(alloc, &self.0, input, place),
         }
     }
 }
@@ -226,7 +225,7 @@ impl Call for Asked {
 // A text, a stream or a token into a place.
 fn streamed(
     alloc: Global,
-    what: What,
+    what: &What,
     input: Vec<u8>,
     place: &mut MemPlace,
 ) -> Result<(), TinkError>
@@ -234,18 +233,18 @@ fn streamed(
 {
     let mut draws = draws_of(alloc, DRAWS)?;
     let mut source = SureSource::new(input);
-    match what {
-        What::Seal => done(encrypted(alloc, CTR_35, MAY, &mut draws, &mut source, place)),
+    done(match *what {
+        What::Seal => encrypted(alloc, CTR_35, MAY, &mut draws, &mut source, place),
         _ => {
             let (task, keys, aad) = task_of(what);
-            done(save_task(alloc, task, keys, aad, &mut draws, &mut source, place))
+            save_task(alloc, task, keys, aad, &mut draws, &mut source, place)
         }
-    }
+    })
 }
 
 // An open, a move to other keys, or what is done with a token, with its keys and data.
-fn task_of(what: What) -> (Task<'static>, &'static [u8], &'static [u8]) {
-    match what {
+fn task_of(what: &What) -> (Task<'static>, &'static [u8], &'static [u8]) {
+    match *what {
         What::Rewrap => (MOVE, CTR_35, MAY),
         What::Sign => (Task::Sign, MACS, b""),
         What::Verify => (Task::Verify, MACS, b""),
@@ -296,8 +295,10 @@ fn is_reported(alloc: Global, sink: &mut SureSink) -> Result<bool, TinkError> {
 // Whether the sink has got the text then.
 fn opens(alloc: Global) -> Result<bool, TinkError> {
     let mut sink = sink_of(alloc, TEXT.len())?;
-    let is_reported = is_reported(alloc, &mut sink)?;
-    Ok(is_reported && sink.bytes() == TEXT)
+    match is_reported(alloc, &mut sink) {
+        Ok(is_reported) => Ok(is_reported & (sink.bytes() == TEXT)),
+        Err(e) => Err(e),
+    }
 }
 
 pub fn a_text_goes_into_a_sink_as_it_comes(alloc: Global, told: &mut Told) {

@@ -6,7 +6,7 @@ use std::alloc::Global;
 use tink_io::{SureSink, SureSource, TinkError, write_all};
 use tink_segments::{GcmSegment, StreamSegment};
 use tink_streams::{Buffers, Opener, Reader, Sealer, SegmentReader, SegmentWriter, WriterBuffers};
-use tink_testutil::Told;
+use tink_testutil::{Told, sink_of};
 
 const TEXT: &[u8; 38] = b"a text of more than two blocks, by ten";
 
@@ -54,38 +54,89 @@ fn opener(prefix: Vec<u8>) -> Opener<StreamSegment>
     }
 }
 
-// A sink with room for so many bytes.
-fn sink(alloc: Global, n: usize) -> Result<SureSink, TinkError> {
-    let mut sink = SureSink::new(alloc);
-    sink.reserve(alloc, n)?;
-    Ok(sink)
+// A writer of such segments.
+fn writer(alloc: Global) -> Result<SegmentWriter<StreamSegment>, TinkError> {
+    let prefix = PREFIX.to_vec(alloc)?;
+    match WriterBuffers::reserve(alloc, 36, 12) {
+        Ok(buffers) => Ok(SegmentWriter::made(sealer(prefix), buffers)),
+        Err(e) => Err(e),
+    }
+}
+
+// Writes the text and closes the stream.
+fn seal(writer: &mut SegmentWriter<StreamSegment>, sink: &mut SureSink) -> Result<(), TinkError> {
+    match writer.write(sink, TEXT) {
+        Ok(_) => writer.close(sink),
+        Err(e) => Err(e),
+    }
+}
+
+// Whether a sink has these bytes then, if nothing was refused.
+fn has(told: Result<(), TinkError>, sink: &SureSink, want: &[u8]) -> Result<bool, TinkError> {
+    match told {
+        Ok(()) => Ok(sink.bytes() == want),
+        Err(e) => Err(e),
+    }
+}
+
+// Whether the text has the stream by this writer.
+fn seals(alloc: Global, writer: &mut SegmentWriter<StreamSegment>) -> Result<bool, TinkError> {
+    let mut sink = sink_of(alloc, 86)?;
+    has(seal(writer, &mut sink), &sink, STREAM)
 }
 
 // Whether the text has the stream.
 fn is_sealed(alloc: Global) -> Result<bool, TinkError> {
-    let mut sink = sink(alloc, 86)?;
-    let buffers = WriterBuffers::reserve(alloc, 36, 12)?;
+    match writer(alloc) {
+        Ok(mut writer) => seals(alloc, &mut writer),
+        Err(e) => Err(e),
+    }
+}
+
+type SureReader = Reader<SureSource, StreamSegment>;
+
+// A reader of the stream.
+fn reader(alloc: Global) -> Result<SureReader, TinkError> {
+    let stream = STREAM.to_vec(alloc)?;
     let prefix = PREFIX.to_vec(alloc)?;
-    let mut writer = SegmentWriter::made(sealer(prefix), buffers);
-    writer.write(&mut sink, TEXT)?;
-    writer.close(&mut sink)?;
-    Ok(sink.bytes() == STREAM.as_slice())
+    match Buffers::reserve(alloc, 36, 12) {
+        Ok(buffers) => {
+            let reader = SegmentReader::made(opener(prefix), buffers, 0);
+            Ok(Reader::over(SureSource::new(stream), reader))
+        }
+        Err(e) => Err(e),
+    }
+}
+
+// Moves the text of a segment.
+fn pour(reader: &mut SureReader, sink: &mut SureSink) -> Result<(), TinkError> {
+    let mut piece = [0u8; 64];
+    match reader.read(&mut piece) {
+        Ok(n) => write_all(sink, &piece[..n]),
+        Err(e) => Err(e),
+    }
+}
+
+// Moves the text of three segments, and reads what is behind them.
+fn open(reader: &mut SureReader, sink: &mut SureSink) -> Result<(), TinkError> {
+    for _ in 0..4 {
+        pour(reader, sink)?;
+    }
+    Ok(())
+}
+
+// Whether the stream opens to the text by this reader.
+fn opens(alloc: Global, reader: &mut SureReader) -> Result<bool, TinkError> {
+    let mut sink = sink_of(alloc, 38)?;
+    has(open(reader, &mut sink), &sink, TEXT)
 }
 
 // Whether the stream opens to the text.
 fn is_opened(alloc: Global) -> Result<bool, TinkError> {
-    let mut sink = sink(alloc, 38)?;
-    let source = SureSource::new(STREAM.to_vec(alloc)?);
-    let buffers = Buffers::reserve(alloc, 36, 12)?;
-    let prefix = PREFIX.to_vec(alloc)?;
-    let reader = SegmentReader::made(opener(prefix), buffers, 0);
-    let mut reader = Reader::over(source, reader);
-    let mut piece = [0u8; 64];
-    for _ in 0..4 {
-        let n = reader.read(&mut piece)?;
-        write_all(&mut sink, &piece[..n])?;
+    match reader(alloc) {
+        Ok(mut reader) => opens(alloc, &mut reader),
+        Err(e) => Err(e),
     }
-    Ok(sink.bytes() == TEXT.as_slice())
 }
 
 pub fn writers_and_readers_take_either_kind(alloc: Global, told: &mut Told) {

@@ -1,15 +1,14 @@
 //! The limits of keys and nonces.
 
-use crate::comparing::by_error;
-use tink_io::Kind;
+use std::alloc::Global;
+use tink_io::{Kind, TinkError};
 use tink_segment_traits::generate_segment_nonce;
 use tink_segments::{
     AES_CTR_HMAC_NONCE_PREFIX_SIZE_IN_BYTES, AES_GCM_HKDF_NONCE_PREFIX_SIZE_IN_BYTES,
     validate_aes_key_size,
 };
-use tink_testutil::Told;
+use tink_testutil::{Answer, Ask, Told};
 
-#[derive(Clone, Copy)]
 enum Asked {
     // whether keys of so many bytes are those of a variant, which has as many
     KeySize(usize),
@@ -21,16 +20,16 @@ enum Asked {
     Prefixes(usize),
 }
 
-fn is_key_size(n: usize) -> Result<bool, Kind> {
+fn is_key_size(n: usize) -> Result<bool, TinkError> {
     match validate_aes_key_size(n) {
         Ok(variant) => Ok(variant.key_size() == n),
-        Err(e) => Err(e.kind),
+        Err(e) => Err(e),
     }
 }
 
 fn are_two_sizes(most: usize) -> bool {
     for n in 0..most {
-        if (is_key_size(n) == Ok(true)) != (n == 16 || n == 32) {
+        if matches!(is_key_size(n), Ok(true)) != (n == 16 || n == 32) {
             return false;
         }
     }
@@ -38,28 +37,30 @@ fn are_two_sizes(most: usize) -> bool {
 }
 
 // The nonce stands in the place of nines, which stay where there is none.
-fn is_nonce(number: u64, last: bool, want: &[u8; 12]) -> Result<bool, Kind> {
+fn is_nonce(number: u64, last: bool, want: &[u8; 12]) -> Result<bool, TinkError> {
     let mut out = [9u8; 12];
     match generate_segment_nonce(&mut out, &[1, 2, 3, 4, 5, 6, 7], number, last) {
         Ok(()) => Ok(out == *want),
-        Err(e) if out == *want => Err(e.kind),
+        Err(e) if out == *want => Err(e),
         Err(_) => Ok(false),
     }
 }
 
-fn answered(asked: Asked) -> Result<bool, Kind> {
-    match asked {
-        Asked::KeySize(n) => is_key_size(n),
-        Asked::KeySizesBelow(n) => Ok(are_two_sizes(n)),
-        Asked::Nonce(number, last, want) => is_nonce(number, last, want),
-        Asked::Prefixes(n) => Ok(
-            AES_CTR_HMAC_NONCE_PREFIX_SIZE_IN_BYTES == n
-                && AES_GCM_HKDF_NONCE_PREFIX_SIZE_IN_BYTES == n,
-        ),
+impl Ask<()> for Asked {
+    fn answer(&self, _alloc: Global, _of: &mut ()) -> Result<bool, TinkError> {
+        match *self {
+            Asked::KeySize(n) => is_key_size(n),
+            Asked::KeySizesBelow(n) => Ok(are_two_sizes(n)),
+            Asked::Nonce(number, last, want) => is_nonce(number, last, want),
+            Asked::Prefixes(n) => Ok(
+                AES_CTR_HMAC_NONCE_PREFIX_SIZE_IN_BYTES == n
+                    && AES_GCM_HKDF_NONCE_PREFIX_SIZE_IN_BYTES == n,
+            ),
+        }
     }
 }
 
-const ROWS: &[(&str, Asked, Result<bool, Kind>)] = &[
+const ROWS: &[(&str, Asked, Answer)] = &[
     ("sizes below 40", Asked::KeySizesBelow(40), Ok(true)),
     (
         "a key of 24 bytes",
@@ -92,8 +93,6 @@ const ROWS: &[(&str, Asked, Result<bool, Kind>)] = &[
     ("prefixes", Asked::Prefixes(7), Ok(true)),
 ];
 
-pub fn limits_are_those_of_the_rows(told: &mut Told) {
-    for (row, asked, want) in ROWS {
-        told.expect(by_error(answered(*asked)), *want, row);
-    }
+pub fn limits_are_those_of_the_rows(alloc: Global, told: &mut Told) {
+    told.walk(alloc, (), ROWS);
 }

@@ -4,7 +4,6 @@ ghost use Rattle.std.specs.Prelude.{◌≡◌, ◌≤◌, length};
 ghost use Rattle.tink_segments.specs.SegmentKeys.{overhead_under};
 ghost use Rattle.tink_segments.specs.StreamSegments.{nonce_length_by};
 
-use crate::comparing::by_error;
 use crate::segment_callers::{segment_by, segment_by_gcm};
 use hash_keys::Hash;
 use std::alloc::Global;
@@ -12,7 +11,7 @@ use tink_io::{Kind, TinkError};
 use tink_proto::Bytes;
 use tink_segment_traits::{SegmentDecrypter, SegmentEncrypter};
 use tink_segments::{CtrHmacSegment, GcmSegment, StreamSegment};
-use tink_testutil::Told;
+use tink_testutil::{Answer, Ask, Told};
 
 const TEXT: &[u8; 38] = b"a text of more than two blocks, by ten";
 
@@ -77,7 +76,6 @@ fn ctr_hmac_kind() -> StreamSegment
 }
 
 // The cipher of a row.
-#[derive(Clone, Copy)]
 enum By {
     Small,
     Large,
@@ -86,7 +84,6 @@ enum By {
 }
 
 // One that makes memory for what it answers: GCM under the small key, or one of both kinds.
-#[derive(Clone, Copy)]
 enum Own {
     Small,
     GcmKind,
@@ -94,7 +91,6 @@ enum Own {
 }
 
 // What is asked of a cipher.
-#[derive(Clone, Copy)]
 enum Asked {
     // that it makes of a text this segment
     Makes(By, &'static [u8], &'static [u8]),
@@ -128,21 +124,22 @@ fn opens<D: SegmentDecrypter>(
     nonce: &[u8],
     segment: &[u8],
     want: &[u8],
-) -> Result<bool, Kind>
+) -> Result<bool, TinkError>
     requires nonce { length nonce.now ≡ D.nonce_length cipher.now }
 {
     let segment = &segment[..segment.len().min(58)];
     let n = segment.len().saturating_sub(cipher.overhead());
     let mut out = [7u8; 58];
-    match cipher.decrypt_segment_into(segment, nonce, &mut out[..n]) {
-        Ok(()) => Ok(&out[..n] == want),
-        Err(e) if out == [7; 58] => Err(e.kind),
+    let text = &mut out[..n];
+    match cipher.decrypt_segment_into(segment, nonce, text) {
+        Ok(()) => Ok(&*text == want),
+        Err(e) if out == [7; 58] => Err(e),
         Err(_) => Ok(false),
     }
 }
 
-fn made_by(by: By, text: &[u8], want: &[u8]) -> bool {
-    match by {
+fn made_by(by: &By, text: &[u8], want: &[u8]) -> bool {
+    match *by {
         By::Small => makes(&GcmSegment::new(SMALL_KEY), &NONCE[..12], text, want),
         By::Large => makes(&GcmSegment::new(LARGE_KEY), &NONCE[..12], text, want),
         By::Sha512 => makes(&sha512(), NONCE, text, want),
@@ -150,8 +147,8 @@ fn made_by(by: By, text: &[u8], want: &[u8]) -> bool {
     }
 }
 
-fn opened_by(by: By, nonce: &[u8; 16], segment: &[u8], want: &[u8]) -> Result<bool, Kind> {
-    match by {
+fn opened_by(by: &By, nonce: &[u8; 16], segment: &[u8], want: &[u8]) -> Result<bool, TinkError> {
+    match *by {
         By::Small => opens(&GcmSegment::new(SMALL_KEY), &nonce[..12], segment, want),
         By::Large => opens(&GcmSegment::new(LARGE_KEY), &nonce[..12], segment, want),
         By::Sha512 => opens(&sha512(), nonce, segment, want),
@@ -159,8 +156,8 @@ fn opened_by(by: By, nonce: &[u8; 16], segment: &[u8], want: &[u8]) -> Result<bo
     }
 }
 
-fn own_segment(alloc: Global, own: Own) -> Result<Bytes, TinkError> {
-    match own {
+fn own_segment(alloc: Global, own: &Own) -> Result<Bytes, TinkError> {
+    match *own {
         Own::Small => segment_by_gcm(
             alloc,
             SMALL_KEY,
@@ -172,8 +169,8 @@ fn own_segment(alloc: Global, own: Own) -> Result<Bytes, TinkError> {
     }
 }
 
-fn own_text(alloc: Global, own: Own) -> Result<Bytes, TinkError> {
-    match own {
+fn own_text(alloc: Global, own: &Own) -> Result<Bytes, TinkError> {
+    match *own {
         Own::Small => GcmSegment::new(SMALL_KEY).decrypt_segment(alloc, SMALL, &NONCE[..12]),
         Own::GcmKind => gcm_kind().decrypt_segment(alloc, LARGE, &NONCE[..12]),
         Own::CtrHmacKind => ctr_hmac_kind().decrypt_segment(alloc, SHA256, SMALL_KEY),
@@ -181,52 +178,70 @@ fn own_text(alloc: Global, own: Own) -> Result<Bytes, TinkError> {
 }
 
 // Whether what came in memory of its own is this.
-fn is(told: Result<Bytes, TinkError>, want: &[u8]) -> Result<bool, Kind> {
+fn is(told: Result<Bytes, TinkError>, want: &[u8]) -> Result<bool, TinkError> {
     match told {
         Ok(bytes) => Ok(bytes.as_slice() == want),
-        Err(e) => Err(e.kind),
+        Err(e) => Err(e),
     }
 }
 
-// Whether the segment of a text of so many bytes is the same where it is made in the text's place, whatever stands
-// behind the text.
+// Whether the segment of a text is the same where it is made in the text's place, whatever stands behind the text.
+fn are_same<E: SegmentEncrypter>(
+    cipher: &E,
+    nonce: &[u8],
+    text: &[u8],
+    want: &mut [u8; 320],
+    got: &mut [u8; 320],
+) -> bool
+    requires nonce { length nonce.now ≡ E.nonce_length cipher.now }
+    requires overhead { E.overhead_of cipher.now ≤ 20 }
+    requires text { length text.now ≤ 300 }
+{
+    let size = text.len() + cipher.overhead();
+    let want = &mut want[..size];
+    let got = &mut got[..size];
+    cipher.encrypt_segment_into(text, nonce, want);
+    got[..text.len()].copy_from_slice(text);
+    cipher.encrypt_segment_in_place(got, nonce);
+    *got == *want
+}
+
+// Whether it is for a text of so many bytes.
 fn is_same_in_place<E: SegmentEncrypter>(cipher: &E, nonce: &[u8], n: usize) -> bool
     requires nonce { length nonce.now ≡ E.nonce_length cipher.now }
     requires overhead { E.overhead_of cipher.now ≤ 20 }
 {
-    let n = n.min(300);
-    let size = n + cipher.overhead();
     let mut text = [0u8; 300];
     for i in 0..300 {
         text[i] = (i % 251) as u8;
     }
-    let mut want = [0u8; 320];
-    cipher.encrypt_segment_into(&text[..n], nonce, &mut want[..size]);
-    let mut got = [0xa5u8; 320];
-    got[..n].copy_from_slice(&text[..n]);
-    cipher.encrypt_segment_in_place(&mut got[..size], nonce);
-    got[..size] == want[..size]
+    let text = &text[..n.min(300)];
+    are_same(cipher, nonce, text, &mut [0; 320], &mut [0xa5; 320])
 }
 
 fn has_overhead(cipher: StreamSegment, want: usize) -> bool {
     SegmentEncrypter::overhead(&cipher) == want && SegmentDecrypter::overhead(&cipher) == want
 }
 
-fn answered(alloc: Global, asked: Asked) -> Result<bool, Kind> {
-    match asked {
-        Asked::Makes(by, text, want) => Ok(made_by(by, text, want)),
-        Asked::Opens(by, nonce, segment, want) => opened_by(by, nonce, segment, want),
-        Asked::MakesOwn(own, want) => is(own_segment(alloc, own), want),
-        Asked::OpensOwn(own) => is(own_text(alloc, own), TEXT),
-        Asked::GcmInPlace(n) => Ok(is_same_in_place(&GcmSegment::new(SMALL_KEY), &NONCE[..12], n)),
-        Asked::CtrHmacInPlace(n) => Ok(is_same_in_place(&sha256(), SMALL_KEY, n)),
-        Asked::Overhead(n) => Ok(has_overhead(gcm_kind(), n)),
+impl Ask<()> for Asked {
+    fn answer(&self, alloc: Global, _of: &mut ()) -> Result<bool, TinkError> {
+        match *self {
+            Asked::Makes(ref by, text, want) => Ok(made_by(by, text, want)),
+            Asked::Opens(ref by, nonce, segment, want) => opened_by(by, nonce, segment, want),
+            Asked::MakesOwn(ref own, want) => is(own_segment(alloc, own), want),
+            Asked::OpensOwn(ref own) => is(own_text(alloc, own), TEXT),
+            Asked::GcmInPlace(n) => {
+                Ok(is_same_in_place(&GcmSegment::new(SMALL_KEY), &NONCE[..12], n))
+            }
+            Asked::CtrHmacInPlace(n) => Ok(is_same_in_place(&sha256(), SMALL_KEY, n)),
+            Asked::Overhead(n) => Ok(has_overhead(gcm_kind(), n)),
+        }
     }
 }
 
-const REFUSED: Result<bool, Kind> = Err(Kind::DecryptFailed);
+const REFUSED: Answer = Err(Kind::DecryptFailed);
 
-const ROWS: &[(&str, Asked, Result<bool, Kind>)] = &[
+const GCM_ROWS: &[(&str, Asked, Answer)] = &[
     ("small key", Asked::Makes(By::Small, TEXT, SMALL), Ok(true)),
     (
         "small key, opened",
@@ -307,7 +322,10 @@ const ROWS: &[(&str, Asked, Result<bool, Kind>)] = &[
         ),
         REFUSED,
     ),
-    // in counter mode
+];
+
+// In counter mode.
+const CTR_HMAC_ROWS: &[(&str, Asked, Answer)] = &[
     ("SHA-512", Asked::Makes(By::Sha512, TEXT, SHA512), Ok(true)),
     (
         "SHA-512, opened",
@@ -360,7 +378,10 @@ const ROWS: &[(&str, Asked, Result<bool, Kind>)] = &[
         ),
         REFUSED,
     ),
-    // in memory of its own
+];
+
+// In memory of its own, and in the text's place.
+const OWN_ROWS: &[(&str, Asked, Answer)] = &[
     ("own", Asked::MakesOwn(Own::Small, SMALL), Ok(true)),
     ("own, opened", Asked::OpensOwn(Own::Small), Ok(true)),
     (
@@ -423,8 +444,14 @@ const ROWS: &[(&str, Asked, Result<bool, Kind>)] = &[
     ),
 ];
 
-pub fn segments_are_made_and_opened(alloc: Global, told: &mut Told) {
-    for (row, asked, want) in ROWS {
-        told.expect(by_error(answered(alloc, *asked)), *want, row);
-    }
+pub fn segments_are_made_and_opened_by_gcm(alloc: Global, told: &mut Told) {
+    told.walk(alloc, (), GCM_ROWS);
+}
+
+pub fn segments_are_made_and_opened_in_counter_mode(alloc: Global, told: &mut Told) {
+    told.walk(alloc, (), CTR_HMAC_ROWS);
+}
+
+pub fn segments_are_made_in_memory_and_in_place(alloc: Global, told: &mut Told) {
+    told.walk(alloc, (), OWN_ROWS);
 }

@@ -1,6 +1,7 @@
 //! Writers to memory, and a stream that Python made.
 
-use crate::comparing::by_error;
+ghost use Rattle.std.specs.Prelude.{◌≡◌, vec_len};
+
 use hash_keys::Hash;
 use std::alloc::Global;
 use tink_io::{Cause, Kind, MemSink, TinkError};
@@ -19,12 +20,13 @@ const SEALED: &[u8; 100] =
 // A sink with room for 200 bytes, whose calls of these numbers fail.
 fn sink(alloc: Global, fails: &[u32]) -> Result<MemSink, TinkError> {
     let mut sink = MemSink::new(alloc, 0, fails.to_vec(alloc)?);
-    sink.reserve(alloc, 200)?;
-    Ok(sink)
+    match sink.reserve(alloc, 200) {
+        Ok(()) => Ok(sink),
+        Err(e) => Err(e),
+    }
 }
 
 // How a writer is made.
-#[derive(Clone, Copy)]
 enum Made {
     // with segments and an offset of these sizes; nonces have 16 bytes, or 11
     Sized(u32, u32),
@@ -47,22 +49,28 @@ fn sized(
     let nonce_size = if is_short { 11 } else { 16 };
     let nonce_prefix = [3u8; 7].to_vec(alloc)?;
     let buffers = WriterBuffers::reserve(alloc, size, nonce_size)?;
-    let params = WriterParams {
-        w: sink(alloc, fails)?,
-        segment_encrypter: CtrHmacSegment::new(&[1; 16], &[2; 32], Hash::Sha256, 10),
-        nonce_size,
-        nonce_prefix,
-        ciphertext_segment_size: size,
-        first_ciphertext_segment_offset: offset,
-    };
-    Writer::new(params, buffers)
+    match sink(alloc, fails) {
+        Ok(w) => Writer::new(
+            WriterParams {
+                w,
+                segment_encrypter: CtrHmacSegment::new(&[1; 16], &[2; 32], Hash::Sha256, 10),
+                nonce_size,
+                nonce_prefix,
+                ciphertext_segment_size: size,
+                first_ciphertext_segment_offset: offset,
+            },
+            buffers,
+        ),
+        Err(e) => Err(e),
+    }
 }
 
-// A writer of such a stream whose next segment has the last number that there is.
-fn at_the_last_number(alloc: Global, fails: &[u32]) -> Result<MemWriter, TinkError> {
-    let sink = sink(alloc, fails)?;
-    let prefix = [3u8; 7].to_vec(alloc)?;
-    let WriterBuffers { segment, nonce } = WriterBuffers::reserve(alloc, 40, 16)?;
+// What makes the segments of such a stream, whose next segment has the last number that there is.
+fn last_segment(prefix: Vec<u8>, buffers: WriterBuffers) -> SegmentWriter<CtrHmacSegment>
+    requires prefix { vec_len prefix ≡ 7 }
+    requires segment { vec_len buffers.segment ≡ 40 }
+    requires nonce { vec_len buffers.nonce ≡ 16 }
+{
     let sealer = Sealer {
         encrypter: CtrHmacSegment::new(&[1; 16], &[2; 32], Hash::Sha256, 10),
         prefix,
@@ -71,19 +79,27 @@ fn at_the_last_number(alloc: Global, fails: &[u32]) -> Result<MemWriter, TinkErr
         first: 18,
         room: 30,
     };
-    let inner = SegmentWriter {
+    SegmentWriter {
         sealer,
         mode: Mode::Open,
         segments: 4294967295,
-        segment,
+        segment: buffers.segment,
         filled: 0,
-        nonce,
-    };
-    Ok(Writer::over(sink, inner))
+        nonce: buffers.nonce,
+    }
+}
+
+// A writer of it.
+fn at_the_last_number(alloc: Global, fails: &[u32]) -> Result<MemWriter, TinkError> {
+    let prefix = [3u8; 7].to_vec(alloc)?;
+    let buffers = WriterBuffers::reserve(alloc, 40, 16)?;
+    match sink(alloc, fails) {
+        Ok(sink) => Ok(Writer::over(sink, last_segment(prefix, buffers))),
+        Err(e) => Err(e),
+    }
 }
 
 // A call of a writer: a write of some bytes, a flush, a close, or how many segments were written.
-#[derive(Clone, Copy)]
 enum Call {
     Write(&'static [u8]),
     Flush,
@@ -91,9 +107,9 @@ enum Call {
     Segments,
 }
 
-type Answer = Result<usize, Kind>;
+type Count = Result<usize, Kind>;
 
-fn count(told: Result<usize, TinkError>) -> Answer {
+fn count(told: Result<usize, TinkError>) -> Count {
     match told {
         Ok(n) => Ok(n),
         Err(e) => Err(e.kind),
@@ -101,7 +117,7 @@ fn count(told: Result<usize, TinkError>) -> Answer {
 }
 
 // The answer of a call that takes no bytes.
-fn done(told: Result<(), TinkError>) -> Answer {
+fn done(told: Result<(), TinkError>) -> Count {
     match told {
         Ok(()) => Ok(0),
         Err(e) => Err(e.kind),
@@ -109,8 +125,8 @@ fn done(told: Result<(), TinkError>) -> Answer {
 }
 
 // What a call answers: how many bytes it took, or its refusal.
-fn answer(writer: &mut MemWriter, call: Call) -> Answer {
-    match call {
+fn answer(writer: &mut MemWriter, call: &Call) -> Count {
+    match *call {
         Call::Write(bytes) => count(writer.write(bytes)),
         Call::Flush => done(writer.flush()),
         Call::Close => done(writer.close()),
@@ -118,9 +134,9 @@ fn answer(writer: &mut MemWriter, call: Call) -> Answer {
     }
 }
 
-fn follows(writer: &mut MemWriter, calls: &[(Call, Answer)]) -> bool {
+fn follows(writer: &mut MemWriter, calls: &[(Call, Count)]) -> bool {
     for (call, want) in calls {
-        if answer(writer, *call) != *want {
+        if answer(writer, call) != *want {
             return false;
         }
     }
@@ -128,28 +144,35 @@ fn follows(writer: &mut MemWriter, calls: &[(Call, Answer)]) -> bool {
 }
 
 // Whether the calls have their answers, and the sink then has so many bytes of the stream.
-fn gives(mut writer: MemWriter, calls: &[(Call, Answer)], n: usize) -> bool {
-    follows(&mut writer, calls) && writer.into_inner().bytes() == &SEALED[..n.min(100)]
+fn gives(mut writer: MemWriter, calls: &[(Call, Count)], n: usize) -> bool {
+    let is_answered = follows(&mut writer, calls);
+    let sink = writer.into_inner();
+    is_answered & (sink.bytes() == &SEALED[..n.min(100)])
 }
 
-fn answered(alloc: Global, row: &Row) -> Result<bool, Kind> {
-    let (_, made, fails, calls, n, _) = *row;
-    let made = match made {
-        Made::Sized(size, offset) => sized(alloc, fails, false, size, offset),
-        Made::ShortNonce(size, offset) => sized(alloc, fails, true, size, offset),
-        Made::AtTheLastNumber => at_the_last_number(alloc, fails),
-    };
-    match made {
-        Ok(writer) => Ok(gives(writer, calls, n)),
-        Err(e) => Err(e.kind),
+// How a writer is made, which calls of its sink fail, its calls, and how many bytes of the stream its sink then has.
+struct Asked(Made, &'static [u32], &'static [(Call, Count)], usize);
+
+impl Ask<()> for Asked {
+    // Why no writer is made, or whether the calls have their answers.
+    fn answer(&self, alloc: Global, _of: &mut ()) -> Result<bool, TinkError> {
+        let made = match self.0 {
+            Made::Sized(size, offset) => sized(alloc, self.1, false, size, offset),
+            Made::ShortNonce(size, offset) => sized(alloc, self.1, true, size, offset),
+            Made::AtTheLastNumber => at_the_last_number(alloc, self.1),
+        };
+        match made {
+            Ok(writer) => Ok(gives(writer, self.2, self.3)),
+            Err(e) => Err(e),
+        }
     }
 }
 
 use Call::{Close, Flush, Segments, Write};
-use tink_testutil::Told;
+use tink_testutil::{Answer, Ask, Told};
 
 // The text in pieces of ten bytes.
-const PIECES: &[(Call, Answer)] = &[
+const PIECES: &[(Call, Count)] = &[
     (Write(b"seventy by"), Ok(10)),
     (Flush, Ok(0)),
     (Write(b"tes of tex"), Ok(10)),
@@ -169,7 +192,7 @@ const PIECES: &[(Call, Answer)] = &[
     (Segments, Ok(3)),
 ];
 
-const CLOSED: &[(Call, Answer)] = &[
+const CLOSED: &[(Call, Count)] = &[
     (Write(TEXT), Ok(70)),
     (Close, Ok(0)),
     (Close, Ok(0)),
@@ -180,21 +203,21 @@ const CLOSED: &[(Call, Answer)] = &[
 ];
 
 // The first segment has 18 bytes of the text.
-const HELD: &[(Call, Answer)] = &[
+const HELD: &[(Call, Count)] = &[
     (Write(b"seventy bytes of t"), Ok(18)),
     (Flush, Ok(0)),
     (Segments, Ok(0)),
 ];
 
-const ONE_MORE: &[(Call, Answer)] = &[
+const ONE_MORE: &[(Call, Count)] = &[
     (Write(b"seventy bytes of te"), Ok(19)),
     (Flush, Ok(0)),
     (Segments, Ok(1)),
 ];
 
-const FAILED: Answer = Err(Kind::FailedBefore(Cause::WriteFault));
+const FAILED: Count = Err(Kind::FailedBefore(Cause::WriteFault));
 
-const STAYS_FAILED: &[(Call, Answer)] = &[
+const STAYS_FAILED: &[(Call, Count)] = &[
     (Write(TEXT), Err(Kind::WriteFault)),
     (Write(b"more"), FAILED),
     (Close, FAILED),
@@ -203,7 +226,7 @@ const STAYS_FAILED: &[(Call, Answer)] = &[
     (Segments, Ok(1)),
 ];
 
-const CLOSE_FAILS: &[(Call, Answer)] = &[
+const CLOSE_FAILS: &[(Call, Count)] = &[
     (Write(b"seventy bytes of t"), Ok(18)),
     (Close, Err(Kind::WriteFault)),
     (Close, FAILED),
@@ -211,9 +234,9 @@ const CLOSE_FAILS: &[(Call, Answer)] = &[
     (Segments, Ok(0)),
 ];
 
-const TOO_MANY: Answer = Err(Kind::FailedBefore(Cause::TooManySegments));
+const TOO_MANY: Count = Err(Kind::FailedBefore(Cause::TooManySegments));
 
-const BEHIND_THE_LAST: &[(Call, Answer)] = &[
+const BEHIND_THE_LAST: &[(Call, Count)] = &[
     (Write(b"seventy bytes of text, which t"), Ok(30)),
     (Write(b"t"), Err(Kind::TooManySegments)),
     (Write(&[]), TOO_MANY),
@@ -221,129 +244,81 @@ const BEHIND_THE_LAST: &[(Call, Answer)] = &[
     (Segments, Ok(4294967295)),
 ];
 
-// How a writer is made, which calls of its sink fail, its calls, and how many bytes of the stream its sink then has; or
-// why no writer is made.
-type Row = (
-    &'static str,
-    Made,
-    &'static [u32],
-    &'static [(Call, Answer)],
-    usize,
-    Result<bool, Kind>,
-);
-
-const ROWS: &[Row] = &[
+const SEALED_ROWS: &[(&str, Asked, Answer)] = &[
     (
         "pieces give the same stream",
-        OPENED,
-        &[],
-        PIECES,
-        100,
+        Asked(OPENED, &[], PIECES, 100),
         Ok(true),
     ),
     (
         "a closed writer writes nothing",
-        OPENED,
-        &[],
-        CLOSED,
-        100,
+        Asked(OPENED, &[], CLOSED, 100),
         Ok(true),
     ),
     (
         "the last segment comes at close alone",
-        OPENED,
-        &[],
-        HELD,
-        0,
+        Asked(OPENED, &[], HELD, 0),
         Ok(true),
     ),
     (
         "a segment comes with the byte behind it",
-        OPENED,
-        &[],
-        ONE_MORE,
-        28,
+        Asked(OPENED, &[], ONE_MORE, 28),
         Ok(true),
     ),
     (
         "a failed writer stays failed",
-        OPENED,
-        &[2],
-        STAYS_FAILED,
-        28,
+        Asked(OPENED, &[2], STAYS_FAILED, 28),
         Ok(true),
     ),
     (
         "a close that fails is kept",
-        OPENED,
-        &[1],
-        CLOSE_FAILS,
-        0,
+        Asked(OPENED, &[1], CLOSE_FAILS, 0),
         Ok(true),
     ),
     (
         "text behind the last number is refused",
-        Made::AtTheLastNumber,
-        &[],
-        BEHIND_THE_LAST,
-        0,
+        Asked(Made::AtTheLastNumber, &[], BEHIND_THE_LAST, 0),
         Ok(true),
     ),
-    // a writer has room, or is refused
+];
+
+// A writer has room, or is refused.
+const MADE_ROWS: &[(&str, Asked, Answer)] = &[
     (
         "short nonce, 40, 41",
-        Made::ShortNonce(40, 41),
-        &[],
-        &[],
-        0,
+        Asked(Made::ShortNonce(40, 41), &[], &[], 0),
         Err(Kind::NonceTooShort),
     ),
     (
         "short nonce, 40, 12",
-        Made::ShortNonce(40, 12),
-        &[],
-        &[],
-        0,
+        Asked(Made::ShortNonce(40, 12), &[], &[], 0),
         Err(Kind::NonceTooShort),
     ),
     (
         "40, 41",
-        Made::Sized(40, 41),
-        &[],
-        &[],
-        0,
+        Asked(Made::Sized(40, 41), &[], &[], 0),
         Err(Kind::OffsetTooBig),
     ),
     (
         "40, 40",
-        Made::Sized(40, 40),
-        &[],
-        &[],
-        0,
+        Asked(Made::Sized(40, 40), &[], &[], 0),
         Err(Kind::SegmentTooSmall),
     ),
     (
         "40, 30",
-        Made::Sized(40, 30),
-        &[],
-        &[],
-        0,
+        Asked(Made::Sized(40, 30), &[], &[], 0),
         Err(Kind::SegmentTooSmall),
     ),
     (
         "0, 0",
-        Made::Sized(0, 0),
-        &[],
-        &[],
-        0,
+        Asked(Made::Sized(0, 0), &[], &[], 0),
         Err(Kind::SegmentTooSmall),
     ),
-    ("40, 29", Made::Sized(40, 29), &[], &[], 0, Ok(true)),
-    ("11, 0", Made::Sized(11, 0), &[], &[], 0, Ok(true)),
+    ("40, 29", Asked(Made::Sized(40, 29), &[], &[], 0), Ok(true)),
+    ("11, 0", Asked(Made::Sized(11, 0), &[], &[], 0), Ok(true)),
 ];
 
 pub fn writers_answer_as_the_rows_say(alloc: Global, told: &mut Told) {
-    for row in ROWS {
-        told.expect(by_error(answered(alloc, row)), row.5, row.0);
-    }
+    told.walk(alloc, (), SEALED_ROWS);
+    told.walk(alloc, (), MADE_ROWS);
 }
