@@ -45,22 +45,22 @@ fn new_handle<M: KeyManager>(
     }
 }
 
-// The AEAD of one new key.
-fn aead_in<M: KeyManager, P: Aead>(
+// The AEADs of a handle's keys.
+fn aead_of<M: KeyManager, P: Aead>(
     alloc: Global,
     registry: &Registry<M>,
-    kt: &KeyTemplate,
+    h: Result<Handle, TinkError>,
 ) -> Result<WrappedAead<P>, TinkError>
 where
     M::Family: Kinds<Aead = P>,
 {
-    match new_handle(alloc, registry, kt) {
+    match h {
         Ok(h) => new(alloc, &h, registry),
         Err(e) => Err(e),
     }
 }
 
-// The same in a registry of its manager.
+// Those of one new key, in a registry of its manager.
 fn aead_by<M: KeyManager + Drop, P: Aead>(
     alloc: Global,
     manager: M,
@@ -70,7 +70,7 @@ where
     M::Family: Kinds<Aead = P>,
 {
     match registry_of(alloc, manager) {
-        Ok(registry) => aead_in(alloc, &registry, kt),
+        Ok(registry) => aead_of(alloc, &registry, new_handle(alloc, &registry, kt)),
         Err(e) => Err(e),
     }
 }
@@ -219,24 +219,6 @@ pub fn texts_by_new_keys(alloc: Global, told: &mut Told) {
 
 // ---- keysets of two keys
 
-fn aead_of_handle(alloc: Global, h: &Handle) -> Result<WrappedAead<AeadKind>, TinkError> {
-    match registry_of(alloc, AesGcmKeyManager::new()) {
-        Ok(registry) => new(alloc, h, &registry),
-        Err(e) => Err(e),
-    }
-}
-
-// The AEADs of these keys.
-fn aead_of(
-    alloc: Global,
-    h: Result<Handle, TinkError>,
-) -> Result<WrappedAead<AeadKind>, TinkError> {
-    match h {
-        Ok(h) => aead_of_handle(alloc, &h),
-        Err(e) => Err(e),
-    }
-}
-
 fn is_sealed(
     alloc: Global,
     aead: &WrappedAead<AeadKind>,
@@ -283,21 +265,40 @@ impl Ask<WrappedAead<AeadKind>> for Call {
     }
 }
 
-fn asked_of(alloc: Global, keys: &[u8], call: &Call) -> Result<bool, TinkError> {
-    asked(alloc, aead_of(alloc, handle(alloc, keys)), call)
+fn asked_of(
+    alloc: Global,
+    registry: &Registry<AesGcmKeyManager>,
+    keys: &[u8],
+    call: &Call,
+) -> Result<bool, TinkError> {
+    asked(alloc, aead_of(alloc, registry, handle(alloc, keys)), call)
 }
 
-// Whether the first keys make of `abc` what is said, and the second open what is said.
-fn goes_there_and_back(
-    alloc: Global,
-    keys: &[u8],
-    seals: &Call,
-    others: &[u8],
-    opens: &Call,
-) -> Result<bool, TinkError> {
-    match asked_of(alloc, keys, seals) {
-        Ok(true) => asked_of(alloc, others, opens),
-        other => other,
+enum Asked {
+    // What is asked of the AEADs of these keys.
+    Keys(&'static [u8], Call),
+    // The same, and then of those of the others.
+    Both(&'static [u8], Call, &'static [u8], Call),
+    // What is encrypted before a rotation and after it is decrypted.
+    Rotation,
+}
+
+impl Ask<Registry<AesGcmKeyManager>> for Asked {
+    fn answer(
+        &self,
+        alloc: Global,
+        registry: &mut Registry<AesGcmKeyManager>,
+    ) -> Result<bool, TinkError> {
+        match *self {
+            Asked::Keys(keys, ref call) => asked_of(alloc, registry, keys, call),
+            Asked::Both(keys, ref call, others, ref then) => {
+                match asked_of(alloc, registry, keys, call) {
+                    Ok(true) => asked_of(alloc, registry, others, then),
+                    other => other,
+                }
+            }
+            Asked::Rotation => rotates(alloc, registry),
+        }
     }
 }
 
@@ -320,82 +321,84 @@ const BY_RAW: &[u8] =
     b"\x09\x09\x09\x09\x09\x09\x09\x09\x09\x09\x09\x09\x25\xda\x43\xdc\x2b\x13\xcf\x2a\x30\x0c\xf3\x10\x13\x59\x2a\xa9\x6c\xec\x22";
 
 // The keys that make it, the draws and what they make, and the keys that open it.
-type Sealing = (
-    &'static str,
-    &'static [u8],
-    Call,
-    &'static [u8],
-    Call,
-    Answer,
-);
-
-const SEALINGS: &[Sealing] = &[
+const KEYSETS: &[(&str, Asked, Answer)] = &[
     (
         "a prefixed key's, by its keyset",
-        PREFIXED_FIRST,
-        Call::Seal(12, BY_PREFIXED),
-        PREFIXED_FIRST,
-        Call::Open(BY_PREFIXED),
+        Asked::Both(
+            PREFIXED_FIRST,
+            Call::Seal(12, BY_PREFIXED),
+            PREFIXED_FIRST,
+            Call::Open(BY_PREFIXED),
+        ),
         Ok(true),
     ),
     (
         "a prefixed key's, by a raw one first",
-        PREFIXED_FIRST,
-        Call::Seal(12, BY_PREFIXED),
-        RAW_FIRST,
-        Call::Open(BY_PREFIXED),
+        Asked::Both(
+            PREFIXED_FIRST,
+            Call::Seal(12, BY_PREFIXED),
+            RAW_FIRST,
+            Call::Open(BY_PREFIXED),
+        ),
         Ok(true),
     ),
     (
         "a prefixed key's, by other keys",
-        PREFIXED_FIRST,
-        Call::Seal(12, BY_PREFIXED),
-        OTHERS,
-        Call::Open(BY_PREFIXED),
+        Asked::Both(
+            PREFIXED_FIRST,
+            Call::Seal(12, BY_PREFIXED),
+            OTHERS,
+            Call::Open(BY_PREFIXED),
+        ),
         FAILED,
     ),
     (
         "a raw key's, by its keyset",
-        RAW_FIRST,
-        Call::Seal(12, BY_RAW),
-        RAW_FIRST,
-        Call::Open(BY_RAW),
+        Asked::Both(
+            RAW_FIRST,
+            Call::Seal(12, BY_RAW),
+            RAW_FIRST,
+            Call::Open(BY_RAW),
+        ),
         Ok(true),
     ),
     (
         "a raw key's, by a prefixed one first",
-        RAW_FIRST,
-        Call::Seal(12, BY_RAW),
-        PREFIXED_FIRST,
-        Call::Open(BY_RAW),
+        Asked::Both(
+            RAW_FIRST,
+            Call::Seal(12, BY_RAW),
+            PREFIXED_FIRST,
+            Call::Open(BY_RAW),
+        ),
         Ok(true),
     ),
     (
         "a raw key's, by other keys",
-        RAW_FIRST,
-        Call::Seal(12, BY_RAW),
-        OTHERS,
-        Call::Open(BY_RAW),
+        Asked::Both(
+            RAW_FIRST,
+            Call::Seal(12, BY_RAW),
+            OTHERS,
+            Call::Open(BY_RAW),
+        ),
         FAILED,
     ),
     (
         "too few draws",
-        PREFIXED_FIRST,
-        Call::Seal(11, BY_PREFIXED),
-        PREFIXED_FIRST,
-        Call::Open(BY_PREFIXED),
+        Asked::Both(
+            PREFIXED_FIRST,
+            Call::Seal(11, BY_PREFIXED),
+            PREFIXED_FIRST,
+            Call::Open(BY_PREFIXED),
+        ),
         Err(Kind::RandomFault),
     ),
+    (
+        "a prefix alone",
+        Asked::Keys(PREFIXED_FIRST, Call::Open(b"\x01\x00\x00\x00\x01")),
+        FAILED,
+    ),
+    ("both ciphertexts of a rotation", Asked::Rotation, Ok(true)),
 ];
-
-pub fn keys_of_a_keyset_decrypt(alloc: Global, told: &mut Told) {
-    for (row, keys, seals, others, opens, want) in SEALINGS {
-        let got = goes_there_and_back(alloc, keys, seals, others, opens);
-        told.expect(got, *want, row);
-    }
-    let alone = asked_of(alloc, PREFIXED_FIRST, &Call::Open(b"\x01\x00\x00\x00\x01"));
-    told.expect(alone, FAILED, "a prefix alone");
-}
 
 // ---- a rotation
 
@@ -461,7 +464,7 @@ fn outlives_a_rotation(
     match asked(alloc, new(alloc, &h, registry), &Call::Seal(12, OLD)) {
         Ok(true) => asked(
             alloc,
-            aead_of(alloc, rotated(alloc, registry, kt, h)),
+            aead_of(alloc, registry, rotated(alloc, registry, kt, h)),
             &Later,
         ),
         other => other,
@@ -479,21 +482,16 @@ fn rotates_by(
     }
 }
 
-fn rotates_in(alloc: Global, registry: &Registry<AesGcmKeyManager>) -> Result<bool, TinkError> {
+fn rotates(alloc: Global, registry: &Registry<AesGcmKeyManager>) -> Result<bool, TinkError> {
     match aes128_gcm_key_template(alloc) {
         Ok(kt) => rotates_by(alloc, registry, &kt),
         Err(e) => Err(e),
     }
 }
 
-fn rotates(alloc: Global) -> Result<bool, TinkError> {
-    match registry_of(alloc, AesGcmKeyManager::new()) {
-        Ok(registry) => rotates_in(alloc, &registry),
-        Err(e) => Err(e),
-    }
-}
-
-pub fn old_ciphertexts_are_decrypted_after_a_rotation(alloc: Global, told: &mut Told) {
-    told.expect(rotates(alloc), Ok(true), "both ciphertexts");
+/// Each row of a keyset, and that the law holds of these types.
+pub fn keysets_are_as_the_rows_say(alloc: Global, told: &mut Told) {
+    let made = registry_of(alloc, AesGcmKeyManager::new());
+    told.walk_made(alloc, made, "the registry", KEYSETS);
     law_ciphertexts_outlive_commands::<AesGcmKeyManager, AeadKind>();
 }

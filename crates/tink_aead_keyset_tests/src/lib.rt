@@ -11,8 +11,7 @@ use tink_testutil::Told;
 pub fn rows(alloc: Global) -> Told {
     let mut told = Told::new();
     keyset_tests::texts_by_new_keys(alloc, &mut told);
-    keyset_tests::keys_of_a_keyset_decrypt(alloc, &mut told);
-    keyset_tests::old_ciphertexts_are_decrypted_after_a_rotation(alloc, &mut told);
+    keyset_tests::keysets_are_as_the_rows_say(alloc, &mut told);
     master_tests::a_keyset_is_kept_in_memory_and_in_a_text(alloc, &mut told);
     told
 }

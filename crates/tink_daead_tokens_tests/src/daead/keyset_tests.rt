@@ -15,8 +15,8 @@ use tink_daead::{
 };
 use tink_proto::Bytes;
 use tink_testutil::{
-    Answer, Ask, NamedRegistry, Template, Told, draws_of, gives, is_made_and_registered, made,
-    registry_of,
+    Answer, Ask, NamedRegistry, Template, Told, asked, draws_of, gives, is_made_and_registered,
+    made, registry_of,
 };
 
 /// The primary key's prefix and its encryption of a text with associated data.
@@ -126,23 +126,18 @@ fn copy_opens(
     }
 }
 
-fn answered(
-    alloc: Global,
-    aead: &WrappedDeterministicAead<AesSiv>,
-    call: &Call,
-) -> Result<bool, TinkError> {
-    match *call {
-        Call::Make => Ok(true),
-        Call::Seal(want) => gives(sealed_by(aead, alloc, b"abc", b"data"), want),
-        Call::Open(bytes) => opens(alloc, aead, bytes),
-        Call::Copy(bytes) => copy_opens(alloc, aead, bytes),
-    }
-}
-
-fn answered_by(alloc: Global, primary: u32, call: &Call) -> Result<bool, TinkError> {
-    match two_keys(alloc, primary) {
-        Ok(aead) => answered(alloc, &aead, call),
-        Err(e) => Err(e),
+impl Ask<WrappedDeterministicAead<AesSiv>> for Call {
+    fn answer(
+        &self,
+        alloc: Global,
+        aead: &mut WrappedDeterministicAead<AesSiv>,
+    ) -> Result<bool, TinkError> {
+        match *self {
+            Call::Make => Ok(true),
+            Call::Seal(want) => gives(sealed_by(aead, alloc, b"abc", b"data"), want),
+            Call::Open(bytes) => opens(alloc, aead, bytes),
+            Call::Copy(bytes) => copy_opens(alloc, aead, bytes),
+        }
     }
 }
 
@@ -157,7 +152,7 @@ impl Ask<NamedRegistry> for Asked {
             Asked::Template => {
                 is_made_and_registered(registry, &TEMPLATE, aes_siv_key_template(alloc))
             }
-            Asked::Keyset(primary, ref call) => answered_by(alloc, primary, call),
+            Asked::Keyset(primary, ref call) => asked(alloc, two_keys(alloc, primary), call),
         }
     }
 }

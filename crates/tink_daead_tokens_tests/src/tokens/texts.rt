@@ -7,7 +7,7 @@ use tink_core::{Kind, Mac, TinkError};
 use tink_mac::tokens::{sign, verify};
 use tink_mac::{MacKind, WrappedMac};
 use tink_proto::{Bytes, Text};
-use tink_testutil::{gives, kind_of, made};
+use tink_testutil::{Ask, gives, kind_of, made};
 
 /// The token of `{"sub":1}` under the keyset that the draws make by the template `HMAC_SHA256_128BITTAG`.
 pub const TOKEN: &[u8; 41] = b"eyJzdWIiOjF9.AdpBWXyINi9jd9wXbJ4V_sGWBPqU";
@@ -24,17 +24,14 @@ pub enum Asked {
     NoOther,
 }
 
-/// What they answer.
-pub fn answered(
-    alloc: Global,
-    macs: &WrappedMac<MacKind>,
-    asked: &Asked,
-) -> Result<bool, TinkError> {
-    match asked {
-        Asked::Sign(payload, token) => is_signed(alloc, macs, payload, token),
-        Asked::Verify(text) => made(verify(alloc, macs, text)),
-        Asked::ComeBack => come_back(alloc, macs),
-        Asked::NoOther => Ok(are_refused_at_all(alloc, macs)),
+impl Ask<WrappedMac<MacKind>> for Asked {
+    fn answer(&self, alloc: Global, macs: &mut WrappedMac<MacKind>) -> Result<bool, TinkError> {
+        match *self {
+            Asked::Sign(payload, token) => is_signed(alloc, macs, payload, token),
+            Asked::Verify(text) => made(verify(alloc, macs, text)),
+            Asked::ComeBack => come_back(alloc, macs),
+            Asked::NoOther => Ok(are_refused_at_all(alloc, macs)),
+        }
     }
 }
 
@@ -46,10 +43,8 @@ fn there_and_back<P: Mac>(
 ) -> Result<Bytes, TinkError>
     ensures { IfOk result (λ back. back ≡ payload.now) }
 {
-    match sign(alloc, mac, payload) {
-        Ok(token) => verify(alloc, mac, token.as_bytes()),
-        Err(e) => Err(e),
-    }
+    let token = sign(alloc, mac, payload)?;
+    verify(alloc, mac, token.as_bytes())
 }
 
 fn is_token(made: Result<Text, TinkError>, token: &[u8]) -> Result<bool, TinkError> {
