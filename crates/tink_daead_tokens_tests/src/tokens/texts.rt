@@ -128,6 +128,7 @@ fn is_refused_changed(
 
 // Whether what begins the token is refused, and the token without a byte there, with another and with one more.
 fn are_refused_at_all(alloc: Global, macs: &WrappedMac<MacKind>) -> bool {
+    // The token, and those without the byte at the place, and with one more before it. The place moves through them.
     let mut token = *TOKEN;
     let mut less = *b"yJzdWIiOjF9.AdpBWXyINi9jd9wXbJ4V_sGWBPqU";
     let mut more = *b"-eyJzdWIiOjF9.AdpBWXyINi9jd9wXbJ4V_sGWBPqU";
