@@ -109,24 +109,17 @@ fn seals(alloc: Global, draws: &mut Draws, stream: &mut SureSink) -> Result<bool
     }
 }
 
-// Whether a byte was moved to a front, the byte and a tag. A refusal is handed on where nothing was written or drawn.
-fn is_all_or_nothing(
-    answer: Result<Report, TinkError>,
-    written: usize,
-    left: usize,
-) -> Result<bool, TinkError> {
+// Whether a stream of one byte is moved to a front, the byte and a tag. A refusal is handed on where nothing was
+// written or drawn.
+fn moves(alloc: Global, draws: &mut Draws, moved: &mut SureSink) -> Result<bool, TinkError> {
+    let mut stream = SureSource::new(stream_of(alloc, CTR_35, 1)?);
+    let answer = move_stream(alloc, CTR_35, GCM_41, draws, &mut stream, moved);
+    let (written, left) = (moved.bytes().len(), draws.left());
     match answer {
         Ok(it) => Ok(it.segments == 1 && it.bytes == 1 && written == 41 && left == 0),
         Err(e) if written == 0 && left == 23 => Err(e),
         Err(_) => Ok(false),
     }
-}
-
-// Whether a stream of one byte is moved so.
-fn moves(alloc: Global, draws: &mut Draws, moved: &mut SureSink) -> Result<bool, TinkError> {
-    let mut stream = SureSource::new(stream_of(alloc, CTR_35, 1)?);
-    let answer = move_stream(alloc, CTR_35, GCM_41, draws, &mut stream, moved);
-    is_all_or_nothing(answer, moved.bytes().len(), draws.left())
 }
 
 // What is done with 23 draws and a sink.
