@@ -1,4 +1,4 @@
-//! The test of each crate of rows on the primitives of keys and on streams: no row of it fails.
+//! The test of each crate of rows on the primitives of keys: no row of it fails.
 #![tactic(auto)]
 
 #[cfg(test)]

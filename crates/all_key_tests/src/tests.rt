@@ -1,5 +1,4 @@
-//! One test a crate of rows. The rows stand in libraries, so that one test program is linked with all primitives and
-//! streams.
+//! One test a crate of rows. The rows stand in libraries, so that one test program is linked with all primitives.
 
 use std::process::Abort;
 use tink_testutil::Told;
@@ -37,29 +36,4 @@ fn keysets_of_aeads(rt: HostRuntime) {
 #[test]
 fn deterministic_aeads_and_tokens(rt: HostRuntime) {
     hold(&rt, tink_daead_tokens_tests::rows(rt.alloc()));
-}
-
-#[test]
-fn segments_writers_and_readers(rt: HostRuntime) {
-    hold(&rt, tink_streams_tests::rows(rt.alloc()));
-}
-
-#[test]
-fn keys_of_streams(rt: HostRuntime) {
-    hold(&rt, tink_stream_keys_tests::rows(rt.alloc()));
-}
-
-#[test]
-fn types_of_keys_of_streams(rt: HostRuntime) {
-    hold(&rt, tink_stream_key_types_tests::rows(rt.alloc()));
-}
-
-#[test]
-fn streaming_aeads(rt: HostRuntime) {
-    hold(&rt, tink_streaming_aead_tests::rows(rt.alloc()));
-}
-
-#[test]
-fn ranges_and_large_texts(rt: HostRuntime) {
-    hold(&rt, tink_range_tests::rows(rt.alloc()));
 }
