@@ -320,7 +320,7 @@ const BY_PREFIXED: &[u8] =
 const BY_RAW: &[u8] =
     b"\x09\x09\x09\x09\x09\x09\x09\x09\x09\x09\x09\x09\x25\xda\x43\xdc\x2b\x13\xcf\x2a\x30\x0c\xf3\x10\x13\x59\x2a\xa9\x6c\xec\x22";
 
-// The keys that make it, the draws and what they make, and the keys that open it.
+// What the AEAD of one keyset is asked, and then, in a row of both, that of another.
 const KEYSETS: &[(&str, Asked, Answer)] = &[
     (
         "a prefixed key's, by its keyset",
