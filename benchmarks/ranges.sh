@@ -1,5 +1,5 @@
 #!/usr/bin/env bash
-# Times ranges of 4 KB at random places of a sealed file of 256 MB and of one of 1 GB, each by one run of the program,
+# Times ranges of 4 KiB at random places of a sealed file of 256 MiB and of one of 1 GiB, each by one run of the program,
 # and beside them runs that open one segment: the least time of three rounds, or of as many as the first word says.
 # docs/BENCHMARKS.md says what is measured. First proves and builds what is due. It needs python3 and 3 GB of disk.
 set -euo pipefail
