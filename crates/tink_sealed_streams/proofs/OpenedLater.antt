@@ -65,7 +65,7 @@ module _ (keyset aad : List ℕ) (set : TypedPrimitiveSet StreamKind) (loads : G
       subst (λ (ks : List OpeningKey). IsChosen ks S c) (map-map (opening_key aad) (λ k. k.key) l.keys)
       ((choose_the_same aad S all own c (are_of_keyset l.keys (loaded_usable keyset l loads.1).0) ordered).0 p)
 
-  has_key : (left : Option (List ℕ)) → IfSome left (λ S. (key : OpeningKey) × IsChosen given S (Some key)) → IfSome left (λ S. (key : OpeningKey) × IsChosen held S (Some key))
+  pub has_key : (left : Option (List ℕ)) → IfSome left (λ S. (key : OpeningKey) × IsChosen given S (Some key)) → IfSome left (λ S. (key : OpeningKey) × IsChosen held S (Some key))
   has_key None x = tt
   has_key (Some S) x = (x.0, same_choice S (Some x.0) x.1)
 

@@ -235,6 +235,29 @@ begun_ends got faults behind waits keys first old (Err e) ended i j k same empty
     inl (end.0, nothing_waits (got (behind j)) (waits j) none ∙ ap got (sym end.1), ap faults (sym end.1))
 begun_ends got faults behind waits keys first old (Err e) ended i j k same empty (inr has) still = inr (subst (λ (left : Option (List ℕ)). IfSome left (λ S. (key : OpeningKey) × IsChosen keys S (Some key))) same has)
 
+-- the key that was chosen, or the sink itself, whatever is answered
+begins_chosen : {K : Type 0} (keys : List OpeningKey) (old : Outside) (answer : Result Report TinkError) (k l : K) → HasKey keys old → LeavesOrBegins keys old answer k l
+begins_chosen keys old (Ok report) k l has = tt
+begins_chosen keys old (Err e) k l has = inr has
+
+left_itself : {K : Type 0} (keys : List OpeningKey) (old : Outside) (answer : Result Report TinkError) (k l : K) → l ≡ k → LeavesOrBegins keys old answer k l
+left_itself keys old (Ok report) k l itself = tt
+left_itself keys old (Err e) k l itself = inl itself
+
+-- a stream that was moved is one of a key
+moved_chosen : (keys : List OpeningKey) (texts : List (List ℕ)) (left : Option (List ℕ)) → IfSome left (λ S. IsOfChosen keys S texts) → IfSome left (λ S. (key : OpeningKey) × IsChosen keys S (Some key))
+moved_chosen keys texts None s = tt
+moved_chosen keys texts (Some S) s = (s.key, s.chosen)
+
+-- so that of the sink behind it, too, a key was chosen, or it is itself as it was
+pub begun_behind : {G K : Type 0} (behind : G → K) (waits : G → List ℕ) (keys : List OpeningKey) (k : StreamKey) (aad draws left_draws : List ℕ) (old mid : Outside) (answer ended : Result Report TinkError) (i j : G) (s t : K) → s ≡ behind i → waits i ≡ []
+    → LeavesOrBegins keys old answer i j → RewrapsUnder keys k aad draws left_draws old mid answer → (waits j ≡ [] → (ended ≡ answer) × (t ≡ behind j)) → LeavesOrBegins keys old ended s t
+begun_behind behind waits keys k aad draws left_draws old mid (Ok report) ended i j s t is empty begun meant still =
+    begins_chosen keys old ended s t (moved_chosen keys meant.means.opened.0.texts old.left meant.means.opened.0.stream)
+begun_behind behind waits keys k aad draws left_draws old mid (Err e) ended i j s t is empty (inl itself) meant still =
+    left_itself keys old ended s t ((still (ap waits itself ∙ empty)).1 ∙ ap behind itself ∙ sym is)
+begun_behind behind waits keys k aad draws left_draws old mid (Err e) ended i j s t is empty (inr has) meant still = begins_chosen keys old ended s t has
+
 -- what was answered over a sink that gathers, for which nothing waited, and how it ended
 pub rewrap_ends_as : (keys : List OpeningKey) (k : StreamKey) (aad draws left_draws : List ℕ) (first old : Outside) (left : Option (List ℕ)) (reads : ℕ) (known told got : Option (List ℕ)) (before now : ℕ) (answer ended : Result Report TinkError)
     → first ≡ old → RewrapsUnder keys k aad draws left_draws first (record { left = left; read_faults = reads; got = told; write_faults = before }) answer

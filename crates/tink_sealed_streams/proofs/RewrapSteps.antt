@@ -23,9 +23,9 @@ use Rattle.tink_run.specs.SealSteps.{kind_not_begun}
 use Rattle.tink_run.proofs.LoadedFacts.{load_refuses}
 use Rattle.tink_run.proofs.SealSteps.{longest_is, no_keys, part_is, stream_is}
 use Rattle.tink_sealed_streams.specs.Passing.{LeadsUnder, OpensWithin, PassMeans, PassRefused, bytes_by, bytes_under, into}
-use Rattle.tink_sealed_streams.specs.Rewrapping.{HasKey, IsPassing, IsUnloaded, RewrapEnds, RewrapMeans, RewrapRefused, RewrapsLoaded, RewrapsUnder, RewrapsUnderRefused, Sides}
+use Rattle.tink_sealed_streams.specs.Rewrapping.{HasKey, IsPassing, IsUnloaded, LeavesOrBegins, LeavesOrBeginsOf, RewrapEnds, RewrapMeans, RewrapRefused, RewrapsLoaded, RewrapsUnder, RewrapsUnderRefused, Sides}
 use Rattle.tink_sealed_streams.proofs.KeySteps.{MakeTheSame, pass_by}
-use Rattle.tink_sealed_streams.proofs.OpenedLater.{stays_opened}
+use Rattle.tink_sealed_streams.proofs.OpenedLater.{has_key, stays_opened}
 use Rattle.tink_sealed_streams.proofs.PassEndings.{rewraps_ended}
 
 -- ---- to a key
@@ -124,6 +124,18 @@ rewraps_keysets s draws left_draws set others key old new answer from to primary
       means = rewraps_ended keys (opening_keys s.from_aad from.0) to.0.primary s.to_aad draws left_draws old new answer (stays_opened s.from s.from_aad set from order old new)
           (subst (λ (k : StreamKey). RewrapEnds keys k s.to_aad draws left_draws old new answer) same r);
     })
+
+-- a key of a set that was loaded is one of its keyset
+pub begun_keyset : {K : Type 0} (s : Sides) (set : TypedPrimitiveSet StreamKind) (old : Outside) (answer : Result Report TinkError) (k l : K) → GivesLoaded (Ok set) (load s.from) → KeepsOrder set.entries
+    → LeavesOrBegins (map (opening_key s.from_aad) (keys_in (all_entries set.entries))) old answer k l → LeavesOrBeginsOf s old answer k l
+begun_keyset s set old (Ok report) k l loads order begun = tt
+begun_keyset s set old (Err e) k l loads order (inl itself) = inl itself
+begun_keyset s set old (Err e) k l loads order (inr has) = inr (loads.0, loads.1, has_key s.from s.from_aad set loads order old.left has)
+
+-- a sink that is as it was is left so by every answer
+pub sink_left : {K : Type 0} (s : Sides) (old : Outside) (answer : Result Report TinkError) (k : K) → LeavesOrBeginsOf s old answer k k
+sink_left s old (Ok report) k = tt
+sink_left s old (Err e) k = inl refl
 
 unloaded : (s : Sides) (draws : List ℕ) (m : Outside) (e : TinkError) (kind : Kind) → IsOfLoading kind → IsUnloaded s kind draws draws m m → RewrapRefused s draws draws m m e kind
 unloaded s draws m e BadKeyset is u = u

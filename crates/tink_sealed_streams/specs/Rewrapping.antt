@@ -73,6 +73,15 @@ pub record Sides : Type 0 where
 abbrev pub sides : List ℕ → List ℕ → List ℕ → List ℕ → Sides
 sides from from_aad to to_aad = record { from = from; from_aad = from_aad; to = to; to_aad = to_aad }
 
+-- the first keyset loads, and a key of it is chosen for the source
+abbrev pub HasKeyOf : Sides → Outside → Type 0
+HasKeyOf s m = (loaded : Loaded) × (load s.from ≡ Ok loaded) × HasKey (opening_keys s.from_aad loaded) m
+
+-- by a refusal a key of the first keyset was chosen, or the sink is itself as it was
+abbrev pub LeavesOrBeginsOf : {K : Type 0} → Sides → Outside → Result Report TinkError → K → K → Type 0
+LeavesOrBeginsOf s old (Ok report) sink sink_after = Unit {0}
+LeavesOrBeginsOf s old (Err e) sink sink_after = (sink_after ≡ sink) ⊎ HasKeyOf s old
+
 -- both keysets were loaded, and this is what the rewrap from the keys of the one to the primary key of the other says
 pub record RewrapsLoaded (s : Sides) (draws left_draws : List ℕ) (old new : Outside) (answer : Result Report TinkError) : Type 0 where
   pub from_loaded : Loaded

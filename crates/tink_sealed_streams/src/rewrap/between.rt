@@ -21,9 +21,14 @@ use tink_streaming_aead::{AES_CTR_HMAC_NONCE_SIZE_IN_BYTES, entries_of, room_of}
 /// another key.
 ///
 /// # Errors
-/// OutOfMemory before anything was read, written or drawn; then RandomFault where too few draws are
-/// left for the new stream, which stay, and UnsupportedHash where its key derives nothing; then
-/// those of `pass_under`, with the draws taken.
+/// `OutOfMemory` before anything was read, written or drawn; then `RandomFault` where too few draws
+/// are left for the new stream, which stay, and `UnsupportedHash` where its key derives nothing,
+/// with nothing read or written; then, with the draws taken:
+/// - `NoMatchingKey` where the source begins under no key of the set, with nothing written;
+/// - `TooManySegments` where the text needs more than 2^32 segments, or bytes follow 2^32 segments
+///   of the source; `Truncated` and `BadSegment` where a later segment is shorter than a tag or that
+///   of no text: what was written has no last segment;
+/// - `ReadFault` and `WriteFault` where an end failed.
 pub fn rewrap_between<S: Source, K: Sink>(
     alloc: Global,
     from: &TypedPrimitiveSet<StreamKind>,

@@ -6,7 +6,7 @@ ghost use Rattle.tink_run.specs.AllKeys.{load};
 ghost use Rattle.tink_run.specs.HeldKeys.{GivesLoaded};
 ghost use Rattle.tink_run.specs.Run.{LeavesEnds, LeavesSinkItself};
 ghost use Rattle.tink_sealed_streams.specs.RewrapReads.{RewrapReadsNoFurther};
-ghost use Rattle.tink_sealed_streams.specs.Rewrapping.{RewrapMeans, sides};
+ghost use Rattle.tink_sealed_streams.specs.Rewrapping.{LeavesOrBeginsOf, RewrapMeans, sides};
 ghost use Rattle.tink_sealed_streams.specs.RewrapPromises.{CompletesRewrap, IsWholeRewrap, LeavesUnended};
 
 use crate::rewrap::together::rewrap_together;
@@ -90,10 +90,14 @@ pub fn rewrap<S: Source, K: Sink>(
         (outside_of S.left S.faults K.got K.faults source.new sink.new)
         result }
 
-    // A refusal that comes before anything was read or written leaves the ends themselves as they were, and
-    // `NoMatchingKey` the sink.
+    // A refusal that comes before anything was read or written leaves the ends themselves as they were, and each that
+    // comes before a key was chosen the sink, `NoMatchingKey` among them.
     ensures early { LeavesEnds result source.old source.new sink.old sink.new }
     ensures unwritten { LeavesSinkItself result sink.old sink.new }
+    ensures begun { LeavesOrBeginsOf
+        (sides from.now from_aad.now to.now to_aad.now)
+        (outside_of S.left S.faults K.got K.faults source.old sink.old)
+        result sink.old sink.new }
     ensures later { FaultsStay (outside_of S.left S.faults K.got K.faults source.old sink.old)
         (outside_of S.left S.faults K.got K.faults source.new sink.new) }
     ensures source { S.same source.old source.new }
@@ -121,6 +125,10 @@ fn answer<S: Source, K: Sink>(
         result }
     ensures early { LeavesEnds result source.old source.new sink.old sink.new }
     ensures unwritten { LeavesSinkItself result sink.old sink.new }
+    ensures begun { LeavesOrBeginsOf
+        (sides from.now from_aad.now to.now to_aad.now)
+        (outside_of S.left S.faults K.got K.faults source.old sink.old)
+        result sink.old sink.new }
     ensures later { FaultsStay (outside_of S.left S.faults K.got K.faults source.old sink.old)
         (outside_of S.left S.faults K.got K.faults source.new sink.new) }
     ensures source { S.same source.old source.new }
@@ -152,6 +160,11 @@ fn answer_by<S: Source, K: Sink>(
         result }
     ensures early { LeavesEnds result source.old source.new sink.old sink.new }
     ensures unwritten { LeavesSinkItself result sink.old sink.new }
+    ensures begun { (from : List ℕ) → GivesLoaded (Ok keys.now) (load from)
+        → LeavesOrBeginsOf
+        (sides from from_aad.now to.now to_aad.now)
+        (outside_of S.left S.faults K.got K.faults source.old sink.old)
+        result sink.old sink.new }
     ensures later { FaultsStay (outside_of S.left S.faults K.got K.faults source.old sink.old)
         (outside_of S.left S.faults K.got K.faults source.new sink.new) }
     ensures source { S.same source.old source.new }

@@ -6,7 +6,7 @@ ghost use Rattle.tink_stream_keys.specs.StreamKinds.{key_in_set};
 ghost use Rattle.tink_streaming_aead.specs.Wrapped.{KeepsOrder, all_entries, keys_in};
 ghost use Rattle.tink_io.specs.Outside.{FaultsStay, outside_of};
 ghost use Rattle.tink_run.specs.Run.{LeavesEnds, LeavesSinkItself};
-ghost use Rattle.tink_sealed_streams.specs.Rewrapping.{RewrapEnds};
+ghost use Rattle.tink_sealed_streams.specs.Rewrapping.{LeavesOrBegins, RewrapEnds};
 
 use crate::rewrap::between::rewrap_between;
 use std::alloc::Global;
@@ -37,6 +37,9 @@ pub(crate) fn rewrap_together<S: Source, K: Sink>(
     ensures order { KeepsOrder from.now.entries }
     ensures early { LeavesEnds result source.old source.new sink.old sink.new }
     ensures unwritten { LeavesSinkItself result sink.old sink.new }
+    ensures begun { LeavesOrBegins
+        (map (opening.opening_key from_aad.now) (keys_in (all_entries from.now.entries)))
+        (outside_of S.left S.faults K.got K.faults source.old sink.old) result sink.old sink.new }
     ensures later { FaultsStay (outside_of S.left S.faults K.got K.faults source.old sink.old)
         (outside_of S.left S.faults K.got K.faults source.new sink.new) }
     ensures source { S.same source.old source.new }

@@ -16,6 +16,7 @@ returns g c = record {
       reads_no_further s c.args.draws.now c.answer.new.draws _ _ c.answer.result c.answer.ensures.answer);
   early = c.answer.ensures.early;
   unwritten = c.answer.ensures.unwritten;
+  begun = c.answer.ensures.begun;
   later = c.answer.ensures.later;
   source = c.answer.ensures.source;
   sink = c.answer.ensures.sink;

@@ -6,8 +6,8 @@ use Rattle.tink_streaming_aead.specs.Wrapped.{all_entries, keys_in}
 use Rattle.tink_io.specs.Gathering.{OnlyGrows}
 use Rattle.tink_io.specs.Outside.{Outside, outside_of}
 use Rattle.tink_run.proofs.EndingSteps.{begins_as, early_ends, leaves_ended, leaves_sink_ended}
-use Rattle.tink_sealed_streams.specs.Rewrapping.{RewrapEnds}
-use Rattle.tink_sealed_streams.proofs.PassEndings.{begun_ends, rewrap_ends_as}
+use Rattle.tink_sealed_streams.specs.Rewrapping.{LeavesOrBegins, RewrapEnds}
+use Rattle.tink_sealed_streams.proofs.PassEndings.{begun_behind, begun_ends, rewrap_ends_as}
 use Rattle.tink_run.specs.Run.{LeavesEnds, LeavesSinkItself}
 use Rattle.tink_sealed_streams.proofs.rewrap.together.rewrap_together.Goals as goal
 
@@ -37,6 +37,18 @@ returns g c = record {
   unwritten = (subst (λ k. LeavesSinkItself c.ended.result c.args.sink.now k) (search rules)
       (leaves_sink_ended (λ s. s.sink.now) (λ s. s.waiting.now.items) _ _ _ _ c.rewrap_between-answer.result c.ended.result c.new-gathered.result c.rewrap_between-answer.new.sink c.args.sink.now c.ended.new.sink.sink.now (sym c.new-gathered.ensures.sink)
       c.new-gathered.ensures.empty c.rewrap_between-answer.ensures.unwritten c.ended.ensures.still c.ended.ensures.ends));
+  begun = (let got = g.K.Sink.got in
+      let faults = g.K.Sink.faults in
+      let left = g.S.Source.left in
+      let reads = g.S.Source.faults in
+      let first = c.new-gathered.result in
+      let call = c.rewrap_between-answer in
+      let keys = map (opening_key c.args.from_aad.now) (keys_in (all_entries c.args.from.now.entries)) in
+      let old : Outside = outside_of left reads (λ s. append_known (got s.sink.now) s.waiting.now.items) (λ s. faults s.sink.now) c.args.source.now first in
+      let mid : Outside = outside_of left reads (λ s. append_known (got s.sink.now) s.waiting.now.items) (λ s. faults s.sink.now) call.new.source call.new.sink in
+      subst (λ k. LeavesOrBegins keys (outside_of left reads got faults c.args.source.now c.args.sink.now) c.ended.result c.args.sink.now k) (search rules)
+      (begun_behind (λ s. s.sink.now) (λ s. s.waiting.now.items) keys (key_in_set c.args.to.now) c.args.to_aad.now c.args.draws.now call.new.draws old mid call.result c.ended.result first call.new.sink c.args.sink.now c.ended.new.sink.sink.now
+      (sym c.new-gathered.ensures.sink) c.new-gathered.ensures.empty call.ensures.begun call.ensures.answer c.ended.ensures.still));
   later = search rules;
   source = c.rewrap_between-answer.ensures.source;
   sink = (subst (λ k. g.K.Sink.same c.args.sink.now k) (search rules)
