@@ -5,12 +5,12 @@ use Rattle.tink_io.specs.declared.error.Kind.{Kind}
 use Rattle.tink_io.specs.declared.error.TinkError.{TinkError}
 use Rattle.tink_run.specs.OpenReads.{ReadsNoFurther}
 use Rattle.tink_io.specs.Outside.{Outside}
-use Rattle.tink_run.specs.Run.{AnswerMeans, CanSucceed, OkMeans}
+use Rattle.tink_run.specs.Run.{AnswerMeans, CanSucceed, IsEarly, OkMeans, WritesNothing}
 use Rattle.tink_run.specs.declared.report.Report.{Report}
 use Rattle.tink_sealed_streams.specs.RewrapPromises.{CanRewrap, IsWholeRewrap}
 use Rattle.tink_sealed_streams.specs.RewrapReads.{RewrapReadsNoFurther}
 use Rattle.tink_sealed_streams.specs.Rewrapping.{RewrapMeans, sides}
-use Rattle.tink_tokens.specs.Inputs.{input_limit}
+use Rattle.tink_tokens.specs.Inputs.{input_limit, IsUnloadable, IsUnwritten}
 use Rattle.tink_tokens.specs.Tokens.{CanAnswer, IsAnsweredWhole, Macs, TokenMeans}
 use Rattle.tink_tokens.specs.Tokens.{RefusesSigning, RefusesVerifying, SignsTo, VerifiesTo}
 use Rattle.tink_files.specs.declared.tasks.Task.{Task}
@@ -49,6 +49,20 @@ TaskMeans (Rewrap to to_aad) keyset aad draws left_draws old new answer =
     × RewrapReadsNoFurther (sides keyset aad to.now to_aad.now) old new r) answer
 TaskMeans Sign keyset aad draws left_draws old new answer = TokenTask SignsTo RefusesSigning keyset draws left_draws old new answer
 TaskMeans Verify keyset aad draws left_draws old new answer = TokenTask VerifiesTo RefusesVerifying keyset draws left_draws old new answer
+
+-- kinds by which a task is refused before it reads. Without memory a token's input may have been read.
+abbrev pub IsBeforeReading : Task → Kind → Type 0
+IsBeforeReading (Run command) kind = IsEarly kind
+IsBeforeReading (Rewrap to to_aad) kind = IsEarly kind
+IsBeforeReading Sign kind = IsUnloadable kind
+IsBeforeReading Verify kind = IsUnloadable kind
+
+-- kinds by which it is refused before it writes
+abbrev pub IsBeforeWriting : Task → Kind → Type 0
+IsBeforeWriting (Run command) kind = WritesNothing kind
+IsBeforeWriting (Rewrap to to_aad) kind = WritesNothing kind
+IsBeforeWriting Sign kind = IsUnwritten kind
+IsBeforeWriting Verify kind = IsUnwritten kind
 
 -- exactly what the task makes of the whole input was written, and nothing is left of it
 abbrev pub IsDone : Task → List ℕ → List ℕ → List ℕ → List ℕ → List ℕ → List ℕ → Outside → Option Report → Type 0

@@ -1,9 +1,9 @@
 //! What is made of the bytes of a source: a stream, its text, a moved stream, a token or its payload.
 
-ghost use Rattle.std.specs.Prelude.{◌≡◌, ◌≤◌, ℕ, List, Some, None, true, false, IfOk, OnErr};
-ghost use Rattle.tink_io.specs.Outside.{outside_of, Told};
+ghost use Rattle.std.specs.Prelude.{◌≡◌, ℕ, List, Some, None, true, false, IfErr, IfOk, OnErr};
+ghost use Rattle.tink_io.specs.Outside.{FaultsStay, outside_of, Told};
 ghost use Rattle.tink_files.specs.Streams.{IsShownWhole, RanAndEnded, Succeeds};
-ghost use Rattle.tink_files.specs.Tasks.{CanDo, IsDone, TaskMeans, answered_as};
+ghost use Rattle.tink_files.specs.Tasks.{CanDo, IsBeforeReading, IsBeforeWriting, IsDone, TaskMeans, answered_as};
 
 use std::alloc::Global;
 use tink_io::saving::finish;
@@ -58,7 +58,13 @@ pub fn write_task<S: Source, K: Sink>(
         → Told (outside_of S.left S.faults K.got K.faults source.old sink.old) T G
         → CanDo task.entry keyset.now aad.now draws.old T
         → Succeeds (S.faults source.old) (S.faults source.new) (K.faults sink.old) (K.faults sink.new) result }
-    ensures later { K.faults sink.old ≤ K.faults sink.new }
+
+    // A refusal that comes before anything was read leaves the source itself as it was, and one that comes before
+    // anything was written the sink, whatever they tell.
+    ensures unread { IfErr result (λ e. IsBeforeReading task.entry e.kind → source.new ≡ source.old) }
+    ensures unwritten { IfErr result (λ e. IsBeforeWriting task.entry e.kind → sink.new ≡ sink.old) }
+    ensures later { FaultsStay (outside_of S.left S.faults K.got K.faults source.old sink.old)
+        (outside_of S.left S.faults K.got K.faults source.new sink.new) }
     ensures source { S.same source.old source.new }
     ensures sink { K.same sink.old sink.new }
 {
@@ -108,6 +114,9 @@ pub fn save_task<S: Source, P: Place>(
         → Succeeds (S.faults source.old) (S.faults source.new) (P.faults place.old) (P.faults place.new) result }
     ensures err { OnErr result (P.shown place.new ≡ P.shown place.old) }
     ensures gone { P.has_draft place.new ≡ false }
+    ensures unread { IfErr result (λ e. IsBeforeReading task.entry e.kind → source.new ≡ source.old) }
+    ensures later { FaultsStay (outside_of S.left S.faults P.got P.faults source.old place.old)
+        (outside_of S.left S.faults P.got P.faults source.new place.new) }
     ensures source { S.same source.old source.new }
 {
     let answer = write_task(alloc, task, keyset, aad, draws, source, place);

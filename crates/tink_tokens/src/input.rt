@@ -1,6 +1,6 @@
 //! An input that is held whole.
 
-ghost use Rattle.std.specs.Prelude.{◌+◌, IfErr, IfOk};
+ghost use Rattle.std.specs.Prelude.{◌+◌, ◌≤◌, IfErr, IfOk};
 ghost use Rattle.tink_io.specs.declared.error.Kind.TheVariants.{InputTooLong};
 ghost use Rattle.tink_keyset_io.specs.Reading.{IsUnreadText};
 ghost use Rattle.tink_io.specs.Taken.{LosesAtMost};
@@ -22,6 +22,7 @@ pub fn read_input<S: Source>(alloc: Global, source: &mut S) -> Result<Vec<u8>, T
     ensures refused { IfErr result (λ e. IsUnreadText input_limit InputTooLong (S.left source.old) e.kind
         (S.faults source.old) (S.faults source.new)) }
     ensures taken { LosesAtMost (input_limit + 1) (S.left source.old) (S.left source.new) }
+    ensures later { S.faults source.old ≤ S.faults source.new }
     ensures same { S.same source.old source.new }
 {
     read_whole(alloc, source, MOST, Kind::InputTooLong)

@@ -2,7 +2,7 @@
 
 ghost use Rattle.std.specs.Prelude.{◌≡◌, ◌+◌, ◌≤◌, IfErr};
 ghost use Rattle.tink_io.specs.Taken.{LosesAtMost};
-ghost use Rattle.tink_io.specs.Outside.{outside_of};
+ghost use Rattle.tink_io.specs.Outside.{FaultsStay, outside_of};
 ghost use Rattle.tink_tokens.specs.Inputs.{IsUnloadable, IsUnwritten, input_limit};
 ghost use Rattle.tink_tokens.specs.TokenSteps.{AreLoadedMacs, GivesMacs, MakesOfInput};
 ghost use Rattle.tink_tokens.specs.Tokens.{CompletesToken, Macs, RefusesSigning, RefusesVerifying, SignsTo, TokenMeans, VerifiesTo, macs_in, macs_of};
@@ -42,9 +42,10 @@ pub fn write_token<S: Source, K: Sink>(
     ensures taken { LosesAtMost (input_limit + 1) (S.left source.old) (S.left source.new) }
     ensures unread { IfErr result (λ e. IsUnloadable e.kind → source.new ≡ source.old) }
     ensures unwritten { IfErr result (λ e. IsUnwritten e.kind → sink.new ≡ sink.old) }
-    ensures later { K.faults sink.old ≤ K.faults sink.new }
-    ensures source { S.same source.old source.new }
-    ensures sink { K.same sink.old sink.new }
+    ensures later { FaultsStay (outside_of S.left S.faults K.got K.faults source.old sink.old)
+        (outside_of S.left S.faults K.got K.faults source.new sink.new) }
+    ensures source_same { S.same source.old source.new }
+    ensures sink_same { K.same sink.old sink.new }
 {
     answer_token(alloc, keyset, source, sink)
 }
@@ -63,9 +64,10 @@ fn answer_token<S: Source, K: Sink>(
     ensures taken { LosesAtMost (input_limit + 1) (S.left source.old) (S.left source.new) }
     ensures unread { IfErr result (λ e. IsUnloadable e.kind → source.new ≡ source.old) }
     ensures unwritten { IfErr result (λ e. IsUnwritten e.kind → sink.new ≡ sink.old) }
-    ensures later { K.faults sink.old ≤ K.faults sink.new }
-    ensures source { S.same source.old source.new }
-    ensures sink { K.same sink.old sink.new }
+    ensures later { FaultsStay (outside_of S.left S.faults K.got K.faults source.old sink.old)
+        (outside_of S.left S.faults K.got K.faults source.new sink.new) }
+    ensures source_same { S.same source.old source.new }
+    ensures sink_same { K.same sink.old sink.new }
 {
     let macs = load_macs(alloc, keyset)?;
     let token = signed_input(alloc, &macs, source)?;
@@ -96,9 +98,10 @@ pub fn write_payload<S: Source, K: Sink>(
     ensures taken { LosesAtMost (input_limit + 1) (S.left source.old) (S.left source.new) }
     ensures unread { IfErr result (λ e. IsUnloadable e.kind → source.new ≡ source.old) }
     ensures unwritten { IfErr result (λ e. IsUnwritten e.kind → sink.new ≡ sink.old) }
-    ensures later { K.faults sink.old ≤ K.faults sink.new }
-    ensures source { S.same source.old source.new }
-    ensures sink { K.same sink.old sink.new }
+    ensures later { FaultsStay (outside_of S.left S.faults K.got K.faults source.old sink.old)
+        (outside_of S.left S.faults K.got K.faults source.new sink.new) }
+    ensures source_same { S.same source.old source.new }
+    ensures sink_same { K.same sink.old sink.new }
 {
     answer_payload(alloc, keyset, source, sink)
 }
@@ -117,9 +120,10 @@ fn answer_payload<S: Source, K: Sink>(
     ensures taken { LosesAtMost (input_limit + 1) (S.left source.old) (S.left source.new) }
     ensures unread { IfErr result (λ e. IsUnloadable e.kind → source.new ≡ source.old) }
     ensures unwritten { IfErr result (λ e. IsUnwritten e.kind → sink.new ≡ sink.old) }
-    ensures later { K.faults sink.old ≤ K.faults sink.new }
-    ensures source { S.same source.old source.new }
-    ensures sink { K.same sink.old sink.new }
+    ensures later { FaultsStay (outside_of S.left S.faults K.got K.faults source.old sink.old)
+        (outside_of S.left S.faults K.got K.faults source.new sink.new) }
+    ensures source_same { S.same source.old source.new }
+    ensures sink_same { K.same sink.old sink.new }
 {
     let macs = load_macs(alloc, keyset)?;
     let payload = verified_input(alloc, &macs, source)?;
@@ -135,6 +139,7 @@ fn signed_input<S: Source>(
     ensures answer { (m : Macs) → AreLoadedMacs m macs.now → MakesOfInput (SignsTo m) (RefusesSigning m)
         (S.left source.old) (S.left source.new) (S.faults source.old) (S.faults source.new) result }
     ensures taken { LosesAtMost (input_limit + 1) (S.left source.old) (S.left source.new) }
+    ensures later { S.faults source.old ≤ S.faults source.new }
     ensures same { S.same source.old source.new }
 {
     let payload = read_input(alloc, source)?;
@@ -150,6 +155,7 @@ fn verified_input<S: Source>(
     ensures answer { (m : Macs) → AreLoadedMacs m macs.now → MakesOfInput (VerifiesTo m) (RefusesVerifying m)
         (S.left source.old) (S.left source.new) (S.faults source.old) (S.faults source.new) result }
     ensures taken { LosesAtMost (input_limit + 1) (S.left source.old) (S.left source.new) }
+    ensures later { S.faults source.old ≤ S.faults source.new }
     ensures same { S.same source.old source.new }
 {
     let token = read_input(alloc, source)?;

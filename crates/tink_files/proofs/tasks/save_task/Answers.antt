@@ -1,4 +1,6 @@
+use Rattle.std.proofs.Common.{le_trans}
 use Rattle.tink_files.proofs.StreamLemmas.{ran_and_ended, shown_whole, succeeded}
+use Rattle.tink_files.proofs.TaskLemmas.{unread_ended}
 use Rattle.tink_files.proofs.tasks.save_task.Goals as goal
 
 pub returns-clause-ran : goal.returns-clause-ran
@@ -19,5 +21,15 @@ returns-clause-ok g c =
 
 pub returns-clause-succeeds : goal.returns-clause-succeeds
 returns-clause-succeeds g c = λ T G told can.
-    succeeded _ _ _ _ _ _ _ _ _ c.write_task-answer.result c.finish.result c.write_task-answer.ensures.later c.finish.ensures.later c.finish.ensures.ends
+    succeeded _ _ _ _ _ _ _ _ _ c.write_task-answer.result c.finish.result c.write_task-answer.ensures.later.writes c.finish.ensures.later c.finish.ensures.ends
     (c.write_task-answer.ensures.succeeds T G told can)
+
+pub returns-clause-unread : goal.returns-clause-unread
+returns-clause-unread g c =
+    unread_ended c.args.task c.args.source.now c.write_task-answer.new.source _ _ _ _ _ _ c.write_task-answer.result c.finish.result c.finish.ensures.ends c.write_task-answer.ensures.unread
+
+pub returns-clause-later : goal.returns-clause-later
+returns-clause-later g c = record {
+  reads = c.write_task-answer.ensures.later.reads;
+  writes = le_trans c.write_task-answer.ensures.later.writes c.finish.ensures.later;
+}

@@ -82,8 +82,8 @@ returns-in-Sign g c =
       early = sign_leaves _ _ _ c.write_token.result _ _ _ _ (rw c.deref.ensures.value at c.write_token.ensures.answer) c.write_token.ensures.unread c.write_token.ensures.unwritten;
       kept = λ is. absurd (false≢true is);
       promised = sign_promised _ _ _ _ (token_outcome SignsTo RefusesSigning _ _ _ c.write_token.result (rw c.deref.ensures.value at c.write_token.ensures.answer)) c.write_token.ensures.taken;
-      source = c.write_token.ensures.source;
-      sink = c.write_token.ensures.sink;
+      source = c.write_token.ensures.source_same;
+      sink = c.write_token.ensures.sink_same;
     })
 
 pub returns-in-Verify : goal.returns-in-Verify
@@ -93,8 +93,8 @@ returns-in-Verify g c =
       early = verify_leaves _ _ _ c.write_payload.result _ _ _ _ (rw c.deref-in-Verify.ensures.value at c.write_payload.ensures.answer) c.write_payload.ensures.unread c.write_payload.ensures.unwritten;
       kept = λ is. absurd (false≢true is);
       promised = verify_promised _ _ _ _ (token_outcome VerifiesTo RefusesVerifying _ _ _ c.write_payload.result (rw c.deref-in-Verify.ensures.value at c.write_payload.ensures.answer)) c.write_payload.ensures.taken;
-      source = c.write_payload.ensures.source;
-      sink = c.write_payload.ensures.sink;
+      source = c.write_payload.ensures.source_same;
+      sink = c.write_payload.ensures.sink_same;
     })
 
 pub returns-in-Rewrap : goal.returns-in-Rewrap

@@ -16,14 +16,14 @@ returns-in_err-token-clause-answer g c =
     let loaded = c.in_ok-macs.ensures in
     rw (p.1, p.2) (not_made SignsTo RefusesSigning c.args.keyset.now signing_only _ _ loaded.0 _ loaded.1 refl refl (c.in_err-token.ensures.answer loaded.0 loaded.2))
 
-pub returns-in_err-macs-clause-source : goal.returns-in_err-macs-clause-source
-returns-in_err-macs-clause-source g c = g.met.S.Source.same_refl _
+pub returns-in_err-macs-clause-source_same : goal.returns-in_err-macs-clause-source_same
+returns-in_err-macs-clause-source_same g c = g.met.S.Source.same_refl _
 
-pub returns-in_err-macs-clause-sink : goal.returns-in_err-macs-clause-sink
-returns-in_err-macs-clause-sink g c = g.met.K.Sink.same_refl _
+pub returns-in_err-macs-clause-sink_same : goal.returns-in_err-macs-clause-sink_same
+returns-in_err-macs-clause-sink_same g c = g.met.K.Sink.same_refl _
 
 pub returns-in_err-macs-clause-later : goal.returns-in_err-macs-clause-later
-returns-in_err-macs-clause-later g c = le_refl _
+returns-in_err-macs-clause-later g c = record { reads = le_refl _; writes = le_refl _ }
 
 pub returns-in_err-token-clause-unread : goal.returns-in_err-token-clause-unread
 returns-in_err-token-clause-unread g c =
@@ -35,13 +35,13 @@ pub returns-in_err-token-clause-taken : goal.returns-in_err-token-clause-taken
 returns-in_err-token-clause-taken g c = c.signed_input.ensures.taken
 
 pub returns-in_err-token-clause-later : goal.returns-in_err-token-clause-later
-returns-in_err-token-clause-later g c = le_refl _
+returns-in_err-token-clause-later g c = record { reads = c.signed_input.ensures.later; writes = le_refl _ }
 
-pub returns-in_err-token-clause-source : goal.returns-in_err-token-clause-source
-returns-in_err-token-clause-source g c = c.signed_input.ensures.same
+pub returns-in_err-token-clause-source_same : goal.returns-in_err-token-clause-source_same
+returns-in_err-token-clause-source_same g c = c.signed_input.ensures.same
 
-pub returns-in_err-token-clause-sink : goal.returns-in_err-token-clause-sink
-returns-in_err-token-clause-sink g c = g.met.K.Sink.same_refl _
+pub returns-in_err-token-clause-sink_same : goal.returns-in_err-token-clause-sink_same
+returns-in_err-token-clause-sink_same g c = g.met.K.Sink.same_refl _
 
 pub returns-clause-unread : goal.returns-clause-unread
 returns-clause-unread g c = fault_loaded c.write_all.result _ _ c.write_all.ensures.refused
@@ -52,14 +52,14 @@ returns-clause-unwritten g c = fault_writes c.write_all.result _ _ c.write_all.e
 pub returns-clause-taken : goal.returns-clause-taken
 returns-clause-taken g c = c.signed_input.ensures.taken
 
-pub returns-clause-source : goal.returns-clause-source
-returns-clause-source g c = c.signed_input.ensures.same
+pub returns-clause-source_same : goal.returns-clause-source_same
+returns-clause-source_same g c = c.signed_input.ensures.same
 
 pub returns-clause-later : goal.returns-clause-later
-returns-clause-later g c = c.write_all.ensures.later
+returns-clause-later g c = record { reads = c.signed_input.ensures.later; writes = c.write_all.ensures.later }
 
-pub returns-clause-sink : goal.returns-clause-sink
-returns-clause-sink g c = c.write_all.ensures.same
+pub returns-clause-sink_same : goal.returns-clause-sink_same
+returns-clause-sink_same g c = c.write_all.ensures.same
 
 pub returns-clause-answer : goal.returns-clause-answer
 returns-clause-answer g c =
