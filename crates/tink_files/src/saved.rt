@@ -1,8 +1,9 @@
 //! What a call made is saved.
 
-ghost use Rattle.std.specs.Prelude.{◌≡◌, ◌≤◌, ℕ, List, true, false, Err, IfErr, Result};
+ghost use Rattle.std.specs.Prelude.{◌≡◌, ◌⊎◌, ◌≤◌, ℕ, List, true, false, Err, IfErr, Result};
 ghost use Rattle.tink_io.specs.Told.{Answers};
 ghost use Rattle.tink_io.specs.declared.error.Kind.{Kind};
+ghost use Rattle.tink_io.specs.declared.error.Kind.TheVariants.{WriteFault};
 ghost use Rattle.tink_files.specs.Saved.{Saves};
 
 use tink_io::saving::{finish, save};
@@ -12,8 +13,7 @@ use tink_proto::Bytes;
 /// Saves the bytes that a call made, behind what the draft has. Where it made none the draft is taken away.
 ///
 /// # Errors
-/// The call's, `OutOfMemory` among them, and `WriteFault` where the draft could not be written or shown: what was shown
-/// stays.
+/// That of the call; `WriteFault` where the draft could not be written or shown. What was shown stays.
 pub fn save_answer<P: Place>(
     place: &mut P,
     answer: Result<Bytes, TinkError>,
@@ -23,6 +23,7 @@ pub fn save_answer<P: Place>(
         → Saves told result (P.got place.old) (P.replaces place.old) (P.shown place.old) (P.shown place.new)
         (P.faults place.old) (P.faults place.new) }
     ensures refused { IfErr answer (λ e. result ≡ Err e) }
+    ensures kinds { IfErr result (λ e. (answer ≡ Err e) ⊎ (e ≡ record { kind = WriteFault })) }
     ensures gone { P.has_draft place.new ≡ false }
     ensures later { P.faults place.old ≤ P.faults place.new }
 {
