@@ -2,8 +2,10 @@
 
 ghost use Rattle.std.specs.Prelude.{◌≡◌, ℕ, List, Ok};
 ghost use Rattle.tink_io.specs.Told.{Answers};
+ghost use Rattle.tink_keysets.specs.Through.{LeavesDraws};
 ghost use Rattle.tink_files.specs.Masters.{IsMaster, MasterKeys, master_of};
 ghost use Rattle.tink_files.specs.ThereAndBack.{OpensWhatItWraps, WrappedOutlives, returned_file};
+ghost use Rattle.tink_files.specs.Wrapping.{unspent_file};
 
 use crate::under_master::{Master, unwrapped, wrapped};
 use std::alloc::Global;
@@ -21,9 +23,13 @@ pub fn law_wrapped_is_unwrapped(
     format: Format,
     draws: &mut Draws,
 ) -> Result<Bytes, TinkError>
-    ensures { (file : List ℕ) (m : MasterKeys) → master_of file ≡ Ok m → IsMaster m master.now
+    ensures answer { (file : List ℕ) (m : MasterKeys) → master_of file ≡ Ok m → IsMaster m master.now
         → OpensWhatItWraps m keys.items aad.now draws.old
         → Answers result (returned_file m keys.items aad.now draws.old format) }
+
+    // Exactly the draws that the encryption took are spent.
+    ensures rest { (m : MasterKeys) → IsMaster m master.now
+        → LeavesDraws result (unspent_file m keys.items aad.now draws.old) draws.old draws.new }
 {
     let file = wrapped(alloc, master, keys, aad, Format::Binary, draws)?;
     unwrapped(alloc, master, file.as_slice(), aad, format)
