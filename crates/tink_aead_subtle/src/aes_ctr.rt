@@ -1,6 +1,6 @@
 //! AES in counter mode (SP 800-38A, 6.5).
 
-ghost use Rattle.std.specs.Prelude.{◌≡◌, ◌≤◌, ◌+◌, ◌++◌, length, take};
+ghost use Rattle.std.specs.Prelude.{◌≡◌, ◌≤◌, ◌+◌, ◌++◌, length, take, OnErr};
 ghost use Rattle.std.specs.Int.{w64};
 ghost use Rattle.standards.specs.AesKeys.{aes};
 ghost use Rattle.standards.specs.Counter.{ctr, plus_be};
@@ -42,7 +42,7 @@ impl AesCtr {
     ///
     /// # Errors
     /// `BadKeySize`, unless the key has 16 or 32 bytes, and else `BadIvSize`, unless `iv_size` is
-    /// from 12 to 16.
+    /// from 12 to 16. `OutOfMemory` may come in place of each.
     pub fn new(alloc: Global, key: &[u8], iv_size: usize) -> Result<AesCtr, TinkError>
         ensures { Answers result (sized_with_iv key.now iv_size (record { key = key.now; iv_size = iv_size })) }
     {
@@ -109,7 +109,8 @@ fn block_of(iv: &[u8]) -> [u8; 16]
 // The first counter block of a vector that is drawn.
 fn draw_block(iv_size: usize, draws: &mut Draws) -> Result<[u8; 16], TinkError>
     requires { iv_size ≤ 16 }
-    ensures { Replies result (drawn_block iv_size draws.old) draws.old draws.new }
+    ensures replies { Replies result (drawn_block iv_size draws.old) draws.old draws.new }
+    ensures rest { OnErr result (draws.new ≡ draws.old) }
 {
     let mut block = [0u8; 16];
     draws.take_into(&mut block[..iv_size])?;
@@ -134,12 +135,17 @@ impl IndCpaCipher for AesCtr {
 
     /// # Errors
     /// `BadIvSize` where `iv_size` was set above 16, else `RandomFault` where fewer draws are left.
+    /// `OutOfMemory` may come in place of each. No refusal takes a draw.
     fn encrypt(
         &self,
         alloc: Global,
         plaintext: &[u8],
         draws: &mut Draws,
-    ) -> Result<Bytes, TinkError> {
+    ) -> Result<Bytes, TinkError>
+        ensures replies { Replies result (ctr_encrypts self.now.key self.now.iv_size plaintext.now draws.old)
+            draws.old draws.new }
+        ensures rest { OnErr result (draws.new ≡ draws.old) }
+    {
         if self.iv_size > AES_BLOCK_SIZE_IN_BYTES {
             return Err(TinkError::new(Kind::BadIvSize));
         }
@@ -154,7 +160,7 @@ impl IndCpaCipher for AesCtr {
 
     /// # Errors
     /// `BadIvSize` where `iv_size` was set above 16, else `TooShort` where the ciphertext has fewer
-    /// bytes.
+    /// bytes. `OutOfMemory` may come in place of each.
     fn decrypt(&self, alloc: Global, ciphertext: &[u8]) -> Result<Bytes, TinkError> {
         if self.iv_size > AES_BLOCK_SIZE_IN_BYTES {
             return Err(TinkError::new(Kind::BadIvSize));

@@ -1,10 +1,10 @@
 //! AES-GCM (SP 800-38D).
 
-ghost use Rattle.std.specs.Prelude.{◌≡◌, length};
+ghost use Rattle.std.specs.Prelude.{◌≡◌, length, OnErr};
 ghost use Rattle.gcm.specs.Limits.{MOST_GCM};
 ghost use Rattle.standards.specs.AesKeys.{aes};
 ghost use Rattle.standards.specs.Gcm.{gcm};
-ghost use Rattle.tink_io.specs.Told.{Answers};
+ghost use Rattle.tink_io.specs.Told.{Answers, Replies};
 ghost use Rattle.tink_aead_subtle.specs.KeySizes.{sized};
 ghost use Rattle.tink_aead_subtle.specs.NonceAeads.{gcm_text_of};
 ghost use Rattle.tink_aead_subtle.specs.AesAeads.{gcm_decrypts, gcm_encrypts};
@@ -34,7 +34,7 @@ impl AesGcm {
     /// The AEAD under this key.
     ///
     /// # Errors
-    /// `BadKeySize`, unless the key has 16 or 32 bytes.
+    /// `BadKeySize`, unless the key has 16 or 32 bytes, and `OutOfMemory`.
     pub fn new(alloc: Global, key: &[u8]) -> Result<AesGcm, TinkError>
         ensures { Answers result (sized key.now (record { key = key.now })) }
     {
@@ -62,20 +62,25 @@ impl Aead for AesGcm {
     /// # Errors
     /// `DataTooLong` where the associated data has more than 2^36 bytes, else `TextTooLong` where
     /// the text has more than 2^36 - 32, else `RandomFault` where fewer than 12 draws are left.
+    /// `OutOfMemory` may come in place of each. No refusal takes a draw.
     fn encrypt(
         &self,
         alloc: Global,
         plaintext: &[u8],
         additional_data: &[u8],
         draws: &mut Draws,
-    ) -> Result<Bytes, TinkError> {
+    ) -> Result<Bytes, TinkError>
+        ensures replies { Replies result (gcm_encrypts self.now.key plaintext.now additional_data.now draws.old)
+            draws.old draws.new }
+        ensures rest { OnErr result (draws.new ≡ draws.old) }
+    {
         self.key.encrypt(alloc, plaintext, additional_data, draws)
     }
 
     /// # Errors
     /// `TooShort` where the ciphertext has fewer than 28 bytes, else `DataTooLong` and `TextTooLong`
     /// as where it encrypts, else `DecryptFailed` where it is the encryption of no text with this
-    /// associated data.
+    /// associated data. `OutOfMemory` may come in place of each.
     fn decrypt(
         &self,
         alloc: Global,

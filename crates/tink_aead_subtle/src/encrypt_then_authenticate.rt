@@ -114,7 +114,7 @@ impl<C: IndCpaCipher, M: Mac> Aead for EncryptThenAuthenticate<C, M> {
     /// # Errors
     /// The cipher's refusals, else `DataTooLong` where the number of bits of the associated data does
     /// not fit 64 bits, else the MAC's refusals, else `BadTagSize` where its tag has not `tag_size`
-    /// bytes.
+    /// bytes. `OutOfMemory` may come in place of each.
     fn encrypt(
         &self,
         alloc: Global,
@@ -129,7 +129,8 @@ impl<C: IndCpaCipher, M: Mac> Aead for EncryptThenAuthenticate<C, M> {
     /// # Errors
     /// `TooShort` where the ciphertext has fewer than `tag_size` bytes, else `DataTooLong` as where
     /// it encrypts, else `MacMismatch` where the MAC does not accept the tag, else the cipher's
-    /// refusals. A text is given only where the MAC accepts the tag.
+    /// refusals. `OutOfMemory` may come in place of each. A text is given only where the MAC accepts
+    /// the tag.
     fn decrypt(
         &self,
         alloc: Global,

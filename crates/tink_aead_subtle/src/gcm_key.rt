@@ -1,6 +1,6 @@
 //! Keys of AES-GCM with their schedules and tables.
 
-ghost use Rattle.std.specs.Prelude.{◌≡◌};
+ghost use Rattle.std.specs.Prelude.{◌≡◌, OnErr};
 ghost use Rattle.tink_io.specs.Told.{Answers, Replies};
 ghost use Rattle.tink_aead_subtle.specs.AesAeads.{gcm_decrypts, gcm_encrypts};
 ghost use Rattle.tink_aead_subtle.specs.GcmKeys.{IsKeyedBy};
@@ -59,8 +59,9 @@ impl GcmKey {
         additional_data: &[u8],
         draws: &mut Draws,
     ) -> Result<Bytes, TinkError>
-        ensures { Replies result (gcm_encrypts self.now plaintext.now additional_data.now draws.old)
+        ensures replies { Replies result (gcm_encrypts self.now plaintext.now additional_data.now draws.old)
             draws.old draws.new }
+        ensures rest { OnErr result (draws.new ≡ draws.old) }
     {
         match &self.aead {
             KeyedGcm::Short(aead) => {

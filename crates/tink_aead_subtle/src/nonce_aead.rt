@@ -1,6 +1,6 @@
 //! AEADs whose output is a nonce of 12 bytes, a ciphertext and a tag of 16 bytes.
 
-ghost use Rattle.std.specs.Prelude.{◌≡◌, ◌≤◌, ◌+◌, ◌-◌, ◌^◌, ◌++◌, ℕ, List, length};
+ghost use Rattle.std.specs.Prelude.{◌≡◌, ◌≤◌, ◌+◌, ◌-◌, ◌^◌, ◌++◌, ℕ, List, length, OnErr};
 ghost use Rattle.gcm.specs.Answers.{IsOpened, IsSealed};
 ghost use Rattle.gcm.specs.Limits.{MOST_GCM, MOST_GCM_SIV};
 ghost use Rattle.gcm.specs.Siv.{cipher_of};
@@ -10,6 +10,7 @@ ghost use Rattle.tink_io.specs.Told.{Answers, Replies, Tells};
 ghost use Rattle.tink_aead_subtle.specs.NonceAeads.{decryption, encryption, gcm_siv_text_of, gcm_text_of};
 ghost use Rattle.tink_aead_subtle.specs.NonceAeads.{kind_of, limited};
 
+use crate::aes_gcm::{AES_GCM_IV_SIZE, AES_GCM_TAG_SIZE};
 use cipher::{BlockCipherEncrypt, KeyInit};
 use gcm::{Gcm, GcmError, GcmSiv};
 use std::alloc::Global;
@@ -17,9 +18,9 @@ use tink_io::{Draws, Kind, TinkError};
 use tink_proto::Bytes;
 
 // The bytes of a nonce, and of nonce and tag.
-const NONCE_SIZE: usize = 12;
+const NONCE_SIZE: usize = AES_GCM_IV_SIZE;
 
-const LEAST_SIZE: usize = 28;
+const LEAST_SIZE: usize = AES_GCM_IV_SIZE + AES_GCM_TAG_SIZE;
 
 // The most bytes of associated data.
 const MOST_DATA: usize = 1 << 36;
@@ -184,7 +185,7 @@ fn seal_behind<A: NonceAead>(
     }
 }
 
-// The nonce, which is drawn, and the encryption of the text under it.
+// The nonce, which is drawn last, and the encryption of the text under it.
 pub fn encrypt<A: NonceAead>(
     aead: &A,
     alloc: Global,
@@ -192,8 +193,9 @@ pub fn encrypt<A: NonceAead>(
     additional_data: &[u8],
     draws: &mut Draws,
 ) -> Result<Bytes, TinkError>
-    ensures { Replies result (encryption (A.seals aead.now) A.most plaintext.now additional_data.now draws.old)
+    ensures replies { Replies result (encryption (A.seals aead.now) A.most plaintext.now additional_data.now draws.old)
         draws.old draws.new }
+    ensures rest { OnErr result (draws.new ≡ draws.old) }
 {
     check_lengths(additional_data.len(), plaintext.len(), A::most_text())?;
     if draws.left() < NONCE_SIZE {

@@ -5,8 +5,8 @@ use Rattle.tink_aead_subtle.specs.NonceAeads.{limited}
 use Rattle.tink_aead_subtle.proofs.Exact.{encryption_ok}
 use Rattle.tink_aead_subtle.proofs.nonce_aead.encrypt.Goals as goal
 
-pub returns : goal.returns
-returns g c =
+pub returns-clause-replies : goal.returns-clause-replies
+returns-clause-replies g c =
     let text = c.args.plaintext.now in
     let aad = c.args.additional_data.now in
     let most = g.A.NonceAead.most in
