@@ -2,7 +2,7 @@
 
 ghost use Rattle.std.specs.Prelude.{◌≡◌, ◌≤◌, ◌+◌, ◌^◌, Some, Ok, OnOk, IfErr};
 ghost use Rattle.std.specs.Io.KnownBytes.{Appends, IsAtEnd};
-ghost use Rattle.tink_io.specs.declared.error.Kind.TheVariants.{BadKeyset};
+ghost use Rattle.tink_io.specs.declared.error.Kind.TheVariants.{BadKeyset, OutOfMemory};
 ghost use Rattle.tink_keysets.specs.Ends.{HasRead, HasWritten};
 ghost use Rattle.tink_proto.specs.Messages.{keyset, encrypted_keyset};
 ghost use Rattle.wire_format.specs.Message.{decoded, encoded};
@@ -184,6 +184,7 @@ impl<K: Sink> Writer for BinaryWriter<K> {
         ensures count { K.faults self.old ≤ K.faults self.new }
         ensures refused { IfErr result (λ e.
             IsPartOfText (encoded keyset.write ks.now) e.kind (K.got self.old) (K.got self.new)) }
+        ensures unwritten { IfErr result (λ e. e.kind ≡ OutOfMemory → self.new ≡ self.old) }
         ensures same { K.same self.old self.new }
     {
         write_as::<Binary, Keyset, K>(alloc, &mut self.sink, ks)
@@ -200,6 +201,7 @@ impl<K: Sink> Writer for BinaryWriter<K> {
         ensures count { K.faults self.old ≤ K.faults self.new }
         ensures refused { IfErr result (λ e.
             IsPartOfText (encoded encrypted_keyset.write ks.now) e.kind (K.got self.old) (K.got self.new)) }
+        ensures unwritten { IfErr result (λ e. e.kind ≡ OutOfMemory → self.new ≡ self.old) }
         ensures same { K.same self.old self.new }
     {
         write_as::<Binary, EncryptedKeyset, K>(alloc, &mut self.sink, ks)

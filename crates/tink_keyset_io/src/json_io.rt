@@ -2,7 +2,7 @@
 
 ghost use Rattle.std.specs.Prelude.{◌≡◌, ◌≤◌, ◌+◌, ◌^◌, Some, Ok, OnOk, IfErr};
 ghost use Rattle.std.specs.Io.KnownBytes.{Appends, IsAtEnd};
-ghost use Rattle.tink_io.specs.declared.error.Kind.TheVariants.{BadJson};
+ghost use Rattle.tink_io.specs.declared.error.Kind.TheVariants.{BadJson, OutOfMemory};
 ghost use Rattle.tink_keysets.specs.Ends.{HasRead, HasWritten};
 ghost use Rattle.tink_json.specs.Messages.{encrypted_keyset, keyset, message_of};
 ghost use Rattle.tink_json.specs.Written.{encrypted_keyset_value, keyset_value, pretty_text};
@@ -186,6 +186,7 @@ impl<K: Sink> Writer for JsonWriter<K> {
         ensures count { K.faults self.old ≤ K.faults self.new }
         ensures refused { IfErr result (λ e.
             IsPartOfText (pretty_text (keyset_value ks.now)) e.kind (K.got self.old) (K.got self.new)) }
+        ensures unwritten { IfErr result (λ e. e.kind ≡ OutOfMemory → self.new ≡ self.old) }
         ensures same { K.same self.old self.new }
     {
         write_as::<JsonText, Keyset, K>(alloc, &mut self.sink, ks)
@@ -202,6 +203,7 @@ impl<K: Sink> Writer for JsonWriter<K> {
         ensures count { K.faults self.old ≤ K.faults self.new }
         ensures refused { IfErr result (λ e.
             IsPartOfText (pretty_text (encrypted_keyset_value ks.now)) e.kind (K.got self.old) (K.got self.new)) }
+        ensures unwritten { IfErr result (λ e. e.kind ≡ OutOfMemory → self.new ≡ self.old) }
         ensures same { K.same self.old self.new }
     {
         write_as::<JsonText, EncryptedKeyset, K>(alloc, &mut self.sink, ks)

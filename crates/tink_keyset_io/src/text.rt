@@ -1,10 +1,11 @@
 //! Texts, read whole from sources and written whole to sinks.
 
-ghost use Rattle.std.specs.Prelude.{◌≤◌, ◌<◌, ◌+◌, ◌^◌, Some, Ok, IfOk, IfErr, OnOk, length};
+ghost use Rattle.std.specs.Prelude.{◌≡◌, ◌≤◌, ◌<◌, ◌+◌, ◌^◌, Some, Ok, IfOk, IfErr, OnOk, length};
 ghost use Rattle.std.specs.Io.KnownBytes.{Consumes, IsAtEnd};
 ghost use Rattle.tink_keysets.specs.Ends.{HasRead, HasWritten};
 ghost use Rattle.tink_keyset_io.specs.Reading.{IsFault, IsPiece, IsUnreadText, told};
 ghost use Rattle.tink_io.specs.Taken.{LosesAtMost};
+ghost use Rattle.tink_io.specs.declared.error.Kind.TheVariants.{OutOfMemory};
 ghost use Rattle.tink_keyset_io.specs.Writing.{AppendsText, IsPartOf};
 
 use crate::text_form::TextForm;
@@ -97,6 +98,7 @@ pub fn write_as<F: TextForm<M>, M, K: Sink>(
     ensures answer { HasWritten result (Some (Ok tt)) (K.faults sink.old) (K.faults sink.new) }
     ensures written { OnOk result (AppendsText (F.spells message.now) (K.got sink.old) (K.got sink.new)) }
     ensures prefix { IfErr result (λ e. IsPartOf (F.spells message.now) e.kind (K.got sink.old) (K.got sink.new)) }
+    ensures unwritten { IfErr result (λ e. e.kind ≡ OutOfMemory → sink.new ≡ sink.old) }
     ensures count { K.faults sink.old ≤ K.faults sink.new }
     ensures same { K.same sink.old sink.new }
 {
