@@ -1,7 +1,10 @@
 -- Building the set of a keyset's primitives, key by key.
 use Rattle.std.proofs.Common.{◌≡◌, ◌&&◌, ◌||◌, ℕ, suc, ◌+◌, ◌<◌, ◌++◌, ◌∷◌, ◌∙◌, [], List, Bool, true, false, Option, Some, None, Ok, Err, Result, cond, length, drop, get_or, refl, sym, ap, subst, add-one, drop-cons, ◌≤◌}
 use Rattle.std.proofs.lemmas.List.{append-nil, drop_all}
-use Rattle.std.specs.Prelude.{filter, find, nat_eq, IsTrue, OnOk}
+use Rattle.std.proofs.lemmas.List.Elements.{filter-append}
+use Rattle.std.specs.BTreeMap.{BTreeMap}
+use Rattle.std.specs.Prelude.{Vec, filter, find, nat_eq, IsTrue, OnOk}
+use Rattle.std.specs.Str.{bytes_eq}
 use Rattle.std.specs.List.{list_all}
 use Rattle.std.proofs.lemmas.List.Sums.{AllPass-from_list_all}
 use Rattle.tink_io.specs.declared.error.Kind.{Kind}
@@ -11,13 +14,13 @@ use Rattle.tink_io.specs.Told.{made_of}
 use Rattle.tink_proto.specs.declared.messages.keys.Key.{Key}
 use Rattle.tink_proto.specs.declared.messages.keys.Keyset.{Keyset}
 use Rattle.tink_sets.specs.Entries.{prefix_of}
-use Rattle.tink_sets.specs.Groups.{AreGroupsOf}
+use Rattle.tink_sets.specs.Groups.{Adds, AreGroupsOf, group_at, group_of}
 use Rattle.tink_sets.specs.declared.entry.Entry.{Entry}
 use Rattle.tink_sets.specs.declared.primitive_set.PrimitiveSet.{PrimitiveSet}
 use Rattle.keyset_model.specs.Keys.{enabled, is_enabled}
 use Rattle.keyset_model.specs.Validity.{is_well_formed, is_validated, are_well_formed, has_a_key, has_at_most_one_primary, has_an_enabled_key, has_a_primary, is_all_public}
 use Rattle.tink_building.specs.Given.{before, given_each}
-use Rattle.tink_building.specs.Built.{GivesSet, HasOneMore, IsSetOf, TakesKey, primary_after}
+use Rattle.tink_building.specs.Built.{GivesSet, HasNoOther, HasOneMore, IsSetOf, TakesKey, primary_after}
 use Rattle.tink_building.proofs.GivenEach.{behind, behind_more, none_yet}
 
 -- ---- the keys of a validated keyset are well formed
@@ -40,6 +43,20 @@ well_formed_at keys i k h within is = subst (λ x. is_well_formed x ≡ true) (s
 here : (keys : List Key) (i : ℕ) (k : Key) → i < length keys → k ≡ get_or keys i k → filter is_enabled (drop i keys) ≡ cond (is_enabled k) (k ∷ filter is_enabled (drop (i + 1) keys)) (filter is_enabled (drop (i + 1) keys))
 here keys i k within is =
     rw (add-one) (ap (filter is_enabled) (drop-cons keys i k within) ∙ ap (λ x. cond (is_enabled x) (x ∷ filter is_enabled (drop (suc i) keys)) (filter is_enabled (drop (suc i) keys))) (sym is))
+
+-- ---- lists of an entry more
+
+none_by : {E : Type 0} (b : Bool) (more : E) (kept group : List E) (o : Option (List E)) → kept ++ cond b (more ∷ []) [] ≡ [] → (kept ≡ [] → o ≡ None) → cond b (Some group) o ≡ None
+none_by true more [] group o empty none = absurd (cc)
+none_by true more (x ∷ kept) group o empty none = absurd (cc)
+none_by false more kept group o empty none = none (sym (append-nil kept) ∙ empty)
+
+-- no list stands under a prefix that none of them has
+no_other_more : {E A : Type 0} (prefix_of : E → List ℕ) (more : E) (front : List E) (old new : BTreeMap (Vec ℕ A) (List E)) → Adds (prefix_of more) more old new → HasNoOther prefix_of front old → HasNoOther prefix_of (front ++ more ∷ []) new
+no_other_more {E} prefix_of more front old new adds no_other p empty =
+    let test : E → Bool = λ e. bytes_eq (prefix_of e) p in
+    adds p
+    ∙ none_by (bytes_eq (prefix_of more) p) more (filter test front) (group_of old (prefix_of more) ++ more ∷ []) (group_at old p) (sym (filter-append test front (more ∷ [])) ∙ empty) (no_other p)
 
 module _ {K A D HD HE M P S St V : Type 0} where
   -- ---- one key
@@ -70,9 +87,9 @@ module _ {K A D HD HE M P S St V : Type 0} where
     pub told : given_each give (filter is_enabled keys) ≡ behind front (given_each give (filter is_enabled (drop i keys)))
     pub has : IsSetOf id front set
 
-  pub none_built : (give : Key → Result (Entry K A D HD HE M P S St V) Kind) (id : ℕ) (keys : List Key) (set : PrimitiveSet K A D HD HE M P S St V) → set.primary ≡ None → AreGroupsOf prefix_of [] set.entries → IsBuilt give id keys 0 set
-  none_built give id keys set none empty =
-      record { front = []; told = none_yet (given_each give (filter is_enabled keys)); has = record { by_prefix = empty; by_id = none } }
+  pub none_built : (give : Key → Result (Entry K A D HD HE M P S St V) Kind) (id : ℕ) (keys : List Key) (set : PrimitiveSet K A D HD HE M P S St V) → set.primary ≡ None → AreGroupsOf prefix_of [] set.entries → ((prefix : List ℕ) → group_at set.entries prefix ≡ None) → IsBuilt give id keys 0 set
+  none_built give id keys set none empty no_lists =
+      record { front = []; told = none_yet (given_each give (filter is_enabled keys)); has = record { by_prefix = empty; no_other = λ p is. no_lists p; by_id = none } }
 
   step_by : (give : Key → Result (Entry K A D HD HE M P S St V) Kind) (id : ℕ) (keys : List Key) (i : ℕ) (k : Key) (on : Bool) (old new : PrimitiveSet K A D HD HE M P S St V)
       → filter is_enabled (drop i keys) ≡ cond on (k ∷ filter is_enabled (drop (i + 1) keys)) (filter is_enabled (drop (i + 1) keys))
@@ -91,6 +108,7 @@ module _ {K A D HD HE M P S St V : Type 0} where
         told = built.told ∙ ap (λ ks. behind built.front (given_each give ks)) at ∙ ap (λ r. behind built.front (before r rest)) taken.1 ∙ behind_more built.front more rest;
         has = record {
           by_prefix = taken.2.by_prefix built.front built.has.by_prefix;
+          no_other = no_other_more prefix_of more built.front old.entries new.entries taken.2.added built.has.no_other;
           by_id = taken.2.by_id ∙ ap (λ p. primary_after (λ e. e.key_id) id p more) built.has.by_id ∙ sym (first_with_more id built.front more);
         };
       }

@@ -1,5 +1,6 @@
 -- The primitives of a keyset: what each enabled key builds, and the set of them.
-use Rattle.std.specs.Prelude.{◌≡◌, ◌⊎◌, ℕ, List, Vec, Bool, true, false, Option, Some, None, Result, Ok, Err, if◌then◌else◌, nat_eq, find}
+use Rattle.std.specs.Prelude.{◌≡◌, ◌⊎◌, ℕ, List, [], Vec, Bool, true, false, Option, Some, None, Result, Ok, Err, if◌then◌else◌, nat_eq, filter, find}
+use Rattle.std.specs.Str.{bytes_eq}
 use Rattle.std.specs.BTreeMap.{BTreeMap}
 use Rattle.tink_io.specs.declared.error.Kind.{Kind}
 use Rattle.tink_io.specs.declared.error.Kind.TheVariants.{InvalidKeyset, OutOfMemory}
@@ -10,7 +11,7 @@ use Rattle.tink_proto.specs.declared.messages.keys.KeyData.{KeyData}
 use Rattle.tink_proto.specs.declared.messages.keys.Keyset.{Keyset}
 use Rattle.tink_registry.specs.Listed.{registry_builds}
 use Rattle.tink_sets.specs.Entries.{prefix_of}
-use Rattle.tink_sets.specs.Groups.{AreGroupsOf, AddsLast}
+use Rattle.tink_sets.specs.Groups.{Adds, AddsLast, AreGroupsOf, group_at}
 use Rattle.tink_sets.specs.declared.entry.Entry.{Entry}
 use Rattle.tink_sets.specs.declared.primitive_set.PrimitiveSet.{PrimitiveSet}
 use Rattle.keyset_model.specs.Keys.{enabled}
@@ -37,10 +38,16 @@ module _ {M P : Type 0} (url : M → List ℕ) (supports : M → List ℕ → Bo
   built_entries entry managers given ks =
       if is_validated ks then given_each (built_entry entry managers given) (enabled ks) else Err InvalidKeyset
 
--- A set has these entries: under each prefix those that have it, in their order, and as the primary one the first of the
--- primary id, which in a validated keyset at most one has.
+-- a map has no list under a prefix that no entry has
+abbrev pub HasNoOther : {E A : Type 0} → (E → List ℕ) → List E → BTreeMap (Vec ℕ A) (List E) → Type 0
+HasNoOther prefix_of entries groups =
+    (prefix : List ℕ) → filter (λ e. bytes_eq (prefix_of e) prefix) entries ≡ [] → group_at groups prefix ≡ None
+
+-- A set has these entries: under each prefix those that have it, in their order, and no list under another; and as the
+-- primary one the first of the primary id, which in a validated keyset at most one has.
 pub record HasEntries {E A : Type 0} (prefix_of : E → List ℕ) (id_of : E → ℕ) (id : ℕ) (entries : List E) (primary : Option E) (groups : BTreeMap (Vec ℕ A) (List E)) : Type 0 where
   pub by_prefix : AreGroupsOf prefix_of entries groups
+  pub no_other : HasNoOther prefix_of entries groups
   pub by_id : primary ≡ find (λ e. nat_eq (id_of e) id) entries
 
 module _ {K A D HD HE M P S St V : Type 0} where
@@ -64,6 +71,7 @@ module _ {K A D HD HE M P S St V : Type 0} where
   -- a set with one entry more
   pub record HasOneMore (id : ℕ) (more : Entry K A D HD HE M P S St V) (old new : PrimitiveSet K A D HD HE M P S St V) : Type 0 where
     pub by_prefix : AddsLast prefix_of more old.entries new.entries
+    pub added : Adds (prefix_of more) more old.entries new.entries
     pub by_id : new.primary ≡ primary_after (λ e. e.key_id) id old.primary more
 
   -- a set with the entry of a key, where it is enabled

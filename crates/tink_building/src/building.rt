@@ -1,11 +1,11 @@
 //! The set of a keyset's primitives.
 
-ghost use Rattle.std.specs.Prelude.{◌≡◌, ◌⊎◌, [], None, Some, Ok, Err, IfOk, IfErr, OnOk, IsTrue, true, filter, option_copied};
+ghost use Rattle.std.specs.Prelude.{◌≡◌, ◌⊎◌, ℕ, List, [], None, Some, Ok, Err, IfOk, IfErr, OnOk, IsTrue, true, filter, option_copied};
 ghost use Rattle.std.specs.List.{list_all};
 ghost use Rattle.tink_io.specs.Told.{Answers};
 ghost use Rattle.tink_io.specs.declared.error.Kind.TheVariants.{OutOfMemory};
 ghost use Rattle.tink_sets.specs.Entries.{entry_of, may_stand, prefix_of};
-ghost use Rattle.tink_sets.specs.Groups.{AreGroupsOf};
+ghost use Rattle.tink_sets.specs.Groups.{AreGroupsOf, group_at};
 ghost use Rattle.keyset_model.specs.Keys as key_words;
 ghost use Rattle.keyset_model.specs.Validity as validity;
 ghost use Rattle.tink_building.specs.Built.{built_data, built_entry, primary_after, FillsSet, GivesSet, HasOneMore, IsSetOf, TakesKey};
@@ -140,6 +140,7 @@ fn put_keys<M: KeyManager>(
     requires well_formed { IsTrue (list_all validity.is_well_formed keys.now) }
     requires no_primary { set.old.primary ≡ None }
     requires no_entries { AreGroupsOf prefix_of [] set.old.entries }
+    requires no_lists { (prefix : List ℕ) → group_at set.old.entries prefix ≡ None }
     ensures { FillsSet id result (given_each
         (built_entry M.url M.supports M.builds entry_of registry.now.managers (option_copied km.entry))
         (filter key_words.is_enabled keys.now)) set.new }

@@ -1,6 +1,6 @@
 -- The set of one sort of what a keyset builds.
 use Rattle.std.proofs.Common.{◌≡◌, ◌∙◌, ◌⊎◌, ℕ, List, [], Bool, true, false, cond, Option, Some, None, Result, Ok, Err, refl, sym, ap, subst, inl, inr, ⊎_elim}
-use Rattle.std.specs.Prelude.{Vec, IfOk, IfErr, find, is_some, nat_eq, unwrap_or}
+use Rattle.std.specs.Prelude.{Vec, IfOk, IfErr, filter, find, is_some, nat_eq, unwrap_or}
 use Rattle.std.specs.Str.{bytes_eq}
 use Rattle.std.specs.BTreeMap.{BTreeMap}
 use Rattle.tink_io.specs.declared.error.Kind.{Kind}
@@ -10,13 +10,13 @@ use Rattle.tink_io.specs.Told.{made_of}
 use Rattle.tink_primitives.specs.declared.primitive.Primitive.{Primitive}
 use Rattle.tink_sets.specs.Converting.{converted, AreConverted, HasRefused}
 use Rattle.tink_sets.specs.Entries.{prefix_of, typed_by, typed_prefix_of, with_primitive, IsTypedPrimary, IsRefusedPrimary, HasAnother}
-use Rattle.tink_sets.specs.Groups.{AreGroupsOf, group_of}
+use Rattle.tink_sets.specs.Groups.{AreGroupsOf, group_at, group_of}
 use Rattle.tink_sets.specs.declared.entry.Entry.{Entry}
 use Rattle.tink_sets.specs.declared.entry.TypedEntry.{TypedEntry}
 use Rattle.tink_sets.proofs.SortFacts.{OnlyWrong, converted_wrong, typed_wrong}
-use Rattle.tink_keysets.specs.Built.{GivesSet, HasEntries}
+use Rattle.tink_keysets.specs.Built.{GivesSet, HasEntries, HasNoOther}
 use Rattle.tink_keysets.specs.Typing.{typed_entries}
-use Rattle.tink_keysets.proofs.TypingFacts.{IsFound, converted-filter, converted-find, group-converted, refused_under}
+use Rattle.tink_keysets.proofs.TypingFacts.{IsFound, converted-filter, converted-find, converted-none, converted-nothing, group-converted, refused_under}
 
 module _ {K A D HD HE M P S St V Q : Type 0} (pick : Primitive K A D HD HE M P S St V → Result Q Kind) where
   with_ok : (e : Entry K A D HD HE M P S St V) (r : Result Q Kind) (y : TypedEntry Q) → made_of (with_primitive e) r ≡ Ok y → (e.prefix ≡ y.prefix) × (e.key_id ≡ y.key_id)
@@ -46,6 +46,12 @@ module _ {K A D HD HE M P S St V Q : Type 0} (pick : Primitive K A D HD HE M P S
             let one = group-converted (typed_by pick) groups n h p in
             let other = ap (converted (typed_by pick)) (has.by_prefix p) ∙ converted-filter (typed_by pick) (λ e. bytes_eq e.prefix p) (λ t. bytes_eq t.prefix p) (same_prefix p) es ts all in
             cc
+
+        typed_no_other : (n : BTreeMap (Vec ℕ G) (List (TypedEntry Q))) → AreConverted (typed_by pick) groups n → HasNoOther typed_prefix_of ts n
+        typed_no_other n h p empty =
+            let kept = converted-filter (typed_by pick) (λ e. bytes_eq e.prefix p) (λ t. bytes_eq t.prefix p) (same_prefix p) es ts all ∙ ap Ok empty in
+            converted-none (typed_by pick) (group_at groups p) (group_at n p) (h p)
+            (has.no_other p (converted-nothing (typed_by pick) (filter (λ e. bytes_eq e.prefix p) es) kept))
 
         typed_primary : (q : Option (TypedEntry Q)) → IsTypedPrimary pick primary q → q ≡ find (λ t. nat_eq t.key_id id) ts
         typed_primary q h =
@@ -83,7 +89,7 @@ module _ {K A D HD HE M P S St V Q : Type 0} (pick : Primitive K A D HD HE M P S
 
       given : (r : Result (List (TypedEntry Q)) Kind) → converted (typed_by pick) es ≡ r → (q : Option (TypedEntry Q)) (n : BTreeMap (Vec ℕ G) (List (TypedEntry Q))) → IsTypedPrimary pick primary q → AreConverted (typed_by pick) groups n
           → (ts : List (TypedEntry Q)) × (r ≡ Ok ts) × HasEntries typed_prefix_of (λ t. t.key_id) id ts q n
-      given (Ok ts) is q n first rest = (ts, refl, record { by_prefix = typed_groups ts is n rest; by_id = typed_primary ts is q first })
+      given (Ok ts) is q n first rest = (ts, refl, record { by_prefix = typed_groups ts is n rest; no_other = typed_no_other ts is n rest; by_id = typed_primary ts is q first })
       given (Err k) is q n first rest = absurd (not_refused k n rest is)
 
       another : OnlyWrong pick → (r : Result (List (TypedEntry Q)) Kind) → converted (typed_by pick) es ≡ r → HasAnother pick primary groups → r ≡ Err WrongPrimitive

@@ -79,6 +79,21 @@ module _ {E F : Type 0} (f : E → Result F Kind) where
     refused_under [] k e = absurd (cc)
     refused_under (x ∷ xs) k e = refused_step x xs (f x) k refl (refused_under xs k) e
 
+  -- only nothing is converted to nothing
+  something : (r : Result F Kind) (rest : Result (List F) Kind) → before r rest ≡ Ok [] → ⊥
+  something (Err k) rest e = absurd (cc)
+  something (Ok v) (Err k) e = absurd (cc)
+  something (Ok v) (Ok vs) e = absurd (cc)
+
+  pub converted-nothing : (xs : List E) → converted f xs ≡ Ok [] → xs ≡ []
+  converted-nothing [] e = refl
+  converted-nothing (x ∷ xs) e = absurd (something (f x) (converted f xs) e)
+
+  pub converted-none : (o : Option (List E)) (q : Option (List F)) → IsConverted f o q → o ≡ None → q ≡ None
+  converted-none None None h none = refl
+  converted-none None (Some ys) h none = absurd h
+  converted-none (Some xs) q h none = absurd (cc)
+
   -- the lists of a map that is converted
   at_prefix : (o : Option (List E)) (q : Option (List F)) → IsConverted f o q → converted f (unwrap_or o []) ≡ Ok (unwrap_or q [])
   at_prefix None None h = refl

@@ -8,7 +8,7 @@ pub loop-key-init : goal.loop-key-init
 loop-key-init g c =
     none_built
     (built_entry g.M.KeyManager.url g.M.KeyManager.supports g.M.KeyManager.builds entry_of c.args.registry.now.managers (option_copied c.args.km))
-    c.args.id c.args.keys.now c.args.set.now c.requires.no_primary c.requires.no_entries
+    c.args.id c.args.keys.now c.args.set.now c.requires.no_primary c.requires.no_entries c.requires.no_lists
 
 pub loop-key-preserved : goal.loop-key-preserved
 loop-key-preserved g c =
