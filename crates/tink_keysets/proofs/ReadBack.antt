@@ -13,7 +13,7 @@ use Rattle.tink_keyset_parts.specs.declared.memory.MemReaderWriter.{MemReaderWri
 use Rattle.tink_keysets.specs.Encrypted.{by_master, chained, decrypted, handle_of_bytes, with_info, MasterUndoes}
 use Rattle.tink_keyset_parts.specs.Ends.{held_or, IsReadRefusal, IsWriteRefusal}
 use Rattle.tink_keysets.specs.Handles.{handle_of}
-use Rattle.tink_keysets.specs.Through.{GivesBy, IsRefusedByWriter, IsTaken, IsUnmade}
+use Rattle.tink_keysets.specs.Through.{GivesBy, IsRefusedByWriter, IsTaken, IsUnmade, LeavesDraws}
 
 -- where a value is given and no fault can be, there is no refusal but `OutOfMemory`
 only_memory : {T : Type 0} (v : T) (kind : Kind) → IsReadRefusal (Some (Ok v)) kind 0 0 → kind ≡ OutOfMemory
@@ -81,3 +81,8 @@ pub not_made_other : {S T : Type 0} (f : S → T) (r : Result S Kind) (v : S) (k
 not_made_other f (Ok w) v kind is (inl memory) = memory
 not_made_other f (Ok w) v kind is (inr refused) = absurd (cc)
 not_made_other f (Err k) v kind is h = absurd (cc)
+
+-- reading draws nothing, whatever it answers
+pub drawn_once : {S : Type 0} (result : Result S TinkError) (left before now : List ℕ) → now ≡ left → LeavesDraws result left before now
+drawn_once (Ok v) left before now is = is
+drawn_once (Err e) left before now is = inr is

@@ -157,7 +157,7 @@ fn decrypt<A: Aead>(
     }
 }
 
-// The encrypted keyset of a handle. Draws are taken last.
+// The encrypted keyset of a handle. Draws are taken last, which no clause says.
 fn encrypt<A: Aead>(
     alloc: Global,
     h: &Handle,

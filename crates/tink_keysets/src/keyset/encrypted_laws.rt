@@ -7,6 +7,7 @@ ghost use Rattle.tink_io.specs.declared.error.Kind.TheVariants.{MasterFailed};
 ghost use Rattle.tink_io.specs.Told.{Answers, made_of};
 ghost use Rattle.tink_proto.specs.Messages.{keyset};
 ghost use Rattle.tink_keysets.specs.Encrypted.{by_master, MasterUndoes};
+ghost use Rattle.tink_keysets.specs.Through.{LeavesDraws};
 
 use crate::keyset::{Handle, MemReaderWriter};
 use std::alloc::Global;
@@ -16,7 +17,7 @@ use tink_primitives::Aead;
 /// Writes a keyset into memory under the associated data `written`, and reads it under `read`.
 ///
 /// Under the same data the same keyset is read, where the master's decryption undoes its encryption. Under data for
-/// which the master refuses what it encrypted, the answer is `MasterFailed`.
+/// which the master refuses what it encrypted, the answer is `MasterFailed`. The draws left are the master's.
 pub fn law_written_is_read<A: Aead>(
     alloc: Global,
     h: &Handle,
@@ -31,6 +32,8 @@ pub fn law_written_is_read<A: Aead>(
     ensures other { (ciphertext : List ℕ) (kind : Kind)
         → (A.encrypts master.now (encoded keyset.write h.now) written.now draws.old).0 ≡ Ok ciphertext
         → A.decrypts master.now ciphertext read.now ≡ Err kind → Answers result (Err MasterFailed) }
+    ensures rest { LeavesDraws result (A.encrypts master.now (encoded keyset.write h.now) written.now draws.old).1
+        draws.old draws.new }
 {
     let mut memory = MemReaderWriter::default();
     match h.write_with_associated_data(alloc, &mut memory, master, written, draws) {

@@ -3,7 +3,7 @@ use Rattle.wire_format.specs.Message.{encoded}
 use Rattle.tink_io.specs.Told.{Answers}
 use Rattle.tink_proto.specs.Messages.{keyset}
 use Rattle.tink_keysets.specs.Encrypted.{by_master, encrypted, with_info}
-use Rattle.tink_keysets.proofs.ReadBack.{not_made, not_made_other, not_made_same, other_read, read_written, same_read}
+use Rattle.tink_keysets.proofs.ReadBack.{drawn_once, not_made, not_made_other, not_made_same, other_read, read_written, same_read}
 use Rattle.tink_keysets.proofs.keyset.encrypted_laws.law_written_is_read.Goals as goal
 
 pub returns-in-Ok-clause-same : goal.returns-in-Ok-clause-same
@@ -41,3 +41,7 @@ returns-clause-other g c = λ ciphertext kind is refused.
     let made = (g.A.Aead.encrypts c.args.master.now (encoded keyset.write c.args.h.now) c.args.written.now c.args.draws.now).0 in
     inl (not_made_other (with_info c.args.h.now) made ciphertext _ is (not_made (encrypted (g.A.Aead.encrypts c.args.master.now) c.args.written.now c.args.draws.now c.args.h.now).0 _ c.default-memory.result c.write_with_associated_data.new.writer
     c.in-Err.ensures.answer))
+
+pub returns-in-Ok-clause-rest : goal.returns-in-Ok-clause-rest
+returns-in-Ok-clause-rest g c =
+    drawn_once c.read_with_associated_data.result _ _ _ c.in-Ok.ensures.rest
