@@ -14,7 +14,7 @@ pub(crate) fn xored(block: &[u8; 16], bytes: &[u8]) -> [u8; 16]
     out
 }
 
-// Whether these are the same bytes, in a time that does not tell where they differ.
+// Whether these are the same bytes, compared as one number.
 pub(crate) fn is_same(tag: &[u8; 16], bytes: &[u8]) -> bool
     requires { length bytes.now ≡ 16 }
     ensures { IsTrue result ↔ (tag.now ≡ bytes.now) }

@@ -55,6 +55,9 @@ where
 
 impl<P: Aead + CloneIn> WrappedAead<P> {
     /// The AEADs of the same entries, which answer each call alike.
+    ///
+    /// # Errors
+    /// `OutOfMemory`.
     pub fn try_clone(&self, alloc: Global) -> Result<Self, TinkError>
         ensures primary { IfOk result (λ copy. copy.ps.primary ≡ self.now.ps.primary) }
         ensures entries { IfOk result (λ copy. HaveSameGroups self.now.ps.entries copy.ps.entries) }
@@ -72,7 +75,7 @@ impl<P: Aead> Aead for WrappedAead<P> {
 
     ghost decrypts = { λ w input aad. any_decrypts P.decrypts (group_of w.ps.entries) input aad };
 
-    /// The primary key's prefix and its encryption, or its refusal.
+    /// The primary key's prefix and its encryption, or its refusal, or `OutOfMemory`.
     fn encrypt(
         &self,
         alloc: Global,

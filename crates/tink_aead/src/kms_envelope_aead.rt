@@ -193,6 +193,7 @@ impl<A: Aead, M: KeyManager> Aead for KmsEnvelopeAead<'_, A, M> {
     /// The registry's refusals on the new key, else those of the remote key on encrypting it, else
     /// the registry's on building it, else `WrongPrimitive` where it is no AEAD's key, else those of
     /// its AEAD on the text, else `LengthOverU32` where the encrypted key has 2^32 bytes or more.
+    /// `OutOfMemory` may come in place of each.
     fn encrypt(
         &self,
         alloc: Global,
@@ -222,7 +223,7 @@ impl<A: Aead, M: KeyManager> Aead for KmsEnvelopeAead<'_, A, M> {
     /// `TooShort` where the ciphertext has four bytes or fewer, else `DecryptFailed` where the
     /// length is 0 or more bytes than follow it, else the refusals of the remote key on the
     /// encrypted key, else the registry's on building it, else `WrongPrimitive` where it is no AEAD's
-    /// key, else those of its AEAD on the rest.
+    /// key, else those of its AEAD on the rest. `OutOfMemory` may come in place of each.
     fn decrypt(
         &self,
         alloc: Global,

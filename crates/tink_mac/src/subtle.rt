@@ -11,7 +11,7 @@ pub use hmac::{Hmac, validate_hmac_params};
 use tink_io::{Kind, TinkError};
 use tink_subtle::constant_time_compare;
 
-// Ok where a tag is the message's own, and else `MacMismatch`. Tags of one size are compared to their end.
+// Ok where a tag is the message's own, and else `MacMismatch`.
 fn compare_tags(own: &[u8], tag: &[u8]) -> Result<(), TinkError>
     ensures { Tells result (own_tag own.now tag.now) }
 {

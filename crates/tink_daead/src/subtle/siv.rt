@@ -67,7 +67,7 @@ fn apply_counter_mode<C: BlockCipherEncrypt<16>>(c: &C, block: &[u8; 16], bytes:
     apply_core(core, bytes);
 }
 
-// Whether these are the same bytes, in a time that does not tell where they differ.
+// Whether these are the same bytes, compared as one number.
 fn is_same(a: &[u8; SIV_SIZE], b: &[u8; SIV_SIZE]) -> bool
     ensures { IsTrue result ↔ (a.now ≡ b.now) }
 {
