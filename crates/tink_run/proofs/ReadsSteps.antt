@@ -20,7 +20,7 @@ use Rattle.stream_model.proofs.CutFacts.{cut_none, cut_fits, cut_more}
 use Rattle.tink_streaming_aead.specs.DecryptReaders.{largest}
 use Rattle.tink_streaming_aead.proofs.DecryptSteps.{reads_held, reads_kept}
 use Rattle.tink_streams.specs.Choosing.{Started, StartRefused}
-use Rattle.tink_streams.specs.Reading.{FailsBy, ReaderMoment, TellsLeads, OpenNextRefused}
+use Rattle.tink_streams.specs.Reading.{FailsBy, IsBad, ReadFailed, ReaderMoment, TellsLeads, TruncatedAt, OpenNextRefused}
 use Rattle.tink_streams.proofs.ChosenFacts.{chunks_are}
 use Rattle.tink_segment_traits.proofs.HeadFacts.{fits_or_not}
 use Rattle.tink_streams.proofs.ReadingFacts.{Opened}
@@ -28,18 +28,33 @@ use Rattle.tink_run.specs.declared.report.Report.{Report}
 use Rattle.tink_io.specs.Outside.{Outside}
 use Rattle.tink_run.specs.OpenAnswers.{Lead}
 use Rattle.tink_run.specs.OpenReads.{FailsBehind, ReaderReads, ReaderReadsBy, ReadsBy, ReadsFrom, ReadsNear, ReadsWithin, StopsBehind, from_chunk, largest_of}
-use Rattle.tink_run.specs.OpenSteps.{FirstRefused, ReaderMeans}
+use Rattle.tink_run.specs.OpenSteps.{FirstFailedBy, FirstRefused, ReaderMeans}
 use Rattle.tink_run.proofs.OpenLemmas.{kept_nothing}
 use Rattle.tink_run.proofs.OpenSteps.{behind, leads_under, some_agrees}
 use Rattle.tink_run.proofs.ReadOut.{IsReading, any_told, front_one, lead_of, written_one}
 
 -- a refusal loses no byte
-pub fails_by : (seg : ℕ → Bool → List ℕ → List ℕ) (a b overhead : ℕ) (m n : ReaderMoment) (kind : Kind) → OpenNextRefused seg a b overhead m n kind → (c : Cause) × FailsBy c m n
+fails_by : (seg : ℕ → Bool → List ℕ → List ℕ) (a b overhead : ℕ) (m n : ReaderMoment) (kind : Kind) → OpenNextRefused seg a b overhead m n kind → (c : Cause) × FailsBy c m n
 fails_by seg a b overhead m n ReadFault x = (cause.ReadFault, x.fails)
 fails_by seg a b overhead m n TooManySegments x = (cause.TooManySegments, x.fails)
 fails_by seg a b overhead m n (BadSegment i) x = (cause.BadSegment i, x.fails)
 fails_by seg a b overhead m n (Truncated i) x = (cause.Truncated i, x.fails)
 fails_by seg a b overhead m n _ x = absurd x
+
+-- by a failed read
+pub failed_by_source : (seg : ℕ → Bool → List ℕ → List ℕ) (a b overhead : ℕ) (m n : ReaderMoment) (kind : Kind) → kind ≡ ReadFault → OpenNextRefused seg a b overhead m n kind → ReadFailed m n
+failed_by_source seg a b overhead m n kind is x = subst (OpenNextRefused seg a b overhead m n) is x
+
+-- by which cause a reader has failed whose first segment is refused, and no read failed
+pub first_failed : (seg : ℕ → Bool → List ℕ → List ℕ) (a b overhead : ℕ) (m n : ReaderMoment) (kind : Kind) → m.number ≡ 0 → (kind ≡ ReadFault → ⊥) → OpenNextRefused seg a b overhead m n kind → FirstFailedBy seg a b overhead m n NoMatchingKey
+first_failed seg a b overhead m n ReadFault fresh other x = absurd (other refl)
+first_failed seg a b overhead m n TooManySegments fresh other x = absurd (not_many m.number fresh x.number)
+  where
+    not_many : (i : ℕ) → i ≡ 0 → i ≡ 2 ^ 32 → ⊥
+    not_many i none many = omega (arith, none, many)
+first_failed seg a b overhead m n (BadSegment i) fresh other x = inr (subst (IsBad seg a b overhead m n) (x.number ∙ fresh) x)
+first_failed seg a b overhead m n (Truncated i) fresh other x = inl (subst (TruncatedAt seg a b overhead m n) (x.number ∙ fresh) x)
+first_failed seg a b overhead m n _ fresh other x = absurd x
 
 -- so at most what is held was read
 pub refused_reads : (room f : ℕ) (seg : ℕ → Bool → List ℕ → List ℕ) (a b overhead : ℕ) (m n : ReaderMoment) (kind : Kind) (items : List ℕ) (left : Option (List ℕ)) → n.rest ≡ prepend_known (take f items) left → f ≤ room

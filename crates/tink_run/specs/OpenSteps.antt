@@ -1,9 +1,8 @@
 -- What the steps of an open say.
-use Rattle.std.specs.Prelude.{◌≡◌, ℕ, ◌<◌, ◌≤◌, ◌^◌, Bool, List, [], length, slice_index_or, Result, Ok, Err, IfSome, IsSome}
+use Rattle.std.specs.Prelude.{◌≡◌, ◌⊎◌, ℕ, ◌<◌, ◌≤◌, ◌^◌, Bool, List, [], length, slice_index_or, Result, Ok, Err, IfSome, IsSome}
 use Rattle.std.specs.Io.KnownBytes.{Appends, Keeps, IsAtEnd}
 use Rattle.tink_io.specs.Faults.{Rose}
 use Rattle.tink_io.specs.Written.{AppendsPrefix}
-use Rattle.tink_io.specs.declared.error.Cause.{Cause}
 use Rattle.tink_io.specs.declared.error.Kind.{Kind}
 use Rattle.tink_io.specs.declared.error.Kind.TheVariants.{OutOfMemory, ReadFault, WriteFault, TooManySegments, NoMatchingKey, BadSegment, Truncated}
 use Rattle.tink_io.specs.declared.error.TinkError.{TinkError}
@@ -14,7 +13,7 @@ use Rattle.stream_model.specs.Opening.{OpeningKey}
 use Rattle.tink_segment_traits.specs.declared.segment_traits.SegmentDecrypter.{Ghosts}
 use Rattle.tink_streams.specs.declared.reading.SegmentReader.{SegmentReader}
 use Rattle.tink_streams.specs.Openers.{reader_rest}
-use Rattle.tink_streams.specs.Reading.{ReaderMoment, OpensNext, NothingComes, FailsBy}
+use Rattle.tink_streams.specs.Reading.{ReaderMoment, OpensNext, NothingComes, ReadFailed, TruncatedAt, IsBad}
 use Rattle.tink_run.specs.declared.report.Report.{Report}
 use Rattle.tink_io.specs.Outside.{Outside, IsUntouched}
 use Rattle.tink_run.specs.OpenAnswers.{IsOpenedWhole, OpeningRefused}
@@ -29,10 +28,15 @@ abbrev pub FirstMeans : (ℕ → Bool → List ℕ → List ℕ) → ℕ → ℕ
 FirstMeans seg first size old new (Ok _) = OpensNext seg first size old new
 FirstMeans seg first size old new (Err e) = FirstRefused seg first size old new e.kind
 
--- a refusal leaves a reader that has opened nothing and keeps what is told of the rest, and that has failed for good
-abbrev pub FirstFailed : ReaderMoment → ReaderMoment → Result (Unit {0}) TinkError → Type 0
-FirstFailed old new (Ok _) = Unit {0}
-FirstFailed old new (Err e) = (c : Cause) × FailsBy c old new
+-- A refusal leaves a reader that has opened nothing and keeps what is told of the rest, and that has failed for good: by the
+-- source, or by the first chunk, which is shorter than any segment or the segment of no text.
+abbrev pub FirstFailedBy : (ℕ → Bool → List ℕ → List ℕ) → ℕ → ℕ → ℕ → ReaderMoment → ReaderMoment → Kind → Type 0
+FirstFailedBy seg first size overhead old new ReadFault = ReadFailed old new
+FirstFailedBy seg first size overhead old new _ = TruncatedAt seg first size overhead old new 0 ⊎ IsBad seg first size overhead old new 0
+
+abbrev pub FirstFailed : (ℕ → Bool → List ℕ → List ℕ) → ℕ → ℕ → ℕ → ReaderMoment → ReaderMoment → Result (Unit {0}) TinkError → Type 0
+FirstFailed seg first size overhead old new (Ok _) = Unit {0}
+FirstFailed seg first size overhead old new (Err e) = FirstFailedBy seg first size overhead old new e.kind
 
 -- some texts lead from the first chunk of the old rest to its end, and were written
 pub record IsReadOut (seg : ℕ → Bool → List ℕ → List ℕ) (first size : ℕ) (old new : Outside) (report : Report) : Type 0 where

@@ -149,7 +149,8 @@ pub fn open_first<S: Source, D: SegmentDecrypter + Drop>(
     ensures answer { FirstMeans (segment_map reader.old.opener) reader.old.opener.first reader.old.opener.size
         (reader_moment S.left S.faults reader.old source.old) (reader_moment S.left S.faults reader.new source.new)
         result }
-    ensures failed { FirstFailed (reader_moment S.left S.faults reader.old source.old)
+    ensures failed { FirstFailed (segment_map reader.old.opener) reader.old.opener.first reader.old.opener.size
+        reader.old.opener.overhead (reader_moment S.left S.faults reader.old source.old)
         (reader_moment S.left S.faults reader.new source.new) result }
     ensures opener { reader.new.opener ≡ reader.old.opener }
     ensures memory { reader_memory reader.new ≡ reader_memory reader.old }

@@ -15,7 +15,22 @@ use tink_io::{Draws, Sink, Source, TinkError};
 use tink_sets::TypedPrimitiveSet;
 use tink_streaming_aead::StreamKind;
 
-/// Seals or opens a stream under a keyset.
+/// Seals or opens a stream under a keyset, which is in the wire format: what the source has left goes, sealed under the
+/// primary key or opened under the first key that it begins under, to the sink. A seal takes its salt and the prefix of
+/// its nonces from the draws.
+///
+/// # Errors
+/// The first that applies:
+/// - the refusals of loading the keyset: `BadKeyset`, `InvalidKeyset`, `UnsupportedKeyType`, `InvalidKey`, `NoPrimary`,
+///   `WrongPrimitive`;
+/// - `RandomFault` of a seal for which too few draws are left; all this with nothing read, written or drawn;
+/// - `UnsupportedHash` of a seal whose key derives nothing, with the draws taken, and nothing read or written;
+/// - `NoMatchingKey` of an open where the stream begins under no key, with nothing written;
+/// - `TooManySegments` where the stream has more than 2^32 segments; `Truncated` and `BadSegment` of an open where a
+///   later segment is shorter than a tag or that of no text. Of a seal the segments that are surely not the last were
+///   written, and of an open the texts of the segments before.
+///
+/// `ReadFault` and `WriteFault` come where an end failed, and `OutOfMemory` before anything was read, written or drawn.
 pub fn run<S: Source, K: Sink>(
     alloc: Global,
     command: Command,

@@ -1,10 +1,11 @@
 //! Sealing and opening to a sink that gets small pieces together.
 
-ghost use Rattle.std.specs.Prelude.{◌≡◌, ◌≤◌, [], map};
+ghost use Rattle.std.specs.Prelude.{◌≡◌, ◌≤◌, [], map, Err};
 ghost use Rattle.std.specs.Io.KnownBytes.{append_known};
 ghost use Rattle.stream_model.specs.Opening as opening;
 ghost use Rattle.tink_stream_keys.specs.StreamKinds.{key_in_set};
 ghost use Rattle.tink_streaming_aead.specs.Wrapped.{KeepsOrder, all_entries, keys_in};
+ghost use Rattle.tink_io.specs.declared.error.Kind.TheVariants.{WriteFault};
 ghost use Rattle.tink_io.specs.Gathering.{OnlyGrows};
 ghost use Rattle.tink_run.specs.Endings.{EndsAs, IsEndedBy};
 ghost use Rattle.tink_run.specs.OpenReads.{OpensReading};
@@ -20,8 +21,8 @@ use tink_io::{Draws, Gathered, Kind, Sink, Source, TinkError};
 use tink_sets::{TypedEntry, TypedPrimitiveSet};
 use tink_streaming_aead::StreamKind;
 
-/// Ends what was answered over a gathered sink: all that was given is handed on and the answer stays, or the sink has
-/// failed, now or before, and has got a prefix of it.
+/// Ends what was answered over a gathered sink: all that was given is handed on, nothing waits, and the answer stays, or
+/// the sink has failed, now or before, and has got a prefix of it.
 ///
 /// # Errors
 /// That of the answer; WriteFault where the sink fails now.
@@ -32,6 +33,7 @@ pub fn ended<K: Sink>(
     ensures ends { IsEndedBy (append_known (K.got sink.old.sink.now) sink.old.waiting.now.items)
         (K.got sink.new.sink.now) (K.faults sink.old.sink.now) (K.faults sink.new.sink.now) answer result }
     ensures still { sink.old.waiting.now.items ≡ [] → (result ≡ answer) × (sink.new.sink.now ≡ sink.old.sink.now) }
+    ensures empty { (result ≡ Err (record { kind = WriteFault }) → ⊥) → sink.new.waiting.now.items ≡ [] }
     ensures grows { OnlyGrows (K.got sink.old.sink.now) (K.got sink.new.sink.now) }
     ensures later { K.faults sink.old.sink.now ≤ K.faults sink.new.sink.now }
     ensures lent { sink.new.sink.ghost_name ≡ sink.old.sink.ghost_name }

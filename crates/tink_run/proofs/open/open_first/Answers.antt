@@ -1,7 +1,7 @@
-use Rattle.std.proofs.Common.{refl, arith, vec_len}
+use Rattle.std.proofs.Common.{rules, refl, arith, vec_len}
 use Rattle.tink_streams.specs.Openers.{reader_moment, segment_map}
 use Rattle.tink_streams.specs.Reading.{ReaderMoment}
-use Rattle.tink_run.proofs.ReadsSteps.{fails_by, refused_reads}
+use Rattle.tink_run.proofs.ReadsSteps.{failed_by_source, first_failed, refused_reads}
 use Rattle.tink_run.proofs.open.open_first.Goals as goal
 
 pub returns-in-Err-ReadFault-clause-read : goal.returns-in-Err-ReadFault-clause-read
@@ -15,7 +15,8 @@ returns-in-Err-ReadFault-clause-read g c =
     (omega (arith, reader.filled_in, c.open_next.ensures.room)) c.in-Err-ReadFault.ensures.answer
 
 pub returns-in-Err-ReadFault-clause-failed : goal.returns-in-Err-ReadFault-clause-failed
-returns-in-Err-ReadFault-clause-failed g c = fails_by _ _ _ _ _ _ c.in-Err-ReadFault.field-0.kind c.in-Err-ReadFault.ensures.answer
+returns-in-Err-ReadFault-clause-failed g c =
+    rw c.new.ensures (failed_by_source _ _ _ _ _ _ c.in-Err-ReadFault.field-0.kind (search rules) c.in-Err-ReadFault.ensures.answer)
 
 pub returns-in-Err-ReadFault-clause-opener : goal.returns-in-Err-ReadFault-clause-opener
 returns-in-Err-ReadFault-clause-opener g c = c.open_next.ensures.opener
@@ -46,7 +47,13 @@ returns-in-Err-clause-read g c =
     (omega (arith, reader.filled_in, c.open_next.ensures.room)) c.in-Err.ensures.answer
 
 pub returns-in-Err-clause-failed : goal.returns-in-Err-clause-failed
-returns-in-Err-clause-failed g c = fails_by _ _ _ _ _ _ c.in-Err.field-0.kind c.in-Err.ensures.answer
+returns-in-Err-clause-failed g c =
+    let self = c.args.reader.now in
+    let reader = c.open_next.new.self in
+    let o = self.opener in
+    let m : ReaderMoment = reader_moment g.S.Source.left g.S.Source.faults self c.args.source.now in
+    let n : ReaderMoment = reader_moment g.S.Source.left g.S.Source.faults reader c.open_next.new.source in
+    rw c.new-in-Err.ensures (first_failed (segment_map o) o.first o.size o.overhead m n c.in-Err.field-0.kind c.requires.fresh (search rules) c.in-Err.ensures.answer)
 
 pub returns-in-Err-clause-opener : goal.returns-in-Err-clause-opener
 returns-in-Err-clause-opener g c = c.open_next.ensures.opener

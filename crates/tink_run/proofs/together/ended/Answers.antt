@@ -7,6 +7,7 @@ pub returns-in-Err : goal.returns-in-Err
 returns-in-Err g c = record {
   ends = inr (record { is = ap Err c.in-Err.ensures.refused; short = c.in-Err.ensures.cut; cause = inl c.in-Err.ensures.cause.failed });
   still = (λ empty. absurd (ok_is_no_err c.flush.result _ c.in-Err.is (c.flush.ensures.still empty).0));
+  empty = (λ other. absurd (other (ap Err c.in-Err.ensures.refused)));
   grows = c.flush.ensures.grows;
   later = search rules;
   lent = c.flush.ensures.lent;
@@ -18,6 +19,7 @@ pub returns-in-Ok : goal.returns-in-Ok
 returns-in-Ok g c = record {
   ends = inl (record { is = refl; kept = c.in-Ok.ensures.sent });
   still = (λ empty. (refl, (c.flush.ensures.still empty).1));
+  empty = (λ _. c.in-Ok.ensures.empty);
   grows = c.flush.ensures.grows;
   later = search rules;
   lent = c.flush.ensures.lent;
