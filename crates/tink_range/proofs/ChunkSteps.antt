@@ -1,5 +1,5 @@
 -- From the opening of a chunk and the writing of a part of its text to the answer.
-use Rattle.std.proofs.Common.{◌≡◌, ◌+◌, min, ℕ, true, false, List, [], length, refl, sym, subst}
+use Rattle.std.proofs.Common.{◌≡◌, ◌+◌, min, ℕ, true, false, List, [], length, sym, subst}
 use Rattle.std.specs.Prelude.{Bool, Result, Ok, Err, IfErr, IfOk, OnErr, OnOk}
 use Rattle.std.specs.declared.option.Option.{Option}
 use Rattle.std.specs.Io.KnownBytes.{Appends}

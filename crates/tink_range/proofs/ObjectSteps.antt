@@ -11,6 +11,7 @@ use Rattle.tink_segment_traits.specs.declared.segment_traits.SegmentDecrypter.{G
 use Rattle.tink_range.specs.Objects.{KeepsObject, LeavesObject, RisesByKind, RisesByReadFault}
 use Rattle.tink_range.specs.RangeCores.{IsSameCore}
 use Rattle.tink_range.specs.Rooms.{HasRoomFor}
+use Rattle.tink_range.specs.StepCounts.{TakesOneStep}
 use Rattle.tink_range.specs.declared.chunks.RangeCore.{RangeCore}
 
 module _ {A : Type 0} (length_of : A → ℕ) (bytes : A → Option (List ℕ)) (faults : A → ℕ) (old mid new : A) where
@@ -84,6 +85,11 @@ none_more before now e = (omega arith, omega arith)
 -- a refused call took no step, which is no more than one
 pub within_one : (before now : ℕ) → now ≡ before → now ≤ before + 1
 within_one before now e = omega arith
+
+-- a step was taken, whatever came then
+pub one_step : {T : Type 0} (before now : ℕ) (r : Result T TinkError) → now ≡ before + 1 → TakesOneStep before now r
+one_step before now (Ok v) e = e
+one_step before now (Err x) e = omega arith
 
 pub below : (a b : ℕ) → a < b → a ≤ b
 below a b h = omega arith

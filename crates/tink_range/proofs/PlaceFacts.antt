@@ -29,6 +29,11 @@ pub start_next : (a b n : ℕ) → start_at a b n + room_at a b n ≡ start_at a
 start_next a b zero = omega arith
 start_next a b (suc n) = omega (arith, start_at_more a b (suc n))
 
+-- a part's places are fewer than its bytes
+pub room_less : (first size over n : ℕ) → room_at (first - over) (size - over) n ≡ room_at first size n - over
+room_less first size over zero = refl
+room_less first size over (suc n) = refl
+
 -- some bytes are a chunk and those behind it
 pub cut_step : (a b : ℕ) (X : List ℕ) → 0 < length X → 0 < a → 0 < b → cut a b X ≡ take a X ∷ cut b b (drop a X)
 cut_step a b X some p q = elim (fits_or_not (length X) a) [
@@ -146,12 +151,8 @@ module _ (first size over behind lo : ℕ) (p : over < first) (q : first ≤ siz
       | inl fits ↦ omega (arith, last_text fits)
       | inr more ↦
           let next : start_at (first - over) (size - over) number + room_at (first - over) (size - over) number ≡ start_at (first - over) (size - over) (number + 1) = start_next (first - over) (size - over) number in
-          omega (arith, next, here.reached, here.text_is, text_room number)
+          omega (arith, next, here.reached, here.text_is, room_less first size over number)
     ]
-      where
-        text_room : (n : ℕ) → room_at (first - over) (size - over) n ≡ room_at first size n - over
-        text_room zero = refl
-        text_room (suc n) = refl
 
     -- the next chunk, where the range goes on
     pub goes_on : (hi : ℕ) → hi ≤ text_length first size over behind → text + (min (behind - start) room - over) < hi
@@ -164,15 +165,11 @@ module _ (first size over behind lo : ℕ) (p : over < first) (q : first ≤ siz
           let after = start_next (first - over) (size - over) (number + 1) in
           record {
             start_is = omega (arith, next, here.start_is);
-            text_is = omega (arith, next_text, here.text_is, text_room number);
+            text_is = omega (arith, next_text, here.text_is, room_less first size over number);
             inside = omega arith;
             reached = omega (arith, here.reached, after);
           }
     ]
-      where
-        text_room : (n : ℕ) → room_at (first - over) (size - over) n ≡ room_at first size n - over
-        text_room zero = refl
-        text_room (suc n) = refl
 
 -- the number of openings so far is in bounds
 pub ticks_few : (m lo hi p : ℕ) → 0 < p → (0 < m → lo + (m - 1) * p < hi) → m ≤ (hi - lo + p - 1) / p

@@ -14,6 +14,7 @@ use Rattle.tink_range.specs.Giving.{Cutting, GiveMeans, GiveRefused, chunks_in}
 use Rattle.tink_range.specs.RangeCores.{IsSameCore, cutting_of}
 use Rattle.tink_range.specs.RangeReading.{LastRefused, RangeMeans, RangeRefused, range_end, range_start}
 use Rattle.tink_range.specs.Ranges.{LastAgrees, SomeGive, chunk_count, text_length}
+use Rattle.tink_range.specs.StepCounts.{TakesTouched, TouchesSoMany}
 use Rattle.tink_range.specs.declared.chunks.RangeCore.{RangeCore}
 use Rattle.tink_range.proofs.GivingTold.{Appends-none}
 
@@ -48,6 +49,20 @@ module _ {D : Type 0} {g : Ghosts D} (old core : RangeCore D g) (same : IsSameCo
     where
       added : (old mid new q r : ℕ) → mid ≤ old + 1 → new ≤ mid + q + 1 → q ≡ r → new ≤ old + r + 2
       added old mid new q r a b e = omega arith
+
+  -- the last chunk was opened, and then those that the range touches
+  pub range_touched : (start len lo hi before mid now : ℕ) (r : Result ℕ TinkError) → lo ≡ range_start (cutting_of old) old.behind start → hi ≡ range_end (cutting_of old) old.behind start len
+      → mid ≡ before + 1 → TakesTouched (cutting_of core) lo hi 0 mid now r → TakesTouched (cutting_of old) (range_start (cutting_of old) old.behind start) (range_end (cutting_of old) old.behind start len) 1 before now r
+  range_touched start len lo hi before mid now (Err e) l h one given = tt
+  range_touched start len lo hi before mid now (Ok n) l h one given = (
+    given.0,
+    subst (λ (c : Cutting). TouchesSoMany c (range_start (cutting_of old) old.behind start) (range_end (cutting_of old) old.behind start len) given.0) (same_cutting old core same)
+        (subst (λ (k : ℕ). TouchesSoMany (cutting_of core) k (range_end (cutting_of old) old.behind start len) given.0) l (subst (λ (k : ℕ). TouchesSoMany (cutting_of core) lo k given.0) h given.1)),
+    sum before mid now given.0 one given.2,
+  )
+    where
+      sum : (before mid now count : ℕ) → mid ≡ before + 1 → now ≡ mid + count + 0 → now ≡ before + count + 1
+      sum before mid now count a b = omega arith
 
 -- there are no more chunks than numbers, or more
 pub few_of : (chunks count most : ℕ) → chunks ≡ count → count - 1 ≤ most → most ≡ 2 ^ 32 - 1 → chunks ≤ 2 ^ 32

@@ -6,6 +6,7 @@ pub mod Objects
 pub mod Rooms
 pub mod ChunkReading
 pub mod Giving
+pub mod StepCounts
 pub mod RangeReading
 pub mod ChoosingAt
 pub mod RangeCores

@@ -7,6 +7,7 @@ ghost use Rattle.tink_range.specs.Objects.{LeavesObject, ReadsObject};
 ghost use Rattle.tink_range.specs.RangeReading.{LastMeans};
 ghost use Rattle.tink_range.specs.Ranges.{TouchesPlaces, text_length};
 ghost use Rattle.tink_range.specs.Shapes.{HasShape, IsLast};
+ghost use Rattle.tink_range.specs.StepCounts.{TakesOneStep};
 ghost use Rattle.tink_streams.specs.Openers.{segment_map};
 
 use crate::opening_at::open_at;
@@ -85,7 +86,7 @@ impl<D: SegmentDecrypter> RangeCore<D> {
         ensures answer { OneMeans K.got K.faults (segment_map self.old.opener)
             (chunk_in self.old place.number place.start) self.old.opener.overhead lo hi place.text
             (ends_of A.bytes A.faults object.old object.new sink.old sink.new) result }
-        ensures ticks { steps.new ≤ steps.old + 1 }
+        ensures ticks { TakesOneStep steps.old steps.new result }
         ensures core { IsSameCore self.old self.new }
         ensures kept { LeavesObject A.length_of A.bytes A.faults object.old object.new result }
         ensures later { K.faults sink.old ≤ K.faults sink.new }
@@ -142,7 +143,7 @@ impl<D: SegmentDecrypter> RangeCore<D> {
         requires room { self.old.behind ≤ start + room_at self.old.opener.first self.old.opener.size number }
         ensures answer { LastMeans (cutting_of self.old) self.old.behind (A.bytes object.old)
             (A.faults object.old) (A.faults object.new) result }
-        ensures ticks { steps.new ≤ steps.old + 1 }
+        ensures ticks { TakesOneStep steps.old steps.new result }
         ensures core { IsSameCore self.old self.new }
         ensures kept { LeavesObject A.length_of A.bytes A.faults object.old object.new result }
         ensures same { A.same object.old object.new }

@@ -5,6 +5,7 @@ ghost use Rattle.tink_range.specs.Objects.{LeavesObject};
 ghost use Rattle.tink_range.specs.RangeCores.{IsSameCore, cutting_of};
 ghost use Rattle.tink_range.specs.Ranges.{chunk_count, text_length};
 ghost use Rattle.tink_range.specs.Shapes.{BeginsRange};
+ghost use Rattle.tink_range.specs.StepCounts.{TakesTouched};
 
 use crate::chunks::RangeCore;
 use crate::read_at::ReadAt;
@@ -32,6 +33,7 @@ fn give_from<A: ReadAt, D: SegmentDecrypter, K: Sink, L: Ledger>(
         (ends_of A.bytes A.faults object.old object.new sink.old sink.new) result }
     ensures ticks { steps.new ≤ steps.old + (hi - lo + (core.old.opener.size - core.old.opener.overhead) - 1)
         / (core.old.opener.size - core.old.opener.overhead) + 1 }
+    ensures touched { TakesTouched (cutting_of core.old) lo hi 0 steps.old steps.new result }
     ensures core { IsSameCore core.old core.new }
     ensures kept { LeavesObject A.length_of A.bytes A.faults object.old object.new result }
     ensures later { K.faults sink.old ≤ K.faults sink.new }
@@ -71,6 +73,7 @@ pub fn give_range<A: ReadAt, D: SegmentDecrypter, K: Sink, L: Ledger>(
         (ends_of A.bytes A.faults object.old object.new sink.old sink.new) result }
     ensures ticks { steps.new ≤ steps.old + (hi - lo + (core.old.opener.size - core.old.opener.overhead) - 1)
         / (core.old.opener.size - core.old.opener.overhead) + 1 }
+    ensures touched { TakesTouched (cutting_of core.old) lo hi 0 steps.old steps.new result }
     ensures core { IsSameCore core.old core.new }
     ensures kept { LeavesObject A.length_of A.bytes A.faults object.old object.new result }
     ensures later { K.faults sink.old ≤ K.faults sink.new }

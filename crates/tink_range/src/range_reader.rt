@@ -9,6 +9,7 @@ ghost use Rattle.tink_range.specs.Objects.{LeavesObject};
 ghost use Rattle.tink_range.specs.RangeReaders.{answer_of, cut_by, object_of};
 ghost use Rattle.tink_range.specs.RangeReading.{IsGivenExactly, RangeMeans, range_end, range_start};
 ghost use Rattle.tink_range.specs.Ranges.{text_length};
+ghost use Rattle.tink_range.specs.StepCounts.{TakesTouched};
 ghost use Rattle.tink_streams.specs.Choosing.{Found};
 
 use crate::chunks::RangeCore;
@@ -93,8 +94,9 @@ impl<A: ReadAt> RangeReader<A> {
     }
 
     /// Writes the bytes of the text from place `start` on and below `start + len`, as far as there are such, and
-    /// answers how many. It takes at most two steps more than the chunks that the range's own length fills. Whatever
-    /// the answer, the reader is as before but for the object, and keeps the memory that it has.
+    /// answers how many. By Ok it takes one step for each chunk that the range touches, and one for the last chunk of
+    /// the stream; whatever the answer at most two more than the chunks that the range's own length fills. The reader
+    /// is then as before but for the object, and keeps the memory that it has.
     ///
     /// # Errors
     /// `ReadFault` or `WriteFault` where the object or the sink failed, with a prefix written of what some touched
@@ -117,6 +119,8 @@ impl<A: ReadAt> RangeReader<A> {
         ensures ticks { steps.new ≤ steps.old + (range_end (cut_by self.old) self.old.behind start len
             - range_start (cut_by self.old) self.old.behind start + (self.old.opening.size
             - self.old.opening.overhead) - 1) / (self.old.opening.size - self.old.opening.overhead) + 2 }
+        ensures touched { TakesTouched (cut_by self.old) (range_start (cut_by self.old) self.old.behind start)
+            (range_end (cut_by self.old) self.old.behind start len) 1 steps.old steps.new result }
         ensures opening { self.new.opening ≡ self.old.opening }
         ensures front { self.new.front ≡ self.old.front }
         ensures behind { self.new.behind ≡ self.old.behind }

@@ -3,6 +3,7 @@ ghost use Rattle.tink_range.specs.ChunkReading.{ends_of};
 ghost use Rattle.tink_range.specs.Objects.{LeavesObject};
 ghost use Rattle.tink_range.specs.RangeCores.{IsSameCore, cutting_of};
 ghost use Rattle.tink_range.specs.RangeReading.{RangeMeans, range_end, range_start};
+ghost use Rattle.tink_range.specs.StepCounts.{TakesTouched};
 
 use crate::chunks::RangeCore;
 use crate::giving::give_range;
@@ -28,6 +29,8 @@ pub fn read_range<A: ReadAt, D: SegmentDecrypter, K: Sink, L: Ledger>(
         - range_start (cutting_of core.old) core.old.behind start
         + (core.old.opener.size - core.old.opener.overhead) - 1)
         / (core.old.opener.size - core.old.opener.overhead) + 2 }
+    ensures touched { TakesTouched (cutting_of core.old) (range_start (cutting_of core.old) core.old.behind start)
+        (range_end (cutting_of core.old) core.old.behind start len) 1 steps.old steps.new result }
     ensures core { IsSameCore core.old core.new }
     ensures kept { LeavesObject A.length_of A.bytes A.faults object.old object.new result }
     ensures later { K.faults sink.old ≤ K.faults sink.new }

@@ -1,4 +1,4 @@
-use Rattle.std.proofs.Common.{◌≡◌, ℕ, None, vec_capacity}
+use Rattle.std.proofs.Common.{◌≡◌, None, vec_capacity}
 use Rattle.stream_model.specs.Cut.{numbered}
 use Rattle.stream_model.specs.Key.{StreamKey, nonce_size}
 use Rattle.stream_model.specs.Opening.{HasFront, OpeningKey, header_of, opening_key}

@@ -1,10 +1,10 @@
-use Rattle.std.proofs.Common.{◌≡◌, ◌<◌, ◌+◌, ◌-◌, ℕ, List, length, IfSome, refl, sym, ap, subst, ◌∙◌, arith, le_trans}
+use Rattle.std.proofs.Common.{◌≡◌, ◌≤◌, ◌<◌, ◌+◌, ◌-◌, ℕ, List, length, IfSome, refl, sym, ap, subst, ◌∙◌, arith, le_trans}
 use Rattle.std.specs.Prelude.{Ok, Err}
 use Rattle.std.specs.declared.option.Option.{Option}
 use Rattle.stream_model.specs.Cut.{room_at}
 use Rattle.tink_range.specs.RangeCores.{cutting_of}
 use Rattle.tink_range.proofs.GivingEnds.{gave_all, gave_refused, same_one}
-use Rattle.tink_range.proofs.GivingTold.{IsNext, all_ticks, last_ticks, next_giving, next_place_is, next_ticks, nothing_given, within_few}
+use Rattle.tink_range.proofs.GivingTold.{IsNext, all_ticks, all_touched, last_ticks, next_giving, next_opened, next_place_is, next_ticks, nothing_given, nothing_opened, within_few}
 use Rattle.tink_range.proofs.ObjectSteps.{core_trans, given_fits, keeps_trans, leaves_trans, less_left, ok_keeps, ok_leaves, whole_of}
 use Rattle.tink_range.proofs.PlaceFacts.{is_reached, number_few, room_some, text_before}
 use Rattle.tink_range.proofs.ReadingFacts.{told_weaker}
@@ -24,6 +24,7 @@ loop-place-init g c =
       start_in = omega (arith, c.requires.begins.place.inside);
       few = omega arith;
       ticks = record { count = omega arith; later = omega arith; bound = omega arith; spaced = λ some more. omega arith };
+      opened = nothing_opened (o.first - o.overhead) (o.size - o.overhead) c.args.lo c.args.hi from.number from.text c.requires.begins.low c.requires.begins.range;
       core = record { opener = refl; front = refl; behind = refl; memory = refl };
       kept = record { length_is = refl; bytes_are = refl; later = omega arith };
       count = refl;
@@ -98,6 +99,7 @@ loop-place-preserved g c =
       start_in = omega (arith, next.start, here.place.inside);
       few = omega (arith, inv.few, one.count, within_few c.args.lo c.args.hi place.text one.text, one.fits, next.text);
       ticks = next_ticks (cutting_of core) c.args.lo c.args.hi core.behind place.number place.start place.text here c.args.from.number _ _ _ _ _ next.number next.text inv.ticks.later gave.ticks inv.ticks;
+      opened = next_opened (cutting_of core) c.args.lo c.args.hi core.behind place.number place.start place.text here c.args.from.number _ _ next.number next.text inv.ticks.later;
       core = core_trans core c.loop-place.core c.give_chunk.new.self inv.core gave.core;
       kept = keeps_trans g.A.ReadAt.length_of g.A.ReadAt.bytes g.A.ReadAt.faults c.args.object.now c.loop-place.object c.give_chunk.new.object inv.kept
           (ok_keeps g.A.ReadAt.length_of g.A.ReadAt.bytes g.A.ReadAt.faults c.loop-place.object c.give_chunk.new.object c.in-Ok.count gave.kept);
@@ -178,6 +180,15 @@ pub returns-clause-ticks : goal.returns-clause-ticks
 returns-clause-ticks g c =
     let o = c.args.core.now.opener in
     all_ticks c.args.lo c.args.hi (o.size - o.overhead) c.args.from.number c.loop-place.place.number c.loop-place.place.text c.args.steps.now c.loop-place.steps c.loop-place.invariant.ticks
+
+pub returns-clause-touched : goal.returns-clause-touched
+returns-clause-touched g c =
+    let begins = c.requires.begins in
+    all_touched (cutting_of c.args.core.now) c.args.lo c.args.hi c.args.from.number c.loop-place.place.number c.loop-place.place.text c.args.steps.now c.loop-place.steps begins.range
+    (subst (λ (n : ℕ). n ≤ c.args.lo) begins.place.text_is begins.low, begins.place.reached) c.loop-place-test.false c.loop-place.invariant.ticks.count c.loop-place.invariant.opened
+
+pub returns-in-Err-clause-touched : goal.returns-in-Err-clause-touched
+returns-in-Err-clause-touched g c = tt
 
 -- behind the last chunk all is as the loop keeps it
 

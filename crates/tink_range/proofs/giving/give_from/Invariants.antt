@@ -3,7 +3,7 @@ use Rattle.std.proofs.Common.{◌≡◌, ◌≤◌, ◌<◌, ◌-◌}
 use Rattle.tink_range.specs.Objects.{KeepsObject}
 use Rattle.tink_range.specs.RangeCores.{IsSameCore, cutting_of}
 use Rattle.tink_range.specs.Shapes.{IsChunkPlace}
-use Rattle.tink_range.proofs.GivingTold.{Giving, Ticks}
+use Rattle.tink_range.proofs.GivingTold.{Giving, HasOpened, Ticks}
 use Rattle.tink_range.proofs.giving.give_from.Given as goal
 
 abbrev pub invariant-loop-place : goal.invariant-loop-place
@@ -18,6 +18,7 @@ invariant-loop-place g l =
       start_in : l.place.start ≤ l.fn.core.behind;
       few : l.given ≤ l.place.text;
       ticks : Ticks l.lo l.hi (o.size - o.overhead) l.fn.from.number l.place.number l.place.text l.fn.steps l.steps;
+      opened : HasOpened (o.first - o.overhead) (o.size - o.overhead) l.hi l.fn.from.number l.place.number l.place.text;
       core : IsSameCore l.fn.core l.core;
       kept : KeepsObject object.length_of object.bytes object.faults l.fn.object l.object;
       count : object.faults l.object ≡ object.faults l.fn.object;

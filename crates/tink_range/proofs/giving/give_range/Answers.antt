@@ -1,6 +1,7 @@
 use Rattle.std.proofs.Common.{refl}
 use Rattle.tink_range.specs.RangeCores.{cutting_of}
 use Rattle.tink_range.proofs.GivingEnds.{nothing_to_give}
+use Rattle.tink_range.proofs.GivingTold.{none_touched_by}
 use Rattle.tink_range.proofs.giving.give_range.Goals as goal
 
 pub returns-then-hi-lo-clause-answer : goal.returns-then-hi-lo-clause-answer
@@ -18,6 +19,12 @@ returns-clause-answer g c = c.give_from.ensures.answer
 
 pub returns-clause-ticks : goal.returns-clause-ticks
 returns-clause-ticks g c = c.give_from.ensures.ticks
+
+pub returns-then-hi-lo-clause-touched : goal.returns-then-hi-lo-clause-touched
+returns-then-hi-lo-clause-touched g c = none_touched_by (cutting_of c.args.core.now) c.args.lo c.args.hi c.args.steps.now c.if-hi-lo.true
+
+pub returns-clause-touched : goal.returns-clause-touched
+returns-clause-touched g c = c.give_from.ensures.touched
 
 pub returns-clause-core : goal.returns-clause-core
 returns-clause-core g c = c.give_from.ensures.core

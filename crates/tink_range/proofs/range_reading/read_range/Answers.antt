@@ -1,11 +1,10 @@
-use Rattle.std.proofs.Common.{◌≡◌, ◌≤◌, ◌^◌, ℕ, replicate, refl, ◌∙◌, arith, le_trans}
-use Rattle.std.specs.Prelude.{Ok}
+use Rattle.std.proofs.Common.{◌≡◌, ◌≤◌, ◌^◌, ℕ, replicate, refl, arith, le_of_eq, le_trans}
 use Rattle.tink_io.specs.declared.error.Kind.TheVariants.{TooManySegments}
 use Rattle.std.proofs.lemmas.List.{length-replicate}
 use Rattle.tink_range.specs.RangeCores.{cutting_of}
 use Rattle.tink_range.specs.RangeReading.{range_end, range_start}
 use Rattle.tink_range.specs.Ranges.{chunk_count}
-use Rattle.tink_range.proofs.RangeSteps.{end_inside, few_of, few_same, last_refused, many_of, range_given, range_refused, range_ticks, same_cutting, within_same}
+use Rattle.tink_range.proofs.RangeSteps.{end_inside, few_of, few_same, last_refused, many_of, range_given, range_refused, range_ticks, range_touched, same_cutting, within_same}
 use Rattle.tink_range.proofs.ObjectSteps.{core_trans, leaves_trans, err_leaves, ok_keeps, refusal_leaves, unread, whole_of}
 use Rattle.tink_range.proofs.range_reading.read_range.Goals as goal
 
@@ -38,7 +37,21 @@ returns-in-Ok-clause-ticks g c =
     let any = c.shape-shape.ensures.shape (replicate core.behind 0) (length-replicate {A = ℕ} core.behind 0) in
     let lo : c.min-lo.result ≡ range_start (cutting_of core) core.behind c.args.start = omega (arith, any.places, c.min-lo.ensures) in
     let hi : c.min-hi.result ≡ range_end (cutting_of core) core.behind c.args.start c.args.len = omega (arith, any.places, c.min-hi.ensures, c.saturating_add.ensures) in
-    range_ticks core c.check_last.new.self c.in-Ok.ensures.core c.args.start c.args.len c.min-lo.result c.min-hi.result c.args.steps.now c.check_last.new.steps c.give_range.new.steps lo hi c.in-Ok.ensures.ticks c.give_range.ensures.ticks
+    range_ticks core c.check_last.new.self c.in-Ok.ensures.core c.args.start c.args.len c.min-lo.result c.min-hi.result c.args.steps.now c.check_last.new.steps c.give_range.new.steps lo hi (le_of_eq c.in-Ok.ensures.ticks) c.give_range.ensures.ticks
+
+pub returns-in-Ok-clause-touched : goal.returns-in-Ok-clause-touched
+returns-in-Ok-clause-touched g c =
+    let core = c.args.core.now in
+    let any = c.shape-shape.ensures.shape (replicate core.behind 0) (length-replicate {A = ℕ} core.behind 0) in
+    let lo : c.min-lo.result ≡ range_start (cutting_of core) core.behind c.args.start = omega (arith, any.places, c.min-lo.ensures) in
+    let hi : c.min-hi.result ≡ range_end (cutting_of core) core.behind c.args.start c.args.len = omega (arith, any.places, c.min-hi.ensures, c.saturating_add.ensures) in
+    range_touched core c.check_last.new.self c.in-Ok.ensures.core c.args.start c.args.len c.min-lo.result c.min-hi.result c.args.steps.now c.check_last.new.steps c.give_range.new.steps c.give_range.result lo hi c.in-Ok.ensures.ticks c.give_range.ensures.touched
+
+pub returns-in-Err-clause-touched : goal.returns-in-Err-clause-touched
+returns-in-Err-clause-touched g c = tt
+
+pub returns-then-number-from-clause-touched : goal.returns-then-number-from-clause-touched
+returns-then-number-from-clause-touched g c = tt
 
 pub returns-in-Ok-clause-kept : goal.returns-in-Ok-clause-kept
 returns-in-Ok-clause-kept g c =

@@ -1,5 +1,5 @@
-use Rattle.std.proofs.Common.{List, map}
-use Rattle.stream_model.specs.Opening.{OpeningKey, opening_key}
+use Rattle.std.proofs.Common.{map}
+use Rattle.stream_model.specs.Opening.{opening_key}
 use Rattle.tink_io.specs.declared.error.Kind.TheVariants.{NoMatchingKey, ReadFault}
 use Rattle.tink_range.proofs.ObjectSteps.{below, front_and_rest, front_below, refusal_leaves, some_behind}
 use Rattle.tink_range.proofs.StartAtFacts.{fault_untried, start_refusal}

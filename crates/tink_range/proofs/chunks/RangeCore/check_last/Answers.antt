@@ -61,7 +61,7 @@ returns-in-Err-clause-kept g c =
 -- after a step or none
 
 pub returns-in-Ok-true-clause-ticks : goal.returns-in-Ok-true-clause-ticks
-returns-in-Ok-true-clause-ticks g c = le_of_eq c.in-Ok-true.ensures.ticks
+returns-in-Ok-true-clause-ticks g c = c.in-Ok-true.ensures.ticks
 
 pub returns-then-self-start-clause-ticks : goal.returns-then-self-start-clause-ticks
 returns-then-self-start-clause-ticks g c = le_of_eq c.in-Ok-false.ensures.ticks

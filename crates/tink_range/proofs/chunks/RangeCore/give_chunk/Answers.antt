@@ -1,11 +1,11 @@
-use Rattle.std.proofs.Common.{◌≡◌, ◌+◌, ◌-◌, min, ℕ, Bool, true, false, List, length, refl, sym, ap, subst, ◌∙◌, le_of_eq, le_refl}
+use Rattle.std.proofs.Common.{◌+◌, ◌-◌, min, ℕ, Bool, true, List, length, refl, sym, ap, subst, ◌∙◌, le_of_eq, le_refl}
 use Rattle.stream_model.specs.Cut.{room_at}
 use Rattle.tink_io.specs.declared.error.Kind.TheVariants.{BadSegment, ReadFault}
 use Rattle.tink_streams.specs.Openers.{segment_map}
 use Rattle.tink_range.specs.ChunkReading.{OpensAt}
 use Rattle.tink_range.specs.RangeCores.{chunk_in}
 use Rattle.tink_range.proofs.ChunkSteps.{none_opens, one_refused, one_written}
-use Rattle.tink_range.proofs.ObjectSteps.{below, refusal_leaves, touched_in, within_one, writes_leave}
+use Rattle.tink_range.proofs.ObjectSteps.{below, one_step, refusal_leaves, touched_in, within_one, writes_leave}
 use Rattle.tink_range.proofs.chunks.RangeCore.give_chunk.Goals as goal
 
 pub write_part-requires-clause-touched : goal.write_part-requires-clause-touched
@@ -77,7 +77,7 @@ pub returns-in-Ok-true-clause-later : goal.returns-in-Ok-true-clause-later
 returns-in-Ok-true-clause-later g c = c.write_part.ensures.later
 
 pub returns-in-Ok-true-clause-ticks : goal.returns-in-Ok-true-clause-ticks
-returns-in-Ok-true-clause-ticks g c = le_of_eq c.in-Ok-true.ensures.ticks
+returns-in-Ok-true-clause-ticks g c = one_step c.args.steps.now c.open_chunk.new.steps c.write_part.result c.in-Ok-true.ensures.ticks
 
 pub returns-in-Ok-false-clause-ticks : goal.returns-in-Ok-false-clause-ticks
 returns-in-Ok-false-clause-ticks g c = le_of_eq c.in-Ok-false.ensures.ticks

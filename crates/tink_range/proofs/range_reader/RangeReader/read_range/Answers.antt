@@ -5,6 +5,7 @@ use Rattle.tink_range.specs.Objects.{LeavesObject}
 use Rattle.tink_range.specs.RangeCores.{cutting_of}
 use Rattle.tink_range.specs.RangeReaders.{RangeState, cut_by}
 use Rattle.tink_range.specs.RangeReading.{IsGivenExactly, RangeMeans, range_end, range_start}
+use Rattle.tink_range.specs.StepCounts.{TakesTouched}
 use Rattle.tink_range.proofs.CanGiveFacts.{is_given}
 use Rattle.tink_range.proofs.ReadingFacts.{told_weaker}
 use Rattle.tink_range.proofs.range_reader.RangeReader.read_range.Goals as goal
@@ -36,6 +37,11 @@ returns-clause-ticks g c =
     subst (λ (r : RangeState (g.row.A.Denot)). c.read_range.new.steps ≤ c.args.steps.now + (range_end (cut_by r) r.behind c.args.start c.args.len - range_start (cut_by r) r.behind c.args.start
     + (r.opening.size - r.opening.overhead) - 1) / (r.opening.size - r.opening.overhead) + 2)
     c.self.view_is c.read_range.ensures.ticks
+
+pub returns-clause-touched : goal.returns-clause-touched
+returns-clause-touched g c =
+    subst (λ (r : RangeState (g.row.A.Denot)). TakesTouched (cut_by r) (range_start (cut_by r) r.behind c.args.start) (range_end (cut_by r) r.behind c.args.start c.args.len) 1 c.args.steps.now c.read_range.new.steps c.read_range.result)
+    c.self.view_is c.read_range.ensures.touched
 
 pub returns-clause-kept : goal.returns-clause-kept
 returns-clause-kept g c =
