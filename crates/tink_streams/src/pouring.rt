@@ -1,14 +1,14 @@
 ghost use Rattle.std.specs.Prelude.{◌≡◌, ◌≤◌, ◌<◌, [], length};
 ghost use Rattle.tink_streams.specs.Pouring.{PourMeans};
 ghost use Rattle.tink_streams.specs.declared.writing.Mode.TheVariants.{Open};
-ghost use Rattle.tink_streams.specs.Sealers.{held_text, segment_map, writer_moment};
+ghost use Rattle.tink_streams.specs.Sealers.{held_text, segment_map, writer_memory, writer_moment};
 
 use crate::writing::SegmentWriter;
 use tink_io::{Kind, Sink, Source, TinkError};
 use tink_segment_traits::SegmentEncrypter;
 
 /// Writes all that the source has left, a piece at a time, and answers how many bytes these are. The stream is not
-/// closed.
+/// closed. The writer keeps the memory that it has.
 ///
 /// # Errors
 /// ReadFault, and the writer's. The text that was read before was written.
@@ -27,6 +27,7 @@ pub fn pour<S: Source, K: Sink, E: SegmentEncrypter + Drop>(
         (writer_moment K.got K.faults writer.old sink.old) (writer_moment K.got K.faults writer.new sink.new)
         result }
     ensures sealer { writer.new.sealer ≡ writer.old.sealer }
+    ensures memory { writer_memory writer.new ≡ writer_memory writer.old }
     ensures read_count { S.faults source.old ≤ S.faults source.new }
     ensures write_count { K.faults sink.old ≤ K.faults sink.new }
     ensures source { S.same source.old source.new }

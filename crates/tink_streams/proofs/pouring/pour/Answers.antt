@@ -11,6 +11,7 @@ pub loop-n-init : goal.loop-n-init
 loop-n-init g c = record {
   poured = poured_none _ _ _ _ _ (record { mode = c.requires.open; number = c.requires.fresh; held = c.requires.empty });
   sealer = refl;
+  memory = refl;
   reads = omega arith;
   writes = omega arith;
   same_source = g.met.S.Source.same_refl c.args.source.now;
@@ -40,6 +41,7 @@ loop-n-preserved g c =
     record {
       poured = poured_more _ _ _ _ _ _ _ _ _ _ _ _ sealer.some room c.loop-n.invariant.poured c.in-Ok.ensures.bytes.0 w.0 (omega (arith, length-take {A = ℕ}, c.in-Ok.ensures.bound));
       sealer = c.write.ensures.sealer ∙ c.loop-n.invariant.sealer;
+      memory = c.write.ensures.memory ∙ c.loop-n.invariant.memory;
       reads = omega (arith, c.loop-n.invariant.reads, c.in-Ok.ensures.cause.later);
       writes = omega (arith, c.loop-n.invariant.writes, c.write.ensures.later);
       same_source = g.met.S.Source.same_trans _ _ _ c.loop-n.invariant.same_source c.in-Ok.ensures.same;
@@ -84,3 +86,12 @@ returns-in-Ok-eq0-clause-answer g c =
       poured_end _ _ _ _ _ _ _ _ _ c.in-Ok-eq0.field-0 _ c.loop-n.invariant.poured c.in-Ok-eq0.field-0-test read.0,
       read.1 c.in-Ok-eq0.field-0-test (less_in _ _ _ c.requires.piece (c.read.auto.buf ∙ c.loop-n.auto.piece)),
     )
+
+pub returns-in_err-write-in-Ok-clause-memory : goal.returns-in_err-write-in-Ok-clause-memory
+returns-in_err-write-in-Ok-clause-memory g c = c.write.ensures.memory ∙ c.loop-n.invariant.memory
+
+pub returns-in-Err-clause-memory : goal.returns-in-Err-clause-memory
+returns-in-Err-clause-memory g c = c.loop-n.invariant.memory
+
+pub returns-in-Ok-eq0-clause-memory : goal.returns-in-Ok-eq0-clause-memory
+returns-in-Ok-eq0-clause-memory g c = c.loop-n.invariant.memory

@@ -1,7 +1,7 @@
 -- The text so far was read and written.
 use Rattle.std.proofs.Common.{◌≡◌, ◌≤◌, ◌-◌, ◌^◌}
 use Rattle.stream_model.specs.Cut.{numbered}
-use Rattle.tink_streams.specs.Sealers.{held_text}
+use Rattle.tink_streams.specs.Sealers.{held_text, writer_memory}
 use Rattle.tink_streams.specs.Pouring.{IsPoured}
 use Rattle.tink_streams.proofs.pouring.pour.Given as goal
 
@@ -13,6 +13,7 @@ invariant-loop-n g l = record {
       (record { mode = l.writer.mode; number = l.writer.segments; held = held_text l.writer; got = g.K.Sink.got l.sink; faults = g.K.Sink.faults l.sink })
       l.bytes;
   sealer : l.writer.sealer ≡ l.fn.writer.sealer;
+  memory : writer_memory l.writer ≡ writer_memory l.fn.writer;
   reads : g.S.Source.faults l.fn.source ≤ g.S.Source.faults l.source;
   writes : g.K.Sink.faults l.fn.sink ≤ g.K.Sink.faults l.sink;
   same_source : g.S.Source.same l.fn.source l.source;
