@@ -1,10 +1,10 @@
-ghost use Rattle.std.specs.Prelude.{◌≡◌, ◌≤◌, ◌-◌, map, IfOk, IfSome, OnErr, vec_len, vec_capacity};
+ghost use Rattle.std.specs.Prelude.{◌≡◌, ◌≤◌, ◌-◌, [], map, IfOk, IfSome, OnErr, vec_len, vec_capacity};
 ghost use Rattle.stream_model.specs.Opening.{opening_key};
 ghost use Rattle.tink_io.specs.Taken.{LosesAtMost};
 ghost use Rattle.tink_stream_keys.specs.Rooms.{HasRoomForEach};
 ghost use Rattle.tink_streams.specs.Keeping.{kept_rest};
 ghost use Rattle.tink_streams.specs.Rooms.{KeepsRoom};
-ghost use Rattle.tink_streams.specs.Trials.{ChoiceMeans, TrialFailed};
+ghost use Rattle.tink_streams.specs.Trials.{ChoiceMeans, ReadsFronts, TrialFailed};
 
 use crate::key_under::KeyUnder;
 use crate::stream_params::DerivesStreams;
@@ -13,7 +13,8 @@ use tink_segments::StreamSegment;
 use tink_streams::{Begun, Kept, try_key};
 
 /// How the stream of a source is opened: by the first key under which it begins with the associated
-/// data, or none.
+/// data, or none. No text stands in `opened` then. Where the stream begins in a front of none of the keys no more is read
+/// than the longest front and a byte.
 ///
 /// # Errors
 /// Failed where the source failed. What was read is kept.
@@ -32,12 +33,18 @@ pub fn choose<S: Source, T: DerivesStreams>(
         (kept_rest S.left kept.old source.old) (kept_rest S.left kept.new source.new) kept.new nonce.new opened.new) }
     ensures failed { OnErr result (TrialFailed (kept_rest S.left kept.old source.old)
         (kept_rest S.left kept.new source.new) (S.faults source.old) (S.faults source.new)) }
+    // where it begins in a front of none of the keys, but for those from whose headers no keys are derived
+    ensures further { IfSome (kept_rest S.left kept.old source.old) (ReadsFronts
+        (map (λ k. opening_key aad.now (T.key_of k)) keys.now) kept.old.filled (S.left source.old) (S.left source.new)) }
     ensures read { LosesAtMost (vec_len kept.old.buffer - kept.old.filled) (S.left source.old) (S.left source.new) }
+    // whatever the answer, no text is left there, not even one that stood there before
+    ensures opened { opened.new.items ≡ [] }
     ensures room { KeepsRoom kept.old kept.new nonce.old nonce.new opened.old opened.new }
     ensures prefix { IfOk result (λ chosen. IfSome chosen (λ b. vec_capacity b.opener.prefix ≡ vec_capacity prefix)) }
     ensures later { S.faults source.old ≤ S.faults source.new }
     ensures same { S.same source.old source.new }
 {
+    opened.clear();
     let mut prefix = prefix;
     for key in keys {
         let under = KeyUnder { key, aad };

@@ -7,7 +7,8 @@ ghost use Rattle.tink_stream_keys.specs.Memory.{trial_memory};
 ghost use Rattle.tink_stream_keys.specs.Rooms.{HasRoomForEach};
 ghost use Rattle.tink_streams.specs.Choosing.{Started, StartRefused};
 ghost use Rattle.tink_streams.specs.Keeping.{kept_rest};
-ghost use Rattle.tink_streams.specs.Openers.{reader_memory, reader_rest, segment_map};
+ghost use Rattle.tink_streams.specs.Openers.{reader_lacks, reader_memory, reader_rest, segment_map};
+ghost use Rattle.tink_streams.specs.Trials.{ReadsFronts};
 
 use crate::choosing::choose;
 use crate::stream_memory::PREFIX;
@@ -61,7 +62,8 @@ impl Trial {
 ///
 /// # Errors
 /// NoMatchingKey where the stream begins under none, ReadFault where the source failed. No more was read than the trial
-/// has room for.
+/// has room for, with what the reader's first segment still lacks, and where the stream begins in a front of none of the
+/// keys no more than the longest front and a byte.
 pub fn start<S: Source, T: DerivesStreams>(
     keys: &[T],
     aad: &[u8],
@@ -79,6 +81,13 @@ pub fn start<S: Source, T: DerivesStreams>(
     ensures refused { IfErr result (λ e. StartRefused (map (λ k. opening_key aad.now (T.key_of k)) keys.now)
         (kept_rest S.left trial.kept source.old) (S.faults source.old) (S.faults source.new) e.kind) }
     ensures read { LosesAtMost (vec_len trial.kept.buffer - trial.kept.filled) (S.left source.old) (S.left source.new) }
+    // what the reader still lacks of the first segment and of a byte behind it has room too
+    ensures near { IfOk result (λ r. LosesAtMost (vec_len trial.kept.buffer - trial.kept.filled - reader_lacks r)
+        (S.left source.old) (S.left source.new)) }
+    // where the stream begins in a front of none of the keys, but for those from whose headers no keys are derived
+    ensures further { IfSome (kept_rest S.left trial.kept source.old) (ReadsFronts
+        (map (λ k. opening_key aad.now (T.key_of k)) keys.now) trial.kept.filled
+        (S.left source.old) (S.left source.new)) }
     ensures later { S.faults source.old ≤ S.faults source.new }
     ensures same { S.same source.old source.new }
 {
@@ -102,7 +111,6 @@ pub fn start<S: Source, T: DerivesStreams>(
         Ok(Some(Begun { opener, front })) => {
             let filled = kept.filled;
             carry(&mut kept.buffer, front, filled);
-            opened.clear();
             let buffers = Buffers {
                 text: opened,
                 sealed: kept.buffer,

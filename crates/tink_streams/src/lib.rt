@@ -22,6 +22,6 @@ pub use reading::SegmentReader;
 pub use reading_laws::{law_empty_buffer, law_for_good, law_whole_text};
 pub use text_reader::TextReader;
 pub use tink_segment_traits::{Kept, Opener, Sealer, carry, fill, open_front, open_held, refill};
-pub use trying::{Begun, OpensStreams, try_key};
+pub use trying::{Begun, OpensStreams, front_opener, try_key};
 pub use writer::{Writer, WriterParams};
 pub use writing::{Mode, SegmentWriter};

@@ -1,4 +1,4 @@
-ghost use Rattle.std.specs.Prelude.{◌≡◌, ◌≤◌, ◌<◌, ◌+◌, ◌-◌, ℕ, length, take, drop, max, Some, None, IfSome, IsNone, IfOk, IfErr, MatchResult, OnErr, false, true, vec_len, vec_capacity};
+ghost use Rattle.std.specs.Prelude.{◌≡◌, ◌≤◌, ◌<◌, ◌+◌, ◌-◌, ℕ, [], length, take, drop, max, Some, None, IfSome, IsNone, IfOk, IfErr, MatchResult, OnErr, false, true, vec_len, vec_capacity};
 ghost use Rattle.stream_model.specs.Cut.{numbered};
 ghost use Rattle.stream_model.specs.Opening.{OpeningKey, HasFront, begins_front, front_length, header_of};
 ghost use Rattle.tink_streams.specs.Choosing.{HasSizesOf};
@@ -100,9 +100,9 @@ fn begins_front<D: SegmentDecrypter, T: OpensStreams<D>>(key: &T, held: &[u8]) -
     held.starts_with(out) && usize::from(held[out.len()]) == length
 }
 
-// How a stream that begins in `held` is opened, if it begins in a front of the key, which has so many bytes, and keys are
-// derived from its header; else the memory of its prefix again.
-fn front_opener<D: SegmentDecrypter + Drop, T: OpensStreams<D>>(
+/// How a stream that begins in `held` is opened, if it begins in a front of the key, which has so many bytes, and keys are
+/// derived from its header; else the memory of its prefix again.
+pub fn front_opener<D: SegmentDecrypter + Drop, T: OpensStreams<D>>(
     key: &T,
     held: &[u8],
     front: usize,
@@ -150,7 +150,7 @@ fn begun_if<D: SegmentDecrypter + Drop>(
 
 /// How the stream of a source is opened, if it begins in a front of the key and then in the segment of some text;
 /// else the memory of its prefix again. No more is read than tells it: a byte behind the front, and a byte behind the
-/// first segment only where keys are derived from the header of a front of the key.
+/// first segment only where keys are derived from the header of a front of the key. No text stands in `opened` then.
 ///
 /// # Errors
 /// Failed where the source failed. What was read is kept.
@@ -173,12 +173,15 @@ pub fn try_key<S: Source, D: SegmentDecrypter + Drop, T: OpensStreams<D>>(
     ensures further { IfSome (kept_rest S.left kept.old source.old) (λ X.
         max kept.old.filled (front_length (T.opening_key key.now) + 1) < kept.new.filled
         → MayBegin (T.opening_key key.now) X) }
+    // whatever the answer, no text is left there, not even one that stood there before
+    ensures opened { opened.new.items ≡ [] }
     ensures room { KeepsRoom kept.old kept.new nonce.old nonce.new opened.old opened.new }
     ensures prefix { IfOk result (λ tried. MatchResult tried (λ b. vec_capacity b.opener.prefix ≡ vec_capacity prefix)
         (λ p. vec_capacity p ≡ vec_capacity prefix)) }
     ensures later { S.faults source.old ≤ S.faults source.new }
     ensures same { S.same source.old source.new }
 {
+    opened.clear();
     let h = key.header_length();
     let _ = key.first_segment_size();
     let front = key.output_prefix().len() + h;
@@ -189,5 +192,6 @@ pub fn try_key<S: Source, D: SegmentDecrypter + Drop, T: OpensStreams<D>>(
     };
     kept.keep(source, front + opener.first)?;
     let begins = open_front(&opener, 0, &kept.buffer[front..kept.filled], nonce, opened);
+    opened.clear();
     Ok(begun_if(begins, opener, front))
 }

@@ -1,7 +1,7 @@
-use Rattle.std.proofs.Common.{◌≤◌, ◌<◌, ◌+◌, ℕ, Bool, List, length, All, map, sym, subst, ◌∙◌, vec_len, vec_capacity, arith}
+use Rattle.std.proofs.Common.{◌≤◌, ◌<◌, ◌+◌, ℕ, Bool, List, length, All, map, refl, le_refl, sym, subst, ◌∙◌, vec_len, vec_capacity, arith}
 use Rattle.std.proofs.lemmas.List.Elements.{All-get_or}
 use Rattle.std.specs.declared.option.Option.{Option}
-use Rattle.std.proofs.KnownBytes.{Keeps-trans}
+use Rattle.std.proofs.KnownBytes.{Keeps-refl, Keeps-trans}
 use Rattle.std.proofs.lemmas.Result.{err_from_is_err_and}
 use Rattle.tink_io.proofs.FaultLemmas.{Rose-earlier}
 use Rattle.stream_model.specs.Key.{StreamKey, nonce_size}
@@ -9,7 +9,7 @@ use Rattle.stream_model.specs.Opening.{OpeningKey, Begins, opening_key}
 use Rattle.tink_streams.specs.Choosing.{Found, IsOpenerOf}
 use Rattle.tink_streams.specs.Keeping.{kept_rest}
 use Rattle.tink_streams.specs.Openers.{segment_map}
-use Rattle.tink_streams.proofs.ChoosingSteps.{ChosenFrom, key_split, pass_over, take_key, both_told, read_kept, told_before}
+use Rattle.tink_streams.proofs.ChoosingSteps.{ChosenFrom, all_left, key_split, pass_over, take_key, both_told, keeps_none, keeps_tried, read_kept, reads_fronts, told_before}
 use Rattle.tink_stream_keys.proofs.choosing.choose.Goals as goal
 
 pub returns-in-Ok-clause-answer : goal.returns-in-Ok-clause-answer
@@ -38,6 +38,7 @@ returns-in-Ok-clause-answer g c =
       rest = Keeps-trans _ _ _ inv.rest tried.rest;
       front = tried.front;
       size = omega (arith, tried.size, sealed, called.room.len, inv.len);
+      near = omega (arith, tried.near, sealed, called.room.len, inv.len);
       nonce = omega (arith, tried.nonce, nonce, called.room.buffers.nonce_len, inv.nonce_len);
       text = omega (arith, tried.size, text, called.room.buffers.capacity, inv.capacity);
     }
@@ -67,6 +68,26 @@ returns-in_err-begun-clause-failed g c =
     let failed = c.in_err-begun.ensures.failed in
     rw p.1 (record { rest = Keeps-trans _ _ _ inv.rest failed.rest; rose = Rose-earlier _ _ _ inv.later failed.rose })
 
+pub loop-key-init : goal.loop-key-init
+loop-key-init g c =
+    let of : g.row.T.Denot → OpeningKey = λ k. opening_key c.args.aad.now (g.T.DerivesStreams.key_of k) in
+    let told : Option (List ℕ) = kept_rest g.S.Source.left c.args.kept.now c.args.source.now in
+    record {
+      len = refl;
+      nonce_len = refl;
+      capacity = c.clear.ensures.capacity;
+      kept_capacity = refl;
+      nonce_capacity = refl;
+      more = le_refl _;
+      prefix_capacity = refl;
+      rest = Keeps-refl told;
+      chosen = all_left of c.args.keys.now told;
+      further = keeps_none told (map of c.args.keys.now) c.args.kept.now.filled;
+      empty = c.clear.ensures.items;
+      later = le_refl _;
+      same = g.met.S.Source.same_refl _;
+    }
+
 pub loop-key-preserved : goal.loop-key-preserved
 loop-key-preserved g c =
     let of : g.row.T.Denot → OpeningKey = λ k. opening_key c.args.aad.now (g.T.DerivesStreams.key_of k) in
@@ -90,6 +111,8 @@ loop-key-preserved g c =
           (λ X other h. pass_over of keys c.loop-key.key-index key X split other h)
           (told_before told _ (λ X. Begins (of key) X → ⊥) inv.rest tried.none)
           inv.chosen;
+      further = keeps_tried of keys c.loop-key.key-index key c.args.kept.now.filled c.loop-key.kept.filled c.try_key.new.kept.filled told _ (omega arith) c.key-item.is inv.rest inv.further called.further;
+      empty = called.opened;
       later = omega (arith, called.later, inv.later);
       same = g.met.S.Source.same_trans _ _ _ inv.same called.same;
     }
@@ -180,3 +203,44 @@ returns-clause-later g c = c.loop-key.invariant.later
 
 pub returns-clause-same : goal.returns-clause-same
 returns-clause-same g c = c.loop-key.invariant.same
+
+pub returns-in-Ok-clause-further : goal.returns-in-Ok-clause-further
+returns-in-Ok-clause-further g c =
+    let of : g.row.T.Denot → OpeningKey = λ k. opening_key c.args.aad.now (g.T.DerivesStreams.key_of k) in
+    let keys = c.args.keys.now in
+    let old = c.args.kept.now in
+    let new = c.try_key.new.kept in
+    let told : Option (List ℕ) = kept_rest g.S.Source.left old c.args.source.now in
+    let key : g.row.T.Denot = c.key-item.result in
+    let inv = c.loop-key.invariant in
+    let called = c.in_ok-begun.ensures in
+    let tried = rw c.in-Ok.is at called.answer in
+    reads_fronts g.S.Source.left (map of keys) old new c.args.source.now c.try_key.new.source (Keeps-trans _ _ _ inv.rest tried.rest) (omega (arith, called.room.more, inv.more))
+    (keeps_tried of keys c.loop-key.key-index key old.filled c.loop-key.kept.filled new.filled told _ (omega arith) c.key-item.is inv.rest inv.further called.further)
+
+pub returns-in-Ok-clause-opened : goal.returns-in-Ok-clause-opened
+returns-in-Ok-clause-opened g c = c.in_ok-begun.ensures.opened
+
+pub returns-in_err-begun-clause-further : goal.returns-in_err-begun-clause-further
+returns-in_err-begun-clause-further g c =
+    let of : g.row.T.Denot → OpeningKey = λ k. opening_key c.args.aad.now (g.T.DerivesStreams.key_of k) in
+    let keys = c.args.keys.now in
+    let old = c.args.kept.now in
+    let new = c.try_key.new.kept in
+    let told : Option (List ℕ) = kept_rest g.S.Source.left old c.args.source.now in
+    let key : g.row.T.Denot = c.key-item.result in
+    let inv = c.loop-key.invariant in
+    let called = c.in_err-begun.ensures in
+    reads_fronts g.S.Source.left (map of keys) old new c.args.source.now c.try_key.new.source (Keeps-trans _ _ _ inv.rest called.failed.rest) (omega (arith, called.room.more, inv.more))
+    (keeps_tried of keys c.loop-key.key-index key old.filled c.loop-key.kept.filled new.filled told _ (omega arith) c.key-item.is inv.rest inv.further called.further)
+
+pub returns-in_err-begun-clause-opened : goal.returns-in_err-begun-clause-opened
+returns-in_err-begun-clause-opened g c = c.in_err-begun.ensures.opened
+
+pub returns-clause-further : goal.returns-clause-further
+returns-clause-further g c =
+    let inv = c.loop-key.invariant in
+    reads_fronts g.S.Source.left _ c.args.kept.now c.loop-key.kept c.args.source.now c.loop-key.source inv.rest inv.more inv.further
+
+pub returns-clause-opened : goal.returns-clause-opened
+returns-clause-opened g c = c.loop-key.invariant.empty

@@ -1,8 +1,8 @@
-use Rattle.std.proofs.Common.{◌≡◌, ◌≤◌, IfSome, vec_len, vec_capacity}
+use Rattle.std.proofs.Common.{◌≡◌, ◌≤◌, IfSome, [], map, vec_len, vec_capacity}
 use Rattle.std.specs.Io.KnownBytes.{Keeps}
 use Rattle.stream_model.specs.Opening.{opening_key}
 use Rattle.tink_streams.specs.Keeping.{kept_rest}
-use Rattle.tink_streams.proofs.ChoosingSteps.{ChosenFrom}
+use Rattle.tink_streams.proofs.ChoosingSteps.{ChosenFrom, KeepsFronts}
 use Rattle.tink_stream_keys.proofs.choosing.choose.Given as goal
 
 -- what is chosen of the rest of the keys is chosen
@@ -19,6 +19,8 @@ invariant-loop-key g l =
       prefix_capacity : vec_capacity l.prefix ≡ vec_capacity l.fn.prefix;
       rest : Keeps (kept_rest source.left l.fn.kept l.fn.source) (kept_rest source.left l.kept l.source);
       chosen : IfSome (kept_rest source.left l.fn.kept l.fn.source) (ChosenFrom (λ k. opening_key l.fn.aad (g.T.DerivesStreams.key_of k)) l.keys l.key-index);
+      further : IfSome (kept_rest source.left l.fn.kept l.fn.source) (KeepsFronts (map (λ k. opening_key l.fn.aad (g.T.DerivesStreams.key_of k)) l.keys) l.fn.kept.filled l.kept.filled);
+      empty : l.opened.items ≡ [];
       later : source.faults l.fn.source ≤ source.faults l.source;
       same : source.same l.fn.source l.source;
     }

@@ -59,6 +59,7 @@ returns-clause-answer g c =
       front = omega (arith, front_is, c.in-Ok.ensures.front.long, length-take c.keep.new.self.filled c.deref.result.now, c.in_ok-keep-2.ensures.more);
       size = c.in-Ok.ensures.sizes.1;
       nonce = c.in-Ok.ensures.nonce;
+      near = omega (arith, read, tried.fits);
     })
     (λ fails. record {
       none = refused k _ _ _ _ _ _ seg o.first tried (c.open_front-begins.ensures.refused fails);
@@ -93,7 +94,7 @@ returns-in_err-keep-clause-further g c =
 pub returns-in_err-keep-clause-room : goal.returns-in_err-keep-clause-room
 returns-in_err-keep-clause-room g c =
     let kept = c.in_err-keep.ensures in
-    record { buffers = record { nonce_len = refl; nonce_capacity = refl; capacity = refl }; len = kept.len; kept_capacity = kept.capacity; more = kept.more }
+    record { buffers = record { nonce_len = refl; nonce_capacity = refl; capacity = c.clear.ensures.capacity }; len = kept.len; kept_capacity = kept.capacity; more = kept.more }
 
 pub returns-in_err-keep-clause-prefix : goal.returns-in_err-keep-clause-prefix
 returns-in_err-keep-clause-prefix g c = let p = err_from_is_err_and c.from_residual.result c.from_residual.ensures.1 in rw p.1 tt
@@ -120,7 +121,7 @@ returns-in-Err-clause-further g c =
 pub returns-in-Err-clause-room : goal.returns-in-Err-clause-room
 returns-in-Err-clause-room g c =
     let kept = c.in_ok-keep.ensures in
-    record { buffers = record { nonce_len = refl; nonce_capacity = refl; capacity = refl }; len = kept.len; kept_capacity = kept.capacity; more = kept.more }
+    record { buffers = record { nonce_len = refl; nonce_capacity = refl; capacity = c.clear.ensures.capacity }; len = kept.len; kept_capacity = kept.capacity; more = kept.more }
 
 pub returns-in-Err-clause-prefix : goal.returns-in-Err-clause-prefix
 returns-in-Err-clause-prefix g c = c.in-Err.ensures.room
@@ -160,7 +161,7 @@ pub returns-in_err-keep-2-clause-room : goal.returns-in_err-keep-2-clause-room
 returns-in_err-keep-2-clause-room g c =
     let first = c.in_ok-keep.ensures in
     let then = c.in_err-keep-2.ensures in
-    record { buffers = record { nonce_len = refl; nonce_capacity = refl; capacity = refl }; len = then.len ∙ first.len; kept_capacity = then.capacity ∙ first.capacity; more = omega (arith, first.more, then.more) }
+    record { buffers = record { nonce_len = refl; nonce_capacity = refl; capacity = c.clear.ensures.capacity }; len = then.len ∙ first.len; kept_capacity = then.capacity ∙ first.capacity; more = omega (arith, first.more, then.more) }
 
 pub returns-in_err-keep-2-clause-prefix : goal.returns-in_err-keep-2-clause-prefix
 returns-in_err-keep-2-clause-prefix g c = let p = err_from_is_err_and c.from_residual-in_err-keep-2.result c.from_residual-in_err-keep-2.ensures.1 in rw p.1 tt
@@ -172,7 +173,7 @@ pub returns-in_err-keep-2-clause-same : goal.returns-in_err-keep-2-clause-same
 returns-in_err-keep-2-clause-same g c = g.met.S.Source.same_trans _ _ _ c.in_ok-keep.ensures.same c.in_err-keep-2.ensures.same
 
 pub open_front-begins-requires-clause-room : goal.open_front-begins-requires-clause-room
-open_front-begins-requires-clause-room g c = omega (arith, c.in-Ok.ensures.sizes.1, c.requires.room.text_room)
+open_front-begins-requires-clause-room g c = omega (arith, c.in-Ok.ensures.sizes.1, c.requires.room.text_room, c.clear.ensures.capacity)
 
 pub open_front-begins-requires-clause-nonce : goal.open_front-begins-requires-clause-nonce
 open_front-begins-requires-clause-nonce g c = omega (arith, c.in-Ok.ensures.nonce, c.requires.room.nonce_room)
@@ -196,7 +197,8 @@ pub returns-clause-room : goal.returns-clause-room
 returns-clause-room g c =
     let first = c.in_ok-keep.ensures in
     let then = c.in_ok-keep-2.ensures in
-    record { buffers = c.open_front-begins.ensures.room; len = then.len ∙ first.len; kept_capacity = then.capacity ∙ first.capacity; more = omega (arith, first.more, then.more) }
+    let tried = c.open_front-begins.ensures.room in
+    record { buffers = record { nonce_len = tried.nonce_len; nonce_capacity = tried.nonce_capacity; capacity = c.clear-2.ensures.capacity ∙ tried.capacity ∙ c.clear.ensures.capacity }; len = then.len ∙ first.len; kept_capacity = then.capacity ∙ first.capacity; more = omega (arith, first.more, then.more) }
 
 pub returns-clause-prefix : goal.returns-clause-prefix
 returns-clause-prefix g c =
@@ -207,3 +209,15 @@ returns-clause-later g c = omega (arith, c.in_ok-keep.ensures.later, c.in_ok-kee
 
 pub returns-clause-same : goal.returns-clause-same
 returns-clause-same g c = g.met.S.Source.same_trans _ _ _ c.in_ok-keep.ensures.same c.in_ok-keep-2.ensures.same
+
+pub returns-in_err-keep-clause-opened : goal.returns-in_err-keep-clause-opened
+returns-in_err-keep-clause-opened g c = c.clear.ensures.items
+
+pub returns-in-Err-clause-opened : goal.returns-in-Err-clause-opened
+returns-in-Err-clause-opened g c = c.clear.ensures.items
+
+pub returns-in_err-keep-2-clause-opened : goal.returns-in_err-keep-2-clause-opened
+returns-in_err-keep-2-clause-opened g c = c.clear.ensures.items
+
+pub returns-clause-opened : goal.returns-clause-opened
+returns-clause-opened g c = c.clear-2.ensures.items
