@@ -1,21 +1,22 @@
 -- From the steps of a first read to its answer.
-use Rattle.std.proofs.Common.{◌≡◌, ◌<◌, ◌≤◌, ◌+◌, ℕ, Bool, List, [], ◌∷◌, ◌++◌, length, map, take, drop, Result, refl, sym, ap, subst, ◌∙◌, arith, Some, None, IfSome, append_assoc, length-append, length-drop, take-append-drop}
+use Rattle.std.proofs.Common.{◌≡◌, inl, inr, suc, ◌<◌, ◌≤◌, ◌+◌, ◌-◌, ℕ, Bool, List, [], ◌∷◌, ◌++◌, length, map, take, drop, Result, refl, sym, ap, subst, ◌∙◌, arith, Some, None, IfSome, length-append, vec_len}
 use Rattle.std.proofs.lemmas.List.{length-take}
 use Rattle.std.specs.declared.option.Option.{Option}
 use Rattle.std.specs.Io.KnownBytes.{Keeps, prepend_known}
-use Rattle.std.proofs.KnownBytes.{Keeps-refl, prepend_known-nil}
+use Rattle.std.proofs.KnownBytes.{Consumes-trans, prepend_known-nil}
 use Rattle.tink_io.specs.Taken.{LosesAtMost}
 use Rattle.tink_io.proofs.FaultLemmas.{Rose-earlier}
 use Rattle.tink_io.specs.declared.error.Kind.{Kind}
 use Rattle.tink_io.specs.declared.error.TinkError.{TinkError}
 use Rattle.tink_io.specs.declared.error.Kind.TheVariants.{BadSegment, FailedBefore, NoMatchingKey, ReadFault, TooManySegments, Truncated}
-use Rattle.stream_model.specs.Cut.{cut}
+use Rattle.stream_model.specs.Cut.{cut, room_at}
 use Rattle.stream_model.specs.Agree.{Agree}
 use Rattle.stream_model.specs.Key.{StreamKey}
-use Rattle.stream_model.specs.Opening.{AgreeBy, FirstAgrees, IsChosen, OpeningKey, chunks_of, header_of, opening_key}
+use Rattle.stream_model.specs.Opening.{AgreeBy, Begins, FirstAgrees, IsChosen, OpeningKey, chunks_of, header_of, opening_key}
 use Rattle.tink_segment_traits.specs.declared.segment_traits.SegmentDecrypter.{Ghosts}
 use Rattle.tink_streams.specs.Choosing.{Started, StartRefused}
-use Rattle.tink_streams.specs.Openers.{reader_rest}
+use Rattle.tink_streams.specs.Trials.{BeginsInNone, MayBegin, ReadsFronts}
+use Rattle.tink_streams.specs.Openers.{held_bytes, reader_lacks, reader_rest}
 use Rattle.tink_streams.specs.declared.reading.SegmentReader.{SegmentReader}
 use Rattle.tink_streaming_aead.specs.DecryptReaders.{DecryptMeans, DecryptState, FirstReadMeans, FirstReadRefused, GivesFirst, first_refusal}
 use Rattle.tink_streaming_aead.specs.DecryptReaders.DecryptState.{Unread}
@@ -91,41 +92,29 @@ reads_kept room (Some x) (Some y) c kept lost = subst (λ (z : List ℕ). LosesA
 pub reads_more : (m n : ℕ) (a b : Option (List ℕ)) → m ≤ n → LosesAtMost m a b → LosesAtMost n a b
 reads_more m n a b few lost = (lost.0, omega (arith, few, lost.1), lost.2)
 
--- a front was read and then bytes behind it
-reads_behind : (room front : ℕ) (X M Y f g held : List ℕ) → length f ≤ room → X ≡ f ++ M → drop front X ≡ held ++ M → length g ≤ room → drop front X ≡ g ++ Y
-    → LosesAtMost (room + room) (Some X) (Some Y)
-reads_behind room front X M Y f g held few read kept more behind = (
-  take front X ++ g,
-  omega (arith, few, more, ap length read, length-append f M, ap length kept, length-append held M, length-drop front X, length-append (take front X) g, length-take front X),
-  sym (take-append-drop front X) ∙ ap (λ z. take front X ++ z) behind ∙ sym (append_assoc (take front X) g Y),
-)
+-- the first segment of a reader that has opened none, and a byte behind it, have room
+lacks_fit : (first size number room held : ℕ) → number ≡ 0 → first ≤ size → size < room → room_at first size number + 1 - held ≤ room
+lacks_fit first size number room held fresh fits small = let at : room_at first size number ≡ first = ap (room_at first size) fresh in omega (arith, at)
 
--- a start has read no more than has room, and behind the front no more was read than has room
-pub reads_twice : (room : ℕ) (ks : List OpeningKey) (all mid left : Option (List ℕ)) (held : List ℕ) (seg : ℕ → Bool → List ℕ → List ℕ) (a b over : ℕ)
-    → IfSome all (λ X. Started ks X (prepend_known held mid) seg a b over) → LosesAtMost room all mid → LosesAtMost room (prepend_known held mid) left
-    → LosesAtMost (room + room) all left
-reads_twice room ks None mid left held seg a b over s lost behind = ([], omega arith, tt)
-reads_twice room ks (Some X) None left held seg a b over s lost behind = absurd lost.2
-reads_twice room ks (Some X) (Some M) None held seg a b over s lost behind = absurd behind.2
-reads_twice room ks (Some X) (Some M) (Some Y) held seg a b over s lost behind =
-    let rest = s.rest in
-    let same : held ++ M ≡ drop s.front X = cc in
-    reads_behind room s.front X M Y lost.0 behind.0 held lost.1 lost.2 (sym same) behind.1 (sym same ∙ behind.2)
+-- a start has left room for what its reader lacks, and no more than that was read then
+pub reads_near : {D : Type 0} {g : Ghosts D} (room filled : ℕ) (r : SegmentReader D g) (a b c : Option (List ℕ)) → r.segments ≡ 0 → vec_len r.buffer ≡ room → LosesAtMost (room - filled - reader_lacks r) a b → LosesAtMost (reader_lacks r) b c
+    → LosesAtMost room a c
+reads_near room filled r a b c fresh same first then =
+    let lacks = lacks_fit r.opener.first r.opener.size r.segments room (length (held_bytes r)) fresh r.opener.first_fits (omega (arith, r.buffer_fits, same)) in
+    (first.0 ++ then.0, omega (arith, lacks, first.1, then.1, length-append first.0 then.0), Consumes-trans a b c first.0 then.0 first.2 then.2)
 
--- a refusal of a read loses no byte
-refused_keeps : (seg : ℕ → Bool → List ℕ → List ℕ) (a b overhead : ℕ) (m n : TextMoment) (room : ℕ) (kind : Kind) → ReadRefused seg a b overhead m n room kind → Keeps m.rest n.rest
-refused_keeps seg a b overhead m n room ReadFault r = r.1.fails.kept
-refused_keeps seg a b overhead m n room TooManySegments r = r.1.fails.kept
-refused_keeps seg a b overhead m n room (BadSegment i) r = r.1.fails.kept
-refused_keeps seg a b overhead m n room (Truncated i) r = r.1.fails.kept
-refused_keeps seg a b overhead m n room (FailedBefore c) r = subst (λ (x : TextMoment). Keeps m.rest x.rest) (sym r.1) (Keeps-refl m.rest)
-refused_keeps seg a b overhead m n room _ r = absurd r
+may_begin : (k : OpeningKey) (X : List ℕ) → Begins k X → MayBegin k X
+may_begin k X b = record { front = b.front; derived = λ none. subst (λ (s : Option (ℕ → Bool → List ℕ → List ℕ)). FirstAgrees s (chunks_of k X)) none b.first }
 
--- so at most what is held was read
-pub refused_reads : (most f : ℕ) (seg : ℕ → Bool → List ℕ → List ℕ) (a b overhead : ℕ) (m n : TextMoment) (room : ℕ) (kind : Kind) (items : List ℕ) (left : Option (List ℕ))
-    → n.rest ≡ prepend_known (take f items) left → f ≤ most → ReadRefused seg a b overhead m n room kind → LosesAtMost most m.rest left
-refused_reads most f seg a b overhead m n room kind items left rest few r =
-    reads_kept most m.rest n.rest left (refused_keeps seg a b overhead m n room kind r) (reads_held most f n.rest left items (subst (Keeps n.rest) rest (Keeps-refl n.rest)) few)
+chosen_may : (ks : List OpeningKey) (X : List ℕ) (k : OpeningKey) → IsChosen ks X (Some k) → BeginsInNone ks X → ⊥
+chosen_may [] X k h none = absurd (let e = h in cc)
+chosen_may (l ∷ ks) X k (inl h) none = none 0 l (omega arith) (may_begin l X h.0)
+chosen_may (l ∷ ks) X k (inr h) none = chosen_may ks X k h.1 (λ i d few. none (suc i) d (omega (arith, few)))
+
+-- where a key was chosen, the stream begins in a front of it
+pub started_fronts : (ks : List OpeningKey) (all rest b c : Option (List ℕ)) (seg : ℕ → Bool → List ℕ → List ℕ) (first size overhead : ℕ) → IfSome all (λ X. Started ks X rest seg first size overhead) → IfSome all (ReadsFronts ks 0 b c)
+started_fronts ks None rest b c seg first size overhead s = tt
+started_fronts ks (Some X) rest b c seg first size overhead s = λ none. absurd (chosen_may ks X s.found.key s.found.chosen none)
 
 -- a moment of a reader that has opened nothing
 fresh_moment : (P : TextMoment → Type 0) (m : TextMoment) → m.progress ≡ Running → m.number ≡ 0 → m.pending ≡ [] → P m → P (record { progress = Running; number = 0; pending = []; rest = m.rest; faults = m.faults })

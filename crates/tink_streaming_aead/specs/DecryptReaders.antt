@@ -15,6 +15,7 @@ use Rattle.tink_streams.specs.Choosing.{Started}
 use Rattle.tink_streams.specs.Readers.{ReaderState, lacks, moment_of, seg_of}
 use Rattle.tink_segments.specs.StreamSegments.{segment_by}
 use Rattle.tink_streams.specs.TextReading.{GivesText, IsDue, TextMoment, ReadMeans}
+use Rattle.tink_streams.specs.Trials.{ReadsFronts}
 use Rattle.tink_streams.specs.declared.progress.Progress.TheVariants.{Running}
 use Rattle.tink_segments.specs.declared.stream_segment.StreamSegment.{StreamSegment}
 
@@ -121,10 +122,13 @@ module _ {S : Type 0} (left : S → Option (List ℕ)) (faults : S → ℕ) wher
   DecryptMeans (Chosen old) new before after r = ChosenReadMeans old new before after r
   DecryptMeans (Stopped c source) new before after r = (r ≡ Err (record { kind = FailedBefore c })) × (new ≡ Stopped c source) × (after ≡ before)
 
--- where the first read was refused, no more of the source was read than twice what has room; by a read of the chosen key's
--- reader, no more than the next chunk and a byte behind it
+-- by the first read, whatever it answers, no more of the source was read than has room, and where the stream begins in a
+-- front of none of the keys no more than the longest front and a byte; by a read of the chosen key's reader, no more than
+-- the next chunk and a byte behind it
 abbrev pub TakesAtMost : {S : Type 0} → (S → Option (List ℕ)) → DecryptState S → DecryptState S → Type 0
-TakesAtMost left (Unread keys aad room source) (Stopped c now) = LosesAtMost (room + room) (left source) (left now)
+TakesAtMost left (Unread keys aad room source) (Chosen r) = LosesAtMost room (left source) (left r.source)
+TakesAtMost left (Unread keys aad room source) (Stopped c now) =
+    LosesAtMost room (left source) (left now) × IfSome (left source) (ReadsFronts (map (opening_key aad) keys) 0 (left source) (left now))
 TakesAtMost left (Chosen old) (Chosen new) = LosesAtMost (lacks old) (left old.source) (left new.source)
 TakesAtMost left _ _ = Unit {0}
 

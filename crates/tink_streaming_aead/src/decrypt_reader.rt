@@ -1,6 +1,6 @@
 //! Readers of a keyset's streams.
 
-ghost use Rattle.std.specs.Prelude.{◌≡◌, ◌≤◌, ◌<◌, ◌+◌, [], length, map, IfOk, OnErr, MatchResult, vec_len, vec_capacity};
+ghost use Rattle.std.specs.Prelude.{◌≡◌, ◌≤◌, ◌<◌, [], length, map, IfOk, IfSome, OnErr, MatchResult, vec_len, vec_capacity};
 ghost use Rattle.stream_model.specs.Opening.{opening_key};
 ghost use Rattle.tink_io.specs.Taken.{LosesAtMost};
 ghost use Rattle.tink_streaming_aead.specs.DecryptReaders.{DecryptMeans, FirstReadRefused, GivesFirst, IsUnread, KeepsNoMore, cause_of, first_refusal, memory_for, number_of, source_in, ReadsNoMore, TakesAtMost};
@@ -9,6 +9,7 @@ ghost use Rattle.tink_stream_keys.specs.Memory.{trial_memory};
 ghost use Rattle.tink_stream_keys.specs.Rooms.{HasRoomForEach};
 ghost use Rattle.tink_stream_keys.specs.StreamKinds.{key_in_set};
 ghost use Rattle.tink_streams.specs.Openers.{EndsEmpty, reader_memory, segment_map, text_moment};
+ghost use Rattle.tink_streams.specs.Trials.{ReadsFronts};
 
 use std::marker::Model;
 use std::mem;
@@ -74,8 +75,10 @@ fn give_first<S: Source>(
     ensures within { IfOk result (λ given. given.1 ≤ length buf.new) }
     ensures room { IfOk result (λ given. vec_len given.0.reader.buffer ≡ vec_len choice.trial.kept.buffer) }
     ensures memory { IfOk result (λ given. reader_memory given.0.reader ≡ trial_memory choice.trial) }
-    ensures read { OnErr result (LosesAtMost (vec_len choice.trial.kept.buffer + vec_len choice.trial.kept.buffer)
-        (S.left source.old) (S.left source.new)) }
+    ensures read { LosesAtMost (vec_len choice.trial.kept.buffer) (S.left source.old) (S.left source.new) }
+    ensures fronts { OnErr result (IfSome (S.left source.old)
+        (ReadsFronts (map (opening_key choice.data.items) (map key_in_set choice.keys.items)) 0 (S.left source.old)
+        (S.left source.new))) }
     ensures at_end { IfOk result (λ given. EndsEmpty S.left given.0.reader source.new) }
     ensures later { S.faults source.old ≤ S.faults source.new }
     ensures same { S.same source.old source.new }
@@ -125,7 +128,9 @@ impl<S: Source + Drop> DecryptReader<S> {
     /// Gives the next bytes of the text, as many as are opened and `buf` has room for, and answers how many. The first
     /// read to a buffer with room chooses the key, the first under which the stream begins: the source begins in its
     /// front, and the first segment is that of some text. Then each read is that of the key's `Reader`, which takes no
-    /// more of the source than the next chunk and a byte behind it. It keeps no more memory than it has.
+    /// more of the source than the next chunk and a byte behind it. The first read takes no more than has room, whatever
+    /// it answers, and no more than the longest front and a byte where the stream begins in a front of none of the keys.
+    /// It keeps no more memory than it has.
     ///
     /// # Errors
     /// `NoMatchingKey` where the stream begins under none of the keys; `ReadFault` where the source failed; those of

@@ -66,9 +66,8 @@ pub fn law_keyset_order()
 {}
 
 /// What reads up to the end have given: of a key's reader, the whole source was a stream of the key without an output
-/// prefix; of a keyset's
-/// reader, it was a stream of the first of the keys under which it begins. What was given is the texts of the stream,
-/// joined.
+/// prefix; of a keyset's reader, it was a stream of the first of the keys under which it begins. What was given is the
+/// texts of the stream, joined.
 pub fn law_whole_reading()
     ensures key { (k : StreamKey) (aad : List ℕ) (all : Option (List ℕ)) (seg : ℕ → Bool → List ℕ → List ℕ)
         (first size overhead : ℕ) (held given : List ℕ) (m n : reading.TextMoment)

@@ -1,11 +1,11 @@
-use Rattle.std.proofs.Common.{◌≡◌, ◌+◌, ◌∙◌, ℕ, Bool, List, length, map, refl, sym, arith, vec_len}
+use Rattle.std.proofs.Common.{◌≡◌, ◌∙◌, ℕ, Bool, List, length, map, refl, sym, arith, vec_len}
 use Rattle.std.proofs.lemmas.Result.{err_from_is_err_and}
 use Rattle.std.proofs.lemmas.Simd.{map-map}
 use Rattle.stream_model.specs.Opening.{opening_key}
 use Rattle.tink_stream_keys.specs.StreamKinds.{key_in_set}
-use Rattle.tink_streams.specs.Openers.{held_bytes, segment_map, text_moment}
+use Rattle.tink_streams.specs.Openers.{segment_map, text_moment}
 use Rattle.tink_streams.specs.TextReading.{TextMoment, ReadRefused}
-use Rattle.tink_streaming_aead.proofs.DecryptSteps.{first_moment, first_refused, fresh_gives, fresh_refused, reads_more, reads_twice, refused_reads, start_refused, unread}
+use Rattle.tink_streaming_aead.proofs.DecryptSteps.{first_moment, first_refused, fresh_gives, fresh_refused, reads_more, reads_near, start_refused, started_fronts, unread}
 use Rattle.tink_streaming_aead.proofs.decrypt_reader.give_first.Goals as goal
 
 pub returns-in_err-reader-clause-answer : goal.returns-in_err-reader-clause-answer
@@ -49,7 +49,6 @@ returns g c =
     let m : TextMoment = first_moment g.S.Source.left g.S.Source.faults reader c.start.new.source in
     let n : TextMoment = text_moment g.S.Source.left g.S.Source.faults c.read.new.self c.read.new.source in
     let kind = c.in-Err.e.kind in
-    let room : ℕ = vec_len choice.trial.kept.buffer in
     let refused : ReadRefused seg o.first o.size o.overhead m n (length c.args.buf.now) kind = c.in-Err.ensures.answer.1 in
     record {
       answer = (
@@ -60,10 +59,9 @@ returns g c =
       within = tt;
       room = tt;
       memory = tt;
-      read = reads_twice room _ (g.S.Source.left c.args.source.now) (g.S.Source.left c.start.new.source) (g.S.Source.left c.read.new.source) (held_bytes reader) seg o.first o.size o.overhead (rw keys at started)
-          (reads_more _ _ _ _ (omega arith) c.start.ensures.read)
-          (refused_reads room c.read.new.self.reader.filled seg o.first o.size o.overhead m n (length c.args.buf.now) kind c.read.new.self.reader.buffer.items (g.S.Source.left c.read.new.source) refl
-          (omega (arith, c.read.new.self.reader.filled_in, c.read.ensures.room, fresh.3)) refused);
+      read = reads_near (vec_len choice.trial.kept.buffer) choice.trial.kept.filled reader (g.S.Source.left c.args.source.now) (g.S.Source.left c.start.new.source) (g.S.Source.left c.read.new.source) fresh.1 fresh.3
+          c.in_ok-reader.ensures.near c.read.ensures.read;
+      fronts = started_fronts _ (g.S.Source.left c.args.source.now) m.rest (g.S.Source.left c.args.source.now) (g.S.Source.left c.read.new.source) seg o.first o.size o.overhead (rw keys at started);
       at_end = tt;
       later = omega (arith, c.start.ensures.later, c.read.ensures.later);
       same = g.met.S.Source.same_trans _ _ _ c.start.ensures.same c.read.ensures.same;
@@ -82,10 +80,7 @@ pub returns-in_err-reader-clause-at_end : goal.returns-in_err-reader-clause-at_e
 returns-in_err-reader-clause-at_end g c = let p = err_from_is_err_and c.from_residual.result c.from_residual.ensures.1 in rw p.1 tt
 
 pub returns-in_err-reader-clause-read : goal.returns-in_err-reader-clause-read
-returns-in_err-reader-clause-read g c =
-    let p = err_from_is_err_and c.from_residual.result c.from_residual.ensures.1 in
-    let room : ℕ = vec_len c.args.choice.trial.kept.buffer in
-    rw p.1 (reads_more _ (room + room) (g.S.Source.left c.args.source.now) (g.S.Source.left c.start.new.source) (omega arith) c.in_err-reader.ensures.read)
+returns-in_err-reader-clause-read g c = reads_more _ _ (g.S.Source.left c.args.source.now) (g.S.Source.left c.start.new.source) (omega arith) c.start.ensures.read
 
 pub returns-in_err-reader-clause-later : goal.returns-in_err-reader-clause-later
 returns-in_err-reader-clause-later g c = c.in_err-reader.ensures.later
@@ -103,7 +98,11 @@ pub returns-in-Ok-clause-memory : goal.returns-in-Ok-clause-memory
 returns-in-Ok-clause-memory g c = c.read.ensures.memory ∙ c.in_ok-reader.ensures.memory
 
 pub returns-in-Ok-clause-read : goal.returns-in-Ok-clause-read
-returns-in-Ok-clause-read g c = tt
+returns-in-Ok-clause-read g c =
+    let kept = c.args.choice.trial.kept in
+    let fresh = c.in_ok-reader.ensures.fresh in
+    reads_near (vec_len kept.buffer) kept.filled c.in_ok-reader.reader (g.S.Source.left c.args.source.now) (g.S.Source.left c.start.new.source) (g.S.Source.left c.read.new.source) fresh.1 fresh.3
+    c.in_ok-reader.ensures.near c.read.ensures.read
 
 pub returns-in-Ok-clause-at_end : goal.returns-in-Ok-clause-at_end
 returns-in-Ok-clause-at_end g c = c.read.ensures.at_end
@@ -113,3 +112,15 @@ returns-in-Ok-clause-later g c = omega (arith, c.start.ensures.later, c.read.ens
 
 pub returns-in-Ok-clause-same : goal.returns-in-Ok-clause-same
 returns-in-Ok-clause-same g c = g.met.S.Source.same_trans _ _ _ c.start.ensures.same c.read.ensures.same
+
+pub returns-in-Ok-clause-fronts : goal.returns-in-Ok-clause-fronts
+returns-in-Ok-clause-fronts g c = tt
+
+pub returns-in_err-reader-clause-fronts : goal.returns-in_err-reader-clause-fronts
+returns-in_err-reader-clause-fronts g c =
+    let p = err_from_is_err_and c.from_residual.result c.from_residual.ensures.1 in
+    let choice = c.args.choice in
+    let keys : map (λ k. opening_key choice.data.items (key_in_set k)) choice.keys.items ≡ map (opening_key choice.data.items) (map key_in_set choice.keys.items) = sym (map-map (opening_key choice.data.items) key_in_set choice.keys.items) in
+    let told = unread choice.trial.kept.filled choice.trial.kept.buffer.items (g.S.Source.left c.args.source.now) choice.unread in
+    let fronts = rw told at (rw (c.deref.ensures.value, c.deref-2.ensures.value) at c.in_err-reader.ensures.further) in
+    rw p.1 (rw (keys, choice.unread) at fronts)

@@ -23,7 +23,14 @@ returns-in-Err-clause-taken g c =
     let left = g.S.Source.left in
     let new : DecryptState g.row.S.Denot = state_of (Stopped c.cause_of.result) c.give_first.new.source in
     subst (λ (s : DecryptState g.row.S.Denot). TakesAtMost left s new)
-    (ap (λ (st : Stage). state_of st c.self.inside.source) (sym c.in-Unread.is ∙ c.replace-stage.ensures.value) ∙ c.self.view_is) c.in-Err.ensures.read
+    (ap (λ (st : Stage). state_of st c.self.inside.source) (sym c.in-Unread.is ∙ c.replace-stage.ensures.value) ∙ c.self.view_is) (c.in-Err.ensures.read, c.in-Err.ensures.fronts)
+
+pub returns-in-Ok-clause-taken : goal.returns-in-Ok-clause-taken
+returns-in-Ok-clause-taken g c =
+    let left = g.S.Source.left in
+    let new : DecryptState g.row.S.Denot = state_of (Chosen c.in-Ok.text) c.give_first.new.source in
+    subst (λ (s : DecryptState g.row.S.Denot). TakesAtMost left s new)
+    (ap (λ (st : Stage). state_of st c.self.inside.source) (sym c.in-Unread.is ∙ c.replace-stage.ensures.value) ∙ c.self.view_is) c.in-Ok.ensures.read
 
 pub returns-in-Ok-clause-room : goal.returns-in-Ok-clause-room
 returns-in-Ok-clause-room g c =
