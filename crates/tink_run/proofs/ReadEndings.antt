@@ -12,6 +12,7 @@ use Rattle.tink_io.specs.declared.error.Kind.{Kind}
 use Rattle.tink_io.specs.declared.error.Kind.TheVariants.{OutOfMemory, ReadFault, WriteFault, TooManySegments, NoMatchingKey, BadSegment, Truncated}
 use Rattle.tink_io.specs.declared.error.TinkError.{TinkError}
 use Rattle.stream_model.specs.Agree.{joined}
+use Rattle.stream_model.specs.Cut.{room_at}
 use Rattle.stream_model.specs.Key.{StreamKey}
 use Rattle.stream_model.specs.Opening.{OpeningKey, IsChosen, chunks_of, opening_key}
 use Rattle.stream_model.specs.Order.{HaveSameOrder}
@@ -22,6 +23,7 @@ use Rattle.tink_io.specs.Gathering.{IsCutShort, OnlyGrows}
 use Rattle.tink_sets.specs.declared.typed_set.TypedPrimitiveSet.{TypedPrimitiveSet}
 use Rattle.tink_stream_keys.specs.declared.stream_kind.StreamKind.{StreamKind}
 use Rattle.tink_streaming_aead.specs.DecryptReaders.{largest}
+use Rattle.tink_streaming_aead.proofs.DecryptSteps.{reads_more}
 use Rattle.tink_streaming_aead.specs.Wrapped.{KeepsOrder, all_entries, keys_in}
 use Rattle.tink_run.specs.AllKeys.{load}
 use Rattle.tink_run.specs.HeldKeys.{GivesLoaded}
@@ -30,7 +32,7 @@ use Rattle.tink_run.specs.declared.report.Command.TheVariants.{Seal, Open}
 use Rattle.tink_run.specs.declared.report.Report.{Report}
 use Rattle.tink_run.specs.Endings.{EndsAs, IsEndedBy, IsRefusedEarly}
 use Rattle.tink_run.specs.OpenAnswers.{AgreesUntil, IsOfChosen, Lead, chunk_of}
-use Rattle.tink_run.specs.OpenReads.{OpensReading, ReadsBy, ReadsNear, ReadsNoFurther, ReadsWithin, StopsBehind, from_chunk, room_under}
+use Rattle.tink_run.specs.OpenReads.{OpensReading, ReadsBy, ReadsInChunk, ReadsNear, ReadsNoFurther, ReadsWithin, StopsBehind, from_chunk, largest_of, room_under}
 use Rattle.tink_run.specs.OpenSteps.{OpensUnder, OpensUnderRefused}
 use Rattle.tink_io.specs.Outside.{Outside}
 use Rattle.tink_run.specs.Run.{IsEarly}
@@ -65,8 +67,14 @@ module _ (room : ℕ) (keys : List OpeningKey) (old new : Outside) (told : Optio
   abbrev first_end : Outside
   first_end = record new { got = told; write_faults = faults }
 
-  handed : (Wrote Writes : Option (List ℕ) → Option (List ℕ) → List ℕ → Type 0) → ((bs : List ℕ) → Wrote old.got told bs → Writes old.got new.got bs) → StopsBehind Wrote room keys old first_end → StopsBehind Writes room keys old new
-  handed Wrote Writes on r = record { texts = r.texts; lead = r.lead; read = r.read; written = on (joined r.texts) r.written }
+  handed : (Wrote Writes : Option (List ℕ) → Option (List ℕ) → List ℕ → Type 0) (Near Nears : ℕ → Option (List ℕ) → Option (List ℕ) → Type 0) → ((bs : List ℕ) → Wrote old.got told bs → Writes old.got new.got bs)
+      → ((n : ℕ) → Near n old.left new.left → Nears n old.left new.left) → StopsBehind Wrote Near room keys old first_end → StopsBehind Writes Nears room keys old new
+  handed Wrote Writes Near Nears on to r = record {
+    texts = r.texts;
+    lead = r.lead;
+    read = elim r.read [ inl h ↦ inl (to (length r.texts) h) | inr h ↦ inr h ];
+    written = on (joined r.texts) r.written;
+  }
 
   -- all was handed on
   kept_by : Keeps told new.got → (kind : Kind) → ReadsBy room keys old first_end kind → ReadsBy room keys old new kind
@@ -74,8 +82,8 @@ module _ (room : ℕ) (keys : List OpeningKey) (old new : Outside) (told : Optio
   kept_by kept (Truncated n) r = r
   kept_by kept (BadSegment n) r = r
   kept_by kept TooManySegments r = r
-  kept_by kept ReadFault r = handed Appends Appends (λ bs w. Appends-kept old.got told new.got bs w kept) r
-  kept_by kept WriteFault r = handed AppendsPrefix AppendsPrefix (λ bs w. kept_after old.got told new.got bs kept w) r
+  kept_by kept ReadFault r = handed Appends Appends (ReadsInChunk keys) (ReadsInChunk keys) (λ bs w. Appends-kept old.got told new.got bs w kept) (λ n h. h) r
+  kept_by kept WriteFault r = handed AppendsPrefix AppendsPrefix (ReadsNear room keys) (ReadsNear room keys) (λ bs w. kept_after old.got told new.got bs kept w) (λ n h. h) r
   kept_by kept _ r = tt
 
   reads_handed : Keeps told new.got → (answer : Result Report TinkError) → ReadsWithin room keys old first_end answer → ReadsWithin room keys old new answer
@@ -83,7 +91,7 @@ module _ (room : ℕ) (keys : List OpeningKey) (old new : Outside) (told : Optio
   reads_handed kept (Err e) r = kept_by kept e.kind r
 
   -- a part was handed on
-  module _ (grows : OnlyGrows old.got new.got) (short : IsCutShort told new.got) where
+  module _ (grows : OnlyGrows old.got new.got) (short : IsCutShort told new.got) (within : (S : List ℕ) (k : OpeningKey) (n : ℕ) → IsChosen keys S (Some k) → room_at k.first k.size n ≤ room) where
     part : (bs : List ℕ) → AppendsPrefix old.got told bs → AppendsPrefix old.got new.got bs
     part bs w = cut_prefix old.got told new.got bs grows short w
 
@@ -91,7 +99,7 @@ module _ (room : ℕ) (keys : List OpeningKey) (old new : Outside) (told : Optio
     part_of bs w = part bs (whole_prefix old.got told bs w)
 
     until : (n : ℕ) (texts : List (List ℕ)) (P : List ℕ → OpeningKey → Type 0) → n ≡ length texts → IfSome old.left (λ S. AgreesUntil keys S texts (P S)) → Appends old.got told (joined texts) → ReadsNear room keys n old.left new.left
-        → StopsBehind AppendsPrefix room keys old new
+        → StopsBehind AppendsPrefix (ReadsNear room keys) room keys old new
     until n texts P number stream w near = record {
       texts = texts;
       lead = if_told old.left (λ S. AgreesUntil keys S texts (P S)) (λ S. Lead keys S texts) (λ S a. leads_agreed keys S texts (P S) a) stream;
@@ -99,7 +107,12 @@ module _ (room : ℕ) (keys : List OpeningKey) (old new : Outside) (told : Optio
       written = part_of (joined texts) w;
     }
 
-    cut_by : (kind : Kind) → (IsEarly kind → ⊥) → OpensUnderRefused keys old first_end kind → ReadsBy room keys old first_end kind → StopsBehind AppendsPrefix room keys old new
+    -- a chunk under the chosen key has no more bytes than were held
+    wider : (n : ℕ) (all left : Option (List ℕ)) → ReadsInChunk keys n all left → ReadsNear room keys n all left
+    wider n None left h = tt
+    wider n (Some S) left h = (h.0, h.1, reads_more (room_at h.0.first h.0.size n) room (Some (from_chunk (chunks_of h.0 S) n)) left (within S h.0 n h.1) h.2)
+
+    cut_by : (kind : Kind) → (IsEarly kind → ⊥) → OpensUnderRefused keys old first_end kind → ReadsBy room keys old first_end kind → StopsBehind AppendsPrefix (ReadsNear room keys) room keys old new
     cut_by OutOfMemory early o r = absurd (early tt)
     cut_by NoMatchingKey early o r = record {
       texts = [];
@@ -110,12 +123,12 @@ module _ (room : ℕ) (keys : List OpeningKey) (old new : Outside) (told : Optio
     cut_by (Truncated n) early o r = until n o.texts (λ S k. (0 < length (chunk_of k S n)) × (length (chunk_of k S n) < k.overhead)) o.number o.stream o.written r
     cut_by (BadSegment n) early o r = until n o.texts (λ S k. k.overhead ≤ length (chunk_of k S n)) o.number o.stream o.written r
     cut_by TooManySegments early o r = until (2 ^ 32) o.texts (λ S k. 2 ^ 32 < length (chunks_of k S)) (sym o.number) o.stream o.written r
-    cut_by ReadFault early o r = handed Appends AppendsPrefix part_of r
-    cut_by WriteFault early o r = handed AppendsPrefix AppendsPrefix part r
+    cut_by ReadFault early o r = handed Appends AppendsPrefix (ReadsInChunk keys) (ReadsNear room keys) part_of (λ n. wider n old.left new.left) r
+    cut_by WriteFault early o r = handed AppendsPrefix AppendsPrefix (ReadsNear room keys) (ReadsNear room keys) part (λ n h. h) r
     cut_by _ early o r = absurd o
 
     reads_cut : ((S : List ℕ) (k : OpeningKey) → IsChosen keys S (Some k) → Lawful k) → (answer : Result Report TinkError) → (IsRefusedEarly answer → ⊥) → OpensUnder keys old first_end answer → ReadsWithin room keys old first_end answer
-        → StopsBehind AppendsPrefix room keys old new
+        → StopsBehind AppendsPrefix (ReadsNear room keys) room keys old new
     reads_cut lawful (Ok report) early o r = record {
       texts = o.texts;
       lead = if_told old.left (λ S. IsOfChosen keys S o.texts) (λ S. Lead keys S o.texts) (λ S s. leads_opened keys S o.texts lawful s) o.stream;
@@ -124,15 +137,28 @@ module _ (room : ℕ) (keys : List OpeningKey) (old new : Outside) (told : Optio
     }
     reads_cut lawful (Err e) early o r = cut_by e.kind early o r
 
+-- a chunk under the chosen key is no longer than the segments of the keys
+chosen_within : (keys : List OpeningKey) (S : List ℕ) (k : OpeningKey) → IsChosen keys S (Some k) → k.size ≤ largest_of keys
+chosen_within [] S k h = absurd (cc)
+chosen_within (e ∷ keys) S k (inl h) = let same : e ≡ k = cc in subst (λ (x : OpeningKey). x.size ≤ largest_of (e ∷ keys)) same (omega arith)
+chosen_within (e ∷ keys) S k (inr h) = omega (arith, chosen_within keys S k h.1)
+
+chunk_most : (first size n : ℕ) → first ≤ size → room_at first size n ≤ size
+chunk_most first size zero fits = fits
+chunk_most first size (suc n) fits = omega arith
+
 -- an open to a sink that gathers has read what one to the sink behind it has
 reads_ended : (keys : List OpeningKey) → ((S : List ℕ) (k : OpeningKey) → IsChosen keys S (Some k) → Lawful k) → (old new : Outside) (ended : Result Report TinkError) → EndsAs (OpensReading keys old) old new ended → ReadsWithin (room_under keys) keys old new ended
 reads_ended keys lawful old new ended r = go r.ends
   where
+    within : (S : List ℕ) (k : OpeningKey) (n : ℕ) → IsChosen keys S (Some k) → room_at k.first k.size n ≤ room_under keys
+    within S k n c = omega (arith, chosen_within keys S k c, chunk_most k.first k.size n (omega (arith, (lawful S k c).fits)))
+
     go : IsEndedBy r.told new.got r.faults new.write_faults r.answer ended → ReadsWithin (room_under keys) keys old new ended
     go (inl w) = subst (ReadsWithin (room_under keys) keys old new) (sym w.is) (reads_handed (room_under keys) keys old new r.told r.faults w.kept r.answer r.meant.1)
     go (inr w) =
         subst (ReadsWithin (room_under keys) keys old new) (sym w.is)
-        (reads_cut (room_under keys) keys old new r.told r.faults r.grows w.short lawful r.answer (λ e. absurd (not_early r.answer ended (r.told ≡ new.got) (r.faults ≡ new.write_faults) r.early w.is e)) r.meant.0 r.meant.1)
+        (reads_cut (room_under keys) keys old new r.told r.faults r.grows w.short within lawful r.answer (λ e. absurd (not_early r.answer ended (r.told ≡ new.got) (r.faults ≡ new.write_faults) r.early w.is e)) r.meant.0 r.meant.1)
 
 -- ---- under other keys of which the same is chosen
 module _ (room : ℕ) (ks js : List OpeningKey) (old new : Outside) (same : (S : List ℕ) (c : Option OpeningKey) → IsChosen ks S c → IsChosen js S c) where
@@ -144,11 +170,16 @@ module _ (room : ℕ) (ks js : List OpeningKey) (old new : Outside) (same : (S :
   lead_to [] S h = tt
   lead_to (t ∷ ts) S h = (h.0, same S (Some h.0) h.1, h.2)
 
-  stops_to : (Wrote : Option (List ℕ) → Option (List ℕ) → List ℕ → Type 0) → StopsBehind Wrote room ks old new → StopsBehind Wrote room js old new
-  stops_to Wrote r = record {
+  chunk_to : (n : ℕ) (all left : Option (List ℕ)) → ReadsInChunk ks n all left → ReadsInChunk js n all left
+  chunk_to n None left h = tt
+  chunk_to n (Some S) left h = (h.0, same S (Some h.0) h.1, h.2)
+
+  stops_to : (Wrote : Option (List ℕ) → Option (List ℕ) → List ℕ → Type 0) (Near Nears : ℕ → Option (List ℕ) → Option (List ℕ) → Type 0) → ((n : ℕ) → Near n old.left new.left → Nears n old.left new.left)
+      → StopsBehind Wrote Near room ks old new → StopsBehind Wrote Nears room js old new
+  stops_to Wrote Near Nears to r = record {
     texts = r.texts;
     lead = if_told old.left (λ S. Lead ks S r.texts) (λ S. Lead js S r.texts) (lead_to r.texts) r.lead;
-    read = elim r.read [ inl h ↦ inl (near_to (length r.texts) old.left new.left h) | inr h ↦ inr h ];
+    read = elim r.read [ inl h ↦ inl (to (length r.texts) h) | inr h ↦ inr h ];
     written = r.written;
   }
 
@@ -157,8 +188,8 @@ module _ (room : ℕ) (ks js : List OpeningKey) (old new : Outside) (same : (S :
   reads_by (Truncated n) r = near_to n old.left new.left r
   reads_by (BadSegment n) r = near_to n old.left new.left r
   reads_by TooManySegments r = near_to (2 ^ 32) old.left new.left r
-  reads_by ReadFault r = stops_to Appends r
-  reads_by WriteFault r = stops_to AppendsPrefix r
+  reads_by ReadFault r = stops_to Appends (ReadsInChunk ks) (ReadsInChunk js) (λ n. chunk_to n old.left new.left) r
+  reads_by WriteFault r = stops_to AppendsPrefix (ReadsNear room ks) (ReadsNear room js) (λ n. near_to n old.left new.left) r
   reads_by _ r = tt
 
   reads_to : (answer : Result Report TinkError) → ReadsWithin room ks old new answer → ReadsWithin room js old new answer

@@ -20,14 +20,14 @@ use Rattle.stream_model.proofs.CutFacts.{cut_none, cut_fits, cut_more}
 use Rattle.tink_streaming_aead.specs.DecryptReaders.{largest}
 use Rattle.tink_streaming_aead.proofs.DecryptSteps.{reads_held, reads_kept}
 use Rattle.tink_streams.specs.Choosing.{Started, StartRefused}
-use Rattle.tink_streams.specs.Reading.{FailsBy, IsBad, ReadFailed, ReaderMoment, TellsLeads, TruncatedAt, OpenNextRefused}
+use Rattle.tink_streams.specs.Reading.{FailsBy, HeldBy, IsBad, ReadFailed, ReaderMoment, TellsLeads, TruncatedAt, OpenNextRefused}
 use Rattle.tink_streams.proofs.ChosenFacts.{chunks_are}
 use Rattle.tink_segment_traits.proofs.HeadFacts.{fits_or_not}
 use Rattle.tink_streams.proofs.ReadingFacts.{Opened}
 use Rattle.tink_run.specs.declared.report.Report.{Report}
 use Rattle.tink_io.specs.Outside.{Outside}
 use Rattle.tink_run.specs.OpenAnswers.{Lead}
-use Rattle.tink_run.specs.OpenReads.{FailsBehind, ReaderReads, ReaderReadsBy, ReadsBy, ReadsFrom, ReadsNear, ReadsWithin, StopsBehind, from_chunk, largest_of}
+use Rattle.tink_run.specs.OpenReads.{FailsBehind, FirstReadsBy, ReaderReads, ReaderReadsBy, ReadsBy, ReadsFrom, ReadsInChunk, ReadsNear, ReadsWithin, StopsBehind, from_chunk, largest_of}
 use Rattle.tink_run.specs.OpenSteps.{FirstFailedBy, FirstRefused, ReaderMeans}
 use Rattle.tink_run.proofs.OpenLemmas.{kept_nothing}
 use Rattle.tink_run.proofs.OpenSteps.{behind, leads_under, some_agrees}
@@ -55,6 +55,10 @@ first_failed seg a b overhead m n TooManySegments fresh other x = absurd (not_ma
 first_failed seg a b overhead m n (BadSegment i) fresh other x = inr (subst (IsBad seg a b overhead m n) (x.number ∙ fresh) x)
 first_failed seg a b overhead m n (Truncated i) fresh other x = inl (subst (TruncatedAt seg a b overhead m n) (x.number ∙ fresh) x)
 first_failed seg a b overhead m n _ fresh other x = absurd x
+
+-- and by a failed read no more than the first chunk is held
+pub held_first : (a b i f : ℕ) (kind : Kind) → i ≡ 0 → kind ≡ ReadFault → HeldBy (room_at a b i) f kind → f ≤ a
+held_first a b i f kind fresh is held = subst (λ (j : ℕ). f ≤ room_at a b j) fresh (subst (HeldBy (room_at a b i) f) is held)
 
 -- so at most what is held was read
 pub refused_reads : (room f : ℕ) (seg : ℕ → Bool → List ℕ → List ℕ) (a b overhead : ℕ) (m n : ReaderMoment) (kind : Kind) (items : List ℕ) (left : Option (List ℕ)) → n.rest ≡ prepend_known (take f items) left → f ≤ room
@@ -104,13 +108,13 @@ reads_fresh a b room None left p q lost = tt
 reads_fresh a b room (Some X) left p q lost = subst (λ (z : List ℕ). LosesAtMost room (Some z) left) (sym (joined_cut (length X) a b X (omega arith) p q)) lost
 
 -- the reader refused the first segment
-pub first_reads : (room : ℕ) (seg : ℕ → Bool → List ℕ → List ℕ) (a b : ℕ) (old new : Outside) (m n : ReaderMoment) (kind : Kind) → 0 < a → 0 < b → Keeps old.got new.got → LosesAtMost room old.left new.left → FirstRefused seg a b m n kind
+pub first_reads : (room : ℕ) (seg : ℕ → Bool → List ℕ → List ℕ) (a b : ℕ) (old new : Outside) (m n : ReaderMoment) (kind : Kind) → 0 < a → 0 < b → Keeps old.got new.got → FirstReadsBy room a old.left new.left kind → FirstRefused seg a b m n kind
     → ReaderReadsBy room seg a b old new kind
 first_reads room seg a b old new m n NoMatchingKey p q got lost x = tt
 first_reads room seg a b old new m n ReadFault p q got lost x = record {
   texts = [];
   lead = any_told old.left;
-  read = reads_fresh a b room old.left new.left p q lost;
+  read = reads_fresh a b a old.left new.left p q lost;
   written = kept_nothing old.got new.got got;
 }
 first_reads room seg a b old new m n _ p q got lost x = absurd x
@@ -127,28 +131,37 @@ write_reads room seg a b old new now m bytes p q r w lost = record {
 
 -- the reader refused the next segment
 pub next_reads : (room : ℕ) (seg : ℕ → Bool → List ℕ → List ℕ) (a b overhead : ℕ) (old new : Outside) (now : Option (List ℕ)) (m n : ReaderMoment) (bytes : ℕ) (kind : Kind) → 0 < a → 0 < b → IsReading seg a b old.left old.got now m bytes
-    → Appends now new.got m.opened → LosesAtMost room n.rest new.left → OpenNextRefused seg a b overhead m n kind → ReaderReadsBy room seg a b old new kind
-next_reads room seg a b overhead old new now m n bytes kind p q r w lost x = go kind x
+    → Appends now new.got m.opened → (f : ℕ) (items : List ℕ) → Keeps n.rest (prepend_known (take f items) new.left) → f ≤ room → HeldBy (room_at a b m.number) f kind → OpenNextRefused seg a b overhead m n kind
+    → ReaderReadsBy room seg a b old new kind
+next_reads room seg a b overhead old new now m n bytes kind p q r w f items rest few short x = go kind short x
   where
     texts : List (List ℕ)
     texts = r.texts ++ (m.opened ∷ [])
+
+    lost : LosesAtMost room n.rest new.left
+    lost = reads_held room f n.rest new.left items rest few
 
     at : (i : ℕ) → i ≡ m.number → Keeps m.rest n.rest → ReadsFrom room a b i old.left new.left
     at i number kept =
         subst (λ (j : ℕ). ReadsFrom room a b j old.left new.left) (sym (number ∙ r.opened.number))
         (reads_opened seg a b room old.left new.left texts m p q r.opened (reads_kept room m.rest n.rest new.left kept lost))
 
-    go : (kind : Kind) → OpenNextRefused seg a b overhead m n kind → ReaderReadsBy room seg a b old new kind
-    go ReadFault x = record {
+    within_chunk : f ≤ room_at a b m.number → Keeps m.rest n.rest → ReadsFrom (room_at a b (length texts)) a b (length texts) old.left new.left
+    within_chunk most kept =
+        subst (λ (i : ℕ). ReadsFrom (room_at a b i) a b (length texts) old.left new.left) r.opened.number
+        (reads_opened seg a b (room_at a b m.number) old.left new.left texts m p q r.opened (reads_kept (room_at a b m.number) m.rest n.rest new.left kept (reads_held (room_at a b m.number) f n.rest new.left items rest most)))
+
+    go : (kind : Kind) → HeldBy (room_at a b m.number) f kind → OpenNextRefused seg a b overhead m n kind → ReaderReadsBy room seg a b old new kind
+    go ReadFault most x = record {
       texts = texts;
       lead = lead_of seg a b old.left m.rest texts r.opened.leads;
-      read = reads_opened seg a b room old.left new.left texts m p q r.opened (reads_kept room m.rest n.rest new.left x.fails.kept lost);
+      read = within_chunk most x.fails.kept;
       written = written_one r.texts m.opened old.got now new.got r.written w;
     }
-    go TooManySegments x = at (2 ^ 32) (sym x.number) x.fails.kept
-    go (BadSegment i) x = at i x.number x.fails.kept
-    go (Truncated i) x = at i x.number x.fails.kept
-    go _ x = absurd x
+    go TooManySegments most x = at (2 ^ 32) (sym x.number) x.fails.kept
+    go (BadSegment i) most x = at i x.number x.fails.kept
+    go (Truncated i) most x = at i x.number x.fails.kept
+    go _ most x = absurd x
 
 -- no reader was started
 pub start_reads : (room : ℕ) (keys : List OpeningKey) (old new : Outside) (kind : Kind) → Keeps old.got new.got → LosesAtMost room old.left new.left → StartRefused keys old.left old.read_faults new.read_faults kind
@@ -176,12 +189,27 @@ module _ (room : ℕ) (keys : List OpeningKey) (seg : ℕ → Bool → List ℕ 
       ))
       started h
 
-  stops : (Wrote : Option (List ℕ) → Option (List ℕ) → List ℕ → Type 0) → FailsBehind Wrote room seg first size mid new → StopsBehind Wrote room keys old new
-  stops Wrote x = record {
+  in_chunk : (n : ℕ) → ReadsFrom (room_at first size n) first size n mid.left new.left → ReadsInChunk keys n old.left new.left
+  in_chunk n h =
+      behind keys seg first size overhead old.left mid.left (λ Y. LosesAtMost (room_at first size n) (Some (from_chunk (cut first size Y) n)) new.left)
+      (λ S. (k : OpeningKey) × IsChosen keys S (Some k) × LosesAtMost (room_at k.first k.size n) (Some (from_chunk (chunks_of k S) n)) new.left)
+      (λ X s p.
+      let k : OpeningKey = s.found.key in
+      let o = s.found.opener in (
+        k,
+        s.found.chosen,
+        subst (λ (i : ℕ). LosesAtMost i (Some (from_chunk (chunks_of k X) n)) new.left) (ap (λ (i : ℕ). room_at i size n) o.first_is ∙ ap (λ (i : ℕ). room_at k.first i n) o.size_is)
+            (subst (λ (cs : List (List ℕ)). LosesAtMost (room_at first size n) (Some (from_chunk cs n)) new.left) (chunks_are k X seg s.front first size overhead o) p),
+      ))
+      started h
+
+  stops : (Wrote : Option (List ℕ) → Option (List ℕ) → List ℕ → Type 0) (Near : ℕ → Option (List ℕ) → Option (List ℕ) → Type 0) (rooms : ℕ → ℕ) → ((n : ℕ) → ReadsFrom (rooms n) first size n mid.left new.left → Near n old.left new.left)
+      → FailsBehind Wrote rooms seg first size mid new → StopsBehind Wrote Near room keys old new
+  stops Wrote Near rooms to x = record {
     texts = x.texts;
     lead = behind keys seg first size overhead old.left mid.left (λ Y. AreTexts seg 0 (cut first size Y) x.texts) (λ X. Lead keys X x.texts)
         (λ X s p. leads_under keys seg first size overhead s.front X x.texts s.found p) started x.lead;
-    read = inl (near (length x.texts) x.read);
+    read = inl (to (length x.texts) x.read);
     written = subst (λ (o : Option (List ℕ)). Wrote o new.got (joined x.texts)) got x.written;
   }
 
@@ -197,8 +225,8 @@ module _ (room : ℕ) (keys : List OpeningKey) (seg : ℕ → Bool → List ℕ 
   refused (Truncated n) x h = near n h
   refused (BadSegment n) x h = near n h
   refused TooManySegments x h = near (2 ^ 32) h
-  refused ReadFault x h = stops Appends h
-  refused WriteFault x h = stops AppendsPrefix h
+  refused ReadFault x h = stops Appends (ReadsInChunk keys) (room_at first size) in_chunk h
+  refused WriteFault x h = stops AppendsPrefix (ReadsNear room keys) (λ _. room) near h
   refused _ x h = absurd x
 
   pub reads_under : (answer : Result Report TinkError) → ReaderMeans seg first size overhead mid new answer → ReaderReads room seg first size mid new answer → ReadsWithin room keys old new answer

@@ -1,13 +1,12 @@
-ghost use Rattle.std.specs.Prelude.{◌≡◌, ◌≤◌, ◌<◌, ◌+◌, ◌^◌, map, OnErr, vec_len, vec_capacity};
+ghost use Rattle.std.specs.Prelude.{◌≡◌, ◌≤◌, ◌<◌, ◌+◌, ◌^◌, map, vec_len, vec_capacity};
 ghost use Rattle.stream_model.specs.Opening as opening;
 ghost use Rattle.tink_streams.specs.declared.progress.Progress.TheVariants.{Running};
-ghost use Rattle.tink_io.specs.Taken.{LosesAtMost};
 ghost use Rattle.tink_stream_keys.specs.Rooms.{HasRoomForEach};
 ghost use Rattle.tink_streams.specs.Openers.{reader_memory, reader_moment, reader_rest, segment_map};
 ghost use Rattle.tink_io.specs.Outside.{FaultsStay, outside_of};
 ghost use Rattle.tink_streaming_aead.specs.Wrapped.{KeepsOrder, all_entries, keys_in};
 ghost use Rattle.tink_run.specs.OpenAnswers.{OpeningMeans};
-ghost use Rattle.tink_run.specs.OpenReads.{ReaderReads, ReadsWithin, room_under};
+ghost use Rattle.tink_run.specs.OpenReads.{FirstReads, ReaderReads, ReadsWithin, room_under};
 ghost use Rattle.tink_run.specs.Run.{LeavesEnds, LeavesSinkItself};
 ghost use Rattle.tink_run.specs.OpenSteps.{FirstFailed, FirstMeans, OpensUnder, ReaderMeans, held_outside};
 
@@ -29,7 +28,8 @@ use tink_streaming_aead::{
 /// segments lead the stream were written then, and by WriteFault a prefix of such. At most a byte
 /// more was read than the longest output prefix and segment of the keys have together: from the
 /// stream's beginning where no key was chosen, from that of the chunk that was refused, or else from
-/// behind the chunks of those texts.
+/// behind the chunks of those texts. By ReadFault it was no more than one chunk behind them, so that
+/// no text was lost but perhaps the first.
 pub fn open<S: Source, K: Sink>(
     alloc: Global,
     set: &TypedPrimitiveSet<StreamKind>,
@@ -155,8 +155,8 @@ pub fn open_first<S: Source, D: SegmentDecrypter + Drop>(
     ensures opener { reader.new.opener ≡ reader.old.opener }
     ensures memory { reader_memory reader.new ≡ reader_memory reader.old }
     ensures small { vec_len reader.new.opened < 2 ^ 32 }
-    ensures read { OnErr result (LosesAtMost (vec_len reader.old.buffer) (reader_rest S.left reader.old source.old)
-        (S.left source.new)) }
+    ensures read { FirstReads (vec_len reader.old.buffer) reader.old.opener.first
+        (reader_rest S.left reader.old source.old) (S.left source.new) result }
     ensures room { vec_len reader.new.buffer ≡ vec_len reader.old.buffer }
     ensures later { S.faults source.old ≤ S.faults source.new }
     ensures same { S.same source.old source.new }

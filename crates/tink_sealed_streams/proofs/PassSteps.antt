@@ -13,15 +13,15 @@ use Rattle.tink_io.specs.declared.error.Kind.{Kind}
 use Rattle.tink_io.specs.declared.error.Kind.TheVariants.{ReadFault, WriteFault, TooManySegments, NoMatchingKey, BadSegment, Truncated, FailedBefore}
 use Rattle.tink_io.specs.declared.error.Kind.TheVariants as kind
 use Rattle.tink_io.specs.declared.error.TinkError.{TinkError}
-use Rattle.stream_model.specs.Cut.{full_chunks, sealed, unmarked}
+use Rattle.stream_model.specs.Cut.{full_chunks, room_at, sealed, unmarked}
 use Rattle.stream_model.proofs.SealingFacts.{length-chunks}
 use Rattle.tink_streams.specs.declared.progress.Progress.TheVariants.{Ended}
-use Rattle.tink_streams.specs.Reading.{ReaderMoment, OpensNext, OpenNextRefused}
+use Rattle.tink_streams.specs.Reading.{HeldBy, ReaderMoment, OpensNext, OpenNextRefused}
 use Rattle.tink_streams.specs.Writing.{WriterMoment, Wrote, WrotePrefixOf, WroteAll, WriteRefused, ClosedBy, ClosedShort, CloseMeans, CloseRefused}
 use Rattle.tink_streams.proofs.WritingFacts.{IsFresh, fresh_filled, wrote_nothing, wrote_more, refused_more, closed_whole, closed_prefix, stops_prefix}
 use Rattle.tink_run.specs.declared.report.Report.{Report}
 use Rattle.tink_io.specs.Outside.{Outside}
-use Rattle.tink_run.specs.OpenReads.{ReaderReadsBy}
+use Rattle.tink_run.specs.OpenReads.{FirstReadsBy, ReaderReadsBy}
 use Rattle.tink_run.specs.OpenSteps.{FirstRefused, ReaderMeans}
 use Rattle.tink_run.specs.Run.{LeavesSinkItself, WritesNothing}
 use Rattle.tink_run.proofs.OpenLemmas.{kept_prefix, whole_prefix}
@@ -88,7 +88,7 @@ module _ (room : ℕ) (read : ℕ → Bool → List ℕ → List ℕ) (first siz
   Refused old new kind = PassRefused (ReaderMeansWithin room read first size overhead) (LeadsWithin room read first size) anywhere made old new kind
 
   -- the reader refused the first segment
-  pub first_failed : (old new : Outside) (m n : ReaderMoment) (kind : Kind) → m.number ≡ 0 → m.rest ≡ old.left → old.read_faults ≤ m.faults → n.faults ≤ new.read_faults → Keeps old.got new.got → LosesAtMost room old.left new.left
+  pub first_failed : (old new : Outside) (m n : ReaderMoment) (kind : Kind) → m.number ≡ 0 → m.rest ≡ old.left → old.read_faults ≤ m.faults → n.faults ≤ new.read_faults → Keeps old.got new.got → FirstReadsBy room first old.left new.left kind
       → FirstRefused read first size m n kind → Refused old new kind
   first_failed old new m n NoMatchingKey z same later more w lost r = record {
     opened = (
@@ -198,11 +198,11 @@ module _ (room : ℕ) (read : ℕ → Bool → List ℕ → List ℕ) (first siz
         go _ c r = absurd c
 
     -- the reader refused the next segment
-    pub next_failed : (n : ReaderMoment) (v : WriterMoment) (new : Outside) (kind : Kind) → new.got ≡ v.got → old.read_faults ≤ m.faults → n.faults ≤ new.read_faults → LosesAtMost room n.rest new.left → Wrote seg a b w v m.opened
+    pub next_failed : (n : ReaderMoment) (v : WriterMoment) (new : Outside) (kind : Kind) → new.got ≡ v.got → old.read_faults ≤ m.faults → n.faults ≤ new.read_faults → (f : ℕ) (items : List ℕ) → Keeps n.rest (prepend_known (take f items) new.left) → f ≤ room → HeldBy (room_at first size m.number) f kind → Wrote seg a b w v m.opened
         → OpenNextRefused read first size overhead m n kind → Refused old new kind
-    next_failed n v new kind got later more lost wrote r =
+    next_failed n v new kind got later more f items rest most short wrote r =
         go kind (next_refused read first size overhead (into [] old) (into text new) (Some u.text) m n bytes kind x y u.reading refl later more r)
-        (next_reads room read first size overhead (into [] old) (into text new) (Some u.text) m n bytes kind x y u.reading refl lost r) r
+        (next_reads room read first size overhead (into [] old) (into text new) (Some u.text) m n bytes kind x y u.reading refl f items rest most short r) r
       where
         part : Appends old.got new.got (made.part text)
         part = subst (λ (g : Option (List ℕ)). Appends old.got g (made.part text)) (sym got) (wrote_part front seg a b old.got u.start u.fresh u.begun v text (wrote_text v wrote))

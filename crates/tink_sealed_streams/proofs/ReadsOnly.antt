@@ -11,7 +11,7 @@ use Rattle.stream_model.specs.Opening.{OpeningKey, chunks_of}
 use Rattle.loading_model.specs.Loading.{Loaded, opening_keys}
 use Rattle.tink_run.specs.declared.report.Report.{Report}
 use Rattle.tink_run.specs.OpenAnswers.{AgreesUntil, Lead}
-use Rattle.tink_run.specs.OpenReads.{ReadsNear, StopsBehind, room_under}
+use Rattle.tink_run.specs.OpenReads.{ReadsInChunk, ReadsNear, StopsBehind, room_under}
 use Rattle.tink_io.specs.Outside.{Outside}
 use Rattle.tink_run.proofs.EndingSteps.{if_told, leads_agreed}
 use Rattle.tink_run.proofs.OpenLemmas.{same_loaded}
@@ -25,14 +25,14 @@ module _ (keys : List OpeningKey) (b : NewBytes) (old new : Outside) where
   room = room_under keys
 
   -- whatever was written of the texts
-  past : (Wrote : Option (List ℕ) → Option (List ℕ) → List ℕ → Type 0) (text : List ℕ) → StopsBehind Wrote room keys (into [] old) (into text new) → ReadsPast room keys old.left new.left
-  past Wrote text x = record { texts = x.texts; lead = x.lead; read = x.read }
+  past : (Wrote : Option (List ℕ) → Option (List ℕ) → List ℕ → Type 0) (Near : ℕ → Option (List ℕ) → Option (List ℕ) → Type 0) (text : List ℕ) → StopsBehind Wrote Near room keys (into [] old) (into text new) → ReadsPast Near room keys old.left new.left
+  past Wrote Near text x = record { texts = x.texts; lead = x.lead; read = x.read }
 
   pass_reads : (kind : Kind) → PassRefused (OpensWithin room keys) (LeadsUnder room keys) (HasKey keys) b old new kind → RewrapReadsBy room keys old.left new.left kind
   pass_reads NoMatchingKey x = x.opened.1
   pass_reads (Truncated n) x = x.opened.1
   pass_reads (BadSegment n) x = x.opened.1
-  pass_reads TooManySegments (inl x) = past AppendsPrefix x.text x.opened
+  pass_reads TooManySegments (inl x) = past AppendsPrefix (ReadsNear room keys) x.text x.opened
   -- the 2^32 texts that agree lead
   pass_reads TooManySegments (inr x) =
       let o = x.opened.0 in
@@ -41,8 +41,8 @@ module _ (keys : List OpeningKey) (b : NewBytes) (old new : Outside) where
         lead = if_told old.left (λ S. AgreesUntil keys S o.texts (λ k. 2 ^ 32 < length (chunks_of k S))) (λ S. Lead keys S o.texts) (λ S a. leads_agreed keys S o.texts (λ k. 2 ^ 32 < length (chunks_of k S)) a) o.stream;
         read = inl (subst (λ (n : ℕ). ReadsNear room keys n old.left new.left) (sym o.number) x.opened.1);
       }
-  pass_reads ReadFault x = past Appends x.text x.opened.1
-  pass_reads WriteFault x = past AppendsPrefix x.text x.opened.1
+  pass_reads ReadFault x = past Appends (ReadsInChunk keys) x.text x.opened.1
+  pass_reads WriteFault x = past AppendsPrefix (ReadsNear room keys) x.text x.opened.1
   pass_reads _ x = tt
 
 -- under those of a keyset that was loaded

@@ -16,7 +16,7 @@ use Rattle.tink_streams.specs.declared.writing.Mode.{Mode}
 use Rattle.tink_streams.specs.declared.writing.Mode.TheVariants.{Open}
 use Rattle.tink_run.specs.declared.report.Report.{Report}
 use Rattle.tink_run.specs.OpenAnswers.{OpeningMeans}
-use Rattle.tink_run.specs.OpenReads.{FailsBehind, ReaderReads, ReadsWithin, StopsBehind}
+use Rattle.tink_run.specs.OpenReads.{FailsBehind, ReaderReads, ReadsNear, ReadsWithin, StopsBehind}
 use Rattle.tink_run.specs.OpenSteps.{ReaderMeans}
 use Rattle.tink_io.specs.Outside.{Outside}
 
@@ -56,7 +56,7 @@ ReaderMeansWithin room seg first size overhead old new answer = ReaderMeans seg 
 
 -- a text is a prefix of texts whose segments lead, and at most so many bytes were read behind their chunks
 abbrev pub LeadsWithin : ℕ → (ℕ → Bool → List ℕ → List ℕ) → ℕ → ℕ → Outside → Outside → Type 0
-LeadsWithin room seg first size old new = FailsBehind AppendsPrefix room seg first size old new
+LeadsWithin room seg first size old new = FailsBehind AppendsPrefix (λ _. room) seg first size old new
 
 -- what opening under keys says, and how far it has read by that where it holds at most so many bytes
 abbrev pub OpensWithin : ℕ → List OpeningKey → Outside → Outside → Result Report TinkError → Type 0
@@ -64,7 +64,7 @@ OpensWithin room keys old new answer = OpeningMeans keys old new answer × Reads
 
 -- a text is a prefix of texts whose segments lead under the chosen key, and at most so many bytes were read behind their chunks
 abbrev pub LeadsUnder : ℕ → List OpeningKey → Outside → Outside → Type 0
-LeadsUnder room keys old new = StopsBehind AppendsPrefix room keys old new
+LeadsUnder room keys old new = StopsBehind AppendsPrefix (ReadsNear room keys) room keys old new
 
 -- no more is said of where the source begins
 abbrev pub anywhere : Outside → Type 0

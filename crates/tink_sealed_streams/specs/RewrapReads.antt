@@ -10,25 +10,25 @@ use Rattle.loading_model.specs.Loading.{Loaded, opening_keys}
 use Rattle.tink_run.specs.AllKeys.{load}
 use Rattle.tink_run.specs.declared.report.Report.{Report}
 use Rattle.tink_run.specs.OpenAnswers.{Lead}
-use Rattle.tink_run.specs.OpenReads.{ReadsNear, room_under}
+use Rattle.tink_run.specs.OpenReads.{ReadsInChunk, ReadsNear, room_under}
 use Rattle.tink_io.specs.Outside.{Outside}
 use Rattle.tink_sealed_streams.specs.Rewrapping.{Sides}
 
--- The segments of some texts lead under the chosen key, and at most so many bytes were read behind their chunks, or, where no
--- key is chosen yet, at all.
-pub record ReadsPast (room : ℕ) (keys : List OpeningKey) (old new : Option (List ℕ)) : Type 0 where
+-- The segments of some texts lead under the chosen key, and the source was read near the end of their chunks, or, where no key
+-- is chosen yet, at most so many bytes of it at all.
+pub record ReadsPast (Near : ℕ → Option (List ℕ) → Option (List ℕ) → Type 0) (room : ℕ) (keys : List OpeningKey) (old new : Option (List ℕ)) : Type 0 where
   pub texts : List (List ℕ)
   pub lead : IfSome old (λ S. Lead keys S texts)
-  pub read : ReadsNear room keys (length texts) old new ⊎ ((texts ≡ []) × LosesAtMost room old new)
+  pub read : Near (length texts) old new ⊎ ((texts ≡ []) × LosesAtMost room old new)
 
 -- where no key matches at most so many bytes were read, and by a refused chunk at most so many behind its beginning
 abbrev pub RewrapReadsBy : ℕ → List OpeningKey → Option (List ℕ) → Option (List ℕ) → Kind → Type 0
 RewrapReadsBy room keys old new NoMatchingKey = LosesAtMost room old new
 RewrapReadsBy room keys old new (Truncated n) = ReadsNear room keys n old new
 RewrapReadsBy room keys old new (BadSegment n) = ReadsNear room keys n old new
-RewrapReadsBy room keys old new TooManySegments = ReadsPast room keys old new
-RewrapReadsBy room keys old new ReadFault = ReadsPast room keys old new
-RewrapReadsBy room keys old new WriteFault = ReadsPast room keys old new
+RewrapReadsBy room keys old new TooManySegments = ReadsPast (ReadsNear room keys) room keys old new
+RewrapReadsBy room keys old new ReadFault = ReadsPast (ReadsInChunk keys) room keys old new
+RewrapReadsBy room keys old new WriteFault = ReadsPast (ReadsNear room keys) room keys old new
 RewrapReadsBy room keys old new _ = Unit {0}
 
 -- how far a rewrap that holds at most so many bytes of its source has read it by its answer

@@ -22,6 +22,7 @@ pub fn fill<S: Source>(
     ensures rest { Keeps (prepend_known (take filled.old buffer.old) (S.left source.old))
         (prepend_known (take filled.new buffer.new) (S.left source.new)) }
     ensures read { LosesAtMost (want - filled.old) (S.left source.old) (S.left source.new) }
+    ensures short { OnErr result (filled.new < want) }
     ensures later { S.faults source.old ≤ S.faults source.new }
     ensures rose { OnErr result (Rose (S.faults source.old) (S.faults source.new)) }
     ensures same { S.same source.old source.new }
@@ -51,6 +52,7 @@ pub fn hold<S: Source>(
     ensures held { HoldsOrFails size (prepend_known (take filled.old buffer.old.items) (S.left source.old))
         (take filled.new buffer.new.items) (S.left source.new) result }
     ensures read { LosesAtMost (size + 1 - filled.old) (S.left source.old) (S.left source.new) }
+    ensures short { OnErr result (filled.new < size + 1) }
     ensures later { S.faults source.old ≤ S.faults source.new }
     ensures rose { OnErr result (Rose (S.faults source.old) (S.faults source.new)) }
     ensures same { S.same source.old source.new }

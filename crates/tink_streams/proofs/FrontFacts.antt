@@ -175,6 +175,10 @@ pub some_most : (over a b : ℕ) → over < a → a ≤ b → 0 < b
 some_most over a b some fits = omega arith
 
 -- as many bytes as are filled are fewer than this, or no fewer
+-- no more than a chunk is held
+pub short_of : (filled size room : ℕ) → filled < size + 1 → size ≡ room → filled ≤ room
+short_of filled size room short is = omega arith
+
 pub short_held : (len filled most m : ℕ) → len ≡ filled → filled < most → most ≡ m → len < m
 short_held len filled most m same short is = omega arith
 

@@ -95,3 +95,12 @@ OpenNextRefused seg first size overhead old new _ = ⊥
 abbrev pub OpenNextMeans : (ℕ → Bool → List ℕ → List ℕ) → ℕ → ℕ → ℕ → ReaderMoment → ReaderMoment → Result (Unit {0}) TinkError → Type 0
 OpenNextMeans seg first size overhead old new (Ok _) = OpensNext seg first size old new
 OpenNextMeans seg first size overhead old new (Err e) = OpenNextRefused seg first size overhead old new e.kind
+
+-- by a ReadFault no more than so many bytes are held
+abbrev pub HeldBy : ℕ → ℕ → Kind → Type 0
+HeldBy most held ReadFault = held ≤ most
+HeldBy most held _ = Unit {0}
+
+abbrev pub HoldsByFault : ℕ → ℕ → Result (Unit {0}) TinkError → Type 0
+HoldsByFault most held (Ok _) = Unit {0}
+HoldsByFault most held (Err e) = HeldBy most held e.kind

@@ -46,7 +46,7 @@ fn progress_after(filled: usize) -> Progress
 }
 
 impl<D: SegmentDecrypter + Drop> SegmentReader<D> {
-    ghost use Rattle.tink_streams.specs.Reading.{OpenNextMeans};
+    ghost use Rattle.tink_streams.specs.Reading.{HoldsByFault, OpenNextMeans};
     ghost use Rattle.tink_streams.specs.Openers.{held_bytes, reader_memory, reader_moment, segment_map};
     ghost use Rattle.tink_streams.specs.Rooms.{HasBuffersFor};
 
@@ -80,7 +80,7 @@ impl<D: SegmentDecrypter + Drop> SegmentReader<D> {
     /// ReadFault where the source failed, TooManySegments where bytes follow the segment of number
     /// 2^32 - 1, Truncated where fewer bytes are left than the overhead, BadSegment where the next
     /// chunk is the segment of no text. The reader has then failed, and has opened nothing. It holds what was read: at
-    /// most the next chunk and one byte.
+    /// most the next chunk and one byte, and by ReadFault at most the next chunk.
     pub fn open_next<S: Source>(&mut self, source: &mut S) -> Result<(), TinkError>
         requires running { self.old.progress ≡ Running }
         ensures answer { OpenNextMeans (segment_map self.old.opener) self.old.opener.first self.old.opener.size
@@ -93,6 +93,8 @@ impl<D: SegmentDecrypter + Drop> SegmentReader<D> {
         ensures read { LosesAtMost
             (room_at self.old.opener.first self.old.opener.size self.old.segments + 1 - self.old.filled)
             (S.left source.old) (S.left source.new) }
+        ensures short { HoldsByFault (room_at self.old.opener.first self.old.opener.size self.old.segments)
+            self.new.filled result }
         ensures later { S.faults source.old ≤ S.faults source.new }
         ensures same { S.same source.old source.new }
     {

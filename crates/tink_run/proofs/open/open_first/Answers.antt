@@ -1,7 +1,7 @@
 use Rattle.std.proofs.Common.{rules, refl, arith, vec_len}
 use Rattle.tink_streams.specs.Openers.{reader_moment, segment_map}
 use Rattle.tink_streams.specs.Reading.{ReaderMoment}
-use Rattle.tink_run.proofs.ReadsSteps.{failed_by_source, first_failed, refused_reads}
+use Rattle.tink_run.proofs.ReadsSteps.{failed_by_source, first_failed, held_first, refused_reads}
 use Rattle.tink_run.proofs.open.open_first.Goals as goal
 
 pub returns-in-Err-ReadFault-clause-read : goal.returns-in-Err-ReadFault-clause-read
@@ -11,8 +11,9 @@ returns-in-Err-ReadFault-clause-read g c =
     let o = self.opener in
     let m : ReaderMoment = reader_moment g.S.Source.left g.S.Source.faults self c.args.source.now in
     let n : ReaderMoment = reader_moment g.S.Source.left g.S.Source.faults reader c.open_next.new.source in
-    refused_reads (vec_len self.buffer) reader.filled (segment_map o) o.first o.size o.overhead m n c.in-Err-ReadFault.field-0.kind reader.buffer.items (g.S.Source.left c.open_next.new.source) refl
-    (omega (arith, reader.filled_in, c.open_next.ensures.room)) c.in-Err-ReadFault.ensures.answer
+    rw c.new.ensures
+    (refused_reads o.first reader.filled (segment_map o) o.first o.size o.overhead m n c.in-Err-ReadFault.field-0.kind reader.buffer.items (g.S.Source.left c.open_next.new.source) refl
+    (held_first o.first o.size self.segments reader.filled c.in-Err-ReadFault.field-0.kind c.requires.fresh (search rules) c.in-Err-ReadFault.ensures.short) c.in-Err-ReadFault.ensures.answer)
 
 pub returns-in-Err-ReadFault-clause-failed : goal.returns-in-Err-ReadFault-clause-failed
 returns-in-Err-ReadFault-clause-failed g c =
@@ -43,8 +44,9 @@ returns-in-Err-clause-read g c =
     let o = self.opener in
     let m : ReaderMoment = reader_moment g.S.Source.left g.S.Source.faults self c.args.source.now in
     let n : ReaderMoment = reader_moment g.S.Source.left g.S.Source.faults reader c.open_next.new.source in
-    refused_reads (vec_len self.buffer) reader.filled (segment_map o) o.first o.size o.overhead m n c.in-Err.field-0.kind reader.buffer.items (g.S.Source.left c.open_next.new.source) refl
-    (omega (arith, reader.filled_in, c.open_next.ensures.room)) c.in-Err.ensures.answer
+    rw c.new-in-Err.ensures
+    (refused_reads (vec_len self.buffer) reader.filled (segment_map o) o.first o.size o.overhead m n c.in-Err.field-0.kind reader.buffer.items (g.S.Source.left c.open_next.new.source) refl
+    (omega (arith, reader.filled_in, c.open_next.ensures.room)) c.in-Err.ensures.answer)
 
 pub returns-in-Err-clause-failed : goal.returns-in-Err-clause-failed
 returns-in-Err-clause-failed g c =

@@ -101,7 +101,7 @@ returns-in_err-open_next-in_default g c =
       answer = rw (p.1, p.2) (next_refused _ _ _ _ old new _ m n _ kind (some_first opener.some) (lt_of_lt_of_le (some_first opener.some) opener.first_fits) c.loop-bytes.invariant.reading (rw c.opened-text.ensures at c.in_ok-write_all.ensures.written)
           c.loop-bytes.invariant.reads (le_refl _) refused);
       read = rw (p.1, p.2) (next_reads _ _ _ _ _ old new _ m n _ kind (some_first opener.some) (lt_of_lt_of_le (some_first opener.some) opener.first_fits) c.loop-bytes.invariant.reading (rw c.opened-text.ensures at c.in_ok-write_all.ensures.written)
-          (reads_held _ reader.filled _ _ reader.buffer.items (Keeps-refl _) (le_trans reader.filled_in (le_of_eq (c.open_next.ensures.room ∙ c.loop-bytes.invariant.room)))) refused);
+          reader.filled reader.buffer.items (Keeps-refl _) (le_trans reader.filled_in (le_of_eq (c.open_next.ensures.room ∙ c.loop-bytes.invariant.room))) (rw c.loop-bytes.invariant.opener at c.in_err-open_next-in_default.ensures.short) refused);
       unwritten = rw (p.1, p.2) (next_wrote _ _ _ _ m n _ _ _ c.in_err-open_next-in_default.ensures.answer);
       later = record { reads = le_trans c.loop-bytes.invariant.reads c.open_next.ensures.later; writes = le_trans c.loop-bytes.invariant.writes c.write_all.ensures.later };
       source = g.met.S.Source.same_trans _ _ _ c.loop-bytes.invariant.same_source c.open_next.ensures.same;

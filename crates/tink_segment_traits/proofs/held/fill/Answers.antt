@@ -27,3 +27,6 @@ returns-in-Err-clause-rest g c =
     let n : ℕ = c.loop-filled.filled in
     rw (front_still n (c.args.want - n) c.loop-filled.buffer c.read.new.buf (omega (arith, c.loop-filled.auto.buffer)))
     (held_still _ _ _ _ c.loop-filled.invariant.rest c.in-Err.ensures.bytes)
+
+pub returns-in-Err-clause-short : goal.returns-in-Err-clause-short
+returns-in-Err-clause-short g c = c.loop-filled-test.true

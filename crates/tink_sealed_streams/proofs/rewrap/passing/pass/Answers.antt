@@ -130,7 +130,7 @@ returns-in-Err g c = record {
       let refused = rw c.loop-bytes.invariant.opener at c.in-Err.ensures.answer in
       let after = c.open_next.new.self in
       next_failed _ _ _ _ _ _ _ _ _ (some_first opener.some) (lt_of_lt_of_le (some_first opener.some) opener.first_fits) _ _ _ _ c.loop-bytes.invariant.under_way sealer.some (lt_of_lt_of_le sealer.some sealer.first_fits) _ _ _ _ refl
-      c.loop-bytes.invariant.reads (le_refl _) (reads_held _ after.filled _ _ after.buffer.items (Keeps-refl _) (le_trans after.filled_in (le_of_eq (c.open_next.ensures.room ∙ c.loop-bytes.invariant.room)))) w.0 refused);
+      c.loop-bytes.invariant.reads (le_refl _) after.filled after.buffer.items (Keeps-refl _) (le_trans after.filled_in (le_of_eq (c.open_next.ensures.room ∙ c.loop-bytes.invariant.room))) (rw c.loop-bytes.invariant.opener at c.in-Err.ensures.short) w.0 refused);
   unwritten = next_wrote _ _ _ _ _ _ _ _ _ c.in-Err.ensures.answer;
   later = record { reads = le_trans c.loop-bytes.invariant.reads c.open_next.ensures.later; writes = le_trans c.loop-bytes.invariant.writes c.write-in-loop-bytes.ensures.later };
   source = g.met.S.Source.same_trans _ _ _ c.loop-bytes.invariant.same_source (search (rules, g.met.S.Source.same_trans));

@@ -2,7 +2,7 @@ use Rattle.std.proofs.Common.{◌≡◌, ◌≤◌, ◌<◌, ◌-◌, ◌^◌, �
 use Rattle.std.proofs.lemmas.List.{length-take, length-take-le}
 use Rattle.stream_model.specs.Cut.{room_at}
 use Rattle.tink_streams.specs.Openers.{segment_map}
-use Rattle.tink_streams.proofs.FrontFacts.{opened_front, refused_front, none_numbered, some_left, short_front, long_front, some_front, size_most, stays, ended, held_in, fits_in, less_in, within_in, less_within, within_size, within_small, some_size, some_most, short_held, still_some, many_held, some_held, at_last, some_last, one_some, none_small, failed_runs_not, failed_ends_not}
+use Rattle.tink_streams.proofs.FrontFacts.{opened_front, refused_front, none_numbered, some_left, short_front, long_front, some_front, size_most, stays, ended, held_in, fits_in, less_in, within_in, less_within, within_size, within_small, some_size, some_most, short_held, short_of, still_some, many_held, some_held, at_last, some_last, one_some, none_small, failed_runs_not, failed_ends_not}
 use Rattle.tink_streams.proofs.reading.SegmentReader.open_next.Goals as goal
 
 pub returns-in_default-clause-answer : goal.returns-in_default-clause-answer
@@ -261,3 +261,17 @@ invariant_of-self g c =
 
 pub returns-clause-small : goal.returns-clause-small
 returns-clause-small g c = within_small _ _ (c.open_front.ensures.fits c.if-not-open_front.false) c.args.self.now.opener.small
+
+-- a failed read comes before the byte behind the chunk
+
+pub returns-in-Err-clause-short : goal.returns-in-Err-clause-short
+returns-in-Err-clause-short g c = rw c.new.ensures (short_of _ _ _ c.in-Err.ensures.short c.size_of-size.ensures)
+
+pub returns-in_default-clause-short : goal.returns-in_default-clause-short
+returns-in_default-clause-short g c = rw c.new-in_default.ensures tt
+
+pub returns-then-self-max-clause-short : goal.returns-then-self-max-clause-short
+returns-then-self-max-clause-short g c = rw c.new-then-self-max.ensures tt
+
+pub returns-then-not-open_front-clause-short : goal.returns-then-not-open_front-clause-short
+returns-then-not-open_front-clause-short g c = rw c.new-then-not-open_front.ensures tt
