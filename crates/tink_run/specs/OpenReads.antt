@@ -88,8 +88,8 @@ pub record StopsBehind (Wrote : Option (List ℕ) → Option (List ℕ) → List
   pub written : Wrote old.got new.got (joined texts)
 
 -- Where no key matches at most so many bytes were read, and by a refused chunk at most so many behind its beginning. By
--- `ReadFault` the texts before it were written whole, and no more than the next chunk was read, so that none was lost behind the
--- first; by `WriteFault` a prefix of them.
+-- `ReadFault` the texts before it were written whole, and no more than the next chunk was read, so that none was lost but perhaps
+-- the first or that of the last segment; by `WriteFault` a prefix of them.
 abbrev pub ReadsBy : ℕ → List OpeningKey → Outside → Outside → Kind → Type 0
 ReadsBy room keys old new NoMatchingKey = LosesAtMost room old.left new.left
 ReadsBy room keys old new (Truncated n) = ReadsNear room keys n old.left new.left

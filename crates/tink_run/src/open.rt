@@ -29,7 +29,7 @@ use tink_streaming_aead::{
 /// more was read than the longest output prefix and segment of the keys have together: from the
 /// stream's beginning where no key was chosen, from that of the chunk that was refused, or else from
 /// behind the chunks of those texts. By ReadFault it was no more than one chunk behind them, so that
-/// no text was lost but perhaps the first.
+/// no text was lost but perhaps the first or that of the last segment.
 pub fn open<S: Source, K: Sink>(
     alloc: Global,
     set: &TypedPrimitiveSet<StreamKind>,
