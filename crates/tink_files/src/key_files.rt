@@ -32,6 +32,7 @@ pub fn new_keys<P: Place>(
         (P.got place.old) (P.replaces place.old) (P.shown place.old) (P.shown place.new)
         (P.faults place.old) (P.faults place.new) }
     ensures gone { P.has_draft place.new ≡ false }
+    ensures place { P.rest place.old place.new }
     ensures rest { LeavesDraws result (left_by template.now (Ok no_keys) draws.old) draws.old draws.new }
 {
     let made = new_bytes(alloc, template, format, draws);
@@ -54,6 +55,7 @@ pub fn edit_keys<P: Place>(
         (P.got place.old) (P.replaces place.old) (P.shown place.old) (P.shown place.new)
         (P.faults place.old) (P.faults place.new) }
     ensures gone { P.has_draft place.new ≡ false }
+    ensures place { P.rest place.old place.new }
 {
     let made = edited_file(alloc, file, edit, id);
     save_answer(place, made)
@@ -76,6 +78,7 @@ pub fn rotate_keys<P: Place>(
         (P.got place.old) (P.replaces place.old) (P.shown place.old) (P.shown place.new)
         (P.faults place.old) (P.faults place.new) }
     ensures gone { P.has_draft place.new ≡ false }
+    ensures place { P.rest place.old place.new }
     ensures rest { LeavesDraws result (left_of_file file.items template.now draws.old) draws.old draws.new }
 {
     let made = rotated_bytes(alloc, file, template, draws);

@@ -54,6 +54,7 @@ pub fn range_to<A: ReadAt, P: Place, L: Ledger>(
         → Succeeds (A.faults object.old) (A.faults object.new) (P.faults place.old) (P.faults place.new) result }
     ensures err { OnErr result (P.shown place.new ≡ P.shown place.old) }
     ensures gone { P.has_draft place.new ≡ false }
+    ensures place { P.rest place.old place.new }
     ensures kept { LeavesObject A.length_of A.bytes A.faults object.old object.new result }
     ensures object { A.same object.old object.new }
 {

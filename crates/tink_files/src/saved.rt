@@ -25,6 +25,7 @@ pub fn save_answer<P: Place>(
     ensures refused { IfErr answer (λ e. result ≡ Err e) }
     ensures kinds { IfErr result (λ e. (answer ≡ Err e) ⊎ (e ≡ record { kind = WriteFault })) }
     ensures gone { P.has_draft place.new ≡ false }
+    ensures place { P.rest place.old place.new }
     ensures later { P.faults place.old ≤ P.faults place.new }
 {
     match answer {

@@ -114,6 +114,7 @@ pub fn save_task<S: Source, P: Place>(
         → Succeeds (S.faults source.old) (S.faults source.new) (P.faults place.old) (P.faults place.new) result }
     ensures err { OnErr result (P.shown place.new ≡ P.shown place.old) }
     ensures gone { P.has_draft place.new ≡ false }
+    ensures place { P.rest place.old place.new }
     ensures unread { IfErr result (λ e. IsBeforeReading task.entry e.kind → source.new ≡ source.old) }
     ensures later { FaultsStay (outside_of S.left S.faults P.got P.faults source.old place.old)
         (outside_of S.left S.faults P.got P.faults source.new place.new) }

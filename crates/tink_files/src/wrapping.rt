@@ -32,6 +32,7 @@ pub fn wrap_keys<P: Place>(
         (P.got place.old) (P.replaces place.old) (P.shown place.old) (P.shown place.new)
         (P.faults place.old) (P.faults place.new) }
     ensures gone { P.has_draft place.new ≡ false }
+    ensures place { P.rest place.old place.new }
 
     // Exactly the draws that the encryption took are spent.
     ensures rest { (m : MasterKeys) → IsMaster m master.now
@@ -60,6 +61,7 @@ pub fn unwrap_keys<P: Place>(
         (P.got place.old) (P.replaces place.old) (P.shown place.old) (P.shown place.new)
         (P.faults place.old) (P.faults place.new) }
     ensures gone { P.has_draft place.new ≡ false }
+    ensures place { P.rest place.old place.new }
 {
     let made = unwrapped(alloc, master, file, aad, format);
     save_answer(place, made)

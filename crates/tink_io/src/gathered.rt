@@ -4,7 +4,7 @@ ghost use Rattle.std.specs.Prelude.{◌≡◌, ◌≤◌, [], ◌++◌, Ok, leng
 ghost use Rattle.std.specs.Io.KnownBytes.{Keeps, append_known};
 ghost use Rattle.tink_io.specs.Faults.{CountsFault};
 ghost use Rattle.tink_io.specs.declared.error.Kind.TheVariants.{OutOfMemory, WriteFault};
-ghost use Rattle.tink_io.specs.Gathering.{IsCutShort, OnlyGrows};
+ghost use Rattle.tink_io.specs.Gathering.{HandsOn, IsCutShort, OnlyGrows};
 
 use crate::sending::{drain, keep};
 use crate::{Failed, Kind, Sink, TinkError};
@@ -37,12 +37,15 @@ impl<'a, K: Sink> Gathered<'a, K> {
     /// Hands on all that waits. Where nothing waits the sink is as before.
     ///
     /// # Errors
-    /// WriteFault where the sink failed: it has got a prefix of what waited.
+    /// WriteFault where the sink failed: it has got a prefix of what waited, and exactly the rest waits still, so that a
+    /// further flush sends it.
     pub fn flush(&mut self) -> Result<(), TinkError>
         ensures sent { OnOk result (Keeps (append_known (K.got self.old.sink.now) self.old.waiting.now.items)
             (K.got self.new.sink.now)) }
         ensures cut { OnErr result (IsCutShort (append_known (K.got self.old.sink.now) self.old.waiting.now.items)
             (K.got self.new.sink.now)) }
+        ensures handed { HandsOn (K.got self.old.sink.now) (K.got self.new.sink.now)
+            self.old.waiting.now.items self.new.waiting.now.items }
         ensures refused { IfErr result (λ e. e ≡ record { kind = WriteFault }) }
         ensures cause { CountsFault (K.faults self.old.sink.now) (K.faults self.new.sink.now) result }
         ensures still { self.old.waiting.now.items ≡ [] → (result ≡ Ok tt) × (self.new.sink.now ≡ self.old.sink.now) }
@@ -78,9 +81,11 @@ impl<'a, K: Sink> Sink for Gathered<'a, K> {
 
     ghost faults = { λ s. K.faults s.sink.now };
 
-    // Both loans are the same, and what the sink behind has got stays a prefix of what it gets.
+    // Both loans are the same, what the sink behind has got stays a prefix of what it gets, and the memory does not
+    // shrink.
     ghost same = { λ s t. (t.sink.ghost_name ≡ s.sink.ghost_name) × (t.waiting.ghost_name ≡ s.waiting.ghost_name)
-        × K.same s.sink.now t.sink.now × OnlyGrows (K.got s.sink.now) (K.got t.sink.now) };
+        × K.same s.sink.now t.sink.now × OnlyGrows (K.got s.sink.now) (K.got t.sink.now)
+        × (vec_capacity s.waiting.now ≤ vec_capacity t.waiting.now) };
 
     // A piece that does not fit behind what waits sends that first, and one that is as long as the memory does not
     // wait.
@@ -98,15 +103,16 @@ impl<'a, K: Sink> Sink for Gathered<'a, K> {
         self.sink.write(buf)
     }
 
-    ghost use Rattle.std.proofs.Common.{refl, ◌∙◌};
+    ghost use Rattle.std.proofs.Common.{refl, ◌∙◌, le_refl, le_trans};
     ghost use Rattle.std.proofs.KnownBytes.{Appends-nil, Appends-trans};
 
-    ghost same_refl = { λ s. (refl, refl, K.same_refl s.sink.now, ([], Appends-nil (K.got s.sink.now))) };
+    ghost same_refl = { λ s. (refl, refl, K.same_refl s.sink.now, ([], Appends-nil (K.got s.sink.now)), le_refl _) };
 
     ghost same_trans = { λ s t u p q. (
       q.0 ∙ p.0,
       q.1 ∙ p.1,
       K.same_trans s.sink.now t.sink.now u.sink.now p.2 q.2,
       (p.3.0 ++ q.3.0, Appends-trans _ _ _ _ _ p.3.1 q.3.1),
+      le_trans p.4 q.4,
     ) };
 }

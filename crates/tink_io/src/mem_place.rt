@@ -63,7 +63,8 @@ impl Sink for MemPlace {
 
     ghost faults = { λ p. p.faults };
 
-    ghost same = { λ p q. (q.shown ≡ p.shown) × (q.has_draft ≡ p.has_draft) × (q.replaces ≡ p.replaces) };
+    ghost same = { λ p q. (q.shown ≡ p.shown) × (q.has_draft ≡ p.has_draft) × (q.replaces ≡ p.replaces)
+        × (q.can_show ≡ p.can_show) };
 
     fn write(&mut self, buf: &[u8]) -> Result<usize, Failed>
         ensures bound { WritesAtMost result buf.now }
@@ -71,7 +72,7 @@ impl Sink for MemPlace {
         ensures bytes { WriteAppends (Some self.old.draft.items) (Some self.new.draft.items) result buf.now }
         ensures cause { CountsFault self.old.faults self.new.faults result }
         ensures same { (self.new.shown ≡ self.old.shown) × (self.new.has_draft ≡ self.old.has_draft)
-            × (self.new.replaces ≡ self.old.replaces) }
+            × (self.new.replaces ≡ self.old.replaces) × (self.new.can_show ≡ self.old.can_show) }
         ensures taken { IfOk result (λ n. n ≡ min (self.old.room - vec_len self.old.draft) (length buf.now)) }
         ensures full { OnErr result (self.old.room ≤ vec_len self.old.draft) }
         ensures after { WritesMore self.old self.new result }
@@ -87,9 +88,9 @@ impl Sink for MemPlace {
         }
     }
 
-    ghost same_refl = { λ _. (refl, refl, refl) };
+    ghost same_refl = { λ _. (refl, refl, refl, refl) };
 
-    ghost same_trans = { λ _ _ _ p q. (q.0 ∙ p.0, q.1 ∙ p.1, q.2 ∙ p.2) };
+    ghost same_trans = { λ _ _ _ p q. (q.0 ∙ p.0, q.1 ∙ p.1, q.2 ∙ p.2, q.3 ∙ p.3) };
 }
 
 impl Place for MemPlace {
@@ -101,6 +102,8 @@ impl Place for MemPlace {
 
     ghost replaces = { λ p. p.replaces };
 
+    ghost rest = { λ p q. (q.replaces ≡ p.replaces) × (q.can_show ≡ p.can_show) };
+
     fn show(&mut self) -> Result<(), Failed>
         ensures shown { OnOk result (IsShown (Some self.old.draft.items) self.old.replaces
             (Some (option_map (λ v. v.items) self.old.shown)) (Some (option_map (λ v. v.items) self.new.shown))) }
@@ -108,6 +111,7 @@ impl Place for MemPlace {
         ensures err { OnErr result
             (Some (option_map (λ v. v.items) self.new.shown) ≡ Some (option_map (λ v. v.items) self.old.shown)) }
         ensures cause { CountsFault self.old.faults self.new.faults result }
+        ensures rest { (self.new.replaces ≡ self.old.replaces) × (self.new.can_show ≡ self.old.can_show) }
         ensures able { OnOk result (cannot_show self.old ≡ false) }
         ensures unable { OnErr result (cannot_show self.old ≡ true) }
         ensures done { OnOk result (LeavesShown self.old self.new) }
@@ -128,17 +132,24 @@ impl Place for MemPlace {
         ensures shown { Some (option_map (λ v. v.items) self.new.shown)
             ≡ Some (option_map (λ v. v.items) self.old.shown) }
         ensures faults { self.old.faults ≤ self.new.faults }
+        ensures rest { (self.new.replaces ≡ self.old.replaces) × (self.new.can_show ≡ self.old.can_show) }
         ensures none { LeavesNone self.old self.new }
     {
         self.draft.clear();
         self.has_draft = false;
     }
 
-    ghost use Rattle.std.proofs.Common.{ap};
+    ghost use Rattle.std.proofs.Common.{ap, refl, ◌∙◌};
 
     ghost same_shown = { λ p q same. ap (λ v. Some (option_map (λ file. file.items) v)) same.0 };
 
     ghost same_draft = { λ p q same. same.1 };
 
     ghost same_replaces = { λ p q same. same.2 };
+
+    ghost rest_refl = { λ _. (refl, refl) };
+
+    ghost rest_trans = { λ _ _ _ p q. (q.0 ∙ p.0, q.1 ∙ p.1) };
+
+    ghost same_rest = { λ p q same. (same.2, same.3) };
 }

@@ -19,6 +19,9 @@ pub trait Place: Sink {
     // Whether a file that stands under the name is replaced.
     ghost replaces: { Self → Bool };
 
+    // What showing the draft, or taking it away, leaves as it is: all but what is shown and the draft.
+    ghost rest: { Self → Self → Type 0 };
+
     /// Shows the draft under the name, whole and at once, so that no draft is left.
     ///
     /// `Failed` leaves what was shown, and raises the count. It comes where a file stands under the name and none is to
@@ -29,13 +32,15 @@ pub trait Place: Sink {
             (IsShown (Self.got self.old) (replaces self.old) (shown self.old) (shown self.new)) }
         ensures gone { OnOk result (has_draft self.new ≡ false) }
         ensures err { OnErr result (shown self.new ≡ shown self.old) }
-        ensures cause { CountsFault (Self.faults self.old) (Self.faults self.new) result };
+        ensures cause { CountsFault (Self.faults self.old) (Self.faults self.new) result }
+        ensures rest { rest self.old self.new };
 
     /// Takes the draft away. What is shown stays.
     fn discard(&mut self)
         ensures gone { has_draft self.new ≡ false }
         ensures shown { shown self.new ≡ shown self.old }
-        ensures faults { Self.faults self.old ≤ Self.faults self.new };
+        ensures faults { Self.faults self.old ≤ Self.faults self.new }
+        ensures rest { rest self.old self.new };
 
     // Writing changes nothing of what is shown.
     ghost same_shown: { (p q : Self) → Self.same p q → shown q ≡ shown p };
@@ -43,4 +48,11 @@ pub trait Place: Sink {
     ghost same_draft: { (p q : Self) → Self.same p q → has_draft q ≡ has_draft p };
 
     ghost same_replaces: { (p q : Self) → Self.same p q → replaces q ≡ replaces p };
+
+    ghost rest_refl: { (p : Self) → rest p p };
+
+    ghost rest_trans: { (p q r : Self) → rest p q → rest q r → rest p r };
+
+    // Nor does writing change the rest.
+    ghost same_rest: { (p q : Self) → Self.same p q → rest p q };
 }

@@ -21,6 +21,7 @@ pub fn finish<P: Place, T: Copy>(
         (P.faults place.old) (P.faults place.new) answer result }
     ensures gone { P.has_draft place.new ≡ false }
     ensures later { P.faults place.old ≤ P.faults place.new }
+    ensures rest { P.rest place.old place.new }
 {
     match answer {
         Err(e) => {
@@ -50,6 +51,7 @@ pub fn save<P: Place>(place: &mut P, bytes: &[u8]) -> Result<(), TinkError>
     ensures cause { OnErr result (Rose (P.faults place.old) (P.faults place.new)) }
     ensures gone { P.has_draft place.new ≡ false }
     ensures later { P.faults place.old ≤ P.faults place.new }
+    ensures rest { P.rest place.old place.new }
 {
     let written = write_all(place, bytes);
     finish(place, written)

@@ -3,7 +3,7 @@
 ghost use Rattle.std.specs.Prelude.{◌≡◌, ◌≤◌, ◌+◌, ◌-◌, ◌++◌, [], length, take, drop, vec_len, vec_capacity, Ok, OnOk};
 ghost use Rattle.std.specs.Io.KnownBytes.{Appends, Keeps, append_known};
 ghost use Rattle.tink_io.specs.Faults.{CountsFault};
-ghost use Rattle.tink_io.specs.Gathering.{OnlyGrows};
+ghost use Rattle.tink_io.specs.Gathering.{HandsOn, OnlyGrows};
 
 use crate::{Failed, Sink};
 
@@ -40,6 +40,7 @@ fn drop_first(bytes: &mut Vec<u8>, n: usize)
 /// called.
 pub fn drain<K: Sink>(sink: &mut K, waiting: &mut Vec<u8>) -> Result<(), Failed>
     ensures empty { OnOk result (waiting.new.items ≡ []) }
+    ensures handed { HandsOn (K.got sink.old) (K.got sink.new) waiting.old.items waiting.new.items }
     ensures kept { Keeps (append_known (K.got sink.old) waiting.old.items)
         (append_known (K.got sink.new) waiting.new.items) }
     ensures cause { CountsFault (K.faults sink.old) (K.faults sink.new) result }
@@ -59,7 +60,8 @@ pub fn drain<K: Sink>(sink: &mut K, waiting: &mut Vec<u8>) -> Result<(), Failed>
 /// Lets bytes wait that there is memory for.
 pub fn keep(waiting: &mut Vec<u8>, bytes: &[u8])
     requires { vec_len waiting.old + length bytes.now ≤ vec_capacity waiting.old }
-    ensures { waiting.new.items ≡ waiting.old.items ++ bytes.now }
+    ensures items { waiting.new.items ≡ waiting.old.items ++ bytes.now }
+    ensures capacity { vec_capacity waiting.old ≤ vec_capacity waiting.new }
 {
     match waiting.extend_from_slice(bytes) {
         Ok(()) => {}

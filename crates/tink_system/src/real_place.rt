@@ -238,13 +238,15 @@ impl<'a> Sink for RealPlace<'a> {
 }
 
 impl<'a> Place for RealPlace<'a> {
-    ghost use Rattle.std.proofs.Common.{refl};
+    ghost use Rattle.std.proofs.Common.{refl, ◌∙◌};
 
     ghost shown = { λ _. None };
 
     ghost has_draft = { λ p. p.is_drafted };
 
     ghost replaces = { λ p. p.is_replacing };
+
+    ghost rest = { λ p q. q.is_replacing ≡ p.is_replacing };
 
     fn show(&mut self) -> Result<(), Failed> {
         match self.end() {
@@ -269,6 +271,12 @@ impl<'a> Place for RealPlace<'a> {
     ghost same_draft = { λ _ _ same. same.0 };
 
     ghost same_replaces = { λ _ _ same. same.1 };
+
+    ghost rest_refl = { λ _. refl };
+
+    ghost rest_trans = { λ _ _ _ p q. q ∙ p };
+
+    ghost same_rest = { λ _ _ same. same.1 };
 }
 
 // The draft reaches the disk, and gets its name: by a rename, which replaces, or by a link, which does not.
