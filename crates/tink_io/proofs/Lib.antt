@@ -5,3 +5,4 @@ pub mod GatheringLemmas
 pub mod SavingLemmas
 pub mod ShownLemmas
 pub mod OutsideFacts
+mod Walks
