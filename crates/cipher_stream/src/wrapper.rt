@@ -2,7 +2,7 @@
 
 mod seeking;
 
-ghost use Rattle.std.specs.Prelude.{◌≡◌, ◌↔◌, ℕ, ◌+◌, ◌-◌, ◌*◌, ◌/◌, ◌%◌, ◌<◌, ◌≤◌, ◌++◌, List, replicate, take, drop, length, IsOk, IfOk, OnOk, OnErr};
+ghost use Rattle.std.specs.Prelude.{◌≡◌, ◌↔◌, ℕ, ◌+◌, ◌-◌, ◌*◌, ◌/◌, ◌%◌, ◌<◌, ◌≤◌, ◌++◌, List, Some, codes, replicate, take, drop, length, IsOk, IfOk, OnOk, OnErr};
 ghost use Rattle.cipher.specs.Buffers.{pick};
 ghost use Rattle.cipher_stream.specs.Keystream.{Keystream, xored};
 ghost use Rattle.cipher_stream.specs.ByteStream.{ByteStream, buffered, to_come, next_bytes, HasMoved, HasRoom, LeavesFewer, IsRest};
@@ -177,7 +177,10 @@ impl<T: StreamCipherCore<B> + Clone, const B: usize> BufferedCore<T, [u8; B]> {
     }
 }
 
+/// Its name, and so neither the core nor a byte of the keystream that is not used yet.
 impl<T: CoreOn<N>, N> fmt::Debug for BufferedCore<T, N> {
+    ghost debug_output = { λ _. Some (codes "StreamCipherCoreWrapper { .. }") };
+
     fn fmt<W: fmt::Write>(&self, f: &mut fmt::Formatter<W>) -> fmt::Result {
         f.write_str("StreamCipherCoreWrapper { .. }")
     }

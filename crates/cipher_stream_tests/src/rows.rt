@@ -3,7 +3,7 @@
 use crate::expected::expect;
 use crate::streams::{a_clone_goes_on, fresh};
 use crate::{core_calls, positions, streams};
-use cipher_stream::{OverflowError, StreamCipherError};
+use cipher_stream::{OverflowError, StreamCipher, StreamCipherError};
 use std::alloc::{AllocError, Global};
 
 /// What is asked.
@@ -23,9 +23,12 @@ pub enum Asked {
 /// Its name, and what is asked.
 pub type Row = (&'static str, Asked);
 
-// Whether they are shown so.
+// Whether they are shown so. Of the wrapper some bytes of a block were used, and the others wait.
 fn texts_are_told(alloc: Global) -> Result<bool, AllocError> {
-    let shown = format!(in alloc; "{:?}; {}; {}", fresh(), StreamCipherError, OverflowError)?;
+    let mut begun = fresh();
+    let mut bytes = [0; 3];
+    begun.write_keystream(&mut bytes);
+    let shown = format!(in alloc; "{:?}; {}; {}", begun, StreamCipherError, OverflowError)?;
     Ok(shown.as_str() == "StreamCipherCoreWrapper { .. }; Loop Error; Overflow Error")
 }
 

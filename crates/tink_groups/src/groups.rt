@@ -83,7 +83,7 @@ fn begin_group<E: Drop>(
 /// Puts a list under a prefix, in place of the one that is there.
 ///
 /// # Errors
-/// `OutOfMemory`.
+/// `OutOfMemory`; the lists are as before then.
 pub fn put_list<E: Drop>(
     groups: &mut BTreeMap<Vec<u8>, Repeated<E>>,
     alloc: Global,
@@ -91,6 +91,7 @@ pub fn put_list<E: Drop>(
     list: Repeated<E>,
 ) -> Result<(), TinkError>
     ensures ok { OnOk result (PutsGroup prefix.now list groups.old groups.new) }
+    ensures err { OnErr result (HaveSameGroups groups.old groups.new) }
     ensures cause { IfErr result (λ e. e ≡ record { kind = OutOfMemory }) }
 {
     let key = prefix.to_vec(alloc)?;

@@ -118,6 +118,35 @@ fn both(alloc: Global) -> Result<bool, TinkError> {
     Ok(answer == Ok(()) && sink.bytes() == b"abc".as_slice())
 }
 
+// Three pieces for a sink of two bytes a call whose call of a number fails: the answers of two flushes, and whether the
+// sink has all of them then.
+fn flushed_twice(alloc: Global, fails: u32) -> Result<(bool, bool, bool), TinkError> {
+    let mut waiting = room(alloc)?;
+    let mut sink = sink_of(alloc, 2, fails, 6)?;
+    let mut gathered = Gathered::new(&mut sink, &mut waiting);
+    for piece in [b"ab", b"cd", b"ef"] {
+        write_all(&mut gathered, piece)?;
+    }
+    let first = gathered.flush().is_ok();
+    let second = gathered.flush().is_ok();
+    Ok((first, second, sink.bytes() == b"abcdef".as_slice()))
+}
+
+// The number of the first call that fails and after which a second flush does not send the rest.
+fn wrong_rest(alloc: Global) -> Result<Option<u32>, TinkError> {
+    for fails in 1..4 {
+        if flushed_twice(alloc, fails)? != (false, true, true) {
+            return Ok(Some(fails));
+        }
+    }
+    Ok(None)
+}
+
+#[test]
+fn what_a_flush_did_not_write_waits_for_the_next_one(rt: HostRuntime) {
+    expect(&rt, wrong_rest(rt.alloc()), Ok(None), "a flush again");
+}
+
 #[test]
 fn pieces_wait_for_the_next_ones(rt: HostRuntime) {
     expect(&rt, wrong_row(rt.alloc()), Ok(None), "the first wrong row");

@@ -4,7 +4,7 @@ use crate::adapters::{Answer, Flaky, write_once};
 use crate::expect::expect;
 use std::alloc::Global;
 use tink_io::{
-    Draws, Failed, Kind, Lent, MemSink, MemSource, Sink, Source, StdSink, StdSource, SureSink,
+    Discard, Draws, Failed, Kind, Lent, MemSink, MemSource, Sink, Source, StdSink, StdSource, SureSink,
     SureSource, TinkError,
 };
 
@@ -156,6 +156,7 @@ enum Asked {
     // Writes to a sink of three bytes a call and room for four, whose call 2 fails.
     Pieces(&'static [Write<'static>]),
     Sure(&'static [Write<'static>]),
+    Discarded(&'static [Write<'static>]),
     Lent(&'static [Write<'static>]),
     Slice(&'static [Write<'static>]),
     // A write to a writer, of which so many calls and so many flushes are interrupted, its answer, and the last byte.
@@ -182,6 +183,7 @@ fn told(alloc: Global, asked: &Asked) -> Told {
         }
         Asked::Pieces(writes) => Ok(pieces_taken(sink_of(alloc, 3, 2, 4)?, writes)),
         Asked::Sure(writes) => sure_taken(alloc, writes),
+        Asked::Discarded(writes) => Ok((wrong_write(&mut Discard::new(), writes), true)),
         Asked::Lent(writes) => lent_taken(alloc, writes),
         Asked::Slice(writes) => Ok(slice_taken(writes)),
         Asked::Flaky(n, flushes, answer, piece, want) => {
@@ -294,6 +296,10 @@ const ROWS: &[(&str, Asked)] = &[
         ]),
     ),
     ("a sink that never fails", Asked::Sure(&[(b"wxyz", Ok(3))])),
+    (
+        "a sink that keeps nothing",
+        Asked::Discarded(&[(b"abc", Ok(3)), (b"", Ok(0)), (b"d", Ok(1))]),
+    ),
     ("a sink that is lent", Asked::Lent(&[(b"a", Ok(1))])),
     (
         "a writer to a slice",
