@@ -2,3 +2,8 @@ pub mod ItemLemmas
 pub mod NumberLemmas
 pub mod TextLemmas
 pub mod BytesLemmas
+pub mod PrettyLemmas
+pub mod ValueLemmas
+pub mod IntegerLemmas
+pub mod NameLemmas
+pub mod MessageLemmas

@@ -10,7 +10,7 @@ use Rattle.std.specs.Str.{all_ascii_digits}
 use Rattle.std.specs.Str.Parse.{ParsesSigned, ParsesUnsigned, digits_value}
 use Rattle.tink_json.specs.Whole.{digits_number, is_negative}
 
-same_test : (s : List ℕ) → list_all is_ascii_digit s ≡ all_ascii_digits s
+pub same_test : (s : List ℕ) → list_all is_ascii_digit s ≡ all_ascii_digits s
 same_test [] = refl
 same_test (c ∷ s) = ap (λ b. is_ascii_digit c && b) (same_test s)
 

@@ -5,3 +5,4 @@ pub mod Messages
 pub mod Written
 pub mod Refusal
 pub mod Plain
+pub mod ReadAgain

@@ -6,9 +6,11 @@
 #![tactic(auto)]
 
 mod fields;
+mod laws;
 mod messages;
 mod names;
 mod values;
 mod whole;
 
+pub use laws::law_keyset_read_again;
 pub use messages::Json;
