@@ -17,7 +17,7 @@ use Rattle.tink_json.specs.Messages as form
 use Rattle.tink_json.specs.Names.{statuses, prefixes, materials}
 use Rattle.tink_json.specs.ReadAgain.{IsKeyData, IsKey, IsKeyset}
 use Rattle.json.specs.Lex.{tokens}
-use Rattle.json.specs.Layout.{pretty}
+use Rattle.json.specs.Layout.{pretty, pretty_from}
 use Rattle.json.specs.Tree.{json_tokens}
 use Rattle.serde_json.specs.Written.{outline}
 use Rattle.tink_json.specs.Whole.{are_whole, is_whole_token}
@@ -76,7 +76,7 @@ with-given : (prefix id status held : Data) → IsGiven prefix 0 → IsGiven id 
 with-given prefix id status held p i s h = record {
   value = rw (p.value, i.value, s.value, h.value) refl;
   tokens = begun _ (membered (codes "keyData") _ _ refl h.tokens (membered (codes "keyId") _ _ refl i.tokens
-    (membered (codes "outputPrefixType") _ _ refl p.tokens (membered (codes "status") _ _ refl s.tokens ended))));
+      (membered (codes "outputPrefixType") _ _ refl p.tokens (membered (codes "status") _ _ refl s.tokens ended))));
   depth = omega (arith, p.depth, i.depth, s.depth, h.depth);
 }
 
@@ -85,7 +85,7 @@ without-given : (prefix id status : Data) → IsGiven prefix 0 → IsGiven id 0 
 without-given prefix id status p i s = record {
   value = rw (p.value, i.value, s.value) refl;
   tokens = begun _ (membered (codes "keyId") _ _ refl i.tokens
-    (membered (codes "outputPrefixType") _ _ refl p.tokens (membered (codes "status") _ _ refl s.tokens ended)));
+      (membered (codes "outputPrefixType") _ _ refl p.tokens (membered (codes "status") _ _ refl s.tokens ended)));
   depth = omega (arith, p.depth, i.depth, s.depth);
 }
 
@@ -164,9 +164,14 @@ message-again read m d k r shallow =
     let text = pretty_text d in
     let utf8 = sound-utf8 ts r.given.tokens in
     let whole : are_whole text ≡ true =
-        sym (are_whole-utf8 text utf8) ∙ ap (list_all is_whole_token) (tokens-pretty ts (sound-printable ts r.given.tokens)) ∙ sound-whole ts r.given.tokens in
+    sym (are_whole-utf8 text utf8) ∙ ap (list_all is_whole_token) (tokens-pretty ts (sound-printable ts r.given.tokens)) ∙ sound-whole ts r.given.tokens in
     let found = value_of-found text d utf8 (read-pretty d k r.given shallow) in
     rw (whole, found) r.is
 
 pub keyset-again : (m : Keyset) → IsKeyset m → form.message_of form.keyset (pretty_text (keyset_value m)) ≡ Some m
 keyset-again m h = message-again form.keyset m (keyset_value m) 4 (keyset-is m h) (omega arith)
+
+-- its text begins with a brace
+pub keyset-begins : (m : Keyset) → (rest : List ℕ) × (pretty_text (keyset_value m) ≡ 123 ∷ rest)
+unfolding pretty_from
+keyset-begins m = (_, refl)

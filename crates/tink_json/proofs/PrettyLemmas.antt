@@ -55,7 +55,7 @@ pretty_from-spaced s (t ∷ ts) =
     let g = gap s.0 (begins t) (depth_at s.1 t) in
     let rest = pretty_from (step s t) ts in
     let later : rest ≡ print_spaced (ends t) (spaced (step s t) ts) =
-        pretty_from-spaced (step s t) ts ∙ ap (λ b. print_spaced b (spaced (step s t) ts)) (ends-after t (depth_at s.1 t)) in
+    pretty_from-spaced (step s t) ts ∙ ap (λ b. print_spaced b (spaced (step s t) ts)) (ends-after t (depth_at s.1 t)) in
     append_assoc (separator (is_value s.0) t) (g ++ token_text t) rest
     ∙ ap (λ l. separator (is_value s.0) t ++ l) (append_assoc g (token_text t) rest ∙ ap (λ l. g ++ (token_text t ++ l)) later)
 

@@ -97,11 +97,14 @@ pub given_negative : (n : ℕ) → n < 2 ^ 31 → IsGiven (number (negative (neg
 unfolding AreSound
 given_negative n h = record {
   value = ap (option_map number) (number_of-negative n (omega arith));
-  tokens = (record {
-    printable = IsNumber-signed_decimal (negsuc n) (omega arith);
-    whole = rw (minus-is_no_digits (suc n), negative-is n (omega arith)) refl;
-    utf8 = IsUtf8-are_ascii _ (ascii-decimal (suc n) (omega arith));
-  }, tt);
+  tokens = (
+    record {
+      printable = IsNumber-signed_decimal (negsuc n) (omega arith);
+      whole = rw (minus-is_no_digits (suc n), negative-is n (omega arith)) refl;
+      utf8 = IsUtf8-are_ascii _ (ascii-decimal (suc n) (omega arith));
+    },
+    tt,
+  );
   depth = omega arith;
 }
 
