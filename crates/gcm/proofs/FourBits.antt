@@ -30,7 +30,7 @@ four_linear a b =
     ∙ ap times_x (times_x_linear (times_x (times_x a)) (times_x (times_x b)))
     ∙ times_x_linear (times_x (times_x (times_x a))) (times_x (times_x (times_x b)))
 
-four_high : (a : ℕ) → four (a * 16) ≡ a
+pub four_high : (a : ℕ) → four (a * 16) ≡ a
 four_high a =
     let e : a * 16 ≡ a * 2 * 2 * 2 * 2 = omega arith in
     ap four e

@@ -5,4 +5,5 @@ pub mod GcmFacts
 pub mod SivFacts
 pub mod OpenedParts
 pub mod FourBits
+pub mod EightBits
 pub mod Ring

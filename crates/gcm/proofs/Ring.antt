@@ -8,8 +8,8 @@ use Rattle.standards.specs.Ghash.{product, product_low, times_x}
 use Rattle.standards.proofs.Bytes.{every_below}
 use Rattle.standards.proofs.Products.{product_low_below, times_x_linear}
 use Rattle.standards.proofs.Xor.{bits_times, exchange}
-use Rattle.gcm.specs.Multiples.{ArePowers, four, horner, multiple, sum4}
-use Rattle.gcm.proofs.FourBits.{at_zero, four_bits, four_linear, push}
+use Rattle.gcm.specs.Multiples.{ArePowers, horner, sum4}
+use Rattle.gcm.proofs.FourBits.{at_zero, push}
 
 -- one bit more
 one_more : (y x m : ℕ) → product_low y x (suc m) ≡ bit_xor (times_x (product_low y x m)) (x / 2 ^ m % 2 * y)
@@ -237,28 +237,30 @@ by_powers h h2 h3 h4 u b c d powers =
     ∙ ap (λ v. sum4 (product u (product (product (product h h) h) h)) (product b (product (product h h) h)) (product c v) (product d h)) second
     ∙ sym (horner_is h u b c d powers.fits)
 
--- four bits of each of four factors
-pub four_steps4 : (a b c d p q r s w x y z : ℕ) → four p ≡ w → four q ≡ x → four r ≡ y → four s ≡ z
-    → bit_xor (four (sum4 p q r s)) (sum4 a b c d) ≡ sum4 (bit_xor w a) (bit_xor x b) (bit_xor y c) (bit_xor z d)
-four_steps4 a b c d p q r s w x y z e f g h =
-    ap (λ v. bit_xor v (sum4 a b c d)) (four_linear (bit_xor (bit_xor p q) r) s
-    ∙ ap (λ v. bit_xor v (four s)) (four_linear (bit_xor p q) r ∙ ap (λ v. bit_xor v (four r)) (four_linear p q))
-    ∙ ap (λ v. sum4 v (four q) (four r) (four s)) e ∙ ap (λ v. sum4 w v (four r) (four s)) f ∙ ap (λ v. sum4 w x v (four s)) g ∙ ap (λ v. sum4 w x y v) h)
-    ∙ sym (sum4_linear w x y z a b c d)
+-- a linear step on each of four summands
+steps4 : (f : ℕ → ℕ) → ((a b : ℕ) → f (bit_xor a b) ≡ bit_xor (f a) (f b)) → (a b c d p q r s : ℕ)
+    → bit_xor (f (sum4 p q r s)) (sum4 a b c d) ≡ sum4 (bit_xor (f p) a) (bit_xor (f q) b) (bit_xor (f r) c) (bit_xor (f s) d)
+steps4 f linear a b c d p q r s =
+    ap (λ v. bit_xor v (sum4 a b c d)) (linear (bit_xor (bit_xor p q) r) s
+    ∙ ap (λ v. bit_xor v (f s)) (linear (bit_xor p q) r ∙ ap (λ v. bit_xor v (f r)) (linear p q)))
+    ∙ sym (sum4_linear (f p) (f q) (f r) (f s) a b c d)
 
--- four bits more of each of four factors
-pub sums_step : (p q r s a b c d n : ℕ)
-    → bit_xor (four (sum4 (product_low p a n) (product_low q b n) (product_low r c n) (product_low s d n)))
-    (sum4 (multiple p (a / 2 ^ n % 16)) (multiple q (b / 2 ^ n % 16)) (multiple r (c / 2 ^ n % 16)) (multiple s (d / 2 ^ n % 16)))
-    ≡ sum4 (product_low p a (n + 4)) (product_low q b (n + 4)) (product_low r c (n + 4)) (product_low s d (n + 4))
-sums_step p q r s a b c d n =
-    let pa = product_low p a n in
-    let qb = product_low q b n in
-    let rc = product_low r c n in
-    let sd = product_low s d n in
-    four_steps4 (multiple p (a / 2 ^ n % 16)) (multiple q (b / 2 ^ n % 16)) (multiple r (c / 2 ^ n % 16)) (multiple s (d / 2 ^ n % 16)) pa qb rc sd
-    (four pa) (four qb) (four rc) (four sd) refl refl refl refl
-    ∙ ap (λ v. sum4 v (bit_xor (four qb) (multiple q (b / 2 ^ n % 16))) (bit_xor (four rc) (multiple r (c / 2 ^ n % 16))) (bit_xor (four sd) (multiple s (d / 2 ^ n % 16)))) (four_bits p a n)
-    ∙ ap (λ v. sum4 (product_low p a (n + 4)) v (bit_xor (four rc) (multiple r (c / 2 ^ n % 16))) (bit_xor (four sd) (multiple s (d / 2 ^ n % 16)))) (four_bits q b n)
-    ∙ ap (λ v. sum4 (product_low p a (n + 4)) (product_low q b (n + 4)) v (bit_xor (four sd) (multiple s (d / 2 ^ n % 16)))) (four_bits r c n)
-    ∙ ap (λ v. sum4 (product_low p a (n + 4)) (product_low q b (n + 4)) (product_low r c (n + 4)) v) (four_bits s d n)
+-- k bits more of each of four factors, where `f` is the product with x ^ k and `m` the multiple by k bits
+pub sums_step : (f : ℕ → ℕ) (m : ℕ → ℕ → ℕ) (size k : ℕ) → ((a b : ℕ) → f (bit_xor a b) ≡ bit_xor (f a) (f b))
+    → ((y x n : ℕ) → bit_xor (f (product_low y x n)) (m y (x / 2 ^ n % size)) ≡ product_low y x (n + k)) → (p q r s a b c d n : ℕ)
+    → bit_xor (f (sum4 (product_low p a n) (product_low q b n) (product_low r c n) (product_low s d n)))
+    (sum4 (m p (a / 2 ^ n % size)) (m q (b / 2 ^ n % size)) (m r (c / 2 ^ n % size)) (m s (d / 2 ^ n % size)))
+    ≡ sum4 (product_low p a (n + k)) (product_low q b (n + k)) (product_low r c (n + k)) (product_low s d (n + k))
+sums_step f m size k linear more p q r s a b c d n =
+    let w = m p (a / 2 ^ n % size) in
+    let x = m q (b / 2 ^ n % size) in
+    let y = m r (c / 2 ^ n % size) in
+    let z = m s (d / 2 ^ n % size) in
+    let qb = bit_xor (f (product_low q b n)) x in
+    let rc = bit_xor (f (product_low r c n)) y in
+    let sd = bit_xor (f (product_low s d n)) z in
+    steps4 f linear w x y z (product_low p a n) (product_low q b n) (product_low r c n) (product_low s d n)
+    ∙ ap (λ v. sum4 v qb rc sd) (more p a n)
+    ∙ ap (λ v. sum4 (product_low p a (n + k)) v rc sd) (more q b n)
+    ∙ ap (λ v. sum4 (product_low p a (n + k)) (product_low q b (n + k)) v sd) (more r c n)
+    ∙ ap (λ v. sum4 (product_low p a (n + k)) (product_low q b (n + k)) (product_low r c (n + k)) v) (more s d n)

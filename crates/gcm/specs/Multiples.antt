@@ -14,6 +14,18 @@ multiple y n = bit_xor (bit_xor (bit_xor (n % 2 * times_x (times_x (times_x y)))
 abbrev pub IsTable : ℕ → List ℕ → Type 0
 IsTable y t = (n : ℕ) → n < 16 → get_or t n 0 ≡ multiple y n
 
+-- the product with x ^ 8
+abbrev pub eight : ℕ → ℕ
+eight z = four (four z)
+
+-- the product of y and the polynomial of eight bits, the highest of them the coefficient of x ^ 0
+abbrev pub multiple8 : ℕ → ℕ → ℕ
+multiple8 y n = bit_xor (four (multiple y (n % 16))) (multiple y (n / 16 % 16))
+
+-- the table holds the 256 multiples of y
+abbrev pub IsLargeTable : ℕ → List ℕ → Type 0
+IsLargeTable y t = (n : ℕ) → n < 256 → get_or t n 0 ≡ multiple8 y n
+
 abbrev pub sum4 : ℕ → ℕ → ℕ → ℕ → ℕ
 sum4 a b c d = bit_xor (bit_xor (bit_xor a b) c) d
 

@@ -1,18 +1,33 @@
 // A key of GHASH or POLYVAL: the multiples of its element and of that element's powers, for four blocks in one pass.
-ghost use Rattle.std.specs.Prelude.{◌≡◌, slice_index};
+ghost use Rattle.std.specs.Prelude.{◌≡◌, ℕ, slice_index};
 ghost use Rattle.standards.specs.Ghash.{product};
 ghost use Rattle.gcm.specs.Multiples.{horner, sum4};
 
 use crate::multiples::{Multiples, shift};
 use std::marker::Model;
 
-// A contract sees the element.
+// What hashes: the products with an element.
+pub(crate) trait Products {
+    // the element
+    ghost element: { Self → ℕ };
+
+    // The product with a number.
+    fn times(&self, x: u128) -> u128
+        ensures { result ≡ product x (element self.now) };
+
+    // The first number times the element, and each of the others added and their sum times the element.
+    fn horner(&self, x: [u128; 4]) -> u128
+        ensures { result ≡ horner (element self.now)
+            (slice_index x 0) (slice_index x 1) (slice_index x 2) (slice_index x 3) };
+}
+
+// By tables of 16 multiples, which are soon made. A contract sees the element.
 #[derive(Drop)]
 pub(crate) struct HashKey {
-    first: Multiples,
-    second: Multiples,
-    third: Multiples,
-    fourth: Multiples,
+    pub(crate) first: Multiples,
+    pub(crate) second: Multiples,
+    pub(crate) third: Multiples,
+    pub(crate) fourth: Multiples,
 }
 
 impl Model for HashKey {
@@ -59,18 +74,16 @@ impl HashKey {
             fourth: Multiples::new(h4),
         }
     }
+}
 
-    // The product with a number.
-    pub(crate) fn times(&self, x: u128) -> u128
-        ensures { result ≡ product x self.now }
-    {
+impl Products for HashKey {
+    ghost element = { λ k. k };
+
+    fn times(&self, x: u128) -> u128 {
         self.first.times(x)
     }
 
-    // The first number times the element, and each of the others added and their sum times the element.
-    pub(crate) fn horner(&self, x: [u128; 4]) -> u128
-        ensures { result ≡ horner self.now (slice_index x 0) (slice_index x 1) (slice_index x 2) (slice_index x 3) }
-    {
+    fn horner(&self, x: [u128; 4]) -> u128 {
         sum_of_products(&self.fourth, &self.third, &self.second, &self.first, x)
     }
 }

@@ -7,13 +7,17 @@ ghost use Rattle.standards.specs.Polyval.{polyval};
 ghost use Rattle.gcm.specs.Orders.{absorb, absorbed, block_of, four_absorbed, hash_of, number_of, pair_of};
 
 use crate::field::times_x;
-use crate::hash_key::HashKey;
+use crate::hash_key::{HashKey, Products};
+use crate::long_hash_key::LongHashKey;
 use crate::order::{ByteOrder, block_of, number_of, pair_of};
 use standards::padded_block;
 
+// The bytes from which on large tables pay for one text.
+const LONG: usize = 2048;
+
 // One block more after y, under the key.
-fn absorb(order: ByteOrder, key: &HashKey, y: u128, block: [u8; 16]) -> u128
-    ensures { result ≡ absorb order key.now y block }
+fn absorb<K: Products>(order: ByteOrder, key: &K, y: u128, block: [u8; 16]) -> u128
+    ensures { result ≡ absorb order (K.element key.now) y block }
 {
     key.times(y ^ number_of(order, block))
 }
@@ -30,9 +34,9 @@ fn whole_block(order: ByteOrder, bytes: &[u8], i: usize) -> u128
 }
 
 // The four blocks from block i on after y, under the key.
-fn absorb_four(order: ByteOrder, key: &HashKey, y: u128, bytes: &[u8], i: usize) -> u128
+fn absorb_four<K: Products>(order: ByteOrder, key: &K, y: u128, bytes: &[u8], i: usize) -> u128
     requires { 16 * i + 64 ≤ length bytes.now }
-    ensures { result ≡ four_absorbed order key.now y bytes.now i }
+    ensures { result ≡ four_absorbed order (K.element key.now) y bytes.now i }
 {
     key.horner([
         y ^ whole_block(order, bytes, i),
@@ -43,8 +47,8 @@ fn absorb_four(order: ByteOrder, key: &HashKey, y: u128, bytes: &[u8], i: usize)
 }
 
 // All bytes after y, padded, under the key, four blocks in a pass while there are as many.
-pub(crate) fn absorb_padded(order: ByteOrder, key: &HashKey, y: u128, bytes: &[u8]) -> u128
-    ensures { result ≡ absorbed order key.now y bytes.now (length bytes.now) }
+pub(crate) fn absorb_padded<K: Products>(order: ByteOrder, key: &K, y: u128, bytes: &[u8]) -> u128
+    ensures { result ≡ absorbed order (K.element key.now) y bytes.now (length bytes.now) }
 {
     let fours = bytes.len() / 64;
     let mut state = y;
@@ -60,14 +64,14 @@ pub(crate) fn absorb_padded(order: ByteOrder, key: &HashKey, y: u128, bytes: &[u
 }
 
 // The lengths in bits, modulo 2^64, after y, under the key.
-pub(crate) fn absorb_lengths(
+pub(crate) fn absorb_lengths<K: Products>(
     order: ByteOrder,
-    key: &HashKey,
+    key: &K,
     y: u128,
     aad: usize,
     text: usize,
 ) -> u128
-    ensures { result ≡ absorb order key.now y (pair_of order (8 * aad % 2 ^ 64) (8 * text % 2 ^ 64)) }
+    ensures { result ≡ absorb order (K.element key.now) y (pair_of order (8 * aad % 2 ^ 64) (8 * text % 2 ^ 64)) }
 {
     let aad_bits = 8u64.wrapping_mul(aad as u64);
     let text_bits = 8u64.wrapping_mul(text as u64);
@@ -75,8 +79,8 @@ pub(crate) fn absorb_lengths(
 }
 
 // Data, text and their lengths under the key.
-pub(crate) fn hashed(order: ByteOrder, key: &HashKey, aad: &[u8], text: &[u8]) -> [u8; 16]
-    ensures { result ≡ block_of order (hash_of order key.now aad.now text.now) }
+pub(crate) fn hashed<K: Products>(order: ByteOrder, key: &K, aad: &[u8], text: &[u8]) -> [u8; 16]
+    ensures { result ≡ block_of order (hash_of order (K.element key.now) aad.now text.now) }
 {
     let data = absorb_padded(order, key, 0, aad);
     let both = absorb_padded(order, key, data, text);
@@ -84,6 +88,29 @@ pub(crate) fn hashed(order: ByteOrder, key: &HashKey, aad: &[u8], text: &[u8]) -
         order,
         absorb_lengths(order, key, both, aad.len(), text.len()),
     )
+}
+
+// The same under a key that is used once: for a long text its large tables pay.
+pub(crate) fn hashed_once(order: ByteOrder, key: &HashKey, aad: &[u8], text: &[u8]) -> [u8; 16]
+    ensures { result ≡ block_of order (hash_of order key.now aad.now text.now) }
+{
+    if is_long(aad) || is_long(text) {
+        return hashed_long(order, key, aad, text);
+    }
+    hashed(order, key, aad, text)
+}
+
+// By the large tables.
+#[inline(never)]
+fn hashed_long(order: ByteOrder, key: &HashKey, aad: &[u8], text: &[u8]) -> [u8; 16]
+    ensures { result ≡ block_of order (hash_of order key.now aad.now text.now) }
+{
+    hashed(order, &LongHashKey::new(key), aad, text)
+}
+
+// Whether large tables, once made, take less time than the small ones take longer.
+pub(crate) fn is_long(bytes: &[u8]) -> bool {
+    bytes.len() >= LONG
 }
 
 // The element of a key of GHASH.
@@ -105,7 +132,7 @@ pub(crate) fn polyval_key(key: &[u8; 16]) -> HashKey
 pub fn ghash(key: &[u8; 16], aad: &[u8], text: &[u8]) -> [u8; 16]
     ensures value { result ≡ ghash key.now aad.now text.now }
 {
-    hashed(ByteOrder::BigEndian, &ghash_key(key), aad, text)
+    hashed_once(ByteOrder::BigEndian, &ghash_key(key), aad, text)
 }
 
 /// POLYVAL under the key, of data and text, each with zeros up to whole blocks of 16 bytes, and of their lengths in
@@ -113,5 +140,5 @@ pub fn ghash(key: &[u8; 16], aad: &[u8], text: &[u8]) -> [u8; 16]
 pub fn polyval(key: &[u8; 16], aad: &[u8], text: &[u8]) -> [u8; 16]
     ensures value { result ≡ polyval key.now aad.now text.now }
 {
-    hashed(ByteOrder::LittleEndian, &polyval_key(key), aad, text)
+    hashed_once(ByteOrder::LittleEndian, &polyval_key(key), aad, text)
 }

@@ -9,9 +9,9 @@ ghost use Rattle.gcm.specs.Limits.{MOST_GCM};
 use crate::bytes::{is_same, xored};
 use crate::counter::apply_keystream;
 use crate::errors::{GcmError, GcmResult};
-use crate::hash_key::HashKey;
 use crate::hashing::{ghash_key, hashed};
 use crate::limits::check_lengths;
+use crate::long_hash_key::LongHashKey;
 use crate::order::{ByteOrder, counted};
 use cipher::BlockCipherEncrypt;
 
@@ -23,7 +23,7 @@ const MOST_TEXT: usize = (1 << 36) - 32;
 pub struct Gcm<C: BlockCipherEncrypt<16>> {
     cipher: C,
     // of the hash subkey H (6.4)
-    subkey: HashKey,
+    subkey: LongHashKey,
     ghost subkey_of: { subkey ≡ from_be_bytes w128 (C.encrypts cipher (replicate 16 0)) },
 }
 
@@ -121,7 +121,7 @@ fn open<C: BlockCipherEncrypt<16>>(
 }
 
 impl<C: BlockCipherEncrypt<16>> Gcm<C> {
-    /// GCM under this cipher, with the table of its hash subkey.
+    /// GCM under this cipher, with the tables of its hash subkey, 16 KiB.
     pub fn new(c: C) -> Gcm<C>
         ensures { result.cipher ≡ c }
     {
@@ -129,7 +129,7 @@ impl<C: BlockCipherEncrypt<16>> Gcm<C> {
         c.encrypt_block(&mut key);
         Gcm {
             cipher: c,
-            subkey: ghash_key(&key),
+            subkey: LongHashKey::new(&ghash_key(&key)),
         }
     }
 

@@ -12,7 +12,7 @@ use crate::bytes::{is_same, xored};
 use crate::counter::apply_keystream;
 use crate::errors::{GcmError, GcmResult};
 use crate::hash_key::HashKey;
-use crate::hashing::{hashed, polyval_key};
+use crate::hashing::{hashed_once, polyval_key};
 use crate::limits::check_lengths;
 use crate::opened::hashed_as_opened;
 use crate::order::ByteOrder;
@@ -102,7 +102,7 @@ fn seal<C: BlockCipherEncrypt<16>>(
     ensures { out.new ≡ sealed_under (C.encrypts keys.now.cipher) keys.now.authentication nonce.now aad.now text.now }
 {
     let n = text.len();
-    let sum = hashed(ByteOrder::LittleEndian, &keys.element, aad, text);
+    let sum = hashed_once(ByteOrder::LittleEndian, &keys.element, aad, text);
     let tag = tag_of(&keys.cipher, &sum, nonce);
     out[..n].copy_from_slice(text);
     apply_keystream(

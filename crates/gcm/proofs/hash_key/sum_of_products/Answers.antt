@@ -2,6 +2,7 @@ use Rattle.std.proofs.Common.{◌≡◌, ◌+◌, ◌*◌, ◌/◌, ◌%◌, ◌
 use Rattle.std.proofs.lemmas.Nat.{shr-shr}
 use Rattle.standards.specs.Ghash.{product_low}
 use Rattle.gcm.specs.Multiples.{four, multiple, sum4}
+use Rattle.gcm.proofs.FourBits.{four_bits, four_linear}
 use Rattle.gcm.proofs.Ring.{sums_step}
 use Rattle.gcm.proofs.hash_key.sum_of_products.Goals as goal
 
@@ -30,7 +31,7 @@ loop-i-preserved c =
           ap₂ bit_xor (c.shift.ensures ∙ ap four h.sums)
           (ap₂ bit_xor (ap₂ bit_xor (ap₂ bit_xor (c.entry.ensures ∙ ap (λ k. multiple p (k % 16)) h.a_is) (c.entry-in-loop-i.ensures ∙ ap (λ k. multiple q (k % 16)) h.b_is))
           (c.entry-in-loop-i-2.ensures ∙ ap (λ k. multiple r (k % 16)) h.c_is)) (c.entry-in-loop-i-3.ensures ∙ ap (λ k. multiple s (k % 16)) h.d_is))
-          ∙ sums_step p q r s x0 x1 x2 x3 n
+          ∙ sums_step four multiple 16 4 four_linear four_bits p q r s x0 x1 x2 x3 n
           ∙ ap (λ k. sum4 (product_low p x0 k) (product_low q x1 k) (product_low r x2 k) (product_low s x3 k)) e;
     }
 

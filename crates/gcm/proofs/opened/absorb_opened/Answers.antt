@@ -16,7 +16,7 @@ none_yet f y m k = let none : 0 ≡ min (8 * 0) k = omega arith in ap (over_bloc
 
 pub loop-i-init : goal.loop-i-init
 loop-i-init g c =
-    none_yet (absorb LittleEndian c.args.key.now) c.args.y (zero_padded (ctr (g.C.BlockCipherEncrypt.encrypts c.args.c.now) (counted LittleEndian) c.args.block.now c.args.ciphertext.now)) ((length c.args.ciphertext.now + 15) / 16)
+    none_yet (absorb LittleEndian (g.K.Products.element c.args.key.now)) c.args.y (zero_padded (ctr (g.C.BlockCipherEncrypt.encrypts c.args.c.now) (counted LittleEndian) c.args.block.now c.args.ciphertext.now)) ((length c.args.ciphertext.now + 15) / 16)
 
 -- one part more, after the state over the parts before
 one_more : (E : List ℕ → List ℕ) (h y state next : ℕ) (block from xs : List ℕ) (i n : ℕ) → ((b : List ℕ) → length b ≡ 16 → length (E b) ≡ 16) → length block ≡ 16
@@ -52,5 +52,5 @@ loop-i-preserved g c =
     let xs = c.args.ciphertext.now in
     let i = c.loop-i.i in
     let within : 128 * i < length xs = omega arith in
-    one_more (g.C.BlockCipherEncrypt.encrypts c.args.c.now) c.args.key.now c.args.y c.loop-i.state c.absorb_part-next.result c.args.block.now c.counted-from.result xs i c.min-n.result
+    one_more (g.C.BlockCipherEncrypt.encrypts c.args.c.now) (g.K.Products.element c.args.key.now) c.args.y c.loop-i.state c.absorb_part-next.result c.args.block.now c.counted-from.result xs i c.min-n.result
     (g.met.C.BlockCipherEncrypt.sized c.args.c.now) c.told-block within c.min-n.ensures c.counted-from.ensures c.loop-i.invariant c.absorb_part-next.ensures

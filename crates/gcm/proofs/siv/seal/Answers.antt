@@ -9,8 +9,8 @@ pub returns : goal.returns
 returns g c =
     let keys = c.args.keys.now in
     sealed_in_place (g.C.BlockCipherEncrypt.encrypts keys.cipher) keys.authentication c.args.nonce.now c.args.aad.now c.args.text.now c.args.out.now
-    c.copy_from_slice.new.self c.apply_keystream.new.bytes c.hashed-sum.result c.tag_of-tag.result c.counter_block.result c.copy_from_slice-2.new.self
-    c.copy_from_slice.ensures.after (c.hashed-sum.ensures ∙ polyval_of keys.authentication c.args.aad.now c.args.text.now keys.element keys.element_of) c.tag_of-tag.ensures c.counter_block.ensures c.apply_keystream.ensures c.copy_from_slice-2.ensures.after
+    c.copy_from_slice.new.self c.apply_keystream.new.bytes c.hashed_once-sum.result c.tag_of-tag.result c.counter_block.result c.copy_from_slice-2.new.self
+    c.copy_from_slice.ensures.after (c.hashed_once-sum.ensures ∙ polyval_of keys.authentication c.args.aad.now c.args.text.now keys.element keys.element_of) c.tag_of-tag.ensures c.counter_block.ensures c.apply_keystream.ensures c.copy_from_slice-2.ensures.after
 
 pub copy_from_slice-requires : goal.copy_from_slice-requires
 copy_from_slice-requires g c = sym (cut_before c.args.text.now c.args.out.now c.requires.room)

@@ -5,7 +5,7 @@ use Rattle.standards.specs.Counter.{ctr, plus_le}
 use Rattle.standards.proofs.Keystream.{length-ctr}
 use Rattle.gcm.specs.declared.order.ByteOrder.TheVariants.{LittleEndian}
 use Rattle.gcm.specs.Orders.{absorb, block_of, pair_of}
-use Rattle.gcm.proofs.opened.hashed_as_opened.Goals as goal
+use Rattle.gcm.proofs.opened.hashed_under.Goals as goal
 
 pub returns : goal.returns
 returns g c =
@@ -14,7 +14,7 @@ returns g c =
     let xs = c.args.ciphertext.now in
     let text = ctr E (plus_le w32) c.args.block.now xs in
     let same : length text ≡ length xs = length-ctr E (plus_le w32) c.args.block.now xs in
-    let f = absorb LittleEndian c.args.key.now in
+    let f = absorb LittleEndian (g.K.Products.element c.args.key.now) in
     let both =
     c.absorb_opened-both.ensures
     ∙ ap (λ s. over_blocks f s (zero_padded text) ((length xs + 15) / 16)) c.absorb_padded-data.ensures
