@@ -63,8 +63,27 @@ impl Schedule {
         output.copy_from_slice(&enciphered);
     }
 
-    // Encrypts at most eight blocks as above, by one call: they are the first of eight.
+    // Encrypts at most eight blocks as above, by one call: one alone by tables, and more as the first of eight.
     pub(crate) fn encrypt_some(&self, output: &mut [[u8; 16]], input: &[[u8; 16]])
+        requires { length output.old ≤ 8 }
+        ensures { output.new ≡ map (aes self.now) (pick input.now output.old) }
+    {
+        if output.len() == 1 {
+            self.encrypt_one(output, input);
+        } else {
+            self.encrypt_first(output, input);
+        }
+    }
+
+    fn encrypt_one(&self, output: &mut [[u8; 16]], input: &[[u8; 16]])
+        requires { length output.old ≡ 1 }
+        ensures { output.new ≡ map (aes self.now) (pick input.now output.old) }
+    {
+        let block = read_all(output, input)[0];
+        output[0] = encipher(&self.round_keys, self.rounds, &block);
+    }
+
+    fn encrypt_first(&self, output: &mut [[u8; 16]], input: &[[u8; 16]])
         requires { length output.old ≤ 8 }
         ensures { output.new ≡ map (aes self.now) (pick input.now output.old) }
     {

@@ -4,7 +4,7 @@ use Rattle.standards.specs.AesKeys.{aes}
 use Rattle.cipher.specs.Buffers.{pick}
 use Rattle.aes_block.proofs.EachBlock.{map_same, take-map_front}
 use Rattle.aes_block.proofs.RoundKeys.{enciphered}
-use Rattle.aes_block.proofs.schedule.Schedule.encrypt_some.Goals as goal
+use Rattle.aes_block.proofs.schedule.Schedule.encrypt_first.Goals as goal
 
 pub returns : goal.returns
 returns c =
