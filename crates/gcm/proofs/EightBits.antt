@@ -12,7 +12,7 @@ use Rattle.gcm.proofs.FourBits.{four_bits, four_high, four_linear, once}
 pub eight_linear : (a b : ℕ) → eight (bit_xor a b) ≡ bit_xor (eight a) (eight b)
 eight_linear a b = ap four (four_linear a b) ∙ four_linear (four a) (four b)
 
-eight_high : (a : ℕ) → eight (a * 256) ≡ a
+pub eight_high : (a : ℕ) → eight (a * 256) ≡ a
 eight_high a =
     let e : a * 256 ≡ a * 16 * 16 = omega arith in
     ap eight e ∙ ap four (four_high (a * 16)) ∙ four_high a

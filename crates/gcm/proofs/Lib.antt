@@ -7,3 +7,4 @@ pub mod OpenedParts
 pub mod FourBits
 pub mod EightBits
 pub mod Ring
+pub mod Carries

@@ -8,6 +8,7 @@ use Rattle.standards.specs.Ghash.{product, product_low, times_x}
 use Rattle.standards.proofs.Bytes.{every_below}
 use Rattle.standards.proofs.Products.{product_low_below, times_x_linear}
 use Rattle.standards.proofs.Xor.{bits_times, exchange}
+use Rattle.gcm.specs.Carries.{powers, rest}
 use Rattle.gcm.specs.Multiples.{ArePowers, horner, sum4}
 use Rattle.gcm.proofs.FourBits.{at_zero, push}
 
@@ -67,11 +68,6 @@ bit_first y (suc zero) h m k =
     ap (λ v. product_low y v m) e ∙ d
 bit_first y (suc (suc b)) h m k = absurd (omega arith)
 
--- x to the power n, times z
-unfoldable powers : ℕ → ℕ → ℕ
-powers zero z = z
-powers (suc n) z = times_x (powers n z)
-
 power_more : (n z : ℕ) → powers (suc n) z ≡ times_x (powers n z)
 unfolding powers
 power_more n z = refl
@@ -81,17 +77,13 @@ unfolding powers
 powers_linear zero a b = refl
 powers_linear (suc n) a b = ap times_x (powers_linear n a b) ∙ times_x_linear (powers n a) (powers n b)
 
--- 1 + x + x^2 + x^7, times z
-abbrev rest : ℕ → ℕ
-rest z = sum4 (powers 7 z) (powers 2 z) (powers 1 z) z
-
 sum4_linear : (a b c d p q r s : ℕ) → sum4 (bit_xor a p) (bit_xor b q) (bit_xor c r) (bit_xor d s) ≡ bit_xor (sum4 a b c d) (sum4 p q r s)
 sum4_linear a b c d p q r s =
     ap (λ v. bit_xor (bit_xor v (bit_xor c r)) (bit_xor d s)) (exchange a p b q)
     ∙ ap (λ v. bit_xor v (bit_xor d s)) (exchange (bit_xor a b) (bit_xor p q) c r)
     ∙ exchange (bit_xor (bit_xor a b) c) (bit_xor (bit_xor p q) r) d s
 
-rest_linear : (a b : ℕ) → rest (bit_xor a b) ≡ bit_xor (rest a) (rest b)
+pub rest_linear : (a b : ℕ) → rest (bit_xor a b) ≡ bit_xor (rest a) (rest b)
 rest_linear a b =
     let ab = bit_xor a b in
     ap (λ v. sum4 v (powers 2 ab) (powers 1 ab) ab) (powers_linear 7 a b)

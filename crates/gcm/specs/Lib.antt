@@ -5,3 +5,4 @@ pub mod Limits
 pub mod Siv
 pub mod Laws
 pub mod Multiples
+pub mod Carries

@@ -104,6 +104,14 @@ impl LargeMultiples {
         self.table[low_byte(x)]
     }
 
+    // The multiple by a byte.
+    #[inline(always)]
+    pub(crate) fn by_byte(&self, byte: u8) -> u128
+        ensures { result ≡ multiple8 self.now byte }
+    {
+        self.table[usize::from(byte)]
+    }
+
     // The product with `x`, whose highest powers stand in its lowest bits.
     pub(crate) fn times(&self, x: u128) -> u128
         ensures { result ≡ product x self.now }

@@ -1,10 +1,11 @@
 // A key of GHASH or POLYVAL for long texts, by tables of 256 multiples.
-ghost use Rattle.std.specs.Prelude.{◌≡◌, slice_index};
+ghost use Rattle.std.specs.Prelude.{◌≡◌, ◌<◌, ◌%◌, bit_xor, slice_index};
 ghost use Rattle.standards.specs.Ghash.{product};
-ghost use Rattle.gcm.specs.Multiples.{sum4};
+ghost use Rattle.gcm.specs.Carries.{carried, rest};
+ghost use Rattle.gcm.specs.Multiples.{multiple8, sum4};
 
 use crate::hash_key::{HashKey, Products};
-use crate::large_multiples::{LargeMultiples, shift_byte};
+use crate::large_multiples::LargeMultiples;
 use std::marker::Model;
 
 // A contract sees the element.
@@ -27,7 +28,34 @@ impl Model for LongHashKey {
     ghost invariant = { λ k. ArePowers k.first k.second k.third k.fourth };
 }
 
-// The sum of the products of four numbers with four others.
+// The sum of the multiples of two numbers by byte i of two others.
+#[inline(always)]
+fn pair(p: &LargeMultiples, q: &LargeMultiples, a: &[u8; 16], b: &[u8; 16], i: usize) -> u128
+    requires { i < 16 }
+    ensures { result ≡ bit_xor (multiple8 p.now (slice_index a.now i)) (multiple8 q.now (slice_index b.now i)) }
+{
+    p.by_byte(a[i]) ^ q.by_byte(b[i])
+}
+
+// What was shifted out, a byte more: its highest bit is the coefficient of x^128.
+#[inline(always)]
+fn carried(high: u128, low: u128) -> u128
+    ensures { result ≡ carried high low }
+{
+    (low >> 8) ^ (high << 120)
+}
+
+// The product with x^128, where the lowest eight bits are 0.
+#[inline(always)]
+fn reduced(low: u128) -> u128
+    requires { low % 256 ≡ 0 }
+    ensures { result ≡ rest low }
+{
+    (low >> 7) ^ (low >> 2) ^ (low >> 1) ^ low
+}
+
+// The sum of the products of four numbers with four others, a byte of each at a time. What is shifted out is reduced
+// once, at the end.
 fn sum_of_long_products(
     p: &LargeMultiples,
     q: &LargeMultiples,
@@ -38,16 +66,17 @@ fn sum_of_long_products(
     ensures { result ≡ sum4 (product (slice_index x 0) p.now) (product (slice_index x 1) q.now)
         (product (slice_index x 2) r.now) (product (slice_index x 3) s.now) }
 {
-    let [mut a, mut b, mut c, mut d] = x;
-    let mut z = 0u128;
-    for i in 0..16u32 {
-        z = shift_byte(z) ^ (p.entry(a) ^ q.entry(b) ^ r.entry(c) ^ s.entry(d));
-        a >>= 8;
-        b >>= 8;
-        c >>= 8;
-        d >>= 8;
+    let a = x[0].to_le_bytes();
+    let b = x[1].to_le_bytes();
+    let c = x[2].to_le_bytes();
+    let d = x[3].to_le_bytes();
+    let mut high = pair(p, q, &a, &b, 0) ^ pair(r, s, &c, &d, 0);
+    let mut low = 0u128;
+    for i in 1..16usize {
+        low = carried(high, low);
+        high = (high >> 8) ^ (pair(p, q, &a, &b, i) ^ pair(r, s, &c, &d, i));
     }
-    z
+    high ^ reduced(low)
 }
 
 impl LongHashKey {

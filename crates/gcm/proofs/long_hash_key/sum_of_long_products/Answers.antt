@@ -1,42 +1,70 @@
-use Rattle.std.proofs.Common.{◌≡◌, ◌+◌, ◌*◌, ◌/◌, ◌%◌, ◌^◌, ◌∙◌, ap, ap₂, refl, bit_xor, get_or, arith}
-use Rattle.std.proofs.lemmas.Nat.{shr-shr}
-use Rattle.standards.specs.Ghash.{product_low}
+use Rattle.std.proofs.Common.{◌≡◌, ◌+◌, ◌-◌, ◌*◌, ◌/◌, ◌%◌, ◌^◌, ◌<◌, ◌∙◌, ap, ap₂, refl, bit_xor, get_or, arith, lit<}
+use Rattle.gcm.specs.Carries.{carried, rest}
 use Rattle.gcm.specs.Multiples.{eight, multiple8, sum4}
-use Rattle.gcm.proofs.EightBits.{eight_bits, eight_linear}
-use Rattle.gcm.proofs.Ring.{sums_step}
+use Rattle.gcm.proofs.Carries.{carried_room, carry_step, entries, entries_at, entries_step, first_entries, lowest_eight, sums}
 use Rattle.gcm.proofs.long_hash_key.sum_of_long_products.Goals as goal
 
 pub loop-i-init : goal.loop-i-init
-unfolding product_low
-loop-i-init c = record { a_is = omega arith; b_is = omega arith; c_is = omega arith; d_is = omega arith; sums = refl }
-
-pub loop-i-preserved : goal.loop-i-preserved
-loop-i-preserved c =
-    let n = 8 * c.loop-i.i in
-    let e : n + 8 ≡ 8 * (c.loop-i.i + 1) = omega arith in
-    let x0 = get_or c.args.x 0 0 in
-    let x1 = get_or c.args.x 1 0 in
-    let x2 = get_or c.args.x 2 0 in
-    let x3 = get_or c.args.x 3 0 in
+loop-i-init c =
+    let x = c.args.x in
     let p = c.args.p.now in
     let q = c.args.q.now in
     let r = c.args.r.now in
     let s = c.args.s.now in
-    let h = c.loop-i.invariant in record {
-      a_is = ap (λ v. v / 256) h.a_is ∙ shr-shr x0 n 8 ∙ ap (λ k. x0 / 2 ^ k) e;
-      b_is = ap (λ v. v / 256) h.b_is ∙ shr-shr x1 n 8 ∙ ap (λ k. x1 / 2 ^ k) e;
-      c_is = ap (λ v. v / 256) h.c_is ∙ shr-shr x2 n 8 ∙ ap (λ k. x2 / 2 ^ k) e;
-      d_is = ap (λ v. v / 256) h.d_is ∙ shr-shr x3 n 8 ∙ ap (λ k. x3 / 2 ^ k) e;
-      sums =
-          ap₂ bit_xor (c.shift_byte.ensures ∙ ap eight h.sums)
-          (ap₂ bit_xor (ap₂ bit_xor (ap₂ bit_xor (c.entry.ensures ∙ ap (λ k. multiple8 p (k % 256)) h.a_is) (c.entry-in-loop-i.ensures ∙ ap (λ k. multiple8 q (k % 256)) h.b_is))
-          (c.entry-in-loop-i-2.ensures ∙ ap (λ k. multiple8 r (k % 256)) h.c_is)) (c.entry-in-loop-i-3.ensures ∙ ap (λ k. multiple8 s (k % 256)) h.d_is))
-          ∙ sums_step eight multiple8 256 8 eight_linear eight_bits p q r s x0 x1 x2 x3 n
-          ∙ ap (λ k. sum4 (product_low p x0 k) (product_low q x1 k) (product_low r x2 k) (product_low s x3 k)) e;
+    let a = get_or x 0 0 in
+    let b = get_or x 1 0 in
+    let e = get_or x 2 0 in
+    let f = get_or x 3 0 in
+    record {
+      room = refl;
+      both =
+          ap (λ v. bit_xor v (rest 0))
+          (ap₂ bit_xor c.pair.ensures c.pair-2.ensures
+          ∙ entries_at p q r s a b e f 0 c.to_le_bytes-a.result c.to_le_bytes-b.result c.to_le_bytes-c.result c.to_le_bytes-d.result (lit< tt) c.to_le_bytes-a.ensures c.to_le_bytes-b.ensures c.to_le_bytes-c.ensures c.to_le_bytes-d.ensures)
+          ∙ first_entries p q r s a b e f;
     }
+
+pub loop-i-preserved : goal.loop-i-preserved
+loop-i-preserved c =
+    let x = c.args.x in
+    let p = c.args.p.now in
+    let q = c.args.q.now in
+    let r = c.args.r.now in
+    let s = c.args.s.now in
+    let a = get_or x 0 0 in
+    let b = get_or x 1 0 in
+    let e = get_or x 2 0 in
+    let f = get_or x 3 0 in
+    let i = c.loop-i.i in
+    let high = c.loop-i.high in
+    let low = c.loop-i.low in
+    let held = c.loop-i.invariant in
+    let k = 128 - 8 * i in
+    let room : low % 2 ^ (k + 8) ≡ 0 = ap (λ n. low % 2 ^ n) (omega arith) ∙ held.room in
+    let next : 136 - 8 * (i + 1) ≡ k = omega arith in
+    let more : 8 * i + 8 ≡ 8 * (i + 1) = omega arith in
+    let summand = bit_xor c.pair-in-loop-i.result c.pair-in-loop-i-2.result in
+    let made : summand ≡ entries p q r s a b e f (8 * i) =
+    ap₂ bit_xor c.pair-in-loop-i.ensures c.pair-in-loop-i-2.ensures
+    ∙ entries_at p q r s a b e f i c.to_le_bytes-a.result c.to_le_bytes-b.result c.to_le_bytes-c.result c.to_le_bytes-d.result (omega arith) c.to_le_bytes-a.ensures c.to_le_bytes-b.ensures c.to_le_bytes-c.ensures c.to_le_bytes-d.ensures in
+    record {
+      room = ap₂ (λ v n. v % 2 ^ n) c.carried-low.ensures next ∙ carried_room high low k (omega arith) room;
+      both =
+          ap (λ v. bit_xor (bit_xor (high / 256) summand) (rest v)) c.carried-low.ensures
+          ∙ carry_step high low summand (lowest_eight low k room)
+          ∙ ap₂ (λ v w. bit_xor (eight v) w) held.both made
+          ∙ entries_step p q r s a b e f (8 * i)
+          ∙ ap (sums p q r s a b e f) more;
+    }
+
+pub reduced-requires : goal.reduced-requires
+reduced-requires c =
+    let e : 8 ≡ 136 - 8 * c.loop-i.i = omega arith in
+    ap (λ n. c.loop-i.low % 2 ^ n) e ∙ c.loop-i.invariant.room
 
 pub returns : goal.returns
 returns c =
+    let x = c.args.x in
     let e : 8 * c.loop-i.i ≡ 128 = omega arith in
-    c.loop-i.invariant.sums
-    ∙ ap (λ k. sum4 (product_low c.args.p.now (get_or c.args.x 0 0) k) (product_low c.args.q.now (get_or c.args.x 1 0) k) (product_low c.args.r.now (get_or c.args.x 2 0) k) (product_low c.args.s.now (get_or c.args.x 3 0) k)) e
+    ap (bit_xor c.loop-i.high) c.reduced.ensures ∙ c.loop-i.invariant.both
+    ∙ ap (sums c.args.p.now c.args.q.now c.args.r.now c.args.s.now (get_or x 0 0) (get_or x 1 0) (get_or x 2 0) (get_or x 3 0)) e

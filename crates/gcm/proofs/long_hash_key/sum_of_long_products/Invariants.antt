@@ -1,14 +1,11 @@
-use Rattle.std.proofs.Common.{◌≡◌, ◌*◌, ◌/◌, ◌^◌, get_or}
-use Rattle.standards.specs.Ghash.{product_low}
-use Rattle.gcm.specs.Multiples.{sum4}
+use Rattle.std.proofs.Common.{◌≡◌, ◌-◌, ◌*◌, ◌%◌, ◌^◌, bit_xor, get_or}
+use Rattle.gcm.specs.Carries.{rest}
+use Rattle.gcm.proofs.Carries.{sums}
 use Rattle.gcm.proofs.long_hash_key.sum_of_long_products.Given as goal
 
--- the products with the polynomials of the lowest bits
+-- the products with the polynomials of the lowest bytes, of which the low part is not yet reduced
 abbrev pub invariant-loop-i : goal.invariant-loop-i
 invariant-loop-i l = record {
-  a_is : l.a ≡ get_or l.fn.x 0 0 / 2 ^ (8 * l.i);
-  b_is : l.b ≡ get_or l.fn.x 1 0 / 2 ^ (8 * l.i);
-  c_is : l.c ≡ get_or l.fn.x 2 0 / 2 ^ (8 * l.i);
-  d_is : l.d ≡ get_or l.fn.x 3 0 / 2 ^ (8 * l.i);
-  sums : l.z ≡ sum4 (product_low l.p (get_or l.fn.x 0 0) (8 * l.i)) (product_low l.q (get_or l.fn.x 1 0) (8 * l.i)) (product_low l.r (get_or l.fn.x 2 0) (8 * l.i)) (product_low l.s (get_or l.fn.x 3 0) (8 * l.i));
+  room : l.low % 2 ^ (136 - 8 * l.i) ≡ 0;
+  both : bit_xor l.high (rest l.low) ≡ sums l.p l.q l.r l.s (get_or l.fn.x 0 0) (get_or l.fn.x 1 0) (get_or l.fn.x 2 0) (get_or l.fn.x 3 0) (8 * l.i);
 }
