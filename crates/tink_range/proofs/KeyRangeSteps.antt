@@ -12,7 +12,8 @@ use Rattle.tink_streams.specs.Choosing.{Found, StartRefused}
 use Rattle.tink_range.specs.ChunkReading.{Moments}
 use Rattle.tink_range.specs.Giving.{Cutting}
 use Rattle.tink_range.specs.KeyRanges.{IsCutUnder, RangesUnder, RangesUnderRefused, TakesRangeSteps, range_steps}
-use Rattle.tink_range.specs.RangeReading.{GaveRange, RangeMeans, RangeRefused, range_end, range_start}
+use Rattle.tink_range.specs.StreamSizes.{SizesRefused}
+use Rattle.tink_range.specs.RangeReading.{EndRefused, GaveRange, RangeMeans, RangeRefused, range_end, range_start}
 
 module _ {W : Type 0} (got : W → Option (List ℕ)) (faults : W → ℕ) (c : Cutting) (behind start len : ℕ) (e : Moments W) (then : ℕ) (before : e.reads_before ≤ then) where
   gave_earlier : (n : ℕ) → GaveRange got faults c behind start len (record e { reads_before = then }) n → GaveRange got faults c behind start len e n
@@ -109,27 +110,45 @@ steps_by_others ks js all whole start len before now count same (inr r) =
       then = subst (λ (n : ℕ). now ≤ before + n + range_steps r.cutting r.behind start len) count r.then;
     })
 
--- where the same key is chosen of other keys
+-- where the same key is chosen of other keys, it cuts the same
+pub cut_by_others : (ks js : List OpeningKey) (all : Option (List ℕ)) (whole : ℕ) (P Q : Cutting → ℕ → Type 0) → ((S : List ℕ) (chosen : Option OpeningKey) → IsChosen ks S chosen → IsChosen js S chosen)
+    → ((c : Cutting) (behind : ℕ) → P c behind → Q c behind) → IsCutUnder ks all whole P → IsCutUnder js all whole Q
+cut_by_others ks js all whole P Q same further r = record {
+  cutting = r.cutting;
+  behind = r.behind;
+  found = if_told all _ _ (λ S f. record { key = f.key; chosen = same S (Some f.key) f.chosen; opener = f.opener }) r.found;
+  whole_is = r.whole_is;
+  then = further r.cutting r.behind r.then;
+}
+
 module _ {W : Type 0} (got : W → Option (List ℕ)) (faults : W → ℕ) (ks js : List OpeningKey) (whole start len : ℕ) (e : Moments W) (same : (S : List ℕ) (chosen : Option OpeningKey) → IsChosen ks S chosen → IsChosen js S chosen) where
-  cut_by_others : (P : Cutting → ℕ → Type 0) → IsCutUnder ks e.all whole P → IsCutUnder js e.all whole P
-  cut_by_others P r = record {
-    cutting = r.cutting;
-    behind = r.behind;
-    found = if_told e.all _ _ (λ S f. record { key = f.key; chosen = same S (Some f.key) f.chosen; opener = f.opener }) r.found;
-    whole_is = r.whole_is;
-    then = r.then;
-  }
+  cut_same : (P : Cutting → ℕ → Type 0) → IsCutUnder ks e.all whole P → IsCutUnder js e.all whole P
+  cut_same P r = cut_by_others ks js e.all whole P P same (λ c behind x. x) r
 
   pub refused_by_others : (kind : Kind) → RangesUnderRefused got faults ks whole start len e kind → RangesUnderRefused got faults js whole start len e kind
   refused_by_others NoMatchingKey r = record { none = if_told e.all _ _ (λ S. same S None) r.none; same = r.same }
   refused_by_others ReadFault (inl r) = inl (record { rose = r.rose; same = r.same })
-  refused_by_others ReadFault (inr r) = inr (cut_by_others _ r)
-  refused_by_others WriteFault r = cut_by_others _ r
-  refused_by_others TooManySegments r = cut_by_others _ r
-  refused_by_others (Truncated n) r = cut_by_others _ r
-  refused_by_others (BadSegment n) r = cut_by_others _ r
+  refused_by_others ReadFault (inr r) = inr (cut_same _ r)
+  refused_by_others WriteFault r = cut_same _ r
+  refused_by_others TooManySegments r = cut_same _ r
+  refused_by_others (Truncated n) r = cut_same _ r
+  refused_by_others (BadSegment n) r = cut_same _ r
   refused_by_others _ r = absurd r
 
   pub ranges_by_others : (r : Result ℕ TinkError) → RangesUnder got faults ks whole start len e r → RangesUnder got faults js whole start len e r
-  ranges_by_others (Ok n) r = cut_by_others _ r
+  ranges_by_others (Ok n) r = cut_same _ r
   ranges_by_others (Err error) r = refused_by_others error.kind r
+
+-- the end of the chunks by which the chosen key cuts an object is refused
+pub sizes_refused : (keys : List OpeningKey) (all known : Option (List ℕ)) (whole before mid after : ℕ) (c : Cutting) (behind : ℕ) (kind : Kind) → before ≤ mid → known ≡ all → c.front + behind ≡ whole
+    → IfSome all (λ S. Found keys S c.seg c.front c.first c.size c.over) → EndRefused c behind known mid after kind → SizesRefused keys all whole before after kind
+sizes_refused keys all known whole before mid after c behind kind earlier told whole_is found r =
+    go kind (subst (λ (k : Option (List ℕ)). EndRefused c behind k mid after kind) told r)
+  where
+    go : (kind : Kind) → EndRefused c behind all mid after kind → SizesRefused keys all whole before after kind
+    go NoMatchingKey r = absurd r.1
+    go ReadFault r = Rose-earlier _ _ _ earlier r.1
+    go TooManySegments r = record { cutting = c; behind = behind; found = found; whole_is = whole_is; then = r }
+    go (Truncated n) r = record { cutting = c; behind = behind; found = found; whole_is = whole_is; then = r }
+    go (BadSegment n) r = record { cutting = c; behind = behind; found = found; whole_is = whole_is; then = r }
+    go _ r = absurd r.1

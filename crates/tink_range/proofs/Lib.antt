@@ -11,6 +11,7 @@ pub mod MemoryAtFacts
 pub mod RangeSteps
 pub mod TrialAtFacts
 pub mod TriesFacts
+pub mod PlacedFacts
 pub mod StartAtFacts
 pub mod StreamRanges
 pub mod CanGiveFacts

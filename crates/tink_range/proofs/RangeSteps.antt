@@ -5,14 +5,14 @@ use Rattle.std.specs.declared.option.Option.{Option}
 use Rattle.tink_io.proofs.FaultLemmas.{Rose-earlier}
 use Rattle.tink_io.specs.declared.error.TinkError.{TinkError}
 use Rattle.tink_io.specs.declared.error.Kind.{Kind}
-use Rattle.tink_io.specs.declared.error.Kind.TheVariants.{BadSegment, ReadFault, Truncated, WriteFault}
+use Rattle.tink_io.specs.declared.error.Kind.TheVariants.{BadSegment, ReadFault, TooManySegments, Truncated, WriteFault}
 use Rattle.tink_segment_traits.specs.declared.segment_traits.SegmentDecrypter.{Ghosts}
 use Rattle.tink_streams.specs.Openers.{segment_map}
 use Rattle.tink_segment_traits.specs.declared.opener.Opener.{Opener}
 use Rattle.tink_range.specs.ChunkReading.{Moments}
 use Rattle.tink_range.specs.Giving.{Cutting, GiveMeans, GiveRefused, chunks_in}
 use Rattle.tink_range.specs.RangeCores.{IsSameCore, cutting_of}
-use Rattle.tink_range.specs.RangeReading.{LastRefused, RangeMeans, RangeRefused, range_end, range_start}
+use Rattle.tink_range.specs.RangeReading.{EndRefused, LastRefused, RangeMeans, RangeRefused, range_end, range_start}
 use Rattle.tink_range.specs.Ranges.{LastAgrees, SomeGive, chunk_count, text_length}
 use Rattle.tink_range.specs.StepCounts.{TakesTouched, TouchesSoMany}
 use Rattle.tink_range.specs.declared.chunks.RangeCore.{RangeCore}
@@ -75,9 +75,14 @@ many_of chunks count most a b c = omega arith
 pub end_inside : (hi a text whole : ℕ) → hi ≡ min a text → whole ≡ text → hi ≤ whole
 end_inside hi a text whole e f = omega arith
 
--- a refusal by this kind
-pub range_refused : {W : Type 0} (got : W → Option (List ℕ)) (faults : W → ℕ) (c : Cutting) (behind start len : ℕ) (e : Moments W) (error : TinkError) (kind : Kind) → error ≡ record { kind = kind } → RangeRefused got faults c behind start len e kind → RangeRefused got faults c behind start len e error.kind
-range_refused got faults c behind start len e error kind is r = subst (λ (x : TinkError). RangeRefused got faults c behind start len e x.kind) (sym is) r
+-- a refusal of the end by this kind
+pub end_refusal : (c : Cutting) (behind : ℕ) (all : Option (List ℕ)) (before after : ℕ) (error : TinkError) (kind : Kind) → error ≡ record { kind = kind } → EndRefused c behind all before after kind → EndRefused c behind all before after error.kind
+end_refusal c behind all before after error kind is r = subst (λ (x : TinkError). EndRefused c behind all before after x.kind) (sym is) r
+
+-- the refusal of the last chunk, where there are no more chunks than numbers
+pub end_refused : (c : Cutting) (behind : ℕ) (all : Option (List ℕ)) (before after : ℕ) (kind : Kind) → chunk_count c.first c.size behind ≤ 2 ^ 32 → LastRefused c behind all before after kind → EndRefused c behind all before after kind
+end_refused c behind all before after TooManySegments few last = absurd last
+end_refused c behind all before after _ few last = (few, last)
 
 module _ {W : Type 0} (got : W → Option (List ℕ)) (faults : W → ℕ) (c : Cutting) (behind start len : ℕ) (few : chunk_count c.first c.size behind ≤ 2 ^ 32) where
   none_given : (lo hi : ℕ) (all : Option (List ℕ)) → IfSome all (λ S. SomeGive c.seg c.over lo hi (chunks_in c S) [])
@@ -85,7 +90,7 @@ module _ {W : Type 0} (got : W → Option (List ℕ)) (faults : W → ℕ) (c : 
   none_given lo hi (Some S) = (0, 0, chunks_in c S, (refl, refl, refl))
 
   -- the last chunk is refused, and nothing was written
-  pub last_refused : (all : Option (List ℕ)) (before after : ℕ) (w : W) (kind : Kind) → LastRefused c behind all before after kind
+  last_refused : (all : Option (List ℕ)) (before after : ℕ) (w : W) (kind : Kind) → LastRefused c behind all before after kind
       → RangeRefused got faults c behind start len (record { all = all; reads_before = before; reads_after = after; old = w; new = w }) kind
   last_refused all before after w ReadFault rose = record {
     few = few;
@@ -135,3 +140,12 @@ module _ {W : Type 0} (got : W → Option (List ℕ)) (faults : W → ℕ) (c : 
       (subst (λ (k : Option (List ℕ)). of other k (range_start c behind start) (range_end c behind start len)) told
       (subst (λ (k : ℕ). of other known k (range_end c behind start len)) l
       (subst (λ (k : ℕ). of other known lo k) h gave))))
+
+-- the end is refused, and nothing was written
+pub range_not_begun : {W : Type 0} (got : W → Option (List ℕ)) (faults : W → ℕ) (c : Cutting) (behind start len : ℕ) (all : Option (List ℕ)) (before after : ℕ) (w : W) (kind : Kind) → EndRefused c behind all before after kind
+    → RangeRefused got faults c behind start len (record { all = all; reads_before = before; reads_after = after; old = w; new = w }) kind
+range_not_begun got faults c behind start len all before after w TooManySegments many = record { many = many; same = refl }
+range_not_begun got faults c behind start len all before after w ReadFault r = last_refused got faults c behind start len r.0 all before after w ReadFault r.1
+range_not_begun got faults c behind start len all before after w (Truncated n) r = last_refused got faults c behind start len r.0 all before after w (Truncated n) r.1
+range_not_begun got faults c behind start len all before after w (BadSegment n) r = last_refused got faults c behind start len r.0 all before after w (BadSegment n) r.1
+range_not_begun got faults c behind start len all before after w _ r = absurd r.1

@@ -15,7 +15,8 @@ use Rattle.stream_model.proofs.OpeningFacts.{IsChosen-unique}
 use Rattle.tink_streams.specs.Choosing.{Found, IsOpenerOf}
 use Rattle.tink_range.specs.ChunkReading.{Moments}
 use Rattle.tink_range.specs.Giving.{Cutting, chunks_in}
-use Rattle.tink_range.specs.KeyRanges.{CutRefused, RangesUnder, RangesUnderRefused}
+use Rattle.tink_range.specs.KeyRanges.{CutRefused, IsCutUnder, RangesUnder, RangesUnderRefused}
+use Rattle.tink_range.specs.StreamSizes.{Measures, SizesRefused}
 use Rattle.tink_range.specs.RangeReading.{RangeRefused, range_end, range_start}
 use Rattle.tink_range.specs.Ranges.{AllGive, Gives, StopsAtChunk, all_places, chunk_count, places, text_length, within}
 use Rattle.tink_range.proofs.ShapeFacts.{shape_of_any}
@@ -118,6 +119,10 @@ module _ (k : OpeningKey) (S : List ℕ) (texts : List (List ℕ)) (c : Cutting)
   long : text_length c.first c.size c.over behind ≡ length (joined texts)
   long = shape.0 ∙ places_of_texts c.seg c.over 0 (chunks_in c S) texts lawful_here are.0 are.1
 
+  -- there are as many chunks and places as texts, and as their bytes
+  pub sizes : (chunk_count c.first c.size behind ≡ length texts) × (text_length c.first c.size c.over behind ≡ length (joined texts))
+  sizes = (shape.1 ∙ are.1, long)
+
   -- what a range gives is that slice of the text
   pub slice_of_range : (start len : ℕ) (bytes : List ℕ) → AllGive c.seg c.over (range_start c behind start) (range_end c behind start len) (chunks_in c S) bytes → bytes ≡ drop start (take (start + len) (joined texts))
   slice_of_range start len bytes given =
@@ -183,3 +188,39 @@ module _ {W : Type 0} (got : W → Option (List ℕ)) (faults : W → ℕ) (keys
       go (Truncated n) r = cut_not_refused (Truncated n) r
       go (BadSegment n) r = cut_not_refused (BadSegment n) r
       go _ r = r
+
+-- the same of what is told without the text
+module _ (keys : List OpeningKey) (all : Option (List ℕ)) (whole before after : ℕ) (S : List ℕ) (k : OpeningKey) (texts : List (List ℕ)) (told : all ≡ Some S) (size : length S ≡ whole)
+    (chosen : IsChosen keys S (Some k)) (can : CanOpen k) (stream : IsStream k S texts) where
+  -- an empty range, to a sink that is nothing
+  abbrev nothing : Moments (Unit {0})
+  nothing = record { all = all; reads_before = before; reads_after = after; old = tt; new = tt }
+
+  abbrev Refuses : Kind → Type 0
+  Refuses kind = RangesUnderRefused {W = Unit {0}} (λ w. None) (λ w. 0) keys whole 0 0 nothing kind
+
+  same_cut : (P Q : Cutting → ℕ → Type 0) → ((c : Cutting) (behind : ℕ) → P c behind → Q c behind) → IsCutUnder keys all whole P → IsCutUnder keys all whole Q
+  same_cut P Q further r = record { cutting = r.cutting; behind = r.behind; found = r.found; whole_is = r.whole_is; then = further r.cutting r.behind r.then }
+
+  as_range : (kind : Kind) → SizesRefused keys all whole before after kind → Refuses kind
+  as_range NoMatchingKey h = record { none = h; same = refl }
+  as_range ReadFault h = inl (record { rose = h; same = refl })
+  as_range TooManySegments r = same_cut _ _ (λ c behind x. record { many = x; same = refl }) r
+  as_range (Truncated n) r = same_cut _ _ (λ c behind x. record { few = x.0; last = x.1; same = refl }) r
+  as_range (BadSegment n) r = same_cut _ _ (λ c behind x. inl (record { few = x.0; last = x.1; same = refl })) r
+  as_range _ h = absurd h
+
+  -- it is refused for no other cause than a fault
+  pub sizes_not_refused : (Rose before after → ⊥) → (kind : Kind) → SizesRefused keys all whole before after kind → ⊥
+  sizes_not_refused reads kind r =
+      under_not_refused {W = Unit {0}} (λ w. None) (λ w. 0) keys whole 0 0 nothing S k texts told size chosen can stream reads (λ rose. omega (arith, rose)) kind (as_range kind r)
+
+  -- and there are as many segments and bytes as the texts have
+  pub sizes_of_stream : (c : Cutting) (behind segments text_len : ℕ) → Found keys S c.seg c.front c.first c.size c.over → c.front + behind ≡ whole → Measures c behind all segments text_len
+      → (segments ≡ length texts) × (text_len ≡ length (joined texts)) × (c.size ≡ k.size)
+  sizes_of_stream c behind segments text_len found whole_is m =
+      let one : Some found.key ≡ Some k = IsChosen-unique keys S (Some found.key) (Some k) found.chosen chosen in
+      let same : found.key ≡ k = cc in
+      let opener : IsOpenerOf k S c.seg c.front c.first c.size c.over = subst (λ (j : OpeningKey). IsOpenerOf j S c.seg c.front c.first c.size c.over) same found.opener in
+      let here = sizes k S texts c behind can stream opener (whole_is ∙ sym size) in
+      (m.segments_is ∙ here.0, m.text_is ∙ here.1, opener.size_is)

@@ -1,5 +1,5 @@
 -- The key of an object's stream.
-use Rattle.std.specs.Prelude.{◌≡◌, ◌⊎◌, ℕ, ◌+◌, ◌≤◌, ◌<◌, Bool, ◌&&◌, nat_lt, is_some, if◌then◌else◌, List, [], ◌∷◌, length, Option, None, IfSome, Result, Ok, Err}
+use Rattle.std.specs.Prelude.{◌≡◌, ◌⊎◌, ℕ, zero, suc, ◌+◌, ◌≤◌, ◌<◌, Bool, ◌&&◌, nat_lt, is_some, if◌then◌else◌, List, [], ◌∷◌, length, get_or, Option, None, IfSome, Result, Ok, Err}
 use Rattle.tink_io.specs.Faults.{Rose}
 use Rattle.tink_io.specs.declared.error.Kind.{Kind}
 use Rattle.tink_io.specs.declared.error.Kind.TheVariants.{NoMatchingKey, OutOfMemory, ReadFault}
@@ -19,6 +19,18 @@ one_if b = if b then 1 else 0
 abbrev pub Tries : List OpeningKey → List ℕ → ℕ → Type 0
 Tries [] S n = n ≡ 0
 Tries (k ∷ ks) S n = (Begins k S × (n ≡ 1)) ⊎ ((Begins k S → ⊥) × ((m : ℕ) × (n ≡ one_if (is_tried k S) + m) × Tries ks S m))
+
+-- the first of the keys under which the stream begins stands in this place of the list
+abbrev pub IsChosenInPlace : {K : Type 0} → (K → OpeningKey) → List K → List ℕ → ℕ → Type 0
+IsChosenInPlace of [] S place = ⊥
+IsChosenInPlace of (k ∷ ks) S zero = Begins (of k) S
+IsChosenInPlace of (k ∷ ks) S (suc place) = (Begins (of k) S → ⊥) × IsChosenInPlace of ks S place
+
+-- the place of the chosen key, of whose segments a whole one has so many bytes
+pub record IsPlaced {K : Type 0} (of : K → OpeningKey) (keys : List K) (all : Option (List ℕ)) (place size : ℕ) : Type 0 where
+  pub inside : place < length keys
+  pub size_is : (k : K) → k ≡ get_or keys place k → size ≡ (of k).size
+  pub first : IfSome all (λ S. IsChosenInPlace of keys S place)
 
 -- how the segments of a stream under a key are opened: the map, the bytes of a nonce, and the sizes
 pub record OpenedBy (k : OpeningKey) (nonce first size over nonce_bytes : ℕ) : Type 0 where

@@ -12,3 +12,4 @@ pub mod ChoosingAt
 pub mod RangeCores
 pub mod RangeReaders
 pub mod KeyRanges
+pub mod StreamSizes

@@ -27,6 +27,15 @@ abbrev pub LastMeans : Cutting → ℕ → Option (List ℕ) → ℕ → ℕ →
 LastMeans c behind all before after (Ok _) = IfSome all (λ S. LastAgrees c.seg (chunks_in c S))
 LastMeans c behind all before after (Err e) = LastRefused c behind all before after e.kind
 
+-- what checking the end answers: there are no more chunks than numbers, and the last one is the segment of a text
+abbrev pub EndRefused : Cutting → ℕ → Option (List ℕ) → ℕ → ℕ → Kind → Type 0
+EndRefused c behind all before after TooManySegments = 2 ^ 32 < chunk_count c.first c.size behind
+EndRefused c behind all before after kind = (chunk_count c.first c.size behind ≤ 2 ^ 32) × LastRefused c behind all before after kind
+
+abbrev pub EndMeans : {T : Type 0} → Cutting → ℕ → Option (List ℕ) → ℕ → ℕ → Result T TinkError → Type 0
+EndMeans c behind all before after (Ok _) = (chunk_count c.first c.size behind ≤ 2 ^ 32) × IfSome all (λ S. LastAgrees c.seg (chunks_in c S))
+EndMeans c behind all before after (Err e) = EndRefused c behind all before after e.kind
+
 -- the range's first place, and the one behind its last
 abbrev pub range_start : Cutting → ℕ → ℕ → ℕ
 range_start c behind start = min start (text_length c.first c.size c.over behind)

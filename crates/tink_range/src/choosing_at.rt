@@ -2,7 +2,7 @@ ghost use Rattle.std.specs.Prelude.{◌≡◌, ◌≤◌, ◌<◌, ◌+◌, ◌-
 ghost use Rattle.stream_model.specs.Cut.{numbered};
 ghost use Rattle.stream_model.specs.Key.{nonce_size};
 ghost use Rattle.stream_model.specs.Opening.{HasFront, IsChosen, header_of, opening_key};
-ghost use Rattle.tink_range.specs.ChoosingAt.{DoesBeginAt, DoesNotBeginAt, IsFirstAt, Tries};
+ghost use Rattle.tink_range.specs.ChoosingAt.{DoesBeginAt, DoesNotBeginAt, IsFirstAt, IsPlaced, Tries};
 ghost use Rattle.tink_range.specs.Objects.{ReadsObject};
 ghost use Rattle.tink_range.specs.Rooms.{HasRoomFor, KeepsBuffers};
 ghost use Rattle.tink_segments.specs.StreamSegments.{segment_by};
@@ -25,6 +25,13 @@ use tink_streams::Opener;
 pub struct BegunAt {
     pub opener: Opener<StreamSegment>,
     pub front: u64,
+}
+
+// The same under the key in this place of a list.
+#[derive(Drop)]
+pub struct ChosenAt {
+    pub begun: BegunAt,
+    pub place: usize,
 }
 
 // Reads as many bytes as a key's front has, and answers how the segments behind it are opened, if they are a front of
@@ -123,7 +130,8 @@ fn try_at<A: ReadAt, T: DerivesStreams, L: Ledger>(
     }
 }
 
-// How the stream of an object is opened: by the first key under which it begins with the associated data, or none.
+// How the stream of an object is opened: by the first key under which it begins with the associated data, and the place
+// of this key, or none.
 pub fn choose_at<A: ReadAt, T: DerivesStreams, L: Ledger>(
     keys: &[T],
     aad: &[u8],
@@ -133,26 +141,28 @@ pub fn choose_at<A: ReadAt, T: DerivesStreams, L: Ledger>(
     nonce: &mut Vec<u8>,
     prefix: Vec<u8>,
     steps: &mut Steps<L>,
-) -> Result<Option<BegunAt>, Failed>
+) -> Result<Option<ChosenAt>, Failed>
     requires room { HasRoomForEach T.key_of keys.now (vec_len sealed.old) (vec_capacity text.old) (vec_len nonce.old)
         (vec_capacity prefix) }
     ensures none { IfOk result (λ o. o ≡ None → IfSome (A.bytes object.old)
         (λ S. IsChosen (map (λ k. opening_key aad.now (T.key_of k)) keys.now) S None)) }
-    ensures found { IfOk result (λ o. IfSome o (λ b.
+    ensures found { IfOk result (λ o. IfSome o (λ c.
         IsFirstAt (map (λ k. opening_key aad.now (T.key_of k)) keys.now) (A.length_of object.old) (A.bytes object.old)
-        (numbered (segment_by b.opener.decrypter) b.opener.nonce_size b.opener.prefix.items) b.front
-        b.opener.first b.opener.size b.opener.overhead)) }
-    ensures room { IfOk result (λ o. IfSome o (λ b. HasRoomFor b.opener.size b.opener.nonce_size (vec_len sealed.new)
-        (vec_capacity text.new) (vec_len nonce.new))) }
+        (numbered (segment_by c.begun.opener.decrypter) c.begun.opener.nonce_size c.begun.opener.prefix.items)
+        c.begun.front c.begun.opener.first c.begun.opener.size c.begun.opener.overhead)) }
+    ensures placed { IfOk result (λ o. IfSome o (λ c. IsPlaced (λ k. opening_key aad.now (T.key_of k)) keys.now
+        (A.bytes object.old) c.place c.begun.opener.size)) }
+    ensures room { IfOk result (λ o. IfSome o (λ c. HasRoomFor c.begun.opener.size c.begun.opener.nonce_size
+        (vec_len sealed.new) (vec_capacity text.new) (vec_len nonce.new))) }
     ensures tries { IfOk result (λ _. IfSome (A.bytes object.old)
         (λ S. Tries (map (λ k. opening_key aad.now (T.key_of k)) keys.now) S (steps.new - steps.old))) }
     ensures ticks { (steps.old ≤ steps.new) × (steps.new ≤ steps.old + length keys.now) }
     ensures read { ReadsObject A.length_of A.bytes A.faults A.same object.old object.new result }
 {
     let mut prefix = prefix;
-    for key in keys {
+    for (place, key) in keys.iter().enumerate() {
         match try_at(key, aad, object, sealed, text, nonce, prefix, steps) {
-            Ok(Ok(begun)) => return Ok(Some(begun)),
+            Ok(Ok(begun)) => return Ok(Some(ChosenAt { begun, place })),
             Ok(Err(memory)) => prefix = memory,
             Err(e) => return Err(e),
         }

@@ -6,6 +6,7 @@ pub use memory_at::{MemAt, SureAt};
 pub use range_reader::RangeReader;
 pub use read_at::ReadAt;
 pub use steps::Steps;
+pub use stream_sizes::{StreamSizes, sizes_under};
 pub use under_keys::range_under;
 
 mod choosing_at;
@@ -21,5 +22,6 @@ mod reading_at;
 mod shape;
 mod starting_at;
 mod steps;
+mod stream_sizes;
 mod under_keys;
 mod writing_part;

@@ -1,17 +1,46 @@
-ghost use Rattle.std.specs.Prelude.{◌≡◌, ◌≤◌, ◌<◌, ◌+◌, ◌-◌, ◌/◌};
+ghost use Rattle.std.specs.Prelude.{◌≡◌, ◌≤◌, ◌<◌, ◌+◌, ◌-◌, ◌/◌, ℕ, List, length, IfOk};
 ghost use Rattle.tink_range.specs.ChunkReading.{ends_of};
 ghost use Rattle.tink_range.specs.Objects.{LeavesObject};
 ghost use Rattle.tink_range.specs.RangeCores.{IsSameCore, cutting_of};
-ghost use Rattle.tink_range.specs.RangeReading.{RangeMeans, range_end, range_start};
-ghost use Rattle.tink_range.specs.StepCounts.{TakesTouched};
+ghost use Rattle.tink_range.specs.RangeReading.{EndMeans, RangeMeans, range_end, range_start};
+ghost use Rattle.tink_range.specs.Shapes.{HasShape};
+ghost use Rattle.tink_range.specs.StepCounts.{TakesOneStep, TakesTouched};
 
 use crate::chunks::RangeCore;
 use crate::giving::give_range;
 use crate::read_at::ReadAt;
+use crate::shape::Shape;
 use crate::steps::Steps;
 use std::sync::ledger::Ledger;
 use tink_io::{Kind, Sink, TinkError};
 use tink_segment_traits::SegmentDecrypter;
+
+// The shape of an object's chunks, of which there are no more than numbers, once the last one is opened.
+pub fn check_end<A: ReadAt, D: SegmentDecrypter, L: Ledger>(
+    core: &mut RangeCore<D>,
+    object: &mut A,
+    steps: &mut Steps<L>,
+) -> Result<Shape, TinkError>
+    requires object { core.old.front + core.old.behind ≡ A.length_of object.old }
+    ensures answer { EndMeans (cutting_of core.old) core.old.behind (A.bytes object.old)
+        (A.faults object.old) (A.faults object.new) result }
+    ensures shape { IfOk result (λ s. (X : List ℕ) → length X ≡ core.old.behind
+        → HasShape core.old.opener.first core.old.opener.size core.old.opener.overhead X s.count s.text s.last) }
+    ensures ticks { TakesOneStep steps.old steps.new result }
+    ensures core { IsSameCore core.old core.new }
+    ensures kept { LeavesObject A.length_of A.bytes A.faults object.old object.new result }
+    ensures same { A.same object.old object.new }
+{
+    let shape = core.shape();
+    let number = shape.count - 1;
+    if number > u64::from(u32::MAX) {
+        return Err(TinkError::new(Kind::TooManySegments));
+    }
+    match core.check_last(object, number, shape.last, steps) {
+        Ok(()) => Ok(shape),
+        Err(e) => Err(e),
+    }
+}
 
 // Writes a range of the text of an object's chunks, once the last chunk is opened.
 pub fn read_range<A: ReadAt, D: SegmentDecrypter, K: Sink, L: Ledger>(
@@ -37,13 +66,8 @@ pub fn read_range<A: ReadAt, D: SegmentDecrypter, K: Sink, L: Ledger>(
     ensures object { A.same object.old object.new }
     ensures sink { K.same sink.old sink.new }
 {
-    let shape = core.shape();
-    let number = shape.count - 1;
-    if number > u64::from(u32::MAX) {
-        return Err(TinkError::new(Kind::TooManySegments));
-    }
-    match core.check_last(object, number, shape.last, steps) {
-        Ok(()) => {
+    match check_end(core, object, steps) {
+        Ok(shape) => {
             let lo = start.min(shape.text);
             let hi = start.saturating_add(len).min(shape.text);
             give_range(core, object, lo, hi, sink, steps)

@@ -1,12 +1,12 @@
 ghost use Rattle.std.specs.Prelude.{◌≡◌, ◌≤◌, ◌+◌, ◌-◌, length, map, IfOk, IfErr, IfSome, vec_len, vec_capacity};
 ghost use Rattle.stream_model.specs.Opening.{opening_key};
-ghost use Rattle.tink_range.specs.ChoosingAt.{HasTried, NewRefused};
+ghost use Rattle.tink_range.specs.ChoosingAt.{HasTried, IsPlaced, NewRefused};
 ghost use Rattle.tink_range.specs.Objects.{LeavesObject};
 ghost use Rattle.tink_stream_keys.specs.Rooms.{HasRoomForEach};
 ghost use Rattle.tink_streams.specs.Choosing.{Found, StartRefused};
 ghost use Rattle.tink_streams.specs.Openers.{segment_map};
 
-use crate::choosing_at::{BegunAt, choose_at};
+use crate::choosing_at::{BegunAt, ChosenAt, choose_at};
 use crate::chunks::RangeCore;
 use crate::read_at::ReadAt;
 use crate::steps::Steps;
@@ -18,20 +18,29 @@ use tink_stream_keys::{DerivesStreams, Trial};
 use tink_streaming_aead::{WrappedStreamingAead, room_of};
 use tink_streams::{Buffers, Kept};
 
-// The chunks of an object behind the front of the first key under which its stream begins.
-pub fn start_at<A: ReadAt, T: DerivesStreams, L: Ledger>(
+// The chunks of an object behind the front of a key, and the place of this key in a list.
+#[derive(Drop)]
+pub struct StartedAt {
+    pub core: RangeCore<StreamSegment>,
+    pub place: usize,
+}
+
+// The chunks of an object behind the front of the first key under which its stream begins, and the key's place.
+pub fn start_placed<A: ReadAt, T: DerivesStreams, L: Ledger>(
     keys: &[T],
     aad: &[u8],
     trial: Trial,
     object: &mut A,
     steps: &mut Steps<L>,
-) -> Result<RangeCore<StreamSegment>, TinkError>
+) -> Result<StartedAt, TinkError>
     requires room { HasRoomForEach T.key_of keys.now (vec_len trial.kept.buffer) (vec_capacity trial.opened)
         (vec_len trial.nonce) (vec_capacity trial.prefix) }
-    ensures found { IfOk result (λ core. IfSome (A.bytes object.old) (λ S.
-        Found (map (λ k. opening_key aad.now (T.key_of k)) keys.now) S (segment_map core.opener) core.front
-        core.opener.first core.opener.size core.opener.overhead)) }
-    ensures whole { IfOk result (λ core. core.front + core.behind ≡ A.length_of object.old) }
+    ensures found { IfOk result (λ s. IfSome (A.bytes object.old) (λ S.
+        Found (map (λ k. opening_key aad.now (T.key_of k)) keys.now) S (segment_map s.core.opener) s.core.front
+        s.core.opener.first s.core.opener.size s.core.opener.overhead)) }
+    ensures placed { IfOk result (λ s. IsPlaced (λ k. opening_key aad.now (T.key_of k)) keys.now (A.bytes object.old)
+        s.place s.core.opener.size) }
+    ensures whole { IfOk result (λ s. s.core.front + s.core.behind ≡ A.length_of object.old) }
     ensures refused { IfErr result (λ e. StartRefused (map (λ k. opening_key aad.now (T.key_of k)) keys.now)
         (A.bytes object.old) (A.faults object.old) (A.faults object.new) e.kind) }
     ensures tried { HasTried result (A.bytes object.old) (map (λ k. opening_key aad.now (T.key_of k)) keys.now)
@@ -62,9 +71,10 @@ pub fn start_at<A: ReadAt, T: DerivesStreams, L: Ledger>(
     ) {
         Err(_) => Err(TinkError::new(Kind::ReadFault)),
         Ok(None) => Err(TinkError::new(Kind::NoMatchingKey)),
-        Ok(Some(BegunAt { opener, front })) => {
+        Ok(Some(ChosenAt { begun, place })) => {
+            let BegunAt { opener, front } = begun;
             let behind = object.size() - front;
-            Ok(RangeCore {
+            let core = RangeCore {
                 opener,
                 front,
                 behind,
@@ -73,8 +83,37 @@ pub fn start_at<A: ReadAt, T: DerivesStreams, L: Ledger>(
                     sealed,
                     nonce,
                 },
-            })
+            };
+            Ok(StartedAt { core, place })
         }
+    }
+}
+
+// The same without the place.
+pub fn start_at<A: ReadAt, T: DerivesStreams, L: Ledger>(
+    keys: &[T],
+    aad: &[u8],
+    trial: Trial,
+    object: &mut A,
+    steps: &mut Steps<L>,
+) -> Result<RangeCore<StreamSegment>, TinkError>
+    requires room { HasRoomForEach T.key_of keys.now (vec_len trial.kept.buffer) (vec_capacity trial.opened)
+        (vec_len trial.nonce) (vec_capacity trial.prefix) }
+    ensures found { IfOk result (λ core. IfSome (A.bytes object.old) (λ S.
+        Found (map (λ k. opening_key aad.now (T.key_of k)) keys.now) S (segment_map core.opener) core.front
+        core.opener.first core.opener.size core.opener.overhead)) }
+    ensures whole { IfOk result (λ core. core.front + core.behind ≡ A.length_of object.old) }
+    ensures refused { IfErr result (λ e. StartRefused (map (λ k. opening_key aad.now (T.key_of k)) keys.now)
+        (A.bytes object.old) (A.faults object.old) (A.faults object.new) e.kind) }
+    ensures tried { HasTried result (A.bytes object.old) (map (λ k. opening_key aad.now (T.key_of k)) keys.now)
+        (steps.new - steps.old) }
+    ensures ticks { (steps.old ≤ steps.new) × (steps.new ≤ steps.old + length keys.now) }
+    ensures kept { LeavesObject A.length_of A.bytes A.faults object.old object.new result }
+    ensures same { A.same object.old object.new }
+{
+    match start_placed(keys, aad, trial, object, steps) {
+        Ok(StartedAt { core, place: _ }) => Ok(core),
+        Err(e) => Err(e),
     }
 }
 

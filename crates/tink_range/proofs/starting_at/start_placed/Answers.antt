@@ -3,7 +3,7 @@ use Rattle.stream_model.specs.Opening.{opening_key}
 use Rattle.tink_io.specs.declared.error.Kind.TheVariants.{NoMatchingKey, ReadFault}
 use Rattle.tink_range.proofs.ObjectSteps.{below, front_and_rest, front_below, refusal_leaves, some_behind}
 use Rattle.tink_range.proofs.StartAtFacts.{fault_untried, start_refusal}
-use Rattle.tink_range.proofs.starting_at.start_at.Goals as goal
+use Rattle.tink_range.proofs.starting_at.start_placed.Goals as goal
 
 pub choose_at-requires : goal.choose_at-requires
 choose_at-requires g c = record { room = c.requires.room }
@@ -70,25 +70,26 @@ returns-in-Err-clause-ticks g c = c.in-Err.ensures.ticks
 pub overflow_sub-behind : goal.overflow_sub-behind
 overflow_sub-behind g c =
     let begun = rw c.in-Ok-Some.field-0-is at c.in-Ok-Some.ensures.found in
-    let below_size = front_below c.in-Ok-Some.field-0-0.front _ _ c.size.result begun.inside c.in-Ok-Some.ensures.read.kept.length_is c.size.ensures in
-    below _ _ below_size
+    below _ _ (front_below c.in-Ok-Some.field-0-0.begun.front _ _ c.size.result begun.inside c.in-Ok-Some.ensures.read.kept.length_is c.size.ensures)
 
 pub returns-in-Ok-Some-clause-whole : goal.returns-in-Ok-Some-clause-whole
 returns-in-Ok-Some-clause-whole g c =
     let begun = rw c.in-Ok-Some.field-0-is at c.in-Ok-Some.ensures.found in
-    front_and_rest c.in-Ok-Some.field-0-0.front _ _ c.size.result begun.inside c.in-Ok-Some.ensures.read.kept.length_is c.size.ensures
+    front_and_rest c.in-Ok-Some.field-0-0.begun.front _ _ c.size.result begun.inside c.in-Ok-Some.ensures.read.kept.length_is c.size.ensures
 
-pub invariant_of-result-clause-sealed : goal.invariant_of-result-clause-sealed
-invariant_of-result-clause-sealed g c = let room = rw c.in-Ok-Some.field-0-is at c.in-Ok-Some.ensures.room in room.sealed_room
+pub invariant_of-core-clause-sealed : goal.invariant_of-core-clause-sealed
+invariant_of-core-clause-sealed g c = let room = rw c.in-Ok-Some.field-0-is at c.in-Ok-Some.ensures.room in room.sealed_room
 
-pub invariant_of-result-clause-text : goal.invariant_of-result-clause-text
-invariant_of-result-clause-text g c = let room = rw c.in-Ok-Some.field-0-is at c.in-Ok-Some.ensures.room in room.text_room
+pub invariant_of-core-clause-text : goal.invariant_of-core-clause-text
+invariant_of-core-clause-text g c = let room = rw c.in-Ok-Some.field-0-is at c.in-Ok-Some.ensures.room in room.text_room
 
-pub invariant_of-result-clause-nonce : goal.invariant_of-result-clause-nonce
-invariant_of-result-clause-nonce g c = let room = rw c.in-Ok-Some.field-0-is at c.in-Ok-Some.ensures.room in room.nonce_room
+pub invariant_of-core-clause-nonce : goal.invariant_of-core-clause-nonce
+invariant_of-core-clause-nonce g c = let room = rw c.in-Ok-Some.field-0-is at c.in-Ok-Some.ensures.room in room.nonce_room
 
-pub invariant_of-result-clause-some : goal.invariant_of-result-clause-some
-invariant_of-result-clause-some g c =
+pub invariant_of-core-clause-some : goal.invariant_of-core-clause-some
+invariant_of-core-clause-some g c =
     let begun = rw c.in-Ok-Some.field-0-is at c.in-Ok-Some.ensures.found in
-    let below_size = front_below c.in-Ok-Some.field-0-0.front _ _ c.size.result begun.inside c.in-Ok-Some.ensures.read.kept.length_is c.size.ensures in
-    some_behind _ _ below_size
+    some_behind _ _ (front_below c.in-Ok-Some.field-0-0.begun.front _ _ c.size.result begun.inside c.in-Ok-Some.ensures.read.kept.length_is c.size.ensures)
+
+pub returns-in-Ok-Some-clause-placed : goal.returns-in-Ok-Some-clause-placed
+returns-in-Ok-Some-clause-placed g c = rw c.in-Ok-Some.field-0-is at c.in-Ok-Some.ensures.placed
