@@ -1,0 +1,1 @@
+"""Encrypts, decrypts, checks and rewraps many files by the program `tink`, on many processors and machines."""

@@ -1,0 +1,171 @@
+"""The engine for many machines: a cluster of Dask distributed, by its client."""
+import ipaddress
+import os
+import tempfile
+import time
+import zipfile
+from collections.abc import Iterable, Iterator
+from urllib.parse import urlsplit
+
+from tink_fleet import calls
+from tink_fleet.errors import FleetError, Refused
+
+# Calls that are out at once, for each thread of the cluster. The scheduler holds no more than these.
+AHEAD = 4
+PATIENCE_SECONDS = 600.0
+CONNECT_SECONDS = 20
+
+
+def check_address(address: str) -> None:
+    """A scheduler runs what anyone sends who reaches it, so that one beyond this machine has to use TLS."""
+    found = urlsplit(address if "://" in address else f"tcp://{address}")
+    try:
+        is_loopback = found.hostname == "localhost" or ipaddress.ip_address(found.hostname or "").is_loopback
+    except ValueError:
+        is_loopback = False
+    if found.scheme != "tls" and not is_loopback:
+        raise FleetError(
+            f"{address}: without TLS, who reaches a scheduler runs programs on its workers, which hold keys: "
+            "give tls://.. with the certificates in Dask's configuration, or 127.0.0.1 through a tunnel"
+        )
+
+
+class DaskEngine:
+    """Hands calls to a cluster, a bounded number ahead."""
+
+    def __init__(self, address: str):
+        check_address(address)
+        try:
+            from distributed import Client
+        except ImportError:
+            raise FleetError("distributed: this Python has no Dask distributed: install python3-distributed, and run fleet by /usr/bin/python3") from None
+        try:
+            self.client = Client(address, name="tink-fleet", timeout=CONNECT_SECONDS)
+        except (OSError, TimeoutError) as e:
+            raise FleetError(f"{address}: no scheduler answers: start `dask scheduler`, and its workers ({e})") from e
+        self.address = address
+        self.number = 0
+        self.token = ""
+        self.upload()
+
+    @property
+    def slots(self) -> int:
+        return sum(self.client.nthreads().values())
+
+    def upload(self) -> None:
+        """Sends this package to the workers, those too that come later."""
+        from distributed.diagnostics.plugin import UploadFile
+
+        with tempfile.TemporaryDirectory() as folder:
+            path = os.path.join(folder, f"tink_fleet-{calls.package_hash()}.zip")
+            with zipfile.ZipFile(path, "w") as archive:
+                for name, text in calls.package_files().items():
+                    archive.writestr(f"tink_fleet/{name}", text)
+            self.client.register_worker_plugin(UploadFile(path), name="tink_fleet")
+
+    def begin(self, fleet: str, run: str, say) -> None:
+        """Ends what a driver that is no more left at work: its workers stop after the file that they are at."""
+        self.token = run
+        deadline, has_said = time.monotonic() + PATIENCE_SECONDS, False
+        while True:
+            if not self.client.nthreads():
+                raise FleetError(f"{self.address}: the scheduler has no worker: start `dask worker {self.address}`")
+            busy = self.client.run(begin_run, fleet, run)
+            if not any(busy.values()):
+                return
+            if time.monotonic() > deadline:
+                raise Refused(f"{self.address}: workers of an earlier driver still run: restart {', '.join(it for it in busy if busy[it])}")
+            if not has_said:
+                say("waiting for the workers of an earlier driver to end their files")
+                has_said = True
+            time.sleep(0.2)
+
+    def describe(self, call: dict) -> list[dict]:
+        """What each worker is like."""
+        return [it[0] for it in self.client.run(perform_here, call).values()]
+
+    def run(self, given: Iterable[dict]) -> Iterator[tuple[dict, list[dict] | None]]:
+        """Does calls. Gives each with its results, in the order in which they end; None where its workers died."""
+        from distributed import as_completed
+
+        waiting = iter(given)
+        out = {}
+        ended = as_completed(with_results=True, raise_errors=False)
+
+        def send() -> bool:
+            call = next(waiting, None)
+            if call is not None:
+                future = self.submit(call)
+                out[future.key] = (call, future)
+                ended.add(future)
+            return call is not None
+
+        try:
+            while len(out) < AHEAD * self.slots + 8 and send():
+                pass
+            for future, result in ended:
+                call, _ = out.pop(future.key)
+                yield call, self.results(future, result)
+                send()
+        finally:
+            for _, future in out.values():
+                future.cancel()
+
+    def submit(self, call: dict):
+        self.number += 1
+        key = f"tink-fleet-{self.token}-{self.number}"
+        there = self.client.nthreads()
+        better = sorted(there.keys() - set(call.get("avoid", ())))
+        workers = better if 0 < len(better) < len(there) else None
+        return self.client.submit(perform_here, call, key=key, pure=False, workers=workers, allow_other_workers=True)
+
+    def results(self, future, result) -> list[dict] | None:
+        from distributed import KilledWorker
+
+        if future.status == "finished":
+            return result
+        if future.status == "cancelled" or self.client.status != "running":
+            raise FleetError(f"{self.address}: the scheduler is gone: start it again, and run again; what is done stays done")
+        error = result[1] if isinstance(result, tuple) else result
+        if isinstance(error, KilledWorker):
+            return None
+        raise FleetError(f"{self.address}: a worker failed in an unexpected way: {error!r}")
+
+    def close(self) -> None:
+        self.client.close()
+
+
+def runs_here() -> dict:
+    """What this worker knows of runs: the current one of each fleet, and how many calls of which are at work."""
+    from distributed import get_worker
+
+    worker = get_worker()
+    if not hasattr(worker, "tink_fleet_runs"):
+        worker.tink_fleet_runs = {"current": {}, "busy": {}}
+    return worker.tink_fleet_runs
+
+
+def begin_run(fleet: str, run: str) -> int:
+    """Makes a run the current one of its fleet. Returns how many calls of earlier ones are still at work here."""
+    runs = runs_here()
+    runs["current"][fleet] = run
+    return sum(count for (of, other), count in runs["busy"].items() if of == fleet and other != run)
+
+
+def perform_here(call: dict) -> list[dict]:
+    """Does a call on this worker."""
+    from distributed import get_worker
+
+    runs, job = runs_here(), call["job"]
+    busy = (job["fleet"], job["run"])
+
+    def may_go_on() -> bool:
+        return runs["current"].get(job["fleet"], job["run"]) == job["run"]
+
+    runs["busy"][busy] = runs["busy"].get(busy, 0) + 1
+    try:
+        return calls.perform(call, get_worker().address, may_go_on)
+    finally:
+        runs["busy"][busy] -= 1
+        if not runs["busy"][busy]:
+            del runs["busy"][busy]

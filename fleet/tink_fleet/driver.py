@@ -1,0 +1,321 @@
+"""The driver: lists the files, hands them to an engine, and alone appends to the record."""
+import dataclasses
+import sys
+import time
+from collections.abc import Callable, Iterable, Iterator
+from dataclasses import dataclass, field
+from typing import Protocol
+
+from tink_fleet import calls, parts, places, program
+from tink_fleet.errors import FleetError, Refused
+from tink_fleet.manifest import Manifest, is_url
+from tink_fleet.places import Item
+from tink_fleet.record import Entry, Lock, Record
+from tink_fleet.tasks import Job, Outcome, Task
+
+ATTEMPTS = 3
+SECONDS_BETWEEN_LINES = 1.0
+
+
+class Engine(Protocol):
+    """What runs calls. It is a client of GNU parallel or of Dask."""
+
+    slots: int
+
+    def begin(self, fleet: str, run: str, say: Callable[[str], None]) -> None: ...
+    def describe(self, call: dict) -> list[dict]: ...
+    def run(self, given: Iterable[dict]) -> Iterator[tuple[dict, list[dict] | None]]: ...
+    def close(self) -> None: ...
+
+
+@dataclass
+class Summary:
+    """How a run ended."""
+
+    done: int = 0
+    failed: int = 0
+    skipped: int = 0
+    adopted: int = 0
+    bytes: int = 0
+    seconds: float = 0.0
+    primary: int | None = None
+    failures: list[str] = field(default_factory=list)
+    # How many files are under each key, those too that were skipped.
+    keys: dict[int | None, int] = field(default_factory=dict)
+
+
+MOST_FAILURES_SHOWN = 20
+
+
+class Driver:
+    """One run over a manifest."""
+
+    def __init__(self, manifest: Manifest, engine: Engine, *, again: bool = False, quiet: bool = False):
+        self.manifest = manifest
+        self.engine = engine
+        self.again = again
+        self.quiet = quiet
+        self.summary = Summary()
+        self.large: list[Task] = []
+        self.has_lost = False
+        self.shown = 0.0
+        self.total = 0
+
+    def say(self, text: str) -> None:
+        if not self.quiet:
+            print(f"fleet: {text}", file=sys.stderr, flush=True)
+
+    def run(self) -> Summary:
+        """Does all that is not done.
+
+        # Errors
+        `Refused` where another driver is at work. `FleetError` where the record is of other work, or a worker lacks
+        the program or the keys.
+        """
+        began = time.monotonic()
+        lock = Lock(self.manifest.state)
+        try:
+            self.record = Record(self.manifest, self.again)
+            try:
+                self.tell_history()
+                self.work()
+                self.summary.seconds = time.monotonic() - began
+                ends = ("done", "failed", "skipped", "bytes")
+                self.record.end({word: getattr(self.summary, word) for word in ends})
+            finally:
+                self.record.close()
+        finally:
+            lock.close()
+        return self.summary
+
+    def tell_history(self) -> None:
+        history = self.record.history
+        if history.torn:
+            self.say(f"{self.record.path}: the last line was torn; its file is done again")
+        if history.damaged:
+            self.say(f"{self.record.path}: damaged lines {history.damaged[:10]}; their files are done again")
+
+    def work(self) -> None:
+        self.engine.begin(self.record.history.fleet, self.record.run, self.say)
+        if not self.record.history.has_ended:
+            self.sweep()
+        self.job = self.agreed(self.new_job())
+        self.summary.primary = self.job.primary
+        retries = self.round(self.batches(), is_last=False)
+        self.record.append([{"total": self.total}])
+        for attempt in range(2, ATTEMPTS + 1):
+            if retries:
+                self.next_round(attempt)
+                retries = self.round(iter(retries), is_last=attempt == ATTEMPTS)
+        for task in self.large:
+            self.split(task)
+        if self.has_lost:
+            self.sweep()
+
+    def next_round(self, attempt: int) -> None:
+        """Another token, which ends workers that are lost and yet run."""
+        self.job = dataclasses.replace(self.job, run=f"{self.record.run}.{attempt}")
+        self.engine.begin(self.job.fleet, self.job.run, self.say)
+
+    def new_job(self) -> Job:
+        it = self.manifest
+        if it.keys is None:
+            raise FleetError(f"{it.file}: `keys` is missing: name a file of keys that each worker has, or give -k - on one machine")
+        return Job(self.record.history.fleet, self.record.run, it.operation, it.program, it.keys, it.master, it.to_keys, it.scratch)
+
+    def agreed(self, job: Job) -> Job:
+        """The job with the primary key that all workers have.
+
+        # Errors
+        `FleetError` where a worker lacks the program, the keys or a command, or has other keys than the rest.
+        """
+        told = self.engine.describe(calls.describe_call(job))
+        needs = program.NEEDS[job.operation] + (["--master"] if job.master else [])
+        for it in told:
+            if "error" in it:
+                raise FleetError(f"worker {it['worker']}: {it['error']}")
+            if it["code"] != calls.package_hash():
+                raise FleetError(f"worker {it['worker']}: it runs another version of fleet: restart it")
+            missing = [name for name in needs if name not in it["commands"]]
+            if missing:
+                raise FleetError(
+                    f"worker {it['worker']}: {it['program']} ({it['version']}) is too old for this: "
+                    f"its `tink help` does not name `{'`, `'.join(missing)}`; install a newer one"
+                )
+        primaries = {it["primary"] for it in told}
+        if len(primaries) != 1:
+            rows = ", ".join(f"{it['worker']} has {it['primary']}" for it in told)
+            raise FleetError(f"{job.to_keys or job.keys}: the workers have different primary keys ({rows}): bring the same file to all")
+        self.can_split = all("info" in it["commands"] for it in told)
+        return dataclasses.replace(job, primary=primaries.pop())
+
+    def items(self) -> Iterator[Item]:
+        it = self.manifest
+        yield from places.items(it.source, it.include, it.exclude, it.state)
+
+    def todo(self) -> Iterator[Task]:
+        """The tasks that are not done, in the order of their names."""
+        for item in self.items():
+            self.total += 1
+            task, entry = self.task(item), self.record.history.entries.get(item.path)
+            if entry is not None and entry.state == "done" and self.is_done(task, entry):
+                self.summary.skipped += 1
+                self.count_key(entry.key)
+            elif self.is_large(task):
+                self.large.append(task)
+            else:
+                yield task
+
+    def task(self, item: Item) -> Task:
+        it = self.manifest
+        source = places.join(it.source, item.path)
+        if it.operation == "check":
+            target = None
+        elif it.in_place:
+            target = source
+        else:
+            target = places.join(it.target, it.target_path(item.path))
+        entry = self.record.history.entries.get(item.path)
+        # What this fleet made may be made again; what is there from elsewhere only where the manifest says so.
+        replaces = it.replace or bool(target != source and entry and entry.state == "done" and places.size_of(target or source) == entry.size)
+        return Task(item.path, source, target, it.aad_of(item.path), it.to_aad_of(item.path), item.size, item.mtime, replaces)
+
+    def is_done(self, task: Task, entry: Entry) -> bool:
+        """Whether what the record calls done is still there, and of the same source and the same key."""
+        if places.size_of(task.target or task.source) != entry.size:
+            return False
+        if self.manifest.operation == "rewrap" and entry.key not in (None, self.job.primary):
+            return False
+        return task.in_place or (entry.source_size, entry.source_mtime) == (task.size, task.mtime)
+
+    def is_large(self, task: Task) -> bool:
+        return (
+            self.manifest.operation == "decrypt" and task.size >= self.manifest.split_bytes and self.can_split
+            and self.engine.slots > 1 and not is_url(task.source) and not is_url(task.target)
+            and (task.replaces or places.size_of(task.target) is None)
+        )
+
+    def batches(self) -> Iterator[dict]:
+        """The tasks in calls: as many as the manifest says by number and by bytes, few at the beginning."""
+        batch: list[Task] = []
+        size = sent = 0
+        for task in self.todo():
+            batch.append(task)
+            size += task.size
+            # A short list is spread over all slots.
+            most = min(self.manifest.batch_files, 1 + sent // (4 * max(1, self.engine.slots)))
+            if len(batch) >= most or size >= self.manifest.batch_bytes:
+                sent += len(batch)
+                yield calls.batch_call(self.job, batch)
+                batch, size = [], 0
+        if batch:
+            yield calls.batch_call(self.job, batch)
+
+    def round(self, given: Iterator[dict], is_last: bool) -> list[dict]:
+        """Does calls and records what ended. Returns calls of one task each for what may be tried again."""
+        again: list[dict] = []
+        for call, results in self.engine.run(self.stamped(given)):
+            outcomes = [Outcome(**it) for it in results or []]
+            ended = {it.path for it in outcomes}
+            lost = [it for it in call["tasks"] if it["path"] not in ended]
+            self.has_lost = self.has_lost or bool(lost)
+            if is_last:
+                outcomes += [self.died(it) for it in lost]
+            else:
+                again += [self.retried(call, it, None) for it in lost]
+                tasks = {it["path"]: it for it in call["tasks"]}
+                again += [self.retried(call, tasks[it.path], it.worker) for it in outcomes if it.retry]
+                outcomes = [it for it in outcomes if not it.retry]
+            self.add(outcomes)
+        return again
+
+    def stamped(self, given: Iterator[dict]) -> Iterator[dict]:
+        """The calls with the job of this round."""
+        for call in given:
+            yield {**call, "job": vars(self.job)}
+
+    def retried(self, call: dict, task: dict, worker: str | None) -> dict:
+        avoid = [*call.get("avoid", []), *([worker] if worker else [])]
+        return {**calls.batch_call(self.job, [Task(**task)]), "avoid": avoid}
+
+    def died(self, task: dict) -> Outcome:
+        """The outcome of a task whose workers died at each attempt."""
+        line = f"{task['source']}: its worker died {ATTEMPTS} times: read the worker's log, and run again"
+        there = places.size_of(task["target"] or task["source"]) is not None
+        state = "old" if task["target"] == task["source"] else "unknown" if there else "absent"
+        return Outcome(task["path"], "failed", round(time.time(), 3), 0.0, "", state, line=line)
+
+    def add(self, outcomes: list[Outcome]) -> None:
+        if outcomes:
+            self.record.add(outcomes)
+        for it in outcomes:
+            if it.state == "done":
+                self.summary.done += 1
+                self.summary.adopted += it.adopted
+                self.summary.bytes += it.size or 0
+                self.count_key(it.key)
+            else:
+                self.summary.failed += 1
+                if len(self.summary.failures) < MOST_FAILURES_SHOWN:
+                    self.summary.failures.append(f"{it.path}: {it.line}")
+        self.show()
+
+    def count_key(self, key: int | None) -> None:
+        self.summary.keys[key] = self.summary.keys.get(key, 0) + 1
+
+    def show(self) -> None:
+        """On a terminal, a line that is written again each second."""
+        now = time.monotonic()
+        if self.quiet or not sys.stderr.isatty() or now - self.shown < SECONDS_BETWEEN_LINES:
+            return
+        self.shown = now
+        it = self.summary
+        print(f"\rfleet: {it.done} done, {it.failed} failed, {it.skipped} skipped, {it.bytes / 1e6:.0f} MB ", end="", file=sys.stderr, flush=True)
+
+    def sweep(self) -> None:
+        """Removes drafts that killed workers left. No worker of this fleet runs now."""
+        root = self.manifest.target or (self.manifest.source if self.manifest.in_place else None)
+        if root is not None and not is_url(root):
+            count = places.sweep(root, self.record.history.fleet)
+            if count:
+                self.say(f"{root}: {count} drafts of killed workers were removed")
+
+    def split(self, task: Task) -> None:
+        """Decrypts one large file by ranges, each in a process of its own."""
+        began, clock = time.time(), time.monotonic()
+        outcome, plan = self.steps([calls.step_call(self.job, task, "probe")])
+        if plan is not None and outcome.state == "done":
+            size = parts.part_size(plan["plaintext"], self.engine.slots, self.manifest.part_bytes)
+            cuts = parts.ranges(plan["plaintext"], size)
+            outcome, _ = self.steps([calls.step_call(self.job, task, "part", plan, *it) for it in cuts])
+            if outcome.state == "done":
+                outcome, _ = self.steps([calls.step_call(self.job, task, "finish", plan)])
+            if outcome.state != "done":
+                self.steps([calls.step_call(self.job, task, "discard", plan)])
+        outcome.time, outcome.seconds = round(began, 3), round(time.monotonic() - clock, 4)
+        self.add([outcome])
+
+    def steps(self, given: list[dict]) -> tuple[Outcome, dict | None]:
+        """Does steps, each up to three times. Returns the last outcome, or that of a step which failed."""
+        failed: Outcome | None = None
+        last, plan = None, None
+        for attempt in range(1, ATTEMPTS + 1):
+            again = []
+            for call, results in self.engine.run(self.stamped(iter(given))):
+                found = Outcome(**results[0]["outcome"]) if results else self.died(call["task"])
+                plan = results[0]["plan"] if results else plan
+                last = found
+                if found.state == "done":
+                    continue
+                self.has_lost = self.has_lost or not results
+                if attempt < ATTEMPTS and (found.retry or not results):
+                    again.append({**call, "avoid": [found.worker] if found.worker else []})
+                else:
+                    failed = failed or found
+            if failed or not again:
+                break
+            given = again
+            self.next_round(attempt + 1)
+        if last is None:
+            raise Refused("the engine gave no answer: run again")
+        return failed or last, plan

@@ -1,0 +1,187 @@
+"""The record of a fleet: one line of JSON for each task that ended, appended by the driver alone."""
+import fcntl
+import json
+import os
+import secrets
+import socket
+import time
+from dataclasses import dataclass, field
+
+from tink_fleet.errors import FleetError, Refused
+from tink_fleet.manifest import Manifest
+from tink_fleet.tasks import Outcome
+
+SYNC_SECONDS = 1.0
+LOCK_TRIES = 20
+
+
+@dataclass
+class Entry:
+    """What the record says last of one path."""
+
+    state: str
+    size: int | None
+    key: int | None
+    source_size: int | None
+    source_mtime: int | None
+    line: str | None = None
+    target: str = ""
+
+
+@dataclass
+class History:
+    """A record as it was read. `whole` counts the bytes up to the last whole line."""
+
+    fleet: str = ""
+    work: dict = field(default_factory=dict)
+    entries: dict[str, Entry] = field(default_factory=dict)
+    runs: list[dict] = field(default_factory=list)
+    has_ended: bool = True
+    whole: int = 0
+    torn: int = 0
+    damaged: list[int] = field(default_factory=list)
+
+
+def work_of(manifest: Manifest) -> dict:
+    """What a record is bound to: another operation, folder or pattern needs another record."""
+    words = ("operation", "source", "target", "suffix", "aad", "to_aad")
+    return {word: getattr(manifest, word) for word in words if getattr(manifest, word) is not None}
+
+
+def record_path(state: str) -> str:
+    return os.path.join(state, "record.jsonl")
+
+
+def read_record(state: str) -> History:
+    """Reads a record. A last line that is torn counts as not written, and so does a damaged one."""
+    history = History()
+    try:
+        lines = open(record_path(state), "rb")
+    except FileNotFoundError:
+        return history
+    with lines:
+        for number, line in enumerate(lines, 1):
+            if not line.endswith(b"\n"):
+                history.torn = len(line)
+                break
+            history.whole += len(line)
+            try:
+                read_line(history, json.loads(line))
+            except (ValueError, KeyError, TypeError, AttributeError):
+                history.damaged.append(number)
+    return history
+
+
+def read_line(history: History, line: dict) -> None:
+    if "fleet" in line:
+        history.fleet, history.work = line["fleet"], line["work"]
+    elif "run" in line:
+        history.runs.append(line)
+        history.has_ended = False
+    elif "end" in line:
+        history.runs[-1]["end"] = line["end"]
+        history.has_ended = True
+    elif "total" in line:
+        history.runs[-1].update(line)
+    else:
+        history.entries[line["path"]] = Entry(
+            line["state"], line.get("size"), line.get("key"), line.get("source_size"), line.get("source_mtime"),
+            line.get("line"), line.get("target", ""),
+        )
+        count(history.runs[-1] if history.runs else {}, line)
+
+
+def count(run: dict, line: dict) -> None:
+    """Keeps the sums that the speed of a run is computed of."""
+    run["last"] = max(run.get("last", 0.0), line.get("time", 0.0))
+    if line["state"] == "done":
+        run["files"] = run.get("files", 0) + 1
+        run["done_bytes"] = run.get("done_bytes", 0) + (line.get("size") or 0)
+
+
+class Lock:
+    """The one driver of a fleet. The lock ends with its process, however that ends."""
+
+    def __init__(self, state: str):
+        self.path = os.path.join(state, "lock")
+        os.makedirs(state, mode=0o700, exist_ok=True)
+        self.fd = os.open(self.path, os.O_CREAT | os.O_RDWR | os.O_CLOEXEC, 0o600)
+        # A worker that looks whether its driver lives holds the lock for a moment.
+        for _ in range(LOCK_TRIES):
+            try:
+                fcntl.flock(self.fd, fcntl.LOCK_EX | fcntl.LOCK_NB)
+                break
+            except BlockingIOError:
+                time.sleep(0.05)
+        else:
+            holder = os.pread(self.fd, 200, 0).decode(errors="replace").strip()
+            os.close(self.fd)
+            raise Refused(f"{self.path}: another driver is at work ({holder}): wait for it, or see `fleet status`")
+        os.ftruncate(self.fd, 0)
+        os.pwrite(self.fd, f"process {os.getpid()} of {socket.gethostname()}\n".encode(), 0)
+
+    def close(self) -> None:
+        os.ftruncate(self.fd, 0)
+        os.close(self.fd)
+
+
+def is_driven(state: str) -> bool:
+    """Whether a driver holds the lock."""
+    try:
+        fd = os.open(os.path.join(state, "lock"), os.O_RDONLY | os.O_CLOEXEC)
+    except FileNotFoundError:
+        return False
+    try:
+        fcntl.flock(fd, fcntl.LOCK_SH | fcntl.LOCK_NB)
+        return False
+    except BlockingIOError:
+        return True
+    finally:
+        os.close(fd)
+
+
+class Record:
+    """A record that is appended to. The lock is held."""
+
+    def __init__(self, manifest: Manifest, again: bool = False):
+        self.path = record_path(manifest.state)
+        if again and os.path.exists(self.path):
+            os.replace(self.path, f"{self.path}.{int(time.time())}.{secrets.token_hex(2)}")
+        self.history = read_record(manifest.state)
+        self.check_work(work_of(manifest))
+        self.file = os.open(self.path, os.O_CREAT | os.O_WRONLY | os.O_CLOEXEC, 0o600)
+        os.ftruncate(self.file, self.history.whole)
+        os.lseek(self.file, 0, os.SEEK_END)
+        self.synced = 0.0
+        self.run = secrets.token_hex(8)
+        if not self.history.fleet:
+            self.history.fleet = secrets.token_hex(4)
+            self.append([{"fleet": self.history.fleet, "version": 1, "work": work_of(manifest)}])
+        self.append([{"run": self.run, "time": round(time.time(), 3)}])
+
+    def check_work(self, work: dict) -> None:
+        held = self.history.work
+        for word in sorted(held.keys() | work.keys()):
+            if held and held.get(word) != work.get(word):
+                raise FleetError(f"{self.path}: it is the record of other work, whose `{word}` is {held.get(word)!r}: name another `state`, or run with --again")
+
+    def append(self, lines: list[dict]) -> None:
+        data = memoryview("".join(json.dumps(it, separators=(",", ":")) + "\n" for it in lines).encode())
+        while data:
+            data = data[os.write(self.file, data) :]
+        if time.monotonic() - self.synced > SYNC_SECONDS:
+            self.sync()
+
+    def sync(self) -> None:
+        os.fsync(self.file)
+        self.synced = time.monotonic()
+
+    def add(self, outcomes: list[Outcome]) -> None:
+        self.append([it.record() for it in outcomes])
+
+    def end(self, counts: dict) -> None:
+        self.append([{"end": counts}])
+        self.sync()
+
+    def close(self) -> None:
+        os.close(self.file)
