@@ -14,6 +14,8 @@ from tink_fleet.errors import FleetError, Refused
 AHEAD = 4
 PATIENCE_SECONDS = 600.0
 CONNECT_SECONDS = 20
+POLL_SECONDS = 0.005
+LOOK_SECONDS = 2.0
 
 
 def check_address(address: str) -> None:
@@ -88,36 +90,50 @@ class DaskEngine:
         """Does calls. Gives each with its results, in the order in which they end; None where its workers died."""
         from distributed import as_completed
 
-        waiting = iter(given)
-        out = {}
-        ended = as_completed(with_results=True, raise_errors=False)
-
-        def send() -> bool:
-            call = next(waiting, None)
-            if call is not None:
-                future = self.submit(call)
-                out[future.key] = (call, future)
-                ended.add(future)
-            return call is not None
-
+        waiting, sent = iter(given), Sent(as_completed(with_results=True, raise_errors=False))
         try:
-            while len(out) < AHEAD * self.slots + 8 and send():
+            while sent.count() < AHEAD * self.slots + 8 and self.send(next(waiting, None), sent):
                 pass
-            for future, result in ended:
-                call, _ = out.pop(future.key)
-                yield call, self.results(future, result)
-                send()
+            while sent.count():
+                for future, result in sent.ended.next_batch(block=False):
+                    call = sent.take(future)
+                    if call is not None:
+                        yield call, self.results(future, result)
+                        self.send(next(waiting, None), sent)
+                if not sent.ended.has_ready():
+                    time.sleep(POLL_SECONDS)
+                    self.free_stranded(sent)
         finally:
-            for _, future in out.values():
-                future.cancel()
+            sent.cancel()
 
-    def submit(self, call: dict):
-        self.number += 1
-        key = f"tink-fleet-{self.token}-{self.number}"
+    def send(self, call: dict | None, sent: "Sent") -> bool:
+        """Submits a call, to another worker than those that it is to avoid, where there is one."""
+        if call is None:
+            return False
         there = self.client.nthreads()
         better = sorted(there.keys() - set(call.get("avoid", ())))
-        workers = better if 0 < len(better) < len(there) else None
-        return self.client.submit(perform_here, call, key=key, pure=False, workers=workers, allow_other_workers=True)
+        only = better if 0 < len(better) < len(there) else None
+        self.number += 1
+        key = f"tink-fleet-{self.token}-{self.number}"
+        sent.put(call, self.client.submit(perform_here, call, key=key, pure=False, workers=only), only)
+        return True
+
+    def free_stranded(self, sent: "Sent") -> None:
+        """Submits again, to any worker, the calls whose workers have all left."""
+        if self.client.status != "running":
+            raise self.gone()
+        if time.monotonic() < sent.looked + LOOK_SECONDS or not any(only for _, _, only in sent.out.values()):
+            return
+        sent.looked = time.monotonic()
+        there = self.client.nthreads().keys()
+        for key, (call, future, only) in list(sent.out.items()):
+            if only and not there & set(only):
+                del sent.out[key]
+                future.cancel()
+                self.send({**call, "avoid": []}, sent)
+
+    def gone(self) -> FleetError:
+        return FleetError(f"{self.address}: the scheduler is gone: start it again, and run again; what is done stays done")
 
     def results(self, future, result) -> list[dict] | None:
         from distributed import KilledWorker
@@ -125,7 +141,7 @@ class DaskEngine:
         if future.status == "finished":
             return result
         if future.status == "cancelled" or self.client.status != "running":
-            raise FleetError(f"{self.address}: the scheduler is gone: start it again, and run again; what is done stays done")
+            raise self.gone()
         error = result[1] if isinstance(result, tuple) else result
         if isinstance(error, KilledWorker):
             return None
@@ -133,6 +149,30 @@ class DaskEngine:
 
     def close(self) -> None:
         self.client.close()
+
+
+class Sent:
+    """The calls that are out, by the keys of their futures, and the only workers that each may go to."""
+
+    def __init__(self, ended):
+        self.ended = ended
+        self.out: dict[str, tuple] = {}
+        self.looked = 0.0
+
+    def count(self) -> int:
+        return len(self.out)
+
+    def put(self, call: dict, future, only: list[str] | None) -> None:
+        self.out[future.key] = (call, future, only)
+        self.ended.add(future)
+
+    def take(self, future) -> dict | None:
+        """The call of a future that ended; None where it was submitted again."""
+        return self.out.pop(future.key, (None,))[0]
+
+    def cancel(self) -> None:
+        for _, future, _ in self.out.values():
+            future.cancel()
 
 
 def runs_here() -> dict:

@@ -82,11 +82,11 @@ def read_manifest(file: str) -> Manifest:
         raise FleetError(f"{file}: {e.strerror}: give the path of a manifest") from e
     except (tomllib.TOMLDecodeError, UnicodeDecodeError) as e:
         raise FleetError(f"{file}: it is no TOML: {e}") from e
-    known = {it.name: it.type for it in fields(Manifest) if it.name != "file"}
+    known = {it.name: getattr(it.type, "__name__", str(it.type)) for it in fields(Manifest) if it.name != "file"}
     for word, value in words.items():
         if word not in known:
             raise FleetError(f"{file}: unknown word `{word}`: the words are {', '.join(known)}")
-        if not has_type(value, str(known[word])):
+        if not has_type(value, known[word]):
             raise FleetError(f"{file}: `{word}` has a value of the wrong type: {value!r}")
     for word in ("operation", "source"):
         if word not in words:

@@ -1,0 +1,33 @@
+"""fleet_all.py PROGRAM [NAME ..]: all tests of fleet, or those whose names contain a NAME."""
+import os
+import sys
+import unittest
+
+HERE = os.path.dirname(os.path.abspath(__file__))
+sys.path[:0] = [HERE, os.path.join(os.path.dirname(HERE), "fleet")]
+sys.dont_write_bytecode = True
+os.environ["TINK"] = sys.argv[1]
+
+MODULES = ("fleet_units", "fleet_parts", "fleet_runs", "fleet_rotations", "fleet_clusters")
+
+
+def chosen(suite: unittest.TestSuite, names: list[str]):
+    for test in suite:
+        if isinstance(test, unittest.TestSuite):
+            yield from chosen(test, names)
+        elif not names or any(name in test.id() for name in names):
+            yield test
+
+
+def main() -> int:
+    loaded = unittest.TestLoader().loadTestsFromNames(MODULES)
+    result = unittest.TextTestRunner(stream=sys.stdout, verbosity=2).run(unittest.TestSuite(chosen(loaded, sys.argv[2:])))
+    for test, why in result.skipped:
+        print(f"skipped: {test.id()}: {why}")
+    bad = len(result.failures) + len(result.errors)
+    print(f"{result.testsRun - bad - len(result.skipped)} passed, {bad} failed")
+    return int(bad > 0)
+
+
+if __name__ == "__main__":
+    sys.exit(main())

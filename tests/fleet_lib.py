@@ -1,0 +1,210 @@
+"""What the tests of fleet share: a folder with keys and files, runs of fleet, kills, and what has to hold afterwards."""
+import hashlib
+import json
+import os
+import random
+import shutil
+import signal
+import subprocess
+import sys
+import tempfile
+import threading
+import time
+import unittest
+
+from tink_fleet import program
+
+ROOT = os.path.dirname(os.path.dirname(os.path.abspath(__file__)))
+FLEET = os.path.join(ROOT, "fleet", "fleet")
+TINK = os.environ["TINK"]
+SECONDS = 120
+
+
+def needs(*names: str) -> None:
+    """Skips the test where the program has not these commands."""
+    missing = [name for name in names if name not in program.commands(TINK)]
+    if missing:
+        raise unittest.SkipTest(f"{TINK} has no {', '.join(missing)}")
+
+
+def tink(*words: str, status: int = 0, **more) -> bytes:
+    done = subprocess.run([TINK, *words], capture_output=True, check=False, **more)
+    assert done.returncode == status, f"{words}: status {done.returncode}: {done.stderr.decode()}"
+    return done.stdout
+
+
+def sha256(data: bytes) -> str:
+    return hashlib.sha256(data).hexdigest()
+
+
+def read(path: str) -> bytes:
+    with open(path, "rb") as file:
+        return file.read()
+
+
+def write(path: str, data: bytes) -> None:
+    os.makedirs(os.path.dirname(path), exist_ok=True)
+    with open(path, "wb") as file:
+        file.write(data)
+
+
+def files_below(folder: str) -> list[str]:
+    return sorted(os.path.relpath(os.path.join(at, name), folder) for at, _, names in os.walk(folder) for name in names)
+
+
+class Yard(unittest.TestCase):
+    """A folder for a test, with a file of keys."""
+
+    template = "AES128_GCM_HKDF_4KB"
+    engine = ("--workers", "3")
+
+    def setUp(self) -> None:
+        self.folder = tempfile.mkdtemp(prefix="fleet-test-")
+        self.addCleanup(shutil.rmtree, self.folder, ignore_errors=True)
+        self.random = random.Random(self.id())
+        tink("new", self.template, "-o", self.at("keys"))
+
+    def at(self, *names: str) -> str:
+        return os.path.join(self.folder, *names)
+
+    def make_texts(self, count: int, size: int) -> dict[str, bytes]:
+        """Files of about a size, some in folders, with names that have blanks and letters of other scripts."""
+        texts = {}
+        for number in range(count):
+            name = f"part {number % 7}/é{number}.txt" if number % 3 else f"{number}.txt"
+            texts[name] = self.random.randbytes(self.random.randrange(size // 2, size + 1))
+            write(self.at("plain", name), texts[name])
+        return texts
+
+    def encrypt_all(self, texts: dict[str, bytes], folder: str = "sealed", keys: str = "keys") -> None:
+        for name in texts:
+            os.makedirs(os.path.dirname(self.at(folder, name)), exist_ok=True)
+            tink("encrypt", "-k", self.at(keys), "--aad", name, "-o", self.at(folder, f"{name}.tink"), self.at("plain", name))
+
+    def manifest(self, name: str, **words) -> str:
+        words = {"keys": "keys", "aad": "{path}"} | words
+        lines = [f"{word} = {json.dumps(value)}" for word, value in words.items() if value is not None]
+        write(self.at(name), "\n".join(lines).encode() + b"\n")
+        return self.at(name)
+
+    def start(self, *words: str, **more) -> subprocess.Popen:
+        return subprocess.Popen([sys.executable, FLEET, *words], stdout=subprocess.PIPE, stderr=subprocess.PIPE, text=True, **more)
+
+    def fleet(self, *words: str, status: int = 0, says: str = "", **more) -> str:
+        """Runs fleet, and compares its status and a part of what it says."""
+        done = subprocess.run([sys.executable, FLEET, *words], capture_output=True, text=True, timeout=SECONDS, check=False, **more)
+        both = done.stdout + done.stderr
+        self.assertEqual(done.returncode, status, both)
+        self.assertIn(says, both)
+        self.assertNotIn("Traceback", both)
+        return both
+
+    def run_all(self, manifest: str, status: int = 0, says: str = "", **more) -> str:
+        return self.fleet("run", manifest, *self.engine, status=status, says=says, **more)
+
+    def record(self, manifest: str) -> dict[str, dict]:
+        """The last line of each path."""
+        found = {}
+        for line in read(os.path.splitext(manifest)[0] + ".fleet/record.jsonl").splitlines():
+            made = json.loads(line)
+            if "path" in made:
+                found[made["path"]] = made
+        return found
+
+    def expect_no_drafts(self, folder: str) -> None:
+        left = [it for it in files_below(folder) if ".fleet-" in it or it.endswith(".part")]
+        self.assertEqual(left, [], "no draft is left")
+
+    def opens_to(self, path: str, text: bytes, aad: str, keys: str = "keys") -> bool:
+        done = subprocess.run([TINK, "decrypt", "-k", self.at(keys), "--aad", aad, path], capture_output=True, check=False)
+        return done.returncode == 0 and done.stdout == text
+
+    def expect_streams(self, manifest: str, texts: dict[str, bytes], folder: str, *, keys: str = "keys", old: dict[str, bytes] | None = None, all_done: bool = True) -> None:
+        """Each target is absent, old, or exactly a stream of its text, and the record says which."""
+        record, old = self.record(manifest), old or {}
+        for name, text in texts.items():
+            path = self.at(folder, f"{name}.tink")
+            entry = record.get(name) or record.get(f"{name}.tink")
+            there = read(path) if os.path.exists(path) else None
+            if entry is not None and entry["state"] == "done":
+                self.assertIsNotNone(there, f"{name}: done and absent")
+                self.assertEqual((len(there), sha256(there)), (entry["size"], entry["sha256"]), f"{name}: another file than the record says")
+                self.assertTrue(self.opens_to(path, text, name, keys), f"{name}: done and no stream of its text")
+            elif entry is not None:
+                self.assertEqual(entry["target"], "absent" if there is None else "old", f"{name}: {entry}")
+                self.assertEqual(there, old.get(name), f"{name}: failed and changed")
+            else:
+                self.assertTrue(there is None or there == old.get(name) or self.opens_to(path, text, name, keys), f"{name}: neither absent nor old nor whole")
+            if all_done:
+                self.assertEqual(entry and entry["state"], "done", f"{name}: {entry}")
+        self.expect_no_drafts(self.at(folder))
+
+    def expect_texts(self, manifest: str, texts: dict[str, bytes], folder: str) -> None:
+        """Each target is exactly its text, and the record has the hash of its ciphertext."""
+        record = self.record(manifest)
+        for name, text in texts.items():
+            entry = record[f"{name}.tink"]
+            self.assertEqual(entry["state"], "done", f"{name}: {entry}")
+            self.assertEqual(read(self.at(folder, name)), text, f"{name}: another text")
+            self.assertEqual(entry["size"], len(text))
+        self.expect_no_drafts(self.at(folder))
+
+
+def processes() -> list[tuple[int, int, str]]:
+    """The id, the parent and the command line of each process."""
+    found = []
+    for name in filter(str.isdigit, os.listdir("/proc")):
+        try:
+            stat = read(f"/proc/{name}/stat").decode()
+            line = read(f"/proc/{name}/cmdline").replace(b"\0", b" ").decode(errors="replace")
+        except (FileNotFoundError, ProcessLookupError):
+            continue
+        found.append((int(name), int(stat.rsplit(")", 1)[1].split()[1]), line))
+    return found
+
+
+def local_workers(state: str) -> list[int]:
+    """The workers that GNU parallel started for a state folder of a test."""
+    return [pid for pid, _, line in processes() if f"{FLEET} worker {state} " in line and "parallel" not in line and not line.startswith("/bin/sh")]
+
+
+class Killer:
+    """Kills workers at random, at most so many, while a run goes on."""
+
+    def __init__(self, workers, most: int, pause: float, seed: str):
+        self.workers, self.most, self.pause = workers, most, pause
+        self.random = random.Random(seed)
+        self.killed = 0
+        self.is_ended = threading.Event()
+        self.thread = threading.Thread(target=self.work, daemon=True)
+
+    def work(self) -> None:
+        while self.killed < self.most and not self.is_ended.wait(self.pause * self.random.random()):
+            found = self.workers()
+            if found:
+                try:
+                    os.kill(self.random.choice(found), signal.SIGKILL)
+                    self.killed += 1
+                except ProcessLookupError:
+                    pass
+
+    def __enter__(self) -> "Killer":
+        self.thread.start()
+        return self
+
+    def __exit__(self, *_: object) -> None:
+        self.is_ended.set()
+        self.thread.join()
+
+
+def wait_for(holds, seconds: float = 60.0) -> bool:
+    end = time.monotonic() + seconds
+    while time.monotonic() < end:
+        if holds():
+            return True
+        time.sleep(0.02)
+    return False
+
+
+def lines_of(path: str) -> int:
+    return read(path).count(b'"path"') if os.path.exists(path) else 0

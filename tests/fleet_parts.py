@@ -1,0 +1,91 @@
+"""One large file in parts: the text equals the sequential one over the edges of parts and segments."""
+import os
+
+from fleet_lib import TINK, Yard, needs, read, tink, write
+from tink_fleet import parts
+from tink_fleet.errors import TaskError
+from tink_fleet.tasks import Job, Outcome, Task, Worker
+
+SEGMENT = 4096
+
+
+class Parts(Yard):
+    def setUp(self) -> None:
+        super().setUp()
+        needs("info")
+        self.worker = Worker(Job("f", "r", "decrypt", TINK, self.at("keys"), None, None, None))
+
+    def sealed(self, text: bytes) -> Task:
+        write(self.at("text"), text)
+        tink("encrypt", "-k", self.at("keys"), "--aad", "t", "-o", self.at("sealed"), self.at("text"))
+        found = os.stat(self.at("sealed"))
+        return Task("sealed", self.at("sealed"), self.at("out"), "t", "t", found.st_size, found.st_mtime_ns, True)
+
+    def decrypt(self, task: Task, size: int) -> Outcome:
+        plan = parts.probe(self.worker, task)
+        cuts = parts.ranges(plan.plaintext, size)
+        self.random.shuffle(cuts)
+        for start, length in cuts:
+            parts.part(self.worker, task, plan, start, length)
+        outcome = Outcome("sealed", "done", 0.0, 0.0, "", "new")
+        parts.finish(self.worker, task, plan, outcome)
+        return outcome
+
+    def test_the_text_equals_the_sequential_one(self):
+        first, later = SEGMENT - 16 - 24, SEGMENT - 16
+        whole = self.random.randbytes(first + 3 * later + 1)
+        for size in (0, 1, first - 1, first, first + 1, first + later, first + later + 1, len(whole)):
+            task = self.sealed(whole[:size])
+            for part in (first, later, SEGMENT + 1, 2 * later - 1, size or 1):
+                outcome = self.decrypt(task, part)
+                self.assertEqual(read(self.at("out")), whole[:size], f"{size} bytes by parts of {part}")
+                self.assertEqual(outcome.size, size)
+        self.assertEqual(tink("decrypt", "-k", self.at("keys"), "--aad", "t", self.at("sealed")), whole)
+        self.expect_no_drafts(self.folder)
+
+    def test_ranges_cover_without_gap_or_overlap(self):
+        for plaintext in (0, 1, 99, 100, 101, 250):
+            cuts = parts.ranges(plaintext, 100)
+            self.assertEqual([at for start, length in cuts for at in range(start, start + length)], list(range(plaintext)))
+        self.assertEqual(parts.part_size(2 << 30, 4, None), 128 << 20)
+        self.assertEqual(parts.part_size(1, 4, None), parts.LEAST_PART)
+        self.assertEqual(parts.part_size(1 << 50, 4, None), parts.MOST_PART)
+
+    def test_a_cut_stream_is_refused_before_any_part(self):
+        task = self.sealed(self.random.randbytes(20000))
+        write(self.at("sealed"), read(self.at("sealed"))[:-1])
+        with self.assertRaises(TaskError):
+            parts.probe(self.worker, task)
+        self.expect_no_drafts(self.folder)
+
+    def test_a_damaged_segment_fails_its_part_alone(self):
+        task = self.sealed(self.random.randbytes(20000))
+        stream = bytearray(read(self.at("sealed")))
+        stream[SEGMENT + 100] ^= 1
+        write(self.at("sealed"), bytes(stream))
+        plan = parts.probe(self.worker, task)
+        with self.assertRaisesRegex(TaskError, f"{self.at('sealed')}: bad segment 1"):
+            parts.part(self.worker, task, plan, 5000, 5000)
+        parts.part(self.worker, task, plan, 12000, 8000)
+        parts.discard(plan)
+        self.assertFalse(os.path.exists(self.at("out")))
+        self.expect_no_drafts(self.folder)
+
+    def test_parts_of_two_streams_are_not_mixed(self):
+        text = self.random.randbytes(20000)
+        task = self.sealed(text)
+        plan = parts.probe(self.worker, task)
+        parts.part(self.worker, task, plan, 0, 10000)
+        os.remove(self.at("sealed"))
+        self.sealed(text[::-1])
+        with self.assertRaisesRegex(TaskError, "changed while it was read"):
+            parts.part(self.worker, task, plan, 10000, 10000)
+
+    def test_a_worker_that_died_after_the_end_is_understood(self):
+        task = self.sealed(b"x" * 9000)
+        plan = parts.probe(self.worker, task)
+        parts.part(self.worker, task, plan, 0, 9000)
+        for _ in range(2):
+            outcome = Outcome("sealed", "done", 0.0, 0.0, "", "new")
+            parts.finish(self.worker, task, plan, outcome)
+            self.assertEqual((outcome.size, read(self.at("out"))), (9000, b"x" * 9000))

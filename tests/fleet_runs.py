@@ -1,0 +1,296 @@
+"""Runs on one machine, by GNU parallel: what is made, killed, full, damaged, refused."""
+import json
+import os
+import shutil
+import signal
+import subprocess
+import sys
+import time
+
+from fleet_lib import FLEET, TINK, Killer, Yard, lines_of, local_workers, needs, read, sha256, tink, wait_for, write
+
+
+class ParallelYard(Yard):
+    def setUp(self) -> None:
+        super().setUp()
+        if shutil.which("parallel") is None:
+            self.skipTest("GNU parallel is not installed")
+
+    def workers(self, manifest: str) -> list[int]:
+        return local_workers(os.path.splitext(manifest)[0] + ".fleet")
+
+
+class Operations(ParallelYard):
+    def test_each_operation_over_names_of_all_kinds(self):
+        texts = self.make_texts(12, 9000)
+        texts["empty"] = b""
+        texts["-o"] = b"dash"
+        for name in ("empty", "-o"):
+            write(self.at("plain", name), texts[name])
+        sealed = self.manifest("seal.toml", operation="encrypt", source="plain", target="sealed")
+        self.run_all(sealed, says=f"{len(texts)} done, 0 failed")
+        self.expect_streams(sealed, texts, "sealed")
+        before = {name: os.stat(self.at("sealed", f"{name}.tink")).st_mtime_ns for name in texts}
+        self.run_all(sealed, says=f"0 done, 0 failed, {len(texts)} were done before")
+        self.assertEqual(before, {name: os.stat(self.at("sealed", f"{name}.tink")).st_mtime_ns for name in texts})
+        opened = self.manifest("open.toml", operation="decrypt", source="sealed", target="again")
+        self.run_all(opened)
+        self.expect_texts(opened, texts, "again")
+        tink("new", self.template, "-o", self.at("new"))
+        moved = self.manifest("move.toml", operation="rewrap", source="sealed", target="moved", to_keys="new")
+        self.run_all(moved)
+        self.expect_streams(moved, texts, "moved", keys="new")
+        self.expect_streams(sealed, texts, "sealed")
+        self.assertEqual(json.loads(self.fleet("status", moved, "--json"))["done"], len(texts))
+
+    def test_a_source_that_changed_is_done_again(self):
+        texts = self.make_texts(5, 3000)
+        sealed = self.manifest("seal.toml", operation="encrypt", source="plain", target="sealed")
+        self.run_all(sealed)
+        texts["0.txt"] = b"another text"
+        write(self.at("plain", "0.txt"), texts["0.txt"])
+        os.remove(self.at("sealed", "3.txt.tink"))
+        self.run_all(sealed, says="2 done, 0 failed, 3 were done before")
+        self.expect_streams(sealed, texts, "sealed")
+
+    def test_a_check_writes_nothing_and_names_the_damaged(self):
+        needs("check")
+        texts = self.make_texts(10, 9000)
+        self.encrypt_all(texts)
+        before = {name: read(self.at("sealed", f"{name}.tink")) for name in texts}
+        checked = self.manifest("check.toml", operation="check", source="sealed")
+        self.run_all(checked, says="10 done, 0 failed")
+        for name, entry in self.record(checked).items():
+            self.assertEqual((entry["sha256"], entry["target"]), (sha256(before[name.removesuffix(".tink")]), "same"))
+        self.assertEqual(before, {name: read(self.at("sealed", f"{name}.tink")) for name in texts})
+
+    def test_a_target_that_exists(self):
+        texts = self.make_texts(6, 3000)
+        self.encrypt_all({name: texts[name] for name in ("0.txt", "3.txt")})
+        right = read(self.at("sealed", "0.txt.tink"))
+        write(self.at("plain", "3.txt"), b"not what was encrypted")
+        texts["3.txt"] = b"not what was encrypted"
+        wrong = read(self.at("sealed", "3.txt.tink"))
+        write(self.at("sealed", "part 1/é1.txt.tink"), b"no stream")
+        sealed = self.manifest("seal.toml", operation="encrypt", source="plain", target="sealed")
+        said = self.run_all(sealed, status=1, says="4 done, 2 failed")
+        self.assertIn("3.txt.tink: it is there already", said)
+        self.expect_streams(sealed, texts, "sealed", old={"3.txt": wrong, "part 1/é1.txt": b"no stream"}, all_done=False)
+        self.assertEqual(read(self.at("sealed", "0.txt.tink")), right, "a target that has the text stays")
+        self.assertTrue(self.record(sealed)["0.txt"]["adopted"])
+        sealed = self.manifest("seal.toml", operation="encrypt", source="plain", target="sealed", replace=True)
+        self.run_all(sealed, says="2 done, 0 failed, 4 were done before")
+        self.expect_streams(sealed, texts, "sealed")
+
+    def test_one_damaged_file_among_a_thousand_alone_fails_and_is_named(self):
+        texts = {f"{number // 100}/{number}": self.random.randbytes(4096) for number in range(1000)}
+        for name, text in texts.items():
+            write(self.at("plain", name), text)
+        sealed = self.manifest("seal.toml", operation="encrypt", source="plain", target="sealed")
+        self.run_all(sealed, says="1000 done, 0 failed")
+        stream = bytearray(read(self.at("sealed/7/777.tink")))
+        stream[-1] ^= 1
+        write(self.at("sealed/7/777.tink"), bytes(stream))
+        opened = self.manifest("open.toml", operation="decrypt", source="sealed", target="again")
+        said = self.run_all(opened, status=1, says="999 done, 1 failed")
+        self.assertIn("7/777.tink: tink: " + self.at("sealed/7/777.tink") + ": ", said)
+        self.assertFalse(os.path.exists(self.at("again/7/777")))
+        del texts["7/777"]
+        self.expect_texts(opened, texts, "again")
+        status = json.loads(self.fleet("status", opened, "--json", status=1))
+        self.assertEqual((status["done"], status["failed"], status["left"]), (999, 1, 0))
+        self.assertEqual(list(status["failures"]), ["7/777.tink"])
+
+    def test_a_large_file_goes_in_parts(self):
+        needs("info")
+        texts = {"large": self.random.randbytes(300_000), "small": b"small"}
+        for name, text in texts.items():
+            write(self.at("plain", name), text)
+        self.encrypt_all(texts)
+        opened = self.manifest("open.toml", operation="decrypt", source="sealed", target="again", split_bytes=100_000, part_bytes=50_000)
+        self.run_all(opened, says="2 done, 0 failed")
+        self.assertEqual({name: read(self.at("again", name)) for name in texts}, texts)
+        entry = self.record(opened)["large.tink"]
+        self.assertEqual((entry["size"], entry["front"]), (300_000, read(self.at("sealed/large.tink"))[:45].hex()))
+        stream = bytearray(read(self.at("sealed/large.tink")))
+        stream[150_000] ^= 1
+        write(self.at("sealed/large.tink"), bytes(stream))
+        shutil.rmtree(self.at("again"))
+        self.run_all(opened, status=1, says="large.tink: bad segment")
+        self.assertFalse(os.path.exists(self.at("again/large")))
+        self.expect_no_drafts(self.at("again"))
+
+
+class Keys(ParallelYard):
+    def secrets(self) -> list[bytes]:
+        """The material of the keys, as the file of keys spells it."""
+        return [it.encode() for it in json.dumps(json.loads(read(self.at("keys")))).split('"') if len(it) > 20 and "/" not in it[:4] and "google" not in it]
+
+    def test_keys_on_standard_input_are_nowhere_else(self):
+        texts = self.make_texts(20, 3000)
+        sealed = self.manifest("seal.toml", operation="encrypt", source="plain", target="sealed", keys=None)
+        os.makedirs(self.at("seal.fleet"))
+        with open(self.at("keys"), "rb") as keys:
+            running = self.start("run", sealed, "--workers", "2", "-k", "-", stdin=keys)
+            seen = []
+            while running.poll() is None:
+                for name in filter(str.isdigit, os.listdir("/proc")):
+                    try:
+                        seen.append(read(f"/proc/{name}/cmdline"))
+                    except (FileNotFoundError, ProcessLookupError):
+                        pass
+                for at, _, names in os.walk(self.at("seal.fleet")):
+                    for name in names:
+                        try:
+                            seen.append(read(os.path.join(at, name)))
+                        except FileNotFoundError:
+                            pass
+            out, err = running.communicate()
+        self.assertEqual(running.returncode, 0, out + err)
+        self.expect_streams(sealed, texts, "sealed")
+        self.assertTrue(self.secrets())
+        for secret in self.secrets():
+            self.assertFalse(any(secret in it for it in seen))
+            self.assertNotIn(secret.decode(), out + err)
+
+    def test_keys_on_standard_input_do_not_go_to_a_cluster(self):
+        sealed = self.manifest("seal.toml", operation="encrypt", source="plain", target="sealed", keys=None)
+        self.fleet("run", sealed, "-k", "-", "--scheduler", "tcp://127.0.0.1:9", status=2, says="keys on standard input stay on this machine", input="x")
+        self.fleet("run", sealed, status=2, says="`keys` is missing")
+
+    def test_wrapped_keys_and_a_master(self):
+        needs("--master")
+        tink("new", "AES256_GCM", "-o", self.at("master"))
+        tink("wrap", "-k", self.at("master"), "-o", self.at("wrapped"), self.at("keys"))
+        texts = self.make_texts(8, 3000)
+        sealed = self.manifest("seal.toml", operation="encrypt", source="plain", target="sealed", keys="wrapped", master="master")
+        self.run_all(sealed)
+        self.expect_streams(sealed, texts, "sealed")
+        tink("new", "AES256_GCM", "-o", self.at("other"))
+        opened = self.manifest("open.toml", operation="decrypt", source="sealed", target="again", keys="wrapped")
+        self.fleet("run", opened, "--master", self.at("other"), status=2, says="master failed")
+        self.fleet("run", opened, "--master", self.at("master"))
+        self.expect_texts(opened, texts, "again")
+
+    def test_a_program_that_is_too_old_is_named(self):
+        write(self.at("old"), f"#!/bin/sh\n[ $1 = help ] && exit 0\nexec {TINK} \"$@\"\n".encode())
+        os.chmod(self.at("old"), 0o700)
+        write(self.at("sealed/x"), b"")
+        checked = self.manifest("check.toml", operation="check", source="sealed", program=self.at("old"))
+        self.run_all(checked, status=2, says="is too old for this")
+
+    def test_keys_that_are_not_there_are_named(self):
+        write(self.at("plain/x"), b"")
+        sealed = self.manifest("seal.toml", operation="encrypt", source="plain", target="sealed", keys="none")
+        self.run_all(sealed, status=2, says=f"{self.at('none')}: No such file")
+
+
+class Deaths(ParallelYard):
+    """Workers are killed at random, and drivers."""
+
+    def with_kills(self, manifest: str, kills: int = 6) -> None:
+        running = self.start("run", manifest, *self.engine)
+        with Killer(lambda: self.workers(manifest), kills, 0.4, self.id()) as killer:
+            out, err = running.communicate(timeout=120)
+        self.assertEqual(running.returncode, 0, out + err)
+        self.assertGreater(killer.killed, 0, "no worker was killed")
+
+    def test_workers_are_killed_in_each_operation(self):
+        texts = self.make_texts(150, 60_000)
+        sealed = self.manifest("seal.toml", operation="encrypt", source="plain", target="sealed", batch_files=12)
+        self.with_kills(sealed)
+        self.expect_streams(sealed, texts, "sealed")
+        opened = self.manifest("open.toml", operation="decrypt", source="sealed", target="again", batch_files=12)
+        self.with_kills(opened)
+        self.expect_texts(opened, texts, "again")
+        tink("new", self.template, "-o", self.at("new"))
+        moved = self.manifest("move.toml", operation="rewrap", source="sealed", to_keys="new", batch_files=12)
+        self.with_kills(moved)
+        self.expect_streams(moved, texts, "sealed", keys="new")
+
+    def test_workers_are_killed_in_a_check(self):
+        needs("check")
+        texts = self.make_texts(100, 60_000)
+        self.encrypt_all(texts)
+        checked = self.manifest("check.toml", operation="check", source="sealed", batch_files=12)
+        self.with_kills(checked)
+        self.assertEqual({entry["sha256"] for entry in self.record(checked).values()}, {sha256(read(self.at("sealed", f"{name}.tink"))) for name in texts})
+
+    def test_workers_are_killed_in_parts(self):
+        needs("info")
+        write(self.at("plain/large"), self.random.randbytes(8 << 20))
+        self.encrypt_all({"large": b""})
+        opened = self.manifest("open.toml", operation="decrypt", source="sealed", target="again", split_bytes=1, part_bytes=1 << 20)
+        self.with_kills(opened, kills=3)
+        self.assertEqual(read(self.at("again/large")), read(self.at("plain/large")))
+        self.expect_no_drafts(self.at("again"))
+
+    def test_the_driver_is_killed_and_started_again(self):
+        texts = self.make_texts(150, 60_000)
+        sealed = self.manifest("seal.toml", operation="encrypt", source="plain", target="sealed", batch_files=6)
+        self.die_and_go_on(sealed, texts, "sealed", "keys", {})
+        tink("new", self.template, "-o", self.at("new"))
+        moved = self.manifest("move.toml", operation="rewrap", source="sealed", to_keys="new", batch_files=6)
+        old = {name: read(self.at("sealed", f"{name}.tink")) for name in texts}
+        self.die_and_go_on(moved, texts, "sealed", "new", old)
+
+    def die_and_go_on(self, manifest: str, texts: dict, folder: str, keys: str, old: dict) -> None:
+        record = os.path.splitext(manifest)[0] + ".fleet/record.jsonl"
+        for lines in (5, 40):
+            running = self.start("run", manifest, *self.engine)
+            self.assertTrue(wait_for(lambda: lines_of(record) >= lines), "the driver records nothing")
+            running.send_signal(signal.SIGKILL)
+            running.communicate()
+            with open(record, "ab") as torn:
+                torn.write(b'{"path":"0.t')
+            status = json.loads(self.fleet("status", manifest, "--json"))
+            self.assertEqual((status["done"] >= lines, status["is_running"]), (True, False))
+        said = self.run_all(manifest)
+        self.assertIn("the last line was torn", said)
+        self.expect_streams(manifest, texts, folder, keys=keys, old=old)
+        self.assertEqual(self.workers(manifest), [], "no worker is left")
+
+    def test_of_two_drivers_the_second_is_refused(self):
+        self.make_texts(60, 60_000)
+        sealed = self.manifest("seal.toml", operation="encrypt", source="plain", target="sealed", batch_files=1)
+        running = self.start("run", sealed, *self.engine)
+        self.assertTrue(wait_for(lambda: lines_of(self.at("seal.fleet/record.jsonl")) > 0))
+        self.run_all(sealed, status=3, says=f"another driver is at work (process {running.pid} of ")
+        self.assertTrue(json.loads(self.fleet("status", sealed, "--json"))["is_running"])
+        running.send_signal(signal.SIGKILL)
+        running.communicate()
+        self.run_all(sealed, says=" 0 failed")
+
+    def test_an_interrupted_driver_leaves_no_worker(self):
+        texts = self.make_texts(60, 60_000)
+        sealed = self.manifest("seal.toml", operation="encrypt", source="plain", target="sealed", batch_files=2)
+        running = self.start("run", sealed, *self.engine)
+        self.assertTrue(wait_for(lambda: lines_of(self.at("seal.fleet/record.jsonl")) > 0))
+        running.send_signal(signal.SIGTERM)
+        running.communicate(timeout=60)
+        self.assertTrue(wait_for(lambda: not self.workers(sealed), 10), "workers are left")
+        self.expect_streams(sealed, texts, "sealed", all_done=False)
+        self.run_all(sealed)
+        self.expect_streams(sealed, texts, "sealed")
+
+
+class FullDisks(ParallelYard):
+    def setUp(self) -> None:
+        super().setUp()
+        os.mkdir(self.at("sealed"))
+        mounted = subprocess.run(["mount", "-t", "tmpfs", "-o", "size=400k", "tmpfs", self.at("sealed")], capture_output=True, check=False)
+        if mounted.returncode != 0:
+            self.skipTest("a small file system may not be mounted here")
+        self.addCleanup(subprocess.run, ["umount", "-l", self.at("sealed")], check=False)
+
+    def test_a_full_disk_fails_what_has_no_room_and_no_more(self):
+        texts = self.make_texts(40, 40_000)
+        sealed = self.manifest("seal.toml", operation="encrypt", source="plain", target="sealed")
+        said = self.run_all(sealed, status=1)
+        self.assertRegex(said, r"sealed/.*: write fault")
+        self.expect_streams(sealed, texts, "sealed", all_done=False)
+        states = [it["state"] for it in self.record(sealed).values()]
+        self.assertEqual((len(states), set(states)), (40, {"done", "failed"}))
+        subprocess.run(["mount", "-o", "remount,size=8m", self.at("sealed")], check=True)
+        self.run_all(sealed, says=f"{states.count('failed')} done, 0 failed")
+        self.expect_streams(sealed, texts, "sealed")
