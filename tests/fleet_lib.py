@@ -3,6 +3,7 @@ import hashlib
 import json
 import os
 import random
+import re
 import shutil
 import signal
 import subprocess
@@ -164,8 +165,9 @@ def processes() -> list[tuple[int, int, str]]:
 
 
 def local_workers(state: str) -> list[int]:
-    """The workers that GNU parallel started for a state folder of a test."""
-    return [pid for pid, _, line in processes() if f"{FLEET} worker {state} " in line and "parallel" not in line and not line.startswith("/bin/sh")]
+    """The workers that GNU parallel started for a state folder of a test, without those of call 0, which describes them."""
+    at_work = re.compile(rf"\S*python\S* {re.escape(FLEET)} worker {re.escape(state)} [1-9]")
+    return [pid for pid, _, line in processes() if at_work.match(line)]
 
 
 class Killer:
@@ -204,6 +206,11 @@ def wait_for(holds, seconds: float = 60.0) -> bool:
             return True
         time.sleep(0.02)
     return False
+
+
+def has_listed(record: str) -> bool:
+    """Whether each file was handed out once, and what follows are repetitions."""
+    return os.path.exists(record) and b'{"total"' in read(record)
 
 
 def lines_of(path: str) -> int:

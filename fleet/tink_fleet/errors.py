@@ -17,3 +17,6 @@ class TaskError(Exception):
         self.line = line
         self.status = status
         self.retry = retry
+
+    def __str__(self) -> str:
+        return self.line

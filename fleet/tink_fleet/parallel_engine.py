@@ -17,6 +17,7 @@ from tink_fleet.record import is_driven
 # GNU parallel begins when it has a line for each slot, so that more lines than slots have to be out.
 AHEAD = 4
 PATIENCE_SECONDS = 600.0
+DESCRIBE_TRIES = 3
 
 
 class ParallelEngine:
@@ -55,9 +56,10 @@ class ParallelEngine:
 
     def describe(self, call: dict) -> list[dict]:
         """What the workers of this machine are like: they are all the same."""
-        for _, results in self.run([call]):
-            if results:
-                return results
+        for _ in range(DESCRIBE_TRIES):
+            for _, results in self.run([call]):
+                if results:
+                    return results
         raise FleetError(f"{self.log}: no worker could be started: read that file")
 
     def run(self, given: Iterable[dict]) -> Iterator[tuple[dict, list[dict] | None]]:

@@ -85,7 +85,7 @@ class Outcome:
 
     def record(self) -> dict:
         """The fields that are not empty."""
-        return {name: value for name, value in vars(self).items() if name != "retry" and value not in (None, False)}
+        return {name: value for name, value in vars(self).items() if name != "retry" and value is not None and value is not False}
 
 
 def worker_name() -> str:
