@@ -1,7 +1,7 @@
 # `make install PREFIX=/usr/local` puts the proved program, a binary that needs the C library alone, into PREFIX/bin.
 PREFIX ?= /usr/local
 
-.PHONY: all install uninstall check
+.PHONY: all install uninstall check check-fleet
 
 all:
 	./tink --version
@@ -17,3 +17,6 @@ check:
 	rt ci
 	tests/files
 	tests/refused-memory
+
+check-fleet:
+	tests/fleet

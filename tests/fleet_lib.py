@@ -165,8 +165,8 @@ def processes() -> list[tuple[int, int, str]]:
 
 
 def local_workers(state: str) -> list[int]:
-    """The workers that GNU parallel started for a state folder of a test, without those of call 0, which describes them."""
-    at_work = re.compile(rf"\S*python\S* {re.escape(FLEET)} worker {re.escape(state)} [1-9]")
+    """The workers that GNU parallel started for a state folder of a test."""
+    at_work = re.compile(rf"\S*python\S* {re.escape(FLEET)} worker {re.escape(state)} [0-9]")
     return [pid for pid, _, line in processes() if at_work.match(line)]
 
 

@@ -86,6 +86,10 @@ class DaskEngine:
         """What each worker is like."""
         return [it[0] for it in self.client.run(perform_here, call).values()]
 
+    def call(self, call: dict) -> list[dict] | None:
+        """Does one call."""
+        return next(self.run([call]))[1]
+
     def run(self, given: Iterable[dict]) -> Iterator[tuple[dict, list[dict] | None]]:
         """Does calls. Gives each with its results, in the order in which they end; None where its workers died."""
         from distributed import as_completed

@@ -24,6 +24,7 @@ class Engine(Protocol):
 
     def begin(self, fleet: str, run: str, say: Callable[[str], None]) -> None: ...
     def describe(self, call: dict) -> list[dict]: ...
+    def call(self, call: dict) -> list[dict] | None: ...
     def run(self, given: Iterable[dict]) -> Iterator[tuple[dict, list[dict] | None]]: ...
     def close(self) -> None: ...
 
@@ -295,13 +296,17 @@ class Driver:
         outcome.time, outcome.seconds = round(began, 3), round(time.monotonic() - clock, 4)
         self.add([outcome])
 
+    def results(self, given: list[dict]) -> Iterable[tuple[dict, list[dict] | None]]:
+        stamped = list(self.stamped(iter(given)))
+        return self.engine.run(stamped) if len(stamped) > 1 else [(it, self.engine.call(it)) for it in stamped]
+
     def steps(self, given: list[dict]) -> tuple[Outcome, dict | None]:
         """Does steps, each up to three times. Returns the last outcome, or that of a step which failed."""
         failed: Outcome | None = None
         last, plan = None, None
         for attempt in range(1, ATTEMPTS + 1):
             again = []
-            for call, results in self.engine.run(self.stamped(iter(given))):
+            for call, results in self.results(given):
                 found = Outcome(**results[0]["outcome"]) if results else self.died(call["task"])
                 plan = results[0]["plan"] if results else plan
                 last = found
