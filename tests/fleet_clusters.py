@@ -99,7 +99,7 @@ class Clusters(ClusterYard):
         self.cluster.wait(WORKERS)
 
     def test_workers_are_killed_in_each_operation(self):
-        texts = self.make_texts(400, 60_000)
+        texts = self.make_texts(200, 60_000)
         sealed = self.manifest("seal.toml", operation="encrypt", source="plain", target="sealed", batch_files=4)
         self.with_kills(sealed)
         self.expect_streams(sealed, texts, "sealed")
@@ -122,10 +122,10 @@ class Clusters(ClusterYard):
         return program.commands(TINK)
 
     def test_the_driver_is_killed_and_started_again(self):
-        texts = self.make_texts(300, 60_000)
+        texts = self.make_texts(160, 60_000)
         sealed = self.manifest("seal.toml", operation="encrypt", source="plain", target="sealed", batch_files=4)
         record = self.at("seal.fleet/record.jsonl")
-        for lines in (5, 60):
+        for lines in (5, 40):
             running = self.start("run", sealed, *self.engine)
             self.assertTrue(wait_for(lambda: lines_of(record) >= lines))
             running.send_signal(signal.SIGKILL)

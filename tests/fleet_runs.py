@@ -4,10 +4,8 @@ import os
 import shutil
 import signal
 import subprocess
-import sys
-import time
 
-from fleet_lib import FLEET, TINK, Killer, Yard, has_listed, lines_of, local_workers, needs, read, sha256, tink, wait_for, write
+from fleet_lib import TINK, Killer, Yard, has_listed, lines_of, local_workers, needs, read, sha256, tink, wait_for, write
 
 
 class ParallelYard(Yard):
@@ -197,7 +195,7 @@ class Deaths(ParallelYard):
         self.assertGreater(killer.killed, 0, "no worker was killed")
 
     def test_workers_are_killed_in_each_operation(self):
-        texts = self.make_texts(150, 60_000)
+        texts = self.make_texts(80, 60_000)
         sealed = self.manifest("seal.toml", operation="encrypt", source="plain", target="sealed", batch_files=12)
         self.with_kills(sealed)
         self.expect_streams(sealed, texts, "sealed")
@@ -211,7 +209,7 @@ class Deaths(ParallelYard):
 
     def test_workers_are_killed_in_a_check(self):
         needs("check")
-        texts = self.make_texts(100, 60_000)
+        texts = self.make_texts(60, 60_000)
         self.encrypt_all(texts)
         checked = self.manifest("check.toml", operation="check", source="sealed", batch_files=12)
         self.with_kills(checked)
@@ -227,7 +225,7 @@ class Deaths(ParallelYard):
         self.expect_no_drafts(self.at("again"))
 
     def test_the_driver_is_killed_and_started_again(self):
-        texts = self.make_texts(150, 60_000)
+        texts = self.make_texts(80, 60_000)
         sealed = self.manifest("seal.toml", operation="encrypt", source="plain", target="sealed", batch_files=6)
         self.die_and_go_on(sealed, texts, "sealed", "keys", {})
         tink("new", self.template, "-o", self.at("new"))
@@ -237,7 +235,7 @@ class Deaths(ParallelYard):
 
     def die_and_go_on(self, manifest: str, texts: dict, folder: str, keys: str, old: dict) -> None:
         record = os.path.splitext(manifest)[0] + ".fleet/record.jsonl"
-        for lines in (5, 40):
+        for lines in (5, 25):
             running = self.start("run", manifest, *self.engine)
             self.assertTrue(wait_for(lambda: lines_of(record) >= lines), "the driver records nothing")
             running.send_signal(signal.SIGKILL)

@@ -3,7 +3,7 @@ import os
 import unittest
 
 from fleet_lib import TINK, Yard, read, tink, write
-from tink_fleet import places, record
+from tink_fleet import locks, places, record
 from tink_fleet.errors import FleetError, Refused
 from tink_fleet.manifest import Manifest, read_manifest
 from tink_fleet.tasks import Job, Outcome, Task, Worker
@@ -97,13 +97,13 @@ class Records(Yard):
         self.assertEqual(list(record.read_record(manifest.state).entries), [name])
 
     def test_of_two_locks_the_second_is_refused(self):
-        held = record.Lock(self.at("state"))
-        self.assertTrue(record.is_driven(self.at("state")))
+        held = locks.Lock(self.at("state"))
+        self.assertTrue(locks.is_driven(self.at("state")))
         with self.assertRaisesRegex(Refused, f"process {os.getpid()}"):
-            record.Lock(self.at("state"))
+            locks.Lock(self.at("state"))
         held.close()
-        self.assertFalse(record.is_driven(self.at("state")))
-        record.Lock(self.at("state")).close()
+        self.assertFalse(locks.is_driven(self.at("state")))
+        locks.Lock(self.at("state")).close()
 
 
 class Drafts(Yard):

@@ -1,7 +1,6 @@
 """Calls: what a driver asks of a worker, as plain values that JSON and Dask carry."""
 import hashlib
 import os
-import socket
 from collections.abc import Callable
 from functools import lru_cache
 
@@ -49,7 +48,7 @@ def unable(task: dict, name: str | None, line: str) -> Outcome:
 
 def describe(job: Job, name: str | None) -> dict:
     """What a driver has to know of a worker before it hands out work."""
-    told = {"worker": name or f"{socket.gethostname()}:{os.getpid()}", "code": package_hash()}
+    told = {"worker": name or f"{os.uname().nodename}:{os.getpid()}", "code": package_hash()}
     try:
         path = program.find_program(job.program)
         listed = program.list_keys(path, job.source_keys)

@@ -17,10 +17,6 @@ DONE, FAILED, WRONG, REFUSED = 0, 1, 2, 3
 
 
 def main(words: list[str]) -> int:
-    if len(words) == 3 and words[0] == "worker":
-        from tink_fleet.parallel_engine import work
-
-        return work(words[1], words[2])
     given = parser().parse_args(words)
     signal.signal(signal.SIGTERM, lambda *_: sys.exit(128 + signal.SIGTERM))
     try:

@@ -8,9 +8,10 @@ from typing import Protocol
 
 from tink_fleet import calls, parts, places, program
 from tink_fleet.errors import FleetError, Refused
-from tink_fleet.manifest import Manifest, is_url
-from tink_fleet.places import Item
-from tink_fleet.record import Entry, Lock, Record
+from tink_fleet.manifest import Manifest
+from tink_fleet.places import Item, is_url
+from tink_fleet.locks import Lock
+from tink_fleet.record import Entry, Record
 from tink_fleet.tasks import Job, Outcome, Task
 
 ATTEMPTS = 3

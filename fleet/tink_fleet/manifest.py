@@ -5,6 +5,7 @@ import tomllib
 from dataclasses import dataclass, field, fields, replace
 
 from tink_fleet.errors import FleetError
+from tink_fleet.places import is_url
 
 OPERATIONS = ("encrypt", "decrypt", "check", "rewrap")
 STREAM_SUFFIX = ".tink"
@@ -63,10 +64,6 @@ class Manifest:
 
 def rendered(pattern: str, path: str) -> str:
     return pattern.format(path=path, name=path.rsplit("/", 1)[-1])
-
-
-def is_url(place: str) -> bool:
-    return "://" in place
 
 
 def read_manifest(file: str) -> Manifest:

@@ -12,7 +12,6 @@ from collections.abc import Iterable, Iterator
 from tink_fleet import calls
 from tink_fleet.errors import FleetError, Refused
 from tink_fleet.program import KEYS_FD
-from tink_fleet.record import is_driven
 
 # GNU parallel begins when it has a line for each slot, so that more lines than slots have to be out.
 AHEAD = 4
@@ -156,30 +155,6 @@ class Feeder:
                 os.unlink(self.path(number))
             except FileNotFoundError:
                 pass
-
-
-def work(state: str, number: str) -> int:
-    """What `fleet worker STATE NUMBER` does: the call of that number, whose results are one line on standard output."""
-    held = os.open(os.path.join(state, "workers"), os.O_RDONLY | os.O_CLOEXEC)
-    fcntl.flock(held, fcntl.LOCK_SH)
-    try:
-        with open(os.path.join(state, "calls", f"{number}.json"), encoding="ascii") as file:
-            call = json.load(file)
-    except FileNotFoundError:
-        # The driver that wrote it is no more.
-        return 0
-    run = call["job"]["run"].encode()
-
-    def may_go_on() -> bool:
-        with open(os.path.join(state, "run"), "rb") as current:
-            return current.read() == run and is_driven(state)
-
-    if not may_go_on():
-        return 0
-    results = calls.perform(call, None, may_go_on)
-    sys.stdout.write(json.dumps({"number": int(number), "results": results}) + "\n")
-    sys.stdout.flush()
-    return 0
 
 
 def write_whole(path: str, data: bytes) -> None:

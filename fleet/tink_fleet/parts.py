@@ -1,6 +1,5 @@
 """One large file that several processes decrypt: each a range of its text, into one draft."""
 import os
-import secrets
 from dataclasses import dataclass
 
 from tink_fleet import places, program
@@ -49,7 +48,7 @@ def probe(worker: Worker, task: Task) -> Plan:
             raise changed(task)
     folder = os.path.dirname(task.target)
     os.makedirs(folder, exist_ok=True)
-    draft = os.path.join(folder, f"{places.DRAFT}{worker.job.fleet}-{secrets.token_hex(8)}")
+    draft = os.path.join(folder, f"{places.DRAFT}{worker.job.fleet}-{os.urandom(8).hex()}")
     held = os.open(draft, os.O_CREAT | os.O_EXCL | os.O_WRONLY | os.O_CLOEXEC, 0o600)
     try:
         os.ftruncate(held, found.plaintext)

@@ -1,16 +1,12 @@
 """Where files lie: folders of this machine, and what fsspec reaches."""
 import errno
-import fnmatch
 import hashlib
 import os
 import re
-import secrets
-import tempfile
 from collections.abc import Iterator
 from dataclasses import dataclass
 
 from tink_fleet.errors import FleetError, TaskError
-from tink_fleet.manifest import is_url
 
 DRAFT = ".fleet-"
 BLOCK = 1 << 20
@@ -27,6 +23,10 @@ class Item:
     mtime: int
 
 
+def is_url(place: str) -> bool:
+    return "://" in place
+
+
 def filesystem(url: str):
     """The file system of fsspec for a URL, and the path in it."""
     try:
@@ -38,6 +38,8 @@ def filesystem(url: str):
 
 def items(root: str, include: list[str], exclude: list[str], skip: str) -> Iterator[Item]:
     """The regular files below a folder, by name. The folder `skip` and drafts are left out."""
+    import fnmatch
+
     found = remote_items(root) if is_url(root) else local_items(root, skip)
     for item in found:
         if include and not any(fnmatch.fnmatchcase(item.path, it) for it in include):
@@ -128,7 +130,7 @@ class Draft:
             self.fd = os.open(self.path, os.O_CREAT | os.O_EXCL | os.O_RDWR | os.O_CLOEXEC, 0o600)
 
     def fresh_name(self) -> str:
-        return os.path.join(self.folder, f"{DRAFT}{self.fleet}-{secrets.token_hex(8)}")
+        return os.path.join(self.folder, f"{DRAFT}{self.fleet}-{os.urandom(8).hex()}")
 
     def publish(self, target: str, replaces: bool) -> None:
         """Lets the draft reach the disk, and gives it the name of the target.
@@ -212,6 +214,8 @@ def digest_of(path: str) -> str:
 
 def fetch(url: str, scratch: str | None) -> int:
     """Copies an object into a file of the scratch folder without a name. Returns its descriptor."""
+    import tempfile
+
     system, path = filesystem(url)
     held = tempfile.TemporaryFile(dir=scratch)
     with held:

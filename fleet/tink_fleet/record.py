@@ -1,18 +1,14 @@
 """The record of a fleet: one line of JSON for each task that ended, appended by the driver alone."""
-import fcntl
 import json
 import os
-import secrets
-import socket
 import time
 from dataclasses import dataclass, field
 
-from tink_fleet.errors import FleetError, Refused
+from tink_fleet.errors import FleetError
 from tink_fleet.manifest import Manifest
 from tink_fleet.tasks import Outcome
 
 SYNC_SECONDS = 1.0
-LOCK_TRIES = 20
 
 
 @dataclass
@@ -99,63 +95,22 @@ def count(run: dict, line: dict) -> None:
         run["done_bytes"] = run.get("done_bytes", 0) + (line.get("size") or 0)
 
 
-class Lock:
-    """The one driver of a fleet. The lock ends with its process, however that ends."""
-
-    def __init__(self, state: str):
-        self.path = os.path.join(state, "lock")
-        os.makedirs(state, mode=0o700, exist_ok=True)
-        self.fd = os.open(self.path, os.O_CREAT | os.O_RDWR | os.O_CLOEXEC, 0o600)
-        # A worker that looks whether its driver lives holds the lock for a moment.
-        for _ in range(LOCK_TRIES):
-            try:
-                fcntl.flock(self.fd, fcntl.LOCK_EX | fcntl.LOCK_NB)
-                break
-            except BlockingIOError:
-                time.sleep(0.05)
-        else:
-            holder = os.pread(self.fd, 200, 0).decode(errors="replace").strip()
-            os.close(self.fd)
-            raise Refused(f"{self.path}: another driver is at work ({holder}): wait for it, or see `fleet status`")
-        os.ftruncate(self.fd, 0)
-        os.pwrite(self.fd, f"process {os.getpid()} of {socket.gethostname()}\n".encode(), 0)
-
-    def close(self) -> None:
-        os.ftruncate(self.fd, 0)
-        os.close(self.fd)
-
-
-def is_driven(state: str) -> bool:
-    """Whether a driver holds the lock."""
-    try:
-        fd = os.open(os.path.join(state, "lock"), os.O_RDONLY | os.O_CLOEXEC)
-    except FileNotFoundError:
-        return False
-    try:
-        fcntl.flock(fd, fcntl.LOCK_SH | fcntl.LOCK_NB)
-        return False
-    except BlockingIOError:
-        return True
-    finally:
-        os.close(fd)
-
-
 class Record:
     """A record that is appended to. The lock is held."""
 
     def __init__(self, manifest: Manifest, again: bool = False):
         self.path = record_path(manifest.state)
         if again and os.path.exists(self.path):
-            os.replace(self.path, f"{self.path}.{int(time.time())}.{secrets.token_hex(2)}")
+            os.replace(self.path, f"{self.path}.{int(time.time())}.{os.urandom(2).hex()}")
         self.history = read_record(manifest.state)
         self.check_work(work_of(manifest))
         self.file = os.open(self.path, os.O_CREAT | os.O_WRONLY | os.O_CLOEXEC, 0o600)
         os.ftruncate(self.file, self.history.whole)
         os.lseek(self.file, 0, os.SEEK_END)
         self.synced = 0.0
-        self.run = secrets.token_hex(8)
+        self.run = os.urandom(8).hex()
         if not self.history.fleet:
-            self.history.fleet = secrets.token_hex(4)
+            self.history.fleet = os.urandom(4).hex()
             self.append([{"fleet": self.history.fleet, "version": 1, "work": work_of(manifest)}])
         self.append([{"run": self.run, "time": round(time.time(), 3)}])
 

@@ -13,7 +13,7 @@ from tink_fleet.errors import FleetError, Refused, TaskError
 from tink_fleet.manifest import Manifest
 from tink_fleet.parallel_engine import write_whole
 from tink_fleet.program import KeyList, Keys
-from tink_fleet.record import Lock
+from tink_fleet.locks import Lock
 from tink_fleet.tasks import Job
 
 STEPS = ("add", "distribute", "promote", "rewrap", "check", "disable")

@@ -4,7 +4,8 @@ from dataclasses import asdict, dataclass, field
 
 from tink_fleet import places
 from tink_fleet.manifest import Manifest
-from tink_fleet.record import History, is_driven, read_record
+from tink_fleet.locks import is_driven
+from tink_fleet.record import History, read_record
 
 
 @dataclass

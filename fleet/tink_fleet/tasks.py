@@ -2,7 +2,6 @@
 import errno
 import hashlib
 import os
-import socket
 import subprocess
 import time
 from collections.abc import Callable
@@ -11,8 +10,7 @@ from dataclasses import dataclass
 
 from tink_fleet import places, program
 from tink_fleet.errors import TaskError
-from tink_fleet.manifest import is_url
-from tink_fleet.places import Draft
+from tink_fleet.places import Draft, is_url
 from tink_fleet.program import KeyList, Keys
 
 
@@ -89,7 +87,7 @@ class Outcome:
 
 
 def worker_name() -> str:
-    return f"{socket.gethostname()}:{os.getpid()}"
+    return f"{os.uname().nodename}:{os.getpid()}"
 
 
 class Worker:
