@@ -3,7 +3,7 @@
 # processor seconds of each crate's proof, of its tests, of a program's compiling, of its must-fail
 # edits and of the check that these begin with, the dearest checks, the longest chain of crates that wait for one
 # another, the sum, and the wall clock.
-# docs/PROVING.md has the budget. Run nothing beside it. The first word, if there is one, is a file
+# docs/COSTS.md has the budget. Run nothing beside it. The first word, if there is one, is a file
 # for the gate's output.
 set -euo pipefail
 root=$(dirname -- "$(dirname -- "$(readlink -f -- "${BASH_SOURCE[0]}")")")
