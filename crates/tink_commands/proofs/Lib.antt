@@ -1,1 +1,2 @@
-mod ClaimFacts
+pub mod ClaimFacts
+pub mod SavingLemmas

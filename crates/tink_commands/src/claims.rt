@@ -1,9 +1,8 @@
-//! Which lines are those of the program over the streams of the process.
+//! Which lines are those of the program over the standard streams.
 
 ghost use Rattle.std.specs.Prelude.{◌≡◌, ◌||◌};
 ghost use Rattle.tink_commands.specs.Claims.{claim_of, has_option, is_of_streams};
-ghost use Rattle.tink_words.specs.Forms.{words_of};
-ghost use Rattle.tink_words.specs.Lines.{words_in};
+ghost use Rattle.tink_words.specs.Words.{byte_words, is};
 
 use tink_words::is_option;
 
@@ -15,45 +14,50 @@ enum Claim {
     Never,
 }
 
-/// Whether the words are those of the program over the streams of the process.
-pub fn is_of_streams(words: &Vec<String>) -> bool
-    ensures { result ≡ is_of_streams (words_of words.now) }
+/// Whether the words are those of the program over the standard streams.
+pub fn is_of_streams(words: &[Vec<u8>]) -> bool
+    ensures { result ≡ is_of_streams (byte_words words.now) }
 {
     let Some(name) = words.first() else {
         return false;
     };
-    match claim_of(name.as_str()) {
+    match claim_of(name.as_slice()) {
         Claim::All => true,
         Claim::OfFourWords => words.len() == 4,
-        Claim::WithoutOptions => !has_option(words.as_slice()),
+        Claim::WithoutOptions => !has_option(words),
         Claim::Never => false,
     }
 }
 
 // What is claimed of a name's lines.
-fn claim_of(name: &str) -> Claim
+fn claim_of(name: &[u8]) -> Claim
     ensures { result ≡ claim_of name.now }
 {
-    match name {
-        "seal" => Claim::All,
-        "open" => Claim::All,
-        "keygen" => Claim::All,
-        "large" => Claim::All,
-        "rotate" => Claim::OfFourWords,
-        "rewrap" => Claim::WithoutOptions,
-        "sign" => Claim::WithoutOptions,
-        "verify" => Claim::WithoutOptions,
-        "range" => Claim::WithoutOptions,
-        _ => Claim::Never,
+    if is(name, "seal") || is(name, "open") || is(name, "keygen") || is(name, "large") {
+        return Claim::All;
     }
+    if is(name, "rotate") {
+        return Claim::OfFourWords;
+    }
+    if is(name, "rewrap") || is(name, "sign") || is(name, "verify") || is(name, "range") {
+        return Claim::WithoutOptions;
+    }
+    Claim::Never
+}
+
+// Whether a word is this text.
+fn is(word: &[u8], text: &str) -> bool
+    ensures { result ≡ is word.now text.now }
+{
+    word == text.as_bytes()
 }
 
 // Whether a word is an option.
-fn has_option(words: &[String]) -> bool
-    ensures { result ≡ has_option (words_in words.now) }
+fn has_option(words: &[Vec<u8>]) -> bool
+    ensures { result ≡ has_option (byte_words words.now) }
 {
     'words: for word in words {
-        if is_option(word.as_str()) {
+        if is_option(word.as_slice()) {
             return true;
         }
     }

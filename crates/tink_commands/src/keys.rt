@@ -1,201 +1,277 @@
 //! The commands on files of keys.
 
-ghost use Rattle.std.specs.Prelude.{◌≡◌, Some, None, true, false, IfErr, IfOk, OnErr, OnOk};
-ghost use Rattle.tink_commands.specs.KeyFiles.{format_named, own_edit};
-ghost use Rattle.tink_system.specs.Statuses.{trouble_status};
+ghost use Rattle.std.specs.Prelude.{◌≡◌, ◌≤◌, ℕ, List, [], Some, true, OnErr, OnOk};
+ghost use Rattle.tink_io.specs.Told.{Answers};
+ghost use Rattle.tink_commands.specs.KeyFiles.{AreListed, IsChanged, IsConverted, IsEdited, IsGrown, IsNew, changed_file, listed_file};
+ghost use Rattle.tink_commands.specs.Saving.{IsAppended};
+ghost use Rattle.tink_stream_commands.specs.Performing.{KeepsFiles};
+ghost use Rattle.tink_system.specs.States.{KeepsSystem};
 
-use tink_files::{edit_keys, new_keys, rotate_keys};
-use tink_io::{Draws, Kind, Place, StdSink, TinkError, write_all};
-use tink_keyset_io::key_files::{Edit, Format, list, wire_bytes};
+use crate::saving::{give_up, put, save_in, save_new};
+use crate::words::{edit_of, format_of, growth_of, prefix_of};
+use std::alloc::Global;
+use tink_files::{added_file, converted_file, new_file, rotated_file};
+use tink_io::{Draws, Kind, Sink, TinkError};
+use tink_keyset_io::key_files::{Edit, edited_file, list, wire_bytes};
 use tink_proto::Bytes;
-use tink_system::outside::{draws, read_keys};
-use tink_system::real_place::RealPlace;
-use tink_system::trouble::Trouble;
+use tink_stream_commands::DRAWN;
+use tink_stream_commands::keys::{LIMIT, read_keys};
+use tink_system::{How, System, Trouble};
 use tink_words::{Action, Line};
 
-/// `new TEMPLATE -o KEYS`
-pub fn make<'w>(rt: &HostRuntime, line: &Line<'w>) -> Result<(), Trouble<'w>> {
+/// `new TEMPLATE -o KEYS`: a file of one new key.
+///
+/// # Errors
+/// 24 if no template has the name; 35 if the system gives no random bytes; 12 if a file has the name, or it cannot be
+/// written; 10. No file is changed then.
+pub fn make<'w, Y: System, K: Sink>(
+    alloc: Global,
+    system: &mut Y,
+    line: &Line<'w>,
+    sink: &mut K,
+) -> Result<(), Trouble<'w>>
+    ensures done { OnOk result ((Y.state system.old).is_known ≡ true → IsNew line.now
+        (Y.state system.old) (Y.state system.new) (K.got sink.old) (K.got sink.new)) }
+    ensures kept { OnErr result ((Y.state system.old).is_known ≡ true → KeepsFiles (Y.state system.old) (Y.state system.new)) }
+    ensures system { KeepsSystem (Y.state system.old) (Y.state system.new) }
+    ensures later { Y.faults system.old ≤ Y.faults system.new }
+    ensures sink { K.same sink.old sink.new }
+{
     let (Some(template), Some(output)) = (line.first(), line.output()) else {
         return Err(Trouble::Usage);
     };
-    let format = format_of(line)?;
-    match draws(rt) {
-        Ok(mut draws) => make_by(rt, template, output, format, &mut draws),
+    match system.draws(alloc, DRAWN) {
+        Ok(mut draws) => {
+            let made = new_file(alloc, template, prefix_of(line), format_of(line), &mut draws);
+            save_new(alloc, system, made, template, output, sink)
+        }
         Err(trouble) => Err(trouble),
     }
 }
 
-// Lets go of no draws.
-fn make_by<'w>(
-    rt: &HostRuntime,
-    template: &'w str,
-    output: &'w str,
-    format: Format,
-    draws: &mut Draws,
-) -> Result<(), Trouble<'w>> {
-    let mut place = RealPlace::fresh(rt, output)?;
-    let answer = new_keys(rt.alloc(), template, format, draws, &mut place);
-    told(answer, template, output)
-}
-
-/// `keys KEYS`
-pub fn show<'w>(rt: &HostRuntime, line: &Line<'w>) -> Result<(), Trouble<'w>> {
+/// `keys KEYS`: a line for each key, without key material.
+///
+/// # Errors
+/// 11 if the file cannot be read; 13, 14, 30 if it is no file of keys; 12 if standard output fails; 10.
+pub fn show<'w, Y: System, K: Sink>(
+    alloc: Global,
+    system: &mut Y,
+    line: &Line<'w>,
+    sink: &mut K,
+) -> Result<(), Trouble<'w>>
+    ensures done { OnOk result ((Y.state system.old).is_known ≡ true → AreListed line.now
+        (Y.state system.old) (K.got sink.old) (K.got sink.new)) }
+    ensures state { Y.state system.new ≡ Y.state system.old }
+    ensures later { Y.faults system.old ≤ Y.faults system.new }
+    ensures sink { K.same sink.old sink.new }
+{
     let Some(path) = line.first() else {
         return Err(Trouble::Usage);
     };
-    match read_keys(rt, path) {
-        Ok(file) => put_lines(rt, path, file),
+    match read_keys(alloc, system, path) {
+        Ok(file) => put_lines(alloc, path, file, sink),
         Err(trouble) => Err(trouble),
     }
 }
 
 // Writes the lines of a file's keys.
-fn put_lines<'w>(rt: &HostRuntime, path: &'w str, file: Vec<u8>) -> Result<(), Trouble<'w>> {
-    match lines_of(rt, file) {
-        Ok(lines) => put(rt, lines.as_slice()),
+fn put_lines<'w, K: Sink>(
+    alloc: Global,
+    path: &'w [u8],
+    file: Vec<u8>,
+    sink: &mut K,
+) -> Result<(), Trouble<'w>>
+    ensures done { OnOk result ((before : List ℕ) → K.got sink.old ≡ Some before
+        → IsAppended (listed_file file.items) before (K.got sink.new)) }
+    ensures sink { K.same sink.old sink.new }
+{
+    match lines_of(alloc, file) {
+        Ok(lines) => put(sink, lines.as_slice()),
         Err(e) => Err(Trouble::Refused(path, e.kind)),
     }
 }
 
-/// `rotate KEYS TEMPLATE`
-pub fn rotate<'w>(rt: &HostRuntime, line: &Line<'w>) -> Result<(), Trouble<'w>> {
+// The lines of a file's keys.
+fn lines_of(alloc: Global, file: Vec<u8>) -> Result<Bytes, TinkError>
+    ensures { Answers result (listed_file file.items) }
+{
+    let keyset = wire_bytes(alloc, file)?;
+    list(alloc, keyset.as_slice())
+}
+
+/// `rotate KEYS TEMPLATE` and `add` with the same words: a new key by a template, which encrypts from now on, or is not used
+/// yet.
+///
+/// # Errors
+/// 11, 13, 14 and 30 as `show`; 24 if no template has the name; 18 if a rotation is to keys of another primitive and the
+/// words do not force it; 25 if no id is drawn that is not in use; 35; 12 if the file cannot be written, or another change
+/// of it is at work; 10. No file is changed then.
+pub fn grow<'w, Y: System>(
+    alloc: Global,
+    system: &mut Y,
+    action: Action,
+    line: &Line<'w>,
+) -> Result<(), Trouble<'w>>
+    ensures done { OnOk result ((Y.state system.old).is_known ≡ true → IsGrown action line.now (Y.state system.old) (Y.state system.new)) }
+    ensures kept { OnErr result ((Y.state system.old).is_known ≡ true → KeepsFiles (Y.state system.old) (Y.state system.new)) }
+    ensures system { KeepsSystem (Y.state system.old) (Y.state system.new) }
+    ensures later { Y.faults system.old ≤ Y.faults system.new }
+{
     let (Some(path), Some(template)) = (line.first(), line.second()) else {
         return Err(Trouble::Usage);
     };
-    match draws(rt) {
-        Ok(mut draws) => rotate_by(rt, path, template, &mut draws),
+    let growth = growth_of(action, line.is_any());
+    match system.draws(alloc, DRAWN) {
+        Ok(draws) => change(alloc, system, path, Change::Grow(growth, template, draws)),
         Err(trouble) => Err(trouble),
     }
 }
 
-// Lets go of no draws.
-fn rotate_by<'w>(
-    rt: &HostRuntime,
-    path: &'w str,
-    template: &'w str,
-    draws: &mut Draws,
-) -> Result<(), Trouble<'w>> {
-    let mut place = RealPlace::only(rt, path)?;
-    rotate_in(rt, path, template, draws, &mut place)
+/// `promote KEYS ID`, and the same of `enable`, `disable`, `destroy` and `delete`: the first key of the id is changed.
+///
+/// # Errors
+/// 11, 13, 14 and 30 as `show`; 31 if no key has the id; 32 if it is the primary key, which only `promote` and `enable`
+/// take; 33 if its status does not allow the change; 12 if the file cannot be written, or another change of it is at work;
+/// 10. No file is changed then.
+pub fn edit<'w, Y: System>(
+    alloc: Global,
+    system: &mut Y,
+    action: Action,
+    line: &Line<'w>,
+) -> Result<(), Trouble<'w>>
+    ensures done { OnOk result ((Y.state system.old).is_known ≡ true → IsEdited action line.now (Y.state system.old) (Y.state system.new)) }
+    ensures kept { OnErr result ((Y.state system.old).is_known ≡ true → KeepsFiles (Y.state system.old) (Y.state system.new)) }
+    ensures system { KeepsSystem (Y.state system.old) (Y.state system.new) }
+    ensures random { (Y.state system.new).random ≡ (Y.state system.old).random }
+    ensures later { Y.faults system.old ≤ Y.faults system.new }
+{
+    let (Some(path), Some(id), Some(edit)) = (line.first(), line.id(), edit_of(action)) else {
+        return Err(Trouble::Usage);
+    };
+    change(alloc, system, path, Change::Edit(edit, id))
 }
 
-// Lets go of no draft.
-fn rotate_in<'w>(
-    rt: &HostRuntime,
-    path: &'w str,
-    template: &'w str,
-    draws: &mut Draws,
-    place: &mut RealPlace<'_>,
+/// How a command adds a key: beside the primary one, as the primary one among keys of its primitive, or among any.
+#[derive(Clone, Copy)]
+pub enum Growth {
+    Add,
+    Rotate,
+    RotateToAny,
+}
+
+// What becomes of a file of keys.
+#[derive(Drop)]
+enum Change<'w> {
+    Edit(Edit, u32),
+    Grow(Growth, &'w [u8], Draws),
+}
+
+// Changes a file of keys, of which there is one change at a time.
+fn change<'w, Y: System>(
+    alloc: Global,
+    system: &mut Y,
+    path: &'w [u8],
+    change: Change<'w>,
 ) -> Result<(), Trouble<'w>>
-    requires { place.old.is_drafted ≡ true }
+    ensures done { OnOk result ((Y.state system.old).is_known ≡ true → IsChanged (changed_file change) path.now
+        (Y.state system.old) (Y.state system.new)) }
+    ensures kept { OnErr result ((Y.state system.old).is_known ≡ true → KeepsFiles (Y.state system.old) (Y.state system.new)) }
+    ensures system { KeepsSystem (Y.state system.old) (Y.state system.new) }
+    ensures random { (Y.state system.new).random ≡ (Y.state system.old).random }
+    ensures later { Y.faults system.old ≤ Y.faults system.new }
 {
-    match read_or_end(rt, path, place) {
+    match system.begin(path, How::Change) {
+        Ok(draft) => change_in(alloc, system, path, change, draft),
+        Err(trouble) => Err(trouble),
+    }
+}
+
+// The same in a draft that is begun: the file is read behind it.
+fn change_in<'w, Y: System>(
+    alloc: Global,
+    system: &mut Y,
+    path: &'w [u8],
+    change: Change<'w>,
+    draft: Y::Draft,
+) -> Result<(), Trouble<'w>>
+    requires { Y.Draft.has_draft draft ≡ true }
+    ensures done { OnOk result ((Y.state system.old).is_known ≡ true → Y.Draft.got draft ≡ Some []
+        → IsChanged (changed_file change) path.now (Y.state system.old) (Y.state system.new)) }
+    ensures kept { OnErr result (Y.Draft.shown draft ≡ Some ((Y.state system.old).file path.now)
+        → KeepsFiles (Y.state system.old) (Y.state system.new)) }
+    ensures system { KeepsSystem (Y.state system.old) (Y.state system.new) }
+    ensures random { (Y.state system.new).random ≡ (Y.state system.old).random }
+    ensures later { Y.faults system.old ≤ Y.faults system.new }
+{
+    match system.read_whole(alloc, Some(path), LIMIT) {
         Ok(file) => {
-            let answer = rotate_keys(rt.alloc(), file, template, draws, place);
-            told(answer, template, path)
+            let template = template_of(&change);
+            let made = changed(alloc, file, change);
+            let blamed = blamed(&made, template, path);
+            save_in(alloc, system, made, blamed, path, draft)
         }
-        Err(trouble) => Err(trouble),
+        Err(trouble) => Err(give_up(alloc, system, path, draft, trouble)),
     }
 }
 
-/// `promote KEYS ID`, and the same of `enable`, `disable`, `destroy` and `delete`
-pub fn edit<'w>(rt: &HostRuntime, action: Action, line: &Line<'w>) -> Result<(), Trouble<'w>> {
-    let (Some(path), Some(word)) = (line.first(), line.second()) else {
-        return Err(Trouble::Usage);
-    };
-    let (Some(edit), Ok(id)) = (edit_of(action), word.parse::<u32>()) else {
-        return Err(Trouble::Usage);
-    };
-    let mut place = RealPlace::only(rt, path)?;
-    edit_in(rt, path, edit, id, &mut place)
+// The template of a change, if it has one.
+fn template_of<'w>(change: &Change<'w>) -> Option<&'w [u8]> {
+    match change {
+        Change::Edit(_, _) => None,
+        Change::Grow(_, template, _) => Some(*template),
+    }
 }
 
-// Lets go of no draft.
-fn edit_in<'w>(
-    rt: &HostRuntime,
-    path: &'w str,
-    edit: Edit,
-    id: u32,
-    place: &mut RealPlace<'_>,
+// What an error is of: the template if no template has its name, and else the file.
+fn blamed<'w>(
+    made: &Result<Bytes, TinkError>,
+    template: Option<&'w [u8]>,
+    path: &'w [u8],
+) -> &'w [u8] {
+    match (made, template) {
+        (Err(e), Some(template)) if e.kind == Kind::UnknownTemplate => template,
+        _ => path,
+    }
+}
+
+// The file with its change.
+fn changed(alloc: Global, file: Vec<u8>, change: Change<'_>) -> Result<Bytes, TinkError>
+    ensures { Answers result (changed_file change file.items) }
+{
+    match change {
+        Change::Edit(edit, id) => edited_file(alloc, file, edit, id),
+        Change::Grow(Growth::Add, template, mut draws) => added_file(alloc, file, template, &mut draws),
+        Change::Grow(Growth::Rotate, template, mut draws) => rotated_file(alloc, file, template, false, &mut draws),
+        Change::Grow(Growth::RotateToAny, template, mut draws) => rotated_file(alloc, file, template, true, &mut draws),
+    }
+}
+
+/// `convert KEYS -o OUT --format NAME`: a new file has the keyset of a file of keys, in this format.
+///
+/// # Errors
+/// 11, 13, 14 and 30 as `show`; 12 if a file has the name, or it cannot be written; 10. No file is changed then.
+pub fn convert<'w, Y: System, K: Sink>(
+    alloc: Global,
+    system: &mut Y,
+    line: &Line<'w>,
+    sink: &mut K,
 ) -> Result<(), Trouble<'w>>
-    requires { place.old.is_drafted ≡ true }
+    ensures done { OnOk result ((Y.state system.old).is_known ≡ true → IsConverted line.now
+        (Y.state system.old) (Y.state system.new) (K.got sink.old) (K.got sink.new)) }
+    ensures kept { OnErr result ((Y.state system.old).is_known ≡ true → KeepsFiles (Y.state system.old) (Y.state system.new)) }
+    ensures system { KeepsSystem (Y.state system.old) (Y.state system.new) }
+    ensures random { (Y.state system.new).random ≡ (Y.state system.old).random }
+    ensures later { Y.faults system.old ≤ Y.faults system.new }
+    ensures sink { K.same sink.old sink.new }
 {
-    match read_or_end(rt, path, place) {
-        Ok(file) => told(edit_keys(rt.alloc(), file, edit, id, place), path, path),
-        Err(trouble) => Err(trouble),
-    }
-}
-
-// Reads a file of keys. Where that fails the draft is taken away.
-fn read_or_end<'w>(
-    rt: &HostRuntime,
-    path: &'w str,
-    place: &mut RealPlace<'_>,
-) -> Result<Vec<u8>, Trouble<'w>>
-    ensures stays { OnOk result (place.new.is_drafted ≡ place.old.is_drafted) }
-    ensures gone { OnErr result (place.new.is_drafted ≡ false) }
-{
-    match read_keys(rt, path) {
-        Ok(file) => Ok(file),
-        Err(trouble) => {
-            place.discard();
-            Err(trouble)
+    let (Some(path), Some(output)) = (line.first(), line.output()) else {
+        return Err(Trouble::Usage);
+    };
+    match read_keys(alloc, system, path) {
+        Ok(file) => {
+            let made = converted_file(alloc, file, format_of(line));
+            save_new(alloc, system, made, path, output, sink)
         }
-    }
-}
-
-// The lines of a file's keys.
-fn lines_of(rt: &HostRuntime, file: Vec<u8>) -> Result<Bytes, TinkError> {
-    let keyset = wire_bytes(rt.alloc(), file)?;
-    list(rt.alloc(), keyset.as_slice())
-}
-
-// Writes to standard output.
-fn put(rt: &HostRuntime, text: &[u8]) -> Result<(), Trouble<'static>> {
-    let mut sink = StdSink::new(rt.stdout());
-    match write_all(&mut sink, text) {
-        Ok(()) => Ok(()),
-        Err(e) => Err(Trouble::Refused("standard output", e.kind)),
-    }
-}
-
-// What is told of an answer: the file is to blame, or the template where its name is the cause.
-fn told<'w>(
-    answer: Result<(), TinkError>,
-    template: &'w str,
-    path: &'w str,
-) -> Result<(), Trouble<'w>> {
-    match answer {
-        Ok(()) => Ok(()),
-        Err(e) => match e.kind {
-            Kind::UnknownTemplate => Err(Trouble::Refused(template, e.kind)),
-            _ => Err(Trouble::Refused(path, e.kind)),
-        },
-    }
-}
-
-/// The format of a new file: JSON unless another is named.
-pub fn format_of(line: &Line<'_>) -> Result<Format, Trouble<'static>>
-    ensures named { IfOk result (λ format. format_named line.now.format ≡ Some format) }
-    ensures refused { IfErr result (λ t. (format_named line.now.format ≡ None) × (trouble_status t ≡ 2)) }
-{
-    match line.format() {
-        None | Some("json") => Ok(Format::Json),
-        Some("binary") => Ok(Format::Binary),
-        Some(_) => Err(Trouble::Usage),
-    }
-}
-
-// What a command does with a key.
-fn edit_of(action: Action) -> Option<Edit>
-    ensures { result ≡ own_edit action }
-{
-    match action {
-        Action::Promote => Some(Edit::Promote),
-        Action::Enable => Some(Edit::Enable),
-        Action::Disable => Some(Edit::Disable),
-        Action::Destroy => Some(Edit::Destroy),
-        Action::Delete => Some(Edit::Delete),
-        _ => None,
+        Err(trouble) => Err(trouble),
     }
 }

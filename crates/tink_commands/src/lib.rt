@@ -1,10 +1,14 @@
-//! The commands over files, and those over the standard streams, by their words.
+//! The commands over files, and those over the standard streams, by their words, over any system.
 #![tactic(auto)]
 
 mod claims;
 mod commands;
-mod help;
 mod keys;
+mod over_streams;
+mod saving;
+mod showing;
+mod telling;
+mod words;
 mod wrapping;
 
 pub use commands::run;

@@ -1,135 +1,188 @@
 //! The commands that keep a file of keys under a master keyset.
 
-ghost use Rattle.std.specs.Prelude.{◌≡◌, IfErr, IfOk};
-ghost use Rattle.tink_commands.specs.KeyFiles.{AreWords};
-ghost use Rattle.tink_system.specs.Statuses.{trouble_status};
+ghost use Rattle.std.specs.Prelude.{◌≡◌, ◌≤◌, Some, None, true, OnErr, OnOk};
+ghost use Rattle.tink_commands.specs.Wrapping.{IsUnwrapped, IsUnwrappedBy, IsWrapped, IsWrappedBy};
+ghost use Rattle.tink_files.specs.Masters.{IsMaster, MasterKeys};
+ghost use Rattle.tink_stream_commands.specs.Performing.{KeepsFiles};
+ghost use Rattle.tink_system.specs.States.{KeepsSystem};
 
-use crate::keys::format_of;
-use tink_files::under_master::{Master, load_master};
-use tink_files::{unwrap_keys, wrap_keys};
-use tink_io::{Draws, Kind, TinkError};
+use crate::saving::save_new;
+use crate::words::format_of;
+use std::alloc::Global;
+use tink_files::under_master::{Master, unwrapped, wrapped};
+use tink_io::{Draws, Sink};
 use tink_keyset_io::key_files::Format;
-use tink_stream_commands::data_of;
-use tink_system::outside::{draws, read_keys};
-use tink_system::real_place::RealPlace;
-use tink_system::trouble::Trouble;
+use tink_stream_commands::keys::{master_in, read_keys};
+use tink_stream_commands::protecting::spare_file;
+use tink_stream_commands::{DRAWN, data_of, named};
+use tink_system::{System, Trouble};
 use tink_words::{Action, Line};
 
 // What the words say.
 #[derive(Clone, Copy)]
 struct Words<'w> {
-    master: &'w str,
-    input: &'w str,
-    output: &'w str,
-    aad: &'w str,
+    master: &'w [u8],
+    input: &'w [u8],
+    output: &'w [u8],
+    aad: &'w [u8],
     format: Format,
 }
 
-/// `wrap -k MASTER -o WRAPPED [--aad TEXT] [--format NAME] KEYS` and
-/// `unwrap -k MASTER -o KEYS [--aad TEXT] [--format NAME] WRAPPED`
-pub fn make<'w>(rt: &HostRuntime, action: Action, line: &Line<'w>) -> Result<(), Trouble<'w>> {
-    let words = words_of(line)?;
-    match load(rt, words.master) {
-        Ok(master) => make_by(rt, action, words, &master),
-        Err(trouble) => Err(trouble),
-    }
-}
-
-// Lets go of no master: that would be at each of its exits.
-fn make_by<'w>(
-    rt: &HostRuntime,
-    action: Action,
-    words: Words<'w>,
-    master: &Master,
-) -> Result<(), Trouble<'w>> {
-    match action {
-        Action::Wrap => wrap_by(rt, words, master),
-        _ => unwrap_by(rt, words, master),
-    }
-}
-
-fn wrap_by<'w>(rt: &HostRuntime, words: Words<'w>, master: &Master) -> Result<(), Trouble<'w>> {
-    let keys = read_keys(rt, words.input)?;
-    match draws(rt) {
-        Ok(draws) => wrap_with(rt, words, master, keys, draws),
-        Err(trouble) => Err(trouble),
-    }
-}
-
-fn wrap_with<'w>(
-    rt: &HostRuntime,
-    words: Words<'w>,
-    master: &Master,
-    keys: Vec<u8>,
-    mut draws: Draws,
-) -> Result<(), Trouble<'w>> {
-    let mut place = RealPlace::fresh(rt, words.output)?;
-    let aad = words.aad.as_bytes();
-    let answer = wrap_keys(
-        rt.alloc(),
-        master,
-        keys,
-        aad,
-        words.format,
-        &mut draws,
-        &mut place,
-    );
-    told(words, answer)
-}
-
-fn unwrap_by<'w>(rt: &HostRuntime, words: Words<'w>, master: &Master) -> Result<(), Trouble<'w>> {
-    match read_keys(rt, words.input) {
-        Ok(file) => unwrap_file(rt, words, master, &file),
-        Err(trouble) => Err(trouble),
-    }
-}
-
-fn unwrap_file<'w>(
-    rt: &HostRuntime,
-    words: Words<'w>,
-    master: &Master,
-    file: &[u8],
-) -> Result<(), Trouble<'w>> {
-    let mut place = RealPlace::fresh(rt, words.output)?;
-    let aad = words.aad.as_bytes();
-    let answer = unwrap_keys(rt.alloc(), master, file, aad, words.format, &mut place);
-    told(words, answer)
-}
-
-fn words_of<'w>(line: &Line<'w>) -> Result<Words<'w>, Trouble<'w>>
-    ensures words { IfOk result (λ words. AreWords line.now words) }
-    ensures refused { IfErr result (λ t. trouble_status t ≡ 2) }
+fn words_of<'w>(line: &Line<'w>) -> Option<Words<'w>>
+    ensures { IfSome result (AreWords line.now) }
 {
     let (Some(master), Some(output), Some(input)) = (line.keys(), line.output(), line.first())
     else {
-        return Err(Trouble::Usage);
+        return None;
     };
-    let format = format_of(line)?;
-    Ok(Words {
+    Some(Words {
         master,
         input,
         output,
         aad: data_of(line.aad()),
-        format,
+        format: format_of(line),
     })
 }
 
-// The AEADs of the file MASTER.
-fn load<'w>(rt: &HostRuntime, path: &'w str) -> Result<Master, Trouble<'w>> {
-    let file = read_keys(rt, path)?;
-    match load_master(rt.alloc(), file) {
-        Ok(master) => Ok(master),
-        Err(e) => Err(Trouble::Refused(path, e.kind)),
+/// `wrap`: a new file has the keyset of a file of keys, encrypted by the primary key of a master.
+///
+/// # Errors
+/// 11, 13, 14 and 30 if a file cannot be read or is no file of keys; 15 to 18 if the master does not load as AEADs; 34 if the
+/// master refuses; 35 if the system gives no random bytes; 12 if the output is the master, a file has its name, or it cannot
+/// be written; 10. No file is changed then.
+pub fn wrap<'w, Y: System, K: Sink>(
+    alloc: Global,
+    system: &mut Y,
+    line: &Line<'w>,
+    sink: &mut K,
+) -> Result<(), Trouble<'w>>
+    ensures done { OnOk result ((Y.state system.old).is_known ≡ true → IsWrapped line.now
+        (Y.state system.old) (Y.state system.new) (K.got sink.old) (K.got sink.new)) }
+    ensures kept { OnErr result ((Y.state system.old).is_known ≡ true → KeepsFiles (Y.state system.old) (Y.state system.new)) }
+    ensures system { KeepsSystem (Y.state system.old) (Y.state system.new) }
+    ensures later { Y.faults system.old ≤ Y.faults system.new }
+    ensures sink { K.same sink.old sink.new }
+{
+    let Some(words) = words_of(line) else {
+        return Err(Trouble::Usage);
+    };
+    spare_master(system, words)?;
+    match master_in(alloc, system, words.master) {
+        Ok(master) => wrap_under(alloc, system, words, &master, sink),
+        Err(trouble) => Err(trouble),
     }
 }
 
-// What is told of an answer: the input is to blame, or the output where it is the cause.
-fn told<'w>(words: Words<'w>, answer: Result<(), TinkError>) -> Result<(), Trouble<'w>> {
-    match answer {
-        Ok(()) => Ok(()),
-        Err(e) => match e.kind {
-            Kind::WriteFault => Err(Trouble::Refused(words.output, e.kind)),
-            _ => Err(Trouble::Refused(words.input, e.kind)),
-        },
+// Under a master that is loaded.
+fn wrap_under<'w, Y: System, K: Sink>(
+    alloc: Global,
+    system: &mut Y,
+    words: Words<'w>,
+    master: &Master,
+    sink: &mut K,
+) -> Result<(), Trouble<'w>>
+    ensures done { OnOk result ((Y.state system.old).is_known ≡ true → (m : MasterKeys) → IsMaster m master.now
+        → IsWrappedBy m words (Y.state system.old) (Y.state system.new) (K.got sink.old) (K.got sink.new)) }
+    ensures kept { OnErr result ((Y.state system.old).is_known ≡ true → KeepsFiles (Y.state system.old) (Y.state system.new)) }
+    ensures system { KeepsSystem (Y.state system.old) (Y.state system.new) }
+    ensures later { Y.faults system.old ≤ Y.faults system.new }
+    ensures sink { K.same sink.old sink.new }
+{
+    match read_keys(alloc, system, words.input) {
+        Ok(keys) => wrap_keys(alloc, system, words, master, keys, sink),
+        Err(trouble) => Err(trouble),
+    }
+}
+
+// Of a file of keys that is read.
+fn wrap_keys<'w, Y: System, K: Sink>(
+    alloc: Global,
+    system: &mut Y,
+    words: Words<'w>,
+    master: &Master,
+    keys: Vec<u8>,
+    sink: &mut K,
+) -> Result<(), Trouble<'w>>
+    ensures done { OnOk result ((Y.state system.old).is_known ≡ true → (m : MasterKeys) → IsMaster m master.now
+        → IsWrappedKeys m keys.items words (Y.state system.old) (Y.state system.new) (K.got sink.old) (K.got sink.new)) }
+    ensures kept { OnErr result ((Y.state system.old).is_known ≡ true → KeepsFiles (Y.state system.old) (Y.state system.new)) }
+    ensures system { KeepsSystem (Y.state system.old) (Y.state system.new) }
+    ensures later { Y.faults system.old ≤ Y.faults system.new }
+    ensures sink { K.same sink.old sink.new }
+{
+    match system.draws(alloc, DRAWN) {
+        Ok(mut draws) => {
+            let made = wrapped(alloc, master, keys, words.aad, words.format, &mut draws);
+            save_new(alloc, system, made, words.input, words.output, sink)
+        }
+        Err(trouble) => Err(trouble),
+    }
+}
+
+/// `unwrap`: a new file has the keyset that a master decrypts of a wrapped file.
+///
+/// # Errors
+/// 11, 13, 14 and 30 if a file cannot be read or is no wrapped file; 15 to 18 if the master does not load as AEADs; 34 if no
+/// key of the master decrypts it with these data; 12 if the output is the master or the wrapped file, a file has its name, or
+/// it cannot be written; 10. No file is changed then.
+pub fn unwrap<'w, Y: System, K: Sink>(
+    alloc: Global,
+    system: &mut Y,
+    line: &Line<'w>,
+    sink: &mut K,
+) -> Result<(), Trouble<'w>>
+    ensures done { OnOk result ((Y.state system.old).is_known ≡ true → IsUnwrapped line.now
+        (Y.state system.old) (Y.state system.new) (K.got sink.old) (K.got sink.new)) }
+    ensures kept { OnErr result ((Y.state system.old).is_known ≡ true → KeepsFiles (Y.state system.old) (Y.state system.new)) }
+    ensures system { KeepsSystem (Y.state system.old) (Y.state system.new) }
+    ensures random { (Y.state system.new).random ≡ (Y.state system.old).random }
+    ensures later { Y.faults system.old ≤ Y.faults system.new }
+    ensures sink { K.same sink.old sink.new }
+{
+    let Some(words) = words_of(line) else {
+        return Err(Trouble::Usage);
+    };
+    spare_master(system, words)?;
+    match master_in(alloc, system, words.master) {
+        Ok(master) => unwrap_under(alloc, system, words, &master, sink),
+        Err(trouble) => Err(trouble),
+    }
+}
+
+// Under a master that is loaded.
+fn unwrap_under<'w, Y: System, K: Sink>(
+    alloc: Global,
+    system: &mut Y,
+    words: Words<'w>,
+    master: &Master,
+    sink: &mut K,
+) -> Result<(), Trouble<'w>>
+    ensures done { OnOk result ((Y.state system.old).is_known ≡ true → (m : MasterKeys) → IsMaster m master.now
+        → IsUnwrappedBy m words (Y.state system.old) (Y.state system.new) (K.got sink.old) (K.got sink.new)) }
+    ensures kept { OnErr result ((Y.state system.old).is_known ≡ true → KeepsFiles (Y.state system.old) (Y.state system.new)) }
+    ensures system { KeepsSystem (Y.state system.old) (Y.state system.new) }
+    ensures random { (Y.state system.new).random ≡ (Y.state system.old).random }
+    ensures later { Y.faults system.old ≤ Y.faults system.new }
+    ensures sink { K.same sink.old sink.new }
+{
+    match read_keys(alloc, system, words.input) {
+        Ok(file) => {
+            let made = unwrapped(alloc, master, &file, words.aad, words.format);
+            save_new(alloc, system, made, words.input, words.output, sink)
+        }
+        Err(trouble) => Err(trouble),
+    }
+}
+
+// The output is not the master.
+fn spare_master<'w, Y: System>(system: &mut Y, words: Words<'w>) -> Result<(), Trouble<'w>>
+    ensures still { system.new ≡ system.old }
+{
+    match named(Some(words.output)) {
+        Some(output) => {
+            spare_file(system, output, named(Some(words.master)))?;
+            spare_file(system, output, named(Some(words.input)))
+        }
+        None => Ok(()),
     }
 }

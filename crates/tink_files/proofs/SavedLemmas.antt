@@ -1,18 +1,12 @@
 -- What is saved, and what its call leaves.
-use Rattle.std.proofs.Common.{◌≡◌, ◌∙◌, ◌⊎◌, inl, inr, ℕ, List, true, None, Result, Ok, Err, ap, refl, sym}
+use Rattle.std.proofs.Common.{◌≡◌, ◌∙◌, ◌⊎◌, inl, inr, ℕ, List, true, None, Result, Ok, Err, ap, sym}
 use Rattle.std.specs.Prelude.{IfErr}
 use Rattle.std.specs.declared.option.Option.{Option}
-use Rattle.tink_io.specs.Told.{IsShort}
-use Rattle.tink_io.specs.declared.error.Kind.{Kind}
-use Rattle.tink_io.specs.declared.error.Kind.TheVariants.{OutOfMemory, WriteFault}
+use Rattle.tink_io.specs.declared.error.Kind.TheVariants.{WriteFault}
 use Rattle.tink_io.specs.declared.error.TinkError.{TinkError}
-use Rattle.tink_proto.specs.declared.messages.keys.Keyset.{Keyset}
 use Rattle.tink_keysets.specs.Through.{LeavesDraws}
-use Rattle.tink_keysets.specs.Valid.{valid_keyset}
 use Rattle.tink_io.specs.Places.{Ends}
-use Rattle.tink_keygen.specs.Rotating.{left_by}
-use Rattle.tink_keygen.proofs.RotatingSteps.{leaves_told, undrawn}
-use Rattle.tink_files.specs.Saved.{left_from}
+use Rattle.tink_keygen.proofs.RotatingSteps.{leaves_told}
 
 -- a refusal ends a draft as it is, whatever the draft has
 pub ended_refused : (answer : Result (List ℕ) TinkError) (before after : Option (Option (List ℕ))) (e : TinkError) (result : Result (Unit {0}) TinkError)
@@ -37,14 +31,3 @@ pub saved_draws : (answer : Result (List ℕ) TinkError) (result : Result (Unit 
     → IfErr answer (λ e. result ≡ Err e) → LeavesDraws answer left before now → LeavesDraws result left before now
 saved_draws (Ok bytes) result left before now same leaves = leaves_told result left before now leaves
 saved_draws (Err e) result left before now same leaves = rw same leaves
-
--- nothing is drawn where a file is no keyset
-pub left_unread : (told : Result (List ℕ) Kind) (template draws : List ℕ) (e : TinkError) → (e.kind ≡ OutOfMemory) ⊎ (told ≡ Err e.kind)
-    → IsShort e.kind draws draws ⊎ (draws ≡ left_from told template draws)
-left_unread told template draws e (inl want) = inl (undrawn e.kind draws want)
-left_unread told template draws e (inr is) = inr (rw is refl)
-
--- else what the rotation leaves is left
-pub left_read : (told : Result (List ℕ) Kind) (bytes template draws now : List ℕ) (result : Result Keyset TinkError) → told ≡ Ok bytes
-    → LeavesDraws result (left_by template (valid_keyset bytes) draws) draws now → LeavesDraws result (left_from told template draws) draws now
-left_read told bytes template draws now result is leaves = rw is leaves

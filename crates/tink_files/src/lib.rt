@@ -4,6 +4,7 @@
 #![tactic(auto)]
 
 mod key_files;
+mod made_files;
 mod ranges;
 mod saved;
 mod tasks;
@@ -11,6 +12,7 @@ pub mod under_master;
 mod wrapping;
 
 pub use key_files::{edit_keys, new_keys, rotate_keys};
+pub use made_files::{added_file, converted_file, new_file, rotated_file};
 pub use ranges::range_to;
 pub use saved::save_answer;
 pub use tasks::{Task, save_task, write_task};

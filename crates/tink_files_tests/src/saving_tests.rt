@@ -36,13 +36,13 @@ const WRAPPED_JSON: &[u8] = b"\
     status\": \"ENABLED\",\"keyId\": 1499027801,\"outputPrefixType\": \"RAW\"}]}}";
 
 // The keyset with a new primary key of the id ZZZZ.
-const ROTATED: &[u8] = b"\
+pub const ROTATED: &[u8] = b"\
     \x08\xda\xb4\xe9\xd2\x05\x12T\x0aH\x0a0type.googleapis.com/google.crypto.tink.AesGcmKey\x12\x12\x1a\x10fedcb\
     a9876543210\x18\x01\x10\x01\x18\xd9\xb2\xe5\xca\x05 \x03\x12T\x0aH\x0a0type.googleapis.com/google.crypto.tin\
     k.AesGcmKey\x12\x12\x1a\x100123456789abcdef\x18\x01\x10\x01\x18\xda\xb4\xe9\xd2\x05 \x01";
 
 // The same with the first one as the primary key.
-const PROMOTED: &[u8] = b"\
+pub const PROMOTED: &[u8] = b"\
     \x08\xd9\xb2\xe5\xca\x05\x12T\x0aH\x0a0type.googleapis.com/google.crypto.tink.AesGcmKey\x12\x12\x1a\x10fedcb\
     a9876543210\x18\x01\x10\x01\x18\xd9\xb2\xe5\xca\x05 \x03\x12T\x0aH\x0a0type.googleapis.com/google.crypto.tin\
     k.AesGcmKey\x12\x12\x1a\x100123456789abcdef\x18\x01\x10\x01\x18\xda\xb4\xe9\xd2\x05 \x01";

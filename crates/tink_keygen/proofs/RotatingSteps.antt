@@ -22,18 +22,18 @@ use Rattle.tink.specs.Managers.{row_of}
 use Rattle.tink.specs.Registered.{with_everything}
 use Rattle.tink.specs.declared.managers.Managers.{Managers}
 use Rattle.tink_keygen.specs.NamedTemplates.{data_by_all, template_named}
-use Rattle.tink_keygen.specs.Rotating.{left_after, left_by, rotated, rotated_by, rotated_where, IsNotRotated}
+use Rattle.tink_keygen.specs.Rotating.{grown, grown_by, left_grown, left_grown_by, rotated, rotated_by, rotated_where, IsNotRotated}
 use Rattle.tink_keygen.proofs.IdFacts.{refused_by_ids}
 use Rattle.tink_keygen.proofs.TemplateFacts.{named_makes, MakesKeys}
 use Rattle.tink_keygen.proofs.ValidatedFacts.{formed_of, validated}
 
 -- adding by the managers of the registry of all
-abbrev added_of : Registered Managers → Keyset → KeyTemplate → List ℕ → Added
-added_of r ks kt draws = added_by (λ m. (row_of m).url) (λ m. (row_of m).made_data) r.managers ks kt true draws
+abbrev added_of : Bool → Registered Managers → Keyset → KeyTemplate → List ℕ → Added
+added_of p r ks kt draws = added_by (λ m. (row_of m).url) (λ m. (row_of m).made_data) r.managers ks kt p draws
 
-pub added_by_all : (r : Registered Managers) (ks : Keyset) (kt : KeyTemplate) (draws : List ℕ) → r ≡ with_everything → added_of r ks kt draws ≡ added ks kt true (data_by_all kt draws)
+pub added_by_all : (p : Bool) (r : Registered Managers) (ks : Keyset) (kt : KeyTemplate) (draws : List ℕ) → r ≡ with_everything → added_of p r ks kt draws ≡ added ks kt p (data_by_all kt draws)
 unfolding data_by_all
-added_by_all r ks kt draws is = ap (λ (x : Registered Managers). added_of x ks kt draws) is
+added_by_all p r ks kt draws is = ap (λ (x : Registered Managers). added_of p x ks kt draws) is
 
 -- the template of a name, of the registry of all
 pub named_by_all : (r : Registered Managers) (name : List ℕ) → r ≡ with_everything → template_of name r.templates ≡ template_named name
@@ -46,18 +46,18 @@ refused_reply a kind is = rw is refl
 given_reply : (a : Added) (id : ℕ) (ks : Keyset) → a.answer ≡ Ok id → a.keyset ≡ ks → (keyset_reply a).0 ≡ Ok ks
 given_reply a id ks is same = rw (is, same) refl
 
--- a manager that refuses to rotate
-pub not_rotated : (r : Registered Managers) (ks : Keyset) (kt : KeyTemplate) (draws now : List ℕ) (e : TinkError) → r ≡ with_everything
-    → IsShort e.kind draws now ⊎ ((reply (added_of r ks kt draws)).0 ≡ Err e.kind) × (now ≡ (reply (added_of r ks kt draws)).1) → (e.kind ≡ OutOfMemory) ⊎ (rotated kt draws ks ≡ Err e.kind)
-not_rotated r ks kt draws now e is (inl short) = inl short.kind
-not_rotated r ks kt draws now e is (inr told) = inr (refused_reply (added ks kt true (data_by_all kt draws)) e.kind (rw (sym (added_by_all r ks kt draws is)) told.0))
+-- a manager that refuses to add a key
+pub not_grown : (p : Bool) (r : Registered Managers) (ks : Keyset) (kt : KeyTemplate) (draws now : List ℕ) (e : TinkError) → r ≡ with_everything
+    → IsShort e.kind draws now ⊎ ((reply (added_of p r ks kt draws)).0 ≡ Err e.kind) × (now ≡ (reply (added_of p r ks kt draws)).1) → (e.kind ≡ OutOfMemory) ⊎ (grown p kt draws ks ≡ Err e.kind)
+not_grown p r ks kt draws now e is (inl short) = inl short.kind
+not_grown p r ks kt draws now e is (inr told) = inr (refused_reply (added ks kt p (data_by_all kt draws)) e.kind (rw (sym (added_by_all p r ks kt draws is)) told.0))
 
--- a manager that rotates, and its keyset afterwards
-pub is_rotated : (r : Registered Managers) (ks new : Keyset) (kt : KeyTemplate) (draws : List ℕ) (id : ℕ) → r ≡ with_everything
-    → (reply (added_of r ks kt draws)).0 ≡ Ok id → new ≡ (added_of r ks kt draws).keyset → rotated kt draws ks ≡ Ok new
-is_rotated r ks new kt draws id is told same =
-    let all = added_by_all r ks kt draws is in
-    given_reply (added ks kt true (data_by_all kt draws)) id new (rw (sym all) told) (rw (sym all) (sym same))
+-- a manager that adds one, and its keyset afterwards
+pub is_grown : (p : Bool) (r : Registered Managers) (ks new : Keyset) (kt : KeyTemplate) (draws : List ℕ) (id : ℕ) → r ≡ with_everything
+    → (reply (added_of p r ks kt draws)).0 ≡ Ok id → new ≡ (added_of p r ks kt draws).keyset → grown p kt draws ks ≡ Ok new
+is_grown p r ks new kt draws id is told same =
+    let all = added_by_all p r ks kt draws is in
+    given_reply (added ks kt p (data_by_all kt draws)) id new (rw (sym all) told) (rw (sym all) (sym same))
 
 -- ---- a keyset that is made is valid
 
@@ -113,25 +113,27 @@ pub copied : (told : Result Keyset Kind) (ks h : Keyset) (result : Result Keyset
 copied told ks h (Ok x) is same copy want = is ∙ ap (λ (y : Keyset). Ok y) (sym (copy ∙ same))
 copied told ks h (Err e) is same copy want = inl (ap (λ (x : TinkError). x.kind) want)
 
-pub copied_valid : (ks new h : Keyset) (kt : KeyTemplate) (draws : List ℕ) (result : Result Keyset TinkError) → are_well_formed ks ≡ true → rotated kt draws ks ≡ Ok new → h ≡ new
-    → IfOk result (λ x. x ≡ h) → IfOk result MayBeHeld → IfOk result IsValid
-copied_valid ks new h kt draws (Ok x) formed is same copy held = rotated_valid ks x kt draws formed (is ∙ ap (λ (y : Keyset). Ok y) (sym (copy ∙ same))) held
-copied_valid ks new h kt draws (Err e) formed is same copy held = tt
+pub copied_valid : (p : Bool) (ks new h : Keyset) (kt : KeyTemplate) (draws : List ℕ) (result : Result Keyset TinkError) → p ≡ true → are_well_formed ks ≡ true
+    → grown p kt draws ks ≡ Ok new → h ≡ new → IfOk result (λ x. x ≡ h) → IfOk result MayBeHeld → IfOk result IsValid
+copied_valid p ks new h kt draws (Ok x) primary formed is same copy held =
+    let copies : grown p kt draws ks ≡ Ok x = is ∙ ap (λ (y : Keyset). Ok y) (sym (copy ∙ same)) in
+    rotated_valid ks x kt draws formed (subst (λ (q : Bool). grown q kt draws ks ≡ Ok x) primary copies) held
+copied_valid p ks new h kt draws (Err e) primary formed is same copy held = tt
 
 -- no template has the name
-pub unknown : (name : List ℕ) (start : Result Keyset Kind) (draws : List ℕ) (e : TinkError) → e.kind ≡ UnknownTemplate → template_named name ≡ None → (e.kind ≡ OutOfMemory) ⊎ (rotated_by name start draws ≡ Err e.kind)
-unknown name start draws e is none = inr (rw none (ap (λ (k : Kind). Err k) (sym is)))
+pub unknown : (p : Bool) (name : List ℕ) (start : Result Keyset Kind) (draws : List ℕ) (e : TinkError) → e.kind ≡ UnknownTemplate → template_named name ≡ None → (e.kind ≡ OutOfMemory) ⊎ (grown_by p name start draws ≡ Err e.kind)
+unknown p name start draws e is none = inr (rw none (ap (λ (k : Kind). Err k) (sym is)))
 
 -- one has it, and the keyset was not refused
-pub known : (name : List ℕ) (kt : KeyTemplate) (start : Result Keyset Kind) (ks m : Keyset) (draws : List ℕ) (result : Result Keyset TinkError) → template_named name ≡ Some kt → start ≡ Ok ks → m ≡ ks
-    → Answers result (rotated kt draws m) → Answers result (rotated_by name start draws)
-known name kt start ks m draws result named is same answers = rw (named, is, sym same) answers
+pub known : (p : Bool) (name : List ℕ) (kt : KeyTemplate) (start : Result Keyset Kind) (ks m : Keyset) (draws : List ℕ) (result : Result Keyset TinkError) → template_named name ≡ Some kt → start ≡ Ok ks → m ≡ ks
+    → Answers result (grown p kt draws m) → Answers result (grown_by p name start draws)
+known p name kt start ks m draws result named is same answers = rw (named, is, sym same) answers
 
 -- or it was
-pub start_refused : (name : List ℕ) (kt : KeyTemplate) (start : Result Keyset Kind) (draws : List ℕ) (e : TinkError) → template_named name ≡ Some kt
-    → (e.kind ≡ OutOfMemory) ⊎ (start ≡ Err e.kind) → (e.kind ≡ OutOfMemory) ⊎ (rotated_by name start draws ≡ Err e.kind)
-start_refused name kt start draws e named (inl want) = inl want
-start_refused name kt start draws e named (inr is) = inr (rw (named, is) refl)
+pub start_refused : (p : Bool) (name : List ℕ) (kt : KeyTemplate) (start : Result Keyset Kind) (draws : List ℕ) (e : TinkError) → template_named name ≡ Some kt
+    → (e.kind ≡ OutOfMemory) ⊎ (start ≡ Err e.kind) → (e.kind ≡ OutOfMemory) ⊎ (grown_by p name start draws ≡ Err e.kind)
+start_refused p name kt start draws e named (inl want) = inl want
+start_refused p name kt start draws e named (inr is) = inr (rw (named, is) refl)
 
 -- a manager of a valid keyset has well-formed keys
 pub formed_manager : (h m : Keyset) → is_valid h ≡ true → m ≡ h → are_well_formed m ≡ true
@@ -140,16 +142,16 @@ formed_manager h m valid same = subst (λ x. are_well_formed x ≡ true) (sym sa
 -- ---- the draws that are left
 
 -- what adding leaves
-pub left_told : (r : Registered Managers) (ks : Keyset) (kt : KeyTemplate) (draws now : List ℕ) → r ≡ with_everything
-    → now ≡ (reply (added_of r ks kt draws)).1 → now ≡ left_after kt draws ks
-left_told r ks kt draws now is left = left ∙ ap (λ (a : Added). a.left) (added_by_all r ks kt draws is)
+pub left_told : (p : Bool) (r : Registered Managers) (ks : Keyset) (kt : KeyTemplate) (draws now : List ℕ) → r ≡ with_everything
+    → now ≡ (reply (added_of p r ks kt draws)).1 → now ≡ left_grown p kt draws ks
+left_told p r ks kt draws now is left = left ∙ ap (λ (a : Added). a.left) (added_by_all p r ks kt draws is)
 
--- what a manager leaves that refuses to rotate
-pub left_refused : (r : Registered Managers) (ks : Keyset) (kt : KeyTemplate) (draws now : List ℕ) (e : TinkError) → r ≡ with_everything
-    → IsShort e.kind draws now ⊎ ((reply (added_of r ks kt draws)).0 ≡ Err e.kind) × (now ≡ (reply (added_of r ks kt draws)).1)
-    → IsShort e.kind draws now ⊎ (now ≡ left_after kt draws ks)
-left_refused r ks kt draws now e is (inl short) = inl short
-left_refused r ks kt draws now e is (inr told) = inr (left_told r ks kt draws now is told.1)
+-- what a manager leaves that refuses to add a key
+pub left_refused : (p : Bool) (r : Registered Managers) (ks : Keyset) (kt : KeyTemplate) (draws now : List ℕ) (e : TinkError) → r ≡ with_everything
+    → IsShort e.kind draws now ⊎ ((reply (added_of p r ks kt draws)).0 ≡ Err e.kind) × (now ≡ (reply (added_of p r ks kt draws)).1)
+    → IsShort e.kind draws now ⊎ (now ≡ left_grown p kt draws ks)
+left_refused p r ks kt draws now e is (inl short) = inl short
+left_refused p r ks kt draws now e is (inr told) = inr (left_told p r ks kt draws now is told.1)
 
 -- whatever is answered, where the given draws are left
 pub leaves_told : {T : Type 0} (result : Result T TinkError) (left before now : List ℕ) → now ≡ left → LeavesDraws result left before now
@@ -161,16 +163,16 @@ pub undrawn : (kind : Kind) (draws : List ℕ) → kind ≡ OutOfMemory → IsSh
 undrawn kind draws is = record { kind = is; ends = ([], refl) }
 
 -- nor where no template has the name
-pub left_unknown : (name : List ℕ) (start : Result Keyset Kind) (draws : List ℕ) → template_named name ≡ None → draws ≡ left_by name start draws
-left_unknown name start draws none = rw none refl
+pub left_unknown : (p : Bool) (name : List ℕ) (start : Result Keyset Kind) (draws : List ℕ) → template_named name ≡ None → draws ≡ left_grown_by p name start draws
+left_unknown p name start draws none = rw none refl
 
 -- nor where the keyset was refused
-pub left_start : (name : List ℕ) (kt : KeyTemplate) (start : Result Keyset Kind) (draws : List ℕ) (e : TinkError) → template_named name ≡ Some kt
-    → (e.kind ≡ OutOfMemory) ⊎ (start ≡ Err e.kind) → IsShort e.kind draws draws ⊎ (draws ≡ left_by name start draws)
-left_start name kt start draws e named (inl want) = inl (undrawn e.kind draws want)
-left_start name kt start draws e named (inr is) = inr (rw (named, is) refl)
+pub left_start : (p : Bool) (name : List ℕ) (kt : KeyTemplate) (start : Result Keyset Kind) (draws : List ℕ) (e : TinkError) → template_named name ≡ Some kt
+    → (e.kind ≡ OutOfMemory) ⊎ (start ≡ Err e.kind) → IsShort e.kind draws draws ⊎ (draws ≡ left_grown_by p name start draws)
+left_start p name kt start draws e named (inl want) = inl (undrawn e.kind draws want)
+left_start p name kt start draws e named (inr is) = inr (rw (named, is) refl)
 
 -- else what adding leaves is left
-pub left_known : (name : List ℕ) (kt : KeyTemplate) (start : Result Keyset Kind) (ks m : Keyset) (draws now : List ℕ) (result : Result Keyset TinkError)
-    → template_named name ≡ Some kt → start ≡ Ok ks → m ≡ ks → LeavesDraws result (left_after kt draws m) draws now → LeavesDraws result (left_by name start draws) draws now
-left_known name kt start ks m draws now result named is same leaves = rw (named, is, sym same) leaves
+pub left_known : (p : Bool) (name : List ℕ) (kt : KeyTemplate) (start : Result Keyset Kind) (ks m : Keyset) (draws now : List ℕ) (result : Result Keyset TinkError)
+    → template_named name ≡ Some kt → start ≡ Ok ks → m ≡ ks → LeavesDraws result (left_grown p kt draws m) draws now → LeavesDraws result (left_grown_by p name start draws) draws now
+left_known p name kt start ks m draws now result named is same leaves = rw (named, is, sym same) leaves

@@ -1,2 +1,4 @@
+pub mod Growing
 pub mod NamedTemplates
 pub mod Rotating
+pub mod TemplateLines

@@ -1,17 +1,22 @@
 //! New and rotated keysets, by the name of a template.
 #![tactic(auto)]
 
-ghost use Rattle.std.specs.Prelude.{◌≡◌, ◌⊎◌, ◌≤◌, None, Some, Ok, IfOk, IfErr, IsTrue, MatchResult, length};
+ghost use Rattle.std.specs.Prelude.{◌≡◌, ◌⊎◌, ◌≤◌, None, Some, Ok, IfOk, IfErr, IsTrue, MatchResult, length, true};
 ghost use Rattle.tink_io.specs.declared.error.Kind.TheVariants.{OutOfMemory, UnknownTemplate};
 ghost use Rattle.tink_io.specs.Told.{Answers};
 ghost use Rattle.keyset_model.specs.Validity.{IsValid, are_well_formed};
 ghost use Rattle.tink_keysets.specs.Managed.{no_keys};
 ghost use Rattle.tink_keygen.specs.NamedTemplates.{template_named};
 ghost use Rattle.tink.specs.Registered.{with_everything};
-ghost use Rattle.tink_keygen.specs.Rotating.{IsNotRotated, key_line, left_after, left_by, rotated, rotated_by};
+ghost use Rattle.tink_keygen.specs.Rotating.{IsNotRotated, grown, key_line, left_by, left_grown, rotated_by};
 ghost use Rattle.tink_keysets.specs.Through.{LeavesDraws};
 ghost use Rattle.tink_keysets.specs.Valid.{valid_keyset};
 
+mod growing;
+mod listing;
+
+pub use growing::{add, keygen_with_prefix, rotate_alike};
+pub use listing::template_lines;
 use std::alloc::Global;
 use tink::{Managers, registry};
 use tink_io::{Draws, Kind, TinkError};
@@ -83,7 +88,7 @@ fn new_keyset(alloc: Global, template: &str, draws: &mut Draws) -> Result<Keyset
 {
     let registry = registry(alloc)?;
     let kt = named(&registry, template)?;
-    with_new_key(alloc, Manager::new(alloc), kt, &registry, draws)
+    with_new_key(alloc, Manager::new(alloc), kt, &registry, draws, true)
 }
 
 // What `rotate` answers. Its causes follow from this.
@@ -106,6 +111,7 @@ fn rotated_keyset(
         kt,
         &registry,
         draws,
+        true,
     )
 }
 
@@ -121,21 +127,22 @@ fn named<'r>(registry: &'r Registry<Managers>, name: &str) -> Result<&'r KeyTemp
     }
 }
 
-// A manager's keyset with a new key by a template as its primary one.
+// A manager's keyset with a new key by a template, as its primary one or not.
 fn with_new_key(
     alloc: Global,
     manager: Manager,
     kt: &KeyTemplate,
     registry: &Registry<Managers>,
     draws: &mut Draws,
+    as_primary: bool,
 ) -> Result<Keyset, TinkError>
     requires { registry.now ≡ with_everything }
-    ensures answer { Answers result (rotated kt.now draws.old manager) }
-    ensures rest { LeavesDraws result (left_after kt.now draws.old manager) draws.old draws.new }
-    ensures valid { IsTrue (are_well_formed manager) → IfOk result IsValid }
+    ensures answer { Answers result (grown as_primary kt.now draws.old manager) }
+    ensures rest { LeavesDraws result (left_grown as_primary kt.now draws.old manager) draws.old draws.new }
+    ensures valid { as_primary ≡ true → IsTrue (are_well_formed manager) → IfOk result IsValid }
 {
     let mut manager = manager;
-    manager.add(alloc, kt, registry, draws, true)?;
+    manager.add(alloc, kt, registry, draws, as_primary)?;
     let handle = manager.handle(alloc)?;
     insecure::keyset_material(alloc, &handle)
 }

@@ -1,48 +1,44 @@
 -- What the words of a command over a stream or a token say.
-use Rattle.std.specs.Prelude.{◌≡◌, ◌^◌, ◌-◌, ℕ, List, [], Option, Some, None, Ok, codes, option_map, if◌then◌else◌}
-use Rattle.tink_words.specs.Lines.{LineRead, is}
+use Rattle.std.specs.Prelude.{◌≡◌, ℕ, List, [], Option, Some, None, option_map}
+use Rattle.tink_words.specs.LineRead.{LineRead}
 use Rattle.tink_words.specs.declared.form.Action.{Action}
 use Rattle.tink_words.specs.declared.form.Action.TheVariants as actions
-use Rattle.tink_keyset_io.specs.Files.{wire_of}
-use Rattle.tink_program.specs.Words.{IsNumberWord}
 use Rattle.tink_run.specs.declared.report.Command.TheVariants.{Open, Seal}
 use Rattle.tink_files.specs.declared.tasks.Task.{Task}
 use Rattle.tink_files.specs.declared.tasks.Task.TheVariants.{Rewrap, Run, Sign, Verify}
+use Rattle.tink_stream_commands.specs.Loading.{named}
 use Rattle.tink_stream_commands.specs.declared.job.Job.{Job}
-use Rattle.tink_stream_commands.specs.declared.job.Side.{Side}
+use Rattle.tink_stream_commands.specs.declared.keys.KeyWords.{KeyWords}
 
 -- the associated data that a word gives, and else none
 abbrev pub data_of : Option (List ℕ) → List ℕ
 data_of (Some word) = word
 data_of None = []
 
--- the keyset of a file of keys, with the associated data of a word
-pub record IsSide (file : List ℕ) (aad : Option (List ℕ)) (side : Side) : Type 0 where
-  pub keyset : wire_of file ≡ Ok side.keyset
-  pub aad_is : side.aad.now ≡ data_of aad
+-- a file of keys, under the master of a line
+pub record IsKeyWords (line : LineRead) (keys : List ℕ) (words : KeyWords) : Type 0 where
+  pub keys_is : words.keys.now ≡ keys
+  pub master : option_map (λ s. s.now) words.master ≡ line.master
+  pub master_aad : words.master_aad.now ≡ data_of line.master_aad
 
--- a name of a file: a dash is none
-abbrev pub named : Option (List ℕ) → Option (List ℕ)
-named None = None
-named (Some word) = if is word (codes "-") then None else Some word
-
--- the name of an input, a dash where there is none
-abbrev pub input_of : Option (List ℕ) → List ℕ
-input_of (Some word) = word
-input_of None = codes "-"
+abbrev pub AreNewKeys : LineRead → Option (List ℕ) → Option KeyWords → Type 0
+AreNewKeys line None None = Unit {0}
+AreNewKeys line (Some keys) (Some words) = IsKeyWords line keys words
+AreNewKeys line _ _ = ⊥
 
 -- what the words of a command over a stream or a token say
 pub record IsJob (line : LineRead) (job : Job) : Type 0 where
-  pub aad : job.side.aad.now ≡ data_of line.aad
-  pub new_keys : option_map (λ s. s.now) job.new_keys ≡ line.to
-  pub input : job.input.now ≡ input_of line.first
+  pub file : List ℕ
+  pub given : line.keys ≡ Some file
+  pub keys : IsKeyWords line file job.keys
+  pub aad : job.aad.now ≡ data_of line.aad
+  pub new_keys : AreNewKeys line line.to job.new_keys
+  pub new_aad : job.new_aad.now ≡ data_of line.to_aad
+  pub input : option_map (λ s. s.now) job.input ≡ named line.first
   pub output : option_map (λ s. s.now) job.output ≡ named line.output
   pub quiet : job.is_quiet ≡ line.quiet
-
--- the number that a word writes
-abbrev pub IsNumberOf : Option (List ℕ) → ℕ → Type 0
-IsNumberOf (Some word) n = IsNumberWord (2 ^ 64 - 1) word n
-IsNumberOf None n = ⊥
+  pub forced : job.is_forced ≡ line.force
+  pub keeps : job.keeps_output ≡ line.no_clobber
 
 -- what a command makes of its input under its own keys
 abbrev pub own_task : Action → Option Task

@@ -1,8 +1,14 @@
-//! The commands over streams, tokens and ranges of files, by their words.
+//! The commands over streams, tokens and ranges of files, by their words, over any system.
 #![tactic(auto)]
 
+pub mod checking;
+mod discard;
 mod job;
+pub mod keys;
+mod performing;
+pub mod protecting;
 pub mod ranges;
 pub mod streams;
 
-pub use job::data_of;
+pub use job::{data_of, named};
+pub use performing::DRAWN;

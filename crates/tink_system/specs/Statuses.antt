@@ -6,7 +6,7 @@ use Rattle.tink_io.specs.Statuses.{kind_status}
 use Rattle.tink_system.specs.declared.trouble.Trouble.{Trouble}
 use Rattle.tink_system.specs.declared.trouble.Trouble.TheVariants.{NoMatch, Refused, Unusable, Usage}
 
--- a refusal's: that of the program over streams, and 30 to 35 for those that it has not
+-- an error's: that of the program over streams, and 30 to 35 for those that it has not
 abbrev pub refusal_status : Kind → ℕ
 refusal_status BadJson = 30
 refusal_status KeyNotFound = 31
@@ -23,7 +23,3 @@ trouble_status Usage = 2
 trouble_status (Refused file kind) = refusal_status kind
 trouble_status (NoMatch file keys) = 21
 trouble_status (Unusable file why status) = status
-
--- a refusal of this status, or for want of memory
-abbrev pub IsOfStatus : ℕ → Trouble → Type 0
-IsOfStatus status trouble = (trouble_status trouble ≡ status) ⊎ (trouble_status trouble ≡ 10)

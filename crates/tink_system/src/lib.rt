@@ -1,9 +1,11 @@
-//! What the commands over files have of the system: files that appear whole or not at all, objects that are read in any
-//! place, files of keys, random bytes, and what is told on standard error.
+//! What the commands over files need of the system: files by their names, a draft that becomes a file, standard input,
+//! random bytes and the terminal. A trait says this, so that a contract sees the files. A system over memory is one; the real
+//! one is in `tink_unix`.
 #![tactic(auto)]
 
-pub mod meter;
-pub mod outside;
-pub mod real_at;
-pub mod real_place;
+pub mod lines;
+mod system;
 pub mod trouble;
+
+pub use system::{End, How, System};
+pub use trouble::Trouble;

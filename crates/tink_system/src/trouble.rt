@@ -1,12 +1,12 @@
-//! Why a command ended without success, and what is told of it.
+//! Why a command ended without success, and the line that says it.
 
 ghost use Rattle.std.specs.Prelude.{◌≡◌};
-ghost use Rattle.tink_system.specs.Statuses.{IsOfStatus, refusal_status, trouble_status};
+ghost use Rattle.tink_io.specs.Gathering.{OnlyGrows};
+ghost use Rattle.tink_system.specs.Statuses.{refusal_status, trouble_status};
 
-use std::io;
-use std::io::ErrorKind;
-use tink_io::Kind;
+use crate::lines::{put, put_escaped, put_kind};
 use tink_io::refusals::advice;
+use tink_io::{Kind, Sink};
 
 /// Why a command ended without success.
 #[derive(Clone, Copy)]
@@ -14,41 +14,15 @@ pub enum Trouble<'w> {
     /// The words are no command.
     Usage,
     /// A call refused, because of a file.
-    Refused(&'w str, Kind),
+    Refused(&'w [u8], Kind),
     /// No key of the second file opens the stream of the first.
-    NoMatch(&'w str, &'w str),
-    /// A file is not one that can be used so; the status.
-    Unusable(&'w str, &'static str, u8),
+    NoMatch(&'w [u8], &'w [u8]),
+    /// A file is not one that can be used so, and why; the status.
+    Unusable(&'w [u8], &'static str, u8),
 }
 
-/// What hinders a file from being read.
-pub fn unreadable(file: &str, e: io::Error) -> Trouble<'_>
-    ensures { IsOfStatus 11 result }
-{
-    match e.kind() {
-        ErrorKind::NotFound => Trouble::Unusable(file, "there is no such file", 11),
-        ErrorKind::PermissionDenied => Trouble::Unusable(file, "you may not read it", 11),
-        ErrorKind::OutOfMemory => Trouble::Refused(file, Kind::OutOfMemory),
-        _ => Trouble::Refused(file, Kind::ReadFault),
-    }
-}
-
-/// What hinders a file from being written.
-pub fn unwritable(file: &str, e: io::Error) -> Trouble<'_>
-    ensures { IsOfStatus 12 result }
-{
-    match e.kind() {
-        ErrorKind::NotFound => Trouble::Unusable(file, "its folder is not there", 12),
-        ErrorKind::PermissionDenied => {
-            Trouble::Unusable(file, "you may not write into its folder", 12)
-        }
-        ErrorKind::OutOfMemory => Trouble::Refused(file, Kind::OutOfMemory),
-        _ => Trouble::Refused(file, Kind::WriteFault),
-    }
-}
-
-/// The status of a refusal: that of the program over streams, and 30 to 35 for those that it has not.
-fn status(kind: Kind) -> u8
+/// The status of an error: that of the program over streams, and 30 to 35 for those that it has not.
+pub fn status(kind: Kind) -> u8
     ensures { result ≡ refusal_status kind }
 {
     match kind {
@@ -63,31 +37,94 @@ fn status(kind: Kind) -> u8
     }
 }
 
-/// Tells it on standard error, and answers the status.
-pub fn tell(rt: &HostRuntime, trouble: Trouble<'_>) -> u8
+/// The status of what a command ended by.
+pub fn trouble_status(trouble: Trouble<'_>) -> u8
     ensures { result ≡ trouble_status trouble.entry }
 {
     match trouble {
-        Trouble::Usage => {
-            let _told = eprintln!(rt;
-                "tink: these words are no command: `tink help` shows them all"
-            );
-            2
-        }
-        Trouble::Refused(file, kind) => {
-            let helps = advice(kind);
-            let _told = eprintln!(rt; "tink: {file}: {kind}: {helps}");
-            status(kind)
-        }
-        Trouble::NoMatch(file, keys) => {
-            let _told = eprintln!(rt;
-                "tink: {file}: no key of {keys} opens this stream: another keyset, other associated data, or a damaged beginning"
-            );
-            21
-        }
-        Trouble::Unusable(file, why, status) => {
-            let _told = eprintln!(rt; "tink: {file}: {why}");
-            status
-        }
+        Trouble::Usage => 2,
+        Trouble::Refused(_, kind) => status(kind),
+        Trouble::NoMatch(_, _) => 21,
+        Trouble::Unusable(_, _, status) => status,
     }
+}
+
+/// Writes the line of what a command ended by, and answers the status. A name is written by `put_escaped`. If the sink fails
+/// the line ends there.
+pub fn tell<E: Sink>(faults: &mut E, trouble: Trouble<'_>) -> u8
+    ensures status { result ≡ trouble_status trouble.entry }
+    ensures grows { OnlyGrows (E.got faults.old) (E.got faults.new) }
+    ensures same { E.same faults.old faults.new }
+{
+    put_trouble(faults, trouble);
+    trouble_status(trouble)
+}
+
+fn put_trouble<E: Sink>(faults: &mut E, trouble: Trouble<'_>)
+    ensures grows { OnlyGrows (E.got faults.old) (E.got faults.new) }
+    ensures same { E.same faults.old faults.new }
+{
+    match trouble {
+        Trouble::Usage => put(
+            faults,
+            b"tink: these words are no command: `tink help` shows them all\n",
+        ),
+        Trouble::Refused(file, kind) => put_refused(faults, file, kind),
+        Trouble::NoMatch(file, keys) => put_no_match(faults, file, keys),
+        Trouble::Unusable(file, why, _) => put_unusable(faults, file, why),
+    }
+}
+
+// The name, the error and what helps.
+fn put_refused<E: Sink>(faults: &mut E, file: &[u8], kind: Kind)
+    ensures grows { OnlyGrows (E.got faults.old) (E.got faults.new) }
+    ensures same { E.same faults.old faults.new }
+{
+    put_head(faults, file);
+    put_kind(faults, kind);
+    put_end(faults, advice(kind));
+}
+
+// The name of a stream and that of the keys.
+fn put_no_match<E: Sink>(faults: &mut E, file: &[u8], keys: &[u8])
+    ensures grows { OnlyGrows (E.got faults.old) (E.got faults.new) }
+    ensures same { E.same faults.old faults.new }
+{
+    put_head(faults, file);
+    put(faults, b"no key of ");
+    put_escaped(faults, keys);
+    put(
+        faults,
+        b" opens this stream: another keyset, other associated data, or a damaged beginning\n",
+    );
+}
+
+// The name of a file that cannot be used so, and why.
+fn put_unusable<E: Sink>(faults: &mut E, file: &[u8], why: &str)
+    ensures grows { OnlyGrows (E.got faults.old) (E.got faults.new) }
+    ensures same { E.same faults.old faults.new }
+{
+    put_head(faults, file);
+    put(faults, why.as_bytes());
+    put(faults, b"\n");
+}
+
+// The program's name and that of a file.
+fn put_head<E: Sink>(faults: &mut E, file: &[u8])
+    ensures grows { OnlyGrows (E.got faults.old) (E.got faults.new) }
+    ensures same { E.same faults.old faults.new }
+{
+    put(faults, b"tink: ");
+    put_escaped(faults, file);
+    put(faults, b": ");
+}
+
+// What helps, and the end of the line.
+fn put_end<E: Sink>(faults: &mut E, helps: &str)
+    ensures grows { OnlyGrows (E.got faults.old) (E.got faults.new) }
+    ensures same { E.same faults.old faults.new }
+{
+    put(faults, b": ");
+    put(faults, helps.as_bytes());
+    put(faults, b"\n");
 }

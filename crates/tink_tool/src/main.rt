@@ -1,41 +1,21 @@
 //! tink: keys in files, and files and streams encrypted under them.
 #![tactic(auto)]
 
-use std::env;
-use std::io::ErrorKind;
 use std::process::ExitCode;
 use tink_commands::run;
-use tink_io::{Kind, StdSink};
-use tink_program::program::{Outcome, status, tell};
-use tink_system::trouble::{self, Trouble};
+use tink_io::StdSink;
+use tink_system::trouble::{Trouble, tell};
+use tink_unix::{Unix, occupy_standard_streams, words_of_process};
 
 fn main(rt: HostRuntime) -> ExitCode {
-    match words_of(&rt) {
-        Ok(words) => ExitCode::from(run(&rt, &words)),
-        Err(Outcome::Usage) => ExitCode::from(trouble::tell(&rt, Trouble::Usage)),
-        Err(outcome) => {
-            tell(&mut StdSink::new(rt.stderr()), outcome);
-            ExitCode::from(status(outcome))
+    occupy_standard_streams(&rt);
+    let mut faults = StdSink::new(rt.stderr());
+    match words_of_process(&rt) {
+        Ok(words) => {
+            let mut system = Unix::new(&rt);
+            let mut sink = StdSink::new(rt.stdout());
+            ExitCode::from(run(rt.alloc(), &mut system, words.as_slice(), &mut sink, &mut faults))
         }
+        Err(e) => ExitCode::from(tell(&mut faults, Trouble::Refused(b"tink", e.kind))),
     }
-}
-
-// The words after the program's name, or how the program ends where they are not UTF-8 or there is
-// no memory for them.
-fn words_of(rt: &HostRuntime) -> Result<Vec<String>, Outcome> {
-    let mut given = match env::args(rt) {
-        Ok(given) => given,
-        Err(e) if e.kind() == ErrorKind::OutOfMemory => {
-            return Err(Outcome::Refused(Kind::OutOfMemory));
-        }
-        Err(_) => return Err(Outcome::Usage),
-    };
-    let _name = given.next();
-    let mut words = Vec::new(rt.alloc());
-    for word in given {
-        if words.push(word).is_err() {
-            return Err(Outcome::Refused(Kind::OutOfMemory));
-        }
-    }
-    Ok(words)
 }

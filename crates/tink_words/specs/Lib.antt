@@ -1,2 +1,12 @@
+pub mod Words
+pub mod Options
+pub mod Wrongs
+pub mod Values
+pub mod Actions
+pub mod Texts
+pub mod LineRead
 pub mod Lines
 pub mod Forms
+pub mod Usages
+pub mod Similar
+pub mod Help

@@ -1,10 +1,11 @@
 //! A whole command line.
 
 ghost use Rattle.std.specs.Prelude.{◌≡◌};
-ghost use Rattle.tink_words.specs.Forms.{given, words_of};
-ghost use Rattle.tink_words.specs.Lines.{nothing_read, read_on, words_in};
+ghost use Rattle.tink_words.specs.Forms.{given, given_of};
+ghost use Rattle.tink_words.specs.Words.{byte_words};
 
-use crate::{Action, Line};
+use crate::line::line_of;
+use crate::{Action, Line, Why, Word, Wrong};
 
 /// A command and its values.
 #[derive(Drop)]
@@ -13,32 +14,39 @@ pub struct Given<'w> {
     pub line: Line<'w>,
 }
 
-/// The command of the first word, with what the words behind it say, exactly where each option is known, those with a
-/// value stand once and have it, no word is too many, and the words are those that the command takes or ask for help;
-/// else `None`.
-pub fn parse(words: &Vec<String>) -> Option<Given<'_>>
-    ensures { result ≡ given (words_of words.now) }
+/// The command of the first word, with what the words behind it say.
+///
+/// # Errors
+///
+/// The first word that is wrong, from left to right; else what the command must have and is not given, in the order of
+/// its usage line; else an option that needs another one; else the first value that cannot be read.
+pub fn parse(words: &[Vec<u8>]) -> Result<Given<'_>, Wrong<'_>>
+    ensures { result ≡ given (byte_words words.now) }
 {
-    if words.is_empty() {
-        return None;
-    }
-    let Some(action) = Action::of_name(words[0].as_str()) else {
-        return None;
+    let [name, behind @ ..] = words else {
+        return Err(Wrong {
+            action: None,
+            why: Why::NoCommand,
+        });
     };
-    let line = read_all(&words.as_slice()[1..]);
-    if !action.is_usable(&line) {
-        return None;
+    match Action::of_name(name.as_slice()) {
+        Some(action) => given_of(action, behind),
+        None => Err(Wrong {
+            action: None,
+            why: Why::UnknownCommand(Word::new(name.as_slice())),
+        }),
     }
-    Some(Given { action, line })
 }
 
-// What the words behind a command's name say.
-fn read_all(words: &[String]) -> Line<'_>
-    ensures { result ≡ read_on nothing_read (words_in words.now) }
+// A command with what the words behind its name say.
+fn given_of<'w>(action: Action, words: &'w [Vec<u8>]) -> Result<Given<'w>, Wrong<'w>>
+    ensures { result ≡ given_of action (byte_words words.now) }
 {
-    let mut line = Line::new();
-    'words: for word in words {
-        line = line.step(word.as_str());
+    match line_of(action, words) {
+        Ok(line) => Ok(Given { action, line }),
+        Err(why) => Err(Wrong {
+            action: Some(action),
+            why,
+        }),
     }
-    line
 }

@@ -1,104 +1,96 @@
-//! Which words a command wants.
+//! Which words a command takes.
 
-ghost use Rattle.std.specs.Prelude.{◌≡◌, ◌&&◌, ◌||◌, not, is_some, codes, option_map, Some, None};
-ghost use Rattle.tink_words.specs.Forms.{action_of, are_fitting, are_named, are_placed, fits, form_of, is_usable, one_word, stream_words};
+ghost use Rattle.std.specs.Prelude.{◌≡◌, IfSome, IsSome};
+ghost use Rattle.tink_words.specs.Actions.{action_name, action_named, operands_of, options_of, parts_of, takes};
 
-use crate::Line;
 use crate::names::value_named;
+use crate::near::similar;
+use crate::options::has;
+use crate::{Operand, OptionName};
 
 /// What is done.
 #[derive(Clone, Copy, Debug, PartialEq, Eq)]
 pub enum Action {
-    /// `new TEMPLATE -o KEYS [--format NAME]`
+    /// `new`
     New,
-    /// `keys KEYS`
+    /// `add`
+    Add,
+    /// `keys`
     Keys,
-    /// `rotate KEYS TEMPLATE`
+    /// `templates`
+    Templates,
+    /// `rotate`
     Rotate,
-    /// `promote KEYS ID`
+    /// `promote`
     Promote,
-    /// `enable KEYS ID`
+    /// `enable`
     Enable,
-    /// `disable KEYS ID`
+    /// `disable`
     Disable,
-    /// `destroy KEYS ID`
+    /// `destroy`
     Destroy,
-    /// `delete KEYS ID`
+    /// `delete`
     Delete,
-    /// `encrypt -k KEYS [--aad TEXT] [-o OUT] [IN]`
+    /// `convert`
+    Convert,
+    /// `encrypt`
     Encrypt,
-    /// `decrypt -k KEYS [--aad TEXT] [-o OUT] [IN]`
+    /// `decrypt`
     Decrypt,
-    /// `rewrap -k KEYS [--aad TEXT] -t NEWKEYS [--to-aad TEXT] [-o OUT] [IN]`
+    /// `check`
+    Check,
+    /// `info`
+    Info,
+    /// `rewrap`
     Rewrap,
-    /// `sign -k KEYS [-o OUT] [IN]`
-    Sign,
-    /// `verify -k KEYS [-o OUT] [IN]`
-    Verify,
-    /// `range -k KEYS [--aad TEXT] [-o OUT] --start N --length N IN`
+    /// `range`
     Range,
-    /// `wrap -k MASTER -o WRAPPED [--aad TEXT] [--format NAME] KEYS`
+    /// `sign`
+    Sign,
+    /// `verify`
+    Verify,
+    /// `wrap`
     Wrap,
-    /// `unwrap -k MASTER -o KEYS [--aad TEXT] [--format NAME] WRAPPED`
+    /// `unwrap`
     Unwrap,
-    /// `help [COMMAND]`
+    /// `help`
     Help,
     /// `version`
     Version,
 }
 
-// Whether a command takes a word.
+// A word that a command must have.
 #[derive(Clone, Copy)]
-pub(crate) enum Need {
-    Never,
-    May,
-    Must,
-}
-
-// Which words a command takes: values of options, and two words beside them.
-#[derive(Clone, Copy)]
-pub(crate) struct Form {
-    pub keys: Need,
-    pub output: Need,
-    pub aad: Need,
-    pub format: Need,
-    pub to: Need,
-    pub to_aad: Need,
-    pub start: Need,
-    pub length: Need,
-    pub first: Need,
-    pub second: Need,
-}
-
-impl Need {
-    // Whether a word may be given, or be absent.
-    fn fits(self, word: Option<&str>) -> bool
-        ensures { result ≡ fits self (is_some (option_map (λ s. s.now) word.entry)) }
-    {
-        match self {
-            Need::Never => word.is_none(),
-            Need::May => true,
-            Need::Must => word.is_some(),
-        }
-    }
+pub(crate) enum Part {
+    // An option.
+    Given(OptionName),
+    // The first word beside the options.
+    First(Operand),
+    // The second one.
+    Second(Operand),
 }
 
 // The names of the commands.
-const NAMES: &[(&str, Action)] = &[
+const ACTIONS: &[(&str, Action)] = &[
     ("new", Action::New),
+    ("add", Action::Add),
     ("keys", Action::Keys),
+    ("templates", Action::Templates),
     ("rotate", Action::Rotate),
     ("promote", Action::Promote),
     ("enable", Action::Enable),
     ("disable", Action::Disable),
     ("destroy", Action::Destroy),
     ("delete", Action::Delete),
+    ("convert", Action::Convert),
     ("encrypt", Action::Encrypt),
     ("decrypt", Action::Decrypt),
+    ("check", Action::Check),
+    ("info", Action::Info),
     ("rewrap", Action::Rewrap),
+    ("range", Action::Range),
     ("sign", Action::Sign),
     ("verify", Action::Verify),
-    ("range", Action::Range),
     ("wrap", Action::Wrap),
     ("unwrap", Action::Unwrap),
     ("help", Action::Help),
@@ -109,115 +101,226 @@ const NAMES: &[(&str, Action)] = &[
     ("-V", Action::Version),
 ];
 
+// The options of a command, and what it must have in the order of its usage line.
+const NONE: &[OptionName] = &[];
+
+const NO_PART: &[Part] = &[];
+
+const NEW: &[OptionName] = &[OptionName::Output, OptionName::Format, OptionName::Prefix];
+
+const NEW_PARTS: &[Part] = &[
+    Part::First(Operand::Template),
+    Part::Given(OptionName::Output),
+];
+
+const KEYS: &[OptionName] = &[OptionName::Json];
+
+const KEYS_PARTS: &[Part] = &[Part::First(Operand::Keys)];
+
+const ROTATE: &[OptionName] = &[OptionName::Any];
+
+const ADD_PARTS: &[Part] = &[Part::First(Operand::Keys), Part::Second(Operand::Template)];
+
+const EDIT_PARTS: &[Part] = &[Part::First(Operand::Keys), Part::Second(Operand::Id)];
+
+const CONVERT: &[OptionName] = &[OptionName::Output, OptionName::Format];
+
+const CONVERT_PARTS: &[Part] = &[
+    Part::First(Operand::Keys),
+    Part::Given(OptionName::Output),
+    Part::Given(OptionName::Format),
+];
+
+const STREAM: &[OptionName] = &[
+    OptionName::Keys,
+    OptionName::Aad,
+    OptionName::Master,
+    OptionName::MasterAad,
+    OptionName::Output,
+    OptionName::Force,
+    OptionName::NoClobber,
+];
+
+const STREAM_PARTS: &[Part] = &[Part::Given(OptionName::Keys)];
+
+const CHECK: &[OptionName] = &[
+    OptionName::Keys,
+    OptionName::Aad,
+    OptionName::Master,
+    OptionName::MasterAad,
+];
+
+const INFO_PARTS: &[Part] = &[Part::Given(OptionName::Keys), Part::First(Operand::In)];
+
+const REWRAP: &[OptionName] = &[
+    OptionName::Keys,
+    OptionName::Aad,
+    OptionName::Master,
+    OptionName::MasterAad,
+    OptionName::To,
+    OptionName::ToAad,
+    OptionName::Output,
+    OptionName::Force,
+    OptionName::NoClobber,
+];
+
+const REWRAP_PARTS: &[Part] = &[Part::Given(OptionName::Keys), Part::Given(OptionName::To)];
+
+const RANGE: &[OptionName] = &[
+    OptionName::Keys,
+    OptionName::Aad,
+    OptionName::Master,
+    OptionName::MasterAad,
+    OptionName::Start,
+    OptionName::Length,
+    OptionName::Output,
+    OptionName::Force,
+    OptionName::NoClobber,
+];
+
+const RANGE_PARTS: &[Part] = &[
+    Part::Given(OptionName::Keys),
+    Part::Given(OptionName::Start),
+    Part::Given(OptionName::Length),
+    Part::First(Operand::In),
+];
+
+const TOKEN: &[OptionName] = &[
+    OptionName::Keys,
+    OptionName::Master,
+    OptionName::MasterAad,
+    OptionName::Output,
+    OptionName::NoClobber,
+];
+
+const WRAP: &[OptionName] = &[
+    OptionName::Keys,
+    OptionName::Output,
+    OptionName::Aad,
+    OptionName::Format,
+];
+
+const WRAP_PARTS: &[Part] = &[
+    Part::Given(OptionName::Keys),
+    Part::Given(OptionName::Output),
+    Part::First(Operand::Keys),
+];
+
+const UNWRAP_PARTS: &[Part] = &[
+    Part::Given(OptionName::Keys),
+    Part::Given(OptionName::Output),
+    Part::First(Operand::Wrapped),
+];
+
 impl Action {
     /// The command of a name.
-    pub fn of_name(name: &str) -> Option<Action>
-        ensures { result ≡ action_of name.now }
+    pub fn of_name(name: &[u8]) -> Option<Action>
+        ensures { result ≡ action_named name.now }
     {
-        value_named(NAMES, name)
+        value_named(ACTIONS, name)
     }
 
-    // The words that it takes.
-    fn form(self) -> Form
-        ensures { result ≡ form_of self }
+    /// A name that is like this word.
+    pub fn similar(word: &[u8]) -> Option<&'static str>
+        ensures { IfSome result (λ name. IsSome (action_named name.now)) }
+    {
+        similar(word, ACTIONS)
+    }
+
+    /// Its name.
+    pub fn name(self) -> &'static str
+        ensures { result.now ≡ action_name self }
     {
         match self {
-            Action::New => Form {
-                output: Need::Must,
-                format: Need::May,
-                ..one_word(Need::Must)
-            },
-            Action::Keys => one_word(Need::Must),
-            Action::Encrypt | Action::Decrypt => stream_words(Need::May, Need::May),
-            Action::Rewrap => Form {
-                to: Need::Must,
-                to_aad: Need::May,
-                ..stream_words(Need::May, Need::May)
-            },
-            Action::Sign | Action::Verify => stream_words(Need::Never, Need::May),
-            Action::Range => Form {
-                start: Need::Must,
-                length: Need::Must,
-                ..stream_words(Need::May, Need::Must)
-            },
-            Action::Wrap | Action::Unwrap => Form {
-                output: Need::Must,
-                format: Need::May,
-                ..stream_words(Need::May, Need::Must)
-            },
-            Action::Help => one_word(Need::May),
-            Action::Version => one_word(Need::Never),
-            _ => Form {
-                second: Need::Must,
-                ..one_word(Need::Must)
-            },
+            Action::New => "new",
+            Action::Add => "add",
+            Action::Keys => "keys",
+            Action::Templates => "templates",
+            Action::Rotate => "rotate",
+            Action::Promote => "promote",
+            Action::Enable => "enable",
+            Action::Disable => "disable",
+            Action::Destroy => "destroy",
+            Action::Delete => "delete",
+            Action::Convert => "convert",
+            Action::Encrypt => "encrypt",
+            Action::Decrypt => "decrypt",
+            Action::Check => "check",
+            Action::Info => "info",
+            Action::Rewrap => "rewrap",
+            Action::Range => "range",
+            Action::Sign => "sign",
+            Action::Verify => "verify",
+            Action::Wrap => "wrap",
+            Action::Unwrap => "unwrap",
+            Action::Help => "help",
+            Action::Version => "version",
         }
     }
 
-    /// Whether each option is known, those with a value stand once and have it, no word is too many, and the words are
-    /// those that the command takes or ask for help.
-    pub fn is_usable(self, line: &Line<'_>) -> bool
-        ensures { result ≡ is_usable self line.now }
+    /// Whether it takes an option.
+    pub fn takes(self, option: OptionName) -> bool
+        ensures { result ≡ takes self option }
     {
-        !line.is_bad() && (line.asks_help() || are_fitting(self.form(), line))
+        option.is_everywhere() || has(self.options(), option)
     }
-}
 
-// Up to one word beside the options, of which there is none.
-fn one_word(first: Need) -> Form
-    ensures { result ≡ one_word first }
-{
-    Form {
-        keys: Need::Never,
-        output: Need::Never,
-        aad: Need::Never,
-        format: Need::Never,
-        to: Need::Never,
-        to_aad: Need::Never,
-        start: Need::Never,
-        length: Need::Never,
-        first,
-        second: Need::Never,
+    // The options that it takes beside those that each command takes.
+    fn options(self) -> &'static [OptionName]
+        ensures { result.now ≡ options_of self }
+    {
+        match self {
+            Action::New => NEW,
+            Action::Keys => KEYS,
+            Action::Rotate => ROTATE,
+            Action::Convert => CONVERT,
+            Action::Encrypt | Action::Decrypt => STREAM,
+            Action::Check | Action::Info => CHECK,
+            Action::Rewrap => REWRAP,
+            Action::Range => RANGE,
+            Action::Sign | Action::Verify => TOKEN,
+            Action::Wrap | Action::Unwrap => WRAP,
+            _ => NONE,
+        }
     }
-}
 
-// A file of keys, an input and an output.
-fn stream_words(aad: Need, first: Need) -> Form
-    ensures { result ≡ stream_words aad first }
-{
-    Form {
-        keys: Need::Must,
-        output: Need::May,
-        aad,
-        ..one_word(first)
+    // What it must have, in the order of its usage line.
+    pub(crate) fn parts(self) -> &'static [Part]
+        ensures { result.now ≡ parts_of self }
+    {
+        match self {
+            Action::New => NEW_PARTS,
+            Action::Add | Action::Rotate => ADD_PARTS,
+            Action::Keys => KEYS_PARTS,
+            Action::Promote | Action::Enable | Action::Disable | Action::Destroy | Action::Delete =>
+                { EDIT_PARTS }
+            Action::Convert => CONVERT_PARTS,
+            Action::Encrypt | Action::Decrypt | Action::Check | Action::Sign | Action::Verify => {
+                STREAM_PARTS
+            }
+            Action::Info => INFO_PARTS,
+            Action::Rewrap => REWRAP_PARTS,
+            Action::Range => RANGE_PARTS,
+            Action::Wrap => WRAP_PARTS,
+            Action::Unwrap => UNWRAP_PARTS,
+            Action::Templates | Action::Help | Action::Version => NO_PART,
+        }
     }
-}
 
-// Whether the words are those of a form.
-fn are_fitting(form: Form, line: &Line<'_>) -> bool
-    ensures { result ≡ are_fitting form line.now }
-{
-    are_named(form, line) && are_placed(form, line)
-}
-
-// Whether the options that several commands take, and the words beside them, are those of a form.
-fn are_named(form: Form, line: &Line<'_>) -> bool
-    ensures { result ≡ are_named form line.now }
-{
-    form.keys.fits(line.keys())
-        && form.output.fits(line.output())
-        && form.aad.fits(line.aad())
-        && form.format.fits(line.format())
-        && form.first.fits(line.first())
-        && form.second.fits(line.second())
-}
-
-// Whether the options of a new stream and of a range are those of a form.
-fn are_placed(form: Form, line: &Line<'_>) -> bool
-    ensures { result ≡ are_placed form line.now }
-{
-    form.to.fits(line.to())
-        && form.to_aad.fits(line.to_aad())
-        && form.start.fits(line.start())
-        && form.length.fits(line.length())
+    // How many words it takes beside the options.
+    pub(crate) fn operands(self) -> u8
+        ensures { result ≡ operands_of self }
+    {
+        match self {
+            Action::Templates | Action::Version => 0,
+            Action::Add
+            | Action::Rotate
+            | Action::Promote
+            | Action::Enable
+            | Action::Disable
+            | Action::Destroy
+            | Action::Delete => 2,
+            _ => 1,
+        }
+    }
 }

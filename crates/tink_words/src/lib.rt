@@ -3,9 +3,24 @@
 
 mod commands;
 mod form;
+mod help;
+mod line;
 mod names;
+mod near;
+mod options;
 mod reading;
+mod usages;
+mod values;
+mod word;
+mod wrong;
 
 pub use commands::{Given, parse};
 pub use form::Action;
-pub use reading::{Line, Slot, is_option};
+pub use help::help_text;
+pub use line::Line;
+pub use names::is_option;
+pub use options::OptionName;
+pub use usages::usage;
+pub use values::{FormatName, PrefixName};
+pub use word::Word;
+pub use wrong::{Operand, Why, Wrong};

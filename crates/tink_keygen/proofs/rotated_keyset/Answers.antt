@@ -1,4 +1,4 @@
-use Rattle.std.proofs.Common.{inl, inr, ap, ◌∙◌}
+use Rattle.std.proofs.Common.{inl, inr, ap, ◌∙◌, refl, true}
 use Rattle.std.proofs.lemmas.Result.{err_from_is_err_and}
 use Rattle.tink_io.specs.declared.error.TinkError.{TinkError}
 use Rattle.tink_keygen.proofs.RotatingSteps.{formed_manager, known, left_known, left_start, left_unknown, start_refused, undrawn, unknown}
@@ -12,18 +12,18 @@ returns-in_err-registry-clause-answer c =
 pub returns-in_err-kt-clause-answer : goal.returns-in_err-kt-clause-answer
 returns-in_err-kt-clause-answer c =
     let returned = err_from_is_err_and c.from_residual-in_err-kt.result c.from_residual-in_err-kt.ensures.1 in
-    rw (returned.1, returned.2) (unknown c.args.template.now _ c.args.draws.now _ c.in_err-kt.ensures.0 c.in_err-kt.ensures.1)
+    rw (returned.1, returned.2) (unknown true c.args.template.now _ c.args.draws.now _ c.in_err-kt.ensures.0 c.in_err-kt.ensures.1)
 
 pub returns-in_err-handle-clause-answer : goal.returns-in_err-handle-clause-answer
 returns-in_err-handle-clause-answer c =
     let returned = err_from_is_err_and c.from_residual-in_err-handle.result c.from_residual-in_err-handle.ensures.1 in
-    rw (returned.1, returned.2) (start_refused c.args.template.now _ _ c.args.draws.now _ c.in_ok-kt.ensures c.in_err-handle.ensures.answer)
+    rw (returned.1, returned.2) (start_refused true c.args.template.now _ _ c.args.draws.now _ c.in_ok-kt.ensures c.in_err-handle.ensures.answer)
 
 pub returns-clause-answer : goal.returns-clause-answer
-returns-clause-answer c = known c.args.template.now _ _ _ _ c.args.draws.now c.with_new_key.result c.in_ok-kt.ensures c.in_ok-handle.ensures.answer c.new_from_handle.ensures c.with_new_key.ensures.answer
+returns-clause-answer c = known true c.args.template.now _ _ _ _ c.args.draws.now c.with_new_key.result c.in_ok-kt.ensures c.in_ok-handle.ensures.answer c.new_from_handle.ensures c.with_new_key.ensures.answer
 
 pub returns-clause-valid : goal.returns-clause-valid
-returns-clause-valid c = c.with_new_key.ensures.valid (formed_manager _ _ c.in_ok-handle.ensures.valid c.new_from_handle.ensures)
+returns-clause-valid c = c.with_new_key.ensures.valid refl (formed_manager _ _ c.in_ok-handle.ensures.valid c.new_from_handle.ensures)
 
 pub returns-in_err-registry-clause-rest : goal.returns-in_err-registry-clause-rest
 returns-in_err-registry-clause-rest c =
@@ -33,13 +33,13 @@ returns-in_err-registry-clause-rest c =
 pub returns-in_err-kt-clause-rest : goal.returns-in_err-kt-clause-rest
 returns-in_err-kt-clause-rest c =
     let returned = err_from_is_err_and c.from_residual-in_err-kt.result c.from_residual-in_err-kt.ensures.1 in
-    rw returned.1 (inr (left_unknown c.args.template.now _ c.args.draws.now c.in_err-kt.ensures.1))
+    rw returned.1 (inr (left_unknown true c.args.template.now _ c.args.draws.now c.in_err-kt.ensures.1))
 
 pub returns-in_err-handle-clause-rest : goal.returns-in_err-handle-clause-rest
 returns-in_err-handle-clause-rest c =
     let returned = err_from_is_err_and c.from_residual-in_err-handle.result c.from_residual-in_err-handle.ensures.1 in
-    rw (returned.1, returned.2) (left_start c.args.template.now _ _ c.args.draws.now _ c.in_ok-kt.ensures c.in_err-handle.ensures.answer)
+    rw (returned.1, returned.2) (left_start true c.args.template.now _ _ c.args.draws.now _ c.in_ok-kt.ensures c.in_err-handle.ensures.answer)
 
 pub returns-clause-rest : goal.returns-clause-rest
 returns-clause-rest c =
-    left_known c.args.template.now _ _ _ _ c.args.draws.now _ c.with_new_key.result c.in_ok-kt.ensures c.in_ok-handle.ensures.answer c.new_from_handle.ensures c.with_new_key.ensures.rest
+    left_known true c.args.template.now _ _ _ _ c.args.draws.now _ c.with_new_key.result c.in_ok-kt.ensures c.in_ok-handle.ensures.answer c.new_from_handle.ensures c.with_new_key.ensures.rest

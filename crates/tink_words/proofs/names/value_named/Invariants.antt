@@ -1,5 +1,5 @@
 use Rattle.std.proofs.Common.{◌≡◌, drop}
-use Rattle.tink_words.specs.Lines.{value_named}
+use Rattle.tink_words.specs.Words.{value_named}
 use Rattle.tink_words.proofs.names.value_named.Given as goal
 
 -- the row is in what is left, if there is one

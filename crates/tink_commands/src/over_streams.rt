@@ -1,0 +1,84 @@
+//! The program over the standard streams.
+
+ghost use Rattle.std.specs.Prelude.{◌≡◌, IfErr, IfOk};
+ghost use Rattle.tink_commands.specs.Claims.{AreTexts, EndedOverStreams};
+ghost use Rattle.tink_io.specs.declared.error.Kind.TheVariants.{OutOfMemory};
+ghost use Rattle.tink_program.specs.Program.{status_of};
+ghost use Rattle.tink_words.specs.Forms.{words_of};
+ghost use Rattle.tink_words.specs.Words.{byte_words};
+
+use std::alloc::Global;
+use std::str;
+use tink_io::{Kind, Sink, TinkError};
+use tink_program::program::{Outcome, program, status, tell as tell_outcome};
+use tink_system::System;
+use tink_system::trouble::tell;
+
+/// Does what the words of the program over the standard streams say, and answers the status. If a word is no UTF-8, no command is
+/// spelled.
+pub fn run_on_streams<Y: System, K: Sink, E: Sink>(
+    alloc: Global,
+    system: &mut Y,
+    words: &[Vec<u8>],
+    sink: &mut K,
+    faults: &mut E,
+) -> u8
+    ensures ended { EndedOverStreams (byte_words words.now) (Y.state system.old) (Y.faults system.old) (Y.faults system.new)
+        (K.got sink.old) (K.got sink.new) result }
+    ensures state { Y.state system.new ≡ Y.state system.old }
+    ensures sink { K.same sink.old sink.new }
+    ensures faults { E.same faults.old faults.new }
+{
+    match texts_of(alloc, words) {
+        Ok(Some(texts)) => run_texts(alloc, system, &texts, sink, faults),
+        Ok(None) => end(faults, Outcome::Usage),
+        Err(e) => end(faults, Outcome::Refused(e.kind)),
+    }
+}
+
+// The same of words that are UTF-8.
+fn run_texts<Y: System, K: Sink, E: Sink>(
+    alloc: Global,
+    system: &mut Y,
+    texts: &Vec<String>,
+    sink: &mut K,
+    faults: &mut E,
+) -> u8
+    ensures ended { EndedOverStreams (words_of texts.now) (Y.state system.old) (Y.faults system.old) (Y.faults system.new)
+        (K.got sink.old) (K.got sink.new) result }
+    ensures state { Y.state system.new ≡ Y.state system.old }
+    ensures sink { K.same sink.old sink.new }
+    ensures faults { E.same faults.old faults.new }
+{
+    match system.open(None, true) {
+        Ok(mut source) => program(alloc, texts, &mut source, sink, faults),
+        Err(trouble) => tell(faults, trouble),
+    }
+}
+
+// Ends with a line.
+fn end<E: Sink>(faults: &mut E, outcome: Outcome) -> u8
+    ensures status { result ≡ status_of outcome }
+    ensures faults { E.same faults.old faults.new }
+{
+    tell_outcome(faults, outcome);
+    status(outcome)
+}
+
+// The words as texts, and none if one is no UTF-8.
+fn texts_of(alloc: Global, words: &[Vec<u8>]) -> Result<Option<Vec<String>>, TinkError>
+    ensures texts { IfOk result (AreTexts (byte_words words.now)) }
+    ensures refused { IfErr result (λ e. e ≡ record { kind = OutOfMemory }) }
+{
+    let mut texts = Vec::new(alloc);
+    'words: for word in words {
+        match str::from_utf8(word.as_slice()) {
+            Ok(text) => {
+                let text = String::from_str(alloc, text)?;
+                texts.push(text)?;
+            }
+            Err(_) => return Ok(None),
+        }
+    }
+    Ok(Some(texts))
+}

@@ -1,0 +1,5 @@
+pub mod LoadingLemmas
+pub mod MovingLemmas
+pub mod PerformingLemmas
+pub mod RangingLemmas
+mod Walks

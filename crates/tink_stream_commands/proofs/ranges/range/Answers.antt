@@ -1,0 +1,11 @@
+use Rattle.std.proofs.Common.{◌∙◌, ap}
+use Rattle.tink_stream_commands.proofs.RangingLemmas.{ranged_by_words}
+use Rattle.tink_stream_commands.proofs.ranges.range.Goals as goal
+
+pub returns-in-Ok-clause-done : goal.returns-in-Ok-clause-done
+returns-in-Ok-clause-done g c =
+    let some = c.in-Some-Some-Some in
+    ranged_by_words c.args.line.now some.job some.start some.length c.as_slice.result.now (g.Y.System.state c.args.system.now) (g.Y.System.state c.keyset_of.new.system) _ _ _
+    c.range_under.result some.ensures some.ensures' some.ensures''
+    (c.in-Ok.ensures.state ∙ ap (λ s. g.Y.System.state s) c.spare_keys.ensures.still)
+    ? c.range_under.ensures.done

@@ -1,0 +1,2 @@
+pub mod OfStatus
+pub mod Unknown

@@ -1,0 +1,140 @@
+//! A regular file that is read in any place.
+
+ghost use Rattle.std.specs.Prelude.{◌≡◌, ◌≤◌, ◌<◌, ◌-◌, ⊤, length, None, IfOk, IfErr};
+ghost use Rattle.tink_unix.specs.OfStatus.{IsOfStatus};
+
+use crate::meter::Meter;
+use crate::names::text_of;
+use crate::reasons::{CUT_SHORT, NONE, TOO_MANY, code_of};
+use crate::refusals::{unread, unreadable};
+use std::fs;
+use std::fs::{File, OpenFile};
+use std::io::ErrorKind;
+use std::os::unix::fs::FileExt;
+use tink_io::Failed;
+use tink_range::ReadAt;
+use tink_system::Trouble;
+
+// How often a call that was interrupted is made again.
+const TRIES: usize = 1_000;
+
+const EINTR: i32 = 4;
+
+/// A file, with the size that it had when it was opened. It tells no bytes.
+#[derive(Drop)]
+pub struct Object {
+    file: File,
+    size: u64,
+    rt: HostRuntime,
+    meter: Meter,
+    pub(crate) code: i32,
+    faults: u64,
+}
+
+impl Object {
+    /// Opens a file. Progress is shown of so many bytes, if it may.
+    pub(crate) fn open<'w>(
+        rt: HostRuntime,
+        name: &'w [u8],
+        total: u64,
+        may_tell: bool,
+    ) -> Result<Object, Trouble<'w>>
+        ensures { IfErr result (IsOfStatus 11) }
+    {
+        let text = match text_of(name) {
+            Ok(text) => text,
+            Err(code) => return Err(unreadable(name, code)),
+        };
+        // A pipe is not opened: that would wait for its writer.
+        match fs::metadata(&rt, text) {
+            Ok(found) if found.is_file() => {}
+            Ok(_) => {
+                return Err(unread(
+                    name,
+                    "it is no regular file, and a range is read of one alone",
+                ));
+            }
+            Err(e) => return Err(unreadable(name, code_of(e))),
+        }
+        let file = match File::open(&rt, text) {
+            Ok(file) => file,
+            Err(e) => return Err(unreadable(name, code_of(e))),
+        };
+        let size = match file.metadata() {
+            Ok(found) => found.len(),
+            Err(e) => return Err(unreadable(name, code_of(e))),
+        };
+        Ok(Object {
+            file,
+            size,
+            rt,
+            meter: Meter::new(&rt, Some(total.min(size)), may_tell),
+            code: NONE,
+            faults: 0,
+        })
+    }
+
+    /// Clears the line on which the progress is shown.
+    pub(crate) fn end(&self) {
+        self.meter.end(&self.rt);
+    }
+}
+
+impl ReadAt for Object {
+    ghost length_of = { λ a. a.size };
+
+    ghost bytes = { λ _. None };
+
+    ghost faults = { λ a. a.faults };
+
+    ghost same = { λ _ _. ⊤ };
+
+    fn size(&self) -> u64 {
+        self.size
+    }
+
+    fn read_at(&mut self, pos: u64, buf: &mut [u8]) -> Result<usize, Failed> {
+        let left = self.size.saturating_sub(pos);
+        let most = buf.len().min(usize::try_from(left).unwrap_or(usize::MAX));
+        if most == 0 {
+            return Ok(0);
+        }
+        match read_retrying(&self.file, pos, &mut buf[..most]) {
+            Ok(count) => {
+                self.meter.add(&self.rt, count as u64);
+                Ok(count)
+            }
+            Err(code) => {
+                self.code = code;
+                self.faults = self.faults.saturating_add(1);
+                Err(Failed)
+            }
+        }
+    }
+
+    ghost told = { λ _. tt };
+
+    ghost same_refl = { λ _. tt };
+
+    ghost same_trans = { λ _ _ _ _ _. tt };
+}
+
+// Reads a byte at least, again where it was interrupted, or answers the error's number.
+fn read_retrying(file: &File, pos: u64, buf: &mut [u8]) -> Result<usize, i32>
+    ensures bound { IfOk result (λ n. n ≤ length buf.old) }
+    ensures some { IfOk result (λ n. 0 < n) }
+{
+    for _ in 0..TRIES {
+        match file.read_at(buf, pos) {
+            Ok(0) => return Err(CUT_SHORT),
+            Ok(count) if count <= buf.len() => return Ok(count),
+            Ok(_) => return Err(TOO_MANY),
+            Err(e) => {
+                if e.kind() != ErrorKind::Interrupted {
+                    return Err(code_of(e));
+                }
+            }
+        }
+    }
+    Err(EINTR)
+}

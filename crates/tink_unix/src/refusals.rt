@@ -1,0 +1,59 @@
+//! What hinders a file from being read or written.
+
+ghost use Rattle.tink_unix.specs.OfStatus.{IsOfStatus};
+
+use crate::reasons::{NOT_UTF8, reason_of_errno};
+use tink_io::Kind;
+use tink_system::Trouble;
+
+const ENOENT: i32 = 2;
+
+const ENOMEM: i32 = 12;
+
+const EACCES: i32 = 13;
+
+/// A refusal by text, of a name that is to be read.
+pub fn unread<'w>(name: &'w [u8], why: &'static str) -> Trouble<'w>
+    ensures { IsOfStatus 11 result }
+{
+    Trouble::Unusable(name, why, 11)
+}
+
+/// A refusal by text, of a name that is to be written.
+pub fn unwritten<'w>(name: &'w [u8], why: &'static str) -> Trouble<'w>
+    ensures { IsOfStatus 12 result }
+{
+    Trouble::Unusable(name, why, 12)
+}
+
+/// What hinders a file from being read, by the error's number.
+pub fn unreadable<'w>(name: &'w [u8], code: i32) -> Trouble<'w>
+    ensures { IsOfStatus 11 result }
+{
+    match code {
+        ENOENT => unread(name, "there is no such file"),
+        EACCES => unread(name, "you may not read it"),
+        ENOMEM => Trouble::Refused(name, Kind::OutOfMemory),
+        NOT_UTF8 => unread(
+            name,
+            "its name is not UTF-8, and this program opens no such file: rename it, or redirect it by <",
+        ),
+        _ => unread(name, reason_of_errno(code)),
+    }
+}
+
+/// What hinders a file from being written, by the error's number.
+pub fn unwritable<'w>(name: &'w [u8], code: i32) -> Trouble<'w>
+    ensures { IsOfStatus 12 result }
+{
+    match code {
+        ENOENT => unwritten(name, "its folder is not there"),
+        EACCES => unwritten(name, "you may not write into its folder"),
+        ENOMEM => Trouble::Refused(name, Kind::OutOfMemory),
+        NOT_UTF8 => unwritten(
+            name,
+            "its name is not UTF-8, and this program opens no such file: choose another, or redirect the output by >",
+        ),
+        _ => unwritten(name, reason_of_errno(code)),
+    }
+}

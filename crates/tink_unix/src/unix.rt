@@ -1,0 +1,304 @@
+//! The real system.
+
+ghost use Rattle.std.specs.Prelude.{◌≡◌, ◌≤◌, None, IfOk, IfErr, length};
+ghost use Rattle.tink_unix.specs.OfStatus.{IsOfReading, IsOfStatus};
+ghost use Rattle.tink_unix.specs.Unknown.{unknown_state};
+
+use crate::draft;
+use crate::draft::Draft;
+use crate::input::Input;
+use crate::names::{folder_of, follow, parts_of, text_of};
+use crate::object::Object;
+use crate::output::{Stream, Way, Written};
+use crate::reasons::{code_of, reason_of_errno};
+use crate::refusals::{unreadable, unwritable, unwritten};
+use crate::standard::{Standard, standard_of};
+use std::alloc::Global;
+use std::fs;
+use std::fs::{Metadata, OpenFile, OpenOptions};
+use std::io::IsTerminal;
+use std::os::unix::fs::MetadataExt;
+use std::random::RandomSource;
+use tink_io::{Draws, Kind, Source};
+use tink_system::{End, How, System, Trouble};
+
+// So many bytes are read at once.
+const PART: usize = 8_192;
+
+/// The real system. It tells no bytes.
+#[derive(Drop)]
+pub struct Unix {
+    rt: HostRuntime,
+    faults: u64,
+}
+
+impl Unix {
+    /// The system, which has not refused yet.
+    pub fn new(rt: &HostRuntime) -> Unix
+        ensures { result.faults ≡ 0 }
+    {
+        Unix { rt: *rt, faults: 0 }
+    }
+}
+
+impl System for Unix {
+    ghost use Rattle.std.proofs.Common.{refl};
+
+    type Input = Input;
+
+    type Object = Object;
+
+    type Stream = Stream;
+
+    type Draft = Draft;
+
+    ghost state = { λ _. unknown_state };
+
+    ghost faults = { λ u. u.faults };
+
+    fn read_whole<'w>(
+        &mut self,
+        alloc: Global,
+        name: Option<&'w [u8]>,
+        most: u64,
+    ) -> Result<Vec<u8>, Trouble<'w>> {
+        whole_of(self.rt, alloc, name, most)
+    }
+
+    fn open<'w>(&mut self, name: Option<&'w [u8]>, is_quiet: bool) -> Result<Input, Trouble<'w>> {
+        Input::open(self.rt, name, may_tell(self.rt, is_quiet))
+    }
+
+    fn open_at<'w>(
+        &mut self,
+        name: &'w [u8],
+        total: u64,
+        is_quiet: bool,
+    ) -> Result<Object, Trouble<'w>> {
+        Object::open(self.rt, name, total, may_tell(self.rt, is_quiet))
+    }
+
+    fn open_stream<'w>(&mut self, name: &'w [u8]) -> Result<Stream, Trouble<'w>> {
+        let answer = stream_of(self.rt, name);
+        if answer.is_err() {
+            self.faults = self.faults.saturating_add(1);
+        }
+        answer
+    }
+
+    fn begin<'w>(&mut self, name: &'w [u8], how: How) -> Result<Draft, Trouble<'w>> {
+        draft::begin(&self.rt, name, how)
+    }
+
+    // The files hold it already.
+    fn settle(
+        &mut self,
+        _alloc: Global,
+        _name: &[u8],
+        _draft: Draft,
+    ) -> Result<(), Trouble<'static>> {
+        Ok(())
+    }
+
+    fn draws(&mut self, alloc: Global, n: usize) -> Result<Draws, Trouble<'static>> {
+        let answer = drawn(self.rt, alloc, n);
+        if answer.is_err() {
+            self.faults = self.faults.saturating_add(1);
+        }
+        answer
+    }
+
+    fn are_one(&mut self, name: &[u8], other: &[u8]) -> bool {
+        are_one(&self.rt, name, other)
+    }
+
+    fn is_stream(&mut self, name: &[u8]) -> bool {
+        is_stream(&self.rt, name)
+    }
+
+    fn is_terminal(&mut self, end: End) -> bool {
+        match end {
+            End::Input => self.rt.stdin().is_terminal(),
+            End::Output => self.rt.stdout().is_terminal(),
+            End::Error => self.rt.stderr().is_terminal(),
+        }
+    }
+
+    fn reason_of_draft(&self, draft: &Draft) -> &'static str {
+        reason_of_errno(draft.code)
+    }
+
+    fn reason_of_input(&self, input: &Input) -> &'static str {
+        reason_of_errno(input.code)
+    }
+
+    fn reason_of_object(&self, object: &Object) -> &'static str {
+        reason_of_errno(object.code)
+    }
+
+    fn reason_of_stream(&self, stream: &Stream) -> &'static str {
+        reason_of_errno(stream.code)
+    }
+
+    fn end_input(&self, input: &Input) {
+        input.end();
+    }
+
+    fn end_object(&self, object: &Object) {
+        object.end();
+    }
+
+    ghost one_content = { λ _ _ _ _. refl };
+
+    ghost input_sure = { λ _ _ _ known _. known refl };
+
+    ghost object_sure = { λ _ _ _ known _. known refl };
+}
+
+// Whether progress is shown.
+fn may_tell(rt: HostRuntime, is_quiet: bool) -> bool {
+    !is_quiet && rt.stderr().is_terminal()
+}
+
+// The whole of a file or of standard input.
+fn whole_of<'w>(
+    rt: HostRuntime,
+    alloc: Global,
+    name: Option<&'w [u8]>,
+    most: u64,
+) -> Result<Vec<u8>, Trouble<'w>>
+    ensures bound { IfOk result (λ bytes. length bytes.items ≤ most) }
+    ensures refused { IfErr result IsOfReading }
+{
+    let label = label_of(name);
+    let mut input = Input::open(rt, name, false)?;
+    let size = input.size().unwrap_or(0);
+    if size > most {
+        return Err(Trouble::Refused(label, Kind::KeysetTooLong));
+    }
+    let Ok(mut bytes) = Vec::with_capacity(alloc, usize::try_from(size).unwrap_or(0)) else {
+        return Err(Trouble::Refused(label, Kind::OutOfMemory));
+    };
+    for _ in 0..u64::MAX {
+        let mut part = [0u8; PART];
+        match input.read(&mut part) {
+            Ok(0) => break,
+            Ok(count) => {
+                if bytes.extend_from_slice(&part[..count]).is_err() {
+                    return Err(Trouble::Refused(label, Kind::OutOfMemory));
+                }
+                if most < bytes.len() as u64 {
+                    break;
+                }
+            }
+            Err(_) => return Err(unreadable(label, input.code)),
+        }
+    }
+    if bytes.len() as u64 > most {
+        return Err(Trouble::Refused(label, Kind::KeysetTooLong));
+    }
+    Ok(bytes)
+}
+
+fn label_of<'w>(name: Option<&'w [u8]>) -> &'w [u8] {
+    match name {
+        Some(name) => name,
+        None => b"standard input",
+    }
+}
+
+// Random bytes of the system.
+fn drawn(rt: HostRuntime, alloc: Global, n: usize) -> Result<Draws, Trouble<'static>>
+    ensures drawn { IfOk result (λ d. length d ≡ n) }
+    ensures refused { IfErr result (IsOfStatus 35) }
+{
+    let mut bytes = Vec::new(alloc);
+    if bytes.resize(n, 0).is_err() {
+        return Err(Trouble::Refused(b"tink", Kind::OutOfMemory));
+    }
+    match rt.fill_bytes(bytes.as_mut_slice()) {
+        Ok(()) => Ok(Draws::new(bytes)),
+        Err(_) => Err(Trouble::Refused(b"tink", Kind::RandomFault)),
+    }
+}
+
+// What a name that is written as a stream is of.
+fn stream_of<'w>(rt: HostRuntime, name: &'w [u8]) -> Result<Stream, Trouble<'w>>
+    ensures { IfErr result (IsOfStatus 12) }
+{
+    let text = match text_of(name) {
+        Ok(text) => text,
+        Err(code) => return Err(unwritable(name, code)),
+    };
+    match standard_of(&rt, text) {
+        Some(Standard::Output) => return Ok(Written::new(Way::Output(rt.stdout()))),
+        Some(Standard::Error) => return Ok(Written::new(Way::Error(rt.stderr()))),
+        _ => {}
+    }
+    match fs::metadata(&rt, text) {
+        Ok(found) if found.is_file() => {
+            return Err(unwritten(
+                name,
+                "it is a regular file: give its own name, and not that of a descriptor",
+            ));
+        }
+        Ok(_) => {}
+        Err(e) => return Err(unwritable(name, code_of(e))),
+    }
+    match OpenOptions::new().write(true).open(&rt, text) {
+        Ok(file) => Ok(Written::new(Way::File(file))),
+        Err(e) => Err(unwritable(name, code_of(e))),
+    }
+}
+
+// Whether a name is of a pipe, a device or an open descriptor.
+fn is_stream(rt: &HostRuntime, name: &[u8]) -> bool {
+    let text = match text_of(name) {
+        Ok(text) => text,
+        Err(_) => return false,
+    };
+    if standard_of(rt, text).is_some() {
+        return true;
+    }
+    match fs::metadata(rt, text) {
+        Ok(found) => !found.is_file() && !found.is_dir(),
+        Err(_) => false,
+    }
+}
+
+// Whether two names are of one file.
+fn are_one(rt: &HostRuntime, name: &[u8], other: &[u8]) -> bool {
+    let (name, other) = match (text_of(name), text_of(other)) {
+        (Ok(name), Ok(other)) => (name, other),
+        _ => return name == other,
+    };
+    match (fs::metadata(rt, name), fs::metadata(rt, other)) {
+        (Ok(one), Ok(two)) => is_same(&one, &two),
+        (Err(_), Err(_)) => lead_to_one(rt, name, other),
+        _ => false,
+    }
+}
+
+fn is_same(one: &Metadata, two: &Metadata) -> bool {
+    one.ino() == two.ino() && one.dev() == two.dev()
+}
+
+// Whether two names of which neither is of a file lead to one name in one folder.
+fn lead_to_one(rt: &HostRuntime, name: &str, other: &str) -> bool {
+    let (one, two) = match (follow(rt, name), follow(rt, other)) {
+        (Ok(one), Ok(two)) => (one, two),
+        _ => return false,
+    };
+    let (_, last) = parts_of(one.as_str());
+    let (_, other_last) = parts_of(two.as_str());
+    if last != other_last {
+        return false;
+    }
+    match (
+        fs::metadata(rt, folder_of(one.as_str())),
+        fs::metadata(rt, folder_of(two.as_str())),
+    ) {
+        (Ok(one), Ok(two)) => is_same(&one, &two),
+        _ => false,
+    }
+}
