@@ -42,7 +42,13 @@ pub fn make<'w, Y: System, K: Sink>(
     };
     match system.draws(alloc, DRAWN) {
         Ok(mut draws) => {
-            let made = new_file(alloc, template, prefix_of(line), format_of(line), &mut draws);
+            let made = new_file(
+                alloc,
+                template,
+                prefix_of(line),
+                format_of(line),
+                &mut draws,
+            );
             save_new(alloc, system, made, template, output, sink)
         }
         Err(trouble) => Err(trouble),
@@ -240,9 +246,15 @@ fn changed(alloc: Global, file: Vec<u8>, change: Change<'_>) -> Result<Bytes, Ti
 {
     match change {
         Change::Edit(edit, id) => edited_file(alloc, file, edit, id),
-        Change::Grow(Growth::Add, template, mut draws) => added_file(alloc, file, template, &mut draws),
-        Change::Grow(Growth::Rotate, template, mut draws) => rotated_file(alloc, file, template, false, &mut draws),
-        Change::Grow(Growth::RotateToAny, template, mut draws) => rotated_file(alloc, file, template, true, &mut draws),
+        Change::Grow(Growth::Add, template, mut draws) => added_file(
+            alloc, file, template, &mut draws,
+        ),
+        Change::Grow(Growth::Rotate, template, mut draws) => rotated_file(
+            alloc, file, template, false, &mut draws,
+        ),
+        Change::Grow(Growth::RotateToAny, template, mut draws) => rotated_file(
+            alloc, file, template, true, &mut draws,
+        ),
     }
 }
 

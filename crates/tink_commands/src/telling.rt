@@ -75,7 +75,12 @@ fn put_why<E: Sink>(faults: &mut E, why: &Why<'_>)
             put_like(faults, OptionName::similar(word.bytes()));
         }
         Why::NoValue(word) => put_three(faults, b"the option ", word.bytes(), b" needs a value"),
-        Why::TakesNoValue(word) => put_three(faults, b"this option takes no value: ", word.bytes(), b""),
+        Why::TakesNoValue(word) => put_three(
+            faults,
+            b"this option takes no value: ",
+            word.bytes(),
+            b"",
+        ),
         Why::TooMany(word) => put_three(faults, b"one word too many: ", word.bytes(), b""),
         Why::NoId(word) => put_three(
             faults,
@@ -92,18 +97,48 @@ fn put_option_why<E: Sink>(faults: &mut E, why: &Why<'_>)
     ensures faults { E.same faults.old faults.new }
 {
     match why {
-        Why::Twice(option) => put_three(faults, b"the option ", option.name().as_bytes(), b" is given twice"),
+        Why::Twice(option) => put_three(
+            faults,
+            b"the option ",
+            option.name().as_bytes(),
+            b" is given twice",
+        ),
         Why::NotTaken(option) => {
-            put_three(faults, b"this command has no option ", option.name().as_bytes(), b"")
+            put_three(
+                faults,
+                b"this command has no option ",
+                option.name().as_bytes(),
+                b"",
+            )
         }
-        Why::Missing(option) => put_three(faults, b"the option ", option.name().as_bytes(), b" is missing"),
-        Why::MissingOperand(operand) => put_three(faults, b"", operand.name().as_bytes(), b" is missing"),
+        Why::Missing(option) => put_three(
+            faults,
+            b"the option ",
+            option.name().as_bytes(),
+            b" is missing",
+        ),
+        Why::MissingOperand(operand) => put_three(
+            faults,
+            b"",
+            operand.name().as_bytes(),
+            b" is missing",
+        ),
         Why::NoNumber(option, word) => {
-            put_three(faults, b"the value of ", option.name().as_bytes(), b" is no number: ");
+            put_three(
+                faults,
+                b"the value of ",
+                option.name().as_bytes(),
+                b" is no number: ",
+            );
             put_escaped(faults, word.bytes());
         }
         Why::NoSuchValue(option, word) => {
-            put_three(faults, b"the option ", option.name().as_bytes(), b" has no value ");
+            put_three(
+                faults,
+                b"the option ",
+                option.name().as_bytes(),
+                b" has no value ",
+            );
             put_escaped(faults, word.bytes());
         }
         Why::Needs(option, other) => {

@@ -4,8 +4,8 @@ use crate::adapters::{Answer, Flaky, write_once};
 use crate::expect::expect;
 use std::alloc::Global;
 use tink_io::{
-    Discard, Draws, Failed, Kind, Lent, MemSink, MemSource, Sink, Source, StdSink, StdSource, SureSink,
-    SureSource, TinkError,
+    Discard, Draws, Failed, Kind, Lent, MemSink, MemSource, Sink, Source, StdSink, StdSource,
+    SureSink, SureSource, TinkError,
 };
 
 // How many of four nines a read may fill, its answer, and what stands in the four.

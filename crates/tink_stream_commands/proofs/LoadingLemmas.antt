@@ -40,6 +40,7 @@ fails_unwrapped s middle words name before then now master t same earlier is fai
         → Fails s before now (wrapped_keyset s words name) t
     through m loaded (inl rose) = inl (Rose-earlier before then now earlier rose)
     through m loaded (inr by) = inr (λ known. subst (λ (r : Result (List ℕ) Kind). RefusesBy r t) (sym loaded) (by known))
+
     by_known : (b : Bool) → s.is_known ≡ b → Fails s before now (wrapped_keyset s words name) t
     by_known true known =
         let found = is known in

@@ -60,7 +60,7 @@ made_shown got task keyset aad drawn left old after replaces before_shown shown 
     let all = ok.whole text before (record { left = reads; got = has }) in
     let known = got_all task keyset aad drawn left text before (after ok.draft) report all in
     let whole : shown ≡ Some (Some known.0) =
-        subst (λ (g : Option (List ℕ)). IfSome g (λ bytes. shown ≡ Some (Some bytes))) (sym (same ok.draft) ∙ known.1) ok.shown.whole in
+    subst (λ (g : Option (List ℕ)). IfSome g (λ bytes. shown ≡ Some (Some bytes))) (sym (same ok.draft) ∙ known.1) ok.shown.whole in
     record {
       left = left;
       report = report;

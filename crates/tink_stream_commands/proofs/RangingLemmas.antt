@@ -33,13 +33,15 @@ pub slice_shown : {D : Type 0} (got : D → Option (List ℕ)) (keyset aad : Lis
     → IfOk answer (λ n. IsShownWhole got (λ d value. GivesSlice got keyset aad start len (e d) value) replaces before_shown shown n)
     → IfErr answer (λ error. IsErrAnd result (P error)) → ((f : Option (List ℕ)) → shown ≡ Some f → file ≡ f)
     → OnOk result ((n : ℕ) × ((X before : List ℕ) → all ≡ Some X → got place ≡ Some before → IsSliceOf keyset aad X start len before file n))
-slice_shown got keyset aad start len all place e replaces before_shown shown file (Ok n) P (Ok done) same_all same_old same_new ok refused settled =
-    (n, λ X before is has l key texts loads chosen stream.
-        let d = ok.draft in
-        let slice = ok.whole X before l key texts (same_all d ∙ is) (rw (same_old d) has) loads chosen stream in
-        let known = rw (same_new d) at slice.written in
-        let whole = subst (λ (g : Option (List ℕ)). IfSome g (λ bytes. shown ≡ Some (Some bytes))) known ok.shown.whole in
-        record { written = settled _ whole; count = slice.count })
+slice_shown got keyset aad start len all place e replaces before_shown shown file (Ok n) P (Ok done) same_all same_old same_new ok refused settled = (
+  n,
+  λ X before is has l key texts loads chosen stream.
+      let d = ok.draft in
+      let slice = ok.whole X before l key texts (same_all d ∙ is) (rw (same_old d) has) loads chosen stream in
+      let known = rw (same_new d) at slice.written in
+      let whole = subst (λ (g : Option (List ℕ)). IfSome g (λ bytes. shown ≡ Some (Some bytes))) known ok.shown.whole in
+      record { written = settled _ whole; count = slice.count },
+)
 slice_shown got keyset aad start len all place e replaces before_shown shown file (Ok n) P (Err t) same_all same_old same_new ok refused settled = tt
 slice_shown got keyset aad start len all place e replaces before_shown shown file (Err error) P (Ok done) same_all same_old same_new ok refused settled = absurd refused
 slice_shown got keyset aad start len all place e replaces before_shown shown file (Err error) P (Err t) same_all same_old same_new ok refused settled = tt
@@ -87,14 +89,14 @@ some_of None is = absurd (true≢false (sym is))
 pub ranged : (keyset : List ℕ) (job : Job) (start len : ℕ) (old middle new : SystemState) (name : List ℕ) (bytes got got_after : Option (List ℕ)) (result : Result (Unit {0}) Trouble)
     → middle ≡ old → option_map (λ n. n.now) job.input ≡ Some name → bytes ≡ known_content old (Some name) → (old.is_known ≡ true → IsSome (content old (Some name)))
     → OnOk result (middle.is_known ≡ true → (X : List ℕ) → bytes ≡ Some X
-        → (n : ℕ) × IsPut (λ before after. IsSliceOf keyset job.aad.now X start len before after n) middle new (option_map (λ n. n.now) job.output) got got_after)
+    → (n : ℕ) × IsPut (λ before after. IsSliceOf keyset job.aad.now X start len before after n) middle new (option_map (λ n. n.now) job.output) got got_after)
     → OnOk result (old.is_known ≡ true → IsRangedOf keyset job start len old new got got_after)
 ranged keyset job start len old middle new name bytes got got_after (Ok done) same input given there made = λ known.
     let found = some_of (content old (Some name)) (there known) in
     let all : bytes ≡ Some found.0 = rw known at given ∙ found.1 in
     let put = subst (λ (s : SystemState). s.is_known ≡ true → (X : List ℕ) → bytes ≡ Some X
-        → (n : ℕ) × IsPut (λ before after. IsSliceOf keyset job.aad.now X start len before after n) s new (option_map (λ n. n.now) job.output) got got_after)
-        same made known found.0 all in
+    → (n : ℕ) × IsPut (λ before after. IsSliceOf keyset job.aad.now X start len before after n) s new (option_map (λ n. n.now) job.output) got got_after)
+    same made known found.0 all in
     record { object = found.0; read = rw input found.1; count = put.0; put = put.1 }
 ranged keyset job start len old middle new name bytes got got_after (Err t) same input given there made = tt
 

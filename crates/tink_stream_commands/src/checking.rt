@@ -4,12 +4,12 @@ ghost use Rattle.std.specs.Prelude.{◌≡◌, ◌≤◌, ℕ, List, Some, true,
 ghost use Rattle.tink_stream_commands.specs.Streams.{IsChecked, IsOpened};
 ghost use Rattle.tink_system.specs.States.{known_content};
 
+use crate::discard::Discard;
 use crate::job::{Job, job_of};
 use crate::keys::keyset_of;
 use crate::performing::{WRITE_FAULT, ended};
 use std::alloc::Global;
 use tink_files::{Task, write_task};
-use crate::discard::Discard;
 use tink_io::Draws;
 use tink_run::report::Command;
 use tink_system::{System, Trouble};
@@ -70,6 +70,14 @@ fn check_all<'w, Y: System>(
     let mut draws = Draws::new(Vec::new(alloc));
     let mut nothing = Discard::new();
     let task = Task::Run(Command::Open);
-    let answer = write_task(alloc, task, keyset, job.aad, &mut draws, input, &mut nothing);
+    let answer = write_task(
+        alloc,
+        task,
+        keyset,
+        job.aad,
+        &mut draws,
+        input,
+        &mut nothing,
+    );
     ended(system, answer, input, job, WRITE_FAULT)
 }

@@ -6,8 +6,8 @@ ghost use Rattle.std.specs.Io.{WritesAtMost};
 ghost use Rattle.std.specs.Io.KnownBytes.{WriteAppends};
 ghost use Rattle.tink_io.specs.Faults.{CountsFault};
 
-use tink_io::{Failed, Sink};
 use std::marker::Model;
+use tink_io::{Failed, Sink};
 
 /// A sink that takes every byte, keeps none and never fails. It takes no memory. A contract sees all bytes that it was
 /// given, so that a call which is only to check a stream has them in its clauses.

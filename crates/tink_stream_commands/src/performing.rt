@@ -201,7 +201,9 @@ fn put_to_file<'w, Y: System>(
     ensures later { Y.faults system.old ≤ Y.faults system.new }
 {
     match system.begin(output, how_of(job)) {
-        Ok(draft) => put_to_draft(alloc, system, task, keyset, job, draws, input, output, draft),
+        Ok(draft) => put_to_draft(
+            alloc, system, task, keyset, job, draws, input, output, draft,
+        ),
         Err(trouble) => Err(trouble),
     }
 }
@@ -263,7 +265,11 @@ pub fn ended<'w, Y: System>(
     match answer {
         Ok(_) => Ok(()),
         Err(e) => Err(match e.kind {
-            Kind::ReadFault => Trouble::Unusable(job.input_name(), system.reason_of_input(input), 11),
+            Kind::ReadFault => Trouble::Unusable(
+                job.input_name(),
+                system.reason_of_input(input),
+                11,
+            ),
             Kind::WriteFault => Trouble::Unusable(job.output_name(), reason, 12),
             kind => job.blamed(kind),
         }),

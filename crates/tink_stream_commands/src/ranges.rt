@@ -68,11 +68,7 @@ fn range_under<'w, Y: System, K: Sink>(
     ensures sink { K.same sink.old sink.new }
 {
     let Some(input) = job.input else {
-        return Err(Trouble::Unusable(
-            b"standard input",
-            "a range is read of a file: name one",
-            2,
-        ));
+        return Err(Trouble::Unusable(b"standard input", "a range is read of a file: name one", 2));
     };
     match system.open_at(input, length, job.is_quiet) {
         Ok(mut object) => range_of(alloc, system, keyset, job, &mut object, start, length, sink),
@@ -100,7 +96,17 @@ fn range_of<'w, Y: System, K: Sink>(
     ensures later { Y.faults system.old ≤ Y.faults system.new }
     ensures sink { K.same sink.old sink.new }
 {
-    counted::<Brand, Y, K>(alloc, system, keyset, job, object, start, length, sink, Blank::new(1))
+    counted::<Brand, Y, K>(
+        alloc,
+        system,
+        keyset,
+        job,
+        object,
+        start,
+        length,
+        sink,
+        Blank::new(1),
+    )
 }
 
 // The same by a ledger of steps.
@@ -129,8 +135,12 @@ fn counted<'w, L: Ledger, Y: System, K: Sink>(
 {
     let mut steps = Steps::<L>::new(blank);
     match job.output {
-        None => put(alloc, system, keyset, job, object, start, length, sink, &mut steps),
-        Some(output) => put_to(alloc, system, keyset, job, object, start, length, output, &mut steps),
+        None => put(
+            alloc, system, keyset, job, object, start, length, sink, &mut steps,
+        ),
+        Some(output) => put_to(
+            alloc, system, keyset, job, object, start, length, output, &mut steps,
+        ),
     }
 }
 
@@ -176,10 +186,14 @@ fn put_to<'w, L: Ledger, Y: System>(
     ensures later { Y.faults system.old ≤ Y.faults system.new }
 {
     if system.is_stream(output) {
-        return put_to_stream(alloc, system, keyset, job, object, start, length, output, steps);
+        return put_to_stream(
+            alloc, system, keyset, job, object, start, length, output, steps,
+        );
     }
     match system.begin(output, how_of(job)) {
-        Ok(draft) => put_to_draft(alloc, system, keyset, job, object, start, length, output, draft, steps),
+        Ok(draft) => put_to_draft(
+            alloc, system, keyset, job, object, start, length, output, draft, steps,
+        ),
         Err(trouble) => Err(trouble),
     }
 }
@@ -201,8 +215,16 @@ fn put_to_stream<'w, L: Ledger, Y: System>(
 {
     match system.open_stream(output) {
         Ok(mut stream) => {
-            let answer =
-                run_range(alloc, keyset, job.aad, object, start, length, &mut stream, steps);
+            let answer = run_range(
+                alloc,
+                keyset,
+                job.aad,
+                object,
+                start,
+                length,
+                &mut stream,
+                steps,
+            );
             let reason = system.reason_of_stream(&stream);
             ended(system, answer, object, job, reason)
         }
@@ -233,8 +255,9 @@ fn put_to_draft<'w, L: Ledger, Y: System>(
     ensures random { (Y.state system.new).random ≡ (Y.state system.old).random }
     ensures later { Y.faults system.old ≤ Y.faults system.new }
 {
-    let answer =
-        range_to(alloc, keyset, job.aad, object, start, length, &mut draft, steps);
+    let answer = range_to(
+        alloc, keyset, job.aad, object, start, length, &mut draft, steps,
+    );
     let reason = system.reason_of_draft(&draft);
     match system.settle(alloc, output, draft) {
         Ok(()) => ended(system, answer, object, job, reason),
@@ -257,7 +280,11 @@ fn ended<'w, Y: System>(
     match answer {
         Ok(_) => Ok(()),
         Err(e) => Err(match e.kind {
-            Kind::ReadFault => Trouble::Unusable(job.input_name(), system.reason_of_object(object), 11),
+            Kind::ReadFault => Trouble::Unusable(
+                job.input_name(),
+                system.reason_of_object(object),
+                11,
+            ),
             Kind::WriteFault => Trouble::Unusable(job.output_name(), reason, 12),
             kind => job.blamed(kind),
         }),

@@ -14,7 +14,13 @@ fn main(rt: HostRuntime) -> ExitCode {
         Ok(words) => {
             let mut system = Unix::new(&rt);
             let mut sink = StdSink::new(rt.stdout());
-            ExitCode::from(run(rt.alloc(), &mut system, words.as_slice(), &mut sink, &mut faults))
+            ExitCode::from(run(
+                rt.alloc(),
+                &mut system,
+                words.as_slice(),
+                &mut sink,
+                &mut faults,
+            ))
         }
         Err(e) => ExitCode::from(tell(&mut faults, Trouble::Refused(b"tink", e.kind))),
     }
