@@ -1,3 +1,4 @@
 pub mod Ends
 pub mod Managed
 pub mod Masters
+pub mod ShownTexts

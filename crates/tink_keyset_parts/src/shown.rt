@@ -1,15 +1,17 @@
 //! What may be shown of a keyset.
 
-ghost use Rattle.std.specs.Prelude.{◌≡◌, IfOk, IfErr, map};
+ghost use Rattle.std.specs.Prelude.{◌≡◌, Some, IfOk, IfErr, map, flat_map};
+ghost use Rattle.std.specs.Fmt.{DisplaysOnOk};
 ghost use Rattle.tink_io.specs.declared.error.Kind.TheVariants.{OutOfMemory};
 ghost use Rattle.keyset_model.specs.Secrets as secrets;
+ghost use Rattle.tink_keyset_parts.specs.ShownTexts.{info_text, keys_text, further_text, key_text, use_text, last_text, url_text, status_text, prefix_text};
+ghost use Rattle.std.specs.Char.{is_ascii};
+ghost use Rattle.std.specs.List.{list_all};
 
 use std::alloc::{AllocError, Global};
 use std::fmt;
 use tink_io::TinkError;
-use tink_proto::{
-    Key, KeyInfo, KeyStatusType, Keyset, KeysetInfo, OutputPrefixType, Repeated, Text,
-};
+use tink_proto::{Key, KeyInfo, Keyset, KeysetInfo, Repeated, Text};
 
 /// The primary id and, for each key, its status, id, prefix type and URL, which is empty where the key
 /// has no data.
@@ -53,72 +55,134 @@ fn key_info(alloc: Global, key: &Key) -> Result<KeyInfo, AllocError>
     })
 }
 
-/// A keyset, which prints what `keyset_info` tells of it, and so no key material.
+/// A keyset, which prints what `keyset_info` tells of it, and so no key material. A URL that is not ASCII is not printed.
 #[derive(Drop)]
 pub struct Shown<'a>(pub &'a Keyset);
 
 impl fmt::Display for Shown<'_> {
+    ghost output = { λ s. Some (info_text (secrets.keyset_info s.0.now)) };
+
     fn fmt<W: fmt::Write>(&self, f: &mut fmt::Formatter<W>) -> fmt::Result {
-        let primary = self.0.primary_key_id;
-        let keys = Keys(self.0.key.as_slice());
-        write!(
-            f,
-            "KeysetInfo {{ primary_key_id: {primary}, key_info: [{keys}] }}"
-        )
+        f.write_str("KeysetInfo { primary_key_id: ")?;
+        write!(f, "{}", self.0.primary_key_id)?;
+        f.write_str(", key_info: [")?;
+        write_keys(f, self.0.key.as_slice())?;
+        f.write_str("] }")
     }
 }
 
-// Keys, which print what may be shown of them.
-#[derive(Drop)]
-struct Keys<'a>(&'a [Key]);
-
-impl fmt::Display for Keys<'_> {
-    fn fmt<W: fmt::Write>(&self, f: &mut fmt::Formatter<W>) -> fmt::Result {
-        let mut between = "";
-        for key in self.0 {
-            write_key(f, between, key)?;
-            between = ", ";
+// Writes what may be shown of keys.
+fn write_keys<W: fmt::Write>(f: &mut fmt::Formatter<W>, keys: &[Key]) -> fmt::Result
+    ensures { DisplaysOnOk W.write_str_gives f.old result
+        (Some (keys_text (map secrets.key_info keys.now))) f.new }
+{
+    match keys.split_first() {
+        None => Ok(()),
+        Some((first, rest)) => {
+            write_key(f, first)?;
+            write_further(f, rest)
         }
-        Ok(())
     }
 }
 
-fn write_key<W: fmt::Write>(f: &mut fmt::Formatter<W>, before: &str, key: &Key) -> fmt::Result {
-    let type_url = match &key.key_data {
+// Writes what may be shown of keys that stand behind another.
+fn write_further<W: fmt::Write>(f: &mut fmt::Formatter<W>, keys: &[Key]) -> fmt::Result
+    ensures { DisplaysOnOk W.write_str_gives f.old result
+        (Some (flat_map (λ k. further_text (secrets.key_info k)) keys.now)) f.new }
+{
+    for key in keys {
+        write_next(f, key)?;
+    }
+    Ok(())
+}
+
+// Writes what may be shown of a key that stands behind another.
+fn write_next<W: fmt::Write>(f: &mut fmt::Formatter<W>, key: &Key) -> fmt::Result
+    ensures { DisplaysOnOk W.write_str_gives f.old result (Some (further_text (secrets.key_info key.now))) f.new }
+{
+    f.write_str(", ")?;
+    write_key(f, key)
+}
+
+// Writes what may be shown of a key.
+fn write_key<W: fmt::Write>(f: &mut fmt::Formatter<W>, key: &Key) -> fmt::Result
+    ensures { DisplaysOnOk W.write_str_gives f.old result (Some (key_text (secrets.key_info key.now))) f.new }
+{
+    f.write_str("KeyInfo { type_url: ")?;
+    write_url(f, url_of(key))?;
+    write_use(f, key)
+}
+
+// The URL of a key, empty where it has no data.
+fn url_of(key: &Key) -> &str
+    ensures { result.now ≡ secrets.url_of key.now.key_data }
+{
+    match &key.key_data {
         Some(data) => data.type_url.as_str(),
         None => "",
-    };
-    let status = Status(key.status);
-    let key_id = key.key_id;
-    let prefix = PrefixType(key.output_prefix_type);
-    write!(
-        f,
-        "{before}KeyInfo {{ type_url: {type_url:?}, status: {status}, key_id: {key_id}, output_prefix_type: {prefix} }}"
-    )
-}
-
-// The number of a status, which prints its name where it has one.
-#[derive(Drop)]
-struct Status(i32);
-
-impl fmt::Display for Status {
-    fn fmt<W: fmt::Write>(&self, f: &mut fmt::Formatter<W>) -> fmt::Result {
-        match KeyStatusType::try_from(self.0) {
-            Ok(status) => fmt::Debug::fmt(&status, f),
-            Err(_) => fmt::Display::fmt(&self.0, f),
-        }
     }
 }
 
-// The number of a prefix type, in the same way.
-#[derive(Drop)]
-struct PrefixType(i32);
+// Writes a URL in quotes.
+fn write_url<W: fmt::Write>(f: &mut fmt::Formatter<W>, url: &str) -> fmt::Result
+    ensures { DisplaysOnOk W.write_str_gives f.old result (Some (url_text url.now)) f.new }
+{
+    if is_ascii(url) {
+        write!(f, "{url:?}")
+    } else {
+        f.write_str("(not ASCII)")
+    }
+}
 
-impl fmt::Display for PrefixType {
-    fn fmt<W: fmt::Write>(&self, f: &mut fmt::Formatter<W>) -> fmt::Result {
-        match OutputPrefixType::try_from(self.0) {
-            Ok(prefix) => fmt::Debug::fmt(&prefix, f),
-            Err(_) => fmt::Display::fmt(&self.0, f),
-        }
+fn is_ascii(url: &str) -> bool
+    ensures { result ≡ list_all is_ascii url.now }
+{
+    url.as_bytes().iter().all(|byte| *byte < 128)
+}
+
+// Writes the status of a key, and what stands behind it.
+fn write_use<W: fmt::Write>(f: &mut fmt::Formatter<W>, key: &Key) -> fmt::Result
+    ensures { DisplaysOnOk W.write_str_gives f.old result (Some (use_text (secrets.key_info key.now))) f.new }
+{
+    f.write_str(", status: ")?;
+    write_status(f, key.status)?;
+    f.write_str(", key_id: ")?;
+    write!(f, "{}", key.key_id)?;
+    write_last(f, key)
+}
+
+// Writes the prefix type of a key, and what stands behind it.
+fn write_last<W: fmt::Write>(f: &mut fmt::Formatter<W>, key: &Key) -> fmt::Result
+    ensures { DisplaysOnOk W.write_str_gives f.old result (Some (last_text (secrets.key_info key.now))) f.new }
+{
+    f.write_str(", output_prefix_type: ")?;
+    write_prefix(f, key.output_prefix_type)?;
+    f.write_str(" }")
+}
+
+// Writes the name of a status, or its number.
+fn write_status<W: fmt::Write>(f: &mut fmt::Formatter<W>, number: i32) -> fmt::Result
+    ensures { DisplaysOnOk W.write_str_gives f.old result (Some (status_text number)) f.new }
+{
+    match number {
+        0 => f.write_str("UnknownStatus"),
+        1 => f.write_str("Enabled"),
+        2 => f.write_str("Disabled"),
+        3 => f.write_str("Destroyed"),
+        _ => write!(f, "{number}"),
+    }
+}
+
+// Writes the name of a prefix type, or its number.
+fn write_prefix<W: fmt::Write>(f: &mut fmt::Formatter<W>, number: i32) -> fmt::Result
+    ensures { DisplaysOnOk W.write_str_gives f.old result (Some (prefix_text number)) f.new }
+{
+    match number {
+        0 => f.write_str("UnknownPrefix"),
+        1 => f.write_str("Tink"),
+        2 => f.write_str("Legacy"),
+        3 => f.write_str("Raw"),
+        4 => f.write_str("Crunchy"),
+        _ => write!(f, "{number}"),
     }
 }
