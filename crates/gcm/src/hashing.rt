@@ -13,7 +13,7 @@ use crate::order::{ByteOrder, block_of, number_of, pair_of};
 use standards::padded_block;
 
 // The bytes from which on large tables pay for one text.
-const LONG: usize = 2048;
+const LONG: usize = 8192;
 
 // One block more after y, under the key.
 fn absorb<K: Products>(order: ByteOrder, key: &K, y: u128, block: [u8; 16]) -> u128
