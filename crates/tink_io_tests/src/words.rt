@@ -6,7 +6,9 @@ ghost use Rattle.tink_words.specs.Usages.{usage_of};
 use crate::expect::expect;
 use std::alloc::Global;
 use tink_io::TinkError;
-use tink_words::{Action, FormatName, Line, OptionName, PrefixName, Why, parse, usage};
+use tink_words::{
+    Action, FormatName, Line, PrefixName, Why, command_names, option_names, parse, similar, usage,
+};
 
 // What a line spells: a command, or why none: the command that it names, a word for why, the option or the word beside
 // the options, and the word of the line.
@@ -746,9 +748,9 @@ const OPTIONS: &[(&str, Option<&str>)] = &[
 #[test]
 fn names_are_like_words(rt: HostRuntime) {
     for (word, want) in COMMANDS {
-        expect(&rt, Action::similar(word.as_bytes()), *want, word);
+        expect(&rt, similar(word.as_bytes(), command_names()), *want, word);
     }
     for (word, want) in OPTIONS {
-        expect(&rt, OptionName::similar(word.as_bytes()), *want, word);
+        expect(&rt, similar(word.as_bytes(), option_names()), *want, word);
     }
 }

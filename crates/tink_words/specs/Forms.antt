@@ -1,4 +1,5 @@
 -- What a command line spells.
+pub use Rattle.tink_words.specs.Words.{byte_words}
 use Rattle.std.specs.Prelude.{ℕ, List, [], ◌∷◌, Option, Some, None, Result, Ok, Err, String, Vec}
 use Rattle.tink_words.specs.LineRead.{LineRead}
 use Rattle.tink_words.specs.Lines.{line_of, words_in}

@@ -1,10 +1,10 @@
 //! Which words a command takes.
 
-ghost use Rattle.std.specs.Prelude.{◌≡◌, IfSome, IsSome};
+ghost use Rattle.std.specs.Prelude.{◌≡◌, List, ℕ};
+ghost use Rattle.tink_words.specs.Words.{value_named};
 ghost use Rattle.tink_words.specs.Actions.{action_name, action_named, operands_of, options_of, parts_of, takes};
 
 use crate::names::value_named;
-use crate::near::similar;
 use crate::options::has;
 use crate::{Operand, OptionName};
 
@@ -100,6 +100,13 @@ const ACTIONS: &[(&str, Action)] = &[
     ("--version", Action::Version),
     ("-V", Action::Version),
 ];
+
+/// The names of the commands, each with its command.
+pub fn command_names() -> &'static [(&'static str, Action)]
+    ensures { (name : List ℕ) → value_named result.now name ≡ action_named name }
+{
+    ACTIONS
+}
 
 // The options of a command, and what it must have in the order of its usage line.
 const NONE: &[OptionName] = &[];
@@ -218,13 +225,6 @@ impl Action {
         ensures { result ≡ action_named name.now }
     {
         value_named(ACTIONS, name)
-    }
-
-    /// A name that is like this word.
-    pub fn similar(word: &[u8]) -> Option<&'static str>
-        ensures { IfSome result (λ name. IsSome (action_named name.now)) }
-    {
-        similar(word, ACTIONS)
     }
 
     /// Its name.

@@ -15,11 +15,12 @@ mod word;
 mod wrong;
 
 pub use commands::{Given, parse};
-pub use form::Action;
+pub use form::{Action, command_names};
 pub use help::help_text;
 pub use line::Line;
 pub use names::is_option;
-pub use options::OptionName;
+pub use near::similar;
+pub use options::{OptionName, option_names};
 pub use usages::usage;
 pub use values::{FormatName, PrefixName};
 pub use word::Word;

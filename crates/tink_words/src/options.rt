@@ -1,10 +1,10 @@
 //! The options.
 
-ghost use Rattle.std.specs.Prelude.{◌≡◌, IfSome, IsSome};
+ghost use Rattle.std.specs.Prelude.{◌≡◌, List, ℕ};
+ghost use Rattle.tink_words.specs.Words.{value_named};
 ghost use Rattle.tink_words.specs.Options.{code_of, has, has_value, is_everywhere, name_of, option_named};
 
 use crate::names::value_named;
-use crate::near::similar;
 
 /// An option.
 #[derive(Clone, Copy, Debug, PartialEq, Eq)]
@@ -71,19 +71,19 @@ const OPTIONS: &[(&str, OptionName)] = &[
     ("--json", OptionName::Json),
 ];
 
+/// The words of the options, each with its option.
+pub fn option_names() -> &'static [(&'static str, OptionName)]
+    ensures { (name : List ℕ) → value_named result.now name ≡ option_named name }
+{
+    OPTIONS
+}
+
 impl OptionName {
     /// The option of a word.
     pub fn of_name(word: &[u8]) -> Option<OptionName>
         ensures { result ≡ option_named word.now }
     {
         value_named(OPTIONS, word)
-    }
-
-    /// An option's word that is like this word.
-    pub fn similar(word: &[u8]) -> Option<&'static str>
-        ensures { IfSome result (λ name. IsSome (option_named name.now)) }
-    {
-        similar(word, OPTIONS)
     }
 
     /// Its long word.
