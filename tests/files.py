@@ -384,12 +384,13 @@ def ranges():
 
 
 def words():
-    check(b"tink encrypt -k KEYS" in tink("help") == tink("--help"), "help")
-    check(b"Templates" in tink("help", "new") and b"Templates" in tink("new", "--help"), "help of a command")
+    check(b"encrypt, decrypt -k KEYS" in tink("help") == tink("--help"), "help")
+    check(b"tink new TEMPLATE" in tink("help", "new") == tink("new", "--help", "--no-such"), "help of a command")
     check(tink("--version").startswith(b"tink"), "the version")
     for line in ("", "nonsense", "new", "new X", "encrypt text", "encrypt -k", "encrypt -k a -k b", "keys", "keys a b c",
                  "decrypt -k keys.json --unknown", "encrypt -k keys.json a b", "rotate keys.json", "delete keys.json", "wrap keys.json", "wrap -k keys.json keys.json",
-                 "unwrap -k keys.json -o none.json", "wrap -k keys.json -o none.json --format yaml keys.json"):
+                 "unwrap -k keys.json -o none.json", "wrap -k keys.json -o none.json --format yaml keys.json", "help nonsense",
+                 "encrypt -k keys.json --no-clobber", "encrypt -k keys.json --master-aad x", "decrypt -k keys.json --quiet=", "promote keys.json +5"):
         tink(*line.split(), status=2)
 
 
