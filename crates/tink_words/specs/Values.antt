@@ -1,5 +1,5 @@
 -- The values of options.
-use Rattle.std.specs.Prelude.{◌+◌, ◌-◌, ◌*◌, ◌^◌, ◌&&◌, nat_le, ℕ, List, [], ◌∷◌, Bool, Option, Some, None, codes, if◌then◌else◌, option_and_then}
+use Rattle.std.specs.Prelude.{◌+◌, ◌-◌, ◌*◌, ◌^◌, ◌&&◌, nat_le, ℕ, List, [], ◌∷◌, Bool, true, Option, Some, None, codes, if◌then◌else◌, option_and_then}
 use Rattle.tink_words.specs.Words.{named_in}
 use Rattle.tink_words.specs.declared.values.FormatName.{FormatName}
 use Rattle.tink_words.specs.declared.values.FormatName.TheVariants.{Json, Binary}
@@ -19,10 +19,20 @@ abbrev pub with_digits : ℕ → ℕ → List ℕ → Option ℕ
 with_digits most n [] = Some n
 with_digits most n (b ∷ bs) = option_and_then (λ next. with_digits most next bs) (with_digit most n b)
 
+-- all bytes are decimal digits
+abbrev pub are_digits : List ℕ → Bool
+are_digits [] = true
+are_digits (b ∷ bs) = is_digit b && are_digits bs
+
+-- the number that more digits behind those of a number write
+abbrev pub value_on : ℕ → List ℕ → ℕ
+value_on n [] = n
+value_on n (b ∷ bs) = value_on (n * 10 + (b - 48)) bs
+
 -- the number that one or more decimal digits write, where it is at most `most`
 abbrev pub number_up_to : ℕ → List ℕ → Option ℕ
 number_up_to most [] = None
-number_up_to most (b ∷ bs) = with_digits most 0 (b ∷ bs)
+number_up_to most (b ∷ bs) = if are_digits (b ∷ bs) && nat_le (value_on 0 (b ∷ bs)) most then Some (value_on 0 (b ∷ bs)) else None
 
 -- the number of 64 bits that a text writes
 abbrev pub number_of : Option (List ℕ) → Option ℕ

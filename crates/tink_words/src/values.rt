@@ -1,7 +1,7 @@
 //! The values of options.
 
 ghost use Rattle.std.specs.Prelude.{◌≡◌, ◌≤◌, ◌-◌, ◌^◌, IfSome, option_and_then, option_map};
-ghost use Rattle.tink_words.specs.Values.{format_of, id_of, number_of, number_up_to, prefix_of, with_digit};
+ghost use Rattle.tink_words.specs.Values.{format_of, id_of, number_of, number_up_to, prefix_of, with_digit, with_digits};
 
 use crate::names::value_named;
 
@@ -87,7 +87,7 @@ pub(crate) fn id_of(digits: Option<&[u8]>) -> Option<u32>
     }
 }
 
-// The number that decimal digits write, where it is at most `most`.
+// The number that one or more decimal digits write, where it is at most `most`.
 fn number_up_to(digits: &[u8], most: u64) -> Option<u64>
     ensures number { result ≡ number_up_to most digits.now }
     ensures bound { IfSome result (λ n. n ≤ most) }
@@ -95,6 +95,14 @@ fn number_up_to(digits: &[u8], most: u64) -> Option<u64>
     if digits.is_empty() {
         return None;
     }
+    read_digits(digits, most)
+}
+
+// What the digits are read as, one after another.
+fn read_digits(digits: &[u8], most: u64) -> Option<u64>
+    ensures number { result ≡ with_digits most 0 digits.now }
+    ensures bound { IfSome result (λ n. n ≤ most) }
+{
     let mut number = 0;
     'digits: for digit in digits {
         match with_digit(number, *digit, most) {

@@ -1,6 +1,6 @@
 use Rattle.std.proofs.Common.{◌≡◌, ◌≤◌, drop}
 use Rattle.tink_words.specs.Values.{with_digits}
-use Rattle.tink_words.proofs.values.number_up_to.Given as goal
+use Rattle.tink_words.proofs.values.read_digits.Given as goal
 
 -- what is left to be read
 abbrev pub invariant-digits : goal.invariant-digits
