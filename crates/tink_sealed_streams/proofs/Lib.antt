@@ -1,6 +1,8 @@
 pub mod CountFacts
 pub mod SetSteps
 pub mod KeysetSteps
+pub mod InfoSteps
+pub mod InfoPromises
 pub mod PassSteps
 pub mod KeySteps
 pub mod OpenedLater

@@ -73,7 +73,7 @@ module _ {W : Type 0} (got : W → Option (List ℕ)) (faults : W → ℕ) (keys
       go _ m unwritten = absurd unwritten
 
 -- of the keys that were loaded the same one is chosen as of those of the set
-chosen_of_loaded : (aad : List ℕ) (l : Loaded) (set : TypedPrimitiveSet StreamKind) → AreUsable l.keys → HoldsLoaded l set → KeepsOrder set.entries → (S : List ℕ) (chosen : Option OpeningKey)
+pub chosen_of_loaded : (aad : List ℕ) (l : Loaded) (set : TypedPrimitiveSet StreamKind) → AreUsable l.keys → HoldsLoaded l set → KeepsOrder set.entries → (S : List ℕ) (chosen : Option OpeningKey)
     → IsChosen (map (opening_key aad) (keys_in (all_entries set.entries))) S chosen → IsChosen (opening_keys aad l) S chosen
 chosen_of_loaded aad l set usable holds order S chosen h =
     let own : List StreamKey = map (λ k. k.key) l.keys in

@@ -1,5 +1,6 @@
 pub mod SetRanges
 pub mod KeysetRanges
+pub mod StreamInfos
 pub mod Passing
 pub mod Rewrapping
 pub mod RewrapPromises
