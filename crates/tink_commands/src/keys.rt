@@ -128,7 +128,7 @@ pub fn grow<'w, Y: System>(
     };
     let growth = growth_of(action, line.is_any());
     match system.draws(alloc, DRAWN) {
-        Ok(draws) => change(alloc, system, path, Change::Grow(growth, template, draws)),
+        Ok(draws) => make_change(alloc, system, path, Change::Grow(growth, template, draws)),
         Err(trouble) => Err(trouble),
     }
 }
@@ -154,7 +154,7 @@ pub fn edit<'w, Y: System>(
     let (Some(path), Some(id), Some(edit)) = (line.first(), line.id(), edit_of(action)) else {
         return Err(Trouble::Usage);
     };
-    change(alloc, system, path, Change::Edit(edit, id))
+    make_change(alloc, system, path, Change::Edit(edit, id))
 }
 
 /// How a command adds a key: beside the primary one, as the primary one among keys of its primitive, or among any.
@@ -173,7 +173,7 @@ enum Change<'w> {
 }
 
 // Changes a file of keys, of which there is one change at a time.
-fn change<'w, Y: System>(
+fn make_change<'w, Y: System>(
     alloc: Global,
     system: &mut Y,
     path: &'w [u8],

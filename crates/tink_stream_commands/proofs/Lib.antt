@@ -2,4 +2,3 @@ pub mod LoadingLemmas
 pub mod MovingLemmas
 pub mod PerformingLemmas
 pub mod RangingLemmas
-mod Walks

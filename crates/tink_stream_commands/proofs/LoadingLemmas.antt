@@ -1,5 +1,5 @@
 -- Errors of loading, through the calls that pass them on.
-use Rattle.std.proofs.Common.{◌≡◌, ◌≤◌, ◌⊎◌, inl, inr, ℕ, List, Bool, true, false, Result, Ok, Err, refl, sym, ◌∙◌, subst}
+use Rattle.std.proofs.Common.{◌≡◌, ◌≤◌, ◌⊎◌, inl, inr, ℕ, List, Bool, true, false, Result, Ok, Err, refl, sym, ◌∙◌, subst, ap}
 use Rattle.std.proofs.lemmas.Bool.{true≢false}
 use Rattle.std.specs.Prelude.{IfErr}
 use Rattle.tink_io.specs.Faults.{Rose}
@@ -12,7 +12,7 @@ use Rattle.tink_files.specs.Masters.{IsMaster, MasterKeys}
 use Rattle.tink_system.specs.States.{SystemState}
 use Rattle.tink_system.specs.Statuses.{trouble_status}
 use Rattle.tink_system.specs.declared.trouble.Trouble.{Trouble}
-use Rattle.tink_stream_commands.specs.Loading.{Fails, HasStatusOf, IsMasterOf, RefusesBy, unwrapped_keyset, wrapped_keyset}
+use Rattle.tink_stream_commands.specs.Loading.{Fails, HasStatusOf, IsMasterOf, RefusesBy, keyset_of, unwrapped_keyset, wrapped_keyset}
 use Rattle.tink_stream_commands.specs.declared.keys.KeyWords.{KeyWords}
 
 status_chained : {S T : Type 0} (f : S → Result T Kind) (given : Result S Kind) (status : ℕ) → HasStatusOf given status → HasStatusOf (chained f given) status
@@ -55,3 +55,9 @@ pub refused_unwrapped : {T : Type 0} (s middle : SystemState) (words : KeyWords)
 refused_unwrapped s middle words name before then now master (Ok v) same earlier is fails = tt
 refused_unwrapped s middle words name before then now master (Err t) same earlier is fails =
     fails_unwrapped s middle words name before then now master t same earlier is fails
+
+-- a keyset that was loaded after a call that changed nothing, as the slice that is handed on
+pub loaded_by : (old middle : SystemState) (words : KeyWords) (keyset slice : List ℕ) → middle ≡ old → slice ≡ keyset
+    → (middle.is_known ≡ true → keyset_of middle words ≡ Ok keyset) → old.is_known ≡ true → keyset_of old words ≡ Ok slice
+loaded_by old middle words keyset slice same is gives known =
+    subst (λ (s : SystemState). s.is_known ≡ true → keyset_of s words ≡ Ok keyset) same gives known ∙ ap (λ (k : List ℕ). Ok k) (sym is)

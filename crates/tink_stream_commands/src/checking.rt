@@ -4,13 +4,12 @@ ghost use Rattle.std.specs.Prelude.{◌≡◌, ◌≤◌, ℕ, List, Some, true,
 ghost use Rattle.tink_stream_commands.specs.Streams.{IsChecked, IsOpened};
 ghost use Rattle.tink_system.specs.States.{known_content};
 
-use crate::discard::Discard;
 use crate::job::{Job, job_of};
 use crate::keys::keyset_of;
 use crate::performing::{WRITE_FAULT, ended};
 use std::alloc::Global;
 use tink_files::{Task, write_task};
-use tink_io::Draws;
+use tink_io::{Discard, Draws};
 use tink_run::report::Command;
 use tink_system::{System, Trouble};
 use tink_words::Line;

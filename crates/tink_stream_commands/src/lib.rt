@@ -2,7 +2,6 @@
 #![tactic(auto)]
 
 pub mod checking;
-mod discard;
 mod job;
 pub mod keys;
 mod performing;
