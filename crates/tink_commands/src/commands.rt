@@ -14,7 +14,7 @@ use crate::telling::tell_wrong;
 use crate::{keys, showing, wrapping};
 use std::alloc::Global;
 use tink_io::Sink;
-use tink_stream_commands::{checking, ranges, streams};
+use tink_stream_commands::{checking, informing, ranges, streams};
 use tink_system::trouble::tell;
 use tink_system::{System, Trouble};
 use tink_words::{Action, Given, parse};
@@ -82,7 +82,7 @@ fn command<'w, Y: System, K: Sink>(
             streams::make(alloc, system, given.action, line, sink)
         }
         Action::Check => checking::check(alloc, system, line),
-        Action::Info => Err(Trouble::Usage),
+        Action::Info => informing::info(alloc, system, line, sink),
         Action::Rewrap => streams::rewrap(alloc, system, line, sink),
         Action::Range => ranges::range(alloc, system, line, sink),
         Action::Wrap => wrapping::wrap(alloc, system, line, sink),

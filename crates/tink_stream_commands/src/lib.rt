@@ -2,6 +2,7 @@
 #![tactic(auto)]
 
 pub mod checking;
+pub mod informing;
 mod job;
 pub mod keys;
 mod performing;

@@ -279,14 +279,25 @@ fn ended<'w, Y: System>(
     system.end_object(object);
     match answer {
         Ok(_) => Ok(()),
-        Err(e) => Err(match e.kind {
-            Kind::ReadFault => Trouble::Unusable(
-                job.input_name(),
-                system.reason_of_object(object),
-                11,
-            ),
-            Kind::WriteFault => Trouble::Unusable(job.output_name(), reason, 12),
-            kind => job.blamed(kind),
-        }),
+        Err(e) => Err(trouble_of(system, object, job, e.kind, reason)),
+    }
+}
+
+/// An error, and the file that it is of: `reason` is why the output failed, if it did.
+pub fn trouble_of<'w, Y: System>(
+    system: &Y,
+    object: &Y::Object,
+    job: &Job<'w>,
+    kind: Kind,
+    reason: &'static str,
+) -> Trouble<'w>
+    ensures { trouble_status result ≡ refusal_status kind }
+{
+    match kind {
+        Kind::ReadFault => {
+            Trouble::Unusable(job.input_name(), system.reason_of_object(object), 11)
+        }
+        Kind::WriteFault => Trouble::Unusable(job.output_name(), reason, 12),
+        kind => job.blamed(kind),
     }
 }
