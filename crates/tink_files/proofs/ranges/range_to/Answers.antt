@@ -27,3 +27,7 @@ pub returns-clause-kept : goal.returns-clause-kept
 returns-clause-kept g c =
     leaves_ended g.A.ReadAt.length_of g.A.ReadAt.bytes g.A.ReadAt.faults c.args.object.now c.run_range-answer.new.object _ _ _ _ _ _ c.run_range-answer.result c.finish.result
     c.finish.ensures.ends c.run_range-answer.ensures.kept
+
+pub returns-clause-place : goal.returns-clause-place
+returns-clause-place g c =
+    g.met.P.Place.rest_trans _ _ _ (g.met.P.Place.same_rest c.args.place.now c.run_range-answer.new.sink c.run_range-answer.ensures.sink) c.finish.ensures.rest

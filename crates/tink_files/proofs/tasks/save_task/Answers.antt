@@ -33,3 +33,7 @@ returns-clause-later g c = record {
   reads = c.write_task-answer.ensures.later.reads;
   writes = le_trans c.write_task-answer.ensures.later.writes c.finish.ensures.later;
 }
+
+pub returns-clause-place : goal.returns-clause-place
+returns-clause-place g c =
+    g.met.P.Place.rest_trans _ _ _ (g.met.P.Place.same_rest c.args.place.now c.write_task-answer.new.sink c.write_task-answer.ensures.sink) c.finish.ensures.rest
