@@ -60,7 +60,7 @@ fn put_key(alloc: Global, text: &mut Vec<u8>, primary: u32, key: &KeyInfo) -> Re
 }
 
 // Puts bytes at the end.
-fn put(text: &mut Vec<u8>, bytes: &[u8]) -> Result<(), TinkError>
+pub(crate) fn put(text: &mut Vec<u8>, bytes: &[u8]) -> Result<(), TinkError>
     ensures ok { OnOk result (text.new.items ≡ text.old.items ++ bytes.now) }
     ensures err { IfErr result (λ e. e ≡ record { kind = OutOfMemory }) }
 {
@@ -80,7 +80,7 @@ fn put_printed(text: &mut Vec<u8>, bytes: &[u8]) -> Result<(), TinkError>
 }
 
 // A byte of ASCII that is seen, and else a question mark.
-fn shown_byte(byte: u8) -> u8
+pub(crate) fn shown_byte(byte: u8) -> u8
     ensures { result ≡ shown_byte byte }
 {
     if byte > 32 && byte < 127 { byte } else { b'?' }
@@ -110,7 +110,7 @@ fn prefix_word(prefix: i32) -> &'static [u8]
 }
 
 // The type of a key in short, or a dash where a key has none.
-fn type_word(url: &[u8]) -> &[u8]
+pub(crate) fn type_word(url: &[u8]) -> &[u8]
     ensures { result.now ≡ type_word url.now }
 {
     if url.is_empty() {
