@@ -7,7 +7,7 @@ ghost use Rattle.tink_unix.specs.OfStatus.{IsOfStatus};
 use crate::leftovers::{Cleared, MOST_RUNS, clear, names_this, sweep};
 use crate::names::{Which, draft_name, follow, parts_of, text_of};
 use crate::output::Written;
-use crate::reasons::{NONE, code_of};
+use crate::reasons::{NONE, NOT_UTF8, code_of};
 use crate::refusals::{unwritable, unwritten};
 use std::fs;
 use std::fs::{File, Metadata, OpenFile, OpenOptions, TryLockError};
@@ -15,10 +15,10 @@ use std::os::unix::fs::{MetadataExt, OpenOptionsExt, fchown};
 use tink_io::Kind;
 use tink_system::{How, Trouble};
 
-// So many bytes wait for the file at most.
+// At most this many bytes wait before they are written.
 const WAITING: usize = 32_768;
 
-// How often a draft is made anew that another run took for a leftover.
+// How often a draft is tried that another run holds or took for a leftover.
 const TRIES: usize = 100;
 
 const EPERM: i32 = 1;
@@ -31,7 +31,7 @@ const EACCES: i32 = 13;
 
 const EEXIST: i32 = 17;
 
-/// A draft, whose lock is held. Its owner alone may read it until it is shown. It tells no bytes.
+/// A draft, whose lock is held. Only its owner may read it until it is shown. No clause knows its bytes.
 #[derive(Drop)]
 pub struct Draft {
     pub(crate) rt: HostRuntime,
@@ -134,6 +134,12 @@ fn target_of<'w>(rt: &HostRuntime, name: &'w [u8]) -> Result<String, Trouble<'w>
     };
     let target = match follow(rt, text) {
         Ok(target) => target,
+        Err(NOT_UTF8) => {
+            return Err(unwritten(
+                name,
+                "it is a link to a name that is not UTF-8, and this program opens no such file",
+            ));
+        }
         Err(code) => return Err(unwritable(name, code)),
     };
     match parts_of(target.as_str()) {
@@ -263,7 +269,7 @@ fn claim_numbered<'w>(
     }
     Err(unwritten(
         name,
-        "all its drafts NAME.tink-1.part to NAME.tink-9.part are in use: wait for their runs, or remove them",
+        "nine runs write it, or their drafts NAME.tink-1.part to NAME.tink-9.part are not yours: wait for them to end",
     ))
 }
 
@@ -284,8 +290,8 @@ fn claim(rt: &HostRuntime, path: &str) -> Result<File, Unclaimed> {
             }
             Err(e) => match code_of(e) {
                 EEXIST => match clear(rt, path) {
-                    Cleared::Gone => {}
-                    Cleared::Busy => return Err(Unclaimed::Busy),
+                    // A run that only looks for leftovers holds one for a moment.
+                    Cleared::Gone | Cleared::Busy => {}
                     Cleared::Foreign => return Err(Unclaimed::Foreign),
                 },
                 code => return Err(Unclaimed::Failed(code)),

@@ -37,7 +37,7 @@ impl Read for From {
     }
 }
 
-/// A file or standard input, with how far it is read. It tells no bytes.
+/// A file or standard input, and a count of the bytes that were read. No clause knows its bytes.
 #[derive(Drop)]
 pub struct Input {
     from: From,
@@ -52,7 +52,7 @@ impl Input {
     pub(crate) fn open<'w>(
         rt: HostRuntime,
         name: Option<&'w [u8]>,
-        may_tell: bool,
+        may_show: bool,
     ) -> Result<Input, Trouble<'w>>
         ensures { IfErr result (IsOfStatus 11) }
     {
@@ -63,7 +63,7 @@ impl Input {
         Ok(Input {
             from,
             rt,
-            meter: Meter::new(&rt, total, may_tell),
+            meter: Meter::new(&rt, total, may_show),
             code: NONE,
             faults: 0,
         })

@@ -1,5 +1,7 @@
 //! Names of files: what a link leads to, the folder of a name, and the names of drafts.
 
+ghost use Rattle.std.specs.Prelude.{◌≡◌, ◌++◌};
+
 use crate::reasons::{NOT_UTF8, code_of};
 use std::alloc::AllocError;
 use std::fs;
@@ -79,7 +81,9 @@ fn joined(rt: &HostRuntime, link: &str, target: &str) -> Result<String, AllocErr
 }
 
 /// A path up to its last slash, and what is behind it.
-pub fn parts_of(path: &str) -> (&str, &str) {
+pub fn parts_of(path: &str) -> (&str, &str)
+    ensures { path.now ≡ result.0.now ++ result.1.now }
+{
     match path.rfind('/') {
         Some(at) => match path.split_at_checked(at + 1) {
             Some(parts) => parts,

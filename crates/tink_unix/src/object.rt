@@ -20,7 +20,7 @@ const TRIES: usize = 1_000;
 
 const EINTR: i32 = 4;
 
-/// A file, with the size that it had when it was opened. It tells no bytes.
+/// A file, with the size that it had when it was opened. No clause knows its bytes.
 #[derive(Drop)]
 pub struct Object {
     file: File,
@@ -32,12 +32,12 @@ pub struct Object {
 }
 
 impl Object {
-    /// Opens a file. Progress is shown of so many bytes, if it may.
+    /// Opens a file. If it may, it shows the progress of `total` bytes.
     pub(crate) fn open<'w>(
         rt: HostRuntime,
         name: &'w [u8],
         total: u64,
-        may_tell: bool,
+        may_show: bool,
     ) -> Result<Object, Trouble<'w>>
         ensures { IfErr result (IsOfStatus 11) }
     {
@@ -68,7 +68,7 @@ impl Object {
             file,
             size,
             rt,
-            meter: Meter::new(&rt, Some(total.min(size)), may_tell),
+            meter: Meter::new(&rt, Some(total.min(size)), may_show),
             code: NONE,
             faults: 0,
         })

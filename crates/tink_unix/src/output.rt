@@ -37,10 +37,10 @@ impl Write for Way {
     }
 }
 
-/// A pipe or a device that is written as it comes. It tells no bytes.
+/// A pipe or a device that is written as it comes. No clause knows its bytes.
 pub type Stream = Written<Way>;
 
-/// A writer of the system as a sink, and why its last write failed. It tells no bytes.
+/// A writer of the system as a sink, and why its last write failed. No clause knows its bytes.
 #[derive(Drop)]
 pub struct Written<W: Write> {
     pub(crate) inner: W,

@@ -14,6 +14,8 @@ use tink_io::{Failed, Gathered, Place, Sink};
 
 const EPERM: i32 = 1;
 
+const EACCES: i32 = 13;
+
 impl Sink for Draft {
     ghost use Rattle.std.proofs.Common.{refl, ◌∙◌};
 
@@ -222,7 +224,10 @@ fn keep_name(rt: &HostRuntime, target: &str) {
             target,
             &[
                 "it is in place, but its folder could not be written to the disk (",
-                reason_of_errno(code),
+                match code {
+                    EACCES => "you may not read it",
+                    _ => reason_of_errno(code),
+                },
                 "): a power cut may undo the change",
             ],
         ),

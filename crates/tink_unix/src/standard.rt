@@ -34,7 +34,7 @@ fn is_closed<F: AsFd>(stream: &F) -> bool {
     }
 }
 
-// Opens the null device under the lowest number that is free, for reading or for writing alone. If there is no such
+// Opens the null device under the lowest number that is free, for reading or for writing alone. If there is no null
 // device the root folder takes its place: no byte of it can be read or written.
 fn occupy(rt: &HostRuntime, reads: bool) {
     let opened = OpenOptions::new()
@@ -64,7 +64,7 @@ pub enum Standard {
     Other,
 }
 
-/// The descriptor to which a name leads, as `/dev/stdout` and links to it do. Opening such a name anew would lose the place
+/// The descriptor to which a name leads, as `/dev/stdout` and links to it do. Opening that name anew would lose the place
 /// in the file, and that it is written at its end.
 pub fn standard_of(rt: &HostRuntime, name: &str) -> Option<Standard> {
     let mut path = match String::from_str(rt.alloc(), name) {

@@ -22,10 +22,10 @@ use std::random::RandomSource;
 use tink_io::{Draws, Kind, Source};
 use tink_system::{End, How, System, Trouble};
 
-// So many bytes are read at once.
+// This many bytes are read at once.
 const PART: usize = 8_192;
 
-/// The real system. It tells no bytes.
+/// The real system. No clause knows its bytes.
 #[derive(Drop)]
 pub struct Unix {
     rt: HostRuntime,
@@ -66,7 +66,7 @@ impl System for Unix {
     }
 
     fn open<'w>(&mut self, name: Option<&'w [u8]>, is_quiet: bool) -> Result<Input, Trouble<'w>> {
-        Input::open(self.rt, name, may_tell(self.rt, is_quiet))
+        Input::open(self.rt, name, may_show(self.rt, is_quiet))
     }
 
     fn open_at<'w>(
@@ -75,7 +75,7 @@ impl System for Unix {
         total: u64,
         is_quiet: bool,
     ) -> Result<Object, Trouble<'w>> {
-        Object::open(self.rt, name, total, may_tell(self.rt, is_quiet))
+        Object::open(self.rt, name, total, may_show(self.rt, is_quiet))
     }
 
     fn open_stream<'w>(&mut self, name: &'w [u8]) -> Result<Stream, Trouble<'w>> {
@@ -156,7 +156,7 @@ impl System for Unix {
 }
 
 // Whether progress is shown.
-fn may_tell(rt: HostRuntime, is_quiet: bool) -> bool {
+fn may_show(rt: HostRuntime, is_quiet: bool) -> bool {
     !is_quiet && rt.stderr().is_terminal()
 }
 
@@ -283,7 +283,7 @@ fn is_same(one: &Metadata, two: &Metadata) -> bool {
     one.ino() == two.ino() && one.dev() == two.dev()
 }
 
-// Whether two names of which neither is of a file lead to one name in one folder.
+// Whether two names that no file has lead to one name in one folder.
 fn lead_to_one(rt: &HostRuntime, name: &str, other: &str) -> bool {
     let (one, two) = match (follow(rt, name), follow(rt, other)) {
         (Ok(one), Ok(two)) => (one, two),
