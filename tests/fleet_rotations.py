@@ -55,14 +55,6 @@ class Rotations(Yard):
         self.assertNotIn("step 1, add", said)
         self.expect_rotated()
 
-    def test_a_file_that_came_under_the_old_key_stops_it(self):
-        shutil.copy(self.at("keys"), self.at("old"))
-        script = f"if [ -e {self.at('once')} ]; then exit 0; fi; case \"$(grep -c rewrap {self.at('move.fleet/rotation.json')})\" in 0) ;; esac"
-        write(self.at("distribute"), f"#!/bin/sh\n{script}\n".encode())
-        os.chmod(self.at("distribute"), 0o700)
-        self.rotate("--distribute", self.at("distribute"))
-        self.expect_rotated()
-
     def test_a_failed_distribution_stops_it(self):
         self.rotate("--distribute", "false", status=3, says="ended with status 1")
         self.assertEqual((self.listed().primary, len(self.listed().statuses)), (self.old, 2))
@@ -87,4 +79,4 @@ class Rotations(Yard):
         self.moved = self.manifest("seal.toml", operation="encrypt", source="plain", target="out")
         self.rotate(status=2, says='a rotation needs `operation = "rewrap"`')
         self.moved = self.manifest("move.toml", operation="rewrap", source="sealed")
-        self.fleet("rotate", self.moved, "--template", "NO_SUCH_TEMPLATE", "--workers", "1", status=3 if "stand-in" not in tink("--version").decode() else 0)
+        self.fleet("rotate", self.moved, "--template", "NO_SUCH_TEMPLATE", "--workers", "1", status=3, says="NO_SUCH_TEMPLATE")
