@@ -74,6 +74,8 @@ class Rotations(Yard):
         shutil.rmtree(self.at("move.fleet", f"rotation-{state['new']}", "check"))
         self.rotate(status=3, says=f"1 under key {self.old}")
         self.assertEqual(self.listed().statuses[self.old], "enabled")
+        self.rotate(says="step 4, rewrap")
+        self.expect_rotated()
 
     def test_what_is_no_rotation_is_refused(self):
         self.moved = self.manifest("seal.toml", operation="encrypt", source="plain", target="out")

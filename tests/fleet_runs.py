@@ -51,6 +51,18 @@ class Operations(ParallelYard):
         self.run_all(sealed, says="2 done, 0 failed, 3 were done before")
         self.expect_streams(sealed, texts, "sealed")
 
+    def test_names_that_cannot_be_are_named(self):
+        write(self.at("plain/right"), b"x")
+        write(os.path.join(os.fsencode(self.at("plain")), b"wrong\xff"), b"y")
+        sealed = self.manifest("seal.toml", operation="encrypt", source="plain", target="sealed")
+        said = self.run_all(sealed, status=1, says="1 done, 1 failed")
+        self.assertIn("wrong\\xff': its name is no UTF-8: rename it", said)
+        self.fleet("status", sealed, status=1, says="its name is no UTF-8")
+        write(self.at("sealed/other"), read(self.at("sealed/right.tink")))
+        opened = self.manifest("open.toml", operation="decrypt", source="sealed", target="again")
+        self.run_all(opened, status=1, says="other: its name has not the suffix of streams")
+        self.assertEqual(os.listdir(self.at("again")), ["right"])
+
     def test_a_check_writes_nothing_and_names_the_damaged(self):
         needs("check")
         texts = self.make_texts(10, 9000)

@@ -27,6 +27,7 @@ class Manifests(Yard):
         self.refused("unknown field", **base | {"aad": "{path!r}"})
         self.refused("is wrong", **base | {"aad": "{path"})
         self.refused("`target` is `source`", **base | {"target": "plain"})
+        self.refused("inside of `source`", **base | {"target": "plain/sealed"})
         self.refused("belong to rewrap alone", **base, to_keys="k")
         self.refused("`target` is too much", **base | {"operation": "check"})
         with self.assertRaises(FleetError) as caught:

@@ -18,6 +18,8 @@ DONE, FAILED, WRONG, REFUSED = 0, 1, 2, 3
 
 def main(words: list[str]) -> int:
     given = parser().parse_args(words)
+    # A name of a file that is no UTF-8 is shown by its bytes.
+    sys.stdout.reconfigure(errors="backslashreplace")
     signal.signal(signal.SIGTERM, lambda *_: sys.exit(128 + signal.SIGTERM))
     try:
         return given.do(given)

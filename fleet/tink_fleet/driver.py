@@ -2,6 +2,7 @@
 import dataclasses
 import sys
 import time
+from collections import Counter
 from collections.abc import Callable, Iterable, Iterator
 from dataclasses import dataclass, field
 from typing import Protocol
@@ -43,7 +44,7 @@ class Summary:
     primary: int | None = None
     failures: list[str] = field(default_factory=list)
     # How many files are under each key, those too that were skipped.
-    keys: dict[int | None, int] = field(default_factory=dict)
+    keys: Counter[int | None] = field(default_factory=Counter)
 
 
 MOST_FAILURES_SHOWN = 20
@@ -62,6 +63,8 @@ class Driver:
         self.has_lost = False
         self.shown = 0.0
         self.total = 0
+        # Kept apart, since a thread of the engine may list the files.
+        self.skipped_keys: Counter[int | None] = Counter()
 
     def say(self, text: str) -> None:
         if not self.quiet:
@@ -113,6 +116,7 @@ class Driver:
             self.split(task)
         if self.has_lost:
             self.sweep()
+        self.summary.keys += self.skipped_keys
 
     def next_round(self, attempt: int) -> None:
         """Another token, which ends workers that are lost and yet run."""
@@ -162,7 +166,7 @@ class Driver:
             task, entry = self.task(item), self.record.history.entries.get(item.path)
             if entry is not None and entry.state == "done" and self.is_done(task, entry):
                 self.summary.skipped += 1
-                self.count_key(entry.key)
+                self.skipped_keys[entry.key] += 1
             elif self.is_large(task):
                 self.large.append(task)
             else:
@@ -176,10 +180,12 @@ class Driver:
         elif it.in_place:
             target = source
         else:
-            target = places.join(it.target, it.target_path(item.path))
+            path = it.target_path(item.path)
+            target = None if path is None else places.join(it.target, path)
         entry = self.record.history.entries.get(item.path)
         # What this fleet made may be made again; what is there from elsewhere only where the manifest says so.
-        replaces = it.replace or bool(target != source and entry and entry.state == "done" and places.size_of(target or source) == entry.size)
+        is_ours = entry is not None and entry.state == "done" and target not in (None, source)
+        replaces = it.replace or (is_ours and places.size_of(target) == entry.size)
         return Task(item.path, source, target, it.aad_of(item.path), it.to_aad_of(item.path), item.size, item.mtime, replaces)
 
     def is_done(self, task: Task, entry: Entry) -> bool:
@@ -188,11 +194,11 @@ class Driver:
             return False
         if self.manifest.operation == "rewrap" and entry.key not in (None, self.job.primary):
             return False
-        return task.in_place or (entry.source_size, entry.source_mtime) == (task.size, task.mtime)
+        return (entry.source_size, entry.source_mtime) == (task.size, task.mtime)
 
     def is_large(self, task: Task) -> bool:
         return (
-            self.manifest.operation == "decrypt" and task.size >= self.manifest.split_bytes and self.can_split
+            self.manifest.operation == "decrypt" and task.target is not None and task.size >= self.manifest.split_bytes and self.can_split
             and self.engine.slots > 1 and not is_url(task.source) and not is_url(task.target)
             and (task.replaces or places.size_of(task.target) is None)
         )
@@ -242,7 +248,7 @@ class Driver:
 
     def died(self, task: dict) -> Outcome:
         """The outcome of a task whose workers died at each attempt."""
-        line = f"{task['source']}: its worker died {ATTEMPTS} times: read the worker's log, and run again"
+        line = f"{task['source']}: its worker died {ATTEMPTS} times: read {self.manifest.state}/engine.log, or the log of the cluster, and run again"
         there = places.size_of(task["target"] or task["source"]) is not None
         state = "old" if task["target"] == task["source"] else "unknown" if there else "absent"
         return Outcome(task["path"], "failed", round(time.time(), 3), 0.0, "", state, line=line)
@@ -255,15 +261,12 @@ class Driver:
                 self.summary.done += 1
                 self.summary.adopted += it.adopted
                 self.summary.bytes += it.size or 0
-                self.count_key(it.key)
+                self.summary.keys[it.key] += 1
             else:
                 self.summary.failed += 1
                 if len(self.summary.failures) < MOST_FAILURES_SHOWN:
                     self.summary.failures.append(f"{it.path}: {it.line}")
         self.show()
-
-    def count_key(self, key: int | None) -> None:
-        self.summary.keys[key] = self.summary.keys.get(key, 0) + 1
 
     def show(self) -> None:
         """On a terminal, a line that is written again each second."""

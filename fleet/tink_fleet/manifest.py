@@ -43,12 +43,15 @@ class Manifest:
         """Whether each file takes the place of the one that it is made of."""
         return self.operation == "rewrap" and self.target is None
 
-    def target_path(self, path: str) -> str:
-        """The path of a file below the target folder, for the path of its source below the source folder."""
+    def target_path(self, path: str) -> str | None:
+        """The path of a file below the target folder, for the path of its source below the source folder.
+
+        A stream to decrypt has none if its name lacks the suffix: two streams could come to the same file.
+        """
         if self.operation == "encrypt":
             return path + self.suffix
         if self.operation == "decrypt":
-            return path.removesuffix(self.suffix)
+            return path.removesuffix(self.suffix) if path.endswith(self.suffix) else None
         return path
 
     def plain_path(self, path: str) -> str:
@@ -122,6 +125,8 @@ def checked(manifest: Manifest) -> Manifest:
     made = replace(made, state=located(base, made.state))
     if made.target == made.source:
         raise FleetError(f"{file}: `target` is `source`: leave `target` out of a rewrap in place, else name another folder")
+    if made.target is not None and made.target.startswith(made.source.rstrip("/") + "/"):
+        raise FleetError(f"{file}: `target` is inside of `source`, so that what is made would be a source too: name another folder")
     return made
 
 

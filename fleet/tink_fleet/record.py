@@ -11,7 +11,7 @@ from tink_fleet.tasks import Outcome
 SYNC_SECONDS = 1.0
 
 
-@dataclass
+@dataclass(slots=True)
 class Entry:
     """What the record says last of one path."""
 

@@ -115,6 +115,7 @@ class Worker:
         began, clock = time.time(), time.perf_counter()
         outcome = Outcome(task.path, "done", began, 0.0, self.name, "new", source_size=task.size, source_mtime=task.mtime)
         with told(task, outcome):
+            require_name(task)
             getattr(self, self.job.operation)(task, outcome)
         outcome.time, outcome.seconds = round(time.time(), 3), round(time.perf_counter() - clock, 4)
         return outcome
@@ -137,6 +138,8 @@ class Worker:
         self.make(task, outcome, lambda file: ["encrypt", "-q", *keys.words("-k"), "--aad", task.aad, file], [keys])
 
     def decrypt(self, task: Task, outcome: Outcome) -> None:
+        if task.target is None:
+            raise TaskError(f"{task.source}: its name has not the suffix of streams: rename it, or set `suffix` or `exclude`")
         keys = self.job.source_keys
         self.make(task, outcome, lambda file: ["decrypt", "-q", *keys.words("-k"), "--aad", task.aad, file], [keys])
 
@@ -185,9 +188,9 @@ class Worker:
             outcome.size = os.fstat(draft.fd).st_size
             if self.ends(task, keys) != before:
                 raise TaskError(f"{task.source}: it, or a file of keys, was changed while it was read: run again when it rests", retry=True)
+            if task.in_place:
+                resting(outcome, draft.fd)
             self.publish(task, draft)
-        if task.in_place:
-            outcome.source_size = outcome.source_mtime = None
 
     def fill(self, draft: Draft, task: Task, words: list[str], keys: list[Keys], fds: tuple[int, ...]) -> None:
         try:
@@ -255,8 +258,22 @@ class Worker:
             if found not in (None, self.primary(keys)):
                 return False
             outcome.sha256, outcome.size, outcome.adopted = places.digest(fd), os.fstat(fd).st_size, True
-        outcome.source_size = outcome.source_mtime = None
+            resting(outcome, fd)
         return True
+
+
+def require_name(task: Task) -> None:
+    """The program takes words in UTF-8."""
+    try:
+        task.path.encode()
+    except UnicodeEncodeError:
+        raise TaskError(f"{os.fsencode(task.source)!r}: its name is no UTF-8: rename it") from None
+
+
+def resting(outcome: Outcome, fd: int) -> None:
+    """In place the next run finds what was made as its source."""
+    found = os.fstat(fd)
+    outcome.source_size, outcome.source_mtime = found.st_size, found.st_mtime_ns
 
 
 @contextmanager
