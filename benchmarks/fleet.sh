@@ -104,7 +104,7 @@ row(f"{FILES} files of {BYTES // MIB} MiB encrypted: 1 process {walls[1]:.1f} s,
 shutil.rmtree(f"{folder}/out")
 shutil.rmtree(f"{folder}/many")
 
-if b"tink info" in run(tink, "help"):
+if b"\n  info " in run(tink, "help"):
     os.makedirs(f"{folder}/one")
     with open(f"{folder}/text", "wb") as file:
         for _ in range(LARGE // MIB):

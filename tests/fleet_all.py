@@ -21,7 +21,9 @@ def chosen(suite: unittest.TestSuite, names: list[str]):
 
 def main() -> int:
     loaded = unittest.TestLoader().loadTestsFromNames(MODULES)
-    result = unittest.TextTestRunner(stream=sys.stdout, verbosity=2).run(unittest.TestSuite(chosen(loaded, sys.argv[2:])))
+    result = unittest.TextTestRunner(stream=sys.stdout, verbosity=2).run(
+        unittest.TestSuite(chosen(loaded, sys.argv[2:]))
+    )
     for test, why in result.skipped:
         print(f"skipped: {test.id()}: {why}")
     bad = len(result.failures) + len(result.errors)

@@ -33,13 +33,25 @@ class Cluster:
         # The programs of the cluster by their modules, so that they run under this Python.
         words = (*before, sys.executable, "-c", f"from {module} import main; main()", *words, "--no-dashboard")
         env = {**os.environ, "TINK": TINK, "DASK_DISTRIBUTED__COMM__TIMEOUTS__CONNECT": "60s"}
-        made = subprocess.Popen(words, cwd=self.folder, env=env, stdout=self.log, stderr=self.log, stdin=subprocess.DEVNULL)
+        made = subprocess.Popen(
+            words, cwd=self.folder, env=env, stdout=self.log, stderr=self.log, stdin=subprocess.DEVNULL
+        )
         self.running.append(made)
         return made
 
     def add_worker(self, before: tuple[str, ...] = ()) -> subprocess.Popen:
         return self.spawn(
-            "distributed.cli.dask_worker", self.address, "--host", "127.0.0.1", "--nthreads", "1", "--nworkers", "1", "--local-directory", self.folder, before=before
+            "distributed.cli.dask_worker",
+            self.address,
+            "--host",
+            "127.0.0.1",
+            "--nthreads",
+            "1",
+            "--nworkers",
+            "1",
+            "--local-directory",
+            self.folder,
+            before=before,
         )
 
     def count(self) -> int:
@@ -90,7 +102,10 @@ class ClusterYard(Yard):
 
 class Clusters(ClusterYard):
     def with_kills(self, manifest: str, kills: int = 2) -> None:
-        running, record = self.start("run", manifest, *self.engine), os.path.splitext(manifest)[0] + ".fleet/record.jsonl"
+        running, record = (
+            self.start("run", manifest, *self.engine),
+            os.path.splitext(manifest)[0] + ".fleet/record.jsonl",
+        )
         self.assertTrue(wait_for(lambda: lines_of(record) > 0 or running.poll() is not None))
         with Killer(lambda: [] if has_listed(record) else self.cluster.processes(), kills, 0.2, self.id()) as killer:
             out, err = running.communicate(timeout=120)
@@ -114,7 +129,10 @@ class Clusters(ClusterYard):
             return
         checked = self.manifest("check.toml", operation="check", source="sealed", keys="new", batch_files=4)
         self.with_kills(checked)
-        self.assertEqual({entry["sha256"] for entry in self.record(checked).values()}, {sha256(read(self.at("sealed", f"{name}.tink"))) for name in texts})
+        self.assertEqual(
+            {entry["sha256"] for entry in self.record(checked).values()},
+            {sha256(read(self.at("sealed", f"{name}.tink"))) for name in texts},
+        )
 
     def commands(self) -> frozenset[str]:
         from tink_fleet import program
@@ -183,7 +201,9 @@ class Clusters(ClusterYard):
         needs("info")
         write(self.at("plain/large"), self.random.randbytes(3_000_000))
         self.encrypt_all({"large": b""})
-        opened = self.manifest("open.toml", operation="decrypt", source="sealed", target="again", split_bytes=1, part_bytes=200_001)
+        opened = self.manifest(
+            "open.toml", operation="decrypt", source="sealed", target="again", split_bytes=1, part_bytes=200_001
+        )
         self.run_all(opened, says="1 done, 0 failed")
         self.assertEqual(read(self.at("again/large")), read(self.at("plain/large")))
 
@@ -192,12 +212,18 @@ class Clusters(ClusterYard):
         tink("new", "AES256_GCM", "-o", self.at("master"))
         tink("wrap", "-k", self.at("master"), "-o", self.at("wrapped"), self.at("keys"))
         texts = self.make_texts(8, 3000)
-        sealed = self.manifest("seal.toml", operation="encrypt", source="plain", target="sealed", keys="wrapped", master="master")
+        sealed = self.manifest(
+            "seal.toml", operation="encrypt", source="plain", target="sealed", keys="wrapped", master="master"
+        )
         self.run_all(sealed)
         self.expect_streams(sealed, texts, "sealed")
         log = read(self.cluster.log.name)
         for file in ("keys", "master"):
-            for secret in [it for it in json.dumps(json.loads(read(self.at(file)))).split('"') if len(it) > 20 and "google" not in it]:
+            for secret in [
+                it
+                for it in json.dumps(json.loads(read(self.at(file)))).split('"')
+                if len(it) > 20 and "google" not in it
+            ]:
                 self.assertNotIn(secret.encode(), log)
 
     def test_a_worker_without_the_keys_is_named(self):

@@ -80,7 +80,16 @@ class Yard(unittest.TestCase):
     def encrypt_all(self, texts: dict[str, bytes], folder: str = "sealed", keys: str = "keys") -> None:
         for name in texts:
             os.makedirs(os.path.dirname(self.at(folder, name)), exist_ok=True)
-            tink("encrypt", "-k", self.at(keys), "--aad", name, "-o", self.at(folder, f"{name}.tink"), self.at("plain", name))
+            tink(
+                "encrypt",
+                "-k",
+                self.at(keys),
+                "--aad",
+                name,
+                "-o",
+                self.at(folder, f"{name}.tink"),
+                self.at("plain", name),
+            )
 
     def manifest(self, name: str, **words) -> str:
         words = {"keys": "keys", "aad": "{path}"} | words
@@ -89,11 +98,15 @@ class Yard(unittest.TestCase):
         return self.at(name)
 
     def start(self, *words: str, **more) -> subprocess.Popen:
-        return subprocess.Popen([sys.executable, FLEET, *words], stdout=subprocess.PIPE, stderr=subprocess.PIPE, text=True, **more)
+        return subprocess.Popen(
+            [sys.executable, FLEET, *words], stdout=subprocess.PIPE, stderr=subprocess.PIPE, text=True, **more
+        )
 
     def fleet(self, *words: str, status: int = 0, says: str = "", **more) -> str:
         """Runs fleet, and compares its status and a part of what it says."""
-        done = subprocess.run([sys.executable, FLEET, *words], capture_output=True, text=True, timeout=SECONDS, check=False, **more)
+        done = subprocess.run(
+            [sys.executable, FLEET, *words], capture_output=True, text=True, timeout=SECONDS, check=False, **more
+        )
         both = done.stdout + done.stderr
         self.assertEqual(done.returncode, status, both)
         self.assertIn(says, both)
@@ -117,10 +130,21 @@ class Yard(unittest.TestCase):
         self.assertEqual(left, [], "no draft is left")
 
     def opens_to(self, path: str, text: bytes, aad: str, keys: str = "keys") -> bool:
-        done = subprocess.run([TINK, "decrypt", "-k", self.at(keys), "--aad", aad, path], capture_output=True, check=False)
+        done = subprocess.run(
+            [TINK, "decrypt", "-k", self.at(keys), "--aad", aad, path], capture_output=True, check=False
+        )
         return done.returncode == 0 and done.stdout == text
 
-    def expect_streams(self, manifest: str, texts: dict[str, bytes], folder: str, *, keys: str = "keys", old: dict[str, bytes] | None = None, all_done: bool = True) -> None:
+    def expect_streams(
+        self,
+        manifest: str,
+        texts: dict[str, bytes],
+        folder: str,
+        *,
+        keys: str = "keys",
+        old: dict[str, bytes] | None = None,
+        all_done: bool = True,
+    ) -> None:
         """Each target is absent, old, or exactly a stream of its text, and the record says which."""
         record, old = self.record(manifest), old or {}
         for name, text in texts.items():
@@ -129,13 +153,20 @@ class Yard(unittest.TestCase):
             there = read(path) if os.path.exists(path) else None
             if entry is not None and entry["state"] == "done":
                 self.assertIsNotNone(there, f"{name}: done and absent")
-                self.assertEqual((len(there), sha256(there)), (entry["size"], entry["sha256"]), f"{name}: another file than the record says")
+                self.assertEqual(
+                    (len(there), sha256(there)),
+                    (entry["size"], entry["sha256"]),
+                    f"{name}: another file than the record says",
+                )
                 self.assertTrue(self.opens_to(path, text, name, keys), f"{name}: done and no stream of its text")
             elif entry is not None:
                 self.assertEqual(entry["target"], "absent" if there is None else "old", f"{name}: {entry}")
                 self.assertEqual(there, old.get(name), f"{name}: failed and changed")
             else:
-                self.assertTrue(there is None or there == old.get(name) or self.opens_to(path, text, name, keys), f"{name}: neither absent nor old nor whole")
+                self.assertTrue(
+                    there is None or there == old.get(name) or self.opens_to(path, text, name, keys),
+                    f"{name}: neither absent nor old nor whole",
+                )
             if all_done:
                 self.assertEqual(entry and entry["state"], "done", f"{name}: {entry}")
         self.expect_no_drafts(self.at(folder))

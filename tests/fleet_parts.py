@@ -13,7 +13,7 @@ class Parts(Yard):
     def setUp(self) -> None:
         super().setUp()
         needs("info")
-        self.worker = Worker(Job("f", "r", "decrypt", TINK, self.at("keys"), None, None, None))
+        self.worker = Worker(Job("f", "r", "decrypt", TINK, self.at("keys"), None, "", None, None))
 
     def sealed(self, text: bytes) -> Task:
         write(self.at("text"), text)
@@ -46,7 +46,9 @@ class Parts(Yard):
     def test_ranges_cover_without_gap_or_overlap(self):
         for plaintext in (0, 1, 99, 100, 101, 250):
             cuts = parts.ranges(plaintext, 100)
-            self.assertEqual([at for start, length in cuts for at in range(start, start + length)], list(range(plaintext)))
+            self.assertEqual(
+                [at for start, length in cuts for at in range(start, start + length)], list(range(plaintext))
+            )
         self.assertEqual(parts.part_size(2 << 30, 4, None), 128 << 20)
         self.assertEqual(parts.part_size(1, 4, None), parts.LEAST_PART)
         self.assertEqual(parts.part_size(1 << 50, 4, None), parts.MOST_PART)

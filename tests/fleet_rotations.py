@@ -22,12 +22,17 @@ class Rotations(Yard):
         return list_keys(TINK, Keys(self.at("keys")))
 
     def rotate(self, *words: str, status: int = 0, says: str = "") -> str:
-        return self.fleet("rotate", self.moved, "--template", self.template, "--workers", "2", *words, status=status, says=says)
+        return self.fleet(
+            "rotate", self.moved, "--template", self.template, "--workers", "2", *words, status=status, says=says
+        )
 
     def expect_rotated(self) -> None:
         listed = self.listed()
         self.assertNotEqual(listed.primary, self.old)
-        self.assertEqual((listed.statuses[self.old], listed.statuses[listed.primary], len(listed.statuses)), ("disabled", "enabled", 2))
+        self.assertEqual(
+            (listed.statuses[self.old], listed.statuses[listed.primary], len(listed.statuses)),
+            ("disabled", "enabled", 2),
+        )
         for name, text in self.texts.items():
             self.assertTrue(self.opens_to(self.at("sealed", f"{name}.tink"), text, name), name)
         self.expect_no_drafts(self.at("sealed"))
@@ -41,6 +46,19 @@ class Rotations(Yard):
         self.old = self.listed().primary
         self.rotate()
         self.assertEqual([self.listed().statuses[self.old], len(self.listed().statuses)], ["disabled", 3])
+
+    def test_a_rotation_of_wrapped_keys(self):
+        needs("--master")
+        tink("new", "AES256_GCM", "-o", self.at("master"))
+        tink("wrap", "-k", self.at("master"), "--aad", "here", "-o", self.at("wrapped"), self.at("keys"))
+        os.remove(self.at("keys"))
+        self.moved = self.manifest(
+            "move.toml", operation="rewrap", source="sealed", keys="wrapped", master="master", master_aad="here"
+        )
+        self.rotate(says="step 6, disable")
+        self.assertEqual([it for it in os.listdir(self.folder) if "fleet-" in it], [])
+        tink("unwrap", "-k", self.at("master"), "--aad", "here", "-o", self.at("keys"), self.at("wrapped"))
+        self.expect_rotated()
 
     def test_a_file_that_fails_stops_it_before_the_old_key_is_disabled(self):
         path = self.at("sealed", "3.txt.tink")
@@ -81,4 +99,6 @@ class Rotations(Yard):
         self.moved = self.manifest("seal.toml", operation="encrypt", source="plain", target="out")
         self.rotate(status=2, says='a rotation needs `operation = "rewrap"`')
         self.moved = self.manifest("move.toml", operation="rewrap", source="sealed")
-        self.fleet("rotate", self.moved, "--template", "NO_SUCH_TEMPLATE", "--workers", "1", status=3, says="NO_SUCH_TEMPLATE")
+        self.fleet(
+            "rotate", self.moved, "--template", "NO_SUCH_TEMPLATE", "--workers", "1", status=3, says="NO_SUCH_TEMPLATE"
+        )

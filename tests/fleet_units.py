@@ -38,7 +38,12 @@ class Manifests(Yard):
             read_manifest(self.at("m.toml"))
 
     def test_the_path_of_the_plain_file_is_bound_in_each_operation(self):
-        for operation, path in (("encrypt", "a/b"), ("decrypt", "a/b.tink"), ("check", "a/b.tink"), ("rewrap", "a/b.tink")):
+        for operation, path in (
+            ("encrypt", "a/b"),
+            ("decrypt", "a/b.tink"),
+            ("check", "a/b.tink"),
+            ("rewrap", "a/b.tink"),
+        ):
             it = Manifest("m", operation, "s", aad="x {path} {name} {{y}}")
             self.assertEqual(it.aad_of(path), "x a/b b {y}")
 
@@ -91,7 +96,7 @@ class Records(Yard):
     def test_a_name_that_is_no_utf8_is_recorded(self):
         manifest = self.manifest_of()
         os.makedirs(manifest.state)
-        name = os.fsdecode(b"a\xff\n\"b")
+        name = os.fsdecode(b'a\xff\n"b')
         made = record.Record(manifest)
         made.add([self.outcome(name)])
         made.close()
@@ -124,6 +129,7 @@ class Drafts(Yard):
             with draft:
                 os.write(draft.fd, b"new")
                 write(self.at("there"), b"old")
+                os.chmod(self.at("there"), 0o640)
                 with self.assertRaises(FileExistsError):
                     draft.publish(self.at("there"), False)
                 self.assertEqual(read(self.at("there")), b"old")
@@ -132,7 +138,8 @@ class Drafts(Yard):
                 os.write(other.fd, b"new")
                 other.publish(self.at("there"), True)
             self.assertEqual((read(self.at("there")), read(self.at(f"fresh{number}"))), (b"new", b"new"))
-            self.assertEqual(os.stat(self.at("there")).st_mode & 0o777, 0o600)
+            modes = [os.stat(self.at(name)).st_mode & 0o777 for name in ("there", f"fresh{number}")]
+            self.assertEqual(modes, [0o640, 0o600])
             self.expect_no_drafts(self.folder)
 
     def test_a_draft_that_is_not_published_is_gone(self):
@@ -142,7 +149,13 @@ class Drafts(Yard):
             self.expect_no_drafts(self.folder)
 
     def test_only_drafts_of_the_fleet_are_swept(self):
-        for name in (".fleet-aa-0123456789abcdef", "a/.fleet-aa-0123456789abcdef", ".fleet-bb-0123456789abcdef", ".fleet-aa-x", "text"):
+        for name in (
+            ".fleet-aa-0123456789abcdef",
+            "a/.fleet-aa-0123456789abcdef",
+            ".fleet-bb-0123456789abcdef",
+            ".fleet-aa-x",
+            "text",
+        ):
             write(self.at(name), b"x")
         self.assertEqual(places.sweep(self.folder, "aa"), 2)
         self.assertEqual(files_left(self.folder), {".fleet-bb-0123456789abcdef", ".fleet-aa-x", "text", "keys"})
@@ -186,14 +199,25 @@ class Objects(Yard):
             self.store.pipe(f"/plain/{name}", text)
         listed = list(places.items("memory://plain", [], [], ""))
         self.assertEqual([(it.path, it.size) for it in listed], [("a", 0), ("b/c", 10000)])
-        job = Job("f", "r", "encrypt", TINK, self.at("keys"), None, None, self.folder)
+        job = Job("f", "r", "encrypt", TINK, self.at("keys"), None, "", None, self.folder)
         for it in listed:
-            made = Worker(job).one(Task(it.path, f"memory://plain/{it.path}", f"memory://sealed/{it.path}", it.path, it.path, it.size, it.mtime, False))
+            made = Worker(job).one(
+                Task(
+                    it.path,
+                    f"memory://plain/{it.path}",
+                    f"memory://sealed/{it.path}",
+                    it.path,
+                    it.path,
+                    it.size,
+                    it.mtime,
+                    False,
+                )
+            )
             self.assertEqual((made.state, made.line), ("done", None))
             stream = self.store.cat(f"/sealed/{it.path}")
             self.assertEqual(tink("decrypt", "-k", self.at("keys"), "--aad", it.path, input=stream), texts[it.path])
             self.assertEqual(made.size, len(stream))
-        job = Job("f", "r", "decrypt", TINK, self.at("keys"), None, None, self.folder)
+        job = Job("f", "r", "decrypt", TINK, self.at("keys"), None, "", None, self.folder)
         again = Worker(job).one(Task("b/c", "memory://sealed/b/c", "memory://again/b/c", "b/c", "b/c", 0, 0, False))
         self.assertEqual((again.state, self.store.cat("/again/b/c")), ("done", texts["b/c"]))
         self.assertEqual(files_left(self.folder), {"keys"})
@@ -202,7 +226,7 @@ class Objects(Yard):
         stream = bytearray(tink("encrypt", "-k", self.at("keys"), input=os.urandom(20000)))
         stream[9000] ^= 1
         self.store.pipe("/sealed/x", bytes(stream))
-        job = Job("f", "r", "decrypt", TINK, self.at("keys"), None, None, self.folder)
+        job = Job("f", "r", "decrypt", TINK, self.at("keys"), None, "", None, self.folder)
         made = Worker(job).one(Task("x", "memory://sealed/x", "memory://out/x", "", "", 0, 0, False))
         self.assertEqual((made.state, made.target, self.store.exists("/out/x")), ("failed", "absent", False))
         self.assertIn("memory://sealed/x: bad segment", made.line)

@@ -1,6 +1,7 @@
 """Calls: what a driver asks of a worker, as plain values that JSON and Dask carry."""
 import hashlib
 import os
+import threading
 from collections.abc import Callable
 from functools import lru_cache
 
@@ -21,8 +22,9 @@ def describe_call(job: Job) -> dict:
     return {"do": "describe", "job": vars(job)}
 
 
-@lru_cache(maxsize=8)
-def worker_of(job: Job, name: str | None) -> Worker:
+@lru_cache(maxsize=256)
+def worker_of(job: Job, name: str | None, thread: int) -> Worker:
+    """The worker of a thread, which keeps what it listed of the keys."""
     return Worker(job, name)
 
 
@@ -32,7 +34,7 @@ def perform(call: dict, name: str | None = None, may_go_on: Callable[[], bool] =
     if call["do"] == "describe":
         return [describe(job, name)]
     try:
-        worker = worker_of(job, name)
+        worker = worker_of(job, name, threading.get_ident())
         if call["do"] == "batch":
             return [vars(it) for it in worker.batch([Task(**it) for it in call["tasks"]], may_go_on)]
         return [parts.step(worker, Task(**call["task"]), call["do"], call["plan"], call["start"], call["length"])]
@@ -51,6 +53,8 @@ def describe(job: Job, name: str | None) -> dict:
     told = {"worker": name or f"{os.uname().nodename}:{os.getpid()}", "code": package_hash()}
     try:
         path = program.find_program(job.program)
+        if job.master:
+            program.require(path, ["--master"], "a wrapped file of keys")
         listed = program.list_keys(path, job.source_keys)
         target = program.list_keys(path, job.target_keys) if job.to_keys else listed
         told |= {"program": path, "version": program.version(path), "commands": sorted(program.commands(path))}

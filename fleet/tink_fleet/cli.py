@@ -30,7 +30,10 @@ def main(words: list[str]) -> int:
         print(f"fleet: {e}", file=sys.stderr)
         return WRONG
     except OSError as e:
-        print(f"fleet: {e.filename or 'the system'}: {e.strerror}: what was done stays done; correct this, and run again", file=sys.stderr)
+        print(
+            f"fleet: {e.filename or 'the system'}: {e.strerror}: what was done stays done; correct this, and run again",
+            file=sys.stderr,
+        )
         return WRONG
     except KeyboardInterrupt:
         print("fleet: stopped; what was done stays done: run again to go on", file=sys.stderr)
@@ -38,7 +41,11 @@ def main(words: list[str]) -> int:
 
 
 def parser() -> argparse.ArgumentParser:
-    made = argparse.ArgumentParser(prog="fleet", description="Encrypts, decrypts, checks and rewraps many files by tink.", epilog="docs/FLEETS.md has a whole example.")
+    made = argparse.ArgumentParser(
+        prog="fleet",
+        description="Encrypts, decrypts, checks and rewraps many files by tink.",
+        epilog="docs/FLEETS.md has a whole example.",
+    )
     commands = made.add_subparsers(required=True, metavar="COMMAND")
     run = commands.add_parser("run", help="do what a manifest describes and is not done")
     run.add_argument("--again", action="store_true", help="begin a new record, and do everything again")
@@ -49,15 +56,31 @@ def parser() -> argparse.ArgumentParser:
     status.set_defaults(do=show_status)
     rotate = commands.add_parser("rotate", help="a whole rotation of the keys: print the plan, and run it")
     rotate.add_argument("--template", required=True, help="the template of the new key, as AES256_GCM_HKDF_1MB")
-    rotate.add_argument("--distribute", metavar="COMMAND", help="a command that brings the file of keys, its last word, to the workers")
+    rotate.add_argument(
+        "--distribute", metavar="COMMAND", help="a command that brings the file of keys, its last word, to the workers"
+    )
     rotate.add_argument("--plan", action="store_true", help="print the plan alone")
     rotate.set_defaults(do=rotate_keys)
     for it in (run, rotate):
         it.add_argument("manifest", metavar="MANIFEST")
-        it.add_argument("--workers", type=int, metavar="N", help="processes on this machine, by GNU parallel; one for each processor where it is left out")
-        it.add_argument("--scheduler", metavar="ADDRESS", help="the scheduler of a Dask cluster, as tcp://127.0.0.1:8786")
-        it.add_argument("-k", dest="keys", metavar="KEYS", help="the file of keys, the same path on each worker; for `run` on one machine also `-`, standard input")
-        it.add_argument("--master", metavar="MASTER", help="the file of keys on each worker under which KEYS is wrapped")
+        it.add_argument(
+            "--workers",
+            type=int,
+            metavar="N",
+            help="processes on this machine, by GNU parallel; one for each processor where it is left out",
+        )
+        it.add_argument(
+            "--scheduler", metavar="ADDRESS", help="the scheduler of a Dask cluster, as tcp://127.0.0.1:8786"
+        )
+        it.add_argument(
+            "-k",
+            dest="keys",
+            metavar="KEYS",
+            help="the file of keys, the same path on each worker; for `run` on one machine also `-`, standard input",
+        )
+        it.add_argument(
+            "--master", metavar="MASTER", help="the file of keys on each worker under which KEYS is wrapped"
+        )
         it.add_argument("--program", metavar="TINK", help="the program tink, where it is not in PATH")
         it.add_argument("-q", "--quiet", action="store_true", help="say errors alone")
     return made
@@ -66,16 +89,24 @@ def parser() -> argparse.ArgumentParser:
 def manifest_of(given: argparse.Namespace) -> Manifest:
     manifest = read_manifest(given.manifest)
     words = {"keys": given.keys, "master": given.master, "program": given.program}
-    paths = {word: value if value == "-" or word == "program" else os.path.abspath(value) for word, value in words.items() if value}
+    paths = {
+        word: value if value == "-" or word == "program" else os.path.abspath(value)
+        for word, value in words.items()
+        if value
+    }
     return dataclasses.replace(manifest, **paths)
 
 
 def engines(given: argparse.Namespace, keys_fd: int | None) -> Callable[[str], Engine]:
     """What makes the engine for a state folder."""
     if given.scheduler and given.workers:
-        raise FleetError("--workers and --scheduler: give one of them; a cluster has the workers that were started for it")
+        raise FleetError(
+            "--workers and --scheduler: give one of them; a cluster has the workers that were started for it"
+        )
     if given.scheduler and keys_fd is not None:
-        raise FleetError("-k -: keys on standard input stay on this machine: for a cluster, bring a wrapped file of keys and a master to each worker")
+        raise FleetError(
+            "-k -: keys on standard input stay on this machine: for a cluster, bring a wrapped file of keys and a master to each worker"
+        )
     if given.workers is not None and given.workers < 1:
         raise FleetError("--workers: give a number from 1 on")
 
@@ -107,12 +138,7 @@ def keys_of_input(manifest: Manifest) -> int | None:
 
 def run_manifest(given: argparse.Namespace) -> int:
     manifest = manifest_of(given)
-    engine_of = engines(given, keys_of_input(manifest))
-    engine = engine_of(manifest.state)
-    try:
-        made = Driver(manifest, engine, again=given.again, quiet=given.quiet).run()
-    finally:
-        engine.close()
+    made = Driver(manifest, engines(given, keys_of_input(manifest)), again=given.again, quiet=given.quiet).run()
     tell(manifest, made, given.quiet)
     return FAILED if made.failed else DONE
 
@@ -124,7 +150,9 @@ def tell(manifest: Manifest, made: Summary, quiet: bool) -> None:
         print(f"fleet: and {made.failed - len(made.failures)} more: `fleet status {manifest.file}`", file=sys.stderr)
     if not quiet:
         kept = f", {made.skipped} were done before" if made.skipped else ""
-        print(f"{manifest.operation}: {made.done} done, {made.failed} failed{kept}; {made.bytes / 1e6:.1f} MB in {made.seconds:.1f} s")
+        print(
+            f"{manifest.operation}: {made.done} done, {made.failed} failed{kept}; {made.bytes / 1e6:.1f} MB in {made.seconds:.1f} s"
+        )
 
 
 def show_status(given: argparse.Namespace) -> int:
@@ -146,5 +174,7 @@ def rotate_keys(given: argparse.Namespace) -> int:
     began = time.monotonic()
     rotation.run(lambda text: print(text, flush=True))
     old = rotation.progress.old
-    print(f"rotated in {time.monotonic() - began:.1f} s: {manifest.source} is under key {rotation.progress.new}; key {old} is disabled, and `tink enable {manifest.keys} {old}` takes that back")
+    print(
+        f"rotated in {time.monotonic() - began:.1f} s: {manifest.source} is under key {rotation.progress.new}; key {old} is disabled, and `tink enable {manifest.keys} {old}` takes that back"
+    )
     return DONE

@@ -2,6 +2,7 @@
 import ipaddress
 import os
 import tempfile
+import threading
 import time
 import zipfile
 from collections.abc import Iterable, Iterator
@@ -16,6 +17,9 @@ PATIENCE_SECONDS = 600.0
 CONNECT_SECONDS = 20
 POLL_SECONDS = 0.005
 LOOK_SECONDS = 2.0
+DESCRIBE_TRIES = 3
+# Guards what a worker knows of runs: a worker may have several threads.
+RUNS = threading.Lock()
 
 
 def check_address(address: str) -> None:
@@ -40,7 +44,9 @@ class DaskEngine:
         try:
             from distributed import Client
         except ImportError:
-            raise FleetError("distributed: this Python has no Dask distributed: install python3-distributed, and run fleet by /usr/bin/python3") from None
+            raise FleetError(
+                "distributed: this Python has no Dask distributed: install python3-distributed, and run fleet by /usr/bin/python3"
+            ) from None
         try:
             self.client = Client(address, name="tink-fleet", timeout=CONNECT_SECONDS)
         except (OSError, TimeoutError) as e:
@@ -72,19 +78,28 @@ class DaskEngine:
         while True:
             if not self.client.nthreads():
                 raise FleetError(f"{self.address}: the scheduler has no worker: start `dask worker {self.address}`")
-            busy = self.client.run(begin_run, fleet, run)
-            if not any(busy.values()):
+            # A worker that is about to leave answers by an error, and is asked again.
+            busy = self.client.run(begin_run, fleet, run, on_error="return")
+            if all(it == 0 for it in busy.values()):
                 return
             if time.monotonic() > deadline:
-                raise Refused(f"{self.address}: workers of an earlier driver still run: restart {', '.join(it for it in busy if busy[it])}")
+                raise Refused(
+                    f"{self.address}: workers of an earlier driver still run: restart {', '.join(it for it in busy if busy[it])}"
+                )
             if not has_said:
                 say("waiting for the workers of an earlier driver to end their files")
                 has_said = True
             time.sleep(0.2)
 
     def describe(self, call: dict) -> list[dict]:
-        """What each worker is like."""
-        return [it[0] for it in self.client.run(perform_here, call).values()]
+        """What each worker is like. One that does not answer is asked again."""
+        for _ in range(DESCRIBE_TRIES):
+            answers = self.client.run(perform_here, call, on_error="return")
+            silent = {worker: it for worker, it in answers.items() if not isinstance(it, list)}
+            if answers and not silent:
+                return [it[0] for it in answers.values()]
+            time.sleep(LOOK_SECONDS)
+        raise FleetError(f"{self.address}: workers do not answer, restart them: {silent or 'there is none'}")
 
     def call(self, call: dict) -> list[dict] | None:
         """Does one call."""
@@ -137,14 +152,17 @@ class DaskEngine:
                 self.send({**call, "avoid": []}, sent)
 
     def gone(self) -> FleetError:
-        return FleetError(f"{self.address}: the scheduler is gone: start it again, and run again; what is done stays done")
+        return FleetError(
+            f"{self.address}: the scheduler is gone: start it again, and run again; what is done stays done"
+        )
 
     def results(self, future, result) -> list[dict] | None:
         from distributed import KilledWorker
 
-        if future.status == "finished":
+        # The state of a future may go back, if the worker that has its result dies: the result that came counts.
+        if isinstance(result, list):
             return result
-        if future.status == "cancelled" or self.client.status != "running":
+        if future.cancelled() or self.client.status != "running":
             raise self.gone()
         error = result[1] if isinstance(result, tuple) else result
         if isinstance(error, KilledWorker):
@@ -191,25 +209,27 @@ def runs_here() -> dict:
 
 def begin_run(fleet: str, run: str) -> int:
     """Makes a run the current one of its fleet. Returns how many calls of earlier ones are still at work here."""
-    runs = runs_here()
-    runs["current"][fleet] = run
-    return sum(count for (of, other), count in runs["busy"].items() if of == fleet and other != run)
+    with RUNS:
+        runs = runs_here()
+        runs["current"][fleet] = run
+        return sum(count for (of, other), count in runs["busy"].items() if of == fleet and other != run)
 
 
 def perform_here(call: dict) -> list[dict]:
     """Does a call on this worker."""
     from distributed import get_worker
 
-    runs, job = runs_here(), call["job"]
+    job = call["job"]
     busy = (job["fleet"], job["run"])
 
     def may_go_on() -> bool:
         return runs["current"].get(job["fleet"], job["run"]) == job["run"]
 
-    runs["busy"][busy] = runs["busy"].get(busy, 0) + 1
+    with RUNS:
+        runs = runs_here()
+        runs["busy"][busy] = runs["busy"].get(busy, 0) + 1
     try:
         return calls.perform(call, get_worker().address, may_go_on)
     finally:
-        runs["busy"][busy] -= 1
-        if not runs["busy"][busy]:
-            del runs["busy"][busy]
+        with RUNS:
+            runs["busy"][busy] -= 1

@@ -24,11 +24,20 @@ class Engine(Protocol):
 
     slots: int
 
-    def begin(self, fleet: str, run: str, say: Callable[[str], None]) -> None: ...
-    def describe(self, call: dict) -> list[dict]: ...
-    def call(self, call: dict) -> list[dict] | None: ...
-    def run(self, given: Iterable[dict]) -> Iterator[tuple[dict, list[dict] | None]]: ...
-    def close(self) -> None: ...
+    def begin(self, fleet: str, run: str, say: Callable[[str], None]) -> None:
+        ...
+
+    def describe(self, call: dict) -> list[dict]:
+        ...
+
+    def call(self, call: dict) -> list[dict] | None:
+        ...
+
+    def run(self, given: Iterable[dict]) -> Iterator[tuple[dict, list[dict] | None]]:
+        ...
+
+    def close(self) -> None:
+        ...
 
 
 @dataclass
@@ -53,9 +62,11 @@ MOST_FAILURES_SHOWN = 20
 class Driver:
     """One run over a manifest."""
 
-    def __init__(self, manifest: Manifest, engine: Engine, *, again: bool = False, quiet: bool = False):
+    def __init__(
+        self, manifest: Manifest, engine_of: Callable[[str], Engine], *, again: bool = False, quiet: bool = False
+    ):
         self.manifest = manifest
-        self.engine = engine
+        self.engine_of = engine_of
         self.again = again
         self.quiet = quiet
         self.summary = Summary()
@@ -83,7 +94,11 @@ class Driver:
             self.record = Record(self.manifest, self.again)
             try:
                 self.tell_history()
-                self.work()
+                self.engine = self.engine_of(self.manifest.state)
+                try:
+                    self.work()
+                finally:
+                    self.engine.close()
                 self.summary.seconds = time.monotonic() - began
                 ends = ("done", "failed", "skipped", "bytes")
                 self.record.end({word: getattr(self.summary, word) for word in ends})
@@ -126,8 +141,20 @@ class Driver:
     def new_job(self) -> Job:
         it = self.manifest
         if it.keys is None:
-            raise FleetError(f"{it.file}: `keys` is missing: name a file of keys that each worker has, or give -k - on one machine")
-        return Job(self.record.history.fleet, self.record.run, it.operation, it.program, it.keys, it.master, it.to_keys, it.scratch)
+            raise FleetError(
+                f"{it.file}: `keys` is missing: name a file of keys that each worker has, or give -k - on one machine"
+            )
+        return Job(
+            self.record.history.fleet,
+            self.record.run,
+            it.operation,
+            it.program,
+            it.keys,
+            it.master,
+            it.master_aad,
+            it.to_keys,
+            it.scratch,
+        )
 
     def agreed(self, job: Job) -> Job:
         """The job with the primary key that all workers have.
@@ -151,7 +178,9 @@ class Driver:
         primaries = {it["primary"] for it in told}
         if len(primaries) != 1:
             rows = ", ".join(f"{it['worker']} has {it['primary']}" for it in told)
-            raise FleetError(f"{job.to_keys or job.keys}: the workers have different primary keys ({rows}): bring the same file to all")
+            raise FleetError(
+                f"{job.to_keys or job.keys}: the workers have different primary keys ({rows}): bring the same file to all"
+            )
         self.can_split = all("info" in it["commands"] for it in told)
         return dataclasses.replace(job, primary=primaries.pop())
 
@@ -186,7 +215,9 @@ class Driver:
         # What this fleet made may be made again; what is there from elsewhere only where the manifest says so.
         is_ours = entry is not None and entry.state == "done" and target not in (None, source)
         replaces = it.replace or (is_ours and places.size_of(target) == entry.size)
-        return Task(item.path, source, target, it.aad_of(item.path), it.to_aad_of(item.path), item.size, item.mtime, replaces)
+        return Task(
+            item.path, source, target, it.aad_of(item.path), it.to_aad_of(item.path), item.size, item.mtime, replaces
+        )
 
     def is_done(self, task: Task, entry: Entry) -> bool:
         """Whether what the record calls done is still there, and of the same source and the same key."""
@@ -198,8 +229,13 @@ class Driver:
 
     def is_large(self, task: Task) -> bool:
         return (
-            self.manifest.operation == "decrypt" and task.target is not None and task.size >= self.manifest.split_bytes and self.can_split
-            and self.engine.slots > 1 and not is_url(task.source) and not is_url(task.target)
+            self.manifest.operation == "decrypt"
+            and task.target is not None
+            and task.size >= self.manifest.split_bytes
+            and self.can_split
+            and self.engine.slots > 1
+            and not is_url(task.source)
+            and not is_url(task.target)
             and (task.replaces or places.size_of(task.target) is None)
         )
 
@@ -275,7 +311,12 @@ class Driver:
             return
         self.shown = now
         it = self.summary
-        print(f"\rfleet: {it.done} done, {it.failed} failed, {it.skipped} skipped, {it.bytes / 1e6:.0f} MB ", end="", file=sys.stderr, flush=True)
+        print(
+            f"\rfleet: {it.done} done, {it.failed} failed, {it.skipped} skipped, {it.bytes / 1e6:.0f} MB ",
+            end="",
+            file=sys.stderr,
+            flush=True,
+        )
 
     def sweep(self) -> None:
         """Removes drafts that killed workers left. No worker of this fleet runs now."""

@@ -23,6 +23,7 @@ class Manifest:
     target: str | None = None
     keys: str | None = None
     master: str | None = None
+    master_aad: str = ""
     to_keys: str | None = None
     aad: str = ""
     to_aad: str | None = None
@@ -120,13 +121,20 @@ def checked(manifest: Manifest) -> Manifest:
     made = replace(
         manifest,
         state=manifest.state or os.path.splitext(file)[0] + ".fleet",
-        **{word: located(base, getattr(manifest, word)) for word in ("source", "target", "keys", "master", "to_keys", "scratch")},
+        **{
+            word: located(base, getattr(manifest, word))
+            for word in ("source", "target", "keys", "master", "to_keys", "scratch")
+        },
     )
     made = replace(made, state=located(base, made.state))
     if made.target == made.source:
-        raise FleetError(f"{file}: `target` is `source`: leave `target` out of a rewrap in place, else name another folder")
+        raise FleetError(
+            f"{file}: `target` is `source`: leave `target` out of a rewrap in place, else name another folder"
+        )
     if made.target is not None and made.target.startswith(made.source.rstrip("/") + "/"):
-        raise FleetError(f"{file}: `target` is inside of `source`, so that what is made would be a source too: name another folder")
+        raise FleetError(
+            f"{file}: `target` is inside of `source`, so that what is made would be a source too: name another folder"
+        )
     return made
 
 
@@ -147,4 +155,6 @@ def check_pattern(file: str, pattern: str) -> None:
         raise FleetError(f"{file}: the pattern {pattern!r} of associated data is wrong: {e}") from e
     for _, name, form, conversion in parts:
         if name is not None and (name not in FIELDS_OF_AAD or form or conversion):
-            raise FleetError(f"{file}: the pattern {pattern!r} has an unknown field: take {{path}} or {{name}}; a brace is written twice")
+            raise FleetError(
+                f"{file}: the pattern {pattern!r} has an unknown field: take {{path}} or {{name}}; a brace is written twice"
+            )

@@ -44,7 +44,9 @@ class ParallelEngine:
                     return fcntl.flock(fd, fcntl.LOCK_EX | fcntl.LOCK_NB)
                 except BlockingIOError:
                     if time.monotonic() > deadline:
-                        raise Refused(f"{self.state}/workers: workers of an earlier driver still run: end them, and run again") from None
+                        raise Refused(
+                            f"{self.state}/workers: workers of an earlier driver still run: end them, and run again"
+                        ) from None
                     if not has_said:
                         say("waiting for the workers of an earlier driver to end their files")
                         has_said = True
@@ -99,12 +101,28 @@ class Feeder:
     def start(self) -> subprocess.Popen:
         engine = self.engine
         launcher = os.path.join(os.path.dirname(os.path.dirname(os.path.abspath(__file__))), "fleet")
-        words = ["parallel", "--plain", "-q", "--line-buffer", f"--jobs={engine.slots}", sys.executable, launcher, "worker", engine.state, "{}"]
+        words = [
+            "parallel",
+            "--plain",
+            "-q",
+            "--line-buffer",
+            f"--jobs={engine.slots}",
+            sys.executable,
+            launcher,
+            "worker",
+            engine.state,
+            "{}",
+        ]
         fds = () if engine.keys_fd is None else (engine.keys_fd,)
         more = {} if engine.keys_fd is None else {KEYS_FD: str(engine.keys_fd)}
         with open(engine.log, "wb") as log:
             return subprocess.Popen(
-                words, stdin=subprocess.PIPE, stdout=subprocess.PIPE, stderr=log, pass_fds=fds, env={**os.environ, "PARALLEL_SHELL": "/bin/sh", **more}
+                words,
+                stdin=subprocess.PIPE,
+                stdout=subprocess.PIPE,
+                stderr=log,
+                pass_fds=fds,
+                env={**os.environ, "PARALLEL_SHELL": "/bin/sh", **more},
             )
 
     def feed(self) -> None:

@@ -46,7 +46,7 @@ def probe(worker: Worker, task: Task) -> Plan:
         found = program.info(worker.program, keys, task.aad, file, fds_of(file, fd))
         if state(fd) != before:
             raise changed(task)
-    folder = os.path.dirname(task.target)
+    folder = os.path.dirname(os.path.realpath(task.target) if task.replaces else task.target)
     os.makedirs(folder, exist_ok=True)
     draft = os.path.join(folder, f"{places.DRAFT}{worker.job.fleet}-{os.urandom(8).hex()}")
     held = os.open(draft, os.O_CREAT | os.O_EXCL | os.O_WRONLY | os.O_CLOEXEC, 0o600)
@@ -77,7 +77,18 @@ def part(worker: Worker, task: Task, plan: Plan, start: int, length: int) -> Non
             raise changed(task)
         # The program writes from the place on that it shares with this process.
         os.lseek(held, start, os.SEEK_SET)
-        words = ["range", "-q", *keys.words("-k"), "--aad", task.aad, "--start", str(start), "--length", str(length), f"/dev/fd/{source}"]
+        words = [
+            "range",
+            "-q",
+            *keys.words("-k"),
+            "--aad",
+            task.aad,
+            "--start",
+            str(start),
+            "--length",
+            str(length),
+            f"/dev/fd/{source}",
+        ]
         try:
             program.run(worker.program, words, keys=[keys], stdout=held, more_fds=(source,))
         except TaskError as e:
@@ -87,7 +98,9 @@ def part(worker: Worker, task: Task, plan: Plan, start: int, length: int) -> Non
             raise changed(task)
         written = os.lseek(held, 0, os.SEEK_CUR) - start
         if written != length:
-            raise TaskError(f"{task.source}: {written} bytes of a range of {length} were written: run again", retry=True)
+            raise TaskError(
+                f"{task.source}: {written} bytes of a range of {length} were written: run again", retry=True
+            )
         os.fsync(held)
     finally:
         os.close(held)
@@ -101,7 +114,7 @@ def finish(worker: Worker, task: Task, plan: Plan, outcome: Outcome) -> None:
         if size != plan.plaintext:
             raise TaskError(f"{plan.draft}: it has {size} bytes in place of {plan.plaintext}: run again", retry=True)
         if task.replaces:
-            os.replace(plan.draft, task.target)
+            replace(plan.draft, os.path.realpath(task.target))
         else:
             try:
                 os.link(plan.draft, task.target)
@@ -110,6 +123,16 @@ def finish(worker: Worker, task: Task, plan: Plan, outcome: Outcome) -> None:
     discard(plan)
     places.sync_folders({os.path.dirname(task.target)})
     outcome.size, outcome.key, outcome.front = plan.plaintext, plan.key, plan.front
+
+
+def replace(draft: str, target: str) -> None:
+    fd = os.open(draft, os.O_RDWR | os.O_CLOEXEC)
+    try:
+        places.take_over(fd, target)
+        os.fsync(fd)
+    finally:
+        os.close(fd)
+    os.replace(draft, target)
 
 
 def is_published(task: Task, plan: Plan) -> bool:

@@ -111,6 +111,24 @@ def identity(place: str) -> tuple[int, ...]:
     return found.st_ino, found.st_size, found.st_mtime_ns
 
 
+def take_over(fd: int, target: str) -> None:
+    """Gives a draft the owner and the mode of the file that it is to replace.
+
+    # Errors
+    `PermissionError` where that file has no write permission, or its owner cannot be given.
+    """
+    try:
+        found = os.stat(target)
+    except FileNotFoundError:
+        return
+    if not found.st_mode & 0o222:
+        raise PermissionError(errno.EACCES, "it has no write permission, so that it is not replaced", target)
+    own = os.fstat(fd)
+    if (own.st_uid, own.st_gid) != (found.st_uid, found.st_gid):
+        os.fchown(fd, found.st_uid, found.st_gid)
+    os.fchmod(fd, found.st_mode & 0o7777)
+
+
 class Draft:
     """A file of this machine without a name, or with a name of its own where the file system needs one.
 
@@ -135,9 +153,14 @@ class Draft:
     def publish(self, target: str, replaces: bool) -> None:
         """Lets the draft reach the disk, and gives it the name of the target.
 
+        A target that is replaced hands on its owner and mode, as by the program. A link is followed.
+
         # Errors
-        `FileExistsError` where there is a target and it is not to be replaced.
+        `FileExistsError` where there is a target and it is not to be replaced. `PermissionError` where it may not be.
         """
+        if replaces:
+            target = os.path.realpath(target)
+            take_over(self.fd, target)
         os.fsync(self.fd)
         if replaces:
             path = self.path or self.link(self.fresh_name())
@@ -225,7 +248,9 @@ def fetch(url: str, scratch: str | None) -> int:
                 held.write(block)
         held.flush()
         if os.fstat(held.fileno()).st_size != expected:
-            raise TaskError(f"{url}: it has {expected} bytes, and {os.fstat(held.fileno()).st_size} came: try again", retry=True)
+            raise TaskError(
+                f"{url}: it has {expected} bytes, and {os.fstat(held.fileno()).st_size} came: try again", retry=True
+            )
         return os.dup(held.fileno())
 
 

@@ -20,6 +20,7 @@ class Keys:
 
     path: str
     master: str | None = None
+    master_aad: str = ""
 
     @property
     def fd(self) -> int | None:
@@ -34,6 +35,11 @@ class Keys:
         """The words that name these keys behind an option, or as the first word of a command where it is empty."""
         fd = self.fd
         return ([option] if option else []) + [self.path if fd is None else f"/dev/fd/{fd}"]
+
+    def master_words(self) -> list[str]:
+        if self.master is None:
+            return []
+        return ["--master", self.master, *(["--master-aad", self.master_aad] if self.master_aad else [])]
 
     def state(self) -> tuple[int, ...]:
         """Changes where the file of keys is changed."""
@@ -64,38 +70,54 @@ def find_program(name: str | None) -> str:
 
 @cache
 def commands(program: str) -> frozenset[str]:
-    """The commands and long options that the program's help names."""
-    done = subprocess.run([program, "help"], stdin=subprocess.DEVNULL, capture_output=True, text=True, check=False)
-    names: set[str] = set(re.findall(r"--[a-z-]+", done.stdout))
-    for line in done.stdout.splitlines():
-        found = re.match(r"\s*tink ([a-z|]+)\b", line)
+    """The commands that `tink help` names, and the long options of `encrypt`."""
+    names: set[str] = set(re.findall(r"--[a-z-]+", said_by(program, "help", "encrypt")))
+    for line in said_by(program, "help").splitlines():
+        # A line of a command, as `  enable, disable KEYS ID ..`, or in older ones `  tink enable|disable KEYS ID ..`.
+        found = re.match(r" {2}(?:tink )?([a-z]+(?:(?:, |\|)[a-z]+)*)\b", line)
         if found:
-            names.update(found.group(1).split("|"))
+            names.update(re.split(r", |\|", found.group(1)))
     return frozenset(names)
 
 
+def said_by(program: str, *words: str) -> str:
+    done = subprocess.run(
+        [program, *words], stdin=subprocess.DEVNULL, capture_output=True, text=True, errors="replace", check=False
+    )
+    return done.stdout
+
+
 def version(program: str) -> str:
-    done = subprocess.run([program, "--version"], stdin=subprocess.DEVNULL, capture_output=True, text=True, check=False)
-    return done.stdout.strip()
+    return said_by(program, "--version").strip()
 
 
 def require(program: str, names: list[str], why: str) -> None:
     missing = [name for name in names if name not in commands(program)]
     if missing:
-        raise FleetError(f"{program}: this program is too old: {why} needs `{'`, `'.join(missing)}`, which `tink help` does not name; install a newer one")
+        raise FleetError(
+            f"{program}: this program is too old: {why} needs `{'`, `'.join(missing)}`, which `tink help` does not name; install a newer one"
+        )
 
 
-def run(program: str, words: list[str], *, keys: list[Keys], stdout: int = subprocess.DEVNULL, more_fds: tuple[int, ...] = ()) -> subprocess.CompletedProcess:
+def run(
+    program: str,
+    words: list[str],
+    *,
+    keys: list[Keys],
+    stdout: int = subprocess.DEVNULL,
+    more_fds: tuple[int, ...] = (),
+) -> subprocess.CompletedProcess:
     """Runs the program. `stdout` is the descriptor of a file, or `subprocess.PIPE`.
 
     # Errors
     `TaskError` with the program's line, where its status is not 0.
     """
-    masters = [it.master for it in keys if it.master]
-    line = [program, *words[:1], *(["--master", masters[0]] if masters else []), *words[1:]]
+    line = [program, *words[:1], *(keys[0].master_words() if keys else []), *words[1:]]
     fds = more_fds + tuple({it.fd for it in keys if it.fd is not None})
     try:
-        done = subprocess.run(line, stdin=subprocess.DEVNULL, stdout=stdout, stderr=subprocess.PIPE, pass_fds=fds, check=False)
+        done = subprocess.run(
+            line, stdin=subprocess.DEVNULL, stdout=stdout, stderr=subprocess.PIPE, pass_fds=fds, check=False
+        )
     except OSError as e:
         raise TaskError(f"{program}: {e.strerror}: the program cannot be run on this worker", retry=True) from e
     except ValueError as e:
@@ -134,8 +156,21 @@ class KeyList:
 
 
 def list_keys(program: str, keys: Keys) -> KeyList:
-    """Lists a file of keys by `tink keys`, which shows no key material."""
-    lines = output(program, ["keys", *keys.words("")], [keys]).splitlines()
+    """Lists a file of keys by `tink keys`, which shows no key material. A wrapped one is unwrapped into memory alone."""
+    if keys.master is None:
+        lines = output(program, ["keys", *keys.words("")], [keys]).splitlines()
+    else:
+        held = os.memfd_create("tink-fleet-keys")
+        try:
+            run(
+                program,
+                ["unwrap", "-k", keys.master, "--aad", keys.master_aad, "-o", "-", keys.path],
+                keys=[],
+                stdout=held,
+            )
+            lines = output(program, ["keys", f"/dev/fd/{held}"], [], (held,)).splitlines()
+        finally:
+            os.close(held)
     rows = [line.split("\t") for line in lines if line.strip()]
     primary = [int(row[0]) for row in rows if row[-1] == "primary"]
     if len(primary) != 1:

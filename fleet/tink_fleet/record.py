@@ -1,6 +1,7 @@
 """The record of a fleet: one line of JSON for each task that ended, appended by the driver alone."""
 import json
 import os
+import sys
 import time
 from dataclasses import dataclass, field
 
@@ -81,8 +82,13 @@ def read_line(history: History, line: dict) -> None:
         history.runs[-1].update(line)
     else:
         history.entries[line["path"]] = Entry(
-            line["state"], line.get("size"), line.get("key"), line.get("source_size"), line.get("source_mtime"),
-            line.get("line"), line.get("target", ""),
+            sys.intern(line["state"]),
+            line.get("size"),
+            line.get("key"),
+            line.get("source_size"),
+            line.get("source_mtime"),
+            line.get("line"),
+            sys.intern(line.get("target", "")),
         )
         count(history.runs[-1] if history.runs else {}, line)
 
@@ -118,7 +124,9 @@ class Record:
         held = self.history.work
         for word in sorted(held.keys() | work.keys()):
             if held and held.get(word) != work.get(word):
-                raise FleetError(f"{self.path}: it is the record of other work, whose `{word}` is {held.get(word)!r}: name another `state`, or run with --again")
+                raise FleetError(
+                    f"{self.path}: it is the record of other work, whose `{word}` is {held.get(word)!r}: name another `state`, or run with --again"
+                )
 
     def append(self, lines: list[dict]) -> None:
         data = memoryview("".join(json.dumps(it, separators=(",", ":")) + "\n" for it in lines).encode())

@@ -4,6 +4,7 @@ import json
 import os
 import shlex
 import subprocess
+import tempfile
 from collections.abc import Callable
 from dataclasses import dataclass, field
 
@@ -18,6 +19,8 @@ from tink_fleet.tasks import Job
 
 STEPS = ("add", "distribute", "promote", "rewrap", "check", "disable")
 NEEDS = ["add", "check", "info"]
+# A file system in memory.
+MEMORY = "/dev/shm"
 
 
 @dataclass
@@ -34,9 +37,18 @@ class Progress:
 class Rotation:
     """The rotation of the keys of a manifest that rewraps in place."""
 
-    def __init__(self, manifest: Manifest, template: str, distribute: str | None, engine_of: Callable[[str], Engine], quiet: bool = False):
+    def __init__(
+        self,
+        manifest: Manifest,
+        template: str,
+        distribute: str | None,
+        engine_of: Callable[[str], Engine],
+        quiet: bool = False,
+    ):
         if not manifest.in_place or manifest.to_keys or manifest.to_aad is not None:
-            raise FleetError(f"{manifest.file}: a rotation needs `operation = \"rewrap\"` without `target`, `to_keys` and `to_aad`")
+            raise FleetError(
+                f'{manifest.file}: a rotation needs `operation = "rewrap"` without `target`, `to_keys` and `to_aad`'
+            )
         if manifest.keys in (None, "-"):
             raise FleetError(f"{manifest.file}: a rotation changes a file of keys: give `keys` a path")
         self.manifest = manifest
@@ -44,7 +56,7 @@ class Rotation:
         self.distribute_by = distribute
         self.engine_of = engine_of
         self.quiet = quiet
-        self.keys = Keys(manifest.keys, manifest.master)
+        self.keys = Keys(manifest.keys, manifest.master, manifest.master_aad)
         self.program = program.find_program(manifest.program)
         program.require(self.program, NEEDS + (["--master"] if manifest.master else []), "a rotation")
         self.path = os.path.join(manifest.state, "rotation.json")
@@ -58,7 +70,9 @@ class Rotation:
             listed = self.listed()
             return Progress(listed.primary, sorted(listed.statuses), self.template)
         if held.template != self.template:
-            raise FleetError(f"{self.path}: a rotation to {held.template} is not done: end it first, or remove this file")
+            raise FleetError(
+                f"{self.path}: a rotation to {held.template} is not done: end it first, or remove this file"
+            )
         return held
 
     def write(self) -> None:
@@ -82,7 +96,10 @@ class Rotation:
             "check": f"open every file below {files} whole, and see that each is under the key {new}",
             "disable": f"tink disable {keys} {self.progress.old}; {bring} that all workers have it disabled; no key is deleted",
         }
-        return [f"{number}. {name:<11}{words[name]}{' [done]' if name in self.progress.done else ''}" for number, name in enumerate(STEPS, 1)]
+        return [
+            f"{number}. {name:<11}{words[name]}{' [done]' if name in self.progress.done else ''}"
+            for number, name in enumerate(STEPS, 1)
+        ]
 
     def run(self, say: Callable[[str], None]) -> None:
         """Runs the steps that are not done.
@@ -106,16 +123,42 @@ class Rotation:
 
     def edit(self, command: str, *words: str) -> None:
         try:
-            program.run(self.program, [command, *self.keys.words(""), *words], keys=[self.keys])
+            if self.keys.master is None:
+                program.run(self.program, [command, self.keys.path, *words], keys=[])
+            else:
+                self.edit_wrapped(command, *words)
         except TaskError as e:
             raise Refused(f"{e.line}; the rotation stopped") from e
+
+    def edit_wrapped(self, command: str, *words: str) -> None:
+        """Changes a wrapped file of keys. In clear it is in a file system in memory alone, and only meanwhile."""
+        before, held = self.listed(), self.keys.state()
+        with open(self.keys.path, "rb") as file:
+            form = "json" if file.read(200).lstrip().startswith(b"{") else "binary"
+        master = ["-k", self.keys.master, "--aad", self.keys.master_aad, "--format", form]
+        new = f"{self.keys.path}.fleet-{os.urandom(8).hex()}"
+        with tempfile.TemporaryDirectory(dir=MEMORY) as folder:
+            plain = os.path.join(folder, "keys")
+            program.run(self.program, ["unwrap", *master, "-o", plain, self.keys.path], keys=[])
+            program.run(self.program, [command, plain, *words], keys=[])
+            program.run(self.program, ["wrap", *master, "-o", new, plain], keys=[])
+        try:
+            after = program.list_keys(self.program, dataclasses.replace(self.keys, path=new))
+            if not before.statuses.keys() <= after.statuses.keys() or self.keys.state() != held:
+                raise Refused(f"{self.keys.path}: it was changed meanwhile: run the rotation again")
+            os.replace(new, self.keys.path)
+        finally:
+            if os.path.exists(new):
+                os.unlink(new)
 
     def add(self) -> None:
         if not self.added():
             self.edit("add", self.template)
         new, listed = self.added(), self.listed()
         if len(new) != 1 or listed.statuses[new[0]] != "enabled" or listed.primary != self.progress.old:
-            raise Refused(f"{self.keys.path}: after `tink add` there is no single new enabled key beside the primary one: see `tink keys`, and correct it")
+            raise Refused(
+                f"{self.keys.path}: after `tink add` there is no single new enabled key beside the primary one: see `tink keys`, and correct it"
+            )
         self.progress.new = new[0]
 
     def added(self) -> list[int]:
@@ -124,7 +167,9 @@ class Rotation:
 
     def distribute(self) -> None:
         self.bring()
-        self.expect(lambda it: it["keys"].get(str(self.progress.new)) == "enabled", f"has no enabled key {self.progress.new}")
+        self.expect(
+            lambda it: it["keys"].get(str(self.progress.new)) == "enabled", f"has no enabled key {self.progress.new}"
+        )
 
     def promote(self) -> None:
         self.edit("promote", str(self.progress.new))
@@ -134,7 +179,10 @@ class Rotation:
     def disable(self) -> None:
         self.edit("disable", str(self.progress.old))
         self.bring()
-        self.expect(lambda it: it["keys"].get(str(self.progress.old)) != "enabled", f"has the key {self.progress.old} still enabled")
+        self.expect(
+            lambda it: it["keys"].get(str(self.progress.old)) != "enabled",
+            f"has the key {self.progress.old} still enabled",
+        )
 
     def bring(self) -> None:
         if self.distribute_by is None:
@@ -146,7 +194,7 @@ class Rotation:
 
     def expect(self, holds: Callable[[dict], bool], lacks: str) -> None:
         it = self.manifest
-        job = Job("0", "0", it.operation, it.program, it.keys, it.master, None, it.scratch)
+        job = Job("0", "0", it.operation, it.program, it.keys, it.master, it.master_aad, None, it.scratch)
         engine = self.engine_of(os.path.join(it.state, "rotation"))
         try:
             engine.begin("rotation", "0", lambda _: None)
@@ -154,20 +202,21 @@ class Rotation:
                 if "error" in worker:
                     raise Refused(f"worker {worker['worker']}: {worker['error']}")
                 if not holds(worker):
-                    raise Refused(f"worker {worker['worker']}: its {it.keys} {lacks}: bring the file there, and run the rotation again")
+                    raise Refused(
+                        f"worker {worker['worker']}: its {it.keys} {lacks}: bring the file there, and run the rotation again"
+                    )
         finally:
             engine.close()
 
     def over_all(self, operation: str) -> Summary:
         state = os.path.join(self.manifest.state, f"rotation-{self.progress.new}", operation)
-        engine = self.engine_of(state)
-        try:
-            made = Driver(dataclasses.replace(self.manifest, operation=operation, state=state), engine, quiet=self.quiet).run()
-        finally:
-            engine.close()
+        manifest = dataclasses.replace(self.manifest, operation=operation, state=state)
+        made = Driver(manifest, self.engine_of, quiet=self.quiet).run()
         if made.failed:
             rows = "\n".join(f"  {it}" for it in made.failures)
-            raise Refused(f"{self.manifest.source}: {made.failed} files failed in the step {operation}; the old key stays enabled:\n{rows}")
+            raise Refused(
+                f"{self.manifest.source}: {made.failed} files failed in the step {operation}; the old key stays enabled:\n{rows}"
+            )
         return made
 
     def rewrap(self) -> None:
@@ -180,4 +229,6 @@ class Rotation:
             rows = ", ".join(f"{count} under key {key}" for key, count in others.items())
             self.progress.done = [it for it in self.progress.done if it != "rewrap"]
             self.write()
-            raise Refused(f"{self.manifest.source}: not all files are under the key {self.progress.new} ({rows}): who writes there has old keys? Run the rotation again")
+            raise Refused(
+                f"{self.manifest.source}: not all files are under the key {self.progress.new} ({rows}): who writes there has old keys? Run the rotation again"
+            )

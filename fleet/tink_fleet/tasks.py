@@ -24,6 +24,7 @@ class Job:
     program: str | None
     keys: str
     master: str | None
+    master_aad: str
     to_keys: str | None
     scratch: str | None
     # The primary key that each worker has to have, where it is known.
@@ -31,11 +32,11 @@ class Job:
 
     @property
     def source_keys(self) -> Keys:
-        return Keys(self.keys, self.master)
+        return Keys(self.keys, self.master, self.master_aad)
 
     @property
     def target_keys(self) -> Keys:
-        return Keys(self.to_keys or self.keys, self.master)
+        return Keys(self.to_keys or self.keys, self.master, self.master_aad)
 
 
 @dataclass(frozen=True)
@@ -83,7 +84,11 @@ class Outcome:
 
     def record(self) -> dict:
         """The fields that are not empty."""
-        return {name: value for name, value in vars(self).items() if name != "retry" and value is not None and value is not False}
+        return {
+            name: value
+            for name, value in vars(self).items()
+            if name != "retry" and value is not None and value is not False
+        }
 
 
 def worker_name() -> str:
@@ -113,9 +118,10 @@ class Worker:
 
     def one(self, task: Task) -> Outcome:
         began, clock = time.time(), time.perf_counter()
-        outcome = Outcome(task.path, "done", began, 0.0, self.name, "new", source_size=task.size, source_mtime=task.mtime)
+        outcome = Outcome(
+            task.path, "done", began, 0.0, self.name, "new", source_size=task.size, source_mtime=task.mtime
+        )
         with told(task, outcome):
-            require_name(task)
             getattr(self, self.job.operation)(task, outcome)
         outcome.time, outcome.seconds = round(time.time(), 3), round(time.perf_counter() - clock, 4)
         return outcome
@@ -130,7 +136,10 @@ class Worker:
         """The primary key, which has to be that of the run."""
         found, wanted = self.key_list(keys).primary, self.job.primary
         if wanted is not None and found != wanted:
-            raise TaskError(f"{keys.path}: its primary key is {found} here, and {wanted} in this run: bring the new file of keys to this worker", retry=True)
+            raise TaskError(
+                f"{keys.path}: its primary key is {found} here, and {wanted} in this run: bring the new file of keys to this worker",
+                retry=True,
+            )
         return found
 
     def encrypt(self, task: Task, outcome: Outcome) -> None:
@@ -139,7 +148,9 @@ class Worker:
 
     def decrypt(self, task: Task, outcome: Outcome) -> None:
         if task.target is None:
-            raise TaskError(f"{task.source}: its name has not the suffix of streams: rename it, or set `suffix` or `exclude`")
+            raise TaskError(
+                f"{task.source}: its name has not the suffix of streams: rename it, or set `suffix` or `exclude`"
+            )
         keys = self.job.source_keys
         self.make(task, outcome, lambda file: ["decrypt", "-q", *keys.words("-k"), "--aad", task.aad, file], [keys])
 
@@ -147,7 +158,17 @@ class Worker:
         old, new = self.job.source_keys, self.job.target_keys
 
         def words(file: str) -> list[str]:
-            return ["rewrap", "-q", *old.words("-k"), "--aad", task.aad, *new.words("-t"), "--to-aad", task.to_aad, file]
+            return [
+                "rewrap",
+                "-q",
+                *old.words("-k"),
+                "--aad",
+                task.aad,
+                *new.words("-t"),
+                "--to-aad",
+                task.to_aad,
+                file,
+            ]
 
         try:
             self.make(task, outcome, words, [old, new])
@@ -159,7 +180,12 @@ class Worker:
     def check(self, task: Task, outcome: Outcome) -> None:
         keys = self.job.source_keys
         with opened(task.source, self.job.scratch) as (file, fd):
-            program.run(self.program, ["check", *keys.words("-k"), "--aad", task.aad, file], keys=[keys], more_fds=fds_of(file, fd))
+            program.run(
+                self.program,
+                ["check", *keys.words("-k"), "--aad", task.aad, file],
+                keys=[keys],
+                more_fds=fds_of(file, fd),
+            )
             outcome.key = self.key_of(keys, task.aad, file, fd)
             outcome.sha256, outcome.size, outcome.target = places.digest(fd), os.fstat(fd).st_size, "same"
 
@@ -187,7 +213,10 @@ class Worker:
                 outcome.sha256 = places.digest(draft.fd)
             outcome.size = os.fstat(draft.fd).st_size
             if self.ends(task, keys) != before:
-                raise TaskError(f"{task.source}: it, or a file of keys, was changed while it was read: run again when it rests", retry=True)
+                raise TaskError(
+                    f"{task.source}: it, or a file of keys, was changed while it was read: run again when it rests",
+                    retry=True,
+                )
             if task.in_place:
                 resting(outcome, draft.fd)
             self.publish(task, draft)
@@ -206,7 +235,7 @@ class Worker:
     def draft(self, task: Task) -> Draft:
         if is_url(task.target):
             return Draft(self.job.scratch or os.environ.get("TMPDIR", "/tmp"), self.job.fleet)
-        folder = os.path.dirname(task.target)
+        folder = os.path.dirname(os.path.realpath(task.target) if task.replaces else task.target)
         os.makedirs(folder, exist_ok=True)
         return Draft(folder, self.job.fleet)
 
@@ -222,7 +251,11 @@ class Worker:
     def adopt(self, task: Task, outcome: Outcome) -> None:
         """A target that is there counts as done where it has the text of the source, and else stays as it is."""
         job = self.job
-        stream, keys, aad = (task.source, job.source_keys, task.aad) if job.operation == "decrypt" else (task.target, job.target_keys, task.to_aad)
+        stream, keys, aad = (
+            (task.source, job.source_keys, task.aad)
+            if job.operation == "decrypt"
+            else (task.target, job.target_keys, task.to_aad)
+        )
         try:
             same = self.text_of(task, "source") == self.text_of(task, "target")
         except TaskError as e:
@@ -230,7 +263,9 @@ class Worker:
                 raise
             same = False
         if not same:
-            raise TaskError(f"{task.target}: it is there already and has not the text of {task.source} under these keys: move it away, or set `replace = true`")
+            raise TaskError(
+                f"{task.target}: it is there already and has not the text of {task.source} under these keys: move it away, or set `replace = true`"
+            )
         with opened(stream, job.scratch) as (file, fd):
             outcome.sha256, outcome.key = places.digest(fd), self.key_of(keys, aad, file, fd) or outcome.key
         outcome.size, outcome.adopted = places.size_of(task.target), True
@@ -251,7 +286,12 @@ class Worker:
         keys = self.job.target_keys
         with opened(task.source, self.job.scratch) as (file, fd):
             try:
-                plain_digest(self.program, ["decrypt", "-q", *keys.words("-k"), "--aad", task.to_aad, file], keys, fds_of(file, fd))
+                plain_digest(
+                    self.program,
+                    ["decrypt", "-q", *keys.words("-k"), "--aad", task.to_aad, file],
+                    keys,
+                    fds_of(file, fd),
+                )
             except TaskError:
                 return False
             found = self.key_of(keys, task.to_aad, file, fd)
@@ -260,14 +300,6 @@ class Worker:
             outcome.sha256, outcome.size, outcome.adopted = places.digest(fd), os.fstat(fd).st_size, True
             resting(outcome, fd)
         return True
-
-
-def require_name(task: Task) -> None:
-    """The program takes words in UTF-8."""
-    try:
-        task.path.encode()
-    except UnicodeEncodeError:
-        raise TaskError(f"{os.fsencode(task.source)!r}: its name is no UTF-8: rename it") from None
 
 
 def resting(outcome: Outcome, fd: int) -> None:
@@ -282,10 +314,25 @@ def told(task: Task, outcome: Outcome):
     try:
         yield
     except TaskError as e:
-        failed(task, outcome, e.line, e.status, e.retry)
+        # A program that takes words in UTF-8 alone says of another one that it is no command.
+        is_name = e.status == 2 and not is_utf8(task.path)
+        line = (
+            f"{os.fsencode(task.source)!r}: its name is no UTF-8: rename it, or install a newer tink"
+            if is_name
+            else e.line
+        )
+        failed(task, outcome, line, e.status, e.retry)
     except OSError as e:
         place = e.filename if isinstance(e.filename, str) else task.target or task.source
         failed(task, outcome, f"{place}: {e.strerror}: {remedy(e)}", None, True)
+
+
+def is_utf8(path: str) -> bool:
+    try:
+        path.encode()
+    except UnicodeEncodeError:
+        return False
+    return True
 
 
 def remedy(e: OSError) -> str:
@@ -335,12 +382,15 @@ def plain_digest(path: str, words: list[str], keys: Keys, fds: tuple[int, ...]) 
     # Errors
     `TaskError` with the program's line, where its status is not 0.
     """
-    masters = ["--master", keys.master] if keys.master else []
     held = fds + ((keys.fd,) if keys.fd is not None else ())
     made = hashlib.sha256()
     # The line that the program says on an error is less than a pipe holds.
     with subprocess.Popen(
-        [path, words[0], *masters, *words[1:]], stdin=subprocess.DEVNULL, stdout=subprocess.PIPE, stderr=subprocess.PIPE, pass_fds=held
+        [path, words[0], *keys.master_words(), *words[1:]],
+        stdin=subprocess.DEVNULL,
+        stdout=subprocess.PIPE,
+        stderr=subprocess.PIPE,
+        pass_fds=held,
     ) as running:
         while block := running.stdout.read(places.BLOCK):
             made.update(block)
