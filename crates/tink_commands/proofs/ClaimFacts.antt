@@ -1,16 +1,14 @@
 -- What the program over the streams of the process spells, it claims.
-use Rattle.std.proofs.Common.{◌≡◌, ◌^◌, ◌-◌, inl, inr, ◌==◌, true, false, ℕ, List, [], ◌∷◌, refl, sym, ◌∙◌, arith, Ok, rules}
-use Rattle.std.specs.Prelude.{None, decimal}
+use Rattle.std.proofs.Common.{◌≡◌, ◌^◌, ◌-◌, inl, inr, ◌==◌, true, false, ℕ, List, [], ◌∷◌, refl, arith, Ok, rules}
+use Rattle.std.specs.Prelude.{decimal}
 use Rattle.std.specs.Str.Parse.{IsNumeral}
-use Rattle.std.proofs.lemmas.Bool.{true≢false}
 use Rattle.std.proofs.lemmas.Fmt.{decimal_is_IsNumeral}
 use Rattle.hex.specs.Hex.{decode_of, is_hex_digit}
 use Rattle.hex.proofs.HexLemmas.{decode_of-ok}
-use Rattle.tink_words.specs.Forms.{given}
-use Rattle.tink_words.specs.Lines.{is_option}
+use Rattle.tink_words.specs.Words.{is_option}
 use Rattle.tink_program.specs.Words.{Asked, IsBytesWord, IsNumberWord, Spells}
 use Rattle.tink_program.specs.Words.Asked.{Making, Measuring, Opening, Ranging, Rewrapping, Rotating, Sealing, Signing, Verifying}
-use Rattle.tink_commands.specs.Claims.{EndedOverStreams, HasStatus, is_of_streams}
+use Rattle.tink_commands.specs.Claims.{is_of_streams}
 
 -- a digit is no dash
 not_dash : (b : ℕ) → is_hex_digit b ≡ true → (b == 45) ≡ false
@@ -38,7 +36,12 @@ pub claimed : (words : List (List ℕ)) (a : Asked) → Spells words a → is_of
 claimed words (Sealing keyset aad seed) spells = rw spells.spelled refl
 claimed words (Opening keyset aad) spells = rw spells.spelled refl
 claimed words (Making template seed) spells = rw spells.spelled refl
-claimed words (Rotating keyset template seed) spells = rw spells.spelled refl
+claimed words (Rotating keyset template seed) spells =
+    rw (
+      spells.spelled,
+      bytes_word spells.keyset_word keyset spells.keyset_is,
+      hex_is_no_option spells.seed_word seed spells.seed_is.1,
+    ) refl
 claimed words (Measuring n) spells = rw spells.spelled refl
 claimed words (Ranging keyset aad start len) spells =
     rw (
@@ -59,23 +62,3 @@ claimed words (Rewrapping sides seed) spells =
       bytes_word spells.to_aad_word sides.to_aad spells.to_aad_is,
       hex_is_no_option spells.seed_word seed spells.seed_is.1,
     ) refl
-
--- a line of that program
-pub over_streams : (words : List (List ℕ)) (status : ℕ) → is_of_streams words ≡ true → EndedOverStreams words status → HasStatus words status
-over_streams words status claims ended = record {
-  own = ended.means.own;
-  refused = ended.means.refused;
-  refused_cause = ended.means.refused_cause;
-  usage = λ _. ended.means.usage;
-  unknown = λ other spells. absurd (true≢false (sym claims ∙ other));
-}
-
--- another line: none of that program's commands is spelled
-pub over_files : (words : List (List ℕ)) (status : ℕ) → is_of_streams words ≡ false → (given words ≡ None → status ≡ 2) → HasStatus words status
-over_files words status claims unknown = record {
-  own = λ a spells. absurd (true≢false (sym (claimed words a spells) ∙ claims));
-  refused = λ a kind spells unusable. absurd (true≢false (sym (claimed words a spells) ∙ claims));
-  refused_cause = λ a spells among. absurd (true≢false (sym (claimed words a spells) ∙ claims));
-  usage = λ other. absurd (true≢false (sym other ∙ claims));
-  unknown = λ _ spells. unknown spells;
-}

@@ -1,2 +1,4 @@
 pub mod ClaimFacts
+pub mod KeyFileLemmas
 pub mod SavingLemmas
+pub mod WrappingLemmas

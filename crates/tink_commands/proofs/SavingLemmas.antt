@@ -1,6 +1,6 @@
 -- What a call made, where it is saved.
-use Rattle.std.proofs.Common.{◌≡◌, ◌++◌, ℕ, List, [], Bool, refl, sym, ◌∙◌, subst, ap}
-use Rattle.std.specs.Prelude.{Option, Some, None, Result, Ok, Err, IfErr, IfOk, IsErrAnd, OnOk}
+use Rattle.std.proofs.Common.{◌≡◌, ◌++◌, ℕ, List, [], Bool, inr, refl, sym, ◌∙◌, subst, ap}
+use Rattle.std.specs.Prelude.{Option, Some, None, Result, Ok, Err, IfErr, IfOk, IsErrAnd, OnErr, OnOk}
 use Rattle.std.specs.Io.KnownBytes.{Appends}
 use Rattle.tink_io.specs.Told.{Answers}
 use Rattle.tink_io.specs.declared.error.Kind.{Kind}
@@ -34,3 +34,13 @@ pub put_behind : (given : Result (List ℕ) Kind) (bytes : List ℕ) (old new : 
     → given ≡ Ok bytes → OnOk result (Appends old new bytes) → OnOk result ((before : List ℕ) → old ≡ Some before → IsAppended given before new)
 put_behind given bytes old new (Ok done) made more = λ before is. record { bytes = bytes; made = made; behind = appended old new bytes before is more }
 put_behind given bytes old new (Err t) made more = tt
+
+-- if nothing was saved, what was shown stays
+pub unsaved_kept : (made : Result (List ℕ) TinkError) (answer : Result (Unit {0}) TinkError) (draft : Option (List ℕ)) (replaces : Bool) (before after : Option (Option (List ℕ))) (i j : ℕ)
+    (result : Result (Unit {0}) Trouble) (file : Option (List ℕ)) (Kept : Type 0)
+    → ((told : Result (List ℕ) Kind) → Answers made told → Saves told answer draft replaces before after i j)
+    → OnOk answer (OnErr result ⊥) → (after ≡ Some file → Kept) → OnErr result (before ≡ Some file → Kept)
+unsaved_kept made answer draft replaces before after i j (Ok done) file Kept saves ok kept = tt
+unsaved_kept made (Ok u) draft replaces before after i j (Err t) file Kept saves ok kept = absurd ok
+unsaved_kept (Ok v) (Err e) draft replaces before after i j (Err t) file Kept saves ok kept = λ is. kept ((saves (Ok v) refl).1 ∙ is)
+unsaved_kept (Err k) (Err e) draft replaces before after i j (Err t) file Kept saves ok kept = λ is. kept ((saves (Err k.kind) (inr refl)).1 ∙ is)

@@ -1,5 +1,5 @@
 -- Which lines are those of the program over the standard streams, and how they end.
-use Rattle.std.specs.Prelude.{◌≡◌, ◌⊎◌, ◌||◌, ◌==◌, not, ℕ, List, [], ◌∷◌, length, Bool, true, false, Option, Some, None, String, Vec, codes, All, IsUtf8, if◌then◌else◌}
+use Rattle.std.specs.Prelude.{◌≡◌, ◌⊎◌, ◌||◌, ◌&&◌, ◌==◌, not, ℕ, List, [], ◌∷◌, length, Bool, true, false, Option, Some, None, String, Vec, codes, All, IsUtf8, if◌then◌else◌, slice_index_or}
 use Rattle.tink_words.specs.Forms.{words_of}
 use Rattle.tink_words.specs.Words.{is, is_option}
 use Rattle.tink_program.specs.Program.{Promised, StatusMeans}
@@ -22,9 +22,13 @@ claim_of name =
     else (if is name (codes "rewrap") || is name (codes "sign") || is name (codes "verify") || is name (codes "range") then WithoutOptions
     else Never))
 
+-- four words with a keyset and a seed, which are no options
+abbrev pub is_rotation : List (List ℕ) → Bool
+is_rotation words = (length words == 4) && not (is_option (slice_index_or words 1 [])) && not (is_option (slice_index_or words 3 []))
+
 abbrev pub is_claimed : Claim → List (List ℕ) → Bool
 is_claimed AllLines words = true
-is_claimed OfFourWords words = length words == 4
+is_claimed OfFourWords words = is_rotation words
 is_claimed WithoutOptions words = not (has_option words)
 is_claimed Never words = false
 

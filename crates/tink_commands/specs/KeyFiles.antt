@@ -14,6 +14,7 @@ use Rattle.tink_keysets.specs.Encrypted.{chained}
 use Rattle.tink_keyset_io.specs.Edited.{edited_file}
 use Rattle.tink_keyset_io.specs.Files.{wire_of}
 use Rattle.tink_keyset_io.specs.Listed.{listed}
+use Rattle.tink_keyset_io.specs.ListedJson.{listed_json}
 use Rattle.tink_keyset_io.specs.declared.key_files.editing.Edit.{Edit}
 use Rattle.tink_keyset_io.specs.declared.key_files.editing.Edit.TheVariants.{Delete, Destroy, Disable, Enable, Promote}
 use Rattle.tink_keyset_io.specs.declared.key_files.formats.Format.{Format}
@@ -71,9 +72,14 @@ abbrev pub changed_file : Change → List ℕ → Result (List ℕ) Kind
 changed_file (changes.Edit edit id) file = edited_file file edit id
 changed_file (changes.Grow growth template draws) file = grown_file growth template.now draws file
 
--- the lines of a file's keys
-abbrev pub listed_file : List ℕ → Result (List ℕ) Kind
-listed_file file = chained listed (wire_of file)
+-- a keyset's keys, as lines or as an array of JSON
+abbrev pub listed_as : Bool → List ℕ → Result (List ℕ) Kind
+listed_as true keyset = listed_json keyset
+listed_as false keyset = listed keyset
+
+-- those of a file
+abbrev pub listed_file : Bool → List ℕ → Result (List ℕ) Kind
+listed_file json file = chained (λ keyset. listed_as json keyset) (wire_of file)
 
 -- The file of a name is what is made of it. Every other file stays.
 pub record IsChanged (makes : List ℕ → Result (List ℕ) Kind) (path : List ℕ) (old new : SystemState) : Type 0 where
@@ -116,7 +122,7 @@ pub record IsNew (line : LineRead) (old new : SystemState) (got got_after : Opti
 pub record AreListed (line : LineRead) (s : SystemState) (got got_after : Option (List ℕ)) : Type 0 where
   pub path : List ℕ
   pub path_is : line.first ≡ Some path
-  pub listed : (before : List ℕ) → got ≡ Some before → IsAppended (chained listed_file (whole_of s (named (Some path)))) before got_after
+  pub listed : (before : List ℕ) → got ≡ Some before → IsAppended (chained (λ file. listed_file line.json file) (whole_of s (named (Some path)))) before got_after
 
 -- a new file has the keyset of the file that the words name, in their format
 pub record IsConverted (line : LineRead) (old new : SystemState) (got got_after : Option (List ℕ)) : Type 0 where

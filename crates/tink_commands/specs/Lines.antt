@@ -34,13 +34,13 @@ IsDone actions.Wrap line old new got got_after = IsWrapped line old new got got_
 IsDone actions.Unwrap line old new got got_after = IsUnwrapped line old new got got_after
 IsDone _ line old new got got_after = KeepsFiles old new
 
--- what the words of a line mean was done
-abbrev pub IsDoneBy : Given → SystemState → SystemState → Option (List ℕ) → Option (List ℕ) → Type 0
-IsDoneBy given old new got got_after = IsDoneUnless given.line.help given old new got got_after
-
 abbrev pub IsDoneUnless : Bool → Given → SystemState → SystemState → Option (List ℕ) → Option (List ℕ) → Type 0
 IsDoneUnless true given old new got got_after = KeepsFiles old new
 IsDoneUnless false given old new got got_after = IsDone given.action given.line old new got got_after
+
+-- what the words of a line mean was done
+abbrev pub IsDoneBy : Given → SystemState → SystemState → Option (List ℕ) → Option (List ℕ) → Type 0
+IsDoneBy given old new got got_after = IsDoneUnless given.line.help given old new got got_after
 
 abbrev pub IsDoneLine : Result Given Wrong → SystemState → SystemState → Option (List ℕ) → Option (List ℕ) → Type 0
 IsDoneLine (Ok given) old new got got_after = IsDoneBy given old new got got_after

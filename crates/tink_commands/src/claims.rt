@@ -1,7 +1,7 @@
 //! Which lines are those of the program over the standard streams.
 
 ghost use Rattle.std.specs.Prelude.{◌≡◌, ◌||◌};
-ghost use Rattle.tink_commands.specs.Claims.{claim_of, has_option, is_of_streams};
+ghost use Rattle.tink_commands.specs.Claims.{claim_of, has_option, is_of_streams, is_rotation};
 ghost use Rattle.tink_words.specs.Words.{byte_words, is};
 
 use tink_words::is_option;
@@ -23,10 +23,17 @@ pub fn is_of_streams(words: &[Vec<u8>]) -> bool
     };
     match claim_of(name.as_slice()) {
         Claim::All => true,
-        Claim::OfFourWords => words.len() == 4,
+        Claim::OfFourWords => is_rotation(words),
         Claim::WithoutOptions => !has_option(words),
         Claim::Never => false,
     }
+}
+
+// Whether these are four words with a keyset and a seed, which are no options.
+fn is_rotation(words: &[Vec<u8>]) -> bool
+    ensures { result ≡ is_rotation (byte_words words.now) }
+{
+    words.len() == 4 && !is_option(words[1].as_slice()) && !is_option(words[3].as_slice())
 }
 
 // What is claimed of a name's lines.

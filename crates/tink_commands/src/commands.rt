@@ -33,7 +33,7 @@ pub fn run<Y: System, K: Sink, E: Sink>(
     faults: &mut E,
 ) -> u8
     ensures streams { is_of_streams (byte_words words.now) ≡ true → EndedOverStreams (byte_words words.now)
-        (Y.state system.old) (K.got sink.old) (K.got sink.new) result }
+        (Y.state system.old) (Y.faults system.old) (Y.faults system.new) (K.got sink.old) (K.got sink.new) result }
     ensures unknown { is_of_streams (byte_words words.now) ≡ false → IsWrong (given (byte_words words.now)) → result ≡ 2 }
     ensures done { is_of_streams (byte_words words.now) ≡ false → result ≡ 0 → (Y.state system.old).is_known ≡ true
         → IsDoneLine (given (byte_words words.now)) (Y.state system.old) (Y.state system.new) (K.got sink.old) (K.got sink.new) }
@@ -48,10 +48,21 @@ pub fn run<Y: System, K: Sink, E: Sink>(
     match parse(words) {
         Ok(given) => match command(alloc, system, &given, sink) {
             Ok(()) => 0,
-            Err(trouble) => tell(faults, trouble),
+            Err(trouble) => refusal(tell(faults, trouble)),
         },
         Err(wrong) => tell_wrong(system, faults, wrong),
     }
+}
+
+// The status of a command that did not succeed: it is never 0.
+fn refusal(status: u8) -> u8
+    ensures never { result ≡ 0 → ⊥ }
+    ensures same { (status ≡ 0 → ⊥) → result ≡ status }
+{
+    if status == 0 {
+        return 1;
+    }
+    status
 }
 
 // Does a command over files.

@@ -2,7 +2,7 @@
 
 ghost use Rattle.std.specs.Prelude.{◌≡◌, ◌≤◌, ℕ, List, [], Some, true, OnErr, OnOk};
 ghost use Rattle.tink_io.specs.Told.{Answers};
-ghost use Rattle.tink_commands.specs.KeyFiles.{AreListed, IsChanged, IsConverted, IsEdited, IsGrown, IsNew, changed_file, listed_file};
+ghost use Rattle.tink_commands.specs.KeyFiles.{AreListed, IsChanged, IsConverted, IsEdited, IsGrown, IsNew, changed_file, listed_as, listed_file};
 ghost use Rattle.tink_commands.specs.Saving.{IsAppended};
 ghost use Rattle.tink_stream_commands.specs.Performing.{KeepsFiles};
 ghost use Rattle.tink_system.specs.States.{KeepsSystem};
@@ -12,7 +12,7 @@ use crate::words::{edit_of, format_of, growth_of, prefix_of};
 use std::alloc::Global;
 use tink_files::{added_file, converted_file, new_file, rotated_file};
 use tink_io::{Draws, Kind, Sink, TinkError};
-use tink_keyset_io::key_files::{Edit, edited_file, list, wire_bytes};
+use tink_keyset_io::key_files::{Edit, edited_file, list, list_json, wire_bytes};
 use tink_proto::Bytes;
 use tink_stream_commands::DRAWN;
 use tink_stream_commands::keys::{LIMIT, read_keys};
@@ -55,7 +55,7 @@ pub fn make<'w, Y: System, K: Sink>(
     }
 }
 
-/// `keys KEYS`: a line for each key, without key material.
+/// `keys KEYS`: a line for each key, or an array of JSON, without key material.
 ///
 /// # Errors
 /// 11 if the file cannot be read; 13, 14, 30 if it is no file of keys; 12 if standard output fails; 10.
@@ -75,7 +75,7 @@ pub fn show<'w, Y: System, K: Sink>(
         return Err(Trouble::Usage);
     };
     match read_keys(alloc, system, path) {
-        Ok(file) => put_lines(alloc, path, file, sink),
+        Ok(file) => put_lines(alloc, path, file, line.is_json(), sink),
         Err(trouble) => Err(trouble),
     }
 }
@@ -85,24 +85,36 @@ fn put_lines<'w, K: Sink>(
     alloc: Global,
     path: &'w [u8],
     file: Vec<u8>,
+    is_json: bool,
     sink: &mut K,
 ) -> Result<(), Trouble<'w>>
     ensures done { OnOk result ((before : List ℕ) → K.got sink.old ≡ Some before
-        → IsAppended (listed_file file.items) before (K.got sink.new)) }
+        → IsAppended (listed_file is_json file.items) before (K.got sink.new)) }
     ensures sink { K.same sink.old sink.new }
 {
-    match lines_of(alloc, file) {
+    match lines_of(alloc, file, is_json) {
         Ok(lines) => put(sink, lines.as_slice()),
         Err(e) => Err(Trouble::Refused(path, e.kind)),
     }
 }
 
 // The lines of a file's keys.
-fn lines_of(alloc: Global, file: Vec<u8>) -> Result<Bytes, TinkError>
-    ensures { Answers result (listed_file file.items) }
+fn lines_of(alloc: Global, file: Vec<u8>, is_json: bool) -> Result<Bytes, TinkError>
+    ensures { Answers result (listed_file is_json file.items) }
 {
     let keyset = wire_bytes(alloc, file)?;
-    list(alloc, keyset.as_slice())
+    listed(alloc, keyset.as_slice(), is_json)
+}
+
+// Those of a keyset in the wire format.
+fn listed(alloc: Global, keyset: &[u8], is_json: bool) -> Result<Bytes, TinkError>
+    ensures { Answers result (listed_as is_json keyset.now) }
+{
+    if is_json {
+        list_json(alloc, keyset)
+    } else {
+        list(alloc, keyset)
+    }
 }
 
 /// `rotate KEYS TEMPLATE` and `add` with the same words: a new key by a template, which encrypts from now on, or is not used
@@ -179,7 +191,7 @@ fn make_change<'w, Y: System>(
     path: &'w [u8],
     change: Change<'w>,
 ) -> Result<(), Trouble<'w>>
-    ensures done { OnOk result ((Y.state system.old).is_known ≡ true → IsChanged (changed_file change) path.now
+    ensures done { OnOk result ((Y.state system.old).is_known ≡ true → IsChanged (changed_file change.entry) path.now
         (Y.state system.old) (Y.state system.new)) }
     ensures kept { OnErr result ((Y.state system.old).is_known ≡ true → KeepsFiles (Y.state system.old) (Y.state system.new)) }
     ensures system { KeepsSystem (Y.state system.old) (Y.state system.new) }
@@ -202,7 +214,7 @@ fn change_in<'w, Y: System>(
 ) -> Result<(), Trouble<'w>>
     requires { Y.Draft.has_draft draft ≡ true }
     ensures done { OnOk result ((Y.state system.old).is_known ≡ true → Y.Draft.got draft ≡ Some []
-        → IsChanged (changed_file change) path.now (Y.state system.old) (Y.state system.new)) }
+        → IsChanged (changed_file change.entry) path.now (Y.state system.old) (Y.state system.new)) }
     ensures kept { OnErr result (Y.Draft.shown draft ≡ Some ((Y.state system.old).file path.now)
         → KeepsFiles (Y.state system.old) (Y.state system.new)) }
     ensures system { KeepsSystem (Y.state system.old) (Y.state system.new) }
@@ -242,7 +254,7 @@ fn blamed<'w>(
 
 // The file with its change.
 fn changed(alloc: Global, file: Vec<u8>, change: Change<'_>) -> Result<Bytes, TinkError>
-    ensures { Answers result (changed_file change file.items) }
+    ensures { Answers result (changed_file change.entry file.items) }
 {
     match change {
         Change::Edit(edit, id) => edited_file(alloc, file, edit, id),

@@ -1,15 +1,14 @@
 //! The program over the standard streams.
 
-ghost use Rattle.std.specs.Prelude.{◌≡◌, IfErr, IfOk};
-ghost use Rattle.tink_commands.specs.Claims.{AreTexts, EndedOverStreams};
-ghost use Rattle.tink_io.specs.declared.error.Kind.TheVariants.{OutOfMemory};
+ghost use Rattle.std.specs.Prelude.{◌≡◌};
+ghost use Rattle.tink_commands.specs.Claims.{EndedOverStreams};
 ghost use Rattle.tink_program.specs.Program.{status_of};
 ghost use Rattle.tink_words.specs.Forms.{words_of};
 ghost use Rattle.tink_words.specs.Words.{byte_words};
 
+use crate::texts::texts_of;
 use std::alloc::Global;
-use std::str;
-use tink_io::{Kind, Sink, TinkError};
+use tink_io::Sink;
 use tink_program::program::{Outcome, program, status, tell as tell_outcome};
 use tink_system::System;
 use tink_system::trouble::tell;
@@ -63,22 +62,4 @@ fn end<E: Sink>(faults: &mut E, outcome: Outcome) -> u8
 {
     tell_outcome(faults, outcome);
     status(outcome)
-}
-
-// The words as texts, and none if one is no UTF-8.
-fn texts_of(alloc: Global, words: &[Vec<u8>]) -> Result<Option<Vec<String>>, TinkError>
-    ensures texts { IfOk result (AreTexts (byte_words words.now)) }
-    ensures refused { IfErr result (λ e. e ≡ record { kind = OutOfMemory }) }
-{
-    let mut texts = Vec::new(alloc);
-    'words: for word in words {
-        match str::from_utf8(word.as_slice()) {
-            Ok(text) => {
-                let text = String::from_str(alloc, text)?;
-                texts.push(text)?;
-            }
-            Err(_) => return Ok(None),
-        }
-    }
-    Ok(Some(texts))
 }

@@ -1,13 +1,13 @@
 //! What a call made is saved: as a new file, on standard output, or in the place of a file.
 
-ghost use Rattle.std.specs.Prelude.{◌≡◌, ◌≤◌, ℕ, List, [], Some, None, true, false, Result, IfErr, OnErr, OnOk};
+ghost use Rattle.std.specs.Prelude.{◌≡◌, ◌≤◌, ℕ, List, [], Some, None, true, false, Result, IfErr, IsErrAnd, OnErr, OnOk};
 ghost use Rattle.std.specs.Io.KnownBytes.{Appends};
 ghost use Rattle.tink_io.specs.Told.{Answers};
 ghost use Rattle.tink_io.specs.declared.error.Kind.{Kind};
 ghost use Rattle.tink_stream_commands.specs.Loading.{named};
 ghost use Rattle.tink_stream_commands.specs.Performing.{IsPut, KeepsFiles, KeepsOtherFiles};
 ghost use Rattle.tink_commands.specs.Saving.{IsAppended};
-ghost use Rattle.tink_system.specs.States.{KeepsSystem};
+ghost use Rattle.tink_system.specs.States.{IsSettled, KeepsSystem};
 ghost use Rattle.tink_system.specs.Statuses.{refusal_status, trouble_status};
 
 use std::alloc::Global;
@@ -71,7 +71,7 @@ pub fn save_in<'w, Y: System>(
 {
     let answer = save_answer(&mut draft, made);
     let reason = system.reason_of_draft(&draft);
-    match system.settle(alloc, name, draft) {
+    match end_draft(alloc, system, name, draft) {
         Ok(()) => saved(answer, blamed, name, reason),
         Err(trouble) => Err(trouble),
     }
@@ -95,6 +95,26 @@ pub fn give_up<'w, Y: System>(
     match system.settle(alloc, name, draft) {
         Ok(()) => trouble,
         Err(want) => want,
+    }
+}
+
+// Ends a draft that was shown or taken away.
+fn end_draft<Y: System>(
+    alloc: Global,
+    system: &mut Y,
+    name: &[u8],
+    draft: Y::Draft,
+) -> Result<(), Trouble<'static>>
+    requires { Y.Draft.has_draft draft ≡ false }
+    ensures settled { OnOk result (IsSettled (Y.state system.old) (Y.state system.new) name.now (Y.Draft.shown draft)) }
+    ensures refused { OnErr result (Y.state system.new ≡ Y.state system.old) }
+    ensures kept { Y.Draft.shown draft ≡ Some ((Y.state system.old).file name.now)
+        → KeepsFiles (Y.state system.old) (Y.state system.new) }
+    ensures later { Y.faults system.old ≤ Y.faults system.new }
+{
+    match system.settle(alloc, name, draft) {
+        Ok(()) => Ok(()),
+        Err(trouble) => Err(trouble),
     }
 }
 
@@ -145,7 +165,7 @@ fn saved<'w>(
     name: &'w [u8],
     reason: &'static str,
 ) -> Result<(), Trouble<'w>>
-    ensures ok { OnOk answer (OnOk result ⊤) }
+    ensures ok { OnOk answer (OnErr result ⊥) }
     ensures refused { IfErr answer (λ e. IsErrAnd result (λ t. trouble_status t ≡ refusal_status e.kind)) }
 {
     match answer {

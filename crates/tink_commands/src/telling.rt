@@ -6,7 +6,7 @@ use tink_io::Sink;
 use tink_program::program::{Outcome, tell as tell_outcome};
 use tink_system::lines::{put, put_escaped};
 use tink_system::{End, System};
-use tink_words::{Action, OptionName, Why, Wrong, help_text, usage};
+use tink_words::{Action, Why, Wrong, command_names, help_text, option_names, similar, usage};
 
 /// Writes why words spell no command, and how the command that they name is used. If they name none, it writes the usage line of
 /// the program over the standard streams, and on a terminal the help. It answers 2.
@@ -43,7 +43,7 @@ fn tell_command<E: Sink>(faults: &mut E, word: &[u8])
 {
     put(faults, b"tink: no command is called ");
     put_escaped(faults, word);
-    put_like(faults, Action::similar(word));
+    put_like(faults, similar(word, command_names()));
     put(faults, b"\n`tink help` shows all commands\n");
 }
 
@@ -68,11 +68,11 @@ fn put_why<E: Sink>(faults: &mut E, why: &Why<'_>)
         Why::NoCommand => put(faults, b"no command"),
         Why::UnknownCommand(word) => {
             put_two(faults, b"no command is called ", word.bytes());
-            put_like(faults, Action::similar(word.bytes()));
+            put_like(faults, similar(word.bytes(), command_names()));
         }
         Why::UnknownOption(word) => {
             put_two(faults, b"no option is called ", word.bytes());
-            put_like(faults, OptionName::similar(word.bytes()));
+            put_like(faults, similar(word.bytes(), option_names()));
         }
         Why::NoValue(word) => put_three(faults, b"the option ", word.bytes(), b" needs a value"),
         Why::TakesNoValue(word) => put_three(

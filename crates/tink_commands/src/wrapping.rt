@@ -1,7 +1,7 @@
 //! The commands that keep a file of keys under a master keyset.
 
-ghost use Rattle.std.specs.Prelude.{◌≡◌, ◌≤◌, Some, None, true, OnErr, OnOk};
-ghost use Rattle.tink_commands.specs.Wrapping.{IsUnwrapped, IsUnwrappedBy, IsWrapped, IsWrappedBy};
+ghost use Rattle.std.specs.Prelude.{◌≡◌, ◌≤◌, Some, None, true, IfSome, OnErr, OnOk};
+ghost use Rattle.tink_commands.specs.Wrapping.{AreWords, IsUnwrapped, IsUnwrappedBy, IsWrapped, IsWrappedBy, IsWrappedKeys};
 ghost use Rattle.tink_files.specs.Masters.{IsMaster, MasterKeys};
 ghost use Rattle.tink_stream_commands.specs.Performing.{KeepsFiles};
 ghost use Rattle.tink_system.specs.States.{KeepsSystem};
@@ -82,7 +82,7 @@ fn wrap_under<'w, Y: System, K: Sink>(
     sink: &mut K,
 ) -> Result<(), Trouble<'w>>
     ensures done { OnOk result ((Y.state system.old).is_known ≡ true → (m : MasterKeys) → IsMaster m master.now
-        → IsWrappedBy m words (Y.state system.old) (Y.state system.new) (K.got sink.old) (K.got sink.new)) }
+        → IsWrappedBy m words.entry (Y.state system.old) (Y.state system.new) (K.got sink.old) (K.got sink.new)) }
     ensures kept { OnErr result ((Y.state system.old).is_known ≡ true → KeepsFiles (Y.state system.old) (Y.state system.new)) }
     ensures system { KeepsSystem (Y.state system.old) (Y.state system.new) }
     ensures later { Y.faults system.old ≤ Y.faults system.new }
@@ -104,7 +104,7 @@ fn wrap_keys<'w, Y: System, K: Sink>(
     sink: &mut K,
 ) -> Result<(), Trouble<'w>>
     ensures done { OnOk result ((Y.state system.old).is_known ≡ true → (m : MasterKeys) → IsMaster m master.now
-        → IsWrappedKeys m keys.items words (Y.state system.old) (Y.state system.new) (K.got sink.old) (K.got sink.new)) }
+        → IsWrappedKeys m keys.items words.entry (Y.state system.old) (Y.state system.new) (K.got sink.old) (K.got sink.new)) }
     ensures kept { OnErr result ((Y.state system.old).is_known ≡ true → KeepsFiles (Y.state system.old) (Y.state system.new)) }
     ensures system { KeepsSystem (Y.state system.old) (Y.state system.new) }
     ensures later { Y.faults system.old ≤ Y.faults system.new }
@@ -158,7 +158,7 @@ fn unwrap_under<'w, Y: System, K: Sink>(
     sink: &mut K,
 ) -> Result<(), Trouble<'w>>
     ensures done { OnOk result ((Y.state system.old).is_known ≡ true → (m : MasterKeys) → IsMaster m master.now
-        → IsUnwrappedBy m words (Y.state system.old) (Y.state system.new) (K.got sink.old) (K.got sink.new)) }
+        → IsUnwrappedBy m words.entry (Y.state system.old) (Y.state system.new) (K.got sink.old) (K.got sink.new)) }
     ensures kept { OnErr result ((Y.state system.old).is_known ≡ true → KeepsFiles (Y.state system.old) (Y.state system.new)) }
     ensures system { KeepsSystem (Y.state system.old) (Y.state system.new) }
     ensures random { (Y.state system.new).random ≡ (Y.state system.old).random }
