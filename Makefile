@@ -40,6 +40,7 @@ check:
 	tests/files
 	tests/refused-memory
 	tests/share
+	tests/prose
 
 check-fleet:
 	tests/fleet
