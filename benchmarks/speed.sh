@@ -5,16 +5,16 @@
 # is due. It needs python3; without openssl its lines are left out.
 set -euo pipefail
 root=$(dirname -- "$(dirname -- "$(readlink -f -- "${BASH_SOURCE[0]}")")")
-hasher=$root/crates/speed/out/speed
+hasher=$root/crates/bench_speed/out/bench_speed
 
 # Messages of the build go to standard error. With no words the tool prints how it is used.
 status=0
 "$root/tink" seal </dev/null >&2 || status=$?
 ((status == 2))
-if [[ ! -x $hasher || -n $(find "$root/crates.txt" "$root/crates/speed" \
+if [[ ! -x $hasher || -n $(find "$root/crates.txt" "$root/crates/bench_speed" \
     -name out -prune -o -newer "$hasher" -print -quit) ]]; then
     rm -f "$hasher"
-    (cd "$root/crates/speed" && rt run </dev/null >&2)
+    (cd "$root/crates/bench_speed" && rt run </dev/null >&2)
 fi
 folder=$(mktemp -d)
 trap 'rm -rf "$folder"' EXIT

@@ -111,7 +111,7 @@ def messages():
 
 
 def help_pages():
-    names = [word for word in re.findall(r'\("([a-z]+)", Action::', read(os.path.join(ROOT, "crates/tink_words/src/form.rt")).decode())]
+    names = [word for word in re.findall(r'\("([a-z]+)", Action::', read(os.path.join(ROOT, "crates/tink_cli_words/src/form.rt")).decode())]
     check(len(names) >= 23, "the names of the commands")
     pages = {"": tink("help")}
     for name in names:

@@ -1,4 +1,4 @@
-"""share.py ROOT: the files in share name every command and every option that the tables of tink_words have."""
+"""share.py ROOT: the files in share name every command and every option that the tables of tink_cli_words have."""
 import os
 import re
 import shutil
@@ -23,15 +23,15 @@ def read(*names):
 
 
 def table(name, text):
-    """The words of a table of tink_words, each with what it names."""
+    """The words of a table of tink_cli_words, each with what it names."""
     rows = re.search(rf"const {name}: .*? = &\[\n(.*?)\n\];", text, re.S)
     return re.findall(r'\(\s*"([^"]*)",\s*\w+::(\w+)', rows.group(1))
 
 
-OPTIONS = table("OPTIONS", read("crates", "tink_words", "src", "options.rt"))
-ACTIONS = table("ACTIONS", read("crates", "tink_words", "src", "form.rt"))
+OPTIONS = table("OPTIONS", read("crates", "tink_cli_words", "src", "options.rt"))
+ACTIONS = table("ACTIONS", read("crates", "tink_cli_words", "src", "form.rt"))
 COMMANDS = [word for word, _ in ACTIONS if not word.startswith("-")]
-VALUES = [word for name in ("FORMATS", "PREFIXES") for word, _ in table(name, read("crates", "tink_words", "src", "values.rt"))]
+VALUES = [word for name in ("FORMATS", "PREFIXES") for word, _ in table(name, read("crates", "tink_cli_words", "src", "values.rt"))]
 WORDS = [word for word, _ in OPTIONS + ACTIONS]
 check(len(COMMANDS) > 20 and len(OPTIONS) > 20 and len(VALUES) == 6, "the tables are read")
 
@@ -85,8 +85,8 @@ def bash():
 
 
 def takes():
-    """What tink.bash offers for a command is what the tables of tink_words say that it takes."""
-    form = read("crates", "tink_words", "src", "form.rt")
+    """What tink.bash offers for a command is what the tables of tink_cli_words say that it takes."""
+    form = read("crates", "tink_cli_words", "src", "form.rt")
     lists = {name: re.findall(r"OptionName::(\w+)", rows) for name, rows in re.findall(r"const (\w+): &\[OptionName\] = &\[(.*?)\];", form, re.S)}
     arms = re.search(r"fn options\(self\).*?match self \{(.*?)\n        \}", form, re.S).group(1)
     taken = {action: lists[name] for actions, name in re.findall(r"([\w:| \n]+?) => (\w+),", arms) for action in re.findall(r"Action::(\w+)", actions)}
@@ -105,12 +105,12 @@ def man_page():
 
 
 def help_pages():
-    text = read("crates", "tink_words", "src", "help.rt")
+    text = read("crates", "tink_cli_words", "src", "help.rt")
     pages = dict(re.findall(r'const (\w+): &str = "\\\n(.*?)";', text, re.S))
     for name, page in pages.items():
         for line in page.split("\n"):
             check(len(line) <= 80, f"{name}: {line}")
-    for usage in re.findall(r'"(tink [^"]*)"', read("crates", "tink_words", "src", "usages.rt")):
+    for usage in re.findall(r'"(tink [^"]*)"', read("crates", "tink_cli_words", "src", "usages.rt")):
         check(len(usage) <= 80, usage)
     for word in WORDS:
         if word not in ("-V", "--version"):

@@ -5,7 +5,7 @@ use Rattle.tink_io.specs.declared.error.Kind.{Kind}
 use Rattle.tink_io.specs.declared.error.TinkError.{TinkError}
 use Rattle.tink_io.specs.Told.{Replies, made_of}
 use Rattle.tink_proto.specs.declared.messages.keys.KeyData.{KeyData}
-use Rattle.tink_key_types.specs.Manager.{symmetric}
+use Rattle.tink_key_manager.specs.Manager.{symmetric}
 use Rattle.tink.specs.Managers.{row_of}
 use Rattle.tink.specs.declared.managers.Managers.{Managers}
 use Rattle.tink.specs.declared.managers.Managers.TheVariants as managers

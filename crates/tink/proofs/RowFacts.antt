@@ -23,9 +23,9 @@ use Rattle.tink_proto_keys.specs.declared.mac.HmacParams.{HmacParams}
 use Rattle.wire_format.specs.Columns.{Column}
 use Rattle.stream_model.specs.Key.{StreamKey, IsUsable}
 use Rattle.loading_model.specs.Building.{streaming_of, gcm_hkdf_of}
-use Rattle.tink_subtle.specs.Hashes.{hash_named}
-use Rattle.tink_key_types.specs.HashTypes.{hash_type_of}
-use Rattle.tink_key_types.specs.Manager.{built_by, built_if, builds, message_of}
+use Rattle.tink_core_subtle.specs.Hashes.{hash_named}
+use Rattle.tink_key_manager.specs.HashTypes.{hash_type_of}
+use Rattle.tink_key_manager.specs.Manager.{built_by, built_if, builds, message_of}
 use Rattle.tink_prf.specs.KeyTypes as prf_keys
 use Rattle.tink_prf.specs.KeyTypes.{built_of}
 use Rattle.tink_prf.specs.declared.prf_kind.PrfKind.{PrfKind}
@@ -39,9 +39,9 @@ use Rattle.tink_aead.specs.ComposedKeys.{are_ctr_params, composed_built, ctr_bui
 use Rattle.tink_aead.specs.KeyTypes.{is_versioned_key}
 use Rattle.tink_aead.specs.declared.aead_kind.AeadKind.{AeadKind}
 use Rattle.tink_aead.specs.declared.aead_kind.AeadKind.TheVariants as aead_kinds
-use Rattle.tink_stream_keys.specs.declared.stream_kind.StreamKind.{StreamKind}
-use Rattle.tink_stream_keys.specs.declared.stream_kind.StreamKind.TheVariants as stream_kinds
-use Rattle.tink_stream_keys.specs.StreamKinds.{key_of}
+use Rattle.tink_streaming_keys.specs.declared.stream_kind.StreamKind.{StreamKind}
+use Rattle.tink_streaming_keys.specs.declared.stream_kind.StreamKind.TheVariants as stream_kinds
+use Rattle.tink_streaming_keys.specs.StreamKinds.{key_of}
 use Rattle.tink_daead.specs.KeyTypes.{is_accepted}
 use Rattle.tink.specs.Rows.{widened}
 use Rattle.tink.specs.Managers.{AeadBuilt, DaeadBuilt, MacBuilt, PrfBuilt, StreamBuilt, as_built_aead, as_built_daead, as_built_mac, as_built_prf, as_built_stream, row_of}

@@ -9,7 +9,7 @@ use Rattle.tink_proto_keys.specs.Aead.{aes_gcm_key, aes_gcm_siv_key}
 use Rattle.tink_proto_keys.specs.AesCtrHmac.{aes_ctr_hmac_aead_key}
 use Rattle.tink_proto_keys.specs.Daead.{aes_siv_key}
 use Rattle.tink_proto_keys.specs.Mac.{aes_cmac_key, hmac_key}
-use Rattle.tink_key_types.specs.Manager.{message_of}
+use Rattle.tink_key_manager.specs.Manager.{message_of}
 use Rattle.tink_mac.specs.declared.mac_kind.MacKind.{MacKind}
 use Rattle.tink_mac.specs.MacKinds.{kind_computes, kind_verifies}
 use Rattle.tink_mac.specs.Rotation.{IsSound}

@@ -4,8 +4,8 @@ use Rattle.tink_io.specs.declared.error.Kind.{Kind}
 use Rattle.tink_io.specs.Told.{made_of}
 use Rattle.tink_primitives.specs.declared.primitive.Primitive.{Primitive}
 use Rattle.tink_primitives.specs.declared.primitive.Primitive.TheVariants.{StreamingAead}
-use Rattle.tink_stream_keys.specs.declared.stream_kind.StreamKind.{StreamKind}
-use Rattle.tink_stream_keys.specs.StreamKinds.{key_of}
+use Rattle.tink_streaming_keys.specs.declared.stream_kind.StreamKind.{StreamKind}
+use Rattle.tink_streaming_keys.specs.StreamKinds.{key_of}
 use Rattle.loading_model.specs.Loading.{BuiltKey, LoadingRow}
 use Rattle.loading_model.specs.Loading.BuiltKey.{Streaming, Other}
 use Rattle.tink.specs.Managers.{row_of}

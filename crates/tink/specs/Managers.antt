@@ -7,8 +7,8 @@ use Rattle.tink_primitives.specs.declared.primitive.Primitive.{Primitive}
 use Rattle.tink_primitives.specs.declared.primitive.Primitive.TheVariants.{Aead, DeterministicAead, Mac, Prf, StreamingAead}
 use Rattle.tink_primitives.specs.Meaning.{IsTold}
 use Rattle.tink_primitives.specs.Sorts.{as_aead, as_deterministic_aead, as_mac, as_prf, as_streaming_aead}
-use Rattle.tink_key_types.specs.Manager.{built_if, made_if}
-use Rattle.tink_key_types.specs.ManagerLaws.{built_if_told, made_if_told}
+use Rattle.tink_key_manager.specs.Manager.{built_if, made_if}
+use Rattle.tink_key_manager.specs.ManagerLaws.{built_if_told, made_if_told}
 use Rattle.tink_proto_keys.specs.Prf as prf_messages
 use Rattle.tink_proto_keys.specs.Mac as mac_messages
 use Rattle.tink_proto_keys.specs.Aead as aead_messages
@@ -32,9 +32,9 @@ use Rattle.tink_aead.specs.ComposedKeys as composed_keys
 use Rattle.tink_aead.specs.ComposedKeyLaws as composed_laws
 use Rattle.tink_aead_subtle.specs.KeySizes.{is_aes_key_size}
 use Rattle.loading_model.specs.Building as building
-use Rattle.tink_stream_keys.specs.declared.stream_kind.StreamKind.{StreamKind}
-use Rattle.tink_stream_keys.specs.declared.stream_kind.StreamKind.TheVariants as stream_kinds
-use Rattle.tink_stream_keys.specs.declared.stream_kind.StreamKinds.{StreamKinds}
+use Rattle.tink_streaming_keys.specs.declared.stream_kind.StreamKind.{StreamKind}
+use Rattle.tink_streaming_keys.specs.declared.stream_kind.StreamKind.TheVariants as stream_kinds
+use Rattle.tink_streaming_keys.specs.declared.stream_kind.StreamKinds.{StreamKinds}
 use Rattle.tink_streaming_aead.specs.KeyTypes as streaming_keys
 use Rattle.tink_streaming_aead.specs.KeyTypeLaws.{made_or_invalid_told}
 use Rattle.tink_daead.specs.declared.daead_kinds.DaeadKinds.{DaeadKinds}

@@ -7,8 +7,8 @@ use Rattle.wire_format.specs.Columns.{Column}
 use Rattle.tink_primitives.specs.Meaning.{IsTold, IsDrawn}
 use Rattle.tink_primitives.specs.MeaningLaws.{made_told}
 use Rattle.tink_registry.specs.Known.{IsOfKnownMaterial}
-use Rattle.tink_key_types.specs.Manager.{builds, makes, makes_data}
-use Rattle.tink_key_types.specs.ManagerLaws.{builds_told, makes_told, makes_data_told, data_known}
+use Rattle.tink_key_manager.specs.Manager.{builds, makes, makes_data}
+use Rattle.tink_key_manager.specs.ManagerLaws.{builds_told, makes_told, makes_data_told, data_known}
 
 -- a primitive of a smaller family as one of a larger one, where it is of the sort that both have
 abbrev pub widened : {P X Q : Type 0} → (P → Result X Kind) → (X → Q) → Result P Kind → Result Q Kind

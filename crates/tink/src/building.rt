@@ -3,7 +3,7 @@
 ghost use Rattle.std.specs.Prelude.{◌≡◌};
 ghost use Rattle.tink_io.specs.Told.{Answers, Replies};
 ghost use Rattle.tink_primitives.specs.Sorts.{as_aead, as_deterministic_aead, as_mac, as_prf, as_streaming_aead};
-ghost use Rattle.tink_key_types.specs.Manager.{builds, makes};
+ghost use Rattle.tink_key_manager.specs.Manager.{builds, makes};
 ghost use Rattle.tink.specs.Managers.{as_built_aead, as_built_daead, as_built_mac, as_built_prf, as_built_stream};
 ghost use Rattle.tink.specs.Rows.{widened};
 
@@ -12,7 +12,7 @@ use std::alloc::Global;
 use tink_aead::AeadKinds;
 use tink_daead::DaeadKinds;
 use tink_io::{Draws, TinkError};
-use tink_key_types::{KeyType, SymmetricKeyManager};
+use tink_key_manager::{KeyType, SymmetricKeyManager};
 use tink_mac::MacKinds;
 use tink_prf::PrfKinds;
 use tink_primitives::Primitive;

@@ -3,7 +3,7 @@
 ghost use Rattle.std.specs.Prelude.{◌≡◌, Err, false, bytes_eq, refl};
 ghost use Rattle.tink_io.specs.declared.error.Kind.TheVariants.{NoPrivateKeys};
 ghost use Rattle.tink_proto.specs.declared.enums.KeyMaterialType.TheVariants.{Symmetric};
-ghost use Rattle.tink_key_types.specs.ManagerLaws.{no_public_always, no_public_known};
+ghost use Rattle.tink_key_manager.specs.ManagerLaws.{no_public_always, no_public_known};
 ghost use Rattle.tink.specs.Managers.{row_of};
 ghost use Rattle.tink.specs.declared.managers.Managers.TheVariants as managers;
 
@@ -18,7 +18,7 @@ use tink_aead::{
 use tink_daead::subtle::AesSiv;
 use tink_daead::{AesSivKeyManager, AesSivKeys};
 use tink_io::{Draws, Kind, TinkError};
-use tink_key_types::KeyType;
+use tink_key_manager::KeyType;
 use tink_mac::{AesCmacKeyManager, AesCmacKeys, HmacKeyManager, HmacKeys, MacKind};
 use tink_prf::{
     AesCmacPrfKeyManager, AesCmacPrfKeys, HkdfPrfKeyManager, HkdfPrfKeys, HmacPrfKeyManager,

@@ -19,12 +19,12 @@ use Rattle.tink_io.specs.declared.error.TinkError.{TinkError}
 use Rattle.tink_io.specs.Told.{Answers, IsShort, Replies, Tells, made_of}
 use Rattle.tink_primitives.specs.Meaning.{IsEndOf}
 use Rattle.tink_primitives.specs.MeaningLaws.{end_trans}
-use Rattle.tink_subtle.specs.Random.{takes_bytes}
-use Rattle.tink_key_types.specs.Manager.{of_draws}
-use Rattle.tink_key_types.specs.ManagerLaws.{taken_told}
+use Rattle.tink_core_subtle.specs.Random.{takes_bytes}
+use Rattle.tink_key_manager.specs.Manager.{of_draws}
+use Rattle.tink_key_manager.specs.ManagerLaws.{taken_told}
 use Rattle.tink_proto_keys.specs.declared.mac.HmacParams.{HmacParams}
-use Rattle.tink_subtle.specs.Hashes.{hash_named}
-use Rattle.tink_key_types.specs.HashTypes.{hash_type_of}
+use Rattle.tink_core_subtle.specs.Hashes.{hash_named}
+use Rattle.tink_key_manager.specs.HashTypes.{hash_type_of}
 use Rattle.tink_mac.specs.KeyTypes.{hmac_by_params, or_invalid}
 use Rattle.tink_mac.specs.Tags.{hmac_tag, hmac_tags, is_outside, own_tag, HmacTags}
 use Rattle.tink_mac.proofs.SoundFacts.{HmacFits, hmac_fits}

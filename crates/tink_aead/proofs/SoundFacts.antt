@@ -15,7 +15,7 @@ use Rattle.tink_proto_keys.specs.declared.aead.AesGcmSivKey.{AesGcmSivKey}
 use Rattle.tink_proto_keys.specs.declared.aes_ctr_hmac.AesCtrHmacAeadKey.{AesCtrHmacAeadKey}
 use Rattle.tink_primitives.specs.declared.primitive.Primitive.{Primitive}
 use Rattle.tink_primitives.specs.declared.primitive.Primitive.TheVariants as sorts
-use Rattle.tink_key_types.specs.Manager.{built_by, built_if}
+use Rattle.tink_key_manager.specs.Manager.{built_by, built_if}
 use Rattle.tink_keysets.proofs.KeyEntries.{cond_ok, made_ok}
 use Rattle.tink_mac.specs.Tags.{HmacTags}
 use Rattle.tink_mac.proofs.SoundFacts.{HmacFits, by_message, hmac_long}

@@ -3,7 +3,7 @@ use Rattle.std.specs.Prelude.{ℕ, List, Option, Some, None, Result, Ok, Err, na
 use Rattle.tink_io.specs.declared.error.Kind.{Kind}
 use Rattle.tink_io.specs.declared.error.Kind.TheVariants.{InvalidFormat, InvalidKey}
 use Rattle.tink_io.specs.Told.{made_of}
-use Rattle.tink_subtle.specs.Random.{takes_bytes}
+use Rattle.tink_core_subtle.specs.Random.{takes_bytes}
 use Rattle.tink_primitives.specs.Meaning.{IsDrawn, IsTold}
 use Rattle.tink_primitives.specs.MeaningLaws.{drawn_if, drawn_none, end_trans, made_told, told_if}
 use Rattle.tink_proto_keys.specs.declared.aes_ctr_hmac.AesCtrHmacAeadKey.{AesCtrHmacAeadKey}
@@ -12,8 +12,8 @@ use Rattle.tink_proto_keys.specs.AesCtrHmac.{AesCtrKey}
 use Rattle.tink_proto_keys.specs.declared.aes_ctr_hmac.AesCtrKeyFormat.{AesCtrKeyFormat}
 use Rattle.tink_proto_keys.specs.declared.aes_ctr_hmac.AesCtrParams.{AesCtrParams}
 use Rattle.tink_proto_keys.specs.Mac.{HmacKeyFormat, HmacKey}
-use Rattle.tink_key_types.specs.Manager.{of_draws}
-use Rattle.tink_key_types.specs.ManagerLaws.{of_draws_told, taken_told}
+use Rattle.tink_key_manager.specs.Manager.{of_draws}
+use Rattle.tink_key_manager.specs.ManagerLaws.{of_draws_told, taken_told}
 use Rattle.tink_mac.specs.KeyTypes.{hmac_built}
 use Rattle.tink_mac.specs.KeyTypeLaws.{hmac_built_told}
 use Rattle.tink_mac.specs.Tags.{HmacTags}

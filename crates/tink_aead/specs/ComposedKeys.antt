@@ -3,7 +3,7 @@ use Rattle.std.specs.Prelude.{ℕ, List, Bool, false, ◌&&◌, Option, Some, No
 use Rattle.tink_io.specs.declared.error.Kind.{Kind}
 use Rattle.tink_io.specs.declared.error.Kind.TheVariants.{InvalidFormat, InvalidKey}
 use Rattle.tink_io.specs.Told.{made_of}
-use Rattle.tink_subtle.specs.Random.{takes_bytes}
+use Rattle.tink_core_subtle.specs.Random.{takes_bytes}
 use Rattle.tink_proto.specs.declared.enums.HashType.{HashType}
 use Rattle.tink_proto.specs.declared.enums.OutputPrefixType.TheVariants.{Tink}
 use Rattle.tink_proto.specs.declared.messages.keys.KeyTemplate.{KeyTemplate}
@@ -14,8 +14,8 @@ use Rattle.tink_proto_keys.specs.declared.aes_ctr_hmac.AesCtrKeyFormat.{AesCtrKe
 use Rattle.tink_proto_keys.specs.declared.aes_ctr_hmac.AesCtrParams.{AesCtrParams}
 use Rattle.tink_proto_keys.specs.Mac.{HmacKeyFormat, HmacKey}
 use Rattle.tink_proto_keys.specs.declared.mac.HmacParams.{HmacParams}
-use Rattle.tink_key_types.specs.Manager.{of_draws}
-use Rattle.tink_key_types.specs.Templates.{template_of}
+use Rattle.tink_key_manager.specs.Manager.{of_draws}
+use Rattle.tink_key_manager.specs.Templates.{template_of}
 use Rattle.tink_mac.specs.KeyTypes.{are_hmac_params, hmac_built, hmac_format}
 use Rattle.tink_mac.specs.Tags.{HmacTags}
 use Rattle.tink_aead_subtle.specs.KeySizes.{is_aes_key_size}

@@ -10,7 +10,7 @@ use Rattle.tink_proto.specs.declared.messages.keys.KeyTemplate.{KeyTemplate}
 use Rattle.tink_proto_keys.specs.Envelope.{kms_envelope_aead_key_format}
 use Rattle.tink_io.specs.Told.{and_then}
 use Rattle.tink_registry.specs.Listed.{registry_builds}
-use Rattle.tink_key_types.specs.Templates.{template_of}
+use Rattle.tink_key_manager.specs.Templates.{template_of}
 
 -- what follows a value, by the draws that are left, or its refusal
 abbrev pub after_answer : {A B : Type 0} → Result A Kind → List ℕ → (A → List ℕ → Result B Kind × List ℕ) → Result B Kind × List ℕ

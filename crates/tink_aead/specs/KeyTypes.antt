@@ -5,7 +5,7 @@ use Rattle.tink_proto.specs.declared.messages.keys.KeyTemplate.{KeyTemplate}
 use Rattle.tink_proto_keys.specs.Aead.{aes_gcm_key_format, aes_gcm_siv_key_format}
 use Rattle.tink_proto_keys.specs.declared.aead.AesGcmKey.{AesGcmKey}
 use Rattle.tink_proto_keys.specs.declared.aead.AesGcmSivKey.{AesGcmSivKey}
-use Rattle.tink_key_types.specs.Templates.{template_of}
+use Rattle.tink_key_manager.specs.Templates.{template_of}
 use Rattle.tink_aead_subtle.specs.KeySizes.{is_aes_key_size}
 
 -- an AES key of 16 or 32 bytes, in version 0

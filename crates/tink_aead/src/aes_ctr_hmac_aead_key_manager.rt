@@ -4,7 +4,7 @@ ghost use Rattle.std.specs.Prelude.{◌≡◌};
 ghost use Rattle.tink_io.specs.Told.{Answers, Replies, made_of};
 ghost use Rattle.tink_primitives.specs.declared.primitive.Primitive.TheVariants as sorts;
 ghost use Rattle.tink_aead.specs.declared.aead_kind.AeadKind.TheVariants as kinds;
-ghost use Rattle.tink_subtle.specs.Random.{takes_bytes};
+ghost use Rattle.tink_core_subtle.specs.Random.{takes_bytes};
 ghost use Rattle.tink_aead.specs.ComposedKeys.{are_ctr_params, composed_built, composed_made, composed_url, ctr_built};
 ghost use Rattle.tink_aead.specs.ComposedKeys.{is_composed_format, mac_built, tag_size_of, with_hmac_key};
 ghost use Rattle.tink_aead.specs.ComposedKeyLaws.{composed_built_told, composed_made_told};
@@ -16,8 +16,9 @@ use crate::subtle::{
 use crate::versioned_key::is_versioned_key;
 use crate::{AeadKind, AeadKinds};
 use std::alloc::Global;
+use tink_core_subtle::random::get_random_bytes;
 use tink_io::{Draws, Kind, TinkError};
-use tink_key_types::{KeyType, SymmetricKeyManager};
+use tink_key_manager::{KeyType, SymmetricKeyManager};
 use tink_mac::subtle::Hmac;
 use tink_mac::{are_hmac_params, hmac_by_params};
 use tink_primitives::Primitive;
@@ -25,7 +26,6 @@ use tink_proto_keys::{
     AesCtrHmacAeadKey, AesCtrHmacAeadKeyFormat, AesCtrKey, AesCtrKeyFormat, AesCtrParams, HmacKey,
     HmacKeyFormat,
 };
-use tink_subtle::random::get_random_bytes;
 
 /// The version of keys of AES in counter mode with HMAC, and of their parts.
 pub const AES_CTR_HMAC_AEAD_KEY_VERSION: u32 = 0;

@@ -1,8 +1,8 @@
 //! The keys of AES-GCM-SIV.
 
 ghost use Rattle.tink_primitives.specs.declared.primitive.Primitive.TheVariants as sorts;
-ghost use Rattle.tink_key_types.specs.Manager.{built_if, made_if};
-ghost use Rattle.tink_key_types.specs.ManagerLaws.{built_if_told, made_if_told};
+ghost use Rattle.tink_key_manager.specs.Manager.{built_if, made_if};
+ghost use Rattle.tink_key_manager.specs.ManagerLaws.{built_if_told, made_if_told};
 ghost use Rattle.tink_aead.specs.declared.aead_kind.AeadKind.TheVariants as kinds;
 ghost use Rattle.tink_aead_subtle.specs.KeySizes.{is_aes_key_size};
 ghost use Rattle.tink_aead.specs.KeyTypes.{gcm_siv_url, is_versioned_key, new_gcm_siv_key};
@@ -11,11 +11,11 @@ use crate::subtle::{AesGcmSiv, validate_aes_key_size};
 use crate::versioned_key::is_versioned_key;
 use crate::{AeadKind, AeadKinds};
 use std::alloc::Global;
+use tink_core_subtle::random::get_random_bytes;
 use tink_io::{Draws, Kind, TinkError};
-use tink_key_types::{KeyType, SymmetricKeyManager};
+use tink_key_manager::{KeyType, SymmetricKeyManager};
 use tink_primitives::Primitive;
 use tink_proto_keys::{AesGcmSivKey, AesGcmSivKeyFormat};
-use tink_subtle::random::get_random_bytes;
 
 /// The version of AES-GCM-SIV keys.
 pub const AES_GCM_SIV_KEY_VERSION: u32 = 0;

@@ -14,7 +14,7 @@ use crate::aes_gcm_siv_key_manager::{AES_GCM_SIV_KEY_VERSION, AES_GCM_SIV_TYPE_U
 use crate::kms_envelope_aead::{KMS_ENVELOPE_AEAD_TYPE_URL, same_template};
 use std::alloc::Global;
 use tink_io::TinkError;
-use tink_key_types::new_template;
+use tink_key_manager::new_template;
 use tink_proto::{HashType, KeyTemplate, OutputPrefixType, Text};
 use tink_proto_keys::{
     AesCtrHmacAeadKeyFormat, AesCtrKeyFormat, AesCtrParams, AesGcmKeyFormat, AesGcmSivKeyFormat,

@@ -16,7 +16,7 @@ use crate::{
 };
 use std::alloc::Global;
 use tink_io::TinkError;
-use tink_key_types::add_template;
+use tink_key_manager::add_template;
 use tink_proto::{KeyTemplate, Text};
 use tink_registry::{KeyManager, Registry};
 

@@ -13,7 +13,7 @@ use Rattle.tink_proto.specs.declared.messages.keys.Key.{Key}
 use Rattle.tink_primitives.specs.Sorts.{as_deterministic_aead}
 use Rattle.tink_primitives.specs.declared.primitive.Primitive.{Primitive}
 use Rattle.tink_primitives.specs.declared.primitive.Primitive.TheVariants.{DeterministicAead}
-use Rattle.tink_key_types.specs.Manager.{built_by, built_if}
+use Rattle.tink_key_manager.specs.Manager.{built_by, built_if}
 use Rattle.tink_sets.specs.Entries.{entry_of_id}
 use Rattle.tink_sets.specs.declared.entry.TypedEntry.{TypedEntry}
 use Rattle.tink_keysets.specs.Decrypting.{entry_decrypts}

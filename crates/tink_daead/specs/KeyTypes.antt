@@ -4,7 +4,7 @@ use Rattle.tink_proto.specs.declared.enums.OutputPrefixType.TheVariants.{Tink}
 use Rattle.tink_proto.specs.declared.messages.keys.KeyTemplate.{KeyTemplate}
 use Rattle.tink_proto_keys.specs.Daead.{aes_siv_key_format}
 use Rattle.tink_proto_keys.specs.declared.daead.AesSivKey.{AesSivKey}
-use Rattle.tink_key_types.specs.Templates.{template_of}
+use Rattle.tink_key_manager.specs.Templates.{template_of}
 
 abbrev pub aes_siv_url : List ℕ
 aes_siv_url = codes "type.googleapis.com/google.crypto.tink.AesSivKey"

@@ -2,18 +2,18 @@
 
 ghost use Rattle.std.specs.Prelude.{◌≡◌, length, nat_eq};
 ghost use Rattle.tink_primitives.specs.declared.primitive.Primitive.TheVariants as sorts;
-ghost use Rattle.tink_key_types.specs.Manager.{built_if, made_if};
-ghost use Rattle.tink_key_types.specs.ManagerLaws.{built_if_told, made_if_told};
+ghost use Rattle.tink_key_manager.specs.Manager.{built_if, made_if};
+ghost use Rattle.tink_key_manager.specs.ManagerLaws.{built_if_told, made_if_told};
 ghost use Rattle.tink_daead.specs.KeyTypes.{aes_siv_url, is_accepted, new_aes_siv_key};
 
 use crate::DaeadKinds;
 use crate::subtle::{AES_SIV_KEY_SIZE, AesSiv};
 use std::alloc::Global;
+use tink_core_subtle::random::get_random_bytes;
 use tink_io::{Draws, Kind, TinkError};
-use tink_key_types::{KeyType, SymmetricKeyManager};
+use tink_key_manager::{KeyType, SymmetricKeyManager};
 use tink_primitives::Primitive;
 use tink_proto_keys::{AesSivKey, AesSivKeyFormat};
-use tink_subtle::random::get_random_bytes;
 
 /// The version of AES-SIV keys.
 pub const AES_SIV_KEY_VERSION: u32 = 0;

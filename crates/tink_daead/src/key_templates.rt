@@ -7,7 +7,7 @@ ghost use Rattle.tink_daead.specs.KeyTypes.{aes_siv_template};
 use crate::aes_siv_key_manager::{AES_SIV_KEY_VERSION, AES_SIV_TYPE_URL};
 use std::alloc::Global;
 use tink_io::TinkError;
-use tink_key_types::new_template;
+use tink_key_manager::new_template;
 use tink_proto::{KeyTemplate, OutputPrefixType};
 use tink_proto_keys::AesSivKeyFormat;
 

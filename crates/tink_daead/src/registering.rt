@@ -8,7 +8,7 @@ ghost use Rattle.tink_daead.specs.Templates.{daead_templates};
 use crate::{AesSivKeyManager, aes_siv_key_template};
 use std::alloc::Global;
 use tink_io::TinkError;
-use tink_key_types::add_template;
+use tink_key_manager::add_template;
 use tink_proto::{KeyTemplate, Text};
 use tink_registry::{KeyManager, Registry};
 

@@ -17,8 +17,8 @@ use Rattle.wire_format.specs.Writing.{spelling, field, varint, varint_within}
 use Rattle.keyset_model.specs.Entries.{is_known_prefix}
 use Rattle.keyset_model.proofs.EditLaws.{both}
 use Rattle.tink_registry.specs.Listed.{manager_of}
-use Rattle.tink_key_types.specs.Manager.{made_if, makes_data, symmetric}
-use Rattle.tink_key_types.specs.Templates.{template_of}
+use Rattle.tink_key_manager.specs.Manager.{made_if, makes_data, symmetric}
+use Rattle.tink_key_manager.specs.Templates.{template_of}
 use Rattle.tink_proto_keys.specs.Prf as prf_messages
 use Rattle.tink_proto_keys.specs.Mac as mac_messages
 use Rattle.tink_proto_keys.specs.Aead as aead_messages

@@ -16,7 +16,7 @@ use Rattle.wire_format.specs.Columns.{Column}
 use Rattle.wire_format.specs.Message.{encoded}
 use Rattle.wire_format.proofs.ReadingLaws.{written_again}
 use Rattle.tink_registry.specs.Listed.{template_of, with_template, Named}
-use Rattle.tink_key_types.specs.Manager.{made_if, makes_data, message_of, symmetric}
+use Rattle.tink_key_manager.specs.Manager.{made_if, makes_data, message_of, symmetric}
 
 -- ---- templates under their names
 

@@ -20,7 +20,7 @@ use Rattle.tink_sets.specs.Converting.{before, converted}
 use Rattle.tink_sets.specs.Entries.{entry_of, entry_of_id, own_prefix, typed_by, with_primitive}
 use Rattle.tink_sets.specs.declared.entry.Entry.{Entry}
 use Rattle.tink_sets.specs.declared.entry.TypedEntry.{TypedEntry}
-use Rattle.tink_building.specs.Given as given
+use Rattle.tink_set_builder.specs.Given as given
 use Rattle.tink_keysets.specs.Built as built
 use Rattle.keyset_model.specs.Keys.{enabled}
 use Rattle.keyset_model.specs.Entries.{byte_and_id}

@@ -9,9 +9,9 @@ use Rattle.tink_proto.specs.Messages.{keyset}
 use Rattle.tink_proto.specs.declared.messages.infos.EncryptedKeyset.{EncryptedKeyset}
 use Rattle.tink_proto.specs.declared.messages.keys.Keyset.{Keyset}
 use Rattle.keyset_model.specs.Validity.{MayBeHeld}
-use Rattle.tink_keyset_parts.specs.declared.memory.MemReaderWriter.{MemReaderWriter}
+use Rattle.tink_keyset_rules.specs.declared.memory.MemReaderWriter.{MemReaderWriter}
 use Rattle.tink_keysets.specs.Encrypted.{by_master, chained, decrypted, handle_of_bytes, with_info, MasterUndoes}
-use Rattle.tink_keyset_parts.specs.Ends.{held_or, IsReadRefusal, IsWriteRefusal}
+use Rattle.tink_keyset_rules.specs.Ends.{held_or, IsReadRefusal, IsWriteRefusal}
 use Rattle.tink_keysets.specs.Handles.{handle_of}
 use Rattle.tink_keysets.specs.Through.{GivesBy, IsRefusedByWriter, IsTaken, IsUnmade, LeavesDraws}
 

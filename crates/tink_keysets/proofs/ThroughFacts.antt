@@ -9,7 +9,7 @@ use Rattle.tink_proto.specs.Outcome.{Fails}
 use Rattle.tink_proto.specs.declared.error.ProtoError.{ProtoError}
 use Rattle.tink_proto.specs.declared.error.ProtoError.TheVariants.{BadMessage, BadJson, OutOfMemory}
 use Rattle.tink_keysets.specs.Encrypted.{by_master, chained}
-use Rattle.tink_keyset_parts.specs.Ends.{HasWritten, IsAsTold, IsReadRefusal}
+use Rattle.tink_keyset_rules.specs.Ends.{HasWritten, IsAsTold, IsReadRefusal}
 use Rattle.tink_keysets.specs.Through.{GivesBy, IsUnmade, LeavesDraws, MakesAndWrites}
 
 -- an answer by what was read

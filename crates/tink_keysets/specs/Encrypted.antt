@@ -9,7 +9,7 @@ use Rattle.tink_proto.specs.declared.messages.infos.EncryptedKeyset.{EncryptedKe
 use Rattle.tink_proto.specs.declared.messages.keys.Keyset.{Keyset}
 use Rattle.keyset_model.specs.Secrets.{keyset_info}
 use Rattle.tink_keysets.specs.Handles.{handle_of}
-pub use Rattle.tink_keyset_parts.specs.Masters.{by_master, drawn_by_master, master_kind}
+pub use Rattle.tink_keyset_rules.specs.Masters.{by_master, drawn_by_master, master_kind}
 
 -- what is made of a value, or its refusal
 abbrev pub chained : {S T : Type 0} → (S → Result T Kind) → Result S Kind → Result T Kind

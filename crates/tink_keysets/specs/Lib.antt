@@ -6,6 +6,6 @@ pub mod Through
 pub mod Told
 pub mod Valid
 pub use Rattle.tink_asking.specs.Accepting
-pub use Rattle.tink_keyset_parts.specs.Ends
+pub use Rattle.tink_keyset_rules.specs.Ends
 pub mod Decrypting
 pub mod Typing

@@ -4,10 +4,10 @@ use Rattle.tink_io.specs.declared.error.Kind.{Kind}
 use Rattle.tink_proto.specs.declared.messages.keys.Key.{Key}
 use Rattle.tink_proto.specs.declared.messages.keys.KeyData.{KeyData}
 use Rattle.tink_proto.specs.declared.messages.keys.Keyset.{Keyset}
-use Rattle.tink_building.specs.Given.{given_each}
-use Rattle.tink_building.specs.PublicParts.{with_data}
-pub use Rattle.tink_building.specs.PublicParts.{public_data}
-pub use Rattle.tink_keyset_parts.specs.Managed.{data_by, added_by, IsAdded}
+use Rattle.tink_set_builder.specs.Given.{given_each}
+use Rattle.tink_set_builder.specs.PublicParts.{with_data}
+pub use Rattle.tink_set_builder.specs.PublicParts.{public_data}
+pub use Rattle.tink_keyset_rules.specs.Managed.{data_by, added_by, IsAdded}
 
 -- a keyset without keys
 abbrev pub no_keys : Keyset

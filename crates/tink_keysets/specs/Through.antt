@@ -4,7 +4,7 @@ use Rattle.tink_io.specs.Told.{IsShort}
 use Rattle.tink_io.specs.declared.error.Kind.{Kind}
 use Rattle.tink_io.specs.declared.error.Kind.TheVariants.{OutOfMemory}
 use Rattle.tink_io.specs.declared.error.TinkError.{TinkError}
-use Rattle.tink_keyset_parts.specs.Ends.{IsAsTold, IsReadRefusal, IsWriteRefusal}
+use Rattle.tink_keyset_rules.specs.Ends.{IsAsTold, IsReadRefusal, IsWriteRefusal}
 
 -- What was read gives the answer. Where it is told what is read, it is that.
 pub record IsFrom {S T : Type 0} (makes : S → Result T Kind) (told : Option (Result S Kind)) (answer : Result T Kind) : Type 0 where

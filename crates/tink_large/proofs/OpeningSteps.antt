@@ -8,7 +8,7 @@ use Rattle.stream_model.specs.Cut.{cut, room_at}
 use Rattle.stream_model.proofs.CutFacts.{cut_none, cut_some}
 use Rattle.tink_io.specs.declared.error.Kind.{Kind}
 use Rattle.tink_io.specs.declared.error.Kind.TheVariants.{ReadFault, TooManySegments, BadSegment, Truncated}
-use Rattle.tink_streams.specs.Reading.{ReaderMoment, OpensNext, OpenNextRefused, NothingComes, TellsLeads}
+use Rattle.tink_streaming_io.specs.Reading.{ReaderMoment, OpensNext, OpenNextRefused, NothingComes, TellsLeads}
 use Rattle.tink_large.specs.Opening.{Remains}
 use Rattle.tink_large.proofs.SealedSteps.{IsLonger}
 

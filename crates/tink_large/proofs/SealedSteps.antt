@@ -10,16 +10,16 @@ use Rattle.tink_io.specs.Written.{AppendsPrefix}
 use Rattle.tink_io.specs.declared.error.Kind.{Kind}
 use Rattle.tink_io.specs.declared.error.Kind.TheVariants.{WriteFault, TooManySegments, FailedBefore}
 use Rattle.tink_io.specs.declared.error.Kind.TheVariants as kind
-use Rattle.tink_segment_traits.specs.declared.segment_traits.SegmentEncrypter.{Ghosts}
-use Rattle.tink_streams.specs.Sealers.{held_text, segment_map}
-use Rattle.tink_segment_traits.specs.declared.sealer.Sealer.{Sealer}
-use Rattle.tink_streams.specs.declared.writing.SegmentWriter.{SegmentWriter}
-use Rattle.tink_streams.specs.declared.writing.Mode.TheVariants.{Open, Closed}
-use Rattle.tink_streams.specs.Writing.{WriterMoment, filled, Wrote, WriteRefused, CloseRefused, ClosedBy}
-use Rattle.tink_streams.proofs.WritingFacts.{stops_prefix}
-use Rattle.tink_streams.proofs.ReadingFacts.{numbered_longer}
-use Rattle.tink_segments.specs.StreamSegments.{length-segment_by, overhead_by, segment_by}
-use Rattle.tink_segments.specs.declared.stream_segment.StreamSegment.{StreamSegment}
+use Rattle.tink_streaming_segment.specs.declared.segment_traits.SegmentEncrypter.{Ghosts}
+use Rattle.tink_streaming_io.specs.Sealers.{held_text, segment_map}
+use Rattle.tink_streaming_segment.specs.declared.sealer.Sealer.{Sealer}
+use Rattle.tink_streaming_io.specs.declared.writing.SegmentWriter.{SegmentWriter}
+use Rattle.tink_streaming_io.specs.declared.writing.Mode.TheVariants.{Open, Closed}
+use Rattle.tink_streaming_io.specs.Writing.{WriterMoment, filled, Wrote, WriteRefused, CloseRefused, ClosedBy}
+use Rattle.tink_streaming_io.proofs.WritingFacts.{stops_prefix}
+use Rattle.tink_streaming_io.proofs.ReadingFacts.{numbered_longer}
+use Rattle.tink_streaming_ciphers.specs.StreamSegments.{length-segment_by, overhead_by, segment_by}
+use Rattle.tink_streaming_ciphers.specs.declared.stream_segment.StreamSegment.{StreamSegment}
 use Rattle.tink_large.specs.Coming.{come_of, comes, left_of, pending_bytes, to_come}
 use Rattle.tink_large.specs.Large.{text_from, text_length}
 use Rattle.tink_large.specs.declared.pending.Pending.{Pending}

@@ -14,13 +14,13 @@ use Rattle.stream_model.proofs.SealingFacts.{length-chunks}
 use Rattle.tink_io.specs.declared.error.Kind.{Kind}
 use Rattle.tink_io.specs.declared.error.Kind.TheVariants.{OutOfMemory, RandomFault, UnknownHash, UnsupportedHash, WriteFault, NoMatchingKey, ReadFault}
 use Rattle.tink_io.specs.declared.error.TinkError.{TinkError}
-use Rattle.tink_segment_traits.specs.declared.segment_traits.SegmentEncrypter.{Ghosts}
-use Rattle.tink_stream_keys.specs.Encrypting.{IsNewStream, NewWriterRefused}
+use Rattle.tink_streaming_segment.specs.declared.segment_traits.SegmentEncrypter.{Ghosts}
+use Rattle.tink_streaming_keys.specs.Encrypting.{IsNewStream, NewWriterRefused}
 use Rattle.tink_streaming_aead.proofs.SealedFacts.{chosen_stream, joined_text, sealed_stream}
 use Rattle.tink_streaming_aead.proofs.StreamLaws.{stream_is}
-use Rattle.tink_streams.specs.Choosing.{IsOpenerOf, Started, StartRefused}
-use Rattle.tink_streams.specs.Sealers.{held_text, segment_map}
-use Rattle.tink_streams.specs.declared.writing.SegmentWriter.{SegmentWriter}
+use Rattle.tink_streaming_io.specs.Choosing.{IsOpenerOf, Started, StartRefused}
+use Rattle.tink_streaming_io.specs.Sealers.{held_text, segment_map}
+use Rattle.tink_streaming_io.specs.declared.writing.SegmentWriter.{SegmentWriter}
 use Rattle.tink_large.specs.Coming.{come_of, comes, left_of, to_come}
 use Rattle.tink_large.specs.Large.{MeasureRefused, large_key, large_stream, large_text, text_from, text_length}
 use Rattle.tink_large.specs.Opening.{AllRemains, IsBegun, IsLargeStream, Remains}

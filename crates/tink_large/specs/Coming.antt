@@ -1,11 +1,11 @@
 -- What is still to come of a stream while its text is sealed.
 use Rattle.std.specs.Prelude.{◌≡◌, ◌<◌, ℕ, ◌+◌, ◌-◌, Bool, true, List, [], ◌++◌, length, drop}
 use Rattle.stream_model.specs.Cut.{full_chunks, open_chunk, room_at, unmarked}
-use Rattle.tink_segment_traits.specs.declared.segment_traits.SegmentEncrypter.{Ghosts}
-use Rattle.tink_streams.specs.Sealers.{held_text, segment_map}
-use Rattle.tink_streams.specs.declared.writing.Mode.{Mode}
-use Rattle.tink_streams.specs.declared.writing.Mode.TheVariants.{Open, Closed, Failed}
-use Rattle.tink_streams.specs.declared.writing.SegmentWriter.{SegmentWriter}
+use Rattle.tink_streaming_segment.specs.declared.segment_traits.SegmentEncrypter.{Ghosts}
+use Rattle.tink_streaming_io.specs.Sealers.{held_text, segment_map}
+use Rattle.tink_streaming_io.specs.declared.writing.Mode.{Mode}
+use Rattle.tink_streaming_io.specs.declared.writing.Mode.TheVariants.{Open, Closed, Failed}
+use Rattle.tink_streaming_io.specs.declared.writing.SegmentWriter.{SegmentWriter}
 use Rattle.tink_large.specs.Large.{text_from, text_length}
 use Rattle.tink_large.specs.declared.pending.Pending.{Pending}
 

@@ -5,10 +5,10 @@ use Rattle.stream_model.specs.Agree.{AreTexts, joined}
 use Rattle.stream_model.specs.Cut.{cut, room_at}
 use Rattle.stream_model.specs.Key.{first_room, overhead, room}
 use Rattle.stream_model.specs.Sealing.{chunk_count, drawn}
-use Rattle.tink_segment_traits.specs.declared.segment_traits.SegmentEncrypter.{Ghosts}
-use Rattle.tink_streams.specs.Sealers.{held_text}
-use Rattle.tink_streams.specs.declared.writing.SegmentWriter.{SegmentWriter}
-use Rattle.tink_stream_keys.specs.declared.starting.Trial.{Trial}
+use Rattle.tink_streaming_segment.specs.declared.segment_traits.SegmentEncrypter.{Ghosts}
+use Rattle.tink_streaming_io.specs.Sealers.{held_text}
+use Rattle.tink_streaming_io.specs.declared.writing.SegmentWriter.{SegmentWriter}
+use Rattle.tink_streaming_keys.specs.declared.starting.Trial.{Trial}
 use Rattle.tink_large.specs.Coming.{left_of}
 use Rattle.tink_large.specs.Large.{large_key, large_stream, large_text}
 use Rattle.tink_large.specs.declared.pending.Pending.{Pending}

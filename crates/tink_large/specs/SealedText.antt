@@ -1,8 +1,8 @@
 -- The stream of a text that is made while it is read.
 use Rattle.std.specs.Prelude.{◌≡◌, ℕ, ◌+◌, ◌-◌, List, ◌++◌, length}
 use Rattle.sha2.specs.Hashers.{Holds256}
-use Rattle.tink_streams.specs.declared.writing.Mode.{Mode}
-use Rattle.tink_streams.specs.declared.writing.Mode.TheVariants.{Open, Closed, Failed}
+use Rattle.tink_streaming_io.specs.declared.writing.Mode.{Mode}
+use Rattle.tink_streaming_io.specs.declared.writing.Mode.TheVariants.{Open, Closed, Failed}
 use Rattle.tink_large.specs.Coming.{left_of}
 use Rattle.tink_large.specs.Large.{text_length}
 use Rattle.tink_large.specs.declared.sealed_text.SealedText.{SealedText}

@@ -8,8 +8,8 @@ use crate::pending::Pending;
 use crate::sealed_text::{PIECE, SealedText};
 use std::alloc::Global;
 use tink_io::{Draws, TinkError};
-use tink_segments::AES_CTR_HMAC_NONCE_SIZE_IN_BYTES;
-use tink_stream_keys::Trial;
+use tink_streaming_ciphers::AES_CTR_HMAC_NONCE_SIZE_IN_BYTES;
+use tink_streaming_keys::Trial;
 
 /// What a large text and its stream are.
 #[derive(Drop)]

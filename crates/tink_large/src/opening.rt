@@ -3,8 +3,8 @@
 ghost use Rattle.std.specs.Prelude.{◌≡◌, ◌≤◌, ◌<◌, ◌^◌, [], Some, length, IfOk, IfErr, vec_len, vec_capacity};
 ghost use Rattle.stream_model.specs.Sealing.{chunk_count};
 ghost use Rattle.tink_io.specs.declared.error.Kind.TheVariants.{OutOfMemory};
-ghost use Rattle.tink_streams.specs.Openers.{reader_rest, segment_map};
-ghost use Rattle.tink_streams.specs.declared.progress.Progress.TheVariants.{Running};
+ghost use Rattle.tink_streaming_io.specs.Openers.{reader_rest, segment_map};
+ghost use Rattle.tink_streaming_io.specs.declared.progress.Progress.TheVariants.{Running};
 ghost use Rattle.tink_large.specs.Large.{MeasureRefused, large_key, large_text};
 ghost use Rattle.tink_large.specs.Opening.{AllRemains, HasLargeRoom, IsBegun, IsLargeStream};
 ghost use Rattle.tink_large.specs.SealedText.{Passed, stream_left};
@@ -14,9 +14,9 @@ use crate::sealed_text::SealedText;
 use std::alloc::Global;
 use tink_io::{Draws, TinkError};
 use tink_proto::HashType;
-use tink_segments::StreamSegment;
-use tink_stream_keys::{AesCtrHmac, Trial, begin_stream, start};
-use tink_streams::{Progress, SegmentReader, SegmentWriter};
+use tink_streaming_ciphers::StreamSegment;
+use tink_streaming_io::{Progress, SegmentReader, SegmentWriter};
+use tink_streaming_keys::{AesCtrHmac, Trial, begin_stream, start};
 
 /// The bytes of a segment of ciphertext.
 pub const SEGMENT_SIZE: u32 = 4096;

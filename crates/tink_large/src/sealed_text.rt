@@ -1,8 +1,8 @@
 //! The stream of a large text, made while it is read.
 
 ghost use Rattle.std.specs.Prelude.{◌≡◌, ◌≤◌, ◌<◌, ◌+◌, ◌*◌, ◌-◌, ◌^◌, ◌++◌, ℕ, List, [], true, false, Some, length, vec_capacity};
-ghost use Rattle.tink_streams.specs.Sealers.{held_text};
-ghost use Rattle.tink_streams.specs.declared.writing.Mode.TheVariants.{Open, Closed};
+ghost use Rattle.tink_streaming_io.specs.Sealers.{held_text};
+ghost use Rattle.tink_streaming_io.specs.declared.writing.Mode.TheVariants.{Open, Closed};
 ghost use Rattle.tink_large.specs.Coming.{KeepsPlace, TakesSegment, comes, left_of, pending_bytes};
 ghost use Rattle.tink_large.specs.Large.{text_from, text_length};
 
@@ -11,8 +11,8 @@ use crate::pending::Pending;
 use crate::text::{fill_piece, text_length};
 use sha2::{Digest, Sha256};
 use tink_io::{Failed, Source};
-use tink_segments::StreamSegment;
-use tink_streams::{Mode, SegmentWriter};
+use tink_streaming_ciphers::StreamSegment;
+use tink_streaming_io::{Mode, SegmentWriter};
 
 /// The bytes of the text that are sealed at once.
 pub const PIECE: usize = 2048;

@@ -20,7 +20,7 @@ use Rattle.tink_proto_keys.specs.Mac.{HmacKey}
 use Rattle.tink_proto_keys.specs.declared.mac.HmacParams.{HmacParams}
 use Rattle.tink_proto_keys.specs.declared.mac.AesCmacKey.{AesCmacKey}
 use Rattle.tink_proto_keys.specs.declared.mac.AesCmacParams.{AesCmacParams}
-use Rattle.tink_key_types.specs.Manager.{built_by}
+use Rattle.tink_key_manager.specs.Manager.{built_by}
 use Rattle.tink_keysets.proofs.KeyEntries.{cond_ok, made_ok}
 use Rattle.tink_prf_subtle.specs.AesCmac.{cmac_of}
 use Rattle.tink_mac.specs.KeyTypes.{cmac_built, cmac_by_params, hmac_built, hmac_by_params, or_invalid}

@@ -9,8 +9,8 @@ use Rattle.tink_proto_keys.specs.Mac.{HmacKey}
 use Rattle.tink_proto_keys.specs.declared.mac.HmacParams.{HmacParams}
 use Rattle.tink_proto_keys.specs.declared.mac.AesCmacKey.{AesCmacKey}
 use Rattle.tink_proto_keys.specs.declared.mac.AesCmacParams.{AesCmacParams}
-use Rattle.tink_subtle.specs.Hashes.{hash_named}
-use Rattle.tink_key_types.specs.HashTypes.{hash_type_of}
+use Rattle.tink_core_subtle.specs.Hashes.{hash_named}
+use Rattle.tink_key_manager.specs.HashTypes.{hash_type_of}
 use Rattle.tink_mac.specs.KeyTypes.{cmac_built, cmac_by_params, hmac_built, hmac_by_params, or_invalid}
 use Rattle.tink_mac.specs.Tags.{cmac_params, hmac_tags, CmacTags, HmacTags}
 

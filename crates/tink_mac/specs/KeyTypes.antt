@@ -11,9 +11,9 @@ use Rattle.tink_proto_keys.specs.declared.mac.HmacParams.{HmacParams}
 use Rattle.tink_proto_keys.specs.declared.mac.AesCmacKey.{AesCmacKey}
 use Rattle.tink_proto_keys.specs.declared.mac.AesCmacKeyFormat.{AesCmacKeyFormat}
 use Rattle.tink_proto_keys.specs.declared.mac.AesCmacParams.{AesCmacParams}
-use Rattle.tink_subtle.specs.Hashes.{hash_named}
-use Rattle.tink_key_types.specs.Templates.{template_of}
-use Rattle.tink_key_types.specs.HashTypes.{hash_type_of}
+use Rattle.tink_core_subtle.specs.Hashes.{hash_named}
+use Rattle.tink_key_manager.specs.Templates.{template_of}
+use Rattle.tink_key_manager.specs.HashTypes.{hash_type_of}
 use Rattle.tink_mac.specs.Tags.{cmac_params, hmac_params, hmac_tags, CmacTags, HmacTags}
 
 -- a value, or `InvalidKey` for every refusal

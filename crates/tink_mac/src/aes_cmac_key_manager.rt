@@ -3,8 +3,8 @@
 ghost use Rattle.std.specs.Prelude.{◌≡◌};
 ghost use Rattle.tink_io.specs.Told.{Answers, made_of};
 ghost use Rattle.tink_primitives.specs.declared.primitive.Primitive.TheVariants as sorts;
-ghost use Rattle.tink_key_types.specs.Manager.{made_if};
-ghost use Rattle.tink_key_types.specs.ManagerLaws.{made_if_told};
+ghost use Rattle.tink_key_manager.specs.Manager.{made_if};
+ghost use Rattle.tink_key_manager.specs.ManagerLaws.{made_if_told};
 ghost use Rattle.tink_mac.specs.declared.mac_kind.MacKind.TheVariants as kinds;
 ghost use Rattle.tink_mac.specs.KeyTypes.{are_cmac_params, cmac_built, cmac_by_params, cmac_url, new_cmac_key};
 ghost use Rattle.tink_mac.specs.KeyTypeLaws.{cmac_built_told};
@@ -12,11 +12,11 @@ ghost use Rattle.tink_mac.specs.KeyTypeLaws.{cmac_built_told};
 use crate::subtle::{AesCmac, validate_cmac_params};
 use crate::{MacKind, MacKinds};
 use std::alloc::Global;
+use tink_core_subtle::random::get_random_bytes;
 use tink_io::{Draws, Kind, TinkError};
-use tink_key_types::{KeyType, SymmetricKeyManager};
+use tink_key_manager::{KeyType, SymmetricKeyManager};
 use tink_primitives::Primitive;
 use tink_proto_keys::{AesCmacKey, AesCmacKeyFormat, AesCmacParams};
-use tink_subtle::random::get_random_bytes;
 
 /// The version of AES-CMAC keys.
 pub const CMAC_KEY_VERSION: u32 = 0;

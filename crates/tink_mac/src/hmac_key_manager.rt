@@ -4,8 +4,8 @@ ghost use Rattle.std.specs.Prelude.{◌≡◌};
 ghost use Rattle.tink_io.specs.Told.{Answers, made_of};
 ghost use Rattle.tink_io.specs.declared.error.Kind.TheVariants.{InvalidKey, OutOfMemory};
 ghost use Rattle.tink_primitives.specs.declared.primitive.Primitive.TheVariants as sorts;
-ghost use Rattle.tink_key_types.specs.Manager.{made_if};
-ghost use Rattle.tink_key_types.specs.ManagerLaws.{made_if_told};
+ghost use Rattle.tink_key_manager.specs.Manager.{made_if};
+ghost use Rattle.tink_key_manager.specs.ManagerLaws.{made_if_told};
 ghost use Rattle.tink_mac.specs.declared.mac_kind.MacKind.TheVariants as kinds;
 ghost use Rattle.tink_mac.specs.KeyTypes.{are_hmac_params, hmac_built, hmac_by_params, hmac_url, new_hmac_key};
 ghost use Rattle.tink_mac.specs.KeyTypeLaws.{hmac_built_told};
@@ -13,11 +13,11 @@ ghost use Rattle.tink_mac.specs.KeyTypeLaws.{hmac_built_told};
 use crate::subtle::{Hmac, validate_hmac_params};
 use crate::{MacKind, MacKinds};
 use std::alloc::Global;
+use tink_core_subtle::random::get_random_bytes;
 use tink_io::{Draws, Kind, TinkError};
-use tink_key_types::{KeyType, SymmetricKeyManager, hash_type_of};
+use tink_key_manager::{KeyType, SymmetricKeyManager, hash_type_of};
 use tink_primitives::Primitive;
 use tink_proto_keys::{HmacKey, HmacKeyFormat, HmacParams};
-use tink_subtle::random::get_random_bytes;
 
 /// The version of HMAC keys.
 pub const HMAC_KEY_VERSION: u32 = 0;

@@ -8,7 +8,7 @@ ghost use Rattle.tink_mac.specs.KeyTypes.{cmac_template, hmac_template};
 use crate::{CMAC_TYPE_URL, HMAC_KEY_VERSION, HMAC_TYPE_URL};
 use std::alloc::Global;
 use tink_io::TinkError;
-use tink_key_types::new_template;
+use tink_key_manager::new_template;
 use tink_proto::{HashType, KeyTemplate, OutputPrefixType};
 use tink_proto_keys::{AesCmacKeyFormat, AesCmacParams, HmacKeyFormat, HmacParams};
 

@@ -8,8 +8,8 @@ mod hmac;
 
 pub use aes_cmac::{AesCmac, validate_cmac_params};
 pub use hmac::{Hmac, validate_hmac_params};
+use tink_core_subtle::constant_time_compare;
 use tink_io::{Kind, TinkError};
-use tink_subtle::constant_time_compare;
 
 // Ok where a tag is the message's own, and else `MacMismatch`.
 fn compare_tags(own: &[u8], tag: &[u8]) -> Result<(), TinkError>

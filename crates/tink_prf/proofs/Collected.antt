@@ -7,7 +7,7 @@ use Rattle.std.proofs.lemmas.Map.{update_all_push}
 use Rattle.tink_io.specs.declared.error.Kind.{Kind}
 use Rattle.tink_io.specs.Told.{made_of}
 use Rattle.tink_sets.specs.Converting.{before}
-use Rattle.tink_groups.proofs.Converted.{none_before, one_more}
+use Rattle.tink_set_groups.proofs.Converted.{none_before, one_more}
 
 -- `rest` is known of what is left, and the map has those before it
 pub record IsCollected {P : Type 0} (all rest : Result (List (ℕ × P)) Kind) (m : BTreeMap ℕ P) : Type 0 where

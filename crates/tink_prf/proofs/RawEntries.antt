@@ -10,7 +10,7 @@ use Rattle.std.proofs.lemmas.Map.Text.{is_eq-slice_cmp}
 use Rattle.std.proofs.lemmas.Bool.{cases_Bool, cond-false, false≢true}
 use Rattle.std.proofs.lemmas.List.Elements.{All-head, All-tail}
 use Rattle.tink_sets.specs.Groups.{group_at, group_of, AreGroupsOf}
-use Rattle.tink_groups.proofs.ConvertingFacts.{Pairs, left_at}
+use Rattle.tink_set_groups.proofs.ConvertingFacts.{Pairs, left_at}
 use Rattle.tink_prf.specs.Sets.{IsFilled}
 
 -- ---- lists

@@ -11,8 +11,8 @@ use Rattle.tink_proto_keys.specs.Prf.{HmacPrfKey}
 use Rattle.tink_proto_keys.specs.declared.prf.HkdfPrfParams.{HkdfPrfParams}
 use Rattle.tink_proto_keys.specs.declared.prf.HkdfPrfKey.{HkdfPrfKey}
 use Rattle.tink_proto_keys.specs.declared.prf.AesCmacPrfKey.{AesCmacPrfKey}
-use Rattle.tink_subtle.specs.Hashes.{hash_named}
-use Rattle.tink_key_types.specs.HashTypes.{hash_type_of}
+use Rattle.tink_core_subtle.specs.Hashes.{hash_named}
+use Rattle.tink_key_manager.specs.HashTypes.{hash_type_of}
 use Rattle.tink_prf_subtle.specs.Hmac.{HmacKey, hmac_params}
 use Rattle.tink_prf_subtle.specs.Hkdf.{HkdfKey, hkdf_params}
 

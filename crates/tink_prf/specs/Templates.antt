@@ -6,7 +6,7 @@ use Rattle.tink_proto.specs.declared.enums.OutputPrefixType.TheVariants.{Raw}
 use Rattle.tink_proto.specs.declared.messages.keys.KeyTemplate.{KeyTemplate}
 use Rattle.tink_proto.specs.Enums.{hash_number}
 use Rattle.tink_proto_keys.specs.Prf.{aes_cmac_prf_key_format, hkdf_prf_key_format, hmac_prf_key_format}
-use Rattle.tink_key_types.specs.Templates.{template_of}
+use Rattle.tink_key_manager.specs.Templates.{template_of}
 use Rattle.tink_prf.specs.KeyTypes.{aes_cmac_prf_url, hkdf_prf_url, hmac_prf_url}
 
 -- HMAC keys of n bytes

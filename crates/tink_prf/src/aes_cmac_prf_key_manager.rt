@@ -2,19 +2,19 @@
 
 ghost use Rattle.std.specs.Prelude.{length, nat_eq};
 ghost use Rattle.tink_primitives.specs.declared.primitive.Primitive.TheVariants as sorts;
-ghost use Rattle.tink_key_types.specs.Manager.{made_if};
-ghost use Rattle.tink_key_types.specs.ManagerLaws.{made_if_told};
+ghost use Rattle.tink_key_manager.specs.Manager.{made_if};
+ghost use Rattle.tink_key_manager.specs.ManagerLaws.{made_if_told};
 ghost use Rattle.tink_prf.specs.KeyTypes.{aes_cmac_prf_key_of, aes_cmac_prf_url, built_of, built_of_told, new_aes_cmac_prf_key};
 ghost use Rattle.tink_prf.specs.declared.prf_kind.PrfKind.TheVariants as kinds;
 
 use crate::subtle::{AesCmacPrf, validate_aes_cmac_prf_params};
 use crate::{PrfKind, PrfKinds};
 use std::alloc::Global;
+use tink_core_subtle::random::get_random_bytes;
 use tink_io::{Draws, Kind, TinkError};
-use tink_key_types::{KeyType, SymmetricKeyManager};
+use tink_key_manager::{KeyType, SymmetricKeyManager};
 use tink_primitives::Primitive;
 use tink_proto_keys::{AesCmacPrfKey, AesCmacPrfKeyFormat};
-use tink_subtle::random::get_random_bytes;
 
 /// The version of AES-CMAC keys for a pseudorandom function.
 pub const AES_CMAC_PRF_KEY_VERSION: u32 = 0;

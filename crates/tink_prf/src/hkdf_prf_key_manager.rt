@@ -2,20 +2,20 @@
 
 ghost use Rattle.std.specs.Prelude.{is_some};
 ghost use Rattle.tink_primitives.specs.declared.primitive.Primitive.TheVariants as sorts;
-ghost use Rattle.tink_key_types.specs.Manager.{made_if};
-ghost use Rattle.tink_key_types.specs.ManagerLaws.{made_if_told};
+ghost use Rattle.tink_key_manager.specs.Manager.{made_if};
+ghost use Rattle.tink_key_manager.specs.ManagerLaws.{made_if_told};
 ghost use Rattle.tink_prf.specs.KeyTypes.{built_of, built_of_told, hkdf_prf_hash, hkdf_prf_key_of, hkdf_prf_url, new_hkdf_prf_key, IsTypeOf};
 ghost use Rattle.tink_prf.specs.declared.prf_kind.PrfKind.TheVariants as kinds;
 
 use crate::subtle::{HkdfPrf, validate_hkdf_prf_params};
 use crate::{PrfKind, PrfKinds};
 use std::alloc::Global;
+use tink_core_subtle::random::get_random_bytes;
 use tink_io::{Draws, Kind, TinkError};
-use tink_key_types::{KeyType, SymmetricKeyManager, hash_type_of};
+use tink_key_manager::{KeyType, SymmetricKeyManager, hash_type_of};
 use tink_primitives::Primitive;
 use tink_proto::HashType;
 use tink_proto_keys::{HkdfPrfKey, HkdfPrfKeyFormat, HkdfPrfParams};
-use tink_subtle::random::get_random_bytes;
 
 /// The version of HKDF keys for a pseudorandom function.
 pub const HKDF_PRF_KEY_VERSION: u32 = 0;

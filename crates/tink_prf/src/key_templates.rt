@@ -11,7 +11,7 @@ use crate::{
 };
 use std::alloc::Global;
 use tink_io::TinkError;
-use tink_key_types::new_template;
+use tink_key_manager::new_template;
 use tink_proto::{Bytes, HashType, KeyTemplate, OutputPrefixType};
 use tink_proto_keys::{
     AesCmacPrfKeyFormat, HkdfPrfKeyFormat, HkdfPrfParams, HmacPrfKeyFormat, HmacPrfParams,

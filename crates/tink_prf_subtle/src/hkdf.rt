@@ -1,17 +1,17 @@
 //! A pseudorandom function by HKDF (RFC 5869).
 
 ghost use Rattle.std.specs.Prelude.{◌≡◌};
-ghost use Rattle.tink_subtle.specs.Hashes.{hash_named};
+ghost use Rattle.tink_core_subtle.specs.Hashes.{hash_named};
 ghost use Rattle.tink_io.specs.Told.{Answers, Tells};
 ghost use Rattle.tink_prf_subtle.specs.Hkdf.{hkdf_key, hkdf_output, hkdf_output_told, hkdf_params};
 
 use hash_keys::{Hash, hkdf_into};
 use std::alloc::Global;
 use std::marker::Model;
+use tink_core_subtle::get_hash_func;
 use tink_io::{Kind, TinkError};
 use tink_primitives::{CloneIn, Prf};
 use tink_proto::{Bytes, HashType};
-use tink_subtle::get_hash_func;
 
 // Larger than the least size of other keys: a pseudorandom function may have many users.
 const MIN_HKDF_KEY_SIZE_IN_BYTES: usize = 32;

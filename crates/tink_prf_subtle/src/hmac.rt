@@ -1,17 +1,17 @@
 //! A pseudorandom function by HMAC (FIPS 198-1).
 
 ghost use Rattle.std.specs.Prelude.{◌≡◌};
-ghost use Rattle.tink_subtle.specs.Hashes.{hash_named};
+ghost use Rattle.tink_core_subtle.specs.Hashes.{hash_named};
 ghost use Rattle.tink_io.specs.Told.{Answers, Tells};
 ghost use Rattle.tink_prf_subtle.specs.Hmac.{hmac_key, hmac_output, hmac_output_told, hmac_params};
 
 use hash_keys::{Hash, HmacKey};
 use std::alloc::Global;
 use std::marker::Model;
+use tink_core_subtle::get_hash_func;
 use tink_io::{Kind, TinkError};
 use tink_primitives::{CloneIn, Prf};
 use tink_proto::{Bytes, HashType};
-use tink_subtle::get_hash_func;
 
 const MIN_HMAC_KEY_SIZE_IN_BYTES: usize = 16;
 

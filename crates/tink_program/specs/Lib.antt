@@ -1,2 +1,2 @@
-pub use Rattle.tink_program_commands.specs.Program
-pub use Rattle.tink_program_commands.specs.Words
+pub use Rattle.tink_program_core.specs.Program
+pub use Rattle.tink_program_core.specs.Words

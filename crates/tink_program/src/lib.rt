@@ -3,4 +3,4 @@
 
 pub mod program;
 
-pub use tink_program_commands::number_of;
+pub use tink_program_core::number_of;

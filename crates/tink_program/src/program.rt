@@ -1,13 +1,13 @@
 //! All that the program does, over any source and any sinks.
 
 ghost use Rattle.std.specs.Prelude.{◌≡◌};
-ghost use Rattle.tink_program_commands.specs.Program.{KeepsEnds, LeavesSource, OutcomeMeans, ProgramMeans, Promised, StatusMeans, outside_of, status_of};
-ghost use Rattle.tink_words.specs.Forms.{words_of};
+ghost use Rattle.tink_program_core.specs.Program.{KeepsEnds, LeavesSource, OutcomeMeans, ProgramMeans, Promised, StatusMeans, outside_of, status_of};
+ghost use Rattle.tink_cli_words.specs.Forms.{words_of};
 
 use std::alloc::Global;
 use tink_io::{Sink, Source};
-use tink_program_commands::{done, parse};
-pub use tink_program_commands::{Outcome, status, tell};
+use tink_program_core::{done, parse};
+pub use tink_program_core::{Outcome, status, tell};
 
 /// Does what the words say, from `source` to `sink`, and answers the status:
 ///

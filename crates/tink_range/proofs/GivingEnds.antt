@@ -10,9 +10,9 @@ use Rattle.tink_io.proofs.WrittenLemmas.{then_prefix}
 use Rattle.tink_io.specs.declared.error.TinkError.{TinkError}
 use Rattle.tink_io.specs.declared.error.Kind.{Kind}
 use Rattle.tink_io.specs.declared.error.Kind.TheVariants.{BadSegment, ReadFault, WriteFault}
-use Rattle.tink_segment_traits.specs.declared.segment_traits.SegmentDecrypter.{Ghosts}
-use Rattle.tink_streams.specs.Openers.{segment_map}
-use Rattle.tink_segment_traits.specs.declared.opener.Opener.{Opener}
+use Rattle.tink_streaming_segment.specs.declared.segment_traits.SegmentDecrypter.{Ghosts}
+use Rattle.tink_streaming_io.specs.Openers.{segment_map}
+use Rattle.tink_streaming_segment.specs.declared.opener.Opener.{Opener}
 use Rattle.stream_model.specs.Cut.{room_at}
 use Rattle.tink_range.specs.ChunkReading.{Moments, OneMeans, OneRefused}
 use Rattle.tink_range.specs.Giving.{Cutting, GaveAll, GiveRefused, chunks_in}

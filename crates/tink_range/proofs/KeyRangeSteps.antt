@@ -8,7 +8,7 @@ use Rattle.tink_io.specs.declared.error.Kind.{Kind}
 use Rattle.tink_io.specs.declared.error.Kind.TheVariants.{BadSegment, NoMatchingKey, ReadFault, TooManySegments, Truncated, WriteFault}
 use Rattle.tink_io.specs.declared.error.TinkError.{TinkError}
 use Rattle.stream_model.specs.Opening.{IsChosen, OpeningKey}
-use Rattle.tink_streams.specs.Choosing.{Found, StartRefused}
+use Rattle.tink_streaming_io.specs.Choosing.{Found, StartRefused}
 use Rattle.tink_range.specs.ChunkReading.{Moments}
 use Rattle.tink_range.specs.Giving.{Cutting}
 use Rattle.tink_range.specs.KeyRanges.{IsCutUnder, RangesUnder, RangesUnderRefused, TakesRangeSteps, range_steps}

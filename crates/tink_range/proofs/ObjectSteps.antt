@@ -7,7 +7,7 @@ use Rattle.tink_io.specs.Faults.{Rose}
 use Rattle.tink_io.specs.declared.error.Kind.{Kind}
 use Rattle.tink_io.specs.declared.error.Kind.TheVariants.{WriteFault}
 use Rattle.tink_io.specs.declared.error.TinkError.{TinkError}
-use Rattle.tink_segment_traits.specs.declared.segment_traits.SegmentDecrypter.{Ghosts}
+use Rattle.tink_streaming_segment.specs.declared.segment_traits.SegmentDecrypter.{Ghosts}
 use Rattle.tink_range.specs.Objects.{KeepsObject, LeavesObject, RisesByKind, RisesByReadFault}
 use Rattle.tink_range.specs.RangeCores.{IsSameCore}
 use Rattle.tink_range.specs.Rooms.{HasRoomFor}

@@ -6,9 +6,9 @@ use Rattle.tink_io.proofs.FaultLemmas.{Rose-earlier}
 use Rattle.tink_io.specs.declared.error.TinkError.{TinkError}
 use Rattle.tink_io.specs.declared.error.Kind.{Kind}
 use Rattle.tink_io.specs.declared.error.Kind.TheVariants.{BadSegment, ReadFault, TooManySegments, Truncated, WriteFault}
-use Rattle.tink_segment_traits.specs.declared.segment_traits.SegmentDecrypter.{Ghosts}
-use Rattle.tink_streams.specs.Openers.{segment_map}
-use Rattle.tink_segment_traits.specs.declared.opener.Opener.{Opener}
+use Rattle.tink_streaming_segment.specs.declared.segment_traits.SegmentDecrypter.{Ghosts}
+use Rattle.tink_streaming_io.specs.Openers.{segment_map}
+use Rattle.tink_streaming_segment.specs.declared.opener.Opener.{Opener}
 use Rattle.tink_range.specs.ChunkReading.{Moments}
 use Rattle.tink_range.specs.Giving.{Cutting, GiveMeans, GiveRefused, chunks_in}
 use Rattle.tink_range.specs.RangeCores.{IsSameCore, cutting_of}

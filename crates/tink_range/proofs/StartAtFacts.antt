@@ -7,7 +7,7 @@ use Rattle.tink_io.specs.declared.error.Kind.{Kind}
 use Rattle.tink_io.specs.declared.error.Kind.TheVariants.{NoMatchingKey, OutOfMemory, ReadFault}
 use Rattle.tink_io.specs.declared.error.TinkError.{TinkError}
 use Rattle.stream_model.specs.Opening.{OpeningKey}
-use Rattle.tink_streams.specs.Choosing.{StartRefused}
+use Rattle.tink_streaming_io.specs.Choosing.{StartRefused}
 use Rattle.tink_range.specs.ChoosingAt.{NewRefused}
 
 pub fused : {B C D : Type 0} (f : C → D) (h : B → C) (xs : List B) → map (λ k. f (h k)) xs ≡ map f (map h xs)

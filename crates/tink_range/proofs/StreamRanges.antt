@@ -12,7 +12,7 @@ use Rattle.stream_model.specs.Cut.{cut, last_chunk}
 use Rattle.stream_model.specs.Opening.{AreSegments, AreSegmentsBy, IsChosen, IsStream, OpeningKey, behind_front, chunks_of, header_of}
 use Rattle.stream_model.proofs.KeyFacts.{CanOpen, IsLawful}
 use Rattle.stream_model.proofs.OpeningFacts.{IsChosen-unique}
-use Rattle.tink_streams.specs.Choosing.{Found, IsOpenerOf}
+use Rattle.tink_streaming_io.specs.Choosing.{Found, IsOpenerOf}
 use Rattle.tink_range.specs.ChunkReading.{Moments}
 use Rattle.tink_range.specs.Giving.{Cutting, chunks_in}
 use Rattle.tink_range.specs.KeyRanges.{CutRefused, IsCutUnder, RangesUnder, RangesUnderRefused}

@@ -9,9 +9,9 @@ use Rattle.stream_model.specs.Key.{StreamKey, header_length}
 use Rattle.stream_model.specs.Opening.{Begins, FirstAgrees, HasFront, OpeningKey, behind_front, begins_front, chunks_of, front_length, header_of, opening_key}
 use Rattle.stream_model.proofs.CutFacts.{cut_none}
 use Rattle.stream_model.proofs.KeyFacts.{CanOpen}
-use Rattle.tink_streams.specs.Choosing.{IsOpenerOf}
+use Rattle.tink_streaming_io.specs.Choosing.{IsOpenerOf}
 use Rattle.std.specs.Prelude.{Result, Ok, Err, IfErr, IfOk, MatchResult}
-use Rattle.tink_stream_keys.specs.Decrypters.{OpensBehind}
+use Rattle.tink_streaming_keys.specs.Decrypters.{OpensBehind}
 use Rattle.tink_range.specs.ChoosingAt.{is_tried, one_if}
 use Rattle.tink_range.specs.ChunkReading.{ChunkAt, OpensAt}
 use Rattle.tink_range.proofs.GivingSteps.{is_last_cut}

@@ -5,7 +5,7 @@ use Rattle.tink_io.specs.declared.error.Kind.{Kind}
 use Rattle.tink_io.specs.declared.error.Kind.TheVariants.{NoMatchingKey, OutOfMemory, ReadFault}
 use Rattle.tink_io.specs.declared.error.TinkError.{TinkError}
 use Rattle.stream_model.specs.Opening.{Begins, IsChosen, OpeningKey, begins_front, front_length, header_of}
-use Rattle.tink_streams.specs.Choosing.{Found, IsOpenerOf}
+use Rattle.tink_streaming_io.specs.Choosing.{Found, IsOpenerOf}
 
 -- whether the first segment of a stream is opened to try a key: the stream begins in a front of the key and goes on, and
 -- keys are derived from its header

@@ -1,10 +1,10 @@
 -- The chunks of an object behind a stream's front.
 use Rattle.std.specs.Prelude.{◌≡◌, ℕ, ◌+◌, ◌-◌, vec_capacity}
 use Rattle.stream_model.specs.Cut.{room_at}
-use Rattle.tink_segment_traits.specs.declared.segment_traits.SegmentDecrypter.{Ghosts}
+use Rattle.tink_streaming_segment.specs.declared.segment_traits.SegmentDecrypter.{Ghosts}
 use Rattle.tink_range.specs.ChunkReading.{ChunkAt}
 use Rattle.tink_range.specs.Giving.{Cutting}
-use Rattle.tink_streams.specs.Openers.{segment_map}
+use Rattle.tink_streaming_io.specs.Openers.{segment_map}
 use Rattle.tink_range.specs.declared.chunks.RangeCore.{RangeCore}
 
 module _ {D : Type 0} {g : Ghosts D} where

@@ -2,10 +2,10 @@
 use Rattle.std.specs.Prelude.{ℕ, Result, Ok, Err}
 use Rattle.tink_io.specs.declared.error.TinkError.{TinkError}
 use Rattle.tink_primitives.specs.declared.streams.Refused.{Refused}
-use Rattle.tink_segment_traits.specs.declared.segment_traits.SegmentDecrypter.{Ghosts}
-use Rattle.tink_segments.specs.StreamSegments.{segment_by}
-use Rattle.tink_segments.specs.declared.stream_segment.StreamSegment.{StreamSegment}
-use Rattle.tink_streams.specs.Readers.{SegmentOpening, seg_of}
+use Rattle.tink_streaming_segment.specs.declared.segment_traits.SegmentDecrypter.{Ghosts}
+use Rattle.tink_streaming_ciphers.specs.StreamSegments.{segment_by}
+use Rattle.tink_streaming_ciphers.specs.declared.stream_segment.StreamSegment.{StreamSegment}
+use Rattle.tink_streaming_io.specs.Readers.{SegmentOpening, seg_of}
 use Rattle.tink_range.specs.Giving.{Cutting}
 use Rattle.tink_range.specs.RangeCores.{core_memory}
 use Rattle.tink_range.specs.declared.chunks.RangeCore.{RangeCore}

@@ -1,6 +1,6 @@
 -- Memory for one segment, in which the front and the first segment of a stream are held too.
 use Rattle.std.specs.Prelude.{◌≡◌, ◌≤◌, ℕ, Vec, vec_len, vec_capacity}
-use Rattle.tink_streams.specs.Rooms.{KeepsNonceAndText}
+use Rattle.tink_streaming_io.specs.Rooms.{KeepsNonceAndText}
 
 -- a segment, its text and its nonce have room
 pub record HasRoomFor (size nonce_bytes sealed text nonce : ℕ) : Type 0 where

@@ -5,10 +5,10 @@ ghost use Rattle.stream_model.specs.Opening.{HasFront, IsChosen, header_of, open
 ghost use Rattle.tink_range.specs.ChoosingAt.{DoesBeginAt, DoesNotBeginAt, IsFirstAt, IsPlaced, Tries};
 ghost use Rattle.tink_range.specs.Objects.{ReadsObject};
 ghost use Rattle.tink_range.specs.Rooms.{HasRoomFor, KeepsBuffers};
-ghost use Rattle.tink_segments.specs.StreamSegments.{segment_by};
-ghost use Rattle.tink_stream_keys.specs.Decrypters.{OpensBehind};
-ghost use Rattle.tink_stream_keys.specs.Rooms.{HasRoomForEach};
-ghost use Rattle.tink_streams.specs.Choosing.{IsOpenerOf};
+ghost use Rattle.tink_streaming_ciphers.specs.StreamSegments.{segment_by};
+ghost use Rattle.tink_streaming_keys.specs.Decrypters.{OpensBehind};
+ghost use Rattle.tink_streaming_keys.specs.Rooms.{HasRoomForEach};
+ghost use Rattle.tink_streaming_io.specs.Choosing.{IsOpenerOf};
 
 use crate::opening_at::open_at;
 use crate::read_at::ReadAt;
@@ -16,9 +16,9 @@ use crate::reading_at::fill_at;
 use crate::steps::Steps;
 use std::sync::ledger::Ledger;
 use tink_io::Failed;
-use tink_segments::StreamSegment;
-use tink_stream_keys::{DerivesStreams, opener_behind};
-use tink_streams::Opener;
+use tink_streaming_ciphers::StreamSegment;
+use tink_streaming_io::Opener;
+use tink_streaming_keys::{DerivesStreams, opener_behind};
 
 // How the stream of an object is opened, and the bytes of its front.
 #[derive(Drop)]

@@ -8,7 +8,7 @@ ghost use Rattle.tink_range.specs.RangeReading.{LastMeans};
 ghost use Rattle.tink_range.specs.Ranges.{TouchesPlaces, text_length};
 ghost use Rattle.tink_range.specs.Shapes.{HasShape, IsLast};
 ghost use Rattle.tink_range.specs.StepCounts.{TakesOneStep};
-ghost use Rattle.tink_streams.specs.Openers.{segment_map};
+ghost use Rattle.tink_streaming_io.specs.Openers.{segment_map};
 
 use crate::opening_at::open_at;
 use crate::read_at::ReadAt;
@@ -17,8 +17,8 @@ use crate::steps::Steps;
 use crate::writing_part::write_part;
 use std::sync::ledger::Ledger;
 use tink_io::{Failed, Kind, Sink, TinkError};
-use tink_segment_traits::SegmentDecrypter;
-use tink_streams::{Buffers, Opener};
+use tink_streaming_io::{Buffers, Opener};
+use tink_streaming_segment::SegmentDecrypter;
 
 /// How the chunks of a stream are opened, the bytes of its front and those behind it, and memory for a chunk.
 #[derive(Drop)]

@@ -13,7 +13,7 @@ use crate::shape::{Place, next_place, place_of};
 use crate::steps::Steps;
 use std::sync::ledger::Ledger;
 use tink_io::{Sink, TinkError};
-use tink_segment_traits::SegmentDecrypter;
+use tink_streaming_segment::SegmentDecrypter;
 
 // Writes the range's parts of the texts of the chunks that it touches, from the first of them on.
 fn give_from<A: ReadAt, D: SegmentDecrypter, K: Sink, L: Ledger>(

@@ -3,16 +3,16 @@ ghost use Rattle.stream_model.specs.Cut.{room_at};
 ghost use Rattle.tink_range.specs.ChunkReading.{OpensAt, ChunkOpensTo};
 ghost use Rattle.tink_range.specs.Objects.{ReadsObject};
 ghost use Rattle.tink_range.specs.Rooms.{HasRoomFor, KeepsBuffers};
-ghost use Rattle.tink_streams.specs.Openers.{segment_map};
-ghost use Rattle.tink_streams.specs.Rooms.{KeepsNonceAndText};
+ghost use Rattle.tink_streaming_io.specs.Openers.{segment_map};
+ghost use Rattle.tink_streaming_io.specs.Rooms.{KeepsNonceAndText};
 
 use crate::read_at::ReadAt;
 use crate::reading_at::fill_at;
 use crate::steps::Steps;
 use std::sync::ledger::Ledger;
 use tink_io::Failed;
-use tink_segment_traits::SegmentDecrypter;
-use tink_streams::{Opener, open_held};
+use tink_streaming_io::{Opener, open_held};
+use tink_streaming_segment::SegmentDecrypter;
 
 // The size of a segment that others follow.
 pub fn room_of<D: SegmentDecrypter>(opener: &Opener<D>, number: u64) -> usize

@@ -10,7 +10,7 @@ ghost use Rattle.tink_range.specs.RangeReaders.{answer_of, cut_by, object_of};
 ghost use Rattle.tink_range.specs.RangeReading.{IsGivenExactly, RangeMeans, range_end, range_start};
 ghost use Rattle.tink_range.specs.Ranges.{text_length};
 ghost use Rattle.tink_range.specs.StepCounts.{TakesTouched};
-ghost use Rattle.tink_streams.specs.Choosing.{Found};
+ghost use Rattle.tink_streaming_io.specs.Choosing.{Found};
 
 use crate::chunks::RangeCore;
 use crate::range_reading::read_range;
@@ -22,8 +22,8 @@ use std::marker::Model;
 use std::sync::ledger::Ledger;
 use tink_io::{Sink, TinkError};
 use tink_primitives::Refused;
-use tink_segments::StreamSegment;
 use tink_streaming_aead::WrappedStreamingAead;
+use tink_streaming_ciphers::StreamSegment;
 
 /// A reader of ranges of the text of the stream that an object is. An object whose last chunk is the last segment of no
 /// text gives nothing, as one that was cut, but by chance.

@@ -13,7 +13,7 @@ use crate::shape::Shape;
 use crate::steps::Steps;
 use std::sync::ledger::Ledger;
 use tink_io::{Kind, Sink, TinkError};
-use tink_segment_traits::SegmentDecrypter;
+use tink_streaming_segment::SegmentDecrypter;
 
 // The shape of an object's chunks, of which there are no more than numbers, once the last one is opened.
 pub fn check_end<A: ReadAt, D: SegmentDecrypter, L: Ledger>(

@@ -2,9 +2,9 @@ ghost use Rattle.std.specs.Prelude.{◌≡◌, ◌≤◌, ◌+◌, ◌-◌, leng
 ghost use Rattle.stream_model.specs.Opening.{opening_key};
 ghost use Rattle.tink_range.specs.ChoosingAt.{HasTried, IsPlaced, NewRefused};
 ghost use Rattle.tink_range.specs.Objects.{LeavesObject};
-ghost use Rattle.tink_stream_keys.specs.Rooms.{HasRoomForEach};
-ghost use Rattle.tink_streams.specs.Choosing.{Found, StartRefused};
-ghost use Rattle.tink_streams.specs.Openers.{segment_map};
+ghost use Rattle.tink_streaming_keys.specs.Rooms.{HasRoomForEach};
+ghost use Rattle.tink_streaming_io.specs.Choosing.{Found, StartRefused};
+ghost use Rattle.tink_streaming_io.specs.Openers.{segment_map};
 
 use crate::choosing_at::{BegunAt, ChosenAt, choose_at};
 use crate::chunks::RangeCore;
@@ -13,10 +13,10 @@ use crate::steps::Steps;
 use std::alloc::Global;
 use std::sync::ledger::Ledger;
 use tink_io::{Kind, TinkError};
-use tink_segments::{AES_CTR_HMAC_NONCE_SIZE_IN_BYTES, StreamSegment};
-use tink_stream_keys::{DerivesStreams, Trial};
 use tink_streaming_aead::{WrappedStreamingAead, room_of};
-use tink_streams::{Buffers, Kept};
+use tink_streaming_ciphers::{AES_CTR_HMAC_NONCE_SIZE_IN_BYTES, StreamSegment};
+use tink_streaming_io::{Buffers, Kept};
+use tink_streaming_keys::{DerivesStreams, Trial};
 
 // The chunks of an object behind the front of a key, and the place of this key in a list.
 #[derive(Drop)]

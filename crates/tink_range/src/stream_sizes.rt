@@ -4,7 +4,7 @@ ghost use Rattle.std.specs.Prelude.{◌≡◌, ◌≤◌, ◌+◌, length, vec_l
 ghost use Rattle.stream_model.specs.Opening.{opening_key};
 ghost use Rattle.tink_range.specs.Objects.{LeavesObject};
 ghost use Rattle.tink_range.specs.StreamSizes.{SizesMean};
-ghost use Rattle.tink_stream_keys.specs.Rooms.{HasRoomForEach};
+ghost use Rattle.tink_streaming_keys.specs.Rooms.{HasRoomForEach};
 
 use crate::range_reading::check_end;
 use crate::read_at::ReadAt;
@@ -12,7 +12,7 @@ use crate::starting_at::{StartedAt, start_placed};
 use crate::steps::Steps;
 use std::sync::ledger::Ledger;
 use tink_io::TinkError;
-use tink_stream_keys::{DerivesStreams, Trial};
+use tink_streaming_keys::{DerivesStreams, Trial};
 
 /// What is known of a stream without its text: the place of its key in a list, its segments, and the bytes of its text.
 #[derive(Clone, Copy, Debug, PartialEq, Eq)]

@@ -3,7 +3,7 @@ ghost use Rattle.stream_model.specs.Opening.{opening_key};
 ghost use Rattle.tink_range.specs.ChunkReading.{ends_of};
 ghost use Rattle.tink_range.specs.KeyRanges.{RangesUnder, TakesRangeSteps};
 ghost use Rattle.tink_range.specs.Objects.{LeavesObject};
-ghost use Rattle.tink_stream_keys.specs.Rooms.{HasRoomForEach};
+ghost use Rattle.tink_streaming_keys.specs.Rooms.{HasRoomForEach};
 
 use crate::range_reading::read_range;
 use crate::read_at::ReadAt;
@@ -11,7 +11,7 @@ use crate::starting_at::start_at;
 use crate::steps::Steps;
 use std::sync::ledger::Ledger;
 use tink_io::{Sink, TinkError};
-use tink_stream_keys::{DerivesStreams, Trial};
+use tink_streaming_keys::{DerivesStreams, Trial};
 
 /// Writes a range of the text of the stream that an object is, under the first of the keys that it begins under, in the
 /// memory of `trial`. It answers how many bytes, as `RangeReader::read_range` does.

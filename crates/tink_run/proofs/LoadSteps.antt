@@ -22,15 +22,15 @@ use Rattle.tink_sets.specs.declared.typed_set.TypedPrimitiveSet.{TypedPrimitiveS
 use Rattle.tink_sets.specs.Entries.{entry_of, entry_of_id, typed_by, typed_prefix_of, with_primitive}
 use Rattle.tink_sets.specs.Converting.{converted}
 use Rattle.tink_sets.specs.Converting as converting
-use Rattle.tink_building.specs.Given.{before, given_each}
-use Rattle.tink_building.proofs.BuildingFacts.{well_formed_keys}
+use Rattle.tink_set_builder.specs.Given.{before, given_each}
+use Rattle.tink_set_builder.proofs.BuildingFacts.{well_formed_keys}
 use Rattle.tink_keysets.specs.Built.{built_data, built_entries, built_entry, GivesSet, HasEntries}
 use Rattle.tink_keysets.specs.Typing.{typed_entries}
 use Rattle.keyset_model.specs.Keys.{is_enabled}
 use Rattle.keyset_model.specs.Validity.{is_held_keyset, is_validated, is_well_formed, IsValid}
 use Rattle.stream_model.specs.Key.{fronted}
-use Rattle.tink_stream_keys.specs.declared.stream_kind.StreamKind.{StreamKind}
-use Rattle.tink_stream_keys.specs.StreamKinds.{key_in_set, key_of}
+use Rattle.tink_streaming_keys.specs.declared.stream_kind.StreamKind.{StreamKind}
+use Rattle.tink_streaming_keys.specs.StreamKinds.{key_in_set, key_of}
 use Rattle.tink_streaming_aead.specs.Wrapped.{key_in, keys_in}
 use Rattle.loading_model.specs.Loading.{EnabledKey, Loaded, LoadedKey, LoadingRow, ◌then◌, build, build_data, build_key, build_keys, built_by, key_of_id, out_of, load_built, load_keys, streaming_key, streaming_keys, streaming_part, with_primary}
 use Rattle.tink.specs.LoadingRows.{built_key, loading_row, rows_by}

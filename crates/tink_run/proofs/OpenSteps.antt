@@ -12,8 +12,8 @@ use Rattle.tink_io.specs.declared.error.TinkError.{TinkError}
 use Rattle.stream_model.specs.Cut.{cut}
 use Rattle.stream_model.specs.Agree.{AreTexts, Agree, Leads, joined}
 use Rattle.stream_model.specs.Opening.{OpeningKey, FirstAgrees, IsChosen, chunks_of}
-use Rattle.tink_streams.specs.Choosing.{Found, Started, StartRefused}
-use Rattle.tink_streams.proofs.ChosenFacts.{chosen_begins, chunks_are, stream_opened, stream_agreed}
+use Rattle.tink_streaming_io.specs.Choosing.{Found, Started, StartRefused}
+use Rattle.tink_streaming_io.proofs.ChosenFacts.{chosen_begins, chunks_are, stream_opened, stream_agreed}
 use Rattle.loading_model.specs.Loading.{Loaded, opening_keys}
 use Rattle.tink_run.specs.AllKeys.{load}
 use Rattle.tink_run.specs.declared.report.Report.{Report}

@@ -21,7 +21,7 @@ use Rattle.stream_model.proofs.OrderFacts.{choose_the_same, each_too}
 use Rattle.loading_model.specs.Loading.{Loaded, opening_keys}
 use Rattle.tink_io.specs.Gathering.{IsCutShort, OnlyGrows}
 use Rattle.tink_sets.specs.declared.typed_set.TypedPrimitiveSet.{TypedPrimitiveSet}
-use Rattle.tink_stream_keys.specs.declared.stream_kind.StreamKind.{StreamKind}
+use Rattle.tink_streaming_keys.specs.declared.stream_kind.StreamKind.{StreamKind}
 use Rattle.tink_streaming_aead.specs.DecryptReaders.{largest}
 use Rattle.tink_streaming_aead.proofs.DecryptSteps.{reads_more}
 use Rattle.tink_streaming_aead.specs.Wrapped.{KeepsOrder, all_entries, keys_in}

@@ -16,10 +16,10 @@ use Rattle.stream_model.specs.Cut.{cut, room_at}
 use Rattle.stream_model.specs.Agree.{AreTexts, Agree, Leads, joined}
 use Rattle.stream_model.proofs.CutFacts.{cut_some}
 use Rattle.stream_model.proofs.AgreeFacts.{joined-append}
-use Rattle.tink_streams.specs.declared.progress.Progress.{Progress}
-use Rattle.tink_streams.specs.declared.progress.Progress.TheVariants.{Ended, Failed, Running}
-use Rattle.tink_streams.specs.Reading.{ReaderMoment, TellsLeads, HasNotFailed, OpensNext, OpenNextRefused, chunk_at}
-use Rattle.tink_streams.proofs.ReadingFacts.{Opened, opened_none, opened_more, opened_all, opened_agree, at_next_chunk}
+use Rattle.tink_streaming_io.specs.declared.progress.Progress.{Progress}
+use Rattle.tink_streaming_io.specs.declared.progress.Progress.TheVariants.{Ended, Failed, Running}
+use Rattle.tink_streaming_io.specs.Reading.{ReaderMoment, TellsLeads, HasNotFailed, OpensNext, OpenNextRefused, chunk_at}
+use Rattle.tink_streaming_io.proofs.ReadingFacts.{Opened, opened_none, opened_more, opened_all, opened_agree, at_next_chunk}
 use Rattle.tink_run.specs.declared.report.Report.{Report}
 use Rattle.tink_io.specs.Outside.{Outside}
 use Rattle.tink_run.specs.OpenSteps.{FirstRefused, IsReadOut, Breaks, ReaderRefused}

@@ -19,11 +19,11 @@ use Rattle.stream_model.specs.Opening.{OpeningKey, IsChosen, chunks_of, opening_
 use Rattle.stream_model.proofs.CutFacts.{cut_none, cut_fits, cut_more}
 use Rattle.tink_streaming_aead.specs.DecryptReaders.{largest}
 use Rattle.tink_streaming_aead.proofs.DecryptSteps.{reads_held, reads_kept}
-use Rattle.tink_streams.specs.Choosing.{Started, StartRefused}
-use Rattle.tink_streams.specs.Reading.{FailsBy, HeldBy, IsBad, ReadFailed, ReaderMoment, TellsLeads, TruncatedAt, OpenNextRefused}
-use Rattle.tink_streams.proofs.ChosenFacts.{chunks_are}
-use Rattle.tink_segment_traits.proofs.HeadFacts.{fits_or_not}
-use Rattle.tink_streams.proofs.ReadingFacts.{Opened}
+use Rattle.tink_streaming_io.specs.Choosing.{Started, StartRefused}
+use Rattle.tink_streaming_io.specs.Reading.{FailsBy, HeldBy, IsBad, ReadFailed, ReaderMoment, TellsLeads, TruncatedAt, OpenNextRefused}
+use Rattle.tink_streaming_io.proofs.ChosenFacts.{chunks_are}
+use Rattle.tink_streaming_segment.proofs.HeadFacts.{fits_or_not}
+use Rattle.tink_streaming_io.proofs.ReadingFacts.{Opened}
 use Rattle.tink_run.specs.declared.report.Report.{Report}
 use Rattle.tink_io.specs.Outside.{Outside}
 use Rattle.tink_run.specs.OpenAnswers.{Lead}

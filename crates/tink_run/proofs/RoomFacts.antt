@@ -3,7 +3,7 @@ use Rattle.std.proofs.Common.{◌≡◌, ◌+◌, ◌<◌, ◌≤◌, ℕ, List,
 use Rattle.std.specs.Prelude.{slice_index_or}
 use Rattle.stream_model.specs.Key.{StreamKey, SegmentKind, nonce_size, nonce_size_of}
 use Rattle.stream_model.specs.Key.SegmentKind.{CtrHmac, Gcm}
-use Rattle.tink_stream_keys.specs.Rooms.{HasRoomForEach}
+use Rattle.tink_streaming_keys.specs.Rooms.{HasRoomForEach}
 
 nonce_fits : (kind : SegmentKind) → nonce_size_of kind ≤ 16
 nonce_fits (CtrHmac hash tag) = omega arith

@@ -12,7 +12,7 @@ use Rattle.stream_model.specs.Opening.{IsChosen, OpeningKey, opening_key}
 use Rattle.stream_model.specs.Order.{HaveSameOrder, IsOfKeyset}
 use Rattle.stream_model.proofs.OrderFacts.{choose_the_same}
 use Rattle.tink_sets.specs.declared.typed_set.TypedPrimitiveSet.{TypedPrimitiveSet}
-use Rattle.tink_stream_keys.specs.declared.stream_kind.StreamKind.{StreamKind}
+use Rattle.tink_streaming_keys.specs.declared.stream_kind.StreamKind.{StreamKind}
 use Rattle.tink_streaming_aead.specs.Wrapped.{KeepsOrder, all_entries, key_in, keys_in}
 use Rattle.loading_model.specs.Loading.{AreUsable, Loaded, LoadedKey, opening_keys}
 use Rattle.tink_run.specs.AllKeys.{load}

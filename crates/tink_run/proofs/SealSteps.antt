@@ -13,13 +13,13 @@ use Rattle.tink_io.specs.declared.error.Kind.TheVariants.{OutOfMemory, ReadFault
 use Rattle.tink_io.specs.declared.error.TinkError.{TinkError}
 use Rattle.stream_model.specs.Cut.{full_chunks, sealed, unmarked}
 use Rattle.stream_model.specs.Key.{StreamKey, derived_bytes_of, first_room, front, keys_of, room, segment_at}
-use Rattle.tink_stream_keys.proofs.DerivedKeys.{derives_nothing}
-use Rattle.tink_stream_keys.specs.Encrypting.{DrewHeader, IsNewStream, NewWriterRefused}
-use Rattle.tink_stream_keys.specs.StreamingKeys.{deriving_hash}
+use Rattle.tink_streaming_keys.proofs.DerivedKeys.{derives_nothing}
+use Rattle.tink_streaming_keys.specs.Encrypting.{DrewHeader, IsNewStream, NewWriterRefused}
+use Rattle.tink_streaming_keys.specs.StreamingKeys.{deriving_hash}
 use Rattle.stream_model.specs.Sealing.{stream, part, longest_part, sealed_under, unmarked_under, salt_of, prefix_of}
 use Rattle.stream_model.proofs.SealingFacts.{length-chunks}
-use Rattle.tink_streams.specs.Writing.{WriterMoment, Wrote, WrotePrefixOf, WroteAll, ClosedBy, ClosedShort, CloseMeans, CloseRefused}
-use Rattle.tink_streams.proofs.WritingFacts.{IsFresh, fresh_filled, closed_whole, closed_prefix, stops_prefix}
+use Rattle.tink_streaming_io.specs.Writing.{WriterMoment, Wrote, WrotePrefixOf, WroteAll, ClosedBy, ClosedShort, CloseMeans, CloseRefused}
+use Rattle.tink_streaming_io.proofs.WritingFacts.{IsFresh, fresh_filled, closed_whole, closed_prefix, stops_prefix}
 use Rattle.loading_model.specs.Loading.{Loaded}
 use Rattle.tink_run.specs.AllKeys.{load}
 use Rattle.tink_run.specs.declared.report.Report.{Report}
@@ -27,7 +27,7 @@ use Rattle.tink_io.specs.Outside.{Outside, IsUntouched}
 use Rattle.tink_run.specs.Run.{IsEarly, LeavesEnds}
 use Rattle.tink_run.specs.SealAnswers.{IsSealedWhole, SourceFailed, SinkFailed, IsTooLong, SealingMeans, SealingRefused, SealMeans, SealRefused}
 use Rattle.tink_run.specs.SealSteps.{HasNoKeys, IsUnderWay, SealsUnder, SealsUnderRefused, kind_not_begun}
-use Rattle.tink_streams.specs.Pouring.{IsPoured, PourRefused}
+use Rattle.tink_streaming_io.specs.Pouring.{IsPoured, PourRefused}
 
 -- a key, its draws and the keys derived from them
 module _ (k : StreamKey) (aad salt prefix keys : List ℕ) (e : keys_of k aad salt ≡ Some keys) where

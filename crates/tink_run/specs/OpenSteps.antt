@@ -10,10 +10,10 @@ use Rattle.std.specs.declared.option.Option.{Option}
 use Rattle.stream_model.specs.Cut.{cut}
 use Rattle.stream_model.specs.Agree.{AreTexts, Agree, Leads, joined}
 use Rattle.stream_model.specs.Opening.{OpeningKey}
-use Rattle.tink_segment_traits.specs.declared.segment_traits.SegmentDecrypter.{Ghosts}
-use Rattle.tink_streams.specs.declared.reading.SegmentReader.{SegmentReader}
-use Rattle.tink_streams.specs.Openers.{reader_rest}
-use Rattle.tink_streams.specs.Reading.{ReaderMoment, OpensNext, NothingComes, ReadFailed, TruncatedAt, IsBad}
+use Rattle.tink_streaming_segment.specs.declared.segment_traits.SegmentDecrypter.{Ghosts}
+use Rattle.tink_streaming_io.specs.declared.reading.SegmentReader.{SegmentReader}
+use Rattle.tink_streaming_io.specs.Openers.{reader_rest}
+use Rattle.tink_streaming_io.specs.Reading.{ReaderMoment, OpensNext, NothingComes, ReadFailed, TruncatedAt, IsBad}
 use Rattle.tink_run.specs.declared.report.Report.{Report}
 use Rattle.tink_io.specs.Outside.{Outside, IsUntouched}
 use Rattle.tink_run.specs.OpenAnswers.{IsOpenedWhole, OpeningRefused}

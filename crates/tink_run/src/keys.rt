@@ -1,7 +1,7 @@
 //! What a command takes of a set of keys.
 
 ghost use Rattle.std.specs.Prelude.{◌≡◌, true, is_some, Some};
-ghost use Rattle.tink_stream_keys.specs.StreamKinds.{key_in_set};
+ghost use Rattle.tink_streaming_keys.specs.StreamKinds.{key_in_set};
 ghost use Rattle.tink_streaming_aead.specs.Wrapped.{key_in};
 
 use tink_sets::{TypedEntry, TypedPrimitiveSet};

@@ -1,8 +1,8 @@
 ghost use Rattle.std.specs.Prelude.{◌≡◌, ◌≤◌, ◌<◌, ◌+◌, ◌^◌, map, vec_len, vec_capacity};
 ghost use Rattle.stream_model.specs.Opening as opening;
-ghost use Rattle.tink_streams.specs.declared.progress.Progress.TheVariants.{Running};
-ghost use Rattle.tink_stream_keys.specs.Rooms.{HasRoomForEach};
-ghost use Rattle.tink_streams.specs.Openers.{reader_memory, reader_moment, reader_rest, segment_map};
+ghost use Rattle.tink_streaming_io.specs.declared.progress.Progress.TheVariants.{Running};
+ghost use Rattle.tink_streaming_keys.specs.Rooms.{HasRoomForEach};
+ghost use Rattle.tink_streaming_io.specs.Openers.{reader_memory, reader_moment, reader_rest, segment_map};
 ghost use Rattle.tink_io.specs.Outside.{FaultsStay, outside_of};
 ghost use Rattle.tink_streaming_aead.specs.Wrapped.{KeepsOrder, all_entries, keys_in};
 ghost use Rattle.tink_run.specs.OpenAnswers.{OpeningMeans};

@@ -1,9 +1,9 @@
 ghost use Rattle.std.specs.Prelude.{◌≡◌, ◌≤◌, ◌<◌, ℕ, List, [], length, Option, IfErr};
 ghost use Rattle.stream_model.specs.Key.{StreamKey};
-ghost use Rattle.tink_streams.specs.Sealers.{held_text, segment_map, writer_moment};
-ghost use Rattle.tink_streams.specs.declared.writing.Mode.TheVariants.{Open};
-ghost use Rattle.tink_stream_keys.specs.Encrypting.{IsNewStream};
-ghost use Rattle.tink_stream_keys.specs.StreamKinds.{key_in_set};
+ghost use Rattle.tink_streaming_io.specs.Sealers.{held_text, segment_map, writer_moment};
+ghost use Rattle.tink_streaming_io.specs.declared.writing.Mode.TheVariants.{Open};
+ghost use Rattle.tink_streaming_keys.specs.Encrypting.{IsNewStream};
+ghost use Rattle.tink_streaming_keys.specs.StreamKinds.{key_in_set};
 ghost use Rattle.tink_io.specs.Outside.{FaultsStay, outside_of};
 ghost use Rattle.tink_run.specs.Run.{IsEarly, LeavesEnds};
 ghost use Rattle.tink_run.specs.SealSteps.{SealsUnder, kind_not_begun};
@@ -11,10 +11,10 @@ ghost use Rattle.tink_run.specs.SealSteps.{SealsUnder, kind_not_begun};
 use crate::report::Report;
 use std::alloc::Global;
 use tink_io::{Draws, Kind, Sink, Source, TinkError};
-use tink_segment_traits::SegmentEncrypter;
 use tink_sets::TypedEntry;
 use tink_streaming_aead::{StreamKind, begin_stream};
-use tink_streams::{SegmentWriter, pour};
+use tink_streaming_io::{SegmentWriter, pour};
+use tink_streaming_segment::SegmentEncrypter;
 
 /// Bytes that are read at once.
 const PIECE: usize = 65536;

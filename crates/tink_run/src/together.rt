@@ -3,7 +3,7 @@
 ghost use Rattle.std.specs.Prelude.{◌≡◌, ◌≤◌, [], map, Err};
 ghost use Rattle.std.specs.Io.KnownBytes.{append_known};
 ghost use Rattle.stream_model.specs.Opening as opening;
-ghost use Rattle.tink_stream_keys.specs.StreamKinds.{key_in_set};
+ghost use Rattle.tink_streaming_keys.specs.StreamKinds.{key_in_set};
 ghost use Rattle.tink_streaming_aead.specs.Wrapped.{KeepsOrder, all_entries, keys_in};
 ghost use Rattle.tink_io.specs.declared.error.Kind.TheVariants.{WriteFault};
 ghost use Rattle.tink_io.specs.Gathering.{OnlyGrows};

@@ -11,8 +11,8 @@ use Rattle.keyset_model.specs.Keys.{is_enabled}
 use Rattle.keyset_model.specs.Entries.{output_prefix}
 use Rattle.tink_primitives.specs.declared.primitive.Primitive.{Primitive}
 use Rattle.tink_sets.specs.Prefixes.{known_type, told_prefix}
-use Rattle.tink_groups.specs.Converting.{AreConverted, HasRefused}
-use Rattle.tink_groups.specs.Groups.{AfterAdding}
+use Rattle.tink_set_groups.specs.Converting.{AreConverted, HasRefused}
+use Rattle.tink_set_groups.specs.Groups.{AfterAdding}
 use Rattle.tink_sets.specs.declared.entry.Entry.{Entry}
 use Rattle.tink_sets.specs.declared.entry.TypedEntry.{TypedEntry}
 use Rattle.tink_sets.specs.declared.primitive_set.PrimitiveSet.{PrimitiveSet}

@@ -1,5 +1,5 @@
-pub use Rattle.tink_groups.specs.Converting
+pub use Rattle.tink_set_groups.specs.Converting
 pub mod Entries
-pub use Rattle.tink_groups.specs.Groups
+pub use Rattle.tink_set_groups.specs.Groups
 pub mod Prefixes
 pub mod SortLaws

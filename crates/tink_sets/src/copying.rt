@@ -3,14 +3,14 @@
 ghost use Rattle.std.specs.Prelude.{◌≡◌, Result, Ok, IfOk, IfErr};
 ghost use Rattle.tink_io.specs.declared.error.Kind.{Kind};
 ghost use Rattle.tink_io.specs.declared.error.Kind.TheVariants.{OutOfMemory};
-ghost use Rattle.tink_groups.specs.Groups.{HaveSameGroups};
+ghost use Rattle.tink_set_groups.specs.Groups.{HaveSameGroups};
 
 use std::alloc::Global;
 use std::collections::BTreeMap;
-use tink_groups::{Convert, convert_groups};
 use tink_io::TinkError;
 use tink_primitives::CloneIn;
 use tink_proto::Repeated;
+use tink_set_groups::{Convert, convert_groups};
 
 // Each value as it is.
 pub struct Copies;
@@ -51,7 +51,7 @@ fn clone_primary<E: CloneIn>(alloc: Global, primary: &Option<E>) -> Result<Optio
 }
 
 // The same lists under the same prefixes.
-#[tactic(auto, using(tink_groups::proofs::Converted::copied, tink_groups::proofs::Converted::never_refused))]
+#[tactic(auto, using(tink_set_groups::proofs::Converted::copied, tink_set_groups::proofs::Converted::never_refused))]
 fn clone_groups<E: CloneIn>(
     alloc: Global,
     groups: &BTreeMap<Vec<u8>, Repeated<E>>,

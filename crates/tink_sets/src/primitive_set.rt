@@ -5,7 +5,7 @@ ghost use Rattle.std.specs.Prelude.{◌≡◌, ◌⊎◌, ⊤, [], ℕ, List, No
 ghost use Rattle.std.specs.Borrow.{sem, follows_so};
 ghost use Rattle.tink_io.specs.declared.error.Kind.TheVariants.{OutOfMemory};
 ghost use Rattle.tink_io.specs.Told.{Answers};
-ghost use Rattle.tink_groups.specs.Groups.{group_at, group_of, Adds, AddsLast, AreGroupsOf, EndsBy, HaveSameGroups};
+ghost use Rattle.tink_set_groups.specs.Groups.{group_at, group_of, Adds, AddsLast, AreGroupsOf, EndsBy, HaveSameGroups};
 ghost use Rattle.tink_sets.specs.Entries.{may_stand, own_prefix, entry_of, prefix_of, SetAfterAdding};
 
 use crate::Entry;
@@ -14,10 +14,10 @@ use crate::cryptofmt::RAW_PREFIX;
 use crate::entry::standing_prefix;
 use std::alloc::Global;
 use std::collections::BTreeMap;
-use tink_groups::{group_of, newest, put_in_group};
 use tink_io::TinkError;
 use tink_primitives::{Kinds, Primitive};
 use tink_proto::{Bytes, Key, Repeated};
+use tink_set_groups::{group_of, newest, put_in_group};
 
 /// The primitives of a keyset by the prefixes of their keys.
 #[derive(Drop)]

@@ -12,9 +12,9 @@ ghost use Rattle.tink_sets.specs.SortLaws.{aead_or_wrong, deterministic_aead_or_
 use crate::entry::{beside, clone_parts};
 use crate::{Entry, TypedEntry};
 use std::alloc::Global;
-use tink_groups::Convert;
 use tink_io::TinkError;
 use tink_primitives::{CloneIn, Kinds, Primitive};
+use tink_set_groups::Convert;
 
 /// A sort of the primitives of a family.
 pub trait Sort<K: Kinds> {

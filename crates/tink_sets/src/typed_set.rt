@@ -3,8 +3,8 @@
 ghost use Rattle.std.specs.Prelude.{◌≡◌, ◌⊎◌, [], None, Some, IfOk, IfErr, MatchOption};
 ghost use Rattle.tink_io.specs.declared.error.Kind.TheVariants.{OutOfMemory, WrongPrimitive};
 ghost use Rattle.tink_primitives.specs.Sorts.{as_aead, as_deterministic_aead, as_hybrid_decrypt, as_hybrid_encrypt, as_mac, as_prf, as_signer, as_streaming_aead, as_verifier};
-ghost use Rattle.tink_groups.specs.Groups.{group_at, HaveSameGroups};
-ghost use Rattle.tink_groups.specs.Converting.{HasRefused};
+ghost use Rattle.tink_set_groups.specs.Groups.{group_at, HaveSameGroups};
+ghost use Rattle.tink_set_groups.specs.Converting.{HasRefused};
 ghost use Rattle.tink_sets.specs.Entries.{typed_by, AreNotTyped, AreTyped, IsTypedPrimary, IsRefusedPrimary};
 
 use crate::copying::clone_set;
@@ -16,10 +16,10 @@ use crate::sorts::{
 use crate::{Entry, PrimitiveSet, TypedEntry};
 use std::alloc::Global;
 use std::collections::BTreeMap;
-use tink_groups::{Convert, convert_groups, group_at};
 use tink_io::TinkError;
 use tink_primitives::{CloneIn, Kinds};
 use tink_proto::Repeated;
+use tink_set_groups::{Convert, convert_groups, group_at};
 
 /// The primitives of one sort of a keyset by the prefixes of their keys.
 #[derive(Drop)]

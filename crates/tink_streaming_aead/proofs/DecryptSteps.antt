@@ -13,17 +13,17 @@ use Rattle.stream_model.specs.Cut.{cut, room_at}
 use Rattle.stream_model.specs.Agree.{Agree}
 use Rattle.stream_model.specs.Key.{StreamKey}
 use Rattle.stream_model.specs.Opening.{AgreeBy, Begins, FirstAgrees, IsChosen, OpeningKey, chunks_of, header_of, opening_key}
-use Rattle.tink_segment_traits.specs.declared.segment_traits.SegmentDecrypter.{Ghosts}
-use Rattle.tink_streams.specs.Choosing.{Started, StartRefused}
-use Rattle.tink_streams.specs.Trials.{BeginsInNone, MayBegin, ReadsFronts}
-use Rattle.tink_streams.specs.Openers.{held_bytes, reader_lacks, reader_rest}
-use Rattle.tink_streams.specs.declared.reading.SegmentReader.{SegmentReader}
+use Rattle.tink_streaming_segment.specs.declared.segment_traits.SegmentDecrypter.{Ghosts}
+use Rattle.tink_streaming_io.specs.Choosing.{Started, StartRefused}
+use Rattle.tink_streaming_io.specs.Trials.{BeginsInNone, MayBegin, ReadsFronts}
+use Rattle.tink_streaming_io.specs.Openers.{held_bytes, reader_lacks, reader_rest}
+use Rattle.tink_streaming_io.specs.declared.reading.SegmentReader.{SegmentReader}
 use Rattle.tink_streaming_aead.specs.DecryptReaders.{DecryptMeans, DecryptState, FirstReadMeans, FirstReadRefused, GivesFirst, first_refusal}
 use Rattle.tink_streaming_aead.specs.DecryptReaders.DecryptState.{Unread}
-use Rattle.tink_streams.specs.TextReading.{Gave, GivesText, TextMoment, ReadRefused}
-use Rattle.tink_streams.specs.declared.progress.Progress.TheVariants.{Running}
-use Rattle.tink_streams.proofs.TextLaws.{gave_more, gave_none}
-use Rattle.tink_streams.proofs.ChosenFacts.{chosen_begins, stream_agreed}
+use Rattle.tink_streaming_io.specs.TextReading.{Gave, GivesText, TextMoment, ReadRefused}
+use Rattle.tink_streaming_io.specs.declared.progress.Progress.TheVariants.{Running}
+use Rattle.tink_streaming_io.proofs.TextLaws.{gave_more, gave_none}
+use Rattle.tink_streaming_io.proofs.ChosenFacts.{chosen_begins, stream_agreed}
 
 -- nothing is held of what was not read
 pub unread : (n : ℕ) (items : List ℕ) (left : Option (List ℕ)) → n ≡ 0 → prepend_known (take n items) left ≡ left

@@ -10,10 +10,10 @@ use Rattle.tink_io.specs.declared.error.TinkError.{TinkError}
 use Rattle.stream_model.specs.Key.{StreamKey, header_length, overhead}
 use Rattle.stream_model.specs.Opening.{IsChosen, OpeningKey, front_length, header_of, opening_key}
 use Rattle.stream_model.proofs.OpeningFacts.{IsChosen-begins, IsChosen-unique}
-use Rattle.tink_streams.specs.Choosing.{Started}
-use Rattle.tink_streams.specs.TextReading.{TextMoment}
-use Rattle.tink_streams.specs.declared.progress.Progress.TheVariants.{Running}
-use Rattle.tink_stream_keys.specs.Decrypting.{IsNewReader}
+use Rattle.tink_streaming_io.specs.Choosing.{Started}
+use Rattle.tink_streaming_io.specs.TextReading.{TextMoment}
+use Rattle.tink_streaming_io.specs.declared.progress.Progress.TheVariants.{Running}
+use Rattle.tink_streaming_keys.specs.Decrypting.{IsNewReader}
 use Rattle.tink_streaming_aead.proofs.FrontFacts.{front_mark}
 use Rattle.tink_streaming_aead.specs.DecryptReaders.{DecryptState, FirstReadMeans, FirstReadRefused, GivesFirst, source_in}
 use Rattle.tink_streaming_aead.specs.DecryptReaders.DecryptState.{Chosen, Stopped, Unread}

@@ -17,7 +17,7 @@ use Rattle.tink_sets.specs.Converting.{before, converted}
 use Rattle.tink_sets.specs.Entries.{entry_of, own_prefix, typed_by, with_primitive}
 use Rattle.tink_sets.specs.declared.entry.Entry.{Entry}
 use Rattle.tink_sets.specs.declared.entry.TypedEntry.{TypedEntry}
-use Rattle.tink_building.specs.Given as given
+use Rattle.tink_set_builder.specs.Given as given
 use Rattle.tink_keysets.specs.Built.{built_data, built_entries, built_entry}
 use Rattle.tink_keysets.specs.Typing.{typed_entries}
 use Rattle.tink_streaming_aead.specs.DecryptReaders.{largest, largest_segment}

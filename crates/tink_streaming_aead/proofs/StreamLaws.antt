@@ -7,10 +7,10 @@ use Rattle.stream_model.proofs.CutFacts.{full_chunks_fits, open_chunk_fits}
 use Rattle.stream_model.specs.Cut.{full_chunks, open_chunk, room_at, sealed, unmarked}
 use Rattle.stream_model.specs.Key.{StreamKey, first_room, front, keys_of, room, segment_at}
 use Rattle.stream_model.specs.Sealing.{prefix_of, salt_of, sealed_under, stream}
-use Rattle.tink_stream_keys.specs.Encrypting.{IsNewStream}
-use Rattle.tink_streams.specs.Writing.{ClosedBy, WriterMoment, Wrote, filled}
-use Rattle.tink_streams.specs.declared.writing.Mode.TheVariants.{Open}
-use Rattle.tink_streams.proofs.WritingFacts.{closed_whole}
+use Rattle.tink_streaming_keys.specs.Encrypting.{IsNewStream}
+use Rattle.tink_streaming_io.specs.Writing.{ClosedBy, WriterMoment, Wrote, filled}
+use Rattle.tink_streaming_io.specs.declared.writing.Mode.TheVariants.{Open}
+use Rattle.tink_streaming_io.proofs.WritingFacts.{closed_whole}
 
 -- the front and then the segments under derived keys are the stream
 pub stream_is : (k : StreamKey) (aad salt prefix keys text : List ℕ) → keys_of k aad salt ≡ Some keys

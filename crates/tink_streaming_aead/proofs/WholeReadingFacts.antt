@@ -11,11 +11,11 @@ use Rattle.stream_model.specs.Cut.{cut}
 use Rattle.stream_model.specs.Key.{IsUsable, StreamKey, first_segment, fronted, header_length, overhead}
 use Rattle.stream_model.specs.Opening.{AreSegments, AreSegmentsBy, IsChosen, IsStream, OpeningKey, header_of, opening_key}
 use Rattle.stream_model.proofs.KeyFacts.{CanOpen, IsLawful, opening_key_lawful}
-use Rattle.tink_streams.specs.Choosing.{Started}
-use Rattle.tink_streams.specs.TextReading.{AtEnd, Gave, TextMoment}
-use Rattle.tink_streams.proofs.ChosenFacts.{stream_opened}
-use Rattle.tink_streams.proofs.TextLaws.{gave_all, text_of_whole}
-use Rattle.tink_stream_keys.specs.Decrypting.{IsNewReader}
+use Rattle.tink_streaming_io.specs.Choosing.{Started}
+use Rattle.tink_streaming_io.specs.TextReading.{AtEnd, Gave, TextMoment}
+use Rattle.tink_streaming_io.proofs.ChosenFacts.{stream_opened}
+use Rattle.tink_streaming_io.proofs.TextLaws.{gave_all, text_of_whole}
+use Rattle.tink_streaming_keys.specs.Decrypting.{IsNewReader}
 use Rattle.tink_streaming_aead.proofs.FrontFacts.{no_prefix}
 use Rattle.tink_streaming_aead.specs.DecryptReaders.{GivesFirst}
 use Rattle.tink_streaming_aead.specs.WholeReading.{IsTextOfChosen, IsTextOfStream}

@@ -21,8 +21,8 @@ use Rattle.tink_keysets.specs.Built.{HasEntries}
 use Rattle.tink_sets.specs.Entries.{typed_prefix_of}
 use Rattle.tink_sets.specs.Groups.{AreGroupsOf, group_at, group_of}
 use Rattle.tink_sets.specs.declared.entry.TypedEntry.{TypedEntry}
-use Rattle.tink_stream_keys.specs.StreamKinds.{key_in_set}
-use Rattle.tink_stream_keys.specs.declared.stream_kind.StreamKind.{StreamKind}
+use Rattle.tink_streaming_keys.specs.StreamKinds.{key_in_set}
+use Rattle.tink_streaming_keys.specs.declared.stream_kind.StreamKind.{StreamKind}
 use Rattle.tink_streaming_aead.specs.Wrapped.{AreKeysOf, ArePure, ChoosesInOrder, HasOutputPrefix, IsPure, KeepsOrder, KeepsPrefixes, all_entries, joined_lists, key_in, keys_in, set_keys}
 
 abbrev One : Type 0

@@ -11,13 +11,13 @@ use Rattle.tink_io.specs.declared.error.TinkError.{TinkError}
 use Rattle.tink_primitives.specs.declared.streams.Refused.{Refused}
 use Rattle.stream_model.specs.Key.{StreamKey, IsUsable}
 use Rattle.stream_model.specs.Opening.{IsChosen, OpeningKey, opening_key}
-use Rattle.tink_streams.specs.Choosing.{Started}
-use Rattle.tink_streams.specs.Readers.{ReaderState, lacks, moment_of, seg_of}
-use Rattle.tink_segments.specs.StreamSegments.{segment_by}
-use Rattle.tink_streams.specs.TextReading.{GivesText, IsDue, TextMoment, ReadMeans}
-use Rattle.tink_streams.specs.Trials.{ReadsFronts}
-use Rattle.tink_streams.specs.declared.progress.Progress.TheVariants.{Running}
-use Rattle.tink_segments.specs.declared.stream_segment.StreamSegment.{StreamSegment}
+use Rattle.tink_streaming_io.specs.Choosing.{Started}
+use Rattle.tink_streaming_io.specs.Readers.{ReaderState, lacks, moment_of, seg_of}
+use Rattle.tink_streaming_ciphers.specs.StreamSegments.{segment_by}
+use Rattle.tink_streaming_io.specs.TextReading.{GivesText, IsDue, TextMoment, ReadMeans}
+use Rattle.tink_streaming_io.specs.Trials.{ReadsFronts}
+use Rattle.tink_streaming_io.specs.declared.progress.Progress.TheVariants.{Running}
+use Rattle.tink_streaming_ciphers.specs.declared.stream_segment.StreamSegment.{StreamSegment}
 
 -- Keys in order with associated data, and none is chosen yet: nothing is read, and this many bytes have room to be kept; or
 -- the reader of the chosen key; or what the first read was refused by. The source is the reader's.

@@ -3,10 +3,10 @@ use Rattle.std.specs.Prelude.{ℕ, List, map, vec_len}
 use Rattle.std.specs.declared.option.Option.{Option}
 use Rattle.tink_streaming_aead.specs.DecryptReaders.{DecryptState}
 use Rattle.tink_streaming_aead.specs.DecryptReaders.DecryptState.{Chosen, Stopped, Unread}
-use Rattle.tink_stream_keys.specs.StreamKinds.{key_in_set}
+use Rattle.tink_streaming_keys.specs.StreamKinds.{key_in_set}
 use Rattle.tink_streaming_aead.specs.declared.decrypt_reader.Stage.{Stage}
 use Rattle.tink_streaming_aead.specs.declared.decrypt_reader.Stage.TheVariants as stage
-use Rattle.tink_streams.specs.Openers.{EndsEmpty, pending_text, reader_state}
+use Rattle.tink_streaming_io.specs.Openers.{EndsEmpty, pending_text, reader_state}
 
 abbrev pub state_of : {S : Type 0} → Stage → S → DecryptState S
 state_of (stage.Unread w) source = Unread (map key_in_set w.keys.items) w.data.items (vec_len w.trial.kept.buffer) source

@@ -1,6 +1,6 @@
-pub use Rattle.tink_stream_key_types.specs.KeyTypes
-pub use Rattle.tink_stream_key_types.specs.KeyTypeLaws
-pub use Rattle.tink_stream_key_types.specs.Templates
+pub use Rattle.tink_streaming_managers.specs.KeyTypes
+pub use Rattle.tink_streaming_managers.specs.KeyTypeLaws
+pub use Rattle.tink_streaming_managers.specs.Templates
 pub mod DecryptReaders
 pub mod DecryptStages
 pub mod Wrapped

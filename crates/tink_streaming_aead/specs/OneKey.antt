@@ -5,8 +5,8 @@ use Rattle.tink_io.specs.Faults.{Rose}
 use Rattle.tink_io.specs.declared.error.TinkError.{TinkError}
 use Rattle.stream_model.specs.Key.{StreamKey}
 use Rattle.stream_model.specs.Opening.{IsChosen, opening_key}
-use Rattle.tink_streams.specs.TextReading.{ReadMeans, TextMoment}
-use Rattle.tink_stream_keys.specs.Decrypting.{IsNewReader}
+use Rattle.tink_streaming_io.specs.TextReading.{ReadMeans, TextMoment}
+use Rattle.tink_streaming_keys.specs.Decrypting.{IsNewReader}
 use Rattle.tink_streaming_aead.specs.DecryptReaders.{DecryptMeans, DecryptState, GivesFirst, source_in}
 use Rattle.tink_streaming_aead.specs.DecryptReaders.DecryptState.{Unread}
 

@@ -8,11 +8,11 @@ use Rattle.stream_model.specs.Order.{HaveSameOrder, IsOutputPrefix}
 use Rattle.tink_sets.specs.Entries.{entry_of_id, typed_prefix_of}
 use Rattle.tink_sets.specs.Groups.{AreGroupsOf}
 use Rattle.tink_sets.specs.declared.entry.TypedEntry.{TypedEntry}
-use Rattle.tink_segments.specs.declared.stream_segment.StreamSegment.{StreamSegment}
-use Rattle.tink_streams.specs.Writers.{WriterState}
-use Rattle.tink_stream_keys.specs.Encrypting.{StartsWriter}
-use Rattle.tink_stream_keys.specs.StreamKinds.{key_in_set}
-use Rattle.tink_stream_keys.specs.declared.stream_kind.StreamKind.{StreamKind}
+use Rattle.tink_streaming_ciphers.specs.declared.stream_segment.StreamSegment.{StreamSegment}
+use Rattle.tink_streaming_io.specs.Writers.{WriterState}
+use Rattle.tink_streaming_keys.specs.Encrypting.{StartsWriter}
+use Rattle.tink_streaming_keys.specs.StreamKinds.{key_in_set}
+use Rattle.tink_streaming_keys.specs.declared.stream_kind.StreamKind.{StreamKind}
 
 -- the primary key, by which streams are made, and all keys, by which they are opened, those of one prefix in their order
 pub record Wrapped : Type 0 where

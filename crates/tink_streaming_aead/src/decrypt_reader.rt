@@ -5,20 +5,20 @@ ghost use Rattle.stream_model.specs.Opening.{opening_key};
 ghost use Rattle.tink_io.specs.Taken.{LosesAtMost};
 ghost use Rattle.tink_streaming_aead.specs.DecryptReaders.{DecryptMeans, FirstReadRefused, GivesFirst, IsUnread, KeepsNoMore, cause_of, first_refusal, memory_for, number_of, source_in, ReadsNoMore, TakesAtMost};
 ghost use Rattle.tink_streaming_aead.specs.DecryptReaders.DecryptState.{Unread};
-ghost use Rattle.tink_stream_keys.specs.Memory.{trial_memory};
-ghost use Rattle.tink_stream_keys.specs.Rooms.{HasRoomForEach};
-ghost use Rattle.tink_stream_keys.specs.StreamKinds.{key_in_set};
-ghost use Rattle.tink_streams.specs.Openers.{EndsEmpty, reader_memory, segment_map, text_moment};
-ghost use Rattle.tink_streams.specs.Trials.{ReadsFronts};
+ghost use Rattle.tink_streaming_keys.specs.Memory.{trial_memory};
+ghost use Rattle.tink_streaming_keys.specs.Rooms.{HasRoomForEach};
+ghost use Rattle.tink_streaming_keys.specs.StreamKinds.{key_in_set};
+ghost use Rattle.tink_streaming_io.specs.Openers.{EndsEmpty, reader_memory, segment_map, text_moment};
+ghost use Rattle.tink_streaming_io.specs.Trials.{ReadsFronts};
 
 use std::marker::Model;
 use std::mem;
 use tink_io::{Cause, Kind, Source, TinkError};
 use tink_primitives::DecryptingRead;
-use tink_segments::StreamSegment;
 use tink_sets::TypedEntry;
-use tink_stream_keys::{StreamKind, Trial, start};
-use tink_streams::TextReader;
+use tink_streaming_ciphers::StreamSegment;
+use tink_streaming_io::TextReader;
+use tink_streaming_keys::{StreamKind, Trial, start};
 
 // The keys of which one may open the stream, with its associated data and memory for the choice.
 #[derive(Drop)]

@@ -8,7 +8,7 @@ ghost use Rattle.tink_sets.specs.Entries.{entry_of};
 ghost use Rattle.tink_keysets.specs.Built.{built_entries, GivesSet};
 ghost use Rattle.tink_keysets.specs.Typing.{typed_entries};
 ghost use Rattle.tink_streaming_aead.specs.DecryptReaders.{KeysReaderMeans, largest, largest_segment, room_of};
-ghost use Rattle.tink_stream_keys.specs.StreamKinds.{key_in_set};
+ghost use Rattle.tink_streaming_keys.specs.StreamKinds.{key_in_set};
 ghost use Rattle.tink_streaming_aead.specs.Wrapped.{AreKeysOf, ArePure, HasOutputPrefix, KeepsOrder, KeepsPrefixes, PrimaryStarts, all_entries, keys_in};
 
 mod candidates;
@@ -22,11 +22,11 @@ use tink_keysets::factory::typed_primitives;
 use tink_keysets::keyset::Handle;
 use tink_primitives::{CloneIn, Kinds, Refused, StreamingAead};
 use tink_registry::{KeyManager, Registry};
-use tink_segments::{AES_CTR_HMAC_NONCE_SIZE_IN_BYTES, StreamSegment};
 use tink_sets::sorts::StreamingAeads;
 use tink_sets::{TypedEntry, TypedPrimitiveSet};
-use tink_stream_keys::{DerivesStreams, StreamKind, Trial, new_encrypting_writer};
-use tink_streams::Writer;
+use tink_streaming_ciphers::{AES_CTR_HMAC_NONCE_SIZE_IN_BYTES, StreamSegment};
+use tink_streaming_io::Writer;
+use tink_streaming_keys::{DerivesStreams, StreamKind, Trial, new_encrypting_writer};
 
 /// The streaming AEADs of a keyset as one: streams are made by the primary key, and opened by the first of the keys under
 /// which they begin. A contract sees the primary key, which there is, and all keys, those of one prefix in their order;

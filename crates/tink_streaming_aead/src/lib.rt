@@ -8,14 +8,21 @@ pub use laws::{
     law_whole_reading, law_whole_stream,
 };
 pub use tink_primitives::UPSTREAM_VERSION;
-pub use tink_segment_traits::{SegmentDecrypter, SegmentEncrypter, generate_segment_nonce};
-pub use tink_segments::{
+pub use tink_streaming_ciphers::{
     AES_CTR_HMAC_KEY_SIZE_IN_BYTES, AES_CTR_HMAC_NONCE_PREFIX_SIZE_IN_BYTES,
     AES_CTR_HMAC_NONCE_SIZE_IN_BYTES, AES_GCM_HKDF_NONCE_PREFIX_SIZE_IN_BYTES,
     AES_GCM_HKDF_NONCE_SIZE_IN_BYTES, AES_GCM_HKDF_TAG_SIZE_IN_BYTES, AesVariant, CtrHmacSegment,
     GcmSegment, StreamSegment, validate_aes_key_size,
 };
-pub use tink_stream_key_types::{
+pub use tink_streaming_io::{
+    Begun, Buffers, Kept, Mode, Opener, Progress, Reader, ReaderParams, Sealer, SegmentReader,
+    SegmentWriter, TextReader, Writer, WriterBuffers, WriterParams, law_any_cutting,
+    law_empty_buffer, law_for_good, law_full_segments, law_whole_text, open_front, open_held,
+};
+pub use tink_streaming_keys::{
+    DerivesStreams, StreamEncrypter, StreamKind, StreamKinds, Trial, begin_stream, choose, start,
+};
+pub use tink_streaming_managers::{
     AES_CTR_HMAC_KEY_VERSION, AES_CTR_HMAC_TYPE_URL, AES_GCM_HKDF_KEY_VERSION,
     AES_GCM_HKDF_TYPE_URL, AesCtrHmacKeyManager, AesCtrHmacKeys, AesGcmHkdfKeyManager,
     AesGcmHkdfKeys, aes128_ctr_hmac_sha256_segment_1mb_key_template,
@@ -24,14 +31,7 @@ pub use tink_stream_key_types::{
     aes256_ctr_hmac_sha256_segment_4kb_key_template, aes256_gcm_hkdf_1mb_key_template,
     aes256_gcm_hkdf_4kb_key_template, ctr_hmac_streaming_key, init,
 };
-pub use tink_stream_keys::{
-    DerivesStreams, StreamEncrypter, StreamKind, StreamKinds, Trial, begin_stream, choose, start,
-};
-pub use tink_streams::{
-    Begun, Buffers, Kept, Mode, Opener, Progress, Reader, ReaderParams, Sealer, SegmentReader,
-    SegmentWriter, TextReader, Writer, WriterBuffers, WriterParams, law_any_cutting,
-    law_empty_buffer, law_for_good, law_full_segments, law_whole_text, open_front, open_held,
-};
+pub use tink_streaming_segment::{SegmentDecrypter, SegmentEncrypter, generate_segment_nonce};
 
 mod decrypt_reader;
 mod factory;

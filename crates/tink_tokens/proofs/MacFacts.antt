@@ -18,7 +18,7 @@ use Rattle.tink_sets.specs.Converting.{converted}
 use Rattle.tink_sets.specs.Converting as converting
 use Rattle.tink_sets.specs.Entries.{entry_of, typed_by, with_primitive}
 use Rattle.tink_sets.specs.declared.entry.Entry.{Entry}
-use Rattle.tink_building.specs.Given.{before, given_each}
+use Rattle.tink_set_builder.specs.Given.{before, given_each}
 use Rattle.tink_keysets.specs.Built.{built_data, built_entries, built_entry}
 use Rattle.tink_keysets.specs.Encrypted.{chained}
 use Rattle.tink_keysets.specs.Valid.{valid_keyset, valid_or_refused}
@@ -28,7 +28,7 @@ use Rattle.keyset_model.specs.Validity.{is_valid, is_validated}
 use Rattle.tink_mac.specs.Rotation.{mac_entries}
 use Rattle.tink_primitives.specs.declared.kinds.Never.{Never}
 use Rattle.tink_mac.specs.declared.mac_kind.MacKind.{MacKind}
-use Rattle.tink_stream_keys.specs.declared.stream_kind.StreamKind.{StreamKind}
+use Rattle.tink_streaming_keys.specs.declared.stream_kind.StreamKind.{StreamKind}
 use Rattle.tink.specs.declared.managers.TinkKinds.{TinkKinds}
 use Rattle.loading_model.proofs.UsableKeys.{AreSound, IsOfLoading, IsSound}
 use Rattle.tink.specs.Managers.{AeadKind, Built, PrfKind, row_of}

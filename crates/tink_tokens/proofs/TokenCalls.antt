@@ -10,7 +10,7 @@ use Rattle.tink_io.specs.declared.error.TinkError.{TinkError}
 use Rattle.tink_io.specs.Told.{made_of, Answers}
 use Rattle.tink_proto.specs.declared.messages.keys.Keyset.{Keyset}
 use Rattle.tink_registry.specs.Listed.{Registered}
-use Rattle.tink_building.specs.Built.{GivesSet}
+use Rattle.tink_set_builder.specs.Built.{GivesSet}
 use Rattle.tink_keysets.specs.Encrypted.{chained}
 use Rattle.tink_keysets.specs.Valid.{valid_keyset}
 use Rattle.tink_mac.specs.Rotation.{mac_entries}

@@ -2,7 +2,7 @@
 #![tactic(auto)]
 
 use std::process::ExitCode;
-use tink_commands::run;
+use tink_cli::run;
 use tink_io::StdSink;
 use tink_system::trouble::{Trouble, tell};
 use tink_unix::{Unix, occupy_standard_streams, words_of_process};

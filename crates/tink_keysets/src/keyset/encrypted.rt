@@ -11,7 +11,7 @@ ghost use Rattle.tink_keysets.specs.Through.{GivesBy, LeavesDraws, MakesAndWrite
 use crate::keyset::{Handle, Reader, Writer, insecure};
 use std::alloc::Global;
 use tink_io::{Draws, Kind, TinkError};
-use tink_keyset_parts::{decrypted_bytes, encrypted_bytes};
+use tink_keyset_rules::{decrypted_bytes, encrypted_bytes};
 use tink_primitives::Aead;
 use tink_proto::{Bytes, EncryptedKeyset, Message};
 

@@ -15,11 +15,11 @@ use crate::keyset::Manager;
 use std::alloc::Global;
 use std::fmt;
 use std::marker::Model;
-use tink_building::{build_set, public_keys};
 use tink_io::{Draws, Kind, TinkError};
-use tink_keyset_parts::{Shown, are_held, have_secrets, is_validated, keyset_info};
+use tink_keyset_rules::{Shown, are_held, have_secrets, is_validated, keyset_info};
 use tink_proto::{Key, KeyTemplate, Keyset, KeysetInfo};
 use tink_registry::{KeyManager, Registry};
+use tink_set_builder::{build_set, public_keys};
 use tink_sets::PrimitiveSet;
 
 /// A keyset whose keys are out of sight. Each of them has data unless it is destroyed, and data has a known
@@ -125,7 +125,7 @@ impl Handle {
     ///
     /// # Errors
     /// As `primitives`, and the given manager's.
-    #[tactic(auto, using(tink_building::proofs::BuildingFacts::well_formed_keys))]
+    #[tactic(auto, using(tink_set_builder::proofs::BuildingFacts::well_formed_keys))]
     pub fn primitives_with_key_manager<M: KeyManager>(
         &self,
         alloc: Global,

@@ -6,7 +6,7 @@ ghost use Rattle.tink_io.specs.Told.{Answers, or_refused, Tells};
 ghost use Rattle.tink_proto.specs.Messages.{keyset};
 ghost use Rattle.wire_format.specs.Message.{decoded};
 ghost use Rattle.keyset_model.specs.Validity.{IsValid, MayBeHeld};
-ghost use Rattle.tink_keyset_parts.specs.Ends.{HasWritten};
+ghost use Rattle.tink_keyset_rules.specs.Ends.{HasWritten};
 ghost use Rattle.tink_keysets.specs.Handles.{handle_of_keys};
 ghost use Rattle.tink_keysets.specs.Through.{GivesBy};
 ghost use Rattle.tink_keysets.specs.Valid.{valid_keyset, valid_or_refused};
@@ -14,7 +14,7 @@ ghost use Rattle.tink_keysets.specs.Valid.{valid_keyset, valid_or_refused};
 use crate::keyset::{Handle, Reader, Writer, validate};
 use std::alloc::Global;
 use tink_io::{Kind, TinkError};
-use tink_keyset_parts::copy;
+use tink_keyset_rules::copy;
 use tink_proto::{Keyset, Message, ProtoError};
 
 /// A copy of a handle's keyset.

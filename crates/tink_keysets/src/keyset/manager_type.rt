@@ -15,7 +15,7 @@ use keyset_model::places::{
 use std::alloc::Global;
 use std::marker::Model;
 use tink_io::{Draws, Kind, TinkError};
-use tink_keyset_parts::{copy_all, new_data, put_new};
+use tink_keyset_rules::{copy_all, new_data, put_new};
 use tink_primitives::KeyId;
 use tink_proto::{Key, KeyStatusType, KeyTemplate, Keyset, Repeated};
 use tink_registry::{KeyManager, Registry};

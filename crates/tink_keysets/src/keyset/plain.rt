@@ -7,7 +7,7 @@ ghost use Rattle.tink_keysets.specs.Through.{GivesBy, MakesAndWrites};
 use crate::keyset::{Handle, Reader, Writer};
 use std::alloc::Global;
 use tink_io::{Kind, TinkError};
-use tink_keyset_parts::have_secrets;
+use tink_keyset_rules::have_secrets;
 
 impl Handle {
     /// A handle of the keyset that is read, which must be without secrets.

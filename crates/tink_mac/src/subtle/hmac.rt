@@ -1,7 +1,7 @@
 //! A MAC by HMAC (FIPS 198-1).
 
 ghost use Rattle.std.specs.Prelude.{◌≡◌, ◌↔◌, ◌≤◌, IsTrue, Ok};
-ghost use Rattle.tink_subtle.specs.Hashes.{hash_named};
+ghost use Rattle.tink_core_subtle.specs.Hashes.{hash_named};
 ghost use Rattle.tink_io.specs.Told.{Answers, Tells};
 ghost use Rattle.tink_mac.specs.Tags.{hmac_params, hmac_tag, hmac_tags, own_tag};
 ghost use Rattle.tink_mac.specs.TagLaws.{own_tag_match};
@@ -9,11 +9,11 @@ ghost use Rattle.tink_mac.specs.TagLaws.{own_tag_match};
 use crate::subtle::compare_tags;
 use std::alloc::Global;
 use std::marker::Model;
+use tink_core_subtle::get_hash_digest_size;
 use tink_io::{Kind, TinkError};
 use tink_prf_subtle::HmacPrf;
 use tink_primitives::{CloneIn, Mac, Prf};
 use tink_proto::{Bytes, HashType};
-use tink_subtle::get_hash_digest_size;
 
 const MIN_KEY_SIZE_IN_BYTES: usize = 16;
 

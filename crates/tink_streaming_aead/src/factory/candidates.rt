@@ -6,8 +6,8 @@ ghost use Rattle.stream_model.specs.Order.{with_prefix};
 ghost use Rattle.tink_sets.specs.Entries.{typed_prefix_of};
 ghost use Rattle.tink_sets.specs.Groups.{AreGroupsOf, group_of};
 ghost use Rattle.tink_sets.specs.declared.entry.TypedEntry.{TypedEntry};
-ghost use Rattle.tink_stream_keys.specs.StreamKinds.{key_in_set};
-ghost use Rattle.tink_stream_keys.specs.declared.stream_kind.StreamKind.{StreamKind};
+ghost use Rattle.tink_streaming_keys.specs.StreamKinds.{key_in_set};
+ghost use Rattle.tink_streaming_keys.specs.declared.stream_kind.StreamKind.{StreamKind};
 ghost use Rattle.tink_streaming_aead.specs.Candidates.{prefix_at};
 ghost use Rattle.tink_streaming_aead.specs.Wrapped.{ArePure, all_entries, keys_in};
 
@@ -16,7 +16,7 @@ use std::alloc::Global;
 use tink_io::TinkError;
 use tink_sets::cryptofmt::NON_RAW_PREFIX_SIZE;
 use tink_sets::{TypedEntry, TypedPrimitiveSet};
-use tink_stream_keys::StreamKind;
+use tink_streaming_keys::StreamKind;
 
 // Each list of a set has the prefix under which it stands, where the set has some entries; and a list has all keys of
 // its prefix.

@@ -1,6 +1,6 @@
 use Rattle.tink_proto_keys.specs.Aead.{aes_gcm_key, aes_gcm_siv_key}
 use Rattle.tink_proto_keys.specs.AesCtrHmac.{aes_ctr_hmac_aead_key}
-use Rattle.tink_key_types.specs.Manager.{message_of}
+use Rattle.tink_key_manager.specs.Manager.{message_of}
 use Rattle.tink_aead.proofs.SoundFacts.{composed_key_sound, gcm_key_sound, gcm_siv_key_sound}
 use Rattle.tink_aead.proofs.laws.law_built_aeads_are_sound.Goals as goal
 

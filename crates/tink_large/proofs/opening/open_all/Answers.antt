@@ -1,8 +1,8 @@
 use Rattle.std.proofs.Common.{rules, ◌+◌, ℕ, Some, length, refl, sym, ap, subst, ◌∙◌, arith}
 use Rattle.stream_model.specs.Sealing.{chunk_count}
-use Rattle.tink_streams.specs.Openers.{reader_moment, segment_map}
-use Rattle.tink_streams.specs.Reading.{ReaderMoment}
-use Rattle.tink_streams.proofs.ReadingFacts.{not_running}
+use Rattle.tink_streaming_io.specs.Openers.{reader_moment, segment_map}
+use Rattle.tink_streaming_io.specs.Reading.{ReaderMoment}
+use Rattle.tink_streaming_io.proofs.ReadingFacts.{not_running}
 use Rattle.tink_large.specs.Large.{large_key, large_text}
 use Rattle.tink_large.specs.Opening.{AllRemains}
 use Rattle.tink_large.specs.Passing.{Passed-trans}

@@ -1,9 +1,9 @@
 -- All segments so far were opened.
 use Rattle.std.proofs.Common.{◌≡◌, ◌-◌, ◌^◌, Some}
 use Rattle.std.specs.Io.KnownBytes.{IsAtEnd}
-use Rattle.tink_streams.specs.Openers.{reader_rest, segment_map}
-use Rattle.tink_streams.specs.Reading.{HasNotFailed}
-use Rattle.tink_streams.specs.declared.progress.Progress.TheVariants.{Ended}
+use Rattle.tink_streaming_io.specs.Openers.{reader_rest, segment_map}
+use Rattle.tink_streaming_io.specs.Reading.{HasNotFailed}
+use Rattle.tink_streaming_io.specs.declared.progress.Progress.TheVariants.{Ended}
 use Rattle.tink_large.specs.Opening.{AllRemains}
 use Rattle.tink_large.specs.SealedText.{Passed, stream_left}
 use Rattle.tink_large.proofs.opening.open_all.Given as goal

@@ -1,8 +1,8 @@
 use Rattle.std.proofs.Common.{ℕ, List, [], ◌∷◌, ◌++◌, take, Some, sym, subst}
 use Rattle.stream_model.specs.Key.{StreamKey}
 use Rattle.stream_model.specs.Opening.{opening_key}
-use Rattle.tink_streams.specs.Choosing.{Started, StartRefused}
-use Rattle.tink_streams.specs.Openers.{reader_rest, segment_map}
+use Rattle.tink_streaming_io.specs.Choosing.{Started, StartRefused}
+use Rattle.tink_streaming_io.specs.Openers.{reader_rest, segment_map}
 use Rattle.tink_large.specs.Opening.{AllRemains}
 use Rattle.tink_large.specs.SealedText.{stream_left}
 use Rattle.tink_large.proofs.StartSteps.{start_not_refused, started}

@@ -1,8 +1,8 @@
 use Rattle.std.proofs.Common.{◌≤◌, [], ◌++◌, length, refl, ap, ◌∙◌, arith, Some}
 use Rattle.stream_model.specs.Cut.{room_at}
-use Rattle.tink_streams.specs.Sealers.{held_text, segment_map}
-use Rattle.tink_streams.proofs.FrontFacts.{size_most}
-use Rattle.tink_streams.proofs.WriterSteps.{room_some, text_length}
+use Rattle.tink_streaming_io.specs.Sealers.{held_text, segment_map}
+use Rattle.tink_streaming_io.proofs.FrontFacts.{size_most}
+use Rattle.tink_streaming_io.proofs.WriterSteps.{room_some, text_length}
 use Rattle.tink_large.proofs.SealedSteps.{cipher_longer, come_under, fills, moment_at, not_refused, step, wide_at}
 use Rattle.tink_large.proofs.sealed_text.seal_piece.Goals as goal
 

@@ -1,5 +1,5 @@
 use Rattle.tink_proto_keys.specs.Mac.{aes_cmac_key, hmac_key}
-use Rattle.tink_key_types.specs.Manager.{message_of}
+use Rattle.tink_key_manager.specs.Manager.{message_of}
 use Rattle.tink_mac.proofs.SoundFacts.{cmac_sound, hmac_sound}
 use Rattle.tink_mac.proofs.laws.law_built_macs_are_sound.Goals as goal
 

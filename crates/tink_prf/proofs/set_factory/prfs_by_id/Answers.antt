@@ -1,6 +1,6 @@
 use Rattle.std.proofs.Common.{rules, ◌≡◌, ◌+◌, Ok, drop}
 use Rattle.tink_sets.specs.Converting.{converted}
-use Rattle.tink_groups.proofs.Converted.{here}
+use Rattle.tink_set_groups.proofs.Converted.{here}
 use Rattle.tink_prf.specs.Sets.{prf_of}
 use Rattle.tink_prf.proofs.Collected.{none_collected, one_collected}
 use Rattle.tink_prf.proofs.set_factory.prfs_by_id.Goals as goal

@@ -1,9 +1,9 @@
 use Rattle.std.proofs.Common.{inl, inr, refl, ap}
 use Rattle.tink_io.specs.declared.error.TinkError.{TinkError}
-use Rattle.tink_program_commands.specs.declared.outcomes.Outcome.TheVariants.{Refused}
-use Rattle.tink_program_commands.specs.Words.{asked_of}
-use Rattle.tink_program_commands.proofs.ProgramLemmas.{want_promised, words_promised}
-use Rattle.tink_program_commands.proofs.StatusLemmas.{command_keeps}
+use Rattle.tink_program_core.specs.declared.outcomes.Outcome.TheVariants.{Refused}
+use Rattle.tink_program_core.specs.Words.{asked_of}
+use Rattle.tink_program_core.proofs.ProgramLemmas.{want_promised, words_promised}
+use Rattle.tink_program_core.proofs.StatusLemmas.{command_keeps}
 use Rattle.tink_program.proofs.program.command.Goals as goal
 
 pub returns-in-Err-clause-means : goal.returns-in-Err-clause-means

@@ -1,6 +1,6 @@
 use Rattle.std.proofs.Common.{sym, ◌∙◌}
-use Rattle.tink_program_commands.proofs.ProgramLemmas.{status_means}
-use Rattle.tink_program_commands.proofs.StatusLemmas.{none_told}
+use Rattle.tink_program_core.proofs.ProgramLemmas.{status_means}
+use Rattle.tink_program_core.proofs.StatusLemmas.{none_told}
 use Rattle.tink_program.proofs.program.program.Goals as goal
 
 pub returns-clause-means : goal.returns-clause-means

@@ -4,9 +4,9 @@ use Rattle.std.specs.declared.option.Option.{Option}
 use Rattle.stream_model.specs.Cut.{numbered}
 use Rattle.stream_model.specs.Key.{StreamKey, nonce_size}
 use Rattle.stream_model.specs.Opening.{Begins, IsChosen, OpeningKey, opening_key}
-use Rattle.tink_segments.specs.StreamSegments.{segment_by}
-use Rattle.tink_streams.specs.Choosing.{Found, IsOpenerOf}
-use Rattle.tink_streams.proofs.ChoosingSteps.{ChosenFrom, both_told, key_split, none_left, pass_over, take_key}
+use Rattle.tink_streaming_ciphers.specs.StreamSegments.{segment_by}
+use Rattle.tink_streaming_io.specs.Choosing.{Found, IsOpenerOf}
+use Rattle.tink_streaming_io.proofs.ChoosingSteps.{ChosenFrom, both_told, key_split, none_left, pass_over, take_key}
 use Rattle.tink_range.specs.ChoosingAt.{IsChosenInPlace, Tries, is_tried, one_if}
 use Rattle.tink_range.proofs.ObjectSteps.{keeps_trans, no_more_than, room_for, rose_since}
 use Rattle.tink_range.proofs.PlacedFacts.{PlacedFrom, one_place, placed_all, placed_first, placed_on}

@@ -1,7 +1,7 @@
 -- What is chosen of the rest of the keys is chosen, and so many of those before were tried.
 use Rattle.std.proofs.Common.{◌≡◌, ◌≤◌, ◌+◌, ◌-◌, IfSome, vec_len, vec_capacity}
 use Rattle.stream_model.specs.Opening.{opening_key}
-use Rattle.tink_streams.proofs.ChoosingSteps.{ChosenFrom}
+use Rattle.tink_streaming_io.proofs.ChoosingSteps.{ChosenFrom}
 use Rattle.tink_range.specs.Objects.{KeepsObject}
 use Rattle.tink_range.proofs.PlacedFacts.{PlacedFrom}
 use Rattle.tink_range.proofs.TriesFacts.{TriesFrom}

@@ -2,8 +2,8 @@ use Rattle.std.proofs.Common.{◌≡◌, None, vec_capacity}
 use Rattle.stream_model.specs.Cut.{numbered}
 use Rattle.stream_model.specs.Key.{StreamKey, nonce_size}
 use Rattle.stream_model.specs.Opening.{HasFront, OpeningKey, header_of, opening_key}
-use Rattle.tink_segments.specs.StreamSegments.{segment_by}
-use Rattle.tink_stream_keys.specs.Decrypters.{OpensBehind}
+use Rattle.tink_streaming_ciphers.specs.StreamSegments.{segment_by}
+use Rattle.tink_streaming_keys.specs.Decrypters.{OpensBehind}
 use Rattle.tink_range.proofs.TrialAtFacts.{either, same_memory}
 use Rattle.tink_range.proofs.choosing_at.front_at.Goals as goal
 

@@ -4,7 +4,7 @@ use Rattle.stream_model.specs.Cut.{numbered}
 use Rattle.stream_model.specs.Key.{StreamKey, nonce_size}
 use Rattle.stream_model.specs.Opening.{Begins, OpeningKey, front_length, opening_key}
 use Rattle.stream_model.proofs.KeyFacts.{opening_key_lawful}
-use Rattle.tink_segments.specs.StreamSegments.{segment_by}
+use Rattle.tink_streaming_ciphers.specs.StreamSegments.{segment_by}
 use Rattle.tink_range.specs.ChoosingAt.{DoesBeginAt, DoesNotBeginAt, is_tried, one_if}
 use Rattle.tink_range.specs.declared.choosing_at.BegunAt.{BegunAt}
 use Rattle.tink_range.proofs.ObjectSteps.{below, front_inside, keeps_trans, none_more, one_more, room_for, rose_since, unread}

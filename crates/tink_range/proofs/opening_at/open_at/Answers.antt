@@ -1,7 +1,7 @@
 use Rattle.std.proofs.Common.{◌≡◌, ◌+◌, min, nat_le, ℕ, Bool, true, List, length, take, drop, refl, sym, IfSome, vec_len}
 use Rattle.std.proofs.lemmas.Result.{IfOk-weaker}
 use Rattle.stream_model.specs.Cut.{room_at}
-use Rattle.tink_streams.specs.Openers.{segment_map}
+use Rattle.tink_streaming_io.specs.Openers.{segment_map}
 use Rattle.tink_range.specs.ChunkReading.{ChunkOpensTo, OpensAt}
 use Rattle.tink_range.proofs.ObjectSteps.{chunk_fits, chunk_inside}
 use Rattle.tink_range.proofs.ReadingFacts.{chunk_length, opened_at, whole_chunk}

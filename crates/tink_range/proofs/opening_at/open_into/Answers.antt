@@ -1,5 +1,5 @@
 use Rattle.std.proofs.Common.{ℕ, Bool, List, take, drop, length, ◌∙◌}
-use Rattle.tink_streams.specs.Openers.{segment_map}
+use Rattle.tink_streaming_io.specs.Openers.{segment_map}
 use Rattle.tink_range.proofs.ReadingFacts.{opened_as}
 use Rattle.tink_range.proofs.opening_at.open_into.Goals as goal
 

@@ -2,9 +2,9 @@ use Rattle.std.proofs.Common.{◌-◌, List, map, IfSome, refl, ap, subst, ◌�
 use Rattle.std.specs.Prelude.{IfErr, IfOk}
 use Rattle.stream_model.specs.Opening.{OpeningKey, opening_key}
 use Rattle.tink_io.specs.declared.error.Kind.TheVariants.{OutOfMemory}
-use Rattle.tink_stream_keys.specs.StreamKinds.{key_in_set}
-use Rattle.tink_streams.specs.Choosing.{Found, StartRefused}
-use Rattle.tink_streams.specs.Openers.{segment_map}
+use Rattle.tink_streaming_keys.specs.StreamKinds.{key_in_set}
+use Rattle.tink_streaming_io.specs.Choosing.{Found, StartRefused}
+use Rattle.tink_streaming_io.specs.Openers.{segment_map}
 use Rattle.tink_range.specs.ChoosingAt.{HasTried}
 use Rattle.tink_range.proofs.ObjectSteps.{refusal_leaves, unread}
 use Rattle.tink_range.proofs.StartAtFacts.{fused, memory_refused, memory_untried, new_refused, ticks_of}

@@ -1,7 +1,7 @@
 use Rattle.std.proofs.Common.{rules, ◌≡◌, ◌+◌, ℕ, List, map, ap, sym, ◌∙◌, subst, vec_len, arith}
 use Rattle.std.proofs.lemmas.Simd.{map-map}
 use Rattle.stream_model.specs.Opening.{OpeningKey, opening_key}
-use Rattle.tink_stream_keys.specs.StreamKinds.{key_in_set}
+use Rattle.tink_streaming_keys.specs.StreamKinds.{key_in_set}
 use Rattle.tink_streaming_aead.specs.Wrapped.{all_entries, keys_in}
 use Rattle.tink_streaming_aead.specs.DecryptReaders.{largest}
 use Rattle.tink_run.specs.OpenReads.{ReadsWithin, room_under}

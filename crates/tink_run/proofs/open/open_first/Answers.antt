@@ -1,6 +1,6 @@
 use Rattle.std.proofs.Common.{rules, refl, arith, vec_len}
-use Rattle.tink_streams.specs.Openers.{reader_moment, segment_map}
-use Rattle.tink_streams.specs.Reading.{ReaderMoment}
+use Rattle.tink_streaming_io.specs.Openers.{reader_moment, segment_map}
+use Rattle.tink_streaming_io.specs.Reading.{ReaderMoment}
 use Rattle.tink_run.proofs.ReadsSteps.{failed_by_source, first_failed, held_first, refused_reads}
 use Rattle.tink_run.proofs.open.open_first.Goals as goal
 

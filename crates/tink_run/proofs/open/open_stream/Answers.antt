@@ -2,7 +2,7 @@ use Rattle.std.proofs.Common.{rules, take, length, refl, sym, ap, ◌∙◌, ari
 use Rattle.std.proofs.KnownBytes.{Keeps-refl}
 use Rattle.std.proofs.lemmas.Result.{err_from_is_err_and}
 use Rattle.std.specs.Io.KnownBytes.{prepend_known}
-use Rattle.tink_streams.specs.Reading.{ReaderMoment}
+use Rattle.tink_streaming_io.specs.Reading.{ReaderMoment}
 use Rattle.tink_run.proofs.ReadOut.{reading_first, reading_next, read_out, write_failed, next_refused, next_wrote, first_refused, still_running, some_first}
 use Rattle.tink_streaming_aead.proofs.DecryptSteps.{reads_held}
 use Rattle.tink_run.proofs.ReadsSteps.{first_reads, next_reads, write_reads}

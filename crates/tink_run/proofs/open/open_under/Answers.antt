@@ -3,8 +3,8 @@ use Rattle.std.specs.Io.KnownBytes.{prepend_known}
 use Rattle.std.proofs.KnownBytes.{Keeps-refl}
 use Rattle.std.proofs.lemmas.Result.{err_from_is_err_and}
 use Rattle.stream_model.specs.Cut.{numbered}
-use Rattle.tink_streams.proofs.ReadingFacts.{numbered_longer}
-use Rattle.tink_segments.specs.StreamSegments.{length-segment_by, segment_by}
+use Rattle.tink_streaming_io.proofs.ReadingFacts.{numbered_longer}
+use Rattle.tink_streaming_ciphers.specs.StreamSegments.{length-segment_by, segment_by}
 use Rattle.tink_io.specs.Outside.{Outside}
 use Rattle.tink_run.proofs.OpenSteps.{unread, start_refused, means_under}
 use Rattle.tink_streaming_aead.proofs.DecryptSteps.{reads_more}

@@ -2,7 +2,7 @@ use Rattle.std.proofs.Common.{refl, le_refl, le_trans}
 use Rattle.std.proofs.lemmas.Result.{err_from_is_err_and}
 use Rattle.tink_run.proofs.SealSteps.{begin_leaves, begin_refusal, leaves_late}
 use Rattle.tink_run.proofs.RunSteps.{leaves_same}
-use Rattle.tink_stream_keys.specs.StreamKinds.{key_in_set}
+use Rattle.tink_streaming_keys.specs.StreamKinds.{key_in_set}
 use Rattle.tink_run.proofs.seal.seal.Goals as goal
 
 pub returns-in_err-piece : goal.returns-in_err-piece

@@ -1,7 +1,7 @@
 use Rattle.std.proofs.Common.{refl, le_trans}
 use Rattle.std.proofs.lemmas.Result.{err_from_is_err_and}
 use Rattle.tink_run.proofs.SealSteps.{close_late, closed, not_closed, not_poured, pour_late}
-use Rattle.tink_streams.specs.Sealers.{held_text}
+use Rattle.tink_streaming_io.specs.Sealers.{held_text}
 use Rattle.tink_run.proofs.seal.seal_begun.Goals as goal
 
 pub returns-in_err-bytes : goal.returns-in_err-bytes

@@ -1,6 +1,6 @@
 use Rattle.std.proofs.Common.{rules, arith, ap, subst, sym}
 use Rattle.tink_io.specs.Gathering.{OnlyGrows}
-use Rattle.tink_stream_keys.specs.StreamKinds.{key_in_set}
+use Rattle.tink_streaming_keys.specs.StreamKinds.{key_in_set}
 use Rattle.tink_run.specs.SealSteps.{SealsUnder}
 use Rattle.tink_io.specs.Outside.{Outside, outside_of}
 use Rattle.tink_run.proofs.EndingSteps.{begins_as, early_ends, ends_as, seals_ended, leaves_ended}

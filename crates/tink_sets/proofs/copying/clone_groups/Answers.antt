@@ -1,5 +1,5 @@
 use Rattle.std.proofs.Common.{inl, inr}
-use Rattle.tink_groups.proofs.Converted.{copied, never_refused}
+use Rattle.tink_set_groups.proofs.Converted.{copied, never_refused}
 use Rattle.tink_sets.proofs.copying.clone_groups.Goals as goal
 
 pub returns-in-Ok-clause-ok : goal.returns-in-Ok-clause-ok

@@ -1,6 +1,6 @@
 use Rattle.std.proofs.Common.{◌∙◌, List, ℕ, ap, inl, refl, subst}
 use Rattle.tink_io.specs.declared.error.TinkError.{TinkError}
-use Rattle.tink_groups.specs.Groups.{Adds}
+use Rattle.tink_set_groups.specs.Groups.{Adds}
 use Rattle.tink_sets.proofs.StandingFacts.{may, may_not}
 use Rattle.tink_sets.proofs.primitive_set.put_by_key.Goals as goal
 

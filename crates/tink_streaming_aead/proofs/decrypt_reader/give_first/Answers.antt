@@ -2,9 +2,9 @@ use Rattle.std.proofs.Common.{◌≡◌, ◌∙◌, ℕ, Bool, List, length, map
 use Rattle.std.proofs.lemmas.Result.{err_from_is_err_and}
 use Rattle.std.proofs.lemmas.Simd.{map-map}
 use Rattle.stream_model.specs.Opening.{opening_key}
-use Rattle.tink_stream_keys.specs.StreamKinds.{key_in_set}
-use Rattle.tink_streams.specs.Openers.{segment_map, text_moment}
-use Rattle.tink_streams.specs.TextReading.{TextMoment, ReadRefused}
+use Rattle.tink_streaming_keys.specs.StreamKinds.{key_in_set}
+use Rattle.tink_streaming_io.specs.Openers.{segment_map, text_moment}
+use Rattle.tink_streaming_io.specs.TextReading.{TextMoment, ReadRefused}
 use Rattle.tink_streaming_aead.proofs.DecryptSteps.{first_moment, first_refused, fresh_gives, fresh_refused, reads_more, reads_near, start_refused, started_fronts, unread}
 use Rattle.tink_streaming_aead.proofs.decrypt_reader.give_first.Goals as goal
 

@@ -1,5 +1,5 @@
 use Rattle.std.proofs.Common.{◌∙◌, ℕ, List, ap}
-use Rattle.tink_key_types.specs.Manager.{symmetric}
+use Rattle.tink_key_manager.specs.Manager.{symmetric}
 use Rattle.tink.proofs.NewKeys.{data_made, data_refused}
 use Rattle.tink.proofs.managers.ManagersKeyManager.new_key_data.Goals as goal
 

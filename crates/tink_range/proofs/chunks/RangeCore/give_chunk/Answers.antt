@@ -1,7 +1,7 @@
 use Rattle.std.proofs.Common.{◌+◌, ◌-◌, min, ℕ, Bool, true, List, length, refl, sym, ap, subst, ◌∙◌, le_of_eq, le_refl}
 use Rattle.stream_model.specs.Cut.{room_at}
 use Rattle.tink_io.specs.declared.error.Kind.TheVariants.{BadSegment, ReadFault}
-use Rattle.tink_streams.specs.Openers.{segment_map}
+use Rattle.tink_streaming_io.specs.Openers.{segment_map}
 use Rattle.tink_range.specs.ChunkReading.{OpensAt}
 use Rattle.tink_range.specs.RangeCores.{chunk_in}
 use Rattle.tink_range.proofs.ChunkSteps.{none_opens, one_refused, one_written}

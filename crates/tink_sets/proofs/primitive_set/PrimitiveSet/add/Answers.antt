@@ -1,7 +1,7 @@
 use Rattle.std.proofs.Common.{◌∙◌, refl}
 use Rattle.tink_sets.specs.Entries.{entry_of, own_prefix}
-use Rattle.tink_groups.specs.Groups.{group_of}
-use Rattle.tink_groups.proofs.AddingFacts.{read_ends, some_behind}
+use Rattle.tink_set_groups.specs.Groups.{group_of}
+use Rattle.tink_set_groups.proofs.AddingFacts.{read_ends, some_behind}
 use Rattle.tink_sets.proofs.primitive_set.PrimitiveSet.add.Goals as goal
 
 pub newest-requires : goal.newest-requires

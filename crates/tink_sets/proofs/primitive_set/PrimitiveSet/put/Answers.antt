@@ -3,7 +3,7 @@ use Rattle.std.specs.Prelude.{OnErr, OnOk}
 use Rattle.tink_io.specs.Told.{Answers}
 use Rattle.tink_io.specs.declared.error.TinkError.{TinkError}
 use Rattle.tink_sets.specs.Entries.{entry_of, may_stand, own_prefix, prefix_of}
-use Rattle.tink_groups.specs.Groups.{Adds, AddsLast, HaveSameGroups}
+use Rattle.tink_set_groups.specs.Groups.{Adds, AddsLast, HaveSameGroups}
 use Rattle.tink_sets.proofs.primitive_set.PrimitiveSet.put.Goals.{in-Ok, in-Err}
 use Rattle.tink_sets.proofs.primitive_set.PrimitiveSet.put.Goals as goal
 

@@ -2,8 +2,8 @@ use Rattle.std.proofs.Common.{refl, subst}
 use Rattle.std.specs.Prelude.{OnOk}
 use Rattle.std.proofs.lemmas.Result.{on_ok_weaker}
 use Rattle.tink_sets.specs.Entries.{entry_of, own_prefix, prefix_of}
-use Rattle.tink_groups.specs.Groups.{Adds}
-use Rattle.tink_groups.proofs.AddingFacts.{after_adding, group_of-own}
+use Rattle.tink_set_groups.specs.Groups.{Adds}
+use Rattle.tink_set_groups.proofs.AddingFacts.{after_adding, group_of-own}
 use Rattle.tink_sets.proofs.primitive_set.PrimitiveSet.put_entry.Goals as goal
 
 pub returns-in-Ok : goal.returns-in-Ok

@@ -1,9 +1,9 @@
 use Rattle.std.proofs.Common.{Err, ap, length, refl, subst, sym, arith, ◌∙◌}
 use Rattle.std.proofs.lemmas.List.{length-take}
-use Rattle.tink_segment_traits.specs.declared.segment_traits.SegmentDecrypter.{Ghosts}
-use Rattle.tink_segments.specs.declared.stream_segment.StreamSegment.{StreamSegment}
-use Rattle.tink_streams.specs.Readers.{SegmentOpening}
-use Rattle.tink_segment_traits.specs.declared.opener.Opener.{Opener}
+use Rattle.tink_streaming_segment.specs.declared.segment_traits.SegmentDecrypter.{Ghosts}
+use Rattle.tink_streaming_ciphers.specs.declared.stream_segment.StreamSegment.{StreamSegment}
+use Rattle.tink_streaming_io.specs.Readers.{SegmentOpening}
+use Rattle.tink_streaming_segment.specs.declared.opener.Opener.{Opener}
 use Rattle.tink_streaming_aead.specs.DecryptReaders.{DecryptMeans, DecryptState, KeepsNoMore, ReadsNoMore, TakesAtMost}
 use Rattle.tink_streaming_aead.specs.DecryptStages.{state_of}
 use Rattle.tink_streaming_aead.specs.declared.decrypt_reader.Stage.{Stage}

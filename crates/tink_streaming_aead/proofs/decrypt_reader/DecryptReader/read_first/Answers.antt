@@ -1,6 +1,6 @@
 use Rattle.std.proofs.Common.{Ok, Err, ap, map, subst, sym, vec_len, arith, ◌∙◌}
 use Rattle.std.proofs.lemmas.List.{length-take}
-use Rattle.tink_stream_keys.specs.StreamKinds.{key_in_set}
+use Rattle.tink_streaming_keys.specs.StreamKinds.{key_in_set}
 use Rattle.tink_streaming_aead.specs.DecryptReaders.{DecryptMeans, DecryptState, KeepsNoMore, TakesAtMost}
 use Rattle.tink_streaming_aead.specs.DecryptStages.{state_of}
 use Rattle.tink_streaming_aead.specs.declared.decrypt_reader.Stage.{Stage}

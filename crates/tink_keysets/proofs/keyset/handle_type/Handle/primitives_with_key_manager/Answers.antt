@@ -2,8 +2,8 @@ use Rattle.std.proofs.Common.{◌≡◌, ◌∙◌, true, false, inr, option_cop
 use Rattle.tink_proto.specs.declared.messages.keys.Keyset.{Keyset}
 use Rattle.tink_sets.specs.Entries.{entry_of}
 use Rattle.keyset_model.specs.Validity.{is_validated}
-use Rattle.tink_building.specs.Built.{built_entry, IsSetOf}
-use Rattle.tink_building.proofs.BuildingFacts.{none_given, set_given}
+use Rattle.tink_set_builder.specs.Built.{built_entry, IsSetOf}
+use Rattle.tink_set_builder.proofs.BuildingFacts.{none_given, set_given}
 use Rattle.tink_keysets.proofs.keyset.handle_type.Handle.primitives_with_key_manager.Goals as goal
 
 pub returns-then-not-is_validated : goal.returns-then-not-is_validated

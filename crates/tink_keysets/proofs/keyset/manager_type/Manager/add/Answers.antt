@@ -4,9 +4,9 @@ use Rattle.tink_proto.specs.declared.messages.keys.Key.{Key}
 use Rattle.tink_proto.specs.declared.messages.keys.Keyset.{Keyset}
 use Rattle.keyset_model.specs.Adding.{added}
 use Rattle.keyset_model.specs.Validity.{is_held}
-use Rattle.tink_keyset_parts.specs.Managed.{data_by, IsAdded}
-use Rattle.tink_keyset_parts.proofs.AddingFacts.{fresh_added, is_added, left_added, refused_data, replies_added, same_keys}
-use Rattle.tink_keyset_parts.proofs.GivenData.{gives_held}
+use Rattle.tink_keyset_rules.specs.Managed.{data_by, IsAdded}
+use Rattle.tink_keyset_rules.proofs.AddingFacts.{fresh_added, is_added, left_added, refused_data, replies_added, same_keys}
+use Rattle.tink_keyset_rules.proofs.GivenData.{gives_held}
 use Rattle.tink_keysets.proofs.ThroughFacts.{so_on_ok}
 use Rattle.tink_keysets.proofs.keyset.manager_type.Manager.add.Goals as goal
 

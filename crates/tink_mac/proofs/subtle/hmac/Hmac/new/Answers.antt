@@ -1,5 +1,5 @@
 use Rattle.std.proofs.Common.{inr}
-use Rattle.tink_subtle.specs.Hashes.{hash_named}
+use Rattle.tink_core_subtle.specs.Hashes.{hash_named}
 use Rattle.tink_mac.proofs.TagFacts.{hmac_tags_refused}
 use Rattle.tink_mac.proofs.subtle.hmac.Hmac.new.Goals as goal
 

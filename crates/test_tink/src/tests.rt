@@ -1,0 +1,42 @@
+//! Each task over one registry of all managers.
+
+use crate::edited::keysets_are_edited;
+use crate::tasks::{Task, draws, is_done};
+use crate::templates::templates_build;
+use std::alloc::Global;
+use test_util::Told;
+use tink::{Draws, Managers, Registry, registry};
+
+const TASKS: &[(&str, Task)] = &[
+    ("a value is encrypted", Task::Encrypt),
+    ("old data opens after a rotation", Task::Rotate),
+    ("a MAC is of its message", Task::Mac),
+    ("a keyset in JSON is encrypted", Task::Json),
+    ("a stream is read in pieces", Task::Stream),
+];
+
+fn do_all(told: &mut Told, alloc: Global, registry: &Registry<Managers>, draws: &mut Draws) {
+    for (row, task) in TASKS {
+        told.expect(is_done(alloc, registry, draws, *task), Ok(true), row);
+    }
+    templates_build(alloc, told, registry, draws);
+    keysets_are_edited(alloc, told, registry);
+}
+
+// The same by draws that are made.
+fn draw_all(told: &mut Told, alloc: Global, registry: &Registry<Managers>) {
+    match draws(alloc) {
+        Ok(mut draws) => do_all(told, alloc, registry, &mut draws),
+        Err(e) => told.expect(Err(e), Ok(true), "the draws"),
+    }
+}
+
+/// What all rows tell.
+pub fn rows(alloc: Global) -> Told {
+    let mut told = Told::new();
+    match registry(alloc) {
+        Ok(registry) => draw_all(&mut told, alloc, &registry),
+        Err(e) => told.expect(Err(e), Ok(true), "the registry"),
+    }
+    told
+}

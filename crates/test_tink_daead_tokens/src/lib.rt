@@ -1,0 +1,17 @@
+//! Tests of deterministic AEADs and of signed tokens, by their public calls.
+#![tactic(auto)]
+
+mod daead;
+mod tokens;
+
+use std::alloc::Global;
+use test_util::Told;
+
+/// What all rows tell.
+pub fn rows(alloc: Global) -> Told {
+    let mut told = Told::new();
+    daead::keyset_tests::keys_and_keysets_are_as_the_rows_say(alloc, &mut told);
+    daead::siv_tests::aes_siv_is_as_the_rows_say(alloc, &mut told);
+    tokens::rows::tokens_are_as_the_rows_say(alloc, &mut told);
+    told
+}

@@ -1,0 +1,148 @@
+ghost use Rattle.tink_io.specs.Told.{Answers};
+ghost use Rattle.tink_keyset_io.specs.Edited.{edited_file};
+ghost use Rattle.tink_keyset_io.specs.declared.key_files.editing.Edit.TheVariants.{Disable};
+
+use std::alloc::Global;
+use test_util::{Answer, Told, gives};
+use tink_io::{Kind, TinkError};
+use tink_keyset_io::key_files::{Edit, Format, edited_file, list, wire_bytes};
+use tink_proto::Bytes;
+
+// A public keyset of two keys in JSON, of which the second is disabled.
+const KEYS: &[u8] = b" {\"primaryKeyId\": 7, \"key\": [
+ {\"keyData\": {\"typeUrl\": \"type.googleapis.com/google.crypto.tink.AesGcmHkdfStreamingKey\", \"value\": \"AAEC\",
+ \"keyMaterialType\": \"SYMMETRIC\"}, \"status\": \"ENABLED\", \"keyId\": 7, \"outputPrefixType\": \"RAW\"},
+ {\"keyData\": {\"typeUrl\": \"other\\u001bkey\", \"value\": \"AAEC\", \"keyMaterialType\": \"SYMMETRIC\"},
+ \"status\": \"DISABLED\", \"keyId\": 8, \"outputPrefixType\": \"TINK\"}]}";
+
+const LINES: &[u8] =
+    b"7\tenabled\tRAW\tAesGcmHkdfStreamingKey\tprimary\n8\tdisabled\tTINK\tother?key\n";
+
+const ENABLED: &[u8] =
+    b"7\tenabled\tRAW\tAesGcmHkdfStreamingKey\tprimary\n8\tenabled\tTINK\tother?key\n";
+
+// The first key, and a destroyed one without data.
+const DESTROYED: &[u8] = b"{\"primaryKeyId\": 7, \"key\": [
+ {\"keyData\": {\"typeUrl\": \"type.googleapis.com/google.crypto.tink.AesGcmHkdfStreamingKey\", \"value\": \"AAEC\",
+ \"keyMaterialType\": \"SYMMETRIC\"}, \"status\": \"ENABLED\", \"keyId\": 7, \"outputPrefixType\": \"RAW\"},
+ {\"status\": \"DESTROYED\", \"keyId\": 8, \"outputPrefixType\": \"TINK\"}]}";
+
+const DESTROYED_LINES: &[u8] =
+    b"7\tenabled\tRAW\tAesGcmHkdfStreamingKey\tprimary\n8\tdestroyed\tTINK\t-\n";
+
+// The file with the first key of an id disabled, in the format that it has.
+fn disabled(alloc: Global, file: Vec<u8>, id: u32) -> Result<Bytes, TinkError>
+    ensures { Answers result (edited_file file.items Disable id) }
+{
+    edited_file(alloc, file, Edit::Disable, id)
+}
+
+// Whether the keys of a file are these.
+fn lists(alloc: Global, file: Vec<u8>, lines: &[u8]) -> Result<bool, TinkError> {
+    match wire_bytes(alloc, file) {
+        Ok(keyset) => gives(list(alloc, keyset.as_slice()), lines),
+        Err(e) => Err(e),
+    }
+}
+
+fn edit_of(alloc: Global, file: Vec<u8>, edit: Edit, id: u32) -> Result<Bytes, TinkError> {
+    match edit {
+        Edit::Disable => disabled(alloc, file, id),
+        _ => edited_file(alloc, file, edit, id),
+    }
+}
+
+// Whether a file is in JSON and lists these keys.
+fn lists_json(
+    alloc: Global,
+    file: Result<Bytes, TinkError>,
+    lines: &[u8],
+) -> Result<bool, TinkError> {
+    match file {
+        Ok(bytes) => {
+            if Format::of_file(bytes.as_slice()) == Format::Json {
+                Ok(lists(alloc, bytes.into_vec(), lines) == Ok(true))
+            } else {
+                Ok(false)
+            }
+        }
+        Err(e) => Err(e),
+    }
+}
+
+// Whether a file lists these keys, which after an edit of the key of an id is in JSON, or how the edit is refused.
+fn answered(
+    alloc: Global,
+    file: Vec<u8>,
+    edit: &Option<(Edit, u32)>,
+    lines: &[u8],
+) -> Result<bool, TinkError> {
+    match edit {
+        Some((edit, id)) => lists_json(alloc, edit_of(alloc, file, *edit, *id), lines),
+        None => lists(alloc, file, lines),
+    }
+}
+
+// A file, an edit, and the keys after it.
+const FILES: &[(&str, &[u8], Option<(Edit, u32)>, &[u8], Answer)] = &[
+    ("the keys", KEYS, None, LINES, Ok(true)),
+    (
+        "a destroyed key",
+        DESTROYED,
+        None,
+        DESTROYED_LINES,
+        Ok(true),
+    ),
+    (
+        "the keys after an edit",
+        KEYS,
+        Some((Edit::Enable, 8)),
+        ENABLED,
+        Ok(true),
+    ),
+    (
+        "the primary key disabled",
+        KEYS,
+        Some((Edit::Disable, 7)),
+        b"",
+        Err(Kind::IsPrimary),
+    ),
+    (
+        "no key deleted",
+        KEYS,
+        Some((Edit::Delete, 9)),
+        b"",
+        Err(Kind::KeyNotFound),
+    ),
+    (
+        "a disabled key as primary",
+        KEYS,
+        Some((Edit::Promote, 8)),
+        b"",
+        Err(Kind::NotEnabled),
+    ),
+    (
+        "no keyset in JSON",
+        b"{\"key\": 1}",
+        Some((Edit::Enable, 8)),
+        b"",
+        Err(Kind::BadJson),
+    ),
+    (
+        "no keyset",
+        b"no keyset",
+        Some((Edit::Enable, 8)),
+        b"",
+        Err(Kind::BadKeyset),
+    ),
+];
+
+pub fn files_of_keys_are_listed_and_edited(alloc: Global, told: &mut Told) {
+    for (row, file, edit, lines, want) in FILES {
+        let got = match Vec::from_slice(alloc, file) {
+            Ok(file) => answered(alloc, file, edit, lines),
+            Err(_) => Err(TinkError::new(Kind::OutOfMemory)),
+        };
+        told.expect(got, *want, row);
+    }
+}

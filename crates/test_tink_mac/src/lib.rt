@@ -1,0 +1,23 @@
+//! Tests of MACs, of their keys, and of those of a keyset.
+#![tactic(auto)]
+
+mod asked;
+mod keys;
+mod registering;
+mod sizes;
+mod vectors;
+mod wrapped;
+
+use std::alloc::Global;
+use test_util::Told;
+
+/// What all rows tell.
+pub fn rows(alloc: Global) -> Told {
+    let mut told = Told::new();
+    keys::rows(alloc, &mut told);
+    registering::rows(alloc, &mut told);
+    sizes::rows(alloc, &mut told);
+    vectors::rows(alloc, &mut told);
+    wrapped::rows(alloc, &mut told);
+    told
+}

@@ -1,0 +1,30 @@
+//! Segments of both kinds against those that Python made, and the limits of their keys, nonces and tags; writers and
+//! readers of streams over memory that fails and moves few bytes, against streams that Python made, and callers whose
+//! contracts follow from theirs.
+#![tactic(auto)]
+
+mod caller_tests;
+mod kind_tests;
+mod nonce_tests;
+mod reader_tests;
+mod segment_callers;
+mod segment_tests;
+mod writer_tests;
+
+use std::alloc::Global;
+use test_util::Told;
+
+/// What all rows tell.
+pub fn rows(alloc: Global) -> Told {
+    let mut told = Told::new();
+    segment_tests::segments_are_made_and_opened_by_gcm(alloc, &mut told);
+    segment_tests::segments_are_made_and_opened_in_counter_mode(alloc, &mut told);
+    segment_tests::segments_are_made_in_memory_and_in_place(alloc, &mut told);
+    nonce_tests::limits_are_those_of_the_rows(alloc, &mut told);
+    writer_tests::writers_answer_as_the_rows_say(alloc, &mut told);
+    reader_tests::readers_give_the_text(alloc, &mut told);
+    reader_tests::readers_refuse_what_is_changed(alloc, &mut told);
+    reader_tests::readers_refuse_what_is_cut_or_small(alloc, &mut told);
+    kind_tests::writers_and_readers_take_either_kind(alloc, &mut told);
+    told
+}

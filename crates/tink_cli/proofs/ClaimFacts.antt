@@ -1,0 +1,64 @@
+-- What the program over the streams of the process spells, it claims.
+use Rattle.std.proofs.Common.{◌≡◌, ◌^◌, ◌-◌, inl, inr, ◌==◌, true, false, ℕ, List, [], ◌∷◌, refl, arith, Ok, rules}
+use Rattle.std.specs.Prelude.{decimal}
+use Rattle.std.specs.Str.Parse.{IsNumeral}
+use Rattle.std.proofs.lemmas.Fmt.{decimal_is_IsNumeral}
+use Rattle.hex.specs.Hex.{decode_of, is_hex_digit}
+use Rattle.hex.proofs.HexLemmas.{decode_of-ok}
+use Rattle.tink_cli_words.specs.Words.{is_option}
+use Rattle.tink_program.specs.Words.{Asked, IsBytesWord, IsNumberWord, Spells}
+use Rattle.tink_program.specs.Words.Asked.{Making, Measuring, Opening, Ranging, Rewrapping, Rotating, Sealing, Signing, Verifying}
+use Rattle.tink_cli.specs.Claims.{is_of_streams}
+
+-- a digit is no dash
+not_dash : (b : ℕ) → is_hex_digit b ≡ true → (b == 45) ≡ false
+not_dash b digit = search rules
+
+hex_is_no_option : (word bytes : List ℕ) → decode_of word ≡ Ok bytes → is_option word ≡ false
+hex_is_no_option [] bytes is = refl
+hex_is_no_option (b ∷ []) bytes is = refl
+hex_is_no_option (b ∷ c ∷ cs) bytes is = not_dash b ((decode_of-ok (b ∷ c ∷ cs) bytes is).1 0 b (omega arith))
+
+numeral_is_no_option : (word : List ℕ) → IsNumeral 10 word → is_option word ≡ false
+numeral_is_no_option [] is = refl
+numeral_is_no_option (b ∷ []) is = refl
+numeral_is_no_option (b ∷ c ∷ cs) is = search rules
+
+-- so no word that such a line has is an option
+bytes_word : (word bytes : List ℕ) → IsBytesWord word bytes → is_option word ≡ false
+bytes_word word bytes (inl dash) = rw dash.0 refl
+bytes_word word bytes (inr digits) = hex_is_no_option word bytes digits.1
+
+number_word : (word : List ℕ) (n : ℕ) → IsNumberWord (2 ^ 64 - 1) word n → is_option word ≡ false
+number_word word n is = rw is.digits (numeral_is_no_option (decimal n) (decimal_is_IsNumeral n (omega (arith, is.small))).0)
+
+pub claimed : (words : List (List ℕ)) (a : Asked) → Spells words a → is_of_streams words ≡ true
+claimed words (Sealing keyset aad seed) spells = rw spells.spelled refl
+claimed words (Opening keyset aad) spells = rw spells.spelled refl
+claimed words (Making template seed) spells = rw spells.spelled refl
+claimed words (Rotating keyset template seed) spells =
+    rw (
+      spells.spelled,
+      bytes_word spells.keyset_word keyset spells.keyset_is,
+      hex_is_no_option spells.seed_word seed spells.seed_is.1,
+    ) refl
+claimed words (Measuring n) spells = rw spells.spelled refl
+claimed words (Ranging keyset aad start len) spells =
+    rw (
+      spells.spelled,
+      bytes_word spells.keyset_word keyset spells.keyset_is,
+      bytes_word spells.aad_word aad spells.aad_is,
+      number_word spells.start_word start spells.start_is,
+      number_word spells.len_word len spells.len_is,
+    ) refl
+claimed words (Signing keyset) spells = rw (spells.spelled, bytes_word spells.keyset_word keyset spells.keyset_is) refl
+claimed words (Verifying keyset) spells = rw (spells.spelled, bytes_word spells.keyset_word keyset spells.keyset_is) refl
+claimed words (Rewrapping sides seed) spells =
+    rw (
+      spells.spelled,
+      bytes_word spells.from_word sides.from spells.from_is,
+      bytes_word spells.from_aad_word sides.from_aad spells.from_aad_is,
+      bytes_word spells.to_word sides.to spells.to_is,
+      bytes_word spells.to_aad_word sides.to_aad spells.to_aad_is,
+      hex_is_no_option spells.seed_word seed spells.seed_is.1,
+    ) refl

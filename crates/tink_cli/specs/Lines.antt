@@ -1,0 +1,52 @@
+-- What a command over files has done, by its words.
+use Rattle.std.specs.Prelude.{◌≡◌, ℕ, List, Bool, true, false, Option, Result, Ok, Err}
+use Rattle.tink_cli_words.specs.declared.commands.Given.{Given}
+use Rattle.tink_cli_words.specs.declared.wrong.Wrong.{Wrong}
+use Rattle.tink_cli_words.specs.declared.form.Action.TheVariants as actions
+use Rattle.tink_cli_words.specs.declared.form.Action.{Action}
+use Rattle.tink_cli_words.specs.LineRead.{LineRead}
+use Rattle.tink_system.specs.States.{SystemState}
+use Rattle.tink_cli_streams.specs.Performing.{KeepsFiles}
+use Rattle.tink_cli_streams.specs.Ranges.{IsRanged}
+use Rattle.tink_cli_streams.specs.Streams.{IsMade, IsMoved}
+use Rattle.tink_cli.specs.KeyFiles.{AreListed, IsConverted, IsEdited, IsGrown, IsNew}
+use Rattle.tink_cli.specs.Wrapping.{IsUnwrapped, IsWrapped}
+
+-- by each command
+abbrev pub IsDone : Action → LineRead → SystemState → SystemState → Option (List ℕ) → Option (List ℕ) → Type 0
+IsDone actions.New line old new got got_after = IsNew line old new got got_after
+IsDone actions.Add line old new got got_after = IsGrown actions.Add line old new
+IsDone actions.Rotate line old new got got_after = IsGrown actions.Rotate line old new
+IsDone actions.Keys line old new got got_after = AreListed line old got got_after × KeepsFiles old new
+IsDone actions.Promote line old new got got_after = IsEdited actions.Promote line old new
+IsDone actions.Enable line old new got got_after = IsEdited actions.Enable line old new
+IsDone actions.Disable line old new got got_after = IsEdited actions.Disable line old new
+IsDone actions.Destroy line old new got got_after = IsEdited actions.Destroy line old new
+IsDone actions.Delete line old new got got_after = IsEdited actions.Delete line old new
+IsDone actions.Convert line old new got got_after = IsConverted line old new got got_after
+IsDone actions.Encrypt line old new got got_after = IsMade actions.Encrypt line old new got got_after
+IsDone actions.Decrypt line old new got got_after = IsMade actions.Decrypt line old new got got_after
+IsDone actions.Sign line old new got got_after = IsMade actions.Sign line old new got got_after
+IsDone actions.Verify line old new got got_after = IsMade actions.Verify line old new got got_after
+IsDone actions.Rewrap line old new got got_after = IsMoved line old new got got_after
+IsDone actions.Range line old new got got_after = IsRanged line old new got got_after
+IsDone actions.Wrap line old new got got_after = IsWrapped line old new got got_after
+IsDone actions.Unwrap line old new got got_after = IsUnwrapped line old new got got_after
+IsDone _ line old new got got_after = KeepsFiles old new
+
+abbrev pub IsDoneUnless : Bool → Given → SystemState → SystemState → Option (List ℕ) → Option (List ℕ) → Type 0
+IsDoneUnless true given old new got got_after = KeepsFiles old new
+IsDoneUnless false given old new got got_after = IsDone given.action given.line old new got got_after
+
+-- what the words of a line mean was done
+abbrev pub IsDoneBy : Given → SystemState → SystemState → Option (List ℕ) → Option (List ℕ) → Type 0
+IsDoneBy given old new got got_after = IsDoneUnless given.line.help given old new got got_after
+
+abbrev pub IsDoneLine : Result Given Wrong → SystemState → SystemState → Option (List ℕ) → Option (List ℕ) → Type 0
+IsDoneLine (Ok given) old new got got_after = IsDoneBy given old new got got_after
+IsDoneLine (Err wrong) old new got got_after = ⊥
+
+-- the words spell no command
+abbrev pub IsWrong : Result Given Wrong → Type 0
+IsWrong (Ok given) = ⊥
+IsWrong (Err wrong) = Unit {0}

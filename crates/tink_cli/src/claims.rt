@@ -1,0 +1,72 @@
+//! Which lines are those of the program over the standard streams.
+
+ghost use Rattle.std.specs.Prelude.{◌≡◌, ◌||◌};
+ghost use Rattle.tink_cli.specs.Claims.{claim_of, has_option, is_of_streams, is_rotation};
+ghost use Rattle.tink_cli_words.specs.Words.{byte_words, is};
+
+use tink_cli_words::is_option;
+
+// Which lines that begin with a name are that program's.
+enum Claim {
+    All,
+    OfFourWords,
+    WithoutOptions,
+    Never,
+}
+
+/// Whether the words are those of the program over the standard streams.
+pub fn is_of_streams(words: &[Vec<u8>]) -> bool
+    ensures { result ≡ is_of_streams (byte_words words.now) }
+{
+    let Some(name) = words.first() else {
+        return false;
+    };
+    match claim_of(name.as_slice()) {
+        Claim::All => true,
+        Claim::OfFourWords => is_rotation(words),
+        Claim::WithoutOptions => !has_option(words),
+        Claim::Never => false,
+    }
+}
+
+// Whether these are four words with a keyset and a seed, which are no options.
+fn is_rotation(words: &[Vec<u8>]) -> bool
+    ensures { result ≡ is_rotation (byte_words words.now) }
+{
+    words.len() == 4 && !is_option(words[1].as_slice()) && !is_option(words[3].as_slice())
+}
+
+// What is claimed of a name's lines.
+fn claim_of(name: &[u8]) -> Claim
+    ensures { result ≡ claim_of name.now }
+{
+    if is(name, "seal") || is(name, "open") || is(name, "keygen") || is(name, "large") {
+        return Claim::All;
+    }
+    if is(name, "rotate") {
+        return Claim::OfFourWords;
+    }
+    if is(name, "rewrap") || is(name, "sign") || is(name, "verify") || is(name, "range") {
+        return Claim::WithoutOptions;
+    }
+    Claim::Never
+}
+
+// Whether a word is this text.
+fn is(word: &[u8], text: &str) -> bool
+    ensures { result ≡ is word.now text.now }
+{
+    word == text.as_bytes()
+}
+
+// Whether a word is an option.
+fn has_option(words: &[Vec<u8>]) -> bool
+    ensures { result ≡ has_option (byte_words words.now) }
+{
+    'words: for word in words {
+        if is_option(word.as_slice()) {
+            return true;
+        }
+    }
+    false
+}

@@ -1,0 +1,41 @@
+-- What a move has done, by the words.
+use Rattle.std.proofs.Common.{◌≡◌, ℕ, List, true, refl, sym, ◌∙◌, subst, ap}
+use Rattle.std.specs.Prelude.{Option, Some, None, Result, Ok, Err, OnOk}
+use Rattle.tink_cli_words.specs.LineRead.{LineRead}
+use Rattle.tink_system.specs.States.{SystemState}
+use Rattle.tink_system.specs.declared.trouble.Trouble.{Trouble}
+use Rattle.tink_cli_streams.specs.Jobs.{AreNewKeys, IsJob, IsKeyWords}
+use Rattle.tink_cli_streams.specs.Loading.{keyset_of}
+use Rattle.tink_cli_streams.specs.Streams.{IsMoved, IsMovedFrom}
+use Rattle.tink_cli_streams.specs.declared.job.Job.{Job}
+use Rattle.tink_cli_streams.specs.declared.keys.KeyWords.{KeyWords}
+
+abbrev or_else : KeyWords → Option KeyWords → KeyWords
+or_else w None = w
+or_else w (Some v) = v
+
+-- the new file of keys that the words name
+new_words : (line : LineRead) (to : Option (List ℕ)) (new : Option KeyWords) (words : KeyWords) → AreNewKeys line to new → new ≡ Some words
+    → (file : List ℕ) × (to ≡ Some file) × IsKeyWords line file words
+new_words line (Some file) (Some w) words are is = (file, refl, subst (λ (x : KeyWords). IsKeyWords line file x) (ap (or_else w) is) are)
+new_words line (Some file) None words are is = absurd are
+new_words line None (Some w) words are is = absurd are
+new_words line None None words are is = absurd (cc)
+
+pub moved_by_words : (line : LineRead) (job : Job) (keyset : List ℕ) (old middle new : SystemState) (got got_after : Option (List ℕ)) (result : Result (Unit {0}) Trouble)
+    → IsJob line job → middle ≡ old → (old.is_known ≡ true → keyset_of old job.keys ≡ Ok keyset)
+    → OnOk result (middle.is_known ≡ true → IsMovedFrom keyset job middle new got got_after)
+    → OnOk result (old.is_known ≡ true → IsMoved line old new got got_after)
+moved_by_words line job keyset old middle new got got_after (Ok done) is same loaded made = λ known.
+    let moved = subst (λ (s : SystemState). s.is_known ≡ true → IsMovedFrom keyset job s new got got_after) same made known in
+    let words = new_words line line.to job.new_keys moved.words is.new_keys moved.given in
+    record {
+      keyset = keyset;
+      keys = record { file = is.file; given = is.given; words = job.keys; are = is.keys; loaded = loaded known };
+      new_keyset = moved.new_keyset;
+      new_keys = record { file = words.0; given = words.1; words = moved.words; are = words.2; loaded = moved.loaded };
+      task = moved.moved.task;
+      is_to = rw is.new_aad at moved.moved.is_to;
+      done = rw (is.aad, is.input, is.output) at moved.moved.done;
+    }
+moved_by_words line job keyset old middle new got got_after (Err t) is same loaded made = tt

@@ -1,0 +1,9 @@
+use Rattle.std.proofs.Common.{ap}
+use Rattle.std.specs.Prelude.{List, Some, ℕ}
+use Rattle.tink_cli_streams.proofs.PerformingLemmas.{opened_whole}
+use Rattle.tink_cli_streams.proofs.checking.check_all.Goals as goal
+
+pub returns-clause-done : goal.returns-clause-done
+returns-clause-done g c =
+    opened_whole c.args.keyset.now c.args.job.now.aad.now c.new-draws.result c.write_task-answer.new.draws _ _ c.write_task-answer.result _ c.ended.result (ap (λ (xs : List ℕ). Some xs) c.new-nothing.ensures)
+    c.write_task-answer.ensures.ok c.ended.ensures.refused

@@ -1,0 +1,41 @@
+-- What a range has done.
+use Rattle.std.specs.Prelude.{◌≡◌, ℕ, List, Option, Some, None, Ok, option_map}
+use Rattle.tink_cli_words.specs.LineRead.{LineRead}
+use Rattle.stream_model.specs.Agree.{joined}
+use Rattle.stream_model.specs.Opening.{IsChosen, IsStream, OpeningKey}
+use Rattle.loading_model.specs.Loading.{Loaded, opening_keys}
+use Rattle.tink_run.specs.AllKeys.{load}
+use Rattle.tink_rewrap.specs.KeysetRanges.{WroteSlice}
+use Rattle.tink_system.specs.States.{SystemState, content}
+use Rattle.tink_cli_streams.specs.Jobs.{data_of}
+use Rattle.tink_cli_streams.specs.Loading.{named}
+use Rattle.tink_cli_streams.specs.Performing.{IsPut}
+use Rattle.tink_cli_streams.specs.Streams.{IsKeysetOf}
+use Rattle.tink_cli_streams.specs.declared.job.Job.{Job}
+
+-- of a stream of the chosen key that slice of its text is behind what was there
+abbrev pub IsSliceOf : List ℕ → List ℕ → List ℕ → ℕ → ℕ → List ℕ → Option (List ℕ) → ℕ → Type 0
+IsSliceOf keyset aad object start len before after n =
+    (l : Loaded) (key : OpeningKey) (texts : List (List ℕ))
+    → load keyset ≡ Ok l → IsChosen (opening_keys aad l) object (Some key) → IsStream key object texts
+    → WroteSlice start len (joined texts) before after n
+
+-- the range of the job's input is in its output
+pub record IsRangedOf (keyset : List ℕ) (job : Job) (start len : ℕ) (old new : SystemState) (got got_after : Option (List ℕ)) : Type 0 where
+  pub object : List ℕ
+  pub read : content old (option_map (λ n. n.now) job.input) ≡ Some object
+  pub count : ℕ
+  pub put : IsPut (λ before after. IsSliceOf keyset job.aad.now object start len before after count) old new (option_map (λ n. n.now) job.output) got got_after
+
+-- the range that the words name
+pub record IsRanged (line : LineRead) (old new : SystemState) (got got_after : Option (List ℕ)) : Type 0 where
+  pub start : ℕ
+  pub start_is : line.start ≡ Some start
+  pub len : ℕ
+  pub len_is : line.length ≡ Some len
+  pub keyset : List ℕ
+  pub keys : IsKeysetOf line old line.keys keyset
+  pub object : List ℕ
+  pub read : content old (named line.first) ≡ Some object
+  pub count : ℕ
+  pub put : IsPut (λ before after. IsSliceOf keyset (data_of line.aad) object start len before after count) old new (named line.output) got got_after

@@ -1,0 +1,70 @@
+-- What the commands over streams and tokens have done.
+use Rattle.std.specs.Prelude.{◌≡◌, ℕ, List, [], Option, Some, None, Ok, option_map}
+use Rattle.tink_cli_words.specs.LineRead.{LineRead}
+use Rattle.tink_cli_words.specs.declared.form.Action.{Action}
+use Rattle.tink_io.specs.Outside.{Outside}
+use Rattle.tink_run.specs.declared.report.Command.TheVariants.{Open}
+use Rattle.tink_run.specs.declared.report.Report.{Report}
+use Rattle.tink_cli_files.specs.Tasks.{IsDone}
+use Rattle.tink_cli_files.specs.declared.tasks.Task.{Task}
+use Rattle.tink_cli_files.specs.declared.tasks.Task.TheVariants.{Run}
+use Rattle.tink_system.specs.States.{SystemState, content}
+use Rattle.tink_cli_streams.specs.Jobs.{IsKeyWords, IsMoveTo, data_of, own_task}
+use Rattle.tink_cli_streams.specs.Loading.{keyset_of, named}
+use Rattle.tink_cli_streams.specs.Performing.{IsPerformed}
+use Rattle.tink_cli_streams.specs.declared.job.Job.{Job}
+use Rattle.tink_cli_streams.specs.declared.keys.KeyWords.{KeyWords}
+
+-- The keyset of the words: that of their file of keys, under their master.
+pub record IsKeysetOf (line : LineRead) (s : SystemState) (name : Option (List ℕ)) (keyset : List ℕ) : Type 0 where
+  pub file : List ℕ
+  pub given : name ≡ Some file
+  pub words : KeyWords
+  pub are : IsKeyWords line file words
+  pub loaded : keyset_of s words ≡ Ok keyset
+
+-- the task of a command was done: of the input and to the output that the words name, under their keyset and data
+pub record IsMade (action : Action) (line : LineRead) (old new : SystemState) (got got_after : Option (List ℕ)) : Type 0 where
+  pub task : Task
+  pub is_of : own_task action ≡ Some task
+  pub keyset : List ℕ
+  pub keys : IsKeysetOf line old line.keys keyset
+  pub done : IsPerformed task keyset (data_of line.aad) (named line.first) (named line.output) old new got got_after
+
+-- the stream was moved to the keyset and data that the words name
+pub record IsMoved (line : LineRead) (old new : SystemState) (got got_after : Option (List ℕ)) : Type 0 where
+  pub keyset : List ℕ
+  pub keys : IsKeysetOf line old line.keys keyset
+  pub new_keyset : List ℕ
+  pub new_keys : IsKeysetOf line old line.to new_keyset
+  pub task : Task
+  pub is_to : IsMoveTo new_keyset (data_of line.to_aad) task
+  pub done : IsPerformed task keyset (data_of line.aad) (named line.first) (named line.output) old new got got_after
+
+-- the same from and to these keysets
+pub record IsMovedTo (keyset new_keyset : List ℕ) (job : Job) (old new : SystemState) (got got_after : Option (List ℕ)) : Type 0 where
+  pub task : Task
+  pub is_to : IsMoveTo new_keyset job.new_aad.now task
+  pub done : IsPerformed task keyset job.aad.now (option_map (λ n. n.now) job.input) (option_map (λ n. n.now) job.output) old new got got_after
+
+pub record IsMovedFrom (keyset : List ℕ) (job : Job) (old new : SystemState) (got got_after : Option (List ℕ)) : Type 0 where
+  pub words : KeyWords
+  pub given : job.new_keys ≡ Some words
+  pub new_keyset : List ℕ
+  pub loaded : keyset_of old words ≡ Ok new_keyset
+  pub moved : IsMovedTo keyset new_keyset job old new got got_after
+
+-- all of an input is opened under a keyset, with these data
+pub record IsOpened (keyset aad text : List ℕ) : Type 0 where
+  pub left : List ℕ
+  pub report : Option Report
+  pub ends : Outside
+  pub done : IsDone (Run Open) keyset aad [] left text [] ends report
+
+-- the input that the words name is opened whole
+pub record IsChecked (line : LineRead) (s : SystemState) : Type 0 where
+  pub keyset : List ℕ
+  pub keys : IsKeysetOf line s line.keys keyset
+  pub text : List ℕ
+  pub read : content s (named line.first) ≡ Some text
+  pub opened : IsOpened keyset (data_of line.aad) text

@@ -1,0 +1,82 @@
+//! The command that opens a whole stream and writes nothing.
+
+ghost use Rattle.std.specs.Prelude.{◌≡◌, ◌≤◌, ℕ, List, Some, true, OnOk, option_map};
+ghost use Rattle.tink_cli_streams.specs.Streams.{IsChecked, IsOpened};
+ghost use Rattle.tink_system.specs.States.{known_content};
+
+use crate::job::{Job, job_of};
+use crate::keys::keyset_of;
+use crate::performing::{WRITE_FAULT, ended};
+use std::alloc::Global;
+use tink_cli_files::{Task, write_task};
+use tink_cli_words::Line;
+use tink_io::{Discard, Draws};
+use tink_run::report::Command;
+use tink_system::{System, Trouble};
+
+/// `check`: the whole input is opened under the keyset and the associated data that the words name, and nothing is written.
+///
+/// # Errors
+/// Those of `decrypt`.
+pub fn check<'w, Y: System>(
+    alloc: Global,
+    system: &mut Y,
+    line: &Line<'w>,
+) -> Result<(), Trouble<'w>>
+    ensures done { OnOk result ((Y.state system.old).is_known ≡ true → IsChecked line.now (Y.state system.old)) }
+    ensures state { Y.state system.new ≡ Y.state system.old }
+    ensures later { Y.faults system.old ≤ Y.faults system.new }
+{
+    let Some(job) = job_of(line) else {
+        return Err(Trouble::Usage);
+    };
+    match keyset_of(alloc, system, job.keys) {
+        Ok(keyset) => check_under(alloc, system, keyset.as_slice(), &job),
+        Err(trouble) => Err(trouble),
+    }
+}
+
+// Under a keyset that is loaded.
+fn check_under<'w, Y: System>(
+    alloc: Global,
+    system: &mut Y,
+    keyset: &[u8],
+    job: &Job<'w>,
+) -> Result<(), Trouble<'w>>
+    ensures done { OnOk result ((Y.state system.old).is_known ≡ true → (text : List ℕ)
+        × (known_content (Y.state system.old) (option_map (λ n. n.now) job.now.input) ≡ Some text)
+        × IsOpened keyset.now job.now.aad.now text) }
+    ensures state { Y.state system.new ≡ Y.state system.old }
+    ensures later { Y.faults system.old ≤ Y.faults system.new }
+{
+    match system.open(job.input, job.is_quiet) {
+        Ok(mut input) => check_all(alloc, system, keyset, job, &mut input),
+        Err(trouble) => Err(trouble),
+    }
+}
+
+// All of an input that is open.
+fn check_all<'w, Y: System>(
+    alloc: Global,
+    system: &mut Y,
+    keyset: &[u8],
+    job: &Job<'w>,
+    input: &mut Y::Input,
+) -> Result<(), Trouble<'w>>
+    ensures done { OnOk result ((text : List ℕ) → Y.Input.left input.old ≡ Some text → IsOpened keyset.now job.now.aad.now text) }
+    ensures still { system.new ≡ system.old }
+{
+    let mut draws = Draws::new(Vec::new(alloc));
+    let mut nothing = Discard::new();
+    let task = Task::Run(Command::Open);
+    let answer = write_task(
+        alloc,
+        task,
+        keyset,
+        job.aad,
+        &mut draws,
+        input,
+        &mut nothing,
+    );
+    ended(system, answer, input, job, WRITE_FAULT)
+}

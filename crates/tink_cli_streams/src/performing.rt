@@ -1,0 +1,277 @@
+//! A task is done: of an input, to an output.
+
+ghost use Rattle.std.specs.Prelude.{◌≡◌, ◌≤◌, ℕ, List, [], Some, None, Ok, true, IfErr, IfOk, IsErrAnd, OnErr, OnOk, option_map};
+ghost use Rattle.tink_cli_streams.specs.Performing.{IsPerformed, IsPut, KeepsFiles, KeepsOtherFiles, Makes, Spends, takes_random};
+ghost use Rattle.tink_system.specs.States.{KeepsSystem, known_content};
+ghost use Rattle.tink_system.specs.Statuses.{refusal_status, trouble_status};
+
+use crate::job::Job;
+use std::alloc::Global;
+use tink_cli_files::{Task, save_task, write_task};
+use tink_io::{Draws, Kind, Sink, TinkError};
+use tink_run::report::{Command, Report};
+use tink_system::{How, System, Trouble};
+
+/// So many random bytes are enough for each command.
+pub const DRAWN: usize = 1024;
+
+/// Does a task of the job's input, under a keyset and the job's associated data, to the job's output.
+///
+/// # Errors
+/// Those of the task by their statuses; 11 if the input cannot be read, 12 if the output cannot be written, 35 if the system
+/// gives no random bytes; 10. No file is changed then.
+pub fn perform<'w, Y: System, K: Sink>(
+    alloc: Global,
+    system: &mut Y,
+    task: Task<'_>,
+    keyset: &[u8],
+    job: &Job<'w>,
+    sink: &mut K,
+) -> Result<(), Trouble<'w>>
+    ensures done { OnOk result ((Y.state system.old).is_known ≡ true → IsPerformed task.entry keyset.now job.now.aad.now
+        (option_map (λ n. n.now) job.now.input) (option_map (λ n. n.now) job.now.output)
+        (Y.state system.old) (Y.state system.new) (K.got sink.old) (K.got sink.new)) }
+    ensures kept { OnErr result ((Y.state system.old).is_known ≡ true → KeepsFiles (Y.state system.old) (Y.state system.new)) }
+    ensures system { KeepsSystem (Y.state system.old) (Y.state system.new) }
+    ensures later { Y.faults system.old ≤ Y.faults system.new }
+    ensures sink { K.same sink.old sink.new }
+{
+    match draws_for(alloc, system, task) {
+        Ok(mut draws) => perform_by(alloc, system, task, keyset, job, &mut draws, sink),
+        Err(trouble) => Err(trouble),
+    }
+}
+
+// The random bytes of a task: only one that makes a stream takes any.
+fn draws_for<Y: System>(
+    alloc: Global,
+    system: &mut Y,
+    task: Task<'_>,
+) -> Result<Draws, Trouble<'static>>
+    ensures drawn { IfOk result (λ d. (Y.state system.old).is_known ≡ true
+        → Spends (takes_random task.entry) (Y.state system.old) (Y.state system.new) d) }
+    ensures files { KeepsFiles (Y.state system.old) (Y.state system.new) }
+    ensures system { KeepsSystem (Y.state system.old) (Y.state system.new) }
+    ensures later { Y.faults system.old ≤ Y.faults system.new }
+{
+    match task {
+        Task::Run(Command::Seal) | Task::Rewrap { to: _, to_aad: _ } => system.draws(alloc, DRAWN),
+        _ => Ok(Draws::new(Vec::new(alloc))),
+    }
+}
+
+// The same by these random bytes.
+fn perform_by<'w, Y: System, K: Sink>(
+    alloc: Global,
+    system: &mut Y,
+    task: Task<'_>,
+    keyset: &[u8],
+    job: &Job<'w>,
+    draws: &mut Draws,
+    sink: &mut K,
+) -> Result<(), Trouble<'w>>
+    ensures done { OnOk result ((Y.state system.old).is_known ≡ true → (text : List ℕ)
+        × (known_content (Y.state system.old) (option_map (λ n. n.now) job.now.input) ≡ Some text)
+        × IsPut (Makes task.entry keyset.now job.now.aad.now draws.old text) (Y.state system.old) (Y.state system.new)
+        (option_map (λ n. n.now) job.now.output) (K.got sink.old) (K.got sink.new)) }
+    ensures kept { OnErr result ((Y.state system.old).is_known ≡ true → KeepsFiles (Y.state system.old) (Y.state system.new)) }
+    ensures system { KeepsSystem (Y.state system.old) (Y.state system.new) }
+    ensures random { (Y.state system.new).random ≡ (Y.state system.old).random }
+    ensures later { Y.faults system.old ≤ Y.faults system.new }
+    ensures sink { K.same sink.old sink.new }
+{
+    match system.open(job.input, job.is_quiet) {
+        Ok(mut input) => perform_on(alloc, system, task, keyset, job, draws, &mut input, sink),
+        Err(trouble) => Err(trouble),
+    }
+}
+
+// The same of an input that is open.
+fn perform_on<'w, Y: System, K: Sink>(
+    alloc: Global,
+    system: &mut Y,
+    task: Task<'_>,
+    keyset: &[u8],
+    job: &Job<'w>,
+    draws: &mut Draws,
+    input: &mut Y::Input,
+    sink: &mut K,
+) -> Result<(), Trouble<'w>>
+    ensures done { OnOk result ((Y.state system.old).is_known ≡ true → (text : List ℕ) → Y.Input.left input.old ≡ Some text
+        → IsPut (Makes task.entry keyset.now job.now.aad.now draws.old text) (Y.state system.old) (Y.state system.new)
+        (option_map (λ n. n.now) job.now.output) (K.got sink.old) (K.got sink.new)) }
+    ensures kept { OnErr result ((Y.state system.old).is_known ≡ true → KeepsFiles (Y.state system.old) (Y.state system.new)) }
+    ensures system { KeepsSystem (Y.state system.old) (Y.state system.new) }
+    ensures random { (Y.state system.new).random ≡ (Y.state system.old).random }
+    ensures later { Y.faults system.old ≤ Y.faults system.new }
+    ensures sink { K.same sink.old sink.new }
+{
+    match job.output {
+        None => put(alloc, system, task, keyset, job, draws, input, sink),
+        Some(output) => put_to(alloc, system, task, keyset, job, draws, input, output),
+    }
+}
+
+// Writes what the task makes to standard output, as it comes.
+fn put<'w, Y: System, K: Sink>(
+    alloc: Global,
+    system: &mut Y,
+    task: Task<'_>,
+    keyset: &[u8],
+    job: &Job<'w>,
+    draws: &mut Draws,
+    input: &mut Y::Input,
+    sink: &mut K,
+) -> Result<(), Trouble<'w>>
+    ensures done { OnOk result ((text before : List ℕ) → Y.Input.left input.old ≡ Some text → K.got sink.old ≡ Some before
+        → Makes task.entry keyset.now job.now.aad.now draws.old text before (K.got sink.new)) }
+    ensures still { system.new ≡ system.old }
+    ensures sink { K.same sink.old sink.new }
+{
+    let answer = write_task(alloc, task, keyset, job.aad, draws, input, sink);
+    ended(system, answer, input, job, WRITE_FAULT)
+}
+
+// Writes it to a stream or to a file.
+fn put_to<'w, Y: System>(
+    alloc: Global,
+    system: &mut Y,
+    task: Task<'_>,
+    keyset: &[u8],
+    job: &Job<'w>,
+    draws: &mut Draws,
+    input: &mut Y::Input,
+    output: &'w [u8],
+) -> Result<(), Trouble<'w>>
+    ensures done { OnOk result ((Y.state system.old).is_known ≡ true → (text : List ℕ) → Y.Input.left input.old ≡ Some text
+        → IsPut (Makes task.entry keyset.now job.now.aad.now draws.old text) (Y.state system.old) (Y.state system.new)
+        (Some output.now) None None) }
+    ensures kept { OnErr result ((Y.state system.old).is_known ≡ true → KeepsFiles (Y.state system.old) (Y.state system.new)) }
+    ensures system { KeepsSystem (Y.state system.old) (Y.state system.new) }
+    ensures random { (Y.state system.new).random ≡ (Y.state system.old).random }
+    ensures later { Y.faults system.old ≤ Y.faults system.new }
+{
+    if system.is_stream(output) {
+        return put_to_stream(alloc, system, task, keyset, job, draws, input, output);
+    }
+    put_to_file(alloc, system, task, keyset, job, draws, input, output)
+}
+
+// Writes it to a pipe or a device, as it comes.
+fn put_to_stream<'w, Y: System>(
+    alloc: Global,
+    system: &mut Y,
+    task: Task<'_>,
+    keyset: &[u8],
+    job: &Job<'w>,
+    draws: &mut Draws,
+    input: &mut Y::Input,
+    output: &'w [u8],
+) -> Result<(), Trouble<'w>>
+    ensures state { Y.state system.new ≡ Y.state system.old }
+    ensures later { Y.faults system.old ≤ Y.faults system.new }
+{
+    match system.open_stream(output) {
+        Ok(mut stream) => {
+            let answer = write_task(alloc, task, keyset, job.aad, draws, input, &mut stream);
+            let reason = system.reason_of_stream(&stream);
+            ended(system, answer, input, job, reason)
+        }
+        Err(trouble) => Err(trouble),
+    }
+}
+
+// Writes it to a draft, which becomes the file if all was done.
+fn put_to_file<'w, Y: System>(
+    alloc: Global,
+    system: &mut Y,
+    task: Task<'_>,
+    keyset: &[u8],
+    job: &Job<'w>,
+    draws: &mut Draws,
+    input: &mut Y::Input,
+    output: &'w [u8],
+) -> Result<(), Trouble<'w>>
+    ensures done { OnOk result ((Y.state system.old).is_known ≡ true → (text : List ℕ) → Y.Input.left input.old ≡ Some text
+        → Makes task.entry keyset.now job.now.aad.now draws.old text [] ((Y.state system.new).file output.now)) }
+    ensures others { KeepsOtherFiles (Y.state system.old) (Y.state system.new) output.now }
+    ensures kept { OnErr result ((Y.state system.old).is_known ≡ true → KeepsFiles (Y.state system.old) (Y.state system.new)) }
+    ensures system { KeepsSystem (Y.state system.old) (Y.state system.new) }
+    ensures random { (Y.state system.new).random ≡ (Y.state system.old).random }
+    ensures later { Y.faults system.old ≤ Y.faults system.new }
+{
+    match system.begin(output, how_of(job)) {
+        Ok(draft) => put_to_draft(
+            alloc, system, task, keyset, job, draws, input, output, draft,
+        ),
+        Err(trouble) => Err(trouble),
+    }
+}
+
+// The same to a draft that is begun.
+fn put_to_draft<'w, Y: System>(
+    alloc: Global,
+    system: &mut Y,
+    task: Task<'_>,
+    keyset: &[u8],
+    job: &Job<'w>,
+    draws: &mut Draws,
+    input: &mut Y::Input,
+    output: &'w [u8],
+    mut draft: Y::Draft,
+) -> Result<(), Trouble<'w>>
+    requires { Y.Draft.has_draft draft ≡ true }
+    ensures done { OnOk result ((text before : List ℕ) → Y.Input.left input.old ≡ Some text → Y.Draft.got draft ≡ Some before
+        → Makes task.entry keyset.now job.now.aad.now draws.old text before ((Y.state system.new).file output.now)) }
+    ensures others { KeepsOtherFiles (Y.state system.old) (Y.state system.new) output.now }
+    ensures kept { OnErr result (Y.Draft.shown draft ≡ Some ((Y.state system.old).file output.now)
+        → KeepsFiles (Y.state system.old) (Y.state system.new)) }
+    ensures system { KeepsSystem (Y.state system.old) (Y.state system.new) }
+    ensures random { (Y.state system.new).random ≡ (Y.state system.old).random }
+    ensures later { Y.faults system.old ≤ Y.faults system.new }
+{
+    let answer = save_task(alloc, task, keyset, job.aad, draws, input, &mut draft);
+    let reason = system.reason_of_draft(&draft);
+    match system.settle(alloc, output, draft) {
+        Ok(()) => ended(system, answer, input, job, reason),
+        Err(trouble) => Err(trouble),
+    }
+}
+
+/// How the output of a job becomes a file.
+pub fn how_of(job: &Job<'_>) -> How {
+    if job.keeps_output {
+        How::Fresh
+    } else {
+        How::Replace
+    }
+}
+
+/// What is said of a failed standard output, of which the system keeps no reason.
+pub const WRITE_FAULT: &str = "it could not be written: a full disk, or a closed pipe";
+
+/// The end of a task by its answer: an error is that of a file, and `reason` is why the output failed, if it did.
+pub fn ended<'w, Y: System>(
+    system: &Y,
+    answer: Result<Option<Report>, TinkError>,
+    input: &Y::Input,
+    job: &Job<'w>,
+    reason: &'static str,
+) -> Result<(), Trouble<'w>>
+    ensures ok { OnOk answer (result ≡ Ok tt) }
+    ensures refused { IfErr answer (λ e. IsErrAnd result (λ t. trouble_status t ≡ refusal_status e.kind)) }
+{
+    system.end_input(input);
+    match answer {
+        Ok(_) => Ok(()),
+        Err(e) => Err(match e.kind {
+            Kind::ReadFault => Trouble::Unusable(
+                job.input_name(),
+                system.reason_of_input(input),
+                11,
+            ),
+            Kind::WriteFault => Trouble::Unusable(job.output_name(), reason, 12),
+            kind => job.blamed(kind),
+        }),
+    }
+}

@@ -1,0 +1,161 @@
+//! The commands over streams and tokens.
+
+ghost use Rattle.std.specs.Prelude.{◌≡◌, ◌≤◌, true, OnErr, OnOk, IfErr};
+ghost use Rattle.tink_cli_streams.specs.Jobs.{own_task};
+ghost use Rattle.tink_cli_streams.specs.Performing.{KeepsFiles};
+ghost use Rattle.tink_cli_streams.specs.Streams.{IsMade, IsMoved, IsMovedFrom, IsMovedTo};
+ghost use Rattle.tink_system.specs.States.{KeepsSystem};
+ghost use Rattle.tink_system.specs.Statuses.{trouble_status};
+
+use crate::job::{Job, job_of};
+use crate::keys::keyset_of;
+use crate::performing::perform;
+use crate::protecting::spare_keys;
+use std::alloc::Global;
+use tink_cli_files::Task;
+use tink_cli_words::{Action, Line};
+use tink_io::Sink;
+use tink_proto::Bytes;
+use tink_run::report::Command;
+use tink_system::{End, System, Trouble};
+
+/// `encrypt`, `decrypt`, `sign` and `verify`: what the command makes of the whole input under the keyset that the words
+/// name, with the associated data of the words.
+///
+/// # Errors
+/// Those of the task, of `keyset_of` and `perform`, by their statuses. No file is changed then.
+pub fn make<'w, Y: System, K: Sink>(
+    alloc: Global,
+    system: &mut Y,
+    action: Action,
+    line: &Line<'w>,
+    sink: &mut K,
+) -> Result<(), Trouble<'w>>
+    ensures done { OnOk result ((Y.state system.old).is_known ≡ true → IsMade action line.now
+        (Y.state system.old) (Y.state system.new) (K.got sink.old) (K.got sink.new)) }
+    ensures kept { OnErr result ((Y.state system.old).is_known ≡ true → KeepsFiles (Y.state system.old) (Y.state system.new)) }
+    ensures system { KeepsSystem (Y.state system.old) (Y.state system.new) }
+    ensures later { Y.faults system.old ≤ Y.faults system.new }
+    ensures sink { K.same sink.old sink.new }
+{
+    let (Some(task), Some(job)) = (task_of(action), job_of(line)) else {
+        return Err(Trouble::Usage);
+    };
+    spare_keys(system, &job)?;
+    spare_terminal(system, task, &job)?;
+    match keyset_of(alloc, system, job.keys) {
+        Ok(keyset) => perform(alloc, system, task, keyset.as_slice(), &job, sink),
+        Err(trouble) => Err(trouble),
+    }
+}
+
+/// `rewrap`: the stream is moved to the primary key of the new keyset.
+///
+/// # Errors
+/// Those of `make`, and of the new keyset.
+pub fn rewrap<'w, Y: System, K: Sink>(
+    alloc: Global,
+    system: &mut Y,
+    line: &Line<'w>,
+    sink: &mut K,
+) -> Result<(), Trouble<'w>>
+    ensures done { OnOk result ((Y.state system.old).is_known ≡ true → IsMoved line.now
+        (Y.state system.old) (Y.state system.new) (K.got sink.old) (K.got sink.new)) }
+    ensures kept { OnErr result ((Y.state system.old).is_known ≡ true → KeepsFiles (Y.state system.old) (Y.state system.new)) }
+    ensures system { KeepsSystem (Y.state system.old) (Y.state system.new) }
+    ensures later { Y.faults system.old ≤ Y.faults system.new }
+    ensures sink { K.same sink.old sink.new }
+{
+    let Some(job) = job_of(line) else {
+        return Err(Trouble::Usage);
+    };
+    spare_keys(system, &job)?;
+    match keyset_of(alloc, system, job.keys) {
+        Ok(keyset) => rewrap_from(alloc, system, &keyset, &job, sink),
+        Err(trouble) => Err(trouble),
+    }
+}
+
+// From this keyset.
+fn rewrap_from<'w, Y: System, K: Sink>(
+    alloc: Global,
+    system: &mut Y,
+    keyset: &Bytes,
+    job: &Job<'w>,
+    sink: &mut K,
+) -> Result<(), Trouble<'w>>
+    ensures done { OnOk result ((Y.state system.old).is_known ≡ true → IsMovedFrom keyset.now job.now
+        (Y.state system.old) (Y.state system.new) (K.got sink.old) (K.got sink.new)) }
+    ensures kept { OnErr result ((Y.state system.old).is_known ≡ true → KeepsFiles (Y.state system.old) (Y.state system.new)) }
+    ensures system { KeepsSystem (Y.state system.old) (Y.state system.new) }
+    ensures later { Y.faults system.old ≤ Y.faults system.new }
+    ensures sink { K.same sink.old sink.new }
+{
+    let Some(words) = job.new_keys else {
+        return Err(Trouble::Usage);
+    };
+    match keyset_of(alloc, system, words) {
+        Ok(to) => rewrap_to(alloc, system, keyset, &to, job, sink),
+        Err(trouble) => Err(trouble),
+    }
+}
+
+// To that one.
+fn rewrap_to<'w, Y: System, K: Sink>(
+    alloc: Global,
+    system: &mut Y,
+    keyset: &Bytes,
+    to: &Bytes,
+    job: &Job<'w>,
+    sink: &mut K,
+) -> Result<(), Trouble<'w>>
+    ensures done { OnOk result ((Y.state system.old).is_known ≡ true → IsMovedTo keyset.now to.now job.now
+        (Y.state system.old) (Y.state system.new) (K.got sink.old) (K.got sink.new)) }
+    ensures kept { OnErr result ((Y.state system.old).is_known ≡ true → KeepsFiles (Y.state system.old) (Y.state system.new)) }
+    ensures system { KeepsSystem (Y.state system.old) (Y.state system.new) }
+    ensures later { Y.faults system.old ≤ Y.faults system.new }
+    ensures sink { K.same sink.old sink.new }
+{
+    let task = Task::Rewrap {
+        to: to.as_slice(),
+        to_aad: job.new_aad,
+    };
+    spare_terminal(system, task, job)?;
+    perform(alloc, system, task, keyset.as_slice(), job, sink)
+}
+
+// What a command makes of its input under its own keys; a move is to others.
+fn task_of(action: Action) -> Option<Task<'static>>
+    ensures { result ≡ own_task action }
+{
+    match action {
+        Action::Encrypt => Some(Task::Run(Command::Seal)),
+        Action::Decrypt => Some(Task::Run(Command::Open)),
+        Action::Sign => Some(Task::Sign),
+        Action::Verify => Some(Task::Verify),
+        _ => None,
+    }
+}
+
+// Ciphertext goes to a terminal only if the words force it.
+fn spare_terminal<'w, Y: System>(
+    system: &mut Y,
+    task: Task<'_>,
+    job: &Job<'w>,
+) -> Result<(), Trouble<'w>>
+    ensures refused { IfErr result (λ t. trouble_status t ≡ 12) }
+    ensures still { system.new ≡ system.old }
+{
+    let makes_stream = match task {
+        Task::Run(Command::Seal) | Task::Rewrap { to: _, to_aad: _ } => true,
+        _ => false,
+    };
+    if makes_stream && job.output.is_none() && !job.is_forced && system.is_terminal(End::Output) {
+        return Err(Trouble::Unusable(
+            b"standard output",
+            "it is a terminal, and ciphertext is no text: give -o OUT, redirect it, or force it by --force",
+            12,
+        ));
+    }
+    Ok(())
+}

@@ -1,4 +1,0 @@
-use Rattle.tink_program_commands.proofs.ranges.write_range.Given as goal
-
-abbrev pub ghosts-counted_range : goal.ghosts-counted_range
-ghosts-counted_range g a = record { name = a.blank.name; parts = a.blank.parts }

@@ -1,0 +1,188 @@
+//! A stream from a keyset to another.
+
+ghost use Rattle.std.specs.Prelude.{◌≡◌, ℕ, List, IfOk, Ok};
+ghost use Rattle.tink_io.specs.Outside.{FaultsStay, outside_of, Told};
+ghost use Rattle.tink_run.specs.AllKeys.{load};
+ghost use Rattle.tink_run.specs.HeldKeys.{GivesLoaded};
+ghost use Rattle.tink_run.specs.Run.{LeavesEnds, LeavesSinkItself};
+ghost use Rattle.tink_rewrap.specs.RewrapReads.{RewrapReadsNoFurther};
+ghost use Rattle.tink_rewrap.specs.Rewrapping.{LeavesOrBeginsOf, RewrapMeans, sides};
+ghost use Rattle.tink_rewrap.specs.RewrapPromises.{CompletesRewrap, IsWholeRewrap, LeavesUnended};
+
+use crate::rewrap::together::rewrap_together;
+use std::alloc::Global;
+use tink_io::gathered::room;
+use tink_io::{Draws, Sink, Source, TinkError};
+use tink_run::keys::primary_key;
+use tink_run::load::load;
+use tink_run::report::Report;
+use tink_sets::TypedPrimitiveSet;
+use tink_streaming_keys::StreamKind;
+
+/// Moves the stream that a source has left from one keyset to another: it is opened by the first
+/// key of `from` that it begins under, with `from_aad`, and its text becomes a new stream under the
+/// primary key of `to`, with `to_aad`, whose salt and prefix are the first draws. Both keysets are
+/// in the wire format. In the body the text stands nowhere but in one segment of each stream. The
+/// report has the segments that were written, and the bytes of text.
+///
+/// # Errors
+/// The first that applies:
+/// - the refusals of loading `from`, and then of loading `to`: `BadKeyset`, `InvalidKeyset`,
+///   `UnsupportedKeyType`, `InvalidKey`, `NoPrimary`, `WrongPrimitive`;
+/// - `RandomFault` where fewer draws are left than a salt and seven bytes; all this with nothing
+///   read, written or drawn;
+/// - `UnsupportedHash` where the primary key's hash derives nothing, with the draws taken;
+/// - `NoMatchingKey` where the source begins under no key of `from`, with nothing written;
+/// - `TooManySegments` where the text needs more than 2^32 segments: the front and all of them but
+///   the last were written, up to the number 2^32 - 2;
+/// - `TooManySegments` where bytes follow 2^32 segments of the source, `Truncated` and `BadSegment`
+///   where a later segment is shorter than a tag or that of no text: the front and the unmarked
+///   segments of the text before it were written, and no last one.
+///
+/// `ReadFault` and `WriteFault` come where an end failed, with the draws taken, and `OutOfMemory`
+/// before anything was read, written or drawn.
+pub fn rewrap<S: Source, K: Sink>(
+    alloc: Global,
+    from: &[u8],
+    from_aad: &[u8],
+    to: &[u8],
+    to_aad: &[u8],
+    draws: &mut Draws,
+    source: &mut S,
+    sink: &mut K,
+) -> Result<Report, TinkError>
+    // Each answer has its cause, and says what stands after it.
+    ensures answer { RewrapMeans
+        (sides from.now from_aad.now to.now to_aad.now)
+        draws.old draws.new
+        (outside_of S.left S.faults K.got K.faults source.old sink.old)
+        (outside_of S.left S.faults K.got K.faults source.new sink.new)
+        result }
+
+    // Known bytes: the source was exactly a stream of the chosen key of the first keyset, and exactly the stream of its
+    // text under the second one's primary key was written.
+    ensures rewrapped { IfOk result (λ report. (X G : List ℕ)
+        → Told (outside_of S.left S.faults K.got K.faults source.old sink.old) X G
+        → IsWholeRewrap (sides from.now from_aad.now to.now to_aad.now)
+        draws.old draws.new X G (outside_of S.left S.faults K.got K.faults source.new sink.new) report) }
+
+    // Known bytes: where the source is no stream of the chosen key, or the answer is another refusal than WriteFault, no
+    // last segment was written.
+    ensures unended { LeavesUnended
+        (sides from.now from_aad.now to.now to_aad.now)
+        draws.old
+        (outside_of S.left S.faults K.got K.faults source.old sink.old)
+        (outside_of S.left S.faults K.got K.faults source.new sink.new)
+        result }
+
+    // Known bytes: where neither end fails and the stream can be moved, it is, or there is no memory.
+    ensures succeeds { CompletesRewrap
+        (sides from.now from_aad.now to.now to_aad.now)
+        draws.old
+        (outside_of S.left S.faults K.got K.faults source.old sink.old)
+        (outside_of S.left S.faults K.got K.faults source.new sink.new)
+        result }
+
+    // Known bytes: how far the source was read by a refusal.
+    ensures read { RewrapReadsNoFurther
+        (sides from.now from_aad.now to.now to_aad.now)
+        (outside_of S.left S.faults K.got K.faults source.old sink.old)
+        (outside_of S.left S.faults K.got K.faults source.new sink.new)
+        result }
+
+    // A refusal that comes before anything was read or written leaves the ends themselves as they were, and each that
+    // comes before a key was chosen the sink, `NoMatchingKey` among them.
+    ensures early { LeavesEnds result source.old source.new sink.old sink.new }
+    ensures unwritten { LeavesSinkItself result sink.old sink.new }
+    ensures begun { LeavesOrBeginsOf
+        (sides from.now from_aad.now to.now to_aad.now)
+        (outside_of S.left S.faults K.got K.faults source.old sink.old)
+        result sink.old sink.new }
+    ensures later { FaultsStay (outside_of S.left S.faults K.got K.faults source.old sink.old)
+        (outside_of S.left S.faults K.got K.faults source.new sink.new) }
+    ensures source { S.same source.old source.new }
+    ensures sink { K.same sink.old sink.new }
+{
+    answer(alloc, from, from_aad, to, to_aad, draws, source, sink)
+}
+
+// What `rewrap` answers. All that it promises follows from this.
+fn answer<S: Source, K: Sink>(
+    alloc: Global,
+    from: &[u8],
+    from_aad: &[u8],
+    to: &[u8],
+    to_aad: &[u8],
+    draws: &mut Draws,
+    source: &mut S,
+    sink: &mut K,
+) -> Result<Report, TinkError>
+    ensures answer { RewrapMeans
+        (sides from.now from_aad.now to.now to_aad.now)
+        draws.old draws.new
+        (outside_of S.left S.faults K.got K.faults source.old sink.old)
+        (outside_of S.left S.faults K.got K.faults source.new sink.new)
+        result }
+    ensures early { LeavesEnds result source.old source.new sink.old sink.new }
+    ensures unwritten { LeavesSinkItself result sink.old sink.new }
+    ensures begun { LeavesOrBeginsOf
+        (sides from.now from_aad.now to.now to_aad.now)
+        (outside_of S.left S.faults K.got K.faults source.old sink.old)
+        result sink.old sink.new }
+    ensures later { FaultsStay (outside_of S.left S.faults K.got K.faults source.old sink.old)
+        (outside_of S.left S.faults K.got K.faults source.new sink.new) }
+    ensures source { S.same source.old source.new }
+    ensures sink { K.same sink.old sink.new }
+{
+    match load(alloc, from) {
+        Ok(keys) => answer_by(alloc, &keys, from_aad, to, to_aad, draws, source, sink),
+        Err(error) => Err(error),
+    }
+}
+
+// What `rewrap` answers from the keys of whatever keyset they are loaded from. It lets go of none.
+fn answer_by<S: Source, K: Sink>(
+    alloc: Global,
+    keys: &TypedPrimitiveSet<StreamKind>,
+    from_aad: &[u8],
+    to: &[u8],
+    to_aad: &[u8],
+    draws: &mut Draws,
+    source: &mut S,
+    sink: &mut K,
+) -> Result<Report, TinkError>
+    ensures answer { (from : List ℕ) → GivesLoaded (Ok keys.now) (load from)
+        → RewrapMeans
+        (sides from from_aad.now to.now to_aad.now)
+        draws.old draws.new
+        (outside_of S.left S.faults K.got K.faults source.old sink.old)
+        (outside_of S.left S.faults K.got K.faults source.new sink.new)
+        result }
+    ensures early { LeavesEnds result source.old source.new sink.old sink.new }
+    ensures unwritten { LeavesSinkItself result sink.old sink.new }
+    ensures begun { (from : List ℕ) → GivesLoaded (Ok keys.now) (load from)
+        → LeavesOrBeginsOf
+        (sides from from_aad.now to.now to_aad.now)
+        (outside_of S.left S.faults K.got K.faults source.old sink.old)
+        result sink.old sink.new }
+    ensures later { FaultsStay (outside_of S.left S.faults K.got K.faults source.old sink.old)
+        (outside_of S.left S.faults K.got K.faults source.new sink.new) }
+    ensures source { S.same source.old source.new }
+    ensures sink { K.same sink.old sink.new }
+{
+    let mut waiting = room(alloc)?;
+    match load(alloc, to) {
+        Ok(new_keys) => rewrap_together(
+            alloc,
+            keys,
+            from_aad,
+            primary_key(&new_keys),
+            to_aad,
+            draws,
+            source,
+            sink,
+            &mut waiting,
+        ),
+        Err(error) => Err(error),
+    }
+}

@@ -1,4 +1,0 @@
-use Rattle.tink_segments.proofs.gcm_segment.open.Goals as goal
-
-pub returns-in-Err-clause-ok : goal.returns-in-Err-clause-ok
-returns-in-Err-clause-ok g c = tt

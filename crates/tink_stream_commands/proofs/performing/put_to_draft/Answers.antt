@@ -1,8 +1,0 @@
-use Rattle.std.proofs.Common.{refl}
-use Rattle.tink_stream_commands.proofs.PerformingLemmas.{made_shown}
-use Rattle.tink_stream_commands.proofs.performing.put_to_draft.Goals as goal
-
-pub returns-in-Ok-clause-done : goal.returns-in-Ok-clause-done
-returns-in-Ok-clause-done g c =
-    made_shown _ c.args.task c.args.keyset.now c.args.job.now.aad.now c.args.draws.now _ _ _ _ _ _ _ c.save_task-answer.result _ c.ended.result
-    (λ d. refl) c.save_task-answer.ensures.ok c.ended.ensures.refused c.in-Ok.ensures.settled.file

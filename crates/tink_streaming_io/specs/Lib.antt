@@ -1,0 +1,14 @@
+pub mod Writing
+pub use Rattle.tink_streaming_segment.specs.Opening
+pub mod Reading
+pub mod Choosing
+pub mod Full
+pub mod Writers
+pub mod TextReading
+pub mod Readers
+pub mod Sealers
+pub mod Openers
+pub use Rattle.tink_streaming_segment.specs.Keeping
+pub mod Rooms
+pub mod Trials
+pub mod Pouring

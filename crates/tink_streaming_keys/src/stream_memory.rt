@@ -1,0 +1,62 @@
+ghost use Rattle.std.specs.Prelude.{◌≡◌, ◌≤◌, ◌+◌, [], IfOk, IfErr, vec_len, vec_capacity};
+ghost use Rattle.stream_model.specs.Key.{nonce_size};
+ghost use Rattle.tink_io.specs.declared.error.Kind.TheVariants.{OutOfMemory};
+
+use crate::stream_params::DerivesStreams;
+use std::alloc::Global;
+use tink_io::TinkError;
+use tink_streaming_io::{Buffers, WriterBuffers};
+
+// The bytes of the prefix of a stream's nonces.
+pub const PREFIX: usize = 7;
+
+// The bytes of a header at most.
+pub const MAX_HEADER: usize = 40;
+
+// All memory that a reader of a stream under a key takes.
+#[derive(Drop)]
+pub struct ReaderMemory {
+    pub buffers: Buffers,
+    pub prefix: Vec<u8>,
+}
+
+impl ReaderMemory {
+    // The memory of the key's sizes.
+    pub fn reserve<T: DerivesStreams>(alloc: Global, key: &T) -> Result<ReaderMemory, TinkError>
+        ensures text { IfOk result (λ m. (m.buffers.text.items ≡ [])
+            × (vec_capacity m.buffers.text ≡ (T.key_of key.now).segment + 1)) }
+        ensures sealed { IfOk result (λ m. (vec_len m.buffers.sealed ≡ (T.key_of key.now).segment + 1)
+            × (vec_capacity m.buffers.sealed ≡ (T.key_of key.now).segment + 1)) }
+        ensures nonce { IfOk result (λ m. (vec_len m.buffers.nonce ≡ nonce_size (T.key_of key.now))
+            × (vec_capacity m.buffers.nonce ≡ nonce_size (T.key_of key.now))) }
+        ensures prefix { IfOk result (λ m. vec_capacity m.prefix ≡ 7) }
+        ensures refused { IfErr result (λ e. e ≡ record { kind = OutOfMemory }) }
+    {
+        let buffers = Buffers::reserve(alloc, key.segment_size(), key.nonce_size())?;
+        let prefix = Vec::with_capacity(alloc, PREFIX)?;
+        Ok(ReaderMemory { buffers, prefix })
+    }
+}
+
+// All memory that a writer of a stream under a key takes.
+#[derive(Drop)]
+pub struct WriterMemory {
+    pub buffers: WriterBuffers,
+    pub prefix: Vec<u8>,
+}
+
+impl WriterMemory {
+    // The memory of the key's sizes.
+    pub fn reserve<T: DerivesStreams>(alloc: Global, key: &T) -> Result<WriterMemory, TinkError>
+        ensures segment { IfOk result (λ m. (vec_len m.buffers.segment ≡ (T.key_of key.now).segment)
+            × (vec_capacity m.buffers.segment ≡ (T.key_of key.now).segment)) }
+        ensures nonce { IfOk result (λ m. (vec_len m.buffers.nonce ≡ nonce_size (T.key_of key.now))
+            × (vec_capacity m.buffers.nonce ≡ nonce_size (T.key_of key.now))) }
+        ensures prefix { IfOk result (λ m. vec_capacity m.prefix ≡ 7) }
+        ensures refused { IfErr result (λ e. e ≡ record { kind = OutOfMemory }) }
+    {
+        let buffers = WriterBuffers::reserve(alloc, key.segment_size(), key.nonce_size())?;
+        let prefix = Vec::with_capacity(alloc, PREFIX)?;
+        Ok(WriterMemory { buffers, prefix })
+    }
+}

@@ -1,5 +1,0 @@
-use Rattle.tink_streams.proofs.WritingFacts.{wrote_more}
-use Rattle.tink_streams.proofs.laws.law_any_cutting.Goals as goal
-
-pub returns : goal.returns
-returns c = record { joined = wrote_more }

@@ -1,5 +1,0 @@
-use Rattle.tink_streams.proofs.TextLaws.{read_empty}
-use Rattle.tink_streams.proofs.reading_laws.law_empty_buffer.Goals as goal
-
-pub returns : goal.returns
-returns c = record { empty = read_empty }

@@ -1,8 +1,0 @@
-use Rattle.tink_streams.proofs.TextLaws.{read_end, read_failed}
-use Rattle.tink_streams.proofs.reading_laws.law_for_good.Goals as goal
-
-pub returns-clause-end : goal.returns-clause-end
-returns-clause-end c = read_end
-
-pub returns-clause-failed : goal.returns-clause-failed
-returns-clause-failed c = read_failed

@@ -1,9 +1,0 @@
-use Rattle.tink_streams.proofs.FreshFacts.{first_by, fresh_writer, room_by}
-use Rattle.tink_streams.proofs.writer.Writer.new.Goals as goal
-
-pub returns-clause-fresh : goal.returns-clause-fresh
-returns-clause-fresh g c =
-    let m = c.made.ensures in
-    let over = c.overhead-overhead.ensures in
-    fresh_writer c.made.result _ c.args.params.w _ _ _ m.mode m.segments m.held m.memory m.sealer (first_by c.args.params.ciphertext_segment_size c.args.params.first_ciphertext_segment_offset _ _ over)
-    (room_by c.args.params.ciphertext_segment_size _ _ over)
