@@ -15,7 +15,7 @@ use Rattle.std.proofs.lemmas.Map.Keys.{sorted_tail}
 use Rattle.std.proofs.lemmas.Map.Views.{All-after_first}
 use Rattle.std.proofs.lemmas.Map.Text.{is_eq-slice_cmp}
 use Rattle.stream_model.specs.Key.{StreamKey, IsUsable}
-use Rattle.stream_model.specs.Order.{IsOfKeyset, with_prefix}
+use Rattle.stream_model.specs.Order.{HaveSameOrder, IsOfKeyset, with_prefix}
 use Rattle.stream_model.proofs.OrderFacts.{choose_the_same}
 use Rattle.tink_keysets.specs.Built.{HasEntries}
 use Rattle.tink_sets.specs.Entries.{typed_prefix_of}
@@ -23,7 +23,7 @@ use Rattle.tink_sets.specs.Groups.{AreGroupsOf, group_at, group_of}
 use Rattle.tink_sets.specs.declared.entry.TypedEntry.{TypedEntry}
 use Rattle.tink_streaming_keys.specs.StreamKinds.{key_in_set}
 use Rattle.tink_streaming_keys.specs.declared.stream_kind.StreamKind.{StreamKind}
-use Rattle.tink_streaming_aead.specs.Wrapped.{AreKeysOf, ArePure, ChoosesInOrder, HasOutputPrefix, IsPure, KeepsOrder, KeepsPrefixes, all_entries, joined_lists, key_in, keys_in, set_keys}
+use Rattle.tink_streaming_aead.specs.Wrapped.{AreKeysOf, ArePure, ChoosesInOrder, HasOutputPrefix, HaveSameEntries, entries_with, IsPure, KeepsOrder, KeepsPrefixes, all_entries, joined_lists, key_in, keys_in, set_keys}
 
 abbrev One : Type 0
 One = TypedEntry StreamKind
@@ -44,6 +44,10 @@ filtered_keys prefix (e ∷ es) = by (has prefix e) (filtered_keys prefix es)
         → cond b (key_in_set e ∷ with_prefix prefix (keys_in es)) (with_prefix prefix (keys_in es)) ≡ keys_in (cond b (e ∷ filter (has prefix) es) (filter (has prefix) es))
     by true later = ap (λ ks. key_in_set e ∷ ks) later
     by false later = later
+
+-- so lists that have the same entries under each prefix have the same keys under each
+pub same_keys : (es others : List One) → HaveSameEntries es others → HaveSameOrder (keys_in es) (keys_in others)
+same_keys es others same prefix = filtered_keys prefix es ∙ ap keys_in (same prefix) ∙ sym (filtered_keys prefix others)
 
 -- the keys of entries that are lent
 pub lent_keys : {B : Type 0} (now : B → One) (es : List B) → map (λ e. key_in_set (now e)) es ≡ keys_in (map now es)
@@ -126,16 +130,18 @@ module _ {A : Type 0} where
   pub pure_groups : (m : BTreeMap (Vec ℕ A) (List One)) → All (IsFound m) m.entries → (entries : List One) → AreGroupsOf typed_prefix_of entries m → ArePure m
   pure_groups m found entries groups = All-weaker (IsFound m) IsPure (pure_of entries m groups) m.entries found
 
-  -- and each has all keys of its prefix
+  -- and each has all entries of its prefix
+  pub group_entries : (m : BTreeMap (Vec ℕ A) (List One)) → IsOrdered cmp m → ArePure m → (prefix : List ℕ) → group_of m prefix ≡ entries_with prefix (all_entries m)
+  group_entries m ordered pure prefix = sym (joined_has m.entries ordered pure prefix)
+
+  -- and so all keys of it
   pub group_keys : (m : BTreeMap (Vec ℕ A) (List One)) → IsOrdered cmp m → ArePure m → (prefix : List ℕ) → keys_in (group_of m prefix) ≡ with_prefix prefix (keys_in (all_entries m))
-  group_keys m ordered pure prefix = sym (filtered_keys prefix (all_entries m) ∙ ap keys_in (joined_has m.entries ordered pure prefix))
+  group_keys m ordered pure prefix = ap keys_in (group_entries m ordered pure prefix) ∙ sym (filtered_keys prefix (all_entries m))
 
   -- all entries of a set are those that it has, those of one prefix in their order
   pub keeps_order : (m : BTreeMap (Vec ℕ A) (List One)) → IsOrdered cmp m → All (IsFound m) m.entries → KeepsOrder m
   keeps_order m ordered found entries groups prefix =
-      filtered_keys prefix (all_entries m)
-      ∙ ap keys_in (joined_has m.entries ordered (All-weaker (IsFound m) IsPure (pure_of entries m groups) m.entries found) prefix ∙ groups prefix)
-      ∙ sym (filtered_keys prefix entries)
+      joined_has m.entries ordered (All-weaker (IsFound m) IsPure (pure_of entries m groups) m.entries found) prefix ∙ groups prefix
 
   abbrev AllHavePrefix : Vec ℕ A × List One → Type 0
   AllHavePrefix e = All EntryHasPrefix e.1
@@ -156,7 +162,9 @@ module _ {A : Type 0} where
   -- the keys of a set of entries are those of the entries
   pub keys_kept : (id : ℕ) (entries : List One) (primary : Option One) (groups : BTreeMap (Vec ℕ A) (List One)) → KeepsOrder groups
       → HasEntries typed_prefix_of (λ e. e.key_id) id entries primary groups → AreKeysOf id entries (set_keys primary groups)
-  keys_kept id entries primary groups order h = record { primary = ap key_in h.by_id; order = order entries h.by_prefix }
+  keys_kept id entries primary groups order h =
+      let same = order entries h.by_prefix in
+      record { primary = ap key_in h.by_id; order = same_keys (all_entries groups) entries same; primary_entry = h.by_id; has_entries = same }
 
 are_of_keyset : (keys : List StreamKey) → All HasOutputPrefix keys → All IsUsable keys → All IsOfKeyset keys
 are_of_keyset [] prefixes usable = All-nil IsOfKeyset

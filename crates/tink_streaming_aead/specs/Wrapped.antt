@@ -1,5 +1,6 @@
 -- The streaming AEADs of a keyset as one.
-use Rattle.std.specs.Prelude.{◌≡◌, ◌↔◌, ◌++◌, ◌∷◌, ℕ, List, [], Vec, map, All, Option, Some, None, Result}
+use Rattle.std.specs.Prelude.{◌≡◌, ◌↔◌, ◌++◌, ◌∷◌, ℕ, List, [], Vec, map, filter, All, Option, Some, None, Result}
+use Rattle.std.specs.Str.{bytes_eq}
 use Rattle.std.specs.BTreeMap.{BTreeMap, values}
 use Rattle.tink_primitives.specs.declared.streams.Refused.{Refused}
 use Rattle.stream_model.specs.Key.{StreamKey, IsUsable}
@@ -14,10 +15,13 @@ use Rattle.tink_streaming_keys.specs.Encrypting.{StartsWriter}
 use Rattle.tink_streaming_keys.specs.StreamKinds.{key_in_set}
 use Rattle.tink_streaming_keys.specs.declared.stream_kind.StreamKind.{StreamKind}
 
--- the primary key, by which streams are made, and all keys, by which they are opened, those of one prefix in their order
+-- the primary key, by which streams are made, and all keys, by which they are opened, those of one prefix in their order;
+-- and the entries of these keys, with their ids, statuses and prefix types
 pub record Wrapped : Type 0 where
   pub primary : Option StreamKey
   pub keys : List StreamKey
+  pub primary_entry : Option (TypedEntry StreamKind)
+  pub entries : List (TypedEntry StreamKind)
 
 -- there is a primary key, and this holds of it
 abbrev pub ByPrimary : Option StreamKey → (StreamKey → Type 0) → Type 0
@@ -54,11 +58,19 @@ IsPure group = All (λ e. e.prefix ≡ group.0.items) group.1
 abbrev pub ArePure : {G : Type 0} → BTreeMap (Vec ℕ G) (List (TypedEntry StreamKind)) → Type 0
 ArePure groups = All IsPure groups.entries
 
+-- the entries of a prefix, in their order
+abbrev pub entries_with : List ℕ → List (TypedEntry StreamKind) → List (TypedEntry StreamKind)
+entries_with prefix entries = filter (λ e. bytes_eq e.prefix prefix) entries
+
+-- under each prefix the lists have the same entries in the same order, so with their ids, statuses and prefix types
+abbrev pub HaveSameEntries : List (TypedEntry StreamKind) → List (TypedEntry StreamKind) → Type 0
+HaveSameEntries entries others = (prefix : List ℕ) → entries_with prefix entries ≡ entries_with prefix others
+
 -- whichever entries a set has, these are they, those of one prefix in their order
 abbrev pub KeepsOrder : {G : Type 0} → BTreeMap (Vec ℕ G) (List (TypedEntry StreamKind)) → Type 0
 KeepsOrder groups =
     (entries : List (TypedEntry StreamKind)) → AreGroupsOf typed_prefix_of entries groups
-    → HaveSameOrder (keys_in (all_entries groups)) (keys_in entries)
+    → HaveSameEntries (all_entries groups) entries
 
 -- what stands before the header of a key's streams is an output prefix
 abbrev pub HasOutputPrefix : StreamKey → Type 0
@@ -72,12 +84,20 @@ KeepsPrefixes groups =
 
 -- what a set of entries has
 abbrev pub set_keys : {G : Type 0} → Option (TypedEntry StreamKind) → BTreeMap (Vec ℕ G) (List (TypedEntry StreamKind)) → Wrapped
-set_keys primary groups = record { primary = key_in primary; keys = keys_in (all_entries groups) }
+set_keys primary groups = record {
+  primary = key_in primary;
+  keys = keys_in (all_entries groups);
+  primary_entry = primary;
+  entries = all_entries groups;
+}
 
--- a list of entries has these keys: the primary one is the first of this id, and those of each prefix are in their order
+-- a list of entries has these keys: the primary one is the first of this id, and those of each prefix are in their order;
+-- and these are its entries
 pub record AreKeysOf (id : ℕ) (entries : List (TypedEntry StreamKind)) (w : Wrapped) : Type 0 where
   pub primary : w.primary ≡ key_in (entry_of_id id entries)
   pub order : HaveSameOrder w.keys (keys_in entries)
+  pub primary_entry : w.primary_entry ≡ entry_of_id id entries
+  pub has_entries : HaveSameEntries w.entries entries
 
 -- of the keys of a list of entries the one is chosen for a stream that is the first in the order of the list under which
 -- the stream begins

@@ -189,7 +189,8 @@ fn choice_in(
 impl WrappedStreamingAead {
     /// The entry of the primary key, by which streams are made.
     pub fn primary(&self) -> &TypedEntry<StreamKind>
-        ensures { self.now.primary ≡ Some (key_in_set result.now) }
+        ensures key { self.now.primary ≡ Some (key_in_set result.now) }
+        ensures entry { self.now.primary_entry ≡ Some result.now }
     {
         match &self.ps.primary {
             Some(primary) => primary,

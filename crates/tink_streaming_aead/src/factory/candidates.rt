@@ -9,7 +9,7 @@ ghost use Rattle.tink_sets.specs.declared.entry.TypedEntry.{TypedEntry};
 ghost use Rattle.tink_streaming_keys.specs.StreamKinds.{key_in_set};
 ghost use Rattle.tink_streaming_keys.specs.declared.stream_kind.StreamKind.{StreamKind};
 ghost use Rattle.tink_streaming_aead.specs.Candidates.{prefix_at};
-ghost use Rattle.tink_streaming_aead.specs.Wrapped.{ArePure, all_entries, keys_in};
+ghost use Rattle.tink_streaming_aead.specs.Wrapped.{ArePure, all_entries, entries_with, keys_in};
 
 use crate::factory::{WrappedStreamingAead, entries_of};
 use std::alloc::Global;
@@ -18,13 +18,15 @@ use tink_sets::cryptofmt::NON_RAW_PREFIX_SIZE;
 use tink_sets::{TypedEntry, TypedPrimitiveSet};
 use tink_streaming_keys::StreamKind;
 
-// Each list of a set has the prefix under which it stands, where the set has some entries; and a list has all keys of
-// its prefix.
+// Each list of a set has the prefix under which it is listed, where the set has some entries; and a list has all entries
+// of its prefix.
 pub fn own_groups(ps: &TypedPrimitiveSet<StreamKind>)
     ensures pure { (entries : List (TypedEntry StreamKind)) → AreGroupsOf typed_prefix_of entries ps.now.entries
         → ArePure ps.now.entries }
     ensures groups { ArePure ps.now.entries → (prefix : List ℕ)
         → keys_in (group_of ps.now.entries prefix) ≡ with_prefix prefix (keys_in (all_entries ps.now.entries)) }
+    ensures entries { ArePure ps.now.entries → (prefix : List ℕ)
+        → group_of ps.now.entries prefix ≡ entries_with prefix (all_entries ps.now.entries) }
 {
     let _ = (&ps.entries).into_iter();
 }
@@ -46,6 +48,7 @@ impl WrappedStreamingAead {
     /// `OutOfMemory`.
     pub fn entries(&self, alloc: Global) -> Result<Vec<&TypedEntry<StreamKind>>, TinkError>
         ensures keys { IfOk result (λ es. map (λ e. key_in_set e.now) es.items ≡ self.now.keys) }
+        ensures entries { IfOk result (λ es. map (λ e. e.now) es.items ≡ self.now.entries) }
         ensures cause { IfErr result (λ e. e ≡ record { kind = OutOfMemory }) }
     {
         match entries_of(alloc, &self.ps) {
@@ -59,6 +62,7 @@ impl WrappedStreamingAead {
     /// prefix. For fewer than five bytes it is those without a prefix.
     pub fn candidates(&self, start: &[u8]) -> (&[TypedEntry<StreamKind>], usize)
         ensures keys { keys_in result.0.now ≡ with_prefix (prefix_at start.now) self.now.keys }
+        ensures entries { result.0.now ≡ entries_with (prefix_at start.now) self.now.entries }
         ensures prefix { result.1 ≡ length (prefix_at start.now) }
     {
         own_groups(&self.ps);

@@ -1,4 +1,4 @@
-use Rattle.tink_streaming_aead.proofs.WrappedFacts.{group_keys, pure_groups}
+use Rattle.tink_streaming_aead.proofs.WrappedFacts.{group_entries, group_keys, pure_groups}
 use Rattle.tink_streaming_aead.proofs.factory.candidates.own_groups.Goals as goal
 
 pub returns-clause-pure : goal.returns-clause-pure
@@ -6,3 +6,6 @@ returns-clause-pure c = let given = c.into_iter.ensures.into_iter_gives in pure_
 
 pub returns-clause-groups : goal.returns-clause-groups
 returns-clause-groups c = let given = c.into_iter.ensures.into_iter_gives in group_keys c.args.ps.now.entries given.5
+
+pub returns-clause-entries : goal.returns-clause-entries
+returns-clause-entries c = let given = c.into_iter.ensures.into_iter_gives in group_entries c.args.ps.now.entries given.5
