@@ -41,7 +41,7 @@ use Rattle.tink_run.proofs.OpenLemmas.{chosen_lawful, kept_prefix, same_loaded, 
 use Rattle.tink_run.proofs.ReadOut.{any_told}
 use Rattle.tink_run.proofs.ReadsSteps.{same_largest}
 use Rattle.tink_run.proofs.LoadedFacts.{loaded_usable}
-use Rattle.tink_run.proofs.RunSteps.{are_of_keyset, opens_same}
+use Rattle.tink_run.proofs.RunSteps.{are_of_keyset, opens_same, ordered_keys}
 
 -- ---- from the moment of the answer to the end
 
@@ -220,7 +220,7 @@ largest_within n (k ∷ keys) all =
 no_larger : (keys others : List StreamKey) → HaveSameOrder keys others → largest keys ≤ largest others
 no_larger keys others same = largest_within (largest others) keys (each_too (IsWithin (largest others)) keys others same (each_within (largest others) others (omega arith)))
 
-same_room : (aad : List ℕ) (keys others : List StreamKey) → HaveSameOrder keys others → room_under (map (opening_key aad) keys) ≡ room_under (map (opening_key aad) others)
+pub same_room : (aad : List ℕ) (keys others : List StreamKey) → HaveSameOrder keys others → room_under (map (opening_key aad) keys) ≡ room_under (map (opening_key aad) others)
 same_room aad keys others same =
     let one = no_larger keys others same in
     let two = no_larger others keys (λ prefix. sym (same prefix)) in
@@ -247,7 +247,7 @@ reads_keyset keyset aad set old new answer loads order r = λ m told.
     let l : Loaded = loads.0 in
     let own : List StreamKey = map (λ k. k.key) l.keys in
     let all : List StreamKey = keys_in (all_entries set.entries) in
-    let ordered : HaveSameOrder all own = subst (HaveSameOrder all) loads.2.keys (order loads.2.entries loads.2.groups) in
+    let ordered = ordered_keys l set loads.2 order in
     let given : List OpeningKey = map (opening_key aad) all in
     let held : List OpeningKey = map (opening_key aad) own in
     let under : EndsAs (OpensReading held old) old new answer =

@@ -14,9 +14,10 @@ use Rattle.stream_model.proofs.OrderFacts.{choose_the_same}
 use Rattle.tink_sets.specs.declared.typed_set.TypedPrimitiveSet.{TypedPrimitiveSet}
 use Rattle.tink_streaming_keys.specs.declared.stream_kind.StreamKind.{StreamKind}
 use Rattle.tink_streaming_aead.specs.Wrapped.{KeepsOrder, all_entries, key_in, keys_in}
+use Rattle.tink_streaming_aead.proofs.WrappedFacts.{same_keys}
 use Rattle.loading_model.specs.Loading.{AreUsable, Loaded, LoadedKey, opening_keys}
 use Rattle.tink_run.specs.AllKeys.{load}
-use Rattle.tink_run.specs.HeldKeys.{GivesLoaded}
+use Rattle.tink_run.specs.HeldKeys.{GivesLoaded, HoldsLoaded}
 use Rattle.tink_run.specs.declared.report.Command.{Command}
 use Rattle.tink_run.specs.declared.report.Command.TheVariants.{Seal, Open}
 use Rattle.tink_run.specs.declared.report.Report.{Report}
@@ -116,13 +117,18 @@ opens_same ks js old new same (Err e) r = go e.kind refl r
     go OutOfMemory is r = r
     go _ is r = subst (OpeningRefused js old new) is (means_by ks js old new (λ S e. same S) (Err e) (subst (OpeningRefused ks old new) (sym is) r))
 
+-- the keys of a set are those that were loaded into it, those of one prefix in their order
+pub ordered_keys : (l : Loaded) (set : TypedPrimitiveSet StreamKind) → HoldsLoaded l set → KeepsOrder set.entries → HaveSameOrder (keys_in (all_entries set.entries)) (map (λ k. k.key) l.keys)
+ordered_keys l set holds order =
+    subst (HaveSameOrder (keys_in (all_entries set.entries))) holds.keys (same_keys (all_entries set.entries) holds.entries (order holds.entries holds.groups))
+
 -- an open under all keys of the set is an open under the keyset
 pub opens_keyset : (keyset aad draws : List ℕ) (set : TypedPrimitiveSet StreamKind) (old new : Outside) (answer : Result Report TinkError) → GivesLoaded (Ok set) (load keyset) → KeepsOrder set.entries
     → EndsAs (OpensReading (map (opening_key aad) (keys_in (all_entries set.entries))) old) old new answer → AnswerMeans Open keyset aad draws draws old new answer
 opens_keyset keyset aad draws set old new answer loads order r =
     let l : Loaded = loads.0 in
     let own : List StreamKey = map (λ k. k.key) l.keys in
-    let ordered : HaveSameOrder (keys_in (all_entries set.entries)) own = subst (HaveSameOrder (keys_in (all_entries set.entries))) loads.2.keys (order loads.2.entries loads.2.groups) in
+    let ordered = ordered_keys l set loads.2 order in
     let given : List OpeningKey = map (opening_key aad) (keys_in (all_entries set.entries)) in
     let held : List OpeningKey = map (opening_key aad) own in
     let under : EndsAs (OpensUnder held old) old new answer =

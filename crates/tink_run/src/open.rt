@@ -1,4 +1,5 @@
-ghost use Rattle.std.specs.Prelude.{◌≡◌, ◌≤◌, ◌<◌, ◌+◌, ◌^◌, map, vec_len, vec_capacity};
+ghost use Rattle.std.specs.Prelude.{◌≡◌, ◌≤◌, ◌<◌, ◌+◌, ◌*◌, ◌^◌, map, vec_len, vec_capacity};
+ghost use Rattle.tink_streaming_keys.specs.Memory.{trial_memory};
 ghost use Rattle.stream_model.specs.Opening as opening;
 ghost use Rattle.tink_streaming_io.specs.declared.progress.Progress.TheVariants.{Running};
 ghost use Rattle.tink_streaming_keys.specs.Rooms.{HasRoomForEach};
@@ -60,7 +61,8 @@ pub fn open<S: Source, K: Sink>(
     open_under(&keys, aad, trial, source, sink)
 }
 
-/// Opens what the source has left under the first key that it begins under.
+/// Opens what the source has left under the first key that it begins under, in the memory of a trial. This has twice as
+/// much as the longest output prefix and segment of the keys together, and 25 bytes.
 ///
 /// # Errors
 /// NoMatchingKey, ReadFault, and those of `open_stream`.
@@ -72,6 +74,8 @@ fn open_under<S: Source, K: Sink, T: DerivesStreams>(
     sink: &mut K,
 ) -> Result<Report, TinkError>
     requires filled { trial.kept.filled ≡ 0 }
+    requires memory { trial_memory trial
+        ≡ 2 * room_under (map (λ k. opening.opening_key aad.now (T.key_of k)) keys.now) + 23 }
     requires room { HasRoomForEach T.key_of keys.now (vec_len trial.kept.buffer) (vec_capacity trial.opened)
         (vec_len trial.nonce) (vec_capacity trial.prefix) }
     ensures answer { OpeningMeans (map (λ k. opening.opening_key aad.now (T.key_of k)) keys.now)

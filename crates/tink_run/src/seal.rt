@@ -1,4 +1,5 @@
-ghost use Rattle.std.specs.Prelude.{◌≡◌, ◌≤◌, ◌<◌, ℕ, List, [], length, Option, IfErr};
+ghost use Rattle.std.specs.Prelude.{◌≡◌, ◌≤◌, ℕ, List, [], length, Option, IfOk, IfErr, vec_len, vec_capacity};
+ghost use Rattle.tink_io.specs.declared.error.Kind.TheVariants.{OutOfMemory};
 ghost use Rattle.stream_model.specs.Key.{StreamKey};
 ghost use Rattle.tink_streaming_io.specs.Sealers.{held_text, segment_map, writer_moment};
 ghost use Rattle.tink_streaming_io.specs.declared.writing.Mode.TheVariants.{Open};
@@ -14,10 +15,18 @@ use tink_io::{Draws, Kind, Sink, Source, TinkError};
 use tink_sets::TypedEntry;
 use tink_streaming_aead::{StreamKind, begin_stream};
 use tink_streaming_io::{SegmentWriter, pour};
-use tink_streaming_segment::SegmentEncrypter;
+use tink_streaming_segment::{SegmentEncrypter, zeros};
 
-/// Bytes that are read at once.
-const PIECE: usize = 65536;
+// The bytes that are read at once.
+const PIECE: usize = 65_536;
+
+// Memory for what is read at once, and for no more.
+fn piece_of(alloc: Global) -> Result<Vec<u8>, TinkError>
+    ensures exact { IfOk result (λ piece. (vec_len piece ≡ 65536) × (vec_capacity piece ≡ 65536)) }
+    ensures refused { IfErr result (λ e. e ≡ record { kind = OutOfMemory }) }
+{
+    zeros(alloc, PIECE)
+}
 
 /// Seals what the source has left under a key.
 ///
@@ -43,14 +52,15 @@ pub fn seal<S: Source, K: Sink>(
     ensures source { S.same source.old source.new }
     ensures sink { K.same sink.old sink.new }
 {
-    let mut piece = vec![in alloc; 0u8; PIECE]?;
+    let mut piece = piece_of(alloc)?;
     match begin_stream(alloc, key, draws, sink, aad) {
         Ok(mut writer) => seal_begun(&mut writer, &mut piece, source, sink),
         Err(error) => Err(not_begun(error)),
     }
 }
 
-// Seals what the source has left into a stream that was begun, and lets go of nothing.
+// Seals what the source has left into a stream that was begun, in no more memory than that which it is handed, and lets
+// go of nothing.
 fn seal_begun<S: Source, K: Sink, E: SegmentEncrypter + Drop>(
     writer: &mut SegmentWriter<E>,
     piece: &mut [u8],
@@ -60,7 +70,7 @@ fn seal_begun<S: Source, K: Sink, E: SegmentEncrypter + Drop>(
     requires open { writer.old.mode ≡ Open }
     requires fresh { writer.old.segments ≡ 0 }
     requires empty { held_text writer.old ≡ [] }
-    requires piece { 0 < length piece.old }
+    requires piece { length piece.old ≡ 65536 }
     ensures answer { (k : StreamKey) (aad draws left_draws : List ℕ) (got : Option (List ℕ)) (writes : ℕ)
         → IsNewStream k aad draws left_draws got (segment_map writer.old.sealer) writer.old.sealer.first
         writer.old.sealer.room (writer_moment K.got K.faults writer.old sink.old)

@@ -1,6 +1,6 @@
 //! Sealing and opening to a sink that gets small pieces together.
 
-ghost use Rattle.std.specs.Prelude.{◌≡◌, ◌≤◌, [], map, Err};
+ghost use Rattle.std.specs.Prelude.{◌≡◌, ◌≤◌, [], map, vec_capacity, Err};
 ghost use Rattle.std.specs.Io.KnownBytes.{append_known};
 ghost use Rattle.stream_model.specs.Opening as opening;
 ghost use Rattle.tink_streaming_keys.specs.StreamKinds.{key_in_set};
@@ -54,7 +54,7 @@ pub fn ended<K: Sink>(
 }
 
 // `seal` to a sink that gets small pieces together, in memory that is lent.
-pub fn seal_together<S: Source, K: Sink>(
+pub(crate) fn seal_together<S: Source, K: Sink>(
     alloc: Global,
     key: &TypedEntry<StreamKind>,
     aad: &[u8],
@@ -63,6 +63,7 @@ pub fn seal_together<S: Source, K: Sink>(
     sink: &mut K,
     waiting: &mut Vec<u8>,
 ) -> Result<Report, TinkError>
+    requires waiting { vec_capacity waiting.old ≡ 65536 }
     ensures answer { SealsUnder (key_in_set key.now) aad.now draws.old draws.new
         (outside_of S.left S.faults K.got K.faults source.old sink.old)
         (outside_of S.left S.faults K.got K.faults source.new sink.new)
@@ -79,7 +80,7 @@ pub fn seal_together<S: Source, K: Sink>(
 }
 
 // `open` to a sink that gets small pieces together, in memory that is lent.
-pub fn open_together<S: Source, K: Sink>(
+pub(crate) fn open_together<S: Source, K: Sink>(
     alloc: Global,
     set: &TypedPrimitiveSet<StreamKind>,
     aad: &[u8],
@@ -87,6 +88,7 @@ pub fn open_together<S: Source, K: Sink>(
     sink: &mut K,
     waiting: &mut Vec<u8>,
 ) -> Result<Report, TinkError>
+    requires waiting { vec_capacity waiting.old ≡ 65536 }
     ensures answer { EndsAs (OpensReading (map (opening.opening_key aad.now) (keys_in (all_entries set.now.entries)))
         (outside_of S.left S.faults K.got K.faults source.old sink.old))
         (outside_of S.left S.faults K.got K.faults source.old sink.old)

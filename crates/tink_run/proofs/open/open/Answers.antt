@@ -10,7 +10,7 @@ use Rattle.tink_io.specs.Outside.{Outside}
 use Rattle.tink_run.proofs.OpenSteps.{leaves_under, opens_under}
 use Rattle.tink_run.proofs.ReadsSteps.{same_largest}
 use Rattle.tink_run.proofs.RunSteps.{leaves_same, leaves_sink_same}
-use Rattle.tink_run.proofs.RoomFacts.{has_room}
+use Rattle.tink_run.proofs.RoomFacts.{has_room, trial_takes}
 use Rattle.tink_run.proofs.open.open.Goals as goal
 
 pub returns : goal.returns
@@ -79,3 +79,7 @@ pub open_under-requires-clause-room : goal.open_under-requires-clause-room
 open_under-requires-clause-room g c =
     has_room (λ k. key_in_set k.now) _ _ _ _ _ _ _ (c.deref.ensures.value ∙ sym c.deref-2.ensures.value) c.room_of.ensures.most c.in_ok-trial.ensures.buffer
     c.in_ok-trial.ensures.opened c.in_ok-trial.ensures.nonce c.in_ok-trial.ensures.prefix
+
+pub open_under-requires-clause-memory : goal.open_under-requires-clause-memory
+open_under-requires-clause-memory g c =
+    trial_takes (λ k. key_in_set k.now) c.args.aad.now c.deref.result.now c.deref-2.result.now c.room_of.result _ (c.deref.ensures.value ∙ sym c.deref-2.ensures.value) c.room_of.ensures.value c.in_ok-trial.ensures.memory

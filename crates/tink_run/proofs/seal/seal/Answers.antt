@@ -9,7 +9,7 @@ pub returns-in_err-piece : goal.returns-in_err-piece
 returns-in_err-piece g c =
     let p = err_from_is_err_and c.from_residual.result c.from_residual.ensures.1 in
     record {
-      answer = rw (p.1, p.2) (record { untouched = refl; undrawn = refl });
+      answer = rw (p.1, p.2, c.in_err-piece.ensures.refused) (record { untouched = refl; undrawn = refl });
       early = leaves_same c.from_residual.result c.args.source.now c.args.sink.now;
       later = record { reads = le_refl _; writes = le_refl _ };
       source = g.met.S.Source.same_refl _;
