@@ -123,7 +123,7 @@ module _ (c : Cutting) (lo hi behind number start text : ℕ) (here : IsNext c l
       (subst (λ (i : ℕ). IsChunkPlace c.first c.size c.over behind lo (number + 1) (start + min (behind - start) room) i) (sym x) next))
 
   -- the chunk that comes next is within what the range's own length fills
-  before_few : (from before then : ℕ) → Ticks lo hi (c.size - c.over) from number text before then → number - from ≤ (hi - lo + (c.size - c.over) - 1) / (c.size - c.over)
+  pub before_few : (from before then : ℕ) → Ticks lo hi (c.size - c.over) from number text before then → number - from ≤ (hi - lo + (c.size - c.over) - 1) / (c.size - c.over)
   before_few from before then ticks =
       let p : ℕ = c.size - c.over in
       ticks_few (number - from) lo hi p (omega (arith, here.over, here.sizes)) (λ some. omega (arith, ticks.spaced (omega arith) here.before, here.before))

@@ -1,5 +1,5 @@
 -- From a start and a range to a range under keys.
-use Rattle.std.proofs.Common.{◌≡◌, inl, inr, ◌≤◌, ◌+◌, ◌-◌, ◌/◌, ℕ, List, length, map, refl, sym, subst, arith, Some, None, IfSome}
+use Rattle.std.proofs.Common.{◌≡◌, inl, inr, ◌≤◌, ◌+◌, ◌-◌, ◌*◌, ◌/◌, ℕ, List, length, map, refl, sym, ap, subst, ◌∙◌, arith, Some, None, IfSome}
 use Rattle.std.specs.Prelude.{Result, Ok, Err}
 use Rattle.std.proofs.lemmas.List.{length-map}
 use Rattle.std.specs.declared.option.Option.{Option}
@@ -12,6 +12,7 @@ use Rattle.tink_streaming_io.specs.Choosing.{Found, StartRefused}
 use Rattle.tink_range.specs.ChunkReading.{Moments}
 use Rattle.tink_range.specs.Giving.{Cutting}
 use Rattle.tink_range.specs.KeyRanges.{IsCutUnder, RangesUnder, RangesUnderRefused, TakesRangeSteps, range_steps}
+use Rattle.tink_range.specs.ReadCounts.{TakesRangeBytes}
 use Rattle.tink_range.specs.StreamSizes.{SizesRefused}
 use Rattle.tink_range.specs.RangeReading.{EndRefused, GaveRange, RangeMeans, RangeRefused, range_end, range_start}
 
@@ -109,6 +110,25 @@ steps_by_others ks js all whole start len before now count same (inr r) =
       whole_is = r.whole_is;
       then = subst (λ (n : ℕ). now ≤ before + n + range_steps r.cutting r.behind start len) count r.then;
     })
+
+-- and as much is read for each of them
+pub bytes_by_others : (ks js : List OpeningKey) (all : Option (List ℕ)) (whole start len room most before now : ℕ) → length ks ≡ length js → room ≡ most → ((S : List ℕ) (chosen : Option OpeningKey) → IsChosen ks S chosen → IsChosen js S chosen)
+    → TakesRangeBytes ks all whole start len room before now → TakesRangeBytes js all whole start len most before now
+bytes_by_others ks js all whole start len room most before now count larger same takes = go takes
+  where
+    total : length ks * room ≡ length js * most
+    total = ap (λ (n : ℕ). n * room) count ∙ ap (λ (n : ℕ). length js * n) larger
+
+    go : TakesRangeBytes ks all whole start len room before now → TakesRangeBytes js all whole start len most before now
+    go (inl few) = inl (subst (λ (n : ℕ). now ≤ before + n) total few)
+    go (inr r) =
+        inr (record {
+          cutting = r.cutting;
+          behind = r.behind;
+          found = if_told all _ _ (λ S f. record { key = f.key; chosen = same S (Some f.key) f.chosen; opener = f.opener }) r.found;
+          whole_is = r.whole_is;
+          then = subst (λ (n : ℕ). now ≤ before + n + range_steps r.cutting r.behind start len * r.cutting.size) total r.then;
+        })
 
 -- where the same key is chosen of other keys, it cuts the same
 pub cut_by_others : (ks js : List OpeningKey) (all : Option (List ℕ)) (whole : ℕ) (P Q : Cutting → ℕ → Type 0) → ((S : List ℕ) (chosen : Option OpeningKey) → IsChosen ks S chosen → IsChosen js S chosen)

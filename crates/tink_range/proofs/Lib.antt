@@ -18,3 +18,4 @@ pub mod CanGiveFacts
 pub mod KeyRangeSteps
 pub mod ObjectSteps
 pub mod ChunkSteps
+pub mod TakenFacts

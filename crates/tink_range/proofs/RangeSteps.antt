@@ -1,5 +1,5 @@
 -- From the last chunk's opening and the giving of a range to the answer.
-use Rattle.std.proofs.Common.{◌≡◌, inl, inr, ◌<◌, ◌≤◌, ◌+◌, ◌-◌, ◌/◌, ◌^◌, min, ℕ, List, [], refl, sym, ap, subst, ◌∙◌, arith, Some, None, IfSome}
+use Rattle.std.proofs.Common.{◌≡◌, inl, inr, ◌<◌, ◌≤◌, ◌+◌, ◌-◌, ◌*◌, ◌/◌, ◌^◌, min, ℕ, List, [], refl, sym, ap, subst, ◌∙◌, arith, Some, None, IfSome}
 use Rattle.std.specs.Prelude.{Result, Ok, Err}
 use Rattle.std.specs.declared.option.Option.{Option}
 use Rattle.tink_io.proofs.FaultLemmas.{Rose-earlier}
@@ -17,6 +17,7 @@ use Rattle.tink_range.specs.Ranges.{LastAgrees, SomeGive, chunk_count, text_leng
 use Rattle.tink_range.specs.StepCounts.{TakesTouched, TouchesSoMany}
 use Rattle.tink_range.specs.declared.chunks.RangeCore.{RangeCore}
 use Rattle.tink_range.proofs.GivingTold.{Appends-none}
+use Rattle.tink_range.proofs.TakenFacts.{taken_both}
 
 -- cores that open alike cut alike
 pub same_cutting : {D : Type 0} {g : Ghosts D} (old core : RangeCore D g) → IsSameCore old core → cutting_of core ≡ cutting_of old
@@ -49,6 +50,18 @@ module _ {D : Type 0} {g : Ghosts D} (old core : RangeCore D g) (same : IsSameCo
     where
       added : (old mid new q r : ℕ) → mid ≤ old + 1 → new ≤ mid + q + 1 → q ≡ r → new ≤ old + r + 2
       added old mid new q r a b e = omega arith
+
+  -- no more was read than those chunks
+  pub range_taken : (start len lo hi before mid now : ℕ) → lo ≡ range_start (cutting_of old) old.behind start → hi ≡ range_end (cutting_of old) old.behind start len
+      → mid ≤ before + old.opener.size → now ≤ mid + ((hi - lo + (core.opener.size - core.opener.overhead) - 1) / (core.opener.size - core.opener.overhead) + 1) * core.opener.size
+      → now ≤ before + ((range_end (cutting_of old) old.behind start len - range_start (cutting_of old) old.behind start + (old.opener.size - old.opener.overhead) - 1) / (old.opener.size - old.opener.overhead) + 2) * old.opener.size
+  range_taken start len lo hi before mid now l h one given =
+      let of : ℕ → ℕ → ℕ → ℕ = λ a b p. (b - a + p - 1) / p in
+      let p : core.opener.size - core.opener.overhead ≡ old.opener.size - old.opener.overhead = ap (λ o. o.size - o.overhead) same.opener in
+      let all : of lo hi (core.opener.size - core.opener.overhead) ≡ of (range_start (cutting_of old) old.behind start) (range_end (cutting_of old) old.behind start len) (old.opener.size - old.opener.overhead) =
+      ap (λ k. of lo hi k) p ∙ ap (λ k. of lo k (old.opener.size - old.opener.overhead)) h ∙ ap (λ k. of k (range_end (cutting_of old) old.behind start len) (old.opener.size - old.opener.overhead)) l in
+      taken_both before mid now (of (range_start (cutting_of old) old.behind start) (range_end (cutting_of old) old.behind start len) (old.opener.size - old.opener.overhead)) old.opener.size one
+      (subst (λ (n : ℕ). now ≤ mid + (n + 1) * old.opener.size) all (subst (λ (n : ℕ). now ≤ mid + (of lo hi (core.opener.size - core.opener.overhead) + 1) * n) (ap (λ o. o.size) same.opener) given))
 
   -- the last chunk was opened, and then those that the range touches
   pub range_touched : (start len lo hi before mid now : ℕ) (r : Result ℕ TinkError) → lo ≡ range_start (cutting_of old) old.behind start → hi ≡ range_end (cutting_of old) old.behind start len

@@ -13,3 +13,4 @@ pub mod RangeCores
 pub mod RangeReaders
 pub mod KeyRanges
 pub mod StreamSizes
+pub mod ReadCounts

@@ -1,4 +1,4 @@
-ghost use Rattle.std.specs.Prelude.{◌≡◌, ◌≤◌, ◌<◌, ◌+◌, ◌-◌, ◌^◌, length, take, map, None, true, false, IfOk, IfErr, IfSome, MatchResult, vec_len, vec_capacity};
+ghost use Rattle.std.specs.Prelude.{◌≡◌, ◌≤◌, ◌<◌, ◌+◌, ◌*◌, ◌-◌, ◌^◌, length, take, map, None, true, false, IfOk, IfErr, IfSome, MatchResult, vec_len, vec_capacity};
 ghost use Rattle.stream_model.specs.Cut.{numbered};
 ghost use Rattle.stream_model.specs.Key.{nonce_size};
 ghost use Rattle.stream_model.specs.Opening.{HasFront, IsChosen, header_of, opening_key};
@@ -54,6 +54,7 @@ fn front_at<A: ReadAt, T: DerivesStreams>(
         (header_of (opening_key aad.now (T.key_of key.now)) held.new) ≡ None))) }
     ensures room { IfOk result (λ r. MatchResult r
         (λ o. 7 ≤ vec_capacity o.prefix) (λ memory. 7 ≤ vec_capacity memory)) }
+    ensures taken { A.taken object.new ≤ A.taken object.old + length held.old }
     ensures read { ReadsObject A.length_of A.bytes A.faults A.same object.old object.new result }
 {
     match fill_at(object, 0, held) {
@@ -100,6 +101,7 @@ fn try_at<A: ReadAt, T: DerivesStreams, L: Ledger>(
         (vec_capacity memory))) }
     ensures ticks { (steps.old ≤ steps.new) × (steps.new ≤ steps.old + 1) }
     ensures room { KeepsBuffers sealed.old sealed.new text.old text.new nonce.old nonce.new }
+    ensures taken { A.taken object.new ≤ A.taken object.old + vec_len sealed.old }
     ensures read { ReadsObject A.length_of A.bytes A.faults A.same object.old object.new result }
 {
     let front = key.output_prefix().len() + key.header_length();
@@ -157,6 +159,7 @@ pub fn choose_at<A: ReadAt, T: DerivesStreams, L: Ledger>(
     ensures tries { IfOk result (λ _. IfSome (A.bytes object.old)
         (λ S. Tries (map (λ k. opening_key aad.now (T.key_of k)) keys.now) S (steps.new - steps.old))) }
     ensures ticks { (steps.old ≤ steps.new) × (steps.new ≤ steps.old + length keys.now) }
+    ensures taken { A.taken object.new ≤ A.taken object.old + length keys.now * vec_len sealed.old }
     ensures read { ReadsObject A.length_of A.bytes A.faults A.same object.old object.new result }
 {
     let mut prefix = prefix;

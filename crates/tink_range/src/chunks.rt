@@ -53,6 +53,7 @@ impl<D: SegmentDecrypter> RangeCore<D> {
         ensures length { IfOk result (λ ok. ok ≡ true → vec_len self.new.buffers.text + self.old.opener.overhead
             ≡ min (self.old.behind - start) (room_at self.old.opener.first self.old.opener.size number)) }
         ensures ticks { MatchResult result (λ _. steps.new ≡ steps.old + 1) (λ _. steps.new ≡ steps.old) }
+        ensures taken { A.taken object.new ≤ A.taken object.old + self.old.opener.size }
         ensures core { IsSameCore self.old self.new }
         ensures read { ReadsObject A.length_of A.bytes A.faults A.same object.old object.new result }
     {
@@ -87,6 +88,7 @@ impl<D: SegmentDecrypter> RangeCore<D> {
             (chunk_in self.old place.number place.start) self.old.opener.overhead lo hi place.text
             (ends_of A.bytes A.faults object.old object.new sink.old sink.new) result }
         ensures ticks { TakesOneStep steps.old steps.new result }
+        ensures taken { A.taken object.new ≤ A.taken object.old + self.old.opener.size }
         ensures core { IsSameCore self.old self.new }
         ensures kept { LeavesObject A.length_of A.bytes A.faults object.old object.new result }
         ensures later { K.faults sink.old ≤ K.faults sink.new }
@@ -144,6 +146,7 @@ impl<D: SegmentDecrypter> RangeCore<D> {
         ensures answer { LastMeans (cutting_of self.old) self.old.behind (A.bytes object.old)
             (A.faults object.old) (A.faults object.new) result }
         ensures ticks { TakesOneStep steps.old steps.new result }
+        ensures taken { A.taken object.new ≤ A.taken object.old + self.old.opener.size }
         ensures core { IsSameCore self.old self.new }
         ensures kept { LeavesObject A.length_of A.bytes A.faults object.old object.new result }
         ensures same { A.same object.old object.new }

@@ -1,4 +1,4 @@
-ghost use Rattle.std.specs.Prelude.{◌≡◌, ◌≤◌, ◌<◌, ◌+◌, ◌-◌, ◌/◌, ◌^◌};
+ghost use Rattle.std.specs.Prelude.{◌≡◌, ◌≤◌, ◌<◌, ◌+◌, ◌*◌, ◌-◌, ◌/◌, ◌^◌};
 ghost use Rattle.tink_range.specs.ChunkReading.{ends_of};
 ghost use Rattle.tink_range.specs.Giving.{GiveMeans};
 ghost use Rattle.tink_range.specs.Objects.{LeavesObject};
@@ -34,6 +34,9 @@ fn give_from<A: ReadAt, D: SegmentDecrypter, K: Sink, L: Ledger>(
     ensures ticks { steps.new ≤ steps.old + (hi - lo + (core.old.opener.size - core.old.opener.overhead) - 1)
         / (core.old.opener.size - core.old.opener.overhead) + 1 }
     ensures touched { TakesTouched (cutting_of core.old) lo hi 0 steps.old steps.new result }
+    ensures taken { A.taken object.new ≤ A.taken object.old
+        + ((hi - lo + (core.old.opener.size - core.old.opener.overhead) - 1)
+        / (core.old.opener.size - core.old.opener.overhead) + 1) * core.old.opener.size }
     ensures core { IsSameCore core.old core.new }
     ensures kept { LeavesObject A.length_of A.bytes A.faults object.old object.new result }
     ensures later { K.faults sink.old ≤ K.faults sink.new }
@@ -74,6 +77,9 @@ pub fn give_range<A: ReadAt, D: SegmentDecrypter, K: Sink, L: Ledger>(
     ensures ticks { steps.new ≤ steps.old + (hi - lo + (core.old.opener.size - core.old.opener.overhead) - 1)
         / (core.old.opener.size - core.old.opener.overhead) + 1 }
     ensures touched { TakesTouched (cutting_of core.old) lo hi 0 steps.old steps.new result }
+    ensures taken { A.taken object.new ≤ A.taken object.old
+        + ((hi - lo + (core.old.opener.size - core.old.opener.overhead) - 1)
+        / (core.old.opener.size - core.old.opener.overhead) + 1) * core.old.opener.size }
     ensures core { IsSameCore core.old core.new }
     ensures kept { LeavesObject A.length_of A.bytes A.faults object.old object.new result }
     ensures later { K.faults sink.old ≤ K.faults sink.new }

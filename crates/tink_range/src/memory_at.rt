@@ -6,6 +6,7 @@ ghost use Rattle.std.specs.List.{list_any};
 ghost use Rattle.tink_io.specs.Memory.{at_most_piece};
 ghost use Rattle.tink_range.specs.MemoryAt.{SameAt, after_read_at, is_at_fault, read_at_len};
 ghost use Rattle.tink_range.specs.Objects.{CountsRead};
+ghost use Rattle.tink_range.specs.ReadCounts.{read_count};
 
 use crate::read_at::ReadAt;
 use std::marker::Model;
@@ -85,6 +86,8 @@ impl ReadAt for MemAt {
 
     ghost faults = { λ s. s.faults };
 
+    ghost taken = { λ s. s.calls };
+
     ghost same = { SameAt };
 
     fn size(&self) -> u64 {
@@ -99,6 +102,7 @@ impl ReadAt for MemAt {
         ensures length { length self.new.bytes ≡ length self.old.bytes }
         ensures bytes { Some self.new.bytes ≡ Some self.old.bytes }
         ensures cause { CountsRead self.old.faults self.new.faults result }
+        ensures taken { self.new.calls ≤ self.old.calls + read_count result }
         ensures same { SameAt self.old self.new }
         ensures moved { IfOk result (λ n. n ≡ read_at_len self.old pos (length buf.old)) }
         ensures after { (IsErr result ↔ IsTrue (is_at_fault self.old)) × (self.new ≡ after_read_at self.old) }
@@ -150,6 +154,8 @@ impl ReadAt for SureAt {
 
     ghost faults = { λ _. 0 };
 
+    ghost taken = { λ _. 0 };
+
     ghost same = { λ s t. t ≡ s };
 
     fn size(&self) -> u64 {
@@ -164,6 +170,7 @@ impl ReadAt for SureAt {
         ensures length { length self.new ≡ length self.old }
         ensures bytes { Some self.new ≡ Some self.old }
         ensures cause { CountsRead 0 0 result }
+        ensures taken { 0 ≤ 0 + read_count result }
         ensures same { self.new ≡ self.old }
         ensures moved { result ≡ Ok (min (length self.old - pos) (length buf.old)) }
     {

@@ -48,6 +48,7 @@ fn open_into<A: ReadAt, D: SegmentDecrypter, L: Ledger>(
         → vec_len text.new + opener.now.overhead ≡ length chunk.old) }
     ensures ticks { MatchResult result (λ _. steps.new ≡ steps.old + 1) (λ _. steps.new ≡ steps.old) }
     ensures room { KeepsNonceAndText nonce.old nonce.new text.old text.new }
+    ensures taken { A.taken object.new ≤ A.taken object.old + length chunk.old }
     ensures read { ReadsObject A.length_of A.bytes A.faults A.same object.old object.new result }
 {
     match fill_at(object, at, chunk) {
@@ -83,6 +84,7 @@ pub fn open_at<A: ReadAt, D: SegmentDecrypter, L: Ledger>(
         ≡ min rest (room_at opener.now.first opener.now.size number)) }
     ensures ticks { MatchResult result (λ _. steps.new ≡ steps.old + 1) (λ _. steps.new ≡ steps.old) }
     ensures room { KeepsBuffers sealed.old sealed.new text.old text.new nonce.old nonce.new }
+    ensures taken { A.taken object.new ≤ A.taken object.old + room_at opener.now.first opener.now.size number }
     ensures read { ReadsObject A.length_of A.bytes A.faults A.same object.old object.new result }
 {
     let room = room_of(opener, number);

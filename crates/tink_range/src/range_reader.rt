@@ -1,6 +1,6 @@
 //! Readers of ranges of a stream's text.
 
-ghost use Rattle.std.specs.Prelude.{◌≡◌, ◌≤◌, ◌+◌, ◌-◌, ◌/◌, length, map, IfOk, IfErr, IfSome};
+ghost use Rattle.std.specs.Prelude.{◌≡◌, ◌≤◌, ◌+◌, ◌-◌, ◌*◌, ◌/◌, length, map, IfOk, IfErr, IfSome};
 ghost use Rattle.stream_model.specs.Opening.{opening_key};
 ghost use Rattle.tink_io.specs.declared.error.Kind.TheVariants.{NoMatchingKey};
 ghost use Rattle.tink_range.specs.ChoosingAt.{NewRefused, Tries};
@@ -10,6 +10,7 @@ ghost use Rattle.tink_range.specs.RangeReaders.{answer_of, cut_by, object_of};
 ghost use Rattle.tink_range.specs.RangeReading.{IsGivenExactly, RangeMeans, range_end, range_start};
 ghost use Rattle.tink_range.specs.Ranges.{text_length};
 ghost use Rattle.tink_range.specs.StepCounts.{TakesTouched};
+ghost use Rattle.tink_streaming_aead.specs.DecryptReaders.{largest};
 ghost use Rattle.tink_streaming_io.specs.Choosing.{Found};
 
 use crate::chunks::RangeCore;
@@ -71,6 +72,8 @@ impl<A: ReadAt> RangeReader<A> {
         ensures tried_all { IfErr result (λ refused. refused.error.kind ≡ NoMatchingKey → IfSome (A.bytes object)
             (λ S. Tries (map (opening_key aad.now) w.now.keys) S (steps.new - steps.old))) }
         ensures ticks { steps.new ≤ steps.old + length w.now.keys }
+        ensures taken { A.taken (object_of result) ≤ A.taken object
+            + length w.now.keys * (largest w.now.keys + 1) }
         ensures kept { LeavesObject A.length_of A.bytes A.faults object (object_of result) (answer_of result) }
         ensures same { A.same object (object_of result) }
     {
@@ -121,6 +124,11 @@ impl<A: ReadAt> RangeReader<A> {
             - self.old.opening.overhead) - 1) / (self.old.opening.size - self.old.opening.overhead) + 2 }
         ensures touched { TakesTouched (cut_by self.old) (range_start (cut_by self.old) self.old.behind start)
             (range_end (cut_by self.old) self.old.behind start len) 1 steps.old steps.new result }
+        ensures taken { A.taken self.new.object ≤ A.taken self.old.object
+            + ((range_end (cut_by self.old) self.old.behind start len
+            - range_start (cut_by self.old) self.old.behind start + (self.old.opening.size
+            - self.old.opening.overhead) - 1) / (self.old.opening.size - self.old.opening.overhead) + 2)
+            * self.old.opening.size }
         ensures opening { self.new.opening ≡ self.old.opening }
         ensures front { self.new.front ≡ self.old.front }
         ensures behind { self.new.behind ≡ self.old.behind }

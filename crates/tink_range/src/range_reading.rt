@@ -1,4 +1,4 @@
-ghost use Rattle.std.specs.Prelude.{◌≡◌, ◌≤◌, ◌<◌, ◌+◌, ◌-◌, ◌/◌, ℕ, List, length, IfOk};
+ghost use Rattle.std.specs.Prelude.{◌≡◌, ◌≤◌, ◌<◌, ◌+◌, ◌*◌, ◌-◌, ◌/◌, ℕ, List, length, IfOk};
 ghost use Rattle.tink_range.specs.ChunkReading.{ends_of};
 ghost use Rattle.tink_range.specs.Objects.{LeavesObject};
 ghost use Rattle.tink_range.specs.RangeCores.{IsSameCore, cutting_of};
@@ -27,6 +27,7 @@ pub fn check_end<A: ReadAt, D: SegmentDecrypter, L: Ledger>(
     ensures shape { IfOk result (λ s. (X : List ℕ) → length X ≡ core.old.behind
         → HasShape core.old.opener.first core.old.opener.size core.old.opener.overhead X s.count s.text s.last) }
     ensures ticks { TakesOneStep steps.old steps.new result }
+    ensures taken { A.taken object.new ≤ A.taken object.old + core.old.opener.size }
     ensures core { IsSameCore core.old core.new }
     ensures kept { LeavesObject A.length_of A.bytes A.faults object.old object.new result }
     ensures same { A.same object.old object.new }
@@ -60,6 +61,11 @@ pub fn read_range<A: ReadAt, D: SegmentDecrypter, K: Sink, L: Ledger>(
         / (core.old.opener.size - core.old.opener.overhead) + 2 }
     ensures touched { TakesTouched (cutting_of core.old) (range_start (cutting_of core.old) core.old.behind start)
         (range_end (cutting_of core.old) core.old.behind start len) 1 steps.old steps.new result }
+    ensures taken { A.taken object.new ≤ A.taken object.old
+        + ((range_end (cutting_of core.old) core.old.behind start len
+        - range_start (cutting_of core.old) core.old.behind start
+        + (core.old.opener.size - core.old.opener.overhead) - 1)
+        / (core.old.opener.size - core.old.opener.overhead) + 2) * core.old.opener.size }
     ensures core { IsSameCore core.old core.new }
     ensures kept { LeavesObject A.length_of A.bytes A.faults object.old object.new result }
     ensures later { K.faults sink.old ≤ K.faults sink.new }

@@ -1,8 +1,9 @@
 //! Objects that are read in any place.
 
-ghost use Rattle.std.specs.Prelude.{◌≡◌, ◌<◌, ◌≤◌, ◌-◌, ℕ, List, length, take, drop, IfOk, IfSome};
+ghost use Rattle.std.specs.Prelude.{◌≡◌, ◌<◌, ◌≤◌, ◌+◌, ◌-◌, ℕ, List, length, take, drop, IfOk, IfSome};
 ghost use Rattle.std.specs.declared.option.Option.{Option};
 ghost use Rattle.tink_range.specs.Objects.{CountsRead};
+ghost use Rattle.tink_range.specs.ReadCounts.{read_count};
 
 use tink_io::Failed;
 
@@ -16,6 +17,10 @@ pub trait ReadAt {
 
     // How often it has failed. The count never falls, and stands still at the last value of u64.
     ghost faults: { Self → ℕ };
+
+    // What its reads have taken, as far as it counts them. A read counts the bytes that it moves, and one if it moves
+    // none, so that neither the reads nor the bytes are more than the counts of all reads.
+    ghost taken: { Self → ℕ };
 
     // What stays over calls.
     ghost same: { Self → Self → Type 0 };
@@ -37,6 +42,7 @@ pub trait ReadAt {
         ensures length { length_of self.new ≡ length_of self.old }
         ensures bytes { bytes self.new ≡ bytes self.old }
         ensures cause { CountsRead (faults self.old) (faults self.new) result }
+        ensures taken { taken self.new ≤ taken self.old + read_count result }
         ensures same { same self.old self.new };
 
     // The bytes are as many as it has.

@@ -10,6 +10,7 @@ pub fn fill_at<A: ReadAt>(object: &mut A, at: u64, buf: &mut [u8]) -> Result<(),
     requires fits { at + length buf.old < 2 ^ 64 }
     ensures given { OnOk result (IfSome (A.bytes object.old)
         (λ S. buf.new ≡ take (length buf.old) (drop at S))) }
+    ensures taken { A.taken object.new ≤ A.taken object.old + length buf.old }
     ensures read { ReadsObject A.length_of A.bytes A.faults A.same object.old object.new result }
 {
     let mut done = 0;

@@ -1,7 +1,8 @@
-ghost use Rattle.std.specs.Prelude.{◌≡◌, ◌≤◌, ◌+◌, ◌-◌, length, map, IfOk, IfErr, IfSome, vec_len, vec_capacity};
+ghost use Rattle.std.specs.Prelude.{◌≡◌, ◌≤◌, ◌+◌, ◌*◌, ◌-◌, length, map, IfOk, IfErr, IfSome, vec_len, vec_capacity};
 ghost use Rattle.stream_model.specs.Opening.{opening_key};
 ghost use Rattle.tink_range.specs.ChoosingAt.{HasTried, IsPlaced, NewRefused};
 ghost use Rattle.tink_range.specs.Objects.{LeavesObject};
+ghost use Rattle.tink_streaming_aead.specs.DecryptReaders.{largest};
 ghost use Rattle.tink_streaming_keys.specs.Rooms.{HasRoomForEach};
 ghost use Rattle.tink_streaming_io.specs.Choosing.{Found, StartRefused};
 ghost use Rattle.tink_streaming_io.specs.Openers.{segment_map};
@@ -46,6 +47,7 @@ pub fn start_placed<A: ReadAt, T: DerivesStreams, L: Ledger>(
     ensures tried { HasTried result (A.bytes object.old) (map (λ k. opening_key aad.now (T.key_of k)) keys.now)
         (steps.new - steps.old) }
     ensures ticks { (steps.old ≤ steps.new) × (steps.new ≤ steps.old + length keys.now) }
+    ensures taken { A.taken object.new ≤ A.taken object.old + length keys.now * vec_len trial.kept.buffer }
     ensures kept { LeavesObject A.length_of A.bytes A.faults object.old object.new result }
     ensures same { A.same object.old object.new }
 {
@@ -108,6 +110,7 @@ pub fn start_at<A: ReadAt, T: DerivesStreams, L: Ledger>(
     ensures tried { HasTried result (A.bytes object.old) (map (λ k. opening_key aad.now (T.key_of k)) keys.now)
         (steps.new - steps.old) }
     ensures ticks { (steps.old ≤ steps.new) × (steps.new ≤ steps.old + length keys.now) }
+    ensures taken { A.taken object.new ≤ A.taken object.old + length keys.now * vec_len trial.kept.buffer }
     ensures kept { LeavesObject A.length_of A.bytes A.faults object.old object.new result }
     ensures same { A.same object.old object.new }
 {
@@ -134,6 +137,7 @@ pub fn begin_at<A: ReadAt, L: Ledger>(
     ensures tried { HasTried result (A.bytes object.old) (map (opening_key aad.now) w.now.keys)
         (steps.new - steps.old) }
     ensures ticks { (steps.old ≤ steps.new) × (steps.new ≤ steps.old + length w.now.keys) }
+    ensures taken { A.taken object.new ≤ A.taken object.old + length w.now.keys * (largest w.now.keys + 1) }
     ensures kept { LeavesObject A.length_of A.bytes A.faults object.old object.new result }
     ensures same { A.same object.old object.new }
 {

@@ -3,6 +3,7 @@ ghost use Rattle.stream_model.specs.Opening.{opening_key};
 ghost use Rattle.tink_range.specs.ChunkReading.{ends_of};
 ghost use Rattle.tink_range.specs.KeyRanges.{RangesUnder, TakesRangeSteps};
 ghost use Rattle.tink_range.specs.Objects.{LeavesObject};
+ghost use Rattle.tink_range.specs.ReadCounts.{TakesRangeBytes};
 ghost use Rattle.tink_streaming_keys.specs.Rooms.{HasRoomForEach};
 
 use crate::range_reading::read_range;
@@ -36,6 +37,8 @@ pub fn range_under<A: ReadAt, T: DerivesStreams, K: Sink, L: Ledger>(
         (ends_of A.bytes A.faults object.old object.new sink.old sink.new) result }
     ensures ticks { TakesRangeSteps (map (λ k. opening_key aad.now (T.key_of k)) keys.now) (A.bytes object.old)
         (A.length_of object.old) start len steps.old steps.new }
+    ensures taken { TakesRangeBytes (map (λ k. opening_key aad.now (T.key_of k)) keys.now) (A.bytes object.old)
+        (A.length_of object.old) start len (vec_len trial.kept.buffer) (A.taken object.old) (A.taken object.new) }
     ensures kept { LeavesObject A.length_of A.bytes A.faults object.old object.new result }
     ensures later { K.faults sink.old ≤ K.faults sink.new }
     ensures object { A.same object.old object.new }

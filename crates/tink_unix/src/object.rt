@@ -87,6 +87,8 @@ impl ReadAt for Object {
 
     ghost faults = { λ a. a.faults };
 
+    ghost taken = { λ _. 0 };
+
     ghost same = { λ _ _. ⊤ };
 
     fn size(&self) -> u64 {

@@ -12,6 +12,7 @@ use Rattle.tink_range.proofs.ObjectSteps.{keeps_trans, no_more_than, room_for, r
 use Rattle.tink_range.proofs.PlacedFacts.{PlacedFrom, one_place, placed_all, placed_first, placed_on}
 use Rattle.tink_range.proofs.ReadingFacts.{told_weaker}
 use Rattle.tink_range.proofs.TriesFacts.{TriesFrom, is_some_not, tries_first, tries_none, tries_on}
+use Rattle.tink_range.proofs.TakenFacts.{taken_last, taken_most, taken_next}
 use Rattle.tink_range.proofs.choosing_at.choose_at.Goals as goal
 
 pub returns-in-Ok-Ok-clause-found : goal.returns-in-Ok-Ok-clause-found
@@ -92,6 +93,7 @@ loop-place-preserved g c =
       few = omega (arith, called.ticks.1, inv.few);
       kept = keeps_trans g.A.ReadAt.length_of g.A.ReadAt.bytes g.A.ReadAt.faults c.args.object.now c.loop-place.object c.try_at.new.object inv.kept called.read.kept;
       count = called.read.count ∙ inv.count;
+      taken = taken_next _ _ _ i (vec_len c.args.sealed.now) inv.taken (subst (λ (n : ℕ). g.A.ReadAt.taken c.try_at.new.object ≤ g.A.ReadAt.taken c.loop-place.object + n) inv.sealed_len called.taken);
       same = g.met.A.ReadAt.same_trans _ _ _ inv.same called.read.same;
     }
 
@@ -234,3 +236,20 @@ returns-in-Ok-Ok-clause-placed g c =
           (subst (λ (r : Option (List ℕ)). IfSome r begins) inv.kept.bytes_are tried.found)
           inv.placed;
     }
+
+pub returns-in-Ok-Ok-clause-taken : goal.returns-in-Ok-Ok-clause-taken
+returns-in-Ok-Ok-clause-taken g c =
+    let inside : c.loop-place.place < length c.args.keys.now = omega arith in
+    let inv = c.loop-place.invariant in
+    taken_last _ _ _ c.loop-place.place (length c.args.keys.now) (vec_len c.args.sealed.now) inv.taken
+    (subst (λ (n : ℕ). g.A.ReadAt.taken c.try_at.new.object ≤ g.A.ReadAt.taken c.loop-place.object + n) inv.sealed_len c.in-Ok-Ok.ensures.taken) inside
+
+pub returns-in-Err-clause-taken : goal.returns-in-Err-clause-taken
+returns-in-Err-clause-taken g c =
+    let inside : c.loop-place.place < length c.args.keys.now = omega arith in
+    let inv = c.loop-place.invariant in
+    taken_last _ _ _ c.loop-place.place (length c.args.keys.now) (vec_len c.args.sealed.now) inv.taken
+    (subst (λ (n : ℕ). g.A.ReadAt.taken c.try_at.new.object ≤ g.A.ReadAt.taken c.loop-place.object + n) inv.sealed_len c.in-Err.ensures.taken) inside
+
+pub returns-clause-taken : goal.returns-clause-taken
+returns-clause-taken g c = taken_most _ _ c.loop-place.place (length c.args.keys.now) _ c.loop-place.invariant.taken (omega arith)

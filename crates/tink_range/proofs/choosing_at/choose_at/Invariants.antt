@@ -1,5 +1,5 @@
 -- What is chosen of the rest of the keys is chosen, and so many of those before were tried.
-use Rattle.std.proofs.Common.{◌≡◌, ◌≤◌, ◌+◌, ◌-◌, IfSome, vec_len, vec_capacity}
+use Rattle.std.proofs.Common.{◌≡◌, ◌≤◌, ◌+◌, ◌*◌, ◌-◌, IfSome, vec_len, vec_capacity}
 use Rattle.stream_model.specs.Opening.{opening_key}
 use Rattle.tink_streaming_io.proofs.ChoosingSteps.{ChosenFrom}
 use Rattle.tink_range.specs.Objects.{KeepsObject}
@@ -22,5 +22,6 @@ invariant-loop-place g l =
       few : l.steps ≤ l.fn.steps + l.place;
       kept : KeepsObject object.length_of object.bytes object.faults l.fn.object l.object;
       count : object.faults l.object ≡ object.faults l.fn.object;
+      taken : object.taken l.object ≤ object.taken l.fn.object + l.place * vec_len l.fn.sealed;
       same : object.same l.fn.object l.object;
     }

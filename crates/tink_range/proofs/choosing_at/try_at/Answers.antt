@@ -10,6 +10,7 @@ use Rattle.tink_range.specs.declared.choosing_at.BegunAt.{BegunAt}
 use Rattle.tink_range.proofs.ObjectSteps.{below, front_inside, keeps_trans, none_more, one_more, room_for, rose_since, unread}
 use Rattle.tink_range.proofs.ReadingFacts.{told_weaker}
 use Rattle.tink_range.proofs.TrialAtFacts.{by_test, cut_front, front_of, short_not, short_untried, told_does, told_not, told_underived}
+use Rattle.tink_range.proofs.TakenFacts.{first_taken, front_taken, none_taken}
 use Rattle.tink_range.proofs.choosing_at.try_at.Goals as goal
 
 pub returns-then-size-front-clause-answer : goal.returns-then-size-front-clause-answer
@@ -164,3 +165,48 @@ front_at-requires-clause-held g c =
 
 pub overflow_sub-size : goal.overflow_sub-size
 overflow_sub-size g c = below _ _ c.if-size-front.false
+
+pub returns-then-size-front-clause-taken : goal.returns-then-size-front-clause-taken
+returns-then-size-front-clause-taken g c = none_taken _ _
+
+pub returns-in-Ok-Err-clause-taken : goal.returns-in-Ok-Err-clause-taken
+returns-in-Ok-Err-clause-taken g c =
+    let key : StreamKey = g.T.DerivesStreams.key_of c.args.key.now in
+    let k : OpeningKey = opening_key c.args.aad.now key in
+    let front : ℕ = length c.output_prefix.result.now + c.header_length.result in
+    let front_is : front ≡ front_length k = front_of c.args.aad.now key c.output_prefix.result.now c.header_length.result c.output_prefix.ensures c.header_length.ensures.value in
+    let usable = opening_key_lawful c.args.aad.now key c.header_length.ensures.usable in
+    let n_is : length (take front c.deref_mut.result.now) ≡ front = cut_front k front _ c.deref_mut.result.now front_is usable c.deref_mut.ensures.len c.requires.sealed in
+    front_taken _ _ _ front _ c.in-Ok-Err.ensures.taken n_is (omega (arith, front_is, usable.room, c.requires.sealed))
+
+pub returns-in-Err-clause-taken : goal.returns-in-Err-clause-taken
+returns-in-Err-clause-taken g c =
+    let key : StreamKey = g.T.DerivesStreams.key_of c.args.key.now in
+    let k : OpeningKey = opening_key c.args.aad.now key in
+    let front : ℕ = length c.output_prefix.result.now + c.header_length.result in
+    let front_is : front ≡ front_length k = front_of c.args.aad.now key c.output_prefix.result.now c.header_length.result c.output_prefix.ensures c.header_length.ensures.value in
+    let usable = opening_key_lawful c.args.aad.now key c.header_length.ensures.usable in
+    let n_is : length (take front c.deref_mut.result.now) ≡ front = cut_front k front _ c.deref_mut.result.now front_is usable c.deref_mut.ensures.len c.requires.sealed in
+    front_taken _ _ _ front _ c.in-Err.ensures.taken n_is (omega (arith, front_is, usable.room, c.requires.sealed))
+
+pub returns-in-Ok-clause-taken : goal.returns-in-Ok-clause-taken
+returns-in-Ok-clause-taken g c =
+    let key : StreamKey = g.T.DerivesStreams.key_of c.args.key.now in
+    let k : OpeningKey = opening_key c.args.aad.now key in
+    let front : ℕ = length c.output_prefix.result.now + c.header_length.result in
+    let front_is : front ≡ front_length k = front_of c.args.aad.now key c.output_prefix.result.now c.header_length.result c.output_prefix.ensures c.header_length.ensures.value in
+    let usable = opening_key_lawful c.args.aad.now key c.header_length.ensures.usable in
+    let n_is : length (take front c.deref_mut.result.now) ≡ front = cut_front k front _ c.deref_mut.result.now front_is usable c.deref_mut.ensures.len c.requires.sealed in
+    let opens = rw c.in-Ok-Ok.field-0-is at c.in-Ok-Ok.ensures.answer in
+    first_taken _ _ _ _ front c.in-Ok-Ok.opener.first _ c.in-Ok-Ok.ensures.taken n_is c.in-Ok.ensures.taken (omega (arith, front_is, opens.first_is, usable.room, c.requires.sealed))
+
+pub returns-in-Err-open_at-clause-taken : goal.returns-in-Err-open_at-clause-taken
+returns-in-Err-open_at-clause-taken g c =
+    let key : StreamKey = g.T.DerivesStreams.key_of c.args.key.now in
+    let k : OpeningKey = opening_key c.args.aad.now key in
+    let front : ℕ = length c.output_prefix.result.now + c.header_length.result in
+    let front_is : front ≡ front_length k = front_of c.args.aad.now key c.output_prefix.result.now c.header_length.result c.output_prefix.ensures c.header_length.ensures.value in
+    let usable = opening_key_lawful c.args.aad.now key c.header_length.ensures.usable in
+    let n_is : length (take front c.deref_mut.result.now) ≡ front = cut_front k front _ c.deref_mut.result.now front_is usable c.deref_mut.ensures.len c.requires.sealed in
+    let opens = rw c.in-Ok-Ok.field-0-is at c.in-Ok-Ok.ensures.answer in
+    first_taken _ _ _ _ front c.in-Ok-Ok.opener.first _ c.in-Ok-Ok.ensures.taken n_is c.in-Err-open_at.ensures.taken (omega (arith, front_is, opens.first_is, usable.room, c.requires.sealed))

@@ -4,10 +4,11 @@ use Rattle.std.specs.declared.option.Option.{Option}
 use Rattle.stream_model.specs.Cut.{room_at}
 use Rattle.tink_range.specs.RangeCores.{cutting_of}
 use Rattle.tink_range.proofs.GivingEnds.{gave_all, gave_refused, same_one}
-use Rattle.tink_range.proofs.GivingTold.{IsNext, all_ticks, all_touched, last_ticks, next_giving, next_opened, next_place_is, next_ticks, nothing_given, nothing_opened, within_few}
+use Rattle.tink_range.proofs.GivingTold.{IsNext, all_ticks, all_touched, before_few, last_ticks, next_giving, next_opened, next_place_is, next_ticks, nothing_given, nothing_opened, within_few}
 use Rattle.tink_range.proofs.ObjectSteps.{core_trans, given_fits, keeps_trans, leaves_trans, less_left, ok_keeps, ok_leaves, whole_of}
 use Rattle.tink_range.proofs.PlaceFacts.{is_reached, number_few, room_some, text_before}
 use Rattle.tink_range.proofs.ReadingFacts.{told_weaker}
+use Rattle.tink_range.proofs.TakenFacts.{chunk_more, none_taken, taken_last, taken_most}
 use Rattle.tink_range.proofs.giving.give_from.Goals as goal
 
 pub loop-place-init : goal.loop-place-init
@@ -28,6 +29,7 @@ loop-place-init g c =
       core = record { opener = refl; front = refl; behind = refl; memory = refl };
       kept = record { length_is = refl; bytes_are = refl; later = omega arith };
       count = refl;
+      taken = none_taken _ _;
       later = omega arith;
       object_same = g.met.A.ReadAt.same_refl c.args.object.now;
       sink_same = g.met.K.Sink.same_refl c.args.sink.now;
@@ -104,6 +106,7 @@ loop-place-preserved g c =
       kept = keeps_trans g.A.ReadAt.length_of g.A.ReadAt.bytes g.A.ReadAt.faults c.args.object.now c.loop-place.object c.give_chunk.new.object inv.kept
           (ok_keeps g.A.ReadAt.length_of g.A.ReadAt.bytes g.A.ReadAt.faults c.loop-place.object c.give_chunk.new.object c.in-Ok.count gave.kept);
       count = gave.kept.count ∙ inv.count;
+      taken = chunk_more _ _ _ c.args.from.number place.number _ o.size inv.ticks.later next.number inv.taken (subst (λ (n : ℕ). g.A.ReadAt.taken c.give_chunk.new.object ≤ g.A.ReadAt.taken c.loop-place.object + n) (ap (λ x. x.size) inv.core.opener) gave.taken);
       later = le_trans inv.later gave.later;
       object_same = g.met.A.ReadAt.same_trans _ _ _ inv.object_same gave.object;
       sink_same = g.met.K.Sink.same_trans _ _ _ inv.sink_same gave.sink;
@@ -206,3 +209,19 @@ returns-clause-sink g c = c.loop-place.invariant.sink_same
 
 pub returns-clause-kept : goal.returns-clause-kept
 returns-clause-kept g c = let inv = c.loop-place.invariant in ok_leaves g.A.ReadAt.length_of g.A.ReadAt.bytes g.A.ReadAt.faults c.args.object.now c.loop-place.object c.loop-place.given inv.kept inv.count
+
+pub returns-in-Err-clause-taken : goal.returns-in-Err-clause-taken
+returns-in-Err-clause-taken g c =
+    let o = c.args.core.now.opener in
+    let place = c.loop-place.place in
+    let inv = c.loop-place.invariant in
+    let here : IsNext (cutting_of c.args.core.now) c.args.lo c.args.hi c.args.core.now.behind place.number place.start place.text =
+    record { over = o.some; sizes = o.first_fits; place = inv.going c.loop-place-test.true; range = c.requires.begins.range; within = c.requires.begins.within; before = c.loop-place-test.true } in
+    let few = before_few (cutting_of c.args.core.now) c.args.lo c.args.hi c.args.core.now.behind place.number place.start place.text here c.args.from.number c.args.steps.now c.loop-place.steps inv.ticks in
+    taken_last _ _ _ (place.number - c.args.from.number) _ o.size inv.taken
+    (subst (λ (n : ℕ). g.A.ReadAt.taken c.give_chunk.new.object ≤ g.A.ReadAt.taken c.loop-place.object + n) (ap (λ x. x.size) inv.core.opener) c.in-Err.ensures.taken) (omega (arith, few))
+
+pub returns-clause-taken : goal.returns-clause-taken
+returns-clause-taken g c =
+    let inv = c.loop-place.invariant in
+    taken_most _ _ (c.loop-place.place.number - c.args.from.number) _ c.args.core.now.opener.size inv.taken inv.ticks.bound

@@ -1,5 +1,5 @@
 -- What was given so far, by the chunk that comes next.
-use Rattle.std.proofs.Common.{◌≡◌, ◌≤◌, ◌<◌, ◌-◌}
+use Rattle.std.proofs.Common.{◌≡◌, ◌≤◌, ◌<◌, ◌+◌, ◌*◌, ◌-◌}
 use Rattle.tink_range.specs.Objects.{KeepsObject}
 use Rattle.tink_range.specs.RangeCores.{IsSameCore, cutting_of}
 use Rattle.tink_range.specs.Shapes.{IsChunkPlace}
@@ -22,6 +22,7 @@ invariant-loop-place g l =
       core : IsSameCore l.fn.core l.core;
       kept : KeepsObject object.length_of object.bytes object.faults l.fn.object l.object;
       count : object.faults l.object ≡ object.faults l.fn.object;
+      taken : object.taken l.object ≤ object.taken l.fn.object + (l.place.number - l.fn.from.number) * o.size;
       later : sink.faults l.fn.sink ≤ sink.faults l.sink;
       object_same : object.same l.fn.object l.object;
       sink_same : sink.same l.fn.sink l.sink;

@@ -2,6 +2,7 @@ use Rattle.std.proofs.Common.{refl}
 use Rattle.tink_range.specs.RangeCores.{cutting_of}
 use Rattle.tink_range.proofs.GivingEnds.{nothing_to_give}
 use Rattle.tink_range.proofs.GivingTold.{none_touched_by}
+use Rattle.tink_range.proofs.TakenFacts.{none_taken}
 use Rattle.tink_range.proofs.giving.give_range.Goals as goal
 
 pub returns-then-hi-lo-clause-answer : goal.returns-then-hi-lo-clause-answer
@@ -49,3 +50,9 @@ give_from-requires-clause-chunks g c = c.requires.chunks
 
 pub returns-then-hi-lo-clause-core : goal.returns-then-hi-lo-clause-core
 returns-then-hi-lo-clause-core g c = record { opener = refl; front = refl; behind = refl; memory = refl }
+
+pub returns-clause-taken : goal.returns-clause-taken
+returns-clause-taken g c = c.give_from.ensures.taken
+
+pub returns-then-hi-lo-clause-taken : goal.returns-then-hi-lo-clause-taken
+returns-then-hi-lo-clause-taken g c = none_taken _ _

@@ -1,10 +1,11 @@
-use Rattle.std.proofs.Common.{◌≡◌, ◌+◌, min, nat_le, ℕ, Bool, true, List, length, take, drop, refl, sym, IfSome, vec_len}
+use Rattle.std.proofs.Common.{◌≡◌, ◌+◌, min, nat_le, ℕ, Bool, true, List, length, take, drop, refl, sym, arith, IfSome, vec_len}
 use Rattle.std.proofs.lemmas.Result.{IfOk-weaker}
 use Rattle.stream_model.specs.Cut.{room_at}
 use Rattle.tink_streaming_io.specs.Openers.{segment_map}
 use Rattle.tink_range.specs.ChunkReading.{ChunkOpensTo, OpensAt}
 use Rattle.tink_range.proofs.ObjectSteps.{chunk_fits, chunk_inside}
 use Rattle.tink_range.proofs.ReadingFacts.{chunk_length, opened_at, whole_chunk}
+use Rattle.tink_range.proofs.TakenFacts.{chunk_taken}
 use Rattle.tink_range.proofs.opening_at.open_at.Goals as goal
 
 pub returns-clause-answer : goal.returns-clause-answer
@@ -57,3 +58,8 @@ pub open_into-requires-clause-room : goal.open_into-requires-clause-room
 open_into-requires-clause-room g c =
     let long : length (take c.min-len.result c.deref_mut.result.now) ≡ c.min-len.result = chunk_length c.min-len.result c.args.rest c.room_of-room.result c.args.opener.now.size _ c.deref_mut.result.now c.min-len.ensures c.room_of-room.ensures.most c.requires.room.sealed_room c.deref_mut.ensures.len in
     (chunk_fits _ c.min-len.result c.args.rest c.room_of-room.result c.args.opener.now.size long c.min-len.ensures c.room_of-room.ensures.most, c.requires.room.text_room, c.requires.room.nonce_room)
+
+pub returns-clause-taken : goal.returns-clause-taken
+returns-clause-taken g c =
+    let long : length (take c.min-len.result c.deref_mut.result.now) ≡ c.min-len.result = chunk_length c.min-len.result c.args.rest c.room_of-room.result c.args.opener.now.size _ c.deref_mut.result.now c.min-len.ensures c.room_of-room.ensures.most c.requires.room.sealed_room c.deref_mut.ensures.len in
+    chunk_taken _ _ _ c.min-len.result c.args.rest _ c.open_into.ensures.taken long (omega (arith, c.min-len.ensures, c.room_of-room.ensures.value))

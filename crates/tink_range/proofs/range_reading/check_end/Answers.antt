@@ -5,6 +5,7 @@ use Rattle.tink_range.specs.RangeCores.{cutting_of}
 use Rattle.tink_range.specs.Ranges.{chunk_count}
 use Rattle.tink_range.proofs.ObjectSteps.{err_leaves, ok_keeps, ok_leaves, refusal_leaves, unread}
 use Rattle.tink_range.proofs.RangeSteps.{end_refused, end_refusal, few_of, many_of}
+use Rattle.tink_range.proofs.TakenFacts.{none_taken}
 use Rattle.tink_range.proofs.range_reading.check_end.Goals as goal
 
 -- the last chunk is the segment of a text
@@ -85,3 +86,12 @@ returns-then-number-from-clause-same g c = g.met.A.ReadAt.same_refl c.args.objec
 
 pub check_last-requires-clause-object : goal.check_last-requires-clause-object
 check_last-requires-clause-object g c = c.requires.object
+
+pub returns-in-Ok-clause-taken : goal.returns-in-Ok-clause-taken
+returns-in-Ok-clause-taken g c = c.in-Ok.ensures.taken
+
+pub returns-in-Err-clause-taken : goal.returns-in-Err-clause-taken
+returns-in-Err-clause-taken g c = c.in-Err.ensures.taken
+
+pub returns-then-number-from-clause-taken : goal.returns-then-number-from-clause-taken
+returns-then-number-from-clause-taken g c = none_taken _ _

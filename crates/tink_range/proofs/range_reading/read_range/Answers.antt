@@ -2,8 +2,9 @@ use Rattle.std.proofs.Common.{◌≡◌, ◌≤◌, ℕ, replicate, arith, le_of
 use Rattle.std.proofs.lemmas.List.{length-replicate}
 use Rattle.tink_range.specs.RangeCores.{cutting_of}
 use Rattle.tink_range.specs.RangeReading.{range_end, range_start}
-use Rattle.tink_range.proofs.RangeSteps.{end_inside, few_same, range_given, range_not_begun, range_ticks, range_touched, same_cutting, within_same}
+use Rattle.tink_range.proofs.RangeSteps.{end_inside, few_same, range_given, range_not_begun, range_taken, range_ticks, range_touched, same_cutting, within_same}
 use Rattle.tink_range.proofs.ObjectSteps.{core_trans, err_leaves, leaves_trans, ok_keeps, whole_of}
+use Rattle.tink_range.proofs.TakenFacts.{taken_once}
 use Rattle.tink_range.proofs.range_reading.read_range.Goals as goal
 
 pub returns-in-Ok-clause-answer : goal.returns-in-Ok-clause-answer
@@ -91,3 +92,14 @@ returns-in-Err-clause-object g c = c.in-Err.ensures.same
 
 pub returns-in-Err-clause-core : goal.returns-in-Err-clause-core
 returns-in-Err-clause-core g c = c.in-Err.ensures.core
+
+pub returns-in-Ok-clause-taken : goal.returns-in-Ok-clause-taken
+returns-in-Ok-clause-taken g c =
+    let core = c.args.core.now in
+    let any = c.in-Ok.ensures.shape (replicate core.behind 0) (length-replicate {A = ℕ} core.behind 0) in
+    let lo : c.min-lo.result ≡ range_start (cutting_of core) core.behind c.args.start = omega (arith, any.places, c.min-lo.ensures) in
+    let hi : c.min-hi.result ≡ range_end (cutting_of core) core.behind c.args.start c.args.len = omega (arith, any.places, c.min-hi.ensures, c.saturating_add.ensures) in
+    range_taken core c.check_end.new.core c.in-Ok.ensures.core c.args.start c.args.len c.min-lo.result c.min-hi.result _ _ _ lo hi c.in-Ok.ensures.taken c.give_range.ensures.taken
+
+pub returns-in-Err-clause-taken : goal.returns-in-Err-clause-taken
+returns-in-Err-clause-taken g c = taken_once _ _ _ _ c.in-Err.ensures.taken

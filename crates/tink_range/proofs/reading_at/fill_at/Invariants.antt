@@ -1,4 +1,4 @@
-use Rattle.std.proofs.Common.{◌≡◌, ◌≤◌, ◌-◌, IfSome, length, take, drop}
+use Rattle.std.proofs.Common.{◌≡◌, ◌≤◌, ◌+◌, ◌-◌, IfSome, length, take, drop}
 use Rattle.tink_range.specs.Objects.{KeepsObject}
 use Rattle.tink_range.proofs.reading_at.fill_at.Given as goal
 
@@ -11,6 +11,7 @@ invariant-loop-done g l =
       given : IfSome (object.bytes l.fn.object) (λ S. take l.done l.buf ≡ take l.done (drop l.at S));
       kept : KeepsObject object.length_of object.bytes object.faults l.fn.object l.object;
       count : object.faults l.object ≡ object.faults l.fn.object;
+      taken : object.taken l.object ≤ object.taken l.fn.object + l.done;
       same : object.same l.fn.object l.object;
     }
 

@@ -1,13 +1,15 @@
-use Rattle.std.proofs.Common.{◌-◌, List, map, IfSome, refl, ap, subst, ◌∙◌}
+use Rattle.std.proofs.Common.{◌+◌, ◌-◌, List, map, IfSome, refl, ap, subst, ◌∙◌}
 use Rattle.std.specs.Prelude.{IfErr, IfOk}
 use Rattle.stream_model.specs.Opening.{OpeningKey, opening_key}
 use Rattle.tink_io.specs.declared.error.Kind.TheVariants.{OutOfMemory}
+use Rattle.tink_streaming_aead.specs.DecryptReaders.{largest}
 use Rattle.tink_streaming_keys.specs.StreamKinds.{key_in_set}
 use Rattle.tink_streaming_io.specs.Choosing.{Found, StartRefused}
 use Rattle.tink_streaming_io.specs.Openers.{segment_map}
 use Rattle.tink_range.specs.ChoosingAt.{HasTried}
 use Rattle.tink_range.proofs.ObjectSteps.{refusal_leaves, unread}
 use Rattle.tink_range.proofs.StartAtFacts.{fused, memory_refused, memory_untried, new_refused, ticks_of}
+use Rattle.tink_range.proofs.TakenFacts.{none_taken, taken_as_many}
 use Rattle.tink_range.proofs.starting_at.begin_at.Goals as goal
 
 pub returns-in-Ok-reserve-clause-found : goal.returns-in-Ok-reserve-clause-found
@@ -71,3 +73,16 @@ returns-clause-same g c = g.met.A.ReadAt.same_refl c.args.object.now
 
 pub returns-clause-tried : goal.returns-clause-tried
 returns-clause-tried g c = memory_untried c.in-Err.e c.in-Err.ensures.cause
+
+pub returns-in-Ok-reserve-clause-taken : goal.returns-in-Ok-reserve-clause-taken
+returns-in-Ok-reserve-clause-taken g c =
+    let are = ap (map (λ e. key_in_set e.now)) c.deref-in-Ok-reserve.ensures.value ∙ c.in-Ok.ensures.keys in
+    let first = ap (map (λ e. key_in_set e.now)) c.deref.ensures.value ∙ c.in-Ok.ensures.keys in
+    taken_as_many (λ e. key_in_set e.now) c.deref-in-Ok-reserve.result.now c.args.w.now.keys _ _ _ (largest c.args.w.now.keys + 1) are
+    (c.in-Ok-reserve.ensures.buffer ∙ c.room_of.ensures.value ∙ ap (λ ks. largest ks + 1) first) c.start_at.ensures.taken
+
+pub returns-in-Ok-clause-taken : goal.returns-in-Ok-clause-taken
+returns-in-Ok-clause-taken g c = none_taken _ _
+
+pub returns-clause-taken : goal.returns-clause-taken
+returns-clause-taken g c = none_taken _ _

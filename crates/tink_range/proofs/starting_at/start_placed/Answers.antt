@@ -93,3 +93,12 @@ invariant_of-core-clause-some g c =
 
 pub returns-in-Ok-Some-clause-placed : goal.returns-in-Ok-Some-clause-placed
 returns-in-Ok-Some-clause-placed g c = rw c.in-Ok-Some.field-0-is at c.in-Ok-Some.ensures.placed
+
+pub returns-in-Ok-Some-clause-taken : goal.returns-in-Ok-Some-clause-taken
+returns-in-Ok-Some-clause-taken g c = c.in-Ok-Some.ensures.taken
+
+pub returns-in-Ok-None-clause-taken : goal.returns-in-Ok-None-clause-taken
+returns-in-Ok-None-clause-taken g c = c.in-Ok-None.ensures.taken
+
+pub returns-in-Err-clause-taken : goal.returns-in-Err-clause-taken
+returns-in-Err-clause-taken g c = c.in-Err.ensures.taken

@@ -1,9 +1,10 @@
-use Rattle.std.proofs.Common.{length, map, sym}
+use Rattle.std.proofs.Common.{length, map, sym, vec_len}
 use Rattle.std.proofs.lemmas.List.{length-map}
 use Rattle.stream_model.specs.Opening.{opening_key}
 use Rattle.tink_range.specs.RangeCores.{cutting_of}
 use Rattle.tink_range.proofs.KeyRangeSteps.{few_steps, start_refused, takes_steps, under_chosen}
 use Rattle.tink_range.proofs.ObjectSteps.{err_leaves, leaves_trans, ok_keeps}
+use Rattle.tink_range.proofs.TakenFacts.{few_bytes, takes_bytes}
 use Rattle.tink_range.proofs.under_keys.range_under.Goals as goal
 
 pub start_at-requires : goal.start_at-requires
@@ -61,3 +62,13 @@ returns-in-Err-clause-object g c = c.in-Err.ensures.same
 
 pub returns-in-Err-clause-kept : goal.returns-in-Err-clause-kept
 returns-in-Err-clause-kept g c = err_leaves g.A.ReadAt.length_of g.A.ReadAt.bytes g.A.ReadAt.faults c.args.object.now c.start_at.new.object c.in-Err.e c.in-Err.ensures.kept
+
+pub returns-in-Ok-clause-taken : goal.returns-in-Ok-clause-taken
+returns-in-Ok-clause-taken g c =
+    let core = c.in-Ok.core in
+    takes_bytes (cutting_of core) core.behind c.args.start c.args.len (vec_len c.args.trial.kept.buffer) _ _ _ (length c.args.keys.now) (g.A.ReadAt.length_of c.args.object.now) (g.A.ReadAt.bytes c.args.object.now)
+    (map (λ k. opening_key c.args.aad.now (g.T.DerivesStreams.key_of k)) c.args.keys.now) (sym (length-map c.args.keys.now (λ k. opening_key c.args.aad.now (g.T.DerivesStreams.key_of k)))) c.in-Ok.ensures.whole c.in-Ok.ensures.found c.in-Ok.ensures.taken c.read_range.ensures.taken
+
+pub returns-in-Err-clause-taken : goal.returns-in-Err-clause-taken
+returns-in-Err-clause-taken g c =
+    few_bytes (λ k. opening_key c.args.aad.now (g.T.DerivesStreams.key_of k)) c.args.keys.now (g.A.ReadAt.bytes c.args.object.now) (g.A.ReadAt.length_of c.args.object.now) c.args.start c.args.len (vec_len c.args.trial.kept.buffer) _ _ c.in-Err.ensures.taken

@@ -100,3 +100,15 @@ returns-in-Err-clause-core g c = c.in-Err.ensures.core
 
 pub returns-in-Ok-true-clause-kept : goal.returns-in-Ok-true-clause-kept
 returns-in-Ok-true-clause-kept g c = let read = c.in-Ok-true.ensures.read in ok_leaves g.A.ReadAt.length_of g.A.ReadAt.bytes g.A.ReadAt.faults c.args.object.now c.open_chunk.new.object tt read.kept read.count
+
+pub returns-in-Ok-true-clause-taken : goal.returns-in-Ok-true-clause-taken
+returns-in-Ok-true-clause-taken g c = c.in-Ok-true.ensures.taken
+
+pub returns-then-self-start-clause-taken : goal.returns-then-self-start-clause-taken
+returns-then-self-start-clause-taken g c = c.in-Ok-false.ensures.taken
+
+pub returns-else-self-start-clause-taken : goal.returns-else-self-start-clause-taken
+returns-else-self-start-clause-taken g c = c.in-Ok-false.ensures.taken
+
+pub returns-in-Err-clause-taken : goal.returns-in-Err-clause-taken
+returns-in-Err-clause-taken g c = c.in-Err.ensures.taken

@@ -113,3 +113,12 @@ returns-in-Err-clause-later g c = le_refl _
 
 pub returns-in-Ok-true-clause-sink : goal.returns-in-Ok-true-clause-sink
 returns-in-Ok-true-clause-sink g c = c.write_part.ensures.same
+
+pub returns-in-Ok-true-clause-taken : goal.returns-in-Ok-true-clause-taken
+returns-in-Ok-true-clause-taken g c = c.in-Ok-true.ensures.taken
+
+pub returns-in-Ok-false-clause-taken : goal.returns-in-Ok-false-clause-taken
+returns-in-Ok-false-clause-taken g c = c.in-Ok-false.ensures.taken
+
+pub returns-in-Err-clause-taken : goal.returns-in-Err-clause-taken
+returns-in-Err-clause-taken g c = c.in-Err.ensures.taken

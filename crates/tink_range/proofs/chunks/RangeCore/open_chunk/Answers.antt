@@ -1,4 +1,5 @@
-use Rattle.std.proofs.Common.{refl, arith}
+use Rattle.std.proofs.Common.{refl, arith, add-le-add, le_refl, le_trans}
+use Rattle.tink_range.proofs.TakenFacts.{room_most}
 use Rattle.tink_range.proofs.chunks.RangeCore.open_chunk.Goals as goal
 
 pub returns-clause-core : goal.returns-clause-core
@@ -20,3 +21,6 @@ returns-clause-read g c = c.open_at.ensures.read
 
 pub open_at-requires-clause-number : goal.open_at-requires-clause-number
 open_at-requires-clause-number g c = c.requires.number
+
+pub returns-clause-taken : goal.returns-clause-taken
+returns-clause-taken g c = le_trans c.open_at.ensures.taken (add-le-add (le_refl _) (room_most _ _ c.args.number c.args.self.now.opener.first_fits))

@@ -1,4 +1,4 @@
-use Rattle.std.proofs.Common.{◌≡◌, ◌≤◌, ◌+◌, ◌-◌, ◌/◌, ℕ, List, length, IfSome, ap, subst, sym, ◌∙◌}
+use Rattle.std.proofs.Common.{◌≡◌, ◌≤◌, ◌+◌, ◌-◌, ◌*◌, ◌/◌, ℕ, List, length, IfSome, ap, subst, sym, ◌∙◌}
 use Rattle.std.specs.declared.option.Option.{Option}
 use Rattle.tink_range.specs.ChunkReading.{ends_of}
 use Rattle.tink_range.specs.Objects.{LeavesObject}
@@ -56,3 +56,9 @@ returns-clause-front g c = c.read_range.ensures.core.front ∙ ap (λ (r : Range
 
 pub returns-clause-behind : goal.returns-clause-behind
 returns-clause-behind g c = c.read_range.ensures.core.behind ∙ ap (λ (r : RangeState (g.row.A.Denot)). r.behind) c.self.view_is
+
+pub returns-clause-taken : goal.returns-clause-taken
+returns-clause-taken g c =
+    subst (λ (r : RangeState (g.row.A.Denot)). g.A.ReadAt.taken c.read_range.new.object ≤ g.A.ReadAt.taken r.object + ((range_end (cut_by r) r.behind c.args.start c.args.len - range_start (cut_by r) r.behind c.args.start
+    + (r.opening.size - r.opening.overhead) - 1) / (r.opening.size - r.opening.overhead) + 2) * r.opening.size)
+    c.self.view_is c.read_range.ensures.taken
