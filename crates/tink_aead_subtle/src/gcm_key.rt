@@ -1,6 +1,6 @@
 //! Keys of AES-GCM with their schedules and tables.
 
-ghost use Rattle.std.specs.Prelude.{◌≡◌, OnErr};
+ghost use Rattle.std.specs.Prelude.{Ok, ◌≡◌, OnErr};
 ghost use Rattle.tink_io.specs.Told.{Answers, Replies};
 ghost use Rattle.tink_aead_subtle.specs.AesAeads.{gcm_decrypts, gcm_encrypts};
 ghost use Rattle.tink_aead_subtle.specs.GcmKeys.{IsKeyedBy};
@@ -12,16 +12,16 @@ use cipher::KeyInit;
 use gcm::Gcm;
 use std::alloc::Global;
 use std::marker::Model;
-use tink_io::{Draws, TinkError};
+use tink_io::{Draws, Kind, TinkError};
 use tink_primitives::CloneIn;
 use tink_proto::Bytes;
 
-// A key of 16 or 32 bytes, with its schedule and the tables of its hash key. Contracts see its
-// bytes.
+// A key of 16 or 32 bytes, with its schedule and the tables of its hash key. These have some 19 KB: they are on the heap, so
+// that a key is moved cheaply. Contracts see its bytes.
 #[derive(Drop)]
 pub struct GcmKey {
     key: AesKey,
-    aead: KeyedGcm,
+    aead: Box<KeyedGcm>,
 }
 
 // AES-GCM under a key of 16 or of 32 bytes.
@@ -39,16 +39,21 @@ impl Model for GcmKey {
 
     ghost view = { λ k. k.key };
 
-    ghost invariant = { λ k. IsKeyedBy k.aead k.key };
+    ghost invariant = { λ k. IsKeyedBy k.aead.value k.key };
 }
 
 impl GcmKey {
     // The key, whose schedule and tables are made here, once.
-    pub fn new(key: AesKey) -> GcmKey
-        ensures { result ≡ key }
+    //
+    // # Errors
+    // `OutOfMemory`.
+    pub fn new(alloc: Global, key: AesKey) -> Result<GcmKey, TinkError>
+        ensures { Answers result (Ok key) }
     {
-        let aead = keyed_by(&key);
-        GcmKey { key, aead }
+        match Box::new(alloc, keyed_by(&key)) {
+            Ok(aead) => Ok(GcmKey { key, aead }),
+            Err(_) => Err(TinkError::new(Kind::OutOfMemory)),
+        }
     }
 
     // The nonce, which is drawn, and the encryption of the text under it.
@@ -63,7 +68,7 @@ impl GcmKey {
             draws.old draws.new }
         ensures rest { OnErr result (draws.new ≡ draws.old) }
     {
-        match &self.aead {
+        match &*self.aead {
             KeyedGcm::Short(aead) => {
                 nonce_aead::encrypt(aead, alloc, plaintext, additional_data, draws)
             }
@@ -82,7 +87,7 @@ impl GcmKey {
     ) -> Result<Bytes, TinkError>
         ensures { Answers result (gcm_decrypts self.now ciphertext.now additional_data.now) }
     {
-        match &self.aead {
+        match &*self.aead {
             KeyedGcm::Short(aead) => {
                 nonce_aead::decrypt(aead, alloc, ciphertext, additional_data)
             }
@@ -106,6 +111,6 @@ fn keyed_by(key: &AesKey) -> KeyedGcm
 impl CloneIn for GcmKey {
     // The copy's schedule and tables are made anew.
     fn try_clone(&self, alloc: Global) -> Result<Self, TinkError> {
-        Ok(GcmKey::new(self.key.try_clone(alloc)?))
+        GcmKey::new(alloc, self.key.try_clone(alloc)?)
     }
 }
