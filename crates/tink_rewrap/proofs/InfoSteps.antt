@@ -12,7 +12,6 @@ use Rattle.tink_io.specs.declared.error.Kind.TheVariants.{BadSegment, NoMatching
 use Rattle.tink_io.specs.declared.error.TinkError.{TinkError}
 use Rattle.stream_model.specs.Key.{StreamKey}
 use Rattle.stream_model.specs.Opening.{Begins, IsChosen, OpeningKey, opening_key}
-use Rattle.stream_model.specs.Order.{HaveSameOrder}
 use Rattle.loading_model.specs.Loading.{AreUsable, Loaded, LoadedKey, opening_keys}
 use Rattle.tink_sets.specs.Entries.{typed_prefix_of}
 use Rattle.tink_sets.specs.Groups.{AreGroupsOf, group_at}
@@ -27,6 +26,7 @@ use Rattle.tink_range.specs.StreamSizes.{IsIdOfChosen, MeasuresUnder, SizesMean,
 use Rattle.tink_range.specs.declared.stream_sizes.StreamSizes.{StreamSizes}
 use Rattle.tink_range.proofs.KeyRangeSteps.{cut_by_others}
 use Rattle.tink_range.proofs.PlacedFacts.{id_of_place}
+use Rattle.tink_run.proofs.RunSteps.{ordered_keys}
 use Rattle.tink_run.specs.HeldKeys.{HoldsLoaded}
 use Rattle.tink_run.specs.Run.{IsEarly}
 use Rattle.tink_rewrap.proofs.CountFacts.{same_count}
@@ -202,5 +202,5 @@ module _ (aad : List ℕ) (set : TypedPrimitiveSet StreamKind) (order : KeepsOrd
   -- and there are as many of these
   pub as_many_loaded : length given ≡ length l.keys
   as_many_loaded =
-      let ordered : HaveSameOrder (keys_in given) (map (λ k. k.key) l.keys) = subst (HaveSameOrder (keys_in given)) holds.keys (order holds.entries holds.groups) in
+      let ordered = ordered_keys l set holds order in
       sym (length-map given key_in_set) ∙ same_count (keys_in given) (map (λ k. k.key) l.keys) ordered ∙ length-map l.keys (λ k. k.key)

@@ -13,22 +13,29 @@ use Rattle.loading_model.proofs.UsableKeys.{IsOfLoading}
 use Rattle.tink_sets.specs.declared.typed_set.TypedPrimitiveSet.{TypedPrimitiveSet}
 use Rattle.tink_streaming_keys.specs.declared.stream_kind.StreamKind.{StreamKind}
 use Rattle.tink_range.specs.ChunkReading.{Moments}
+use Rattle.tink_range.specs.ReadCounts.{TakesRangeBytes}
 use Rattle.tink_range.specs.KeyRanges.{RangesUnderRefused, TakesRangeSteps}
 use Rattle.tink_range.specs.Objects.{RisesByKind}
 use Rattle.tink_range.proofs.StreamRanges.{gives_slice, under_not_refused}
 use Rattle.tink_run.specs.AllKeys.{load}
+use Rattle.tink_run.specs.OpenReads.{room_under}
 use Rattle.tink_run.specs.HeldKeys.{GivesLoaded, HoldsLoaded}
 use Rattle.tink_run.specs.Run.{CanOpen, IsEarly}
 use Rattle.tink_run.proofs.OpenLemmas.{chosen_lawful, same_loaded}
 use Rattle.tink_run.proofs.LoadedFacts.{load_refuses, loaded_usable}
 use Rattle.tink_io.proofs.OutsideFacts.{told_appended, told_if}
-use Rattle.tink_rewrap.specs.KeysetRanges.{GivesSlice, IsRangeComplete, KeysetRangeMeans, KeysetRangeRefused, LeavesBoth, RangesLoaded, TakesKeysetSteps}
+use Rattle.tink_rewrap.specs.KeysetRanges.{GivesSlice, IsRangeComplete, KeysetRangeMeans, KeysetRangeRefused, LeavesBoth, RangesLoaded, TakesKeysetBytes, TakesKeysetSteps}
 use Rattle.tink_rewrap.specs.SetRanges.{LeavesRangeEnds, RangesOf, RangesOfRefused}
 
 -- the steps of a range under the keys of the set that was loaded are those of one under the keyset
 pub steps_loaded : (keyset aad : List ℕ) (all : Option (List ℕ)) (whole start len before now : ℕ) (set : TypedPrimitiveSet StreamKind) → GivesLoaded (Ok set) (load keyset)
     → ((l : Loaded) → AreUsable l.keys → HoldsLoaded l set → TakesRangeSteps (opening_keys aad l) all whole start len before now) → TakesKeysetSteps keyset aad all whole start len before now
 steps_loaded keyset aad all whole start len before now set loads takes = inr (loads.0, loads.1, takes loads.0 (loaded_usable keyset loads.0 loads.1).0 loads.2)
+
+-- and so is what is read for it
+pub bytes_loaded : (keyset aad : List ℕ) (all : Option (List ℕ)) (whole start len before now : ℕ) (set : TypedPrimitiveSet StreamKind) → GivesLoaded (Ok set) (load keyset)
+    → ((l : Loaded) → AreUsable l.keys → HoldsLoaded l set → TakesRangeBytes (opening_keys aad l) all whole start len (room_under (opening_keys aad l)) before now) → TakesKeysetBytes keyset aad all whole start len before now
+bytes_loaded keyset aad all whole start len before now set loads takes = inr (loads.0, loads.1, takes loads.0 (loaded_usable keyset loads.0 loads.1).0 loads.2)
 
 -- a refusal of loading is no ReadFault, and leaves the object's count of faults
 stands_by : (count : ℕ) (kind : Kind) → IsOfLoading kind → RisesByKind count count kind

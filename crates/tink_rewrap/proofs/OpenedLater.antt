@@ -10,7 +10,6 @@ use Rattle.tink_io.specs.declared.error.Kind.TheVariants.{WriteFault}
 use Rattle.tink_io.specs.declared.error.TinkError.{TinkError}
 use Rattle.stream_model.specs.Key.{StreamKey}
 use Rattle.stream_model.specs.Opening.{IsChosen, OpeningKey, opening_key}
-use Rattle.stream_model.specs.Order.{HaveSameOrder}
 use Rattle.stream_model.proofs.OrderFacts.{choose_the_same}
 use Rattle.tink_sets.specs.declared.typed_set.TypedPrimitiveSet.{TypedPrimitiveSet}
 use Rattle.tink_streaming_keys.specs.declared.stream_kind.StreamKind.{StreamKind}
@@ -29,7 +28,7 @@ use Rattle.tink_run.proofs.OneKeyFacts.{means_by}
 use Rattle.tink_run.proofs.OpenLemmas.{chosen_lawful}
 use Rattle.tink_run.proofs.OpenSteps.{leaves_under, opens_under}
 use Rattle.tink_run.proofs.ReadEndings.{reads_keyset}
-use Rattle.tink_run.proofs.RunSteps.{are_of_keyset}
+use Rattle.tink_run.proofs.RunSteps.{are_of_keyset, ordered_keys}
 use Rattle.tink_rewrap.specs.Passing.{LeadsUnder, OpensWithin, into}
 use Rattle.tink_rewrap.specs.Rewrapping.{HasKey}
 
@@ -61,7 +60,7 @@ module _ (keyset aad : List ℕ) (set : TypedPrimitiveSet StreamKind) (loads : G
       let l : Loaded = loads.0 in
       let own : List StreamKey = map (λ k. k.key) l.keys in
       let all : List StreamKey = keys_in (all_entries set.entries) in
-      let ordered : HaveSameOrder all own = subst (HaveSameOrder all) loads.2.keys (order loads.2.entries loads.2.groups) in
+      let ordered = ordered_keys l set loads.2 order in
       subst (λ (ks : List OpeningKey). IsChosen ks S c) (map-map (opening_key aad) (λ k. k.key) l.keys)
       ((choose_the_same aad S all own c (are_of_keyset l.keys (loaded_usable keyset l loads.1).0) ordered).0 p)
 

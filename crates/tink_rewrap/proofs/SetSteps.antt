@@ -1,5 +1,5 @@
 -- From the keys of a list to those of a set, and to those that were loaded.
-use Rattle.std.proofs.Common.{◌≡◌, ◌∙◌, ℕ, List, length, map, refl, sym, subst}
+use Rattle.std.proofs.Common.{◌≡◌, ◌∙◌, ℕ, List, length, map, refl, sym, ap, subst}
 use Rattle.std.proofs.lemmas.List.{length-map}
 use Rattle.std.proofs.lemmas.Simd.{map-map}
 use Rattle.std.specs.Prelude.{Result, Ok, Err}
@@ -9,18 +9,20 @@ use Rattle.tink_io.specs.declared.error.Kind.TheVariants.{BadSegment, NoMatching
 use Rattle.tink_io.specs.declared.error.TinkError.{TinkError}
 use Rattle.stream_model.specs.Key.{StreamKey}
 use Rattle.stream_model.specs.Opening.{IsChosen, OpeningKey, opening_key}
-use Rattle.stream_model.specs.Order.{HaveSameOrder}
 use Rattle.stream_model.proofs.OrderFacts.{choose_the_same}
 use Rattle.loading_model.specs.Loading.{AreUsable, Loaded, opening_keys}
 use Rattle.tink_sets.specs.declared.typed_set.TypedPrimitiveSet.{TypedPrimitiveSet}
 use Rattle.tink_streaming_keys.specs.declared.stream_kind.StreamKind.{StreamKind}
 use Rattle.tink_streaming_aead.specs.Wrapped.{KeepsOrder, all_entries, keys_in}
 use Rattle.tink_range.specs.ChunkReading.{Moments}
+use Rattle.tink_range.specs.ReadCounts.{TakesRangeBytes}
 use Rattle.tink_range.specs.KeyRanges.{RangesUnder, RangesUnderRefused, TakesRangeSteps}
-use Rattle.tink_range.proofs.KeyRangeSteps.{ranges_by_others, refused_by_others, steps_by_others}
+use Rattle.tink_range.proofs.KeyRangeSteps.{bytes_by_others, ranges_by_others, refused_by_others, steps_by_others}
 use Rattle.tink_run.specs.HeldKeys.{HoldsLoaded}
 use Rattle.tink_run.specs.Run.{IsEarly}
-use Rattle.tink_run.proofs.RunSteps.{are_of_keyset}
+use Rattle.tink_run.specs.OpenReads.{room_under}
+use Rattle.tink_run.proofs.ReadEndings.{same_room}
+use Rattle.tink_run.proofs.RunSteps.{are_of_keyset, ordered_keys}
 use Rattle.tink_rewrap.proofs.CountFacts.{same_count}
 use Rattle.tink_rewrap.specs.SetRanges.{LeavesRangeEnds, LeavesUnwritten, RangesOf, RangesOfRefused, WritesNoRange}
 
@@ -77,7 +79,7 @@ pub chosen_of_loaded : (aad : List ℕ) (l : Loaded) (set : TypedPrimitiveSet St
     → IsChosen (map (opening_key aad) (keys_in (all_entries set.entries))) S chosen → IsChosen (opening_keys aad l) S chosen
 chosen_of_loaded aad l set usable holds order S chosen h =
     let own : List StreamKey = map (λ k. k.key) l.keys in
-    let ordered : HaveSameOrder (keys_in (all_entries set.entries)) own = subst (HaveSameOrder (keys_in (all_entries set.entries))) holds.keys (order holds.entries holds.groups) in
+    let ordered = ordered_keys l set holds order in
     subst (λ (ks : List OpeningKey). IsChosen ks S chosen) (map-map (opening_key aad) (λ k. k.key) l.keys)
     ((choose_the_same aad S (keys_in (all_entries set.entries)) own chosen (are_of_keyset l.keys usable) ordered).0 h)
 
@@ -88,10 +90,24 @@ pub steps_of_loaded : (aad : List ℕ) (set : TypedPrimitiveSet StreamKind) (all
 steps_of_loaded aad set all whole start len before now order takes l usable holds =
     let keys : List StreamKey = keys_in (all_entries set.entries) in
     let own : List StreamKey = map (λ k. k.key) l.keys in
-    let ordered : HaveSameOrder keys own = subst (HaveSameOrder keys) holds.keys (order holds.entries holds.groups) in
+    let ordered = ordered_keys l set holds order in
     let count : length (map (opening_key aad) keys) ≡ length (opening_keys aad l) =
     length-map keys (opening_key aad) ∙ same_count keys own ordered ∙ length-map l.keys (λ k. k.key) ∙ sym (length-map l.keys (λ k. opening_key aad k.key)) in
     steps_by_others (map (opening_key aad) keys) (opening_keys aad l) all whole start len before now count (chosen_of_loaded aad l set usable holds order) takes
+
+-- and have as much room
+pub bytes_of_loaded : (aad : List ℕ) (set : TypedPrimitiveSet StreamKind) (all : Option (List ℕ)) (whole start len before now : ℕ) → KeepsOrder set.entries
+    → TakesRangeBytes (map (opening_key aad) (keys_in (all_entries set.entries))) all whole start len (room_under (map (opening_key aad) (keys_in (all_entries set.entries)))) before now
+    → (l : Loaded) → AreUsable l.keys → HoldsLoaded l set → TakesRangeBytes (opening_keys aad l) all whole start len (room_under (opening_keys aad l)) before now
+bytes_of_loaded aad set all whole start len before now order takes l usable holds =
+    let keys : List StreamKey = keys_in (all_entries set.entries) in
+    let own : List StreamKey = map (λ k. k.key) l.keys in
+    let ordered = ordered_keys l set holds order in
+    let count : length (map (opening_key aad) keys) ≡ length (opening_keys aad l) =
+    length-map keys (opening_key aad) ∙ same_count keys own ordered ∙ length-map l.keys (λ k. k.key) ∙ sym (length-map l.keys (λ k. opening_key aad k.key)) in
+    let room : room_under (map (opening_key aad) keys) ≡ room_under (opening_keys aad l) = same_room aad keys own ordered ∙ ap room_under (map-map (opening_key aad) (λ k. k.key) l.keys) in
+    bytes_by_others (map (opening_key aad) keys) (opening_keys aad l) all whole start len (room_under (map (opening_key aad) keys)) (room_under (opening_keys aad l)) before now count room
+    (chosen_of_loaded aad l set usable holds order) takes
 
 -- so a range under the keys of the set is one under those that were loaded
 pub ranges_of_loaded : {W : Type 0} (got : W → Option (List ℕ)) (faults : W → ℕ) (aad : List ℕ) (set : TypedPrimitiveSet StreamKind) (whole start len : ℕ) (e : Moments W) (answer : Result ℕ TinkError) → KeepsOrder set.entries

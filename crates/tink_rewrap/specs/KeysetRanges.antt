@@ -10,7 +10,9 @@ use Rattle.stream_model.specs.Opening.{IsChosen, IsStream, OpeningKey}
 use Rattle.loading_model.specs.Loading.{Loaded, opening_keys}
 use Rattle.tink_range.specs.ChunkReading.{Moments}
 use Rattle.tink_range.specs.KeyRanges.{RangesUnder, TakesRangeSteps}
+use Rattle.tink_range.specs.ReadCounts.{TakesRangeBytes}
 use Rattle.tink_run.specs.AllKeys.{load}
+use Rattle.tink_run.specs.OpenReads.{room_under}
 use Rattle.tink_run.specs.Run.{CanOpen}
 use Rattle.tink_rewrap.specs.SetRanges.{IsUnmoved}
 
@@ -58,6 +60,12 @@ KeysetRangeMeans got faults keyset aad whole start len object object_after e (Er
 abbrev pub TakesKeysetSteps : List ℕ → List ℕ → Option (List ℕ) → ℕ → ℕ → ℕ → ℕ → ℕ → Type 0
 TakesKeysetSteps keyset aad all whole start len before now =
     (now ≡ before) ⊎ ((l : Loaded) × (load keyset ≡ Ok l) × TakesRangeSteps (opening_keys aad l) all whole start len before now)
+
+-- nothing is read where the keyset does not load, else at most what is read for the range under its keys
+abbrev pub TakesKeysetBytes : List ℕ → List ℕ → Option (List ℕ) → ℕ → ℕ → ℕ → ℕ → ℕ → Type 0
+TakesKeysetBytes keyset aad all whole start len before now =
+    (now ≡ before)
+    ⊎ ((l : Loaded) × (load keyset ≡ Ok l) × TakesRangeBytes (opening_keys aad l) all whole start len (room_under (opening_keys aad l)) before now)
 
 -- of a text the bytes from place `start` on and below `start + len`, as far as there are such
 abbrev pub slice_of_text : ℕ → ℕ → List ℕ → List ℕ

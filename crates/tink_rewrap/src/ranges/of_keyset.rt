@@ -3,7 +3,7 @@
 ghost use Rattle.std.specs.Prelude.{◌≡◌, ◌≤◌, IfOk};
 ghost use Rattle.tink_range.specs.ChunkReading.{ends_of};
 ghost use Rattle.tink_range.specs.Objects.{LeavesObject};
-ghost use Rattle.tink_rewrap.specs.KeysetRanges.{GivesSlice, IsRangeComplete, KeysetRangeMeans, TakesKeysetSteps};
+ghost use Rattle.tink_rewrap.specs.KeysetRanges.{GivesSlice, IsRangeComplete, KeysetRangeMeans, TakesKeysetBytes, TakesKeysetSteps};
 ghost use Rattle.tink_rewrap.specs.SetRanges.{LeavesRangeEnds, LeavesUnwritten};
 
 use crate::ranges::of_set::range_of_set;
@@ -48,6 +48,12 @@ pub fn run_range<A: ReadAt, K: Sink, L: Ledger>(
     // more; none where the keyset does not load.
     ensures ticks { TakesKeysetSteps keyset.now aad.now (A.bytes object.old) (A.length_of object.old) start len
         steps.old steps.new }
+
+    // For each key at most one byte more is read than the longest output prefix and segment of the keys have together.
+    // Where a key is chosen, at most the whole segments follow that are opened. None is read where the keyset does not
+    // load.
+    ensures taken { TakesKeysetBytes keyset.now aad.now (A.bytes object.old) (A.length_of object.old) start len
+        (A.taken object.old) (A.taken object.new) }
 
     // A refusal that comes before anything was read leaves the ends themselves as they were, and one that comes before
     // anything was written the sink.

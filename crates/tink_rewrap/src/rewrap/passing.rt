@@ -1,6 +1,8 @@
 //! The text of one stream into another, segment by segment.
 
-ghost use Rattle.std.specs.Prelude.{◌≡◌, ◌≤◌, [], map, vec_len};
+ghost use Rattle.std.specs.Prelude.{◌≡◌, ◌≤◌, ◌+◌, ◌*◌, [], map, vec_len};
+ghost use Rattle.tink_streaming_keys.specs.Memory.{trial_memory};
+ghost use Rattle.tink_run.specs.OpenReads.{room_under};
 ghost use Rattle.stream_model.specs.Opening as opening;
 ghost use Rattle.tink_streaming_io.specs.Openers as openers;
 ghost use Rattle.tink_streaming_io.specs.Sealers as sealers;
@@ -93,11 +95,12 @@ pub fn pass<S: Source, K: Sink, D: SegmentDecrypter + Drop, E: SegmentEncrypter 
     }
 }
 
-/// Passes the text of a source on to a new stream, by the first key that the source begins under.
+/// Passes the text of a source on to a new stream, by the first key that the source begins under, in the memory of a
+/// trial. This has twice as much as the longest output prefix and segment of the keys together, and 25 bytes.
 ///
 /// # Errors
 /// NoMatchingKey where it begins under none, ReadFault, and those of `pass`.
-pub fn pass_under<S: Source, K: Sink, T: DerivesStreams>(
+pub(crate) fn pass_under<S: Source, K: Sink, T: DerivesStreams>(
     keys: &[T],
     aad: &[u8],
     trial: Trial,
@@ -106,6 +109,8 @@ pub fn pass_under<S: Source, K: Sink, T: DerivesStreams>(
     sink: &mut K,
 ) -> Result<Report, TinkError>
     requires trial { FitsKeys T.key_of keys.now trial }
+    requires memory { trial_memory trial
+        ≡ 2 * room_under (map (λ k. opening.opening_key aad.now (T.key_of k)) keys.now) + 23 }
     requires stream { IsUnbegun stream.old.writer.mode stream.old.writer.segments
         (sealers.held_text stream.old.writer) }
     ensures answer { PassMeans

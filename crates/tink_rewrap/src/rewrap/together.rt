@@ -1,6 +1,6 @@
 //! A rewrap to a sink that gets small pieces together.
 
-ghost use Rattle.std.specs.Prelude.{◌≡◌, map};
+ghost use Rattle.std.specs.Prelude.{◌≡◌, map, vec_capacity};
 ghost use Rattle.stream_model.specs.Opening as opening;
 ghost use Rattle.tink_streaming_keys.specs.StreamKinds.{key_in_set};
 ghost use Rattle.tink_streaming_aead.specs.Wrapped.{KeepsOrder, all_entries, keys_in};
@@ -28,6 +28,7 @@ pub(crate) fn rewrap_together<S: Source, K: Sink>(
     sink: &mut K,
     waiting: &mut Vec<u8>,
 ) -> Result<Report, TinkError>
+    requires waiting { vec_capacity waiting.old ≡ 65536 }
     ensures answer { RewrapEnds
         (map (opening.opening_key from_aad.now) (keys_in (all_entries from.now.entries)))
         (key_in_set to.now) to_aad.now draws.old draws.new

@@ -1,9 +1,9 @@
-use Rattle.std.proofs.Common.{rules, refl, arith, le_refl}
+use Rattle.std.proofs.Common.{rules, inl, refl, arith, le_refl}
 use Rattle.std.proofs.lemmas.Result.{err_from_is_err_and}
 use Rattle.std.specs.Prelude.{Err}
 use Rattle.tink_range.specs.ChunkReading.{Moments, ends_of}
-use Rattle.tink_rewrap.proofs.KeysetSteps.{complete, loaded, not_loaded, slices, stands_unloaded, steps_loaded}
-use Rattle.tink_rewrap.proofs.SetSteps.{ranges_of_loaded, steps_of_loaded, leaves_same, unwritten_same}
+use Rattle.tink_rewrap.proofs.KeysetSteps.{bytes_loaded, complete, loaded, not_loaded, slices, stands_unloaded, steps_loaded}
+use Rattle.tink_rewrap.proofs.SetSteps.{bytes_of_loaded, ranges_of_loaded, steps_of_loaded, leaves_same, unwritten_same}
 use Rattle.tink_rewrap.proofs.ranges.of_keyset.run_range.Goals as goal
 
 pub returns-in_err-keys : goal.returns-in_err-keys
@@ -24,6 +24,7 @@ returns-in_err-keys g c = record {
       (not_loaded g.K.Sink.got g.K.Sink.faults c.args.keyset.now c.args.aad.now whole c.args.start c.args.len object object e
       c.in_err-keys.field-0.0 (record { unread = refl; unmoved = record { reads = refl; same = refl } }) c.in_err-keys.ensures.answer)));
   ticks = search rules;
+  taken = inl refl;
   early = leaves_same c.from_residual.result c.args.object.now c.args.sink.now;
   unwritten = unwritten_same c.from_residual.result c.args.sink.now;
   kept = (let returned = err_from_is_err_and c.from_residual.result c.from_residual.ensures.1 in
@@ -59,6 +60,10 @@ returns g c = record {
       steps_loaded c.args.keyset.now c.args.aad.now (g.A.ReadAt.bytes object) (g.A.ReadAt.length_of object) c.args.start c.args.len c.args.steps.now c.range_of_set.new.steps
       c.in_ok-keys.keys c.in_ok-keys.ensures.answer
       (steps_of_loaded c.args.aad.now c.in_ok-keys.keys (g.A.ReadAt.bytes object) (g.A.ReadAt.length_of object) c.args.start c.args.len c.args.steps.now c.range_of_set.new.steps c.range_of_set.ensures.order c.range_of_set.ensures.ticks));
+  taken = (let object = c.args.object.now in
+      bytes_loaded c.args.keyset.now c.args.aad.now (g.A.ReadAt.bytes object) (g.A.ReadAt.length_of object) c.args.start c.args.len (g.A.ReadAt.taken object) (g.A.ReadAt.taken c.range_of_set.new.object)
+      c.in_ok-keys.keys c.in_ok-keys.ensures.answer
+      (bytes_of_loaded c.args.aad.now c.in_ok-keys.keys (g.A.ReadAt.bytes object) (g.A.ReadAt.length_of object) c.args.start c.args.len (g.A.ReadAt.taken object) (g.A.ReadAt.taken c.range_of_set.new.object) c.range_of_set.ensures.order c.range_of_set.ensures.taken));
   early = c.range_of_set.ensures.early;
   unwritten = c.range_of_set.ensures.unwritten;
   kept = c.range_of_set.ensures.kept;

@@ -11,7 +11,7 @@ use Rattle.tink_run.proofs.RunSteps.{leaves_same, leaves_sink_same}
 use Rattle.tink_rewrap.specs.Rewrapping.{LeavesOrBegins, RewrapsUnder}
 use Rattle.tink_rewrap.proofs.KeySteps.{leaves_or_begins_same, pass_leaves}
 use Rattle.tink_rewrap.proofs.RewrapSteps.{not_prepared, passes_prepared}
-use Rattle.tink_run.proofs.RoomFacts.{has_room}
+use Rattle.tink_run.proofs.RoomFacts.{has_room, trial_takes}
 use Rattle.tink_rewrap.proofs.rewrap.between.rewrap_between.Goals as goal
 
 pub returns-in-Ok : goal.returns-in-Ok
@@ -94,3 +94,7 @@ pass_under-requires-clause-trial g c = (
 
 pub pass_under-requires-clause-stream : goal.pass_under-requires-clause-stream
 pass_under-requires-clause-stream g c = (c.in-Ok.ensures.answer.is_open, c.in-Ok.ensures.answer.none_written, c.in-Ok.ensures.answer.none_held)
+
+pub pass_under-requires-clause-memory : goal.pass_under-requires-clause-memory
+pass_under-requires-clause-memory g c =
+    trial_takes (λ k. key_in_set k.now) c.args.from_aad.now c.deref.result.now c.deref-in-Ok.result.now c.room_of.result _ (c.deref.ensures.value ∙ sym c.deref-in-Ok.ensures.value) c.room_of.ensures.value c.in_ok-trial.ensures.memory
