@@ -1,5 +1,5 @@
 -- What is said of a task's answer, by what is said of that of the call that does it.
-use Rattle.std.proofs.Common.{◌≡◌, ℕ, ◌+◌, List, Bool, refl, sym, subst}
+use Rattle.std.proofs.Common.{◌≡◌, ◌⊎◌, ℕ, ◌+◌, List, Bool, refl, sym, subst}
 use Rattle.std.specs.Prelude.{Option, Some, None, Result, Ok, Err, IfErr, IfOk}
 use Rattle.tink_io.specs.Taken.{LosesAtMost}
 use Rattle.tink_io.specs.declared.error.Kind.{Kind}
@@ -12,7 +12,7 @@ use Rattle.tink_run.specs.Run.{AnswerMeans, IsEarly, LeavesEnds, LeavesSinkItsel
 use Rattle.tink_run.specs.declared.report.Command.{Command}
 use Rattle.tink_run.specs.declared.report.Report.{Report}
 use Rattle.tink_rewrap.specs.RewrapReads.{RewrapReadsNoFurther}
-use Rattle.tink_rewrap.specs.Rewrapping.{RewrapMeans, Sides}
+use Rattle.tink_rewrap.specs.Rewrapping.{HasKeyOf, LeavesOrBeginsOf, RewrapMeans, Sides}
 use Rattle.tink_tokens.specs.Inputs.{input_limit}
 use Rattle.tink_tokens.specs.Tokens.{IsAnsweredWhole, Macs, TokenMeans}
 use Rattle.tink_tokens.proofs.ToldLemmas.{answered_whole}
@@ -68,6 +68,16 @@ run_unread (Err e) s t k l leaves = λ early. (leaves early).0
 pub run_unwritten : {K : Type 0} (answer : Result Report TinkError) (k l : K) → LeavesSinkItself answer k l → IfErr (answered_as (λ report. Some report) answer) (λ e. WritesNothing e.kind → l ≡ k)
 run_unwritten (Ok report) k l leaves = tt
 run_unwritten (Err e) k l leaves = leaves
+
+-- where a key was chosen, or the sink was left
+pub rewrap_begun : {K : Type 0} (s : Sides) (old : Outside) (answer : Result Report TinkError) (k l : K) → LeavesOrBeginsOf s old answer k l → IfErr (answered_as (λ report. Some report) answer) (λ e. (l ≡ k) ⊎ HasKeyOf s old)
+rewrap_begun s old (Ok report) k l begun = tt
+rewrap_begun s old (Err e) k l begun = begun
+
+-- and of another task nothing is said
+pub no_move : {V : Type 0} (report_of : V → Option Report) (answer : Result V TinkError) → IfErr (answered_as report_of answer) (λ e. Unit {0})
+no_move report_of (Ok v) = tt
+no_move report_of (Err e) = tt
 
 -- which leave an end as it was where a token is made, or taken apart
 pub token_leaves : {S : Type 0} (spares : Kind → Type 0) (answer : Result (Unit {0}) TinkError) (s t : S) → IfErr answer (λ e. spares e.kind → t ≡ s) → IfErr (answered_as (λ done. None) answer) (λ e. spares e.kind → t ≡ s)

@@ -1,5 +1,5 @@
 -- What a task makes of the bytes of a source, and what its answer says.
-use Rattle.std.specs.Prelude.{◌≡◌, ◌+◌, ℕ, List, Option, Some, None, Result, Ok, Err}
+use Rattle.std.specs.Prelude.{◌≡◌, ◌⊎◌, ◌+◌, ℕ, List, Option, Some, None, Result, Ok, Err}
 use Rattle.tink_io.specs.Taken.{LosesAtMost}
 use Rattle.tink_io.specs.declared.error.Kind.{Kind}
 use Rattle.tink_io.specs.declared.error.TinkError.{TinkError}
@@ -9,7 +9,7 @@ use Rattle.tink_run.specs.Run.{AnswerMeans, CanSucceed, IsEarly, OkMeans, Writes
 use Rattle.tink_run.specs.declared.report.Report.{Report}
 use Rattle.tink_rewrap.specs.RewrapPromises.{CanRewrap, IsWholeRewrap}
 use Rattle.tink_rewrap.specs.RewrapReads.{RewrapReadsNoFurther}
-use Rattle.tink_rewrap.specs.Rewrapping.{RewrapMeans, sides}
+use Rattle.tink_rewrap.specs.Rewrapping.{HasKeyOf, RewrapMeans, sides}
 use Rattle.tink_tokens.specs.Inputs.{input_limit, IsUnloadable, IsUnwritten}
 use Rattle.tink_tokens.specs.Tokens.{CanAnswer, IsAnsweredWhole, Macs, TokenMeans}
 use Rattle.tink_tokens.specs.Tokens.{RefusesSigning, RefusesVerifying, SignsTo, VerifiesTo}
@@ -63,6 +63,11 @@ IsBeforeWriting (Run command) kind = WritesNothing kind
 IsBeforeWriting (Rewrap to to_aad) kind = WritesNothing kind
 IsBeforeWriting Sign kind = IsUnwritten kind
 IsBeforeWriting Verify kind = IsUnwritten kind
+
+-- a stream that is not moved has a key of the first keyset, or the sink is itself as it was
+abbrev pub LeavesOrMoves : {K : Type 0} → Task → List ℕ → List ℕ → Outside → K → K → Type 0
+LeavesOrMoves (Rewrap to to_aad) keyset aad old sink sink_after = (sink_after ≡ sink) ⊎ HasKeyOf (sides keyset aad to.now to_aad.now) old
+LeavesOrMoves _ keyset aad old sink sink_after = Unit {0}
 
 -- exactly what the task makes of the whole input was written, and nothing is left of it
 abbrev pub IsDone : Task → List ℕ → List ℕ → List ℕ → List ℕ → List ℕ → List ℕ → Outside → Option Report → Type 0

@@ -1,9 +1,9 @@
 //! A range of a stream's text is written into a place.
 
-ghost use Rattle.std.specs.Prelude.{◌≡◌, ℕ, List, Some, true, false, IfOk, OnErr};
+ghost use Rattle.std.specs.Prelude.{◌≡◌, ℕ, List, Some, true, false, IfErr, IfOk, OnErr};
 ghost use Rattle.tink_range.specs.ChunkReading.{ends_of};
 ghost use Rattle.tink_range.specs.Objects.{LeavesObject};
-ghost use Rattle.tink_run.specs.Run.{CanOpen};
+ghost use Rattle.tink_run.specs.Run.{CanOpen, IsEarly};
 ghost use Rattle.tink_rewrap.specs.KeysetRanges.{GivesSlice, KeysetRangeMeans, TakesKeysetSteps};
 ghost use Rattle.tink_cli_files.specs.Streams.{IsShownWhole, RanAndEnded, Succeeds};
 
@@ -52,6 +52,9 @@ pub fn range_to<A: ReadAt, P: Place, L: Ledger>(
     // shown, or there is no memory.
     ensures succeeds { (X : List ℕ) → A.bytes object.old ≡ Some X → CanOpen keyset.now aad.now X
         → Succeeds (A.faults object.old) (A.faults object.new) (P.faults place.old) (P.faults place.new) result }
+
+    // A refusal that comes before anything was read leaves the object itself as it was.
+    ensures early { IfErr result (λ e. IsEarly e.kind → object.new ≡ object.old) }
     ensures err { OnErr result (P.shown place.new ≡ P.shown place.old) }
     ensures gone { P.has_draft place.new ≡ false }
     ensures place { P.rest place.old place.new }

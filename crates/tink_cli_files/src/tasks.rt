@@ -3,7 +3,8 @@
 ghost use Rattle.std.specs.Prelude.{◌≡◌, ℕ, List, Some, None, true, false, IfErr, IfOk, OnErr};
 ghost use Rattle.tink_io.specs.Outside.{FaultsStay, outside_of, Told};
 ghost use Rattle.tink_cli_files.specs.Streams.{IsShownWhole, RanAndEnded, Succeeds};
-ghost use Rattle.tink_cli_files.specs.Tasks.{CanDo, IsBeforeReading, IsBeforeWriting, IsDone, TaskMeans, answered_as};
+ghost use Rattle.tink_cli_files.specs.Tasks.{CanDo, IsBeforeReading, IsBeforeWriting, IsDone, LeavesOrMoves};
+ghost use Rattle.tink_cli_files.specs.Tasks.{TaskMeans, answered_as};
 
 use std::alloc::Global;
 use tink_io::saving::finish;
@@ -63,6 +64,10 @@ pub fn write_task<S: Source, K: Sink>(
     // anything was written the sink, whatever they tell.
     ensures unread { IfErr result (λ e. IsBeforeReading task.entry e.kind → source.new ≡ source.old) }
     ensures unwritten { IfErr result (λ e. IsBeforeWriting task.entry e.kind → sink.new ≡ sink.old) }
+
+    // A refused move of a stream has chosen a key, or has left the sink itself as it was.
+    ensures begun { IfErr result (λ e. LeavesOrMoves task.entry keyset.now aad.now
+        (outside_of S.left S.faults K.got K.faults source.old sink.old) sink.old sink.new) }
     ensures later { FaultsStay (outside_of S.left S.faults K.got K.faults source.old sink.old)
         (outside_of S.left S.faults K.got K.faults source.new sink.new) }
     ensures source { S.same source.old source.new }

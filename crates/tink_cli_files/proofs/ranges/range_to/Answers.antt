@@ -1,4 +1,4 @@
-use Rattle.tink_cli_files.proofs.RangeLemmas.{leaves_ended}
+use Rattle.tink_cli_files.proofs.RangeLemmas.{early_ended, leaves_ended}
 use Rattle.tink_cli_files.proofs.StreamLemmas.{ran_and_ended, range_done, shown_whole, succeeded}
 use Rattle.tink_cli_files.proofs.ranges.range_to.Goals as goal
 
@@ -27,6 +27,11 @@ pub returns-clause-kept : goal.returns-clause-kept
 returns-clause-kept g c =
     leaves_ended g.A.ReadAt.length_of g.A.ReadAt.bytes g.A.ReadAt.faults c.args.object.now c.run_range-answer.new.object _ _ _ _ _ _ c.run_range-answer.result c.finish.result
     c.finish.ensures.ends c.run_range-answer.ensures.kept
+
+pub returns-clause-early : goal.returns-clause-early
+returns-clause-early g c =
+    early_ended c.args.object.now c.run_range-answer.new.object c.args.place.now c.run_range-answer.new.sink _ _ _ _ _ _ c.run_range-answer.result c.finish.result
+    c.finish.ensures.ends c.run_range-answer.ensures.early
 
 pub returns-clause-place : goal.returns-clause-place
 returns-clause-place g c =

@@ -1,7 +1,9 @@
+use Rattle.tink_io.specs.Outside.{Outside, outside_of}
+use Rattle.tink_rewrap.specs.Rewrapping.{sides}
 use Rattle.tink_tokens.specs.Inputs.{IsUnloadable, IsUnwritten}
 use Rattle.tink_tokens.specs.Tokens.{RefusesSigning, RefusesVerifying, SignsTo, VerifiesTo}
 use Rattle.tink_cli_files.proofs.StreamLemmas.{done_by}
-use Rattle.tink_cli_files.proofs.TaskLemmas.{answered, answered_done, answered_succeeds, rewrap_said, run_said, run_unread, run_unwritten, token_leaves, token_said}
+use Rattle.tink_cli_files.proofs.TaskLemmas.{answered, answered_done, answered_succeeds, no_move, rewrap_begun, rewrap_said, run_said, run_unread, run_unwritten, token_leaves, token_said}
 use Rattle.tink_cli_files.proofs.tasks.write_task.Goals as goal
 
 pub returns-in-Run-clause-means : goal.returns-in-Run-clause-means
@@ -19,6 +21,9 @@ returns-in-Run-clause-unread g c = rw (c.in-Run.is, c.reported.ensures) (run_unr
 
 pub returns-in-Run-clause-unwritten : goal.returns-in-Run-clause-unwritten
 returns-in-Run-clause-unwritten g c = rw (c.in-Run.is, c.reported.ensures) (run_unwritten c.run.result c.args.sink.now c.run.new.sink c.run.ensures.unwritten)
+
+pub returns-in-Run-clause-begun : goal.returns-in-Run-clause-begun
+returns-in-Run-clause-begun g c = rw (c.in-Run.is, c.reported.ensures) (no_move _ c.run.result)
 
 pub returns-in-Run-clause-later : goal.returns-in-Run-clause-later
 returns-in-Run-clause-later g c = c.run.ensures.later
@@ -38,6 +43,12 @@ returns-in-Rewrap-clause-unread g c = rw (c.in-Rewrap.is, c.reported-in-Rewrap.e
 
 pub returns-in-Rewrap-clause-unwritten : goal.returns-in-Rewrap-clause-unwritten
 returns-in-Rewrap-clause-unwritten g c = rw (c.in-Rewrap.is, c.reported-in-Rewrap.ensures) (run_unwritten c.rewrap.result c.args.sink.now c.rewrap.new.sink c.rewrap.ensures.unwritten)
+
+pub returns-in-Rewrap-clause-begun : goal.returns-in-Rewrap-clause-begun
+returns-in-Rewrap-clause-begun g c =
+    let old : Outside = outside_of g.S.Source.left g.S.Source.faults g.K.Sink.got g.K.Sink.faults c.args.source.now c.args.sink.now in
+    rw (c.in-Rewrap.is, c.reported-in-Rewrap.ensures)
+    (rewrap_begun (sides c.args.keyset.now c.args.aad.now c.in-Rewrap.to.now c.in-Rewrap.to_aad.now) old c.rewrap.result c.args.sink.now c.rewrap.new.sink c.rewrap.ensures.begun)
 
 pub returns-in-Rewrap-clause-later : goal.returns-in-Rewrap-clause-later
 returns-in-Rewrap-clause-later g c = c.rewrap.ensures.later
@@ -59,6 +70,9 @@ returns-in-Sign-clause-unread g c = rw (c.in-Sign.is, c.unreported.ensures) (tok
 pub returns-in-Sign-clause-unwritten : goal.returns-in-Sign-clause-unwritten
 returns-in-Sign-clause-unwritten g c = rw (c.in-Sign.is, c.unreported.ensures) (token_leaves IsUnwritten c.write_token.result c.args.sink.now c.write_token.new.sink c.write_token.ensures.unwritten)
 
+pub returns-in-Sign-clause-begun : goal.returns-in-Sign-clause-begun
+returns-in-Sign-clause-begun g c = rw (c.in-Sign.is, c.unreported.ensures) (no_move _ c.write_token.result)
+
 pub returns-in-Sign-clause-later : goal.returns-in-Sign-clause-later
 returns-in-Sign-clause-later g c = c.write_token.ensures.later
 
@@ -78,6 +92,9 @@ returns-in-Verify-clause-unread g c = rw (c.in-Verify.is, c.unreported-in-Verify
 
 pub returns-in-Verify-clause-unwritten : goal.returns-in-Verify-clause-unwritten
 returns-in-Verify-clause-unwritten g c = rw (c.in-Verify.is, c.unreported-in-Verify.ensures) (token_leaves IsUnwritten c.write_payload.result c.args.sink.now c.write_payload.new.sink c.write_payload.ensures.unwritten)
+
+pub returns-in-Verify-clause-begun : goal.returns-in-Verify-clause-begun
+returns-in-Verify-clause-begun g c = rw (c.in-Verify.is, c.unreported-in-Verify.ensures) (no_move _ c.write_payload.result)
 
 pub returns-in-Verify-clause-later : goal.returns-in-Verify-clause-later
 returns-in-Verify-clause-later g c = c.write_payload.ensures.later
