@@ -6,28 +6,29 @@ use Rattle.tink_cli_words.specs.declared.form.Action.TheVariants as actions
 use Rattle.tink_cli_words.specs.declared.form.Action.{Action}
 use Rattle.tink_cli_words.specs.LineRead.{LineRead}
 use Rattle.tink_system.specs.States.{SystemState}
-use Rattle.tink_cli_streams.specs.Performing.{KeepsFiles}
-use Rattle.tink_cli_streams.specs.Ranges.{IsRanged}
-use Rattle.tink_cli_streams.specs.Streams.{IsMade, IsMoved}
-use Rattle.tink_cli.specs.KeyFiles.{AreListed, IsConverted, IsEdited, IsGrown, IsNew}
-use Rattle.tink_cli.specs.Wrapping.{IsUnwrapped, IsWrapped}
+use Rattle.tink_cli_jobs.specs.Outputs.{KeepsFiles}
+use Rattle.tink_cli_ranges.specs.Ranges.{IsRanged}
+use Rattle.tink_cli_streams.specs.Streams.{IsChecked, IsMade, IsMoved}
+use Rattle.tink_cli_keys.specs.KeyFiles.{AreListed, IsConverted, IsEdited, IsGrown, IsNew}
+use Rattle.tink_cli_keys.specs.Wrapping.{IsUnwrapped, IsWrapped}
 
 -- by each command
 abbrev pub IsDone : Action → LineRead → SystemState → SystemState → Option (List ℕ) → Option (List ℕ) → Type 0
 IsDone actions.New line old new got got_after = IsNew line old new got got_after
-IsDone actions.Add line old new got got_after = IsGrown actions.Add line old new
-IsDone actions.Rotate line old new got got_after = IsGrown actions.Rotate line old new
+IsDone actions.Add line old new got got_after = IsGrown actions.Add line old new × (got_after ≡ got)
+IsDone actions.Rotate line old new got got_after = IsGrown actions.Rotate line old new × (got_after ≡ got)
 IsDone actions.Keys line old new got got_after = AreListed line old got got_after × KeepsFiles old new
-IsDone actions.Promote line old new got got_after = IsEdited actions.Promote line old new
-IsDone actions.Enable line old new got got_after = IsEdited actions.Enable line old new
-IsDone actions.Disable line old new got got_after = IsEdited actions.Disable line old new
-IsDone actions.Destroy line old new got got_after = IsEdited actions.Destroy line old new
-IsDone actions.Delete line old new got got_after = IsEdited actions.Delete line old new
+IsDone actions.Promote line old new got got_after = IsEdited actions.Promote line old new × (got_after ≡ got)
+IsDone actions.Enable line old new got got_after = IsEdited actions.Enable line old new × (got_after ≡ got)
+IsDone actions.Disable line old new got got_after = IsEdited actions.Disable line old new × (got_after ≡ got)
+IsDone actions.Destroy line old new got got_after = IsEdited actions.Destroy line old new × (got_after ≡ got)
+IsDone actions.Delete line old new got got_after = IsEdited actions.Delete line old new × (got_after ≡ got)
 IsDone actions.Convert line old new got got_after = IsConverted line old new got got_after
 IsDone actions.Encrypt line old new got got_after = IsMade actions.Encrypt line old new got got_after
 IsDone actions.Decrypt line old new got got_after = IsMade actions.Decrypt line old new got got_after
 IsDone actions.Sign line old new got got_after = IsMade actions.Sign line old new got got_after
 IsDone actions.Verify line old new got got_after = IsMade actions.Verify line old new got got_after
+IsDone actions.Check line old new got got_after = IsChecked line old × KeepsFiles old new × (got_after ≡ got)
 IsDone actions.Rewrap line old new got got_after = IsMoved line old new got got_after
 IsDone actions.Range line old new got got_after = IsRanged line old new got got_after
 IsDone actions.Wrap line old new got got_after = IsWrapped line old new got got_after

@@ -1,4 +1,2 @@
-pub mod LoadingLemmas
 pub mod MovingLemmas
 pub mod PerformingLemmas
-pub mod RangingLemmas
