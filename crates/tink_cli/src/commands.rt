@@ -10,8 +10,8 @@ ghost use Rattle.tink_cli_words.specs.Words.{byte_words};
 
 use crate::claims::is_of_streams;
 use crate::over_streams::run_on_streams;
-use crate::telling::tell_wrong;
 use crate::showing;
+use crate::telling::tell_wrong;
 use std::alloc::Global;
 use tink_cli_keys::{keys, wrapping};
 use tink_cli_ranges::{informing, ranges};

@@ -101,11 +101,7 @@ fn counted<'w, L: Ledger, Y: System, K: Sink>(
 }
 
 // Writes the lines.
-fn put_info<K: Sink>(
-    alloc: Global,
-    info: StreamInfo,
-    sink: &mut K,
-) -> Result<(), Trouble<'static>>
+fn put_info<K: Sink>(alloc: Global, info: StreamInfo, sink: &mut K) -> Result<(), Trouble<'static>>
     ensures sink { K.same sink.old sink.new }
 {
     match lines_of(alloc, info) {

@@ -1,2 +1,3 @@
+pub mod BreakingLemmas
 pub mod MovingLemmas
 pub mod PerformingLemmas

@@ -78,7 +78,7 @@ spends_later : (takes : Bool) (old middle new : SystemState) (drawn : List ℕ) 
 spends_later true old middle new drawn same spends = (spends.0, same ∙ spends.1)
 spends_later false old middle new drawn same spends = (spends.0, same ∙ spends.1)
 
-content_earlier : (old middle : SystemState) (input : Option (List ℕ)) → KeepsFiles old middle → KeepsSystem old middle → content middle input ≡ content old input
+pub content_earlier : (old middle : SystemState) (input : Option (List ℕ)) → KeepsFiles old middle → KeepsSystem old middle → content middle input ≡ content old input
 content_earlier old middle (Some name) files system = files name
 content_earlier old middle None files system = ap (λ (bytes : List ℕ). Some bytes) system.input
 

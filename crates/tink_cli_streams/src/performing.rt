@@ -2,6 +2,7 @@
 
 ghost use Rattle.std.specs.Prelude.{◌≡◌, ◌≤◌, ℕ, List, Some, None, Ok, true, false, IfErr, IfOk, IfSome, IsErrAnd, OnErr, OnOk, option_map};
 ghost use Rattle.tink_cli_jobs.specs.Outputs.{IsInFile, IsPut, KeepsFiles, KeepsOtherFiles};
+ghost use Rattle.tink_cli_streams.specs.Breaking.{Breaks, IsUnperformed, MayBreak};
 ghost use Rattle.tink_cli_streams.specs.Performing.{IsPerformed, Makes, Spends, takes_random};
 ghost use Rattle.tink_system.specs.States.{KeepsSystem, known_content};
 ghost use Rattle.tink_system.specs.Statuses.{refusal_status, trouble_status};
@@ -29,6 +30,8 @@ pub fn perform<'w, Y: System, K: Sink>(
     ensures done { OnOk result ((Y.state system.old).is_known ≡ true → IsPerformed task.entry keyset.now job.now.aad.now job.now.keeps_output
         (option_map (λ n. n.now) job.now.input) (option_map (λ n. n.now) job.now.output)
         (Y.state system.old) (Y.state system.new) (K.got sink.old) (K.got sink.new)) }
+    ensures broken { IfErr result (λ t. (Y.state system.old).is_known ≡ true → IsUnperformed task.entry keyset.now job.now.aad.now
+        (option_map (λ n. n.now) job.now.input) (Y.state system.old) (K.got sink.old) (K.got sink.new) (trouble_status t)) }
     ensures kept { OnErr result ((Y.state system.old).is_known ≡ true → KeepsFiles (Y.state system.old) (Y.state system.new)) }
     ensures system { KeepsSystem (Y.state system.old) (Y.state system.new) }
     ensures later { Y.faults system.old ≤ Y.faults system.new }
@@ -72,6 +75,8 @@ fn perform_by<'w, Y: System, K: Sink>(
         × (known_content (Y.state system.old) (option_map (λ n. n.now) job.now.input) ≡ Some text)
         × IsPut (λ before after. Makes task.entry keyset.now job.now.aad.now draws.old text before after) job.now.keeps_output
         (Y.state system.old) (Y.state system.new) (option_map (λ n. n.now) job.now.output) (K.got sink.old) (K.got sink.new)) }
+    ensures broken { IfErr result (λ t. MayBreak task.entry keyset.now job.now.aad.now draws.old
+        (known_content (Y.state system.old) (option_map (λ n. n.now) job.now.input)) (K.got sink.old) (K.got sink.new) (trouble_status t)) }
     ensures kept { OnErr result ((Y.state system.old).is_known ≡ true → KeepsFiles (Y.state system.old) (Y.state system.new)) }
     ensures system { KeepsSystem (Y.state system.old) (Y.state system.new) }
     ensures random { (Y.state system.new).random ≡ (Y.state system.old).random }
@@ -98,6 +103,8 @@ fn perform_on<'w, Y: System, K: Sink>(
     ensures done { OnOk result ((Y.state system.old).is_known ≡ true → (text : List ℕ) → Y.Input.left input.old ≡ Some text
         → IsPut (λ before after. Makes task.entry keyset.now job.now.aad.now draws.old text before after) job.now.keeps_output
         (Y.state system.old) (Y.state system.new) (option_map (λ n. n.now) job.now.output) (K.got sink.old) (K.got sink.new)) }
+    ensures broken { IfErr result (λ t. MayBreak task.entry keyset.now job.now.aad.now draws.old (Y.Input.left input.old)
+        (K.got sink.old) (K.got sink.new) (trouble_status t)) }
     ensures kept { OnErr result ((Y.state system.old).is_known ≡ true → KeepsFiles (Y.state system.old) (Y.state system.new)) }
     ensures system { KeepsSystem (Y.state system.old) (Y.state system.new) }
     ensures random { (Y.state system.new).random ≡ (Y.state system.old).random }
@@ -123,6 +130,8 @@ fn put<'w, Y: System, K: Sink>(
 ) -> Result<(), Trouble<'w>>
     ensures done { OnOk result ((text before : List ℕ) → Y.Input.left input.old ≡ Some text → K.got sink.old ≡ Some before
         → Makes task.entry keyset.now job.now.aad.now draws.old text before (K.got sink.new)) }
+    ensures broken { IfErr result (λ t. Breaks task.entry keyset.now job.now.aad.now draws.old (Y.Input.left input.old)
+        (K.got sink.old) (K.got sink.new) (trouble_status t)) }
     ensures still { system.new ≡ system.old }
     ensures sink { K.same sink.old sink.new }
 {

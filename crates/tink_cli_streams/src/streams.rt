@@ -2,6 +2,7 @@
 
 ghost use Rattle.std.specs.Prelude.{◌≡◌, ◌≤◌, true, OnErr, OnOk, IfErr};
 ghost use Rattle.tink_cli_jobs.specs.Outputs.{KeepsFiles};
+ghost use Rattle.tink_cli_streams.specs.Breaking.{IsUnmade};
 ghost use Rattle.tink_cli_streams.specs.Streams.{IsMade, IsMoved, IsMovedFrom, IsMovedTo, own_task};
 ghost use Rattle.tink_system.specs.States.{KeepsSystem};
 ghost use Rattle.tink_system.specs.Statuses.{trouble_status};
@@ -32,6 +33,8 @@ pub fn make<'w, Y: System, K: Sink>(
 ) -> Result<(), Trouble<'w>>
     ensures done { OnOk result ((Y.state system.old).is_known ≡ true → IsMade action line.now
         (Y.state system.old) (Y.state system.new) (K.got sink.old) (K.got sink.new)) }
+    ensures broken { IfErr result (λ t. (Y.state system.old).is_known ≡ true → IsUnmade action line.now
+        (Y.state system.old) (K.got sink.old) (K.got sink.new) (trouble_status t)) }
     ensures kept { OnErr result ((Y.state system.old).is_known ≡ true → KeepsFiles (Y.state system.old) (Y.state system.new)) }
     ensures system { KeepsSystem (Y.state system.old) (Y.state system.new) }
     ensures later { Y.faults system.old ≤ Y.faults system.new }
