@@ -11,24 +11,25 @@ use Rattle.tink_cli_jobs.specs.declared.job.Job.{Job}
 use Rattle.tink_cli_jobs.specs.declared.keys.KeyWords.{KeyWords}
 
 -- the second file after the first
-pub both_spared : (old middle : SystemState) (output master new_keys : Option (List ℕ)) (result : Result (Unit {0}) Trouble) → middle ≡ old
-    → (old.is_known ≡ true → Differ old output master) → OnOk result (middle.is_known ≡ true → Differ middle output new_keys)
+pub both_spared : (old middle : SystemState) (output m n master new_keys : Option (List ℕ)) (result : Result (Unit {0}) Trouble) → middle ≡ old
+    → m ≡ master → n ≡ new_keys → (old.is_known ≡ true → Differ old output m) → OnOk result (middle.is_known ≡ true → Differ middle output n)
     → OnOk result (old.is_known ≡ true → AreOthers old output master new_keys)
-both_spared old middle output master new_keys (Ok done) same first second = λ known. record {
-  of_master = first known;
-  of_new_keys = subst (λ (s : SystemState). s.is_known ≡ true → Differ s output new_keys) same second known;
+both_spared old middle output m n master new_keys (Ok done) same m_is n_is first second = λ known. record {
+  of_master = subst (λ (x : Option (List ℕ)). Differ old output x) m_is (first known);
+  of_new_keys = subst (λ (x : Option (List ℕ)). Differ old output x) n_is
+      (subst (λ (s : SystemState). s.is_known ≡ true → Differ s output n) same second known);
 }
-both_spared old middle output master new_keys (Err t) same first second = tt
+both_spared old middle output m n master new_keys (Err t) same m_is n_is first second = tt
 
 -- both after the file of keys
-pub all_spared : (old middle : SystemState) (output keys master new_keys : Option (List ℕ)) (result : Result (Unit {0}) Trouble) → middle ≡ old
-    → (old.is_known ≡ true → Differ old output keys) → OnOk result (middle.is_known ≡ true → AreOthers middle output master new_keys)
+pub all_spared : (old middle : SystemState) (output k keys master new_keys : Option (List ℕ)) (result : Result (Unit {0}) Trouble) → middle ≡ old
+    → k ≡ keys → (old.is_known ≡ true → Differ old output k) → OnOk result (middle.is_known ≡ true → AreOthers middle output master new_keys)
     → OnOk result (old.is_known ≡ true → AreSpared old output keys master new_keys)
-all_spared old middle output keys master new_keys (Ok done) same first others = λ known. record {
-  of_keys = first known;
+all_spared old middle output k keys master new_keys (Ok done) same k_is first others = λ known. record {
+  of_keys = subst (λ (x : Option (List ℕ)). Differ old output x) k_is (first known);
   others = subst (λ (s : SystemState). s.is_known ≡ true → AreOthers s output master new_keys) same others known;
 }
-all_spared old middle output keys master new_keys (Err t) same first others = tt
+all_spared old middle output k keys master new_keys (Err t) same k_is first others = tt
 
 new_name : (line : LineRead) (to : Option (List ℕ)) (new : Option KeyWords) → AreNewKeys line to new → option_map (λ w. w.keys.now) new ≡ to
 new_name line (Some file) (Some words) are = ap (λ (n : List ℕ). Some n) are.keys_is
