@@ -7,6 +7,6 @@ use Rattle.tink_cli_jobs.proofs.protecting.spare_others.Goals as goal
 pub returns-in-Ok-clause-spared : goal.returns-in-Ok-clause-spared
 returns-in-Ok-clause-spared g c =
     both_spared (g.Y.System.state c.args.system.now) (g.Y.System.state c.spare_file.new.system) (option_map (λ n. n.now) c.args.job.now.output)
-    (option_map (λ n. n.now) c.named.result) (option_map (λ n. n.now) c.in-Ok-named.result) _ _ c.in-Ok-spare_file.result
+    (option_map (λ n. n.now) c.named.result) (option_map (λ n. n.now) c.named-in-Ok.result) _ _ c.spare_file-in-Ok.result
     (ap (λ s. g.Y.System.state s) c.spare_file.ensures.still) c.named.ensures
-    (c.in-Ok-named.ensures ∙ ap (λ (o : Option (List ℕ)). named o) c.new_file.ensures) c.in-Ok.ensures.spared c.in-Ok-spare_file.ensures.spared
+    (c.named-in-Ok.ensures ∙ ap (λ (o : Option (List ℕ)). named o) c.new_file.ensures) c.in-Ok.ensures.spared c.spare_file-in-Ok.ensures.spared
