@@ -1,7 +1,7 @@
 -- What was made, where it was put.
 use Rattle.std.proofs.Common.{◌≡◌, ℕ, List, [], Bool, true, false, refl, sym, ◌∙◌, subst, ap}
 use Rattle.std.proofs.lemmas.Bool.{true≢false}
-use Rattle.std.specs.Prelude.{Option, Some, None, Result, Ok, Err, IfErr, IfOk, IfSome, IsErrAnd, OnOk}
+use Rattle.std.specs.Prelude.{Option, Some, None, Result, Ok, Err, IfErr, IfOk, IfSome, IsErrAnd, IsSome, OnOk}
 use Rattle.tink_io.specs.declared.error.TinkError.{TinkError}
 use Rattle.tink_cli_files.specs.Streams.{IsShownWhole}
 use Rattle.tink_system.specs.States.{HasBegun, KeepsSystem, SystemState, known_if, replaces_by}
@@ -12,6 +12,11 @@ use Rattle.tink_cli_jobs.specs.Outputs.{IsFresh, IsInFile, IsPut, KeepsFiles, Ke
 -- what is made of an input, behind what was there
 abbrev pub Makings : Type 1
 Makings = List ℕ → List ℕ → Option (List ℕ) → Type 0
+
+-- the bytes that are there
+pub some_of : (o : Option (List ℕ)) → IsSome o → (v : List ℕ) × (o ≡ Some v)
+some_of (Some v) is = (v, refl)
+some_of None is = absurd (true≢false (sym is))
 
 -- a draft that was shown replaced no file, if it was to replace none
 pub shown_fresh : {D V : Type 0} (got : D → Option (List ℕ)) (is_whole : D → V → Type 0) (replaces : Bool) (before shown : Option (Option (List ℕ)))

@@ -4,7 +4,7 @@ use Rattle.std.specs.Prelude.{Option, Some, None, Result, Ok, Err, OnOk, option_
 use Rattle.tink_cli_words.specs.LineRead.{LineRead}
 use Rattle.tink_system.specs.States.{SystemState}
 use Rattle.tink_system.specs.declared.trouble.Trouble.{Trouble}
-use Rattle.tink_cli_jobs.specs.Jobs.{AreNewKeys, IsJob, IsKeyWords}
+use Rattle.tink_cli_jobs.specs.Jobs.{AreNewKeys, IsJob}
 use Rattle.tink_cli_jobs.specs.Loading.{named}
 use Rattle.tink_cli_jobs.specs.Protecting.{AreOthers, AreSpared, AreSparedBy, AreSparedOf, Differ}
 use Rattle.tink_cli_jobs.specs.declared.job.Job.{Job}

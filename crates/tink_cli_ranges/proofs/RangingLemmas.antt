@@ -1,6 +1,5 @@
 -- What a range gave, where it was put.
 use Rattle.std.proofs.Common.{◌≡◌, ℕ, List, [], Bool, true, false, refl, sym, ◌∙◌, subst, ap}
-use Rattle.std.proofs.lemmas.Bool.{true≢false}
 use Rattle.std.specs.Prelude.{Option, Some, None, Result, Ok, Err, IfErr, IfOk, IfSome, IsErrAnd, IsSome, OnOk, option_map}
 use Rattle.tink_io.specs.declared.error.TinkError.{TinkError}
 use Rattle.tink_cli_files.specs.Streams.{IsShownWhole}
@@ -10,6 +9,7 @@ use Rattle.tink_system.specs.declared.trouble.Trouble.{Trouble}
 use Rattle.tink_system.specs.States.{SystemState, content, known_content}
 use Rattle.tink_cli_jobs.specs.Outputs.{IsPut}
 use Rattle.tink_cli_jobs.specs.Protecting.{AreSparedBy}
+use Rattle.tink_cli_jobs.proofs.OutputLemmas.{some_of}
 use Rattle.tink_cli_jobs.proofs.ProtectingLemmas.{spared_by_words}
 use Rattle.tink_cli_words.specs.LineRead.{LineRead}
 use Rattle.tink_cli_jobs.specs.Jobs.{IsJob}
@@ -48,10 +48,6 @@ slice_shown got keyset aad start len all place e replaces before_shown shown fil
 slice_shown got keyset aad start len all place e replaces before_shown shown file (Ok n) P (Err t) same_all same_old same_new ok refused settled = tt
 slice_shown got keyset aad start len all place e replaces before_shown shown file (Err error) P (Ok done) same_all same_old same_new ok refused settled = absurd refused
 slice_shown got keyset aad start len all place e replaces before_shown shown file (Err error) P (Err t) same_all same_old same_new ok refused settled = tt
-
-some_of : (o : Option (List ℕ)) → IsSome o → (v : List ℕ) × (o ≡ Some v)
-some_of (Some v) is = (v, refl)
-some_of None is = absurd (true≢false (sym is))
 
 -- of an object that is open
 pub ranged : (keyset : List ℕ) (job : Job) (start len : ℕ) (old middle new : SystemState) (name : List ℕ) (bytes got got_after : Option (List ℕ)) (result : Result (Unit {0}) Trouble)

@@ -32,16 +32,18 @@ pub made_by_words : (action : Action) (line : LineRead) (task : Task) (job : Job
     → own_task action ≡ Some task → IsJob line job → middle ≡ old → (old.is_known ≡ true → keyset_of old job.keys ≡ Ok keyset) → (old.is_known ≡ true → AreSparedBy old job)
     → OnOk result (middle.is_known ≡ true → IsPerformed task keyset job.aad.now job.keeps_output (option_map (λ n. n.now) job.input) (option_map (λ n. n.now) job.output) middle new got got_after)
     → OnOk result (old.is_known ≡ true → IsMade action line old new got got_after)
-made_by_words action line task job keyset old middle new got got_after (Ok done) is_of is same loaded spared made = λ known. record {
-  task = task;
-  is_of = is_of;
-  keyset = keyset;
-  keys = record { file = is.file; given = is.given; words = job.keys; are = is.keys; loaded = loaded known };
-  spared = spared_by_words line job old is (spared known);
-  done = rw (is.aad, is.keeps, is.input, is.output)
-      at subst (λ (s : SystemState). s.is_known ≡ true
-      → IsPerformed task keyset job.aad.now job.keeps_output (option_map (λ n. n.now) job.input) (option_map (λ n. n.now) job.output) s new got got_after) same made known;
-}
+made_by_words action line task job keyset old middle new got got_after (Ok done) is_of is same loaded spared made = λ known.
+    let performed : IsPerformed task keyset job.aad.now job.keeps_output (option_map (λ n. n.now) job.input) (option_map (λ n. n.now) job.output) old new got got_after =
+    subst (λ (s : SystemState). s.is_known ≡ true
+    → IsPerformed task keyset job.aad.now job.keeps_output (option_map (λ n. n.now) job.input) (option_map (λ n. n.now) job.output) s new got got_after) same made known in
+    record {
+      task = task;
+      is_of = is_of;
+      keyset = keyset;
+      keys = record { file = is.file; given = is.given; words = job.keys; are = is.keys; loaded = loaded known };
+      spared = spared_by_words line job old is (spared known);
+      done = rw (is.aad, is.keeps, is.input, is.output) at performed;
+    }
 made_by_words action line task job keyset old middle new got got_after (Err t) is_of is same loaded spared made = tt
 
 -- a move

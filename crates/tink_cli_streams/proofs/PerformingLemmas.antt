@@ -1,6 +1,6 @@
 -- What a task made, where it was put.
 use Rattle.std.proofs.Common.{◌≡◌, ℕ, List, [], Bool, true, false, refl, sym, ◌∙◌, subst, ap}
-use Rattle.std.specs.Prelude.{Option, Some, None, Result, Ok, Err, IfErr, IfOk, IfSome, IsErrAnd, OnOk}
+use Rattle.std.specs.Prelude.{Option, Some, None, Result, Ok, Err, IfErr, IfOk, IfSome, IsErrAnd, IsSome, OnOk}
 use Rattle.tink_io.specs.Outside.{Outside, Told}
 use Rattle.tink_io.specs.Places.{IsShown}
 use Rattle.tink_io.specs.declared.error.TinkError.{TinkError}
@@ -11,10 +11,10 @@ use Rattle.tink_cli_files.specs.Streams.{IsShownWhole}
 use Rattle.tink_cli_files.specs.Tasks.{IsDone}
 use Rattle.tink_cli_files.specs.declared.tasks.Task.{Task}
 use Rattle.tink_cli_files.specs.declared.tasks.Task.TheVariants.{Rewrap, Run, Sign, Verify}
-use Rattle.tink_system.specs.States.{KeepsSystem, SystemState, content, known_content}
+use Rattle.tink_system.specs.States.{KeepsSystem, SystemState, content, known_bytes, known_content}
 use Rattle.tink_system.specs.declared.trouble.Trouble.{Trouble}
 use Rattle.tink_cli_jobs.specs.Outputs.{IsPut, KeepsFiles}
-use Rattle.tink_cli_jobs.proofs.OutputLemmas.{put_earlier}
+use Rattle.tink_cli_jobs.proofs.OutputLemmas.{put_earlier, some_of}
 use Rattle.tink_cli_streams.specs.Performing.{IsPerformed, Makes, Spends, takes_random}
 use Rattle.tink_cli_streams.specs.Streams.{IsOpened}
 
@@ -84,6 +84,21 @@ content_earlier old middle None files system = ap (λ (bytes : List ℕ). Some b
 
 known_given : (s : SystemState) (input : Option (List ℕ)) (text : List ℕ) → s.is_known ≡ true → known_content s input ≡ Some text → content s input ≡ Some text
 known_given s input text known is = rw known at is
+
+-- of an input that was opened
+pub performed_on : (task : Task) (keyset aad drawn : List ℕ) (keeps : Bool) (input output : Option (List ℕ)) (old middle new : SystemState) (left got got_after : Option (List ℕ))
+    (result : Result (Unit {0}) Trouble) → middle ≡ old → left ≡ known_content old input → (old.is_known ≡ true → IsSome (content old input))
+    → OnOk result (middle.is_known ≡ true → (text : List ℕ) → left ≡ Some text
+    → IsPut (λ before after. Makes task keyset aad drawn text before after) keeps middle new output got got_after)
+    → OnOk result (old.is_known ≡ true → (text : List ℕ) × (known_content old input ≡ Some text)
+    × IsPut (λ before after. Makes task keyset aad drawn text before after) keeps old new output got got_after)
+performed_on task keyset aad drawn keeps input output old middle new left got got_after (Ok done) same given there made = λ known.
+    let found = some_of (content old input) (there known) in
+    let read : known_content old input ≡ Some found.0 = ap (λ (b : Bool). known_bytes b (content old input)) known ∙ found.1 in
+    let put = subst (λ (s : SystemState). s.is_known ≡ true → (text : List ℕ) → left ≡ Some text
+    → IsPut (λ before after. Makes task keyset aad drawn text before after) keeps s new output got got_after) same made known found.0 (given ∙ read) in
+    (found.0, read, put)
+performed_on task keyset aad drawn keeps input output old middle new left got got_after (Err t) same given there made = tt
 
 -- a task was done by random bytes that were taken before
 pub performed : (task : Task) (keyset aad drawn : List ℕ) (keeps : Bool) (input output : Option (List ℕ)) (old middle new : SystemState) (got got_after : Option (List ℕ))

@@ -1,6 +1,6 @@
 -- The state of a system over memory.
 use Rattle.std.specs.Prelude.{◌≡◌, ℕ, List, [], ◌∷◌, false, true, Option, None, bytes_eq, if◌then◌else◌, option_map}
-use Rattle.tink_system.specs.States.{KeepsSystem, SystemState}
+use Rattle.tink_system.specs.States.{SystemState}
 use Rattle.tink_system.specs.declared.mem_system.File.{File}
 use Rattle.tink_system.specs.declared.mem_system.Link.{Link}
 use Rattle.tink_system.specs.declared.mem_system.MemSystem.{MemSystem}

@@ -1,5 +1,5 @@
 -- The laws of a system over memory.
-use Rattle.std.proofs.Common.{◌≡◌, ℕ, List, true, ap, arith, bytes_eq}
+use Rattle.std.proofs.Common.{◌≡◌, ℕ, List, true, ap, arith}
 use Rattle.std.specs.Cmp.Lexicographic.{bytes_decides}
 use Rattle.tink_io.specs.Faults.{Rose}
 use Rattle.tink_system.specs.Memory.{file_at, state_of, target_of}
