@@ -8,6 +8,7 @@ use Rattle.tink_cli_words.specs.LineRead.{LineRead}
 use Rattle.tink_system.specs.States.{SystemState}
 use Rattle.tink_cli_jobs.specs.Outputs.{KeepsFiles}
 use Rattle.tink_cli_ranges.specs.Ranges.{IsRanged}
+use Rattle.tink_cli_streams.specs.Breaking.{IsUnmade}
 use Rattle.tink_cli_streams.specs.Streams.{IsChecked, IsMade, IsMoved}
 use Rattle.tink_cli_keys.specs.KeyFiles.{AreListed, IsConverted, IsEdited, IsGrown, IsNew}
 use Rattle.tink_cli_keys.specs.Wrapping.{IsUnwrapped, IsWrapped}
@@ -51,3 +52,36 @@ IsDoneLine (Err wrong) old new got got_after = ⊥
 abbrev pub IsWrong : Result Given Wrong → Type 0
 IsWrong (Ok given) = ⊥
 IsWrong (Err wrong) = Unit {0}
+
+-- What is on standard output after an error of a command, by its status. Of the commands that are not named here nothing is said.
+abbrev pub LeavesOutput : Action → LineRead → SystemState → Option (List ℕ) → Option (List ℕ) → ℕ → Type 0
+LeavesOutput actions.Add line old got got_after status = got_after ≡ got
+LeavesOutput actions.Rotate line old got got_after status = got_after ≡ got
+LeavesOutput actions.Promote line old got got_after status = got_after ≡ got
+LeavesOutput actions.Enable line old got got_after status = got_after ≡ got
+LeavesOutput actions.Disable line old got got_after status = got_after ≡ got
+LeavesOutput actions.Destroy line old got got_after status = got_after ≡ got
+LeavesOutput actions.Delete line old got got_after status = got_after ≡ got
+LeavesOutput actions.Check line old got got_after status = got_after ≡ got
+LeavesOutput actions.Encrypt line old got got_after status = IsUnmade actions.Encrypt line old got got_after status
+LeavesOutput actions.Decrypt line old got got_after status = IsUnmade actions.Decrypt line old got got_after status
+LeavesOutput actions.Sign line old got got_after status = IsUnmade actions.Sign line old got got_after status
+LeavesOutput actions.Verify line old got got_after status = IsUnmade actions.Verify line old got got_after status
+LeavesOutput _ line old got got_after status = Unit {0}
+
+abbrev pub LeavesOutputUnless : Bool → Given → SystemState → Option (List ℕ) → Option (List ℕ) → ℕ → Type 0
+LeavesOutputUnless true given old got got_after status = Unit {0}
+LeavesOutputUnless false given old got got_after status = LeavesOutput given.action given.line old got got_after status
+
+abbrev pub LeavesOutputBy : Given → SystemState → Option (List ℕ) → Option (List ℕ) → ℕ → Type 0
+LeavesOutputBy given old got got_after status = LeavesOutputUnless given.line.help given old got got_after status
+
+-- The same of a line. An error has a status of its own, in place of which 1 comes if it is 0.
+pub record LeavesAt (given : Given) (old : SystemState) (got got_after : Option (List ℕ)) (result : ℕ) : Type 0 where
+  pub status : ℕ
+  pub is : (status ≡ 0 → ⊥) → result ≡ status
+  pub leaves : LeavesOutputBy given old got got_after status
+
+abbrev pub LeavesLine : Result Given Wrong → SystemState → Option (List ℕ) → Option (List ℕ) → ℕ → Type 0
+LeavesLine (Ok given) old got got_after result = LeavesAt given old got got_after result
+LeavesLine (Err wrong) old got got_after result = got_after ≡ got
