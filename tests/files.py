@@ -38,7 +38,7 @@ wanted = sys.argv[4:]
 for case in ALONE if wanted else SHARED + ALONE:
     if wanted and case.__name__ not in wanted:
         continue
-    before = files_lib.count()
+    before, said = files_lib.count(), None
     try:
         said = case()
     except Exception:

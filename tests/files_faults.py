@@ -61,7 +61,7 @@ def faulty(words, inject):
     """A run in which calls of the system fail."""
     return subprocess.run(
         ["strace", "-qq", "-f", "-o", "/dev/null", "-e", f"trace={inject.split(':')[0]}", "-e", f"inject={inject}", PROGRAM, *words],
-        capture_output=True, stdin=subprocess.DEVNULL, timeout=60,
+        capture_output=True, stdin=subprocess.DEVNULL, timeout=300,
     )
 
 
@@ -90,7 +90,7 @@ def no_links():
 def calls_of(words):
     """How often a run makes each call, and how many of them are the loader's."""
     with tempfile.NamedTemporaryFile(dir=FOLDER, mode="r") as log:
-        subprocess.run(["strace", "-qq", "-f", "-o", log.name, PROGRAM, *words], capture_output=True, stdin=subprocess.DEVNULL, timeout=60)
+        subprocess.run(["strace", "-qq", "-f", "-o", log.name, PROGRAM, *words], capture_output=True, stdin=subprocess.DEVNULL, timeout=300)
         names = re.findall(r"^(?:\d+ +)?(\w+)\(", log.read(), re.M)
     end = names.index("munmap") + 1 if "munmap" in names else 1
     front = {name: names[:end].count(name) for name in ERRORS}
