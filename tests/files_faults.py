@@ -124,7 +124,8 @@ def one_fault(words, output, is_whole, before, call, number, error, counts):
     done = faulty(words, f"{call}:error={error}:when={number}")
     what = f"{words[0]}{' --no-clobber' if '--no-clobber' in words else ''}: {call} {number} fails by {error}"
     after = {name: data for name, data in all_of().items() if name not in drafts()}
-    text = done.stderr.decode(errors="replace")
+    # A program that `rt try` made has lines of its own checks.
+    text = re.sub(r"(?m)^==\d+==.*\n", "", done.stderr.decode(errors="replace"))
     counts[done.returncode] = counts.get(done.returncode, 0) + 1
     check(done.returncode in (0, 10, 11, 12, 35), f"{what}: {done}")
     others = {name: data for name, data in after.items() if name != output}

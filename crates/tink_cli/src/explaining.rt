@@ -16,8 +16,8 @@ use tink_system::{System, Trouble};
 const MARK: &[u8] = b"\xef\xbb\xbf";
 
 /// The same error, by what is wrong with its file if that is known: the rule that its keyset breaks, or that it is wrapped,
-/// or that a byte-order mark is in front of it. The status stays. The file is read once more for it, and if that fails the error stays as it
-/// is.
+/// or that a byte-order mark is in front of it. The status stays. The file is read once more. If that fails, the error stays
+/// as it is.
 pub fn explained<'w, Y: System>(
     alloc: Global,
     system: &mut Y,
@@ -60,9 +60,7 @@ fn fault_of<Y: System>(alloc: Global, system: &mut Y, name: &[u8]) -> Option<&'s
 // What is wrong with the bytes of a file of keys.
 fn fault_in(alloc: Global, file: Vec<u8>) -> Option<&'static str> {
     if file.as_slice().starts_with(MARK) {
-        return Some(
-            "a byte-order mark is in front of it: save it as UTF-8 without one",
-        );
+        return Some("bad keyset: a byte-order mark is in front of it: save it without one");
     }
     if is_wrapped(alloc, &file) {
         return Some(
@@ -93,7 +91,7 @@ fn is_wrapped(alloc: Global, file: &[u8]) -> bool {
 // The first rule of a valid keyset that is broken.
 fn broken_rule(primary: u32, keys: &[Key]) -> Option<&'static str> {
     if keys.is_empty() {
-        return Some("its keyset has no key");
+        return Some("invalid keyset: it has no key");
     }
     'keys: for key in keys {
         let broken = broken_rule_of_key(key);
@@ -105,10 +103,10 @@ fn broken_rule(primary: u32, keys: &[Key]) -> Option<&'static str> {
         keys.iter().any(|key| is_enabled(key)),
         keys.iter().filter(|key| is_enabled(key) && key.key_id == primary).count(),
     ) {
-        (false, _) => Some("none of its keys is enabled"),
-        (true, 0) => Some("none of its enabled keys is the primary key"),
+        (false, _) => Some("invalid keyset: none of its keys is enabled: `tink keys` shows them"),
+        (true, 0) => Some("invalid keyset: none of its enabled keys is the primary key: `tink keys` shows them"),
         (true, 1) => None,
-        (true, _) => Some("two of its enabled keys have the id of the primary key"),
+        (true, _) => Some("invalid keyset: two of its enabled keys have the id of the primary key: `tink keys` shows them"),
     }
 }
 
@@ -119,16 +117,16 @@ fn is_enabled(key: &Key) -> bool {
 // The first rule of a key that is broken.
 fn broken_rule_of_key(key: &Key) -> Option<&'static str> {
     if key.key_data.is_none() && key.status != KeyStatusType::Destroyed as i32 {
-        return Some("a key of it has no data, and is not destroyed");
+        return Some("invalid keyset: a key has no data, and is not destroyed");
     }
     if key.key_id == 0 {
-        return Some("a key of it has the id 0, which no key may have");
+        return Some("invalid keyset: a key has the id 0, which none may have");
     }
     if key.output_prefix_type < 1 || key.output_prefix_type > 4 {
-        return Some("a key of it has no output prefix type that is known");
+        return Some("invalid keyset: a key has no output prefix type that is known");
     }
     if key.status < 1 || key.status > 3 {
-        return Some("a key of it is not enabled, disabled or destroyed");
+        return Some("invalid keyset: a key is neither enabled nor disabled nor destroyed");
     }
     None
 }
