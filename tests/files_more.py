@@ -111,11 +111,12 @@ def standard_keys():
             (("encrypt", "-k", "wrapped.json", "--master", "-", "-o", "both"), read("master.json")),
             (("encrypt", "-k", "-", "--master", "-", "-o", "both", "text"), keys),
             (("sign", "-k", "-", "-o", "both"), macs),
-            (("wrap", "-k", "-", "-o", "both", "-"), keys),
-            (("unwrap", "-k", "-", "-o", "both", "-"), keys),
         ):
             done = run(*words, stdin=data)
             check(done.returncode in (2, 11) and b"standard input" in done.stderr and not os.path.exists("both"), f"{words}: {done}")
+        for action in ("wrap", "unwrap"):
+            done = run(action, "-k", "-", "-o", "both", "-", stdin=read("master.json"))
+            check(done.returncode != 0 and done.stderr.startswith(b"tink: ") and not os.path.exists("both"), f"{action}: {done}")
 
 
 def mastered():
@@ -259,7 +260,8 @@ def peak(words):
 def memory():
     """A file of keys is loaded in at most 16 times its size, or refused as too long."""
     with a_folder("memory"):
-        least = peak(("keys", "keys.json"))[1]
+        write("small", b"")
+        least = max(peak(("keys", "keys.json"))[1], peak(("encrypt", "-k", "keys.json", "-o", "made", "small"))[1])
         keyset = json.loads(read("keys.json"))
         for count in (1_000_000, 30_000_000):
             write("empty.bin", b"\x08\x01" + b"\x12\x00" * count)
@@ -271,6 +273,6 @@ def memory():
         for count in (1000, 20_000):
             many = [{**keyset["key"][0], "keyId": number + 1} for number in range(count)]
             write("many.json", json.dumps({"primaryKeyId": 1, "key": many}).encode())
-            for words in (("keys", "many.json"), ("encrypt", "-k", "many.json", "-o", "made", "text")):
+            for words in (("keys", "many.json"), ("encrypt", "-k", "many.json", "-o", "made", "small")):
                 status, most = peak(words)
                 check(status == 0 and most - least <= 16 * os.path.getsize("many.json"), f"{words} with {count} keys: status {status}, {most} bytes of {os.path.getsize('many.json')}")

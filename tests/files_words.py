@@ -56,7 +56,6 @@ WRONG = [
     ("encrypt -k a --outptu=b", "no option is called --outptu=b; did you mean --output?"),
     ("encrypt -k a --xyzzyx=b", "no option is called --xyzzyx=b"),
     ("encrypt -k a --outptu=a=b", "no option is called --outptu=a=b; did you mean --output?"),
-    ("keys --=a b", "no option is called --=a"),
     ("rotate a --any", "TEMPLATE is missing"),
     ("encrypt -k a -- -k b", "one word too many: b"),
     ("decrypt -k a --quiet=", "this option takes no value: --quiet="),
