@@ -1,4 +1,4 @@
-//! What is wrong with a file of keys that a command refused.
+//! The fault of a file of keys that a command refused.
 
 ghost use Rattle.std.specs.Prelude.{◌≡◌, ◌≤◌};
 ghost use Rattle.tink_system.specs.Statuses.{trouble_status};
@@ -15,14 +15,9 @@ use tink_system::{System, Trouble};
 // The first bytes of a text that an editor marked as UTF-8.
 const MARK: &[u8] = b"\xef\xbb\xbf";
 
-/// The same error, by what is wrong with its file if that is known: the rule that its keyset breaks, or that it is wrapped,
-/// or that a byte-order mark is in front of it. The status stays. The file is read once more. If that fails, the error stays
-/// as it is.
-pub fn explained<'w, Y: System>(
-    alloc: Global,
-    system: &mut Y,
-    trouble: Trouble<'w>,
-) -> Trouble<'w>
+/// The same error, with the fault of its file, if a second reading finds one. The faults are a rule that the keyset breaks, a
+/// wrapped file, and a byte-order mark. The status stays.
+pub fn explained<'w, Y: System>(alloc: Global, system: &mut Y, trouble: Trouble<'w>) -> Trouble<'w>
     ensures status { trouble_status result ≡ trouble_status trouble.entry }
     ensures state { Y.state system.new ≡ Y.state system.old }
     ensures later { Y.faults system.old ≤ Y.faults system.new }
@@ -40,7 +35,7 @@ pub fn explained<'w, Y: System>(
     }
 }
 
-// What is wrong with a file of keys. A pipe cannot be read once more.
+// The fault of a file of keys. A pipe cannot be read once more.
 fn fault_of<Y: System>(alloc: Global, system: &mut Y, name: &[u8]) -> Option<&'static str>
     ensures state { Y.state system.new ≡ Y.state system.old }
     ensures later { Y.faults system.old ≤ Y.faults system.new }
@@ -57,7 +52,7 @@ fn fault_of<Y: System>(alloc: Global, system: &mut Y, name: &[u8]) -> Option<&'s
     }
 }
 
-// What is wrong with the bytes of a file of keys.
+// The fault of the bytes of a file of keys.
 fn fault_in(alloc: Global, file: Vec<u8>) -> Option<&'static str> {
     if file.as_slice().starts_with(MARK) {
         return Some("bad keyset: a byte-order mark is in front of it: save it without one");
@@ -83,7 +78,8 @@ fn is_wrapped(alloc: Global, file: &[u8]) -> bool {
         Format::Json => EncryptedKeyset::from_json(alloc, file),
     };
     match read {
-        Ok(wrapped) => !wrapped.encrypted_keyset.as_slice().is_empty() && wrapped.keyset_info.is_some(),
+        Ok(wrapped) => !wrapped.encrypted_keyset.as_slice().is_empty()
+            && wrapped.keyset_info.is_some(),
         Err(_) => false,
     }
 }
@@ -101,12 +97,18 @@ fn broken_rule(primary: u32, keys: &[Key]) -> Option<&'static str> {
     }
     match (
         keys.iter().any(|key| is_enabled(key)),
-        keys.iter().filter(|key| is_enabled(key) && key.key_id == primary).count(),
+        keys.iter()
+            .filter(|key| is_enabled(key) && key.key_id == primary)
+            .count(),
     ) {
         (false, _) => Some("invalid keyset: none of its keys is enabled: `tink keys` shows them"),
-        (true, 0) => Some("invalid keyset: none of its enabled keys is the primary key: `tink keys` shows them"),
+        (true, 0) => Some(
+            "invalid keyset: none of its enabled keys is the primary key: `tink keys` shows them",
+        ),
         (true, 1) => None,
-        (true, _) => Some("invalid keyset: two of its enabled keys have the id of the primary key: `tink keys` shows them"),
+        (true, _) => Some(
+            "invalid keyset: two of its enabled keys have the id of the primary key: `tink keys` shows them",
+        ),
     }
 }
 

@@ -32,6 +32,8 @@ const EACCES: i32 = 13;
 
 const EEXIST: i32 = 17;
 
+const ELOOP: i32 = 40;
+
 /// A draft, whose lock is held. Only its owner may read it until it is shown. No clause knows its bytes.
 #[derive(Drop)]
 pub struct Draft {
@@ -153,7 +155,10 @@ fn target_of<'w>(rt: &HostRuntime, name: &'w [u8]) -> Result<String, Trouble<'w>
             Ok(_) => {}
             Err(e) => match code_of(e) {
                 ENOENT => {}
-                _ => return Err(unwritten(name, "the system does not follow this link")),
+                EACCES | ELOOP => {
+                    return Err(unwritten(name, "the system does not follow this link"));
+                }
+                code => return Err(unwritable(name, code)),
             },
         }
     }
