@@ -1,0 +1,8 @@
+use Rattle.tink_cli_files.specs.Saved.{rotated_file}
+use Rattle.tink_c_keysets.proofs.Given.{by_two}
+use Rattle.tink_c_keysets.proofs.making.rotate.Goals as goal
+
+pub returns : goal.returns
+returns c =
+    by_two (λ file draws. rotated_file file c.args.template.now c.args.to_any draws) c.in_ok-file.file.items c.args.file.now c.in_ok-draws.draws c.args.random.now
+    c.rotated_file.result c.in_ok-file.ensures.ok c.in_ok-draws.ensures.ok c.rotated_file.ensures.answer

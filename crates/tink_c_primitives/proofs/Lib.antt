@@ -1,0 +1,3 @@
+pub mod FileLoaded
+pub mod Building
+pub mod TokenSteps
