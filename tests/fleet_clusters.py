@@ -229,10 +229,10 @@ class Clusters(Targets, ClusterYard):
 
     def test_workers_are_killed_in_parts(self):
         needs("info")
-        write(self.at("plain/large"), self.random.randbytes(24 << 20))
+        write(self.at("plain/large"), self.random.randbytes(6 << 20))
         self.encrypt_all({"large": b""})
         opened = self.manifest(
-            "open.toml", operation="decrypt", source="sealed", target="again", split_bytes=1, part_bytes=1 << 20
+            "open.toml", operation="decrypt", source="sealed", target="again", split_bytes=1, part_bytes=1 << 18
         )
         running = self.start("run", opened, *self.engine)
         self.assertTrue(wait_for(lambda: os.path.isdir(self.at("again")) and files_below(self.at("again"))))
