@@ -8,7 +8,27 @@ import sys
 import tempfile
 import unittest
 
-from fleet_lib import TINK, Killer, Yard, has_listed, lines_of, needs, processes, read, sha256, tink, wait_for, write
+from fleet_lib import (
+    SECONDS,
+    TINK,
+    Killer,
+    Targets,
+    Watcher,
+    Yard,
+    files_below,
+    has_listed,
+    lines_of,
+    memory_of,
+    needs,
+    processes,
+    read,
+    secrets_of,
+    sha256,
+    tink,
+    wait_for,
+    write,
+)
+from tink_fleet.program import Keys, list_keys
 
 WORKERS = 3
 
@@ -65,7 +85,7 @@ class Cluster:
         return self.kept
 
     def wait(self, count: int) -> None:
-        if not wait_for(lambda: self.count() == count, 90):
+        if not wait_for(lambda: self.count() == count):
             raise AssertionError(f"{self.count()} workers in place of {count}: {read(self.log.name).decode()[-3000:]}")
 
     def processes(self) -> list[int]:
@@ -100,7 +120,7 @@ class ClusterYard(Yard):
         cls.engine = ("--scheduler", cls.cluster.address)
 
 
-class Clusters(ClusterYard):
+class Clusters(Targets, ClusterYard):
     def with_kills(self, manifest: str, kills: int = 2) -> None:
         running, record = (
             self.start("run", manifest, *self.engine),
@@ -108,7 +128,7 @@ class Clusters(ClusterYard):
         )
         self.assertTrue(wait_for(lambda: lines_of(record) > 0 or running.poll() is not None))
         with Killer(lambda: [] if has_listed(record) else self.cluster.processes(), kills, 0.2, self.id()) as killer:
-            out, err = running.communicate(timeout=120)
+            out, err = running.communicate(timeout=SECONDS)
         self.assertEqual(running.returncode, 0, out + err)
         self.assertGreater(killer.killed, 0, "no worker was killed")
         self.cluster.wait(WORKERS)
@@ -159,7 +179,7 @@ class Clusters(ClusterYard):
         running = self.start("run", sealed, *self.engine)
         self.assertTrue(wait_for(lambda: lines_of(self.at("seal.fleet/record.jsonl")) > 0))
         self.run_all(sealed, status=3, says="another driver is at work")
-        running.communicate(timeout=120)
+        running.communicate(timeout=SECONDS)
         self.assertEqual(running.returncode, 0)
 
     def test_a_full_disk_on_one_worker(self):
@@ -207,24 +227,77 @@ class Clusters(ClusterYard):
         self.run_all(opened, says="1 done, 0 failed")
         self.assertEqual(read(self.at("again/large")), read(self.at("plain/large")))
 
-    def test_wrapped_keys_reach_no_log(self):
+    def test_workers_are_killed_in_parts(self):
+        needs("info")
+        write(self.at("plain/large"), self.random.randbytes(6 << 20))
+        self.encrypt_all({"large": b""})
+        opened = self.manifest(
+            "open.toml", operation="decrypt", source="sealed", target="again", split_bytes=1, part_bytes=1 << 18
+        )
+        running = self.start("run", opened, *self.engine)
+        self.assertTrue(wait_for(lambda: os.path.isdir(self.at("again")) and files_below(self.at("again"))))
+        with Killer(self.cluster.processes, 2, 0.3, self.id()) as killer:
+            out, err = running.communicate(timeout=SECONDS)
+        self.assertEqual((running.returncode, killer.killed > 0), (0, True), out + err)
+        self.cluster.wait(WORKERS)
+        self.assertEqual(read(self.at("again/large")), read(self.at("plain/large")))
+        self.expect_no_drafts(self.at("again"))
+
+    def test_a_rotation_of_a_thousand_files_with_workers_killed_in_the_middle(self):
+        """Also the driver is killed, and started again."""
+        needs("add", "check", "info")
+        texts = {f"{number // 100}/{number}": self.random.randbytes(3000 + number) for number in range(1000)}
+        for name, text in texts.items():
+            write(self.at("plain", name), text)
+        sealed = self.manifest("seal.toml", operation="encrypt", source="plain", target="sealed")
+        self.run_all(sealed, says="1000 done, 0 failed")
+        old = list_keys(TINK, Keys(self.at("keys"))).primary
+        moved = self.manifest("move.toml", operation="rewrap", source="sealed", batch_files=8)
+        words = ("rotate", moved, "--template", self.template, *self.engine)
+        for step, lines, kills in (("rewrap", 100, 0), ("rewrap", 300, 2), ("check", 300, 2)):
+            running = self.start(*words)
+            self.assertTrue(wait_for(lambda: self.lines_of_step(step) >= lines or running.poll() is not None))
+            self.assertIsNone(running.poll(), "the rotation ended before a kill")
+            with Killer(self.cluster.processes, kills, 0.1, self.id()) as killer:
+                wait_for(lambda: killer.killed == kills)
+            self.assertEqual(killer.killed, kills, "no worker was killed")
+            if step == "rewrap":
+                running.send_signal(signal.SIGKILL)
+            out, err = running.communicate(timeout=SECONDS)
+        self.assertEqual(running.returncode, 0, out + err)
+        self.assertIn(f"key {old} is disabled", out)
+        self.cluster.wait(WORKERS)
+        listed = list_keys(TINK, Keys(self.at("keys")))
+        self.assertEqual((listed.statuses[old], listed.enabled), ("disabled", [listed.primary]))
+        for name, text in texts.items():
+            self.assertTrue(self.opens_to(self.at("sealed", f"{name}.tink"), text, name), name)
+        self.assertEqual(len(files_below(self.at("sealed"))), 1000)
+
+    def lines_of_step(self, step: str) -> int:
+        found = [it for it in files_below(self.at("move.fleet")) if it.endswith(f"{step}/record.jsonl")]
+        return sum(lines_of(self.at("move.fleet", it)) for it in found)
+
+    def test_keys_reach_no_log_no_command_line_and_no_memory_of_the_cluster(self):
         needs("--master")
         tink("new", "AES256_GCM", "-o", self.at("master"))
         tink("wrap", "-k", self.at("master"), "-o", self.at("wrapped"), self.at("keys"))
-        texts = self.make_texts(8, 3000)
+        texts = self.make_texts(20, 3000)
         sealed = self.manifest(
             "seal.toml", operation="encrypt", source="plain", target="sealed", keys="wrapped", master="master"
         )
-        self.run_all(sealed)
+        with Watcher(self.at("seal.fleet")) as watcher:
+            self.run_all(sealed)
         self.expect_streams(sealed, texts, "sealed")
-        log = read(self.cluster.log.name)
-        for file in ("keys", "master"):
-            for secret in [
-                it
-                for it in json.dumps(json.loads(read(self.at(file)))).split('"')
-                if len(it) > 20 and "google" not in it
-            ]:
-                self.assertNotIn(secret.encode(), log)
+        self.assertTrue(any(b"--master" in it for it in watcher.seen), "no program was seen")
+        secrets = [it for file in ("keys", "master") for it in secrets_of(self.at(file))]
+        for place in (read(self.cluster.log.name), *watcher.seen):
+            self.assertFalse(any(secret in place for secret in secrets))
+        cluster = [it.pid for it in self.cluster.running] + self.cluster.processes()
+        self.assertGreater(len(cluster), 2 * WORKERS)
+        for pid in cluster:
+            blocks = list(memory_of(pid))
+            self.assertGreater(sum(map(len, blocks)), 1 << 20, "the memory was not read")
+            self.assertFalse(any(secret in it for it in blocks for secret in secrets), f"a key is in process {pid}")
 
     def test_a_worker_without_the_keys_is_named(self):
         write(self.at("plain/x"), b"")

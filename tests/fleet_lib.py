@@ -1,4 +1,5 @@
 """What the tests of fleet share: a folder with keys and files, runs of fleet, kills, and what has to hold afterwards."""
+import base64
 import hashlib
 import json
 import os
@@ -18,7 +19,8 @@ from tink_fleet import program
 ROOT = os.path.dirname(os.path.dirname(os.path.abspath(__file__)))
 FLEET = os.path.join(ROOT, "fleet", "fleet")
 TINK = os.environ["TINK"]
-SECONDS = 120
+# Ends a run that hangs. It is far above what a run takes, also beside other work.
+SECONDS = 900
 
 
 def needs(*names: str) -> None:
@@ -230,7 +232,78 @@ class Killer:
         self.thread.join()
 
 
-def wait_for(holds, seconds: float = 60.0) -> bool:
+class Watcher:
+    """Gathers, until it is ended, the command line of each process and each file below a folder."""
+
+    def __init__(self, folder: str):
+        self.folder = folder
+        self.seen: set[bytes] = set()
+        self.is_ended = threading.Event()
+        self.thread = threading.Thread(target=self.work, daemon=True)
+
+    def work(self) -> None:
+        while not self.is_ended.wait(0.05):
+            names = [f"/proc/{it}/cmdline" for it in filter(str.isdigit, os.listdir("/proc"))]
+            names += [os.path.join(at, name) for at, _, found in os.walk(self.folder) for name in found]
+            for name in names:
+                try:
+                    self.seen.add(read(name))
+                except (FileNotFoundError, ProcessLookupError):
+                    pass
+
+    def __enter__(self) -> "Watcher":
+        self.thread.start()
+        return self
+
+    def __exit__(self, *_: object) -> None:
+        self.is_ended.set()
+        self.thread.join()
+
+
+def secrets_of(path: str) -> list[bytes]:
+    """The material of the keys of a file in JSON: each as the file spells it, and its last 16 bytes, which are a key's."""
+    texts = [it["keyData"]["value"] for it in json.loads(read(path))["key"]]
+    return [it.encode() for it in texts] + [base64.b64decode(it)[-16:] for it in texts]
+
+
+def memory_of(pid: int):
+    """The memory of a process, one mapping that can be read after the other."""
+    with open(f"/proc/{pid}/maps") as maps, open(f"/proc/{pid}/mem", "rb", 0) as memory:
+        for line in maps:
+            begin, end = (int(it, 16) for it in line.split()[0].split("-"))
+            if line.split()[1].startswith("rw"):
+                try:
+                    memory.seek(begin)
+                    yield memory.read(end - begin)
+                except (OSError, ValueError, OverflowError):
+                    pass
+
+
+class Targets:
+    """What holds of targets under each engine."""
+
+    def test_a_target_that_exists(self):
+        texts = self.make_texts(6, 3000)
+        self.encrypt_all({name: texts[name] for name in ("0.txt", "3.txt")})
+        right = read(self.at("sealed", "0.txt.tink"))
+        write(self.at("plain", "3.txt"), b"not what was encrypted")
+        texts["3.txt"] = b"not what was encrypted"
+        wrong = read(self.at("sealed", "3.txt.tink"))
+        write(self.at("sealed", "part 1/é1.txt.tink"), b"no stream")
+        sealed = self.manifest("seal.toml", operation="encrypt", source="plain", target="sealed")
+        said = self.run_all(sealed, status=1, says="4 done, 2 failed")
+        self.assertIn("3.txt.tink: it is there already", said)
+        self.expect_streams(
+            sealed, texts, "sealed", old={"3.txt": wrong, "part 1/é1.txt": b"no stream"}, all_done=False
+        )
+        self.assertEqual(read(self.at("sealed", "0.txt.tink")), right, "a target that has the text stays")
+        self.assertTrue(self.record(sealed)["0.txt"]["adopted"])
+        sealed = self.manifest("seal.toml", operation="encrypt", source="plain", target="sealed", replace=True)
+        self.run_all(sealed, says="2 done, 0 failed, 4 were done before")
+        self.expect_streams(sealed, texts, "sealed")
+
+
+def wait_for(holds, seconds: float = SECONDS) -> bool:
     end = time.monotonic() + seconds
     while time.monotonic() < end:
         if holds():

@@ -1,4 +1,5 @@
 """A whole rotation, its plan, its surprises."""
+import hashlib
 import json
 import os
 import shutil
@@ -55,7 +56,12 @@ class Rotations(Yard):
         self.moved = self.manifest(
             "move.toml", operation="rewrap", source="sealed", keys="wrapped", master="master", master_aad="here"
         )
-        self.rotate(says="step 6, disable")
+        state = hashlib.sha256(self.at("move.fleet").encode()).hexdigest()[:16]
+        left = f"/dev/shm/tink-fleet-keys-{state}-left"
+        write(os.path.join(left, "keys"), b"keys in clear of a rotation that was killed")
+        said = self.rotate(says="step 6, disable")
+        self.assertIn(f"`tink unwrap`, `tink enable .. {self.old}` and `tink wrap` takes that back", said)
+        self.assertFalse(os.path.exists(left), "keys in clear are left in memory")
         self.assertEqual([it for it in os.listdir(self.folder) if "fleet-" in it], [])
         tink("unwrap", "-k", self.at("master"), "--aad", "here", "-o", self.at("keys"), self.at("wrapped"))
         self.expect_rotated()

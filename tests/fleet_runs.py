@@ -6,14 +6,18 @@ import signal
 import subprocess
 
 from fleet_lib import (
+    SECONDS,
     TINK,
     Killer,
+    Targets,
+    Watcher,
     Yard,
     has_listed,
     lines_of,
     local_workers,
     needs,
     read,
+    secrets_of,
     sha256,
     tink,
     wait_for,
@@ -31,7 +35,7 @@ class ParallelYard(Yard):
         return local_workers(os.path.splitext(manifest)[0] + ".fleet")
 
 
-class Operations(ParallelYard):
+class Operations(Targets, ParallelYard):
     def test_each_operation_over_names_of_all_kinds(self):
         texts = self.make_texts(12, 9000)
         texts["empty"] = b""
@@ -103,26 +107,6 @@ class Operations(ParallelYard):
             self.assertEqual((entry["sha256"], entry["target"]), (sha256(before[name.removesuffix(".tink")]), "same"))
         self.assertEqual(before, {name: read(self.at("sealed", f"{name}.tink")) for name in texts})
 
-    def test_a_target_that_exists(self):
-        texts = self.make_texts(6, 3000)
-        self.encrypt_all({name: texts[name] for name in ("0.txt", "3.txt")})
-        right = read(self.at("sealed", "0.txt.tink"))
-        write(self.at("plain", "3.txt"), b"not what was encrypted")
-        texts["3.txt"] = b"not what was encrypted"
-        wrong = read(self.at("sealed", "3.txt.tink"))
-        write(self.at("sealed", "part 1/é1.txt.tink"), b"no stream")
-        sealed = self.manifest("seal.toml", operation="encrypt", source="plain", target="sealed")
-        said = self.run_all(sealed, status=1, says="4 done, 2 failed")
-        self.assertIn("3.txt.tink: it is there already", said)
-        self.expect_streams(
-            sealed, texts, "sealed", old={"3.txt": wrong, "part 1/é1.txt": b"no stream"}, all_done=False
-        )
-        self.assertEqual(read(self.at("sealed", "0.txt.tink")), right, "a target that has the text stays")
-        self.assertTrue(self.record(sealed)["0.txt"]["adopted"])
-        sealed = self.manifest("seal.toml", operation="encrypt", source="plain", target="sealed", replace=True)
-        self.run_all(sealed, says="2 done, 0 failed, 4 were done before")
-        self.expect_streams(sealed, texts, "sealed")
-
     def test_one_damaged_file_among_a_thousand_alone_fails_and_is_named(self):
         texts = {f"{number // 100}/{number}": self.random.randbytes(4096) for number in range(1000)}
         for name, text in texts.items():
@@ -165,40 +149,17 @@ class Operations(ParallelYard):
 
 
 class Keys(ParallelYard):
-    def secrets(self) -> list[bytes]:
-        """The material of the keys, as the file of keys spells it."""
-        return [
-            it.encode()
-            for it in json.dumps(json.loads(read(self.at("keys")))).split('"')
-            if len(it) > 20 and "/" not in it[:4] and "google" not in it
-        ]
-
     def test_keys_on_standard_input_are_nowhere_else(self):
         texts = self.make_texts(20, 3000)
         sealed = self.manifest("seal.toml", operation="encrypt", source="plain", target="sealed", keys=None)
         os.makedirs(self.at("seal.fleet"))
-        with open(self.at("keys"), "rb") as keys:
-            running = self.start("run", sealed, "--workers", "2", "-k", "-", stdin=keys)
-            seen = []
-            while running.poll() is None:
-                for name in filter(str.isdigit, os.listdir("/proc")):
-                    try:
-                        seen.append(read(f"/proc/{name}/cmdline"))
-                    except (FileNotFoundError, ProcessLookupError):
-                        pass
-                for at, _, names in os.walk(self.at("seal.fleet")):
-                    for name in names:
-                        try:
-                            seen.append(read(os.path.join(at, name)))
-                        except FileNotFoundError:
-                            pass
-            out, err = running.communicate()
-        self.assertEqual(running.returncode, 0, out + err)
+        with open(self.at("keys"), "rb") as keys, Watcher(self.at("seal.fleet")) as watcher:
+            said = self.fleet("run", sealed, "--workers", "2", "-k", "-", stdin=keys)
         self.expect_streams(sealed, texts, "sealed")
-        self.assertTrue(self.secrets())
-        for secret in self.secrets():
-            self.assertFalse(any(secret in it for it in seen))
-            self.assertNotIn(secret.decode(), out + err)
+        self.assertTrue(any(b"worker" in it for it in watcher.seen), "no worker was seen")
+        for secret in secrets_of(self.at("keys")):
+            self.assertFalse(any(secret in it for it in watcher.seen))
+            self.assertNotIn(secret, said.encode())
 
     def test_keys_on_standard_input_do_not_go_to_a_cluster(self):
         sealed = self.manifest("seal.toml", operation="encrypt", source="plain", target="sealed", keys=None)
@@ -277,7 +238,7 @@ class Deaths(ParallelYard):
         with Killer(
             lambda: [] if kills > 2 and has_listed(record) else self.workers(manifest), kills, 0.4, self.id()
         ) as killer:
-            out, err = running.communicate(timeout=120)
+            out, err = running.communicate(timeout=SECONDS)
         self.assertEqual(running.returncode, 0, out + err)
         self.assertGreater(killer.killed, 0, "no worker was killed")
 
@@ -387,3 +348,59 @@ class FullDisks(ParallelYard):
         subprocess.run(["mount", "-o", "remount,size=8m", self.at("sealed")], check=True)
         self.run_all(sealed, says=f"{states.count('failed')} done, 0 failed")
         self.expect_streams(sealed, texts, "sealed")
+
+
+SHELF = b"""
+from fsspec.implementations.local import LocalFileSystem
+
+
+class Shelf(LocalFileSystem):
+    protocol = "shelf"
+
+    @classmethod
+    def _strip_protocol(cls, path):
+        return super()._strip_protocol(str(path).removeprefix("shelf://"))
+"""
+
+
+class ObjectRuns(ParallelYard):
+    """Whole runs over a file system of fsspec, which all processes reach by a plug-in."""
+
+    def setUp(self) -> None:
+        super().setUp()
+        try:
+            import fsspec  # noqa: F401
+        except ImportError:
+            self.skipTest("fsspec is not installed")
+        write(self.at("plugin/shelf.py"), SHELF)
+        write(self.at("plugin/shelf-1.dist-info/entry_points.txt"), b"[fsspec.specs]\nshelf = shelf:Shelf\n")
+        write(self.at("plugin/shelf-1.dist-info/METADATA"), b"Metadata-Version: 2.1\nName: shelf\nVersion: 1\n")
+        os.environ["PYTHONPATH"] = self.at("plugin")
+        self.addCleanup(os.environ.pop, "PYTHONPATH")
+
+    def url(self, name: str) -> str:
+        return f"shelf://{self.at(name)}"
+
+    def test_each_operation_over_objects(self):
+        texts = self.make_texts(30, 9000)
+        sealed = self.manifest("seal.toml", operation="encrypt", source=self.url("plain"), target=self.url("sealed"))
+        self.run_all(sealed, says="30 done, 0 failed")
+        self.expect_streams(sealed, texts, "sealed")
+        self.run_all(sealed, says="0 done, 0 failed, 30 were done before")
+        tink("new", self.template, "-o", self.at("new"))
+        moved = self.manifest("move.toml", operation="rewrap", source=self.url("sealed"), to_keys="new", batch_files=4)
+        with Killer(lambda: self.workers(moved), 2, 0.4, self.id()) as killer:
+            self.run_all(moved, says="30 done, 0 failed")
+        self.assertGreater(killer.killed, 0, "no worker was killed")
+        self.expect_streams(moved, texts, "sealed", keys="new")
+        stream = read(self.at("sealed/3.txt.tink"))
+        write(self.at("sealed/3.txt.tink"), stream[:-1] + bytes([stream[-1] ^ 1]))
+        words = {"source": self.url("sealed"), "keys": "new"}
+        checked = self.manifest("check.toml", operation="check", **words)
+        self.run_all(checked, status=1, says="29 done, 1 failed")
+        opened = self.manifest("open.toml", operation="decrypt", target=self.url("again"), **words)
+        said = self.run_all(opened, status=1, says="29 done, 1 failed")
+        self.assertIn(f"3.txt.tink: tink: {self.url('sealed')}/3.txt.tink: ", said)
+        self.assertFalse(os.path.exists(self.at("again/3.txt")))
+        del texts["3.txt"]
+        self.expect_texts(opened, texts, "again")

@@ -175,6 +175,6 @@ def rotate_keys(given: argparse.Namespace) -> int:
     rotation.run(lambda text: print(text, flush=True))
     old = rotation.progress.old
     print(
-        f"rotated in {time.monotonic() - began:.1f} s: {manifest.source} is under key {rotation.progress.new}; key {old} is disabled, and `tink enable {manifest.keys} {old}` takes that back"
+        f"rotated in {time.monotonic() - began:.1f} s: {manifest.source} is under key {rotation.progress.new}; key {old} is disabled, and {rotation.way_back()} takes that back"
     )
     return DONE

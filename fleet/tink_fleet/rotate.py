@@ -1,8 +1,10 @@
 """A whole rotation: a plan of steps that is printed, then run, and stops at the first surprise. No key is deleted."""
 import dataclasses
+import hashlib
 import json
 import os
 import shlex
+import shutil
 import subprocess
 import tempfile
 from collections.abc import Callable
@@ -19,8 +21,8 @@ from tink_fleet.tasks import Job
 
 STEPS = ("add", "distribute", "promote", "rewrap", "check", "disable")
 NEEDS = ["add", "check", "info"]
-# A file system in memory.
-MEMORY = "/dev/shm"
+# A file system in memory, and the folders there that have keys in clear while a wrapped file of keys is changed.
+MEMORY, FOLDER = "/dev/shm", "tink-fleet-keys-"
 
 
 @dataclass
@@ -88,8 +90,9 @@ class Rotation:
         """The steps in words, those that are done marked."""
         keys, files, new = self.manifest.keys, self.manifest.source, self.progress.new or "NEW"
         bring = f"run `{self.distribute_by} {keys}`, and see" if self.distribute_by else "see"
+        wrapped = f" (unwrapped into memory under {self.keys.master}, and wrapped again)" if self.keys.master else ""
         words = {
-            "add": f"tink add {keys} {self.template}: the key NEW, which encrypts nothing yet",
+            "add": f"tink add {keys} {self.template}{wrapped}: the key NEW, which encrypts nothing yet",
             "distribute": f"{bring} that all workers have the key {new}",
             "promote": f"tink promote {keys} {new}; {bring} that it is the primary key of all workers",
             "rewrap": f"move every file below {files} to the key {new}, each whole or not at all",
@@ -101,6 +104,12 @@ class Rotation:
             for number, name in enumerate(STEPS, 1)
         ]
 
+    def way_back(self) -> str:
+        """How a user enables the old key again. The program changes no wrapped file of keys."""
+        if self.keys.master is None:
+            return f"`tink enable {self.keys.path} {self.progress.old}`"
+        return f"`tink unwrap`, `tink enable .. {self.progress.old}` and `tink wrap`"
+
     def run(self, say: Callable[[str], None]) -> None:
         """Runs the steps that are not done.
 
@@ -110,6 +119,7 @@ class Rotation:
         lock = Lock(os.path.join(self.manifest.state, "rotation"))
         try:
             os.makedirs(self.manifest.state, mode=0o700, exist_ok=True)
+            self.sweep()
             self.write()
             for number, name in enumerate(STEPS, 1):
                 if name not in self.progress.done:
@@ -137,7 +147,7 @@ class Rotation:
             form = "json" if file.read(200).lstrip().startswith(b"{") else "binary"
         master = ["-k", self.keys.master, "--aad", self.keys.master_aad, "--format", form]
         new = f"{self.keys.path}.fleet-{os.urandom(8).hex()}"
-        with tempfile.TemporaryDirectory(dir=MEMORY) as folder:
+        with tempfile.TemporaryDirectory(dir=MEMORY, prefix=self.folder_prefix()) as folder:
             plain = os.path.join(folder, "keys")
             program.run(self.program, ["unwrap", *master, "-o", plain, self.keys.path], keys=[])
             program.run(self.program, [command, plain, *words], keys=[])
@@ -150,6 +160,16 @@ class Rotation:
         finally:
             if os.path.exists(new):
                 os.unlink(new)
+
+    def folder_prefix(self) -> str:
+        """What the names of this rotation's folders in memory begin with."""
+        return f"{FOLDER}{hashlib.sha256(os.fsencode(self.manifest.state)).hexdigest()[:16]}-"
+
+    def sweep(self) -> None:
+        """Removes the keys in clear that a killed rotation left in memory. The lock is held."""
+        for name in os.listdir(MEMORY):
+            if name.startswith(self.folder_prefix()):
+                shutil.rmtree(os.path.join(MEMORY, name))
 
     def add(self) -> None:
         if not self.added():
