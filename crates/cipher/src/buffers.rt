@@ -138,7 +138,10 @@ impl<'i, 'o, T> From<&'o mut [T]> for InOutBuf<'i, 'o, T> {
 }
 
 impl<'i, 'o, T> InOutBuf<'i, 'o, T> {
-    /// A slice that is read and one that is written, refused exactly where their lengths differ.
+    /// A slice that is read and one that is written.
+    ///
+    /// # Errors
+    /// `NotEqualError` exactly if their lengths differ.
     pub fn new(input: &'i [T], output: &'o mut [T]) -> Result<Self, NotEqualError>
         ensures ok { IsOk result ↔ (length input.now ≡ length output.entry.now) }
         ensures value { IfOk result (λ b. (read_all b ≡ input.now)
@@ -289,7 +292,10 @@ fn xor_slices(output: &mut [u8], input: &[u8], bytes: &[u8])
 }
 
 impl<'i, 'o, T> InOutBufReserved<'i, 'o, T> {
-    /// A message that is the first `len` places of a buffer, refused exactly where the buffer is shorter.
+    /// A message that is the first `len` places of a buffer.
+    ///
+    /// # Errors
+    /// `OutIsTooSmallError` exactly if the buffer has fewer places.
     pub fn from_mut_slice(output: &'o mut [T], len: usize) -> Result<Self, OutIsTooSmallError>
         ensures ok { IsOk result ↔ (len ≤ length output.entry.now) }
         ensures value { IfOk result (λ b. (message_of b ≡ take len output.entry.now) × (b.len ≡ len)
@@ -305,7 +311,10 @@ impl<'i, 'o, T> InOutBufReserved<'i, 'o, T> {
         })
     }
 
-    /// A message and an output, refused exactly where the output is shorter.
+    /// A message and an output.
+    ///
+    /// # Errors
+    /// `OutIsTooSmallError` exactly if the output has fewer places than the message.
     pub fn from_slices(input: &'i [T], output: &'o mut [T]) -> Result<Self, OutIsTooSmallError>
         ensures ok { IsOk result ↔ (length input.now ≤ length output.entry.now) }
         ensures value { IfOk result (λ b. (message_of b ≡ input.now) × (b.len ≡ length input.now)

@@ -16,7 +16,10 @@ pub trait StreamCipher {
     // whether so many bytes are left before the keystream repeats
     ghost has: { Self → ℕ → Type 0 };
 
-    /// Whether so many bytes are left. `StreamCipherError` exactly where they are not, as the type says by `has`.
+    /// Whether `data_len` bytes are left, as the type says by `has`.
+    ///
+    /// # Errors
+    /// `StreamCipherError` exactly if they are not.
     fn check_remaining(&self, data_len: usize) -> Result<(), StreamCipherError>
         ensures ok { IsOk result ↔ has self.now data_len };
 
@@ -56,8 +59,10 @@ pub trait StreamCipher {
         self.unchecked_apply_keystream_slices(buf, &[]);
     }
 
-    /// Writes an input xor the bytes to come, of which so many are left, into an output. `NotEqualError` exactly where
-    /// their lengths differ, and then nothing changes.
+    /// Writes an input xor the bytes to come, of which so many are left, into an output.
+    ///
+    /// # Errors
+    /// `NotEqualError` exactly if their lengths differ. Nothing changes then.
     final fn unchecked_apply_keystream_b2b(
         &mut self,
         input: &[u8],
@@ -77,8 +82,10 @@ pub trait StreamCipher {
         Ok(())
     }
 
-    /// Writes the bytes that are read xor the bytes to come. `StreamCipherError` exactly where fewer are left, and then
-    /// nothing changes.
+    /// Writes the bytes that are read xor the bytes to come.
+    ///
+    /// # Errors
+    /// `StreamCipherError` exactly if fewer bytes are left. Nothing changes then.
     final fn try_apply_keystream_inout(
         &mut self,
         buf: InOutBuf<'_, '_, u8>,
@@ -93,8 +100,10 @@ pub trait StreamCipher {
         try_apply(self, output, input)
     }
 
-    /// Writes bytes xor the bytes to come in their places. `StreamCipherError` exactly where fewer are left, and then
-    /// nothing changes.
+    /// Writes bytes xor the bytes to come in their places.
+    ///
+    /// # Errors
+    /// `StreamCipherError` exactly if fewer bytes are left. Nothing changes then.
     final fn try_apply_keystream(&mut self, buf: &mut [u8]) -> Result<(), StreamCipherError>
         ensures ok { IsOk result ↔ has self.old (length buf.old) }
         ensures value { OnOk result (buf.new ≡ xored (to_come (stream self.old)) buf.old) }
@@ -105,8 +114,10 @@ pub trait StreamCipher {
         try_apply(self, buf, &[])
     }
 
-    /// Writes an input xor the bytes to come into an output. `StreamCipherError` exactly where their lengths differ or
-    /// fewer bytes are left, and then nothing changes.
+    /// Writes an input xor the bytes to come into an output.
+    ///
+    /// # Errors
+    /// `StreamCipherError` exactly if their lengths differ or fewer bytes are left. Nothing changes then.
     final fn try_apply_keystream_b2b(
         &mut self,
         input: &[u8],
@@ -124,7 +135,10 @@ pub trait StreamCipher {
         try_apply(self, output, input)
     }
 
-    /// Writes the bytes to come. `StreamCipherError` exactly where fewer are left, and then nothing changes.
+    /// Writes the bytes to come.
+    ///
+    /// # Errors
+    /// `StreamCipherError` exactly if fewer bytes are left. Nothing changes then.
     final fn try_write_keystream(&mut self, buf: &mut [u8]) -> Result<(), StreamCipherError>
         ensures ok { IsOk result ↔ has self.old (length buf.old) }
         ensures value { OnOk result (buf.new ≡ next_bytes (length buf.old) (stream self.old)) }

@@ -15,15 +15,20 @@ pub trait StreamCipherSeek: StreamCipher {
     // whether so many bytes are left where this is the position
     ghost room_at: { ℕ → ℕ → Type 0 };
 
-    /// The position. `OverflowError` exactly where it is below 0 (a rest of the greatest block) or no value of the
-    /// type.
+    /// The position in bytes.
+    ///
+    /// # Errors
+    /// `OverflowError` exactly if it is below 0 (a rest of the greatest block) or is no value of the type.
     fn try_current_pos<N: SeekNum>(&self) -> Result<N, OverflowError>
         ensures ok { IsOk result ↔ AtMost (position (Self.stream self.now)) N.most }
         ensures value { IfOk result (λ n. N.place n ≡ position (Self.stream self.now)) }
         ensures within { (Self.stream self.now).taken < (Self.stream self.now).period };
 
-    /// Chooses the position. `StreamCipherError` exactly where it is negative, its block exceeds the counter, or it is
-    /// in the greatest block past the first byte; then nothing changes.
+    /// Chooses the position in bytes.
+    ///
+    /// # Errors
+    /// `StreamCipherError` exactly if it is negative, its block exceeds the counter, or it is in the greatest block
+    /// past the first byte. Nothing changes then.
     fn try_seek<N: SeekNum>(&mut self, pos: N) -> Result<(), StreamCipherError>
         ensures ok { IsOk result ↔ AtMost (N.place pos) end }
         ensures placed { OnOk result (position (Self.stream self.new) ≡ N.place pos) }

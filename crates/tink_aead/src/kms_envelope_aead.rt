@@ -64,7 +64,10 @@ impl<A: CloneIn, M> CloneIn for KmsEnvelopeAead<'_, A, M> {
     }
 }
 
-// The template again.
+/// An equal template.
+///
+/// # Errors
+/// `OutOfMemory` alone.
 pub fn same_template(alloc: Global, kt: &KeyTemplate) -> Result<KeyTemplate, TinkError>
     ensures value { IfOk result (λ copy. copy ≡ kt.now) }
     ensures cause { IfErr result (λ e. e.kind ≡ OutOfMemory) }

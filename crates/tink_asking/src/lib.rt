@@ -25,6 +25,9 @@ pub trait Question<P> {
     ghost answers: { Self → TypedEntry P → List ℕ → Result Self.Answer Kind };
 
     /// The answer of `entry` on `input`.
+    ///
+    /// # Errors
+    /// What the meaning `answers` gives for the entry and the input. `OutOfMemory`.
     fn ask(
         &self,
         alloc: Global,

@@ -77,7 +77,7 @@ pub fn save_in<'w, Y: System>(
     }
 }
 
-// Takes the draft away: nothing is saved.
+/// Discards a draft, and answers with the error that was given, or with that of ending the draft. Nothing is saved.
 pub fn give_up<'w, Y: System>(
     alloc: Global,
     system: &mut Y,

@@ -51,7 +51,10 @@ pub fn keyset_of<'w, Y: System>(
     }
 }
 
-/// A whole file of keys, or standard input.
+/// A whole file of keys, or standard input: at most 16,777,216 bytes.
+///
+/// # Errors
+/// Status 11 if the file is not there or cannot be read; 13 if it has more bytes; 10.
 pub fn read_keys<'w, Y: System>(
     alloc: Global,
     system: &mut Y,

@@ -250,7 +250,11 @@ pub fn how_of(job: &Job<'_>) -> How {
 /// What is said of a failed standard output, of which the system keeps no reason.
 pub const WRITE_FAULT: &str = "it could not be written: a full disk, or a closed pipe";
 
-/// The end of a task by its answer: an error is that of a file, and `reason` is why the output failed, if it did.
+/// The end of a task by its answer. `reason` is why the output failed, if it did.
+///
+/// # Errors
+/// That of the task, by its status: 11 if the input failed, 12 if the output failed, else the status of the error's
+/// kind.
 pub fn ended<'w, Y: System>(
     system: &Y,
     answer: Result<Option<Report>, TinkError>,

@@ -140,6 +140,7 @@ pub struct TinkError {
 }
 
 impl TinkError {
+    /// The error of this kind.
     pub fn new(kind: Kind) -> Self
         ensures { result ≡ record { kind = kind } }
     {

@@ -10,8 +10,10 @@ ghost use Rattle.tink_io.specs.declared.error.Kind.TheVariants.{WriteFault};
 
 use crate::{Cause, Kind, Sink, TinkError};
 
-/// Writes all of the bytes, in as many calls as the sink wants, or refuses by `WriteFault` where
-/// the sink failed: a prefix of them is written then.
+/// Writes all of the bytes, in as many calls as the sink wants.
+///
+/// # Errors
+/// `WriteFault` if the sink failed. A prefix of the bytes is written then.
 pub fn write_all<K: Sink>(sink: &mut K, bytes: &[u8]) -> Result<(), TinkError>
     ensures written { OnOk result (Appends (K.got sink.old) (K.got sink.new) bytes.now) }
     ensures prefix { OnErr result (AppendsPrefix (K.got sink.old) (K.got sink.new) bytes.now) }

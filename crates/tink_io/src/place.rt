@@ -24,8 +24,9 @@ pub trait Place: Sink {
 
     /// Shows the draft under the name, whole and at once, so that no draft is left.
     ///
-    /// `Failed` leaves what was shown, and raises the count. It comes where a file stands under the name and none is to
-    /// be replaced.
+    /// # Errors
+    /// `Failed` if it could not be shown, as when a file has the name and none is to be replaced. It leaves what was
+    /// shown, and raises the count of faults.
     fn show(&mut self) -> Result<(), Failed>
         requires { has_draft self.old ≡ true }
         ensures shown { OnOk result

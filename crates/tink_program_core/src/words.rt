@@ -85,8 +85,11 @@ enum Unread {
     NoMemory,
 }
 
-/// Reads the words of a command, and its seed, which is one of zeros where they have none; `None` where they spell no
-/// command. Refuses by `OutOfMemory` alone.
+/// Reads the words of a command and its seed, which is one of zeros if they have none. `None` if they spell no
+/// command.
+///
+/// # Errors
+/// `OutOfMemory` alone.
 pub fn parse(alloc: Global, words: &Vec<String>) -> Result<Option<(Parsed, Seed)>, TinkError>
     ensures found { IfOk result (λ o. IfSome o (λ p. Spells (words_of words.now) (asked_of p.0 p.1))) }
     ensures none { IfOk result (λ o. IfNone o (SpellNothing (words_of words.now))) }
@@ -339,7 +342,9 @@ fn bytes_of(alloc: Global, word: &str) -> Result<Vec<u8>, Unread>
     }
 }
 
-/// The bytes of the first 256 words of the seed's ChaCha20 stream, 1,024 in all. Refuses by
+/// The bytes of the first 256 words of the seed's ChaCha20 stream, 1,024 in all.
+///
+/// # Errors
 /// `OutOfMemory` alone.
 pub fn first_draws(alloc: Global, seed: Seed) -> Result<Vec<u8>, TinkError>
     ensures draws { IfOk result (λ v. v.items ≡ draws_in seed 256) }

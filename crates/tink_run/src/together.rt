@@ -53,7 +53,10 @@ pub fn ended<K: Sink>(
     }
 }
 
-// `seal` to a sink that gets small pieces together, in memory that is lent.
+/// Encrypts as `seal`, to a sink that gets small pieces together. The memory for these is lent.
+///
+/// # Errors
+/// As `seal`.
 pub fn seal_together<S: Source, K: Sink>(
     alloc: Global,
     key: &TypedEntry<StreamKind>,
@@ -78,7 +81,10 @@ pub fn seal_together<S: Source, K: Sink>(
     ended(answer, &mut gathered)
 }
 
-// `open` to a sink that gets small pieces together, in memory that is lent.
+/// Decrypts as `open`, to a sink that gets small pieces together. The memory for these is lent.
+///
+/// # Errors
+/// As `open`.
 pub fn open_together<S: Source, K: Sink>(
     alloc: Global,
     set: &TypedPrimitiveSet<StreamKind>,

@@ -23,7 +23,11 @@ pub struct Entry<K: Kinds> {
 }
 
 impl<K: Kinds> Entry<K> {
-    /// The entry of a key and its primitive: `NotEnabled`, then `UnknownPrefix`.
+    /// The entry of a key and its primitive.
+    ///
+    /// # Errors
+    /// `NotEnabled` if the key is not enabled, then `UnknownPrefix` if its prefix type is none that is known.
+    /// `OutOfMemory`.
     pub fn new(alloc: Global, p: Primitive<K>, key: &Key) -> Result<Self, TinkError>
         ensures value { IfOk result (λ e. e ≡ entry_of p key.now) }
         ensures stands { OnOk result (may_stand key.now ≡ Ok tt) }

@@ -20,7 +20,7 @@ use tink_streaming_ciphers::StreamSegment;
 use tink_streaming_io::TextReader;
 use tink_streaming_keys::{StreamKind, Trial, start};
 
-// The keys of which one may open the stream, with its associated data and memory for the choice.
+/// The keys that may decrypt the stream, its associated data, and the memory for choosing one.
 #[derive(Drop)]
 pub struct Choice {
     pub keys: Vec<TypedEntry<StreamKind>>,
@@ -32,7 +32,7 @@ pub struct Choice {
     ghost memory: { trial_memory trial ≡ memory_for (vec_len trial.kept.buffer) },
 }
 
-// How far a reader has come.
+/// The stage of a reader: before the first read, with a chosen key, or after an error.
 #[derive(Drop)]
 pub enum Stage {
     Unread(Choice),

@@ -152,7 +152,10 @@ pub fn room_of<T: DerivesStreams>(keys: &[T]) -> usize
     room
 }
 
-// What is needed to choose one of the keys of some entries.
+/// Copies of the entries' keys and of the associated data, and the memory for choosing a key.
+///
+/// # Errors
+/// `OutOfMemory` alone.
 pub fn choice_of(
     alloc: Global,
     entries: &[&TypedEntry<StreamKind>],

@@ -100,8 +100,12 @@ fn begins_front<D: SegmentDecrypter, T: OpensStreams<D>>(key: &T, held: &[u8]) -
     held.starts_with(out) && usize::from(held[out.len()]) == length
 }
 
-/// How a stream that begins in `held` is opened, if it begins in a front of the key, which has so many bytes, and keys are
-/// derived from its header; else the memory of its prefix again.
+/// How a stream that begins with `held` is decrypted by a key, whose output prefix and header have `front` bytes
+/// together.
+///
+/// # Errors
+/// The memory of the prefix again, if the stream does not begin with an output prefix and a header of the key, or no
+/// keys are derived from the header.
 pub fn front_opener<D: SegmentDecrypter + Drop, T: OpensStreams<D>>(
     key: &T,
     held: &[u8],

@@ -148,7 +148,10 @@ impl<W: Sink + Drop, E: SegmentEncrypter + Drop> Writer<W, E> {
         self.inner.write(&mut self.sink, buf)
     }
 
-    /// Does nothing, and is always Ok: what is held is written before more text or by `close`.
+    /// Does nothing: what is held is written before more text or by `close`.
+    ///
+    /// # Errors
+    /// None: the answer is Ok.
     pub fn flush(&mut self) -> Result<(), TinkError>
         ensures answer { result ≡ Ok tt }
         ensures same { self.new ≡ self.old }

@@ -77,7 +77,7 @@ impl Model for StreamParams {
 }
 
 impl StreamParams {
-    // These hashes and sizes, which leave the first segment room for some text.
+    /// These hashes and sizes in bytes, which leave the first segment room for some text.
     pub fn new(
         hkdf_alg: HashType,
         derived: usize,
@@ -111,7 +111,7 @@ impl StreamParams {
         }
     }
 
-    // The same hashes and sizes.
+    /// The same hashes and sizes.
     pub fn same(&self) -> StreamParams
         ensures { result ≡ self.now }
     {
@@ -125,7 +125,8 @@ impl StreamParams {
     }
 }
 
-// Whether a main key and the AES keys that are derived from it may have so many bytes.
+/// Whether a main key may have `main` bytes and the AES keys derived from it `derived` bytes: 16 or 32, and no more
+/// than `main`, which is 16 at least.
 pub fn is_key_size(main: usize, derived: usize) -> bool
     ensures { result ≡ is_key_size main derived }
 {
@@ -133,7 +134,7 @@ pub fn is_key_size(main: usize, derived: usize) -> bool
     16 <= main && derived <= main && is_aes_size
 }
 
-// Whether the first segment has no room for some text.
+/// Whether a first segment of `segment` bytes has no room for text.
 pub fn is_small(derived: usize, cipher: SegmentParams, segment: u32, offset: u32) -> bool
     requires derived { derived ≤ 32 }
     requires tag { IsTag (kind_of cipher) }

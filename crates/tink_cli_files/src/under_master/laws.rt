@@ -13,8 +13,11 @@ use tink_io::{Draws, TinkError};
 use tink_keyset_io::key_files::Format;
 use tink_proto::Bytes;
 
-/// Wraps a file of keys in the wire format, and unwraps it under the same master with the same associated data. The
-/// same keyset is given back, where no key of the master opens what was made to another text.
+/// Wraps a file of keys in the wire format, and unwraps it under the same master with the same associated data. If no
+/// key of the master decrypts the ciphertext to another plaintext, the same keyset comes back.
+///
+/// # Errors
+/// That of loading the file of keys; then `MasterFailed` if the master refuses to encrypt. `OutOfMemory`.
 pub fn law_wrapped_is_unwrapped(
     alloc: Global,
     master: &Master,

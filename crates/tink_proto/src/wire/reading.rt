@@ -109,7 +109,10 @@ pub fn next_field(bytes: &[u8]) -> Option<(Field<'_>, &[u8])>
 }
 
 impl<'a> Content<'a> {
-    /// A number of 32 bits, the low ones of a varint; another type is `BadMessage`.
+    /// A number of 32 bits: the low ones of a varint.
+    ///
+    /// # Errors
+    /// `BadMessage` exactly if the content has another wire type.
     pub fn number(&self) -> Result<u32, ProtoError>
         ensures { Reads BadMessage result (as_number (content_of self.now)) }
     {
@@ -119,7 +122,10 @@ impl<'a> Content<'a> {
         }
     }
 
-    /// The number of an enum, the low 32 bits of a varint; another type is `BadMessage`.
+    /// The number of an enum: the low 32 bits of a varint, as a signed number.
+    ///
+    /// # Errors
+    /// `BadMessage` exactly if the content has another wire type.
     pub fn enum_number(&self) -> Result<i32, ProtoError>
         ensures { Reads BadMessage result (as_enum (content_of self.now)) }
     {
@@ -129,7 +135,10 @@ impl<'a> Content<'a> {
         }
     }
 
-    /// The bytes of a body; another type is `BadMessage`.
+    /// The bytes of a body.
+    ///
+    /// # Errors
+    /// `BadMessage` exactly if the content has another wire type.
     pub fn body(&self) -> Result<&'a [u8], ProtoError>
         ensures { ReadsAs BadMessage (λ b. b.now) result (as_bytes (content_of self.now)) }
     {
@@ -139,7 +148,10 @@ impl<'a> Content<'a> {
         }
     }
 
-    /// The text of a body; another type, and bytes that are not UTF-8, are `BadMessage`.
+    /// The text of a body.
+    ///
+    /// # Errors
+    /// `BadMessage` exactly if the content has another wire type or is not UTF-8.
     pub fn text(&self) -> Result<&'a str, ProtoError>
         ensures { ReadsAs BadMessage (λ b. b.now) result (as_text (content_of self.now)) }
     {

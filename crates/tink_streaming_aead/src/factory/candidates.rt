@@ -18,8 +18,7 @@ use tink_sets::cryptofmt::NON_RAW_PREFIX_SIZE;
 use tink_sets::{TypedEntry, TypedPrimitiveSet};
 use tink_streaming_keys::StreamKind;
 
-// Each list of a set has the prefix under which it stands, where the set has some entries; and a list has all keys of
-// its prefix.
+/// A law: if a set is built of entries, each of its lists has exactly the keys of its prefix, in their order.
 pub fn own_groups(ps: &TypedPrimitiveSet<StreamKind>)
     ensures pure { (entries : List (TypedEntry StreamKind)) → AreGroupsOf typed_prefix_of entries ps.now.entries
         → ArePure ps.now.entries }
