@@ -6,7 +6,7 @@ ghost use Rattle.tink_range.specs.Objects.{CountsRead};
 
 use tink_io::Failed;
 
-/// An object of so many bytes, which is read in any place.
+/// An object of known length, which is read in any place.
 pub trait ReadAt {
     // How many bytes it has. No call changes it.
     ghost length_of: { Self → ℕ };

@@ -1,4 +1,4 @@
-//! How many chunks so many bytes have, and where they begin.
+//! How many chunks a number of bytes has, and where they begin.
 
 ghost use Rattle.std.specs.Prelude.{◌≡◌, ◌≤◌, ◌<◌, ◌+◌, ◌-◌, ◌^◌, ℕ, List, length, min};
 ghost use Rattle.stream_model.specs.Cut.{room_at};

@@ -12,7 +12,7 @@ use tink_io::TinkError;
 use tink_keysets::keyset::{Manager, insecure};
 use tink_proto::{Bytes, Keyset};
 
-/// What is done with the first key of an id.
+/// A change of the first key of an id.
 #[derive(Clone, Copy, Debug, PartialEq, Eq)]
 pub enum Edit {
     /// It becomes the primary key.

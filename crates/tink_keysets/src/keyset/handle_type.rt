@@ -88,8 +88,8 @@ impl Handle {
     /// A handle of a keyset without secrets.
     ///
     /// # Errors
-    /// `InvalidKeyset` exactly where a key that isn't destroyed has no data, or data has a material outside 0
-    /// to 4; then `HasSecrets` exactly where some data has material 0, 1 or 2.
+    /// `InvalidKeyset` exactly if a key that is not destroyed has no data, or data has a material outside 0
+    /// to 4. Then `HasSecrets` exactly if some data has material 0, 1 or 2.
     pub fn new_with_no_secrets(ks: Keyset) -> Result<Handle, TinkError>
         ensures { Tells result (handle_without_secrets ks) }
     {
@@ -106,8 +106,8 @@ impl Handle {
     /// The set of the enabled keys' primitives, each built by the registry's manager of its URL.
     ///
     /// # Errors
-    /// `InvalidKeyset` where the keyset isn't validated; then, for the first enabled key that doesn't build,
-    /// `InvalidKey` where its value is empty, `UnsupportedKeyType` where no manager has its URL, else the manager's.
+    /// `InvalidKeyset` if the keyset is not valid. Then that of the first enabled key that does not build:
+    /// `InvalidKey` if its value is empty, `UnsupportedKeyType` if no manager has its URL, else the manager's.
     /// `OutOfMemory` may come in place of each.
     pub fn primitives<M: KeyManager>(
         &self,
@@ -120,8 +120,8 @@ impl Handle {
         self.primitives_with_key_manager(alloc, registry, no_manager(registry))
     }
 
-    /// The set of the enabled keys' primitives. Where a manager is given, it alone decides each key for whose URL its
-    /// `does_support` says true, also on an empty value; the registry isn't asked for such a key.
+    /// The set of the enabled keys' primitives. If a manager is given, it alone builds each key for whose URL its
+    /// `does_support` is true, also one with an empty value. The registry has no part in these keys.
     ///
     /// # Errors
     /// As `primitives`, and the given manager's.
@@ -198,7 +198,7 @@ fn no_manager<'a, M>(_registry: &'a Registry<M>) -> Option<&'a M>
     None
 }
 
-/// What `keyset_info` tells, and so no key material.
+/// Shows the keyset info, and so no key material.
 impl fmt::Debug for Handle {
     fn fmt<W: fmt::Write>(&self, f: &mut fmt::Formatter<W>) -> fmt::Result {
         fmt::Display::fmt(&Shown(&self.ks), f)

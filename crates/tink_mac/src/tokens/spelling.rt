@@ -1,4 +1,4 @@
-//! Spellings of bytes, and what stands at both sides of a token's dot.
+//! Spellings of bytes, and the two sides of a token's dot.
 
 ghost use Rattle.std.specs.Prelude.{◌≡◌, nat_eq, position, List, ℕ, MatchOption};
 ghost use Rattle.tink_mac.specs.Reading.{IsRead, IsSplit};
@@ -17,7 +17,7 @@ fn first_dot(token: &[u8]) -> Option<usize>
     token.iter().position(|byte| *byte == b'.')
 }
 
-/// What is before the first dot of a token, and what is behind it.
+/// The bytes before the first dot of a token, and those behind it.
 pub fn halves(token: &[u8]) -> Option<(&[u8], &[u8])>
     ensures { MatchOption result ((p m : List ℕ) → token.now ≡ token_of p m → ⊥)
         (λ h. IsSplit token.now h.0.now h.1.now) }
