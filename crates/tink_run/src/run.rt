@@ -15,9 +15,9 @@ use tink_io::{Draws, Sink, Source, TinkError};
 use tink_sets::TypedPrimitiveSet;
 use tink_streaming_aead::StreamKind;
 
-/// Seals or opens a stream under a keyset, which is in the wire format: what the source has left goes, sealed under the
-/// primary key or opened under the first key that it begins under, to the sink. A seal takes its salt and the prefix of
-/// its nonces from the draws.
+/// Encrypts or decrypts a stream under a keyset in the wire format. The source's bytes go to the sink, encrypted under
+/// the primary key, or decrypted under the first key under which the stream begins. A seal takes its salt and the
+/// prefix of its nonces from the draws.
 ///
 /// # Errors
 /// The first that applies:

@@ -21,7 +21,7 @@ use tink_io::{Draws, Gathered, Kind, Sink, Source, TinkError};
 use tink_sets::{TypedEntry, TypedPrimitiveSet};
 use tink_streaming_aead::StreamKind;
 
-/// Ends what was answered over a gathered sink: all that was given is handed on, nothing waits, and the answer stays, or
+/// Ends a call over a gathered sink. Either all that was given is handed on, nothing waits, and the answer stays, or
 /// the sink has failed, now or before, and has got a prefix of it.
 ///
 /// # Errors

@@ -126,11 +126,11 @@ impl<S: Source + Drop> DecryptReader<S> {
     }
 
     /// Gives the next bytes of the text, as many as are opened and `buf` has room for, and answers how many. The first
-    /// read to a buffer with room chooses the key, the first under which the stream begins: the source begins in its
-    /// front, and the first segment is that of some text. Then each read is that of the key's `Reader`, which takes no
-    /// more of the source than the next chunk and a byte behind it. The first read takes no more than has room, whatever
-    /// it answers, and no more than the longest front and a byte where the stream begins in a front of none of the keys.
-    /// It keeps no more memory than it has.
+    /// read to a buffer that is not empty chooses the key: the first under which the stream begins. The source begins
+    /// in the key's front, and the first segment is that of some text. Then each read is that of the key's `Reader`,
+    /// which takes no more of the source than the next chunk and a byte behind it. Whatever it answers, the first read
+    /// takes no more than has room. If the stream begins in a front of none of the keys, it takes no more than the
+    /// longest front and a byte. It keeps no more memory than it has.
     ///
     /// # Errors
     /// `NoMatchingKey` where the stream begins under none of the keys; `ReadFault` where the source failed; those of
@@ -195,7 +195,8 @@ impl<S: Source + Drop> DecryptReader<S> {
         }
     }
 
-    /// The source, as the last call left it. What is held, or opened and not given, is dropped.
+    /// The source, as the last call left it. Bytes that are held, and text that was not given yet, are
+    /// dropped.
     pub fn into_inner(self) -> S
         ensures { result ≡ source_in self }
     {

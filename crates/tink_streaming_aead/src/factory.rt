@@ -205,9 +205,9 @@ impl WrappedStreamingAead {
     ///
     /// # Errors
     /// The refusal hands back `w`. `OutOfMemory`, with nothing drawn or written; then the first that applies:
-    /// `RandomFault` exactly where fewer draws are left than a salt and seven bytes, none of which is taken;
-    /// `UnknownHash` exactly where HKDF's hash is unknown, and `UnsupportedHash` exactly where it is SHA-224, with
-    /// the draws taken and nothing written; `WriteFault` where the sink failed, which has a prefix of the front.
+    /// `RandomFault` exactly if fewer draws are left than a salt and seven bytes: none is taken. `UnknownHash`
+    /// exactly if HKDF's hash is unknown, and `UnsupportedHash` exactly if it is SHA-224, with the draws taken and
+    /// nothing written. `WriteFault` if the sink failed: it has a prefix of the front.
     pub fn new_encrypting_writer<K: Sink + Drop>(
         &self,
         alloc: Global,
@@ -223,9 +223,9 @@ impl WrappedStreamingAead {
         }
     }
 
-    /// A reader of the stream in `r` by all keys, those of one prefix in their order, of which it has copies. Nothing is
-    /// read, and all memory is taken: a byte more than the largest of their segments with the output prefix before it
-    /// may be kept, which is at most six bytes more than the largest segment.
+    /// A reader of the stream in `r` by all keys, those of one prefix in their order. It has copies of the keys.
+    /// Nothing is read, and all memory is taken. It may keep a byte more than the largest of their segments with its
+    /// output prefix: at most six bytes more than the largest segment.
     ///
     /// # Errors
     /// `OutOfMemory`, which hands back `r`.

@@ -53,9 +53,9 @@ impl WrappedStreamingAead {
         }
     }
 
-    /// The entries of the keys under which a stream may begin that begins with these bytes, in their order, and the
-    /// bytes of their output prefix: those of the first five bytes where the first one is 0 or 1, else those without a
-    /// prefix. For fewer than five bytes it is those without a prefix.
+    /// The entries of the keys under which a stream with these first bytes may begin, in their order, and the bytes of
+    /// their output prefix. If the first byte is 0 or 1, they are those of the first five bytes, and else those
+    /// without a prefix. For fewer than five bytes it is those without a prefix.
     pub fn candidates(&self, start: &[u8]) -> (&[TypedEntry<StreamKind>], usize)
         ensures keys { keys_in result.0.now ≡ with_prefix (prefix_at start.now) self.now.keys }
         ensures prefix { result.1 ≡ length (prefix_at start.now) }
