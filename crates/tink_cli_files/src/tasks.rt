@@ -1,4 +1,5 @@
-//! What is made of the bytes of a source: a stream, its text, a moved stream, a token or its payload.
+//! Tasks over the bytes of a source. They make a stream, its text, a rewrapped stream, a token or its
+//! payload.
 
 ghost use Rattle.std.specs.Prelude.{◌≡◌, ℕ, List, Some, None, true, false, IfErr, IfOk, OnErr};
 ghost use Rattle.tink_io.specs.Outside.{FaultsStay, outside_of, Told};
@@ -13,7 +14,7 @@ use tink_run::report::{Command, Report};
 use tink_run::run::run;
 use tink_tokens::{write_payload, write_token};
 
-/// What is made of the bytes of a source under a keyset.
+/// A task over the bytes of a source under a keyset.
 #[derive(Clone, Copy)]
 pub enum Task<'k> {
     /// A stream is sealed or opened.

@@ -10,7 +10,7 @@ use tink_cli_words::Line;
 use tink_io::Kind;
 use tink_system::Trouble;
 
-/// The keys, the associated data, and the names of what is read and written.
+/// The keys, the associated data, and the names of the files that are read and written.
 #[derive(Clone, Copy)]
 pub struct Job<'w> {
     pub keys: KeyWords<'w>,

@@ -12,7 +12,7 @@ use tink_io::{Draws, Kind, Sink, TinkError};
 use tink_run::report::{Command, Report};
 use tink_system::{How, System, Trouble};
 
-/// So many random bytes are enough for each command.
+/// The random bytes that are enough for each command.
 pub const DRAWN: usize = 1024;
 
 /// Does a task of the job's input, under a keyset and the job's associated data, to the job's output.
@@ -247,7 +247,7 @@ pub fn how_of(job: &Job<'_>) -> How {
     }
 }
 
-/// What is said of a failed standard output, of which the system keeps no reason.
+/// The reason for a failed standard output: the system keeps none.
 pub const WRITE_FAULT: &str = "it could not be written: a full disk, or a closed pipe";
 
 /// The end of a task by its answer. `reason` is why the output failed, if it did.

@@ -14,7 +14,7 @@ use std::alloc::Global;
 pub const ROOM: usize = 65_536;
 
 /// A sink for small pieces over a sink that it is lent: they may wait, in a vector that it is lent too, before they are
-/// handed on. What still waits when it is let go is lost: `flush` comes before.
+/// handed on. If it is dropped, the bytes that still wait are lost: `flush` comes before.
 #[derive(Drop)]
 pub struct Gathered<'a, K> {
     pub sink: &'a mut K,
@@ -22,7 +22,7 @@ pub struct Gathered<'a, K> {
 }
 
 impl<'a, K: Sink> Gathered<'a, K> {
-    /// A sink over `sink` for which nothing waits. The capacity of `waiting` stays, and what it holds is let go.
+    /// A sink over `sink` for which nothing waits. The capacity of `waiting` stays, and its bytes are dropped.
     pub fn new(sink: &'a mut K, waiting: &'a mut Vec<u8>) -> Gathered<'a, K>
         ensures lent { result.sink.ghost_name ≡ sink.entry.ghost_name }
         ensures sink { result.sink.now ≡ sink.old }

@@ -17,9 +17,9 @@ pub struct MemPlace {
     alloc: Global,
     pub draft: Vec<u8>,
     pub has_draft: bool,
-    /// What stands under the name.
+    /// The file under the name.
     pub shown: Option<Vec<u8>>,
-    /// Whether a file that stands there is replaced.
+    /// Whether a file under the name is replaced.
     pub replaces: bool,
     /// Whether the draft may be shown.
     pub can_show: bool,
@@ -30,8 +30,8 @@ pub struct MemPlace {
 }
 
 impl MemPlace {
-    /// A place with an empty draft that has room for so many bytes, under whose name this stands. A file that stands
-    /// there is replaced.
+    /// A place with an empty draft that has room for `room` bytes. The file under its name has the bytes `shown`, if
+    /// there is one. It is replaced.
     ///
     /// # Errors
     /// `OutOfMemory`.

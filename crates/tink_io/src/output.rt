@@ -32,8 +32,8 @@ pub fn write_all<K: Sink>(sink: &mut K, bytes: &[u8]) -> Result<(), TinkError>
     Ok(())
 }
 
-/// Writes the text of a kind and a newline. A sink that fails ends the line where it stands: a
-/// prefix of it is written then. It takes no memory.
+/// Writes the text of a kind and a newline. If the sink fails, a prefix of the line is written. It takes no
+/// memory.
 pub fn write_line<K: Sink>(sink: &mut K, kind: Kind)
     ensures line { WritesOrFaults (K.got sink.old) (K.got sink.new)
         (K.faults sink.old) (K.faults sink.new) (kind_line kind) }

@@ -7,8 +7,8 @@ ghost use Rattle.tink_io.specs.Places.{IsShown};
 
 use crate::{Failed, Sink};
 
-/// Where one file is to appear under a name. What is written goes to a draft beside it, which is then shown under the
-/// name, or taken away.
+/// Where one file is to appear under a name. Writes go to a draft beside it. The draft is then shown under the name,
+/// or discarded.
 pub trait Place: Sink {
     // What stands under the name, where it is given: no file, or the bytes of one.
     ghost shown: { Self → Option (Option (List ℕ)) };
@@ -36,7 +36,7 @@ pub trait Place: Sink {
         ensures cause { CountsFault (Self.faults self.old) (Self.faults self.new) result }
         ensures rest { rest self.old self.new };
 
-    /// Takes the draft away. What is shown stays.
+    /// Takes the draft away. The file under the name stays.
     fn discard(&mut self)
         ensures gone { has_draft self.new ≡ false }
         ensures shown { shown self.new ≡ shown self.old }

@@ -11,8 +11,8 @@ pub fn law_any_cutting()
         → Wrote seg first room between new more → Wrote seg first room old new (text ++ more) }
 {}
 
-/// The segments of a text, the first with room for `first` bytes and each later one for `room`: all but
-/// the last are unmarked and full, and the marked last one is empty for the empty text alone.
+/// The segments of a text: the first has room for `first` bytes, each later one for `room`. All but the last
+/// are unmarked and full, and the marked last one is empty for the empty text alone.
 pub fn law_full_segments()
     ensures parts { (seg : ℕ → Bool → List ℕ → List ℕ) (first room : ℕ) (text : List ℕ)
         → sealed seg first room text ≡ unmarked seg 0 (full_chunks first room text)

@@ -11,9 +11,8 @@ use tink_io::{Source, TinkError};
 use tink_primitives::DecryptingRead;
 use tink_streaming_segment::{Opener, SegmentDecrypter, check_sizes};
 
-/// What a reader is made of: a source, the one-shot map of its segments, the size of a nonce and the
-/// prefix of all nonces, the size of a segment, and how many bytes of the first one are taken by
-/// what stands before it. Sizes are in bytes.
+/// The parts of a reader: a source, the one-shot map of its segments, the size and the prefix of nonces, the
+/// size of a segment, and the bytes that the first segment is shorter. Sizes are in bytes.
 #[derive(Drop)]
 pub struct ReaderParams<R, D: SegmentDecrypter> {
     pub r: R,
@@ -139,9 +138,9 @@ impl<R: Source + Drop, D: SegmentDecrypter + Drop> Reader<R, D> {
     /// and at the end, for good. It keeps the memory that it has.
     ///
     /// # Errors
-    /// ReadFault where the source failed, TooManySegments where bytes follow the segment of number
-    /// 2^32 - 1, Truncated where fewer bytes are left than the overhead, BadSegment where the next
-    /// chunk is the segment of no text, FailedBefore after another of these.
+    /// `ReadFault` if the source failed. `TooManySegments` if bytes follow the segment of number 2^32 - 1.
+    /// `Truncated` if fewer bytes are left than the overhead. `BadSegment` if the next chunk is the segment
+    /// of no text. `FailedBefore` after another of these.
     pub fn read(&mut self, buf: &mut [u8]) -> Result<usize, TinkError>
         ensures answer { ReadMeans (seg_of D.seg self.old.opening) self.old.opening.first self.old.opening.size
             self.old.opening.overhead
@@ -169,7 +168,8 @@ impl<R: Source + Drop, D: SegmentDecrypter + Drop> Reader<R, D> {
         self.text.reader.segments()
     }
 
-    /// The source, as the last call left it. What is held, or opened and not given, is dropped.
+    /// The source, as the last call left it. Bytes that are held, and text that was not given yet, are
+    /// dropped.
     pub fn into_inner(self) -> R
         ensures { result ≡ self.source }
     {

@@ -77,10 +77,10 @@ impl<D: SegmentDecrypter + Drop> SegmentReader<D> {
     /// Opens the next segment. Its text is `opened`, and after the last one the reader has ended.
     ///
     /// # Errors
-    /// ReadFault where the source failed, TooManySegments where bytes follow the segment of number
-    /// 2^32 - 1, Truncated where fewer bytes are left than the overhead, BadSegment where the next
-    /// chunk is the segment of no text. The reader has then failed, and has opened nothing. It holds what was read: at
-    /// most the next chunk and one byte, and by ReadFault at most the next chunk.
+    /// `ReadFault` if the source failed. `TooManySegments` if bytes follow the segment of number 2^32 - 1. `Truncated`
+    /// if fewer bytes are left than the overhead. `BadSegment` if the next chunk is the segment of no text. The reader
+    /// has then failed, and has opened nothing. It holds what was read: at most the next chunk and one byte, and by
+    /// ReadFault at most the next chunk.
     pub fn open_next<S: Source>(&mut self, source: &mut S) -> Result<(), TinkError>
         requires running { self.old.progress ≡ Running }
         ensures answer { OpenNextMeans (segment_map self.old.opener) self.old.opener.first self.old.opener.size
@@ -141,7 +141,7 @@ impl<D: SegmentDecrypter + Drop> SegmentReader<D> {
         &self.opened
     }
 
-    /// How far the reader has come.
+    /// The progress of the reader.
     pub fn progress(&self) -> Progress
         ensures { result ≡ self.now.progress }
     {

@@ -18,7 +18,7 @@ pub trait OpensStreams<D: SegmentDecrypter> {
     // the bytes of its nonces
     ghost nonce_of: { Self → ℕ };
 
-    /// What stands before the header.
+    /// The output prefix, which is before the header.
     fn output_prefix(&self) -> &[u8]
         ensures is { result.now ≡ (opening_key self.now).out };
 
@@ -152,9 +152,10 @@ fn begun_if<D: SegmentDecrypter + Drop>(
     }
 }
 
-/// How the stream of a source is opened, if it begins in a front of the key and then in the segment of some text;
-/// else the memory of its prefix again. No more is read than tells it: a byte behind the front, and a byte behind the
-/// first segment only where keys are derived from the header of a front of the key. No text stands in `opened` then.
+/// How the stream of a source is opened, if it begins in a front of the key and then in the segment of some text.
+/// Else it is the memory of its prefix again, and `opened` has no text. It reads at most to a byte behind the
+/// front. If keys are derived from the header of a front of the key, it reads at most to a byte behind the first
+/// segment.
 ///
 /// # Errors
 /// Failed where the source failed. What was read is kept.

@@ -22,7 +22,7 @@ pub struct WriterParams<W, E: SegmentEncrypter> {
     pub nonce_prefix: Vec<u8>,
     /// The size of a segment of ciphertext.
     pub ciphertext_segment_size: u32,
-    /// By how much the first segment is smaller, since a header stands before it.
+    /// The bytes that the first segment is shorter, since a header is before it.
     pub first_ciphertext_segment_offset: u32,
 }
 
@@ -148,7 +148,7 @@ impl<W: Sink + Drop, E: SegmentEncrypter + Drop> Writer<W, E> {
         self.inner.write(&mut self.sink, buf)
     }
 
-    /// Does nothing: what is held is written before more text or by `close`.
+    /// Does nothing: the text that is held is written before more text or by `close`.
     ///
     /// # Errors
     /// None: the answer is Ok.
@@ -184,7 +184,7 @@ impl<W: Sink + Drop, E: SegmentEncrypter + Drop> Writer<W, E> {
         self.inner.segments()
     }
 
-    /// The sink, as the last call left it. What is held is dropped.
+    /// The sink, as the last call left it. The text that is held is dropped.
     pub fn into_inner(self) -> W
         ensures { result ≡ self.sink }
     {

@@ -28,10 +28,15 @@ impl StreamingKey<CtrHmacSegment> {
     /// that is unknown, or SHA-224, is refused where keys are derived.
     ///
     /// # Errors
-    /// The first that applies: `BadKeySize` where the main key has fewer than 16 bytes or fewer than
-    /// `key_size`, or `key_size` is not 16 or 32; `BadTagSize` under 10 bytes; `UnknownHash` for an
-    /// unknown `tag_alg`; `BadTagSize` above its digest; `SegmentTooSmall` exactly where the segment
-    /// size is at most the sum of offset, header and tag. `OutOfMemory` may come in place of each.
+    /// The first that applies:
+    /// - `BadKeySize` if the main key has fewer than 16 bytes or fewer than `key_size`, or `key_size` is not
+    ///   16 or 32;
+    /// - `BadTagSize` under 10 bytes;
+    /// - `UnknownHash` for an unknown `tag_alg`;
+    /// - `BadTagSize` above its digest;
+    /// - `SegmentTooSmall` exactly if the segment size is at most the sum of offset, header and tag.
+    ///
+    /// `OutOfMemory` may come in place of each.
     pub fn new(
         alloc: Global,
         main_key: &[u8],

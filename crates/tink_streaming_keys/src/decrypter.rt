@@ -18,8 +18,8 @@ pub type StreamDecrypter = StreamSegment;
 /// salt and the associated data.
 ///
 /// # Errors
-/// `NoMatchingKey` exactly where the bytes are no header of the key: they are more or fewer, or the first one is not
-/// their number; then `UnknownHash` exactly where HKDF's hash is unknown, and `UnsupportedHash` exactly where it is
+/// `NoMatchingKey` exactly if the bytes are no header of the key: they are more or fewer, or the first one is not
+/// their number. Then `UnknownHash` exactly if HKDF's hash is unknown, and `UnsupportedHash` exactly if it is
 /// SHA-224.
 pub fn decrypter_of<T: DerivesStreams>(
     key: &T,

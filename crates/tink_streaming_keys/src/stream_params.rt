@@ -1,4 +1,4 @@
-//! What a key of streams has besides its main key.
+//! The parts of a key of streams, without its main key.
 
 ghost use Rattle.std.specs.Prelude.{◌≡◌, ◌⊎◌, ◌≤◌, ◌<◌, ◌+◌, [], Ok, length, nat_le};
 ghost use Rattle.stream_model.specs.Key.{IsTag, IsUsable, StreamKey, derived_bytes_of, first_segment, fronted, header_length, nonce_size, nonce_size_of, overhead, overhead_of};
@@ -206,7 +206,7 @@ pub trait DerivesStreams {
             ≡ fronted (key_of self.now).out (with_main (key_of self.now).main result.now) }
         ensures usable { IsUsable (key_of self.now) };
 
-    /// The output prefix, which stands before the header of a stream.
+    /// The output prefix, which is before the header of a stream.
     fn output_prefix(&self) -> &[u8]
         ensures { result.now ≡ (key_of self.now).out };
 

@@ -89,7 +89,7 @@ fn joined(rt: &HostRuntime, link: &str, target: &str) -> Result<String, AllocErr
     Ok(whole)
 }
 
-/// A path up to its last slash, and what is behind it.
+/// A path up to its last slash, and the name behind it.
 pub fn parts_of(path: &str) -> (&str, &str)
     ensures { path.now ≡ result.0.now ++ result.1.now }
 {

@@ -37,8 +37,8 @@ pub fn encrypt<A: Aead>(
 /// A handle of an encrypted keyset, which `master` decrypts with the associated data.
 ///
 /// # Errors
-/// The first that applies: `MasterFailed` if the master refuses; `BadKeyset` if the plaintext is no keyset in the wire
-/// format; `InvalidKeyset` if a key that is not destroyed has no data, or data has a material outside 0 to 4.
+/// The first that applies: `MasterFailed` if the master refuses. `BadKeyset` if the plaintext is no keyset in the wire
+/// format. `InvalidKeyset` if a key that is not destroyed has no data, or data has a material outside 0 to 4.
 /// `OutOfMemory`.
 pub fn decrypt<A: Aead>(
     alloc: Global,

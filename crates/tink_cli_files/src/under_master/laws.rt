@@ -38,8 +38,8 @@ pub fn law_wrapped_is_unwrapped(
     unwrapped(alloc, master, file.as_slice(), aad, format)
 }
 
-/// What a master wrapped is unwrapped by the master after every list of commands that neither disables, destroys nor
-/// deletes a key of its primary id, where none of its keys opens the ciphertext to another text.
+/// A master wraps a keyset, and then commands edit the master. If none disables, destroys or deletes a key of its
+/// primary id, the master still unwraps it. The premise: none of its keys opens the ciphertext to another text.
 pub fn law_wrapped_outlives_commands()
     ensures { WrappedOutlives }
 {}
